@@ -1,0 +1,4 @@
+pub mod Field
+pub mod Digits
+pub mod Same
+pub mod Cut
