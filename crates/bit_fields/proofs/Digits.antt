@@ -1,7 +1,7 @@
 -- Fields of equal width, one after the other.
-use Rattle.std.proofs.Common.{◌≡◌, ℕ, ℤ, pos, negsuc, neg_ℤ, zero, suc, ◌+◌, ◌-◌, ◌*◌, ◌/◌, ◌%◌, ◌^◌, ◌<◌, ◌≤◌, ◌⊎◌, ◌≤ℤ◌, ◌<ℤ◌, inl, inr, List, get_or, length, bit_or, refl, sym, ap, ◌∙◌, arith, add-one, add-zero, add_assoc}
+use Rattle.std.proofs.Common.{◌≡◌, ℕ, zero, suc, ◌+◌, ◌*◌, ◌/◌, ◌%◌, ◌^◌, ◌<◌, ◌≤◌, inl, inr, List, bit_or, sym, ap, ◌∙◌, arith, add-one}
 use Rattle.std.proofs.Math.Nat.{mul-suc, mul-zero, mul_comm}
-use Rattle.std.proofs.lemmas.Nat.{pow_pos, pow-add, shr_high, mod_low, mul-add-lt, shl_whole, or_shifted}
+use Rattle.std.proofs.lemmas.Nat.{pow-add, shr_high, mod_low, mul-add-lt, shl_whole, or_shifted}
 use Rattle.std.proofs.lemmas.Bool.{cases_lt}
 use Rattle.bit_fields.specs.Field.{field, digits}
 use Rattle.bit_fields.proofs.Field.{field_split, field_fits}

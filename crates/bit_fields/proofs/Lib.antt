@@ -2,3 +2,4 @@ pub mod Field
 pub mod Digits
 pub mod Same
 pub mod Cut
+mod Worked

@@ -1,9 +1,8 @@
 -- Bytes are determined by their fields.
-use Rattle.std.proofs.Common.{◌≡◌, ℕ, ℤ, pos, zero, suc, ◌+◌, ◌-◌, ◌*◌, ◌/◌, ◌%◌, ◌^◌, ◌<◌, ◌≤◌, List, get_or, length, refl, sym, ap, ◌∙◌, arith}
+use Rattle.std.proofs.Common.{◌≡◌, ℕ, zero, suc, ◌+◌, ◌-◌, ◌*◌, ◌/◌, ◌%◌, ◌^◌, ◌<◌, List, get_or, length, refl, sym, ap, ◌∙◌, arith}
 use Rattle.std.proofs.lemmas.Grind.{same_number_lists}
-use Rattle.bit_fields.specs.Field.{field, digits, signed}
+use Rattle.bit_fields.specs.Field.{field, digits}
 use Rattle.bit_fields.proofs.Field.{field_of_field, field_byte}
-use Rattle.bit_fields.proofs.Digits.{field_digits}
 
 pub same_bytes : (xs ys : List ℕ) → ((i : ℕ) → get_or xs i 0 < 256) → ((i : ℕ) → get_or ys i 0 < 256) → length xs ≡ length ys
     → field xs 0 (8 * length xs) ≡ field ys 0 (8 * length xs) → xs ≡ ys

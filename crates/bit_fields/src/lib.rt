@@ -1,10 +1,38 @@
-//! Bit fields of bytes.
+//! Bit fields of bytes: the words in which every layout is written, and the calls that read and
+//! write whole bytes by them.
+//!
+//! Bits are counted from 0, the most significant bit of the first byte, as the tables of O-RAN,
+//! eCPRI and 3GPP count them, and a field has its most significant bit first.
 #![tactic(auto)]
 
 ghost use Rattle.std.specs.Prelude.{◌≡◌, ℕ, ◌+◌, ◌*◌, ◌<◌, ◌≤◌, ◌^◌, ◌⊎◌, length, slice_index};
 ghost use Rattle.bit_fields.specs.Field.{field};
+ghost use Rattle.bit_fields.specs.Cut.{bits_of, cut};
 
-/// The number in `count` bytes from a place.
+/// The number that `count` bits from bit `place` spell: the field as it is defined bit by bit,
+/// and the same number cut from the one list of all bits.
+///
+/// At most 128 bits, and all of them inside of `bytes`. No bits spell 0.
+pub fn field_at(bytes: &[u8], place: usize, count: usize) -> u128
+    requires small { count ≤ 128 }
+    requires room { place + count ≤ 8 * length bytes.now }
+    ensures number { result ≡ field bytes.now place count }
+    ensures cut { result ≡ cut place count (bits_of bytes.now) }
+{
+    let first = place / 8;
+    let skipped = place % 8;
+    let mut number: u128 = 0;
+    for k in 0..count {
+        let at = skipped + k;
+        let bit = (bytes[first + at / 8] >> (7 - at % 8)) & 1;
+        number = (number << 1) | bit as u128;
+    }
+    number
+}
+
+/// The number in `count` bytes from byte `at`, big endian.
+///
+/// At most 16 bytes, and all of them inside of `bytes`. No bytes spell 0.
 pub fn number_at(bytes: &[u8], at: usize, count: usize) -> u128
     requires small { count ≤ 16 }
     requires room { at + count ≤ length bytes.now }
@@ -17,15 +45,63 @@ pub fn number_at(bytes: &[u8], at: usize, count: usize) -> u128
     number
 }
 
-/// Writes a number into `count` bytes from a place.
+/// Writes a number into `count` bytes from byte `at`, big endian. All other bytes stay.
+///
+/// At most 16 bytes, all of them inside of `into`, and `number` below 2 to the number of their
+/// bits.
 pub fn put_number(into: &mut [u8], at: usize, count: usize, number: u128)
     requires small { count ≤ 16 }
     requires room { at + count ≤ length into.old }
     requires fits { number < 2 ^ (8 * count) }
     ensures number { field into.new (8 * at) (8 * count) ≡ number }
+    ensures cut { cut (8 * at) (8 * count) (bits_of into.new) ≡ number }
     ensures others { (k : ℕ) → (k < at) ⊎ (at + count ≤ k) → slice_index into.new k ≡ slice_index into.old k }
 {
     for k in 0..count {
         into[at + k] = ((number >> (8 * (count - 1 - k))) & 0xff) as u8;
+    }
+}
+
+#[cfg(test)]
+mod tests {
+    use super::*;
+
+    #[test]
+    fn fields_of_bits(rt: HostRuntime) {
+        let bytes = [0xab, 0xcd, 0xef, 0x01, 0x23, 0x45, 0x67, 0x89];
+        let wanted: [(usize, usize, u128); 7] = [
+            (0, 4, 0xa),
+            (4, 12, 0xbcd),
+            (7, 1, 1),
+            (13, 9, 0x17b),
+            (59, 5, 9),
+            (0, 64, 0xabcd_ef01_2345_6789),
+            (30, 0, 0),
+        ];
+        for (place, count, number) in wanted {
+            assert_eq!(rt; place + count <= 64 && count <= 64, true);
+            assert_eq!(rt;
+                field_at(&bytes, place, count),
+                number,
+                "{count} bits from {place}"
+            );
+        }
+    }
+
+    #[test]
+    fn numbers_of_bytes(rt: HostRuntime) {
+        let bytes = [0x10, 0x02, 0x00, 0x14];
+        assert_eq!(rt; number_at(&bytes, 2, 2), 20);
+        assert_eq!(rt; number_at(&bytes, 0, 4), 0x1002_0014);
+        assert_eq!(rt; number_at(&bytes, 4, 0), 0);
+    }
+
+    #[test]
+    fn a_number_put(rt: HostRuntime) {
+        let mut bytes = [0xff; 5];
+        put_number(&mut bytes, 1, 3, 0x01_0203);
+        assert_eq!(rt; bytes.as_slice(), [0xff, 1, 2, 3, 0xff].as_slice());
+        put_number(&mut bytes, 0, 0, 0);
+        assert_eq!(rt; bytes.as_slice(), [0xff, 1, 2, 3, 0xff].as_slice());
     }
 }

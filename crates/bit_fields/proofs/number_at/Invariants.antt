@@ -1,4 +1,4 @@
-use Rattle.std.proofs.Common.{◌≡◌, ℕ, ◌*◌}
+use Rattle.std.proofs.Common.{◌≡◌, ◌*◌}
 use Rattle.bit_fields.specs.Field.{field}
 use Rattle.bit_fields.proofs.number_at.Given as goal
 

@@ -1,9 +1,10 @@
-use Rattle.std.proofs.Common.{◌≡◌, ℕ, ◌+◌, ◌-◌, ◌*◌, ◌/◌, ◌%◌, ◌^◌, ◌<◌, ◌≤◌, ◌⊎◌, inl, inr, List, get_or, set, length, bit_and, refl, sym, ap, ◌∙◌, arith, get_or-set_same, get_or-set_other}
+use Rattle.std.proofs.Common.{◌≡◌, ℕ, ◌+◌, ◌-◌, ◌*◌, ◌/◌, ◌%◌, ◌^◌, ◌<◌, ◌≤◌, List, get_or, set, length, bit_and, refl, sym, ap, ◌∙◌, arith, get_or-set_same, get_or-set_other}
 use Rattle.std.proofs.lemmas.Grind.{common_steps}
 use Rattle.std.proofs.lemmas.Nat.{and_mask, shr-shr}
 use Rattle.std.proofs.Math.Nat.{sub-zero, div-eq_of_lt}
 use Rattle.bit_fields.specs.Field.{field}
 use Rattle.bit_fields.proofs.Field.{field_more_byte, field_same}
+use Rattle.bit_fields.proofs.Cut.{field_is_cut}
 use Rattle.bit_fields.proofs.put_number.Goals as goal
 
 write_step : (xs : List ℕ) (at k count n : ℕ) → at + count ≤ length xs → k < count → field xs (8 * at) (8 * k) ≡ n / 2 ^ (8 * (count - k))
@@ -33,3 +34,8 @@ loop-k-preserved c = record {
   written = write_step c.loop-k.into c.args.at c.loop-k.k c.args.count c.args.number (omega arith) (omega arith) c.loop-k.invariant.written;
   others = λ j h. grind (arith, common_steps, c.loop-k.invariant.others j h);
 }
+
+pub returns-clause-cut : goal.returns-clause-cut
+returns-clause-cut c =
+    let number : field c.loop-k.into (8 * c.args.at) (8 * c.args.count) ≡ c.args.number = grind (arith, c.loop-k.invariant.written) in
+    sym (field_is_cut c.loop-k.into (8 * c.args.at) (8 * c.args.count) (omega arith)) ∙ number
