@@ -1,0 +1,4 @@
+pub mod Bytes
+pub mod Histories
+pub mod Spelled
+pub mod Gathered

@@ -1,0 +1,21 @@
+//! eCPRI frames: common headers, concatenated messages and their padding, in any pieces.
+//!
+//! A frame carries one eCPRI protocol data unit (PDU): messages, each a common header of four
+//! bytes and its payload. A message whose C bit is set is followed by 0 to 3 padding bytes, up to
+//! a multiple of 4 from its own start, and by another message. [`Pdu`] reads a frame that comes
+//! in pieces of any length; [`put_head`] and [`pad_after`] serve those who write one.
+#![tactic(auto)]
+
+mod decoding;
+mod heads;
+mod phases;
+mod refusals;
+mod steps;
+#[cfg(test)]
+mod tests;
+mod turns;
+
+pub use decoding::Pdu;
+pub use heads::{Head, pad_after, put_head, read_head};
+pub use refusals::{PduRefusal, PduWhy};
+pub use steps::{Feed, PduStep};
