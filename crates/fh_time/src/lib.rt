@@ -1,6 +1,23 @@
 //! Times of an open fronthaul: ticks, numerologies, air times of symbols, absolute frames.
 #![tactic(auto)]
 
+mod carrier;
+mod frames;
+mod kind;
+mod nanoseconds;
+mod numerology;
+mod slots;
+mod spacing;
+mod symbols;
 mod values;
 
+pub use carrier::prb_span;
+pub use frames::resolve;
+pub use nanoseconds::of_ns;
+pub use numerology::{Numerology, code, offsets, shape};
+pub use slots::{least_slot, slot_after, span};
+pub use symbols::air;
 pub use values::{Shape, Slot, Ticks};
+
+#[cfg(test)]
+mod tests;

@@ -1,0 +1,7 @@
+pub mod Header
+pub mod Section
+pub mod Tests
+pub mod Message
+pub mod Writes
+pub mod Words
+pub mod Left

@@ -1,0 +1,3 @@
+pub mod Euclid
+pub mod Sums
+pub mod Order

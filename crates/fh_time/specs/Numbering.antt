@@ -1,0 +1,42 @@
+-- What a numerology says of the symbols of a slot and the slots of a subframe.
+use Rattle.std.specs.Prelude.{ℕ, ℤ, pos, ◌<◌, ◌+ℤ◌, ◌*ℤ◌, Option, None, if◌then◌else◌}
+use Rattle.std.specs.Option.{option_map}
+use Rattle.fh_time.specs.declared.kind.Kind.TheVariants.{Ordinary, Offset}
+use Rattle.fh_time.specs.declared.numerology.Numerology.{Numerology}
+use Rattle.fh_time.specs.declared.values.Shape.{Shape}
+use Rattle.fh_time.specs.declared.values.Slot.{Slot}
+use Rattle.fh_time.specs.Spacing.{is_normal_code, spacing_of}
+use Rattle.fh_time.specs.Kinds.{kind_code, kind_offsets, kind_symbols, kind_slots}
+
+-- the numerology that these numbers make, if they make one
+abbrev pub ordinary_of : ℕ → Option Numerology
+ordinary_of code = if is_normal_code code then option_map (λ spacing. record { kind = Ordinary spacing }) (spacing_of code) else None
+
+abbrev pub offset_of : ℕ → ℕ → ℕ → Option Numerology
+offset_of code time_offset cp_length = option_map (λ spacing. record { kind = Offset spacing time_offset cp_length }) (spacing_of code)
+
+-- the spacing code
+abbrev pub code_of : Numerology → ℕ
+code_of n = kind_code n.kind
+
+-- timeOffset in Ts and cpLength in Ts over 2^u
+abbrev pub offsets_of : Numerology → Option (ℕ × ℕ)
+offsets_of n = kind_offsets n.kind
+
+abbrev pub symbols_of : Numerology → ℕ
+symbols_of n = kind_symbols n.kind
+
+abbrev pub slots_of : Numerology → ℕ
+slots_of n = kind_slots n.kind
+
+abbrev pub shape_of : Numerology → Shape
+shape_of n = record { symbols = symbols_of n; slots = slots_of n }
+
+-- the slot is one of such an endpoint's; its frame may be any
+pub record IsSlotOf (n : Numerology) (s : Slot) : Type 0 where
+  pub subframe : s.subframe < 10
+  pub slot : s.slot < slots_of n
+
+-- the number of a slot in the order of slots, 0 for the first of frame 0
+abbrev pub slot_number : Numerology → Slot → ℤ
+slot_number n s = (s.frame *ℤ pos 10 +ℤ pos s.subframe) *ℤ pos (slots_of n) +ℤ pos s.slot
