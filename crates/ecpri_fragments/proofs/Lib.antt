@@ -1,0 +1,5 @@
+pub mod Tables
+pub mod Pieces
+pub mod Steps
+pub mod Cuts
+pub mod Ends

@@ -1,0 +1,6 @@
+use Rattle.std.proofs.Common.{sym}
+use Rattle.ecpri_fragments.proofs.Pieces.{length-pieces_in}
+use Rattle.ecpri_fragments.proofs.assembly.Lease.count.Goals as goal
+
+pub returns : goal.returns
+returns c = sym (length-pieces_in c.args.self.now.place.now.spans.items c.args.self.now.place.now.bytes.items c.args.self.now.count)
