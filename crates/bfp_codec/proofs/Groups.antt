@@ -1,0 +1,95 @@
+-- Groups of eight numbers of w bits: w bytes.
+use Rattle.std.proofs.Common.{◌≡◌, ℕ, ℤ, pos, ◌+◌, ◌-◌, ◌*◌, ◌/◌, ◌%◌, ◌^◌, ◌<◌, ◌≤◌, ◌*ℤ◌, List, length, get_or, bit_and, bit_or, add-one, inl, inr, refl, sym, ap, ◌∙◌, arith}
+use Rattle.std.proofs.lemmas.Bool.{cases_lt}
+use Rattle.std.proofs.lemmas.List.{ext_get_or}
+use Rattle.std.proofs.lemmas.Nat.{shl_whole, shl-shr, and_mask, shr_split, or_shifted}
+use Rattle.std.proofs.Math.Nat.{mod-eq_of_lt}
+use Rattle.bit_fields.specs.Field.{field, signed, digits}
+use Rattle.bit_fields.proofs.Digits.{digits_fit}
+use Rattle.bit_fields.proofs.Same.{digits_same}
+use Rattle.bfp_codec.proofs.Spelled.{digits_split}
+use Rattle.bit_fields.proofs.Field.{field_of_field, field_split}
+use Rattle.bfp_codec.specs.declared.samples.Wide.{Wide}
+use Rattle.bfp_codec.specs.Samples.{no_wide, pair_of, wide_block}
+use Rattle.bfp_codec.specs.Eight.{value_in}
+use Rattle.bfp_codec.proofs.Blocks.{length-wide_block, get_or-wide_block}
+
+-- a number that 16 bytes begin with
+pub group_written : (bytes : List ℕ) (at w n : ℕ) → w ≤ 16 → n < 2 ^ (8 * w) → field bytes (8 * at) (8 * 16) ≡ n * 2 ^ (8 * (16 - w)) % 2 ^ 128 → field bytes (8 * at) (8 * w) ≡ n
+group_written bytes at w n high fits e =
+    let s = 8 * (16 - w) in
+    let whole : field bytes (8 * at) 128 ≡ n * 2 ^ s = e ∙ shl_whole n (8 * w) s 128 fits (omega arith) in
+    let cut : field bytes (8 * at + 0) (8 * w) ≡ field bytes (8 * at) 128 / 2 ^ (128 - (0 + 8 * w)) % 2 ^ (8 * w) = field_of_field bytes (8 * at) 128 0 (8 * w) (omega arith) in
+    let start : 8 * at ≡ 8 * at + 0 = omega arith in
+    let rest : 128 - (0 + 8 * w) ≡ s = omega arith in
+    ap (λ i. field bytes i (8 * w)) start ∙ cut ∙ ap (λ k. field bytes (8 * at) 128 / 2 ^ k % 2 ^ (8 * w)) rest
+    ∙ ap (λ x. x / 2 ^ s % 2 ^ (8 * w)) whole ∙ ap (λ x. x % 2 ^ (8 * w)) (shl-shr n s) ∙ mod-eq_of_lt fits
+
+-- one more digit, by a shift and an `|` at 64 bits
+pub digits_push_64 : (w : ℕ) (f : ℕ → ℕ) (k n m : ℕ) → n ≡ digits w f k → w * k + w ≤ 64 → ((j : ℕ) → j < k → f j < 2 ^ w) → m ≡ f k → m < 2 ^ w
+    → bit_or (n * 2 ^ w % 2 ^ 64) m ≡ digits w f (k + 1)
+unfolding digits
+digits_push_64 w f k n m n_is room fits m_is small =
+    let below : n < 2 ^ (w * k) = rw n_is (digits_fit w f k fits) in
+    let whole : n * 2 ^ w % 2 ^ 64 ≡ n * 2 ^ w = shl_whole n (w * k) w 64 below room in
+    rw (add-one k, whole) (or_shifted n w m small ∙ cc)
+
+-- eight digits from four and four
+pub two_fours : (w first n m : ℕ) (f : ℕ → ℕ) → w ≤ 16 → n < 2 ^ (4 * w) → m < 2 ^ (4 * w) → (a b : ℕ) → a ≡ first → b ≡ first + 4
+    → n ≡ digits w (λ k. f (a + k)) 4 → m ≡ digits w (λ k. f (b + k)) 4 → bit_or (n * 2 ^ (4 * w) % 2 ^ 128) m ≡ digits w (λ k. f (first + k)) 8
+two_fours w first n m f high n_small m_small a b a_is b_is n_is m_is =
+    let g : ℕ → ℕ = λ k. f (first + k) in
+    let whole : n * 2 ^ (4 * w) % 2 ^ 128 ≡ n * 2 ^ (4 * w) = shl_whole n (4 * w) (4 * w) 128 n_small (omega arith) in
+    let turned : w * 4 ≡ 4 * w = omega arith in
+    let front : n ≡ digits w g 4 = n_is ∙ digits_same w (λ k. f (a + k)) g 4 (λ k h. let at : a + k ≡ first + k = omega arith in ap f at) in
+    let back : m ≡ digits w (λ k. g (4 + k)) 4 = m_is ∙ digits_same w (λ k. f (b + k)) (λ k. g (4 + k)) 4 (λ k h. let at : b + k ≡ first + (4 + k) = omega arith in ap f at) in
+    ap (λ x. bit_or x m) whole ∙ or_shifted n (4 * w) m m_small ∙ ap (λ x. x * 2 ^ (4 * w) + m) front ∙ ap (λ x. digits w g 4 * 2 ^ (4 * w) + x) back
+    ∙ sym (digits_split w g 4 4 ∙ ap (λ j. digits w g 4 * 2 ^ j + digits w (λ k. g (4 + k)) 4) turned)
+
+-- sixteen bytes from two words
+pub two_words : (bytes : List ℕ) (at top : ℕ) → field bytes (8 * at) 64 ≡ top / 2 ^ 64 → field bytes (8 * (at + 8)) 64 ≡ bit_and top 18446744073709551615 → field bytes (8 * at) (8 * 16) ≡ top
+two_words bytes at top high low =
+    let place : 8 * at + 64 ≡ 8 * (at + 8) = omega arith in
+    let last : field bytes (8 * at + 64) 64 ≡ top % 2 ^ 64 = ap (λ i. field bytes i 64) place ∙ low ∙ and_mask top 64 in
+    let split = shr_split top 64 in
+    field_split bytes (8 * at) 64 64 ∙ omega (arith, high, last, split)
+
+-- number k of a group
+pub group_read : (bytes : List ℕ) (at i w n e k : ℕ) → n ≡ field bytes (8 * at) (8 * w) → k < 8 → i ≡ 8 * at + w * k → value_in n w e k ≡ signed w (field bytes i w) *ℤ pos (2 ^ e)
+group_read bytes at i w n e k n_is h place =
+    let seven : 7 ≡ k + (7 - k) = omega arith in
+    let product : w * 7 ≡ w * k + w * (7 - k) = grind (arith, ap (λ j. w * j) seven) in
+    let cut : field bytes (8 * at + w * k) w ≡ field bytes (8 * at) (8 * w) / 2 ^ (8 * w - (w * k + w)) % 2 ^ w = field_of_field bytes (8 * at) (8 * w) (w * k) w (omega (arith, product)) in
+    let rest : 8 * w - (w * k + w) ≡ w * (7 - k) = omega (arith, product) in
+    ap (λ x. signed w x *ℤ pos (2 ^ e))
+    (ap (λ x. x / 2 ^ (w * (7 - k)) % 2 ^ w) n_is ∙ ap (λ j. field bytes (8 * at) (8 * w) / 2 ^ j % 2 ^ w) (sym rest) ∙ sym cut ∙ ap (λ j. field bytes j w) (sym place))
+
+-- four samples that are four of a block
+four_of : (values : List Wide) (from : ℕ) (f g : ℕ → ℤ) → ((j : ℕ) → j < 4 → get_or values (from + j) no_wide ≡ pair_of g j) → ((k : ℕ) → k < 8 → g k ≡ f (2 * from + k))
+    → (j : ℕ) → from ≤ j → j < from + 4 → get_or values j no_wide ≡ pair_of f j
+four_of values from f g there same j low high =
+    let at : from + (j - from) ≡ j = omega arith in
+    let i : 2 * from + 2 * (j - from) ≡ 2 * j = omega arith in
+    let q : 2 * from + (2 * (j - from) + 1) ≡ 2 * j + 1 = omega arith in
+    ap (λ n. get_or values n no_wide) (sym at) ∙ there (j - from) (omega arith)
+    ∙ (let p : pair_of g (j - from) ≡ pair_of f j = pair_at (same (2 * (j - from)) (omega arith) ∙ ap f i) (same (2 * (j - from) + 1) (omega arith) ∙ ap f q) in p)
+  where
+    pair_at : g (2 * (j - from)) ≡ f (2 * j) → g (2 * (j - from) + 1) ≡ f (2 * j + 1) → pair_of g (j - from) ≡ pair_of f j
+    pair_at a b = rw (a, b) refl
+
+-- twelve samples in three groups
+pub three_fours : (values : List Wide) (f g0 g1 g2 : ℕ → ℤ) → length values ≡ 12
+    → ((j : ℕ) → j < 4 → get_or values (0 + j) no_wide ≡ pair_of g0 j) → ((j : ℕ) → j < 4 → get_or values (4 + j) no_wide ≡ pair_of g1 j) → ((j : ℕ) → j < 4 → get_or values (8 + j) no_wide ≡ pair_of g2 j)
+    → ((k : ℕ) → k < 8 → g0 k ≡ f (0 + k)) → ((k : ℕ) → k < 8 → g1 k ≡ f (8 + k)) → ((k : ℕ) → k < 8 → g2 k ≡ f (16 + k))
+    → values ≡ wide_block f
+three_fours values f g0 g1 g2 len a b d fa fb fd =
+    ext_get_or no_wide values (wide_block f) (len ∙ sym (length-wide_block f)) (λ j lt.
+    let below : j < 12 = omega (arith, len) in
+    let here : get_or values j no_wide ≡ pair_of f j = elim (cases_lt j 4) [
+      | inl h ↦ four_of values 0 f g0 a fa j (omega arith) (omega arith)
+      | inr h ↦ elim (cases_lt j 8) [
+        | inl g ↦ four_of values 4 f g1 b fb j h (omega arith)
+        | inr g ↦ four_of values 8 f g2 d fd j g (omega arith)
+      ]
+    ] in
+    here ∙ sym (get_or-wide_block f j no_wide below))

@@ -1,0 +1,32 @@
+use Rattle.std.proofs.Common.{◌≡◌, ℕ, ℤ, ◌+◌, ◌*◌, ◌<◌, List, length, get_or, set, inl, inr, refl, ◌∙◌, arith, rules, below_more, get_or-set_same, get_or-set_other, length-set}
+use Rattle.std.proofs.lemmas.Int.{to_z-of_z}
+use Rattle.std.specs.Int.{w32}
+use mir.Val.{SFits}
+use Rattle.bfp_codec.specs.declared.samples.Wide.{Wide}
+use Rattle.bfp_codec.specs.Samples.{no_wide, pair_of}
+use Rattle.bfp_codec.specs.Eight.{value_in}
+use Rattle.bfp_codec.proofs.unpacking.put_four.Goals as goal
+
+-- one more element of a list that is filled from a place on
+filled : (xs : List Wide) (from k : ℕ) (x : Wide) (value : ℕ → Wide) → from + k < length xs → ((j : ℕ) → j < k → get_or xs (from + j) no_wide ≡ value j) → x ≡ value k
+    → (j : ℕ) → j < k + 1 → get_or (set xs (from + k) x) (from + j) no_wide ≡ value j
+filled xs from k x value room before here =
+    below_more (λ j. get_or (set xs (from + k) x) (from + j) no_wide ≡ value j) k
+    (λ j h. get_or-set_other xs (from + k) (from + j) x no_wide (omega arith) ∙ before j h)
+    (get_or-set_same xs (from + k) x no_wide room ∙ here)
+
+pair : (a b c d : ℤ) → a ≡ c → b ≡ d → (let p : Wide = record { i = a; q = b } in p) ≡ record { i = c; q = d }
+pair a b c d e f = rw (e, f) refl
+
+pub loop-k-preserved : goal.loop-k-preserved
+loop-k-preserved c =
+    let i : SFits w32 c.value.result = search rules in
+    let q : SFits w32 c.value-in-loop-k.result = search rules in
+    let from = 4 * c.args.part in
+    let inside : from + c.loop-k.k < length c.loop-k.into = omega (arith, c.loop-k.invariant.len) in
+    record {
+      len = length-set c.loop-k.into (from + c.loop-k.k) _ ∙ c.loop-k.invariant.len;
+      done = filled c.loop-k.into from c.loop-k.k _ (pair_of (value_in c.args.number c.args.width c.args.e)) inside c.loop-k.invariant.done
+          (pair _ _ _ _ (to_z-of_z w32 c.value.result i ∙ c.value.ensures) (to_z-of_z w32 c.value-in-loop-k.result q ∙ c.value-in-loop-k.ensures));
+      others = λ j h. get_or-set_other c.loop-k.into (from + c.loop-k.k) j _ no_wide (elim h [ inl lt ↦ omega arith | inr ge ↦ omega arith ]) ∙ c.loop-k.invariant.others j h;
+    }

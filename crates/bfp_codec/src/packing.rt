@@ -1,0 +1,212 @@
+ghost use Rattle.std.specs.Prelude.{◌≡◌, ℕ, ◌+◌, ◌*◌, ◌-◌, ◌<◌, ◌≤◌, ◌^◌, ◌⊎◌, length, slice_index, take};
+ghost use Rattle.bit_fields.specs.Field.{field, digits};
+ghost use Rattle.bfp_codec.specs.Samples.{component, samples_of};
+ghost use Rattle.bfp_codec.specs.Exponent.{floor_of, Within, BlockFits};
+ghost use Rattle.bfp_codec.specs.Layout.{AreBytes, HasWidth, IsLaidOut, length_of, twos, packed_of, unpacked_of};
+ghost use Rattle.bfp_codec.specs.Shrunk.{IsNear, KeepsBytes, shrunk, shrunk_number, step_of};
+ghost use Rattle.bfp_codec.specs.Bytes.{bytes_of};
+ghost use Rattle.bfp_codec.specs.Shrunk.{CanPack};
+ghost use Rattle.bfp_codec.specs.declared.methods.Method.TheVariants.{Plain, Bfp};
+
+use crate::exponents::exponent;
+use crate::methods::{Method, block_len};
+use crate::packed_bytes::Packed;
+use crate::samples::Iq;
+use bit_fields::put_number;
+
+/// The whole number at or below `x` over a power of two.
+#[inline(always)]
+fn floor_at(x: i16, e: u8) -> i16
+    requires { e ≤ 15 }
+    ensures { result ≡ floor_of x e }
+{
+    x >> e
+}
+
+/// The greatest number of `width` bits.
+#[inline(always)]
+fn ones(width: u8) -> u16
+    requires low { 1 ≤ width }
+    requires high { width ≤ 16 }
+    ensures { result ≡ 2 ^ width - 1 }
+{
+    u16::MAX >> (16 - width)
+}
+
+/// The bits of a mantissa.
+#[inline(always)]
+fn mantissa_bits(x: i16, width: u8, e: u8) -> u16
+    requires low { 1 ≤ width }
+    requires high { width ≤ 16 }
+    requires small { e ≤ 15 }
+    requires fits { Within width (floor_of x e) }
+    ensures value { result ≡ twos width (floor_of x e) }
+    ensures below { result < 2 ^ width }
+{
+    floor_at(x, e).cast_unsigned() & ones(width)
+}
+
+/// The mantissas of two samples as one number.
+#[inline(always)]
+fn two_samples(block: &[Iq; 12], width: u8, e: u8, part: usize) -> u64
+    requires low { 1 ≤ width }
+    requires high { width ≤ 16 }
+    requires small { e ≤ 15 }
+    requires part { part ≤ 5 }
+    requires fits { BlockFits width e block.now }
+    ensures below { result < 2 ^ (4 * width) }
+    ensures value { result ≡ digits width (λ k. twos width (floor_of (component block.now (4 * part + k)) e)) 4 }
+{
+    let mut number: u64 = 0;
+    for k in 0..2 {
+        let pair = block[2 * part + k];
+        number = (number << width) | mantissa_bits(pair.i, width, e) as u64;
+        number = (number << width) | mantissa_bits(pair.q, width, e) as u64;
+    }
+    number
+}
+
+/// The mantissas of four samples as one number, which fills `width` bytes.
+#[inline(always)]
+fn four_samples(block: &[Iq; 12], width: u8, e: u8, part: usize) -> u128
+    requires low { 1 ≤ width }
+    requires high { width ≤ 16 }
+    requires small { e ≤ 15 }
+    requires part { part ≤ 2 }
+    requires fits { BlockFits width e block.now }
+    ensures below { result < 2 ^ (8 * width) }
+    ensures value { result ≡ digits width (λ k. twos width (floor_of (component block.now (8 * part + k)) e)) 8 }
+{
+    let first = two_samples(block, width, e, 2 * part);
+    let second = two_samples(block, width, e, 2 * part + 1);
+    ((first as u128) << (4 * width)) | second as u128
+}
+
+/// Writes 8 bytes from a place on. A call of its own, so that the bytes of a word are stored at once.
+#[inline(never)]
+fn put_word(into: &mut [u8; 49], at: usize, word: u64)
+    requires { at ≤ 41 }
+    ensures number { field into.new (8 * at) 64 ≡ word }
+    ensures others { (k : ℕ) → (k < at) ⊎ (at + 8 ≤ k) → slice_index into.new k ≡ slice_index into.old k }
+{
+    for k in 0..8 {
+        into[at + k] = ((word >> (8 * (7 - k))) & 0xff) as u8;
+    }
+}
+
+/// Writes the `width` bytes of a number from a place on, and zeros after them, 16 bytes in all.
+#[inline(always)]
+fn put_samples(into: &mut [u8; 49], at: usize, width: u8, number: u128)
+    requires low { 1 ≤ width }
+    requires high { width ≤ 16 }
+    requires room { at ≤ 33 }
+    requires fits { number < 2 ^ (8 * width) }
+    ensures number { field into.new (8 * at) (8 * width) ≡ number }
+    ensures before { (k : ℕ) → k < at → slice_index into.new k ≡ slice_index into.old k }
+{
+    let top = number << (8 * (16 - width));
+    put_word(into, at, (top >> 64) as u64);
+    put_word(into, at + 8, (top & 0xffff_ffff_ffff_ffff) as u64);
+}
+
+/// Writes the bytes of a block at a width: best where the compiler knows the width.
+#[inline(always)]
+fn pack_at(width: u8, block: &[Iq; 12], into: &mut [u8; 49])
+    requires low { 1 ≤ width }
+    requires high { width ≤ 16 }
+    ensures bytes { AreBytes into.new → take (1 + 3 * width) into.new ≡ packed_of (Bfp width) block.now }
+    ensures can { CanPack (Bfp width) block.now }
+{
+    let e = exponent(block, width);
+    let w = width as usize;
+    into[0] = e;
+    put_samples(into, 1, width, four_samples(block, width, e, 0));
+    put_samples(into, 1 + w, width, four_samples(block, width, e, 1));
+    put_samples(into, 1 + 2 * w, width, four_samples(block, width, e, 2));
+}
+
+/// Writes the bytes of a block at a width, with a kernel of its own for each of the usual ones.
+fn pack_bfp(width: u8, block: &[Iq; 12], into: &mut [u8; 49])
+    requires low { 1 ≤ width }
+    requires high { width ≤ 16 }
+    ensures bytes { AreBytes into.new → take (1 + 3 * width) into.new ≡ packed_of (Bfp width) block.now }
+    ensures can { CanPack (Bfp width) block.now }
+{
+    if width == 9 {
+        pack_at(9, block, into);
+    } else if width == 14 {
+        pack_at(14, block, into);
+    } else if width == 8 {
+        pack_at(8, block, into);
+    } else if width == 12 {
+        pack_at(12, block, into);
+    } else if width == 16 {
+        pack_at(16, block, into);
+    } else {
+        pack_at(width, block, into);
+    }
+}
+
+/// The bits of a number of 16.
+#[inline(always)]
+fn plain_bits(x: i16) -> u16
+    ensures value { result ≡ twos 16 x }
+    ensures within { Within 16 x }
+{
+    x.cast_unsigned()
+}
+
+/// Four samples as one number, which fills 16 bytes.
+#[inline(always)]
+fn four_plain(block: &[Iq; 12], part: usize) -> u128
+    requires { part ≤ 2 }
+    ensures value { result ≡ digits 16 (λ k. twos 16 (component block.now (8 * part + k))) 8 }
+    ensures within { (k : ℕ) → k < 8 → Within 16 (component block.now (8 * part + k)) }
+{
+    let mut number: u128 = 0;
+    for k in 0..4 {
+        let pair = block[4 * part + k];
+        number = (number << 16) | plain_bits(pair.i) as u128;
+        number = (number << 16) | plain_bits(pair.q) as u128;
+    }
+    number
+}
+
+/// Writes the bytes of a block that is not compressed.
+fn pack_plain(block: &[Iq; 12], into: &mut [u8; 49])
+    ensures bytes { AreBytes into.new → take 48 into.new ≡ packed_of Plain block.now }
+    ensures can { CanPack Plain block.now }
+{
+    put_number(into, 0, 16, four_plain(block, 0));
+    put_number(into, 16, 16, four_plain(block, 1));
+    put_number(into, 32, 16, four_plain(block, 2));
+}
+
+/// Writes the bytes of a block.
+fn put_block(method: Method, block: &[Iq; 12], into: &mut [u8; 49])
+    requires { HasWidth method }
+    ensures bytes { AreBytes into.new → take (length_of method) into.new ≡ packed_of method block.now }
+    ensures can { CanPack method block.now }
+{
+    match method {
+        Method::Plain => pack_plain(block, into),
+        Method::Bfp(width) => pack_bfp(width, block, into),
+    }
+}
+
+/// The bytes of a block: for block floating point the exponent and the mantissas, each the floor of
+/// its number over 2 to the exponent. It takes no memory.
+pub fn pack(method: Method, block: &[Iq; 12]) -> Packed
+    requires { HasWidth method }
+    ensures bytes { bytes_of result ≡ packed_of method block.now }
+    ensures length { length (bytes_of result) ≡ length_of method }
+    ensures fields { IsLaidOut method block.now (bytes_of result) }
+    ensures unpacked { unpacked_of method (bytes_of result) ≡ shrunk method block.now }
+    ensures near { (k : ℕ) → k < 24 → IsNear (step_of method block.now) (shrunk_number method block.now k) (component block.now k) }
+    ensures again { unpacked_of method (packed_of method (samples_of (shrunk method block.now))) ≡ shrunk method block.now }
+    ensures kept { KeepsBytes method → packed_of method (samples_of (shrunk method block.now)) ≡ bytes_of result }
+{
+    let mut bytes = [0; 49];
+    put_block(method, block, &mut bytes);
+    Packed::new(bytes, block_len(method))
+}

@@ -1,0 +1,148 @@
+ghost use Rattle.std.specs.Prelude.{◌≡◌, ℕ, pos, ◌*ℤ◌, ◌+◌, ◌*◌, ◌-◌, ◌<◌, ◌≤◌, ◌^◌, ◌/◌, ◌%◌, ◌⊎◌, length, slice_index_or};
+ghost use Rattle.bit_fields.specs.Field.{field, signed};
+ghost use Rattle.bfp_codec.specs.Samples.{no_wide, pair_of};
+ghost use Rattle.bfp_codec.specs.Eight.{value_in};
+ghost use Rattle.bfp_codec.specs.Exponent.{floor_of, Within};
+ghost use Rattle.bfp_codec.specs.Layout.{HasWidth, length_of, unpacked_of};
+ghost use Rattle.bfp_codec.specs.declared.methods.Method.TheVariants.{Plain, Bfp};
+
+use crate::methods::Method;
+use crate::samples::Wide;
+use bit_fields::number_at;
+
+/// The whole number at or below `x` over a power of two.
+#[inline(always)]
+fn floor_at(x: i32, e: u8) -> i32
+    requires { e ≤ 31 }
+    ensures { result ≡ floor_of x e }
+{
+    x >> e
+}
+
+/// The last `width` bits of a number, as a signed number.
+#[inline(always)]
+fn signed_bits(number: u128, width: u8) -> i32
+    requires low { 1 ≤ width }
+    requires high { width ≤ 16 }
+    ensures value { result ≡ signed width (number % 2 ^ width) }
+    ensures within { Within 16 result }
+{
+    let lost = 32 - width;
+    let top = ((number & 0xffff) as u32) << lost;
+    floor_at(top.cast_signed(), lost)
+}
+
+/// A number times a power of two.
+#[inline(always)]
+fn scaled(x: i32, e: u8) -> i32
+    requires within { Within 16 x }
+    requires small { e ≤ 15 }
+    ensures { result ≡ x *ℤ pos (2 ^ e) }
+{
+    x * (1 << e)
+}
+
+/// The value of number k of eight.
+#[inline(always)]
+fn value(number: u128, width: u8, k: u8, e: u8) -> i32
+    requires low { 1 ≤ width }
+    requires high { width ≤ 16 }
+    requires place { k ≤ 7 }
+    requires small { e ≤ 15 }
+    ensures { result ≡ value_in number width e k }
+{
+    scaled(signed_bits(number >> (width * (7 - k)), width), e)
+}
+
+/// Writes the four samples of eight numbers.
+#[inline(always)]
+fn put_four(into: &mut [Wide; 12], part: usize, number: u128, width: u8, e: u8)
+    requires low { 1 ≤ width }
+    requires high { width ≤ 16 }
+    requires part { part ≤ 2 }
+    requires small { e ≤ 15 }
+    ensures four { (j : ℕ) → j < 4 → slice_index_or into.new (4 * part + j) no_wide ≡ pair_of (value_in number width e) j }
+    ensures others { (j : ℕ) → (j < 4 * part) ⊎ (4 * part + 4 ≤ j) → slice_index_or into.new j no_wide ≡ slice_index_or into.old j no_wide }
+{
+    for k in 0..4 {
+        into[4 * part + k] = Wide {
+            i: value(number, width, 2 * k as u8, e),
+            q: value(number, width, 2 * k as u8 + 1, e),
+        };
+    }
+}
+
+/// The exponent in udCompParam.
+#[inline(always)]
+#[tactic(auto, using(std::proofs::lemmas::Grind::common_steps, bit_fields::proofs::Field::fields))]
+fn exponent_at(bytes: &[u8]) -> u8
+    requires { 1 ≤ length bytes.now }
+    ensures value { result ≡ field bytes.now 4 4 }
+    ensures small { result ≤ 15 }
+{
+    bytes[0] & 0xf
+}
+
+/// The samples of a block's bytes at a width: best where the compiler knows the width.
+#[inline(always)]
+fn unpack_at(width: u8, bytes: &[u8]) -> [Wide; 12]
+    requires low { 1 ≤ width }
+    requires high { width ≤ 16 }
+    requires len { length bytes.now ≡ 1 + 3 * width }
+    ensures { result ≡ unpacked_of (Bfp width) bytes.now }
+{
+    let e = exponent_at(bytes);
+    let w = width as usize;
+    let mut values = [Wide { i: 0, q: 0 }; 12];
+    put_four(&mut values, 0, number_at(bytes, 1, w), width, e);
+    put_four(&mut values, 1, number_at(bytes, 1 + w, w), width, e);
+    put_four(&mut values, 2, number_at(bytes, 1 + 2 * w, w), width, e);
+    values
+}
+
+/// The samples of a block's bytes at a width, with a kernel of its own for each of the usual ones.
+fn unpack_bfp(width: u8, bytes: &[u8]) -> [Wide; 12]
+    requires low { 1 ≤ width }
+    requires high { width ≤ 16 }
+    requires len { length bytes.now ≡ 1 + 3 * width }
+    ensures { result ≡ unpacked_of (Bfp width) bytes.now }
+{
+    if width == 9 {
+        unpack_at(9, bytes)
+    } else if width == 14 {
+        unpack_at(14, bytes)
+    } else if width == 8 {
+        unpack_at(8, bytes)
+    } else if width == 12 {
+        unpack_at(12, bytes)
+    } else if width == 16 {
+        unpack_at(16, bytes)
+    } else {
+        unpack_at(width, bytes)
+    }
+}
+
+/// The samples of the bytes of a block that is not compressed.
+fn unpack_plain(bytes: &[u8]) -> [Wide; 12]
+    requires { length bytes.now ≡ 48 }
+    ensures { result ≡ unpacked_of Plain bytes.now }
+{
+    let mut values = [Wide { i: 0, q: 0 }; 12];
+    put_four(&mut values, 0, number_at(bytes, 0, 16), 16, 0);
+    put_four(&mut values, 1, number_at(bytes, 16, 16), 16, 0);
+    put_four(&mut values, 2, number_at(bytes, 32, 16), 16, 0);
+    values
+}
+
+/// The samples of a block's bytes: for block floating point each mantissa times 2 to the exponent.
+/// It takes no memory.
+pub fn unpack(method: Method, bytes: &[u8]) -> [Wide; 12]
+    requires width { HasWidth method }
+    requires len { length bytes.now ≡ length_of method }
+    ensures { result ≡ unpacked_of method bytes.now }
+{
+    match method {
+        Method::Plain => unpack_plain(bytes),
+        Method::Bfp(width) => unpack_bfp(width, bytes),
+    }
+}
