@@ -1,0 +1,46 @@
+-- What a status ends the process with, and the line that it writes.
+use Rattle.std.specs.Prelude.{ℕ, List, [], ◌++◌, codes, decimal}
+use Rattle.fronthaul_replay.specs.declared.document.DocWhy.TheVariants.{NotText, FirstLine, UnknownWord, Order, Twice, Words, Number, NotBuilt}
+use Rattle.fronthaul.specs.declared.status.LineWhy.{LineWhy}
+use Rattle.fronthaul.specs.declared.status.LineWhy.TheVariants.{Doc}
+use Rattle.fronthaul.specs.declared.status.Status.{Status}
+use Rattle.fronthaul.specs.declared.status.Status.TheVariants.{Done, BadWords, BadDocument, ReadFault, WriteFault, NoMemory, TooLong}
+
+-- the exit status
+abbrev pub code_of : Status → ℕ
+code_of Done = 0
+code_of BadWords = 2
+code_of (BadDocument line why) = 3
+code_of ReadFault = 5
+code_of WriteFault = 6
+code_of NoMemory = 7
+code_of TooLong = 8
+
+-- a reason's name
+abbrev pub why_name : LineWhy → List ℕ
+why_name (Doc NotText) = codes "NotText"
+why_name (Doc FirstLine) = codes "FirstLine"
+why_name (Doc UnknownWord) = codes "UnknownWord"
+why_name (Doc Order) = codes "Order"
+why_name (Doc Twice) = codes "Twice"
+why_name (Doc Words) = codes "Words"
+why_name (Doc Number) = codes "Number"
+why_name (Doc NotBuilt) = codes "NotBuilt"
+
+-- the end of a refusal's line
+abbrev pub why_end : LineWhy → List ℕ
+why_end why = codes ": " ++ (why_name why ++ codes "\n")
+
+-- the line of a refusal
+abbrev pub refusal_line : ℕ → LineWhy → List ℕ
+refusal_line line why = codes "fronthaul: line " ++ (decimal line ++ why_end why)
+
+-- the line on standard error
+abbrev pub line_of : Status → List ℕ
+line_of Done = []
+line_of BadWords = codes "fronthaul: bad words\n"
+line_of (BadDocument line why) = refusal_line line why
+line_of ReadFault = codes "fronthaul: read fault\n"
+line_of WriteFault = codes "fronthaul: write fault\n"
+line_of NoMemory = codes "fronthaul: no memory\n"
+line_of TooLong = codes "fronthaul: input too long\n"

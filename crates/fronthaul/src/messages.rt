@@ -1,0 +1,57 @@
+// The line that a run writes where it is not done.
+ghost use Rattle.std.specs.Prelude.{◌≡◌, OnOk};
+ghost use Rattle.std.specs.Io.KnownBytes.{append_known};
+ghost use Rattle.fh_base.specs.Causes.{HasSinkCause};
+ghost use Rattle.fh_base.specs.Told.{WritesFront};
+ghost use Rattle.fronthaul.specs.Statuses.{line_of, refusal_line, why_end};
+
+use crate::status::{LineWhy, Status};
+use fh_base::{Sink, SinkFault, write_all_to};
+use fronthaul_replay::DocWhy;
+use itoa::Buffer;
+
+/// Writes the status's line, nothing for `Done`.
+pub fn write_message<E: Sink>(status: Status, err: &mut E) -> Result<(), SinkFault>
+    ensures ok { OnOk result (E.written err.new ≡ append_known (E.written err.old) (line_of status)) }
+    ensures front { WritesFront (E.written err.old) (E.written err.new) (line_of status) }
+    ensures cause { HasSinkCause (E.faults err.old) (E.faults err.new) (E.refusals err.old) (E.refusals err.new) result }
+{
+    match status {
+        Status::Done => Ok(()),
+        Status::BadWords => write_all_to(err, b"fronthaul: bad words\n"),
+        Status::BadDocument { line, why } => write_refusal(line, why, err),
+        Status::ReadFault => write_all_to(err, b"fronthaul: read fault\n"),
+        Status::WriteFault => write_all_to(err, b"fronthaul: write fault\n"),
+        Status::NoMemory => write_all_to(err, b"fronthaul: no memory\n"),
+        Status::TooLong => write_all_to(err, b"fronthaul: input too long\n"),
+    }
+}
+
+/// Writes where a document is refused, and why.
+fn write_refusal<E: Sink>(line: usize, why: LineWhy, err: &mut E) -> Result<(), SinkFault>
+    ensures ok { OnOk result (E.written err.new ≡ append_known (E.written err.old) (refusal_line line why)) }
+    ensures front { WritesFront (E.written err.old) (E.written err.new) (refusal_line line why) }
+    ensures cause { HasSinkCause (E.faults err.old) (E.faults err.new) (E.refusals err.old) (E.refusals err.new) result }
+{
+    let mut digits = Buffer::new();
+    write_all_to(err, b"fronthaul: line ")?;
+    write_all_to(err, digits.format(line).as_bytes())?;
+    write_all_to(err, end_of_line(why))
+}
+
+/// The end of a refusal's line.
+fn end_of_line(why: LineWhy) -> &'static [u8]
+    ensures { result.now ≡ why_end why }
+{
+    let LineWhy::Doc(why) = why;
+    match why {
+        DocWhy::NotText => b": NotText\n",
+        DocWhy::FirstLine => b": FirstLine\n",
+        DocWhy::UnknownWord => b": UnknownWord\n",
+        DocWhy::Order => b": Order\n",
+        DocWhy::Twice => b": Twice\n",
+        DocWhy::Words => b": Words\n",
+        DocWhy::Number => b": Number\n",
+        DocWhy::NotBuilt => b": NotBuilt\n",
+    }
+}

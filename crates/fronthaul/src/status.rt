@@ -1,0 +1,49 @@
+// What a run answers.
+ghost use Rattle.std.specs.Prelude.{◌≡◌};
+
+use fronthaul_replay::DocWhy;
+
+/// Why a line of the document is refused.
+#[derive(Clone, Copy, Debug, PartialEq, Eq)]
+pub enum LineWhy {
+    /// By the grammar.
+    Doc(DocWhy),
+}
+
+/// How a run ended.
+#[derive(Clone, Copy, Debug, PartialEq, Eq)]
+pub enum Status {
+    /// The input was read to its end and the whole text written.
+    Done,
+    /// The words are no command.
+    BadWords,
+    /// The document is refused at a line, counted from 1. Nothing was written.
+    BadDocument { line: usize, why: LineWhy },
+    /// The source failed. Nothing was written.
+    ReadFault,
+    /// The sink failed. A front part of the text was written.
+    WriteFault,
+    /// Memory was refused. A front part of the text was written.
+    NoMemory,
+    /// More bytes came than the limit. Nothing was written.
+    TooLong,
+}
+
+impl Status {
+    ghost use Rattle.fronthaul.specs.Statuses.{code_of};
+
+    /// What the process ends with.
+    pub fn code(&self) -> u8
+        ensures { result ≡ code_of self.now }
+    {
+        match self {
+            Status::Done => 0,
+            Status::BadWords => 2,
+            Status::BadDocument { .. } => 3,
+            Status::ReadFault => 5,
+            Status::WriteFault => 6,
+            Status::NoMemory => 7,
+            Status::TooLong => 8,
+        }
+    }
+}

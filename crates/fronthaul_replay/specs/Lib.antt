@@ -1,0 +1,16 @@
+pub mod Frames
+pub mod Proper
+pub mod Sweep
+pub mod Sections
+pub mod Windows
+pub mod Cells
+pub mod Events
+pub mod Arrivals
+pub mod Counters
+pub mod Report
+pub mod Words
+pub mod Document
+pub mod Built
+pub mod Answered
+pub mod Alone
+pub mod Replay
