@@ -21,8 +21,7 @@ fn longest(block: &[Iq; 12]) -> u16
 {
     let mut all: u16 = 0;
     for k in 0..12 {
-        let pair = block[k];
-        all |= magnitude(pair.i) | magnitude(pair.q);
+        all |= magnitude(block[k].i) | magnitude(block[k].q);
     }
     all
 }

@@ -59,9 +59,9 @@ fn two_samples(block: &[Iq; 12], width: u8, e: u8, part: usize) -> u64
 {
     let mut number: u64 = 0;
     for k in 0..2 {
-        let pair = block[2 * part + k];
-        number = (number << width) | mantissa_bits(pair.i, width, e) as u64;
-        number = (number << width) | mantissa_bits(pair.q, width, e) as u64;
+        let at = 2 * part + k;
+        number = (number << width) | mantissa_bits(block[at].i, width, e) as u64;
+        number = (number << width) | mantissa_bits(block[at].q, width, e) as u64;
     }
     number
 }
@@ -165,9 +165,9 @@ fn four_plain(block: &[Iq; 12], part: usize) -> u128
 {
     let mut number: u128 = 0;
     for k in 0..4 {
-        let pair = block[4 * part + k];
-        number = (number << 16) | plain_bits(pair.i) as u128;
-        number = (number << 16) | plain_bits(pair.q) as u128;
+        let at = 4 * part + k;
+        number = (number << 16) | plain_bits(block[at].i) as u128;
+        number = (number << 16) | plain_bits(block[at].q) as u128;
     }
     number
 }

@@ -20,9 +20,9 @@ command_same before c none read =
     let again = repeats_alone before c none read ∙ sym (repeats_fresh c read) in
     let over = overlaps_alone before c none ∙ sym (overlaps_fresh c) in
     let after : Bool → Bool → Verdict = λ r o.
-    if is_late t2a_cp_dl (start_of c.slot c.start_symbol) c.at.0 then Late
-    else (if is_early t2a_cp_dl (start_of c.slot c.start_symbol) c.at.0 then Early
-    else (if not (is_within c.carrier c.start_prb c.num_prb) then Range
+    if is_late t2a_cp_dl (start_of c.endpoint c.slot c.start_symbol) c.at.0 then Late
+    else (if is_early t2a_cp_dl (start_of c.endpoint c.slot c.start_symbol) c.at.0 then Early
+    else (if not (is_within c.endpoint.prbs c.start_prb c.num_prb) then Range
     else (if r then Repeat else (if o then Overlap else Accepted)))) in
     ap (λ r. after r (some_cell before c (λ cell. overlaps c.id c.mask cell.claim))) again
     ∙ ap (λ o. after (every_cell (λ p. fresh) c (λ cell. is_claimed c.id c.mask cell.claim)) o) over
@@ -30,8 +30,8 @@ command_same before c none read =
 pub data_same : (before : Place → Cell) (d : DataSection) → ((p : Place) → (before p).block ≡ None) → IsDataRead d → data_verdict before d ≡ data_verdict_alone d
 data_same before d none read =
     let again = fills_alone before d none read ∙ sym (fills_fresh d read) in
-    ap (λ r. if is_late t2a_up (start_of d.slot d.symbol) d.last.0 then Late
-    else (if is_early t2a_up (start_of d.slot d.symbol) d.first.0 then Early
+    ap (λ r. if is_late t2a_up (start_of d.endpoint d.slot d.symbol) d.last.0 then Late
+    else (if is_early t2a_up (start_of d.endpoint d.slot d.symbol) d.first.0 then Early
     else (if r then Repeat else Taken))) again
 
 -- one section more

@@ -33,9 +33,9 @@ made e c symbol prb at block =
     record { at = record { 0 = at }; id = e.id; slot = c.slot; symbol = symbol; prb = prb; section = c.id; mask = c.mask; block = block }
 
 pub made_is : (e : Endpoint) (c : CommandSection) (given : Option (DataSection × List ℕ)) (symbol prb : ℕ) (at : ℤ) (block : Option (List Wide))
-    → at ≡ start_of c.slot symbol → block ≡ radiated c.id (block_from given (place_at 0 c.slot symbol prb)) → made e c symbol prb at block ≡ cell_of e c given symbol prb
+    → at ≡ start_of e c.slot symbol → block ≡ radiated c.id (block_from given (place_at 0 c.slot symbol prb)) → made e c symbol prb at block ≡ cell_of e c given symbol prb
 made_is e c given symbol prb at block time samples =
-    ap (λ t. made e c symbol prb t block) time ∙ ap (λ b. made e c symbol prb (start_of c.slot symbol) b) samples
+    ap (λ t. made e c symbol prb t block) time ∙ ap (λ b. made e c symbol prb (start_of e c.slot symbol) b) samples
 
 pub other_symbol : (s : Slot) (first symbol : ℕ) → IsOfSlot s first → symbol < 14 → IsOfSlot s symbol
 other_symbol s first symbol h small = record { frame = h.frame; subframe = h.subframe; in_subframe = h.in_subframe; in_slot = small }
@@ -55,8 +55,8 @@ within_of false true within repeats overlaps h = absurd cc
 within_of false false true repeats overlaps h = refl
 within_of false false false repeats overlaps h = absurd cc
 
-pub accepted_within : (c : CommandSection) → is_verdict (verdict_alone c) Accepted ≡ true → is_within c.carrier c.start_prb c.num_prb ≡ true
+pub accepted_within : (c : CommandSection) → is_verdict (verdict_alone c) Accepted ≡ true → is_within c.endpoint.prbs c.start_prb c.num_prb ≡ true
 accepted_within c h =
-    within_of (is_late t2a_cp_dl (start_of c.slot c.start_symbol) c.at.0) (is_early t2a_cp_dl (start_of c.slot c.start_symbol) c.at.0)
-    (is_within c.carrier c.start_prb c.num_prb)
+    within_of (is_late t2a_cp_dl (start_of c.endpoint c.slot c.start_symbol) c.at.0) (is_early t2a_cp_dl (start_of c.endpoint c.slot c.start_symbol) c.at.0)
+    (is_within c.endpoint.prbs c.start_prb c.num_prb)
     (every_cell (λ p. fresh) c (λ cell. is_claimed c.id c.mask cell.claim)) (some_cell (λ p. fresh) c (λ cell. overlaps c.id c.mask cell.claim)) h

@@ -78,5 +78,5 @@ pub is_sent : (d : DataSection) (e : Endpoint) (ns : ℕ) (at : ℤ) (slice m : 
 is_sent d e ns at slice m time same small carrier is frame value =
     let here : d ≡ data_of 0 e (ticks ns) m = value ∙ ap (λ t. data_of 0 e t slice) time ∙ ap (λ x. data_of 0 e (ticks ns) x) same in record {
       read = is_data_read d e ns at slice m time same small carrier is frame value;
-      size = is.size ∙ ap (λ (k : DataSection). 8 + 48 * prb_count k.carrier k.num_prb) (sym here);
+      size = is.size ∙ ap (λ (k : DataSection). 8 + 48 * prb_count k.endpoint.prbs k.num_prb) (sym here);
     }

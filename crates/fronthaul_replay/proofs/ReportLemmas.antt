@@ -90,25 +90,25 @@ by_data f =
     count_text (codes "u_late") (f Late) ++ count_text (codes "u_early") (f Early)
     ++ count_text (codes "u_repeat") (f Repeat) ++ count_text (codes "u_taken") (f Taken)
 
-carrier_at : (e : Endpoint) (o : Option Injection) (c : CommandSection) → command_at e o ≡ Some c → c.carrier ≡ e.prbs
+carrier_at : (e : Endpoint) (o : Option Injection) (c : CommandSection) → command_at e o ≡ Some c → c.endpoint.prbs ≡ e.prbs
 carrier_at e None c h = absurd cc
 carrier_at e (Some i) c h = where_true (is_command_frame e i.frame) (command_of 0 e (ticks i.at) (application i.frame)) c refl h where
-  where_true : (b : Bool) (k c : CommandSection) → k.carrier ≡ e.prbs → (if b then Some k else None) ≡ Some c → c.carrier ≡ e.prbs
-  where_true true k c same h = let is : k ≡ c = cc in ap (λ (x : CommandSection). x.carrier) (sym is) ∙ same
+  where_true : (b : Bool) (k c : CommandSection) → k.endpoint.prbs ≡ e.prbs → (if b then Some k else None) ≡ Some c → c.endpoint.prbs ≡ e.prbs
+  where_true true k c same h = let is : k ≡ c = cc in ap (λ (x : CommandSection). x.endpoint.prbs) (sym is) ∙ same
   where_true false k c same h = absurd cc
 
-carrier_of : (e : Endpoint) (o p : Option Injection) (r : Option CommandSection) (c : CommandSection) → command_at e o ≡ r → or_else r (command_at e p) ≡ Some c → c.carrier ≡ e.prbs
+carrier_of : (e : Endpoint) (o p : Option Injection) (r : Option CommandSection) (c : CommandSection) → command_at e o ≡ r → or_else r (command_at e p) ≡ Some c → c.endpoint.prbs ≡ e.prbs
 carrier_of e o p None c first h = carrier_at e p c h
 carrier_of e o p (Some k) c first h = carrier_at e o c (first ∙ h)
 
 -- the sweep over what is known
-heard_cells : (e : Endpoint) (c : Option CommandSection) (d : Option (DataSection × List ℕ)) → IfSome c IsRead → ((k : CommandSection) → c ≡ Some k → k.carrier ≡ e.prbs)
+heard_cells : (e : Endpoint) (c : Option CommandSection) (d : Option (DataSection × List ℕ)) → IfSome c IsRead → ((k : CommandSection) → c ≡ Some k → k.endpoint.prbs ≡ e.prbs)
     → swept (e ∷ []) (cell_in c d) ≡ cells_of e c d
 heard_cells e None d read carrier = swept_no_command e d
 heard_cells e (Some c) d read carrier = swept_command e c d read (carrier c refl) (accepted_within c)
 
 events_alone : (e : Endpoint) (arrivals : List Arrival) (n : ℕ) (c : Option CommandSection) (d : Option (DataSection × List ℕ)) → Brings e arrivals n c d → IfSome c IsRead
-    → ((k : CommandSection) → c ≡ Some k → k.carrier ≡ e.prbs) → events_of (e ∷ []) arrivals ≡ cells_of e c d
+    → ((k : CommandSection) → c ≡ Some k → k.endpoint.prbs ≡ e.prbs) → events_of (e ∷ []) arrivals ≡ cells_of e c d
 events_alone e arrivals n c d brings read carrier = swept_same (e ∷ []) (known (decoded (e ∷ []) arrivals)) (cell_in c d) brings.alone.cells ∙ heard_cells e c d read carrier
 
 one_data : (d : Option (DataSection × List ℕ)) → data_count d ≡ one_of (data_verdict_in d)
@@ -116,7 +116,7 @@ one_data None = refl
 one_data (Some p) = refl
 
 report_by : (e : Endpoint) (arrivals : List Arrival) (n : ℕ) (c : Option CommandSection) (d : Option (DataSection × List ℕ)) → Brings e arrivals n c d → IfSome c IsRead
-    → ((k : CommandSection) → c ≡ Some k → k.carrier ≡ e.prbs) → report_after (e ∷ []) arrivals ≡ report_alone e n c d
+    → ((k : CommandSection) → c ≡ Some k → k.endpoint.prbs ≡ e.prbs) → report_after (e ∷ []) arrivals ≡ report_alone e n c d
 report_by e arrivals n c d brings read carrier =
     let events = events_alone e arrivals n c d brings read carrier in
     let text : ℕ → ℕ → (Verdict → ℕ) → ℕ → (Verdict → ℕ) → List AirCell → List ℕ = λ a b f w g cells.

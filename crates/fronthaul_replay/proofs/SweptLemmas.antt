@@ -78,9 +78,9 @@ time_more frame subframe slot y z h = omega (arith, start_more (14 * slot + y) (
 frame_time : (n k : ℕ) → (pos n -ℤ pos 128) *ℤ pos 15360000000 +ℤ pos k ≡ pos (n * 15360000000 + k) -ℤ pos 1966080000000
 frame_time n k = omega (arith, ints)
 
-time_is : (frame subframe slot symbol : ℕ) → start_of (slot_at frame subframe slot) symbol ≡ tick_at (time_of frame subframe slot symbol)
+time_is : (e : Endpoint) (frame subframe slot symbol : ℕ) → start_of e (slot_at frame subframe slot) symbol ≡ tick_at (time_of frame subframe slot symbol)
 unfolding time_of
-time_is frame subframe slot symbol = frame_time frame (subframe * 1536000000 + normal_start 1 (14 * slot + symbol))
+time_is e frame subframe slot symbol = frame_time frame (subframe * 1536000000 + normal_start 1 (14 * slot + symbol))
 
 -- ---- cells that the command does not name
 
@@ -141,7 +141,7 @@ frame_eq frame f n = ap (λ z. int_eq z (frame_at n)) (sym f.is) ∙ shift_eq f.
 no_symbol : (e : Endpoint) (cells : Place → Cell) (t : ℕ) (s : Slot) (y : ℕ) → ((n : ℕ) → event_of e (place_at 0 s y n) (cells (place_at 0 s y n)) ≡ []) → of_symbol e 0 cells t s y ≡ []
 no_symbol e cells t s y h =
     let row : each 0 e.prbs (λ n. event_of e (place_at 0 s y n) (cells (place_at 0 s y n))) ≡ [] = each_none 0 e.prbs _ (λ n l u. h n) in
-    either (int_eq (start_of s y) (tick_at t)) row where
+    either (int_eq (start_of e s y) (tick_at t)) row where
       either : (b : Bool) → each 0 e.prbs (λ n. event_of e (place_at 0 s y n) (cells (place_at 0 s y n))) ≡ [] → (if b then each 0 e.prbs (λ n. event_of e (place_at 0 s y n) (cells (place_at 0 s y n))) else []) ≡ []
       either true row = row
       either false row = refl
@@ -162,7 +162,7 @@ swept_none e cells h = each_none 0 ticks_swept _ (λ t l u. append-nil (of_endpo
 -- a cell of the command, by any name of its slot
 abbrev cell_at : Endpoint → CommandSection → Option (DataSection × List ℕ) → Slot → ℕ → ℕ → AirCell
 cell_at e c d s symbol prb = record {
-  at = record { 0 = start_of s symbol };
+  at = record { 0 = start_of e s symbol };
   id = e.id;
   slot = s;
   symbol = symbol;
@@ -179,7 +179,7 @@ some_event e c d p accepted named = ap (λ b. claimed_event e p (if b then Some 
 within_prbs : (carrier start num : ℕ) → is_within carrier start num ≡ true → first_prb start num + prb_count carrier num ≤ carrier
 within_prbs carrier start num h = grind (arith, nat_tests)
 
-swept_accepted : (e : Endpoint) (c : CommandSection) (d : Option (DataSection × List ℕ)) → IsRead c → c.carrier ≡ e.prbs → is_within c.carrier c.start_prb c.num_prb ≡ true
+swept_accepted : (e : Endpoint) (c : CommandSection) (d : Option (DataSection × List ℕ)) → IsRead c → c.endpoint.prbs ≡ e.prbs → is_within c.endpoint.prbs c.start_prb c.num_prb ≡ true
     → is_verdict (verdict_alone c) Accepted ≡ true → swept (e ∷ []) (cell_in (Some c) d) ≡ each c.symbol c.num_symbol (row_of e c (taken_in d))
 unfolding swept
 swept_accepted e c d read carrier within accepted =
@@ -190,7 +190,7 @@ swept_accepted e c d read carrier within accepted =
     let s = slot_at f.number sf sl in
     let s_is : s ≡ c.slot = ap (λ z. let r : Slot = record { frame = z; subframe = sf; slot = sl } in r) f.is in
     let first = first_prb c.start_prb c.num_prb in
-    let count = prb_count c.carrier c.num_prb in
+    let count = prb_count c.endpoint.prbs c.num_prb in
     let time = time_of f.number sf sl in
     let row : ℕ → List AirCell = λ y. each 0 e.prbs (λ n. event_of e (place_at 0 s y n) (cells (place_at 0 s y n))) in
     let out_frame : (fr k l y n : ℕ) → (fr ≡ f.number → ⊥) → event_of e (place_at 0 (slot_at fr k l) y n) (cells (place_at 0 (slot_at fr k l) y n)) ≡ [] =
@@ -215,7 +215,7 @@ swept_accepted e c d read carrier within accepted =
     let slot_rows : (t : ℕ) → of_slot e 0 cells t s ≡ rows_at c.symbol c.num_symbol time row t =
     λ t. each_only 0 14 c.symbol c.num_symbol (of_symbol e 0 cells t s) (omega arith) (omega (arith, read.within)) (λ y l u out. no_symbol e cells t s y (λ n. out_symbol y n out))
     ∙ each_same c.symbol c.num_symbol (of_symbol e 0 cells t s) (λ y. if time y == t then row y else [])
-    (λ y l u. ap (λ b. if b then row y else []) (ap (λ z. int_eq z (tick_at t)) (time_is f.number sf sl y) ∙ shift_eq (time y) t 1966080000000)) in
+    (λ y l u. ap (λ b. if b then row y else []) (ap (λ z. int_eq z (tick_at t)) (time_is e f.number sf sl y) ∙ shift_eq (time y) t 1966080000000)) in
     let endpoint_rows : (t : ℕ) → of_endpoints 0 (e ∷ []) cells t ≡ rows_at c.symbol c.num_symbol time row t =
     λ t. append-nil (of_endpoint e 0 cells t)
     ∙ each_one 0 frames_swept f.number _ (omega arith) f.few (λ fr l u ne. each_none 0 10 _ (λ k l u. each_none 0 2 _ (λ m l u. no_slot e cells t (slot_at fr k m) (λ y n. out_frame fr k m y n ne))))
@@ -223,7 +223,7 @@ swept_accepted e c d read carrier within accepted =
     ∙ each_one 0 2 sl _ (omega arith) read.slot.in_subframe (λ m l u ne. no_slot e cells t (slot_at f.number sf m) (λ y n. out_slot f.number sf m y n ne))
     ∙ slot_rows t in
     let rows : (y : ℕ) → c.symbol ≤ y → y < c.symbol + c.num_symbol → row y ≡ each first count (λ n. cell_at e c d s y n ∷ []) =
-    λ y l u. each_only 0 e.prbs first count (λ n. event_of e (place_at 0 s y n) (cells (place_at 0 s y n))) (omega arith) (omega (arith, within_prbs c.carrier c.start_prb c.num_prb within, carrier))
+    λ y l u. each_only 0 e.prbs first count (λ n. event_of e (place_at 0 s y n) (cells (place_at 0 s y n))) (omega arith) (omega (arith, within_prbs c.endpoint.prbs c.start_prb c.num_prb within, carrier))
     (λ n nl nu out. out_prb y n out)
     ∙ each_same first count _ (λ n. cell_at e c d s y n ∷ []) (λ n nl nu. inside y n l u nl nu) in
     each_same 0 ticks_swept (of_endpoints 0 (e ∷ []) cells) (rows_at c.symbol c.num_symbol time row) (λ t l u. endpoint_rows t)
@@ -242,12 +242,12 @@ no_claim_event e d p = refl
 refused_event : (e : Endpoint) (c : CommandSection) (d : Option (DataSection × List ℕ)) (p : Place) → is_verdict (verdict_alone c) Accepted ≡ false → event_of e p (cell_in (Some c) d p) ≡ []
 refused_event e c d p h = ap (λ b. claimed_event e p (if b && command_names c p then Some (claim_of c) else None) (block_in d p)) h
 
-swept_some : (b : Bool) (e : Endpoint) (c : CommandSection) (d : Option (DataSection × List ℕ)) → IsRead c → c.carrier ≡ e.prbs → (is_verdict (verdict_alone c) Accepted ≡ true → is_within c.carrier c.start_prb c.num_prb ≡ true)
+swept_some : (b : Bool) (e : Endpoint) (c : CommandSection) (d : Option (DataSection × List ℕ)) → IsRead c → c.endpoint.prbs ≡ e.prbs → (is_verdict (verdict_alone c) Accepted ≡ true → is_within c.endpoint.prbs c.start_prb c.num_prb ≡ true)
     → is_verdict (verdict_alone c) Accepted ≡ b → swept (e ∷ []) (cell_in (Some c) d) ≡ (if b then each c.symbol c.num_symbol (row_of e c (taken_in d)) else [])
 swept_some true e c d read carrier within is = swept_accepted e c d read carrier (within is) is
 swept_some false e c d read carrier within is = swept_none e (cell_in (Some c) d) (λ p. refused_event e c d p is)
 
-pub swept_command : (e : Endpoint) (c : CommandSection) (d : Option (DataSection × List ℕ)) → IsRead c → c.carrier ≡ e.prbs → (is_verdict (verdict_alone c) Accepted ≡ true → is_within c.carrier c.start_prb c.num_prb ≡ true)
+pub swept_command : (e : Endpoint) (c : CommandSection) (d : Option (DataSection × List ℕ)) → IsRead c → c.endpoint.prbs ≡ e.prbs → (is_verdict (verdict_alone c) Accepted ≡ true → is_within c.endpoint.prbs c.start_prb c.num_prb ≡ true)
     → swept (e ∷ []) (cell_in (Some c) d) ≡ cells_of e (Some c) d
 swept_command e c d read carrier within = swept_some (is_verdict (verdict_alone c) Accepted) e c d read carrier within refl
 

@@ -16,8 +16,8 @@ pub repeats_alone : (known : Place → Cell) (c : CommandSection) → ((p : Plac
     → every_cell known c (λ cell. is_claimed c.id c.mask cell.claim) ≡ (c.mask == 0)
 repeats_alone known c none read =
     every_same c.symbol c.num_symbol _ (λ y. c.mask == 0) (λ y.
-    every_same (first_prb c.start_prb c.num_prb) (prb_count c.carrier c.num_prb) _ (λ n. c.mask == 0) (λ n. ap (is_claimed c.id c.mask) (none (place_at c.ep c.slot y n)))
-    ∙ every_const (first_prb c.start_prb c.num_prb) (prb_count c.carrier c.num_prb) (c.mask == 0) (count_some c.carrier c.num_prb read.carrier))
+    every_same (first_prb c.start_prb c.num_prb) (prb_count c.endpoint.prbs c.num_prb) _ (λ n. c.mask == 0) (λ n. ap (is_claimed c.id c.mask) (none (place_at c.ep c.slot y n)))
+    ∙ every_const (first_prb c.start_prb c.num_prb) (prb_count c.endpoint.prbs c.num_prb) (c.mask == 0) (count_some c.endpoint.prbs c.num_prb read.carrier))
     ∙ every_const c.symbol c.num_symbol (c.mask == 0) read.some
 
 -- and overlaps none
@@ -25,16 +25,16 @@ pub overlaps_alone : (known : Place → Cell) (c : CommandSection) → ((p : Pla
     → some_cell known c (λ cell. overlaps c.id c.mask cell.claim) ≡ false
 overlaps_alone known c none =
     some_same c.symbol c.num_symbol _ (λ y. false) (λ y.
-    some_same (first_prb c.start_prb c.num_prb) (prb_count c.carrier c.num_prb) _ (λ n. false) (λ n. ap (overlaps c.id c.mask) (none (place_at c.ep c.slot y n)))
-    ∙ some_none (first_prb c.start_prb c.num_prb) (prb_count c.carrier c.num_prb))
+    some_same (first_prb c.start_prb c.num_prb) (prb_count c.endpoint.prbs c.num_prb) _ (λ n. false) (λ n. ap (overlaps c.id c.mask) (none (place_at c.ep c.slot y n)))
+    ∙ some_none (first_prb c.start_prb c.num_prb) (prb_count c.endpoint.prbs c.num_prb))
     ∙ some_none c.symbol c.num_symbol
 
 -- with no block, no data repeats
 pub fills_alone : (known : Place → Cell) (d : DataSection) → ((p : Place) → (known p).block ≡ None) → IsDataRead d
-    → every_prb d.carrier d.start_prb d.num_prb (λ n. is_some (known (place_at d.ep d.slot d.symbol n)).block) ≡ false
+    → every_prb d.endpoint.prbs d.start_prb d.num_prb (λ n. is_some (known (place_at d.ep d.slot d.symbol n)).block) ≡ false
 fills_alone known d none read =
-    every_same (first_prb d.start_prb d.num_prb) (prb_count d.carrier d.num_prb) _ (λ n. false) (λ n. ap is_some (none (place_at d.ep d.slot d.symbol n)))
-    ∙ every_const (first_prb d.start_prb d.num_prb) (prb_count d.carrier d.num_prb) false (count_some d.carrier d.num_prb read.carrier)
+    every_same (first_prb d.start_prb d.num_prb) (prb_count d.endpoint.prbs d.num_prb) _ (λ n. false) (λ n. ap is_some (none (place_at d.ep d.slot d.symbol n)))
+    ∙ every_const (first_prb d.start_prb d.num_prb) (prb_count d.endpoint.prbs d.num_prb) false (count_some d.endpoint.prbs d.num_prb read.carrier)
 
 -- the same where nothing at all is known
 pub repeats_fresh : (c : CommandSection) → IsRead c → every_cell (λ p. fresh) c (λ cell. is_claimed c.id c.mask cell.claim) ≡ (c.mask == 0)
@@ -44,7 +44,7 @@ pub overlaps_fresh : (c : CommandSection) → some_cell (λ p. fresh) c (λ cell
 overlaps_fresh c = overlaps_alone (λ p. fresh) c (λ p. refl)
 
 pub fills_fresh : (d : DataSection) → IsDataRead d
-    → every_prb d.carrier d.start_prb d.num_prb (λ n. is_some ((λ (p : Place). fresh) (place_at d.ep d.slot d.symbol n)).block) ≡ false
+    → every_prb d.endpoint.prbs d.start_prb d.num_prb (λ n. is_some ((λ (p : Place). fresh) (place_at d.ep d.slot d.symbol n)).block) ≡ false
 fills_fresh d read = fills_alone (λ p. fresh) d (λ p. refl) read
 
 pub ruleset alone = (repeats_fresh, overlaps_fresh, fills_fresh)

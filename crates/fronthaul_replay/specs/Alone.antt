@@ -95,7 +95,7 @@ datas_with d v = times (data_verdict_in d) v
 -- the cells of an accepted command, symbol by symbol, with the samples of taken data
 abbrev pub cell_of : Endpoint → CommandSection → Option (DataSection × List ℕ) → ℕ → ℕ → AirCell
 cell_of e c d symbol prb = record {
-  at = record { 0 = start_of c.slot symbol };
+  at = record { 0 = start_of e c.slot symbol };
   id = e.id;
   slot = c.slot;
   symbol = symbol;
@@ -106,7 +106,7 @@ cell_of e c d symbol prb = record {
 }
 
 abbrev pub row_of : Endpoint → CommandSection → Option (DataSection × List ℕ) → ℕ → List AirCell
-row_of e c d symbol = each (first_prb c.start_prb c.num_prb) (prb_count c.carrier c.num_prb) (λ prb. cell_of e c d symbol prb ∷ [])
+row_of e c d symbol = each (first_prb c.start_prb c.num_prb) (prb_count c.endpoint.prbs c.num_prb) (λ prb. cell_of e c d symbol prb ∷ [])
 
 abbrev pub cells_from : Endpoint → Option CommandSection → Option (DataSection × List ℕ) → List AirCell
 cells_from e None d = []

@@ -2,15 +2,13 @@
 use Rattle.std.specs.Prelude.{ℕ, ℤ, ◌+◌, ◌-◌, Bool, false, not, ◌&&◌, ◌||◌, ◌==◌, nat_lt, nat_le, bit_and, bit_or, is_some, if◌then◌else◌, List, [], ◌∷◌, Option, Some, None}
 use Rattle.std.specs.Ordering.{int_eq}
 use Rattle.fh_time.specs.Air.{air_of}
-use Rattle.fh_time.specs.declared.kind.Kind.TheVariants.{Ordinary}
-use Rattle.fh_time.specs.declared.numerology.Numerology.{Numerology}
-use Rattle.fh_time.specs.declared.spacing.Spacing.TheVariants.{Khz30}
 use Rattle.fh_time.specs.declared.values.Slot.{Slot}
-use Rattle.fronthaul_replay.specs.Frames.{first_prb, prb_count, is_within}
+use Rattle.fronthaul_replay.specs.Frames.{numerology_of, first_prb, prb_count, is_within}
 use Rattle.fronthaul_replay.specs.Sections.{Section, Control, User}
 use Rattle.fronthaul_replay.specs.Sweep.{every, some}
 use Rattle.fronthaul_replay.specs.Windows.{t2a_up, t2a_cp_dl, is_late, is_early}
 use Rattle.fronthaul_replay.specs.declared.cell.Wide.{Wide}
+use Rattle.fronthaul_replay.specs.declared.endpoint.Endpoint.{Endpoint}
 use Rattle.fronthaul_replay.specs.declared.verdict.Verdict.{Verdict}
 use Rattle.fronthaul_replay.specs.declared.verdict.Verdict.TheVariants.{Late, Early, Range, Repeat, Overlap, Accepted, Taken}
 use Rattle.fronthaul_replay.specs.declared.sections.CommandSection.{CommandSection}
@@ -41,12 +39,9 @@ pub record Cell : Type 0 where
 abbrev pub fresh : Cell
 fresh = record { claim = None; block = None }
 
--- the air time of a symbol of 30 kHz
-abbrev pub numerology : Numerology
-numerology = record { kind = Ordinary Khz30 }
-
-abbrev pub start_of : Slot → ℕ → ℤ
-start_of slot symbol = air_of numerology slot symbol
+-- the air time of an endpoint's symbol
+abbrev pub start_of : Endpoint → Slot → ℕ → ℤ
+start_of e slot symbol = air_of (numerology_of e) slot symbol
 
 -- ---- verdicts
 
@@ -68,26 +63,26 @@ abbrev pub every_prb : ℕ → ℕ → ℕ → (ℕ → Bool) → Bool
 every_prb carrier start num p = every (first_prb start num) (prb_count carrier num) p
 
 abbrev pub every_cell : (Place → Cell) → CommandSection → (Cell → Bool) → Bool
-every_cell known c p = every c.symbol c.num_symbol (λ y. every_prb c.carrier c.start_prb c.num_prb (λ n. p (known (place_at c.ep c.slot y n))))
+every_cell known c p = every c.symbol c.num_symbol (λ y. every_prb c.endpoint.prbs c.start_prb c.num_prb (λ n. p (known (place_at c.ep c.slot y n))))
 
 abbrev pub some_cell : (Place → Cell) → CommandSection → (Cell → Bool) → Bool
-some_cell known c p = some c.symbol c.num_symbol (λ y. some (first_prb c.start_prb c.num_prb) (prb_count c.carrier c.num_prb) (λ n. p (known (place_at c.ep c.slot y n))))
+some_cell known c p = some c.symbol c.num_symbol (λ y. some (first_prb c.start_prb c.num_prb) (prb_count c.endpoint.prbs c.num_prb) (λ n. p (known (place_at c.ep c.slot y n))))
 
 -- the verdict on a command where the cells are known so: the first test that fails names it
 abbrev pub command_verdict : (Place → Cell) → CommandSection → Verdict
 command_verdict known c =
-    if is_late t2a_cp_dl (start_of c.slot c.start_symbol) c.at.0 then Late
-    else (if is_early t2a_cp_dl (start_of c.slot c.start_symbol) c.at.0 then Early
-    else (if not (is_within c.carrier c.start_prb c.num_prb) then Range
+    if is_late t2a_cp_dl (start_of c.endpoint c.slot c.start_symbol) c.at.0 then Late
+    else (if is_early t2a_cp_dl (start_of c.endpoint c.slot c.start_symbol) c.at.0 then Early
+    else (if not (is_within c.endpoint.prbs c.start_prb c.num_prb) then Range
     else (if every_cell known c (λ cell. is_claimed c.id c.mask cell.claim) then Repeat
     else (if some_cell known c (λ cell. overlaps c.id c.mask cell.claim) then Overlap
     else Accepted))))
 
 abbrev pub data_verdict : (Place → Cell) → DataSection → Verdict
 data_verdict known d =
-    if is_late t2a_up (start_of d.slot d.symbol) d.last.0 then Late
-    else (if is_early t2a_up (start_of d.slot d.symbol) d.first.0 then Early
-    else (if every_prb d.carrier d.start_prb d.num_prb (λ n. is_some (known (place_at d.ep d.slot d.symbol n)).block) then Repeat
+    if is_late t2a_up (start_of d.endpoint d.slot d.symbol) d.last.0 then Late
+    else (if is_early t2a_up (start_of d.endpoint d.slot d.symbol) d.first.0 then Early
+    else (if every_prb d.endpoint.prbs d.start_prb d.num_prb (λ n. is_some (known (place_at d.ep d.slot d.symbol n)).block) then Repeat
     else Taken))
 
 abbrev pub verdict_of : (Place → Cell) → Section → Verdict
@@ -105,12 +100,12 @@ is_from first count n = nat_le first n && nat_lt n (first + count)
 abbrev pub command_names : CommandSection → Place → Bool
 command_names c p =
     (c.ep == p.ep) && (is_slot c.slot p.slot && (is_from c.symbol c.num_symbol p.symbol
-    && is_from (first_prb c.start_prb c.num_prb) (prb_count c.carrier c.num_prb) p.prb))
+    && is_from (first_prb c.start_prb c.num_prb) (prb_count c.endpoint.prbs c.num_prb) p.prb))
 
 abbrev pub data_names : DataSection → Place → Bool
 data_names d p =
     (d.ep == p.ep) && (is_slot d.slot p.slot && ((d.symbol == p.symbol)
-    && is_from (first_prb d.start_prb d.num_prb) (prb_count d.carrier d.num_prb) p.prb))
+    && is_from (first_prb d.start_prb d.num_prb) (prb_count d.endpoint.prbs d.num_prb) p.prb))
 
 abbrev pub claimed : ℕ → ℕ → Option Claim → Claim
 claimed id mask None = record { id = id; mask = mask }

@@ -3,6 +3,7 @@ use Rattle.std.specs.Prelude.{ℕ, ℤ, pos, ◌+◌, ◌*◌, ◌-ℤ◌, ◌==
 use Rattle.std.specs.Ordering.{int_eq}
 use Rattle.fh_time.specs.declared.values.Slot.{Slot}
 use Rattle.fronthaul_replay.specs.Cells.{Place, Claim, Block, Cell, known, place_at, start_of}
+use Rattle.fronthaul_replay.specs.Frames.{shape_of}
 use Rattle.fronthaul_replay.specs.Sections.{Arrival, decoded}
 use Rattle.fronthaul_replay.specs.Sweep.{each}
 use Rattle.fronthaul_replay.specs.declared.cell.AirCell.{AirCell}
@@ -18,7 +19,7 @@ abbrev pub claimed_event : Endpoint → Place → Option Claim → Option Block 
 claimed_event e p None block = []
 claimed_event e p (Some c) block =
     record {
-      at = record { 0 = start_of p.slot p.symbol };
+      at = record { 0 = start_of e p.slot p.symbol };
       id = e.id;
       slot = p.slot;
       symbol = p.symbol;
@@ -53,16 +54,16 @@ slot_at frame subframe slot = record { frame = frame_at frame; subframe = subfra
 -- the cells of a symbol that starts at a tick
 abbrev pub of_symbol : Endpoint → ℕ → (Place → Cell) → ℕ → Slot → ℕ → List AirCell
 of_symbol e ep cells tick slot symbol =
-    if int_eq (start_of slot symbol) (tick_at tick)
+    if int_eq (start_of e slot symbol) (tick_at tick)
     then each 0 e.prbs (λ n. event_of e (place_at ep slot symbol n) (cells (place_at ep slot symbol n)))
     else []
 
 abbrev pub of_slot : Endpoint → ℕ → (Place → Cell) → ℕ → Slot → List AirCell
-of_slot e ep cells tick slot = each 0 14 (of_symbol e ep cells tick slot)
+of_slot e ep cells tick slot = each 0 (shape_of e).symbols (of_symbol e ep cells tick slot)
 
 abbrev pub of_endpoint : Endpoint → ℕ → (Place → Cell) → ℕ → List AirCell
 of_endpoint e ep cells tick =
-    each 0 frames_swept (λ frame. each 0 10 (λ subframe. each 0 2 (λ slot. of_slot e ep cells tick (slot_at frame subframe slot))))
+    each 0 frames_swept (λ frame. each 0 10 (λ subframe. each 0 (shape_of e).slots (λ slot. of_slot e ep cells tick (slot_at frame subframe slot))))
 
 abbrev pub of_endpoints : ℕ → List Endpoint → (Place → Cell) → ℕ → List AirCell
 of_endpoints ep [] cells tick = []

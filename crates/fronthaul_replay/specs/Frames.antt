@@ -1,12 +1,19 @@
 -- A frame of one message, by the layouts of eCPRI 2.0 and of O-RAN.WG4.CUS (C-plane section type 1, U-plane without compression).
 use Rattle.std.specs.Prelude.{ℕ, ◌+◌, ◌-◌, ◌*◌, Bool, ◌&&◌, ◌||◌, nat_lt, nat_le, ◌==◌, if◌then◌else◌, List, length, drop}
 use Rattle.bit_fields.specs.Field.{field}
+use Rattle.fh_time.specs.Numbering.{shape_of as shape_of_numerology}
+use Rattle.fh_time.specs.declared.kind.Kind.TheVariants.{Ordinary}
+use Rattle.fh_time.specs.declared.numerology.Numerology.{Numerology}
+use Rattle.fh_time.specs.declared.spacing.Spacing.TheVariants.{Khz30}
 use Rattle.fh_time.specs.declared.values.Shape.{Shape}
 use Rattle.fronthaul_replay.specs.declared.endpoint.Endpoint.{Endpoint}
 
--- a slot of 30 kHz
+-- an endpoint is ordinary, of 30 kHz
+abbrev pub numerology_of : Endpoint → Numerology
+numerology_of e = record { kind = Ordinary Khz30 }
+
 abbrev pub shape_of : Endpoint → Shape
-shape_of e = record { symbols = 14; slots = 2 }
+shape_of e = shape_of_numerology (numerology_of e)
 
 -- ---- eCPRI common header, id and sequence field
 

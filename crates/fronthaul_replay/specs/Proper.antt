@@ -52,7 +52,7 @@ pub record IsRead (c : CommandSection) : Type 0 where
   pub within : c.symbol + c.num_symbol ≤ 14
   pub ep : c.ep ≡ 0
   pub at : IsTime c.at.0
-  pub carrier : 0 < c.carrier
+  pub carrier : 0 < c.endpoint.prbs
   pub start_prb : c.start_prb < 1024
 
 pub record IsDataRead (d : DataSection) : Type 0 where
@@ -60,10 +60,10 @@ pub record IsDataRead (d : DataSection) : Type 0 where
   pub ep : d.ep ≡ 0
   pub first : IsTime d.first.0
   pub last : IsTime d.last.0
-  pub carrier : 0 < d.carrier
+  pub carrier : 0 < d.endpoint.prbs
   pub start_prb : d.start_prb < 1024
 
 -- data that was read, with its message: the samples are there
 pub record IsSent (p : DataSection × List ℕ) : Type 0 where
   pub read : IsDataRead p.0
-  pub size : length p.1 ≡ 8 + 48 * prb_count p.0.carrier p.0.num_prb
+  pub size : length p.1 ≡ 8 + 48 * prb_count p.0.endpoint.prbs p.0.num_prb

@@ -26,7 +26,7 @@ slot_of at m = record { frame = absolute_frame (field m 8 8) at; subframe = fiel
 abbrev pub command_of : ℕ → Endpoint → ℤ → List ℕ → CommandSection
 command_of ep e at m = record {
   ep = ep;
-  carrier = e.prbs;
+  endpoint = e;
   at = record { 0 = at };
   slot = slot_of at m;
   start_symbol = field m 26 6;
@@ -50,7 +50,7 @@ block_of prb =
 abbrev pub data_of : ℕ → Endpoint → ℤ → List ℕ → DataSection
 data_of ep e at m = record {
   ep = ep;
-  carrier = e.prbs;
+  endpoint = e;
   first = record { 0 = at };
   last = record { 0 = at };
   slot = slot_of at m;

@@ -96,7 +96,7 @@ fn data_names(d: &DataSection, slot: Slot, symbol: u8, prb: u16) -> bool
         && d.symbol == symbol
         && is_from(
             first_prb(d.start_prb, d.num_prb),
-            prb_count(d.carrier, d.num_prb),
+            prb_count(d.endpoint.prbs, d.num_prb),
             prb,
         )
 }
@@ -142,15 +142,15 @@ fn push_row(
     symbol: u8,
 ) -> Result<(), NoMemory>
     requires slot { IsOfSlot c.now.slot symbol }
-    requires within { is_within c.now.carrier c.now.start_prb c.now.num_prb ≡ true }
+    requires within { is_within c.now.endpoint.prbs c.now.start_prb c.now.num_prb ≡ true }
     requires sent { IfSome given.now IsSent }
     ensures { OnOk result (cells.new ≡ cells.old ++ row_of endpoint.now c.now given.now symbol) }
 {
     let first = first_prb(c.start_prb, c.num_prb);
-    let end = first + prb_count(c.carrier, c.num_prb);
+    let end = first + prb_count(c.endpoint.prbs, c.num_prb);
     for prb in first..end {
         cells.push(AirCell {
-            at: symbol_start(c.slot, symbol),
+            at: symbol_start(endpoint, c.slot, symbol),
             id: endpoint.id,
             slot: c.slot,
             symbol,
@@ -172,7 +172,7 @@ fn accepted_cells(
     given: &Option<Data<'_>>,
 ) -> Result<List<AirCell>, NoMemory>
     requires read { IsRead c.now }
-    requires within { is_within c.now.carrier c.now.start_prb c.now.num_prb ≡ true }
+    requires within { is_within c.now.endpoint.prbs c.now.start_prb c.now.num_prb ≡ true }
     requires sent { IfSome given.now IsSent }
     ensures { IfOk result (λ cells. cells ≡ each c.now.symbol c.now.num_symbol (row_of endpoint.now c.now given.now)) }
 {

@@ -20,8 +20,7 @@ use fh_time::{Slot, Ticks, of_ns, resolve};
 pub(crate) struct CommandSection {
     /// The endpoint's place in the document.
     pub ep: usize,
-    /// The PRBs of its carrier.
-    pub carrier: u16,
+    pub endpoint: Endpoint,
     /// When its message came.
     pub at: Ticks,
     pub slot: Slot,
@@ -42,8 +41,7 @@ pub(crate) struct CommandSection {
 pub(crate) struct DataSection {
     /// The endpoint's place in the document.
     pub ep: usize,
-    /// The PRBs of its carrier.
-    pub carrier: u16,
+    pub endpoint: Endpoint,
     /// When the first and the last piece of its message came.
     pub first: Ticks,
     pub last: Ticks,
@@ -91,7 +89,7 @@ fn section_of_command(endpoint: &Endpoint, at: Ticks, message: &[u8]) -> Command
     let section = &message[8..];
     CommandSection {
         ep: 0,
-        carrier: endpoint.prbs,
+        endpoint: *endpoint,
         at,
         slot: slot_named(at, message),
         start_symbol: symbol(message),
@@ -115,7 +113,7 @@ fn section_of_data(endpoint: &Endpoint, at: Ticks, message: &[u8]) -> DataSectio
     let section = &message[4..];
     DataSection {
         ep: 0,
-        carrier: endpoint.prbs,
+        endpoint: *endpoint,
         first: at,
         last: at,
         slot: slot_named(at, message),

@@ -5,10 +5,11 @@ ghost use Rattle.fronthaul_replay.specs.Cells.{start_of};
 ghost use Rattle.fronthaul_replay.specs.Proper.{IsOfSlot, IsRead, IsDataRead, IsTime};
 ghost use Rattle.fronthaul_replay.specs.Windows.{Window as Nanoseconds, ticks, is_late, is_early};
 
+use crate::endpoint::Endpoint;
 use crate::frames::is_within;
 use crate::sections::{CommandSection, DataSection};
 use crate::verdict::Verdict;
-use fh_time::{Numerology, Slot, Ticks, air};
+use fh_time::{Slot, Ticks, air};
 
 /// A reception window in nanoseconds; both ends belong to it.
 struct Window {
@@ -28,17 +29,14 @@ const T2A_UP: Window = Window {
     max: 345_000,
 };
 
-/// When a symbol of 30 kHz starts.
-pub(crate) fn symbol_start(slot: Slot, symbol: u8) -> Ticks
+/// When a symbol of an endpoint starts.
+pub(crate) fn symbol_start(endpoint: &Endpoint, slot: Slot, symbol: u8) -> Ticks
     requires { IsOfSlot slot symbol }
-    ensures value { result.0 ≡ start_of slot symbol }
+    ensures value { result.0 ≡ start_of endpoint.now slot symbol }
     ensures low { neg_ℤ (pos (2 ^ 56)) ≤ℤ result.0 }
     ensures high { result.0 ≤ℤ pos (2 ^ 56) }
 {
-    match Numerology::ordinary(1) {
-        Some(numerology) => air(&numerology, slot, symbol),
-        None => unreachable!(),
-    }
+    air(&endpoint.numerology(), slot, symbol)
 }
 
 /// Nanoseconds in ticks.
@@ -73,14 +71,14 @@ pub(crate) fn command_verdict(c: &CommandSection) -> Verdict
     requires { IsRead c.now }
     ensures { result ≡ verdict_alone c.now }
 {
-    let start = symbol_start(c.slot, c.start_symbol);
+    let start = symbol_start(&c.endpoint, c.slot, c.start_symbol);
     if is_late(&T2A_CP_DL, start, c.at) {
         return Verdict::Late;
     }
     if is_early(&T2A_CP_DL, start, c.at) {
         return Verdict::Early;
     }
-    if !is_within(c.carrier, c.start_prb, c.num_prb) {
+    if !is_within(c.endpoint.prbs, c.start_prb, c.num_prb) {
         return Verdict::Range;
     }
     if c.mask == 0 {
@@ -95,7 +93,7 @@ pub(crate) fn data_verdict(d: &DataSection) -> Verdict
     requires { IsDataRead d.now }
     ensures { result ≡ data_verdict_alone d.now }
 {
-    let start = symbol_start(d.slot, d.symbol);
+    let start = symbol_start(&d.endpoint, d.slot, d.symbol);
     if is_late(&T2A_UP, start, d.last) {
         return Verdict::Late;
     }

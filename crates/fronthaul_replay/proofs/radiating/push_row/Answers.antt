@@ -23,7 +23,7 @@ pub returns : goal.returns
 returns c =
     let k = c.args.c.now in
     let f : ℕ → List AirCell = λ n. cell_of c.args.endpoint.now k c.args.given.now c.args.symbol n ∷ [] in
-    let count : c.loop-prb.prb - c.first_prb-first.result ≡ prb_count k.carrier k.num_prb = omega (arith, c.prb_count.ensures) in
+    let count : c.loop-prb.prb - c.first_prb-first.result ≡ prb_count k.endpoint.prbs k.num_prb = omega (arith, c.prb_count.ensures) in
     c.loop-prb.invariant
     ∙ ap (λ n. c.args.cells.now ++ each c.first_prb-first.result n f) count
-    ∙ ap (λ n. c.args.cells.now ++ each n (prb_count k.carrier k.num_prb) f) c.first_prb-first.ensures
+    ∙ ap (λ n. c.args.cells.now ++ each n (prb_count k.endpoint.prbs k.num_prb) f) c.first_prb-first.ensures

@@ -1,0 +1,86 @@
+ghost use Rattle.std.specs.Prelude.{◌≡◌, ◌≤◌};
+ghost use Rattle.bfp_codec.specs.Layout.{HasWidth};
+
+use crate::blocks::{BLOCKS, blocks};
+use bfp_codec::{Method, Wide, block_len, pack, unpack};
+
+/// A byte of each packed block, added up.
+fn packs(method: Method, count: u64) -> u64
+    requires { HasWidth method }
+{
+    let blocks = blocks();
+    let stride = block_len(method) / 4;
+    let mut sum: u64 = 0;
+    for k in 0..count {
+        let packed = pack(method, &blocks[(k % 64) as usize]);
+        let bytes = packed.as_slice();
+        let at = (k % 4) as usize * stride;
+        if at < bytes.len() {
+            sum = sum.wrapping_add(bytes[at] as u64);
+        }
+    }
+    sum
+}
+
+/// The blocks that take turns, packed: each in the front of 49 bytes.
+fn all_packed(method: Method) -> [[u8; 49]; BLOCKS]
+    requires { HasWidth method }
+{
+    let blocks = blocks();
+    let mut all = [[0; 49]; BLOCKS];
+    for k in 0..BLOCKS {
+        all[k] = front_of(pack(method, &blocks[k]).as_slice());
+    }
+    all
+}
+
+/// At most 49 bytes, with zeros after them.
+fn front_of(bytes: &[u8]) -> [u8; 49] {
+    let mut front = [0; 49];
+    for k in 0..49 {
+        if k < bytes.len() {
+            front[k] = bytes[k];
+        }
+    }
+    front
+}
+
+/// A sample as a number to be added.
+fn number_of(sample: Wide) -> u64 {
+    (sample.i as i64)
+        .cast_unsigned()
+        .wrapping_add((sample.q as i64).cast_unsigned())
+}
+
+/// A sample of each unpacked block, added up.
+fn unpacks(method: Method, count: u64) -> u64
+    requires { HasWidth method }
+{
+    let all = all_packed(method);
+    let len = block_len(method);
+    let mut sum: u64 = 0;
+    for k in 0..count {
+        let bytes = &all[(k % 64) as usize];
+        let samples = unpack(method, &bytes[..len]);
+        sum = sum.wrapping_add(number_of(samples[(k % 12) as usize]));
+    }
+    sum
+}
+
+/// What `pack` or `unpack` gives at a width, and 0 for any other word or width.
+pub fn run(what: &str, width: u8, count: u64) -> u64 {
+    let method = if width == 0 {
+        Method::Plain
+    } else {
+        Method::Bfp(width)
+    };
+    if width > 16 {
+        0
+    } else if what == "pack" {
+        packs(method, count)
+    } else if what == "unpack" {
+        unpacks(method, count)
+    } else {
+        0
+    }
+}
