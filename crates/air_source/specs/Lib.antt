@@ -1,0 +1,9 @@
+pub mod Answers
+pub mod Causes
+pub mod Grown
+pub mod Kept
+pub mod Memory
+pub mod Moves
+pub mod MovesLaws
+pub mod Stops
+pub mod Tellings

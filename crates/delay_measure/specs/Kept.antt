@@ -1,0 +1,31 @@
+-- What is known of the closure that a meter keeps, and of the states in it.
+use Rattle.std.specs.Prelude.{◌≡◌, ℕ, ℤ, pos, ◌≤ℤ◌, slice_index_or}
+use Rattle.delay_measure.specs.declared.edge.Edge.{Edge}
+use Rattle.delay_measure.specs.declared.edge.Edge.TheVariants.{Sending, Receiving}
+use Rattle.delay_measure.specs.declared.states.Exchange.{Exchange}
+use Rattle.delay_measure.specs.declared.meter.Meter.{Meter}
+use Rattle.delay_measure.specs.Table.{unused}
+
+-- at both edges it may be called and has one answer, from 0 to a millisecond in units of 2^-16 ns
+pub record IsCompensation {C : Type 0} (pre : C → Edge → Type 0) (post : C → Edge → ℤ → Type 0) (comp : C) : Type 0 where
+  pub callable : (e : Edge) → pre comp e
+  pub one : (e : Edge) (v w : ℤ) → post comp e v → post comp e w → v ≡ w
+  pub low : (e : Edge) (v : ℤ) → post comp e v → pos 0 ≤ℤ v
+  pub high : (e : Edge) (v : ℤ) → post comp e v → v ≤ℤ pos 65536000000
+
+-- the answers of a unit with these compensations
+abbrev pub answer_at : ℤ → ℤ → Edge → ℤ
+answer_at sending receiving Sending = sending
+answer_at sending receiving Receiving = receiving
+
+-- the closure that a meter keeps
+abbrev pub comp_of : {C : Type 0} → Meter C → C
+comp_of meter = meter.comp
+
+-- the closure that is kept may be called at both edges, with one answer that is in range
+abbrev pub IsKept : {C : Type 0} → (C → Edge → Type 0) → (C → Edge → ℤ → Type 0) → Meter C → Type 0
+IsKept pre post meter = IsCompensation pre post (comp_of meter)
+
+-- the own state and the peer state of a measurement id
+abbrev pub exchange_of : {C : Type 0} → Meter C → ℕ → Exchange
+exchange_of meter id = slice_index_or meter.exchanges id unused

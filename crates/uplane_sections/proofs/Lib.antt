@@ -1,0 +1,7 @@
+pub mod Widths
+pub mod Behind
+pub mod Told
+pub mod Histories
+pub mod Words
+pub mod Back
+pub mod Worked

@@ -1,0 +1,6 @@
+pub mod Header
+pub mod Section
+pub mod Messages
+pub mod Phases
+pub mod States
+pub mod Writes

@@ -1,0 +1,45 @@
+-- What a walker tells of the bytes that come.
+use Rattle.std.specs.Prelude.{◌≡◌, ℕ, ◌+◌, ◌<◌, List, [], ◌++◌, take, false, Option, Some, None, Result, Ok, Err}
+use Rattle.fh_time.specs.declared.values.Shape.{Shape}
+use Rattle.bfp_codec.specs.declared.methods.Format.{Format}
+use Rattle.uplane_sections.specs.declared.walking.UWalker.{UWalker}
+use Rattle.uplane_sections.specs.declared.values.URefusal.{URefusal}
+use Rattle.uplane_sections.specs.declared.values.UWhy.TheVariants.{Truncated}
+use Rattle.uplane_sections.specs.declared.steps.UFeed.{UFeed}
+use Rattle.uplane_sections.specs.declared.steps.UFeed.TheVariants as feed
+use Rattle.uplane_sections.specs.Messages.{Item, Telling, refused, after, told}
+use Rattle.uplane_sections.specs.Phases.{resumed, is_cut}
+
+-- how many bytes it has used
+abbrev pub used_by : UWalker → ℕ
+used_by w = w.start + w.there
+
+-- what it tells of the bytes that come, up to the end of the message
+abbrev pub tells : UWalker → List ℕ → Telling
+tells w rest = resumed w.format w.prbs w.shape w.phase w.start (take w.there w.held ++ rest)
+
+-- It stands behind these bytes of a message in this format, on a carrier of so many PRBs, in slots of this shape:
+-- whatever comes, the message tells what it has told of them, and then what the walker tells.
+abbrev pub StandsBehind : Format → ℕ → Shape → UWalker → List ℕ → Type 0
+StandsBehind format prbs shape w bytes =
+    (rest : List ℕ) → told format prbs shape (bytes ++ rest) ≡ after (told format prbs shape bytes).items (tells w rest)
+
+-- Of these bytes old tells these items, and of any that come after what new tells.
+abbrev pub Tells : UWalker → UWalker → List ℕ → List Item → Type 0
+Tells old new bytes items = (rest : List ℕ) → tells old (bytes ++ rest) ≡ after items (tells new rest)
+
+-- what a refusal says: it is not for the end of the message, and nothing but it is told of any bytes
+pub record IsRefusal (new : UWalker) (r : URefusal) : Type 0 where
+  pub why : is_cut r.why ≡ false
+  pub stays : (rest : List ℕ) → tells new rest ≡ refused r
+
+-- what follows from an answer alone: at least one byte is used unless it is a refusal, and where nothing is told yet a
+-- message that ended here would end too early
+abbrev pub Answers : UWalker → ℕ → UFeed → Type 0
+Answers new used feed.More = (0 < used) × ((tells new []).refusal ≡ Some (record { place = used_by new; why = Truncated }))
+Answers new used (feed.Refused r) = IsRefusal new r
+Answers new used _ = 0 < used
+
+abbrev pub refusal_of : Result (Unit {0}) URefusal → Option URefusal
+refusal_of (Ok _) = None
+refusal_of (Err r) = Some r

@@ -1,0 +1,32 @@
+//! What a walker answers to a piece of a message.
+use crate::values::{UHead, URefusal, USection};
+use bfp_codec::Wide;
+
+/// What the next bytes of a message tell.
+#[derive(Clone, Copy, Debug, PartialEq, Eq)]
+pub enum UFeed {
+    /// Nothing yet.
+    More,
+    /// The header.
+    Head(UHead),
+    /// The header of the next section.
+    Section(USection),
+    /// The next PRB of the section, unpacked.
+    Block {
+        /// Its number on the carrier.
+        prb: u16,
+        /// Its samples, in the order of subcarriers.
+        samples: [Wide; 12],
+    },
+    /// The message is refused; every later call says the same.
+    Refused(URefusal),
+}
+
+/// How many bytes of a piece were used, and what they tell.
+#[derive(Clone, Copy, Debug, PartialEq, Eq)]
+pub struct UStep {
+    /// The number of bytes used, from the front of the piece.
+    pub used: usize,
+    /// What they tell.
+    pub what: UFeed,
+}

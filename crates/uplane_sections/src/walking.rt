@@ -1,0 +1,220 @@
+//! The walker over a message.
+ghost use Rattle.std.specs.Prelude.{◌≡◌, ℕ, ◌+◌, ◌-◌, ◌<◌, ◌≤◌, ◌^◌, ◌++◌, length, take, drop, true, false};
+ghost use Rattle.bfp_codec.specs.Layout.{HasWidth, length_of};
+ghost use Rattle.uplane_sections.specs.Phases.{unit_of, prbs_left, prb_bound, method_in_phase, behind, is_short, goes_on};
+
+use crate::phases::Phase;
+use crate::steps::{UFeed, UStep};
+use crate::units::{Told, block, compression, head, section};
+use crate::values::{URefusal, UWhy};
+use bfp_codec::{Format, block_len};
+use fh_time::Shape;
+
+/// A reader of one message, which comes in pieces of any length. It keeps the unit, a header or a
+/// PRB, that a piece cuts, and no more.
+#[derive(Clone, Copy)]
+pub struct UWalker {
+    format: Format,
+    prbs: u16,
+    shape: Shape,
+    phase: Phase,
+    start: usize,
+    held: [u8; 49],
+    there: usize,
+    ghost least: { 4 ≤ length_of format.method },
+    ghost most: { length_of format.method ≤ 49 },
+    ghost part: { there < unit_of phase },
+    ghost left: { 0 < prbs_left phase },
+    ghost bound: { prb_bound phase < 2 ^ 16 },
+    ghost phase_least: { 4 ≤ length_of (method_in_phase phase) },
+    ghost phase_most: { length_of (method_in_phase phase) ≤ 49 },
+    ghost read: { behind phase ≤ start },
+    ghost long: { is_short phase ≡ false },
+    ghost fits: { start + there < 2 ^ 64 },
+}
+
+/// Writes the bytes over those from a place on.
+fn write_at(into: &mut [u8], from: usize, bytes: &[u8])
+    requires { from + length bytes.now ≤ length into.old }
+    ensures { into.new ≡ take from into.old ++ bytes.now ++ drop (from + length bytes.now) into.old }
+{
+    into[from..from + bytes.len()].copy_from_slice(bytes);
+}
+
+impl UWalker {
+    ghost use Rattle.std.specs.Prelude.{List, [], Some, IfErr};
+    ghost use Rattle.fh_time.specs.declared.values.Shape.{Shape as SpecShape};
+    ghost use Rattle.bfp_codec.specs.declared.methods.Format.{Format as SpecFormat};
+    ghost use Rattle.uplane_sections.specs.Messages.{told, after};
+    ghost use Rattle.uplane_sections.specs.Phases.{Stops, feed_told, resumed, is_cut};
+    ghost use Rattle.uplane_sections.specs.States.{used_by, tells, refusal_of, Tells, Answers, StandsBehind};
+
+    /// A walker at the start of a message in this format, on a carrier of `prbs` PRBs, where `shape`
+    /// says how many symbols a slot and how many slots a subframe has.
+    pub fn new(format: Format, prbs: u16, shape: Shape) -> UWalker
+        requires { HasWidth format.method }
+        ensures start { (bytes : List ℕ) → tells result bytes ≡ told format prbs shape bytes }
+        ensures used { used_by result ≡ 0 }
+        ensures stands { StandsBehind format prbs shape result [] }
+    {
+        UWalker {
+            format,
+            prbs,
+            shape,
+            phase: Phase::Start,
+            start: 0,
+            held: [0; 49],
+            there: 0,
+        }
+    }
+
+    /// How many bytes the unit has that comes next.
+    fn unit(&self) -> usize
+        ensures value { result ≡ unit_of self.now.phase }
+        ensures most { result ≤ 49 }
+    {
+        match self.phase {
+            Phase::Compression(_) => 2,
+            Phase::Inside { method, .. } => block_len(method),
+            _ => 4,
+        }
+    }
+
+    /// What the next unit tells, which these bytes are.
+    fn whole(&self, bytes: &[u8]) -> Told
+        requires { length bytes.now ≡ unit_of self.now.phase }
+        ensures tells { (rest : List ℕ) → resumed self.now.format self.now.prbs self.now.shape self.now.phase self.now.start (bytes.now ++ rest)
+            ≡ after (feed_told result.what) (resumed self.now.format self.now.prbs self.now.shape result.phase (self.now.start + length bytes.now) rest) }
+        ensures left { 0 < prbs_left result.phase }
+        ensures bound { prb_bound result.phase < 2 ^ 16 }
+        ensures least { 4 ≤ length_of (method_in_phase result.phase) }
+        ensures most { length_of (method_in_phase result.phase) ≤ 49 }
+        ensures behind { behind result.phase ≤ self.now.start + length bytes.now }
+        ensures stops { Stops result.what result.phase }
+        ensures long { is_short result.phase ≡ false }
+    {
+        let at = self.start;
+        match self.phase {
+            Phase::Start => head(self.shape, at, bytes),
+            Phase::Between(before) => {
+                section(self.format, self.prbs, self.shape, before, at, bytes)
+            }
+            Phase::Compression(s) => compression(self.prbs, s, at, bytes),
+            Phase::Inside {
+                method,
+                symbol,
+                prb,
+                left,
+            } => block(method, symbol, prb, left, at, bytes),
+            Phase::Faulty(refusal) => Told {
+                what: UFeed::Refused(refusal),
+                phase: Phase::Faulty(refusal),
+            },
+        }
+    }
+
+    /// Keeps a piece that ends inside the next unit.
+    fn hold(&mut self, piece: &[u8])
+        requires some { 0 < length piece.now }
+        requires part { self.old.there + length piece.now < unit_of self.old.phase }
+        requires most { unit_of self.old.phase ≤ 49 }
+        requires goes_on { goes_on self.old.phase ≡ true }
+        requires fits { used_by self.old + length piece.now ≤ usize.MAX }
+        ensures used { used_by self.new ≡ used_by self.old + length piece.now }
+        ensures tells { Tells self.old self.new piece.now [] }
+        ensures short { (tells self.new []).refusal ≡ Some (record { place = used_by self.new; why = UWhy.Truncated }) }
+    {
+        let there = self.there;
+        write_at(&mut self.held, there, piece);
+        self.there = there + piece.len();
+    }
+
+    /// Takes the next bytes of the message, one or more, and answers how many it used and what they
+    /// tell. At least one is used unless the message is refused. The caller feeds the rest of the
+    /// piece, and what comes after, in further calls.
+    pub fn feed(&mut self, piece: &[u8]) -> UStep
+        requires some { 0 < length piece.now }
+        requires fits { used_by self.old + length piece.now ≤ usize.MAX }
+        ensures within { result.used ≤ length piece.now }
+        ensures used { used_by self.new ≡ used_by self.old + result.used }
+        ensures tells { Tells self.old self.new (take result.used piece.now) (feed_told result.what) }
+        ensures answers { Answers self.new result.used result.what }
+        // Behind the bytes used before it stands behind these and those that it used, and the answer is what these
+        // add to what the message tells.
+        ensures stands { (format : SpecFormat) (prbs : ℕ) (shape : SpecShape) (bytes : List ℕ) → StandsBehind format prbs shape self.old bytes
+            → StandsBehind format prbs shape self.new (bytes ++ take result.used piece.now) }
+        ensures told { (format : SpecFormat) (prbs : ℕ) (shape : SpecShape) (bytes : List ℕ) → StandsBehind format prbs shape self.old bytes
+            → (told format prbs shape (bytes ++ take result.used piece.now)).items ≡ (told format prbs shape bytes).items ++ feed_told result.what }
+    {
+        self.advance(piece)
+    }
+
+    fn advance(&mut self, piece: &[u8]) -> UStep
+        requires some { 0 < length piece.now }
+        requires fits { used_by self.old + length piece.now ≤ usize.MAX }
+        ensures within { result.used ≤ length piece.now }
+        ensures used { used_by self.new ≡ used_by self.old + result.used }
+        ensures tells { Tells self.old self.new (take result.used piece.now) (feed_told result.what) }
+        ensures answers { Answers self.new result.used result.what }
+    {
+        if let Phase::Faulty(refusal) = self.phase {
+            return UStep {
+                used: 0,
+                what: UFeed::Refused(refusal),
+            };
+        }
+        let unit = self.unit();
+        let there = self.there;
+        let want = unit - there;
+        if piece.len() < want {
+            self.hold(piece);
+            return UStep {
+                used: piece.len(),
+                what: UFeed::More,
+            };
+        }
+        let told = if there == 0 {
+            self.whole(&piece[..unit])
+        } else {
+            write_at(&mut self.held, there, &piece[..want]);
+            self.whole(&self.held[..unit])
+        };
+        self.phase = told.phase;
+        self.start += unit;
+        self.there = 0;
+        UStep {
+            used: want,
+            what: told.what,
+        }
+    }
+
+    /// Whether the bytes used so far are a whole message; if not, the first test that fails for a
+    /// message that ends with them.
+    pub fn finish(&self) -> Result<(), URefusal>
+        ensures tells { refusal_of result ≡ (tells self.now []).refusal }
+        ensures told { (format : SpecFormat) (prbs : ℕ) (shape : SpecShape) (bytes : List ℕ) → StandsBehind format prbs shape self.now bytes
+            → refusal_of result ≡ (told format prbs shape bytes).refusal }
+        ensures place { IfErr result (λ r. is_cut r.why ≡ true → r.place ≡ used_by self.now) }
+    {
+        self.ending()
+    }
+
+    fn ending(&self) -> Result<(), URefusal>
+        ensures tells { refusal_of result ≡ (tells self.now []).refusal }
+        ensures place { IfErr result (λ r. is_cut r.why ≡ true → r.place ≡ used_by self.now) }
+    {
+        match self.phase {
+            Phase::Faulty(refusal) => return Err(refusal),
+            Phase::Between(_) => {
+                if self.there == 0 {
+                    return Ok(());
+                }
+            }
+            _ => {}
+        }
+        Err(URefusal {
+            place: self.start + self.there,
+            why: UWhy::Truncated,
+        })
+    }
+}

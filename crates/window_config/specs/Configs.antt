@@ -1,0 +1,12 @@
+-- What a configuration may be (this project's profile).
+use Rattle.std.specs.Prelude.{ℕ, ◌≤◌}
+use Rattle.window_config.specs.declared.config.Config.{Config}
+use Rattle.window_config.specs.Limits.{IsTime, IsWithinLimits}
+use Rattle.window_config.specs.Endpoints.{AreEndpoints}
+
+pub record IsConfig (c : Config) : Type 0 where
+  pub delays : IsWithinLimits c.delays
+  pub gap : IsTime c.gap
+  pub fragment_low : 128 ≤ c.fragment
+  pub fragment_high : c.fragment ≤ 9000
+  pub endpoints : AreEndpoints c.endpoints

@@ -1,0 +1,19 @@
+-- What an endpoint of a configuration may be (this project's profile).
+use Rattle.std.specs.Prelude.{ℕ, ◌≤◌, List, All, length, map}
+use Rattle.bfp_codec.specs.Layout.{HasWidth}
+use Rattle.eaxc_map.specs.Endpoints.{AppearOnce}
+use Rattle.window_config.specs.declared.endpoints.EndpointConfig.{EndpointConfig}
+
+pub record IsEndpoint (e : EndpointConfig) : Type 0 where
+  pub some : 1 ≤ e.prbs
+  pub most : e.prbs ≤ 273
+  pub width : HasWidth e.format.method
+
+abbrev pub ids_of : List EndpointConfig → List ℕ
+ids_of endpoints = map (λ e. e.id) endpoints
+
+-- each within its limits, and no id twice
+pub record AreEndpoints (endpoints : List EndpointConfig) : Type 0 where
+  pub each : All IsEndpoint endpoints
+  pub few : length endpoints ≤ 16
+  pub differ : AppearOnce (ids_of endpoints)

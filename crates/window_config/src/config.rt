@@ -1,0 +1,22 @@
+// What both units are made from.
+
+use crate::delays::Delays;
+use crate::endpoints::EndpointList;
+use eaxc_map::Widths;
+
+/// The configuration of both units.
+///
+/// Within the limits the delays are, the gap lies from 0 to 2,000,000 ns, `fragment` from 128 to 9,000, and each endpoint is
+/// within its limits and has an id of its own.
+#[derive(Drop)]
+pub struct Config {
+    /// How an eAxC id is cut into its parts.
+    pub widths: Widths,
+    pub delays: Delays,
+    /// The time between two frames of one symbol, in nanoseconds.
+    pub gap: i64,
+    /// The most application bytes of a U-plane message that one frame carries.
+    pub fragment: usize,
+    /// The endpoints; an endpoint's index here is its place in all that is told of it.
+    pub endpoints: EndpointList,
+}

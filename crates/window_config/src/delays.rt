@@ -1,0 +1,38 @@
+// The times that both units and the network between them are configured with.
+
+/// The least and the greatest of a time in whole nanoseconds, both inclusive.
+#[derive(Clone, Copy, Debug, PartialEq, Eq)]
+pub struct Range {
+    pub min: i64,
+    pub max: i64,
+}
+
+/// A delay profile (O-RAN.WG4.CUS, delay management), in whole nanoseconds.
+///
+/// Within the limits each time lies from 0 to 2,000,000 ns, no minimum exceeds its maximum, and the minima of T2a are at least
+/// 1 ns.
+#[derive(Clone, Copy, Debug, PartialEq, Eq)]
+pub struct Delays {
+    /// How long before its symbol the DU sends downlink data.
+    pub t1a_up: Range,
+    /// How long before its symbol the DU sends an uplink command.
+    pub t1a_cp_ul: Range,
+    /// How long before its symbol downlink data reach the RU.
+    pub t2a_up: Range,
+    /// How long before its symbol an uplink command reaches the RU.
+    pub t2a_cp_ul: Range,
+    /// How long after its symbol the RU sends uplink data.
+    pub ta3: Range,
+    /// How long after its symbol uplink data reach the DU.
+    pub ta4: Range,
+    /// How long a frame takes from the DU to the RU.
+    pub t12: Range,
+    /// How long a frame takes from the RU to the DU.
+    pub t34: Range,
+    /// How much earlier than data a downlink command is sent and awaited (Tcp_adv_dl).
+    pub advance: i64,
+    /// How long the RU takes in the fragments of one message.
+    pub hold_dl: i64,
+    /// How long the DU takes in the fragments of one message.
+    pub hold_ul: i64,
+}
