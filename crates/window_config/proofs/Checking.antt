@@ -1,5 +1,5 @@
 -- What the check of a delay profile means.
-use Rattle.std.proofs.Common.{◌≡◌, ℕ, ℤ, zero, suc, ◌<◌, ◌≤ℤ◌, ◌↔◌, Bool, true, false, List, [], ◌∷◌, Result, Ok, Err, IsOk, IfErr, IsTrue, refl, sym, ap, ◌∙◌, arith, inl, inr}
+use Rattle.std.proofs.Common.{◌≡◌, ℕ, ℤ, zero, suc, ◌<◌, ◌≤ℤ◌, ◌↔◌, Bool, true, false, List, [], ◌∷◌, Result, Err, IsOk, IfErr, refl, sym, ap, ◌∙◌, arith, inl, inr}
 use Rattle.std.specs.Prelude.{int_le, if◌then◌else◌}
 use Rattle.std.proofs.lemmas.Int.{ints}
 use Rattle.std.proofs.lemmas.Bool.{cases_lt}

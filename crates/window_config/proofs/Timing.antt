@@ -1,10 +1,9 @@
 -- What the classes mean.
-use Rattle.std.proofs.Common.{◌≡◌, ℤ, pos, ◌-ℤ◌, ◌*ℤ◌, ◌≤ℤ◌, ◌<ℤ◌, ◌↔◌, Bool, true, false, refl, arith}
+use Rattle.std.proofs.Common.{◌≡◌, ℤ, ◌-ℤ◌, ◌≤ℤ◌, ◌<ℤ◌, ◌↔◌, Bool, true, false, refl, arith}
 use Rattle.std.specs.Prelude.{int_lt}
 use Rattle.std.proofs.lemmas.Int.{ints}
 use Rattle.window_config.specs.declared.delays.Range.{Range}
-use Rattle.window_config.specs.declared.verdicts.Class.{Class}
-use Rattle.window_config.specs.declared.verdicts.Class.TheVariants.{OnTime, Late, Early}
+use Rattle.window_config.specs.declared.verdicts.Class.TheVariants.{OnTime, Late}
 use Rattle.window_config.specs.Windows.{ticks_of_ns}
 use Rattle.window_config.specs.Classes.{classified, class_of, class_up_of, IsOnTime, IsOnTimeUp}
 

@@ -1,5 +1,5 @@
 -- What a configuration may be (this project's profile).
-use Rattle.std.specs.Prelude.{ℕ, ◌≤◌}
+use Rattle.std.specs.Prelude.{◌≤◌}
 use Rattle.window_config.specs.declared.config.Config.{Config}
 use Rattle.window_config.specs.Limits.{IsTime, IsWithinLimits}
 use Rattle.window_config.specs.Endpoints.{AreEndpoints}

@@ -1,6 +1,6 @@
 -- What the numbers of a plan's line may be as they are written, before they are tested against an endpoint (this project's
 -- profile; the widths are those of the C-plane's fields).
-use Rattle.std.specs.Prelude.{ℕ, ℤ, pos, ◌^◌, ◌<◌, ◌≤ℤ◌}
+use Rattle.std.specs.Prelude.{pos, ◌^◌, ◌<◌, ◌≤ℤ◌}
 use Rattle.window_config.specs.declared.plan.PlanLine.{PlanLine}
 
 pub record IsPlanLine (l : PlanLine) : Type 0 where

@@ -164,31 +164,46 @@ fn the_first_relation_that_fails_is_told(rt: HostRuntime) {
         told(Delays { t1a_up, ..d }),
         Some(("up-max", 345_001, 345_000))
     );
+}
+
+#[test]
+fn what_comes_too_late_fails(rt: HostRuntime) {
+    let d = usual();
     let t1a_up = range(233_999, 345_000);
     assert_eq!(rt;
         told(Delays { t1a_up, ..d }),
         Some(("up-min", 233_999, 234_000))
-    );
-    let t1a_cp_ul = range(225_000, 470_001);
-    assert_eq!(rt;
-        told(Delays { t1a_cp_ul, ..d }),
-        Some(("cp-ul-max", 470_001, 470_000))
     );
     let t1a_cp_ul = range(224_999, 470_000);
     assert_eq!(rt;
         told(Delays { t1a_cp_ul, ..d }),
         Some(("cp-ul-min", 224_999, 225_000))
     );
-    let ta4 = range(50_001, 271_000);
-    assert_eq!(rt;
-        told(Delays { ta4, ..d }),
-        Some(("ta4-min", 50_001, 50_000))
-    );
     let ta4 = range(50_000, 270_999);
     assert_eq!(rt;
         told(Delays { ta4, ..d }),
         Some(("ta4-max", 270_999, 271_000))
     );
+}
+
+#[test]
+fn what_comes_too_early_fails(rt: HostRuntime) {
+    let d = usual();
+    let t1a_cp_ul = range(225_000, 470_001);
+    assert_eq!(rt;
+        told(Delays { t1a_cp_ul, ..d }),
+        Some(("cp-ul-max", 470_001, 470_000))
+    );
+    let ta4 = range(50_001, 271_000);
+    assert_eq!(rt;
+        told(Delays { ta4, ..d }),
+        Some(("ta4-min", 50_001, 50_000))
+    );
+}
+
+#[test]
+fn a_generation_that_is_over_too_soon_fails(rt: HostRuntime) {
+    let d = usual();
     assert_eq!(rt;
         told(Delays {
             hold_dl: 210_999,

@@ -1,4 +1,4 @@
-use Rattle.std.proofs.Common.{pos, ◌≤ℤ◌, arith, rules}
+use Rattle.std.proofs.Common.{arith}
 use Rattle.std.proofs.lemmas.Int.{ints}
 use Rattle.window_config.proofs.Live.{live_on_time_up}
 use Rattle.window_config.proofs.rings.du_reach.Goals as goal

@@ -1,9 +1,7 @@
-use Rattle.std.proofs.Common.{◌≡◌, ℤ, pos, ◌+ℤ◌, ◌≤ℤ◌, Bool, true, false, ap, ap₂, arith, rules}
-use Rattle.std.specs.Int.{int_max}
+use Rattle.std.proofs.Common.{◌≡◌, ℤ, true, false, ap, ap₂, arith}
 use Rattle.std.proofs.lemmas.Int.{ints, clamps}
 use Rattle.window_config.specs.declared.delays.Range.{Range}
 use Rattle.window_config.specs.declared.rings.Reach.{Reach}
-use Rattle.window_config.specs.Limits.{IsWindow}
 use Rattle.window_config.specs.Windows.{data_window_of, command_window_of}
 use Rattle.window_config.proofs.Live.{live_on_time, live_on_command}
 use Rattle.window_config.proofs.rings.ru_reach.Goals as goal
