@@ -1,7 +1,8 @@
 -- What a walker has told of all bytes so far.
-use Rattle.std.proofs.Common.{◌≡◌, ℕ, zero, suc, ◌+◌, ◌*◌, ◌<◌, List, [], ◌∷◌, ◌++◌, length, take, min, true, Some, ◌⊎◌, inl, inr, refl, sym, ap, ◌∙◌, arith, append_assoc}
+use Rattle.std.proofs.Common.{◌≡◌, ℕ, zero, suc, ◌+◌, ◌*◌, ◌<◌, List, [], ◌∷◌, ◌++◌, length, take, drop, min, true, Some, ◌⊎◌, inl, inr, refl, sym, ap, ◌∙◌, arith, append_assoc}
 use Rattle.std.proofs.lemmas.List.{append-nil, length-take}
 use Rattle.std.proofs.lemmas.Bool.{lt-ltb}
+use Rattle.std.proofs.Math.Seq.{take-add}
 use Rattle.fh_time.specs.declared.values.Shape.{Shape}
 use Rattle.bfp_codec.specs.declared.methods.Format.{Format}
 use Rattle.bfp_codec.specs.Layout.{length_of}
@@ -9,8 +10,10 @@ use Rattle.uplane_sections.specs.declared.phases.Phase.{Phase}
 use Rattle.uplane_sections.specs.declared.phases.Phase.TheVariants.{Start, Between, Compression, Inside, Faulty}
 use Rattle.uplane_sections.specs.declared.values.UWhy.TheVariants.{Truncated}
 use Rattle.uplane_sections.specs.declared.walking.UWalker.{UWalker}
+use Rattle.uplane_sections.specs.declared.steps.UFeed.{UFeed}
+use Rattle.uplane_sections.specs.declared.steps.UFeed.TheVariants.{More}
 use Rattle.uplane_sections.specs.Messages.{Item, Telling, after, told}
-use Rattle.uplane_sections.specs.Phases.{resumed, unit_of, prbs_left, goes_on, behind}
+use Rattle.uplane_sections.specs.Phases.{resumed, unit_of, prbs_left, goes_on, behind, feed_told}
 use Rattle.uplane_sections.specs.States.{tells, Tells, StandsBehind}
 
 -- nothing is told of less than a unit
@@ -61,3 +64,13 @@ stands_more format prbs shape old new bytes more items t s =
     ap (λ (xs : List ℕ). (says xs).items) (sym (append-nil (bytes ++ more))) ∙ ap (λ (x : Telling). x.items) (whole [])
     ∙ ap (λ (xs : List Item). ((says bytes).items ++ items) ++ xs) (silent_walker new) ∙ append-nil ((says bytes).items ++ items) in
     ((λ rest. rw here (whole rest)), here)
+
+-- two steps, the first of which tells nothing
+pub two_steps : (old mid new : UWalker) (piece left : List ℕ) (m n : ℕ) (what : UFeed) (items : List Item) → what ≡ More → left ≡ drop m piece →
+    Tells old mid (take m piece) (feed_told what) → Tells mid new (take n left) items → Tells old new (take (m + n) piece) items
+two_steps old mid new piece left m n what items is behind s t rest =
+    ap (λ (xs : List ℕ). tells old (xs ++ rest)) (take-add m n piece ∙ ap (λ (xs : List ℕ). take m piece ++ take n xs) (sym behind))
+    ∙ ap (λ (xs : List ℕ). tells old xs) (append_assoc (take m piece) (take n left) rest)
+    ∙ s (take n left ++ rest)
+    ∙ ap (λ (w : UFeed). after (feed_told w) (tells mid (take n left ++ rest))) is
+    ∙ ap (λ (x : Telling). after [] x) (t rest)

@@ -1,5 +1,5 @@
 -- What a walker tells of the bytes that come.
-use Rattle.std.specs.Prelude.{◌≡◌, ℕ, ◌+◌, ◌<◌, List, [], ◌++◌, take, false, Option, Some, None, Result, Ok, Err}
+use Rattle.std.specs.Prelude.{◌≡◌, ℕ, ◌+◌, ◌<◌, List, [], ◌++◌, length, take, false, Option, Some, None, Result, Ok, Err}
 use Rattle.fh_time.specs.declared.values.Shape.{Shape}
 use Rattle.bfp_codec.specs.declared.methods.Format.{Format}
 use Rattle.uplane_sections.specs.declared.walking.UWalker.{UWalker}
@@ -39,6 +39,11 @@ abbrev pub Answers : UWalker → ℕ → UFeed → Type 0
 Answers new used feed.More = (0 < used) × ((tells new []).refusal ≡ Some (record { place = used_by new; why = Truncated }))
 Answers new used (feed.Refused r) = IsRefusal new r
 Answers new used _ = 0 < used
+
+-- nothing is told only where all of the piece is used
+abbrev pub UsesAll : List ℕ → ℕ → UFeed → Type 0
+UsesAll piece used feed.More = used ≡ length piece
+UsesAll piece used _ = Unit {0}
 
 abbrev pub refusal_of : Result (Unit {0}) URefusal → Option URefusal
 refusal_of (Ok _) = None

@@ -5,7 +5,7 @@ use bfp_codec::Wide;
 /// What the next bytes of a message tell.
 #[derive(Clone, Copy, Debug, PartialEq, Eq)]
 pub enum UFeed {
-    /// Nothing yet.
+    /// Nothing yet, and all of the piece is used.
     More,
     /// The header.
     Head(UHead),

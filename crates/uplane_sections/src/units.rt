@@ -107,6 +107,7 @@ pub(crate) fn compression(prbs: u16, s: USection, at: usize, bytes: &[u8]) -> To
     ensures least { 4 ≤ length_of (method_in_phase result.phase) }
     ensures most { length_of (method_in_phase result.phase) ≤ 49 }
     ensures behind { behind result.phase ≤ at + 2 }
+    ensures closes { behind result.phase ≡ 0 }
     ensures stops { Stops result.what result.phase }
     ensures long { is_short result.phase ≡ false }
 {

@@ -47,7 +47,7 @@ impl UWalker {
     ghost use Rattle.bfp_codec.specs.declared.methods.Format.{Format as SpecFormat};
     ghost use Rattle.uplane_sections.specs.Messages.{told, after};
     ghost use Rattle.uplane_sections.specs.Phases.{Stops, feed_told, resumed, is_cut};
-    ghost use Rattle.uplane_sections.specs.States.{used_by, tells, refusal_of, Tells, Answers, StandsBehind};
+    ghost use Rattle.uplane_sections.specs.States.{used_by, tells, refusal_of, Tells, Answers, UsesAll, StandsBehind};
 
     /// A walker at the start of a message in this format, on a carrier of `prbs` PRBs, where `shape`
     /// says how many symbols a slot and how many slots a subframe has.
@@ -92,6 +92,7 @@ impl UWalker {
         ensures behind { behind result.phase ≤ self.now.start + length bytes.now }
         ensures stops { Stops result.what result.phase }
         ensures long { is_short result.phase ≡ false }
+        ensures closes { behind self.now.phase ≡ 4 → behind result.phase ≡ 0 }
     {
         let at = self.start;
         match self.phase {
@@ -139,6 +140,7 @@ impl UWalker {
         ensures used { used_by self.new ≡ used_by self.old + result.used }
         ensures tells { Tells self.old self.new (take result.used piece.now) (feed_told result.what) }
         ensures answers { Answers self.new result.used result.what }
+        ensures all { UsesAll piece.now result.used result.what }
         // Behind the bytes used before it stands behind these and those that it used, and the answer is what these
         // add to what the message tells.
         ensures stands { (format : SpecFormat) (prbs : ℕ) (shape : SpecShape) (bytes : List ℕ) → StandsBehind format prbs shape self.old bytes
@@ -149,6 +151,8 @@ impl UWalker {
         self.advance(piece)
     }
 
+    /// Steps until something is told or all is used: behind the first four bytes of a section nothing
+    /// is told before its compression header.
     fn advance(&mut self, piece: &[u8]) -> UStep
         requires some { 0 < length piece.now }
         requires fits { used_by self.old + length piece.now ≤ usize.MAX }
@@ -156,6 +160,29 @@ impl UWalker {
         ensures used { used_by self.new ≡ used_by self.old + result.used }
         ensures tells { Tells self.old self.new (take result.used piece.now) (feed_told result.what) }
         ensures answers { Answers self.new result.used result.what }
+        ensures all { UsesAll piece.now result.used result.what }
+    {
+        let first = self.step(piece);
+        if !matches!(first.what, UFeed::More) || first.used == piece.len() {
+            return first;
+        }
+        let then = self.step(&piece[first.used..]);
+        UStep {
+            used: first.used + then.used,
+            what: then.what,
+        }
+    }
+
+    /// Takes what the next unit still wants, or all that is there.
+    fn step(&mut self, piece: &[u8]) -> UStep
+        requires some { 0 < length piece.now }
+        requires fits { used_by self.old + length piece.now ≤ usize.MAX }
+        ensures within { result.used ≤ length piece.now }
+        ensures used { used_by self.new ≡ used_by self.old + result.used }
+        ensures tells { Tells self.old self.new (take result.used piece.now) (feed_told result.what) }
+        ensures answers { Answers self.new result.used result.what }
+        ensures opens { result.what ≡ UFeed.More → result.used < length piece.now → behind self.new.phase ≡ 4 }
+        ensures closes { behind self.old.phase ≡ 4 → UsesAll piece.now result.used result.what }
     {
         if let Phase::Faulty(refusal) = self.phase {
             return UStep {
