@@ -42,7 +42,7 @@ bodied : (m : Message) (xs : List ℕ) (items : List Item) (last : Bool) →
 bodied m xs items true = ap (gathered (Some m)) (append_assoc (bytes_told xs) (Close ∷ []) items) ∙ gathered_bytes m xs (Close ∷ items)
 bodied m xs items false = ap (gathered (Some m)) (append_assoc (bytes_told xs) [] items) ∙ gathered_bytes m xs items
 
-unheld : (xs : List ℕ) (items : List Item) (last : Bool) → gathered None ((bytes_told xs ++ cond last (Close ∷ []) []) ++ items) ≡ gathered None items
+pub unheld : (xs : List ℕ) (items : List Item) (last : Bool) → gathered None ((bytes_told xs ++ cond last (Close ∷ []) []) ++ items) ≡ gathered None items
 unheld xs items true = ap (gathered None) (append_assoc (bytes_told xs) (Close ∷ []) items) ∙ gathered_none xs (Close ∷ items)
 unheld xs items false = ap (gathered None) (append_assoc (bytes_told xs) [] items) ∙ gathered_none xs items
 
@@ -57,14 +57,14 @@ gathered_step at feed.End piece held items = refl
 gathered_step at (feed.Refused r) piece held items = refl
 
 -- no payload is longer than its header says
-abbrev Fit : List Message → Type 0
+abbrev pub Fit : List Message → Type 0
 Fit [] = Unit {0}
 Fit (m ∷ ms) = (length m.payload ≤ m.head.size) × Fit ms
 
-abbrev shown : ℕ → Head → List ℕ → Message
+abbrev pub shown : ℕ → Head → List ℕ → Message
 shown place head payload = record { place = place; head = head; payload = payload }
 
-neq-eqb : (m n : ℕ) → m ≢ n → (m == n) ≡ false
+pub neq-eqb : (m n : ℕ) → m ≢ n → (m == n) ≡ false
 neq-eqb m n h = grind (arith, nat_tests)
 
 sized : (held : Option Message) (place : ℕ) (head : Head) (payload : List ℕ) (rest : List Item) → 0 < head.size →
@@ -101,7 +101,7 @@ gathered_one held place head payload rest ws fits ih =
           ]
     ]
 
-gathered_messages : (held : Option Message) (ms : List Message) → Fit ms → gathered held (messages_told ms) ≡ filter is_whole ms
+pub gathered_messages : (held : Option Message) (ms : List Message) → Fit ms → gathered held (messages_told ms) ≡ filter is_whole ms
 gathered_messages held [] f = refl
 gathered_messages held (m ∷ ms) f = gathered_one held m.place m.head m.payload (messages_told ms) (filter is_whole ms) f.0 (λ h. gathered_messages h ms f.1)
 
@@ -113,7 +113,7 @@ fit_more true there at n next f =
       | inr p ↦ rw p.0 (f n)
     ]
 
-fit_behind : (place at : ℕ) (head : Head) (rest : List ℕ) (next : ℕ → Reading) → ((n : ℕ) → Fit (next n).messages) → Fit (behind_head place at head rest next).messages
+pub fit_behind : (place at : ℕ) (head : Head) (rest : List ℕ) (next : ℕ → Reading) → ((n : ℕ) → Fit (next n).messages) → Fit (behind_head place at head rest next).messages
 fit_behind place at head rest next f =
     elim (lt_tells (length rest) head.size) [
       | inl p ↦ rw p.0 (omega (arith, p.1), tt)
@@ -128,7 +128,7 @@ fit_first at b (c ∷ []) true f = tt
 fit_first at b (c ∷ d ∷ []) true f = tt
 fit_first at b (c ∷ d ∷ e ∷ rest) true f = fit_behind at (at + 1 + 3) (head_of (b ∷ c ∷ d ∷ e ∷ [])) rest (λ n. read_from (at + 1) (suc (suc (suc n))) (c ∷ d ∷ e ∷ rest)) (λ n. f (suc (suc (suc n))))
 
-fit_read : (at skip : ℕ) (bytes : List ℕ) → Fit (read_from at skip bytes).messages
+pub fit_read : (at skip : ℕ) (bytes : List ℕ) → Fit (read_from at skip bytes).messages
 fit_read at skip [] = tt
 fit_read at (suc skip) (b ∷ bytes) = fit_read (at + 1) skip bytes
 fit_read at zero (b ∷ bytes) = fit_first at b bytes (revision (b ∷ []) == 1) (λ n. fit_read (at + 1) n bytes)
@@ -137,7 +137,7 @@ fit_read at zero (b ∷ bytes) = fit_first at b bytes (revision (b ∷ []) == 1)
 pub gathered_told : (bytes : List ℕ) → gathered None (told bytes).items ≡ whole_messages bytes
 gathered_told bytes = gathered_messages None (pdu bytes).messages (fit_read 0 0 bytes)
 
-joined : (frame : List ℕ) (at used : ℕ) → take used (drop at frame) ++ drop (at + used) frame ≡ drop at frame
+pub joined : (frame : List ℕ) (at used : ℕ) → take used (drop at frame) ++ drop (at + used) frame ≡ drop at frame
 joined frame at used = rw (← drop-drop used at frame) (take-append-drop used (drop at frame))
 
 -- A caller that feeds all the rest of a frame at once: the answer completes these messages, and the others come from what is left.

@@ -2,3 +2,4 @@ pub mod Bytes
 pub mod Histories
 pub mod Spelled
 pub mod Gathered
+pub mod Walking

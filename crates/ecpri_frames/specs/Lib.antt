@@ -5,3 +5,4 @@ pub mod Turns
 pub mod States
 pub mod Spelling
 pub mod Gathering
+pub mod Left

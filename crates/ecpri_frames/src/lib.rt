@@ -3,19 +3,24 @@
 //! A frame carries one eCPRI protocol data unit (PDU): messages, each a common header of four
 //! bytes and its payload. A message whose C bit is set is followed by 0 to 3 padding bytes, up to
 //! a multiple of 4 from its own start, and by another message. [`Pdu`] reads a frame that comes
-//! in pieces of any length; [`put_head`] and [`pad_after`] serve those who write one.
+//! in pieces of any length; [`messages`] goes over the whole messages of a frame that is held
+//! whole; [`put_head`] and [`pad_after`] serve those who write one.
 #![tactic(auto)]
 
 mod decoding;
 mod heads;
 mod phases;
 mod refusals;
+mod starting;
 mod steps;
 #[cfg(test)]
 mod tests;
 mod turns;
+mod whole;
 
 pub use decoding::Pdu;
 pub use heads::{Head, pad_after, put_head, read_head};
 pub use refusals::{PduRefusal, PduWhy};
+pub use starting::messages;
 pub use steps::{Feed, PduStep};
+pub use whole::{Messages, WholeMessage};

@@ -1,62 +1,8 @@
-//! Worked frames, and a caller that feeds a whole frame.
+//! Worked frames, and callers that go over a frame that is held whole or comes in pieces.
 ghost use Rattle.std.specs.Prelude.{◌<◌};
 
 use super::*;
 use std::test::Fail;
-
-/// A whole message of a frame, and the place of its header.
-#[derive(Clone, Copy)]
-struct Found<'a> {
-    place: usize,
-    head: Head,
-    payload: &'a [u8],
-}
-
-/// The whole message of this number in a frame, from 0.
-fn message_at<'a>(frame: &'a [u8], number: usize) -> Option<Found<'a>> {
-    let mut pdu = Pdu::new();
-    let mut at = 0;
-    let mut before = number;
-    let mut held = None;
-    while at < frame.len() {
-        let step = pdu.feed(&frame[at..]);
-        let end = at + step.used;
-        let whole = match step.what {
-            Feed::Message(head) if head.size == 0 => Some(Found {
-                place: end - 4,
-                head,
-                payload: &[],
-            }),
-            Feed::Message(head) => {
-                held = Some((end - 4, head));
-                None
-            }
-            Feed::Body {
-                from,
-                to,
-                last: true,
-            } => match held {
-                Some((place, head)) => Some(Found {
-                    place,
-                    head,
-                    payload: &frame[at + from..at + to],
-                }),
-                None => None,
-            },
-            Feed::Body { .. } | Feed::More => None,
-            Feed::End | Feed::Refused(_) => return None,
-        };
-        if whole.is_some() {
-            if before == 0 {
-                return whole;
-            }
-            before -= 1;
-            held = None;
-        }
-        at = end;
-    }
-    None
-}
 
 /// The first fault of a frame that comes in pieces of at most `most` bytes.
 fn verdict(frame: &[u8], most: usize) -> Result<(), PduRefusal>
@@ -146,34 +92,6 @@ fn reads_and_writes_headers(rt: HostRuntime) {
 }
 
 #[test]
-fn reads_padded_messages(rt: HostRuntime) -> Result<(), Fail> {
-    let first = message_at(&PADDED, 0).ok_or("no first message")?;
-    assert_eq!(rt; first.place, 0);
-    assert_eq!(rt;
-        first.head,
-        Head {
-            more: true,
-            kind: 3,
-            size: 21
-        }
-    );
-    assert!(rt; first.payload == &PADDED[4..25]);
-    let second = message_at(&PADDED, 1).ok_or("no second message")?;
-    assert_eq!(rt; second.place, 28);
-    assert_eq!(rt;
-        second.head,
-        Head {
-            more: false,
-            kind: 5,
-            size: 20
-        }
-    );
-    assert!(rt; second.payload == &PADDED[32..52]);
-    assert!(rt; message_at(&PADDED, 2).is_none());
-    Ok(())
-}
-
-#[test]
 fn refuses_at_the_place(rt: HostRuntime) {
     let truncated = |place| Err(PduRefusal {
         place,
@@ -220,7 +138,60 @@ fn reads_the_greatest_payload(rt: HostRuntime) -> Result<(), Fail> {
     frame[2] = 0xff;
     frame[3] = 0xff;
     assert_eq!(rt; verdict(&frame, 1_500), Ok(()));
-    let message = message_at(&frame, 0).ok_or("no message")?;
+    let message = messages(&frame).next().ok_or("no message")?;
     assert_eq!(rt; message.payload.len(), 65_535);
     Ok(())
+}
+
+/// The header of a message with so many bytes of payload.
+fn head(more: bool, kind: u8, size: u16) -> Head {
+    Head { more, kind, size }
+}
+
+#[test]
+fn goes_over_whole_messages(rt: HostRuntime) -> Result<(), Fail> {
+    let mut walk = messages(&PADDED);
+    let first = walk.next().ok_or("no first message")?;
+    assert_eq!(rt; first.place, 0);
+    assert_eq!(rt; first.head, head(true, 3, 21));
+    assert!(rt; first.payload == &PADDED[4..25]);
+    let second = walk.next().ok_or("no second message")?;
+    assert_eq!(rt; second.place, 28);
+    assert_eq!(rt; second.head, head(false, 5, 20));
+    assert!(rt; second.payload == &PADDED[32..]);
+    assert!(rt; walk.next().is_none());
+    assert_eq!(rt; walk.refusal(), None);
+    Ok(())
+}
+
+/// How many whole messages a frame has, and its first fault.
+fn counted(frame: &[u8]) -> (usize, Option<PduRefusal>) {
+    let walk = messages(frame);
+    (walk.count(), walk.refusal())
+}
+
+#[test]
+fn says_the_fault_behind_whole_messages(rt: HostRuntime) {
+    let fault = |place, why| Some(PduRefusal { place, why });
+    assert_eq!(rt; counted(&PADDED[..28]), (1, fault(28, PduWhy::Truncated)));
+    assert_eq!(rt; counted(&PADDED[..26]), (1, fault(26, PduWhy::NoPadding)));
+    assert_eq!(rt;
+        counted(&[0x20, 0x02, 0x00, 0x14]),
+        (0, fault(0, PduWhy::Revision))
+    );
+    assert_eq!(rt; counted(&[]), (0, fault(0, PduWhy::Truncated)));
+    assert_eq!(rt;
+        messages(&[0x11, 0x03, 0x00, 0x00])
+            .next()
+            .map(|message| message.head),
+        Some(head(true, 3, 0))
+    );
+    assert_eq!(rt;
+        counted(&[0x11, 0x03, 0x00, 0x00]),
+        (1, fault(4, PduWhy::Truncated))
+    );
+    assert_eq!(rt;
+        counted(&[0x11, 0x03, 0x00, 0x01, 0xaa]),
+        (1, fault(5, PduWhy::NoPadding))
+    );
 }

@@ -1,0 +1,17 @@
+//! The lines of a report (this project's profile): a cell, a measured delay, and a counter, each as a
+//! text that takes no memory.
+//!
+//! Each line ends with a line feed, its words are parted by one space. Numbers are decimal without
+//! leading zeros, but an eAxC id has four and a mask three lower-case hexadecimal digits.
+#![tactic(auto)]
+
+mod cell_lines;
+mod line;
+mod unit_lines;
+
+pub use cell_lines::cell_line;
+pub use line::Line;
+pub use unit_lines::{count_line, delay_line};
+
+#[cfg(test)]
+mod tests;

@@ -1,0 +1,55 @@
+// The lines of what a unit measured and counted.
+ghost use Rattle.std.specs.Prelude.{◌≡◌, ◌≤◌, length};
+ghost use Rattle.report_lines.specs.Units.{side_text, delay_text, count_text};
+
+use crate::Line;
+use air_source::Side;
+use fault_counters::Counter;
+use fh_time::Ticks;
+
+fn side_name(side: Side) -> &'static [u8]
+    ensures text { result.now ≡ side_text side }
+    ensures short { length result.now ≡ 2 }
+{
+    match side {
+        Side::Ru => b"ru",
+        Side::Du => b"du",
+    }
+}
+
+/// The line of a measured one-way delay, `delay T SIDE ID VALUE`: T is the arrival that gave it in
+/// ticks, SIDE the unit that measured it (`du` or `ru`), ID the measurement id, and VALUE the delay in
+/// units of 2^-16 ns, signed (message type 5 of eCPRI 2.0).
+#[tactic(auto, unfolding(crate::specs::Units::delay_text))]
+pub fn delay_line(at: Ticks, side: Side, id: u8, value: i128) -> Line
+    ensures { result ≡ delay_text at.0 side id value }
+{
+    let mut line = Line::new();
+    line.text(b"delay ");
+    line.signed(at.0);
+    line.text(b" ");
+    line.text(side_name(side));
+    line.text(b" ");
+    line.number(u64::from(id));
+    line.text(b" ");
+    line.wide(value);
+    line.text(b"\n");
+    line
+}
+
+/// The line of a counter, `count SIDE NAME VALUE`: the unit (`du` or `ru`), the counter's name and its
+/// value. It is the same at the value 0.
+#[tactic(auto, unfolding(crate::specs::Units::count_text))]
+pub fn count_line(side: Side, counter: Counter, value: u64) -> Line
+    ensures { result ≡ count_text side counter value }
+{
+    let mut line = Line::new();
+    line.text(b"count ");
+    line.text(side_name(side));
+    line.text(b" ");
+    line.text(counter.name().as_bytes());
+    line.text(b" ");
+    line.number(value);
+    line.text(b"\n");
+    line
+}
