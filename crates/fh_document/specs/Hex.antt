@@ -1,0 +1,35 @@
+-- Numbers and frames in hexadecimal digits of either case.
+use Rattle.std.specs.Prelude.{ℕ, ◌+◌, ◌*◌, ◌%◌, List, [], ◌∷◌, length, Bool, ◌&&◌, nat_lt, nat_le, ◌==◌, Option, Some, None, if◌then◌else◌, codes}
+use Rattle.std.specs.List.{list_all}
+use Rattle.std.specs.Char.{digit_value}
+use Rattle.std.specs.Str.{bytes_eq}
+use Rattle.std.specs.Str.Parse.{digits_value}
+
+abbrev pub is_hex : List ℕ → Bool
+is_hex = list_all (λ b. nat_lt (digit_value b) 16)
+
+-- a number of exactly n digits
+abbrev pub hex_of : ℕ → List ℕ → Option ℕ
+hex_of n w = if (length w == n) && is_hex w then Some (digits_value 16 w) else None
+
+-- the byte that two digits spell
+abbrev pub byte_of : ℕ → ℕ → Option ℕ
+byte_of high low = if nat_lt (digit_value high) 16 && nat_lt (digit_value low) 16 then Some (16 * digit_value high + digit_value low) else None
+
+-- a byte for each two digits
+abbrev pub bytes_of : List ℕ → List ℕ
+bytes_of [] = []
+bytes_of (a ∷ []) = []
+bytes_of (a ∷ b ∷ rest) = (16 * digit_value a + digit_value b) ∷ bytes_of rest
+
+-- the bytes, where each is a digit
+abbrev pub decoded : List ℕ → Option (List ℕ)
+decoded w = if is_hex w then Some (bytes_of w) else None
+
+-- an even number of digits, for at most 9,216 bytes
+abbrev pub digits_frame : List ℕ → Option (List ℕ)
+digits_frame w = if nat_le (length w) 18432 && (length w % 2 == 0) then decoded w else None
+
+-- such digits, or a dash for no bytes
+abbrev pub frame_of : List ℕ → Option (List ℕ)
+frame_of w = if bytes_eq w (codes "-") then Some [] else digits_frame w

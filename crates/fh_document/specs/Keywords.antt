@@ -1,0 +1,73 @@
+-- The keywords of lines, and the order of their kinds.
+use Rattle.std.specs.Prelude.{ℕ, List, Option, Some, None, if◌then◌else◌, codes}
+use Rattle.std.specs.Option.{option_map}
+use Rattle.std.specs.Str.{bytes_eq}
+use Rattle.fh_document.specs.Words.{word_at}
+use Rattle.fh_document.specs.declared.keywords.Setting.{Setting}
+use Rattle.fh_document.specs.declared.keywords.Setting.TheVariants.{Widths, T1a, T2a, Advance, Ta3, Ta4, T12, T34, Hold, Gap, Fragment, Source, Antenna, Comp, TransitDl, TransitUl, TransitM}
+use Rattle.fh_document.specs.declared.keywords.Keyword.{Keyword}
+use Rattle.fh_document.specs.declared.keywords.Keyword.TheVariants as keyword
+
+-- what a first word configures
+abbrev pub setting_of : List ℕ → Option Setting
+setting_of w =
+    if bytes_eq w (codes "widths") then Some Widths
+    else (if bytes_eq w (codes "t1a") then Some T1a
+    else (if bytes_eq w (codes "t2a") then Some T2a
+    else (if bytes_eq w (codes "advance") then Some Advance
+    else (if bytes_eq w (codes "ta3") then Some Ta3
+    else (if bytes_eq w (codes "ta4") then Some Ta4
+    else (if bytes_eq w (codes "t12") then Some T12
+    else (if bytes_eq w (codes "t34") then Some T34
+    else (if bytes_eq w (codes "hold") then Some Hold
+    else (if bytes_eq w (codes "gap") then Some Gap
+    else (if bytes_eq w (codes "fragment") then Some Fragment
+    else (if bytes_eq w (codes "source") then Some Source
+    else (if bytes_eq w (codes "antenna") then Some Antenna
+    else (if bytes_eq w (codes "comp") then Some Comp
+    else None)))))))))))))
+
+-- what the second word of `transit` configures
+abbrev pub transit_of : List ℕ → Option Setting
+transit_of w =
+    if bytes_eq w (codes "dl") then Some TransitDl
+    else (if bytes_eq w (codes "ul") then Some TransitUl
+    else (if bytes_eq w (codes "m") then Some TransitM
+    else None))
+
+abbrev pub configuring : Option Setting → Option Keyword
+configuring s = option_map (λ x. keyword.Configure x) s
+
+-- the keyword that the words begin with
+abbrev pub keyword_of : List (List ℕ) → Option Keyword
+keyword_of ws =
+    if bytes_eq (word_at ws 0) (codes "endpoint") then Some keyword.Endpoint
+    else (if bytes_eq (word_at ws 0) (codes "inject") then Some keyword.Inject
+    else (if bytes_eq (word_at ws 0) (codes "transit") then configuring (transit_of (word_at ws 1))
+    else configuring (setting_of (word_at ws 0))))
+
+-- the place of a kind of lines in their order: configuration 0, endpoint 1, plan 2, deliver 3, inject 4, measure 5
+abbrev pub rank_of : Keyword → ℕ
+rank_of (keyword.Configure s) = 0
+rank_of keyword.Endpoint = 1
+rank_of keyword.Inject = 4
+
+-- a number for each configuration keyword
+abbrev pub number_of : Setting → ℕ
+number_of Widths = 0
+number_of T1a = 1
+number_of T2a = 2
+number_of Advance = 3
+number_of Ta3 = 4
+number_of Ta4 = 5
+number_of T12 = 6
+number_of T34 = 7
+number_of Hold = 8
+number_of Gap = 9
+number_of Fragment = 10
+number_of Source = 11
+number_of Antenna = 12
+number_of Comp = 13
+number_of TransitDl = 14
+number_of TransitUl = 15
+number_of TransitM = 16

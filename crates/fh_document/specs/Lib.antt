@@ -1,0 +1,12 @@
+pub mod Refusals
+pub mod Words
+pub mod Hex
+pub mod Keywords
+pub mod ConfigLines
+pub mod EndpointLines
+pub mod Building
+pub mod InjectLines
+pub mod Lines
+pub mod Document
+pub mod Answered
+pub mod Proper

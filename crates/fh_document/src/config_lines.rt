@@ -1,0 +1,284 @@
+// Configuration lines.
+ghost use Rattle.std.specs.Prelude.{◌≡◌, ◌≤◌, ◌<◌, ◌^◌, IfOk};
+ghost use Rattle.fh_document.specs.ConfigLines.{number_at, time_at, ordered, both_ordered, widths_of, widths_line, windows_line, range_line, hold_line, time_line, fragment_line, tone_line, comp_line, transit_line, set_of, defaults};
+
+use crate::document::{Comps, Settings, Transits};
+use crate::keywords::Setting;
+use crate::refusals::DocWhy;
+use crate::words::{Words, number_in};
+use eaxc_map::Widths;
+use tone_source::Tone;
+use window_config::{Delays, Range};
+
+/// The greatest time of a delay profile, in nanoseconds.
+const MOST_DELAY: u64 = 2_000_000;
+
+/// The greatest compensation.
+const MOST_COMP: u64 = 65_536_000_000;
+
+/// The greatest time on the way, in nanoseconds.
+const MOST_TRANSIT: u64 = 3_000_000_000;
+
+/// The number that a word spells, in a range.
+fn number_at(words: &Words<'_>, i: usize, low: u64, high: u64) -> Result<u64, DocWhy>
+    requires { i < 16 }
+    ensures value { result ≡ number_at low high words.now i }
+    ensures within { IfOk result (λ n. (low ≤ n) × (n ≤ high) × (n < 10 ^ 13)) }
+{
+    number_in(words.word(i), low, high).ok_or(DocWhy::Number)
+}
+
+/// The time that a word spells, in a range.
+pub(crate) fn time_at(words: &Words<'_>, i: usize, low: u64, high: u64) -> Result<i64, DocWhy>
+    requires { i < 16 }
+    ensures { result ≡ time_at low high words.now i }
+{
+    let n = number_at(words, i, low, high)?;
+    Ok(n as i64)
+}
+
+fn ordered(min: i64, max: i64) -> Result<Range, DocWhy>
+    ensures { result ≡ ordered min max }
+{
+    if max < min {
+        return Err(DocWhy::MinMax);
+    }
+    Ok(Range { min, max })
+}
+
+fn both_ordered(
+    min_up: i64,
+    max_up: i64,
+    min_cp_ul: i64,
+    max_cp_ul: i64,
+) -> Result<(Range, Range), DocWhy>
+    ensures { result ≡ both_ordered min_up max_up min_cp_ul max_cp_ul }
+{
+    let up = ordered(min_up, max_up)?;
+    let cp_ul = ordered(min_cp_ul, max_cp_ul)?;
+    Ok((up, cp_ul))
+}
+
+fn widths_of(du: u8, band: u8, carrier: u8, port: u8) -> Result<Widths, DocWhy>
+    ensures { result ≡ widths_of du band carrier port }
+{
+    match Widths::new(du, band, carrier, port) {
+        Ok(widths) => Ok(widths),
+        Err(_) => Err(DocWhy::WidthSum),
+    }
+}
+
+fn widths_line(words: &Words<'_>) -> Result<Widths, DocWhy>
+    ensures { result ≡ widths_line words.now }
+{
+    if words.len() != 5 {
+        return Err(DocWhy::Words);
+    }
+    let du = number_at(words, 1, 0, 16)?;
+    let band = number_at(words, 2, 0, 16)?;
+    let carrier = number_at(words, 3, 0, 16)?;
+    let port = number_at(words, 4, 0, 16)?;
+    widths_of(du as u8, band as u8, carrier as u8, port as u8)
+}
+
+/// The ranges of data and of uplink commands.
+fn windows_line(words: &Words<'_>, low: u64) -> Result<(Range, Range), DocWhy>
+    ensures { result ≡ windows_line low words.now }
+{
+    if words.len() != 5 {
+        return Err(DocWhy::Words);
+    }
+    let min_up = time_at(words, 1, low, MOST_DELAY)?;
+    let max_up = time_at(words, 2, low, MOST_DELAY)?;
+    let min_cp_ul = time_at(words, 3, low, MOST_DELAY)?;
+    let max_cp_ul = time_at(words, 4, low, MOST_DELAY)?;
+    both_ordered(min_up, max_up, min_cp_ul, max_cp_ul)
+}
+
+fn range_line(words: &Words<'_>) -> Result<Range, DocWhy>
+    ensures { result ≡ range_line words.now }
+{
+    if words.len() != 3 {
+        return Err(DocWhy::Words);
+    }
+    let min = time_at(words, 1, 0, MOST_DELAY)?;
+    let max = time_at(words, 2, 0, MOST_DELAY)?;
+    ordered(min, max)
+}
+
+fn hold_line(words: &Words<'_>) -> Result<(i64, i64), DocWhy>
+    ensures { result ≡ hold_line words.now }
+{
+    if words.len() != 3 {
+        return Err(DocWhy::Words);
+    }
+    let dl = time_at(words, 1, 0, MOST_DELAY)?;
+    let ul = time_at(words, 2, 0, MOST_DELAY)?;
+    Ok((dl, ul))
+}
+
+fn time_line(words: &Words<'_>) -> Result<i64, DocWhy>
+    ensures { result ≡ time_line words.now }
+{
+    if words.len() != 2 {
+        return Err(DocWhy::Words);
+    }
+    time_at(words, 1, 0, MOST_DELAY)
+}
+
+fn fragment_line(words: &Words<'_>) -> Result<usize, DocWhy>
+    ensures { result ≡ fragment_line words.now }
+{
+    if words.len() != 2 {
+        return Err(DocWhy::Words);
+    }
+    let bytes = number_at(words, 1, 128, 9_000)?;
+    Ok(bytes as usize)
+}
+
+fn tone_line(words: &Words<'_>) -> Result<Tone, DocWhy>
+    ensures { result ≡ tone_line words.now }
+{
+    if words.len() != 3 {
+        return Err(DocWhy::Words);
+    }
+    let seed = number_at(words, 1, 0, 4_294_967_295)?;
+    let amplitude = number_at(words, 2, 1, 32_768)?;
+    Ok(Tone {
+        seed: seed as u32,
+        amplitude: amplitude as u32,
+    })
+}
+
+fn comp_line(words: &Words<'_>) -> Result<Comps, DocWhy>
+    ensures { result ≡ comp_line words.now }
+{
+    if words.len() != 5 {
+        return Err(DocWhy::Words);
+    }
+    Ok(Comps {
+        du_sending: time_at(words, 1, 0, MOST_COMP)?,
+        du_receiving: time_at(words, 2, 0, MOST_COMP)?,
+        ru_sending: time_at(words, 3, 0, MOST_COMP)?,
+        ru_receiving: time_at(words, 4, 0, MOST_COMP)?,
+    })
+}
+
+fn transit_line(words: &Words<'_>, low: u64) -> Result<i64, DocWhy>
+    ensures { result ≡ transit_line low words.now }
+{
+    if words.len() != 3 {
+        return Err(DocWhy::Words);
+    }
+    time_at(words, 2, low, MOST_TRANSIT)
+}
+
+/// What a configuration line makes of the settings.
+pub(crate) fn set(
+    settings: Settings,
+    setting: Setting,
+    words: &Words<'_>,
+) -> Result<Settings, DocWhy>
+    ensures { result ≡ set_of settings setting words.now }
+{
+    let mut next = settings;
+    match setting {
+        Setting::Widths => next.widths = widths_line(words)?,
+        Setting::T1a => {
+            let (up, cp_ul) = windows_line(words, 0)?;
+            next.delays.t1a_up = up;
+            next.delays.t1a_cp_ul = cp_ul;
+        }
+        Setting::T2a => {
+            let (up, cp_ul) = windows_line(words, 1)?;
+            next.delays.t2a_up = up;
+            next.delays.t2a_cp_ul = cp_ul;
+        }
+        Setting::Advance => next.delays.advance = time_line(words)?,
+        Setting::Ta3 => next.delays.ta3 = range_line(words)?,
+        Setting::Ta4 => next.delays.ta4 = range_line(words)?,
+        Setting::T12 => next.delays.t12 = range_line(words)?,
+        Setting::T34 => next.delays.t34 = range_line(words)?,
+        Setting::Hold => {
+            let (dl, ul) = hold_line(words)?;
+            next.delays.hold_dl = dl;
+            next.delays.hold_ul = ul;
+        }
+        Setting::Gap => next.gap = time_line(words)?,
+        Setting::Fragment => next.fragment = fragment_line(words)?,
+        Setting::Source => next.source = tone_line(words)?,
+        Setting::Antenna => next.antenna = tone_line(words)?,
+        Setting::Comp => next.comps = comp_line(words)?,
+        Setting::TransitDl => next.transits.dl = transit_line(words, 0)?,
+        Setting::TransitUl => next.transits.ul = transit_line(words, 0)?,
+        Setting::TransitM => next.transits.m = transit_line(words, 1)?,
+    }
+    Ok(next)
+}
+
+/// A minimum and a maximum.
+fn span(min: i64, max: i64) -> Range
+    ensures { result ≡ record { min = min; max = max } }
+{
+    Range { min, max }
+}
+
+fn default_widths() -> Widths
+    ensures { result ≡ defaults.widths }
+{
+    Widths {
+        du: 4,
+        band: 4,
+        carrier: 4,
+        port: 4,
+    }
+}
+
+fn default_delays() -> Delays
+    ensures { result ≡ defaults.delays }
+{
+    Delays {
+        t1a_up: span(234_000, 345_000),
+        t1a_cp_ul: span(225_000, 470_000),
+        t2a_up: span(134_000, 345_000),
+        t2a_cp_ul: span(125_000, 470_000),
+        ta3: span(50_000, 171_000),
+        ta4: span(50_000, 271_000),
+        t12: span(0, 100_000),
+        t34: span(0, 100_000),
+        advance: 125_000,
+        hold_dl: 211_000,
+        hold_ul: 221_000,
+    }
+}
+
+/// What holds where no line configures it.
+pub(crate) fn defaults() -> Settings
+    ensures { result ≡ defaults }
+{
+    Settings {
+        widths: default_widths(),
+        delays: default_delays(),
+        gap: 1_000,
+        fragment: 1_492,
+        source: Tone {
+            seed: 1,
+            amplitude: 1_000,
+        },
+        antenna: Tone {
+            seed: 2,
+            amplitude: 1_000,
+        },
+        comps: Comps {
+            du_sending: 0,
+            du_receiving: 0,
+            ru_sending: 0,
+            ru_receiving: 0,
+        },
+        transits: Transits {
+            dl: 50_000,
+            ul: 50_000,
+            m: 50_000,
+        },
+    }
+}

@@ -1,0 +1,142 @@
+// The keywords of lines, and the order of their kinds.
+ghost use Rattle.std.specs.Prelude.{◌≡◌, ◌<◌};
+ghost use Rattle.fh_document.specs.Keywords.{setting_of, transit_of, keyword_of, rank_of, number_of};
+
+use crate::words::Words;
+
+/// What a configuration line sets.
+#[derive(Clone, Copy, Debug, PartialEq, Eq)]
+pub(crate) enum Setting {
+    Widths,
+    T1a,
+    T2a,
+    Advance,
+    Ta3,
+    Ta4,
+    T12,
+    T34,
+    Hold,
+    Gap,
+    Fragment,
+    Source,
+    Antenna,
+    Comp,
+    TransitDl,
+    TransitUl,
+    TransitM,
+}
+
+/// What a line is for.
+#[derive(Clone, Copy, Debug, PartialEq, Eq)]
+pub(crate) enum Keyword {
+    Configure(Setting),
+    Endpoint,
+    Inject,
+}
+
+fn setting_of(word: &[u8]) -> Option<Setting>
+    ensures { result ≡ setting_of word.now }
+{
+    if word == b"widths".as_slice() {
+        return Some(Setting::Widths);
+    }
+    if word == b"t1a".as_slice() {
+        return Some(Setting::T1a);
+    }
+    if word == b"t2a".as_slice() {
+        return Some(Setting::T2a);
+    }
+    if word == b"advance".as_slice() {
+        return Some(Setting::Advance);
+    }
+    if word == b"ta3".as_slice() {
+        return Some(Setting::Ta3);
+    }
+    if word == b"ta4".as_slice() {
+        return Some(Setting::Ta4);
+    }
+    if word == b"t12".as_slice() {
+        return Some(Setting::T12);
+    }
+    if word == b"t34".as_slice() {
+        return Some(Setting::T34);
+    }
+    if word == b"hold".as_slice() {
+        return Some(Setting::Hold);
+    }
+    if word == b"gap".as_slice() {
+        return Some(Setting::Gap);
+    }
+    if word == b"fragment".as_slice() {
+        return Some(Setting::Fragment);
+    }
+    if word == b"source".as_slice() {
+        return Some(Setting::Source);
+    }
+    if word == b"antenna".as_slice() {
+        return Some(Setting::Antenna);
+    }
+    if word == b"comp".as_slice() {
+        return Some(Setting::Comp);
+    }
+    None
+}
+
+/// What a `transit` line sets, by its second word.
+fn transit_of(word: &[u8]) -> Option<Setting>
+    ensures { result ≡ transit_of word.now }
+{
+    if word == b"dl".as_slice() {
+        return Some(Setting::TransitDl);
+    }
+    if word == b"ul".as_slice() {
+        return Some(Setting::TransitUl);
+    }
+    if word == b"m".as_slice() {
+        return Some(Setting::TransitM);
+    }
+    None
+}
+
+/// The keyword of a line.
+pub(crate) fn keyword_of(words: &Words<'_>) -> Option<Keyword>
+    ensures { result ≡ keyword_of words.now }
+{
+    let word = words.word(0);
+    if word == b"endpoint".as_slice() {
+        return Some(Keyword::Endpoint);
+    }
+    if word == b"inject".as_slice() {
+        return Some(Keyword::Inject);
+    }
+    if word == b"transit".as_slice() {
+        return transit_of(words.word(1)).map(Keyword::Configure);
+    }
+    setting_of(word).map(Keyword::Configure)
+}
+
+impl Keyword {
+    /// The place of the kind in the order of lines: configuration 0, endpoint 1, plan 2, deliver 3, inject 4, measure 5.
+    pub(crate) fn rank(self) -> u8
+        ensures { result ≡ rank_of self }
+    {
+        match self {
+            Keyword::Configure(_) => 0,
+            Keyword::Endpoint => 1,
+            Keyword::Inject => 4,
+        }
+    }
+}
+
+impl Setting {
+    /// How many configuration keywords there are.
+    pub(crate) const COUNT: usize = 17;
+
+    /// A number of its own.
+    pub(crate) fn number(self) -> usize
+        ensures value { result ≡ number_of self }
+        ensures below { result < 17 }
+    {
+        self as usize
+    }
+}

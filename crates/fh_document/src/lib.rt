@@ -1,0 +1,29 @@
+//! Documents: what a fronthaul is configured with and what happens on it, as lines of text.
+//!
+//! [`read`] answers what a document says, or its first line that is refused and the first reason for that. The grammar is a
+//! definition on the bytes of the text, and the answer is exactly the grammar's. Lines are read one by one, and of a line only the
+//! bytes of an injected frame take memory.
+//!
+//! Beside the grammar stand the lines of a report ([`cell_line`], [`delay_line`], [`count_line`]) and the samples that a [`Tone`]
+//! gives.
+#![tactic(auto)]
+
+mod building;
+mod config_lines;
+mod document;
+mod endpoint_lines;
+mod hex;
+mod inject_lines;
+mod keywords;
+mod reading;
+mod refusals;
+mod words;
+
+pub use document::{Comps, Document, Injection, Transits};
+pub use reading::read;
+pub use refusals::{DocFault, DocWhy};
+pub use report_lines::{Line, cell_line, count_line, delay_line};
+pub use tone_source::{Tone, ToneSteps, tone};
+
+#[cfg(test)]
+mod tests;

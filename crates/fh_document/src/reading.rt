@@ -1,0 +1,212 @@
+// A document, line by line.
+ghost use Rattle.std.specs.Prelude.{◌≡◌, IfOk};
+ghost use Rattle.fh_document.specs.Answered.{Refuses, refused, Reads, Answers};
+ghost use Rattle.fh_document.specs.Lines.{start, is_seen, setting_line, reached, comes_late, keyword_line, ordered_line, is_skipped, is_first, later_line, words_line, line_of};
+ghost use Rattle.fh_document.specs.Document.{finished, document_of};
+ghost use Rattle.fh_document.specs.Proper.{IsDocument};
+
+use crate::config_lines::{defaults, set};
+use crate::document::{Document, Reading};
+use crate::endpoint_lines::endpoint_line;
+use crate::inject_lines::inject_line;
+use crate::keywords::{Keyword, Setting, keyword_of};
+use crate::refusals::{DocFault, DocWhy, LineFault};
+use crate::words::{Words, is_text, without_last_feed};
+use fh_base::List;
+use std::alloc::Global;
+use window_config::{Config, EndpointList};
+
+fn start(alloc: Global) -> Reading
+    ensures { result ≡ start }
+{
+    Reading {
+        settings: defaults(),
+        seen: [false; Setting::COUNT],
+        endpoints: EndpointList::new(),
+        injections: List::new(alloc),
+    }
+}
+
+fn is_seen(reading: &Reading, setting: Setting) -> bool
+    ensures { result ≡ is_seen reading.now setting }
+{
+    reading.seen[setting.number()]
+}
+
+fn setting_line(reading: &mut Reading, setting: Setting, words: &Words<'_>) -> Result<(), DocWhy>
+    ensures { Refuses (setting_line reading.old setting words.now) result reading.new }
+{
+    if is_seen(reading, setting) {
+        return Err(DocWhy::Twice);
+    }
+    match set(reading.settings, setting, words) {
+        Err(why) => Err(why),
+        Ok(settings) => {
+            reading.settings = settings;
+            reading.seen[setting.number()] = true;
+            Ok(())
+        }
+    }
+}
+
+/// The place of the latest kind of the lines so far.
+fn reached(reading: &Reading) -> u8
+    ensures { result ≡ reached reading.now }
+{
+    if reading.injections.len() > 0 {
+        return Keyword::Inject.rank();
+    }
+    if reading.endpoints.as_slice().len() > 0 {
+        return Keyword::Endpoint.rank();
+    }
+    0
+}
+
+fn comes_late(reading: &Reading, keyword: Keyword) -> bool
+    ensures { result ≡ comes_late reading.now keyword }
+{
+    keyword.rank() < reached(reading)
+}
+
+/// A reason that is a line's own.
+fn refused(answer: Result<(), DocWhy>) -> Result<(), LineFault>
+    ensures { result ≡ refused answer }
+{
+    match answer {
+        Ok(()) => Ok(()),
+        Err(why) => Err(LineFault::Why(why)),
+    }
+}
+
+fn keyword_line(
+    alloc: Global,
+    reading: &mut Reading,
+    keyword: Keyword,
+    words: &Words<'_>,
+) -> Result<(), LineFault>
+    ensures { Reads (keyword_line reading.old keyword words.now) result reading.new }
+{
+    match keyword {
+        Keyword::Configure(setting) => refused(setting_line(reading, setting, words)),
+        Keyword::Endpoint => refused(endpoint_line(reading, words)),
+        Keyword::Inject => inject_line(alloc, reading, words),
+    }
+}
+
+fn ordered_line(
+    alloc: Global,
+    reading: &mut Reading,
+    keyword: Keyword,
+    words: &Words<'_>,
+) -> Result<(), LineFault>
+    ensures { Reads (ordered_line reading.old keyword words.now) result reading.new }
+{
+    if comes_late(reading, keyword) {
+        return Err(LineFault::Why(DocWhy::Order));
+    }
+    keyword_line(alloc, reading, keyword, words)
+}
+
+fn is_skipped(words: &Words<'_>) -> bool
+    ensures { result ≡ is_skipped words.now }
+{
+    words.len() == 0 || words.word(0).first() == Some(&b'#')
+}
+
+fn is_first(words: &Words<'_>) -> bool
+    ensures { result ≡ is_first words.now }
+{
+    if words.len() != 2 {
+        return false;
+    }
+    if words.word(0) != b"fronthaul".as_slice() {
+        return false;
+    }
+    words.word(1) == b"1".as_slice()
+}
+
+fn later_line(alloc: Global, reading: &mut Reading, words: &Words<'_>) -> Result<(), LineFault>
+    ensures { Reads (later_line reading.old words.now) result reading.new }
+{
+    if is_skipped(words) {
+        return Ok(());
+    }
+    match keyword_of(words) {
+        None => Err(LineFault::Why(DocWhy::UnknownWord)),
+        Some(keyword) => ordered_line(alloc, reading, keyword, words),
+    }
+}
+
+fn words_line(
+    alloc: Global,
+    reading: &mut Reading,
+    n: usize,
+    words: &Words<'_>,
+) -> Result<(), LineFault>
+    ensures { Reads (words_line reading.old n words.now) result reading.new }
+{
+    if n == 1 {
+        if is_first(words) {
+            return Ok(());
+        }
+        return Err(LineFault::Why(DocWhy::FirstLine));
+    }
+    later_line(alloc, reading, words)
+}
+
+#[tactic(auto, unfolding(crate::specs::Lines::line_of))]
+fn read_line(alloc: Global, reading: &mut Reading, n: usize, line: &[u8]) -> Result<(), LineFault>
+    ensures { Reads (line_of reading.old n line.now) result reading.new }
+{
+    if !is_text(line) {
+        return Err(LineFault::Why(DocWhy::NotText));
+    }
+    words_line(alloc, reading, n, &Words::of(line))
+}
+
+fn finished(reading: Reading) -> Document
+    ensures { result ≡ finished reading }
+{
+    let settings = reading.settings;
+    Document {
+        config: Config {
+            widths: settings.widths,
+            delays: settings.delays,
+            gap: settings.gap,
+            fragment: settings.fragment,
+            endpoints: reading.endpoints,
+        },
+        source: settings.source,
+        antenna: settings.antenna,
+        comps: settings.comps,
+        transits: settings.transits,
+        injections: reading.injections,
+    }
+}
+
+/// Reads a document.
+///
+/// The answer is what the lines say, or the first line that is refused with its first reason, or want of memory. A document that
+/// is read is within its limits: the configuration is, no id stands twice, and each injected frame is one that is handled.
+pub fn read(alloc: Global, bytes: &[u8]) -> Result<Document, DocFault>
+    ensures answers { Answers (document_of bytes.now) result }
+    ensures proper { IfOk result (λ d. IsDocument d) }
+{
+    let mut reading = start(alloc);
+    if bytes.is_empty() {
+        return Err(DocFault::At {
+            line: 1,
+            why: DocWhy::FirstLine,
+        });
+    }
+    let mut n: usize = 1;
+    for line in without_last_feed(bytes).split(|b| *b == 10) {
+        match read_line(alloc, &mut reading, n, line) {
+            Ok(()) => {}
+            Err(LineFault::Why(why)) => return Err(DocFault::At { line: n, why }),
+            Err(LineFault::NoMemory) => return Err(DocFault::NoMemory),
+        }
+        n += 1;
+    }
+    Ok(finished(reading))
+}

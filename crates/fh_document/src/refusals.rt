@@ -1,0 +1,68 @@
+// Why a document is refused.
+ghost use Rattle.std.specs.Prelude.{◌≡◌, ◌≤◌, length};
+ghost use Rattle.fh_document.specs.Refusals.{name_of};
+
+/// Why a line of a document is refused.
+#[derive(Clone, Copy, Debug, PartialEq, Eq)]
+pub enum DocWhy {
+    /// A byte is not one of printable ASCII (20 to 7e in hexadecimal).
+    NotText,
+    /// Line 1 is missing, or its words are not `fronthaul 1`.
+    FirstLine,
+    /// The first word is no keyword, or the second word of `transit` names none.
+    UnknownWord,
+    /// The line is of an earlier kind than one before it.
+    Order,
+    /// The configuration keyword, or the endpoint's id, stands in an earlier line.
+    Twice,
+    /// The number of words is wrong.
+    Words,
+    /// A word has not its form, or is out of its range.
+    Number,
+    /// The widths of an eAxC id do not sum to 16.
+    WidthSum,
+    /// A minimum exceeds its maximum.
+    MinMax,
+    /// Sixteen endpoints are there already.
+    TooMany,
+    /// What the line injects is not handled yet.
+    NotBuilt,
+}
+
+/// Why a document is not read.
+#[derive(Clone, Copy, Debug, PartialEq, Eq)]
+pub enum DocFault {
+    /// The first line that is refused, counted from 1, and the first reason for it.
+    At { line: usize, why: DocWhy },
+    /// Memory ran out.
+    NoMemory,
+}
+
+/// Why a line is not read.
+#[derive(Clone, Copy, Debug, PartialEq, Eq)]
+pub(crate) enum LineFault {
+    Why(DocWhy),
+    NoMemory,
+}
+
+impl DocWhy {
+    /// The name under which the reason is printed: its own.
+    pub fn name(self) -> &'static str
+        ensures name { result.now ≡ name_of self }
+        ensures short { length result.now ≤ 11 }
+    {
+        match self {
+            DocWhy::NotText => "NotText",
+            DocWhy::FirstLine => "FirstLine",
+            DocWhy::UnknownWord => "UnknownWord",
+            DocWhy::Order => "Order",
+            DocWhy::Twice => "Twice",
+            DocWhy::Words => "Words",
+            DocWhy::Number => "Number",
+            DocWhy::WidthSum => "WidthSum",
+            DocWhy::MinMax => "MinMax",
+            DocWhy::TooMany => "TooMany",
+            DocWhy::NotBuilt => "NotBuilt",
+        }
+    }
+}

@@ -1,0 +1,104 @@
+// The words of a line, and the numbers that they spell.
+ghost use Rattle.std.specs.Prelude.{◌≡◌, ℕ, ◌^◌, ◌<◌, ◌≤◌, length, IfSome, List};
+ghost use Rattle.fh_document.specs.Words.{words_of, word_at, number_in, is_text, without_last_feed};
+
+use arrayvec::ArrayVec;
+use std::marker::Model;
+
+/// The most digits of a number.
+const MOST_DIGITS: usize = 13;
+
+/// How many words of a line are kept. No line has as many.
+const KEPT: usize = 16;
+
+/// Whether each byte is one of text.
+pub(crate) fn is_text(line: &[u8]) -> bool
+    ensures { result ≡ is_text line.now }
+{
+    line.iter().all(|b| *b >= 32 && *b <= 126)
+}
+
+/// The bytes without a last line feed.
+pub(crate) fn without_last_feed(text: &[u8]) -> &[u8]
+    ensures { result.now ≡ without_last_feed text.now }
+{
+    if text.last() == Some(&10) {
+        &text[..text.len() - 1]
+    } else {
+        text
+    }
+}
+
+/// A decimal number of at most 13 digits, in a range.
+pub(crate) fn number_in(word: &[u8], low: u64, high: u64) -> Option<u64>
+    ensures value { result ≡ number_in low high word.now }
+    ensures within { IfSome result (λ n. (low ≤ n) × (n ≤ high) × (n < 10 ^ 13)) }
+{
+    if word.is_empty() || word.len() > MOST_DIGITS {
+        return None;
+    }
+    let mut n: u64 = 0;
+    for b in word {
+        if *b < b'0' || *b > b'9' {
+            return None;
+        }
+        n = n * 10 + u64::from(*b - b'0');
+    }
+    if n < low || n > high {
+        return None;
+    }
+    Some(n)
+}
+
+/// The words of a line: what stands between spaces. Contracts see them as a list of texts.
+#[derive(Drop)]
+pub(crate) struct Words<'a> {
+    line: &'a [u8],
+    /// The first words.
+    kept: ArrayVec<&'a [u8], KEPT>,
+    /// How many words there are.
+    count: usize,
+}
+
+impl<'a> Model for Words<'a> {
+    ghost use Rattle.std.specs.Prelude.{◌≡◌, ℕ, List, map, length, take};
+    ghost use Rattle.fh_document.specs.Words.{words_of};
+
+    ghost Value = { List (List ℕ) };
+
+    ghost view = { λ w. words_of w.line.now };
+
+    ghost invariant = { λ w. (w.count ≡ length (words_of w.line.now))
+        × (map (λ x. x.now) w.kept.items ≡ take 16 (words_of w.line.now)) };
+}
+
+impl<'a> Words<'a> {
+    /// The words of a line.
+    pub(crate) fn of(line: &'a [u8]) -> Words<'a>
+        ensures { result ≡ words_of line.entry.now }
+    {
+        let mut kept = ArrayVec::new();
+        let mut count: usize = 0;
+        for word in line.split(|b| *b == 32).filter(|w| !w.is_empty()) {
+            let _ = kept.try_push(word);
+            count += 1;
+        }
+        Words { line, kept, count }
+    }
+
+    /// How many words there are.
+    pub(crate) fn len(&self) -> usize
+        ensures { result ≡ length self.now }
+    {
+        self.count
+    }
+
+    /// The word with this index, or the empty one.
+    pub(crate) fn word(&self, i: usize) -> &[u8]
+        requires { i < 16 }
+        ensures { result.now ≡ word_at self.now i }
+    {
+        let kept = self.kept.as_slice();
+        if i < kept.len() { kept[i] } else { b"" }
+    }
+}
