@@ -1,0 +1,6 @@
+pub mod RangeLemmas
+pub mod MaskLemmas
+pub mod JudgeLemmas
+pub mod PlaceLemmas
+pub mod SeenLemmas
+pub mod RingLemmas

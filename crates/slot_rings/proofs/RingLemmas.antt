@@ -1,0 +1,272 @@
+-- The ring: a call changes one place.
+use Rattle.std.proofs.Common.{◌≡◌, ℕ, ℤ, pos, negsuc, zero, suc, ◌+◌, ◌*◌, ◌<◌, ◌≤◌, inl, inr, Bool, true, false, List, [], ◌∷◌, ◌++◌, length, get_or, set, refl, ap, sym, ◌∙◌, subst, arith, length-set, get_or-set_same, get_or-set_other, Option, Some, None}
+use Rattle.std.specs.Int.{int_gap, int_rem_euclid}
+use Rattle.std.proofs.lemmas.Bool.{cases_eq, cases_Bool, false_from_ne_true}
+use Rattle.std.proofs.lemmas.List.{get_or_read}
+use Rattle.std.proofs.lemmas.Nat.{mod_below}
+use Rattle.fh_time.specs.declared.kind.Kind.{Kind}
+use Rattle.fh_time.specs.declared.kind.Kind.TheVariants.{Ordinary, Offset}
+use Rattle.fh_time.specs.declared.numerology.Numerology.{Numerology}
+use Rattle.fh_time.specs.declared.values.Slot.{Slot}
+use Rattle.fh_time.specs.Kinds.{kind_symbols}
+use Rattle.fh_time.specs.Numbering.{slot_number, symbols_of}
+use Rattle.unit_model.specs.Proper.{IsSlot}
+use Rattle.unit_model.specs.declared.allocations.Allocation.{Allocation}
+use Rattle.unit_model.specs.declared.cells.Cell.{Cell}
+use Rattle.slot_rings.specs.Places.{PlaceValue, blank, empty_place, opened, is_of, marks_of, claim_in, no_marks, place_claim, place_block, place_done, place_uplink, cell_number}
+use Rattle.slot_rings.specs.Rings.{RingValue, IsRing, SharePlace, SameClaims, SameBlocks, SameDone, SameUplink, place_index, place_of, with_place, ring_claim, ring_block, ring_done, ring_uplink, has_slot}
+use Rattle.slot_rings.specs.declared.marks.Marks.{Marks}
+use Rattle.unit_model.specs.declared.verdicts.CommandVerdict.TheVariants.{Accepted}
+use Rattle.slot_rings.specs.Verdicts.{verdict_by, claim_after}
+use Rattle.slot_rings.proofs.SeenLemmas.{verdict_seen}
+use Rattle.slot_rings.proofs.PlaceLemmas.{of_is, of_own, slot_is, no_claim}
+
+pub symbols_are : (n : Numerology) → symbols_of n ≡ 14
+symbols_are n = go n.kind
+  where
+    go : (k : Kind) → kind_symbols k ≡ 14
+    go (Ordinary spacing) = refl
+    go (Offset spacing offset cp) = refl
+
+pub index_within : (r : RingValue) (s : Slot) → 0 < length r.places → place_index r s < length r.places
+index_within r s some = go (slot_number r.endpoint.numerology s)
+  where
+    go : (z : ℤ) → int_gap (pos 0) (int_rem_euclid z (pos (length r.places))) < length r.places
+    go (pos a) = omega (arith, mod_below a (length r.places) some)
+    go (negsuc a) = omega (arith, some)
+
+-- ---- another place at an index
+
+abbrev pub put : RingValue → ℕ → PlaceValue → RingValue
+put r i q = record { endpoint = r.endpoint; places = set r.places i q }
+
+index_put : (r : RingValue) (i : ℕ) (q : PlaceValue) (s : Slot) → place_index (put r i q) s ≡ place_index r s
+index_put r i q s = ap (λ (n : ℕ). int_gap (pos 0) (int_rem_euclid (slot_number r.endpoint.numerology s) (pos n))) (length-set r.places i q)
+
+pub put_own : (r : RingValue) (i : ℕ) (q : PlaceValue) (s : Slot) → IsRing r → i ≡ place_index r s → place_of (put r i q) s ≡ q
+put_own r i q s ring i_is =
+    ap (λ (j : ℕ). get_or (set r.places i q) j blank) (index_put r i q s ∙ sym i_is)
+    ∙ get_or-set_same r.places i q blank (subst (λ (j : ℕ). j < length r.places) (sym i_is) (index_within r s ring.some))
+
+pub put_other : (r : RingValue) (i : ℕ) (q : PlaceValue) (s : Slot) → (place_index r s ≡ i → ⊥) → place_of (put r i q) s ≡ place_of r s
+put_other r i q s ne =
+    ap (λ (j : ℕ). get_or (set r.places i q) j blank) (index_put r i q s)
+    ∙ get_or-set_other r.places i (place_index r s) q blank ne
+
+pub put_ring : (r : RingValue) (i : ℕ) (q : PlaceValue) → IsRing r → i < length r.places
+    → 14 * r.endpoint.prbs ≤ q.room → ((s : Slot) → q.slot ≡ Some s → IsSlot r.endpoint.numerology s × (place_index r s ≡ i))
+    → IsRing (put r i q)
+put_ring r i q ring within room home =
+    let len = length-set r.places i q in
+    record {
+      some = omega (arith, len, ring.some);
+      few = omega (arith, len, ring.few);
+      prbs_some = ring.prbs_some;
+      prbs_few = ring.prbs_few;
+      rooms = λ j below. elim (cases_eq j i) [
+        | inl e ↦ subst (λ (p : PlaceValue). 14 * r.endpoint.prbs ≤ p.room) (sym (here j e)) room
+        | inr ne ↦ subst (λ (p : PlaceValue). 14 * r.endpoint.prbs ≤ p.room) (sym (get_or-set_other r.places i j q blank ne)) (ring.rooms j (omega (arith, len, below)))
+      ];
+      homes = λ j s below is. elim (cases_eq j i) [
+        | inl e ↦
+            let h = home s (ap (λ (p : PlaceValue). p.slot) (sym (here j e)) ∙ is) in
+            (h.0, index_put r i q s ∙ h.1 ∙ sym e)
+        | inr ne ↦
+            let h = ring.homes j s (omega (arith, len, below)) (ap (λ (p : PlaceValue). p.slot) (sym (get_or-set_other r.places i j q blank ne)) ∙ is) in
+            (h.0, index_put r i q s ∙ h.1)
+      ];
+    }
+  where
+    here : (j : ℕ) → j ≡ i → get_or (set r.places i q) j blank ≡ q
+    here j e = ap (λ (k : ℕ). get_or (set r.places i q) k blank) e ∙ get_or-set_same r.places i q blank within
+
+-- a place that stays its slot's
+pub put_kept : (r : RingValue) (i : ℕ) (p q : PlaceValue) → IsRing r → i < length r.places → p ≡ get_or r.places i p → q.slot ≡ p.slot → q.room ≡ p.room
+    → IsRing (put r i q)
+put_kept r i p q ring within read slot room =
+    let there : p ≡ get_or r.places i blank = get_or_read r.places i p within read blank in
+    put_ring r i q ring within
+    (subst (λ (n : ℕ). 14 * r.endpoint.prbs ≤ n) (ap (λ (x : PlaceValue). x.room) (sym there) ∙ sym room) (ring.rooms i within))
+    (λ s is. ring.homes i s within (ap (λ (x : PlaceValue). x.slot) (sym there) ∙ sym slot ∙ is))
+
+some_own : (s t : Slot) → Some s ≡ Some t → s ≡ t
+some_own s t e = cc
+
+pub put_opened : (r : RingValue) (i : ℕ) (p q : PlaceValue) (slot : Slot) → IsRing r → i < length r.places → p ≡ get_or r.places i p
+    → IsSlot r.endpoint.numerology slot → i ≡ place_index r slot → q ≡ opened slot p → IsRing (put r i q)
+put_opened r i p q slot ring within read is i_is q_is = elim (cases_Bool (is_of p.slot slot)) [
+  | inl own ↦
+      let same : q ≡ p = rw own at q_is in
+      put_kept r i p q ring within read (ap (λ (x : PlaceValue). x.slot) same) (ap (λ (x : PlaceValue). x.room) same)
+  | inr other ↦
+      let there : p ≡ get_or r.places i blank = get_or_read r.places i p within read blank in
+      let new : q ≡ empty_place (Some slot) p.room = rw other at q_is in
+      put_ring r i q ring within
+      (subst (λ (n : ℕ). 14 * r.endpoint.prbs ≤ n) (ap (λ (x : PlaceValue). x.room) (sym there) ∙ sym (ap (λ (x : PlaceValue). x.room) new)) (ring.rooms i within))
+      (λ s e.
+      let s_is : slot ≡ s = some_own slot s (sym (ap (λ (x : PlaceValue). x.slot) new) ∙ e) in
+      (subst (λ (x : Slot). IsSlot r.endpoint.numerology x) s_is is, subst (λ (x : Slot). place_index r x ≡ i) s_is (sym i_is)))
+]
+
+-- what was read is the slot's place
+pub read_is : (r s : RingValue) (i : ℕ) (p : PlaceValue) (slot : Slot) → IsRing r → r ≡ s → i ≡ place_index s slot → p ≡ get_or r.places i p → p ≡ place_of s slot
+read_is r s i p slot ring same i_is read =
+    let i_there : i ≡ place_index r slot = i_is ∙ ap (λ (x : RingValue). place_index x slot) (sym same) in
+    let within : i < length r.places = subst (λ (j : ℕ). j < length r.places) (sym i_there) (index_within r slot ring.some) in
+    get_or_read r.places i p within read blank ∙ ap (λ (x : RingValue). get_or x.places i blank) same ∙ ap (λ (j : ℕ). get_or s.places j blank) i_is
+
+pub claims_moved : (prbs : ℕ) (a : Allocation) (p p' q q' : PlaceValue) (cell : Cell) (re : ℕ) → p ≡ p' → q' ≡ q
+    → place_claim prbs q cell re ≡ claim_after Accepted a cell re (place_claim prbs p cell re)
+    → place_claim prbs q' cell re ≡ claim_after Accepted a cell re (place_claim prbs p' cell re)
+claims_moved prbs a p p' q q' cell re was is fact =
+    ap (λ (x : PlaceValue). place_claim prbs x cell re) is ∙ fact ∙ ap (λ (x : PlaceValue). claim_after Accepted a cell re (place_claim prbs x cell re)) was
+
+-- the slot of the place at an index
+pub own_at : (r : RingValue) (i : ℕ) (p : PlaceValue) (s : Slot) → IsRing r → i < length r.places → p ≡ get_or r.places i p → p.slot ≡ Some s
+    → (has_slot r s ≡ true) × (place_index r s ≡ i)
+own_at r i p s ring within read is =
+    let there : p ≡ get_or r.places i blank = get_or_read r.places i p within read blank in
+    let owner : (get_or r.places i blank).slot ≡ Some s = ap (λ (x : PlaceValue). x.slot) (sym there) ∙ is in
+    let home = ring.homes i s within owner in
+    let at : (place_of r s).slot ≡ Some s = subst (λ (j : ℕ). (get_or r.places j blank).slot ≡ Some s) (sym home.1) owner in
+    (ap (λ (o : Option Slot). is_of o s) at ∙ of_own s, home.1)
+
+-- ---- a slot that has its place
+
+own_block : (r : RingValue) (cell : Cell) (slot : Slot) → cell.slot ≡ slot → has_slot r slot ≡ true
+    → ring_block r cell ≡ get_or (place_of r slot).blocks (cell_number r.endpoint.prbs cell.symbol cell.prb) None
+own_block r cell slot at own =
+    let there : place_of r cell.slot ≡ place_of r slot = ap (λ (s : Slot). place_of r s) at in
+    let owner : is_of (place_of r slot).slot cell.slot ≡ true = ap (λ (s : Slot). is_of (place_of r slot).slot s) at ∙ own in
+    ap (λ (p : PlaceValue). place_block r.endpoint.prbs p cell) there ∙ rw owner refl
+
+own_done : (r : RingValue) (cell : Cell) (slot : Slot) → cell.slot ≡ slot → has_slot r slot ≡ true
+    → ring_done r cell ≡ get_or (place_of r slot).done (cell_number r.endpoint.prbs cell.symbol cell.prb) false
+own_done r cell slot at own =
+    let there : place_of r cell.slot ≡ place_of r slot = ap (λ (s : Slot). place_of r s) at in
+    let owner : is_of (place_of r slot).slot cell.slot ≡ true = ap (λ (s : Slot). is_of (place_of r slot).slot s) at ∙ own in
+    ap (λ (p : PlaceValue). place_done r.endpoint.prbs p cell) there ∙ rw owner refl
+
+pub block_other : (old new : RingValue) (slot : Slot) (cell : Cell) (k : ℕ) → new.endpoint ≡ old.endpoint
+    → has_slot old slot ≡ true → has_slot new slot ≡ true → cell.slot ≡ slot → (cell_number old.endpoint.prbs cell.symbol cell.prb ≡ k → ⊥)
+    → ((i : ℕ) → (i ≡ k → ⊥) → get_or (place_of new slot).blocks i None ≡ get_or (place_of old slot).blocks i None)
+    → ring_block new cell ≡ ring_block old cell
+block_other old new slot cell k endpoint was is at apart others =
+    own_block new cell slot at is
+    ∙ ap (λ (n : ℕ). get_or (place_of new slot).blocks (cell_number n cell.symbol cell.prb) None) (ap (λ e. e.prbs) endpoint)
+    ∙ others _ apart ∙ sym (own_block old cell slot at was)
+
+pub done_other : (old new : RingValue) (slot : Slot) (cell : Cell) (k : ℕ) → new.endpoint ≡ old.endpoint
+    → has_slot old slot ≡ true → has_slot new slot ≡ true → cell.slot ≡ slot → (cell_number old.endpoint.prbs cell.symbol cell.prb ≡ k → ⊥)
+    → ((i : ℕ) → (i ≡ k → ⊥) → get_or (place_of new slot).done i false ≡ get_or (place_of old slot).done i false)
+    → ring_done new cell ≡ ring_done old cell
+done_other old new slot cell k endpoint was is at apart others =
+    own_done new cell slot at is
+    ∙ ap (λ (n : ℕ). get_or (place_of new slot).done (cell_number n cell.symbol cell.prb) false) (ap (λ e. e.prbs) endpoint)
+    ∙ others _ apart ∙ sym (own_done old cell slot at was)
+
+-- ---- a slot that is given its place
+
+opened_owner : (slot : Slot) (p : PlaceValue) → (opened slot p).slot ≡ Some slot
+opened_owner slot p = elim (cases_Bool (is_of p.slot slot)) [
+  | inl own ↦ rw own (of_is p.slot slot own)
+  | inr other ↦ rw other refl
+]
+
+opened_kept : (slot : Slot) (p : PlaceValue) → is_of p.slot slot ≡ true → opened slot p ≡ p
+opened_kept slot p own = rw own refl
+
+opened_claim : (prbs : ℕ) (p : PlaceValue) (cell : Cell) (re : ℕ) → place_claim prbs (opened cell.slot p) cell re ≡ place_claim prbs p cell re
+opened_claim prbs p cell re = elim (cases_Bool (is_of p.slot cell.slot)) [
+  | inl own ↦ ap (λ (q : PlaceValue). place_claim prbs q cell re) (opened_kept cell.slot p own)
+  | inr other ↦ let o = of_own cell.slot in rw (other, o) (none (marks_of (empty_place (Some cell.slot) p.room) cell.down) (no_marks_yet cell.down))
+]
+  where
+    no_marks_yet : (b : Bool) → marks_of (empty_place (Some cell.slot) p.room) b ≡ []
+    no_marks_yet true = refl
+    no_marks_yet false = refl
+
+    none : (ms : List Marks) → ms ≡ [] → claim_in (get_or ms (cell_number prbs cell.symbol cell.prb) no_marks) re ≡ None
+    none ms e = ap (λ (l : List Marks). claim_in (get_or l (cell_number prbs cell.symbol cell.prb) no_marks) re) e ∙ no_claim re
+
+opened_block : (prbs : ℕ) (p : PlaceValue) (cell : Cell) → place_block prbs (opened cell.slot p) cell ≡ place_block prbs p cell
+opened_block prbs p cell = elim (cases_Bool (is_of p.slot cell.slot)) [
+  | inl own ↦ ap (λ (q : PlaceValue). place_block prbs q cell) (opened_kept cell.slot p own)
+  | inr other ↦ let o = of_own cell.slot in rw (other, o) refl
+]
+
+opened_done : (prbs : ℕ) (p : PlaceValue) (cell : Cell) → place_done prbs (opened cell.slot p) cell ≡ place_done prbs p cell
+opened_done prbs p cell = elim (cases_Bool (is_of p.slot cell.slot)) [
+  | inl own ↦ ap (λ (q : PlaceValue). place_done prbs q cell) (opened_kept cell.slot p own)
+  | inr other ↦ let o = of_own cell.slot in rw (other, o) refl
+]
+
+opened_uplink : (p : PlaceValue) (slot : Slot) → place_uplink (opened slot p) slot ≡ place_uplink p slot
+opened_uplink p slot = elim (cases_Bool (is_of p.slot slot)) [
+  | inl own ↦ ap (λ (q : PlaceValue). place_uplink q slot) (opened_kept slot p own)
+  | inr other ↦ let o = of_own slot in rw (other, o) refl
+]
+
+module _ (old new : RingValue) (slot : Slot) (ring : IsRing old) (is : new ≡ with_place old slot (opened slot (place_of old slot))) where
+  endpoint_same : new.endpoint ≡ old.endpoint
+  endpoint_same = ap (λ (r : RingValue). r.endpoint) is
+
+  place_is : (s : Slot) → place_index old s ≡ place_index old slot → place_of new s ≡ opened slot (place_of old slot)
+  place_is s share = ap (λ (r : RingValue). place_of r s) is ∙ put_own old (place_index old slot) (opened slot (place_of old slot)) s ring (sym share)
+
+  pub opened_has : has_slot new slot ≡ true
+  opened_has = ap (λ (p : PlaceValue). is_of p.slot slot) (place_is slot refl) ∙ ap (λ (o : Option Slot). is_of o slot) (opened_owner slot (place_of old slot)) ∙ of_own slot
+
+  pub opened_claims : SameClaims slot old new
+  opened_claims cell re at =
+      let there : place_of new cell.slot ≡ opened cell.slot (place_of old cell.slot) =
+      subst (λ (s : Slot). place_of new s ≡ opened s (place_of old s)) (sym at) (place_is slot refl) in
+      ap (λ (p : PlaceValue). place_claim new.endpoint.prbs p cell re) there
+      ∙ ap (λ (n : ℕ). place_claim n (opened cell.slot (place_of old cell.slot)) cell re) (ap (λ e. e.prbs) endpoint_same)
+      ∙ opened_claim old.endpoint.prbs (place_of old cell.slot) cell re
+
+  pub opened_blocks : SameBlocks slot old new
+  opened_blocks cell at =
+      let there : place_of new cell.slot ≡ opened cell.slot (place_of old cell.slot) =
+      subst (λ (s : Slot). place_of new s ≡ opened s (place_of old s)) (sym at) (place_is slot refl) in
+      ap (λ (p : PlaceValue). place_block new.endpoint.prbs p cell) there
+      ∙ ap (λ (n : ℕ). place_block n (opened cell.slot (place_of old cell.slot)) cell) (ap (λ e. e.prbs) endpoint_same)
+      ∙ opened_block old.endpoint.prbs (place_of old cell.slot) cell
+
+  pub opened_dones : SameDone slot old new
+  opened_dones cell at =
+      let there : place_of new cell.slot ≡ opened cell.slot (place_of old cell.slot) =
+      subst (λ (s : Slot). place_of new s ≡ opened s (place_of old s)) (sym at) (place_is slot refl) in
+      ap (λ (p : PlaceValue). place_done new.endpoint.prbs p cell) there
+      ∙ ap (λ (n : ℕ). place_done n (opened cell.slot (place_of old cell.slot)) cell) (ap (λ e. e.prbs) endpoint_same)
+      ∙ opened_done old.endpoint.prbs (place_of old cell.slot) cell
+
+  pub opened_uplinks : SameUplink slot old new
+  opened_uplinks = ap (λ (p : PlaceValue). place_uplink p slot) (place_is slot refl) ∙ opened_uplink (place_of old slot) slot
+
+  pub opened_parted : (s : Slot) → SharePlace old s slot → (s ≡ slot → ⊥) → has_slot new s ≡ false
+  opened_parted s share ne =
+      ap (λ (p : PlaceValue). is_of p.slot s) (place_is s share) ∙ ap (λ (o : Option Slot). is_of o s) (opened_owner slot (place_of old slot))
+      ∙ false_from_ne_true _ (λ same. ne (sym (slot_is slot s same)))
+
+-- ---- a claim in a slot that has its place
+
+pub ring_accepted : (r : RingValue) (a : Allocation) → a.endpoint ≡ r.endpoint → verdict_by (ring_claim r) (length (ring_uplink r a.slot)) a ≡ Accepted
+    → verdict_by (place_claim a.endpoint.prbs (place_of r a.slot)) (length (place_uplink (place_of r a.slot) a.slot)) a ≡ Accepted
+ring_accepted r a is accepted = verdict_seen r a a.endpoint.prbs (place_of r a.slot) refl (ap (λ e. e.prbs) is) ∙ accepted
+
+-- ---- a ring of places that are no slot's
+
+pub slots_pushed : (xs : List PlaceValue) (p : PlaceValue) → ((i : ℕ) → (get_or xs i blank).slot ≡ None) → p.slot ≡ None
+    → (i : ℕ) → (get_or (xs ++ p ∷ []) i blank).slot ≡ None
+slots_pushed [] p all is zero = is
+slots_pushed [] p all is (suc i) = refl
+slots_pushed (x ∷ xs) p all is zero = all zero
+slots_pushed (x ∷ xs) p all is (suc i) = slots_pushed xs p (λ j. all (suc j)) is i
+
+pub rooms_pushed : (xs : List PlaceValue) (p : PlaceValue) (n : ℕ) → ((i : ℕ) → i < length xs → (get_or xs i blank).room ≡ n) → p.room ≡ n
+    → (i : ℕ) → i < length xs + 1 → (get_or (xs ++ p ∷ []) i blank).room ≡ n
+rooms_pushed [] p n all is zero below = is
+rooms_pushed [] p n all is (suc i) below = absurd (omega arith)
+rooms_pushed (x ∷ xs) p n all is zero below = all zero (omega arith)
+rooms_pushed (x ∷ xs) p n all is (suc i) below = rooms_pushed xs p n (λ j b. all (suc j) (omega arith)) is i (omega arith)

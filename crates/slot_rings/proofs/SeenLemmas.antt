@@ -1,0 +1,87 @@
+-- What the ring answers of a cell, by the lists of its place.
+use Rattle.std.proofs.Common.{◌≡◌, ℕ, zero, suc, ◌+◌, inl, inr, Bool, true, false, not, ◌&&◌, ◌==◌, List, length, get_or, refl, ap, ap₂, sym, ◌∙◌, arith, Option, Some, None, is_some}
+use Rattle.std.specs.Prelude.{IfSome}
+use Rattle.std.proofs.lemmas.Bool.{cases_Bool}
+use Rattle.fh_time.specs.declared.values.Slot.{Slot}
+use Rattle.unit_model.specs.Claims.{cell_at}
+use Rattle.unit_model.specs.Lists.{every, some}
+use Rattle.unit_model.specs.Radiated.{used_below, used_mask, id_from, cell_id}
+use Rattle.unit_model.specs.declared.allocations.Allocation.{Allocation}
+use Rattle.unit_model.specs.declared.cells.Block.{Block}
+use Rattle.unit_model.specs.declared.cells.Cell.{Cell}
+use Rattle.unit_model.specs.declared.cells.Claim.{Claim}
+use Rattle.slot_rings.specs.Places.{PlaceValue, claim_in, no_marks, is_of, is_due, marks_seen, blocks_seen, done_seen, place_claim, place_block, place_done, place_uplink, cell_number}
+use Rattle.slot_rings.specs.Rings.{RingValue, place_of, ring_claim, ring_block, ring_done, ring_uplink}
+use Rattle.slot_rings.specs.Verdicts.{verdict_by}
+use Rattle.slot_rings.specs.declared.marks.Marks.{Marks}
+use Rattle.slot_rings.proofs.RangeLemmas.{every_same, some_same}
+use Rattle.slot_rings.proofs.PlaceLemmas.{seen, verdict_same}
+
+used_same : (f g : ℕ → Option Claim) → ((re : ℕ) → f re ≡ g re) → (n : ℕ) → used_below f n ≡ used_below g n
+unfolding used_below
+used_same f g same zero = refl
+used_same f g same (suc n) = let here = same n in let before = used_same f g same n in rw (here, before) refl
+
+id_same : (f g : ℕ → Option Claim) → ((re : ℕ) → f re ≡ g re) → (from n : ℕ) → id_from f from n ≡ id_from g from n
+unfolding id_from
+id_same f g same from zero = refl
+id_same f g same from (suc n) = let here = same from in let rest = id_same f g same (from + 1) n in rw (here, rest) refl
+
+block_seen : (prbs : ℕ) (p : PlaceValue) (cell : Cell) → get_or (blocks_seen p cell.slot) (cell_number prbs cell.symbol cell.prb) None ≡ place_block prbs p cell
+block_seen prbs p cell = elim (cases_Bool (is_of p.slot cell.slot)) [
+  | inl own ↦ rw own refl
+  | inr other ↦ rw other refl
+]
+
+flag_seen : (prbs : ℕ) (p : PlaceValue) (cell : Cell) → get_or (done_seen p cell.slot) (cell_number prbs cell.symbol cell.prb) false ≡ place_done prbs p cell
+flag_seen prbs p cell = elim (cases_Bool (is_of p.slot cell.slot)) [
+  | inl own ↦ rw own refl
+  | inr other ↦ rw other refl
+]
+
+module _ (r : RingValue) (slot : Slot) (symbol prb ep : ℕ) (m : Marks)
+    (m_is : m ≡ get_or (marks_seen (place_of r slot) slot true) (cell_number r.endpoint.prbs symbol prb) no_marks) where
+  one_seen : (re : ℕ) → claim_in m re ≡ ring_claim r (cell_at ep true slot symbol prb) re
+  one_seen re = ap (λ (x : Marks). claim_in x re) m_is ∙ sym (seen r.endpoint.prbs (place_of r slot) (cell_at ep true slot symbol prb) re)
+
+  pub mask_seen : used_mask (claim_in m) ≡ used_mask (ring_claim r (cell_at ep true slot symbol prb))
+  mask_seen = used_same _ _ one_seen 12
+
+  pub section_seen : cell_id (claim_in m) ≡ cell_id (ring_claim r (cell_at ep true slot symbol prb))
+  section_seen = id_same _ _ one_seen 0 12
+
+row_at : (prbs symbol base n : ℕ) → base ≡ cell_number prbs symbol 0 → base + n ≡ cell_number prbs symbol n
+row_at prbs symbol base n e = omega (arith, e)
+
+pub due_seen : (r : RingValue) (slot : Slot) (symbol base ep : ℕ) (ms : List Marks) (ds : List Bool) → base ≡ cell_number r.endpoint.prbs symbol 0
+    → ms ≡ marks_seen (place_of r slot) slot true → ds ≡ done_seen (place_of r slot) slot
+    → some 0 r.endpoint.prbs (λ n. is_due (claim_in (get_or ms (base + n) no_marks)) (get_or ds (base + n) false))
+    ≡ some 0 r.endpoint.prbs (λ prb. is_due (ring_claim r (cell_at ep true slot symbol prb)) (ring_done r (cell_at ep true slot symbol prb)))
+due_seen r slot symbol base ep ms ds base_is ms_is ds_is = some_same 0 r.endpoint.prbs _ _ (λ n low high.
+    let at = row_at r.endpoint.prbs symbol base n base_is in
+    let m_is : get_or ms (base + n) no_marks ≡ get_or (marks_seen (place_of r slot) slot true) (cell_number r.endpoint.prbs symbol n) no_marks =
+    ap (λ (l : List Marks). get_or l (base + n) no_marks) ms_is ∙ ap (λ (k : ℕ). get_or (marks_seen (place_of r slot) slot true) k no_marks) at in
+    let d_is : get_or ds (base + n) false ≡ ring_done r (cell_at ep true slot symbol n) =
+    ap (λ (l : List Bool). get_or l (base + n) false) ds_is ∙ ap (λ (k : ℕ). get_or (done_seen (place_of r slot) slot) k false) at
+    ∙ flag_seen r.endpoint.prbs (place_of r slot) (cell_at ep true slot symbol n) in
+    ap₂ (λ (u : ℕ) (d : Bool). not (u == 0) && not d) (mask_seen r slot symbol n ep _ m_is) d_is)
+
+pub all_seen : (r : RingValue) (slot : Slot) (symbol first count base ep : ℕ) (bs : List (Option Block)) → base ≡ cell_number r.endpoint.prbs symbol 0
+    → bs ≡ blocks_seen (place_of r slot) slot
+    → every first count (λ n. is_some (get_or bs (base + n) None)) ≡ every first count (λ prb. is_some (ring_block r (cell_at ep true slot symbol prb)))
+all_seen r slot symbol first count base ep bs base_is bs_is = every_same first count _ _ (λ n low high.
+    let at = row_at r.endpoint.prbs symbol base n base_is in
+    ap (λ (o : Option Block). is_some o) (ap (λ (l : List (Option Block)). get_or l (base + n) None) bs_is
+    ∙ ap (λ (k : ℕ). get_or (blocks_seen (place_of r slot) slot) k None) at
+    ∙ block_seen r.endpoint.prbs (place_of r slot) (cell_at ep true slot symbol n)))
+
+pub verdict_seen : (r : RingValue) (a : Allocation) (prbs : ℕ) (p : PlaceValue) → p ≡ place_of r a.slot → prbs ≡ r.endpoint.prbs
+    → verdict_by (place_claim prbs p) (length (place_uplink p a.slot)) a ≡ verdict_by (ring_claim r) (length (ring_uplink r a.slot)) a
+verdict_seen r a prbs p p_is prbs_is =
+    ap (λ (q : PlaceValue). verdict_by (place_claim prbs q) (length (place_uplink q a.slot)) a) p_is
+    ∙ ap (λ (n : ℕ). verdict_by (place_claim n (place_of r a.slot)) (length (place_uplink (place_of r a.slot) a.slot)) a) prbs_is
+    ∙ verdict_same (place_claim r.endpoint.prbs (place_of r a.slot)) (ring_claim r) _ a (λ y n re. refl)
+
+pub if_some : {A : Type 0} (o : Option A) {P : A → Type 0} → ((x : A) → o ≡ Some x → P x) → IfSome o P
+if_some None f = tt
+if_some (Some x) f = f x refl

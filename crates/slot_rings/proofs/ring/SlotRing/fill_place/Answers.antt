@@ -1,0 +1,12 @@
+use Rattle.std.proofs.Common.{◌<◌, ap, sym, subst, length}
+use Rattle.slot_rings.specs.Places.{PlaceValue}
+use Rattle.slot_rings.specs.Rings.{RingValue}
+use Rattle.slot_rings.proofs.RingLemmas.{put_kept}
+use Rattle.slot_rings.proofs.ring.SlotRing.fill_place.Goals as goal
+
+pub invariant_of-self : goal.invariant_of-self
+invariant_of-self c =
+    let r : RingValue = record { endpoint = c.self.inside.endpoint; places = c.self.inside.places.items } in
+    put_kept r c.index-index.result c.index_mut.result.now c.fill.new.self c.self.invariant
+    (subst (λ (x : RingValue). c.index-index.result < length x.places) (sym c.self.view_is) c.index-index.ensures.within) c.index_mut.ensures.value
+    (ap (λ (p : PlaceValue). p.slot) c.fill.ensures.kept) (ap (λ (p : PlaceValue). p.room) c.fill.ensures.kept)

@@ -1,0 +1,18 @@
+use Rattle.std.proofs.Common.{◌≡◌, ◌*◌, ap, sym, subst, arith, length, vec_len, get_or, List, None}
+use Rattle.slot_rings.specs.Places.{PlaceValue, blank}
+use Rattle.slot_rings.proofs.RingLemmas.{slots_pushed, rooms_pushed}
+use Rattle.slot_rings.proofs.ring.SlotRing.make.Goals as goal
+
+pub loop-k-preserved : goal.loop-k-preserved
+loop-k-preserved c =
+    let items = c.in_ok-push.ensures.items in
+    let len : vec_len c.loop-k.places ≡ length c.loop-k.places.items = omega (arith, c.loop-k.places.ok.0) in
+    let place = c.in_ok-place.ensures in
+    record {
+      len = omega (arith, c.in_ok-push.ensures.len, c.loop-k.invariant.len);
+      slots = λ i. subst (λ (xs : List PlaceValue). (get_or xs i blank).slot ≡ None) (sym items)
+          (slots_pushed c.loop-k.places.items c.in_ok-place.place c.loop-k.invariant.slots (ap (λ (p : PlaceValue). p.slot) place) i);
+      rooms = λ i below. subst (λ (xs : List PlaceValue). (get_or xs i blank).room ≡ 14 * c.args.endpoint.prbs) (sym items)
+          (rooms_pushed c.loop-k.places.items c.in_ok-place.place (14 * c.args.endpoint.prbs) (λ j b. c.loop-k.invariant.rooms j (omega (arith, b, len)))
+          (ap (λ (p : PlaceValue). p.room) place) i (omega (arith, below, c.in_ok-push.ensures.len, len)));
+    }

@@ -1,0 +1,10 @@
+use Rattle.std.proofs.Common.{◌≡◌, ℕ, ◌<◌, get_or, vec_len, None}
+use Rattle.slot_rings.specs.Places.{blank}
+use Rattle.slot_rings.proofs.ring.SlotRing.make.Given as goal
+
+abbrev pub invariant-loop-k : goal.invariant-loop-k
+invariant-loop-k l = record {
+  len : vec_len l.places ≡ l._k;
+  slots : (i : ℕ) → (get_or l.places.items i blank).slot ≡ None;
+  rooms : (i : ℕ) → i < vec_len l.places → (get_or l.places.items i blank).room ≡ l.room;
+}

@@ -1,0 +1,20 @@
+use Rattle.slot_rings.proofs.RingLemmas.{opened_has, opened_claims, opened_blocks, opened_dones, opened_uplinks, opened_parted}
+use Rattle.slot_rings.proofs.ring.SlotRing.open.Goals as goal
+
+pub returns-clause-has : goal.returns-clause-has
+returns-clause-has c = opened_has c.args.self.now c.open_place.new.self c.args.slot c.open_place.ensures.ring c.open_place.ensures.only
+
+pub returns-clause-claims : goal.returns-clause-claims
+returns-clause-claims c = opened_claims c.args.self.now c.open_place.new.self c.args.slot c.open_place.ensures.ring c.open_place.ensures.only
+
+pub returns-clause-blocks : goal.returns-clause-blocks
+returns-clause-blocks c = opened_blocks c.args.self.now c.open_place.new.self c.args.slot c.open_place.ensures.ring c.open_place.ensures.only
+
+pub returns-clause-done : goal.returns-clause-done
+returns-clause-done c = opened_dones c.args.self.now c.open_place.new.self c.args.slot c.open_place.ensures.ring c.open_place.ensures.only
+
+pub returns-clause-uplink : goal.returns-clause-uplink
+returns-clause-uplink c = opened_uplinks c.args.self.now c.open_place.new.self c.args.slot c.open_place.ensures.ring c.open_place.ensures.only
+
+pub returns-clause-parted : goal.returns-clause-parted
+returns-clause-parted c = opened_parted c.args.self.now c.open_place.new.self c.args.slot c.open_place.ensures.ring c.open_place.ensures.only

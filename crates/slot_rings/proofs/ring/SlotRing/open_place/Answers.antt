@@ -1,0 +1,13 @@
+use Rattle.std.proofs.Common.{◌<◌, ◌∙◌, ap, sym, subst, length}
+use Rattle.unit_model.specs.Proper.{IsSlot}
+use Rattle.slot_rings.specs.Rings.{RingValue, place_index}
+use Rattle.slot_rings.proofs.RingLemmas.{put_opened}
+use Rattle.slot_rings.proofs.ring.SlotRing.open_place.Goals as goal
+
+pub invariant_of-self : goal.invariant_of-self
+invariant_of-self c =
+    let r : RingValue = record { endpoint = c.self.inside.endpoint; places = c.self.inside.places.items } in
+    put_opened r c.index-index.result c.index_mut.result.now c.open.new.self c.args.slot c.self.invariant
+    (subst (λ (x : RingValue). c.index-index.result < length x.places) (sym c.self.view_is) c.index-index.ensures.within) c.index_mut.ensures.value
+    (subst (λ (x : RingValue). IsSlot x.endpoint.numerology c.args.slot) (sym c.self.view_is) c.requires)
+    (c.index-index.ensures.value ∙ ap (λ (x : RingValue). place_index x c.args.slot) (sym c.self.view_is)) c.open.ensures

@@ -1,0 +1,169 @@
+// Allocations against the claims of their slot.
+ghost use Rattle.std.specs.Prelude.{◌≡◌, ℕ, ◌+◌, ◌*◌, ◌^◌, ◌<◌, ◌≤◌, ◌&&◌, false, get_or, vec_capacity, if◌then◌else◌, Some};
+ghost use Rattle.uplane_sections.specs.Section.{is_outside};
+ghost use Rattle.unit_model.specs.Claims.{first_prb, prb_count, in_mask, is_from, is_claimed, is_overlapped, claim_of};
+ghost use Rattle.unit_model.specs.Commands.{is_uplink};
+ghost use Rattle.unit_model.specs.Lists.{every, some};
+ghost use Rattle.slot_rings.specs.Places.{claim_in, claims_in, no_marks};
+ghost use Rattle.slot_rings.specs.Verdicts.{repeats_by, overlaps_by, verdict_by};
+
+use crate::lists::reach;
+use crate::marks::{Marks, NONE};
+use unit_model::{Allocation, CommandVerdict};
+
+/// How many uplink sections a slot takes.
+pub(crate) const MOST_UPLINK: usize = 64;
+
+/// The first PRB that an allocation covers.
+pub(crate) fn first_prb(a: &Allocation) -> usize
+    ensures { result ≡ first_prb a.now }
+{
+    if a.num_prb == 0 {
+        0
+    } else {
+        a.start_prb as usize
+    }
+}
+
+/// How many PRBs it covers.
+pub(crate) fn prb_count(a: &Allocation) -> usize
+    ensures { result ≡ prb_count a.now }
+{
+    if a.num_prb == 0 {
+        a.endpoint.prbs as usize
+    } else {
+        a.num_prb as usize
+    }
+}
+
+/// Whether it goes past its carrier.
+fn is_outside(a: &Allocation) -> bool
+    ensures { result ≡ is_outside a.now.endpoint.prbs a.now.start_prb a.now.num_prb }
+{
+    a.num_prb != 0 && u32::from(a.endpoint.prbs) < u32::from(a.start_prb) + u32::from(a.num_prb)
+}
+
+/// Whether the radio unit sends data for it.
+pub(crate) fn is_uplink(a: &Allocation) -> bool
+    ensures { result ≡ is_uplink a.now }
+{
+    !a.down && !a.idle
+}
+
+/// The marks of one cell.
+pub(crate) fn marks_at(marks: &[Marks], k: usize) -> Marks
+    ensures { result ≡ get_or marks.now k no_marks }
+{
+    if k < marks.len() { marks[k] } else { NONE }
+}
+
+/// Whether each cell of one symbol that an allocation covers has its claims. The symbol's cells begin at number `base`.
+fn row_has(marks: &[Marks], base: usize, a: &Allocation) -> bool
+    requires { base < 2 ^ 32 }
+    ensures { result ≡ every (first_prb a.now) (prb_count a.now)
+        (λ n. is_claimed a.now.section a.now.mask (claim_in (get_or marks.now (base + n) no_marks))) }
+{
+    let first = first_prb(a);
+    for n in first..first + prb_count(a) {
+        if !marks_at(marks, base + n).has(a.section, a.mask) {
+            return false;
+        }
+    }
+    true
+}
+
+/// Whether a cell of one symbol that an allocation covers has a claim against it.
+fn row_clashes(marks: &[Marks], base: usize, a: &Allocation) -> bool
+    requires { base < 2 ^ 32 }
+    ensures { result ≡ some (first_prb a.now) (prb_count a.now)
+        (λ n. is_overlapped a.now.section a.now.mask (claim_in (get_or marks.now (base + n) no_marks))) }
+{
+    let first = first_prb(a);
+    for n in first..first + prb_count(a) {
+        if marks_at(marks, base + n).clashes(a.section, a.mask) {
+            return true;
+        }
+    }
+    false
+}
+
+/// Whether all that an allocation names is claimed under its id.
+fn repeats(marks: &[Marks], a: &Allocation) -> bool
+    ensures { result ≡ repeats_by (claims_in a.now.endpoint.prbs marks.now) a.now }
+{
+    let prbs = a.endpoint.prbs as usize;
+    let first = a.symbol as usize;
+    for symbol in first..first + a.num_symbol as usize {
+        if !row_has(marks, symbol * prbs, a) {
+            return false;
+        }
+    }
+    true
+}
+
+/// Whether a cell that an allocation covers has a claim against it.
+fn overlaps(marks: &[Marks], a: &Allocation) -> bool
+    ensures { result ≡ overlaps_by (claims_in a.now.endpoint.prbs marks.now) a.now }
+{
+    let prbs = a.endpoint.prbs as usize;
+    let first = a.symbol as usize;
+    for symbol in first..first + a.num_symbol as usize {
+        if row_clashes(marks, symbol * prbs, a) {
+            return true;
+        }
+    }
+    false
+}
+
+/// The verdict on an allocation that is on time, over the marks of its slot and direction and the number of its uplink
+/// sections.
+pub(crate) fn verdict(marks: &[Marks], uplinks: usize, a: &Allocation) -> CommandVerdict
+    ensures { result ≡ verdict_by (claims_in a.now.endpoint.prbs marks.now) uplinks a.now }
+{
+    if is_outside(a) {
+        CommandVerdict::Range
+    } else if repeats(marks, a) {
+        CommandVerdict::Repeat
+    } else if overlaps(marks, a) {
+        CommandVerdict::Overlap
+    } else if is_uplink(a) && MOST_UPLINK <= uplinks {
+        CommandVerdict::Full
+    } else {
+        CommandVerdict::Accepted
+    }
+}
+
+/// Claims the cells from number `from` on.
+fn claim_row(marks: &mut Vec<Marks>, from: usize, count: usize, a: &Allocation)
+    requires room { from + count ≤ vec_capacity marks.old }
+    requires small { from + count < 2 ^ 32 }
+    requires free { (k : ℕ) → from ≤ k → k < from + count
+        → is_overlapped a.now.section a.now.mask (claim_in (get_or marks.old.items k no_marks)) ≡ false }
+    ensures each { (k re : ℕ) → re < 12 → claim_in (get_or marks.new.items k no_marks) re
+        ≡ (if is_from from count k && in_mask a.now.mask re then Some (claim_of a.now) else claim_in (get_or marks.old.items k no_marks) re) }
+    ensures capacity { vec_capacity marks.old ≤ vec_capacity marks.new }
+{
+    reach(marks, from + count, NONE);
+    for k in from..from + count {
+        marks[k] = marks[k].with(a.section, a.mask, a.idle);
+    }
+}
+
+/// Claims all that an allocation names, where nothing is claimed against it.
+pub(crate) fn claim(marks: &mut Vec<Marks>, a: &Allocation)
+    requires within { a.now.symbol + a.now.num_symbol ≤ 14 }
+    requires inside { is_outside a.now.endpoint.prbs a.now.start_prb a.now.num_prb ≡ false }
+    requires room { 14 * a.now.endpoint.prbs ≤ vec_capacity marks.old }
+    requires free { overlaps_by (claims_in a.now.endpoint.prbs marks.old.items) a.now ≡ false }
+    ensures each { (symbol prb re : ℕ) → prb < a.now.endpoint.prbs → re < 12
+        → claim_in (get_or marks.new.items (symbol * a.now.endpoint.prbs + prb) no_marks) re
+        ≡ (if (is_from a.now.symbol a.now.num_symbol symbol && is_from (first_prb a.now) (prb_count a.now) prb) && in_mask a.now.mask re then Some (claim_of a.now)
+        else claim_in (get_or marks.old.items (symbol * a.now.endpoint.prbs + prb) no_marks) re) }
+    ensures capacity { vec_capacity marks.old ≤ vec_capacity marks.new }
+{
+    let prbs = a.endpoint.prbs as usize;
+    let first = a.symbol as usize;
+    for symbol in first..first + a.num_symbol as usize {
+        claim_row(marks, symbol * prbs + first_prb(a), prb_count(a), a);
+    }
+}

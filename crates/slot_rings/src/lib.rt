@@ -1,0 +1,25 @@
+//! The memory of one endpoint of a radio unit: what sections claim of the cells of its slots, the blocks that came for
+//! them, which cells were reported, and the accepted uplink sections.
+//!
+//! A `SlotRing` takes all its memory when it is made, and no other call asks for any. It is a ring of places, each that of
+//! one slot at a time; a slot gets its place by `open`, which forgets what was kept of another slot there. Contracts speak
+//! of what is looked up for a cell (`specs/Rings.antt`), and never of places: where a slot has none, nothing is known of it.
+//!
+//! The claims of a cell are one section id and two masks of its twelve resource elements, and tests on them are bit
+//! operations. The verdicts are this project's profile; reMask, sectionId, startPrbc, numPrbc and numSymbol are those of
+//! O-RAN.WG4.CUS.
+#![tactic(auto)]
+
+mod index;
+mod judging;
+mod lists;
+mod marks;
+mod place;
+mod ring;
+mod scans;
+
+pub use marks::Marks;
+pub use ring::{SlotRing, Use};
+
+#[cfg(test)]
+mod tests;

@@ -1,0 +1,283 @@
+// The memory of one slot.
+ghost use Rattle.std.specs.Prelude.{◌≡◌, ◌≢◌, ℕ, ◌+◌, ◌*◌, ◌<◌, ◌≤◌, true, false, length, get_or, reverse, if◌then◌else◌, IfOk, None, Some, option_copied, vec_capacity};
+ghost use Rattle.uplane_sections.specs.Section.{is_outside};
+ghost use Rattle.unit_model.specs.Claims.{same_slot};
+ghost use Rattle.unit_model.specs.Commands.{is_uplink};
+ghost use Rattle.unit_model.specs.Lists.{or_else};
+ghost use Rattle.unit_model.specs.declared.cells.Cell.{Cell};
+ghost use Rattle.unit_model.specs.declared.verdicts.CommandVerdict.TheVariants.{Accepted};
+ghost use Rattle.slot_rings.specs.Verdicts.{uplink_after};
+ghost use Rattle.slot_rings.specs.Places.{is_of};
+
+use crate::judging::{MOST_UPLINK, claim, is_uplink, verdict};
+use crate::lists::reach;
+use crate::marks::Marks;
+use fh_base::NoMemory;
+use fh_time::Slot;
+use std::alloc::Global;
+use std::marker::Model;
+use unit_model::{Allocation, Block, CommandVerdict};
+
+/// What is kept of one slot of an endpoint. Its memory is taken when it is made, as room in lists that begin empty: so a
+/// place is wiped by ending its lists.
+#[derive(Drop)]
+pub(crate) struct Place {
+    // whose slot it is
+    slot: Option<Slot>,
+    // the cells of one direction
+    room: usize,
+    down: Vec<Marks>,
+    up: Vec<Marks>,
+    blocks: Vec<Option<Block>>,
+    done: Vec<bool>,
+    // the newest last
+    uplink: Vec<Allocation>,
+}
+
+impl Model for Place {
+    ghost use Rattle.std.specs.Prelude.{◌≤◌, reverse, vec_capacity};
+    ghost use Rattle.slot_rings.specs.Places.{PlaceValue};
+
+    ghost Value = { PlaceValue };
+
+    ghost view = { λ p. record { slot = p.slot; room = p.room; down = p.down.items; up = p.up.items; blocks = p.blocks.items; done = p.done.items; uplink = reverse p.uplink.items } };
+
+    ghost invariant = { λ p. (p.room ≤ vec_capacity p.down) × (p.room ≤ vec_capacity p.up) × (p.room ≤ vec_capacity p.blocks)
+        × (p.room ≤ vec_capacity p.done) × (64 ≤ vec_capacity p.uplink) };
+}
+
+/// Whether two slots are the same one.
+fn same_slot(a: Slot, b: Slot) -> bool
+    ensures { result ≡ same_slot a b }
+{
+    a.frame == b.frame && a.subframe == b.subframe && a.slot == b.slot
+}
+
+/// Whether a slot is the owner.
+fn is_of(owner: Option<Slot>, slot: Slot) -> bool
+    ensures { result ≡ is_of owner slot }
+{
+    match owner {
+        None => false,
+        Some(s) => same_slot(s, slot),
+    }
+}
+
+/// Appends an accepted section, where it is one for which the radio unit sends data.
+fn keep(uplink: &mut Vec<Allocation>, a: &Allocation)
+    requires room { 64 ≤ vec_capacity uplink.old }
+    requires few { is_uplink a.now ≡ true → length uplink.old.items < 64 }
+    ensures items { reverse uplink.new.items ≡ uplink_after Accepted a.now (reverse uplink.old.items) }
+    ensures capacity { vec_capacity uplink.old ≤ vec_capacity uplink.new }
+{
+    if is_uplink(a) {
+        let pushed = uplink.push(*a).is_ok();
+        prove!(pushed);
+    }
+}
+
+/// Writes a block where none is yet.
+fn fill(blocks: &mut Vec<Option<Block>>, k: usize, block: &Block)
+    requires { k < vec_capacity blocks.old }
+    ensures here { get_or blocks.new.items k None ≡ or_else (get_or blocks.old.items k None) (Some block.now) }
+    ensures others { (i : ℕ) → i ≢ k → get_or blocks.new.items i None ≡ get_or blocks.old.items i None }
+    ensures capacity { vec_capacity blocks.old ≤ vec_capacity blocks.new }
+{
+    if k < blocks.len() {
+        if blocks[k].is_none() {
+            blocks[k] = Some(*block);
+        }
+        return;
+    }
+    reach(blocks, k, None);
+    let pushed = blocks.push(Some(*block)).is_ok();
+    prove!(pushed);
+}
+
+/// Marks one cell.
+fn mark(done: &mut Vec<bool>, k: usize)
+    requires { k < vec_capacity done.old }
+    ensures here { get_or done.new.items k false ≡ true }
+    ensures others { (i : ℕ) → i ≢ k → get_or done.new.items i false ≡ get_or done.old.items i false }
+    ensures capacity { vec_capacity done.old ≤ vec_capacity done.new }
+{
+    reach(done, k + 1, false);
+    done[k] = true;
+}
+
+impl Place {
+    ghost use Rattle.slot_rings.specs.Places.{empty_place, opened, marks_seen, blocks_seen, done_seen, place_claim, place_uplink};
+    ghost use Rattle.slot_rings.specs.Verdicts.{overlaps_by, verdict_by, claim_after};
+
+    /// Takes all memory, for so many cells of a direction.
+    pub(crate) fn make(alloc: Global, room: usize) -> Result<Place, NoMemory>
+        ensures { IfOk result (λ p. p ≡ empty_place None room) }
+    {
+        let down = Vec::with_capacity(alloc, room)?;
+        let up = Vec::with_capacity(alloc, room)?;
+        let blocks = Vec::with_capacity(alloc, room)?;
+        let done = Vec::with_capacity(alloc, room)?;
+        let uplink = Vec::with_capacity(alloc, MOST_UPLINK)?;
+        Ok(Place {
+            slot: None,
+            room,
+            down,
+            up,
+            blocks,
+            done,
+            uplink,
+        })
+    }
+
+    /// Whether it is this slot's.
+    pub(crate) fn has(&self, slot: Slot) -> bool
+        ensures { result ≡ is_of self.now.slot slot }
+    {
+        is_of(self.slot, slot)
+    }
+
+    /// Whose slot it is.
+    pub(crate) fn slot(&self) -> Option<Slot>
+        ensures { result ≡ self.now.slot }
+    {
+        self.slot
+    }
+
+    /// Gives it to a slot, and forgets all.
+    fn wipe(&mut self, slot: Slot)
+        ensures { self.new ≡ empty_place (Some slot) self.old.room }
+    {
+        self.slot = Some(slot);
+        self.down.clear();
+        self.up.clear();
+        self.blocks.clear();
+        self.done.clear();
+        self.uplink.clear();
+    }
+
+    /// Gives it to a slot, and forgets what is of another one.
+    pub(crate) fn open(&mut self, slot: Slot)
+        ensures { self.new ≡ opened slot self.old }
+    {
+        if !self.has(slot) {
+            self.wipe(slot);
+        }
+    }
+
+    /// The claims on the cells of a slot and direction.
+    pub(crate) fn marks(&self, slot: Slot, down: bool) -> &[Marks]
+        ensures { result.now ≡ marks_seen self.now slot down }
+    {
+        if self.has(slot) {
+            if down {
+                self.down.as_slice()
+            } else {
+                self.up.as_slice()
+            }
+        } else {
+            &[]
+        }
+    }
+
+    /// The accepted uplink sections of a slot, the newest last.
+    pub(crate) fn uplink(&self, slot: Slot) -> &[Allocation]
+        ensures { reverse result.now ≡ place_uplink self.now slot }
+    {
+        if self.has(slot) {
+            self.uplink.as_slice()
+        } else {
+            &[]
+        }
+    }
+
+    /// The verdict on an allocation that is on time.
+    pub(crate) fn judge(&self, a: &Allocation) -> CommandVerdict
+        ensures { result ≡ verdict_by (place_claim a.now.endpoint.prbs self.now) (length (place_uplink self.now a.now.slot)) a.now }
+    {
+        let uplinks = self.uplink(a.slot).len();
+        verdict(self.marks(a.slot, a.down), uplinks, a)
+    }
+
+    /// Claims what an accepted allocation names.
+    fn claim_marks(&mut self, a: &Allocation)
+        requires slot { is_of self.old.slot a.now.slot ≡ true }
+        requires within { a.now.symbol + a.now.num_symbol ≤ 14 }
+        requires inside { is_outside a.now.endpoint.prbs a.now.start_prb a.now.num_prb ≡ false }
+        requires room { 14 * a.now.endpoint.prbs ≤ self.old.room }
+        requires free { overlaps_by (place_claim a.now.endpoint.prbs self.old) a.now ≡ false }
+        ensures claims { (cell : Cell) (re : ℕ) → cell.ep ≡ a.now.ep → cell.slot ≡ a.now.slot → cell.prb < a.now.endpoint.prbs → re < 12
+            → place_claim a.now.endpoint.prbs self.new cell re ≡ claim_after Accepted a.now cell re (place_claim a.now.endpoint.prbs self.old cell re) }
+        ensures kept { self.new ≡ record self.old { down = self.new.down; up = self.new.up } }
+    {
+        if a.down {
+            claim(&mut self.down, a);
+        } else {
+            claim(&mut self.up, a);
+        }
+    }
+
+    /// Keeps an accepted uplink section.
+    fn keep(&mut self, a: &Allocation)
+        requires { is_uplink a.now ≡ true → length self.old.uplink < 64 }
+        ensures { self.new ≡ record self.old { uplink = uplink_after Accepted a.now self.old.uplink } }
+    {
+        keep(&mut self.uplink, a);
+    }
+
+    /// Claims what an accepted allocation names, and keeps it where it is an uplink section.
+    pub(crate) fn claim(&mut self, a: &Allocation)
+        requires slot { is_of self.old.slot a.now.slot ≡ true }
+        requires within { a.now.symbol + a.now.num_symbol ≤ 14 }
+        requires room { 14 * a.now.endpoint.prbs ≤ self.old.room }
+        requires accepted { verdict_by (place_claim a.now.endpoint.prbs self.old) (length (place_uplink self.old a.now.slot)) a.now ≡ Accepted }
+        ensures claims { (cell : Cell) (re : ℕ) → cell.ep ≡ a.now.ep → cell.slot ≡ a.now.slot → cell.prb < a.now.endpoint.prbs → re < 12
+            → place_claim a.now.endpoint.prbs self.new cell re ≡ claim_after Accepted a.now cell re (place_claim a.now.endpoint.prbs self.old cell re) }
+        ensures uplink { self.new.uplink ≡ uplink_after Accepted a.now self.old.uplink }
+        ensures kept { self.new ≡ record self.old { down = self.new.down; up = self.new.up; uplink = self.new.uplink } }
+    {
+        self.claim_marks(a);
+        self.keep(a);
+    }
+
+    /// The blocks of a slot.
+    pub(crate) fn blocks(&self, slot: Slot) -> &[Option<Block>]
+        ensures { result.now ≡ blocks_seen self.now slot }
+    {
+        if self.has(slot) {
+            self.blocks.as_slice()
+        } else {
+            &[]
+        }
+    }
+
+    /// Which downlink cells of a slot were reported.
+    pub(crate) fn done(&self, slot: Slot) -> &[bool]
+        ensures { result.now ≡ done_seen self.now slot }
+    {
+        if self.has(slot) {
+            self.done.as_slice()
+        } else {
+            &[]
+        }
+    }
+
+    /// Gives a downlink cell a block, where it has none.
+    pub(crate) fn fill(&mut self, k: usize, block: &Block)
+        requires { k < self.old.room }
+        ensures here { get_or self.new.blocks k None ≡ or_else (get_or self.old.blocks k None) (Some block.now) }
+        ensures others { (i : ℕ) → i ≢ k → get_or self.new.blocks i None ≡ get_or self.old.blocks i None }
+        ensures kept { self.new ≡ record self.old { blocks = self.new.blocks } }
+    {
+        fill(&mut self.blocks, k, block);
+    }
+
+    /// Marks a downlink cell as reported.
+    pub(crate) fn mark_done(&mut self, k: usize)
+        requires { k < self.old.room }
+        ensures here { get_or self.new.done k false ≡ true }
+        ensures others { (i : ℕ) → i ≢ k → get_or self.new.done i false ≡ get_or self.old.done i false }
+        ensures kept { self.new ≡ record self.old { done = self.new.done } }
+    {
+        mark(&mut self.done, k);
+    }
+}

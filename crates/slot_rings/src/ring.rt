@@ -1,0 +1,335 @@
+// The ring of places.
+ghost use Rattle.std.specs.Prelude.{◌≡◌, ◌≢◌, ℕ, ◌+◌, ◌*◌, ◌<◌, ◌≤◌, ◌↔◌, true, false, length, get_or, reverse, is_some, IfOk, IfSome, None, Some, option_copied};
+ghost use Rattle.fh_time.specs.declared.values.Slot.{Slot};
+ghost use Rattle.fh_time.specs.Numbering.{symbols_of};
+ghost use Rattle.unit_model.specs.Claims.{cell_at};
+ghost use Rattle.unit_model.specs.Lists.{every, some, or_else};
+ghost use Rattle.unit_model.specs.Proper.{IsSlot};
+ghost use Rattle.unit_model.specs.Radiated.{used_mask, cell_id};
+ghost use Rattle.unit_model.specs.declared.cells.Cell.{Cell};
+ghost use Rattle.unit_model.specs.declared.verdicts.CommandVerdict.TheVariants.{Accepted};
+ghost use Rattle.slot_rings.specs.Places.{blank, is_of, is_due, opened, place_claim, place_uplink, cell_number};
+ghost use Rattle.slot_rings.specs.Verdicts.{verdict_by, claim_after, uplink_after};
+
+use crate::index::place_index;
+use crate::judging::marks_at;
+use crate::place::Place;
+use crate::scans::{all_there, any_due, block_at, done_at};
+use fh_base::NoMemory;
+use fh_time::Slot;
+use std::alloc::Global;
+use std::marker::Model;
+use unit_model::{Allocation, Block, CommandVerdict};
+use window_config::EndpointConfig;
+
+/// The cells of a slot for each PRB: a slot has 14 symbols.
+const SYMBOLS: usize = 14;
+
+/// What a report needs of a downlink cell.
+#[derive(Clone, Copy, Debug, PartialEq, Eq)]
+pub struct Use {
+    /// The elements in use: claimed, and not as idle. Element 0 stands in the most significant of 12 bits.
+    pub mask: u16,
+    /// The section id of its claims, 0 where it has none.
+    pub section: u16,
+    /// Whether it was reported.
+    pub done: bool,
+}
+
+/// The memory of one endpoint of a radio unit: a ring of places, each that of one slot at a time. All memory is taken
+/// when it is made; no other call asks for any. A slot's place goes by its number in the order of slots, modulo the number
+/// of places.
+#[derive(Drop)]
+pub struct SlotRing {
+    endpoint: EndpointConfig,
+    places: Vec<Place>,
+}
+
+impl Model for SlotRing {
+    ghost use Rattle.slot_rings.specs.Rings.{RingValue, IsRing};
+
+    ghost Value = { RingValue };
+
+    ghost view = { λ r. record { endpoint = r.endpoint; places = r.places.items } };
+
+    ghost invariant = { λ r. IsRing (record { endpoint = r.endpoint; places = r.places.items }) };
+}
+
+impl SlotRing {
+    ghost use Rattle.slot_rings.specs.Rings.{IsRing, place_index, place_of, ring_claim, ring_block, ring_done, ring_uplink, has_slot, SharePlace, IsRingCell, TouchesOnly, with_place, IsEmpty, SameClaims, SameBlocks, SameDone, SameUplink};
+
+    /// Takes all memory, for so many slots of an endpoint.
+    pub fn make(alloc: Global, endpoint: EndpointConfig, slots: usize) -> Result<SlotRing, NoMemory>
+        requires some { 1 ≤ slots }
+        requires few { slots < 1024 }
+        requires prbs_some { 1 ≤ endpoint.prbs }
+        requires prbs_few { endpoint.prbs ≤ 273 }
+        ensures endpoint { IfOk result (λ r. r.endpoint ≡ endpoint) }
+        ensures size { IfOk result (λ r. length r.places ≡ slots) }
+        ensures empty { IfOk result (λ r. IsEmpty r) }
+    {
+        let room = SYMBOLS * endpoint.prbs as usize;
+        let mut places = Vec::with_capacity(alloc, slots)?;
+        for _k in 0..slots {
+            let place = Place::make(alloc, room)?;
+            places.push(place)?;
+        }
+        Ok(SlotRing { endpoint, places })
+    }
+
+    /// The endpoint.
+    pub fn endpoint(&self) -> &EndpointConfig
+        ensures { result.now ≡ self.now.endpoint }
+    {
+        &self.endpoint
+    }
+
+    /// The index of a slot's place.
+    fn index(&self, slot: Slot) -> usize
+        requires { IsSlot self.now.endpoint.numerology slot }
+        ensures value { result ≡ place_index self.now slot }
+        ensures within { result < length self.now.places }
+    {
+        place_index(&self.endpoint.numerology, self.places.len(), slot)
+    }
+
+    /// A slot's place.
+    fn place(&self, slot: Slot) -> &Place
+        requires { IsSlot self.now.endpoint.numerology slot }
+        ensures { result.now ≡ place_of self.now slot }
+    {
+        let index = self.index(slot);
+        &self.places[index]
+    }
+
+    /// The number of a cell in its slot.
+    fn number(&self, symbol: u8, prb: u16) -> usize
+        ensures value { result ≡ cell_number self.now.endpoint.prbs symbol prb }
+        ensures small { result < 16777216 }
+    {
+        symbol as usize * self.endpoint.prbs as usize + prb as usize
+    }
+
+    /// Whether a slot has its place.
+    pub fn has(&self, slot: Slot) -> bool
+        requires { IsSlot self.now.endpoint.numerology slot }
+        ensures { result ≡ has_slot self.now slot }
+    {
+        self.place(slot).has(slot)
+    }
+
+    /// The verdict on an allocation that is on time (this project's profile).
+    pub fn judge(&self, a: &Allocation) -> CommandVerdict
+        requires endpoint { a.now.endpoint ≡ self.now.endpoint }
+        requires slot { IsSlot self.now.endpoint.numerology a.now.slot }
+        ensures { result ≡ verdict_by (ring_claim self.now) (length (ring_uplink self.now a.now.slot)) a.now }
+    {
+        self.place(a.slot).judge(a)
+    }
+
+    /// The accepted uplink sections of a slot, the newest last.
+    pub fn uplink(&self, slot: Slot) -> &[Allocation]
+        requires { IsSlot self.now.endpoint.numerology slot }
+        ensures { reverse result.now ≡ ring_uplink self.now slot }
+    {
+        self.place(slot).uplink(slot)
+    }
+
+    /// Whether each of `count` downlink cells of a symbol, from PRB `first` on, has a block.
+    pub fn has_all(&self, slot: Slot, symbol: u8, first: u16, count: u16) -> bool
+        requires { IsSlot self.now.endpoint.numerology slot }
+        ensures { (ep : ℕ) → result ≡ every first count (λ prb. is_some (ring_block self.now (cell_at ep true slot symbol prb))) }
+    {
+        let base = self.number(symbol, 0);
+        all_there(self.place(slot).blocks(slot), base, first, count)
+    }
+
+    /// The block of a downlink cell.
+    pub fn block(&self, slot: Slot, symbol: u8, prb: u16) -> Option<&Block>
+        requires { IsSlot self.now.endpoint.numerology slot }
+        ensures { (ep : ℕ) → option_copied result ≡ ring_block self.now (cell_at ep true slot symbol prb) }
+    {
+        let number = self.number(symbol, prb);
+        block_at(self.place(slot).blocks(slot), number)
+    }
+
+    /// What a report needs of a downlink cell besides its block.
+    pub fn cell(&self, slot: Slot, symbol: u8, prb: u16) -> Use
+        requires { IsSlot self.now.endpoint.numerology slot }
+        ensures mask { (ep : ℕ) → result.mask ≡ used_mask (ring_claim self.now (cell_at ep true slot symbol prb)) }
+        ensures section { (ep : ℕ) → result.section ≡ cell_id (ring_claim self.now (cell_at ep true slot symbol prb)) }
+        ensures done { (ep : ℕ) → result.done ≡ ring_done self.now (cell_at ep true slot symbol prb) }
+    {
+        let number = self.number(symbol, prb);
+        let place = self.place(slot);
+        let marks = marks_at(place.marks(slot, true), number);
+        let done = done_at(place.done(slot), number);
+        Use {
+            mask: marks.used(),
+            section: marks.section(),
+            done,
+        }
+    }
+
+    /// Whether a downlink cell of a symbol is in use and was not reported.
+    pub fn is_used(&self, slot: Slot, symbol: u8) -> bool
+        requires { IsSlot self.now.endpoint.numerology slot }
+        ensures { (ep : ℕ) → result ≡ some 0 self.now.endpoint.prbs (λ prb.
+            is_due (ring_claim self.now (cell_at ep true slot symbol prb)) (ring_done self.now (cell_at ep true slot symbol prb))) }
+    {
+        let base = self.number(symbol, 0);
+        let place = self.place(slot);
+        any_due(
+            place.marks(slot, true),
+            place.done(slot),
+            base,
+            self.endpoint.prbs,
+        )
+    }
+
+    /// How many places it has.
+    pub fn place_count(&self) -> usize
+        ensures value { result ≡ length self.now.places }
+        ensures within { (slot : Slot) → place_index self.now slot < result }
+    {
+        self.places.len()
+    }
+
+    /// The slot that has the place with this index.
+    pub fn slot_at(&self, index: usize) -> Option<Slot>
+        requires { index < length self.now.places }
+        ensures has { IfSome result (λ slot. has_slot self.now slot ≡ true) }
+        ensures slot { IfSome result (λ slot. IsSlot self.now.endpoint.numerology slot) }
+        ensures index { IfSome result (λ slot. place_index self.now slot ≡ index) }
+        ensures only { (slot : Slot) → place_index self.now slot ≡ index → has_slot self.now slot ≡ true → result ≡ Some slot }
+    {
+        self.places[index].slot()
+    }
+
+    /// Lets a slot have its place.
+    fn open_place(&mut self, slot: Slot)
+        requires { IsSlot self.old.endpoint.numerology slot }
+        ensures only { self.new ≡ with_place self.old slot (opened slot (place_of self.old slot)) }
+        ensures ring { IsRing self.old }
+    {
+        let index = self.index(slot);
+        self.places[index].open(slot);
+    }
+
+    /// Claims in a slot's place.
+    fn claim_place(&mut self, a: &Allocation)
+        requires endpoint { a.now.endpoint ≡ self.old.endpoint }
+        requires slot { IsSlot self.old.endpoint.numerology a.now.slot }
+        requires within { a.now.symbol + a.now.num_symbol ≤ 14 }
+        requires has { is_of (place_of self.old a.now.slot).slot a.now.slot ≡ true }
+        requires accepted { verdict_by (place_claim a.now.endpoint.prbs (place_of self.old a.now.slot)) (length (place_uplink (place_of self.old a.now.slot) a.now.slot)) a.now ≡ Accepted }
+        ensures only { self.new ≡ with_place self.old a.now.slot (place_of self.new a.now.slot) }
+        ensures claims { (cell : Cell) (re : ℕ) → cell.ep ≡ a.now.ep → cell.slot ≡ a.now.slot → cell.prb < a.now.endpoint.prbs → re < 12
+            → place_claim a.now.endpoint.prbs (place_of self.new a.now.slot) cell re
+            ≡ claim_after Accepted a.now cell re (place_claim a.now.endpoint.prbs (place_of self.old a.now.slot) cell re) }
+        ensures uplink { (place_of self.new a.now.slot).uplink ≡ uplink_after Accepted a.now (place_of self.old a.now.slot).uplink }
+        ensures slot { (place_of self.new a.now.slot).slot ≡ (place_of self.old a.now.slot).slot }
+        ensures blocks { (place_of self.new a.now.slot).blocks ≡ (place_of self.old a.now.slot).blocks }
+        ensures done { (place_of self.new a.now.slot).done ≡ (place_of self.old a.now.slot).done }
+    {
+        let index = self.index(a.slot);
+        self.places[index].claim(a);
+    }
+
+    /// Gives a cell its block in a slot's place.
+    fn fill_place(&mut self, slot: Slot, number: usize, block: &Block)
+        requires slot { IsSlot self.old.endpoint.numerology slot }
+        requires number { number < 14 * self.old.endpoint.prbs }
+        ensures only { self.new ≡ with_place self.old slot (place_of self.new slot) }
+        ensures here { get_or (place_of self.new slot).blocks number None ≡ or_else (get_or (place_of self.old slot).blocks number None) (Some block.now) }
+        ensures others { (i : ℕ) → i ≢ number → get_or (place_of self.new slot).blocks i None ≡ get_or (place_of self.old slot).blocks i None }
+        ensures kept { place_of self.new slot ≡ record (place_of self.old slot) { blocks = (place_of self.new slot).blocks } }
+    {
+        let index = self.index(slot);
+        self.places[index].fill(number, block);
+    }
+
+    /// Marks a cell as reported in a slot's place.
+    fn mark_place(&mut self, slot: Slot, number: usize)
+        requires slot { IsSlot self.old.endpoint.numerology slot }
+        requires number { number < 14 * self.old.endpoint.prbs }
+        ensures only { self.new ≡ with_place self.old slot (place_of self.new slot) }
+        ensures here { get_or (place_of self.new slot).done number false ≡ true }
+        ensures others { (i : ℕ) → i ≢ number → get_or (place_of self.new slot).done i false ≡ get_or (place_of self.old slot).done i false }
+        ensures kept { place_of self.new slot ≡ record (place_of self.old slot) { done = (place_of self.new slot).done } }
+    {
+        let index = self.index(slot);
+        self.places[index].mark_done(number);
+    }
+
+    /// Lets a slot have its place. What was kept of another slot in that place is forgotten; what was kept of this one stays.
+    pub fn open(&mut self, slot: Slot)
+        requires { IsSlot self.old.endpoint.numerology slot }
+        ensures has { has_slot self.new slot ≡ true }
+        ensures claims { SameClaims slot self.old self.new }
+        ensures blocks { SameBlocks slot self.old self.new }
+        ensures done { SameDone slot self.old self.new }
+        ensures uplink { SameUplink slot self.old self.new }
+        ensures touches { TouchesOnly slot self.old self.new }
+        ensures parted { (other : Slot) → SharePlace self.old other slot → other ≢ slot → has_slot self.new other ≡ false }
+    {
+        self.open_place(slot);
+    }
+
+    /// Claims what an allocation names that was judged as accepted, in a slot that has its place.
+    pub fn claim(&mut self, a: &Allocation)
+        requires endpoint { a.now.endpoint ≡ self.old.endpoint }
+        requires slot { IsSlot self.old.endpoint.numerology a.now.slot }
+        requires within { a.now.symbol + a.now.num_symbol ≤ symbols_of self.old.endpoint.numerology }
+        requires has { has_slot self.old a.now.slot ≡ true }
+        requires accepted { verdict_by (ring_claim self.old) (length (ring_uplink self.old a.now.slot)) a.now ≡ Accepted }
+        ensures claims { (cell : Cell) (re : ℕ) → IsRingCell self.old cell → cell.ep ≡ a.now.ep → cell.slot ≡ a.now.slot → re < 12
+            → ring_claim self.new cell re ≡ claim_after Accepted a.now cell re (ring_claim self.old cell re) }
+        ensures uplink { ring_uplink self.new a.now.slot ≡ uplink_after Accepted a.now (ring_uplink self.old a.now.slot) }
+        ensures has { has_slot self.new a.now.slot ≡ true }
+        ensures blocks { SameBlocks a.now.slot self.old self.new }
+        ensures done { SameDone a.now.slot self.old self.new }
+        ensures touches { TouchesOnly a.now.slot self.old self.new }
+    {
+        self.claim_place(a);
+    }
+
+    /// Gives a downlink cell its block where it has none, in a slot that has its place.
+    pub fn fill(&mut self, slot: Slot, symbol: u8, prb: u16, block: Block)
+        requires slot { IsSlot self.old.endpoint.numerology slot }
+        requires symbol { symbol < symbols_of self.old.endpoint.numerology }
+        requires prb { prb < self.old.endpoint.prbs }
+        requires has { has_slot self.old slot ≡ true }
+        ensures here { (ep : ℕ) → ring_block self.new (cell_at ep true slot symbol prb)
+            ≡ or_else (ring_block self.old (cell_at ep true slot symbol prb)) (Some block) }
+        ensures others { (cell : Cell) → IsRingCell self.old cell → cell.slot ≡ slot → (cell.symbol ≡ symbol → cell.prb ≢ prb)
+            → ring_block self.new cell ≡ ring_block self.old cell }
+        ensures has { has_slot self.new slot ≡ true }
+        ensures claims { SameClaims slot self.old self.new }
+        ensures done { SameDone slot self.old self.new }
+        ensures uplink { SameUplink slot self.old self.new }
+        ensures touches { TouchesOnly slot self.old self.new }
+    {
+        let number = self.number(symbol, prb);
+        self.fill_place(slot, number, &block);
+    }
+
+    /// Marks a downlink cell as reported, in a slot that has its place.
+    pub fn mark_done(&mut self, slot: Slot, symbol: u8, prb: u16)
+        requires slot { IsSlot self.old.endpoint.numerology slot }
+        requires symbol { symbol < symbols_of self.old.endpoint.numerology }
+        requires prb { prb < self.old.endpoint.prbs }
+        requires has { has_slot self.old slot ≡ true }
+        ensures here { (ep : ℕ) → ring_done self.new (cell_at ep true slot symbol prb) ≡ true }
+        ensures others { (cell : Cell) → IsRingCell self.old cell → cell.slot ≡ slot → (cell.symbol ≡ symbol → cell.prb ≢ prb)
+            → ring_done self.new cell ≡ ring_done self.old cell }
+        ensures has { has_slot self.new slot ≡ true }
+        ensures claims { SameClaims slot self.old self.new }
+        ensures blocks { SameBlocks slot self.old self.new }
+        ensures uplink { SameUplink slot self.old self.new }
+        ensures touches { TouchesOnly slot self.old self.new }
+    {
+        let number = self.number(symbol, prb);
+        self.mark_place(slot, number);
+    }
+}

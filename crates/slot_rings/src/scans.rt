@@ -1,0 +1,52 @@
+// Tests over the cells of one symbol.
+ghost use Rattle.std.specs.Prelude.{◌≡◌, ◌+◌, ◌^◌, ◌<◌, ◌&&◌, false, get_or, is_some, None, option_copied};
+ghost use Rattle.unit_model.specs.Lists.{every, some};
+ghost use Rattle.slot_rings.specs.Places.{claim_in, no_marks, is_due};
+
+use crate::judging::marks_at;
+use crate::marks::Marks;
+use unit_model::Block;
+
+/// The block of one cell.
+pub(crate) fn block_at(blocks: &[Option<Block>], k: usize) -> Option<&Block>
+    ensures { option_copied result ≡ get_or blocks.now k None }
+{
+    if k < blocks.len() {
+        blocks[k].as_ref()
+    } else {
+        None
+    }
+}
+
+/// Whether one cell was reported.
+pub(crate) fn done_at(done: &[bool], k: usize) -> bool
+    ensures { result ≡ get_or done.now k false }
+{
+    k < done.len() && done[k]
+}
+
+/// Whether each of these cells of a symbol has a block. The symbol's cells begin at number `base`.
+pub(crate) fn all_there(blocks: &[Option<Block>], base: usize, first: u16, count: u16) -> bool
+    requires { base < 2 ^ 32 }
+    ensures { result ≡ every first count (λ n. is_some (get_or blocks.now (base + n) None)) }
+{
+    for n in first as usize..first as usize + count as usize {
+        if block_at(blocks, base + n).is_none() {
+            return false;
+        }
+    }
+    true
+}
+
+/// Whether one of these cells is in use and was not reported.
+pub(crate) fn any_due(marks: &[Marks], done: &[bool], base: usize, count: u16) -> bool
+    requires { base < 2 ^ 32 }
+    ensures { result ≡ some 0 count (λ n. is_due (claim_in (get_or marks.now (base + n) no_marks)) (get_or done.now (base + n) false)) }
+{
+    for n in 0..count as usize {
+        if marks_at(marks, base + n).used() != 0 && !done_at(done, base + n) {
+            return true;
+        }
+    }
+    false
+}

@@ -1,0 +1,61 @@
+-- What is on time at the radio unit is within its reach.
+use Rattle.std.proofs.Common.{◌≡◌, ℤ, pos, ◌<◌, ◌≤ℤ◌, true, false, List, arith}
+use Rattle.std.specs.Int.{int_max}
+use Rattle.std.proofs.lemmas.Int.{ints, clamps}
+use Rattle.window_config.specs.Limits.{IsWithinLimits}
+use Rattle.window_config.specs.Rings.{IsLive, ru_reach_of}
+use Rattle.window_config.specs.Windows.{data_window_of, command_window_of}
+use Rattle.window_config.specs.declared.delays.Delays.{Delays}
+use Rattle.window_config.proofs.Live.{live_on_time, live_on_command}
+use Rattle.air_source.specs.declared.events.Side.TheVariants.{Ru}
+use Rattle.fh_time.specs.Numbering.{symbols_of}
+use Rattle.unit_model.specs.Blocks.{data_class, data_slot}
+use Rattle.unit_model.specs.Commands.{command_slot, command_verdict}
+use Rattle.unit_model.specs.declared.allocations.Allocation.{Allocation}
+use Rattle.unit_model.specs.declared.decoded.Command.{Command}
+use Rattle.unit_model.specs.declared.decoded.Data.{Data}
+use Rattle.unit_model.specs.declared.verdicts.CommandVerdict.TheVariants.{Accepted}
+use Rattle.window_config.specs.declared.verdicts.Class.TheVariants.{OnTime}
+use Rattle.unit_laws.specs.Live.{AcceptedIsLive, TimelyIsLive}
+use Rattle.unit_laws.proofs.AcceptanceLemmas.{accepted_is_acceptable}
+
+first_most : (a b c : ℤ) → a ≤ℤ int_max (int_max a b) c
+first_most a b c = omega (arith, ints, clamps)
+
+second_most : (a b c : ℤ) → b ≤ℤ int_max (int_max a b) c
+second_most a b c = omega (arith, ints, clamps)
+
+third_most : (a b c : ℤ) → c ≤ℤ int_max (int_max a b) c
+third_most a b c = omega (arith, ints, clamps)
+
+same_time : (t : ℤ) → t ≤ℤ t
+same_time t = omega (arith, ints)
+
+not_negative : (a b : ℤ) → pos 0 ≤ℤ a → a ≤ℤ b → pos 0 ≤ℤ b
+not_negative a b h k = omega (arith, ints)
+
+some_more : (a : ℤ) → pos 1 ≤ℤ a → pos 0 ≤ℤ a
+some_more a h = omega (arith, ints)
+
+-- all that it takes: the symbol is one of the slot's
+pub command_live : (d : Delays) (earlier : List Allocation) (c : Command) → IsWithinLimits d → c.head.start_symbol < symbols_of c.endpoint.numerology
+    → command_verdict d earlier c ≡ Accepted → IsLive c.endpoint.numerology (ru_reach_of d).before (ru_reach_of d).after c.at.0 (command_slot c)
+command_live d earlier c limits symbol h =
+    let is = accepted_is_acceptable d earlier c h in
+    live_on_command d c.endpoint.numerology (command_slot c) c.head.start_symbol c.at.0 c.at.0 (ru_reach_of d).before (ru_reach_of d).after c.head.down limits
+    (second_most (data_window_of d).max (command_window_of d true).max (command_window_of d false).max)
+    (third_most (data_window_of d).max (command_window_of d true).max (command_window_of d false).max)
+    (not_negative d.ta3.min d.ta3.max limits.ta3.low limits.ta3.order) symbol (same_time c.at.0) is.on_time
+
+pub data_live : (d : Delays) (x : Data) → IsWithinLimits d → x.section.symbol < symbols_of x.endpoint.numerology → x.first.0 ≤ℤ x.last.0
+    → data_class Ru d x ≡ OnTime → IsLive x.endpoint.numerology (ru_reach_of d).before (ru_reach_of d).after x.last.0 (data_slot x)
+data_live d x limits symbol order h =
+    live_on_time x.endpoint.numerology (data_slot x) x.section.symbol x.first.0 x.last.0 (data_window_of d) (ru_reach_of d).before (ru_reach_of d).after symbol order
+    (some_more d.t2a_up.min limits.t2a_up.low) (first_most (data_window_of d).max (command_window_of d true).max (command_window_of d false).max)
+    (not_negative d.ta3.min d.ta3.max limits.ta3.low limits.ta3.order) h
+
+pub accepted_live : AcceptedIsLive
+accepted_live es d earlier c limits proper h = command_live d earlier c limits proper.start_symbol h
+
+pub timely_live : TimelyIsLive
+timely_live es d x limits proper order h = data_live d x limits proper.symbol order h

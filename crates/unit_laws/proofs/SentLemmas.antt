@@ -1,0 +1,143 @@
+-- What is sent and reported up to a time.
+use Rattle.std.proofs.Common.{◌≡◌, ℕ, ℤ, pos, ◌+ℤ◌, ◌-ℤ◌, ◌≤ℤ◌, ◌<ℤ◌, List, ◌∷◌, ◌++◌, inl, inr, sym, ap, ◌∙◌, arith}
+use Rattle.std.specs.Prelude.{filter}
+use Rattle.std.proofs.lemmas.Int.{ints, by_lt_z}
+use Rattle.fh_time.specs.Air.{air_of}
+use Rattle.fh_time.specs.declared.values.Slot.{Slot}
+use Rattle.fh_time.proofs.Order.{symbols_in_order}
+use Rattle.air_source.specs.declared.events.AirCell.{AirCell}
+use Rattle.air_source.specs.declared.events.Side.{Side}
+use Rattle.air_source.specs.declared.events.Side.TheVariants.{Ru}
+use Rattle.window_config.specs.declared.delays.Delays.{Delays}
+use Rattle.window_config.specs.declared.endpoints.EndpointConfig.{EndpointConfig}
+use Rattle.unit_model.specs.Blocks.{timely}
+use Rattle.unit_model.specs.Commands.{accepted}
+use Rattle.unit_model.specs.Proper.{IsAt}
+use Rattle.unit_model.specs.Radiated.{Known, first_clock, known_of, reported, symbol_report}
+use Rattle.unit_model.specs.Standing.{due, still_reported}
+use Rattle.unit_model.specs.Sweeps.{sweep}
+use Rattle.unit_model.specs.Uplink.{jobs, sends_in, symbol_jobs}
+use Rattle.unit_laws.specs.Sent.{JobsBegin, JobsAppend, LaterSendsNothing, CommandLeavesSent}
+use Rattle.unit_laws.specs.Told.{CommandLeavesReported, DataLeaveReported, CommandLeavesDue, DataLeaveDue}
+use Rattle.unit_laws.proofs.CellLemmas.{from_first}
+use Rattle.unit_laws.proofs.ChangeLemmas.{either_way}
+use Rattle.unit_laws.proofs.DueLemmas.{unheard}
+use Rattle.unit_laws.proofs.FarLemmas.{endpoints_equal}
+use Rattle.unit_laws.proofs.PastLemmas.{command_leaves_jobs, command_leaves_reports, data_leave_reports, jobs_same, sends_is}
+use Rattle.unit_laws.proofs.SweepLemmas.{sweep-append, sweep-none, sweep-same}
+
+next_order : (t u : ℤ) → t ≤ℤ u → (t +ℤ pos 1) ≤ℤ (u +ℤ pos 1)
+next_order t u h = omega (arith, ints)
+
+next_later : (t u : ℤ) → t ≤ℤ u → t ≤ℤ (u +ℤ pos 1)
+next_later t u h = omega (arith, ints)
+
+weak : (a b : ℤ) → a <ℤ b → a ≤ℤ b
+weak a b h = omega (arith, ints)
+
+pub jobs_append : JobsAppend
+unfolding jobs
+jobs_append es claimed to later start order =
+    sweep-append (symbol_jobs claimed) es first_clock (to +ℤ pos 1) (later +ℤ pos 1) (next_later first_clock to start) (next_order to later order)
+
+pub jobs_begin : JobsBegin
+unfolding jobs
+jobs_begin es claimed to later order =
+    let g = symbol_jobs claimed in
+    let mid = to +ℤ pos 1 in
+    let end = later +ℤ pos 1 in
+    by_lt_z mid first_clock
+    (λ before. (sweep g es first_clock end, ap (λ (xs : List _). xs ++ sweep g es first_clock end) (sym (sweep-none g es first_clock mid (weak mid first_clock before)))))
+    (λ after. (sweep g es mid end, sweep-append g es first_clock mid end after (next_order to later order)))
+
+by_end : (s t u : ℤ) → s <ℤ (t +ℤ pos 1) → t ≤ℤ u → s ≤ℤ u
+by_end s t u a b = omega (arith, ints)
+
+too_late : (to start t s : ℤ) → to <ℤ start → start ≤ℤ t → t ≡ s → s <ℤ (to +ℤ pos 1) → ⊥
+too_late to start t s a b c d = omega (arith, ints)
+
+pub later_sends_nothing : LaterSendsNothing
+unfolding jobs
+later_sends_nothing es a claimed to at_a after =
+    sweep-same (symbol_jobs (a ∷ claimed)) (symbol_jobs claimed) es first_clock (to +ℤ pos 1) (λ ep e slot symbol tick low high swept.
+    elim (either_way (sends_in ep slot symbol a)) [
+      | inl other ↦ jobs_same a claimed ep e slot symbol other
+      | inr own ↦
+          let is = sends_is ep slot symbol a own in
+          let n = a.endpoint.numerology in
+          let times : air_of n a.slot symbol ≡ tick =
+          ap (λ (x : EndpointConfig). air_of x.numerology a.slot symbol) (endpoints_equal es a.ep ep a.endpoint e at_a swept.endpoint is.ep_is)
+          ∙ ap (λ (x : Slot). air_of e.numerology x symbol) is.slot_is ∙ swept.starts in
+          absurd (too_late to (air_of n a.slot a.symbol) (air_of n a.slot symbol) tick after
+          (symbols_in_order n a.slot a.symbol symbol (from_first a.symbol a.num_symbol symbol is.symbol_is)) times high)
+    ])
+
+at_or_before : (start tick to at : ℤ) → start ≡ tick → tick <ℤ (to +ℤ pos 1) → to ≤ℤ at → start ≤ℤ at
+at_or_before start tick to at a b c = omega (arith, ints)
+
+pub command_leaves_sent : CommandLeavesSent
+unfolding jobs
+command_leaves_sent es d c earlier to limits proper order past =
+    sweep-same (symbol_jobs (accepted d (c ∷ earlier))) (symbol_jobs (accepted d earlier)) es first_clock (to +ℤ pos 1) (λ ep e slot symbol tick low high swept.
+    command_leaves_jobs es d c earlier ep e slot symbol limits proper order swept.endpoint
+    (at_or_before (air_of e.numerology slot symbol) tick to c.at.0 swept.starts high past))
+
+-- ---- reports
+
+-- the radio unit reports a cell when its symbol starts
+at_start : (start tick to at : ℤ) → start ≡ tick → tick <ℤ ((to -ℤ pos 0) +ℤ pos 1) → to ≤ℤ at → start ≤ℤ at
+at_start start tick to at a b c = omega (arith, ints)
+
+still_same : (side : Side) (k m : Known) (heard : List AirCell) (ep : ℕ) (e : EndpointConfig) (slot : Slot) (symbol : ℕ)
+    → symbol_report side k ep e slot symbol ≡ symbol_report side m ep e slot symbol → still_reported side k heard ep e slot symbol ≡ still_reported side m heard ep e slot symbol
+unfolding still_reported
+still_same side k m heard ep e slot symbol same = ap (filter (unheard heard)) same
+
+-- where two knowledges report the same of each symbol that starts by a time, they report the same up to it, and the same is due
+pub reported-same : (d : Delays) (es : List EndpointConfig) (k m : Known) (to : ℤ)
+    → ((ep : ℕ) (e : EndpointConfig) (slot : Slot) (symbol : ℕ) → IsAt es ep e → air_of e.numerology slot symbol ≤ℤ to
+    → symbol_report Ru k ep e slot symbol ≡ symbol_report Ru m ep e slot symbol)
+    → reported Ru d es k to ≡ reported Ru d es m to
+unfolding reported
+reported-same d es k m to same =
+    sweep-same (symbol_report Ru k) (symbol_report Ru m) es (first_clock -ℤ pos 0) ((to -ℤ pos 0) +ℤ pos 1) (λ ep e slot symbol tick low high swept.
+    same ep e slot symbol swept.endpoint (at_start (air_of e.numerology slot symbol) tick to to swept.starts high (here to)))
+  where
+    here : (t : ℤ) → t ≤ℤ t
+    here t = omega (arith, ints)
+
+pub due-same : (d : Delays) (es : List EndpointConfig) (k m : Known) (heard : List AirCell) (to : ℤ)
+    → ((ep : ℕ) (e : EndpointConfig) (slot : Slot) (symbol : ℕ) → IsAt es ep e → air_of e.numerology slot symbol ≤ℤ to
+    → symbol_report Ru k ep e slot symbol ≡ symbol_report Ru m ep e slot symbol)
+    → due Ru d es k heard to ≡ due Ru d es m heard to
+unfolding due
+due-same d es k m heard to same =
+    sweep-same (still_reported Ru k heard) (still_reported Ru m heard) es (first_clock -ℤ pos 0) ((to -ℤ pos 0) +ℤ pos 1) (λ ep e slot symbol tick low high swept.
+    still_same Ru k m heard ep e slot symbol
+    (same ep e slot symbol swept.endpoint (at_start (air_of e.numerology slot symbol) tick to to swept.starts high (here to))))
+  where
+    here : (t : ℤ) → t ≤ℤ t
+    here t = omega (arith, ints)
+
+no_later : (a b c : ℤ) → a ≤ℤ b → b ≤ℤ c → a ≤ℤ c
+no_later a b c h k = omega (arith, ints)
+
+pub command_leaves_reported : CommandLeavesReported
+command_leaves_reported es d c earlier given to limits proper order past =
+    reported-same d es (known_of (accepted d (c ∷ earlier)) given) (known_of (accepted d earlier) given) to (λ ep e slot symbol at by.
+    command_leaves_reports Ru es d c earlier given ep e slot symbol limits proper order at (no_later (air_of e.numerology slot symbol) to c.at.0 by past))
+
+pub command_leaves_due : CommandLeavesDue
+command_leaves_due es d c earlier given heard to limits proper order past =
+    due-same d es (known_of (accepted d (c ∷ earlier)) given) (known_of (accepted d earlier) given) heard to (λ ep e slot symbol at by.
+    command_leaves_reports Ru es d c earlier given ep e slot symbol limits proper order at (no_later (air_of e.numerology slot symbol) to c.at.0 by past))
+
+pub data_leave_reported : DataLeaveReported
+data_leave_reported es d x earlier claimed to limits proper past =
+    reported-same d es (known_of claimed (timely Ru d (x ∷ earlier))) (known_of claimed (timely Ru d earlier)) to (λ ep e slot symbol at by.
+    data_leave_reports Ru es d x earlier claimed ep e slot symbol limits proper at (no_later (air_of e.numerology slot symbol) to x.last.0 by past))
+
+pub data_leave_due : DataLeaveDue
+data_leave_due es d x earlier claimed heard to limits proper past =
+    due-same d es (known_of claimed (timely Ru d (x ∷ earlier))) (known_of claimed (timely Ru d earlier)) heard to (λ ep e slot symbol at by.
+    data_leave_reports Ru es d x earlier claimed ep e slot symbol limits proper at (no_later (air_of e.numerology slot symbol) to x.last.0 by past))

@@ -1,0 +1,122 @@
+-- What the radio unit tells at ticks that come after its clock.
+use Rattle.std.proofs.Common.{◌≡◌, ℕ, ℤ, pos, ◌<◌, ◌+ℤ◌, ◌-ℤ◌, ◌≤ℤ◌, ◌⊎◌, inl, inr, List, [], ◌++◌, length, drop, refl, sym, ap, ◌∙◌, subst, arith, length-append}
+use Rattle.std.specs.Prelude.{filter}
+use Rattle.std.proofs.lemmas.Int.{ints, by_lt_z}
+use Rattle.std.proofs.lemmas.List.{drop-drop, drop_at}
+use Rattle.fh_time.specs.Air.{air_of, span_of}
+use Rattle.fh_time.specs.Numbering.{symbols_of}
+use Rattle.fh_time.specs.declared.numerology.Numerology.{Numerology}
+use Rattle.fh_time.specs.declared.values.Slot.{Slot}
+use Rattle.fh_time.proofs.Order.{symbol_in_span}
+use Rattle.air_source.specs.declared.events.AirCell.{AirCell}
+use Rattle.air_source.specs.declared.events.Side.TheVariants.{Ru}
+use Rattle.window_config.specs.Limits.{IsWithinLimits}
+use Rattle.window_config.specs.Rings.{IsLive, ru_reach_of}
+use Rattle.window_config.specs.Windows.{ticks_of_ns}
+use Rattle.window_config.specs.declared.delays.Delays.{Delays}
+use Rattle.window_config.specs.declared.endpoints.EndpointConfig.{EndpointConfig}
+use Rattle.window_config.specs.declared.rings.Reach.{Reach}
+use Rattle.unit_model.specs.Radiated.{Known, first_clock, symbol_report}
+use Rattle.unit_model.specs.Reports.{accepted_of, ru_known}
+use Rattle.unit_model.specs.Standing.{due, still_reported}
+use Rattle.unit_model.specs.Sweeps.{sweep}
+use Rattle.unit_model.specs.Uplink.{jobs, symbol_jobs}
+use Rattle.unit_laws.specs.Far.{IsFar}
+use Rattle.unit_laws.specs.Ticks.{LiveLater, StartsLater, IsLiveSlot, QuietOfCells, QuietOfJobs, CellsOfLive, JobsOfLive, DueAfterClock, GivenInOrder}
+use Rattle.unit_laws.proofs.AheadLemmas.{no_jobs_ahead, no_reports_ahead}
+use Rattle.unit_laws.proofs.DueLemmas.{unheard}
+use Rattle.unit_laws.proofs.FrameLemmas.{endpoint_in_a_row}
+use Rattle.unit_laws.proofs.SweepLemmas.{sweep-append, tick-nothing}
+
+at_most : (a b c : ℤ) → a ≤ℤ b → b ≤ℤ c → a ≤ℤ c
+at_most a b c h k = omega (arith, ints)
+
+live_or_far : (n : Numerology) (r : Reach) (clock : ℤ) (slot : Slot) → clock ≤ℤ (air_of n slot 0 +ℤ pos (span_of n) +ℤ ticks_of_ns r.after)
+    → IsLive n r.before r.after clock slot ⊎ IsFar n r clock slot
+live_or_far n r clock slot lasting =
+    by_lt_z clock (air_of n slot 0 -ℤ ticks_of_ns r.before) (λ before. inr before) (λ begun. inl (record { begun = begun; lasting = lasting }))
+
+pub live_later : LiveLater
+live_later n r clock later slot order live =
+    live_or_far n r clock slot (at_most clock later (air_of n slot 0 +ℤ pos (span_of n) +ℤ ticks_of_ns r.after) order live.lasting)
+
+in_reach : (clock start end after : ℤ) → clock ≤ℤ start → start ≤ℤ end → pos 0 ≤ℤ after → clock ≤ℤ (end +ℤ ticks_of_ns after)
+in_reach clock start end after a b c = omega (arith, ints)
+
+pub starts_later : StartsLater
+starts_later n r clock slot symbol after small order =
+    live_or_far n r clock slot (in_reach clock (air_of n slot symbol) (air_of n slot 0 +ℤ pos (span_of n)) r.after order (symbol_in_span n slot symbol small) after)
+
+not_negative : (a b : ℤ) → pos 0 ≤ℤ a → a ≤ℤ b → pos 0 ≤ℤ b
+not_negative a b h k = omega (arith, ints)
+
+-- at the radio unit, of a symbol that starts at a tick that does not come before the clock
+starts_at : (d : Delays) (e : EndpointConfig) (clock tick : ℤ) (slot : Slot) (symbol : ℕ) → IsWithinLimits d → clock ≤ℤ tick → symbol < symbols_of e.numerology
+    → air_of e.numerology slot symbol ≡ tick → IsLiveSlot d e clock slot ⊎ IsFar e.numerology (ru_reach_of d) clock slot
+starts_at d e clock tick slot symbol limits order small starts =
+    starts_later e.numerology (ru_reach_of d) clock slot symbol (not_negative d.ta3.min d.ta3.max limits.ta3.low limits.ta3.order) small
+    (subst (λ (t : ℤ). clock ≤ℤ t) (sym starts) order)
+
+still_nothing : (k : Known) (heard : List AirCell) (ep : ℕ) (e : EndpointConfig) (slot : Slot) (symbol : ℕ) → symbol_report Ru k ep e slot symbol ≡ []
+    → still_reported Ru k heard ep e slot symbol ≡ []
+unfolding still_reported
+still_nothing k heard ep e slot symbol none = ap (filter (unheard heard)) none
+
+pub quiet_of_cells : QuietOfCells
+quiet_of_cells c clock arrivals heard tick limits h order none =
+    tick-nothing (still_reported Ru (ru_known c arrivals) heard) c.endpoints tick (λ ep e slot symbol swept.
+    elim (starts_at c.delays e clock tick slot symbol limits order swept.symbol_is swept.starts) [
+      | inl live ↦ none ep e slot symbol swept live
+      | inr far ↦ still_nothing (ru_known c arrivals) heard ep e slot symbol (no_reports_ahead Ru c clock arrivals e ep slot symbol limits h swept.endpoint far)
+    ])
+
+pub quiet_of_jobs : QuietOfJobs
+quiet_of_jobs c clock arrivals tick limits h order none =
+    tick-nothing (symbol_jobs (accepted_of c arrivals)) c.endpoints tick (λ ep e slot symbol swept.
+    elim (starts_at c.delays e clock tick slot symbol limits order swept.symbol_is swept.starts) [
+      | inl live ↦ none ep e slot symbol swept live
+      | inr far ↦ no_jobs_ahead c clock arrivals e ep slot symbol limits h swept.endpoint far
+    ])
+
+pub cells_of_live : CellsOfLive
+cells_of_live c clock arrivals heard ep e tick start count limits h order at short is all =
+    endpoint_in_a_row (still_reported Ru (ru_known c arrivals) heard ep e) e tick start count short is (λ slot symbol is_slot elsewhere small starts.
+    elim (starts_at c.delays e clock tick slot symbol limits order small starts) [
+      | inl live ↦ absurd (all slot is_slot live elsewhere)
+      | inr far ↦ still_nothing (ru_known c arrivals) heard ep e slot symbol (no_reports_ahead Ru c clock arrivals e ep slot symbol limits h at far)
+    ])
+
+pub jobs_of_live : JobsOfLive
+jobs_of_live c clock arrivals ep e tick start count limits h order at short is all =
+    endpoint_in_a_row (symbol_jobs (accepted_of c arrivals) ep e) e tick start count short is (λ slot symbol is_slot elsewhere small starts.
+    elim (starts_at c.delays e clock tick slot symbol limits order small starts) [
+      | inl live ↦ absurd (all slot is_slot live elsewhere)
+      | inr far ↦ no_jobs_ahead c clock arrivals e ep slot symbol limits h at far
+    ])
+
+-- ---- from the clock on
+
+start_is : (t : ℤ) → (t -ℤ pos 0) +ℤ pos 1 ≡ t +ℤ pos 1
+start_is t = omega (arith, ints)
+
+from_first : (first clock : ℤ) → first ≤ℤ clock → (first -ℤ pos 0) ≤ℤ ((clock -ℤ pos 0) +ℤ pos 1)
+from_first first clock h = omega (arith, ints)
+
+to_last : (clock to : ℤ) → clock ≤ℤ to → ((clock -ℤ pos 0) +ℤ pos 1) ≤ℤ ((to -ℤ pos 0) +ℤ pos 1)
+to_last clock to h = omega (arith, ints)
+
+pub due_after_clock : DueAfterClock
+unfolding due
+due_after_clock d es k heard clock to begun order none =
+    let g = still_reported Ru k heard in
+    let mid = (clock -ℤ pos 0) +ℤ pos 1 in
+    let end = (to -ℤ pos 0) +ℤ pos 1 in
+    sweep-append g es (first_clock -ℤ pos 0) mid end (from_first first_clock clock begun) (to_last clock to order)
+    ∙ ap (λ (xs : List AirCell). xs ++ sweep g es mid end) none
+    ∙ ap (λ (t : ℤ). sweep g es t end) (start_is clock)
+    ∙ ap (λ (t : ℤ). sweep g es (clock +ℤ pos 1) t) (start_is to)
+
+pub given_in_order : GivenInOrder
+given_in_order c claimed given now rest to is =
+    let all = jobs c.endpoints claimed to in
+    ap (λ (k : ℕ). drop k all) (length-append given now) ∙ sym (drop-drop (length now) (length given) all) ∙ ap (drop (length now)) is ∙ drop_at now rest (length now) refl

@@ -1,0 +1,15 @@
+pub mod Acceptance
+pub mod Live
+pub mod Changes
+pub mod Far
+pub mod Past
+pub mod Swept
+pub mod Due
+pub mod Sent
+pub mod Told
+pub mod Totals
+pub mod Lookups
+pub mod Histories
+pub mod Runs
+pub mod Ticks
+pub mod Touched

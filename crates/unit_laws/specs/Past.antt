@@ -1,0 +1,73 @@
+-- An arrival changes nothing whose moment has passed. Times are those of the radio unit: a command's arrival, the last arrival of
+-- a message of data.
+use Rattle.std.specs.Prelude.{◌≡◌, ℕ, ◌<◌, ◌≤◌, ◌≤ℤ◌, List, ◌∷◌, All}
+use Rattle.fh_time.specs.Air.{air_of}
+use Rattle.fh_time.specs.declared.values.Slot.{Slot}
+use Rattle.air_source.specs.declared.events.Side.{Side}
+use Rattle.air_source.specs.declared.events.Side.TheVariants.{Ru}
+use Rattle.window_config.specs.Limits.{IsWithinLimits}
+use Rattle.window_config.specs.declared.delays.Delays.{Delays}
+use Rattle.window_config.specs.declared.endpoints.EndpointConfig.{EndpointConfig}
+use Rattle.unit_model.specs.Blocks.{block_at, timely}
+use Rattle.unit_model.specs.Claims.{cell_at, claim_at}
+use Rattle.unit_model.specs.Commands.{accepted}
+use Rattle.unit_model.specs.Meetings.{Arrival, commands, meetings}
+use Rattle.unit_model.specs.Proper.{IsAt, IsProperCommand, IsProperData}
+use Rattle.unit_model.specs.Radiated.{Known, is_down, known_of, symbol_report}
+use Rattle.unit_model.specs.Uplink.{symbol_jobs}
+use Rattle.unit_model.specs.declared.allocations.Allocation.{Allocation}
+use Rattle.unit_model.specs.declared.cells.Cell.{Cell}
+use Rattle.unit_model.specs.declared.decoded.Command.{Command}
+use Rattle.unit_model.specs.declared.decoded.Data.{Data}
+
+-- The symbols of a section start no earlier than that of its header: the maintained symbol number does not go back.
+abbrev pub IsInOrder : Command → Type 0
+IsInOrder c = c.head.start_symbol ≤ c.section.symbol
+
+-- All sections that a unit reads are so.
+abbrev pub CommandsAreInOrder : Type 0
+CommandsAreInOrder = (side : Side) (es : List EndpointConfig) (arrivals : List Arrival) → All IsInOrder (commands (meetings side es arrivals))
+
+-- the elements of symbols that start by a command's arrival are claimed as before
+abbrev pub CommandLeavesPast : Type 0
+CommandLeavesPast =
+    (es : List EndpointConfig) (d : Delays) (c : Command) (earlier : List Command) (e : EndpointConfig) (cell : Cell) (re : ℕ)
+    → IsWithinLimits d → IsProperCommand es c → IsInOrder c → IsAt es cell.ep e → air_of e.numerology cell.slot cell.symbol ≤ℤ c.at.0
+    → claim_at (accepted d (c ∷ earlier)) cell re ≡ claim_at (accepted d earlier) cell re
+
+-- the cells of symbols that start by the last arrival of data have the blocks that they had
+abbrev pub DataLeavePast : Type 0
+DataLeavePast =
+    (es : List EndpointConfig) (d : Delays) (x : Data) (earlier : List Data) (e : EndpointConfig) (cell : Cell)
+    → IsWithinLimits d → IsProperData es x → IsAt es cell.ep e → air_of e.numerology cell.slot cell.symbol ≤ℤ x.last.0
+    → block_at (timely Ru d (x ∷ earlier)) cell ≡ block_at (timely Ru d earlier) cell
+
+-- the report of a symbol rests on the claims and the blocks of its cells alone
+abbrev pub ReportIsOfItsCells : Type 0
+ReportIsOfItsCells =
+    (side : Side) (k m : Known) (ep : ℕ) (e : EndpointConfig) (slot : Slot) (symbol : ℕ)
+    → ((prb re : ℕ) → prb < e.prbs → re < 12
+    → k.claims (cell_at ep (is_down side) slot symbol prb) re ≡ m.claims (cell_at ep (is_down side) slot symbol prb) re)
+    → ((prb : ℕ) → prb < e.prbs → k.blocks (cell_at ep (is_down side) slot symbol prb) ≡ m.blocks (cell_at ep (is_down side) slot symbol prb))
+    → symbol_report side k ep e slot symbol ≡ symbol_report side m ep e slot symbol
+
+-- so what is reported of a symbol that starts by then is as before, and so are the messages that are sent of it
+abbrev pub CommandLeavesReports : Type 0
+CommandLeavesReports =
+    (side : Side) (es : List EndpointConfig) (d : Delays) (c : Command) (earlier : List Command) (given : List Data)
+    (ep : ℕ) (e : EndpointConfig) (slot : Slot) (symbol : ℕ)
+    → IsWithinLimits d → IsProperCommand es c → IsInOrder c → IsAt es ep e → air_of e.numerology slot symbol ≤ℤ c.at.0
+    → symbol_report side (known_of (accepted d (c ∷ earlier)) given) ep e slot symbol ≡ symbol_report side (known_of (accepted d earlier) given) ep e slot symbol
+
+abbrev pub DataLeaveReports : Type 0
+DataLeaveReports =
+    (side : Side) (es : List EndpointConfig) (d : Delays) (x : Data) (earlier : List Data) (claimed : List Allocation)
+    (ep : ℕ) (e : EndpointConfig) (slot : Slot) (symbol : ℕ)
+    → IsWithinLimits d → IsProperData es x → IsAt es ep e → air_of e.numerology slot symbol ≤ℤ x.last.0
+    → symbol_report side (known_of claimed (timely Ru d (x ∷ earlier))) ep e slot symbol ≡ symbol_report side (known_of claimed (timely Ru d earlier)) ep e slot symbol
+
+abbrev pub CommandLeavesJobs : Type 0
+CommandLeavesJobs =
+    (es : List EndpointConfig) (d : Delays) (c : Command) (earlier : List Command) (ep : ℕ) (e : EndpointConfig) (slot : Slot) (symbol : ℕ)
+    → IsWithinLimits d → IsProperCommand es c → IsInOrder c → IsAt es ep e → air_of e.numerology slot symbol ≤ℤ c.at.0
+    → symbol_jobs (accepted d (c ∷ earlier)) ep e slot symbol ≡ symbol_jobs (accepted d earlier) ep e slot symbol

@@ -1,0 +1,41 @@
+-- At the radio unit, an arrival changes nothing of what is reported up to it.
+use Rattle.std.specs.Prelude.{◌≡◌, ℤ, ◌≤ℤ◌, List, ◌∷◌}
+use Rattle.air_source.specs.declared.events.AirCell.{AirCell}
+use Rattle.air_source.specs.declared.events.Side.TheVariants.{Ru}
+use Rattle.window_config.specs.Limits.{IsWithinLimits}
+use Rattle.window_config.specs.declared.delays.Delays.{Delays}
+use Rattle.window_config.specs.declared.endpoints.EndpointConfig.{EndpointConfig}
+use Rattle.unit_model.specs.Blocks.{timely}
+use Rattle.unit_model.specs.Commands.{accepted}
+use Rattle.unit_model.specs.Proper.{IsProperCommand, IsProperData}
+use Rattle.unit_model.specs.Radiated.{known_of, reported}
+use Rattle.unit_model.specs.Standing.{due}
+use Rattle.unit_model.specs.declared.allocations.Allocation.{Allocation}
+use Rattle.unit_model.specs.declared.decoded.Command.{Command}
+use Rattle.unit_model.specs.declared.decoded.Data.{Data}
+use Rattle.unit_laws.specs.Past.{IsInOrder}
+
+abbrev pub CommandLeavesReported : Type 0
+CommandLeavesReported =
+    (es : List EndpointConfig) (d : Delays) (c : Command) (earlier : List Command) (given : List Data) (to : ℤ)
+    → IsWithinLimits d → IsProperCommand es c → IsInOrder c → to ≤ℤ c.at.0
+    → reported Ru d es (known_of (accepted d (c ∷ earlier)) given) to ≡ reported Ru d es (known_of (accepted d earlier) given) to
+
+abbrev pub DataLeaveReported : Type 0
+DataLeaveReported =
+    (es : List EndpointConfig) (d : Delays) (x : Data) (earlier : List Data) (claimed : List Allocation) (to : ℤ)
+    → IsWithinLimits d → IsProperData es x → to ≤ℤ x.last.0
+    → reported Ru d es (known_of claimed (timely Ru d (x ∷ earlier))) to ≡ reported Ru d es (known_of claimed (timely Ru d earlier)) to
+
+-- nor of what is due, whatever was heard
+abbrev pub CommandLeavesDue : Type 0
+CommandLeavesDue =
+    (es : List EndpointConfig) (d : Delays) (c : Command) (earlier : List Command) (given : List Data) (heard : List AirCell) (to : ℤ)
+    → IsWithinLimits d → IsProperCommand es c → IsInOrder c → to ≤ℤ c.at.0
+    → due Ru d es (known_of (accepted d (c ∷ earlier)) given) heard to ≡ due Ru d es (known_of (accepted d earlier) given) heard to
+
+abbrev pub DataLeaveDue : Type 0
+DataLeaveDue =
+    (es : List EndpointConfig) (d : Delays) (x : Data) (earlier : List Data) (claimed : List Allocation) (heard : List AirCell) (to : ℤ)
+    → IsWithinLimits d → IsProperData es x → to ≤ℤ x.last.0
+    → due Ru d es (known_of claimed (timely Ru d (x ∷ earlier))) heard to ≡ due Ru d es (known_of claimed (timely Ru d earlier)) heard to

@@ -1,0 +1,51 @@
+-- One more section changes nothing of a slot that is not live when it comes.
+use Rattle.std.specs.Prelude.{◌≡◌, ℕ, ◌≤ℤ◌, List, ◌∷◌, ◌==◌, ◌&&◌, Bool, true, ◌⊎◌}
+use Rattle.fh_time.specs.declared.values.Slot.{Slot}
+use Rattle.air_source.specs.declared.events.Side.TheVariants.{Ru}
+use Rattle.window_config.specs.Limits.{IsWithinLimits}
+use Rattle.window_config.specs.declared.delays.Delays.{Delays}
+use Rattle.window_config.specs.declared.endpoints.EndpointConfig.{EndpointConfig}
+use Rattle.unit_model.specs.Blocks.{block_at, timely}
+use Rattle.unit_model.specs.Claims.{claim_at, same_slot}
+use Rattle.unit_model.specs.Commands.{accepted, allocation_of, command_verdict, is_uplink}
+use Rattle.unit_model.specs.Proper.{IsAt, IsProperCommand, IsProperData}
+use Rattle.unit_model.specs.Standing.{uplink_of}
+use Rattle.unit_model.specs.declared.allocations.Allocation.{Allocation}
+use Rattle.unit_model.specs.declared.cells.Cell.{Cell}
+use Rattle.unit_model.specs.declared.decoded.Command.{Command}
+use Rattle.unit_model.specs.declared.decoded.Data.{Data}
+use Rattle.unit_model.specs.declared.verdicts.CommandVerdict.TheVariants.{Accepted}
+use Rattle.unit_laws.specs.Ticks.{IsLiveSlot}
+
+-- a claim stays as it is, or its slot is live
+abbrev pub ClaimsChangeInLive : Type 0
+ClaimsChangeInLive =
+    (es : List EndpointConfig) (d : Delays) (c : Command) (earlier : List Command) (e : EndpointConfig) (cell : Cell) (re : ℕ)
+    → IsWithinLimits d → IsProperCommand es c → IsAt es cell.ep e
+    → (claim_at (accepted d (c ∷ earlier)) cell re ≡ claim_at (accepted d earlier) cell re) ⊎ IsLiveSlot d e c.at.0 cell.slot
+
+-- a block stays as it is, or its slot is live
+abbrev pub BlocksChangeInLive : Type 0
+BlocksChangeInLive =
+    (es : List EndpointConfig) (d : Delays) (x : Data) (earlier : List Data) (e : EndpointConfig) (cell : Cell)
+    → IsWithinLimits d → IsProperData es x → x.first.0 ≤ℤ x.last.0 → IsAt es cell.ep e
+    → (block_at (timely Ru d (x ∷ earlier)) cell ≡ block_at (timely Ru d earlier) cell) ⊎ IsLiveSlot d e x.last.0 cell.slot
+
+-- an uplink section of this endpoint's slot
+abbrev pub is_uplink_of : ℕ → Slot → Allocation → Bool
+is_uplink_of ep slot a = is_uplink a && ((a.ep == ep) && same_slot a.slot slot)
+
+-- the uplink sections of a slot stay as they are, or one more stands first
+abbrev pub UplinkGrows : Type 0
+UplinkGrows =
+    (d : Delays) (c : Command) (earlier : List Command) (ep : ℕ) (slot : Slot)
+    → (uplink_of ep slot (accepted d (c ∷ earlier)) ≡ uplink_of ep slot (accepted d earlier))
+    ⊎ ((command_verdict d (accepted d earlier) c ≡ Accepted) × (is_uplink_of ep slot (allocation_of c) ≡ true)
+    × (uplink_of ep slot (accepted d (c ∷ earlier)) ≡ allocation_of c ∷ uplink_of ep slot (accepted d earlier)))
+
+-- and their slot is live where they change
+abbrev pub UplinkChangesInLive : Type 0
+UplinkChangesInLive =
+    (es : List EndpointConfig) (d : Delays) (c : Command) (earlier : List Command) (e : EndpointConfig) (ep : ℕ) (slot : Slot)
+    → IsWithinLimits d → IsProperCommand es c → IsAt es ep e
+    → (uplink_of ep slot (accepted d (c ∷ earlier)) ≡ uplink_of ep slot (accepted d earlier)) ⊎ IsLiveSlot d e c.at.0 slot

@@ -1,0 +1,17 @@
+pub mod SweepLaws
+pub mod StartLaws
+pub mod BlockLemmas
+pub mod ClaimLemmas
+pub mod SlotLemmas
+pub mod SoundLemmas
+pub mod Read
+pub mod Told
+pub mod Whole
+pub mod TestLemmas
+pub mod VerdictLemmas
+pub mod PlainLemmas
+pub mod TimeLemmas
+pub mod RadiatedLaws
+pub mod UplinkLaws
+pub mod ReachLaws
+pub mod RunLemmas

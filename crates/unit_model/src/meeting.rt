@@ -1,0 +1,170 @@
+// What a unit makes of a whole message, by the tests that it meets.
+ghost use Rattle.std.specs.Prelude.{◌≡◌, ℤ, ◌<◌, ◌≤◌, length, IfSome, IfOk, List, All};
+ghost use Rattle.ecpri_frames.specs.Left.{message_of};
+ghost use Rattle.cplane_sections.specs.Message.{sections_in};
+ghost use Rattle.unit_model.specs.Meetings.{id_of, sequence_of, find_endpoint as endpoint_found, command_met, control_met, commands_with, meet as met_by_definition};
+ghost use Rattle.unit_model.specs.Met.{meeting_of, IsRead, IsTested};
+ghost use Rattle.unit_model.specs.Proper.{IsAt, IsTime, IsProperCommand};
+ghost use Rattle.window_config.specs.declared.endpoints.EndpointConfig.{EndpointConfig as SpecEndpoint};
+
+use crate::Command;
+use air_source::Side;
+use cplane_sections::{CHead, check, sections};
+use ecpri_fragments::{SeqField, read_seq};
+use ecpri_frames::WholeMessage;
+use fault_counters::Counter;
+use fh_base::NoMemory;
+use fh_time::{Ticks, shape};
+use std::alloc::Global;
+use window_config::EndpointConfig;
+
+/// What a whole message is to a unit.
+#[derive(Clone, Copy)]
+pub(crate) enum Met<'a> {
+    /// It is counted and changes nothing.
+    Ignored(Counter),
+    /// A C-plane message that was read, to the endpoint with this index.
+    Command {
+        ep: usize,
+        endpoint: EndpointConfig,
+        head: CHead,
+        bytes: &'a [u8],
+    },
+    /// A fragment of a U-plane message, to the endpoint with this index.
+    Piece {
+        ep: usize,
+        endpoint: EndpointConfig,
+        seq: SeqField,
+        bytes: &'a [u8],
+    },
+}
+
+/// The endpoint with an id, and its index.
+pub(crate) fn find_endpoint(
+    endpoints: &[EndpointConfig],
+    id: u16,
+) -> Option<(usize, EndpointConfig)>
+    ensures value { result ≡ endpoint_found endpoints.now id }
+    ensures at { IfSome result (λ found. IsAt endpoints.now found.0 found.1) }
+{
+    for (ep, endpoint) in endpoints.iter().enumerate() {
+        if endpoint.id == id {
+            return Some((ep, *endpoint));
+        }
+    }
+    None
+}
+
+/// The eAxC id of a payload.
+#[tactic(auto, using(std::proofs::lemmas::Grind::common_steps, bit_fields::proofs::Field::fields))]
+fn id_at(payload: &[u8]) -> u16
+    requires { 4 ≤ length payload.now }
+    ensures { result ≡ id_of payload.now }
+{
+    u16::from_be_bytes([payload[0], payload[1]])
+}
+
+/// The sequence field of a payload.
+fn sequence_at(payload: &[u8]) -> SeqField
+    requires { 4 ≤ length payload.now }
+    ensures value { result ≡ sequence_of payload.now }
+    ensures sub { result.sub < 128 }
+{
+    read_seq([payload[2], payload[3]])
+}
+
+/// A message of real-time control data to the radio unit.
+fn command<'a>(ep: usize, endpoint: EndpointConfig, payload: &'a [u8]) -> Met<'a>
+    requires { 4 ≤ length payload.now }
+    ensures value { (at : ℤ) → meeting_of at result ≡ command_met ep endpoint at payload.now }
+    ensures tested { (es : List SpecEndpoint) → IsAt es ep endpoint → IsTested es result }
+{
+    let seq = sequence_at(payload);
+    if !(seq.last && seq.sub == 0) {
+        return Met::Ignored(Counter::CRefused);
+    }
+    let bytes = &payload[4..];
+    match check(bytes, shape(&endpoint.numerology)) {
+        Ok(head) => Met::Command {
+            ep,
+            endpoint,
+            head,
+            bytes,
+        },
+        Err(_) => Met::Ignored(Counter::CRefused),
+    }
+}
+
+/// A message of real-time control data.
+fn control<'a>(side: Side, ep: usize, endpoint: EndpointConfig, payload: &'a [u8]) -> Met<'a>
+    requires { 4 ≤ length payload.now }
+    ensures value { (at : ℤ) → meeting_of at result ≡ control_met side ep endpoint at payload.now }
+    ensures tested { (es : List SpecEndpoint) → IsAt es ep endpoint → IsTested es result }
+{
+    match side {
+        Side::Ru => command(ep, endpoint, payload),
+        Side::Du => Met::Ignored(Counter::WrongWay),
+    }
+}
+
+/// What a message is to the unit at this side.
+#[tactic(auto, unfolding(crate::specs::Meetings::meet))]
+pub(crate) fn meet<'a>(
+    side: Side,
+    endpoints: &[EndpointConfig],
+    message: &WholeMessage<'a>,
+) -> Met<'a>
+    ensures value { (at : ℤ) → meeting_of at result ≡ met_by_definition side endpoints.now at (message_of message.now) }
+    ensures tested { IsTested endpoints.now result }
+{
+    let kind = message.head.kind;
+    let payload = message.payload;
+    if kind == 5 {
+        return Met::Ignored(Counter::Delay);
+    }
+    if !(kind == 0 || kind == 2) {
+        return Met::Ignored(Counter::OtherType);
+    }
+    if payload.len() < 4 {
+        return Met::Ignored(Counter::Short);
+    }
+    let (ep, endpoint) = match find_endpoint(endpoints, id_at(payload)) {
+        Some(found) => found,
+        None => return Met::Ignored(Counter::UnknownEndpoint),
+    };
+    if kind == 2 {
+        return control(side, ep, endpoint, payload);
+    }
+    Met::Piece {
+        ep,
+        endpoint,
+        seq: sequence_at(payload),
+        bytes: &payload[4..],
+    }
+}
+
+/// The sections of a command that was read, in its order.
+pub(crate) fn commands(
+    alloc: Global,
+    at: Ticks,
+    ep: usize,
+    endpoint: &EndpointConfig,
+    head: &CHead,
+    bytes: &[u8],
+) -> Result<Vec<Command>, NoMemory>
+    requires { IsRead endpoint.now head.now bytes.now }
+    ensures value { IfOk result (λ cs. cs.items ≡ commands_with ep endpoint.now at.0 head.now (sections_in head.now bytes.now)) }
+    ensures proper { (es : List SpecEndpoint) → IsAt es ep endpoint.now → IsTime at.0 → IfOk result (λ cs. All (IsProperCommand es) cs.items) }
+{
+    let mut commands = Vec::new(alloc);
+    for section in sections(bytes, head) {
+        commands.push(Command {
+            ep,
+            endpoint: *endpoint,
+            at,
+            head: *head,
+            section,
+        })?;
+    }
+    Ok(commands)
+}

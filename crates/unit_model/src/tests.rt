@@ -1,0 +1,219 @@
+// One frame of each plane, with values worked out by hand.
+ghost use Rattle.std.specs.Prelude.{◌≡◌, [], ◌∷◌, All, IfOk};
+ghost use Rattle.bfp_codec.specs.Layout.{HasWidth};
+ghost use Rattle.window_config.specs.Configs.{IsConfig};
+ghost use Rattle.window_config.specs.Endpoints.{IsEndpoint};
+ghost use Rattle.window_config.specs.Limits.{IsWithinLimits};
+ghost use Rattle.unit_model.specs.Proper.{IsTime};
+ghost use Rattle.unit_model.specs.declared.report.TimedFrame.{TimedFrame as SpecFrame};
+
+use crate::{CommandVerdict, DataVerdict, TimedFrame, plain_du, plain_ru};
+use air_source::{AirCell, Side};
+use bfp_codec::{Format, Method, Wide};
+use eaxc_map::Widths;
+use fault_counters::{Counter, Counters};
+use fh_base::{Bytes, NoMemory};
+use fh_time::{Numerology, Slot, Ticks, of_ns};
+use std::alloc::Global;
+use std::test::Fail;
+use window_config::{Config, Delays, EndpointConfig, EndpointList, Range};
+
+/// A downlink command: symbol 0 of frame 1, section 1, all elements of PRB 0.
+const COMMAND: [u8; 24] = [
+    0x10, 0x02, 0x00, 0x14, 0x00, 0x00, 0x00, 0x80, 0x90, 0x01, 0x00, 0x00, 0x01, 0x01, 0x00, 0x00,
+    0x00, 0x10, 0x00, 0x01, 0xff, 0xf1, 0x00, 0x00,
+];
+
+/// Its data: the samples (0, 0), (1, -1) and so on.
+const DATA: [u8; 64] = [
+    0x10, 0x00, 0x00, 0x3c, 0x00, 0x00, 0x00, 0x80, 0x90, 0x01, 0x00, 0x00, 0x00, 0x10, 0x00, 0x01,
+    0x00, 0x00, 0x00, 0x00, 0x00, 0x01, 0xff, 0xff, 0x00, 0x02, 0xff, 0xfe, 0x00, 0x03, 0xff, 0xfd,
+    0x00, 0x04, 0xff, 0xfc, 0x00, 0x05, 0xff, 0xfb, 0x00, 0x06, 0xff, 0xfa, 0x00, 0x07, 0xff, 0xf9,
+    0x00, 0x08, 0xff, 0xf8, 0x00, 0x09, 0xff, 0xf7, 0x00, 0x0a, 0xff, 0xf6, 0x00, 0x0b, 0xff, 0xf5,
+];
+
+fn delays() -> Delays
+    ensures { IsWithinLimits result }
+{
+    Delays {
+        t1a_up: Range {
+            min: 234_000,
+            max: 345_000,
+        },
+        t1a_cp_ul: Range {
+            min: 225_000,
+            max: 470_000,
+        },
+        t2a_up: Range {
+            min: 134_000,
+            max: 345_000,
+        },
+        t2a_cp_ul: Range {
+            min: 125_000,
+            max: 470_000,
+        },
+        ta3: Range {
+            min: 50_000,
+            max: 171_000,
+        },
+        ta4: Range {
+            min: 50_000,
+            max: 271_000,
+        },
+        t12: Range {
+            min: 0,
+            max: 100_000,
+        },
+        t34: Range {
+            min: 0,
+            max: 100_000,
+        },
+        advance: 125_000,
+        hold_dl: 211_000,
+        hold_ul: 221_000,
+    }
+}
+
+fn endpoint(numerology: Numerology) -> EndpointConfig
+    ensures { IsEndpoint result }
+{
+    EndpointConfig {
+        id: 0,
+        numerology,
+        prbs: 106,
+        format: Format {
+            dynamic: false,
+            method: Method::Plain,
+        },
+    }
+}
+
+fn listed(e: EndpointConfig) -> EndpointList
+    ensures { result ≡ e ∷ [] }
+{
+    let mut endpoints = EndpointList::new();
+    let _room = endpoints.push(e);
+    endpoints
+}
+
+fn config(numerology: Numerology, widths: Widths) -> Config
+    ensures { IsConfig result }
+{
+    Config {
+        widths,
+        delays: delays(),
+        gap: 1_000,
+        fragment: 1_492,
+        endpoints: listed(endpoint(numerology)),
+    }
+}
+
+fn frame(alloc: Global, at: Ticks, bytes: &[u8]) -> Result<TimedFrame, NoMemory>
+    ensures { IfOk result (λ f. f.at ≡ at) }
+{
+    let mut frame = Bytes::new(alloc);
+    frame.push_all(bytes)?;
+    Ok(TimedFrame { at, frame })
+}
+
+fn frames(alloc: Global) -> Result<Vec<TimedFrame>, NoMemory>
+    ensures { IfOk result (λ all. All (λ (f : SpecFrame). IsTime f.at.0) all.items) }
+{
+    let command = frame(alloc, of_ns(9_600_000), &COMMAND)?;
+    let data = frame(alloc, of_ns(9_700_000), &DATA)?;
+    let mut frames = Vec::new(alloc);
+    frames.push(command)?;
+    frames.push(data)?;
+    Ok(frames)
+}
+
+/// Whether these counters alone stand above 0, at these values.
+fn has_counted(counters: &Counters, wanted: &[(Counter, u64)]) -> bool {
+    for counter in Counter::all() {
+        let mut value = 0;
+        for (other, times) in wanted {
+            if *other == counter {
+                value = *times;
+            }
+        }
+        if counters.get(counter) != value {
+            return false;
+        }
+    }
+    true
+}
+
+#[test]
+fn a_commanded_cell_radiates(rt: HostRuntime) -> Result<(), Fail> {
+    let alloc = rt.alloc();
+    let n = Numerology::ordinary(1).expect(&rt, "30 kHz");
+    let config = config(n, Widths::new(4, 4, 4, 4)?);
+    let frames = frames(alloc)?;
+    let report = plain_ru(alloc, &config, &frames, Ticks(15_360_000_000))?;
+    let mut samples = [Wide { i: 0, q: 0 }; 12];
+    for k in 0..12usize {
+        samples[k] = Wide {
+            i: k as i32,
+            q: -(k as i32),
+        };
+    }
+    let cell = AirCell {
+        side: Side::Ru,
+        at: Ticks(15_360_000_000),
+        id: 0,
+        slot: Slot {
+            frame: 1,
+            subframe: 0,
+            slot: 0,
+        },
+        symbol: 0,
+        prb: 0,
+        section: 1,
+        mask: 0xfff,
+        block: Some(samples),
+    };
+    assert_eq!(rt; report.cells.len(), 1);
+    assert_eq!(rt; report.cells.get(0).copied(), Some(cell));
+    assert_eq!(rt; report.jobs.len(), 0);
+    assert_eq!(rt; report.command_verdicts.len(), 1);
+    assert_eq!(rt;
+        report.command_verdicts.get(0).copied(),
+        Some(CommandVerdict::Accepted)
+    );
+    assert_eq!(rt; report.data_verdicts.len(), 1);
+    assert_eq!(rt;
+        report.data_verdicts.get(0).copied(),
+        Some(DataVerdict::Taken)
+    );
+    let wanted = [
+        (Counter::Frames, 2),
+        (Counter::Messages, 2),
+        (Counter::CAccepted, 1),
+        (Counter::FWhole, 1),
+        (Counter::UTaken, 1),
+        (Counter::Cells, 1),
+    ];
+    assert!(rt; has_counted(&report.counters, &wanted));
+    Ok(())
+}
+
+#[test]
+fn downlink_frames_go_the_wrong_way_at_the_du(rt: HostRuntime) -> Result<(), Fail> {
+    let alloc = rt.alloc();
+    let n = Numerology::ordinary(1).expect(&rt, "30 kHz");
+    let config = config(n, Widths::new(4, 4, 4, 4)?);
+    let frames = frames(alloc)?;
+    let report = plain_du(alloc, &config, &[], &frames, Ticks(15_776_256_000))?;
+    assert_eq!(rt; report.cells.len(), 0);
+    assert_eq!(rt; report.jobs.len(), 0);
+    assert_eq!(rt; report.command_verdicts.len(), 0);
+    assert_eq!(rt; report.data_verdicts.len(), 0);
+    let wanted = [
+        (Counter::Frames, 2),
+        (Counter::Messages, 2),
+        (Counter::WrongWay, 2),
+        (Counter::FWhole, 1),
+    ];
+    assert!(rt; has_counted(&report.counters, &wanted));
+    Ok(())
+}
