@@ -142,6 +142,131 @@ fn second_lines_just_fail(rt: HostRuntime) -> Result<(), Fail> {
     Ok(())
 }
 
+/// A configuration line at the least of its numbers, one at the greatest, and one that goes past an end.
+#[derive(Clone, Copy)]
+struct Ends {
+    least: &'static [u8],
+    greatest: &'static [u8],
+    beyond: &'static [u8],
+}
+
+/// Those of every configuration keyword.
+fn settings() -> [Ends; 17] {
+    [
+        Ends {
+            least: b"widths 0 0 0 16",
+            greatest: b"widths 16 0 0 0",
+            beyond: b"widths 17 0 0 0",
+        },
+        Ends {
+            least: b"t1a 0 0 0 0",
+            greatest: b"t1a 2000000 2000000 2000000 2000000",
+            beyond: b"t1a 0 2000001 0 0",
+        },
+        Ends {
+            least: b"t2a 1 1 1 1",
+            greatest: b"t2a 2000000 2000000 2000000 2000000",
+            beyond: b"t2a 1 1 0 1",
+        },
+        Ends {
+            least: b"advance 0",
+            greatest: b"advance 2000000",
+            beyond: b"advance 2000001",
+        },
+        Ends {
+            least: b"ta3 0 0",
+            greatest: b"ta3 2000000 2000000",
+            beyond: b"ta3 0 2000001",
+        },
+        Ends {
+            least: b"ta4 0 0",
+            greatest: b"ta4 2000000 2000000",
+            beyond: b"ta4 0 2000001",
+        },
+        Ends {
+            least: b"t12 0 0",
+            greatest: b"t12 2000000 2000000",
+            beyond: b"t12 0 2000001",
+        },
+        Ends {
+            least: b"t34 0 0",
+            greatest: b"t34 2000000 2000000",
+            beyond: b"t34 0 2000001",
+        },
+        Ends {
+            least: b"hold 0 0",
+            greatest: b"hold 2000000 2000000",
+            beyond: b"hold 2000001 0",
+        },
+        Ends {
+            least: b"gap 0",
+            greatest: b"gap 2000000",
+            beyond: b"gap 2000001",
+        },
+        Ends {
+            least: b"fragment 128",
+            greatest: b"fragment 9000",
+            beyond: b"fragment 9001",
+        },
+        Ends {
+            least: b"source 0 1",
+            greatest: b"source 4294967295 32768",
+            beyond: b"source 0 32769",
+        },
+        Ends {
+            least: b"antenna 0 1",
+            greatest: b"antenna 4294967295 32768",
+            beyond: b"antenna 4294967296 1",
+        },
+        Ends {
+            least: b"comp 0 0 0 0",
+            greatest: b"comp 65536000000 65536000000 65536000000 65536000000",
+            beyond: b"comp 65536000001 0 0 0",
+        },
+        Ends {
+            least: b"transit dl 0",
+            greatest: b"transit dl 3000000000",
+            beyond: b"transit dl 3000000001",
+        },
+        Ends {
+            least: b"transit ul 0",
+            greatest: b"transit ul 3000000000",
+            beyond: b"transit ul 3000000001",
+        },
+        Ends {
+            least: b"transit m 1",
+            greatest: b"transit m 3000000000",
+            beyond: b"transit m 3000000001",
+        },
+    ]
+}
+
+#[test]
+fn numbers_reach_both_ends_of_their_ranges(rt: HostRuntime) -> Result<(), Fail> {
+    for case in settings() {
+        assert_eq!(rt; second(rt.alloc(), case.least)?, None);
+        assert_eq!(rt; second(rt.alloc(), case.greatest)?, None);
+        assert_eq!(rt; second(rt.alloc(), case.beyond)?, Some((2, DocWhy::Number)));
+    }
+    Ok(())
+}
+
+#[test]
+fn each_configuration_keyword_stands_once(rt: HostRuntime) -> Result<(), Fail> {
+    for case in settings() {
+        let mut text = Bytes::new(rt.alloc());
+        text.push_all(b"fronthaul 1\n")?;
+        text.push_all(case.least)?;
+        text.push_all(b"\n")?;
+        text.push_all(case.greatest)?;
+        assert_eq!(rt;
+            refusal(rt.alloc(), text.as_slice()),
+            Some((3, DocWhy::Twice))
+        );
+    }
+    Ok(())
+}
+
 #[test]
 fn second_lines_just_pass(rt: HostRuntime) -> Result<(), Fail> {
     let cases: [&[u8]; 15] = [
