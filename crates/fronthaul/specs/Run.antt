@@ -33,6 +33,21 @@ AnswersCommand refusal before now WriteFault = (refusal ≡ None) × Rose before
 AnswersCommand refusal before now NoMemory = Unit {0}
 AnswersCommand refusal before now status = ⊥
 
+-- Why writing a whole text answers a status: a fault of writing comes only where the sink's count of faults rose, and the input is
+-- neither refused nor judged.
+abbrev pub AnswersText : ℕ → ℕ → Status → Type 0
+AnswersText before now Done = Unit {0}
+AnswersText before now WriteFault = Rose before now
+AnswersText before now NoMemory = Unit {0}
+AnswersText before now status = ⊥
+
+-- what is done with a whole text
+pub record Puts (text : List ℕ) (written_old written_new : Option (List ℕ)) (before now : ℕ) (status : Status) : Type 0 where
+  pub front : WritesFront written_old written_new text
+  pub done : status ≡ Done → written_new ≡ append_known written_old text
+  pub answers : AnswersText before now status
+  pub later : before ≤ now
+
 -- what a command does over a whole input
 pub record Performs (command : Command) (bytes : List ℕ) (written_old written_new : Option (List ℕ)) (before now : ℕ) (status : Status) : Type 0 where
   pub front : WritesFront written_old written_new (command_text command bytes)

@@ -1,6 +1,8 @@
 -- What a status ends the process with, and the line that it writes.
 use Rattle.std.specs.Prelude.{ℕ, List, [], ◌++◌, codes, decimal}
-use Rattle.fronthaul_replay.specs.declared.document.DocWhy.TheVariants.{NotText, FirstLine, UnknownWord, Order, Twice, Words, Number, NotBuilt}
+use Rattle.fh_document.specs.Refusals.{name_of}
+use Rattle.fh_document.specs.declared.refusals.DocFault.{DocFault}
+use Rattle.fh_document.specs.declared.refusals.DocFault.TheVariants as doc
 use Rattle.fronthaul.specs.declared.status.LineWhy.{LineWhy}
 use Rattle.fronthaul.specs.declared.status.LineWhy.TheVariants.{Doc}
 use Rattle.fronthaul.specs.declared.status.Status.{Status}
@@ -16,16 +18,14 @@ code_of WriteFault = 6
 code_of NoMemory = 7
 code_of TooLong = 8
 
+-- the status of a document that was not read
+abbrev pub unread_status : DocFault → Status
+unread_status (doc.At line why) = BadDocument line (Doc why)
+unread_status doc.NoMemory = NoMemory
+
 -- a reason's name
 abbrev pub why_name : LineWhy → List ℕ
-why_name (Doc NotText) = codes "NotText"
-why_name (Doc FirstLine) = codes "FirstLine"
-why_name (Doc UnknownWord) = codes "UnknownWord"
-why_name (Doc Order) = codes "Order"
-why_name (Doc Twice) = codes "Twice"
-why_name (Doc Words) = codes "Words"
-why_name (Doc Number) = codes "Number"
-why_name (Doc NotBuilt) = codes "NotBuilt"
+why_name (Doc why) = name_of why
 
 -- the end of a refusal's line
 abbrev pub why_end : LineWhy → List ℕ

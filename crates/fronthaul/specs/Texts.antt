@@ -1,17 +1,23 @@
 -- What the program writes, by its words and its input.
 use Rattle.std.specs.Prelude.{ℕ, List, [], Option, None, Some, Result, Ok, Err}
-use Rattle.fronthaul_replay.specs.declared.document.DocWhy.{DocWhy}
-use Rattle.fronthaul_replay.specs.Document.{document_of}
-use Rattle.fronthaul_replay.specs.Replay.{replay_text}
+use Rattle.fh_document.specs.declared.document.Document.{Document}
+use Rattle.fh_document.specs.declared.refusals.DocWhy.{DocWhy}
+use Rattle.fh_document.specs.Document.{document_of}
+use Rattle.fronthaul_replay.specs.Reports.{injected_report}
 use Rattle.fronthaul.specs.declared.command.Command.{Command}
 use Rattle.fronthaul.specs.declared.command.Command.TheVariants.{Replay}
 use Rattle.fronthaul.specs.declared.status.LineWhy.{LineWhy}
 use Rattle.fronthaul.specs.declared.status.LineWhy.TheVariants.{Doc}
 use Rattle.fronthaul.specs.Words.{command_of}
 
+-- the report of a document that is read, and nothing where it is refused
+abbrev pub report_or_none : {W : Type 0} → Result Document W → List ℕ
+report_or_none (Ok document) = injected_report document
+report_or_none (Err why) = []
+
 -- the text of a command over an input, nothing where the input is refused
 unfoldable pub command_text : Command → List ℕ → List ℕ
-command_text Replay bytes = replay_text bytes
+command_text Replay bytes = report_or_none (document_of bytes)
 
 -- the line and the reason at which the grammar refuses a document
 abbrev pub grammar_refusal : {D : Type 0} → Result D (ℕ × DocWhy) → Option (ℕ × LineWhy)

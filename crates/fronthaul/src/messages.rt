@@ -7,7 +7,7 @@ ghost use Rattle.fronthaul.specs.Statuses.{line_of, refusal_line, why_end};
 
 use crate::status::{LineWhy, Status};
 use fh_base::{Sink, SinkFault, write_all_to};
-use fronthaul_replay::DocWhy;
+use fh_document::DocWhy;
 use itoa::Buffer;
 
 /// Writes the status's line, nothing for `Done`.
@@ -52,6 +52,9 @@ fn end_of_line(why: LineWhy) -> &'static [u8]
         DocWhy::Twice => b": Twice\n",
         DocWhy::Words => b": Words\n",
         DocWhy::Number => b": Number\n",
+        DocWhy::WidthSum => b": WidthSum\n",
+        DocWhy::MinMax => b": MinMax\n",
+        DocWhy::TooMany => b": TooMany\n",
         DocWhy::NotBuilt => b": NotBuilt\n",
     }
 }

@@ -1,7 +1,7 @@
 // What a run answers.
 ghost use Rattle.std.specs.Prelude.{◌≡◌};
 
-use fronthaul_replay::DocWhy;
+use fh_document::DocWhy;
 
 /// Why a line of the document is refused.
 #[derive(Clone, Copy, Debug, PartialEq, Eq)]

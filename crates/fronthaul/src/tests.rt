@@ -2,7 +2,7 @@
 use crate::status::{LineWhy, Status};
 use crate::top_call::run;
 use fh_base::{Bytes, List, MemorySink, MemorySource, NoMemory, PlainSink, PlainSource};
-use fronthaul_replay::DocWhy;
+use fh_document::DocWhy;
 use std::alloc::Global;
 use std::test::Fail;
 

@@ -2,13 +2,16 @@
 ghost use Rattle.std.specs.Prelude.{◌≡◌, ◌⊎◌};
 ghost use Rattle.fh_base.specs.Causes.{Rose};
 ghost use Rattle.fh_base.specs.Told.{WritesFront};
-ghost use Rattle.fronthaul.specs.Run.{Outcome, Performs, WritesWholeOr};
-ghost use Rattle.fronthaul.specs.Statuses.{line_of};
+ghost use Rattle.fh_document.specs.Proper.{IsDocument};
+ghost use Rattle.fronthaul_replay.specs.Reports.{injected_report};
+ghost use Rattle.fronthaul.specs.Run.{Outcome, Performs, Puts, WritesWholeOr};
+ghost use Rattle.fronthaul.specs.Statuses.{line_of, unread_status};
 
 use crate::command::{Command, read_words};
 use crate::messages::write_message;
 use crate::status::{LineWhy, Status};
 use fh_base::{Bytes, List, ReadAllFault, Sink, Source, read_all};
+use fh_document::{DocFault, Document, read};
 use fronthaul_replay::{InjectedFault, replay_injected};
 use std::alloc::Global;
 
@@ -62,16 +65,36 @@ fn perform<K: Sink>(alloc: Global, command: Command, bytes: &[u8], out: &mut K) 
     }
 }
 
-/// Writes the report of a document.
+/// Reads a document and writes its report.
 fn perform_replay<K: Sink>(alloc: Global, bytes: &[u8], out: &mut K) -> Status
     ensures { Performs Command.Replay bytes.now (K.written out.old) (K.written out.new) (K.faults out.old) (K.faults out.new) result }
 {
-    match replay_injected(alloc, bytes, out) {
-        Ok(()) => Status::Done,
-        Err(InjectedFault::At { line, why }) => Status::BadDocument {
+    match read(alloc, bytes) {
+        Ok(document) => put_report(alloc, &document, out),
+        Err(fault) => unread(fault),
+    }
+}
+
+/// What a document that was not read is answered.
+fn unread(fault: DocFault) -> Status
+    ensures { result ≡ unread_status fault }
+{
+    match fault {
+        DocFault::At { line, why } => Status::BadDocument {
             line,
             why: LineWhy::Doc(why),
         },
+        DocFault::NoMemory => Status::NoMemory,
+    }
+}
+
+/// Writes the report of a document.
+fn put_report<K: Sink>(alloc: Global, document: &Document, out: &mut K) -> Status
+    requires { IsDocument document.now }
+    ensures { Puts (injected_report document.now) (K.written out.old) (K.written out.new) (K.faults out.old) (K.faults out.new) result }
+{
+    match replay_injected(alloc, document, out) {
+        Ok(()) => Status::Done,
         Err(InjectedFault::WriteFault) => Status::WriteFault,
         Err(InjectedFault::NoMemory) => Status::NoMemory,
     }

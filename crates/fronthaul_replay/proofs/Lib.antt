@@ -1,13 +1,2 @@
-pub mod SweepLemmas
-pub mod RangeLemmas
-pub mod VerdictLemmas
-pub mod KnownLemmas
-pub mod ArrivalLemmas
-pub mod SweptLemmas
-pub mod ReportLemmas
-pub mod RadiateLemmas
-pub mod DigitLemmas
-pub mod HexLemmas
-pub mod SearchLemmas
-pub mod LineLemmas
-pub mod BuiltLemmas
+pub mod Placed
+pub mod Texts

@@ -1,47 +1,58 @@
-// A replay of injected frames, from the document's bytes to the report's.
+// A replay of injected frames: the report of a document, written.
 ghost use Rattle.std.specs.Prelude.{◌≡◌, ◌≤◌, OnOk};
 ghost use Rattle.std.specs.Io.KnownBytes.{append_known};
 ghost use Rattle.fh_base.specs.Told.{WritesFront};
-ghost use Rattle.fronthaul_replay.specs.Document.{document_of};
-ghost use Rattle.fronthaul_replay.specs.Replay.{replay_text, AnswersReplay};
+ghost use Rattle.fh_document.specs.Proper.{IsDocument};
+ghost use Rattle.fronthaul_replay.specs.Replay.{HasWriteCause};
+ghost use Rattle.fronthaul_replay.specs.Reports.{injected_report};
 
-use crate::document::{DocFault, DocWhy, read};
-use crate::reporting::report;
+use crate::reports::report_of;
 use fh_base::{NoMemory, Sink, SinkFault, write_all_to};
+use fh_document::Document;
 use std::alloc::Global;
 
 /// Why a replay did not write its whole report.
 #[derive(Clone, Copy, Debug, PartialEq, Eq)]
 pub enum InjectedFault {
-    /// The document is refused: the first line that fails, counted from 1, and its first reason. Nothing was written.
-    At { line: usize, why: DocWhy },
     /// The sink failed. A front part of the report was written.
     WriteFault,
     /// Memory was refused. A front part of the report was written.
     NoMemory,
 }
 
-/// Reads a document and writes its report: each cell that radiates, the counters of the radio unit, and `end`.
+/// Writes the report of a document: each cell that radiates, the counters of the radio unit that are not at 0, and `end`.
+///
+/// At Ok exactly the report was appended to what `out` holds; whatever the answer, a front part of it was.
+///
+/// # Errors
+///
+/// [`InjectedFault::WriteFault`] where writing failed, only where the sink's count of faults rose. [`InjectedFault::NoMemory`] where
+/// memory runs out, in the sink too.
 pub fn replay_injected<K: Sink>(
     alloc: Global,
-    bytes: &[u8],
+    document: &Document,
     out: &mut K,
 ) -> Result<(), InjectedFault>
-    ensures front { WritesFront (K.written out.old) (K.written out.new) (replay_text bytes.now) }
-    ensures done { OnOk result (K.written out.new ≡ append_known (K.written out.old) (replay_text bytes.now)) }
-    ensures answers { AnswersReplay (document_of bytes.now) (K.faults out.old) (K.faults out.new) result }
+    requires { IsDocument document.now }
+    ensures front { WritesFront (K.written out.old) (K.written out.new) (injected_report document.now) }
+    ensures done { OnOk result (K.written out.new ≡ append_known (K.written out.old) (injected_report document.now)) }
+    ensures cause { HasWriteCause (K.faults out.old) (K.faults out.new) result }
     ensures later { K.faults out.old ≤ K.faults out.new }
 {
-    let document = match read(alloc, bytes) {
-        Ok(document) => document,
-        Err(DocFault::At { line, why }) => return Err(InjectedFault::At { line, why }),
-        Err(DocFault::NoMemory) => return Err(InjectedFault::NoMemory),
-    };
-    let text = match report(alloc, &document) {
-        Ok(text) => text,
-        Err(NoMemory) => return Err(InjectedFault::NoMemory),
-    };
-    match write_all_to(out, text.as_slice()) {
+    match report_of(alloc, document) {
+        Ok(text) => put(text.as_slice(), out),
+        Err(NoMemory) => Err(InjectedFault::NoMemory),
+    }
+}
+
+/// Writes a text.
+fn put<K: Sink>(text: &[u8], out: &mut K) -> Result<(), InjectedFault>
+    ensures front { WritesFront (K.written out.old) (K.written out.new) text.now }
+    ensures done { OnOk result (K.written out.new ≡ append_known (K.written out.old) text.now) }
+    ensures cause { HasWriteCause (K.faults out.old) (K.faults out.new) result }
+    ensures later { K.faults out.old ≤ K.faults out.new }
+{
+    match write_all_to(out, text) {
         Ok(()) => Ok(()),
         Err(SinkFault::Failed) => Err(InjectedFault::WriteFault),
         Err(SinkFault::NoMemory) => Err(InjectedFault::NoMemory),
