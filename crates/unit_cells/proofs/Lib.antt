@@ -1,0 +1,13 @@
+pub mod StepLemmas
+pub mod NumberLemmas
+pub mod ListLemmas
+pub mod ApartLemmas
+pub mod ToldLemmas
+pub mod KeepLemmas
+pub mod RingsLemmas
+pub mod TimeLemmas
+pub mod TakeLemmas
+pub mod FillLemmas
+pub mod CallLemmas
+pub mod SectionLemmas
+pub mod MarkLemmas

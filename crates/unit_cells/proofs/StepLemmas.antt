@@ -1,0 +1,69 @@
+-- Steps of one ring, one after the other.
+use Rattle.std.proofs.Common.{◌≡◌, ℕ, pos, ◌<◌, ◌∙◌, true, length, refl, ap, sym, subst, Option, Some}
+use Rattle.std.specs.Int.{int_gap, int_rem_euclid}
+use Rattle.fh_time.specs.Numbering.{slot_number, symbols_of}
+use Rattle.fh_time.specs.declared.values.Slot.{Slot}
+use Rattle.window_config.specs.declared.endpoints.EndpointConfig.{EndpointConfig}
+use Rattle.unit_model.specs.Claims.{cell_at, cell_of}
+use Rattle.unit_model.specs.Lists.{or_else}
+use Rattle.unit_model.specs.Proper.{IsSlot}
+use Rattle.unit_model.specs.declared.allocations.Allocation.{Allocation}
+use Rattle.unit_model.specs.declared.cells.Block.{Block}
+use Rattle.unit_model.specs.declared.cells.Cell.{Cell}
+use Rattle.unit_model.specs.declared.cells.Claim.{Claim}
+use Rattle.unit_model.specs.declared.verdicts.CommandVerdict.{CommandVerdict}
+use Rattle.slot_rings.specs.Rings.{IsRingCell, RingValue, SameBlocks, SameClaims, SameDone, SameUplink, TouchesOnly, place_index, ring_claim, ring_uplink}
+use Rattle.slot_rings.specs.Verdicts.{claim_after, uplink_after, verdict_by}
+use Rattle.slot_rings.proofs.PlaceLemmas.{verdict_same}
+use Rattle.unit_cells.specs.Steps.{Claims, Fills, Takes}
+
+pub same_index : (slot s : Slot) (old new : RingValue) → TouchesOnly slot old new → place_index new s ≡ place_index old s
+same_index slot s old new touches =
+    ap (λ (e : EndpointConfig). int_gap (pos 0) (int_rem_euclid (slot_number e.numerology s) (pos (length new.places)))) touches.endpoint
+    ∙ ap (λ (n : ℕ). int_gap (pos 0) (int_rem_euclid (slot_number old.endpoint.numerology s) (pos n))) touches.size
+
+pub touches_both : (slot : Slot) (old mid new : RingValue) → TouchesOnly slot old mid → TouchesOnly slot mid new → TouchesOnly slot old new
+touches_both slot old mid new one two = record {
+  endpoint = two.endpoint ∙ one.endpoint;
+  size = two.size ∙ one.size;
+  others = λ s ne. two.others s (λ share. ne (sym (same_index slot s old mid one) ∙ share ∙ same_index slot slot old mid one)) ∙ one.others s ne;
+}
+
+pub ring_cell_along : (old new : RingValue) (cell : Cell) → new.endpoint ≡ old.endpoint → IsRingCell old cell → IsRingCell new cell
+ring_cell_along old new cell e is = record {
+  slot = subst (λ (x : EndpointConfig). IsSlot x.numerology cell.slot) (sym e) is.slot;
+  symbol = subst (λ (x : EndpointConfig). cell.symbol < symbols_of x.numerology) (sym e) is.symbol;
+  prb = subst (λ (x : EndpointConfig). cell.prb < x.prbs) (sym e) is.prb;
+}
+
+pub taken : (a : Allocation) (v : CommandVerdict) (old mid new : RingValue)
+    → SameClaims a.slot old mid → SameBlocks a.slot old mid → SameDone a.slot old mid → SameUplink a.slot old mid → TouchesOnly a.slot old mid
+    → v ≡ verdict_by (ring_claim mid) (length (ring_uplink mid a.slot)) a → Claims a v mid new → Takes a v old new
+taken a v old mid new claims blocks done uplink touches verdict c = record {
+  verdict =
+      verdict ∙ ap (λ us. verdict_by (ring_claim mid) (length us) a) uplink
+      ∙ verdict_same (ring_claim mid) (ring_claim old) (length (ring_uplink old a.slot)) a (λ y n re. claims (cell_of a y n) re refl);
+  claims = record {
+    claims = λ cell re is ep at below.
+        c.claims cell re (ring_cell_along old mid cell touches.endpoint is) ep at below
+        ∙ ap (λ (x : Option Claim). claim_after v a cell re x) (claims cell re at);
+    uplink = c.uplink ∙ ap (uplink_after v a) uplink;
+    has = c.has;
+    blocks = λ cell at. c.blocks cell at ∙ blocks cell at;
+    done = λ cell at. c.done cell at ∙ done cell at;
+    touches = touches_both a.slot old mid new touches c.touches;
+  };
+}
+
+pub filled : (slot : Slot) (symbol prb : ℕ) (block : Block) (old mid new : RingValue)
+    → SameClaims slot old mid → SameBlocks slot old mid → SameDone slot old mid → SameUplink slot old mid → TouchesOnly slot old mid
+    → Fills slot symbol prb block mid new → Fills slot symbol prb block old new
+filled slot symbol prb block old mid new claims blocks done uplink touches f = record {
+  here = λ ep. f.here ep ∙ ap (λ (o : Option Block). or_else o (Some block)) (blocks (cell_at ep true slot symbol prb) refl);
+  others = λ cell is at ne. f.others cell (ring_cell_along old mid cell touches.endpoint is) at ne ∙ blocks cell at;
+  has = f.has;
+  claims = λ cell re at. f.claims cell re at ∙ claims cell re at;
+  done = λ cell at. f.done cell at ∙ done cell at;
+  uplink = f.uplink ∙ uplink;
+  touches = touches_both slot old mid new touches f.touches;
+}

@@ -1,0 +1,134 @@
+-- What the rings keep as time passes.
+use Rattle.std.proofs.Common.{◌≡◌, ℕ, ℤ, ◌-ℤ◌, ◌≤ℤ◌, ◌<ℤ◌, false, List, [], ◌∷◌, refl, sym, ap, ◌∙◌, subst, arith, inl, inr, Option, Some, None}
+use Rattle.std.specs.Prelude.{All}
+use Rattle.std.proofs.lemmas.Bool.{cases_Bool}
+use Rattle.std.proofs.lemmas.Int.{ints}
+use Rattle.std.proofs.lemmas.List.Elements.{All-head, All-tail, All-weaker}
+use Rattle.fh_time.specs.Air.{air_of}
+use Rattle.fh_time.specs.declared.numerology.Numerology.{Numerology}
+use Rattle.fh_time.specs.declared.values.Slot.{Slot}
+use Rattle.window_config.specs.Windows.{ticks_of_ns}
+use Rattle.window_config.specs.Rings.{ru_reach_of}
+use Rattle.window_config.specs.declared.config.Config.{Config}
+use Rattle.window_config.specs.declared.endpoints.EndpointConfig.{EndpointConfig}
+use Rattle.window_config.specs.declared.rings.Reach.{Reach}
+use Rattle.unit_model.specs.Blocks.{data_covers, data_slot}
+use Rattle.unit_model.specs.Proper.{IsAt}
+use Rattle.unit_model.specs.Standing.{IsLiveAt}
+use Rattle.unit_model.specs.declared.allocations.Allocation.{Allocation}
+use Rattle.unit_model.specs.declared.cells.Block.{Block}
+use Rattle.unit_model.specs.declared.cells.Cell.{Cell}
+use Rattle.unit_model.specs.declared.decoded.Data.{Data}
+use Rattle.unit_model.specs.Lists.{or_else}
+use Rattle.unit_laws.specs.Far.{IsFar, IsReached, IsReachedData, WasLive}
+use Rattle.unit_laws.specs.Ticks.{IsLiveSlot}
+use Rattle.unit_laws.proofs.CellLemmas.{data_covers_is}
+use Rattle.unit_laws.proofs.FarLemmas.{endpoints_equal, far_no_uplink, far_unclaimed}
+use Rattle.unit_laws.proofs.TickLemmas.{live_later}
+use Rattle.slot_rings.specs.Rings.{RingValue}
+use Rattle.unit_cells.specs.Cells.{block_from, cells_has, claim_from, done_from, has_from, ring_of, uplink_from}
+use Rattle.unit_cells.specs.Keeping.{FarHasNoPlace, FarIsNotMarked, KeepsLater}
+use Rattle.unit_cells.specs.Told.{told_block_at, told_block_in}
+use Rattle.unit_cells.proofs.KeepLemmas.{was_later}
+use Rattle.unit_cells.proofs.ToldLemmas.{or_none, told-cons}
+
+-- ---- a slot that has no place
+
+pub no_claim_from : (o : Option RingValue) (cell : Cell) (re : ℕ) → has_from o cell.slot ≡ false → claim_from o cell re ≡ None
+no_claim_from None cell re h = refl
+no_claim_from (Some r) cell re h = rw h refl
+
+pub no_block_from : (o : Option RingValue) (cell : Cell) → has_from o cell.slot ≡ false → block_from o cell ≡ None
+no_block_from None cell h = refl
+no_block_from (Some r) cell h = rw h refl
+
+pub no_done_from : (o : Option RingValue) (cell : Cell) → has_from o cell.slot ≡ false → done_from o cell ≡ false
+no_done_from None cell h = refl
+no_done_from (Some r) cell h = rw h refl
+
+pub no_uplink_from : (o : Option RingValue) (slot : Slot) → has_from o slot ≡ false → uplink_from o slot ≡ []
+no_uplink_from None slot h = refl
+no_uplink_from (Some r) slot h = rw h refl
+
+-- ---- a slot that is not live yet
+
+beyond : (x when clock : ℤ) → x ≤ℤ when → when ≤ℤ clock → clock <ℤ x → ⊥
+beyond x when clock a b c = omega (arith, ints)
+
+not_far : (n : Numerology) (r : Reach) (clock : ℤ) (slot : Slot) → WasLive n r clock slot → IsFar n r clock slot → ⊥
+not_far n r clock slot was far = beyond (air_of n slot 0 -ℤ ticks_of_ns r.before) was.when clock was.live.begun was.come far
+
+far_other : (es : List EndpointConfig) (r : Reach) (clock : ℤ) (i j : ℕ) (e f : EndpointConfig) (s t : Slot) → IsAt es i e → IsAt es j f → i ≡ j → s ≡ t
+    → WasLive e.numerology r clock s → IsFar f.numerology r clock t → ⊥
+far_other es r clock i j e f s t at_i at_j same slots was far =
+    let was_f : WasLive f.numerology r clock s = subst (λ (x : EndpointConfig). WasLive x.numerology r clock s) (endpoints_equal es i j e f at_i at_j same) was in
+    not_far f.numerology r clock t (subst (WasLive f.numerology r clock) slots was_f) far
+
+pub far_no_place : FarHasNoPlace
+far_no_place c clock v acc ds e ep slot keeps at far = elim (cases_Bool (cells_has v ep slot)) [
+  | inl has ↦ absurd (not_far e.numerology (ru_reach_of c.delays) clock slot (keeps.reached e ep slot at has) far)
+  | inr none ↦ none
+]
+
+pub far_not_marked : FarIsNotMarked
+far_not_marked c clock v acc ds e cell keeps at far = no_done_from (ring_of v cell.ep) cell (far_no_place c clock v acc ds e cell.ep cell.slot keeps at far)
+
+far_not_told : (es : List EndpointConfig) (r : Reach) (clock : ℤ) (ds : List Data) (e : EndpointConfig) (cell : Cell)
+    → All (IsReachedData es r clock) ds → IsAt es cell.ep e → IsFar e.numerology r clock cell.slot → told_block_at ds cell ≡ None
+unfolding told_block_at
+far_not_told es r clock [] e cell all at far = refl
+far_not_told es r clock (d ∷ earlier) e cell all at far =
+    let before : told_block_at earlier cell ≡ None = far_not_told es r clock earlier e cell (All-tail (IsReachedData es r clock) d earlier all) at far in
+    let first : IsReachedData es r clock d = All-head (IsReachedData es r clock) d earlier all in
+    elim (cases_Bool (data_covers d cell)) [
+      | inr other ↦
+          let none : told_block_in d cell ≡ None = rw other refl in
+          told-cons d earlier cell ∙ ap (λ (o : Option Block). or_else (told_block_at earlier cell) o) none ∙ or_none (told_block_at earlier cell) ∙ before
+      | inl own ↦
+          let is = data_covers_is d cell own in
+          absurd (far_other es r clock d.ep cell.ep d.endpoint e (data_slot d) cell.slot first.endpoint at is.ep is.slot first.live far)
+    ]
+
+-- ---- later
+
+reached_later : (es : List EndpointConfig) (r : Reach) (clock to : ℤ) → clock ≤ℤ to → (a : Allocation) → IsReached es r clock a → IsReached es r to a
+reached_later es r clock to order a is = record { endpoint = is.endpoint; live = was_later a.endpoint.numerology r clock to a.slot order is.live }
+
+reached_data_later : (es : List EndpointConfig) (r : Reach) (clock to : ℤ) → clock ≤ℤ to → (d : Data) → IsReachedData es r clock d → IsReachedData es r to d
+reached_data_later es r clock to order d is = record { endpoint = is.endpoint; live = was_later d.endpoint.numerology r clock to (data_slot d) order is.live }
+
+pub live_at : (c : Config) (clock : ℤ) (e : EndpointConfig) (ep : ℕ) (slot : Slot) → IsAt c.endpoints ep e
+    → IsLiveSlot c.delays e clock slot → IsLiveAt c clock ep slot
+live_at c clock e ep slot at live f there =
+    subst (λ (x : EndpointConfig). IsLiveSlot c.delays x clock slot)
+    (endpoints_equal c.endpoints ep ep e f at there refl) live
+
+pub keeps_later : KeepsLater
+keeps_later c clock to v acc ds order keeps = record {
+  claims = λ e cell re is live below.
+      elim (live_later e.numerology (ru_reach_of c.delays) clock to cell.slot order (live e is.endpoint)) [
+        | inl now ↦ keeps.claims e cell re is (live_at c clock e cell.ep cell.slot is.endpoint now) below
+        | inr far ↦
+            no_claim_from (ring_of v cell.ep) cell re (far_no_place c clock v acc ds e cell.ep cell.slot keeps is.endpoint far)
+            ∙ sym (far_unclaimed c.endpoints (ru_reach_of c.delays) clock acc e cell re keeps.accepted is.endpoint far)
+      ];
+  blocks = λ e cell is down live.
+      elim (live_later e.numerology (ru_reach_of c.delays) clock to cell.slot order (live e is.endpoint)) [
+        | inl now ↦ keeps.blocks e cell is down (live_at c clock e cell.ep cell.slot is.endpoint now)
+        | inr far ↦
+            no_block_from (ring_of v cell.ep) cell (far_no_place c clock v acc ds e cell.ep cell.slot keeps is.endpoint far)
+            ∙ sym (far_not_told c.endpoints (ru_reach_of c.delays) clock ds e cell keeps.timely is.endpoint far)
+      ];
+  uplink = λ e ep slot at is live.
+      elim (live_later e.numerology (ru_reach_of c.delays) clock to slot order (live e at)) [
+        | inl now ↦ keeps.uplink e ep slot at is (live_at c clock e ep slot at now)
+        | inr far ↦
+            no_uplink_from (ring_of v ep) slot (far_no_place c clock v acc ds e ep slot keeps at far)
+            ∙ sym (far_no_uplink c.endpoints (ru_reach_of c.delays) clock acc e ep slot keeps.accepted at far)
+      ];
+  reached = λ e ep slot at has. was_later e.numerology (ru_reach_of c.delays) clock to slot order (keeps.reached e ep slot at has);
+  accepted = All-weaker (IsReached c.endpoints (ru_reach_of c.delays) clock) (IsReached c.endpoints (ru_reach_of c.delays) to)
+      (reached_later c.endpoints (ru_reach_of c.delays) clock to order) acc keeps.accepted;
+  timely = All-weaker (IsReachedData c.endpoints (ru_reach_of c.delays) clock) (IsReachedData c.endpoints (ru_reach_of c.delays) to)
+      (reached_data_later c.endpoints (ru_reach_of c.delays) clock to order) ds keeps.timely;
+}

@@ -1,0 +1,134 @@
+-- The blocks of sections that are told in part.
+use Rattle.std.proofs.Common.{◌≡◌, ◌≢◌, ℕ, ◌+◌, ◌-◌, ◌<◌, ◌≤◌, Bool, true, false, ◌&&◌, List, [], ◌∷◌, ◌++◌, length, get_or, refl, sym, ap, ap₂, ◌∙◌, arith, inl, inr, Option, Some, None, length-append}
+use Rattle.std.specs.Prelude.{if◌then◌else◌}
+use Rattle.std.proofs.lemmas.Bool.{cases_lt, cases_eq, lt-ltb, le-ltb, cases_Bool}
+use Rattle.std.proofs.Math.ListN.{get_or-append}
+use Rattle.std.proofs.lemmas.List.{get_or_push}
+use Rattle.std.proofs.lemmas.List.Elements.{All-head, All-tail}
+use Rattle.bfp_codec.specs.declared.samples.Wide.{Wide}
+use Rattle.unit_model.specs.Blocks.{block_at, block_of, data_covers, data_prb_count, first_data_prb}
+use Rattle.unit_model.specs.Lists.{or_else}
+use Rattle.unit_model.specs.declared.cells.Block.{Block}
+use Rattle.unit_model.specs.declared.cells.Cell.{Cell}
+use Rattle.unit_model.specs.declared.decoded.Data.{Data}
+use Rattle.unit_laws.proofs.CellLemmas.{data_covers_is, from_first, from_within}
+use Rattle.unit_cells.specs.Headings.{data_of}
+use Rattle.unit_cells.specs.Told.{IsTold, ToldWhole, reaches, told_block_at, told_block_in}
+use Rattle.unit_cells.specs.declared.heading.DataHeading.{DataHeading}
+
+pub told-cons : (d : Data) (earlier : List Data) (cell : Cell) → told_block_at (d ∷ earlier) cell ≡ or_else (told_block_at earlier cell) (told_block_in d cell)
+unfolding told_block_at
+told-cons d earlier cell = refl
+
+pub or_none : (o : Option Block) → or_else o None ≡ o
+or_none None = refl
+or_none (Some b) = refl
+
+-- ---- sections that are told whole
+
+within_blocks : (first count n many : ℕ) → first ≤ n → n < first + count → count ≤ many → n - first < many
+within_blocks first count n many a b c = omega arith
+
+told_in : (d : Data) (cell : Cell) → IsTold d → told_block_in d cell ≡ (if data_covers d cell then Some (block_of d cell) else None)
+told_in d cell told = elim (cases_Bool (data_covers d cell)) [
+  | inl covers ↦
+      let is = (data_covers_is d cell covers).prb in
+      let first = first_data_prb d in
+      let count = data_prb_count d in
+      let here : reaches d cell ≡ true =
+      lt-ltb (cell.prb - first) (length d.blocks) (within_blocks first count cell.prb (length d.blocks) (from_first first count cell.prb is) (from_within first count cell.prb is) told) in
+      rw (covers, here) refl
+  | inr other ↦ rw other refl
+]
+
+pub told_whole : ToldWhole
+unfolding told_block_at block_at
+told_whole [] cell all = refl
+told_whole (d ∷ earlier) cell all =
+    ap₂ or_else (told_whole earlier cell (All-tail IsTold d earlier all)) (told_in d cell (All-head IsTold d earlier all))
+
+-- ---- a section of which nothing is told, or one more block
+
+none_in : (b : Bool) (block : Block) → (if b && false then Some block else None) ≡ None
+none_in true block = refl
+none_in false block = refl
+
+pub told_nothing : (h : DataHeading) (earlier : List Data) (cell : Cell) → told_block_at (data_of h [] ∷ earlier) cell ≡ told_block_at earlier cell
+told_nothing h earlier cell =
+    let d = data_of h [] in
+    let past : reaches d cell ≡ false = le-ltb (cell.prb - first_data_prb d) 0 (omega arith) in
+    let none : told_block_in d cell ≡ None = rw past (none_in (data_covers d cell) (block_of d cell)) in
+    told-cons d earlier cell ∙ ap (λ (o : Option Block). or_else (told_block_at earlier cell) o) none ∙ or_none (told_block_at earlier cell)
+
+pub told_same : (x y : Data) (earlier : List Data) (cell : Cell) → told_block_in x cell ≡ told_block_in y cell
+    → told_block_at (x ∷ earlier) cell ≡ told_block_at (y ∷ earlier) cell
+told_same x y earlier cell e =
+    told-cons x earlier cell ∙ ap (λ (o : Option Block). or_else (told_block_at earlier cell) o) e ∙ sym (told-cons y earlier cell)
+
+-- the block that a cell is given by one PRB of a section
+abbrev pub block_with : DataHeading → List Wide → Block
+block_with h samples = record { id = h.section.id; samples = samples }
+
+module _ (h : DataHeading) (blocks : List (List Wide)) (samples : List Wide) (cell : Cell) where
+  more : length (blocks ++ samples ∷ []) ≡ length blocks + 1
+  more = omega (arith, length-append blocks (samples ∷ []))
+
+  reach : ℕ
+  reach = cell.prb - first_data_prb (data_of h blocks)
+
+  told_before : reach ≡ length blocks → told_block_in (data_of h blocks) cell ≡ None
+  unfolding reach
+  told_before e =
+      let past : reaches (data_of h blocks) cell ≡ false = le-ltb reach (length blocks) (omega arith) in
+      rw past (none_in (data_covers (data_of h blocks) cell) (block_of (data_of h blocks) cell))
+
+  told_now : data_covers (data_of h blocks) cell ≡ true → reach ≡ length blocks
+      → told_block_in (data_of h (blocks ++ samples ∷ [])) cell ≡ Some (block_with h samples)
+  unfolding reach
+  told_now covers e =
+      let here : reaches (data_of h (blocks ++ samples ∷ [])) cell ≡ true = lt-ltb reach (length (blocks ++ samples ∷ [])) (omega (arith, more)) in
+      let at : get_or (blocks ++ samples ∷ []) reach [] ≡ samples = get_or_push blocks samples [] reach (sym e) in
+      rw (covers, here) (ap (λ (s : List Wide). Some (block_with h s)) at)
+
+  -- the cell at the PRB that comes next
+  pub told_next : (earlier : List Data) → data_covers (data_of h blocks) cell ≡ true → cell.prb - first_data_prb (data_of h blocks) ≡ length blocks
+      → told_block_at (data_of h (blocks ++ samples ∷ []) ∷ earlier) cell
+      ≡ or_else (told_block_at (data_of h blocks ∷ earlier) cell) (Some (block_with h samples))
+  unfolding reach
+  told_next earlier covers e =
+      let was : told_block_at (data_of h blocks ∷ earlier) cell ≡ told_block_at earlier cell =
+      told-cons (data_of h blocks) earlier cell ∙ ap (λ (o : Option Block). or_else (told_block_at earlier cell) o) (told_before e) ∙ or_none (told_block_at earlier cell) in
+      told-cons (data_of h (blocks ++ samples ∷ [])) earlier cell
+      ∙ ap (λ (o : Option Block). or_else (told_block_at earlier cell) o) (told_now covers e)
+      ∙ ap (λ (o : Option Block). or_else o (Some (block_with h samples))) (sym was)
+
+  told_below : reach < length blocks → told_block_in (data_of h (blocks ++ samples ∷ [])) cell ≡ told_block_in (data_of h blocks) cell
+  unfolding reach
+  told_below below =
+      let now : reaches (data_of h (blocks ++ samples ∷ [])) cell ≡ true = lt-ltb reach (length (blocks ++ samples ∷ [])) (omega (arith, more)) in
+      let was : reaches (data_of h blocks) cell ≡ true = lt-ltb reach (length blocks) below in
+      let same : get_or (blocks ++ samples ∷ []) reach [] ≡ get_or blocks reach [] = get_or-append blocks (samples ∷ []) [] reach below in
+      rw (now, was) (ap (λ (s : List Wide). if data_covers (data_of h blocks) cell && true then Some (block_with h s) else None) same)
+
+  told_past : length blocks < reach → told_block_in (data_of h (blocks ++ samples ∷ [])) cell ≡ told_block_in (data_of h blocks) cell
+  unfolding reach
+  told_past above =
+      let now : reaches (data_of h (blocks ++ samples ∷ [])) cell ≡ false = le-ltb reach (length (blocks ++ samples ∷ [])) (omega (arith, more)) in
+      let was : reaches (data_of h blocks) cell ≡ false = le-ltb reach (length blocks) (omega arith) in
+      rw (now, was) (none_in (data_covers (data_of h blocks) cell) (block_of (data_of h (blocks ++ samples ∷ [])) cell)
+      ∙ sym (none_in (data_covers (data_of h blocks) cell) (block_of (data_of h blocks) cell)))
+
+  -- all other cells
+  pub told_other : (earlier : List Data) → (data_covers (data_of h blocks) cell ≡ true → cell.prb - first_data_prb (data_of h blocks) ≢ length blocks)
+      → told_block_at (data_of h (blocks ++ samples ∷ []) ∷ earlier) cell ≡ told_block_at (data_of h blocks ∷ earlier) cell
+  unfolding reach
+  told_other earlier ne = told_same (data_of h (blocks ++ samples ∷ [])) (data_of h blocks) earlier cell (elim (cases_Bool (data_covers (data_of h blocks) cell)) [
+    | inr other ↦ rw other refl
+    | inl covers ↦ elim (cases_lt reach (length blocks)) [
+      | inl below ↦ told_below below
+      | inr above ↦ elim (cases_eq reach (length blocks)) [
+        | inl e ↦ absurd (ne covers e)
+        | inr apart ↦ told_past (omega (arith, apart))
+      ]
+    ]
+  ])

@@ -1,0 +1,24 @@
+use Rattle.unit_cells.proofs.MarkLemmas.{SameKnown, keeps_same, marked_here, marked_known, marked_others}
+use Rattle.unit_cells.specs.Steps.{Marks}
+use Rattle.unit_cells.proofs.RingsLemmas.{endpoints_still}
+use Rattle.unit_cells.proofs.cells.UnitCells.mark.Goals as goal
+use Rattle.unit_cells.proofs.cells.UnitCells.mark.Goals.{After-mark_cell}
+
+known : (c : After-mark_cell) → SameKnown c.args.self.now c.mark_cell.new.self
+known c = marked_known c.args.ep c.args.slot c.args.symbol c.args.prb c.args.self.now c.mark_cell.new.self c.mark_cell.ensures c.requires.has
+
+pub returns-clause-here : goal.returns-clause-here
+returns-clause-here c = marked_here c.args.ep c.args.slot c.args.symbol c.args.prb c.args.self.now c.mark_cell.new.self c.mark_cell.ensures c.requires.has
+
+pub returns-clause-others : goal.returns-clause-others
+returns-clause-others c = marked_others c.args.ep c.args.slot c.args.symbol c.args.prb c.args.self.now c.mark_cell.new.self c.mark_cell.ensures c.requires.has
+
+pub returns-clause-keeps : goal.returns-clause-keeps
+returns-clause-keeps c k clock acc ds keeps = keeps_same k clock c.args.self.now c.mark_cell.new.self acc ds (known c) keeps
+
+pub returns-clause-places : goal.returns-clause-places
+returns-clause-places c = (known c).places
+
+pub returns-clause-endpoints : goal.returns-clause-endpoints
+returns-clause-endpoints c =
+    endpoints_still c.args.ep (Marks c.args.slot c.args.symbol c.args.prb) c.args.self.now c.mark_cell.new.self c.mark_cell.ensures c.mark_cell.ensures.stepped.touches.endpoint

@@ -1,0 +1,44 @@
+-- A section of data whose header is read, and whose PRBs come one by one.
+use Rattle.std.specs.Prelude.{◌≡◌, ◌<◌, ◌≤ℤ◌, List, true, false}
+use Rattle.fh_time.specs.Numbering.{slots_of, symbols_of}
+use Rattle.bfp_codec.specs.declared.samples.Wide.{Wide}
+use Rattle.uplane_sections.specs.Section.{is_outside}
+use Rattle.window_config.specs.declared.endpoints.EndpointConfig.{EndpointConfig}
+use Rattle.air_source.specs.declared.events.Side.TheVariants.{Ru}
+use Rattle.window_config.specs.declared.delays.Delays.{Delays}
+use Rattle.unit_model.specs.Blocks.{data_class, with_timely}
+use Rattle.unit_model.specs.Proper.{IsAt, IsTime}
+use Rattle.unit_model.specs.declared.decoded.Data.{Data}
+use Rattle.unit_cells.specs.declared.heading.DataHeading.{DataHeading}
+
+-- the section with these blocks
+abbrev pub data_of : DataHeading → List (List Wide) → Data
+data_of h blocks = record {
+  ep = h.ep;
+  endpoint = h.endpoint;
+  first = h.first;
+  last = h.last;
+  head = h.head;
+  section = h.section;
+  blocks = blocks;
+}
+
+-- it names a slot and a symbol of its endpoint, and PRBs of the carrier
+pub record IsSoundHeading (h : DataHeading) : Type 0 where
+  pub first : IsTime h.first.0
+  pub last : IsTime h.last.0
+  pub subframe : h.head.subframe < 10
+  pub slot : h.head.slot < slots_of h.endpoint.numerology
+  pub symbol : h.section.symbol < symbols_of h.endpoint.numerology
+  pub within : is_outside h.endpoint.prbs h.section.start_prb h.section.num_prb ≡ false
+
+-- and it is one of these endpoints' downlink, whose first fragment came no later than its last
+pub record IsProperHeading (es : List EndpointConfig) (h : DataHeading) : Type 0 where
+  pub endpoint : IsAt es h.ep h.endpoint
+  pub sound : IsSoundHeading h
+  pub down : h.head.down ≡ true
+  pub order : h.first.0 ≤ℤ h.last.0
+
+-- the sections of data on time, with this one where it is on time
+abbrev pub with_heading : Delays → DataHeading → List (List Wide) → List Data → List Data
+with_heading d h blocks ds = with_timely (data_class Ru d (data_of h blocks)) (data_of h blocks) ds

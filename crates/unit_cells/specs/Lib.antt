@@ -1,0 +1,5 @@
+pub mod Headings
+pub mod Told
+pub mod Cells
+pub mod Keeping
+pub mod Steps

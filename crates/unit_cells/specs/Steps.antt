@@ -1,0 +1,56 @@
+-- What a call does to the ring of one endpoint, and so to all rings.
+use Rattle.std.specs.Prelude.{◌≡◌, ◌≢◌, ℕ, ◌<◌, true, length, set, Some}
+use Rattle.fh_time.specs.declared.values.Slot.{Slot}
+use Rattle.unit_model.specs.Claims.{cell_at}
+use Rattle.unit_model.specs.Lists.{or_else}
+use Rattle.unit_model.specs.declared.allocations.Allocation.{Allocation}
+use Rattle.unit_model.specs.declared.cells.Block.{Block}
+use Rattle.unit_model.specs.declared.cells.Cell.{Cell}
+use Rattle.unit_model.specs.declared.verdicts.CommandVerdict.{CommandVerdict}
+use Rattle.slot_rings.specs.Rings.{IsRingCell, RingValue, SameBlocks, SameClaims, SameDone, SameUplink, TouchesOnly, has_slot, ring_block, ring_claim, ring_done, ring_uplink}
+use Rattle.slot_rings.specs.Verdicts.{claim_after, uplink_after, verdict_by}
+use Rattle.unit_cells.specs.Cells.{CellsValue, ring_of}
+
+-- an accepted allocation is claimed in its slot
+pub record Claims (a : Allocation) (v : CommandVerdict) (old new : RingValue) : Type 0 where
+  pub claims : (cell : Cell) (re : ℕ) → IsRingCell old cell → cell.ep ≡ a.ep → cell.slot ≡ a.slot → re < 12
+      → ring_claim new cell re ≡ claim_after v a cell re (ring_claim old cell re)
+  pub uplink : ring_uplink new a.slot ≡ uplink_after v a (ring_uplink old a.slot)
+  pub has : has_slot new a.slot ≡ true
+  pub blocks : SameBlocks a.slot old new
+  pub done : SameDone a.slot old new
+  pub touches : TouchesOnly a.slot old new
+
+-- and it was judged by what was claimed before
+pub record Takes (a : Allocation) (v : CommandVerdict) (old new : RingValue) : Type 0 where
+  pub verdict : v ≡ verdict_by (ring_claim old) (length (ring_uplink old a.slot)) a
+  pub claims : Claims a v old new
+
+-- a downlink cell has this block, where it had none
+pub record Fills (slot : Slot) (symbol prb : ℕ) (block : Block) (old new : RingValue) : Type 0 where
+  pub here : (ep : ℕ) → ring_block new (cell_at ep true slot symbol prb) ≡ or_else (ring_block old (cell_at ep true slot symbol prb)) (Some block)
+  pub others : (cell : Cell) → IsRingCell old cell → cell.slot ≡ slot → (cell.symbol ≡ symbol → cell.prb ≢ prb) → ring_block new cell ≡ ring_block old cell
+  pub has : has_slot new slot ≡ true
+  pub claims : SameClaims slot old new
+  pub done : SameDone slot old new
+  pub uplink : SameUplink slot old new
+  pub touches : TouchesOnly slot old new
+
+-- a downlink cell is marked as reported
+pub record Marks (slot : Slot) (symbol prb : ℕ) (old new : RingValue) : Type 0 where
+  pub here : (ep : ℕ) → ring_done new (cell_at ep true slot symbol prb) ≡ true
+  pub others : (cell : Cell) → IsRingCell old cell → cell.slot ≡ slot → (cell.symbol ≡ symbol → cell.prb ≢ prb) → ring_done new cell ≡ ring_done old cell
+  pub has : has_slot new slot ≡ true
+  pub claims : SameClaims slot old new
+  pub blocks : SameBlocks slot old new
+  pub uplink : SameUplink slot old new
+  pub touches : TouchesOnly slot old new
+
+-- the ring of one endpoint changes so, and no other
+pub record InRing (ep : ℕ) (step : RingValue → RingValue → Type 0) (old new : CellsValue) : Type 0 where
+  pub before : RingValue
+  pub after : RingValue
+  pub was : ring_of old ep ≡ Some before
+  pub rings : new.rings ≡ set old.rings ep after
+  pub delays : new.delays ≡ old.delays
+  pub stepped : step before after

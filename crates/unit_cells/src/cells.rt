@@ -1,0 +1,275 @@
+// The rings of all endpoints.
+ghost use Rattle.std.specs.Prelude.{◌≡◌, ◌≢◌, ℕ, ℤ, ◌+◌, ◌<◌, ◌≤◌, true, false, List, [], ◌∷◌, ◌++◌, All, length, reverse, is_some, IfOk, IfSome, Some, option_copied};
+ghost use Rattle.fh_time.specs.Numbering.{symbols_of};
+ghost use Rattle.fh_time.specs.declared.values.Slot.{Slot};
+ghost use Rattle.air_source.specs.declared.events.Side.TheVariants.{Ru};
+ghost use Rattle.bfp_codec.specs.declared.samples.Wide.{Wide};
+ghost use Rattle.window_config.specs.Configs.{IsConfig};
+ghost use Rattle.window_config.specs.declared.config.Config.{Config};
+ghost use Rattle.window_config.specs.declared.verdicts.Class.TheVariants.{OnTime};
+ghost use Rattle.unit_model.specs.Blocks.{data_class, data_prb_count, data_slot, data_verdict, first_data_prb};
+ghost use Rattle.unit_model.specs.Claims.{cell_at};
+ghost use Rattle.unit_model.specs.Commands.{allocation_of, command_verdict, with_accepted};
+ghost use Rattle.unit_model.specs.Lists.{every, some};
+ghost use Rattle.unit_model.specs.Proper.{IsAt, IsProperCommand, IsSlot};
+ghost use Rattle.unit_model.specs.Radiated.{cell_id, used_mask};
+ghost use Rattle.unit_model.specs.declared.allocations.Allocation.{Allocation};
+ghost use Rattle.unit_model.specs.declared.cells.Cell.{Cell};
+ghost use Rattle.unit_model.specs.declared.decoded.Data.{Data};
+ghost use Rattle.slot_rings.specs.Places.{is_due};
+ghost use Rattle.slot_rings.specs.Rings.{RingValue, ring_block};
+ghost use Rattle.unit_cells.specs.Headings.{IsProperHeading, data_of, with_heading};
+ghost use Rattle.unit_cells.specs.Told.{IsTold};
+
+use crate::commands::{allocation_of, command_class, is_for};
+use crate::heading::DataHeading;
+use crate::rings::{fill, make_ring, mark, take};
+use crate::sections::{data_class, data_slot, first_prb, prb_at, prb_count};
+use bfp_codec::Wide;
+use fh_base::NoMemory;
+use fh_time::Slot;
+use slot_rings::{SlotRing, Use};
+use std::alloc::Global;
+use std::marker::Model;
+use unit_model::{Allocation, Block, Command, CommandVerdict, DataVerdict};
+use window_config::{Class, Config, Delays, EndpointConfig};
+
+/// The memory of all cells of a radio unit: the ring of each endpoint, which has a place for each slot that may be live at one
+/// time. All memory is taken when it is made; no other call asks for any.
+///
+/// Endpoints go by their index in the configuration. Where an index is not one of these, there is nothing.
+#[derive(Drop)]
+pub struct UnitCells {
+    delays: Delays,
+    rings: Vec<SlotRing>,
+}
+
+impl Model for UnitCells {
+    ghost use Rattle.unit_cells.specs.Cells.{CellsValue, AreRings};
+
+    ghost Value = { CellsValue };
+
+    ghost view = { λ u. record { delays = u.delays; rings = u.rings.items } };
+
+    ghost invariant = { λ u. AreRings (record { delays = u.delays; rings = u.rings.items }) };
+}
+
+impl UnitCells {
+    ghost use Rattle.unit_cells.specs.Cells.{AreRings, CellsValue, IsOf, IsSlotIn, IsCellIn, cells_block, cells_claim, cells_done, cells_has, cells_index, cells_places, cells_uplink, endpoints_of, ring_of};
+    ghost use Rattle.unit_cells.specs.Keeping.{Keeps, LiveAreApart, SameMarks};
+    ghost use Rattle.unit_cells.specs.Steps.{Fills, InRing, Marks, Takes};
+
+    /// Takes all memory for a configuration. Nothing is known of any slot.
+    pub fn make(alloc: Global, config: &Config) -> Result<UnitCells, NoMemory>
+        requires { IsConfig config.now }
+        ensures configured { IfOk result (λ v. IsOf config.now v) }
+        ensures keeps { IfOk result (λ v. (clock : ℤ) → Keeps config.now clock v [] []) }
+        ensures unmarked { IfOk result (λ v. (cell : Cell) → cells_done v cell ≡ false) }
+    {
+        let endpoints = config.endpoints.as_slice();
+        let mut rings = Vec::with_capacity(alloc, endpoints.len())?;
+        for endpoint in endpoints {
+            let ring = make_ring(alloc, &config.delays, *endpoint)?;
+            rings.push(ring)?;
+        }
+        Ok(UnitCells {
+            delays: config.delays,
+            rings,
+        })
+    }
+
+    /// Judges an allocation that is on time, and claims what it names where it is accepted.
+    fn take(&mut self, a: &Allocation) -> CommandVerdict
+        requires at { IsAt (endpoints_of self.old) a.now.ep a.now.endpoint }
+        requires slot { IsSlot a.now.endpoint.numerology a.now.slot }
+        requires within { a.now.symbol + a.now.num_symbol ≤ symbols_of a.now.endpoint.numerology }
+        ensures taken { InRing a.now.ep (Takes a.now result) self.old self.new }
+        ensures held { AreRings self.old }
+    {
+        take(&mut self.rings[a.ep], a)
+    }
+
+    /// Gives a downlink cell its block, where it has none.
+    fn fill_cell(&mut self, ep: usize, slot: Slot, symbol: u8, prb: u16, block: Block)
+        requires { IsCellIn self.old (cell_at ep true slot symbol prb) }
+        ensures filled { InRing ep (Fills slot symbol prb block) self.old self.new }
+        ensures held { AreRings self.old }
+    {
+        fill(&mut self.rings[ep], slot, symbol, prb, block);
+    }
+
+    /// Marks a downlink cell as reported.
+    fn mark_cell(&mut self, ep: usize, slot: Slot, symbol: u8, prb: u16)
+        requires cell { IsCellIn self.old (cell_at ep true slot symbol prb) }
+        requires has { cells_has self.old ep slot ≡ true }
+        ensures { InRing ep (Marks slot symbol prb) self.old self.new }
+    {
+        mark(&mut self.rings[ep], slot, symbol, prb);
+    }
+
+    /// Judges a section of a command that comes at the clock, and claims what it names where it is accepted (O-RAN.WG4.CUS for
+    /// the fields and the windows; the verdicts are this project's profile).
+    pub fn command(&mut self, command: &Command) -> CommandVerdict
+        requires { IsProperCommand (endpoints_of self.old) command.now }
+        ensures verdict { (c : Config) (acc : List Allocation) (ds : List Data) → IsOf c self.old → Keeps c command.now.at.0 self.old acc ds
+            → result ≡ command_verdict c.delays acc command.now }
+        ensures keeps { (c : Config) (acc : List Allocation) (ds : List Data) → IsOf c self.old → Keeps c command.now.at.0 self.old acc ds
+            → Keeps c command.now.at.0 self.new (with_accepted result (allocation_of command.now) acc) ds }
+        ensures marks { (c : Config) → IsOf c self.old → SameMarks c command.now.at.0 self.old self.new }
+        ensures delays { self.new.delays ≡ self.old.delays }
+        ensures endpoints { endpoints_of self.new ≡ endpoints_of self.old }
+    {
+        if !is_for(&command.head.body, &command.endpoint.numerology) {
+            return CommandVerdict::Mismatch;
+        }
+        match command_class(&self.delays, command) {
+            Class::Late => CommandVerdict::Late,
+            Class::Early => CommandVerdict::Early,
+            Class::OnTime => self.take(&allocation_of(command)),
+        }
+    }
+
+    /// The verdict on a section of data whose message becomes whole at the clock. Its PRBs come after, by `fill`.
+    pub fn begin(&self, heading: &DataHeading) -> DataVerdict
+        requires { IsProperHeading (endpoints_of self.now) heading.now }
+        ensures verdict { (c : Config) (acc : List Allocation) (ds : List Data) (blocks : List (List Wide)) → IsOf c self.now
+            → Keeps c heading.now.last.0 self.now acc ds → All IsTold ds → result ≡ data_verdict Ru c.delays ds (data_of heading.now blocks) }
+        ensures keeps { (c : Config) (acc : List Allocation) (ds : List Data) → IsOf c self.now → Keeps c heading.now.last.0 self.now acc ds
+            → Keeps c heading.now.last.0 self.now acc (with_heading c.delays heading.now [] ds) }
+    {
+        match data_class(&self.delays, heading) {
+            Class::Late => DataVerdict::Late,
+            Class::Early => DataVerdict::Early,
+            Class::OnTime => {
+                if self.is_whole(heading) {
+                    DataVerdict::Repeat
+                } else {
+                    DataVerdict::Taken
+                }
+            }
+        }
+    }
+
+    /// Whether each cell of a section of data has a block.
+    fn is_whole(&self, heading: &DataHeading) -> bool
+        requires { IsProperHeading (endpoints_of self.now) heading.now }
+        ensures { (r : RingValue) → ring_of self.now heading.now.ep ≡ Some r → result ≡ every (first_data_prb (data_of heading.now [])) (data_prb_count (data_of heading.now []))
+            (λ prb. is_some (ring_block r (cell_at heading.now.ep true (data_slot (data_of heading.now [])) heading.now.section.symbol prb))) }
+    {
+        let slot = data_slot(heading);
+        let first = first_prb(heading);
+        let count = prb_count(heading);
+        self.rings[heading.ep].has_all(slot, heading.section.symbol, first, count)
+    }
+
+    /// Gives a cell the samples of the PRB with number `k` of a section of data, 0 for its first one, where the section is on time
+    /// and the cell has none. The PRBs of a section come in their order, after `begin` and before anything else.
+    pub fn fill(&mut self, heading: &DataHeading, k: u16, samples: &[Wide; 12])
+        requires heading { IsProperHeading (endpoints_of self.old) heading.now }
+        requires within { k < data_prb_count (data_of heading.now []) }
+        ensures keeps { (c : Config) (acc : List Allocation) (ds : List Data) (blocks : List (List Wide)) → IsOf c self.old → length blocks ≡ k
+            → Keeps c heading.now.last.0 self.old acc (with_heading c.delays heading.now blocks ds)
+            → Keeps c heading.now.last.0 self.new acc (with_heading c.delays heading.now (blocks ++ samples.now ∷ []) ds) }
+        ensures same { data_class Ru self.old.delays (data_of heading.now []) ≢ OnTime → self.new ≡ self.old }
+        ensures marks { (c : Config) → IsOf c self.old → SameMarks c heading.now.last.0 self.old self.new }
+        ensures delays { self.new.delays ≡ self.old.delays }
+        ensures endpoints { endpoints_of self.new ≡ endpoints_of self.old }
+    {
+        if let Class::OnTime = data_class(&self.delays, heading) {
+            let block = Block {
+                id: heading.section.id,
+                samples: *samples,
+            };
+            let slot = data_slot(heading);
+            let prb = prb_at(heading, k);
+            self.fill_cell(heading.ep, slot, heading.section.symbol, prb, block);
+        }
+    }
+
+    /// Marks a downlink cell as reported, in a slot that has its place. Nothing else changes.
+    pub fn mark(&mut self, ep: usize, slot: Slot, symbol: u8, prb: u16)
+        requires cell { IsCellIn self.old (cell_at ep true slot symbol prb) }
+        requires has { cells_has self.old ep slot ≡ true }
+        ensures here { cells_done self.new (cell_at ep true slot symbol prb) ≡ true }
+        ensures others { (cell : Cell) → IsCellIn self.old cell → (cell.ep ≡ ep → cell.slot ≡ slot → cell.symbol ≡ symbol → cell.prb ≢ prb)
+            → cells_done self.new cell ≡ cells_done self.old cell }
+        ensures keeps { (c : Config) (clock : ℤ) (acc : List Allocation) (ds : List Data) → Keeps c clock self.old acc ds → Keeps c clock self.new acc ds }
+        ensures places { (k : ℕ) (s : Slot) → cells_has self.new k s ≡ cells_has self.old k s }
+        ensures delays { self.new.delays ≡ self.old.delays }
+        ensures endpoints { endpoints_of self.new ≡ endpoints_of self.old }
+    {
+        self.mark_cell(ep, slot, symbol, prb);
+    }
+
+    /// What a report needs of a downlink cell besides its block.
+    pub fn cell(&self, ep: usize, slot: Slot, symbol: u8, prb: u16) -> Use
+        requires { IsSlotIn self.now ep slot }
+        ensures mask { result.mask ≡ used_mask (cells_claim self.now (cell_at ep true slot symbol prb)) }
+        ensures section { result.section ≡ cell_id (cells_claim self.now (cell_at ep true slot symbol prb)) }
+        ensures done { result.done ≡ cells_done self.now (cell_at ep true slot symbol prb) }
+    {
+        self.rings[ep].cell(slot, symbol, prb)
+    }
+
+    /// The block of a downlink cell.
+    pub fn block(&self, ep: usize, slot: Slot, symbol: u8, prb: u16) -> Option<&Block>
+        requires { IsSlotIn self.now ep slot }
+        ensures { option_copied result ≡ cells_block self.now (cell_at ep true slot symbol prb) }
+    {
+        self.rings[ep].block(slot, symbol, prb)
+    }
+
+    /// Whether a downlink cell of a symbol is in use and was not reported.
+    pub fn is_used(&self, ep: usize, slot: Slot, symbol: u8) -> bool
+        requires { IsSlotIn self.now ep slot }
+        ensures { (e : EndpointConfig) → IsAt (endpoints_of self.now) ep e → result ≡ some 0 e.prbs (λ prb.
+            is_due (cells_claim self.now (cell_at ep true slot symbol prb)) (cells_done self.now (cell_at ep true slot symbol prb))) }
+    {
+        self.rings[ep].is_used(slot, symbol)
+    }
+
+    /// The accepted uplink sections of a slot, the newest last.
+    pub fn uplink(&self, ep: usize, slot: Slot) -> &[Allocation]
+        requires { IsSlotIn self.now ep slot }
+        ensures { reverse result.now ≡ cells_uplink self.now ep slot }
+    {
+        self.rings[ep].uplink(slot)
+    }
+
+    /// How many endpoints there are.
+    pub fn endpoints(&self) -> usize
+        ensures { result ≡ length (endpoints_of self.now) }
+    {
+        self.rings.len()
+    }
+
+    /// The endpoint with an index.
+    pub fn endpoint(&self, ep: usize) -> &EndpointConfig
+        requires { ep < length (endpoints_of self.now) }
+        ensures { IsAt (endpoints_of self.now) ep result.now }
+    {
+        self.rings[ep].endpoint()
+    }
+
+    /// How many places the slots of an endpoint have. Two slots that are live have two of them.
+    pub fn places(&self, ep: usize) -> usize
+        requires { ep < length (endpoints_of self.now) }
+        ensures value { result ≡ cells_places self.now ep }
+        ensures within { (slot : Slot) → cells_index self.now ep slot < result }
+        ensures apart { LiveAreApart self.now }
+    {
+        self.rings[ep].place_count()
+    }
+
+    /// The slot that has the place with an index.
+    pub fn slot_at(&self, ep: usize, index: usize) -> Option<Slot>
+        requires ep { ep < length (endpoints_of self.now) }
+        requires index { index < cells_places self.now ep }
+        ensures has { IfSome result (λ slot. cells_has self.now ep slot ≡ true) }
+        ensures slot { IfSome result (λ slot. IsSlotIn self.now ep slot) }
+        ensures index { IfSome result (λ slot. cells_index self.now ep slot ≡ index) }
+        ensures only { (slot : Slot) → cells_index self.now ep slot ≡ index → cells_has self.now ep slot ≡ true → result ≡ Some slot }
+    {
+        self.rings[ep].slot_at(index)
+    }
+}

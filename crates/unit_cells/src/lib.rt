@@ -1,0 +1,29 @@
+//! The memory of the cells of a radio unit: what sections claim of them, the blocks that came for them, which were reported,
+//! and the accepted uplink sections of each slot.
+//!
+//! [`UnitCells`] holds a ring of slots for each endpoint and takes all memory when it is made; no other call asks for any. A
+//! ring has so many places that two slots which are live at one time have two of them, so a slot that is forgotten is one of
+//! which nothing is asked again.
+//!
+//! Contracts speak of what is looked up for a cell (`specs/Cells.antt`), and say of each call how the rings stand to the
+//! allocations that were accepted and the data that were on time, over all that came (`specs/Keeping.antt`): at a clock they
+//! answer as those do, for the slots that are live. Calls come in the order of time, and what is kept at one clock is kept at
+//! a later one (`keeps_later`).
+//!
+//! Sections of data are judged by their header (`begin`), and their PRBs follow one by one (`fill`), so that no message has to
+//! be kept. Windows and fields are those of O-RAN.WG4.CUS; the verdicts are this project's profile.
+#![tactic(auto)]
+
+mod cells;
+mod commands;
+mod heading;
+mod laws;
+mod rings;
+mod sections;
+
+pub use cells::UnitCells;
+pub use heading::DataHeading;
+pub use laws::{far_slots_have_no_place, keeps_later, told_whole};
+
+#[cfg(test)]
+mod tests;

@@ -1,0 +1,83 @@
+// What is done to the ring of one endpoint.
+ghost use Rattle.std.specs.Prelude.{◌≡◌, ◌+◌, ◌<◌, ◌≤◌, length, true, IfOk};
+ghost use Rattle.fh_time.specs.Numbering.{symbols_of};
+ghost use Rattle.unit_model.specs.Proper.{IsSlot};
+ghost use Rattle.window_config.specs.Limits.{IsWithinLimits};
+ghost use Rattle.slot_rings.specs.Rings.{IsEmpty, has_slot, ring_claim, ring_uplink};
+ghost use Rattle.slot_rings.specs.Verdicts.{verdict_by};
+ghost use Rattle.unit_cells.specs.Cells.{HoldsLive};
+ghost use Rattle.unit_cells.specs.Steps.{Claims, Takes, Fills, Marks};
+
+use fh_base::NoMemory;
+use fh_time::Slot;
+use slot_rings::SlotRing;
+use std::alloc::Global;
+use unit_model::{Allocation, Block, CommandVerdict};
+use window_config::{Delays, EndpointConfig, ring_slots, ru_reach};
+
+/// The ring of one endpoint, with a place for each slot that may be live at one time.
+pub(crate) fn make_ring(
+    alloc: Global,
+    delays: &Delays,
+    endpoint: EndpointConfig,
+) -> Result<SlotRing, NoMemory>
+    requires limits { IsWithinLimits delays.now }
+    requires some { 1 ≤ endpoint.prbs }
+    requires few { endpoint.prbs ≤ 273 }
+    ensures endpoint { IfOk result (λ r. r.endpoint ≡ endpoint) }
+    ensures wide { IfOk result (λ r. HoldsLive delays.now r) }
+    ensures empty { IfOk result (λ r. IsEmpty r) }
+{
+    let reach = ru_reach(delays);
+    let slots = ring_slots(&endpoint.numerology, reach.before, reach.after);
+    SlotRing::make(alloc, endpoint, slots)
+}
+
+/// Claims what an allocation names, where it was accepted.
+fn claim(ring: &mut SlotRing, a: &Allocation, verdict: CommandVerdict)
+    requires endpoint { a.now.endpoint ≡ ring.old.endpoint }
+    requires slot { IsSlot ring.old.endpoint.numerology a.now.slot }
+    requires within { a.now.symbol + a.now.num_symbol ≤ symbols_of ring.old.endpoint.numerology }
+    requires has { has_slot ring.old a.now.slot ≡ true }
+    requires judged { verdict ≡ verdict_by (ring_claim ring.old) (length (ring_uplink ring.old a.now.slot)) a.now }
+    ensures { Claims a.now verdict ring.old ring.new }
+{
+    if let CommandVerdict::Accepted = verdict {
+        ring.claim(a);
+    }
+}
+
+/// Judges an allocation that is on time, and claims what it names where it is accepted.
+pub(crate) fn take(ring: &mut SlotRing, a: &Allocation) -> CommandVerdict
+    requires endpoint { a.now.endpoint ≡ ring.old.endpoint }
+    requires slot { IsSlot ring.old.endpoint.numerology a.now.slot }
+    requires within { a.now.symbol + a.now.num_symbol ≤ symbols_of ring.old.endpoint.numerology }
+    ensures { Takes a.now result ring.old ring.new }
+{
+    ring.open(a.slot);
+    let verdict = ring.judge(a);
+    claim(ring, a, verdict);
+    verdict
+}
+
+/// Gives a downlink cell its block, where it has none.
+pub(crate) fn fill(ring: &mut SlotRing, slot: Slot, symbol: u8, prb: u16, block: Block)
+    requires slot { IsSlot ring.old.endpoint.numerology slot }
+    requires symbol { symbol < symbols_of ring.old.endpoint.numerology }
+    requires prb { prb < ring.old.endpoint.prbs }
+    ensures { Fills slot symbol prb block ring.old ring.new }
+{
+    ring.open(slot);
+    ring.fill(slot, symbol, prb, block);
+}
+
+/// Marks a downlink cell as reported, in a slot that has its place.
+pub(crate) fn mark(ring: &mut SlotRing, slot: Slot, symbol: u8, prb: u16)
+    requires slot { IsSlot ring.old.endpoint.numerology slot }
+    requires symbol { symbol < symbols_of ring.old.endpoint.numerology }
+    requires prb { prb < ring.old.endpoint.prbs }
+    requires has { has_slot ring.old slot ≡ true }
+    ensures { Marks slot symbol prb ring.old ring.new }
+{
+    ring.mark_done(slot, symbol, prb);
+}

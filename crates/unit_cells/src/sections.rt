@@ -1,0 +1,79 @@
+// What a section of data names, and whether it is on time.
+ghost use Rattle.std.specs.Prelude.{◌≡◌, pos, neg_ℤ, ◌^◌, ◌≤ℤ◌, ◌+◌, ◌<◌, []};
+ghost use Rattle.air_source.specs.declared.events.Side.TheVariants.{Ru};
+ghost use Rattle.window_config.specs.Limits.{IsWithinLimits};
+ghost use Rattle.unit_model.specs.Blocks.{data_slot, data_start, data_class, first_data_prb, data_prb_count};
+ghost use Rattle.unit_model.specs.Proper.{IsSlot};
+ghost use Rattle.unit_cells.specs.Headings.{IsSoundHeading, data_of};
+
+use crate::heading::DataHeading;
+use fh_time::{Slot, Ticks, air, resolve};
+use window_config::{Class, Delays, class, data_window};
+
+/// The first PRB that a section has.
+pub(crate) fn first_prb(h: &DataHeading) -> u16
+    ensures { result ≡ first_data_prb (data_of h.now []) }
+{
+    if h.section.num_prb == 0 {
+        0
+    } else {
+        h.section.start_prb
+    }
+}
+
+/// How many PRBs it has.
+pub(crate) fn prb_count(h: &DataHeading) -> u16
+    ensures { result ≡ data_prb_count (data_of h.now []) }
+{
+    if h.section.num_prb == 0 {
+        h.endpoint.prbs
+    } else {
+        u16::from(h.section.num_prb)
+    }
+}
+
+/// The PRB of the carrier that is number `k` of a section's, 0 for its first one.
+#[tactic(auto, using(crate::proofs::SectionLemmas::prb_within))]
+pub(crate) fn prb_at(h: &DataHeading, k: u16) -> u16
+    requires sound { IsSoundHeading h.now }
+    requires within { k < data_prb_count (data_of h.now []) }
+    ensures value { result ≡ first_data_prb (data_of h.now []) + k }
+    ensures inside { result < h.now.endpoint.prbs }
+{
+    // the proof needs the range of this number
+    let _carrier = h.endpoint.prbs;
+    first_prb(h) + k
+}
+
+/// The slot that it names, by the frame nearest to its last arrival.
+#[tactic(auto, using(unit_model::proofs::SlotLemmas::slots))]
+pub(crate) fn data_slot(h: &DataHeading) -> Slot
+    requires { IsSoundHeading h.now }
+    ensures value { result ≡ data_slot (data_of h.now []) }
+    ensures slot { IsSlot h.now.endpoint.numerology result }
+{
+    Slot {
+        frame: resolve(h.head.frame_id, h.last),
+        subframe: h.head.subframe,
+        slot: h.head.slot,
+    }
+}
+
+/// When its symbol starts.
+fn data_start(h: &DataHeading) -> Ticks
+    requires { IsSoundHeading h.now }
+    ensures value { result.0 ≡ data_start (data_of h.now []) }
+    ensures low { neg_ℤ (pos (2 ^ 56)) ≤ℤ result.0 }
+    ensures high { result.0 ≤ℤ pos (2 ^ 56) }
+{
+    air(&h.endpoint.numerology, data_slot(h), h.section.symbol)
+}
+
+/// Whether it is on time at the radio unit, by its own symbol.
+pub(crate) fn data_class(delays: &Delays, h: &DataHeading) -> Class
+    requires limits { IsWithinLimits delays.now }
+    requires sound { IsSoundHeading h.now }
+    ensures { result ≡ data_class Ru delays.now (data_of h.now []) }
+{
+    class(h.first, h.last, data_start(h), data_window(delays))
+}
