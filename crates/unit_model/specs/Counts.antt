@@ -1,4 +1,4 @@
--- What a unit counts, each as often as it happens; the order in these lists tells nothing.
+-- What a unit counts, each as often as it happens; the order in these lists tells nothing (this project's profile).
 use Rattle.std.specs.Prelude.{◌≡◌, ℕ, ℤ, List, [], ◌∷◌, ◌++◌, map, Option, Some, None}
 use Rattle.air_source.specs.declared.events.AirCell.{AirCell}
 use Rattle.air_source.specs.declared.events.Side.{Side}

@@ -7,6 +7,7 @@ pub mod Blocks
 pub mod Proper
 pub mod Sound
 pub mod Sweeps
+pub mod Order
 pub mod Radiated
 pub mod Uplink
 pub mod Counts

@@ -1,4 +1,4 @@
--- All that a unit answers to a list of arrivals, the newest first.
+-- All that a unit answers to a list of arrivals, the newest first (this project's profile).
 use Rattle.std.specs.Prelude.{◌≡◌, ℤ, List, [], ◌++◌, reverse}
 use Rattle.air_source.specs.declared.events.AirCell.{AirCell}
 use Rattle.air_source.specs.declared.events.Side.{Side}

@@ -1,5 +1,5 @@
--- What a unit has to know, and the histories for which it stands. The radio unit answers for slots that are live, a unit that keeps
--- whole lists for all.
+-- What a unit has to know, and the histories for which it stands (this project's profile). The radio unit answers for slots that are
+-- live, a unit that keeps whole lists for all.
 use Rattle.std.specs.Prelude.{◌≡◌, ℕ, ℤ, pos, ◌<◌, ◌+ℤ◌, ◌-ℤ◌, ◌≤ℤ◌, ◌==◌, Bool, true, not, ◌&&◌, List, [], ◌∷◌, ◌++◌, length, drop, filter}
 use Rattle.std.specs.List.{list_any}
 use Rattle.fh_time.specs.declared.values.Slot.{Slot}

@@ -1,4 +1,5 @@
--- The symbols of all endpoints in the order of time: tick by tick, and at one tick by endpoint, slot and symbol.
+-- The symbols of all endpoints in the order of time: tick by tick, and at one tick by endpoint, slot and symbol (3GPP TS 38.211,
+-- clause 5.3.1, for the starts of symbols; the order is this project's profile).
 use Rattle.std.specs.Prelude.{ℕ, ℤ, pos, ◌+◌, ◌-ℤ◌, ◌+ℤ◌, if◌then◌else◌, List, [], ◌∷◌, ◌++◌}
 use Rattle.std.specs.Int.{int_div_euclid, int_gap}
 use Rattle.std.specs.Ordering.{int_eq}

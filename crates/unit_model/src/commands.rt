@@ -41,8 +41,9 @@ fn has_offsets(time_offset: u16, cp_length: u16, offsets: Option<(u16, u16)>) ->
     }
 }
 
-/// Whether a header is one for an endpoint of this numerology.
-pub(crate) fn is_for(body: &CBody, n: &Numerology) -> bool
+/// Whether a C-plane header is one for an endpoint of this numerology: section type 0 for any, type 1 for an ordinary one, type 3
+/// for an offset one with its timeOffset, cpLength and spacing (this project's profile).
+pub fn is_for(body: &CBody, n: &Numerology) -> bool
     ensures { result ≡ is_for body.now n.now }
 {
     match *body {
@@ -57,8 +58,8 @@ pub(crate) fn is_for(body: &CBody, n: &Numerology) -> bool
     }
 }
 
-/// Whether a command is on time, by the symbol of its header.
-pub(crate) fn command_class(delays: &Delays, c: &Command) -> Class
+/// Whether a command is on time, by the symbol of its header (O-RAN.WG4.CUS, delay management).
+pub fn command_class(delays: &Delays, c: &Command) -> Class
     requires limits { IsWithinLimits delays.now }
     requires sound { IsSoundCommand c.now }
     ensures { result ≡ command_class delays.now c.now }
@@ -71,8 +72,8 @@ pub(crate) fn command_class(delays: &Delays, c: &Command) -> Class
     )
 }
 
-/// Whether the radio unit sends data for an allocation.
-pub(crate) fn is_uplink(a: &Allocation) -> bool
+/// Whether the radio unit sends data for an allocation: an uplink section of type 1 or 3.
+pub fn is_uplink(a: &Allocation) -> bool
     ensures { result ≡ is_uplink a.now }
 {
     !a.down && !a.idle

@@ -7,7 +7,8 @@ use bfp_codec::Wide;
 use ecpri_fragments::Verdict;
 use fault_counters::Counter;
 
-pub(crate) fn command_counter(verdict: CommandVerdict) -> Counter
+/// The counter of a verdict on a section of a command.
+pub fn command_counter(verdict: CommandVerdict) -> Counter
     ensures { result ≡ command_counter verdict }
 {
     match verdict {
@@ -22,7 +23,8 @@ pub(crate) fn command_counter(verdict: CommandVerdict) -> Counter
     }
 }
 
-pub(crate) fn data_counter(verdict: DataVerdict) -> Counter
+/// The counter of a verdict on a section of data.
+pub fn data_counter(verdict: DataVerdict) -> Counter
     ensures { result ≡ data_counter verdict }
 {
     match verdict {
@@ -33,7 +35,8 @@ pub(crate) fn data_counter(verdict: DataVerdict) -> Counter
     }
 }
 
-pub(crate) fn fragment_counter(verdict: Verdict) -> Counter
+/// The counter of what became of a fragment.
+pub fn fragment_counter(verdict: Verdict) -> Counter
     ensures { result ≡ fragment_counter verdict }
 {
     match verdict {
@@ -45,8 +48,8 @@ pub(crate) fn fragment_counter(verdict: Verdict) -> Counter
     }
 }
 
-/// A reported cell counts by whether its samples came.
-pub(crate) fn block_counter(block: Option<[Wide; 12]>) -> Counter
+/// The counter of a cell that is reported, by whether its samples came.
+pub fn block_counter(block: Option<[Wide; 12]>) -> Counter
     ensures { result ≡ block_counter block }
 {
     match block {

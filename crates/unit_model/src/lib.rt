@@ -18,6 +18,8 @@ mod gathering;
 mod jobs;
 mod meeting;
 mod moments;
+#[cfg(test)]
+mod parts_tests;
 mod plain;
 mod radiating;
 mod report;
@@ -33,8 +35,15 @@ mod verdicts;
 
 pub use allocations::Allocation;
 pub use cells::{Block, Cell, Claim};
+pub use commands::{command_class, is_for, is_uplink};
+pub use counting::{block_counter, command_counter, data_counter, fragment_counter};
 pub use decoded::{Command, Data};
 pub use jobs::{Delivered, UplinkJob};
+pub use meeting::{Met, meet};
+pub use radiating::samples_under;
 pub use report::{Report, TimedFrame};
 pub use running::{plain_du, plain_ru};
+pub use slots::{allocation_of, same_slot};
+pub use symbol_start::{SymbolStart, comes_before};
+pub use uplink::{place_of, sends_in};
 pub use verdicts::{CommandVerdict, DataVerdict};

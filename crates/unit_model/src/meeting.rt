@@ -20,7 +20,7 @@ use window_config::EndpointConfig;
 
 /// What a whole message is to a unit.
 #[derive(Clone, Copy)]
-pub(crate) enum Met<'a> {
+pub enum Met<'a> {
     /// It is counted and changes nothing.
     Ignored(Counter),
     /// A C-plane message that was read, to the endpoint with this index.
@@ -107,9 +107,10 @@ fn control<'a>(side: Side, ep: usize, endpoint: EndpointConfig, payload: &'a [u8
     }
 }
 
-/// What a message is to the unit at this side.
+/// What a message is to the unit at this side, by the tests that it meets: its type, its length, its id, its way and its layout
+/// (eCPRI 2.0, section 3.2.4; O-RAN.WG4.CUS, the eCPRI transport header; the order of the tests is this project's profile).
 #[tactic(auto, unfolding(crate::specs::Meetings::meet))]
-pub(crate) fn meet<'a>(
+pub fn meet<'a>(
     side: Side,
     endpoints: &[EndpointConfig],
     message: &WholeMessage<'a>,

@@ -100,7 +100,7 @@ fn cell_id(claimed: &[Allocation], cell: &Cell) -> u16
 }
 
 /// The samples of a block, if it came under a section id.
-fn samples_under(id: u16, block: Option<Block>) -> Option<[Wide; 12]>
+pub fn samples_under(id: u16, block: Option<Block>) -> Option<[Wide; 12]>
     ensures { result ≡ samples_under id block }
 {
     match block {

@@ -12,7 +12,7 @@ use cplane_sections::CBody;
 use fh_time::{Slot, Ticks, air, resolve};
 
 /// Whether two slots are the same one.
-pub(crate) fn same_slot(a: &Slot, b: &Slot) -> bool
+pub fn same_slot(a: &Slot, b: &Slot) -> bool
     ensures { result ≡ same_slot a.now b.now }
 {
     a.frame == b.frame && a.subframe == b.subframe && a.slot == b.slot
@@ -76,8 +76,8 @@ fn is_idle(body: &CBody) -> bool
     }
 }
 
-/// What a command names.
-pub(crate) fn allocation_of(c: &Command) -> Allocation
+/// What a command names: its frame is the one nearest to its arrival.
+pub fn allocation_of(c: &Command) -> Allocation
     requires { IsSoundCommand c.now }
     ensures value { result ≡ allocation_of c.now }
     ensures slot { IsSlot result.endpoint.numerology result.slot }
