@@ -14,19 +14,12 @@ use Rattle.slot_rings.specs.Places.{PlaceValue, is_of, place_block, place_claim,
 use Rattle.slot_rings.specs.Rings.{IsRingCell, RingValue, has_slot, place_index, place_of, ring_block, ring_claim, ring_done, ring_uplink}
 use Rattle.slot_rings.proofs.PlaceLemmas.{slot_is, slot_own}
 use Rattle.unit_cells.specs.Cells.{CellsValue, IsCellIn, block_from, cells_block, cells_claim, cells_done, cells_has, cells_uplink, claim_from, done_from, has_from, ring_of, uplink_from}
-use Rattle.unit_cells.specs.Keeping.{Keeps}
+use Rattle.unit_cells.specs.Keeping.{Keeps, SameKnown}
 use Rattle.unit_cells.specs.Steps.{InRing, Marks}
 use Rattle.unit_cells.proofs.KeepLemmas.{cell_of_ring, parted, ring_endpoint}
 use Rattle.unit_cells.proofs.ListLemmas.{get_set_other, get_set_same}
 use Rattle.unit_cells.proofs.StepLemmas.{same_index}
 use Rattle.unit_cells.proofs.TimeLemmas.{no_block_from, no_claim_from, no_done_from, no_uplink_from}
-
--- the same is known, marks aside
-pub record SameKnown (old new : CellsValue) : Type 0 where
-  pub claims : (cell : Cell) (re : ℕ) → cells_claim new cell re ≡ cells_claim old cell re
-  pub blocks : (cell : Cell) → cells_block new cell ≡ cells_block old cell
-  pub uplink : (k : ℕ) (s : Slot) → cells_uplink new k s ≡ cells_uplink old k s
-  pub places : (k : ℕ) (s : Slot) → cells_has new k s ≡ cells_has old k s
 
 pub keeps_same : (c : Config) (clock : ℤ) (old new : CellsValue) (acc : List Allocation) (ds : List Data) → SameKnown old new → Keeps c clock old acc ds → Keeps c clock new acc ds
 keeps_same c clock old new acc ds same keeps = record {

@@ -35,6 +35,13 @@ abbrev pub SameMarks : Config → ℤ → CellsValue → CellsValue → Type 0
 SameMarks c clock old new =
     (e : EndpointConfig) (cell : Cell) → IsCell c e cell → IsLiveAt c clock cell.ep cell.slot → cells_done new cell ≡ cells_done old cell
 
+-- the same is known of all cells and slots, marks aside
+pub record SameKnown (old new : CellsValue) : Type 0 where
+  pub claims : (cell : Cell) (re : ℕ) → cells_claim new cell re ≡ cells_claim old cell re
+  pub blocks : (cell : Cell) → cells_block new cell ≡ cells_block old cell
+  pub uplink : (ep : ℕ) (slot : Slot) → cells_uplink new ep slot ≡ cells_uplink old ep slot
+  pub places : (ep : ℕ) (slot : Slot) → cells_has new ep slot ≡ cells_has old ep slot
+
 -- ---- as time passes
 
 abbrev pub KeepsLater : Type 0

@@ -56,7 +56,7 @@ impl Model for UnitCells {
 
 impl UnitCells {
     ghost use Rattle.unit_cells.specs.Cells.{AreRings, CellsValue, IsOf, IsSlotIn, IsCellIn, cells_block, cells_claim, cells_done, cells_has, cells_index, cells_places, cells_uplink, endpoints_of, ring_of};
-    ghost use Rattle.unit_cells.specs.Keeping.{Keeps, LiveAreApart, SameMarks};
+    ghost use Rattle.unit_cells.specs.Keeping.{Keeps, LiveAreApart, SameKnown, SameMarks};
     ghost use Rattle.unit_cells.specs.Steps.{Fills, InRing, Marks, Takes};
 
     /// Takes all memory for a configuration. Nothing is known of any slot.
@@ -194,7 +194,7 @@ impl UnitCells {
         ensures others { (cell : Cell) → IsCellIn self.old cell → (cell.ep ≡ ep → cell.slot ≡ slot → cell.symbol ≡ symbol → cell.prb ≢ prb)
             → cells_done self.new cell ≡ cells_done self.old cell }
         ensures keeps { (c : Config) (clock : ℤ) (acc : List Allocation) (ds : List Data) → Keeps c clock self.old acc ds → Keeps c clock self.new acc ds }
-        ensures places { (k : ℕ) (s : Slot) → cells_has self.new k s ≡ cells_has self.old k s }
+        ensures known { SameKnown self.old self.new }
         ensures delays { self.new.delays ≡ self.old.delays }
         ensures endpoints { endpoints_of self.new ≡ endpoints_of self.old }
     {

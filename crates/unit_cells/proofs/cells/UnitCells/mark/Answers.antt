@@ -1,4 +1,5 @@
-use Rattle.unit_cells.proofs.MarkLemmas.{SameKnown, keeps_same, marked_here, marked_known, marked_others}
+use Rattle.unit_cells.proofs.MarkLemmas.{keeps_same, marked_here, marked_known, marked_others}
+use Rattle.unit_cells.specs.Keeping.{SameKnown}
 use Rattle.unit_cells.specs.Steps.{Marks}
 use Rattle.unit_cells.proofs.RingsLemmas.{endpoints_still}
 use Rattle.unit_cells.proofs.cells.UnitCells.mark.Goals as goal
@@ -16,8 +17,8 @@ returns-clause-others c = marked_others c.args.ep c.args.slot c.args.symbol c.ar
 pub returns-clause-keeps : goal.returns-clause-keeps
 returns-clause-keeps c k clock acc ds keeps = keeps_same k clock c.args.self.now c.mark_cell.new.self acc ds (known c) keeps
 
-pub returns-clause-places : goal.returns-clause-places
-returns-clause-places c = (known c).places
+pub returns-clause-known : goal.returns-clause-known
+returns-clause-known c = known c
 
 pub returns-clause-endpoints : goal.returns-clause-endpoints
 returns-clause-endpoints c =
