@@ -110,11 +110,7 @@ fn control<'a>(side: Side, ep: usize, endpoint: EndpointConfig, payload: &'a [u8
 /// What a message is to the unit at this side, by the tests that it meets: its type, its length, its id, its way and its layout
 /// (eCPRI 2.0, section 3.2.4; O-RAN.WG4.CUS, the eCPRI transport header; the order of the tests is this project's profile).
 #[tactic(auto, unfolding(crate::specs::Meetings::meet))]
-pub fn meet<'a>(
-    side: Side,
-    endpoints: &[EndpointConfig],
-    message: &WholeMessage<'a>,
-) -> Met<'a>
+pub fn meet<'a>(side: Side, endpoints: &[EndpointConfig], message: &WholeMessage<'a>) -> Met<'a>
     ensures value { (at : ℤ) → meeting_of at result ≡ met_by_definition side endpoints.now at (message_of message.now) }
     ensures tested { IsTested endpoints.now result }
 {

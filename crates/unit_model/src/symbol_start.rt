@@ -40,6 +40,5 @@ pub fn comes_before(a: &SymbolStart, b: &SymbolStart) -> bool
 {
     a.start.0 < b.start.0
         || (a.start.0 == b.start.0
-            && (a.ep < b.ep
-                || (a.ep == b.ep && symbol_before(a.slot, a.symbol, b.slot, b.symbol))))
+            && (a.ep < b.ep || (a.ep == b.ep && symbol_before(a.slot, a.symbol, b.slot, b.symbol))))
 }
