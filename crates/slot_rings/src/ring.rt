@@ -127,10 +127,11 @@ impl SlotRing {
         self.place(a.slot).judge(a)
     }
 
-    /// The accepted uplink sections of a slot, the newest last.
+    /// The accepted uplink sections of a slot, the newest last: 64 at most.
     pub fn uplink(&self, slot: Slot) -> &[Allocation]
         requires { IsSlot self.now.endpoint.numerology slot }
-        ensures { reverse result.now ≡ ring_uplink self.now slot }
+        ensures value { reverse result.now ≡ ring_uplink self.now slot }
+        ensures few { length result.now ≤ 64 }
     {
         self.place(slot).uplink(slot)
     }

@@ -228,10 +228,11 @@ impl UnitCells {
         self.rings[ep].is_used(slot, symbol)
     }
 
-    /// The accepted uplink sections of a slot, the newest last.
+    /// The accepted uplink sections of a slot, the newest last: 64 at most.
     pub fn uplink(&self, ep: usize, slot: Slot) -> &[Allocation]
         requires { IsSlotIn self.now ep slot }
-        ensures { reverse result.now ≡ cells_uplink self.now ep slot }
+        ensures value { reverse result.now ≡ cells_uplink self.now ep slot }
+        ensures few { length result.now ≤ 64 }
     {
         self.rings[ep].uplink(slot)
     }
