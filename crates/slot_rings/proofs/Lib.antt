@@ -4,3 +4,4 @@ pub mod JudgeLemmas
 pub mod PlaceLemmas
 pub mod SeenLemmas
 pub mod RingLemmas
+pub mod PendingLemmas

@@ -1,3 +1,4 @@
 pub mod Places
 pub mod Rings
+pub mod Pending
 pub mod Verdicts

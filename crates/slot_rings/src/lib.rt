@@ -14,6 +14,7 @@ mod index;
 mod judging;
 mod lists;
 mod marks;
+mod pending;
 mod place;
 mod ring;
 mod scans;

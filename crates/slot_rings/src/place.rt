@@ -35,7 +35,7 @@ pub(crate) struct Place {
 }
 
 impl Model for Place {
-    ghost use Rattle.std.specs.Prelude.{◌≤◌, reverse, vec_capacity};
+    ghost use Rattle.std.specs.Prelude.{◌≤◌, length, reverse, vec_capacity};
     ghost use Rattle.slot_rings.specs.Places.{PlaceValue};
 
     ghost Value = { PlaceValue };
@@ -43,7 +43,7 @@ impl Model for Place {
     ghost view = { λ p. record { slot = p.slot; room = p.room; down = p.down.items; up = p.up.items; blocks = p.blocks.items; done = p.done.items; uplink = reverse p.uplink.items } };
 
     ghost invariant = { λ p. (p.room ≤ vec_capacity p.down) × (p.room ≤ vec_capacity p.up) × (p.room ≤ vec_capacity p.blocks)
-        × (p.room ≤ vec_capacity p.done) × (64 ≤ vec_capacity p.uplink) };
+        × (p.room ≤ vec_capacity p.done) × (64 ≤ vec_capacity p.uplink) × (length p.uplink.items ≤ 64) };
 }
 
 /// Whether two slots are the same one.
@@ -67,7 +67,9 @@ fn is_of(owner: Option<Slot>, slot: Slot) -> bool
 fn keep(uplink: &mut Vec<Allocation>, a: &Allocation)
     requires room { 64 ≤ vec_capacity uplink.old }
     requires few { is_uplink a.now ≡ true → length uplink.old.items < 64 }
+    requires kept { length uplink.old.items ≤ 64 }
     ensures items { reverse uplink.new.items ≡ uplink_after Accepted a.now (reverse uplink.old.items) }
+    ensures most { length uplink.new.items ≤ 64 }
     ensures capacity { vec_capacity uplink.old ≤ vec_capacity uplink.new }
 {
     if is_uplink(a) {
@@ -181,7 +183,8 @@ impl Place {
 
     /// The accepted uplink sections of a slot, the newest last.
     pub(crate) fn uplink(&self, slot: Slot) -> &[Allocation]
-        ensures { reverse result.now ≡ place_uplink self.now slot }
+        ensures value { reverse result.now ≡ place_uplink self.now slot }
+        ensures few { length result.now ≤ 64 }
     {
         if self.has(slot) {
             self.uplink.as_slice()

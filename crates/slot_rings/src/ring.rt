@@ -13,6 +13,7 @@ ghost use Rattle.slot_rings.specs.Verdicts.{verdict_by, claim_after, uplink_afte
 
 use crate::index::place_index;
 use crate::judging::marks_at;
+use crate::pending::{SYMBOLS, clear_flag, is_flagged, make_flags, set_flags};
 use crate::place::Place;
 use crate::scans::{all_there, any_due, block_at, done_at};
 use fh_base::NoMemory;
@@ -21,9 +22,6 @@ use std::alloc::Global;
 use std::marker::Model;
 use unit_model::{Allocation, Block, CommandVerdict};
 use window_config::EndpointConfig;
-
-/// The cells of a slot for each PRB: a slot has 14 symbols.
-const SYMBOLS: usize = 14;
 
 /// What a report needs of a downlink cell.
 #[derive(Clone, Copy, Debug, PartialEq, Eq)]
@@ -43,16 +41,20 @@ pub struct Use {
 pub struct SlotRing {
     endpoint: EndpointConfig,
     places: Vec<Place>,
+    // of each place, the symbols that may have downlink cells to report
+    pending: Vec<[bool; 14]>,
 }
 
 impl Model for SlotRing {
     ghost use Rattle.slot_rings.specs.Rings.{RingValue, IsRing};
+    ghost use Rattle.slot_rings.specs.Pending.{IsFlagged};
 
     ghost Value = { RingValue };
 
     ghost view = { λ r. record { endpoint = r.endpoint; places = r.places.items } };
 
-    ghost invariant = { λ r. IsRing (record { endpoint = r.endpoint; places = r.places.items }) };
+    ghost invariant = { λ r. IsRing (record { endpoint = r.endpoint; places = r.places.items })
+        × IsFlagged (record { endpoint = r.endpoint; places = r.places.items }) r.pending.items };
 }
 
 impl SlotRing {
@@ -74,7 +76,12 @@ impl SlotRing {
             let place = Place::make(alloc, room)?;
             places.push(place)?;
         }
-        Ok(SlotRing { endpoint, places })
+        let pending = make_flags(alloc, slots)?;
+        Ok(SlotRing {
+            endpoint,
+            places,
+            pending,
+        })
     }
 
     /// The endpoint.
@@ -127,10 +134,11 @@ impl SlotRing {
         self.place(a.slot).judge(a)
     }
 
-    /// The accepted uplink sections of a slot, the newest last.
+    /// The accepted uplink sections of a slot, the newest last: 64 at most.
     pub fn uplink(&self, slot: Slot) -> &[Allocation]
         requires { IsSlot self.now.endpoint.numerology slot }
-        ensures { reverse result.now ≡ ring_uplink self.now slot }
+        ensures value { reverse result.now ≡ ring_uplink self.now slot }
+        ensures few { length result.now ≤ 64 }
     {
         self.place(slot).uplink(slot)
     }
@@ -171,8 +179,31 @@ impl SlotRing {
         }
     }
 
+    /// Whether a downlink cell of the symbol may be in use and not reported, of the slot that has the place with this index. It
+    /// looks at no cell.
+    pub fn is_pending(&self, index: usize, symbol: u8) -> bool
+        requires { index < length self.now.places }
+        ensures { result ≡ false → (slot : Slot) → place_index self.now slot ≡ index → has_slot self.now slot ≡ true → (ep : ℕ) → some 0 self.now.endpoint.prbs (λ prb.
+            is_due (ring_claim self.now (cell_at ep true slot symbol prb)) (ring_done self.now (cell_at ep true slot symbol prb))) ≡ false }
+    {
+        is_flagged(&self.pending, index, symbol)
+    }
+
     /// Whether a downlink cell of a symbol is in use and was not reported.
     pub fn is_used(&self, slot: Slot, symbol: u8) -> bool
+        requires { IsSlot self.now.endpoint.numerology slot }
+        ensures { (ep : ℕ) → result ≡ some 0 self.now.endpoint.prbs (λ prb.
+            is_due (ring_claim self.now (cell_at ep true slot symbol prb)) (ring_done self.now (cell_at ep true slot symbol prb))) }
+    {
+        let index = self.index(slot);
+        if !self.is_pending(index, symbol) {
+            return false;
+        }
+        self.has_due(slot, symbol)
+    }
+
+    /// The same, by a look at each of its cells.
+    fn has_due(&self, slot: Slot, symbol: u8) -> bool
         requires { IsSlot self.now.endpoint.numerology slot }
         ensures { (ep : ℕ) → result ≡ some 0 self.now.endpoint.prbs (λ prb.
             is_due (ring_claim self.now (cell_at ep true slot symbol prb)) (ring_done self.now (cell_at ep true slot symbol prb))) }
@@ -234,6 +265,7 @@ impl SlotRing {
     {
         let index = self.index(a.slot);
         self.places[index].claim(a);
+        set_flags(&mut self.pending, index, a);
     }
 
     /// Gives a cell its block in a slot's place.
@@ -331,5 +363,28 @@ impl SlotRing {
     {
         let number = self.number(symbol, prb);
         self.mark_place(slot, number);
+    }
+
+    /// Clears the flag of a symbol of which nothing is due.
+    fn clear(&mut self, slot: Slot, symbol: u8)
+        requires slot { IsSlot self.old.endpoint.numerology slot }
+        requires has { has_slot self.old slot ≡ true }
+        requires settled { (ep : ℕ) → some 0 self.old.endpoint.prbs (λ prb.
+            is_due (ring_claim self.old (cell_at ep true slot symbol prb)) (ring_done self.old (cell_at ep true slot symbol prb))) ≡ false }
+        ensures { self.new ≡ self.old }
+    {
+        let index = self.index(slot);
+        clear_flag(&mut self.pending, index, symbol);
+    }
+
+    /// Looks at the cells of a symbol, so that `is_pending` and `is_used` need not look at them again where the slot has its place
+    /// and none of them is to be reported any more. Nothing else changes.
+    pub fn settle(&mut self, slot: Slot, symbol: u8)
+        requires { IsSlot self.old.endpoint.numerology slot }
+        ensures { self.new ≡ self.old }
+    {
+        if self.has(slot) && !self.is_used(slot, symbol) {
+            self.clear(slot, symbol);
+        }
     }
 }

@@ -21,7 +21,6 @@ ghost use Rattle.slot_rings.specs.Rings.{RingValue, ring_block};
 ghost use Rattle.unit_cells.specs.Headings.{IsProperHeading, data_of, with_heading};
 ghost use Rattle.unit_cells.specs.Told.{IsTold};
 
-use crate::commands::{allocation_of, command_class, is_for};
 use crate::heading::DataHeading;
 use crate::rings::{fill, make_ring, mark, take};
 use crate::sections::{data_class, data_slot, first_prb, prb_at, prb_count};
@@ -31,7 +30,9 @@ use fh_time::Slot;
 use slot_rings::{SlotRing, Use};
 use std::alloc::Global;
 use std::marker::Model;
-use unit_model::{Allocation, Block, Command, CommandVerdict, DataVerdict};
+use unit_model::{
+    Allocation, Block, Command, CommandVerdict, DataVerdict, allocation_of, command_class, is_for,
+};
 use window_config::{Class, Config, Delays, EndpointConfig};
 
 /// The memory of all cells of a radio unit: the ring of each endpoint, which has a place for each slot that may be live at one
@@ -228,10 +229,11 @@ impl UnitCells {
         self.rings[ep].is_used(slot, symbol)
     }
 
-    /// The accepted uplink sections of a slot, the newest last.
+    /// The accepted uplink sections of a slot, the newest last: 64 at most.
     pub fn uplink(&self, ep: usize, slot: Slot) -> &[Allocation]
         requires { IsSlotIn self.now ep slot }
-        ensures { reverse result.now ≡ cells_uplink self.now ep slot }
+        ensures value { reverse result.now ≡ cells_uplink self.now ep slot }
+        ensures few { length result.now ≤ 64 }
     {
         self.rings[ep].uplink(slot)
     }

@@ -15,7 +15,6 @@
 #![tactic(auto)]
 
 mod cells;
-mod commands;
 mod heading;
 mod laws;
 mod rings;

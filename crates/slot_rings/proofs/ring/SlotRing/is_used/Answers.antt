@@ -1,13 +1,7 @@
-use Rattle.std.proofs.Common.{◌∙◌, ap, true, false, get_or, ◌+◌}
-use Rattle.unit_model.specs.Lists.{some}
-use Rattle.slot_rings.specs.Places.{PlaceValue, marks_seen, done_seen, claim_in, no_marks, is_due}
-use Rattle.slot_rings.specs.Rings.{RingValue}
-use Rattle.slot_rings.proofs.SeenLemmas.{due_seen}
+use Rattle.std.proofs.Common.{sym}
+use Rattle.slot_rings.proofs.PendingLemmas.{unflagged}
 use Rattle.slot_rings.proofs.ring.SlotRing.is_used.Goals as goal
 
-pub returns : goal.returns
-returns c ep = c.any_due.ensures
-    ∙ ap (λ (r : RingValue). some 0 r.endpoint.prbs (λ n. is_due (claim_in (get_or c.marks.result.now (c.number-base.result + n) no_marks)) (get_or c.done.result.now (c.number-base.result + n) false))) c.self.view_is
-    ∙ due_seen c.args.self.now c.args.slot c.args.symbol c.number-base.result ep c.marks.result.now c.done.result.now c.number-base.ensures.value
-    (c.marks.ensures ∙ ap (λ (p : PlaceValue). marks_seen p c.args.slot true) c.place-place.ensures)
-    (c.done.ensures ∙ ap (λ (p : PlaceValue). done_seen p c.args.slot) c.place-place.ensures)
+pub returns-then-not-is_pending : goal.returns-then-not-is_pending
+returns-then-not-is_pending c ep =
+    unflagged c.args.self.now ep c.args.slot c.args.symbol (λ has. c.is_pending.ensures c.if-not-is_pending.true c.args.slot (sym c.index-index.ensures.value) has ep)

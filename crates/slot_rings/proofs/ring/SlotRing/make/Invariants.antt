@@ -1,4 +1,4 @@
-use Rattle.std.proofs.Common.{◌≡◌, ℕ, ◌<◌, get_or, vec_len, None}
+use Rattle.std.proofs.Common.{◌≡◌, ℕ, ◌<◌, get_or, vec_len, [], None}
 use Rattle.slot_rings.specs.Places.{blank}
 use Rattle.slot_rings.proofs.ring.SlotRing.make.Given as goal
 
@@ -6,5 +6,6 @@ abbrev pub invariant-loop-k : goal.invariant-loop-k
 invariant-loop-k l = record {
   len : vec_len l.places ≡ l._k;
   slots : (i : ℕ) → (get_or l.places.items i blank).slot ≡ None;
+  downs : (i : ℕ) → (get_or l.places.items i blank).down ≡ [];
   rooms : (i : ℕ) → i < vec_len l.places → (get_or l.places.items i blank).room ≡ l.room;
 }

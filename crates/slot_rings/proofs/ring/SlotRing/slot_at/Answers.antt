@@ -13,9 +13,9 @@ within c = subst (λ (r : RingValue). c.args.index < length r.places) (sym c.sel
 pub returns-clause-has : goal.returns-clause-has
 returns-clause-has c = if_some c.slot.result (λ s is.
     subst (λ (r : RingValue). has_slot r s ≡ true) c.self.view_is
-    (own_at (fields c) c.args.index c.index.result.now s c.self.invariant (within c) c.index.ensures (sym c.slot.ensures ∙ is)).0)
+    (own_at (fields c) c.args.index c.index.result.now s c.self.invariant.0 (within c) c.index.ensures (sym c.slot.ensures ∙ is)).0)
 
 pub returns-clause-index : goal.returns-clause-index
 returns-clause-index c = if_some c.slot.result (λ s is.
     subst (λ (r : RingValue). place_index r s ≡ c.args.index) c.self.view_is
-    (own_at (fields c) c.args.index c.index.result.now s c.self.invariant (within c) c.index.ensures (sym c.slot.ensures ∙ is)).1)
+    (own_at (fields c) c.args.index c.index.result.now s c.self.invariant.0 (within c) c.index.ensures (sym c.slot.ensures ∙ is)).1)

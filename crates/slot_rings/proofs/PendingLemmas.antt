@@ -1,0 +1,231 @@
+-- Where the flag of a symbol is not set, none of its cells is due.
+use Rattle.std.proofs.Common.{◌≡◌, ℕ, zero, suc, ◌+◌, ◌*◌, ◌<◌, ◌≤◌, inl, inr, Bool, true, false, not, ◌&&◌, ◌==◌, if◌then◌else◌, List, [], ◌∷◌, ◌++◌, length, get_or, set, refl, ap, ap₂, sym, ◌∙◌, subst, arith, length-set, get_or-set_same, get_or-set_other, Option, Some, None}
+use Rattle.std.proofs.lemmas.Bool.{cases_eq, cases_Bool, and_parts, eq-eqb, eqb-true}
+use Rattle.std.proofs.lemmas.List.{get_or_read}
+use Rattle.fh_time.specs.declared.values.Slot.{Slot}
+use Rattle.unit_model.specs.Claims.{cell_at, claim_of, covers, is_from, names, same_way}
+use Rattle.unit_model.specs.Lists.{some}
+use Rattle.unit_model.specs.Radiated.{is_used, used_below, used_mask}
+use Rattle.unit_model.specs.declared.allocations.Allocation.{Allocation}
+use Rattle.unit_model.specs.declared.cells.Block.{Block}
+use Rattle.unit_model.specs.declared.cells.Cell.{Cell}
+use Rattle.unit_model.specs.declared.cells.Claim.{Claim}
+use Rattle.unit_model.specs.declared.verdicts.CommandVerdict.TheVariants.{Accepted}
+use Rattle.slot_rings.specs.Pending.{IsFlagged, due_in, flag_at}
+use Rattle.slot_rings.specs.Places.{PlaceValue, blank, cell_number, claim_in, empty_place, is_due, is_of, no_marks, opened, place_claim, place_done}
+use Rattle.slot_rings.specs.Rings.{IsRing, RingValue, has_slot, place_index, place_of, ring_claim, ring_done}
+use Rattle.slot_rings.specs.Verdicts.{claim_after}
+use Rattle.slot_rings.specs.declared.marks.Marks.{Marks}
+use Rattle.slot_rings.proofs.PlaceLemmas.{no_claim}
+use Rattle.slot_rings.proofs.RangeLemmas.{some_at, some_from, some_same}
+use Rattle.slot_rings.proofs.SeenLemmas.{due_seen}
+use Rattle.slot_rings.proofs.RingLemmas.{put}
+
+pub unequal : (b : Bool) → b ≡ true → b ≡ false → ⊥
+unequal b p q = cc
+
+-- ---- cells in use
+
+used_none : (n u : ℕ) (b : Bool) → (2 * u + (if b then 1 else 0)) ≡ 0 → (u ≡ 0) × (b ≡ false)
+used_none n u true e = absurd (omega (arith, e))
+used_none n u false e = (omega (arith, e), refl)
+
+no_use : (u : ℕ) (b : Bool) → u ≡ 0 → b ≡ false → (2 * u + (if b then 1 else 0)) ≡ 0
+no_use u b e is = rw (e, is) refl
+
+-- what uses no more than nothing uses nothing
+used_less : (f g : ℕ → Option Claim) (n : ℕ) → ((re : ℕ) → re < n → is_used (f re) ≡ false → is_used (g re) ≡ false) → used_below f n ≡ 0 → used_below g n ≡ 0
+unfolding used_below
+used_less f g zero less e = refl
+used_less f g (suc n) less e =
+    let p = used_none n (used_below f n) (is_used (f n)) e in
+    no_use (used_below g n) (is_used (g n)) (used_less f g n (λ re below. less re (omega arith)) p.0) (less n (omega arith) p.1)
+
+due_parts : (a b d : Bool) → (a ≡ true → b ≡ true) → (not a && not d) ≡ false → (not b && not d) ≡ false
+due_parts true b d less is = let e = less refl in rw e refl
+due_parts false true d less is = refl
+due_parts false false d less is = is
+
+due_less : (f g : ℕ → Option Claim) (d : Bool) → ((re : ℕ) → re < 12 → is_used (f re) ≡ false → is_used (g re) ≡ false) → is_due f d ≡ false → is_due g d ≡ false
+due_less f g d less is = due_parts (used_mask f == 0) (used_mask g == 0) d
+    (λ e. eq-eqb (used_mask g) 0 (used_less f g 12 less (eqb-true (used_mask f) 0 e))) is
+
+no_due : (g : ℕ → Option Claim) (d : Bool) → ((re : ℕ) → g re ≡ None) → is_due g d ≡ false
+unfolding used_below
+no_due g d none = due_less (λ re. None) g d (λ re below off. ap is_used (none re)) refl
+
+-- ---- the cells of a symbol, as a place changes
+
+due_empty : (prbs s : ℕ) (p : PlaceValue) → p.down ≡ [] → due_in prbs p s ≡ false
+due_empty prbs s p e = some_from 0 prbs _ (λ n low high.
+    no_due _ _ (λ re. ap (λ (l : List Marks). claim_in (get_or l (cell_number prbs s 0 + n) no_marks) re) e ∙ no_claim re))
+
+pub filled_quiet : (prbs s : ℕ) (p q : PlaceValue) → q.down ≡ p.down → q.done ≡ p.done → due_in prbs p s ≡ false → due_in prbs q s ≡ false
+filled_quiet prbs s p q down done off = some_same 0 prbs _ _ (λ n low high.
+    ap₂ (λ (ms : List Marks) (ds : List Bool). is_due (claim_in (get_or ms (cell_number prbs s 0 + n) no_marks)) (get_or ds (cell_number prbs s 0 + n) false)) down done) ∙ off
+
+pub opened_quiet : (prbs s : ℕ) (slot : Slot) (p q : PlaceValue) → q ≡ opened slot p → due_in prbs p s ≡ false → due_in prbs q s ≡ false
+opened_quiet prbs s slot p q is off = elim (cases_Bool (is_of p.slot slot)) [
+  | inl own ↦
+      let same : q ≡ p = rw own at is in
+      ap (λ (x : PlaceValue). due_in prbs x s) same ∙ off
+  | inr other ↦
+      let new : q ≡ empty_place (Some slot) p.room = rw other at is in
+      due_empty prbs s q (ap (λ (x : PlaceValue). x.down) new)
+]
+
+done_due : (g : ℕ → Option Claim) (d : Bool) → d ≡ true → is_due g d ≡ false
+done_due g d e = rw e (none (not (used_mask g == 0)))
+  where
+    none : (b : Bool) → (b && false) ≡ false
+    none true = refl
+    none false = refl
+
+pub marked_quiet : (prbs s k : ℕ) (p q : PlaceValue) → q.down ≡ p.down → get_or q.done k false ≡ true
+    → ((i : ℕ) → (i ≡ k → ⊥) → get_or q.done i false ≡ get_or p.done i false) → due_in prbs p s ≡ false → due_in prbs q s ≡ false
+marked_quiet prbs s k p q down here others off = some_from 0 prbs _ (λ n low high.
+    elim (cases_eq (cell_number prbs s 0 + n) k) [
+      | inl e ↦ done_due _ _ (ap (λ (i : ℕ). get_or q.done i false) e ∙ here)
+      | inr ne ↦
+          ap₂ (λ (ms : List Marks) (d : Bool). is_due (claim_in (get_or ms (cell_number prbs s 0 + n) no_marks)) d) down (others (cell_number prbs s 0 + n) ne)
+          ∙ some_at 0 prbs (λ n. is_due (claim_in (get_or p.down (cell_number prbs s 0 + n) no_marks)) (get_or p.done (cell_number prbs s 0 + n) false)) n off low high
+    ])
+
+-- ---- a claim
+
+way_is : (b : Bool) → same_way b true ≡ true → b ≡ true
+way_is true e = refl
+way_is false e = cc
+
+names_down : (a : Allocation) (cell : Cell) (re : ℕ) → cell.down ≡ true → names a cell re ≡ true → (a.down ≡ true) × (is_from a.symbol a.num_symbol cell.symbol ≡ true)
+names_down a cell re down is =
+    let all = and_parts _ _ (and_parts _ _ is).0 in
+    let way = and_parts _ _ all.1 in
+    let within = and_parts _ _ (and_parts _ _ way.1).1 in
+    (way_is a.down (ap (λ (b : Bool). same_way a.down b) (sym down) ∙ way.0), within.0)
+
+used_after : (a : Allocation) (cell : Cell) (re : ℕ) (o : Option Claim) → cell.down ≡ true
+    → (a.down ≡ true → a.idle ≡ false → is_from a.symbol a.num_symbol cell.symbol ≡ true → ⊥) → is_used o ≡ false → is_used (claim_after Accepted a cell re o) ≡ false
+used_after a cell re o down never off = elim (cases_Bool (names a cell re)) [
+  | inr none ↦ rw none off
+  | inl named ↦
+      let p = names_down a cell re down named in
+      elim (cases_Bool a.idle) [
+        | inl idle ↦ rw (named, idle) refl
+        | inr radiates ↦ absurd (never p.0 radiates p.1)
+      ]
+]
+
+place_marks : (prbs : ℕ) (p : PlaceValue) (ep : ℕ) (slot : Slot) (s n re : ℕ) → is_of p.slot slot ≡ true
+    → place_claim prbs p (cell_at ep true slot s n) re ≡ claim_in (get_or p.down (cell_number prbs s 0 + n) no_marks) re
+place_marks prbs p ep slot s n re own =
+    let at : cell_number prbs s n ≡ cell_number prbs s 0 + n = omega arith in
+    rw own (ap (λ (k : ℕ). claim_in (get_or p.down k no_marks) re) at)
+
+pub claimed_quiet : (prbs m s : ℕ) (p q : PlaceValue) (a : Allocation) → m ≡ prbs → is_of p.slot a.slot ≡ true → q.slot ≡ p.slot → q.done ≡ p.done
+    → ((cell : Cell) (re : ℕ) → cell.ep ≡ a.ep → cell.slot ≡ a.slot → cell.prb < m → re < 12
+    → place_claim m q cell re ≡ claim_after Accepted a cell re (place_claim m p cell re))
+    → (a.down ≡ true → a.idle ≡ false → is_from a.symbol a.num_symbol s ≡ true → ⊥) → due_in prbs p s ≡ false → due_in prbs q s ≡ false
+claimed_quiet prbs m s p q a same own slot done claims never off =
+    subst (λ (w : ℕ). due_in w q s ≡ false) same (go (subst (λ (w : ℕ). due_in w p s ≡ false) (sym same) off))
+  where
+    q_own : is_of q.slot a.slot ≡ true
+    q_own = ap (λ (o : Option Slot). is_of o a.slot) slot ∙ own
+
+    go : due_in m p s ≡ false → due_in m q s ≡ false
+    go off = some_from 0 m _ (λ n low high.
+        ap (λ (ds : List Bool). is_due (claim_in (get_or q.down (cell_number m s 0 + n) no_marks)) (get_or ds (cell_number m s 0 + n) false)) done
+        ∙ due_less (claim_in (get_or p.down (cell_number m s 0 + n) no_marks)) (claim_in (get_or q.down (cell_number m s 0 + n) no_marks))
+        (get_or p.done (cell_number m s 0 + n) false)
+        (λ re below unused.
+        let cell = cell_at a.ep true a.slot s n in
+        ap is_used (sym (place_marks m q a.ep a.slot s n re q_own) ∙ claims cell re refl refl (omega (arith, high)) below)
+        ∙ used_after a cell re _ refl never (ap is_used (place_marks m p a.ep a.slot s n re own) ∙ unused))
+        (some_at 0 m (λ n. is_due (claim_in (get_or p.down (cell_number m s 0 + n) no_marks)) (get_or p.done (cell_number m s 0 + n) false)) n off low high))
+
+-- ---- the flags of all places
+
+pub flagged_put : (r : RingValue) (flags new : List (List Bool)) (i : ℕ) (p q : PlaceValue) → IsFlagged r flags → i < length r.places → p ≡ get_or r.places i p
+    → length new ≡ length flags → ((j s : ℕ) → flag_at new j s ≡ false → flag_at flags j s ≡ false)
+    → ((s : ℕ) → flag_at new i s ≡ false → due_in r.endpoint.prbs p s ≡ false → due_in r.endpoint.prbs q s ≡ false) → IsFlagged (put r i q) new
+flagged_put r flags new i p q flagged within read size kept changed = record {
+  size = size ∙ flagged.size ∙ sym (length-set r.places i q);
+  quiet = λ j s off. elim (cases_eq j i) [
+    | inl e ↦
+        let there : p ≡ get_or r.places i blank = get_or_read r.places i p within read blank in
+        let flag : flag_at new i s ≡ false = ap (λ (k : ℕ). flag_at new k s) (sym e) ∙ off in
+        let was : due_in r.endpoint.prbs p s ≡ false = ap (λ (x : PlaceValue). due_in r.endpoint.prbs x s) there ∙ flagged.quiet i s (kept i s flag) in
+        let now : get_or (set r.places i q) j blank ≡ q = ap (λ (k : ℕ). get_or (set r.places i q) k blank) e ∙ get_or-set_same r.places i q blank within in
+        ap (λ (x : PlaceValue). due_in r.endpoint.prbs x s) now ∙ changed s flag was
+    | inr ne ↦ ap (λ (x : PlaceValue). due_in r.endpoint.prbs x s) (get_or-set_other r.places i j q blank ne) ∙ flagged.quiet j s (kept j s off)
+  ];
+}
+
+pub flagged_empty : (r : RingValue) (flags : List (List Bool)) → length flags ≡ length r.places → ((i : ℕ) → (get_or r.places i blank).down ≡ []) → IsFlagged r flags
+flagged_empty r flags size empty = record {
+  size = size;
+  quiet = λ i s off. due_empty r.endpoint.prbs s (get_or r.places i blank) (empty i);
+}
+
+pub downs_pushed : (xs : List PlaceValue) (p : PlaceValue) → ((i : ℕ) → (get_or xs i blank).down ≡ []) → p.down ≡ []
+    → (i : ℕ) → (get_or (xs ++ p ∷ []) i blank).down ≡ []
+downs_pushed [] p all is zero = is
+downs_pushed [] p all is (suc i) = refl
+downs_pushed (x ∷ xs) p all is zero = all zero
+downs_pushed (x ∷ xs) p all is (suc i) = downs_pushed xs p (λ j. all (suc j)) is i
+
+-- ---- a symbol of a slot
+
+abbrev ring_due : RingValue → ℕ → Slot → ℕ → Bool
+ring_due r ep slot s = some 0 r.endpoint.prbs (λ prb. is_due (ring_claim r (cell_at ep true slot s prb)) (ring_done r (cell_at ep true slot s prb)))
+
+due_elsewhere : (r : RingValue) (ep : ℕ) (slot : Slot) (s : ℕ) → has_slot r slot ≡ false → ring_due r ep slot s ≡ false
+due_elsewhere r ep slot s none = some_from 0 r.endpoint.prbs _ (λ n low high. no_due _ _ (λ re. rw none refl))
+
+-- a symbol that is not flagged
+pub unflagged : (r : RingValue) (ep : ℕ) (slot : Slot) (s : ℕ) → (has_slot r slot ≡ true → ring_due r ep slot s ≡ false) → false ≡ ring_due r ep slot s
+unflagged r ep slot s quiet = sym (elim (cases_Bool (has_slot r slot)) [
+  | inl has ↦ quiet has
+  | inr none ↦ due_elsewhere r ep slot s none
+])
+
+due_own : (r : RingValue) (ep : ℕ) (slot : Slot) (s : ℕ) → has_slot r slot ≡ true → due_in r.endpoint.prbs (place_of r slot) s ≡ ring_due r ep slot s
+due_own r ep slot s has = due_seen r slot s (cell_number r.endpoint.prbs s 0) ep (place_of r slot).down (place_of r slot).done refl
+    (rw has refl) (rw has refl)
+
+pub flagged_clear : (r v : RingValue) (flags new : List (List Bool)) (slot : Slot) (i symbol : ℕ) → r ≡ v → IsFlagged r flags → i ≡ place_index v slot
+    → has_slot v slot ≡ true → ring_due v 0 slot symbol ≡ false → length new ≡ length flags
+    → ((j s : ℕ) → (j ≡ i → s ≡ symbol → ⊥) → flag_at new j s ≡ flag_at flags j s) → IsFlagged r new
+flagged_clear r v flags new slot i symbol same flagged i_is has settled size others =
+    subst (λ (x : RingValue). IsFlagged x new) (sym same) (record { size = size ∙ was.size; quiet = quiet })
+  where
+    was : IsFlagged v flags
+    was = subst (λ (x : RingValue). IsFlagged x flags) same flagged
+
+    quiet : (j s : ℕ) → flag_at new j s ≡ false → due_in v.endpoint.prbs (get_or v.places j blank) s ≡ false
+    quiet j s off = elim (cases_eq j i) [
+      | inr ne ↦ was.quiet j s (sym (others j s (λ e is. ne e)) ∙ off)
+      | inl e ↦ elim (cases_eq s symbol) [
+        | inr ne ↦ was.quiet j s (sym (others j s (λ is own. ne own)) ∙ off)
+        | inl own ↦
+            ap (λ (k : ℕ). due_in v.endpoint.prbs (get_or v.places k blank) s) (e ∙ i_is)
+            ∙ ap (λ (k : ℕ). due_in v.endpoint.prbs (place_of v slot) k) own
+            ∙ due_own v 0 slot symbol has ∙ settled
+      ]
+    ]
+
+-- ---- a ring of places that are no slot's
+
+pub fresh_ring : (r : RingValue) (slots : ℕ) → length r.places ≡ slots → 1 ≤ slots → slots < 1024 → 1 ≤ r.endpoint.prbs → r.endpoint.prbs ≤ 273
+    → ((i : ℕ) → (get_or r.places i blank).slot ≡ None) → ((i : ℕ) → i < length r.places → (get_or r.places i blank).room ≡ 14 * r.endpoint.prbs) → IsRing r
+fresh_ring r slots len one few prbs_some prbs_few none rooms = record {
+  some = omega (arith, len, one);
+  few = omega (arith, len, few);
+  prbs_some = prbs_some;
+  prbs_few = prbs_few;
+  rooms = λ i below. omega (arith, rooms i below);
+  homes = λ i s below is. absurd (no_slot s (sym (none i) ∙ is));
+}
+  where
+    no_slot : (s : Slot) → None ≡ Some s → ⊥
+    no_slot s e = cc
