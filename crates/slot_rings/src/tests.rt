@@ -223,7 +223,10 @@ fn claims_to_report(rt: HostRuntime) -> Result<(), Fail> {
     };
     assert_eq!(rt; take(&mut ring, &up), CommandVerdict::Accepted);
     assert!(rt; !pending(&ring, 1, 2));
-    assert_eq!(rt; take(&mut ring, &allocation(e, LAST)), CommandVerdict::Accepted);
+    assert_eq!(rt;
+        take(&mut ring, &allocation(e, LAST)),
+        CommandVerdict::Accepted
+    );
     assert!(rt; pending(&ring, 1, 2) && pending(&ring, 1, 3));
     assert!(rt; !pending(&ring, 1, 1) && !pending(&ring, 1, 4) && !pending(&ring, 0, 2));
     Ok(())
@@ -236,7 +239,10 @@ fn symbols_are_settled(rt: HostRuntime) -> Result<(), Fail> {
     assert!(rt; shape(&n).symbols == 14);
     let e = endpoint(n);
     let mut ring = SlotRing::make(rt.alloc(), e, 2)?;
-    assert_eq!(rt; open_and_take(&mut ring, &allocation(e, LAST)), CommandVerdict::Accepted);
+    assert_eq!(rt;
+        open_and_take(&mut ring, &allocation(e, LAST)),
+        CommandVerdict::Accepted
+    );
     report(&mut ring, LAST, 2, 1);
     ring.settle(LAST, 2);
     assert!(rt; pending(&ring, 1, 2));
