@@ -3,16 +3,15 @@ use Rattle.std.proofs.Common.{◌≡◌, ℕ, zero, suc, ◌+◌, ◌*◌, ◌<�
 use Rattle.std.proofs.lemmas.Bool.{cases_eq, cases_Bool, and_parts, eq-eqb, eqb-true}
 use Rattle.std.proofs.lemmas.List.{get_or_read}
 use Rattle.fh_time.specs.declared.values.Slot.{Slot}
-use Rattle.unit_model.specs.Claims.{cell_at, claim_of, covers, is_from, names, same_way}
+use Rattle.unit_model.specs.Claims.{cell_at, is_from, names, same_way}
 use Rattle.unit_model.specs.Lists.{some}
 use Rattle.unit_model.specs.Radiated.{is_used, used_below, used_mask}
 use Rattle.unit_model.specs.declared.allocations.Allocation.{Allocation}
-use Rattle.unit_model.specs.declared.cells.Block.{Block}
 use Rattle.unit_model.specs.declared.cells.Cell.{Cell}
 use Rattle.unit_model.specs.declared.cells.Claim.{Claim}
 use Rattle.unit_model.specs.declared.verdicts.CommandVerdict.TheVariants.{Accepted}
 use Rattle.slot_rings.specs.Pending.{IsFlagged, due_in, flag_at}
-use Rattle.slot_rings.specs.Places.{PlaceValue, blank, cell_number, claim_in, empty_place, is_due, is_of, no_marks, opened, place_claim, place_done}
+use Rattle.slot_rings.specs.Places.{PlaceValue, blank, cell_number, claim_in, empty_place, is_due, is_of, no_marks, opened, place_claim}
 use Rattle.slot_rings.specs.Rings.{IsRing, RingValue, has_slot, place_index, place_of, ring_claim, ring_done}
 use Rattle.slot_rings.specs.Verdicts.{claim_after}
 use Rattle.slot_rings.specs.declared.marks.Marks.{Marks}

@@ -173,3 +173,92 @@ fn blocks_and_places(rt: HostRuntime) -> Result<(), Fail> {
     assert!(rt; ring.block(LAST, 2, 1).is_none() && !ring.is_used(LAST, 3));
     Ok(())
 }
+
+/// The same, with its place given to the slot before.
+fn open_and_take(ring: &mut SlotRing, a: &Allocation) -> CommandVerdict
+    requires endpoint { a.now.endpoint ≡ ring.old.endpoint }
+    requires slot { IsSlot ring.old.endpoint.numerology a.now.slot }
+    requires within { a.now.symbol + a.now.num_symbol ≤ symbols_of ring.old.endpoint.numerology }
+    ensures { ring.new.endpoint ≡ ring.old.endpoint }
+{
+    ring.open(a.slot);
+    take(ring, a)
+}
+
+/// Whether a symbol of a place may have cells to report, where there is that place.
+fn pending(ring: &SlotRing, index: usize, symbol: u8) -> bool {
+    index < ring.place_count() && ring.is_pending(index, symbol)
+}
+
+/// Marks a cell as reported, where its slot has a place.
+fn report(ring: &mut SlotRing, slot: Slot, symbol: u8, prb: u16)
+    requires slot { IsSlot ring.old.endpoint.numerology slot }
+    requires symbol { symbol < symbols_of ring.old.endpoint.numerology }
+    requires prb { prb < ring.old.endpoint.prbs }
+    ensures { ring.new.endpoint ≡ ring.old.endpoint }
+{
+    if ring.has(slot) {
+        ring.mark_done(slot, symbol, prb);
+    }
+}
+
+#[test]
+fn claims_to_report(rt: HostRuntime) -> Result<(), Fail> {
+    let n = Numerology::ordinary(1).expect(&rt, "30 kHz");
+    assert!(rt; shape(&n).slots == 2);
+    assert!(rt; shape(&n).symbols == 14);
+    let e = endpoint(n);
+    let mut ring = SlotRing::make(rt.alloc(), e, 2)?;
+    ring.open(LAST);
+    // idle and uplink sections have no downlink cell to report
+    let idle = Allocation {
+        idle: true,
+        mask: 0x0F0,
+        ..allocation(e, LAST)
+    };
+    assert_eq!(rt; take(&mut ring, &idle), CommandVerdict::Accepted);
+    let up = Allocation {
+        down: false,
+        ..allocation(e, LAST)
+    };
+    assert_eq!(rt; take(&mut ring, &up), CommandVerdict::Accepted);
+    assert!(rt; !pending(&ring, 1, 2));
+    assert_eq!(rt;
+        take(&mut ring, &allocation(e, LAST)),
+        CommandVerdict::Accepted
+    );
+    assert!(rt; pending(&ring, 1, 2) && pending(&ring, 1, 3));
+    assert!(rt; !pending(&ring, 1, 1) && !pending(&ring, 1, 4) && !pending(&ring, 0, 2));
+    Ok(())
+}
+
+#[test]
+fn symbols_are_settled(rt: HostRuntime) -> Result<(), Fail> {
+    let n = Numerology::ordinary(1).expect(&rt, "30 kHz");
+    assert!(rt; shape(&n).slots == 2);
+    assert!(rt; shape(&n).symbols == 14);
+    let e = endpoint(n);
+    let mut ring = SlotRing::make(rt.alloc(), e, 2)?;
+    assert_eq!(rt;
+        open_and_take(&mut ring, &allocation(e, LAST)),
+        CommandVerdict::Accepted
+    );
+    report(&mut ring, LAST, 2, 1);
+    ring.settle(LAST, 2);
+    assert!(rt; pending(&ring, 1, 2));
+    report(&mut ring, LAST, 2, 2);
+    // a slot that has no place settles nothing there
+    ring.settle(SECOND, 2);
+    assert!(rt; pending(&ring, 1, 2));
+    ring.settle(LAST, 2);
+    assert!(rt; !pending(&ring, 1, 2) && pending(&ring, 1, 3));
+    assert!(rt; !ring.is_used(LAST, 2) && ring.is_used(LAST, 3));
+    let later = Allocation {
+        start_prb: 3,
+        num_prb: 1,
+        ..allocation(e, LAST)
+    };
+    assert_eq!(rt; open_and_take(&mut ring, &later), CommandVerdict::Accepted);
+    assert!(rt; pending(&ring, 1, 2));
+    Ok(())
+}

@@ -229,6 +229,27 @@ impl UnitCells {
         self.rings[ep].is_used(slot, symbol)
     }
 
+    /// Whether a downlink cell of the symbol may be in use and not reported, of the slot that has the place with this index. It
+    /// looks at no cell.
+    pub fn is_pending(&self, ep: usize, index: usize, symbol: u8) -> bool
+        requires ep { ep < length (endpoints_of self.now) }
+        requires index { index < cells_places self.now ep }
+        ensures { result ≡ false → (slot : Slot) → cells_index self.now ep slot ≡ index → cells_has self.now ep slot ≡ true
+            → (e : EndpointConfig) → IsAt (endpoints_of self.now) ep e → some 0 e.prbs (λ prb.
+            is_due (cells_claim self.now (cell_at ep true slot symbol prb)) (cells_done self.now (cell_at ep true slot symbol prb))) ≡ false }
+    {
+        self.rings[ep].is_pending(index, symbol)
+    }
+
+    /// Looks at the downlink cells of a symbol: where its slot has a place and none of them is in use and not reported, `is_pending`
+    /// and `is_used` answer so from now on without a look at any, until one is claimed. Nothing else changes.
+    pub fn settle(&mut self, ep: usize, slot: Slot, symbol: u8)
+        requires { IsSlotIn self.old ep slot }
+        ensures { self.new ≡ self.old }
+    {
+        self.rings[ep].settle(slot, symbol);
+    }
+
     /// The accepted uplink sections of a slot, the newest last: 64 at most.
     pub fn uplink(&self, ep: usize, slot: Slot) -> &[Allocation]
         requires { IsSlotIn self.now ep slot }

@@ -213,6 +213,72 @@ fn commands_are_judged(rt: HostRuntime) -> Result<(), Fail> {
     Ok(())
 }
 
+/// Whether these symbols of the slot in the last of three places may have cells to report: slot 20 in the order of slots, which
+/// is the first of frame 1.
+fn pending_last(cells: &UnitCells, e: EndpointConfig) -> [bool; 2]
+    requires { endpoints_of cells.now ≡ e ∷ [] }
+{
+    if cells.places(0) < 3 {
+        return [true; 2];
+    }
+    [cells.is_pending(0, 2, 0), cells.is_pending(0, 2, 1)]
+}
+
+/// Marks PRB 1 in symbol 0 of the slot that has the last of three places.
+fn mark_second(cells: &mut UnitCells, e: EndpointConfig)
+    requires listed { endpoints_of cells.old ≡ e ∷ [] }
+    requires symbols { symbols_of e.numerology ≡ 14 }
+    requires prbs { e.prbs ≡ 4 }
+    ensures { endpoints_of cells.new ≡ e ∷ [] }
+{
+    if cells.places(0) < 3 {
+        return;
+    }
+    if let Some(slot) = cells.slot_at(0, 2) {
+        cells.mark(0, slot, 0, 1);
+    }
+}
+
+/// Settles symbol 0 of that slot.
+fn settle_last(cells: &mut UnitCells, e: EndpointConfig)
+    requires { endpoints_of cells.old ≡ e ∷ [] }
+    ensures { endpoints_of cells.new ≡ e ∷ [] }
+{
+    if cells.places(0) < 3 {
+        return;
+    }
+    if let Some(slot) = cells.slot_at(0, 2) {
+        cells.settle(0, slot, 0);
+    }
+}
+
+#[test]
+fn symbols_are_settled(rt: HostRuntime) -> Result<(), Fail> {
+    let n = Numerology::ordinary(1).expect(&rt, "30 kHz");
+    assert!(rt; shape(&n).slots == 2);
+    assert!(rt; shape(&n).symbols == 14);
+    let e = endpoint(n);
+    let config = config(e, Widths::new(4, 4, 4, 4)?);
+    let mut cells = UnitCells::make(rt.alloc(), &config)?;
+    assert_eq!(rt; pending_last(&cells, e), [false, false]);
+    assert_eq!(rt;
+        send(&mut cells, e, 9_600_000, true, 1),
+        CommandVerdict::Accepted
+    );
+    assert_eq!(rt; pending_last(&cells, e), [true, false]);
+    settle_last(&mut cells, e);
+    assert_eq!(rt; pending_last(&cells, e), [true, false]);
+    assert_eq!(rt; mark_last(&mut cells, e), Some(FIRST));
+    settle_last(&mut cells, e);
+    assert_eq!(rt; pending_last(&cells, e), [true, false]);
+    mark_second(&mut cells, e);
+    assert_eq!(rt; pending_last(&cells, e), [true, false]);
+    settle_last(&mut cells, e);
+    assert_eq!(rt; pending_last(&cells, e), [false, false]);
+    assert!(rt; !cells.is_used(0, FIRST, 0));
+    Ok(())
+}
+
 /// Marks PRB 0 in symbol 0 of the slot that has the last of three places, and tells which slot that is: slot 20 in the order of
 /// slots, which is the first of frame 1.
 fn mark_last(cells: &mut UnitCells, e: EndpointConfig) -> Option<Slot>

@@ -1,4 +1,4 @@
-use Rattle.std.proofs.Common.{◌≡◌, ℕ, length, vec_len}
+use Rattle.std.proofs.Common.{◌≡◌, length}
 use Rattle.slot_rings.proofs.pending.make_flags.Given as goal
 
 abbrev pub invariant-loop-k : goal.invariant-loop-k

@@ -1,4 +1,4 @@
-use Rattle.std.proofs.Common.{◌≡◌, ℕ, ◌+◌, ◌-◌, ◌<◌, ◌≤◌, true, false, get_or}
+use Rattle.std.proofs.Common.{◌≡◌, ℕ, ◌<◌, ◌≤◌, true, false, get_or}
 use Rattle.unit_model.specs.Claims.{is_from}
 use Rattle.slot_rings.proofs.pending.set_symbols.Given as goal
 

@@ -10,17 +10,18 @@ use Rattle.slot_rings.proofs.ring.SlotRing.claim_place.Goals as goal
 pub invariant_of-self : goal.invariant_of-self
 invariant_of-self c =
     let r : RingValue = record { endpoint = c.self.inside.endpoint; places = c.self.inside.places.items } in
-    let within : c.index-index.result < length r.places = subst (λ (x : RingValue). c.index-index.result < length x.places) (sym c.self.view_is) c.index-index.ensures.within in
-    (put_kept r c.index-index.result c.index_mut.result.now c.claim.new.self c.self.invariant.0
-    within c.index_mut.ensures.value
-    (ap (λ (p : PlaceValue). p.slot) c.claim.ensures.kept) (ap (λ (p : PlaceValue). p.room) c.claim.ensures.kept),
-    flagged_put r c.self.inside.pending.items c.set_flags.new.flags.items c.index-index.result c.index_mut.result.now c.claim.new.self c.self.invariant.1 within c.index_mut.ensures.value
-    c.set_flags.ensures.size c.set_flags.ensures.kept
-    (λ s off. claimed_quiet r.endpoint.prbs c.args.a.now.endpoint.prbs s c.index_mut.result.now c.claim.new.self c.args.a.now
-    (ap (λ (e : EndpointConfig). e.prbs) c.requires.endpoint ∙ ap (λ (x : RingValue). x.endpoint.prbs) (sym c.self.view_is))
-    (ap (λ (p : PlaceValue). is_of p.slot c.args.a.now.slot) (read_is r c.args.self.now c.index-index.result c.index_mut.result.now c.args.a.now.slot c.self.invariant.0 c.self.view_is c.index-index.ensures.value c.index_mut.ensures.value) ∙ c.requires.has)
-    (ap (λ (p : PlaceValue). p.slot) c.claim.ensures.kept) (ap (λ (p : PlaceValue). p.done) c.claim.ensures.kept) c.claim.ensures.claims
-    (λ down radiates is. unequal (flag_at c.set_flags.new.flags.items c.index-index.result s) (c.set_flags.ensures.set s down radiates is) off)))
+    let within : c.index-index.result < length r.places = subst (λ (x : RingValue). c.index-index.result < length x.places) (sym c.self.view_is) c.index-index.ensures.within in (
+      put_kept r c.index-index.result c.index_mut.result.now c.claim.new.self c.self.invariant.0
+          within c.index_mut.ensures.value
+          (ap (λ (p : PlaceValue). p.slot) c.claim.ensures.kept) (ap (λ (p : PlaceValue). p.room) c.claim.ensures.kept),
+      flagged_put r c.self.inside.pending.items c.set_flags.new.flags.items c.index-index.result c.index_mut.result.now c.claim.new.self c.self.invariant.1 within c.index_mut.ensures.value
+          c.set_flags.ensures.size c.set_flags.ensures.kept
+          (λ s off. claimed_quiet r.endpoint.prbs c.args.a.now.endpoint.prbs s c.index_mut.result.now c.claim.new.self c.args.a.now
+          (ap (λ (e : EndpointConfig). e.prbs) c.requires.endpoint ∙ ap (λ (x : RingValue). x.endpoint.prbs) (sym c.self.view_is))
+          (ap (λ (p : PlaceValue). is_of p.slot c.args.a.now.slot) (read_is r c.args.self.now c.index-index.result c.index_mut.result.now c.args.a.now.slot c.self.invariant.0 c.self.view_is c.index-index.ensures.value c.index_mut.ensures.value) ∙ c.requires.has)
+          (ap (λ (p : PlaceValue). p.slot) c.claim.ensures.kept) (ap (λ (p : PlaceValue). p.done) c.claim.ensures.kept) c.claim.ensures.claims
+          (λ down radiates is. unequal (flag_at c.set_flags.new.flags.items c.index-index.result s) (c.set_flags.ensures.set s down radiates is) off)),
+    )
 
 pub returns-clause-claims : goal.returns-clause-claims
 returns-clause-claims c cell re ep at below under =

@@ -25,7 +25,8 @@ pub invariant_of-result : goal.invariant_of-result
 invariant_of-result c =
     let r : RingValue = record { endpoint = c.args.endpoint; places = c.loop-k.places.items } in
     let len : length r.places ≡ c.args.slots =
-    omega (arith, c.loop-k.places.ok.0, c.loop-k.invariant.len, c.loop-k-test.false, c.loop-k.auto._k-end) in
-    (fresh_ring r c.args.slots len c.requires.some c.requires.few c.requires.prbs_some c.requires.prbs_few c.loop-k.invariant.slots
-    (λ i below. c.loop-k.invariant.rooms i (omega (arith, below, c.loop-k.places.ok.0))),
-    flagged_empty r c.in_ok-pending.pending.items (c.in_ok-pending.ensures ∙ sym len) c.loop-k.invariant.downs)
+    omega (arith, c.loop-k.places.ok.0, c.loop-k.invariant.len, c.loop-k-test.false, c.loop-k.auto._k-end) in (
+      fresh_ring r c.args.slots len c.requires.some c.requires.few c.requires.prbs_some c.requires.prbs_few c.loop-k.invariant.slots
+          (λ i below. c.loop-k.invariant.rooms i (omega (arith, below, c.loop-k.places.ok.0))),
+      flagged_empty r c.in_ok-pending.pending.items (c.in_ok-pending.ensures ∙ sym len) c.loop-k.invariant.downs,
+    )
