@@ -1,0 +1,12 @@
+//! Whole U-plane messages at a radio unit: the verdict on each section, counted, and its blocks, which go to the cells of the rings.
+//!
+//! A message is gone over twice where its pieces stand: once to its end, since one that is refused changes nothing but a counter,
+//! and then section by section, PRB by PRB. Nothing is copied but the samples, and nothing takes memory.
+#![tactic(auto)]
+
+mod section;
+mod taking;
+#[cfg(test)]
+mod tests;
+
+pub use taking::take_message;

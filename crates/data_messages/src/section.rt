@@ -1,0 +1,61 @@
+// One section of a message: its verdict, and its blocks, which the walk tells behind its header.
+ghost use Rattle.std.specs.Prelude.{◌≡◌, []};
+ghost use Rattle.window_config.specs.declared.config.Config.{Config};
+ghost use Rattle.data_walks.specs.Left.{left_of};
+ghost use Rattle.unit_model.specs.Blocks.{data_prb_count};
+ghost use Rattle.unit_cells.specs.Cells.{IsOf, endpoints_of};
+ghost use Rattle.unit_cells.specs.Headings.{IsProperHeading, data_of};
+ghost use Rattle.unit_cells.specs.Keeping.{SameMarks};
+ghost use Rattle.data_messages.specs.Sections.{AreBehind, Filled, Came};
+
+use data_walks::DataWalk;
+use fault_counters::Counters;
+use unit_cells::{DataHeading, UnitCells};
+use unit_model::data_counter;
+use uplane_sections::UFeed;
+
+/// How many PRBs a section has.
+fn prb_count(heading: &DataHeading) -> u16
+    ensures { result ≡ data_prb_count (data_of heading.now []) }
+{
+    match heading.section.num_prb {
+        0 => heading.endpoint.prbs,
+        n => u16::from(n),
+    }
+}
+
+/// Gives the cells of a section its blocks, which the walk tells next.
+fn fill_section(cells: &mut UnitCells, heading: &DataHeading, walk: &mut DataWalk<'_>)
+    requires heading { IsProperHeading (endpoints_of cells.old) heading.now }
+    requires behind { AreBehind heading.now (left_of walk.old) }
+    ensures filled { Filled heading.now (left_of walk.old) (left_of walk.new) cells.old cells.new }
+    ensures marks { (c : Config) → IsOf c cells.old → SameMarks c heading.now.last.0 cells.old cells.new }
+    ensures delays { cells.new.delays ≡ cells.old.delays }
+    ensures endpoints { endpoints_of cells.new ≡ endpoints_of cells.old }
+{
+    for k in 0..prb_count(heading) {
+        match walk.next() {
+            Some(UFeed::Block { samples, .. }) => cells.fill(heading, k, &samples),
+            _ => unreachable!(),
+        }
+    }
+}
+
+/// Treats a section: its verdict is counted, and its cells get its blocks, which the walk tells next.
+pub(crate) fn take_section(
+    cells: &mut UnitCells,
+    counters: &mut Counters,
+    heading: &DataHeading,
+    walk: &mut DataWalk<'_>,
+)
+    requires heading { IsProperHeading (endpoints_of cells.old) heading.now }
+    requires behind { AreBehind heading.now (left_of walk.old) }
+    ensures taken { Came heading.now (left_of walk.old) (left_of walk.new) cells.old cells.new counters.old counters.new }
+    ensures marks { (c : Config) → IsOf c cells.old → SameMarks c heading.now.last.0 cells.old cells.new }
+    ensures delays { cells.new.delays ≡ cells.old.delays }
+    ensures endpoints { endpoints_of cells.new ≡ endpoints_of cells.old }
+{
+    let verdict = cells.begin(heading);
+    counters.add(data_counter(verdict));
+    fill_section(cells, heading, walk);
+}

@@ -1,0 +1,333 @@
+// Messages written out by hand from the layout tables. One endpoint of 4 PRBs at 30 kHz, whose frame 1 begins at 10 ms: data are on time
+// from 345 to 134 us before their symbol, and symbol 1 begins 36.2 us behind symbol 0.
+ghost use Rattle.std.specs.Prelude.{◌≡◌, ◌<◌, ◌≤ℤ◌, pos, List, [], ◌∷◌};
+ghost use Rattle.bfp_codec.specs.Layout.{HasWidth};
+ghost use Rattle.ecpri_fragments.specs.Assemblies.{endpoints_of as assembly_endpoints};
+ghost use Rattle.fh_time.specs.Numbering.{slots_of};
+ghost use Rattle.window_config.specs.Configs.{IsConfig};
+ghost use Rattle.window_config.specs.Endpoints.{IsEndpoint};
+ghost use Rattle.window_config.specs.Limits.{IsWithinLimits};
+ghost use Rattle.unit_cells.specs.Cells.{endpoints_of};
+
+use crate::take_message;
+use bfp_codec::{Format, Method};
+use eaxc_map::Widths;
+use ecpri_fragments::{Assembly, Lease, SeqField, Taken};
+use fault_counters::{Counter, Counters};
+use fh_time::{Numerology, Slot, of_ns, shape};
+use std::test::Fail;
+use unit_cells::UnitCells;
+use window_config::{Config, Delays, EndpointConfig, EndpointList, Range};
+
+/// Two sections, each of one PRB with the samples (k, -k): section 1 on PRB 0 of symbol 0, and
+/// section 2 with symInc on PRB 0.
+const TWO: [u8; 108] = [
+    0x90, 0x01, 0x00, 0x00, 0x00, 0x10, 0x00, 0x01, 0x00, 0x00, 0x00, 0x00, 0x00, 0x01, 0xff, 0xff,
+    0x00, 0x02, 0xff, 0xfe, 0x00, 0x03, 0xff, 0xfd, 0x00, 0x04, 0xff, 0xfc, 0x00, 0x05, 0xff, 0xfb,
+    0x00, 0x06, 0xff, 0xfa, 0x00, 0x07, 0xff, 0xf9, 0x00, 0x08, 0xff, 0xf8, 0x00, 0x09, 0xff, 0xf7,
+    0x00, 0x0a, 0xff, 0xf6, 0x00, 0x0b, 0xff, 0xf5, 0x00, 0x24, 0x00, 0x01, 0x00, 0x00, 0x00, 0x00,
+    0x00, 0x01, 0xff, 0xff, 0x00, 0x02, 0xff, 0xfe, 0x00, 0x03, 0xff, 0xfd, 0x00, 0x04, 0xff, 0xfc,
+    0x00, 0x05, 0xff, 0xfb, 0x00, 0x06, 0xff, 0xfa, 0x00, 0x07, 0xff, 0xf9, 0x00, 0x08, 0xff, 0xf8,
+    0x00, 0x09, 0xff, 0xf7, 0x00, 0x0a, 0xff, 0xf6, 0x00, 0x0c, 0xff, 0xf4,
+];
+
+const FIRST: Slot = Slot {
+    frame: 1,
+    subframe: 0,
+    slot: 0,
+};
+
+fn delays() -> Delays
+    ensures { IsWithinLimits result }
+{
+    Delays {
+        t1a_up: Range {
+            min: 234_000,
+            max: 345_000,
+        },
+        t1a_cp_ul: Range {
+            min: 225_000,
+            max: 470_000,
+        },
+        t2a_up: Range {
+            min: 134_000,
+            max: 345_000,
+        },
+        t2a_cp_ul: Range {
+            min: 125_000,
+            max: 470_000,
+        },
+        ta3: Range {
+            min: 50_000,
+            max: 171_000,
+        },
+        ta4: Range {
+            min: 50_000,
+            max: 271_000,
+        },
+        t12: Range {
+            min: 0,
+            max: 100_000,
+        },
+        t34: Range {
+            min: 0,
+            max: 100_000,
+        },
+        advance: 125_000,
+        hold_dl: 211_000,
+        hold_ul: 221_000,
+    }
+}
+
+fn endpoint(numerology: Numerology) -> EndpointConfig
+    ensures endpoint { IsEndpoint result }
+    ensures numerology { result.numerology ≡ numerology }
+    ensures width { HasWidth result.format.method }
+{
+    EndpointConfig {
+        id: 0,
+        numerology,
+        prbs: 4,
+        format: Format {
+            dynamic: false,
+            method: Method::Plain,
+        },
+    }
+}
+
+fn listed(e: EndpointConfig) -> EndpointList
+    ensures { result ≡ e ∷ [] }
+{
+    let mut endpoints = EndpointList::new();
+    let _room = endpoints.push(e);
+    endpoints
+}
+
+fn config(e: EndpointConfig, widths: Widths) -> Config
+    requires { IsEndpoint e }
+    ensures config { IsConfig result }
+    ensures endpoints { result.endpoints ≡ e ∷ [] }
+{
+    Config {
+        widths,
+        delays: delays(),
+        gap: 1_000,
+        fragment: 1_492,
+        endpoints: listed(e),
+    }
+}
+
+/// Treats a message whose fragments came at times that a unit may be given.
+fn treat(cells: &mut UnitCells, counters: &mut Counters, e: &EndpointConfig, lease: &Lease<'_>)
+    requires listed { endpoints_of cells.old ≡ e.now ∷ [] }
+    requires width { HasWidth e.now.format.method }
+    ensures { endpoints_of cells.new ≡ endpoints_of cells.old }
+{
+    let first = lease.first();
+    let last = lease.last();
+    if 0 <= first.0 && first.0 <= last.0 && last.0 <= 1 << 53 {
+        take_message(cells, counters, 0, e, lease);
+    }
+}
+
+/// Takes a fragment that comes so many nanoseconds behind 9 ms, and treats the message that it makes whole.
+fn receive(
+    assembly: &mut Assembly,
+    cells: &mut UnitCells,
+    counters: &mut Counters,
+    e: &EndpointConfig,
+    ns: u32,
+    seq: SeqField,
+    bytes: &[u8],
+)
+    requires endpoint { 0 < assembly_endpoints assembly.old }
+    requires sub { seq.sub < 128 }
+    requires listed { endpoints_of cells.old ≡ e.now ∷ [] }
+    requires width { HasWidth e.now.format.method }
+    ensures assembly { assembly_endpoints assembly.new ≡ assembly_endpoints assembly.old }
+    ensures cells { endpoints_of cells.new ≡ endpoints_of cells.old }
+{
+    if let Taken::Whole(lease) = assembly.take(0, of_ns(9_000_000 + i64::from(ns)), seq, bytes) {
+        treat(cells, counters, e, &lease);
+    }
+}
+
+fn field(seq: u8, last: bool, sub: u8) -> SeqField
+    ensures { result ≡ record { seq = seq; last = last; sub = sub } }
+{
+    SeqField { seq, last, sub }
+}
+
+/// The section of a cell's block and the last of its samples, of a cell in the first slot of frame 1.
+fn last_sample(cells: &UnitCells, e: &EndpointConfig, symbol: u8, prb: u16) -> Option<(u16, i32)>
+    requires listed { endpoints_of cells.now ≡ e.now ∷ [] }
+    requires slots { 0 < slots_of e.now.numerology }
+{
+    cells
+        .block(0, FIRST, symbol, prb)
+        .map(|b| (b.id, b.samples[11].i))
+}
+
+/// How many sections were taken, repeats, early or late, how many messages were refused, and how many had the wrong direction.
+fn counted(counters: &Counters) -> [u64; 6] {
+    [
+        counters.get(Counter::UTaken),
+        counters.get(Counter::URepeat),
+        counters.get(Counter::UEarly),
+        counters.get(Counter::ULate),
+        counters.get(Counter::URefused),
+        counters.get(Counter::WrongWay),
+    ]
+}
+
+#[test]
+fn sections_fill_their_cells(rt: HostRuntime) -> Result<(), Fail> {
+    let n = Numerology::ordinary(1).expect(&rt, "30 kHz");
+    assert!(rt; shape(&n).slots == 2);
+    let e = endpoint(n);
+    let config = config(e, Widths::new(4, 4, 4, 4)?);
+    let mut cells = UnitCells::make(rt.alloc(), &config)?;
+    let mut assembly = Assembly::make(rt.alloc(), 1, of_ns(211_000))?;
+    let mut counters = Counters::new();
+
+    // The cut is in the first PRB.
+    let fragment = field(0, false, 0);
+    receive(
+        &mut assembly,
+        &mut cells,
+        &mut counters,
+        &e,
+        695_000,
+        fragment,
+        &TWO[..20],
+    );
+    assert_eq!(rt; counted(&counters), [0, 0, 0, 0, 0, 0]);
+    let fragment = field(0, true, 1);
+    receive(
+        &mut assembly,
+        &mut cells,
+        &mut counters,
+        &e,
+        700_000,
+        fragment,
+        &TWO[20..],
+    );
+    assert_eq!(rt; counted(&counters), [2, 0, 0, 0, 0, 0]);
+    assert_eq!(rt; last_sample(&cells, &e, 0, 0), Some((1, 11)));
+    assert_eq!(rt; last_sample(&cells, &e, 1, 0), Some((2, 12)));
+    assert_eq!(rt; last_sample(&cells, &e, 0, 1), None);
+
+    // Section 3 on PRBs 1 and 2 of symbol 0; the last samples are 5 and 6.
+    let mut message = [0; 104];
+    message[..8].copy_from_slice(&[0x90, 0x01, 0, 0, 0x00, 0x30, 0x01, 0x02]);
+    message[53] = 5;
+    message[101] = 6;
+    let fragment = field(1, true, 0);
+    receive(
+        &mut assembly,
+        &mut cells,
+        &mut counters,
+        &e,
+        710_000,
+        fragment,
+        &message,
+    );
+    assert_eq!(rt; counted(&counters), [3, 0, 0, 0, 0, 0]);
+    assert_eq!(rt; last_sample(&cells, &e, 0, 0), Some((1, 11)));
+    assert_eq!(rt; last_sample(&cells, &e, 0, 1), Some((3, 5)));
+    assert_eq!(rt; last_sample(&cells, &e, 0, 2), Some((3, 6)));
+    assert_eq!(rt; last_sample(&cells, &e, 0, 3), None);
+    Ok(())
+}
+
+#[test]
+fn verdicts_are_counted(rt: HostRuntime) -> Result<(), Fail> {
+    let n = Numerology::ordinary(1).expect(&rt, "30 kHz");
+    assert!(rt; shape(&n).slots == 2);
+    let e = endpoint(n);
+    let config = config(e, Widths::new(4, 4, 4, 4)?);
+    let mut cells = UnitCells::make(rt.alloc(), &config)?;
+    let mut assembly = Assembly::make(rt.alloc(), 1, of_ns(211_000))?;
+    let mut counters = Counters::new();
+
+    // One that is refused in its second section, one of the uplink, and one that is too early.
+    let (ns, bytes) = (700_000, &TWO[..107]);
+    let fragment = field(0, true, 0);
+    receive(
+        &mut assembly,
+        &mut cells,
+        &mut counters,
+        &e,
+        ns,
+        fragment,
+        bytes,
+    );
+    assert_eq!(rt; counted(&counters), [0, 0, 0, 0, 1, 0]);
+    let mut uplink = TWO;
+    uplink[0] = 0x10;
+    let fragment = field(1, true, 0);
+    receive(
+        &mut assembly,
+        &mut cells,
+        &mut counters,
+        &e,
+        ns,
+        fragment,
+        &uplink,
+    );
+    assert_eq!(rt; counted(&counters), [0, 0, 0, 0, 1, 1]);
+    let fragment = field(2, true, 0);
+    receive(
+        &mut assembly,
+        &mut cells,
+        &mut counters,
+        &e,
+        654_999,
+        fragment,
+        &TWO,
+    );
+    assert_eq!(rt; counted(&counters), [0, 0, 2, 0, 1, 1]);
+    assert_eq!(rt; last_sample(&cells, &e, 0, 0), None);
+    assert_eq!(rt; last_sample(&cells, &e, 1, 0), None);
+
+    // The first section is taken, and the second one, of a later symbol, is early.
+    let fragment = field(3, true, 0);
+    receive(
+        &mut assembly,
+        &mut cells,
+        &mut counters,
+        &e,
+        690_000,
+        fragment,
+        &TWO,
+    );
+    assert_eq!(rt; counted(&counters), [1, 0, 3, 0, 1, 1]);
+    // Then a repeat, with other samples, and the second one; and at last one that is late, and a repeat.
+    let mut other = TWO;
+    other[53] = 44;
+    let fragment = field(4, true, 0);
+    receive(
+        &mut assembly,
+        &mut cells,
+        &mut counters,
+        &e,
+        ns,
+        fragment,
+        &other,
+    );
+    assert_eq!(rt; counted(&counters), [2, 1, 3, 0, 1, 1]);
+    assert_eq!(rt; last_sample(&cells, &e, 0, 0), Some((1, 11)));
+    assert_eq!(rt; last_sample(&cells, &e, 1, 0), Some((2, 12)));
+    let fragment = field(5, true, 0);
+    receive(
+        &mut assembly,
+        &mut cells,
+        &mut counters,
+        &e,
+        866_001,
+        fragment,
+        &TWO,
+    );
+    assert_eq!(rt; counted(&counters), [2, 2, 3, 1, 1, 1]);
+    Ok(())
+}

@@ -1,0 +1,61 @@
+-- Which symbols are told before others.
+use Rattle.std.proofs.Common.{◌≡◌, ℕ, ℤ, ◌<◌, ◌<ℤ◌, true, refl, arith}
+use Rattle.std.specs.Prelude.{◌==◌, nat_lt, int_lt}
+use Rattle.std.specs.Ordering.{int_eq}
+use Rattle.std.proofs.lemmas.Bool.{and_from, eq-eqb, lt-ltb, or_left, or_right}
+use Rattle.std.proofs.lemmas.Bool.Decides.{Decides-int_eq}
+use Rattle.std.proofs.lemmas.Int.{ints}
+use Rattle.fh_time.specs.declared.values.Slot.{Slot}
+use Rattle.unit_model.specs.Claims.{same_slot}
+use Rattle.unit_model.specs.Order.{comes_before, slot_before, symbol_before}
+use Rattle.unit_model.specs.declared.symbol_start.SymbolStart.{SymbolStart}
+
+is_less : (a b : ℤ) → a <ℤ b → int_lt a b ≡ true
+is_less a b h = grind (arith, ints)
+
+is_same : (a b : ℤ) → a ≡ b → int_eq a b ≡ true
+is_same a b h = (Decides-int_eq a b).1 h
+
+-- ---- of one endpoint
+
+pub frame_before : (a b : Slot) (x y : ℕ) → a.frame <ℤ b.frame → symbol_before a x b y ≡ true
+frame_before a b x y h = or_left (slot_before a b) _ (or_left (int_lt a.frame b.frame) _ (is_less a.frame b.frame h))
+
+pub subframe_before : (a b : Slot) (x y : ℕ) → a.frame ≡ b.frame → a.subframe < b.subframe → symbol_before a x b y ≡ true
+subframe_before a b x y frame h =
+    or_left (slot_before a b) _
+    (or_right (int_lt a.frame b.frame) _
+    (and_from (int_eq a.frame b.frame) _ (is_same a.frame b.frame frame) (or_left (nat_lt a.subframe b.subframe) _ (lt-ltb a.subframe b.subframe h))))
+
+pub slot_comes_before : (a b : Slot) (x y : ℕ) → a.frame ≡ b.frame → a.subframe ≡ b.subframe → a.slot < b.slot → symbol_before a x b y ≡ true
+slot_comes_before a b x y frame subframe h =
+    or_left (slot_before a b) _
+    (or_right (int_lt a.frame b.frame) _
+    (and_from (int_eq a.frame b.frame) _ (is_same a.frame b.frame frame)
+    (or_right (nat_lt a.subframe b.subframe) _
+    (and_from (a.subframe == b.subframe) (nat_lt a.slot b.slot) (eq-eqb a.subframe b.subframe subframe) (lt-ltb a.slot b.slot h)))))
+
+pub symbol_comes_before : (a : Slot) (x y : ℕ) → x < y → symbol_before a x a y ≡ true
+symbol_comes_before a x y h =
+    or_right (slot_before a a) _
+    (and_from (same_slot a a) (nat_lt x y)
+    (and_from (int_eq a.frame a.frame) _ (is_same a.frame a.frame refl)
+    (and_from (a.subframe == a.subframe) (a.slot == a.slot) (eq-eqb a.subframe a.subframe refl) (eq-eqb a.slot a.slot refl)))
+    (lt-ltb x y h))
+
+-- ---- of all endpoints
+
+pub start_before : (a b : SymbolStart) → a.start.0 <ℤ b.start.0 → comes_before a b ≡ true
+start_before a b h = or_left (int_lt a.start.0 b.start.0) _ (is_less a.start.0 b.start.0 h)
+
+pub endpoint_before : (a b : SymbolStart) → a.start.0 ≡ b.start.0 → a.ep < b.ep → comes_before a b ≡ true
+endpoint_before a b start h =
+    or_right (int_lt a.start.0 b.start.0) _
+    (and_from (int_eq a.start.0 b.start.0) _ (is_same a.start.0 b.start.0 start) (or_left (nat_lt a.ep b.ep) _ (lt-ltb a.ep b.ep h)))
+
+pub own_before : (a b : SymbolStart) → a.start.0 ≡ b.start.0 → a.ep ≡ b.ep → symbol_before a.slot a.symbol b.slot b.symbol ≡ true → comes_before a b ≡ true
+own_before a b start ep h =
+    or_right (int_lt a.start.0 b.start.0) _
+    (and_from (int_eq a.start.0 b.start.0) _ (is_same a.start.0 b.start.0 start)
+    (or_right (nat_lt a.ep b.ep) _
+    (and_from (a.ep == b.ep) (symbol_before a.slot a.symbol b.slot b.symbol) (eq-eqb a.ep b.ep ep) h)))

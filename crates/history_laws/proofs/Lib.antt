@@ -1,0 +1,4 @@
+pub mod BeforeLemmas
+pub mod FirstLemmas
+pub mod AddedLemmas
+pub mod ArrivingLemmas

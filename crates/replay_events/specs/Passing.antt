@@ -1,0 +1,108 @@
+-- What a replay's loop rests on as time passes.
+use Rattle.std.specs.Prelude.{◌≡◌, ℤ, pos, ◌+ℤ◌, ◌-ℤ◌, ◌≤ℤ◌, ◌<ℤ◌, List, [], ◌++◌, All}
+use Rattle.air_source.specs.declared.events.AirCell.{AirCell}
+use Rattle.air_source.specs.declared.events.Side.TheVariants.{Ru}
+use Rattle.window_config.specs.Configs.{IsConfig}
+use Rattle.window_config.specs.declared.config.Config.{Config}
+use Rattle.unit_model.specs.Lists.{onto}
+use Rattle.unit_model.specs.Meetings.{Arrival}
+use Rattle.unit_model.specs.Proper.{IsTime}
+use Rattle.unit_model.specs.Radiated.{first_clock}
+use Rattle.unit_model.specs.Reports.{accepted_of, ru_known, ru_reported}
+use Rattle.unit_model.specs.Standing.{AreInTime, due}
+use Rattle.unit_model.specs.Uplink.{jobs}
+use Rattle.replay_events.specs.Events.{cells_at, events_at, events_between}
+use Rattle.replay_events.specs.Moments.{all_arrivals, arrivals_before, end_of_time, landing_at}
+
+-- frames that may be replayed
+pub record AreLandings (landings : List Arrival) : Type 0 where
+  pub times : All (λ a. IsTime a.at) landings
+  pub begun : All (λ a. first_clock ≤ℤ a.at) landings
+  pub ended : All (λ a. a.at ≤ℤ end_of_time) landings
+
+-- nothing lands from one tick on and before another
+abbrev pub IsCalm : List Arrival → ℤ → ℤ → Type 0
+IsCalm landings from to = (tick : ℤ) → from ≤ℤ tick → tick <ℤ to → landing_at landings tick ≡ []
+
+-- what is due up to a time, where all cells of ticks before `now` were reported
+abbrev pub due_from : Config → List Arrival → ℤ → ℤ → List AirCell
+due_from c landings now to =
+    due Ru c.delays c.endpoints (ru_known c (arrivals_before landings now)) (ru_reported c (arrivals_before landings now) (now -ℤ pos 1)) to
+
+-- ---- what came
+
+-- a tick's frames come behind those of the ticks before it
+abbrev pub ArrivalsGoOn : Type 0
+ArrivalsGoOn =
+    (landings : List Arrival) (tick : ℤ) → first_clock ≤ℤ tick
+    → arrivals_before landings (tick +ℤ pos 1) ≡ onto (arrivals_before landings tick) (landing_at landings tick)
+
+abbrev pub CalmAddsNothing : Type 0
+CalmAddsNothing =
+    (landings : List Arrival) (from to : ℤ) → first_clock ≤ℤ from → from ≤ℤ to → IsCalm landings from to
+    → arrivals_before landings to ≡ arrivals_before landings from
+
+abbrev pub ArrivalsAreInTime : Type 0
+ArrivalsAreInTime =
+    (landings : List Arrival) (tick : ℤ) → AreLandings landings
+    → AreInTime (tick -ℤ pos 1) (arrivals_before landings tick) × All (λ a. IsTime a.at) (arrivals_before landings tick)
+
+-- ---- what is reported
+
+-- what lands at a tick or later changes nothing of what is reported up to it, nor of the messages
+abbrev pub ReportedIsSettled : Type 0
+ReportedIsSettled =
+    (c : Config) (landings : List Arrival) (to tick later : ℤ) → IsConfig c → AreLandings landings → first_clock ≤ℤ tick → to ≤ℤ tick → tick ≤ℤ later
+    → ru_reported c (arrivals_before landings later) to ≡ ru_reported c (arrivals_before landings tick) to
+
+abbrev pub MessagesAreSettled : Type 0
+MessagesAreSettled =
+    (c : Config) (landings : List Arrival) (to tick later : ℤ) → IsConfig c → AreLandings landings → first_clock ≤ℤ tick → to ≤ℤ tick → tick ≤ℤ later
+    → jobs c.endpoints (accepted_of c (arrivals_before landings later)) to ≡ jobs c.endpoints (accepted_of c (arrivals_before landings tick)) to
+
+-- Where nothing lands from `now` on and before a tick, and nothing is due before it: what is due up to the tick are its cells, and
+-- no events stand between.
+pub record IsNextMoment (c : Config) (landings : List Arrival) (now tick : ℤ) : Type 0 where
+  pub config : IsConfig c
+  pub landings_are : AreLandings landings
+  pub begun : first_clock ≤ℤ now
+  pub order : now ≤ℤ tick
+  pub ended : tick ≤ℤ (end_of_time +ℤ pos 1)
+  pub calm : IsCalm landings now tick
+  pub quiet : due_from c landings now (tick -ℤ pos 1) ≡ []
+
+abbrev pub DueAtMoment : Type 0
+DueAtMoment = (c : Config) (landings : List Arrival) (now tick : ℤ) → IsNextMoment c landings now tick → tick ≤ℤ end_of_time
+    → due_from c landings now tick ≡ cells_at c landings tick
+
+-- then all cells up to the tick are reported
+abbrev pub ReportedAtMoment : Type 0
+ReportedAtMoment =
+    (c : Config) (landings : List Arrival) (now tick : ℤ) → IsNextMoment c landings now tick → tick ≤ℤ end_of_time
+    → ru_reported c (arrivals_before landings now) (now -ℤ pos 1) ++ cells_at c landings tick ≡ ru_reported c (arrivals_before landings (tick +ℤ pos 1)) tick
+
+-- and up to the tick before it they are
+abbrev pub ReportedBeforeMoment : Type 0
+ReportedBeforeMoment =
+    (c : Config) (landings : List Arrival) (now tick : ℤ) → IsNextMoment c landings now tick
+    → ru_reported c (arrivals_before landings now) (now -ℤ pos 1) ≡ ru_reported c (arrivals_before landings tick) (tick -ℤ pos 1)
+
+-- ---- events
+
+abbrev pub EventsWait : Type 0
+EventsWait =
+    (c : Config) (landings : List Arrival) (now tick : ℤ) → IsNextMoment c landings now tick
+    → events_between c landings first_clock tick ≡ events_between c landings first_clock now
+
+abbrev pub EventsGoOn : Type 0
+EventsGoOn =
+    (c : Config) (landings : List Arrival) (tick : ℤ) → first_clock ≤ℤ tick
+    → events_between c landings first_clock (tick +ℤ pos 1) ≡ events_between c landings first_clock tick ++ events_at c landings tick
+
+-- ---- the end: nothing lands any more, and nothing is due
+
+abbrev pub AllIsOver : Type 0
+AllIsOver =
+    (c : Config) (landings : List Arrival) (now : ℤ) → IsNextMoment c landings now (end_of_time +ℤ pos 1)
+    → (all_arrivals landings ≡ arrivals_before landings now)
+    × (ru_reported c (all_arrivals landings) end_of_time ≡ ru_reported c (arrivals_before landings now) (now -ℤ pos 1))

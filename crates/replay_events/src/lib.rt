@@ -1,0 +1,30 @@
+//! The events of a replay: what a report tells of the frames that land at a radio unit, in the order of time, by definition
+//! (`specs/Events.antt`), and the laws by which a loop that lets time pass comes to them (`specs/Passing.antt`).
+//!
+//! The functions here do nothing: each one's contract is its law.
+#![tactic(auto)]
+
+ghost use Rattle.replay_events.specs.Passing.{AllIsOver, ArrivalsAreInTime, ArrivalsGoOn, CalmAddsNothing, DueAtMoment, EventsGoOn, EventsWait, MessagesAreSettled, ReportedAtMoment, ReportedBeforeMoment, ReportedIsSettled};
+
+/// What came before a tick.
+pub fn arrivals_go_on()
+    ensures more { ArrivalsGoOn }
+    ensures calm { CalmAddsNothing }
+    ensures in_time { ArrivalsAreInTime }
+{}
+
+/// What lands later changes nothing of what is reported, or sent, by now.
+pub fn the_past_is_settled()
+    ensures reported { ReportedIsSettled }
+    ensures messages { MessagesAreSettled }
+{}
+
+/// At the next moment its cells are due, and no events stand before it.
+pub fn moments_follow()
+    ensures due { DueAtMoment }
+    ensures reported { ReportedAtMoment }
+    ensures before { ReportedBeforeMoment }
+    ensures wait { EventsWait }
+    ensures more { EventsGoOn }
+    ensures over { AllIsOver }
+{}

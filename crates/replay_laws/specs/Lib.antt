@@ -1,0 +1,4 @@
+pub mod Once
+pub mod Shown
+pub mod Sums
+pub mod Landed

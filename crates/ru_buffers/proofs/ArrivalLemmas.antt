@@ -1,0 +1,167 @@
+-- A unit stands for its history and an arrival, once that was treated.
+use Rattle.std.proofs.Common.{◌≡◌, ℕ, ℤ, pos, ◌+◌, ◌<◌, ◌≤◌, ◌+ℤ◌, ◌≤ℤ◌, ◌<ℤ◌, ◌^◌, ◌||◌, ◌&&◌, Bool, true, false, List, [], ◌∷◌, ◌++◌, length, drop, refl, sym, ap, ap₂, ◌∙◌, subst, arith, length-append}
+use Rattle.std.specs.Prelude.{All, Option, Some, None, int_lt}
+use Rattle.std.specs.Ordering.{int_eq}
+use Rattle.std.proofs.lemmas.Int.{ints, by_lt_z}
+use Rattle.std.proofs.lemmas.List.{drop-append-le}
+use Rattle.std.proofs.lemmas.List.Elements.{All-cons}
+use Rattle.fh_time.specs.Air.{air_of}
+use Rattle.fh_time.specs.declared.values.Slot.{Slot}
+use Rattle.fault_counters.specs.declared.kinds.Counter.{Counter}
+use Rattle.window_config.specs.declared.config.Config.{Config}
+use Rattle.window_config.specs.declared.endpoints.EndpointConfig.{EndpointConfig}
+use Rattle.unit_model.specs.Counts.{cells_counted}
+use Rattle.unit_model.specs.Meetings.{Arrival}
+use Rattle.unit_model.specs.Order.{comes_before}
+use Rattle.unit_model.specs.Proper.{IsTime}
+use Rattle.unit_model.specs.Radiated.{first_clock}
+use Rattle.unit_model.specs.Reports.{accepted_of}
+use Rattle.unit_model.specs.Standing.{History, arrived, still_given}
+use Rattle.unit_model.specs.Starts.{start_at}
+use Rattle.unit_model.specs.Sweeps.{sweep}
+use Rattle.unit_model.specs.Uplink.{jobs, symbol_jobs}
+use Rattle.unit_model.specs.declared.allocations.Allocation.{Allocation}
+use Rattle.unit_model.specs.declared.jobs.UplinkJob.{UplinkJob}
+use Rattle.unit_model.specs.declared.symbol_start.SymbolStart.{SymbolStart}
+use Rattle.unit_laws.proofs.SentLemmas.{jobs_append}
+use Rattle.unit_laws.proofs.SweepLemmas.{sweep-append, sweep-same}
+use Rattle.unit_cells.specs.Keeping.{SameMarks}
+use Rattle.history_laws.specs.Arriving.{IsNextArrival}
+use Rattle.history_laws.proofs.ArrivingLemmas.{arrival_leaves_due, arrival_leaves_jobs, arrival_leaves_sent, arrival_leaves_use}
+use Rattle.ru_jobs.specs.Cursors.{left_behind, left_jobs}
+use Rattle.ru_jobs.specs.declared.cursor.JobCursor.{JobCursor}
+use Rattle.ru_memory.specs.Memory.{Holds, arrival}
+use Rattle.ru_memory.specs.declared.memory.RuMemory.{RuMemory}
+use Rattle.ru_buffers.specs.Units.{IsWithin, Keeps, left_up_to}
+use Rattle.ru_buffers.proofs.HistoryLemmas.{come_later, since_small}
+use Rattle.ru_buffers.proofs.LookupLemmas.{at_most, left_by_definition, left_of, under_is}
+
+not_under_is : (x y : ℤ) → y ≤ℤ x → int_lt x y ≡ false
+not_under_is x y h = grind (arith, ints)
+
+refl_most : (a : ℤ) → a ≤ℤ a
+refl_most a = omega (arith, ints)
+
+next_most : (a b : ℤ) → a <ℤ (b +ℤ pos 1) → a ≤ℤ b
+next_most a b h = omega (arith, ints)
+
+after_next : (a b t : ℤ) → a ≤ℤ b → (b +ℤ pos 1) ≤ℤ t → a <ℤ t
+after_next a b t h k = omega (arith, ints)
+
+weak : (a b : ℤ) → a <ℤ b → a ≤ℤ b
+weak a b h = omega (arith, ints)
+
+next_order : (a b : ℤ) → a ≤ℤ b → (a +ℤ pos 1) ≤ℤ (b +ℤ pos 1)
+next_order a b h = omega (arith, ints)
+
+later_next : (a b : ℤ) → a ≤ℤ b → a ≤ℤ (b +ℤ pos 1)
+later_next a b h = omega (arith, ints)
+
+first_false : (a b e : Bool) → a ≡ false → b ≡ false → (a || (b && e)) ≡ false
+first_false a b e p q = rw p (rw q refl)
+
+first_true : (a b : Bool) → a ≡ true → (a || b) ≡ true
+first_true a b p = rw p refl
+
+not_same : (x y : ℤ) → x <ℤ y → int_eq y x ≡ false
+not_same x y h = grind (arith, ints)
+
+-- a symbol that starts later than one comes after it
+pub later_is_after : (f m : SymbolStart) → f.start.0 <ℤ m.start.0 → comes_before f m ≡ true
+later_is_after f m h = first_true (int_lt f.start.0 m.start.0) _ (under_is f.start.0 m.start.0 h)
+
+pub later_not_before : (f m : SymbolStart) → f.start.0 <ℤ m.start.0 → comes_before m f ≡ false
+later_not_before f m h =
+    first_false (int_lt m.start.0 f.start.0) (int_eq m.start.0 f.start.0) _ (not_under_is m.start.0 f.start.0 (weak f.start.0 m.start.0 h)) (not_same f.start.0 m.start.0 h)
+
+-- of a symbol that starts after all that were given of, all messages are left
+all_behind : (given : ℕ) (last : Option SymbolStart) (m : SymbolStart) (js : List UplinkJob)
+    → ((f : SymbolStart) → last ≡ Some f → f.start.0 <ℤ m.start.0) → left_behind given last m js ≡ js
+all_behind given None m js h = refl
+all_behind given (Some f) m js h = rw (later_not_before f m (h f refl)) (rw (later_is_after f m (h f refl)) refl)
+
+pub all_left : (cursor : JobCursor) (clock : ℤ) (m : SymbolStart) (js : List UplinkJob) → cursor.since.0 ≤ℤ clock → IsWithin clock cursor → clock <ℤ m.start.0
+    → left_jobs cursor m js ≡ js
+all_left cursor clock m js since within after =
+    rw (not_under_is m.start.0 cursor.since.0 (at_most cursor.since.0 clock m.start.0 since (weak clock m.start.0 after)))
+    (all_behind cursor.given cursor.last m js (λ f is. lesser f.start.0 clock m.start.0 (within f is) after))
+  where
+    lesser : (a b t : ℤ) → a ≤ℤ b → b <ℤ t → a <ℤ t
+    lesser a b t h k = omega (arith, ints)
+
+front_length : {A : Type 0} (xs ys all : List A) → xs ++ ys ≡ all → length xs ≤ length all
+front_length xs ys all e = omega (arith, length-append xs ys, ap length e)
+
+module _ (c : Config) (m m2 : RuMemory) (clock : ℤ) (cursor : JobCursor) (h : History) (frame : List ℕ) (k : Keeps c m clock cursor h)
+    (settled : cursor.since.0 ≡ h.clock) (holds : Holds c cursor.since.0 m2 (arrival h.clock frame ∷ h.arrivals) (cells_counted h.reported))
+    (marks : SameMarks c cursor.since.0 m.cells m2.cells) where
+  abbrev a : Arrival
+  a = arrival h.clock frame
+
+  abbrev acc : List Allocation
+  acc = accepted_of c h.arrivals
+
+  abbrev acc2 : List Allocation
+  acc2 = accepted_of c (a ∷ h.arrivals)
+
+  abbrev es : List EndpointConfig
+  es = c.endpoints
+
+  is_next : IsNextArrival c a h.arrivals
+  is_next = record {
+    limits = k.holds.config.delays;
+    came = come_later cursor.since.0 h.clock h.arrivals k.since k.holds.came;
+    times = All-cons (λ (x : Arrival). IsTime x.at) a h.arrivals k.time k.holds.times;
+  }
+
+  sent : (to : ℤ) → to ≤ℤ h.clock → jobs es acc2 to ≡ jobs es acc to
+  sent to order = arrival_leaves_sent c a h.arrivals to is_next order
+
+  small : cursor.since.0 ≤ℤ pos (2 ^ 53)
+  small = since_small c m clock cursor h k
+
+  left_before : (to : ℤ) → to ≤ℤ h.clock → sweep (left_of acc2 cursor) es first_clock (to +ℤ pos 1) ≡ still_given c acc h.given to
+  left_before to order =
+      sweep-same (left_of acc2 cursor) (left_of acc cursor) es first_clock (to +ℤ pos 1) (λ ep e slot symbol tick low high swept.
+      ap (left_jobs cursor (start_at ep e slot symbol))
+      (arrival_leaves_jobs c a h.arrivals ep e slot symbol is_next swept.endpoint
+      (subst (λ (t : ℤ). t ≤ℤ h.clock) (sym swept.starts) (at_most tick to h.clock (next_most tick to high) order))))
+      ∙ sym (left_by_definition c m cursor.since.0 h.arrivals (cells_counted h.reported) k.holds k.begun small cursor refl to)
+      ∙ k.left to
+
+  left_now : (to : ℤ) → sweep (left_of acc2 cursor) es first_clock (to +ℤ pos 1) ≡ still_given c acc2 h.given to
+  left_now to =
+      by_lt_z h.clock to
+      (λ after.
+      let mid = h.clock +ℤ pos 1 in
+      let end = to +ℤ pos 1 in
+      let order : h.clock ≤ℤ to = weak h.clock to after in
+      let begun : first_clock ≤ℤ h.clock = at_most first_clock cursor.since.0 h.clock k.begun k.since in
+      let behind : sweep (left_of acc2 cursor) es mid end ≡ sweep (symbol_jobs acc2) es mid end =
+      sweep-same (left_of acc2 cursor) (symbol_jobs acc2) es mid end (λ ep e slot symbol tick low high swept.
+      all_left cursor h.clock (start_at ep e slot symbol) (symbol_jobs acc2 ep e slot symbol) k.since k.within
+      (subst (λ (t : ℤ). h.clock <ℤ t) (sym swept.starts) (after_next h.clock h.clock tick (refl_most h.clock) low))) in
+      let all : jobs es acc2 to ≡ jobs es acc h.clock ++ sweep (symbol_jobs acc2) es mid end =
+      jobs_append es acc2 h.clock to begun order ∙ ap (λ (js : List UplinkJob). js ++ sweep (symbol_jobs acc2) es mid end) (sent h.clock (refl_most h.clock)) in
+      sweep-append (left_of acc2 cursor) es first_clock mid end (later_next first_clock h.clock begun) (next_order h.clock to order)
+      ∙ ap₂ ◌++◌ (left_before h.clock (refl_most h.clock)) behind
+      ∙ sym (drop-append-le (length h.given) (jobs es acc h.clock) (sweep (symbol_jobs acc2) es mid end)
+      (front_length h.given (still_given c acc h.given h.clock) (jobs es acc h.clock) k.given))
+      ∙ ap (drop (length h.given)) (sym all))
+      (λ before. left_before to before ∙ ap (drop (length h.given)) (sym (sent to before)))
+
+  pub delivered : Keeps c m2 clock cursor (arrived h frame)
+  delivered = record {
+    holds = holds;
+    clock_is = k.clock_is;
+    time = k.time;
+    begun = k.begun;
+    since = k.since;
+    within = k.within;
+    marks = λ e cell is down live. marks e cell is live ∙ k.marks e cell is down live;
+    past = arrival_leaves_due c a h.arrivals h.reported h.clock is_next (refl_most h.clock) ∙ k.past;
+    told = λ e cell is down heard. arrival_leaves_use c a h.arrivals cell (k.told e cell is down heard);
+    left = λ to.
+        left_by_definition c m2 cursor.since.0 (a ∷ h.arrivals) (cells_counted h.reported) holds k.begun small cursor refl to ∙ left_now to;
+    given = ap (λ (js : List UplinkJob). h.given ++ drop (length h.given) js) (sent h.clock (refl_most h.clock)) ∙ k.given ∙ sym (sent h.clock (refl_most h.clock));
+  }

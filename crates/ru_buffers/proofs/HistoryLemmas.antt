@@ -1,0 +1,130 @@
+-- A unit that stands for a history answers as the definitions do, and stands for it and an arrival once that was treated.
+use Rattle.std.proofs.Common.{◌≡◌, ℕ, zero, suc, ℤ, pos, ◌+◌, ◌*◌, ◌<◌, ◌≤◌, ◌+ℤ◌, ◌≤ℤ◌, ◌<ℤ◌, ◌^◌, ◌⊎◌, Bool, true, false, List, [], ◌∷◌, ◌++◌, length, drop, refl, sym, ap, ap₂, ◌∙◌, subst, inl, inr, arith, length-append}
+use Rattle.std.specs.Prelude.{All, Option, Some, None, int_lt, if◌then◌else◌}
+use Rattle.std.specs.List.{list_any}
+use Rattle.std.proofs.lemmas.Bool.{cases_Bool}
+use Rattle.std.proofs.lemmas.Int.{ints, by_lt_z}
+use Rattle.std.proofs.lemmas.List.{drop-append-le}
+use Rattle.std.proofs.lemmas.List.Elements.{All-weaker}
+use Rattle.fh_time.specs.Air.{air_of}
+use Rattle.fh_time.specs.declared.values.Slot.{Slot}
+use Rattle.air_source.specs.declared.events.Side.TheVariants.{Ru}
+use Rattle.fault_counters.specs.declared.kinds.Counter.{Counter}
+use Rattle.window_config.specs.Rings.{ru_reach_of}
+use Rattle.window_config.specs.declared.config.Config.{Config}
+use Rattle.window_config.specs.declared.endpoints.EndpointConfig.{EndpointConfig}
+use Rattle.unit_model.specs.Counts.{cells_counted}
+use Rattle.unit_model.specs.Meetings.{Arrival}
+use Rattle.unit_model.specs.Order.{comes_before}
+use Rattle.unit_model.specs.Proper.{IsProperData}
+use Rattle.unit_model.specs.Radiated.{first_clock, is_used, used_below, used_mask}
+use Rattle.unit_model.specs.Reports.{accepted_of, data_of, ru_known, timely_of}
+use Rattle.unit_model.specs.Standing.{AreInTime, History, IsCell, IsLiveAt, StandsBy, arrived, cell_heard, still_given}
+use Rattle.unit_model.specs.Starts.{start_at}
+use Rattle.unit_model.specs.Sweeps.{sweep}
+use Rattle.unit_model.specs.Uplink.{jobs, symbol_jobs}
+use Rattle.unit_model.specs.declared.allocations.Allocation.{Allocation}
+use Rattle.unit_model.specs.declared.cells.Cell.{Cell}
+use Rattle.unit_model.specs.declared.cells.Claim.{Claim}
+use Rattle.unit_model.specs.declared.decoded.Data.{Data}
+use Rattle.unit_model.specs.declared.jobs.UplinkJob.{UplinkJob}
+use Rattle.unit_model.specs.declared.symbol_start.SymbolStart.{SymbolStart}
+use Rattle.unit_model.proofs.BlockLemmas.{all_timely}
+use Rattle.unit_laws.specs.Far.{IsFar}
+use Rattle.unit_laws.proofs.AheadLemmas.{no_claims_ahead}
+use Rattle.unit_laws.proofs.HistoryLemmas.{data_are_proper}
+use Rattle.unit_laws.proofs.SentLemmas.{jobs_append}
+use Rattle.unit_laws.proofs.SweepLemmas.{sweep-append, sweep-same}
+use Rattle.unit_laws.proofs.TickLemmas.{live_later}
+use Rattle.unit_cells.specs.Cells.{cells_done}
+use Rattle.unit_cells.specs.Keeping.{Keeps as RingsKeep, SameMarks}
+use Rattle.unit_cells.specs.Told.{IsTold}
+use Rattle.unit_cells.proofs.TimeLemmas.{far_not_marked, keeps_later, live_at}
+use Rattle.unit_cells.proofs.ToldLemmas.{told_whole}
+use Rattle.ru_jobs.specs.Cursors.{left_behind}
+use Rattle.ru_jobs.specs.declared.cursor.JobCursor.{JobCursor}
+use Rattle.ru_memory.specs.Memory.{Holds, arrival}
+use Rattle.ru_memory.specs.declared.memory.RuMemory.{RuMemory}
+use Rattle.ru_buffers.specs.Units.{IsWithin, Keeps, Stands, left_up_to, view_of}
+use Rattle.ru_buffers.proofs.LookupLemmas.{left_by_definition, left_of}
+
+at_most : (a b c : ℤ) → a ≤ℤ b → b ≤ℤ c → a ≤ℤ c
+at_most a b c h k = omega (arith, ints)
+
+-- ---- what a unit answers
+
+unused : (claims : ℕ → Option Claim) (n : ℕ) → ((re : ℕ) → claims re ≡ None) → used_below claims n ≡ 0
+unfolding used_below
+unused claims zero none = refl
+unused claims (suc n) none =
+    ap₂ (λ (low : ℕ) (c : Option Claim). 2 * low + (if is_used c then 1 else 0)) (unused claims n none) (none n)
+
+positive : (n : ℕ) → n ≡ 0 → 0 < n → ⊥
+positive n e h = omega arith
+
+not_true : (b : Bool) → (b ≡ true → ⊥) → b ≡ false
+not_true true f = absurd (f refl)
+not_true false f = refl
+
+pub come_later : (clock later : ℤ) (arrivals : List Arrival) → clock ≤ℤ later → AreInTime clock arrivals → AreInTime later arrivals
+come_later clock later [] order h = h
+come_later clock later (a ∷ earlier) order h = (at_most a.at clock later h.0 order, h.1)
+
+whole_data : (es : List EndpointConfig) (d : Data) → IsProperData es d → IsTold d
+whole_data es d is = omega (arith, is.blocks)
+
+module _ (c : Config) (m : RuMemory) (clock : ℤ) (cursor : JobCursor) (h : History) (k : Keeps c m clock cursor h) where
+  abbrev acc : List Allocation
+  acc = accepted_of c h.arrivals
+
+  abbrev since : ℤ
+  since = cursor.since.0
+
+  pub since_small : since ≤ℤ pos (2 ^ 53)
+  since_small = at_most since h.clock (pos (2 ^ 53)) k.since k.time.high
+
+  pub all_told : All IsTold (timely_of Ru c h.arrivals)
+  all_told =
+      All-weaker (IsProperData c.endpoints) IsTold (whole_data c.endpoints) (timely_of Ru c h.arrivals)
+      (all_timely (IsProperData c.endpoints) Ru c.delays (data_of Ru c h.arrivals) (data_are_proper Ru c since h.arrivals k.holds.came k.holds.times))
+
+  pub rings_now : RingsKeep c h.clock m.cells acc (timely_of Ru c h.arrivals)
+  rings_now = keeps_later c since h.clock m.cells acc (timely_of Ru c h.arrivals) k.since k.holds.keeps
+
+  -- a cell of a slot that was not live yet was not heard
+  pub far_not_heard : (e : EndpointConfig) (cell : Cell) → IsCell c e cell → cell.down ≡ true → IsFar e.numerology (ru_reach_of c.delays) since cell.slot
+      → list_any (cell_heard e cell) h.reported ≡ false
+  far_not_heard e cell is down far =
+      not_true (list_any (cell_heard e cell) h.reported) (λ heard.
+      positive (used_mask ((ru_known c h.arrivals).claims cell))
+      (unused ((ru_known c h.arrivals).claims cell) 12 (λ re. no_claims_ahead c since h.arrivals e cell re k.holds.config.delays k.holds.came is.endpoint far))
+      (k.told e cell is down heard))
+
+  -- marks, at any time from then on
+  pub marks_at : (later : ℤ) → since ≤ℤ later → (e : EndpointConfig) (cell : Cell) → IsCell c e cell → cell.down ≡ true → IsLiveAt c later cell.ep cell.slot
+      → cells_done m.cells cell ≡ list_any (cell_heard e cell) h.reported
+  marks_at later order e cell is down live =
+      elim (live_later e.numerology (ru_reach_of c.delays) since later cell.slot order (live e is.endpoint)) [
+        | inl now ↦ k.marks e cell is down (live_at c since e cell.ep cell.slot is.endpoint now)
+        | inr far ↦
+            far_not_marked c since m.cells acc (timely_of Ru c h.arrivals) e cell k.holds.keeps is.endpoint far
+            ∙ sym (far_not_heard e cell is down far)
+      ]
+
+  pub answers : StandsBy (IsLiveAt c h.clock) c (view_of m clock cursor) h
+  answers = record {
+    clock = k.clock_is;
+    came = come_later since h.clock h.arrivals k.since k.holds.came;
+    counts = k.holds.counts;
+    fragments = k.holds.fragments;
+    claims = rings_now.claims;
+    blocks = λ e cell is down live. rings_now.blocks e cell is down live ∙ told_whole (timely_of Ru c h.arrivals) cell all_told;
+    uplink = rings_now.uplink;
+    done = marks_at h.clock k.since;
+    past = k.past;
+    told = k.told;
+    jobs = k.left;
+  }
+
+  pub stands : Stands c m clock cursor h
+  stands = record { answers = answers; kept = k }

@@ -1,0 +1,17 @@
+pub mod SlotLemmas
+pub mod LookupLemmas
+pub mod HistoryLemmas
+pub mod ArrivalLemmas
+pub mod MadeLemmas
+pub mod SweptLemmas
+pub mod PlaceLemmas
+pub mod LeftLemmas
+pub mod JobLemmas
+pub mod SymbolLemmas
+pub mod ReportLemmas
+pub mod MarkedLemmas
+pub mod OrderLemmas
+pub mod RankLemmas
+pub mod AdvanceLemmas
+pub mod CallLemmas
+pub mod LoopLemmas

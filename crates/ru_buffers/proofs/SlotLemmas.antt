@@ -1,0 +1,41 @@
+-- Slots that are live, at times that a unit may be given.
+use Rattle.std.proofs.Common.{◌≡◌, ℕ, ℤ, pos, ◌+◌, ◌*◌, ◌<◌, ◌≤◌, ◌≤ℤ◌, ◌+ℤ◌, ◌-ℤ◌, ◌*ℤ◌, ◌^◌, ◌<ℤ◌, neg_ℤ, List, arith}
+use Rattle.std.proofs.lemmas.Int.{ints, clamps}
+use Rattle.fh_time.specs.Air.{air_of}
+use Rattle.fh_time.specs.Kinds.{kind_start}
+use Rattle.fh_time.specs.Numbering.{IsSlotOf}
+use Rattle.fh_time.specs.declared.values.Slot.{Slot}
+use Rattle.window_config.specs.Limits.{IsWithinLimits}
+use Rattle.window_config.specs.Rings.{ru_reach_of}
+use Rattle.window_config.specs.Windows.{ticks_of_ns}
+use Rattle.window_config.specs.declared.delays.Delays.{Delays}
+use Rattle.window_config.specs.declared.endpoints.EndpointConfig.{EndpointConfig}
+use Rattle.unit_model.specs.Proper.{IsSlot, IsTime}
+use Rattle.unit_model.specs.Radiated.{first_clock}
+use Rattle.unit_model.specs.Sweeps.{frame_of_tick}
+use Rattle.unit_laws.specs.Swept.{IsSwept}
+use Rattle.unit_laws.specs.Ticks.{IsLiveSlot}
+use Rattle.fh_time.proofs.Euclid.{frame_floor}
+
+before_most : (d : Delays) → IsWithinLimits d → (ru_reach_of d).before ≤ℤ pos 4000000
+before_most d limits =
+    omega (arith, ints, clamps, limits.t2a_up.high, limits.t2a_up.low, limits.t2a_up.order, limits.t2a_cp_ul.high, limits.t2a_cp_ul.order, limits.t2a_cp_ul.low, limits.advance.low, limits.advance.high)
+
+frame_most : (frame clock before : ℤ) (offset : ℕ) → (frame *ℤ pos 15360000000 +ℤ pos offset -ℤ (before *ℤ pos 1536)) ≤ℤ clock → before ≤ℤ pos 4000000
+    → clock ≤ℤ pos (2 ^ 53) → frame ≤ℤ pos 1000000
+frame_most frame clock before offset a b c = omega (arith, ints)
+
+frame_least : (frame q tick : ℤ) → (neg_ℤ (pos 15360000000)) ≤ℤ tick → tick <ℤ (q *ℤ pos 15360000000 +ℤ pos 15360000000) → (q -ℤ pos 5) ≤ℤ frame
+    → neg_ℤ (pos 1000000) ≤ℤ frame
+frame_least frame q tick a b c = omega (arith, ints)
+
+-- a live slot of a symbol that starts after the first clock is one whose times can be told
+pub swept_slot : (d : Delays) (es : List EndpointConfig) (ep : ℕ) (e : EndpointConfig) (slot : Slot) (symbol : ℕ) (tick clock : ℤ)
+    → IsWithinLimits d → IsSwept es ep e slot symbol tick → first_clock ≤ℤ tick → clock ≤ℤ pos (2 ^ 53) → IsLiveSlot d e clock slot
+    → IsSlot e.numerology slot
+swept_slot d es ep e slot symbol tick clock limits swept begun small live = record {
+  low = frame_least slot.frame (frame_of_tick tick) tick begun (frame_floor tick).1 swept.frame_low;
+  high = frame_most slot.frame clock (ru_reach_of d).before (slot.subframe * 1536000000 + kind_start e.numerology.kind slot.slot 0) live.begun (before_most d limits) small;
+  subframe = swept.slot_is.subframe;
+  slot_is = swept.slot_is.slot;
+}

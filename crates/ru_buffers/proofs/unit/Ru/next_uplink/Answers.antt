@@ -1,0 +1,28 @@
+use Rattle.std.proofs.Common.{refl}
+use Rattle.ru_buffers.proofs.CallLemmas.{gives, none_at_clock, none_by_clock, still_ready}
+use Rattle.ru_buffers.proofs.unit.Ru.next_uplink.Goals as goal
+
+pub returns-in-None-clause-none : goal.returns-in-None-clause-none
+returns-in-None-clause-none c k h all =
+    let u = c.args.self.now in
+    none_at_clock k u.memory u.clock.0 u.cursor h all c.in-None.ensures.none
+
+pub returns-then-not-starts_by-clause-none : goal.returns-then-not-starts_by-clause-none
+returns-then-not-starts_by-clause-none c k h all =
+    let u = c.args.self.now in
+    none_by_clock k u.memory u.clock.0 u.cursor h all c.in-Some.next c.in-Some.ensures.found (c.if-not-starts_by.ensures.after refl)
+
+pub returns-clause-given : goal.returns-clause-given
+returns-clause-given c k h all =
+    let u = c.args.self.now in
+    let found = c.in-Some.ensures.found in
+    let is =
+    gives k u.memory u.clock.0 u.cursor h all c.after-self.result c.in-Some.next c.offsets_fit.ensures found (c.if-not-starts_by.ensures.by refl)
+    (c.after-self.ensures u.memory.cells found) in
+    record { first = is.0; stands = is.1 }
+
+pub returns-clause-past : goal.returns-clause-past
+returns-clause-past c k h all ready =
+    let u = c.args.self.now in
+    let found = c.in-Some.ensures.found in
+    still_ready k u.memory u.clock.0 u.cursor h all c.after-self.result c.in-Some.next u.clock.0 c.offsets_fit.ensures found (c.after-self.ensures u.memory.cells found) ready

@@ -1,0 +1,82 @@
+-- What the calls of a radio unit say of the histories for which it stands (this project's profile).
+use Rattle.std.specs.Prelude.{◌≡◌, ◌≢◌, ℕ, ℤ, ◌<ℤ◌, ◌≤ℤ◌, List, [], ◌∷◌, ◌++◌, map, if◌then◌else◌, int_lt, Option, Some, None}
+use Rattle.air_source.specs.declared.events.AirCell.{AirCell}
+use Rattle.air_source.specs.declared.events.Event.{Event}
+use Rattle.air_source.specs.declared.events.Event.TheVariants.{Cell as Reported}
+use Rattle.fh_time.specs.declared.values.Ticks.{Ticks}
+use Rattle.window_config.specs.declared.config.Config.{Config}
+use Rattle.unit_model.specs.Reports.{accepted_of}
+use Rattle.unit_model.specs.Standing.{History, handed, heard, still_given}
+use Rattle.unit_model.specs.declared.jobs.UplinkJob.{UplinkJob}
+use Rattle.ru_buffers.specs.Reporting.{due_of}
+use Rattle.ru_buffers.specs.Units.{IsReady, Stands}
+use Rattle.ru_buffers.specs.declared.unit.Ru.{Ru}
+
+-- the unit stands for a history of a configuration
+abbrev pub StandsFor : Config → Ru → History → Type 0
+StandsFor c u h = Stands c u.memory u.clock.0 u.cursor h
+
+-- it stands for some history
+pub record StandsForSome (u : Ru) : Type 0 where
+  pub config : Config
+  pub history : History
+  pub stands : StandsFor config u history
+
+-- no message is left of a symbol that starts before the unit's clock
+abbrev pub HasGivenPast : Ru → Type 0
+HasGivenPast u = IsReady u.memory u.clock.0 u.cursor
+
+-- the messages up to a time that were not given
+abbrev pub given_of : Config → History → ℤ → List UplinkJob
+given_of c h to = still_given c (accepted_of c h.arrivals) h.given to
+
+-- an air stopped in a cell: the unit stands for those before it as reported, and the cell is the next to be reported
+pub record StopsAtDue {A : Type 0} (grew : A → List Event → A → Type 0) (stopped : A → Event → A → Type 0) (c : Config) (h : History) (to : ℤ)
+    (new : Ru) (before after : A) : Type 0 where
+  pub told : List AirCell
+  pub cell : AirCell
+  pub rest : List AirCell
+  pub is : due_of c h to ≡ told ++ cell ∷ rest
+  pub stands : StandsFor c new (heard h told)
+  pub middle : A
+  pub heard_is : grew before (map Reported told) middle
+  pub stop : stopped middle (Reported cell) after
+
+-- the first message that is to be given by the clock, or none where there is none
+pub record GivesJob (c : Config) (h : History) (job : UplinkJob) (new : Ru) : Type 0 where
+  pub first : given_of c h h.clock ≡ job ∷ given_of c (handed h job) h.clock
+  pub stands : StandsFor c new (handed h job)
+
+-- nothing is to be reported, and no message to be given, up to a time
+pub record IsQuietTo (c : Config) (h : History) (to : ℤ) : Type 0 where
+  pub cells : due_of c h to ≡ []
+  pub messages : given_of c h to ≡ []
+
+-- the least moment of a cell or a message that is still to come
+pub record IsLeastMoment (c : Config) (h : History) (t : ℤ) : Type 0 where
+  pub before : (to : ℤ) → to <ℤ t → IsQuietTo c h to
+  pub at : IsQuietTo c h t → ⊥
+
+abbrev pub IsDue : Config → History → Option Ticks → Type 0
+IsDue c h None = (to : ℤ) → IsQuietTo c h to
+IsDue c h (Some t) = IsLeastMoment c h t.0
+
+-- the parts of it: the least moment of a cell, and that of a message
+pub record IsLeast (left : ℤ → Type 0) (t : ℤ) : Type 0 where
+  pub before : (to : ℤ) → to <ℤ t → left to
+  pub at : left t → ⊥
+
+abbrev pub IsLeastOf : (ℤ → Type 0) → Option Ticks → Type 0
+IsLeastOf left None = (to : ℤ) → left to
+IsLeastOf left (Some t) = IsLeast left t.0
+
+abbrev pub IsCellMoment : Config → History → Option Ticks → Type 0
+IsCellMoment c h t = IsLeastOf (λ to. due_of c h to ≡ []) t
+
+abbrev pub IsMessageMoment : Config → History → Option Ticks → Type 0
+IsMessageMoment c h t = IsLeastOf (λ to. given_of c h to ≡ []) t
+
+abbrev pub earlier_time : Option Ticks → Option Ticks → Option Ticks
+earlier_time None b = b
+earlier_time (Some a) None = Some a
+earlier_time (Some a) (Some b) = if int_lt b.0 a.0 then Some b else Some a

@@ -1,0 +1,5 @@
+pub mod Units
+pub mod JobLaws
+pub mod Reporting
+pub mod Calls
+pub mod Advancing

@@ -1,0 +1,16 @@
+//! The radio unit of an open fronthaul in fixed memory.
+//!
+//! [`Ru`] takes all its memory when it is made. Frames are delivered at its clock; as the clock goes on, each downlink cell that is
+//! in use is reported once, at the start of its symbol, and each uplink message that accepted commands ask for is given once. The
+//! contracts of its calls say for which histories it stands (`specs/Units.antt`, `specs/Calls.antt`), by the definitions of
+//! `unit_model` over all that ever came: forgetting what can no longer be named changes no answer.
+#![tactic(auto)]
+
+mod messages;
+mod reporting;
+#[cfg(test)]
+mod tests;
+mod unit;
+
+pub use unit::Ru;
+pub use unit_model::{Delivered, UplinkJob};

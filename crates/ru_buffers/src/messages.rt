@@ -1,0 +1,85 @@
+// The unit's uplink messages, and its next moment.
+ghost use Rattle.std.specs.Prelude.{◌≡◌, [], IfNone, IfSome};
+ghost use Rattle.window_config.specs.declared.config.Config.{Config};
+ghost use Rattle.unit_model.specs.Standing.{History};
+
+ghost use Rattle.ru_buffers.specs.Calls.{earlier_time};
+
+use crate::reporting::starts_by;
+use crate::unit::Ru;
+use fh_time::Ticks;
+use ru_jobs::next_job;
+use ru_reports::first_left;
+use unit_laws::offsets_fit;
+use unit_model::UplinkJob;
+
+impl Ru {
+    ghost use Rattle.ru_buffers.specs.Calls.{GivesJob, HasGivenPast, IsCellMoment, IsDue, IsMessageMoment, StandsFor, given_of};
+
+    /// The next uplink message whose symbol starts at the clock or before it and that was not given: in the order of starts,
+    /// endpoints, slots, symbols, startPrbc, numPrbc, sectionId, filterIndex and acceptance. None where there is none, and then
+    /// nothing changes.
+    pub fn next_uplink(&mut self) -> Option<UplinkJob>
+        ensures given { (c : Config) (h : History) → StandsFor c self.old h → IfSome result (λ job. GivesJob c h job self.new) }
+        ensures none { (c : Config) (h : History) → StandsFor c self.old h → IfNone result (given_of c h h.clock ≡ []) }
+        ensures same { IfNone result (self.new ≡ self.old) }
+        ensures clock { self.new.clock ≡ self.old.clock }
+        ensures past { (c : Config) (h : History) → StandsFor c self.old h → HasGivenPast self.old → HasGivenPast self.new }
+    {
+        let next = match next_job(&self.memory.cells, &self.cursor) {
+            Some(next) => next,
+            None => return None,
+        };
+        if !starts_by(&next.symbol, self.clock) {
+            return None;
+        }
+        offsets_fit(&next.symbol.endpoint.numerology);
+        self.cursor = self.cursor.after(&next);
+        Some(next.job)
+    }
+
+    /// The start of the first symbol of which a downlink cell is in use and was not reported.
+    fn next_cell(&self) -> Option<Ticks>
+        ensures { (c : Config) (h : History) → StandsFor c self.now h → IsCellMoment c h result }
+    {
+        match first_left(&self.memory.cells, self.clock) {
+            Some(first) => {
+                offsets_fit(&first.endpoint.numerology);
+                Some(first.start)
+            }
+            None => None,
+        }
+    }
+
+    /// The start of the first symbol of which a message was not given.
+    fn next_message(&self) -> Option<Ticks>
+        ensures { (c : Config) (h : History) → StandsFor c self.now h → IsMessageMoment c h result }
+    {
+        match next_job(&self.memory.cells, &self.cursor) {
+            Some(next) => {
+                offsets_fit(&next.symbol.endpoint.numerology);
+                Some(next.symbol.start)
+            }
+            None => None,
+        }
+    }
+
+    /// The least start of a symbol, in ticks, of which a downlink cell is in use and was not reported, or an uplink message was not
+    /// given. None where there is neither.
+    pub fn due(&self) -> Option<Ticks>
+        ensures { (c : Config) (h : History) → StandsFor c self.now h → IsDue c h result }
+    {
+        earlier_of(self.next_cell(), self.next_message())
+    }
+}
+
+/// The earlier of two times, where there are any.
+fn earlier_of(a: Option<Ticks>, b: Option<Ticks>) -> Option<Ticks>
+    ensures { result ≡ earlier_time a b }
+{
+    match (a, b) {
+        (None, _) => b,
+        (_, None) => a,
+        (Some(x), Some(y)) => Some(if y.0 < x.0 { y } else { x }),
+    }
+}

@@ -1,0 +1,127 @@
+// The unit's cells, as time passes.
+ghost use Rattle.std.specs.Prelude.{◌≡◌, ◌≤ℤ◌, ◌<ℤ◌, true, false, OnErr, OnOk, map};
+ghost use Rattle.air_source.specs.Causes.{HasAirCause};
+ghost use Rattle.air_source.specs.declared.events.Event.TheVariants.{Cell as Reported};
+ghost use Rattle.window_config.specs.declared.config.Config.{Config};
+ghost use Rattle.unit_model.specs.Proper.{IsTime};
+ghost use Rattle.unit_model.specs.Standing.{History, at_clock, heard};
+
+use crate::unit::Ru;
+use air_source::{Air, AirFault};
+use fh_time::Ticks;
+use ru_reports::{first_left, report};
+use unit_laws::offsets_fit;
+use unit_model::SymbolStart;
+
+/// Whether a symbol starts by a time.
+pub(crate) fn starts_by(m: &SymbolStart, to: Ticks) -> bool
+    ensures by { result ≡ true → m.now.start.0 ≤ℤ to.0 }
+    ensures after { result ≡ false → to.0 <ℤ m.now.start.0 }
+{
+    m.start.0 <= to.0
+}
+
+impl Ru {
+    ghost use Rattle.ru_buffers.specs.Calls.{HasGivenPast, StandsFor, StandsForSome, StopsAtDue, given_of};
+    ghost use Rattle.ru_buffers.specs.Advancing.{AfterReport, InOrder, ToldAll};
+    ghost use Rattle.unit_cells.specs.Cells.{endpoints_of};
+    ghost use Rattle.unit_cells.specs.Keeping.{SameKnown};
+    ghost use Rattle.std.specs.Prelude.{IfOk, ◌-ℤ◌, ◌^◌, ◌≤◌, pos, neg_ℤ, [], length};
+    ghost use Rattle.ru_buffers.specs.Reporting.{due_of};
+
+    /// Reports the first symbol of which something is left, where it starts by a time.
+    fn report_next<A: Air>(
+        &mut self,
+        to: Ticks,
+        air: &mut A,
+    ) -> Result<Option<SymbolStart>, AirFault>
+        ensures told { (c : Config) (h : History) → StandsFor c self.old h
+            → IfOk result (AfterReport A.grew c h to.0 self.old self.new air.old air.new) }
+        ensures order { IfOk result (InOrder self.old.clock.0 to.0 self.old.memory.cells self.new.memory.cells) }
+        ensures stop { (c : Config) (h : History) → StandsFor c self.old h → OnErr result (StopsAtDue A.grew A.stopped c h to.0 self.new air.old air.new) }
+        ensures clock { self.new.clock ≡ self.old.clock }
+        ensures cursor { self.new.cursor ≡ self.old.cursor }
+        ensures known { SameKnown self.old.memory.cells self.new.memory.cells }
+        ensures endpoints { endpoints_of self.new.memory.cells ≡ endpoints_of self.old.memory.cells }
+        ensures same { A.same air.old air.new }
+        ensures cause { HasAirCause (A.faults air.old) (A.faults air.new) result }
+    {
+        let first = match first_left(&self.memory.cells, self.clock) {
+            Some(first) => first,
+            None => return Ok(None),
+        };
+        if !starts_by(&first, to) {
+            return Ok(None);
+        }
+        offsets_fit(&first.endpoint.numerology);
+        let told = report(
+            &mut self.memory.cells,
+            &mut self.memory.counters,
+            &first,
+            air,
+        );
+        match told {
+            Ok(()) => Ok(Some(first)),
+            Err(fault) => Err(fault),
+        }
+    }
+
+    /// Reports all symbols of which something is left that start by a time. The last of them, if there is one.
+    fn report_until<A: Air>(
+        &mut self,
+        to: Ticks,
+        air: &mut A,
+    ) -> Result<Option<SymbolStart>, AirFault>
+        requires few { length (endpoints_of self.old.memory.cells) ≤ 16 }
+        requires low { neg_ℤ (pos (2 ^ 57)) ≤ℤ self.old.clock.0 }
+        ensures told { (c : Config) (h : History) → StandsFor c self.old h → OnOk result (ToldAll A.grew c h to.0 self.new air.old air.new) }
+        ensures stop { (c : Config) (h : History) → StandsFor c self.old h → OnErr result (StopsAtDue A.grew A.stopped c h to.0 self.new air.old air.new) }
+        ensures clock { self.new.clock ≡ self.old.clock }
+        ensures cursor { self.new.cursor ≡ self.old.cursor }
+        ensures known { SameKnown self.old.memory.cells self.new.memory.cells }
+        ensures endpoints { endpoints_of self.new.memory.cells ≡ endpoints_of self.old.memory.cells }
+        ensures same { A.same air.old air.new }
+        ensures cause { HasAirCause (A.faults air.old) (A.faults air.new) result }
+    {
+        let mut last = None;
+        loop {
+            match self.report_next(to, air) {
+                Ok(Some(reported)) => last = Some(reported),
+                Ok(None) => return Ok(last),
+                Err(fault) => return Err(fault),
+            }
+        }
+    }
+
+    /// Hands the air every cell due from the clock to `to`, that time included, which was not reported, in order; then the clock is
+    /// `to`. After an error the clock stays, and the next cell to be reported is the one in which the air stopped. No memory is asked
+    /// for beside the air's.
+    ///
+    /// # Errors
+    ///
+    /// The air's.
+    pub fn advance<A: Air>(&mut self, to: Ticks, air: &mut A) -> Result<(), AirFault>
+        requires unit { StandsForSome self.old }
+        requires given { HasGivenPast self.old }
+        requires order { self.old.clock.0 ≤ℤ to.0 }
+        requires time { IsTime to.0 }
+        ensures heard { (c : Config) (h : History) → StandsFor c self.old h → OnOk result (A.grew air.old (map Reported (due_of c h to.0)) air.new) }
+        ensures stands { (c : Config) (h : History) → StandsFor c self.old h → OnOk result (StandsFor c self.new (at_clock (heard h (due_of c h to.0)) to.0)) }
+        ensures clock { OnOk result (self.new.clock ≡ to) }
+        ensures stop { (c : Config) (h : History) → StandsFor c self.old h → OnErr result (StopsAtDue A.grew A.stopped c h to.0 self.new air.old air.new) }
+        ensures past { (c : Config) (h : History) → StandsFor c self.old h → given_of c h (to.0 -ℤ pos 1) ≡ [] → OnOk result (HasGivenPast self.new) }
+        ensures stays { OnErr result (self.new.clock ≡ self.old.clock) }
+        ensures given { OnErr result (HasGivenPast self.new) }
+        ensures same { A.same air.old air.new }
+        ensures cause { HasAirCause (A.faults air.old) (A.faults air.new) result }
+    {
+        self.cursor = self.cursor.settled(self.clock);
+        match self.report_until(to, air) {
+            Ok(_) => {
+                self.clock = to;
+                Ok(())
+            }
+            Err(fault) => Err(fault),
+        }
+    }
+}

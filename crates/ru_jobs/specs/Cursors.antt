@@ -1,0 +1,72 @@
+-- How far the messages that a radio unit is to send were given, and what is left of them, by look-up (this project's profile).
+use Rattle.std.specs.Prelude.{◌≡◌, ℕ, ℤ, true, ◌<◌, ◌≤◌, ◌<ℤ◌, ◌≤ℤ◌, if◌then◌else◌, int_lt, List, [], ◌∷◌, drop, length, Option, Some, None}
+use Rattle.std.specs.Int.{int_max}
+use Rattle.fh_time.specs.declared.values.Slot.{Slot}
+use Rattle.fh_time.specs.Air.{air_of}
+use Rattle.fh_time.specs.Numbering.{symbols_of}
+use Rattle.unit_model.specs.Order.{comes_before}
+use Rattle.unit_model.specs.Proper.{IsAt, IsSlot}
+use Rattle.unit_model.specs.Starts.{start_at}
+use Rattle.unit_model.specs.Sweeps.{OfSymbol}
+use Rattle.unit_model.specs.Uplink.{symbol_jobs}
+use Rattle.unit_model.specs.declared.allocations.Allocation.{Allocation}
+use Rattle.unit_model.specs.declared.jobs.UplinkJob.{UplinkJob}
+use Rattle.unit_model.specs.declared.symbol_start.SymbolStart.{SymbolStart}
+use Rattle.unit_cells.specs.Cells.{CellsValue, cells_has, cells_uplink, endpoints_of}
+use Rattle.ru_jobs.specs.declared.cursor.JobCursor.{JobCursor}
+use Rattle.ru_jobs.specs.declared.cursor.NextJob.{NextJob}
+
+-- where so many messages of the symbol `last` were given, and none of a later one, this is left of a symbol's messages
+abbrev pub left_behind : ℕ → Option SymbolStart → SymbolStart → List UplinkJob → List UplinkJob
+left_behind given None m jobs = jobs
+left_behind given (Some last) m jobs =
+    if comes_before m last then [] else (if comes_before last m then jobs else drop given jobs)
+
+-- all messages of symbols that start before a tick were given
+abbrev pub left_jobs : JobCursor → SymbolStart → List UplinkJob → List UplinkJob
+left_jobs cursor m jobs = if int_lt m.start.0 cursor.since.0 then [] else left_behind cursor.given cursor.last m jobs
+
+-- what is left of each symbol's messages, where these are the accepted uplink sections of each slot, the newest first
+unfoldable pub jobs_left : (ℕ → Slot → List Allocation) → JobCursor → OfSymbol UplinkJob
+jobs_left uplink cursor ep e slot symbol =
+    left_jobs cursor (start_at ep e slot symbol) (symbol_jobs (uplink ep slot) ep e slot symbol)
+
+-- a symbol at the tick at which it starts
+abbrev pub at_start : SymbolStart → SymbolStart
+at_start m = start_at m.ep m.endpoint m.slot m.symbol
+
+abbrev pub left_in : (ℕ → Slot → List Allocation) → JobCursor → SymbolStart → List UplinkJob
+left_in uplink cursor m = jobs_left uplink cursor m.ep m.endpoint m.slot m.symbol
+
+-- a symbol of one of the endpoints, in a slot that has its place
+pub record IsJobSymbol (v : CellsValue) (m : SymbolStart) : Type 0 where
+  pub at : IsAt (endpoints_of v) m.ep m.endpoint
+  pub slot_is : IsSlot m.endpoint.numerology m.slot
+  pub symbol_is : m.symbol < symbols_of m.endpoint.numerology
+  pub starts : m.start.0 ≡ air_of m.endpoint.numerology m.slot m.symbol
+  pub has : cells_has v m.ep m.slot ≡ true
+
+-- the first of all that is left
+pub record IsFirstJob (v : CellsValue) (cursor : JobCursor) (n : NextJob) : Type 0 where
+  pub symbol : IsJobSymbol v n.symbol
+  pub rest : List UplinkJob
+  pub first : left_in (cells_uplink v) cursor n.symbol ≡ n.job ∷ rest
+  pub few : length (cells_uplink v n.symbol.ep n.symbol.slot) ≤ 64
+  pub before : (m : SymbolStart) → IsJobSymbol v m → comes_before m n.symbol ≡ true → left_in (cells_uplink v) cursor m ≡ []
+
+-- what is left once it was given: the rest of its symbol, and the same of all that come after
+pub record GivenOne (v : CellsValue) (old : JobCursor) (n : NextJob) (new : JobCursor) : Type 0 where
+  pub since : new.since ≡ old.since
+  pub last : new.last ≡ Some n.symbol
+  pub here : (job : UplinkJob) (rest : List UplinkJob) → left_in (cells_uplink v) old n.symbol ≡ job ∷ rest
+      → left_in (cells_uplink v) new n.symbol ≡ rest
+  pub before : (uplink : ℕ → Slot → List Allocation) (m : SymbolStart) → comes_before (at_start m) n.symbol ≡ true → left_in uplink new m ≡ []
+  pub behind : (uplink : ℕ → Slot → List Allocation) (m : SymbolStart) → comes_before n.symbol (at_start m) ≡ true
+      → left_in uplink new m ≡ left_in uplink old m
+
+-- at a later clock nothing is left of the symbols that start before it, and the same of the others
+pub record Settled (clock : ℤ) (old new : JobCursor) : Type 0 where
+  pub since : new.since.0 ≡ int_max old.since.0 clock
+  pub last : (m : SymbolStart) → new.last ≡ Some m → old.last ≡ Some m
+  pub before : (uplink : ℕ → Slot → List Allocation) (m : SymbolStart) → (at_start m).start.0 <ℤ clock → left_in uplink new m ≡ []
+  pub behind : (uplink : ℕ → Slot → List Allocation) (m : SymbolStart) → clock ≤ℤ (at_start m).start.0 → left_in uplink new m ≡ left_in uplink old m

@@ -1,0 +1,3 @@
+pub mod Times
+pub mod StepLemmas
+pub mod HoldLemmas

@@ -1,0 +1,25 @@
+use Rattle.std.proofs.Common.{◌≡◌, refl}
+use Rattle.unit_model.specs.Commands.{accepted, command_verdict}
+use Rattle.unit_model.proofs.PlainLemmas.{added_as, command_count}
+use Rattle.ru_memory.proofs.StepLemmas.{of_later, keeps_command}
+use Rattle.ru_memory.proofs.memory.RuMemory.section.Goals as goal
+
+pub returns-clause-holds : goal.returns-clause-holds
+returns-clause-holds c conf n fs cs ds h =
+    let d = conf.delays in
+    let s = c.args.command.now in
+    let v = c.command-verdict.result in
+    let told = c.command-verdict.ensures in
+    let verdict : v ≡ command_verdict d (accepted d cs) s = told.verdict conf (accepted d cs) _ h.of h.keeps in
+    record {
+      config = h.config;
+      endpoints = h.endpoints;
+      of = of_later conf _ _ told.delays told.endpoints h.of;
+      came = h.came;
+      fragments = h.fragments;
+      places = h.places;
+      hold = h.hold;
+      keeps = keeps_command conf _ s cs _ v verdict (told.keeps conf (accepted d cs) _ h.of h.keeps);
+      told = h.told;
+      counts = λ k. command_count d s cs (accepted d cs) v _ _ _ _ k refl verdict (h.counts k) (added_as _ _ _ _ k c.command_counter.ensures (c.add.ensures.each k));
+    }

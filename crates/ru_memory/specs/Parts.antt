@@ -1,0 +1,78 @@
+-- The parts of what a radio unit keeps, and the fragments and sections for which they stand (this project's profile).
+use Rattle.std.specs.Prelude.{◌≡◌, ℕ, ℤ, ◌+◌, ◌≤ℤ◌, List, length, All}
+use Rattle.air_source.specs.declared.events.Side.TheVariants.{Ru}
+use Rattle.ecpri_fragments.specs.Assemblies.{StandsFor, endpoints_of as places_of, hold_of as assembly_hold}
+use Rattle.ecpri_fragments.specs.declared.assembly.Assembly.{Assembly}
+use Rattle.ecpri_fragments.specs.Generations.{Fragment}
+use Rattle.fault_counters.specs.declared.kinds.Counter.{Counter}
+use Rattle.fault_counters.specs.Counts.{capped, count_of, times}
+use Rattle.window_config.specs.Configs.{IsConfig}
+use Rattle.window_config.specs.declared.config.Config.{Config}
+use Rattle.unit_model.specs.Blocks.{data_verdicts, timely}
+use Rattle.unit_model.specs.Commands.{accepted, command_verdicts}
+use Rattle.unit_model.specs.Counts.{commands_counted, data_counted}
+use Rattle.unit_model.specs.Decoding.{data_sections}
+use Rattle.unit_model.specs.Meetings.{Arrival, Meeting, commands, fragments}
+use Rattle.unit_model.specs.Plain.{counted_of}
+use Rattle.unit_model.specs.Proper.{IsTime}
+use Rattle.unit_model.specs.Reports.{hold_of}
+use Rattle.unit_model.specs.declared.decoded.Command.{Command}
+use Rattle.unit_model.specs.declared.decoded.Data.{Data}
+use Rattle.unit_cells.specs.Cells.{CellsValue, IsOf, endpoints_of}
+use Rattle.unit_cells.specs.Keeping.{Keeps, SameMarks}
+use Rattle.unit_cells.specs.Told.{IsTold}
+use Rattle.ru_memory.specs.declared.memory.RuMemory.{RuMemory}
+
+-- it came by the clock, at a time that a unit may be given
+pub record CameBy (clock : ℤ) (f : Fragment) : Type 0 where
+  pub time : IsTime f.at
+  pub by : f.at ≤ℤ clock
+
+-- an assembly stands for some fragments that came by the clock
+pub record CameSome (clock : ℤ) (a : Assembly) : Type 0 where
+  pub fragments : List Fragment
+  pub came : All (CameBy clock) fragments
+  pub stands : StandsFor a fragments
+
+-- At a clock it stands for these fragments, sections of commands and sections of data, the newest first, and has counted so much
+-- beside the verdicts on the sections.
+pub record HoldsParts (c : Config) (clock : ℤ) (m : RuMemory) (counted : Counter → ℕ) (fs : List Fragment) (cs : List Command) (ds : List Data) : Type 0 where
+  pub config : IsConfig c
+  pub endpoints : m.endpoints.items ≡ c.endpoints
+  pub of : IsOf c m.cells
+  pub came : All (CameBy clock) fs
+  pub fragments : StandsFor m.assembly fs
+  pub places : places_of m.assembly ≡ length c.endpoints
+  pub hold : assembly_hold m.assembly ≡ hold_of Ru c.delays
+  pub keeps : Keeps c clock m.cells (accepted c.delays cs) (timely Ru c.delays ds)
+  pub told : All IsTold (timely Ru c.delays ds)
+  pub counts : (k : Counter) → count_of m.counters k ≡ capped (counted k
+      + (times (commands_counted (command_verdicts c.delays cs)) k + times (data_counted (data_verdicts Ru c.delays ds)) k))
+
+-- it stands for some of them, whatever they are
+pub record HoldsSomeParts (clock : ℤ) (m : RuMemory) : Type 0 where
+  pub config : Config
+  pub counted : Counter → ℕ
+  pub fragments : List Fragment
+  pub commands : List Command
+  pub sections : List Data
+  pub holds : HoldsParts config clock m counted fragments commands sections
+
+-- it stands for these frames and these of their messages, where this was counted beside them
+abbrev pub Stands : Config → ℤ → RuMemory → List Arrival → List Meeting → List Counter → Type 0
+Stands c clock m arrivals ms beside =
+    HoldsParts c clock m (λ k. counted_of Ru (hold_of Ru c.delays) arrivals ms k + times beside k) (fragments ms) (commands ms) (data_sections Ru (hold_of Ru c.delays) ms)
+
+-- it stands for some frames
+pub record StandsForSome (clock : ℤ) (m : RuMemory) : Type 0 where
+  pub config : Config
+  pub arrivals : List Arrival
+  pub meetings : List Meeting
+  pub beside : List Counter
+  pub stands : Stands config clock m arrivals meetings beside
+
+-- of live slots the same cells are marked as reported, and the rings are those of the same configuration
+pub record LeavesMarks (clock : ℤ) (old new : CellsValue) : Type 0 where
+  pub marks : (c : Config) → IsOf c old → SameMarks c clock old new
+  pub delays : new.delays ≡ old.delays
+  pub endpoints : endpoints_of new ≡ endpoints_of old

@@ -1,0 +1,354 @@
+// One endpoint of 4 PRBs at 30 kHz, whose frame 1 begins at 10 ms. A downlink command is on time from 470 to 259 us before its
+// symbol, and data from 345 to 134 us. The bytes and the counters are worked out by hand.
+ghost use Rattle.std.specs.Prelude.{◌≡◌, ◌<◌, ◌≤ℤ◌, pos, List, [], ◌∷◌, IfOk};
+ghost use Rattle.fh_time.specs.Numbering.{slots_of};
+ghost use Rattle.window_config.specs.Configs.{IsConfig};
+ghost use Rattle.window_config.specs.Endpoints.{IsEndpoint};
+ghost use Rattle.window_config.specs.Limits.{IsWithinLimits};
+ghost use Rattle.unit_model.specs.Meetings.{Arrival};
+ghost use Rattle.unit_model.specs.Proper.{IsTime};
+ghost use Rattle.unit_cells.specs.Cells.{endpoints_of};
+ghost use Rattle.ru_memory.specs.Memory.{Holds};
+
+use crate::{RuMemory, holds_later};
+use bfp_codec::{Format, Method, Wide};
+use eaxc_map::Widths;
+use ecpri_frames::{PduRefusal, PduWhy};
+use fault_counters::{Counter, Counters};
+use fh_base::NoMemory;
+use fh_time::{Numerology, Slot, Ticks, shape};
+use std::alloc::Global;
+use std::test::Fail;
+use unit_cells::UnitCells;
+use unit_model::Delivered;
+use window_config::{Config, Delays, EndpointConfig, EndpointList, Range};
+
+/// A downlink command: symbol 0 of frame 1, section 1, all elements of PRB 0.
+const COMMAND: [u8; 24] = [
+    0x10, 0x02, 0x00, 0x14, 0x00, 0x00, 0x00, 0x80, 0x90, 0x01, 0x00, 0x00, 0x01, 0x01, 0x00, 0x00,
+    0x00, 0x10, 0x00, 0x01, 0xff, 0xf1, 0x00, 0x00,
+];
+
+/// The same command twice.
+const TWO_COMMANDS: [u8; 48] = [
+    0x11, 0x02, 0x00, 0x14, 0x00, 0x00, 0x00, 0x80, 0x90, 0x01, 0x00, 0x00, 0x01, 0x01, 0x00, 0x00,
+    0x00, 0x10, 0x00, 0x01, 0xff, 0xf1, 0x00, 0x00, 0x10, 0x02, 0x00, 0x14, 0x00, 0x00, 0x00, 0x80,
+    0x90, 0x01, 0x00, 0x00, 0x01, 0x01, 0x00, 0x00, 0x00, 0x10, 0x00, 0x01, 0xff, 0xf1, 0x00, 0x00,
+];
+
+/// The first of two fragments of that command: E is 0.
+const FRAGMENTED: [u8; 24] = [
+    0x10, 0x02, 0x00, 0x14, 0x00, 0x00, 0x00, 0x00, 0x90, 0x01, 0x00, 0x00, 0x01, 0x01, 0x00, 0x00,
+    0x00, 0x10, 0x00, 0x01, 0xff, 0xf1, 0x00, 0x00,
+];
+
+/// The command for the id 1, and then data whose payload has 3 bytes.
+const UNKNOWN_AND_SHORT: [u8; 31] = [
+    0x11, 0x02, 0x00, 0x14, 0x00, 0x01, 0x00, 0x80, 0x90, 0x01, 0x00, 0x00, 0x01, 0x01, 0x00, 0x00,
+    0x00, 0x10, 0x00, 0x01, 0xff, 0xf1, 0x00, 0x00, 0x10, 0x00, 0x00, 0x03, 0x00, 0x00, 0x00,
+];
+
+/// The command's data: the samples (0, 0), (1, -1) and so on.
+const DATA: [u8; 64] = [
+    0x10, 0x00, 0x00, 0x3c, 0x00, 0x00, 0x00, 0x80, 0x90, 0x01, 0x00, 0x00, 0x00, 0x10, 0x00, 0x01,
+    0x00, 0x00, 0x00, 0x00, 0x00, 0x01, 0xff, 0xff, 0x00, 0x02, 0xff, 0xfe, 0x00, 0x03, 0xff, 0xfd,
+    0x00, 0x04, 0xff, 0xfc, 0x00, 0x05, 0xff, 0xfb, 0x00, 0x06, 0xff, 0xfa, 0x00, 0x07, 0xff, 0xf9,
+    0x00, 0x08, 0xff, 0xf8, 0x00, 0x09, 0xff, 0xf7, 0x00, 0x0a, 0xff, 0xf6, 0x00, 0x0b, 0xff, 0xf5,
+];
+
+/// The same data in two fragments, of 12 bytes and of 44.
+const FIRST_PIECE: [u8; 20] = [
+    0x10, 0x00, 0x00, 0x10, 0x00, 0x00, 0x00, 0x00, 0x90, 0x01, 0x00, 0x00, 0x00, 0x10, 0x00, 0x01,
+    0x00, 0x00, 0x00, 0x00,
+];
+
+const LAST_PIECE: [u8; 52] = [
+    0x10, 0x00, 0x00, 0x30, 0x00, 0x00, 0x00, 0x81, 0x00, 0x01, 0xff, 0xff, 0x00, 0x02, 0xff, 0xfe,
+    0x00, 0x03, 0xff, 0xfd, 0x00, 0x04, 0xff, 0xfc, 0x00, 0x05, 0xff, 0xfb, 0x00, 0x06, 0xff, 0xfa,
+    0x00, 0x07, 0xff, 0xf9, 0x00, 0x08, 0xff, 0xf8, 0x00, 0x09, 0xff, 0xf7, 0x00, 0x0a, 0xff, 0xf6,
+    0x00, 0x0b, 0xff, 0xf5,
+];
+
+/// 9.6 ms, 9.7 ms and 9.75 ms.
+const FIRST: Ticks = Ticks(14_745_600_000);
+
+const SECOND: Ticks = Ticks(14_899_200_000);
+
+const THIRD: Ticks = Ticks(14_976_000_000);
+
+const SLOT: Slot = Slot {
+    frame: 1,
+    subframe: 0,
+    slot: 0,
+};
+
+fn delays() -> Delays
+    ensures { IsWithinLimits result }
+{
+    Delays {
+        t1a_up: Range {
+            min: 234_000,
+            max: 345_000,
+        },
+        t1a_cp_ul: Range {
+            min: 225_000,
+            max: 470_000,
+        },
+        t2a_up: Range {
+            min: 134_000,
+            max: 345_000,
+        },
+        t2a_cp_ul: Range {
+            min: 125_000,
+            max: 470_000,
+        },
+        ta3: Range {
+            min: 50_000,
+            max: 171_000,
+        },
+        ta4: Range {
+            min: 50_000,
+            max: 271_000,
+        },
+        t12: Range {
+            min: 0,
+            max: 100_000,
+        },
+        t34: Range {
+            min: 0,
+            max: 100_000,
+        },
+        advance: 125_000,
+        hold_dl: 211_000,
+        hold_ul: 221_000,
+    }
+}
+
+fn endpoint(numerology: Numerology) -> EndpointConfig
+    ensures endpoint { IsEndpoint result }
+    ensures numerology { result.numerology ≡ numerology }
+{
+    EndpointConfig {
+        id: 0,
+        numerology,
+        prbs: 4,
+        format: Format {
+            dynamic: false,
+            method: Method::Plain,
+        },
+    }
+}
+
+fn listed(e: EndpointConfig) -> EndpointList
+    ensures { result ≡ e ∷ [] }
+{
+    let mut endpoints = EndpointList::new();
+    let _room = endpoints.push(e);
+    endpoints
+}
+
+fn config(e: EndpointConfig, widths: Widths) -> Config
+    requires { IsEndpoint e }
+    ensures config { IsConfig result }
+    ensures endpoints { result.endpoints ≡ e ∷ [] }
+{
+    Config {
+        widths,
+        delays: delays(),
+        gap: 1_000,
+        fragment: 1_492,
+        endpoints: listed(e),
+    }
+}
+
+/// A unit that nothing came to.
+fn made(alloc: Global, config: &Config) -> Result<RuMemory, NoMemory>
+    requires { IsConfig config.now }
+    ensures { IfOk result (λ m. (arrivals : List Arrival) × Holds config.now (pos 14745600000) m arrivals []) }
+{
+    RuMemory::make(alloc, config)
+}
+
+/// What becomes of a frame that comes after all that came by `before`.
+fn deliver(
+    memory: &mut RuMemory,
+    config: &Config,
+    before: Ticks,
+    at: Ticks,
+    frame: &[u8],
+) -> Delivered
+    requires unit { (arrivals : List Arrival) × Holds config.now before.0 memory.old arrivals [] }
+    requires order { before.0 ≤ℤ at.0 }
+    requires time { IsTime at.0 }
+    ensures unit { (arrivals : List Arrival) × Holds config.now at.0 memory.new arrivals [] }
+    ensures listed { endpoints_of memory.new.cells ≡ config.now.endpoints }
+{
+    holds_later();
+    memory.arrive(at, frame)
+}
+
+/// Whether these counters alone stand above 0, at these values.
+fn has_counted(counters: &Counters, wanted: &[(Counter, u64)]) -> bool {
+    for counter in Counter::all() {
+        let mut value = 0;
+        for (other, times) in wanted {
+            if *other == counter {
+                value = *times;
+            }
+        }
+        if counters.get(counter) != value {
+            return false;
+        }
+    }
+    true
+}
+
+/// The second sample of the block of PRB 0 in symbol 0 of frame 1, and its section.
+fn second_sample(cells: &UnitCells, e: EndpointConfig) -> Option<(u16, Wide)>
+    requires listed { endpoints_of cells.now ≡ e ∷ [] }
+    requires slots { 0 < slots_of e.numerology }
+{
+    match cells.block(0, SLOT, 0, 0) {
+        Some(block) => Some((block.id, block.samples[1])),
+        None => None,
+    }
+}
+
+/// All was read of a frame with so many messages.
+fn read(messages: u32) -> Delivered {
+    Delivered {
+        messages,
+        refusal: None,
+    }
+}
+
+#[test]
+fn a_command_and_its_data_fill_a_cell(rt: HostRuntime) -> Result<(), Fail> {
+    let n = Numerology::ordinary(1).expect(&rt, "30 kHz");
+    assert!(rt; shape(&n).slots == 2);
+    let e = endpoint(n);
+    let config = config(e, Widths::new(4, 4, 4, 4)?);
+    let mut memory = made(rt.alloc(), &config)?;
+    assert_eq!(rt;
+        deliver(&mut memory, &config, FIRST, FIRST, &COMMAND),
+        read(1)
+    );
+    assert_eq!(rt; second_sample(&memory.cells, e), None);
+    assert_eq!(rt;
+        deliver(&mut memory, &config, FIRST, SECOND, &DATA),
+        read(1)
+    );
+    assert_eq!(rt;
+        second_sample(&memory.cells, e),
+        Some((1, Wide { i: 1, q: -1 }))
+    );
+    let wanted = [
+        (Counter::Frames, 2),
+        (Counter::Messages, 2),
+        (Counter::CAccepted, 1),
+        (Counter::FWhole, 1),
+        (Counter::UTaken, 1),
+    ];
+    assert!(rt; has_counted(&memory.counters, &wanted));
+    Ok(())
+}
+
+#[test]
+fn data_come_in_two_fragments(rt: HostRuntime) -> Result<(), Fail> {
+    let n = Numerology::ordinary(1).expect(&rt, "30 kHz");
+    assert!(rt; shape(&n).slots == 2);
+    let e = endpoint(n);
+    let config = config(e, Widths::new(4, 4, 4, 4)?);
+    let mut memory = made(rt.alloc(), &config)?;
+    assert_eq!(rt;
+        deliver(&mut memory, &config, FIRST, SECOND, &FIRST_PIECE),
+        read(1)
+    );
+    assert_eq!(rt; second_sample(&memory.cells, e), None);
+    assert_eq!(rt;
+        deliver(&mut memory, &config, SECOND, THIRD, &LAST_PIECE),
+        read(1)
+    );
+    assert_eq!(rt;
+        second_sample(&memory.cells, e),
+        Some((1, Wide { i: 1, q: -1 }))
+    );
+    let wanted = [
+        (Counter::Frames, 2),
+        (Counter::Messages, 2),
+        (Counter::FStored, 1),
+        (Counter::FWhole, 1),
+        (Counter::UTaken, 1),
+    ];
+    assert!(rt; has_counted(&memory.counters, &wanted));
+    Ok(())
+}
+
+#[test]
+fn a_frame_has_two_commands(rt: HostRuntime) -> Result<(), Fail> {
+    let n = Numerology::ordinary(1).expect(&rt, "30 kHz");
+    let config = config(endpoint(n), Widths::new(4, 4, 4, 4)?);
+    let mut memory = made(rt.alloc(), &config)?;
+    assert_eq!(rt;
+        deliver(&mut memory, &config, FIRST, FIRST, &TWO_COMMANDS),
+        read(2)
+    );
+    let wanted = [
+        (Counter::Frames, 1),
+        (Counter::Messages, 2),
+        (Counter::CAccepted, 1),
+        (Counter::CRepeat, 1),
+    ];
+    assert!(rt; has_counted(&memory.counters, &wanted));
+    Ok(())
+}
+
+#[test]
+fn messages_are_refused(rt: HostRuntime) -> Result<(), Fail> {
+    let n = Numerology::ordinary(1).expect(&rt, "30 kHz");
+    let config = config(endpoint(n), Widths::new(4, 4, 4, 4)?);
+    let mut memory = made(rt.alloc(), &config)?;
+    assert_eq!(rt;
+        deliver(&mut memory, &config, FIRST, FIRST, &FRAGMENTED),
+        read(1)
+    );
+    assert_eq!(rt;
+        deliver(&mut memory, &config, FIRST, SECOND, &UNKNOWN_AND_SHORT),
+        read(2)
+    );
+    let wanted = [
+        (Counter::Frames, 2),
+        (Counter::Messages, 3),
+        (Counter::CRefused, 1),
+        (Counter::UnknownEndpoint, 1),
+        (Counter::Short, 1),
+    ];
+    assert!(rt; has_counted(&memory.counters, &wanted));
+    Ok(())
+}
+
+#[test]
+fn a_frame_is_cut(rt: HostRuntime) -> Result<(), Fail> {
+    let n = Numerology::ordinary(1).expect(&rt, "30 kHz");
+    let config = config(endpoint(n), Widths::new(4, 4, 4, 4)?);
+    let mut memory = made(rt.alloc(), &config)?;
+    let refusal = PduRefusal {
+        place: 47,
+        why: PduWhy::Truncated,
+    };
+    assert_eq!(rt;
+        deliver(&mut memory, &config, FIRST, FIRST, &TWO_COMMANDS[..47]),
+        Delivered {
+            messages: 1,
+            refusal: Some(refusal),
+        }
+    );
+    let wanted = [
+        (Counter::Frames, 1),
+        (Counter::FramesRefused, 1),
+        (Counter::Messages, 1),
+        (Counter::CAccepted, 1),
+    ];
+    assert!(rt; has_counted(&memory.counters, &wanted));
+    Ok(())
+}

@@ -1,0 +1,135 @@
+-- How searches over some symbols go on to one over all.
+use Rattle.std.proofs.Common.{◌≡◌, ℕ, ℤ, ◌+◌, List, ◌<◌, ◌≤ℤ◌, true, false, inl, inr, ◌⊎◌, refl, sym, ap, ◌∙◌, subst, arith, Option, Some, None}
+use Rattle.std.specs.Prelude.{IfSome}
+use Rattle.std.proofs.lemmas.Bool.{cases_Bool, cases_lt}
+use Rattle.std.proofs.lemmas.Int.{ints}
+use Rattle.fh_time.specs.declared.values.Slot.{Slot}
+use Rattle.fh_time.specs.Air.{air_of}
+use Rattle.fh_time.specs.Numbering.{symbols_of}
+use Rattle.window_config.specs.declared.endpoints.EndpointConfig.{EndpointConfig}
+use Rattle.unit_model.specs.Order.{comes_before}
+use Rattle.unit_model.specs.Proper.{IsAt, IsSlot}
+use Rattle.unit_model.specs.Starts.{start_at}
+use Rattle.unit_model.specs.declared.symbol_start.SymbolStart.{SymbolStart}
+use Rattle.unit_cells.specs.Cells.{CellsValue, IsSlotIn, cells_has, cells_index, endpoints_of}
+use Rattle.unit_cells.proofs.ListLemmas.{some_equal}
+use Rattle.ru_reports.specs.Searches.{InPlace, InSlot, IsNotBefore, IsWanted, Searched, earlier_of}
+use Rattle.ru_reports.specs.Symbols.{IsSymbol, is_left}
+use Rattle.ru_reports.proofs.OrderLemmas.{not_before_earlier, not_before_itself}
+
+-- ---- over one symbol
+
+-- of what was found and one more symbol, one is found
+earlier_wanted : (v : CellsValue) (time : ℤ) (found : Option SymbolStart) (m : SymbolStart) → IsWanted v time m → IfSome found (IsWanted v time)
+    → IfSome (earlier_of found m) (IsWanted v time)
+earlier_wanted v time None m w o = w
+earlier_wanted v time (Some f) m w o = elim (cases_Bool (comes_before m f)) [ inl e ↦ rw e w | inr e ↦ rw e o ]
+
+earlier_keeps : (found : Option SymbolStart) (m x : SymbolStart) → IsNotBefore x found → IsNotBefore x (earlier_of found m)
+earlier_keeps None m x o = absurd o
+earlier_keeps (Some f) m x o = elim (cases_Bool (comes_before m f)) [ inl e ↦ rw e (not_before_earlier x m f o e) | inr e ↦ rw e o ]
+
+earlier_finds : (found : Option SymbolStart) (m : SymbolStart) → IsNotBefore m (earlier_of found m)
+earlier_finds None m = not_before_itself m
+earlier_finds (Some f) m = elim (cases_Bool (comes_before m f)) [ inl e ↦ rw e (not_before_itself m) | inr e ↦ rw e e ]
+
+pub searched_one : (v : CellsValue) (time : ℤ) (m : SymbolStart) (best : Option SymbolStart) → IsWanted v time m → Searched v time (λ x. x ≡ m) best (earlier_of best m)
+searched_one v time m best w = record {
+  wanted = earlier_wanted v time best m w;
+  keeps = earlier_keeps best m;
+  finds = λ x _ e. subst (λ (y : SymbolStart). IsNotBefore y (earlier_of best m)) (sym e) (earlier_finds best m);
+}
+
+-- ---- over more symbols
+
+-- none of them is wanted
+pub searched_none : (v : CellsValue) (time : ℤ) (Over : SymbolStart → Type 0) (best : Option SymbolStart) → ((m : SymbolStart) → IsWanted v time m → Over m → ⊥)
+    → Searched v time Over best best
+searched_none v time Over best none = record { wanted = λ w. w; keeps = λ m n. n; finds = λ m w o. absurd (none m w o) }
+
+pub searched_skip : (v : CellsValue) (time : ℤ) (m : SymbolStart) (best : Option SymbolStart) → (IsWanted v time m → ⊥) → Searched v time (λ x. x ≡ m) best best
+searched_skip v time m best not = searched_none v time (λ x. x ≡ m) best (λ x w e. not (subst (IsWanted v time) e w))
+
+pub searched_early : (v : CellsValue) (time : ℤ) (m : SymbolStart) (best : Option SymbolStart) → m.start.0 ≤ℤ time → Searched v time (λ x. x ≡ m) best best
+searched_early v time m best early = searched_skip v time m best (λ w. let h = w.after in omega (arith, ints, h, early))
+
+pub searched_unused : (v : CellsValue) (time : ℤ) (m : SymbolStart) (best : Option SymbolStart) → is_left v m ≡ false → Searched v time (λ x. x ≡ m) best best
+searched_unused v time m best unused = searched_skip v time m best (λ w. let l = w.left in cc)
+
+-- the same over symbols all of which are among these
+pub searched_of : (v : CellsValue) (time : ℤ) (P Q : SymbolStart → Type 0) (old new : Option SymbolStart) → ((m : SymbolStart) → IsWanted v time m → Q m → P m)
+    → Searched v time P old new → Searched v time Q old new
+searched_of v time P Q old new of s = record { wanted = s.wanted; keeps = s.keeps; finds = λ m w q. s.finds m w (of m w q) }
+
+-- over some and then others
+pub searched_then : (v : CellsValue) (time : ℤ) (P Q R : SymbolStart → Type 0) (old middle new : Option SymbolStart)
+    → ((m : SymbolStart) → IsWanted v time m → R m → P m ⊎ Q m) → Searched v time P old middle → Searched v time Q middle new → Searched v time R old new
+searched_then v time P Q R old middle new either a b = record {
+  wanted = λ w. b.wanted (a.wanted w);
+  keeps = λ m n. b.keeps m (a.keeps m n);
+  finds = λ m w r. elim (either m w r) [ inl p ↦ b.keeps m (a.finds m w p) | inr q ↦ b.finds m w q ];
+}
+
+-- by a number that each symbol has: over those below 0, and over one number more
+pub searched_below_0 : (v : CellsValue) (time : ℤ) (P : SymbolStart → Type 0) (number : SymbolStart → ℕ) (best : Option SymbolStart)
+    → Searched v time (λ m. P m × (number m < 0)) best best
+searched_below_0 v time P number best = searched_none v time (λ m. P m × (number m < 0)) best (λ m w o. let h = o.1 in omega (arith, h))
+
+pub searched_below_more : (v : CellsValue) (time : ℤ) (P Q : SymbolStart → Type 0) (number : SymbolStart → ℕ) (n : ℕ) (old middle new : Option SymbolStart)
+    → ((m : SymbolStart) → IsWanted v time m → P m → number m ≡ n → Q m)
+    → Searched v time (λ m. P m × (number m < n)) old middle → Searched v time Q middle new → Searched v time (λ m. P m × (number m < n + 1)) old new
+searched_below_more v time P Q number n old middle new is a b =
+    searched_then v time (λ m. P m × (number m < n)) Q (λ m. P m × (number m < n + 1)) old middle new
+    (λ m w r. elim (cases_lt (number m) n) [
+      | inl below ↦ inl (r.0, below)
+      | inr past ↦ let h = r.1 in let e : number m ≡ n = omega (arith, h, past) in inr (is m w r.0 e)
+    ]) a b
+
+-- ---- symbols and slots
+
+pub is_at_one : (es : List EndpointConfig) (k : ℕ) (a b : EndpointConfig) → IsAt es k a → IsAt es k b → a ≡ b
+is_at_one es k a b p q = some_equal a b (sym p ∙ q)
+
+-- a symbol goes by its endpoint's index, its slot and its number
+parts_one : (a : SymbolStart) (ep symbol : ℕ) (e : EndpointConfig) (slot : Slot) → a.ep ≡ ep → a.endpoint ≡ e → a.slot ≡ slot → a.symbol ≡ symbol
+    → a.start.0 ≡ air_of a.endpoint.numerology a.slot a.symbol → a ≡ start_at ep e slot symbol
+parts_one a ep symbol e slot p q r s t =
+    ap (λ (x : ℤ). let m : SymbolStart = record { ep = a.ep; endpoint = a.endpoint; start = record { 0 = x }; slot = a.slot; symbol = a.symbol } in m) t
+    ∙ ap (λ (x : ℕ). start_at x a.endpoint a.slot a.symbol) p
+    ∙ ap (λ (x : EndpointConfig). start_at ep x a.slot a.symbol) q
+    ∙ ap (λ (x : Slot). start_at ep e x a.symbol) r
+    ∙ ap (λ (x : ℕ). start_at ep e slot x) s
+
+pub symbol_one : (v : CellsValue) (ep : ℕ) (e : EndpointConfig) (slot : Slot) (symbol : ℕ) (m : SymbolStart) → IsAt (endpoints_of v) ep e → IsSymbol v m
+    → m.ep ≡ ep → m.slot ≡ slot → m.symbol ≡ symbol → m ≡ start_at ep e slot symbol
+symbol_one v ep e slot symbol m at is p q r =
+    let own : IsAt (endpoints_of v) ep m.endpoint = subst (λ (k : ℕ). IsAt (endpoints_of v) k m.endpoint) p is.at in
+    parts_one m ep symbol e slot p (is_at_one (endpoints_of v) ep m.endpoint e own at) q r is.starts
+
+pub start_is_symbol : (v : CellsValue) (ep : ℕ) (e : EndpointConfig) (slot : Slot) (symbol : ℕ) → IsAt (endpoints_of v) ep e → IsSlot e.numerology slot
+    → symbol < symbols_of e.numerology → cells_has v ep slot ≡ true → IsSymbol v (start_at ep e slot symbol)
+start_is_symbol v ep e slot symbol at is below has = record { at = at; slot_is = is; symbol_is = below; starts = refl; has = has }
+
+pub slot_of_endpoint : (v : CellsValue) (ep : ℕ) (e : EndpointConfig) (slot : Slot) → IsAt (endpoints_of v) ep e → IsSlotIn v ep slot → IsSlot e.numerology slot
+slot_of_endpoint v ep e slot at is = subst (λ (x : EndpointConfig). IsSlot x.numerology slot) (is_at_one (endpoints_of v) ep is.endpoint e is.at at) is.slot_is
+
+pub symbol_slot_in : (v : CellsValue) (m : SymbolStart) → IsSymbol v m → IsSlotIn v m.ep m.slot
+symbol_slot_in v m is = record { endpoint = m.endpoint; at = is.at; slot_is = is.slot_is }
+
+-- a symbol's slot is the one in its place
+pub place_has : (v : CellsValue) (time : ℤ) (ep index : ℕ) (found : Option Slot)
+    → ((slot : Slot) → cells_index v ep slot ≡ index → cells_has v ep slot ≡ true → found ≡ Some slot) → (m : SymbolStart) → IsWanted v time m → InPlace v ep index m
+    → found ≡ Some m.slot
+place_has v time ep index found only m w p = only m.slot p.1 (subst (λ (k : ℕ). cells_has v k m.slot ≡ true) p.0 w.is.has)
+
+pub searched_empty : (v : CellsValue) (time : ℤ) (ep index : ℕ) (best : Option SymbolStart)
+    → ((slot : Slot) → cells_index v ep slot ≡ index → cells_has v ep slot ≡ true → None ≡ Some slot) → Searched v time (InPlace v ep index) best best
+searched_empty v time ep index best only =
+    searched_none v time (InPlace v ep index) best (λ m w p. let e = place_has v time ep index None only m w p in cc)
+
+pub searched_place : (v : CellsValue) (time : ℤ) (ep index : ℕ) (slot : Slot) (old new : Option SymbolStart)
+    → ((s : Slot) → cells_index v ep s ≡ index → cells_has v ep s ≡ true → Some slot ≡ Some s) → Searched v time (InSlot ep slot) old new
+    → Searched v time (InPlace v ep index) old new
+searched_place v time ep index slot old new only =
+    searched_of v time (InSlot ep slot) (InPlace v ep index) old new
+    (λ m w p. (p.0, sym (some_equal slot m.slot (place_has v time ep index (Some slot) only m w p))))

@@ -1,0 +1,3 @@
+pub mod Symbols
+pub mod Searches
+pub mod Tellings

@@ -1,0 +1,87 @@
+-- A symbol of a radio unit's rings, and what is still to be reported of it, by look-up (this project's profile).
+use Rattle.std.specs.Prelude.{◌≡◌, ℕ, ℤ, ◌<◌, Bool, true, ◌&&◌, ◌||◌, ◌==◌, if◌then◌else◌, List, [], ◌∷◌, ◌++◌, ◌+◌, ◌^◌, map, Option, Some, None}
+use Rattle.std.specs.List.{list_any}
+use Rattle.fh_time.specs.Air.{air_of}
+use Rattle.fh_time.specs.Numbering.{symbols_of}
+use Rattle.air_source.specs.declared.events.AirCell.{AirCell}
+use Rattle.air_source.specs.declared.events.Event.{Event}
+use Rattle.air_source.specs.declared.events.Event.TheVariants.{Cell as Reported}
+use Rattle.air_source.specs.declared.events.Side.TheVariants.{Ru}
+use Rattle.fault_counters.specs.declared.kinds.Counter.{Counter}
+use Rattle.fault_counters.specs.Counts.{capped, count_of, times}
+use Rattle.window_config.specs.declared.config.Config.{Config}
+use Rattle.unit_model.specs.Claims.{cell_at, same_slot}
+use Rattle.unit_model.specs.Counts.{cells_counted}
+use Rattle.unit_model.specs.Lists.{each, some}
+use Rattle.unit_model.specs.Proper.{IsAt, IsSlot}
+use Rattle.unit_model.specs.Radiated.{Known}
+use Rattle.unit_model.specs.Starts.{cell_told}
+use Rattle.unit_model.specs.declared.allocations.Allocation.{Allocation}
+use Rattle.unit_model.specs.declared.cells.Cell.{Cell}
+use Rattle.unit_model.specs.declared.decoded.Data.{Data}
+use Rattle.unit_model.specs.declared.symbol_start.SymbolStart.{SymbolStart}
+use Rattle.slot_rings.specs.Places.{is_due}
+use Rattle.unit_cells.specs.Cells.{CellsValue, IsCellIn, cells_block, cells_claim, cells_done, cells_has, endpoints_of}
+use Rattle.unit_cells.specs.Keeping.{Keeps, SameKnown}
+
+-- a symbol of one of the endpoints, in a slot that has its place
+pub record IsSymbol (v : CellsValue) (m : SymbolStart) : Type 0 where
+  pub at : IsAt (endpoints_of v) m.ep m.endpoint
+  pub slot_is : IsSlot m.endpoint.numerology m.slot
+  pub symbol_is : m.symbol < symbols_of m.endpoint.numerology
+  pub starts : m.start.0 ≡ air_of m.endpoint.numerology m.slot m.symbol
+  pub has : cells_has v m.ep m.slot ≡ true
+
+-- the downlink cell of a symbol at a PRB
+abbrev pub cell_in : SymbolStart → ℕ → Cell
+cell_in m prb = cell_at m.ep true m.slot m.symbol prb
+
+-- a downlink cell of the symbol is in use and was not reported
+abbrev pub is_left : CellsValue → SymbolStart → Bool
+is_left v m = some 0 m.endpoint.prbs (λ prb. is_due (cells_claim v (cell_in m prb)) (cells_done v (cell_in m prb)))
+
+-- what is claimed and given, by look-up
+abbrev pub known_by : CellsValue → Known
+known_by v = record { claims = cells_claim v; blocks = cells_block v }
+
+-- what is still to be reported of a symbol, in the order of PRBs
+abbrev pub left_told : CellsValue → SymbolStart → ℕ → List AirCell
+left_told v m prb = if cells_done v (cell_in m prb) then [] else cell_told Ru (known_by v) m prb
+
+unfoldable pub left_at : CellsValue → SymbolStart → List AirCell
+left_at v m = each 0 m.endpoint.prbs (left_told v m)
+
+-- one of these reports is of this cell, where all are of one symbol
+abbrev pub is_told : SymbolStart → List AirCell → Cell → Bool
+is_told m told cell =
+    (cell.ep == m.ep) && (same_slot cell.slot m.slot && ((cell.symbol == m.symbol) && list_any (λ a. a.prb == cell.prb) told))
+
+-- these cells of a symbol were marked as reported, and nothing else changed
+pub record MarksTold (m : SymbolStart) (told : List AirCell) (old new : CellsValue) : Type 0 where
+  pub marks : (cell : Cell) → IsCellIn old cell → cell.down ≡ true → cells_done new cell ≡ (cells_done old cell || is_told m told cell)
+  pub keeps : (c : Config) (clock : ℤ) (acc : List Allocation) (ds : List Data) → Keeps c clock old acc ds → Keeps c clock new acc ds
+  pub known : SameKnown old new
+  pub delays : new.delays ≡ old.delays
+  pub endpoints : endpoints_of new ≡ endpoints_of old
+
+-- and counted, by whether their samples came: each counter, which is a number of 64 bits
+abbrev pub CountsTold : List AirCell → List ℕ → List ℕ → Type 0
+CountsTold told old new = (k : Counter) → count_of old k < 2 ^ 64 → count_of new k ≡ capped (count_of old k + times (cells_counted told) k)
+
+-- an air stopped in one of the cells: those before it are marked and counted
+pub record StopsAtCell {A : Type 0} (grew : A → List Event → A → Type 0) (stopped : A → Event → A → Type 0) (m : SymbolStart)
+    (old new : CellsValue) (counts_old counts_new : List ℕ) (before after : A) : Type 0 where
+  pub told : List AirCell
+  pub cell : AirCell
+  pub rest : List AirCell
+  pub is : left_at old m ≡ told ++ cell ∷ rest
+  pub marks : MarksTold m told old new
+  pub counts : CountsTold told counts_old counts_new
+  pub middle : A
+  pub heard : grew before (map Reported told) middle
+  pub stop : stopped middle (Reported cell) after
+
+-- something is found, and this holds of it
+abbrev pub IsFound : (SymbolStart → Type 0) → Option SymbolStart → Type 0
+IsFound P None = ⊥
+IsFound P (Some m) = P m

@@ -1,0 +1,5 @@
+pub mod Airs
+pub mod Causes
+pub mod Owed
+pub mod OwedLaws
+pub mod Text
