@@ -5,7 +5,7 @@ ghost use Rattle.unit_model.specs.Order.{comes_before};
 ghost use Rattle.unit_model.specs.Proper.{IsAt, IsSlot};
 ghost use Rattle.unit_model.specs.Starts.{start_at};
 ghost use Rattle.unit_model.specs.declared.symbol_start.SymbolStart.{SymbolStart as SpecStart};
-ghost use Rattle.unit_cells.specs.Cells.{cells_has, cells_places, endpoints_of};
+ghost use Rattle.unit_cells.specs.Cells.{cells_has, cells_index, cells_places, endpoints_of};
 ghost use Rattle.ru_reports.specs.Searches.{InPlace, OfEndpoint, InSlot, Searched, earlier_of};
 ghost use Rattle.ru_reports.specs.Symbols.{IsFound, IsSymbol, is_left};
 
@@ -64,11 +64,32 @@ fn earlier_left(
     earlier_of(best, m)
 }
 
-/// The first of the best symbol so far and those of a slot that has its place.
+/// The same of one symbol of a slot that has the place with an index. Where the symbol has nothing to be reported, no cell is
+/// looked at.
+fn earlier_pending(
+    cells: &UnitCells,
+    index: usize,
+    m: SymbolStart,
+    after: Ticks,
+    best: Option<SymbolStart>,
+) -> Option<SymbolStart>
+    requires symbol { IsSymbol cells.now m }
+    requires place { cells_index cells.now m.ep m.slot ≡ index }
+    requires index { index < cells_places cells.now m.ep }
+    ensures { Searched cells.now after.0 (λ x. x ≡ m) best result }
+{
+    if !cells.is_pending(m.ep, index, m.symbol) {
+        return best;
+    }
+    earlier_left(cells, m, after, best)
+}
+
+/// The first of the best symbol so far and those of a slot that has the place with an index.
 fn first_in_slot(
     cells: &UnitCells,
     ep: usize,
     endpoint: &EndpointConfig,
+    index: usize,
     slot: Slot,
     after: Ticks,
     best: Option<SymbolStart>,
@@ -76,13 +97,15 @@ fn first_in_slot(
     requires at { IsAt (endpoints_of cells.now) ep endpoint.now }
     requires slot { IsSlot endpoint.now.numerology slot }
     requires has { cells_has cells.now ep slot ≡ true }
+    requires place { cells_index cells.now ep slot ≡ index }
+    requires index { index < cells_places cells.now ep }
     ensures { Searched cells.now after.0 (InSlot ep slot) best result }
 {
     let symbols = shape(&endpoint.numerology).symbols;
     let mut first = best;
     for symbol in 0..symbols {
         let m = start_of(ep, endpoint, slot, symbol);
-        first = earlier_left(cells, m, after, first);
+        first = earlier_pending(cells, index, m, after, first);
     }
     first
 }
@@ -102,7 +125,7 @@ fn first_in_place(
 {
     match cells.slot_at(ep, index) {
         None => best,
-        Some(slot) => first_in_slot(cells, ep, endpoint, slot, after, best),
+        Some(slot) => first_in_slot(cells, ep, endpoint, index, slot, after, best),
     }
 }
 

@@ -72,9 +72,8 @@ fn report_cell<A: Air>(
     }
 }
 
-/// Hands an air each cell of a symbol that is in use and was not reported, in the order of PRBs, marks it and counts it. After an
-/// error the cell in which the air stopped, and those after it, are neither marked nor counted.
-pub fn report<A: Air>(
+/// Hands an air the cells of a symbol.
+fn report_cells<A: Air>(
     cells: &mut UnitCells,
     counters: &mut Counters,
     m: &SymbolStart,
@@ -92,4 +91,29 @@ pub fn report<A: Air>(
         report_cell(cells, counters, m, prb, air)?;
     }
     Ok(())
+}
+
+/// Hands an air each cell of a symbol that is in use and was not reported, in the order of PRBs, marks it and counts it. After an
+/// error the cell in which the air stopped, and those after it, are neither marked nor counted.
+pub fn report<A: Air>(
+    cells: &mut UnitCells,
+    counters: &mut Counters,
+    m: &SymbolStart,
+    air: &mut A,
+) -> Result<(), AirFault>
+    requires { IsSymbol cells.old m.now }
+    ensures heard { OnOk result (A.grew air.old (map Reported (left_at cells.old m.now)) air.new) }
+    ensures marks { OnOk result (MarksTold m.now (left_at cells.old m.now) cells.old cells.new) }
+    ensures counts { OnOk result (CountsTold (left_at cells.old m.now) counters.old counters.new) }
+    ensures stop { OnErr result (StopsAtCell A.grew A.stopped m.now cells.old cells.new counters.old counters.new air.old air.new) }
+    ensures same { A.same air.old air.new }
+    ensures cause { HasAirCause (A.faults air.old) (A.faults air.new) result }
+{
+    match report_cells(cells, counters, m, air) {
+        Ok(()) => {
+            cells.settle(m.ep, m.slot, m.symbol);
+            Ok(())
+        }
+        Err(fault) => Err(fault),
+    }
 }

@@ -1,6 +1,6 @@
 use Rattle.std.proofs.Common.{◌≤◌}
 use Rattle.ru_reports.proofs.ReportLemmas.{ToldBelow}
-use Rattle.ru_reports.proofs.reporting.report.Given as goal
+use Rattle.ru_reports.proofs.reporting.report_cells.Given as goal
 
 abbrev pub invariant-loop-prb : goal.invariant-loop-prb
 invariant-loop-prb g l = record {

@@ -5,8 +5,8 @@ use Rattle.air_source.specs.declared.events.Event.TheVariants.{Cell as Reported}
 use Rattle.ru_reports.specs.Symbols.{CountsTold, MarksTold, left_at}
 use Rattle.ru_reports.proofs.MarkLemmas.{symbol_still}
 use Rattle.ru_reports.proofs.ReportLemmas.{all_below, left_below, stops_below, told_below_more, told_below_none}
-use Rattle.ru_reports.proofs.reporting.report.Goals as goal
-use Rattle.ru_reports.proofs.reporting.report.Goals.{After-loop-prb}
+use Rattle.ru_reports.proofs.reporting.report_cells.Goals as goal
+use Rattle.ru_reports.proofs.reporting.report_cells.Goals.{After-loop-prb}
 
 pub loop-prb-init : goal.loop-prb-init
 loop-prb-init g c = record {
