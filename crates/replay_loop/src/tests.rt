@@ -18,14 +18,14 @@ const CELL_AT: Ticks = Ticks(15_360_000_000);
 
 /// What came of a replay.
 #[derive(Drop)]
-struct Played {
+struct Outcome {
     result: Result<(), ReplayFault>,
     clock: Ticks,
     air: MemoryAir,
 }
 
 /// Replays the document to an air that fails at some calls. None where memory is refused.
-fn played(alloc: Global, fails: List<u64>) -> Option<Played> {
+fn played(alloc: Global, fails: List<u64>) -> Option<Outcome> {
     let Ok(doc) = read(alloc, DOCUMENT.as_bytes()) else {
         return None;
     };
@@ -35,7 +35,7 @@ fn played(alloc: Global, fails: List<u64>) -> Option<Played> {
     let mut air = MemoryAir::new(alloc, fails);
     let result = replay(alloc, &doc, &mut ru, &mut air);
     let clock = ru.clock();
-    Some(Played { result, clock, air })
+    Some(Outcome { result, clock, air })
 }
 
 fn is_arrival(event: Option<&Event>, time: Ticks, bytes: usize) -> bool {
