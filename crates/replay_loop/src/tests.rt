@@ -10,10 +10,13 @@ use std::alloc::Global;
 use std::test::Fail;
 
 /// Symbol 0 of frame 1, PRB 0 of section 1, at 10 ms: its command at 9.6 ms, and its data at 9.7 ms.
-const DOCUMENT: &str = "fronthaul 1\nendpoint 0000 ordinary 30 106 static none\ninject dl 9600000 1002001400000080900100000101000000100001fff10000\ninject dl 9700000 1000003c000000809001000000100001000000000001ffff0002fffe0003fffd0004fffc0005fffb0006fffa0007fff90008fff80009fff7000afff6000bfff5\n";
+const DOCUMENT: &str =
+    "fronthaul 1\nendpoint 0000 ordinary 30 106 static none\ninject dl 9600000 1002001400000080900100000101000000100001fff10000\ninject dl 9700000 1000003c000000809001000000100001000000000001ffff0002fffe0003fffd0004fffc0005fffb0006fffa0007fff90008fff80009fff7000afff6000bfff5\n";
 
 const COMMAND_AT: Ticks = Ticks(14_745_600_000);
+
 const DATA_AT: Ticks = Ticks(14_899_200_000);
+
 const CELL_AT: Ticks = Ticks(15_360_000_000);
 
 /// What came of a replay.
@@ -54,11 +57,13 @@ fn is_cell(event: Option<&Event>, time: Ticks) -> bool {
 
 fn is_count(event: Option<&Event>, of: Counter, times: u64) -> bool {
     match event {
-        Some(Event::Count {
-            side,
-            counter,
-            value,
-        }) => *counter == of && *value == times,
+        Some(
+            Event::Count {
+                side,
+                counter,
+                value,
+            },
+        ) => *counter == of && *value == times,
         _ => false,
     }
 }
