@@ -1,6 +1,6 @@
 -- The counters at the end.
 use Rattle.std.proofs.Common.{◌≡◌, ℕ, ℤ, pos, ◌+ℤ◌, ◌-ℤ◌, ◌≤ℤ◌, ◌==◌, ◌<◌, suc, Bool, true, false, List, [], ◌∷◌, ◌++◌, take, take-suc, drop, length, get_or, refl, sym, ap, ap₂, ◌∙◌, subst, arith, append_assoc, append-nil}
-use Rattle.std.specs.Prelude.{map, if◌then◌else◌}
+use Rattle.std.specs.Prelude.{if◌then◌else◌}
 use Rattle.std.specs.List.{flat_map, AllByRecursion}
 use Rattle.std.proofs.lemmas.Bool.Decides.{nat_tests}
 use Rattle.air_source.specs.Stops.{StopsIn}
@@ -16,14 +16,11 @@ use Rattle.fh_document.specs.declared.document.Document.{Document}
 use Rattle.replay_events.specs.Events.{count_event, count_events, number_of}
 use Rattle.replay_events.specs.Moments.{all_arrivals, end_of_time}
 use Rattle.replay_events.proofs.TickLemmas.{last_of_next}
-use Rattle.ru_buffers.specs.Calls.{StandsFor}
 use Rattle.ru_buffers.specs.declared.unit.Ru.{Ru}
 use Rattle.unit_model.specs.Counts.{StandAt, cells_counted}
 use Rattle.unit_model.specs.Meetings.{Arrival as Landing}
 use Rattle.unit_model.specs.Reports.{arrivals_counted, ru_reported}
-use Rattle.unit_model.specs.Standing.{History}
-use Rattle.window_config.specs.declared.config.Config.{Config}
-use Rattle.replay_loop.specs.Replaying.{IsDone, IsInStep, StopsInStep, arrivals_heard, cells_heard, events_of, landings_of}
+use Rattle.replay_loop.specs.Replaying.{IsDone, StopsInStep, arrivals_heard, cells_heard, events_of, landings_of}
 use Rattle.replay_loop.specs.Turns.{AtTurn, events_before}
 use Rattle.replay_loop.proofs.HeardLemmas.{arrivals-append, cells-append}
 use Rattle.replay_loop.proofs.StopLemmas.{all_events}

@@ -1,6 +1,5 @@
 -- Messages that are given one after the other.
-use Rattle.std.proofs.Common.{◌≡◌, ℕ, ℤ, ◌<◌, suc, List, [], ◌∷◌, ◌++◌, length, Bool, true, false, Option, Some, None, is_some, IfSome, IfNone, sym, ap, ◌∙◌, arith}
-use Rattle.fh_time.specs.declared.values.Ticks.{Ticks}
+use Rattle.std.proofs.Common.{◌≡◌, ◌<◌, suc, List, ◌∷◌, length, Bool, true, false, Option, Some, None, is_some, IfSome, IfNone, sym, ap, ◌∙◌, arith}
 use Rattle.ru_buffers.specs.Calls.{GivesJob, StandsFor, given_of}
 use Rattle.ru_buffers.specs.Units.{left_up_to}
 use Rattle.ru_buffers.specs.declared.unit.Ru.{Ru}

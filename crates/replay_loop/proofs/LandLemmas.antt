@@ -1,5 +1,5 @@
 -- Frames that land one after the other.
-use Rattle.std.proofs.Common.{◌≡◌, ◌≢◌, ℕ, ℤ, pos, ◌+ℤ◌, ◌≤ℤ◌, ◌<ℤ◌, ◌<◌, Bool, true, false, List, [], ◌∷◌, ◌++◌, Option, Some, None, length, refl, sym, ap, ap₂, ◌∙◌, subst, arith, append_assoc, append-nil}
+use Rattle.std.proofs.Common.{◌≡◌, ◌≢◌, ℕ, ℤ, pos, ◌+ℤ◌, ◌≤ℤ◌, ◌<ℤ◌, Bool, true, false, List, [], ◌∷◌, ◌++◌, Some, refl, sym, ap, ◌∙◌, subst, arith, append_assoc, append-nil}
 use Rattle.std.specs.Prelude.{map, if◌then◌else◌}
 use Rattle.std.specs.List.{AllByRecursion}
 use Rattle.std.specs.Ordering.{int_eq}
@@ -10,7 +10,7 @@ use Rattle.air_source.specs.declared.events.Event.{Event}
 use Rattle.fh_document.specs.declared.document.Document.{Document}
 use Rattle.fh_time.specs.declared.values.Ticks.{Ticks}
 use Rattle.landing_queue.specs.declared.landings.Landing.{Landing}
-use Rattle.landing_queue.specs.Queues.{AreRising, Took, at_time, first_time, landing_of}
+use Rattle.landing_queue.specs.Queues.{AreRising, at_time, first_time, landing_of}
 use Rattle.replay_events.specs.Events.{arrival_event}
 use Rattle.replay_events.proofs.TickLemmas.{next_after}
 use Rattle.ru_buffers.specs.Calls.{StandsFor}
@@ -19,8 +19,8 @@ use Rattle.unit_model.specs.Lists.{onto}
 use Rattle.unit_model.specs.Meetings.{Arrival}
 use Rattle.unit_model.specs.Standing.{History, arrived}
 use Rattle.window_config.specs.declared.config.Config.{Config}
-use Rattle.replay_loop.specs.Delivering.{HasPassed, StopsLanding, landed}
-use Rattle.replay_loop.specs.Turns.{AreFrom, AreListed, arrival_at, arrival_of, frame_at, left_at}
+use Rattle.replay_loop.specs.Delivering.{StopsLanding, landed}
+use Rattle.replay_loop.specs.Turns.{AreFrom, arrival_at, arrival_of, frame_at, left_at}
 use Rattle.replay_loop.proofs.NextLemmas.{none_then}
 
 -- ---- one more

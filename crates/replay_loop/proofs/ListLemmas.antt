@@ -1,12 +1,11 @@
 -- The frames of a document, as they wait for their times.
-use Rattle.std.proofs.Common.{◌≡◌, ℕ, zero, suc, ℤ, pos, ◌*ℤ◌, ◌≤ℤ◌, ◌+◌, ◌<◌, ◌≤◌, ◌⊎◌, inl, inr, None, Ok, Err, Result, IfOk, Bool, List, [], ◌∷◌, ◌++◌, Some, length, take, take-suc, get_or, true, false, refl, sym, ap, ap₂, ◌∙◌, subst, arith, cond}
+use Rattle.std.proofs.Common.{◌≡◌, ℕ, zero, suc, ℤ, pos, ◌*ℤ◌, ◌≤ℤ◌, ◌+◌, ◌<◌, ◌≤◌, ◌⊎◌, inl, inr, None, Ok, Err, Result, IfOk, Bool, List, [], ◌∷◌, ◌++◌, Some, length, take, take-suc, get_or, true, false, refl, sym, ap, ap₂, ◌∙◌, subst, arith}
 use Rattle.std.specs.Prelude.{All, map, slice_get, if◌then◌else◌}
-use Rattle.std.specs.List.{AllByRecursion, filter}
 use Rattle.std.specs.Ordering.{int_eq}
 use Rattle.std.proofs.lemmas.List.{length-map, map-append}
 use Rattle.std.proofs.lemmas.List.Elements.{All-cons, All-head, All-tail}
 use Rattle.std.proofs.lemmas.Option.{get_or_from_slice_get, slice_get_cases, slice_get_within}
-use Rattle.fh_document.specs.Proper.{IsDocument, IsFrom, IsInjection}
+use Rattle.fh_document.specs.Proper.{IsDocument, IsInjection}
 use Rattle.fh_document.specs.declared.document.Document.{Document}
 use Rattle.fh_document.specs.declared.document.Injection.{Injection}
 use Rattle.fh_time.specs.declared.values.Ticks.{Ticks}
@@ -17,7 +16,7 @@ use Rattle.unit_model.specs.Meetings.{Arrival}
 use Rattle.unit_model.specs.Radiated.{first_clock}
 use Rattle.window_config.specs.declared.endpoints.EndpointConfig.{EndpointConfig}
 use Rattle.replay_loop.specs.Replaying.{landing_of, landings_of}
-use Rattle.replay_loop.specs.Turns.{AreFrom, AreListed, Waits, arrival_at, arrival_of, frame_at, frame_of, left_at, time_of}
+use Rattle.replay_loop.specs.Turns.{AreFrom, AreListed, Waits, arrival_at, arrival_of, frame_of, left_at, time_of}
 use Rattle.replay_loop.proofs.DocumentLemmas.{landing_time}
 
 -- ---- their times

@@ -1,16 +1,15 @@
 -- One moment of a replay.
-use Rattle.std.proofs.Common.{◌≡◌, ℤ, pos, ◌+ℤ◌, ◌-ℤ◌, ◌≤ℤ◌, ◌<ℤ◌, List, [], ◌∷◌, ◌++◌, refl, sym, ap, ap₂, ◌∙◌, arith}
+use Rattle.std.proofs.Common.{◌≡◌, ℤ, pos, ◌+ℤ◌, ◌-ℤ◌, ◌≤ℤ◌, ◌<ℤ◌, List, ◌++◌, sym, ap, ap₂, ◌∙◌, arith}
 use Rattle.std.specs.Prelude.{map}
 use Rattle.std.proofs.lemmas.Int.{ints}
 use Rattle.air_source.specs.declared.events.AirCell.{AirCell}
-use Rattle.air_source.specs.declared.events.Event.{Event}
 use Rattle.air_source.specs.declared.events.Event.TheVariants.{Cell}
 use Rattle.fh_document.specs.Proper.{IsDocument}
 use Rattle.fh_document.specs.declared.document.Document.{Document}
 use Rattle.landing_queue.specs.declared.landings.Landing.{Landing}
-use Rattle.replay_events.specs.Events.{arrival_event, cells_at, events_at}
-use Rattle.replay_events.specs.Moments.{end_of_time, landing_at}
-use Rattle.replay_events.proofs.TickLemmas.{at_most, next_most}
+use Rattle.replay_events.specs.Events.{arrival_event, events_at}
+use Rattle.replay_events.specs.Moments.{end_of_time}
+use Rattle.replay_events.proofs.TickLemmas.{next_most}
 use Rattle.ru_buffers.specs.Calls.{HasGivenPast, StandsForSome}
 use Rattle.ru_buffers.specs.Reporting.{due_of}
 use Rattle.ru_buffers.specs.declared.unit.Ru.{Ru}

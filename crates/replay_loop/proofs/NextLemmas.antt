@@ -1,5 +1,5 @@
 -- The next moment, and the time before it.
-use Rattle.std.proofs.Common.{◌≡◌, ℤ, pos, ◌+ℤ◌, ◌-ℤ◌, ◌≤ℤ◌, ◌<ℤ◌, Bool, true, false, ℕ, ◌<◌, List, [], ◌∷◌, ◌++◌, Option, Some, None, refl, sym, ap, ◌∙◌, subst, arith, inl, inr, ◌⊎◌}
+use Rattle.std.proofs.Common.{◌≡◌, ℤ, pos, ◌+ℤ◌, ◌-ℤ◌, ◌≤ℤ◌, ◌<ℤ◌, Bool, true, false, ◌<◌, List, [], ◌∷◌, ◌++◌, Option, Some, None, refl, sym, ap, ◌∙◌, subst, arith, inl, inr, ◌⊎◌}
 use Rattle.std.specs.Prelude.{int_le, int_lt, if◌then◌else◌, IfSome, map}
 use Rattle.std.specs.List.{AllByRecursion}
 use Rattle.std.proofs.lemmas.Int.{ints, by_lt_z}
@@ -17,13 +17,13 @@ use Rattle.std.specs.Int.{int_gap}
 use Rattle.unit_model.proofs.SweepLaws.{gap_is}
 use Rattle.unit_model.specs.Radiated.{first_clock}
 use Rattle.air_source.specs.declared.events.Event.{Event}
-use Rattle.replay_events.proofs.TickLemmas.{at_most, next_after, same_most, weak}
-use Rattle.ru_buffers.specs.Calls.{IsDue, IsLeastMoment, IsQuietTo, StandsFor, earlier_time}
+use Rattle.replay_events.proofs.TickLemmas.{at_most, next_after, same_most}
+use Rattle.ru_buffers.specs.Calls.{IsDue, IsLeastMoment, IsQuietTo, earlier_time}
 use Rattle.ru_buffers.specs.declared.unit.Ru.{Ru}
 use Rattle.unit_model.specs.Standing.{History}
 use Rattle.window_config.specs.declared.config.Config.{Config}
 use Rattle.replay_loop.specs.Replaying.{landings_of}
-use Rattle.replay_loop.specs.Turns.{AreFrom, AtTurn, IsIdle, IsMoment, IsNext, Waits, arrival_of, events_before, left_at, within_end}
+use Rattle.replay_loop.specs.Turns.{AreFrom, AtTurn, IsIdle, IsMoment, IsNext, Waits, arrival_of, events_before, within_end}
 use Rattle.replay_loop.proofs.TurnLemmas.{next, quiet_less, skip}
 
 -- ---- what is left

@@ -3,7 +3,6 @@ use Rattle.std.proofs.Common.{◌≡◌, ℤ, pos, ◌+ℤ◌, ◌≤ℤ◌, Lis
 use Rattle.std.specs.Prelude.{map}
 use Rattle.std.proofs.lemmas.Int.{ints}
 use Rattle.std.proofs.lemmas.List.{map-append}
-use Rattle.air_source.specs.Stops.{StopsIn}
 use Rattle.air_source.specs.declared.events.AirCell.{AirCell}
 use Rattle.air_source.specs.declared.events.Event.{Event}
 use Rattle.air_source.specs.declared.events.Event.TheVariants.{Cell}
@@ -12,17 +11,16 @@ use Rattle.fh_document.specs.declared.document.Document.{Document}
 use Rattle.replay_events.specs.Events.{arrival_event, cells_at, events, events_at, events_between, count_events}
 use Rattle.replay_events.specs.Moments.{end_of_time, landing_at}
 use Rattle.replay_events.proofs.EventLemmas.{events_go_on}
-use Rattle.replay_events.proofs.TickLemmas.{next_most, same_most, ticks_append}
-use Rattle.ru_buffers.specs.Calls.{StandsFor, StopsAtDue}
+use Rattle.replay_events.proofs.TickLemmas.{next_most, ticks_append}
+use Rattle.ru_buffers.specs.Calls.{StopsAtDue}
 use Rattle.ru_buffers.specs.Reporting.{due_of}
 use Rattle.ru_buffers.specs.declared.unit.Ru.{Ru}
 use Rattle.unit_model.specs.Meetings.{Arrival}
 use Rattle.unit_model.specs.Radiated.{first_clock}
 use Rattle.unit_model.specs.Standing.{History, at_clock, heard}
-use Rattle.window_config.specs.declared.config.Config.{Config}
 use Rattle.replay_loop.specs.Delivering.{StopsLanding}
-use Rattle.replay_loop.specs.Replaying.{IsInStep, StopsInStep, arrivals_heard, cells_heard, events_of, landings_of}
-use Rattle.replay_loop.specs.Turns.{AtTurn, IsTurn, StopsBehind, events_before}
+use Rattle.replay_loop.specs.Replaying.{StopsInStep, arrivals_heard, events_of, landings_of}
+use Rattle.replay_loop.specs.Turns.{IsTurn, StopsBehind, events_before}
 use Rattle.replay_loop.proofs.HeardLemmas.{arrivals-append, arrivals-cells, cells-append, cells-cells}
 use Rattle.replay_loop.proofs.TurnLemmas.{arrivals_then, cells_then, due_here, events_are}
 

@@ -1,5 +1,5 @@
 -- From one tick to the next moment, and over it.
-use Rattle.std.proofs.Common.{◌≡◌, ℤ, pos, ◌+ℤ◌, ◌-ℤ◌, ◌≤ℤ◌, ◌<ℤ◌, List, [], ◌∷◌, ◌++◌, refl, sym, ap, ap₂, ◌∙◌, subst, arith, append-nil}
+use Rattle.std.proofs.Common.{◌≡◌, ℤ, pos, ◌+ℤ◌, ◌-ℤ◌, ◌≤ℤ◌, ◌<ℤ◌, List, [], ◌++◌, refl, sym, ap, ap₂, ◌∙◌, subst, arith, append-nil}
 use Rattle.std.specs.Prelude.{map}
 use Rattle.std.proofs.lemmas.Int.{ints, by_lt_z}
 use Rattle.air_source.specs.declared.events.AirCell.{AirCell}
@@ -8,14 +8,14 @@ use Rattle.air_source.specs.declared.events.Event.TheVariants.{Cell}
 use Rattle.air_source.specs.declared.events.Side.TheVariants.{Ru as AtRu}
 use Rattle.fh_document.specs.Proper.{IsDocument}
 use Rattle.fh_document.specs.declared.document.Document.{Document}
-use Rattle.replay_events.specs.Events.{arrival_event, cells_at, events_at, events_between}
+use Rattle.replay_events.specs.Events.{arrival_event, cells_at, events_at}
 use Rattle.replay_events.specs.Moments.{arrivals_before, end_of_time, landing_at}
 use Rattle.replay_events.specs.Passing.{IsCalm, IsNextMoment, due_from}
 use Rattle.replay_events.proofs.CameLemmas.{arrivals_go_on, calm_adds_nothing, none_yet}
 use Rattle.replay_events.proofs.EventLemmas.{events_go_on, events_wait}
 use Rattle.replay_events.proofs.MomentLemmas.{due_at_moment, reported_at_moment, reported_before_moment}
-use Rattle.replay_events.proofs.TickLemmas.{at_most, front_empty, last_is_earlier, last_of_next, next_most, no_ticks, same_most, weak}
-use Rattle.ru_buffers.specs.Calls.{IsQuietTo, StandsFor, given_of}
+use Rattle.replay_events.proofs.TickLemmas.{at_most, front_empty, last_is_earlier, last_of_next, next_most, no_ticks, same_most}
+use Rattle.ru_buffers.specs.Calls.{IsQuietTo, StandsFor}
 use Rattle.ru_buffers.specs.Reporting.{due_of}
 use Rattle.ru_buffers.specs.Units.{left_up_to}
 use Rattle.ru_buffers.specs.declared.unit.Ru.{Ru}

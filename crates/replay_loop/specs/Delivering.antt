@@ -1,6 +1,5 @@
 -- What one tick's frames, and its messages, make of a radio unit (this project's profile).
-use Rattle.std.specs.Prelude.{◌≡◌, ℕ, ℤ, pos, ◌+ℤ◌, ◌<ℤ◌, List, [], ◌∷◌, ◌++◌, map}
-use Rattle.std.specs.List.{AllByRecursion}
+use Rattle.std.specs.Prelude.{◌≡◌, ℤ, pos, ◌+ℤ◌, ◌<ℤ◌, List, [], ◌∷◌, ◌++◌, map}
 use Rattle.air_source.specs.declared.events.Event.{Event}
 use Rattle.fh_document.specs.declared.document.Document.{Document}
 use Rattle.landing_queue.specs.declared.landings.Landing.{Landing}

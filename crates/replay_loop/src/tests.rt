@@ -10,22 +10,25 @@ use std::alloc::Global;
 use std::test::Fail;
 
 /// Symbol 0 of frame 1, PRB 0 of section 1, at 10 ms: its command at 9.6 ms, and its data at 9.7 ms.
-const DOCUMENT: &str = "fronthaul 1\nendpoint 0000 ordinary 30 106 static none\ninject dl 9600000 1002001400000080900100000101000000100001fff10000\ninject dl 9700000 1000003c000000809001000000100001000000000001ffff0002fffe0003fffd0004fffc0005fffb0006fffa0007fff90008fff80009fff7000afff6000bfff5\n";
+const DOCUMENT: &str =
+    "fronthaul 1\nendpoint 0000 ordinary 30 106 static none\ninject dl 9600000 1002001400000080900100000101000000100001fff10000\ninject dl 9700000 1000003c000000809001000000100001000000000001ffff0002fffe0003fffd0004fffc0005fffb0006fffa0007fff90008fff80009fff7000afff6000bfff5\n";
 
 const COMMAND_AT: Ticks = Ticks(14_745_600_000);
+
 const DATA_AT: Ticks = Ticks(14_899_200_000);
+
 const CELL_AT: Ticks = Ticks(15_360_000_000);
 
 /// What came of a replay.
 #[derive(Drop)]
-struct Played {
+struct Outcome {
     result: Result<(), ReplayFault>,
     clock: Ticks,
     air: MemoryAir,
 }
 
 /// Replays the document to an air that fails at some calls. None where memory is refused.
-fn played(alloc: Global, fails: List<u64>) -> Option<Played> {
+fn played(alloc: Global, fails: List<u64>) -> Option<Outcome> {
     let Ok(doc) = read(alloc, DOCUMENT.as_bytes()) else {
         return None;
     };
@@ -35,7 +38,7 @@ fn played(alloc: Global, fails: List<u64>) -> Option<Played> {
     let mut air = MemoryAir::new(alloc, fails);
     let result = replay(alloc, &doc, &mut ru, &mut air);
     let clock = ru.clock();
-    Some(Played { result, clock, air })
+    Some(Outcome { result, clock, air })
 }
 
 fn is_arrival(event: Option<&Event>, time: Ticks, bytes: usize) -> bool {
@@ -54,11 +57,13 @@ fn is_cell(event: Option<&Event>, time: Ticks) -> bool {
 
 fn is_count(event: Option<&Event>, of: Counter, times: u64) -> bool {
     match event {
-        Some(Event::Count {
-            side,
-            counter,
-            value,
-        }) => *counter == of && *value == times,
+        Some(
+            Event::Count {
+                side,
+                counter,
+                value,
+            },
+        ) => *counter == of && *value == times,
         _ => false,
     }
 }

@@ -14,7 +14,7 @@ loop-k-preserved c =
     elim c.match-get.branch [
       | in-Some+in_ok-push w ↦
           ap (λ v. v.items) w.times-is ∙ times_step is c.loop-k.k w.in-Some.injection.now w.tick_of.result c.loop-k.times.items w.push.new.self.items
-              (sym w.in-Some.ensures) w.tick_of.ensures c.loop-k.invariant (search rules)
+          (sym w.in-Some.ensures) w.tick_of.ensures c.loop-k.invariant (search rules)
       | in_default w ↦ absurd (not_past is c.loop-k.k inside (sym w.in_default.ensures))
     ]
 

@@ -1,4 +1,4 @@
-use Rattle.std.proofs.Common.{◌≡◌, sym, ap, subst, ◌∙◌}
+use Rattle.std.proofs.Common.{sym, ap, subst, ◌∙◌}
 use Rattle.ru_buffers.specs.Calls.{earlier_time}
 use Rattle.replay_loop.specs.Turns.{IsNext, within_end}
 use Rattle.replay_loop.proofs.NextLemmas.{is_next}

@@ -1,4 +1,4 @@
-use Rattle.std.proofs.Common.{◌≡◌, ℤ, pos, ◌+ℤ◌, List, sym, subst, arith}
+use Rattle.std.proofs.Common.{ℤ, pos, ◌+ℤ◌, List, sym, subst, arith}
 use Rattle.std.proofs.lemmas.Result.{err_from_is_err_and}
 use Rattle.air_source.specs.declared.events.Event.{Event}
 use Rattle.replay_events.specs.Moments.{end_of_time}

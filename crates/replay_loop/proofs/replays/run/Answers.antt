@@ -1,4 +1,4 @@
-use Rattle.std.proofs.Common.{◌≡◌, ℤ, ◌≤ℤ◌, sym, subst}
+use Rattle.std.proofs.Common.{ℤ, ◌≤ℤ◌, sym, subst}
 use Rattle.std.proofs.lemmas.Result.{err_from_is_err_and, on_ok_weaker, on_err_weaker}
 use Rattle.fault_counters.specs.Counts.{count_of}
 use Rattle.fault_counters.specs.Names.{all_counters}
