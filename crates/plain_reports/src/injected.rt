@@ -1,10 +1,10 @@
-// A replay of injected frames: the report of a document, written.
+// The plain program's report of a document, written.
 ghost use Rattle.std.specs.Prelude.{◌≡◌, ◌≤◌, OnOk};
 ghost use Rattle.std.specs.Io.KnownBytes.{append_known};
 ghost use Rattle.fh_base.specs.Told.{WritesFront};
 ghost use Rattle.fh_document.specs.Proper.{IsDocument};
-ghost use Rattle.fronthaul_replay.specs.Replay.{HasWriteCause};
-ghost use Rattle.fronthaul_replay.specs.Reports.{injected_report};
+ghost use Rattle.plain_reports.specs.Replay.{HasWriteCause};
+ghost use Rattle.plain_reports.specs.Reports.{injected_report};
 
 use crate::reports::report_of;
 use fh_base::{NoMemory, Sink, SinkFault, write_all_to};
@@ -20,7 +20,8 @@ pub enum InjectedFault {
     NoMemory,
 }
 
-/// Writes the report of a document: each cell that radiates, the counters of the radio unit that are not at 0, and `end`.
+/// Writes the plain program's report of a document: each cell that radiates, the counters of the radio unit that are not at 0, and
+/// `end`.
 ///
 /// At Ok exactly the report was appended to what `out` holds; whatever the answer, a front part of it was.
 ///

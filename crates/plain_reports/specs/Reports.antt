@@ -13,7 +13,7 @@ use Rattle.unit_model.specs.Meetings.{Arrival}
 use Rattle.unit_model.specs.Plain.{arrivals_of}
 use Rattle.unit_model.specs.Reports.{arrivals_counted, ru_reported}
 use Rattle.window_config.specs.declared.config.Config.{Config}
-use Rattle.fronthaul_replay.specs.Injected.{frames_of}
+use Rattle.plain_reports.specs.Injected.{frames_of}
 
 -- 1,001 s in ticks: frames are injected in the first 1,000 s, and the symbols that they command start milliseconds later
 abbrev pub end_of_time : ℤ
