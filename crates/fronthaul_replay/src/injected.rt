@@ -1,0 +1,72 @@
+// A replay of injected frames: the report of a document, written.
+ghost use Rattle.std.specs.Prelude.{◌≡◌, ◌≤◌, ◌++◌, OnOk};
+ghost use Rattle.std.specs.Io.KnownBytes.{append_known};
+ghost use Rattle.fh_base.specs.Told.{WritesFront};
+ghost use Rattle.fh_document.specs.Proper.{IsDocument};
+ghost use Rattle.text_air.specs.Airs.{sink_name, sink_of, owed_of};
+ghost use Rattle.text_air.specs.Text.{end_text};
+ghost use Rattle.fronthaul_replay.specs.Replay.{HasWriteCause};
+ghost use Rattle.fronthaul_replay.specs.Reports.{injected_report};
+
+use air_source::AirFault;
+use fh_base::{NoMemory, Sink};
+use fh_document::Document;
+use replay_loop::{ReplayFault, replay};
+use ru_buffers::Ru;
+use std::alloc::Global;
+use text_air::TextAir;
+
+/// Why a replay did not write its whole report.
+#[derive(Clone, Copy, Debug, PartialEq, Eq)]
+pub enum InjectedFault {
+    /// The sink failed. A front part of the report was written.
+    WriteFault,
+    /// Memory was refused. A front part of the report was written.
+    NoMemory,
+}
+
+/// Writes the report of a document: each cell that radiates, the counters of the radio unit that are not at 0, and `end`.
+///
+/// At Ok exactly the report was appended to what `out` holds; whatever the answer, a front part of it was.
+///
+/// # Errors
+///
+/// [`InjectedFault::WriteFault`] where writing failed, only where the sink's count of faults rose. [`InjectedFault::NoMemory`] where
+/// memory runs out, in the sink too.
+pub fn replay_injected<K: Sink>(
+    alloc: Global,
+    document: &Document,
+    out: &mut K,
+) -> Result<(), InjectedFault>
+    requires { IsDocument document.now }
+    ensures front { WritesFront (K.written out.old) (K.written out.new) (injected_report document.now) }
+    ensures done { OnOk result (K.written out.new ≡ append_known (K.written out.old) (injected_report document.now)) }
+    ensures cause { HasWriteCause (K.faults out.old) (K.faults out.new) result }
+    ensures later { K.faults out.old ≤ K.faults out.new }
+{
+    let mut ru = match Ru::make(alloc, &document.config) {
+        Ok(ru) => ru,
+        Err(NoMemory) => return Err(InjectedFault::NoMemory),
+    };
+    let mut air = TextAir::new(out);
+    match replay(alloc, document, &mut ru, &mut air) {
+        Ok(()) => finish(&mut air),
+        Err(ReplayFault::AirFailed) => Err(InjectedFault::WriteFault),
+        Err(ReplayFault::NoMemory) => Err(InjectedFault::NoMemory),
+    }
+}
+
+/// Writes what an air owes, and the last line.
+fn finish<K: Sink>(air: &mut TextAir<'_, K>) -> Result<(), InjectedFault>
+    ensures reference { sink_name air.new ≡ sink_name air.old }
+    ensures all { OnOk result (K.written (sink_of air.new) ≡ append_known (K.written (sink_of air.old)) (owed_of air.old ++ end_text)) }
+    ensures front { WritesFront (K.written (sink_of air.old)) (K.written (sink_of air.new)) (owed_of air.old ++ end_text) }
+    ensures cause { HasWriteCause (K.faults (sink_of air.old)) (K.faults (sink_of air.new)) result }
+    ensures later { K.faults (sink_of air.old) ≤ K.faults (sink_of air.new) }
+{
+    match air.finish() {
+        Ok(()) => Ok(()),
+        Err(AirFault::Failed) => Err(InjectedFault::WriteFault),
+        Err(AirFault::NoMemory) => Err(InjectedFault::NoMemory),
+    }
+}
