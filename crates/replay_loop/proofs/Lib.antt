@@ -1,0 +1,10 @@
+pub mod HeardLemmas
+pub mod DocumentLemmas
+pub mod TurnLemmas
+pub mod StopLemmas
+pub mod NextLemmas
+pub mod MomentLemmas
+pub mod LandLemmas
+pub mod CountLemmas
+pub mod ListLemmas
+pub mod GiveLemmas

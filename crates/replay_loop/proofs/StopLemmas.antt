@@ -1,0 +1,155 @@
+-- Where an air stopped, and what the unit stands for then.
+use Rattle.std.proofs.Common.{◌≡◌, ℤ, pos, ◌+ℤ◌, ◌≤ℤ◌, List, [], ◌∷◌, ◌++◌, refl, sym, ap, ap₂, ◌∙◌, append_assoc, arith}
+use Rattle.std.specs.Prelude.{map}
+use Rattle.std.proofs.lemmas.Int.{ints}
+use Rattle.std.proofs.lemmas.List.{map-append}
+use Rattle.air_source.specs.Stops.{StopsIn}
+use Rattle.air_source.specs.declared.events.AirCell.{AirCell}
+use Rattle.air_source.specs.declared.events.Event.{Event}
+use Rattle.air_source.specs.declared.events.Event.TheVariants.{Cell}
+use Rattle.fh_document.specs.Proper.{IsDocument}
+use Rattle.fh_document.specs.declared.document.Document.{Document}
+use Rattle.replay_events.specs.Events.{arrival_event, cells_at, events, events_at, events_between, count_events}
+use Rattle.replay_events.specs.Moments.{end_of_time, landing_at}
+use Rattle.replay_events.proofs.EventLemmas.{events_go_on}
+use Rattle.replay_events.proofs.TickLemmas.{next_most, same_most, ticks_append}
+use Rattle.ru_buffers.specs.Calls.{StandsFor, StopsAtDue}
+use Rattle.ru_buffers.specs.Reporting.{due_of}
+use Rattle.ru_buffers.specs.declared.unit.Ru.{Ru}
+use Rattle.unit_model.specs.Meetings.{Arrival}
+use Rattle.unit_model.specs.Radiated.{first_clock}
+use Rattle.unit_model.specs.Standing.{History, at_clock, heard}
+use Rattle.window_config.specs.declared.config.Config.{Config}
+use Rattle.replay_loop.specs.Delivering.{StopsLanding}
+use Rattle.replay_loop.specs.Replaying.{IsInStep, StopsInStep, arrivals_heard, cells_heard, events_of, landings_of}
+use Rattle.replay_loop.specs.Turns.{AtTurn, IsTurn, StopsBehind, events_before}
+use Rattle.replay_loop.proofs.HeardLemmas.{arrivals-append, arrivals-cells, cells-append, cells-cells}
+use Rattle.replay_loop.proofs.TurnLemmas.{arrivals_then, cells_then, due_here, events_are}
+
+-- in the cells of a tick
+cells_about : (before now : List AirCell) (c : AirCell) (rest : List AirCell) (more : List Event) → before ≡ now ++ c ∷ rest
+    → map Cell before ++ more ≡ map Cell now ++ Cell c ∷ (map Cell rest ++ more)
+cells_about before now c rest more is =
+    ap (λ (cs : List AirCell). map Cell cs ++ more) is ∙ ap (λ (es : List Event). es ++ more) (map-append Cell now (c ∷ rest))
+    ∙ append_assoc (map Cell now) (Cell c ∷ map Cell rest) more
+
+pub stops_due : {A : Type 0} (grew : A → List Event → A → Type 0) (stopped : A → Event → A → Type 0) (d : Document) (tick : ℤ) (h : History) (u : Ru) (a b : A)
+    → IsDocument d → IsTurn d tick h → tick ≤ℤ end_of_time → StopsAtDue grew stopped d.config h tick u a b
+    → StopsBehind grew stopped d (events_before d tick) (events_at d.config (landings_of d) tick) u a b
+stops_due grew stopped d tick h u a b doc turn ended s =
+    let c = d.config in
+    let ls = landings_of d in
+    let earlier = events_before d tick in
+    record {
+      told = map Cell s.told;
+      event = Cell s.cell;
+      rest = map Cell s.rest ++ map arrival_event (landing_at ls tick);
+      is = events_are c ls tick
+          ∙ cells_about (cells_at c ls tick) s.told s.cell s.rest (map arrival_event (landing_at ls tick)) (sym (due_here d tick h doc turn ended) ∙ s.is);
+      middle = s.middle;
+      heard = s.heard_is;
+      stop = s.stop;
+      step = record {
+        history = heard h s.told;
+        stands = s.stands;
+        arrivals = turn.came ∙ sym (arrivals-append [] earlier (map Cell s.told) ∙ arrivals-cells (arrivals_heard [] earlier) s.told);
+        reported = ap₂ (λ (rs ts : List AirCell). rs ++ ts) turn.told (sym (cells-cells s.told)) ∙ sym (cells-append earlier (map Cell s.told));
+      };
+    }
+
+-- in an arrival
+arrivals_about : (front : List Event) (before now : List Arrival) (x : Arrival) (rest : List Arrival) → before ≡ now ++ x ∷ rest
+    → front ++ map arrival_event before ≡ (front ++ map arrival_event now) ++ arrival_event x ∷ map arrival_event rest
+arrivals_about front before now x rest is =
+    ap (λ (xs : List Arrival). front ++ map arrival_event xs) is ∙ ap (λ (es : List Event). front ++ es) (map-append arrival_event now (x ∷ rest))
+    ∙ sym (append_assoc front (map arrival_event now) (arrival_event x ∷ map arrival_event rest))
+
+pub stops_landing : {A : Type 0} (grew : A → List Event → A → Type 0) (stopped : A → Event → A → Type 0)
+    (more : (a b c : A) (first second : List Event) → grew a first b → grew b second c → grew a (first ++ second) c)
+    (d : Document) (tick : ℤ) (h : History) (xs : List Arrival) (u : Ru) (a b e : A)
+    → IsDocument d → IsTurn d tick h → tick ≤ℤ end_of_time → xs ≡ landing_at (landings_of d) tick
+    → grew a (map Cell (due_of d.config h tick)) b
+    → StopsLanding grew stopped d.config (at_clock (heard h (due_of d.config h tick)) tick) xs u b e
+    → StopsBehind grew stopped d (events_before d tick) (events_at d.config (landings_of d) tick) u a e
+stops_landing grew stopped more d tick h xs u a b e doc turn ended lands first s =
+    let c = d.config in
+    let ls = landings_of d in
+    let cells = due_of c h tick in
+    let front = map Cell cells in
+    record {
+      told = front ++ map arrival_event s.told;
+      event = arrival_event s.one;
+      rest = map arrival_event s.rest;
+      is = events_are c ls tick
+          ∙ ap (λ (cs : List AirCell). map Cell cs ++ map arrival_event (landing_at ls tick)) (sym (due_here d tick h doc turn ended))
+          ∙ arrivals_about front (landing_at ls tick) s.told s.one s.rest (sym lands ∙ s.is);
+      middle = s.middle;
+      heard = more a b s.middle front (map arrival_event s.told) first s.heard;
+      stop = s.stop;
+      step = record {
+        history = _;
+        stands = s.stands;
+        arrivals = arrivals_then d tick h cells s.told turn;
+        reported = cells_then d tick h cells s.told turn;
+      };
+    }
+
+-- ---- from a moment to the whole
+
+ticks_after : (d : Document) (tick : ℤ) → first_clock ≤ℤ tick → tick ≤ℤ end_of_time
+    → events_before d (end_of_time +ℤ pos 1) ≡ (events_before d tick ++ events_at d.config (landings_of d) tick)
+    ++ events_between d.config (landings_of d) (tick +ℤ pos 1) (end_of_time +ℤ pos 1)
+ticks_after d tick begun ended =
+    let c = d.config in
+    let ls = landings_of d in
+    ticks_append (events_at c ls) first_clock (tick +ℤ pos 1) (end_of_time +ℤ pos 1) (next_most first_clock tick begun) (next_less tick end_of_time ended)
+    ∙ ap (λ (es : List Event). es ++ events_between c ls (tick +ℤ pos 1) (end_of_time +ℤ pos 1)) (events_go_on c ls tick begun)
+  where
+    next_less : (a b : ℤ) → a ≤ℤ b → (a +ℤ pos 1) ≤ℤ (b +ℤ pos 1)
+    next_less a b h = omega (arith, ints)
+
+events_about : (whole front these told : List Event) (e : Event) (rest more : List Event) → whole ≡ (front ++ these) ++ more → these ≡ told ++ e ∷ rest
+    → whole ≡ (front ++ told) ++ e ∷ (rest ++ more)
+events_about whole front these told e rest more is parts =
+    is ∙ ap (λ (es : List Event). (front ++ es) ++ more) parts
+    ∙ ap (λ (es : List Event). es ++ more) (sym (append_assoc front told (e ∷ rest)))
+    ∙ append_assoc (front ++ told) (e ∷ rest) more
+
+pub stops_whole : {A : Type 0} (grew : A → List Event → A → Type 0) (stopped : A → Event → A → Type 0)
+    (more : (a b c : A) (first second : List Event) → grew a first b → grew b second c → grew a (first ++ second) c)
+    (d : Document) (tick : ℤ) (u : Ru) (a b e : A) → first_clock ≤ℤ tick → tick ≤ℤ end_of_time → grew a (events_before d tick) b
+    → StopsBehind grew stopped d (events_before d tick) (events_at d.config (landings_of d) tick) u b e
+    → StopsBehind grew stopped d [] (events_before d (end_of_time +ℤ pos 1)) u a e
+stops_whole grew stopped more d tick u a b e begun ended first s =
+    let earlier = events_before d tick in
+    let these = events_at d.config (landings_of d) tick in
+    let later = events_between d.config (landings_of d) (tick +ℤ pos 1) (end_of_time +ℤ pos 1) in
+    record {
+      told = earlier ++ s.told;
+      event = s.event;
+      rest = s.rest ++ later;
+      is = events_about (events_before d (end_of_time +ℤ pos 1)) earlier these s.told s.event s.rest later (ticks_after d tick begun ended) s.is;
+      middle = s.middle;
+      heard = more a b s.middle earlier s.told first s.heard;
+      stop = s.stop;
+      step = s.step;
+    }
+
+pub all_events : (d : Document) → events_of d ≡ events_before d (end_of_time +ℤ pos 1) ++ count_events d.config (landings_of d)
+unfolding events
+all_events d = refl
+
+pub stops_in_step : {A : Type 0} (grew : A → List Event → A → Type 0) (stopped : A → Event → A → Type 0) (d : Document) (u : Ru) (a e : A)
+    → StopsBehind grew stopped d [] (events_before d (end_of_time +ℤ pos 1)) u a e → StopsInStep grew stopped d u a e
+stops_in_step grew stopped d u a e s =
+    let counts = count_events d.config (landings_of d) in
+    record {
+      told = s.told;
+      event = s.event;
+      rest = s.rest ++ counts;
+      is = all_events d ∙ ap (λ (es : List Event). es ++ counts) s.is ∙ append_assoc s.told (s.event ∷ s.rest) counts;
+      middle = s.middle;
+      heard = s.heard;
+      stop = s.stop;
+      step = s.step;
+    }

@@ -1,0 +1,86 @@
+use Rattle.std.proofs.Common.{◌≡◌, ◌≤ℤ◌, List, [], ◌∷◌, ◌++◌, map, sym, subst, ◌∙◌}
+use Rattle.std.proofs.lemmas.Result.{err_from_is_err_and}
+use Rattle.air_source.specs.declared.events.Event.{Event}
+use Rattle.air_source.specs.declared.events.Event.TheVariants.{Cell}
+use Rattle.fh_time.specs.declared.values.Ticks.{Ticks}
+use Rattle.replay_events.specs.Events.{arrival_event}
+use Rattle.replay_events.proofs.TickLemmas.{same_most}
+use Rattle.ru_buffers.specs.Reporting.{due_of}
+use Rattle.replay_loop.specs.Delivering.{landed}
+use Rattle.replay_loop.specs.Turns.{left_at}
+use Rattle.replay_loop.proofs.MomentLemmas.{heard_then, is_ready, reported_then, turn_then, waits_then}
+use Rattle.replay_loop.proofs.StopLemmas.{stops_due, stops_landing}
+use Rattle.replay_loop.proofs.moments.moment.Goals as goal
+
+pub advance-requires-clause-given : goal.advance-requires-clause-given
+advance-requires-clause-given g c = is_ready c.args.doc.now c.args.tick.0 c.args.ru.now c.requires.turn
+
+pub returns-in_err-advance-clause-stop : goal.returns-in_err-advance-clause-stop
+returns-in_err-advance-clause-stop g c =
+    let p = err_from_is_err_and c.from_residual.result c.from_residual.ensures.1 in
+    let d = c.args.doc.now in
+    let a = c.requires.turn in
+    rw p.1 (stops_due g.A.Air.grew g.A.Air.stopped d c.args.tick.0 a.history c.advance.new.self c.args.out.now c.advance.new.air c.requires.document a.turn c.requires.ended
+    (c.in_err-advance.ensures.stop d.config a.history a.stands))
+
+pub land-requires-clause-unit : goal.land-requires-clause-unit
+land-requires-clause-unit g c =
+    let d = c.args.doc.now in
+    let a = c.requires.turn in
+    record {
+      config = d.config;
+      history = reported_then d c.args.tick.0 a.history;
+      stands = c.in_ok-advance.ensures.stands d.config a.history a.stands;
+    }
+
+pub returns-in_err-land-clause-stop : goal.returns-in_err-land-clause-stop
+returns-in_err-land-clause-stop g c =
+    let p = err_from_is_err_and c.from_residual-in_err-land.result c.from_residual-in_err-land.ensures.1 in
+    let d = c.args.doc.now in
+    let tick = c.args.tick.0 in
+    let a = c.requires.turn in
+    let stands = c.in_ok-advance.ensures.stands d.config a.history a.stands in
+    rw p.1 (stops_landing g.A.Air.grew g.A.Air.stopped g.met.A.Air.grew_more d tick a.history (left_at d tick c.args.queue.now) c.land.new.ru
+    c.args.out.now c.advance.new.air c.land.new.out c.requires.document a.turn c.requires.ended (c.requires.waits.left tick (same_most tick))
+    (c.in_ok-advance.ensures.heard d.config a.history a.stands)
+    (c.in_err-land.ensures.stop d.config (reported_then d tick a.history) stands))
+
+pub drain-requires : goal.drain-requires
+drain-requires g c =
+    let d = c.args.doc.now in
+    let tick = c.args.tick.0 in
+    let a = c.requires.turn in
+    let stands = c.in_ok-advance.ensures.stands d.config a.history a.stands in
+    record {
+      unit = record {
+        config = d.config;
+        history = landed (reported_then d tick a.history) (left_at d tick c.args.queue.now);
+        stands = c.in_ok-land.ensures.stands d.config (reported_then d tick a.history) stands;
+      };
+    }
+
+pub returns-clause-heard : goal.returns-clause-heard
+returns-clause-heard g c =
+    let d = c.args.doc.now in
+    let tick = c.args.tick.0 in
+    let a = c.requires.turn in
+    let queue = c.args.queue.now in
+    subst (λ (es : List Event). g.A.Air.grew c.args.out.now es c.land.new.out) (heard_then d tick c.args.ru.now queue c.requires.document a c.requires.ended c.requires.waits)
+    (g.met.A.Air.grew_more c.args.out.now c.advance.new.air c.land.new.out (map Cell (due_of d.config a.history tick)) (map arrival_event (left_at d tick queue))
+    (c.in_ok-advance.ensures.heard d.config a.history a.stands) c.in_ok-land.ensures.heard)
+
+pub returns-clause-turn : goal.returns-clause-turn
+returns-clause-turn g c =
+    let d = c.args.doc.now in
+    let tick = c.args.tick.0 in
+    let a = c.requires.turn in
+    let queue = c.args.queue.now in
+    let advanced = c.in_ok-advance.ensures.stands d.config a.history a.stands in
+    let arrived = c.in_ok-land.ensures.stands d.config (reported_then d tick a.history) advanced in
+    let clock : c.drain.new.ru.clock ≡ c.args.tick = c.drain.ensures.clock ∙ c.land.ensures.clock ∙ c.in_ok-advance.ensures.clock in
+    turn_then d tick c.args.ru.now c.drain.new.ru queue c.requires.document a c.requires.ended c.requires.waits
+    (c.drain.ensures.drained d.config (landed (reported_then d tick a.history) (left_at d tick queue)) arrived)
+    (subst (λ (t : Ticks). t.0 ≤ℤ tick) (sym clock) (same_most tick))
+
+pub returns-clause-waits : goal.returns-clause-waits
+returns-clause-waits g c = waits_then c.args.doc.now c.args.tick.0 c.args.queue.now c.land.new.queue c.requires.waits c.in_ok-land.ensures.passed

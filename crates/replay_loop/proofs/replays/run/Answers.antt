@@ -1,0 +1,52 @@
+use Rattle.std.proofs.Common.{◌≡◌, ℤ, ◌≤ℤ◌, sym, subst}
+use Rattle.std.proofs.lemmas.Result.{err_from_is_err_and, on_ok_weaker, on_err_weaker}
+use Rattle.fault_counters.specs.Counts.{count_of}
+use Rattle.fault_counters.specs.Names.{all_counters}
+use Rattle.replay_events.proofs.TickLemmas.{same_most}
+use Rattle.unit_model.specs.Radiated.{first_clock}
+use Rattle.unit_model.specs.Standing.{nothing_yet}
+use Rattle.replay_loop.proofs.CountLemmas.{counts_are, counts_by, heard_all, over, stops_count}
+use Rattle.replay_loop.proofs.StopLemmas.{stops_in_step}
+use Rattle.replay_loop.proofs.TurnLemmas.{start}
+use Rattle.replay_loop.proofs.replays.run.Goals as goal
+
+pub pass-requires-clause-turn : goal.pass-requires-clause-turn
+pass-requires-clause-turn g c =
+    let stands = c.requires.unit in
+    record {
+      history = nothing_yet;
+      stands = stands;
+      turn = start c.args.doc.now c.args.ru.now stands;
+      clock = subst (λ (t : ℤ). t ≤ℤ first_clock) (sym stands.kept.clock_is) (same_most first_clock);
+    }
+
+pub returns-in_err-pass-clause-stop : goal.returns-in_err-pass-clause-stop
+returns-in_err-pass-clause-stop g c =
+    let p = err_from_is_err_and c.from_residual.result c.from_residual.ensures.1 in
+    rw p.1 (stops_in_step g.A.Air.grew g.A.Air.stopped c.args.doc.now c.pass.new.ru c.args.out.now c.pass.new.out c.in_err-pass.ensures.stop)
+
+pub returns-clause-heard : goal.returns-clause-heard
+returns-clause-heard g c =
+    let d = c.args.doc.now in
+    let done = over d c.pass.new.ru c.in_ok-pass.ensures.over in
+    let counts = c.counters.result.now in
+    let are = counts_are d c.pass.new.ru counts done (c.counters.ensures d.config done.history done.stands) in
+    on_ok_weaker c.tell_counts.result (λ last.
+    heard_all g.A.Air.grew g.met.A.Air.grew_more d (counts_by (count_of counts) all_counters) c.args.out.now c.pass.new.out c.tell_counts.new.out are c.in_ok-pass.ensures.heard last)
+    c.tell_counts.ensures.heard
+
+pub returns-clause-done : goal.returns-clause-done
+returns-clause-done g c = on_ok_weaker c.tell_counts.result (λ last. over c.args.doc.now c.pass.new.ru c.in_ok-pass.ensures.over) c.tell_counts.ensures.heard
+
+pub returns-clause-stop : goal.returns-clause-stop
+returns-clause-stop g c =
+    let d = c.args.doc.now in
+    let done = over d c.pass.new.ru c.in_ok-pass.ensures.over in
+    let counts = c.counters.result.now in
+    let are = counts_are d c.pass.new.ru counts done (c.counters.ensures d.config done.history done.stands) in
+    on_err_weaker c.tell_counts.result (λ last.
+    stops_count g.A.Air.grew g.A.Air.stopped g.met.A.Air.grew_more d c.pass.new.ru (count_of counts) c.args.out.now c.pass.new.out c.tell_counts.new.out c.in_ok-pass.ensures.over are
+    c.in_ok-pass.ensures.heard last) c.tell_counts.ensures.stop
+
+pub returns-clause-same : goal.returns-clause-same
+returns-clause-same g c = g.met.A.Air.same_more c.args.out.now c.pass.new.out c.tell_counts.new.out c.pass.ensures.same c.tell_counts.ensures.same

@@ -1,0 +1,48 @@
+-- What one tick's frames, and its messages, make of a radio unit (this project's profile).
+use Rattle.std.specs.Prelude.{◌≡◌, ℕ, ℤ, pos, ◌+ℤ◌, ◌<ℤ◌, List, [], ◌∷◌, ◌++◌, map}
+use Rattle.std.specs.List.{AllByRecursion}
+use Rattle.air_source.specs.declared.events.Event.{Event}
+use Rattle.fh_document.specs.declared.document.Document.{Document}
+use Rattle.landing_queue.specs.declared.landings.Landing.{Landing}
+use Rattle.landing_queue.specs.Queues.{at_time}
+use Rattle.replay_events.specs.Events.{arrival_event}
+use Rattle.ru_buffers.specs.Calls.{StandsFor, given_of}
+use Rattle.ru_buffers.specs.declared.unit.Ru.{Ru}
+use Rattle.unit_model.specs.Lists.{onto}
+use Rattle.unit_model.specs.Meetings.{Arrival}
+use Rattle.unit_model.specs.Standing.{History}
+use Rattle.unit_model.specs.declared.jobs.UplinkJob.{UplinkJob}
+use Rattle.window_config.specs.declared.config.Config.{Config}
+use Rattle.replay_loop.specs.Turns.{AreFrom, AreListed}
+
+-- a history once these landed too
+abbrev pub landed : History → List Arrival → History
+landed h landings = record { clock = h.clock; arrivals = onto h.arrivals landings; reported = h.reported; given = h.given }
+
+-- the frames of a tick have left the queue
+pub record HasPassed (tick : ℤ) (old new : List Landing) : Type 0 where
+  pub from : AreFrom (tick +ℤ pos 1) new
+  pub later : (t : ℤ) → tick <ℤ t → at_time t new ≡ at_time t old
+  pub listed : (d : Document) → AreListed d old → AreListed d new
+
+-- an air stopped in an arrival, and the unit stands for those before it
+pub record StopsLanding {A : Type 0} (grew : A → List Event → A → Type 0) (stopped : A → Event → A → Type 0) (c : Config) (h : History) (arrivals : List Arrival)
+    (u : Ru) (before after : A) : Type 0 where
+  pub told : List Arrival
+  pub one : Arrival
+  pub rest : List Arrival
+  pub is : arrivals ≡ told ++ one ∷ rest
+  pub stands : StandsFor c u (landed h told)
+  pub middle : A
+  pub heard : grew before (map arrival_event told) middle
+  pub stop : stopped middle (arrival_event one) after
+
+-- a history of which these messages were given
+abbrev pub giving : History → List UplinkJob → History
+giving h given = record { clock = h.clock; arrivals = h.arrivals; reported = h.reported; given = given }
+
+-- every message up to the clock is given
+pub record IsDrained (c : Config) (h : History) (u : Ru) : Type 0 where
+  pub given : List UplinkJob
+  pub stands : StandsFor c u (giving h given)
+  pub none : given_of c (giving h given) h.clock ≡ []

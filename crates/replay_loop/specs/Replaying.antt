@@ -1,0 +1,74 @@
+-- The replay of a document: its events, and how a radio unit stands to those that were heard (this project's profile).
+use Rattle.std.specs.Prelude.{◌≡◌, ℤ, pos, ◌*ℤ◌, ◌≤ℤ◌, List, [], ◌∷◌, ◌++◌, map}
+use Rattle.air_source.specs.declared.events.AirCell.{AirCell}
+use Rattle.air_source.specs.declared.events.Event.{Event}
+use Rattle.air_source.specs.declared.events.Event.TheVariants.{Cell, Delay, Arrival, Count}
+use Rattle.fh_document.specs.declared.document.Document.{Document}
+use Rattle.fh_document.specs.declared.document.Injection.{Injection}
+use Rattle.unit_model.specs.Meetings.{Arrival as Landing}
+use Rattle.unit_model.specs.Reports.{ru_reported}
+use Rattle.unit_model.specs.Standing.{History}
+use Rattle.ru_buffers.specs.Calls.{IsQuietTo, StandsFor}
+use Rattle.ru_buffers.specs.declared.unit.Ru.{Ru}
+use Rattle.replay_events.specs.Events.{events}
+use Rattle.replay_events.specs.Moments.{all_arrivals, end_of_time}
+
+-- an injected frame, with its time in ticks
+abbrev pub landing_of : Injection → Landing
+landing_of i = record { at = i.at *ℤ pos 1536; frame = i.frame }
+
+-- the frames that land at the radio unit, in the order of the document
+abbrev pub landings_of : Document → List Landing
+landings_of d = map landing_of d.injections
+
+-- all events of a document, in order
+abbrev pub events_of : Document → List Event
+events_of d = events d.config (landings_of d)
+
+-- ---- what was heard
+
+-- the arrivals among these events, behind earlier ones, the newest first
+unfoldable pub arrivals_heard : List Landing → List Event → List Landing
+arrivals_heard earlier [] = earlier
+arrivals_heard earlier (Arrival side at frame ∷ rest) = arrivals_heard ((let a : Landing = record { at = at.0; frame = frame } in a) ∷ earlier) rest
+arrivals_heard earlier (Cell c ∷ rest) = arrivals_heard earlier rest
+arrivals_heard earlier (Delay at side id value ∷ rest) = arrivals_heard earlier rest
+arrivals_heard earlier (Count side counter value ∷ rest) = arrivals_heard earlier rest
+
+-- the cells among them, in order
+unfoldable pub cells_heard : List Event → List AirCell
+cells_heard [] = []
+cells_heard (Cell c ∷ rest) = c ∷ cells_heard rest
+cells_heard (Arrival side at frame ∷ rest) = cells_heard rest
+cells_heard (Delay at side id value ∷ rest) = cells_heard rest
+cells_heard (Count side counter value ∷ rest) = cells_heard rest
+
+-- the unit is in step with them: it stands for the arrivals that were heard, and has reported the cells that were
+pub record IsInStep (d : Document) (told : List Event) (u : Ru) : Type 0 where
+  pub history : History
+  pub stands : StandsFor d.config u history
+  pub arrivals : history.arrivals ≡ arrivals_heard [] told
+  pub reported : history.reported ≡ cells_heard told
+
+-- ---- at the end
+
+-- the unit stands for all that landed, with every cell up to the end of time reported and every message given
+pub record IsDone (d : Document) (u : Ru) : Type 0 where
+  pub history : History
+  pub stands : StandsFor d.config u history
+  pub arrivals : history.arrivals ≡ all_arrivals (landings_of d)
+  pub reported : history.reported ≡ ru_reported d.config (all_arrivals (landings_of d)) end_of_time
+  pub quiet : (to : ℤ) → to ≤ℤ end_of_time → IsQuietTo d.config history to
+
+-- ---- after a fault of the air
+
+-- the air stopped in an event, and the unit is in step with those before it
+pub record StopsInStep {A : Type 0} (grew : A → List Event → A → Type 0) (stopped : A → Event → A → Type 0) (d : Document) (u : Ru) (before after : A) : Type 0 where
+  pub told : List Event
+  pub event : Event
+  pub rest : List Event
+  pub is : events_of d ≡ told ++ event ∷ rest
+  pub middle : A
+  pub heard : grew before told middle
+  pub stop : stopped middle event after
+  pub step : IsInStep d told u

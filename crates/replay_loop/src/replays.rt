@@ -1,0 +1,84 @@
+// The replay.
+ghost use Rattle.std.specs.Prelude.{◌≡◌, IsErrOf, OnErr, OnOk, ◌⊎◌};
+ghost use Rattle.air_source.specs.Causes.{HasAirCause};
+ghost use Rattle.air_source.specs.Stops.{GrewSome, StopsIn};
+ghost use Rattle.fh_base.specs.Causes.{Rose};
+ghost use Rattle.fh_document.specs.Proper.{IsDocument};
+ghost use Rattle.unit_model.specs.Radiated.{first_clock};
+ghost use Rattle.unit_model.specs.Standing.{nothing_yet};
+ghost use Rattle.ru_buffers.specs.Calls.{StandsFor};
+ghost use Rattle.replay_loop.specs.Replaying.{IsDone, StopsInStep, events_of};
+ghost use Rattle.replay_loop.specs.Turns.{Waits};
+ghost use Rattle.replay_loop.specs.declared.replays.ReplayFault.TheVariants.{AirFailed, NoMemory as WantsMemory};
+
+use crate::counting::tell_counts;
+use crate::listing::queue_of;
+use crate::moments::pass;
+use air_source::{Air, AirFault};
+use fh_document::Document;
+use landing_queue::LandingQueue;
+use ru_buffers::Ru;
+use std::alloc::Global;
+
+/// Why a replay did not come to its end.
+#[derive(Clone, Copy, Debug, PartialEq, Eq)]
+pub enum ReplayFault {
+    /// The air failed. It heard the events before the one in which it stopped, and the unit is in step with them.
+    AirFailed,
+    /// Memory was refused. The air heard the first of the events.
+    NoMemory,
+}
+
+/// Replays a document's injected downlink frames: the air hears each frame that arrives (refused ones too), each cell that the radio
+/// unit reports, and at the end the counters that are not 0, in the order of events. At one time cells come before arrivals, and
+/// arrivals in the order of the document.
+///
+/// # Errors
+///
+/// [`ReplayFault::AirFailed`] where the air failed, only where its count of faults rose. [`ReplayFault::NoMemory`] where memory runs
+/// out, the air's too.
+pub fn replay<A: Air>(
+    alloc: Global,
+    doc: &Document,
+    ru: &mut Ru,
+    out: &mut A,
+) -> Result<(), ReplayFault>
+    requires document { IsDocument doc.now }
+    requires unit { StandsFor doc.now.config ru.old nothing_yet }
+    ensures heard { OnOk result (A.grew out.old (events_of doc.now) out.new) }
+    ensures done { OnOk result (IsDone doc.now ru.new) }
+    ensures stopped { IsErrOf result AirFailed → StopsInStep A.grew A.stopped doc.now ru.new out.old out.new }
+    ensures wants { IsErrOf result WantsMemory → GrewSome A.grew (events_of doc.now) out.old out.new ⊎ StopsIn A.grew A.stopped (events_of doc.now) out.old out.new }
+    ensures cause { IsErrOf result AirFailed → Rose (A.faults out.old) (A.faults out.new) }
+    ensures same { A.same out.old out.new }
+{
+    let mut queue = match queue_of(alloc, doc) {
+        Ok(queue) => queue,
+        Err(_) => return Err(ReplayFault::NoMemory),
+    };
+    match run(doc, ru, &mut queue, out) {
+        Ok(()) => Ok(()),
+        Err(AirFault::Failed) => Err(ReplayFault::AirFailed),
+        Err(AirFault::NoMemory) => Err(ReplayFault::NoMemory),
+    }
+}
+
+/// Lets all frames land, and tells the counters.
+fn run<A: Air>(
+    doc: &Document,
+    ru: &mut Ru,
+    queue: &mut LandingQueue,
+    out: &mut A,
+) -> Result<(), AirFault>
+    requires document { IsDocument doc.now }
+    requires unit { StandsFor doc.now.config ru.old nothing_yet }
+    requires waits { Waits doc.now first_clock queue.old }
+    ensures heard { OnOk result (A.grew out.old (events_of doc.now) out.new) }
+    ensures done { OnOk result (IsDone doc.now ru.new) }
+    ensures stop { OnErr result (StopsInStep A.grew A.stopped doc.now ru.new out.old out.new) }
+    ensures same { A.same out.old out.new }
+    ensures cause { HasAirCause (A.faults out.old) (A.faults out.new) result }
+{
+    pass(doc, ru, queue, out)?;
+    tell_counts(ru.counters(), out)
+}
