@@ -1,4 +1,4 @@
--- When a replay may answer a fault of writing.
+-- When a replay may answer a fault of writing (this project's profile).
 use Rattle.std.specs.Prelude.{ℕ, Result, IsErrOf}
 use Rattle.fh_base.specs.Causes.{Rose}
 use Rattle.fronthaul_replay.specs.declared.injected.InjectedFault.{InjectedFault}

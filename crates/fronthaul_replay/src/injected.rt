@@ -1,15 +1,20 @@
 // A replay of injected frames: the report of a document, written.
-ghost use Rattle.std.specs.Prelude.{◌≡◌, ◌≤◌, OnOk};
+ghost use Rattle.std.specs.Prelude.{◌≡◌, ◌≤◌, ◌++◌, OnOk};
 ghost use Rattle.std.specs.Io.KnownBytes.{append_known};
 ghost use Rattle.fh_base.specs.Told.{WritesFront};
 ghost use Rattle.fh_document.specs.Proper.{IsDocument};
+ghost use Rattle.text_air.specs.Airs.{sink_name, sink_of, owed_of};
+ghost use Rattle.text_air.specs.Text.{end_text};
 ghost use Rattle.fronthaul_replay.specs.Replay.{HasWriteCause};
 ghost use Rattle.fronthaul_replay.specs.Reports.{injected_report};
 
-use crate::reports::report_of;
-use fh_base::{NoMemory, Sink, SinkFault, write_all_to};
+use air_source::AirFault;
+use fh_base::{NoMemory, Sink};
 use fh_document::Document;
+use replay_loop::{ReplayFault, replay};
+use ru_buffers::Ru;
 use std::alloc::Global;
+use text_air::TextAir;
 
 /// Why a replay did not write its whole report.
 #[derive(Clone, Copy, Debug, PartialEq, Eq)]
@@ -39,22 +44,29 @@ pub fn replay_injected<K: Sink>(
     ensures cause { HasWriteCause (K.faults out.old) (K.faults out.new) result }
     ensures later { K.faults out.old ≤ K.faults out.new }
 {
-    match report_of(alloc, document) {
-        Ok(text) => put(text.as_slice(), out),
-        Err(NoMemory) => Err(InjectedFault::NoMemory),
+    let mut ru = match Ru::make(alloc, &document.config) {
+        Ok(ru) => ru,
+        Err(NoMemory) => return Err(InjectedFault::NoMemory),
+    };
+    let mut air = TextAir::new(out);
+    match replay(alloc, document, &mut ru, &mut air) {
+        Ok(()) => finish(&mut air),
+        Err(ReplayFault::AirFailed) => Err(InjectedFault::WriteFault),
+        Err(ReplayFault::NoMemory) => Err(InjectedFault::NoMemory),
     }
 }
 
-/// Writes a text.
-fn put<K: Sink>(text: &[u8], out: &mut K) -> Result<(), InjectedFault>
-    ensures front { WritesFront (K.written out.old) (K.written out.new) text.now }
-    ensures done { OnOk result (K.written out.new ≡ append_known (K.written out.old) text.now) }
-    ensures cause { HasWriteCause (K.faults out.old) (K.faults out.new) result }
-    ensures later { K.faults out.old ≤ K.faults out.new }
+/// Writes what an air owes, and the last line.
+fn finish<K: Sink>(air: &mut TextAir<'_, K>) -> Result<(), InjectedFault>
+    ensures reference { sink_name air.new ≡ sink_name air.old }
+    ensures all { OnOk result (K.written (sink_of air.new) ≡ append_known (K.written (sink_of air.old)) (owed_of air.old ++ end_text)) }
+    ensures front { WritesFront (K.written (sink_of air.old)) (K.written (sink_of air.new)) (owed_of air.old ++ end_text) }
+    ensures cause { HasWriteCause (K.faults (sink_of air.old)) (K.faults (sink_of air.new)) result }
+    ensures later { K.faults (sink_of air.old) ≤ K.faults (sink_of air.new) }
 {
-    match write_all_to(out, text) {
+    match air.finish() {
         Ok(()) => Ok(()),
-        Err(SinkFault::Failed) => Err(InjectedFault::WriteFault),
-        Err(SinkFault::NoMemory) => Err(InjectedFault::NoMemory),
+        Err(AirFault::Failed) => Err(InjectedFault::WriteFault),
+        Err(AirFault::NoMemory) => Err(InjectedFault::NoMemory),
     }
 }

@@ -1,5 +1,5 @@
 // Documents and their reports, all of them known from outside: by the standard's fields, and by hand.
-use crate::{InjectedFault, replay_injected, report_of};
+use crate::{InjectedFault, replay_injected};
 use fh_base::{List, MemorySink, PlainSink};
 use fh_document::read;
 use std::alloc::Global;
@@ -18,10 +18,9 @@ fn agree(alloc: Global, case: &Case) -> bool {
     let Ok(document) = read(alloc, case.document.as_bytes()) else {
         return false;
     };
-    let Ok(text) = report_of(alloc, &document) else {
-        return false;
-    };
-    text.as_slice() == case.report.as_bytes()
+    let mut out = PlainSink::new(alloc);
+    let answer = replay_injected(alloc, &document, &mut out);
+    answer == Ok(()) && out.bytes() == case.report.as_bytes()
 }
 
 #[test]
@@ -176,32 +175,60 @@ fn reports_2(rt: HostRuntime) {
     }
 }
 
-// One PRB is commanded, and its data does not come.
-const MISSING: &[u8] =
-    b"fronthaul 1\nendpoint 0000 ordinary 30 106 static none\ninject dl 9600000 1002001400000080900100000101000000100001fff10000\n";
+// A command and its data, and what the radio unit makes of them.
+const ORDINARY: &[u8] =
+    b"fronthaul 1\nendpoint 0000 ordinary 30 106 static none\ninject dl 9600000 1002001400000080900100000101000000100001fff10000\ninject dl 9700000 1000003c000000809001000000100001000000000001ffff0002fffe0003fffd0004fffc0005fffb0006fffa0007fff90008fff80009fff7000afff6000bfff5\n";
+
+const REPORT: &[u8] =
+    b"dl 15360000000 0000 1 0 0 0 0 1 fff 0,0 1,-1 2,-2 3,-3 4,-4 5,-5 6,-6 7,-7 8,-8 9,-9 10,-10 11,-11\ncount ru frames 2\ncount ru messages 2\ncount ru c_accepted 1\ncount ru f_whole 1\ncount ru u_taken 1\ncount ru cells 1\nend\n";
 
 #[test]
 fn a_report_is_written(rt: HostRuntime) -> Result<(), Fail> {
     let alloc = rt.alloc();
-    let document = read(alloc, MISSING)?;
+    let document = read(alloc, ORDINARY)?;
     let mut out = PlainSink::new(alloc);
     assert_eq!(rt; replay_injected(alloc, &document, &mut out), Ok(()));
-    assert_eq!(rt;
-        out.bytes(),
-        b"dl 15360000000 0000 1 0 0 0 0 1 fff missing\ncount ru frames 1\ncount ru messages 1\ncount ru c_accepted 1\ncount ru missing 1\nend\n".as_slice()
-    );
+    assert_eq!(rt; out.bytes(), REPORT);
     Ok(())
 }
 
 #[test]
+fn a_report_stands_behind_what_was_there(rt: HostRuntime) -> Result<(), Fail> {
+    let alloc = rt.alloc();
+    let document = read(alloc, b"fronthaul 1\n")?;
+    let mut out = PlainSink::new(alloc);
+    assert_eq!(rt; replay_injected(alloc, &document, &mut out), Ok(()));
+    assert_eq!(rt; replay_injected(alloc, &document, &mut out), Ok(()));
+    assert_eq!(rt; out.bytes(), b"end\nend\n".as_slice());
+    Ok(())
+}
+
+// One byte a call: the call after those of so many bytes fails.
+#[test]
 fn a_sink_that_fails_keeps_a_front_part(rt: HostRuntime) -> Result<(), Fail> {
     let alloc = rt.alloc();
-    let document = read(alloc, MISSING)?;
+    let document = read(alloc, ORDINARY)?;
+    let mut call: u64 = 0;
+    for bytes in 0..REPORT.len() {
+        call = call.saturating_add(1);
+        let mut fails = List::new(alloc);
+        fails.push(call)?;
+        let mut out = MemorySink::new(alloc, 1, fails);
+        let answer = replay_injected(alloc, &document, &mut out);
+        assert_eq!(rt; answer, Err(InjectedFault::WriteFault), "call {}", call);
+        assert_eq!(rt; out.bytes(), &REPORT[..bytes], "call {}", call);
+    }
+    Ok(())
+}
+
+#[test]
+fn a_sink_that_would_fail_later_has_it_all(rt: HostRuntime) -> Result<(), Fail> {
+    let alloc = rt.alloc();
+    let document = read(alloc, ORDINARY)?;
     let mut fails = List::new(alloc);
-    fails.push(2)?;
-    let mut out = MemorySink::new(alloc, 4, fails);
-    let answer = replay_injected(alloc, &document, &mut out);
-    assert_eq!(rt; answer, Err(InjectedFault::WriteFault));
-    assert_eq!(rt; out.bytes(), b"dl 1".as_slice());
+    fails.push(REPORT.len() as u64 + 1)?;
+    let mut out = MemorySink::new(alloc, 1, fails);
+    assert_eq!(rt; replay_injected(alloc, &document, &mut out), Ok(()));
+    assert_eq!(rt; out.bytes(), REPORT);
     Ok(())
 }

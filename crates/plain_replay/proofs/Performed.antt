@@ -10,7 +10,7 @@ use Rattle.fh_document.specs.declared.refusals.DocFault.TheVariants.{At}
 use Rattle.fh_document.specs.declared.refusals.DocFault.TheVariants as doc
 use Rattle.fh_document.specs.Answered.{Answers}
 use Rattle.fh_document.specs.Document.{document_of}
-use Rattle.fronthaul_replay.specs.Reports.{injected_report}
+use Rattle.plain_reports.specs.Reports.{injected_report}
 use Rattle.plain_replay.specs.Run.{report_or_none, text_of, refused_at, refusal_of, IsQuiet, AnswersText, AnswersInput, Puts, Performs}
 use Rattle.plain_replay.specs.Statuses.{status_of}
 use Rattle.plain_replay.specs.declared.status.Status.{Status}

@@ -6,7 +6,7 @@ use Rattle.fh_base.specs.Told.{WritesFront}
 use Rattle.fh_document.specs.declared.document.Document.{Document}
 use Rattle.fh_document.specs.declared.refusals.DocWhy.{DocWhy}
 use Rattle.fh_document.specs.Document.{document_of}
-use Rattle.fronthaul_replay.specs.Reports.{injected_report}
+use Rattle.plain_reports.specs.Reports.{injected_report}
 use Rattle.plain_replay.specs.declared.status.Status.{Status}
 use Rattle.plain_replay.specs.declared.status.Status.TheVariants.{Done, Refused, ReadFault, WriteFault, NoMemory, TooLong}
 

@@ -4,7 +4,7 @@ use crate::status::Status;
 use crate::writing::write_report;
 use fh_base::{Bytes, List, MemorySink, MemorySource, NoMemory, PlainSink, PlainSource};
 use fh_document::{DocWhy, read};
-use fronthaul_replay::report_of;
+use plain_reports::report_of;
 use std::alloc::Global;
 use std::test::Fail;
 

@@ -3,7 +3,7 @@ ghost use Rattle.std.specs.Prelude.{◌≡◌, ◌⊎◌};
 ghost use Rattle.fh_base.specs.Causes.{Rose};
 ghost use Rattle.fh_base.specs.Told.{WritesFront};
 ghost use Rattle.fh_document.specs.Proper.{IsDocument};
-ghost use Rattle.fronthaul_replay.specs.Reports.{injected_report};
+ghost use Rattle.plain_reports.specs.Reports.{injected_report};
 ghost use Rattle.plain_replay.specs.Run.{Outcome, Performs, Puts, WritesWholeOr};
 ghost use Rattle.plain_replay.specs.Statuses.{line_of, status_of};
 
@@ -11,7 +11,7 @@ use crate::messages::write_message;
 use crate::status::Status;
 use fh_base::{ReadAllFault, Sink, SinkFault, Source, read_all, write_all_to};
 use fh_document::{DocFault, Document, read};
-use fronthaul_replay::report_of;
+use plain_reports::report_of;
 use std::alloc::Global;
 
 /// The most bytes of a document.

@@ -1,5 +1,5 @@
 // The replay.
-ghost use Rattle.std.specs.Prelude.{◌≡◌, IsErrOf, OnErr, OnOk, ◌⊎◌};
+ghost use Rattle.std.specs.Prelude.{◌≡◌, ◌≤◌, IsErrOf, OnErr, OnOk, ◌⊎◌};
 ghost use Rattle.air_source.specs.Causes.{HasAirCause};
 ghost use Rattle.air_source.specs.Stops.{GrewSome, StopsIn};
 ghost use Rattle.fh_base.specs.Causes.{Rose};
@@ -50,6 +50,7 @@ pub fn replay<A: Air>(
     ensures stopped { IsErrOf result AirFailed → StopsInStep A.grew A.stopped doc.now ru.new out.old out.new }
     ensures wants { IsErrOf result WantsMemory → GrewSome A.grew (events_of doc.now) out.old out.new ⊎ StopsIn A.grew A.stopped (events_of doc.now) out.old out.new }
     ensures cause { IsErrOf result AirFailed → Rose (A.faults out.old) (A.faults out.new) }
+    ensures later { A.faults out.old ≤ A.faults out.new }
     ensures same { A.same out.old out.new }
 {
     let mut queue = match queue_of(alloc, doc) {

@@ -5,7 +5,7 @@ ghost use Rattle.fault_counters.specs.Counts.{count_of};
 ghost use Rattle.fault_counters.specs.Names.{all_counters};
 ghost use Rattle.fh_document.specs.Proper.{IsDocument};
 ghost use Rattle.report_lines.specs.Cells.{cell_text};
-ghost use Rattle.fronthaul_replay.specs.Reports.{counter_line, counter_lines, injected_report};
+ghost use Rattle.plain_reports.specs.Reports.{counter_line, counter_lines, injected_report};
 
 use crate::sorting::frames_of;
 use air_source::{AirCell, Side};

@@ -1,8 +1,8 @@
 use Rattle.std.proofs.Common.{◌<◌, length, sym, ◌∙◌, arith}
-use Rattle.fronthaul_replay.proofs.Placed.{not_past}
-use Rattle.fronthaul_replay.proofs.Texts.{one_cell}
-use Rattle.fronthaul_replay.proofs.reports.push_cells.Goals as goal
-use Rattle.fronthaul_replay.proofs.reports.push_cells.Goals.{in-Some+in_ok-push_all, in_default}
+use Rattle.plain_reports.proofs.Placed.{not_past}
+use Rattle.plain_reports.proofs.Texts.{one_cell}
+use Rattle.plain_reports.proofs.reports.push_cells.Goals as goal
+use Rattle.plain_reports.proofs.reports.push_cells.Goals.{in-Some+in_ok-push_all, in_default}
 
 pub loop-k-preserved : goal.loop-k-preserved
 loop-k-preserved c =

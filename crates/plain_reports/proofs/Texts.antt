@@ -20,8 +20,8 @@ use Rattle.unit_model.specs.declared.report.Report.{Report}
 use Rattle.unit_model.specs.declared.report.TimedFrame.{TimedFrame}
 use Rattle.window_config.specs.declared.config.Config.{Config}
 use Rattle.window_config.specs.declared.endpoints.EndpointConfig.{EndpointConfig}
-use Rattle.fronthaul_replay.specs.Injected.{frames_of}
-use Rattle.fronthaul_replay.specs.Reports.{end_of_time, number_of, counter_line, counter_lines, report_text, injected_report}
+use Rattle.plain_reports.specs.Injected.{frames_of}
+use Rattle.plain_reports.specs.Reports.{end_of_time, number_of, counter_line, counter_lines, report_text, injected_report}
 
 -- numbers that agree have the same lines
 same_lines : (f g : Counter → ℕ) (ks : List Counter) → ((k : Counter) → f k ≡ g k) → counter_lines f ks ≡ counter_lines g ks

@@ -1,6 +1,6 @@
 use Rattle.std.proofs.Common.{◌∙◌}
-use Rattle.fronthaul_replay.proofs.Texts.{injection_times, whole_report}
-use Rattle.fronthaul_replay.proofs.reports.report_of.Goals as goal
+use Rattle.plain_reports.proofs.Texts.{injection_times, whole_report}
+use Rattle.plain_reports.proofs.reports.report_of.Goals as goal
 
 pub frames_of-requires : goal.frames_of-requires
 frames_of-requires c = injection_times c.args.document.now.config.endpoints c.args.document.now.injections c.requires.injections

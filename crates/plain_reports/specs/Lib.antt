@@ -1,0 +1,3 @@
+pub mod Injected
+pub mod Reports
+pub mod Replay
