@@ -8,3 +8,4 @@ pub mod LandLemmas
 pub mod CountLemmas
 pub mod ListLemmas
 pub mod GiveLemmas
+pub mod LawLemmas

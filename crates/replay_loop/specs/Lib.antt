@@ -1,3 +1,4 @@
 pub mod Replaying
 pub mod Turns
 pub mod Delivering
+pub mod Laws

@@ -7,6 +7,7 @@ ghost use Rattle.fh_document.specs.Proper.{IsDocument};
 ghost use Rattle.unit_model.specs.Radiated.{first_clock};
 ghost use Rattle.unit_model.specs.Standing.{nothing_yet};
 ghost use Rattle.ru_buffers.specs.Calls.{StandsFor};
+ghost use Rattle.replay_loop.specs.Laws.{IsSound};
 ghost use Rattle.replay_loop.specs.Replaying.{IsDone, StopsInStep, events_of};
 ghost use Rattle.replay_loop.specs.Turns.{Waits};
 ghost use Rattle.replay_loop.specs.declared.replays.ReplayFault.TheVariants.{AirFailed, NoMemory as WantsMemory};
@@ -33,6 +34,9 @@ pub enum ReplayFault {
 /// unit reports, and at the end the counters that are not 0, in the order of events. At one time cells come before arrivals, and
 /// arrivals in the order of the document.
 ///
+/// Of these events holds, for every document: no cell is reported twice; what a cell shows came within its window and was commanded
+/// on time under the same section id; the counters add up; and the frames that arrive are those that the document lists.
+///
 /// # Errors
 ///
 /// [`ReplayFault::AirFailed`] where the air failed, only where its count of faults rose. [`ReplayFault::NoMemory`] where memory runs
@@ -52,6 +56,7 @@ pub fn replay<A: Air>(
     ensures cause { IsErrOf result AirFailed → Rose (A.faults out.old) (A.faults out.new) }
     ensures later { A.faults out.old ≤ A.faults out.new }
     ensures same { A.same out.old out.new }
+    ensures sound { IsSound doc.now }
 {
     let mut queue = match queue_of(alloc, doc) {
         Ok(queue) => queue,
