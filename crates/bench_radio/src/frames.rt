@@ -17,10 +17,7 @@ pub struct TimedFrame {
 }
 
 /// Copies of the frames of a document.
-pub fn frames_of(
-    alloc: Global,
-    injections: &List<Injection>,
-) -> Result<Vec<TimedFrame>, NoMemory> {
+pub fn frames_of(alloc: Global, injections: &List<Injection>) -> Result<Vec<TimedFrame>, NoMemory> {
     let mut frames = Vec::new(alloc);
     for k in 0..injections.len() {
         if let Some(injection) = injections.get(k) {

@@ -22,7 +22,10 @@ fn main(rt: HostRuntime) -> io::Result<()> {
     let mut source = StdSource::new(rt.stdin());
     match run(rt.alloc(), &mut source, slots) {
         Some(tally) => {
-            println!(rt; "{slots} slots: {} cells, {} missing, sum {}", tally.cells, tally.missing, tally.sum)
+            println!(rt;
+                "{slots} slots: {} cells, {} missing, sum {}",
+                tally.cells, tally.missing, tally.sum
+            )
         }
         None => println!(rt; "no run"),
     }

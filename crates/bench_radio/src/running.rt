@@ -31,12 +31,7 @@ fn later(at: i64, slots: u16) -> Option<Ticks>
 }
 
 /// Delivers the frames of a slot, so many slots later. None where one of them cannot be.
-fn deliver_slot(
-    ru: &mut Ru,
-    frames: &Vec<TimedFrame>,
-    slots: u16,
-    air: &mut Tally,
-) -> bool
+fn deliver_slot(ru: &mut Ru, frames: &Vec<TimedFrame>, slots: u16, air: &mut Tally) -> bool
     requires unit { StandsForSome ru.old }
     requires given { HasGivenPast ru.old }
     ensures unit { result ≡ true → StandsForSome ru.new }
