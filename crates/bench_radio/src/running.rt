@@ -1,0 +1,125 @@
+// A run of many slots.
+ghost use Rattle.std.specs.Prelude.{◌≡◌, ◌≤ℤ◌, ◌^◌, pos, true, IfSome};
+ghost use Rattle.window_config.specs.Configs.{IsConfig};
+ghost use Rattle.ru_buffers.specs.Calls.{HasGivenPast, StandsForSome};
+
+use crate::frames::{TimedFrame, all_to_next_slot, frames_of};
+use crate::steps::{advance, deliver, is_quiet};
+use crate::tally::Tally;
+use fh_base::{Source, read_all};
+use fh_document::{Document, read};
+use fh_time::{Ticks, of_ns};
+use ru_buffers::Ru;
+use std::alloc::Global;
+use window_config::Config;
+
+/// The most bytes of a document.
+const LIMIT: usize = 67_108_864;
+
+/// A slot of 30 kHz, in nanoseconds.
+const SLOT: i64 = 500_000;
+
+/// A time so many slots later, where it is none before time 0 and none after 1,000 seconds.
+fn later(at: i64, slots: u16) -> Option<Ticks>
+    ensures { IfSome result (λ t. t.0 ≤ℤ pos (2 ^ 52)) }
+{
+    if 0 <= at && at <= 1_000_000_000_000 {
+        Some(of_ns(at + slots as i64 * SLOT))
+    } else {
+        None
+    }
+}
+
+/// Delivers the frames of a slot, so many slots later. None where one of them cannot be.
+fn deliver_slot(ru: &mut Ru, frames: &Vec<TimedFrame>, slots: u16, air: &mut Tally) -> bool
+    requires unit { StandsForSome ru.old }
+    requires given { HasGivenPast ru.old }
+    ensures unit { result ≡ true → StandsForSome ru.new }
+    ensures given { result ≡ true → HasGivenPast ru.new }
+{
+    for k in 0..frames.len() {
+        let Some(at) = later(frames[k].at, slots) else {
+            return false;
+        };
+        if !advance(ru, at, air) {
+            return false;
+        }
+        deliver(ru, frames[k].frame.as_slice());
+    }
+    true
+}
+
+/// Delivers the frames so many times, and what an air heard of them.
+fn deliver_slots(ru: &mut Ru, frames: &mut Vec<TimedFrame>, slots: u16) -> Option<Tally>
+    requires unit { StandsForSome ru.old }
+    requires given { HasGivenPast ru.old }
+{
+    let mut air = Tally::new();
+    for k in 0..slots {
+        if !deliver_slot(ru, frames, k, &mut air) {
+            return None;
+        }
+        all_to_next_slot(frames);
+    }
+    finish(ru, frames, slots, &mut air)
+}
+
+/// Lets the time of 1 ms pass after the last slot.
+fn finish(ru: &mut Ru, frames: &Vec<TimedFrame>, slots: u16, air: &mut Tally) -> Option<Tally>
+    requires unit { StandsForSome ru.old }
+    requires given { HasGivenPast ru.old }
+{
+    let last = frames.last()?;
+    let end = later(last.at, slots)?;
+    if advance(ru, Ticks(end.0 + 15_360_000_000), air) {
+        Some(*air)
+    } else {
+        None
+    }
+}
+
+/// What an air heard of so many slots with the frames of a document.
+pub fn run<S: Source>(alloc: Global, source: &mut S, slots: u16) -> Option<Tally> {
+    let Ok(bytes) = read_all(alloc, source, LIMIT) else {
+        return None;
+    };
+    let Ok(document) = read(alloc, bytes.as_slice()) else {
+        return None;
+    };
+    if slots == 0 {
+        return Some(Tally::new());
+    }
+    run_unit(alloc, &document, slots)
+}
+
+/// The same, of a document that was read.
+fn run_unit(alloc: Global, document: &Document, slots: u16) -> Option<Tally>
+    requires { IsConfig document.now.config }
+{
+    let Ok(mut frames) = frames_of(alloc, &document.injections) else {
+        return None;
+    };
+    let mut ru = made(alloc, &document.config)?;
+    deliver_slots(&mut ru, &mut frames, slots)
+}
+
+/// A unit that may be called.
+fn made(alloc: Global, config: &Config) -> Option<Ru>
+    requires { IsConfig config.now }
+    ensures unit { IfSome result (λ u. StandsForSome u) }
+    ensures given { IfSome result (λ u. HasGivenPast u) }
+{
+    match Ru::make(alloc, config) {
+        Ok(ru) => quiet(ru),
+        Err(_) => None,
+    }
+}
+
+/// The unit, where it has nothing to report or give.
+fn quiet(ru: Ru) -> Option<Ru>
+    requires { StandsForSome ru }
+    ensures unit { IfSome result (λ u. StandsForSome u) }
+    ensures given { IfSome result (λ u. HasGivenPast u) }
+{
+    if is_quiet(&ru) { Some(ru) } else { None }
+}
