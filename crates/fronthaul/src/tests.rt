@@ -77,31 +77,49 @@ fn an_empty_input_has_no_line_1(rt: HostRuntime) -> Result<(), Fail> {
     Ok(())
 }
 
+// One byte a call: the call after those of so many bytes fails.
 #[test]
 fn a_sink_that_fails_keeps_a_front_part(rt: HostRuntime) -> Result<(), Fail> {
     let alloc = rt.alloc();
     let words = replay_and(alloc, &[])?;
-    let mut source = PlainSource::new(bytes_of(alloc, ORDINARY)?);
-    let mut out = MemorySink::new(alloc, 1, calls(alloc, 5)?);
-    let mut err = PlainSink::new(alloc);
-    let status = run(alloc, &words, &mut source, &mut out, &mut err);
-    assert_eq!(rt; (status, status.code()), (Status::WriteFault, 6));
-    assert_eq!(rt; out.bytes(), b"dl 1".as_slice());
-    assert_eq!(rt; err.bytes(), b"fronthaul: write fault\n".as_slice());
+    let mut call: u64 = 0;
+    for bytes in 0..REPORT.len() {
+        call = call.saturating_add(1);
+        let mut source = PlainSource::new(bytes_of(alloc, ORDINARY)?);
+        let mut out = MemorySink::new(alloc, 1, calls(alloc, call)?);
+        let mut err = PlainSink::new(alloc);
+        let status = run(alloc, &words, &mut source, &mut out, &mut err);
+        assert_eq!(rt;
+            (status, status.code()),
+            (Status::WriteFault, 6),
+            "call {}",
+            call
+        );
+        assert_eq!(rt; out.bytes(), &REPORT[..bytes], "call {}", call);
+        assert_eq!(rt; err.bytes(), b"fronthaul: write fault\n".as_slice());
+    }
     Ok(())
 }
 
+// 64 bytes a call: the calls that read the document, and the one that finds its end.
 #[test]
 fn a_source_that_fails_gives_nothing(rt: HostRuntime) -> Result<(), Fail> {
     let alloc = rt.alloc();
     let words = replay_and(alloc, &[])?;
-    let mut source = MemorySource::new(bytes_of(alloc, ORDINARY)?, 4096, calls(alloc, 1)?);
-    let mut out = PlainSink::new(alloc);
-    let mut err = MemorySink::new(alloc, 7, calls(alloc, 3)?);
-    let status = run(alloc, &words, &mut source, &mut out, &mut err);
-    assert_eq!(rt; (status, status.code()), (Status::ReadFault, 5));
-    assert_eq!(rt; out.bytes(), b"".as_slice());
-    assert_eq!(rt; err.bytes(), b"fronthaul: rea".as_slice());
+    for call in 1..7u64 {
+        let mut source = MemorySource::new(bytes_of(alloc, ORDINARY)?, 64, calls(alloc, call)?);
+        let mut out = PlainSink::new(alloc);
+        let mut err = MemorySink::new(alloc, 7, calls(alloc, 3)?);
+        let status = run(alloc, &words, &mut source, &mut out, &mut err);
+        assert_eq!(rt;
+            (status, status.code()),
+            (Status::ReadFault, 5),
+            "call {}",
+            call
+        );
+        assert_eq!(rt; out.bytes(), b"".as_slice());
+        assert_eq!(rt; err.bytes(), b"fronthaul: rea".as_slice());
+    }
     Ok(())
 }
 

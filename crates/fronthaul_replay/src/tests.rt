@@ -165,6 +165,11 @@ fn reports_2(rt: HostRuntime) {
             report: "dl 2673600000 0001 -1 0 0 13 0 1 fff missing\ncount ru frames 1\ncount ru messages 1\ncount ru c_accepted 1\ncount ru missing 1\nend\n",
         },
         Case {
+            name: "malformed frames and messages",
+            document: "fronthaul 1\nendpoint 0000 ordinary 30 106 static none\ninject dl 9600000 -\ninject dl 9600000 20020014\ninject dl 9600000 1002\ninject dl 9600000 1002001400000080\ninject dl 9600000 11030001aa\ninject dl 9600000 11030000\ninject dl 9600000 10020003000000\ninject dl 9600000 1002000400010080\ninject dl 9600000 1002000400000000\ninject dl 9600000 1002000400000080\ninject dl 9600000 1000000400000080\ninject dl 9600000 100000080000018010010000\ninject dl 9600000 100000080000028090010000\n",
+            report: "count ru frames 13\ncount ru frames_refused 6\ncount ru messages 9\ncount ru other_type 2\ncount ru short 1\ncount ru unknown_endpoint 1\ncount ru wrong_way 1\ncount ru c_refused 2\ncount ru f_whole 3\ncount ru u_refused 1\nend\n",
+        },
+        Case {
             name: "idle and used elements of one cell",
             document: "fronthaul 1\nendpoint 0000 ordinary 30 106 static none\ninject dl 9600000 100200180000008090010000010000000100000000100001f0010000\ninject dl 9610000 10020014000000809001000001010000001000010ff10000\ninject dl 9700000 1000003c000000809001000000100001000000000001ffff0002fffe0003fffd0004fffc0005fffb0006fffa0007fff90008fff80009fff7000afff6000bfff5\n",
             report: "dl 15360000000 0000 1 0 0 0 0 1 0ff . . . . 4,-4 5,-5 6,-6 7,-7 8,-8 9,-9 10,-10 11,-11\ncount ru frames 3\ncount ru messages 3\ncount ru c_accepted 2\ncount ru f_whole 1\ncount ru u_taken 1\ncount ru cells 1\nend\n",
