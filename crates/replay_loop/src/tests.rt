@@ -19,12 +19,30 @@ const DATA_AT: Ticks = Ticks(14_899_200_000);
 
 const CELL_AT: Ticks = Ticks(15_360_000_000);
 
-/// What came of a replay.
+/// What came of a replay, and where the unit stands then.
 #[derive(Drop)]
 struct Outcome {
     result: Result<(), ReplayFault>,
-    clock: Ticks,
+    step: Step,
     air: MemoryAir,
+}
+
+/// Where a unit stands: its clock, its next moment, and how many frames and cells it has counted.
+#[derive(Clone, Copy, Debug, PartialEq, Eq)]
+struct Step {
+    clock: Ticks,
+    due: Option<Ticks>,
+    frames: u64,
+    cells: u64,
+}
+
+fn standing(clock: Ticks, due: Option<Ticks>, frames: u64, cells: u64) -> Step {
+    Step {
+        clock,
+        due,
+        frames,
+        cells,
+    }
 }
 
 /// Replays the document to an air that fails at some calls. None where memory is refused.
@@ -37,8 +55,10 @@ fn played(alloc: Global, fails: List<u64>) -> Option<Outcome> {
     };
     let mut air = MemoryAir::new(alloc, fails);
     let result = replay(alloc, &doc, &mut ru, &mut air);
-    let clock = ru.clock();
-    Some(Outcome { result, clock, air })
+    let frames = ru.counters().get(Counter::Frames);
+    let cells = ru.counters().get(Counter::Cells);
+    let step = standing(ru.clock(), ru.due(), frames, cells);
+    Some(Outcome { result, step, air })
 }
 
 fn is_arrival(event: Option<&Event>, time: Ticks, bytes: usize) -> bool {
@@ -89,10 +109,19 @@ fn hears_the_ordinary_case(rt: HostRuntime) {
 
 #[test]
 fn is_in_step_where_the_air_fails(rt: HostRuntime) -> Result<(), Fail> {
-    let clocks = [
-        COMMAND_AT, DATA_AT, DATA_AT, CELL_AT, CELL_AT, CELL_AT, CELL_AT, CELL_AT, CELL_AT,
+    let told = standing(CELL_AT, None, 2, 1);
+    let steps = [
+        standing(COMMAND_AT, None, 0, 0),
+        standing(DATA_AT, Some(CELL_AT), 1, 0),
+        standing(DATA_AT, Some(CELL_AT), 2, 0),
+        told,
+        told,
+        told,
+        told,
+        told,
+        told,
     ];
-    for (earlier, clock) in clocks.iter().enumerate() {
+    for (earlier, wanted) in steps.iter().enumerate() {
         let mut fails = List::new(rt.alloc());
         fails.push(earlier as u64 + 1)?;
         let Some(played) = played(rt.alloc(), fails) else {
@@ -100,7 +129,7 @@ fn is_in_step_where_the_air_fails(rt: HostRuntime) -> Result<(), Fail> {
         };
         assert_eq!(rt; played.result, Err(ReplayFault::AirFailed));
         assert_eq!(rt; played.air.heard().len(), earlier);
-        assert_eq!(rt; played.clock, *clock);
+        assert_eq!(rt; played.step, *wanted);
     }
     Ok(())
 }
