@@ -331,10 +331,7 @@ fn a_commanded_cell_radiates(rt: HostRuntime) -> Result<(), Fail> {
     assert_eq!(rt; unit.due(), None);
     assert_eq!(rt; unit.next_uplink(), None);
     assert_eq!(rt; air.heard().len(), 1);
-    assert_eq!(rt;
-        cell_heard(&air, 0),
-        Some(cell(START, 0, Some(samples())))
-    );
+    assert_eq!(rt; cell_heard(&air, 0), Some(cell(START, 0, Some(samples()))));
     let wanted = [
         (Counter::Frames, 2),
         (Counter::Messages, 2),
@@ -369,10 +366,7 @@ fn a_cell_is_reported_again(rt: HostRuntime) -> Result<(), Fail> {
     assert_eq!(rt; pass(&mut unit, SYMBOL_1, &mut air), Ok(()));
     assert_eq!(rt; unit.clock(), SYMBOL_1);
     assert_eq!(rt; air.heard().len(), 2);
-    assert_eq!(rt;
-        cell_heard(&air, 0),
-        Some(cell(START, 0, Some(samples())))
-    );
+    assert_eq!(rt; cell_heard(&air, 0), Some(cell(START, 0, Some(samples()))));
     assert_eq!(rt; cell_heard(&air, 1), Some(cell(SYMBOL_1, 1, None)));
     let wanted = [
         (Counter::Frames, 2),
