@@ -15,3 +15,4 @@ pub mod RankLemmas
 pub mod AdvanceLemmas
 pub mod CallLemmas
 pub mod LoopLemmas
+pub mod TestLemmas

@@ -63,7 +63,7 @@ nothing_due c heard to limits =
     tick-nothing g c.endpoints tick (λ ep e slot symbol swept.
     ap (filter (unheard heard)) (no_report c ep e slot symbol limits swept.endpoint)))
 
-no_messages : (c : Config) (to : ℤ) → IsWithinLimits c.delays → jobs c.endpoints (accepted_of c []) to ≡ []
+pub no_messages : (c : Config) (to : ℤ) → IsWithinLimits c.delays → jobs c.endpoints (accepted_of c []) to ≡ []
 unfolding jobs
 no_messages c to limits =
     let g = symbol_jobs (accepted_of c []) in

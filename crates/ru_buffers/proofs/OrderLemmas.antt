@@ -158,14 +158,15 @@ module _ (m : SymbolStart) (told : List AirCell) (old new : CellsValue) (marks :
         symbol_is = is.symbol_is;
         starts = is.starts;
         has = sym (marks.known.places x.ep x.slot) ∙ is.has;
-      } in
-      (was,
-      some_weaker 0 x.endpoint.prbs (λ prb. is_due (cells_claim new (cell_in x prb)) (cells_done new (cell_in x prb)))
-      (λ prb. is_due (cells_claim old (cell_in x prb)) (cells_done old (cell_in x prb)))
-      (λ prb above below due.
-      due_mono (used_mask (cells_claim old (cell_in x prb)) == 0) (cells_done old (cell_in x prb)) (is_told m told (cell_in x prb)) (cells_done new (cell_in x prb))
-      (marks.marks (cell_in x prb) (in_symbol old x prb was (small_is prb x.endpoint.prbs below)) refl)
-      (ap (λ (u : ℕ). not (u == 0) && not (cells_done new (cell_in x prb))) (sym (used_is old new (cell_in x prb) (marks.known.claims (cell_in x prb)))) ∙ due)) h)
+      } in (
+        was,
+        some_weaker 0 x.endpoint.prbs (λ prb. is_due (cells_claim new (cell_in x prb)) (cells_done new (cell_in x prb)))
+            (λ prb. is_due (cells_claim old (cell_in x prb)) (cells_done old (cell_in x prb)))
+            (λ prb above below due.
+            due_mono (used_mask (cells_claim old (cell_in x prb)) == 0) (cells_done old (cell_in x prb)) (is_told m told (cell_in x prb)) (cells_done new (cell_in x prb))
+            (marks.marks (cell_in x prb) (in_symbol old x prb was (small_is prb x.endpoint.prbs below)) refl)
+            (ap (λ (u : ℕ). not (u == 0) && not (cells_done new (cell_in x prb))) (sym (used_is old new (cell_in x prb) (marks.known.claims (cell_in x prb)))) ∙ due)) h,
+      )
 
 -- nothing is left of a symbol that was reported
 own_told : (m : SymbolStart) (told : List AirCell) (prb : ℕ) → list_any (λ a. a.prb == prb) told ≡ true → is_told m told (cell_in m prb) ≡ true

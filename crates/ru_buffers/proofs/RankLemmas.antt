@@ -111,8 +111,13 @@ module _ (a b : SymbolStart) (ra : IsRanked a) (rb : IsRanked b) where
 
   from_frame : since_of a ≡ since_of b → a.ep ≡ b.ep → a.slot.frame <ℤ b.slot.frame → number_of a < number_of b
   from_frame s e h =
-      omega (arith, s, e, by_frame (since_of a) a.ep (frame_of a) a.slot.subframe a.slot.slot a.symbol (frame_of b) b.slot.subframe b.slot.slot b.symbol ra.subframe ra.slot ra.symbol
-      (gap_lesser (neg_ℤ (pos (2 ^ 21))) a.slot.frame b.slot.frame ra.frame_low h))
+      omega (
+        arith,
+        s,
+        e,
+        by_frame (since_of a) a.ep (frame_of a) a.slot.subframe a.slot.slot a.symbol (frame_of b) b.slot.subframe b.slot.slot b.symbol ra.subframe ra.slot ra.symbol
+            (gap_lesser (neg_ℤ (pos (2 ^ 21))) a.slot.frame b.slot.frame ra.frame_low h),
+      )
 
   from_subframe : since_of a ≡ since_of b → a.ep ≡ b.ep → frame_of a ≡ frame_of b → a.slot.subframe < b.slot.subframe → number_of a < number_of b
   from_subframe s e f h =

@@ -2,7 +2,6 @@
 ghost use Rattle.std.specs.Prelude.{◌≡◌, [], IfNone, IfSome};
 ghost use Rattle.window_config.specs.declared.config.Config.{Config};
 ghost use Rattle.unit_model.specs.Standing.{History};
-
 ghost use Rattle.ru_buffers.specs.Calls.{earlier_time};
 
 use crate::reporting::starts_by;
