@@ -1,9 +1,8 @@
 -- Reports go on symbol by symbol.
-use Rattle.std.proofs.Common.{◌≡◌, ℕ, ℤ, pos, ◌≤ℤ◌, ◌<ℤ◌, Bool, true, false, List, [], ◌∷◌, ◌++◌, refl, sym, ap, ◌∙◌, subst, arith, append-nil, append_assoc}
+use Rattle.std.proofs.Common.{◌≡◌, ℤ, ◌≤ℤ◌, ◌<ℤ◌, List, [], ◌∷◌, ◌++◌, sym, ap, ◌∙◌, subst, arith, append-nil, append_assoc}
 use Rattle.std.proofs.lemmas.Int.{ints}
 use Rattle.air_source.specs.declared.events.AirCell.{AirCell}
 use Rattle.window_config.specs.declared.config.Config.{Config}
-use Rattle.unit_model.specs.Order.{comes_before}
 use Rattle.unit_model.specs.Standing.{History, heard}
 use Rattle.unit_model.specs.declared.symbol_start.SymbolStart.{SymbolStart}
 use Rattle.unit_laws.specs.Runs.{OffsetsFit}
@@ -11,8 +10,8 @@ use Rattle.history_laws.specs.First.{FirstIsFirst, NothingIsNothing}
 use Rattle.ru_jobs.specs.declared.cursor.JobCursor.{JobCursor}
 use Rattle.ru_memory.specs.declared.memory.RuMemory.{RuMemory}
 use Rattle.ru_reports.specs.Symbols.{left_at}
-use Rattle.ru_buffers.specs.Reporting.{DueBegins, IsFirstLeft, IsLeftAfter, IsMarked, due_of}
-use Rattle.ru_buffers.specs.Units.{Keeps, Stands}
+use Rattle.ru_buffers.specs.Reporting.{IsFirstLeft, IsLeftAfter, IsMarked, due_of}
+use Rattle.ru_buffers.specs.Units.{Stands}
 use Rattle.ru_buffers.proofs.HistoryLemmas.{stands}
 use Rattle.ru_buffers.proofs.MarkedLemmas.{keeps_marked}
 use Rattle.ru_buffers.proofs.ReportLemmas.{due_goes_on, first_is_due, nothing_is_due, starts_no_earlier}

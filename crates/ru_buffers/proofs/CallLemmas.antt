@@ -1,12 +1,10 @@
 -- What the calls of the unit rest on.
-use Rattle.std.proofs.Common.{◌≡◌, ℕ, ℤ, pos, ◌≤ℤ◌, ◌<ℤ◌, ◌+ℤ◌, ◌-ℤ◌, List, [], ◌∷◌, ◌++◌, true, false, inl, inr, refl, sym, ap, ◌∙◌, subst, arith}
+use Rattle.std.proofs.Common.{◌≡◌, ℕ, ℤ, pos, ◌≤ℤ◌, ◌<ℤ◌, ◌+ℤ◌, ◌-ℤ◌, List, [], ◌∷◌, true, false, inl, inr, sym, ap, ◌∙◌, subst, arith}
 use Rattle.std.specs.Prelude.{Option, Some, None, int_lt}
 use Rattle.std.proofs.lemmas.Bool.{cases_Bool}
 use Rattle.std.proofs.lemmas.Int.{ints}
 use Rattle.fault_counters.specs.declared.kinds.Counter.{Counter}
-use Rattle.fh_time.specs.declared.values.Slot.{Slot}
 use Rattle.window_config.specs.declared.config.Config.{Config}
-use Rattle.window_config.specs.declared.endpoints.EndpointConfig.{EndpointConfig}
 use Rattle.unit_model.specs.Counts.{cells_counted}
 use Rattle.unit_model.specs.Meetings.{Arrival}
 use Rattle.unit_model.specs.Radiated.{first_clock}
@@ -30,7 +28,7 @@ use Rattle.ru_memory.specs.declared.memory.RuMemory.{RuMemory}
 use Rattle.ru_memory.proofs.HoldLemmas.{holds_later}
 use Rattle.ru_buffers.specs.Calls.{IsCellMoment, IsDue, IsLeast, IsMessageMoment, earlier_time, given_of}
 use Rattle.ru_buffers.specs.JobLaws.{IsSettled, NothingIsLeft}
-use Rattle.ru_buffers.specs.Reporting.{IsFirstLeft, IsLeftAfter, due_of}
+use Rattle.ru_buffers.specs.Reporting.{IsFirstLeft, due_of}
 use Rattle.ru_buffers.specs.Units.{IsReady, Stands, left_up_to}
 use Rattle.ru_buffers.proofs.ArrivalLemmas.{delivered}
 use Rattle.ru_buffers.proofs.HistoryLemmas.{stands}

@@ -1,52 +1,35 @@
 -- A unit that stands for a history answers as the definitions do, and stands for it and an arrival once that was treated.
-use Rattle.std.proofs.Common.{◌≡◌, ℕ, zero, suc, ℤ, pos, ◌+◌, ◌*◌, ◌<◌, ◌≤◌, ◌+ℤ◌, ◌≤ℤ◌, ◌<ℤ◌, ◌^◌, ◌⊎◌, Bool, true, false, List, [], ◌∷◌, ◌++◌, length, drop, refl, sym, ap, ap₂, ◌∙◌, subst, inl, inr, arith, length-append}
-use Rattle.std.specs.Prelude.{All, Option, Some, None, int_lt, if◌then◌else◌}
+use Rattle.std.proofs.Common.{◌≡◌, ℕ, zero, suc, ℤ, pos, ◌+◌, ◌*◌, ◌<◌, ◌≤ℤ◌, ◌^◌, Bool, true, false, List, [], ◌∷◌, refl, sym, ap₂, ◌∙◌, inl, inr, arith}
+use Rattle.std.specs.Prelude.{All, Option, None, if◌then◌else◌}
 use Rattle.std.specs.List.{list_any}
-use Rattle.std.proofs.lemmas.Bool.{cases_Bool}
-use Rattle.std.proofs.lemmas.Int.{ints, by_lt_z}
-use Rattle.std.proofs.lemmas.List.{drop-append-le}
+use Rattle.std.proofs.lemmas.Int.{ints}
 use Rattle.std.proofs.lemmas.List.Elements.{All-weaker}
-use Rattle.fh_time.specs.Air.{air_of}
-use Rattle.fh_time.specs.declared.values.Slot.{Slot}
 use Rattle.air_source.specs.declared.events.Side.TheVariants.{Ru}
-use Rattle.fault_counters.specs.declared.kinds.Counter.{Counter}
 use Rattle.window_config.specs.Rings.{ru_reach_of}
 use Rattle.window_config.specs.declared.config.Config.{Config}
 use Rattle.window_config.specs.declared.endpoints.EndpointConfig.{EndpointConfig}
-use Rattle.unit_model.specs.Counts.{cells_counted}
 use Rattle.unit_model.specs.Meetings.{Arrival}
-use Rattle.unit_model.specs.Order.{comes_before}
 use Rattle.unit_model.specs.Proper.{IsProperData}
-use Rattle.unit_model.specs.Radiated.{first_clock, is_used, used_below, used_mask}
+use Rattle.unit_model.specs.Radiated.{is_used, used_below, used_mask}
 use Rattle.unit_model.specs.Reports.{accepted_of, data_of, ru_known, timely_of}
-use Rattle.unit_model.specs.Standing.{AreInTime, History, IsCell, IsLiveAt, StandsBy, arrived, cell_heard, still_given}
-use Rattle.unit_model.specs.Starts.{start_at}
-use Rattle.unit_model.specs.Sweeps.{sweep}
-use Rattle.unit_model.specs.Uplink.{jobs, symbol_jobs}
+use Rattle.unit_model.specs.Standing.{AreInTime, History, IsCell, IsLiveAt, StandsBy, cell_heard}
 use Rattle.unit_model.specs.declared.allocations.Allocation.{Allocation}
 use Rattle.unit_model.specs.declared.cells.Cell.{Cell}
 use Rattle.unit_model.specs.declared.cells.Claim.{Claim}
 use Rattle.unit_model.specs.declared.decoded.Data.{Data}
-use Rattle.unit_model.specs.declared.jobs.UplinkJob.{UplinkJob}
-use Rattle.unit_model.specs.declared.symbol_start.SymbolStart.{SymbolStart}
 use Rattle.unit_model.proofs.BlockLemmas.{all_timely}
 use Rattle.unit_laws.specs.Far.{IsFar}
 use Rattle.unit_laws.proofs.AheadLemmas.{no_claims_ahead}
 use Rattle.unit_laws.proofs.HistoryLemmas.{data_are_proper}
-use Rattle.unit_laws.proofs.SentLemmas.{jobs_append}
-use Rattle.unit_laws.proofs.SweepLemmas.{sweep-append, sweep-same}
 use Rattle.unit_laws.proofs.TickLemmas.{live_later}
 use Rattle.unit_cells.specs.Cells.{cells_done}
-use Rattle.unit_cells.specs.Keeping.{Keeps as RingsKeep, SameMarks}
+use Rattle.unit_cells.specs.Keeping.{Keeps as RingsKeep}
 use Rattle.unit_cells.specs.Told.{IsTold}
 use Rattle.unit_cells.proofs.TimeLemmas.{far_not_marked, keeps_later, live_at}
 use Rattle.unit_cells.proofs.ToldLemmas.{told_whole}
-use Rattle.ru_jobs.specs.Cursors.{left_behind}
 use Rattle.ru_jobs.specs.declared.cursor.JobCursor.{JobCursor}
-use Rattle.ru_memory.specs.Memory.{Holds, arrival}
 use Rattle.ru_memory.specs.declared.memory.RuMemory.{RuMemory}
-use Rattle.ru_buffers.specs.Units.{IsWithin, Keeps, Stands, left_up_to, view_of}
-use Rattle.ru_buffers.proofs.LookupLemmas.{left_by_definition, left_of}
+use Rattle.ru_buffers.specs.Units.{Keeps, Stands, view_of}
 
 at_most : (a b c : ℤ) → a ≤ℤ b → b ≤ℤ c → a ≤ℤ c
 at_most a b c h k = omega (arith, ints)

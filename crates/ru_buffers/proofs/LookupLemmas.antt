@@ -1,5 +1,5 @@
 -- What the rings answer of uplink messages, and that it is what the definitions say.
-use Rattle.std.proofs.Common.{◌≡◌, ℕ, ℤ, pos, ◌<◌, ◌+ℤ◌, ◌≤ℤ◌, ◌<ℤ◌, ◌^◌, Bool, true, false, List, [], ◌∷◌, ◌++◌, refl, sym, ap, ◌∙◌, subst, inl, inr, ◌⊎◌, arith}
+use Rattle.std.proofs.Common.{◌≡◌, ℕ, ℤ, pos, ◌<◌, ◌+ℤ◌, ◌≤ℤ◌, ◌<ℤ◌, ◌^◌, true, List, [], refl, sym, ap, ◌∙◌, subst, inl, inr, ◌⊎◌, arith}
 use Rattle.std.specs.Prelude.{int_lt}
 use Rattle.std.proofs.lemmas.Int.{ints, by_lt_z}
 use Rattle.fh_time.specs.Air.{air_of}
@@ -28,7 +28,7 @@ use Rattle.unit_laws.proofs.AheadLemmas.{no_jobs_ahead}
 use Rattle.unit_laws.proofs.LookupLemmas.{jobs_of_their_slot}
 use Rattle.unit_laws.proofs.SweepLemmas.{sweep-same}
 use Rattle.unit_laws.proofs.TickLemmas.{starts_later}
-use Rattle.unit_cells.specs.Cells.{cells_uplink, endpoints_of, ring_of}
+use Rattle.unit_cells.specs.Cells.{cells_uplink, ring_of}
 use Rattle.unit_cells.proofs.TimeLemmas.{far_no_place, live_at, no_uplink_from}
 use Rattle.ru_jobs.specs.Cursors.{jobs_left, left_jobs}
 use Rattle.ru_jobs.specs.declared.cursor.JobCursor.{JobCursor}

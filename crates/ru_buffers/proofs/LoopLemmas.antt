@@ -1,6 +1,6 @@
 -- The loop that reports symbol by symbol, and the calls above it.
-use Rattle.std.proofs.Common.{◌≡◌, ◌≢◌, ℕ, suc, ℤ, pos, ◌+◌, ◌-◌, ◌<◌, ◌≤◌, ◌≤ℤ◌, ◌<ℤ◌, ◌+ℤ◌, ◌-ℤ◌, ◌^◌, neg_ℤ, Bool, true, false, List, [], ◌∷◌, ◌++◌, length, map, refl, sym, ap, ◌∙◌, subst, arith, append-nil}
-use Rattle.std.specs.Prelude.{Option, Some, None, IsErrOf, Result, Ok, Err, min}
+use Rattle.std.proofs.Common.{◌≡◌, ℕ, suc, ℤ, pos, ◌-◌, ◌<◌, ◌≤◌, ◌≤ℤ◌, ◌<ℤ◌, ◌^◌, neg_ℤ, true, false, List, [], ◌∷◌, ◌++◌, length, map, refl, sym, ap, ◌∙◌, subst, arith, append-nil}
+use Rattle.std.specs.Prelude.{Option, Some, None, Result, Ok, Err}
 use Rattle.fh_base.specs.Causes.{Rose}
 use Rattle.air_source.specs.Causes.{HasAirCause}
 use Rattle.air_source.specs.declared.airs.AirFault.{AirFault}
@@ -22,13 +22,12 @@ use Rattle.unit_cells.specs.Cells.{CellsValue, endpoints_of}
 use Rattle.unit_cells.specs.Keeping.{SameKnown}
 use Rattle.history_laws.proofs.FirstLemmas.{first_is_first, nothing_is_nothing}
 use Rattle.ru_memory.specs.declared.memory.RuMemory.{RuMemory}
-use Rattle.ru_reports.specs.Symbols.{IsFound, IsSymbol, StopsAtCell, is_left, left_at}
+use Rattle.ru_reports.specs.Symbols.{IsSymbol, StopsAtCell, is_left, left_at}
 use Rattle.ru_buffers.specs.Advancing.{AfterReport, GoesOn, InOrder, IsNextReport, IsOver, ToldAll, rank_of, rank_past, ranks_left}
 use Rattle.ru_buffers.specs.Calls.{StandsFor, StopsAtDue}
 use Rattle.ru_buffers.specs.Reporting.{IsFirstLeft, IsLeftAfter, IsMarked, due_of}
 use Rattle.ru_buffers.specs.declared.unit.Ru.{Ru}
-use Rattle.ru_buffers.proofs.AdvanceLemmas.{Begins, Goes, begins_further, goes_further, goes_nowhere, goes_on, nothing_by, nothing_left, stops}
-use Rattle.ru_buffers.proofs.OrderLemmas.{rest_after}
+use Rattle.ru_buffers.proofs.AdvanceLemmas.{begins_further, goes_further, goes_nowhere, goes_on, nothing_by, nothing_left, stops}
 use Rattle.ru_buffers.proofs.RankLemmas.{IsRanked, rank_below, rank_rises}
 
 -- ---- one symbol

@@ -1,7 +1,6 @@
 -- The order in which symbols are told, and what is left once the first of them was reported.
-use Rattle.std.proofs.Common.{◌≡◌, ℕ, zero, suc, ℤ, pos, ◌+◌, ◌-◌, ◌*◌, ◌<◌, ◌≤◌, ◌≤ℤ◌, ◌<ℤ◌, ◌^◌, neg_ℤ, Bool, true, false, not, ◌&&◌, ◌||◌, ◌==◌, List, [], ◌∷◌, ◌++◌, refl, sym, ap, ap₂, ◌∙◌, subst, arith, ◌⊎◌, inl, inr}
-use Rattle.std.specs.Prelude.{Option, Some, None, int_lt, nat_lt, if◌then◌else◌}
-use Rattle.std.specs.Int.{int_gap}
+use Rattle.std.proofs.Common.{◌≡◌, ℕ, zero, suc, ℤ, ◌+◌, ◌<◌, ◌≤◌, Bool, true, false, not, ◌&&◌, ◌||◌, ◌==◌, List, [], ◌∷◌, refl, sym, ap, ◌∙◌, subst, arith, ◌⊎◌, inl, inr}
+use Rattle.std.specs.Prelude.{int_lt, nat_lt, if◌then◌else◌}
 use Rattle.std.specs.List.{list_any}
 use Rattle.std.specs.Ordering.{int_eq}
 use Rattle.std.proofs.lemmas.Bool.{cases_Bool, eq-eqb, eqb-true}
@@ -17,15 +16,14 @@ use Rattle.window_config.specs.declared.endpoints.EndpointConfig.{EndpointConfig
 use Rattle.unit_model.specs.Claims.{same_slot}
 use Rattle.unit_model.specs.Lists.{each, some}
 use Rattle.unit_model.specs.Order.{comes_before, slot_before, symbol_before}
-use Rattle.unit_model.specs.Radiated.{air_cell, used_below, used_mask}
+use Rattle.unit_model.specs.Radiated.{air_cell, used_mask}
 use Rattle.unit_model.specs.declared.cells.Cell.{Cell}
-use Rattle.unit_model.specs.declared.cells.Claim.{Claim}
 use Rattle.unit_model.specs.declared.symbol_start.SymbolStart.{SymbolStart}
 use Rattle.unit_laws.proofs.CellLemmas.{slots_equal}
 use Rattle.unit_laws.proofs.FarLemmas.{endpoints_equal}
 use Rattle.slot_rings.specs.Places.{is_due}
 use Rattle.slot_rings.proofs.PlaceLemmas.{slot_own}
-use Rattle.unit_cells.specs.Cells.{CellsValue, IsCellIn, cells_block, cells_claim, cells_done, cells_has, endpoints_of}
+use Rattle.unit_cells.specs.Cells.{CellsValue, IsCellIn, cells_block, cells_claim, cells_done, endpoints_of}
 use Rattle.ru_reports.specs.Symbols.{IsSymbol, MarksTold, cell_in, is_left, is_told, left_at, left_told}
 use Rattle.ru_buffers.specs.Reporting.{IsFirstLeft, IsLeftAfter}
 use Rattle.ru_buffers.proofs.MarkedLemmas.{used_same}

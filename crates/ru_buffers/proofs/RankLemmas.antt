@@ -1,6 +1,6 @@
 -- The places of symbols in their order, as numbers that rise.
-use Rattle.std.proofs.Common.{◌≡◌, ℕ, ℤ, pos, ◌+◌, ◌+ℤ◌, ◌-◌, ◌*◌, ◌<◌, ◌≤◌, ◌≤ℤ◌, ◌<ℤ◌, ◌^◌, neg_ℤ, Bool, true, false, ◌&&◌, ◌||◌, ◌==◌, refl, sym, ap, ◌∙◌, arith, ◌⊎◌, inl, inr}
-use Rattle.std.specs.Prelude.{int_lt, nat_lt, Option, Some, None}
+use Rattle.std.proofs.Common.{◌≡◌, ℕ, ℤ, pos, ◌+◌, ◌+ℤ◌, ◌*◌, ◌<◌, ◌≤◌, ◌≤ℤ◌, ◌<ℤ◌, ◌^◌, neg_ℤ, Bool, true, false, ◌&&◌, ◌||◌, ◌==◌, refl, ap, arith, ◌⊎◌, inl, inr}
+use Rattle.std.specs.Prelude.{int_lt, nat_lt}
 use Rattle.std.specs.Int.{int_gap}
 use Rattle.std.specs.Ordering.{int_eq}
 use Rattle.std.proofs.lemmas.Bool.Decides.{nat_tests}
@@ -11,7 +11,7 @@ use Rattle.unit_model.specs.Order.{comes_before, slot_before, symbol_before}
 use Rattle.unit_model.specs.declared.symbol_start.SymbolStart.{SymbolStart}
 use Rattle.unit_model.proofs.SweepLaws.{gap_is}
 use Rattle.unit_laws.proofs.CellLemmas.{slots_equal}
-use Rattle.ru_buffers.specs.Advancing.{rank_of, rank_past, ranks_left}
+use Rattle.ru_buffers.specs.Advancing.{rank_of, rank_past}
 
 -- a symbol whose place has a number
 pub record IsRanked (m : SymbolStart) : Type 0 where

@@ -1,16 +1,13 @@
 -- Slots that are live, at times that a unit may be given.
-use Rattle.std.proofs.Common.{◌≡◌, ℕ, ℤ, pos, ◌+◌, ◌*◌, ◌<◌, ◌≤◌, ◌≤ℤ◌, ◌+ℤ◌, ◌-ℤ◌, ◌*ℤ◌, ◌^◌, ◌<ℤ◌, neg_ℤ, List, arith}
+use Rattle.std.proofs.Common.{ℕ, ℤ, pos, ◌+◌, ◌*◌, ◌≤ℤ◌, ◌+ℤ◌, ◌-ℤ◌, ◌*ℤ◌, ◌^◌, ◌<ℤ◌, neg_ℤ, List, arith}
 use Rattle.std.proofs.lemmas.Int.{ints, clamps}
-use Rattle.fh_time.specs.Air.{air_of}
 use Rattle.fh_time.specs.Kinds.{kind_start}
-use Rattle.fh_time.specs.Numbering.{IsSlotOf}
 use Rattle.fh_time.specs.declared.values.Slot.{Slot}
 use Rattle.window_config.specs.Limits.{IsWithinLimits}
 use Rattle.window_config.specs.Rings.{ru_reach_of}
-use Rattle.window_config.specs.Windows.{ticks_of_ns}
 use Rattle.window_config.specs.declared.delays.Delays.{Delays}
 use Rattle.window_config.specs.declared.endpoints.EndpointConfig.{EndpointConfig}
-use Rattle.unit_model.specs.Proper.{IsSlot, IsTime}
+use Rattle.unit_model.specs.Proper.{IsSlot}
 use Rattle.unit_model.specs.Radiated.{first_clock}
 use Rattle.unit_model.specs.Sweeps.{frame_of_tick}
 use Rattle.unit_laws.specs.Swept.{IsSwept}

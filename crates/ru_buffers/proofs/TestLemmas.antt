@@ -1,10 +1,13 @@
 -- What tests rest on: the unit stands for some history after each call.
-use Rattle.std.proofs.Common.{◌≡◌, ℤ, pos, ◌-ℤ◌, List, [], ◌∙◌, sym, subst, arith, ◌≤ℤ◌, ◌<ℤ◌, Result, Ok, Err, OnOk, OnErr, IfOk}
+use Rattle.std.proofs.Common.{◌≡◌, ◌∷◌, ◌++◌, All, ℤ, pos, ◌-ℤ◌, List, [], ◌∙◌, sym, subst, arith, ◌≤ℤ◌, ◌<ℤ◌, Result, Ok, Err, OnOk, OnErr, IfOk}
 use Rattle.std.specs.Prelude.{Option, Some, None, IfSome, IfNone}
 use Rattle.std.proofs.lemmas.Int.{ints}
+use Rattle.std.proofs.lemmas.List.Elements.{All-nil, All-push}
 use Rattle.air_source.specs.declared.airs.AirFault.{AirFault}
 use Rattle.air_source.specs.declared.events.Event.{Event}
 use Rattle.fh_base.specs.declared.fault.NoMemory.{NoMemory}
+use Rattle.unit_model.specs.Proper.{IsTime}
+use Rattle.unit_model.specs.declared.report.TimedFrame.{TimedFrame as SpecFrame}
 use Rattle.unit_model.specs.Standing.{History, at_clock, handed, heard, nothing_yet}
 use Rattle.unit_model.specs.declared.jobs.UplinkJob.{UplinkJob}
 use Rattle.window_config.specs.declared.config.Config.{Config}
@@ -41,3 +44,14 @@ some_given c h u v None all g same = record { config = c; history = h; stands = 
 
 pub last_before : (a b : ℤ) → a ≤ℤ b → (a -ℤ pos 1) <ℤ b
 last_before a b h = omega (arith, ints)
+
+abbrev HasTime : SpecFrame → Type 0
+HasTime f = IsTime f.at.0
+
+pub none_timed : (xs : List SpecFrame) → xs ≡ [] → All (λ (f : SpecFrame). IsTime f.at.0) xs
+none_timed xs e = subst (All HasTime) (sym e) (All-nil HasTime)
+
+pub one_more_timed :
+    (ys xs : List SpecFrame) (x : SpecFrame) → ys ≡ xs ++ x ∷ [] → All (λ (f : SpecFrame). IsTime f.at.0) xs → IsTime x.at.0 →
+    All (λ (f : SpecFrame). IsTime f.at.0) ys
+one_more_timed ys xs x e h p = subst (All HasTime) (sym e) (All-push HasTime xs x h p)

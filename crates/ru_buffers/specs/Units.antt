@@ -1,6 +1,6 @@
 -- What a radio unit keeps in fixed memory, and the histories for which it stands: it answers for the slots that are live (this
 -- project's profile).
-use Rattle.std.specs.Prelude.{◌≡◌, ℕ, ℤ, pos, ◌<◌, ◌+ℤ◌, ◌-ℤ◌, ◌≤ℤ◌, true, List, [], ◌++◌, Option, Some}
+use Rattle.std.specs.Prelude.{◌≡◌, ℤ, pos, ◌<◌, ◌+ℤ◌, ◌-ℤ◌, ◌≤ℤ◌, true, List, [], ◌++◌, Some}
 use Rattle.std.specs.List.{list_any}
 use Rattle.air_source.specs.declared.events.Side.TheVariants.{Ru}
 use Rattle.window_config.specs.declared.config.Config.{Config}

@@ -229,10 +229,11 @@ fn one_of_many(unit: &mut Ru, k: u32, air: &mut MemoryAir) -> Result<(), AirFaul
     ensures given { HasGivenPast unit.new }
 {
     let (slot, start) = slot_30(k);
-    if k % 100 == 99 {
-        step(unit, Ticks(start.0.wrapping_sub(614_400_000)), air)?;
-        hand(unit, &command_of(slot));
+    if k % 100 != 99 {
+        return step(unit, start, air);
     }
+    step(unit, Ticks(start.0.wrapping_sub(614_400_000)), air)?;
+    hand(unit, &command_of(slot));
     step(unit, start, air)
 }
 

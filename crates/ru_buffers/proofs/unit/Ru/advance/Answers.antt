@@ -1,8 +1,7 @@
 use Rattle.std.proofs.Common.{◌∙◌, ap}
-use Rattle.std.specs.Prelude.{ℤ, pos, ◌-ℤ◌}
+use Rattle.std.specs.Prelude.{pos, ◌-ℤ◌}
 use Rattle.fh_time.specs.declared.values.Ticks.{Ticks}
-use Rattle.window_config.specs.declared.config.Config.{Config}
-use Rattle.unit_model.specs.Standing.{History, heard}
+use Rattle.unit_model.specs.Standing.{heard}
 use Rattle.ru_buffers.specs.Reporting.{due_of}
 use Rattle.ru_buffers.proofs.CallLemmas.{ready_known, ready_settled, stands_later, stands_settled}
 use Rattle.ru_buffers.proofs.unit.Ru.advance.Goals as goal

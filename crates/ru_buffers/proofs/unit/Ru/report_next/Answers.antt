@@ -1,6 +1,5 @@
 use Rattle.std.proofs.Common.{[], refl, sym, append-nil}
 use Rattle.ru_memory.specs.declared.memory.RuMemory.{RuMemory}
-use Rattle.ru_buffers.specs.Reporting.{IsFirstLeft}
 use Rattle.ru_buffers.proofs.LoopLemmas.{first_found, goes_to, over_later, over_none, stops_at}
 use Rattle.ru_buffers.proofs.OrderLemmas.{rest_after}
 use Rattle.ru_buffers.proofs.unit.Ru.report_next.Goals as goal
