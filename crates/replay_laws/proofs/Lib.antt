@@ -5,3 +5,4 @@ pub mod ShownLemmas
 pub mod BesideLemmas
 pub mod SumLemmas
 pub mod LandedLemmas
+pub mod RefusedLemmas

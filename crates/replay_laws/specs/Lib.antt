@@ -2,3 +2,4 @@ pub mod Once
 pub mod Shown
 pub mod Sums
 pub mod Landed
+pub mod Refused

@@ -1,0 +1,46 @@
+-- Whatever is refused changes nothing but counters (this project's profile).
+use Rattle.std.specs.Prelude.{◌≡◌, ◌≢◌, ℤ, List, ◌∷◌, ◌++◌}
+use Rattle.air_source.specs.declared.events.Side.TheVariants.{Ru}
+use Rattle.ecpri_fragments.specs.Generations.{is_first}
+use Rattle.ecpri_fragments.specs.Verdicts.{Rests, verdict_on}
+use Rattle.window_config.specs.declared.config.Config.{Config}
+use Rattle.unit_model.specs.Blocks.{block_at, data_verdict, timely}
+use Rattle.unit_model.specs.Commands.{accepted, command_verdict}
+use Rattle.unit_model.specs.Decoding.{data_sections}
+use Rattle.unit_model.specs.Meetings.{Arrival, Meeting, Ignored, Commands, Piece, commands, fragments}
+use Rattle.unit_model.specs.Reports.{accepted_of, commands_of, data_of, hold_of, met, timely_of}
+use Rattle.unit_model.specs.declared.cells.Cell.{Cell}
+use Rattle.unit_model.specs.declared.decoded.Command.{Command}
+use Rattle.unit_model.specs.declared.decoded.Data.{Data}
+use Rattle.unit_model.specs.declared.verdicts.CommandVerdict.TheVariants.{Accepted}
+use Rattle.unit_model.specs.declared.verdicts.DataVerdict.TheVariants.{Taken}
+
+-- a message that is refused as it comes, after these earlier ones: it is counted and no more, or it is a fragment that stands
+-- nowhere and begins no generation
+abbrev pub IsRefusedMessage : ℤ → Meeting → List Meeting → Type 0
+IsRefusedMessage hold (Ignored k) earlier = Unit {0}
+IsRefusedMessage hold (Commands cs) earlier = ⊥
+IsRefusedMessage hold (Piece e f) earlier = Rests (verdict_on hold f (fragments earlier)) (is_first hold f (fragments earlier))
+
+-- what is refused among some arrivals, after the earlier ones and before the later ones
+pub record RefusedChangesNothing (c : Config) (arrivals : List Arrival) : Type 0 where
+  -- a message: without it the same sections are decoded, of commands and of data
+  pub message_rests :
+      (later : List Meeting) (m : Meeting) (earlier : List Meeting) → met Ru c arrivals ≡ later ++ m ∷ earlier
+      → IsRefusedMessage (hold_of Ru c.delays) m earlier
+      → (commands (later ++ earlier) ≡ commands_of Ru c arrivals)
+      × (data_sections Ru (hold_of Ru c.delays) (later ++ earlier) ≡ data_of Ru c arrivals)
+  -- a section of a command that is not accepted: without it the same is accepted, so each claim and each uplink message stays
+  pub command_rests :
+      (later : List Command) (x : Command) (earlier : List Command) → commands_of Ru c arrivals ≡ later ++ x ∷ earlier
+      → command_verdict c.delays (accepted c.delays earlier) x ≢ Accepted
+      → accepted c.delays (later ++ earlier) ≡ accepted_of c arrivals
+  -- a section of data that is not taken: without it each cell has the same block
+  pub data_rests :
+      (later : List Data) (x : Data) (earlier : List Data) → data_of Ru c arrivals ≡ later ++ x ∷ earlier
+      → data_verdict Ru c.delays (timely Ru c.delays earlier) x ≢ Taken
+      → (cell : Cell) → block_at (timely Ru c.delays (later ++ earlier)) cell ≡ block_at (timely_of Ru c arrivals) cell
+
+-- in every configuration, whatever arrives
+abbrev pub EachRefusedChangesNothing : Type 0
+EachRefusedChangesNothing = (c : Config) (arrivals : List Arrival) → RefusedChangesNothing c arrivals
