@@ -11,7 +11,7 @@ use Rattle.std.proofs.lemmas.List.Elements.{All-cons, All-tail, All-head}
 use Rattle.frame_network.specs.declared.arrivals.Arrival.{Arrival}
 use Rattle.frame_network.specs.declared.places.Place.{Place}
 use Rattle.frame_network.specs.declared.places.Turn.{Turn}
-use Rattle.frame_network.specs.Network.{arrival_cmp, is_after, put_in, next_of}
+use Rattle.frame_network.specs.Network.{arrival_cmp, is_after, put_in, next_of, first_time}
 use Rattle.frame_network.specs.Places.{place_of, place_cmp, turn_cmp}
 use Rattle.frame_network.specs.Held.{AreHeld}
 use Rattle.frame_network.proofs.Order.{after_turned, first_le, int_le}
@@ -112,6 +112,23 @@ all_later n to t (e ∷ es) held from later =
 
     here : to <ℤ e.1.at.0
     here = subst (λ (p : Place). to <ℤ p.at.0) held.0 (below to t.place.at.0 e.0.place.at.0 later (time_first t e.0 first))
+
+-- the first turn's time is that of the first arrival
+pub first_time_is : (n : ℕ) (t : Turn) (a : Arrival) (es : List (Turn × Arrival)) → AreHeld n es → slice_get es 0 ≡ Some (t, a)
+    → Some t.place.at ≡ first_time (arrivals es)
+first_time_is n t a [] held first = cc
+first_time_is n t a (e ∷ es) held first =
+    let is : e ≡ (t, a) = cc in
+    ap (λ (p : Turn × Arrival). Some p.0.place.at) (sym is) ∙ ap (λ (p : Place). Some p.at) held.0
+
+-- where no turn is before the first, no arrival's time is before its time
+pub none_earlier : (n : ℕ) (t : Turn) (es : List (Turn × Arrival)) → AreHeld n es → All (λ k. is_gt (turn_cmp t k) ≡ false) (map (λ e. e.0) es)
+    → All (λ a. t.place.at.0 ≤ℤ a.at.0) (arrivals es)
+none_earlier n t [] held from = λ k d lt. absurd (omega arith)
+none_earlier n t (e ∷ es) held from =
+    All-cons (λ a. t.place.at.0 ≤ℤ a.at.0) e.1 (arrivals es)
+    (subst (λ (p : Place). t.place.at.0 ≤ℤ p.at.0) held.0 (time_first t e.0 (All-head (λ k. is_gt (turn_cmp t k) ≡ false) e.0 (map (λ e. e.0) es) from)))
+    (none_earlier n t es held.2 (All-tail (λ k. is_gt (turn_cmp t k) ≡ false) e.0 (map (λ e. e.0) es) from))
 
 -- of two turns in order, the first one's arrival is not after the other's
 turns_in_order : (p e : Turn × Arrival) → p.0.place ≡ place_of p.1 → e.0.place ≡ place_of e.1 → turn_cmp p.0 e.0 ≡ Less → is_after p.1 e.1 ≡ false

@@ -91,3 +91,12 @@ later_place_is_after a b time unit way later =
 -- and the one of the earlier place is not
 pub earlier_place_is_not_after : (a b : Arrival) → a.at ≡ b.at → a.side ≡ b.side → a.key.injected ≡ b.key.injected → a.key.place < b.key.place → is_after a b ≡ false
 earlier_place_is_not_after a b time unit way later = not_after a b (later_place_is_after a b time unit way later)
+
+-- at one time and unit, one that was injected is after one that was sent
+injected_is_after : (a b : Arrival) → a.at ≡ b.at → a.side ≡ b.side → a.key.injected ≡ false → b.key.injected ≡ true → is_after b a ≡ true
+injected_is_after a b time unit sent injected =
+    rw (time, unit, sent, injected) (rw (tied_itself int_cmp_total b.at.0, tied_itself bool_cmp_total (is_to_du b.side)) refl)
+
+-- and the one that was sent is not
+pub sent_is_not_after : (a b : Arrival) → a.at ≡ b.at → a.side ≡ b.side → a.key.injected ≡ false → b.key.injected ≡ true → is_after a b ≡ false
+sent_is_not_after a b time unit sent injected = not_after a b (injected_is_after a b time unit sent injected)

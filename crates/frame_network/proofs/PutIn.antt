@@ -5,7 +5,7 @@ use Rattle.std.specs.List.{count_by, sum_by, filter}
 use Rattle.std.proofs.lemmas.List.Sums.{sum_by-cons}
 use Rattle.std.proofs.lemmas.List.Elements.{All-cons, All-tail, All-head}
 use Rattle.frame_network.specs.declared.arrivals.Arrival.{Arrival}
-use Rattle.frame_network.specs.Network.{is_after, put_in}
+use Rattle.frame_network.specs.Network.{is_after, put_in, IsInOrder}
 use Rattle.frame_network.proofs.Order.{not_after, after_not_after_chain, not_after_chain, later_is_after, earlier_place_is_not_after}
 
 -- one more arrival stands in a list between what is not after it and the rest
@@ -89,11 +89,6 @@ put_in_first a [] h = refl
 put_in_first a (b ∷ bs) h = rw (later_is_after a b (All-head (λ x. a.at.0 <ℤ x.at.0) b bs h)) refl
 
 -- ---- a list in order
-
--- none is after one that stands behind it
-abbrev pub IsInOrder : List Arrival → Type 0
-IsInOrder [] = Unit {0}
-IsInOrder (a ∷ rest) = All (λ b. is_after a b ≡ false) rest × IsInOrder rest
 
 -- before one that is after it, an arrival is not after any that stands behind
 none_behind : (a b : Arrival) (bs : List Arrival) → is_after b a ≡ true → IsInOrder (b ∷ bs) → All (λ x. is_after a x ≡ false) (b ∷ bs)

@@ -1,9 +1,10 @@
 -- The order of the frames in flight: this project's profile of a replay.
-use Rattle.std.specs.Prelude.{ℤ, Bool, true, false, List, [], ◌∷◌, Option, Some, None, if◌then◌else◌, int_lt}
+use Rattle.std.specs.Prelude.{◌≡◌, ℤ, Bool, true, false, List, [], ◌∷◌, All, Option, Some, None, if◌then◌else◌, int_lt}
 use Rattle.std.specs.Ordering.{nat_cmp, int_cmp, bool_cmp, on, then_cmp, is_lt}
 use Rattle.std.specs.declared.cmp.Ordering.{Ordering}
 use Rattle.air_source.specs.declared.events.Side.{Side}
 use Rattle.air_source.specs.declared.events.Side.TheVariants.{Ru, Du}
+use Rattle.fh_time.specs.declared.values.Ticks.{Ticks}
 use Rattle.frame_network.specs.declared.arrivals.Arrival.{Arrival}
 use Rattle.frame_network.specs.declared.arrivals.ArrivalKey.{ArrivalKey}
 
@@ -37,3 +38,13 @@ put_in a (b ∷ bs) = if is_after b a then a ∷ b ∷ bs else b ∷ put_in a bs
 abbrev pub next_of : ℤ → List Arrival → Option Arrival
 next_of to [] = None
 next_of to (a ∷ rest) = if int_lt to a.at.0 then None else Some a
+
+-- the time of the first arrival, if there is one
+abbrev pub first_time : List Arrival → Option Ticks
+first_time [] = None
+first_time (a ∷ rest) = Some a.at
+
+-- none is after one that stands behind it
+abbrev pub IsInOrder : List Arrival → Type 0
+IsInOrder [] = Unit {0}
+IsInOrder (a ∷ rest) = All (λ b. is_after a b ≡ false) rest × IsInOrder rest

@@ -1,6 +1,6 @@
 // The arrivals that a network holds, by their turns.
 ghost use Rattle.std.specs.Prelude.{◌≡◌, ◌<ℤ◌, ◌≤ℤ◌, [], ◌∷◌, All, OnOk, OnErr, MatchOption, IfSome, IfNone, is_some, false};
-ghost use Rattle.frame_network.specs.Network.{is_after, put_in, next_of};
+ghost use Rattle.frame_network.specs.Network.{is_after, put_in, next_of, first_time};
 
 use crate::Arrival;
 use crate::places::{Turn, place_of};
@@ -81,6 +81,17 @@ impl Network {
         match self.held.pop_first() {
             None => None,
             Some((_, arrival)) => Some(arrival),
+        }
+    }
+
+    /// The time in ticks of the least arrival, which is the earliest. `None` where none is held.
+    pub fn next_time(&self) -> Option<Ticks>
+        ensures time { result ≡ first_time self.now }
+        ensures least { IfSome result (λ t. All (λ a. t.0 ≤ℤ a.at.0) self.now) }
+    {
+        match self.held.first_key_value() {
+            None => None,
+            Some((turn, _)) => Some(turn.place.at),
         }
     }
 

@@ -47,10 +47,12 @@ fn mark_until(network: &mut Network, to: i64) -> u8 {
 fn arrivals_come_at_their_times(rt: HostRuntime) -> Result<(), Fail> {
     let alloc = rt.alloc();
     let mut network = Network::make(alloc);
+    assert_eq!(rt; network.next_time(), None);
     assert_eq!(rt; mark_until(&mut network, 100), 0);
     send(&mut network, alloc, Side::Ru, 30, key_of(false, 0, 0), 1)?;
     send(&mut network, alloc, Side::Ru, 10, key_of(false, 1, 0), 2)?;
     send(&mut network, alloc, Side::Ru, 20, key_of(false, 2, 0), 3)?;
+    assert_eq!(rt; network.next_time(), Some(Ticks(10)));
     assert_eq!(rt; mark_until(&mut network, 9), 0);
     match network.next_until(Ticks(25)) {
         None => assert!(rt; false),
@@ -62,6 +64,7 @@ fn arrivals_come_at_their_times(rt: HostRuntime) -> Result<(), Fail> {
     }
     assert_eq!(rt; mark_until(&mut network, 25), 3);
     assert_eq!(rt; mark_until(&mut network, 25), 0);
+    assert_eq!(rt; network.next_time(), Some(Ticks(30)));
     assert_eq!(rt; mark_until(&mut network, 30), 1);
     assert_eq!(rt; mark_until(&mut network, 100), 0);
     Ok(())

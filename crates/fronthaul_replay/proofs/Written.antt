@@ -1,12 +1,12 @@
 -- What an air over text wrote of a document's report.
-use Rattle.std.proofs.Common.{◌≡◌, ◌⊎◌, ℕ, List, [], ◌++◌, Option}
+use Rattle.std.proofs.Common.{◌≡◌, ◌⊎◌, inl, inr, ℕ, List, [], ◌++◌, Option}
 use Rattle.std.specs.Io.KnownBytes.{append_known}
 use Rattle.fh_base.specs.Told.{WritesFront}
 use Rattle.air_source.specs.Stops.{GrewSome, StopsIn}
 use Rattle.air_source.specs.declared.events.Event.{Event}
 use Rattle.fh_document.specs.declared.document.Document.{Document}
 use Rattle.ru_buffers.specs.declared.unit.Ru.{Ru}
-use Rattle.replay_loop.specs.Replaying.{StopsInStep, events_of}
+use Rattle.replay_loop.specs.Replaying.{HaltsInStep, StopsInStep, events_of}
 use Rattle.text_air.specs.Owed.{Carried, Halted}
 use Rattle.text_air.specs.Text.{event_text, events_text, end_text}
 use Rattle.text_air.proofs.Texts.{cut_front, finish_front, finished, front_of_whole, stops_front}
@@ -38,11 +38,17 @@ step_front {A} written faults refusals owed d u old new fresh s =
     front_of_whole (written old) (written new) (events_of d) (stops_front written faults refusals owed (events_of d) old new fresh
     (in_step_stops {A = A} (λ a es b. Carried (written a) (owed a) (events_text es) (written b) (owed b)) (λ a e b. Halted (written a) (faults a) (refusals a) (owed a) (event_text e) (written b) (faults b) (refusals b)) d u old new s))
 
--- where a fresh air heard some of the events, or stopped in one of them, it wrote a front of the report
-pub some_front : {A : Type 0} (written : A → Option (List ℕ)) (faults refusals : A → ℕ) (owed : A → List ℕ) (d : Document) (old new : A) → owed old ≡ []
-    → GrewSome {A = A} (λ a es b. Carried (written a) (owed a) (events_text es) (written b) (owed b)) (events_of d) old new
-    ⊎ StopsIn {A = A} (λ a es b. Carried (written a) (owed a) (events_text es) (written b) (owed b)) (λ a e b. Halted (written a) (faults a) (refusals a) (owed a) (event_text e) (written b) (faults b) (refusals b)) (events_of d) old new
+-- an air for which memory ran out in step with a radio unit heard some of the events, or stopped in one of them
+in_step_halts : {A : Type 0} (grew : A → List Event → A → Type 0) (stopped : A → Event → A → Type 0) (d : Document) (u : Ru) (old new : A)
+    → HaltsInStep grew stopped d u old new → GrewSome grew (events_of d) old new ⊎ StopsIn grew stopped (events_of d) old new
+in_step_halts grew stopped d u old new (inl s) = inr (in_step_stops grew stopped d u old new s)
+in_step_halts grew stopped d u old new (inr r) = inl (record { before = r.told; after = r.rest; is = r.is; heard = r.heard })
+
+-- where a fresh air halted so, it wrote a front of the report
+pub some_front : {A : Type 0} (written : A → Option (List ℕ)) (faults refusals : A → ℕ) (owed : A → List ℕ) (d : Document) (u : Ru) (old new : A) → owed old ≡ []
+    → HaltsInStep {A = A} (λ a es b. Carried (written a) (owed a) (events_text es) (written b) (owed b)) (λ a e b. Halted (written a) (faults a) (refusals a) (owed a) (event_text e) (written b) (faults b) (refusals b)) d u old new
     → WritesFront (written old) (written new) (injected_report d)
 unfolding injected_report
-some_front written faults refusals owed d old new fresh cut =
-    front_of_whole (written old) (written new) (events_of d) (cut_front written faults refusals owed (events_of d) old new fresh cut)
+some_front {A} written faults refusals owed d u old new fresh halts =
+    front_of_whole (written old) (written new) (events_of d) (cut_front written faults refusals owed (events_of d) old new fresh
+    (in_step_halts {A = A} (λ a es b. Carried (written a) (owed a) (events_text es) (written b) (owed b)) (λ a e b. Halted (written a) (faults a) (refusals a) (owed a) (event_text e) (written b) (faults b) (refusals b)) d u old new halts))

@@ -1,16 +1,14 @@
--- Frames that land one after the other.
-use Rattle.std.proofs.Common.{◌≡◌, ◌≢◌, ℕ, ℤ, pos, ◌+ℤ◌, ◌≤ℤ◌, ◌<ℤ◌, Bool, true, false, List, [], ◌∷◌, ◌++◌, Some, refl, sym, ap, ◌∙◌, subst, arith, append_assoc, append-nil}
-use Rattle.std.specs.Prelude.{map, if◌then◌else◌}
-use Rattle.std.specs.List.{AllByRecursion}
+-- Frames in flight that land one after the other.
+use Rattle.std.proofs.Common.{◌≡◌, ℕ, ℤ, pos, ◌+ℤ◌, ◌≤ℤ◌, ◌<ℤ◌, Bool, true, false, List, [], ◌∷◌, ◌++◌, All, refl, sym, ap, ◌∙◌, subst, arith, append_assoc, append-nil}
+use Rattle.std.specs.Prelude.{filter, map, if◌then◌else◌}
 use Rattle.std.specs.Ordering.{int_eq}
 use Rattle.std.proofs.lemmas.Int.{ints}
 use Rattle.std.proofs.lemmas.Bool.Decides.{Decides-int_eq}
 use Rattle.std.proofs.lemmas.List.{map-append}
+use Rattle.std.proofs.lemmas.List.Elements.{All-nil, All-head, All-push, All-tail}
 use Rattle.air_source.specs.declared.events.Event.{Event}
-use Rattle.fh_document.specs.declared.document.Document.{Document}
 use Rattle.fh_time.specs.declared.values.Ticks.{Ticks}
-use Rattle.landing_queue.specs.declared.landings.Landing.{Landing}
-use Rattle.landing_queue.specs.Queues.{AreRising, at_time, first_time, landing_of}
+use Rattle.frame_network.specs.declared.arrivals.Arrival.{Arrival as Flying}
 use Rattle.replay_events.specs.Events.{arrival_event}
 use Rattle.replay_events.proofs.TickLemmas.{next_after}
 use Rattle.ru_buffers.specs.Calls.{StandsFor}
@@ -19,9 +17,8 @@ use Rattle.unit_model.specs.Lists.{onto}
 use Rattle.unit_model.specs.Meetings.{Arrival}
 use Rattle.unit_model.specs.Standing.{History, arrived}
 use Rattle.window_config.specs.declared.config.Config.{Config}
-use Rattle.replay_loop.specs.Delivering.{StopsLanding, landed}
-use Rattle.replay_loop.specs.Turns.{AreFrom, arrival_at, arrival_of, frame_at, left_at}
-use Rattle.replay_loop.proofs.NextLemmas.{none_then}
+use Rattle.replay_loop.specs.Coming.{AreFlyingFrom, arrival_at, flying_at, landing_from}
+use Rattle.replay_loop.specs.Delivering.{HaveLanded, StopsLanding, landed}
 
 -- ---- one more
 
@@ -42,116 +39,156 @@ landed_next h xs frame =
     ap (λ (ys : List Arrival). let k : History = record { clock = h.clock; arrivals = ys; reported = h.reported; given = h.given } in k)
     (sym (onto-append h.arrivals xs (arrival_at h.clock frame)))
 
--- ---- what is taken
+-- ---- those of a tick
 
-equal_self : (t : ℤ) → int_eq t t ≡ true
+pub equal_self : (t : ℤ) → int_eq t t ≡ true
 equal_self t = (Decides-int_eq t t).1 refl
 
-equal_not : (x t : ℤ) (b : Bool) → x <ℤ t → int_eq x t ≡ b → b ≡ false
+pub equal_at : (x t : ℤ) → x ≡ t → int_eq x t ≡ true
+equal_at x t is = (Decides-int_eq x t).1 is
+
+pub equal_not : (x t : ℤ) (b : Bool) → x <ℤ t → int_eq x t ≡ b → b ≡ false
 equal_not x t true lt e = let same : x ≡ t = (Decides-int_eq x t).0 e in absurd (omega (arith, ints, lt, same))
 equal_not x t false lt e = refl
 
-pub taken_here : (d : Document) (tick : Ticks) (index : ℕ) (before now : List Landing) → before ≡ landing_of tick index ∷ now
-    → left_at d tick.0 before ≡ arrival_at tick.0 (frame_at d index) ∷ left_at d tick.0 now
-taken_here d tick index before now is =
-    ap (left_at d tick.0) is
-    ∙ ap (λ (b : Bool). map (arrival_of d) (if b then landing_of tick index ∷ at_time tick.0 now else at_time tick.0 now)) (equal_self tick.0)
+equal_above : (x t : ℤ) (b : Bool) → t <ℤ x → int_eq x t ≡ b → b ≡ false
+equal_above x t true lt e = let same : x ≡ t = (Decides-int_eq x t).0 e in absurd (omega (arith, ints, lt, same))
+equal_above x t false lt e = refl
 
-pub taken_later : (tick : Ticks) (index : ℕ) (before now : List Landing) (t : ℤ) → before ≡ landing_of tick index ∷ now → tick.0 <ℤ t → at_time t before ≡ at_time t now
-taken_later tick index before now t is lt =
-    ap (at_time t) is
-    ∙ ap (λ (b : Bool). if b then landing_of tick index ∷ at_time t now else at_time t now) (equal_not tick.0 t (int_eq tick.0 t) lt refl)
+-- one more in front
+abbrev pub with_first : Bool → Flying → List Arrival → List Arrival
+with_first b a xs = if b then landing_from a ∷ xs else xs
 
-pub taken_all : (P : Landing → Type 0) (l : Landing) (before now : List Landing) → before ≡ l ∷ now → AllByRecursion P before → AllByRecursion P now
-taken_all P l before now is h = (subst (AllByRecursion P) is h).1
-
-pub taken_first : (P : Landing → Type 0) (l : Landing) (before now : List Landing) → before ≡ l ∷ now → AllByRecursion P before → P l
-taken_first P l before now is h = (subst (AllByRecursion P) is h).0
-
--- ---- the last one
-
-not_here : (a b : ℤ) → a ≤ℤ b → (b ≡ a → ⊥) → (a +ℤ pos 1) ≤ℤ b
-not_here a b h other = next_after a b (go (int_eq b a) refl)
+pub flying_first : (t : ℤ) (a : Flying) (fs : List Flying) → flying_at t (a ∷ fs) ≡ with_first (int_eq a.at.0 t) a (flying_at t fs)
+flying_first t a fs = go (int_eq a.at.0 t)
   where
-    go : (e : Bool) → int_eq b a ≡ e → a <ℤ b
-    go true e = absurd (other ((Decides-int_eq b a).0 e))
-    go false e = let differ : b ≢ a = other in omega (arith, ints)
+    go : (b : Bool) → map landing_from (if b then a ∷ filter (λ x. int_eq x.at.0 t) fs else filter (λ x. int_eq x.at.0 t) fs) ≡ with_first b a (flying_at t fs)
+    go true = refl
+    go false = refl
 
-rest_from : (a b : ℤ) (q : List Landing) → a ≤ℤ b → AllByRecursion (λ m. b ≤ℤ m.at.0) q → AreFrom a q
-rest_from a b [] order h = tt
-rest_from a b (l ∷ q) order h = (over a b l.at.0 order h.0, rest_from a b q order h.1)
+flying_here : (t : ℤ) (a : Flying) (fs : List Flying) → a.at.0 ≡ t → flying_at t (a ∷ fs) ≡ landing_from a ∷ flying_at t fs
+flying_here t a fs at = flying_first t a fs ∙ ap (λ (b : Bool). with_first b a (flying_at t fs)) (equal_at a.at.0 t at)
+
+flying_not : (t : ℤ) (a : Flying) (fs : List Flying) → int_eq a.at.0 t ≡ false → flying_at t (a ∷ fs) ≡ flying_at t fs
+flying_not t a fs not_at = flying_first t a fs ∙ ap (λ (b : Bool). with_first b a (flying_at t fs)) not_at
+
+abbrev AreAt : ℤ → List Flying → Type 0
+AreAt tick fs = All (λ a. a.at.0 ≡ tick) fs
+
+flying_parts : (tick : ℤ) (gone now : List Flying) → AreAt tick gone → flying_at tick (gone ++ now) ≡ map landing_from gone ++ flying_at tick now
+flying_parts tick [] now at = refl
+flying_parts tick (a ∷ gone) now at =
+    flying_here tick a (gone ++ now) (All-head (λ (x : Flying). x.at.0 ≡ tick) a gone at)
+    ∙ ap (λ (xs : List Arrival). landing_from a ∷ xs) (flying_parts tick gone now (All-tail (λ (x : Flying). x.at.0 ≡ tick) a gone at))
+
+flying_others : (tick t : ℤ) (gone now : List Flying) → tick <ℤ t → AreAt tick gone → flying_at t (gone ++ now) ≡ flying_at t now
+flying_others tick t [] now lt at = refl
+flying_others tick t (a ∷ gone) now lt at =
+    let here : a.at.0 ≡ tick = All-head (λ (x : Flying). x.at.0 ≡ tick) a gone at in
+    flying_not t a (gone ++ now) (equal_not a.at.0 t (int_eq a.at.0 t) (subst (λ (x : ℤ). x <ℤ t) (sym here) lt) refl)
+    ∙ flying_others tick t gone now lt (All-tail (λ (x : Flying). x.at.0 ≡ tick) a gone at)
+
+flying_below : (t from : ℤ) (fs : List Flying) → t <ℤ from → AreFlyingFrom from fs → flying_at t fs ≡ []
+flying_below t from [] lt h = refl
+flying_below t from (a ∷ fs) lt h =
+    let low : from ≤ℤ a.at.0 = All-head (λ (x : Flying). from ≤ℤ x.at.0) a fs h in
+    flying_not t a fs (equal_above a.at.0 t (int_eq a.at.0 t) (below t from a.at.0 lt low) refl)
+    ∙ flying_below t from fs lt (All-tail (λ (x : Flying). from ≤ℤ x.at.0) a fs h)
   where
-    over : (a b c : ℤ) → a ≤ℤ b → b ≤ℤ c → a ≤ℤ c
-    over a b c h k = omega (arith, ints)
+    below : (a b c : ℤ) → a <ℤ b → b ≤ℤ c → a <ℤ c
+    below a b c h k = omega (arith, ints)
 
-pub refused_from : (tick : Ticks) (q : List Landing) → AreFrom tick.0 q → AreRising q → first_time q ≢ Some tick → AreFrom (tick.0 +ℤ pos 1) q
-refused_from tick [] from up other = tt
-refused_from tick (l ∷ q) from up other =
-    let here = not_here tick.0 l.at.0 from.0 (λ same. other (ap (λ z. Some (record { 0 = z })) same)) in
-    (here, rest_from (tick.0 +ℤ pos 1) l.at.0 q here up.0)
+before_next : (t : ℤ) → t <ℤ (t +ℤ pos 1)
+before_next t = omega (arith, ints)
 
-pub refused_none : (d : Document) (tick : ℤ) (q : List Landing) → AreFrom (tick +ℤ pos 1) q → left_at d tick q ≡ []
-refused_none d tick q from = ap (map (arrival_of d)) (none_then tick (tick +ℤ pos 1) q (step tick) from)
-  where
-    step : (t : ℤ) → t <ℤ (t +ℤ pos 1)
-    step t = omega (arith, ints)
+-- none is left at a tick where those in flight come later
+pub flying_none : (t : ℤ) (fs : List Flying) → AreFlyingFrom (t +ℤ pos 1) fs → flying_at t fs ≡ []
+flying_none t fs h = flying_below t (t +ℤ pos 1) fs (before_next t) h
+
+-- those of later ticks are as they were
+pub fly_on : (tick t : ℤ) (old new : List Flying) → HaveLanded tick old new → tick <ℤ t → flying_at t new ≡ flying_at t old
+fly_on tick t old new h lt = sym (ap (flying_at t) h.parts ∙ flying_others tick t h.gone new lt h.at)
+
+-- ---- the next one
+
+-- one that is not before a tick, and not after it, is of the tick
+pub of_tick : (P : Flying → Type 0) (a : Flying) (before now : List Flying) → before ≡ a ∷ now → All P before → P a
+of_tick P a before now is h = All-head P a now (subst (All P) is h)
+
+pub same_tick : (a tick : ℤ) → tick ≤ℤ a → a ≤ℤ tick → a ≡ tick
+same_tick a tick low high = omega (arith, ints)
+
+-- all that are in flight come later
+pub later_from : (tick : ℤ) (fs : List Flying) → All (λ a. tick <ℤ a.at.0) fs → AreFlyingFrom (tick +ℤ pos 1) fs
+later_from tick fs h = λ k d lt. next_after tick _ (h k d lt)
 
 -- ---- the frames so far
 
--- those of the tick are those that landed, and those left
-pub record Lands {A : Type 0} (grew : A → List Event → A → Type 0) (d : Document) (tick : ℤ) (u v : Ru) (old now : List Landing) (before after : A) : Type 0 where
-  pub done : List Arrival
-  pub parts : left_at d tick old ≡ done ++ left_at d tick now
-  pub heard : grew before (map arrival_event done) after
-  pub stands : (c : Config) (h : History) → StandsFor c u h → StandsFor c v (landed h done)
+-- those that are gone have landed, and the rest is in flight
+pub record Lands {A : Type 0} (grew : A → List Event → A → Type 0) (tick : ℤ) (u v : Ru) (old now : List Flying) (before after : A) : Type 0 where
+  pub gone : List Flying
+  pub parts : old ≡ gone ++ now
+  pub at : AreAt tick gone
+  pub heard : grew before (map arrival_event (map landing_from gone)) after
+  pub stands : (c : Config) (h : History) → StandsFor c u h → StandsFor c v (landed h (map landing_from gone))
 
-pub lands_none : {A : Type 0} (grew : A → List Event → A → Type 0) (d : Document) (tick : ℤ) (u : Ru) (q : List Landing) (a : A) → grew a [] a
-    → Lands grew d tick u u q q a a
-lands_none grew d tick u q a none = record {
-  done = [];
+pub lands_none : {A : Type 0} (grew : A → List Event → A → Type 0) (tick : ℤ) (u : Ru) (fs : List Flying) (a : A) → grew a [] a → Lands grew tick u u fs fs a a
+lands_none grew tick u fs a none = record {
+  gone = [];
   parts = refl;
+  at = All-nil _;
   heard = none;
   stands = λ c h stands. subst (λ (k : History). StandsFor c u k) (sym (landed_none h)) stands;
 }
 
-next_parts : (whole done : List Arrival) (x : Arrival) (before now : List Arrival) → whole ≡ done ++ before → before ≡ x ∷ now → whole ≡ (done ++ x ∷ []) ++ now
-next_parts whole done x before now parts is = parts ∙ ap (λ (xs : List Arrival). done ++ xs) is ∙ sym (append_assoc done (x ∷ []) now)
+next_parts : (whole gone : List Flying) (x : Flying) (before now : List Flying) → whole ≡ gone ++ before → before ≡ x ∷ now → whole ≡ (gone ++ x ∷ []) ++ now
+next_parts whole gone x before now parts is = parts ∙ ap (λ (xs : List Flying). gone ++ xs) is ∙ sym (append_assoc gone (x ∷ []) now)
+
+landings_next : (tick : ℤ) (gone : List Flying) (x : Flying) → x.at.0 ≡ tick → map landing_from (gone ++ x ∷ []) ≡ map landing_from gone ++ arrival_at tick x.frame ∷ []
+landings_next tick gone x at =
+    map-append landing_from gone (x ∷ []) ∙ ap (λ (t : ℤ). map landing_from gone ++ arrival_at t x.frame ∷ []) at
 
 pub lands_next : {A : Type 0} (grew : A → List Event → A → Type 0)
     (more : (a b c : A) (first second : List Event) → grew a first b → grew b second c → grew a (first ++ second) c)
-    (d : Document) (tick : Ticks) (index : ℕ) (u v w : Ru) (old before now : List Landing) (a b e : A)
-    → u.clock ≡ tick → before ≡ landing_of tick index ∷ now → Lands grew d tick.0 u v old before a b
-    → grew b (arrival_event (arrival_at tick.0 (frame_at d index)) ∷ []) e
-    → ((c : Config) (h : History) → StandsFor c v h → StandsFor c w (arrived h (frame_at d index)))
-    → Lands grew d tick.0 u w old now a e
-lands_next grew more d tick index u v w old before now a b e clock is lands one delivered =
-    let x = arrival_at tick.0 (frame_at d index) in
+    (tick : Ticks) (x : Flying) (u v w : Ru) (old before now : List Flying) (a b e : A)
+    → u.clock ≡ tick → before ≡ x ∷ now → x.at.0 ≡ tick.0 → Lands grew tick.0 u v old before a b
+    → grew b (arrival_event (arrival_at tick.0 x.frame) ∷ []) e
+    → ((c : Config) (h : History) → StandsFor c v h → StandsFor c w (arrived h x.frame))
+    → Lands grew tick.0 u w old now a e
+lands_next grew more tick x u v w old before now a b e clock is at lands one delivered =
+    let first = map landing_from lands.gone in
+    let next = landings_next tick.0 lands.gone x at in
     record {
-      done = lands.done ++ x ∷ [];
-      parts = next_parts (left_at d tick.0 old) lands.done x (left_at d tick.0 before) (left_at d tick.0 now) lands.parts (taken_here d tick index before now is);
-      heard = subst (λ (es : List Event). grew a es e) (sym (map-append arrival_event lands.done (x ∷ [])))
-          (more a b e (map arrival_event lands.done) (arrival_event x ∷ []) lands.heard one);
+      gone = lands.gone ++ x ∷ [];
+      parts = next_parts old lands.gone x before now lands.parts is;
+      at = All-push (λ (y : Flying). y.at.0 ≡ tick.0) lands.gone x lands.at at;
+      heard = subst (λ (es : List Event). grew a es e)
+          (sym (ap (map arrival_event) next ∙ map-append arrival_event first (arrival_at tick.0 x.frame ∷ [])))
+          (more a b e (map arrival_event first) (arrival_event (arrival_at tick.0 x.frame) ∷ []) lands.heard one);
       stands = λ c h stands.
-          let at : h.clock ≡ tick.0 = sym stands.kept.clock_is ∙ ap (λ (t : Ticks). t.0) clock in
+          let at_clock : h.clock ≡ tick.0 = sym stands.kept.clock_is ∙ ap (λ (t : Ticks). t.0) clock in
           subst (λ (k : History). StandsFor c w k)
-          (landed_next h lands.done (frame_at d index) ∙ ap (λ (t : ℤ). landed h (lands.done ++ arrival_at t (frame_at d index) ∷ [])) at)
-          (delivered c (landed h lands.done) (lands.stands c h stands));
+          (landed_next h first x.frame ∙ ap (λ (t : ℤ). landed h (first ++ arrival_at t x.frame ∷ [])) at_clock ∙ ap (landed h) (sym next))
+          (delivered c (landed h first) (lands.stands c h stands));
     }
 
-pub done_all : {A : Type 0} (grew : A → List Event → A → Type 0) (d : Document) (tick : ℤ) (u v : Ru) (old now : List Landing) (a b : A)
-    → (lands : Lands grew d tick u v old now a b) → AreFrom (tick +ℤ pos 1) now → lands.done ≡ left_at d tick old
-done_all grew d tick u v old now a b lands from =
-    sym (lands.parts ∙ ap (λ (xs : List Arrival). lands.done ++ xs) (refused_none d tick now from) ∙ append-nil lands.done)
+pub gone_all : {A : Type 0} (grew : A → List Event → A → Type 0) (tick : ℤ) (u v : Ru) (old now : List Flying) (a b : A)
+    → (lands : Lands grew tick u v old now a b) → AreFlyingFrom (tick +ℤ pos 1) now → map landing_from lands.gone ≡ flying_at tick old
+gone_all grew tick u v old now a b lands from =
+    sym (ap (flying_at tick) lands.parts ∙ flying_parts tick lands.gone now lands.at
+    ∙ ap (λ (xs : List Arrival). map landing_from lands.gone ++ xs) (flying_none tick now from) ∙ append-nil (map landing_from lands.gone))
 
-pub stops_here : {A : Type 0} (grew : A → List Event → A → Type 0) (stopped : A → Event → A → Type 0) (d : Document) (tick : Ticks) (index : ℕ) (u v : Ru)
-    (old before now : List Landing) (a b e : A) (c : Config) (h : History)
-    → before ≡ landing_of tick index ∷ now → Lands grew d tick.0 u v old before a b → stopped b (arrival_event (arrival_at tick.0 (frame_at d index))) e
-    → StandsFor c u h → StopsLanding grew stopped c h (left_at d tick.0 old) v a e
-stops_here grew stopped d tick index u v old before now a b e c h is lands stop stands = record {
-  told = lands.done;
-  one = arrival_at tick.0 (frame_at d index);
-  rest = left_at d tick.0 now;
-  is = lands.parts ∙ ap (λ (xs : List Arrival). lands.done ++ xs) (taken_here d tick index before now is);
+pub stops_here : {A : Type 0} (grew : A → List Event → A → Type 0) (stopped : A → Event → A → Type 0) (tick : Ticks) (x : Flying) (u v : Ru)
+    (old before now : List Flying) (a b e : A) (c : Config) (h : History)
+    → before ≡ x ∷ now → x.at.0 ≡ tick.0 → Lands grew tick.0 u v old before a b → stopped b (arrival_event (arrival_at tick.0 x.frame)) e
+    → StandsFor c u h → StopsLanding grew stopped c h (flying_at tick.0 old) v a e
+stops_here grew stopped tick x u v old before now a b e c h is at lands stop stands = record {
+  told = map landing_from lands.gone;
+  one = arrival_at tick.0 x.frame;
+  rest = flying_at tick.0 now;
+  is = ap (flying_at tick.0) lands.parts ∙ flying_parts tick.0 lands.gone before lands.at
+      ∙ ap (λ (fs : List Flying). map landing_from lands.gone ++ flying_at tick.0 fs) is
+      ∙ ap (λ (xs : List Arrival). map landing_from lands.gone ++ xs) (flying_here tick.0 x now at ∙ ap (λ (t : ℤ). arrival_at t x.frame ∷ flying_at tick.0 now) at);
   stands = lands.stands c h stands;
   middle = b;
   heard = lands.heard;

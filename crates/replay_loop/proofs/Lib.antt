@@ -2,9 +2,10 @@ pub mod HeardLemmas
 pub mod DocumentLemmas
 pub mod TurnLemmas
 pub mod StopLemmas
+pub mod LandLemmas
+pub mod ComingLemmas
 pub mod NextLemmas
 pub mod MomentLemmas
-pub mod LandLemmas
 pub mod CountLemmas
 pub mod ListLemmas
 pub mod GiveLemmas

@@ -1,9 +1,10 @@
 -- The frames of a document, as they wait for their times.
-use Rattle.std.proofs.Common.{◌≡◌, ℕ, zero, suc, ℤ, pos, ◌*ℤ◌, ◌≤ℤ◌, ◌+◌, ◌<◌, ◌≤◌, ◌⊎◌, inl, inr, None, Ok, Err, Result, IfOk, Bool, List, [], ◌∷◌, ◌++◌, Some, length, take, take-suc, get_or, true, false, refl, sym, ap, ap₂, ◌∙◌, subst, arith}
+use Rattle.std.proofs.Common.{◌≡◌, ℕ, zero, suc, ℤ, pos, ◌*ℤ◌, ◌≤ℤ◌, ◌+◌, ◌^◌, ◌<◌, ◌≤◌, ◌⊎◌, inl, inr, None, Option, Ok, Err, Result, IfOk, Bool, List, [], ◌∷◌, ◌++◌, Some, length, take, take-suc, get_or, true, false, refl, sym, ap, ap₂, ◌∙◌, subst, arith}
 use Rattle.std.specs.Prelude.{All, map, slice_get, if◌then◌else◌}
+use Rattle.std.specs.List.{AllByRecursion}
 use Rattle.std.specs.Ordering.{int_eq}
 use Rattle.std.proofs.lemmas.List.{length-map, map-append}
-use Rattle.std.proofs.lemmas.List.Elements.{All-cons, All-head, All-tail}
+use Rattle.std.proofs.lemmas.List.Elements.{All-cons, All-head, All-nil, All-tail}
 use Rattle.std.proofs.lemmas.Option.{get_or_from_slice_get, slice_get_cases, slice_get_within}
 use Rattle.fh_document.specs.Proper.{IsDocument, IsInjection}
 use Rattle.fh_document.specs.declared.document.Document.{Document}
@@ -16,7 +17,7 @@ use Rattle.unit_model.specs.Meetings.{Arrival}
 use Rattle.unit_model.specs.Radiated.{first_clock}
 use Rattle.window_config.specs.declared.endpoints.EndpointConfig.{EndpointConfig}
 use Rattle.replay_loop.specs.Replaying.{landing_of, landings_of}
-use Rattle.replay_loop.specs.Turns.{AreFrom, AreListed, Waits, arrival_at, arrival_of, frame_of, left_at, time_of}
+use Rattle.replay_loop.specs.Coming.{AreFrom, AreListed, ArePlaced, Waits, arrival_at, arrival_of, frame_at, frame_of, left_at, time_of}
 use Rattle.replay_loop.proofs.DocumentLemmas.{landing_time}
 
 -- ---- their times
@@ -98,10 +99,55 @@ all_listed d times [] size p = tt
 all_listed d times (l ∷ q) size p =
     (subst (λ n. l.index < n) size (All-head (IsPlaced times) l q p).within, all_listed d times q size (All-tail (IsPlaced times) l q p))
 
+-- ---- those of one time are in the order of the document
+
+abbrev IsNotBefore : ℕ → Landing → Type 0
+IsNotBefore k l = k ≤ l.index
+
+not_before_less : (j k : ℕ) (q : List Landing) → j ≤ k → AllByRecursion (IsNotBefore k) q → AllByRecursion (IsNotBefore j) q
+not_before_less j k [] order h = tt
+not_before_less j k (l ∷ q) order h = let here = h.0 in (omega (arith, order, here), not_before_less j k q order h.1)
+
+not_before_more : (b : Bool) (x : Ticks) (k : ℕ) (q : List Landing) → AllByRecursion (IsNotBefore (suc k)) q → AllByRecursion (IsNotBefore k) (if b then place_of x k ∷ q else q)
+not_before_more true x k q h = (omega arith, not_before_less k (suc k) q (omega arith) h)
+not_before_more false x k q h = not_before_less k (suc k) q (omega arith) h
+
+enumerated_not_before : (t : ℤ) (k : ℕ) (ts : List Ticks) → AllByRecursion (IsNotBefore k) (at_time t (enumerated_from k ts))
+enumerated_not_before t k [] = tt
+enumerated_not_before t k (x ∷ ts) = not_before_more (int_eq x.0 t) x k (at_time t (enumerated_from (suc k) ts)) (enumerated_not_before t (suc k) ts)
+
+above_all : (k : ℕ) (q : List Landing) → AllByRecursion (IsNotBefore (suc k)) q → AllByRecursion (λ m. k < m.index) q
+above_all k [] h = tt
+above_all k (l ∷ q) h = let here = h.0 in (omega (arith, here), above_all k q h.1)
+
+one_more : (b : Bool) (x : Ticks) (k : ℕ) (q : List Landing) → AllByRecursion (IsNotBefore (suc k)) q → ArePlaced q → ArePlaced (if b then place_of x k ∷ q else q)
+one_more true x k q above placed = (above_all k q above, placed)
+one_more false x k q above placed = placed
+
+placed_in_order : (t : ℤ) (k : ℕ) (ts : List Ticks) → ArePlaced (at_time t (enumerated_from k ts))
+placed_in_order t k [] = tt
+placed_in_order t k (x ∷ ts) =
+    one_more (int_eq x.0 t) x k (at_time t (enumerated_from (suc k) ts)) (enumerated_not_before t (suc k) ts) (placed_in_order t (suc k) ts)
+
+-- ---- at the start all wait, and none is in flight
+
 pub all_wait : (d : Document) (times : List Ticks) (q : List Landing) → IsDocument d → times ≡ map time_of d.injections
-    → ((t : ℤ) → at_time t q ≡ at_time t (enumerated times)) → All (IsPlaced times) q → Waits d first_clock q
+    → ((t : ℤ) → at_time t q ≡ at_time t (enumerated times)) → All (IsPlaced times) q → Waits d first_clock (record { listed = q; in_flight = [] })
 all_wait d times q doc are same placed = record {
   left = λ tick low. ap (map (arrival_of d)) (same tick) ∙ ap (λ ts. left_at d tick (enumerated ts)) are ∙ left_all d tick;
   from = all_from times q (subst (All (λ (t : Ticks). first_clock ≤ℤ t.0)) (sym are) (times_from d.config.endpoints d.injections doc.injections)) placed;
   listed = all_listed d times q (ap length are ∙ length-map d.injections time_of) placed;
+  placed = λ t. subst ArePlaced (sym (same t)) (placed_in_order t 0 times);
+  flying = All-nil _;
+  order = tt;
+  sent = All-nil _;
 }
+
+-- ---- a frame of a document is short
+
+short_frame : (es : List EndpointConfig) (o : Option Injection) (is : List Injection) (k : ℕ) → slice_get is k ≡ o → All (IsInjection es) is → length (frame_of o) < 2 ^ 32
+short_frame es None is k found h = omega arith
+short_frame es (Some i) is k found h = let most = (injection_at es is k i found h).short in omega (arith, most)
+
+pub frame_short : (d : Document) (index : ℕ) → IsDocument d → length (frame_at d index) < 2 ^ 32
+frame_short d index doc = short_frame d.config.endpoints (slice_get d.injections index) d.injections index refl doc.injections

@@ -1,14 +1,16 @@
 -- One moment of a replay.
-use Rattle.std.proofs.Common.{◌≡◌, ℤ, pos, ◌+ℤ◌, ◌-ℤ◌, ◌≤ℤ◌, ◌<ℤ◌, List, ◌++◌, sym, ap, ap₂, ◌∙◌, arith}
+use Rattle.std.proofs.Common.{◌≡◌, ℤ, pos, ◌+ℤ◌, ◌-ℤ◌, ◌≤ℤ◌, ◌<ℤ◌, ◌⊎◌, inl, inr, false, List, [], ◌∷◌, ◌++◌, All, sym, ap, ap₂, ◌∙◌, subst, arith}
 use Rattle.std.specs.Prelude.{map}
 use Rattle.std.proofs.lemmas.Int.{ints}
+use Rattle.std.proofs.lemmas.List.Elements.{All-tail}
 use Rattle.air_source.specs.declared.events.AirCell.{AirCell}
 use Rattle.air_source.specs.declared.events.Event.TheVariants.{Cell}
 use Rattle.fh_document.specs.Proper.{IsDocument}
 use Rattle.fh_document.specs.declared.document.Document.{Document}
-use Rattle.landing_queue.specs.declared.landings.Landing.{Landing}
+use Rattle.frame_network.specs.declared.arrivals.Arrival.{Arrival as Flying}
 use Rattle.replay_events.specs.Events.{arrival_event, events_at}
-use Rattle.replay_events.specs.Moments.{end_of_time}
+use Rattle.frame_network.specs.Network.{IsInOrder}
+use Rattle.replay_events.specs.Moments.{end_of_time, landing_at}
 use Rattle.replay_events.proofs.TickLemmas.{next_most}
 use Rattle.ru_buffers.specs.Calls.{HasGivenPast, StandsForSome}
 use Rattle.ru_buffers.specs.Reporting.{due_of}
@@ -18,9 +20,12 @@ use Rattle.unit_model.specs.Meetings.{Arrival}
 use Rattle.unit_model.specs.Proper.{IsTime}
 use Rattle.unit_model.specs.Radiated.{first_clock}
 use Rattle.unit_model.specs.Standing.{History, at_clock, heard}
-use Rattle.replay_loop.specs.Delivering.{HasPassed, IsDrained, giving, landed}
+use Rattle.replay_loop.specs.declared.coming.Coming.{Coming}
+use Rattle.replay_loop.specs.Coming.{Flies, IsSent, IsSentOrAt, IsToRu, Waits, flying_at, left_at}
+use Rattle.replay_loop.specs.Delivering.{HaveLanded, IsDrained, giving, landed}
 use Rattle.replay_loop.specs.Replaying.{landings_of}
-use Rattle.replay_loop.specs.Turns.{AtTurn, Waits, arrival_of, left_at}
+use Rattle.replay_loop.specs.Turns.{AtTurn}
+use Rattle.replay_loop.proofs.LandLemmas.{fly_on}
 use Rattle.replay_loop.proofs.TurnLemmas.{after, due_here, events_are, left_less}
 
 pub some_history : (d : Document) (tick : ℤ) (u : Ru) → AtTurn d tick u → StandsForSome u
@@ -41,32 +46,38 @@ is_time tick low high = record { low = omega (arith, ints, low, high); high = om
 abbrev pub reported_then : Document → ℤ → History → History
 reported_then d tick h = at_clock (heard h (due_of d.config h tick)) tick
 
-pub heard_then : (d : Document) (tick : ℤ) (u : Ru) (q : List Landing) → IsDocument d → (a : AtTurn d tick u) → tick ≤ℤ end_of_time → Waits d tick q
-    → map Cell (due_of d.config a.history tick) ++ map arrival_event (left_at d tick q) ≡ events_at d.config (landings_of d) tick
-heard_then d tick u q doc a ended waits =
-    ap₂ (λ (cs : List AirCell) (xs : List Arrival). map Cell cs ++ map arrival_event xs) (due_here d tick a.history doc a.turn ended) (waits.left tick (same tick))
+pub heard_then : (d : Document) (tick : ℤ) (u : Ru) (xs : List Arrival) → IsDocument d → (a : AtTurn d tick u) → tick ≤ℤ end_of_time → xs ≡ landing_at (landings_of d) tick
+    → map Cell (due_of d.config a.history tick) ++ map arrival_event xs ≡ events_at d.config (landings_of d) tick
+heard_then d tick u xs doc a ended lands =
+    ap₂ (λ (cs : List AirCell) (xs : List Arrival). map Cell cs ++ map arrival_event xs) (due_here d tick a.history doc a.turn ended) lands
     ∙ sym (events_are d.config (landings_of d) tick)
-  where
-    same : (t : ℤ) → t ≤ℤ t
-    same t = omega (arith, ints)
 
-pub turn_then : (d : Document) (tick : ℤ) (u v : Ru) (q : List Landing) → IsDocument d → (a : AtTurn d tick u) → tick ≤ℤ end_of_time → Waits d tick q
-    → IsDrained d.config (landed (reported_then d tick a.history) (left_at d tick q)) v → v.clock.0 ≤ℤ tick → AtTurn d (tick +ℤ pos 1) v
-turn_then d tick u v q doc a ended waits drained clock =
+pub turn_then : (d : Document) (tick : ℤ) (u v : Ru) (xs : List Arrival) → IsDocument d → (a : AtTurn d tick u) → tick ≤ℤ end_of_time → xs ≡ landing_at (landings_of d) tick
+    → IsDrained d.config (landed (reported_then d tick a.history) xs) v → v.clock.0 ≤ℤ tick → AtTurn d (tick +ℤ pos 1) v
+turn_then d tick u v xs doc a ended lands drained clock =
     let h = a.history in
-    let k = giving (landed (reported_then d tick h) (left_at d tick q)) drained.given in
+    let k = giving (landed (reported_then d tick h) xs) drained.given in
     record {
       history = k;
       stands = drained.stands;
       turn = after d tick h k doc a.turn ended
-          (ap (λ (xs : List Arrival). onto h.arrivals xs) (waits.left tick (same tick)))
+          (ap (λ (xs : List Arrival). onto h.arrivals xs) lands)
           (ap (λ (cs : List AirCell). h.reported ++ cs) (due_here d tick h doc a.turn ended))
           (record { cells = drained.stands.kept.past; messages = drained.none });
       clock = next_most v.clock.0 tick clock;
     }
-  where
-    same : (t : ℤ) → t ≤ℤ t
-    same t = omega (arith, ints)
+
+-- ---- what is to come then
+
+same_most : (t : ℤ) → t ≤ℤ t
+same_most t = omega (arith, ints)
+
+-- what flies at the tick is what lands
+pub flies_here : (d : Document) (tick : ℤ) (old new : Coming) → Waits d tick old → Flies d tick old new → flying_at tick new.in_flight ≡ landing_at (landings_of d) tick
+flies_here d tick old new waits flies = flies.now ∙ waits.left tick (same_most tick)
+
+pub all_to_ru : (tick : ℤ) (fs : List Flying) → All (IsSentOrAt tick) fs → All IsToRu fs
+all_to_ru tick fs h = λ k d lt. (h k d lt).0
 
 below_next : (a t : ℤ) → (a +ℤ pos 1) ≤ℤ t → a <ℤ t
 below_next a t h = omega (arith, ints)
@@ -74,9 +85,37 @@ below_next a t h = omega (arith, ints)
 above_next : (a t : ℤ) → (a +ℤ pos 1) ≤ℤ t → a ≤ℤ t
 above_next a t h = omega (arith, ints)
 
-pub waits_then : (d : Document) (tick : ℤ) (q r : List Landing) → Waits d tick q → HasPassed tick q r → Waits d (tick +ℤ pos 1) r
-waits_then d tick q r waits passed = record {
-  left = λ t low. ap (map (arrival_of d)) (passed.later t (below_next tick t low)) ∙ waits.left t (above_next tick t low);
-  from = passed.from;
-  listed = passed.listed d waits.listed;
-}
+-- the rest of a list in order is in order
+order_rest : (gone now : List Flying) → IsInOrder (gone ++ now) → IsInOrder now
+order_rest [] now h = h
+order_rest (a ∷ gone) now h = order_rest gone now h.1
+
+all_rest : (P : Flying → Type 0) (gone now : List Flying) → All P (gone ++ now) → All P now
+all_rest P [] now h = h
+all_rest P (a ∷ gone) now h = all_rest P gone now (All-tail P a (gone ++ now) h)
+
+not_both : (a tick : ℤ) → a ≡ tick → (tick +ℤ pos 1) ≤ℤ a → ⊥
+not_both a tick same later = omega (arith, ints)
+
+-- one that comes later was sent
+sent_later : (tick : ℤ) (a : Flying) → IsSentOrAt tick a → (tick +ℤ pos 1) ≤ℤ a.at.0 → IsSent a
+sent_later tick a h later = (h.0, go h.1)
+  where
+    go : (a.key.injected ≡ false) ⊎ (a.at.0 ≡ tick) → a.key.injected ≡ false
+    go (inl sent) = sent
+    go (inr at) = absurd (not_both a.at.0 tick at later)
+
+pub waits_then : (d : Document) (tick : ℤ) (old w : Coming) (rest : List Flying) → Waits d tick old → Flies d tick old w → HaveLanded tick w.in_flight rest
+    → Waits d (tick +ℤ pos 1) (record { listed = w.listed; in_flight = rest })
+waits_then d tick old w rest waits flies passed =
+    let there = all_rest (IsSentOrAt tick) passed.gone rest (subst (All (IsSentOrAt tick)) passed.parts flies.there) in
+    record {
+      left = λ t low. ap (λ (xs : List Arrival). xs ++ left_at d t w.listed) (fly_on tick t w.in_flight rest passed (below_next tick t low))
+          ∙ flies.later t (below_next tick t low) ∙ waits.left t (above_next tick t low);
+      from = flies.from;
+      listed = flies.listed;
+      placed = flies.placed;
+      flying = passed.from;
+      order = order_rest passed.gone rest (subst IsInOrder passed.parts flies.order);
+      sent = λ k x lt. sent_later tick _ (there k x lt) (passed.from k x lt);
+    }

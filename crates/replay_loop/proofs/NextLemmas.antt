@@ -1,60 +1,38 @@
 -- The next moment, and the time before it.
-use Rattle.std.proofs.Common.{◌≡◌, ℤ, pos, ◌+ℤ◌, ◌-ℤ◌, ◌≤ℤ◌, ◌<ℤ◌, Bool, true, false, ◌<◌, List, [], ◌∷◌, ◌++◌, Option, Some, None, refl, sym, ap, ◌∙◌, subst, arith, inl, inr, ◌⊎◌}
-use Rattle.std.specs.Prelude.{int_le, int_lt, if◌then◌else◌, IfSome, map}
-use Rattle.std.specs.List.{AllByRecursion}
+use Rattle.std.proofs.Common.{◌≡◌, ℤ, pos, ◌+ℤ◌, ◌-ℤ◌, ◌≤ℤ◌, ◌<ℤ◌, Bool, true, false, ◌<◌, List, [], ◌∷◌, ◌++◌, Option, Some, None, refl, sym, ap₂, ◌∙◌, subst, arith}
+use Rattle.std.specs.Prelude.{int_le, int_lt, if◌then◌else◌, IfSome}
 use Rattle.std.proofs.lemmas.Int.{ints, by_lt_z}
+use Rattle.std.proofs.lemmas.List.Elements.{All-head, All-nil}
+use Rattle.std.specs.Int.{int_gap}
+use Rattle.air_source.specs.declared.events.Event.{Event}
 use Rattle.fh_document.specs.Proper.{IsDocument}
 use Rattle.fh_document.specs.declared.document.Document.{Document}
 use Rattle.fh_time.specs.declared.values.Ticks.{Ticks}
+use Rattle.frame_network.specs.declared.arrivals.Arrival.{Arrival as Flying}
+use Rattle.frame_network.specs.Network.{first_time as first_flying}
 use Rattle.landing_queue.specs.declared.landings.Landing.{Landing}
-use Rattle.landing_queue.specs.Queues.{AreRising, at_time, first_time}
-use Rattle.landing_queue.proofs.QueueLemmas.{none_below}
+use Rattle.landing_queue.specs.Queues.{AreRising, first_time}
+use Rattle.replay_events.specs.Events.{events_at}
 use Rattle.replay_events.specs.Moments.{end_of_time}
 use Rattle.replay_events.specs.Passing.{IsCalm}
 use Rattle.replay_events.proofs.EventLemmas.{events_go_on, events_wait}
-use Rattle.replay_events.specs.Events.{events_at}
-use Rattle.std.specs.Int.{int_gap}
-use Rattle.unit_model.proofs.SweepLaws.{gap_is}
-use Rattle.unit_model.specs.Radiated.{first_clock}
-use Rattle.air_source.specs.declared.events.Event.{Event}
-use Rattle.replay_events.proofs.TickLemmas.{at_most, next_after, same_most}
-use Rattle.ru_buffers.specs.Calls.{IsDue, IsLeastMoment, IsQuietTo, earlier_time}
+use Rattle.replay_events.proofs.TickLemmas.{at_most}
+use Rattle.ru_buffers.specs.Calls.{IsDue, IsLeast, IsLeastOf, IsQuietTo, earlier_time}
 use Rattle.ru_buffers.specs.declared.unit.Ru.{Ru}
+use Rattle.unit_model.proofs.SweepLaws.{gap_is}
+use Rattle.unit_model.specs.Meetings.{Arrival}
+use Rattle.unit_model.specs.Radiated.{first_clock}
 use Rattle.unit_model.specs.Standing.{History}
 use Rattle.window_config.specs.declared.config.Config.{Config}
+use Rattle.replay_loop.specs.declared.coming.Coming.{Coming}
+use Rattle.replay_loop.specs.Coming.{AreFlyingFrom, AreFrom, IsCalmTo, Waits}
 use Rattle.replay_loop.specs.Replaying.{landings_of}
-use Rattle.replay_loop.specs.Turns.{AreFrom, AtTurn, IsIdle, IsMoment, IsNext, Waits, arrival_of, events_before, within_end}
+use Rattle.replay_loop.specs.Turns.{AtTurn, IsMoment, IsNext, IsStill, events_before, within_end}
+use Rattle.replay_loop.proofs.ComingLemmas.{from_less, left_none}
+use Rattle.replay_loop.proofs.LandLemmas.{flying_none}
 use Rattle.replay_loop.proofs.TurnLemmas.{next, quiet_less, skip}
 
--- ---- what is left
-
-pub from_less : (a b : ℤ) (q : List Landing) → a ≤ℤ b → AreFrom b q → AreFrom a q
-from_less a b [] order h = tt
-from_less a b (l ∷ q) order h = (at_most a b l.at.0 order h.0, from_less a b q order h.1)
-
-below_from : (t tick : ℤ) (q : List Landing) → t <ℤ tick → AreFrom tick q → AllByRecursion (λ m. t <ℤ m.at.0) q
-below_from t tick [] lt h = tt
-below_from t tick (l ∷ q) lt h = (below t tick l.at.0 lt h.0, below_from t tick q lt h.1)
-  where
-    below : (a b c : ℤ) → a <ℤ b → b ≤ℤ c → a <ℤ c
-    below a b c h k = omega (arith, ints)
-
-pub none_then : (t tick : ℤ) (q : List Landing) → t <ℤ tick → AreFrom tick q → at_time t q ≡ []
-none_then t tick q lt h = none_below t q (below_from t tick q lt h)
-
-pub from_rising : (l : Landing) (q : List Landing) → AreRising (l ∷ q) → AreFrom l.at.0 (l ∷ q)
-from_rising l q up = (same_most l.at.0, up.0)
-
--- ---- the least time
-
-idle_less : (c : Config) (h : History) (q : List Landing) (a b : ℤ) → a ≤ℤ b → IsIdle c h q b → IsIdle c h q a
-idle_less c h q a b order idle = record { quiet = λ to lt. idle.quiet to (below to a b lt order); from = from_less a b q order idle.from }
-  where
-    below : (a b c : ℤ) → a <ℤ b → b ≤ℤ c → a <ℤ c
-    below a b c h k = omega (arith, ints)
-
-abbrev IsSome_at : Config → History → List Landing → Ticks → Type 0
-IsSome_at c h q t = (IsQuietTo c h t.0 → ⊥) ⊎ (first_time q ≡ Some t)
+-- ---- the least of two times
 
 not_late : (a b : ℤ) → int_lt a b ≡ false → b ≤ℤ a
 not_late a b e = omega (arith, ints)
@@ -62,36 +40,89 @@ not_late a b e = omega (arith, ints)
 late : (a b : ℤ) → int_lt a b ≡ true → a <ℤ b
 late a b e = omega (arith, ints)
 
-ended_at : (c : Config) (h : History) (q : List Landing) (t : Ticks) (b : Bool) → int_lt end_of_time t.0 ≡ b → IsIdle c h q t.0 → IsSome_at c h q t
-    → IsNext c h q (if b then None else Some t)
-ended_at c h q t true e idle some = idle_less c h q (end_of_time +ℤ pos 1) t.0 (next_after end_of_time t.0 (late end_of_time t.0 e)) idle
-ended_at c h q t false e idle some = record { idle = idle; ended = not_late end_of_time t.0 e; some = some }
+below : (a b c : ℤ) → a <ℤ b → b ≤ℤ c → a <ℤ c
+below a b c h k = omega (arith, ints)
 
-least_is : (c : Config) (h : History) (q : List Landing) (t : Ticks) → IsIdle c h q t.0 → IsSome_at c h q t → IsNext c h q (within_end (Some t))
-least_is c h q t idle some = ended_at c h q t (int_lt end_of_time t.0) refl idle some
-
-earlier_is : (c : Config) (h : History) (t : Ticks) (l : Landing) (q : List Landing) (b : Bool) → int_lt l.at.0 t.0 ≡ b → IsLeastMoment c h t.0 → AreRising (l ∷ q)
-    → IsNext c h (l ∷ q) (within_end (if b then Some l.at else Some t))
-earlier_is c h t l q true e least up =
-    let lt = late l.at.0 t.0 e in
-    least_is c h (l ∷ q) l.at (record { quiet = λ to low. least.before to (below to l.at.0 t.0 low lt); from = from_rising l q up }) (inr refl)
+-- what holds of both holds before the earlier of their least times
+earlier_is : (P Q : ℤ → Type 0) (s t : Ticks) (b : Bool) → int_lt t.0 s.0 ≡ b → IsLeast P s.0 → IsLeast Q t.0
+    → IsLeastOf (λ to. P to × Q to) (if b then Some t else Some s)
+earlier_is P Q s t true e p q = record {
+  before = λ to lt. (p.before to (below to t.0 s.0 lt (weaker t.0 s.0 (late t.0 s.0 e))), q.before to lt);
+  at = λ both. q.at both.1;
+}
   where
-    below : (a b c : ℤ) → a <ℤ b → b <ℤ c → a <ℤ c
-    below a b c h k = omega (arith, ints)
-earlier_is c h t l q false e least up =
-    least_is c h (l ∷ q) t (record { quiet = least.before; from = from_less t.0 l.at.0 (l ∷ q) (not_late l.at.0 t.0 e) (from_rising l q up) }) (inl least.at)
+    weaker : (a b : ℤ) → a <ℤ b → a ≤ℤ b
+    weaker a b h = omega (arith, ints)
+earlier_is P Q s t false e p q = record {
+  before = λ to lt. (p.before to lt, q.before to (below to s.0 t.0 lt (not_late t.0 s.0 e)));
+  at = λ both. p.at both.0;
+}
 
-pub is_next : (c : Config) (h : History) (q : List Landing) (due : Option Ticks) → IsDue c h due → AreRising q → IsNext c h q (within_end (earlier_time due (first_time q)))
-is_next c h [] None due up = record { quiet = λ to lt. due to; from = tt }
-is_next c h (l ∷ q) None due up = least_is c h (l ∷ q) l.at (record { quiet = λ to lt. due to; from = from_rising l q up }) (inr refl)
-is_next c h [] (Some t) due up = least_is c h [] t (record { quiet = due.before; from = tt }) (inl due.at)
-is_next c h (l ∷ q) (Some t) due up = earlier_is c h t l q (int_lt l.at.0 t.0) refl due up
+pub earlier_of_both : (P Q : ℤ → Type 0) (a b : Option Ticks) → IsLeastOf P a → IsLeastOf Q b → IsLeastOf (λ to. P to × Q to) (earlier_time a b)
+earlier_of_both P Q None None p q = λ to. (p to, q to)
+earlier_of_both P Q None (Some t) p q = record { before = λ to lt. (p to, q.before to lt); at = λ both. q.at both.1 }
+earlier_of_both P Q (Some s) None p q = record { before = λ to lt. (p.before to lt, q to); at = λ both. p.at both.0 }
+earlier_of_both P Q (Some s) (Some t) p q = earlier_is P Q s t (int_lt t.0 s.0) refl p q
+
+-- ---- what comes first
+
+up_to_next : (a b : ℤ) → a <ℤ b → (a +ℤ pos 1) ≤ℤ b
+up_to_next a b h = omega (arith, ints)
+
+not_past : (a : ℤ) → (a +ℤ pos 1) ≤ℤ a → ⊥
+not_past a h = omega (arith, ints)
+
+pub first_waits : (q : List Landing) → AreRising q → IsLeastOf (λ to. AreFrom (to +ℤ pos 1) q) (first_time q)
+first_waits [] up = λ to. tt
+first_waits (l ∷ q) up = record {
+  before = λ to lt. let order = up_to_next to l.at.0 lt in (order, from_less (to +ℤ pos 1) l.at.0 q order up.0);
+  at = λ from. not_past l.at.0 from.0;
+}
+
+pub flying_less : (a b : ℤ) (fs : List Flying) → a ≤ℤ b → AreFlyingFrom b fs → AreFlyingFrom a fs
+flying_less a b fs order h = λ k d lt. at_most a b _ order (h k d lt)
+
+pub first_flies : (fs : List Flying) → IfSome (first_flying fs) (λ t. AreFlyingFrom t.0 fs) → IsLeastOf (λ to. AreFlyingFrom (to +ℤ pos 1) fs) (first_flying fs)
+first_flies [] h = λ to. All-nil _
+first_flies (a ∷ fs) h = record {
+  before = λ to lt. flying_less (to +ℤ pos 1) a.at.0 (a ∷ fs) (up_to_next to a.at.0 lt) h;
+  at = λ from. not_past a.at.0 (All-head (λ (x : Flying). (a.at.0 +ℤ pos 1) ≤ℤ x.at.0) a fs from);
+}
+
+-- ---- the next moment
+
+due_least : (c : Config) (h : History) (due : Option Ticks) → IsDue c h due → IsLeastOf (IsQuietTo c h) due
+due_least c h None due = due
+due_least c h (Some t) due = record { before = due.before; at = due.at }
+
+order_to : (a b : ℤ) → a ≤ℤ b → a <ℤ (b +ℤ pos 1)
+order_to a b h = omega (arith, ints)
+
+abbrev AreStill : Config → History → Coming → ℤ → Type 0
+AreStill c h w to = IsQuietTo c h to × IsCalmTo w to
+
+still : (c : Config) (h : History) (w : Coming) (to : ℤ) → AreStill c h w to → IsStill c h w to
+still c h w to both = record { quiet = both.0; calm = both.1 }
+
+ended_at : (c : Config) (h : History) (w : Coming) (t : Ticks) (b : Bool) → int_lt end_of_time t.0 ≡ b → IsLeast (AreStill c h w) t.0 → IsNext c h w (if b then None else Some t)
+ended_at c h w t true e least = λ to order. still c h w to (least.before to (before_it to order))
+  where
+    before_it : (to : ℤ) → to ≤ℤ end_of_time → to <ℤ t.0
+    before_it to order = let over = late end_of_time t.0 e in omega (arith, ints, over, order)
+ended_at c h w t false e least = record {
+  before = λ to lt. still c h w to (least.before to lt);
+  at = λ s. least.at (s.quiet, s.calm);
+  ended = not_late end_of_time t.0 e;
+}
+
+next_by : (c : Config) (h : History) (w : Coming) (time : Option Ticks) → IsLeastOf (AreStill c h w) time → IsNext c h w (within_end time)
+next_by c h w None least = λ to order. still c h w to (least to)
+next_by c h w (Some t) least = ended_at c h w t (int_lt end_of_time t.0) refl least
+
+pub is_next : (c : Config) (h : History) (w : Coming) (due comes : Option Ticks) → IsDue c h due → IsLeastOf (IsCalmTo w) comes → IsNext c h w (within_end (earlier_time due comes))
+is_next c h w due comes is_due calm = next_by c h w (earlier_time due comes) (earlier_of_both (IsQuietTo c h) (IsCalmTo w) due comes (due_least c h due is_due) calm)
 
 -- ---- it is not before the tick
-
-first_from : (now : ℤ) (q : List Landing) (t : Ticks) → AreFrom now q → first_time q ≡ Some t → now ≤ℤ t.0
-first_from now [] t h e = cc
-first_from now (l ∷ q) t h e = subst (λ o. IfSome o (λ x. now ≤ℤ x.0)) e h.0
 
 last_before : (a b : ℤ) → a <ℤ b → a ≤ℤ (b -ℤ pos 1)
 last_before a b h = omega (arith, ints)
@@ -99,35 +130,65 @@ last_before a b h = omega (arith, ints)
 before_here : (a : ℤ) → (a -ℤ pos 1) <ℤ a
 before_here a = omega (arith, ints)
 
-pub not_before : (d : Document) (now : ℤ) (u : Ru) (q : List Landing) (t : Ticks) → (a : AtTurn d now u) → Waits d now q → IsMoment d.config a.history q t.0 → now ≤ℤ t.0
-not_before d now u q t a waits m = by_lt_z t.0 now (λ early. absurd (go early m.some)) (λ late. late)
-  where
-    go : t.0 <ℤ now → IsSome_at d.config a.history q t → ⊥
-    go early (inl due) = due (quiet_less d.config u a.history t.0 (now -ℤ pos 1) a.stands (last_before t.0 now early) a.turn.quiet)
-    go early (inr first) = let from = first_from now q t waits.from first in omega (arith, ints, early, from)
+-- before a tick all is still
+still_before : (d : Document) (now to : ℤ) (u : Ru) (w : Coming) → (a : AtTurn d now u) → Waits d now w → to <ℤ now → IsStill d.config a.history w to
+still_before d now to u w a waits early =
+    let order = up_to_next to now early in
+    record {
+      quiet = quiet_less d.config u a.history to (now -ℤ pos 1) a.stands (last_before to now early) a.turn.quiet;
+      calm = (from_less (to +ℤ pos 1) now w.listed order waits.from, flying_less (to +ℤ pos 1) now w.in_flight order waits.flying);
+    }
+
+pub not_before : (d : Document) (now : ℤ) (u : Ru) (w : Coming) (tick : ℤ) → (a : AtTurn d now u) → Waits d now w → IsMoment d.config a.history w tick → now ≤ℤ tick
+not_before d now u w tick a waits m = by_lt_z tick now (λ early. absurd (m.at (still_before d now tick u w a waits early))) (λ late. late)
 
 -- ---- the time before it
 
-calm_until : (d : Document) (now tick : ℤ) (q : List Landing) → Waits d now q → AreFrom tick q → IsCalm (landings_of d) now tick
-calm_until d now tick q waits from t low high = sym (waits.left t low) ∙ ap (map (arrival_of d)) (none_then t tick q high from)
+-- all is still before a tick
+abbrev pub IsIdle : Config → History → Coming → ℤ → Type 0
+IsIdle c h w tick = (to : ℤ) → to <ℤ tick → IsStill c h w to
 
-pub to_idle : (d : Document) (now tick : ℤ) (u : Ru) (q : List Landing) → IsDocument d → (a : AtTurn d now u) → Waits d now q → IsIdle d.config a.history q tick
+pub to_end : (c : Config) (h : History) (w : Coming) → IsNext c h w None → IsIdle c h w (end_of_time +ℤ pos 1)
+to_end c h w still = λ to lt. still to (up_to to lt)
+  where
+    up_to : (to : ℤ) → to <ℤ (end_of_time +ℤ pos 1) → to ≤ℤ end_of_time
+    up_to to h = omega (arith, ints)
+
+calm_until : (d : Document) (now tick : ℤ) (h : History) (w : Coming) → Waits d now w → IsIdle d.config h w tick → IsCalm (landings_of d) now tick
+calm_until d now tick h w waits idle t low high =
+    let calm = (idle t high).calm in
+    sym (waits.left t low) ∙ ap₂ (λ (xs ys : List Arrival). xs ++ ys) (flying_none t w.in_flight calm.1) (left_none d t w.listed calm.0)
+
+pub to_idle : (d : Document) (now tick : ℤ) (u : Ru) (w : Coming) → IsDocument d → (a : AtTurn d now u) → Waits d now w → IsIdle d.config a.history w tick
     → now ≤ℤ tick → tick ≤ℤ (end_of_time +ℤ pos 1) → AtTurn d tick u
-to_idle d now tick u q doc a waits idle order ended = record {
+to_idle d now tick u w doc a waits idle order ended = record {
   history = a.history;
   stands = a.stands;
-  turn = skip d now tick a.history doc a.turn order ended (calm_until d now tick q waits idle.from) (idle.quiet (tick -ℤ pos 1) (before_here tick));
+  turn = skip d now tick a.history doc a.turn order ended (calm_until d now tick a.history w waits idle) (idle (tick -ℤ pos 1) (before_here tick)).quiet;
   clock = at_most u.clock.0 now tick a.clock order;
 }
 
-pub waits_idle : (d : Document) (now tick : ℤ) (q : List Landing) → Waits d now q → now ≤ℤ tick → AreFrom tick q → Waits d tick q
-waits_idle d now tick q waits order from = record { left = λ t low. waits.left t (at_most now tick t order low); from = from; listed = waits.listed }
+last_next : (t : ℤ) → t ≤ℤ ((t -ℤ pos 1) +ℤ pos 1)
+last_next t = omega (arith, ints)
 
-pub events_idle : (d : Document) (now tick : ℤ) (u : Ru) (q : List Landing) → IsDocument d → (a : AtTurn d now u) → Waits d now q → IsIdle d.config a.history q tick
+pub waits_idle : (d : Document) (now tick : ℤ) (h : History) (w : Coming) → Waits d now w → now ≤ℤ tick → IsIdle d.config h w tick → Waits d tick w
+waits_idle d now tick h w waits order idle =
+    let calm = (idle (tick -ℤ pos 1) (before_here tick)).calm in
+    record {
+      left = λ t low. waits.left t (at_most now tick t order low);
+      from = from_less tick ((tick -ℤ pos 1) +ℤ pos 1) w.listed (last_next tick) calm.0;
+      listed = waits.listed;
+      placed = waits.placed;
+      flying = flying_less tick ((tick -ℤ pos 1) +ℤ pos 1) w.in_flight (last_next tick) calm.1;
+      order = waits.order;
+      sent = waits.sent;
+    }
+
+pub events_idle : (d : Document) (now tick : ℤ) (u : Ru) (w : Coming) → IsDocument d → (a : AtTurn d now u) → Waits d now w → IsIdle d.config a.history w tick
     → now ≤ℤ tick → tick ≤ℤ (end_of_time +ℤ pos 1) → events_before d tick ≡ events_before d now
-events_idle d now tick u q doc a waits idle order ended =
-    let quiet = idle.quiet (tick -ℤ pos 1) (before_here tick) in
-    events_wait d.config (landings_of d) now tick (next d now tick a.history doc a.turn order ended (calm_until d now tick q waits idle.from) quiet.cells)
+events_idle d now tick u w doc a waits idle order ended =
+    events_wait d.config (landings_of d) now tick
+    (next d now tick a.history doc a.turn order ended (calm_until d now tick a.history w waits idle) (idle (tick -ℤ pos 1) (before_here tick)).quiet.cells)
 
 pub heard_next : {A : Type 0} (grew : A → List Event → A → Type 0)
     (more : (a b c : A) (first second : List Event) → grew a first b → grew b second c → grew a (first ++ second) c)

@@ -1,5 +1,5 @@
 -- Where an air stopped, and what the unit stands for then.
-use Rattle.std.proofs.Common.{◌≡◌, ℤ, pos, ◌+ℤ◌, ◌≤ℤ◌, List, [], ◌∷◌, ◌++◌, refl, sym, ap, ap₂, ◌∙◌, append_assoc, arith}
+use Rattle.std.proofs.Common.{◌≡◌, ℤ, pos, ◌+ℤ◌, ◌≤ℤ◌, List, [], ◌∷◌, ◌++◌, inl, inr, refl, sym, ap, ap₂, ◌∙◌, append_assoc, arith}
 use Rattle.std.specs.Prelude.{map}
 use Rattle.std.proofs.lemmas.Int.{ints}
 use Rattle.std.proofs.lemmas.List.{map-append}
@@ -12,16 +12,16 @@ use Rattle.replay_events.specs.Events.{arrival_event, cells_at, events, events_a
 use Rattle.replay_events.specs.Moments.{end_of_time, landing_at}
 use Rattle.replay_events.proofs.EventLemmas.{events_go_on}
 use Rattle.replay_events.proofs.TickLemmas.{next_most, ticks_append}
-use Rattle.ru_buffers.specs.Calls.{StopsAtDue}
+use Rattle.ru_buffers.specs.Calls.{StandsFor, StopsAtDue}
 use Rattle.ru_buffers.specs.Reporting.{due_of}
 use Rattle.ru_buffers.specs.declared.unit.Ru.{Ru}
 use Rattle.unit_model.specs.Meetings.{Arrival}
 use Rattle.unit_model.specs.Radiated.{first_clock}
-use Rattle.unit_model.specs.Standing.{History, at_clock, heard}
+use Rattle.unit_model.specs.Standing.{History, at_clock, heard, nothing_yet}
 use Rattle.replay_loop.specs.Delivering.{StopsLanding}
-use Rattle.replay_loop.specs.Replaying.{StopsInStep, arrivals_heard, events_of, landings_of}
-use Rattle.replay_loop.specs.Turns.{IsTurn, StopsBehind, events_before}
-use Rattle.replay_loop.proofs.HeardLemmas.{arrivals-append, arrivals-cells, cells-append, cells-cells}
+use Rattle.replay_loop.specs.Replaying.{HaltsInStep, RestsInStep, StopsInStep, arrivals_heard, events_of, landings_of}
+use Rattle.replay_loop.specs.Turns.{HaltsBehind, IsTurn, RestsBehind, StopsBehind, events_before}
+use Rattle.replay_loop.proofs.HeardLemmas.{arrivals-append, arrivals-cells, arrivals-none, cells-append, cells-cells, cells-none}
 use Rattle.replay_loop.proofs.TurnLemmas.{arrivals_then, cells_then, due_here, events_are}
 
 -- in the cells of a tick
@@ -92,6 +92,27 @@ stops_landing grew stopped more d tick h xs u a b e doc turn ended lands first s
       };
     }
 
+-- memory ran out before the arrivals
+pub rests_due : {A : Type 0} (grew : A → List Event → A → Type 0) (d : Document) (tick : ℤ) (h : History) (u : Ru) (a b : A)
+    → IsDocument d → IsTurn d tick h → tick ≤ℤ end_of_time → grew a (map Cell (due_of d.config h tick)) b → StandsFor d.config u (at_clock (heard h (due_of d.config h tick)) tick)
+    → RestsBehind grew d (events_before d tick) (events_at d.config (landings_of d) tick) u a b
+rests_due grew d tick h u a b doc turn ended first stands =
+    let cells = due_of d.config h tick in
+    let earlier = events_before d tick in
+    record {
+      told = map Cell cells;
+      rest = map arrival_event (landing_at (landings_of d) tick);
+      is = events_are d.config (landings_of d) tick
+          ∙ ap (λ (cs : List AirCell). map Cell cs ++ map arrival_event (landing_at (landings_of d) tick)) (sym (due_here d tick h doc turn ended));
+      heard = first;
+      step = record {
+        history = _;
+        stands = stands;
+        arrivals = turn.came ∙ sym (arrivals-append [] earlier (map Cell cells) ∙ arrivals-cells (arrivals_heard [] earlier) cells);
+        reported = ap₂ (λ (rs ts : List AirCell). rs ++ ts) turn.told (sym (cells-cells cells)) ∙ sym (cells-append earlier (map Cell cells));
+      };
+    }
+
 -- ---- from a moment to the whole
 
 ticks_after : (d : Document) (tick : ℤ) → first_clock ≤ℤ tick → tick ≤ℤ end_of_time
@@ -133,6 +154,32 @@ stops_whole grew stopped more d tick u a b e begun ended first s =
       step = s.step;
     }
 
+rests_whole : {A : Type 0} (grew : A → List Event → A → Type 0)
+    (more : (a b c : A) (first second : List Event) → grew a first b → grew b second c → grew a (first ++ second) c)
+    (d : Document) (tick : ℤ) (u : Ru) (a b e : A) → first_clock ≤ℤ tick → tick ≤ℤ end_of_time → grew a (events_before d tick) b
+    → RestsBehind grew d (events_before d tick) (events_at d.config (landings_of d) tick) u b e
+    → RestsBehind grew d [] (events_before d (end_of_time +ℤ pos 1)) u a e
+rests_whole grew more d tick u a b e begun ended first s =
+    let earlier = events_before d tick in
+    let these = events_at d.config (landings_of d) tick in
+    let later = events_between d.config (landings_of d) (tick +ℤ pos 1) (end_of_time +ℤ pos 1) in
+    record {
+      told = earlier ++ s.told;
+      rest = s.rest ++ later;
+      is = ticks_after d tick begun ended ∙ ap (λ (es : List Event). (earlier ++ es) ++ later) s.is
+          ∙ ap (λ (es : List Event). es ++ later) (sym (append_assoc earlier s.told s.rest)) ∙ append_assoc (earlier ++ s.told) s.rest later;
+      heard = more a b e earlier s.told first s.heard;
+      step = s.step;
+    }
+
+pub halts_whole : {A : Type 0} (grew : A → List Event → A → Type 0) (stopped : A → Event → A → Type 0)
+    (more : (a b c : A) (first second : List Event) → grew a first b → grew b second c → grew a (first ++ second) c)
+    (d : Document) (tick : ℤ) (u : Ru) (a b e : A) → first_clock ≤ℤ tick → tick ≤ℤ end_of_time → grew a (events_before d tick) b
+    → HaltsBehind grew stopped d (events_before d tick) (events_at d.config (landings_of d) tick) u b e
+    → HaltsBehind grew stopped d [] (events_before d (end_of_time +ℤ pos 1)) u a e
+halts_whole grew stopped more d tick u a b e begun ended first (inl s) = inl (stops_whole grew stopped more d tick u a b e begun ended first s)
+halts_whole grew stopped more d tick u a b e begun ended first (inr s) = inr (rests_whole grew more d tick u a b e begun ended first s)
+
 pub all_events : (d : Document) → events_of d ≡ events_before d (end_of_time +ℤ pos 1) ++ count_events d.config (landings_of d)
 unfolding events
 all_events d = refl
@@ -151,3 +198,30 @@ stops_in_step grew stopped d u a e s =
       stop = s.stop;
       step = s.step;
     }
+
+rests_in_step : {A : Type 0} (grew : A → List Event → A → Type 0) (d : Document) (u : Ru) (a e : A)
+    → RestsBehind grew d [] (events_before d (end_of_time +ℤ pos 1)) u a e → RestsInStep grew d u a e
+rests_in_step grew d u a e s =
+    let counts = count_events d.config (landings_of d) in
+    record {
+      told = s.told;
+      rest = s.rest ++ counts;
+      is = all_events d ∙ ap (λ (es : List Event). es ++ counts) s.is ∙ append_assoc s.told s.rest counts;
+      heard = s.heard;
+      step = s.step;
+    }
+
+pub halts_in_step : {A : Type 0} (grew : A → List Event → A → Type 0) (stopped : A → Event → A → Type 0) (d : Document) (u : Ru) (a e : A)
+    → HaltsBehind grew stopped d [] (events_before d (end_of_time +ℤ pos 1)) u a e → HaltsInStep grew stopped d u a e
+halts_in_step grew stopped d u a e (inl s) = inl (stops_in_step grew stopped d u a e s)
+halts_in_step grew stopped d u a e (inr s) = inr (rests_in_step grew d u a e s)
+
+-- nothing was heard, and nothing landed
+pub none_heard : {A : Type 0} (grew : A → List Event → A → Type 0) (d : Document) (u : Ru) (a : A) → grew a [] a → StandsFor d.config u nothing_yet → RestsInStep grew d u a a
+none_heard grew d u a none stands = record {
+  told = [];
+  rest = events_of d;
+  is = refl;
+  heard = none;
+  step = record { history = nothing_yet; stands = stands; arrivals = sym (arrivals-none []); reported = sym cells-none };
+}

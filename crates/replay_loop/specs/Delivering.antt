@@ -1,9 +1,7 @@
 -- What one tick's frames, and its messages, make of a radio unit (this project's profile).
-use Rattle.std.specs.Prelude.{◌≡◌, ℤ, pos, ◌+ℤ◌, ◌<ℤ◌, List, [], ◌∷◌, ◌++◌, map}
+use Rattle.std.specs.Prelude.{◌≡◌, ℤ, pos, ◌+ℤ◌, List, [], ◌∷◌, ◌++◌, All, map}
 use Rattle.air_source.specs.declared.events.Event.{Event}
-use Rattle.fh_document.specs.declared.document.Document.{Document}
-use Rattle.landing_queue.specs.declared.landings.Landing.{Landing}
-use Rattle.landing_queue.specs.Queues.{at_time}
+use Rattle.frame_network.specs.declared.arrivals.Arrival.{Arrival as Flying}
 use Rattle.replay_events.specs.Events.{arrival_event}
 use Rattle.ru_buffers.specs.Calls.{StandsFor, given_of}
 use Rattle.ru_buffers.specs.declared.unit.Ru.{Ru}
@@ -12,17 +10,18 @@ use Rattle.unit_model.specs.Meetings.{Arrival}
 use Rattle.unit_model.specs.Standing.{History}
 use Rattle.unit_model.specs.declared.jobs.UplinkJob.{UplinkJob}
 use Rattle.window_config.specs.declared.config.Config.{Config}
-use Rattle.replay_loop.specs.Turns.{AreFrom, AreListed}
+use Rattle.replay_loop.specs.Coming.{AreFlyingFrom}
 
 -- a history once these landed too
 abbrev pub landed : History → List Arrival → History
 landed h landings = record { clock = h.clock; arrivals = onto h.arrivals landings; reported = h.reported; given = h.given }
 
--- the frames of a tick have left the queue
-pub record HasPassed (tick : ℤ) (old new : List Landing) : Type 0 where
-  pub from : AreFrom (tick +ℤ pos 1) new
-  pub later : (t : ℤ) → tick <ℤ t → at_time t new ≡ at_time t old
-  pub listed : (d : Document) → AreListed d old → AreListed d new
+-- those of a tick have landed, and the rest fly on
+pub record HaveLanded (tick : ℤ) (old new : List Flying) : Type 0 where
+  pub gone : List Flying
+  pub parts : old ≡ gone ++ new
+  pub at : All (λ a. a.at.0 ≡ tick) gone
+  pub from : AreFlyingFrom (tick +ℤ pos 1) new
 
 -- an air stopped in an arrival, and the unit stands for those before it
 pub record StopsLanding {A : Type 0} (grew : A → List Event → A → Type 0) (stopped : A → Event → A → Type 0) (c : Config) (h : History) (arrivals : List Arrival)

@@ -1,16 +1,19 @@
 -- What holds of the events of every document, whatever lands (this project's profile).
 use Rattle.fh_document.specs.declared.document.Document.{Document}
+use Rattle.replay_events.specs.Moments.{all_arrivals}
 use Rattle.replay_laws.specs.Landed.{AllArrive}
 use Rattle.replay_laws.specs.Once.{IsOnce}
+use Rattle.replay_laws.specs.Refused.{RefusedChangesNothing}
 use Rattle.replay_laws.specs.Shown.{IsShownInTime}
 use Rattle.replay_laws.specs.Sums.{AddsUp}
 use Rattle.replay_loop.specs.Replaying.{landings_of}
 
 -- no cell is reported twice; the samples of a cell came in the symbol's window, and each of its elements was named by a command on time
--- that was accepted under the cell's section id; each decoded section has one counted verdict and each cell one count; and the frames
--- that arrive are those that the document lists, each as often as it is listed
+-- that was accepted under the cell's section id; each decoded section has one counted verdict and each cell one count; the frames
+-- that arrive are those that the document lists, each as often as it is listed; and what is refused changes nothing but counters
 pub record IsSound (d : Document) : Type 0 where
   pub once : IsOnce d.config (landings_of d)
   pub in_time : IsShownInTime d.config (landings_of d)
   pub sums : AddsUp d.config (landings_of d)
   pub arrive : AllArrive (landings_of d)
+  pub refused : RefusedChangesNothing d.config (all_arrivals (landings_of d))

@@ -1,4 +1,5 @@
 pub mod Replaying
+pub mod Coming
 pub mod Turns
 pub mod Delivering
 pub mod Laws

@@ -1,5 +1,5 @@
 -- The replay of a document: its events, and how a radio unit stands to those that were heard (this project's profile).
-use Rattle.std.specs.Prelude.{◌≡◌, ℤ, pos, ◌*ℤ◌, ◌≤ℤ◌, List, [], ◌∷◌, ◌++◌, map}
+use Rattle.std.specs.Prelude.{◌≡◌, ℤ, pos, ◌*ℤ◌, ◌≤ℤ◌, List, [], ◌∷◌, ◌++◌, map, ◌⊎◌}
 use Rattle.air_source.specs.declared.events.AirCell.{AirCell}
 use Rattle.air_source.specs.declared.events.Event.{Event}
 use Rattle.air_source.specs.declared.events.Event.TheVariants.{Cell, Delay, Arrival, Count}
@@ -72,3 +72,15 @@ pub record StopsInStep {A : Type 0} (grew : A → List Event → A → Type 0) (
   pub heard : grew before told middle
   pub stop : stopped middle event after
   pub step : IsInStep d told u
+
+-- the air heard the first of the events, and the unit is in step with them
+pub record RestsInStep {A : Type 0} (grew : A → List Event → A → Type 0) (d : Document) (u : Ru) (before after : A) : Type 0 where
+  pub told : List Event
+  pub rest : List Event
+  pub is : events_of d ≡ told ++ rest
+  pub heard : grew before told after
+  pub step : IsInStep d told u
+
+-- memory ran out in one of them, or between two
+abbrev pub HaltsInStep : {A : Type 0} → (A → List Event → A → Type 0) → (A → Event → A → Type 0) → Document → Ru → A → A → Type 0
+HaltsInStep grew stopped d u before after = StopsInStep grew stopped d u before after ⊎ RestsInStep grew d u before after

@@ -4,6 +4,7 @@
 //! by moment, and keeps no list of what arrived.
 #![tactic(auto)]
 
+mod coming;
 mod counting;
 mod landing;
 mod listing;
@@ -11,5 +12,6 @@ mod moments;
 mod replays;
 #[cfg(test)]
 mod tests;
+mod times;
 
 pub use replays::{ReplayFault, replay};

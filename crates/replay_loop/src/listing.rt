@@ -2,11 +2,13 @@
 ghost use Rattle.std.specs.Prelude.{◌≡◌, ◌^◌, IfOk, map};
 ghost use Rattle.fh_document.specs.Proper.{IsDocument, IsFrom};
 ghost use Rattle.unit_model.specs.Radiated.{first_clock};
-ghost use Rattle.replay_loop.specs.Turns.{Waits, time_of};
+ghost use Rattle.replay_loop.specs.Coming.{Waits, time_of};
 
+use crate::coming::Coming;
 use fh_base::NoMemory;
 use fh_document::{Document, Injection};
 use fh_time::{Ticks, of_ns};
+use frame_network::Network;
 use landing_queue::LandingQueue;
 use std::alloc::Global;
 
@@ -32,11 +34,13 @@ fn times_of(alloc: Global, doc: &Document) -> Result<Vec<Ticks>, NoMemory>
     Ok(times)
 }
 
-/// All frames of a document, none of which has landed.
-pub(crate) fn queue_of(alloc: Global, doc: &Document) -> Result<LandingQueue, NoMemory>
+/// All frames of a document, none of which has landed, and nothing in flight.
+pub(crate) fn coming_of(alloc: Global, doc: &Document) -> Result<Coming, NoMemory>
     requires { IsDocument doc.now }
-    ensures { IfOk result (λ queue. Waits doc.now first_clock queue) }
+    ensures { IfOk result (λ coming. Waits doc.now first_clock coming) }
 {
     let times = times_of(alloc, doc)?;
-    LandingQueue::make(alloc, times.as_slice())
+    let listed = LandingQueue::make(alloc, times.as_slice())?;
+    let in_flight = Network::make(alloc);
+    Ok(Coming { listed, in_flight })
 }

@@ -1,23 +1,23 @@
 // The replay.
-ghost use Rattle.std.specs.Prelude.{◌≡◌, ◌≤◌, IsErrOf, OnErr, OnOk, ◌⊎◌};
+ghost use Rattle.std.specs.Prelude.{◌≤◌, IsErrOf, OnOk};
 ghost use Rattle.air_source.specs.Causes.{HasAirCause};
-ghost use Rattle.air_source.specs.Stops.{GrewSome, StopsIn};
+ghost use Rattle.air_source.specs.declared.airs.AirFault.TheVariants.{Failed, NoMemory as AirWantsMemory};
 ghost use Rattle.fh_base.specs.Causes.{Rose};
 ghost use Rattle.fh_document.specs.Proper.{IsDocument};
 ghost use Rattle.unit_model.specs.Radiated.{first_clock};
 ghost use Rattle.unit_model.specs.Standing.{nothing_yet};
 ghost use Rattle.ru_buffers.specs.Calls.{StandsFor};
 ghost use Rattle.replay_loop.specs.Laws.{IsSound};
-ghost use Rattle.replay_loop.specs.Replaying.{IsDone, StopsInStep, events_of};
-ghost use Rattle.replay_loop.specs.Turns.{Waits};
+ghost use Rattle.replay_loop.specs.Coming.{Waits};
+ghost use Rattle.replay_loop.specs.Replaying.{HaltsInStep, IsDone, StopsInStep, events_of};
 ghost use Rattle.replay_loop.specs.declared.replays.ReplayFault.TheVariants.{AirFailed, NoMemory as WantsMemory};
 
+use crate::coming::Coming;
 use crate::counting::tell_counts;
-use crate::listing::queue_of;
+use crate::listing::coming_of;
 use crate::moments::pass;
 use air_source::{Air, AirFault};
 use fh_document::Document;
-use landing_queue::LandingQueue;
 use ru_buffers::Ru;
 use std::alloc::Global;
 
@@ -26,7 +26,7 @@ use std::alloc::Global;
 pub enum ReplayFault {
     /// The air failed. It heard the events before the one in which it stopped, and the unit is in step with them.
     AirFailed,
-    /// Memory was refused. The air heard the first of the events.
+    /// Memory was refused. The air heard the first of the events, and the unit is in step with them.
     NoMemory,
 }
 
@@ -52,17 +52,16 @@ pub fn replay<A: Air>(
     ensures heard { OnOk result (A.grew out.old (events_of doc.now) out.new) }
     ensures done { OnOk result (IsDone doc.now ru.new) }
     ensures stopped { IsErrOf result AirFailed → StopsInStep A.grew A.stopped doc.now ru.new out.old out.new }
-    ensures wants { IsErrOf result WantsMemory → GrewSome A.grew (events_of doc.now) out.old out.new ⊎ StopsIn A.grew A.stopped (events_of doc.now) out.old out.new }
+    ensures wants { IsErrOf result WantsMemory → HaltsInStep A.grew A.stopped doc.now ru.new out.old out.new }
     ensures cause { IsErrOf result AirFailed → Rose (A.faults out.old) (A.faults out.new) }
     ensures later { A.faults out.old ≤ A.faults out.new }
     ensures same { A.same out.old out.new }
     ensures sound { IsSound doc.now }
 {
-    let mut queue = match queue_of(alloc, doc) {
-        Ok(queue) => queue,
-        Err(_) => return Err(ReplayFault::NoMemory),
+    let Ok(mut coming) = coming_of(alloc, doc) else {
+        return Err(ReplayFault::NoMemory);
     };
-    match run(doc, ru, &mut queue, out) {
+    match run(alloc, doc, ru, &mut coming, out) {
         Ok(()) => Ok(()),
         Err(AirFault::Failed) => Err(ReplayFault::AirFailed),
         Err(AirFault::NoMemory) => Err(ReplayFault::NoMemory),
@@ -71,20 +70,22 @@ pub fn replay<A: Air>(
 
 /// Lets all frames land, and tells the counters.
 fn run<A: Air>(
+    alloc: Global,
     doc: &Document,
     ru: &mut Ru,
-    queue: &mut LandingQueue,
+    coming: &mut Coming,
     out: &mut A,
 ) -> Result<(), AirFault>
     requires document { IsDocument doc.now }
     requires unit { StandsFor doc.now.config ru.old nothing_yet }
-    requires waits { Waits doc.now first_clock queue.old }
+    requires waits { Waits doc.now first_clock coming.old }
     ensures heard { OnOk result (A.grew out.old (events_of doc.now) out.new) }
     ensures done { OnOk result (IsDone doc.now ru.new) }
-    ensures stop { OnErr result (StopsInStep A.grew A.stopped doc.now ru.new out.old out.new) }
+    ensures stop { IsErrOf result Failed → StopsInStep A.grew A.stopped doc.now ru.new out.old out.new }
+    ensures wants { IsErrOf result AirWantsMemory → HaltsInStep A.grew A.stopped doc.now ru.new out.old out.new }
     ensures same { A.same out.old out.new }
     ensures cause { HasAirCause (A.faults out.old) (A.faults out.new) result }
 {
-    pass(doc, ru, queue, out)?;
+    pass(alloc, doc, ru, coming, out)?;
     tell_counts(ru.counters(), out)
 }

@@ -33,5 +33,5 @@ returns-clause-front g c =
     let w = g.K.Sink.written in
     let a = c.new-air.result in
     let b = c.replay.new.out in
-    let front = some_front (λ a. w (sink_of a)) (λ a. g.K.Sink.faults (sink_of a)) (λ a. g.K.Sink.refusals (sink_of a)) owed_of c.args.document.now a b c.new-air.ensures.owed (c.in-Err-NoMemory.ensures.wants (ap Err c.in-Err-NoMemory.field-0-is)) in
+    let front = some_front (λ a. w (sink_of a)) (λ a. g.K.Sink.faults (sink_of a)) (λ a. g.K.Sink.refusals (sink_of a)) owed_of c.args.document.now c.replay.new.ru a b c.new-air.ensures.owed (c.in-Err-NoMemory.ensures.wants (ap Err c.in-Err-NoMemory.field-0-is)) in
     search (rules, front)

@@ -1,97 +1,104 @@
-use Rattle.std.proofs.Common.{◌<◌, List, length, map, sym, ap, subst, refl, ◌∙◌, arith, pos, ◌+ℤ◌}
+use Rattle.std.proofs.Common.{◌≡◌, ◌<◌, ◌^◌, ◌≤ℤ◌, ℕ, List, [], ◌∷◌, length, map, sym, subst, refl, ap, ◌++◌, ◌∙◌, arith, pos, ◌+ℤ◌}
+use Rattle.std.proofs.lemmas.List.Elements.{All-rest}
 use Rattle.std.proofs.lemmas.Result.{err_from_is_err_and}
-use Rattle.landing_queue.specs.Queues.{AreRising, at_time, landing_of}
+use Rattle.frame_network.specs.declared.arrivals.Arrival.{Arrival as Flying}
 use Rattle.replay_events.specs.Events.{arrival_event}
 use Rattle.ru_buffers.specs.Calls.{StandsFor}
 use Rattle.ru_buffers.specs.declared.unit.Ru.{Ru}
 use Rattle.unit_model.specs.Meetings.{Arrival}
-use Rattle.unit_model.specs.Standing.{arrived}
+use Rattle.unit_model.specs.Standing.{History, arrived}
+use Rattle.window_config.specs.declared.config.Config.{Config}
+use Rattle.replay_loop.specs.Coming.{AreFlyingFrom, IsToRu, arrival_at, flying_at}
 use Rattle.replay_loop.specs.Delivering.{StopsLanding, landed}
-use Rattle.replay_loop.specs.Turns.{AreFrom, AreListed, frame_at, left_at}
-use Rattle.replay_loop.proofs.LandLemmas.{done_all, lands_next, lands_none, refused_from, stops_here, taken_all, taken_first, taken_later}
+use Rattle.replay_loop.proofs.LandLemmas.{gone_all, lands_next, lands_none, later_from, of_tick, same_tick, stops_here}
 use Rattle.replay_loop.proofs.landing.land.Goals as goal
 
-pub loop-index-init : goal.loop-index-init
-loop-index-init g c = record {
-  lands = lands_none g.A.Air.grew c.args.doc.now c.args.tick.0 c.args.ru.now c.args.queue.now c.args.out.now (g.met.A.Air.grew_none c.args.out.now);
+pub loop-arrival-init : goal.loop-arrival-init
+loop-arrival-init g c = record {
+  lands = lands_none g.A.Air.grew c.args.tick.0 c.args.ru.now c.args.in_flight.now c.args.out.now (g.met.A.Air.grew_none c.args.out.now);
   unit = c.requires.unit;
   given = c.requires.given;
   clock = refl;
-  from = c.requires.from;
-  listed = λ d h. h;
-  later_left = λ t lt. refl;
+  flying = c.requires.flying;
+  short = c.requires.short;
   same = g.met.A.Air.same_none c.args.out.now;
   later = omega arith;
 }
 
-pub hear-requires-clause-listed : goal.hear-requires-clause-listed
-hear-requires-clause-listed g c =
-    let d = c.args.doc.now in
-    taken_first (λ l. l.index < length d.injections) (landing_of c.args.tick c.in-Some.index) c.loop-index.queue c.take_at.new.self c.in-Some.ensures.took
-    (c.loop-index.invariant.listed d c.requires.listed)
+pub hear-requires-clause-short : goal.hear-requires-clause-short
+hear-requires-clause-short g c =
+    subst (λ (f : List ℕ). length f < 2 ^ 32) (sym c.as_slice.ensures)
+    (of_tick IsToRu c.in-Some.arrival c.loop-arrival.in_flight c.next_until.new.self c.in-Some.ensures.left c.loop-arrival.invariant.short).short
 
-pub loop-index-preserved : goal.loop-index-preserved
-loop-index-preserved g c =
-    let d = c.args.doc.now in
+pub loop-arrival-preserved : goal.loop-arrival-preserved
+loop-arrival-preserved g c =
     let tick = c.args.tick in
-    let index = c.in-Some.index in
-    let old = c.loop-index.invariant in
-    let queue = c.loop-index.queue in
-    let rest = c.take_at.new.self in
-    let took = c.in-Some.ensures.took in
+    let a = c.in-Some.arrival in
+    let old = c.loop-arrival.invariant in
+    let before = c.loop-arrival.in_flight in
+    let rest = c.next_until.new.self in
+    let left = c.in-Some.ensures.left in
     let told = c.in_ok-hear.ensures in
-    let before = old.later in
+    let at : a.at.0 ≡ tick.0 = same_tick a.at.0 tick.0 (of_tick (λ (x : Flying). tick.0 ≤ℤ x.at.0) a before rest left old.flying) c.in-Some.ensures.due in
+    let is = c.as_slice.ensures in
+    let heard = subst (λ (f : List ℕ). g.A.Air.grew c.loop-arrival.out (arrival_event (arrival_at tick.0 f) ∷ []) c.hear.new.out) is told.heard in
+    let delivers : (k : Config) (h : History) → StandsFor k c.loop-arrival.ru h → StandsFor k c.hear.new.ru (arrived h a.frame) =
+    λ k h stands. subst (λ (f : List ℕ). StandsFor k c.hear.new.ru (arrived h f)) is (told.stands k h stands) in
+    let first = old.later in
     let more = c.hear.ensures.cause.later in
     record {
-      lands = lands_next g.A.Air.grew g.met.A.Air.grew_more d tick index c.args.ru.now c.loop-index.ru c.hear.new.ru c.args.queue.now queue rest
-          c.args.out.now c.loop-index.out c.hear.new.out c.requires.clock took old.lands told.heard told.stands;
+      lands = lands_next g.A.Air.grew g.met.A.Air.grew_more tick a c.args.ru.now c.loop-arrival.ru c.hear.new.ru c.args.in_flight.now before rest
+          c.args.out.now c.loop-arrival.out c.hear.new.out c.requires.clock left at old.lands heard delivers;
       unit = record {
         config = old.unit.config;
-        history = arrived old.unit.history (frame_at d index);
-        stands = told.stands old.unit.config old.unit.history old.unit.stands;
+        history = arrived old.unit.history a.frame;
+        stands = delivers old.unit.config old.unit.history old.unit.stands;
       };
       given = c.hear.ensures.given;
       clock = c.hear.ensures.clock ∙ old.clock;
-      from = taken_all _ (landing_of tick index) queue rest took old.from;
-      listed = λ e h. taken_all _ (landing_of tick index) queue rest took (old.listed e h);
-      later_left = λ t lt. sym (taken_later tick index queue rest t took lt) ∙ old.later_left t lt;
+      flying = All-rest (λ (x : Flying). tick.0 ≤ℤ x.at.0) a rest before left old.flying;
+      short = All-rest IsToRu a rest before left old.short;
       same = g.met.A.Air.same_more _ _ _ old.same c.hear.ensures.same;
-      later = omega (arith, before, more);
+      later = omega (arith, first, more);
     }
 
 pub returns-in_err-hear-clause-stop : goal.returns-in_err-hear-clause-stop
 returns-in_err-hear-clause-stop g c k h stands =
     let p = err_from_is_err_and c.from_residual.result c.from_residual.ensures.1 in
-    let d = c.args.doc.now in
     let tick = c.args.tick in
-    let stop = stops_here g.A.Air.grew g.A.Air.stopped d tick c.in-Some.index c.args.ru.now c.loop-index.ru c.args.queue.now c.loop-index.queue c.take_at.new.self
-    c.args.out.now c.loop-index.out c.hear.new.out k h c.in-Some.ensures.took c.loop-index.invariant.lands c.in_err-hear.ensures.stop stands in
-    rw p.1 (subst (λ (u : Ru). StopsLanding g.A.Air.grew g.A.Air.stopped k h (left_at d tick.0 c.args.queue.now) u c.args.out.now c.hear.new.out)
+    let a = c.in-Some.arrival in
+    let old = c.loop-arrival.invariant in
+    let before = c.loop-arrival.in_flight in
+    let rest = c.next_until.new.self in
+    let left = c.in-Some.ensures.left in
+    let at : a.at.0 ≡ tick.0 = same_tick a.at.0 tick.0 (of_tick (λ (x : Flying). tick.0 ≤ℤ x.at.0) a before rest left old.flying) c.in-Some.ensures.due in
+    let stopped = subst (λ (f : List ℕ). g.A.Air.stopped c.loop-arrival.out (arrival_event (arrival_at tick.0 f)) c.hear.new.out) c.as_slice.ensures c.in_err-hear.ensures.stop in
+    let stop = stops_here g.A.Air.grew g.A.Air.stopped tick a c.args.ru.now c.loop-arrival.ru c.args.in_flight.now before rest
+    c.args.out.now c.loop-arrival.out c.hear.new.out k h left at old.lands stopped stands in
+    rw p.1 (subst (λ (u : Ru). StopsLanding g.A.Air.grew g.A.Air.stopped k h (flying_at tick.0 c.args.in_flight.now) u c.args.out.now c.hear.new.out)
     (sym c.in_err-hear.ensures.stays) stop)
 
 pub returns-clause-heard : goal.returns-clause-heard
 returns-clause-heard g c =
-    let old = c.loop-index.invariant in
-    let took = c.in_default.ensures.took in
-    let from = refused_from c.args.tick c.loop-index.queue old.from (subst AreRising took.0 c.take_at.ensures.rising) took.1 in
-    let all = done_all g.A.Air.grew c.args.doc.now c.args.tick.0 c.args.ru.now c.loop-index.ru c.args.queue.now c.loop-index.queue c.args.out.now c.loop-index.out old.lands from in
-    subst (λ (xs : List Arrival). g.A.Air.grew c.args.out.now (map arrival_event xs) c.loop-index.out) all old.lands.heard
+    let old = c.loop-arrival.invariant in
+    let from = later_from c.args.tick.0 c.loop-arrival.in_flight c.in_default.ensures.none in
+    let all = gone_all g.A.Air.grew c.args.tick.0 c.args.ru.now c.loop-arrival.ru c.args.in_flight.now c.loop-arrival.in_flight c.args.out.now c.loop-arrival.out old.lands from in
+    subst (λ (xs : List Arrival). g.A.Air.grew c.args.out.now (map arrival_event xs) c.loop-arrival.out) all old.lands.heard
 
 pub returns-clause-stands : goal.returns-clause-stands
 returns-clause-stands g c k h stands =
-    let old = c.loop-index.invariant in
-    let took = c.in_default.ensures.took in
-    let from = refused_from c.args.tick c.loop-index.queue old.from (subst AreRising took.0 c.take_at.ensures.rising) took.1 in
-    let all = done_all g.A.Air.grew c.args.doc.now c.args.tick.0 c.args.ru.now c.loop-index.ru c.args.queue.now c.loop-index.queue c.args.out.now c.loop-index.out old.lands from in
-    subst (λ (xs : List Arrival). StandsFor k c.loop-index.ru (landed h xs)) all (old.lands.stands k h stands)
+    let old = c.loop-arrival.invariant in
+    let from = later_from c.args.tick.0 c.loop-arrival.in_flight c.in_default.ensures.none in
+    let all = gone_all g.A.Air.grew c.args.tick.0 c.args.ru.now c.loop-arrival.ru c.args.in_flight.now c.loop-arrival.in_flight c.args.out.now c.loop-arrival.out old.lands from in
+    subst (λ (xs : List Arrival). StandsFor k c.loop-arrival.ru (landed h xs)) all (old.lands.stands k h stands)
 
 pub returns-clause-passed : goal.returns-clause-passed
 returns-clause-passed g c =
-    let old = c.loop-index.invariant in
-    let took = c.in_default.ensures.took in
-    let from = refused_from c.args.tick c.loop-index.queue old.from (subst AreRising took.0 c.take_at.ensures.rising) took.1 in
+    let old = c.loop-arrival.invariant in
+    let stays = sym c.in_default.ensures.left in
     record {
-      from = subst (AreFrom (c.args.tick.0 +ℤ pos 1)) (sym took.0) from;
-      later = λ t lt. ap (at_time t) took.0 ∙ old.later_left t lt;
-      listed = λ d h. subst (AreListed d) (sym took.0) (old.listed d h);
+      gone = old.lands.gone;
+      parts = old.lands.parts ∙ ap (λ (fs : List Flying). old.lands.gone ++ fs) stays;
+      at = old.lands.at;
+      from = subst (AreFlyingFrom (c.args.tick.0 +ℤ pos 1)) stays (later_from c.args.tick.0 c.loop-arrival.in_flight c.in_default.ensures.none);
     }

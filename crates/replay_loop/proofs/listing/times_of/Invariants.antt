@@ -1,6 +1,6 @@
 use Rattle.std.proofs.Common.{◌≡◌, take}
 use Rattle.std.specs.Prelude.{map}
-use Rattle.replay_loop.specs.Turns.{time_of}
+use Rattle.replay_loop.specs.Coming.{time_of}
 use Rattle.replay_loop.proofs.listing.times_of.Given as goal
 
 abbrev pub invariant-loop-k : goal.invariant-loop-k

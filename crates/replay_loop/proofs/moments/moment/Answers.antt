@@ -1,27 +1,40 @@
-use Rattle.std.proofs.Common.{◌≡◌, ◌≤ℤ◌, List, map, sym, subst, ◌∙◌}
-use Rattle.std.proofs.lemmas.Result.{err_from_is_err_and}
+use Rattle.std.proofs.Common.{◌≡◌, ◌≤ℤ◌, List, inl, inr, map, sym, subst, ◌∙◌}
 use Rattle.air_source.specs.declared.events.Event.{Event}
 use Rattle.air_source.specs.declared.events.Event.TheVariants.{Cell}
 use Rattle.fh_time.specs.declared.values.Ticks.{Ticks}
 use Rattle.replay_events.specs.Events.{arrival_event}
 use Rattle.replay_events.proofs.TickLemmas.{same_most}
 use Rattle.ru_buffers.specs.Reporting.{due_of}
+use Rattle.replay_loop.specs.Coming.{flying_at}
 use Rattle.replay_loop.specs.Delivering.{landed}
-use Rattle.replay_loop.specs.Turns.{left_at}
-use Rattle.replay_loop.proofs.MomentLemmas.{heard_then, is_ready, reported_then, turn_then, waits_then}
-use Rattle.replay_loop.proofs.StopLemmas.{stops_due, stops_landing}
+use Rattle.replay_loop.proofs.MomentLemmas.{all_to_ru, flies_here, heard_then, is_ready, reported_then, turn_then, waits_then}
+use Rattle.replay_loop.proofs.StopLemmas.{rests_due, stops_due, stops_landing}
 use Rattle.replay_loop.proofs.moments.moment.Goals as goal
 
 pub advance-requires-clause-given : goal.advance-requires-clause-given
 advance-requires-clause-given g c = is_ready c.args.doc.now c.args.tick.0 c.args.ru.now c.requires.turn
 
 pub returns-in_err-advance-clause-stop : goal.returns-in_err-advance-clause-stop
-returns-in_err-advance-clause-stop g c =
-    let p = err_from_is_err_and c.from_residual.result c.from_residual.ensures.1 in
+returns-in_err-advance-clause-stop g c failed =
     let d = c.args.doc.now in
     let a = c.requires.turn in
-    rw p.1 (stops_due g.A.Air.grew g.A.Air.stopped d c.args.tick.0 a.history c.advance.new.self c.args.out.now c.advance.new.air c.requires.document a.turn c.requires.ended
+    stops_due g.A.Air.grew g.A.Air.stopped d c.args.tick.0 a.history c.advance.new.self c.args.out.now c.advance.new.air c.requires.document a.turn c.requires.ended
+    (c.in_err-advance.ensures.stop d.config a.history a.stands)
+
+pub returns-in_err-advance-clause-wants : goal.returns-in_err-advance-clause-wants
+returns-in_err-advance-clause-wants g c wants =
+    let d = c.args.doc.now in
+    let a = c.requires.turn in
+    inl (stops_due g.A.Air.grew g.A.Air.stopped d c.args.tick.0 a.history c.advance.new.self c.args.out.now c.advance.new.air c.requires.document a.turn c.requires.ended
     (c.in_err-advance.ensures.stop d.config a.history a.stands))
+
+pub returns-in_default-clause-wants : goal.returns-in_default-clause-wants
+returns-in_default-clause-wants g c wants =
+    let d = c.args.doc.now in
+    let tick = c.args.tick.0 in
+    let a = c.requires.turn in
+    inr (rests_due g.A.Air.grew d tick a.history c.advance.new.self c.args.out.now c.advance.new.air c.requires.document a.turn c.requires.ended
+    (c.in_ok-advance.ensures.heard d.config a.history a.stands) (c.in_ok-advance.ensures.stands d.config a.history a.stands))
 
 pub land-requires-clause-unit : goal.land-requires-clause-unit
 land-requires-clause-unit g c =
@@ -33,15 +46,30 @@ land-requires-clause-unit g c =
       stands = c.in_ok-advance.ensures.stands d.config a.history a.stands;
     }
 
+pub land-requires-clause-short : goal.land-requires-clause-short
+land-requires-clause-short g c = all_to_ru c.args.tick.0 c.inject.new.coming.in_flight c.in-Ok.ensures.there
+
 pub returns-in_err-land-clause-stop : goal.returns-in_err-land-clause-stop
-returns-in_err-land-clause-stop g c =
-    let p = err_from_is_err_and c.from_residual-in_err-land.result c.from_residual-in_err-land.ensures.1 in
+returns-in_err-land-clause-stop g c failed =
     let d = c.args.doc.now in
     let tick = c.args.tick.0 in
     let a = c.requires.turn in
     let stands = c.in_ok-advance.ensures.stands d.config a.history a.stands in
-    rw p.1 (stops_landing g.A.Air.grew g.A.Air.stopped g.met.A.Air.grew_more d tick a.history (left_at d tick c.args.queue.now) c.land.new.ru
-    c.args.out.now c.advance.new.air c.land.new.out c.requires.document a.turn c.requires.ended (c.requires.waits.left tick (same_most tick))
+    stops_landing g.A.Air.grew g.A.Air.stopped g.met.A.Air.grew_more d tick a.history (flying_at tick c.inject.new.coming.in_flight) c.land.new.ru
+    c.args.out.now c.advance.new.air c.land.new.out c.requires.document a.turn c.requires.ended
+    (flies_here d tick c.args.coming.now c.inject.new.coming c.requires.waits c.in-Ok.ensures)
+    (c.in_ok-advance.ensures.heard d.config a.history a.stands)
+    (c.in_err-land.ensures.stop d.config (reported_then d tick a.history) stands)
+
+pub returns-in_err-land-clause-wants : goal.returns-in_err-land-clause-wants
+returns-in_err-land-clause-wants g c wants =
+    let d = c.args.doc.now in
+    let tick = c.args.tick.0 in
+    let a = c.requires.turn in
+    let stands = c.in_ok-advance.ensures.stands d.config a.history a.stands in
+    inl (stops_landing g.A.Air.grew g.A.Air.stopped g.met.A.Air.grew_more d tick a.history (flying_at tick c.inject.new.coming.in_flight) c.land.new.ru
+    c.args.out.now c.advance.new.air c.land.new.out c.requires.document a.turn c.requires.ended
+    (flies_here d tick c.args.coming.now c.inject.new.coming c.requires.waits c.in-Ok.ensures)
     (c.in_ok-advance.ensures.heard d.config a.history a.stands)
     (c.in_err-land.ensures.stop d.config (reported_then d tick a.history) stands))
 
@@ -54,7 +82,7 @@ drain-requires g c =
     record {
       unit = record {
         config = d.config;
-        history = landed (reported_then d tick a.history) (left_at d tick c.args.queue.now);
+        history = landed (reported_then d tick a.history) (flying_at tick c.inject.new.coming.in_flight);
         stands = c.in_ok-land.ensures.stands d.config (reported_then d tick a.history) stands;
       };
     }
@@ -64,9 +92,10 @@ returns-clause-heard g c =
     let d = c.args.doc.now in
     let tick = c.args.tick.0 in
     let a = c.requires.turn in
-    let queue = c.args.queue.now in
-    subst (λ (es : List Event). g.A.Air.grew c.args.out.now es c.land.new.out) (heard_then d tick c.args.ru.now queue c.requires.document a c.requires.ended c.requires.waits)
-    (g.met.A.Air.grew_more c.args.out.now c.advance.new.air c.land.new.out (map Cell (due_of d.config a.history tick)) (map arrival_event (left_at d tick queue))
+    let flying = flying_at tick c.inject.new.coming.in_flight in
+    let lands = flies_here d tick c.args.coming.now c.inject.new.coming c.requires.waits c.in-Ok.ensures in
+    subst (λ (es : List Event). g.A.Air.grew c.args.out.now es c.land.new.out) (heard_then d tick c.args.ru.now flying c.requires.document a c.requires.ended lands)
+    (g.met.A.Air.grew_more c.args.out.now c.advance.new.air c.land.new.out (map Cell (due_of d.config a.history tick)) (map arrival_event flying)
     (c.in_ok-advance.ensures.heard d.config a.history a.stands) c.in_ok-land.ensures.heard)
 
 pub returns-clause-turn : goal.returns-clause-turn
@@ -74,13 +103,14 @@ returns-clause-turn g c =
     let d = c.args.doc.now in
     let tick = c.args.tick.0 in
     let a = c.requires.turn in
-    let queue = c.args.queue.now in
+    let flying = flying_at tick c.inject.new.coming.in_flight in
+    let lands = flies_here d tick c.args.coming.now c.inject.new.coming c.requires.waits c.in-Ok.ensures in
     let advanced = c.in_ok-advance.ensures.stands d.config a.history a.stands in
     let arrived = c.in_ok-land.ensures.stands d.config (reported_then d tick a.history) advanced in
     let clock : c.drain.new.ru.clock ≡ c.args.tick = c.drain.ensures.clock ∙ c.land.ensures.clock ∙ c.in_ok-advance.ensures.clock in
-    turn_then d tick c.args.ru.now c.drain.new.ru queue c.requires.document a c.requires.ended c.requires.waits
-    (c.drain.ensures.drained d.config (landed (reported_then d tick a.history) (left_at d tick queue)) arrived)
+    turn_then d tick c.args.ru.now c.drain.new.ru flying c.requires.document a c.requires.ended lands
+    (c.drain.ensures.drained d.config (landed (reported_then d tick a.history) flying) arrived)
     (subst (λ (t : Ticks). t.0 ≤ℤ tick) (sym clock) (same_most tick))
 
 pub returns-clause-waits : goal.returns-clause-waits
-returns-clause-waits g c = waits_then c.args.doc.now c.args.tick.0 c.args.queue.now c.land.new.queue c.requires.waits c.in_ok-land.ensures.passed
+returns-clause-waits g c = waits_then c.args.doc.now c.args.tick.0 c.args.coming.now c.inject.new.coming c.land.new.in_flight c.requires.waits c.in-Ok.ensures c.in_ok-land.ensures.passed

@@ -1,10 +1,9 @@
 use Rattle.std.proofs.Common.{sym, ap, subst, ◌∙◌}
-use Rattle.ru_buffers.specs.Calls.{earlier_time}
 use Rattle.replay_loop.specs.Turns.{IsNext, within_end}
 use Rattle.replay_loop.proofs.NextLemmas.{is_next}
 use Rattle.replay_loop.proofs.moments.next_moment.Goals as goal
 
 pub returns : goal.returns
 returns c k h stands =
-    let value = c.up_to_end.ensures ∙ ap within_end (c.earlier_of.ensures ∙ ap (earlier_time c.due.result) c.next_time.ensures.time) in
-    subst (IsNext k h c.args.queue.now) (sym value) (is_next k h c.args.queue.now c.due.result (c.due.ensures k h stands) c.next_time.ensures.rising)
+    subst (IsNext k h c.args.coming.now) (sym (c.up_to_end.ensures ∙ ap within_end c.earlier_of.ensures))
+    (is_next k h c.args.coming.now c.due.result c.next_time.result (c.due.ensures k h stands) c.next_time.ensures)

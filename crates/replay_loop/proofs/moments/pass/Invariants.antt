@@ -1,13 +1,14 @@
 use Rattle.std.proofs.Common.{◌≤◌, ◌+ℤ◌, pos}
 use Rattle.std.specs.Int.{int_gap}
 use Rattle.replay_events.specs.Moments.{end_of_time}
-use Rattle.replay_loop.specs.Turns.{AtTurn, Waits, events_before}
+use Rattle.replay_loop.specs.Coming.{Waits}
+use Rattle.replay_loop.specs.Turns.{AtTurn, events_before}
 use Rattle.replay_loop.proofs.moments.pass.Given as goal
 
 abbrev pub invariant-loop-tick : goal.invariant-loop-tick
 invariant-loop-tick g l = record {
   turn : AtTurn l.doc l.now.0 l.ru;
-  waits : Waits l.doc l.now.0 l.queue;
+  waits : Waits l.doc l.now.0 l.coming;
   heard : g.A.Air.grew l.initial.out (events_before l.doc l.now.0) l.out;
   same : g.A.Air.same l.initial.out l.out;
   later : g.A.Air.faults l.initial.out ≤ g.A.Air.faults l.out;

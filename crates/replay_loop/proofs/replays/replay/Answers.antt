@@ -1,8 +1,14 @@
+use Rattle.std.proofs.Common.{inr}
 use Rattle.replay_loop.proofs.LawLemmas.{is_sound}
+use Rattle.replay_loop.proofs.StopLemmas.{none_heard}
 use Rattle.replay_loop.proofs.replays.replay.Goals as goal
 
-pub returns-in-Err-clause-sound : goal.returns-in-Err-clause-sound
-returns-in-Err-clause-sound g c = is_sound c.args.doc.now c.requires.document
+pub returns-in_default-clause-sound : goal.returns-in_default-clause-sound
+returns-in_default-clause-sound g c = is_sound c.args.doc.now c.requires.document
+
+pub returns-in_default-clause-wants : goal.returns-in_default-clause-wants
+returns-in_default-clause-wants g c wants =
+    inr (none_heard g.A.Air.grew c.args.doc.now c.args.ru.now c.args.out.now (g.met.A.Air.grew_none c.args.out.now) c.requires.unit)
 
 pub returns-in-Err-Failed-clause-sound : goal.returns-in-Err-Failed-clause-sound
 returns-in-Err-Failed-clause-sound g c = is_sound c.args.doc.now c.requires.document

@@ -1,0 +1,117 @@
+-- The frames that are to come to the radio unit as time passes: those of the document that wait, and those in flight (this project's
+-- profile). At one time those in flight come first, in their order, and then those that wait, in the order of the document.
+use Rattle.std.specs.Prelude.{◌≡◌, ℕ, ℤ, pos, ◌+ℤ◌, ◌*ℤ◌, ◌<◌, ◌^◌, ◌<ℤ◌, ◌≤ℤ◌, true, false, List, [], ◌∷◌, ◌++◌, length, map, filter, All, Option, Some, None, slice_get, ◌⊎◌}
+use Rattle.std.specs.List.{AllByRecursion}
+use Rattle.std.specs.Ordering.{int_eq}
+use Rattle.air_source.specs.declared.events.Side.TheVariants.{Ru}
+use Rattle.fh_document.specs.declared.document.Document.{Document}
+use Rattle.fh_document.specs.declared.document.Injection.{Injection}
+use Rattle.fh_time.specs.declared.values.Ticks.{Ticks}
+use Rattle.frame_network.specs.declared.arrivals.Arrival.{Arrival as Flying}
+use Rattle.frame_network.specs.Network.{IsInOrder}
+use Rattle.landing_queue.specs.declared.landings.Landing.{Landing}
+use Rattle.landing_queue.specs.Queues.{at_time}
+use Rattle.replay_events.specs.Moments.{landing_at}
+use Rattle.unit_model.specs.Meetings.{Arrival}
+use Rattle.replay_loop.specs.declared.coming.Coming.{Coming}
+use Rattle.replay_loop.specs.Replaying.{landings_of}
+
+-- ---- a frame of the document
+
+-- its time
+abbrev pub time_of : Injection → Ticks
+time_of i = record { 0 = i.at *ℤ pos 1536 }
+
+-- its bytes
+abbrev pub frame_of : Option Injection → List ℕ
+frame_of None = []
+frame_of (Some i) = i.frame
+
+-- the frame of the document that stands at this place
+abbrev pub frame_at : Document → ℕ → List ℕ
+frame_at d index = frame_of (slice_get d.injections index)
+
+abbrev pub arrival_at : ℤ → List ℕ → Arrival
+arrival_at at frame = record { at = at; frame = frame }
+
+abbrev pub arrival_of : Document → Landing → Arrival
+arrival_of d l = arrival_at l.at.0 (frame_at d l.index)
+
+-- those that wait for a tick
+abbrev pub left_at : Document → ℤ → List Landing → List Arrival
+left_at d tick q = map (arrival_of d) (at_time tick q)
+
+-- none waits for an earlier tick
+abbrev pub AreFrom : ℤ → List Landing → Type 0
+AreFrom now q = AllByRecursion (λ l. now ≤ℤ l.at.0) q
+
+-- each is a frame of the document
+abbrev pub AreListed : Document → List Landing → Type 0
+AreListed d q = AllByRecursion (λ l. l.index < length d.injections) q
+
+-- they are in the order of the document
+abbrev pub ArePlaced : List Landing → Type 0
+ArePlaced [] = Unit {0}
+ArePlaced (l ∷ q) = AllByRecursion (λ m. l.index < m.index) q × ArePlaced q
+
+-- ---- a frame in flight
+
+-- a frame of the document, in flight to the radio unit
+abbrev pub injected_at : Document → Ticks → ℕ → Flying
+injected_at d tick index =
+    record { side = Ru; at = tick; key = record { injected = true; place = index; copy = 0 }; frame = frame_at d index }
+
+-- what it is once it lands
+abbrev pub landing_from : Flying → Arrival
+landing_from a = arrival_at a.at.0 a.frame
+
+-- those that land at a tick
+abbrev pub flying_at : ℤ → List Flying → List Arrival
+flying_at tick fs = map landing_from (filter (λ a. int_eq a.at.0 tick) fs)
+
+-- none lands before a tick
+abbrev pub AreFlyingFrom : ℤ → List Flying → Type 0
+AreFlyingFrom now fs = All (λ a. now ≤ℤ a.at.0) fs
+
+-- one to the radio unit, that an air can hear
+pub record IsToRu (a : Flying) : Type 0 where
+  pub side : a.side ≡ Ru
+  pub short : length a.frame < 2 ^ 32
+
+-- one that a unit sent
+abbrev pub IsSent : Flying → Type 0
+IsSent a = IsToRu a × (a.key.injected ≡ false)
+
+-- one that a unit sent, or one that is injected at this tick
+abbrev pub IsSentOrAt : ℤ → Flying → Type 0
+IsSentOrAt tick a = IsToRu a × ((a.key.injected ≡ false) ⊎ (a.at.0 ≡ tick))
+
+-- ---- both
+
+abbrev pub coming_at : Document → ℤ → Coming → List Arrival
+coming_at d tick w = flying_at tick w.in_flight ++ left_at d tick w.listed
+
+-- none comes up to a time
+abbrev pub IsCalmTo : Coming → ℤ → Type 0
+IsCalmTo w to = AreFrom (to +ℤ pos 1) w.listed × AreFlyingFrom (to +ℤ pos 1) w.in_flight
+
+-- at the start of a tick, those that come from then on are those that land; all that are in flight were sent
+pub record Waits (d : Document) (now : ℤ) (w : Coming) : Type 0 where
+  pub left : (tick : ℤ) → now ≤ℤ tick → coming_at d tick w ≡ landing_at (landings_of d) tick
+  pub from : AreFrom now w.listed
+  pub listed : AreListed d w.listed
+  pub placed : (tick : ℤ) → ArePlaced (at_time tick w.listed)
+  pub flying : AreFlyingFrom now w.in_flight
+  pub order : IsInOrder w.in_flight
+  pub sent : All IsSent w.in_flight
+
+-- all that come at a tick are in flight
+pub record Flies (d : Document) (tick : ℤ) (old new : Coming) : Type 0 where
+  pub now : flying_at tick new.in_flight ≡ coming_at d tick old
+  pub later : (t : ℤ) → tick <ℤ t → coming_at d t new ≡ coming_at d t old
+  pub from : AreFrom (tick +ℤ pos 1) new.listed
+  pub listed : AreListed d new.listed
+  pub placed : (t : ℤ) → ArePlaced (at_time t new.listed)
+  pub flying : AreFlyingFrom tick new.in_flight
+  pub order : IsInOrder new.in_flight
+  pub there : All (IsSentOrAt tick) new.in_flight

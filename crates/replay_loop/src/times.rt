@@ -1,0 +1,49 @@
+// Times in the order of a replay.
+ghost use Rattle.std.specs.Prelude.{◌≡◌, pos, ◌+ℤ◌, ◌≤ℤ◌, int_le};
+ghost use Rattle.replay_events.specs.Moments.{end_of_time};
+ghost use Rattle.ru_buffers.specs.Calls.{earlier_time};
+ghost use Rattle.replay_loop.specs.Turns.{within_end};
+
+use fh_time::Ticks;
+
+/// One frame before 0, where the unit's clock begins.
+pub(crate) const FIRST_CLOCK: Ticks = Ticks(-15_360_000_000);
+
+/// The time up to which cells are reported: 1,001 s.
+const END: Ticks = Ticks(1_537_536_000_000_000);
+
+/// The earlier of two times, where there are any.
+pub(crate) fn earlier_of(a: Option<Ticks>, b: Option<Ticks>) -> Option<Ticks>
+    ensures { result ≡ earlier_time a b }
+{
+    match (a, b) {
+        (None, _) => b,
+        (_, None) => a,
+        (Some(x), Some(y)) => Some(if y.0 < x.0 { y } else { x }),
+    }
+}
+
+/// A time, if it is not after the end.
+pub(crate) fn up_to_end(time: Option<Ticks>) -> Option<Ticks>
+    ensures { result ≡ within_end time }
+{
+    match time {
+        Some(t) if t.0 <= END.0 => Some(t),
+        _ => None,
+    }
+}
+
+/// Whether a time is not after another.
+pub(crate) fn is_up_to(now: Ticks, tick: Ticks) -> bool
+    ensures { result ≡ int_le now.0 tick.0 }
+{
+    now.0 <= tick.0
+}
+
+/// The tick after one.
+pub(crate) fn tick_after(tick: Ticks) -> Ticks
+    requires { tick.0 ≤ℤ end_of_time }
+    ensures { result.0 ≡ tick.0 +ℤ pos 1 }
+{
+    Ticks(tick.0 + 1)
+}
