@@ -1,3 +1,2 @@
 pub mod Injected
 pub mod Reports
-pub mod Replay

@@ -6,11 +6,9 @@
 //! lists again for every section and every cell, so its time grows with the square of the frames.
 #![tactic(auto)]
 
-mod injected;
 mod reports;
 mod sorting;
 #[cfg(test)]
 mod tests;
 
-pub use injected::{InjectedFault, replay_injected};
 pub use reports::report_of;

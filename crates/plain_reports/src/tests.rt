@@ -1,9 +1,7 @@
 // Documents and their reports, all of them known from outside: by the standard's fields, and by hand.
-use crate::{InjectedFault, replay_injected, report_of};
-use fh_base::{List, MemorySink, PlainSink};
+use crate::report_of;
 use fh_document::read;
 use std::alloc::Global;
-use std::test::Fail;
 
 /// A document, and its report.
 #[derive(Drop)]
@@ -176,32 +174,12 @@ fn reports_2(rt: HostRuntime) {
     }
 }
 
-// One PRB is commanded, and its data does not come.
-const MISSING: &[u8] =
-    b"fronthaul 1\nendpoint 0000 ordinary 30 106 static none\ninject dl 9600000 1002001400000080900100000101000000100001fff10000\n";
-
 #[test]
-fn a_report_is_written(rt: HostRuntime) -> Result<(), Fail> {
-    let alloc = rt.alloc();
-    let document = read(alloc, MISSING)?;
-    let mut out = PlainSink::new(alloc);
-    assert_eq!(rt; replay_injected(alloc, &document, &mut out), Ok(()));
-    assert_eq!(rt;
-        out.bytes(),
-        b"dl 15360000000 0000 1 0 0 0 0 1 fff missing\ncount ru frames 1\ncount ru messages 1\ncount ru c_accepted 1\ncount ru missing 1\nend\n".as_slice()
-    );
-    Ok(())
-}
-
-#[test]
-fn a_sink_that_fails_keeps_a_front_part(rt: HostRuntime) -> Result<(), Fail> {
-    let alloc = rt.alloc();
-    let document = read(alloc, MISSING)?;
-    let mut fails = List::new(alloc);
-    fails.push(2)?;
-    let mut out = MemorySink::new(alloc, 4, fails);
-    let answer = replay_injected(alloc, &document, &mut out);
-    assert_eq!(rt; answer, Err(InjectedFault::WriteFault));
-    assert_eq!(rt; out.bytes(), b"dl 1".as_slice());
-    Ok(())
+fn a_prb_without_data_is_missing(rt: HostRuntime) {
+    let case = Case {
+        name: "one PRB is commanded, and its data does not come",
+        document: "fronthaul 1\nendpoint 0000 ordinary 30 106 static none\ninject dl 9600000 1002001400000080900100000101000000100001fff10000\n",
+        report: "dl 15360000000 0000 1 0 0 0 0 1 fff missing\ncount ru frames 1\ncount ru messages 1\ncount ru c_accepted 1\ncount ru missing 1\nend\n",
+    };
+    assert!(rt; agree(rt.alloc(), &case), "{}", case.name);
 }
