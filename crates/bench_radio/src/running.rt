@@ -4,7 +4,7 @@ ghost use Rattle.window_config.specs.Configs.{IsConfig};
 ghost use Rattle.ru_buffers.specs.Calls.{HasGivenPast, StandsForSome};
 
 use crate::frames::{TimedFrame, all_to_next_slot, frames_of};
-use crate::steps::{advance, deliver, is_quiet};
+use crate::steps::{advance, deliver};
 use crate::tally::Tally;
 use fh_base::{Source, read_all};
 use fh_document::{Document, read};
@@ -110,16 +110,7 @@ fn made(alloc: Global, config: &Config) -> Option<Ru>
     ensures given { IfSome result (λ u. HasGivenPast u) }
 {
     match Ru::make(alloc, config) {
-        Ok(ru) => quiet(ru),
+        Ok(ru) => Some(ru),
         Err(_) => None,
     }
-}
-
-/// The unit, where it has nothing to report or give.
-fn quiet(ru: Ru) -> Option<Ru>
-    requires { StandsForSome ru }
-    ensures unit { IfSome result (λ u. StandsForSome u) }
-    ensures given { IfSome result (λ u. HasGivenPast u) }
-{
-    if is_quiet(&ru) { Some(ru) } else { None }
 }

@@ -65,16 +65,6 @@ fn next_moment(ru: &Ru, to: Ticks) -> Ticks
     }
 }
 
-/// Whether there is nothing to report or give.
-pub fn is_quiet(ru: &Ru) -> bool
-    ensures { (c : Config) (h : History) → StandsFor c ru.now h → result ≡ true → given_of c h (ru.now.clock.0 -ℤ pos 1) ≡ [] }
-{
-    match ru.due() {
-        Some(_) => false,
-        None => true,
-    }
-}
-
 /// A unit's clock.
 fn clock_of(ru: &Ru) -> Ticks
     requires { StandsForSome ru.now }

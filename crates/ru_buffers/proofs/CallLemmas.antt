@@ -35,7 +35,7 @@ use Rattle.ru_buffers.proofs.HistoryLemmas.{stands}
 use Rattle.ru_buffers.proofs.JobLemmas.{give, later, none_before_first, none_to_give, ready_once_given, settle, some_from_first}
 use Rattle.ru_buffers.proofs.MarkedLemmas.{left_same}
 use Rattle.ru_buffers.proofs.ReportLemmas.{nothing_before_first, nothing_is_due, something_at_first}
-use Rattle.ru_buffers.proofs.MadeLemmas.{made}
+use Rattle.ru_buffers.proofs.MadeLemmas.{made, no_messages}
 
 -- ---- a unit that was made
 
@@ -46,6 +46,10 @@ pub stands_made : (c : Config) (m : RuMemory) (cursor : JobCursor) → ((clock :
     → (let r : JobCursor = record { since = record { 0 = first_clock }; last = None; given = 0 } in cursor ≡ r) → Stands c m first_clock cursor nothing_yet
 stands_made c m cursor holds unmarked is =
     stands c m first_clock cursor nothing_yet (made c m cursor holds unmarked (since_is cursor first_clock is) (ap (λ (x : JobCursor). x.last) is))
+
+-- nothing was to be given before its clock
+pub given_made : (c : Config) (m : RuMemory) (clock : ℤ) (cursor : JobCursor) → Stands c m clock cursor nothing_yet → IsReady m clock cursor
+given_made c m clock cursor all = all.kept.left (clock -ℤ pos 1) ∙ no_messages c (clock -ℤ pos 1) all.kept.holds.config.delays
 
 -- ---- a cursor that is settled
 

@@ -1,5 +1,5 @@
 -- What tests rest on: the unit stands for some history after each call.
-use Rattle.std.proofs.Common.{◌≡◌, ◌∷◌, ◌++◌, All, ℤ, pos, ◌-ℤ◌, List, [], ◌∙◌, sym, subst, arith, ◌≤ℤ◌, ◌<ℤ◌, Result, Ok, Err, OnOk, OnErr, IfOk}
+use Rattle.std.proofs.Common.{◌≡◌, ◌∷◌, ◌++◌, All, ℤ, pos, ◌-ℤ◌, List, [], sym, subst, arith, ◌≤ℤ◌, ◌<ℤ◌, Result, Ok, Err, OnOk, OnErr, IfOk}
 use Rattle.std.specs.Prelude.{Option, Some, None, IfSome, IfNone}
 use Rattle.std.proofs.lemmas.Int.{ints}
 use Rattle.std.proofs.lemmas.List.Elements.{All-nil, All-push}
@@ -11,22 +11,13 @@ use Rattle.unit_model.specs.declared.report.TimedFrame.{TimedFrame as SpecFrame}
 use Rattle.unit_model.specs.Standing.{History, at_clock, handed, heard, nothing_yet}
 use Rattle.unit_model.specs.declared.jobs.UplinkJob.{UplinkJob}
 use Rattle.window_config.specs.declared.config.Config.{Config}
-use Rattle.ru_buffers.specs.Calls.{GivesJob, HasGivenPast, StandsFor, StandsForSome, StopsAtDue}
+use Rattle.ru_buffers.specs.Calls.{GivesJob, StandsFor, StandsForSome, StopsAtDue}
 use Rattle.ru_buffers.specs.Reporting.{due_of}
 use Rattle.ru_buffers.specs.declared.unit.Ru.{Ru}
-use Rattle.ru_buffers.proofs.MadeLemmas.{no_messages}
-
--- no message is left where nothing came
-given_at_first : (c : Config) (u : Ru) → StandsFor c u nothing_yet → HasGivenPast u
-given_at_first c u all = all.kept.left (u.clock.0 -ℤ pos 1) ∙ no_messages c (u.clock.0 -ℤ pos 1) all.kept.holds.config.delays
 
 pub some_at_first : (c : Config) (r : Result Ru NoMemory) → IfOk r (λ u. StandsFor c u nothing_yet) → IfOk r (λ u. StandsForSome u)
 some_at_first c (Ok u) h = record { config = c; history = nothing_yet; stands = h }
 some_at_first c (Err e) h = tt
-
-pub past_at_first : (c : Config) (r : Result Ru NoMemory) → IfOk r (λ u. StandsFor c u nothing_yet) → IfOk r (λ u. HasGivenPast u)
-past_at_first c (Ok u) h = given_at_first c u h
-past_at_first c (Err e) h = tt
 
 pub some_passed : {A : Type 0} (grew : A → List Event → A → Type 0) (stopped : A → Event → A → Type 0) (c : Config) (h : History) (to : ℤ) (u : Ru) (before after : A)
     (r : Result (Unit {0}) AirFault) → OnOk r (StandsFor c u (at_clock (heard h (due_of c h to)) to))

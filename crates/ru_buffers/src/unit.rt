@@ -43,7 +43,8 @@ impl Ru {
     /// [`NoMemory`] where memory runs out.
     pub fn make(alloc: Global, config: &Config) -> Result<Ru, NoMemory>
         requires { IsConfig config.now }
-        ensures { IfOk result (λ u. StandsFor config.now u nothing_yet) }
+        ensures stands { IfOk result (λ u. StandsFor config.now u nothing_yet) }
+        ensures given { IfOk result (λ u. HasGivenPast u) }
     {
         let memory = RuMemory::make(alloc, config)?;
         Ok(Ru {
