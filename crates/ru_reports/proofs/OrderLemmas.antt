@@ -1,15 +1,15 @@
 -- The order of symbols is a strict one.
-use Rattle.std.proofs.Common.{◌≡◌, ℕ, ℤ, ◌<ℤ◌, Bool, true, false, ◌&&◌, ◌==◌, nat_lt, refl, sym, ap, ◌∙◌, arith}
+use Rattle.std.proofs.Common.{◌≡◌, ℕ, ℤ, ◌<◌, ◌<ℤ◌, ◌≤ℤ◌, inl, inr, Bool, true, false, ◌&&◌, ◌==◌, nat_lt, refl, sym, ap, subst, ◌∙◌, arith}
 use Rattle.std.specs.Prelude.{◌||◌, int_lt}
 use Rattle.std.specs.Ordering.{int_eq}
-use Rattle.std.proofs.lemmas.Bool.{eqb-true, false_from_ne_true, ltb-true, lt-ltb}
-use Rattle.std.proofs.lemmas.Bool.Decides.{Decides-int_eq}
+use Rattle.std.proofs.lemmas.Bool.{cases_Bool, eqb-true, false_from_ne_true, ltb-true, lt-ltb}
+use Rattle.std.proofs.lemmas.Bool.Decides.{Decides-int_eq, nat_tests}
 use Rattle.std.proofs.lemmas.Int.{ints}
 use Rattle.fh_time.specs.declared.values.Slot.{Slot}
 use Rattle.unit_model.specs.Claims.{same_slot}
 use Rattle.unit_model.specs.Order.{comes_before, slot_before, symbol_before}
 use Rattle.unit_model.specs.declared.symbol_start.SymbolStart.{SymbolStart}
-use Rattle.slot_rings.proofs.PlaceLemmas.{slot_is}
+use Rattle.slot_rings.proofs.PlaceLemmas.{slot_is, slot_own}
 
 -- ---- by a first part, and where that is one, by the rest
 
@@ -112,3 +112,33 @@ not_before_itself a = never _ _ _ (not_less_int a.start.0) (never _ _ _ (not_les
 -- what does not come before one symbol comes before none that is earlier
 pub not_before_earlier : (a b c : SymbolStart) → comes_before a c ≡ false → comes_before b c ≡ true → comes_before a b ≡ false
 not_before_earlier a b c p q = false_from_ne_true (comes_before a b) (λ h. let t = comes_trans a b c h q in cc)
+
+-- ---- of one slot
+
+or_first : (l r : Bool) → l ≡ true → (l || r) ≡ true
+or_first true r e = refl
+or_first false r e = cc
+
+or_rest : (l e r : Bool) → e ≡ true → r ≡ true → (l || (e && r)) ≡ true
+or_rest true e r p q = refl
+or_rest false e r p q = rw (p, q) refl
+
+equal_self : (n : ℕ) → (n == n) ≡ true
+equal_self n = grind (arith, nat_tests)
+
+at_once : (x y : ℤ) → x ≤ℤ y → int_lt x y ≡ false → x ≡ y
+at_once x y h e = grind (arith, ints)
+
+-- of two symbols of a slot the one with the lesser number comes first
+pub earlier_symbol : (a b : SymbolStart) → a.ep ≡ b.ep → a.slot ≡ b.slot → a.symbol < b.symbol → a.start.0 ≤ℤ b.start.0 → comes_before a b ≡ true
+earlier_symbol a b ep slot lt order = elim (cases_Bool (int_lt a.start.0 b.start.0)) [
+  | inl e ↦ or_first (int_lt a.start.0 b.start.0) _ e
+  | inr e ↦
+      or_rest (int_lt a.start.0 b.start.0) (int_eq a.start.0 b.start.0) _ ((Decides-int_eq a.start.0 b.start.0).1 (at_once a.start.0 b.start.0 order e))
+      (or_rest (nat_lt a.ep b.ep) (a.ep == b.ep) _ (subst (λ (n : ℕ). (a.ep == n) ≡ true) ep (equal_self a.ep))
+      (or_rest (slot_before a.slot b.slot) (same_slot a.slot b.slot) _ (subst (λ (s : Slot). same_slot a.slot s ≡ true) slot (slot_own a.slot)) (lt-ltb a.symbol b.symbol lt)))
+]
+
+-- what comes behind one symbol comes before none that is not behind it
+pub not_before_later : (a b c : SymbolStart) → comes_before a b ≡ true → comes_before a c ≡ false → comes_before b c ≡ false
+not_before_later a b c p q = false_from_ne_true (comes_before b c) (λ h. let t = comes_trans a b c p h in cc)

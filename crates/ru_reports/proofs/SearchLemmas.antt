@@ -1,11 +1,12 @@
 -- How searches over some symbols go on to one over all.
-use Rattle.std.proofs.Common.{◌≡◌, ℕ, ℤ, ◌+◌, List, ◌<◌, ◌≤ℤ◌, true, false, inl, inr, ◌⊎◌, refl, sym, ap, ◌∙◌, subst, arith, Option, Some, None}
+use Rattle.std.proofs.Common.{◌≡◌, ℕ, ℤ, ◌+◌, ◌-◌, List, ◌<◌, ◌≤◌, ◌≤ℤ◌, true, false, inl, inr, ◌⊎◌, refl, sym, ap, ◌∙◌, subst, arith, Option, Some, None}
 use Rattle.std.specs.Prelude.{IfSome}
 use Rattle.std.proofs.lemmas.Bool.{cases_Bool, cases_lt}
 use Rattle.std.proofs.lemmas.Int.{ints}
 use Rattle.fh_time.specs.declared.values.Slot.{Slot}
 use Rattle.fh_time.specs.Air.{air_of}
 use Rattle.fh_time.specs.Numbering.{symbols_of}
+use Rattle.fh_time.proofs.Order.{symbols_in_order}
 use Rattle.window_config.specs.declared.endpoints.EndpointConfig.{EndpointConfig}
 use Rattle.unit_model.specs.Order.{comes_before}
 use Rattle.unit_model.specs.Proper.{IsAt, IsSlot}
@@ -15,7 +16,7 @@ use Rattle.unit_cells.specs.Cells.{CellsValue, IsSlotIn, cells_has, cells_index,
 use Rattle.unit_cells.proofs.ListLemmas.{some_equal}
 use Rattle.ru_reports.specs.Searches.{InPlace, InSlot, IsNotBefore, IsWanted, Searched, earlier_of}
 use Rattle.ru_reports.specs.Symbols.{IsSymbol, is_left}
-use Rattle.ru_reports.proofs.OrderLemmas.{not_before_earlier, not_before_itself}
+use Rattle.ru_reports.proofs.OrderLemmas.{earlier_symbol, not_before_earlier, not_before_itself, not_before_later}
 
 -- ---- over one symbol
 
@@ -33,12 +34,9 @@ earlier_finds : (found : Option SymbolStart) (m : SymbolStart) → IsNotBefore m
 earlier_finds None m = not_before_itself m
 earlier_finds (Some f) m = elim (cases_Bool (comes_before m f)) [ inl e ↦ rw e (not_before_itself m) | inr e ↦ rw e e ]
 
-pub searched_one : (v : CellsValue) (time : ℤ) (m : SymbolStart) (best : Option SymbolStart) → IsWanted v time m → Searched v time (λ x. x ≡ m) best (earlier_of best m)
-searched_one v time m best w = record {
-  wanted = earlier_wanted v time best m w;
-  keeps = earlier_keeps best m;
-  finds = λ x _ e. subst (λ (y : SymbolStart). IsNotBefore y (earlier_of best m)) (sym e) (earlier_finds best m);
-}
+-- one of which nothing is to be reported is not wanted
+pub not_left : {v : CellsValue} {time : ℤ} {m : SymbolStart} → IsWanted v time m → is_left v m ≡ false → ⊥
+not_left w none = let left = w.left in let both : false ≡ true = sym none ∙ left in absurd (cc both)
 
 -- ---- over more symbols
 
@@ -46,15 +44,6 @@ searched_one v time m best w = record {
 pub searched_none : (v : CellsValue) (time : ℤ) (Over : SymbolStart → Type 0) (best : Option SymbolStart) → ((m : SymbolStart) → IsWanted v time m → Over m → ⊥)
     → Searched v time Over best best
 searched_none v time Over best none = record { wanted = λ w. w; keeps = λ m n. n; finds = λ m w o. absurd (none m w o) }
-
-pub searched_skip : (v : CellsValue) (time : ℤ) (m : SymbolStart) (best : Option SymbolStart) → (IsWanted v time m → ⊥) → Searched v time (λ x. x ≡ m) best best
-searched_skip v time m best not = searched_none v time (λ x. x ≡ m) best (λ x w e. not (subst (IsWanted v time) e w))
-
-pub searched_early : (v : CellsValue) (time : ℤ) (m : SymbolStart) (best : Option SymbolStart) → m.start.0 ≤ℤ time → Searched v time (λ x. x ≡ m) best best
-searched_early v time m best early = searched_skip v time m best (λ w. let h = w.after in omega (arith, ints, h, early))
-
-pub searched_unused : (v : CellsValue) (time : ℤ) (m : SymbolStart) (best : Option SymbolStart) → is_left v m ≡ false → Searched v time (λ x. x ≡ m) best best
-searched_unused v time m best unused = searched_skip v time m best (λ w. let l = w.left in cc)
 
 -- the same over symbols all of which are among these
 pub searched_of : (v : CellsValue) (time : ℤ) (P Q : SymbolStart → Type 0) (old new : Option SymbolStart) → ((m : SymbolStart) → IsWanted v time m → Q m → P m)
@@ -115,6 +104,88 @@ slot_of_endpoint v ep e slot at is = subst (λ (x : EndpointConfig). IsSlot x.nu
 
 pub symbol_slot_in : (v : CellsValue) (m : SymbolStart) → IsSymbol v m → IsSlotIn v m.ep m.slot
 symbol_slot_in v m is = record { endpoint = m.endpoint; at = is.at; slot_is = is.slot_is }
+
+-- ---- the symbols of a slot, in their order
+
+-- a symbol of the slot
+pub record IsOf (e : EndpointConfig) (slot : Slot) (m : SymbolStart) : Type 0 where
+  pub starts : m.start.0 ≡ air_of e.numerology slot m.symbol
+  pub below : m.symbol < symbols_of e.numerology
+
+of_slot : (v : CellsValue) (ep : ℕ) (e : EndpointConfig) (slot : Slot) (m : SymbolStart) → IsAt (endpoints_of v) ep e → IsSymbol v m → InSlot ep slot m → IsOf e slot m
+of_slot v ep e slot m at is o =
+    let own : m.endpoint ≡ e = is_at_one (endpoints_of v) ep m.endpoint e (subst (λ (k : ℕ). IsAt (endpoints_of v) k m.endpoint) o.0 is.at) at in
+    record {
+      starts = is.starts ∙ ap (λ (x : EndpointConfig). air_of x.numerology m.slot m.symbol) own ∙ ap (λ (s : Slot). air_of e.numerology s m.symbol) o.1;
+      below = subst (λ (x : EndpointConfig). m.symbol < symbols_of x.numerology) own is.symbol_is;
+    }
+
+-- where the last symbol of a slot is not after a time, none of its symbols is
+pub searched_past : (v : CellsValue) (time : ℤ) (ep : ℕ) (e : EndpointConfig) (slot : Slot) (best : Option SymbolStart) → IsAt (endpoints_of v) ep e
+    → air_of e.numerology slot (symbols_of e.numerology - 1) ≤ℤ time → Searched v time (InSlot ep slot) best best
+searched_past v time ep e slot best at past = searched_none v time (InSlot ep slot) best not_wanted
+  where
+    not_wanted : (m : SymbolStart) → IsWanted v time m → InSlot ep slot m → ⊥
+    not_wanted m w o =
+        let of = of_slot v ep e slot m at w.is o in
+        let below = of.below in
+        let starts = of.starts in
+        let order = symbols_in_order e.numerology slot m.symbol (symbols_of e.numerology - 1) (omega (arith, below)) in
+        let after = w.after in
+        omega (arith, ints, after, starts, order, past)
+
+-- none of the slot's symbols below a number is wanted
+abbrev pub NoneBelow : CellsValue → ℤ → ℕ → Slot → ℕ → Type 0
+NoneBelow v time ep slot n = (m : SymbolStart) → IsWanted v time m → InSlot ep slot m → m.symbol < n → ⊥
+
+pub none_below_0 : (v : CellsValue) (time : ℤ) (ep : ℕ) (slot : Slot) → NoneBelow v time ep slot 0
+none_below_0 v time ep slot = λ m w o lt. omega (arith, lt)
+
+pub none_below_more : (v : CellsValue) (time : ℤ) (ep : ℕ) (e : EndpointConfig) (slot : Slot) (n : ℕ) → IsAt (endpoints_of v) ep e → NoneBelow v time ep slot n
+    → (IsWanted v time (start_at ep e slot n) → ⊥) → NoneBelow v time ep slot (n + 1)
+none_below_more v time ep e slot n at none not m w o lt = elim (cases_lt m.symbol n) [
+  | inl below ↦ none m w o below
+  | inr past ↦
+      let same : m.symbol ≡ n = omega (arith, lt, past) in
+      not (subst (IsWanted v time) (symbol_one v ep e slot n m at w.is o.0 o.1 same) w)
+]
+
+pub searched_to_end : (v : CellsValue) (time : ℤ) (ep : ℕ) (e : EndpointConfig) (slot : Slot) (n : ℕ) (best : Option SymbolStart) → IsAt (endpoints_of v) ep e
+    → symbols_of e.numerology ≤ n → NoneBelow v time ep slot n → Searched v time (InSlot ep slot) best best
+searched_to_end v time ep e slot n best at all none =
+    searched_none v time (InSlot ep slot) best (λ m w o. let below = (of_slot v ep e slot m at w.is o).below in none m w o (omega (arith, below, all)))
+
+later_not_before : (m x : SymbolStart) (found : Option SymbolStart) → comes_before m x ≡ true → IsNotBefore m found → IsNotBefore x found
+later_not_before m x None p n = absurd n
+later_not_before m x (Some f) p n = not_before_later m x f p n
+
+-- one is wanted, and none before it: it comes first of the slot's
+pub searched_first : (v : CellsValue) (time : ℤ) (ep : ℕ) (e : EndpointConfig) (slot : Slot) (n : ℕ) (m : SymbolStart) (best : Option SymbolStart) → IsAt (endpoints_of v) ep e
+    → m ≡ start_at ep e slot n → IsWanted v time m → NoneBelow v time ep slot n → Searched v time (InSlot ep slot) best (earlier_of best m)
+searched_first v time ep e slot n m best at is w none = record {
+  wanted = earlier_wanted v time best m w;
+  keeps = earlier_keeps best m;
+  finds = found;
+}
+  where
+    later : (x : SymbolStart) → IsWanted v time x → InSlot ep slot x → n < x.symbol → comes_before m x ≡ true
+    later x wx o lt =
+        let starts = (of_slot v ep e slot x at wx.is o).starts in
+        let from : m.start.0 ≡ air_of e.numerology slot n = ap (λ (y : SymbolStart). y.start.0) is in
+        let order = symbols_in_order e.numerology slot n x.symbol (omega (arith, lt)) in
+        let number : m.symbol ≡ n = ap (λ (y : SymbolStart). y.symbol) is in
+        earlier_symbol m x (ap (λ (y : SymbolStart). y.ep) is ∙ sym o.0) (ap (λ (y : SymbolStart). y.slot) is ∙ sym o.1) (omega (arith, number, lt)) (omega (arith, ints, starts, from, order))
+
+    found : (x : SymbolStart) → IsWanted v time x → InSlot ep slot x → IsNotBefore x (earlier_of best m)
+    found x wx o = elim (cases_lt x.symbol n) [
+      | inl below ↦ absurd (none x wx o below)
+      | inr past ↦ elim (cases_lt n x.symbol) [
+        | inl behind ↦ later_not_before m x (earlier_of best m) (later x wx o behind) (earlier_finds best m)
+        | inr here ↦
+            let same : x.symbol ≡ n = omega (arith, past, here) in
+            subst (λ (y : SymbolStart). IsNotBefore y (earlier_of best m)) (sym (symbol_one v ep e slot n x at wx.is o.0 o.1 same ∙ sym is)) (earlier_finds best m)
+      ]
+    ]
 
 -- a symbol's slot is the one in its place
 pub place_has : (v : CellsValue) (time : ℤ) (ep index : ℕ) (found : Option Slot)

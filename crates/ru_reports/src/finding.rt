@@ -1,12 +1,13 @@
 // The next symbol of which something is to be reported.
-ghost use Rattle.std.specs.Prelude.{◌≡◌, ◌<ℤ◌, ◌<◌, true, false, IfSome};
+ghost use Rattle.std.specs.Prelude.{◌≡◌, ◌-◌, ◌<ℤ◌, ◌<◌, true, false, int_le, IfNone, IfSome};
+ghost use Rattle.fh_time.specs.Air.{air_of};
 ghost use Rattle.fh_time.specs.Numbering.{symbols_of};
 ghost use Rattle.unit_model.specs.Order.{comes_before};
 ghost use Rattle.unit_model.specs.Proper.{IsAt, IsSlot};
 ghost use Rattle.unit_model.specs.Starts.{start_at};
 ghost use Rattle.unit_model.specs.declared.symbol_start.SymbolStart.{SymbolStart as SpecStart};
 ghost use Rattle.unit_cells.specs.Cells.{cells_has, cells_index, cells_places, endpoints_of};
-ghost use Rattle.ru_reports.specs.Searches.{InPlace, OfEndpoint, InSlot, Searched, earlier_of};
+ghost use Rattle.ru_reports.specs.Searches.{InPlace, OfEndpoint, InSlot, IsWanted, Searched, earlier_of};
 ghost use Rattle.ru_reports.specs.Symbols.{IsFound, IsSymbol, is_left};
 
 use fh_time::{Slot, Ticks, air, shape};
@@ -45,46 +46,51 @@ fn earlier_of(found: Option<SymbolStart>, m: SymbolStart) -> Option<SymbolStart>
     }
 }
 
-/// The same, where the symbol counts only if it starts after a time and something is to be reported of it.
-fn earlier_left(
+/// A symbol of a slot that has the place with an index, if it starts after a time and something is to be reported of it. Where it
+/// has nothing to be reported, no cell is looked at.
+fn wanted(
     cells: &UnitCells,
-    m: SymbolStart,
+    ep: usize,
+    endpoint: &EndpointConfig,
+    index: usize,
+    slot: Slot,
+    symbol: u8,
     after: Ticks,
-    best: Option<SymbolStart>,
 ) -> Option<SymbolStart>
-    requires { IsSymbol cells.now m }
-    ensures { Searched cells.now after.0 (λ x. x ≡ m) best result }
+    requires at { IsAt (endpoints_of cells.now) ep endpoint.now }
+    requires slot { IsSlot endpoint.now.numerology slot }
+    requires symbol { symbol < symbols_of endpoint.now.numerology }
+    requires has { cells_has cells.now ep slot ≡ true }
+    requires place { cells_index cells.now ep slot ≡ index }
+    requires index { index < cells_places cells.now ep }
+    ensures some { IfSome result (λ m. m ≡ start_at ep endpoint.now slot symbol) }
+    ensures is { IfSome result (λ m. IsWanted cells.now after.0 m) }
+    ensures none { IfNone result (IsWanted cells.now after.0 (start_at ep endpoint.now slot symbol) → ⊥) }
 {
+    if !cells.is_pending(ep, index, symbol) {
+        return None;
+    }
+    let m = start_of(ep, endpoint, slot, symbol);
     if m.start.0 <= after.0 {
-        return best;
+        return None;
     }
     if !cells.is_used(m.ep, m.slot, m.symbol) {
-        return best;
+        return None;
     }
-    earlier_of(best, m)
+    Some(m)
 }
 
-/// The same of one symbol of a slot that has the place with an index. Where the symbol has nothing to be reported, no cell is
-/// looked at.
-fn earlier_pending(
-    cells: &UnitCells,
-    index: usize,
-    m: SymbolStart,
-    after: Ticks,
-    best: Option<SymbolStart>,
-) -> Option<SymbolStart>
-    requires symbol { IsSymbol cells.now m }
-    requires place { cells_index cells.now m.ep m.slot ≡ index }
-    requires index { index < cells_places cells.now m.ep }
-    ensures { Searched cells.now after.0 (λ x. x ≡ m) best result }
+/// Whether no symbol of a slot starts after a time: the last one does not.
+fn is_past(endpoint: &EndpointConfig, slot: Slot, after: Ticks) -> bool
+    requires { IsSlot endpoint.now.numerology slot }
+    ensures { result ≡ int_le (air_of endpoint.now.numerology slot (symbols_of endpoint.now.numerology - 1)) after.0 }
 {
-    if !cells.is_pending(m.ep, index, m.symbol) {
-        return best;
-    }
-    earlier_left(cells, m, after, best)
+    let last = shape(&endpoint.numerology).symbols - 1;
+    air(&endpoint.numerology, slot, last).0 <= after.0
 }
 
-/// The first of the best symbol so far and those of a slot that has the place with an index.
+/// The first of the best symbol so far and those of a slot that has the place with an index. Of a slot that is past no symbol is
+/// looked at, and behind the first one found none is.
 fn first_in_slot(
     cells: &UnitCells,
     ep: usize,
@@ -101,13 +107,16 @@ fn first_in_slot(
     requires index { index < cells_places cells.now ep }
     ensures { Searched cells.now after.0 (InSlot ep slot) best result }
 {
-    let symbols = shape(&endpoint.numerology).symbols;
-    let mut first = best;
-    for symbol in 0..symbols {
-        let m = start_of(ep, endpoint, slot, symbol);
-        first = earlier_pending(cells, index, m, after, first);
+    if is_past(endpoint, slot, after) {
+        return best;
     }
-    first
+    let symbols = shape(&endpoint.numerology).symbols;
+    for symbol in 0..symbols {
+        if let Some(m) = wanted(cells, ep, endpoint, index, slot, symbol, after) {
+            return earlier_of(best, m);
+        }
+    }
+    best
 }
 
 /// The first of the best symbol so far and those of the slot that has the place with an index.
