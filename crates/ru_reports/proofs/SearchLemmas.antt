@@ -1,5 +1,5 @@
 -- How searches over some symbols go on to one over all.
-use Rattle.std.proofs.Common.{◌≡◌, ℕ, ℤ, ◌+◌, ◌-◌, List, ◌<◌, ◌≤◌, ◌≤ℤ◌, true, false, inl, inr, ◌⊎◌, refl, sym, ap, ◌∙◌, subst, arith, Option, Some, None}
+use Rattle.std.proofs.Common.{◌≡◌, ℕ, ℤ, ◌+◌, ◌-◌, List, ◌<◌, ◌≤ℤ◌, true, false, inl, inr, ◌⊎◌, refl, sym, ap, ◌∙◌, subst, arith, Option, Some, None}
 use Rattle.std.specs.Prelude.{IfSome}
 use Rattle.std.proofs.lemmas.Bool.{cases_Bool, cases_lt}
 use Rattle.std.proofs.lemmas.Int.{ints}
@@ -149,11 +149,6 @@ none_below_more v time ep e slot n at none not m w o lt = elim (cases_lt m.symbo
       let same : m.symbol ≡ n = omega (arith, lt, past) in
       not (subst (IsWanted v time) (symbol_one v ep e slot n m at w.is o.0 o.1 same) w)
 ]
-
-pub searched_to_end : (v : CellsValue) (time : ℤ) (ep : ℕ) (e : EndpointConfig) (slot : Slot) (n : ℕ) (best : Option SymbolStart) → IsAt (endpoints_of v) ep e
-    → symbols_of e.numerology ≤ n → NoneBelow v time ep slot n → Searched v time (InSlot ep slot) best best
-searched_to_end v time ep e slot n best at all none =
-    searched_none v time (InSlot ep slot) best (λ m w o. let below = (of_slot v ep e slot m at w.is o).below in none m w o (omega (arith, below, all)))
 
 later_not_before : (m x : SymbolStart) (found : Option SymbolStart) → comes_before m x ≡ true → IsNotBefore m found → IsNotBefore x found
 later_not_before m x None p n = absurd n
