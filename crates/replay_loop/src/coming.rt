@@ -1,9 +1,8 @@
 // The frames that are to come to the radio unit.
 ghost use Rattle.std.specs.Prelude.{◌≡◌, ◌<◌, IfOk, OnOk, length, true};
-ghost use Rattle.air_source.specs.declared.events.Side.TheVariants.{Ru as AtRu};
 ghost use Rattle.fh_document.specs.Proper.{IsDocument};
 ghost use Rattle.ru_buffers.specs.Calls.{IsLeastOf};
-ghost use Rattle.replay_loop.specs.Coming.{IsCalmTo, Flies, Waits, frame_at, injected_at};
+ghost use Rattle.replay_loop.specs.Coming.{Flies, IsCalmTo, Waits, injected_at};
 
 use crate::times::earlier_of;
 use air_source::Side;

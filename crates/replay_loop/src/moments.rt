@@ -1,5 +1,5 @@
 // The moments of a replay, one after the other.
-ghost use Rattle.std.specs.Prelude.{◌≡◌, ℤ, pos, ◌+ℤ◌, ◌≤ℤ◌, [], IsErrOf, OnErr, OnOk};
+ghost use Rattle.std.specs.Prelude.{pos, ◌+ℤ◌, ◌≤ℤ◌, [], IsErrOf, OnOk};
 ghost use Rattle.air_source.specs.Causes.{HasAirCause};
 ghost use Rattle.air_source.specs.declared.airs.AirFault.TheVariants.{Failed, NoMemory as WantsMemory};
 ghost use Rattle.fh_document.specs.Proper.{IsDocument};
