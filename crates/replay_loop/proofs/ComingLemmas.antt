@@ -15,11 +15,11 @@ use Rattle.frame_network.proofs.PutIn.{All-put_in, IsInOrder-put_in, IsLastOf, f
 use Rattle.landing_queue.specs.declared.landings.Landing.{Landing}
 use Rattle.landing_queue.specs.Queues.{AreRising, at_time, first_time, landing_of}
 use Rattle.landing_queue.proofs.QueueLemmas.{none_below}
-use Rattle.replay_events.proofs.TickLemmas.{at_most, next_after}
+use Rattle.replay_events.proofs.TickLemmas.{at_most, below_all, next_after, same_most, weak}
 use Rattle.unit_model.specs.Meetings.{Arrival}
 use Rattle.replay_loop.specs.declared.coming.Coming.{Coming}
 use Rattle.replay_loop.specs.Coming.{AreFlyingFrom, AreFrom, AreListed, ArePlaced, Flies, IsSent, IsSentOrAt, IsToRu, Waits, arrival_at, arrival_of, coming_at, flying_at, frame_at, injected_at, landing_from, left_at}
-use Rattle.replay_loop.proofs.LandLemmas.{equal_not, equal_self}
+use Rattle.replay_loop.proofs.LandLemmas.{equal_not, equal_self, under_next}
 
 -- ---- what waits
 
@@ -75,17 +75,11 @@ refused_from tick (l ∷ q) from up other =
 
 below_from : (t tick : ℤ) (q : List Landing) → t <ℤ tick → AreFrom tick q → AllByRecursion (λ m. t <ℤ m.at.0) q
 below_from t tick [] lt h = tt
-below_from t tick (l ∷ q) lt h = (below t tick l.at.0 lt h.0, below_from t tick q lt h.1)
-  where
-    below : (a b c : ℤ) → a <ℤ b → b ≤ℤ c → a <ℤ c
-    below a b c h k = omega (arith, ints)
-
-before_next : (t : ℤ) → t <ℤ (t +ℤ pos 1)
-before_next t = omega (arith, ints)
+below_from t tick (l ∷ q) lt h = (below_all t tick l.at.0 lt h.0, below_from t tick q lt h.1)
 
 -- none waits for a tick where those that wait come later
 pub left_none : (d : Document) (t : ℤ) (q : List Landing) → AreFrom (t +ℤ pos 1) q → left_at d t q ≡ []
-left_none d t q from = ap (map (arrival_of d)) (none_below t q (below_from t (t +ℤ pos 1) q (before_next t) from))
+left_none d t q from = ap (map (arrival_of d)) (none_below t q (below_from t (t +ℤ pos 1) q (under_next t) from))
 
 -- ---- one more in flight
 
@@ -177,9 +171,6 @@ behind_first tick index before now fs is behind = (subst (AreBehind fs) (taken_a
 pub sent_there : (tick : ℤ) (fs : List Flying) → All IsSent fs → All (IsSentOrAt tick) fs
 sent_there tick fs h = λ k d lt. ((h k d lt).0, inl (h k d lt).1)
 
-pub same_most : (t : ℤ) → t ≤ℤ t
-same_most t = omega (arith, ints)
-
 pub put_from : (d : Document) (tick : Ticks) (index : ℕ) (fs : List Flying) → AreFlyingFrom tick.0 fs → AreFlyingFrom tick.0 (put_in (injected_at d tick index) fs)
 put_from d tick index fs h = All-put_in (λ (a : Flying). tick.0 ≤ℤ a.at.0) (injected_at d tick index) fs (same_most tick.0) h
 
@@ -226,14 +217,11 @@ put_one d tick index old w now to_ru is at =
 
 -- ---- none is left
 
-at_or_later : (tick t : ℤ) → tick <ℤ t → tick ≤ℤ t
-at_or_later tick t h = omega (arith, ints)
-
 pub all_fly : (d : Document) (tick : Ticks) (old w : Coming) → AtPut d tick old w → AreFrom (tick.0 +ℤ pos 1) w.listed → Flies d tick.0 old w
 all_fly d tick old w at from = record {
   now = sym (ap (λ (xs : List Arrival). flying_at tick.0 w.in_flight ++ xs) (left_none d tick.0 w.listed from) ∙ append-nil (flying_at tick.0 w.in_flight))
       ∙ at.same tick.0 (same_most tick.0);
-  later = λ t lt. at.same t (at_or_later tick.0 t lt);
+  later = λ t lt. at.same t (weak tick.0 t lt);
   from = from;
   listed = at.listed;
   placed = at.placed;

@@ -10,7 +10,7 @@ use Rattle.air_source.specs.declared.events.Event.{Event}
 use Rattle.fh_time.specs.declared.values.Ticks.{Ticks}
 use Rattle.frame_network.specs.declared.arrivals.Arrival.{Arrival as Flying}
 use Rattle.replay_events.specs.Events.{arrival_event}
-use Rattle.replay_events.proofs.TickLemmas.{next_after}
+use Rattle.replay_events.proofs.TickLemmas.{below_all, next_after}
 use Rattle.ru_buffers.specs.Calls.{StandsFor}
 use Rattle.ru_buffers.specs.declared.unit.Ru.{Ru}
 use Rattle.unit_model.specs.Lists.{onto}
@@ -92,18 +92,15 @@ flying_below : (t from : ℤ) (fs : List Flying) → t <ℤ from → AreFlyingFr
 flying_below t from [] lt h = refl
 flying_below t from (a ∷ fs) lt h =
     let low : from ≤ℤ a.at.0 = All-head (λ (x : Flying). from ≤ℤ x.at.0) a fs h in
-    flying_not t a fs (equal_above a.at.0 t (int_eq a.at.0 t) (below t from a.at.0 lt low) refl)
+    flying_not t a fs (equal_above a.at.0 t (int_eq a.at.0 t) (below_all t from a.at.0 lt low) refl)
     ∙ flying_below t from fs lt (All-tail (λ (x : Flying). from ≤ℤ x.at.0) a fs h)
-  where
-    below : (a b c : ℤ) → a <ℤ b → b ≤ℤ c → a <ℤ c
-    below a b c h k = omega (arith, ints)
 
-before_next : (t : ℤ) → t <ℤ (t +ℤ pos 1)
-before_next t = omega (arith, ints)
+pub under_next : (t : ℤ) → t <ℤ (t +ℤ pos 1)
+under_next t = omega (arith, ints)
 
 -- none is left at a tick where those in flight come later
 pub flying_none : (t : ℤ) (fs : List Flying) → AreFlyingFrom (t +ℤ pos 1) fs → flying_at t fs ≡ []
-flying_none t fs h = flying_below t (t +ℤ pos 1) fs (before_next t) h
+flying_none t fs h = flying_below t (t +ℤ pos 1) fs (under_next t) h
 
 -- those of later ticks are as they were
 pub fly_on : (tick t : ℤ) (old new : List Flying) → HaveLanded tick old new → tick <ℤ t → flying_at t new ≡ flying_at t old

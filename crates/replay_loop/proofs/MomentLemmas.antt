@@ -11,7 +11,7 @@ use Rattle.frame_network.specs.declared.arrivals.Arrival.{Arrival as Flying}
 use Rattle.replay_events.specs.Events.{arrival_event, events_at}
 use Rattle.frame_network.specs.Network.{IsInOrder}
 use Rattle.replay_events.specs.Moments.{end_of_time, landing_at}
-use Rattle.replay_events.proofs.TickLemmas.{next_most}
+use Rattle.replay_events.proofs.TickLemmas.{next_most, same_most}
 use Rattle.ru_buffers.specs.Calls.{HasGivenPast, StandsForSome}
 use Rattle.ru_buffers.specs.Reporting.{due_of}
 use Rattle.ru_buffers.specs.declared.unit.Ru.{Ru}
@@ -68,9 +68,6 @@ turn_then d tick u v xs doc a ended lands drained clock =
     }
 
 -- ---- what is to come then
-
-same_most : (t : ℤ) → t ≤ℤ t
-same_most t = omega (arith, ints)
 
 -- what flies at the tick is what lands
 pub flies_here : (d : Document) (tick : ℤ) (old new : Coming) → Waits d tick old → Flies d tick old new → flying_at tick new.in_flight ≡ landing_at (landings_of d) tick

@@ -16,7 +16,7 @@ use Rattle.replay_events.specs.Events.{events_at}
 use Rattle.replay_events.specs.Moments.{end_of_time}
 use Rattle.replay_events.specs.Passing.{IsCalm}
 use Rattle.replay_events.proofs.EventLemmas.{events_go_on, events_wait}
-use Rattle.replay_events.proofs.TickLemmas.{at_most}
+use Rattle.replay_events.proofs.TickLemmas.{at_most, before_next, below_all, last_reached, next_after, same_most, weak}
 use Rattle.ru_buffers.specs.Calls.{IsDue, IsLeast, IsLeastOf, IsQuietTo, earlier_time}
 use Rattle.ru_buffers.specs.declared.unit.Ru.{Ru}
 use Rattle.unit_model.proofs.SweepLaws.{gap_is}
@@ -40,21 +40,15 @@ not_late a b e = omega (arith, ints)
 late : (a b : ℤ) → int_lt a b ≡ true → a <ℤ b
 late a b e = omega (arith, ints)
 
-below : (a b c : ℤ) → a <ℤ b → b ≤ℤ c → a <ℤ c
-below a b c h k = omega (arith, ints)
-
 -- what holds of both holds before the earlier of their least times
 earlier_is : (P Q : ℤ → Type 0) (s t : Ticks) (b : Bool) → int_lt t.0 s.0 ≡ b → IsLeast P s.0 → IsLeast Q t.0
     → IsLeastOf (λ to. P to × Q to) (if b then Some t else Some s)
 earlier_is P Q s t true e p q = record {
-  before = λ to lt. (p.before to (below to t.0 s.0 lt (weaker t.0 s.0 (late t.0 s.0 e))), q.before to lt);
+  before = λ to lt. (p.before to (below_all to t.0 s.0 lt (weak t.0 s.0 (late t.0 s.0 e))), q.before to lt);
   at = λ both. q.at both.1;
 }
-  where
-    weaker : (a b : ℤ) → a <ℤ b → a ≤ℤ b
-    weaker a b h = omega (arith, ints)
 earlier_is P Q s t false e p q = record {
-  before = λ to lt. (p.before to lt, q.before to (below to s.0 t.0 lt (not_late t.0 s.0 e)));
+  before = λ to lt. (p.before to lt, q.before to (below_all to s.0 t.0 lt (not_late t.0 s.0 e)));
   at = λ both. p.at both.0;
 }
 
@@ -66,16 +60,13 @@ earlier_of_both P Q (Some s) (Some t) p q = earlier_is P Q s t (int_lt t.0 s.0) 
 
 -- ---- what comes first
 
-up_to_next : (a b : ℤ) → a <ℤ b → (a +ℤ pos 1) ≤ℤ b
-up_to_next a b h = omega (arith, ints)
-
 not_past : (a : ℤ) → (a +ℤ pos 1) ≤ℤ a → ⊥
 not_past a h = omega (arith, ints)
 
 pub first_waits : (q : List Landing) → AreRising q → IsLeastOf (λ to. AreFrom (to +ℤ pos 1) q) (first_time q)
 first_waits [] up = λ to. tt
 first_waits (l ∷ q) up = record {
-  before = λ to lt. let order = up_to_next to l.at.0 lt in (order, from_less (to +ℤ pos 1) l.at.0 q order up.0);
+  before = λ to lt. let order = next_after to l.at.0 lt in (order, from_less (to +ℤ pos 1) l.at.0 q order up.0);
   at = λ from. not_past l.at.0 from.0;
 }
 
@@ -85,7 +76,7 @@ flying_less a b fs order h = λ k d lt. at_most a b _ order (h k d lt)
 pub first_flies : (fs : List Flying) → IfSome (first_flying fs) (λ t. AreFlyingFrom t.0 fs) → IsLeastOf (λ to. AreFlyingFrom (to +ℤ pos 1) fs) (first_flying fs)
 first_flies [] h = λ to. All-nil _
 first_flies (a ∷ fs) h = record {
-  before = λ to lt. flying_less (to +ℤ pos 1) a.at.0 (a ∷ fs) (up_to_next to a.at.0 lt) h;
+  before = λ to lt. flying_less (to +ℤ pos 1) a.at.0 (a ∷ fs) (next_after to a.at.0 lt) h;
   at = λ from. not_past a.at.0 (All-head (λ (x : Flying). (a.at.0 +ℤ pos 1) ≤ℤ x.at.0) a fs from);
 }
 
@@ -94,9 +85,6 @@ first_flies (a ∷ fs) h = record {
 due_least : (c : Config) (h : History) (due : Option Ticks) → IsDue c h due → IsLeastOf (IsQuietTo c h) due
 due_least c h None due = due
 due_least c h (Some t) due = record { before = due.before; at = due.at }
-
-order_to : (a b : ℤ) → a ≤ℤ b → a <ℤ (b +ℤ pos 1)
-order_to a b h = omega (arith, ints)
 
 abbrev AreStill : Config → History → Coming → ℤ → Type 0
 AreStill c h w to = IsQuietTo c h to × IsCalmTo w to
@@ -133,7 +121,7 @@ before_here a = omega (arith, ints)
 -- before a tick all is still
 still_before : (d : Document) (now to : ℤ) (u : Ru) (w : Coming) → (a : AtTurn d now u) → Waits d now w → to <ℤ now → IsStill d.config a.history w to
 still_before d now to u w a waits early =
-    let order = up_to_next to now early in
+    let order = next_after to now early in
     record {
       quiet = quiet_less d.config u a.history to (now -ℤ pos 1) a.stands (last_before to now early) a.turn.quiet;
       calm = (from_less (to +ℤ pos 1) now w.listed order waits.from, flying_less (to +ℤ pos 1) now w.in_flight order waits.flying);
@@ -149,10 +137,7 @@ abbrev pub IsIdle : Config → History → Coming → ℤ → Type 0
 IsIdle c h w tick = (to : ℤ) → to <ℤ tick → IsStill c h w to
 
 pub to_end : (c : Config) (h : History) (w : Coming) → IsNext c h w None → IsIdle c h w (end_of_time +ℤ pos 1)
-to_end c h w still = λ to lt. still to (up_to to lt)
-  where
-    up_to : (to : ℤ) → to <ℤ (end_of_time +ℤ pos 1) → to ≤ℤ end_of_time
-    up_to to h = omega (arith, ints)
+to_end c h w still = λ to lt. still to (before_next to end_of_time lt)
 
 calm_until : (d : Document) (now tick : ℤ) (h : History) (w : Coming) → Waits d now w → IsIdle d.config h w tick → IsCalm (landings_of d) now tick
 calm_until d now tick h w waits idle t low high =
@@ -168,18 +153,15 @@ to_idle d now tick u w doc a waits idle order ended = record {
   clock = at_most u.clock.0 now tick a.clock order;
 }
 
-last_next : (t : ℤ) → t ≤ℤ ((t -ℤ pos 1) +ℤ pos 1)
-last_next t = omega (arith, ints)
-
 pub waits_idle : (d : Document) (now tick : ℤ) (h : History) (w : Coming) → Waits d now w → now ≤ℤ tick → IsIdle d.config h w tick → Waits d tick w
 waits_idle d now tick h w waits order idle =
     let calm = (idle (tick -ℤ pos 1) (before_here tick)).calm in
     record {
       left = λ t low. waits.left t (at_most now tick t order low);
-      from = from_less tick ((tick -ℤ pos 1) +ℤ pos 1) w.listed (last_next tick) calm.0;
+      from = from_less tick ((tick -ℤ pos 1) +ℤ pos 1) w.listed (last_reached tick tick (same_most tick)) calm.0;
       listed = waits.listed;
       placed = waits.placed;
-      flying = flying_less tick ((tick -ℤ pos 1) +ℤ pos 1) w.in_flight (last_next tick) calm.1;
+      flying = flying_less tick ((tick -ℤ pos 1) +ℤ pos 1) w.in_flight (last_reached tick tick (same_most tick)) calm.1;
       order = waits.order;
       sent = waits.sent;
     }
