@@ -1,127 +1,104 @@
-"""Prints the tables of the test modules `control`, `fragments`, `blocks` and `times`.
+"""Writes the entries that the program reads (`stdin`) and the answers that it must give (`stdout`).
 
 It is written from the standards alone, with Python's whole numbers, strings of bits and floor division, and shares
-nothing with the crates: O-RAN.WG4.CUS, clauses 7.5.2 and 7.5.3 (C-plane messages) and Annex A (block floating point),
-and 3GPP TS 38.211, clause 5.3.1 (symbol starts).
+nothing with the crates: eCPRI 2.0, section 3.1 (frames), O-RAN.WG4.CUS, clauses 7.5.2 and 7.5.3 (C-plane messages) and
+Annex A (block floating point), and 3GPP TS 38.211, clauses 4.3 and 5.3.1 (frames and symbol starts); the generations of
+fragments are those that `docs/DEFINITIONS.md` describes. No answer is the program's own.
 
-    python3 tables.py control > src/tests/control_tables.rt
-    python3 tables.py fragments > src/tests/fragments_tables.rt
-    python3 tables.py blocks > src/tests/blocks_tables.rt
-    python3 tables.py times > src/tests/times_tables.rt
+    python3 tables.py
 """
+import os
 import random
-import sys
 
+ENTRIES, ANSWERS = [], []
 WIDTHS = list(range(1, 17))
+TS = 50_000
+FRAME = 307200 * TS
 
 
-def exponent_of(numbers, width):
-    """The least exponent at which every floor fits, by trying them all."""
-    low, high = -(1 << (width - 1)), (1 << (width - 1)) - 1
-    for e in range(16):
-        if all(low <= x // 2**e <= high for x in numbers):
-            return e
-    raise ValueError("no exponent fits")
+def note(text):
+    """A line that is printed as it is."""
+    ENTRIES.append("# " + text)
+    ANSWERS.append("# " + text)
 
 
-def spell(numbers, width):
-    """Numbers of `width` bits in two's complement, one after the other, as bytes."""
-    text = "".join(format(x % 2**width, "0%db" % width) for x in numbers)
-    return bytes(int(text[i : i + 8], 2) for i in range(0, len(text), 8))
+def entry(line, answer):
+    ENTRIES.append(line)
+    ANSWERS.append(line.split()[0] + " " + answer if answer is not None else "line %d is no entry" % len(ENTRIES))
 
 
-def packed(numbers, width):
-    """The bytes and the values of a block; width None is no compression."""
-    if width is None:
-        return spell(numbers, 16), list(numbers)
-    e = exponent_of(numbers, width)
-    mantissas = [x // 2**e for x in numbers]
-    return bytes([e]) + spell(mantissas, width), [m * 2**e for m in mantissas]
+def symbols():
+    """Starts of symbols: sums of the lengths of the symbols before."""
+    note("The first and the last slot of a subframe with the normal cyclic prefix: each symbol has 2048 + 144 over 2^u Ts,")
+    note("and the first of each half of the subframe 16 Ts more.")
+    for u in range(5):
+        count = 14 * 2**u
+        lengths = [(2048 + 144) * TS // 2**u + (16 * TS if i in (0, 7 * 2**u) else 0) for i in range(count)]
+        assert sum(lengths) == 30720 * TS
+        starts = [sum(lengths[:i]) for i in range(count)]
+        for slot in sorted({0, 2**u - 1}):
+            for i in range(14):
+                entry("symbol %d 0 0 %d %d" % (u, slot, i), str(starts[14 * slot + i]))
+    note("The extended cyclic prefix at 60 kHz: a subframe has 4 slots of 12 symbols, each of (2048 + 512) / 4 = 640 Ts.")
+    lengths = [(2048 + 512) * TS // 4] * 48
+    assert sum(lengths) == 30720 * TS
+    starts = [sum(lengths[:i]) for i in range(48)]
+    for slot in range(4):
+        for i in range(12):
+            entry("symbol extended 0 0 %d %d" % (slot, i), str(starts[12 * slot + i]))
+    note("In other subframes and frames.")
+    for frame, subframe, slot, i in ((1, 0, 1, 11), (0, 9, 3, 11), (-1, 9, 3, 11), (99_999, 4, 2, 6)):
+        entry("symbol extended %d %d %d %d" % (frame, subframe, slot, i), str(frame * FRAME + subframe * (FRAME // 10) + starts[12 * slot + i]))
+    note("There is no such symbol.")
+    for name in ("extended 0 0 0 12", "extended 0 0 4 0", "extended 0 10 0 0", "2 0 0 0 14", "2 0 0 4 0", "0 0 0 1 0"):
+        entry("symbol " + name, "none")
 
 
-def method(width):
-    return "Method::Plain" if width is None else "Method::Bfp(%d)" % width
+def frames():
+    note("The frame that a frameId means at a time: the only one with these low eight bits that starts from 128 frames before")
+    note("that time to less than 128 frames after it.")
+    for frame_id in (0, 1, 127, 128, 129, 254, 255):
+        for at in (0, 1, -1, 127 * FRAME, 128 * FRAME, 128 * FRAME + 1, 254 * FRAME, 255 * FRAME, 256 * FRAME, 256 * FRAME - 1, 383 * FRAME, 384 * FRAME, 384 * FRAME + 1, -128 * FRAME, -128 * FRAME + 1):
+            found = [f for f in range(-600, 900) if f % 256 == frame_id and at - 128 * FRAME <= f * FRAME < at + 128 * FRAME]
+            assert len(found) == 1
+            entry("frame %d %d" % (frame_id, at), str(found[0]))
 
 
-def extremes(width):
-    """A row of EXTREMES."""
-    size = 48 if width is None else 1 + 3 * width
-    rows = []
-    greatest = None
-    for place in range(24):
-        least_block = [0] * 24
-        least_block[place] = -32768
-        most_block = [0] * 24
-        most_block[place] = 32767
-        least, least_values = packed(least_block, width)
-        most, most_values = packed(most_block, width)
-        assert least_values == least_block and len(least) == len(most) == size
-        assert width is None or least[0] == most[0]
-        greatest = most_values[place]
-        first = 0 if width is None else 1
-        at = min(first + place * (width or 16) // 8, size - 3)
-        for bytes_ in (least, most):
-            assert not any(bytes_[first:at]) and not any(bytes_[at + 3 :])
-        rows.append("%02x %s %s" % (at, least[at : at + 3].hex(), most[at : at + 3].hex()))
-    e = 0 if width is None else exponent_of(least_block, width)
-    out = "    Extremes {\n        method: %s,\n        exponent: %d,\n        greatest: %d,\n" % (method(width), e, greatest)
-    out += "        places: [\n"
-    for k in range(0, 24, 4):
-        out += '            b"%s",\n' % ", ".join(rows[k : k + 4])
-    return out + "        ],\n    },\n"
-
-
-BLOCKS = [
-    # One number is far from the others, at place 13.
-    [3, -1, 0, 2, -2, 1, 1, -3, 2, 0, -1, 4, -4, -29876, 2, 3, 5, -5, 0, 0, 1, -1, 2, -7],
-    # Signs alternate.
-    [(-1) ** k * (1000 + 37 * k) for k in range(24)],
-    # Numbers of every size.
-    [1, -1, 2, -3, 5, -8, 13, -21, 34, -55, 89, -144, 233, -377, 610, -987, 1597, -2584, 4181, -6765, 10946, -17711, 28657, -32768],
+# Frames by the layout table of the common header, written out by hand: each header, then its payload, and ff behind a
+# payload of at least one byte; and the fault, if there is one.
+PDUS = [
+    ("Nothing at all, another revision, a header cut at 2, a payload cut at 8.", [
+        ("", "", "Truncated 0"),
+        ("20020014", "", "Revision 0"),
+        ("1002", "", "Truncated 2"),
+        ("10020014 00000080", "10020014 00000080", "Truncated 8")]),
+    ("Another message is to follow: the padding is cut, or there is none and the next header is missing.", [
+        ("11030001 aa", "11030001 aa ff", "NoPadding 5"),
+        ("11030000", "11030000", "Truncated 4")]),
+    ("Whole frames of one message each.", [
+        ("10020003 000000", "10020003 000000 ff", None),
+        ("10020004 00010080", "10020004 00010080 ff", None),
+        ("10020004 00000000", "10020004 00000000 ff", None),
+        ("10020004 00000080", "10020004 00000080 ff", None),
+        ("10000004 00000080", "10000004 00000080 ff", None),
+        ("10000008 00000180 10010000", "10000008 00000180 10010000 ff", None),
+        ("10000008 00000280 90010000", "10000008 00000280 90010000 ff", None),
+        ("10050004 00000000", "10050004 00000000 ff", None)]),
+    ("21 bytes, 3 of padding that could be a header of another revision, and the last message with 20 bytes.", [
+        ("11030015 0102030405060708090a0b0c0d0e0f101112131415 20ffff 10050014 2122232425262728292a2b2c2d2e2f3031323334",
+         "11030015 0102030405060708090a0b0c0d0e0f101112131415 ff 10050014 2122232425262728292a2b2c2d2e2f3031323334 ff", None)]),
 ]
-NAMES = ["OUTLIER", "ALTERNATING", "GROWING"]
 
 
-def quoted(text, indent):
-    return '%sb"%s",\n' % (indent, text)
+def joined(text):
+    return text.replace(" ", "") or "-"
 
 
-def blocks():
-    print("// Tables that `tables.py` printed: see there how each value is computed.")
-    print("use super::blocks::{Extremes, Packing};")
-    print("use bfp_codec::Method;\n")
-    for name, numbers in zip(NAMES, BLOCKS):
-        print("pub(super) const %s: [(i16, i16); 12] = [" % name)
-        for k in range(12):
-            print("    (%d, %d)," % (numbers[2 * k], numbers[2 * k + 1]))
-        print("];\n")
-    print("pub(super) const EXTREMES: [Extremes; 17] = [")
-    for width in WIDTHS + [None]:
-        print(extremes(width), end="")
-    print("];")
-    for name, numbers in zip(NAMES, BLOCKS):
-        print("\npub(super) const %s_PACKED: [Packing; 17] = [" % name)
-        for width in WIDTHS + [None]:
-            bytes_, values = packed(numbers, width)
-            print("    Packing {\n        method: %s," % method(width))
-            print('        packed: b"%s",' % bytes_.hex())
-            print('        values: b"%s",\n    },' % spell(values, 16).hex())
-        print("];")
-    print("\n/// Width, number and exponent of the block of which it is the only number.")
-    rows = []
-    for width in WIDTHS:
-        top = 1 << (width - 1)
-        for x in (top - 1, top, -top, -top - 1):
-            if -32768 <= x <= 32767:
-                rows.append((width, x, exponent_of([x, 0], width)))
-    for e in range(8):
-        for x in (2 ** (8 + e) - 1, 2 ** (8 + e), -(2 ** (8 + e)), -(2 ** (8 + e)) - 1):
-            if -32768 <= x <= 32767:
-                rows.append((9, x, exponent_of([x, 0], 9)))
-    print("pub(super) const EXPONENTS: [(u8, i16, u8); %d] = [" % len(rows))
-    for row in rows:
-        print("    (%d, %d, %d)," % row)
-    print("];")
+def pdus():
+    for name, rows in PDUS:
+        note(name)
+        for frame, told, fault in rows:
+            entry("pdu " + joined(frame), "%s %s, alike in any pieces" % (joined(told), fault or "whole"))
 
 
 HEAD = dict(down=1, filter=0, frame_id=1, subframe=0, slot=0, start_symbol=0, time_offset=0, structure=0, cp_length=0, comp=0)
@@ -154,13 +131,9 @@ def section_text(kind, section, rb=0, ef=0, reserved=0):
     return bits(*fields)
 
 
-def spaced(text):
-    return " ".join(text[i : i + 8] for i in range(0, len(text), 8))
-
-
 def message_text(kind, head, sections, reserved=0):
     text = head_text(kind, len(sections), head, reserved=reserved)
-    return spaced(text + "".join(section_text(kind, s, reserved=reserved) for s in sections))
+    return text + "".join(section_text(kind, s, reserved=reserved) for s in sections)
 
 
 # Name, section type, symbols and slots, header fields, sections, reserved bits.
@@ -267,62 +240,56 @@ REFUSED = [
 ]
 
 
-def body_value(kind, h):
-    if kind == 1:
-        return "CBody::Normal { comp: 0x%02x }" % h["comp"]
-    fields = "time_offset: 0x%04x, structure: 0x%02x, cp_length: 0x%04x" % (h["time_offset"], h["structure"], h["cp_length"])
-    if kind == 0:
-        return "CBody::Idle { %s }" % fields
-    return "CBody::Offset { %s, comp: 0x%02x }" % (fields, h["comp"])
+def header_answer(kind, head, count):
+    h = HEAD | head
+    fields = "%s filter %d frame %d subframe %d slot %d symbol %d sections %d type %d" % (
+        "down" if h["down"] else "up", h["filter"], h["frame_id"], h["subframe"], h["slot"], h["start_symbol"], count, kind)
+    if kind != 1:
+        fields += " offset %d structure %d prefix %d" % (h["time_offset"], h["structure"], h["cp_length"])
+    if kind != 0:
+        fields += " compression %d" % h["comp"]
+    return fields
 
 
-def changed(value, default, skip=()):
-    return "".join("%s: %s, " % (k, v) for k, v in value.items() if default.get(k) != v and k not in skip)
+def message(kind, shape, head, sections, reserved=0):
+    """A message that is read and written again; it is written with reserved bits 0."""
+    answer = header_answer(kind, head, len(sections))
+    symbol = (HEAD | head)["start_symbol"]
+    for section in sections:
+        s = ONE | section
+        symbol += s["sym_inc"]
+        answer += "\n  section %d step %d symbol %d symbols %d prb %d prbs %d mask %03x beam %d frequency %d" % (
+            s["id"], s["sym_inc"], symbol, s["num_symbol"], s["start_prb"], s["num_prb"], s["mask"], s["beam"], s["freq_offset"])
+    answer += "\n  written " + message_text(kind, head, sections)
+    entry("control %d %d %s" % (*shape, message_text(kind, head, sections, reserved)), answer)
 
 
 def control():
-    print("// Tables that `tables.py` printed: see there how each value is computed.")
-    print("use super::control::{HEAD, Message, ONE, Refused};")
-    print("use cplane_sections::{CBody, CHead, CSection, CWhy};\n")
-    print("pub(super) const MESSAGES: [Message; %d] = [" % len(MESSAGES))
-    for name, kind, (symbols, slots), head, sections, reserved in MESSAGES:
-        h = HEAD | head
-        print("    // %s" % name)
-        print("    Message { text: b\"%s\"," % message_text(kind, head, sections, reserved))
-        print("        written: b\"%s\"," % message_text(kind, head, sections))
-        print("        symbols: %d, slots: %d," % (symbols, slots))
-        fields = "".join("%s: %d, " % (k, h[k]) for k in ("filter", "frame_id", "subframe", "slot", "start_symbol") if h[k] != HEAD[k])
-        if not h["down"]:
-            fields = "down: false, " + fields
-        print("        head: CHead { %scount: %d, body: %s, ..HEAD }," % (fields, len(sections), body_value(kind, h)))
-        print("        sections: &[")
-        symbol = h["start_symbol"]
-        for section in sections:
-            s = ONE | section
-            symbol += s["sym_inc"]
-            fields = "".join("%s: %s, " % (k, ("0x%03x" if k == "mask" else "%d") % s[k]) for k in ("id", "start_prb", "num_prb", "mask", "num_symbol", "beam", "freq_offset") if s[k] != ONE[k])
-            if s["sym_inc"]:
-                fields += "sym_inc: true, "
-            if symbol:
-                fields += "symbol: %d, " % symbol
-            print("            CSection { %s..ONE }," % fields if fields else "            ONE,")
-        print("        ] },")
-    print("];\n")
-    print("pub(super) const REFUSED: [Refused; %d] = [" % len(REFUSED))
-    for name, text, (symbols, slots), place, why in REFUSED:
-        print("    // %s" % name)
-        print("    Refused { text: b\"%s\", symbols: %d, slots: %d, place: %d, why: CWhy::%s }," % (spaced(text), symbols, slots, place, why))
-    print("];")
-
-
-VERDICTS = ["Stored", "Whole", "Repeat", "Stray", "TooLong"]
+    for name, kind, shape, head, sections, reserved in MESSAGES:
+        note(name)
+        message(kind, shape, head, sections, reserved)
+    note("By hand: a header of 12 bytes and 255 sections of 12 are 3,072 bytes.")
+    many = [dict(id=0xABC, start_prb=1, num_prb=2, mask=0x0FF, num_symbol=3, beam=5, freq_offset=-2)] * 255
+    assert len(message_text(3, dict(down=0), many)) == 2 * 3072
+    message(3, (14, 2), dict(down=0), many)
+    note("The same without its last byte, and with 254 sections in its header.")
+    text = message_text(3, dict(down=0), many)
+    entry("control 14 2 " + text[:-2], "refused Truncated 3071")
+    entry("control 14 2 " + head_text(3, 254, dict(down=0)) + text[24:], "refused Trailing 3060")
+    note("By hand: with symInc in each section the 13th covers symbol 13; the 14th, at 12 + 13 * 12, would cover symbol 14.")
+    message(3, (14, 2), dict(down=0), [dict(sym_inc=1)] * 13)
+    entry("control 14 2 " + message_text(3, dict(down=0), [dict(sym_inc=1)] * 255), "refused SymbolRange 168")
+    for name, text, shape, place, why in REFUSED:
+        note(name)
+        entry("control %d %d %s" % (*shape, text or "-"), "refused %s %d" % (why, place))
 
 
 def answers(hold, arrivals):
-    """The answer to each arrival (time, endpoint, id, last, sub, length), by reading all arrivals before it anew."""
+    """The answer to each arrival (time, endpoint, id, last, sub, length), by reading all arrivals before it anew; a whole
+    message with the times of its first and last piece, and the length and the first byte of each piece in order."""
     out = []
     for n, (time, ep, seq, last, sub, length) in enumerate(arrivals):
-        # The generations of this endpoint and id so far, each its start and what came in it.
+        # The generation of this endpoint and id that is open, if one is: its start and what came in it.
         start, members = None, []
         for k, other in enumerate(arrivals[:n]):
             if other[1:3] != (ep, seq):
@@ -332,93 +299,158 @@ def answers(hold, arrivals):
             members.append(k)
         if start is None or time > start + hold:
             members = []
-        standing = [k for k in members if out[k][0] in ("Stored", "Whole")]
+        standing = [k for k in members if out[k] == "Stored" or out[k].startswith("Whole")]
         subs = [arrivals[k][4] for k in standing]
         ends = [arrivals[k][4] for k in standing if arrivals[k][3]]
         total = sum(arrivals[k][5] for k in standing)
-        if any(out[k][0] == "Whole" for k in members) or sub in subs:
-            out.append(("Repeat", 0, 0, 0))
+        if any(out[k].startswith("Whole") for k in members) or sub in subs:
+            out.append("Repeat")
         elif any(sub > e for e in ends) or (last and any(other > sub for other in subs)):
-            out.append(("Stray", 0, 0, 0))
+            out.append("Stray")
         elif total + length > 16_384:
-            out.append(("TooLong", 0, 0, 0))
+            out.append("TooLong")
         else:
-            subs, ends = subs + [sub], ends + ([sub] if last else [])
-            times = [arrivals[k][0] for k in standing] + [time]
-            if ends and set(range(ends[0] + 1)) <= set(subs):
-                out.append(("Whole", ends[0] + 1, min(times), max(times)))
+            pieces = {arrivals[k][4]: arrivals[k] for k in standing} | {sub: arrivals[n]}
+            ends = ends + ([sub] if last else [])
+            if ends and set(range(ends[0] + 1)) <= set(pieces):
+                times = [piece[0] for piece in pieces.values()]
+                shown = ["%dx%d" % (pieces[k][5], k if pieces[k][5] else 0) for k in range(ends[0] + 1)]
+                out.append("Whole %d %d %s" % (min(times), max(times), " ".join(shown)))
             else:
-                out.append(("Stored", 0, 0, 0))
+                out.append("Stored")
     return out
 
 
+def arrive(hold, arrivals):
+    entry("hold %d" % hold, "%d" % hold)
+    told = answers(hold, arrivals)
+    for (time, ep, seq, last, sub, length), answer in zip(arrivals, told):
+        entry("fragment %d %d %02x%02x %d" % (time, ep, seq, 128 * last + sub, length), answer)
+    return told
+
+
 def fragments():
-    hold, number = 60, 240
+    note("Two endpoints and two sequence ids in turn, drawn.")
     draw = random.Random(5)
     arrivals = []
     time = 0
-    for _ in range(number):
+    for _ in range(240):
         time += draw.choice([0, 1, 2, 3, 5, 9])
         sub = draw.choice([0, 0, 1, 1, 2, 3])
         last = draw.random() < (0.15, 0.5, 0.6, 0.9)[sub]
         length = draw.choice([0, 1, 100, 1_492, 5_461, 8_192, 8_193, 16_384])
         arrivals.append((time, draw.choice([0, 15]), draw.choice([0, 255]), last, sub, length))
-    told = answers(hold, arrivals)
-    assert {t[0] for t in told} == set(VERDICTS)
-    rows = []
-    for (time, ep, seq, last, sub, length), (verdict, count, first, end) in zip(arrivals, told):
-        rows.append("%04x %02x %02x%02x %04x %02x %02x %04x %04x" % (time, ep, seq, 128 * last + sub, length, VERDICTS.index(verdict), count, first, end))
-    print("// Tables that `tables.py` printed: see there how each value is computed.\n")
-    print("/// The ticks for which a generation holds.")
-    print("pub(super) const HOLD: i64 = %d;\n" % hold)
-    print("/// Arrivals of two endpoints and two sequence ids in turn, two a line: the time (4 digits), the endpoint (2), the")
-    print("/// sequence field (4), the length (4), the answer as its number in the list of answers (2), and where that is")
-    print("/// Whole the number of pieces (2) and the arrivals of the first and the last of them (4 each).")
-    print("pub(super) const ARRIVALS: [&[u8]; %d] = [" % (number // 2))
-    for k in range(0, number, 2):
-        print('    b"%s, %s",' % (rows[k], rows[k + 1]))
-    print("];")
-    counts = {v: sum(t[0] == v for t in told) for v in VERDICTS}
-    print(counts, {t[1] for t in told}, file=sys.stderr)
+    told = arrive(60, arrivals)
+    assert {t.split()[0] for t in told} == {"Stored", "Whole", "Repeat", "Stray", "TooLong"}
+    note("128 pieces in reverse order, the last one first: whole with the piece 0, at the end of the hold.")
+    told = arrive(127, [(127 - sub, 15, 255, sub == 127, sub, 1) for sub in range(127, -1, -1)])
+    assert told[:127] == ["Stored"] * 127 and told[127].startswith("Whole 0 127 1x0 1x1 ")
+    note("A generation holds its end, ten ticks after it began, and not the next tick; another endpoint goes its own way.")
+    told = arrive(10, [(-25, 0, 1, False, 0, 1), (-15, 0, 1, False, 0, 1), (-14, 0, 1, False, 0, 1), (-13, 1, 1, False, 0, 1), (-4, 0, 1, True, 1, 1)])
+    assert [t.split()[0] for t in told] == ["Stored", "Repeat", "Stored", "Stored", "Whole"]
+    note("Two ids in turn: one with E = 1 below a piece that stands, and one beyond it.")
+    told = arrive(10, [(0, 0, 255, False, 5, 1), (1, 0, 0, True, 1, 1), (2, 0, 255, True, 4, 1), (3, 0, 0, False, 0, 1), (4, 0, 255, True, 6, 1)])
+    assert [t.split()[0] for t in told] == ["Stored", "Stored", "Stray", "Whole", "Stored"]
+    note("No hold: a generation is one tick.")
+    four = [(1, False, 1), (1, False, 0), (1, True, 2), (1, True, 2)]
+    told = arrive(0, [(at, 0, *field, 1) for at in (5, 5, 6) for field in four])
+    assert [t.split()[0] for t in told] == ["Stored", "Stored", "Whole", "Repeat"] + ["Repeat"] * 4 + ["Stored", "Stored", "Whole", "Repeat"]
+    note("16,384 bytes are a message, 16,385 are too many; what is too long does not stand.")
+    told = arrive(10, [(0, 0, 4, True, 0, 16_384), (0, 0, 5, True, 0, 16_385), (10, 0, 5, False, 0, 16_384), (10, 0, 5, False, 1, 1), (10, 0, 5, True, 1, 0), (11, 0, 5, True, 1, 0)])
+    assert [t.split()[0] for t in told] == ["Whole", "TooLong", "Stored", "TooLong", "Whole", "Stored"]
+    note("15 pieces of 1,024 bytes and one more are 16,384; with 1,025 they are too many, and that piece does not stand.")
+    told = arrive(10, [(0, 1, 255, False, sub, 1_024) for sub in range(15)] + [(1, 1, 255, True, 15, 1_025), (2, 1, 255, True, 15, 1_024)])
+    assert told[15] == "TooLong" and told[16].startswith("Whole 0 2 1024x0 ")
 
 
+def exponent_of(numbers, width):
+    """The least exponent at which every floor fits, by trying them all."""
+    low, high = -(1 << (width - 1)), (1 << (width - 1)) - 1
+    for e in range(16):
+        if all(low <= x // 2**e <= high for x in numbers):
+            return e
+    raise ValueError("no exponent fits")
 
-TS = 50_000
+
+def spell(numbers, width):
+    """Numbers of `width` bits in two's complement, one after the other, as bytes."""
+    text = "".join(format(x % 2**width, "0%db" % width) for x in numbers)
+    return bytes(int(text[i : i + 8], 2) for i in range(0, len(text), 8))
 
 
-def times():
-    print("// Tables that `tables.py` printed: see there how each value is computed.\n")
-    print("/// The starts of the 14 symbols of the first slot of a subframe, and of its last slot, in ticks, for 15, 30,")
-    print("/// 60, 120 and 240 kHz: sums of the lengths of the symbols before, each 2048 + 144 over 2^u Ts, with 16 Ts")
-    print("/// more for the first symbol of each half of the subframe.")
-    print("pub(super) const STARTS: [([i64; 14], [i64; 14]); 5] = [")
-    for u in range(5):
-        count = 14 * 2**u
-        lengths = [(2048 + 144) * TS // 2**u + (16 * TS if i in (0, 7 * 2**u) else 0) for i in range(count)]
-        assert sum(lengths) == 30720 * TS
-        starts = [sum(lengths[:i]) for i in range(count)]
-        print("    (\n        [")
-        for s in starts[:14]:
-            print("            %s," % format(s, "_"))
-        print("        ],\n        [")
-        for s in starts[-14:]:
-            print("            %s," % format(s, "_"))
-        print("        ],\n    ),")
-    print("];\n")
-    frame = 307200 * TS
-    rows = []
-    for frame_id in (0, 1, 127, 128, 129, 254, 255):
-        for at in (0, 1, -1, 127 * frame, 128 * frame, 128 * frame + 1, 254 * frame, 255 * frame, 256 * frame, 256 * frame - 1, 383 * frame, 384 * frame, 384 * frame + 1, -128 * frame, -128 * frame + 1):
-            found = [f for f in range(-600, 900) if f % 256 == frame_id and at - 128 * frame <= f * frame < at + 128 * frame]
-            assert len(found) == 1
-            rows.append((frame_id, at, found[0]))
-    print("/// A frameId, the time in ticks at which it arrives, and the frame that it means: the only one with these low")
-    print("/// eight bits that starts from 128 frames before that time to less than 128 frames after it.")
-    print("pub(super) const FRAMES: [(u8, i64, i64); %d] = [" % len(rows))
-    for frame_id, at, found in rows:
-        print("    (%d, %s, %d)," % (frame_id, format(at, "_"), found))
-    print("];")
+def packed(numbers, width):
+    """The bytes and the values of a block; width None is no compression."""
+    if width is None:
+        return spell(numbers, 16), list(numbers)
+    e = exponent_of(numbers, width)
+    mantissas = [x // 2**e for x in numbers]
+    return bytes([e]) + spell(mantissas, width), [m * 2**e for m in mantissas]
+
+
+def method(width):
+    return "plain" if width is None else str(width)
+
+
+def nonzero(values):
+    return "".join(" %d:%d" % (k, x) for k, x in enumerate(values) if x)
+
+
+BLOCKS = [
+    # One number is far from the others, at place 13.
+    [3, -1, 0, 2, -2, 1, 1, -3, 2, 0, -1, 4, -4, -29876, 2, 3, 5, -5, 0, 0, 1, -1, 2, -7],
+    # Signs alternate.
+    [(-1) ** k * (1000 + 37 * k) for k in range(24)],
+    # Numbers of every size.
+    [1, -1, 2, -3, 5, -8, 13, -21, 34, -55, 89, -144, 233, -377, 610, -987, 1597, -2584, 4181, -6765, 10946, -17711, 28657, -32768],
+]
+
+
+def blocks():
+    for numbers in BLOCKS:
+        note("A block at every width.")
+        for width in WIDTHS + [None]:
+            bytes_, values = packed(numbers, width)
+            entry("block %s %s" % (method(width), " ".join(map(str, numbers))), bytes_.hex() + nonzero(values))
+    note("The least and the greatest number alone, at every place and width; and zeros.")
+    for width in WIDTHS + [None]:
+        for place in range(24):
+            for x in (-32768, 32767):
+                bytes_, values = packed([x if k == place else 0 for k in range(24)], width)
+                entry("single %s %d %d" % (method(width), place, x), bytes_.hex() + nonzero(values))
+        bytes_, values = packed([0] * 24, width)
+        assert not any(bytes_)
+        entry("single %s 0 0" % method(width), bytes_.hex())
+    note("By hand: the floors of 1000 / 4 and -1023 / 4 are 250 and -256, in 9 bits 011111010 and 100000000.")
+    entry("block 9 1000 -1023" + " 0" * 22, "027d40" + "00" * 25 + " 0:1000 1:-1024")
+    note("By hand: the reserved half of the exponent's byte is passed over, and a mantissa of 16 bits times 2 to 15 is kept")
+    note("whole, though no block is packed so.")
+    entry("unpack 16 af80" + "00" * 45 + "7fff", "0:-1073741824 23:1073709056")
+    entry("unpack 1 53800001", "0:-8 23:-8")
+    note("The exponents at the limits, of blocks with one number at each place.")
+    rows = [(width, x) for width in WIDTHS for x in limits(1 << (width - 1))]
+    rows += [(9, x) for e in range(8) for x in limits(2 ** (8 + e))]
+    for width, x in rows:
+        if -32768 <= x <= 32767:
+            entry("exponent %d %d" % (width, x), " ".join([str(exponent_of([x, 0], width))] * 24))
+
+
+def limits(top):
+    return (top - 1, top, -top, -top - 1)
+
+
+def others():
+    note("No entries.")
+    for line in ("nothing", "symbol 5 0 0 0 0", "symbol 0 0 0 0", "symbol 0 0 0 0 0 0", "frame 256 0", "pdu 1", "pdu 0g", "pdu", "control 14 2",
+                 "hold -1", "fragment 0 16 0000 1", "fragment 0 0 000 1", "block 17 1", "single 9 24 1", "unpack 1 53", "exponent 0 1", "exponent 9 32768"):
+        entry(line, None)
+    ENTRIES.append("")
+    ANSWERS.append("")
 
 
 if __name__ == "__main__":
-    {"control": control, "fragments": fragments, "blocks": blocks, "times": times}[sys.argv[1]]()
+    for table in (symbols, frames, pdus, control, fragments, blocks, others):
+        table()
+    here = os.path.dirname(os.path.abspath(__file__))
+    for name, lines in (("stdin", ENTRIES), ("stdout", ANSWERS)):
+        with open(os.path.join(here, name), "w") as file:
+            file.write("\n".join(lines) + "\n")

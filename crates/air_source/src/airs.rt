@@ -1,19 +1,23 @@
 // What hears events.
-ghost use Rattle.std.specs.Prelude.{◌≡◌, List, [], ◌∷◌, ◌++◌, ℕ, ◌<◌, ◌^◌, OnOk, OnErr, length};
+ghost use Rattle.std.specs.Prelude.{◌≡◌, List, [], ◌∷◌, ◌++◌, ℕ, ◌<◌, ◌^◌, OnOk, IfErr, length};
 ghost use Rattle.air_source.specs.Causes.{HasAirCause};
+ghost use Rattle.air_source.specs.declared.airs.AirFault.{AirFault};
 ghost use Rattle.air_source.specs.declared.events.Event.{Event};
 ghost use Rattle.air_source.specs.declared.events.Event.TheVariants.{Cell, Delay, Arrival, Count};
 
 use crate::{AirCell, Side};
 use fault_counters::Counter;
 use fh_time::Ticks;
+use thiserror::Error;
 
 /// Why an air did not hear an event.
-#[derive(Clone, Copy, Debug, PartialEq, Eq)]
+#[derive(Clone, Copy, Debug, PartialEq, Eq, Error)]
 pub enum AirFault {
     /// The air failed: its count of faults rose.
+    #[error("failed")]
     Failed,
     /// Memory was refused.
+    #[error("no memory")]
     NoMemory,
 }
 
@@ -30,7 +34,7 @@ pub trait Air {
     ghost grew: { Self → List Event → Self → Type 0 };
 
     /// From the first air to the second, it stopped in this event.
-    ghost stopped: { Self → Event → Self → Type 0 };
+    ghost stopped: { AirFault → Self → Event → Self → Type 0 };
 
     /// The second air holds the same references as the first, so who lent them knows what became of
     /// what is behind them.
@@ -39,7 +43,7 @@ pub trait Air {
     /// Hears a cell that a unit reports.
     fn cell(&mut self, c: &AirCell) -> Result<(), AirFault>
         ensures heard { OnOk result (grew self.old (Cell c.now ∷ []) self.new) }
-        ensures stop { OnErr result (stopped self.old (Cell c.now) self.new) }
+        ensures stop { IfErr result (λ f. stopped f self.old (Cell c.now) self.new) }
         ensures same { same self.old self.new }
         ensures cause { HasAirCause (faults self.old) (faults self.new) result };
 
@@ -47,7 +51,7 @@ pub trait Air {
     /// measured it and the measurement id.
     fn delay(&mut self, at: Ticks, side: Side, id: u8, value: i128) -> Result<(), AirFault>
         ensures heard { OnOk result (grew self.old (Delay at side id value ∷ []) self.new) }
-        ensures stop { OnErr result (stopped self.old (Delay at side id value) self.new) }
+        ensures stop { IfErr result (λ f. stopped f self.old (Delay at side id value) self.new) }
         ensures same { same self.old self.new }
         ensures cause { HasAirCause (faults self.old) (faults self.new) result };
 
@@ -55,14 +59,14 @@ pub trait Air {
     fn arrival(&mut self, side: Side, at: Ticks, frame: &[u8]) -> Result<(), AirFault>
         requires { length frame.now < 2 ^ 32 }
         ensures heard { OnOk result (grew self.old (Arrival side at frame.now ∷ []) self.new) }
-        ensures stop { OnErr result (stopped self.old (Arrival side at frame.now) self.new) }
+        ensures stop { IfErr result (λ f. stopped f self.old (Arrival side at frame.now) self.new) }
         ensures same { same self.old self.new }
         ensures cause { HasAirCause (faults self.old) (faults self.new) result };
 
     /// Hears the value of a unit's counter.
     fn count(&mut self, side: Side, counter: Counter, value: u64) -> Result<(), AirFault>
         ensures heard { OnOk result (grew self.old (Count side counter value ∷ []) self.new) }
-        ensures stop { OnErr result (stopped self.old (Count side counter value) self.new) }
+        ensures stop { IfErr result (λ f. stopped f self.old (Count side counter value) self.new) }
         ensures same { same self.old self.new }
         ensures cause { HasAirCause (faults self.old) (faults self.new) result };
 

@@ -107,7 +107,7 @@ impl<'a, K: Sink> Air for LineAir<'a, K> {
 
     ghost grew = { λ a events b. Moved line_next line_gives a.odd (bytes_owed a.full a.line) (K.written a.sink.now) events b.odd (bytes_owed b.full b.line) (K.written b.sink.now) };
 
-    ghost stopped = { λ a event b. Halted line_gives a.odd (bytes_owed a.full a.line) (K.written a.sink.now) event (K.written b.sink.now) };
+    ghost stopped = { λ _ a event b. Halted line_gives a.odd (bytes_owed a.full a.line) (K.written a.sink.now) event (K.written b.sink.now) };
 
     ghost same = { λ a b. b.sink.ghost_name ≡ a.sink.ghost_name };
 

@@ -1,9 +1,9 @@
 // An air in memory that fails at the calls that it is told.
-ghost use Rattle.std.specs.Prelude.{◌≡◌, ◌∷◌, ◌++◌, [], ◌<◌, ◌^◌, ◌==◌, length, OnOk, OnErr};
+ghost use Rattle.std.specs.Prelude.{◌≡◌, ◌∷◌, ◌++◌, [], ◌<◌, ◌^◌, ◌==◌, length, OnOk, IfErr};
 ghost use Rattle.std.specs.List.{list_any};
 ghost use Rattle.fh_base.specs.Ends.{fails_at};
-ghost use Rattle.air_source.specs.Causes.{HasAirCause};
-ghost use Rattle.air_source.specs.Memory.{heard_of, fails_of, calls_of, Begins, Keeps, Calls};
+ghost use Rattle.air_source.specs.Causes.{HasAirCause, faults_after};
+ghost use Rattle.air_source.specs.Memory.{heard_of, fails_of, calls_of, faults_of, Begins, Keeps, Calls};
 ghost use Rattle.air_source.specs.Grown.{grown_none, grown_more};
 ghost use Rattle.air_source.specs.declared.events.Event.TheVariants.{Cell, Delay, Arrival, Count};
 
@@ -97,7 +97,7 @@ impl Air for MemoryAir {
 
     ghost grew = { λ a events b. heard_of b ≡ heard_of a ++ events };
 
-    ghost stopped = { λ a _ b. heard_of b ≡ heard_of a };
+    ghost stopped = { λ f a _ b. (heard_of b ≡ heard_of a) × (faults_of b ≡ faults_after f (faults_of a)) };
 
     ghost same = { λ _ _. Unit {0} };
 
@@ -112,7 +112,7 @@ impl Air for MemoryAir {
     /// Keeps the cell, unless memory is refused. `Failed` comes exactly at the listed calls.
     fn cell(&mut self, c: &AirCell) -> Result<(), AirFault>
         ensures heard { OnOk result (⟦<MemoryAir as Air>⟧.grew self.old (Cell c.now ∷ []) self.new) }
-        ensures stop { OnErr result (⟦<MemoryAir as Air>⟧.stopped self.old (Cell c.now) self.new) }
+        ensures stop { IfErr result (λ f. ⟦<MemoryAir as Air>⟧.stopped f self.old (Cell c.now) self.new) }
         ensures same { ⟦<MemoryAir as Air>⟧.same self.old self.new }
         ensures cause { HasAirCause (⟦<MemoryAir as Air>⟧.faults self.old) (⟦<MemoryAir as Air>⟧.faults self.new) result }
         ensures call { Calls self.old self.new result }
@@ -124,7 +124,7 @@ impl Air for MemoryAir {
     /// Keeps the delay, unless memory is refused. `Failed` comes exactly at the listed calls.
     fn delay(&mut self, at: Ticks, side: Side, id: u8, value: i128) -> Result<(), AirFault>
         ensures heard { OnOk result (⟦<MemoryAir as Air>⟧.grew self.old (Delay at side id value ∷ []) self.new) }
-        ensures stop { OnErr result (⟦<MemoryAir as Air>⟧.stopped self.old (Delay at side id value) self.new) }
+        ensures stop { IfErr result (λ f. ⟦<MemoryAir as Air>⟧.stopped f self.old (Delay at side id value) self.new) }
         ensures same { ⟦<MemoryAir as Air>⟧.same self.old self.new }
         ensures cause { HasAirCause (⟦<MemoryAir as Air>⟧.faults self.old) (⟦<MemoryAir as Air>⟧.faults self.new) result }
         ensures call { Calls self.old self.new result }
@@ -142,7 +142,7 @@ impl Air for MemoryAir {
     fn arrival(&mut self, side: Side, at: Ticks, frame: &[u8]) -> Result<(), AirFault>
         requires { length frame.now < 2 ^ 32 }
         ensures heard { OnOk result (⟦<MemoryAir as Air>⟧.grew self.old (Arrival side at frame.now ∷ []) self.new) }
-        ensures stop { OnErr result (⟦<MemoryAir as Air>⟧.stopped self.old (Arrival side at frame.now) self.new) }
+        ensures stop { IfErr result (λ f. ⟦<MemoryAir as Air>⟧.stopped f self.old (Arrival side at frame.now) self.new) }
         ensures same { ⟦<MemoryAir as Air>⟧.same self.old self.new }
         ensures cause { HasAirCause (⟦<MemoryAir as Air>⟧.faults self.old) (⟦<MemoryAir as Air>⟧.faults self.new) result }
         ensures call { Calls self.old self.new result }
@@ -162,7 +162,7 @@ impl Air for MemoryAir {
     /// Keeps the count, unless memory is refused. `Failed` comes exactly at the listed calls.
     fn count(&mut self, side: Side, counter: Counter, value: u64) -> Result<(), AirFault>
         ensures heard { OnOk result (⟦<MemoryAir as Air>⟧.grew self.old (Count side counter value ∷ []) self.new) }
-        ensures stop { OnErr result (⟦<MemoryAir as Air>⟧.stopped self.old (Count side counter value) self.new) }
+        ensures stop { IfErr result (λ f. ⟦<MemoryAir as Air>⟧.stopped f self.old (Count side counter value) self.new) }
         ensures same { ⟦<MemoryAir as Air>⟧.same self.old self.new }
         ensures cause { HasAirCause (⟦<MemoryAir as Air>⟧.faults self.old) (⟦<MemoryAir as Air>⟧.faults self.new) result }
         ensures call { Calls self.old self.new result }

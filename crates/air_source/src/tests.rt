@@ -3,7 +3,7 @@ ghost use Rattle.std.specs.Prelude.{◌≡◌};
 ghost use Rattle.air_source.specs.Tellings.{corner_at};
 
 use crate::line_air::write_lines;
-use crate::telling::{tell_all, tell_and_keep, tell_cells, tell_samples};
+use crate::telling::{tell_cells, tell_samples};
 use crate::{Air, AirCell, AirFault, Event, Link, MemoryAir, MemoryLink, RePlace, Samples, Side};
 use bfp_codec::{Iq, Wide};
 use fault_counters::Counter;
@@ -51,8 +51,10 @@ fn is_cell(event: Option<&Event>, wanted: &AirCell) -> bool {
 fn all_kinds_of_event_are_heard_in_order(rt: HostRuntime) -> Result<(), Fail> {
     let alloc = rt.alloc();
     let mut air = MemoryAir::new(alloc, List::new(alloc));
-    let told = tell_all(&[1, 2, 3], &[cell_of(4)], Ticks(-7), &mut air);
-    assert_eq!(rt; told, Ok(()));
+    assert_eq!(rt; air.arrival(Side::Ru, Ticks(-7), &[1, 2, 3]), Ok(()));
+    assert_eq!(rt; air.cell(&cell_of(4)), Ok(()));
+    assert_eq!(rt; air.delay(Ticks(-7), Side::Du, 7, 5), Ok(()));
+    assert_eq!(rt; air.count(Side::Ru, Counter::Cells, 1), Ok(()));
     let heard = air.heard();
     assert_eq!(rt; heard.len(), 4);
     match heard.get(0) {
@@ -107,22 +109,6 @@ fn a_listed_call_hears_nothing(rt: HostRuntime) -> Result<(), Fail> {
     assert_eq!(rt; air.cell(&cell_of(5)), Ok(()));
     assert_eq!(rt; air.heard().len(), 3);
     assert!(rt; is_cell(air.heard().get(2), &cell_of(5)));
-    Ok(())
-}
-
-#[test]
-fn prbs_of_heard_cells_are_kept(rt: HostRuntime) -> Result<(), Fail> {
-    let alloc = rt.alloc();
-    let mut air = MemoryAir::new(alloc, calls(alloc, &[3])?);
-    match tell_and_keep(alloc, &[cell_of(8), cell_of(9)], &mut air) {
-        Ok(kept) => assert_eq!(rt; kept.get(1).copied(), Some(9)),
-        Err(_) => assert!(rt; false),
-    }
-    assert_eq!(rt;
-        tell_and_keep(alloc, &[cell_of(1)], &mut air).err(),
-        Some(AirFault::Failed)
-    );
-    assert_eq!(rt; air.heard().len(), 2);
     Ok(())
 }
 

@@ -27,7 +27,7 @@ impl Air for Tally {
 
     ghost grew = { λ _ _ _. Unit {0} };
 
-    ghost stopped = { λ _ _ _. Unit {0} };
+    ghost stopped = { λ _ _ _ _. Unit {0} };
 
     ghost same = { λ _ _. Unit {0} };
 

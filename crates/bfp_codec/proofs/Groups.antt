@@ -2,17 +2,17 @@
 use Rattle.std.proofs.Common.{◌≡◌, ℕ, ℤ, pos, ◌+◌, ◌-◌, ◌*◌, ◌/◌, ◌%◌, ◌^◌, ◌<◌, ◌≤◌, ◌*ℤ◌, List, length, get_or, bit_and, bit_or, add-one, inl, inr, refl, sym, ap, ◌∙◌, arith}
 use Rattle.std.proofs.lemmas.Bool.{cases_lt}
 use Rattle.std.proofs.lemmas.List.{ext_get_or}
-use Rattle.std.proofs.lemmas.Nat.{shl_whole, shl-shr, and_mask, shr_split, or_shifted}
+use Rattle.std.proofs.lemmas.Nat.{shl_whole, shl-shr, shr-shr, and_mask, shr_split, or_shifted}
 use Rattle.std.proofs.Math.Nat.{mod-eq_of_lt}
 use Rattle.bit_fields.specs.Field.{field, signed, digits}
 use Rattle.bit_fields.proofs.Digits.{digits_fit}
 use Rattle.bit_fields.proofs.Same.{digits_same}
 use Rattle.bfp_codec.proofs.Spelled.{digits_split}
-use Rattle.bit_fields.proofs.Field.{field_of_field, field_split}
+use Rattle.bit_fields.proofs.Field.{field_of_field, field_split, field_fits}
 use Rattle.bfp_codec.specs.declared.samples.Wide.{Wide}
 use Rattle.bfp_codec.specs.Samples.{no_wide, pair_of, wide_block}
-use Rattle.bfp_codec.specs.Eight.{value_in}
-use Rattle.bfp_codec.proofs.Blocks.{length-wide_block, get_or-wide_block}
+use Rattle.bfp_codec.specs.Eight.{value_in, four_in, number_in}
+use Rattle.bfp_codec.proofs.Blocks.{length-wide_block, get_or-wide_block, pair_same}
 
 -- a number that 16 bytes begin with
 pub group_written : (bytes : List ℕ) (at w n : ℕ) → w ≤ 16 → n < 2 ^ (8 * w) → field bytes (8 * at) (8 * 16) ≡ n * 2 ^ (8 * (16 - w)) % 2 ^ 128 → field bytes (8 * at) (8 * w) ≡ n
@@ -63,6 +63,67 @@ group_read bytes at i w n e k n_is h place =
     let rest : 8 * w - (w * k + w) ≡ w * (7 - k) = omega (arith, product) in
     ap (λ x. signed w x *ℤ pos (2 ^ e))
     (ap (λ x. x / 2 ^ (w * (7 - k)) % 2 ^ w) n_is ∙ ap (λ j. field bytes (8 * at) (8 * w) / 2 ^ j % 2 ^ w) (sym rest) ∙ sym cut ∙ ap (λ j. field bytes j w) (sym place))
+
+-- eight bytes from four and four
+pub word_of_halves : (bytes : List ℕ) (at n m : ℕ) → n ≡ field bytes (8 * at) 32 → m ≡ field bytes (8 * (at + 4)) 32 → bit_or (n * 2 ^ 32 % 2 ^ 64) m ≡ field bytes (8 * at) 64
+word_of_halves bytes at n m n_is m_is =
+    let place : 8 * (at + 4) ≡ 8 * at + 32 = omega arith in
+    let high : n < 2 ^ 32 = rw n_is (field_fits bytes (8 * at) 32) in
+    let low : m < 2 ^ 32 = rw m_is (field_fits bytes (8 * (at + 4)) 32) in
+    ap (λ x. bit_or x m) (shl_whole n 32 32 64 high (omega arith)) ∙ or_shifted n 32 m low
+    ∙ ap (λ x. x * 2 ^ 32 + m) n_is ∙ ap (λ x. field bytes (8 * at) 32 * 2 ^ 32 + x) (m_is ∙ ap (λ i. field bytes i 32) place)
+    ∙ sym (field_split bytes (8 * at) 32 32)
+
+parts : (w k a : ℕ) → k ≤ a → w * a ≡ w * k + w * (a - k)
+parts w k a h =
+    let sum : a ≡ k + (a - k) = omega arith in
+    grind (arith, ap (λ j. w * j) sum)
+
+-- number k of a group, from the eight bytes that it begins with
+pub first_read : (bytes : List ℕ) (at w word n e k : ℕ) → w ≤ 16 → k < 4 → word ≡ field bytes (8 * at) 64 → n ≡ word / 2 ^ (64 - 4 * w) → four_in n w e k ≡ number_in bytes at w e k
+first_read bytes at w word n e k high h word_is n_is =
+    let product = parts w k 3 (omega arith) in
+    let cut : field bytes (8 * at + w * k) w ≡ field bytes (8 * at) 64 / 2 ^ (64 - (w * k + w)) % 2 ^ w = field_of_field bytes (8 * at) 64 (w * k) w (omega (arith, product)) in
+    let rest : 64 - 4 * w + w * (3 - k) ≡ 64 - (w * k + w) = omega (arith, product) in
+    ap (λ x. signed w (x % 2 ^ w) *ℤ pos (2 ^ e))
+    (ap (λ x. x / 2 ^ (w * (3 - k))) n_is ∙ shr-shr word (64 - 4 * w) (w * (3 - k)) ∙ ap (λ j. word / 2 ^ j) rest ∙ ap (λ x. x / 2 ^ (64 - (w * k + w))) word_is)
+    ∙ ap (λ x. signed w x *ℤ pos (2 ^ e)) (sym cut)
+
+-- number 4 + k of a group, from the eight bytes that it ends with
+pub last_read : (bytes : List ℕ) (at w word e k : ℕ) → 8 ≤ w → w ≤ 16 → k < 4 → word ≡ field bytes (8 * (at + w - 8)) 64 → four_in word w e k ≡ number_in bytes at w e (4 + k)
+last_read bytes at w word e k low high h word_is =
+    let product = parts w k 3 (omega arith) in
+    let from = 8 * (at + w - 8) in
+    let skipped = 64 - (w * (3 - k) + w) in
+    let more : w * (4 + k) ≡ 4 * w + w * k = grind arith in
+    let cut : field bytes (from + skipped) w ≡ field bytes from 64 / 2 ^ (64 - (skipped + w)) % 2 ^ w = field_of_field bytes from 64 skipped w (omega (arith, product)) in
+    let rest : 64 - (skipped + w) ≡ w * (3 - k) = omega (arith, product) in
+    let place : from + skipped ≡ 8 * at + w * (4 + k) = omega (arith, product, more) in
+    ap (λ x. signed w x *ℤ pos (2 ^ e))
+    (ap (λ x. x / 2 ^ (w * (3 - k)) % 2 ^ w) word_is ∙ ap (λ j. field bytes from 64 / 2 ^ j % 2 ^ w) (sym rest) ∙ sym cut ∙ ap (λ j. field bytes j w) place)
+
+-- four samples from two and two
+pub two_twos : (values mid : List Wide) (from : ℕ) (f g h : ℕ → ℤ) → ((j : ℕ) → j < 2 → get_or mid (from + j) no_wide ≡ pair_of g j) → ((j : ℕ) → j < from + 2 → get_or values j no_wide ≡ get_or mid j no_wide)
+    → ((j : ℕ) → j < 2 → get_or values (from + 2 + j) no_wide ≡ pair_of h j) → ((k : ℕ) → k < 4 → g k ≡ f k) → ((k : ℕ) → k < 4 → h k ≡ f (4 + k)) → (j : ℕ) → j < 4 → get_or values (from + j) no_wide ≡ pair_of f j
+two_twos values mid from f g h a kept b first last j lt = elim (cases_lt j 2) [
+  | inl below ↦ kept (from + j) (omega arith) ∙ a j below ∙ pair_same g f j (first (2 * j) (omega arith)) (first (2 * j + 1) (omega arith))
+  | inr above ↦
+      let at : from + 2 + (j - 2) ≡ from + j = omega arith in
+      let i : 4 + 2 * (j - 2) ≡ 2 * j = omega arith in
+      let q : 4 + (2 * (j - 2) + 1) ≡ 2 * j + 1 = omega arith in
+      ap (λ n. get_or values n no_wide) (sym at) ∙ b (j - 2) (omega arith)
+      ∙ pair_is (last (2 * (j - 2)) (omega arith) ∙ ap f i) (last (2 * (j - 2) + 1) (omega arith) ∙ ap f q)
+]
+  where
+    pair_is : h (2 * (j - 2)) ≡ f (2 * j) → h (2 * (j - 2) + 1) ≡ f (2 * j + 1) → pair_of h (j - 2) ≡ pair_of f j
+    pair_is a b = rw (a, b) refl
+
+-- twelve samples, one by one
+pub by_samples : (values : List Wide) (f : ℕ → ℤ) → length values ≡ 12 → ((j : ℕ) → j < 12 → get_or values j no_wide ≡ pair_of f j) → values ≡ wide_block f
+by_samples values f len is =
+    ext_get_or no_wide values (wide_block f) (len ∙ sym (length-wide_block f)) (λ j lt.
+    let below : j < 12 = omega (arith, len) in
+    is j below ∙ sym (get_or-wide_block f j no_wide below))
 
 -- four samples that are four of a block
 four_of : (values : List Wide) (from : ℕ) (f g : ℕ → ℤ) → ((j : ℕ) → j < 4 → get_or values (from + j) no_wide ≡ pair_of g j) → ((k : ℕ) → k < 8 → g k ≡ f (2 * from + k))

@@ -5,4 +5,5 @@ pub mod Blocks
 pub mod Spelled
 pub mod Laws
 pub mod Groups
+pub mod Filling
 pub mod Whole

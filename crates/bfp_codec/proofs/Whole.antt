@@ -1,9 +1,8 @@
 -- The bytes of a whole block from its three groups, and its samples from them.
-use Rattle.std.proofs.Common.{◌≡◌, ℕ, ℤ, pos, negsuc, ◌+◌, ◌*◌, ◌^◌, ◌<◌, ◌≤◌, ◌*ℤ◌, List, ◌∷◌, take, length, get_or, inl, inr, ap, ◌∙◌, arith, length-take}
+use Rattle.std.proofs.Common.{◌≡◌, ℕ, ℤ, pos, ◌+◌, ◌*◌, ◌^◌, ◌<◌, ◌≤◌, ◌*ℤ◌, List, ◌∷◌, take, length, get_or, inl, inr, sym, ap, ◌∙◌, arith, length-take}
 use Rattle.std.proofs.lemmas.Bool.{cases_lt}
 use Rattle.std.proofs.lemmas.List.{get_or-take}
 use Rattle.std.proofs.lemmas.Grind.{common_steps}
-use Rattle.std.proofs.lemmas.Int.{ints}
 use Rattle.bit_fields.specs.Field.{field, signed, digits}
 use Rattle.bit_fields.proofs.Field.{field_take, field_byte}
 use Rattle.bit_fields.proofs.Same.{digits_same}
@@ -13,9 +12,9 @@ use Rattle.bfp_codec.specs.declared.methods.Method.TheVariants.{Plain, Bfp}
 use Rattle.bfp_codec.specs.Samples.{component, no_wide, pair_of}
 use Rattle.bfp_codec.specs.Exponent.{floor_of, exponent_of}
 use Rattle.bfp_codec.specs.Layout.{twos, number_bytes, packed_of, unpacked_of}
-use Rattle.bfp_codec.specs.Eight.{value_in}
+use Rattle.bfp_codec.specs.Eight.{value_in, number_in}
 use Rattle.bfp_codec.proofs.Spelled.{three_groups, packed_bytes, plain_bytes}
-use Rattle.bfp_codec.proofs.Groups.{group_read, three_fours}
+use Rattle.bfp_codec.proofs.Groups.{group_read, three_fours, by_samples}
 
 take_small : (n : ℕ) (xs : List ℕ) → ((i : ℕ) → get_or xs i 0 < 256) → (i : ℕ) → get_or (take n xs) i 0 < 256
 take_small n xs small i = elim (cases_lt i n) [
@@ -71,21 +70,32 @@ unpacked_whole w e n0 n1 n2 bytes values len e_is is0 is1 is2 a b d =
     (λ k h. group_read bytes (1 + w) (8 + w * (8 + k)) w n1 e k is1 h (omega (arith, place k 8)) ∙ scale (8 + k))
     (λ k h. group_read bytes (1 + 2 * w) (8 + w * (16 + k)) w n2 e k is2 h (omega (arith, place k 16)) ∙ scale (16 + k))
 
-times_one : (z : ℤ) → z *ℤ pos 1 ≡ z
-times_one (pos n) = omega (arith, ints)
-times_one (negsuc n) = omega (arith, ints)
-
-pub unpacked_plain : (n0 n1 n2 : ℕ) (bytes : List ℕ) (values : List Wide) → length values ≡ 12
-    → n0 ≡ field bytes 0 128 → n1 ≡ field bytes 128 128 → n2 ≡ field bytes 256 128
-    → ((j : ℕ) → j < 4 → get_or values (0 + j) no_wide ≡ pair_of (value_in n0 16 0) j)
-    → ((j : ℕ) → j < 4 → get_or values (4 + j) no_wide ≡ pair_of (value_in n1 16 0) j)
-    → ((j : ℕ) → j < 4 → get_or values (8 + j) no_wide ≡ pair_of (value_in n2 16 0) j)
-    → values ≡ unpacked_of Plain bytes
+pub unpacked_words : (w e : ℕ) (bytes : List ℕ) (values : List Wide) → length values ≡ 12 → e ≡ field bytes 4 4
+    → ((j : ℕ) → j < 4 → get_or values (0 + j) no_wide ≡ pair_of (number_in bytes 1 w e) j)
+    → ((j : ℕ) → j < 4 → get_or values (4 + j) no_wide ≡ pair_of (number_in bytes (1 + w) w e) j)
+    → ((j : ℕ) → j < 4 → get_or values (8 + j) no_wide ≡ pair_of (number_in bytes (1 + 2 * w) w e) j)
+    → values ≡ unpacked_of (Bfp w) bytes
 unfolding unpacked_of
-unpacked_plain n0 n1 n2 bytes values len is0 is1 is2 a b d =
-    let f : ℕ → ℤ = λ k. signed 16 (field bytes (16 * k) 16) in
-    let scale : (k : ℕ) → signed 16 (field bytes (16 * k) 16) *ℤ pos (2 ^ 0) ≡ f k = λ k. times_one (signed 16 (field bytes (16 * k) 16)) in
-    three_fours values f (value_in n0 16 0) (value_in n1 16 0) (value_in n2 16 0) len a b d
-    (λ k h. group_read bytes 0 (16 * (0 + k)) 16 n0 0 k is0 h (omega arith) ∙ scale (0 + k))
-    (λ k h. group_read bytes 16 (16 * (8 + k)) 16 n1 0 k is1 h (omega arith) ∙ scale (8 + k))
-    (λ k h. group_read bytes 32 (16 * (16 + k)) 16 n2 0 k is2 h (omega arith) ∙ scale (16 + k))
+unpacked_words w e bytes values len e_is a b d =
+    let f : ℕ → ℤ = λ k. signed w (field bytes (8 + w * k) w) *ℤ pos (2 ^ field bytes 4 4) in
+    let is : (at i k : ℕ) → 8 * at + w * k ≡ i → signed w (field bytes (8 * at + w * k) w) *ℤ pos (2 ^ e) ≡ signed w (field bytes i w) *ℤ pos (2 ^ field bytes 4 4) = λ at i k place.
+    ap (λ j. signed w (field bytes j w) *ℤ pos (2 ^ e)) place ∙ ap (λ n. signed w (field bytes i w) *ℤ pos (2 ^ n)) e_is in
+    let place : (k m : ℕ) → w * (m + k) ≡ w * m + w * k = λ k m. grind arith in
+    three_fours values f (number_in bytes 1 w e) (number_in bytes (1 + w) w e) (number_in bytes (1 + 2 * w) w e) len a b d
+    (λ k h. is 1 (8 + w * (0 + k)) k (omega (arith, place k 0)))
+    (λ k h. is (1 + w) (8 + w * (8 + k)) k (omega (arith, place k 8)))
+    (λ k h. is (1 + 2 * w) (8 + w * (16 + k)) k (omega (arith, place k 16)))
+
+-- number k of a block that is not compressed
+abbrev pub plain_in : List ℕ → ℕ → ℤ
+plain_in bytes k = signed 16 (field bytes (16 * k) 16)
+
+pub plain_place : (bytes : List ℕ) (at k : ℕ) → at ≡ 2 * k → signed 16 (field bytes (8 * at) 16) ≡ plain_in bytes k
+plain_place bytes at k is =
+    let place : 8 * at ≡ 16 * k = omega arith in
+    ap (λ i. signed 16 (field bytes i 16)) place
+
+-- its samples, one by one
+pub unpacked_plain : (bytes : List ℕ) (values : List Wide) → length values ≡ 12 → ((j : ℕ) → j < 12 → get_or values (0 + j) no_wide ≡ pair_of (plain_in bytes) j) → values ≡ unpacked_of Plain bytes
+unfolding unpacked_of
+unpacked_plain bytes values len is = by_samples values (plain_in bytes) len (λ j lt. let same : 0 + j ≡ j = omega arith in ap (λ i. get_or values i no_wide) (sym same) ∙ is j lt)

@@ -1,7 +1,7 @@
 ghost use Rattle.std.specs.Prelude.{◌≡◌, ℕ, pos, ◌*ℤ◌, ◌+◌, ◌*◌, ◌-◌, ◌<◌, ◌≤◌, ◌^◌, ◌/◌, ◌%◌, ◌⊎◌, length, slice_index_or};
 ghost use Rattle.bit_fields.specs.Field.{field, signed};
 ghost use Rattle.bfp_codec.specs.Samples.{no_wide, pair_of};
-ghost use Rattle.bfp_codec.specs.Eight.{value_in};
+ghost use Rattle.bfp_codec.specs.Eight.{value_in, four_in, number_in};
 ghost use Rattle.bfp_codec.specs.Exponent.{floor_of, Within};
 ghost use Rattle.bfp_codec.specs.Layout.{HasWidth, length_of, unpacked_of};
 ghost use Rattle.bfp_codec.specs.declared.methods.Method.TheVariants.{Plain, Bfp};
@@ -83,6 +83,73 @@ fn exponent_at(bytes: &[u8]) -> u8
     bytes[0] & 0xf
 }
 
+/// Four bytes from a place on, as one number.
+#[inline(always)]
+#[tactic(auto, using(bit_fields::proofs::Field::field_word))]
+fn half_at(bytes: &[u8], at: usize) -> u32
+    requires { at + 4 ≤ length bytes.now }
+    ensures { result ≡ field bytes.now (8 * at) 32 }
+{
+    u32::from_be_bytes([bytes[at], bytes[at + 1], bytes[at + 2], bytes[at + 3]])
+}
+
+/// Eight bytes from a place on, as one number.
+#[inline(always)]
+fn word_at(bytes: &[u8], at: usize) -> u64
+    requires { at + 8 ≤ length bytes.now }
+    ensures { result ≡ field bytes.now (8 * at) 64 }
+{
+    ((half_at(bytes, at) as u64) << 32) | half_at(bytes, at + 4) as u64
+}
+
+/// The value of number k of the four that a word ends with.
+#[inline(always)]
+fn value_of_four(four: u64, width: u8, k: u8, e: u8) -> i32
+    requires low { 1 ≤ width }
+    requires high { width ≤ 16 }
+    requires place { k ≤ 3 }
+    requires small { e ≤ 15 }
+    ensures { result ≡ four_in four width e k }
+{
+    scaled(signed_bits((four >> (width * (3 - k))) as u128, width), e)
+}
+
+/// Writes the two samples of the four numbers that a word ends with.
+#[inline(always)]
+fn put_two(into: &mut [Wide; 12], from: usize, four: u64, width: u8, e: u8)
+    requires low { 1 ≤ width }
+    requires high { width ≤ 16 }
+    requires place { from ≤ 10 }
+    requires small { e ≤ 15 }
+    ensures two { (j : ℕ) → j < 2 → slice_index_or into.new (from + j) no_wide ≡ pair_of (four_in four width e) j }
+    ensures others { (j : ℕ) → (j < from) ⊎ (from + 2 ≤ j) → slice_index_or into.new j no_wide ≡ slice_index_or into.old j no_wide }
+{
+    for k in 0..2 {
+        into[from + k] = Wide {
+            i: value_of_four(four, width, 2 * k as u8, e),
+            q: value_of_four(four, width, 2 * k as u8 + 1, e),
+        };
+    }
+}
+
+/// Writes the four samples of the eight numbers that fill `width` bytes from a place on: the first
+/// four numbers lie in the first eight of these bytes, and the others in the last eight.
+#[inline(always)]
+fn put_group(into: &mut [Wide; 12], part: usize, bytes: &[u8], at: usize, width: u8, e: u8)
+    requires low { 8 ≤ width }
+    requires high { width ≤ 16 }
+    requires part { part ≤ 2 }
+    requires small { e ≤ 15 }
+    requires room { at + width ≤ length bytes.now }
+    ensures four { (j : ℕ) → j < 4 → slice_index_or into.new (4 * part + j) no_wide ≡ pair_of (number_in bytes.now at width e) j }
+    ensures others { (j : ℕ) → (j < 4 * part) ⊎ (4 * part + 4 ≤ j) → slice_index_or into.new j no_wide ≡ slice_index_or into.old j no_wide }
+{
+    let first = word_at(bytes, at) >> (64 - 4 * width);
+    let last = word_at(bytes, at + width as usize - 8);
+    put_two(into, 4 * part, first, width, e);
+    put_two(into, 4 * part + 2, last, width, e);
+}
+
 /// The samples of a block's bytes at a width: best where the compiler knows the width.
 #[inline(always)]
 fn unpack_at(width: u8, bytes: &[u8]) -> [Wide; 12]
@@ -100,26 +167,61 @@ fn unpack_at(width: u8, bytes: &[u8]) -> [Wide; 12]
     values
 }
 
-/// The samples of a block's bytes at a width, with a kernel of its own for each of the usual ones.
+/// The same at a width of 9 bits and more, by two words for each group of eight numbers.
+#[inline(always)]
+fn unpack_words(width: u8, bytes: &[u8]) -> [Wide; 12]
+    requires low { 9 ≤ width }
+    requires high { width ≤ 16 }
+    requires len { length bytes.now ≡ 1 + 3 * width }
+    ensures { result ≡ unpacked_of (Bfp width) bytes.now }
+{
+    let e = exponent_at(bytes);
+    let w = width as usize;
+    let mut values = [Wide { i: 0, q: 0 }; 12];
+    put_group(&mut values, 0, bytes, 1, width, e);
+    put_group(&mut values, 1, bytes, 1 + w, width, e);
+    put_group(&mut values, 2, bytes, 1 + 2 * w, width, e);
+    values
+}
+
+/// The samples of a block's bytes at a width, with a kernel of its own for each from 8 on.
 fn unpack_bfp(width: u8, bytes: &[u8]) -> [Wide; 12]
     requires low { 1 ≤ width }
     requires high { width ≤ 16 }
     requires len { length bytes.now ≡ 1 + 3 * width }
     ensures { result ≡ unpacked_of (Bfp width) bytes.now }
 {
-    if width == 9 {
-        unpack_at(9, bytes)
-    } else if width == 14 {
-        unpack_at(14, bytes)
-    } else if width == 8 {
-        unpack_at(8, bytes)
-    } else if width == 12 {
-        unpack_at(12, bytes)
-    } else if width == 16 {
-        unpack_at(16, bytes)
-    } else {
-        unpack_at(width, bytes)
+    match width {
+        9 => unpack_words(9, bytes),
+        14 => unpack_words(14, bytes),
+        8 => unpack_at(8, bytes),
+        12 => unpack_words(12, bytes),
+        16 => unpack_words(16, bytes),
+        10 => unpack_words(10, bytes),
+        11 => unpack_words(11, bytes),
+        13 => unpack_words(13, bytes),
+        15 => unpack_words(15, bytes),
+        _ => unpack_at(width, bytes),
     }
+}
+
+/// Two bytes from a place on, as one number.
+#[inline(always)]
+#[tactic(auto, using(bit_fields::proofs::Field::field_half))]
+fn pair_at(bytes: &[u8], at: usize) -> u16
+    requires { at + 2 ≤ length bytes.now }
+    ensures { result ≡ field bytes.now (8 * at) 16 }
+{
+    u16::from_be_bytes([bytes[at], bytes[at + 1]])
+}
+
+/// The signed number in two bytes.
+#[inline(always)]
+fn plain_at(bytes: &[u8], at: usize) -> i32
+    requires { at + 2 ≤ length bytes.now }
+    ensures { result ≡ signed 16 (field bytes.now (8 * at) 16) }
+{
+    signed_bits(pair_at(bytes, at) as u128, 16)
 }
 
 /// The samples of the bytes of a block that is not compressed.
@@ -128,9 +230,12 @@ fn unpack_plain(bytes: &[u8]) -> [Wide; 12]
     ensures { result ≡ unpacked_of Plain bytes.now }
 {
     let mut values = [Wide { i: 0, q: 0 }; 12];
-    put_four(&mut values, 0, number_at(bytes, 0, 16), 16, 0);
-    put_four(&mut values, 1, number_at(bytes, 16, 16), 16, 0);
-    put_four(&mut values, 2, number_at(bytes, 32, 16), 16, 0);
+    for k in 0..12 {
+        values[k] = Wide {
+            i: plain_at(bytes, 4 * k),
+            q: plain_at(bytes, 4 * k + 2),
+        };
+    }
     values
 }
 

@@ -4,4 +4,5 @@ pub mod Tests
 pub mod Message
 pub mod Writes
 pub mod Words
+pub mod Names
 pub mod Left

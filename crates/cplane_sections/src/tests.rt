@@ -250,6 +250,12 @@ fn counts_places_from_the_message(rt: HostRuntime) {
 }
 
 #[test]
+fn reasons_have_names(rt: HostRuntime) {
+    assert_eq!(rt; CWhy::Truncated.name(), "Truncated");
+    assert_eq!(rt; CWhy::EveryOtherRb.name(), "EveryOtherRb");
+}
+
+#[test]
 fn goes_over_255_sections(rt: HostRuntime) {
     let head = CHead {
         down: false,

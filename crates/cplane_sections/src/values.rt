@@ -1,4 +1,8 @@
 //! What a C-plane message is read as, and why it is refused.
+ghost use Rattle.std.specs.Prelude.{◌≡◌, ◌≤◌, length};
+ghost use Rattle.cplane_sections.specs.Names.{name_of};
+
+use thiserror::Error;
 
 /// The part of the application header that its section type alone has.
 #[derive(Clone, Copy, Debug, PartialEq, Eq)]
@@ -75,30 +79,60 @@ pub struct CSection {
 }
 
 /// Why a message is refused.
-#[derive(Clone, Copy, Debug, PartialEq, Eq)]
+#[derive(Clone, Copy, Debug, PartialEq, Eq, Error)]
 pub enum CWhy {
     /// The header or a section is not whole.
+    #[error("the message ends too early")]
     Truncated,
     /// payloadVersion is not 1.
+    #[error("another version than 1")]
     Version,
     /// sectionType is not 0, 1 or 3.
+    #[error("another section type than 0, 1 and 3")]
     SectionType,
     /// subframeId exceeds 9, or a subframe has no slot slotId.
+    #[error("no such slot")]
     SlotRange,
     /// A slot has no symbol startSymbolId, or a section covers no symbol or goes past the slot's end.
+    #[error("no such symbol")]
     SymbolRange,
     /// numberOfSections is 0.
+    #[error("no sections")]
     NoSections,
     /// A section has rb = 1.
+    #[error("every other resource block")]
     EveryOtherRb,
     /// A section has ef = 1.
+    #[error("a section extension")]
     Extension,
     /// Bytes remain after the last section.
+    #[error("bytes after the last section")]
     Trailing,
 }
 
+impl CWhy {
+    /// The name under which the reason is printed: its own.
+    pub fn name(self) -> &'static str
+        ensures name { result.now ≡ name_of self }
+        ensures short { length result.now ≤ 12 }
+    {
+        match self {
+            CWhy::Truncated => "Truncated",
+            CWhy::Version => "Version",
+            CWhy::SectionType => "SectionType",
+            CWhy::SlotRange => "SlotRange",
+            CWhy::SymbolRange => "SymbolRange",
+            CWhy::NoSections => "NoSections",
+            CWhy::EveryOtherRb => "EveryOtherRb",
+            CWhy::Extension => "Extension",
+            CWhy::Trailing => "Trailing",
+        }
+    }
+}
+
 /// A refusal of a message.
-#[derive(Clone, Copy, Debug, PartialEq, Eq)]
+#[derive(Clone, Copy, Debug, PartialEq, Eq, Error)]
+#[error("{why} at byte {place}")]
 pub struct CRefusal {
     /// The first byte of the header or section; for `Truncated` the message's length; for `Trailing` where the rest
     /// begins.

@@ -22,9 +22,9 @@ use Rattle.unit_cells.specs.Headings.{data_of, with_heading}
 use Rattle.unit_cells.specs.Keeping.{Keeps, SameMarks}
 use Rattle.unit_cells.specs.Told.{IsTold}
 use Rattle.unit_cells.specs.declared.heading.DataHeading.{DataHeading}
-use Rattle.data_walks.specs.Left.{TellsFirst}
-use Rattle.data_walks.specs.Whole.{AreSections}
-use Rattle.data_walks.proofs.Steps.{block_next}
+use Rattle.uplane_messages.specs.Left.{TellsFirst}
+use Rattle.uplane_messages.specs.Whole.{AreSections}
+use Rattle.uplane_messages.proofs.Steps.{block_next}
 use Rattle.data_messages.specs.Holding.{HoldsData}
 use Rattle.data_messages.specs.Sections.{AreBehind, Filled, GivesBlocks, blocks_from}
 use Rattle.data_messages.proofs.WalkLemmas.{any_number, told_further}

@@ -25,9 +25,9 @@ use Rattle.unit_model.specs.declared.decoded.Data.{Data}
 use Rattle.unit_cells.specs.Cells.{CellsValue}
 use Rattle.unit_cells.specs.Headings.{IsProperHeading}
 use Rattle.unit_cells.specs.declared.heading.DataHeading.{DataHeading}
-use Rattle.data_walks.specs.Left.{TellsFirst, NothingLeft}
-use Rattle.data_walks.specs.Whole.{AreSections, IsSectionAdmitted, IsWhole}
-use Rattle.data_walks.proofs.Steps.{section_next}
+use Rattle.uplane_messages.specs.Left.{TellsFirst, NothingLeft}
+use Rattle.uplane_messages.specs.Whole.{AreSections, IsSectionAdmitted, IsWhole}
+use Rattle.uplane_messages.proofs.Steps.{section_next}
 use Rattle.data_messages.specs.Holding.{HoldsData}
 use Rattle.data_messages.specs.Sections.{AreBehind, Came}
 use Rattle.data_messages.proofs.HoldLemmas.{Stays, stays_none, stays_on}

@@ -9,8 +9,8 @@ use Rattle.uplane_sections.specs.declared.values.USection.{USection}
 use Rattle.uplane_sections.specs.declared.steps.UFeed.{UFeed}
 use Rattle.uplane_sections.specs.declared.steps.UFeed.TheVariants as feed
 use Rattle.uplane_sections.specs.Messages.{Item, Head, Section, Block}
-use Rattle.data_walks.specs.Left.{TellsFirst, NothingLeft}
-use Rattle.data_walks.specs.Whole.{AreSections}
+use Rattle.uplane_messages.specs.Left.{TellsFirst, NothingLeft}
+use Rattle.uplane_messages.specs.Whole.{AreSections}
 use Rattle.unit_model.specs.Decoding.{Gathering, Part, begun, gathered, nothing_told}
 use Rattle.data_messages.specs.Sections.{blocks_from}
 

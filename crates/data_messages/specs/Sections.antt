@@ -15,8 +15,8 @@ use Rattle.unit_cells.specs.Cells.{CellsValue, IsOf}
 use Rattle.unit_cells.specs.Headings.{data_of, with_heading}
 use Rattle.unit_cells.specs.Keeping.{Keeps}
 use Rattle.unit_cells.specs.declared.heading.DataHeading.{DataHeading}
-use Rattle.data_walks.specs.Joined.{message_bytes}
-use Rattle.data_walks.specs.Whole.{AreSections}
+use Rattle.uplane_messages.specs.Joined.{message_bytes}
+use Rattle.uplane_messages.specs.Whole.{AreSections}
 use Rattle.data_messages.specs.Holding.{HoldsData}
 
 -- all that is told of a message to an endpoint

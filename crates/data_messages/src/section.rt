@@ -1,17 +1,17 @@
 // One section of a message: its verdict, and its blocks, which the walk tells behind its header.
 ghost use Rattle.std.specs.Prelude.{◌≡◌, []};
 ghost use Rattle.window_config.specs.declared.config.Config.{Config};
-ghost use Rattle.data_walks.specs.Left.{left_of};
+ghost use Rattle.uplane_messages.specs.Left.{left_of};
 ghost use Rattle.unit_model.specs.Blocks.{data_prb_count};
 ghost use Rattle.unit_cells.specs.Cells.{IsOf, endpoints_of};
 ghost use Rattle.unit_cells.specs.Headings.{IsProperHeading, data_of};
 ghost use Rattle.unit_cells.specs.Keeping.{SameMarks};
 ghost use Rattle.data_messages.specs.Sections.{AreBehind, Filled, Came};
 
-use data_walks::DataWalk;
 use fault_counters::Counters;
 use unit_cells::{DataHeading, UnitCells};
 use unit_model::data_counter;
+use uplane_messages::DataWalk;
 use uplane_sections::UFeed;
 
 /// How many PRBs a section has.

@@ -7,8 +7,8 @@ ghost use Rattle.ecpri_fragments.specs.Assemblies.{message_of};
 ghost use Rattle.fault_counters.specs.declared.kinds.Counter.{Counter as SpecCounter};
 ghost use Rattle.fault_counters.specs.Counts.{times};
 ghost use Rattle.window_config.specs.declared.config.Config.{Config};
-ghost use Rattle.data_walks.specs.Joined.{message_bytes};
-ghost use Rattle.data_walks.specs.Whole.{IsWhole};
+ghost use Rattle.uplane_messages.specs.Joined.{message_bytes};
+ghost use Rattle.uplane_messages.specs.Whole.{IsWhole};
 ghost use Rattle.unit_model.specs.Counts.{decoded_counted};
 ghost use Rattle.unit_model.specs.Decoding.{data_with, decode, gathered, nothing_told, sections_of};
 ghost use Rattle.unit_model.specs.Proper.{IsAt, IsTime};
@@ -20,11 +20,11 @@ ghost use Rattle.data_messages.specs.Holding.{HoldsData};
 ghost use Rattle.data_messages.specs.Sections.{items_of};
 
 use crate::section::take_section;
-use data_walks::{DataWalk, tested};
 use ecpri_fragments::Lease;
 use fault_counters::{Counter, Counters};
 use fh_time::shape;
 use unit_cells::{DataHeading, UnitCells};
+use uplane_messages::{DataWalk, tested};
 use uplane_sections::{UFeed, UHead};
 use window_config::EndpointConfig;
 

@@ -6,7 +6,6 @@ ghost use Rattle.ecpri_fragments.specs.Assemblies.{endpoints_of as assembly_endp
 ghost use Rattle.fh_time.specs.Numbering.{slots_of};
 ghost use Rattle.window_config.specs.Configs.{IsConfig};
 ghost use Rattle.window_config.specs.Endpoints.{IsEndpoint};
-ghost use Rattle.window_config.specs.Limits.{IsWithinLimits};
 ghost use Rattle.unit_cells.specs.Cells.{endpoints_of};
 
 use crate::take_message;
@@ -17,7 +16,7 @@ use fault_counters::{Counter, Counters};
 use fh_time::{Numerology, Slot, of_ns, shape};
 use std::test::Fail;
 use unit_cells::UnitCells;
-use window_config::{Config, Delays, EndpointConfig, EndpointList, Range};
+use window_config::{Config, Delays, EndpointConfig, EndpointList};
 
 /// Two sections, each of one PRB with the samples (k, -k): section 1 on PRB 0 of symbol 0, and
 /// section 2 with symInc on PRB 0.
@@ -36,48 +35,6 @@ const FIRST: Slot = Slot {
     subframe: 0,
     slot: 0,
 };
-
-fn delays() -> Delays
-    ensures { IsWithinLimits result }
-{
-    Delays {
-        t1a_up: Range {
-            min: 234_000,
-            max: 345_000,
-        },
-        t1a_cp_ul: Range {
-            min: 225_000,
-            max: 470_000,
-        },
-        t2a_up: Range {
-            min: 134_000,
-            max: 345_000,
-        },
-        t2a_cp_ul: Range {
-            min: 125_000,
-            max: 470_000,
-        },
-        ta3: Range {
-            min: 50_000,
-            max: 171_000,
-        },
-        ta4: Range {
-            min: 50_000,
-            max: 271_000,
-        },
-        t12: Range {
-            min: 0,
-            max: 100_000,
-        },
-        t34: Range {
-            min: 0,
-            max: 100_000,
-        },
-        advance: 125_000,
-        hold_dl: 211_000,
-        hold_ul: 221_000,
-    }
-}
 
 fn endpoint(numerology: Numerology) -> EndpointConfig
     ensures endpoint { IsEndpoint result }
@@ -110,9 +67,10 @@ fn config(e: EndpointConfig, widths: Widths) -> Config
 {
     Config {
         widths,
-        delays: delays(),
+        delays: Delays::usual(),
         gap: 1_000,
         fragment: 1_492,
+        pack: 1,
         endpoints: listed(e),
     }
 }

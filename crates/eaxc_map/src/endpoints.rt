@@ -4,13 +4,16 @@ ghost use Rattle.eaxc_map.specs.Endpoints.{AppearOnce, index_of};
 
 use arrayvec::ArrayVec;
 use std::marker::Model;
+use thiserror::Error;
 
 /// Why an id was not added.
-#[derive(Clone, Copy, Debug, PartialEq, Eq)]
+#[derive(Clone, Copy, Debug, PartialEq, Eq, Error)]
 pub enum AddFault {
     /// The id is there already.
+    #[error("the id is there already")]
     Twice,
     /// Sixteen ids are there.
+    #[error("sixteen ids are there")]
     Full,
 }
 

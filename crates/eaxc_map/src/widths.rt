@@ -1,6 +1,8 @@
 // An id and its parts.
 ghost use Rattle.std.specs.Prelude.{◌≡◌, ℕ, ◌+◌, ◌-◌, ◌*◌, ◌%◌, ◌^◌, ◌<◌, ◌≤◌, ◌↔◌, IsOk, IfOk, IfErr, IsSome, IfSome, IsTrue};
 
+use thiserror::Error;
+
 /// How many bits of an id each part takes, the DU port in the most significant bits. The widths sum to
 /// 16, and each may be 0 to 16.
 #[derive(Clone, Copy, Debug, PartialEq, Eq)]
@@ -22,7 +24,8 @@ pub struct Parts {
 }
 
 /// The widths do not sum to 16, but to `sum`.
-#[derive(Clone, Copy, Debug, PartialEq, Eq)]
+#[derive(Clone, Copy, Debug, PartialEq, Eq, Error)]
+#[error("the widths sum to {sum} and not to 16")]
 pub struct WidthSum {
     pub sum: u16,
 }

@@ -6,4 +6,3 @@ pub mod Places
 pub mod Assemblies
 pub mod After
 pub mod Cut
-pub mod Feeds

@@ -1,3 +1,4 @@
+pub mod Refusals
 pub mod Headers
 pub mod Messages
 pub mod Phases

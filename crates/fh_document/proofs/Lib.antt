@@ -1,5 +1,7 @@
 pub mod DigitSteps
+pub mod DigitTable
 pub mod HexSteps
+pub mod Cuts
 pub mod WordSteps
 pub mod WidthSums
 pub mod Answering

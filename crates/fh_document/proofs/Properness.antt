@@ -28,11 +28,13 @@ use Rattle.fh_document.specs.declared.keywords.Setting.{Setting}
 use Rattle.fh_document.specs.declared.keywords.Setting.TheVariants as setting
 use Rattle.fh_document.specs.declared.refusals.DocWhy.{DocWhy}
 use Rattle.fh_document.specs.declared.refusals.DocWhy.TheVariants as why
+use Rattle.fh_document.specs.declared.hex.TheConstants.{MOST_BYTES}
 use Rattle.fh_document.specs.Refusals.{or_refuse}
 use Rattle.fh_document.specs.Words.{words_of, word_at, number_in, is_text}
 use Rattle.fh_document.specs.Hex.{is_hex, hex_of, bytes_of, decoded, digits_frame, frame_of}
 use Rattle.fh_document.specs.Keywords.{keyword_of}
-use Rattle.fh_document.specs.ConfigLines.{number_at, time_at, ordered, both_ordered, widths_line, windows_line, range_line, hold_line, time_line, fragment_line, tone_line, comp_line, transit_line, set_of, span, defaults}
+use Rattle.window_config.proofs.Usual.{usual_within}
+use Rattle.fh_document.specs.ConfigLines.{number_at, time_at, ordered, both_ordered, widths_line, windows_line, range_line, hold_line, time_line, fragment_line, tone_line, comp_line, transit_line, set_of, defaults}
 use Rattle.fh_document.specs.EndpointLines.{has_endpoint_count, numerology_of, dynamic_of, width_of, method_of, endpoint_of, has_id, added, endpoint_line}
 use Rattle.fh_document.specs.Building.{is_built}
 use Rattle.fh_document.specs.InjectLines.{side_of, injected, inject_line}
@@ -123,28 +125,13 @@ set_in s setting.TransitDl ws h = ok_then (IsFrom 0 3000000000) AreSettings (tra
 set_in s setting.TransitUl ws h = ok_then (IsFrom 0 3000000000) AreSettings (transit_line 0 ws) _ (transit_line_in 0 ws) (λ x p. assumption (h, p))
 set_in s setting.TransitM ws h = ok_then (IsFrom 1 3000000000) AreSettings (transit_line 1 ws) _ (transit_line_in 1 ws) (λ x p. assumption (h, p))
 
--- a range of literals, and a time
-span_in : (low least most : ℕ) → low ≤ least → least ≤ most → most ≤ 2000000 → IsRange low (span least most)
-span_in low least most a b c = record { low = omega (arith, ints); order = omega (arith, ints); high = omega (arith, ints) }
-
+-- a time of literals
 from_in : (low high n : ℕ) → low ≤ n → n ≤ high → IsFrom low high (pos n)
 from_in low high n a b = record { low = omega (arith, ints); high = omega (arith, ints) }
 
 defaults_in : AreSettings defaults
 defaults_in = record {
-  delays = record {
-    t1a_up = span_in 0 234000 345000 (omega arith) (omega arith) (omega arith);
-    t1a_cp_ul = span_in 0 225000 470000 (omega arith) (omega arith) (omega arith);
-    t2a_up = span_in 1 134000 345000 (omega arith) (omega arith) (omega arith);
-    t2a_cp_ul = span_in 1 125000 470000 (omega arith) (omega arith) (omega arith);
-    ta3 = span_in 0 50000 171000 (omega arith) (omega arith) (omega arith);
-    ta4 = span_in 0 50000 271000 (omega arith) (omega arith) (omega arith);
-    t12 = span_in 0 0 100000 (omega arith) (omega arith) (omega arith);
-    t34 = span_in 0 0 100000 (omega arith) (omega arith) (omega arith);
-    advance = is_time (pos 125000) (from_in 0 2000000 125000 (omega arith) (omega arith));
-    hold_dl = is_time (pos 211000) (from_in 0 2000000 211000 (omega arith) (omega arith));
-    hold_ul = is_time (pos 221000) (from_in 0 2000000 221000 (omega arith) (omega arith));
-  };
+  delays = usual_within;
   gap = is_time (pos 1000) (from_in 0 2000000 1000 (omega arith) (omega arith));
   fragment = (omega arith, omega arith);
   source = record { low = omega arith; high = omega arith };
@@ -270,7 +257,7 @@ endpoint_line_in r ws h none =
     (λ t. ok_then IsEndpoint IsReading (or_refuse (endpoint_of ws) why.Number) _ (ok_or IsEndpoint (endpoint_of ws) why.Number (endpoint_of_in ws)) (λ e p. added_in r e h none p))
     (λ f. tt)
 
-injected_in : (r : Reading) (i : Injection) → IsReading r → IsFrom 0 (10 ^ 12) i.at → length i.frame ≤ 9216 → IfOk (injected r i) IsReading
+injected_in : (r : Reading) (i : Injection) → IsReading r → IsFrom 0 (10 ^ 12) i.at → length i.frame ≤ MOST_BYTES → IfOk (injected r i) IsReading
 injected_in r i h time short =
     ok_if IsReading (is_built r.endpoints i) _ (Err why.NotBuilt)
     (λ t. record {
@@ -286,7 +273,7 @@ bytes_half (a ∷ []) = omega arith
 bytes_half (a ∷ b ∷ rest) = omega (arith, bytes_half rest)
 
 abbrev IsShort : List ℕ → Type 0
-IsShort frame = length frame ≤ 9216
+IsShort frame = length frame ≤ MOST_BYTES
 
 frame_short : (w : List ℕ) → IfSome (frame_of w) IsShort
 frame_short w =
@@ -295,7 +282,7 @@ frame_short w =
     (λ t. some_if IsShort (is_hex w) (Some (bytes_of w)) None (λ u. omega (arith, bytes_half w, few (length w) _ t)) (λ v. tt))
     (λ g. tt))
   where
-    few : (n : ℕ) (b : Bool) → (nat_le n 18432 && b) ≡ true → n ≤ 18432
+    few : (n : ℕ) (b : Bool) → (nat_le n (2 * MOST_BYTES) && b) ≡ true → n ≤ 2 * MOST_BYTES
     few n b e = grind (arith, nat_tests)
 
 inject_line_in : (r : Reading) (ws : List (List ℕ)) → IsReading r → IfOk (inject_line r ws) IsReading
@@ -342,7 +329,7 @@ line_of_in r n line h = ok_if IsReading (is_text line) (words_line r n (words_of
 
 finished_in : (r : Reading) → IsReading r → IsDocument (finished r)
 finished_in r h = record {
-  config = record { delays = h.settings.delays; gap = h.settings.gap; fragment_low = h.settings.fragment.0; fragment_high = h.settings.fragment.1; endpoints = h.endpoints };
+  config = record { delays = h.settings.delays; gap = h.settings.gap; fragment_low = h.settings.fragment.0; fragment_high = h.settings.fragment.1; pack_low = omega arith; pack_high = omega arith; endpoints = h.endpoints };
   source = h.settings.source;
   antenna = h.settings.antenna;
   comps = h.settings.comps;

@@ -4,6 +4,7 @@ use Rattle.std.proofs.lemmas.Bool.{eqb-true}
 use Rattle.eaxc_map.specs.declared.widths.Widths.{Widths}
 use Rattle.tone_source.specs.declared.values.Tone.{Tone}
 use Rattle.window_config.specs.declared.delays.Range.{Range}
+use Rattle.window_config.specs.Usual.{usual_delays}
 use Rattle.fh_document.specs.declared.document.Comps.{Comps}
 use Rattle.fh_document.specs.declared.document.Settings.{Settings}
 use Rattle.fh_document.specs.declared.refusals.DocWhy.{DocWhy}
@@ -124,27 +125,11 @@ set_of s setting.TransitDl ws = transit_line 0 ws >>= (λ x. Ok (record s { tran
 set_of s setting.TransitUl ws = transit_line 0 ws >>= (λ x. Ok (record s { transits = record s.transits { ul = x } }))
 set_of s setting.TransitM ws = transit_line 1 ws >>= (λ x. Ok (record s { transits = record s.transits { m = x } }))
 
--- from a minimum to a maximum, in nanoseconds
-abbrev pub span : ℕ → ℕ → Range
-span least most = record { min = pos least; max = pos most }
-
 -- what holds where no line configures it
 abbrev pub defaults : Settings
 defaults = record {
   widths = record { du = 4; band = 4; carrier = 4; port = 4; whole = refl };
-  delays = record {
-    t1a_up = span 234000 345000;
-    t1a_cp_ul = span 225000 470000;
-    t2a_up = span 134000 345000;
-    t2a_cp_ul = span 125000 470000;
-    ta3 = span 50000 171000;
-    ta4 = span 50000 271000;
-    t12 = span 0 100000;
-    t34 = span 0 100000;
-    advance = pos 125000;
-    hold_dl = pos 211000;
-    hold_ul = pos 221000;
-  };
+  delays = usual_delays;
   gap = pos 1000;
   fragment = 1492;
   source = record { seed = 1; amplitude = 1000 };

@@ -11,7 +11,7 @@ use Rattle.fh_document.specs.Lines.{start, line_of}
 -- the document that the lines say
 abbrev pub finished : Reading → Document
 finished r = record {
-  config = record { widths = r.settings.widths; delays = r.settings.delays; gap = r.settings.gap; fragment = r.settings.fragment; endpoints = r.endpoints };
+  config = record { widths = r.settings.widths; delays = r.settings.delays; gap = r.settings.gap; fragment = r.settings.fragment; pack = 1; endpoints = r.endpoints };
   source = r.settings.source;
   antenna = r.settings.antenna;
   comps = r.settings.comps;

@@ -4,6 +4,7 @@ use Rattle.std.specs.List.{list_all}
 use Rattle.std.specs.Char.{digit_value}
 use Rattle.std.specs.Str.{bytes_eq}
 use Rattle.std.specs.Str.Parse.{digits_value}
+use Rattle.fh_document.specs.declared.hex.TheConstants.{MOST_BYTES}
 
 abbrev pub is_hex : List ℕ → Bool
 is_hex = list_all (λ b. nat_lt (digit_value b) 16)
@@ -12,9 +13,9 @@ is_hex = list_all (λ b. nat_lt (digit_value b) 16)
 abbrev pub hex_of : ℕ → List ℕ → Option ℕ
 hex_of n w = if (length w == n) && is_hex w then Some (digits_value 16 w) else None
 
--- the byte that two digits spell
-abbrev pub byte_of : ℕ → ℕ → Option ℕ
-byte_of high low = if nat_lt (digit_value high) 16 && nat_lt (digit_value low) 16 then Some (16 * digit_value high + digit_value low) else None
+-- the value of a digit, and 255 of any other byte
+abbrev pub digit_of : ℕ → ℕ
+digit_of b = if nat_lt (digit_value b) 16 then digit_value b else 255
 
 -- a byte for each two digits
 abbrev pub bytes_of : List ℕ → List ℕ
@@ -26,9 +27,9 @@ bytes_of (a ∷ b ∷ rest) = (16 * digit_value a + digit_value b) ∷ bytes_of 
 abbrev pub decoded : List ℕ → Option (List ℕ)
 decoded w = if is_hex w then Some (bytes_of w) else None
 
--- an even number of digits, for at most 9,216 bytes
+-- an even number of digits, for at most MOST_BYTES bytes
 abbrev pub digits_frame : List ℕ → Option (List ℕ)
-digits_frame w = if nat_le (length w) 18432 && (length w % 2 == 0) then decoded w else None
+digits_frame w = if nat_le (length w) (2 * MOST_BYTES) && (length w % 2 == 0) then decoded w else None
 
 -- such digits, or a dash for no bytes
 abbrev pub frame_of : List ℕ → Option (List ℕ)

@@ -7,6 +7,7 @@ use Rattle.fh_document.specs.declared.document.Comps.{Comps}
 use Rattle.fh_document.specs.declared.document.Transits.{Transits}
 use Rattle.fh_document.specs.declared.document.Injection.{Injection}
 use Rattle.fh_document.specs.declared.document.Document.{Document}
+use Rattle.fh_document.specs.declared.hex.TheConstants.{MOST_BYTES}
 use Rattle.fh_document.specs.Building.{is_built}
 
 -- a time from a least to a greatest
@@ -34,7 +35,7 @@ pub record AreTransits (t : Transits) : Type 0 where
 -- a frame that these endpoints may be sent
 pub record IsInjection (endpoints : List EndpointConfig) (i : Injection) : Type 0 where
   pub time : IsFrom 0 (10 ^ 12) i.at
-  pub short : length i.frame ≤ 9216
+  pub short : length i.frame ≤ MOST_BYTES
   pub built : is_built endpoints i ≡ true
 
 pub record IsDocument (d : Document) : Type 0 where

@@ -1,7 +1,10 @@
 -- Lines, words and decimal numbers of a text.
-use Rattle.std.specs.Prelude.{ℕ, ◌-◌, List, [], length, take, Bool, ◌&&◌, nat_lt, nat_le, ◌==◌, Option, Some, None, if◌then◌else◌, filter, slice_index}
+use Rattle.std.specs.Prelude.{ℕ, ◌-◌, List, [], length, take, Bool, ◌&&◌, nat_lt, nat_le, ◌==◌, Option, Some, None, if◌then◌else◌, filter, slice_index, ◌+◌}
+use Rattle.std.specs.Borrow.{Bor}
+use Rattle.std.specs.Option.{option_map_or}
 use Rattle.std.specs.List.{slice_split, slice_index_or, list_all}
 use Rattle.std.specs.Str.Parse.{digits_value}
+use Rattle.fh_document.specs.declared.words.TheConstants.{MOST_DIGITS}
 
 -- the text without a last line feed
 abbrev pub without_last_feed : List ℕ → List ℕ
@@ -22,9 +25,17 @@ is_text = list_all (λ b. nat_le 32 b && nat_le b 126)
 abbrev pub is_decimal : List ℕ → Bool
 is_decimal = list_all (λ b. nat_le 48 b && nat_le b 57)
 
--- a number of 1 to 13 decimal digits, from low to high
+-- a number of 1 to MOST_DIGITS decimal digits, from low to high
 abbrev pub number_in : ℕ → ℕ → List ℕ → Option ℕ
 number_in low high w =
-    if nat_lt 0 (length w) && (nat_le (length w) 13 && (is_decimal w
+    if nat_lt 0 (length w) && (nat_le (length w) MOST_DIGITS && (is_decimal w
     && (nat_le low (digits_value 10 w) && nat_le (digits_value 10 w) high)))
     then Some (digits_value 10 w) else None
+
+-- what is left of a text, cut at a separator; nothing where nothing is left
+abbrev pub parts_left : ℕ → Option (Bor (List ℕ)) → List (List ℕ)
+parts_left separator rest = option_map_or (λ text. slice_split (λ b. b == separator) text.now) rest []
+
+-- how many bytes are left, and one more where any may be
+abbrev pub left_length : Option (Bor (List ℕ)) → ℕ
+left_length rest = option_map_or (λ text. length text.now + 1) rest 0

@@ -216,13 +216,6 @@ pub(crate) fn set(
     Ok(next)
 }
 
-/// A minimum and a maximum.
-fn span(min: i64, max: i64) -> Range
-    ensures { result ≡ record { min = min; max = max } }
-{
-    Range { min, max }
-}
-
 fn default_widths() -> Widths
     ensures { result ≡ defaults.widths }
 {
@@ -234,31 +227,13 @@ fn default_widths() -> Widths
     }
 }
 
-fn default_delays() -> Delays
-    ensures { result ≡ defaults.delays }
-{
-    Delays {
-        t1a_up: span(234_000, 345_000),
-        t1a_cp_ul: span(225_000, 470_000),
-        t2a_up: span(134_000, 345_000),
-        t2a_cp_ul: span(125_000, 470_000),
-        ta3: span(50_000, 171_000),
-        ta4: span(50_000, 271_000),
-        t12: span(0, 100_000),
-        t34: span(0, 100_000),
-        advance: 125_000,
-        hold_dl: 211_000,
-        hold_ul: 221_000,
-    }
-}
-
 /// What holds where no line configures it.
 pub(crate) fn defaults() -> Settings
     ensures { result ≡ defaults }
 {
     Settings {
         widths: default_widths(),
-        delays: default_delays(),
+        delays: Delays::usual(),
         gap: 1_000,
         fragment: 1_492,
         source: Tone {

@@ -1,6 +1,6 @@
 // Numbers and frames that are spelled in hexadecimal digits.
-ghost use Rattle.std.specs.Prelude.{◌≡◌, ◌*◌, ◌/◌, ◌%◌, ◌≤◌, length, take, IfOk, IsTrue};
-ghost use Rattle.fh_document.specs.Hex.{is_hex, hex_of, byte_of, bytes_of, decoded, digits_frame, frame_of};
+ghost use Rattle.std.specs.Prelude.{◌≡◌, ◌*◌, ◌/◌, ◌%◌, ◌≤◌, length, take, slice_index, IfOk, IsTrue};
+ghost use Rattle.fh_document.specs.Hex.{is_hex, hex_of, digit_of, bytes_of, decoded, digits_frame, frame_of};
 
 use fh_base::{Bytes, NoMemory};
 use std::alloc::Global;
@@ -8,34 +8,41 @@ use std::alloc::Global;
 /// The most bytes of a frame.
 const MOST_BYTES: usize = 9_216;
 
-/// The most bytes of a short frame: most are, and a small buffer serves them.
-const SHORT_BYTES: usize = 256;
+/// How many bytes of a frame are decoded at once.
+const PIECE: usize = 64;
 
-/// A number of exactly four hexadecimal digits.
-pub(crate) fn hex4(word: &[u8]) -> Option<u16>
-    ensures { result ≡ hex_of 4 word.now }
+/// The value of each byte as a hexadecimal digit of either case, and 255 where it is none.
+static DIGITS: [u8; 256] = [
+    255, 255, 255, 255, 255, 255, 255, 255, 255, 255, 255, 255, 255, 255, 255, 255, 255, 255, 255,
+    255, 255, 255, 255, 255, 255, 255, 255, 255, 255, 255, 255, 255, 255, 255, 255, 255, 255, 255,
+    255, 255, 255, 255, 255, 255, 255, 255, 255, 255, 0, 1, 2, 3, 4, 5, 6, 7, 8, 9, 255, 255, 255,
+    255, 255, 255, 255, 10, 11, 12, 13, 14, 15, 255, 255, 255, 255, 255, 255, 255, 255, 255, 255,
+    255, 255, 255, 255, 255, 255, 255, 255, 255, 255, 255, 255, 255, 255, 255, 255, 10, 11, 12, 13,
+    14, 15, 255, 255, 255, 255, 255, 255, 255, 255, 255, 255, 255, 255, 255, 255, 255, 255, 255,
+    255, 255, 255, 255, 255, 255, 255, 255, 255, 255, 255, 255, 255, 255, 255, 255, 255, 255, 255,
+    255, 255, 255, 255, 255, 255, 255, 255, 255, 255, 255, 255, 255, 255, 255, 255, 255, 255, 255,
+    255, 255, 255, 255, 255, 255, 255, 255, 255, 255, 255, 255, 255, 255, 255, 255, 255, 255, 255,
+    255, 255, 255, 255, 255, 255, 255, 255, 255, 255, 255, 255, 255, 255, 255, 255, 255, 255, 255,
+    255, 255, 255, 255, 255, 255, 255, 255, 255, 255, 255, 255, 255, 255, 255, 255, 255, 255, 255,
+    255, 255, 255, 255, 255, 255, 255, 255, 255, 255, 255, 255, 255, 255, 255, 255, 255, 255, 255,
+    255, 255, 255, 255, 255, 255, 255, 255, 255, 255, 255, 255, 255, 255, 255, 255, 255, 255, 255,
+    255, 255, 255,
+];
+
+/// What a table has for a byte.
+#[inline]
+fn entry(table: &[u8; 256], b: u8) -> u8
+    ensures { result ≡ slice_index table.now b }
 {
-    if word.len() != 4 {
-        return None;
-    }
-    let mut n: u32 = 0;
-    for b in word {
-        match (*b as char).to_digit(16) {
-            Some(d) => n = n * 16 + d,
-            None => return None,
-        }
-    }
-    Some(n as u16)
+    table[b as usize]
 }
 
-/// The byte that two digits spell.
-fn byte_of(high: u8, low: u8) -> Option<u8>
-    ensures { result ≡ byte_of high low }
+/// The value of a hexadecimal digit, and 255 of any other byte.
+#[inline]
+fn digit_of(b: u8) -> u8
+    ensures { result ≡ digit_of b }
 {
-    match ((high as char).to_digit(16), (low as char).to_digit(16)) {
-        (Some(high), Some(low)) => Some((16 * high + low) as u8),
-        _ => None,
-    }
+    entry(&DIGITS, b)
 }
 
 /// Decodes digits, two for a byte, into the front of `bytes`. False where one of them is no digit.
@@ -45,27 +52,44 @@ fn decode(word: &[u8], bytes: &mut [u8]) -> bool
     ensures digits { result ≡ is_hex word.now }
     ensures bytes { IsTrue result → take (length word.now / 2) bytes.new ≡ bytes_of word.now }
 {
+    let mut all: u8 = 0;
     for i in 0..word.len() / 2 {
-        match byte_of(word[2 * i], word[2 * i + 1]) {
-            Some(byte) => bytes[i] = byte,
-            None => return false,
-        }
+        let high = digit_of(word[2 * i]);
+        let low = digit_of(word[2 * i + 1]);
+        all |= high | low;
+        bytes[i] = high % 16 * 16 + low % 16;
     }
-    true
+    all < 16
 }
 
-/// The frame that digits spell, by way of a buffer. None where one of them is no digit.
-fn decoded(alloc: Global, word: &[u8], buffer: &mut [u8]) -> Result<Option<Bytes>, NoMemory>
-    requires even { length word.now % 2 ≡ 0 }
-    requires room { length word.now ≤ 2 * length buffer.old }
+/// A number of exactly four hexadecimal digits.
+pub(crate) fn hex4(word: &[u8]) -> Option<u16>
+    ensures { result ≡ hex_of 4 word.now }
+{
+    let mut bytes = [0; 2];
+    if word.len() != 4 || !decode(word, &mut bytes) {
+        return None;
+    }
+    Some(u16::from_be_bytes(bytes))
+}
+
+/// The frame that digits spell. None where one of them is no digit.
+fn decoded(alloc: Global, word: &[u8]) -> Result<Option<Bytes>, NoMemory>
+    requires { length word.now % 2 ≡ 0 }
     ensures { IfOk result (λ o. o ≡ decoded word.now) }
 {
-    if !decode(word, buffer) {
-        return Ok(None);
+    let mut frame = Bytes::with_capacity(alloc, word.len() / 2)?;
+    let mut piece = [0; PIECE];
+    let mut rest = word;
+    'pieces: while !rest.is_empty() {
+        let (digits, behind) = rest.split_at(rest.len().min(2 * PIECE));
+        if !decode(digits, &mut piece) {
+            return Ok(None);
+        }
+        frame.push_all(&piece[..digits.len() / 2])?;
+        rest = behind;
     }
-    let mut bytes = Bytes::new(alloc);
-    bytes.push_all(&buffer[..word.len() / 2])?;
-    Ok(Some(bytes))
+    Ok(Some(frame))
 }
 
 /// The frame that digits spell, two for a byte. None where they are too many or odd, or one is no digit.
@@ -75,10 +99,7 @@ fn digits_frame(alloc: Global, word: &[u8]) -> Result<Option<Bytes>, NoMemory>
     if word.len() > 2 * MOST_BYTES || word.len() % 2 != 0 {
         return Ok(None);
     }
-    if word.len() <= 2 * SHORT_BYTES {
-        return decoded(alloc, word, &mut [0; SHORT_BYTES]);
-    }
-    decoded(alloc, word, &mut [0; MOST_BYTES])
+    decoded(alloc, word)
 }
 
 /// The frame that a word spells: digits, or a dash for no bytes. None where it spells none.

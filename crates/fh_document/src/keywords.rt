@@ -5,7 +5,7 @@ ghost use Rattle.fh_document.specs.Keywords.{setting_of, transit_of, keyword_of,
 use crate::words::Words;
 
 /// What a configuration line sets.
-#[derive(Clone, Copy, Debug, PartialEq, Eq)]
+#[derive(Clone, Copy)]
 pub(crate) enum Setting {
     Widths,
     T1a,
@@ -27,7 +27,7 @@ pub(crate) enum Setting {
 }
 
 /// What a line is for.
-#[derive(Clone, Copy, Debug, PartialEq, Eq)]
+#[derive(Clone, Copy)]
 pub(crate) enum Keyword {
     Configure(Setting),
     Endpoint,

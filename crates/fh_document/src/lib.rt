@@ -24,6 +24,3 @@ pub use reading::read;
 pub use refusals::{DocFault, DocWhy};
 pub use report_lines::{Line, cell_line, count_line, delay_line};
 pub use tone_source::{Tone, ToneSteps, tone};
-
-#[cfg(test)]
-mod tests;

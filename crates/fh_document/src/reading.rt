@@ -11,7 +11,7 @@ use crate::endpoint_lines::endpoint_line;
 use crate::inject_lines::inject_line;
 use crate::keywords::{Keyword, Setting, keyword_of};
 use crate::refusals::{DocFault, DocWhy, LineFault};
-use crate::words::{Words, is_text, without_last_feed};
+use crate::words::{Words, cut, is_text, without_last_feed};
 use fh_base::List;
 use std::alloc::Global;
 use window_config::{Config, EndpointList};
@@ -174,6 +174,7 @@ fn finished(reading: Reading) -> Document
             delays: settings.delays,
             gap: settings.gap,
             fragment: settings.fragment,
+            pack: 1,
             endpoints: reading.endpoints,
         },
         source: settings.source,
@@ -200,13 +201,16 @@ pub fn read(alloc: Global, bytes: &[u8]) -> Result<Document, DocFault>
         });
     }
     let mut n: usize = 1;
-    for line in without_last_feed(bytes).split(|b| *b == 10) {
+    let mut rest = Some(without_last_feed(bytes));
+    'lines: while let Some(text) = rest {
+        let (line, behind) = cut(b'\n', text);
         match read_line(alloc, &mut reading, n, line) {
             Ok(()) => {}
             Err(LineFault::Why(why)) => return Err(DocFault::At { line: n, why }),
             Err(LineFault::NoMemory) => return Err(DocFault::NoMemory),
         }
         n += 1;
+        rest = behind;
     }
     Ok(finished(reading))
 }

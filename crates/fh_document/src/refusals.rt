@@ -2,44 +2,59 @@
 ghost use Rattle.std.specs.Prelude.{◌≡◌, ◌≤◌, length};
 ghost use Rattle.fh_document.specs.Refusals.{name_of};
 
+use thiserror::Error;
+
 /// Why a line of a document is refused.
-#[derive(Clone, Copy, Debug, PartialEq, Eq)]
+#[derive(Clone, Copy, Debug, PartialEq, Eq, Error)]
 pub enum DocWhy {
     /// A byte is not one of printable ASCII (20 to 7e in hexadecimal).
+    #[error("NotText")]
     NotText,
     /// Line 1 is missing, or its words are not `fronthaul 1`.
+    #[error("FirstLine")]
     FirstLine,
     /// The first word is no keyword, or the second word of `transit` names none.
+    #[error("UnknownWord")]
     UnknownWord,
     /// The line is of an earlier kind than one before it.
+    #[error("Order")]
     Order,
     /// The configuration keyword, or the endpoint's id, stands in an earlier line.
+    #[error("Twice")]
     Twice,
     /// The number of words is wrong.
+    #[error("Words")]
     Words,
     /// A word has not its form, or is out of its range.
+    #[error("Number")]
     Number,
     /// The widths of an eAxC id do not sum to 16.
+    #[error("WidthSum")]
     WidthSum,
     /// A minimum exceeds its maximum.
+    #[error("MinMax")]
     MinMax,
     /// Sixteen endpoints are there already.
+    #[error("TooMany")]
     TooMany,
     /// What the line injects is not handled yet.
+    #[error("NotBuilt")]
     NotBuilt,
 }
 
 /// Why a document is not read.
-#[derive(Clone, Copy, Debug, PartialEq, Eq)]
+#[derive(Clone, Copy, Debug, PartialEq, Eq, Error)]
 pub enum DocFault {
     /// The first line that is refused, counted from 1, and the first reason for it.
+    #[error("line {line}: {why}")]
     At { line: usize, why: DocWhy },
     /// Memory ran out.
+    #[error("no memory")]
     NoMemory,
 }
 
 /// Why a line is not read.
-#[derive(Clone, Copy, Debug, PartialEq, Eq)]
+#[derive(Clone, Copy)]
 pub(crate) enum LineFault {
     Why(DocWhy),
     NoMemory,

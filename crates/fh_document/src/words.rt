@@ -1,8 +1,10 @@
 // The words of a line, and the numbers that they spell.
-ghost use Rattle.std.specs.Prelude.{◌≡◌, ℕ, ◌^◌, ◌<◌, ◌≤◌, length, IfSome, List};
-ghost use Rattle.fh_document.specs.Words.{words_of, word_at, number_in, is_text, without_last_feed};
+ghost use Rattle.std.specs.Prelude.{◌≡◌, ◌==◌, ℕ, ◌^◌, ◌<◌, ◌≤◌, ◌∷◌, length, IfSome, List};
+ghost use Rattle.std.specs.List.{slice_split};
+ghost use Rattle.fh_document.specs.Words.{words_of, word_at, number_in, is_text, without_last_feed, parts_left};
 
 use arrayvec::ArrayVec;
+use memchr::memchr;
 use std::marker::Model;
 
 /// The most digits of a number.
@@ -11,11 +13,26 @@ const MOST_DIGITS: usize = 13;
 /// How many words of a line are kept. No line has as many.
 const KEPT: usize = 16;
 
-/// Whether each byte is one of text.
+/// Whether each byte is one of text. All are looked at, many at once, wherever one is not.
 pub(crate) fn is_text(line: &[u8]) -> bool
     ensures { result ≡ is_text line.now }
 {
-    line.iter().all(|b| *b >= 32 && *b <= 126)
+    let mut text = true;
+    for b in line {
+        text &= *b >= 32 && *b <= 126;
+    }
+    text
+}
+
+/// The bytes before the first that is the separator, and those behind it, where there is one.
+pub(crate) fn cut(separator: u8, bytes: &[u8]) -> (&[u8], Option<&[u8]>)
+    ensures parts { slice_split (λ b. b == separator) bytes.now ≡ result.0.now ∷ parts_left separator result.1 }
+    ensures shorter { IfSome result.1 (λ behind. length behind.now < length bytes.now) }
+{
+    match memchr(separator, bytes) {
+        Some(end) => (&bytes[..end], Some(&bytes[end + 1..])),
+        None => (bytes, None),
+    }
 }
 
 /// The bytes without a last line feed.
@@ -29,10 +46,10 @@ pub(crate) fn without_last_feed(text: &[u8]) -> &[u8]
     }
 }
 
-/// A decimal number of at most 13 digits, in a range.
+/// A decimal number of at most `MOST_DIGITS` digits, in a range.
 pub(crate) fn number_in(word: &[u8], low: u64, high: u64) -> Option<u64>
     ensures value { result ≡ number_in low high word.now }
-    ensures within { IfSome result (λ n. (low ≤ n) × (n ≤ high) × (n < 10 ^ 13)) }
+    ensures within { IfSome result (λ n. (low ≤ n) × (n ≤ high) × (n < 10 ^ MOST_DIGITS)) }
 {
     if word.is_empty() || word.len() > MOST_DIGITS {
         return None;
@@ -63,13 +80,14 @@ pub(crate) struct Words<'a> {
 impl<'a> Model for Words<'a> {
     ghost use Rattle.std.specs.Prelude.{◌≡◌, ℕ, List, map, length, take};
     ghost use Rattle.fh_document.specs.Words.{words_of};
+    ghost use Rattle.fh_document.specs.declared.words.TheConstants.{KEPT};
 
     ghost Value = { List (List ℕ) };
 
     ghost view = { λ w. words_of w.line.now };
 
     ghost invariant = { λ w. (w.count ≡ length (words_of w.line.now))
-        × (map (λ x. x.now) w.kept.items ≡ take 16 (words_of w.line.now)) };
+        × (map (λ x. x.now) w.kept.items ≡ take KEPT (words_of w.line.now)) };
 }
 
 impl<'a> Words<'a> {
@@ -79,9 +97,14 @@ impl<'a> Words<'a> {
     {
         let mut kept = ArrayVec::new();
         let mut count: usize = 0;
-        for word in line.split(|b| *b == 32).filter(|w| !w.is_empty()) {
-            let _ = kept.try_push(word);
-            count += 1;
+        let mut rest = Some(line);
+        'words: while let Some(text) = rest {
+            let (word, behind) = cut(b' ', text);
+            if !word.is_empty() {
+                let _ = kept.try_push(word);
+                count += 1;
+            }
+            rest = behind;
         }
         Words { line, kept, count }
     }
@@ -95,7 +118,7 @@ impl<'a> Words<'a> {
 
     /// The word with this index, or the empty one.
     pub(crate) fn word(&self, i: usize) -> &[u8]
-        requires { i < 16 }
+        requires { i < KEPT }
         ensures { result.now ≡ word_at self.now i }
     {
         let kept = self.kept.as_slice();

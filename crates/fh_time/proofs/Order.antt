@@ -5,7 +5,7 @@ use Rattle.std.proofs.Math.IntN.{suc_ℤ, suc_ℤ-*ℤ, zero-*ℤ, pos-*ℤ-pos}
 use Rattle.std.proofs.Math.Nat.{mul-le-mul_left, mul-le-mul_right}
 use Rattle.std.proofs.lemmas.Bool.Decides.{nat_tests}
 use Rattle.fh_time.specs.declared.kind.Kind.{Kind}
-use Rattle.fh_time.specs.declared.kind.Kind.TheVariants.{Ordinary, Offset}
+use Rattle.fh_time.specs.declared.kind.Kind.TheVariants.{Ordinary, Offset, Extended}
 use Rattle.fh_time.specs.declared.numerology.Numerology.{Numerology}
 use Rattle.fh_time.specs.declared.spacing.Spacing.{Spacing}
 use Rattle.fh_time.specs.declared.spacing.Spacing.TheVariants.{Khz15, Khz30, Khz60, Khz120, Khz240, Khz1x25, Khz5}
@@ -79,6 +79,7 @@ pub kind_later : (kind : Kind) (s t : ℕ) → s ≤ t → kind_start kind s 0 +
 kind_later (Ordinary spacing) s t o = spacing_later spacing s t (14 * s + 0) (14 * t + 0) o (omega arith) (omega arith)
 kind_later (Offset spacing time_offset cp_length) s t o =
     moved _ _ _ _ (prefixed spacing cp_length) (spacing_later spacing s t (14 * s) (14 * t) o refl refl)
+kind_later Extended s t o = omega arith
 
 pub kind_left : (kind : Kind) (s : ℕ) → s < kind_slots kind
     → kind_start kind s 0 + (kind_slots kind - s) * kind_least_slot kind ≤ 1536000000 + kind_start kind 0 0
@@ -88,10 +89,12 @@ kind_left (Ordinary spacing) s o = at_most_more _ (spacing_left spacing s (14 * 
     at_most_more c h = omega arith
 kind_left (Offset spacing time_offset cp_length) s o =
     moved_room _ (normal_start (exponent_of spacing) (14 * 0)) _ _ _ (prefixed spacing cp_length) (spacing_left spacing s (14 * s) o refl)
+kind_left Extended s o = omega arith
 
 pub kind_has_slots : (kind : Kind) → 0 < kind_slots kind
 kind_has_slots (Ordinary spacing) = grind arith
 kind_has_slots (Offset spacing time_offset cp_length) = grind arith
+kind_has_slots Extended = omega arith
 
 -- a slot's symbols start within its span
 normal_covers : (u i j m x y p q : ℕ) → u ≤ 4 → m < 14 → j ≡ i + m → x ≤ y + 800000 → p ≤ q + 800000
@@ -117,6 +120,7 @@ kind_covers (Ordinary spacing) s m o =
     normal_covers (exponent_of spacing) (14 * s + 0) (14 * s + m) m _ _ _ _ (exponent_small spacing) o (omega arith)
     (under _ _ _ (longer_most 0 (14 * s + m))) (under _ _ _ (longer_most (7 * 2 ^ exponent_of spacing) (14 * s + m)))
 kind_covers (Offset spacing time_offset cp_length) s m o = offset_covers _ m _ o
+kind_covers Extended s m o = omega arith
 
 air_covers : (f : ℤ) (b x y k : ℕ) → x ≤ y + k → (f *ℤ pos 15360000000 +ℤ pos (b + x)) ≤ℤ (f *ℤ pos 15360000000 +ℤ pos (b + y) +ℤ pos k)
 air_covers f b x y k h = omega (arith, ints)
@@ -289,10 +293,12 @@ kind_slots_few : (kind : Kind) → (0 < kind_slots kind) × (kind_slots kind ≤
 kind_slots_few (Ordinary spacing) = (kind_has_slots (Ordinary spacing), power_few (exponent_of spacing) (exponent_small spacing))
 kind_slots_few (Offset spacing time_offset cp_length) =
     (kind_has_slots (Offset spacing time_offset cp_length), power_few (exponent_of spacing) (exponent_small spacing))
+kind_slots_few Extended = (omega arith, omega arith)
 
 kind_symbols_few : (kind : Kind) → (0 < kind_symbols kind) × (kind_symbols kind ≤ 14)
 kind_symbols_few (Ordinary spacing) = (omega arith, omega arith)
 kind_symbols_few (Offset spacing time_offset cp_length) = (omega arith, omega arith)
+kind_symbols_few Extended = (omega arith, omega arith)
 
 normal_in_order : (u i j x y p q : ℕ) → u ≤ 4 → i ≤ j → x ≤ y → p ≤ q
     → ticks_of_ts (i * 2192) / 2 ^ u + x + p ≤ ticks_of_ts (j * 2192) / 2 ^ u + y + q
@@ -312,6 +318,7 @@ kind_in_order (Ordinary spacing) s i j o =
     normal_in_order (exponent_of spacing) (14 * s + i) (14 * s + j) _ _ _ _ (exponent_small spacing) later
     (longer_order 0 _ _ later) (longer_order (7 * 2 ^ exponent_of spacing) _ _ later)
 kind_in_order (Offset spacing time_offset cp_length) s i j o = more_times _ i j _ o
+kind_in_order Extended s i j o = omega arith
 
 air_in_order : (f : ℤ) (b x y : ℕ) → x ≤ y → (f *ℤ pos 15360000000 +ℤ pos (b + x)) ≤ℤ (f *ℤ pos 15360000000 +ℤ pos (b + y))
 air_in_order f b x y h = omega (arith, ints)

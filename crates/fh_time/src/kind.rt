@@ -13,4 +13,6 @@ pub enum Kind {
         time_offset: u16,
         cp_length: u16,
     },
+    /// The extended cyclic prefix, at 60 kHz.
+    Extended,
 }

@@ -1,18 +1,33 @@
-ghost use Rattle.std.specs.Prelude.{◌≡◌, ◌<◌, ◌≤◌, ◌↔◌, IsTrue, IsSome, IfSome};
-ghost use Rattle.fh_time.specs.Spacing.{is_normal_code, is_spacing_code};
-ghost use Rattle.fh_time.specs.Numbering.{ordinary_of, offset_of, code_of, offsets_of, shape_of};
+ghost use Rattle.std.specs.Prelude.{◌≡◌, ◌<◌, ◌^◌, ◌↔◌, IsTrue, IsSome, IfSome};
+ghost use Rattle.fh_time.specs.Kinds.{time_offset_of, cp_length_of};
 
 use crate::kind::Kind;
 use crate::spacing::Spacing;
-use crate::values::Shape;
 
-/// How an endpoint's frames are cut into slots and symbols: made by `ordinary` or `offset`.
+/// How an endpoint's frames are cut into slots and symbols: made by `ordinary`, `extended` or `offset`. The two numbers of an
+/// offset one have 16 bits.
 #[derive(Clone, Copy, Debug, PartialEq, Eq)]
 pub struct Numerology {
     pub(crate) kind: Kind,
+    pub ghost short_offset: { time_offset_of kind < 2 ^ 16 },
+    pub ghost short_prefix: { cp_length_of kind < 2 ^ 16 },
 }
 
 impl Numerology {
+    ghost use Rattle.fh_time.specs.Spacing.{is_normal_code, is_spacing_code};
+    ghost use Rattle.fh_time.specs.Numbering.{ordinary_of, offset_of, extended_of, code_of, offsets_of};
+
+    /// An endpoint of 60 kHz with the extended cyclic prefix: a subframe has 4 slots of 12 symbols.
+    pub fn extended() -> Numerology
+        ensures value { result ≡ extended_of }
+        ensures code { code_of result ≡ 2 }
+        ensures offsets { offsets_of result ≡ None }
+    {
+        Numerology {
+            kind: Kind::Extended,
+        }
+    }
+
     /// An ordinary endpoint of `15 * 2^code` kHz with the normal cyclic prefix. None exactly where the code is above 4.
     pub fn ordinary(code: u8) -> Option<Numerology>
         ensures value { result ≡ ordinary_of code }
@@ -45,42 +60,5 @@ impl Numerology {
                 cp_length,
             },
         })
-    }
-}
-
-/// The spacing code of frameStructure: 0 to 4 for `15 * 2^code` kHz, 12 for 1.25 kHz, 14 for 5 kHz.
-pub fn code(n: &Numerology) -> u8
-    ensures value { result ≡ code_of n.now }
-    ensures known { IsTrue (is_spacing_code result) }
-{
-    match n.kind {
-        Kind::Ordinary(spacing) => spacing.code(),
-        Kind::Offset { spacing, .. } => spacing.code(),
-    }
-}
-
-/// timeOffset and cpLength. None exactly where the numerology is ordinary.
-pub fn offsets(n: &Numerology) -> Option<(u16, u16)>
-    ensures { result ≡ offsets_of n.now }
-{
-    match n.kind {
-        Kind::Ordinary(_) => None,
-        Kind::Offset {
-            time_offset,
-            cp_length,
-            ..
-        } => Some((time_offset, cp_length)),
-    }
-}
-
-/// How many symbols a slot has, and how many slots a subframe.
-pub fn shape(n: &Numerology) -> Shape
-    ensures { result ≡ shape_of n.now }
-{
-    match n.kind {
-        Kind::Ordinary(spacing) | Kind::Offset { spacing, .. } => Shape {
-            symbols: 14,
-            slots: 1 << spacing.exponent(),
-        },
     }
 }

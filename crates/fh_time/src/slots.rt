@@ -4,8 +4,9 @@ ghost use Rattle.fh_time.specs.Air.{air_of, least_slot_of, span_of, AreApart};
 ghost use Rattle.fh_time.specs.Numbering.{slots_of, symbols_of, slot_number, IsSlotOf};
 
 use crate::kind::Kind;
-use crate::numerology::{Numerology, shape};
-use crate::symbols::{LONGER, SYMBOL, prefixed};
+use crate::numerology::Numerology;
+use crate::shapes::shape;
+use crate::symbols::{EXTENDED, LONGER, SYMBOL, prefixed};
 use crate::values::{Slot, Ticks};
 
 /// The length of the shortest slot in ticks: no two slots start closer to each other.
@@ -19,6 +20,7 @@ pub fn least_slot(n: &Numerology) -> Ticks
         Kind::Ordinary(spacing) | Kind::Offset { spacing, .. } => {
             Ticks(((14 * SYMBOL) >> spacing.exponent()) as i64)
         }
+        Kind::Extended => Ticks((12 * EXTENDED) as i64),
     }
 }
 
@@ -35,6 +37,7 @@ pub fn span(n: &Numerology) -> Ticks
             cp_length,
             ..
         } => 13 * prefixed(spacing, cp_length),
+        Kind::Extended => 11 * EXTENDED,
     };
     Ticks(ticks as i64)
 }

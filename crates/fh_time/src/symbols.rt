@@ -22,6 +22,9 @@ pub(crate) const SYMBOL: u64 = 2_192 * 50_000;
 
 pub(crate) const LONGER: u64 = 16 * 50_000;
 
+/// The ticks of a symbol at 60 kHz with the extended cyclic prefix.
+pub(crate) const EXTENDED: u64 = 640 * 50_000;
+
 /// What one of the longer symbols adds to the time from one symbol of a subframe to another, in ticks.
 fn longer_between(longer: u32, from: u32, to: u32) -> u64
     requires order { from ≤ to }
@@ -76,6 +79,7 @@ fn start_in_subframe(kind: Kind, slot: u8, symbol: u8) -> u64
             let begin = time_between(spacing.exponent(), 0, 14 * slot as u32);
             begin + time_offset as u64 * TS + symbol as u64 * prefixed(spacing, cp_length)
         }
+        Kind::Extended => (12 * slot as u64 + symbol as u64) * EXTENDED,
     }
 }
 

@@ -1,6 +1,6 @@
 use super::{
-    Numerology, Slot, air, code, least_slot, of_ns, offsets, prb_span, resolve, shape, slot_after,
-    span,
+    Numerology, Shape, Slot, air, code, least_slot, of_ns, offsets, prb_span, resolve, shape,
+    slot_after, span,
 };
 
 /// The start of a symbol of the n-th slot of a frame, where the slot and the symbol are the numerology's.
@@ -137,6 +137,22 @@ fn offset_symbols_start_by_their_own_length(rt: HostRuntime) {
     assert_eq!(rt; start(n, 1, 4, 0, 1), Some(22_891_200_000));
     let n = Numerology::offset(4, 100, 3);
     assert_eq!(rt; start(n, 0, 0, 8, 2), Some(785_818_750));
+}
+
+/// Of 12 symbols and 4 slots, 640 Ts a symbol: slots and symbols by 3GPP TS 38.211, 4.3.2, times by its section 5.3.1.
+#[test]
+fn extended_symbols_are_twelve_a_slot(rt: HostRuntime) {
+    let n = Numerology::extended();
+    let want = Shape {
+        symbols: 12,
+        slots: 4,
+    };
+    assert_eq!(rt; code(&n), 2);
+    assert_eq!(rt; offsets(&n), None);
+    assert_eq!(rt; shape(&n), want);
+    assert_eq!(rt; least_slot(&n).0, 7_680 * 50_000);
+    assert_eq!(rt; span(&n).0, 7_040 * 50_000);
+    assert_eq!(rt; start(Some(n), 1, 0, 1, 11), Some(16_096_000_000));
 }
 
 /// The next slot, where the slot is the numerology's.

@@ -1,3 +1,4 @@
 pub mod Order
 pub mod PutIn
 mod Held
+pub mod QueueLemmas

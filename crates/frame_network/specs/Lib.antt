@@ -1,3 +1,4 @@
 pub mod Network
 pub mod Places
 pub mod Held
+pub mod Queues

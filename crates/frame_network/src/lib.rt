@@ -1,16 +1,24 @@
-//! The frames in flight to the units of a fronthaul, the earliest first.
+//! The frames in flight to the units of a fronthaul, the earliest first, and which listed frame lands next.
 //!
 //! A [`Network`] holds [`Arrival`]s: a frame, the unit that it comes to, and the time in ticks. It
 //! gives them back by their times, and at one time those to the radio unit first, those that were
 //! sent before those that were injected, and then in the order of their ways.
+//!
+//! A document lists frames with times in any order. A replay takes them by time, those of one time in the order of the
+//! list, and looks at each time once. A [`LandingQueue`] sorts them once, when it is made, and then only moves on.
 #![tactic(auto)]
 
 mod arrivals;
 mod in_flight;
+mod landings;
 mod places;
+mod queue;
+mod sorting;
 
 pub use arrivals::{Arrival, ArrivalKey};
 pub use in_flight::Network;
+pub use landings::Landing;
+pub use queue::LandingQueue;
 
 #[cfg(test)]
 mod tests;

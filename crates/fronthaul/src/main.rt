@@ -9,6 +9,7 @@ mod tests;
 mod top_call;
 
 use fh_base::{Bytes, List, NoMemory, StdSink, StdSource};
+use messages::write_message;
 use status::Status;
 use std::alloc::Global;
 use std::env;
@@ -19,12 +20,13 @@ use top_call::run;
 
 fn main(rt: HostRuntime) -> ExitCode {
     let alloc = rt.alloc();
-    let Ok(words) = collect_words(&rt, alloc) else {
-        return ExitCode::from(Status::NoMemory.code());
-    };
     let mut source = StdSource::new(rt.stdin());
     let mut out = StdSink::new(rt.stdout());
     let mut err = StdSink::new(rt.stderr());
+    let Ok(words) = collect_words(&rt, alloc) else {
+        let _ = write_message(Status::NoMemory, &mut err);
+        return ExitCode::from(Status::NoMemory.code());
+    };
     let status = run(alloc, &words, &mut source, &mut out, &mut err);
     ExitCode::from(status.code())
 }

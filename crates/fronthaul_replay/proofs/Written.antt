@@ -7,7 +7,9 @@ use Rattle.air_source.specs.declared.events.Event.{Event}
 use Rattle.fh_document.specs.declared.document.Document.{Document}
 use Rattle.ru_buffers.specs.declared.unit.Ru.{Ru}
 use Rattle.replay_loop.specs.Replaying.{HaltsInStep, StopsInStep, events_of}
-use Rattle.text_air.specs.Owed.{Carried, Halted}
+use Rattle.air_source.specs.declared.airs.AirFault.{AirFault}
+use Rattle.owed_bytes.specs.Owed.{Carried}
+use Rattle.text_air.specs.Owed.{Halted}
 use Rattle.text_air.specs.Text.{event_text, events_text, end_text}
 use Rattle.text_air.proofs.Texts.{cut_front, finish_front, finished, front_of_whole, stops_front}
 use Rattle.fronthaul_replay.specs.Reports.{injected_report}
@@ -30,13 +32,13 @@ in_step_stops : {A : Type 0} (grew : A → List Event → A → Type 0) (stopped
 in_step_stops grew stopped d u old new s = record { before = s.told; event = s.event; after = s.rest; is = s.is; middle = s.middle; heard = s.heard; stop = s.stop }
 
 -- where a fresh air stopped so, it wrote a front of the report
-pub step_front : {A : Type 0} (written : A → Option (List ℕ)) (faults refusals : A → ℕ) (owed : A → List ℕ) (d : Document) (u : Ru) (old new : A) → owed old ≡ []
-    → StopsInStep {A = A} (λ a es b. Carried (written a) (owed a) (events_text es) (written b) (owed b)) (λ a e b. Halted (written a) (faults a) (refusals a) (owed a) (event_text e) (written b) (faults b) (refusals b)) d u old new
+pub step_front : {A : Type 0} (fault : AirFault) (written : A → Option (List ℕ)) (faults refusals : A → ℕ) (owed : A → List ℕ) (d : Document) (u : Ru) (old new : A) → owed old ≡ []
+    → StopsInStep {A = A} (λ a es b. Carried (written a) (owed a) (events_text es) (written b) (owed b)) (λ a e b. Halted fault (written a) (faults a) (refusals a) (owed a) (event_text e) (written b) (faults b) (refusals b)) d u old new
     → WritesFront (written old) (written new) (injected_report d)
 unfolding injected_report
-step_front {A} written faults refusals owed d u old new fresh s =
-    front_of_whole (written old) (written new) (events_of d) (stops_front written faults refusals owed (events_of d) old new fresh
-    (in_step_stops {A = A} (λ a es b. Carried (written a) (owed a) (events_text es) (written b) (owed b)) (λ a e b. Halted (written a) (faults a) (refusals a) (owed a) (event_text e) (written b) (faults b) (refusals b)) d u old new s))
+step_front {A} fault written faults refusals owed d u old new fresh s =
+    front_of_whole (written old) (written new) (events_of d) (stops_front fault written faults refusals owed (events_of d) old new fresh
+    (in_step_stops {A = A} (λ a es b. Carried (written a) (owed a) (events_text es) (written b) (owed b)) (λ a e b. Halted fault (written a) (faults a) (refusals a) (owed a) (event_text e) (written b) (faults b) (refusals b)) d u old new s))
 
 -- an air for which memory ran out in step with a radio unit heard some of the events, or stopped in one of them
 in_step_halts : {A : Type 0} (grew : A → List Event → A → Type 0) (stopped : A → Event → A → Type 0) (d : Document) (u : Ru) (old new : A)
@@ -45,10 +47,10 @@ in_step_halts grew stopped d u old new (inl s) = inr (in_step_stops grew stopped
 in_step_halts grew stopped d u old new (inr r) = inl (record { before = r.told; after = r.rest; is = r.is; heard = r.heard })
 
 -- where a fresh air halted so, it wrote a front of the report
-pub some_front : {A : Type 0} (written : A → Option (List ℕ)) (faults refusals : A → ℕ) (owed : A → List ℕ) (d : Document) (u : Ru) (old new : A) → owed old ≡ []
-    → HaltsInStep {A = A} (λ a es b. Carried (written a) (owed a) (events_text es) (written b) (owed b)) (λ a e b. Halted (written a) (faults a) (refusals a) (owed a) (event_text e) (written b) (faults b) (refusals b)) d u old new
+pub some_front : {A : Type 0} (fault : AirFault) (written : A → Option (List ℕ)) (faults refusals : A → ℕ) (owed : A → List ℕ) (d : Document) (u : Ru) (old new : A) → owed old ≡ []
+    → HaltsInStep {A = A} (λ a es b. Carried (written a) (owed a) (events_text es) (written b) (owed b)) (λ a e b. Halted fault (written a) (faults a) (refusals a) (owed a) (event_text e) (written b) (faults b) (refusals b)) d u old new
     → WritesFront (written old) (written new) (injected_report d)
 unfolding injected_report
-some_front {A} written faults refusals owed d u old new fresh halts =
-    front_of_whole (written old) (written new) (events_of d) (cut_front written faults refusals owed (events_of d) old new fresh
-    (in_step_halts {A = A} (λ a es b. Carried (written a) (owed a) (events_text es) (written b) (owed b)) (λ a e b. Halted (written a) (faults a) (refusals a) (owed a) (event_text e) (written b) (faults b) (refusals b)) d u old new halts))
+some_front {A} fault written faults refusals owed d u old new fresh halts =
+    front_of_whole (written old) (written new) (events_of d) (cut_front fault written faults refusals owed (events_of d) old new fresh
+    (in_step_halts {A = A} (λ a es b. Carried (written a) (owed a) (events_text es) (written b) (owed b)) (λ a e b. Halted fault (written a) (faults a) (refusals a) (owed a) (event_text e) (written b) (faults b) (refusals b)) d u old new halts))

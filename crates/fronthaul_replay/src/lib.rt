@@ -6,8 +6,6 @@
 #![tactic(auto)]
 
 mod injected;
-#[cfg(test)]
-mod tests;
 
 pub use frame_network::{Arrival, ArrivalKey, Network};
 pub use injected::{InjectedFault, replay_injected};

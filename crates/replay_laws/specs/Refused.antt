@@ -1,4 +1,5 @@
--- Whatever is refused changes nothing but counters (this project's profile).
+-- A message that is refused as it comes, a fragment that does not stand and a section that is refused change nothing but counters (this
+-- project's profile). A message of data that is whole and then refused is none of these: its fragments keep their places.
 use Rattle.std.specs.Prelude.{◌≡◌, ◌≢◌, ℤ, List, ◌∷◌, ◌++◌}
 use Rattle.air_source.specs.declared.events.Side.TheVariants.{Ru}
 use Rattle.ecpri_fragments.specs.Generations.{is_first}

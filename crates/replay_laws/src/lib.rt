@@ -1,5 +1,5 @@
 //! Laws of the events of a replay, in the words of the fronthaul: no cell is reported twice, what a cell shows came in time and was
-//! commanded in time, the counters add up, and what is refused changes nothing but counters.
+//! commanded in time, the counters add up, and a message, fragment or section that is refused changes nothing but counters.
 //!
 //! The functions here do nothing: each one's contract is its law, stated in `specs/`.
 #![tactic(auto)]
@@ -30,7 +30,8 @@ pub fn counters_add_up()
     ensures { SumsAddUp }
 {}
 
-/// What is refused, be it a message, a section of a command or a section of data, changes nothing but counters.
+/// A message that is refused as it comes, a fragment that does not stand, a section of a command and a section of data that is refused
+/// change nothing but counters. Of a message of data that is whole and then refused this is not said: its fragments keep their places.
 pub fn refused_changes_nothing()
     ensures { EachRefusedChangesNothing }
 {}

@@ -12,9 +12,9 @@ use Rattle.frame_network.specs.declared.arrivals.Arrival.{Arrival as Flying}
 use Rattle.frame_network.specs.Network.{IsInOrder, put_in}
 use Rattle.frame_network.proofs.Order.{earlier_place_is_not_after, sent_is_not_after}
 use Rattle.frame_network.proofs.PutIn.{All-put_in, IsInOrder-put_in, IsLastOf, filter-put_in_last, filter-put_in_other}
-use Rattle.landing_queue.specs.declared.landings.Landing.{Landing}
-use Rattle.landing_queue.specs.Queues.{AreRising, at_time, first_time, landing_of}
-use Rattle.landing_queue.proofs.QueueLemmas.{none_below}
+use Rattle.frame_network.specs.declared.landings.Landing.{Landing}
+use Rattle.frame_network.specs.Queues.{AreRising, at_time, first_time, landing_of}
+use Rattle.frame_network.proofs.QueueLemmas.{none_below}
 use Rattle.replay_events.proofs.TickLemmas.{at_most, below_all, next_after, same_most, weak}
 use Rattle.unit_model.specs.Meetings.{Arrival}
 use Rattle.replay_loop.specs.declared.coming.Coming.{Coming}

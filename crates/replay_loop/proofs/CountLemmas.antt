@@ -1,6 +1,6 @@
 -- The counters at the end.
-use Rattle.std.proofs.Common.{◌≡◌, ℕ, ℤ, pos, ◌+ℤ◌, ◌-ℤ◌, ◌≤ℤ◌, ◌==◌, ◌<◌, suc, Bool, true, false, List, [], ◌∷◌, ◌++◌, take, take-suc, drop, length, get_or, refl, sym, ap, ap₂, ◌∙◌, subst, arith, append_assoc, append-nil, Result, Ok, Err}
-use Rattle.std.specs.Prelude.{OnErr, if◌then◌else◌}
+use Rattle.std.proofs.Common.{◌≡◌, ℕ, ℤ, pos, ◌+ℤ◌, ◌-ℤ◌, ◌≤ℤ◌, ◌==◌, ◌<◌, suc, Bool, true, false, List, [], ◌∷◌, ◌++◌, take, take-suc, drop, length, get_or, refl, sym, ap, ap₂, ◌∙◌, subst, arith, append_assoc, append-nil}
+use Rattle.std.specs.Prelude.{if◌then◌else◌}
 use Rattle.std.specs.List.{flat_map, AllByRecursion}
 use Rattle.std.proofs.lemmas.Bool.Decides.{nat_tests}
 use Rattle.air_source.specs.Stops.{StopsIn}
@@ -170,8 +170,3 @@ stops_count grew stopped more d u number a b e at are first s =
         reported = at.turn.told ∙ sym (cells-append earlier s.before ∙ ap (λ (cs : List AirCell). cells_heard earlier ++ cs) (cells-counts s.before none) ∙ append-nil (cells_heard earlier));
       };
     }
-
--- what holds after an error holds where this is the error
-pub from_err : {T E : Type 0} (P : Type 0) (r : Result T E) (e : E) → r ≡ Err e → OnErr r P → P
-from_err P (Ok x) e is h = cc
-from_err P (Err y) e is h = h

@@ -10,8 +10,8 @@ use Rattle.fh_document.specs.declared.document.Document.{Document}
 use Rattle.fh_time.specs.declared.values.Ticks.{Ticks}
 use Rattle.frame_network.specs.declared.arrivals.Arrival.{Arrival as Flying}
 use Rattle.frame_network.specs.Network.{first_time as first_flying}
-use Rattle.landing_queue.specs.declared.landings.Landing.{Landing}
-use Rattle.landing_queue.specs.Queues.{AreRising, first_time}
+use Rattle.frame_network.specs.declared.landings.Landing.{Landing}
+use Rattle.frame_network.specs.Queues.{AreRising, first_time}
 use Rattle.replay_events.specs.Events.{events_at}
 use Rattle.replay_events.specs.Moments.{end_of_time}
 use Rattle.replay_events.specs.Passing.{IsCalm}

@@ -9,8 +9,8 @@ use Rattle.fh_document.specs.declared.document.Injection.{Injection}
 use Rattle.fh_time.specs.declared.values.Ticks.{Ticks}
 use Rattle.frame_network.specs.declared.arrivals.Arrival.{Arrival as Flying}
 use Rattle.frame_network.specs.Network.{IsInOrder}
-use Rattle.landing_queue.specs.declared.landings.Landing.{Landing}
-use Rattle.landing_queue.specs.Queues.{at_time}
+use Rattle.frame_network.specs.declared.landings.Landing.{Landing}
+use Rattle.frame_network.specs.Queues.{at_time}
 use Rattle.replay_events.specs.Moments.{landing_at}
 use Rattle.unit_model.specs.Meetings.{Arrival}
 use Rattle.replay_loop.specs.declared.coming.Coming.{Coming}

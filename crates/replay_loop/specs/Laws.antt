@@ -10,7 +10,8 @@ use Rattle.replay_loop.specs.Replaying.{landings_of}
 
 -- no cell is reported twice; the samples of a cell came in the symbol's window, and each of its elements was named by a command on time
 -- that was accepted under the cell's section id; each decoded section has one counted verdict and each cell one count; the frames
--- that arrive are those that the document lists, each as often as it is listed; and what is refused changes nothing but counters
+-- that arrive are those that the document lists, each as often as it is listed; and a message that is refused as it comes, a fragment that
+-- does not stand and a section that is refused change nothing but counters
 pub record IsSound (d : Document) : Type 0 where
   pub once : IsOnce d.config (landings_of d)
   pub in_time : IsShownInTime d.config (landings_of d)

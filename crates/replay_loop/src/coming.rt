@@ -9,8 +9,7 @@ use air_source::Side;
 use fh_base::{Bytes, NoMemory};
 use fh_document::Document;
 use fh_time::Ticks;
-use frame_network::{Arrival, ArrivalKey, Network};
-use landing_queue::LandingQueue;
+use frame_network::{Arrival, ArrivalKey, LandingQueue, Network};
 use std::alloc::Global;
 
 /// What is to come: the frames of the document that wait for their times, and the frames in flight to the radio unit.

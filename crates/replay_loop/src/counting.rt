@@ -1,5 +1,5 @@
 // The counters at the end.
-ghost use Rattle.std.specs.Prelude.{OnErr, OnOk};
+ghost use Rattle.std.specs.Prelude.{IfErr, OnOk};
 ghost use Rattle.std.specs.List.{flat_map};
 ghost use Rattle.air_source.specs.Causes.{HasAirCause};
 ghost use Rattle.air_source.specs.Stops.{StopsIn};
@@ -13,7 +13,7 @@ use fault_counters::{Counter, Counters};
 /// Tells the air of a counter, if it is not at 0.
 fn tell_count<A: Air>(counters: &Counters, counter: Counter, out: &mut A) -> Result<(), AirFault>
     ensures heard { OnOk result (A.grew out.old (count_event (count_of counters.now counter) counter) out.new) }
-    ensures stop { OnErr result (StopsIn A.grew A.stopped (count_event (count_of counters.now counter) counter) out.old out.new) }
+    ensures stop { IfErr result (λ f. StopsIn A.grew (A.stopped f) (count_event (count_of counters.now counter) counter) out.old out.new) }
     ensures same { A.same out.old out.new }
     ensures cause { HasAirCause (A.faults out.old) (A.faults out.new) result }
 {
@@ -27,7 +27,7 @@ fn tell_count<A: Air>(counters: &Counters, counter: Counter, out: &mut A) -> Res
 /// Tells the air of the radio unit's counters that are not at 0.
 pub(crate) fn tell_counts<A: Air>(counters: &Counters, out: &mut A) -> Result<(), AirFault>
     ensures heard { OnOk result (A.grew out.old (flat_map (λ k. count_event (count_of counters.now k) k) all_counters) out.new) }
-    ensures stop { OnErr result (StopsIn A.grew A.stopped (flat_map (λ k. count_event (count_of counters.now k) k) all_counters) out.old out.new) }
+    ensures stop { IfErr result (λ f. StopsIn A.grew (A.stopped f) (flat_map (λ k. count_event (count_of counters.now k) k) all_counters) out.old out.new) }
     ensures same { A.same out.old out.new }
     ensures cause { HasAirCause (A.faults out.old) (A.faults out.new) result }
 {

@@ -1,5 +1,5 @@
 // The frames of one tick, and the uplink messages up to it.
-ghost use Rattle.std.specs.Prelude.{◌≡◌, ◌<◌, ◌^◌, [], ◌∷◌, All, OnErr, OnOk, length, map};
+ghost use Rattle.std.specs.Prelude.{◌≡◌, ◌<◌, ◌^◌, [], ◌∷◌, All, IfErr, OnErr, OnOk, length, map};
 ghost use Rattle.air_source.specs.Causes.{HasAirCause};
 ghost use Rattle.replay_events.specs.Events.{arrival_event};
 ghost use Rattle.ru_buffers.specs.Calls.{HasGivenPast, StandsFor, StandsForSome};
@@ -20,7 +20,7 @@ fn hear<A: Air>(frame: &[u8], at: Ticks, ru: &mut Ru, out: &mut A) -> Result<(),
     requires given { HasGivenPast ru.old }
     ensures heard { OnOk result (A.grew out.old (arrival_event (arrival_at at.0 frame.now) ∷ []) out.new) }
     ensures stands { (c : Config) (h : History) → StandsFor c ru.old h → OnOk result (StandsFor c ru.new (arrived h frame.now)) }
-    ensures stop { OnErr result (A.stopped out.old (arrival_event (arrival_at at.0 frame.now)) out.new) }
+    ensures stop { IfErr result (λ f. A.stopped f out.old (arrival_event (arrival_at at.0 frame.now)) out.new) }
     ensures stays { OnErr result (ru.new ≡ ru.old) }
     ensures given { HasGivenPast ru.new }
     ensures clock { ru.new.clock ≡ ru.old.clock }
@@ -48,7 +48,7 @@ pub(crate) fn land<A: Air>(
     ensures stands { (c : Config) (h : History) → StandsFor c ru.old h → OnOk result (StandsFor c ru.new (landed h (flying_at tick.0 in_flight.old))) }
     ensures passed { OnOk result (HaveLanded tick.0 in_flight.old in_flight.new) }
     ensures stop { (c : Config) (h : History) → StandsFor c ru.old h
-        → OnErr result (StopsLanding A.grew A.stopped c h (flying_at tick.0 in_flight.old) ru.new out.old out.new) }
+        → IfErr result (λ f. StopsLanding A.grew (A.stopped f) c h (flying_at tick.0 in_flight.old) ru.new out.old out.new) }
     ensures given { HasGivenPast ru.new }
     ensures clock { ru.new.clock ≡ ru.old.clock }
     ensures same { A.same out.old out.new }

@@ -10,8 +10,6 @@ mod landing;
 mod listing;
 mod moments;
 mod replays;
-#[cfg(test)]
-mod tests;
 mod times;
 
 pub use replays::{ReplayFault, replay};

@@ -8,8 +8,7 @@ use crate::coming::Coming;
 use fh_base::NoMemory;
 use fh_document::{Document, Injection};
 use fh_time::{Ticks, of_ns};
-use frame_network::Network;
-use landing_queue::LandingQueue;
+use frame_network::{LandingQueue, Network};
 use std::alloc::Global;
 
 /// When a frame lands, in ticks.

@@ -45,8 +45,8 @@ fn moment<A: Air>(
     ensures heard { OnOk result (A.grew out.old (events_at doc.now.config (landings_of doc.now) tick.0) out.new) }
     ensures turn { OnOk result (AtTurn doc.now (tick.0 +ℤ pos 1) ru.new) }
     ensures waits { OnOk result (Waits doc.now (tick.0 +ℤ pos 1) coming.new) }
-    ensures stop { IsErrOf result Failed → StopsBehind A.grew A.stopped doc.now (events_before doc.now tick.0) (events_at doc.now.config (landings_of doc.now) tick.0) ru.new out.old out.new }
-    ensures wants { IsErrOf result WantsMemory → HaltsBehind A.grew A.stopped doc.now (events_before doc.now tick.0) (events_at doc.now.config (landings_of doc.now) tick.0) ru.new out.old out.new }
+    ensures stop { IsErrOf result Failed → StopsBehind A.grew (A.stopped Failed) doc.now (events_before doc.now tick.0) (events_at doc.now.config (landings_of doc.now) tick.0) ru.new out.old out.new }
+    ensures wants { IsErrOf result WantsMemory → HaltsBehind A.grew (A.stopped WantsMemory) doc.now (events_before doc.now tick.0) (events_at doc.now.config (landings_of doc.now) tick.0) ru.new out.old out.new }
     ensures same { A.same out.old out.new }
     ensures cause { HasAirCause (A.faults out.old) (A.faults out.new) result }
 {
@@ -72,8 +72,8 @@ pub(crate) fn pass<A: Air>(
     requires waits { Waits doc.now first_clock coming.old }
     ensures heard { OnOk result (A.grew out.old (events_before doc.now (end_of_time +ℤ pos 1)) out.new) }
     ensures over { OnOk result (AtTurn doc.now (end_of_time +ℤ pos 1) ru.new) }
-    ensures stop { IsErrOf result Failed → StopsBehind A.grew A.stopped doc.now [] (events_before doc.now (end_of_time +ℤ pos 1)) ru.new out.old out.new }
-    ensures wants { IsErrOf result WantsMemory → HaltsBehind A.grew A.stopped doc.now [] (events_before doc.now (end_of_time +ℤ pos 1)) ru.new out.old out.new }
+    ensures stop { IsErrOf result Failed → StopsBehind A.grew (A.stopped Failed) doc.now [] (events_before doc.now (end_of_time +ℤ pos 1)) ru.new out.old out.new }
+    ensures wants { IsErrOf result WantsMemory → HaltsBehind A.grew (A.stopped WantsMemory) doc.now [] (events_before doc.now (end_of_time +ℤ pos 1)) ru.new out.old out.new }
     ensures same { A.same out.old out.new }
     ensures cause { HasAirCause (A.faults out.old) (A.faults out.new) result }
 {

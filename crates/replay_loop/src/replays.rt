@@ -24,9 +24,10 @@ use std::alloc::Global;
 /// Why a replay did not come to its end.
 #[derive(Clone, Copy, Debug, PartialEq, Eq)]
 pub enum ReplayFault {
-    /// The air failed. It heard the events before the one in which it stopped, and the unit is in step with them.
+    /// The air failed in an event: it heard those before it, and the unit is in step with them.
     AirFailed,
-    /// Memory was refused. The air heard the first of the events, and the unit is in step with them.
+    /// Memory was refused, to the replay or to the air in an event: the air heard the first of the events, and the unit is in step
+    /// with them.
     NoMemory,
 }
 
@@ -39,8 +40,8 @@ pub enum ReplayFault {
 ///
 /// # Errors
 ///
-/// [`ReplayFault::AirFailed`] where the air failed, only where its count of faults rose. [`ReplayFault::NoMemory`] where memory runs
-/// out, the air's too.
+/// [`ReplayFault::AirFailed`] where the air stopped as failed, only where its count of faults rose. [`ReplayFault::NoMemory`] where
+/// the air stopped for want of memory, or memory runs out for the replay's own work.
 pub fn replay<A: Air>(
     alloc: Global,
     doc: &Document,
@@ -51,8 +52,8 @@ pub fn replay<A: Air>(
     requires unit { StandsFor doc.now.config ru.old nothing_yet }
     ensures heard { OnOk result (A.grew out.old (events_of doc.now) out.new) }
     ensures done { OnOk result (IsDone doc.now ru.new) }
-    ensures stopped { IsErrOf result AirFailed → StopsInStep A.grew A.stopped doc.now ru.new out.old out.new }
-    ensures wants { IsErrOf result WantsMemory → HaltsInStep A.grew A.stopped doc.now ru.new out.old out.new }
+    ensures stopped { IsErrOf result AirFailed → StopsInStep A.grew (A.stopped Failed) doc.now ru.new out.old out.new }
+    ensures wants { IsErrOf result WantsMemory → HaltsInStep A.grew (A.stopped AirWantsMemory) doc.now ru.new out.old out.new }
     ensures cause { IsErrOf result AirFailed → Rose (A.faults out.old) (A.faults out.new) }
     ensures later { A.faults out.old ≤ A.faults out.new }
     ensures same { A.same out.old out.new }
@@ -81,8 +82,8 @@ fn run<A: Air>(
     requires waits { Waits doc.now first_clock coming.old }
     ensures heard { OnOk result (A.grew out.old (events_of doc.now) out.new) }
     ensures done { OnOk result (IsDone doc.now ru.new) }
-    ensures stop { IsErrOf result Failed → StopsInStep A.grew A.stopped doc.now ru.new out.old out.new }
-    ensures wants { IsErrOf result AirWantsMemory → HaltsInStep A.grew A.stopped doc.now ru.new out.old out.new }
+    ensures stop { IsErrOf result Failed → StopsInStep A.grew (A.stopped Failed) doc.now ru.new out.old out.new }
+    ensures wants { IsErrOf result AirWantsMemory → HaltsInStep A.grew (A.stopped AirWantsMemory) doc.now ru.new out.old out.new }
     ensures same { A.same out.old out.new }
     ensures cause { HasAirCause (A.faults out.old) (A.faults out.new) result }
 {

@@ -1,5 +1,5 @@
 -- The line of a cell: the direction, the symbol's start in ticks, ID, frame, subframe, slot, symbol, PRB, section, MASK and the samples.
-use Rattle.std.specs.Prelude.{ℕ, zero, suc, ◌-◌, ◌/◌, ◌%◌, ◌^◌, ◌==◌, List, [], ◌++◌, codes, decimal, Option, Some, None, if◌then◌else◌}
+use Rattle.std.specs.Prelude.{ℕ, zero, suc, ◌-◌, ◌/◌, ◌%◌, ◌^◌, ◌==◌, List, [], ◌++◌, codes, Option, Some, None, if◌then◌else◌}
 use Rattle.std.specs.List.{slice_index_or}
 use Rattle.std.specs.Fmt.{signed_decimal}
 use Rattle.air_source.specs.declared.events.AirCell.{AirCell}
@@ -8,24 +8,20 @@ use Rattle.air_source.specs.declared.events.Side.TheVariants.{Ru, Du}
 use Rattle.bfp_codec.specs.Samples.{no_wide}
 use Rattle.bfp_codec.specs.declared.samples.Wide.{Wide}
 use Rattle.fh_time.specs.declared.values.Slot.{Slot}
-use Rattle.report_lines.specs.Hex.{hex4_text, hex3_text}
+use Rattle.text_lines.specs.Words.{spaced_text, spaced_signed_text, hex4_text, hex3_text}
 
 -- the radio unit reports downlink cells, the distributed unit uplink ones
 abbrev pub way_text : Side → List ℕ
 way_text Ru = codes "dl"
 way_text Du = codes "ul"
 
--- a space and a number
-abbrev pub spaced_text : ℕ → List ℕ
-spaced_text n = codes " " ++ decimal n
-
 -- frame, subframe and slot
 abbrev pub slot_text : Slot → List ℕ
-slot_text s = codes " " ++ signed_decimal s.frame ++ spaced_text s.subframe ++ spaced_text s.slot
+slot_text s = spaced_signed_text s.frame ++ spaced_text s.subframe ++ spaced_text s.slot
 
 -- the words before the samples; MASK is the low 12 bits of the mask, and what a mask has beyond them is left out
 abbrev pub head_text : AirCell → List ℕ
-head_text c = way_text c.side ++ codes " " ++ signed_decimal c.at.0 ++ codes " " ++ hex4_text c.id ++ slot_text c.slot
+head_text c = way_text c.side ++ spaced_signed_text c.at.0 ++ codes " " ++ hex4_text c.id ++ slot_text c.slot
     ++ spaced_text c.symbol ++ spaced_text c.prb ++ spaced_text c.section ++ codes " " ++ hex3_text c.mask
 
 -- the mask has element k: element 0 is the most significant of the low 12 bits

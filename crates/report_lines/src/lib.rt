@@ -2,16 +2,16 @@
 //! text that takes no memory.
 //!
 //! Each line ends with a line feed, its words are parted by one space. Numbers are decimal without
-//! leading zeros, but an eAxC id has four and a mask three lower-case hexadecimal digits.
+//! leading zeros, but an eAxC id has four and a mask three lower-case hexadecimal digits. A `put_` call
+//! writes where a line stands, and the call beside it answers a line of its own.
 #![tactic(auto)]
 
 mod cell_lines;
-mod line;
 mod unit_lines;
 
-pub use cell_lines::cell_line;
-pub use line::Line;
-pub use unit_lines::{count_line, delay_line};
+pub use cell_lines::{cell_line, put_cell};
+pub use text_lines::Line;
+pub use unit_lines::{count_line, delay_line, put_count, put_delay};
 
 #[cfg(test)]
 mod tests;

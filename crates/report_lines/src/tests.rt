@@ -1,5 +1,5 @@
 // Each kind of line, and lines of the greatest values.
-use crate::{cell_line, count_line, delay_line};
+use crate::{Line, cell_line, count_line, delay_line, put_cell, put_count, put_delay};
 use air_source::{AirCell, Side};
 use bfp_codec::Wide;
 use fault_counters::Counter;
@@ -88,6 +88,20 @@ fn lines_of_delays_and_counters(rt: HostRuntime) {
         count.as_slice(),
         b"count du unknown_endpoint 0\n".as_slice()
     );
+}
+
+#[test]
+fn a_line_is_written_over(rt: HostRuntime) {
+    let mut line = Line::new();
+    put_cell(&cell(Side::Ru, 0xfff, None), &mut line);
+    assert_eq!(rt;
+        line.as_slice(),
+        b"dl 15360000000 0000 1 0 0 0 0 1 fff missing\n".as_slice()
+    );
+    put_delay(Ticks(-5), Side::Ru, 0, -1, &mut line);
+    assert_eq!(rt; line.as_slice(), b"delay -5 ru 0 -1\n".as_slice());
+    put_count(Side::Ru, Counter::Frames, 2, &mut line);
+    assert_eq!(rt; line.as_slice(), b"count ru frames 2\n".as_slice());
 }
 
 #[test]

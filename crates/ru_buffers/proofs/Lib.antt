@@ -15,4 +15,3 @@ pub mod RankLemmas
 pub mod AdvanceLemmas
 pub mod CallLemmas
 pub mod LoopLemmas
-pub mod TestLemmas

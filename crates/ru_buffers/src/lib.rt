@@ -6,12 +6,8 @@
 //! `unit_model` over all that ever came: forgetting what can no longer be named changes no answer.
 #![tactic(auto)]
 
-#[cfg(test)]
-mod history_tests;
 mod messages;
 mod reporting;
-#[cfg(test)]
-mod tests;
 mod unit;
 
 pub use unit::Ru;

@@ -9,7 +9,6 @@ use crate::unit::Ru;
 use fh_time::Ticks;
 use ru_jobs::next_job;
 use ru_reports::first_left;
-use unit_laws::offsets_fit;
 use unit_model::UplinkJob;
 
 impl Ru {
@@ -32,7 +31,6 @@ impl Ru {
         if !starts_by(&next.symbol, self.clock) {
             return None;
         }
-        offsets_fit(&next.symbol.endpoint.numerology);
         self.cursor = self.cursor.after(&next);
         Some(next.job)
     }
@@ -42,10 +40,7 @@ impl Ru {
         ensures { (c : Config) (h : History) → StandsFor c self.now h → IsCellMoment c h result }
     {
         match first_left(&self.memory.cells, self.clock) {
-            Some(first) => {
-                offsets_fit(&first.endpoint.numerology);
-                Some(first.start)
-            }
+            Some(first) => Some(first.start),
             None => None,
         }
     }
@@ -55,10 +50,7 @@ impl Ru {
         ensures { (c : Config) (h : History) → StandsFor c self.now h → IsMessageMoment c h result }
     {
         match next_job(&self.memory.cells, &self.cursor) {
-            Some(next) => {
-                offsets_fit(&next.symbol.endpoint.numerology);
-                Some(next.symbol.start)
-            }
+            Some(next) => Some(next.symbol.start),
             None => None,
         }
     }

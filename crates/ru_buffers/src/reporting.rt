@@ -10,7 +10,6 @@ use crate::unit::Ru;
 use air_source::{Air, AirFault};
 use fh_time::Ticks;
 use ru_reports::{first_left, report};
-use unit_laws::offsets_fit;
 use unit_model::SymbolStart;
 
 /// Whether a symbol starts by a time.
@@ -26,7 +25,7 @@ impl Ru {
     ghost use Rattle.ru_buffers.specs.Advancing.{AfterReport, InOrder, ToldAll};
     ghost use Rattle.unit_cells.specs.Cells.{endpoints_of};
     ghost use Rattle.unit_cells.specs.Keeping.{SameKnown};
-    ghost use Rattle.std.specs.Prelude.{IfOk, ◌-ℤ◌, ◌^◌, ◌≤◌, pos, neg_ℤ, [], length};
+    ghost use Rattle.std.specs.Prelude.{IfErr, IfOk, ◌-ℤ◌, ◌^◌, ◌≤◌, pos, neg_ℤ, [], length};
     ghost use Rattle.ru_buffers.specs.Reporting.{due_of};
 
     /// Reports the first symbol of which something is left, where it starts by a time.
@@ -38,7 +37,7 @@ impl Ru {
         ensures told { (c : Config) (h : History) → StandsFor c self.old h
             → IfOk result (AfterReport A.grew c h to.0 self.old self.new air.old air.new) }
         ensures order { IfOk result (InOrder self.old.clock.0 to.0 self.old.memory.cells self.new.memory.cells) }
-        ensures stop { (c : Config) (h : History) → StandsFor c self.old h → OnErr result (StopsAtDue A.grew A.stopped c h to.0 self.new air.old air.new) }
+        ensures stop { (c : Config) (h : History) → StandsFor c self.old h → IfErr result (λ f. StopsAtDue A.grew (A.stopped f) c h to.0 self.new air.old air.new) }
         ensures clock { self.new.clock ≡ self.old.clock }
         ensures cursor { self.new.cursor ≡ self.old.cursor }
         ensures known { SameKnown self.old.memory.cells self.new.memory.cells }
@@ -53,7 +52,6 @@ impl Ru {
         if !starts_by(&first, to) {
             return Ok(None);
         }
-        offsets_fit(&first.endpoint.numerology);
         let told = report(
             &mut self.memory.cells,
             &mut self.memory.counters,
@@ -62,7 +60,7 @@ impl Ru {
         );
         match told {
             Ok(()) => Ok(Some(first)),
-            Err(fault) => Err(fault),
+            Err(stop) => Err(stop),
         }
     }
 
@@ -75,7 +73,7 @@ impl Ru {
         requires few { length (endpoints_of self.old.memory.cells) ≤ 16 }
         requires low { neg_ℤ (pos (2 ^ 57)) ≤ℤ self.old.clock.0 }
         ensures told { (c : Config) (h : History) → StandsFor c self.old h → OnOk result (ToldAll A.grew c h to.0 self.new air.old air.new) }
-        ensures stop { (c : Config) (h : History) → StandsFor c self.old h → OnErr result (StopsAtDue A.grew A.stopped c h to.0 self.new air.old air.new) }
+        ensures stop { (c : Config) (h : History) → StandsFor c self.old h → IfErr result (λ f. StopsAtDue A.grew (A.stopped f) c h to.0 self.new air.old air.new) }
         ensures clock { self.new.clock ≡ self.old.clock }
         ensures cursor { self.new.cursor ≡ self.old.cursor }
         ensures known { SameKnown self.old.memory.cells self.new.memory.cells }
@@ -99,7 +97,7 @@ impl Ru {
     ///
     /// # Errors
     ///
-    /// The air's.
+    /// The air's: the fault with which it stopped.
     pub fn advance<A: Air>(&mut self, to: Ticks, air: &mut A) -> Result<(), AirFault>
         requires unit { StandsForSome self.old }
         requires given { HasGivenPast self.old }
@@ -108,7 +106,7 @@ impl Ru {
         ensures heard { (c : Config) (h : History) → StandsFor c self.old h → OnOk result (A.grew air.old (map Reported (due_of c h to.0)) air.new) }
         ensures stands { (c : Config) (h : History) → StandsFor c self.old h → OnOk result (StandsFor c self.new (at_clock (heard h (due_of c h to.0)) to.0)) }
         ensures clock { OnOk result (self.new.clock ≡ to) }
-        ensures stop { (c : Config) (h : History) → StandsFor c self.old h → OnErr result (StopsAtDue A.grew A.stopped c h to.0 self.new air.old air.new) }
+        ensures stop { (c : Config) (h : History) → StandsFor c self.old h → IfErr result (λ f. StopsAtDue A.grew (A.stopped f) c h to.0 self.new air.old air.new) }
         ensures past { (c : Config) (h : History) → StandsFor c self.old h → given_of c h (to.0 -ℤ pos 1) ≡ [] → OnOk result (HasGivenPast self.new) }
         ensures stays { OnErr result (self.new.clock ≡ self.old.clock) }
         ensures given { OnErr result (HasGivenPast self.new) }

@@ -4,7 +4,7 @@ use Rattle.std.specs.Prelude.{Option, Some}
 use Rattle.std.proofs.lemmas.List.Elements.{All-cons}
 use Rattle.air_source.specs.declared.events.Side.TheVariants.{Ru}
 use Rattle.data_messages.specs.Holding.{HoldsData}
-use Rattle.data_walks.specs.Joined.{joined}
+use Rattle.uplane_messages.specs.Joined.{joined}
 use Rattle.ecpri_fragments.specs.Assemblies.{Took}
 use Rattle.ecpri_fragments.specs.Generations.{Fragment}
 use Rattle.ecpri_fragments.specs.Verdicts.{Message, message, standing_before, verdict_on}

@@ -6,8 +6,6 @@
 
 mod finding;
 mod reporting;
-#[cfg(test)]
-mod tests;
 
 pub use finding::first_left;
 pub use reporting::report;

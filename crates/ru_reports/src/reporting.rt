@@ -1,5 +1,5 @@
 // The report of a symbol.
-ghost use Rattle.std.specs.Prelude.{◌≡◌, ◌<◌, [], ◌∷◌, OnErr, OnOk, map, option_to_list};
+ghost use Rattle.std.specs.Prelude.{◌≡◌, ◌<◌, [], ◌∷◌, IfErr, OnOk, map, option_to_list};
 ghost use Rattle.air_source.specs.Causes.{HasAirCause};
 ghost use Rattle.air_source.specs.declared.events.Event.TheVariants.{Cell as Reported};
 ghost use Rattle.ru_reports.specs.Symbols.{CountsTold, IsSymbol, MarksTold, StopsAtCell, left_at, left_told};
@@ -58,7 +58,7 @@ fn report_cell<A: Air>(
     ensures heard { OnOk result (A.grew air.old (map Reported (left_told cells.old m.now prb)) air.new) }
     ensures marks { OnOk result (MarksTold m.now (left_told cells.old m.now prb) cells.old cells.new) }
     ensures counts { OnOk result (CountsTold (left_told cells.old m.now prb) counters.old counters.new) }
-    ensures stop { OnErr result (StopsInOne A.stopped (left_told cells.old m.now prb) cells.old cells.new counters.old counters.new air.old air.new) }
+    ensures stop { IfErr result (λ f. StopsInOne (A.stopped f) (left_told cells.old m.now prb) cells.old cells.new counters.old counters.new air.old air.new) }
     ensures same { A.same air.old air.new }
     ensures cause { HasAirCause (A.faults air.old) (A.faults air.new) result }
 {
@@ -83,7 +83,7 @@ fn report_cells<A: Air>(
     ensures heard { OnOk result (A.grew air.old (map Reported (left_at cells.old m.now)) air.new) }
     ensures marks { OnOk result (MarksTold m.now (left_at cells.old m.now) cells.old cells.new) }
     ensures counts { OnOk result (CountsTold (left_at cells.old m.now) counters.old counters.new) }
-    ensures stop { OnErr result (StopsAtCell A.grew A.stopped m.now cells.old cells.new counters.old counters.new air.old air.new) }
+    ensures stop { IfErr result (λ f. StopsAtCell A.grew (A.stopped f) m.now cells.old cells.new counters.old counters.new air.old air.new) }
     ensures same { A.same air.old air.new }
     ensures cause { HasAirCause (A.faults air.old) (A.faults air.new) result }
 {
@@ -95,6 +95,10 @@ fn report_cells<A: Air>(
 
 /// Hands an air each cell of a symbol that is in use and was not reported, in the order of PRBs, marks it and counts it. After an
 /// error the cell in which the air stopped, and those after it, are neither marked nor counted.
+///
+/// # Errors
+///
+/// The air's: the fault with which it stopped.
 pub fn report<A: Air>(
     cells: &mut UnitCells,
     counters: &mut Counters,
@@ -105,7 +109,7 @@ pub fn report<A: Air>(
     ensures heard { OnOk result (A.grew air.old (map Reported (left_at cells.old m.now)) air.new) }
     ensures marks { OnOk result (MarksTold m.now (left_at cells.old m.now) cells.old cells.new) }
     ensures counts { OnOk result (CountsTold (left_at cells.old m.now) counters.old counters.new) }
-    ensures stop { OnErr result (StopsAtCell A.grew A.stopped m.now cells.old cells.new counters.old counters.new air.old air.new) }
+    ensures stop { IfErr result (λ f. StopsAtCell A.grew (A.stopped f) m.now cells.old cells.new counters.old counters.new air.old air.new) }
     ensures same { A.same air.old air.new }
     ensures cause { HasAirCause (A.faults air.old) (A.faults air.new) result }
 {

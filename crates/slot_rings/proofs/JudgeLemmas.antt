@@ -2,7 +2,7 @@
 use Rattle.std.proofs.Common.{◌≡◌, ℕ, ◌+◌, ◌-◌, ◌*◌, ◌<◌, ◌≤◌, inl, inr, Bool, true, false, ◌&&◌, ◌==◌, nat_lt, if◌then◌else◌, List, get_or, refl, ap, sym, ◌∙◌, subst, arith, Option, Some}
 use Rattle.std.proofs.lemmas.Bool.{cases_eq, cases_lt, ltb-false, lt-ltb, le-ltb, le-leb, lt-leb, and_from, and_left, and_right}
 use Rattle.std.proofs.lemmas.Nat.{mul-le}
-use Rattle.uplane_sections.specs.Section.{is_outside}
+use Rattle.fh_time.specs.Carrier.{is_outside}
 use Rattle.unit_model.specs.Claims.{first_prb, prb_count, cell_of, every_cell, some_cell, in_mask, is_from, is_claimed, is_overlapped, claim_of}
 use Rattle.unit_model.specs.Lists.{every, some}
 use Rattle.unit_model.specs.declared.allocations.Allocation.{Allocation}

@@ -5,7 +5,7 @@ use Rattle.std.proofs.lemmas.Bool.{eq-eqb, eqb-true, leb-false, and_parts, cases
 use Rattle.std.proofs.lemmas.Bool.Decides.{Decides-int_eq}
 use Rattle.std.proofs.lemmas.List.{length-reverse}
 use Rattle.fh_time.specs.declared.values.Slot.{Slot}
-use Rattle.uplane_sections.specs.Section.{is_outside}
+use Rattle.fh_time.specs.Carrier.{is_outside}
 use Rattle.unit_model.specs.Claims.{same_slot, same_way, first_prb, prb_count, cell_of, in_mask, is_from, names, claim_of}
 use Rattle.unit_model.specs.Commands.{is_uplink}
 use Rattle.unit_model.specs.declared.allocations.Allocation.{Allocation}

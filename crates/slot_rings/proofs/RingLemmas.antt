@@ -5,7 +5,7 @@ use Rattle.std.proofs.lemmas.Bool.{cases_eq, cases_Bool, false_from_ne_true}
 use Rattle.std.proofs.lemmas.List.{get_or_read}
 use Rattle.std.proofs.lemmas.Nat.{mod_below}
 use Rattle.fh_time.specs.declared.kind.Kind.{Kind}
-use Rattle.fh_time.specs.declared.kind.Kind.TheVariants.{Ordinary, Offset}
+use Rattle.fh_time.specs.declared.kind.Kind.TheVariants.{Ordinary, Offset, Extended}
 use Rattle.fh_time.specs.declared.numerology.Numerology.{Numerology}
 use Rattle.fh_time.specs.declared.values.Slot.{Slot}
 use Rattle.fh_time.specs.Kinds.{kind_symbols}
@@ -21,12 +21,13 @@ use Rattle.slot_rings.specs.Verdicts.{verdict_by, claim_after}
 use Rattle.slot_rings.proofs.SeenLemmas.{verdict_seen}
 use Rattle.slot_rings.proofs.PlaceLemmas.{of_is, of_own, slot_is, no_claim}
 
-pub symbols_are : (n : Numerology) → symbols_of n ≡ 14
+pub symbols_are : (n : Numerology) → symbols_of n ≤ 14
 symbols_are n = go n.kind
   where
-    go : (k : Kind) → kind_symbols k ≡ 14
-    go (Ordinary spacing) = refl
-    go (Offset spacing offset cp) = refl
+    go : (k : Kind) → kind_symbols k ≤ 14
+    go (Ordinary spacing) = omega arith
+    go (Offset spacing offset cp) = omega arith
+    go Extended = omega arith
 
 pub index_within : (r : RingValue) (s : Slot) → 0 < length r.places → place_index r s < length r.places
 index_within r s some = go (slot_number r.endpoint.numerology s)

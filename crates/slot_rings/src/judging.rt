@@ -1,6 +1,6 @@
 // Allocations against the claims of their slot.
 ghost use Rattle.std.specs.Prelude.{◌≡◌, ℕ, ◌+◌, ◌*◌, ◌^◌, ◌<◌, ◌≤◌, ◌&&◌, false, get_or, vec_capacity, if◌then◌else◌, Some};
-ghost use Rattle.uplane_sections.specs.Section.{is_outside};
+ghost use Rattle.fh_time.specs.Carrier.{is_outside};
 ghost use Rattle.unit_model.specs.Claims.{first_prb, prb_count, in_mask, is_from, is_claimed, is_overlapped, claim_of};
 ghost use Rattle.unit_model.specs.Commands.{is_uplink};
 ghost use Rattle.unit_model.specs.Lists.{every, some};

@@ -7,7 +7,7 @@ use fh_base::NoMemory;
 use std::alloc::Global;
 use unit_model::Allocation;
 
-/// A slot has 14 symbols.
+/// A slot has at most 14 symbols.
 pub(crate) const SYMBOLS: usize = 14;
 
 /// The flags of so many places, none of them set.

@@ -1,6 +1,6 @@
 // The memory of one slot.
 ghost use Rattle.std.specs.Prelude.{◌≡◌, ◌≢◌, ℕ, ◌+◌, ◌*◌, ◌<◌, ◌≤◌, true, false, length, get_or, reverse, if◌then◌else◌, IfOk, None, Some, option_copied, vec_capacity};
-ghost use Rattle.uplane_sections.specs.Section.{is_outside};
+ghost use Rattle.fh_time.specs.Carrier.{is_outside};
 ghost use Rattle.unit_model.specs.Claims.{same_slot};
 ghost use Rattle.unit_model.specs.Commands.{is_uplink};
 ghost use Rattle.unit_model.specs.Lists.{or_else};

@@ -4,52 +4,19 @@ use Rattle.std.proofs.lemmas.Grind.{flat_map-append}
 use Rattle.std.proofs.lemmas.List.Concat.{flat_map-cons}
 use Rattle.std.specs.Io.KnownBytes.{append_known}
 use Rattle.fh_base.specs.Told.{WritesFront}
-use Rattle.fh_base.proofs.Known.{append_twice}
-use Rattle.fh_base.proofs.Progress.{front_first, front_second, front_whole}
+use Rattle.fh_base.proofs.Progress.{front_first}
+use Rattle.air_source.specs.declared.airs.AirFault.{AirFault}
 use Rattle.air_source.specs.declared.events.Event.{Event}
 use Rattle.air_source.specs.Stops.{StopsIn, GrewSome}
 use Rattle.text_air.specs.Text.{event_text, events_text, end_text, whole_text}
-use Rattle.text_air.specs.Owed.{Carried, Halted}
+use Rattle.owed_bytes.specs.Owed.{Carried}
+use Rattle.owed_bytes.proofs.Carrying.{carried_front, front_behind, all_behind}
+use Rattle.text_air.specs.Owed.{Halted}
 
--- where the sink tells its bytes, what is written and owed moved on by the text
-pub carried_known : (written : Option (List ℕ)) (owed text : List ℕ) (now : Option (List ℕ)) (owed_now : List ℕ)
-    → Carried written owed text now owed_now → append_known now owed_now ≡ append_known written (owed ++ text)
-carried_known written owed text now owed_now h =
-    ap (λ o. append_known o owed_now) h.writes ∙ append_twice written h.pushed owed_now ∙ ap (append_known written) h.splits
-
--- what was written since is a front of what was owed and of the text
-pub carried_front : (written : Option (List ℕ)) (owed text : List ℕ) (now : Option (List ℕ)) (owed_now : List ℕ)
-    → Carried written owed text now owed_now → WritesFront written now (owed ++ text)
-carried_front written owed text now owed_now h =
-    subst (λ (t : List ℕ). WritesFront written now t) h.splits (front_first written now h.pushed owed_now (front_whole written now h.pushed h.writes))
-
--- a front of what is owed, behind what was written, is one of what was owed and the text
-pub front_pushed : (written : Option (List ℕ)) (owed text : List ℕ) (middle : Option (List ℕ)) (owed_now : List ℕ) (now : Option (List ℕ))
-    → Carried written owed text middle owed_now → WritesFront middle now owed_now → WritesFront written now (owed ++ text)
-front_pushed written owed text middle owed_now now h front =
-    subst (λ (t : List ℕ). WritesFront written now t) h.splits (front_second written middle now h.pushed owed_now h.writes front)
-
--- a front of what is owed and more, behind what was written, is one of the text and more
-pub front_behind : (written : Option (List ℕ)) (owed text : List ℕ) (middle : Option (List ℕ)) (owed_now more : List ℕ) (now : Option (List ℕ))
-    → Carried written owed text middle owed_now → WritesFront middle now (owed_now ++ more) → WritesFront written now (owed ++ (text ++ more))
-front_behind written owed text middle owed_now more now h front =
-    subst (λ (t : List ℕ). WritesFront written now t) (behind_splits written owed text middle owed_now more h)
-    (front_second written middle now h.pushed (owed_now ++ more) h.writes front)
-  where
-    behind_splits : (written : Option (List ℕ)) (owed text : List ℕ) (middle : Option (List ℕ)) (owed_now more : List ℕ)
-        (h : Carried written owed text middle owed_now) → h.pushed ++ (owed_now ++ more) ≡ owed ++ (text ++ more)
-    behind_splits written owed text middle owed_now more h =
-        sym (append_assoc h.pushed owed_now more) ∙ ap (λ x. x ++ more) h.splits ∙ append_assoc owed text more
-
--- all of what is owed and more, behind what was written, is the text and more
-pub all_behind : (written : Option (List ℕ)) (owed text : List ℕ) (middle : Option (List ℕ)) (owed_now more : List ℕ) (now : Option (List ℕ))
-    → Carried written owed text middle owed_now → now ≡ append_known middle (owed_now ++ more) → now ≡ append_known written (owed ++ (text ++ more))
-all_behind written owed text middle owed_now more now h whole =
-    whole
-    ∙ sym (append_twice middle owed_now more)
-    ∙ ap (λ o. append_known o more) (carried_known written owed text middle owed_now h)
-    ∙ append_twice written (owed ++ text) more
-    ∙ ap (append_known written) (append_assoc owed text more)
+-- a line that is a text was carried as that text
+pub carried_as : (written : Option (List ℕ)) (owed line text : List ℕ) (now : Option (List ℕ)) (owed_now : List ℕ)
+    → line ≡ text → Carried written owed line now owed_now → Carried written owed text now owed_now
+carried_as written owed line text now owed_now is h = subst (λ (t : List ℕ). Carried written owed t now owed_now) is h
 
 -- the lines of some events about one of them
 pub events_parted : (before : List Event) (event : Event) (after : List Event)
@@ -77,10 +44,10 @@ some_front written owed events old new fresh s =
     (heard_front (written old) (owed old) s.before (written new) (owed new) fresh s.heard))
 
 -- Where a fresh air stopped in one of the events, it wrote a front of their text.
-pub stops_front : {A : Type 0} (written : A → Option (List ℕ)) (faults refusals : A → ℕ) (owed : A → List ℕ) (events : List Event) (old new : A) → owed old ≡ []
-    → StopsIn {A = A} (λ a es b. Carried (written a) (owed a) (events_text es) (written b) (owed b)) (λ a e b. Halted (written a) (faults a) (refusals a) (owed a) (event_text e) (written b) (faults b) (refusals b)) events old new
+pub stops_front : {A : Type 0} (fault : AirFault) (written : A → Option (List ℕ)) (faults refusals : A → ℕ) (owed : A → List ℕ) (events : List Event) (old new : A) → owed old ≡ []
+    → StopsIn {A = A} (λ a es b. Carried (written a) (owed a) (events_text es) (written b) (owed b)) (λ a e b. Halted fault (written a) (faults a) (refusals a) (owed a) (event_text e) (written b) (faults b) (refusals b)) events old new
     → WritesFront (written old) (written new) (events_text events)
-stops_front written faults refusals owed events old new fresh s =
+stops_front fault written faults refusals owed events old new fresh s =
     let front = front_behind (written old) (owed old) (events_text s.before) (written s.middle) (owed s.middle) (event_text s.event) (written new) s.heard s.stop.front in
     let begun = subst (λ (o : List ℕ). WritesFront (written old) (written new) (o ++ (events_text s.before ++ event_text s.event))) fresh front in
     let more = front_first (written old) (written new) (events_text s.before ++ event_text s.event) (events_text s.after) begun in
@@ -88,12 +55,12 @@ stops_front written faults refusals owed events old new fresh s =
     (append_assoc (events_text s.before) (event_text s.event) (events_text s.after) ∙ sym (ap events_text s.is ∙ events_parted s.before s.event s.after)) more
 
 -- Where a fresh air heard some of the events, or stopped in one of them, it wrote a front of their text.
-pub cut_front : {A : Type 0} (written : A → Option (List ℕ)) (faults refusals : A → ℕ) (owed : A → List ℕ) (events : List Event) (old new : A) → owed old ≡ []
+pub cut_front : {A : Type 0} (fault : AirFault) (written : A → Option (List ℕ)) (faults refusals : A → ℕ) (owed : A → List ℕ) (events : List Event) (old new : A) → owed old ≡ []
     → GrewSome {A = A} (λ a es b. Carried (written a) (owed a) (events_text es) (written b) (owed b)) events old new
-    ⊎ StopsIn {A = A} (λ a es b. Carried (written a) (owed a) (events_text es) (written b) (owed b)) (λ a e b. Halted (written a) (faults a) (refusals a) (owed a) (event_text e) (written b) (faults b) (refusals b)) events old new
+    ⊎ StopsIn {A = A} (λ a es b. Carried (written a) (owed a) (events_text es) (written b) (owed b)) (λ a e b. Halted fault (written a) (faults a) (refusals a) (owed a) (event_text e) (written b) (faults b) (refusals b)) events old new
     → WritesFront (written old) (written new) (events_text events)
-cut_front written faults refusals owed events old new fresh (inl s) = some_front written owed events old new fresh s
-cut_front written faults refusals owed events old new fresh (inr s) = stops_front written faults refusals owed events old new fresh s
+cut_front fault written faults refusals owed events old new fresh (inl s) = some_front written owed events old new fresh s
+cut_front fault written faults refusals owed events old new fresh (inr s) = stops_front fault written faults refusals owed events old new fresh s
 
 -- Where a fresh air heard the events and then wrote a front of what it owed and of the last line, it wrote a front of the whole text.
 pub finish_front : (written : Option (List ℕ)) (owed : List ℕ) (events : List Event) (middle : Option (List ℕ)) (owed_now : List ℕ) (now : Option (List ℕ))

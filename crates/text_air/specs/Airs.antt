@@ -14,4 +14,8 @@ module _ {K : Type 0} where
 
   -- the bytes that are owed to the sink
   abbrev pub owed_of : TextAir K → List ℕ
-  owed_of a = a.owed.items
+  owed_of a = a.owed
+
+  -- the line that is told next
+  abbrev pub line_of : TextAir K → List ℕ
+  line_of a = a.line

@@ -1,16 +1,23 @@
--- Text on its way to a sink (this project's profile): some of it was written, and the rest is owed.
-use Rattle.std.specs.Prelude.{◌≡◌, ◌⊎◌, ℕ, List, ◌++◌, Option}
-use Rattle.std.specs.Io.KnownBytes.{append_known}
+-- Why and how far an air over a sink stopped in an event (this project's profile).
+use Rattle.std.specs.Prelude.{ℕ, List, ◌++◌, Option}
 use Rattle.fh_base.specs.Causes.{Rose}
 use Rattle.fh_base.specs.Told.{WritesFront}
+use Rattle.fh_base.specs.declared.fault.SinkFault.{SinkFault}
+use Rattle.fh_base.specs.declared.fault.SinkFault.TheVariants.{Failed as SinkFailed, NoMemory as SinkNoMemory}
+use Rattle.air_source.specs.declared.airs.AirFault.{AirFault}
+use Rattle.air_source.specs.declared.airs.AirFault.TheVariants.{Failed, NoMemory}
 
--- What was owed and the text behind it went on: a front of them was pushed out to the sink, and the rest is owed. `written` and `now` are the bytes of the sink before and after, where it tells them.
-pub record Carried (written : Option (List ℕ)) (owed text : List ℕ) (now : Option (List ℕ)) (owed_now : List ℕ) : Type 0 where
-  pub pushed : List ℕ
-  pub writes : now ≡ append_known written pushed
-  pub splits : pushed ++ owed_now ≡ owed ++ text
+-- a sink's fault, as an air tells it
+abbrev pub air_fault : SinkFault → AirFault
+air_fault SinkFailed = Failed
+air_fault SinkNoMemory = NoMemory
 
--- The line of an event did not go on: a front of what was owed and of the line was written, and the sink failed or was refused memory, so one of its two counts rose.
-pub record Halted (written : Option (List ℕ)) (faults refusals : ℕ) (owed line : List ℕ) (now : Option (List ℕ)) (faults_now refusals_now : ℕ) : Type 0 where
+-- the count that the fault speaks of rose
+abbrev pub Why : AirFault → ℕ → ℕ → ℕ → ℕ → Type 0
+Why Failed faults faults_now refusals refusals_now = Rose faults faults_now
+Why NoMemory faults faults_now refusals refusals_now = Rose refusals refusals_now
+
+-- The line of an event did not go on: a front of what was owed and of the line was written, and the sink failed or was refused memory, as the fault says.
+pub record Halted (fault : AirFault) (written : Option (List ℕ)) (faults refusals : ℕ) (owed line : List ℕ) (now : Option (List ℕ)) (faults_now refusals_now : ℕ) : Type 0 where
   pub front : WritesFront written now (owed ++ line)
-  pub why : Rose faults faults_now ⊎ Rose refusals refusals_now
+  pub why : Why fault faults faults_now refusals refusals_now

@@ -1,5 +1,5 @@
 // A report of cells, which shows how a caller makes, tells and finishes the air.
-ghost use Rattle.std.specs.Prelude.{◌≡◌, OnOk, OnErr, map};
+ghost use Rattle.std.specs.Prelude.{◌≡◌, OnOk, IfErr, map};
 ghost use Rattle.std.specs.Io.KnownBytes.{append_known};
 ghost use Rattle.fh_base.specs.Told.{WritesFront};
 ghost use Rattle.air_source.specs.Causes.{HasAirCause};
@@ -14,7 +14,7 @@ use fh_base::Sink;
 /// Tells the air each cell, in order.
 pub fn tell_cells<A: Air>(cells: &[AirCell], air: &mut A) -> Result<(), AirFault>
     ensures heard { OnOk result (A.grew air.old (map Cell cells.now) air.new) }
-    ensures stop { OnErr result (StopsIn A.grew A.stopped (map Cell cells.now) air.old air.new) }
+    ensures stop { IfErr result (λ f. StopsIn A.grew (A.stopped f) (map Cell cells.now) air.old air.new) }
     ensures same { A.same air.old air.new }
     ensures cause { HasAirCause (A.faults air.old) (A.faults air.new) result }
 {

@@ -7,7 +7,7 @@ use Rattle.std.proofs.lemmas.List.Elements.{All-cons, All-head, All-tail}
 use Rattle.fh_time.specs.declared.values.Slot.{Slot}
 use Rattle.air_source.specs.declared.events.Side.TheVariants.{Ru}
 use Rattle.bfp_codec.specs.declared.samples.Wide.{Wide}
-use Rattle.uplane_sections.specs.Section.{count_of, first_of, is_outside}
+use Rattle.fh_time.specs.Carrier.{count_of, first_of, is_outside}
 use Rattle.window_config.specs.Limits.{IsWithinLimits}
 use Rattle.window_config.specs.Rings.{ru_reach_of}
 use Rattle.window_config.specs.declared.config.Config.{Config}

@@ -13,7 +13,7 @@ use Rattle.unit_model.specs.declared.decoded.Data.{Data}
 use Rattle.slot_rings.specs.Places.{PlaceValue, is_of, place_block, place_claim, place_done, place_uplink}
 use Rattle.slot_rings.specs.Rings.{IsRingCell, RingValue, has_slot, place_index, place_of, ring_block, ring_claim, ring_done, ring_uplink}
 use Rattle.slot_rings.proofs.PlaceLemmas.{slot_is, slot_own}
-use Rattle.unit_cells.specs.Cells.{CellsValue, IsCellIn, block_from, cells_block, cells_claim, cells_done, cells_has, cells_uplink, claim_from, done_from, has_from, ring_of, uplink_from}
+use Rattle.unit_cells.specs.Cells.{CellsValue, IsCellIn, block_from, cells_done, cells_has, claim_from, done_from, has_from, ring_of, uplink_from}
 use Rattle.unit_cells.specs.Keeping.{Keeps, SameKnown}
 use Rattle.unit_cells.specs.Steps.{InRing, Marks}
 use Rattle.unit_cells.proofs.KeepLemmas.{cell_of_ring, parted, ring_endpoint}

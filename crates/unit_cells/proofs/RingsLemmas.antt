@@ -3,11 +3,12 @@ use Rattle.std.proofs.Common.{◌≡◌, ℕ, ℤ, pos, ◌+◌, ◌<◌, ◌+�
 use mir.Syntax.{w64}
 use Rattle.std.proofs.lemmas.Int.{ints}
 use Rattle.std.specs.Prelude.{All, slice_get}
+use Rattle.std.specs.Option.{option_map}
 use Rattle.std.proofs.Math.Seq.{map-set_same}
 use Rattle.std.proofs.lemmas.Bool.{cases_eq}
 use Rattle.std.proofs.lemmas.List.{length-map, map-append, take_more}
 use Rattle.std.proofs.lemmas.List.Elements.{All-nil}
-use Rattle.std.proofs.lemmas.Option.{get_or_from_slice_get, slice_get_read, slice_get_within}
+use Rattle.std.proofs.lemmas.Option.{get_or_from_slice_get, slice_get-map, slice_get_read, slice_get_within}
 use Rattle.fh_time.specs.Numbering.{IsSlotOf, slot_number}
 use Rattle.fh_time.specs.declared.values.Slot.{Slot}
 use Rattle.window_config.specs.Limits.{IsBound, IsWithinLimits}
@@ -16,12 +17,12 @@ use Rattle.window_config.specs.declared.config.Config.{Config}
 use Rattle.window_config.specs.declared.delays.Delays.{Delays}
 use Rattle.window_config.specs.declared.endpoints.EndpointConfig.{EndpointConfig}
 use Rattle.unit_model.specs.Claims.{claim_at}
-use Rattle.unit_model.specs.Proper.{IsAt}
+use Rattle.unit_model.specs.Proper.{IsAt, IsSlot}
 use Rattle.unit_model.specs.declared.cells.Cell.{Cell}
 use Rattle.unit_laws.specs.Far.{IsReached, IsReachedData}
 use Rattle.unit_laws.specs.Ticks.{IsLiveSlot}
 use Rattle.slot_rings.specs.Rings.{IsEmpty, RingValue, TouchesOnly}
-use Rattle.unit_cells.specs.Cells.{AreRings, CellsValue, HoldsLive, block_from, cells_block, cells_claim, cells_done, cells_has, cells_uplink, claim_from, done_from, endpoint_in, endpoints_of, has_from, ring_of, uplink_from}
+use Rattle.unit_cells.specs.Cells.{AreRings, CellsValue, HoldsLive, IsSlotIn, block_from, cells_block, cells_claim, cells_done, cells_has, cells_uplink, claim_from, done_from, endpoint_in, endpoints_of, has_from, ring_of, uplink_from}
 use Rattle.unit_cells.specs.Keeping.{Keeps}
 use Rattle.unit_cells.specs.Told.{told_block_at}
 use Rattle.unit_cells.specs.Steps.{InRing}
@@ -38,6 +39,22 @@ pub read_is : (d : Delays) (rs : List RingValue) (v : CellsValue) (ep : ℕ) (e 
 read_is d rs v ep e before view at read =
     let within : ep < length rs = subst (λ (x : CellsValue). ep < length x.rings) (sym view) (at_within v ep e at) in
     slice_get_read rs (length rs) ep before refl within read
+
+-- the ring that was read, where there is one
+pub ring_there : (d : Delays) (rs : List RingValue) (v : CellsValue) (ep : ℕ) (read : RingValue) → rings_with d rs ≡ v → ep < length (endpoints_of v)
+    → read ≡ get_or rs ep read → ring_of v ep ≡ Some read
+ring_there d rs v ep read view below is =
+    let rings : rs ≡ v.rings = ap (λ (x : CellsValue). x.rings) view in
+    let within : ep < length v.rings = subst (λ (n : ℕ). ep < n) (length-map v.rings endpoint_in) below in
+    slice_get_read v.rings (length v.rings) ep read refl within (subst (λ (xs : List RingValue). read ≡ get_or xs ep read) rings is)
+
+-- what is known of a slot that its ring gives
+pub slot_there : (v : CellsValue) (ep : ℕ) (r : RingValue) (slot : Slot) → ring_of v ep ≡ Some r → IsSlot r.endpoint.numerology slot → IsSlotIn v ep slot
+slot_there v ep r slot there is = record {
+  endpoint = r.endpoint;
+  at = slice_get-map endpoint_in v.rings ep ∙ ap (option_map endpoint_in) there;
+  slot_is = is;
+}
 
 pub in_ring : (step : RingValue → RingValue → Type 0) (d : Delays) (rs : List RingValue) (v : CellsValue) (ep : ℕ) (e : EndpointConfig) (before after : RingValue)
     → rings_with d rs ≡ v → IsAt (endpoints_of v) ep e → before ≡ get_or rs ep before → step before after → InRing ep step v (rings_with d (set rs ep after))

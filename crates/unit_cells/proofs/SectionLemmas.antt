@@ -1,6 +1,6 @@
 -- The PRBs of a section.
 use Rattle.std.proofs.Common.{◌≡◌, ℕ, ◌+◌, ◌<◌, false, refl}
-use Rattle.uplane_sections.specs.Section.{count_of, first_of, is_outside}
+use Rattle.fh_time.specs.Carrier.{count_of, first_of, is_outside}
 use Rattle.unit_cells.proofs.FillLemmas.{from_is, within_carrier}
 
 pub prb_within : (prbs start num k : ℕ) → is_outside prbs start num ≡ false → k < count_of prbs num → first_of start num + k < prbs

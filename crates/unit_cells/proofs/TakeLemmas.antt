@@ -5,7 +5,7 @@ use Rattle.std.proofs.lemmas.Bool.{and_parts, cases_Bool, eq-eqb, eqb-true, fals
 use Rattle.std.proofs.lemmas.List.Elements.{All-cons}
 use Rattle.fh_time.specs.Numbering.{symbols_of}
 use Rattle.fh_time.specs.declared.values.Slot.{Slot}
-use Rattle.uplane_sections.specs.Section.{is_outside}
+use Rattle.fh_time.specs.Carrier.{is_outside}
 use Rattle.window_config.specs.Rings.{ru_reach_of}
 use Rattle.window_config.specs.declared.config.Config.{Config}
 use Rattle.window_config.specs.declared.endpoints.EndpointConfig.{EndpointConfig}

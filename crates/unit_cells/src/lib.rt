@@ -23,6 +23,3 @@ mod sections;
 pub use cells::UnitCells;
 pub use heading::DataHeading;
 pub use laws::{far_slots_have_no_place, keeps_later, told_whole};
-
-#[cfg(test)]
-mod tests;

@@ -7,7 +7,7 @@ use Rattle.fh_time.specs.Air.{air_of}
 use Rattle.fh_time.specs.Kinds.{kind_least_slot, kind_offsets, kind_slots, kind_span, kind_start}
 use Rattle.fh_time.specs.Numbering.{IsSlotOf, slots_of, symbols_of}
 use Rattle.fh_time.specs.declared.kind.Kind.{Kind}
-use Rattle.fh_time.specs.declared.kind.Kind.TheVariants.{Ordinary, Offset}
+use Rattle.fh_time.specs.declared.kind.Kind.TheVariants.{Ordinary, Offset, Extended}
 use Rattle.fh_time.specs.declared.numerology.Numerology.{Numerology}
 use Rattle.fh_time.specs.declared.spacing.Spacing.{Spacing}
 use Rattle.fh_time.specs.declared.spacing.Spacing.TheVariants.{Khz15, Khz30, Khz60, Khz120, Khz240, Khz1x25, Khz5}
@@ -44,6 +44,7 @@ offset_short Khz5 t c h k = omega arith
 kind_short : (kind : Kind) → IfSome (kind_offsets kind) (λ p. (p.0 < 2 ^ 16) × (p.1 < 2 ^ 16)) → kind_start kind 0 0 + kind_span kind ≤ 76000000000
 kind_short (Ordinary spacing) h = ordinary_short spacing
 kind_short (Offset spacing time_offset cp_length) h = offset_short spacing time_offset cp_length h.0 h.1
+kind_short Extended h = omega arith
 
 six_frames : (subframe start slot first span left : ℕ) → subframe < 10 → start ≤ slot + span → slot + left ≤ 1536000000 + first → first + span ≤ 76000000000
     → subframe * 1536000000 + start < 92160000000

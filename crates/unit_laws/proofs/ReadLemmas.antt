@@ -9,7 +9,7 @@ use Rattle.cplane_sections.specs.declared.values.CSection.{CSection}
 use Rattle.cplane_sections.specs.Header.{kind_of}
 use Rattle.cplane_sections.specs.Message.{Admits, AreAdmitted, MessageFits, SectionFits, sections_in}
 use Rattle.uplane_sections.specs.Messages.{told}
-use Rattle.uplane_sections.specs.Section.{is_outside}
+use Rattle.fh_time.specs.Carrier.{is_outside}
 use Rattle.uplane_sections.specs.declared.values.UHead.{UHead}
 use Rattle.uplane_sections.specs.declared.values.URefusal.{URefusal}
 use Rattle.window_config.specs.declared.endpoints.EndpointConfig.{EndpointConfig}

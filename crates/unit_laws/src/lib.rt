@@ -13,7 +13,7 @@ ghost use Rattle.unit_laws.specs.Live.{AcceptedIsLive, TimelyIsLive};
 ghost use Rattle.air_source.specs.declared.events.AirCell.{AirCell};
 ghost use Rattle.unit_laws.specs.Histories.{CommandsAreHeard, DataAreHeard, CommandsAreProper, DataAreProper, NoClaimsAhead, NoBlocksAhead, NoUplinkAhead, NoReportsAhead, NoJobsAhead};
 ghost use Rattle.unit_laws.specs.Lookups.{CoveredAreCells, DataCoverCells, RepeatsByLookup, OverlapsByLookup, HasAllByLookup, UplinkIsCounted, JobsAreOfTheirSlot, ReportedByMark};
-ghost use Rattle.unit_laws.specs.Runs.{EndpointInARow, NextIsNext, OffsetsFit, SymbolsAreSwept};
+ghost use Rattle.unit_laws.specs.Runs.{EndpointInARow, NextIsNext, SymbolsAreSwept};
 ghost use Rattle.unit_laws.specs.Sent.{JobsBegin, JobsAppend, LaterSendsNothing, CommandLeavesSent};
 ghost use Rattle.unit_laws.specs.Ticks.{CellsOfLive, DueAfterClock, GivenInOrder, JobsOfLive, LiveLater, QuietOfCells, QuietOfJobs, StartsLater};
 ghost use Rattle.unit_laws.specs.Told.{CommandLeavesReported, DataLeaveReported, CommandLeavesDue, DataLeaveDue};
@@ -22,8 +22,6 @@ ghost use Rattle.unit_laws.specs.Totals.{CommandsAddUp, DataAddUp};
 ghost use Rattle.unit_laws.specs.Swept.{SweepsAppend, SweepsAreSame, SweepsOfNothing, TicksOfNothing};
 ghost use Rattle.unit_model.specs.declared.jobs.UplinkJob.{UplinkJob};
 ghost use Rattle.unit_laws.specs.Past.{CommandsAreInOrder, CommandLeavesPast, DataLeavePast, ReportIsOfItsCells, CommandLeavesReports, DataLeaveReports, CommandLeavesJobs};
-
-use fh_time::{Numerology, offsets};
 
 /// A command that is accepted passed every test.
 pub fn acceptance()
@@ -246,10 +244,3 @@ pub fn only_live_slots_change()
 pub fn uplink_grows()
     ensures { UplinkGrows }
 {}
-
-/// The timeOffset and cpLength of an offset endpoint have 16 bits, as `endpoint_in_a_row` and `symbols_are_swept` want it.
-pub fn offsets_fit(n: &Numerology)
-    ensures { OffsetsFit n.now }
-{
-    let _ = offsets(n);
-}

@@ -7,7 +7,7 @@ use Rattle.std.specs.List.{slice_get}
 use Rattle.std.proofs.lemmas.Bool.Decides.{Decides-int_eq}
 use Rattle.std.proofs.lemmas.Int.{ints}
 use Rattle.fh_time.specs.declared.kind.Kind.{Kind}
-use Rattle.fh_time.specs.declared.kind.Kind.TheVariants.{Ordinary, Offset}
+use Rattle.fh_time.specs.declared.kind.Kind.TheVariants.{Ordinary, Offset, Extended}
 use Rattle.fh_time.specs.declared.numerology.Numerology.{Numerology}
 use Rattle.fh_time.specs.declared.spacing.Spacing.TheVariants.{Khz15, Khz30, Khz60, Khz120, Khz240, Khz1x25, Khz5}
 use Rattle.fh_time.specs.declared.values.Slot.{Slot}
@@ -29,6 +29,7 @@ use Rattle.unit_model.proofs.SweepLaws.{each_split, ticks_split, gap_is, gap_par
 abbrev pub IsShort : Kind → Type 0
 IsShort (Ordinary spacing) = Unit {0}
 IsShort (Offset spacing time_offset cp_length) = (time_offset < 2 ^ 16) × (cp_length < 2 ^ 16)
+IsShort Extended = Unit {0}
 
 pub kind_soon : (kind : Kind) (s m : ℕ) → IsShort kind → s < kind_slots kind → m < kind_symbols kind → kind_start kind s m < 62976000000
 kind_soon (Ordinary Khz15) s m short h k = omega (arith, kind_covers (Ordinary Khz15) s m k, kind_left (Ordinary Khz15) s h)
@@ -45,6 +46,7 @@ kind_soon (Offset Khz120 t c) s m short h k = omega (arith, kind_covers (Offset 
 kind_soon (Offset Khz240 t c) s m short h k = omega (arith, kind_covers (Offset Khz240 t c) s m k, kind_left (Offset Khz240 t c) s h, short.0, short.1)
 kind_soon (Offset Khz1x25 t c) s m short h k = omega (arith, kind_covers (Offset Khz1x25 t c) s m k, kind_left (Offset Khz1x25 t c) s h, short.0, short.1)
 kind_soon (Offset Khz5 t c) s m short h k = omega (arith, kind_covers (Offset Khz5 t c) s m k, kind_left (Offset Khz5 t c) s h, short.0, short.1)
+kind_soon Extended s m short h k = omega (arith, kind_covers Extended s m k, kind_left Extended s h)
 
 in_air : (f : ℤ) (b x : ℕ) → b < 10 → x < 62976000000
     → ((f *ℤ pos 15360000000) ≤ℤ (f *ℤ pos 15360000000 +ℤ pos (b * 1536000000 + x)))

@@ -15,7 +15,8 @@ use Rattle.uplane_sections.specs.declared.values.USection.{USection}
 use Rattle.uplane_sections.specs.declared.values.UWhy.{UWhy}
 use Rattle.uplane_sections.specs.declared.values.UWhy.TheVariants.{Truncated, Version, SlotRange, SymbolRange, EveryOtherRb, PrbRange, Method as UnknownMethod}
 use Rattle.uplane_sections.specs.Header.{symbolId, subframeId, slotId, payloadVersion, head_of}
-use Rattle.uplane_sections.specs.Section.{rb, is_method, startPrbu, numPrbu, symInc, header_size, method_of, section_of, is_outside, first_of, count_of, size_of}
+use Rattle.fh_time.specs.Carrier.{is_outside, first_of, count_of}
+use Rattle.uplane_sections.specs.Section.{rb, is_method, startPrbu, numPrbu, symInc, header_size, method_of, section_of, size_of}
 use Rattle.uplane_sections.specs.Messages.{Item, Head, Section, Telling, refused, after, blocks, section_at, sections, told}
 use Rattle.window_config.specs.declared.endpoints.EndpointConfig.{EndpointConfig}
 use Rattle.unit_model.specs.Decoding.{Part, Gathering, nothing_told, begun, longer, gathered, has_way, data_with, decoded_from, decode, Sections, Backwards, sections_of}

@@ -7,7 +7,7 @@ use Rattle.fh_time.specs.Air.{air_of}
 use Rattle.fh_time.specs.Frame.{absolute_frame}
 use Rattle.air_source.specs.declared.events.Side.{Side}
 use Rattle.air_source.specs.declared.events.Side.TheVariants.{Ru, Du}
-use Rattle.uplane_sections.specs.Section.{first_of, count_of}
+use Rattle.fh_time.specs.Carrier.{first_of, count_of}
 use Rattle.window_config.specs.declared.delays.Delays.{Delays}
 use Rattle.window_config.specs.declared.verdicts.Class.{Class}
 use Rattle.window_config.specs.declared.verdicts.Class.TheVariants as class

@@ -9,7 +9,7 @@ use Rattle.fh_time.specs.Numbering.{code_of, offsets_of}
 use Rattle.cplane_sections.specs.declared.values.CBody.{CBody}
 use Rattle.cplane_sections.specs.declared.values.CBody.TheVariants.{Idle, Normal, Offset}
 use Rattle.cplane_sections.specs.Header.{kind_of}
-use Rattle.uplane_sections.specs.Section.{is_outside}
+use Rattle.fh_time.specs.Carrier.{is_outside}
 use Rattle.window_config.specs.declared.delays.Delays.{Delays}
 use Rattle.window_config.specs.declared.verdicts.Class.{Class}
 use Rattle.window_config.specs.declared.verdicts.Class.TheVariants as class
@@ -46,19 +46,19 @@ allocation_of c = record {
 
 -- ---- the tests
 
-abbrev pub is_ordinary : Option (ℕ × ℕ) → Bool
-is_ordinary None = true
-is_ordinary (Some p) = false
+abbrev pub has_no_offsets : Option (ℕ × ℕ) → Bool
+has_no_offsets None = true
+has_no_offsets (Some p) = false
 
 abbrev pub has_offsets : ℕ → ℕ → Option (ℕ × ℕ) → Bool
 has_offsets time_offset cp_length None = false
 has_offsets time_offset cp_length (Some (t, c)) = (time_offset == t) && (cp_length == c)
 
--- the header is one for the endpoint: type 0 for any, type 1 for an ordinary one, type 3 for an offset one with these numbers;
+-- the header is one for the endpoint: type 0 for any, type 1 for one without offsets, type 3 for an offset one with these numbers;
 -- the low four bits of frameStructure are the spacing code
 abbrev pub is_for : CBody → Numerology → Bool
 is_for (Idle t structure cp) n = true
-is_for (Normal comp) n = is_ordinary (offsets_of n)
+is_for (Normal comp) n = has_no_offsets (offsets_of n)
 is_for (Offset t structure cp comp) n = has_offsets t cp (offsets_of n) && (structure % 16 == code_of n)
 
 abbrev pub command_start : Command → ℤ

@@ -1,11 +1,11 @@
 // The verdicts on sections of commands.
 ghost use Rattle.std.specs.Prelude.{◌≡◌, ◌+◌, ◌≤◌, ◌==◌, ◌&&◌, List};
 ghost use Rattle.fh_time.specs.Numbering.{symbols_of};
-ghost use Rattle.uplane_sections.specs.Section.{is_outside};
+ghost use Rattle.fh_time.specs.Carrier.{is_outside};
 ghost use Rattle.window_config.specs.Limits.{IsWithinLimits};
 ghost use Rattle.window_config.specs.declared.endpoints.EndpointConfig.{EndpointConfig};
 ghost use Rattle.unit_model.specs.Claims.{same_slot};
-ghost use Rattle.unit_model.specs.Commands.{is_ordinary, has_offsets, is_for, command_class, is_uplink, uplink_in, is_full, timely_verdict, command_verdict, allocation_of};
+ghost use Rattle.unit_model.specs.Commands.{has_no_offsets, has_offsets, is_for, command_class, is_uplink, uplink_in, is_full, timely_verdict, command_verdict, allocation_of};
 ghost use Rattle.unit_model.specs.Proper.{IsProperCommand, IsProperAllocation};
 ghost use Rattle.unit_model.specs.Sound.{IsSoundCommand};
 
@@ -21,9 +21,9 @@ use window_config::{Class, Delays, class, command_window};
 /// How many uplink sections a slot of an endpoint takes.
 const MOST_UPLINK: usize = 64;
 
-/// Whether an endpoint with these offsets is an ordinary one.
-fn is_ordinary(offsets: Option<(u16, u16)>) -> bool
-    ensures { result ≡ is_ordinary offsets }
+/// Whether an endpoint has no offsets: it is an ordinary or an extended one.
+fn has_no_offsets(offsets: Option<(u16, u16)>) -> bool
+    ensures { result ≡ has_no_offsets offsets }
 {
     match offsets {
         None => true,
@@ -41,14 +41,14 @@ fn has_offsets(time_offset: u16, cp_length: u16, offsets: Option<(u16, u16)>) ->
     }
 }
 
-/// Whether a C-plane header is one for an endpoint of this numerology: section type 0 for any, type 1 for an ordinary one, type 3
-/// for an offset one with its timeOffset, cpLength and spacing (this project's profile).
+/// Whether a C-plane header is one for an endpoint of this numerology: section type 0 for any, type 1 for an ordinary or an
+/// extended one, type 3 for an offset one with its timeOffset, cpLength and spacing (this project's profile).
 pub fn is_for(body: &CBody, n: &Numerology) -> bool
     ensures { result ≡ is_for body.now n.now }
 {
     match *body {
         CBody::Idle { .. } => true,
-        CBody::Normal { .. } => is_ordinary(offsets(n)),
+        CBody::Normal { .. } => has_no_offsets(offsets(n)),
         CBody::Offset {
             time_offset,
             structure,

@@ -3,7 +3,6 @@ ghost use Rattle.std.specs.Prelude.{◌≡◌, [], ◌∷◌, All, IfOk, IfSome}
 ghost use Rattle.bfp_codec.specs.Layout.{HasWidth};
 ghost use Rattle.window_config.specs.Configs.{IsConfig};
 ghost use Rattle.window_config.specs.Endpoints.{IsEndpoint};
-ghost use Rattle.window_config.specs.Limits.{IsWithinLimits};
 ghost use Rattle.unit_model.specs.Proper.{IsProperAllocation, IsTime};
 ghost use Rattle.unit_model.specs.declared.report.TimedFrame.{TimedFrame as SpecFrame};
 
@@ -16,7 +15,7 @@ use fh_base::{Bytes, NoMemory};
 use fh_time::{Numerology, Slot, Ticks, of_ns, shape};
 use std::alloc::Global;
 use std::test::Fail;
-use window_config::{Config, Delays, EndpointConfig, EndpointList, Range};
+use window_config::{Config, Delays, EndpointConfig, EndpointList};
 
 /// A downlink command: symbol 0 of frame 1, section 1, all elements of PRB 0.
 const COMMAND: [u8; 24] = [
@@ -60,48 +59,6 @@ const SLOT: Slot = Slot {
     slot: 0,
 };
 
-fn delays() -> Delays
-    ensures { IsWithinLimits result }
-{
-    Delays {
-        t1a_up: Range {
-            min: 234_000,
-            max: 345_000,
-        },
-        t1a_cp_ul: Range {
-            min: 225_000,
-            max: 470_000,
-        },
-        t2a_up: Range {
-            min: 134_000,
-            max: 345_000,
-        },
-        t2a_cp_ul: Range {
-            min: 125_000,
-            max: 470_000,
-        },
-        ta3: Range {
-            min: 50_000,
-            max: 171_000,
-        },
-        ta4: Range {
-            min: 50_000,
-            max: 271_000,
-        },
-        t12: Range {
-            min: 0,
-            max: 100_000,
-        },
-        t34: Range {
-            min: 0,
-            max: 100_000,
-        },
-        advance: 125_000,
-        hold_dl: 211_000,
-        hold_ul: 221_000,
-    }
-}
-
 fn endpoint(numerology: Numerology) -> EndpointConfig
     ensures { IsEndpoint result }
 {
@@ -129,9 +86,10 @@ fn config(numerology: Numerology, widths: Widths) -> Config
 {
     Config {
         widths,
-        delays: delays(),
+        delays: Delays::usual(),
         gap: 1_000,
         fragment: 1_492,
+        pack: 1,
         endpoints: listed(endpoint(numerology)),
     }
 }

@@ -13,7 +13,8 @@ use Rattle.uplane_sections.specs.declared.values.UHead.{UHead}
 use Rattle.uplane_sections.specs.declared.values.USection.{USection}
 use Rattle.uplane_sections.specs.declared.values.UWhy.TheVariants.{Method as UnknownMethod}
 use Rattle.uplane_sections.specs.Header.{head_of}
-use Rattle.uplane_sections.specs.Section.{startPrbu, numPrbu, section_with, section_of, method_of, header_size, first_of, count_of, is_outside, method_in}
+use Rattle.fh_time.specs.Carrier.{first_of, count_of, is_outside}
+use Rattle.uplane_sections.specs.Section.{startPrbu, numPrbu, section_with, section_of, method_of, header_size, method_in}
 use Rattle.uplane_sections.specs.Messages.{Head, Section, Telling, fault, after, blocks, sections, told}
 use Rattle.uplane_sections.specs.Phases.{checked, head_checked, symbol_checked, with_method, in_blocks, in_section, behind_first}
 use Rattle.uplane_sections.specs.Writes.{flag, WritesHead, WritesSection, WritesCompression, IsHeadAdmitted, IsAdmitted, carried, SaysSoFar, AddsSection}

@@ -12,7 +12,8 @@ use Rattle.uplane_sections.specs.declared.values.USection.{USection}
 use Rattle.uplane_sections.specs.declared.values.UWhy.{UWhy}
 use Rattle.uplane_sections.specs.declared.values.UWhy.TheVariants.{Truncated, Version, SlotRange, SymbolRange, EveryOtherRb, PrbRange, Method as UnknownMethod}
 use Rattle.uplane_sections.specs.Header.{head_of}
-use Rattle.uplane_sections.specs.Section.{symInc, startPrbu, numPrbu, is_method, method_in, section_with, first_of, count_of, size_of}
+use Rattle.fh_time.specs.Carrier.{first_of, count_of}
+use Rattle.uplane_sections.specs.Section.{symInc, startPrbu, numPrbu, is_method, method_in, section_with, size_of}
 use Rattle.uplane_sections.specs.Messages.{Head, Section, Telling, fault, after, blocks, section_at, sections, message_from}
 use Rattle.uplane_sections.specs.Phases.{checked, head_checked, symbol_checked, with_method, in_section, behind_first}
 use Rattle.uplane_sections.proofs.Behind.{lt_tells, field_front, behind, sections_start}

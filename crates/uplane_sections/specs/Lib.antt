@@ -4,3 +4,4 @@ pub mod Messages
 pub mod Phases
 pub mod States
 pub mod Writes
+pub mod Names

@@ -12,7 +12,8 @@ use Rattle.uplane_sections.specs.declared.values.URefusal.{URefusal}
 use Rattle.uplane_sections.specs.declared.values.UWhy.{UWhy}
 use Rattle.uplane_sections.specs.declared.values.UWhy.TheVariants.{Truncated, Version, SlotRange, SymbolRange, EveryOtherRb, PrbRange, Method as UnknownMethod}
 use Rattle.uplane_sections.specs.Header.{payloadVersion, subframeId, slotId, symbolId, head_of}
-use Rattle.uplane_sections.specs.Section.{rb, symInc, startPrbu, numPrbu, is_method, method_of, header_size, section_of, is_outside, first_of, count_of, size_of}
+use Rattle.fh_time.specs.Carrier.{is_outside, first_of, count_of}
+use Rattle.uplane_sections.specs.Section.{rb, symInc, startPrbu, numPrbu, is_method, method_of, header_size, section_of, size_of}
 
 -- what is told of a message: its header, the header of a section, a PRB with its number and its samples
 pub data Item : Type 0 where

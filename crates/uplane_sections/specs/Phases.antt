@@ -14,7 +14,8 @@ use Rattle.uplane_sections.specs.declared.values.UWhy.TheVariants.{Truncated, Ve
 use Rattle.uplane_sections.specs.declared.steps.UFeed.{UFeed}
 use Rattle.uplane_sections.specs.declared.steps.UFeed.TheVariants as feed
 use Rattle.uplane_sections.specs.Header.{payloadVersion, subframeId, slotId, symbolId, head_of}
-use Rattle.uplane_sections.specs.Section.{rb, symInc, startPrbu, numPrbu, is_method, method_in, is_outside, first_of, count_of}
+use Rattle.fh_time.specs.Carrier.{is_outside, first_of, count_of}
+use Rattle.uplane_sections.specs.Section.{rb, symInc, startPrbu, numPrbu, is_method, method_in}
 use Rattle.uplane_sections.specs.Messages.{Item, Head, Section, Block, Telling, refused, fault, after, blocks, sections, message_from}
 
 -- the tests of a header that is whole
@@ -90,6 +91,11 @@ feed_told (feed.Refused r) = []
 abbrev pub prbs_left : Phase → ℕ
 prbs_left (Inside method symbol prb left) = left
 prbs_left _ = 1
+
+-- how many PRBs of a section are still to come
+abbrev pub prbs_to_come : Phase → ℕ
+prbs_to_come (Inside method symbol prb left) = left
+prbs_to_come _ = 0
 
 -- a bound of the numbers of PRBs to come
 abbrev pub prb_bound : Phase → ℕ

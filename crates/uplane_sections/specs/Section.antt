@@ -1,6 +1,7 @@
 -- The header of one section of a U-plane message, as fields of the bytes that it begins (O-RAN.WG4.CUS, clause 8.3.2).
-use Rattle.std.specs.Prelude.{ℕ, ◌+◌, ◌*◌, Bool, List, drop, nat_lt, if◌then◌else◌, ◌==◌, ◌&&◌, ◌||◌, not}
+use Rattle.std.specs.Prelude.{ℕ, ◌+◌, ◌*◌, Bool, List, drop, if◌then◌else◌, ◌==◌, ◌&&◌, ◌||◌}
 use Rattle.bit_fields.specs.Field.{field}
+use Rattle.fh_time.specs.Carrier.{count_of}
 use Rattle.bfp_codec.specs.declared.methods.Method.{Method}
 use Rattle.bfp_codec.specs.declared.methods.Method.TheVariants.{Plain, Bfp}
 use Rattle.bfp_codec.specs.declared.methods.Format.{Format}
@@ -67,17 +68,6 @@ section_with symbol method bytes = record {
 -- the same where the maintained symbol number was `before`
 abbrev pub section_of : ℕ → Method → List ℕ → USection
 section_of before method bytes = section_with (before + symInc bytes) method bytes
-
--- whether the PRBs go past a carrier of so many
-abbrev pub is_outside : ℕ → ℕ → ℕ → Bool
-is_outside prbs start num = not (num == 0) && nat_lt prbs (start + num)
-
--- the first PRB of a section, and their number: numPrbu 0 means all, from 0
-abbrev pub first_of : ℕ → ℕ → ℕ
-first_of start num = if num == 0 then 0 else start
-
-abbrev pub count_of : ℕ → ℕ → ℕ
-count_of prbs num = if num == 0 then prbs else num
 
 -- how many bytes the section has that the bytes begin with, on a carrier of so many PRBs
 abbrev pub size_of : Format → ℕ → List ℕ → ℕ

@@ -1,14 +1,15 @@
 -- What a walker tells of the bytes that come.
-use Rattle.std.specs.Prelude.{◌≡◌, ℕ, ◌+◌, ◌<◌, List, [], ◌++◌, length, take, false, Option, Some, None, Result, Ok, Err}
+use Rattle.std.specs.Prelude.{◌≡◌, ℕ, ◌+◌, ◌/◌, ◌<◌, ◌==◌, min, if◌then◌else◌, List, [], ◌++◌, length, take, false, Option, Some, None, Result, Ok, Err}
 use Rattle.fh_time.specs.declared.values.Shape.{Shape}
 use Rattle.bfp_codec.specs.declared.methods.Format.{Format}
+use Rattle.bfp_codec.specs.Layout.{length_of}
 use Rattle.uplane_sections.specs.declared.walking.UWalker.{UWalker}
 use Rattle.uplane_sections.specs.declared.values.URefusal.{URefusal}
 use Rattle.uplane_sections.specs.declared.values.UWhy.TheVariants.{Truncated}
 use Rattle.uplane_sections.specs.declared.steps.UFeed.{UFeed}
 use Rattle.uplane_sections.specs.declared.steps.UFeed.TheVariants as feed
 use Rattle.uplane_sections.specs.Messages.{Item, Telling, refused, after, told}
-use Rattle.uplane_sections.specs.Phases.{resumed, is_cut}
+use Rattle.uplane_sections.specs.Phases.{resumed, is_cut, method_in_phase, prbs_to_come}
 
 -- how many bytes it has used
 abbrev pub used_by : UWalker → ℕ
@@ -44,6 +45,20 @@ Answers new used _ = 0 < used
 abbrev pub UsesAll : List ℕ → ℕ → UFeed → Type 0
 UsesAll piece used feed.More = used ≡ length piece
 UsesAll piece used _ = Unit {0}
+
+-- nothing that comes changes what it tells
+abbrev pub IsOver : UWalker → Type 0
+IsOver w = (rest : List ℕ) → tells w rest ≡ tells w []
+
+-- Of these bytes old tells some items, and of any that come after what new tells; so over all of them it tells the
+-- refusal that new tells over those that come after.
+pub record Passes (old new : UWalker) (bytes : List ℕ) : Type 0 where
+  pub items : List Item
+  pub tells : Tells old new bytes items
+
+-- how many packed PRBs come next that lie whole in so many bytes; none where a part of one came before
+abbrev pub run_of : UWalker → ℕ → ℕ
+run_of w size = if w.there == 0 then min (size / length_of (method_in_phase w.phase)) (prbs_to_come w.phase) else 0
 
 abbrev pub refusal_of : Result (Unit {0}) URefusal → Option URefusal
 refusal_of (Ok _) = None

@@ -9,7 +9,8 @@ use Rattle.bfp_codec.specs.Layout.{HasWidth, length_of}
 use Rattle.uplane_sections.specs.declared.values.UHead.{UHead}
 use Rattle.uplane_sections.specs.declared.values.USection.{USection}
 use Rattle.uplane_sections.specs.Header.{payloadVersion, head_of}
-use Rattle.uplane_sections.specs.Section.{rb, comp_reserved, method_in, is_method, method_of, section_of, header_size, is_outside, first_of, count_of}
+use Rattle.fh_time.specs.Carrier.{is_outside, first_of, count_of}
+use Rattle.uplane_sections.specs.Section.{rb, comp_reserved, method_in, is_method, method_of, section_of, header_size}
 use Rattle.uplane_sections.specs.Messages.{Item, Section, after, blocks, sections, told}
 
 abbrev pub flag : Bool → ℕ

@@ -2,9 +2,9 @@
 //!
 //! A message is a header of four bytes and sections up to its end. Each section is a header of four
 //! bytes, a compression header of two where the format is dynamic, and the packed PRBs that it
-//! names. [`UWalker`] reads a message that comes in pieces of any length; [`put_head`] and
-//! [`put_section`] write the headers. Nothing allocates, and a PRB that lies whole in a piece is
-//! unpacked from there.
+//! names. [`UWalker`] reads a message that comes in pieces of any length; [`read_head`] reads a header
+//! alone; [`put_head`] and [`put_section`] write the headers. Nothing allocates, and a PRB that lies
+//! whole in a piece is unpacked from there, or lent, or passed over.
 #![tactic(auto)]
 
 mod phases;
@@ -18,7 +18,8 @@ mod values;
 mod walking;
 mod writing;
 
-pub use steps::{UFeed, UStep};
+pub use read_header::read_head;
+pub use steps::{UFeed, URun, UStep};
 pub use values::{UHead, URefusal, USection, UWhy};
 pub use walking::UWalker;
 pub use writing::{put_head, put_section};

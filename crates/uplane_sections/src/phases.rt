@@ -3,7 +3,7 @@ ghost use Rattle.std.specs.Prelude.{◌≡◌, ℕ, ◌+◌, ◌<◌, ◌≤◌,
 ghost use Rattle.fh_time.specs.declared.values.Shape.{Shape as SpecShape};
 ghost use Rattle.bfp_codec.specs.declared.methods.Format.{Format as SpecFormat};
 ghost use Rattle.bfp_codec.specs.Layout.{length_of};
-ghost use Rattle.uplane_sections.specs.Section.{first_of, count_of};
+ghost use Rattle.fh_time.specs.Carrier.{first_of, count_of};
 ghost use Rattle.uplane_sections.specs.Phases.{in_blocks, resumed, prbs_left, prb_bound, method_in_phase, behind, is_short};
 
 use crate::values::{URefusal, USection};

@@ -23,6 +23,13 @@ fn fields_at(bytes: &[u8]) -> UHead
     }
 }
 
+/// The header that a message's first four bytes are, whatever they say: no test is made.
+pub fn read_head(bytes: [u8; 4]) -> UHead
+    ensures { result ≡ head_of bytes }
+{
+    fields_at(&bytes)
+}
+
 /// The header in four bytes, by the first test that fails.
 #[tactic(auto, using(std::proofs::lemmas::Grind::common_steps, bit_fields::proofs::Field::fields))]
 pub(crate) fn head_at(bytes: &[u8], shape: Shape) -> Result<UHead, UWhy>

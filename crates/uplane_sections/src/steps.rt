@@ -1,6 +1,6 @@
 //! What a walker answers to a piece of a message.
 use crate::values::{UHead, URefusal, USection};
-use bfp_codec::Wide;
+use bfp_codec::{Method, Wide};
 
 /// What the next bytes of a message tell.
 #[derive(Clone, Copy, Debug, PartialEq, Eq)]
@@ -29,4 +29,17 @@ pub struct UStep {
     pub used: usize,
     /// What they tell.
     pub what: UFeed,
+}
+
+/// The packed PRBs of a section that come next and lie whole in a piece, from its front.
+#[derive(Clone, Copy, Debug, PartialEq, Eq)]
+pub struct URun {
+    /// How they are packed; each has as many bytes as `block_len` says for it.
+    pub method: Method,
+    /// The number of the first on the carrier; the others have the numbers after it.
+    pub prb: u16,
+    /// How many there are.
+    pub count: u16,
+    /// The number of their bytes, all used.
+    pub used: usize,
 }

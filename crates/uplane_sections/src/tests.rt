@@ -2,7 +2,9 @@
 ghost use Rattle.std.specs.Prelude.{◌<◌, ◌≤◌, length};
 ghost use Rattle.bfp_codec.specs.Layout.{HasWidth};
 
-use crate::{UFeed, UHead, URefusal, USection, UWalker, UWhy, put_head, put_section};
+use crate::{
+    UFeed, UHead, URefusal, URun, USection, UWalker, UWhy, put_head, put_section, read_head,
+};
 use bfp_codec::{Format, Method, Wide};
 use fh_time::Shape;
 use std::process::Abort;
@@ -238,4 +240,33 @@ fn tells_the_same_in_any_pieces(rt: HostRuntime) {
         assert_eq!(rt; walk(&NINE, DYNAMIC, 106, cut, 38), nine);
     }
     assert_eq!(rt; walk(&NINE, DYNAMIC, 106, 0, 1), nine);
+}
+
+#[test]
+fn passes_and_lends_runs(rt: HostRuntime) {
+    let mut walker = UWalker::new(STATIC, 106, SHAPE);
+    let none = URun {
+        method: Method::Plain,
+        prb: 0,
+        count: 0,
+        used: 0,
+    };
+    assert_eq!(rt; walker.feed(&TWO).what, UFeed::Head(HEAD));
+    assert_eq!(rt; walker.run(&TWO[4..]), none);
+    let _first = walker.feed(&TWO[4..]);
+    let run = URun {
+        method: Method::Plain,
+        prb: 1,
+        count: 1,
+        used: 48,
+    };
+    assert_eq!(rt; walker.run(&TWO[8..]), run);
+    // Into the PRB of the second section, which is cut there.
+    walker.pass(&TWO[56..70]);
+    assert_eq!(rt; walker.run(&TWO[70..]), none);
+    walker.pass(&TWO[70..]);
+    assert_eq!(rt; walker.finish(), Ok(()));
+
+    assert_eq!(rt; read_head([0x90, 0x01, 0, 0]), HEAD);
+    assert_eq!(rt; UWhy::PrbRange.name(), "PrbRange");
 }

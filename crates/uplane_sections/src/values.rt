@@ -1,6 +1,9 @@
 //! What a U-plane message is read as, and why it is refused.
+ghost use Rattle.std.specs.Prelude.{◌≡◌, ◌≤◌, length};
+ghost use Rattle.uplane_sections.specs.Names.{name_of};
 
 use bfp_codec::Method;
+use thiserror::Error;
 
 /// The application header of a U-plane message (O-RAN.WG4.CUS, clause 8.3.2).
 #[derive(Clone, Copy, Debug, PartialEq, Eq)]
@@ -38,27 +41,53 @@ pub struct USection {
 }
 
 /// Why a message is refused.
-#[derive(Clone, Copy, Debug, PartialEq, Eq)]
+#[derive(Clone, Copy, Debug, PartialEq, Eq, Error)]
 pub enum UWhy {
     /// The header, a section's header or a section's PRBs are not whole.
+    #[error("the message ends too early")]
     Truncated,
     /// payloadVersion is not 1.
+    #[error("another version than 1")]
     Version,
     /// subframeId exceeds 9, or a subframe has no slot slotId.
+    #[error("no such slot")]
     SlotRange,
     /// A slot has no symbol symbolId, or not the symbol of a section.
+    #[error("no such symbol")]
     SymbolRange,
     /// A section has rb = 1.
+    #[error("every other resource block")]
     EveryOtherRb,
     /// numPrbu is not 0, and a section's PRBs go past the carrier's.
+    #[error("PRBs past the carrier's")]
     PrbRange,
     /// A compression header names another method than no compression with 16 bits and block
     /// floating point.
+    #[error("another compression method")]
     Method,
 }
 
+impl UWhy {
+    /// The name under which the reason is printed: its own.
+    pub fn name(self) -> &'static str
+        ensures name { result.now ≡ name_of self }
+        ensures short { length result.now ≤ 12 }
+    {
+        match self {
+            UWhy::Truncated => "Truncated",
+            UWhy::Version => "Version",
+            UWhy::SlotRange => "SlotRange",
+            UWhy::SymbolRange => "SymbolRange",
+            UWhy::EveryOtherRb => "EveryOtherRb",
+            UWhy::PrbRange => "PrbRange",
+            UWhy::Method => "Method",
+        }
+    }
+}
+
 /// A refusal of a message.
-#[derive(Clone, Copy, Debug, PartialEq, Eq)]
+#[derive(Clone, Copy, Debug, PartialEq, Eq, Error)]
+#[error("{why} at byte {place}")]
 pub struct URefusal {
     /// The first byte of the header or section; for `Truncated` the message's length.
     pub place: usize,

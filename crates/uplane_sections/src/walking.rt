@@ -1,13 +1,13 @@
 //! The walker over a message.
-ghost use Rattle.std.specs.Prelude.{◌≡◌, ℕ, ◌+◌, ◌-◌, ◌<◌, ◌≤◌, ◌^◌, ◌++◌, length, take, drop, true, false};
+ghost use Rattle.std.specs.Prelude.{◌≡◌, ℕ, ◌+◌, ◌-◌, ◌*◌, ◌<◌, ◌≤◌, ◌^◌, ◌++◌, length, take, drop, true, false};
 ghost use Rattle.bfp_codec.specs.Layout.{HasWidth, length_of};
 ghost use Rattle.uplane_sections.specs.Phases.{unit_of, prbs_left, prb_bound, method_in_phase, behind, is_short, goes_on};
 
-use crate::phases::Phase;
-use crate::steps::{UFeed, UStep};
+use crate::phases::{Phase, inside};
+use crate::steps::{UFeed, URun, UStep};
 use crate::units::{Told, block, compression, head, section};
 use crate::values::{URefusal, UWhy};
-use bfp_codec::{Format, block_len};
+use bfp_codec::{Format, Method, block_len};
 use fh_time::Shape;
 
 /// A reader of one message, which comes in pieces of any length. It keeps the unit, a header or a
@@ -45,9 +45,9 @@ impl UWalker {
     ghost use Rattle.std.specs.Prelude.{List, [], Some, IfErr};
     ghost use Rattle.fh_time.specs.declared.values.Shape.{Shape as SpecShape};
     ghost use Rattle.bfp_codec.specs.declared.methods.Format.{Format as SpecFormat};
-    ghost use Rattle.uplane_sections.specs.Messages.{told, after};
+    ghost use Rattle.uplane_sections.specs.Messages.{told, after, blocks};
     ghost use Rattle.uplane_sections.specs.Phases.{Stops, feed_told, resumed, is_cut};
-    ghost use Rattle.uplane_sections.specs.States.{used_by, tells, refusal_of, Tells, Answers, UsesAll, StandsBehind};
+    ghost use Rattle.uplane_sections.specs.States.{used_by, tells, refusal_of, run_of, Tells, Passes, IsOver, Answers, UsesAll, StandsBehind};
 
     /// A walker at the start of a message in this format, on a carrier of `prbs` PRBs, where `shape`
     /// says how many symbols a slot and how many slots a subframe has.
@@ -213,6 +213,96 @@ impl UWalker {
             used: want,
             what: told.what,
         }
+    }
+
+    /// Goes over the packed PRBs of a section that come next and lie whole in the piece, so that the
+    /// caller unpacks them, or not, where they stand. There are none where another unit comes next,
+    /// where a part of the next PRB came before, and where the piece ends inside of it: then `feed`
+    /// goes on.
+    pub fn run(&mut self, piece: &[u8]) -> URun
+        requires fits { used_by self.old + length piece.now ≤ usize.MAX }
+        ensures count { result.count ≡ run_of self.old (length piece.now) }
+        ensures bytes { result.used ≡ result.count * length_of result.method }
+        ensures width { HasWidth result.method }
+        ensures within { result.used ≤ length piece.now }
+        ensures used { used_by self.new ≡ used_by self.old + result.used }
+        ensures tells { Tells self.old self.new (take result.used piece.now) (blocks result.method result.prb result.count (take result.used piece.now)) }
+    {
+        let none = URun {
+            method: Method::Plain,
+            prb: 0,
+            count: 0,
+            used: 0,
+        };
+        if self.there != 0 {
+            return none;
+        }
+        match self.phase {
+            Phase::Inside {
+                method,
+                symbol,
+                prb,
+                left,
+            } => {
+                let len = block_len(method);
+                let count = (piece.len() / len).min(left as usize) as u16;
+                let used = count as usize * len;
+                self.phase = inside(method, symbol, prb + count, left - count);
+                self.start += used;
+                URun {
+                    method,
+                    prb,
+                    count,
+                    used,
+                }
+            }
+            _ => none,
+        }
+    }
+
+    /// Goes over the next bytes of the message as `feed` does, and tells nothing of them: no PRB that
+    /// lies whole in the piece is unpacked. All of the piece is used, unless the message is refused.
+    pub fn pass(&mut self, piece: &[u8])
+        requires fits { used_by self.old + length piece.now ≤ usize.MAX }
+        ensures used { used_by self.new ≤ used_by self.old + length piece.now }
+        ensures passes { Passes self.old self.new piece.now }
+        ensures refusal { (rest : List ℕ) → (tells self.new rest).refusal ≡ (tells self.old (piece.now ++ rest)).refusal }
+        ensures stands { (format : SpecFormat) (prbs : ℕ) (shape : SpecShape) (bytes : List ℕ) → StandsBehind format prbs shape self.old bytes
+            → StandsBehind format prbs shape self.new (bytes ++ piece.now) }
+    {
+        self.pass_all(piece);
+    }
+
+    fn pass_all(&mut self, piece: &[u8])
+        requires fits { used_by self.old + length piece.now ≤ usize.MAX }
+        ensures used { used_by self.new ≤ used_by self.old + length piece.now }
+        ensures passes { Passes self.old self.new piece.now }
+    {
+        let mut at = 0;
+        while at < piece.len() {
+            let used = self.pass_some(&piece[at..]);
+            if used == 0 {
+                return;
+            }
+            at += used;
+        }
+    }
+
+    /// Goes over some bytes, PRBs that lie whole in the piece in one step; over none only where the
+    /// message is refused.
+    fn pass_some(&mut self, piece: &[u8]) -> usize
+        requires some { 0 < length piece.now }
+        requires fits { used_by self.old + length piece.now ≤ usize.MAX }
+        ensures within { result ≤ length piece.now }
+        ensures used { used_by self.new ≡ used_by self.old + result }
+        ensures passes { Passes self.old self.new (take result piece.now) }
+        ensures ends { result ≡ 0 → IsOver self.new }
+    {
+        let run = self.run(piece);
+        if run.used > 0 {
+            return run.used;
+        }
+        self.step(piece).used
     }
 
     /// Whether the bytes used so far are a whole message; if not, the first test that fails for a

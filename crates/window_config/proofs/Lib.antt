@@ -1,3 +1,4 @@
 pub mod Timing
 pub mod Live
 pub mod Checking
+pub mod Usual

@@ -9,4 +9,6 @@ pub record IsConfig (c : Config) : Type 0 where
   pub gap : IsTime c.gap
   pub fragment_low : 128 ≤ c.fragment
   pub fragment_high : c.fragment ≤ 9000
+  pub pack_low : 1 ≤ c.pack
+  pub pack_high : c.pack ≤ 64
   pub endpoints : AreEndpoints c.endpoints

@@ -3,6 +3,7 @@ pub mod Windows
 pub mod Classes
 pub mod Relations
 pub mod Rings
+pub mod Usual
 pub mod Endpoints
 pub mod Configs
 pub mod Plans

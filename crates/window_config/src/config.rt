@@ -6,8 +6,8 @@ use eaxc_map::Widths;
 
 /// The configuration of both units.
 ///
-/// Within the limits the delays are, the gap lies from 0 to 2,000,000 ns, `fragment` from 128 to 9,000, and each endpoint is
-/// within its limits and has an id of its own.
+/// Within the limits the delays are, the gap lies from 0 to 2,000,000 ns, `fragment` from 128 to 9,000, `pack` from 1 to 64, and
+/// each endpoint is within its limits and has an id of its own.
 #[derive(Drop)]
 pub struct Config {
     /// How an eAxC id is cut into its parts.
@@ -17,6 +17,8 @@ pub struct Config {
     pub gap: i64,
     /// The most application bytes of a U-plane message that one frame carries.
     pub fragment: usize,
+    /// The most sections that one U-plane message has where it is sent.
+    pub pack: usize,
     /// The endpoints; an endpoint's index here is its place in all that is told of it.
     pub endpoints: EndpointList,
 }

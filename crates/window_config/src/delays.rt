@@ -1,4 +1,5 @@
 // The times that both units and the network between them are configured with.
+ghost use Rattle.std.specs.Prelude.{◌≡◌};
 
 /// The least and the greatest of a time in whole nanoseconds, both inclusive.
 #[derive(Clone, Copy, Debug, PartialEq, Eq)]
@@ -35,4 +36,36 @@ pub struct Delays {
     pub hold_dl: i64,
     /// How long the DU takes in the fragments of one message.
     pub hold_ul: i64,
+}
+
+/// A least and a greatest time.
+fn span(min: i64, max: i64) -> Range
+    ensures { result ≡ record { min = min; max = max } }
+{
+    Range { min, max }
+}
+
+impl Delays {
+    ghost use Rattle.window_config.specs.Limits.{IsWithinLimits};
+    ghost use Rattle.window_config.specs.Usual.{usual_delays};
+
+    /// The usual delay profile, which a document has where it says nothing of a time.
+    pub fn usual() -> Delays
+        ensures value { result ≡ usual_delays }
+        ensures limits { IsWithinLimits result }
+    {
+        Delays {
+            t1a_up: span(234_000, 345_000),
+            t1a_cp_ul: span(225_000, 470_000),
+            t2a_up: span(134_000, 345_000),
+            t2a_cp_ul: span(125_000, 470_000),
+            ta3: span(50_000, 171_000),
+            ta4: span(50_000, 271_000),
+            t12: span(0, 100_000),
+            t34: span(0, 100_000),
+            advance: 125_000,
+            hold_dl: 211_000,
+            hold_ul: 221_000,
+        }
+    }
 }

@@ -8,6 +8,7 @@ use bfp_codec::Format;
 use fh_time::Numerology;
 use std::default::MadeWith;
 use std::marker::Model;
+use thiserror::Error;
 
 /// One eAxC: an antenna's carrier at one numerology.
 #[derive(Clone, Copy, Debug, PartialEq, Eq)]
@@ -29,7 +30,8 @@ impl MadeWith<EndpointConfig> for EndpointConfig {
 }
 
 /// Sixteen endpoints are there.
-#[derive(Clone, Copy, Debug, PartialEq, Eq)]
+#[derive(Clone, Copy, Debug, PartialEq, Eq, Error)]
+#[error("sixteen endpoints are there")]
 pub struct ListFull;
 
 /// At most sixteen endpoints, in the order of the document. Contracts see them as a list.

@@ -4,6 +4,7 @@ ghost use Rattle.window_config.specs.Limits.{IsWithinLimits};
 ghost use Rattle.window_config.specs.Relations.{name_of, left_of, right_of, compares, holds, failing_of, checked, PassesCheck, IsFirstFailing};
 
 use crate::delays::Delays;
+use thiserror::Error;
 
 /// A relation of the check.
 #[derive(Clone, Copy, Debug, PartialEq, Eq)]
@@ -27,7 +28,8 @@ pub enum Relation {
 }
 
 /// A relation that fails, and its two sides in nanoseconds.
-#[derive(Clone, Copy, Debug, PartialEq, Eq)]
+#[derive(Clone, Copy, Debug, PartialEq, Eq, Error)]
+#[error("the delays do not fit: {left} against {right} ns")]
 pub struct Failing {
     pub relation: Relation,
     pub left: i64,

@@ -12,49 +12,6 @@ use eaxc_map::Widths;
 use fh_time::{Numerology, Slot, Ticks, of_ns};
 use std::test::Fail;
 
-/// A profile that passes.
-fn usual() -> Delays
-    ensures { IsWithinLimits result }
-{
-    Delays {
-        t1a_up: Range {
-            min: 234_000,
-            max: 345_000,
-        },
-        t1a_cp_ul: Range {
-            min: 225_000,
-            max: 470_000,
-        },
-        t2a_up: Range {
-            min: 134_000,
-            max: 345_000,
-        },
-        t2a_cp_ul: Range {
-            min: 125_000,
-            max: 470_000,
-        },
-        ta3: Range {
-            min: 50_000,
-            max: 171_000,
-        },
-        ta4: Range {
-            min: 50_000,
-            max: 271_000,
-        },
-        t12: Range {
-            min: 0,
-            max: 100_000,
-        },
-        t34: Range {
-            min: 0,
-            max: 100_000,
-        },
-        advance: 125_000,
-        hold_dl: 211_000,
-        hold_ul: 221_000,
-    }
-}
-
 // symbol 1 of frame 1 at 30 kHz, at 10,036,197.9 ns
 const SYMBOL: Ticks = Ticks(15_415_600_000);
 
@@ -118,7 +75,7 @@ fn both_ends_of_a_window_are_inside_at_the_du(rt: HostRuntime) {
 
 #[test]
 fn windows_are_those_of_the_profile(rt: HostRuntime) {
-    let d = usual();
+    let d = Delays::usual();
     let early = Range {
         min: 259_000,
         max: 470_000,
@@ -148,7 +105,7 @@ fn range(min: i64, max: i64) -> Range
 
 #[test]
 fn the_first_relation_that_fails_is_told(rt: HostRuntime) {
-    let d = usual();
+    let d = Delays::usual();
     assert_eq!(rt; check(&d), Ok(()));
     let t1a_up = range(234_000, 345_001);
     assert_eq!(rt;
@@ -168,7 +125,7 @@ fn the_first_relation_that_fails_is_told(rt: HostRuntime) {
 
 #[test]
 fn what_comes_too_late_fails(rt: HostRuntime) {
-    let d = usual();
+    let d = Delays::usual();
     let t1a_up = range(233_999, 345_000);
     assert_eq!(rt;
         told(Delays { t1a_up, ..d }),
@@ -188,7 +145,7 @@ fn what_comes_too_late_fails(rt: HostRuntime) {
 
 #[test]
 fn what_comes_too_early_fails(rt: HostRuntime) {
-    let d = usual();
+    let d = Delays::usual();
     let t1a_cp_ul = range(225_000, 470_001);
     assert_eq!(rt;
         told(Delays { t1a_cp_ul, ..d }),
@@ -203,7 +160,7 @@ fn what_comes_too_early_fails(rt: HostRuntime) {
 
 #[test]
 fn a_generation_that_is_over_too_soon_fails(rt: HostRuntime) {
-    let d = usual();
+    let d = Delays::usual();
     assert_eq!(rt;
         told(Delays {
             hold_dl: 210_999,
@@ -234,7 +191,7 @@ fn rings(n: &Numerology, d: &Delays) -> (usize, usize)
 
 #[test]
 fn rings_hold_what_is_live(rt: HostRuntime) {
-    let d = usual();
+    let d = Delays::usual();
     assert_eq!(rt;
         ru_reach(&d),
         Reach {
@@ -251,6 +208,7 @@ fn rings_hold_what_is_live(rt: HostRuntime) {
     );
     let usual_spacing = Numerology::ordinary(1).expect(&rt, "30 kHz");
     assert_eq!(rt; rings(&usual_spacing, &d), (3, 2));
+    assert_eq!(rt; rings(&Numerology::extended(), &d), (4, 3));
     let widest = range(1, 2_000_000);
     let d = Delays {
         t1a_up: widest,
@@ -315,9 +273,10 @@ fn sixteen_endpoints_are_listed(rt: HostRuntime) -> Result<(), Fail> {
     assert_eq!(rt; endpoints.push(endpoint(16, n)), Err(ListFull));
     let config = Config {
         widths: Widths::new(4, 4, 4, 4)?,
-        delays: usual(),
+        delays: Delays::usual(),
         gap: 1_000,
         fragment: 1_492,
+        pack: 1,
         endpoints,
     };
     let listed = config.endpoints.as_slice();

@@ -1,22 +1,11 @@
-use Rattle.std.proofs.Common.{◌≡◌, ℕ, ℤ, ◌+◌, ◌*◌, ◌<◌, List, length, get_or, set, inl, inr, refl, ◌∙◌, arith, rules, below_more, get_or-set_same, get_or-set_other, length-set}
+use Rattle.std.proofs.Common.{◌+◌, ◌*◌, ◌<◌, length, inl, inr, ◌∙◌, arith, rules, get_or-set_other, length-set}
 use Rattle.std.proofs.lemmas.Int.{to_z-of_z}
 use Rattle.std.specs.Int.{w32}
 use mir.Val.{SFits}
-use Rattle.bfp_codec.specs.declared.samples.Wide.{Wide}
 use Rattle.bfp_codec.specs.Samples.{no_wide, pair_of}
 use Rattle.bfp_codec.specs.Eight.{value_in}
+use Rattle.bfp_codec.proofs.Filling.{filled, pair}
 use Rattle.bfp_codec.proofs.unpacking.put_four.Goals as goal
-
--- one more element of a list that is filled from a place on
-filled : (xs : List Wide) (from k : ℕ) (x : Wide) (value : ℕ → Wide) → from + k < length xs → ((j : ℕ) → j < k → get_or xs (from + j) no_wide ≡ value j) → x ≡ value k
-    → (j : ℕ) → j < k + 1 → get_or (set xs (from + k) x) (from + j) no_wide ≡ value j
-filled xs from k x value room before here =
-    below_more (λ j. get_or (set xs (from + k) x) (from + j) no_wide ≡ value j) k
-    (λ j h. get_or-set_other xs (from + k) (from + j) x no_wide (omega arith) ∙ before j h)
-    (get_or-set_same xs (from + k) x no_wide room ∙ here)
-
-pair : (a b c d : ℤ) → a ≡ c → b ≡ d → (let p : Wide = record { i = a; q = b } in p) ≡ record { i = c; q = d }
-pair a b c d e f = rw (e, f) refl
 
 pub loop-k-preserved : goal.loop-k-preserved
 loop-k-preserved c =

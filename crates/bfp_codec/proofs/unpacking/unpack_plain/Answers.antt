@@ -1,13 +1,26 @@
-use Rattle.std.proofs.Common.{◌≡◌, ◌+◌, length, inl, ◌∙◌, arith}
-use Rattle.bfp_codec.proofs.Whole.{unpacked_plain}
+use Rattle.std.proofs.Common.{◌+◌, ◌*◌, ◌<◌, length, ◌∙◌, arith, rules, length-set}
+use Rattle.std.proofs.lemmas.Int.{to_z-of_z}
+use Rattle.std.specs.Int.{w32}
+use mir.Val.{SFits}
+use Rattle.bfp_codec.specs.Samples.{pair_of}
+use Rattle.bfp_codec.proofs.Filling.{filled_next, pair}
+use Rattle.bfp_codec.proofs.Whole.{plain_in, plain_place, unpacked_plain}
 use Rattle.bfp_codec.proofs.unpacking.unpack_plain.Goals as goal
+
+pub loop-k-preserved : goal.loop-k-preserved
+loop-k-preserved c =
+    let bytes = c.args.bytes.now in
+    let k = c.loop-k.k in
+    let i : SFits w32 c.plain_at.result = search rules in
+    let q : SFits w32 c.plain_at-in-loop-k.result = search rules in
+    let inside : k < length c.loop-k.values = omega (arith, c.loop-k.invariant.len) in
+    record {
+      len = length-set c.loop-k.values k _ ∙ c.loop-k.invariant.len;
+      done = filled_next c.loop-k.values k _ (pair_of (plain_in bytes)) inside c.loop-k.invariant.done
+          (pair _ _ _ _ (to_z-of_z w32 c.plain_at.result i ∙ c.plain_at.ensures ∙ plain_place bytes (4 * k) (2 * k) (omega arith))
+          (to_z-of_z w32 c.plain_at-in-loop-k.result q ∙ c.plain_at-in-loop-k.ensures ∙ plain_place bytes (4 * k + 2) (2 * k + 1) (omega arith)));
+    }
 
 pub returns : goal.returns
 returns c =
-    let values = c.put_four-3.new.into in
-    let len : length values ≡ 12 = omega arith in
-    unpacked_plain c.number_at.result c.number_at-2.result c.number_at-3.result c.args.bytes.now values len
-    c.number_at.ensures c.number_at-2.ensures c.number_at-3.ensures
-    (λ j h. c.put_four-3.ensures.others (0 + j) (inl (omega arith)) ∙ c.put_four-2.ensures.others (0 + j) (inl (omega arith)) ∙ c.put_four.ensures.four j h)
-    (λ j h. c.put_four-3.ensures.others (4 + j) (inl (omega arith)) ∙ c.put_four-2.ensures.four j h)
-    c.put_four-3.ensures.four
+    unpacked_plain c.args.bytes.now c.loop-k.values c.loop-k.invariant.len (λ j lt. c.loop-k.invariant.done j (omega (arith, c.loop-k-test.false)))

@@ -1,6 +1,6 @@
 use Rattle.std.proofs.Common.{arith, subst}
 use Rattle.uplane_sections.specs.declared.steps.UFeed.{UFeed}
-use Rattle.data_walks.specs.Left.{left_of, TellsFirst}
+use Rattle.uplane_messages.specs.Left.{left_of, TellsFirst}
 use Rattle.data_messages.proofs.HoldLemmas.{all_filled, none_so_far, one_further}
 use Rattle.data_messages.proofs.section.fill_section.Goals as goal
 

@@ -1,4 +1,4 @@
-use Rattle.data_walks.specs.Left.{left_of}
+use Rattle.uplane_messages.specs.Left.{left_of}
 use Rattle.data_messages.proofs.HoldLemmas.{SoFar}
 use Rattle.data_messages.proofs.section.fill_section.Given as goal
 

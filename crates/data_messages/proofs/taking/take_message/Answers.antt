@@ -5,8 +5,8 @@ use Rattle.ecpri_fragments.specs.Assemblies.{message_of}
 use Rattle.uplane_sections.specs.Messages.{told}
 use Rattle.unit_model.specs.Counts.{decoded_counted}
 use Rattle.unit_model.specs.Decoding.{Decoded}
-use Rattle.data_walks.specs.Joined.{message_bytes}
-use Rattle.data_walks.specs.Whole.{IsWhole}
+use Rattle.uplane_messages.specs.Joined.{message_bytes}
+use Rattle.uplane_messages.specs.Whole.{IsWhole}
 use Rattle.data_messages.specs.Sections.{items_of}
 use Rattle.data_messages.proofs.MessageLemmas.{HoldsAfter, backwards_holds, refused_holds, says_backwards, says_refused, says_sections, sections_hold}
 use Rattle.data_messages.proofs.taking.take_message.Goals as goal

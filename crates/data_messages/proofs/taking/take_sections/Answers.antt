@@ -5,8 +5,8 @@ use Rattle.ecpri_fragments.specs.Assemblies.{message_of}
 use Rattle.uplane_sections.specs.Messages.{Item, told}
 use Rattle.uplane_sections.specs.declared.steps.UFeed.{UFeed}
 use Rattle.unit_model.specs.Decoding.{data_with, gathered, nothing_told}
-use Rattle.data_walks.specs.Joined.{message_bytes}
-use Rattle.data_walks.specs.Left.{left_of, NothingLeft, TellsFirst}
+use Rattle.uplane_messages.specs.Joined.{message_bytes}
+use Rattle.uplane_messages.specs.Left.{left_of, NothingLeft, TellsFirst}
 use Rattle.data_messages.specs.Holding.{HoldsData}
 use Rattle.data_messages.specs.Sections.{items_of}
 use Rattle.data_messages.proofs.MessageLemmas.{all_treated, none_treated, one_treated}

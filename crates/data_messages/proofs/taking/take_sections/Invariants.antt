@@ -1,5 +1,5 @@
 use Rattle.std.proofs.Common.{length}
-use Rattle.data_walks.specs.Left.{left_of}
+use Rattle.uplane_messages.specs.Left.{left_of}
 use Rattle.data_messages.specs.Sections.{items_of}
 use Rattle.data_messages.proofs.MessageLemmas.{Treated}
 use Rattle.data_messages.proofs.taking.take_sections.Given as goal

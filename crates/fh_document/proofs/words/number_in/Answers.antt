@@ -2,6 +2,7 @@ use Rattle.std.proofs.Common.{rules, tests, ◌≡◌, ◌≤◌, ◌^◌, ◌+�
 use Rattle.std.specs.Char.{digit_value}
 use Rattle.std.proofs.Math.Nat.{pow-le-pow_right}
 use Rattle.std.proofs.lemmas.Str.{digit_value_digit}
+use Rattle.fh_document.specs.declared.words.TheConstants.{MOST_DIGITS}
 use Rattle.fh_document.proofs.DigitSteps.{push_fits, all_more, value_more}
 use Rattle.fh_document.proofs.words.number_in.Goals as goal
 
@@ -28,5 +29,5 @@ loop-b-preserved c =
 
 pub returns-clause-within : goal.returns-clause-within
 returns-clause-within c =
-    let most : 10 ^ c.loop-b.b-index ≤ 10 ^ 13 = pow-le-pow_right (omega arith) {i = c.loop-b.b-index} {j = 13} (omega arith) in
+    let most : 10 ^ c.loop-b.b-index ≤ 10 ^ MOST_DIGITS = pow-le-pow_right (omega arith) {i = c.loop-b.b-index} {j = MOST_DIGITS} (omega arith) in
     (omega arith, omega arith, omega (arith, most, c.loop-b.invariant.1))

@@ -1,8 +1,8 @@
 use Rattle.std.proofs.Common.{◌≡◌, ◌<◌, List, length, refl, sym, ap, subst, ◌∙◌}
 use Rattle.frame_network.specs.declared.arrivals.Arrival.{Arrival as Flying}
 use Rattle.frame_network.specs.Network.{put_in}
-use Rattle.landing_queue.specs.declared.landings.Landing.{Landing}
-use Rattle.landing_queue.specs.Queues.{AreRising, landing_of}
+use Rattle.frame_network.specs.declared.landings.Landing.{Landing}
+use Rattle.frame_network.specs.Queues.{AreRising, landing_of}
 use Rattle.replay_loop.specs.Coming.{Flies, injected_at}
 use Rattle.replay_loop.proofs.ComingLemmas.{AtPut, all_fly, put_none, put_one, refused_from, taken_first}
 use Rattle.replay_loop.proofs.ListLemmas.{frame_short}

@@ -1,5 +1,5 @@
 use Rattle.std.proofs.Common.{List, sym, subst}
-use Rattle.std.proofs.lemmas.Result.{on_err_weaker}
+use Rattle.std.proofs.lemmas.Result.{IfErr-weaker}
 use Rattle.air_source.specs.Stops.{StopsIn}
 use Rattle.air_source.specs.declared.events.Event.{Event}
 use Rattle.air_source.specs.declared.events.Event.TheVariants.{Count}
@@ -13,7 +13,7 @@ pub returns-clause-stop : goal.returns-clause-stop
 returns-clause-stop g c =
     let k = c.args.counter in
     let value = c.get-value.result in
-    on_err_weaker c.count.result (λ last.
-    subst (λ (es : List Event). StopsIn g.A.Air.grew g.A.Air.stopped es c.args.out.now c.count.new.self)
+    IfErr-weaker c.count.result _ _ (λ f last.
+    subst (λ (es : List Event). StopsIn g.A.Air.grew (g.A.Air.stopped f) es c.args.out.now c.count.new.self)
     (sym (some_event (count_of c.args.counters.now k) value k c.get-value.ensures c.if-value-eq0.false))
-    (stops_now g.A.Air.grew g.A.Air.stopped g.met.A.Air.grew_none (Count Ru k value) c.args.out.now c.count.new.self last)) c.count.ensures.stop
+    (stops_now g.A.Air.grew (g.A.Air.stopped f) g.met.A.Air.grew_none (Count Ru k value) c.args.out.now c.count.new.self last)) c.count.ensures.stop

@@ -1,5 +1,7 @@
-use Rattle.std.proofs.lemmas.Result.{err_from_is_err_and}
+use Rattle.std.proofs.Common.{rules, ◌≡◌, sym}
 use Rattle.replay_loop.proofs.landing.hear.Goals as goal
 
 pub returns-in_err-arrival-clause-stop : goal.returns-in_err-arrival-clause-stop
-returns-in_err-arrival-clause-stop g c = rw ((err_from_is_err_and c.from_residual.result c.from_residual.ensures.1).1) c.in_err-arrival.ensures.stop
+returns-in_err-arrival-clause-stop g c =
+    let same : c.arrival.result ≡ c.from_residual.result = search rules in
+    rw (sym same) c.arrival.ensures.stop

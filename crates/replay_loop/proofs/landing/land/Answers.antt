@@ -1,6 +1,7 @@
-use Rattle.std.proofs.Common.{◌≡◌, ◌<◌, ◌^◌, ◌≤ℤ◌, ℕ, List, [], ◌∷◌, length, map, sym, subst, refl, ap, ◌++◌, ◌∙◌, arith, pos, ◌+ℤ◌}
+use Rattle.std.proofs.Common.{rules, ◌≡◌, ◌<◌, ◌^◌, ◌≤ℤ◌, ℕ, List, [], ◌∷◌, length, map, sym, subst, refl, ap, ◌++◌, ◌∙◌, arith, pos, ◌+ℤ◌}
 use Rattle.std.proofs.lemmas.List.Elements.{All-rest}
-use Rattle.std.proofs.lemmas.Result.{err_from_is_err_and}
+use Rattle.std.proofs.lemmas.Result.{IfErr-weaker}
+use Rattle.air_source.specs.declared.airs.AirFault.{AirFault}
 use Rattle.frame_network.specs.declared.arrivals.Arrival.{Arrival as Flying}
 use Rattle.replay_events.specs.Events.{arrival_event}
 use Rattle.ru_buffers.specs.Calls.{StandsFor}
@@ -64,7 +65,7 @@ loop-arrival-preserved g c =
 
 pub returns-in_err-hear-clause-stop : goal.returns-in_err-hear-clause-stop
 returns-in_err-hear-clause-stop g c k h stands =
-    let p = err_from_is_err_and c.from_residual.result c.from_residual.ensures.1 in
+    let same : c.hear.result ≡ c.from_residual.result = search rules in
     let tick = c.args.tick in
     let a = c.in-Some.arrival in
     let old = c.loop-arrival.invariant in
@@ -72,11 +73,15 @@ returns-in_err-hear-clause-stop g c k h stands =
     let rest = c.next_until.new.self in
     let left = c.in-Some.ensures.left in
     let at : a.at.0 ≡ tick.0 = same_tick a.at.0 tick.0 (of_tick (λ (x : Flying). tick.0 ≤ℤ x.at.0) a before rest left old.flying) c.in-Some.ensures.due in
-    let stopped = subst (λ (f : List ℕ). g.A.Air.stopped c.loop-arrival.out (arrival_event (arrival_at tick.0 f)) c.hear.new.out) c.as_slice.ensures c.in_err-hear.ensures.stop in
-    let stop = stops_here g.A.Air.grew g.A.Air.stopped tick a c.args.ru.now c.loop-arrival.ru c.args.in_flight.now before rest
+    let here : (f : AirFault) → g.A.Air.stopped f c.loop-arrival.out (arrival_event (arrival_at tick.0 c.as_slice.result.now)) c.hear.new.out
+    → StopsLanding g.A.Air.grew (g.A.Air.stopped f) k h (flying_at tick.0 c.args.in_flight.now) c.hear.new.ru c.args.out.now c.hear.new.out =
+    λ f stop.
+    let stopped = subst (λ (bytes : List ℕ). g.A.Air.stopped f c.loop-arrival.out (arrival_event (arrival_at tick.0 bytes)) c.hear.new.out) c.as_slice.ensures stop in
+    let stops = stops_here g.A.Air.grew (g.A.Air.stopped f) tick a c.args.ru.now c.loop-arrival.ru c.args.in_flight.now before rest
     c.args.out.now c.loop-arrival.out c.hear.new.out k h left at old.lands stopped stands in
-    rw p.1 (subst (λ (u : Ru). StopsLanding g.A.Air.grew g.A.Air.stopped k h (flying_at tick.0 c.args.in_flight.now) u c.args.out.now c.hear.new.out)
-    (sym c.in_err-hear.ensures.stays) stop)
+    subst (λ (u : Ru). StopsLanding g.A.Air.grew (g.A.Air.stopped f) k h (flying_at tick.0 c.args.in_flight.now) u c.args.out.now c.hear.new.out)
+    (sym c.in_err-hear.ensures.stays) stops in
+    rw (sym same) (IfErr-weaker c.hear.result _ _ here c.hear.ensures.stop)
 
 pub returns-clause-heard : goal.returns-clause-heard
 returns-clause-heard g c =

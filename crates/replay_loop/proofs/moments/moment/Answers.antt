@@ -1,4 +1,6 @@
-use Rattle.std.proofs.Common.{◌≡◌, ◌≤ℤ◌, List, inl, inr, map, sym, subst, ◌∙◌}
+use Rattle.std.proofs.Common.{rules, ◌≡◌, ◌≤ℤ◌, List, inl, inr, map, sym, subst, ◌∙◌}
+use Rattle.std.proofs.lemmas.Result.{IfErr-at_err}
+use Rattle.air_source.specs.declared.airs.AirFault.TheVariants.{Failed, NoMemory}
 use Rattle.air_source.specs.declared.events.Event.{Event}
 use Rattle.air_source.specs.declared.events.Event.TheVariants.{Cell}
 use Rattle.fh_time.specs.declared.values.Ticks.{Ticks}
@@ -16,17 +18,19 @@ advance-requires-clause-given g c = is_ready c.args.doc.now c.args.tick.0 c.args
 
 pub returns-in_err-advance-clause-stop : goal.returns-in_err-advance-clause-stop
 returns-in_err-advance-clause-stop g c failed =
+    let same : c.advance.result ≡ c.from_residual.result = search rules in
     let d = c.args.doc.now in
     let a = c.requires.turn in
-    stops_due g.A.Air.grew g.A.Air.stopped d c.args.tick.0 a.history c.advance.new.self c.args.out.now c.advance.new.air c.requires.document a.turn c.requires.ended
-    (c.in_err-advance.ensures.stop d.config a.history a.stands)
+    stops_due g.A.Air.grew (g.A.Air.stopped Failed) d c.args.tick.0 a.history c.advance.new.self c.args.out.now c.advance.new.air c.requires.document a.turn c.requires.ended
+    (IfErr-at_err _ (same ∙ failed) (c.advance.ensures.stop d.config a.history a.stands))
 
 pub returns-in_err-advance-clause-wants : goal.returns-in_err-advance-clause-wants
 returns-in_err-advance-clause-wants g c wants =
+    let same : c.advance.result ≡ c.from_residual.result = search rules in
     let d = c.args.doc.now in
     let a = c.requires.turn in
-    inl (stops_due g.A.Air.grew g.A.Air.stopped d c.args.tick.0 a.history c.advance.new.self c.args.out.now c.advance.new.air c.requires.document a.turn c.requires.ended
-    (c.in_err-advance.ensures.stop d.config a.history a.stands))
+    inl (stops_due g.A.Air.grew (g.A.Air.stopped NoMemory) d c.args.tick.0 a.history c.advance.new.self c.args.out.now c.advance.new.air c.requires.document a.turn c.requires.ended
+    (IfErr-at_err _ (same ∙ wants) (c.advance.ensures.stop d.config a.history a.stands)))
 
 pub returns-in_default-clause-wants : goal.returns-in_default-clause-wants
 returns-in_default-clause-wants g c wants =
@@ -51,27 +55,29 @@ land-requires-clause-short g c = all_to_ru c.args.tick.0 c.inject.new.coming.in_
 
 pub returns-in_err-land-clause-stop : goal.returns-in_err-land-clause-stop
 returns-in_err-land-clause-stop g c failed =
+    let same : c.land.result ≡ c.from_residual-in_err-land.result = search rules in
     let d = c.args.doc.now in
     let tick = c.args.tick.0 in
     let a = c.requires.turn in
     let stands = c.in_ok-advance.ensures.stands d.config a.history a.stands in
-    stops_landing g.A.Air.grew g.A.Air.stopped g.met.A.Air.grew_more d tick a.history (flying_at tick c.inject.new.coming.in_flight) c.land.new.ru
+    stops_landing g.A.Air.grew (g.A.Air.stopped Failed) g.met.A.Air.grew_more d tick a.history (flying_at tick c.inject.new.coming.in_flight) c.land.new.ru
     c.args.out.now c.advance.new.air c.land.new.out c.requires.document a.turn c.requires.ended
     (flies_here d tick c.args.coming.now c.inject.new.coming c.requires.waits c.in-Ok.ensures)
     (c.in_ok-advance.ensures.heard d.config a.history a.stands)
-    (c.in_err-land.ensures.stop d.config (reported_then d tick a.history) stands)
+    (IfErr-at_err _ (same ∙ failed) (c.land.ensures.stop d.config (reported_then d tick a.history) stands))
 
 pub returns-in_err-land-clause-wants : goal.returns-in_err-land-clause-wants
 returns-in_err-land-clause-wants g c wants =
+    let same : c.land.result ≡ c.from_residual-in_err-land.result = search rules in
     let d = c.args.doc.now in
     let tick = c.args.tick.0 in
     let a = c.requires.turn in
     let stands = c.in_ok-advance.ensures.stands d.config a.history a.stands in
-    inl (stops_landing g.A.Air.grew g.A.Air.stopped g.met.A.Air.grew_more d tick a.history (flying_at tick c.inject.new.coming.in_flight) c.land.new.ru
+    inl (stops_landing g.A.Air.grew (g.A.Air.stopped NoMemory) g.met.A.Air.grew_more d tick a.history (flying_at tick c.inject.new.coming.in_flight) c.land.new.ru
     c.args.out.now c.advance.new.air c.land.new.out c.requires.document a.turn c.requires.ended
     (flies_here d tick c.args.coming.now c.inject.new.coming c.requires.waits c.in-Ok.ensures)
     (c.in_ok-advance.ensures.heard d.config a.history a.stands)
-    (c.in_err-land.ensures.stop d.config (reported_then d tick a.history) stands))
+    (IfErr-at_err _ (same ∙ wants) (c.land.ensures.stop d.config (reported_then d tick a.history) stands)))
 
 pub drain-requires : goal.drain-requires
 drain-requires g c =

@@ -1,4 +1,5 @@
 use Rattle.std.proofs.Common.{rules, ◌≡◌, ℤ, pos, ◌+ℤ◌, List, sym, subst, ◌∙◌, arith}
+use Rattle.air_source.specs.declared.airs.AirFault.TheVariants.{Failed, NoMemory}
 use Rattle.air_source.specs.declared.events.Event.{Event}
 use Rattle.replay_events.specs.Moments.{end_of_time}
 use Rattle.replay_events.proofs.TickLemmas.{at_most, next_most, same_most}
@@ -100,7 +101,7 @@ returns-in_err-moment-clause-stop g c failed =
     let m = c.in-Some.ensures d.config old.turn.history old.turn.stands in
     let order = not_before d now c.loop-tick.ru c.loop-tick.coming tick.0 old.turn old.waits m in
     let idle = events_idle d now tick.0 c.loop-tick.ru c.loop-tick.coming c.requires.document old.turn old.waits m.before order (next_most tick.0 end_of_time m.ended) in
-    stops_whole g.A.Air.grew g.A.Air.stopped g.met.A.Air.grew_more d tick.0 c.moment.new.ru c.args.out.now c.loop-tick.out c.moment.new.out
+    stops_whole g.A.Air.grew (g.A.Air.stopped Failed) g.met.A.Air.grew_more d tick.0 c.moment.new.ru c.args.out.now c.loop-tick.out c.moment.new.out
     (at_most first_clock now tick.0 old.turn.turn.begun order) m.ended
     (subst (λ (es : List Event). g.A.Air.grew c.args.out.now es c.loop-tick.out) (sym idle) old.heard) (c.moment.ensures.stop (same ∙ failed))
 
@@ -114,7 +115,7 @@ returns-in_err-moment-clause-wants g c wants =
     let m = c.in-Some.ensures d.config old.turn.history old.turn.stands in
     let order = not_before d now c.loop-tick.ru c.loop-tick.coming tick.0 old.turn old.waits m in
     let idle = events_idle d now tick.0 c.loop-tick.ru c.loop-tick.coming c.requires.document old.turn old.waits m.before order (next_most tick.0 end_of_time m.ended) in
-    halts_whole g.A.Air.grew g.A.Air.stopped g.met.A.Air.grew_more d tick.0 c.moment.new.ru c.args.out.now c.loop-tick.out c.moment.new.out
+    halts_whole g.A.Air.grew (g.A.Air.stopped NoMemory) g.met.A.Air.grew_more d tick.0 c.moment.new.ru c.args.out.now c.loop-tick.out c.moment.new.out
     (at_most first_clock now tick.0 old.turn.turn.begun order) m.ended
     (subst (λ (es : List Event). g.A.Air.grew c.args.out.now es c.loop-tick.out) (sym idle) old.heard) (c.moment.ensures.wants (same ∙ wants))
 

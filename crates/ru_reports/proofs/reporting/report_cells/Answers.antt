@@ -1,5 +1,5 @@
-use Rattle.std.proofs.Common.{rules, ◌≡◌, List, map, subst, arith}
-use Rattle.std.proofs.lemmas.Result.{err_from_is_err_and}
+use Rattle.std.proofs.Common.{rules, ◌≡◌, List, map, subst, sym, arith}
+use Rattle.std.proofs.lemmas.Result.{IfErr-weaker}
 use Rattle.air_source.specs.declared.events.AirCell.{AirCell}
 use Rattle.air_source.specs.declared.events.Event.TheVariants.{Cell as Reported}
 use Rattle.ru_reports.specs.Symbols.{CountsTold, MarksTold, left_at}
@@ -30,10 +30,11 @@ loop-prb-preserved g c = record {
 
 pub returns-in_err-report_cell-clause-stop : goal.returns-in_err-report_cell-clause-stop
 returns-in_err-report_cell-clause-stop g c =
-    let p = err_from_is_err_and c.from_residual.result c.from_residual.ensures.1 in
-    rw p.1 (stops_below g.A.Air.grew c.args.m.now g.A.Air.stopped c.loop-prb.prb c.args.cells.now c.loop-prb.cells c.report_cell.new.cells
+    let same : c.report_cell.result ≡ c.from_residual.result = search rules in
+    rw (sym same) (IfErr-weaker c.report_cell.result _ _ (λ f stop.
+    stops_below g.A.Air.grew c.args.m.now (g.A.Air.stopped f) c.loop-prb.prb c.args.cells.now c.loop-prb.cells c.report_cell.new.cells
     c.args.counters.now c.loop-prb.counters c.report_cell.new.counters c.args.air.now c.loop-prb.air c.report_cell.new.air
-    c.loop-prb-test.true c.loop-prb.invariant.told c.in_err-report_cell.ensures.stop)
+    c.loop-prb-test.true c.loop-prb.invariant.told stop) c.report_cell.ensures.stop)
 
 pub returns-clause-heard : goal.returns-clause-heard
 returns-clause-heard g c =

@@ -11,7 +11,7 @@ returns-in_err-tell_cells-clause-front g c =
     let es = map Cell c.args.cells.now in
     let a = c.new-air.result in
     let b = c.tell_cells.new.air in
-    let front = front_of_whole (w (sink_of a)) (w (sink_of b)) es (stops_front (λ a. w (sink_of a)) (λ a. g.K.Sink.faults (sink_of a)) (λ a. g.K.Sink.refusals (sink_of a)) owed_of es a b c.new-air.ensures.owed c.in_err-tell_cells.ensures.stop) in
+    let front = front_of_whole (w (sink_of a)) (w (sink_of b)) es (stops_front _ (λ a. w (sink_of a)) (λ a. g.K.Sink.faults (sink_of a)) (λ a. g.K.Sink.refusals (sink_of a)) owed_of es a b c.new-air.ensures.owed c.in_err-tell_cells.ensures.stop) in
     search (rules, front)
 
 pub returns-clause-all : goal.returns-clause-all

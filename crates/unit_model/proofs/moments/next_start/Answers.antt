@@ -9,8 +9,8 @@ use Rattle.unit_model.proofs.moments.next_start.Goals as goal
 pub loop-a-preserved : goal.loop-a-preserved
 loop-a-preserved c = (
   c.nearest_of-next.ensures.low,
-  one_allocation_more c.args.from.0 c.args.down c.loop-a.next c.nearest_of-next.result c.args.accepted.now c.loop-a.a-index _ c.loop-a-test.true c.nearest_of-next.ensures.others
-      c.loop-a.invariant.1 c.nearest_of-next.ensures.starts,
+  one_allocation_more c.args.from.0 c.args.down c.loop-a.next c.nearest_of-next.result c.args.accepted.now c.loop-a.a-index c.a-item.result c.loop-a-test.true c.nearest_of-next.ensures.others
+      c.loop-a.invariant.1 (subst (OfEachSymbol (IsNotMissed c.args.from.0 c.nearest_of-next.result) c.args.down) c.a-item.is c.nearest_of-next.ensures.starts),
 )
 
 pub returns-clause-first : goal.returns-clause-first

@@ -1,9 +1,16 @@
-use Rattle.std.proofs.Common.{◌≡◌, length, map, take}
+use Rattle.std.proofs.Common.{◌≡◌, ◌+◌, ◌≤◌, ◌++◌, length, map, take}
+use Rattle.fh_document.specs.declared.words.TheConstants.{KEPT}
+use Rattle.fh_document.specs.Words.{words_of, left_length}
+use Rattle.fh_document.proofs.Cuts.{words_left}
 use Rattle.fh_document.proofs.words.Words.of.Given as goal
 
-abbrev pub invariant-loop-word : goal.invariant-loop-word
-invariant-loop-word l =
-    (goal.iterator-loop-word).can_next l.word-iterator ×
-    (goal.iterator-loop-word).is_finite l.word-iterator ×
-    (l.count ≡ length l.yielded) ×
-    (map (λ x. x.now) l.kept.items ≡ take 16 (map (λ x. x.now) l.yielded))
+abbrev pub invariant-words : goal.invariant-words
+invariant-words l = record {
+  counted : l.count + length (words_left l.rest) ≡ length (words_of l.line);
+  fits : l.count + left_length l.rest ≤ length l.line + 1;
+  kept : take KEPT (map (λ x. x.now) l.kept.items ++ words_left l.rest) ≡ take KEPT (words_of l.line);
+  few : length l.kept.items ≤ KEPT;
+}
+
+abbrev pub decreases-words : goal.decreases-words
+decreases-words l = left_length l.rest

@@ -1,7 +1,7 @@
 use Rattle.std.proofs.Common.{pos, ◌+ℤ◌, sym, ap₂, subst, ◌∙◌}
 use Rattle.std.specs.Prelude.{IfSome}
 use Rattle.ru_buffers.specs.Calls.{IsLeastOf, earlier_time}
-use Rattle.landing_queue.specs.Queues.{first_time}
+use Rattle.frame_network.specs.Queues.{first_time}
 use Rattle.frame_network.specs.Network.{first_time as first_flying}
 use Rattle.replay_loop.specs.Coming.{AreFlyingFrom, AreFrom, IsCalmTo}
 use Rattle.replay_loop.proofs.NextLemmas.{earlier_of_both, first_flies, first_waits}

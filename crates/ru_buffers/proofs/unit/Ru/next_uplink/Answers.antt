@@ -1,4 +1,5 @@
 use Rattle.std.proofs.Common.{refl}
+use Rattle.fh_time.proofs.Kept.{offsets_short}
 use Rattle.ru_buffers.proofs.CallLemmas.{gives, none_at_clock, none_by_clock, still_ready}
 use Rattle.ru_buffers.proofs.unit.Ru.next_uplink.Goals as goal
 
@@ -17,7 +18,7 @@ returns-clause-given c k h all =
     let u = c.args.self.now in
     let found = c.in-Some.ensures.found in
     let is =
-    gives k u.memory u.clock.0 u.cursor h all c.after-self.result c.in-Some.next c.offsets_fit.ensures found (c.if-not-starts_by.ensures.by refl)
+    gives k u.memory u.clock.0 u.cursor h all c.after-self.result c.in-Some.next (offsets_short c.in-Some.next.symbol.endpoint.numerology) found (c.if-not-starts_by.ensures.by refl)
     (c.after-self.ensures u.memory.cells found) in
     record { first = is.0; stands = is.1 }
 
@@ -25,4 +26,4 @@ pub returns-clause-past : goal.returns-clause-past
 returns-clause-past c k h all ready =
     let u = c.args.self.now in
     let found = c.in-Some.ensures.found in
-    still_ready k u.memory u.clock.0 u.cursor h all c.after-self.result c.in-Some.next u.clock.0 c.offsets_fit.ensures found (c.after-self.ensures u.memory.cells found) ready
+    still_ready k u.memory u.clock.0 u.cursor h all c.after-self.result c.in-Some.next u.clock.0 (offsets_short c.in-Some.next.symbol.endpoint.numerology) found (c.after-self.ensures u.memory.cells found) ready

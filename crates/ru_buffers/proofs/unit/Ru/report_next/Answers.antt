@@ -1,4 +1,5 @@
 use Rattle.std.proofs.Common.{[], refl, sym, append-nil}
+use Rattle.fh_time.proofs.Kept.{offsets_short}
 use Rattle.ru_memory.specs.declared.memory.RuMemory.{RuMemory}
 use Rattle.ru_buffers.proofs.LoopLemmas.{first_found, goes_to, over_later, over_none, stops_at}
 use Rattle.ru_buffers.proofs.OrderLemmas.{rest_after}
@@ -20,7 +21,7 @@ returns-in-Ok-clause-told g c k h all =
     let found = c.in-Some.ensures in
     let told = c.in-Ok.ensures in
     let m : RuMemory = record { endpoints = u.memory.endpoints; cells = c.report-told.new.cells; assembly = u.memory.assembly; counters = c.report-told.new.counters } in
-    goes_to g.A.Air.grew u m c.args.air.now c.report-told.new.air c.args.to.0 k h c.in-Some.first all c.offsets_fit.ensures
+    goes_to g.A.Air.grew u m c.args.air.now c.report-told.new.air c.args.to.0 k h c.in-Some.first all (offsets_short c.in-Some.first.endpoint.numerology)
     (first_found u.memory.cells u.clock.0 c.in-Some.first found.symbol found.after found.first) (c.if-not-starts_by.ensures.by refl)
     (record { more = []; left = sym (append-nil _); marks = told.marks; counts = told.counts; endpoints = refl; assembly = refl }) told.heard
 
@@ -40,6 +41,6 @@ returns-in-Err-clause-stop g c k h all =
     let u = c.args.self.now in
     let found = c.in-Some.ensures in
     let m : RuMemory = record { endpoints = u.memory.endpoints; cells = c.report-told.new.cells; assembly = u.memory.assembly; counters = c.report-told.new.counters } in
-    stops_at g.A.Air.grew g.A.Air.stopped u m c.args.air.now c.report-told.new.air c.args.to.0 k h c.in-Some.first all c.offsets_fit.ensures
+    stops_at g.A.Air.grew (g.A.Air.stopped c.in-Err.stop) u m c.args.air.now c.report-told.new.air c.args.to.0 k h c.in-Some.first all (offsets_short c.in-Some.first.endpoint.numerology)
     (first_found u.memory.cells u.clock.0 c.in-Some.first found.symbol found.after found.first) (c.if-not-starts_by.ensures.by refl)
     c.in-Err.ensures.stop refl refl

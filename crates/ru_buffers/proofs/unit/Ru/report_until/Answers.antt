@@ -75,5 +75,5 @@ returns-in-Err-clause-cause g c =
 pub returns-in-Err-clause-stop : goal.returns-in-Err-clause-stop
 returns-in-Err-clause-stop g c k h all =
     let one = c.loop-reported.invariant.goes k h all in
-    stops_then g.A.Air.grew g.A.Air.stopped g.met.A.Air.grew_more c.args.to.0 c.loop-reported.self c.report_next.new.self c.args.air.now c.loop-reported.air c.report_next.new.air
+    stops_then g.A.Air.grew (g.A.Air.stopped c.in-Err.fault) g.met.A.Air.grew_more c.args.to.0 c.loop-reported.self c.report_next.new.self c.args.air.now c.loop-reported.air c.report_next.new.air
     k h one (c.in-Err.ensures.stop k (heard h one.told) one.stands)

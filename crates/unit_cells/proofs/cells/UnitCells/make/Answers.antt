@@ -15,8 +15,8 @@ loop-endpoint-preserved c =
     record {
       endpoints =
           ap (λ (rs : List RingValue). map endpoint_in rs) items
-          ∙ pushed_rings c.loop-endpoint.rings.items ring c.as_slice-endpoints.result.now c.loop-endpoint.endpoint-index _ c.loop-endpoint.invariant.endpoints
-          c.loop-endpoint-test.true c.in_ok-ring.ensures.endpoint;
+          ∙ pushed_rings c.loop-endpoint.rings.items ring c.as_slice-endpoints.result.now c.loop-endpoint.endpoint-index c.endpoint-item.result
+          c.loop-endpoint.invariant.endpoints c.loop-endpoint-test.true (c.in_ok-ring.ensures.endpoint ∙ c.endpoint-item.is);
       fresh = subst (All P) (sym items) (All-push P c.loop-endpoint.rings.items ring c.loop-endpoint.invariant.fresh fresh);
     }
 

@@ -1,4 +1,4 @@
-use Rattle.std.proofs.Common.{◌≡◌, List, take, sym, ◌∙◌, subst}
+use Rattle.std.proofs.Common.{◌≡◌, List, ◌∷◌, take, sym, ◌∙◌, subst}
 use Rattle.std.proofs.lemmas.List.{take_all}
 use Rattle.cplane_sections.specs.Message.{sections_in}
 use Rattle.unit_model.specs.Lists.{onto}
@@ -18,7 +18,8 @@ loop-c-preserved c side n fs cs ds h =
     let all = c.deref-c-items.result.now in
     let i = c.loop-c.c-index in
     let P : List Command → Type 0 = λ (xs : List Command). Holds c.command_section.new.self side c.args.config.now n fs xs ds in
-    subst P (sym (onto_more cs all i _ c.loop-c-test.true)) (c.in_ok-command_section.ensures side n fs (onto cs (take i all)) ds (c.loop-c.invariant side n fs cs ds h))
+    let told = c.in_ok-command_section.ensures side n fs (onto cs (take i all)) ds (c.loop-c.invariant side n fs cs ds h) in
+    subst P (sym (onto_more cs all i c.c-item.result c.loop-c-test.true)) (subst (λ (x : Command). P (x ∷ onto cs (take i all))) c.c-item.is told)
 
 pub returns : goal.returns
 returns c side n fs cs ds h =

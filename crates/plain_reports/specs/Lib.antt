@@ -1,2 +1,0 @@
-pub mod Injected
-pub mod Reports

@@ -1,0 +1,9 @@
+//! Tests of the replay of a document: what an air hears (`events`), and the report that is written (`reports`).
+//!
+//! They stand beside `replay_loop` and `fronthaul_replay`, so that these are proved without them.
+#![tactic(auto)]
+
+#[cfg(test)]
+mod events;
+#[cfg(test)]
+mod reports;

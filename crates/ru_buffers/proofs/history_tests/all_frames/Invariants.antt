@@ -1,5 +1,0 @@
-use Rattle.ru_buffers.specs.Calls.{HasGivenPast, StandsForSome}
-use Rattle.ru_buffers.proofs.history_tests.all_frames.Given as goal
-
-abbrev pub invariant-loop-f : goal.invariant-loop-f
-invariant-loop-f l = record { unit : StandsForSome l.unit; given : HasGivenPast l.unit }

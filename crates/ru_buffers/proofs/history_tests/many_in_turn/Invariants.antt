@@ -1,5 +1,0 @@
-use Rattle.ru_buffers.specs.Calls.{HasGivenPast, StandsForSome}
-use Rattle.ru_buffers.proofs.history_tests.many_in_turn.Given as goal
-
-abbrev pub invariant-loop-k : goal.invariant-loop-k
-invariant-loop-k l = record { unit : StandsForSome l.unit; given : HasGivenPast l.unit }

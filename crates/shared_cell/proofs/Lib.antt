@@ -1,0 +1,5 @@
+mod Same
+mod Found
+mod Bounds
+mod Sums
+pub mod Lifted

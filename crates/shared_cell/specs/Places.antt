@@ -1,0 +1,36 @@
+-- The places of cells: this project's profile of a shared cell.
+use Rattle.std.specs.Prelude.{Bool, ◌==◌, ◌&&◌}
+use Rattle.std.specs.Ordering.{nat_cmp, int_cmp, int_eq, on, then_cmp}
+use Rattle.std.specs.declared.cmp.Ordering.{Ordering}
+use Rattle.air_source.specs.declared.events.AirCell.{AirCell}
+use Rattle.shared_cell.specs.declared.places.CellPlace.{CellPlace}
+use Rattle.shared_cell.specs.declared.values.Mixed.{Mixed}
+
+-- where a cell stands
+abbrev pub place_of : AirCell → CellPlace
+place_of c = record { prb = c.prb; symbol = c.symbol; slot = c.slot.slot; subframe = c.slot.subframe; frame = c.slot.frame; id = c.id }
+
+-- where a combined cell stands
+abbrev pub place_in : Mixed → CellPlace
+place_in m = record { prb = m.prb; symbol = m.symbol; slot = m.slot.slot; subframe = m.slot.subframe; frame = m.slot.frame; id = m.id }
+
+-- the same endpoint, slot, symbol and PRB
+abbrev pub is_same : CellPlace → CellPlace → Bool
+is_same p q = (p.prb == q.prb) && ((p.symbol == q.symbol) && ((p.slot == q.slot) && ((p.subframe == q.subframe) && (int_eq p.frame q.frame && (p.id == q.id)))))
+
+-- a cell stands at the place
+abbrev pub is_at : CellPlace → AirCell → Bool
+is_at p c = is_same p (place_of c)
+
+-- a combined cell stands at the place
+abbrev pub is_mixed_at : CellPlace → Mixed → Bool
+is_mixed_at p m = is_same p (place_in m)
+
+-- the order of places in the map
+abbrev pub place_cmp : CellPlace → CellPlace → Ordering
+place_cmp = then_cmp (on (λ p. p.prb) nat_cmp)
+    (then_cmp (on (λ p. p.symbol) nat_cmp)
+    (then_cmp (on (λ p. p.slot) nat_cmp)
+    (then_cmp (on (λ p. p.subframe) nat_cmp)
+    (then_cmp (on (λ p. p.frame) int_cmp)
+    (on (λ p. p.id) nat_cmp)))))

@@ -1,0 +1,116 @@
+// The mixer of cells.
+ghost use Rattle.std.specs.Prelude.{◌≡◌, ◌<◌, ◌↔◌, ◌≤◌, [], ◌∷◌, ◌++◌, length, slice_get, All, OnOk, OnErr, IsNone, List, None};
+ghost use Rattle.air_source.specs.declared.events.AirCell.{AirCell};
+ghost use Rattle.shared_cell.specs.Places.{place_of};
+ghost use Rattle.shared_cell.specs.Joined.{added, HasRoom};
+ghost use Rattle.shared_cell.specs.Combined.{combined, firsts, cells_with, Stands, MayAdd};
+
+use crate::Mixed;
+use crate::joining::{join, opened};
+use crate::places::{CellPlace, place_of};
+use air_source::AirCell;
+use fh_base::NoMemory;
+use std::alloc::Global;
+use std::collections::BTreeMap;
+use std::marker::Model;
+
+/// Adds up the cells of units that share a cell. Contracts see the list of its combined cells, and say by `Stands` for which
+/// cells it stands, in the order in which they were added.
+#[derive(Drop)]
+pub struct Mixer {
+    places: BTreeMap<CellPlace, usize>,
+    mixed: Vec<Mixed>,
+}
+
+impl Model for Mixer {
+    ghost use Rattle.std.specs.Prelude.{List};
+    ghost use Rattle.shared_cell.specs.declared.values.Mixed.{Mixed};
+
+    ghost Value = { List Mixed };
+
+    ghost use Rattle.shared_cell.specs.Held.{KeepsPlaces};
+
+    ghost view = { λ m. m.mixed.items };
+
+    ghost invariant = { KeepsPlaces };
+}
+
+impl Mixer {
+    ghost use Rattle.shared_cell.specs.Held.{index_of};
+
+    /// A mixer that no cell was added to. This takes no memory; later growth takes it from `alloc`.
+    pub fn make(alloc: Global) -> Mixer
+        ensures { Stands result [] }
+    {
+        Mixer {
+            places: BTreeMap::new(alloc),
+            mixed: Vec::new(alloc),
+        }
+    }
+
+    /// Adds a unit's cell: one of the distributed unit. At most 8 cells have the same place (endpoint, slot, symbol and
+    /// PRB), and cells of one place have the same time, section and mask.
+    ///
+    /// After `NoMemory` all is as before. It comes only at the first cell of a place.
+    pub fn add(&mut self, c: &AirCell) -> Result<(), NoMemory>
+        requires { MayAdd self.old c.now }
+        ensures ok { OnOk result ((cells : List AirCell) → Stands self.old cells → Stands self.new (cells ++ c.now ∷ [])) }
+        ensures err { OnErr result (self.new ≡ self.old) }
+        ensures refused { (cells : List AirCell) → Stands self.old cells → OnErr result (cells_with c.now cells ≡ []) }
+    {
+        self.put(c)
+    }
+
+    /// The `k`-th combined cell, counted from 0, in the order in which their places were first added. None exactly where
+    /// there are no more than `k`.
+    pub fn mixed(&self, k: usize) -> Option<Mixed>
+        ensures value { (cells : List AirCell) → Stands self.now cells → result ≡ slice_get (combined cells) k }
+        ensures none { (cells : List AirCell) → Stands self.now cells → (result ≡ None) ↔ (length (firsts cells) ≤ k) }
+    {
+        self.mixed.get(k).copied()
+    }
+
+    // The index of the combined cell of a place, where there is one.
+    fn index_of(&self, place: CellPlace) -> Option<usize>
+        ensures { result ≡ index_of place self.now }
+    {
+        self.places.get(&place).copied()
+    }
+
+    // Joins the cell to the combined cell of its place, or opens one.
+    fn put(&mut self, c: &AirCell) -> Result<(), NoMemory>
+        requires { All (HasRoom c.now) self.old }
+        ensures ok { OnOk result (self.new ≡ added c.now self.old) }
+        ensures err { OnErr result (self.new ≡ self.old) }
+        ensures refused { OnErr result (index_of (place_of c.now) self.old ≡ None) }
+    {
+        let place = place_of(c);
+        match self.index_of(place) {
+            Some(index) => {
+                join(&mut self.mixed[index], c);
+                Ok(())
+            }
+            None => self.open(place, c),
+        }
+    }
+
+    // A combined cell of its own for the first cell of a place.
+    fn open(&mut self, place: CellPlace, c: &AirCell) -> Result<(), NoMemory>
+        requires place { place ≡ place_of c.now }
+        requires first { index_of place self.old ≡ None }
+        ensures ok { OnOk result (self.new ≡ added c.now self.old) }
+        ensures err { OnErr result (self.new ≡ self.old) }
+    {
+        let mut mixed = opened(c);
+        join(&mut mixed, c);
+        let index = self.mixed.len();
+        self.mixed.push(mixed)?;
+        match self.places.insert(place, index) {
+            Ok(_) => Ok(()),
+            Err(_) => {
+                self.mixed.pop();
+                Err(NoMemory)
+            }
+        }
+    }
+}

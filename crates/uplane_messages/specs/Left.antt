@@ -1,0 +1,47 @@
+-- What a walk over a message has left to tell.
+use Rattle.std.specs.Prelude.{◌≡◌, List, [], ◌++◌, length, Option, MatchOption}
+use Rattle.uplane_sections.specs.declared.values.URefusal.{URefusal}
+use Rattle.uplane_sections.specs.declared.steps.UFeed.{UFeed}
+use Rattle.uplane_sections.specs.Messages.{Item, Telling}
+use Rattle.uplane_sections.specs.Phases.{feed_told}
+use Rattle.uplane_sections.specs.States.{tells}
+use Rattle.ecpri_fragments.specs.declared.assembly.Lease.{Lease}
+use Rattle.uplane_messages.specs.declared.walk.DataWalk.{DataWalk}
+use Rattle.uplane_messages.specs.Joined.{pieces_of, bytes_from}
+
+-- the message that it goes over
+abbrev pub lease_of : DataWalk → Lease
+lease_of walk = walk.lease.now
+
+-- what is told of the bytes that it has not used
+abbrev pub telling_of : DataWalk → Telling
+telling_of walk = tells walk.walker (bytes_from (pieces_of (lease_of walk)) walk.piece walk.at)
+
+-- the items that it has still to give
+abbrev pub left_of : DataWalk → List Item
+left_of walk = (telling_of walk).items
+
+-- the refusal that stands behind them
+abbrev pub refusal_of : DataWalk → Option URefusal
+refusal_of walk = (telling_of walk).refusal
+
+-- what is given tells just one item, the first that was left
+pub record TellsFirst (old new : List Item) (what : UFeed) : Type 0 where
+  pub one : length (feed_told what) ≡ 1
+  pub first : old ≡ feed_told what ++ new
+
+-- None is answered only where nothing is left
+pub record NothingLeft (old new : List Item) : Type 0 where
+  pub before : old ≡ []
+  pub behind : new ≡ []
+
+-- a call from s gave the first item that was left, if there was one, and led to t, which goes over the same message to
+-- the same refusal
+abbrev pub GivesItem : DataWalk → Option UFeed → DataWalk → Type 0
+GivesItem s r t =
+    MatchOption r (NothingLeft (left_of s) (left_of t)) (TellsFirst (left_of s) (left_of t))
+    × (refusal_of t ≡ refusal_of s) × (lease_of t ≡ lease_of s)
+
+-- the message ends here, or is refused already: what comes changes nothing
+abbrev pub IsAtEnd : DataWalk → Type 0
+IsAtEnd walk = telling_of walk ≡ tells walk.walker []

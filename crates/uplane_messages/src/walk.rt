@@ -1,0 +1,114 @@
+//! The walk over a message.
+ghost use Rattle.std.specs.Prelude.{◌≡◌, ◌+◌, ◌<◌, ◌^◌, length};
+ghost use Rattle.bfp_codec.specs.Layout.{HasWidth};
+ghost use Rattle.uplane_sections.specs.States.{used_by};
+ghost use Rattle.uplane_sections.specs.Messages.{told};
+ghost use Rattle.uplane_messages.specs.Joined.{pieces_of, bytes_from};
+
+use bfp_codec::Format;
+use ecpri_fragments::Lease;
+use fh_time::Shape;
+use uplane_sections::{UFeed, URefusal, UWalker};
+
+/// What a whole U-plane message tells, in order, read where its pieces stand
+/// (O-RAN.WG4.CUS, clause 8.3.2).
+///
+/// Each item is [`UFeed::Head`], [`UFeed::Section`] or [`UFeed::Block`]. The walk ends behind the
+/// last of them, where the message ends or is refused; [`refusal`](DataWalk::refusal) says which.
+#[derive(Clone, Copy)]
+pub struct DataWalk<'a> {
+    lease: &'a Lease<'a>,
+    walker: UWalker,
+    piece: usize,
+    at: usize,
+    ghost fits: { used_by walker + length (bytes_from (pieces_of lease.now) piece at) < 2 ^ 64 },
+}
+
+impl<'a> DataWalk<'a> {
+    ghost use Rattle.uplane_messages.specs.Joined.{message_bytes};
+    ghost use Rattle.std.specs.Prelude.{IfNone};
+    ghost use Rattle.uplane_messages.specs.Left.{lease_of, left_of, refusal_of, GivesItem, IsAtEnd};
+
+    /// A walk from the start of the message, in this format, on a carrier of `prbs` PRBs, where
+    /// `shape` says how many symbols a slot and how many slots a subframe has.
+    pub fn new(lease: &'a Lease<'a>, format: Format, prbs: u16, shape: Shape) -> DataWalk<'a>
+        requires { HasWidth format.method }
+        ensures lease { lease_of result ≡ lease.now }
+        ensures left { left_of result ≡ (told format prbs shape (message_bytes lease.now)).items }
+        ensures refusal { refusal_of result ≡ (told format prbs shape (message_bytes lease.now)).refusal }
+    {
+        DataWalk {
+            lease,
+            walker: UWalker::new(format, prbs, shape),
+            piece: 0,
+            at: 0,
+        }
+    }
+
+    /// The refusal of the message, if it is refused, whichever of its items were given so far.
+    ///
+    /// It goes to the message's end by the lengths in the headers: no PRB that lies whole in one piece
+    /// is looked at.
+    pub fn refusal(&self) -> Option<URefusal>
+        ensures { result ≡ refusal_of self.now }
+    {
+        let mut walk = *self;
+        while walk.piece < walk.lease.count() {
+            walk.pass_piece();
+        }
+        walk.walker.finish().err()
+    }
+
+    /// Goes over the rest of the piece at hand.
+    fn pass_piece(&mut self)
+        requires here { self.old.piece < length (pieces_of (lease_of self.old)) }
+        requires next { self.old.piece < usize.MAX }
+        ensures refusal { refusal_of self.new ≡ refusal_of self.old }
+        ensures lease { lease_of self.new ≡ lease_of self.old }
+        ensures next { self.new.piece ≡ self.old.piece + 1 }
+    {
+        let piece = self.lease.piece(self.piece);
+        let from = self.at.min(piece.len());
+        self.walker.pass(&piece[from..]);
+        self.piece += 1;
+        self.at = 0;
+    }
+
+    /// The next item, from the piece at hand or a later one.
+    fn advance(&mut self) -> Option<UFeed>
+        ensures gives { GivesItem self.old result self.new }
+        ensures end { IfNone result (IsAtEnd self.new) }
+    {
+        while self.piece < self.lease.count() {
+            let piece = self.lease.piece(self.piece);
+            if self.at < piece.len() {
+                let step = self.walker.feed(&piece[self.at..]);
+                self.at += step.used;
+                match step.what {
+                    UFeed::More => {}
+                    UFeed::Refused(_) => return None,
+                    what => return Some(what),
+                }
+            } else {
+                self.piece += 1;
+                self.at = 0;
+            }
+        }
+        None
+    }
+}
+
+impl<'a> Iterator for DataWalk<'a> {
+    ghost use Rattle.std.specs.Iterator.{item_count};
+    ghost use Rattle.uplane_messages.specs.Left.{left_of, GivesItem};
+
+    type Item = UFeed;
+
+    ghost next_gives = { GivesItem };
+
+    ghost remaining = { item_count left_of };
+
+    fn next(&mut self) -> Option<UFeed> {
+        self.advance()
+    }
+}
