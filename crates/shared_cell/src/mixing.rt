@@ -7,7 +7,7 @@ ghost use Rattle.shared_cell.specs.Combined.{combined, firsts, cells_with, Stand
 
 use crate::Mixed;
 use crate::joining::{join, opened};
-use crate::places::{CellPlace, place_of};
+use crate::places::{CellPlace, find_or_insert, place_of};
 use air_source::AirCell;
 use fh_base::NoMemory;
 use std::alloc::Global;
@@ -70,13 +70,6 @@ impl Mixer {
         self.mixed.get(k).copied()
     }
 
-    // The index of the combined cell of a place, where there is one.
-    fn index_of(&self, place: CellPlace) -> Option<usize>
-        ensures { result ≡ index_of place self.now }
-    {
-        self.places.get(&place).copied()
-    }
-
     // Joins the cell to the combined cell of its place, or opens one.
     fn put(&mut self, c: &AirCell) -> Result<(), NoMemory>
         requires { All (HasRoom c.now) self.old }
@@ -85,32 +78,18 @@ impl Mixer {
         ensures refused { OnErr result (index_of (place_of c.now) self.old ≡ None) }
     {
         let place = place_of(c);
-        match self.index_of(place) {
-            Some(index) => {
-                join(&mut self.mixed[index], c);
-                Ok(())
-            }
-            None => self.open(place, c),
+        let next = self.mixed.len();
+        let index = find_or_insert(&mut self.places, place, next)?;
+        if index < next {
+            join(&mut self.mixed[index], c);
+            return Ok(());
         }
-    }
-
-    // A combined cell of its own for the first cell of a place.
-    fn open(&mut self, place: CellPlace, c: &AirCell) -> Result<(), NoMemory>
-        requires place { place ≡ place_of c.now }
-        requires first { index_of place self.old ≡ None }
-        ensures ok { OnOk result (self.new ≡ added c.now self.old) }
-        ensures err { OnErr result (self.new ≡ self.old) }
-    {
         let mut mixed = opened(c);
         join(&mut mixed, c);
-        let index = self.mixed.len();
-        self.mixed.push(mixed)?;
-        match self.places.insert(place, index) {
-            Ok(_) => Ok(()),
-            Err(_) => {
-                self.mixed.pop();
-                Err(NoMemory)
-            }
+        if self.mixed.push(mixed).is_err() {
+            self.places.remove(&place);
+            return Err(NoMemory);
         }
+        Ok(())
     }
 }

@@ -1,8 +1,12 @@
 // The keys by which a mixer finds its combined cells.
-ghost use Rattle.std.specs.Prelude.{◌≡◌};
+ghost use Rattle.std.specs.Prelude.{◌≡◌, IfOk, OnErr, None, Some};
+ghost use Rattle.std.specs.Option.{unwrap_or};
+ghost use Rattle.std.specs.BTreeMap.{get, IsUnchanged, Updates};
 ghost use Rattle.shared_cell.specs.Places.{place_of};
 
 use air_source::AirCell;
+use fh_base::NoMemory;
+use std::collections::BTreeMap;
 
 /// Where a cell stands: a PRB, a symbol, a slot and an endpoint. What differs most stands first, as comparisons end there.
 #[derive(Clone, Copy, Debug, PartialEq, Eq, PartialOrd, Ord)]
@@ -27,4 +31,18 @@ pub fn place_of(c: &AirCell) -> CellPlace
         frame: c.slot.frame,
         id: c.id,
     }
+}
+
+/// The value that a map has at a key. A key that is not there is put there with `next`, by one search for both.
+pub fn find_or_insert<K: Ord + Drop>(
+    map: &mut BTreeMap<K, usize>,
+    key: K,
+    next: usize,
+) -> Result<usize, NoMemory>
+    ensures value { IfOk result (λ k. k ≡ unwrap_or (get K.cmp map.old key) next) }
+    ensures updates { IfOk result (λ k. Updates K.cmp map.old map.new key (Some k)) }
+    ensures err { OnErr result (IsUnchanged map.old map.new) }
+    ensures absent { OnErr result (get K.cmp map.old key ≡ None) }
+{
+    Ok(*map.entry(key)?.or_insert(next))
 }
