@@ -1,5 +1,5 @@
 // The tables of all endpoints.
-ghost use Rattle.std.specs.Prelude.{◌≡◌, ℕ, ◌+◌, ◌<◌, ◌≤◌, [], ◌∷◌, ◌++◌, List, length, get_or, IfOk, IfSome, IsNone};
+ghost use Rattle.std.specs.Prelude.{◌≡◌, ℕ, ◌+◌, ◌<◌, ◌≤◌, [], ◌∷◌, ◌++◌, List, length, get_or, IfOk, IfSome, IsNone, IsTrue};
 ghost use Rattle.window_config.specs.Configs.{IsConfig};
 ghost use Rattle.window_config.specs.declared.config.Config.{Config};
 ghost use Rattle.air_source.specs.declared.events.AirCell.{AirCell};
@@ -18,7 +18,7 @@ use window_config::{Config, EndpointConfig};
 pub struct Spans {
     // in the order of the configuration
     rows: Vec<Row>,
-    // the index of the endpoint of the last cell: cells come in runs of one endpoint
+    // the index of the endpoint of the last cell
     recent: usize,
 }
 
@@ -52,13 +52,22 @@ impl Spans {
         Ok(Spans { rows, recent: 0 })
     }
 
-    /// The index of the endpoint with an id.
+    /// Whether there is a table with this index, of the endpoint with this id.
+    fn has_id(&self, ep: usize, id: u16) -> bool
+        ensures { IsTrue result → (ep < length self.now.rows) × ((row_at self.now ep).endpoint.id ≡ id) }
+    {
+        ep < self.rows.len() && self.rows[ep].id() == id
+    }
+
+    /// The index of the endpoint with an id. Cells come in runs of one endpoint, or of one after the other.
     fn find(&self, id: u16) -> Option<usize>
         ensures some { IfSome result (λ ep. (ep < length self.now.rows) × ((row_at self.now ep).endpoint.id ≡ id)) }
         ensures none { IsNone result → (ep : ℕ) → ep < length self.now.rows → (row_at self.now ep).endpoint.id ≡ id → ⊥ }
     {
-        if self.recent < self.rows.len() && self.rows[self.recent].id() == id {
-            return Some(self.recent);
+        for guess in [self.recent, self.recent.wrapping_add(1)] {
+            if self.has_id(guess, id) {
+                return Some(guess);
+            }
         }
         for ep in 0..self.rows.len() {
             if self.rows[ep].id() == id {

@@ -1,4 +1,4 @@
-mod Same
+pub mod Same
 mod Found
 mod Bounds
 mod Sums
