@@ -21,7 +21,7 @@ use Rattle.unit_model.specs.Counts.{decoded_counted, fragment_counter, frames_co
 use Rattle.unit_model.specs.Decoding.{Decoded, Refused, Backwards, Sections, data_now}
 use Rattle.unit_model.specs.Lists.{onto}
 use Rattle.unit_model.specs.Meetings.{Arrival, Meeting, Ignored, Commands, Piece, application, command_read, control_met, find_endpoint, fragments, id_of, is_fragmented, meet, meetings, met_by, met_in, sequence_of}
-use Rattle.unit_model.proofs.PlainLemmas.{times-append}
+use Rattle.unit_model.proofs.CountLemmas.{times-append}
 use Rattle.unit_laws.specs.Totals.{commands_total, data_total}
 use Rattle.replay_laws.specs.Sums.{cells_total}
 

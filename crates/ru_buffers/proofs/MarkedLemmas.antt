@@ -33,7 +33,7 @@ use Rattle.unit_model.specs.declared.cells.Cell.{Cell}
 use Rattle.unit_model.specs.declared.cells.Claim.{Claim}
 use Rattle.unit_model.specs.declared.symbol_start.SymbolStart.{SymbolStart}
 use Rattle.unit_model.specs.Sweeps.{sweep}
-use Rattle.unit_model.proofs.PlainLemmas.{times-append}
+use Rattle.unit_model.proofs.CountLemmas.{times-append}
 use Rattle.unit_laws.specs.Ticks.{IsLiveSlot}
 use Rattle.unit_laws.proofs.CellLemmas.{slots_equal}
 use Rattle.unit_laws.proofs.DifferLemmas.{all_kept, id_is}

@@ -21,13 +21,13 @@ use Rattle.unit_model.specs.Counts.{commands_counted, data_counted, frames_count
 use Rattle.unit_model.specs.Decoding.{data_now, data_sections, data_told}
 use Rattle.unit_model.specs.Lists.{onto}
 use Rattle.unit_model.specs.Meetings.{Arrival, Meeting, Ignored, Commands, Piece, commands, fragments, meetings, met_in}
-use Rattle.unit_model.specs.Plain.{counted_of}
+use Rattle.unit_model.specs.Counts.{counted_of}
 use Rattle.unit_model.specs.Proper.{IsProperData, IsTime}
 use Rattle.unit_model.specs.Reports.{commands_of, data_of, hold_of, met}
 use Rattle.unit_model.specs.Standing.{AreInTime}
 use Rattle.unit_model.specs.declared.decoded.Command.{Command}
 use Rattle.unit_model.specs.declared.decoded.Data.{Data}
-use Rattle.unit_model.proofs.PlainLemmas.{times-append}
+use Rattle.unit_model.proofs.CountLemmas.{times-append}
 use Rattle.unit_laws.proofs.HistoryLemmas.{data_are_proper}
 use Rattle.unit_cells.specs.Told.{IsTold}
 use Rattle.unit_cells.proofs.TimeLemmas.{keeps_later}

@@ -25,7 +25,8 @@ use Rattle.unit_model.specs.declared.allocations.Allocation.{Allocation}
 use Rattle.unit_model.specs.declared.decoded.Command.{Command}
 use Rattle.unit_model.specs.declared.decoded.Data.{Data}
 use Rattle.unit_model.specs.declared.verdicts.CommandVerdict.{CommandVerdict}
-use Rattle.unit_model.proofs.PlainLemmas.{accepted_on, times-append}
+use Rattle.unit_model.proofs.SectionLemmas.{accepted_on}
+use Rattle.unit_model.proofs.CountLemmas.{times-append}
 use Rattle.unit_cells.specs.Cells.{CellsValue, IsOf, endpoints_of}
 use Rattle.unit_cells.specs.Keeping.{Keeps}
 use Rattle.ru_memory.specs.Parts.{CameBy, HoldsParts, LeavesMarks}

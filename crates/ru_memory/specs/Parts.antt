@@ -13,7 +13,7 @@ use Rattle.unit_model.specs.Commands.{accepted, command_verdicts}
 use Rattle.unit_model.specs.Counts.{commands_counted, data_counted}
 use Rattle.unit_model.specs.Decoding.{data_sections}
 use Rattle.unit_model.specs.Meetings.{Arrival, Meeting, commands, fragments}
-use Rattle.unit_model.specs.Plain.{counted_of}
+use Rattle.unit_model.specs.Counts.{counted_of}
 use Rattle.unit_model.specs.Proper.{IsTime}
 use Rattle.unit_model.specs.Reports.{hold_of}
 use Rattle.unit_model.specs.declared.decoded.Command.{Command}

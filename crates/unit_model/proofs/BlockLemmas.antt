@@ -1,85 +1,17 @@
--- The blocks that sections of data give a cell, one section after the other.
-use Rattle.std.proofs.Common.{◌≡◌, All, ◌∷◌, ℕ, ◌+◌, ◌-◌, ◌<◌, ◌≤◌, Bool, true, false, ◌&&◌, List, [], length, get_or, drop, refl, sym, ap, ◌∙◌, arith}
-use Rattle.std.specs.Prelude.{◌==◌, Option, Some, None, if◌then◌else◌, slice_get, is_some}
-use Rattle.std.proofs.lemmas.Bool.Decides.{nat_tests}
-use Rattle.std.proofs.lemmas.List.{at_drop_more, at_drop_all}
-use Rattle.std.proofs.lemmas.Option.{slice_get-get_or, get_or_from_slice_get}
+-- Blocks that are found before others, the window of uplink data, and what holds of the data that came on time.
+use Rattle.std.proofs.Common.{◌≡◌, All, ◌∷◌, true, false, List, [], refl, arith}
+use Rattle.std.specs.Prelude.{Option, Some, None, is_some}
 use Rattle.std.proofs.lemmas.Int.{ints}
 use Rattle.std.proofs.lemmas.List.Elements.{All-nil, All-cons, All-head, All-tail}
 use Rattle.air_source.specs.declared.events.Side.{Side}
-use Rattle.bfp_codec.specs.declared.samples.Wide.{Wide}
 use Rattle.window_config.specs.Limits.{IsWithinLimits, IsWindow}
 use Rattle.window_config.specs.declared.delays.Delays.{Delays}
 use Rattle.window_config.specs.declared.verdicts.Class.{Class}
 use Rattle.window_config.specs.declared.verdicts.Class.TheVariants as class
-use Rattle.unit_model.specs.Blocks.{timely, with_timely, data_class, has_all, every_data_cell, data_slot, first_data_prb, data_prb_count, data_covers, block_of, block_in, block_at}
-use Rattle.unit_model.specs.Claims.{cell_at, is_from, same_way, same_slot}
-use Rattle.unit_model.specs.Lists.{every, or_else}
-use Rattle.unit_model.specs.Sound.{IsSoundData}
+use Rattle.unit_model.specs.Blocks.{timely, with_timely, data_class}
+use Rattle.unit_model.specs.Lists.{or_else}
 use Rattle.unit_model.specs.declared.cells.Block.{Block}
-use Rattle.unit_model.specs.declared.cells.Cell.{Cell}
 use Rattle.unit_model.specs.declared.decoded.Data.{Data}
-use Rattle.unit_model.proofs.TestLemmas.{every_begins}
-
-last_holds : (a b c e f : Bool) → (a && (b && (c && (e && f)))) ≡ true → f ≡ true
-last_holds true true true true f h = h
-last_holds true true true false f h = absurd cc
-last_holds true true false e f h = absurd cc
-last_holds true false c e f h = absurd cc
-last_holds false b c e f h = absurd cc
-
-within : (first count n : ℕ) → is_from first count n ≡ true → n - first < count
-within first count n h = grind (arith, nat_tests)
-
-pub starts_before : (first count n : ℕ) → is_from first count n ≡ true → first ≤ n
-starts_before first count n h = grind (arith, nat_tests)
-
-prbs_cover : (d : Data) (cell : Cell) → data_covers d cell ≡ true → is_from (first_data_prb d) (data_prb_count d) cell.prb ≡ true
-prbs_cover d cell h =
-    last_holds (d.ep == cell.ep) (same_way d.head.down cell.down) (same_slot (data_slot d) cell.slot) (d.section.symbol == cell.symbol)
-    (is_from (first_data_prb d) (data_prb_count d) cell.prb) h
-
--- a covered cell's PRB is one of the section's
-pub covered_from : (d : Data) (cell : Cell) → data_covers d cell ≡ true → first_data_prb d ≤ cell.prb
-covered_from d cell h = starts_before (first_data_prb d) (data_prb_count d) cell.prb (prbs_cover d cell h)
-
-covered_below : (d : Data) (cell : Cell) → data_covers d cell ≡ true → cell.prb - first_data_prb d < data_prb_count d
-covered_below d cell h = within (first_data_prb d) (data_prb_count d) cell.prb (prbs_cover d cell h)
-
--- its block is there, and is the cell's
-pub block_is : (d : Data) (cell : Cell) (first : ℕ) (samples : List Wide) → data_covers d cell ≡ true → first ≡ first_data_prb d
-    → slice_get d.blocks (cell.prb - first) ≡ Some samples → Some (record { id = d.section.id; samples = samples }) ≡ block_in d cell
-block_is d cell first samples covered place is =
-    ap (λ (x : List Wide). Some (record { id = d.section.id; samples = x }))
-    (sym (get_or_from_slice_get d.blocks (cell.prb - first) samples [] is) ∙ ap (λ n. get_or d.blocks (cell.prb - n) []) place)
-    ∙ sym (ap (λ b. if b then Some (block_of d cell) else None) covered)
-
-pub block_there : (d : Data) (cell : Cell) (first k : ℕ) → IsSoundData d → data_covers d cell ≡ true → first ≡ first_data_prb d → k ≡ cell.prb - first
-    → None ≡ slice_get d.blocks k → ⊥
-block_there d cell first k sound covered place is none =
-    let inside : k < length d.blocks = omega (arith, covered_below d cell covered, sound.blocks) in
-    let e = slice_get-get_or d.blocks k [] inside in
-    cc
-
--- a cell that is not covered has none of its
-pub block_none : (d : Data) (cell : Cell) → data_covers d cell ≡ false → None ≡ block_in d cell
-block_none d cell h = sym (ap (λ b. if b then Some (block_of d cell) else None) h)
-
--- what is left of the list, and then what was found before it
-or_else_assoc : {A : Type 0} (x y z : Option A) → or_else (or_else x y) z ≡ or_else x (or_else y z)
-or_else_assoc None y z = refl
-or_else_assoc (Some x) y z = refl
-
-pub block_further : (ds : List Data) (i : ℕ) (e : Data) (cell : Cell) (found : Option Block) → i < length ds
-    → or_else (block_at (drop i ds) cell) found ≡ or_else (block_at (drop (i + 1) ds) cell) (or_else (block_in (get_or ds i e) cell) found)
-unfolding block_at
-block_further ds i e cell found inside =
-    ap (λ b. or_else b found) (at_drop_more (λ ys. block_at ys cell) ds i e inside)
-    ∙ or_else_assoc (block_at (drop (i + 1) ds) cell) (block_in (get_or ds i e) cell) found
-
-pub block_end : (ds : List Data) (i : ℕ) (cell : Cell) (found : Option Block) → length ds ≤ i → or_else (block_at (drop i ds) cell) found ≡ found
-unfolding block_at
-block_end ds i cell found past = ap (λ b. or_else b found) (at_drop_all (λ ys. block_at ys cell) ds i past)
 
 -- one that is found takes the place of the one before it
 pub newer_found : (b found : Option Block) → is_some b ≡ true → b ≡ or_else b found
@@ -90,17 +22,6 @@ pub older_found : (b found : Option Block) → is_some b ≡ false → found ≡
 older_found (Some y) found h = absurd cc
 older_found None found h = refl
 
--- ---- whether a section has all its blocks
-
--- the test of one cell
-abbrev pub cell_has : List Data → Data → ℕ → Bool
-cell_has timely d n = is_some (block_at timely (cell_at d.ep d.head.down (data_slot d) d.section.symbol n))
-
-pub has_all_begins : (timely : List Data) (d : Data)
-    → has_all timely d ≡ every (first_data_prb d) (first_data_prb d + data_prb_count d - first_data_prb d) (cell_has timely d)
-unfolding has_all every_data_cell
-has_all_begins timely d = every_begins (first_data_prb d) (data_prb_count d) (cell_has timely d)
-
 -- the window of uplink data, as configured
 pub data_up_window : (d : Delays) → IsWithinLimits d → IsWindow d.ta4
 data_up_window d is = record {
@@ -109,8 +30,6 @@ data_up_window d is = record {
 }
 
 pub ruleset windows = (data_up_window)
-
--- ---- what holds of all sections of data holds of those that came on time
 
 kept_timely : (P : Data → Type 0) (k : Class) (d : Data) (ds : List Data) → P d → All P ds → All P (with_timely k d ds)
 kept_timely P class.OnTime d ds here all = All-cons P d ds here all

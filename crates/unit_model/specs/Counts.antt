@@ -1,5 +1,5 @@
 -- What a unit counts, each as often as it happens; the order in these lists tells nothing (this project's profile).
-use Rattle.std.specs.Prelude.{◌≡◌, ℕ, ℤ, List, [], ◌∷◌, ◌++◌, map, Option, Some, None}
+use Rattle.std.specs.Prelude.{◌≡◌, ℕ, ℤ, ◌+◌, List, [], ◌∷◌, ◌++◌, map, Option, Some, None}
 use Rattle.air_source.specs.declared.events.AirCell.{AirCell}
 use Rattle.air_source.specs.declared.events.Side.{Side}
 use Rattle.bfp_codec.specs.declared.samples.Wide.{Wide}
@@ -90,3 +90,7 @@ data_counted vs = map data_counter vs
 -- each counter stands at the number of what was counted, at most the greatest u64
 abbrev pub StandAt : List ℕ → List Counter → Type 0
 StandAt counts counted = (c : Counter) → count_of counts c ≡ capped (times counted c)
+
+-- so often is a counter counted of frames and of their messages, beside the sections
+abbrev pub counted_of : Side → ℤ → List Arrival → List Meeting → Counter → ℕ
+counted_of side hold arrivals ms k = times (frames_counted arrivals) k + times (messages_counted side hold ms) k

@@ -13,8 +13,5 @@ pub mod Uplink
 pub mod Counts
 pub mod Reports
 pub mod Standing
-pub mod Plain
 pub mod Met
-pub mod Owned
-pub mod DecodedWords
 pub mod Starts

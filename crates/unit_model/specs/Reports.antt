@@ -1,5 +1,5 @@
--- All that a unit answers to a list of arrivals, the newest first (this project's profile).
-use Rattle.std.specs.Prelude.{◌≡◌, ℤ, List, [], ◌++◌, reverse}
+-- What a list of arrivals, the newest first, leaves a unit (this project's profile).
+use Rattle.std.specs.Prelude.{ℤ, List, ◌++◌}
 use Rattle.air_source.specs.declared.events.AirCell.{AirCell}
 use Rattle.air_source.specs.declared.events.Side.{Side}
 use Rattle.air_source.specs.declared.events.Side.TheVariants.{Ru, Du}
@@ -9,15 +9,13 @@ use Rattle.window_config.specs.declared.delays.Delays.{Delays}
 use Rattle.window_config.specs.Windows.{ticks_of_ns}
 use Rattle.unit_model.specs.Blocks.{timely, data_verdicts}
 use Rattle.unit_model.specs.Commands.{accepted, command_verdicts}
-use Rattle.unit_model.specs.Counts.{StandAt, messages_counted, frames_counted, commands_counted, data_counted, cells_counted}
+use Rattle.unit_model.specs.Counts.{messages_counted, frames_counted, commands_counted, data_counted}
 use Rattle.unit_model.specs.Decoding.{data_sections}
 use Rattle.unit_model.specs.Meetings.{Arrival, Meeting, meetings, commands}
 use Rattle.unit_model.specs.Radiated.{Known, known_of, reported}
-use Rattle.unit_model.specs.Uplink.{jobs}
 use Rattle.unit_model.specs.declared.allocations.Allocation.{Allocation}
 use Rattle.unit_model.specs.declared.decoded.Command.{Command}
 use Rattle.unit_model.specs.declared.decoded.Data.{Data}
-use Rattle.unit_model.specs.declared.report.Report.{Report}
 
 -- how long a generation of fragments holds, in ticks
 abbrev pub hold_of : Side → Delays → ℤ
@@ -62,20 +60,3 @@ ru_reported c arrivals to = reported Ru c.delays c.endpoints (ru_known c arrival
 
 abbrev pub du_reported : Config → List Allocation → List Arrival → ℤ → List AirCell
 du_reported c planned arrivals to = reported Du c.delays c.endpoints (du_known c planned arrivals) to
-
--- ---- what a unit answers to arrivals up to a time
-
-pub record IsRuReport (c : Config) (arrivals : List Arrival) (to : ℤ) (r : Report) : Type 0 where
-  pub commands : r.command_verdicts ≡ reverse (command_verdicts c.delays (commands_of Ru c arrivals))
-  pub user : r.data_verdicts ≡ reverse (data_verdicts Ru c.delays (data_of Ru c arrivals))
-  pub cells : r.cells ≡ ru_reported c arrivals to
-  pub jobs : r.jobs ≡ jobs c.endpoints (accepted_of c arrivals) to
-  pub counts : StandAt r.counters (arrivals_counted Ru c arrivals ++ cells_counted (ru_reported c arrivals to))
-
--- commands go to the radio unit alone, so the distributed unit has no verdict on one, and nothing to send for one
-pub record IsDuReport (c : Config) (planned : List Allocation) (arrivals : List Arrival) (to : ℤ) (r : Report) : Type 0 where
-  pub commands : r.command_verdicts ≡ []
-  pub user : r.data_verdicts ≡ reverse (data_verdicts Du c.delays (data_of Du c arrivals))
-  pub cells : r.cells ≡ du_reported c planned arrivals to
-  pub jobs : r.jobs ≡ []
-  pub counts : StandAt r.counters (arrivals_counted Du c arrivals ++ cells_counted (du_reported c planned arrivals to))

@@ -1,21 +1,17 @@
 // What a unit makes of a whole message, by the tests that it meets.
-ghost use Rattle.std.specs.Prelude.{◌≡◌, ℤ, ◌<◌, ◌≤◌, length, IfSome, IfOk, List, All};
+ghost use Rattle.std.specs.Prelude.{◌≡◌, ℤ, ◌<◌, ◌≤◌, length, IfSome, List};
 ghost use Rattle.ecpri_frames.specs.Left.{message_of};
-ghost use Rattle.cplane_sections.specs.Message.{sections_in};
-ghost use Rattle.unit_model.specs.Meetings.{id_of, sequence_of, find_endpoint as endpoint_found, command_met, control_met, commands_with, meet as met_by_definition};
-ghost use Rattle.unit_model.specs.Met.{meeting_of, IsRead, IsTested};
-ghost use Rattle.unit_model.specs.Proper.{IsAt, IsTime, IsProperCommand};
+ghost use Rattle.unit_model.specs.Meetings.{id_of, sequence_of, find_endpoint as endpoint_found, command_met, control_met, meet as met_by_definition};
+ghost use Rattle.unit_model.specs.Met.{meeting_of, IsTested};
+ghost use Rattle.unit_model.specs.Proper.{IsAt};
 ghost use Rattle.window_config.specs.declared.endpoints.EndpointConfig.{EndpointConfig as SpecEndpoint};
 
-use crate::Command;
 use air_source::Side;
-use cplane_sections::{CHead, check, sections};
+use cplane_sections::{CHead, check};
 use ecpri_fragments::{SeqField, read_seq};
 use ecpri_frames::WholeMessage;
 use fault_counters::Counter;
-use fh_base::NoMemory;
-use fh_time::{Ticks, shape};
-use std::alloc::Global;
+use fh_time::shape;
 use window_config::EndpointConfig;
 
 /// What a whole message is to a unit.
@@ -40,10 +36,7 @@ pub enum Met<'a> {
 }
 
 /// The endpoint with an id, and its index.
-pub(crate) fn find_endpoint(
-    endpoints: &[EndpointConfig],
-    id: u16,
-) -> Option<(usize, EndpointConfig)>
+fn find_endpoint(endpoints: &[EndpointConfig], id: u16) -> Option<(usize, EndpointConfig)>
     ensures value { result ≡ endpoint_found endpoints.now id }
     ensures at { IfSome result (λ found. IsAt endpoints.now found.0 found.1) }
 {
@@ -138,30 +131,4 @@ pub fn meet<'a>(side: Side, endpoints: &[EndpointConfig], message: &WholeMessage
         seq: sequence_at(payload),
         bytes: &payload[4..],
     }
-}
-
-/// The sections of a command that was read, in its order.
-pub(crate) fn commands(
-    alloc: Global,
-    at: Ticks,
-    ep: usize,
-    endpoint: &EndpointConfig,
-    head: &CHead,
-    bytes: &[u8],
-) -> Result<Vec<Command>, NoMemory>
-    requires { IsRead endpoint.now head.now bytes.now }
-    ensures value { IfOk result (λ cs. cs.items ≡ commands_with ep endpoint.now at.0 head.now (sections_in head.now bytes.now)) }
-    ensures proper { (es : List SpecEndpoint) → IsAt es ep endpoint.now → IsTime at.0 → IfOk result (λ cs. All (IsProperCommand es) cs.items) }
-{
-    let mut commands = Vec::new(alloc);
-    for section in sections(bytes, head) {
-        commands.push(Command {
-            ep,
-            endpoint: *endpoint,
-            at,
-            head: *head,
-            section,
-        })?;
-    }
-    Ok(commands)
 }

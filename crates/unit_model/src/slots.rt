@@ -1,13 +1,12 @@
-// The slots that sections name, and when their symbols start.
+// The slot that a command names, and when its symbol starts.
 ghost use Rattle.std.specs.Prelude.{◌≡◌, pos, neg_ℤ, ◌^◌, ◌≤ℤ◌};
-ghost use Rattle.unit_model.specs.Blocks.{data_slot, data_start};
 ghost use Rattle.unit_model.specs.Claims.{same_slot};
 ghost use Rattle.unit_model.specs.Commands.{command_slot, command_start, is_idle, allocation_of};
 ghost use Rattle.unit_model.specs.Proper.{IsSlot};
-ghost use Rattle.unit_model.specs.Sound.{IsSoundCommand, IsSoundData};
+ghost use Rattle.unit_model.specs.Sound.{IsSoundCommand};
 
 use crate::allocations::Allocation;
-use crate::decoded::{Command, Data};
+use crate::decoded::Command;
 use cplane_sections::CBody;
 use fh_time::{Slot, Ticks, air, resolve};
 
@@ -20,7 +19,7 @@ pub fn same_slot(a: &Slot, b: &Slot) -> bool
 
 /// The slot that a command names, by the frame nearest to its arrival.
 #[tactic(auto, using(crate::proofs::SlotLemmas::slots))]
-pub(crate) fn command_slot(c: &Command) -> Slot
+fn command_slot(c: &Command) -> Slot
     requires { IsSoundCommand c.now }
     ensures value { result ≡ command_slot c.now }
     ensures slot { IsSlot c.now.endpoint.numerology result }
@@ -32,20 +31,6 @@ pub(crate) fn command_slot(c: &Command) -> Slot
     }
 }
 
-/// The slot that data names, by the frame nearest to its last arrival.
-#[tactic(auto, using(crate::proofs::SlotLemmas::slots))]
-pub(crate) fn data_slot(d: &Data) -> Slot
-    requires { IsSoundData d.now }
-    ensures value { result ≡ data_slot d.now }
-    ensures slot { IsSlot d.now.endpoint.numerology result }
-{
-    Slot {
-        frame: resolve(d.head.frame_id, d.last),
-        subframe: d.head.subframe,
-        slot: d.head.slot,
-    }
-}
-
 /// When the symbol of a command's header starts.
 pub(crate) fn command_start(c: &Command) -> Ticks
     requires { IsSoundCommand c.now }
@@ -54,16 +39,6 @@ pub(crate) fn command_start(c: &Command) -> Ticks
     ensures high { result.0 ≤ℤ pos (2 ^ 56) }
 {
     air(&c.endpoint.numerology, command_slot(c), c.head.start_symbol)
-}
-
-/// When the symbol of a section of data starts.
-pub(crate) fn data_start(d: &Data) -> Ticks
-    requires { IsSoundData d.now }
-    ensures value { result.0 ≡ data_start d.now }
-    ensures low { neg_ℤ (pos (2 ^ 56)) ≤ℤ result.0 }
-    ensures high { result.0 ≤ℤ pos (2 ^ 56) }
-{
-    air(&d.endpoint.numerology, data_slot(d), d.section.symbol)
 }
 
 /// Whether a command is of section type 0.

@@ -7,7 +7,7 @@ use Rattle.air_source.specs.declared.airs.AirFault.{AirFault}
 use Rattle.air_source.specs.declared.events.Event.{Event}
 use Rattle.fh_base.specs.declared.fault.NoMemory.{NoMemory}
 use Rattle.unit_model.specs.Proper.{IsTime}
-use Rattle.unit_model.specs.declared.report.TimedFrame.{TimedFrame as SpecFrame}
+use Rattle.plain_units.specs.declared.report.TimedFrame.{TimedFrame as SpecFrame}
 use Rattle.unit_model.specs.Standing.{History, at_clock, handed, heard, nothing_yet}
 use Rattle.unit_model.specs.declared.jobs.UplinkJob.{UplinkJob}
 use Rattle.window_config.specs.declared.config.Config.{Config}

@@ -8,7 +8,7 @@ use Rattle.unit_model.specs.Lists.{onto}
 use Rattle.unit_model.specs.Meetings.{command, commands_with}
 use Rattle.unit_model.specs.Proper.{IsProperCommand}
 use Rattle.unit_model.specs.declared.decoded.Command.{Command}
-use Rattle.unit_model.proofs.PlainLemmas.{onto_none, onto_one}
+use Rattle.unit_model.proofs.OntoLemmas.{onto_none, onto_one}
 use Rattle.unit_model.proofs.Read.{commands_proper}
 use Rattle.unit_cells.specs.Cells.{endpoints_of}
 use Rattle.ru_memory.specs.Parts.{HoldsParts}

@@ -1,6 +1,7 @@
 use Rattle.std.proofs.Common.{◌≡◌, refl}
 use Rattle.unit_model.specs.Commands.{accepted, command_verdict}
-use Rattle.unit_model.proofs.PlainLemmas.{added_as, command_count}
+use Rattle.unit_model.proofs.CountLemmas.{added_as}
+use Rattle.unit_model.proofs.SectionLemmas.{command_count}
 use Rattle.ru_memory.proofs.StepLemmas.{of_later, keeps_command}
 use Rattle.ru_memory.proofs.memory.RuMemory.section.Goals as goal
 

@@ -5,7 +5,7 @@ use Rattle.ecpri_frames.specs.Left.{left_of, message_of}
 use Rattle.ecpri_frames.specs.Messages.{Message}
 use Rattle.unit_model.specs.Lists.{onto}
 use Rattle.unit_model.specs.Meetings.{Meeting, meet, met_in}
-use Rattle.unit_model.proofs.PlainLemmas.{onto_none, onto_one}
+use Rattle.unit_model.proofs.OntoLemmas.{onto_none, onto_one}
 use Rattle.ru_memory.specs.Parts.{Stands}
 use Rattle.ru_memory.proofs.HoldLemmas.{CountSoFar, count_all, count_none, count_one}
 use Rattle.ru_memory.proofs.StepLemmas.{marks_more, marks_none}

@@ -1,0 +1,11 @@
+pub mod StartLaws
+pub mod BlockLemmas
+pub mod ClaimLemmas
+pub mod Told
+pub mod TestLemmas
+pub mod VerdictLemmas
+pub mod PlainLemmas
+pub mod TimeLemmas
+pub mod RadiatedLaws
+pub mod UplinkLaws
+pub mod RunLemmas

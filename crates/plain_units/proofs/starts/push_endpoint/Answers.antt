@@ -1,0 +1,27 @@
+use Rattle.std.proofs.Common.{◌≡◌, ℕ, pos, ◌+ℤ◌, ◌++◌, ap, ◌∙◌, arith}
+use Rattle.fh_time.specs.declared.values.Slot.{Slot}
+use Rattle.unit_model.specs.Lists.{each}
+use Rattle.plain_units.specs.ClaimedStarts.{claimed_start}
+use Rattle.unit_model.specs.Sweeps.{first_swept, of_frame, of_endpoint}
+use Rattle.unit_model.proofs.SweepLaws.{none_yet, one_more}
+use Rattle.plain_units.proofs.starts.push_endpoint.Goals as goal
+
+pub loop-k-init : goal.loop-k-init
+loop-k-init c = none_yet c.args.found.now.items _
+
+pub loop-k-preserved : goal.loop-k-preserved
+loop-k-preserved c =
+    let e = c.args.endpoint.now in
+    let g = claimed_start c.args.accepted.now c.args.down c.args.ep e in
+    one_more c.args.found.now.items c.loop-k.found.items c.push_named_frame.new.found.items c.loop-k.k
+    (λ (k : ℕ). of_frame g e c.args.s.0 (first_swept c.args.s.0 +ℤ pos k))
+    (c.in_ok-push_named_frame.ensures ∙ ap (λ (x : Slot). c.loop-k.found.items ++ of_frame g e c.args.s.0 x.frame) c.frame_at.ensures.value)
+    c.loop-k.invariant
+
+pub returns : goal.returns
+unfolding of_endpoint
+returns c =
+    let e = c.args.endpoint.now in
+    let g = claimed_start c.args.accepted.now c.args.down c.args.ep e in
+    let all : c.loop-k.k ≡ 6 = omega arith in
+    c.loop-k.invariant ∙ ap (λ n. c.args.found.now.items ++ each 0 n (λ (k : ℕ). of_frame g e c.args.s.0 (first_swept c.args.s.0 +ℤ pos k))) all

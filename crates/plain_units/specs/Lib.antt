@@ -1,0 +1,5 @@
+pub mod ClaimedStarts
+pub mod Reports
+pub mod Plain
+pub mod Owned
+pub mod DecodedWords

@@ -1,0 +1,333 @@
+// A unit that keeps whole lists.
+ghost use Rattle.std.specs.Prelude.{◌≡◌, ℕ, ℤ, ◌+◌, ◌≤◌, ◌<◌, ◌≤ℤ◌, ◌^◌, pos, List as Items, [], ◌∷◌, ◌++◌, OnOk, IfOk, All};
+ghost use Rattle.ecpri_fragments.specs.Generations.{Fragment};
+ghost use Rattle.cplane_sections.specs.Message.{sections_in};
+ghost use Rattle.ecpri_frames.specs.Left.{message_of};
+ghost use Rattle.ecpri_frames.specs.Messages.{pdu};
+ghost use Rattle.fault_counters.specs.declared.kinds.Counter.{Counter as SpecCounter};
+ghost use Rattle.fault_counters.specs.Counts.{once, times};
+ghost use Rattle.window_config.specs.Configs.{IsConfig};
+ghost use Rattle.unit_model.specs.declared.decoded.Command.{Command as SpecCommand};
+ghost use Rattle.unit_model.specs.declared.decoded.Data.{Data as SpecData};
+ghost use Rattle.unit_model.specs.Blocks.{with_timely};
+ghost use Rattle.unit_model.specs.Commands.{with_accepted, allocation_of};
+ghost use Rattle.unit_model.specs.Lists.{onto};
+ghost use Rattle.unit_model.specs.Counts.{decoded_counted, refusal_counted, piece_counted};
+ghost use Rattle.unit_model.specs.Decoding.{decode as decoded, data_now, data_told, sections_of};
+ghost use Rattle.unit_model.specs.Meetings.{Arrival, Meeting, meetings, commands_with, fragment_with, meet as met_by_definition};
+ghost use Rattle.unit_model.specs.Met.{IsRead};
+ghost use Rattle.plain_units.specs.Plain.{Holds, HoldsSome, Stands, StandsForSome};
+ghost use Rattle.unit_model.specs.Proper.{IsAt, IsProperCommand, IsProperData, IsTime};
+ghost use Rattle.unit_model.specs.Reports.{hold_of};
+ghost use Rattle.unit_model.specs.Sound.{IsSoundCommand};
+
+use crate::blocks::{data_class, data_verdict};
+use crate::commands::command_verdict;
+use crate::decoding::{DecodedMessage, decode};
+use crate::reading::commands;
+use crate::taking::{OwnedMessage, take};
+use air_source::Side;
+use cplane_sections::CHead;
+use ecpri_fragments::{Assembly, SeqField};
+use ecpri_frames::{WholeMessage, messages};
+use fault_counters::{Counter, Counters};
+use fh_base::{List, NoMemory};
+use fh_time::{Ticks, of_ns};
+use std::alloc::Global;
+use unit_model::{
+    Allocation, Command, CommandVerdict, Data, DataVerdict, Met, allocation_of, command_counter,
+    data_counter, fragment_counter, meet,
+};
+use window_config::{Class, Config, EndpointConfig};
+
+/// How long a generation of fragments holds at this side.
+fn hold(side: Side, config: &Config) -> Ticks
+    requires { IsConfig config.now }
+    ensures value { result.0 ≡ hold_of side config.now.delays }
+    ensures low { pos 0 ≤ℤ result.0 }
+    ensures high { result.0 ≤ℤ pos (2 ^ 56) }
+{
+    match side {
+        Side::Ru => of_ns(config.delays.hold_dl),
+        Side::Du => of_ns(config.delays.hold_ul),
+    }
+}
+
+/// Claims what a command names, where it is accepted.
+fn accept(
+    accepted: &mut Vec<Allocation>,
+    verdict: CommandVerdict,
+    c: &Command,
+) -> Result<(), NoMemory>
+    requires { IsSoundCommand c.now }
+    ensures { OnOk result (accepted.new.items ≡ with_accepted verdict (allocation_of c.now) accepted.old.items) }
+{
+    if let CommandVerdict::Accepted = verdict {
+        accepted.insert(0, allocation_of(c))?;
+    }
+    Ok(())
+}
+
+/// Keeps data that came on time.
+fn keep(timely: &mut Vec<Data>, class: Class, d: Data) -> Result<(), NoMemory>
+    ensures { OnOk result (timely.new.items ≡ with_timely class d timely.old.items) }
+{
+    if let Class::OnTime = class {
+        timely.insert(0, d)?;
+    }
+    Ok(())
+}
+
+/// What a unit keeps of all that came. The newest is first in `accepted` and `timely`, and last in the lists of verdicts.
+#[derive(Drop)]
+pub(crate) struct Plain {
+    pub(crate) assembly: Assembly,
+    pub(crate) accepted: Vec<Allocation>,
+    pub(crate) timely: Vec<Data>,
+    pub(crate) command_verdicts: List<CommandVerdict>,
+    pub(crate) data_verdicts: List<DataVerdict>,
+    pub(crate) counters: Counters,
+}
+
+impl Plain {
+    /// A unit that nothing came to.
+    pub(crate) fn make(alloc: Global, side: Side, config: &Config) -> Result<Plain, NoMemory>
+        requires { IsConfig config.now }
+        ensures { IfOk result (λ u. Stands u side config.now [] []) }
+    {
+        let endpoints = config.endpoints.as_slice().len();
+        let assembly = Assembly::make(alloc, endpoints, hold(side, config))?;
+        Ok(Plain {
+            assembly,
+            accepted: Vec::new(alloc),
+            timely: Vec::new(alloc),
+            command_verdicts: List::new(alloc),
+            data_verdicts: List::new(alloc),
+            counters: Counters::new(),
+        })
+    }
+
+    /// Counts what is no section.
+    fn count(&mut self, counter: Counter)
+        ensures { (side : Side) (c : Config) (n : SpecCounter → ℕ) (fs : Items Fragment) (cs : Items SpecCommand) (ds : Items SpecData)
+            → Holds self.old side c n fs cs ds → Holds self.new side c (λ k. n k + once counter k) fs cs ds }
+    {
+        self.counters.add(counter);
+    }
+
+    /// Treats a section of a command.
+    fn command_section(&mut self, config: &Config, c: &Command) -> Result<(), NoMemory>
+        requires config { IsConfig config.now }
+        requires proper { IsProperCommand config.now.endpoints c.now }
+        ensures { (side : Side) (n : SpecCounter → ℕ) (fs : Items Fragment) (cs : Items SpecCommand) (ds : Items SpecData)
+            → Holds self.old side config.now n fs cs ds → OnOk result (Holds self.new side config.now n fs (c.now ∷ cs) ds) }
+    {
+        let verdict = command_verdict(&config.delays, &self.accepted, c);
+        self.command_verdicts.push(verdict)?;
+        self.counters.add(command_counter(verdict));
+        accept(&mut self.accepted, verdict, c)
+    }
+
+    /// Treats a section of data.
+    fn data_section(&mut self, side: Side, config: &Config, d: Data) -> Result<(), NoMemory>
+        requires config { IsConfig config.now }
+        requires unit { HoldsSome self.old side config.now }
+        requires proper { IsProperData config.now.endpoints d }
+        ensures { (n : SpecCounter → ℕ) (fs : Items Fragment) (cs : Items SpecCommand) (ds : Items SpecData)
+            → Holds self.old side config.now n fs cs ds → OnOk result (Holds self.new side config.now n fs cs (d ∷ ds)) }
+    {
+        let class = data_class(side, &config.delays, &d);
+        let verdict = data_verdict(side, &config.delays, &self.timely, &d);
+        self.data_verdicts.push(verdict)?;
+        self.counters.add(data_counter(verdict));
+        keep(&mut self.timely, class, d)
+    }
+
+    /// Treats the sections of a message, of which the last is first.
+    fn data_sections(
+        &mut self,
+        side: Side,
+        config: &Config,
+        mut sections: Vec<Data>,
+    ) -> Result<(), NoMemory>
+        requires config { IsConfig config.now }
+        requires unit { HoldsSome self.old side config.now }
+        requires proper { All (IsProperData config.now.endpoints) sections.items }
+        ensures { (n : SpecCounter → ℕ) (fs : Items Fragment) (cs : Items SpecCommand) (ds : Items SpecData)
+            → Holds self.old side config.now n fs cs ds → OnOk result (Holds self.new side config.now n fs cs (sections.items ++ ds)) }
+    {
+        while let Some(d) = sections.pop() {
+            self.data_section(side, config, d)?;
+        }
+        Ok(())
+    }
+
+    /// Treats the sections of a command message.
+    fn command_sections(
+        &mut self,
+        alloc: Global,
+        config: &Config,
+        at: Ticks,
+        ep: usize,
+        endpoint: &EndpointConfig,
+        head: &CHead,
+        bytes: &[u8],
+    ) -> Result<(), NoMemory>
+        requires config { IsConfig config.now }
+        requires read { IsRead endpoint.now head.now bytes.now }
+        requires endpoint { IsAt config.now.endpoints ep endpoint.now }
+        requires time { IsTime at.0 }
+        ensures { (side : Side) (n : SpecCounter → ℕ) (fs : Items Fragment) (cs : Items SpecCommand) (ds : Items SpecData)
+            → Holds self.old side config.now n fs cs ds
+            → OnOk result (Holds self.new side config.now n fs (onto cs (commands_with ep endpoint.now at.0 head.now (sections_in head.now bytes.now))) ds) }
+    {
+        let commands = commands(alloc, at, ep, endpoint, head, bytes)?;
+        for c in &commands {
+            self.command_section(config, c)?;
+        }
+        Ok(())
+    }
+
+    /// Treats a message of data that became whole.
+    fn whole(
+        &mut self,
+        alloc: Global,
+        side: Side,
+        config: &Config,
+        ep: usize,
+        endpoint: &EndpointConfig,
+        message: &OwnedMessage,
+    ) -> Result<(), NoMemory>
+        requires config { IsConfig config.now }
+        requires unit { HoldsSome self.old side config.now }
+        requires endpoint { IsAt config.now.endpoints ep endpoint.now }
+        requires first { IsTime message.now.first.0 }
+        requires last { IsTime message.now.last.0 }
+        ensures { (n : SpecCounter → ℕ) (fs : Items Fragment) (cs : Items SpecCommand) (ds : Items SpecData)
+            → Holds self.old side config.now n fs cs ds
+            → let d = decoded side ep endpoint.now message.now.first.0 message.now.last.0 message.now.bytes in
+            OnOk result (Holds self.new side config.now (λ k. n k + times (decoded_counted (Some d)) k) fs cs (sections_of d ++ ds)) }
+    {
+        let bytes = message.bytes.as_slice();
+        let decoded = decode(
+            alloc,
+            side,
+            ep,
+            endpoint,
+            message.first,
+            message.last,
+            bytes,
+        )?;
+        match decoded {
+            DecodedMessage::Refused => self.count(Counter::URefused),
+            DecodedMessage::Backwards => self.count(Counter::WrongWay),
+            DecodedMessage::Sections(sections) => self.data_sections(side, config, sections)?,
+        }
+        Ok(())
+    }
+
+    /// Treats a fragment.
+    fn piece(
+        &mut self,
+        alloc: Global,
+        side: Side,
+        config: &Config,
+        at: Ticks,
+        ep: usize,
+        endpoint: &EndpointConfig,
+        seq: SeqField,
+        bytes: &[u8],
+    ) -> Result<(), NoMemory>
+        requires config { IsConfig config.now }
+        requires unit { HoldsSome self.old side config.now }
+        requires endpoint { IsAt config.now.endpoints ep endpoint.now }
+        requires time { IsTime at.0 }
+        requires sub { seq.sub < 128 }
+        ensures { (n : SpecCounter → ℕ) (fs : Items Fragment) (cs : Items SpecCommand) (ds : Items SpecData)
+            → Holds self.old side config.now n fs cs ds
+            → let f = fragment_with ep at.0 seq bytes.now in
+            let hold = hold_of side config.now.delays in
+            let told = data_now side hold endpoint.now f fs in
+            OnOk result (Holds self.new side config.now (λ k. n k + times (piece_counted hold f fs told) k) (f ∷ fs) cs (data_told told ++ ds)) }
+    {
+        let (verdict, whole) = take(alloc, &mut self.assembly, ep, at, seq, bytes)?;
+        self.count(fragment_counter(verdict));
+        match whole {
+            Some(message) => self.whole(alloc, side, config, ep, endpoint, &message),
+            None => Ok(()),
+        }
+    }
+
+    /// Treats a whole message.
+    fn message(
+        &mut self,
+        alloc: Global,
+        side: Side,
+        config: &Config,
+        at: Ticks,
+        message: &WholeMessage<'_>,
+    ) -> Result<(), NoMemory>
+        requires config { IsConfig config.now }
+        requires unit { StandsForSome self.old side config.now }
+        requires time { IsTime at.0 }
+        ensures { (arrivals : Items Arrival) (ms : Items Meeting)
+            → Stands self.old side config.now arrivals ms
+            → OnOk result (Stands self.new side config.now arrivals (met_by_definition side config.now.endpoints at.0 (message_of message.now) ∷ ms)) }
+    {
+        self.count(Counter::Messages);
+        match meet(side, config.endpoints.as_slice(), message) {
+            Met::Ignored(counter) => {
+                self.count(counter);
+                Ok(())
+            }
+            Met::Command {
+                ep,
+                endpoint,
+                head,
+                bytes,
+            } => self.command_sections(alloc, config, at, ep, &endpoint, &head, bytes),
+            Met::Piece {
+                ep,
+                endpoint,
+                seq,
+                bytes,
+            } => self.piece(alloc, side, config, at, ep, &endpoint, seq, bytes),
+        }
+    }
+
+    /// Counts a frame, and whether it spells no PDU.
+    fn count_frame(&mut self, frame: &[u8])
+        ensures { (side : Side) (c : Config) (n : SpecCounter → ℕ) (fs : Items Fragment) (cs : Items SpecCommand) (ds : Items SpecData)
+            → Holds self.old side c n fs cs ds
+            → Holds self.new side c (λ k. n k + times (refusal_counted (pdu frame.now).refusal ++ SpecCounter.Frames ∷ []) k) fs cs ds }
+    {
+        self.count(Counter::Frames);
+        if messages(frame).refusal().is_some() {
+            self.count(Counter::FramesRefused);
+        }
+    }
+
+    /// Treats a frame that arrives at a time.
+    pub(crate) fn frame(
+        &mut self,
+        alloc: Global,
+        side: Side,
+        config: &Config,
+        at: Ticks,
+        frame: &[u8],
+    ) -> Result<(), NoMemory>
+        requires config { IsConfig config.now }
+        requires unit { StandsForSome self.old side config.now }
+        requires time { IsTime at.0 }
+        ensures { (arrivals : Items Arrival)
+            → let a : Arrival = record { at = at.0; frame = frame.now } in
+            Stands self.old side config.now arrivals (meetings side config.now.endpoints arrivals)
+            → OnOk result (Stands self.new side config.now (a ∷ arrivals) (meetings side config.now.endpoints (a ∷ arrivals))) }
+    {
+        self.count_frame(frame);
+        for message in messages(frame) {
+            self.message(alloc, side, config, at, &message)?;
+        }
+        Ok(())
+    }
+}

@@ -1,9 +1,0 @@
-use Rattle.std.proofs.Common.{◌≡◌, ◌+◌, ◌-◌}
-use Rattle.unit_model.specs.Claims.{repeats}
-use Rattle.unit_model.specs.Lists.{every}
-use Rattle.unit_model.proofs.ClaimLemmas.{symbol_claimed}
-use Rattle.unit_model.proofs.claims.repeats.Given as goal
-
-abbrev pub invariant-loop-symbol : goal.invariant-loop-symbol
-invariant-loop-symbol l =
-    repeats l.accepted l.a ≡ every l.symbol (l.a.symbol + l.a.num_symbol - l.symbol) (symbol_claimed l.accepted l.a)

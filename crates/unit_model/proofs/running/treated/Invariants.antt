@@ -1,8 +1,0 @@
-use Rattle.std.proofs.Common.{take}
-use Rattle.unit_model.specs.Meetings.{meetings}
-use Rattle.unit_model.specs.Plain.{Stands, arrivals_of}
-use Rattle.unit_model.proofs.running.treated.Given as goal
-
-abbrev pub invariant-loop-f : goal.invariant-loop-f
-invariant-loop-f l =
-    Stands l.unit l.side l.config (arrivals_of (take l.f-index l.frames)) (meetings l.side l.config.endpoints (arrivals_of (take l.f-index l.frames)))

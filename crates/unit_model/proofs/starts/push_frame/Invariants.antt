@@ -1,9 +1,0 @@
-use Rattle.std.proofs.Common.{◌≡◌, ◌++◌}
-use Rattle.unit_model.specs.Lists.{each}
-use Rattle.unit_model.specs.Starts.{claimed_start}
-use Rattle.unit_model.specs.Sweeps.{of_subframe}
-use Rattle.unit_model.proofs.starts.push_frame.Given as goal
-
-abbrev pub invariant-loop-subframe : goal.invariant-loop-subframe
-invariant-loop-subframe l =
-    l.found.items ≡ l.initial.found.items ++ each 0 l.subframe (of_subframe (claimed_start l.accepted l.down l.ep l.endpoint) l.endpoint l.s.0 l.first.frame)
