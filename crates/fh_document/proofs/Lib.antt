@@ -8,3 +8,4 @@ pub mod Answering
 pub mod LineSteps
 pub mod Bounds
 pub mod Properness
+pub mod Texts

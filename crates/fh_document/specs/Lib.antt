@@ -10,3 +10,4 @@ pub mod Lines
 pub mod Document
 pub mod Answered
 pub mod Proper
+pub mod Generated

@@ -12,6 +12,7 @@ mod building;
 mod config_lines;
 mod document;
 mod endpoint_lines;
+mod generating;
 mod hex;
 mod inject_lines;
 mod keywords;
@@ -20,6 +21,7 @@ mod refusals;
 mod words;
 
 pub use document::{Comps, Document, Injection, Transits};
+pub use generating::write;
 pub use reading::read;
 pub use refusals::{DocFault, DocWhy};
 pub use report_lines::{Line, cell_line, count_line, delay_line};

@@ -1,0 +1,6 @@
+use Rattle.std.proofs.Common.{◌≡◌, ◌++◌}
+use Rattle.fh_document.specs.Generated.{each, endpoint_text}
+use Rattle.fh_document.proofs.generating.put_endpoints.Given as goal
+
+abbrev pub invariant-loop-e : goal.invariant-loop-e
+invariant-loop-e l = l.text ≡ l.initial.text ++ each endpoint_text l.e
