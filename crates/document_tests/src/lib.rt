@@ -2,6 +2,16 @@
 #![tactic(auto)]
 
 #[cfg(test)]
+mod frames;
+#[cfg(test)]
 mod generated;
 #[cfg(test)]
+mod kinds;
+#[cfg(test)]
+mod outcomes;
+#[cfg(test)]
+mod plans;
+#[cfg(test)]
 mod tests;
+#[cfg(test)]
+mod versions;

@@ -53,7 +53,7 @@ fn lines_are_refused_for_their_first_reason(rt: HostRuntime) {
         ),
         (b"fronthaul 1\ninject dl 0 -\ngap\n", 3, DocWhy::Order),
         (
-            b"fronthaul 1\nendpoint 0000 ordinary 30 6 static none\nmeasure\n",
+            b"fronthaul 1\nendpoint 0000 ordinary 30 6 static none\nmeasured\n",
             3,
             DocWhy::UnknownWord,
         ),
@@ -108,7 +108,7 @@ fn lines_are_refused_for_their_first_reason(rt: HostRuntime) {
 #[test]
 fn second_lines_just_fail(rt: HostRuntime) -> Result<(), Fail> {
     let cases: [(&[u8], DocWhy); 27] = [
-        (b"plan dl 0000 1 0 0 0 14 0 6 fff 1 0", DocWhy::UnknownWord),
+        (b"plan dl 0000 1 0 0 0 14 0 6 fff 1 0", DocWhy::NotBuilt),
         (b"transit", DocWhy::UnknownWord),
         (b"transit x 1", DocWhy::UnknownWord),
         (b"transit dl", DocWhy::Words),

@@ -56,7 +56,7 @@ number_within low high w = some_number low high (number_in low high w) (λ n e. 
 pub number_at_within : (low high : ℕ) (ws : List (List ℕ)) (i : ℕ) → IfOk (number_at low high ws i) (Within low high)
 number_at_within low high ws i = ok_or (Within low high) (number_in low high (word_at ws i)) why.Number (number_within low high (word_at ws i))
 
-from_number : (low high n : ℕ) → low ≤ n → n ≤ high → IsFrom low high (pos n)
+pub from_number : (low high n : ℕ) → low ≤ n → n ≤ high → IsFrom low high (pos n)
 from_number low high n l h = record { low = omega (arith, ints); high = omega (arith, ints) }
 
 pub time_at_within : (low high : ℕ) (ws : List (List ℕ)) (i : ℕ) → IfOk (time_at low high ws i) (IsFrom low high)

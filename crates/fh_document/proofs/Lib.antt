@@ -7,5 +7,7 @@ pub mod WidthSums
 pub mod Answering
 pub mod LineSteps
 pub mod Bounds
+pub mod LineBounds
+pub mod Anyone
 pub mod Properness
 pub mod Texts

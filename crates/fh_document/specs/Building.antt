@@ -1,6 +1,6 @@
--- Which frames may be injected so far: those of the downlink whose messages are all handled. A measurement of delays, and a whole
--- uplink command to a configured endpoint, are not.
-use Rattle.std.specs.Prelude.{ℕ, List, drop, length, Bool, true, false, ◌&&◌, ◌||◌, not, ◌==◌, nat_le, Result, Ok, Err}
+-- What is handled so far. Of lines: all but those of a plan, of deliveries and of measurements. Of injected frames: those of the
+-- downlink whose messages are all handled; a measurement of delays, and a whole uplink command to a configured endpoint, are not.
+use Rattle.std.specs.Prelude.{ℕ, List, drop, length, Bool, true, false, ◌&&◌, ◌||◌, not, ◌==◌, nat_le, Result, Ok, Err, if◌then◌else◌}
 use Rattle.std.specs.List.{list_any}
 use Rattle.bit_fields.specs.Field.{field}
 use Rattle.air_source.specs.declared.events.Side.{Side}
@@ -13,6 +13,13 @@ use Rattle.ecpri_frames.specs.Gathering.{whole_messages}
 use Rattle.fh_time.specs.Numbering.{shape_of}
 use Rattle.window_config.specs.declared.endpoints.EndpointConfig.{EndpointConfig}
 use Rattle.fh_document.specs.declared.document.Injection.{Injection}
+use Rattle.fh_document.specs.declared.document.Reading.{Reading}
+use Rattle.fh_document.specs.declared.document.Scope.{Scope}
+use Rattle.fh_document.specs.declared.document.Scope.TheVariants.{Built, Whole}
+use Rattle.fh_document.specs.declared.keywords.Keyword.{Keyword}
+use Rattle.fh_document.specs.declared.keywords.Keyword.TheVariants as keyword
+use Rattle.fh_document.specs.declared.refusals.DocWhy.{DocWhy}
+use Rattle.fh_document.specs.declared.refusals.DocWhy.TheVariants.{NotBuilt}
 
 -- the frame arrives at the radio unit
 abbrev pub is_down : Side → Bool
@@ -44,3 +51,21 @@ is_built_frame endpoints frame = not (list_any (is_unbuilt endpoints) (whole_mes
 
 abbrev pub is_built : List EndpointConfig → Injection → Bool
 is_built endpoints i = is_down i.side && is_built_frame endpoints i.frame
+
+-- lines of this kind are handled
+abbrev pub is_built_kind : Keyword → Bool
+is_built_kind (keyword.Configure s) = true
+is_built_kind keyword.Endpoint = true
+is_built_kind keyword.Plan = false
+is_built_kind keyword.Deliver = false
+is_built_kind keyword.Inject = true
+is_built_kind keyword.Measure = false
+
+-- what is not handled passes where the whole grammar is read
+abbrev pub passes : Scope → Bool → Bool
+passes Built handled = handled
+passes Whole handled = true
+
+-- the last reason of a line: what it says is not handled
+abbrev pub if_built : Bool → Reading → Result Reading DocWhy
+if_built handled r = if passes r.scope handled then Ok r else Err NotBuilt

@@ -105,6 +105,10 @@ comp_line ws = counted 5 ws (do
 abbrev pub transit_line : ℕ → List (List ℕ) → Result ℤ DocWhy
 transit_line low ws = counted 3 ws (time_at low 3000000000 ws 2)
 
+-- `pack N`, of version 2 alone
+abbrev pub pack_line : List (List ℕ) → Result ℕ DocWhy
+pack_line ws = counted 2 ws (number_at 1 64 ws 1)
+
 -- what a line makes of the settings
 abbrev pub set_of : Settings → Setting → List (List ℕ) → Result Settings DocWhy
 set_of s setting.Widths ws = widths_line ws >>= (λ x. Ok (record s { widths = x }))
@@ -124,6 +128,7 @@ set_of s setting.Comp ws = comp_line ws >>= (λ x. Ok (record s { comps = x }))
 set_of s setting.TransitDl ws = transit_line 0 ws >>= (λ x. Ok (record s { transits = record s.transits { dl = x } }))
 set_of s setting.TransitUl ws = transit_line 0 ws >>= (λ x. Ok (record s { transits = record s.transits { ul = x } }))
 set_of s setting.TransitM ws = transit_line 1 ws >>= (λ x. Ok (record s { transits = record s.transits { m = x } }))
+set_of s setting.Pack ws = pack_line ws >>= (λ x. Ok (record s { pack = x }))
 
 -- what holds where no line configures it
 abbrev pub defaults : Settings
@@ -132,6 +137,7 @@ defaults = record {
   delays = usual_delays;
   gap = pos 1000;
   fragment = 1492;
+  pack = 1;
   source = record { seed = 1; amplitude = 1000 };
   antenna = record { seed = 2; amplitude = 1000 };
   comps = record { du_sending = pos 0; du_receiving = pos 0; ru_sending = pos 0; ru_receiving = pos 0 };

@@ -1,19 +1,22 @@
--- `endpoint ID ordinary SCS PRBS MODE METHOD`, `endpoint ID offset SCS PRBS MODE METHOD TIMEOFFSET CPLENGTH`
-use Rattle.std.specs.Prelude.{ℕ, List, [], ◌∷◌, ◌++◌, length, take, drop, Bool, true, false, ◌||◌, ◌==◌, if◌then◌else◌, Option, Some, None, Result, Ok, Err, codes, slice_index}
+-- `endpoint ID ordinary SCS PRBS MODE METHOD`, `endpoint ID offset SCS PRBS MODE METHOD TIMEOFFSET CPLENGTH`, and of version 2
+-- `endpoint ID extended 60 PRBS MODE METHOD`
+use Rattle.std.specs.Prelude.{ℕ, List, [], ◌∷◌, ◌++◌, length, take, drop, Bool, true, false, ◌&&◌, ◌||◌, ◌==◌, if◌then◌else◌, Option, Some, None, Result, Ok, Err, codes, slice_index}
 use Rattle.std.specs.Option.{option_map}
 use Rattle.std.specs.List.{list_any}
 use Rattle.std.specs.Str.{bytes_eq}
 use Rattle.bfp_codec.specs.declared.methods.Method.{Method}
 use Rattle.bfp_codec.specs.declared.methods.Method.TheVariants.{Plain, Bfp}
 use Rattle.fh_time.specs.declared.numerology.Numerology.{Numerology}
-use Rattle.fh_time.specs.Numbering.{ordinary_of, offset_of}
+use Rattle.fh_time.specs.Numbering.{ordinary_of, offset_of, extended_of}
 use Rattle.window_config.specs.declared.endpoints.EndpointConfig.{EndpointConfig}
 use Rattle.fh_document.specs.declared.document.Reading.{Reading}
+use Rattle.fh_document.specs.declared.document.Version.{Version}
 use Rattle.fh_document.specs.declared.refusals.DocWhy.{DocWhy}
 use Rattle.fh_document.specs.declared.refusals.DocWhy.TheVariants as why
 use Rattle.fh_document.specs.Refusals.{or_refuse, ◌>>=◌}
 use Rattle.fh_document.specs.Words.{word_at, number_in}
 use Rattle.fh_document.specs.Hex.{hex_of}
+use Rattle.fh_document.specs.Keywords.{is_two}
 
 -- what follows on a value, and nothing where there is none
 abbrev pub taking : {A B : Type 0} → Option A → (A → Option B) → Option B
@@ -26,12 +29,17 @@ is_ordinary ws = bytes_eq (word_at ws 2) (codes "ordinary")
 abbrev pub is_offset : List (List ℕ) → Bool
 is_offset ws = bytes_eq (word_at ws 2) (codes "offset")
 
--- 7 words for the one kind, 9 for the other, and one of these where the third word is no kind
-abbrev pub has_endpoint_count : List (List ℕ) → Bool
-has_endpoint_count ws =
+-- a kind of version 2
+abbrev pub is_extended : Version → List (List ℕ) → Bool
+is_extended version ws = is_two version && bytes_eq (word_at ws 2) (codes "extended")
+
+-- 9 words for an offset endpoint, 7 for the other kinds, and one of these where the third word is no kind
+abbrev pub has_endpoint_count : Version → List (List ℕ) → Bool
+has_endpoint_count version ws =
     if is_ordinary ws then length ws == 7
     else (if is_offset ws then length ws == 9
-    else ((length ws == 7) || (length ws == 9)))
+    else (if is_extended version ws then length ws == 7
+    else ((length ws == 7) || (length ws == 9))))
 
 -- the spacing code of a spacing in kHz that both kinds may have
 abbrev pub spacing_of : List ℕ → Option ℕ
@@ -78,17 +86,22 @@ offset_numerology ws =
     taking (number_in 0 65535 (word_at ws 8)) (λ cp_length.
     offset_of code time_offset cp_length)))
 
-abbrev pub numerology_of : List (List ℕ) → Option Numerology
-numerology_of ws =
+-- 60 kHz is the one spacing that has the extended cyclic prefix
+abbrev pub extended_numerology : List (List ℕ) → Option Numerology
+extended_numerology ws = if bytes_eq (word_at ws 3) (codes "60") then Some extended_of else None
+
+abbrev pub numerology_of : Version → List (List ℕ) → Option Numerology
+numerology_of version ws =
     if is_ordinary ws then ordinary_numerology ws
     else (if is_offset ws then offset_numerology ws
-    else None)
+    else (if is_extended version ws then extended_numerology ws
+    else None))
 
 -- the endpoint that the words describe, where each has its form and range
-abbrev pub endpoint_of : List (List ℕ) → Option EndpointConfig
-endpoint_of ws =
+abbrev pub endpoint_of : Version → List (List ℕ) → Option EndpointConfig
+endpoint_of version ws =
     taking (hex_of 4 (word_at ws 1)) (λ id.
-    taking (numerology_of ws) (λ numerology.
+    taking (numerology_of version ws) (λ numerology.
     taking (number_in 1 273 (word_at ws 4)) (λ prbs.
     taking (dynamic_of (word_at ws 5)) (λ dynamic.
     taking (method_of (word_at ws 6)) (λ method.
@@ -107,5 +120,5 @@ added r e =
 
 abbrev pub endpoint_line : Reading → List (List ℕ) → Result Reading DocWhy
 endpoint_line r ws =
-    if has_endpoint_count ws then or_refuse (endpoint_of ws) why.Number >>= (λ e. added r e)
+    if has_endpoint_count r.version ws then or_refuse (endpoint_of r.version ws) why.Number >>= (λ e. added r e)
     else Err why.Words

@@ -1,5 +1,5 @@
 -- `inject WAY NS HEX`
-use Rattle.std.specs.Prelude.{ℕ, ◌^◌, List, [], ◌∷◌, ◌++◌, if◌then◌else◌, Option, Some, None, Result, Ok, Err, codes}
+use Rattle.std.specs.Prelude.{ℕ, ◌^◌, List, [], ◌∷◌, ◌++◌, if◌then◌else◌, Option, Some, None, Result, codes}
 use Rattle.std.specs.Str.{bytes_eq}
 use Rattle.air_source.specs.declared.events.Side.{Side}
 use Rattle.air_source.specs.declared.events.Side.TheVariants.{Ru, Du}
@@ -11,7 +11,7 @@ use Rattle.fh_document.specs.Refusals.{or_refuse, ◌>>=◌}
 use Rattle.fh_document.specs.Words.{word_at}
 use Rattle.fh_document.specs.Hex.{frame_of}
 use Rattle.fh_document.specs.ConfigLines.{counted, time_at}
-use Rattle.fh_document.specs.Building.{is_built}
+use Rattle.fh_document.specs.Building.{is_built, if_built}
 
 -- downlink frames arrive at the radio unit, uplink frames at the distributed unit
 abbrev pub side_of : List ℕ → Option Side
@@ -22,7 +22,7 @@ side_of w =
 
 -- one injection more, where it is handled
 abbrev pub injected : Reading → Injection → Result Reading DocWhy
-injected r i = if is_built r.endpoints i then Ok (record r { injections = r.injections ++ i ∷ [] }) else Err why.NotBuilt
+injected r i = if_built (is_built r.endpoints i) (record r { injections = r.injections ++ i ∷ [] })
 
 abbrev pub inject_line : Reading → List (List ℕ) → Result Reading DocWhy
 inject_line r ws = counted 4 ws (do

@@ -1,16 +1,23 @@
 -- The keywords of lines, and the order of their kinds.
-use Rattle.std.specs.Prelude.{ℕ, List, Option, Some, None, if◌then◌else◌, codes}
+use Rattle.std.specs.Prelude.{ℕ, List, Bool, true, false, Option, Some, None, if◌then◌else◌, codes}
 use Rattle.std.specs.Option.{option_map}
 use Rattle.std.specs.Str.{bytes_eq}
 use Rattle.fh_document.specs.Words.{word_at}
+use Rattle.fh_document.specs.declared.document.Version.{Version}
+use Rattle.fh_document.specs.declared.document.Version.TheVariants.{One, Two}
 use Rattle.fh_document.specs.declared.keywords.Setting.{Setting}
-use Rattle.fh_document.specs.declared.keywords.Setting.TheVariants.{Widths, T1a, T2a, Advance, Ta3, Ta4, T12, T34, Hold, Gap, Fragment, Source, Antenna, Comp, TransitDl, TransitUl, TransitM}
+use Rattle.fh_document.specs.declared.keywords.Setting.TheVariants.{Widths, T1a, T2a, Advance, Ta3, Ta4, T12, T34, Hold, Gap, Fragment, Source, Antenna, Comp, TransitDl, TransitUl, TransitM, Pack}
 use Rattle.fh_document.specs.declared.keywords.Keyword.{Keyword}
 use Rattle.fh_document.specs.declared.keywords.Keyword.TheVariants as keyword
 
--- what a first word configures
-abbrev pub setting_of : List ℕ → Option Setting
-setting_of w =
+-- the grammar is that of `fronthaul 2`
+abbrev pub is_two : Version → Bool
+is_two One = false
+is_two Two = true
+
+-- what a first word configures in either version
+abbrev pub common_setting_of : List ℕ → Option Setting
+common_setting_of w =
     if bytes_eq w (codes "widths") then Some Widths
     else (if bytes_eq w (codes "t1a") then Some T1a
     else (if bytes_eq w (codes "t2a") then Some T2a
@@ -27,6 +34,12 @@ setting_of w =
     else (if bytes_eq w (codes "comp") then Some Comp
     else None)))))))))))))
 
+-- what a first word configures
+abbrev pub setting_of : Version → List ℕ → Option Setting
+setting_of version w =
+    if bytes_eq w (codes "pack") then (if is_two version then Some Pack else None)
+    else common_setting_of w
+
 -- what the second word of `transit` configures
 abbrev pub transit_of : List ℕ → Option Setting
 transit_of w =
@@ -39,18 +52,24 @@ abbrev pub configuring : Option Setting → Option Keyword
 configuring s = option_map (λ x. keyword.Configure x) s
 
 -- the keyword that the words begin with
-abbrev pub keyword_of : List (List ℕ) → Option Keyword
-keyword_of ws =
+abbrev pub keyword_of : Version → List (List ℕ) → Option Keyword
+keyword_of version ws =
     if bytes_eq (word_at ws 0) (codes "endpoint") then Some keyword.Endpoint
+    else (if bytes_eq (word_at ws 0) (codes "plan") then Some keyword.Plan
+    else (if bytes_eq (word_at ws 0) (codes "deliver") then Some keyword.Deliver
     else (if bytes_eq (word_at ws 0) (codes "inject") then Some keyword.Inject
+    else (if bytes_eq (word_at ws 0) (codes "measure") then Some keyword.Measure
     else (if bytes_eq (word_at ws 0) (codes "transit") then configuring (transit_of (word_at ws 1))
-    else configuring (setting_of (word_at ws 0))))
+    else configuring (setting_of version (word_at ws 0)))))))
 
--- the place of a kind of lines in their order: configuration 0, endpoint 1, plan 2, deliver 3, inject 4, measure 5
+-- the place of a kind of lines in their order
 abbrev pub rank_of : Keyword → ℕ
 rank_of (keyword.Configure s) = 0
 rank_of keyword.Endpoint = 1
+rank_of keyword.Plan = 2
+rank_of keyword.Deliver = 3
 rank_of keyword.Inject = 4
+rank_of keyword.Measure = 5
 
 -- a number for each configuration keyword
 abbrev pub number_of : Setting → ℕ
@@ -71,3 +90,4 @@ number_of Comp = 13
 number_of TransitDl = 14
 number_of TransitUl = 15
 number_of TransitM = 16
+number_of Pack = 17

@@ -6,6 +6,11 @@ pub mod ConfigLines
 pub mod EndpointLines
 pub mod Building
 pub mod InjectLines
+pub mod PlanLines
+pub mod Delivered
+pub mod FrameNumbers
+pub mod DeliverLines
+pub mod MeasureLines
 pub mod Lines
 pub mod Document
 pub mod Answered

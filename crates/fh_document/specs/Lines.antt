@@ -1,9 +1,12 @@
 -- A line: what it makes of what the lines before it say, or its first reason.
-use Rattle.std.specs.Prelude.{ℕ, List, [], length, replicate, Bool, true, false, ◌||◌, nat_lt, ◌==◌, if◌then◌else◌, Result, Ok, Err, codes, slice_index, slice_set}
+use Rattle.std.specs.Prelude.{ℕ, List, [], length, replicate, Bool, true, false, ◌||◌, nat_lt, ◌==◌, if◌then◌else◌, Option, Some, None, Result, Ok, Err, codes, slice_index, slice_set}
 use Rattle.std.specs.List.{slice_index_or}
 use Rattle.std.specs.Str.{bytes_eq}
 use Rattle.fh_document.specs.declared.document.Reading.{Reading}
 use Rattle.fh_document.specs.declared.document.Settings.{Settings}
+use Rattle.fh_document.specs.declared.document.Scope.{Scope}
+use Rattle.fh_document.specs.declared.document.Version.{Version}
+use Rattle.fh_document.specs.declared.document.Version.TheVariants.{One, Two}
 use Rattle.fh_document.specs.declared.keywords.Setting.{Setting}
 use Rattle.fh_document.specs.declared.keywords.Keyword.{Keyword}
 use Rattle.fh_document.specs.declared.keywords.Keyword.TheVariants as keyword
@@ -14,11 +17,26 @@ use Rattle.fh_document.specs.Words.{is_text, words_of, word_at}
 use Rattle.fh_document.specs.Keywords.{keyword_of, rank_of, number_of}
 use Rattle.fh_document.specs.ConfigLines.{set_of, defaults}
 use Rattle.fh_document.specs.EndpointLines.{endpoint_line}
+use Rattle.fh_document.specs.PlanLines.{plan_line}
+use Rattle.fh_document.specs.DeliverLines.{deliver_line}
 use Rattle.fh_document.specs.InjectLines.{inject_line}
+use Rattle.fh_document.specs.MeasureLines.{measure_line}
+use Rattle.fh_document.specs.Building.{is_built_kind, if_built}
 
 -- before any line but the first
-abbrev pub start : Reading
-start = record { settings = defaults; seen = replicate 17 false; endpoints = []; injections = [] }
+abbrev pub start : Scope → Reading
+start scope = record {
+  scope = scope;
+  version = One;
+  settings = defaults;
+  seen = replicate 18 false;
+  endpoints = [];
+  plan = [];
+  plan_lines = [];
+  deliveries = [];
+  injections = [];
+  measures = [];
+}
 
 -- an earlier line has this configuration keyword
 abbrev pub is_seen : Reading → Setting → Bool
@@ -35,35 +53,59 @@ setting_line r s ws =
 
 -- the latest kind of the lines that stand
 abbrev pub reached : Reading → ℕ
-reached r = if nat_lt 0 (length r.injections) then 4 else (if nat_lt 0 (length r.endpoints) then 1 else 0)
+reached r =
+    if nat_lt 0 (length r.measures) then 5
+    else (if nat_lt 0 (length r.injections) then 4
+    else (if nat_lt 0 (length r.deliveries) then 3
+    else (if nat_lt 0 (length r.plan) then 2
+    else (if nat_lt 0 (length r.endpoints) then 1
+    else 0))))
 
 -- a line of a later kind stands already
 abbrev pub comes_late : Reading → Keyword → Bool
 comes_late r k = nat_lt (rank_of k) (reached r)
 
-abbrev pub keyword_line : Reading → Keyword → List (List ℕ) → Result Reading DocWhy
-keyword_line r (keyword.Configure s) ws = setting_line r s ws
-keyword_line r keyword.Endpoint ws = endpoint_line r ws
-keyword_line r keyword.Inject ws = inject_line r ws
+-- the line by its keyword alone, whether or not it is handled
+abbrev pub keyword_line : Reading → ℕ → Keyword → List (List ℕ) → Result Reading DocWhy
+keyword_line r n (keyword.Configure s) ws = setting_line r s ws
+keyword_line r n keyword.Endpoint ws = endpoint_line r ws
+keyword_line r n keyword.Plan ws = plan_line r n ws
+keyword_line r n keyword.Deliver ws = deliver_line r ws
+keyword_line r n keyword.Inject ws = inject_line r ws
+keyword_line r n keyword.Measure ws = measure_line r ws
 
-abbrev pub ordered_line : Reading → Keyword → List (List ℕ) → Result Reading DocWhy
-ordered_line r k ws = if comes_late r k then Err why.Order else keyword_line r k ws
+abbrev pub ordered_line : Reading → ℕ → Keyword → List (List ℕ) → Result Reading DocWhy
+ordered_line r n k ws =
+    if comes_late r k then Err why.Order
+    else keyword_line r n k ws >>= (λ next. if_built (is_built_kind k) next)
 
 -- the line has no word, or its first begins with `#`
 abbrev pub is_skipped : List (List ℕ) → Bool
 is_skipped ws = (length ws == 0) || (slice_index (word_at ws 0) 0 == 35)
 
--- the words are `fronthaul 1`
-abbrev pub is_first : List (List ℕ) → Bool
-is_first ws = if length ws == 2 then (if bytes_eq (word_at ws 0) (codes "fronthaul") then bytes_eq (word_at ws 1) (codes "1") else false) else false
+-- the version that a word names
+abbrev pub version_at : List ℕ → Option Version
+version_at w =
+    if bytes_eq w (codes "1") then Some One
+    else (if bytes_eq w (codes "2") then Some Two
+    else None)
 
-abbrev pub later_line : Reading → List (List ℕ) → Result Reading DocWhy
-later_line r ws =
+-- the words are `fronthaul 1` or `fronthaul 2`
+abbrev pub version_of : List (List ℕ) → Option Version
+version_of ws =
+    if length ws == 2 then (if bytes_eq (word_at ws 0) (codes "fronthaul") then version_at (word_at ws 1) else None)
+    else None
+
+abbrev pub first_line : Reading → List (List ℕ) → Result Reading DocWhy
+first_line r ws = or_refuse (version_of ws) why.FirstLine >>= (λ version. Ok (record r { version = version }))
+
+abbrev pub later_line : Reading → ℕ → List (List ℕ) → Result Reading DocWhy
+later_line r n ws =
     if is_skipped ws then Ok r
-    else or_refuse (keyword_of ws) why.UnknownWord >>= (λ k. ordered_line r k ws)
+    else or_refuse (keyword_of r.version ws) why.UnknownWord >>= (λ k. ordered_line r n k ws)
 
 abbrev pub words_line : Reading → ℕ → List (List ℕ) → Result Reading DocWhy
-words_line r n ws = if n == 1 then (if is_first ws then Ok r else Err why.FirstLine) else later_line r ws
+words_line r n ws = if n == 1 then first_line r ws else later_line r n ws
 
 -- the line with the number n, where the lines before it say r
 unfoldable pub line_of : Reading → ℕ → List ℕ → Result Reading DocWhy

@@ -1,14 +1,23 @@
 -- What a document that was read may be (this project's profile).
-use Rattle.std.specs.Prelude.{ℕ, ℤ, pos, ◌^◌, ◌≤◌, ◌≤ℤ◌, ◌≡◌, List, All, true, length}
+use Rattle.std.specs.Prelude.{ℕ, ℤ, pos, ◌^◌, ◌<◌, ◌≤◌, ◌≤ℤ◌, ◌≡◌, List, [], ◌∷◌, All, true, false, length, map}
+use Rattle.eaxc_map.specs.Endpoints.{AppearOnce}
 use Rattle.tone_source.specs.declared.values.Tone.{Tone}
 use Rattle.window_config.specs.declared.endpoints.EndpointConfig.{EndpointConfig}
+use Rattle.window_config.specs.declared.plan.PlanLine.{PlanLine}
 use Rattle.window_config.specs.Configs.{IsConfig}
 use Rattle.fh_document.specs.declared.document.Comps.{Comps}
 use Rattle.fh_document.specs.declared.document.Transits.{Transits}
+use Rattle.fh_document.specs.declared.delivered.Delivery.{Delivery}
 use Rattle.fh_document.specs.declared.document.Injection.{Injection}
+use Rattle.fh_document.specs.declared.document.Measure.{Measure}
+use Rattle.fh_document.specs.declared.document.Scope.{Scope}
+use Rattle.fh_document.specs.declared.document.Scope.TheVariants.{Built}
 use Rattle.fh_document.specs.declared.document.Document.{Document}
 use Rattle.fh_document.specs.declared.hex.TheConstants.{MOST_BYTES}
-use Rattle.fh_document.specs.Building.{is_built}
+use Rattle.fh_document.specs.declared.plan_lines.TheConstants.{MOST_LINES}
+use Rattle.fh_document.specs.Building.{is_built, passes}
+use Rattle.fh_document.specs.Delivered.{has_like}
+use Rattle.fh_document.specs.DeliverLines.{least_of}
 
 -- a time from a least to a greatest
 pub record IsFrom (least most : ℕ) (ns : ℤ) : Type 0 where
@@ -32,16 +41,57 @@ pub record AreTransits (t : Transits) : Type 0 where
   pub ul : IsFrom 0 3000000000 t.ul
   pub m : IsFrom 1 3000000000 t.m
 
+-- the numbers of a line of a plan, as the grammar has them
+pub record IsPlanLine (line : PlanLine) : Type 0 where
+  pub frame : IsFrom 1 99999 line.slot.frame
+  pub subframe : line.slot.subframe ≤ 9
+  pub slot : line.slot.slot ≤ 63
+  pub symbol : line.symbol ≤ 63
+  pub count : line.count ≤ 15
+  pub start_prb : line.start_prb ≤ 1023
+  pub mask : line.mask < 2 ^ 12
+  pub section : line.section < 2 ^ 12
+  pub beam : line.beam < 2 ^ 15
+
+-- one frame of its class and way, and at most eight copies of it
+pub record IsDelivery (d : Delivery) : Type 0 where
+  pub some : 1 ≤ d.k
+  pub most : d.k ≤ 9999999
+  pub few : length d.copies ≤ 8
+  pub times : All (IsFrom (least_of d.class) 3000000000) d.copies
+
+-- none is of the frame of one behind it
+abbrev pub AreApart : List Delivery → Type 0
+AreApart [] = Unit {0}
+AreApart (d ∷ ds) = (has_like d ds ≡ false) × AreApart ds
+
+abbrev pub IsMeasure : Measure → Type 0
+IsMeasure m = IsFrom 1000000 (10 ^ 12) m.at
+
 -- a frame that these endpoints may be sent
-pub record IsInjection (endpoints : List EndpointConfig) (i : Injection) : Type 0 where
+pub record IsInjectionIn (scope : Scope) (endpoints : List EndpointConfig) (i : Injection) : Type 0 where
   pub time : IsFrom 0 (10 ^ 12) i.at
   pub short : length i.frame ≤ MOST_BYTES
-  pub built : is_built endpoints i ≡ true
+  pub built : passes scope (is_built endpoints i) ≡ true
 
-pub record IsDocument (d : Document) : Type 0 where
+pub record IsDocumentIn (scope : Scope) (d : Document) : Type 0 where
   pub config : IsConfig d.config
+  pub plan : All IsPlanLine d.plan
+  pub few : length d.plan ≤ MOST_LINES
+  pub numbered : length d.plan_lines ≡ length d.plan
   pub source : IsTone d.source
   pub antenna : IsTone d.antenna
   pub comps : AreComps d.comps
   pub transits : AreTransits d.transits
-  pub injections : All (IsInjection d.config.endpoints) d.injections
+  pub deliveries : All IsDelivery d.deliveries
+  pub frames : AreApart d.deliveries
+  pub injections : All (IsInjectionIn scope d.config.endpoints) d.injections
+  pub measures : All IsMeasure d.measures
+  pub differ : AppearOnce (map (λ m. m.id) d.measures)
+
+-- where all that it says is handled
+abbrev pub IsInjection : List EndpointConfig → Injection → Type 0
+IsInjection endpoints i = IsInjectionIn Built endpoints i
+
+abbrev pub IsDocument : Document → Type 0
+IsDocument d = IsDocumentIn Built d

@@ -1,12 +1,13 @@
-// Which frames may be injected so far.
+// What is handled so far.
 ghost use Rattle.std.specs.Prelude.{◌≡◌, ◌≤◌, length};
-ghost use Rattle.fh_document.specs.Building.{is_down, reads_uplink, is_alone, commands_uplink, is_uplink_command, is_unbuilt, is_built_frame, is_built};
+ghost use Rattle.fh_document.specs.Building.{is_built_kind, passes, is_down, reads_uplink, is_alone, commands_uplink, is_uplink_command, is_unbuilt, is_built_frame, is_built};
 ghost use Rattle.std.specs.List.{list_any};
 ghost use Rattle.ecpri_frames.specs.Left.{message_of};
 ghost use Rattle.bit_fields.specs.Field.{field};
 ghost use Rattle.cplane_sections.specs.Tests.{checked};
 
-use crate::document::Injection;
+use crate::document::{Injection, Scope};
+use crate::keywords::Keyword;
 use air_source::Side;
 use cplane_sections::check;
 use ecpri_frames::{WholeMessage, messages};
@@ -107,4 +108,24 @@ pub(crate) fn is_built(endpoints: &[EndpointConfig], injection: &Injection) -> b
     ensures { result ≡ is_built endpoints.now injection.now }
 {
     is_down(injection.side) && is_built_frame(endpoints, injection.frame.as_slice())
+}
+
+/// Whether lines of this kind are handled.
+pub(crate) fn is_built_kind(keyword: Keyword) -> bool
+    ensures { result ≡ is_built_kind keyword }
+{
+    match keyword {
+        Keyword::Configure(_) | Keyword::Endpoint | Keyword::Inject => true,
+        Keyword::Plan | Keyword::Deliver | Keyword::Measure => false,
+    }
+}
+
+/// Whether a line passes: where it is handled, or the whole grammar is read.
+pub(crate) fn passes(scope: Scope, handled: bool) -> bool
+    ensures { result ≡ passes scope handled }
+{
+    match scope {
+        Scope::Built => handled,
+        Scope::Whole => true,
+    }
 }

@@ -1,6 +1,6 @@
 // Configuration lines.
 ghost use Rattle.std.specs.Prelude.{◌≡◌, ◌≤◌, ◌<◌, ◌^◌, IfOk};
-ghost use Rattle.fh_document.specs.ConfigLines.{number_at, time_at, ordered, both_ordered, widths_of, widths_line, windows_line, range_line, hold_line, time_line, fragment_line, tone_line, comp_line, transit_line, set_of, defaults};
+ghost use Rattle.fh_document.specs.ConfigLines.{number_at, time_at, ordered, both_ordered, widths_of, widths_line, windows_line, range_line, hold_line, time_line, fragment_line, tone_line, comp_line, transit_line, pack_line, set_of, defaults};
 
 use crate::document::{Comps, Settings, Transits};
 use crate::keywords::Setting;
@@ -173,6 +173,16 @@ fn transit_line(words: &Words<'_>, low: u64) -> Result<i64, DocWhy>
     time_at(words, 2, low, MOST_TRANSIT)
 }
 
+fn pack_line(words: &Words<'_>) -> Result<usize, DocWhy>
+    ensures { result ≡ pack_line words.now }
+{
+    if words.len() != 2 {
+        return Err(DocWhy::Words);
+    }
+    let sections = number_at(words, 1, 1, 64)?;
+    Ok(sections as usize)
+}
+
 /// What a configuration line makes of the settings.
 pub(crate) fn set(
     settings: Settings,
@@ -212,6 +222,7 @@ pub(crate) fn set(
         Setting::TransitDl => next.transits.dl = transit_line(words, 0)?,
         Setting::TransitUl => next.transits.ul = transit_line(words, 0)?,
         Setting::TransitM => next.transits.m = transit_line(words, 1)?,
+        Setting::Pack => next.pack = pack_line(words)?,
     }
     Ok(next)
 }
@@ -236,6 +247,7 @@ pub(crate) fn defaults() -> Settings
         delays: Delays::usual(),
         gap: 1_000,
         fragment: 1_492,
+        pack: 1,
         source: Tone {
             seed: 1,
             amplitude: 1_000,

@@ -1,10 +1,12 @@
 // What a document says, and what is known of it while its lines are read.
 
+use crate::delivered::{Deliveries, Delivery};
 use air_source::Side;
+use delay_measure::Kind;
 use eaxc_map::Widths;
 use fh_base::{Bytes, List};
 use tone_source::Tone;
-use window_config::{Config, Delays, EndpointList};
+use window_config::{Config, Delays, EndpointList, PlanLine};
 
 /// The delays between an antenna's connector and the edges that delay measurement stamps, as a unit's compensation: each from 0 to
 /// 65,536,000,000, in units of 2^-16 ns.
@@ -38,19 +40,39 @@ pub struct Injection {
     pub frame: Bytes,
 }
 
+/// A measurement of the delay between the two ends.
+#[derive(Clone, Copy, Debug, PartialEq, Eq)]
+pub struct Measure {
+    /// The unit that begins it.
+    pub side: Side,
+    /// The measurement's id, which no other of the document has.
+    pub id: u8,
+    pub kind: Kind,
+    /// When it begins, from 1,000,000 to 1,000,000,000,000 ns from time 0.
+    pub at: i64,
+}
+
 /// What a document says.
 #[derive(Drop)]
 pub struct Document {
     /// What both units are made from.
     pub config: Config,
+    /// The plan, in the order of its lines.
+    pub plan: List<PlanLine>,
+    /// The number of each line of the plan in the document, from 1.
+    pub plan_lines: List<usize>,
     /// The samples that the distributed unit sends.
     pub source: Tone,
     /// The samples that the radio unit takes in.
     pub antenna: Tone,
     pub comps: Comps,
     pub transits: Transits,
+    /// What becomes of single frames, in the order of their lines; no two speak of the same frame.
+    pub deliveries: List<Delivery>,
     /// In the order of their lines.
     pub injections: List<Injection>,
+    /// In the order of their lines.
+    pub measures: List<Measure>,
 }
 
 /// What the configuration lines set.
@@ -60,18 +82,41 @@ pub(crate) struct Settings {
     pub(crate) delays: Delays,
     pub(crate) gap: i64,
     pub(crate) fragment: usize,
+    pub(crate) pack: usize,
     pub(crate) source: Tone,
     pub(crate) antenna: Tone,
     pub(crate) comps: Comps,
     pub(crate) transits: Transits,
 }
 
+/// The grammar that line 1 names.
+#[derive(Clone, Copy)]
+pub(crate) enum Version {
+    One,
+    Two,
+}
+
+/// Which lines are read.
+#[derive(Clone, Copy)]
+pub(crate) enum Scope {
+    /// Those of which all is handled.
+    Built,
+    /// All that have their form.
+    Whole,
+}
+
 /// What the lines said so far.
 #[derive(Drop)]
 pub(crate) struct Reading {
+    pub(crate) scope: Scope,
+    pub(crate) version: Version,
     pub(crate) settings: Settings,
     /// Which configuration keywords stand already, by their numbers.
-    pub(crate) seen: [bool; 17],
+    pub(crate) seen: [bool; 18],
     pub(crate) endpoints: EndpointList,
+    pub(crate) plan: List<PlanLine>,
+    pub(crate) plan_lines: List<usize>,
+    pub(crate) deliveries: Deliveries,
     pub(crate) injections: List<Injection>,
+    pub(crate) measures: List<Measure>,
 }

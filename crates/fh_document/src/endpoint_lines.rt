@@ -2,12 +2,13 @@
 ghost use Rattle.std.specs.Prelude.{◌≡◌};
 ghost use Rattle.fh_document.specs.Answered.{Refuses};
 ghost use Rattle.fh_document.specs.Words.{number_in};
-ghost use Rattle.fh_document.specs.EndpointLines.{is_ordinary, is_offset, has_endpoint_count, spacing_of, offset_spacing_of, dynamic_of, width_of, method_of, ordinary_numerology, offset_numerology, numerology_of, endpoint_of, has_id, added, endpoint_line};
+ghost use Rattle.fh_document.specs.EndpointLines.{is_ordinary, is_offset, is_extended, has_endpoint_count, spacing_of, offset_spacing_of, dynamic_of, width_of, method_of, ordinary_numerology, offset_numerology, extended_numerology, numerology_of, endpoint_of, has_id, added, endpoint_line};
 
-use crate::document::Reading;
+use crate::document::{Reading, Version};
 use crate::hex::hex4;
+use crate::keywords::is_two;
 use crate::refusals::DocWhy;
-use crate::words::{Words, number_in};
+use crate::words::{Words, number_in, short_in};
 use bfp_codec::{Format, Method};
 use fh_time::Numerology;
 use window_config::EndpointConfig;
@@ -24,8 +25,14 @@ fn is_offset(words: &Words<'_>) -> bool
     words.word(2) == b"offset".as_slice()
 }
 
-fn has_endpoint_count(words: &Words<'_>) -> bool
-    ensures { result ≡ has_endpoint_count words.now }
+fn is_extended(version: Version, words: &Words<'_>) -> bool
+    ensures { result ≡ is_extended version words.now }
+{
+    is_two(version) && words.word(2) == b"extended".as_slice()
+}
+
+fn has_endpoint_count(version: Version, words: &Words<'_>) -> bool
+    ensures { result ≡ has_endpoint_count version words.now }
 {
     if is_ordinary(words) {
         return words.len() == 7;
@@ -33,10 +40,13 @@ fn has_endpoint_count(words: &Words<'_>) -> bool
     if is_offset(words) {
         return words.len() == 9;
     }
+    if is_extended(version, words) {
+        return words.len() == 7;
+    }
     words.len() == 7 || words.len() == 9
 }
 
-/// The code of a spacing in kHz that endpoints of both kinds may have.
+/// The code of a spacing in kHz that ordinary and offset endpoints may have.
 fn spacing_of(word: &[u8]) -> Option<u8>
     ensures { result ≡ spacing_of word.now }
 {
@@ -107,14 +117,6 @@ fn method_of(word: &[u8]) -> Option<Method>
     Some(Method::Bfp(width))
 }
 
-/// A number of 16 bits, as timeOffset and cpLength are.
-fn half_of(word: &[u8]) -> Option<u16>
-    ensures { result ≡ number_in 0 65535 word.now }
-{
-    let n = number_in(word, 0, 65_535)?;
-    Some(n as u16)
-}
-
 fn ordinary_numerology(words: &Words<'_>) -> Option<Numerology>
     ensures { result ≡ ordinary_numerology words.now }
 {
@@ -126,13 +128,22 @@ fn offset_numerology(words: &Words<'_>) -> Option<Numerology>
     ensures { result ≡ offset_numerology words.now }
 {
     let code = offset_spacing_of(words.word(3))?;
-    let time_offset = half_of(words.word(7))?;
-    let cp_length = half_of(words.word(8))?;
+    let time_offset = short_in(words.word(7), 0, 65_535)?;
+    let cp_length = short_in(words.word(8), 0, 65_535)?;
     Numerology::offset(code, time_offset, cp_length)
 }
 
-fn numerology_of(words: &Words<'_>) -> Option<Numerology>
-    ensures { result ≡ numerology_of words.now }
+fn extended_numerology(words: &Words<'_>) -> Option<Numerology>
+    ensures { result ≡ extended_numerology words.now }
+{
+    if words.word(3) == b"60".as_slice() {
+        return Some(Numerology::extended());
+    }
+    None
+}
+
+fn numerology_of(version: Version, words: &Words<'_>) -> Option<Numerology>
+    ensures { result ≡ numerology_of version words.now }
 {
     if is_ordinary(words) {
         return ordinary_numerology(words);
@@ -140,15 +151,18 @@ fn numerology_of(words: &Words<'_>) -> Option<Numerology>
     if is_offset(words) {
         return offset_numerology(words);
     }
+    if is_extended(version, words) {
+        return extended_numerology(words);
+    }
     None
 }
 
 /// The endpoint that the words describe. None where one of them has not its form or range.
-fn endpoint_of(words: &Words<'_>) -> Option<EndpointConfig>
-    ensures { result ≡ endpoint_of words.now }
+fn endpoint_of(version: Version, words: &Words<'_>) -> Option<EndpointConfig>
+    ensures { result ≡ endpoint_of version words.now }
 {
     let id = hex4(words.word(1))?;
-    let numerology = numerology_of(words)?;
+    let numerology = numerology_of(version, words)?;
     let prbs = number_in(words.word(4), 1, 273)?;
     let dynamic = dynamic_of(words.word(5))?;
     let method = method_of(words.word(6))?;
@@ -182,10 +196,10 @@ fn add(reading: &mut Reading, endpoint: EndpointConfig) -> Result<(), DocWhy>
 pub(crate) fn endpoint_line(reading: &mut Reading, words: &Words<'_>) -> Result<(), DocWhy>
     ensures { Refuses (endpoint_line reading.old words.now) result reading.new }
 {
-    if !has_endpoint_count(words) {
+    if !has_endpoint_count(reading.version, words) {
         return Err(DocWhy::Words);
     }
-    match endpoint_of(words) {
+    match endpoint_of(reading.version, words) {
         None => Err(DocWhy::Number),
         Some(endpoint) => add(reading, endpoint),
     }

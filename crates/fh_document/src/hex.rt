@@ -73,6 +73,16 @@ pub(crate) fn hex4(word: &[u8]) -> Option<u16>
     Some(u16::from_be_bytes(bytes))
 }
 
+/// A number of exactly three hexadecimal digits.
+pub(crate) fn hex3(word: &[u8]) -> Option<u16>
+    ensures { result ≡ hex_of 3 word.now }
+{
+    if word.len() != 3 {
+        return None;
+    }
+    hex4(&[b'0', word[0], word[1], word[2]])
+}
+
 /// The frame that digits spell. None where one of them is no digit.
 fn decoded(alloc: Global, word: &[u8]) -> Result<Option<Bytes>, NoMemory>
     requires { length word.now % 2 ≡ 0 }

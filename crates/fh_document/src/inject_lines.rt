@@ -3,7 +3,7 @@ ghost use Rattle.std.specs.Prelude.{◌≡◌};
 ghost use Rattle.fh_document.specs.Answered.{Reads};
 ghost use Rattle.fh_document.specs.InjectLines.{side_of, injected, inject_line};
 
-use crate::building::is_built;
+use crate::building::{is_built, passes};
 use crate::config_lines::time_at;
 use crate::document::{Injection, Reading};
 use crate::hex::frame_of;
@@ -16,7 +16,7 @@ use std::alloc::Global;
 const LAST: u64 = 1_000_000_000_000;
 
 /// The unit at which frames of a way arrive.
-fn side_of(word: &[u8]) -> Option<Side>
+pub(crate) fn side_of(word: &[u8]) -> Option<Side>
     ensures { result ≡ side_of word.now }
 {
     if word == b"dl".as_slice() {
@@ -31,7 +31,8 @@ fn side_of(word: &[u8]) -> Option<Side>
 fn add(reading: &mut Reading, injection: Injection) -> Result<(), LineFault>
     ensures { Reads (injected reading.old injection) result reading.new }
 {
-    if !is_built(reading.endpoints.as_slice(), &injection) {
+    let handled = is_built(reading.endpoints.as_slice(), &injection);
+    if !passes(reading.scope, handled) {
         return Err(LineFault::Why(DocWhy::NotBuilt));
     }
     match reading.injections.push(injection) {

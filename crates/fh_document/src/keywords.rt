@@ -1,7 +1,8 @@
 // The keywords of lines, and the order of their kinds.
 ghost use Rattle.std.specs.Prelude.{◌≡◌, ◌<◌};
-ghost use Rattle.fh_document.specs.Keywords.{setting_of, transit_of, keyword_of, rank_of, number_of};
+ghost use Rattle.fh_document.specs.Keywords.{is_two, common_setting_of, setting_of, transit_of, keyword_of, rank_of, number_of};
 
+use crate::document::Version;
 use crate::words::Words;
 
 /// What a configuration line sets.
@@ -24,6 +25,7 @@ pub(crate) enum Setting {
     TransitDl,
     TransitUl,
     TransitM,
+    Pack,
 }
 
 /// What a line is for.
@@ -31,11 +33,24 @@ pub(crate) enum Setting {
 pub(crate) enum Keyword {
     Configure(Setting),
     Endpoint,
+    Plan,
+    Deliver,
     Inject,
+    Measure,
 }
 
-fn setting_of(word: &[u8]) -> Option<Setting>
-    ensures { result ≡ setting_of word.now }
+/// Whether the grammar is that of `fronthaul 2`.
+pub(crate) fn is_two(version: Version) -> bool
+    ensures { result ≡ is_two version }
+{
+    match version {
+        Version::One => false,
+        Version::Two => true,
+    }
+}
+
+fn common_setting_of(word: &[u8]) -> Option<Setting>
+    ensures { result ≡ common_setting_of word.now }
 {
     if word == b"widths".as_slice() {
         return Some(Setting::Widths);
@@ -82,6 +97,20 @@ fn setting_of(word: &[u8]) -> Option<Setting>
     None
 }
 
+/// What a first word sets.
+fn setting_of(version: Version, word: &[u8]) -> Option<Setting>
+    ensures { result ≡ setting_of version word.now }
+{
+    if word == b"pack".as_slice() {
+        return if is_two(version) {
+            Some(Setting::Pack)
+        } else {
+            None
+        };
+    }
+    common_setting_of(word)
+}
+
 /// What a `transit` line sets, by its second word.
 fn transit_of(word: &[u8]) -> Option<Setting>
     ensures { result ≡ transit_of word.now }
@@ -99,43 +128,55 @@ fn transit_of(word: &[u8]) -> Option<Setting>
 }
 
 /// The keyword of a line.
-pub(crate) fn keyword_of(words: &Words<'_>) -> Option<Keyword>
-    ensures { result ≡ keyword_of words.now }
+pub(crate) fn keyword_of(version: Version, words: &Words<'_>) -> Option<Keyword>
+    ensures { result ≡ keyword_of version words.now }
 {
     let word = words.word(0);
     if word == b"endpoint".as_slice() {
         return Some(Keyword::Endpoint);
     }
+    if word == b"plan".as_slice() {
+        return Some(Keyword::Plan);
+    }
+    if word == b"deliver".as_slice() {
+        return Some(Keyword::Deliver);
+    }
     if word == b"inject".as_slice() {
         return Some(Keyword::Inject);
+    }
+    if word == b"measure".as_slice() {
+        return Some(Keyword::Measure);
     }
     if word == b"transit".as_slice() {
         return transit_of(words.word(1)).map(Keyword::Configure);
     }
-    setting_of(word).map(Keyword::Configure)
+    setting_of(version, word).map(Keyword::Configure)
 }
 
 impl Keyword {
-    /// The place of the kind in the order of lines: configuration 0, endpoint 1, plan 2, deliver 3, inject 4, measure 5.
+    /// The place of the kind in the order of lines.
     pub(crate) fn rank(self) -> u8
         ensures { result ≡ rank_of self }
     {
         match self {
             Keyword::Configure(_) => 0,
             Keyword::Endpoint => 1,
+            Keyword::Plan => 2,
+            Keyword::Deliver => 3,
             Keyword::Inject => 4,
+            Keyword::Measure => 5,
         }
     }
 }
 
 impl Setting {
     /// How many configuration keywords there are.
-    pub(crate) const COUNT: usize = 17;
+    pub(crate) const COUNT: usize = 18;
 
     /// A number of its own.
     pub(crate) fn number(self) -> usize
         ensures value { result ≡ number_of self }
-        ensures below { result < 17 }
+        ensures below { result < 18 }
     {
         self as usize
     }

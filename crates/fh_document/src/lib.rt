@@ -10,19 +10,24 @@
 
 mod building;
 mod config_lines;
+mod deliver_lines;
+mod delivered;
 mod document;
 mod endpoint_lines;
 mod generating;
 mod hex;
 mod inject_lines;
 mod keywords;
+mod measure_lines;
+mod plan_lines;
 mod reading;
 mod refusals;
 mod words;
 
-pub use document::{Comps, Document, Injection, Transits};
+pub use delivered::{Class3, Copies, Delivery, ListFull};
+pub use document::{Comps, Document, Injection, Measure, Transits};
 pub use generating::write;
-pub use reading::read;
+pub use reading::{parse, read};
 pub use refusals::{DocFault, DocWhy};
 pub use report_lines::{Line, cell_line, count_line, delay_line};
 pub use tone_source::{Tone, ToneSteps, tone};

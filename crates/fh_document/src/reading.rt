@@ -1,29 +1,42 @@
 // A document, line by line.
 ghost use Rattle.std.specs.Prelude.{◌≡◌, IfOk};
 ghost use Rattle.fh_document.specs.Answered.{Refuses, refused, Reads, Answers};
-ghost use Rattle.fh_document.specs.Lines.{start, is_seen, setting_line, reached, comes_late, keyword_line, ordered_line, is_skipped, is_first, later_line, words_line, line_of};
-ghost use Rattle.fh_document.specs.Document.{finished, document_of};
-ghost use Rattle.fh_document.specs.Proper.{IsDocument};
+ghost use Rattle.fh_document.specs.Lines.{start, is_seen, setting_line, reached, comes_late, keyword_line, ordered_line, is_skipped, version_at, version_of, first_line, later_line, words_line, line_of};
+ghost use Rattle.fh_document.specs.Building.{if_built, is_built_kind};
+ghost use Rattle.fh_document.specs.declared.document.Scope.TheVariants.{Whole};
+ghost use Rattle.fh_document.specs.Document.{finished, document_in, document_of, parsed};
+ghost use Rattle.fh_document.specs.Proper.{IsDocumentIn, IsDocument};
 
+use crate::building::{is_built_kind, passes};
 use crate::config_lines::{defaults, set};
-use crate::document::{Document, Reading};
+use crate::deliver_lines::deliver_line;
+use crate::delivered::Deliveries;
+use crate::document::{Document, Reading, Scope, Version};
 use crate::endpoint_lines::endpoint_line;
 use crate::inject_lines::inject_line;
 use crate::keywords::{Keyword, Setting, keyword_of};
+use crate::measure_lines::measure_line;
+use crate::plan_lines::plan_line;
 use crate::refusals::{DocFault, DocWhy, LineFault};
 use crate::words::{Words, cut, is_text, without_last_feed};
 use fh_base::List;
 use std::alloc::Global;
 use window_config::{Config, EndpointList};
 
-fn start(alloc: Global) -> Reading
-    ensures { result ≡ start }
+fn start(alloc: Global, scope: Scope) -> Reading
+    ensures { result ≡ start scope }
 {
     Reading {
+        scope,
+        version: Version::One,
         settings: defaults(),
         seen: [false; Setting::COUNT],
         endpoints: EndpointList::new(),
+        plan: List::new(alloc),
+        plan_lines: List::new(alloc),
+        deliveries: Deliveries::new(alloc),
         injections: List::new(alloc),
+        measures: List::new(alloc),
     }
 }
 
@@ -53,8 +66,17 @@ fn setting_line(reading: &mut Reading, setting: Setting, words: &Words<'_>) -> R
 fn reached(reading: &Reading) -> u8
     ensures { result ≡ reached reading.now }
 {
+    if reading.measures.len() > 0 {
+        return Keyword::Measure.rank();
+    }
     if reading.injections.len() > 0 {
         return Keyword::Inject.rank();
+    }
+    if reading.deliveries.len() > 0 {
+        return Keyword::Deliver.rank();
+    }
+    if reading.plan.len() > 0 {
+        return Keyword::Plan.rank();
     }
     if reading.endpoints.as_slice().len() > 0 {
         return Keyword::Endpoint.rank();
@@ -78,33 +100,52 @@ fn refused(answer: Result<(), DocWhy>) -> Result<(), LineFault>
     }
 }
 
+/// The last reason of a line: what it says is not handled.
+fn if_built(reading: &Reading, handled: bool) -> Result<(), LineFault>
+    ensures { Reads (if_built handled reading.now) result reading.now }
+{
+    if !passes(reading.scope, handled) {
+        return Err(LineFault::Why(DocWhy::NotBuilt));
+    }
+    Ok(())
+}
+
+/// The line by its keyword alone, whether or not it is handled.
 fn keyword_line(
     alloc: Global,
     reading: &mut Reading,
+    n: usize,
     keyword: Keyword,
     words: &Words<'_>,
 ) -> Result<(), LineFault>
-    ensures { Reads (keyword_line reading.old keyword words.now) result reading.new }
+    ensures { Reads (keyword_line reading.old n keyword words.now) result reading.new }
 {
     match keyword {
         Keyword::Configure(setting) => refused(setting_line(reading, setting, words)),
         Keyword::Endpoint => refused(endpoint_line(reading, words)),
+        Keyword::Plan => plan_line(reading, n, words),
+        Keyword::Deliver => deliver_line(reading, words),
         Keyword::Inject => inject_line(alloc, reading, words),
+        Keyword::Measure => measure_line(reading, words),
     }
 }
 
 fn ordered_line(
     alloc: Global,
     reading: &mut Reading,
+    n: usize,
     keyword: Keyword,
     words: &Words<'_>,
 ) -> Result<(), LineFault>
-    ensures { Reads (ordered_line reading.old keyword words.now) result reading.new }
+    ensures { Reads (ordered_line reading.old n keyword words.now) result reading.new }
 {
     if comes_late(reading, keyword) {
         return Err(LineFault::Why(DocWhy::Order));
     }
-    keyword_line(alloc, reading, keyword, words)
+    match keyword_line(alloc, reading, n, keyword, words) {
+        Ok(()) => if_built(reading, is_built_kind(keyword)),
+        Err(fault) => Err(fault),
+    }
 }
 
 fn is_skipped(words: &Words<'_>) -> bool
@@ -113,27 +154,57 @@ fn is_skipped(words: &Words<'_>) -> bool
     words.len() == 0 || words.word(0).first() == Some(&b'#')
 }
 
-fn is_first(words: &Words<'_>) -> bool
-    ensures { result ≡ is_first words.now }
+/// The version that a word names.
+fn version_at(word: &[u8]) -> Option<Version>
+    ensures { result ≡ version_at word.now }
 {
-    if words.len() != 2 {
-        return false;
+    if word == b"1".as_slice() {
+        return Some(Version::One);
     }
-    if words.word(0) != b"fronthaul".as_slice() {
-        return false;
+    if word == b"2".as_slice() {
+        return Some(Version::Two);
     }
-    words.word(1) == b"1".as_slice()
+    None
 }
 
-fn later_line(alloc: Global, reading: &mut Reading, words: &Words<'_>) -> Result<(), LineFault>
-    ensures { Reads (later_line reading.old words.now) result reading.new }
+fn version_of(words: &Words<'_>) -> Option<Version>
+    ensures { result ≡ version_of words.now }
+{
+    if words.len() != 2 {
+        return None;
+    }
+    if words.word(0) != b"fronthaul".as_slice() {
+        return None;
+    }
+    version_at(words.word(1))
+}
+
+fn first_line(reading: &mut Reading, words: &Words<'_>) -> Result<(), LineFault>
+    ensures { Reads (first_line reading.old words.now) result reading.new }
+{
+    match version_of(words) {
+        None => Err(LineFault::Why(DocWhy::FirstLine)),
+        Some(version) => {
+            reading.version = version;
+            Ok(())
+        }
+    }
+}
+
+fn later_line(
+    alloc: Global,
+    reading: &mut Reading,
+    n: usize,
+    words: &Words<'_>,
+) -> Result<(), LineFault>
+    ensures { Reads (later_line reading.old n words.now) result reading.new }
 {
     if is_skipped(words) {
         return Ok(());
     }
-    match keyword_of(words) {
+    match keyword_of(reading.version, words) {
         None => Err(LineFault::Why(DocWhy::UnknownWord)),
-        Some(keyword) => ordered_line(alloc, reading, keyword, words),
+        Some(keyword) => ordered_line(alloc, reading, n, keyword, words),
     }
 }
 
@@ -146,12 +217,9 @@ fn words_line(
     ensures { Reads (words_line reading.old n words.now) result reading.new }
 {
     if n == 1 {
-        if is_first(words) {
-            return Ok(());
-        }
-        return Err(LineFault::Why(DocWhy::FirstLine));
+        return first_line(reading, words);
     }
-    later_line(alloc, reading, words)
+    later_line(alloc, reading, n, words)
 }
 
 #[tactic(auto, unfolding(crate::specs::Lines::line_of))]
@@ -174,26 +242,26 @@ fn finished(reading: Reading) -> Document
             delays: settings.delays,
             gap: settings.gap,
             fragment: settings.fragment,
-            pack: 1,
+            pack: settings.pack,
             endpoints: reading.endpoints,
         },
+        plan: reading.plan,
+        plan_lines: reading.plan_lines,
         source: settings.source,
         antenna: settings.antenna,
         comps: settings.comps,
         transits: settings.transits,
+        deliveries: reading.deliveries.into_list(),
         injections: reading.injections,
+        measures: reading.measures,
     }
 }
 
-/// Reads a document.
-///
-/// The answer is what the lines say, or the first line that is refused with its first reason, or want of memory. A document that
-/// is read is within its limits: the configuration is, no id stands twice, and each injected frame is one that is handled.
-pub fn read(alloc: Global, bytes: &[u8]) -> Result<Document, DocFault>
-    ensures answers { Answers (document_of bytes.now) result }
-    ensures proper { IfOk result (λ d. IsDocument d) }
+fn read_in(alloc: Global, scope: Scope, bytes: &[u8]) -> Result<Document, DocFault>
+    ensures answers { Answers (document_in scope bytes.now) result }
+    ensures proper { IfOk result (λ d. IsDocumentIn scope d) }
 {
-    let mut reading = start(alloc);
+    let mut reading = start(alloc, scope);
     if bytes.is_empty() {
         return Err(DocFault::At {
             line: 1,
@@ -213,4 +281,24 @@ pub fn read(alloc: Global, bytes: &[u8]) -> Result<Document, DocFault>
         rest = behind;
     }
     Ok(finished(reading))
+}
+
+/// Reads a document, in the grammar of `fronthaul 1` or `fronthaul 2` as its first line says.
+///
+/// The answer is what the lines say, or the first line that is refused with its first reason, or want of memory. A document that
+/// is read is within its limits: the configuration is, no id stands twice, and each injected frame is one that is handled. So far
+/// the lines of a plan, of deliveries and of measurements are refused, where no other reason is there (`NotBuilt`).
+pub fn read(alloc: Global, bytes: &[u8]) -> Result<Document, DocFault>
+    ensures answers { Answers (document_of bytes.now) result }
+    ensures proper { IfOk result (λ d. IsDocument d) }
+{
+    read_in(alloc, Scope::Built, bytes)
+}
+
+/// Reads a document by the grammar alone: as [`read`], but what is not handled yet is read as well.
+pub fn parse(alloc: Global, bytes: &[u8]) -> Result<Document, DocFault>
+    ensures answers { Answers (parsed bytes.now) result }
+    ensures proper { IfOk result (λ d. IsDocumentIn Whole d) }
+{
+    read_in(alloc, Scope::Whole, bytes)
 }

@@ -10,7 +10,7 @@ pub enum DocWhy {
     /// A byte is not one of printable ASCII (20 to 7e in hexadecimal).
     #[error("NotText")]
     NotText,
-    /// Line 1 is missing, or its words are not `fronthaul 1`.
+    /// Line 1 is missing, or its words are neither `fronthaul 1` nor `fronthaul 2`.
     #[error("FirstLine")]
     FirstLine,
     /// The first word is no keyword, or the second word of `transit` names none.
@@ -19,7 +19,7 @@ pub enum DocWhy {
     /// The line is of an earlier kind than one before it.
     #[error("Order")]
     Order,
-    /// The configuration keyword, or the endpoint's id, stands in an earlier line.
+    /// The configuration keyword, the endpoint's id, the frame of a deliver line, or the measurement's id stands in an earlier line.
     #[error("Twice")]
     Twice,
     /// The number of words is wrong.
@@ -34,10 +34,10 @@ pub enum DocWhy {
     /// A minimum exceeds its maximum.
     #[error("MinMax")]
     MinMax,
-    /// Sixteen endpoints are there already.
+    /// Sixteen endpoints, or 65,536 lines of a plan, are there already.
     #[error("TooMany")]
     TooMany,
-    /// What the line injects is not handled yet.
+    /// What the line says is not handled yet.
     #[error("NotBuilt")]
     NotBuilt,
 }

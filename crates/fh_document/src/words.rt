@@ -67,6 +67,22 @@ pub(crate) fn number_in(word: &[u8], low: u64, high: u64) -> Option<u64>
     Some(n)
 }
 
+/// The same as a number of 8 bits.
+pub(crate) fn byte_in(word: &[u8], low: u8, high: u8) -> Option<u8>
+    ensures { result ≡ number_in low high word.now }
+{
+    let n = number_in(word, u64::from(low), u64::from(high))?;
+    Some(n as u8)
+}
+
+/// The same as a number of 16 bits.
+pub(crate) fn short_in(word: &[u8], low: u16, high: u16) -> Option<u16>
+    ensures { result ≡ number_in low high word.now }
+{
+    let n = number_in(word, u64::from(low), u64::from(high))?;
+    Some(n as u16)
+}
+
 /// The words of a line: what stands between spaces. Contracts see them as a list of texts.
 #[derive(Drop)]
 pub(crate) struct Words<'a> {

@@ -1,0 +1,100 @@
+// Deliver lines.
+ghost use Rattle.std.specs.Prelude.{◌≡◌, ◌≤◌, length, drop};
+ghost use Rattle.fh_document.specs.Answered.{Reads};
+ghost use Rattle.fh_document.specs.DeliverLines.{class_of, least_of, times_of, has_deliver_count, delivery_of, delivered, deliver_line};
+
+use crate::delivered::{Class3, Copies, Delivery};
+use crate::document::Reading;
+use crate::inject_lines::side_of;
+use crate::refusals::{DocWhy, LineFault};
+use crate::words::{Words, number_in};
+
+/// The longest time on the way, in nanoseconds.
+const MOST_TIME: u64 = 3_000_000_000;
+
+/// The greatest number of a frame of its class.
+const MOST_K: u64 = 9_999_999;
+
+fn class_of(word: &[u8]) -> Option<Class3>
+    ensures { result ≡ class_of word.now }
+{
+    if word == b"c".as_slice() {
+        return Some(Class3::C);
+    }
+    if word == b"u".as_slice() {
+        return Some(Class3::U);
+    }
+    if word == b"m".as_slice() {
+        return Some(Class3::M);
+    }
+    None
+}
+
+/// The least time on its way that a frame of a class may have.
+fn least_of(class: Class3) -> u64
+    ensures { result ≡ least_of class }
+{
+    match class {
+        Class3::C | Class3::U => 0,
+        Class3::M => 1,
+    }
+}
+
+fn has_deliver_count(words: &Words<'_>) -> bool
+    ensures { result ≡ has_deliver_count words.now }
+{
+    words.len() >= 4 && words.len() <= 12
+}
+
+/// The times that the words behind the first four spell. None where one of them spells none from `low` on.
+fn times_of(words: &Words<'_>, low: u64) -> Option<Copies>
+    requires { length words.now ≤ 12 }
+    ensures { result ≡ times_of low (drop 4 words.now) }
+{
+    let mut copies = Copies::new();
+    for i in 4..words.len() {
+        let ns = number_in(words.word(i), low, MOST_TIME)?;
+        let _ = copies.push(ns as i64);
+    }
+    Some(copies)
+}
+
+/// What the words say of a frame. None where one of them has not its form or range.
+fn delivery_of(words: &Words<'_>) -> Option<Delivery>
+    requires { length words.now ≤ 12 }
+    ensures { result ≡ delivery_of words.now }
+{
+    let side = side_of(words.word(1))?;
+    let class = class_of(words.word(2))?;
+    let k = number_in(words.word(3), 1, MOST_K)?;
+    let copies = times_of(words, least_of(class))?;
+    Some(Delivery {
+        side,
+        class,
+        k: k as u32,
+        copies,
+    })
+}
+
+fn add(reading: &mut Reading, delivery: Delivery) -> Result<(), LineFault>
+    ensures { Reads (delivered reading.old delivery) result reading.new }
+{
+    match reading.deliveries.add(delivery) {
+        Ok(true) => Ok(()),
+        Ok(false) => Err(LineFault::Why(DocWhy::Twice)),
+        Err(_) => Err(LineFault::NoMemory),
+    }
+}
+
+/// Reads a deliver line.
+pub(crate) fn deliver_line(reading: &mut Reading, words: &Words<'_>) -> Result<(), LineFault>
+    ensures { Reads (deliver_line reading.old words.now) result reading.new }
+{
+    if !has_deliver_count(words) {
+        return Err(LineFault::Why(DocWhy::Words));
+    }
+    match delivery_of(words) {
+        None => Err(LineFault::Why(DocWhy::Number)),
+        Some(delivery) => add(reading, delivery),
+    }
+}

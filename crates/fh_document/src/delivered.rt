@@ -1,0 +1,188 @@
+// What becomes of frames that are sent: how many copies of each arrive, and when.
+ghost use Rattle.std.specs.Prelude.{◌≡◌, ◌<◌};
+ghost use Rattle.fh_document.specs.Delivered.{way_number, class_number};
+
+use air_source::Side;
+use arrayvec::ArrayVec;
+use fh_base::{List, NoMemory};
+use std::alloc::Global;
+use std::collections::BTreeSet;
+use std::marker::Model;
+use thiserror::Error;
+
+/// The classes of frames, each counted for itself on each way.
+#[derive(Clone, Copy, Debug, PartialEq, Eq)]
+pub enum Class3 {
+    /// Frames of the C-plane.
+    C,
+    /// Frames of the U-plane.
+    U,
+    /// Frames of delay measurement.
+    M,
+}
+
+/// Eight copies are there.
+#[derive(Clone, Copy, Debug, PartialEq, Eq, Error)]
+#[error("eight copies are there")]
+pub struct ListFull;
+
+/// How long each copy of a frame is on its way, in nanoseconds: at most eight times. Contracts see them as a list.
+#[derive(Drop)]
+pub struct Copies {
+    times: ArrayVec<i64, 8>,
+}
+
+impl Model for Copies {
+    ghost use Rattle.std.specs.Prelude.{ℤ, List as Items};
+
+    ghost Value = { Items ℤ };
+
+    ghost view = { λ c. c.times.items };
+}
+
+impl Copies {
+    ghost use Rattle.std.specs.Prelude.{◌≤◌, ◌↔◌, [], ◌∷◌, ◌++◌, length, IsErr, OnOk, OnErr};
+
+    /// No copy: the frame is lost.
+    pub fn new() -> Copies
+        ensures { result ≡ [] }
+    {
+        Copies {
+            times: ArrayVec::new(),
+        }
+    }
+
+    /// Appends a copy. An error exactly where eight are there, and nothing changes then.
+    pub fn push(&mut self, ns: i64) -> Result<(), ListFull>
+        ensures full { IsErr result ↔ (length self.old ≡ 8) }
+        ensures ok { OnOk result (self.new ≡ self.old ++ ns ∷ []) }
+        ensures err { OnErr result (self.new ≡ self.old) }
+    {
+        match self.times.try_push(ns) {
+            Ok(()) => Ok(()),
+            Err(_) => Err(ListFull),
+        }
+    }
+
+    /// The times, in the order in which they were appended.
+    pub fn as_slice(&self) -> &[i64]
+        ensures times { result.now ≡ self.now }
+        ensures few { length result.now ≤ 8 }
+    {
+        self.times.as_slice()
+    }
+}
+
+/// What becomes of one frame that is sent.
+#[derive(Drop)]
+pub struct Delivery {
+    /// The unit that it is sent to.
+    pub side: Side,
+    pub class: Class3,
+    /// Which of its class on its way it is, from 1 to 9,999,999 in the order in which they are sent.
+    pub k: u32,
+    /// From 0 to 3,000,000,000 ns each; of delay measurement at least 1 ns.
+    pub copies: Copies,
+}
+
+fn way_number(side: Side) -> u64
+    ensures way { result ≡ way_number side }
+    ensures small { result < 2 }
+{
+    match side {
+        Side::Ru => 0,
+        Side::Du => 1,
+    }
+}
+
+fn class_number(class: Class3) -> u64
+    ensures class { result ≡ class_number class }
+    ensures small { result < 3 }
+{
+    match class {
+        Class3::C => 0,
+        Class3::U => 1,
+        Class3::M => 2,
+    }
+}
+
+impl Delivery {
+    ghost use Rattle.fh_document.specs.Delivered.{frame_number};
+
+    /// A number of its own for each frame.
+    fn frame_number(&self) -> u64
+        ensures { result ≡ frame_number self.now }
+    {
+        6 * u64::from(self.k) + (3 * way_number(self.side) + class_number(self.class))
+    }
+}
+
+/// Deliveries in the order of their lines, and the numbers of their frames in order, so that a frame is found at once. Contracts see
+/// the deliveries as a list.
+#[derive(Drop)]
+pub(crate) struct Deliveries {
+    items: List<Delivery>,
+    numbers: BTreeSet<u64, Global>,
+}
+
+impl Model for Deliveries {
+    ghost use Rattle.std.specs.Prelude.{List as Items};
+    ghost use Rattle.fh_document.specs.declared.delivered.Delivery.{Delivery};
+    ghost use Rattle.fh_document.specs.FrameNumbers.{AreNumbers};
+
+    ghost Value = { Items Delivery };
+
+    ghost view = { λ d. d.items };
+
+    ghost invariant = { λ d. AreNumbers d.numbers d.items };
+}
+
+impl Deliveries {
+    ghost use Rattle.std.specs.Prelude.{true, false, [], ◌∷◌, ◌++◌, length, not, IfOk, OnOk, if◌then◌else◌};
+    ghost use Rattle.fh_document.specs.Delivered.{has_like};
+
+    /// No deliveries.
+    pub(crate) fn new(alloc: Global) -> Deliveries
+        ensures { result ≡ [] }
+    {
+        Deliveries {
+            items: List::new(alloc),
+            numbers: BTreeSet::new(alloc),
+        }
+    }
+
+    /// How many there are.
+    pub(crate) fn len(&self) -> usize
+        ensures { result ≡ length self.now }
+    {
+        self.items.len()
+    }
+
+    /// Appends a delivery where none of its frame is there, and answers whether that is so.
+    pub(crate) fn add(&mut self, delivery: Delivery) -> Result<bool, NoMemory>
+        ensures new { IfOk result (λ new. new ≡ not (has_like delivery self.old)) }
+        ensures items { IfOk result (λ new. self.new ≡ (if new then self.old ++ delivery ∷ [] else self.old)) }
+    {
+        let number = delivery.frame_number();
+        match self.numbers.insert(number) {
+            Ok(true) => {}
+            Ok(false) => return Ok(false),
+            Err(_) => return Err(NoMemory),
+        }
+        match self.items.push(delivery) {
+            Ok(()) => Ok(true),
+            Err(fault) => {
+                let _ = self.numbers.remove(&number);
+                Err(fault)
+            }
+        }
+    }
+
+    /// The deliveries, in the order of their lines.
+    pub(crate) fn into_list(self) -> List<Delivery>
+        ensures { result ≡ self }
+    {
+        let Deliveries { items, numbers: _ } = self;
+        items
+    }
+}
