@@ -11,3 +11,4 @@ pub mod LineBounds
 pub mod Anyone
 pub mod Properness
 pub mod Texts
+pub mod Scopes

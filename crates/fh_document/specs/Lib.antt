@@ -16,3 +16,4 @@ pub mod Document
 pub mod Answered
 pub mod Proper
 pub mod Generated
+pub mod Steps

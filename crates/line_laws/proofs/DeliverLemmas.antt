@@ -1,0 +1,73 @@
+-- Deliver lines.
+use Rattle.std.proofs.Common.{◌≡◌, ℕ, suc, ◌≢◌, ◌≤◌, List, [], ◌∷◌, length, map, true, false, ◌&&◌, ◌||◌, nat_le, Some, refl, ap, ◌∙◌, arith}
+use Rattle.std.specs.Prelude.{ℤ, All, decimal, ◌==◌}
+use Rattle.std.specs.List.{list_all}
+use Rattle.std.specs.Fmt.{signed_decimal}
+use Rattle.std.proofs.lemmas.Bool.Decides.{nat_tests}
+use Rattle.std.proofs.lemmas.List.{length-map}
+use Rattle.std.proofs.lemmas.List.Elements.{All-head, All-tail}
+use Rattle.fh_document.specs.declared.delivered.Class3.{Class3}
+use Rattle.fh_document.specs.declared.delivered.Class3.TheVariants.{C, U, M}
+use Rattle.fh_document.specs.declared.delivered.Delivery.{Delivery}
+use Rattle.fh_document.specs.declared.refusals.DocWhy.TheVariants as why
+use Rattle.fh_document.specs.Building.{if_built}
+use Rattle.fh_document.specs.DeliverLines.{class_of, least_of, times_of, has_deliver_count, delivery_of, delivered}
+use Rattle.fh_document.specs.EndpointLines.{taking}
+use Rattle.fh_document.specs.InjectLines.{side_of}
+use Rattle.fh_document.specs.Lines.{reached, line_of}
+use Rattle.fh_document.specs.Proper.{IsFrom, IsDelivery}
+use Rattle.fh_document.specs.Refusals.{◌>>=◌}
+use Rattle.fh_document.specs.Steps.{Said, deliveries}
+use Rattle.fh_document.specs.Words.{number_in}
+use Rattle.line_laws.specs.Joined.{is_word, spaced}
+use Rattle.line_laws.specs.Words.{way_word, class_word, deliver_words}
+use Rattle.line_laws.proofs.Tests.{both_true, if_true, took, then_some}
+use Rattle.line_laws.proofs.NumberLemmas.{number_is, decimal_word, signed_word, time_is}
+use Rattle.line_laws.proofs.InjectLemmas.{way_is, way_visible}
+use Rattle.line_laws.proofs.LineLemmas.{line_is}
+
+class_is : (class : Class3) → class_of (class_word class) ≡ Some class
+class_is C = refl
+class_is U = refl
+class_is M = refl
+
+class_visible : (class : Class3) → is_word (class_word class) ≡ true
+class_visible C = refl
+class_visible U = refl
+class_visible M = refl
+
+times_visible : (low : ℕ) (times : List ℤ) → All (IsFrom low 3000000000) times → list_all is_word (map signed_decimal times) ≡ true
+times_visible low [] h = refl
+times_visible low (z ∷ times) h =
+    both_true _ _ (signed_word low 3000000000 z (omega arith) (All-head (IsFrom low 3000000000) z times h)) (times_visible low times (All-tail (IsFrom low 3000000000) z times h))
+
+times_are : (low : ℕ) (times : List ℤ) → All (IsFrom low 3000000000) times → times_of low (map signed_decimal times) ≡ Some times
+times_are low [] h = refl
+times_are low (z ∷ times) h =
+    time_is low 3000000000 z (λ t. taking (times_of low (map signed_decimal times)) (λ ts. Some (t ∷ ts))) (omega arith) (All-head (IsFrom low 3000000000) z times h)
+    ∙ took (times_of low (map signed_decimal times)) times (λ ts. Some (z ∷ ts)) (times_are low times (All-tail (IsFrom low 3000000000) z times h))
+
+deliver_visible : (d : Delivery) → IsDelivery d → list_all is_word (deliver_words d) ≡ true
+deliver_visible d h =
+    both_true _ _ (way_visible d.side) (both_true _ _ (class_visible d.class) (both_true _ _ (decimal_word d.k (omega (arith, h.most))) (times_visible (least_of d.class) d.copies h.times)))
+
+delivery_is : (d : Delivery) → IsDelivery d → delivery_of (deliver_words d) ≡ Some d
+delivery_is d h =
+    took (side_of (way_word d.side)) d.side _ (way_is d.side)
+    ∙ took (class_of (class_word d.class)) d.class _ (class_is d.class)
+    ∙ took (number_in 1 9999999 (decimal d.k)) d.k _ (number_is 1 9999999 d.k h.some h.most (omega (arith, h.most)))
+    ∙ took (times_of (least_of d.class) (map signed_decimal d.copies)) d.copies _ (times_are (least_of d.class) d.copies h.times)
+
+some_words : (n : ℕ) → ((suc (suc (suc (suc n))) == 0) || false) ≡ false
+some_words n = grind (arith, nat_tests)
+
+counted : (n m : ℕ) → n ≡ m → m ≤ 8 → (nat_le 4 (suc (suc (suc (suc n)))) && nat_le (suc (suc (suc (suc n)))) 12) ≡ true
+counted n m is few = grind (arith, nat_tests)
+
+pub deliver_read : (r : Said) (n : ℕ) (d : Delivery) → n ≢ 1 → reached r ≤ 3 → IsDelivery d
+    → line_of r n (spaced (deliver_words d)) ≡ (delivered r d >>= (λ next. if_built false next))
+deliver_read r n d later order h =
+    line_is r n deliveries (deliver_words d) later (deliver_visible d h) (some_words (length (map signed_decimal d.copies))) refl order
+    ∙ ap (λ x. x >>= (λ next. if_built false next))
+    (if_true (has_deliver_count (deliver_words d)) _ _ (counted (length (map signed_decimal d.copies)) (length d.copies) (length-map d.copies signed_decimal) h.few)
+    ∙ then_some (delivery_of (deliver_words d)) why.Number d (λ x. delivered r x) (delivery_is d h))

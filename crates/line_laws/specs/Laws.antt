@@ -1,0 +1,67 @@
+-- What a program wrote is read back.
+use Rattle.std.specs.Prelude.{ℕ, ◌≡◌, ◌≢◌, ◌<◌, ◌≤◌, ◌^◌, List, [], All, length, true, false, Some, Ok, decimal, ◌==◌}
+use Rattle.std.specs.List.{slice_split, list_all}
+use Rattle.text_lines.specs.Words.{hex4_text, hex3_text}
+use Rattle.window_config.specs.declared.plan.PlanLine.{PlanLine}
+use Rattle.fh_document.specs.declared.delivered.Delivery.{Delivery}
+use Rattle.fh_document.specs.declared.document.Injection.{Injection}
+use Rattle.fh_document.specs.Building.{is_built, if_built}
+use Rattle.fh_document.specs.Document.{document_of, parsed}
+use Rattle.fh_document.specs.Hex.{hex_of, frame_of}
+use Rattle.fh_document.specs.Lines.{line_of, reached}
+use Rattle.fh_document.specs.PlanLines.{planned}
+use Rattle.fh_document.specs.DeliverLines.{delivered}
+use Rattle.fh_document.specs.Proper.{IsFrom, IsPlanLine, IsDelivery}
+use Rattle.fh_document.specs.Refusals.{◌>>=◌}
+use Rattle.fh_document.specs.Steps.{Said, handled, whole}
+use Rattle.fh_document.specs.Words.{is_text, words_of, number_in, without_last_feed}
+use Rattle.line_laws.specs.Joined.{is_word, spaced, fed}
+use Rattle.line_laws.specs.Words.{frame_word, plan_words, deliver_words}
+use Rattle.line_laws.specs.Lines.{injections_text, document_with}
+
+-- words that are joined by single spaces are the words of a line, and the line is text
+abbrev pub WordsAreRead : Type 0
+WordsAreRead = (ws : List (List ℕ)) → list_all is_word ws ≡ true → (words_of (spaced ws) ≡ ws) × (is_text (spaced ws) ≡ true)
+
+-- lines of text that are joined by line feeds are these lines
+abbrev pub LinesAreRead : Type 0
+LinesAreRead = (lines : List (List ℕ)) → 0 < length lines → list_all is_text lines ≡ true → slice_split (λ b. b == 10) (without_last_feed (fed lines)) ≡ lines
+
+-- a number in decimal is read within its range
+abbrev pub NumbersAreRead : Type 0
+NumbersAreRead = (low high n : ℕ) → low ≤ n → n ≤ high → n < 10 ^ 13 → number_in low high (decimal n) ≡ Some n
+
+-- so are an id and a mask in hexadecimal digits
+abbrev pub IdsAreRead : Type 0
+IdsAreRead = ((n : ℕ) → n < 2 ^ 16 → hex_of 4 (hex4_text n) ≡ Some n) × ((n : ℕ) → n < 2 ^ 12 → hex_of 3 (hex3_text n) ≡ Some n)
+
+abbrev pub AreBytes : List ℕ → Type 0
+AreBytes bytes = All (λ b. b < 256) bytes
+
+-- two digits for each byte are read as these bytes, and a dash as none
+abbrev pub FramesAreRead : Type 0
+FramesAreRead = (bytes : List ℕ) → AreBytes bytes → length bytes ≤ 9216 → frame_of (frame_word bytes) ≡ Some bytes
+
+-- a frame that an inject line may have
+pub record IsFrame (i : Injection) : Type 0 where
+  pub time : IsFrom 0 (10 ^ 12) i.at
+  pub bytes : AreBytes i.frame
+  pub short : length i.frame ≤ 9216
+
+-- a text of inject lines is read as exactly these frames, in their order; where all are handled, `read` says the same
+abbrev pub InjectionsAreRead : Type 0
+InjectionsAreRead = (is : List Injection) → All IsFrame is → parsed (injections_text is) ≡ Ok (document_with whole is)
+
+abbrev pub BuiltInjectionsAreRead : Type 0
+BuiltInjectionsAreRead = (is : List Injection) → All IsFrame is → All (λ i. is_built [] i ≡ true) is → document_of (injections_text is) ≡ Ok (document_with handled is)
+
+-- a line of a plan behind line 1, where no line of a later kind stands: it plans what was written, as far as lines of a plan are
+-- handled
+abbrev pub PlansAreRead : Type 0
+PlansAreRead = (r : Said) (n : ℕ) (line : PlanLine) → n ≢ 1 → reached r ≤ 2 → IsPlanLine line → line.id < 2 ^ 16 → line.num_prb < 2 ^ 8
+    → line_of r n (spaced (plan_words line)) ≡ (planned r n line >>= (λ next. if_built false next))
+
+-- the same of a deliver line
+abbrev pub DeliveriesAreRead : Type 0
+DeliveriesAreRead = (r : Said) (n : ℕ) (d : Delivery) → n ≢ 1 → reached r ≤ 3 → IsDelivery d
+    → line_of r n (spaced (deliver_words d)) ≡ (delivered r d >>= (λ next. if_built false next))
