@@ -1,0 +1,4 @@
+pub mod Names
+pub mod Fitting
+pub mod Ranges
+pub mod Breaches
