@@ -1,0 +1,34 @@
+use Rattle.std.proofs.lemmas.Result.{on_ok_weaker}
+use Rattle.std.specs.List.{flat_map}
+use Rattle.owed_bytes.specs.CarriedLaws.{carried_more}
+use Rattle.window_config.specs.Relations.{relations}
+use Rattle.window_plan.specs.Fitting.{fitted}
+use Rattle.window_lines.specs.Fit.{breach_text, fitted_or_none, fit_text}
+use Rattle.window_lines.proofs.Telling.{first_front, next_front, last_front, all_written}
+use Rattle.window_lines.proofs.fit_texts.put_fit.Goals as goal
+
+pub returns-in_err-tell_breaches-clause-front : goal.returns-in_err-tell_breaches-clause-front
+unfolding fit_text
+returns-in_err-tell_breaches-clause-front g c =
+    let d = c.args.delays.now in
+    first_front _ _ c.new-owed.result (flat_map (breach_text d) relations) (fitted_or_none (fitted d)) c.new-owed.ensures c.in_err-tell_breaches.ensures.front
+
+pub returns-in_err-tell_fit-clause-front : goal.returns-in_err-tell_fit-clause-front
+unfolding fit_text
+returns-in_err-tell_fit-clause-front g c =
+    let d = c.args.delays.now in
+    next_front _ _ _ c.new-owed.result (flat_map (breach_text d) relations) _ (fitted_or_none (fitted d)) c.new-owed.ensures c.in_ok-tell_breaches.ensures.carried c.in_err-tell_fit.ensures.front
+
+pub returns-clause-ok : goal.returns-clause-ok
+unfolding fit_text
+returns-clause-ok g c =
+    let d = c.args.delays.now in
+    let all = carried_more _ _ _ _ _ _ (flat_map (breach_text d) relations) (fitted_or_none (fitted d)) c.in_ok-tell_breaches.ensures.carried c.in_ok-tell_fit.ensures.carried in
+    on_ok_weaker c.push_out.result (λ is. all_written _ _ _ c.new-owed.result _ _ c.new-owed.ensures all is) c.push_out.ensures.all
+
+pub returns-clause-front : goal.returns-clause-front
+unfolding fit_text
+returns-clause-front g c =
+    let d = c.args.delays.now in
+    let all = carried_more _ _ _ _ _ _ (flat_map (breach_text d) relations) (fitted_or_none (fitted d)) c.in_ok-tell_breaches.ensures.carried c.in_ok-tell_fit.ensures.carried in
+    last_front _ _ _ c.new-owed.result _ _ c.new-owed.ensures all c.push_out.ensures.front
