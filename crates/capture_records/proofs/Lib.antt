@@ -1,0 +1,3 @@
+pub mod HeadBytes
+pub mod Steps
+pub mod Written
