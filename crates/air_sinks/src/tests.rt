@@ -1,0 +1,31 @@
+// Each call once, and a sink that fails.
+use crate::{push_out, tell};
+use air_source::AirFault;
+use fh_base::{List, MemorySink, PlainSink};
+use owed_bytes::OwedBytes;
+use std::test::Fail;
+
+#[test]
+fn what_is_told_is_written_at_last(rt: HostRuntime) -> Result<(), Fail> {
+    let mut sink = PlainSink::new(rt.alloc());
+    let mut owed = OwedBytes::new();
+    assert_eq!(rt; tell(&mut owed, b"ab", &mut sink), Ok(()));
+    assert_eq!(rt; tell(&mut owed, b"c", &mut sink), Ok(()));
+    assert_eq!(rt; sink.bytes().len(), 0);
+    assert_eq!(rt; push_out(&mut owed, &mut sink), Ok(()));
+    assert_eq!(rt; sink.bytes(), b"abc".as_slice());
+    Ok(())
+}
+
+#[test]
+fn a_failing_sink_is_a_failed_air(rt: HostRuntime) -> Result<(), Fail> {
+    let alloc = rt.alloc();
+    let mut fails = List::new(alloc);
+    fails.push(2)?;
+    let mut sink = MemorySink::new(alloc, 1, fails);
+    let mut owed = OwedBytes::new();
+    assert_eq!(rt; tell(&mut owed, b"ab", &mut sink), Ok(()));
+    assert_eq!(rt; push_out(&mut owed, &mut sink), Err(AirFault::Failed));
+    assert_eq!(rt; sink.bytes(), b"a".as_slice());
+    Ok(())
+}

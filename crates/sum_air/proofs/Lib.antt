@@ -1,0 +1,7 @@
+pub mod Bounds
+pub mod Cut
+pub mod Kept
+pub mod Ranges
+pub mod Same
+pub mod Whole
+pub mod Written

@@ -1,0 +1,10 @@
+pub mod Airs
+pub mod Laws
+pub mod Lines
+pub mod OpenRuns
+pub mod Places
+pub mod Results
+pub mod States
+pub mod SumStates
+pub mod Summary
+pub mod Totals
