@@ -1,0 +1,5 @@
+pub mod Digits
+pub mod Walks
+pub mod Parses
+pub mod Plain
+pub mod Readings

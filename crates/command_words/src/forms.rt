@@ -1,0 +1,71 @@
+// The commands by their words: of a list of words, and of what a parse found.
+ghost use Rattle.std.specs.Prelude.{◌≡◌, IfSome, map, option_map};
+ghost use Rattle.command_words.specs.Words.{IsProper, bare_command, command_of, command_with_two};
+ghost use Rattle.command_words.specs.Parsed.{spelled};
+
+use crate::commands::Command;
+use crate::numbers::number_in;
+
+/// The command that one word is.
+fn bare_command(word: &str) -> Option<Command>
+    ensures command { result ≡ bare_command word.now }
+    ensures proper { IfSome result IsProper }
+{
+    if word == "replay" {
+        return Some(Command::Replay);
+    }
+    if word == "windows" {
+        return Some(Command::Windows);
+    }
+    if word == "fit" {
+        return Some(Command::Fit);
+    }
+    None
+}
+
+/// The command that three words are.
+fn command_with_two(word: &str, first: &str, second: &str) -> Option<Command>
+    ensures command { result ≡ command_with_two word.now first.now second.now }
+    ensures proper { IfSome result IsProper }
+{
+    if word == "generate" {
+        let seed = number_in(first.as_bytes(), 10, 0, 4_294_967_295)?;
+        let slots = number_in(second.as_bytes(), 3, 1, 400)?;
+        return Some(Command::Generate {
+            seed: seed as u32,
+            slots: slots as u32,
+        });
+    }
+    None
+}
+
+/// The command that the words are.
+pub(crate) fn command_in(words: &[&str]) -> Option<Command>
+    ensures { result ≡ command_of (map (λ w. w.now) words.now) }
+{
+    match words {
+        [word] => bare_command(word),
+        [word, first, second] => command_with_two(word, first, second),
+        _ => None,
+    }
+}
+
+/// The command that a parse spells: whether it found the flag `--json`, and up to four words.
+pub(crate) fn spelled(
+    json: bool,
+    word: Option<&str>,
+    first: Option<&str>,
+    second: Option<&str>,
+    third: Option<&str>,
+) -> Option<Command>
+    ensures command { result ≡ spelled json (option_map (λ w. w.now) word.entry) (option_map (λ w. w.now) first.entry) (option_map (λ w. w.now) second.entry) (option_map (λ w. w.now) third.entry) }
+    ensures proper { IfSome result IsProper }
+{
+    match (json, word, first, second, third) {
+        (false, Some(word), None, None, None) => bare_command(word),
+        (false, Some(word), Some(first), Some(second), None) => {
+            command_with_two(word, first, second)
+        }
+        _ => None,
+    }
+}
