@@ -1,22 +1,13 @@
-//! Replays documents of an open fronthaul (split 7-2x): reads one from standard input and writes what its radio unit does.
+//! The program: it hands its words and the standard streams to the top call, and ends with the status that comes of it.
 #![tactic(auto)]
 
-mod command;
-mod messages;
-mod status;
-#[cfg(test)]
-mod tests;
-mod top_call;
-
 use fh_base::{Bytes, List, NoMemory, StdSink, StdSource};
-use messages::write_message;
-use status::Status;
 use std::alloc::Global;
 use std::env;
 use std::io::ErrorKind;
 use std::process::ExitCode;
 use std::rt::Env;
-use top_call::run;
+use top_call::{Status, run, write_message};
 
 fn main(rt: HostRuntime) -> ExitCode {
     let alloc = rt.alloc();

@@ -1,4 +1,0 @@
-pub mod Words
-pub mod Texts
-pub mod Statuses
-pub mod Run

@@ -1,0 +1,174 @@
+// Worked documents and their reports.
+use crate::runs::run_words;
+use std::test::Fail;
+use top_call::Status;
+
+// The commands that read a document.
+const COMMANDS: [&[u8]; 3] = [b"replay", b"windows", b"fit"];
+
+#[test]
+fn frames_and_messages_are_reported(rt: HostRuntime) -> Result<(), Fail> {
+    let alloc = rt.alloc();
+    let rows: [[&[u8]; 2]; 8] = [
+        // a document of line 1 alone
+        [b"fronthaul 1\n", b"end\n"],
+        // a command and its data
+        [
+            b"fronthaul 1\nendpoint 0000 ordinary 30 106 static none\ninject dl 9600000 1002001400000080900100000101000000100001fff10000\ninject dl 9700000 1000003c000000809001000000100001000000000001ffff0002fffe0003fffd0004fffc0005fffb0006fffa0007fff90008fff80009fff7000afff6000bfff5\n",
+            b"dl 15360000000 0000 1 0 0 0 0 1 fff 0,0 1,-1 2,-2 3,-3 4,-4 5,-5 6,-6 7,-7 8,-8 9,-9 10,-10 11,-11\ncount ru frames 2\ncount ru messages 2\ncount ru c_accepted 1\ncount ru f_whole 1\ncount ru u_taken 1\ncount ru cells 1\nend\n",
+        ],
+        // data before their command, both in time
+        [
+            b"fronthaul 1\nendpoint 0000 ordinary 30 106 static none\ninject dl 9655000 1000003c000000809001000000100001000000000001ffff0002fffe0003fffd0004fffc0005fffb0006fffa0007fff90008fff80009fff7000afff6000bfff5\ninject dl 9741000 1002001400000080900100000101000000100001fff10000\n",
+            b"dl 15360000000 0000 1 0 0 0 0 1 fff 0,0 1,-1 2,-2 3,-3 4,-4 5,-5 6,-6 7,-7 8,-8 9,-9 10,-10 11,-11\ncount ru frames 2\ncount ru messages 2\ncount ru c_accepted 1\ncount ru f_whole 1\ncount ru u_taken 1\ncount ru cells 1\nend\n",
+        ],
+        // both in one frame
+        [
+            b"fronthaul 1\nendpoint 0000 ordinary 30 106 static none\ninject dl 9700000 1102001400000080900100000101000000100001fff100001000003c000000809001000000100001000000000001ffff0002fffe0003fffd0004fffc0005fffb0006fffa0007fff90008fff80009fff7000afff6000bfff5\n",
+            b"dl 15360000000 0000 1 0 0 0 0 1 fff 0,0 1,-1 2,-2 3,-3 4,-4 5,-5 6,-6 7,-7 8,-8 9,-9 10,-10 11,-11\ncount ru frames 1\ncount ru messages 2\ncount ru c_accepted 1\ncount ru f_whole 1\ncount ru u_taken 1\ncount ru cells 1\nend\n",
+        ],
+        // the command again
+        [
+            b"fronthaul 1\nendpoint 0000 ordinary 30 106 static none\ninject dl 9600000 1002001400000080900100000101000000100001fff10000\ninject dl 9610000 1002001400000080900100000101000000100001fff10000\ninject dl 9700000 1000003c000000809001000000100001000000000001ffff0002fffe0003fffd0004fffc0005fffb0006fffa0007fff90008fff80009fff7000afff6000bfff5\n",
+            b"dl 15360000000 0000 1 0 0 0 0 1 fff 0,0 1,-1 2,-2 3,-3 4,-4 5,-5 6,-6 7,-7 8,-8 9,-9 10,-10 11,-11\ncount ru frames 3\ncount ru messages 3\ncount ru c_repeat 1\ncount ru c_accepted 1\ncount ru f_whole 1\ncount ru u_taken 1\ncount ru cells 1\nend\n",
+        ],
+        // an eCPRI header whose length is wrong
+        [
+            b"fronthaul 1\nendpoint 0000 ordinary 30 106 static none\ninject dl 9600000 1000002000000000000000000000\n",
+            b"count ru frames 1\ncount ru frames_refused 1\nend\n",
+        ],
+        // another revision of eCPRI
+        [
+            b"fronthaul 1\nendpoint 0000 ordinary 30 106 static none\ninject dl 9600000 2000002000000000000000000000\n",
+            b"count ru frames 1\ncount ru frames_refused 1\nend\n",
+        ],
+        // data of frame -128, and of another sequence number
+        [
+            b"fronthaul 1\nendpoint 0000 ordinary 30 106 static none\ninject dl 0 1000003c000000809080000000100001000000000001ffff0002fffe0003fffd0004fffc0005fffb0006fffa0007fff90008fff80009fff7000afff6000bfff5\ninject dl 1 1000003c000001809080000000100001000000000001ffff0002fffe0003fffd0004fffc0005fffb0006fffa0007fff90008fff80009fff7000afff6000bfff5\n",
+            b"count ru frames 2\ncount ru messages 2\ncount ru f_whole 2\ncount ru u_late 1\ncount ru u_early 1\nend\n",
+        ],
+    ];
+    for [document, report] in rows {
+        let ran = run_words(alloc, &[b"replay"], document)?;
+        assert_eq!(rt; ran.text(), report);
+        assert_eq!(rt; ran.line(), b"".as_slice());
+        assert_eq!(rt; ran.status(), Status::Done);
+    }
+    Ok(())
+}
+
+#[test]
+fn commands_are_reported(rt: HostRuntime) -> Result<(), Fail> {
+    let alloc = rt.alloc();
+    let rows: [[&[u8]; 2]; 4] = [
+        // two sections of a command that name different elements
+        [
+            b"fronthaul 1\nendpoint 0000 ordinary 30 106 static none\ninject dl 9600000 1002001c00000080900100000201000000100001ff0100000010000100f10000\ninject dl 9700000 1000003c000000809001000000100001000000000001ffff0002fffe0003fffd0004fffc0005fffb0006fffa0007fff90008fff80009fff7000afff6000bfff5\n",
+            b"dl 15360000000 0000 1 0 0 0 0 1 fff 0,0 1,-1 2,-2 3,-3 4,-4 5,-5 6,-6 7,-7 8,-8 9,-9 10,-10 11,-11\ncount ru frames 2\ncount ru messages 2\ncount ru c_accepted 2\ncount ru f_whole 1\ncount ru u_taken 1\ncount ru cells 1\nend\n",
+        ],
+        // an element of two section ids
+        [
+            b"fronthaul 1\nendpoint 0000 ordinary 30 106 static none\ninject dl 9600000 1002001c00000080900100000201000000100001ff0100000010000101f10000\ninject dl 9700000 1000003c000000809001000000100001000000000001ffff0002fffe0003fffd0004fffc0005fffb0006fffa0007fff90008fff80009fff7000afff6000bfff5\n",
+            b"dl 15360000000 0000 1 0 0 0 0 1 ff0 0,0 1,-1 2,-2 3,-3 4,-4 5,-5 6,-6 7,-7 . . . .\ncount ru frames 2\ncount ru messages 2\ncount ru c_overlap 1\ncount ru c_accepted 1\ncount ru f_whole 1\ncount ru u_taken 1\ncount ru cells 1\nend\n",
+        ],
+        // two symbols of a section, one without data
+        [
+            b"fronthaul 1\nendpoint 0000 ordinary 30 106 static none\ninject dl 9600000 1002001c00000080900100000201000000100001fff1000000140001fff10000\ninject dl 9700000 1000003c000000809001000000100001000000000001ffff0002fffe0003fffd0004fffc0005fffb0006fffa0007fff90008fff80009fff7000afff6000bfff5\n",
+            b"dl 15360000000 0000 1 0 0 0 0 1 fff 0,0 1,-1 2,-2 3,-3 4,-4 5,-5 6,-6 7,-7 8,-8 9,-9 10,-10 11,-11\ndl 15415600000 0000 1 0 0 1 0 1 fff missing\ncount ru frames 2\ncount ru messages 2\ncount ru c_accepted 2\ncount ru f_whole 1\ncount ru u_taken 1\ncount ru cells 1\ncount ru missing 1\nend\n",
+        ],
+        // no PRB, and then a repeat
+        [
+            b"fronthaul 1\nendpoint 0000 ordinary 30 106 static none\ninject dl 9600000 100200180000008090010000010000000100000000100001fff10000\ninject dl 9610000 1002001400000080900100000101000000100001fff10000\ninject dl 9700000 1000003c000000809001000000100001000000000001ffff0002fffe0003fffd0004fffc0005fffb0006fffa0007fff90008fff80009fff7000afff6000bfff5\n",
+            b"count ru frames 3\ncount ru messages 3\ncount ru c_repeat 1\ncount ru c_accepted 1\ncount ru f_whole 1\ncount ru u_taken 1\nend\n",
+        ],
+    ];
+    for [document, report] in rows {
+        let ran = run_words(alloc, &[b"replay"], document)?;
+        assert_eq!(rt; ran.text(), report);
+        assert_eq!(rt; ran.line(), b"".as_slice());
+        assert_eq!(rt; ran.status(), Status::Done);
+    }
+    Ok(())
+}
+
+#[test]
+fn data_are_reported(rt: HostRuntime) -> Result<(), Fail> {
+    let alloc = rt.alloc();
+    let rows: [[&[u8]; 2]; 8] = [
+        // block floating point
+        [
+            b"fronthaul 1\nendpoint 0000 ordinary 30 106 static bfp9\ninject dl 9600000 1002001400000080900100000101000000100001fff10000\ninject dl 9700000 10000028000000809001000000100001027d4000000000000000000000000000000000000000000000000000\n",
+            b"dl 15360000000 0000 1 0 0 0 0 1 fff 1000,-1024 0,0 0,0 0,0 0,0 0,0 0,0 0,0 0,0 0,0 0,0 0,0\ncount ru frames 2\ncount ru messages 2\ncount ru c_accepted 1\ncount ru f_whole 1\ncount ru u_taken 1\ncount ru cells 1\nend\n",
+        ],
+        // a section that names its method
+        [
+            b"fronthaul 1\nendpoint 0000 ordinary 30 106 dynamic none\ninject dl 9600000 1002001400000080900100000101000000100001fff10000\ninject dl 9700000 1000002a0000008090010000001000019100027d4000000000000000000000000000000000000000000000000000\n",
+            b"dl 15360000000 0000 1 0 0 0 0 1 fff 1000,-1024 0,0 0,0 0,0 0,0 0,0 0,0 0,0 0,0 0,0 0,0 0,0\ncount ru frames 2\ncount ru messages 2\ncount ru c_accepted 1\ncount ru f_whole 1\ncount ru u_taken 1\ncount ru cells 1\nend\n",
+        ],
+        // and one that names another width
+        [
+            b"fronthaul 1\nendpoint 0000 ordinary 30 106 dynamic none\ninject dl 9600000 1002001400000080900100000101000000100001fff10000\ninject dl 9700000 1000002a0000008090010000001000019200027d4000000000000000000000000000000000000000000000000000\n",
+            b"dl 15360000000 0000 1 0 0 0 0 1 fff missing\ncount ru frames 2\ncount ru messages 2\ncount ru c_accepted 1\ncount ru f_whole 1\ncount ru u_refused 1\ncount ru missing 1\nend\n",
+        ],
+        // data at both ends of the window
+        [
+            b"fronthaul 1\nt2a 100000 400000 125000 470000\nendpoint 0000 ordinary 30 106 static none\ninject dl 9636197 1000003c000000809001000100100001000000000001ffff0002fffe0003fffd0004fffc0005fffb0006fffa0007fff90008fff80009fff7000afff6000bfff5\ninject dl 9636198 1000003c000001809001000100100001000000000001ffff0002fffe0003fffd0004fffc0005fffb0006fffa0007fff90008fff80009fff7000afff6000bfff5\ninject dl 9936197 1000003c000002809001000100100001000000000001ffff0002fffe0003fffd0004fffc0005fffb0006fffa0007fff90008fff80009fff7000afff6000bfff5\ninject dl 9936198 1000003c000003809001000100100001000000000001ffff0002fffe0003fffd0004fffc0005fffb0006fffa0007fff90008fff80009fff7000afff6000bfff5\n",
+            b"count ru frames 4\ncount ru messages 4\ncount ru f_whole 4\ncount ru u_late 1\ncount ru u_early 1\ncount ru u_repeat 1\ncount ru u_taken 1\nend\n",
+        ],
+        // two fragments, of which one comes late
+        [
+            b"fronthaul 1\nendpoint 0000 ordinary 30 106 static none\ninject dl 9600000 1002001400000080900100000101000000100001fff10000\ninject dl 9700000 1000001000000000900100000010000100000000\ninject dl 9866001 10000030000000810001ffff0002fffe0003fffd0004fffc0005fffb0006fffa0007fff90008fff80009fff7000afff6000bfff5\n",
+            b"dl 15360000000 0000 1 0 0 0 0 1 fff missing\ncount ru frames 3\ncount ru messages 3\ncount ru c_accepted 1\ncount ru f_stored 1\ncount ru f_whole 1\ncount ru u_late 1\ncount ru missing 1\nend\n",
+        ],
+        // data again, after the hold
+        [
+            b"fronthaul 1\nhold 100000 221000\nendpoint 0000 ordinary 30 106 static none\ninject dl 9600000 1002001400000080900100000101000000100001fff10000\ninject dl 9660000 1000003c000000809001000000100001000000000001ffff0002fffe0003fffd0004fffc0005fffb0006fffa0007fff90008fff80009fff7000afff6000bfff5\ninject dl 9866000 1000003c000000809001000000100001000000000001ffff0002fffe0003fffd0004fffc0005fffb0006fffa0007fff90008fff80009fff7000afff6000bfff5\n",
+            b"dl 15360000000 0000 1 0 0 0 0 1 fff 0,0 1,-1 2,-2 3,-3 4,-4 5,-5 6,-6 7,-7 8,-8 9,-9 10,-10 11,-11\ncount ru frames 3\ncount ru messages 3\ncount ru c_accepted 1\ncount ru f_whole 2\ncount ru u_repeat 1\ncount ru u_taken 1\ncount ru cells 1\nend\n",
+        ],
+        // an offset endpoint
+        [
+            b"fronthaul 1\nendpoint 0001 offset 1.25 6 static none 0 3168\ninject dl 13600000 1002001c0001008090014000010300000c0c600000100001fff1000000000000\n",
+            b"dl 21504000000 0001 1 4 0 0 0 1 fff missing\ncount ru frames 1\ncount ru messages 1\ncount ru c_accepted 1\ncount ru missing 1\nend\n",
+        ],
+        // and another frame structure
+        [
+            b"fronthaul 1\nendpoint 0001 offset 1.25 6 static none 0 3168\ninject dl 13600000 1002001c0001008090014000010300000c0c610000100001fff1000000000000\n",
+            b"count ru frames 1\ncount ru messages 1\ncount ru c_mismatch 1\nend\n",
+        ],
+    ];
+    for [document, report] in rows {
+        let ran = run_words(alloc, &[b"replay"], document)?;
+        assert_eq!(rt; ran.text(), report);
+        assert_eq!(rt; ran.line(), b"".as_slice());
+        assert_eq!(rt; ran.status(), Status::Done);
+    }
+    Ok(())
+}
+
+#[test]
+fn refused_documents_are_answered_with_their_line(rt: HostRuntime) -> Result<(), Fail> {
+    let alloc = rt.alloc();
+    let rows: [[&[u8]; 2]; 3] = [
+        // an empty input
+        [b"", b"fronthaul: line 1: FirstLine\n"],
+        // widths that do not sum to 16
+        [
+            b"fronthaul 1\nwidths 4 4 4 5\n",
+            b"fronthaul: line 2: WidthSum\n",
+        ],
+        // a minimum above its maximum
+        [
+            b"fronthaul 1\nt2a 345001 345000 125000 470000\n",
+            b"fronthaul: line 2: MinMax\n",
+        ],
+    ];
+    for [document, line] in rows {
+        for word in COMMANDS {
+            let ran = run_words(alloc, &[word], document)?;
+            assert_eq!(rt; ran.text(), b"".as_slice());
+            assert_eq!(rt; ran.line(), line);
+            assert_eq!(rt; ran.status().code(), 3);
+        }
+    }
+    Ok(())
+}

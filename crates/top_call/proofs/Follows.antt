@@ -1,0 +1,106 @@
+-- What follows from the outcome of a run, status by status.
+use Rattle.std.proofs.Common.{◌≡◌, ◌⊎◌, ◌∙◌, inr, ℕ, ◌≤◌, List, [], length, true, Option, Some, None, Result, Ok, Err, IsSome, refl, sym, ap, subst}
+use Rattle.std.specs.Io.KnownBytes.{append_known, IsAtEnd}
+use Rattle.command_words.specs.Words.{command_of}
+use Rattle.command_words.specs.declared.commands.Command.{Command}
+use Rattle.command_words.specs.declared.commands.Command.TheVariants.{Replay, Windows, Fit, Generate}
+use Rattle.fh_base.specs.Causes.{Rose}
+use Rattle.fh_base.proofs.Known.{append_nothing}
+use Rattle.fh_document.specs.declared.document.Document.{Document}
+use Rattle.fh_document.specs.declared.refusals.DocWhy.{DocWhy}
+use Rattle.fh_document.specs.Document.{document_of}
+use Rattle.window_config.specs.declared.delays.Delays.{Delays}
+use Rattle.window_config.specs.declared.relations.Failing.{Failing}
+use Rattle.window_config.specs.Relations.{checked}
+use Rattle.window_plan.specs.declared.refusals.NoFit.{NoFit as Refusal}
+use Rattle.window_plan.specs.Fitting.{fitted}
+use Rattle.top_call.specs.declared.status.LineWhy.{LineWhy}
+use Rattle.top_call.specs.declared.status.Status.{Status}
+use Rattle.top_call.specs.declared.status.Status.TheVariants.{Done, BadWords, BadDocument, ReadFault, WriteFault, NoMemory, TooLong, CheckFails, NoFit}
+use Rattle.top_call.specs.Answers.{Answer, answer_of, asked, fit_shown, fit_verdict, is_reading, of_document, replayed, verdict_of, windows_shown}
+use Rattle.top_call.specs.Run.{AnswersRun, IsDecided, IsRefusal, Outcome, input_limit}
+
+-- ---- a refusal
+
+check_refuses_nothing : (checked : Result (Unit {0}) Failing) → IsRefusal (verdict_of checked) → ⊥
+check_refuses_nothing (Ok u) refusal = refusal
+check_refuses_nothing (Err failing) refusal = refusal
+
+fit_refuses_nothing : (fitted : Result Delays Refusal) → IsRefusal (fit_verdict fitted) → ⊥
+fit_refuses_nothing (Ok d) refusal = refusal
+fit_refuses_nothing (Err r) refusal = refusal
+
+document_text : (answer : Document → Answer) (read : Result Document (ℕ × DocWhy)) → ((d : Document) → IsRefusal (answer d).status → ⊥) → IsRefusal (of_document answer read).status → (of_document answer read).text ≡ []
+document_text answer (Ok d) never refusal = absurd (never d refusal)
+document_text answer (Err (line, why)) never refusal = refl
+
+-- has no text
+refusal_text : (o : Option Command) (bytes : List ℕ) → IsRefusal (asked o bytes).status → (asked o bytes).text ≡ []
+unfolding answer_of
+refusal_text None bytes refusal = refl
+refusal_text (Some Replay) bytes refusal = document_text replayed (document_of bytes) (λ d r. r) refusal
+refusal_text (Some Windows) bytes refusal = document_text (λ d. windows_shown d.config) (document_of bytes) (λ d. check_refuses_nothing (checked d.config.delays)) refusal
+refusal_text (Some Fit) bytes refusal = document_text (λ d. fit_shown d.config.delays) (document_of bytes) (λ d. fit_refuses_nothing (fitted d.config.delays)) refusal
+refusal_text (Some (Generate seed slots)) bytes refusal = absurd refusal
+
+refusal_decided : (status : Status) → IsRefusal status → IsDecided status
+refusal_decided Done refusal = tt
+refusal_decided BadWords refusal = tt
+refusal_decided (BadDocument line why) refusal = tt
+refusal_decided ReadFault refusal = refusal
+refusal_decided WriteFault refusal = refusal
+refusal_decided NoMemory refusal = refusal
+refusal_decided TooLong refusal = refusal
+refusal_decided (CheckFails failing) refusal = tt
+refusal_decided (NoFit r) refusal = tt
+
+-- a status that words and input decide is the wanted one
+pub decided_wanted : (wanted : Status) (s t before now : ℕ) (status : Status) → IsDecided status → AnswersRun wanted s t before now status → wanted ≡ status
+decided_wanted wanted s t before now Done decided answers = answers
+decided_wanted wanted s t before now BadWords decided answers = answers
+decided_wanted wanted s t before now (BadDocument line why) decided answers = answers
+decided_wanted wanted s t before now ReadFault decided answers = absurd decided
+decided_wanted wanted s t before now WriteFault decided answers = absurd decided
+decided_wanted wanted s t before now NoMemory decided answers = absurd decided
+decided_wanted wanted s t before now TooLong decided answers = absurd decided
+decided_wanted wanted s t before now (CheckFails failing) decided answers = answers
+decided_wanted wanted s t before now (NoFit r) decided answers = answers
+
+-- nothing is written at a refusal
+pub quiet : (words : List (List ℕ)) (left_old left_new : Option (List ℕ)) (s t : ℕ) (old new : Option (List ℕ)) (before now : ℕ) (status : Status)
+    → Outcome words left_old left_new s t old new before now status → IsRefusal status → new ≡ old
+quiet words left_old left_new s t old new before now status o refusal =
+    let decided = refusal_decided status refusal in
+    let wanted = decided_wanted (asked (command_of words) o.came).status s t before now status decided o.answers in
+    o.whole decided ∙ ap (append_known old) (refusal_text (command_of words) o.came (subst IsRefusal (sym wanted) refusal)) ∙ append_nothing old
+
+-- ---- a document that is refused
+
+only_readers_refuse : (o : Option Command) (bytes : List ℕ) (line : ℕ) (why : LineWhy) → (asked o bytes).status ≡ BadDocument line why → is_reading o ≡ true
+unfolding answer_of
+only_readers_refuse None bytes line why e = cc
+only_readers_refuse (Some Replay) bytes line why e = refl
+only_readers_refuse (Some Windows) bytes line why e = refl
+only_readers_refuse (Some Fit) bytes line why e = refl
+only_readers_refuse (Some (Generate seed slots)) bytes line why e = cc
+
+-- was read to its end, and is refused at this very line for this very reason
+pub bad_document : (words : List (List ℕ)) (left_old left_new : Option (List ℕ)) (s t : ℕ) (old new : Option (List ℕ)) (before now : ℕ) (line : ℕ) (why : LineWhy)
+    → (o : Outcome words left_old left_new s t old new before now (BadDocument line why)) → IsAtEnd left_new × ((asked (command_of words) o.came).status ≡ BadDocument line why)
+bad_document words left_old left_new s t old new before now line why o =
+    (o.ended tt (only_readers_refuse (command_of words) o.came line why o.answers), o.answers)
+
+-- one that can be read whole is answered so, or for want of memory, whatever the sink does
+pub refused : (words : List (List ℕ)) (bytes : List ℕ) (left_old left_new : Option (List ℕ)) (s t : ℕ) (old new : Option (List ℕ)) (before now : ℕ) (status : Status) (line : ℕ) (why : LineWhy)
+    → Outcome words left_old left_new s t old new before now status → IsSome (command_of words) → (Rose s t → ⊥) → left_old ≡ Some bytes → length bytes ≤ input_limit
+    → (asked (command_of words) bytes).status ≡ BadDocument line why → (status ≡ BadDocument line why) ⊎ (status ≡ NoMemory)
+refused words bytes left_old left_new s t old new before now status line why o some calm left short wanted =
+    subst (λ (w : Status). (status ≡ w) ⊎ (status ≡ NoMemory)) wanted (o.complete bytes some (λ _. (calm, left, short)) (inr (subst IsRefusal (sym wanted) tt)))
+
+-- ---- done
+
+-- all was read that is read, and exactly the one text was appended
+pub done : (words : List (List ℕ)) (left_old left_new : Option (List ℕ)) (s t : ℕ) (old new : Option (List ℕ)) (before now : ℕ)
+    → (o : Outcome words left_old left_new s t old new before now Done)
+    → (is_reading (command_of words) ≡ true → IsAtEnd left_new) × (new ≡ append_known old (asked (command_of words) o.came).text) × ((asked (command_of words) o.came).status ≡ Done)
+done words left_old left_new s t old new before now o = (o.ended tt, o.whole tt, o.answers)

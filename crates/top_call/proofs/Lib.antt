@@ -1,0 +1,4 @@
+pub mod Written
+pub mod Documents
+pub mod Runs
+pub mod Follows

@@ -1,0 +1,290 @@
+-- A run, from what a command did over a whole input, or from why it did nothing.
+use Rattle.std.proofs.Common.{◌≡◌, ◌⊎◌, ◌↔◌, inl, inr, ℕ, ◌+◌, ◌<◌, ◌≤◌, List, [], length, length-append, true, false, Option, None, Some, IfSome, IsSome, IsNone, refl, sym, ap, subst, ◌∙◌, ◌++◌, append-nil, is_some, arith, Result, Ok, IfOk, IsErrOf}
+use Rattle.std.specs.Io.KnownBytes.{prepend_known, append_known, IsAtEnd}
+use Rattle.std.proofs.lemmas.Result.{IfOk-weaker}
+use Rattle.command_words.specs.Words.{command_of}
+use Rattle.command_words.specs.declared.commands.Command.{Command}
+use Rattle.command_words.specs.declared.commands.Command.TheVariants.{Replay, Windows, Fit, Generate}
+use Rattle.fh_base.specs.Causes.{Rose}
+use Rattle.fh_base.specs.Told.{WritesFront}
+use Rattle.fh_base.specs.declared.fault.ReadAllFault.{ReadAllFault}
+use Rattle.fh_base.specs.declared.fault.ReadAllFault.TheVariants as source
+use Rattle.fh_base.proofs.Known.{prepend_nothing, append_nothing}
+use Rattle.fh_base.proofs.Progress.{front_none}
+use Rattle.fh_document.specs.Document.{document_of}
+use Rattle.fh_document.specs.Proper.{IsDocument}
+use Rattle.fh_document.specs.Steps.{handled}
+use Rattle.fh_document.proofs.Properness.{document_in_in}
+use Rattle.replay_loop.specs.Laws.{IsSound}
+use Rattle.replay_loop.proofs.LawLemmas.{is_sound}
+use Rattle.top_call.specs.declared.status.Status.{Status}
+use Rattle.top_call.specs.declared.status.Status.TheVariants.{Done, BadWords, BadDocument, ReadFault, WriteFault, NoMemory, TooLong, CheckFails, NoFit}
+use Rattle.top_call.specs.Answers.{Answer, answer_of, asked, is_reading, reads}
+use Rattle.top_call.specs.Endings.{source_status}
+use Rattle.top_call.specs.Run.{AnswersCommand, AnswersRun, IsDecided, IsRefusal, Outcome, Performs, input_limit}
+
+-- ---- the laws of a document's events
+
+sound_of : (bytes : List ℕ) → IfOk (document_of bytes) IsSound
+sound_of bytes = IfOk-weaker (document_of bytes) IsDocument IsSound is_sound (document_in_in handled bytes)
+
+-- ---- what a command answers, a run answers
+
+answers_run : (wanted : Status) (s t before now : ℕ) (status : Status) → AnswersCommand wanted before now status → AnswersRun wanted s t before now status
+answers_run wanted s t before now Done h = h
+answers_run wanted s t before now BadWords h = absurd h
+answers_run wanted s t before now (BadDocument line why) h = h
+answers_run wanted s t before now ReadFault h = absurd h
+answers_run wanted s t before now WriteFault h = h
+answers_run wanted s t before now NoMemory h = tt
+answers_run wanted s t before now TooLong h = absurd h
+answers_run wanted s t before now (CheckFails failing) h = h
+answers_run wanted s t before now (NoFit refusal) h = h
+
+-- a command answers none of these
+not_outside : (wanted : Status) (before now : ℕ) (status : Status) → AnswersCommand wanted before now status → (status ≡ BadWords) ⊎ ((status ≡ ReadFault) ⊎ (status ≡ TooLong)) → ⊥
+not_outside wanted before now status h (inl e) = let b : AnswersCommand wanted before now BadWords = subst (AnswersCommand wanted before now) e h in b
+not_outside wanted before now status h (inr (inl e)) = let b : AnswersCommand wanted before now ReadFault = subst (AnswersCommand wanted before now) e h in b
+not_outside wanted before now status h (inr (inr e)) = let b : AnswersCommand wanted before now TooLong = subst (AnswersCommand wanted before now) e h in b
+
+completes : (wanted : Status) (before now : ℕ) (status : Status) → AnswersCommand wanted before now status → ((Rose before now → ⊥) ⊎ IsRefusal wanted) → (status ≡ wanted) ⊎ (status ≡ NoMemory)
+completes wanted before now Done h p = inl (sym h)
+completes wanted before now BadWords h p = absurd h
+completes wanted before now (BadDocument line why) h p = inl (sym h)
+completes wanted before now ReadFault h p = absurd h
+completes wanted before now WriteFault h (inl calm) = absurd (calm h.0)
+completes wanted before now WriteFault h (inr refusal) = absurd (h.1 refusal)
+completes wanted before now NoMemory h p = inr refl
+completes wanted before now TooLong h p = absurd h
+completes wanted before now (CheckFails failing) h p = inl (sym h)
+completes wanted before now (NoFit refusal) h p = inl (sym h)
+
+-- the completeness of an answer that these bytes have, too
+completes_as : (a b : Answer) (before now : ℕ) (status : Status) → a ≡ b → AnswersCommand b.status before now status → ((Rose before now → ⊥) ⊎ IsRefusal a.status) → (status ≡ a.status) ⊎ (status ≡ NoMemory)
+completes_as a b before now status same h =
+    subst (λ (x : Answer). ((Rose before now → ⊥) ⊎ IsRefusal x.status) → (status ≡ x.status) ⊎ (status ≡ NoMemory)) (sym same) (completes b.status before now status h)
+
+pub performed : (words : List (List ℕ)) (command : Command) (came : List ℕ) (left_old left_new : Option (List ℕ)) (s t : ℕ) (old new : Option (List ℕ)) (before now : ℕ) (status : Status)
+    → command_of words ≡ Some command → Performs (answer_of command came) old new before now status
+    → left_old ≡ prepend_known came left_new → (reads command ≡ true → IsAtEnd left_new)
+    → length came ≤ input_limit → s ≤ t → IfSome left_old (λ bytes. WritesFront old new (answer_of command bytes).text)
+    → ((bytes : List ℕ) → (reads command ≡ true → left_old ≡ Some bytes) → answer_of command bytes ≡ answer_of command came)
+    → Outcome words left_old left_new s t old new before now status
+performed words command came left_old left_new s t old new before now status is p taken ended within later front same =
+    let e = sym is in
+    record {
+      came = came;
+      taken = taken;
+      front = subst (λ (o : Option Command). IfSome left_old (λ bytes. WritesFront old new (asked o bytes).text)) e front;
+      front_came = subst (λ (o : Option Command). WritesFront old new (asked o came).text) e p.front;
+      answers = subst (λ (o : Option Command). AnswersRun (asked o came).status s t before now status) e (answers_run (answer_of command came).status s t before now status p.answers);
+      ended = λ d r. ended (ap is_reading e ∙ r);
+      whole = λ d. subst (λ (o : Option Command). new ≡ append_known old (asked o came).text) e (p.whole d);
+      bad_words = (λ b. absurd (not_outside _ before now status p.answers (inl b)), λ none. let x : IsNone (Some command) = subst (λ (o : Option Command). IsNone o) is none in absurd (cc x));
+      unread = λ u. absurd (not_outside _ before now status p.answers (inr u));
+      too_long = (λ l. absurd (not_outside _ before now status p.answers (inr (inr l))), λ past. absurd (omega (arith, past, within)));
+      source_later = later;
+      out_later = p.later;
+      complete = λ bytes some given.
+          subst (λ (o : Option Command). ((Rose before now → ⊥) ⊎ IsRefusal (asked o bytes).status) → (status ≡ (asked o bytes).status) ⊎ (status ≡ NoMemory)) e
+          (completes_as (answer_of command bytes) (answer_of command came) before now status (same bytes (λ r. (given (ap is_reading is ∙ r)).1)) p.answers);
+      sound = sound_of came;
+    }
+
+-- ---- a command that reads nothing
+
+-- it has the same answer to every input
+same_answer : (command : Command) (bytes : List ℕ) → reads command ≡ false → answer_of command bytes ≡ answer_of command []
+unfolding answer_of
+same_answer Replay bytes h = cc
+same_answer Windows bytes h = cc
+same_answer Fit bytes h = cc
+same_answer (Generate seed slots) bytes h = refl
+
+front_any : (left old new : Option (List ℕ)) (command : Command) → reads command ≡ false → WritesFront old new (answer_of command []).text → IfSome left (λ bytes. WritesFront old new (answer_of command bytes).text)
+front_any None old new command h front = tt
+front_any (Some bytes) old new command h front = subst (λ a. WritesFront old new a.text) (sym (same_answer command bytes h)) front
+
+pub made : (words : List (List ℕ)) (command : Command) (left : Option (List ℕ)) (s : ℕ) (old new : Option (List ℕ)) (before now : ℕ) (status : Status)
+    → command_of words ≡ Some command → reads command ≡ false → Performs (answer_of command []) old new before now status
+    → Outcome words left left s s old new before now status
+made words command left s old new before now status is none p =
+    performed words command [] left left s s old new before now status is p (sym (prepend_nothing left)) (λ r. cc) (omega arith) (omega arith)
+    (front_any left old new command none p.front) (λ bytes _. same_answer command bytes none)
+
+-- ---- a command that read all
+
+-- what came is all that was left, where the source is at its end
+front_read : (came : List ℕ) (left_old left_new old new : Option (List ℕ)) (command : Command) → left_old ≡ prepend_known came left_new → IsAtEnd left_new
+    → WritesFront old new (answer_of command came).text → IfSome left_old (λ bytes. WritesFront old new (answer_of command bytes).text)
+front_read came left_old left_new old new command taken ended front =
+    subst (λ (o : Option (List ℕ)). IfSome o (λ bytes. WritesFront old new (answer_of command bytes).text)) (sym taken) (go left_new ended)
+  where
+    go : (left : Option (List ℕ)) → IsAtEnd left → IfSome (prepend_known came left) (λ bytes. WritesFront old new (answer_of command bytes).text)
+    go None h = tt
+    go (Some rest) h = subst (λ (bytes : List ℕ). WritesFront old new (answer_of command bytes).text) (sym (ap (λ r. came ++ r) h ∙ append-nil came)) front
+
+came_all : (came bytes : List ℕ) (left_old left_new : Option (List ℕ)) → left_old ≡ prepend_known came left_new → IsAtEnd left_new → left_old ≡ Some bytes → bytes ≡ came
+came_all came bytes left_old None taken ended is = cc
+came_all came bytes left_old (Some rest) taken ended is =
+    let both : Some bytes ≡ Some (came ++ rest) = sym is ∙ taken in
+    let same : bytes ≡ came ++ rest = cc both in
+    same ∙ ap (λ r. came ++ r) ended ∙ append-nil came
+
+pub read : (words : List (List ℕ)) (command : Command) (bytes came : List ℕ) (left_old left_new : Option (List ℕ)) (s t : ℕ) (old new : Option (List ℕ)) (before now : ℕ) (status : Status)
+    → command_of words ≡ Some command → reads command ≡ true → bytes ≡ came → Performs (answer_of command bytes) old new before now status
+    → left_old ≡ prepend_known came left_new → IsAtEnd left_new → length came ≤ input_limit → s ≤ t
+    → Outcome words left_old left_new s t old new before now status
+read words command bytes came left_old left_new s t old new before now status is does same p taken ended within later =
+    let q : Performs (answer_of command came) old new before now status = subst (λ (b : List ℕ). Performs (answer_of command b) old new before now status) same p in
+    performed words command came left_old left_new s t old new before now status is q taken (λ _. ended) within later
+    (front_read came left_old left_new old new command taken ended q.front)
+    (λ all given. ap (answer_of command) (came_all came all left_old left_new taken ended (given does)))
+
+pub not_long : {T E : Type 0} (limit : ℕ) (came : List ℕ) (x : T) (e : E) → (IsErrOf (let r : Result T E = Ok x in r) e ↔ limit < length came) → length came ≤ limit
+not_long limit came x e h = grind (arith, h)
+
+-- ---- a run that does nothing
+
+nothing_written : (words : List (List ℕ)) (left written : Option (List ℕ)) → IfSome left (λ bytes. WritesFront written written (asked (command_of words) bytes).text)
+nothing_written words None written = tt
+nothing_written words (Some bytes) written = front_none written (asked (command_of words) bytes).text
+
+pub no_command : (words : List (List ℕ)) (left : Option (List ℕ)) (s : ℕ) (written : Option (List ℕ)) (o : ℕ) → command_of words ≡ None
+    → Outcome words left left s s written written o o BadWords
+no_command words left s written o none =
+    let e = sym none in
+    record {
+      came = [];
+      taken = sym (prepend_nothing left);
+      front = nothing_written words left written;
+      front_came = front_none written (asked (command_of words) []).text;
+      answers = subst (λ (x : Option Command). AnswersRun (asked x []).status s s o o BadWords) e refl;
+      ended = λ d r. let b : is_reading None ≡ true = ap is_reading e ∙ r in absurd (cc b);
+      whole = λ d. subst (λ (x : Option Command). written ≡ append_known written (asked x []).text) e (sym (append_nothing written));
+      bad_words = (λ _. ap is_some none, λ _. refl);
+      unread = λ _. refl;
+      too_long = (λ is. absurd (cc is), λ past. absurd (omega (arith, past)));
+      source_later = omega arith;
+      out_later = omega arith;
+      complete = λ bytes some. absurd (cc (ap is_some none, some));
+      sound = sound_of [];
+    }
+
+-- the statuses of a run that stops before its command does anything
+abbrev pub IsStop : Status → Type 0
+IsStop ReadFault = Unit {0}
+IsStop NoMemory = Unit {0}
+IsStop TooLong = Unit {0}
+IsStop status = ⊥
+
+not_decided : (status : Status) → IsStop status → IsDecided status → ⊥
+not_decided Done stop decided = stop
+not_decided BadWords stop decided = stop
+not_decided (BadDocument line why) stop decided = stop
+not_decided ReadFault stop decided = decided
+not_decided WriteFault stop decided = stop
+not_decided NoMemory stop decided = decided
+not_decided TooLong stop decided = decided
+not_decided (CheckFails failing) stop decided = stop
+not_decided (NoFit refusal) stop decided = stop
+
+stop_answers : (wanted : Status) (s t o : ℕ) (status : Status) → IsStop status → (status ≡ ReadFault → Rose s t) → AnswersRun wanted s t o o status
+stop_answers wanted s t o Done stop rose = absurd stop
+stop_answers wanted s t o BadWords stop rose = absurd stop
+stop_answers wanted s t o (BadDocument line why) stop rose = absurd stop
+stop_answers wanted s t o ReadFault stop rose = rose refl
+stop_answers wanted s t o WriteFault stop rose = absurd stop
+stop_answers wanted s t o NoMemory stop rose = tt
+stop_answers wanted s t o TooLong stop rose = tt
+stop_answers wanted s t o (CheckFails failing) stop rose = absurd stop
+stop_answers wanted s t o (NoFit refusal) stop rose = absurd stop
+
+-- a part is no longer than all that was left
+part_short : (came bytes : List ℕ) (left_old left_new : Option (List ℕ)) → left_old ≡ prepend_known came left_new → left_old ≡ Some bytes → length came ≤ length bytes
+part_short came bytes left_old None taken is = cc
+part_short came bytes left_old (Some rest) taken is =
+    let both : Some bytes ≡ Some (came ++ rest) = sym is ∙ taken in
+    let same : bytes ≡ came ++ rest = cc both in
+    let long : length bytes ≡ length came + length rest = ap length same ∙ length-append came rest in
+    omega arith
+
+-- where the source did not fail and what was left is short enough, only memory stops a run
+stop_wants : (wanted : Status) (came bytes : List ℕ) (left_old left_new : Option (List ℕ)) (s t : ℕ) (status : Status) → IsStop status → (status ≡ ReadFault → Rose s t)
+    → ((status ≡ TooLong) ↔ input_limit < length came) → left_old ≡ prepend_known came left_new
+    → (Rose s t → ⊥) × (left_old ≡ Some bytes) × (length bytes ≤ input_limit) → (status ≡ wanted) ⊎ (status ≡ NoMemory)
+stop_wants wanted came bytes left_old left_new s t Done stop rose long taken given = absurd stop
+stop_wants wanted came bytes left_old left_new s t BadWords stop rose long taken given = absurd stop
+stop_wants wanted came bytes left_old left_new s t (BadDocument line why) stop rose long taken given = absurd stop
+stop_wants wanted came bytes left_old left_new s t ReadFault stop rose long taken given = absurd (given.0 (rose refl))
+stop_wants wanted came bytes left_old left_new s t WriteFault stop rose long taken given = absurd stop
+stop_wants wanted came bytes left_old left_new s t NoMemory stop rose long taken given = inr refl
+stop_wants wanted came bytes left_old left_new s t TooLong stop rose long taken given =
+    let past : input_limit < length came = long.0 refl in
+    let part = part_short came bytes left_old left_new taken given.1 in
+    let short : length bytes ≤ input_limit = given.2 in
+    absurd (omega arith)
+stop_wants wanted came bytes left_old left_new s t (CheckFails failing) stop rose long taken given = absurd stop
+stop_wants wanted came bytes left_old left_new s t (NoFit refusal) stop rose long taken given = absurd stop
+
+stopped : (words : List (List ℕ)) (command : Command) (came : List ℕ) (left_old left_new : Option (List ℕ)) (s t : ℕ) (written : Option (List ℕ)) (o : ℕ) (status : Status)
+    → command_of words ≡ Some command → reads command ≡ true → IsStop status → (status ≡ ReadFault → Rose s t) → ((status ≡ TooLong) ↔ input_limit < length came)
+    → left_old ≡ prepend_known came left_new → s ≤ t
+    → Outcome words left_old left_new s t written written o o status
+stopped words command came left_old left_new s t written o status is does stop rose long taken later =
+    record {
+      came = came;
+      taken = taken;
+      front = nothing_written words left_old written;
+      front_came = front_none written (asked (command_of words) came).text;
+      answers = stop_answers (asked (command_of words) came).status s t o status stop rose;
+      ended = λ d. absurd (not_decided status stop d);
+      whole = λ d. absurd (not_decided status stop d);
+      bad_words = (λ b. absurd (subst IsStop b stop), λ none. let x : IsNone (Some command) = subst (λ (c : Option Command). IsNone c) is none in absurd (cc x));
+      unread = λ _. refl;
+      too_long = long;
+      source_later = later;
+      out_later = omega arith;
+      complete = λ bytes some given ok. stop_wants (asked (command_of words) bytes).status came bytes left_old left_new s t status stop rose long taken (given (ap is_reading is ∙ does));
+      sound = sound_of came;
+    }
+
+-- the source was not read to its end
+unread : (words : List (List ℕ)) (command : Command) (came : List ℕ) (left_old left_new : Option (List ℕ)) (s t : ℕ) (written : Option (List ℕ)) (o : ℕ) (fault : ReadAllFault)
+    → command_of words ≡ Some command → reads command ≡ true → (fault ≡ source.ReadFault → Rose s t) → ((fault ≡ source.TooLong) ↔ input_limit < length came)
+    → left_old ≡ prepend_known came left_new → s ≤ t
+    → Outcome words left_old left_new s t written written o o (source_status fault)
+unread words command came left_old left_new s t written o source.ReadFault is does rose long taken later =
+    stopped words command came left_old left_new s t written o ReadFault is does tt (λ _. rose refl) ((λ e. cc), (λ past. absurd (cc (long.1 past)))) taken later
+unread words command came left_old left_new s t written o source.TooLong is does rose long taken later =
+    stopped words command came left_old left_new s t written o TooLong is does tt (λ e. absurd (cc e)) ((λ e. long.0 refl), (λ past. refl)) taken later
+unread words command came left_old left_new s t written o source.NoMemory is does rose long taken later =
+    stopped words command came left_old left_new s t written o NoMemory is does tt (λ e. absurd (cc e)) ((λ e. absurd (cc e)), (λ past. absurd (cc (long.1 past)))) taken later
+
+pub unread_as : (words : List (List ℕ)) (command : Command) (came : List ℕ) (left_old left_new : Option (List ℕ)) (s t : ℕ) (written : Option (List ℕ)) (o : ℕ) (fault : ReadAllFault) (status : Status)
+    → status ≡ source_status fault → command_of words ≡ Some command → reads command ≡ true → (fault ≡ source.ReadFault → Rose s t)
+    → ((fault ≡ source.TooLong) ↔ input_limit < length came) → left_old ≡ prepend_known came left_new → s ≤ t
+    → Outcome words left_old left_new s t written written o o status
+unread_as words command came left_old left_new s t written o fault status status_is is does rose long taken later =
+    subst (Outcome words left_old left_new s t written written o o) (sym status_is) (unread words command came left_old left_new s t written o fault is does rose long taken later)
+
+-- memory ran out while the words were read
+pub wordless : (words : List (List ℕ)) (left : Option (List ℕ)) (s : ℕ) (written : Option (List ℕ)) (o : ℕ) → IsSome (command_of words)
+    → Outcome words left left s s written written o o NoMemory
+wordless words left s written o some =
+    record {
+      came = [];
+      taken = sym (prepend_nothing left);
+      front = nothing_written words left written;
+      front_came = front_none written (asked (command_of words) []).text;
+      answers = tt;
+      ended = λ d. absurd d;
+      whole = λ d. absurd d;
+      bad_words = (λ b. absurd (cc b), λ none. absurd (cc (none, some)));
+      unread = λ _. refl;
+      too_long = (λ is. absurd (cc is), λ past. absurd (omega (arith, past)));
+      source_later = omega arith;
+      out_later = omega arith;
+      complete = λ bytes some given ok. inr refl;
+      sound = sound_of [];
+    }

@@ -1,0 +1,96 @@
+-- What the words and the input name: the one text, and the status of a run that nothing keeps from its end.
+use Rattle.std.specs.Prelude.{ℕ, List, [], Bool, true, false, Option, None, Some, Result, Ok, Err}
+use Rattle.command_words.specs.declared.commands.Command.{Command}
+use Rattle.command_words.specs.declared.commands.Command.TheVariants.{Replay, Windows, Fit, Generate}
+use Rattle.fh_document.specs.declared.document.Document.{Document}
+use Rattle.fh_document.specs.declared.refusals.DocWhy.{DocWhy}
+use Rattle.fh_document.specs.Document.{document_of}
+use Rattle.fh_document.specs.Generated.{generated}
+use Rattle.fronthaul_replay.specs.Reports.{injected_report}
+use Rattle.window_config.specs.declared.config.Config.{Config}
+use Rattle.window_config.specs.declared.delays.Delays.{Delays}
+use Rattle.window_config.specs.declared.relations.Failing.{Failing}
+use Rattle.window_config.specs.Relations.{checked}
+use Rattle.window_lines.specs.Fit.{fit_text}
+use Rattle.window_lines.specs.Windows.{windows_text}
+use Rattle.window_plan.specs.declared.refusals.NoFit.{NoFit as Refusal}
+use Rattle.window_plan.specs.Fitting.{fitted}
+use Rattle.top_call.specs.declared.status.LineWhy.TheVariants.{Doc}
+use Rattle.top_call.specs.declared.status.Status.{Status}
+use Rattle.top_call.specs.declared.status.Status.TheVariants.{Done, BadWords, BadDocument, CheckFails, NoFit}
+
+-- a whole text, and the status behind it
+pub record Answer : Type 0 where
+  pub text : List ℕ
+  pub status : Status
+
+-- a refusal has no text
+abbrev pub refused : Status → Answer
+refused status = record { text = []; status = status }
+
+-- ---- the commands that read a document
+
+-- what is answered of the document that was read, or the line and the reason at which the grammar refuses it
+abbrev pub of_document : (Document → Answer) → Result Document (ℕ × DocWhy) → Answer
+of_document answer (Ok d) = answer d
+of_document answer (Err (line, why)) = refused (BadDocument line (Doc why))
+
+-- `replay`: the report of the document's events
+abbrev pub replayed : Document → Answer
+replayed d = record { text = injected_report d; status = Done }
+
+-- the verdict of the check: the first relation that fails
+abbrev pub verdict_of : Result (Unit {0}) Failing → Status
+verdict_of (Ok _) = Done
+verdict_of (Err failing) = CheckFails failing
+
+abbrev pub checked_status : Delays → Status
+checked_status delays = verdict_of (checked delays)
+
+-- `windows`: the windows, the rings and the check
+abbrev pub windows_shown : Config → Answer
+windows_shown config = record { text = windows_text config; status = checked_status config.delays }
+
+-- the verdict of a fit: the first window that does not fit
+abbrev pub fit_verdict : Result Delays Refusal → Status
+fit_verdict (Ok _) = Done
+fit_verdict (Err refusal) = NoFit refusal
+
+abbrev pub fitted_status : Delays → Status
+fitted_status delays = fit_verdict (fitted delays)
+
+-- `fit`: the breaches, and the fitted windows where there are any
+abbrev pub fit_shown : Delays → Answer
+fit_shown delays = record { text = fit_text delays; status = fitted_status delays }
+
+-- ---- the commands that read nothing
+
+-- `generate`: a document of its own
+abbrev pub generated_document : ℕ → ℕ → Answer
+generated_document seed slots = record { text = generated seed slots; status = Done }
+
+-- ---- all commands
+
+-- whether a command reads its input
+abbrev pub reads : Command → Bool
+reads Replay = true
+reads Windows = true
+reads Fit = true
+reads (Generate seed slots) = false
+
+-- what a command answers of a whole input
+unfoldable pub answer_of : Command → List ℕ → Answer
+answer_of Replay bytes = of_document replayed (document_of bytes)
+answer_of Windows bytes = of_document (λ d. windows_shown d.config) (document_of bytes)
+answer_of Fit bytes = of_document (λ d. fit_shown d.config.delays) (document_of bytes)
+answer_of (Generate seed slots) bytes = generated_document seed slots
+
+-- what is answered where the words are this command; words that are none are refused
+abbrev pub asked : Option Command → List ℕ → Answer
+asked None bytes = refused BadWords
+asked (Some command) bytes = answer_of command bytes
+
+-- whether the words are a command that reads
+abbrev pub is_reading : Option Command → Bool
+is_reading None = false
+is_reading (Some command) = reads command

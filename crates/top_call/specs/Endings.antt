@@ -1,0 +1,28 @@
+-- How a run ends, by what its last step answered.
+use Rattle.std.specs.Prelude.{Result, Ok, Err}
+use Rattle.fh_base.specs.declared.fault.ReadAllFault.{ReadAllFault}
+use Rattle.fh_base.specs.declared.fault.ReadAllFault.TheVariants as source
+use Rattle.fh_base.specs.declared.fault.SinkFault.{SinkFault}
+use Rattle.fh_base.specs.declared.fault.SinkFault.TheVariants as sink
+use Rattle.fh_document.specs.declared.refusals.DocFault.{DocFault}
+use Rattle.fh_document.specs.declared.refusals.DocFault.TheVariants as doc
+use Rattle.top_call.specs.declared.status.LineWhy.TheVariants.{Doc}
+use Rattle.top_call.specs.declared.status.Status.{Status}
+use Rattle.top_call.specs.declared.status.Status.TheVariants.{BadDocument, ReadFault, WriteFault, NoMemory, TooLong}
+
+-- the whole text was to be written, and then the run to end with a status
+abbrev pub ending_of : Result (Unit {0}) SinkFault → Status → Status
+ending_of (Ok _) status = status
+ending_of (Err sink.Failed) status = WriteFault
+ending_of (Err sink.NoMemory) status = NoMemory
+
+-- a document was not read
+abbrev pub unread_status : DocFault → Status
+unread_status (doc.At line why) = BadDocument line (Doc why)
+unread_status doc.NoMemory = NoMemory
+
+-- an input was not read to its end
+abbrev pub source_status : ReadAllFault → Status
+source_status source.ReadFault = ReadFault
+source_status source.TooLong = TooLong
+source_status source.NoMemory = NoMemory

@@ -1,0 +1,4 @@
+pub mod Statuses
+pub mod Endings
+pub mod Answers
+pub mod Run

@@ -1,0 +1,92 @@
+-- What a run does.
+use Rattle.std.specs.Prelude.{◌≡◌, ◌<◌, ◌≤◌, ◌⊎◌, ◌↔◌, ℕ, List, length, true, Option, Some, IfSome, IfOk, IsSome, IsNone}
+use Rattle.std.specs.Io.KnownBytes.{prepend_known, append_known, IsAtEnd}
+use Rattle.command_words.specs.Words.{command_of}
+use Rattle.fh_base.specs.Causes.{Rose}
+use Rattle.fh_base.specs.Told.{WritesFront}
+use Rattle.fh_document.specs.Document.{document_of}
+use Rattle.replay_loop.specs.Laws.{IsSound}
+use Rattle.top_call.specs.declared.status.Status.{Status}
+use Rattle.top_call.specs.declared.status.Status.TheVariants.{Done, BadWords, BadDocument, ReadFault, WriteFault, NoMemory, TooLong, CheckFails, NoFit}
+use Rattle.top_call.specs.Answers.{Answer, asked, is_reading}
+
+-- the most bytes of an input
+abbrev pub input_limit : ℕ
+input_limit = 67108864
+
+-- the whole text was appended, or what is named holds
+abbrev pub WritesWholeOr : Option (List ℕ) → Option (List ℕ) → List ℕ → Type 0 → Type 0
+WritesWholeOr old new text P = (new ≡ append_known old text) ⊎ P
+
+-- the statuses that words and input decide; the others have a cause beside them
+abbrev pub IsDecided : Status → Type 0
+IsDecided ReadFault = ⊥
+IsDecided WriteFault = ⊥
+IsDecided NoMemory = ⊥
+IsDecided TooLong = ⊥
+IsDecided status = Unit {0}
+
+-- the statuses of words or an input that are refused: nothing is written
+abbrev pub IsRefusal : Status → Type 0
+IsRefusal BadWords = Unit {0}
+IsRefusal (BadDocument line why) = Unit {0}
+IsRefusal status = ⊥
+
+-- the statuses that stand behind a whole text
+abbrev pub IsVerdict : Status → Type 0
+IsVerdict Done = Unit {0}
+IsVerdict (CheckFails failing) = Unit {0}
+IsVerdict (NoFit refusal) = Unit {0}
+IsVerdict status = ⊥
+
+-- why a command over a whole input answers a status, where this one is wanted
+abbrev pub AnswersCommand : Status → ℕ → ℕ → Status → Type 0
+AnswersCommand wanted before now WriteFault = Rose before now × (IsRefusal wanted → ⊥)
+AnswersCommand wanted before now NoMemory = Unit {0}
+AnswersCommand wanted before now BadWords = ⊥
+AnswersCommand wanted before now ReadFault = ⊥
+AnswersCommand wanted before now TooLong = ⊥
+AnswersCommand wanted before now status = wanted ≡ status
+
+-- what a command does over a whole input
+pub record Performs (a : Answer) (written_old written_new : Option (List ℕ)) (before now : ℕ) (status : Status) : Type 0 where
+  pub front : WritesFront written_old written_new a.text
+  pub whole : IsDecided status → written_new ≡ append_known written_old a.text
+  pub answers : AnswersCommand a.status before now status
+  pub later : before ≤ now
+
+-- why a run answers a status, where this one is wanted by the words over what came
+abbrev pub AnswersRun : Status → ℕ → ℕ → ℕ → ℕ → Status → Type 0
+AnswersRun wanted source_before source_now out_before out_now ReadFault = Rose source_before source_now
+AnswersRun wanted source_before source_now out_before out_now WriteFault = Rose out_before out_now × (IsRefusal wanted → ⊥)
+AnswersRun wanted source_before source_now out_before out_now NoMemory = Unit {0}
+AnswersRun wanted source_before source_now out_before out_now TooLong = Unit {0}
+AnswersRun wanted source_before source_now out_before out_now status = wanted ≡ status
+
+-- what a run did, but for its line on standard error
+pub record Outcome (words : List (List ℕ)) (left_old left_new : Option (List ℕ)) (source_before source_now : ℕ) (written_old written_new : Option (List ℕ)) (out_before out_now : ℕ) (status : Status) : Type 0 where
+  -- the bytes that came
+  pub came : List ℕ
+  pub taken : left_old ≡ prepend_known came left_new
+  -- whatever the status, a front part was written of the one text of all that was left, which is that of what came
+  pub front : IfSome left_old (λ bytes. WritesFront written_old written_new (asked (command_of words) bytes).text)
+  pub front_came : WritesFront written_old written_new (asked (command_of words) came).text
+  -- a status that words and input decide: it is the wanted one, all was read that is read, and the one text stands whole
+  pub answers : AnswersRun (asked (command_of words) came).status source_before source_now out_before out_now status
+  pub ended : IsDecided status → is_reading (command_of words) ≡ true → IsAtEnd left_new
+  pub whole : IsDecided status → written_new ≡ append_known written_old (asked (command_of words) came).text
+  -- the others, and words that are no command
+  pub bad_words : (status ≡ BadWords) ↔ IsNone (command_of words)
+  pub unread : (status ≡ ReadFault) ⊎ (status ≡ TooLong) → written_new ≡ written_old
+  pub too_long : (status ≡ TooLong) ↔ input_limit < length came
+  pub source_later : source_before ≤ source_now
+  pub out_later : out_before ≤ out_now
+  -- an input that can be read whole is answered as wanted, or for want of memory, where no fault rises; a refusal needs no sink, and a
+  -- command that reads nothing no source
+  pub complete : (bytes : List ℕ) → IsSome (command_of words)
+      → (is_reading (command_of words) ≡ true → (Rose source_before source_now → ⊥) × (left_old ≡ Some bytes) × (length bytes ≤ input_limit))
+      → (Rose out_before out_now → ⊥) ⊎ IsRefusal (asked (command_of words) bytes).status
+      → (status ≡ (asked (command_of words) bytes).status) ⊎ (status ≡ NoMemory)
+  -- of the events of the document that the bytes spell: none is reported twice, what is shown came and was commanded in time, the
+  -- counters add up, the frames that arrive are those that are listed, and what is refused changes nothing but counters
+  pub sound : IfOk (document_of came) IsSound

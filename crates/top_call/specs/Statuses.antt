@@ -1,0 +1,52 @@
+-- What a status ends the process with, and the line that it writes (this project's profile).
+use Rattle.std.specs.Prelude.{ℕ, List, [], ◌++◌, codes, decimal}
+use Rattle.fh_document.specs.Refusals.{name_of}
+use Rattle.text_lines.specs.Words.{spaced_signed_text}
+use Rattle.window_config.specs.declared.relations.Failing.{Failing}
+use Rattle.window_config.specs.Relations.{name_of as relation_name}
+use Rattle.window_plan.specs.declared.refusals.NoFit.{NoFit as Refusal}
+use Rattle.window_plan.specs.Names.{name_of as window_name}
+use Rattle.top_call.specs.declared.status.LineWhy.{LineWhy}
+use Rattle.top_call.specs.declared.status.LineWhy.TheVariants.{Doc}
+use Rattle.top_call.specs.declared.status.Status.{Status}
+use Rattle.top_call.specs.declared.status.Status.TheVariants.{Done, BadWords, BadDocument, ReadFault, WriteFault, NoMemory, TooLong, CheckFails, NoFit}
+
+-- the exit status
+abbrev pub code_of : Status → ℕ
+code_of Done = 0
+code_of BadWords = 2
+code_of (BadDocument line why) = 3
+code_of ReadFault = 5
+code_of WriteFault = 6
+code_of NoMemory = 7
+code_of TooLong = 8
+code_of (CheckFails failing) = 9
+code_of (NoFit refusal) = 11
+
+-- a reason's name
+abbrev pub why_name : LineWhy → List ℕ
+why_name (Doc why) = name_of why
+
+-- the line of a refusal
+abbrev pub refusal_line : ℕ → LineWhy → List ℕ
+refusal_line line why = codes "fronthaul: line " ++ decimal line ++ codes ": " ++ why_name why ++ codes "\n"
+
+-- the line of a relation that fails, with its two sides in nanoseconds
+unfoldable pub failing_line : Failing → List ℕ
+failing_line f = codes "fronthaul: check fails " ++ relation_name f.relation ++ spaced_signed_text f.left ++ spaced_signed_text f.right ++ codes "\n"
+
+-- the line of a window that does not fit, with both sides of what refuses it in nanoseconds
+unfoldable pub no_fit_line : Refusal → List ℕ
+no_fit_line r = codes "fronthaul: no fit " ++ window_name r.window ++ spaced_signed_text r.left ++ spaced_signed_text r.right ++ codes "\n"
+
+-- the line on standard error
+abbrev pub line_of : Status → List ℕ
+line_of Done = []
+line_of BadWords = codes "fronthaul: bad words\n"
+line_of (BadDocument line why) = refusal_line line why
+line_of ReadFault = codes "fronthaul: read fault\n"
+line_of WriteFault = codes "fronthaul: write fault\n"
+line_of NoMemory = codes "fronthaul: no memory\n"
+line_of TooLong = codes "fronthaul: input too long\n"
+line_of (CheckFails failing) = failing_line failing
+line_of (NoFit refusal) = no_fit_line refusal

@@ -1,0 +1,43 @@
+// The commands over a whole input, a module each.
+ghost use Rattle.std.specs.Prelude.{◌≡◌};
+ghost use Rattle.command_words.specs.Words.{IsProper};
+ghost use Rattle.top_call.specs.Answers.{answer_of, reads};
+ghost use Rattle.top_call.specs.Run.{Performs};
+
+mod fit;
+mod generate;
+mod replay;
+mod windows;
+
+use crate::status::Status;
+use command_words::Command;
+use fh_base::Sink;
+use fit::write_fit;
+use generate::write_document;
+use replay::write_report;
+use std::alloc::Global;
+use windows::write_windows;
+
+/// Whether a command reads its input.
+pub(crate) fn reads(command: Command) -> bool
+    ensures { result ≡ reads command }
+{
+    match command {
+        Command::Replay | Command::Windows | Command::Fit => true,
+        Command::Generate { .. } => false,
+    }
+}
+
+/// Does what a command asks for over the whole input.
+#[tactic(auto, unfolding(crate::specs::Answers::answer_of))]
+pub(crate) fn perform<K: Sink>(alloc: Global, command: Command, bytes: &[u8], out: &mut K) -> Status
+    requires { IsProper command }
+    ensures { Performs (answer_of command bytes.now) (K.written out.old) (K.written out.new) (K.faults out.old) (K.faults out.new) result }
+{
+    match command {
+        Command::Replay => write_report(alloc, bytes, out),
+        Command::Windows => write_windows(alloc, bytes, out),
+        Command::Fit => write_fit(alloc, bytes, out),
+        Command::Generate { seed, slots } => write_document(alloc, seed, slots, out),
+    }
+}

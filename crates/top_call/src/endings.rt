@@ -1,0 +1,42 @@
+// How a run ends, by what its last step answered.
+ghost use Rattle.std.specs.Prelude.{◌≡◌};
+ghost use Rattle.top_call.specs.Endings.{ending_of, source_status, unread_status};
+
+use crate::status::{LineWhy, Status};
+use fh_base::{ReadAllFault, SinkFault};
+use fh_document::DocFault;
+
+/// How a run ends whose whole text was to be written, and which then ends with `status`.
+pub(crate) fn ending_of(written: Result<(), SinkFault>, status: Status) -> Status
+    ensures { result ≡ ending_of written status }
+{
+    match written {
+        Ok(()) => status,
+        Err(SinkFault::Failed) => Status::WriteFault,
+        Err(SinkFault::NoMemory) => Status::NoMemory,
+    }
+}
+
+/// What a document that was not read is answered.
+pub(crate) fn unread_status(fault: DocFault) -> Status
+    ensures { result ≡ unread_status fault }
+{
+    match fault {
+        DocFault::At { line, why } => Status::BadDocument {
+            line,
+            why: LineWhy::Doc(why),
+        },
+        DocFault::NoMemory => Status::NoMemory,
+    }
+}
+
+/// What an input is answered that was not read to its end.
+pub(crate) fn source_status(fault: ReadAllFault) -> Status
+    ensures { result ≡ source_status fault }
+{
+    match fault {
+        ReadAllFault::ReadFault => Status::ReadFault,
+        ReadAllFault::TooLong => Status::TooLong,
+        ReadAllFault::NoMemory => Status::NoMemory,
+    }
+}

@@ -1,0 +1,91 @@
+// The line that a run writes where it is not done.
+ghost use Rattle.std.specs.Prelude.{◌≡◌, ◌≤◌, length, OnOk};
+ghost use Rattle.std.specs.Io.KnownBytes.{append_known};
+ghost use Rattle.fh_base.specs.Causes.{HasSinkCause};
+ghost use Rattle.fh_base.specs.Told.{WritesFront};
+ghost use Rattle.top_call.specs.Statuses.{failing_line, line_of, no_fit_line, refusal_line};
+
+use crate::status::{LineWhy, Status};
+use fh_base::{Sink, SinkFault, write_all_to};
+use text_lines::Line;
+use window_config::Failing;
+use window_plan::NoFit;
+
+/// Writes the status's line, nothing for `Done`.
+pub fn write_message<E: Sink>(status: Status, err: &mut E) -> Result<(), SinkFault>
+    ensures ok { OnOk result (E.written err.new ≡ append_known (E.written err.old) (line_of status)) }
+    ensures front { WritesFront (E.written err.old) (E.written err.new) (line_of status) }
+    ensures cause { HasSinkCause (E.faults err.old) (E.faults err.new) (E.refusals err.old) (E.refusals err.new) result }
+{
+    let line = line_of(status);
+    write_all_to(err, line.as_slice())
+}
+
+/// The line of a status.
+fn line_of(status: Status) -> Line
+    ensures { result ≡ line_of status }
+{
+    match status {
+        Status::Done => Line::new(),
+        Status::BadWords => literal(b"fronthaul: bad words\n"),
+        Status::BadDocument { line, why } => refusal_line(line, why),
+        Status::ReadFault => literal(b"fronthaul: read fault\n"),
+        Status::WriteFault => literal(b"fronthaul: write fault\n"),
+        Status::NoMemory => literal(b"fronthaul: no memory\n"),
+        Status::TooLong => literal(b"fronthaul: input too long\n"),
+        Status::CheckFails(failing) => failing_line(failing),
+        Status::NoFit(refusal) => no_fit_line(refusal),
+    }
+}
+
+/// A line that is the same at each status of its kind.
+fn literal(text: &[u8]) -> Line
+    requires { length text.now ≤ 512 }
+    ensures { result ≡ text.now }
+{
+    let mut line = Line::new();
+    line.text(text);
+    line
+}
+
+/// Where a document is refused, and why.
+fn refusal_line(line: usize, why: LineWhy) -> Line
+    ensures { result ≡ refusal_line line why }
+{
+    let LineWhy::Doc(why) = why;
+    let mut text = Line::new();
+    text.text(b"fronthaul: line ");
+    text.number(line as u64);
+    text.text(b": ");
+    text.text(why.name().as_bytes());
+    text.text(b"\n");
+    text
+}
+
+/// The relation that fails, and its two sides in nanoseconds.
+#[tactic(auto, unfolding(crate::specs::Statuses::failing_line))]
+fn failing_line(failing: Failing) -> Line
+    ensures { result ≡ failing_line failing }
+{
+    let mut text = Line::new();
+    text.text(b"fronthaul: check fails ");
+    text.text(failing.relation.name().as_bytes());
+    text.spaced_signed(failing.left);
+    text.spaced_signed(failing.right);
+    text.text(b"\n");
+    text
+}
+
+/// The window that does not fit, and both sides of what refuses it in nanoseconds.
+#[tactic(auto, unfolding(crate::specs::Statuses::no_fit_line))]
+fn no_fit_line(refusal: NoFit) -> Line
+    ensures { result ≡ no_fit_line refusal }
+{
+    let mut text = Line::new();
+    text.text(b"fronthaul: no fit ");
+    text.text(refusal.window.name().as_bytes());
+    text.spaced_signed(refusal.left);
+    text.spaced_signed(refusal.right);
+    text.text(b"\n");
+    text
+}
