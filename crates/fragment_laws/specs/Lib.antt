@@ -1,0 +1,4 @@
+pub mod Apart
+pub mod Flow
+pub mod Once
+pub mod Example
