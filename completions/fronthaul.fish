@@ -1,0 +1,6 @@
+# Completion of fronthaul's words for fish: put this file into ~/.config/fish/completions.
+complete -c fronthaul -f
+complete -c fronthaul -n __fish_use_subcommand -a replay -d 'the report of a document'
+complete -c fronthaul -n __fish_use_subcommand -a windows -d 'the windows, the rings and the check of a document'
+complete -c fronthaul -n __fish_use_subcommand -a fit -d 'what breaks the windows of a document, and the greatest that fit'
+complete -c fronthaul -n __fish_use_subcommand -a generate -d 'a document of its own, of a seed and a number of slots'
