@@ -1,9 +1,22 @@
--- The report of a document (this project's profile): the lines of its events, and `end`.
+-- The texts of a document (this project's profile), each of all its events.
 use Rattle.std.specs.Prelude.{ℕ, List}
 use Rattle.fh_document.specs.declared.document.Document.{Document}
 use Rattle.replay_loop.specs.Replaying.{events_of}
+use Rattle.capture_air.specs.Capture.{whole_capture}
+use Rattle.sum_air.specs.Summary.{whole_summary}
 use Rattle.text_air.specs.Text.{whole_text}
 
--- the report of a document
+-- the report of a document: the lines of its events, and `end`
 unfoldable pub injected_report : Document → List ℕ
 injected_report d = whole_text (events_of d)
+
+abbrev pub report_of : Document → List ℕ
+report_of d = injected_report d
+
+-- the summary of a document: a line for each run of cells, the delays, the counters, and `end`
+unfoldable pub summary_of : Document → List ℕ
+summary_of d = whole_summary (events_of d)
+
+-- the capture of a document: the magic, and a record for each frame that arrives
+unfoldable pub capture_of : Document → List ℕ
+capture_of d = whole_capture (events_of d)

@@ -1,4 +1,5 @@
-//! Tests of the replay of a document: what an air hears (`events`), and the report that is written (`reports`).
+//! Tests of the replay of a document: what an air hears (`events`), the report that is written (`reports`),
+//! and the summary and the capture (`texts`).
 //!
 //! They stand beside `replay_loop` and `fronthaul_replay`, so that these are proved without them.
 #![tactic(auto)]
@@ -7,3 +8,5 @@
 mod events;
 #[cfg(test)]
 mod reports;
+#[cfg(test)]
+mod texts;

@@ -1,12 +1,11 @@
 -- The lines of cells that come one by one are those of the runs that the whole list is cut into.
-use Rattle.std.proofs.Common.{◌≡◌, ℕ, ℤ, pos, ◌+◌, ◌+ℤ◌, Bool, true, false, ◌&&◌, cond, nat_lt, List, [], ◌∷◌, ◌++◌, Option, None, Some, refl, sym, ap, subst, ◌∙◌, arith, append_assoc, append-nil, zero-add}
-use Rattle.std.specs.List.{flat_map, fold}
+use Rattle.std.proofs.Common.{◌≡◌, ℕ, pos, ◌+◌, ◌+ℤ◌, Bool, true, false, ◌&&◌, cond, nat_lt, List, [], ◌∷◌, ◌++◌, Option, None, Some, refl, sym, ap, subst, ◌∙◌, arith, append_assoc, append-nil}
+use Rattle.std.specs.List.{flat_map}
 use Rattle.std.proofs.lemmas.Int.{ints}
 use Rattle.std.proofs.lemmas.List.Concat.{flat_map-cons}
 use Rattle.std.proofs.lemmas.List.Sums.{fold_push}
 use Rattle.air_source.specs.declared.events.AirCell.{AirCell}
 use Rattle.sum_air.specs.declared.totals.Totals.{Totals}
-use Rattle.sum_air.specs.declared.places.SymbolPlace.{SymbolPlace}
 use Rattle.sum_air.specs.Lines.{sum_line, line_text}
 use Rattle.sum_air.specs.OpenRuns.{OpenRun}
 use Rattle.sum_air.specs.Places.{place_of, same_place}

@@ -1,6 +1,6 @@
 -- The summary by a state is that of the whole list of events, where counters stand last.
-use Rattle.std.proofs.Common.{◌≡◌, ℕ, ℤ, Bool, true, false, cond, List, [], ◌∷◌, ◌++◌, Option, None, Some, refl, sym, ap, subst, ◌∙◌, append_assoc, append-nil}
-use Rattle.std.specs.List.{flat_map, fold, AllByRecursion}
+use Rattle.std.proofs.Common.{◌≡◌, ℕ, ℤ, Bool, false, cond, List, [], ◌∷◌, ◌++◌, refl, sym, ap, ◌∙◌, append_assoc, append-nil}
+use Rattle.std.specs.List.{fold, AllByRecursion}
 use Rattle.std.proofs.lemmas.Grind.{flat_map-append}
 use Rattle.std.proofs.lemmas.List.Concat.{flat_map-cons}
 use Rattle.circular_buffer.specs.Buffer.{keep_last}
@@ -8,7 +8,7 @@ use Rattle.air_source.specs.declared.events.Event.{Event}
 use Rattle.air_source.specs.declared.events.Event.TheVariants.{Cell, Delay, Arrival, Count}
 use Rattle.air_source.specs.declared.events.Side.{Side}
 use Rattle.air_source.specs.declared.events.Side.TheVariants.{Ru, Du}
-use Rattle.air_source.specs.Moves.{state_after, given_by, text_of}
+use Rattle.air_source.specs.Moves.{state_after, given_by}
 use Rattle.air_source.specs.MovesLaws.{state_after-append, given_by-append}
 use Rattle.report_lines.specs.Units.{count_text}
 use Rattle.sum_air.specs.Results.{delays_text}

@@ -1,5 +1,5 @@
 -- What callers of the air need: a fresh one writes out a summary.
-use Rattle.std.proofs.Common.{◌≡◌, ℕ, List, [], ◌∷◌, ◌++◌, Option, refl, sym, ap, subst, ◌∙◌, append-nil}
+use Rattle.std.proofs.Common.{◌≡◌, ℕ, List, [], ◌∷◌, ◌++◌, Option, sym, ap, subst, ◌∙◌, append-nil}
 use Rattle.std.specs.Io.KnownBytes.{append_known}
 use Rattle.fh_base.specs.Told.{WritesFront}
 use Rattle.air_source.specs.declared.airs.AirFault.{AirFault}
@@ -38,7 +38,7 @@ state_is s written owed events now owed_now s_now is h = h.moved ∙ ap (λ x. s
 -- from a fresh air on, the lines are written out
 pub writes_out : {A : Type 0} (fault : AirFault) (written : A → Option (List ℕ)) (faults refusals : A → ℕ) (owed : A → List ℕ) (sums : A → SumState) (fresh : A) → owed fresh ≡ [] → sums fresh ≡ sum_start
     → WritesOut {A = A} (λ a es b. Heard (sums a) (written a) (owed a) es (sums b) (written b) (owed b))
-        (λ a e b. Halted fault (written a) (faults a) (refusals a) (owed a) (sum_gives (sums a) e) (written b) (faults b) (refusals b)) written summary_begun fresh
+    (λ a e b. Halted fault (written a) (faults a) (refusals a) (owed a) (sum_gives (sums a) e) (written b) (faults b) (refusals b)) written summary_begun fresh
 writes_out fault written faults refusals owed sums fresh none start = record {
   heard = λ events now h.
       carried_from (written fresh) (owed fresh) [] (summary_begun events) (written now) (owed now) none
@@ -78,7 +78,7 @@ finish_front events s written owed s_now middle owed_now now l none start h fron
 pub stopped_front : {A : Type 0} (fault : AirFault) (written : A → Option (List ℕ)) (faults refusals : A → ℕ) (owed : A → List ℕ) (sums : A → SumState) (events : List Event) (fresh now : A)
     → CountsLast events → owed fresh ≡ [] → sums fresh ≡ sum_start
     → StopsIn {A = A} (λ a es b. Heard (sums a) (written a) (owed a) es (sums b) (written b) (owed b))
-        (λ a e b. Halted fault (written a) (faults a) (refusals a) (owed a) (sum_gives (sums a) e) (written b) (faults b) (refusals b)) events fresh now
+    (λ a e b. Halted fault (written a) (faults a) (refusals a) (owed a) (sum_gives (sums a) e) (written b) (faults b) (refusals b)) events fresh now
     → WritesFront (written fresh) (written now) (whole_summary events)
 stopped_front {A} fault written faults refusals owed sums events fresh now l none start stops =
     front_of (written fresh) (written now) (summary_begun events) (whole_summary events) (summary_begins events l)

@@ -1,5 +1,5 @@
 -- What is added up of the cells of a line (this project's profile).
-use Rattle.std.specs.Prelude.{ℕ, ℤ, zero, suc, pos, neg_ℤ, ◌+◌, ◌*◌, ◌^◌, ◌≤◌, ◌+ℤ◌, ◌≤ℤ◌, ◌==◌, if◌then◌else◌, List, [], ◌∷◌, Option, Some, None}
+use Rattle.std.specs.Prelude.{ℕ, zero, suc, pos, neg_ℤ, ◌+◌, ◌*◌, ◌^◌, ◌≤◌, ◌+ℤ◌, ◌≤ℤ◌, ◌==◌, if◌then◌else◌, List, Option, Some, None}
 use Rattle.std.specs.List.{slice_index_or, fold}
 use Rattle.air_source.specs.declared.events.AirCell.{AirCell}
 use Rattle.bfp_codec.specs.Samples.{no_wide}

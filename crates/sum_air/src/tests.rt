@@ -196,7 +196,10 @@ fn the_last_sixteen_results_count(rt: HostRuntime) -> Result<(), Fail> {
     let mut air = SumAir::new(alloc, &mut sink)?;
     assert_eq!(rt; air.delay(Ticks(0), Side::Du, 0, -1_000), Ok(()));
     for k in 1..17_u8 {
-        assert_eq!(rt; air.delay(Ticks(0), Side::Du, 0, 10 - i128::from(k)), Ok(()));
+        assert_eq!(rt;
+            air.delay(Ticks(0), Side::Du, 0, 10 - i128::from(k)),
+            Ok(())
+        );
     }
     assert_eq!(rt; air.finish(), Ok(()));
     let sink = air.into_sink();

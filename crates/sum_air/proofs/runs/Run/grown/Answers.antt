@@ -1,4 +1,4 @@
-use Rattle.std.proofs.Common.{◌≡◌, ◌+◌, ◌*◌, ◌<◌, ◌≤◌, arith, ap}
+use Rattle.std.proofs.Common.{◌+◌, ◌*◌, ◌≤◌, arith, ap}
 use Rattle.sum_air.specs.OpenRuns.{OpenRun}
 use Rattle.sum_air.proofs.Bounds.{wider}
 use Rattle.sum_air.proofs.runs.Run.grown.Goals as goal

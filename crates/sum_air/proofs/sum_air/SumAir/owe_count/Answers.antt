@@ -1,4 +1,4 @@
-use Rattle.std.proofs.Common.{rules, ◌≡◌, ◌++◌, ◌≤◌, List, ℕ, Option, subst, sym, length}
+use Rattle.std.proofs.Common.{rules, ◌≡◌, ◌++◌, ◌≤◌, List, ℕ, Option, subst, sym}
 use Rattle.std.proofs.lemmas.Result.{IfErr-weaker, on_ok_weaker}
 use Rattle.air_source.specs.declared.airs.AirFault.{AirFault}
 use Rattle.owed_bytes.specs.Owed.{Carried}
@@ -6,7 +6,7 @@ use Rattle.owed_bytes.specs.CarriedLaws.{carried_more}
 use Rattle.report_lines.specs.Units.{count_text}
 use Rattle.air_sinks.specs.Stopping.{Halted}
 use Rattle.air_sinks.proofs.Turns.{halted_first, halted_second}
-use Rattle.sum_air.specs.Airs.{sink_of, owed_of, sums_of}
+use Rattle.sum_air.specs.Airs.{sums_of}
 use Rattle.sum_air.specs.States.{closing_text}
 use Rattle.sum_air.proofs.sum_air.SumAir.owe_count.Goals as goal
 

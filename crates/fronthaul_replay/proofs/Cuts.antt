@@ -1,0 +1,80 @@
+-- What an air wrote of a document's capture or summary where a replay was cut.
+use Rattle.std.proofs.Common.{◌≡◌, ℕ, List, [], ◌++◌, Option}
+use Rattle.std.specs.Io.KnownBytes.{append_known}
+use Rattle.fh_base.specs.Told.{WritesFront}
+use Rattle.air_source.specs.declared.airs.AirFault.{AirFault}
+use Rattle.air_source.specs.declared.airs.AirFault.TheVariants.{Failed, NoMemory as WantsMemory}
+use Rattle.air_source.specs.declared.events.Event.{Event}
+use Rattle.fh_document.specs.declared.document.Document.{Document}
+use Rattle.replay_loop.specs.Replaying.{events_of}
+use Rattle.owed_bytes.specs.Owed.{Carried}
+use Rattle.air_sinks.specs.Stopping.{Halted}
+use Rattle.air_sinks.proofs.Fronts.{front_of, stops_front, cut_front}
+use Rattle.capture_records.specs.declared.layout.TheConstants.{MAGIC}
+use Rattle.capture_air.specs.Capture.{whole_capture, event_record, events_records}
+use Rattle.capture_air.proofs.Captured as captured
+use Rattle.sum_air.specs.SumStates.{SumState}
+use Rattle.sum_air.specs.States.{sum_start, sum_gives, sum_ends}
+use Rattle.sum_air.specs.Summary.{whole_summary}
+use Rattle.sum_air.specs.Laws.{Heard}
+use Rattle.sum_air.proofs.Written as summed
+use Rattle.fronthaul_replay.specs.declared.injected.InjectedFault.{InjectedFault}
+use Rattle.fronthaul_replay.specs.declared.injected.InjectedFault.TheVariants.{WriteFault, NoMemory}
+use Rattle.fronthaul_replay.specs.Cut.{CutBy}
+use Rattle.fronthaul_replay.specs.Reports.{summary_of, capture_of}
+use Rattle.fronthaul_replay.proofs.Counted.{document_counts}
+
+module _ {A : Type 0} (written : A → Option (List ℕ)) (faults refusals : A → ℕ) (owed : A → List ℕ) (d : Document) (old new : A) where
+  -- what a capture air heard, and how it stopped
+  abbrev CaptureGrew : A → List Event → A → Type 0
+  CaptureGrew a es b = Carried (written a) (owed a) (events_records es) (written b) (owed b)
+
+  abbrev CaptureStopped : AirFault → A → Event → A → Type 0
+  CaptureStopped fault a e b = Halted fault (written a) (faults a) (refusals a) (owed a) (event_record e) (written b) (faults b) (refusals b)
+
+  -- where it owed the magic, it wrote a front of the capture
+  pub capture_cut : (f : InjectedFault) → owed old ≡ MAGIC → CutBy f CaptureGrew CaptureStopped (events_of d) old new → WritesFront (written old) (written new) (capture_of d)
+  unfolding capture_of
+  capture_cut WriteFault magic cut = stops_front CaptureGrew (CaptureStopped Failed) written whole_capture old new (events_of d) (captured.writes_out Failed written faults refusals owed old magic) cut
+  capture_cut NoMemory magic cut = cut_front CaptureGrew (CaptureStopped WantsMemory) written whole_capture old new (events_of d) (captured.writes_out WantsMemory written faults refusals owed old magic) cut
+
+module _ {A : Type 0} (written : A → Option (List ℕ)) (faults refusals : A → ℕ) (owed : A → List ℕ) (sums : A → SumState) (d : Document) (old new : A) where
+  -- what a summary air heard, and how it stopped
+  abbrev SummaryGrew : A → List Event → A → Type 0
+  SummaryGrew a es b = Heard (sums a) (written a) (owed a) es (sums b) (written b) (owed b)
+
+  abbrev SummaryStopped : AirFault → A → Event → A → Type 0
+  SummaryStopped fault a e b = Halted fault (written a) (faults a) (refusals a) (owed a) (sum_gives (sums a) e) (written b) (faults b) (refusals b)
+
+  begins : WritesFront (written old) (written new) (summed.summary_begun (events_of d)) → WritesFront (written old) (written new) (whole_summary (events_of d))
+  begins front = front_of (written old) (written new) (summed.summary_begun (events_of d)) (whole_summary (events_of d)) (summed.summary_begins (events_of d) (document_counts d)) front
+
+  -- where it had heard nothing, it wrote a front of the summary
+  pub summary_cut : (f : InjectedFault) → owed old ≡ [] → sums old ≡ sum_start → CutBy f SummaryGrew SummaryStopped (events_of d) old new → WritesFront (written old) (written new) (summary_of d)
+  unfolding summary_of
+  summary_cut WriteFault none start cut =
+      begins (stops_front SummaryGrew (SummaryStopped Failed) written summed.summary_begun old new (events_of d) (summed.writes_out Failed written faults refusals owed sums old none start) cut)
+  summary_cut NoMemory none start cut =
+      begins (cut_front SummaryGrew (SummaryStopped WantsMemory) written summed.summary_begun old new (events_of d) (summed.writes_out WantsMemory written faults refusals owed sums old none start) cut)
+
+-- all of a capture, and a front of it, at the end
+pub capture_done : (d : Document) (written : Option (List ℕ)) (owed : List ℕ) (middle : Option (List ℕ)) (owed_now : List ℕ) (now : Option (List ℕ))
+    → owed ≡ MAGIC → Carried written owed (events_records (events_of d)) middle owed_now → now ≡ append_known middle owed_now → now ≡ append_known written (capture_of d)
+unfolding capture_of
+capture_done d written owed middle owed_now now magic h whole = captured.finished (events_of d) written owed middle owed_now now magic h whole
+
+pub capture_front : (d : Document) (written : Option (List ℕ)) (owed : List ℕ) (middle : Option (List ℕ)) (owed_now : List ℕ) (now : Option (List ℕ))
+    → owed ≡ MAGIC → Carried written owed (events_records (events_of d)) middle owed_now → WritesFront middle now owed_now → WritesFront written now (capture_of d)
+unfolding capture_of
+capture_front d written owed middle owed_now now magic h front = captured.finish_front (events_of d) written owed middle owed_now now magic h front
+
+-- all of a summary, and a front of it, at the end
+pub summary_done : (d : Document) (s : SumState) (written : Option (List ℕ)) (owed : List ℕ) (s_now : SumState) (middle : Option (List ℕ)) (owed_now : List ℕ) (now : Option (List ℕ))
+    → owed ≡ [] → s ≡ sum_start → Heard s written owed (events_of d) s_now middle owed_now → now ≡ append_known middle (owed_now ++ sum_ends s_now) → now ≡ append_known written (summary_of d)
+unfolding summary_of
+summary_done d s written owed s_now middle owed_now now none start h whole = summed.finished (events_of d) s written owed s_now middle owed_now now (document_counts d) none start h whole
+
+pub summary_front : (d : Document) (s : SumState) (written : Option (List ℕ)) (owed : List ℕ) (s_now : SumState) (middle : Option (List ℕ)) (owed_now : List ℕ) (now : Option (List ℕ))
+    → owed ≡ [] → s ≡ sum_start → Heard s written owed (events_of d) s_now middle owed_now → WritesFront middle now (owed_now ++ sum_ends s_now) → WritesFront written now (summary_of d)
+unfolding summary_of
+summary_front d s written owed s_now middle owed_now now none start h front = summed.finish_front (events_of d) s written owed s_now middle owed_now now (document_counts d) none start h front

@@ -1,0 +1,59 @@
+// The capture of a document, written.
+ghost use Rattle.std.specs.Prelude.{◌≡◌, ◌≤◌, OnOk};
+ghost use Rattle.std.specs.Io.KnownBytes.{append_known};
+ghost use Rattle.fh_base.specs.Told.{WritesFront};
+ghost use Rattle.fh_document.specs.Proper.{IsDocument};
+ghost use Rattle.capture_air.specs.Airs.{sink_name, sink_of, owed_of};
+ghost use Rattle.replay_loop.specs.Laws.{IsSound};
+ghost use Rattle.fronthaul_replay.specs.Replay.{HasWriteCause};
+ghost use Rattle.fronthaul_replay.specs.Reports.{capture_of};
+
+use crate::injected::InjectedFault;
+use crate::replaying::replay_to;
+use air_source::AirFault;
+use capture_air::CaptureAir;
+use fh_base::Sink;
+use fh_document::Document;
+use std::alloc::Global;
+
+/// Writes the capture of a document: the magic and a record for each frame that arrives.
+///
+/// At Ok exactly the capture was appended to what `out` holds; whatever the answer, a front part of it was.
+///
+/// # Errors
+///
+/// [`InjectedFault::WriteFault`] where writing failed, only where the sink's count of faults rose. [`InjectedFault::NoMemory`] where
+/// memory runs out, in the sink too.
+pub fn capture_injected<K: Sink>(
+    alloc: Global,
+    document: &Document,
+    out: &mut K,
+) -> Result<(), InjectedFault>
+    requires { IsDocument document.now }
+    ensures front { WritesFront (K.written out.old) (K.written out.new) (capture_of document.now) }
+    ensures done { OnOk result (K.written out.new ≡ append_known (K.written out.old) (capture_of document.now)) }
+    ensures cause { HasWriteCause (K.faults out.old) (K.faults out.new) result }
+    ensures later { K.faults out.old ≤ K.faults out.new }
+    ensures sound { OnOk result (IsSound document.now) }
+{
+    let mut air = CaptureAir::new(out);
+    match replay_to(alloc, document, &mut air) {
+        Ok(()) => finish(&mut air),
+        Err(fault) => Err(fault),
+    }
+}
+
+/// Writes what an air owes.
+fn finish<K: Sink>(air: &mut CaptureAir<'_, K>) -> Result<(), InjectedFault>
+    ensures reference { sink_name air.new ≡ sink_name air.old }
+    ensures all { OnOk result (K.written (sink_of air.new) ≡ append_known (K.written (sink_of air.old)) (owed_of air.old)) }
+    ensures front { WritesFront (K.written (sink_of air.old)) (K.written (sink_of air.new)) (owed_of air.old) }
+    ensures cause { HasWriteCause (K.faults (sink_of air.old)) (K.faults (sink_of air.new)) result }
+    ensures later { K.faults (sink_of air.old) ≤ K.faults (sink_of air.new) }
+{
+    match air.finish() {
+        Ok(()) => Ok(()),
+        Err(AirFault::Failed) => Err(InjectedFault::WriteFault),
+        Err(AirFault::NoMemory) => Err(InjectedFault::NoMemory),
+    }
+}

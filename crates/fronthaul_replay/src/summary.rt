@@ -1,0 +1,86 @@
+// The summary of a document, written.
+ghost use Rattle.std.specs.Prelude.{◌≡◌, ◌≤◌, [], ◌++◌, OnOk};
+ghost use Rattle.std.specs.Io.KnownBytes.{append_known};
+ghost use Rattle.fh_base.specs.Told.{WritesFront};
+ghost use Rattle.fh_document.specs.Proper.{IsDocument};
+ghost use Rattle.sum_air.specs.Airs.{sink_name, sink_of, owed_of, sums_of};
+ghost use Rattle.sum_air.specs.States.{sum_start, sum_ends};
+ghost use Rattle.replay_loop.specs.Laws.{IsSound};
+ghost use Rattle.fronthaul_replay.specs.Replay.{HasWriteCause};
+ghost use Rattle.fronthaul_replay.specs.Reports.{summary_of};
+
+use crate::injected::InjectedFault;
+use crate::replaying::replay_to;
+use air_source::AirFault;
+use fh_base::{NoMemory, Sink};
+use fh_document::Document;
+use std::alloc::Global;
+use sum_air::{SumAir, Sums};
+
+/// Writes the summary of a document: a line for each run of cells in place of the cells' lines, then those of the delays and of the
+/// counters that are not at 0, and `end`.
+///
+/// At Ok exactly the summary was appended to what `out` holds; whatever the answer, a front part of it was.
+///
+/// # Errors
+///
+/// [`InjectedFault::WriteFault`] where writing failed, only where the sink's count of faults rose. [`InjectedFault::NoMemory`] where
+/// memory runs out, in the sink too.
+pub fn summarize_injected<K: Sink>(
+    alloc: Global,
+    document: &Document,
+    out: &mut K,
+) -> Result<(), InjectedFault>
+    requires { IsDocument document.now }
+    ensures front { WritesFront (K.written out.old) (K.written out.new) (summary_of document.now) }
+    ensures done { OnOk result (K.written out.new ≡ append_known (K.written out.old) (summary_of document.now)) }
+    ensures cause { HasWriteCause (K.faults out.old) (K.faults out.new) result }
+    ensures later { K.faults out.old ≤ K.faults out.new }
+    ensures sound { OnOk result (IsSound document.now) }
+{
+    let sums = match Sums::make(alloc) {
+        Ok(sums) => sums,
+        Err(NoMemory) => return Err(InjectedFault::NoMemory),
+    };
+    let mut air = SumAir::over(sums, out);
+    let told = tell_all(alloc, document, &mut air);
+    let _sink = air.into_sink();
+    told
+}
+
+/// Tells a fresh air the events of a document, and finishes it.
+fn tell_all<K: Sink>(
+    alloc: Global,
+    document: &Document,
+    air: &mut SumAir<'_, K>,
+) -> Result<(), InjectedFault>
+    requires document { IsDocument document.now }
+    requires nothing { owed_of air.old ≡ [] }
+    requires start { sums_of air.old ≡ sum_start }
+    ensures reference { sink_name air.new ≡ sink_name air.old }
+    ensures front { WritesFront (K.written (sink_of air.old)) (K.written (sink_of air.new)) (summary_of document.now) }
+    ensures done { OnOk result (K.written (sink_of air.new) ≡ append_known (K.written (sink_of air.old)) (summary_of document.now)) }
+    ensures cause { HasWriteCause (K.faults (sink_of air.old)) (K.faults (sink_of air.new)) result }
+    ensures later { K.faults (sink_of air.old) ≤ K.faults (sink_of air.new) }
+    ensures sound { OnOk result (IsSound document.now) }
+{
+    match replay_to(alloc, document, air) {
+        Ok(()) => finish(air),
+        Err(fault) => Err(fault),
+    }
+}
+
+/// Writes what an air owes, what stands behind the last event, and the last line.
+fn finish<K: Sink>(air: &mut SumAir<'_, K>) -> Result<(), InjectedFault>
+    ensures reference { sink_name air.new ≡ sink_name air.old }
+    ensures all { OnOk result (K.written (sink_of air.new) ≡ append_known (K.written (sink_of air.old)) (owed_of air.old ++ sum_ends (sums_of air.old))) }
+    ensures front { WritesFront (K.written (sink_of air.old)) (K.written (sink_of air.new)) (owed_of air.old ++ sum_ends (sums_of air.old)) }
+    ensures cause { HasWriteCause (K.faults (sink_of air.old)) (K.faults (sink_of air.new)) result }
+    ensures later { K.faults (sink_of air.old) ≤ K.faults (sink_of air.new) }
+{
+    match air.finish() {
+        Ok(()) => Ok(()),
+        Err(AirFault::Failed) => Err(InjectedFault::WriteFault),
+        Err(AirFault::NoMemory) => Err(InjectedFault::NoMemory),
+    }
+}
