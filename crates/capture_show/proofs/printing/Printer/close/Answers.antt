@@ -1,0 +1,9 @@
+use Rattle.std.proofs.Common.{List, ℕ, subst, ◌++◌}
+use Rattle.fh_base.specs.Told.{WritesFront}
+use Rattle.owed_bytes.proofs.Carrying.{front_pushed}
+use Rattle.capture_show.proofs.printing.Printer.close.Goals as goal
+
+pub returns-clause-front : goal.returns-clause-front
+returns-clause-front g c =
+    subst (λ (t : List ℕ). WritesFront (g.K.Sink.written c.args.out.now) (g.K.Sink.written c.push_out.new.sink) (c.args.self.now.owed ++ t)) c.ending.ensures
+    (front_pushed _ _ c.ending.result.now _ _ _ c.in_ok-tell.ensures.carried c.push_out.ensures.front)

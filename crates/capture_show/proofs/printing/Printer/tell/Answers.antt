@@ -1,0 +1,10 @@
+use Rattle.std.proofs.Common.{refl}
+use Rattle.capture_show.proofs.Members.{anyhow}
+use Rattle.capture_show.proofs.Telling.{told_one, stopped_one}
+use Rattle.capture_show.proofs.printing.Printer.tell.Goals as goal
+
+pub returns-in_err-tell_piece-clause-front : goal.returns-in_err-tell_piece-clause-front
+returns-in_err-tell_piece-clause-front g c = anyhow c.from_residual.result (stopped_one _ _ _ _ _ _ c.in_err-tell_piece.ensures.front)
+
+pub returns-clause-told : goal.returns-clause-told
+returns-clause-told g c = told_one _ _ _ _ _ _ _ _ _ c.in_ok-tell_piece.ensures.carried c.in_ok-tell_piece.ensures.json refl

@@ -1,0 +1,80 @@
+// A capture, shown.
+ghost use Rattle.std.specs.Prelude.{◌≡◌, ◌≤◌, ℕ, Ok, Err, OnOk, IfErr};
+ghost use Rattle.std.specs.Io.KnownBytes.{append_known};
+ghost use Rattle.fh_base.specs.Causes.{Rose};
+ghost use Rattle.fh_base.specs.Told.{WritesFront};
+ghost use Rattle.capture_records.specs.declared.refusals.CaptureWhy.{CaptureWhy};
+ghost use Rattle.capture_records.specs.Reading.{checked};
+ghost use Rattle.capture_show.specs.Faults.{HasWriteCause};
+ghost use Rattle.capture_show.specs.Messages.{capture_lines};
+ghost use Rattle.capture_show.specs.Texts.{lines_text};
+
+use crate::capture_lines::tell_records;
+use crate::printing::Printer;
+use capture_records::{CaptureWhy, check};
+use fh_base::{Sink, SinkFault};
+use std::alloc::Global;
+use thiserror::Error;
+
+/// Why a capture was not shown whole.
+#[derive(Clone, Copy, Debug, PartialEq, Eq, Error)]
+pub enum ShowFault {
+    /// A record is malformed.
+    #[error("byte {place}: {why}")]
+    BadCapture {
+        /// The byte of the capture, from 0, at which the record begins.
+        place: usize,
+        why: CaptureWhy,
+    },
+    /// The sink failed: its count of faults rose.
+    #[error("write fault")]
+    WriteFault,
+    /// Memory was refused.
+    #[error("no memory")]
+    NoMemory,
+}
+
+// Writes the text of a capture that passed the tests.
+fn print<K: Sink>(alloc: Global, bytes: &[u8], json: bool, out: &mut K) -> Result<(), SinkFault>
+    requires { checked bytes.now ≡ Ok tt }
+    ensures ok { OnOk result (K.written out.new ≡ append_known (K.written out.old) (lines_text json (capture_lines bytes.now))) }
+    ensures front { WritesFront (K.written out.old) (K.written out.new) (lines_text json (capture_lines bytes.now)) }
+    ensures cause { HasWriteCause (K.faults out.old) (K.faults out.new) result }
+{
+    let mut printer = Printer::new(alloc, json);
+    printer.open(out)?;
+    tell_records(bytes, &mut printer, out)?;
+    printer.close(out)
+}
+
+/// Shows a capture: as lines of text, or where `json` as one array with an object for each line.
+///
+/// A `frame` line has the number of its record from 1, the way, the ticks and the bytes of the frame; a place is that of a message's
+/// header in its frame. Commands are read with 14 symbols a slot and 64 slots a subframe. Data of subsequence 0 with four bytes or
+/// more show their header without any test, and no sections, as a capture does not tell their format.
+///
+/// # Errors
+///
+/// `BadCapture` exactly where a record is malformed, at its place: all records are tested first, and nothing is written then. After
+/// `WriteFault`, which comes only where the sink's count of faults rose, and after `NoMemory` a front part of the text was written.
+pub fn show<K: Sink>(alloc: Global, bytes: &[u8], json: bool, out: &mut K) -> Result<(), ShowFault>
+    ensures ok { OnOk result (K.written out.new ≡ append_known (K.written out.old) (lines_text json (capture_lines bytes.now))) }
+    ensures front { WritesFront (K.written out.old) (K.written out.new) (lines_text json (capture_lines bytes.now)) }
+    // a capture is refused at its first malformed record, and then nothing is written
+    ensures malformed { IfErr (checked bytes.now) (λ r. (result ≡ Err (ShowFault.BadCapture r.place r.why)) × (out.new ≡ out.old)) }
+    ensures refused { (place : ℕ) (why : CaptureWhy) → result ≡ Err (ShowFault.BadCapture place why) → checked bytes.now ≡ Err (record { place = place; why = why }) }
+    ensures later { K.faults out.old ≤ K.faults out.new }
+    ensures failed { result ≡ Err ShowFault.WriteFault → Rose (K.faults out.old) (K.faults out.new) }
+{
+    if let Err(refusal) = check(bytes) {
+        return Err(ShowFault::BadCapture {
+            place: refusal.place,
+            why: refusal.why,
+        });
+    }
+    match print(alloc, bytes, json, out) {
+        Ok(()) => Ok(()),
+        Err(SinkFault::Failed) => Err(ShowFault::WriteFault),
+        Err(SinkFault::NoMemory) => Err(ShowFault::NoMemory),
+    }
+}
