@@ -9,7 +9,7 @@ use Rattle.ru_buffers.specs.declared.unit.Ru.{Ru}
 use Rattle.replay_loop.specs.Replaying.{HaltsInStep, StopsInStep, events_of}
 use Rattle.air_source.specs.declared.airs.AirFault.{AirFault}
 use Rattle.owed_bytes.specs.Owed.{Carried}
-use Rattle.text_air.specs.Owed.{Halted}
+use Rattle.air_sinks.specs.Stopping.{Halted}
 use Rattle.text_air.specs.Text.{event_text, events_text, end_text}
 use Rattle.text_air.proofs.Texts.{cut_front, finish_front, finished, front_of_whole, stops_front}
 use Rattle.fronthaul_replay.specs.Reports.{injected_report}

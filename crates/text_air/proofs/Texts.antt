@@ -11,7 +11,7 @@ use Rattle.air_source.specs.Stops.{StopsIn, GrewSome}
 use Rattle.text_air.specs.Text.{event_text, events_text, end_text, whole_text}
 use Rattle.owed_bytes.specs.Owed.{Carried}
 use Rattle.owed_bytes.proofs.Carrying.{carried_front, front_behind, all_behind}
-use Rattle.text_air.specs.Owed.{Halted}
+use Rattle.air_sinks.specs.Stopping.{Halted}
 
 -- a line that is a text was carried as that text
 pub carried_as : (written : Option (List ℕ)) (owed line text : List ℕ) (now : Option (List ℕ)) (owed_now : List ℕ)

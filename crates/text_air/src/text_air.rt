@@ -5,14 +5,15 @@ ghost use Rattle.std.specs.Io.KnownBytes.{append_known};
 ghost use Rattle.fh_base.specs.Told.{WritesFront};
 ghost use Rattle.air_source.specs.Causes.{HasAirCause};
 ghost use Rattle.owed_bytes.specs.Owed.{Carried};
-ghost use Rattle.text_air.specs.Causes.{HasRefusal};
+ghost use Rattle.air_sinks.specs.Causes.{HasRefusal};
+ghost use Rattle.air_sinks.specs.Stopping.{Halted};
 ghost use Rattle.text_air.specs.Text.{event_text, events_text, end_text};
-ghost use Rattle.text_air.specs.Owed.{Halted, Why, air_fault};
 ghost use Rattle.text_air.specs.OwedLaws.{grew_none, grew_more};
 
+use air_sinks::{push_out, tell};
 use air_source::{Air, AirCell, AirFault, Side};
 use fault_counters::Counter;
-use fh_base::{Sink, SinkFault};
+use fh_base::Sink;
 use fh_time::Ticks;
 use owed_bytes::OwedBytes;
 use report_lines::{put_cell, put_count, put_delay};
@@ -54,10 +55,7 @@ impl<'a, K: Sink> TextAir<'a, K> {
         ensures cause { HasAirCause (K.faults (sink_of self.old)) (K.faults (sink_of self.new)) result }
         ensures refusal { HasRefusal (K.refusals (sink_of self.old)) (K.refusals (sink_of self.new)) result }
     {
-        match self.owed.tell(self.line.as_slice(), self.sink) {
-            Ok(()) => Ok(()),
-            Err(fault) => Err(air_fault(fault)),
-        }
+        tell(&mut self.owed, self.line.as_slice(), self.sink)
     }
 
     // Writes what is owed.
@@ -69,10 +67,7 @@ impl<'a, K: Sink> TextAir<'a, K> {
         ensures cause { HasAirCause (K.faults (sink_of self.old)) (K.faults (sink_of self.new)) result }
         ensures refusal { HasRefusal (K.refusals (sink_of self.old)) (K.refusals (sink_of self.new)) result }
     {
-        match self.owed.push_out(self.sink) {
-            Ok(()) => Ok(()),
-            Err(fault) => Err(air_fault(fault)),
-        }
+        push_out(&mut self.owed, self.sink)
     }
 
     /// Writes what is owed and the line `end`, and then owes nothing. After an error a front part of these was written.
@@ -93,16 +88,6 @@ impl<'a, K: Sink> TextAir<'a, K> {
         self.line.text(b"end\n");
         self.tell()?;
         self.push_out()
-    }
-}
-
-// A sink's fault, as an air tells it.
-fn air_fault(fault: SinkFault) -> AirFault
-    ensures { result ≡ air_fault fault }
-{
-    match fault {
-        SinkFault::Failed => AirFault::Failed,
-        SinkFault::NoMemory => AirFault::NoMemory,
     }
 }
 
