@@ -10,7 +10,7 @@ use Rattle.std.proofs.lemmas.Bool.Decides.{nat_tests}
 use Rattle.command_words.specs.Numbers.{number_in, is_decimal}
 use Rattle.command_words.specs.Words.{bare_command, command_with_two, command_of, with_numbers, seed_in, slots_in, word_at}
 use Rattle.command_words.specs.declared.commands.Command.{Command}
-use Rattle.command_words.specs.declared.commands.Command.TheVariants.{Replay, Windows, Fit, Generate}
+use Rattle.command_words.specs.declared.commands.Command.TheVariants.{Replay, Summary, Capture, Windows, Fit, Generate}
 use Rattle.command_words.proofs.Walks.{IsPlainWord, plain_word_is, ArePlain}
 
 -- of ASCII, and begun by no hyphen
@@ -84,8 +84,10 @@ number_plain most low high n w e = decimal_plain w (number_decimal most low high
 bare_plain : (w : List ℕ) (c : Command) → bare_command w ≡ Some c → is_plain w ≡ true
 bare_plain w c e =
     literal_or (codes "replay") w (Some Replay) _ c refl e (λ e.
+    literal_or (codes "summary") w (Some Summary) _ c refl e (λ e.
+    literal_or (codes "capture") w (Some Capture) _ c refl e (λ e.
     literal_or (codes "windows") w (Some Windows) _ c refl e (λ e.
-    literal_or (codes "fit") w (Some Fit) None c refl e (λ e. cc)))
+    literal_or (codes "fit") w (Some Fit) None c refl e (λ e. cc)))))
 
 -- where a literal stands first, what it gives is wanted
 pub if_some : {X : Type 0} (t : Bool) (o : Option X) (x : X) → (if t then o else None) ≡ Some x → o ≡ Some x

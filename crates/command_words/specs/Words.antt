@@ -4,7 +4,7 @@ use Rattle.std.specs.List.{slice_index_or}
 use Rattle.std.specs.Str.{bytes_eq}
 use Rattle.command_words.specs.Numbers.{number_in}
 use Rattle.command_words.specs.declared.commands.Command.{Command}
-use Rattle.command_words.specs.declared.commands.Command.TheVariants.{Replay, Windows, Fit, Generate}
+use Rattle.command_words.specs.declared.commands.Command.TheVariants.{Replay, Summary, Capture, Windows, Fit, Generate}
 
 -- the i-th word, or the empty one
 abbrev pub word_at : List (List ℕ) → ℕ → List ℕ
@@ -14,9 +14,11 @@ word_at ws i = slice_index_or ws i []
 abbrev pub bare_command : List ℕ → Option Command
 bare_command word =
     if bytes_eq word (codes "replay") then Some Replay
+    else (if bytes_eq word (codes "summary") then Some Summary
+    else (if bytes_eq word (codes "capture") then Some Capture
     else (if bytes_eq word (codes "windows") then Some Windows
     else (if bytes_eq word (codes "fit") then Some Fit
-    else None))
+    else None))))
 
 -- a seed: 1 to 10 digits, below 2^32
 abbrev pub seed_in : List ℕ → Option ℕ

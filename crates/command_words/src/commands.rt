@@ -5,6 +5,10 @@
 pub enum Command {
     /// `replay`: the report of a document.
     Replay,
+    /// `summary`: a line for each run of a document's cells, the delays and the counters.
+    Summary,
+    /// `capture`: the frames of a document as they arrive.
+    Capture,
     /// `windows`: the windows, the rings and the check of a document.
     Windows,
     /// `fit`: what breaks a document's windows, and the greatest windows that fit.

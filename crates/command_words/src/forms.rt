@@ -14,6 +14,12 @@ fn bare_command(word: &str) -> Option<Command>
     if word == "replay" {
         return Some(Command::Replay);
     }
+    if word == "summary" {
+        return Some(Command::Summary);
+    }
+    if word == "capture" {
+        return Some(Command::Capture);
+    }
     if word == "windows" {
         return Some(Command::Windows);
     }

@@ -18,6 +18,8 @@ fn read(alloc: Global, words: &[&[u8]]) -> Result<Result<Command, WordsFault>, N
 fn one_word_is_a_command(rt: HostRuntime) -> Result<(), Fail> {
     let alloc = rt.alloc();
     assert_eq!(rt; read(alloc, &[b"replay"])?, Ok(Command::Replay));
+    assert_eq!(rt; read(alloc, &[b"summary"])?, Ok(Command::Summary));
+    assert_eq!(rt; read(alloc, &[b"capture"])?, Ok(Command::Capture));
     assert_eq!(rt; read(alloc, &[b"windows"])?, Ok(Command::Windows));
     assert_eq!(rt; read(alloc, &[b"fit"])?, Ok(Command::Fit));
     Ok(())

@@ -4,7 +4,7 @@ use std::test::Fail;
 use top_call::Status;
 
 // The commands that read a document.
-const COMMANDS: [&[u8]; 3] = [b"replay", b"windows", b"fit"];
+const COMMANDS: [&[u8]; 5] = [b"replay", b"summary", b"capture", b"windows", b"fit"];
 
 #[test]
 fn frames_and_messages_are_reported(rt: HostRuntime) -> Result<(), Fail> {
@@ -170,5 +170,41 @@ fn refused_documents_are_answered_with_their_line(rt: HostRuntime) -> Result<(),
             assert_eq!(rt; ran.status().code(), 3);
         }
     }
+    Ok(())
+}
+
+// A command and its data: the sums of its one cell, and its two frames.
+#[test]
+fn the_ordinary_case_is_summed_and_captured(rt: HostRuntime) -> Result<(), Fail> {
+    let alloc = rt.alloc();
+    let document = b"fronthaul 1\nendpoint 0000 ordinary 30 106 static none\ninject dl 9600000 1002001400000080900100000101000000100001fff10000\ninject dl 9700000 1000003c000000809001000000100001000000000001ffff0002fffe0003fffd0004fffc0005fffb0006fffa0007fff90008fff80009fff7000afff6000bfff5\n";
+    let rows: [[&[u8]; 2]; 2] = [
+        [
+            b"summary",
+            b"sum dl 15360000000 0000 1 0 0 0 12 66 -66 0\ncount ru frames 2\ncount ru messages 2\ncount ru c_accepted 1\ncount ru f_whole 1\ncount ru u_taken 1\ncount ru cells 1\nend\n",
+        ],
+        [
+            b"capture",
+            b"FHCAP001\x00\x00\x00\x00\x03n\xe8\x00\x00\x00\x00\x00\x18\x10\x02\x00\x14\x00\x00\x00\x80\x90\x01\x00\x00\x01\x01\x00\x00\x00\x10\x00\x01\xff\xf1\x00\x00\x00\x00\x00\x00\x03x\x0f\xc0\x00\x00\x00\x00@\x10\x00\x00<\x00\x00\x00\x80\x90\x01\x00\x00\x00\x10\x00\x01\x00\x00\x00\x00\x00\x01\xff\xff\x00\x02\xff\xfe\x00\x03\xff\xfd\x00\x04\xff\xfc\x00\x05\xff\xfb\x00\x06\xff\xfa\x00\x07\xff\xf9\x00\x08\xff\xf8\x00\x09\xff\xf7\x00\x0a\xff\xf6\x00\x0b\xff\xf5",
+        ],
+    ];
+    for [word, text] in rows {
+        let ran = run_words(alloc, &[word], document)?;
+        assert_eq!(rt; ran.text(), text);
+        assert_eq!(rt; ran.line(), b"".as_slice());
+        assert_eq!(rt; ran.status(), Status::Done);
+    }
+    Ok(())
+}
+
+#[test]
+fn line_1_alone_has_no_sum_and_no_frame(rt: HostRuntime) -> Result<(), Fail> {
+    let alloc = rt.alloc();
+    let summary = run_words(alloc, &[b"summary"], b"fronthaul 1\n")?;
+    assert_eq!(rt; summary.text(), b"end\n".as_slice());
+    assert_eq!(rt; summary.status(), Status::Done);
+    let capture = run_words(alloc, &[b"capture"], b"fronthaul 1\n")?;
+    assert_eq!(rt; capture.text(), b"FHCAP001".as_slice());
+    assert_eq!(rt; capture.status(), Status::Done);
     Ok(())
 }

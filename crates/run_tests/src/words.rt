@@ -73,7 +73,7 @@ fn a_document_is_generated_and_nothing_read(rt: HostRuntime) -> Result<(), Fail>
 #[test]
 fn a_command_that_reads_meets_the_fault(rt: HostRuntime) -> Result<(), Fail> {
     let alloc = rt.alloc();
-    let words: [&[u8]; 3] = [b"replay", b"windows", b"fit"];
+    let words: [&[u8]; 5] = [b"replay", b"summary", b"capture", b"windows", b"fit"];
     for word in words {
         assert_eq!(rt; status_unread(alloc, &[word])?, Status::ReadFault);
     }

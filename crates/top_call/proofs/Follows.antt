@@ -3,7 +3,7 @@ use Rattle.std.proofs.Common.{◌≡◌, ◌⊎◌, ◌∙◌, inr, ℕ, ◌≤�
 use Rattle.std.specs.Io.KnownBytes.{append_known, IsAtEnd}
 use Rattle.command_words.specs.Words.{command_of}
 use Rattle.command_words.specs.declared.commands.Command.{Command}
-use Rattle.command_words.specs.declared.commands.Command.TheVariants.{Replay, Windows, Fit, Generate}
+use Rattle.command_words.specs.declared.commands.Command.TheVariants.{Replay, Summary, Capture, Windows, Fit, Generate}
 use Rattle.fh_base.specs.Causes.{Rose}
 use Rattle.fh_base.proofs.Known.{append_nothing}
 use Rattle.fh_document.specs.declared.document.Document.{Document}
@@ -17,7 +17,7 @@ use Rattle.window_plan.specs.Fitting.{fitted}
 use Rattle.top_call.specs.declared.status.LineWhy.{LineWhy}
 use Rattle.top_call.specs.declared.status.Status.{Status}
 use Rattle.top_call.specs.declared.status.Status.TheVariants.{Done, BadWords, BadDocument, ReadFault, WriteFault, NoMemory, TooLong, CheckFails, NoFit}
-use Rattle.top_call.specs.Answers.{Answer, answer_of, asked, fit_shown, fit_verdict, is_reading, of_document, replayed, verdict_of, windows_shown}
+use Rattle.top_call.specs.Answers.{Answer, answer_of, asked, captured, fit_shown, fit_verdict, is_reading, of_document, replayed, summarized, verdict_of, windows_shown}
 use Rattle.top_call.specs.Run.{AnswersRun, IsDecided, IsRefusal, Outcome, input_limit}
 
 -- ---- a refusal
@@ -39,6 +39,8 @@ refusal_text : (o : Option Command) (bytes : List ℕ) → IsRefusal (asked o by
 unfolding answer_of
 refusal_text None bytes refusal = refl
 refusal_text (Some Replay) bytes refusal = document_text replayed (document_of bytes) (λ d r. r) refusal
+refusal_text (Some Summary) bytes refusal = document_text summarized (document_of bytes) (λ d r. r) refusal
+refusal_text (Some Capture) bytes refusal = document_text captured (document_of bytes) (λ d r. r) refusal
 refusal_text (Some Windows) bytes refusal = document_text (λ d. windows_shown d.config) (document_of bytes) (λ d. check_refuses_nothing (checked d.config.delays)) refusal
 refusal_text (Some Fit) bytes refusal = document_text (λ d. fit_shown d.config.delays) (document_of bytes) (λ d. fit_refuses_nothing (fitted d.config.delays)) refusal
 refusal_text (Some (Generate seed slots)) bytes refusal = absurd refusal
@@ -80,6 +82,8 @@ only_readers_refuse : (o : Option Command) (bytes : List ℕ) (line : ℕ) (why 
 unfolding answer_of
 only_readers_refuse None bytes line why e = cc
 only_readers_refuse (Some Replay) bytes line why e = refl
+only_readers_refuse (Some Summary) bytes line why e = refl
+only_readers_refuse (Some Capture) bytes line why e = refl
 only_readers_refuse (Some Windows) bytes line why e = refl
 only_readers_refuse (Some Fit) bytes line why e = refl
 only_readers_refuse (Some (Generate seed slots)) bytes line why e = cc

@@ -4,7 +4,7 @@ use Rattle.std.specs.Io.KnownBytes.{prepend_known, append_known, IsAtEnd}
 use Rattle.std.proofs.lemmas.Result.{IfOk-weaker}
 use Rattle.command_words.specs.Words.{command_of}
 use Rattle.command_words.specs.declared.commands.Command.{Command}
-use Rattle.command_words.specs.declared.commands.Command.TheVariants.{Replay, Windows, Fit, Generate}
+use Rattle.command_words.specs.declared.commands.Command.TheVariants.{Replay, Summary, Capture, Windows, Fit, Generate}
 use Rattle.fh_base.specs.Causes.{Rose}
 use Rattle.fh_base.specs.Told.{WritesFront}
 use Rattle.fh_base.specs.declared.fault.ReadAllFault.{ReadAllFault}
@@ -97,6 +97,8 @@ performed words command came left_old left_new s t old new before now status is 
 same_answer : (command : Command) (bytes : List ℕ) → reads command ≡ false → answer_of command bytes ≡ answer_of command []
 unfolding answer_of
 same_answer Replay bytes h = cc
+same_answer Summary bytes h = cc
+same_answer Capture bytes h = cc
 same_answer Windows bytes h = cc
 same_answer Fit bytes h = cc
 same_answer (Generate seed slots) bytes h = refl

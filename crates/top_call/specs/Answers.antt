@@ -1,12 +1,12 @@
 -- What the words and the input name: the one text, and the status of a run that nothing keeps from its end.
 use Rattle.std.specs.Prelude.{ℕ, List, [], Bool, true, false, Option, None, Some, Result, Ok, Err}
 use Rattle.command_words.specs.declared.commands.Command.{Command}
-use Rattle.command_words.specs.declared.commands.Command.TheVariants.{Replay, Windows, Fit, Generate}
+use Rattle.command_words.specs.declared.commands.Command.TheVariants.{Replay, Summary, Capture, Windows, Fit, Generate}
 use Rattle.fh_document.specs.declared.document.Document.{Document}
 use Rattle.fh_document.specs.declared.refusals.DocWhy.{DocWhy}
 use Rattle.fh_document.specs.Document.{document_of}
 use Rattle.fh_document.specs.Generated.{generated}
-use Rattle.fronthaul_replay.specs.Reports.{injected_report}
+use Rattle.fronthaul_replay.specs.Reports.{capture_of, injected_report, summary_of}
 use Rattle.window_config.specs.declared.config.Config.{Config}
 use Rattle.window_config.specs.declared.delays.Delays.{Delays}
 use Rattle.window_config.specs.declared.relations.Failing.{Failing}
@@ -38,6 +38,14 @@ of_document answer (Err (line, why)) = refused (BadDocument line (Doc why))
 -- `replay`: the report of the document's events
 abbrev pub replayed : Document → Answer
 replayed d = record { text = injected_report d; status = Done }
+
+-- `summary`: the summary of the same events
+abbrev pub summarized : Document → Answer
+summarized d = record { text = summary_of d; status = Done }
+
+-- `capture`: the frames among them, as records
+abbrev pub captured : Document → Answer
+captured d = record { text = capture_of d; status = Done }
 
 -- the verdict of the check: the first relation that fails
 abbrev pub verdict_of : Result (Unit {0}) Failing → Status
@@ -74,6 +82,8 @@ generated_document seed slots = record { text = generated seed slots; status = D
 -- whether a command reads its input
 abbrev pub reads : Command → Bool
 reads Replay = true
+reads Summary = true
+reads Capture = true
 reads Windows = true
 reads Fit = true
 reads (Generate seed slots) = false
@@ -81,6 +91,8 @@ reads (Generate seed slots) = false
 -- what a command answers of a whole input
 unfoldable pub answer_of : Command → List ℕ → Answer
 answer_of Replay bytes = of_document replayed (document_of bytes)
+answer_of Summary bytes = of_document summarized (document_of bytes)
+answer_of Capture bytes = of_document captured (document_of bytes)
 answer_of Windows bytes = of_document (λ d. windows_shown d.config) (document_of bytes)
 answer_of Fit bytes = of_document (λ d. fit_shown d.config.delays) (document_of bytes)
 answer_of (Generate seed slots) bytes = generated_document seed slots

@@ -4,18 +4,22 @@ ghost use Rattle.command_words.specs.Words.{IsProper};
 ghost use Rattle.top_call.specs.Answers.{answer_of, reads};
 ghost use Rattle.top_call.specs.Run.{Performs};
 
+mod capture;
 mod fit;
 mod generate;
 mod replay;
+mod summary;
 mod windows;
 
 use crate::status::Status;
+use capture::write_capture;
 use command_words::Command;
 use fh_base::Sink;
 use fit::write_fit;
 use generate::write_document;
 use replay::write_report;
 use std::alloc::Global;
+use summary::write_summary;
 use windows::write_windows;
 
 /// Whether a command reads its input.
@@ -23,7 +27,11 @@ pub(crate) fn reads(command: Command) -> bool
     ensures { result ≡ reads command }
 {
     match command {
-        Command::Replay | Command::Windows | Command::Fit => true,
+        Command::Replay
+        | Command::Summary
+        | Command::Capture
+        | Command::Windows
+        | Command::Fit => true,
         Command::Generate { .. } => false,
     }
 }
@@ -36,6 +44,8 @@ pub(crate) fn perform<K: Sink>(alloc: Global, command: Command, bytes: &[u8], ou
 {
     match command {
         Command::Replay => write_report(alloc, bytes, out),
+        Command::Summary => write_summary(alloc, bytes, out),
+        Command::Capture => write_capture(alloc, bytes, out),
         Command::Windows => write_windows(alloc, bytes, out),
         Command::Fit => write_fit(alloc, bytes, out),
         Command::Generate { seed, slots } => write_document(alloc, seed, slots, out),
