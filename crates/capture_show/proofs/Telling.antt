@@ -1,5 +1,5 @@
 -- Lines that are told one after the other.
-use Rattle.std.proofs.Common.{◌≡◌, ℕ, Bool, true, false, List, [], ◌∷◌, ◌++◌, Option, refl, sym, ap, ap₂, subst, append_assoc, append-nil, ◌∙◌}
+use Rattle.std.proofs.Common.{◌≡◌, ℕ, Bool, true, List, [], ◌∷◌, ◌++◌, Option, refl, sym, ap, ap₂, subst, append_assoc, append-nil, ◌∙◌}
 use Rattle.fh_base.specs.Told.{WritesFront}
 use Rattle.fh_base.proofs.Progress.{front_first}
 use Rattle.owed_bytes.specs.Owed.{Carried}

@@ -5,7 +5,6 @@ use Rattle.serde_json.specs.Data.{Data, number, unsigned, string, object, array,
 use Rattle.serde_json.specs.Find.{of_integer}
 use Rattle.serde_json.specs.View.{items_of}
 use Rattle.serde_json.specs.Written.{compact_text, comma_if}
-use Rattle.capture_show.specs.declared.values.Kind.{Kind}
 use Rattle.capture_show.specs.declared.values.Field.{Field}
 use Rattle.capture_show.specs.declared.values.Field.TheVariants.{Count, Signed, Word}
 use Rattle.capture_show.specs.declared.values.Member.{Member}

@@ -146,17 +146,17 @@ fn tell_fault<K: Sink>(
 // Tells a record, the number-th from 1.
 fn tell_record<K: Sink>(
     number: u64,
-    record: &Record<'_>,
+    entry: &Record<'_>,
     printer: &mut Printer,
     out: &mut K,
 ) -> Result<(), SinkFault>
-    ensures told { OnOk result (Told (state_of printer.old (K.written out.old)) (state_of printer.new (K.written out.new)) (record_lines number (arrived_of record.now))) }
-    ensures front { OnErr result (Stopped (state_of printer.old (K.written out.old)) (K.written out.new) (record_lines number (arrived_of record.now))) }
+    ensures told { OnOk result (Told (state_of printer.old (K.written out.old)) (state_of printer.new (K.written out.new)) (record_lines number (arrived_of entry.now))) }
+    ensures front { OnErr result (Stopped (state_of printer.old (K.written out.old)) (K.written out.new) (record_lines number (arrived_of entry.now))) }
     ensures cause { HasWriteCause (K.faults out.old) (K.faults out.new) result }
 {
-    printer.tell(&frame_line(number, record), out)?;
-    tell_messages(record.frame, printer, out)?;
-    tell_fault(messages(record.frame).refusal(), printer, out)
+    printer.tell(&frame_line(number, entry), out)?;
+    tell_messages(entry.frame, printer, out)?;
+    tell_fault(messages(entry.frame).refusal(), printer, out)
 }
 
 /// Tells the records of a capture that passed the tests.
@@ -171,9 +171,9 @@ pub fn tell_records<K: Sink>(
     ensures cause { HasWriteCause (K.faults out.old) (K.faults out.new) result }
 {
     let mut number = 0;
-    for record in records(bytes) {
+    for entry in records(bytes) {
         number += 1;
-        tell_record(number, &record, printer, out)?;
+        tell_record(number, &entry, printer, out)?;
     }
     Ok(())
 }

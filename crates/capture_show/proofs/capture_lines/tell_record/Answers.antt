@@ -15,9 +15,9 @@ returns-in_err-tell-clause-front g c =
     let s = state_of c.args.printer.now (w c.args.out.now) in
     let v = w c.tell.new.out in
     let first = c.frame_line.result ∷ [] in
-    let ms = messages_lines (whole_messages c.args.record.now.frame.now) in
-    let br = broken_lines (pdu c.args.record.now.frame.now).refusal in
-    let all : (c.frame_line.result ∷ ms) ++ br ≡ record_lines c.args.number (arrived_of c.args.record.now) = ap (λ l. (l ∷ ms) ++ br) c.frame_line.ensures in
+    let ms = messages_lines (whole_messages c.args.entry.now.frame.now) in
+    let br = broken_lines (pdu c.args.entry.now.frame.now).refusal in
+    let all : (c.frame_line.result ∷ ms) ++ br ≡ record_lines c.args.number (arrived_of c.args.entry.now) = ap (λ l. (l ∷ ms) ++ br) c.frame_line.ensures in
     anyhow c.from_residual.result
     (stopped_as s v (first ++ ms ++ br) _ all (stopped_before s v (first ++ ms) br (stopped_before s v first ms c.in_err-tell.ensures.front)))
 
@@ -27,10 +27,10 @@ returns-in_err-tell_messages-clause-front g c =
     let s = state_of c.args.printer.now (w c.args.out.now) in
     let t = state_of c.tell.new.self (w c.tell.new.out) in
     let first = c.frame_line.result ∷ [] in
-    let ms = messages_lines (whole_messages c.args.record.now.frame.now) in
+    let ms = messages_lines (whole_messages c.args.entry.now.frame.now) in
     let v = w c.tell_messages.new.out in
-    let br = broken_lines (pdu c.args.record.now.frame.now).refusal in
-    let all : (c.frame_line.result ∷ ms) ++ br ≡ record_lines c.args.number (arrived_of c.args.record.now) = ap (λ l. (l ∷ ms) ++ br) c.frame_line.ensures in
+    let br = broken_lines (pdu c.args.entry.now.frame.now).refusal in
+    let all : (c.frame_line.result ∷ ms) ++ br ≡ record_lines c.args.number (arrived_of c.args.entry.now) = ap (λ l. (l ∷ ms) ++ br) c.frame_line.ensures in
     anyhow c.from_residual-in_err-tell_messages.result
     (stopped_as s v (first ++ ms ++ br) _ all
     (stopped_before s v (first ++ ms) br (stopped_behind s t v first ms c.in_ok-tell.ensures.told c.in_err-tell_messages.ensures.front)))
@@ -41,11 +41,11 @@ returns-clause-told g c =
     let s = state_of c.args.printer.now (w c.args.out.now) in
     let t = state_of c.tell.new.self (w c.tell.new.out) in
     let first = c.frame_line.result ∷ [] in
-    let ms = messages_lines (whole_messages c.args.record.now.frame.now) in
+    let ms = messages_lines (whole_messages c.args.entry.now.frame.now) in
     let u = state_of c.tell_messages.new.printer (w c.tell_messages.new.out) in
     let br = broken_lines c.refusal.result in
     let fault = c.refusal.ensures ∙ ap (λ f. (pdu f).refusal) c.messages.ensures.frame in
-    let all : (c.frame_line.result ∷ ms) ++ br ≡ record_lines c.args.number (arrived_of c.args.record.now)
+    let all : (c.frame_line.result ∷ ms) ++ br ≡ record_lines c.args.number (arrived_of c.args.entry.now)
     = ap₂ (λ l r. (l ∷ ms) ++ broken_lines r) c.frame_line.ensures fault in
     let both = told_more s t u first ms c.in_ok-tell.ensures.told c.in_ok-tell_messages.ensures.told in
     let x = state_of c.tell_fault.new.printer (w c.tell_fault.new.out) in
@@ -57,11 +57,11 @@ returns-clause-front g c =
     let s = state_of c.args.printer.now (w c.args.out.now) in
     let t = state_of c.tell.new.self (w c.tell.new.out) in
     let first = c.frame_line.result ∷ [] in
-    let ms = messages_lines (whole_messages c.args.record.now.frame.now) in
+    let ms = messages_lines (whole_messages c.args.entry.now.frame.now) in
     let u = state_of c.tell_messages.new.printer (w c.tell_messages.new.out) in
     let br = broken_lines c.refusal.result in
     let fault = c.refusal.ensures ∙ ap (λ f. (pdu f).refusal) c.messages.ensures.frame in
-    let all : (c.frame_line.result ∷ ms) ++ br ≡ record_lines c.args.number (arrived_of c.args.record.now)
+    let all : (c.frame_line.result ∷ ms) ++ br ≡ record_lines c.args.number (arrived_of c.args.entry.now)
     = ap₂ (λ l r. (l ∷ ms) ++ broken_lines r) c.frame_line.ensures fault in
     let both = told_more s t u first ms c.in_ok-tell.ensures.told c.in_ok-tell_messages.ensures.told in
     let v = w c.tell_fault.new.out in

@@ -1,42 +1,42 @@
-use Rattle.std.proofs.Common.{◌≡◌, ◌++◌, ◌+◌, length, ap, ◌∙◌, arith}
+use Rattle.std.proofs.Common.{◌+◌, length, ap, ◌∙◌, arith}
 use Rattle.capture_records.specs.Left.{left_of}
 use Rattle.capture_records.specs.Records.{arrived_of}
-use Rattle.capture_show.specs.Messages.{record_lines, records_lines}
+use Rattle.capture_show.specs.Messages.{records_lines}
 use Rattle.capture_show.proofs.Members.{anyhow}
 use Rattle.capture_show.proofs.Pieces.{records_step, records_none}
 use Rattle.capture_show.proofs.Telling.{so_far_none, so_far_more, so_far_all, so_far_stopped}
 use Rattle.capture_show.proofs.capture_lines.tell_records.Goals as goal
 
-pub loop-record-init : goal.loop-record-init
-loop-record-init g c =
-    let left = ap left_of c.into_iter-record-iterator.ensures.into_iter_gives ∙ c.records-record-items.ensures.records in
-    let same = ap (λ it. length (left_of it)) c.into_iter-record-iterator.ensures.into_iter_gives in
+pub loop-entry-init : goal.loop-entry-init
+loop-entry-init g c =
+    let left = ap left_of c.into_iter-entry-iterator.ensures.into_iter_gives ∙ c.records-entry-items.ensures.records in
+    let same = ap (λ it. length (left_of it)) c.into_iter-entry-iterator.ensures.into_iter_gives in
     record {
       so_far = so_far_none _ _ _ (ap (records_lines 1) left);
-      few = omega (arith, same, c.records-record-items.ensures.few);
+      few = omega (arith, same, c.records-entry-items.ensures.few);
       later = omega arith;
     }
 
-pub loop-record-preserved : goal.loop-record-preserved
-loop-record-preserved g c =
-    let n = c.loop-record.number in
+pub loop-entry-preserved : goal.loop-entry-preserved
+loop-entry-preserved g c =
+    let n = c.loop-entry.number in
     let rest = left_of c.next.new.self in
-    let left = records_step (n + 1) (arrived_of c.in-Some.record) rest (left_of c.loop-record.record-iterator) c.in-Some.ensures.steps in
+    let left = records_step (n + 1) (arrived_of c.in-Some.entry) rest (left_of c.loop-entry.entry-iterator) c.in-Some.ensures.steps in
     let longer = ap (λ rs. length rs) c.in-Some.ensures.steps in
     record {
-      so_far = so_far_more _ _ _ _ _ (records_lines (n + 1 + 1) rest) _ left c.loop-record.invariant.so_far c.in_ok-tell_record.ensures.told;
-      few = omega (arith, longer, c.loop-record.invariant.few);
-      later = omega (arith, c.loop-record.invariant.later, c.in_ok-tell_record.ensures.cause.later);
+      so_far = so_far_more _ _ _ _ _ (records_lines (n + 1 + 1) rest) _ left c.loop-entry.invariant.so_far c.in_ok-tell_record.ensures.told;
+      few = omega (arith, longer, c.loop-entry.invariant.few);
+      later = omega (arith, c.loop-entry.invariant.later, c.in_ok-tell_record.ensures.cause.later);
     }
 
 pub returns-in_err-tell_record-clause-front : goal.returns-in_err-tell_record-clause-front
 returns-in_err-tell_record-clause-front g c =
-    let n = c.loop-record.number in
+    let n = c.loop-entry.number in
     let rest = left_of c.next.new.self in
-    let left = records_step (n + 1) (arrived_of c.in-Some.record) rest (left_of c.loop-record.record-iterator) c.in-Some.ensures.steps in
+    let left = records_step (n + 1) (arrived_of c.in-Some.entry) rest (left_of c.loop-entry.entry-iterator) c.in-Some.ensures.steps in
     anyhow c.from_residual.result
-    (so_far_stopped _ _ _ _ _ (records_lines (n + 1 + 1) rest) _ left c.loop-record.invariant.so_far c.in_err-tell_record.ensures.front)
+    (so_far_stopped _ _ _ _ _ (records_lines (n + 1 + 1) rest) _ left c.loop-entry.invariant.so_far c.in_err-tell_record.ensures.front)
 
 pub returns-clause-told : goal.returns-clause-told
 returns-clause-told g c =
-    so_far_all _ _ _ _ (records_none (c.loop-record.number + 1) (left_of c.loop-record.record-iterator) c.in-None.ensures.steps.0) c.loop-record.invariant.so_far
+    so_far_all _ _ _ _ (records_none (c.loop-entry.number + 1) (left_of c.loop-entry.entry-iterator) c.in-None.ensures.steps.0) c.loop-entry.invariant.so_far
