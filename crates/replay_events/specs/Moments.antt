@@ -5,6 +5,7 @@ use Rattle.std.specs.Ordering.{int_eq}
 use Rattle.unit_model.specs.Lists.{onto}
 use Rattle.unit_model.specs.Meetings.{Arrival}
 use Rattle.unit_model.specs.Radiated.{first_clock}
+pub use Rattle.unit_model.specs.Times.{end_of_time}
 
 -- of these frames, listed in any order of their times, those that land at a tick, as they are listed
 abbrev pub landing_at : List Arrival → ℤ → List Arrival
@@ -19,9 +20,6 @@ arrivals_in landings (suc n) = onto (arrivals_in landings n) (landing_at landing
 abbrev pub arrivals_before : List Arrival → ℤ → List Arrival
 arrivals_before landings tick = arrivals_in landings (int_gap first_clock tick)
 
--- 1,001 s in ticks: frames land in the first 1,000 s, and the symbols that they command start milliseconds later
-abbrev pub end_of_time : ℤ
-end_of_time = pos 1537536000000000
-
+-- all that land
 abbrev pub all_arrivals : List Arrival → List Arrival
 all_arrivals landings = arrivals_before landings (end_of_time +ℤ pos 1)

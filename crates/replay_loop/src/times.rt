@@ -9,8 +9,8 @@ use fh_time::Ticks;
 /// One frame before 0, where the unit's clock begins.
 pub(crate) const FIRST_CLOCK: Ticks = Ticks(-15_360_000_000);
 
-/// The time up to which cells are reported: 1,001 s.
-const END: Ticks = Ticks(1_537_536_000_000_000);
+/// The time up to which cells are reported: 1,100 s.
+const END: Ticks = Ticks(1_689_600_000_000_000);
 
 /// The earlier of two times, where there are any.
 pub(crate) fn earlier_of(a: Option<Ticks>, b: Option<Ticks>) -> Option<Ticks>

@@ -20,3 +20,4 @@ pub mod RunLemmas
 pub mod FrameLemmas
 pub mod TickLemmas
 pub mod TouchLemmas
+pub mod EndLemmas

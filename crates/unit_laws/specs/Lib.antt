@@ -12,4 +12,5 @@ pub mod Lookups
 pub mod Histories
 pub mod Runs
 pub mod Ticks
+pub mod Ends
 pub mod Touched

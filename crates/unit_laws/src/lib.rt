@@ -8,6 +8,7 @@
 ghost use Rattle.unit_laws.specs.Acceptance.{AcceptedIsAcceptable};
 ghost use Rattle.unit_laws.specs.Changes.{OnlyAcceptedClaims, ClaimsStay, OnlyTimelyGives, BlocksStay};
 ghost use Rattle.unit_laws.specs.Due.{ReportedAreDifferent, DueAreDifferent, AllIsDue, DueInPieces, DueOnce, DueAppends};
+ghost use Rattle.unit_laws.specs.Ends.{CellsEnd, JobsEnd, NoCellsLater, NoJobsLater};
 ghost use Rattle.unit_laws.specs.Far.{AcceptedAreReached, TimelyAreReached, FarIsUnclaimed, FarHasNoUplink, FarHasNoBlock};
 ghost use Rattle.unit_laws.specs.Live.{AcceptedIsLive, TimelyIsLive};
 ghost use Rattle.air_source.specs.declared.events.AirCell.{AirCell};
@@ -243,4 +244,13 @@ pub fn only_live_slots_change()
 /// An accepted uplink section stands first among those of its slot, and no other command changes them.
 pub fn uplink_grows()
     ensures { UplinkGrows }
+{}
+
+/// A second after the last arrival nothing is told any more, so all cells are reported and all messages are sent by the end of
+/// time.
+pub fn all_is_told()
+    ensures no_cells { NoCellsLater }
+    ensures no_jobs { NoJobsLater }
+    ensures cells { CellsEnd }
+    ensures jobs { JobsEnd }
 {}

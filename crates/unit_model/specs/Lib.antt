@@ -6,6 +6,7 @@ pub mod Commands
 pub mod Blocks
 pub mod Proper
 pub mod Sound
+pub mod Times
 pub mod Sweeps
 pub mod Order
 pub mod Radiated
