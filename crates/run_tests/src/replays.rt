@@ -177,7 +177,8 @@ fn refused_documents_are_answered_with_their_line(rt: HostRuntime) -> Result<(),
 #[test]
 fn the_ordinary_case_is_summed_and_captured(rt: HostRuntime) -> Result<(), Fail> {
     let alloc = rt.alloc();
-    let document = b"fronthaul 1\nendpoint 0000 ordinary 30 106 static none\ninject dl 9600000 1002001400000080900100000101000000100001fff10000\ninject dl 9700000 1000003c000000809001000000100001000000000001ffff0002fffe0003fffd0004fffc0005fffb0006fffa0007fff90008fff80009fff7000afff6000bfff5\n";
+    let document =
+        b"fronthaul 1\nendpoint 0000 ordinary 30 106 static none\ninject dl 9600000 1002001400000080900100000101000000100001fff10000\ninject dl 9700000 1000003c000000809001000000100001000000000001ffff0002fffe0003fffd0004fffc0005fffb0006fffa0007fff90008fff80009fff7000afff6000bfff5\n";
     let rows: [[&[u8]; 2]; 2] = [
         [
             b"summary",

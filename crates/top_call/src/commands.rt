@@ -27,11 +27,8 @@ pub(crate) fn reads(command: Command) -> bool
     ensures { result ≡ reads command }
 {
     match command {
-        Command::Replay
-        | Command::Summary
-        | Command::Capture
-        | Command::Windows
-        | Command::Fit => true,
+        Command::Replay | Command::Summary | Command::Capture | Command::Windows | Command::Fit =>
+            true,
         Command::Generate { .. } => false,
     }
 }
