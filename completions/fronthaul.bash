@@ -1,9 +1,11 @@
 # Completion of fronthaul's words for bash: source this file, or put it where bash-completion looks.
 _fronthaul() {
-    local commands='replay summary capture windows fit generate'
+    local commands='replay summary capture show windows fit generate'
     COMPREPLY=()
     if [ "$COMP_CWORD" -eq 1 ]; then
         COMPREPLY=($(compgen -W "$commands" -- "${COMP_WORDS[1]}"))
+    elif [ "$COMP_CWORD" -eq 2 ] && [ "${COMP_WORDS[1]}" = show ]; then
+        COMPREPLY=($(compgen -W --json -- "${COMP_WORDS[2]}"))
     fi
 }
 complete -F _fronthaul fronthaul

@@ -8,9 +8,9 @@ use Rattle.std.proofs.lemmas.Slice.Eq.{bytes_eq-Decides}
 use Rattle.std.proofs.lemmas.Str.Ascii.{IsAscii-nil, IsAscii-cons}
 use Rattle.std.proofs.lemmas.Bool.Decides.{nat_tests}
 use Rattle.command_words.specs.Numbers.{number_in, is_decimal}
-use Rattle.command_words.specs.Words.{bare_command, command_with_two, command_of, with_numbers, seed_in, slots_in, word_at}
+use Rattle.command_words.specs.Words.{bare_command, command_with_one, command_with_two, command_of, with_numbers, seed_in, slots_in, word_at}
 use Rattle.command_words.specs.declared.commands.Command.{Command}
-use Rattle.command_words.specs.declared.commands.Command.TheVariants.{Replay, Summary, Capture, Windows, Fit, Generate}
+use Rattle.command_words.specs.declared.commands.Command.TheVariants.{Replay, Summary, Capture, Show, Windows, Fit, Generate}
 use Rattle.command_words.proofs.Walks.{IsPlainWord, plain_word_is, ArePlain}
 
 -- of ASCII, and begun by no hyphen
@@ -81,13 +81,14 @@ number_plain most low high n w e = decimal_plain w (number_decimal most low high
 
 -- ---- the commands
 
-bare_plain : (w : List ℕ) (c : Command) → bare_command w ≡ Some c → is_plain w ≡ true
+pub bare_plain : (w : List ℕ) (c : Command) → bare_command w ≡ Some c → is_plain w ≡ true
 bare_plain w c e =
     literal_or (codes "replay") w (Some Replay) _ c refl e (λ e.
     literal_or (codes "summary") w (Some Summary) _ c refl e (λ e.
     literal_or (codes "capture") w (Some Capture) _ c refl e (λ e.
+    literal_or (codes "show") w (Some (Show false)) _ c refl e (λ e.
     literal_or (codes "windows") w (Some Windows) _ c refl e (λ e.
-    literal_or (codes "fit") w (Some Fit) None c refl e (λ e. cc)))))
+    literal_or (codes "fit") w (Some Fit) None c refl e (λ e. cc))))))
 
 -- where a literal stands first, what it gives is wanted
 pub if_some : {X : Type 0} (t : Bool) (o : Option X) (x : X) → (if t then o else None) ≡ Some x → o ≡ Some x
@@ -102,34 +103,45 @@ numbers_plain make first second c e = go (seed_in first) (slots_in second) refl 
     go (Some x) None is_m is_n e = cc
     go (Some x) (Some y) is_m is_n e = (number_plain 10 0 4294967295 x first is_m, number_plain 3 1 400 y second is_n)
 
-two_plain : (w first second : List ℕ) (c : Command) → command_with_two w first second ≡ Some c → (is_plain w ≡ true) × (is_plain first ≡ true) × (is_plain second ≡ true)
+pub two_plain : (w first second : List ℕ) (c : Command) → command_with_two w first second ≡ Some c → (is_plain w ≡ true) × (is_plain first ≡ true) × (is_plain second ≡ true)
 two_plain w first second c e =
     let numbers = numbers_plain Generate first second c (if_some (bytes_eq w (codes "generate")) _ c e) in
     (literal_or (codes "generate") w _ None c refl e (λ e. cc), numbers.0, numbers.1)
 
--- few words, all of them plain
-pub record AreFew (ws : List (List ℕ)) : Type 0 where
-  pub few : length ws ≤ 4
-  pub plain : list_all is_plain ws ≡ true
+-- two words are the word and the flag
+pub one_is : (w flag : List ℕ) (c : Command) → command_with_one w flag ≡ Some c → (w ≡ codes "show") × (flag ≡ codes "--json")
+one_is w flag c e = go (bytes_eq w (codes "show")) (bytes_eq flag (codes "--json")) refl refl e
+  where
+    go : (s t : Bool) → bytes_eq w (codes "show") ≡ s → bytes_eq flag (codes "--json") ≡ t → (if s && t then Some (Show true) else None) ≡ Some c → (w ≡ codes "show") × (flag ≡ codes "--json")
+    go true true first second e = (same_text w (codes "show") first, same_text flag (codes "--json") second)
+    go true false first second e = cc
+    go false t first second e = cc
 
-pub few_of : (ws : List (List ℕ)) (c : Command) → command_of ws ≡ Some c → AreFew ws
-few_of [] c e = cc
-few_of (a ∷ []) c e = record { few = omega arith; plain = rw (bare_plain a c e) refl }
-few_of (a ∷ b ∷ []) c e = cc
-few_of (a ∷ b ∷ d ∷ []) c e =
+abbrev pub is_ascii : List ℕ → Bool
+is_ascii w = list_all (λ b. nat_lt b 128) w
+
+pub plain_ascii : (w : List ℕ) → is_plain w ≡ true → is_ascii w ≡ true
+plain_ascii w e = (both_true (not (slice_index w 0 == 45)) (is_ascii w) e).1
+
+-- all words of a command are of ASCII
+pub ascii_of : (ws : List (List ℕ)) (c : Command) → command_of ws ≡ Some c → list_all is_ascii ws ≡ true
+ascii_of [] c e = cc
+ascii_of (a ∷ []) c e = rw (plain_ascii a (bare_plain a c e)) refl
+ascii_of (a ∷ b ∷ []) c e =
+    let is = one_is a b c e in
+    let first : is_ascii a ≡ true = subst (λ (w : List ℕ). is_ascii w ≡ true) (sym is.0) refl in
+    let second : is_ascii b ≡ true = subst (λ (w : List ℕ). is_ascii w ≡ true) (sym is.1) refl in
+    rw (first, second) refl
+ascii_of (a ∷ b ∷ d ∷ []) c e =
     let p = two_plain a b d c e in
-    record { few = omega arith; plain = rw (p.0, p.1, p.2) refl }
-few_of (a ∷ b ∷ d ∷ f ∷ ws) c e = cc
+    rw (plain_ascii a p.0, plain_ascii b p.1, plain_ascii d p.2) refl
+ascii_of (a ∷ b ∷ d ∷ f ∷ ws) c e = cc
 
 -- ---- what plain words are
 
-plain_word : (w : List ℕ) → is_plain w ≡ true → IsPlainWord w
+pub plain_word : (w : List ℕ) → is_plain w ≡ true → IsPlainWord w
 plain_word [] e = record { no_end = refl; no_long = refl; no_short = refl }
 plain_word (x ∷ xs) e = plain_word_is x xs (not_true (x == 45) (both_true (not (x == 45)) (list_all (λ b. nat_lt b 128) (x ∷ xs)) e).0)
-
-pub are_plain : (ws : List (List ℕ)) → list_all is_plain ws ≡ true → ArePlain ws
-are_plain [] e = tt
-are_plain (w ∷ ws) e = let both = both_true (is_plain w) (list_all is_plain ws) e in (plain_word w both.0, are_plain ws both.1)
 
 ascii_from : (w : List ℕ) → list_all (λ b. nat_lt b 128) w ≡ true → IsAscii w
 ascii_from [] e = IsAscii-nil
@@ -139,10 +151,8 @@ ascii_from (b ∷ bs) e =
     let below : b < 128 = grind (arith, nat_tests) in
     IsAscii-cons b bs below (ascii_from bs both.1)
 
--- each word of them is of ASCII
-pub word_ascii : (ws : List (List ℕ)) (i : ℕ) → i < length ws → list_all is_plain ws ≡ true → IsAscii (word_at ws i)
+-- each word of them
+pub word_ascii : (ws : List (List ℕ)) (i : ℕ) → i < length ws → list_all is_ascii ws ≡ true → IsAscii (word_at ws i)
 word_ascii [] i lt e = absurd (omega arith)
-word_ascii (w ∷ ws) zero lt e =
-    let both = both_true (is_plain w) (list_all is_plain ws) e in
-    ascii_from w (both_true (not (slice_index w 0 == 45)) (list_all (λ b. nat_lt b 128) w) both.0).1
-word_ascii (w ∷ ws) (suc i) lt e = word_ascii ws i (omega arith) (both_true (is_plain w) (list_all is_plain ws) e).1
+word_ascii (w ∷ ws) zero lt e = ascii_from w (both_true (is_ascii w) (list_all is_ascii ws) e).0
+word_ascii (w ∷ ws) (suc i) lt e = word_ascii ws i (omega arith) (both_true (is_ascii w) (list_all is_ascii ws) e).1

@@ -1,10 +1,10 @@
 -- The words of the command line (this project's profile).
-use Rattle.std.specs.Prelude.{ℕ, ◌≤◌, List, [], ◌∷◌, Option, None, Some, if◌then◌else◌, codes}
+use Rattle.std.specs.Prelude.{ℕ, ◌≤◌, List, [], ◌∷◌, true, false, ◌&&◌, Option, None, Some, if◌then◌else◌, codes}
 use Rattle.std.specs.List.{slice_index_or}
 use Rattle.std.specs.Str.{bytes_eq}
 use Rattle.command_words.specs.Numbers.{number_in}
 use Rattle.command_words.specs.declared.commands.Command.{Command}
-use Rattle.command_words.specs.declared.commands.Command.TheVariants.{Replay, Summary, Capture, Windows, Fit, Generate}
+use Rattle.command_words.specs.declared.commands.Command.TheVariants.{Replay, Summary, Capture, Show, Windows, Fit, Generate}
 
 -- the i-th word, or the empty one
 abbrev pub word_at : List (List ℕ) → ℕ → List ℕ
@@ -16,9 +16,15 @@ bare_command word =
     if bytes_eq word (codes "replay") then Some Replay
     else (if bytes_eq word (codes "summary") then Some Summary
     else (if bytes_eq word (codes "capture") then Some Capture
+    else (if bytes_eq word (codes "show") then Some (Show false)
     else (if bytes_eq word (codes "windows") then Some Windows
     else (if bytes_eq word (codes "fit") then Some Fit
-    else None))))
+    else None)))))
+
+-- the command that two words are
+abbrev pub command_with_one : List ℕ → List ℕ → Option Command
+command_with_one word flag =
+    if bytes_eq word (codes "show") && bytes_eq flag (codes "--json") then Some (Show true) else None
 
 -- a seed: 1 to 10 digits, below 2^32
 abbrev pub seed_in : List ℕ → Option ℕ
@@ -43,6 +49,7 @@ command_with_two word first second =
 -- the command that the words are
 abbrev pub command_of : List (List ℕ) → Option Command
 command_of (word ∷ []) = bare_command word
+command_of (word ∷ flag ∷ []) = command_with_one word flag
 command_of (word ∷ first ∷ second ∷ []) = command_with_two word first second
 command_of words = None
 

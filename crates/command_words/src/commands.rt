@@ -9,6 +9,10 @@ pub enum Command {
     Summary,
     /// `capture`: the frames of a document as they arrive.
     Capture,
+    /// `show`: the fields of a capture's frames, as lines or, with `--json`, as JSON.
+    Show {
+        json: bool,
+    },
     /// `windows`: the windows, the rings and the check of a document.
     Windows,
     /// `fit`: what breaks a document's windows, and the greatest windows that fit.

@@ -1,6 +1,6 @@
 // The commands by their words: of a list of words, and of what a parse found.
 ghost use Rattle.std.specs.Prelude.{◌≡◌, IfSome, map, option_map};
-ghost use Rattle.command_words.specs.Words.{IsProper, bare_command, command_of, command_with_two};
+ghost use Rattle.command_words.specs.Words.{IsProper, bare_command, command_of, command_with_one, command_with_two};
 ghost use Rattle.command_words.specs.Parsed.{spelled};
 
 use crate::commands::Command;
@@ -20,11 +20,25 @@ fn bare_command(word: &str) -> Option<Command>
     if word == "capture" {
         return Some(Command::Capture);
     }
+    if word == "show" {
+        return Some(Command::Show { json: false });
+    }
     if word == "windows" {
         return Some(Command::Windows);
     }
     if word == "fit" {
         return Some(Command::Fit);
+    }
+    None
+}
+
+/// The command that two words are.
+fn command_with_one(word: &str, flag: &str) -> Option<Command>
+    ensures command { result ≡ command_with_one word.now flag.now }
+    ensures proper { IfSome result IsProper }
+{
+    if word == "show" && flag == "--json" {
+        return Some(Command::Show { json: true });
     }
     None
 }
@@ -51,6 +65,7 @@ pub(crate) fn command_in(words: &[&str]) -> Option<Command>
 {
     match words {
         [word] => bare_command(word),
+        [word, flag] => command_with_one(word, flag),
         [word, first, second] => command_with_two(word, first, second),
         _ => None,
     }
@@ -69,6 +84,7 @@ pub(crate) fn spelled(
 {
     match (json, word, first, second, third) {
         (false, Some(word), None, None, None) => bare_command(word),
+        (true, Some(word), None, None, None) => command_with_one(word, "--json"),
         (false, Some(word), Some(first), Some(second), None) => {
             command_with_two(word, first, second)
         }

@@ -20,6 +20,13 @@ fn one_word_is_a_command(rt: HostRuntime) -> Result<(), Fail> {
     assert_eq!(rt; read(alloc, &[b"replay"])?, Ok(Command::Replay));
     assert_eq!(rt; read(alloc, &[b"summary"])?, Ok(Command::Summary));
     assert_eq!(rt; read(alloc, &[b"capture"])?, Ok(Command::Capture));
+    let json = false;
+    assert_eq!(rt; read(alloc, &[b"show"])?, Ok(Command::Show { json }));
+    let json = true;
+    assert_eq!(rt;
+        read(alloc, &[b"show", b"--json"])?,
+        Ok(Command::Show { json })
+    );
     assert_eq!(rt; read(alloc, &[b"windows"])?, Ok(Command::Windows));
     assert_eq!(rt; read(alloc, &[b"fit"])?, Ok(Command::Fit));
     Ok(())
@@ -86,7 +93,7 @@ fn one_other_word_is_refused(rt: HostRuntime) -> Result<(), Fail> {
         b"replays",
         b"repla",
         b"replay\xff",
-        b"show",
+        b"shows",
     ];
     for word in words {
         let answer = read(alloc, &[word])?;
@@ -98,7 +105,7 @@ fn one_other_word_is_refused(rt: HostRuntime) -> Result<(), Fail> {
 #[test]
 fn words_too_many_or_too_few_are_refused(rt: HostRuntime) -> Result<(), Fail> {
     let alloc = rt.alloc();
-    let lists: [&[&[u8]]; 15] = [
+    let lists: [&[&[u8]]; 16] = [
         &[],
         &[b"replay", b"now"],
         &[b"replay", b""],
@@ -106,7 +113,8 @@ fn words_too_many_or_too_few_are_refused(rt: HostRuntime) -> Result<(), Fail> {
         &[b"--", b"replay"],
         &[b"replay", b"--json"],
         &[b"--json", b"show"],
-        &[b"show", b"--json"],
+        &[b"shows", b"--json"],
+        &[b"show", b"json"],
         &[b"show", b"-json"],
         &[b"show", b"--json", b"--json"],
         &[b"show", b"--json="],

@@ -1,9 +1,11 @@
-//! Tests of whole runs, by the top call with ends in memory: worked documents of every command (`replays`, `windows`), the words
+//! Tests of whole runs, by the top call with ends in memory: worked documents of every command (`replays`, `captures`, `windows`), the words
 //! (`words`), and ends that fail (`faults`).
 //!
 //! They stand beside `top_call`, so that it is proved without them.
 #![tactic(auto)]
 
+#[cfg(test)]
+mod captures;
 #[cfg(test)]
 mod faults;
 #[cfg(test)]

@@ -1,9 +1,13 @@
 -- What follows from the outcome of a run, status by status.
 use Rattle.std.proofs.Common.{◌≡◌, ◌⊎◌, ◌∙◌, inr, ℕ, ◌≤◌, List, [], length, true, Option, Some, None, Result, Ok, Err, IsSome, refl, sym, ap, subst}
 use Rattle.std.specs.Io.KnownBytes.{append_known, IsAtEnd}
+use Rattle.capture_records.specs.declared.refusals.CaptureRefusal.{CaptureRefusal}
+use Rattle.capture_records.specs.Reading.{checked as capture_checked}
+use Rattle.capture_show.specs.Messages.{capture_lines}
+use Rattle.capture_show.specs.Texts.{lines_text}
 use Rattle.command_words.specs.Words.{command_of}
 use Rattle.command_words.specs.declared.commands.Command.{Command}
-use Rattle.command_words.specs.declared.commands.Command.TheVariants.{Replay, Summary, Capture, Windows, Fit, Generate}
+use Rattle.command_words.specs.declared.commands.Command.TheVariants.{Replay, Summary, Capture, Show, Windows, Fit, Generate}
 use Rattle.fh_base.specs.Causes.{Rose}
 use Rattle.fh_base.proofs.Known.{append_nothing}
 use Rattle.fh_document.specs.declared.document.Document.{Document}
@@ -16,8 +20,8 @@ use Rattle.window_plan.specs.declared.refusals.NoFit.{NoFit as Refusal}
 use Rattle.window_plan.specs.Fitting.{fitted}
 use Rattle.top_call.specs.declared.status.LineWhy.{LineWhy}
 use Rattle.top_call.specs.declared.status.Status.{Status}
-use Rattle.top_call.specs.declared.status.Status.TheVariants.{Done, BadWords, BadDocument, ReadFault, WriteFault, NoMemory, TooLong, CheckFails, NoFit}
-use Rattle.top_call.specs.Answers.{Answer, answer_of, asked, captured, fit_shown, fit_verdict, is_reading, of_document, replayed, summarized, verdict_of, windows_shown}
+use Rattle.top_call.specs.declared.status.Status.TheVariants.{Done, BadWords, BadDocument, BadCapture, ReadFault, WriteFault, NoMemory, TooLong, CheckFails, NoFit}
+use Rattle.top_call.specs.Answers.{Answer, answer_of, asked, captured, fit_shown, fit_verdict, is_reading, of_capture, of_document, replayed, summarized, verdict_of, windows_shown}
 use Rattle.top_call.specs.Run.{AnswersRun, IsDecided, IsRefusal, Outcome, input_limit}
 
 -- ---- a refusal
@@ -34,6 +38,10 @@ document_text : (answer : Document → Answer) (read : Result Document (ℕ × D
 document_text answer (Ok d) never refusal = absurd (never d refusal)
 document_text answer (Err (line, why)) never refusal = refl
 
+capture_text : (text : List ℕ) (checked : Result (Unit {0}) CaptureRefusal) → IsRefusal (of_capture text checked).status → (of_capture text checked).text ≡ []
+capture_text text (Ok u) refusal = absurd refusal
+capture_text text (Err r) refusal = refl
+
 -- has no text
 refusal_text : (o : Option Command) (bytes : List ℕ) → IsRefusal (asked o bytes).status → (asked o bytes).text ≡ []
 unfolding answer_of
@@ -41,6 +49,7 @@ refusal_text None bytes refusal = refl
 refusal_text (Some Replay) bytes refusal = document_text replayed (document_of bytes) (λ d r. r) refusal
 refusal_text (Some Summary) bytes refusal = document_text summarized (document_of bytes) (λ d r. r) refusal
 refusal_text (Some Capture) bytes refusal = document_text captured (document_of bytes) (λ d r. r) refusal
+refusal_text (Some (Show json)) bytes refusal = capture_text (lines_text json (capture_lines bytes)) (capture_checked bytes) refusal
 refusal_text (Some Windows) bytes refusal = document_text (λ d. windows_shown d.config) (document_of bytes) (λ d. check_refuses_nothing (checked d.config.delays)) refusal
 refusal_text (Some Fit) bytes refusal = document_text (λ d. fit_shown d.config.delays) (document_of bytes) (λ d. fit_refuses_nothing (fitted d.config.delays)) refusal
 refusal_text (Some (Generate seed slots)) bytes refusal = absurd refusal
@@ -49,6 +58,7 @@ refusal_decided : (status : Status) → IsRefusal status → IsDecided status
 refusal_decided Done refusal = tt
 refusal_decided BadWords refusal = tt
 refusal_decided (BadDocument line why) refusal = tt
+refusal_decided (BadCapture place why) refusal = tt
 refusal_decided ReadFault refusal = refusal
 refusal_decided WriteFault refusal = refusal
 refusal_decided NoMemory refusal = refusal
@@ -61,6 +71,7 @@ pub decided_wanted : (wanted : Status) (s t before now : ℕ) (status : Status) 
 decided_wanted wanted s t before now Done decided answers = answers
 decided_wanted wanted s t before now BadWords decided answers = answers
 decided_wanted wanted s t before now (BadDocument line why) decided answers = answers
+decided_wanted wanted s t before now (BadCapture place why) decided answers = answers
 decided_wanted wanted s t before now ReadFault decided answers = absurd decided
 decided_wanted wanted s t before now WriteFault decided answers = absurd decided
 decided_wanted wanted s t before now NoMemory decided answers = absurd decided
@@ -84,6 +95,7 @@ only_readers_refuse None bytes line why e = cc
 only_readers_refuse (Some Replay) bytes line why e = refl
 only_readers_refuse (Some Summary) bytes line why e = refl
 only_readers_refuse (Some Capture) bytes line why e = refl
+only_readers_refuse (Some (Show json)) bytes line why e = refl
 only_readers_refuse (Some Windows) bytes line why e = refl
 only_readers_refuse (Some Fit) bytes line why e = refl
 only_readers_refuse (Some (Generate seed slots)) bytes line why e = cc

@@ -1,4 +1,5 @@
 pub mod Written
 pub mod Documents
+pub mod Captures
 pub mod Runs
 pub mod Follows

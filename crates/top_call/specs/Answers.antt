@@ -1,7 +1,11 @@
 -- What the words and the input name: the one text, and the status of a run that nothing keeps from its end.
 use Rattle.std.specs.Prelude.{ℕ, List, [], Bool, true, false, Option, None, Some, Result, Ok, Err}
+use Rattle.capture_records.specs.declared.refusals.CaptureRefusal.{CaptureRefusal}
+use Rattle.capture_records.specs.Reading.{checked as capture_checked}
+use Rattle.capture_show.specs.Messages.{capture_lines}
+use Rattle.capture_show.specs.Texts.{lines_text}
 use Rattle.command_words.specs.declared.commands.Command.{Command}
-use Rattle.command_words.specs.declared.commands.Command.TheVariants.{Replay, Summary, Capture, Windows, Fit, Generate}
+use Rattle.command_words.specs.declared.commands.Command.TheVariants.{Replay, Summary, Capture, Show, Windows, Fit, Generate}
 use Rattle.fh_document.specs.declared.document.Document.{Document}
 use Rattle.fh_document.specs.declared.refusals.DocWhy.{DocWhy}
 use Rattle.fh_document.specs.Document.{document_of}
@@ -17,7 +21,7 @@ use Rattle.window_plan.specs.declared.refusals.NoFit.{NoFit as Refusal}
 use Rattle.window_plan.specs.Fitting.{fitted}
 use Rattle.top_call.specs.declared.status.LineWhy.TheVariants.{Doc}
 use Rattle.top_call.specs.declared.status.Status.{Status}
-use Rattle.top_call.specs.declared.status.Status.TheVariants.{Done, BadWords, BadDocument, CheckFails, NoFit}
+use Rattle.top_call.specs.declared.status.Status.TheVariants.{Done, BadWords, BadDocument, BadCapture, CheckFails, NoFit}
 
 -- a whole text, and the status behind it
 pub record Answer : Type 0 where
@@ -71,6 +75,17 @@ fitted_status delays = fit_verdict (fitted delays)
 abbrev pub fit_shown : Delays → Answer
 fit_shown delays = record { text = fit_text delays; status = fitted_status delays }
 
+-- ---- the command that reads a capture
+
+-- the text of a capture whose records are sound, or its first that is malformed
+abbrev pub of_capture : List ℕ → Result (Unit {0}) CaptureRefusal → Answer
+of_capture text (Ok _) = record { text = text; status = Done }
+of_capture text (Err r) = refused (BadCapture r.place r.why)
+
+-- `show`: the fields of its frames, as lines or as JSON
+abbrev pub shown : Bool → List ℕ → Answer
+shown json bytes = of_capture (lines_text json (capture_lines bytes)) (capture_checked bytes)
+
 -- ---- the commands that read nothing
 
 -- `generate`: a document of its own
@@ -84,6 +99,7 @@ abbrev pub reads : Command → Bool
 reads Replay = true
 reads Summary = true
 reads Capture = true
+reads (Show json) = true
 reads Windows = true
 reads Fit = true
 reads (Generate seed slots) = false
@@ -93,6 +109,7 @@ unfoldable pub answer_of : Command → List ℕ → Answer
 answer_of Replay bytes = of_document replayed (document_of bytes)
 answer_of Summary bytes = of_document summarized (document_of bytes)
 answer_of Capture bytes = of_document captured (document_of bytes)
+answer_of (Show json) bytes = shown json bytes
 answer_of Windows bytes = of_document (λ d. windows_shown d.config) (document_of bytes)
 answer_of Fit bytes = of_document (λ d. fit_shown d.config.delays) (document_of bytes)
 answer_of (Generate seed slots) bytes = generated_document seed slots

@@ -1,5 +1,7 @@
 -- How a run ends, by what its last step answered.
 use Rattle.std.specs.Prelude.{Result, Ok, Err}
+use Rattle.capture_show.specs.declared.showing.ShowFault.{ShowFault}
+use Rattle.capture_show.specs.declared.showing.ShowFault.TheVariants as show
 use Rattle.fh_base.specs.declared.fault.ReadAllFault.{ReadAllFault}
 use Rattle.fh_base.specs.declared.fault.ReadAllFault.TheVariants as source
 use Rattle.fh_base.specs.declared.fault.SinkFault.{SinkFault}
@@ -8,7 +10,7 @@ use Rattle.fh_document.specs.declared.refusals.DocFault.{DocFault}
 use Rattle.fh_document.specs.declared.refusals.DocFault.TheVariants as doc
 use Rattle.top_call.specs.declared.status.LineWhy.TheVariants.{Doc}
 use Rattle.top_call.specs.declared.status.Status.{Status}
-use Rattle.top_call.specs.declared.status.Status.TheVariants.{BadDocument, ReadFault, WriteFault, NoMemory, TooLong}
+use Rattle.top_call.specs.declared.status.Status.TheVariants.{Done, BadDocument, BadCapture, ReadFault, WriteFault, NoMemory, TooLong}
 
 -- the whole text was to be written, and then the run to end with a status
 abbrev pub ending_of : Result (Unit {0}) SinkFault → Status → Status
@@ -26,3 +28,10 @@ abbrev pub source_status : ReadAllFault → Status
 source_status source.ReadFault = ReadFault
 source_status source.TooLong = TooLong
 source_status source.NoMemory = NoMemory
+
+-- a capture was shown, or was not
+abbrev pub shown_status : Result (Unit {0}) ShowFault → Status
+shown_status (Ok _) = Done
+shown_status (Err (show.BadCapture place why)) = BadCapture place why
+shown_status (Err show.WriteFault) = WriteFault
+shown_status (Err show.NoMemory) = NoMemory

@@ -1,5 +1,7 @@
 -- What a status ends the process with, and the line that it writes (this project's profile).
 use Rattle.std.specs.Prelude.{ℕ, List, [], ◌++◌, codes, decimal}
+use Rattle.capture_records.specs.declared.refusals.CaptureWhy.{CaptureWhy}
+use Rattle.capture_records.specs.Refusals.{name_of as capture_name}
 use Rattle.fh_document.specs.Refusals.{name_of}
 use Rattle.text_lines.specs.Words.{spaced_signed_text}
 use Rattle.window_config.specs.declared.relations.Failing.{Failing}
@@ -9,13 +11,14 @@ use Rattle.window_plan.specs.Names.{name_of as window_name}
 use Rattle.top_call.specs.declared.status.LineWhy.{LineWhy}
 use Rattle.top_call.specs.declared.status.LineWhy.TheVariants.{Doc}
 use Rattle.top_call.specs.declared.status.Status.{Status}
-use Rattle.top_call.specs.declared.status.Status.TheVariants.{Done, BadWords, BadDocument, ReadFault, WriteFault, NoMemory, TooLong, CheckFails, NoFit}
+use Rattle.top_call.specs.declared.status.Status.TheVariants.{Done, BadWords, BadDocument, BadCapture, ReadFault, WriteFault, NoMemory, TooLong, CheckFails, NoFit}
 
 -- the exit status
 abbrev pub code_of : Status → ℕ
 code_of Done = 0
 code_of BadWords = 2
 code_of (BadDocument line why) = 3
+code_of (BadCapture place why) = 4
 code_of ReadFault = 5
 code_of WriteFault = 6
 code_of NoMemory = 7
@@ -31,6 +34,10 @@ why_name (Doc why) = name_of why
 abbrev pub refusal_line : ℕ → LineWhy → List ℕ
 refusal_line line why = codes "fronthaul: line " ++ decimal line ++ codes ": " ++ why_name why ++ codes "\n"
 
+-- the line of a capture that is refused, with the byte where its record begins
+abbrev pub capture_line : ℕ → CaptureWhy → List ℕ
+capture_line place why = codes "fronthaul: capture at " ++ decimal place ++ codes ": " ++ capture_name why ++ codes "\n"
+
 -- the line of a relation that fails, with its two sides in nanoseconds
 unfoldable pub failing_line : Failing → List ℕ
 failing_line f = codes "fronthaul: check fails " ++ relation_name f.relation ++ spaced_signed_text f.left ++ spaced_signed_text f.right ++ codes "\n"
@@ -44,6 +51,7 @@ abbrev pub line_of : Status → List ℕ
 line_of Done = []
 line_of BadWords = codes "fronthaul: bad words\n"
 line_of (BadDocument line why) = refusal_line line why
+line_of (BadCapture place why) = capture_line place why
 line_of ReadFault = codes "fronthaul: read fault\n"
 line_of WriteFault = codes "fronthaul: write fault\n"
 line_of NoMemory = codes "fronthaul: no memory\n"

@@ -8,6 +8,7 @@ mod capture;
 mod fit;
 mod generate;
 mod replay;
+mod show;
 mod summary;
 mod windows;
 
@@ -18,6 +19,7 @@ use fh_base::Sink;
 use fit::write_fit;
 use generate::write_document;
 use replay::write_report;
+use show::show_capture;
 use std::alloc::Global;
 use summary::write_summary;
 use windows::write_windows;
@@ -27,8 +29,12 @@ pub(crate) fn reads(command: Command) -> bool
     ensures { result ≡ reads command }
 {
     match command {
-        Command::Replay | Command::Summary | Command::Capture | Command::Windows | Command::Fit =>
-            true,
+        Command::Replay
+        | Command::Summary
+        | Command::Capture
+        | Command::Show { .. }
+        | Command::Windows
+        | Command::Fit => true,
         Command::Generate { .. } => false,
     }
 }
@@ -43,6 +49,7 @@ pub(crate) fn perform<K: Sink>(alloc: Global, command: Command, bytes: &[u8], ou
         Command::Replay => write_report(alloc, bytes, out),
         Command::Summary => write_summary(alloc, bytes, out),
         Command::Capture => write_capture(alloc, bytes, out),
+        Command::Show { json } => show_capture(alloc, json, bytes, out),
         Command::Windows => write_windows(alloc, bytes, out),
         Command::Fit => write_fit(alloc, bytes, out),
         Command::Generate { seed, slots } => write_document(alloc, seed, slots, out),

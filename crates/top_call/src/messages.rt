@@ -3,9 +3,10 @@ ghost use Rattle.std.specs.Prelude.{◌≡◌, ◌≤◌, length, OnOk};
 ghost use Rattle.std.specs.Io.KnownBytes.{append_known};
 ghost use Rattle.fh_base.specs.Causes.{HasSinkCause};
 ghost use Rattle.fh_base.specs.Told.{WritesFront};
-ghost use Rattle.top_call.specs.Statuses.{failing_line, line_of, no_fit_line, refusal_line};
+ghost use Rattle.top_call.specs.Statuses.{capture_line, failing_line, line_of, no_fit_line, refusal_line};
 
 use crate::status::{LineWhy, Status};
+use capture_records::CaptureWhy;
 use fh_base::{Sink, SinkFault, write_all_to};
 use text_lines::Line;
 use window_config::Failing;
@@ -29,6 +30,7 @@ fn line_of(status: Status) -> Line
         Status::Done => Line::new(),
         Status::BadWords => literal(b"fronthaul: bad words\n"),
         Status::BadDocument { line, why } => refusal_line(line, why),
+        Status::BadCapture { place, why } => capture_line(place, why),
         Status::ReadFault => literal(b"fronthaul: read fault\n"),
         Status::WriteFault => literal(b"fronthaul: write fault\n"),
         Status::NoMemory => literal(b"fronthaul: no memory\n"),
@@ -56,6 +58,19 @@ fn refusal_line(line: usize, why: LineWhy) -> Line
     let mut text = Line::new();
     text.text(b"fronthaul: line ");
     text.number(line as u64);
+    text.text(b": ");
+    text.text(why.name().as_bytes());
+    text.text(b"\n");
+    text
+}
+
+/// Where a capture is refused, and why.
+fn capture_line(place: usize, why: CaptureWhy) -> Line
+    ensures { result ≡ capture_line place why }
+{
+    let mut text = Line::new();
+    text.text(b"fronthaul: capture at ");
+    text.number(place as u64);
     text.text(b": ");
     text.text(why.name().as_bytes());
     text.text(b"\n");

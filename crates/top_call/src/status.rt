@@ -1,6 +1,7 @@
 // What a run answers.
 ghost use Rattle.std.specs.Prelude.{◌≡◌};
 
+use capture_records::CaptureWhy;
 use fh_document::DocWhy;
 use window_config::Failing;
 use window_plan::NoFit;
@@ -21,6 +22,8 @@ pub enum Status {
     BadWords,
     /// The document is refused at a line, counted from 1. Nothing was written.
     BadDocument { line: usize, why: LineWhy },
+    /// A capture is refused at the byte where its first malformed record begins. Nothing was written.
+    BadCapture { place: usize, why: CaptureWhy },
     /// The source failed. Nothing was written.
     ReadFault,
     /// The sink failed. A front part of the text was written.
@@ -46,6 +49,7 @@ impl Status {
             Status::Done => 0,
             Status::BadWords => 2,
             Status::BadDocument { .. } => 3,
+            Status::BadCapture { .. } => 4,
             Status::ReadFault => 5,
             Status::WriteFault => 6,
             Status::NoMemory => 7,
