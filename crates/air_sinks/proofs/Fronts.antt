@@ -3,7 +3,6 @@ use Rattle.std.proofs.Common.{◌≡◌, ◌⊎◌, inl, inr, ℕ, List, [], ◌
 use Rattle.std.specs.Io.KnownBytes.{append_known}
 use Rattle.fh_base.specs.Told.{WritesFront}
 use Rattle.fh_base.proofs.Progress.{front_first}
-use Rattle.air_source.specs.declared.airs.AirFault.{AirFault}
 use Rattle.air_source.specs.declared.events.Event.{Event}
 use Rattle.air_source.specs.Stops.{StopsIn, GrewSome}
 use Rattle.owed_bytes.specs.Owed.{Carried}

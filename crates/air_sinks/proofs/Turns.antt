@@ -1,5 +1,5 @@
 -- Two texts that an event gives, told in turn.
-use Rattle.std.proofs.Common.{◌≡◌, ◌≤◌, ◌+◌, ◌-◌, ◌^◌, ℕ, List, ◌++◌, Option, subst, append_assoc, arith, min}
+use Rattle.std.proofs.Common.{◌≤◌, ℕ, List, ◌++◌, Option, subst, append_assoc, arith}
 use Rattle.fh_base.specs.Told.{WritesFront}
 use Rattle.fh_base.proofs.Progress.{front_first}
 use Rattle.air_source.specs.declared.airs.AirFault.{AirFault}

@@ -1,4 +1,4 @@
-use Rattle.std.proofs.Common.{rules, ◌≡◌, [], ◌∷◌, refl}
+use Rattle.std.proofs.Common.{rules, [], ◌∷◌, refl}
 use Rattle.std.proofs.lemmas.Result.{on_ok_weaker}
 use Rattle.owed_bytes.specs.CarriedLaws.{carried_none}
 use Rattle.air_source.specs.declared.events.Event.TheVariants.{Arrival}

@@ -6,7 +6,6 @@ use Rattle.owed_bytes.specs.CarriedLaws.{carried_more}
 use Rattle.air_sinks.specs.Stopping.{Halted}
 use Rattle.air_sinks.proofs.Turns.{halted_first, halted_second}
 use Rattle.capture_records.specs.Records.{head_bytes}
-use Rattle.capture_air.specs.Airs.{sink_of, owed_of}
 use Rattle.capture_air.proofs.capture_air.CaptureAir.record.Goals as goal
 
 -- the air stopped in the bytes before the frame
