@@ -1,0 +1,9 @@
+pub mod Refusals
+pub mod Ethernet
+pub mod Files
+pub mod Checked
+pub mod Frames
+pub mod Packets
+pub mod Tallies
+pub mod Finding
+pub mod Left
