@@ -1,6 +1,6 @@
 -- The eCPRI frames of a pcap file, in the file's order.
-use Rattle.std.specs.Prelude.{ℕ, ℤ, pos, ◌+◌, ◌-◌, Bool, false, List, [], ◌∷◌, Option, Some, None, is_none}
-use Rattle.std.specs.List.{list_all}
+use Rattle.std.specs.Prelude.{◌≡◌, ◌≤◌, length, ℕ, ℤ, pos, ◌+◌, ◌-◌, Bool, false, List, [], ◌∷◌, Option, Some, None, is_none}
+use Rattle.std.specs.List.{AllByRecursion, list_all}
 use Rattle.pcap_frames.specs.declared.values.PcapFrame.{PcapFrame}
 use Rattle.pcap_frames.specs.declared.values.PcapHead.{PcapHead}
 use Rattle.pcap_frames.specs.Ethernet.{ecpri_in}
@@ -38,3 +38,13 @@ is_fine nanos first start (Some seen) = is_none (fault_of nanos first start seen
 
 abbrev pub all_fine : Bool → ℕ → ℕ → List (Option Seen) → Bool
 all_fine nanos first start rs = list_all (is_fine nanos first start) rs
+
+-- a frame that a file may have: its time lies from 0 to 10^12 ns, and it has at most 9,216 bytes
+pub record IsShown (t : Timed) : Type 0 where
+  pub ns : ℕ
+  pub is : t.at ≡ pos ns
+  pub low : ns ≤ 1000000000000
+  pub short : length t.frame ≤ 9216
+
+abbrev pub AreShown : List Timed → Type 0
+AreShown ts = AllByRecursion IsShown ts
