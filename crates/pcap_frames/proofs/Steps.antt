@@ -53,3 +53,11 @@ last little (b ∷ bytes) some e =
 pub ended : (little : Bool) (bytes : List ℕ) → length bytes ≡ 0 → records_from little 0 bytes ≡ []
 unfolding records_from
 ended little bytes e = ap (records_from little 0) (nil_from_length bytes e)
+
+-- the bytes that were kept, as they stand
+pub kept_is : (little : Bool) (bytes : List ℕ) (seen : Seen) → seen_of little bytes ≡ Some seen → seen.packet ≡ take (kept_of little bytes) (drop 16 bytes)
+kept_is little bytes seen e =
+    let kept = kept_of little bytes in
+    let whole : Seen = record { seconds = word_of little bytes; fraction = word_of little (drop 4 bytes); packet = take kept (drop 16 bytes) } in
+    let t = tested_twice (ltb (length bytes) 16) (ltb (length bytes - 16) kept) whole seen e in
+    ap (λ s. s.packet) (sym t.2)

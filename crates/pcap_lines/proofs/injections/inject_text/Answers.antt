@@ -1,0 +1,29 @@
+use Rattle.std.proofs.Common.{◌<◌, drop}
+use Rattle.std.proofs.lemmas.Result.{on_ok_weaker}
+use Rattle.std.proofs.lemmas.List.Elements.{All-drop}
+use Rattle.pcap_frames.proofs.Settled.{checked_fine}
+use Rattle.pcap_frames.proofs.Shown.{are_shown}
+use Rattle.pcap_lines.proofs.Telling.{last_front, all_written}
+use Rattle.pcap_lines.proofs.Read.{are_bytes, read_back}
+use Rattle.pcap_lines.proofs.injections.inject_text.Goals as goal
+
+pub returns-clause-front : goal.returns-clause-front
+returns-clause-front g c = last_front _ _ _ c.new-owed.result _ _ c.new-owed.ensures c.in_ok-tell_lines.ensures.carried c.push_out.ensures.front
+
+pub returns-clause-ok : goal.returns-clause-ok
+returns-clause-ok g c =
+    on_ok_weaker c.push_out.result (λ is. all_written _ _ _ c.new-owed.result _ _ c.new-owed.ensures c.in_ok-tell_lines.ensures.carried is) c.push_out.ensures.all
+
+pub returns-in_err-tell_lines-clause-read : goal.returns-in_err-tell_lines-clause-read
+returns-in_err-tell_lines-clause-read g c =
+    let bytes = c.args.bytes.now in
+    let head = c.args.head.now in
+    read_back c.args.side head.little head.nanos head.first c.args.start (drop 24 bytes) (All-drop (λ b. b < 256) 24 bytes (are_bytes bytes (λ k. (c.type_inv.bytes k).fits)))
+    (are_shown head.nanos head.first c.args.start _ (checked_fine bytes c.args.start head c.requires))
+
+pub returns-clause-read : goal.returns-clause-read
+returns-clause-read g c =
+    let bytes = c.args.bytes.now in
+    let head = c.args.head.now in
+    read_back c.args.side head.little head.nanos head.first c.args.start (drop 24 bytes) (All-drop (λ b. b < 256) 24 bytes (are_bytes bytes (λ k. (c.type_inv.bytes k).fits)))
+    (are_shown head.nanos head.first c.args.start _ (checked_fine bytes c.args.start head c.requires))

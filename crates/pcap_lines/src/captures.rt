@@ -1,0 +1,87 @@
+// The frames as a capture.
+ghost use Rattle.std.specs.Prelude.{◌≡◌, ◌≤◌, ◌++◌, Ok, map, pos, length, OnOk, OnErr, ◌≤ℤ◌, ◌*ℤ◌};
+ghost use Rattle.std.specs.Io.KnownBytes.{append_known};
+ghost use Rattle.fh_base.specs.Causes.{HasSinkCause};
+ghost use Rattle.fh_base.specs.Told.{WritesFront};
+ghost use Rattle.owed_bytes.specs.Owed.{Carried};
+ghost use Rattle.capture_records.specs.Records.{head_bytes, record_bytes, records_bytes, capture_bytes, HaveRecords};
+ghost use Rattle.pcap_frames.specs.Checked.{checked};
+ghost use Rattle.pcap_frames.specs.Frames.{timed_of, frames_of, IsShown};
+ghost use Rattle.pcap_lines.specs.Texts.{arrived_as};
+
+use air_source::Side;
+use capture_records::{MAGIC, record_head};
+use fh_base::{Sink, SinkFault};
+use fh_time::of_ns;
+use owed_bytes::OwedBytes;
+use pcap_frames::{PcapFrame, PcapHead, frames};
+
+// What stands before a frame in its record.
+fn head_of(f: &PcapFrame<'_>, side: Side) -> [u8; 13]
+    requires { IsShown (timed_of f.now) }
+    ensures { result ≡ head_bytes side (f.now.at *ℤ pos 1536) (length f.now.frame.now) }
+{
+    record_head(side, of_ns(f.at), f.frame.len() as u32)
+}
+
+// Tells the record of a frame.
+fn tell_record<K: Sink>(
+    f: &PcapFrame<'_>,
+    side: Side,
+    owed: &mut OwedBytes,
+    out: &mut K,
+) -> Result<(), SinkFault>
+    requires { IsShown (timed_of f.now) }
+    ensures carried { OnOk result (Carried (K.written out.old) owed.old (record_bytes (arrived_as side (timed_of f.now))) (K.written out.new) owed.new) }
+    ensures front { OnErr result (WritesFront (K.written out.old) (K.written out.new) (owed.old ++ record_bytes (arrived_as side (timed_of f.now)))) }
+    ensures cause { HasSinkCause (K.faults out.old) (K.faults out.new) (K.refusals out.old) (K.refusals out.new) result }
+{
+    let head = head_of(f, side);
+    owed.tell(&head, out)?;
+    owed.tell(f.frame, out)
+}
+
+// Tells the records of all frames.
+fn tell_records<K: Sink>(
+    bytes: &[u8],
+    head: &PcapHead,
+    start: u64,
+    side: Side,
+    owed: &mut OwedBytes,
+    out: &mut K,
+) -> Result<(), SinkFault>
+    requires { checked bytes.now start ≡ Ok head.now }
+    ensures carried { OnOk result (Carried (K.written out.old) owed.old (records_bytes (map (arrived_as side) (frames_of bytes.now head.now start))) (K.written out.new) owed.new) }
+    ensures front { OnErr result (WritesFront (K.written out.old) (K.written out.new) (owed.old ++ records_bytes (map (arrived_as side) (frames_of bytes.now head.now start)))) }
+    ensures cause { HasSinkCause (K.faults out.old) (K.faults out.new) (K.refusals out.old) (K.refusals out.new) result }
+{
+    for f in frames(bytes, head, start) {
+        tell_record(&f, side, owed, out)?;
+    }
+    Ok(())
+}
+
+/// Writes a capture of the eCPRI frames of a file for which `check` of `pcap_frames` gave this head with this start, in the file's
+/// order, as they arrived at the unit `side`.
+///
+/// # Errors
+///
+/// `Failed` only where the sink's count of faults rose, and `NoMemory` only where its count of refusals rose. A front part of the
+/// capture was written.
+pub fn capture_bytes<K: Sink>(
+    bytes: &[u8],
+    head: &PcapHead,
+    start: u64,
+    side: Side,
+    out: &mut K,
+) -> Result<(), SinkFault>
+    requires { checked bytes.now start ≡ Ok head.now }
+    ensures ok { OnOk result (K.written out.new ≡ append_known (K.written out.old) (capture_bytes (map (arrived_as side) (frames_of bytes.now head.now start)))) }
+    ensures front { WritesFront (K.written out.old) (K.written out.new) (capture_bytes (map (arrived_as side) (frames_of bytes.now head.now start))) }
+    ensures cause { HasSinkCause (K.faults out.old) (K.faults out.new) (K.refusals out.old) (K.refusals out.new) result }
+{
+    let mut owed = OwedBytes::new();
+    owed.tell(&MAGIC, out)?;
+    tell_records(bytes, head, start, side, &mut owed, out)?;
+    owed.push_out(out)
+}

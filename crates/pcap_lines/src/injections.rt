@@ -1,0 +1,83 @@
+// The frames as lines of a document.
+ghost use Rattle.std.specs.Prelude.{◌≡◌, ◌++◌, Ok, codes, map, OnOk, OnErr};
+ghost use Rattle.std.specs.Io.KnownBytes.{append_known};
+ghost use Rattle.fh_base.specs.Causes.{HasSinkCause};
+ghost use Rattle.fh_base.specs.Told.{WritesFront};
+ghost use Rattle.owed_bytes.specs.Owed.{Carried};
+ghost use Rattle.fh_document.specs.Document.{parsed};
+ghost use Rattle.fh_document.specs.Steps.{whole};
+ghost use Rattle.line_laws.specs.Lines.{document_with};
+ghost use Rattle.pcap_frames.specs.Checked.{checked};
+ghost use Rattle.pcap_frames.specs.Frames.{timed_of, frames_of};
+ghost use Rattle.pcap_lines.specs.Texts.{line_text, injection_of, lines_of};
+
+use crate::words::{opening, tell_frame};
+use air_source::Side;
+use fh_base::{Sink, SinkFault};
+use owed_bytes::OwedBytes;
+use pcap_frames::{PcapFrame, PcapHead, frames};
+use text_lines::Line;
+
+// Tells the line of a frame.
+fn tell_line<K: Sink>(
+    f: &PcapFrame<'_>,
+    side: Side,
+    owed: &mut OwedBytes,
+    out: &mut K,
+) -> Result<(), SinkFault>
+    ensures carried { OnOk result (Carried (K.written out.old) owed.old (line_text side (timed_of f.now)) (K.written out.new) owed.new) }
+    ensures front { OnErr result (WritesFront (K.written out.old) (K.written out.new) (owed.old ++ line_text side (timed_of f.now))) }
+    ensures cause { HasSinkCause (K.faults out.old) (K.faults out.new) (K.refusals out.old) (K.refusals out.new) result }
+{
+    let mut line = Line::new();
+    opening(&mut line, side, f);
+    owed.tell(line.as_slice(), out)?;
+    tell_frame(f.frame, owed, out)?;
+    owed.tell(b"\n", out)
+}
+
+// Tells the lines of all frames.
+fn tell_lines<K: Sink>(
+    bytes: &[u8],
+    head: &PcapHead,
+    start: u64,
+    side: Side,
+    owed: &mut OwedBytes,
+    out: &mut K,
+) -> Result<(), SinkFault>
+    requires { checked bytes.now start ≡ Ok head.now }
+    ensures carried { OnOk result (Carried (K.written out.old) owed.old (lines_of side (frames_of bytes.now head.now start)) (K.written out.new) owed.new) }
+    ensures front { OnErr result (WritesFront (K.written out.old) (K.written out.new) (owed.old ++ lines_of side (frames_of bytes.now head.now start))) }
+    ensures cause { HasSinkCause (K.faults out.old) (K.faults out.new) (K.refusals out.old) (K.refusals out.new) result }
+{
+    for f in frames(bytes, head, start) {
+        tell_line(&f, side, owed, out)?;
+    }
+    Ok(())
+}
+
+/// Writes a line `inject WAY NS HEX` for each eCPRI frame of a file for which `check` of `pcap_frames` gave this head with this
+/// start, in the file's order. NS is in nanoseconds, and HEX two lower-case digits for each byte, or `-` for none.
+///
+/// # Errors
+///
+/// `Failed` only where the sink's count of faults rose, and `NoMemory` only where its count of refusals rose. A front part of the
+/// text was written.
+pub fn inject_text<K: Sink>(
+    bytes: &[u8],
+    head: &PcapHead,
+    start: u64,
+    side: Side,
+    out: &mut K,
+) -> Result<(), SinkFault>
+    requires { checked bytes.now start ≡ Ok head.now }
+    ensures ok { OnOk result (K.written out.new ≡ append_known (K.written out.old) (lines_of side (frames_of bytes.now head.now start))) }
+    ensures front { WritesFront (K.written out.old) (K.written out.new) (lines_of side (frames_of bytes.now head.now start)) }
+    // behind line 1 of a document this text is read as exactly these frames, in their order
+    ensures read { parsed (codes "fronthaul 1\n" ++ lines_of side (frames_of bytes.now head.now start)) ≡ Ok (document_with whole (map (injection_of side) (frames_of bytes.now head.now start))) }
+    ensures cause { HasSinkCause (K.faults out.old) (K.faults out.new) (K.refusals out.old) (K.refusals out.new) result }
+{
+    let mut owed = OwedBytes::new();
+    tell_lines(bytes, head, start, side, &mut owed, out)?;
+    owed.push_out(out)
+}
