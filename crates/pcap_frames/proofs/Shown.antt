@@ -25,13 +25,15 @@ one_more : (o : Option (List ℕ)) (first start time : ℕ) (later : List Timed)
     → AreShown (frame_before o (start + time - first) later)
 one_more None first start time later e h = h
 one_more (Some frame) first start time later e h =
-    let t = tests (ltb 9216 (length frame)) (in_range first start time) e in
-    (record {
-      ns = start + time - first;
-      is = refl;
-      low = leb-true _ _ (and_right (leb first (start + time)) (leb (start + time - first) 1000000000000) t.1);
-      short = ltb-false _ _ t.0;
-    }, h)
+    let t = tests (ltb 9216 (length frame)) (in_range first start time) e in (
+      record {
+        ns = start + time - first;
+        is = refl;
+        low = leb-true _ _ (and_right (leb first (start + time)) (leb (start + time - first) 1000000000000) t.1);
+        short = ltb-false _ _ t.0;
+      },
+      h,
+    )
 
 pub are_shown : (nanos : Bool) (first start : ℕ) (rs : List (Option Seen)) → all_fine nanos first start rs ≡ true → AreShown (frames_in nanos first start rs)
 unfolding frames_in
