@@ -1,7 +1,7 @@
 -- What holds of the cells and the counters behind a section.
 use Rattle.std.proofs.Common.{◌≡◌, ℕ, ℤ, ◌+◌, ◌-◌, List, [], ◌∷◌, ◌++◌, length, All, refl, sym, ap, ◌∙◌, subst, arith, length-append}
 use Rattle.std.proofs.lemmas.List.Elements.{All-cons}
-use Rattle.air_source.specs.declared.events.Side.TheVariants.{Ru}
+use Rattle.air_source.specs.declared.events.Side.{Side}
 use Rattle.bfp_codec.specs.declared.samples.Wide.{Wide}
 use Rattle.fault_counters.specs.declared.kinds.Counter.{Counter}
 use Rattle.fault_counters.specs.Counts.{capped, count_of, once, times}
@@ -32,19 +32,22 @@ use Rattle.data_messages.proofs.WalkLemmas.{any_number, told_further}
 -- ---- what no call changes
 
 pub record Stays (clock : ℤ) (old new : CellsValue) : Type 0 where
-  pub marks : (c : Config) → IsOf c old → SameMarks c clock old new
+  pub marks : (side : Side) (c : Config) → IsOf side c old → SameMarks side c clock old new
+  pub side : new.side ≡ old.side
   pub delays : new.delays ≡ old.delays
   pub endpoints : endpoints_of new ≡ endpoints_of old
 
-pub of_on : (c : Config) (old new : CellsValue) → new.delays ≡ old.delays → endpoints_of new ≡ endpoints_of old → IsOf c old → IsOf c new
-of_on c old new d e of = record { delays = d ∙ of.delays; endpoints = e ∙ of.endpoints }
+pub of_on : (side : Side) (c : Config) (old new : CellsValue) → new.side ≡ old.side → new.delays ≡ old.delays → endpoints_of new ≡ endpoints_of old
+    → IsOf side c old → IsOf side c new
+of_on side c old new s d e of = record { side_is = s ∙ of.side_is; delays = d ∙ of.delays; endpoints = e ∙ of.endpoints }
 
 pub stays_none : (clock : ℤ) (v : CellsValue) → Stays clock v v
-stays_none clock v = record { marks = λ c of e cell is live. refl; delays = refl; endpoints = refl }
+stays_none clock v = record { marks = λ side c of e cell is live. refl; side = refl; delays = refl; endpoints = refl }
 
 pub stays_on : (clock : ℤ) (old mid new : CellsValue) → Stays clock old mid → Stays clock mid new → Stays clock old new
 stays_on clock old mid new a b = record {
-  marks = λ c of e cell is live. b.marks c (of_on c old mid a.delays a.endpoints of) e cell is live ∙ a.marks c of e cell is live;
+  marks = λ side c of e cell is live. b.marks side c (of_on side c old mid a.side a.delays a.endpoints of) e cell is live ∙ a.marks side c of e cell is live;
+  side = b.side ∙ a.side;
   delays = b.delays ∙ a.delays;
   endpoints = b.endpoints ∙ a.endpoints;
 }
@@ -74,16 +77,16 @@ none_so_far h items v behind = record {
       let first = first_data_prb (data_of h []) in
       let count = data_prb_count (data_of h []) in
       sections_as h.endpoint.prbs h.endpoint first (first + 0) count (count - 0) items (omega arith) (omega arith) behind;
-  gives = λ c acc ds of keeps. keeps;
+  gives = λ side c acc ds of keeps. keeps;
   stays = stays_none h.last.0 v;
 }
 
 -- what a call does that gives a cell the next block
 abbrev pub GivesNext : DataHeading → ℕ → List Wide → CellsValue → CellsValue → Type 0
 GivesNext h k samples old new =
-    (c : Config) (acc : List Allocation) (ds : List Data) (blocks : List (List Wide)) → IsOf c old → length blocks ≡ k
-    → Keeps c h.last.0 old acc (with_heading c.delays h blocks ds)
-    → Keeps c h.last.0 new acc (with_heading c.delays h (blocks ++ samples ∷ []) ds)
+    (side : Side) (c : Config) (acc : List Allocation) (ds : List Data) (blocks : List (List Wide)) → IsOf side c old → length blocks ≡ k
+    → Keeps side c h.last.0 old acc (with_heading side c.delays h blocks ds)
+    → Keeps side c h.last.0 new acc (with_heading side c.delays h (blocks ++ samples ∷ []) ds)
 
 pub one_further : (h : DataHeading) (items left rest : List Item) (k prb : ℕ) (samples : List Wide) (old mid new : CellsValue) → SoFar h items left k old mid
     → TellsFirst left rest (feed.Block prb samples) → GivesNext h k samples mid new → Stays h.last.0 mid new → SoFar h items rest (k + 1) old new
@@ -98,7 +101,7 @@ one_further h items left rest k prb samples old mid new s t next stays =
       told = told_further items left rest first prb s.blocks samples (step.1 ∙ ap (λ (n : ℕ). first + n) (sym s.all)) s.told t.first;
       behind =
           sections_as h.endpoint.prbs h.endpoint (first + k + 1) (first + (k + 1)) (count - k - 1) (count - (k + 1)) rest (omega arith) (omega arith) step.2;
-      gives = λ c acc ds of keeps. next c acc ds s.blocks (of_on c old mid s.stays.delays s.stays.endpoints of) s.all (s.gives c acc ds of keeps);
+      gives = λ side c acc ds of keeps. next side c acc ds s.blocks (of_on side c old mid s.stays.side s.stays.delays s.stays.endpoints of) s.all (s.gives side c acc ds of keeps);
       stays = stays_on h.last.0 old mid new s.stays stays;
     }
 
@@ -129,39 +132,39 @@ told_with class.Early d ds here all = all
 counted_further : (x y n o b : ℕ) → x ≡ capped (n + b) → y ≡ capped (x + o) → y ≡ capped (n + (b + o))
 counted_further x y n o b h g = omega arith
 
-pub data_count : (c : Config) (d : Data) (ds : List Data) (v : DataVerdict) (counter : Counter) (p q n : ℕ) (k : Counter) → counter ≡ data_counter v
-    → v ≡ data_verdict Ru c.delays (timely Ru c.delays ds) d
-    → p ≡ capped (n + times (data_counted (data_verdicts Ru c.delays ds)) k) → q ≡ capped (p + once counter k)
-    → q ≡ capped (n + times (data_counted (data_verdicts Ru c.delays (d ∷ ds))) k)
+pub data_count : (side : Side) (c : Config) (d : Data) (ds : List Data) (v : DataVerdict) (counter : Counter) (p q n : ℕ) (k : Counter) → counter ≡ data_counter v
+    → v ≡ data_verdict side c.delays (timely side c.delays ds) d
+    → p ≡ capped (n + times (data_counted (data_verdicts side c.delays ds)) k) → q ≡ capped (p + once counter k)
+    → q ≡ capped (n + times (data_counted (data_verdicts side c.delays (d ∷ ds))) k)
 unfolding data_verdicts
-data_count c d ds v counter p q n k e f before now =
-    counted_further p q n (once counter k) (times (data_counted (data_verdicts Ru c.delays ds)) k) before now
-    ∙ ap (λ (x : Counter). capped (n + (times (data_counted (data_verdicts Ru c.delays ds)) k + once x k))) (e ∙ ap data_counter f)
+data_count side c d ds v counter p q n k e f before now =
+    counted_further p q n (once counter k) (times (data_counted (data_verdicts side c.delays ds)) k) before now
+    ∙ ap (λ (x : Counter). capped (n + (times (data_counted (data_verdicts side c.delays ds)) k + once x k))) (e ∙ ap data_counter f)
 
 -- what is known of a verdict
 abbrev pub IsVerdict : DataHeading → CellsValue → DataVerdict → Type 0
 IsVerdict h v verdict =
-    (c : Config) (acc : List Allocation) (ds : List Data) (blocks : List (List Wide)) → IsOf c v
-    → Keeps c h.last.0 v acc ds → All IsTold ds → verdict ≡ data_verdict Ru c.delays ds (data_of h blocks)
+    (side : Side) (c : Config) (acc : List Allocation) (ds : List Data) (blocks : List (List Wide)) → IsOf side c v
+    → Keeps side c h.last.0 v acc ds → All IsTold ds → verdict ≡ data_verdict side c.delays ds (data_of h blocks)
 
 abbrev pub Begins : DataHeading → CellsValue → Type 0
 Begins h v =
-    (c : Config) (acc : List Allocation) (ds : List Data) → IsOf c v → Keeps c h.last.0 v acc ds
-    → Keeps c h.last.0 v acc (with_heading c.delays h [] ds)
+    (side : Side) (c : Config) (acc : List Allocation) (ds : List Data) → IsOf side c v → Keeps side c h.last.0 v acc ds
+    → Keeps side c h.last.0 v acc (with_heading side c.delays h [] ds)
 
 pub section_holds : (h : DataHeading) (blocks : List (List Wide)) (verdict : DataVerdict) (counter : Counter) (old new : CellsValue) (before after : List ℕ)
     → IsVerdict h old verdict → Begins h old → counter ≡ data_counter verdict
     → ((k : Counter) → count_of after k ≡ capped (count_of before k + once counter k))
-    → length blocks ≡ data_prb_count (data_of h []) → GivesBlocks h blocks old new → new.delays ≡ old.delays → endpoints_of new ≡ endpoints_of old
-    → (c : Config) (n : Counter → ℕ) (acc : List Allocation) (ds : List Data)
-    → HoldsData c h.last.0 n acc ds old before → HoldsData c h.last.0 n acc (data_of h blocks ∷ ds) new after
+    → length blocks ≡ data_prb_count (data_of h []) → GivesBlocks h blocks old new → new.side ≡ old.side → new.delays ≡ old.delays → endpoints_of new ≡ endpoints_of old
+    → (side : Side) (c : Config) (n : Counter → ℕ) (acc : List Allocation) (ds : List Data)
+    → HoldsData side c h.last.0 n acc ds old before → HoldsData side c h.last.0 n acc (data_of h blocks ∷ ds) new after
 unfolding timely
-section_holds h blocks verdict counter old new before after is begins e added all gives d p c n acc ds holds =
-    let came = timely Ru c.delays ds in
+section_holds h blocks verdict counter old new before after is begins e added all gives u d p side c n acc ds holds =
+    let came = timely side c.delays ds in
     record {
-      of = of_on c old new d p holds.of;
-      keeps = gives c acc came holds.of (begins c acc came holds.of holds.keeps);
-      told = told_with (data_class Ru c.delays (data_of h blocks)) (data_of h blocks) came (omega (arith, all)) holds.told;
-      counts = λ k. data_count c (data_of h blocks) ds verdict counter (count_of before k) (count_of after k) (n k) k e
-          (is c acc came blocks holds.of holds.keeps holds.told) (holds.counts k) (added k);
+      of = of_on side c old new u d p holds.of;
+      keeps = gives side c acc came holds.of (begins side c acc came holds.of holds.keeps);
+      told = told_with (data_class side c.delays (data_of h blocks)) (data_of h blocks) came (omega (arith, all)) holds.told;
+      counts = λ k. data_count side c (data_of h blocks) ds verdict counter (count_of before k) (count_of after k) (n k) k e
+          (is side c acc came blocks holds.of holds.keeps holds.told) (holds.counts k) (added k);
     }

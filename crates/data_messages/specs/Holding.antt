@@ -1,6 +1,6 @@
--- The rings and counters of a radio unit, where these sections of data came (this project's profile).
+-- The rings and counters of a unit, where these sections of data came (this project's profile).
 use Rattle.std.specs.Prelude.{◌≡◌, ℕ, ℤ, ◌+◌, List, All}
-use Rattle.air_source.specs.declared.events.Side.TheVariants.{Ru}
+use Rattle.air_source.specs.declared.events.Side.{Side}
 use Rattle.fault_counters.specs.declared.kinds.Counter.{Counter}
 use Rattle.fault_counters.specs.Counts.{capped, count_of, times}
 use Rattle.window_config.specs.declared.config.Config.{Config}
@@ -14,8 +14,8 @@ use Rattle.unit_cells.specs.Told.{IsTold}
 
 -- At a clock the rings keep these accepted allocations and these sections of data, all told whole, and the counters have counted so
 -- much beside the verdicts on the data.
-pub record HoldsData (c : Config) (clock : ℤ) (counted : Counter → ℕ) (acc : List Allocation) (ds : List Data) (v : CellsValue) (numbers : List ℕ) : Type 0 where
-  pub of : IsOf c v
-  pub keeps : Keeps c clock v acc (timely Ru c.delays ds)
-  pub told : All IsTold (timely Ru c.delays ds)
-  pub counts : (k : Counter) → count_of numbers k ≡ capped (counted k + times (data_counted (data_verdicts Ru c.delays ds)) k)
+pub record HoldsData (side : Side) (c : Config) (clock : ℤ) (counted : Counter → ℕ) (acc : List Allocation) (ds : List Data) (v : CellsValue) (numbers : List ℕ) : Type 0 where
+  pub of : IsOf side c v
+  pub keeps : Keeps side c clock v acc (timely side c.delays ds)
+  pub told : All IsTold (timely side c.delays ds)
+  pub counts : (k : Counter) → count_of numbers k ≡ capped (counted k + times (data_counted (data_verdicts side c.delays ds)) k)

@@ -1,6 +1,7 @@
--- One section of a whole U-plane message: what is told of it (O-RAN.WG4.CUS, clause 8.3.2), and what becomes of it at a radio unit
+-- One section of a whole U-plane message: what is told of it (O-RAN.WG4.CUS, clause 8.3.2), and what becomes of it at a unit
 -- (this project's profile).
 use Rattle.std.specs.Prelude.{◌≡◌, ℕ, ◌+◌, List, [], ◌∷◌, ◌++◌, length}
+use Rattle.air_source.specs.declared.events.Side.{Side}
 use Rattle.bfp_codec.specs.declared.samples.Wide.{Wide}
 use Rattle.fault_counters.specs.declared.kinds.Counter.{Counter}
 use Rattle.fh_time.specs.Numbering.{shape_of}
@@ -42,8 +43,8 @@ pub record TellsBlocks (h : DataHeading) (items rest : List Item) (blocks : List
 -- the cells have the blocks of a section that is on time, where they had none
 abbrev pub GivesBlocks : DataHeading → List (List Wide) → CellsValue → CellsValue → Type 0
 GivesBlocks h blocks old new =
-    (c : Config) (acc : List Allocation) (ds : List Data) → IsOf c old
-    → Keeps c h.last.0 old acc (with_heading c.delays h [] ds) → Keeps c h.last.0 new acc (with_heading c.delays h blocks ds)
+    (side : Side) (c : Config) (acc : List Allocation) (ds : List Data) → IsOf side c old
+    → Keeps side c h.last.0 old acc (with_heading side c.delays h [] ds) → Keeps side c h.last.0 new acc (with_heading side c.delays h blocks ds)
 
 -- they have those that were told
 pub record Filled (h : DataHeading) (items rest : List Item) (old new : CellsValue) : Type 0 where
@@ -55,5 +56,5 @@ pub record Filled (h : DataHeading) (items rest : List Item) (old new : CellsVal
 pub record Came (h : DataHeading) (items rest : List Item) (old new : CellsValue) (before after : List ℕ) : Type 0 where
   pub blocks : List (List Wide)
   pub tells : TellsBlocks h items rest blocks
-  pub holds : (c : Config) (n : Counter → ℕ) (acc : List Allocation) (ds : List Data)
-      → HoldsData c h.last.0 n acc ds old before → HoldsData c h.last.0 n acc (data_of h blocks ∷ ds) new after
+  pub holds : (side : Side) (c : Config) (n : Counter → ℕ) (acc : List Allocation) (ds : List Data)
+      → HoldsData side c h.last.0 n acc ds old before → HoldsData side c h.last.0 n acc (data_of h blocks ∷ ds) new after

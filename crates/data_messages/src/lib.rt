@@ -1,4 +1,5 @@
-//! Whole U-plane messages at a radio unit: the verdict on each section, counted, and its blocks, which go to the cells of the rings.
+//! Whole U-plane messages at a unit of either side: the verdict on each section, counted, and its blocks, which go to the cells of
+//! the rings.
 //!
 //! A message is gone over twice where its pieces stand: once to its end, since one that is refused changes no cell,
 //! and then section by section, PRB by PRB. Nothing is copied but the samples, and nothing takes memory.

@@ -1,5 +1,6 @@
 // One section of a message: its verdict, and its blocks, which the walk tells behind its header.
 ghost use Rattle.std.specs.Prelude.{◌≡◌, []};
+ghost use Rattle.air_source.specs.declared.events.Side.{Side as SpecSide};
 ghost use Rattle.window_config.specs.declared.config.Config.{Config};
 ghost use Rattle.uplane_messages.specs.Left.{left_of};
 ghost use Rattle.unit_model.specs.Blocks.{data_prb_count};
@@ -26,10 +27,11 @@ fn prb_count(heading: &DataHeading) -> u16
 
 /// Gives the cells of a section its blocks, which the walk tells next.
 fn fill_section(cells: &mut UnitCells, heading: &DataHeading, walk: &mut DataWalk<'_>)
-    requires heading { IsProperHeading (endpoints_of cells.old) heading.now }
+    requires heading { IsProperHeading cells.old.side (endpoints_of cells.old) heading.now }
     requires behind { AreBehind heading.now (left_of walk.old) }
     ensures filled { Filled heading.now (left_of walk.old) (left_of walk.new) cells.old cells.new }
-    ensures marks { (c : Config) → IsOf c cells.old → SameMarks c heading.now.last.0 cells.old cells.new }
+    ensures marks { (side : SpecSide) (c : Config) → IsOf side c cells.old → SameMarks side c heading.now.last.0 cells.old cells.new }
+    ensures side { cells.new.side ≡ cells.old.side }
     ensures delays { cells.new.delays ≡ cells.old.delays }
     ensures endpoints { endpoints_of cells.new ≡ endpoints_of cells.old }
 {
@@ -48,10 +50,11 @@ pub(crate) fn take_section(
     heading: &DataHeading,
     walk: &mut DataWalk<'_>,
 )
-    requires heading { IsProperHeading (endpoints_of cells.old) heading.now }
+    requires heading { IsProperHeading cells.old.side (endpoints_of cells.old) heading.now }
     requires behind { AreBehind heading.now (left_of walk.old) }
     ensures taken { Came heading.now (left_of walk.old) (left_of walk.new) cells.old cells.new counters.old counters.new }
-    ensures marks { (c : Config) → IsOf c cells.old → SameMarks c heading.now.last.0 cells.old cells.new }
+    ensures marks { (side : SpecSide) (c : Config) → IsOf side c cells.old → SameMarks side c heading.now.last.0 cells.old cells.new }
+    ensures side { cells.new.side ≡ cells.old.side }
     ensures delays { cells.new.delays ≡ cells.old.delays }
     ensures endpoints { endpoints_of cells.new ≡ endpoints_of cells.old }
 {

@@ -9,6 +9,7 @@ ghost use Rattle.window_config.specs.Endpoints.{IsEndpoint};
 ghost use Rattle.unit_cells.specs.Cells.{endpoints_of};
 
 use crate::take_message;
+use air_source::Side;
 use bfp_codec::{Format, Method};
 use eaxc_map::Widths;
 use ecpri_fragments::{Assembly, Lease, SeqField, Taken};
@@ -144,7 +145,7 @@ fn sections_fill_their_cells(rt: HostRuntime) -> Result<(), Fail> {
     assert!(rt; shape(&n).slots == 2);
     let e = endpoint(n);
     let config = config(e, Widths::new(4, 4, 4, 4)?);
-    let mut cells = UnitCells::make(rt.alloc(), &config)?;
+    let mut cells = UnitCells::make(rt.alloc(), Side::Ru, &config)?;
     let mut assembly = Assembly::make(rt.alloc(), 1, of_ns(211_000))?;
     let mut counters = Counters::new();
 
@@ -204,7 +205,7 @@ fn verdicts_are_counted(rt: HostRuntime) -> Result<(), Fail> {
     assert!(rt; shape(&n).slots == 2);
     let e = endpoint(n);
     let config = config(e, Widths::new(4, 4, 4, 4)?);
-    let mut cells = UnitCells::make(rt.alloc(), &config)?;
+    let mut cells = UnitCells::make(rt.alloc(), Side::Ru, &config)?;
     let mut assembly = Assembly::make(rt.alloc(), 1, of_ns(211_000))?;
     let mut counters = Counters::new();
 

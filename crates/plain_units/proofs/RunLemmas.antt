@@ -20,6 +20,7 @@ use Rattle.unit_model.specs.Counts.{counted_of}
 use Rattle.plain_units.specs.Plain.{arrival_of, arrivals_after, arrivals_of}
 use Rattle.unit_model.specs.Reports.{hold_of, met, commands_of, data_of, arrivals_counted}
 use Rattle.plain_units.specs.declared.report.TimedFrame.{TimedFrame}
+use Rattle.unit_model.proofs.CommandLaws.{IsNoCommand, none_met}
 use Rattle.unit_model.proofs.CountLemmas.{times-append}
 
 -- ---- frames in their order
@@ -82,29 +83,6 @@ module _ (side : Side) (c : Config) (arrivals : List Arrival) where
       ∙ ap capped (all_counted (frames_counted arrivals) (messages_counted side (hold_of side c.delays) ms) controls users (cells_counted told) k)
 
 -- ---- the distributed unit meets no command
-
-abbrev IsNoCommand : Meeting → Type 0
-IsNoCommand (Ignored c) = Unit {0}
-IsNoCommand (Commands cs) = ⊥
-IsNoCommand (Piece e f) = Unit {0}
-
-either_none : (b : Bool) (x y : Meeting) → IsNoCommand x → IsNoCommand y → IsNoCommand (cond b x y)
-either_none true x y p q = p
-either_none false x y p q = q
-
-none_by : (kind : ℕ) (at : ℤ) (payload : List ℕ) (found : Option (ℕ × EndpointConfig)) → IsNoCommand (met_by Du kind at payload found)
-none_by kind at payload None = tt
-none_by kind at payload (Some (ep, e)) = either_none (kind == 2) (Ignored WrongWay) (Piece e (fragment_of ep at payload)) tt tt
-
-none_met : (es : List EndpointConfig) (at : ℤ) (m : Message) → IsNoCommand (meet Du es at m)
-unfolding meet
-none_met es at m =
-    let found = met_by Du m.head.kind at m.payload (find_endpoint es (id_of m.payload)) in
-    let long = cond (nat_lt (length m.payload) 4) (Ignored Short) found in
-    let typed = cond (not (m.head.kind == 0 || m.head.kind == 2)) (Ignored OtherType) long in
-    either_none (m.head.kind == 5) (Ignored Delay) typed tt
-    (either_none (not (m.head.kind == 0 || m.head.kind == 2)) (Ignored OtherType) long tt
-    (either_none (nat_lt (length m.payload) 4) (Ignored Short) found tt (none_by m.head.kind at m.payload (find_endpoint es (id_of m.payload)))))
 
 commands_without : (m : Meeting) (ms : List Meeting) → IsNoCommand m → commands (m ∷ ms) ≡ commands ms
 unfolding commands

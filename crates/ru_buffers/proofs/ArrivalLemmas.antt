@@ -5,6 +5,7 @@ use Rattle.std.specs.Ordering.{int_eq}
 use Rattle.std.proofs.lemmas.Int.{ints, by_lt_z}
 use Rattle.std.proofs.lemmas.List.{drop-append-le}
 use Rattle.std.proofs.lemmas.List.Elements.{All-cons}
+use Rattle.air_source.specs.declared.events.Side.TheVariants.{Ru}
 use Rattle.window_config.specs.declared.config.Config.{Config}
 use Rattle.window_config.specs.declared.endpoints.EndpointConfig.{EndpointConfig}
 use Rattle.unit_model.specs.Counts.{cells_counted}
@@ -90,8 +91,8 @@ front_length : {A : Type 0} (xs ys all : List A) → xs ++ ys ≡ all → length
 front_length xs ys all e = omega (arith, length-append xs ys, ap length e)
 
 module _ (c : Config) (m m2 : RuMemory) (clock : ℤ) (cursor : JobCursor) (h : History) (frame : List ℕ) (k : Keeps c m clock cursor h)
-    (settled : cursor.since.0 ≡ h.clock) (holds : Holds c cursor.since.0 m2 (arrival h.clock frame ∷ h.arrivals) (cells_counted h.reported))
-    (marks : SameMarks c cursor.since.0 m.cells m2.cells) where
+    (settled : cursor.since.0 ≡ h.clock) (holds : Holds Ru c cursor.since.0 m2 (arrival h.clock frame ∷ h.arrivals) (cells_counted h.reported))
+    (marks : SameMarks Ru c cursor.since.0 m.cells m2.cells) where
   abbrev a : Arrival
   a = arrival h.clock frame
 

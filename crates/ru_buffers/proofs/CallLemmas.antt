@@ -4,6 +4,7 @@ use Rattle.std.specs.Prelude.{Option, Some, None, int_lt}
 use Rattle.std.proofs.lemmas.Bool.{cases_Bool}
 use Rattle.std.proofs.lemmas.Int.{ints}
 use Rattle.fault_counters.specs.declared.kinds.Counter.{Counter}
+use Rattle.air_source.specs.declared.events.Side.TheVariants.{Ru}
 use Rattle.window_config.specs.declared.config.Config.{Config}
 use Rattle.unit_model.specs.Counts.{cells_counted}
 use Rattle.unit_model.specs.Meetings.{Arrival}
@@ -42,7 +43,7 @@ use Rattle.ru_buffers.proofs.MadeLemmas.{made, no_messages}
 since_is : (cursor : JobCursor) (t : ℤ) → (let r : JobCursor = record { since = record { 0 = t }; last = None; given = 0 } in cursor ≡ r) → (cursor.since.0 ≡ t)
 since_is cursor t e = ap (λ (x : JobCursor). x.since.0) e
 
-pub stands_made : (c : Config) (m : RuMemory) (cursor : JobCursor) → ((clock : ℤ) → Holds c clock m [] []) → ((cell : Cell) → cells_done m.cells cell ≡ false)
+pub stands_made : (c : Config) (m : RuMemory) (cursor : JobCursor) → ((clock : ℤ) → Holds Ru c clock m [] []) → ((cell : Cell) → cells_done m.cells cell ≡ false)
     → (let r : JobCursor = record { since = record { 0 = first_clock }; last = None; given = 0 } in cursor ≡ r) → Stands c m first_clock cursor nothing_yet
 stands_made c m cursor holds unmarked is =
     stands c m first_clock cursor nothing_yet (made c m cursor holds unmarked (since_is cursor first_clock is) (ap (λ (x : JobCursor). x.last) is))
@@ -73,23 +74,23 @@ module _ (c : Config) (m : RuMemory) (clock : ℤ) (cursor next : JobCursor) (h 
   pub stands_settled : Stands c m clock next h
   stands_settled = stands c m clock next h settled_is.kept
 
-  holds_now : Holds c clock m h.arrivals (cells_counted h.reported)
-  holds_now = subst (λ (t : ℤ). Holds c t m h.arrivals (cells_counted h.reported)) settled_is.since settled_is.kept.holds
+  holds_now : Holds Ru c clock m h.arrivals (cells_counted h.reported)
+  holds_now = subst (λ (t : ℤ). Holds Ru c t m h.arrivals (cells_counted h.reported)) settled_is.since settled_is.kept.holds
 
   pub holds_some : HoldsSome clock m
-  holds_some = record { config = c; arrivals = h.arrivals; beside = cells_counted h.reported; holds = holds_now }
+  holds_some = record { side = Ru; config = c; arrivals = h.arrivals; beside = cells_counted h.reported; holds = holds_now }
 
   pub stands_delivered : (m2 : RuMemory) (frame : List ℕ)
-      → ((arrivals : List Arrival) (beside : List Counter) → Holds c clock m arrivals beside → Holds c clock m2 (arrival clock frame ∷ arrivals) beside)
-      → SameMarks c clock m.cells m2.cells → Stands c m2 clock next (arrived h frame)
+      → ((arrivals : List Arrival) (beside : List Counter) → Holds Ru c clock m arrivals beside → Holds Ru c clock m2 (arrival clock frame ∷ arrivals) beside)
+      → SameMarks Ru c clock m.cells m2.cells → Stands c m2 clock next (arrived h frame)
   stands_delivered m2 frame holds marks =
       let beside = cells_counted h.reported in
-      let at_clock : Holds c clock m2 (arrival h.clock frame ∷ h.arrivals) beside =
-      subst (λ (t : ℤ). Holds c clock m2 (arrival t frame ∷ h.arrivals) beside) settled_is.kept.clock_is (holds h.arrivals beside holds_now) in
+      let at_clock : Holds Ru c clock m2 (arrival h.clock frame ∷ h.arrivals) beside =
+      subst (λ (t : ℤ). Holds Ru c clock m2 (arrival t frame ∷ h.arrivals) beside) settled_is.kept.clock_is (holds h.arrivals beside holds_now) in
       stands c m2 clock next (arrived h frame)
       (delivered c m m2 clock next h frame settled_is.kept (settled_is.since ∙ settled_is.kept.clock_is)
-      (subst (λ (t : ℤ). Holds c t m2 (arrival h.clock frame ∷ h.arrivals) beside) (sym settled_is.since) at_clock)
-      (subst (λ (t : ℤ). SameMarks c t m.cells m2.cells) (sym settled_is.since) marks))
+      (subst (λ (t : ℤ). Holds Ru c t m2 (arrival h.clock frame ∷ h.arrivals) beside) (sym settled_is.since) at_clock)
+      (subst (λ (t : ℤ). SameMarks Ru c t m.cells m2.cells) (sym settled_is.since) marks))
 
 -- ---- as the clock goes on
 

@@ -71,8 +71,8 @@ module _ (c : Config) (m : RuMemory) (clock : ℤ) (cursor : JobCursor) (h : His
       All-weaker (IsProperData c.endpoints) IsTold (whole_data c.endpoints) (timely_of Ru c h.arrivals)
       (all_timely (IsProperData c.endpoints) Ru c.delays (data_of Ru c h.arrivals) (data_are_proper Ru c since h.arrivals k.holds.came k.holds.times))
 
-  pub rings_now : RingsKeep c h.clock m.cells acc (timely_of Ru c h.arrivals)
-  rings_now = keeps_later c since h.clock m.cells acc (timely_of Ru c h.arrivals) k.since k.holds.keeps
+  pub rings_now : RingsKeep Ru c h.clock m.cells acc (timely_of Ru c h.arrivals)
+  rings_now = keeps_later Ru c since h.clock m.cells acc (timely_of Ru c h.arrivals) k.since k.holds.keeps
 
   -- a cell of a slot that was not live yet was not heard
   pub far_not_heard : (e : EndpointConfig) (cell : Cell) → IsCell c e cell → cell.down ≡ true → IsFar e.numerology (ru_reach_of c.delays) since cell.slot
@@ -88,9 +88,9 @@ module _ (c : Config) (m : RuMemory) (clock : ℤ) (cursor : JobCursor) (h : His
       → cells_done m.cells cell ≡ list_any (cell_heard e cell) h.reported
   marks_at later order e cell is down live =
       elim (live_later e.numerology (ru_reach_of c.delays) since later cell.slot order (live e is.endpoint)) [
-        | inl now ↦ k.marks e cell is down (live_at c since e cell.ep cell.slot is.endpoint now)
+        | inl now ↦ k.marks e cell is down (live_at Ru c since e cell.ep cell.slot is.endpoint now)
         | inr far ↦
-            far_not_marked c since m.cells acc (timely_of Ru c h.arrivals) e cell k.holds.keeps is.endpoint far
+            far_not_marked Ru c since m.cells acc (timely_of Ru c h.arrivals) e cell k.holds.keeps is.endpoint far
             ∙ sym (far_not_heard e cell is down far)
       ]
 

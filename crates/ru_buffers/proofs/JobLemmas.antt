@@ -81,9 +81,9 @@ module _ (c : Config) (m : RuMemory) (clock : ℤ) (cursor : JobCursor) (h : His
       → cells_done m.cells cell ≡ list_any (cell_heard e cell) h.reported
   marks_at to order e cell is down live =
       elim (live_later e.numerology (ru_reach_of c.delays) cursor.since.0 to cell.slot order (live e is.endpoint)) [
-        | inl now ↦ keeps.marks e cell is down (live_at c cursor.since.0 e cell.ep cell.slot is.endpoint now)
+        | inl now ↦ keeps.marks e cell is down (live_at Ru c cursor.since.0 e cell.ep cell.slot is.endpoint now)
         | inr far ↦
-            far_not_marked c cursor.since.0 m.cells (accepted_of c h.arrivals) (timely_of Ru c h.arrivals) e cell keeps.holds.keeps is.endpoint far
+            far_not_marked Ru c cursor.since.0 m.cells (accepted_of c h.arrivals) (timely_of Ru c h.arrivals) e cell keeps.holds.keeps is.endpoint far
             ∙ sym (far_not_heard e cell is down far)
       ]
 
@@ -97,7 +97,7 @@ module _ (c : Config) (m : RuMemory) (clock : ℤ) (cursor : JobCursor) (h : His
     settle_is : IsSettled c m clock next h
     settle_is = record {
       kept = record {
-        holds = holds_later c cursor.since.0 next.since.0 m h.arrivals (cells_counted h.reported) since_on keeps.holds;
+        holds = holds_later Ru c cursor.since.0 next.since.0 m h.arrivals (cells_counted h.reported) since_on keeps.holds;
         clock_is = keeps.clock_is;
         time = keeps.time;
         begun = at_most first_clock cursor.since.0 next.since.0 keeps.begun since_on;
@@ -177,7 +177,7 @@ module _ (c : Config) (m : RuMemory) (clock : ℤ) (cursor : JobCursor) (h : His
       let by : n.symbol.start.0 ≤ℤ h.clock = subst (λ (t : ℤ). n.symbol.start.0 ≤ℤ t) keeps.clock_is order in
       record {
         kept = record {
-          holds = subst (λ t. Holds c t.0 m h.arrivals (cells_counted h.reported)) (sym given.since) keeps.holds;
+          holds = subst (λ t. Holds Ru c t.0 m h.arrivals (cells_counted h.reported)) (sym given.since) keeps.holds;
           clock_is = keeps.clock_is;
           time = keeps.time;
           begun = subst (λ t. first_clock ≤ℤ t.0) (sym given.since) keeps.begun;

@@ -61,7 +61,7 @@ under_is x y h = grind (arith, ints)
 abbrev pub left_of : List Allocation → JobCursor → OfSymbol UplinkJob
 left_of acc cursor ep e slot symbol = left_jobs cursor (start_at ep e slot symbol) (symbol_jobs acc ep e slot symbol)
 
-module _ (c : Config) (m : RuMemory) (since : ℤ) (arrivals : List Arrival) (beside : List Counter) (holds : Holds c since m arrivals beside)
+module _ (c : Config) (m : RuMemory) (since : ℤ) (arrivals : List Arrival) (beside : List Counter) (holds : Holds Ru c since m arrivals beside)
     (begun : first_clock ≤ℤ since) (small : since ≤ℤ pos (2 ^ 53)) where
   abbrev acc : List Allocation
   acc = accepted_of c arrivals
@@ -75,10 +75,10 @@ module _ (c : Config) (m : RuMemory) (since : ℤ) (arrivals : List Arrival) (be
         | inl live ↦
             ap in_slot (holds.keeps.uplink e ep slot swept.endpoint
             (swept_slot c.delays c.endpoints ep e slot symbol tick since limits swept (at_most first_clock since tick begun after) small live)
-            (live_at c since e ep slot swept.endpoint live))
+            (live_at Ru c since e ep slot swept.endpoint live))
             ∙ sym (jobs_of_their_slot acc ep e slot symbol)
         | inr far ↦
-            ap in_slot (no_uplink_from (ring_of m.cells ep) slot (far_no_place c since m.cells acc (timely_of Ru c arrivals) e ep slot holds.keeps swept.endpoint far))
+            ap in_slot (no_uplink_from (ring_of m.cells ep) slot (far_no_place Ru c since m.cells acc (timely_of Ru c arrivals) e ep slot holds.keeps swept.endpoint far))
             ∙ no_jobs ep e slot symbol
             ∙ sym (no_jobs_ahead c since arrivals e ep slot symbol limits holds.came swept.endpoint far)
       ]

@@ -95,7 +95,7 @@ same_most a b e = omega (arith, ints)
 small_first : (a : ℤ) → a ≡ first_clock → a ≤ℤ pos (2 ^ 53)
 small_first a e = omega (arith, ints)
 
-pub made : (c : Config) (m : RuMemory) (cursor : JobCursor) → ((clock : ℤ) → Holds c clock m [] []) → ((cell : Cell) → cells_done m.cells cell ≡ false)
+pub made : (c : Config) (m : RuMemory) (cursor : JobCursor) → ((clock : ℤ) → Holds Ru c clock m [] []) → ((cell : Cell) → cells_done m.cells cell ≡ false)
     → cursor.since.0 ≡ first_clock → cursor.last ≡ None → Keeps c m first_clock cursor nothing_yet
 made c m cursor holds unmarked since last =
     let limits = (holds first_clock).config.delays in

@@ -237,7 +237,7 @@ weaken a b c h k = omega (arith, ints)
 module _ (c : Config) (old new : RuMemory) (clock : ℤ) (cursor : JobCursor) (h : History) (s : SymbolStart) (told : List AirCell) (keeps : Keeps c old clock cursor h)
     (symbol : IsSymbol old.cells s) (later : clock <ℤ s.start.0) (marked : IsMarked s told old new) where
   at_here : IsAt c.endpoints s.ep s.endpoint
-  at_here = at_config c old.cells s.ep s.endpoint keeps.holds.of symbol.at
+  at_here = at_config Ru c old.cells s.ep s.endpoint keeps.holds.of symbol.at
 
   once : AppearOnce (ids_of c.endpoints)
   once = keeps.holds.config.endpoints.differ
@@ -247,7 +247,7 @@ module _ (c : Config) (old new : RuMemory) (clock : ℤ) (cursor : JobCursor) (h
       (weaken cursor.since.0 clock s.start.0 (since_clock c old clock cursor h keeps) later) symbol.symbol_is (sym symbol.starts)) [
         | inl is ↦ is
         | inr far ↦ absurd (both_ways _ symbol.has
-            (far_no_place c cursor.since.0 old.cells (accepted_of c h.arrivals) (timely_of Ru c h.arrivals) s.endpoint s.ep s.slot keeps.holds.keeps at_here far))
+            (far_no_place Ru c cursor.since.0 old.cells (accepted_of c h.arrivals) (timely_of Ru c h.arrivals) s.endpoint s.ep s.slot keeps.holds.keeps at_here far))
       ]
 
   told_cells : All (IsLeftCell old.cells s) told
@@ -256,7 +256,7 @@ module _ (c : Config) (old new : RuMemory) (clock : ℤ) (cursor : JobCursor) (h
   in_rings : (e : EndpointConfig) (cell : Cell) → IsCell c e cell → IsCellIn old.cells cell
   in_rings e cell is = record {
     endpoint = e;
-    at = at_rings c old.cells cell.ep e keeps.holds.of is.endpoint;
+    at = at_rings Ru c old.cells cell.ep e keeps.holds.of is.endpoint;
     slot_is = is.slot;
     symbol = is.symbol;
     prb = is.prb;
@@ -288,18 +288,18 @@ module _ (c : Config) (old new : RuMemory) (clock : ℤ) (cursor : JobCursor) (h
   past_now =
       sym (due_left Ru c.delays c.endpoints (ru_known c h.arrivals) h.reported told h.clock) ∙ ap (filter (unheard told)) keeps.past
 
-  holds_now : Holds c cursor.since.0 new h.arrivals (cells_counted (h.reported ++ told))
+  holds_now : Holds Ru c cursor.since.0 new h.arrivals (cells_counted (h.reported ++ told))
   holds_now = record {
     config = keeps.holds.config;
     endpoints = ap (λ es. es.items) marked.endpoints ∙ keeps.holds.endpoints;
-    of = of_still c old.cells new.cells marked.marks.delays marked.marks.endpoints keeps.holds.of;
+    of = of_still Ru c old.cells new.cells marked.marks.side marked.marks.delays marked.marks.endpoints keeps.holds.of;
     came = keeps.holds.came;
     times = keeps.holds.times;
     fragments = subst (λ (x : Assembly). StandsFor x (fragments (met Ru c h.arrivals))) (sym marked.assembly) keeps.holds.fragments;
     places = ap (λ (x : Assembly). places_of x) marked.assembly ∙ keeps.holds.places;
     hold = ap (λ (x : Assembly). assembly_hold x) marked.assembly ∙ keeps.holds.hold;
     counts = counts_more old.counters new.counters (arrivals_counted Ru c h.arrivals) h.reported told keeps.holds.counts marked.counts;
-    keeps = marked.marks.keeps c cursor.since.0 (accepted_of c h.arrivals) (timely_of Ru c h.arrivals) keeps.holds.keeps;
+    keeps = marked.marks.keeps Ru c cursor.since.0 (accepted_of c h.arrivals) (timely_of Ru c h.arrivals) keeps.holds.keeps;
   }
 
   pub kept : Keeps c new clock cursor (heard h told)

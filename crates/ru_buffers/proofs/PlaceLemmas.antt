@@ -6,6 +6,7 @@ use Rattle.std.proofs.lemmas.Int.{ints, clamps}
 use Rattle.fh_time.specs.Kinds.{kind_start}
 use Rattle.fh_time.proofs.Euclid.{frame_floor}
 use Rattle.fault_counters.specs.declared.kinds.Counter.{Counter}
+use Rattle.air_source.specs.declared.events.Side.TheVariants.{Ru}
 use Rattle.window_config.specs.Limits.{IsWithinLimits}
 use Rattle.window_config.specs.Rings.{ru_reach_of}
 use Rattle.window_config.specs.declared.config.Config.{Config}
@@ -48,12 +49,12 @@ frame_low tick frame a b = floor_low tick (frame_of_tick tick) frame a (frame_fl
 -- ---- the symbols that are gone over
 
 module _ (c : Config) (m : RuMemory) (arrivals : List Arrival) (beside : List Counter) (since clock : ℤ)
-    (holds : Holds c since m arrivals beside) (order : since ≤ℤ clock) (time : IsTime clock) where
+    (holds : Holds Ru c since m arrivals beside) (order : since ≤ℤ clock) (time : IsTime clock) where
   -- those of slots that have a place are symbols of which a message may be left
   pub is_job_symbol : (end : ℤ) (s : SymbolStart) → IsSweptIn (endpoints_of m.cells) first_clock end s → cells_has m.cells s.ep s.slot ≡ true → IsJobSymbol m.cells s
   is_job_symbol end s is has =
       let swept = is.swept in
-      let was = holds.keeps.reached s.endpoint s.ep s.slot (at_config c m.cells s.ep s.endpoint holds.of swept.endpoint) has in
+      let was = holds.keeps.reached s.endpoint s.ep s.slot (at_config Ru c m.cells s.ep s.endpoint holds.of swept.endpoint) has in
       record {
         at = swept.endpoint;
         slot_is = record {

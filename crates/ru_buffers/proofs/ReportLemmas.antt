@@ -83,7 +83,7 @@ module _ (c : Config) (m : RuMemory) (clock : ℤ) (cursor : JobCursor) (h : His
   pub swept_is : (s : SymbolStart) → OffsetsFit s.endpoint.numerology → IsSymbol m.cells s → IsSwept c.endpoints s.ep s.endpoint s.slot s.symbol s.start.0
   swept_is s fits is =
       subst (λ (t : ℤ). IsSwept c.endpoints s.ep s.endpoint s.slot s.symbol t) (sym is.starts)
-      (symbols_are_swept c.endpoints s.ep s.endpoint s.slot s.symbol (at_config c m.cells s.ep s.endpoint keeps.holds.of is.at) fits
+      (symbols_are_swept c.endpoints s.ep s.endpoint s.slot s.symbol (at_config Ru c m.cells s.ep s.endpoint keeps.holds.of is.at) fits
       (record { subframe = is.slot_is.subframe; slot = is.slot_is.slot_is }) is.symbol_is)
 
   -- nothing is told of a symbol, unless something is left of it

@@ -228,7 +228,7 @@ module _ (c : Config) (m : RuMemory) (clock : ℤ) (cursor : JobCursor) (h : His
   cell_is prb below = record { endpoint = at; slot = slot_is; symbol = small; prb = below }
 
   pub live_here : IsLiveAt c cursor.since.0 s.ep s.slot
-  live_here = live_at c cursor.since.0 s.endpoint s.ep s.slot at live
+  live_here = live_at Ru c cursor.since.0 s.endpoint s.ep s.slot at live
 
   pub claims_are : (prb re : ℕ) → prb < s.endpoint.prbs → re < 12 → cells_claim m.cells (cell_in s prb) re ≡ claim_at (accepted_of c h.arrivals) (cell_in s prb) re
   claims_are prb re below few = keeps.holds.keeps.claims s.endpoint (cell_in s prb) re (cell_is prb below) live_here few
@@ -296,7 +296,7 @@ module _ (c : Config) (m : RuMemory) (clock : ℤ) (cursor : JobCursor) (h : His
 
     pub no_place_ahead : IsFar s.endpoint.numerology (ru_reach_of c.delays) cursor.since.0 s.slot → cells_has m.cells s.ep s.slot ≡ false
     no_place_ahead far =
-        far_no_place c cursor.since.0 m.cells (accepted_of c h.arrivals) (timely_of Ru c h.arrivals) s.endpoint s.ep s.slot keeps.holds.keeps swept.endpoint far
+        far_no_place Ru c cursor.since.0 m.cells (accepted_of c h.arrivals) (timely_of Ru c h.arrivals) s.endpoint s.ep s.slot keeps.holds.keeps swept.endpoint far
 
     pub looked_up : still_reported Ru (ru_known c h.arrivals) h.reported s.ep s.endpoint s.slot s.symbol ≡ left_at m.cells s
     looked_up = elim found [
@@ -313,7 +313,7 @@ module _ (c : Config) (m : RuMemory) (clock : ℤ) (cursor : JobCursor) (h : His
         | inl has ↦ elim (cases_Bool (is_left m.cells s)) [
           | inr none ↦ looked_up ∙ left_none m.cells s none
           | inl left ↦ absurd (never (record {
-            at = at_rings c m.cells s.ep s.endpoint keeps.holds.of swept.endpoint;
+            at = at_rings Ru c m.cells s.ep s.endpoint keeps.holds.of swept.endpoint;
             slot_is = slot_told live;
             symbol_is = swept.symbol_is;
             starts = sym swept.starts;

@@ -45,7 +45,7 @@ IsWithin clock cursor = (m : SymbolStart) → cursor.last ≡ Some m → m.start
 -- What the next calls rest on. The memory answers for the slots that were live since the cursor's time, of which messages may be
 -- left.
 pub record Keeps (c : Config) (m : RuMemory) (clock : ℤ) (cursor : JobCursor) (h : History) : Type 0 where
-  pub holds : Holds c cursor.since.0 m h.arrivals (cells_counted h.reported)
+  pub holds : Holds Ru c cursor.since.0 m h.arrivals (cells_counted h.reported)
   pub clock_is : clock ≡ h.clock
   pub time : IsTime h.clock
   pub begun : first_clock ≤ℤ cursor.since.0

@@ -6,6 +6,7 @@ ghost use Rattle.window_config.specs.Configs.{IsConfig};
 ghost use Rattle.window_config.specs.declared.config.Config.{Config as SpecConfig};
 ghost use Rattle.unit_model.specs.Standing.{History, arrived, nothing_yet};
 
+use air_source::Side;
 use fault_counters::Counters;
 use fh_base::NoMemory;
 use fh_time::Ticks;
@@ -46,7 +47,7 @@ impl Ru {
         ensures stands { IfOk result (λ u. StandsFor config.now u nothing_yet) }
         ensures given { IfOk result (λ u. HasGivenPast u) }
     {
-        let memory = RuMemory::make(alloc, config)?;
+        let memory = RuMemory::make(alloc, Side::Ru, config)?;
         Ok(Ru {
             memory,
             clock: FIRST_CLOCK,

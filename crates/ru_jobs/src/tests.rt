@@ -7,6 +7,7 @@ ghost use Rattle.window_config.specs.Endpoints.{IsEndpoint};
 ghost use Rattle.unit_cells.specs.Cells.{endpoints_of};
 
 use crate::{JobCursor, next_job};
+use air_source::Side;
 use bfp_codec::{Format, Method};
 use cplane_sections::{CBody, CHead, CSection};
 use eaxc_map::Widths;
@@ -133,7 +134,7 @@ fn messages_of_a_symbol(rt: HostRuntime) -> Result<(), Fail> {
     assert!(rt; shape(&n).symbols == 14);
     let e = endpoint(n);
     let config = config(e, Widths::new(4, 4, 4, 4)?);
-    let mut cells = UnitCells::make(rt.alloc(), &config)?;
+    let mut cells = UnitCells::make(rt.alloc(), Side::Ru, &config)?;
     let start = JobCursor::start(Ticks(0));
     assert!(rt; next_job(&cells, &start).is_none());
     assert!(rt; accept(&mut cells, e, section(7, 2, 0xfff, 1)));
@@ -161,7 +162,7 @@ fn messages_of_two_symbols(rt: HostRuntime) -> Result<(), Fail> {
     assert!(rt; shape(&n).symbols == 14);
     let e = endpoint(n);
     let config = config(e, Widths::new(4, 4, 4, 4)?);
-    let mut cells = UnitCells::make(rt.alloc(), &config)?;
+    let mut cells = UnitCells::make(rt.alloc(), Side::Ru, &config)?;
     assert!(rt; accept(&mut cells, e, section(7, 2, 0xfff, 2)));
     let start = JobCursor::start(Ticks(0));
     let a = next_job(&cells, &start).expect(&rt, "symbol 0");

@@ -2,7 +2,7 @@
 use Rattle.std.proofs.Common.{◌≡◌, ℕ, suc, ℤ, ◌+◌, ◌-◌, ◌^◌, ◌≤ℤ◌, List, [], ◌∷◌, ◌++◌, All, refl, sym, ap, ◌∙◌, subst, arith}
 use Rattle.std.specs.Prelude.{length, min, Option}
 use Rattle.std.proofs.lemmas.List.Elements.{All-nil, All-cons, All-head, All-tail, All-weaker}
-use Rattle.air_source.specs.declared.events.Side.TheVariants.{Ru}
+use Rattle.air_source.specs.declared.events.Side.{Side}
 use Rattle.ecpri_frames.specs.Gathering.{whole_messages}
 use Rattle.ecpri_frames.specs.declared.refusals.PduRefusal.{PduRefusal}
 use Rattle.ecpri_frames.specs.Messages.{Message as WholeMessage, pdu}
@@ -44,10 +44,10 @@ kept_all P OnTime x ds p all = All-cons P x ds p all
 kept_all P Late x ds p all = all
 kept_all P Early x ds p all = all
 
-timely_all : (P : Data → Type 0) (d : Delays) (ds : List Data) → All P ds → All P (timely Ru d ds)
+timely_all : (P : Data → Type 0) (side : Side) (d : Delays) (ds : List Data) → All P ds → All P (timely side d ds)
 unfolding timely
-timely_all P d [] all = All-nil P
-timely_all P d (x ∷ ds) all = kept_all P (data_class Ru d x) x (timely Ru d ds) (All-head P x ds all) (timely_all P d ds (All-tail P x ds all))
+timely_all P side d [] all = All-nil P
+timely_all P side d (x ∷ ds) all = kept_all P (data_class side d x) x (timely side d ds) (All-head P x ds all) (timely_all P side d ds (All-tail P x ds all))
 
 blocks_told : (x : Data) → length x.blocks ≡ data_prb_count x → IsTold x
 blocks_told x h = omega (arith, h)
@@ -59,39 +59,39 @@ counted_parts : (frames messages cs ds beside : List Counter) (k : Counter)
 counted_parts frames messages cs ds beside k =
     omega (arith, times-append (frames ++ (messages ++ (cs ++ ds))) beside k, times-append frames (messages ++ (cs ++ ds)) k, times-append messages (cs ++ ds) k, times-append cs ds k)
 
-module _ (c : Config) (clock : ℤ) (m : RuMemory) (arrivals : List Arrival) (beside : List Counter) where
+module _ (side : Side) (c : Config) (clock : ℤ) (m : RuMemory) (arrivals : List Arrival) (beside : List Counter) where
   abbrev held : ℤ
-  held = hold_of Ru c.delays
+  held = hold_of side c.delays
 
   abbrev ms : List Meeting
-  ms = met Ru c arrivals
+  ms = met side c arrivals
 
   numbers : (k : Counter)
-      → times (frames_counted arrivals ++ (messages_counted Ru held ms ++ (commands_counted (command_verdicts c.delays (commands_of Ru c arrivals)) ++ data_counted (data_verdicts Ru c.delays (data_of Ru c arrivals)))) ++ beside) k
-      ≡ (counted_of Ru held arrivals ms k + times beside k) + (times (commands_counted (command_verdicts c.delays (commands_of Ru c arrivals))) k + times (data_counted (data_verdicts Ru c.delays (data_of Ru c arrivals))) k)
+      → times (frames_counted arrivals ++ (messages_counted side held ms ++ (commands_counted (command_verdicts c.delays (commands_of side c arrivals)) ++ data_counted (data_verdicts side c.delays (data_of side c arrivals)))) ++ beside) k
+      ≡ (counted_of side held arrivals ms k + times beside k) + (times (commands_counted (command_verdicts c.delays (commands_of side c arrivals))) k + times (data_counted (data_verdicts side c.delays (data_of side c arrivals))) k)
   numbers k =
-      counted_parts (frames_counted arrivals) (messages_counted Ru held ms) (commands_counted (command_verdicts c.delays (commands_of Ru c arrivals)))
-      (data_counted (data_verdicts Ru c.delays (data_of Ru c arrivals))) beside k
+      counted_parts (frames_counted arrivals) (messages_counted side held ms) (commands_counted (command_verdicts c.delays (commands_of side c arrivals)))
+      (data_counted (data_verdicts side c.delays (data_of side c arrivals))) beside k
 
   -- the parts of a unit that holds some arrivals
-  pub to_parts : Holds c clock m arrivals beside → Stands c clock m arrivals ms beside
+  pub to_parts : Holds side c clock m arrivals beside → Stands side c clock m arrivals ms beside
   to_parts h = record {
     config = h.config;
     endpoints = h.endpoints;
     of = h.of;
-    came = fragments_by c.endpoints clock arrivals h.came h.times;
+    came = fragments_by side c.endpoints clock arrivals h.came h.times;
     fragments = h.fragments;
     places = h.places;
     hold = h.hold;
     keeps = h.keeps;
     told =
-        timely_all IsTold c.delays (data_of Ru c arrivals)
-        (All-weaker (IsProperData c.endpoints) IsTold (λ x is. blocks_told x is.blocks) (data_of Ru c arrivals) (data_are_proper Ru c clock arrivals h.came h.times));
+        timely_all IsTold side c.delays (data_of side c arrivals)
+        (All-weaker (IsProperData c.endpoints) IsTold (λ x is. blocks_told x is.blocks) (data_of side c arrivals) (data_are_proper side c clock arrivals h.came h.times));
     counts = λ k. h.counts k ∙ ap capped (numbers k);
   }
 
   -- and back
-  pub of_parts : AreInTime clock arrivals → All (λ a. IsTime a.at) arrivals → Stands c clock m arrivals ms beside → Holds c clock m arrivals beside
+  pub of_parts : AreInTime clock arrivals → All (λ a. IsTime a.at) arrivals → Stands side c clock m arrivals ms beside → Holds side c clock m arrivals beside
   of_parts came times h = record {
     config = h.config;
     endpoints = h.endpoints;
@@ -112,7 +112,7 @@ in_time_later clock to [] order h = tt
 in_time_later clock to (a ∷ earlier) order h = (at_most a.at clock to h.0 order, h.1)
 
 pub holds_later : HoldsLater
-holds_later c clock to m arrivals beside order h = record {
+holds_later side c clock to m arrivals beside order h = record {
   config = h.config;
   endpoints = h.endpoints;
   of = h.of;
@@ -122,7 +122,7 @@ holds_later c clock to m arrivals beside order h = record {
   places = h.places;
   hold = h.hold;
   counts = h.counts;
-  keeps = keeps_later c clock to m.cells _ _ order h.keeps;
+  keeps = keeps_later side c clock to m.cells _ _ order h.keeps;
 }
 
 -- ---- messages
@@ -138,46 +138,46 @@ piece_number : (a b m o : ℕ) (p ms : List Counter) (k : Counter) → times ms 
 piece_number a b m o p ms k h g = omega (arith, times-append (p ++ counter.Messages ∷ []) ms k, times-append p (counter.Messages ∷ []) k)
 
 -- so many were counted of these frames and messages, and beside them
-abbrev pub before_message : Config → List Arrival → List Meeting → List Counter → Counter → ℕ
-before_message c arrivals ms beside k = counted_of Ru (hold_of Ru c.delays) arrivals ms k + times beside k
+abbrev pub before_message : Side → Config → List Arrival → List Meeting → List Counter → Counter → ℕ
+before_message side c arrivals ms beside k = counted_of side (hold_of side c.delays) arrivals ms k + times beside k
 
-module _ (c : Config) (clock : ℤ) (m : RuMemory) (arrivals : List Arrival) (ms : List Meeting) (beside : List Counter) where
+module _ (side : Side) (c : Config) (clock : ℤ) (m : RuMemory) (arrivals : List Arrival) (ms : List Meeting) (beside : List Counter) where
   abbrev hold : ℤ
-  hold = hold_of Ru c.delays
+  hold = hold_of side c.delays
 
   -- and one message more
   abbrev pub met_so_far : Counter → ℕ
-  met_so_far k = before_message c arrivals ms beside k + once counter.Messages k
+  met_so_far k = before_message side c arrivals ms beside k + once counter.Messages k
 
-  pub stands_ignored : (x : Counter) → HoldsParts c clock m (λ k. met_so_far k + once x k) (fragments ms) (commands ms) (data_sections Ru hold ms)
-      → Stands c clock m arrivals (Ignored x ∷ ms) beside
+  pub stands_ignored : (x : Counter) → HoldsParts side c clock m (λ k. met_so_far k + once x k) (fragments ms) (commands ms) (data_sections side hold ms)
+      → Stands side c clock m arrivals (Ignored x ∷ ms) beside
   unfolding fragments commands data_sections messages_counted
   stands_ignored x h =
-      parts_as c clock m _ _ (fragments ms) (commands ms) (data_sections Ru hold ms)
-      (λ k. message_number (times (frames_counted arrivals) k) (times beside k) (times (messages_counted Ru hold ms) k) (once counter.Messages k) (once x k)) h
+      parts_as side c clock m _ _ (fragments ms) (commands ms) (data_sections side hold ms)
+      (λ k. message_number (times (frames_counted arrivals) k) (times beside k) (times (messages_counted side hold ms) k) (once counter.Messages k) (once x k)) h
 
-  pub stands_commands : (cs : List Command) → HoldsParts c clock m met_so_far (fragments ms) (onto (commands ms) cs) (data_sections Ru hold ms)
-      → Stands c clock m arrivals (Commands cs ∷ ms) beside
+  pub stands_commands : (cs : List Command) → HoldsParts side c clock m met_so_far (fragments ms) (onto (commands ms) cs) (data_sections side hold ms)
+      → Stands side c clock m arrivals (Commands cs ∷ ms) beside
   unfolding fragments commands data_sections messages_counted
   stands_commands cs h =
-      parts_as c clock m _ _ (fragments ms) (onto (commands ms) cs) (data_sections Ru hold ms)
-      (λ k. command_number (times (frames_counted arrivals) k) (times beside k) (times (messages_counted Ru hold ms) k) (once counter.Messages k)) h
+      parts_as side c clock m _ _ (fragments ms) (onto (commands ms) cs) (data_sections side hold ms)
+      (λ k. command_number (times (frames_counted arrivals) k) (times beside k) (times (messages_counted side hold ms) k) (once counter.Messages k)) h
 
   pub stands_piece : (e : EndpointConfig) (f : Fragment)
-      → (let told = data_now Ru hold e f (fragments ms) in
-      HoldsParts c clock m (λ k. met_so_far k + times (piece_counted hold f (fragments ms) told) k) (f ∷ fragments ms) (commands ms) (data_told told ++ data_sections Ru hold ms))
-      → Stands c clock m arrivals (Piece e f ∷ ms) beside
+      → (let told = data_now side hold e f (fragments ms) in
+      HoldsParts side c clock m (λ k. met_so_far k + times (piece_counted hold f (fragments ms) told) k) (f ∷ fragments ms) (commands ms) (data_told told ++ data_sections side hold ms))
+      → Stands side c clock m arrivals (Piece e f ∷ ms) beside
   unfolding fragments commands data_sections messages_counted
   stands_piece e f h =
-      let told = data_now Ru hold e f (fragments ms) in
-      parts_as c clock m _ _ (f ∷ fragments ms) (commands ms) (data_told told ++ data_sections Ru hold ms)
-      (λ k. piece_number (times (frames_counted arrivals) k) (times beside k) _ _ (piece_counted hold f (fragments ms) told) (messages_counted Ru hold ms) k refl refl) h
+      let told = data_now side hold e f (fragments ms) in
+      parts_as side c clock m _ _ (f ∷ fragments ms) (commands ms) (data_told told ++ data_sections side hold ms)
+      (λ k. piece_number (times (frames_counted arrivals) k) (times beside k) _ _ (piece_counted hold f (fragments ms) told) (messages_counted side hold ms) k refl refl) h
 
 -- the messages of a frame are treated but for these
-pub record MetSoFar (c : Config) (clock : ℤ) (m : RuMemory) (arrivals : List Arrival) (all : List Meeting) (left : List WholeMessage) (beside : List Counter) : Type 0 where
+pub record MetSoFar (side : Side) (c : Config) (clock : ℤ) (m : RuMemory) (arrivals : List Arrival) (all : List Meeting) (left : List WholeMessage) (beside : List Counter) : Type 0 where
   pub so_far : List Meeting
-  pub stands : Stands c clock m arrivals so_far beside
-  pub are : onto so_far (met_in Ru c.endpoints clock left) ≡ all
+  pub stands : Stands side c clock m arrivals so_far beside
+  pub are : onto so_far (met_in side c.endpoints clock left) ≡ all
 
 -- of so many messages, those that are left are not counted, and the count stays at the greatest u32
 pub record CountSoFar (count left all : ℕ) : Type 0 where
@@ -201,35 +201,35 @@ frame_number : (f m b o r : ℕ) (rs rest : List Counter) (k : Counter) → time
 frame_number f m b o r rs rest k x y z = omega (arith, times-append rs (counter.Frames ∷ []) k, times-append rs (counter.Frames ∷ rest) k)
 
 -- a frame of which no message was treated
-pub stands_frame : (c : Config) (clock : ℤ) (m : RuMemory) (arrivals : List Arrival) (ms : List Meeting) (beside : List Counter) (a : Arrival)
-    → HoldsParts c clock m (λ k. (counted_of Ru (hold_of Ru c.delays) arrivals ms k + times beside k) + times (refusal_counted (pdu a.frame).refusal ++ counter.Frames ∷ []) k)
-    (fragments ms) (commands ms) (data_sections Ru (hold_of Ru c.delays) ms)
-    → Stands c clock m (a ∷ arrivals) ms beside
+pub stands_frame : (side : Side) (c : Config) (clock : ℤ) (m : RuMemory) (arrivals : List Arrival) (ms : List Meeting) (beside : List Counter) (a : Arrival)
+    → HoldsParts side c clock m (λ k. (counted_of side (hold_of side c.delays) arrivals ms k + times beside k) + times (refusal_counted (pdu a.frame).refusal ++ counter.Frames ∷ []) k)
+    (fragments ms) (commands ms) (data_sections side (hold_of side c.delays) ms)
+    → Stands side c clock m (a ∷ arrivals) ms beside
 unfolding frames_counted
-stands_frame c clock m arrivals ms beside a h =
-    parts_as c clock m _ _ (fragments ms) (commands ms) (data_sections Ru (hold_of Ru c.delays) ms)
-    (λ k. frame_number (times (frames_counted arrivals) k) (times (messages_counted Ru (hold_of Ru c.delays) ms) k) (times beside k) _ _ (refusal_counted (pdu a.frame).refusal)
+stands_frame side c clock m arrivals ms beside a h =
+    parts_as side c clock m _ _ (fragments ms) (commands ms) (data_sections side (hold_of side c.delays) ms)
+    (λ k. frame_number (times (frames_counted arrivals) k) (times (messages_counted side (hold_of side c.delays) ms) k) (times beside k) _ _ (refusal_counted (pdu a.frame).refusal)
     (frames_counted arrivals) k refl refl refl) h
 
-module _ (c : Config) (at : ℤ) (old new : RuMemory) (arrivals : List Arrival) (beside : List Counter) (frame : List ℕ) where
+module _ (side : Side) (c : Config) (at : ℤ) (old new : RuMemory) (arrivals : List Arrival) (beside : List Counter) (frame : List ℕ) where
   abbrev met_of : List Meeting
-  met_of = met Ru c arrivals
+  met_of = met side c arrivals
 
   abbrev Parts : RuMemory → (Counter → ℕ) → Type 0
-  Parts m n = HoldsParts c at m n (fragments met_of) (commands met_of) (data_sections Ru (hold_of Ru c.delays) met_of)
+  Parts m n = HoldsParts side c at m n (fragments met_of) (commands met_of) (data_sections side (hold_of side c.delays) met_of)
 
   -- the frame is counted
   pub begun : (r : Option PduRefusal) → r ≡ (pdu frame).refusal
-      → (Parts old (before_message c arrivals met_of beside) → Parts new (λ k. before_message c arrivals met_of beside k + times (refusal_counted r ++ counter.Frames ∷ []) k))
-      → Holds c at old arrivals beside → Stands c at new (arrival at frame ∷ arrivals) met_of beside
+      → (Parts old (before_message side c arrivals met_of beside) → Parts new (λ k. before_message side c arrivals met_of beside k + times (refusal_counted r ++ counter.Frames ∷ []) k))
+      → Holds side c at old arrivals beside → Stands side c at new (arrival at frame ∷ arrivals) met_of beside
   begun r is step h =
-      let P : Option PduRefusal → Type 0 = λ (x : Option PduRefusal). Parts new (λ k. before_message c arrivals met_of beside k + times (refusal_counted x ++ counter.Frames ∷ []) k) in
-      stands_frame c at new arrivals met_of beside (arrival at frame) (subst P is (step (to_parts c at old arrivals beside h)))
+      let P : Option PduRefusal → Type 0 = λ (x : Option PduRefusal). Parts new (λ k. before_message side c arrivals met_of beside k + times (refusal_counted x ++ counter.Frames ∷ []) k) in
+      stands_frame side c at new arrivals met_of beside (arrival at frame) (subst P is (step (to_parts side c at old arrivals beside h)))
 
   -- and its messages are treated
-  pub arrived : Holds c at old arrivals beside → Stands c at new (arrival at frame ∷ arrivals) (onto met_of (met_in Ru c.endpoints at (whole_messages frame))) beside
-      → IsTime at → Holds c at new (arrival at frame ∷ arrivals) beside
+  pub arrived : Holds side c at old arrivals beside → Stands side c at new (arrival at frame ∷ arrivals) (onto met_of (met_in side c.endpoints at (whole_messages frame))) beside
+      → IsTime at → Holds side c at new (arrival at frame ∷ arrivals) beside
   unfolding meetings
   arrived h stands time =
       let P : Arrival → Type 0 = λ a. IsTime a.at in
-      of_parts c at new (arrival at frame ∷ arrivals) beside (same_most at, h.came) (All-cons P (arrival at frame) arrivals time h.times) stands
+      of_parts side c at new (arrival at frame ∷ arrivals) beside (same_most at, h.came) (All-cons P (arrival at frame) arrivals time h.times) stands

@@ -3,7 +3,8 @@ use Rattle.std.proofs.Common.{◌≡◌, ℕ, ℤ, ◌≤ℤ◌, Bool, true, fal
 use Rattle.std.specs.Prelude.{◌==◌, ◌||◌, not, nat_lt, length}
 use Rattle.std.proofs.lemmas.Int.{ints}
 use Rattle.std.proofs.lemmas.List.Elements.{All-nil, All-cons, All-head, All-tail}
-use Rattle.air_source.specs.declared.events.Side.TheVariants.{Ru}
+use Rattle.air_source.specs.declared.events.Side.{Side}
+use Rattle.air_source.specs.declared.events.Side.TheVariants.{Ru, Du}
 use Rattle.ecpri_fragments.specs.Generations.{Fragment, Generation, begun, generations, generations_of, held_in, is_of, is_within, joined, of_id, with_fragment}
 use Rattle.ecpri_fragments.specs.Verdicts.{Message, first_of, message, refused, standing, standing_before, with_one}
 use Rattle.ecpri_fragments.specs.declared.verdict.Verdict.{Verdict}
@@ -15,7 +16,7 @@ use Rattle.cplane_sections.specs.declared.values.CRefusal.{CRefusal}
 use Rattle.cplane_sections.specs.Tests.{checked}
 use Rattle.fh_time.specs.Numbering.{shape_of}
 use Rattle.window_config.specs.declared.endpoints.EndpointConfig.{EndpointConfig}
-use Rattle.unit_model.specs.Meetings.{Arrival, Meeting, Ignored, Commands, Piece, application, command_met, command_read, find_endpoint, fragment_of, fragments, id_of, is_fragmented, meet, meetings, met_by, met_in, sequence_of}
+use Rattle.unit_model.specs.Meetings.{Arrival, Meeting, Ignored, Commands, Piece, application, command_met, control_met, command_read, find_endpoint, fragment_of, fragments, id_of, is_fragmented, meet, meetings, met_by, met_in, sequence_of}
 use Rattle.unit_model.specs.Proper.{IsTime}
 use Rattle.unit_model.specs.Standing.{AreInTime}
 use Rattle.unit_laws.proofs.OrderLemmas.{All-onto}
@@ -105,7 +106,7 @@ MetBy clock (Ignored c) = Unit {0}
 MetBy clock (Commands cs) = Unit {0}
 MetBy clock (Piece e f) = CameBy clock f
 
-module _ (es : List EndpointConfig) (clock : ℤ) where
+module _ (side : Side) (es : List EndpointConfig) (clock : ℤ) where
   read_by : (ep : ℕ) (e : EndpointConfig) (at : ℤ) (bytes : List ℕ) (r : Result CHead CRefusal) → MetBy clock (command_read ep e at bytes r)
   read_by ep e at bytes (Err r) = tt
   read_by ep e at bytes (Ok head) = tt
@@ -115,32 +116,36 @@ module _ (es : List EndpointConfig) (clock : ℤ) where
       either (MetBy clock) (is_fragmented (sequence_of payload)) (Ignored CRefused) (command_read ep e at (application payload) (checked (shape_of e.numerology) (application payload))) tt
       (read_by ep e at (application payload) (checked (shape_of e.numerology) (application payload)))
 
-  found_by : (kind : ℕ) (at : ℤ) (payload : List ℕ) (o : Option (ℕ × EndpointConfig)) → IsTime at → at ≤ℤ clock → MetBy clock (met_by Ru kind at payload o)
+  control_by : (s : Side) (ep : ℕ) (e : EndpointConfig) (at : ℤ) (payload : List ℕ) → MetBy clock (control_met s ep e at payload)
+  control_by Ru ep e at payload = command_by ep e at payload
+  control_by Du ep e at payload = tt
+
+  found_by : (kind : ℕ) (at : ℤ) (payload : List ℕ) (o : Option (ℕ × EndpointConfig)) → IsTime at → at ≤ℤ clock → MetBy clock (met_by side kind at payload o)
   found_by kind at payload None time by = tt
   found_by kind at payload (Some (ep, e)) time by =
-      either (MetBy clock) (kind == 2) (command_met ep e at payload) (Piece e (fragment_of ep at payload)) (command_by ep e at payload) (record { time = time; by = by })
+      either (MetBy clock) (kind == 2) (control_met side ep e at payload) (Piece e (fragment_of ep at payload)) (control_by side ep e at payload) (record { time = time; by = by })
 
-  meet_by : (at : ℤ) (m : WholeMessage) → IsTime at → at ≤ℤ clock → MetBy clock (meet Ru es at m)
+  meet_by : (at : ℤ) (m : WholeMessage) → IsTime at → at ≤ℤ clock → MetBy clock (meet side es at m)
   unfolding meet
   meet_by at m time by =
-      let found = met_by Ru m.head.kind at m.payload (find_endpoint es (id_of m.payload)) in
+      let found = met_by side m.head.kind at m.payload (find_endpoint es (id_of m.payload)) in
       let long = cond (nat_lt (length m.payload) 4) (Ignored Short) found in
       let typed = cond (not (m.head.kind == 0 || m.head.kind == 2)) (Ignored OtherType) long in
       either (MetBy clock) (m.head.kind == 5) (Ignored Delay) typed tt
       (either (MetBy clock) (not (m.head.kind == 0 || m.head.kind == 2)) (Ignored OtherType) long tt
       (either (MetBy clock) (nat_lt (length m.payload) 4) (Ignored Short) found tt (found_by m.head.kind at m.payload (find_endpoint es (id_of m.payload)) time by)))
 
-  all_by : (at : ℤ) (ms : List WholeMessage) → IsTime at → at ≤ℤ clock → All (MetBy clock) (met_in Ru es at ms)
+  all_by : (at : ℤ) (ms : List WholeMessage) → IsTime at → at ≤ℤ clock → All (MetBy clock) (met_in side es at ms)
   all_by at [] time by = All-nil (MetBy clock)
-  all_by at (m ∷ ms) time by = All-cons (MetBy clock) (meet Ru es at m) (met_in Ru es at ms) (meet_by at m time by) (all_by at ms time by)
+  all_by at (m ∷ ms) time by = All-cons (MetBy clock) (meet side es at m) (met_in side es at ms) (meet_by at m time by) (all_by at ms time by)
 
-  meetings_by : (sooner : ℤ) (arrivals : List Arrival) → sooner ≤ℤ clock → AreInTime sooner arrivals → All (λ a. IsTime a.at) arrivals → All (MetBy clock) (meetings Ru es arrivals)
+  meetings_by : (sooner : ℤ) (arrivals : List Arrival) → sooner ≤ℤ clock → AreInTime sooner arrivals → All (λ a. IsTime a.at) arrivals → All (MetBy clock) (meetings side es arrivals)
   unfolding meetings
   meetings_by sooner [] order h times = All-nil (MetBy clock)
   meetings_by sooner (a ∷ earlier) order h times =
       let P : Arrival → Type 0 = λ a. IsTime a.at in
       let by = at_most a.at sooner clock h.0 order in
-      All-onto (MetBy clock) (meetings Ru es earlier) (met_in Ru es a.at (whole_messages a.frame)) (meetings_by a.at earlier by h.1 (All-tail P a earlier times))
+      All-onto (MetBy clock) (meetings side es earlier) (met_in side es a.at (whole_messages a.frame)) (meetings_by a.at earlier by h.1 (All-tail P a earlier times))
       (all_by a.at (whole_messages a.frame) (All-head P a earlier times) by)
 
   fragments_met : (ms : List Meeting) → All (MetBy clock) ms → All (CameBy clock) (fragments ms)
@@ -151,5 +156,5 @@ module _ (es : List EndpointConfig) (clock : ℤ) where
   fragments_met (Piece e f ∷ ms) h =
       All-cons (CameBy clock) f (fragments ms) (All-head (MetBy clock) (Piece e f) ms h) (fragments_met ms (All-tail (MetBy clock) (Piece e f) ms h))
 
-  pub fragments_by : (arrivals : List Arrival) → AreInTime clock arrivals → All (λ a. IsTime a.at) arrivals → All (CameBy clock) (fragments (meetings Ru es arrivals))
-  fragments_by arrivals h times = fragments_met (meetings Ru es arrivals) (meetings_by clock arrivals (same_most clock) h times)
+  pub fragments_by : (arrivals : List Arrival) → AreInTime clock arrivals → All (λ a. IsTime a.at) arrivals → All (CameBy clock) (fragments (meetings side es arrivals))
+  fragments_by arrivals h times = fragments_met (meetings side es arrivals) (meetings_by clock arrivals (same_most clock) h times)

@@ -1,6 +1,6 @@
--- The parts of what a radio unit keeps, and the fragments and sections for which they stand (this project's profile).
+-- The parts of what a unit keeps, and the fragments and sections for which they stand (this project's profile).
 use Rattle.std.specs.Prelude.{◌≡◌, ℕ, ℤ, ◌+◌, ◌≤ℤ◌, List, length, All}
-use Rattle.air_source.specs.declared.events.Side.TheVariants.{Ru}
+use Rattle.air_source.specs.declared.events.Side.{Side}
 use Rattle.ecpri_fragments.specs.Assemblies.{StandsFor, endpoints_of as places_of, hold_of as assembly_hold}
 use Rattle.ecpri_fragments.specs.declared.assembly.Assembly.{Assembly}
 use Rattle.ecpri_fragments.specs.Generations.{Fragment}
@@ -36,43 +36,46 @@ pub record CameSome (clock : ℤ) (a : Assembly) : Type 0 where
 
 -- At a clock it stands for these fragments, sections of commands and sections of data, the newest first, and has counted so much
 -- beside the verdicts on the sections.
-pub record HoldsParts (c : Config) (clock : ℤ) (m : RuMemory) (counted : Counter → ℕ) (fs : List Fragment) (cs : List Command) (ds : List Data) : Type 0 where
+pub record HoldsParts (side : Side) (c : Config) (clock : ℤ) (m : RuMemory) (counted : Counter → ℕ) (fs : List Fragment) (cs : List Command) (ds : List Data) : Type 0 where
   pub config : IsConfig c
   pub endpoints : m.endpoints.items ≡ c.endpoints
-  pub of : IsOf c m.cells
+  pub of : IsOf side c m.cells
   pub came : All (CameBy clock) fs
   pub fragments : StandsFor m.assembly fs
   pub places : places_of m.assembly ≡ length c.endpoints
-  pub hold : assembly_hold m.assembly ≡ hold_of Ru c.delays
-  pub keeps : Keeps c clock m.cells (accepted c.delays cs) (timely Ru c.delays ds)
-  pub told : All IsTold (timely Ru c.delays ds)
+  pub hold : assembly_hold m.assembly ≡ hold_of side c.delays
+  pub keeps : Keeps side c clock m.cells (accepted c.delays cs) (timely side c.delays ds)
+  pub told : All IsTold (timely side c.delays ds)
   pub counts : (k : Counter) → count_of m.counters k ≡ capped (counted k
-      + (times (commands_counted (command_verdicts c.delays cs)) k + times (data_counted (data_verdicts Ru c.delays ds)) k))
+      + (times (commands_counted (command_verdicts c.delays cs)) k + times (data_counted (data_verdicts side c.delays ds)) k))
 
 -- it stands for some of them, whatever they are
 pub record HoldsSomeParts (clock : ℤ) (m : RuMemory) : Type 0 where
+  pub side : Side
   pub config : Config
   pub counted : Counter → ℕ
   pub fragments : List Fragment
   pub commands : List Command
   pub sections : List Data
-  pub holds : HoldsParts config clock m counted fragments commands sections
+  pub holds : HoldsParts side config clock m counted fragments commands sections
 
 -- it stands for these frames and these of their messages, where this was counted beside them
-abbrev pub Stands : Config → ℤ → RuMemory → List Arrival → List Meeting → List Counter → Type 0
-Stands c clock m arrivals ms beside =
-    HoldsParts c clock m (λ k. counted_of Ru (hold_of Ru c.delays) arrivals ms k + times beside k) (fragments ms) (commands ms) (data_sections Ru (hold_of Ru c.delays) ms)
+abbrev pub Stands : Side → Config → ℤ → RuMemory → List Arrival → List Meeting → List Counter → Type 0
+Stands side c clock m arrivals ms beside =
+    HoldsParts side c clock m (λ k. counted_of side (hold_of side c.delays) arrivals ms k + times beside k) (fragments ms) (commands ms) (data_sections side (hold_of side c.delays) ms)
 
 -- it stands for some frames
 pub record StandsForSome (clock : ℤ) (m : RuMemory) : Type 0 where
+  pub side : Side
   pub config : Config
   pub arrivals : List Arrival
   pub meetings : List Meeting
   pub beside : List Counter
-  pub stands : Stands config clock m arrivals meetings beside
+  pub stands : Stands side config clock m arrivals meetings beside
 
--- of live slots the same cells are marked as reported, and the rings are those of the same configuration
+-- of live slots the same cells are marked as reported, and the rings are those of the same unit and configuration
 pub record LeavesMarks (clock : ℤ) (old new : CellsValue) : Type 0 where
-  pub marks : (c : Config) → IsOf c old → SameMarks c clock old new
+  pub marks : (side : Side) (c : Config) → IsOf side c old → SameMarks side c clock old new
+  pub side : new.side ≡ old.side
   pub delays : new.delays ≡ old.delays
   pub endpoints : endpoints_of new ≡ endpoints_of old

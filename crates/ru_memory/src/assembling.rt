@@ -1,6 +1,6 @@
 // A fragment, and the message that it makes whole.
 ghost use Rattle.std.specs.Prelude.{◌≡◌, ℕ, ◌+◌, ◌<◌, ◌++◌, List};
-ghost use Rattle.air_source.specs.declared.events.Side.TheVariants.{Ru};
+ghost use Rattle.air_source.specs.declared.events.Side.{Side as SpecSide};
 ghost use Rattle.bfp_codec.specs.Layout.{HasWidth};
 ghost use Rattle.ecpri_fragments.specs.Assemblies.{StandsFor, Took, endpoints_of as places_of, hold_of};
 ghost use Rattle.ecpri_fragments.specs.Generations.{Fragment, fragment};
@@ -43,10 +43,10 @@ pub(crate) fn assemble(
     requires sub { seq.sub < 128 }
     ensures took { Took assembly.old assembly.new (fragment ep at seq bytes.now) }
     ensures verdict { (fs : List Fragment) → StandsFor assembly.old fs → result ≡ verdict_on (hold_of assembly.old) (fragment ep at seq bytes.now) fs }
-    ensures holds { (c : Config) (n : SpecCounter → ℕ) (acc : List Allocation) (fs : List Fragment) (ds : List Data)
-        → StandsFor assembly.old fs → HoldsData c at.0 n acc ds cells.old counters.old
-        → let told = data_now Ru (hold_of assembly.old) endpoint.now (fragment ep at seq bytes.now) fs in
-        HoldsData c at.0 (λ k. n k + times (decoded_counted told) k) acc (data_told told ++ ds) cells.new counters.new }
+    ensures holds { (side : SpecSide) (c : Config) (n : SpecCounter → ℕ) (acc : List Allocation) (fs : List Fragment) (ds : List Data)
+        → StandsFor assembly.old fs → HoldsData side c at.0 n acc ds cells.old counters.old
+        → let told = data_now side (hold_of assembly.old) endpoint.now (fragment ep at seq bytes.now) fs in
+        HoldsData side c at.0 (λ k. n k + times (decoded_counted told) k) acc (data_told told ++ ds) cells.new counters.new }
     ensures marks { LeavesMarks at.0 cells.old cells.new }
 {
     match assembly.take(ep, at, seq, bytes) {

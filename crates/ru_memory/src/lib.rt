@@ -1,4 +1,4 @@
-//! What a radio unit of an open fronthaul keeps of the frames that arrive, in memory that is taken once.
+//! What a unit of an open fronthaul keeps of the frames that arrive, in memory that is taken once.
 //!
 //! [`RuMemory`] treats frames in the order of their times. Its contracts say at each clock how it stands to all that arrived, by
 //! the definitions of `unit_model` over whole lists (`specs/Memory.antt`): the fragments of messages that are not whole, the

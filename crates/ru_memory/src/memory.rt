@@ -1,6 +1,6 @@
-// What a radio unit keeps of the frames that came.
+// What a unit keeps of the frames that came.
 ghost use Rattle.std.specs.Prelude.{◌≡◌, ℤ, ◌-◌, ◌^◌, ◌≤ℤ◌, pos, List, [], ◌∷◌, IfOk, length, min, false};
-ghost use Rattle.air_source.specs.declared.events.Side.TheVariants.{Ru};
+ghost use Rattle.air_source.specs.declared.events.Side.{Side as SpecSide};
 ghost use Rattle.ecpri_frames.specs.Gathering.{whole_messages};
 ghost use Rattle.ecpri_frames.specs.Messages.{pdu};
 ghost use Rattle.fault_counters.specs.declared.kinds.Counter.{Counter};
@@ -14,6 +14,7 @@ ghost use Rattle.unit_model.specs.declared.cells.Cell.{Cell};
 ghost use Rattle.window_config.specs.Configs.{IsConfig};
 ghost use Rattle.window_config.specs.declared.config.Config.{Config as SpecConfig};
 
+use air_source::Side;
 use ecpri_fragments::Assembly;
 use ecpri_frames::messages;
 use fault_counters::Counters;
@@ -24,17 +25,20 @@ use unit_cells::UnitCells;
 use unit_model::Delivered;
 use window_config::{Config, EndpointConfig};
 
-/// How long a generation of fragments holds.
-fn hold(config: &Config) -> Ticks
+/// How long a generation of fragments holds at this side.
+fn hold(side: Side, config: &Config) -> Ticks
     requires { IsConfig config.now }
-    ensures value { result.0 ≡ hold_of Ru config.now.delays }
+    ensures value { result.0 ≡ hold_of side config.now.delays }
     ensures low { pos 0 ≤ℤ result.0 }
     ensures high { result.0 ≤ℤ pos (2 ^ 56) }
 {
-    of_ns(config.delays.hold_dl)
+    match side {
+        Side::Ru => of_ns(config.delays.hold_dl),
+        Side::Du => of_ns(config.delays.hold_ul),
+    }
 }
 
-/// All memory of a radio unit: what it keeps of the frames that came. It is taken when it is made; no other call asks for any.
+/// All memory of a unit: what it keeps of the frames that came. It is taken when it is made; no other call asks for any.
 #[derive(Drop)]
 pub struct RuMemory {
     /// The endpoints in the configuration's order.
@@ -51,15 +55,15 @@ impl RuMemory {
     ghost use Rattle.ru_memory.specs.Memory.{Holds, HoldsSome, arrival};
     ghost use Rattle.ru_memory.specs.Parts.{LeavesMarks, Stands, StandsForSome};
 
-    /// Takes all memory for a configuration. Nothing came.
-    pub fn make(alloc: Global, config: &Config) -> Result<RuMemory, NoMemory>
+    /// Takes all memory for a unit and a configuration. Nothing came.
+    pub fn make(alloc: Global, side: Side, config: &Config) -> Result<RuMemory, NoMemory>
         requires { IsConfig config.now }
-        ensures holds { IfOk result (λ m. (clock : ℤ) → Holds config.now clock m [] []) }
+        ensures holds { IfOk result (λ m. (clock : ℤ) → Holds side config.now clock m [] []) }
         ensures unmarked { IfOk result (λ m. (cell : Cell) → cells_done m.cells cell ≡ false) }
     {
         let endpoints = Vec::from_slice(alloc, config.endpoints.as_slice())?;
-        let cells = UnitCells::make(alloc, config)?;
-        let assembly = Assembly::make(alloc, endpoints.len(), hold(config))?;
+        let cells = UnitCells::make(alloc, side, config)?;
+        let assembly = Assembly::make(alloc, endpoints.len(), hold(side, config))?;
         Ok(RuMemory {
             endpoints,
             cells,
@@ -72,9 +76,9 @@ impl RuMemory {
     fn take_messages(&mut self, at: Ticks, frame: &[u8]) -> u32
         requires unit { StandsForSome at.0 self.old }
         requires time { IsTime at.0 }
-        ensures holds { (c : SpecConfig) (arrivals : List Arrival) (ms : List Meeting) (beside : List Counter)
-            → Stands c at.0 self.old arrivals ms beside
-            → Stands c at.0 self.new arrivals (onto ms (met_in Ru c.endpoints at.0 (whole_messages frame.now))) beside }
+        ensures holds { (side : SpecSide) (c : SpecConfig) (arrivals : List Arrival) (ms : List Meeting) (beside : List Counter)
+            → Stands side c at.0 self.old arrivals ms beside
+            → Stands side c at.0 self.new arrivals (onto ms (met_in side c.endpoints at.0 (whole_messages frame.now))) beside }
         ensures marks { LeavesMarks at.0 self.old.cells self.new.cells }
         ensures count { result ≡ min (length (whole_messages frame.now)) (2 ^ 32 - 1) }
     {
@@ -91,9 +95,9 @@ impl RuMemory {
     pub fn arrive(&mut self, at: Ticks, frame: &[u8]) -> Delivered
         requires unit { HoldsSome at.0 self.old }
         requires time { IsTime at.0 }
-        ensures holds { (c : SpecConfig) (arrivals : List Arrival) (beside : List Counter) → Holds c at.0 self.old arrivals beside
-            → Holds c at.0 self.new (arrival at.0 frame.now ∷ arrivals) beside }
-        ensures marks { (c : SpecConfig) → IsOf c self.old.cells → SameMarks c at.0 self.old.cells self.new.cells }
+        ensures holds { (side : SpecSide) (c : SpecConfig) (arrivals : List Arrival) (beside : List Counter) → Holds side c at.0 self.old arrivals beside
+            → Holds side c at.0 self.new (arrival at.0 frame.now ∷ arrivals) beside }
+        ensures marks { (side : SpecSide) (c : SpecConfig) → IsOf side c self.old.cells → SameMarks side c at.0 self.old.cells self.new.cells }
         ensures messages { result.messages ≡ min (length (whole_messages frame.now)) (2 ^ 32 - 1) }
         ensures refusal { result.refusal ≡ (pdu frame.now).refusal }
     {

@@ -1,5 +1,6 @@
 // One step of a unit at a clock: something that is counted, a section, a fragment, a message.
 ghost use Rattle.std.specs.Prelude.{◌≡◌, ℕ, ℤ, ◌+◌, ◌<◌, ◌∷◌, [], ◌++◌, List};
+ghost use Rattle.air_source.specs.declared.events.Side.{Side as SpecSide};
 ghost use Rattle.air_source.specs.declared.events.Side.TheVariants.{Ru};
 ghost use Rattle.cplane_sections.specs.Message.{sections_in};
 ghost use Rattle.ecpri_fragments.specs.Generations.{Fragment};
@@ -34,8 +35,8 @@ impl RuMemory {
 
     /// Counts what is no section.
     pub(crate) fn count(&mut self, counter: Counter)
-        ensures holds { (c : Config) (clock : ℤ) (n : SpecCounter → ℕ) (fs : List Fragment) (cs : List SpecCommand) (ds : List Data)
-            → HoldsParts c clock self.old n fs cs ds → HoldsParts c clock self.new (λ k. n k + once counter k) fs cs ds }
+        ensures holds { (side : SpecSide) (c : Config) (clock : ℤ) (n : SpecCounter → ℕ) (fs : List Fragment) (cs : List SpecCommand) (ds : List Data)
+            → HoldsParts side c clock self.old n fs cs ds → HoldsParts side c clock self.new (λ k. n k + once counter k) fs cs ds }
         ensures cells { self.new.cells ≡ self.old.cells }
     {
         self.counters.add(counter);
@@ -43,9 +44,9 @@ impl RuMemory {
 
     /// Counts a frame, and its refusal, if it has one.
     pub(crate) fn count_frame(&mut self, refusal: Option<PduRefusal>)
-        ensures holds { (c : Config) (clock : ℤ) (n : SpecCounter → ℕ) (fs : List Fragment) (cs : List SpecCommand) (ds : List Data)
-            → HoldsParts c clock self.old n fs cs ds
-            → HoldsParts c clock self.new (λ k. n k + times (refusal_counted refusal ++ SpecCounter.Frames ∷ []) k) fs cs ds }
+        ensures holds { (side : SpecSide) (c : Config) (clock : ℤ) (n : SpecCounter → ℕ) (fs : List Fragment) (cs : List SpecCommand) (ds : List Data)
+            → HoldsParts side c clock self.old n fs cs ds
+            → HoldsParts side c clock self.new (λ k. n k + times (refusal_counted refusal ++ SpecCounter.Frames ∷ []) k) fs cs ds }
         ensures cells { self.new.cells ≡ self.old.cells }
     {
         self.count(Counter::Frames);
@@ -56,9 +57,10 @@ impl RuMemory {
 
     /// Treats a section of a command that comes at the clock.
     fn section(&mut self, command: &Command)
-        requires { IsProperCommand (endpoints_of self.old.cells) command.now }
+        requires side { self.old.cells.side ≡ Ru }
+        requires proper { IsProperCommand (endpoints_of self.old.cells) command.now }
         ensures holds { (c : Config) (n : SpecCounter → ℕ) (fs : List Fragment) (cs : List SpecCommand) (ds : List Data)
-            → HoldsParts c command.now.at.0 self.old n fs cs ds → HoldsParts c command.now.at.0 self.new n fs (command.now ∷ cs) ds }
+            → HoldsParts Ru c command.now.at.0 self.old n fs cs ds → HoldsParts Ru c command.now.at.0 self.new n fs (command.now ∷ cs) ds }
         ensures marks { LeavesMarks command.now.at.0 self.old.cells self.new.cells }
     {
         let verdict = self.cells.command(command);
@@ -74,12 +76,13 @@ impl RuMemory {
         head: &CHead,
         bytes: &[u8],
     )
+        requires side { self.old.cells.side ≡ Ru }
         requires read { IsRead endpoint.now head.now bytes.now }
         requires endpoint { IsAt (endpoints_of self.old.cells) ep endpoint.now }
         requires time { IsTime at.0 }
         ensures holds { (c : Config) (n : SpecCounter → ℕ) (fs : List Fragment) (cs : List SpecCommand) (ds : List Data)
-            → HoldsParts c at.0 self.old n fs cs ds
-            → HoldsParts c at.0 self.new n fs (onto cs (commands_with ep endpoint.now at.0 head.now (sections_in head.now bytes.now))) ds }
+            → HoldsParts Ru c at.0 self.old n fs cs ds
+            → HoldsParts Ru c at.0 self.new n fs (onto cs (commands_with ep endpoint.now at.0 head.now (sections_in head.now bytes.now))) ds }
         ensures marks { LeavesMarks at.0 self.old.cells self.new.cells }
     {
         for section in sections(bytes, head) {
@@ -107,12 +110,12 @@ impl RuMemory {
         requires endpoint { IsAt (endpoints_of self.old.cells) ep endpoint.now }
         requires time { IsTime at.0 }
         requires sub { seq.sub < 128 }
-        ensures holds { (c : Config) (n : SpecCounter → ℕ) (fs : List Fragment) (cs : List SpecCommand) (ds : List Data)
-            → HoldsParts c at.0 self.old n fs cs ds
+        ensures holds { (side : SpecSide) (c : Config) (n : SpecCounter → ℕ) (fs : List Fragment) (cs : List SpecCommand) (ds : List Data)
+            → HoldsParts side c at.0 self.old n fs cs ds
             → let f = fragment_with ep at.0 seq bytes.now in
-            let hold = hold_of Ru c.delays in
-            let told = data_now Ru hold endpoint.now f fs in
-            HoldsParts c at.0 self.new (λ k. n k + times (piece_counted hold f fs told) k) (f ∷ fs) cs (data_told told ++ ds) }
+            let hold = hold_of side c.delays in
+            let told = data_now side hold endpoint.now f fs in
+            HoldsParts side c at.0 self.new (λ k. n k + times (piece_counted hold f fs told) k) (f ∷ fs) cs (data_told told ++ ds) }
         ensures marks { LeavesMarks at.0 self.old.cells self.new.cells }
     {
         let verdict = assemble(
@@ -132,13 +135,13 @@ impl RuMemory {
     pub(crate) fn message(&mut self, at: Ticks, message: &WholeMessage<'_>)
         requires unit { StandsForSome at.0 self.old }
         requires time { IsTime at.0 }
-        ensures holds { (c : Config) (arrivals : List Arrival) (ms : List Meeting) (beside : List SpecCounter)
-            → Stands c at.0 self.old arrivals ms beside
-            → Stands c at.0 self.new arrivals (met_by_definition Ru c.endpoints at.0 (message_of message.now) ∷ ms) beside }
+        ensures holds { (side : SpecSide) (c : Config) (arrivals : List Arrival) (ms : List Meeting) (beside : List SpecCounter)
+            → Stands side c at.0 self.old arrivals ms beside
+            → Stands side c at.0 self.new arrivals (met_by_definition side c.endpoints at.0 (message_of message.now) ∷ ms) beside }
         ensures marks { LeavesMarks at.0 self.old.cells self.new.cells }
     {
         self.count(Counter::Messages);
-        match meet(Side::Ru, self.endpoints.as_slice(), message) {
+        match meet(self.cells.side(), self.endpoints.as_slice(), message) {
             Met::Ignored(counter) => self.count(counter),
             Met::Command {
                 ep,

@@ -2,6 +2,7 @@
 // symbol, and data from 345 to 134 us. The bytes and the counters are worked out by hand.
 ghost use Rattle.std.specs.Prelude.{◌≡◌, ◌<◌, ◌≤ℤ◌, pos, List, [], ◌∷◌, IfOk};
 ghost use Rattle.fh_time.specs.Numbering.{slots_of};
+ghost use Rattle.air_source.specs.declared.events.Side.{Side as SpecSide};
 ghost use Rattle.window_config.specs.Configs.{IsConfig};
 ghost use Rattle.window_config.specs.Endpoints.{IsEndpoint};
 ghost use Rattle.unit_model.specs.Meetings.{Arrival};
@@ -10,6 +11,7 @@ ghost use Rattle.unit_cells.specs.Cells.{endpoints_of};
 ghost use Rattle.ru_memory.specs.Memory.{Holds};
 
 use crate::{RuMemory, holds_later};
+use air_source::Side;
 use bfp_codec::{Format, Method, Wide};
 use eaxc_map::Widths;
 use ecpri_frames::{PduRefusal, PduWhy};
@@ -68,12 +70,23 @@ const LAST_PIECE: [u8; 52] = [
     0x00, 0x0b, 0xff, 0xf5,
 ];
 
+/// Uplink data of symbol 0 of frame 1 for section 5, with the same samples in PRB 0.
+const UPLINK_DATA: [u8; 64] = [
+    0x10, 0x00, 0x00, 0x3c, 0x00, 0x00, 0x00, 0x80, 0x10, 0x01, 0x00, 0x00, 0x00, 0x50, 0x00, 0x01,
+    0x00, 0x00, 0x00, 0x00, 0x00, 0x01, 0xff, 0xff, 0x00, 0x02, 0xff, 0xfe, 0x00, 0x03, 0xff, 0xfd,
+    0x00, 0x04, 0xff, 0xfc, 0x00, 0x05, 0xff, 0xfb, 0x00, 0x06, 0xff, 0xfa, 0x00, 0x07, 0xff, 0xf9,
+    0x00, 0x08, 0xff, 0xf8, 0x00, 0x09, 0xff, 0xf7, 0x00, 0x0a, 0xff, 0xf6, 0x00, 0x0b, 0xff, 0xf5,
+];
+
 /// 9.6 ms, 9.7 ms and 9.75 ms.
 const FIRST: Ticks = Ticks(14_745_600_000);
 
 const SECOND: Ticks = Ticks(14_899_200_000);
 
 const THIRD: Ticks = Ticks(14_976_000_000);
+
+/// 10.1 ms, which is 0.1 ms behind the start of frame 1.
+const BEHIND: Ticks = Ticks(15_513_600_000);
 
 const SLOT: Slot = Slot {
     frame: 1,
@@ -120,11 +133,11 @@ fn config(e: EndpointConfig, widths: Widths) -> Config
 }
 
 /// A unit that nothing came to.
-fn made(alloc: Global, config: &Config) -> Result<RuMemory, NoMemory>
+fn made(alloc: Global, side: Side, config: &Config) -> Result<RuMemory, NoMemory>
     requires { IsConfig config.now }
-    ensures { IfOk result (λ m. (arrivals : List Arrival) × Holds config.now (pos 14745600000) m arrivals []) }
+    ensures { IfOk result (λ m. (at : SpecSide) × (arrivals : List Arrival) × Holds at config.now (pos 14745600000) m arrivals []) }
 {
-    RuMemory::make(alloc, config)
+    RuMemory::make(alloc, side, config)
 }
 
 /// What becomes of a frame that comes after all that came by `before`.
@@ -135,10 +148,10 @@ fn deliver(
     at: Ticks,
     frame: &[u8],
 ) -> Delivered
-    requires unit { (arrivals : List Arrival) × Holds config.now before.0 memory.old arrivals [] }
+    requires unit { (side : SpecSide) × (arrivals : List Arrival) × Holds side config.now before.0 memory.old arrivals [] }
     requires order { before.0 ≤ℤ at.0 }
     requires time { IsTime at.0 }
-    ensures unit { (arrivals : List Arrival) × Holds config.now at.0 memory.new arrivals [] }
+    ensures unit { (side : SpecSide) × (arrivals : List Arrival) × Holds side config.now at.0 memory.new arrivals [] }
     ensures listed { endpoints_of memory.new.cells ≡ config.now.endpoints }
 {
     holds_later();
@@ -186,7 +199,7 @@ fn a_command_and_its_data_fill_a_cell(rt: HostRuntime) -> Result<(), Fail> {
     assert!(rt; shape(&n).slots == 2);
     let e = endpoint(n);
     let config = config(e, Widths::new(4, 4, 4, 4)?);
-    let mut memory = made(rt.alloc(), &config)?;
+    let mut memory = made(rt.alloc(), Side::Ru, &config)?;
     assert_eq!(rt;
         deliver(&mut memory, &config, FIRST, FIRST, &COMMAND),
         read(1)
@@ -217,7 +230,7 @@ fn data_come_in_two_fragments(rt: HostRuntime) -> Result<(), Fail> {
     assert!(rt; shape(&n).slots == 2);
     let e = endpoint(n);
     let config = config(e, Widths::new(4, 4, 4, 4)?);
-    let mut memory = made(rt.alloc(), &config)?;
+    let mut memory = made(rt.alloc(), Side::Ru, &config)?;
     assert_eq!(rt;
         deliver(&mut memory, &config, FIRST, SECOND, &FIRST_PIECE),
         read(1)
@@ -246,7 +259,7 @@ fn data_come_in_two_fragments(rt: HostRuntime) -> Result<(), Fail> {
 fn a_frame_has_two_commands(rt: HostRuntime) -> Result<(), Fail> {
     let n = Numerology::ordinary(1).expect(&rt, "30 kHz");
     let config = config(endpoint(n), Widths::new(4, 4, 4, 4)?);
-    let mut memory = made(rt.alloc(), &config)?;
+    let mut memory = made(rt.alloc(), Side::Ru, &config)?;
     assert_eq!(rt;
         deliver(&mut memory, &config, FIRST, FIRST, &TWO_COMMANDS),
         read(2)
@@ -265,7 +278,7 @@ fn a_frame_has_two_commands(rt: HostRuntime) -> Result<(), Fail> {
 fn messages_are_refused(rt: HostRuntime) -> Result<(), Fail> {
     let n = Numerology::ordinary(1).expect(&rt, "30 kHz");
     let config = config(endpoint(n), Widths::new(4, 4, 4, 4)?);
-    let mut memory = made(rt.alloc(), &config)?;
+    let mut memory = made(rt.alloc(), Side::Ru, &config)?;
     assert_eq!(rt;
         deliver(&mut memory, &config, FIRST, FIRST, &FRAGMENTED),
         read(1)
@@ -289,7 +302,7 @@ fn messages_are_refused(rt: HostRuntime) -> Result<(), Fail> {
 fn a_frame_is_cut(rt: HostRuntime) -> Result<(), Fail> {
     let n = Numerology::ordinary(1).expect(&rt, "30 kHz");
     let config = config(endpoint(n), Widths::new(4, 4, 4, 4)?);
-    let mut memory = made(rt.alloc(), &config)?;
+    let mut memory = made(rt.alloc(), Side::Ru, &config)?;
     let refusal = PduRefusal {
         place: 47,
         why: PduWhy::Truncated,
@@ -306,6 +319,47 @@ fn a_frame_is_cut(rt: HostRuntime) -> Result<(), Fail> {
         (Counter::FramesRefused, 1),
         (Counter::Messages, 1),
         (Counter::CAccepted, 1),
+    ];
+    assert!(rt; has_counted(&memory.counters, &wanted));
+    Ok(())
+}
+
+#[test]
+fn uplink_data_come_to_the_du(rt: HostRuntime) -> Result<(), Fail> {
+    let n = Numerology::ordinary(1).expect(&rt, "30 kHz");
+    assert!(rt; shape(&n).slots == 2);
+    let e = endpoint(n);
+    let config = config(e, Widths::new(4, 4, 4, 4)?);
+    let mut memory = made(rt.alloc(), Side::Du, &config)?;
+    // a command is the radio unit's
+    assert_eq!(rt;
+        deliver(&mut memory, &config, FIRST, FIRST, &COMMAND),
+        read(1)
+    );
+    // before its symbol nothing can have been received
+    assert_eq!(rt;
+        deliver(&mut memory, &config, FIRST, SECOND, &UPLINK_DATA),
+        read(1)
+    );
+    assert_eq!(rt; second_sample(&memory.cells, e), None);
+    // the same in another message, 0.1 ms behind the symbol's start
+    let mut later = UPLINK_DATA;
+    later[6] = 1;
+    assert_eq!(rt;
+        deliver(&mut memory, &config, SECOND, BEHIND, &later),
+        read(1)
+    );
+    assert_eq!(rt;
+        second_sample(&memory.cells, e),
+        Some((5, Wide { i: 1, q: -1 }))
+    );
+    let wanted = [
+        (Counter::Frames, 3),
+        (Counter::Messages, 3),
+        (Counter::WrongWay, 1),
+        (Counter::FWhole, 2),
+        (Counter::UEarly, 1),
+        (Counter::UTaken, 1),
     ];
     assert!(rt; has_counted(&memory.counters, &wanted));
     Ok(())

@@ -102,8 +102,9 @@ told_elsewhere v m prb k ne = and_right (m.ep == m.ep) _ (and_right (same_slot m
 pub marks_none : (m : SymbolStart) (v : CellsValue) → MarksTold m [] v v
 marks_none m v = record {
   marks = λ cell is down. or_none (cells_done v cell) (is_told m [] cell) (told_none m cell);
-  keeps = λ c clock acc ds k. k;
+  keeps = λ side c clock acc ds k. k;
   known = record { claims = λ cell re. refl; blocks = λ cell. refl; uplink = λ ep slot. refl; places = λ ep slot. refl };
+  side = refl;
   delays = refl;
   endpoints = refl;
 }
@@ -131,8 +132,9 @@ marks_then m first second old middle new a b = record {
   marks = λ cell is down.
       or_more (cells_done old cell) (cells_done middle cell) (cells_done new cell) (is_told m first cell) (is_told m second cell) (is_told m (first ++ second) cell)
       (a.marks cell is down) (b.marks cell (cell_still old middle cell a.endpoints is) down) (told_more m first second cell);
-  keeps = λ c clock acc ds k. b.keeps c clock acc ds (a.keeps c clock acc ds k);
+  keeps = λ side c clock acc ds k. b.keeps side c clock acc ds (a.keeps side c clock acc ds k);
   known = known_then old middle new a.known b.known;
+  side = b.side ∙ a.side;
   delays = b.delays ∙ a.delays;
   endpoints = b.endpoints ∙ a.endpoints;
 }

@@ -21,6 +21,7 @@ use Rattle.unit_model.specs.declared.cells.Cell.{Cell}
 use Rattle.unit_model.specs.declared.decoded.Data.{Data}
 use Rattle.unit_model.specs.declared.symbol_start.SymbolStart.{SymbolStart}
 use Rattle.slot_rings.specs.Places.{is_due}
+use Rattle.air_source.specs.declared.events.Side.{Side}
 use Rattle.unit_cells.specs.Cells.{CellsValue, IsCellIn, cells_block, cells_claim, cells_done, cells_has, endpoints_of}
 use Rattle.unit_cells.specs.Keeping.{Keeps, SameKnown}
 
@@ -59,8 +60,9 @@ is_told m told cell =
 -- these cells of a symbol were marked as reported, and nothing else changed
 pub record MarksTold (m : SymbolStart) (told : List AirCell) (old new : CellsValue) : Type 0 where
   pub marks : (cell : Cell) → IsCellIn old cell → cell.down ≡ true → cells_done new cell ≡ (cells_done old cell || is_told m told cell)
-  pub keeps : (c : Config) (clock : ℤ) (acc : List Allocation) (ds : List Data) → Keeps c clock old acc ds → Keeps c clock new acc ds
+  pub keeps : (side : Side) (c : Config) (clock : ℤ) (acc : List Allocation) (ds : List Data) → Keeps side c clock old acc ds → Keeps side c clock new acc ds
   pub known : SameKnown old new
+  pub side : new.side ≡ old.side
   pub delays : new.delays ≡ old.delays
   pub endpoints : endpoints_of new ≡ endpoints_of old
 

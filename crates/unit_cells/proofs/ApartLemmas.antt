@@ -6,8 +6,10 @@ use Rattle.fh_time.specs.declared.numerology.Numerology.{Numerology}
 use Rattle.fh_time.specs.declared.values.Slot.{Slot}
 use Rattle.fh_time.proofs.Order.{same_slot}
 use Rattle.window_config.specs.declared.delays.Delays.{Delays}
+use Rattle.air_source.specs.declared.events.Side.{Side}
+use Rattle.unit_model.specs.Radiated.{is_down}
 use Rattle.unit_model.specs.Proper.{IsSlot}
-use Rattle.unit_laws.specs.Ticks.{IsLiveSlot}
+use Rattle.unit_model.specs.Sides.{IsLiveFor, IsLiveOn, reach_of}
 use Rattle.slot_rings.specs.Rings.{RingValue, SharePlace}
 use Rattle.unit_cells.specs.Cells.{HoldsLive}
 use Rattle.unit_cells.proofs.NumberLemmas.{near_signed}
@@ -18,9 +20,9 @@ is_slot_of n slot is = record { subframe = is.subframe; slot = is.slot_is }
 some_places : (x : ℤ) (n : ℕ) → x <ℤ (x +ℤ pos n) → 0 < n
 some_places x n h = omega (arith, ints)
 
-pub one_slot : (d : Delays) (r : RingValue) (clock : ℤ) (a b : Slot) → HoldsLive d r → IsSlot r.endpoint.numerology a → IsSlot r.endpoint.numerology b
-    → IsLiveSlot d r.endpoint clock a → IsLiveSlot d r.endpoint clock b → SharePlace r a b → a ≡ b
-one_slot d r clock a b holds is_a is_b live_a live_b share =
+pub one_slot : (side : Side) (d : Delays) (r : RingValue) (clock : ℤ) (a b : Slot) → HoldsLive side d r → IsSlot r.endpoint.numerology a → IsSlot r.endpoint.numerology b
+    → IsLiveOn side d r.endpoint clock a → IsLiveOn side d r.endpoint clock b → SharePlace r a b → a ≡ b
+one_slot side d r clock a b holds is_a is_b live_a live_b share =
     let n = r.endpoint.numerology in
     let slot_a = is_slot_of n a is_a in
     let slot_b = is_slot_of n b is_b in

@@ -1,15 +1,16 @@
 -- The blocks of a section that is on time, one by one, and the marks of cells.
-use Rattle.std.proofs.Common.{◌≡◌, ℕ, ℤ, ◌+◌, ◌-◌, ◌<◌, ◌≤◌, ◌≤ℤ◌, Bool, true, false, ◌==◌, List, [], ◌∷◌, ◌++◌, length, refl, sym, ap, ◌∙◌, subst, arith, ◌⊎◌, inl, inr, Option, Some}
+use Rattle.std.proofs.Common.{◌≡◌, ℕ, ℤ, pos, ◌+◌, ◌-◌, ◌<◌, ◌≤◌, ◌≤ℤ◌, Bool, true, false, ◌==◌, List, [], ◌∷◌, ◌++◌, length, refl, sym, ap, ◌∙◌, subst, arith, ◌⊎◌, inl, inr, Option, Some}
 use Rattle.std.specs.Prelude.{All, is_some}
 use Rattle.std.proofs.lemmas.Bool.{and_from, cases_eq, eq-eqb}
+use Rattle.std.proofs.lemmas.Int.{ints}
 use Rattle.std.proofs.lemmas.Bool.Decides.{nat_tests}
 use Rattle.std.proofs.lemmas.List.Elements.{All-cons, All-head, All-tail}
 use Rattle.fh_time.specs.declared.values.Slot.{Slot}
-use Rattle.air_source.specs.declared.events.Side.TheVariants.{Ru}
+use Rattle.air_source.specs.declared.events.Side.TheVariants.{Ru, Du}
 use Rattle.bfp_codec.specs.declared.samples.Wide.{Wide}
 use Rattle.fh_time.specs.Carrier.{count_of, first_of, is_outside}
 use Rattle.window_config.specs.Limits.{IsWithinLimits}
-use Rattle.window_config.specs.Rings.{ru_reach_of}
+use Rattle.window_config.proofs.Live.{live_on_time_up}
 use Rattle.window_config.specs.declared.config.Config.{Config}
 use Rattle.window_config.specs.declared.delays.Delays.{Delays}
 use Rattle.window_config.specs.declared.endpoints.EndpointConfig.{EndpointConfig}
@@ -18,15 +19,17 @@ use Rattle.window_config.specs.declared.verdicts.Class.TheVariants as class
 use Rattle.unit_model.specs.Blocks.{block_at, data_class, data_covers, data_prb_count, data_slot, every_data_cell, first_data_prb, has_all, with_timely}
 use Rattle.unit_model.specs.Claims.{cell_at, claim_at, is_from, same_slot, same_way}
 use Rattle.unit_model.specs.Lists.{every, or_else}
+use Rattle.air_source.specs.declared.events.Side.{Side}
+use Rattle.unit_model.specs.Radiated.{is_down}
 use Rattle.unit_model.specs.Proper.{IsAt, IsSlot}
-use Rattle.unit_model.specs.Standing.{IsCell, IsLiveAt, uplink_of}
+use Rattle.unit_model.specs.Standing.{IsCell, uplink_of}
 use Rattle.unit_model.specs.declared.allocations.Allocation.{Allocation}
 use Rattle.unit_model.specs.declared.cells.Block.{Block}
 use Rattle.unit_model.specs.declared.cells.Cell.{Cell}
 use Rattle.unit_model.specs.declared.decoded.Data.{Data}
 use Rattle.unit_model.proofs.SlotLemmas.{absolute_near}
 use Rattle.unit_laws.specs.Far.{IsReachedData}
-use Rattle.unit_laws.specs.Ticks.{IsLiveSlot}
+use Rattle.unit_model.specs.Sides.{IsLiveFor, IsLiveOn, reach_of}
 use Rattle.unit_laws.proofs.CellLemmas.{data_covers_is, from_first}
 use Rattle.unit_laws.proofs.LiveLemmas.{data_live}
 use Rattle.unit_laws.proofs.LookupLemmas.{has_all_by_lookup}
@@ -44,19 +47,19 @@ use Rattle.unit_cells.proofs.ToldLemmas.{block_with, told_next, told_nothing, to
 
 -- ---- a step that leaves claims and uplink sections as they are
 
-module _ (c : Config) (clock : ℤ) (ep : ℕ) (e : EndpointConfig) (slot : Slot) (before after : RingValue) (old new : CellsValue)
-    (step : IsStep c clock ep e slot before after old new) (acc : List Allocation) (ds : List Data) (keeps : Keeps c clock old acc ds) where
-  pub claims_of_old : (cell : Cell) (re : ℕ) → IsCell c e cell → IsLiveAt c clock cell.ep cell.slot → cell.ep ≡ ep → re < 12 → ring_claim before cell re ≡ claim_at acc cell re
+module _ (side : Side) (c : Config) (clock : ℤ) (ep : ℕ) (e : EndpointConfig) (slot : Slot) (before after : RingValue) (old new : CellsValue)
+    (step : IsStep side c clock ep e slot before after old new) (acc : List Allocation) (ds : List Data) (keeps : Keeps side c clock old acc ds) where
+  pub claims_of_old : (cell : Cell) (re : ℕ) → IsCell c e cell → IsLiveFor side c clock cell.ep cell.slot → cell.ep ≡ ep → re < 12 → ring_claim before cell re ≡ claim_at acc cell re
   claims_of_old cell re is live at below =
       ap (λ (o : Option RingValue). claim_from o cell re) (sym (ap (ring_of old) at ∙ step.was)) ∙ keeps.claims e cell re is live below
 
-  pub blocks_of_old : (cell : Cell) → IsCell c e cell → cell.down ≡ true → IsLiveAt c clock cell.ep cell.slot → cell.ep ≡ ep → ring_block before cell ≡ told_block_at ds cell
+  pub blocks_of_old : (cell : Cell) → IsCell c e cell → cell.down ≡ is_down side → IsLiveFor side c clock cell.ep cell.slot → cell.ep ≡ ep → ring_block before cell ≡ told_block_at ds cell
   blocks_of_old cell is down live at =
       ap (λ (o : Option RingValue). block_from o cell) (sym (ap (ring_of old) at ∙ step.was)) ∙ keeps.blocks e cell is down live
 
   pub uplink_of_old : ring_uplink before slot ≡ uplink_of ep slot acc
   uplink_of_old =
-      ap (λ (o : Option RingValue). uplink_from o slot) (sym step.was) ∙ keeps.uplink e ep slot step.at step.is_slot (live_at c clock e ep slot step.at step.live)
+      ap (λ (o : Option RingValue). uplink_from o slot) (sym step.was) ∙ keeps.uplink e ep slot step.at step.is_slot (live_at side c clock e ep slot step.at step.live)
 
 -- ---- one more block
 
@@ -74,10 +77,12 @@ cell_is cell down slot symbol prb a b c d =
     ∙ ap (λ (x : ℕ). cell_at cell.ep down slot x cell.prb) c
     ∙ ap (λ (x : ℕ). cell_at cell.ep down slot symbol x) d
 
-ways_same : (a b : Bool) → a ≡ true → b ≡ true → same_way a b ≡ true
-ways_same true true p q = refl
-ways_same true false p q = absurd cc
-ways_same false b p q = absurd cc
+same_as_itself : (a : Bool) → same_way a a ≡ true
+same_as_itself true = refl
+same_as_itself false = refl
+
+ways_same : (a b : Bool) → b ≡ a → same_way a b ≡ true
+ways_same a b e = ap (same_way a) e ∙ same_as_itself a
 
 slots_same : (a b : Slot) → b ≡ a → same_slot a b ≡ true
 slots_same a b e = ap (same_slot a) e ∙ slot_own a
@@ -95,50 +100,50 @@ place_of_distance first k prb le e = omega arith
 abbrev pub slot_of : DataHeading → Slot
 slot_of h = data_slot (data_of h [])
 
-covers_next : (h : DataHeading) (blocks : List (List Wide)) (k : ℕ) (cell : Cell) → h.head.down ≡ true → cell.down ≡ true → cell.ep ≡ h.ep → cell.slot ≡ slot_of h
+covers_next : (side : Side) (h : DataHeading) (blocks : List (List Wide)) (k : ℕ) (cell : Cell) → h.head.down ≡ is_down side → cell.down ≡ is_down side → cell.ep ≡ h.ep → cell.slot ≡ slot_of h
     → cell.symbol ≡ h.section.symbol → cell.prb ≡ first_data_prb (data_of h blocks) + k → k < data_prb_count (data_of h blocks) → data_covers (data_of h blocks) cell ≡ true
-covers_next h blocks k cell head down ep slot symbol prb below =
+covers_next side h blocks k cell head down ep slot symbol prb below =
     and_from (h.ep == cell.ep) _ (eq-eqb h.ep cell.ep (sym ep))
-    (and_from (same_way h.head.down cell.down) _ (ways_same h.head.down cell.down head down)
+    (and_from (same_way h.head.down cell.down) _ (ways_same h.head.down cell.down (down ∙ sym head))
     (and_from (same_slot (slot_of h) cell.slot) _ (slots_same (slot_of h) cell.slot slot)
     (and_from (h.section.symbol == cell.symbol) _ (eq-eqb h.section.symbol cell.symbol (sym symbol))
     (from_is (first_data_prb (data_of h blocks)) (data_prb_count (data_of h blocks)) k cell.prb prb below))))
 
-pub fill_keeps : (c : Config) (clock : ℤ) (h : DataHeading) (blocks : List (List Wide)) (samples : List Wide) (prb : ℕ) (before after : RingValue) (old new : CellsValue)
+pub fill_keeps : (side : Side) (c : Config) (clock : ℤ) (h : DataHeading) (blocks : List (List Wide)) (samples : List Wide) (prb : ℕ) (before after : RingValue) (old new : CellsValue)
     (acc : List Allocation) (ds : List Data)
-    → IsStep c clock h.ep h.endpoint (slot_of h) before after old new
+    → IsStep side c clock h.ep h.endpoint (slot_of h) before after old new
     → Fills (slot_of h) h.section.symbol prb (block_with h samples) before after
-    → h.head.down ≡ true → prb ≡ first_data_prb (data_of h []) + length blocks → length blocks < data_prb_count (data_of h [])
-    → Keeps c clock old acc (data_of h blocks ∷ ds) → Keeps c clock new acc (data_of h (blocks ++ samples ∷ []) ∷ ds)
-fill_keeps c clock h blocks samples prb before after old new acc ds step fills head prb_is below keeps =
-    lifted c clock h.ep h.endpoint (slot_of h) before after old new step acc acc (data_of h blocks ∷ ds) (data_of h (blocks ++ samples ∷ []) ∷ ds) keeps
+    → h.head.down ≡ is_down side → prb ≡ first_data_prb (data_of h []) + length blocks → length blocks < data_prb_count (data_of h [])
+    → Keeps side c clock old acc (data_of h blocks ∷ ds) → Keeps side c clock new acc (data_of h (blocks ++ samples ∷ []) ∷ ds)
+fill_keeps side c clock h blocks samples prb before after old new acc ds step fills head prb_is below keeps =
+    lifted side c clock h.ep h.endpoint (slot_of h) before after old new step acc acc (data_of h blocks ∷ ds) (data_of h (blocks ++ samples ∷ []) ∷ ds) keeps
     (λ cell re is live ep slot small.
-    fills.claims cell re slot ∙ claims_of_old c clock h.ep h.endpoint (slot_of h) before after old new step acc (data_of h blocks ∷ ds) keeps cell re is live ep small)
+    fills.claims cell re slot ∙ claims_of_old side c clock h.ep h.endpoint (slot_of h) before after old new step acc (data_of h blocks ∷ ds) keeps cell re is live ep small)
     (λ cell re ne. refl) own_block
     (λ cell ne. told_other h blocks samples cell ds (λ covers e. let is = data_covers_is (data_of h blocks) cell covers in ne (sym is.ep) (sym is.slot)))
-    (fills.uplink ∙ uplink_of_old c clock h.ep h.endpoint (slot_of h) before after old new step acc (data_of h blocks ∷ ds) keeps)
+    (fills.uplink ∙ uplink_of_old side c clock h.ep h.endpoint (slot_of h) before after old new step acc (data_of h blocks ∷ ds) keeps)
     (λ k s ne. refl) keeps.accepted
     (All-cons P (data_of h (blocks ++ samples ∷ [])) ds
     (let first = All-head P (data_of h blocks) ds keeps.timely in record { endpoint = first.endpoint; live = first.live })
     (All-tail P (data_of h blocks) ds keeps.timely))
   where
     P : Data → Type 0
-    P = IsReachedData c.endpoints (ru_reach_of c.delays) clock
+    P = IsReachedData c.endpoints (reach_of side c.delays) clock
 
-    own_block : (cell : Cell) → IsCell c h.endpoint cell → cell.down ≡ true → IsLiveAt c clock cell.ep cell.slot → cell.ep ≡ h.ep → cell.slot ≡ slot_of h
+    own_block : (cell : Cell) → IsCell c h.endpoint cell → cell.down ≡ is_down side → IsLiveFor side c clock cell.ep cell.slot → cell.ep ≡ h.ep → cell.slot ≡ slot_of h
         → ring_block after cell ≡ told_block_at (data_of h (blocks ++ samples ∷ []) ∷ ds) cell
     own_block cell is down live ep slot =
-        let was = blocks_of_old c clock h.ep h.endpoint (slot_of h) before after old new step acc (data_of h blocks ∷ ds) keeps cell is down live ep in
+        let was = blocks_of_old side c clock h.ep h.endpoint (slot_of h) before after old new step acc (data_of h blocks ∷ ds) keeps cell is down live ep in
         elim (either_cell cell.symbol h.section.symbol cell.prb prb) [
           | inl here ↦
-              let e = cell_is cell true (slot_of h) h.section.symbol prb down slot here.0 here.1 in
+              let e = cell_is cell (is_down side) (slot_of h) h.section.symbol prb down slot here.0 here.1 in
               let at = here.1 ∙ prb_is in
               ap (ring_block after) e ∙ fills.here cell.ep
               ∙ ap (λ (o : Option Block). or_else o (Some (block_with h samples))) (ap (ring_block before) (sym e) ∙ was)
-              ∙ sym (told_next h blocks samples cell ds (covers_next h blocks (length blocks) cell head down ep slot here.0 at below)
+              ∙ sym (told_next h blocks samples cell ds (covers_next side h blocks (length blocks) cell head down ep slot here.0 at below)
               (distance (first_data_prb (data_of h blocks)) (length blocks) cell.prb at))
           | inr ne ↦
-              fills.others cell (cell_in_ring c h.endpoint before cell (ring_is c clock h.ep h.endpoint (slot_of h) before after old new step) is) slot (λ s p. ne s p) ∙ was
+              fills.others cell (cell_in_ring c h.endpoint before cell (ring_is side c clock h.ep h.endpoint (slot_of h) before after old new step) is) slot (λ s p. ne s p) ∙ was
               ∙ sym (told_other h blocks samples cell ds (λ covers e.
               let is_in = data_covers_is (data_of h blocks) cell covers in
               let first = first_data_prb (data_of h blocks) in
@@ -147,16 +152,16 @@ fill_keeps c clock h blocks samples prb before after old new acc ds step fills h
 
 -- ---- a mark
 
-pub mark_keeps : (c : Config) (clock : ℤ) (ep : ℕ) (e : EndpointConfig) (slot : Slot) (symbol prb : ℕ) (before after : RingValue) (old new : CellsValue)
+pub mark_keeps : (side : Side) (c : Config) (clock : ℤ) (ep : ℕ) (e : EndpointConfig) (slot : Slot) (symbol prb : ℕ) (before after : RingValue) (old new : CellsValue)
     (acc : List Allocation) (ds : List Data)
-    → IsStep c clock ep e slot before after old new → Marks slot symbol prb before after → Keeps c clock old acc ds → Keeps c clock new acc ds
-mark_keeps c clock ep e slot symbol prb before after old new acc ds step marks keeps =
-    lifted c clock ep e slot before after old new step acc acc ds ds keeps
-    (λ cell re is live at here small. marks.claims cell re here ∙ claims_of_old c clock ep e slot before after old new step acc ds keeps cell re is live at small)
+    → IsStep side c clock ep e slot before after old new → Marks slot symbol prb before after → Keeps side c clock old acc ds → Keeps side c clock new acc ds
+mark_keeps side c clock ep e slot symbol prb before after old new acc ds step marks keeps =
+    lifted side c clock ep e slot before after old new step acc acc ds ds keeps
+    (λ cell re is live at here small. marks.claims cell re here ∙ claims_of_old side c clock ep e slot before after old new step acc ds keeps cell re is live at small)
     (λ cell re ne. refl)
-    (λ cell is down live at here. marks.blocks cell here ∙ blocks_of_old c clock ep e slot before after old new step acc ds keeps cell is down live at)
+    (λ cell is down live at here. marks.blocks cell here ∙ blocks_of_old side c clock ep e slot before after old new step acc ds keeps cell is down live at)
     (λ cell ne. refl)
-    (marks.uplink ∙ uplink_of_old c clock ep e slot before after old new step acc ds keeps)
+    (marks.uplink ∙ uplink_of_old side c clock ep e slot before after old new step acc ds keeps)
     (λ k s ne. refl) keeps.accepted keeps.timely
 
 -- ---- a section that begins
@@ -164,9 +169,18 @@ mark_keeps c clock ep e slot symbol prb before after old new acc ds step marks k
 pub slot_is : (h : DataHeading) → IsSoundHeading h → IsSlot h.endpoint.numerology (slot_of h)
 slot_is h is = let frame = absolute_near h.head.frame_id h.last.0 is.last in record { low = frame.0; high = frame.1; subframe = is.subframe; slot_is = is.slot }
 
-pub live_is : (d : Delays) (h : DataHeading) → IsWithinLimits d → IsSoundHeading h → h.first.0 ≤ℤ h.last.0 → data_class Ru d (data_of h []) ≡ class.OnTime
-    → IsLiveSlot d h.endpoint h.last.0 (slot_of h)
-live_is d h limits is order on_time = data_live d (data_of h []) limits is.symbol order on_time
+not_negative : (a b : ℤ) → pos 0 ≤ℤ a → a ≤ℤ b → pos 0 ≤ℤ b
+not_negative a b h k = omega (arith, ints)
+
+self_most : (a : ℤ) → a ≤ℤ a
+self_most a = omega (arith, ints)
+
+-- what is on time at either unit names a slot that is live when the last of it comes
+pub live_is : (side : Side) (d : Delays) (h : DataHeading) → IsWithinLimits d → IsSoundHeading h → h.first.0 ≤ℤ h.last.0 → data_class side d (data_of h []) ≡ class.OnTime
+    → IsLiveOn side d h.endpoint h.last.0 (slot_of h)
+live_is Ru d h limits is order on_time = data_live d (data_of h []) limits is.symbol order on_time
+live_is Du d h limits is order on_time =
+    live_on_time_up h.endpoint.numerology (slot_of h) h.section.symbol h.first.0 h.last.0 d.ta4 d.ta4.max is.symbol order limits.ta4.low (self_most d.ta4.max) on_time
 
 pub within_carrier : (prbs start num n : ℕ) → is_outside prbs start num ≡ false → is_from (first_of start num) (count_of prbs num) n ≡ true → n < prbs
 within_carrier prbs start num n inside here = grind (arith, nat_tests)
@@ -174,8 +188,8 @@ within_carrier prbs start num n inside here = grind (arith, nat_tests)
 same_below : (x y n : ℕ) → x < n → x ≡ y → y < n
 same_below x y n h e = omega arith
 
-covered_cell : (c : Config) (h : DataHeading) (blocks : List (List Wide)) (cell : Cell) → IsProperHeading c.endpoints h → data_covers (data_of h blocks) cell ≡ true → IsCell c h.endpoint cell
-covered_cell c h blocks cell proper covered =
+covered_cell : (side : Side) (c : Config) (h : DataHeading) (blocks : List (List Wide)) (cell : Cell) → IsProperHeading side c.endpoints h → data_covers (data_of h blocks) cell ≡ true → IsCell c h.endpoint cell
+covered_cell side c h blocks cell proper covered =
     let is = data_covers_is (data_of h blocks) cell covered in
     record {
       endpoint = subst (λ (k : ℕ). IsAt c.endpoints k h.endpoint) is.ep proper.endpoint;
@@ -184,36 +198,36 @@ covered_cell c h blocks cell proper covered =
       prb = within_carrier h.endpoint.prbs h.section.start_prb h.section.num_prb cell.prb proper.sound.within is.prb;
     }
 
-pub all_there : (c : Config) (h : DataHeading) (blocks : List (List Wide)) (r : RingValue) (v : CellsValue) (acc : List Allocation) (ds : List Data)
-    → Keeps c h.last.0 v acc ds → All IsTold ds → IsProperHeading c.endpoints h → IsLiveSlot c.delays h.endpoint h.last.0 (slot_of h) → ring_of v h.ep ≡ Some r
+pub all_there : (side : Side) (c : Config) (h : DataHeading) (blocks : List (List Wide)) (r : RingValue) (v : CellsValue) (acc : List Allocation) (ds : List Data)
+    → Keeps side c h.last.0 v acc ds → All IsTold ds → IsProperHeading side c.endpoints h → IsLiveOn side c.delays h.endpoint h.last.0 (slot_of h) → ring_of v h.ep ≡ Some r
     → every (first_data_prb (data_of h [])) (data_prb_count (data_of h [])) (λ prb. is_some (ring_block r (cell_at h.ep true (slot_of h) h.section.symbol prb)))
     ≡ has_all ds (data_of h blocks)
 unfolding every_data_cell
-all_there c h blocks r v acc ds keeps told proper live was =
+all_there side c h blocks r v acc ds keeps told proper live was =
     let agree : (cell : Cell) → data_covers (data_of h blocks) cell ≡ true → ring_block r cell ≡ block_at ds cell =
     (λ cell covered.
     let is = data_covers_is (data_of h blocks) cell covered in
-    let alive : IsLiveAt c h.last.0 cell.ep cell.slot =
-    subst (λ (k : ℕ). IsLiveAt c h.last.0 k cell.slot) is.ep
-    (subst (λ (s : Slot). IsLiveAt c h.last.0 h.ep s) is.slot (live_at c h.last.0 h.endpoint h.ep (slot_of h) proper.endpoint live)) in
+    let alive : IsLiveFor side c h.last.0 cell.ep cell.slot =
+    subst (λ (k : ℕ). IsLiveFor side c h.last.0 k cell.slot) is.ep
+    (subst (λ (s : Slot). IsLiveFor side c h.last.0 h.ep s) is.slot (live_at side c h.last.0 h.endpoint h.ep (slot_of h) proper.endpoint live)) in
     ap (λ (o : Option RingValue). block_from o cell) (sym (ap (ring_of v) (sym is.ep) ∙ was))
-    ∙ keeps.blocks h.endpoint cell (covered_cell c h blocks cell proper covered) (sym is.down ∙ proper.down) alive ∙ told_whole ds cell told) in
+    ∙ keeps.blocks h.endpoint cell (covered_cell side c h blocks cell proper covered) (sym is.down ∙ proper.down) alive ∙ told_whole ds cell told) in
     ap (λ (b : Bool). every (first_data_prb (data_of h [])) (data_prb_count (data_of h [])) (λ prb. is_some (ring_block r (cell_at h.ep b (slot_of h) h.section.symbol prb)))) (sym proper.down)
     ∙ has_all_by_lookup (data_of h blocks) (ring_block r) ds agree
 
 -- nothing is known of it yet
-pub begun_keeps : (c : Config) (h : DataHeading) (v : CellsValue) (acc : List Allocation) (ds : List Data) (k : Class) → data_class Ru c.delays (data_of h []) ≡ k
-    → IsWithinLimits c.delays → IsProperHeading c.endpoints h → Keeps c h.last.0 v acc ds → Keeps c h.last.0 v acc (with_timely k (data_of h []) ds)
-begun_keeps c h v acc ds class.Late is limits proper keeps = keeps
-begun_keeps c h v acc ds class.Early is limits proper keeps = keeps
-begun_keeps c h v acc ds class.OnTime is limits proper keeps = record {
+pub begun_keeps : (side : Side) (c : Config) (h : DataHeading) (v : CellsValue) (acc : List Allocation) (ds : List Data) (k : Class) → data_class side c.delays (data_of h []) ≡ k
+    → IsWithinLimits c.delays → IsProperHeading side c.endpoints h → Keeps side c h.last.0 v acc ds → Keeps side c h.last.0 v acc (with_timely k (data_of h []) ds)
+begun_keeps side c h v acc ds class.Late is limits proper keeps = keeps
+begun_keeps side c h v acc ds class.Early is limits proper keeps = keeps
+begun_keeps side c h v acc ds class.OnTime is limits proper keeps = record {
   claims = keeps.claims;
   blocks = λ e cell at down live. keeps.blocks e cell at down live ∙ sym (told_nothing h ds cell);
   uplink = keeps.uplink;
   reached = keeps.reached;
   accepted = keeps.accepted;
-  timely = All-cons (IsReachedData c.endpoints (ru_reach_of c.delays) h.last.0) (data_of h []) ds (record {
+  timely = All-cons (IsReachedData c.endpoints (reach_of side c.delays) h.last.0) (data_of h []) ds (record {
     endpoint = proper.endpoint;
-    live = record { when = h.last.0; come = same_time h.last.0; live = live_is c.delays h limits proper.sound proper.order is };
+    live = record { when = h.last.0; come = same_time h.last.0; live = live_is side c.delays h limits proper.sound proper.order is };
   }) keeps.timely;
 }

@@ -14,13 +14,15 @@ use Rattle.window_config.specs.declared.delays.Delays.{Delays}
 use Rattle.window_config.specs.declared.endpoints.EndpointConfig.{EndpointConfig}
 use Rattle.window_config.specs.declared.rings.Reach.{Reach}
 use Rattle.unit_model.specs.Claims.{claim_at, same_slot}
+use Rattle.air_source.specs.declared.events.Side.{Side}
+use Rattle.unit_model.specs.Radiated.{is_down}
 use Rattle.unit_model.specs.Proper.{IsAt, IsSlot}
-use Rattle.unit_model.specs.Standing.{IsCell, IsLiveAt, uplink_of}
+use Rattle.unit_model.specs.Standing.{IsCell, uplink_of}
 use Rattle.unit_model.specs.declared.allocations.Allocation.{Allocation}
 use Rattle.unit_model.specs.declared.cells.Cell.{Cell}
 use Rattle.unit_model.specs.declared.decoded.Data.{Data}
 use Rattle.unit_laws.specs.Far.{IsReached, IsReachedData, WasLive}
-use Rattle.unit_laws.specs.Ticks.{IsLiveSlot}
+use Rattle.unit_model.specs.Sides.{IsLiveFor, IsLiveOn, reach_of}
 use Rattle.unit_laws.proofs.FarLemmas.{endpoints_equal}
 use Rattle.slot_rings.specs.Places.{PlaceValue, blank, is_of, place_block, place_claim, place_done, place_uplink}
 use Rattle.slot_rings.specs.Rings.{IsRingCell, RingValue, TouchesOnly, has_slot, place_index, place_of, ring_block, ring_claim, ring_done, ring_uplink}
@@ -38,11 +40,11 @@ ring_endpoint v k e r at is =
     some_equal r.endpoint e (ap (option_map endpoint_in) (sym is) ∙ sym (slice_get-map endpoint_in v.rings k) ∙ at)
 
 -- the endpoints of the rings are those of the configuration
-pub at_rings : (c : Config) (v : CellsValue) (k : ℕ) (e : EndpointConfig) → IsOf c v → IsAt c.endpoints k e → IsAt (endpoints_of v) k e
-at_rings c v k e of at = subst (λ (es : List EndpointConfig). IsAt es k e) (sym of.endpoints) at
+pub at_rings : (side : Side) (c : Config) (v : CellsValue) (k : ℕ) (e : EndpointConfig) → IsOf side c v → IsAt c.endpoints k e → IsAt (endpoints_of v) k e
+at_rings side c v k e of at = subst (λ (es : List EndpointConfig). IsAt es k e) (sym of.endpoints) at
 
-pub at_config : (c : Config) (v : CellsValue) (k : ℕ) (e : EndpointConfig) → IsOf c v → IsAt (endpoints_of v) k e → IsAt c.endpoints k e
-at_config c v k e of at = subst (λ (es : List EndpointConfig). IsAt es k e) of.endpoints at
+pub at_config : (side : Side) (c : Config) (v : CellsValue) (k : ℕ) (e : EndpointConfig) → IsOf side c v → IsAt (endpoints_of v) k e → IsAt c.endpoints k e
+at_config side c v k e of at = subst (λ (es : List EndpointConfig). IsAt es k e) of.endpoints at
 
 pub cell_of_ring : (r : RingValue) (cell : Cell) (e : EndpointConfig) → r.endpoint ≡ e → IsSlot e.numerology cell.slot → cell.symbol < symbols_of e.numerology
     → cell.prb < e.prbs → IsRingCell r cell
@@ -124,23 +126,28 @@ same_place k s old new before after was is endpoint place = record {
         ap (λ (p : PlaceValue). place_done after.endpoint.prbs p cell) (there cell.slot here)
         ∙ ap (λ (e : EndpointConfig). place_done e.prbs (place_of before cell.slot) cell) endpoint
 
+-- slots that are live by the rings' own numbers are so by those of the configuration
+pub held_for : (side : Side) (c : Config) (v : CellsValue) (r : RingValue) → IsOf side c v → HoldsLive v.side v.delays r → HoldsLive side c.delays r
+held_for side c v r of holds = subst (λ (s : Side). HoldsLive s c.delays r) of.side_is (subst (λ (d : Delays). HoldsLive v.side d r) of.delays holds)
+
 -- One step in the ring of endpoint `ep`, in the place of a slot that is live at the clock.
-pub record IsStep (c : Config) (clock : ℤ) (ep : ℕ) (e : EndpointConfig) (slot : Slot) (before after : RingValue) (old new : CellsValue) : Type 0 where
-  pub of : IsOf c old
+pub record IsStep (side : Side) (c : Config) (clock : ℤ) (ep : ℕ) (e : EndpointConfig) (slot : Slot) (before after : RingValue) (old new : CellsValue) : Type 0 where
+  pub of : IsOf side c old
   pub held : AreRings old
   pub at : IsAt c.endpoints ep e
   pub is_slot : IsSlot e.numerology slot
-  pub live : IsLiveSlot c.delays e clock slot
+  pub live : IsLiveOn side c.delays e clock slot
   pub was : ring_of old ep ≡ Some before
   pub rings : new.rings ≡ set old.rings ep after
+  pub side_is : new.side ≡ old.side
   pub delays : new.delays ≡ old.delays
   pub touches : TouchesOnly slot before after
   pub has : has_slot after slot ≡ true
 
-module _ (c : Config) (clock : ℤ) (ep : ℕ) (e : EndpointConfig) (slot : Slot) (before after : RingValue) (old new : CellsValue)
-    (step : IsStep c clock ep e slot before after old new) where
+module _ (side : Side) (c : Config) (clock : ℤ) (ep : ℕ) (e : EndpointConfig) (slot : Slot) (before after : RingValue) (old new : CellsValue)
+    (step : IsStep side c clock ep e slot before after old new) where
   pub ring_is : before.endpoint ≡ e
-  ring_is = ring_endpoint old ep e before (at_rings c old ep e step.of step.at) step.was
+  ring_is = ring_endpoint old ep e before (at_rings side c old ep e step.of step.at) step.was
 
   pub now_is : ring_of new ep ≡ Some after
   now_is =
@@ -149,27 +156,27 @@ module _ (c : Config) (clock : ℤ) (ep : ℕ) (e : EndpointConfig) (slot : Slot
   others : (k : ℕ) → k ≢ ep → ring_of new k ≡ ring_of old k
   others k ne = ap (λ (rs : List RingValue). slice_get rs k) step.rings ∙ get_set_other old.rings ep k after ne
 
-  holds : HoldsLive c.delays before
-  holds = subst (λ (d : Delays). HoldsLive d before) step.of.delays (step.held.wide ep before step.was)
+  holds : HoldsLive side c.delays before
+  holds = held_for side c old before step.of (step.held.wide ep before step.was)
 
   -- a live slot of this endpoint is this one, or has another place
-  other_place : (s : Slot) → IsSlot e.numerology s → IsLiveSlot c.delays e clock s → s ≢ slot → place_of after s ≡ place_of before s
+  other_place : (s : Slot) → IsSlot e.numerology s → IsLiveOn side c.delays e clock s → s ≢ slot → place_of after s ≡ place_of before s
   other_place s is_slot live ne =
       step.touches.others s (λ share.
-      ne (one_slot c.delays before clock s slot holds
+      ne (one_slot side c.delays before clock s slot holds
       (subst (λ (x : EndpointConfig). IsSlot x.numerology s) (sym ring_is) is_slot)
       (subst (λ (x : EndpointConfig). IsSlot x.numerology slot) (sym ring_is) step.is_slot)
-      (subst (λ (x : EndpointConfig). IsLiveSlot c.delays x clock s) (sym ring_is) live)
-      (subst (λ (x : EndpointConfig). IsLiveSlot c.delays x clock slot) (sym ring_is) step.live) share))
+      (subst (λ (x : EndpointConfig). IsLiveOn side c.delays x clock s) (sym ring_is) live)
+      (subst (λ (x : EndpointConfig). IsLiveOn side c.delays x clock slot) (sym ring_is) step.live) share))
 
-  pub same_elsewhere : (k : ℕ) (s : Slot) (f : EndpointConfig) → IsAt c.endpoints k f → IsSlot f.numerology s → IsLiveAt c clock k s
+  pub same_elsewhere : (k : ℕ) (s : Slot) (f : EndpointConfig) → IsAt c.endpoints k f → IsSlot f.numerology s → IsLiveFor side c clock k s
       → (k ≡ ep → s ≡ slot → ⊥) → SameAt k s old new
   same_elsewhere k s f at is_slot live ne = elim (cases_eq k ep) [
     | inr other ↦ same_ring k s old new (others k other)
     | inl own ↦
         let same : f ≡ e = endpoints_equal c.endpoints k ep f e at step.at own in
         let is_e : IsSlot e.numerology s = subst (λ (x : EndpointConfig). IsSlot x.numerology s) same is_slot in
-        let live_e : IsLiveSlot c.delays e clock s = subst (λ (x : EndpointConfig). IsLiveSlot c.delays x clock s) same (live f at) in
+        let live_e : IsLiveOn side c.delays e clock s = subst (λ (x : EndpointConfig). IsLiveOn side c.delays x clock s) same (live f at) in
         same_place k s old new before after (ap (ring_of old) own ∙ step.was) (ap (ring_of new) own ∙ now_is) step.touches.endpoint (other_place s is_e live_e (ne own))
   ]
 
@@ -188,8 +195,8 @@ module _ (c : Config) (clock : ℤ) (ep : ℕ) (e : EndpointConfig) (slot : Slot
       different : (s : Slot) → same_slot s slot ≡ false → s ≡ slot → ⊥
       different s apart same = unequal (same_slot s slot) apart (ap (same_slot s) (sym same) ∙ slot_own s)
 
-  pub reached_still : ((f : EndpointConfig) (k : ℕ) (s : Slot) → IsAt c.endpoints k f → cells_has old k s ≡ true → WasLive f.numerology (ru_reach_of c.delays) clock s)
-      → (f : EndpointConfig) (k : ℕ) (s : Slot) → IsAt c.endpoints k f → cells_has new k s ≡ true → WasLive f.numerology (ru_reach_of c.delays) clock s
+  pub reached_still : ((f : EndpointConfig) (k : ℕ) (s : Slot) → IsAt c.endpoints k f → cells_has old k s ≡ true → WasLive f.numerology (reach_of side c.delays) clock s)
+      → (f : EndpointConfig) (k : ℕ) (s : Slot) → IsAt c.endpoints k f → cells_has new k s ≡ true → WasLive f.numerology (reach_of side c.delays) clock s
   reached_still reached f k s at has = elim (cases_eq k ep) [
     | inr other ↦ reached f k s at (ap (λ (o : Option RingValue). has_from o s) (sym (others k other)) ∙ has)
     | inl own ↦
@@ -198,9 +205,9 @@ module _ (c : Config) (clock : ℤ) (ep : ℕ) (e : EndpointConfig) (slot : Slot
           | inl share ↦
               let shared : place_index after s ≡ place_index after slot = same_index slot s before after step.touches ∙ share ∙ sym (same_index slot slot before after step.touches) in
               let same : s ≡ slot = parted after slot s step.has shared has_after in
-              let here : WasLive e.numerology (ru_reach_of c.delays) clock slot = record { when = clock; come = same_time clock; live = step.live } in
-              let there : WasLive e.numerology (ru_reach_of c.delays) clock s = subst (WasLive e.numerology (ru_reach_of c.delays) clock) (sym same) here in
-              subst (λ (x : EndpointConfig). WasLive x.numerology (ru_reach_of c.delays) clock s) (sym (endpoints_equal c.endpoints k ep f e at step.at own)) there
+              let here : WasLive e.numerology (reach_of side c.delays) clock slot = record { when = clock; come = same_time clock; live = step.live } in
+              let there : WasLive e.numerology (reach_of side c.delays) clock s = subst (WasLive e.numerology (reach_of side c.delays) clock) (sym same) here in
+              subst (λ (x : EndpointConfig). WasLive x.numerology (reach_of side c.delays) clock s) (sym (endpoints_equal c.endpoints k ep f e at step.at own)) there
           | inr apart ↦
               let place : place_of after s ≡ place_of before s = step.touches.others s apart in
               let was : has_slot before s ≡ true = ap (λ (p : PlaceValue). is_of p.slot s) (sym place) ∙ has_after in
@@ -209,7 +216,7 @@ module _ (c : Config) (clock : ℤ) (ep : ℕ) (e : EndpointConfig) (slot : Slot
   ]
 
   -- the marks of cells are the same where those of the slot are
-  pub marks_still : ((cell : Cell) → cell.ep ≡ ep → cell.slot ≡ slot → ring_done after cell ≡ ring_done before cell) → SameMarks c clock old new
+  pub marks_still : ((cell : Cell) → cell.ep ≡ ep → cell.slot ≡ slot → ring_done after cell ≡ ring_done before cell) → SameMarks side c clock old new
   marks_still own f cell is live = elim (here_or_not cell.ep cell.slot) [
     | inl here ↦
         ap (λ (o : Option RingValue). done_from o cell) (ap (ring_of new) here.0 ∙ now_is) ∙ own cell here.0 here.1
@@ -217,16 +224,16 @@ module _ (c : Config) (clock : ℤ) (ep : ℕ) (e : EndpointConfig) (slot : Slot
     | inr ne ↦ (same_elsewhere cell.ep cell.slot f is.endpoint is.slot live ne).done cell refl refl
   ]
 
-  module _ (acc acc' : List Allocation) (ds ds' : List Data) (keeps : Keeps c clock old acc ds) where
+  module _ (acc acc' : List Allocation) (ds ds' : List Data) (keeps : Keeps side c clock old acc ds) where
     -- The rings keep other lists, where those tell this of the slot, and the same of all else.
-    pub lifted : ((cell : Cell) (re : ℕ) → IsCell c e cell → IsLiveAt c clock cell.ep cell.slot → cell.ep ≡ ep → cell.slot ≡ slot → re < 12 → ring_claim after cell re ≡ claim_at acc' cell re)
+    pub lifted : ((cell : Cell) (re : ℕ) → IsCell c e cell → IsLiveFor side c clock cell.ep cell.slot → cell.ep ≡ ep → cell.slot ≡ slot → re < 12 → ring_claim after cell re ≡ claim_at acc' cell re)
         → ((cell : Cell) (re : ℕ) → (cell.ep ≡ ep → cell.slot ≡ slot → ⊥) → claim_at acc' cell re ≡ claim_at acc cell re)
-        → ((cell : Cell) → IsCell c e cell → cell.down ≡ true → IsLiveAt c clock cell.ep cell.slot → cell.ep ≡ ep → cell.slot ≡ slot → ring_block after cell ≡ told_block_at ds' cell)
+        → ((cell : Cell) → IsCell c e cell → cell.down ≡ is_down side → IsLiveFor side c clock cell.ep cell.slot → cell.ep ≡ ep → cell.slot ≡ slot → ring_block after cell ≡ told_block_at ds' cell)
         → ((cell : Cell) → (cell.ep ≡ ep → cell.slot ≡ slot → ⊥) → told_block_at ds' cell ≡ told_block_at ds cell)
         → ring_uplink after slot ≡ uplink_of ep slot acc'
         → ((k : ℕ) (s : Slot) → (k ≡ ep → s ≡ slot → ⊥) → uplink_of k s acc' ≡ uplink_of k s acc)
-        → All (IsReached c.endpoints (ru_reach_of c.delays) clock) acc' → All (IsReachedData c.endpoints (ru_reach_of c.delays) clock) ds'
-        → Keeps c clock new acc' ds'
+        → All (IsReached c.endpoints (reach_of side c.delays) clock) acc' → All (IsReachedData c.endpoints (reach_of side c.delays) clock) ds'
+        → Keeps side c clock new acc' ds'
     lifted own_claims other_claims own_blocks other_blocks own_uplink other_uplink accepted timely = record {
       claims = λ f cell re is live below. elim (here_or_not cell.ep cell.slot) [
         | inl here ↦
@@ -259,5 +266,5 @@ module _ (c : Config) (clock : ℤ) (ep : ℕ) (e : EndpointConfig) (slot : Slot
         cell_along f cell is own = subst (λ (x : EndpointConfig). IsCell c x cell) (endpoints_equal c.endpoints cell.ep ep f e is.endpoint step.at own) is
 
 -- rings whose delays and endpoints stay are those of the same configuration
-pub of_still : (c : Config) (old new : CellsValue) → new.delays ≡ old.delays → endpoints_of new ≡ endpoints_of old → IsOf c old → IsOf c new
-of_still c old new delays endpoints of = record { delays = delays ∙ of.delays; endpoints = endpoints ∙ of.endpoints }
+pub of_still : (side : Side) (c : Config) (old new : CellsValue) → new.side ≡ old.side → new.delays ≡ old.delays → endpoints_of new ≡ endpoints_of old → IsOf side c old → IsOf side c new
+of_still side c old new same delays endpoints of = record { side_is = same ∙ of.side_is; delays = delays ∙ of.delays; endpoints = endpoints ∙ of.endpoints }

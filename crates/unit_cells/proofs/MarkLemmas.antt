@@ -4,6 +4,7 @@ use Rattle.std.specs.Prelude.{slice_get}
 use Rattle.std.proofs.lemmas.Bool.{cases_Bool, cases_eq, false_from_ne_true}
 use Rattle.std.proofs.lemmas.Option.{slice_get_within}
 use Rattle.fh_time.specs.declared.values.Slot.{Slot}
+use Rattle.air_source.specs.declared.events.Side.{Side}
 use Rattle.window_config.specs.declared.config.Config.{Config}
 use Rattle.window_config.specs.declared.endpoints.EndpointConfig.{EndpointConfig}
 use Rattle.unit_model.specs.Claims.{cell_at, same_slot}
@@ -21,8 +22,8 @@ use Rattle.unit_cells.proofs.ListLemmas.{get_set_other, get_set_same}
 use Rattle.unit_cells.proofs.StepLemmas.{same_index}
 use Rattle.unit_cells.proofs.TimeLemmas.{no_block_from, no_claim_from, no_done_from, no_uplink_from}
 
-pub keeps_same : (c : Config) (clock : ℤ) (old new : CellsValue) (acc : List Allocation) (ds : List Data) → SameKnown old new → Keeps c clock old acc ds → Keeps c clock new acc ds
-keeps_same c clock old new acc ds same keeps = record {
+pub keeps_same : (side : Side) (c : Config) (clock : ℤ) (old new : CellsValue) (acc : List Allocation) (ds : List Data) → SameKnown old new → Keeps side c clock old acc ds → Keeps side c clock new acc ds
+keeps_same side c clock old new acc ds same keeps = record {
   claims = λ e cell re is live below. same.claims cell re ∙ keeps.claims e cell re is live below;
   blocks = λ e cell is down live. same.blocks cell ∙ keeps.blocks e cell is down live;
   uplink = λ e k s at is live. same.uplink k s ∙ keeps.uplink e k s at is live;

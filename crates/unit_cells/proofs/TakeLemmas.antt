@@ -11,8 +11,10 @@ use Rattle.window_config.specs.declared.config.Config.{Config}
 use Rattle.window_config.specs.declared.endpoints.EndpointConfig.{EndpointConfig}
 use Rattle.unit_model.specs.Claims.{claim_at, claim_of, covers, in_mask, names, overlaps, repeats, same_slot}
 use Rattle.unit_model.specs.Commands.{is_full, is_uplink, most_uplink, timely_verdict, uplink_in, with_accepted}
+use Rattle.air_source.specs.declared.events.Side.{Side}
+use Rattle.unit_model.specs.Radiated.{is_down}
 use Rattle.unit_model.specs.Proper.{IsAt, IsProperAllocation, IsSlot}
-use Rattle.unit_model.specs.Standing.{IsCell, IsLiveAt, uplink_of}
+use Rattle.unit_model.specs.Standing.{IsCell, uplink_of}
 use Rattle.unit_model.specs.declared.allocations.Allocation.{Allocation}
 use Rattle.unit_model.specs.declared.cells.Cell.{Cell}
 use Rattle.unit_model.specs.declared.cells.Claim.{Claim}
@@ -20,7 +22,7 @@ use Rattle.unit_model.specs.declared.decoded.Data.{Data}
 use Rattle.unit_model.specs.declared.verdicts.CommandVerdict.{CommandVerdict}
 use Rattle.unit_model.specs.declared.verdicts.CommandVerdict.TheVariants.{Mismatch, Late, Early, Range, Repeat, Overlap, Full, Accepted}
 use Rattle.unit_laws.specs.Far.{IsReached}
-use Rattle.unit_laws.specs.Ticks.{IsLiveSlot}
+use Rattle.unit_model.specs.Sides.{IsLiveFor, IsLiveOn, reach_of}
 use Rattle.unit_laws.specs.Touched.{is_uplink_of}
 use Rattle.unit_laws.proofs.CellLemmas.{covers_is, slots_equal}
 use Rattle.unit_laws.proofs.ChangeLemmas.{claim-cons}
@@ -121,31 +123,31 @@ reached_more es Accepted a acc P here all = All-cons P a acc here all
 -- ---- the verdict
 
 -- what the ring has of the allocation's slot, by what the rings keep
-pub record IsKept (c : Config) (clock : ℤ) (a : Allocation) (r : RingValue) (acc : List Allocation) : Type 0 where
+pub record IsKept (side : Side) (c : Config) (clock : ℤ) (a : Allocation) (r : RingValue) (acc : List Allocation) : Type 0 where
   pub claims : (cell : Cell) (re : ℕ) → IsCell c a.endpoint cell → cell.ep ≡ a.ep → cell.slot ≡ a.slot → re < 12 → ring_claim r cell re ≡ claim_at acc cell re
   pub uplink : ring_uplink r a.slot ≡ uplink_of a.ep a.slot acc
 
-live_along : (c : Config) (clock : ℤ) (a : Allocation) (cell : Cell) → IsAt c.endpoints a.ep a.endpoint → IsLiveSlot c.delays a.endpoint clock a.slot
-    → cell.ep ≡ a.ep → cell.slot ≡ a.slot → IsLiveAt c clock cell.ep cell.slot
-live_along c clock a cell at live ep slot =
-    subst (λ (k : ℕ). IsLiveAt c clock k cell.slot) (sym ep) (subst (λ (s : Slot). IsLiveAt c clock a.ep s) (sym slot) (live_at c clock a.endpoint a.ep a.slot at live))
+live_along : (side : Side) (c : Config) (clock : ℤ) (a : Allocation) (cell : Cell) → IsAt c.endpoints a.ep a.endpoint → IsLiveOn side c.delays a.endpoint clock a.slot
+    → cell.ep ≡ a.ep → cell.slot ≡ a.slot → IsLiveFor side c clock cell.ep cell.slot
+live_along side c clock a cell at live ep slot =
+    subst (λ (k : ℕ). IsLiveFor side c clock k cell.slot) (sym ep) (subst (λ (s : Slot). IsLiveFor side c clock a.ep s) (sym slot) (live_at side c clock a.endpoint a.ep a.slot at live))
 
-pub kept_is : (c : Config) (clock : ℤ) (a : Allocation) (r : RingValue) (v : CellsValue) (acc : List Allocation) (ds : List Data) → Keeps c clock v acc ds
-    → IsAt c.endpoints a.ep a.endpoint → IsSlot a.endpoint.numerology a.slot → IsLiveSlot c.delays a.endpoint clock a.slot → ring_of v a.ep ≡ Some r
-    → IsKept c clock a r acc
-kept_is c clock a r v acc ds keeps at is_slot live was = record {
+pub kept_is : (side : Side) (c : Config) (clock : ℤ) (a : Allocation) (r : RingValue) (v : CellsValue) (acc : List Allocation) (ds : List Data) → Keeps side c clock v acc ds
+    → IsAt c.endpoints a.ep a.endpoint → IsSlot a.endpoint.numerology a.slot → IsLiveOn side c.delays a.endpoint clock a.slot → ring_of v a.ep ≡ Some r
+    → IsKept side c clock a r acc
+kept_is side c clock a r v acc ds keeps at is_slot live was = record {
   claims = λ cell re is ep slot below.
       ap (λ (o : Option RingValue). claim_from o cell re) (sym (ap (ring_of v) ep ∙ was))
-      ∙ keeps.claims a.endpoint cell re is (live_along c clock a cell at live ep slot) below;
+      ∙ keeps.claims a.endpoint cell re is (live_along side c clock a cell at live ep slot) below;
   uplink =
       ap (λ (o : Option RingValue). uplink_from o a.slot) (sym was)
-      ∙ keeps.uplink a.endpoint a.ep a.slot at is_slot (live_at c clock a.endpoint a.ep a.slot at live);
+      ∙ keeps.uplink a.endpoint a.ep a.slot at is_slot (live_at side c clock a.endpoint a.ep a.slot at live);
 }
 
-pub verdict_is : (c : Config) (clock : ℤ) (a : Allocation) (r : RingValue) (acc : List Allocation) → IsKept c clock a r acc
+pub verdict_is : (side : Side) (c : Config) (clock : ℤ) (a : Allocation) (r : RingValue) (acc : List Allocation) → IsKept side c clock a r acc
     → IsAt c.endpoints a.ep a.endpoint → IsSlot a.endpoint.numerology a.slot → a.symbol + a.num_symbol ≤ symbols_of a.endpoint.numerology
     → verdict_by (ring_claim r) (length (ring_uplink r a.slot)) a ≡ timely_verdict acc a
-verdict_is c clock a r acc kept at is_slot within = elim (cases_Bool (is_outside a.endpoint.prbs a.start_prb a.num_prb)) [
+verdict_is side c clock a r acc kept at is_slot within = elim (cases_Bool (is_outside a.endpoint.prbs a.start_prb a.num_prb)) [
   | inl outside ↦ rw outside refl
   | inr inside ↦
       let proper : IsProperAllocation c.endpoints a = record { endpoint = at; slot = is_slot; within = within; prbs = inside } in
@@ -166,11 +168,11 @@ verdict_is c clock a r acc kept at is_slot within = elim (cases_Bool (is_outside
 
 -- ---- the rings after it
 
-pub takes_keeps : (c : Config) (clock : ℤ) (a : Allocation) (v : CommandVerdict) (before after : RingValue) (old new : CellsValue) (acc : List Allocation) (ds : List Data)
-    → IsStep c clock a.ep a.endpoint a.slot before after old new → Claims a v before after → Keeps c clock old acc ds → Keeps c clock new (with_accepted v a acc) ds
-takes_keeps c clock a v before after old new acc ds step claims keeps =
-    let kept = kept_is c clock a before old acc ds keeps step.at step.is_slot step.live step.was in
-    lifted c clock a.ep a.endpoint a.slot before after old new step acc (with_accepted v a acc) ds ds keeps
+pub takes_keeps : (side : Side) (c : Config) (clock : ℤ) (a : Allocation) (v : CommandVerdict) (before after : RingValue) (old new : CellsValue) (acc : List Allocation) (ds : List Data)
+    → IsStep side c clock a.ep a.endpoint a.slot before after old new → Claims a v before after → Keeps side c clock old acc ds → Keeps side c clock new (with_accepted v a acc) ds
+takes_keeps side c clock a v before after old new acc ds step claims keeps =
+    let kept = kept_is side c clock a before old acc ds keeps step.at step.is_slot step.live step.was in
+    lifted side c clock a.ep a.endpoint a.slot before after old new step acc (with_accepted v a acc) ds ds keeps
     (λ cell re is live ep slot below.
     claims.claims cell re (ring_cell cell is) ep slot below ∙ ap (λ (x : Option Claim). claim_after v a cell re x) (kept.claims cell re is ep slot below)
     ∙ sym (claims_more v a acc cell re))
@@ -180,9 +182,9 @@ takes_keeps c clock a v before after old new acc ds step claims keeps =
     (λ cell ne. refl)
     (claims.uplink ∙ ap (uplink_after v a) kept.uplink ∙ sym (uplink_more v a acc))
     (λ k s ne. uplink_elsewhere v a acc k s ne)
-    (reached_more c.endpoints v a acc (IsReached c.endpoints (ru_reach_of c.delays) clock)
+    (reached_more c.endpoints v a acc (IsReached c.endpoints (reach_of side c.delays) clock)
     (record { endpoint = step.at; live = record { when = clock; come = same_time clock; live = step.live } }) keeps.accepted)
     keeps.timely
   where
     ring_cell : (cell : Cell) → IsCell c a.endpoint cell → IsRingCell before cell
-    ring_cell cell is = cell_in_ring c a.endpoint before cell (ring_is c clock a.ep a.endpoint a.slot before after old new step) is
+    ring_cell cell is = cell_in_ring c a.endpoint before cell (ring_is side c clock a.ep a.endpoint a.slot before after old new step) is

@@ -13,15 +13,17 @@ use Rattle.window_config.specs.declared.config.Config.{Config}
 use Rattle.window_config.specs.declared.endpoints.EndpointConfig.{EndpointConfig}
 use Rattle.window_config.specs.declared.rings.Reach.{Reach}
 use Rattle.unit_model.specs.Blocks.{data_covers, data_slot}
+use Rattle.air_source.specs.declared.events.Side.{Side}
+use Rattle.unit_model.specs.Radiated.{is_down}
 use Rattle.unit_model.specs.Proper.{IsAt}
-use Rattle.unit_model.specs.Standing.{IsLiveAt}
+use Rattle.unit_model.specs.Standing.{IsCell}
 use Rattle.unit_model.specs.declared.allocations.Allocation.{Allocation}
 use Rattle.unit_model.specs.declared.cells.Block.{Block}
 use Rattle.unit_model.specs.declared.cells.Cell.{Cell}
 use Rattle.unit_model.specs.declared.decoded.Data.{Data}
 use Rattle.unit_model.specs.Lists.{or_else}
 use Rattle.unit_laws.specs.Far.{IsFar, IsReached, IsReachedData, WasLive}
-use Rattle.unit_laws.specs.Ticks.{IsLiveSlot}
+use Rattle.unit_model.specs.Sides.{IsLiveFor, IsLiveOn, reach_of}
 use Rattle.unit_laws.proofs.CellLemmas.{data_covers_is}
 use Rattle.unit_laws.proofs.FarLemmas.{endpoints_equal, far_no_uplink, far_unclaimed}
 use Rattle.unit_laws.proofs.TickLemmas.{live_later}
@@ -65,13 +67,13 @@ far_other es r clock i j e f s t at_i at_j same slots was far =
     not_far f.numerology r clock t (subst (WasLive f.numerology r clock) slots was_f) far
 
 pub far_no_place : FarHasNoPlace
-far_no_place c clock v acc ds e ep slot keeps at far = elim (cases_Bool (cells_has v ep slot)) [
-  | inl has ↦ absurd (not_far e.numerology (ru_reach_of c.delays) clock slot (keeps.reached e ep slot at has) far)
+far_no_place side c clock v acc ds e ep slot keeps at far = elim (cases_Bool (cells_has v ep slot)) [
+  | inl has ↦ absurd (not_far e.numerology (reach_of side c.delays) clock slot (keeps.reached e ep slot at has) far)
   | inr none ↦ none
 ]
 
 pub far_not_marked : FarIsNotMarked
-far_not_marked c clock v acc ds e cell keeps at far = no_done_from (ring_of v cell.ep) cell (far_no_place c clock v acc ds e cell.ep cell.slot keeps at far)
+far_not_marked side c clock v acc ds e cell keeps at far = no_done_from (ring_of v cell.ep) cell (far_no_place side c clock v acc ds e cell.ep cell.slot keeps at far)
 
 far_not_told : (es : List EndpointConfig) (r : Reach) (clock : ℤ) (ds : List Data) (e : EndpointConfig) (cell : Cell)
     → All (IsReachedData es r clock) ds → IsAt es cell.ep e → IsFar e.numerology r clock cell.slot → told_block_at ds cell ≡ None
@@ -97,38 +99,38 @@ reached_later es r clock to order a is = record { endpoint = is.endpoint; live =
 reached_data_later : (es : List EndpointConfig) (r : Reach) (clock to : ℤ) → clock ≤ℤ to → (d : Data) → IsReachedData es r clock d → IsReachedData es r to d
 reached_data_later es r clock to order d is = record { endpoint = is.endpoint; live = was_later d.endpoint.numerology r clock to (data_slot d) order is.live }
 
-pub live_at : (c : Config) (clock : ℤ) (e : EndpointConfig) (ep : ℕ) (slot : Slot) → IsAt c.endpoints ep e
-    → IsLiveSlot c.delays e clock slot → IsLiveAt c clock ep slot
-live_at c clock e ep slot at live f there =
-    subst (λ (x : EndpointConfig). IsLiveSlot c.delays x clock slot)
+pub live_at : (side : Side) (c : Config) (clock : ℤ) (e : EndpointConfig) (ep : ℕ) (slot : Slot) → IsAt c.endpoints ep e
+    → IsLiveOn side c.delays e clock slot → IsLiveFor side c clock ep slot
+live_at side c clock e ep slot at live f there =
+    subst (λ (x : EndpointConfig). IsLiveOn side c.delays x clock slot)
     (endpoints_equal c.endpoints ep ep e f at there refl) live
 
 pub keeps_later : KeepsLater
-keeps_later c clock to v acc ds order keeps = record {
+keeps_later side c clock to v acc ds order keeps = record {
   claims = λ e cell re is live below.
-      elim (live_later e.numerology (ru_reach_of c.delays) clock to cell.slot order (live e is.endpoint)) [
-        | inl now ↦ keeps.claims e cell re is (live_at c clock e cell.ep cell.slot is.endpoint now) below
+      elim (live_later e.numerology (reach_of side c.delays) clock to cell.slot order (live e is.endpoint)) [
+        | inl now ↦ keeps.claims e cell re is (live_at side c clock e cell.ep cell.slot is.endpoint now) below
         | inr far ↦
-            no_claim_from (ring_of v cell.ep) cell re (far_no_place c clock v acc ds e cell.ep cell.slot keeps is.endpoint far)
-            ∙ sym (far_unclaimed c.endpoints (ru_reach_of c.delays) clock acc e cell re keeps.accepted is.endpoint far)
+            no_claim_from (ring_of v cell.ep) cell re (far_no_place side c clock v acc ds e cell.ep cell.slot keeps is.endpoint far)
+            ∙ sym (far_unclaimed c.endpoints (reach_of side c.delays) clock acc e cell re keeps.accepted is.endpoint far)
       ];
   blocks = λ e cell is down live.
-      elim (live_later e.numerology (ru_reach_of c.delays) clock to cell.slot order (live e is.endpoint)) [
-        | inl now ↦ keeps.blocks e cell is down (live_at c clock e cell.ep cell.slot is.endpoint now)
+      elim (live_later e.numerology (reach_of side c.delays) clock to cell.slot order (live e is.endpoint)) [
+        | inl now ↦ keeps.blocks e cell is down (live_at side c clock e cell.ep cell.slot is.endpoint now)
         | inr far ↦
-            no_block_from (ring_of v cell.ep) cell (far_no_place c clock v acc ds e cell.ep cell.slot keeps is.endpoint far)
-            ∙ sym (far_not_told c.endpoints (ru_reach_of c.delays) clock ds e cell keeps.timely is.endpoint far)
+            no_block_from (ring_of v cell.ep) cell (far_no_place side c clock v acc ds e cell.ep cell.slot keeps is.endpoint far)
+            ∙ sym (far_not_told c.endpoints (reach_of side c.delays) clock ds e cell keeps.timely is.endpoint far)
       ];
   uplink = λ e ep slot at is live.
-      elim (live_later e.numerology (ru_reach_of c.delays) clock to slot order (live e at)) [
-        | inl now ↦ keeps.uplink e ep slot at is (live_at c clock e ep slot at now)
+      elim (live_later e.numerology (reach_of side c.delays) clock to slot order (live e at)) [
+        | inl now ↦ keeps.uplink e ep slot at is (live_at side c clock e ep slot at now)
         | inr far ↦
-            no_uplink_from (ring_of v ep) slot (far_no_place c clock v acc ds e ep slot keeps at far)
-            ∙ sym (far_no_uplink c.endpoints (ru_reach_of c.delays) clock acc e ep slot keeps.accepted at far)
+            no_uplink_from (ring_of v ep) slot (far_no_place side c clock v acc ds e ep slot keeps at far)
+            ∙ sym (far_no_uplink c.endpoints (reach_of side c.delays) clock acc e ep slot keeps.accepted at far)
       ];
-  reached = λ e ep slot at has. was_later e.numerology (ru_reach_of c.delays) clock to slot order (keeps.reached e ep slot at has);
-  accepted = All-weaker (IsReached c.endpoints (ru_reach_of c.delays) clock) (IsReached c.endpoints (ru_reach_of c.delays) to)
-      (reached_later c.endpoints (ru_reach_of c.delays) clock to order) acc keeps.accepted;
-  timely = All-weaker (IsReachedData c.endpoints (ru_reach_of c.delays) clock) (IsReachedData c.endpoints (ru_reach_of c.delays) to)
-      (reached_data_later c.endpoints (ru_reach_of c.delays) clock to order) ds keeps.timely;
+  reached = λ e ep slot at has. was_later e.numerology (reach_of side c.delays) clock to slot order (keeps.reached e ep slot at has);
+  accepted = All-weaker (IsReached c.endpoints (reach_of side c.delays) clock) (IsReached c.endpoints (reach_of side c.delays) to)
+      (reached_later c.endpoints (reach_of side c.delays) clock to order) acc keeps.accepted;
+  timely = All-weaker (IsReachedData c.endpoints (reach_of side c.delays) clock) (IsReachedData c.endpoints (reach_of side c.delays) to)
+      (reached_data_later c.endpoints (reach_of side c.delays) clock to order) ds keeps.timely;
 }

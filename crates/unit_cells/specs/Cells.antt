@@ -1,7 +1,8 @@
--- The rings of all endpoints of a radio unit, and what they answer of a cell.
+-- The rings of all endpoints of a unit, and what they answer of a cell.
 use Rattle.std.specs.Prelude.{◌≡◌, ℕ, ℤ, pos, ◌<◌, ◌+ℤ◌, ◌<ℤ◌, Bool, false, List, [], length, map, slice_get, Option, Some, None}
 use Rattle.fh_time.specs.declared.values.Slot.{Slot}
 use Rattle.fh_time.specs.Numbering.{IsSlotOf, slot_number, symbols_of}
+use Rattle.air_source.specs.declared.events.Side.{Side}
 use Rattle.window_config.specs.Limits.{IsWithinLimits}
 use Rattle.window_config.specs.declared.config.Config.{Config}
 use Rattle.window_config.specs.declared.delays.Delays.{Delays}
@@ -11,11 +12,12 @@ use Rattle.unit_model.specs.declared.allocations.Allocation.{Allocation}
 use Rattle.unit_model.specs.declared.cells.Block.{Block}
 use Rattle.unit_model.specs.declared.cells.Cell.{Cell}
 use Rattle.unit_model.specs.declared.cells.Claim.{Claim}
-use Rattle.unit_laws.specs.Ticks.{IsLiveSlot}
+use Rattle.unit_model.specs.Sides.{IsLiveOn}
 use Rattle.slot_rings.specs.Rings.{RingValue, has_slot, place_index, ring_block, ring_claim, ring_done, ring_uplink}
 
 -- the delays by which arrivals are judged, and the ring of each endpoint, by its index
 pub record CellsValue : Type 0 where
+  pub side : Side
   pub delays : Delays
   pub rings : List RingValue
 
@@ -25,8 +27,9 @@ endpoint_in r = r.endpoint
 abbrev pub endpoints_of : CellsValue → List EndpointConfig
 endpoints_of v = map endpoint_in v.rings
 
--- they are those of this configuration
-pub record IsOf (c : Config) (v : CellsValue) : Type 0 where
+-- they are those of this unit and this configuration
+pub record IsOf (side : Side) (c : Config) (v : CellsValue) : Type 0 where
+  pub side_is : v.side ≡ side
   pub delays : v.delays ≡ c.delays
   pub endpoints : endpoints_of v ≡ c.endpoints
 
@@ -93,15 +96,15 @@ cells_places v ep = places_from (ring_of v ep)
 -- ---- what they always are
 
 -- slots that are live at one time stand less than all places apart
-abbrev pub HoldsLive : Delays → RingValue → Type 0
-HoldsLive d r =
+abbrev pub HoldsLive : Side → Delays → RingValue → Type 0
+HoldsLive side d r =
     (clock : ℤ) (a b : Slot) → IsSlotOf r.endpoint.numerology a → IsSlotOf r.endpoint.numerology b
-    → IsLiveSlot d r.endpoint clock a → IsLiveSlot d r.endpoint clock b
+    → IsLiveOn side d r.endpoint clock a → IsLiveOn side d r.endpoint clock b
     → slot_number r.endpoint.numerology b <ℤ (slot_number r.endpoint.numerology a +ℤ pos (length r.places))
 
 pub record AreRings (v : CellsValue) : Type 0 where
   pub limits : IsWithinLimits v.delays
-  pub wide : (ep : ℕ) (r : RingValue) → ring_of v ep ≡ Some r → HoldsLive v.delays r
+  pub wide : (ep : ℕ) (r : RingValue) → ring_of v ep ≡ Some r → HoldsLive v.side v.delays r
 
 -- ---- what calls name
 

@@ -4,10 +4,11 @@ use Rattle.fh_time.specs.Numbering.{slots_of, symbols_of}
 use Rattle.bfp_codec.specs.declared.samples.Wide.{Wide}
 use Rattle.fh_time.specs.Carrier.{is_outside}
 use Rattle.window_config.specs.declared.endpoints.EndpointConfig.{EndpointConfig}
-use Rattle.air_source.specs.declared.events.Side.TheVariants.{Ru}
+use Rattle.air_source.specs.declared.events.Side.{Side}
 use Rattle.window_config.specs.declared.delays.Delays.{Delays}
 use Rattle.unit_model.specs.Blocks.{data_class, with_timely}
 use Rattle.unit_model.specs.Proper.{IsAt, IsTime}
+use Rattle.unit_model.specs.Radiated.{is_down}
 use Rattle.unit_model.specs.declared.decoded.Data.{Data}
 use Rattle.unit_cells.specs.declared.heading.DataHeading.{DataHeading}
 
@@ -32,13 +33,13 @@ pub record IsSoundHeading (h : DataHeading) : Type 0 where
   pub symbol : h.section.symbol < symbols_of h.endpoint.numerology
   pub within : is_outside h.endpoint.prbs h.section.start_prb h.section.num_prb ≡ false
 
--- and it is one of these endpoints' downlink, whose first fragment came no later than its last
-pub record IsProperHeading (es : List EndpointConfig) (h : DataHeading) : Type 0 where
+-- and it is one of these endpoints', of the unit's direction, whose first fragment came no later than its last
+pub record IsProperHeading (side : Side) (es : List EndpointConfig) (h : DataHeading) : Type 0 where
   pub endpoint : IsAt es h.ep h.endpoint
   pub sound : IsSoundHeading h
-  pub down : h.head.down ≡ true
+  pub down : h.head.down ≡ is_down side
   pub order : h.first.0 ≤ℤ h.last.0
 
 -- the sections of data on time, with this one where it is on time
-abbrev pub with_heading : Delays → DataHeading → List (List Wide) → List Data → List Data
-with_heading d h blocks ds = with_timely (data_class Ru d (data_of h blocks)) (data_of h blocks) ds
+abbrev pub with_heading : Side → Delays → DataHeading → List (List Wide) → List Data → List Data
+with_heading side d h blocks ds = with_timely (data_class side d (data_of h blocks)) (data_of h blocks) ds

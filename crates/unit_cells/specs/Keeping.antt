@@ -1,39 +1,41 @@
--- How the rings stand to what a radio unit makes of its arrivals: they answer for slots that are live, and hold nothing of slots
+-- How the rings stand to what a unit makes of its arrivals: they answer for slots that are live, and hold nothing of slots
 -- that no message can name yet.
 use Rattle.std.specs.Prelude.{◌≡◌, ℕ, ℤ, ◌<◌, ◌≤ℤ◌, true, false, List, All}
 use Rattle.fh_time.specs.declared.values.Slot.{Slot}
-use Rattle.window_config.specs.Rings.{ru_reach_of}
+use Rattle.air_source.specs.declared.events.Side.{Side}
 use Rattle.window_config.specs.declared.config.Config.{Config}
 use Rattle.window_config.specs.declared.endpoints.EndpointConfig.{EndpointConfig}
 use Rattle.unit_model.specs.Claims.{claim_at}
 use Rattle.unit_model.specs.Proper.{IsAt, IsSlot}
-use Rattle.unit_model.specs.Standing.{IsCell, IsLiveAt, uplink_of}
+use Rattle.unit_model.specs.Radiated.{is_down}
+use Rattle.unit_model.specs.Standing.{IsCell, uplink_of}
 use Rattle.unit_model.specs.declared.allocations.Allocation.{Allocation}
 use Rattle.unit_model.specs.declared.cells.Cell.{Cell}
 use Rattle.unit_model.specs.declared.decoded.Data.{Data}
 use Rattle.unit_laws.specs.Far.{IsFar, IsReached, IsReachedData, WasLive}
 use Rattle.unit_cells.specs.Cells.{CellsValue, IsOf, cells_block, cells_claim, cells_done, cells_has, cells_index, cells_uplink}
+use Rattle.unit_model.specs.Sides.{IsLiveFor, reach_of}
 use Rattle.unit_cells.specs.Told.{told_block_at}
 
 -- The rings keep what these accepted allocations claim and these data on time give, the newest of both first, which came by the
 -- clock.
-pub record Keeps (c : Config) (clock : ℤ) (v : CellsValue) (acc : List Allocation) (ds : List Data) : Type 0 where
-  pub claims : (e : EndpointConfig) (cell : Cell) (re : ℕ) → IsCell c e cell → IsLiveAt c clock cell.ep cell.slot → re < 12
+pub record Keeps (side : Side) (c : Config) (clock : ℤ) (v : CellsValue) (acc : List Allocation) (ds : List Data) : Type 0 where
+  pub claims : (e : EndpointConfig) (cell : Cell) (re : ℕ) → IsCell c e cell → IsLiveFor side c clock cell.ep cell.slot → re < 12
       → cells_claim v cell re ≡ claim_at acc cell re
-  pub blocks : (e : EndpointConfig) (cell : Cell) → IsCell c e cell → cell.down ≡ true → IsLiveAt c clock cell.ep cell.slot
+  pub blocks : (e : EndpointConfig) (cell : Cell) → IsCell c e cell → cell.down ≡ is_down side → IsLiveFor side c clock cell.ep cell.slot
       → cells_block v cell ≡ told_block_at ds cell
-  pub uplink : (e : EndpointConfig) (ep : ℕ) (slot : Slot) → IsAt c.endpoints ep e → IsSlot e.numerology slot → IsLiveAt c clock ep slot
+  pub uplink : (e : EndpointConfig) (ep : ℕ) (slot : Slot) → IsAt c.endpoints ep e → IsSlot e.numerology slot → IsLiveFor side c clock ep slot
       → cells_uplink v ep slot ≡ uplink_of ep slot acc
   -- each slot that has its place, and each that is named, began to be live by the clock
   pub reached : (e : EndpointConfig) (ep : ℕ) (slot : Slot) → IsAt c.endpoints ep e → cells_has v ep slot ≡ true
-      → WasLive e.numerology (ru_reach_of c.delays) clock slot
-  pub accepted : All (IsReached c.endpoints (ru_reach_of c.delays) clock) acc
-  pub timely : All (IsReachedData c.endpoints (ru_reach_of c.delays) clock) ds
+      → WasLive e.numerology (reach_of side c.delays) clock slot
+  pub accepted : All (IsReached c.endpoints (reach_of side c.delays) clock) acc
+  pub timely : All (IsReachedData c.endpoints (reach_of side c.delays) clock) ds
 
 -- of the cells of live slots, the same ones are marked as reported
-abbrev pub SameMarks : Config → ℤ → CellsValue → CellsValue → Type 0
-SameMarks c clock old new =
-    (e : EndpointConfig) (cell : Cell) → IsCell c e cell → IsLiveAt c clock cell.ep cell.slot → cells_done new cell ≡ cells_done old cell
+abbrev pub SameMarks : Side → Config → ℤ → CellsValue → CellsValue → Type 0
+SameMarks side c clock old new =
+    (e : EndpointConfig) (cell : Cell) → IsCell c e cell → IsLiveFor side c clock cell.ep cell.slot → cells_done new cell ≡ cells_done old cell
 
 -- the same is known of all cells and slots, marks aside
 pub record SameKnown (old new : CellsValue) : Type 0 where
@@ -46,23 +48,23 @@ pub record SameKnown (old new : CellsValue) : Type 0 where
 
 abbrev pub KeepsLater : Type 0
 KeepsLater =
-    (c : Config) (clock to : ℤ) (v : CellsValue) (acc : List Allocation) (ds : List Data) → clock ≤ℤ to → Keeps c clock v acc ds → Keeps c to v acc ds
+    (side : Side) (c : Config) (clock to : ℤ) (v : CellsValue) (acc : List Allocation) (ds : List Data) → clock ≤ℤ to → Keeps side c clock v acc ds → Keeps side c to v acc ds
 
 -- a slot that is not live yet has no place, so none of its cells is marked
 abbrev pub FarHasNoPlace : Type 0
 FarHasNoPlace =
-    (c : Config) (clock : ℤ) (v : CellsValue) (acc : List Allocation) (ds : List Data) (e : EndpointConfig) (ep : ℕ) (slot : Slot)
-    → Keeps c clock v acc ds → IsAt c.endpoints ep e → IsFar e.numerology (ru_reach_of c.delays) clock slot → cells_has v ep slot ≡ false
+    (side : Side) (c : Config) (clock : ℤ) (v : CellsValue) (acc : List Allocation) (ds : List Data) (e : EndpointConfig) (ep : ℕ) (slot : Slot)
+    → Keeps side c clock v acc ds → IsAt c.endpoints ep e → IsFar e.numerology (reach_of side c.delays) clock slot → cells_has v ep slot ≡ false
 
 abbrev pub FarIsNotMarked : Type 0
 FarIsNotMarked =
-    (c : Config) (clock : ℤ) (v : CellsValue) (acc : List Allocation) (ds : List Data) (e : EndpointConfig) (cell : Cell)
-    → Keeps c clock v acc ds → IsAt c.endpoints cell.ep e → IsFar e.numerology (ru_reach_of c.delays) clock cell.slot → cells_done v cell ≡ false
+    (side : Side) (c : Config) (clock : ℤ) (v : CellsValue) (acc : List Allocation) (ds : List Data) (e : EndpointConfig) (cell : Cell)
+    → Keeps side c clock v acc ds → IsAt c.endpoints cell.ep e → IsFar e.numerology (reach_of side c.delays) clock cell.slot → cells_done v cell ≡ false
 
 -- ---- places
 
 -- two slots of an endpoint that are live have two places
 abbrev pub LiveAreApart : CellsValue → Type 0
 LiveAreApart v =
-    (c : Config) (clock : ℤ) (e : EndpointConfig) (ep : ℕ) (a b : Slot) → IsOf c v → IsAt c.endpoints ep e → IsSlot e.numerology a → IsSlot e.numerology b
-    → IsLiveAt c clock ep a → IsLiveAt c clock ep b → cells_index v ep a ≡ cells_index v ep b → a ≡ b
+    (side : Side) (c : Config) (clock : ℤ) (e : EndpointConfig) (ep : ℕ) (a b : Slot) → IsOf side c v → IsAt c.endpoints ep e → IsSlot e.numerology a → IsSlot e.numerology b
+    → IsLiveFor side c clock ep a → IsLiveFor side c clock ep b → cells_index v ep a ≡ cells_index v ep b → a ≡ b

@@ -52,5 +52,6 @@ pub record InRing (ep : ℕ) (step : RingValue → RingValue → Type 0) (old ne
   pub after : RingValue
   pub was : ring_of old ep ≡ Some before
   pub rings : new.rings ≡ set old.rings ep after
+  pub side : new.side ≡ old.side
   pub delays : new.delays ≡ old.delays
   pub stepped : step before after

@@ -2,6 +2,7 @@
 ghost use Rattle.std.specs.Prelude.{◌≡◌, ◌≢◌, ℕ, ℤ, ◌+◌, ◌<◌, ◌≤◌, true, false, List, [], ◌∷◌, ◌++◌, All, length, reverse, is_some, IfOk, IfSome, Some, option_copied};
 ghost use Rattle.fh_time.specs.Numbering.{symbols_of};
 ghost use Rattle.fh_time.specs.declared.values.Slot.{Slot};
+ghost use Rattle.air_source.specs.declared.events.Side.{Side as SpecSide};
 ghost use Rattle.air_source.specs.declared.events.Side.TheVariants.{Ru};
 ghost use Rattle.bfp_codec.specs.declared.samples.Wide.{Wide};
 ghost use Rattle.window_config.specs.Configs.{IsConfig};
@@ -24,6 +25,7 @@ ghost use Rattle.unit_cells.specs.Told.{IsTold};
 use crate::heading::DataHeading;
 use crate::rings::{fill, make_ring, mark, take};
 use crate::sections::{data_class, data_slot, first_prb, prb_at, prb_count};
+use air_source::Side;
 use bfp_codec::Wide;
 use fh_base::NoMemory;
 use fh_time::Slot;
@@ -35,12 +37,13 @@ use unit_model::{
 };
 use window_config::{Class, Config, Delays, EndpointConfig};
 
-/// The memory of all cells of a radio unit: the ring of each endpoint, which has a place for each slot that may be live at one
+/// The memory of all cells of a unit: the ring of each endpoint, which has a place for each slot that may be live at one
 /// time. All memory is taken when it is made; no other call asks for any.
 ///
 /// Endpoints go by their index in the configuration. Where an index is not one of these, there is nothing.
 #[derive(Drop)]
 pub struct UnitCells {
+    side: Side,
     delays: Delays,
     rings: Vec<SlotRing>,
 }
@@ -50,9 +53,9 @@ impl Model for UnitCells {
 
     ghost Value = { CellsValue };
 
-    ghost view = { λ u. record { delays = u.delays; rings = u.rings.items } };
+    ghost view = { λ u. record { side = u.side; delays = u.delays; rings = u.rings.items } };
 
-    ghost invariant = { λ u. AreRings (record { delays = u.delays; rings = u.rings.items }) };
+    ghost invariant = { λ u. AreRings (record { side = u.side; delays = u.delays; rings = u.rings.items }) };
 }
 
 impl UnitCells {
@@ -61,19 +64,20 @@ impl UnitCells {
     ghost use Rattle.unit_cells.specs.Steps.{Fills, InRing, Marks, Takes};
 
     /// Takes all memory for a configuration. Nothing is known of any slot.
-    pub fn make(alloc: Global, config: &Config) -> Result<UnitCells, NoMemory>
+    pub fn make(alloc: Global, side: Side, config: &Config) -> Result<UnitCells, NoMemory>
         requires { IsConfig config.now }
-        ensures configured { IfOk result (λ v. IsOf config.now v) }
-        ensures keeps { IfOk result (λ v. (clock : ℤ) → Keeps config.now clock v [] []) }
+        ensures configured { IfOk result (λ v. IsOf side config.now v) }
+        ensures keeps { IfOk result (λ v. (clock : ℤ) → Keeps side config.now clock v [] []) }
         ensures unmarked { IfOk result (λ v. (cell : Cell) → cells_done v cell ≡ false) }
     {
         let endpoints = config.endpoints.as_slice();
         let mut rings = Vec::with_capacity(alloc, endpoints.len())?;
         for endpoint in endpoints {
-            let ring = make_ring(alloc, &config.delays, *endpoint)?;
+            let ring = make_ring(alloc, side, &config.delays, *endpoint)?;
             rings.push(ring)?;
         }
         Ok(UnitCells {
+            side,
             delays: config.delays,
             rings,
         })
@@ -112,11 +116,12 @@ impl UnitCells {
     /// the fields and the windows; the verdicts are this project's profile).
     pub fn command(&mut self, command: &Command) -> CommandVerdict
         requires { IsProperCommand (endpoints_of self.old) command.now }
-        ensures verdict { (c : Config) (acc : List Allocation) (ds : List Data) → IsOf c self.old → Keeps c command.now.at.0 self.old acc ds
+        ensures verdict { (c : Config) (acc : List Allocation) (ds : List Data) → IsOf Ru c self.old → Keeps Ru c command.now.at.0 self.old acc ds
             → result ≡ command_verdict c.delays acc command.now }
-        ensures keeps { (c : Config) (acc : List Allocation) (ds : List Data) → IsOf c self.old → Keeps c command.now.at.0 self.old acc ds
-            → Keeps c command.now.at.0 self.new (with_accepted result (allocation_of command.now) acc) ds }
-        ensures marks { (c : Config) → IsOf c self.old → SameMarks c command.now.at.0 self.old self.new }
+        ensures keeps { (c : Config) (acc : List Allocation) (ds : List Data) → IsOf Ru c self.old → Keeps Ru c command.now.at.0 self.old acc ds
+            → Keeps Ru c command.now.at.0 self.new (with_accepted result (allocation_of command.now) acc) ds }
+        ensures marks { (c : Config) → IsOf Ru c self.old → SameMarks Ru c command.now.at.0 self.old self.new }
+        ensures side { self.new.side ≡ self.old.side }
         ensures delays { self.new.delays ≡ self.old.delays }
         ensures endpoints { endpoints_of self.new ≡ endpoints_of self.old }
     {
@@ -132,13 +137,13 @@ impl UnitCells {
 
     /// The verdict on a section of data whose message becomes whole at the clock. Its PRBs come after, by `fill`.
     pub fn begin(&self, heading: &DataHeading) -> DataVerdict
-        requires { IsProperHeading (endpoints_of self.now) heading.now }
-        ensures verdict { (c : Config) (acc : List Allocation) (ds : List Data) (blocks : List (List Wide)) → IsOf c self.now
-            → Keeps c heading.now.last.0 self.now acc ds → All IsTold ds → result ≡ data_verdict Ru c.delays ds (data_of heading.now blocks) }
-        ensures keeps { (c : Config) (acc : List Allocation) (ds : List Data) → IsOf c self.now → Keeps c heading.now.last.0 self.now acc ds
-            → Keeps c heading.now.last.0 self.now acc (with_heading c.delays heading.now [] ds) }
+        requires { IsProperHeading self.now.side (endpoints_of self.now) heading.now }
+        ensures verdict { (side : SpecSide) (c : Config) (acc : List Allocation) (ds : List Data) (blocks : List (List Wide)) → IsOf side c self.now
+            → Keeps side c heading.now.last.0 self.now acc ds → All IsTold ds → result ≡ data_verdict side c.delays ds (data_of heading.now blocks) }
+        ensures keeps { (side : SpecSide) (c : Config) (acc : List Allocation) (ds : List Data) → IsOf side c self.now → Keeps side c heading.now.last.0 self.now acc ds
+            → Keeps side c heading.now.last.0 self.now acc (with_heading side c.delays heading.now [] ds) }
     {
-        match data_class(&self.delays, heading) {
+        match data_class(self.side, &self.delays, heading) {
             Class::Late => DataVerdict::Late,
             Class::Early => DataVerdict::Early,
             Class::OnTime => {
@@ -153,7 +158,7 @@ impl UnitCells {
 
     /// Whether each cell of a section of data has a block.
     fn is_whole(&self, heading: &DataHeading) -> bool
-        requires { IsProperHeading (endpoints_of self.now) heading.now }
+        requires { IsProperHeading self.now.side (endpoints_of self.now) heading.now }
         ensures { (r : RingValue) → ring_of self.now heading.now.ep ≡ Some r → result ≡ every (first_data_prb (data_of heading.now [])) (data_prb_count (data_of heading.now []))
             (λ prb. is_some (ring_block r (cell_at heading.now.ep true (data_slot (data_of heading.now [])) heading.now.section.symbol prb))) }
     {
@@ -166,17 +171,18 @@ impl UnitCells {
     /// Gives a cell the samples of the PRB with number `k` of a section of data, 0 for its first one, where the section is on time
     /// and the cell has none. The PRBs of a section come in their order, after `begin` and before anything else.
     pub fn fill(&mut self, heading: &DataHeading, k: u16, samples: &[Wide; 12])
-        requires heading { IsProperHeading (endpoints_of self.old) heading.now }
+        requires heading { IsProperHeading self.old.side (endpoints_of self.old) heading.now }
         requires within { k < data_prb_count (data_of heading.now []) }
-        ensures keeps { (c : Config) (acc : List Allocation) (ds : List Data) (blocks : List (List Wide)) → IsOf c self.old → length blocks ≡ k
-            → Keeps c heading.now.last.0 self.old acc (with_heading c.delays heading.now blocks ds)
-            → Keeps c heading.now.last.0 self.new acc (with_heading c.delays heading.now (blocks ++ samples.now ∷ []) ds) }
-        ensures same { data_class Ru self.old.delays (data_of heading.now []) ≢ OnTime → self.new ≡ self.old }
-        ensures marks { (c : Config) → IsOf c self.old → SameMarks c heading.now.last.0 self.old self.new }
+        ensures keeps { (side : SpecSide) (c : Config) (acc : List Allocation) (ds : List Data) (blocks : List (List Wide)) → IsOf side c self.old → length blocks ≡ k
+            → Keeps side c heading.now.last.0 self.old acc (with_heading side c.delays heading.now blocks ds)
+            → Keeps side c heading.now.last.0 self.new acc (with_heading side c.delays heading.now (blocks ++ samples.now ∷ []) ds) }
+        ensures same { data_class self.old.side self.old.delays (data_of heading.now []) ≢ OnTime → self.new ≡ self.old }
+        ensures marks { (side : SpecSide) (c : Config) → IsOf side c self.old → SameMarks side c heading.now.last.0 self.old self.new }
+        ensures side { self.new.side ≡ self.old.side }
         ensures delays { self.new.delays ≡ self.old.delays }
         ensures endpoints { endpoints_of self.new ≡ endpoints_of self.old }
     {
-        if let Class::OnTime = data_class(&self.delays, heading) {
+        if let Class::OnTime = data_class(self.side, &self.delays, heading) {
             let block = Block {
                 id: heading.section.id,
                 samples: *samples,
@@ -194,8 +200,9 @@ impl UnitCells {
         ensures here { cells_done self.new (cell_at ep true slot symbol prb) ≡ true }
         ensures others { (cell : Cell) → IsCellIn self.old cell → (cell.ep ≡ ep → cell.slot ≡ slot → cell.symbol ≡ symbol → cell.prb ≢ prb)
             → cells_done self.new cell ≡ cells_done self.old cell }
-        ensures keeps { (c : Config) (clock : ℤ) (acc : List Allocation) (ds : List Data) → Keeps c clock self.old acc ds → Keeps c clock self.new acc ds }
+        ensures keeps { (side : SpecSide) (c : Config) (clock : ℤ) (acc : List Allocation) (ds : List Data) → Keeps side c clock self.old acc ds → Keeps side c clock self.new acc ds }
         ensures known { SameKnown self.old self.new }
+        ensures side { self.new.side ≡ self.old.side }
         ensures delays { self.new.delays ≡ self.old.delays }
         ensures endpoints { endpoints_of self.new ≡ endpoints_of self.old }
     {
@@ -257,6 +264,13 @@ impl UnitCells {
         ensures few { length result.now ≤ 64 }
     {
         self.rings[ep].uplink(slot)
+    }
+
+    /// The unit whose cells these are.
+    pub fn side(&self) -> Side
+        ensures { result ≡ self.now.side }
+    {
+        self.side
     }
 
     /// How many endpoints there are.

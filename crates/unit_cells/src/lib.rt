@@ -1,4 +1,4 @@
-//! The memory of the cells of a radio unit: what sections claim of them, the blocks that came for them, which were reported,
+//! The memory of the cells of a unit at one side: what sections claim of them, the blocks that came for them, which were reported,
 //! and the accepted uplink sections of each slot.
 //!
 //! [`UnitCells`] holds a ring of slots for each endpoint and takes all memory when it is made; no other call asks for any. A

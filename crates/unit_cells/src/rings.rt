@@ -2,22 +2,37 @@
 ghost use Rattle.std.specs.Prelude.{◌≡◌, ◌+◌, ◌<◌, ◌≤◌, length, true, IfOk};
 ghost use Rattle.fh_time.specs.Numbering.{symbols_of};
 ghost use Rattle.unit_model.specs.Proper.{IsSlot};
-ghost use Rattle.window_config.specs.Limits.{IsWithinLimits};
+ghost use Rattle.window_config.specs.Limits.{IsReach, IsWithinLimits};
+ghost use Rattle.unit_model.specs.Sides.{reach_of};
 ghost use Rattle.slot_rings.specs.Rings.{IsEmpty, has_slot, ring_claim, ring_uplink};
 ghost use Rattle.slot_rings.specs.Verdicts.{verdict_by};
 ghost use Rattle.unit_cells.specs.Cells.{HoldsLive};
 ghost use Rattle.unit_cells.specs.Steps.{Claims, Takes, Fills, Marks};
 
+use air_source::Side;
 use fh_base::NoMemory;
 use fh_time::Slot;
 use slot_rings::SlotRing;
 use std::alloc::Global;
 use unit_model::{Allocation, Block, CommandVerdict};
-use window_config::{Delays, EndpointConfig, ring_slots, ru_reach};
+use window_config::{Delays, EndpointConfig, Reach, du_reach, ring_slots, ru_reach};
+
+/// How far from a symbol's start the messages of a unit may lie.
+fn reach(side: Side, delays: &Delays) -> Reach
+    requires { IsWithinLimits delays.now }
+    ensures value { result ≡ reach_of side delays.now }
+    ensures reach { IsReach result }
+{
+    match side {
+        Side::Ru => ru_reach(delays),
+        Side::Du => du_reach(delays),
+    }
+}
 
 /// The ring of one endpoint, with a place for each slot that may be live at one time.
 pub(crate) fn make_ring(
     alloc: Global,
+    side: Side,
     delays: &Delays,
     endpoint: EndpointConfig,
 ) -> Result<SlotRing, NoMemory>
@@ -25,10 +40,10 @@ pub(crate) fn make_ring(
     requires some { 1 ≤ endpoint.prbs }
     requires few { endpoint.prbs ≤ 273 }
     ensures endpoint { IfOk result (λ r. r.endpoint ≡ endpoint) }
-    ensures wide { IfOk result (λ r. HoldsLive delays.now r) }
+    ensures wide { IfOk result (λ r. HoldsLive side delays.now r) }
     ensures empty { IfOk result (λ r. IsEmpty r) }
 {
-    let reach = ru_reach(delays);
+    let reach = reach(side, delays);
     let slots = ring_slots(&endpoint.numerology, reach.before, reach.after);
     SlotRing::make(alloc, endpoint, slots)
 }

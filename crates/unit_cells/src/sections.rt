@@ -1,14 +1,14 @@
 // What a section of data names, and whether it is on time.
 ghost use Rattle.std.specs.Prelude.{◌≡◌, pos, neg_ℤ, ◌^◌, ◌≤ℤ◌, ◌+◌, ◌<◌, []};
-ghost use Rattle.air_source.specs.declared.events.Side.TheVariants.{Ru};
 ghost use Rattle.window_config.specs.Limits.{IsWithinLimits};
 ghost use Rattle.unit_model.specs.Blocks.{data_slot, data_start, data_class, first_data_prb, data_prb_count};
 ghost use Rattle.unit_model.specs.Proper.{IsSlot};
 ghost use Rattle.unit_cells.specs.Headings.{IsSoundHeading, data_of};
 
 use crate::heading::DataHeading;
+use air_source::Side;
 use fh_time::{Slot, Ticks, air, resolve};
-use window_config::{Class, Delays, class, data_window};
+use window_config::{Class, Delays, class, class_up, data_window};
 
 /// The first PRB that a section has.
 pub(crate) fn first_prb(h: &DataHeading) -> u16
@@ -69,11 +69,15 @@ fn data_start(h: &DataHeading) -> Ticks
     air(&h.endpoint.numerology, data_slot(h), h.section.symbol)
 }
 
-/// Whether it is on time at the radio unit, by its own symbol.
-pub(crate) fn data_class(delays: &Delays, h: &DataHeading) -> Class
+/// Whether it is on time at the unit, by its own symbol.
+pub(crate) fn data_class(side: Side, delays: &Delays, h: &DataHeading) -> Class
     requires limits { IsWithinLimits delays.now }
     requires sound { IsSoundHeading h.now }
-    ensures { result ≡ data_class Ru delays.now (data_of h.now []) }
+    ensures { result ≡ data_class side delays.now (data_of h.now []) }
 {
-    class(h.first, h.last, data_start(h), data_window(delays))
+    let start = data_start(h);
+    match side {
+        Side::Ru => class(h.first, h.last, start, data_window(delays)),
+        Side::Du => class_up(h.first, h.last, start, delays.ta4),
+    }
 }

@@ -4,6 +4,7 @@ pub mod SlotLemmas
 pub mod SoundLemmas
 pub mod Read
 pub mod Whole
+pub mod CommandLaws
 pub mod CountLemmas
 pub mod OntoLemmas
 pub mod SectionLemmas

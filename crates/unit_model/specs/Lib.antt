@@ -5,6 +5,7 @@ pub mod Claims
 pub mod Commands
 pub mod Blocks
 pub mod Proper
+pub mod Sides
 pub mod Sound
 pub mod Times
 pub mod Sweeps

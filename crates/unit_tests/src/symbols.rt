@@ -153,7 +153,7 @@ fn a_symbol_is_found_and_reported(rt: HostRuntime) -> Result<(), Fail> {
     assert!(rt; shape(&n).symbols == 14);
     let e = endpoint(7, n, 4);
     let config = config(e, Widths::new(4, 4, 4, 4)?, Delays::usual());
-    let mut cells = UnitCells::make(rt.alloc(), &config)?;
+    let mut cells = UnitCells::make(rt.alloc(), Side::Ru, &config)?;
     assert!(rt; first_left(&cells, Ticks(0)).is_none());
     assert_eq!(rt; claim(&mut cells, e, 2, 0xfff), CommandVerdict::Accepted);
     assert_eq!(rt; claim(&mut cells, e, 0, 0xff0), CommandVerdict::Accepted);

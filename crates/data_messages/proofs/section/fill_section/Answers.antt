@@ -14,7 +14,7 @@ loop-k-preserved c =
     let rest = left_of c.next.new.self in
     one_further c.args.heading.now (left_of c.args.walk.now) left rest c.loop-k.k c.in-Some-Block.field-0-0 c.in-Some-Block.samples c.args.cells.now c.loop-k.cells c.fill.new.self
     c.loop-k.invariant (subst (λ (w : UFeed). TellsFirst left rest w) c.in-Some-Block.field-0-is c.in-Some-Block.ensures.steps.0) f.keeps
-    (record { marks = f.marks; delays = f.delays; endpoints = f.endpoints })
+    (record { marks = f.marks; side = f.side; delays = f.delays; endpoints = f.endpoints })
 
 pub returns-clause-filled : goal.returns-clause-filled
 returns-clause-filled c =

@@ -10,5 +10,5 @@ returns-clause-taken c =
       tells = s.tells;
       holds =
           section_holds c.args.heading.now s.blocks c.begin-verdict.result c.data_counter.result c.args.cells.now c.fill_section.new.cells c.args.counters.now c.add.new.self
-          c.begin-verdict.ensures.verdict c.begin-verdict.ensures.keeps c.data_counter.ensures c.add.ensures.each s.tells.all s.gives f.delays f.endpoints;
+          c.begin-verdict.ensures.verdict c.begin-verdict.ensures.keeps c.data_counter.ensures c.add.ensures.each s.tells.all s.gives f.side f.delays f.endpoints;
     }

@@ -6,22 +6,23 @@ arrive-requires-clause-unit c =
     let conf = c.args.config.now in
     let u = c.requires.unit in
     record {
+      side = u.0;
       config = conf;
-      arrivals = u.0;
+      arrivals = u.1;
       beside = [];
-      holds = c.holds_later.ensures conf c.args.before.0 c.args.at.0 c.args.memory.now u.0 [] c.requires.order u.1;
+      holds = c.holds_later.ensures u.0 conf c.args.before.0 c.args.at.0 c.args.memory.now u.1 [] c.requires.order u.2;
     }
 
 pub returns-clause-unit : goal.returns-clause-unit
 returns-clause-unit c =
     let conf = c.args.config.now in
     let u = c.requires.unit in
-    let before = c.holds_later.ensures conf c.args.before.0 c.args.at.0 c.args.memory.now u.0 [] c.requires.order u.1 in
-    (_, c.arrive.ensures.holds conf u.0 [] before)
+    let before = c.holds_later.ensures u.0 conf c.args.before.0 c.args.at.0 c.args.memory.now u.1 [] c.requires.order u.2 in
+    (_, _, c.arrive.ensures.holds u.0 conf u.1 [] before)
 
 pub returns-clause-listed : goal.returns-clause-listed
 returns-clause-listed c =
     let conf = c.args.config.now in
     let u = c.requires.unit in
-    let before = c.holds_later.ensures conf c.args.before.0 c.args.at.0 c.args.memory.now u.0 [] c.requires.order u.1 in
-    (c.arrive.ensures.holds conf u.0 [] before).of.endpoints
+    let before = c.holds_later.ensures u.0 conf c.args.before.0 c.args.at.0 c.args.memory.now u.1 [] c.requires.order u.2 in
+    (c.arrive.ensures.holds u.0 conf u.1 [] before).of.endpoints

@@ -10,6 +10,7 @@ returns-clause-marks c = record {
   marks = one_marked c.args.m.now c.args.cell.now c.args.cells.now c.mark.new.self c.mark.ensures.here c.mark.ensures.others;
   keeps = c.mark.ensures.keeps;
   known = c.mark.ensures.known;
+  side = c.mark.ensures.side;
   delays = c.mark.ensures.delays;
   endpoints = c.mark.ensures.endpoints;
 }

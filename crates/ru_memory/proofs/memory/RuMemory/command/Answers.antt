@@ -1,3 +1,4 @@
+use Rattle.air_source.specs.declared.events.Side.TheVariants.{Ru}
 use Rattle.std.proofs.Common.{◌≡◌, List, [], ◌∷◌, All, sym, ap, ◌∙◌, subst}
 use Rattle.std.proofs.lemmas.List.Elements.{All-head, All-tail}
 use Rattle.cplane_sections.specs.Left.{left_of}
@@ -28,8 +29,11 @@ loop-section-init c =
       holds = λ conf n fs cs ds h. record { so_far = cs; holds = h; are = ap (λ ss. onto cs (of ss)) left };
     }
 
-pub section-requires : goal.section-requires
-section-requires c =
+pub section-requires-clause-side : goal.section-requires-clause-side
+section-requires-clause-side c = c.loop-section.invariant.marks.side ∙ c.requires.side
+
+pub section-requires-clause-proper : goal.section-requires-clause-proper
+section-requires-clause-proper c =
     let a = c.args in
     let i = c.loop-section.invariant in
     let P = IsProperCommand (endpoints_of a.self.now.cells) in
@@ -70,5 +74,5 @@ returns-clause-holds c conf n fs cs ds h =
     let y = c.loop-section.invariant.holds conf n fs cs ds h in
     let none : left_of c.loop-section.section-iterator ≡ [] = c.in-None.ensures.steps.0 in
     let all : y.so_far ≡ onto cs (of (sections_in a.head.now a.bytes.now)) = sym (onto_none y.so_far) ∙ ap (λ ss. onto y.so_far (of ss)) (sym none) ∙ y.are in
-    let Q : List Command → Type 0 = λ (xs : List Command). HoldsParts conf a.at.0 c.loop-section.self n fs xs ds in
+    let Q : List Command → Type 0 = λ (xs : List Command). HoldsParts Ru conf a.at.0 c.loop-section.self n fs xs ds in
     subst Q all y.holds

@@ -1,3 +1,4 @@
+use Rattle.air_source.specs.declared.events.Side.TheVariants.{Ru}
 use Rattle.std.proofs.Common.{ℕ, List, All}
 use Rattle.cplane_sections.specs.Left.{left_of}
 use Rattle.cplane_sections.specs.Message.{sections_in}
@@ -18,7 +19,7 @@ abbrev pub invariant-loop-section : goal.invariant-loop-section
 invariant-loop-section l = record {
   marks : LeavesMarks l.at.0 l.fn.self.cells l.self.cells;
   proper : All (IsProperCommand (endpoints_of l.fn.self.cells)) (commands_with l.ep l.endpoint l.at.0 l.head (left_of l.section-iterator));
-  holds : (c : Config) (n : Counter → ℕ) (fs : List Fragment) (cs : List Command) (ds : List Data) → HoldsParts c l.at.0 l.fn.self n fs cs ds
+  holds : (c : Config) (n : Counter → ℕ) (fs : List Fragment) (cs : List Command) (ds : List Data) → HoldsParts Ru c l.at.0 l.fn.self n fs cs ds
       → CommandsSoFar c l.at.0 l.self n fs (onto cs (commands_with l.ep l.endpoint l.at.0 l.head (sections_in l.head l.fn.bytes)))
       (commands_with l.ep l.endpoint l.at.0 l.head (left_of l.section-iterator)) ds;
 }

@@ -2,7 +2,7 @@ use Rattle.unit_model.proofs.CountLemmas.{capped_beside}
 use Rattle.ru_memory.proofs.memory.RuMemory.count.Goals as goal
 
 pub returns-clause-holds : goal.returns-clause-holds
-returns-clause-holds c conf clock n fs cs ds h = record {
+returns-clause-holds c side conf clock n fs cs ds h = record {
   config = h.config;
   endpoints = h.endpoints;
   of = h.of;

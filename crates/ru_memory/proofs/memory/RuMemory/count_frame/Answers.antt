@@ -7,14 +7,14 @@ use Rattle.ru_memory.proofs.StepLemmas.{parts_as}
 use Rattle.ru_memory.proofs.memory.RuMemory.count_frame.Goals as goal
 
 pub returns-then-is_some-clause-holds : goal.returns-then-is_some-clause-holds
-returns-then-is_some-clause-holds c conf clock n fs cs ds h =
+returns-then-is_some-clause-holds c side conf clock n fs cs ds h =
     let r = c.args.refusal in
     let some : is_some r ≡ true = sym c.is_some.ensures ∙ c.if-is_some.true in
-    parts_as conf clock c.count-then-is_some.new.self _ _ fs cs ds (λ k. frame_refused r (n k) k some)
-    (c.count-then-is_some.ensures.holds conf clock (λ k. n k + once Frames k) fs cs ds (c.count.ensures.holds conf clock n fs cs ds h))
+    parts_as side conf clock c.count-then-is_some.new.self _ _ fs cs ds (λ k. frame_refused r (n k) k some)
+    (c.count-then-is_some.ensures.holds side conf clock (λ k. n k + once Frames k) fs cs ds (c.count.ensures.holds side conf clock n fs cs ds h))
 
 pub returns-else-is_some-clause-holds : goal.returns-else-is_some-clause-holds
-returns-else-is_some-clause-holds c conf clock n fs cs ds h =
+returns-else-is_some-clause-holds c side conf clock n fs cs ds h =
     let r = c.args.refusal in
     let none : is_some r ≡ false = sym c.is_some.ensures ∙ c.if-is_some.false in
-    parts_as conf clock c.count.new.self _ _ fs cs ds (λ k. frame_sound r (n k) k none) (c.count.ensures.holds conf clock n fs cs ds h)
+    parts_as side conf clock c.count.new.self _ _ fs cs ds (λ k. frame_sound r (n k) k none) (c.count.ensures.holds side conf clock n fs cs ds h)

@@ -1,5 +1,5 @@
 use Rattle.std.proofs.Common.{◌≡◌, List, [], ◌∷◌, length, sym, ap, ◌∙◌, subst}
-use Rattle.air_source.specs.declared.events.Side.TheVariants.{Ru}
+use Rattle.air_source.specs.declared.events.Side.{Side}
 use Rattle.ecpri_frames.specs.Gathering.{whole_messages}
 use Rattle.ecpri_frames.specs.Left.{left_of, message_of}
 use Rattle.ecpri_frames.specs.Messages.{Message}
@@ -18,14 +18,14 @@ loop-message-init c =
     record {
       marks = marks_none a.at.0 a.self.now.cells;
       counted = count_none _ _ (ap length left);
-      holds = λ conf arrivals ms beside h. record { so_far = ms; stands = h; are = ap (λ xs. onto ms (met_in Ru conf.endpoints a.at.0 xs)) left };
+      holds = λ side conf arrivals ms beside h. record { so_far = ms; stands = h; are = ap (λ xs. onto ms (met_in side conf.endpoints a.at.0 xs)) left };
     }
 
 pub message-requires-clause-unit : goal.message-requires-clause-unit
 message-requires-clause-unit c =
     let u = c.requires.unit in
-    let i = c.loop-message.invariant.holds u.config u.arrivals u.meetings u.beside u.stands in
-    record { config = u.config; arrivals = u.arrivals; meetings = i.so_far; beside = u.beside; stands = i.stands }
+    let i = c.loop-message.invariant.holds u.side u.config u.arrivals u.meetings u.beside u.stands in
+    record { side = u.side; config = u.config; arrivals = u.arrivals; meetings = i.so_far; beside = u.beside; stands = i.stands }
 
 pub loop-message-preserved : goal.loop-message-preserved
 loop-message-preserved c =
@@ -39,25 +39,25 @@ loop-message-preserved c =
     record {
       marks = marks_more at a.self.now.cells c.loop-message.self.cells c.message.new.self.cells i.marks c.message.ensures.marks;
       counted = count_one c.loop-message.count _ (length rest) (length (whole_messages a.frame.now)) (subst C left i.counted) c.saturating_add-count.ensures;
-      holds = λ conf arrivals ms beside h.
-          let y = i.holds conf arrivals ms beside h in
+      holds = λ side conf arrivals ms beside h.
+          let y = i.holds side conf arrivals ms beside h in
           let es = conf.endpoints in
           record {
-            so_far = meet Ru es at m ∷ y.so_far;
-            stands = c.message.ensures.holds conf arrivals y.so_far beside y.stands;
-            are = sym (onto_one y.so_far (meet Ru es at m) (met_in Ru es at rest)) ∙ ap (λ xs. onto y.so_far (met_in Ru es at xs)) (sym left) ∙ y.are;
+            so_far = meet side es at m ∷ y.so_far;
+            stands = c.message.ensures.holds side conf arrivals y.so_far beside y.stands;
+            are = sym (onto_one y.so_far (meet side es at m) (met_in side es at rest)) ∙ ap (λ xs. onto y.so_far (met_in side es at xs)) (sym left) ∙ y.are;
           };
     }
 
 pub returns-clause-holds : goal.returns-clause-holds
-returns-clause-holds c conf arrivals ms beside h =
+returns-clause-holds c side conf arrivals ms beside h =
     let a = c.args in
     let at = a.at.0 in
     let es = conf.endpoints in
-    let y = c.loop-message.invariant.holds conf arrivals ms beside h in
+    let y = c.loop-message.invariant.holds side conf arrivals ms beside h in
     let none : left_of c.loop-message.message-iterator ≡ [] = c.in-None.ensures.steps.0.0 in
-    let all : y.so_far ≡ onto ms (met_in Ru es at (whole_messages a.frame.now)) = sym (onto_none y.so_far) ∙ ap (λ xs. onto y.so_far (met_in Ru es at xs)) (sym none) ∙ y.are in
-    let P : List Meeting → Type 0 = λ (xs : List Meeting). Stands conf at c.loop-message.self arrivals xs beside in
+    let all : y.so_far ≡ onto ms (met_in side es at (whole_messages a.frame.now)) = sym (onto_none y.so_far) ∙ ap (λ xs. onto y.so_far (met_in side es at xs)) (sym none) ∙ y.are in
+    let P : List Meeting → Type 0 = λ (xs : List Meeting). Stands side conf at c.loop-message.self arrivals xs beside in
     subst P all y.stands
 
 pub returns-clause-count : goal.returns-clause-count

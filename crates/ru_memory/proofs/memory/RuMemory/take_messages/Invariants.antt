@@ -1,5 +1,5 @@
 use Rattle.std.proofs.Common.{List, length}
-use Rattle.air_source.specs.declared.events.Side.TheVariants.{Ru}
+use Rattle.air_source.specs.declared.events.Side.{Side}
 use Rattle.ecpri_frames.specs.Gathering.{whole_messages}
 use Rattle.ecpri_frames.specs.Left.{left_of}
 use Rattle.fault_counters.specs.declared.kinds.Counter.{Counter}
@@ -14,6 +14,6 @@ abbrev pub invariant-loop-message : goal.invariant-loop-message
 invariant-loop-message l = record {
   marks : LeavesMarks l.at.0 l.fn.self.cells l.self.cells;
   counted : CountSoFar l.count (length (left_of l.message-iterator)) (length (whole_messages l.fn.frame));
-  holds : (c : Config) (arrivals : List Arrival) (ms : List Meeting) (beside : List Counter) → Stands c l.at.0 l.fn.self arrivals ms beside
-      → MetSoFar c l.at.0 l.self arrivals (onto ms (met_in Ru c.endpoints l.at.0 (whole_messages l.fn.frame))) (left_of l.message-iterator) beside;
+  holds : (side : Side) (c : Config) (arrivals : List Arrival) (ms : List Meeting) (beside : List Counter) → Stands side c l.at.0 l.fn.self arrivals ms beside
+      → MetSoFar side c l.at.0 l.self arrivals (onto ms (met_in side c.endpoints l.at.0 (whole_messages l.fn.frame))) (left_of l.message-iterator) beside;
 }

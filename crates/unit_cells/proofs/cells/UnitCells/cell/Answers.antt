@@ -9,7 +9,7 @@ use Rattle.unit_cells.proofs.cells.UnitCells.cell.Goals.{After-cell}
 
 there : (c : After-cell) → ring_of c.args.self.now c.args.ep ≡ Some c.index.result.now
 there c =
-    ring_read c.self.inside.delays c.self.inside.rings.items c.args.self.now c.args.ep c.requires.endpoint c.index.result.now c.self.view_is c.requires.at c.index.ensures
+    ring_read c.self.inside.side c.self.inside.delays c.self.inside.rings.items c.args.self.now c.args.ep c.requires.endpoint c.index.result.now c.self.view_is c.requires.at c.index.ensures
 
 pub returns-clause-mask : goal.returns-clause-mask
 returns-clause-mask c =

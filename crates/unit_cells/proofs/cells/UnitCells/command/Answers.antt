@@ -1,4 +1,5 @@
 use Rattle.std.proofs.Common.{◌≡◌, ◌∙◌, sym, ap, subst}
+use Rattle.air_source.specs.declared.events.Side.TheVariants.{Ru}
 use Rattle.window_config.specs.declared.config.Config.{Config}
 use Rattle.window_config.specs.declared.delays.Delays.{Delays}
 use Rattle.window_config.specs.declared.verdicts.Class.{Class}
@@ -26,16 +27,16 @@ returns-then-not-is_for-clause-verdict c k acc ds of keeps = mismatched k.delays
 pub returns-in-Late-clause-verdict : goal.returns-in-Late-clause-verdict
 returns-in-Late-clause-verdict c k acc ds of keeps =
     classed k.delays acc c.args.command.now class.Late (sym c.if-not-is_for.ensures)
-    (class_is k c.self.inside.delays class.Late c.args.command.now c.in-Late.ensures (delays_are k c.self.inside.delays c.self.inside.rings.items c.args.self.now c.self.view_is of))
+    (class_is k c.self.inside.delays class.Late c.args.command.now c.in-Late.ensures (delays_are Ru k c.self.inside.side c.self.inside.delays c.self.inside.rings.items c.args.self.now c.self.view_is of))
 
 pub returns-in-Early-clause-verdict : goal.returns-in-Early-clause-verdict
 returns-in-Early-clause-verdict c k acc ds of keeps =
     classed k.delays acc c.args.command.now class.Early (sym c.if-not-is_for.ensures)
-    (class_is k c.self.inside.delays class.Early c.args.command.now c.in-Early.ensures (delays_are k c.self.inside.delays c.self.inside.rings.items c.args.self.now c.self.view_is of))
+    (class_is k c.self.inside.delays class.Early c.args.command.now c.in-Early.ensures (delays_are Ru k c.self.inside.side c.self.inside.delays c.self.inside.rings.items c.args.self.now c.self.view_is of))
 
-on_time : (c : After-take) (k : Config) → IsOf k c.args.self.now → command_class k.delays c.args.command.now ≡ class.OnTime
+on_time : (c : After-take) (k : Config) → IsOf Ru k c.args.self.now → command_class k.delays c.args.command.now ≡ class.OnTime
 on_time c k of =
-    class_is k c.self.inside.delays class.OnTime c.args.command.now c.in-OnTime.ensures (delays_are k c.self.inside.delays c.self.inside.rings.items c.args.self.now c.self.view_is of)
+    class_is k c.self.inside.delays class.OnTime c.args.command.now c.in-OnTime.ensures (delays_are Ru k c.self.inside.side c.self.inside.delays c.self.inside.rings.items c.args.self.now c.self.view_is of)
 
 pub returns-in-OnTime-clause-verdict : goal.returns-in-OnTime-clause-verdict
 returns-in-OnTime-clause-verdict c k acc ds of keeps =

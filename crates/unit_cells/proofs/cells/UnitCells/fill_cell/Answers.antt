@@ -4,10 +4,10 @@ use Rattle.unit_cells.proofs.cells.UnitCells.fill_cell.Goals as goal
 
 pub invariant_of-self : goal.invariant_of-self
 invariant_of-self c =
-    still_rings c.self.inside.delays c.self.inside.rings.items c.args.self.now c.args.ep c.requires.endpoint c.args.slot c.index_mut.result.now c.fill.new.ring
+    still_rings c.self.inside.side c.self.inside.delays c.self.inside.rings.items c.args.self.now c.args.ep c.requires.endpoint c.args.slot c.index_mut.result.now c.fill.new.ring
     c.self.view_is c.requires.at c.index_mut.ensures.value c.fill.ensures.touches c.self.invariant
 
 pub returns-clause-filled : goal.returns-clause-filled
 returns-clause-filled c =
-    in_ring (Fills c.args.slot c.args.symbol c.args.prb c.args.block) c.self.inside.delays c.self.inside.rings.items c.args.self.now c.args.ep c.requires.endpoint
+    in_ring (Fills c.args.slot c.args.symbol c.args.prb c.args.block) c.self.inside.side c.self.inside.delays c.self.inside.rings.items c.args.self.now c.args.ep c.requires.endpoint
     c.index_mut.result.now c.fill.new.ring c.self.view_is c.requires.at c.index_mut.ensures.value c.fill.ensures

@@ -12,7 +12,7 @@ use Rattle.unit_cells.proofs.cells.UnitCells.is_pending.Goals as goal
 pub returns : goal.returns
 returns c off slot index has e at =
     let r = c.index.result.now in
-    let there = ring_read c.self.inside.delays c.self.inside.rings.items c.args.self.now c.args.ep e r c.self.view_is at c.index.ensures in
+    let there = ring_read c.self.inside.side c.self.inside.delays c.self.inside.rings.items c.args.self.now c.args.ep e r c.self.view_is at c.index.ensures in
     let same : r.endpoint ≡ e = ring_endpoint c.args.self.now c.args.ep e r at there in
     ap (λ (o : Option RingValue). some 0 e.prbs (λ prb. is_due (λ re. claim_from o (cell_at c.args.ep true slot c.args.symbol prb) re)
     (done_from o (cell_at c.args.ep true slot c.args.symbol prb)))) there

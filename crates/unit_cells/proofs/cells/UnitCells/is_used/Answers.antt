@@ -12,7 +12,7 @@ use Rattle.unit_cells.proofs.cells.UnitCells.is_used.Goals as goal
 pub returns : goal.returns
 returns c e at =
     let r = c.index.result.now in
-    let there = ring_read c.self.inside.delays c.self.inside.rings.items c.args.self.now c.args.ep e r c.self.view_is at c.index.ensures in
+    let there = ring_read c.self.inside.side c.self.inside.delays c.self.inside.rings.items c.args.self.now c.args.ep e r c.self.view_is at c.index.ensures in
     let same : r.endpoint ≡ e = ring_endpoint c.args.self.now c.args.ep e r at there in
     c.is_used.ensures c.args.ep
     ∙ ap (λ (x : EndpointConfig). some 0 x.prbs (λ prb. is_due (ring_claim r (cell_at c.args.ep true c.args.slot c.args.symbol prb)) (ring_done r (cell_at c.args.ep true c.args.slot c.args.symbol prb)))) same

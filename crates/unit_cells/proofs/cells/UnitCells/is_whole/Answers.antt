@@ -14,7 +14,7 @@ pub returns : goal.returns
 returns c r is =
     let h = c.args.heading.now in
     let read = c.index.result.now in
-    let there = ring_read c.self.inside.delays c.self.inside.rings.items c.args.self.now h.ep h.endpoint read c.self.view_is c.requires.endpoint c.index.ensures in
+    let there = ring_read c.self.inside.side c.self.inside.delays c.self.inside.rings.items c.args.self.now h.ep h.endpoint read c.self.view_is c.requires.endpoint c.index.ensures in
     let same : read ≡ r = some_equal read r (sym there ∙ is) in
     c.has_all.ensures h.ep
     ∙ ap (λ (n : ℕ). every n c.prb_count-count.result (λ prb. is_some (ring_block read (cell_at h.ep true c.data_slot-slot.result h.section.symbol prb)))) c.first_prb-first.ensures

@@ -10,7 +10,7 @@ pub loop-endpoint-preserved : goal.loop-endpoint-preserved
 loop-endpoint-preserved c =
     let items = c.in_ok-push.ensures.items in
     let ring = c.in_ok-ring.ring in
-    let P = IsFresh c.args.config.now.delays in
+    let P = IsFresh c.args.side c.args.config.now.delays in
     let fresh : P ring = record { wide = c.in_ok-ring.ensures.wide; empty = c.in_ok-ring.ensures.empty } in
     record {
       endpoints =
@@ -21,10 +21,10 @@ loop-endpoint-preserved c =
     }
 
 pub invariant_of-result : goal.invariant_of-result
-invariant_of-result c = fresh_rings c.args.config.now.delays c.loop-endpoint.rings.items c.requires.delays c.loop-endpoint.invariant.fresh
+invariant_of-result c = fresh_rings c.args.side c.args.config.now.delays c.loop-endpoint.rings.items c.requires.delays c.loop-endpoint.invariant.fresh
 
 pub returns-clause-keeps : goal.returns-clause-keeps
-returns-clause-keeps c clock = fresh_keeps c.args.config.now.delays c.loop-endpoint.rings.items c.loop-endpoint.invariant.fresh c.args.config.now clock
+returns-clause-keeps c clock = fresh_keeps c.args.side c.args.config.now.delays c.loop-endpoint.rings.items c.loop-endpoint.invariant.fresh c.args.config.now clock
 
 pub returns-clause-unmarked : goal.returns-clause-unmarked
-returns-clause-unmarked c = fresh_done c.args.config.now.delays c.loop-endpoint.rings.items c.loop-endpoint.invariant.fresh
+returns-clause-unmarked c = fresh_done c.args.side c.args.config.now.delays c.loop-endpoint.rings.items c.loop-endpoint.invariant.fresh

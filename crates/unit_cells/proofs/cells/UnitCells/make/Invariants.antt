@@ -7,5 +7,5 @@ use Rattle.unit_cells.proofs.cells.UnitCells.make.Given as goal
 abbrev pub invariant-loop-endpoint : goal.invariant-loop-endpoint
 invariant-loop-endpoint l = record {
   endpoints : map endpoint_in l.rings.items ≡ take l.endpoint-index l.endpoints;
-  fresh : All (IsFresh l.config.delays) l.rings.items;
+  fresh : All (IsFresh l.side l.config.delays) l.rings.items;
 }

@@ -15,7 +15,7 @@ pub returns-clause-others : goal.returns-clause-others
 returns-clause-others c = marked_others c.args.ep c.args.slot c.args.symbol c.args.prb c.args.self.now c.mark_cell.new.self c.mark_cell.ensures c.requires.has
 
 pub returns-clause-keeps : goal.returns-clause-keeps
-returns-clause-keeps c k clock acc ds keeps = keeps_same k clock c.args.self.now c.mark_cell.new.self acc ds (known c) keeps
+returns-clause-keeps c side k clock acc ds keeps = keeps_same side k clock c.args.self.now c.mark_cell.new.self acc ds (known c) keeps
 
 pub returns-clause-known : goal.returns-clause-known
 returns-clause-known c = known c

@@ -4,10 +4,10 @@ use Rattle.unit_cells.proofs.cells.UnitCells.mark_cell.Goals as goal
 
 pub invariant_of-self : goal.invariant_of-self
 invariant_of-self c =
-    still_rings c.self.inside.delays c.self.inside.rings.items c.args.self.now c.args.ep c.requires.cell.endpoint c.args.slot c.index_mut.result.now c.mark.new.ring
+    still_rings c.self.inside.side c.self.inside.delays c.self.inside.rings.items c.args.self.now c.args.ep c.requires.cell.endpoint c.args.slot c.index_mut.result.now c.mark.new.ring
     c.self.view_is c.requires.cell.at c.index_mut.ensures.value c.mark.ensures.touches c.self.invariant
 
 pub returns : goal.returns
 returns c =
-    in_ring (Marks c.args.slot c.args.symbol c.args.prb) c.self.inside.delays c.self.inside.rings.items c.args.self.now c.args.ep c.requires.cell.endpoint
+    in_ring (Marks c.args.slot c.args.symbol c.args.prb) c.self.inside.side c.self.inside.delays c.self.inside.rings.items c.args.self.now c.args.ep c.requires.cell.endpoint
     c.index_mut.result.now c.mark.new.ring c.self.view_is c.requires.cell.at c.index_mut.ensures.value c.mark.ensures
