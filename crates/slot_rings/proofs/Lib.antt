@@ -4,4 +4,5 @@ pub mod JudgeLemmas
 pub mod PlaceLemmas
 pub mod SeenLemmas
 pub mod RingLemmas
+pub mod RowLemmas
 pub mod PendingLemmas

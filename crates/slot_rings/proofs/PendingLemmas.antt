@@ -69,7 +69,7 @@ opened_quiet prbs s slot p q is off = elim (cases_Bool (is_of p.slot slot)) [
       let same : q ≡ p = rw own at is in
       ap (λ (x : PlaceValue). due_in prbs x s) same ∙ off
   | inr other ↦
-      let new : q ≡ empty_place (Some slot) p.room = rw other at is in
+      let new : q ≡ empty_place (Some slot) p.prbs = rw other at is in
       due_empty prbs s q (ap (λ (x : PlaceValue). x.down) new)
 ]
 
@@ -216,13 +216,13 @@ flagged_clear r v flags new slot i symbol same flagged i_is has settled size oth
 -- ---- a ring of places that are no slot's
 
 pub fresh_ring : (r : RingValue) (slots : ℕ) → length r.places ≡ slots → 1 ≤ slots → slots < 1024 → 1 ≤ r.endpoint.prbs → r.endpoint.prbs ≤ 273
-    → ((i : ℕ) → (get_or r.places i blank).slot ≡ None) → ((i : ℕ) → i < length r.places → (get_or r.places i blank).room ≡ 14 * r.endpoint.prbs) → IsRing r
-fresh_ring r slots len one few prbs_some prbs_few none rooms = record {
+    → ((i : ℕ) → (get_or r.places i blank).slot ≡ None) → ((i : ℕ) → i < length r.places → (get_or r.places i blank).prbs ≡ r.endpoint.prbs) → IsRing r
+fresh_ring r slots len one few prbs_some prbs_few none prbs = record {
   some = omega (arith, len, one);
   few = omega (arith, len, few);
   prbs_some = prbs_some;
   prbs_few = prbs_few;
-  rooms = λ i below. omega (arith, rooms i below);
+  widths = prbs;
   homes = λ i s below is. absurd (no_slot s (sym (none i) ∙ is));
 }
   where

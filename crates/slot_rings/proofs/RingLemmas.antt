@@ -36,6 +36,9 @@ index_within r s some = go (slot_number r.endpoint.numerology s)
     go (pos a) = omega (arith, mod_below a (length r.places) some)
     go (negsuc a) = omega (arith, some)
 
+pub place_prbs : (r : RingValue) (s : Slot) → IsRing r → (place_of r s).prbs ≡ r.endpoint.prbs
+place_prbs r s ring = ring.widths (place_index r s) (index_within r s ring.some)
+
 -- ---- another place at an index
 
 abbrev pub put : RingValue → ℕ → PlaceValue → RingValue
@@ -55,18 +58,18 @@ put_other r i q s ne =
     ∙ get_or-set_other r.places i (place_index r s) q blank ne
 
 pub put_ring : (r : RingValue) (i : ℕ) (q : PlaceValue) → IsRing r → i < length r.places
-    → 14 * r.endpoint.prbs ≤ q.room → ((s : Slot) → q.slot ≡ Some s → IsSlot r.endpoint.numerology s × (place_index r s ≡ i))
+    → q.prbs ≡ r.endpoint.prbs → ((s : Slot) → q.slot ≡ Some s → IsSlot r.endpoint.numerology s × (place_index r s ≡ i))
     → IsRing (put r i q)
-put_ring r i q ring within room home =
+put_ring r i q ring within prbs home =
     let len = length-set r.places i q in
     record {
       some = omega (arith, len, ring.some);
       few = omega (arith, len, ring.few);
       prbs_some = ring.prbs_some;
       prbs_few = ring.prbs_few;
-      rooms = λ j below. elim (cases_eq j i) [
-        | inl e ↦ subst (λ (p : PlaceValue). 14 * r.endpoint.prbs ≤ p.room) (sym (here j e)) room
-        | inr ne ↦ subst (λ (p : PlaceValue). 14 * r.endpoint.prbs ≤ p.room) (sym (get_or-set_other r.places i j q blank ne)) (ring.rooms j (omega (arith, len, below)))
+      widths = λ j below. elim (cases_eq j i) [
+        | inl e ↦ subst (λ (p : PlaceValue). p.prbs ≡ r.endpoint.prbs) (sym (here j e)) prbs
+        | inr ne ↦ subst (λ (p : PlaceValue). p.prbs ≡ r.endpoint.prbs) (sym (get_or-set_other r.places i j q blank ne)) (ring.widths j (omega (arith, len, below)))
       ];
       homes = λ j s below is. elim (cases_eq j i) [
         | inl e ↦
@@ -82,12 +85,12 @@ put_ring r i q ring within room home =
     here j e = ap (λ (k : ℕ). get_or (set r.places i q) k blank) e ∙ get_or-set_same r.places i q blank within
 
 -- a place that stays its slot's
-pub put_kept : (r : RingValue) (i : ℕ) (p q : PlaceValue) → IsRing r → i < length r.places → p ≡ get_or r.places i p → q.slot ≡ p.slot → q.room ≡ p.room
+pub put_kept : (r : RingValue) (i : ℕ) (p q : PlaceValue) → IsRing r → i < length r.places → p ≡ get_or r.places i p → q.slot ≡ p.slot → q.prbs ≡ p.prbs
     → IsRing (put r i q)
-put_kept r i p q ring within read slot room =
+put_kept r i p q ring within read slot prbs =
     let there : p ≡ get_or r.places i blank = get_or_read r.places i p within read blank in
     put_ring r i q ring within
-    (subst (λ (n : ℕ). 14 * r.endpoint.prbs ≤ n) (ap (λ (x : PlaceValue). x.room) (sym there) ∙ sym room) (ring.rooms i within))
+    (prbs ∙ ap (λ (x : PlaceValue). x.prbs) there ∙ ring.widths i within)
     (λ s is. ring.homes i s within (ap (λ (x : PlaceValue). x.slot) (sym there) ∙ sym slot ∙ is))
 
 some_own : (s t : Slot) → Some s ≡ Some t → s ≡ t
@@ -98,12 +101,12 @@ pub put_opened : (r : RingValue) (i : ℕ) (p q : PlaceValue) (slot : Slot) → 
 put_opened r i p q slot ring within read is i_is q_is = elim (cases_Bool (is_of p.slot slot)) [
   | inl own ↦
       let same : q ≡ p = rw own at q_is in
-      put_kept r i p q ring within read (ap (λ (x : PlaceValue). x.slot) same) (ap (λ (x : PlaceValue). x.room) same)
+      put_kept r i p q ring within read (ap (λ (x : PlaceValue). x.slot) same) (ap (λ (x : PlaceValue). x.prbs) same)
   | inr other ↦
       let there : p ≡ get_or r.places i blank = get_or_read r.places i p within read blank in
-      let new : q ≡ empty_place (Some slot) p.room = rw other at q_is in
+      let new : q ≡ empty_place (Some slot) p.prbs = rw other at q_is in
       put_ring r i q ring within
-      (subst (λ (n : ℕ). 14 * r.endpoint.prbs ≤ n) (ap (λ (x : PlaceValue). x.room) (sym there) ∙ sym (ap (λ (x : PlaceValue). x.room) new)) (ring.rooms i within))
+      (ap (λ (x : PlaceValue). x.prbs) new ∙ ap (λ (x : PlaceValue). x.prbs) there ∙ ring.widths i within)
       (λ s e.
       let s_is : slot ≡ s = some_own slot s (sym (ap (λ (x : PlaceValue). x.slot) new) ∙ e) in
       (subst (λ (x : Slot). IsSlot r.endpoint.numerology x) s_is is, subst (λ (x : Slot). place_index r x ≡ i) s_is (sym i_is)))
@@ -180,10 +183,10 @@ opened_kept slot p own = rw own refl
 opened_claim : (prbs : ℕ) (p : PlaceValue) (cell : Cell) (re : ℕ) → place_claim prbs (opened cell.slot p) cell re ≡ place_claim prbs p cell re
 opened_claim prbs p cell re = elim (cases_Bool (is_of p.slot cell.slot)) [
   | inl own ↦ ap (λ (q : PlaceValue). place_claim prbs q cell re) (opened_kept cell.slot p own)
-  | inr other ↦ let o = of_own cell.slot in rw (other, o) (none (marks_of (empty_place (Some cell.slot) p.room) cell.down) (no_marks_yet cell.down))
+  | inr other ↦ let o = of_own cell.slot in rw (other, o) (none (marks_of (empty_place (Some cell.slot) p.prbs) cell.down) (no_marks_yet cell.down))
 ]
   where
-    no_marks_yet : (b : Bool) → marks_of (empty_place (Some cell.slot) p.room) b ≡ []
+    no_marks_yet : (b : Bool) → marks_of (empty_place (Some cell.slot) p.prbs) b ≡ []
     no_marks_yet true = refl
     no_marks_yet false = refl
 
@@ -265,9 +268,9 @@ slots_pushed [] p all is (suc i) = refl
 slots_pushed (x ∷ xs) p all is zero = all zero
 slots_pushed (x ∷ xs) p all is (suc i) = slots_pushed xs p (λ j. all (suc j)) is i
 
-pub rooms_pushed : (xs : List PlaceValue) (p : PlaceValue) (n : ℕ) → ((i : ℕ) → i < length xs → (get_or xs i blank).room ≡ n) → p.room ≡ n
-    → (i : ℕ) → i < length xs + 1 → (get_or (xs ++ p ∷ []) i blank).room ≡ n
-rooms_pushed [] p n all is zero below = is
-rooms_pushed [] p n all is (suc i) below = absurd (omega arith)
-rooms_pushed (x ∷ xs) p n all is zero below = all zero (omega arith)
-rooms_pushed (x ∷ xs) p n all is (suc i) below = rooms_pushed xs p n (λ j b. all (suc j) (omega arith)) is i (omega arith)
+pub prbs_pushed : (xs : List PlaceValue) (p : PlaceValue) (n : ℕ) → ((i : ℕ) → i < length xs → (get_or xs i blank).prbs ≡ n) → p.prbs ≡ n
+    → (i : ℕ) → i < length xs + 1 → (get_or (xs ++ p ∷ []) i blank).prbs ≡ n
+prbs_pushed [] p n all is zero below = is
+prbs_pushed [] p n all is (suc i) below = absurd (omega arith)
+prbs_pushed (x ∷ xs) p n all is zero below = all zero (omega arith)
+prbs_pushed (x ∷ xs) p n all is (suc i) below = prbs_pushed xs p n (λ j b. all (suc j) (omega arith)) is i (omega arith)

@@ -2,3 +2,4 @@ pub mod Places
 pub mod Rings
 pub mod Pending
 pub mod Verdicts
+pub mod Rows

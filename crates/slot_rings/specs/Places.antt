@@ -22,8 +22,8 @@ no_marks = record { id = 0; claimed = 0; idle = 0 }
 -- reach is as nothing.
 pub record PlaceValue : Type 0 where
   pub slot : Option Slot
-  -- its lists hold so many cells without asking for memory
-  pub room : ℕ
+  -- of a symbol: its lists hold the cells of 14 symbols without asking for memory
+  pub prbs : ℕ
   pub down : List Marks
   pub up : List Marks
   pub blocks : List (Option Block)
@@ -32,7 +32,7 @@ pub record PlaceValue : Type 0 where
 
 -- a place that keeps nothing
 abbrev pub empty_place : Option Slot → ℕ → PlaceValue
-empty_place slot room = record { slot = slot; room = room; down = []; up = []; blocks = []; done = []; uplink = [] }
+empty_place slot prbs = record { slot = slot; prbs = prbs; down = []; up = []; blocks = []; done = []; uplink = [] }
 
 abbrev pub blank : PlaceValue
 blank = empty_place None 0
@@ -47,7 +47,7 @@ is_of (Some s) slot = same_slot s slot
 
 -- a place after it was given to a slot: it forgets what it kept of another one
 abbrev pub opened : Slot → PlaceValue → PlaceValue
-opened slot p = if is_of p.slot slot then p else empty_place (Some slot) p.room
+opened slot p = if is_of p.slot slot then p else empty_place (Some slot) p.prbs
 
 abbrev pub marks_of : PlaceValue → Bool → List Marks
 marks_of p down = if down then p.down else p.up

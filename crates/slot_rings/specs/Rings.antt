@@ -1,5 +1,5 @@
 -- The places of an endpoint, and which slot belongs to which.
-use Rattle.std.specs.Prelude.{◌≡◌, ℕ, pos, ◌<◌, ◌≤◌, ◌*◌, Bool, false, List, [], length, get_or, set, Option, Some, None}
+use Rattle.std.specs.Prelude.{◌≡◌, ℕ, pos, ◌<◌, ◌≤◌, Bool, false, List, [], length, get_or, set, Option, Some, None}
 use Rattle.std.specs.Int.{int_rem_euclid, int_gap}
 use Rattle.fh_time.specs.declared.values.Slot.{Slot}
 use Rattle.fh_time.specs.Numbering.{slot_number, symbols_of}
@@ -46,7 +46,7 @@ pub record IsRing (r : RingValue) : Type 0 where
   pub prbs_some : 0 < r.endpoint.prbs
   pub prbs_few : r.endpoint.prbs ≤ 273
   -- each place has room for all cells of a slot
-  pub rooms : (i : ℕ) → i < length r.places → 14 * r.endpoint.prbs ≤ (get_or r.places i blank).room
+  pub widths : (i : ℕ) → i < length r.places → (get_or r.places i blank).prbs ≡ r.endpoint.prbs
   -- and is that of its slot
   pub homes : (i : ℕ) (s : Slot) → i < length r.places → (get_or r.places i blank).slot ≡ Some s
       → IsSlot r.endpoint.numerology s × (place_index r s ≡ i)

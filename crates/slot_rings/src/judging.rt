@@ -1,14 +1,16 @@
 // Allocations against the claims of their slot.
 ghost use Rattle.std.specs.Prelude.{◌≡◌, ℕ, ◌+◌, ◌*◌, ◌^◌, ◌<◌, ◌≤◌, ◌&&◌, false, get_or, vec_capacity, if◌then◌else◌, Some};
 ghost use Rattle.fh_time.specs.Carrier.{is_outside};
-ghost use Rattle.unit_model.specs.Claims.{first_prb, prb_count, in_mask, is_from, is_claimed, is_overlapped, claim_of};
+ghost use Rattle.unit_model.specs.Claims.{first_prb, prb_count, cell_of, in_mask, is_from, is_claimed, is_overlapped, claim_of};
 ghost use Rattle.unit_model.specs.Commands.{is_uplink};
 ghost use Rattle.unit_model.specs.Lists.{every, some};
 ghost use Rattle.slot_rings.specs.Places.{claim_in, claims_in, no_marks};
+ghost use Rattle.slot_rings.specs.Rows.{AreRows};
 ghost use Rattle.slot_rings.specs.Verdicts.{repeats_by, overlaps_by, verdict_by};
 
 use crate::lists::reach;
 use crate::marks::{Marks, NONE};
+use crate::rows::{Row, note, row_at};
 use unit_model::{Allocation, CommandVerdict};
 
 /// How many uplink sections a slot takes.
@@ -87,14 +89,45 @@ fn row_clashes(marks: &[Marks], base: usize, a: &Allocation) -> bool
     false
 }
 
+/// Whether each cell of a symbol that an allocation covers has its claims.
+fn symbol_has(marks: &[Marks], rows: &[Row], symbol: usize, a: &Allocation) -> bool
+    requires rows { AreRows a.now.endpoint.prbs marks.now rows.now }
+    requires inside { is_outside a.now.endpoint.prbs a.now.start_prb a.now.num_prb ≡ false }
+    requires some { 0 < a.now.endpoint.prbs }
+    requires small { symbol < 2 ^ 16 }
+    ensures { result ≡ every (first_prb a.now) (prb_count a.now)
+        (λ n. is_claimed a.now.section a.now.mask (claims_in a.now.endpoint.prbs marks.now (cell_of a.now symbol n))) }
+{
+    match row_at(rows, symbol) {
+        Row::Known(run) => run.has(first_prb(a), prb_count(a), a.section, a.mask),
+        Row::Mixed => row_has(marks, symbol * a.endpoint.prbs as usize, a),
+    }
+}
+
+/// Whether a cell of a symbol that an allocation covers has a claim against it.
+fn symbol_clashes(marks: &[Marks], rows: &[Row], symbol: usize, a: &Allocation) -> bool
+    requires rows { AreRows a.now.endpoint.prbs marks.now rows.now }
+    requires inside { is_outside a.now.endpoint.prbs a.now.start_prb a.now.num_prb ≡ false }
+    requires small { symbol < 2 ^ 16 }
+    ensures { result ≡ some (first_prb a.now) (prb_count a.now)
+        (λ n. is_overlapped a.now.section a.now.mask (claims_in a.now.endpoint.prbs marks.now (cell_of a.now symbol n))) }
+{
+    match row_at(rows, symbol) {
+        Row::Known(run) => run.clashes(first_prb(a), prb_count(a), a.section, a.mask),
+        Row::Mixed => row_clashes(marks, symbol * a.endpoint.prbs as usize, a),
+    }
+}
+
 /// Whether all that an allocation names is claimed under its id.
-fn repeats(marks: &[Marks], a: &Allocation) -> bool
+fn repeats(marks: &[Marks], rows: &[Row], a: &Allocation) -> bool
+    requires rows { AreRows a.now.endpoint.prbs marks.now rows.now }
+    requires inside { is_outside a.now.endpoint.prbs a.now.start_prb a.now.num_prb ≡ false }
+    requires some { 0 < a.now.endpoint.prbs }
     ensures { result ≡ repeats_by (claims_in a.now.endpoint.prbs marks.now) a.now }
 {
-    let prbs = a.endpoint.prbs as usize;
     let first = a.symbol as usize;
     for symbol in first..first + a.num_symbol as usize {
-        if !row_has(marks, symbol * prbs, a) {
+        if !symbol_has(marks, rows, symbol, a) {
             return false;
         }
     }
@@ -102,13 +135,14 @@ fn repeats(marks: &[Marks], a: &Allocation) -> bool
 }
 
 /// Whether a cell that an allocation covers has a claim against it.
-fn overlaps(marks: &[Marks], a: &Allocation) -> bool
+fn overlaps(marks: &[Marks], rows: &[Row], a: &Allocation) -> bool
+    requires rows { AreRows a.now.endpoint.prbs marks.now rows.now }
+    requires inside { is_outside a.now.endpoint.prbs a.now.start_prb a.now.num_prb ≡ false }
     ensures { result ≡ overlaps_by (claims_in a.now.endpoint.prbs marks.now) a.now }
 {
-    let prbs = a.endpoint.prbs as usize;
     let first = a.symbol as usize;
     for symbol in first..first + a.num_symbol as usize {
-        if row_clashes(marks, symbol * prbs, a) {
+        if symbol_clashes(marks, rows, symbol, a) {
             return true;
         }
     }
@@ -117,14 +151,21 @@ fn overlaps(marks: &[Marks], a: &Allocation) -> bool
 
 /// The verdict on an allocation that is on time, over the marks of its slot and direction and the number of its uplink
 /// sections.
-pub(crate) fn verdict(marks: &[Marks], uplinks: usize, a: &Allocation) -> CommandVerdict
+pub(crate) fn verdict(
+    marks: &[Marks],
+    rows: &[Row],
+    uplinks: usize,
+    a: &Allocation,
+) -> CommandVerdict
+    requires rows { AreRows a.now.endpoint.prbs marks.now rows.now }
+    requires some { 0 < a.now.endpoint.prbs }
     ensures { result ≡ verdict_by (claims_in a.now.endpoint.prbs marks.now) uplinks a.now }
 {
     if is_outside(a) {
         CommandVerdict::Range
-    } else if repeats(marks, a) {
+    } else if repeats(marks, rows, a) {
         CommandVerdict::Repeat
-    } else if overlaps(marks, a) {
+    } else if overlaps(marks, rows, a) {
         CommandVerdict::Overlap
     } else if is_uplink(a) && MOST_UPLINK <= uplinks {
         CommandVerdict::Full
@@ -150,7 +191,7 @@ fn claim_row(marks: &mut Vec<Marks>, from: usize, count: usize, a: &Allocation)
 }
 
 /// Claims all that an allocation names, where nothing is claimed against it.
-pub(crate) fn claim(marks: &mut Vec<Marks>, a: &Allocation)
+fn claim_cells(marks: &mut Vec<Marks>, a: &Allocation)
     requires within { a.now.symbol + a.now.num_symbol ≤ 14 }
     requires inside { is_outside a.now.endpoint.prbs a.now.start_prb a.now.num_prb ≡ false }
     requires room { 14 * a.now.endpoint.prbs ≤ vec_capacity marks.old }
@@ -166,4 +207,22 @@ pub(crate) fn claim(marks: &mut Vec<Marks>, a: &Allocation)
     for symbol in first..first + a.num_symbol as usize {
         claim_row(marks, symbol * prbs + first_prb(a), prb_count(a), a);
     }
+}
+
+/// The same, and notes what is known of its symbols.
+pub(crate) fn claim(marks: &mut Vec<Marks>, rows: &mut [Row; 14], a: &Allocation)
+    requires rows { AreRows a.now.endpoint.prbs marks.old.items rows.old }
+    requires within { a.now.symbol + a.now.num_symbol ≤ 14 }
+    requires inside { is_outside a.now.endpoint.prbs a.now.start_prb a.now.num_prb ≡ false }
+    requires room { 14 * a.now.endpoint.prbs ≤ vec_capacity marks.old }
+    requires free { overlaps_by (claims_in a.now.endpoint.prbs marks.old.items) a.now ≡ false }
+    ensures rows { AreRows a.now.endpoint.prbs marks.new.items rows.new }
+    ensures each { (symbol prb re : ℕ) → prb < a.now.endpoint.prbs → re < 12
+        → claim_in (get_or marks.new.items (symbol * a.now.endpoint.prbs + prb) no_marks) re
+        ≡ (if (is_from a.now.symbol a.now.num_symbol symbol && is_from (first_prb a.now) (prb_count a.now) prb) && in_mask a.now.mask re then Some (claim_of a.now)
+        else claim_in (get_or marks.old.items (symbol * a.now.endpoint.prbs + prb) no_marks) re) }
+    ensures capacity { vec_capacity marks.old ≤ vec_capacity marks.new }
+{
+    claim_cells(marks, a);
+    note(rows, a);
 }

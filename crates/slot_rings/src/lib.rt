@@ -17,6 +17,7 @@ mod marks;
 mod pending;
 mod place;
 mod ring;
+mod rows;
 mod scans;
 
 pub use marks::Marks;

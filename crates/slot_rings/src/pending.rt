@@ -3,12 +3,10 @@ ghost use Rattle.std.specs.Prelude.{◌≡◌, ◌≢◌, ℕ, ◌+◌, ◌<◌,
 ghost use Rattle.unit_model.specs.Claims.{is_from};
 ghost use Rattle.slot_rings.specs.Pending.{flag_at};
 
+use crate::rows::SYMBOLS;
 use fh_base::NoMemory;
 use std::alloc::Global;
 use unit_model::Allocation;
-
-/// A slot has at most 14 symbols.
-pub(crate) const SYMBOLS: usize = 14;
 
 /// The flags of so many places, none of them set.
 pub(crate) fn make_flags(alloc: Global, places: usize) -> Result<Vec<[bool; 14]>, NoMemory>

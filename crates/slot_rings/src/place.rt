@@ -12,6 +12,7 @@ ghost use Rattle.slot_rings.specs.Places.{is_of};
 use crate::judging::{MOST_UPLINK, claim, is_uplink, verdict};
 use crate::lists::reach;
 use crate::marks::Marks;
+use crate::rows::{EMPTY, Row, SYMBOLS};
 use fh_base::NoMemory;
 use fh_time::Slot;
 use std::alloc::Global;
@@ -24,10 +25,13 @@ use unit_model::{Allocation, Block, CommandVerdict};
 pub(crate) struct Place {
     // whose slot it is
     slot: Option<Slot>,
-    // the cells of one direction
-    room: usize,
+    // of a symbol
+    prbs: u16,
     down: Vec<Marks>,
     up: Vec<Marks>,
+    // what the marks of each symbol are
+    down_rows: [Row; 14],
+    up_rows: [Row; 14],
     blocks: Vec<Option<Block>>,
     done: Vec<bool>,
     // the newest last
@@ -35,15 +39,17 @@ pub(crate) struct Place {
 }
 
 impl Model for Place {
-    ghost use Rattle.std.specs.Prelude.{◌≤◌, length, reverse, vec_capacity};
+    ghost use Rattle.std.specs.Prelude.{◌*◌, ◌≤◌, length, reverse, vec_capacity};
     ghost use Rattle.slot_rings.specs.Places.{PlaceValue};
+    ghost use Rattle.slot_rings.specs.Rows.{AreRows};
 
     ghost Value = { PlaceValue };
 
-    ghost view = { λ p. record { slot = p.slot; room = p.room; down = p.down.items; up = p.up.items; blocks = p.blocks.items; done = p.done.items; uplink = reverse p.uplink.items } };
+    ghost view = { λ p. record { slot = p.slot; prbs = p.prbs; down = p.down.items; up = p.up.items; blocks = p.blocks.items; done = p.done.items; uplink = reverse p.uplink.items } };
 
-    ghost invariant = { λ p. (p.room ≤ vec_capacity p.down) × (p.room ≤ vec_capacity p.up) × (p.room ≤ vec_capacity p.blocks)
-        × (p.room ≤ vec_capacity p.done) × (64 ≤ vec_capacity p.uplink) × (length p.uplink.items ≤ 64) };
+    ghost invariant = { λ p. (14 * p.prbs ≤ vec_capacity p.down) × (14 * p.prbs ≤ vec_capacity p.up) × (14 * p.prbs ≤ vec_capacity p.blocks)
+        × (14 * p.prbs ≤ vec_capacity p.done) × (64 ≤ vec_capacity p.uplink) × (length p.uplink.items ≤ 64)
+        × AreRows p.prbs p.down.items p.down_rows × AreRows p.prbs p.up.items p.up_rows };
 }
 
 /// Whether two slots are the same one.
@@ -109,12 +115,14 @@ fn mark(done: &mut Vec<bool>, k: usize)
 
 impl Place {
     ghost use Rattle.slot_rings.specs.Places.{empty_place, opened, marks_seen, blocks_seen, done_seen, place_claim, place_uplink};
+    ghost use Rattle.slot_rings.specs.Rows.{AreRows};
     ghost use Rattle.slot_rings.specs.Verdicts.{overlaps_by, verdict_by, claim_after};
 
-    /// Takes all memory, for so many cells of a direction.
-    pub(crate) fn make(alloc: Global, room: usize) -> Result<Place, NoMemory>
-        ensures { IfOk result (λ p. p ≡ empty_place None room) }
+    /// Takes all memory, for so many PRBs.
+    pub(crate) fn make(alloc: Global, prbs: u16) -> Result<Place, NoMemory>
+        ensures { IfOk result (λ p. p ≡ empty_place None prbs) }
     {
+        let room = SYMBOLS * prbs as usize;
         let down = Vec::with_capacity(alloc, room)?;
         let up = Vec::with_capacity(alloc, room)?;
         let blocks = Vec::with_capacity(alloc, room)?;
@@ -122,9 +130,11 @@ impl Place {
         let uplink = Vec::with_capacity(alloc, MOST_UPLINK)?;
         Ok(Place {
             slot: None,
-            room,
+            prbs,
             down,
             up,
+            down_rows: [EMPTY; SYMBOLS],
+            up_rows: [EMPTY; SYMBOLS],
             blocks,
             done,
             uplink,
@@ -147,11 +157,13 @@ impl Place {
 
     /// Gives it to a slot, and forgets all.
     fn wipe(&mut self, slot: Slot)
-        ensures { self.new ≡ empty_place (Some slot) self.old.room }
+        ensures { self.new ≡ empty_place (Some slot) self.old.prbs }
     {
         self.slot = Some(slot);
         self.down.clear();
         self.up.clear();
+        self.down_rows = [EMPTY; SYMBOLS];
+        self.up_rows = [EMPTY; SYMBOLS];
         self.blocks.clear();
         self.done.clear();
         self.uplink.clear();
@@ -181,6 +193,17 @@ impl Place {
         }
     }
 
+    /// What the marks of each symbol are.
+    fn rows(&self, slot: Slot, down: bool) -> &[Row]
+        ensures { AreRows self.now.prbs (marks_seen self.now slot down) result.now }
+    {
+        if self.has(slot) {
+            if down { &self.down_rows } else { &self.up_rows }
+        } else {
+            &[]
+        }
+    }
+
     /// The accepted uplink sections of a slot, the newest last.
     pub(crate) fn uplink(&self, slot: Slot) -> &[Allocation]
         ensures value { reverse result.now ≡ place_uplink self.now slot }
@@ -195,10 +218,17 @@ impl Place {
 
     /// The verdict on an allocation that is on time.
     pub(crate) fn judge(&self, a: &Allocation) -> CommandVerdict
+        requires prbs { a.now.endpoint.prbs ≡ self.now.prbs }
+        requires some { 0 < self.now.prbs }
         ensures { result ≡ verdict_by (place_claim a.now.endpoint.prbs self.now) (length (place_uplink self.now a.now.slot)) a.now }
     {
         let uplinks = self.uplink(a.slot).len();
-        verdict(self.marks(a.slot, a.down), uplinks, a)
+        verdict(
+            self.marks(a.slot, a.down),
+            self.rows(a.slot, a.down),
+            uplinks,
+            a,
+        )
     }
 
     /// Claims what an accepted allocation names.
@@ -206,16 +236,16 @@ impl Place {
         requires slot { is_of self.old.slot a.now.slot ≡ true }
         requires within { a.now.symbol + a.now.num_symbol ≤ 14 }
         requires inside { is_outside a.now.endpoint.prbs a.now.start_prb a.now.num_prb ≡ false }
-        requires room { 14 * a.now.endpoint.prbs ≤ self.old.room }
+        requires prbs { a.now.endpoint.prbs ≡ self.old.prbs }
         requires free { overlaps_by (place_claim a.now.endpoint.prbs self.old) a.now ≡ false }
         ensures claims { (cell : Cell) (re : ℕ) → cell.ep ≡ a.now.ep → cell.slot ≡ a.now.slot → cell.prb < a.now.endpoint.prbs → re < 12
             → place_claim a.now.endpoint.prbs self.new cell re ≡ claim_after Accepted a.now cell re (place_claim a.now.endpoint.prbs self.old cell re) }
         ensures kept { self.new ≡ record self.old { down = self.new.down; up = self.new.up } }
     {
         if a.down {
-            claim(&mut self.down, a);
+            claim(&mut self.down, &mut self.down_rows, a);
         } else {
-            claim(&mut self.up, a);
+            claim(&mut self.up, &mut self.up_rows, a);
         }
     }
 
@@ -231,7 +261,7 @@ impl Place {
     pub(crate) fn claim(&mut self, a: &Allocation)
         requires slot { is_of self.old.slot a.now.slot ≡ true }
         requires within { a.now.symbol + a.now.num_symbol ≤ 14 }
-        requires room { 14 * a.now.endpoint.prbs ≤ self.old.room }
+        requires prbs { a.now.endpoint.prbs ≡ self.old.prbs }
         requires accepted { verdict_by (place_claim a.now.endpoint.prbs self.old) (length (place_uplink self.old a.now.slot)) a.now ≡ Accepted }
         ensures claims { (cell : Cell) (re : ℕ) → cell.ep ≡ a.now.ep → cell.slot ≡ a.now.slot → cell.prb < a.now.endpoint.prbs → re < 12
             → place_claim a.now.endpoint.prbs self.new cell re ≡ claim_after Accepted a.now cell re (place_claim a.now.endpoint.prbs self.old cell re) }
@@ -266,7 +296,7 @@ impl Place {
 
     /// Gives a downlink cell a block, where it has none.
     pub(crate) fn fill(&mut self, k: usize, block: &Block)
-        requires { k < self.old.room }
+        requires { k < 14 * self.old.prbs }
         ensures here { get_or self.new.blocks k None ≡ or_else (get_or self.old.blocks k None) (Some block.now) }
         ensures others { (i : ℕ) → i ≢ k → get_or self.new.blocks i None ≡ get_or self.old.blocks i None }
         ensures kept { self.new ≡ record self.old { blocks = self.new.blocks } }
@@ -276,7 +306,7 @@ impl Place {
 
     /// Marks a downlink cell as reported.
     pub(crate) fn mark_done(&mut self, k: usize)
-        requires { k < self.old.room }
+        requires { k < 14 * self.old.prbs }
         ensures here { get_or self.new.done k false ≡ true }
         ensures others { (i : ℕ) → i ≢ k → get_or self.new.done i false ≡ get_or self.old.done i false }
         ensures kept { self.new ≡ record self.old { done = self.new.done } }

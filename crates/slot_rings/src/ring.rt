@@ -13,7 +13,7 @@ ghost use Rattle.slot_rings.specs.Verdicts.{verdict_by, claim_after, uplink_afte
 
 use crate::index::place_index;
 use crate::judging::marks_at;
-use crate::pending::{SYMBOLS, clear_flag, is_flagged, make_flags, set_flags};
+use crate::pending::{clear_flag, is_flagged, make_flags, set_flags};
 use crate::place::Place;
 use crate::scans::{all_there, any_due, block_at, done_at};
 use fh_base::NoMemory;
@@ -70,10 +70,9 @@ impl SlotRing {
         ensures size { IfOk result (λ r. length r.places ≡ slots) }
         ensures empty { IfOk result (λ r. IsEmpty r) }
     {
-        let room = SYMBOLS * endpoint.prbs as usize;
         let mut places = Vec::with_capacity(alloc, slots)?;
         for _k in 0..slots {
-            let place = Place::make(alloc, room)?;
+            let place = Place::make(alloc, endpoint.prbs)?;
             places.push(place)?;
         }
         let pending = make_flags(alloc, slots)?;
@@ -103,7 +102,9 @@ impl SlotRing {
     /// A slot's place.
     fn place(&self, slot: Slot) -> &Place
         requires { IsSlot self.now.endpoint.numerology slot }
-        ensures { result.now ≡ place_of self.now slot }
+        ensures value { result.now ≡ place_of self.now slot }
+        ensures prbs { result.now.prbs ≡ self.now.endpoint.prbs }
+        ensures some { 0 < self.now.endpoint.prbs }
     {
         let index = self.index(slot);
         &self.places[index]

@@ -13,7 +13,7 @@ invariant_of-self c =
     let within : c.index-index.result < length r.places = subst (λ (x : RingValue). c.index-index.result < length x.places) (sym c.self.view_is) c.index-index.ensures.within in (
       put_kept r c.index-index.result c.index_mut.result.now c.claim.new.self c.self.invariant.0
           within c.index_mut.ensures.value
-          (ap (λ (p : PlaceValue). p.slot) c.claim.ensures.kept) (ap (λ (p : PlaceValue). p.room) c.claim.ensures.kept),
+          (ap (λ (p : PlaceValue). p.slot) c.claim.ensures.kept) (ap (λ (p : PlaceValue). p.prbs) c.claim.ensures.kept),
       flagged_put r c.self.inside.pending.items c.set_flags.new.flags.items c.index-index.result c.index_mut.result.now c.claim.new.self c.self.invariant.1 within c.index_mut.ensures.value
           c.set_flags.ensures.size c.set_flags.ensures.kept
           (λ s off. claimed_quiet r.endpoint.prbs c.args.a.now.endpoint.prbs s c.index_mut.result.now c.claim.new.self c.args.a.now

@@ -11,7 +11,7 @@ invariant_of-self c =
     let within : c.index-index.result < length r.places = subst (λ (x : RingValue). c.index-index.result < length x.places) (sym c.self.view_is) c.index-index.ensures.within in (
       put_kept r c.index-index.result c.index_mut.result.now c.fill.new.self c.self.invariant.0
           within c.index_mut.ensures.value
-          (ap (λ (p : PlaceValue). p.slot) c.fill.ensures.kept) (ap (λ (p : PlaceValue). p.room) c.fill.ensures.kept),
+          (ap (λ (p : PlaceValue). p.slot) c.fill.ensures.kept) (ap (λ (p : PlaceValue). p.prbs) c.fill.ensures.kept),
       flagged_put r c.self.inside.pending.items c.self.inside.pending.items c.index-index.result c.index_mut.result.now c.fill.new.self c.self.invariant.1 within c.index_mut.ensures.value
           refl (λ j s off. off)
           (λ s off. filled_quiet r.endpoint.prbs s c.index_mut.result.now c.fill.new.self (ap (λ (p : PlaceValue). p.down) c.fill.ensures.kept) (ap (λ (p : PlaceValue). p.done) c.fill.ensures.kept)),

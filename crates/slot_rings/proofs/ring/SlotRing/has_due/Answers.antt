@@ -9,5 +9,5 @@ pub returns : goal.returns
 returns c ep = c.any_due.ensures
     ∙ ap (λ (r : RingValue). some 0 r.endpoint.prbs (λ n. is_due (claim_in (get_or c.marks.result.now (c.number-base.result + n) no_marks)) (get_or c.done.result.now (c.number-base.result + n) false))) c.self.view_is
     ∙ due_seen c.args.self.now c.args.slot c.args.symbol c.number-base.result ep c.marks.result.now c.done.result.now c.number-base.ensures.value
-    (c.marks.ensures ∙ ap (λ (p : PlaceValue). marks_seen p c.args.slot true) c.place-place.ensures)
-    (c.done.ensures ∙ ap (λ (p : PlaceValue). done_seen p c.args.slot) c.place-place.ensures)
+    (c.marks.ensures ∙ ap (λ (p : PlaceValue). marks_seen p c.args.slot true) c.place-place.ensures.value)
+    (c.done.ensures ∙ ap (λ (p : PlaceValue). done_seen p c.args.slot) c.place-place.ensures.value)

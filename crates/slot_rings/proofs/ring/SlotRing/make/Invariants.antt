@@ -7,5 +7,5 @@ invariant-loop-k l = record {
   len : vec_len l.places ≡ l._k;
   slots : (i : ℕ) → (get_or l.places.items i blank).slot ≡ None;
   downs : (i : ℕ) → (get_or l.places.items i blank).down ≡ [];
-  rooms : (i : ℕ) → i < vec_len l.places → (get_or l.places.items i blank).room ≡ l.room;
+  prbs : (i : ℕ) → i < vec_len l.places → (get_or l.places.items i blank).prbs ≡ l.endpoint.prbs;
 }

@@ -11,7 +11,7 @@ invariant_of-self c =
     let within : c.index-index.result < length r.places = subst (λ (x : RingValue). c.index-index.result < length x.places) (sym c.self.view_is) c.index-index.ensures.within in (
       put_kept r c.index-index.result c.index_mut.result.now c.mark_done.new.self c.self.invariant.0
           within c.index_mut.ensures.value
-          (ap (λ (p : PlaceValue). p.slot) c.mark_done.ensures.kept) (ap (λ (p : PlaceValue). p.room) c.mark_done.ensures.kept),
+          (ap (λ (p : PlaceValue). p.slot) c.mark_done.ensures.kept) (ap (λ (p : PlaceValue). p.prbs) c.mark_done.ensures.kept),
       flagged_put r c.self.inside.pending.items c.self.inside.pending.items c.index-index.result c.index_mut.result.now c.mark_done.new.self c.self.invariant.1 within c.index_mut.ensures.value
           refl (λ j s off. off)
           (λ s off. marked_quiet r.endpoint.prbs s c.args.number c.index_mut.result.now c.mark_done.new.self (ap (λ (p : PlaceValue). p.down) c.mark_done.ensures.kept) c.mark_done.ensures.here c.mark_done.ensures.others),

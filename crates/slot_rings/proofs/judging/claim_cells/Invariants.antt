@@ -1,7 +1,7 @@
 use Rattle.std.proofs.Common.{◌≡◌, ℕ, ◌+◌, ◌-◌, ◌*◌, ◌<◌, ◌≤◌, get_or, vec_capacity, if◌then◌else◌, ◌&&◌, Some}
 use Rattle.unit_model.specs.Claims.{in_mask, is_from, claim_of, first_prb, prb_count}
 use Rattle.slot_rings.specs.Places.{claim_in, no_marks}
-use Rattle.slot_rings.proofs.judging.claim.Given as goal
+use Rattle.slot_rings.proofs.judging.claim_cells.Given as goal
 
 abbrev pub invariant-loop-symbol : goal.invariant-loop-symbol
 invariant-loop-symbol l = record {

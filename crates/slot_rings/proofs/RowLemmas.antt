@@ -1,0 +1,359 @@
+-- What is known of the marks of a symbol.
+use Rattle.std.proofs.Common.{◌≡◌, ℕ, zero, suc, ◌+◌, ◌-◌, ◌*◌, ◌<◌, ◌≤◌, inl, inr, Bool, true, false, not, ◌&&◌, ◌||◌, ◌==◌, nat_le, nat_lt, min, max, if◌then◌else◌, is_some, List, [], ◌∷◌, length, get_or, set, get_or-set_same, get_or-set_other, refl, ap, ap₂, sym, ◌∙◌, subst, arith, Option, Some, None}
+use Rattle.std.proofs.lemmas.Bool.{and_from, and_parts, cases_Bool, cases_eq, cases_lt, le-leb, le-ltb, leb-true, lt-ltb, ltb-false, ltb-true}
+use Rattle.unit_model.specs.Claims.{claim_of, first_prb, in_mask, is_claimed, is_from, is_other, is_overlapped, is_under, prb_count}
+use Rattle.unit_model.specs.Lists.{every, some}
+use Rattle.unit_model.specs.declared.allocations.Allocation.{Allocation}
+use Rattle.unit_model.specs.declared.cells.Claim.{Claim}
+use Rattle.slot_rings.specs.Places.{cell_number, claim_in, no_marks}
+use Rattle.slot_rings.specs.Rows.{AreRows, Grows, IsRow, IsRun, empty_row, id_of, id_with, marks_in, row_at, run_marks, run_of}
+use Rattle.slot_rings.specs.declared.marks.Marks.{Marks}
+use Rattle.slot_rings.specs.declared.rows.Row.{Row}
+use Rattle.slot_rings.specs.declared.rows.Row.TheVariants.{Known, Mixed}
+use Rattle.slot_rings.specs.declared.rows.Run.{Run}
+use Rattle.slot_rings.proofs.JudgeLemmas.{from_above, from_below, from_in}
+use Rattle.slot_rings.proofs.PlaceLemmas.{no_claim}
+use Rattle.slot_rings.proofs.RangeLemmas.{every_at, every_from, every_not, every_same, some_at, some_from, some_one, some_same}
+
+-- ---- tests of claims go by their ids alone
+
+abbrev under_id : ℕ → Option ℕ → Bool
+under_id id None = false
+under_id id (Some i) = i == id
+
+abbrev has_id : Option ℕ → Bool
+has_id None = false
+has_id (Some i) = true
+
+abbrev other_id : ℕ → Option ℕ → Bool
+other_id id None = false
+other_id id (Some i) = not (i == id)
+
+under_is : (id : ℕ) (o : Option Claim) → is_under id o ≡ under_id id (id_of o)
+under_is id None = refl
+under_is id (Some c) = refl
+
+overlap_is : (id : ℕ) (m : Bool) (o : Option Claim) → ((m && is_some o) || is_other id o) ≡ ((m && has_id (id_of o)) || other_id id (id_of o))
+overlap_is id m None = refl
+overlap_is id m (Some c) = refl
+
+pub claimed_ids : (id mask : ℕ) (f g : ℕ → Option Claim) → ((re : ℕ) → re < 12 → id_of (f re) ≡ id_of (g re)) → is_claimed id mask f ≡ is_claimed id mask g
+claimed_ids id mask f g same = every_same 0 12 _ _ (λ re low high.
+    ap (λ b. not (in_mask mask re) || b) (under_is id (f re) ∙ ap (under_id id) (same re (omega arith)) ∙ sym (under_is id (g re))))
+
+pub overlapped_ids : (id mask : ℕ) (f g : ℕ → Option Claim) → ((re : ℕ) → re < 12 → id_of (f re) ≡ id_of (g re)) → is_overlapped id mask f ≡ is_overlapped id mask g
+overlapped_ids id mask f g same = some_same 0 12 _ _ (λ re low high.
+    overlap_is id (in_mask mask re) (f re)
+    ∙ ap (λ o. (in_mask mask re && has_id o) || other_id id o) (same re (omega arith))
+    ∙ sym (overlap_is id (in_mask mask re) (g re)))
+
+-- ---- a run
+
+in_run : (r : Run) (n : ℕ) → r.first ≤ n → n < r.first + r.count → marks_in r n ≡ run_marks r
+in_run r n low high = let e = from_in r.first r.count n low high in rw e refl
+
+before_run : (r : Run) (n : ℕ) → n < r.first → marks_in r n ≡ no_marks
+before_run r n below = let e = from_below r.first r.count n below in rw e refl
+
+behind_run : (r : Run) (n : ℕ) → r.first + r.count ≤ n → marks_in r n ≡ no_marks
+behind_run r n above = let e = from_above r.first r.count n above in rw e refl
+
+-- where a cell without claims has what is asked for, every cell has
+unclaimed_all : (id mask : ℕ) (f : ℕ → Option Claim) → is_claimed id mask (claim_in no_marks) ≡ true → is_claimed id mask f ≡ true
+unclaimed_all id mask f all = every_from 0 12 _ (λ re low high.
+    free (in_mask mask re) _ _ (no_claim re) (every_at 0 12 (λ re. not (in_mask mask re) || is_under id (claim_in no_marks re)) re all low high))
+  where
+    free : (m : Bool) (o : Option Claim) (p : Option Claim) → p ≡ None → (not m || is_under id p) ≡ true → (not m || is_under id o) ≡ true
+    free true o p e is = cc
+    free false o p e is = refl
+
+pub all_in_run : (r : Run) (first count id mask : ℕ) → (nat_le r.first first && nat_le (first + count) (r.first + r.count)) ≡ true → 0 < count
+    → is_claimed id mask (claim_in (run_marks r)) ≡ every first count (λ n. is_claimed id mask (claim_in (marks_in r n)))
+all_in_run r first count id mask is any =
+    let low : r.first ≤ first = leb-true r.first first (and_parts (nat_le r.first first) (nat_le (first + count) (r.first + r.count)) is).0 in
+    let high : first + count ≤ r.first + r.count = leb-true (first + count) (r.first + r.count) (and_parts (nat_le r.first first) (nat_le (first + count) (r.first + r.count)) is).1 in
+    elim (cases_Bool (is_claimed id mask (claim_in (run_marks r)))) [
+      | inl is_so ↦ is_so ∙ sym (every_from first count _ (λ n left right. ap (λ m. is_claimed id mask (claim_in m)) (in_run r n (omega (arith, low, left)) (omega (arith, high, right))) ∙ is_so))
+      | inr none ↦ none ∙ sym (every_not first count (λ n. is_claimed id mask (claim_in (marks_in r n))) first (omega arith) (omega (arith, any))
+          (ap (λ m. is_claimed id mask (claim_in m)) (in_run r first low (omega (arith, high, any))) ∙ none))
+    ]
+
+-- a cell of the range that the run does not reach
+not_in_run : (r : Run) (first count id mask n : ℕ) → first ≤ n → n < first + count → marks_in r n ≡ no_marks
+    → is_claimed id mask (claim_in no_marks) ≡ every first count (λ n. is_claimed id mask (claim_in (marks_in r n)))
+not_in_run r first count id mask n left right out = elim (cases_Bool (is_claimed id mask (claim_in no_marks))) [
+  | inl is_so ↦ is_so ∙ sym (every_from first count _ (λ k low high. unclaimed_all id mask (claim_in (marks_in r k)) is_so))
+  | inr none ↦ none ∙ sym (every_not first count (λ n. is_claimed id mask (claim_in (marks_in r n))) n left right
+      (ap (λ m. is_claimed id mask (claim_in m)) out ∙ none))
+]
+
+pub not_all_in_run : (r : Run) (first count id mask : ℕ) → 0 < count → (nat_le r.first first && nat_le (first + count) (r.first + r.count)) ≡ false
+    → is_claimed id mask (claim_in no_marks) ≡ every first count (λ n. is_claimed id mask (claim_in (marks_in r n)))
+not_all_in_run r first count id mask some out = elim (cases_lt first r.first) [
+  | inl below ↦ not_in_run r first count id mask first (omega arith) (omega (arith, some)) (before_run r first below)
+  | inr low ↦ elim (cases_lt first (r.first + r.count)) [
+    | inr more ↦ not_in_run r first count id mask first (omega arith) (omega (arith, some)) (behind_run r first more)
+    | inl less ↦ elim (cases_lt (r.first + r.count) (first + count)) [
+      | inl above ↦ not_in_run r first count id mask (r.first + r.count) (omega (arith, less)) above (behind_run r (r.first + r.count) (omega arith))
+      | inr within ↦ absurd (differ _ (and_from _ _ (le-leb r.first first low) (le-leb (first + count) (r.first + r.count) within)) out)
+    ]
+  ]
+]
+  where
+    differ : (b : Bool) → b ≡ true → b ≡ false → ⊥
+    differ b p q = cc
+
+-- nothing clashes with a cell without claims
+unclaimed_free : (id mask : ℕ) → is_overlapped id mask (claim_in no_marks) ≡ false
+unclaimed_free id mask = some_from 0 12 _ (λ re low high. none (in_mask mask re) (claim_in no_marks re) (no_claim re))
+  where
+    none : (m : Bool) (o : Option Claim) → o ≡ None → ((m && is_some o) || is_other id o) ≡ false
+    none true None e = refl
+    none false None e = refl
+    none m (Some c) e = cc
+
+pub meets_run : (r : Run) (first count id mask : ℕ) → nat_lt (max r.first first) (min (r.first + r.count) (first + count)) ≡ true
+    → is_overlapped id mask (claim_in (run_marks r)) ≡ some first count (λ n. is_overlapped id mask (claim_in (marks_in r n)))
+meets_run r first count id mask is =
+    let less = ltb-true _ _ is in
+    elim (cases_Bool (is_overlapped id mask (claim_in (run_marks r)))) [
+      | inl is_so ↦ is_so ∙ sym (some_one first count (λ n. is_overlapped id mask (claim_in (marks_in r n))) (max r.first first) (omega (arith, less)) (omega (arith, less))
+          (ap (λ m. is_overlapped id mask (claim_in m)) (in_run r (max r.first first) (omega (arith, less)) (omega (arith, less))) ∙ is_so))
+      | inr none ↦ none ∙ sym (some_from first count _ (λ k a b. each k none))
+    ]
+  where
+    each : (k : ℕ) → is_overlapped id mask (claim_in (run_marks r)) ≡ false → is_overlapped id mask (claim_in (marks_in r k)) ≡ false
+    each k none = elim (cases_Bool (is_from r.first r.count k)) [
+      | inl own ↦ rw own none
+      | inr other ↦ let e = unclaimed_free id mask in rw other e
+    ]
+
+pub misses_run : (r : Run) (first count id mask : ℕ) → nat_lt (max r.first first) (min (r.first + r.count) (first + count)) ≡ false
+    → false ≡ some first count (λ n. is_overlapped id mask (claim_in (marks_in r n)))
+misses_run r first count id mask is =
+    let more = ltb-false _ _ is in
+    sym (some_from first count _ (λ n left right. elim (cases_lt n r.first) [
+      | inl below ↦ ap (λ m. is_overlapped id mask (claim_in m)) (before_run r n below) ∙ unclaimed_free id mask
+      | inr low ↦ elim (cases_lt n (r.first + r.count)) [
+        | inl high ↦ absurd (omega (arith, more, left, right, low, high))
+        | inr above ↦ ap (λ m. is_overlapped id mask (claim_in m)) (behind_run r n above) ∙ unclaimed_free id mask
+      ]
+    ]))
+
+-- ---- a run that grows
+
+id_in : (r : Run) (n re : ℕ) → id_of (claim_in (marks_in r n) re) ≡ (if is_from r.first r.count n && in_mask r.claimed re then Some r.id else None)
+id_in r n re = elim (cases_Bool (is_from r.first r.count n)) [
+  | inl own ↦ elim (cases_Bool (in_mask r.claimed re)) [
+    | inl named ↦ rw (own, named) refl
+    | inr none ↦ rw (own, none) refl
+  ]
+  | inr other ↦ let e = no_claim re in rw (other, e) refl
+]
+
+-- by the numbers of the cells
+grows_by : (old more new : Run) → new.id ≡ more.id → new.claimed ≡ more.claimed → ((n : ℕ) → is_from old.first old.count n ≡ true → (old.id ≡ more.id) × (old.claimed ≡ more.claimed))
+    → ((n : ℕ) → is_from new.first new.count n ≡ (is_from more.first more.count n || is_from old.first old.count n)) → Grows more (Known old) (Known new)
+grows_by old more new id claimed own is n re below = id_in new n re
+    ∙ ap₂ (λ i c. if is_from new.first new.count n && in_mask c re then Some i else None) id claimed
+    ∙ ap (λ b. if b && in_mask more.claimed re then Some more.id else None) (is n)
+    ∙ parts (is_from more.first more.count n) (is_from old.first old.count n) (own n)
+    ∙ ap (id_with more n re) (sym (id_in old n re))
+  where
+    parts : (a b : Bool) → (b ≡ true → (old.id ≡ more.id) × (old.claimed ≡ more.claimed))
+        → (if (a || b) && in_mask more.claimed re then Some more.id else None) ≡ (if a && in_mask more.claimed re then Some more.id else (if b && in_mask old.claimed re then Some old.id else None))
+    parts true true same = both (in_mask more.claimed re) (in_mask old.claimed re) (ap (λ c. in_mask c re) (sym (same refl).1))
+      where
+        both : (m o : Bool) → m ≡ o → (if m then Some more.id else None) ≡ (if m then Some more.id else (if o then Some old.id else None))
+        both true o e = refl
+        both false true e = cc
+        both false false e = refl
+    parts true false same = refl
+    parts false true same = let e = same refl in ap₂ (λ i c. if in_mask c re then Some i else None) (sym e.0) (sym e.1)
+    parts false false same = refl
+
+nothing : (old : Run) (n : ℕ) → old.count ≡ 0 → is_from old.first old.count n ≡ false
+nothing old n none = elim (cases_lt n old.first) [
+  | inl below ↦ from_below old.first old.count n below
+  | inr low ↦ from_above old.first old.count n (omega (arith, low, none))
+]
+
+pub grows_first : (old more : Run) → old.count ≡ 0 → Grows more (Known old) (Known more)
+grows_first old more none = grows_by old more more refl refl (λ n is. absurd (differ _ is (nothing old n none)))
+    (λ n. let e = nothing old n none in rw e (or_false (is_from more.first more.count n)))
+  where
+    differ : (b : Bool) → b ≡ true → b ≡ false → ⊥
+    differ b p q = cc
+
+    or_false : (b : Bool) → b ≡ (b || false)
+    or_false true = refl
+    or_false false = refl
+
+-- two runs side by side
+side_by_side : (f c g d n : ℕ) → f + c ≡ g → is_from f (c + d) n ≡ (is_from g d n || is_from f c n)
+side_by_side f c g d n at = elim (cases_lt n f) [
+  | inl below ↦
+      let a = from_below f (c + d) n below in
+      let b = from_below g d n (omega (arith, at, below)) in
+      let e = from_below f c n below in rw (a, b, e) refl
+  | inr low ↦ elim (cases_lt n g) [
+    | inl mid ↦
+        let a = from_in f (c + d) n low (omega (arith, at, mid)) in
+        let b = from_below g d n mid in
+        let e = from_in f c n low (omega (arith, at, mid)) in rw (a, b, e) refl
+    | inr high ↦
+        let e = from_above f c n (omega (arith, at, high)) in
+        elim (cases_lt n (g + d)) [
+          | inl inside ↦
+              let a = from_in f (c + d) n low (omega (arith, at, inside)) in
+              let b = from_in g d n high inside in rw (a, b) refl
+          | inr out ↦
+              let a = from_above f (c + d) n (omega (arith, at, out)) in
+              let b = from_above g d n out in rw (a, b, e) refl
+        ]
+  ]
+]
+
+pub grows_behind : (old more : Run) (count : ℕ) → more.id ≡ old.id → more.claimed ≡ old.claimed → count ≡ old.count + more.count → old.first + old.count ≡ more.first
+    → Grows more (Known old) (Known (record old { count = count }))
+grows_behind old more count id claimed sum at = grows_by old more (record old { count = count }) (sym id) (sym claimed) (λ n is. (sym id, sym claimed))
+    (λ n. ap (λ c. is_from old.first c n) sum ∙ side_by_side old.first old.count more.first more.count n at)
+
+pub grows_before : (old more : Run) (count : ℕ) → more.id ≡ old.id → more.claimed ≡ old.claimed → count ≡ old.count + more.count → more.first + more.count ≡ old.first
+    → Grows more (Known old) (Known (record more { count = count }))
+grows_before old more count id claimed sum at = grows_by old more (record more { count = count }) refl refl (λ n is. (sym id, sym claimed))
+    (λ n. ap (λ c. is_from more.first c n) (sum ∙ turned old.count more.count) ∙ side_by_side more.first more.count old.first old.count n at
+    ∙ flip (is_from old.first old.count n) (is_from more.first more.count n))
+  where
+    turned : (a b : ℕ) → a + b ≡ b + a
+    turned a b = omega arith
+
+    flip : (a b : Bool) → (a || b) ≡ (b || a)
+    flip true true = refl
+    flip true false = refl
+    flip false true = refl
+    flip false false = refl
+
+-- ---- the rows of a slot
+
+empty_marks : (n : ℕ) → marks_in (record { first = 0; count = 0; id = 0; claimed = 0 }) n ≡ no_marks
+empty_marks n = behind_run (record { first = 0; count = 0; id = 0; claimed = 0 }) n (omega arith)
+
+-- no claims, and nothing is noted
+pub rows_empty : (prbs : ℕ) (rows : List Row) → ((s : ℕ) → s < 14 → get_or rows s empty_row ≡ empty_row) → AreRows prbs [] rows
+rows_empty prbs rows none = record {
+  each = λ s. elim (cases_lt s 14) [
+    | inl below ↦
+        let l = lt-ltb s 14 below in
+        let e = none s below in
+        rw (l, e) (record { each = λ n re a b. ap (λ m. id_of (claim_in m re)) (sym (empty_marks n)) })
+    | inr above ↦ let l = le-ltb s 14 above in rw l tt
+  ];
+}
+
+-- ---- a symbol by its row
+
+pub run_at : (prbs : ℕ) (marks : List Marks) (rows : List Row) (symbol : ℕ) (r : Run) → AreRows prbs marks rows → Known r ≡ row_at rows symbol → IsRun prbs marks symbol r
+run_at prbs marks rows symbol r are is = subst (λ (x : Row). IsRow prbs marks symbol x) (sym is) (are.each symbol)
+
+pub every_in_run : (prbs : ℕ) (marks : List Marks) (symbol : ℕ) (r : Run) (first count id mask : ℕ) → IsRun prbs marks symbol r → first + count ≤ prbs
+    → every first count (λ n. is_claimed id mask (claim_in (marks_in r n)))
+    ≡ every first count (λ n. is_claimed id mask (claim_in (get_or marks (cell_number prbs symbol n) no_marks)))
+every_in_run prbs marks symbol r first count id mask is fits = every_same first count _ _ (λ n low high.
+    claimed_ids id mask _ _ (λ re below. sym (is.each n re (omega (arith, high, fits)) below)))
+
+pub some_in_run : (prbs : ℕ) (marks : List Marks) (symbol : ℕ) (r : Run) (first count id mask : ℕ) → IsRun prbs marks symbol r → first + count ≤ prbs
+    → some first count (λ n. is_overlapped id mask (claim_in (marks_in r n)))
+    ≡ some first count (λ n. is_overlapped id mask (claim_in (get_or marks (cell_number prbs symbol n) no_marks)))
+some_in_run prbs marks symbol r first count id mask is fits = some_same first count _ _ (λ n low high.
+    overlapped_ids id mask _ _ (λ re below. sym (is.each n re (omega (arith, high, fits)) below)))
+
+-- ---- after claims
+
+id_claimed : (a : Allocation) (b : Bool) (o : Option Claim) → id_of (if b then Some (claim_of a) else o) ≡ (if b then Some a.section else id_of o)
+id_claimed a true o = refl
+id_claimed a false o = refl
+
+row_grown : (prbs : ℕ) (old new : List Marks) (symbol : ℕ) (a : Allocation) (r s : Row) → IsRow prbs old symbol r → Grows (run_of a) r s
+    → ((n re : ℕ) → n < prbs → re < 12 → claim_in (get_or new (cell_number prbs symbol n) no_marks) re
+    ≡ (if is_from (first_prb a) (prb_count a) n && in_mask a.mask re then Some (claim_of a) else claim_in (get_or old (cell_number prbs symbol n) no_marks) re))
+    → IsRow prbs new symbol s
+row_grown prbs old new symbol a Mixed (Known s) is grows each = absurd grows
+row_grown prbs old new symbol a r Mixed is grows each = tt
+row_grown prbs old new symbol a (Known r) (Known s) is grows each = record {
+  each = λ n re low below.
+      ap id_of (each n re low below) ∙ id_claimed a (is_from (first_prb a) (prb_count a) n && in_mask a.mask re) _
+      ∙ ap (id_with (run_of a) n re) (is.each n re low below) ∙ sym (grows n re below);
+}
+
+row_kept : (prbs : ℕ) (old new : List Marks) (symbol : ℕ) (r : Row) → IsRow prbs old symbol r
+    → ((n re : ℕ) → n < prbs → re < 12 → claim_in (get_or new (cell_number prbs symbol n) no_marks) re ≡ claim_in (get_or old (cell_number prbs symbol n) no_marks) re)
+    → IsRow prbs new symbol r
+row_kept prbs old new symbol Mixed is same = tt
+row_kept prbs old new symbol (Known r) is same = record { each = λ n re low below. ap id_of (same n re low below) ∙ is.each n re low below }
+
+pub rows_grown : (prbs : ℕ) (old new : List Marks) (rows after : List Row) (a : Allocation) → AreRows prbs old rows
+    → ((s : ℕ) → is_from a.symbol a.num_symbol s ≡ true → Grows (run_of a) (row_at rows s) (row_at after s))
+    → ((s : ℕ) → is_from a.symbol a.num_symbol s ≡ false → row_at after s ≡ row_at rows s)
+    → ((symbol prb re : ℕ) → prb < prbs → re < 12 → claim_in (get_or new (symbol * prbs + prb) no_marks) re
+    ≡ (if (is_from a.symbol a.num_symbol symbol && is_from (first_prb a) (prb_count a) prb) && in_mask a.mask re then Some (claim_of a) else claim_in (get_or old (symbol * prbs + prb) no_marks) re))
+    → AreRows prbs new after
+rows_grown prbs old new rows after a are grown others each = record {
+  each = λ s. elim (cases_Bool (is_from a.symbol a.num_symbol s)) [
+    | inl inside ↦ row_grown prbs old new s a (row_at rows s) (row_at after s) (are.each s) (grown s inside) (λ n re low below. rw inside at (each s n re low below))
+    | inr out ↦ subst (λ (r : Row). IsRow prbs new s r) (sym (others s out))
+        (row_kept prbs old new s (row_at rows s) (are.each s) (λ n re low below. rw out at (each s n re low below)))
+  ];
+}
+
+-- ---- rows as they are noted
+
+any_default : (rows : List Row) (k : ℕ) (d e : Row) → k < length rows → get_or rows k d ≡ get_or rows k e
+any_default [] k d e within = absurd (omega (arith, within))
+any_default (r ∷ rows) zero d e within = refl
+any_default (r ∷ rows) (suc k) d e within = any_default rows k d e (omega (arith, within))
+
+row_set : (rows : List Row) (k : ℕ) (x : Row) → length rows ≡ 14 → k < 14 → row_at (set rows k x) k ≡ x
+row_set rows k x len below =
+    let l = lt-ltb k 14 below in
+    let e = get_or-set_same rows k x empty_row (omega (arith, len, below)) in
+    rw (l, e) refl
+
+row_unset : (rows : List Row) (k s : ℕ) (x : Row) → (s ≡ k → ⊥) → row_at (set rows k x) s ≡ row_at rows s
+row_unset rows k s x ne = ap (λ (r : Row). if nat_lt s 14 then r else Mixed) (get_or-set_other rows k s x empty_row ne)
+
+row_read : (rows : List Row) (k : ℕ) (d : Row) → length rows ≡ 14 → k < 14 → row_at rows k ≡ get_or rows k d
+row_read rows k d len below =
+    let l = lt-ltb k 14 below in
+    let e = any_default rows k empty_row d (omega (arith, len, below)) in
+    rw (l, e) refl
+
+pub note_grown : (more : Run) (was rows : List Row) (first k : ℕ) (d x : Row) → length rows ≡ 14 → first ≤ k → k < 14
+    → ((s : ℕ) → first ≤ s → s < k → Grows more (row_at was s) (row_at rows s)) → ((s : ℕ) → is_from first (k - first) s ≡ false → row_at rows s ≡ row_at was s)
+    → Grows more (get_or rows k d) x → (s : ℕ) → first ≤ s → s < k + 1 → Grows more (row_at was s) (row_at (set rows k x) s)
+note_grown more was rows first k d x len low below grown others is s from to = elim (cases_eq s k) [
+  | inl e ↦ subst (λ (i : ℕ). Grows more (row_at was i) (row_at (set rows k x) i)) (sym e)
+      (subst (λ (r : Row). Grows more (row_at was k) r) (sym (row_set rows k x len below))
+      (subst (λ (r : Row). Grows more r x) (sym (row_read rows k d len below) ∙ others k (from_above first (k - first) k (omega arith))) is))
+  | inr ne ↦ subst (λ (r : Row). Grows more (row_at was s) r) (sym (row_unset rows k s x ne)) (grown s from (omega (arith, ne, to)))
+]
+
+pub note_others : (was rows : List Row) (first k : ℕ) (x : Row) → first ≤ k
+    → ((s : ℕ) → is_from first (k - first) s ≡ false → row_at rows s ≡ row_at was s)
+    → (s : ℕ) → is_from first (k + 1 - first) s ≡ false → row_at (set rows k x) s ≡ row_at was s
+note_others was rows first k x low others s out = elim (cases_eq s k) [
+  | inl e ↦ absurd (differ _ (from_in first (k + 1 - first) s (omega (arith, e, low)) (omega (arith, e, low))) out)
+  | inr ne ↦ row_unset rows k s x ne ∙ others s (elim (cases_lt s first) [
+    | inl less ↦ from_below first (k - first) s less
+    | inr more ↦ elim (cases_lt s k) [
+      | inl inside ↦ absurd (differ _ (from_in first (k + 1 - first) s more (omega (arith, inside, low))) out)
+      | inr above ↦ from_above first (k - first) s (omega (arith, above, low))
+    ]
+  ])
+]
+  where
+    differ : (b : Bool) → b ≡ true → b ≡ false → ⊥
+    differ b p q = cc
+
+pub to_note : (first count s : ℕ) → is_from first count s ≡ true → (first ≤ s) × (s < first + count)
+to_note first count s is = let p = and_parts _ _ is in (leb-true first s p.0, ltb-true s (first + count) p.1)

@@ -1,0 +1,11 @@
+use Rattle.std.proofs.Common.{◌≡◌, ℕ, ◌-◌, ◌<◌, ◌≤◌, true, false, length}
+use Rattle.unit_model.specs.Claims.{is_from}
+use Rattle.slot_rings.specs.Rows.{Grows, row_at}
+use Rattle.slot_rings.proofs.rows.note.Given as goal
+
+abbrev pub invariant-loop-symbol : goal.invariant-loop-symbol
+invariant-loop-symbol l = record {
+  len : length l.rows ≡ 14;
+  grown : (s : ℕ) → l.a.symbol ≤ s → s < l.symbol → Grows l.more (row_at l.fn.rows s) (row_at l.rows s);
+  others : (s : ℕ) → is_from l.a.symbol (l.symbol - l.a.symbol) s ≡ false → row_at l.rows s ≡ row_at l.fn.rows s;
+}
