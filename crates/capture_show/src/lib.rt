@@ -19,6 +19,3 @@ mod values;
 mod words;
 
 pub use showing::{ShowFault, show};
-
-#[cfg(test)]
-mod tests;

@@ -10,8 +10,6 @@ mod passing;
 mod read_header;
 mod read_section;
 mod starting;
-#[cfg(test)]
-mod tests;
 mod values;
 mod write_header;
 mod write_section;

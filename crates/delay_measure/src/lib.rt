@@ -21,6 +21,3 @@ pub use meter::Meter;
 pub use stamps::Stamp;
 pub use states::{Exchange, OwnState, PeerState};
 pub use steps::{Begun, Kind, MeterStep};
-
-#[cfg(test)]
-mod tests;

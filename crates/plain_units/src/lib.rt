@@ -19,8 +19,6 @@ mod running;
 mod slots;
 mod starts;
 mod taking;
-#[cfg(test)]
-mod tests;
 mod uplink;
 
 pub use report::{Report, TimedFrame};

@@ -11,6 +11,8 @@ mod extended;
 #[cfg(test)]
 mod orders;
 #[cfg(test)]
+mod plain;
+#[cfg(test)]
 mod samples;
 #[cfg(test)]
 mod slots;

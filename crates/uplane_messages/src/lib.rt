@@ -6,8 +6,6 @@
 #![tactic(auto)]
 
 mod testing;
-#[cfg(test)]
-mod tests;
 mod walk;
 
 pub use testing::tested;

@@ -11,8 +11,6 @@ mod phases;
 mod read_header;
 mod read_section;
 mod steps;
-#[cfg(test)]
-mod tests;
 mod units;
 mod values;
 mod walking;

@@ -1,7 +1,9 @@
 ghost use Rattle.std.specs.Prelude.{◌≡◌, pos, ◌≤◌, ◌≤ℤ◌, length};
 ghost use Rattle.delay_measure.specs.Kept.{IsKept, comp_of, answer_at};
 
-use super::{Begun, DelayMessage, Edge, History, Kind, Meter, MeterStep, put_delay, read_delay};
+use delay_measure::{
+    Begun, DelayMessage, Edge, History, Kind, Meter, MeterStep, put_delay, read_delay,
+};
 use fh_base::NoMemory;
 use fh_time::Ticks;
 

@@ -1,7 +1,7 @@
 // Frames with their lines, and both ways of printing, by hand.
-use crate::{ShowFault, show};
 use air_source::Side;
 use capture_records::{CaptureWhy, MAGIC, record_head};
+use capture_show::{ShowFault, show};
 use fh_base::{Bytes, List, MemorySink, NoMemory, PlainSink};
 use fh_time::Ticks;
 use std::alloc::Global;

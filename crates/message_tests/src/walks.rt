@@ -3,11 +3,11 @@ ghost use Rattle.std.specs.Prelude.{◌≡◌, ◌<◌};
 ghost use Rattle.bfp_codec.specs.Layout.{HasWidth};
 ghost use Rattle.ecpri_fragments.specs.Assemblies.{endpoints_of};
 
-use crate::{DataWalk, tested};
 use bfp_codec::{Format, Method, Wide};
 use ecpri_fragments::{Assembly, Lease, SeqField, Taken};
 use fh_time::{Shape, Ticks};
 use std::test::Fail;
+use uplane_messages::{DataWalk, tested};
 use uplane_sections::{UFeed, UHead, URefusal, USection, UWhy};
 
 /// 14 symbols a slot, two slots a subframe.

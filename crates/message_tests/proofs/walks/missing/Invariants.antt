@@ -1,7 +1,7 @@
 use Rattle.std.proofs.Common.{◌+◌, ◌≤◌, length}
 use Rattle.uplane_messages.specs.Left.{left_of}
 use Rattle.uplane_messages.specs.Whole.{AreSections}
-use Rattle.uplane_messages.proofs.tests.missing.Given as goal
+use Rattle.message_tests.proofs.walks.missing.Given as goal
 
 abbrev pub invariant-loop-next : goal.invariant-loop-next
 invariant-loop-next l = record {

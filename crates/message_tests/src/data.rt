@@ -2,12 +2,12 @@
 ghost use Rattle.std.specs.Prelude.{◌<◌, ◌≤◌, length};
 ghost use Rattle.bfp_codec.specs.Layout.{HasWidth};
 
-use crate::{
-    UFeed, UHead, URefusal, URun, USection, UWalker, UWhy, put_head, put_section, read_head,
-};
 use bfp_codec::{Format, Method, Wide};
 use fh_time::Shape;
 use std::process::Abort;
+use uplane_sections::{
+    UFeed, UHead, URefusal, URun, USection, UWalker, UWhy, put_head, put_section, read_head,
+};
 
 /// 14 symbols a slot, two slots a subframe.
 const SHAPE: Shape = Shape {

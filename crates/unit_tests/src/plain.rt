@@ -6,13 +6,13 @@ ghost use Rattle.window_config.specs.Endpoints.{IsEndpoint};
 ghost use Rattle.unit_model.specs.Proper.{IsProperAllocation, IsTime};
 ghost use Rattle.plain_units.specs.declared.report.TimedFrame.{TimedFrame as SpecFrame};
 
-use crate::{TimedFrame, plain_du, plain_ru};
 use air_source::{AirCell, Side};
 use bfp_codec::{Format, Method, Wide};
 use eaxc_map::Widths;
 use fault_counters::{Counter, Counters};
 use fh_base::{Bytes, NoMemory};
 use fh_time::{Numerology, Slot, Ticks, of_ns, shape};
+use plain_units::{TimedFrame, plain_du, plain_ru};
 use std::alloc::Global;
 use std::test::Fail;
 use unit_model::{Allocation, CommandVerdict, DataVerdict, UplinkJob};

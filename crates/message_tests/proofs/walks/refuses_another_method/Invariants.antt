@@ -1,9 +1,6 @@
 use Rattle.std.proofs.Common.{◌≡◌}
 use Rattle.ecpri_fragments.specs.Assemblies.{endpoints_of}
-use Rattle.uplane_messages.proofs.tests.tells_the_same_in_any_pieces.Given as goal
+use Rattle.message_tests.proofs.walks.refuses_another_method.Given as goal
 
 abbrev pub invariant-loop-cut : goal.invariant-loop-cut
 invariant-loop-cut g l = endpoints_of l.assembly ≡ 1
-
-abbrev pub invariant-loop-k : goal.invariant-loop-k
-invariant-loop-k g l = endpoints_of l.assembly ≡ 1

@@ -1,6 +1,6 @@
 use Rattle.std.proofs.Common.{◌≡◌, ◌-◌, ◌≤◌, length}
 use Rattle.uplane_sections.specs.States.{used_by}
-use Rattle.uplane_sections.proofs.tests.walk.Given as goal
+use Rattle.message_tests.proofs.data.walk.Given as goal
 
 abbrev pub invariant-loop-at : goal.invariant-loop-at
 invariant-loop-at l = record {

@@ -2,7 +2,9 @@
 ghost use Rattle.std.specs.Prelude.{◌≤◌, length};
 ghost use Rattle.cplane_sections.specs.Message.{HeadFits, SectionFits};
 
-use crate::{CBody, CHead, CRefusal, CSection, CWhy, check, put_head, put_section, sections};
+use cplane_sections::{
+    CBody, CHead, CRefusal, CSection, CWhy, check, put_head, put_section, sections,
+};
 use fh_time::Shape;
 use std::process::Abort;
 
