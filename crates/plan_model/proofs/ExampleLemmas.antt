@@ -1,0 +1,67 @@
+-- The definitions compute what was worked out by hand.
+use Rattle.std.proofs.Common.{refl}
+use Rattle.unit_model.specs.Lists.{each, put_in, in_order, some}
+use Rattle.plan_model.specs.Examples.{PacksAreAsWorked, NumbersAreAsWorked, DeparturesAreAsWorked, RefusalsAreAsWorked, PartsAreAsWorked, DenseAreAsWorked, AreAsWorked, nineteen}
+use Rattle.plan_model.specs.Dense.{first_near}
+use Rattle.plan_model.specs.Lines.{planned_from}
+use Rattle.plan_model.specs.Packs.{packs_behind, frames_before, numbered_behind}
+use Rattle.plan_model.specs.Streams.{symbol_parts, symbol_messages}
+use Rattle.plan_model.specs.Validity.{refused_from}
+
+packs : PacksAreAsWorked
+unfolding packs_behind
+packs = record {
+  greatest_section = refl;
+  nine_frames = refl;
+  one_frame = refl;
+  whole_frames = refl;
+  in_pairs = refl;
+  alone = refl;
+  filters = refl;
+  fits = refl;
+  too_long = refl;
+}
+
+numbers : NumbersAreAsWorked
+unfolding numbered_behind frames_before
+numbers = record { places = refl }
+
+departures : DeparturesAreAsWorked
+departures = record { first = refl; second = refl; third = refl; fourth = refl; down_command = refl; up_command = refl; up_data = refl }
+
+refusals : RefusalsAreAsWorked
+unfolding refused_from some
+refusals = record {
+  twice = refl;
+  two_ids = refl;
+  one_id = refl;
+  with_idle = refl;
+  both_ways = refl;
+  all_prbs = refl;
+  past_carrier = refl;
+  no_mask = refl;
+  no_slot = refl;
+  last_symbol = refl;
+  no_symbol = refl;
+  unknown = refl;
+}
+
+parts : PartsAreAsWorked
+unfolding planned_from symbol_parts symbol_messages packs_behind in_order put_in
+parts = record {
+  by_line = refl;
+  by_prb = refl;
+  other_symbol = refl;
+  other_way = refl;
+  idle_command = refl;
+  idle_data = refl;
+  one_message = refl;
+  two_messages = refl;
+}
+
+dense : DenseAreAsWorked
+unfolding nineteen each first_near
+dense = record { down = refl; up = refl; near = refl; apart = refl }
+
+pub as_worked : AreAsWorked
+as_worked = record { packs = packs; numbers = numbers; departures = departures; refusals = refusals; parts = parts; dense = dense }

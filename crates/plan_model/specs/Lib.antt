@@ -1,0 +1,9 @@
+pub mod Lines
+pub mod Validity
+pub mod Packs
+pub mod Streams
+pub mod Departures
+pub mod Sent
+pub mod Dense
+pub mod Valid
+pub mod Examples

@@ -1,0 +1,16 @@
+//! What the lines of a plan say, when a plan is valid, and which frames the distributed unit sends for it.
+//!
+//! The definitions stand in `specs/`, in the terms of O-RAN.WG4.CUS; the plan, its tests and the order of what is sent are this
+//! project's profile. The functions here compute one value of them each; what goes over whole plans stands in the crates above.
+//! Nothing allocates.
+#![tactic(auto)]
+
+mod examples;
+mod lines;
+mod refusals;
+mod streams;
+
+pub use examples::examples_hold;
+pub use lines::PlannedLine;
+pub use refusals::PlanWhy;
+pub use streams::Stream;
