@@ -5,7 +5,7 @@ use Rattle.plan_model.specs.Examples.{PacksAreAsWorked, NumbersAreAsWorked, Depa
 use Rattle.plan_model.specs.Dense.{first_near}
 use Rattle.plan_model.specs.Lines.{planned_from}
 use Rattle.plan_model.specs.Packs.{packs_behind, frames_before, numbered_behind}
-use Rattle.plan_model.specs.Streams.{symbol_parts, symbol_messages}
+use Rattle.plan_model.specs.Streams.{symbol_parts}
 use Rattle.plan_model.specs.Validity.{refused_from}
 
 packs : PacksAreAsWorked
@@ -18,6 +18,7 @@ packs = record {
   in_pairs = refl;
   alone = refl;
   filters = refl;
+  symbols = refl;
   fits = refl;
   too_long = refl;
 }
@@ -47,7 +48,7 @@ refusals = record {
 }
 
 parts : PartsAreAsWorked
-unfolding planned_from symbol_parts symbol_messages packs_behind in_order put_in
+unfolding planned_from symbol_parts packs_behind in_order put_in
 parts = record {
   by_line = refl;
   by_prb = refl;

@@ -17,7 +17,7 @@ use Rattle.plan_model.specs.Dense.{Sending, down_distance, up_distance, dense_in
 use Rattle.plan_model.specs.Departures.{departure, departures_of}
 use Rattle.plan_model.specs.Lines.{planned}
 use Rattle.plan_model.specs.Packs.{PartFields, Message, Numbered, packs, frames_for, numbered, parts_of}
-use Rattle.plan_model.specs.Streams.{Part, section_size, symbol_parts, symbol_messages}
+use Rattle.plan_model.specs.Streams.{Part, section_size, part_fields, most_parts, symbol_parts}
 use Rattle.plan_model.specs.Validity.{first_refused}
 use Rattle.plan_model.specs.declared.refusals.PlanWhy.{PlanWhy}
 use Rattle.plan_model.specs.declared.refusals.PlanWhy.TheVariants.{UnknownEndpoint, Range, Overlap}
@@ -79,6 +79,8 @@ pub record PacksAreAsWorked : Type 0 where
   pub alone : lists_of (packs simple_fields 1 (part 0 52 ∷ part 0 52 ∷ [])) ≡ (part 0 52 ∷ []) ∷ (part 0 52 ∷ []) ∷ []
   -- a section of another filterIndex ends a message, also where one of the first follows
   pub filters : lists_of (packs simple_fields 64 (part 0 52 ∷ part 1 52 ∷ part 0 52 ∷ [])) ≡ (part 0 52 ∷ []) ∷ (part 1 52 ∷ []) ∷ (part 0 52 ∷ []) ∷ []
+  -- a message has one symbol
+  pub symbols : lists_of (packs simple_fields 64 ((0, 0, 52) ∷ (1, 0, 52) ∷ (1, 0, 52) ∷ [])) ≡ ((0, 0, 52) ∷ []) ∷ ((1, 0, 52) ∷ (1, 0, 52) ∷ []) ∷ []
   -- 16,384 bytes and one more
   pub fits : lists_of (packs simple_fields 2 (part 0 13108 ∷ part 0 3272 ∷ [])) ≡ (part 0 13108 ∷ part 0 3272 ∷ []) ∷ []
   pub too_long : lists_of (packs simple_fields 2 (part 0 13108 ∷ part 0 3273 ∷ [])) ≡ (part 0 13108 ∷ []) ∷ (part 0 3273 ∷ []) ∷ []
@@ -153,8 +155,8 @@ pub record PartsAreAsWorked : Type 0 where
   pub idle_command : sections_in (symbol_parts DownCommands (planned (usual ∷ []) (prbs_planned Idle)) 0 slot_0 0) ≡ 5 ∷ 6 ∷ []
   pub idle_data : sections_in (symbol_parts DownData (planned (usual ∷ []) (prbs_planned Idle)) 0 slot_0 0) ≡ []
   -- two lines of one PRB in one symbol: one message where two sections are packed
-  pub one_message : map (λ m. sections_in (parts_of m)) (symbol_messages (config_with 2) DownData (planned (usual ∷ []) (prbs_planned Down)) 0 slot_0 0) ≡ (5 ∷ 6 ∷ []) ∷ []
-  pub two_messages : map (λ m. sections_in (parts_of m)) (symbol_messages (config_with 1) DownData (planned (usual ∷ []) (prbs_planned Down)) 0 slot_0 0) ≡ (5 ∷ []) ∷ (6 ∷ []) ∷ []
+  pub one_message : map (λ m. sections_in (parts_of m)) (packs part_fields (most_parts (config_with 2) DownData) (symbol_parts DownData (planned (usual ∷ []) (prbs_planned Down)) 0 slot_0 0)) ≡ (5 ∷ 6 ∷ []) ∷ []
+  pub two_messages : map (λ m. sections_in (parts_of m)) (packs part_fields (most_parts (config_with 1) DownData) (symbol_parts DownData (planned (usual ∷ []) (prbs_planned Down)) 0 slot_0 0)) ≡ (5 ∷ []) ∷ (6 ∷ []) ∷ []
 
 -- ---- dense messages
 

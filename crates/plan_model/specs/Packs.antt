@@ -30,10 +30,16 @@ with_part m p = record { first = m.first; more = m.more ++ p ∷ [] }
 abbrev pub size_of : {P : Type 0} → PartFields P → Message P → ℕ
 size_of f m = 4 + sum (map f.size (parts_of m))
 
--- a message takes one part more: of its filterIndex, where it has fewer than so many, and at most 16,384 bytes with it
+-- two parts are of one slot and symbol
+abbrev pub same_symbol : {P : Type 0} → PartFields P → P → P → Bool
+same_symbol f p q = same_slot (f.slot p) (f.slot q) && (f.symbol p == f.symbol q)
+
+-- a message takes one part more: of its slot, symbol and filterIndex, which stand in its one header, where it has fewer than so many,
+-- and at most 16,384 bytes with it
 abbrev pub takes : {P : Type 0} → PartFields P → ℕ → Message P → P → Bool
 takes f most m p =
-    (f.filter m.first == f.filter p) && (nat_lt (length (parts_of m)) most && nat_le (size_of f m + f.size p) 16384)
+    same_symbol f m.first p && ((f.filter m.first == f.filter p)
+    && (nat_lt (length (parts_of m)) most && nat_le (size_of f m + f.size p) 16384))
 
 -- the messages that these parts make behind one that may take more
 unfoldable pub packs_behind : {P : Type 0} → PartFields P → ℕ → Message P → List P → List (Message P)
@@ -41,7 +47,7 @@ packs_behind f most m [] = m ∷ []
 packs_behind f most m (p ∷ ps) =
     if takes f most m p then packs_behind f most (with_part m p) ps else m ∷ packs_behind f most (alone p) ps
 
--- the messages of the parts of one symbol, cut from the front
+-- the messages of these parts, cut from the front
 abbrev pub packs : {P : Type 0} → PartFields P → ℕ → List P → List (Message P)
 packs f most [] = []
 packs f most (p ∷ ps) = packs_behind f most (alone p) ps
@@ -58,13 +64,10 @@ pub record Numbered (P : Type 0) : Type 0 where
   pub number : ℕ
   pub before : ℕ
 
-abbrev pub same_symbol : {P : Type 0} → PartFields P → Message P → Message P → Bool
-same_symbol f m n = same_slot (f.slot m.first) (f.slot n.first) && (f.symbol m.first == f.symbol n.first)
-
 -- the frames of the messages right before one, the newest first, that are of its slot and symbol
 unfoldable pub frames_before : {P : Type 0} → PartFields P → (Message P → ℕ) → Message P → List (Message P) → ℕ
 frames_before f frames m [] = 0
-frames_before f frames m (n ∷ earlier) = if same_symbol f m n then frames n + frames_before f frames m earlier else 0
+frames_before f frames m (n ∷ earlier) = if same_symbol f m.first n.first then frames n + frames_before f frames m earlier else 0
 
 -- each message's number is how many stand before it
 unfoldable pub numbered_behind : {P : Type 0} → PartFields P → (Message P → ℕ) → List (Message P) → List (Message P) → List (Numbered P)

@@ -86,13 +86,14 @@ frames_in c UpCommands m = 1
 frames_in c DownData m = frames_for c.fragment (size_of part_fields m)
 frames_in c UpData m = frames_for c.fragment (size_of part_fields m)
 
-unfoldable pub symbol_messages : Config → Stream → List PlannedLine → ℕ → Slot → ℕ → List (Message Part)
-symbol_messages c stream lines ep slot symbol = packs part_fields (most_parts c stream) (symbol_parts stream lines ep slot symbol)
-
 -- something of each symbol of an endpoint, in the order of starts, and at one start of slots and symbols
 abbrev pub over_symbols : {A : Type 0} → (Slot → ℕ → List A) → EndpointConfig → List A
 over_symbols g e = each_tick first_clock (int_gap first_clock (end_of_time +ℤ pos 1)) (of_endpoint g e)
 
--- the messages of a stream of the endpoint with this index
+-- the parts of a stream of the endpoint with this index
+unfoldable pub parts_in : List PlannedLine → Stream → ℕ → EndpointConfig → List Part
+parts_in lines stream ep e = over_symbols (symbol_parts stream lines ep) e
+
+-- its messages
 unfoldable pub messages_of : Config → List PlannedLine → Stream → ℕ → EndpointConfig → List (Numbered Part)
-messages_of c lines stream ep e = numbered part_fields (frames_in c stream) (over_symbols (symbol_messages c stream lines ep) e)
+messages_of c lines stream ep e = numbered part_fields (frames_in c stream) (packs part_fields (most_parts c stream) (parts_in lines stream ep e))
