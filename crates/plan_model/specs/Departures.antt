@@ -9,19 +9,14 @@ use Rattle.window_config.specs.declared.delays.Delays.{Delays}
 use Rattle.window_config.specs.declared.delays.Range.{Range}
 use Rattle.plan_model.specs.Packs.{Numbered}
 use Rattle.plan_model.specs.Streams.{Part}
+use Rattle.plan_model.specs.declared.departures.Departures.{Departures}
 use Rattle.plan_model.specs.declared.streams.Stream.{Stream}
 use Rattle.plan_model.specs.declared.streams.Stream.TheVariants.{DownCommands, UpCommands, DownData, UpData}
 
--- From when on the frames of a symbol leave, counted from the symbol's start (below 0: before it); each leaves a gap behind the one
--- before it, and none later than the spread behind the first.
-pub record Departures : Type 0 where
-  pub from : ℤ
-  pub gap : ℕ
-  pub spread : ℕ
-
--- when the i-th frame of a symbol with this start leaves, counted from 0
+-- when the i-th frame of a symbol with this start leaves, counted from 0: each a gap behind the one before it, but none later than
+-- the spread behind the first
 abbrev pub departure : Departures → ℤ → ℕ → ℤ
-departure d start i = (start +ℤ d.from) +ℤ pos (min (i * d.gap) d.spread)
+departure d start i = (start +ℤ d.from.0) +ℤ pos (min (i * d.gap) d.spread)
 
 -- T1a and Ta3, in nanoseconds; a downlink command is sent earlier than data by the advance
 abbrev pub sending_window : Delays → Stream → Range
@@ -42,7 +37,7 @@ width_of r = int_gap (ticks_of_ns r.min) (ticks_of_ns r.max)
 
 abbrev pub departures_of : Config → Stream → Departures
 departures_of c stream = record {
-  from = sending_from c.delays stream;
+  from = record { 0 = sending_from c.delays stream };
   gap = int_gap (pos 0) (ticks_of_ns c.gap);
   spread = width_of (sending_window c.delays stream);
 }

@@ -5,12 +5,21 @@
 //! Nothing allocates.
 #![tactic(auto)]
 
+mod dense;
+mod departures;
 mod examples;
 mod lines;
 mod refusals;
+mod sizes;
 mod streams;
 
+pub use dense::{down_distance, is_near, up_distance};
+pub use departures::Departures;
 pub use examples::examples_hold;
-pub use lines::PlannedLine;
+pub use lines::{PlannedLine, allocation_of, is_out_of_range, planned_line};
 pub use refusals::PlanWhy;
+pub use sizes::{frame_count, section_size};
 pub use streams::Stream;
+
+#[cfg(test)]
+mod tests;

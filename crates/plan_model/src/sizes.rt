@@ -1,0 +1,34 @@
+// How long data messages are.
+ghost use Rattle.std.specs.Prelude.{◌≡◌, ◌≤◌, ◌<◌, ◌^◌};
+ghost use Rattle.window_config.specs.Endpoints.{IsEndpoint};
+ghost use Rattle.plan_model.specs.Packs.{frames_for};
+ghost use Rattle.plan_model.specs.Streams.{section_size};
+
+use bfp_codec::block_len;
+use window_config::EndpointConfig;
+
+/// The bytes of a U-plane section with its headers and its PRBs, where numPrbu is this (O-RAN.WG4.CUS, U-plane sections).
+pub fn section_size(e: &EndpointConfig, num_prb: u8) -> usize
+    requires { IsEndpoint e.now }
+    ensures value { result ≡ section_size e.now num_prb }
+    ensures small { result ≤ 13383 }
+{
+    let headers = if e.format.dynamic { 6 } else { 4 };
+    let prbs = if num_prb == 0 {
+        e.prbs as usize
+    } else {
+        num_prb as usize
+    };
+    headers + prbs * block_len(e.format.method)
+}
+
+/// How many frames carry a message of so many application bytes, each of which has `fragment` of them but the last.
+pub fn frame_count(fragment: usize, bytes: usize) -> usize
+    requires some { 1 ≤ fragment }
+    requires fragment { fragment < 2 ^ 32 }
+    requires bytes { bytes < 2 ^ 32 }
+    ensures value { result ≡ frames_for fragment bytes }
+    ensures small { result ≤ bytes }
+{
+    (bytes + (fragment - 1)) / fragment
+}
