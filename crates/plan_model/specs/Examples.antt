@@ -13,7 +13,8 @@ use Rattle.window_config.specs.declared.plan.PlanKind.{PlanKind}
 use Rattle.window_config.specs.declared.plan.PlanKind.TheVariants.{Down, Up, Idle}
 use Rattle.window_config.specs.declared.plan.PlanLine.{PlanLine}
 use Rattle.unit_model.specs.Lists.{each}
-use Rattle.plan_model.specs.Dense.{Sending, down_distance, up_distance, dense_in}
+use Rattle.plan_model.specs.Dense.{down_distance, up_distance, dense_in}
+use Rattle.plan_model.specs.declared.dense.Sending.{Sending}
 use Rattle.plan_model.specs.Departures.{departure, departures_of}
 use Rattle.plan_model.specs.Lines.{planned}
 use Rattle.plan_model.specs.Packs.{PartFields, Message, Numbered, packs, frames_for, numbered, parts_of}
@@ -163,7 +164,7 @@ pub record PartsAreAsWorked : Type 0 where
 -- An offset endpoint of 15 kHz with cpLength 64: symbols of 68,750 ns. Nineteen lines in each of 14 symbols, a gap of 1,000 ns: message
 -- 256 is the tenth of symbol 13, and leaves 13 * 68,750 + 9 * 1,000 = 902,750 ns behind message 0.
 abbrev pub sending : ℕ → ℕ → Sending
-sending symbol line = record { at = pos (15360000000 + (symbol * 105600000 + line * 1536000)); line = line }
+sending symbol line = record { at = record { 0 = pos (15360000000 + (symbol * 105600000 + line * 1536000)) }; line = line }
 
 unfoldable pub nineteen : List Sending
 nineteen = each 0 14 (λ symbol. each 0 19 (λ line. sending symbol line ∷ []))

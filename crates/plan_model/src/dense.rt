@@ -1,10 +1,26 @@
 // Whether two messages leave too near to one another.
-ghost use Rattle.std.specs.Prelude.{◌≡◌, pos, neg_ℤ, ◌^◌, ◌≤ℤ◌, ◌-ℤ◌, int_le};
+ghost use Rattle.std.specs.Prelude.{◌≡◌, All, pos, neg_ℤ, ◌^◌, ◌≤ℤ◌, ◌-ℤ◌, int_le};
 ghost use Rattle.window_config.specs.Limits.{IsWithinLimits};
-ghost use Rattle.plan_model.specs.Dense.{down_distance, is_near, up_distance};
+ghost use Rattle.plan_model.specs.Dense.{IsSending, dense_in, down_distance, is_near, up_distance};
 
 use fh_time::{Ticks, of_ns};
 use window_config::Delays;
+
+/// When the first frame of a data message leaves, and the place of its first section's line in the plan.
+#[derive(Clone, Copy, Debug, PartialEq, Eq)]
+pub struct Sending {
+    pub at: Ticks,
+    pub line: usize,
+}
+
+/// A data message that leaves too near to the one 256 before it.
+#[derive(Clone, Copy, Debug, PartialEq, Eq)]
+pub struct Dense {
+    /// Its number in its stream.
+    pub number: usize,
+    /// The place of its first section's line in the plan.
+    pub line: usize,
+}
 
 /// How near two downlink data messages with one sequence id are too near: `hold` and how much longer one frame may take than
 /// another.
@@ -47,4 +63,21 @@ pub fn is_near(distance: Ticks, a: Ticks, b: Ticks) -> bool
     ensures { result ≡ is_near distance.0 a.0 b.0 }
 {
     is_soon(distance, a, b) && is_soon(distance, b, a)
+}
+
+/// The first of a stream's messages that leaves no more than a distance from the one 256 before it.
+pub fn dense_in(distance: Ticks, sendings: &[Sending]) -> Option<Dense>
+    requires { All IsSending sendings.now }
+    ensures { result ≡ dense_in distance.0 sendings.now }
+{
+    for k in 256..sendings.len() {
+        let later = sendings[k];
+        if is_near(distance, sendings[k - 256].at, later.at) {
+            return Some(Dense {
+                number: k,
+                line: later.line,
+            });
+        }
+    }
+    None
 }

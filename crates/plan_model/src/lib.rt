@@ -13,7 +13,7 @@ mod refusals;
 mod sizes;
 mod streams;
 
-pub use dense::{down_distance, is_near, up_distance};
+pub use dense::{Dense, Sending, dense_in, down_distance, is_near, up_distance};
 pub use departures::Departures;
 pub use examples::examples_hold;
 pub use lines::{PlannedLine, allocation_of, is_out_of_range, planned_line};
