@@ -1,1 +1,4 @@
 pub mod Slots
+pub mod Placed
+pub mod Judging
+pub mod Order

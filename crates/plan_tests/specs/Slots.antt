@@ -96,7 +96,7 @@ of_home ep slot ps = filter (λ p. is_home ep slot (allocation_of p)) ps
 abbrev pub judged_in : List PlannedLine → PlannedLine → Option (ℕ × PlanWhy)
 judged_in ps p = judged (of_home p.ep p.line.slot ps)
 
--- the least of what the slots of these lines refuse, of which the last is looked at last
-unfoldable pub least_of : List PlannedLine → List PlannedLine → Option (ℕ × PlanWhy)
-least_of ps [] = None
-least_of ps (q ∷ qs) = lesser (judged_in ps q) (least_of ps qs)
+-- the least of one answer and of what the slots of these lines refuse
+unfoldable pub least_along : List PlannedLine → Option (ℕ × PlanWhy) → List PlannedLine → Option (ℕ × PlanWhy)
+least_along ps least [] = least
+least_along ps least (q ∷ qs) = least_along ps (lesser least (judged_in ps q)) qs

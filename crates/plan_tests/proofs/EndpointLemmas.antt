@@ -1,0 +1,203 @@
+-- The lines of one endpoint, and all endpoints.
+use Rattle.std.proofs.Common.{◌≡◌, ℕ, zero, suc, ◌+◌, ◌<◌, ◌≤◌, ◌⊎◌, inl, inr, Bool, true, false, ◌&&◌, ◌==◌, if◌then◌else◌, List, [], ◌∷◌, length, map, filter, get_or, Option, Some, None, refl, ap, sym, ◌∙◌, subst, arith}
+use Rattle.std.specs.Prelude.{All, slice_get}
+use Rattle.std.specs.List.{AllByRecursion}
+use Rattle.std.proofs.lemmas.Bool.{and_parts, eq-eqb, eqb-true, cases_eq, ne_eqb}
+use Rattle.std.proofs.lemmas.Option.{slice_get_within}
+use Rattle.fh_time.specs.Carrier.{count_of}
+use Rattle.fh_time.specs.declared.values.Slot.{Slot}
+use Rattle.window_config.specs.Endpoints.{IsEndpoint}
+use Rattle.window_config.specs.declared.endpoints.EndpointConfig.{EndpointConfig}
+use Rattle.unit_model.specs.Proper.{IsAt}
+use Rattle.unit_model.specs.declared.allocations.Allocation.{Allocation}
+use Rattle.plan_model.specs.Lines.{allocation_of}
+use Rattle.plan_model.specs.Validity.{why_claimed}
+use Rattle.plan_model.specs.declared.lines.PlannedLine.{PlannedLine}
+use Rattle.plan_model.specs.declared.refusals.PlanWhy.{PlanWhy}
+use Rattle.plan_tests.specs.Judging.{ArePlaced, Covers, IsBefore, IsLineOf, IsPlaced, ep_of}
+use Rattle.plan_tests.specs.Slots.{IsIn, IsFrom, IsProper, AreProper, is_home, judged, judged_in, of_home, lesser, least_along, entry_of, numbered, refused_along, refused_in, why_judged}
+use Rattle.plan_tests.proofs.GroupLemmas.{along_from, along_kept, along_one, lesser_from, lesser_left, lesser_right, from_none, from_nothing, judged_is, some_line}
+use Rattle.plan_tests.proofs.KnowLemmas.{inside_is}
+use Rattle.plan_tests.proofs.RunLemmas.{home_true, all_in, all_from}
+use Rattle.plan_tests.proofs.SlotLemmas.{least_is}
+use Rattle.plan_tests.proofs.SortLemmas.{filter_same, filter_and}
+
+-- ---- what passes a test
+
+filter_in : {X : Type 0} (t : X → Bool) (xs : List X) (x : X) → IsIn x xs → t x ≡ true → IsIn x (filter t xs)
+filter_in t [] x m is = absurd m
+filter_in {X = X} t (y ∷ xs) x m is = go (t y) refl m (filter_in t xs x)
+  where
+    go : (b : Bool) → t y ≡ b → (x ≡ y) ⊎ IsIn x xs → (IsIn x xs → t x ≡ true → IsIn x (filter t xs)) → IsIn x (let ys : List X = if b then y ∷ filter t xs else filter t xs in ys)
+    go true e (inl here) rest = inl here
+    go true e (inr there) rest = inr (rest there is)
+    go false e (inl here) rest = (let f = sym (ap t here ∙ e) ∙ is in cc)
+    go false e (inr there) rest = rest there is
+
+in_filter : {X : Type 0} (t : X → Bool) (xs : List X) (x : X) → IsIn x (filter t xs) → IsIn x xs × (t x ≡ true)
+in_filter t [] x m = absurd m
+in_filter {X = X} t (y ∷ xs) x m = go (t y) refl m (in_filter t xs x)
+  where
+    go : (b : Bool) → t y ≡ b → IsIn x (let ys : List X = if b then y ∷ filter t xs else filter t xs in ys) → (IsIn x (filter t xs) → IsIn x xs × (t x ≡ true)) → IsIn x (y ∷ xs) × (t x ≡ true)
+    go true e (inl here) rest = (inl here, ap t here ∙ e)
+    go true e (inr there) rest = let r = rest there in (inr r.0, r.1)
+    go false e n rest = let r = rest n in (inr r.0, r.1)
+
+-- ---- an endpoint's own lines, sorted
+
+pub record Own (lines : List PlannedLine) (ep : ℕ) (own : List PlannedLine) : Type 0 where
+  pub inside : (q : PlannedLine) → IsIn q own → IsIn q lines × (q.ep ≡ ep)
+  pub all : (q : PlannedLine) → IsIn q lines → q.ep ≡ ep → IsIn q own
+  pub homes : (q : PlannedLine) → IsIn q own → of_home q.ep q.line.slot own ≡ of_home q.ep q.line.slot lines
+
+pub own_is : (lines : List PlannedLine) (ep : ℕ) (found own : List PlannedLine) → found ≡ filter (λ p. p.ep == ep) lines
+    → ((p : PlannedLine) → of_home p.ep p.line.slot own ≡ of_home p.ep p.line.slot found) → Own lines ep own
+own_is lines ep found own found_is same = record { inside = inside; all = all; homes = homes }
+  where
+    self : (q : PlannedLine) → is_home q.ep q.line.slot (allocation_of q) ≡ true
+    self q = home_true q.ep q.line.slot q refl refl
+
+    inside : (q : PlannedLine) → IsIn q own → IsIn q lines × (q.ep ≡ ep)
+    inside q m =
+        let there : IsIn q found = (in_filter (λ p. is_home q.ep q.line.slot (allocation_of p)) found q (subst (IsIn q) (same q) (filter_in (λ p. is_home q.ep q.line.slot (allocation_of p)) own q m (self q)))).0 in
+        let r = in_filter (λ p. p.ep == ep) lines q (subst (IsIn q) found_is there) in
+        (r.0, eqb-true q.ep ep r.1)
+
+    all : (q : PlannedLine) → IsIn q lines → q.ep ≡ ep → IsIn q own
+    all q m e =
+        let there : IsIn q found = subst (IsIn q) (sym found_is) (filter_in (λ p. p.ep == ep) lines q m (eq-eqb q.ep ep e)) in
+        (in_filter (λ p. is_home q.ep q.line.slot (allocation_of p)) own q (subst (IsIn q) (sym (same q)) (filter_in (λ p. is_home q.ep q.line.slot (allocation_of p)) found q there (self q)))).0
+
+    implied : (a b : Bool) → (a ≡ true → b ≡ true) → (a && b) ≡ a
+    implied true b h = h refl
+    implied false b h = refl
+
+    homes : (q : PlannedLine) → IsIn q own → of_home q.ep q.line.slot own ≡ of_home q.ep q.line.slot lines
+    homes q m =
+        same q ∙ ap (of_home q.ep q.line.slot) found_is
+        ∙ sym (filter_and (λ p. is_home q.ep q.line.slot (allocation_of p)) (λ p. p.ep == ep) lines)
+        ∙ filter_same (λ p. is_home q.ep q.line.slot (allocation_of p) && (p.ep == ep)) (λ p. is_home q.ep q.line.slot (allocation_of p))
+        (λ p. implied (is_home q.ep q.line.slot (allocation_of p)) (p.ep == ep) (λ h. eq-eqb p.ep ep (eqb-true p.ep q.ep (and_parts (p.ep == q.ep) _ h).0 ∙ (inside q m).1))) lines
+
+least_alike : (ps qs rs : List PlannedLine) (x : Option (ℕ × PlanWhy)) → ((q : PlannedLine) → IsIn q rs → judged_in ps q ≡ judged_in qs q) → least_along ps x rs ≡ least_along qs x rs
+unfolding least_along
+least_alike ps qs [] x h = refl
+least_alike ps qs (r ∷ rs) x h = ap (λ (y : Option (ℕ × PlanWhy)). least_along ps (lesser x y) rs) (h r (inl refl)) ∙ least_alike ps qs rs (lesser x (judged_in qs r)) (λ q m. h q (inr m))
+
+pub covers_own : (lines : List PlannedLine) (ep : ℕ) (own : List PlannedLine) (least r new : Option (ℕ × PlanWhy)) → Own lines ep own → r ≡ least_along own None own → new ≡ lesser least r
+    → Covers lines ep least new
+covers_own lines ep own least r new o r_is new_is =
+    let r_along : r ≡ least_along lines None own = r_is ∙ least_alike own lines own None (λ q m. ap judged (o.homes q m)) in
+    record {
+      from = λ x before is. subst (IsFrom x) (sym new_is) (lesser_from x least r is (subst (IsFrom x) (sym r_along) (along_from lines x before None own (from_nothing x))));
+      kept = λ x before e. new_is ∙ ap (λ (y : Option (ℕ × PlanWhy)). lesser y r) e
+          ∙ lesser_left x r (subst (IsFrom x) (sym r_along) (along_from lines x before None own (from_nothing x)));
+      one = λ x before is q m q_ep e. new_is
+          ∙ ap (lesser least) (r_along ∙ along_one lines x before None own q (from_nothing x) (o.all q m q_ep) e)
+          ∙ lesser_right least x is;
+    }
+
+-- ---- what is known of them
+
+pub at_is : {X : Type 0} (xs : List X) (k : ℕ) (x d : X) → slice_get xs k ≡ Some x → get_or xs k d ≡ x
+at_is [] k x d h = cc
+at_is (y ∷ xs) zero x d h = cc
+at_is (y ∷ xs) (suc k) x d h = at_is xs k x d h
+
+pub endpoint_is : (es : List EndpointConfig) (ep : ℕ) (e : EndpointConfig) → All IsEndpoint es → IsAt es ep e → IsEndpoint e
+endpoint_is es ep e all at = subst IsEndpoint (at_is es ep e e at) (all ep e (slice_get_within es ep e at))
+
+some_is : {X : Type 0} (x y : X) → Some x ≡ Some y → x ≡ y
+some_is x y h = cc
+
+same_endpoint : (es : List EndpointConfig) (p q : PlannedLine) → IsPlaced es p → IsPlaced es q → p.ep ≡ q.ep → p.endpoint ≡ q.endpoint
+same_endpoint es p q a b e = some_is p.endpoint q.endpoint (sym a.at ∙ ap (slice_get es) e ∙ b.at)
+
+pub are_placed : (es : List EndpointConfig) (lines : List PlannedLine) → All IsEndpoint es → AllByRecursion (IsPlaced es) lines → ArePlaced lines
+are_placed es lines ends all = record {
+  endpoint = λ p m. endpoint_is es p.ep p.endpoint ends (all_in (IsPlaced es) lines p all m).at;
+  same = λ p q m n e. same_endpoint es p q (all_in (IsPlaced es) lines p all m) (all_in (IsPlaced es) lines q all n) e;
+  ranges = λ p m. (all_in (IsPlaced es) lines p all m).ranges;
+  inside = λ p m. (all_in (IsPlaced es) lines p all m).inside;
+}
+
+first_ep : (own : List PlannedLine) (ep : ℕ) (p : PlannedLine) → IsIn p own → ((q : PlannedLine) → IsIn q own → q.ep ≡ ep) → ep_of own ≡ ep
+first_ep [] ep p m h = absurd m
+first_ep (x ∷ own) ep p m h = h x (inl refl)
+
+pub own_lines : (lines : List PlannedLine) (ep : ℕ) (own : List PlannedLine) → Own lines ep own → ArePlaced lines
+    → (p : PlannedLine) → IsIn p own → AllByRecursion (IsLineOf p.endpoint (ep_of own)) own
+own_lines lines ep own o all p m =
+    let first = o.inside p m in
+    all_from (IsLineOf p.endpoint (ep_of own)) own (λ q n.
+    let there = o.inside q n in
+    record {
+      endpoint = all.same q p there.0 first.0 (there.1 ∙ sym first.1);
+      ep_is = there.1 ∙ sym (first_ep own ep p m (λ x k. (o.inside x k).1));
+      ranges = all.ranges q there.0;
+      inside = all.inside q there.0;
+    })
+
+pub own_endpoint : (lines : List PlannedLine) (ep : ℕ) (own : List PlannedLine) → Own lines ep own → ArePlaced lines → (p : PlannedLine) → IsIn p own → IsEndpoint p.endpoint
+own_endpoint lines ep own o all p m = all.endpoint p (o.inside p m).0
+
+pub first_in : (own : List PlannedLine) (d : PlannedLine) → (length own == 0) ≡ false → IsIn (get_or own 0 d) own
+first_in [] d some = cc
+first_in (x ∷ own) d some = inl refl
+
+pub none_is : (own : List PlannedLine) → (length own == 0) ≡ true → None ≡ least_along own None own
+unfolding least_along
+none_is [] e = refl
+none_is (x ∷ own) e = absurd (let z = eqb-true (length (x ∷ own)) 0 e in omega (arith, z))
+
+prbs_named : (prbs num : ℕ) → 1 ≤ prbs → 0 < count_of prbs num
+prbs_named prbs num some = elim (cases_eq num 0) [
+  | inl e ↦ (let b = eq-eqb num 0 e in rw b some)
+  | inr ne ↦ (let b = ne_eqb num 0 ne in rw b (omega (arith, ne)))
+]
+
+pub proper_lines : (es : List EndpointConfig) (lines : List PlannedLine) → All IsEndpoint es → AllByRecursion (IsPlaced es) lines → AreProper (map allocation_of lines)
+proper_lines es [] ends all = tt
+proper_lines es (p ∷ lines) ends all =
+    let i = inside_is p all.0.inside in (
+      record {
+        symbols = i.some;
+        prbs = prbs_named p.endpoint.prbs p.line.num_prb (endpoint_is es p.ep p.endpoint ends all.0.at).some;
+        mask = i.mask;
+        twelve = all.0.ranges.mask;
+      },
+      proper_lines es lines ends all.1,
+    )
+
+-- ---- endpoint after endpoint
+
+pub record Found (lines : List PlannedLine) (i : ℕ) (least : Option (ℕ × PlanWhy)) : Type 0 where
+  pub from : (r : Option (ℕ × PlanWhy)) → IsBefore lines r → IsFrom r least
+  pub one : (r : Option (ℕ × PlanWhy)) → IsBefore lines r → (q : PlannedLine) → IsIn q lines → q.ep < i → judged_in lines q ≡ r → least ≡ r
+
+pub found_start : (lines : List PlannedLine) → Found lines 0 None
+found_start lines = record { from = λ r before. from_nothing r; one = λ r before q m below e. absurd (omega (arith, below)) }
+
+pub found_more : (lines : List PlannedLine) (i : ℕ) (least new : Option (ℕ × PlanWhy)) → Found lines i least → Covers lines i least new → Found lines (i + 1) new
+found_more lines i least new f c = record {
+  from = λ r before. c.from r before (f.from r before);
+  one = λ r before q m below e. elim (cases_eq q.ep i) [
+    | inl here ↦ c.one r before (f.from r before) q m here e
+    | inr other ↦ c.kept r before (f.one r before q m (omega (arith, other, below)) e)
+  ];
+}
+
+pub found_all : (es : List EndpointConfig) (lines : List PlannedLine) (i : ℕ) (least : Option (ℕ × PlanWhy)) → All IsEndpoint es → AllByRecursion (IsPlaced es) lines
+    → map entry_of lines ≡ numbered 0 (map allocation_of lines) → Found lines i least → length es ≤ i → least ≡ refused_along why_claimed [] 0 (map allocation_of lines)
+found_all es lines i least ends all placed f whole =
+    let l = least_is (map allocation_of lines) (proper_lines es lines ends all) in
+    let r : Option (ℕ × PlanWhy) = refused_along why_claimed [] 0 (map allocation_of lines) in
+    let before : IsBefore lines r = λ q. subst (IsFrom r) (sym (judged_is lines q.ep q.line.slot placed)) (l.none_before q.ep q.line.slot) in
+    elim l.is_one [
+      | inl none ↦ from_none least (subst (λ (x : Option (ℕ × PlanWhy)). IsFrom x least) none (f.from r before)) ∙ sym none
+      | inr w ↦
+          let q = some_line lines w.0 w.1 in
+          let below : q.0.ep < length es = slice_get_within es q.0.ep q.0.endpoint (all_in (IsPlaced es) lines q.0 all q.1).at in
+          f.one r before q.0 q.1 (omega (arith, below, whole))
+          (judged_is lines q.0.ep q.0.line.slot placed ∙ ap (λ (a : Allocation). refused_in why_judged a.ep a.slot [] 0 (map allocation_of lines)) q.2 ∙ w.2)
+    ]

@@ -1,0 +1,74 @@
+-- What a stable sort by slots leaves.
+use Rattle.std.proofs.Common.{◌≡◌, ℕ, zero, suc, ◌+◌, ◌<◌, ◌≤◌, inl, inr, Bool, true, false, not, ◌&&◌, ◌==◌, if◌then◌else◌, List, [], ◌∷◌, length, filter, get_or, refl, ap, ap₂, sym, ◌∙◌, subst, arith}
+use Rattle.std.specs.List.{AllByRecursion}
+use Rattle.std.specs.List.Sorted.{IsSortedBy, IsStableBy, ties}
+use Rattle.std.specs.Cmp.{IsStrictWeakOrder}
+use Rattle.std.specs.Ordering.{is_lt}
+use Rattle.std.specs.declared.cmp.Ordering.{Ordering}
+use Rattle.std.specs.declared.cmp.Ordering.TheVariants.{Equal}
+use Rattle.std.proofs.lemmas.Bool.{cases_Bool, and_parts, and_from}
+use Rattle.std.proofs.lemmas.Cmp.{tied_itself}
+use Rattle.std.proofs.lemmas.List.Sorted.{ranks_by, sorted_far}
+use Rattle.fh_time.specs.declared.values.Slot.{Slot}
+use Rattle.unit_model.specs.Claims.{same_slot}
+use Rattle.plan_model.specs.Lines.{allocation_of}
+use Rattle.plan_model.specs.declared.lines.PlannedLine.{PlannedLine}
+use Rattle.plan_tests.specs.Order.{slot_cmp, comes_first, AreInOrder}
+use Rattle.plan_tests.specs.Slots.{is_home, of_home}
+use Rattle.plan_tests.proofs.ClashLemmas.{slot_own, slot_is}
+use Rattle.plan_tests.proofs.RangeLemmas.{same_tests}
+use Rattle.plan_tests.proofs.RunLemmas.{slot_total, tie_is}
+
+pub first_ranks : IsStrictWeakOrder comes_first
+first_ranks = ranks_by slot_total (λ (p : PlannedLine). p.line.slot)
+
+pub all_index : {X : Type 0} (P : X → Type 0) (xs : List X) → ((k : ℕ) (d : X) → k < length xs → P (get_or xs k d)) → AllByRecursion P xs
+all_index P [] h = tt
+all_index P (x ∷ xs) h = (h 0 x (omega arith), all_index P xs (λ k d below. h (suc k) d (omega (arith, below))))
+
+pub sorted_order : (xs : List PlannedLine) → IsSortedBy comes_first xs → AreInOrder xs
+sorted_order [] h = tt
+sorted_order (p ∷ ps) h = (
+  all_index (λ q. comes_first q p ≡ false) ps (λ k d below. sorted_far comes_first first_ranks (p ∷ ps) h 0 (suc k) d (omega arith) (omega (arith, below))),
+  sorted_order ps (λ k d low high.
+      let e : suc k + 1 ≡ suc (k + 1) = omega arith in
+      subst (λ (n : ℕ). comes_first (get_or (p ∷ ps) n d) (get_or ps k d) ≡ false) e (h (suc k) d (omega arith) (omega (arith, high)))),
+)
+
+-- ---- of one slot
+
+tied : (p q : PlannedLine) → ties comes_first p q ≡ same_slot q.line.slot p.line.slot
+tied p q = same_tests _ _
+    (λ h. let w = and_parts (not (comes_first p q)) _ h in
+    let e = tie_is p.line.slot q.line.slot (off (comes_first p q) w.0) (off (comes_first q p) w.1) in
+    ap (λ (s : Slot). same_slot q.line.slot s) e ∙ slot_own q.line.slot)
+    (λ h. let e = slot_is q.line.slot p.line.slot h in
+    and_from (not (comes_first p q)) _
+    (ap (λ (s : Slot). not (is_lt (slot_cmp p.line.slot s))) e ∙ ap (λ (o : Ordering). not (is_lt o)) (tied_itself slot_total p.line.slot))
+    (ap (λ (s : Slot). not (is_lt (slot_cmp s p.line.slot))) e ∙ ap (λ (o : Ordering). not (is_lt o)) (tied_itself slot_total p.line.slot)))
+  where
+    off : (b : Bool) → not b ≡ true → b ≡ false
+    off true h = cc
+    off false h = refl
+
+pub filter_same : {X : Type 0} (a b : X → Bool) → ((x : X) → a x ≡ b x) → (xs : List X) → filter a xs ≡ filter b xs
+filter_same a b h [] = refl
+filter_same {X = X} a b h (x ∷ xs) = ap₂ (λ (t : Bool) (ys : List X). let zs : List X = if t then x ∷ ys else ys in zs) (h x) (filter_same a b h xs)
+
+pub filter_and : {X : Type 0} (a b : X → Bool) (xs : List X) → filter (λ x. a x && b x) xs ≡ filter a (filter b xs)
+filter_and a b [] = refl
+filter_and {X = X} a b (x ∷ xs) = go (a x) (b x) refl refl (filter_and a b xs)
+  where
+    go : (s t : Bool) → a x ≡ s → b x ≡ t → filter (λ y. a y && b y) xs ≡ filter a (filter b xs)
+        → (let us : List X = if s && t then x ∷ filter (λ y. a y && b y) xs else filter (λ y. a y && b y) xs in us) ≡ filter a (let vs : List X = if t then x ∷ filter b xs else filter b xs in vs)
+    go true true e f h = rw e (ap (λ (ys : List X). x ∷ ys) h)
+    go true false e f h = h
+    go false true e f h = rw e h
+    go false false e f h = h
+
+pub homes_stay : (old new : List PlannedLine) → IsStableBy comes_first old new → (p : PlannedLine) → of_home p.ep p.line.slot new ≡ of_home p.ep p.line.slot old
+homes_stay old new stable p =
+    filter_and (λ q. q.ep == p.ep) (λ q. same_slot q.line.slot p.line.slot) new
+    ∙ ap (filter (λ q. q.ep == p.ep))
+    (sym (filter_same (ties comes_first p) (λ q. same_slot q.line.slot p.line.slot) (tied p) new) ∙ stable p ∙ filter_same (ties comes_first p) (λ q. same_slot q.line.slot p.line.slot) (tied p) old)
+    ∙ sym (filter_and (λ q. q.ep == p.ep) (λ q. same_slot q.line.slot p.line.slot) old)

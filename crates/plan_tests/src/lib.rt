@@ -1,0 +1,6 @@
+//! The tests of a plan: which of its lines is refused first, and why.
+#![tactic(auto)]
+
+mod judging;
+mod placing;
+mod sorting;
