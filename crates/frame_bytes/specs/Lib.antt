@@ -1,0 +1,7 @@
+pub mod Spelled
+pub mod Transport
+pub mod Commands
+pub mod Messages
+pub mod Cuts
+pub mod Written
+pub mod Reading
