@@ -1,5 +1,5 @@
 -- The words of a command are few, of ASCII, and begin with no hyphen.
-use Rattle.std.proofs.Common.{◌≡◌, ℕ, zero, suc, ◌<◌, ◌≤◌, List, [], ◌∷◌, codes, refl, false, true, Bool, ◌&&◌, not, sym, subst, length, nat_le, nat_lt, arith}
+use Rattle.std.proofs.Common.{◌≡◌, ℕ, zero, suc, ◌<◌, List, [], ◌∷◌, codes, refl, false, true, Bool, ◌&&◌, not, sym, subst, length, nat_le, nat_lt, arith}
 use Rattle.std.specs.Prelude.{Some, None, Option, ◌==◌, if◌then◌else◌, slice_index}
 use Rattle.std.specs.Str.{bytes_eq, IsAscii}
 use Rattle.std.specs.List.{list_all}
@@ -7,11 +7,13 @@ use Rattle.std.specs.Str.Parse.{digits_value}
 use Rattle.std.proofs.lemmas.Slice.Eq.{bytes_eq-Decides}
 use Rattle.std.proofs.lemmas.Str.Ascii.{IsAscii-nil, IsAscii-cons}
 use Rattle.std.proofs.lemmas.Bool.Decides.{nat_tests}
+use Rattle.air_source.specs.declared.events.Side.{Side}
+use Rattle.air_source.specs.declared.events.Side.TheVariants.{Ru, Du}
 use Rattle.command_words.specs.Numbers.{number_in, is_decimal}
-use Rattle.command_words.specs.Words.{bare_command, command_with_one, command_with_two, command_of, with_numbers, seed_in, slots_in, word_at}
+use Rattle.command_words.specs.Words.{bare_command, command_with_one, command_with_two, command_of, with_both, seed_in, slots_in, start_in, way_in, word_at}
 use Rattle.command_words.specs.declared.commands.Command.{Command}
-use Rattle.command_words.specs.declared.commands.Command.TheVariants.{Replay, Summary, Capture, Show, Windows, Fit, Generate}
-use Rattle.command_words.proofs.Walks.{IsPlainWord, plain_word_is, ArePlain}
+use Rattle.command_words.specs.declared.commands.Command.TheVariants.{Replay, Summary, Capture, Show, Windows, Fit, Generate, Pcap, PcapCapture}
+use Rattle.command_words.proofs.Walks.{IsPlainWord, plain_word_is}
 
 -- of ASCII, and begun by no hyphen
 abbrev pub is_plain : List ℕ → Bool
@@ -32,7 +34,7 @@ same_text : (a b : List ℕ) → bytes_eq a b ≡ true → a ≡ b
 same_text a b e = (bytes_eq-Decides a b).0 e
 
 -- the word is this text, or what follows holds of it
-pub literal_or : (literal w : List ℕ) (o rest : Option Command) (c : Command) → is_plain literal ≡ true → (if bytes_eq w literal then o else rest) ≡ Some c
+pub literal_or : {X : Type 0} (literal w : List ℕ) (o rest : Option X) (c : X) → is_plain literal ≡ true → (if bytes_eq w literal then o else rest) ≡ Some c
     → (rest ≡ Some c → is_plain w ≡ true) → is_plain w ≡ true
 literal_or literal w o rest c plain e next = go (bytes_eq w literal) refl e
   where
@@ -90,23 +92,48 @@ bare_plain w c e =
     literal_or (codes "windows") w (Some Windows) _ c refl e (λ e.
     literal_or (codes "fit") w (Some Fit) None c refl e (λ e. cc))))))
 
--- where a literal stands first, what it gives is wanted
-pub if_some : {X : Type 0} (t : Bool) (o : Option X) (x : X) → (if t then o else None) ≡ Some x → o ≡ Some x
-if_some true o x e = e
-if_some false o x e = cc
+way_plain : (w : List ℕ) (side : Side) → way_in w ≡ Some side → is_plain w ≡ true
+way_plain w side e =
+    literal_or (codes "dl") w (Some Ru) _ side refl e (λ e.
+    literal_or (codes "ul") w (Some Du) None side refl e (λ e. cc))
 
-numbers_plain : (make : ℕ → ℕ → Command) (first second : List ℕ) (c : Command) → with_numbers make (seed_in first) (slots_in second) ≡ Some c → (is_plain first ≡ true) × (is_plain second ≡ true)
-numbers_plain make first second c e = go (seed_in first) (slots_in second) refl refl e
-  where
-    go : (m n : Option ℕ) → seed_in first ≡ m → slots_in second ≡ n → with_numbers make m n ≡ Some c → (is_plain first ≡ true) × (is_plain second ≡ true)
-    go None n is_m is_n e = cc
-    go (Some x) None is_m is_n e = cc
-    go (Some x) (Some y) is_m is_n e = (number_plain 10 0 4294967295 x first is_m, number_plain 3 1 400 y second is_n)
+-- both are there of which something was made
+both_there : {A B : Type 0} (make : A → B → Command) (a : Option A) (b : Option B) (c : Command) → with_both make a b ≡ Some c → ((x : A) × (a ≡ Some x)) × ((y : B) × (b ≡ Some y))
+both_there make None b c e = cc
+both_there make (Some x) None c e = cc
+both_there make (Some x) (Some y) c e = ((x, refl), (y, refl))
+
+abbrev ArePlainTwo : List ℕ → List ℕ → Type 0
+ArePlainTwo first second = (is_plain first ≡ true) × (is_plain second ≡ true)
+
+numbers_plain : (first second : List ℕ) (c : Command) → with_both Generate (seed_in first) (slots_in second) ≡ Some c → ArePlainTwo first second
+numbers_plain first second c e =
+    let both = both_there Generate (seed_in first) (slots_in second) c e in
+    (number_plain 10 0 4294967295 both.0.0 first both.0.1, number_plain 3 1 400 both.1.0 second both.1.1)
+
+frames_plain : (make : Side → ℕ → Command) (first second : List ℕ) (c : Command) → with_both make (way_in first) (start_in second) ≡ Some c → ArePlainTwo first second
+frames_plain make first second c e =
+    let both = both_there make (way_in first) (start_in second) c e in
+    (way_plain first both.0.0 both.0.1, number_plain 13 0 1000000000000 both.1.0 second both.1.1)
+
+-- where the word is a literal, what that gives is wanted; or else the rest
+either : {X P : Type 0} (t : Bool) (o rest : Option X) (x : X) → (if t then o else rest) ≡ Some x → (o ≡ Some x → P) → (rest ≡ Some x → P) → P
+either true o rest x e f g = f e
+either false o rest x e f g = g e
 
 pub two_plain : (w first second : List ℕ) (c : Command) → command_with_two w first second ≡ Some c → (is_plain w ≡ true) × (is_plain first ≡ true) × (is_plain second ≡ true)
 two_plain w first second c e =
-    let numbers = numbers_plain Generate first second c (if_some (bytes_eq w (codes "generate")) _ c e) in
-    (literal_or (codes "generate") w _ None c refl e (λ e. cc), numbers.0, numbers.1)
+    let numbers =
+    either (bytes_eq w (codes "generate")) _ _ c e (numbers_plain first second c) (λ e.
+    either (bytes_eq w (codes "pcap")) _ _ c e (frames_plain Pcap first second c) (λ e.
+    either (bytes_eq w (codes "pcap-capture")) _ None c e (frames_plain PcapCapture first second c) (λ e. cc)))
+    in
+    let word : is_plain w ≡ true =
+    literal_or (codes "generate") w _ _ c refl e (λ e.
+    literal_or (codes "pcap") w _ _ c refl e (λ e.
+    literal_or (codes "pcap-capture") w _ None c refl e (λ e. cc)))
+    in
+    (word, numbers.0, numbers.1)
 
 -- two words are the word and the flag
 pub one_is : (w flag : List ℕ) (c : Command) → command_with_one w flag ≡ Some c → (w ≡ codes "show") × (flag ≡ codes "--json")

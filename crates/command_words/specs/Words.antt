@@ -2,9 +2,11 @@
 use Rattle.std.specs.Prelude.{ℕ, ◌≤◌, List, [], ◌∷◌, true, false, ◌&&◌, Option, None, Some, if◌then◌else◌, codes}
 use Rattle.std.specs.List.{slice_index_or}
 use Rattle.std.specs.Str.{bytes_eq}
+use Rattle.air_source.specs.declared.events.Side.{Side}
+use Rattle.air_source.specs.declared.events.Side.TheVariants.{Ru, Du}
 use Rattle.command_words.specs.Numbers.{number_in}
 use Rattle.command_words.specs.declared.commands.Command.{Command}
-use Rattle.command_words.specs.declared.commands.Command.TheVariants.{Replay, Summary, Capture, Show, Windows, Fit, Generate}
+use Rattle.command_words.specs.declared.commands.Command.TheVariants.{Replay, Summary, Capture, Show, Windows, Fit, Generate, Pcap, PcapCapture}
 
 -- the i-th word, or the empty one
 abbrev pub word_at : List (List ℕ) → ℕ → List ℕ
@@ -34,17 +36,27 @@ seed_in word = number_in 10 0 4294967295 word
 abbrev pub slots_in : List ℕ → Option ℕ
 slots_in word = number_in 3 1 400 word
 
--- what is made of a seed and a number of slots, where both are there
-abbrev pub with_numbers : (ℕ → ℕ → Command) → Option ℕ → Option ℕ → Option Command
-with_numbers make None slots = None
-with_numbers make (Some seed) None = None
-with_numbers make (Some seed) (Some slots) = Some (make seed slots)
+-- the way of frames, by the unit that they go to
+abbrev pub way_in : List ℕ → Option Side
+way_in word = if bytes_eq word (codes "dl") then Some Ru else (if bytes_eq word (codes "ul") then Some Du else None)
+
+-- the time of a file's first frame: 1 to 13 digits, at most 10^12 ns
+abbrev pub start_in : List ℕ → Option ℕ
+start_in word = number_in 13 0 1000000000000 word
+
+-- what is made of two that are there
+abbrev pub with_both : {A B : Type 0} → (A → B → Command) → Option A → Option B → Option Command
+with_both make None second = None
+with_both make (Some first) None = None
+with_both make (Some first) (Some second) = Some (make first second)
 
 -- the command that three words are
 abbrev pub command_with_two : List ℕ → List ℕ → List ℕ → Option Command
 command_with_two word first second =
-    if bytes_eq word (codes "generate") then with_numbers Generate (seed_in first) (slots_in second)
-    else None
+    if bytes_eq word (codes "generate") then with_both Generate (seed_in first) (slots_in second)
+    else (if bytes_eq word (codes "pcap") then with_both Pcap (way_in first) (start_in second)
+    else (if bytes_eq word (codes "pcap-capture") then with_both PcapCapture (way_in first) (start_in second)
+    else None))
 
 -- the command that the words are
 abbrev pub command_of : List (List ℕ) → Option Command
@@ -56,4 +68,6 @@ command_of words = None
 -- the numbers of a command are within their limits
 abbrev pub IsProper : Command → Type 0
 IsProper (Generate seed slots) = (1 ≤ slots) × (slots ≤ 400)
+IsProper (Pcap side start) = start ≤ 1000000000000
+IsProper (PcapCapture side start) = start ≤ 1000000000000
 IsProper command = Unit {0}

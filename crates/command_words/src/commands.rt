@@ -1,4 +1,5 @@
 // What the words of the command line may ask for.
+use air_source::Side;
 
 /// What the words ask for.
 #[derive(Clone, Copy, Debug, PartialEq, Eq)]
@@ -22,5 +23,19 @@ pub enum Command {
         seed: u32,
         /// From 1 to 400.
         slots: u32,
+    },
+    /// `pcap WAY START`: the eCPRI frames of a pcap file as lines of a document.
+    Pcap {
+        /// The unit that the frames go to.
+        side: Side,
+        /// The time of the first frame, from 0 to 1,000,000,000,000 ns.
+        start: u64,
+    },
+    /// `pcap-capture WAY START`: the same frames as a capture.
+    PcapCapture {
+        /// The unit that the frames go to.
+        side: Side,
+        /// The time of the first frame, from 0 to 1,000,000,000,000 ns.
+        start: u64,
     },
 }

@@ -1,10 +1,11 @@
 // The commands by their words: of a list of words, and of what a parse found.
-ghost use Rattle.std.specs.Prelude.{◌≡◌, IfSome, map, option_map};
-ghost use Rattle.command_words.specs.Words.{IsProper, bare_command, command_of, command_with_one, command_with_two};
+ghost use Rattle.std.specs.Prelude.{◌≡◌, ◌≤◌, IfSome, map, option_map};
+ghost use Rattle.command_words.specs.Words.{IsProper, bare_command, command_of, command_with_one, command_with_two, start_in, way_in};
 ghost use Rattle.command_words.specs.Parsed.{spelled};
 
 use crate::commands::Command;
 use crate::numbers::number_in;
+use air_source::Side;
 
 /// The command that one word is.
 fn bare_command(word: &str) -> Option<Command>
@@ -43,6 +44,27 @@ fn command_with_one(word: &str, flag: &str) -> Option<Command>
     None
 }
 
+/// The way of frames that a word is, by the unit that they go to.
+fn way_in(way: &str) -> Option<Side>
+    ensures { result ≡ way_in way.now }
+{
+    if way == "dl" {
+        return Some(Side::Ru);
+    }
+    if way == "ul" {
+        return Some(Side::Du);
+    }
+    None
+}
+
+/// The start that a word is, in nanoseconds.
+fn start_in(word: &str) -> Option<u64>
+    ensures start { result ≡ start_in word.now }
+    ensures within { IfSome result (λ start. start ≤ 1000000000000) }
+{
+    number_in(word.as_bytes(), 13, 0, 1_000_000_000_000)
+}
+
 /// The command that three words are.
 fn command_with_two(word: &str, first: &str, second: &str) -> Option<Command>
     ensures command { result ≡ command_with_two word.now first.now second.now }
@@ -55,6 +77,16 @@ fn command_with_two(word: &str, first: &str, second: &str) -> Option<Command>
             seed: seed as u32,
             slots: slots as u32,
         });
+    }
+    if word == "pcap" {
+        let side = way_in(first)?;
+        let start = start_in(second)?;
+        return Some(Command::Pcap { side, start });
+    }
+    if word == "pcap-capture" {
+        let side = way_in(first)?;
+        let start = start_in(second)?;
+        return Some(Command::PcapCapture { side, start });
     }
     None
 }

@@ -1,5 +1,6 @@
 // Words that are commands, and words that are none.
 use crate::{Command, WordsFault, read_words};
+use air_source::Side;
 use fh_base::{Bytes, List, NoMemory};
 use std::alloc::Global;
 use std::test::Fail;
@@ -69,6 +70,48 @@ fn other_numbers_are_refused(rt: HostRuntime) -> Result<(), Fail> {
     ];
     for [seed, slots] in numbers {
         let answer = read(alloc, &[b"generate", seed, slots])?;
+        assert_eq!(rt; answer, Err(WordsFault::BadWords));
+    }
+    Ok(())
+}
+
+#[test]
+fn a_way_and_a_start_are_read(rt: HostRuntime) -> Result<(), Fail> {
+    let alloc = rt.alloc();
+    let (side, start) = (Side::Ru, 9_600_000);
+    let wanted = Ok(Command::Pcap { side, start });
+    assert_eq!(rt; read(alloc, &[b"pcap", b"dl", b"9600000"])?, wanted);
+    assert_eq!(rt; read(alloc, &[b"pcap", b"dl", b"0000009600000"])?, wanted);
+    let (side, start) = (Side::Du, 1_000_000_000_000);
+    let wanted = Ok(Command::PcapCapture { side, start });
+    assert_eq!(rt;
+        read(alloc, &[b"pcap-capture", b"ul", b"1000000000000"])?,
+        wanted
+    );
+    Ok(())
+}
+
+#[test]
+fn other_ways_and_starts_are_refused(rt: HostRuntime) -> Result<(), Fail> {
+    let alloc = rt.alloc();
+    let lists: [&[&[u8]]; 14] = [
+        &[b"pcap", b"dl", b"1000000000001"],
+        &[b"pcap", b"dl", b"00000000000001"],
+        &[b"pcap", b"dl", b""],
+        &[b"pcap", b"dl", b"-1"],
+        &[b"pcap", b"dl", b"1e6"],
+        &[b"pcap", b"DL", b"1"],
+        &[b"pcap", b"d", b"1"],
+        &[b"pcap", b"", b"1"],
+        &[b"pcap", b"1", b"dl"],
+        &[b"pcap", b"dl"],
+        &[b"pcap"],
+        &[b"pcap-", b"dl", b"1"],
+        &[b"pcap-captures", b"dl", b"1"],
+        &[b"pcap-capture", b"dl", b"1", b"1"],
+    ];
+    for words in lists {
+        let answer = read(alloc, words)?;
         assert_eq!(rt; answer, Err(WordsFault::BadWords));
     }
     Ok(())

@@ -1,5 +1,5 @@
-//! Tests of whole runs, by the top call with ends in memory: worked documents of every command (`replays`, `captures`, `windows`), the words
-//! (`words`), and ends that fail (`faults`).
+//! Tests of whole runs, by the top call with ends in memory: worked documents of every command (`replays`, `captures`, `windows`,
+//! `pcaps`), the words (`words`), and ends that fail (`faults`).
 //!
 //! They stand beside `top_call`, so that it is proved without them.
 #![tactic(auto)]
@@ -8,6 +8,8 @@
 mod captures;
 #[cfg(test)]
 mod faults;
+#[cfg(test)]
+mod pcaps;
 #[cfg(test)]
 mod replays;
 #[cfg(test)]

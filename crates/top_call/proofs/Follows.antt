@@ -1,18 +1,24 @@
 -- What follows from the outcome of a run, status by status.
-use Rattle.std.proofs.Common.{◌≡◌, ◌⊎◌, ◌∙◌, inr, ℕ, ◌≤◌, List, [], length, true, Option, Some, None, Result, Ok, Err, IsSome, refl, sym, ap, subst}
+use Rattle.std.proofs.Common.{◌≡◌, ◌⊎◌, ◌∙◌, inr, ℕ, ◌≤◌, List, [], length, true, Option, Some, None, Result, Ok, Err, IsSome, map, refl, sym, ap, subst}
 use Rattle.std.specs.Io.KnownBytes.{append_known, IsAtEnd}
 use Rattle.capture_records.specs.declared.refusals.CaptureRefusal.{CaptureRefusal}
 use Rattle.capture_records.specs.Reading.{checked as capture_checked}
+use Rattle.capture_records.specs.Records.{capture_bytes}
 use Rattle.capture_show.specs.Messages.{capture_lines}
 use Rattle.capture_show.specs.Texts.{lines_text}
 use Rattle.command_words.specs.Words.{command_of}
 use Rattle.command_words.specs.declared.commands.Command.{Command}
-use Rattle.command_words.specs.declared.commands.Command.TheVariants.{Replay, Summary, Capture, Show, Windows, Fit, Generate}
+use Rattle.command_words.specs.declared.commands.Command.TheVariants.{Replay, Summary, Capture, Show, Windows, Fit, Generate, Pcap, PcapCapture}
 use Rattle.fh_base.specs.Causes.{Rose}
 use Rattle.fh_base.proofs.Known.{append_nothing}
 use Rattle.fh_document.specs.declared.document.Document.{Document}
 use Rattle.fh_document.specs.declared.refusals.DocWhy.{DocWhy}
 use Rattle.fh_document.specs.Document.{document_of}
+use Rattle.pcap_frames.specs.declared.refusals.PcapRefusal.{PcapRefusal}
+use Rattle.pcap_frames.specs.declared.values.PcapHead.{PcapHead}
+use Rattle.pcap_frames.specs.Checked.{checked as pcap_checked}
+use Rattle.pcap_frames.specs.Frames.{Timed}
+use Rattle.pcap_lines.specs.Texts.{arrived_as, lines_of}
 use Rattle.window_config.specs.declared.delays.Delays.{Delays}
 use Rattle.window_config.specs.declared.relations.Failing.{Failing}
 use Rattle.window_config.specs.Relations.{checked}
@@ -20,8 +26,8 @@ use Rattle.window_plan.specs.declared.refusals.NoFit.{NoFit as Refusal}
 use Rattle.window_plan.specs.Fitting.{fitted}
 use Rattle.top_call.specs.declared.status.LineWhy.{LineWhy}
 use Rattle.top_call.specs.declared.status.Status.{Status}
-use Rattle.top_call.specs.declared.status.Status.TheVariants.{Done, BadWords, BadDocument, BadCapture, ReadFault, WriteFault, NoMemory, TooLong, CheckFails, NoFit}
-use Rattle.top_call.specs.Answers.{Answer, answer_of, asked, captured, fit_shown, fit_verdict, is_reading, of_capture, of_document, replayed, summarized, verdict_of, windows_shown}
+use Rattle.top_call.specs.declared.status.Status.TheVariants.{Done, BadWords, BadDocument, BadCapture, ReadFault, WriteFault, NoMemory, TooLong, CheckFails, BadPcap, NoFit}
+use Rattle.top_call.specs.Answers.{Answer, answer_of, asked, captured, fit_shown, fit_verdict, is_reading, of_capture, of_document, of_pcap, replayed, summarized, verdict_of, windows_shown}
 use Rattle.top_call.specs.Run.{AnswersRun, IsDecided, IsRefusal, Outcome, input_limit}
 
 -- ---- a refusal
@@ -42,6 +48,10 @@ capture_text : (text : List ℕ) (checked : Result (Unit {0}) CaptureRefusal) �
 capture_text text (Ok u) refusal = absurd refusal
 capture_text text (Err r) refusal = refl
 
+pcap_text : (text : List Timed → List ℕ) (start : ℕ) (bytes : List ℕ) (checked : Result PcapHead PcapRefusal) → IsRefusal (of_pcap text start bytes checked).status → (of_pcap text start bytes checked).text ≡ []
+pcap_text text start bytes (Ok head) refusal = absurd refusal
+pcap_text text start bytes (Err r) refusal = refl
+
 -- has no text
 refusal_text : (o : Option Command) (bytes : List ℕ) → IsRefusal (asked o bytes).status → (asked o bytes).text ≡ []
 unfolding answer_of
@@ -53,12 +63,15 @@ refusal_text (Some (Show json)) bytes refusal = capture_text (lines_text json (c
 refusal_text (Some Windows) bytes refusal = document_text (λ d. windows_shown d.config) (document_of bytes) (λ d. check_refuses_nothing (checked d.config.delays)) refusal
 refusal_text (Some Fit) bytes refusal = document_text (λ d. fit_shown d.config.delays) (document_of bytes) (λ d. fit_refuses_nothing (fitted d.config.delays)) refusal
 refusal_text (Some (Generate seed slots)) bytes refusal = absurd refusal
+refusal_text (Some (Pcap side start)) bytes refusal = pcap_text (lines_of side) start bytes (pcap_checked bytes start) refusal
+refusal_text (Some (PcapCapture side start)) bytes refusal = pcap_text (λ ts. capture_bytes (map (arrived_as side) ts)) start bytes (pcap_checked bytes start) refusal
 
 refusal_decided : (status : Status) → IsRefusal status → IsDecided status
 refusal_decided Done refusal = tt
 refusal_decided BadWords refusal = tt
 refusal_decided (BadDocument line why) refusal = tt
 refusal_decided (BadCapture place why) refusal = tt
+refusal_decided (BadPcap r) refusal = tt
 refusal_decided ReadFault refusal = refusal
 refusal_decided WriteFault refusal = refusal
 refusal_decided NoMemory refusal = refusal
@@ -72,6 +85,7 @@ decided_wanted wanted s t before now Done decided answers = answers
 decided_wanted wanted s t before now BadWords decided answers = answers
 decided_wanted wanted s t before now (BadDocument line why) decided answers = answers
 decided_wanted wanted s t before now (BadCapture place why) decided answers = answers
+decided_wanted wanted s t before now (BadPcap r) decided answers = answers
 decided_wanted wanted s t before now ReadFault decided answers = absurd decided
 decided_wanted wanted s t before now WriteFault decided answers = absurd decided
 decided_wanted wanted s t before now NoMemory decided answers = absurd decided
@@ -99,6 +113,8 @@ only_readers_refuse (Some (Show json)) bytes line why e = refl
 only_readers_refuse (Some Windows) bytes line why e = refl
 only_readers_refuse (Some Fit) bytes line why e = refl
 only_readers_refuse (Some (Generate seed slots)) bytes line why e = cc
+only_readers_refuse (Some (Pcap side start)) bytes line why e = refl
+only_readers_refuse (Some (PcapCapture side start)) bytes line why e = refl
 
 -- was read to its end, and is refused at this very line for this very reason
 pub bad_document : (words : List (List ℕ)) (left_old left_new : Option (List ℕ)) (s t : ℕ) (old new : Option (List ℕ)) (before now : ℕ) (line : ℕ) (why : LineWhy)

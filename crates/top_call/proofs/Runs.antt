@@ -4,7 +4,7 @@ use Rattle.std.specs.Io.KnownBytes.{prepend_known, append_known, IsAtEnd}
 use Rattle.std.proofs.lemmas.Result.{IfOk-weaker}
 use Rattle.command_words.specs.Words.{command_of}
 use Rattle.command_words.specs.declared.commands.Command.{Command}
-use Rattle.command_words.specs.declared.commands.Command.TheVariants.{Replay, Summary, Capture, Show, Windows, Fit, Generate}
+use Rattle.command_words.specs.declared.commands.Command.TheVariants.{Replay, Summary, Capture, Show, Windows, Fit, Generate, Pcap, PcapCapture}
 use Rattle.fh_base.specs.Causes.{Rose}
 use Rattle.fh_base.specs.Told.{WritesFront}
 use Rattle.fh_base.specs.declared.fault.ReadAllFault.{ReadAllFault}
@@ -18,7 +18,7 @@ use Rattle.fh_document.proofs.Properness.{document_in_in}
 use Rattle.replay_loop.specs.Laws.{IsSound}
 use Rattle.replay_loop.proofs.LawLemmas.{is_sound}
 use Rattle.top_call.specs.declared.status.Status.{Status}
-use Rattle.top_call.specs.declared.status.Status.TheVariants.{Done, BadWords, BadDocument, BadCapture, ReadFault, WriteFault, NoMemory, TooLong, CheckFails, NoFit}
+use Rattle.top_call.specs.declared.status.Status.TheVariants.{Done, BadWords, BadDocument, BadCapture, ReadFault, WriteFault, NoMemory, TooLong, CheckFails, BadPcap, NoFit}
 use Rattle.top_call.specs.Answers.{Answer, answer_of, asked, is_reading, reads}
 use Rattle.top_call.specs.Endings.{source_status}
 use Rattle.top_call.specs.Run.{AnswersCommand, AnswersRun, IsDecided, IsRefusal, Outcome, Performs, input_limit}
@@ -35,6 +35,7 @@ answers_run wanted s t before now Done h = h
 answers_run wanted s t before now BadWords h = absurd h
 answers_run wanted s t before now (BadDocument line why) h = h
 answers_run wanted s t before now (BadCapture place why) h = h
+answers_run wanted s t before now (BadPcap refusal) h = h
 answers_run wanted s t before now ReadFault h = absurd h
 answers_run wanted s t before now WriteFault h = h
 answers_run wanted s t before now NoMemory h = tt
@@ -53,6 +54,7 @@ completes wanted before now Done h p = inl (sym h)
 completes wanted before now BadWords h p = absurd h
 completes wanted before now (BadDocument line why) h p = inl (sym h)
 completes wanted before now (BadCapture place why) h p = inl (sym h)
+completes wanted before now (BadPcap refusal) h p = inl (sym h)
 completes wanted before now ReadFault h p = absurd h
 completes wanted before now WriteFault h (inl calm) = absurd (calm h.0)
 completes wanted before now WriteFault h (inr refusal) = absurd (h.1 refusal)
@@ -105,6 +107,8 @@ same_answer (Show json) bytes h = cc
 same_answer Windows bytes h = cc
 same_answer Fit bytes h = cc
 same_answer (Generate seed slots) bytes h = refl
+same_answer (Pcap side start) bytes h = cc
+same_answer (PcapCapture side start) bytes h = cc
 
 front_any : (left old new : Option (List ℕ)) (command : Command) → reads command ≡ false → WritesFront old new (answer_of command []).text → IfSome left (λ bytes. WritesFront old new (answer_of command bytes).text)
 front_any None old new command h front = tt
@@ -188,6 +192,7 @@ not_decided Done stop decided = stop
 not_decided BadWords stop decided = stop
 not_decided (BadDocument line why) stop decided = stop
 not_decided (BadCapture place why) stop decided = stop
+not_decided (BadPcap refusal) stop decided = stop
 not_decided ReadFault stop decided = decided
 not_decided WriteFault stop decided = stop
 not_decided NoMemory stop decided = decided
@@ -200,6 +205,7 @@ stop_answers wanted s t o Done stop rose = absurd stop
 stop_answers wanted s t o BadWords stop rose = absurd stop
 stop_answers wanted s t o (BadDocument line why) stop rose = absurd stop
 stop_answers wanted s t o (BadCapture place why) stop rose = absurd stop
+stop_answers wanted s t o (BadPcap refusal) stop rose = absurd stop
 stop_answers wanted s t o ReadFault stop rose = rose refl
 stop_answers wanted s t o WriteFault stop rose = absurd stop
 stop_answers wanted s t o NoMemory stop rose = tt
@@ -224,6 +230,7 @@ stop_wants wanted came bytes left_old left_new s t Done stop rose long taken giv
 stop_wants wanted came bytes left_old left_new s t BadWords stop rose long taken given = absurd stop
 stop_wants wanted came bytes left_old left_new s t (BadDocument line why) stop rose long taken given = absurd stop
 stop_wants wanted came bytes left_old left_new s t (BadCapture place why) stop rose long taken given = absurd stop
+stop_wants wanted came bytes left_old left_new s t (BadPcap refusal) stop rose long taken given = absurd stop
 stop_wants wanted came bytes left_old left_new s t ReadFault stop rose long taken given = absurd (given.0 (rose refl))
 stop_wants wanted came bytes left_old left_new s t WriteFault stop rose long taken given = absurd stop
 stop_wants wanted came bytes left_old left_new s t NoMemory stop rose long taken given = inr refl

@@ -6,7 +6,7 @@ use Rattle.fh_base.specs.Told.{WritesFront}
 use Rattle.fh_base.specs.declared.fault.SinkFault.{SinkFault}
 use Rattle.fh_base.specs.declared.fault.SinkFault.TheVariants as sink
 use Rattle.top_call.specs.declared.status.Status.{Status}
-use Rattle.top_call.specs.declared.status.Status.TheVariants.{Done, BadWords, BadDocument, BadCapture, ReadFault, WriteFault, NoMemory, TooLong, CheckFails, NoFit}
+use Rattle.top_call.specs.declared.status.Status.TheVariants.{Done, BadWords, BadDocument, BadCapture, ReadFault, WriteFault, NoMemory, TooLong, CheckFails, BadPcap, NoFit}
 use Rattle.window_config.specs.declared.delays.Delays.{Delays}
 use Rattle.window_config.specs.declared.relations.Failing.{Failing}
 use Rattle.window_plan.specs.declared.refusals.NoFit.{NoFit as Refusal}
@@ -19,6 +19,7 @@ verdict_answers Done before now verdict = refl
 verdict_answers BadWords before now verdict = absurd verdict
 verdict_answers (BadDocument line why) before now verdict = absurd verdict
 verdict_answers (BadCapture place why) before now verdict = absurd verdict
+verdict_answers (BadPcap r) before now verdict = absurd verdict
 verdict_answers ReadFault before now verdict = absurd verdict
 verdict_answers WriteFault before now verdict = absurd verdict
 verdict_answers NoMemory before now verdict = absurd verdict
@@ -31,6 +32,7 @@ no_refusal Done verdict refusal = refusal
 no_refusal BadWords verdict refusal = verdict
 no_refusal (BadDocument line why) verdict refusal = verdict
 no_refusal (BadCapture place why) verdict refusal = verdict
+no_refusal (BadPcap r) verdict refusal = verdict
 no_refusal ReadFault verdict refusal = verdict
 no_refusal WriteFault verdict refusal = verdict
 no_refusal NoMemory verdict refusal = verdict

@@ -1,16 +1,23 @@
 -- What the words and the input name: the one text, and the status of a run that nothing keeps from its end.
-use Rattle.std.specs.Prelude.{ℕ, List, [], Bool, true, false, Option, None, Some, Result, Ok, Err}
+use Rattle.std.specs.Prelude.{ℕ, List, [], map, Bool, true, false, Option, None, Some, Result, Ok, Err}
 use Rattle.capture_records.specs.declared.refusals.CaptureRefusal.{CaptureRefusal}
+use Rattle.air_source.specs.declared.events.Side.{Side}
 use Rattle.capture_records.specs.Reading.{checked as capture_checked}
+use Rattle.capture_records.specs.Records.{capture_bytes}
 use Rattle.capture_show.specs.Messages.{capture_lines}
 use Rattle.capture_show.specs.Texts.{lines_text}
 use Rattle.command_words.specs.declared.commands.Command.{Command}
-use Rattle.command_words.specs.declared.commands.Command.TheVariants.{Replay, Summary, Capture, Show, Windows, Fit, Generate}
+use Rattle.command_words.specs.declared.commands.Command.TheVariants.{Replay, Summary, Capture, Show, Windows, Fit, Generate, Pcap, PcapCapture}
 use Rattle.fh_document.specs.declared.document.Document.{Document}
 use Rattle.fh_document.specs.declared.refusals.DocWhy.{DocWhy}
 use Rattle.fh_document.specs.Document.{document_of}
 use Rattle.fh_document.specs.Generated.{generated}
 use Rattle.fronthaul_replay.specs.Reports.{capture_of, injected_report, summary_of}
+use Rattle.pcap_frames.specs.declared.refusals.PcapRefusal.{PcapRefusal}
+use Rattle.pcap_frames.specs.declared.values.PcapHead.{PcapHead}
+use Rattle.pcap_frames.specs.Checked.{checked as pcap_checked}
+use Rattle.pcap_frames.specs.Frames.{Timed, frames_of}
+use Rattle.pcap_lines.specs.Texts.{arrived_as, lines_of}
 use Rattle.window_config.specs.declared.config.Config.{Config}
 use Rattle.window_config.specs.declared.delays.Delays.{Delays}
 use Rattle.window_config.specs.declared.relations.Failing.{Failing}
@@ -21,7 +28,7 @@ use Rattle.window_plan.specs.declared.refusals.NoFit.{NoFit as Refusal}
 use Rattle.window_plan.specs.Fitting.{fitted}
 use Rattle.top_call.specs.declared.status.LineWhy.TheVariants.{Doc}
 use Rattle.top_call.specs.declared.status.Status.{Status}
-use Rattle.top_call.specs.declared.status.Status.TheVariants.{Done, BadWords, BadDocument, BadCapture, CheckFails, NoFit}
+use Rattle.top_call.specs.declared.status.Status.TheVariants.{Done, BadWords, BadDocument, BadCapture, CheckFails, BadPcap, NoFit}
 
 -- a whole text, and the status behind it
 pub record Answer : Type 0 where
@@ -86,6 +93,21 @@ of_capture text (Err r) = refused (BadCapture r.place r.why)
 abbrev pub shown : Bool → List ℕ → Answer
 shown json bytes = of_capture (lines_text json (capture_lines bytes)) (capture_checked bytes)
 
+-- ---- the commands that read a pcap file
+
+-- what is written of the frames of a file that passed, or the first fault of the file
+abbrev pub of_pcap : (List Timed → List ℕ) → ℕ → List ℕ → Result PcapHead PcapRefusal → Answer
+of_pcap text start bytes (Ok head) = record { text = text (frames_of bytes head start); status = Done }
+of_pcap text start bytes (Err refusal) = refused (BadPcap refusal)
+
+-- `pcap`: the frames as lines of a document
+abbrev pub frames_injected : Side → ℕ → List ℕ → Answer
+frames_injected side start bytes = of_pcap (lines_of side) start bytes (pcap_checked bytes start)
+
+-- `pcap-capture`: the frames as a capture
+abbrev pub frames_captured : Side → ℕ → List ℕ → Answer
+frames_captured side start bytes = of_pcap (λ ts. capture_bytes (map (arrived_as side) ts)) start bytes (pcap_checked bytes start)
+
 -- ---- the commands that read nothing
 
 -- `generate`: a document of its own
@@ -103,6 +125,8 @@ reads (Show json) = true
 reads Windows = true
 reads Fit = true
 reads (Generate seed slots) = false
+reads (Pcap side start) = true
+reads (PcapCapture side start) = true
 
 -- what a command answers of a whole input
 unfoldable pub answer_of : Command → List ℕ → Answer
@@ -113,6 +137,8 @@ answer_of (Show json) bytes = shown json bytes
 answer_of Windows bytes = of_document (λ d. windows_shown d.config) (document_of bytes)
 answer_of Fit bytes = of_document (λ d. fit_shown d.config.delays) (document_of bytes)
 answer_of (Generate seed slots) bytes = generated_document seed slots
+answer_of (Pcap side start) bytes = frames_injected side start bytes
+answer_of (PcapCapture side start) bytes = frames_captured side start bytes
 
 -- what is answered where the words are this command; words that are none are refused
 abbrev pub asked : Option Command → List ℕ → Answer

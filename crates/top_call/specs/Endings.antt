@@ -8,6 +8,8 @@ use Rattle.fh_base.specs.declared.fault.SinkFault.{SinkFault}
 use Rattle.fh_base.specs.declared.fault.SinkFault.TheVariants as sink
 use Rattle.fh_document.specs.declared.refusals.DocFault.{DocFault}
 use Rattle.fh_document.specs.declared.refusals.DocFault.TheVariants as doc
+use Rattle.fronthaul_replay.specs.declared.injected.InjectedFault.{InjectedFault}
+use Rattle.fronthaul_replay.specs.declared.injected.InjectedFault.TheVariants as injected
 use Rattle.top_call.specs.declared.status.LineWhy.TheVariants.{Doc}
 use Rattle.top_call.specs.declared.status.Status.{Status}
 use Rattle.top_call.specs.declared.status.Status.TheVariants.{Done, BadDocument, BadCapture, ReadFault, WriteFault, NoMemory, TooLong}
@@ -17,6 +19,12 @@ abbrev pub ending_of : Result (Unit {0}) SinkFault → Status → Status
 ending_of (Ok _) status = status
 ending_of (Err sink.Failed) status = WriteFault
 ending_of (Err sink.NoMemory) status = NoMemory
+
+-- what becomes of a document's events was written, or was not
+abbrev pub injected_status : Result (Unit {0}) InjectedFault → Status
+injected_status (Ok _) = Done
+injected_status (Err injected.WriteFault) = WriteFault
+injected_status (Err injected.NoMemory) = NoMemory
 
 -- a document was not read
 abbrev pub unread_status : DocFault → Status

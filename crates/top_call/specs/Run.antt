@@ -7,7 +7,7 @@ use Rattle.fh_base.specs.Told.{WritesFront}
 use Rattle.fh_document.specs.Document.{document_of}
 use Rattle.replay_loop.specs.Laws.{IsSound}
 use Rattle.top_call.specs.declared.status.Status.{Status}
-use Rattle.top_call.specs.declared.status.Status.TheVariants.{Done, BadWords, BadDocument, BadCapture, ReadFault, WriteFault, NoMemory, TooLong, CheckFails, NoFit}
+use Rattle.top_call.specs.declared.status.Status.TheVariants.{Done, BadWords, BadDocument, BadCapture, ReadFault, WriteFault, NoMemory, TooLong, CheckFails, BadPcap, NoFit}
 use Rattle.top_call.specs.Answers.{Answer, asked, is_reading}
 
 -- the most bytes of an input
@@ -31,6 +31,7 @@ abbrev pub IsRefusal : Status → Type 0
 IsRefusal BadWords = Unit {0}
 IsRefusal (BadDocument line why) = Unit {0}
 IsRefusal (BadCapture place why) = Unit {0}
+IsRefusal (BadPcap refusal) = Unit {0}
 IsRefusal status = ⊥
 
 -- the statuses that stand behind a whole text

@@ -3,6 +3,8 @@ use Rattle.std.specs.Prelude.{ℕ, List, [], ◌++◌, codes, decimal}
 use Rattle.capture_records.specs.declared.refusals.CaptureWhy.{CaptureWhy}
 use Rattle.capture_records.specs.Refusals.{name_of as capture_name}
 use Rattle.fh_document.specs.Refusals.{name_of}
+use Rattle.pcap_frames.specs.declared.refusals.PcapRefusal.{PcapRefusal}
+use Rattle.pcap_frames.specs.Refusals.{name_of as pcap_name}
 use Rattle.text_lines.specs.Words.{spaced_signed_text}
 use Rattle.window_config.specs.declared.relations.Failing.{Failing}
 use Rattle.window_config.specs.Relations.{name_of as relation_name}
@@ -11,7 +13,7 @@ use Rattle.window_plan.specs.Names.{name_of as window_name}
 use Rattle.top_call.specs.declared.status.LineWhy.{LineWhy}
 use Rattle.top_call.specs.declared.status.LineWhy.TheVariants.{Doc}
 use Rattle.top_call.specs.declared.status.Status.{Status}
-use Rattle.top_call.specs.declared.status.Status.TheVariants.{Done, BadWords, BadDocument, BadCapture, ReadFault, WriteFault, NoMemory, TooLong, CheckFails, NoFit}
+use Rattle.top_call.specs.declared.status.Status.TheVariants.{Done, BadWords, BadDocument, BadCapture, ReadFault, WriteFault, NoMemory, TooLong, CheckFails, BadPcap, NoFit}
 
 -- the exit status
 abbrev pub code_of : Status → ℕ
@@ -24,6 +26,7 @@ code_of WriteFault = 6
 code_of NoMemory = 7
 code_of TooLong = 8
 code_of (CheckFails failing) = 9
+code_of (BadPcap refusal) = 10
 code_of (NoFit refusal) = 11
 
 -- a reason's name
@@ -46,6 +49,10 @@ failing_line f = codes "fronthaul: check fails " ++ relation_name f.relation ++ 
 unfoldable pub no_fit_line : Refusal → List ℕ
 no_fit_line r = codes "fronthaul: no fit " ++ window_name r.window ++ spaced_signed_text r.left ++ spaced_signed_text r.right ++ codes "\n"
 
+-- the line of a pcap file that is refused, with the byte where its record begins
+abbrev pub pcap_line : PcapRefusal → List ℕ
+pcap_line r = codes "fronthaul: pcap at " ++ decimal r.place ++ codes ": " ++ pcap_name r.why ++ codes "\n"
+
 -- the line on standard error
 abbrev pub line_of : Status → List ℕ
 line_of Done = []
@@ -57,4 +64,5 @@ line_of WriteFault = codes "fronthaul: write fault\n"
 line_of NoMemory = codes "fronthaul: no memory\n"
 line_of TooLong = codes "fronthaul: input too long\n"
 line_of (CheckFails failing) = failing_line failing
+line_of (BadPcap refusal) = pcap_line refusal
 line_of (NoFit refusal) = no_fit_line refusal

@@ -7,6 +7,7 @@ ghost use Rattle.top_call.specs.Run.{Performs};
 mod capture;
 mod fit;
 mod generate;
+mod pcap;
 mod replay;
 mod show;
 mod summary;
@@ -18,6 +19,7 @@ use command_words::Command;
 use fh_base::Sink;
 use fit::write_fit;
 use generate::write_document;
+use pcap::{capture_frames, inject_frames};
 use replay::write_report;
 use show::show_capture;
 use std::alloc::Global;
@@ -34,7 +36,9 @@ pub(crate) fn reads(command: Command) -> bool
         | Command::Capture
         | Command::Show { .. }
         | Command::Windows
-        | Command::Fit => true,
+        | Command::Fit
+        | Command::Pcap { .. }
+        | Command::PcapCapture { .. } => true,
         Command::Generate { .. } => false,
     }
 }
@@ -53,5 +57,7 @@ pub(crate) fn perform<K: Sink>(alloc: Global, command: Command, bytes: &[u8], ou
         Command::Windows => write_windows(alloc, bytes, out),
         Command::Fit => write_fit(alloc, bytes, out),
         Command::Generate { seed, slots } => write_document(alloc, seed, slots, out),
+        Command::Pcap { side, start } => inject_frames(side, start, bytes, out),
+        Command::PcapCapture { side, start } => capture_frames(side, start, bytes, out),
     }
 }

@@ -1,10 +1,11 @@
 // How a run ends, by what its last step answered.
 ghost use Rattle.std.specs.Prelude.{◌≡◌};
-ghost use Rattle.top_call.specs.Endings.{ending_of, source_status, unread_status};
+ghost use Rattle.top_call.specs.Endings.{ending_of, injected_status, source_status, unread_status};
 
 use crate::status::{LineWhy, Status};
 use fh_base::{ReadAllFault, SinkFault};
 use fh_document::DocFault;
+use fronthaul_replay::InjectedFault;
 
 /// How a run ends whose whole text was to be written, and which then ends with `status`.
 pub(crate) fn ending_of(written: Result<(), SinkFault>, status: Status) -> Status
@@ -14,6 +15,17 @@ pub(crate) fn ending_of(written: Result<(), SinkFault>, status: Status) -> Statu
         Ok(()) => status,
         Err(SinkFault::Failed) => Status::WriteFault,
         Err(SinkFault::NoMemory) => Status::NoMemory,
+    }
+}
+
+/// How a run ends that was to write what becomes of a document's events.
+pub(crate) fn injected_status(written: Result<(), InjectedFault>) -> Status
+    ensures { result ≡ injected_status written }
+{
+    match written {
+        Ok(()) => Status::Done,
+        Err(InjectedFault::WriteFault) => Status::WriteFault,
+        Err(InjectedFault::NoMemory) => Status::NoMemory,
     }
 }
 

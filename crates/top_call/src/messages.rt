@@ -3,11 +3,12 @@ ghost use Rattle.std.specs.Prelude.{◌≡◌, ◌≤◌, length, OnOk};
 ghost use Rattle.std.specs.Io.KnownBytes.{append_known};
 ghost use Rattle.fh_base.specs.Causes.{HasSinkCause};
 ghost use Rattle.fh_base.specs.Told.{WritesFront};
-ghost use Rattle.top_call.specs.Statuses.{capture_line, failing_line, line_of, no_fit_line, refusal_line};
+ghost use Rattle.top_call.specs.Statuses.{capture_line, failing_line, line_of, no_fit_line, pcap_line, refusal_line};
 
 use crate::status::{LineWhy, Status};
 use capture_records::CaptureWhy;
 use fh_base::{Sink, SinkFault, write_all_to};
+use pcap_frames::PcapRefusal;
 use text_lines::Line;
 use window_config::Failing;
 use window_plan::NoFit;
@@ -36,6 +37,7 @@ fn line_of(status: Status) -> Line
         Status::NoMemory => literal(b"fronthaul: no memory\n"),
         Status::TooLong => literal(b"fronthaul: input too long\n"),
         Status::CheckFails(failing) => failing_line(failing),
+        Status::BadPcap(refusal) => pcap_line(refusal),
         Status::NoFit(refusal) => no_fit_line(refusal),
     }
 }
@@ -73,6 +75,19 @@ fn capture_line(place: usize, why: CaptureWhy) -> Line
     text.number(place as u64);
     text.text(b": ");
     text.text(why.name().as_bytes());
+    text.text(b"\n");
+    text
+}
+
+/// Where a pcap file is refused, and why.
+fn pcap_line(refusal: PcapRefusal) -> Line
+    ensures { result ≡ pcap_line refusal }
+{
+    let mut text = Line::new();
+    text.text(b"fronthaul: pcap at ");
+    text.number(refusal.place as u64);
+    text.text(b": ");
+    text.text(refusal.why.name().as_bytes());
     text.text(b"\n");
     text
 }

@@ -3,6 +3,7 @@ ghost use Rattle.std.specs.Prelude.{◌≡◌};
 
 use capture_records::CaptureWhy;
 use fh_document::DocWhy;
+use pcap_frames::PcapRefusal;
 use window_config::Failing;
 use window_plan::NoFit;
 
@@ -34,6 +35,8 @@ pub enum Status {
     TooLong,
     /// A relation of the document's windows fails, the first that does. The whole text was written.
     CheckFails(Failing),
+    /// A pcap file is refused. Nothing was written.
+    BadPcap(PcapRefusal),
     /// No windows fit the document's network, the first that do not. The whole text was written.
     NoFit(NoFit),
 }
@@ -55,6 +58,7 @@ impl Status {
             Status::NoMemory => 7,
             Status::TooLong => 8,
             Status::CheckFails(_) => 9,
+            Status::BadPcap(_) => 10,
             Status::NoFit(_) => 11,
         }
     }

@@ -5,11 +5,11 @@ ghost use Rattle.fh_document.specs.Proper.{IsDocument};
 ghost use Rattle.top_call.specs.Answers.{of_document, replayed};
 ghost use Rattle.top_call.specs.Run.{Performs};
 
-use crate::endings::unread_status;
+use crate::endings::{injected_status, unread_status};
 use crate::status::Status;
 use fh_base::Sink;
 use fh_document::{Document, read};
-use fronthaul_replay::{InjectedFault, replay_injected};
+use fronthaul_replay::replay_injected;
 use std::alloc::Global;
 
 /// Reads a document and writes its report.
@@ -27,9 +27,5 @@ fn put_report<K: Sink>(alloc: Global, document: &Document, out: &mut K) -> Statu
     requires { IsDocument document.now }
     ensures { Performs (replayed document.now) (K.written out.old) (K.written out.new) (K.faults out.old) (K.faults out.new) result }
 {
-    match replay_injected(alloc, document, out) {
-        Ok(()) => Status::Done,
-        Err(InjectedFault::WriteFault) => Status::WriteFault,
-        Err(InjectedFault::NoMemory) => Status::NoMemory,
-    }
+    injected_status(replay_injected(alloc, document, out))
 }
