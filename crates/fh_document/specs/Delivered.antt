@@ -26,6 +26,10 @@ is_like a b = (way_number a.side == way_number b.side) && ((class_number a.class
 abbrev pub has_like : Delivery → List Delivery → Bool
 has_like d = list_any (is_like d)
 
--- a number for each frame
+-- a number of its own for the k-th frame of a class on a way
+abbrev pub number_of : Side → Class3 → ℕ → ℕ
+number_of side class k = 6 * k + (3 * way_number side + class_number class)
+
+-- the number of the frame that it speaks of
 abbrev pub frame_number : Delivery → ℕ
-frame_number d = 6 * d.k + (3 * way_number d.side + class_number d.class)
+frame_number d = number_of d.side d.class d.k

@@ -1,6 +1,6 @@
 // What becomes of frames that are sent: how many copies of each arrive, and when.
 ghost use Rattle.std.specs.Prelude.{◌≡◌, ◌<◌};
-ghost use Rattle.fh_document.specs.Delivered.{way_number, class_number};
+ghost use Rattle.fh_document.specs.Delivered.{way_number, class_number, number_of};
 
 use air_source::Side;
 use arrayvec::ArrayVec;
@@ -106,15 +106,11 @@ fn class_number(class: Class3) -> u64
     }
 }
 
-impl Delivery {
-    ghost use Rattle.fh_document.specs.Delivered.{frame_number};
-
-    /// A number of its own for each frame.
-    fn frame_number(&self) -> u64
-        ensures { result ≡ frame_number self.now }
-    {
-        6 * u64::from(self.k) + (3 * way_number(self.side) + class_number(self.class))
-    }
+/// A number of its own for each frame: of the `k`-th of its class that is sent to a unit.
+pub fn frame_number(side: Side, class: Class3, k: u32) -> u64
+    ensures { result ≡ number_of side class k }
+{
+    6 * u64::from(k) + (3 * way_number(side) + class_number(class))
 }
 
 /// Deliveries in the order of their lines, and the numbers of their frames in order, so that a frame is found at once. Contracts see
@@ -163,7 +159,7 @@ impl Deliveries {
         ensures new { IfOk result (λ new. new ≡ not (has_like delivery self.old)) }
         ensures items { IfOk result (λ new. self.new ≡ (if new then self.old ++ delivery ∷ [] else self.old)) }
     {
-        let number = delivery.frame_number();
+        let number = frame_number(delivery.side, delivery.class, delivery.k);
         match self.numbers.insert(number) {
             Ok(true) => {}
             Ok(false) => return Ok(false),

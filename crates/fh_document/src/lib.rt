@@ -24,7 +24,7 @@ mod reading;
 mod refusals;
 mod words;
 
-pub use delivered::{Class3, Copies, Delivery, ListFull};
+pub use delivered::{Class3, Copies, Delivery, ListFull, frame_number};
 pub use document::{Comps, Document, Injection, Measure, Transits};
 pub use generating::write;
 pub use reading::{parse, read};
