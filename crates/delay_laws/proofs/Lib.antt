@@ -1,0 +1,17 @@
+pub mod Arithmetic
+pub mod Lists
+pub mod Exchanges
+pub mod Phases
+pub mod Answering
+pub mod Asking
+pub mod Running
+pub mod Runs
+pub mod Sending
+pub mod Ticking
+pub mod Standing
+pub mod Carried
+pub mod Settling
+pub mod Keeping
+pub mod Ending
+pub mod Whole
+pub mod Worked
