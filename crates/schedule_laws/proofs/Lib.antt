@@ -1,0 +1,11 @@
+pub mod RangeLemmas
+pub mod ClashLemmas
+pub mod AcceptedLemmas
+pub mod PlanLemmas
+pub mod ListLemmas
+pub mod TimeLemmas
+pub mod PackLemmas
+pub mod SentLemmas
+pub mod ReadingLemmas
+pub mod LineLemmas
+pub mod CommandLemmas

@@ -1,0 +1,35 @@
+-- The frame that a frameId means near its own time, and when copies come.
+use Rattle.std.proofs.Common.{◌≡◌, ℕ, ℤ, pos, neg_ℤ, ◌*◌, ◌<◌, ◌≤◌, ◌+ℤ◌, ◌-ℤ◌, ◌≤ℤ◌, ◌<ℤ◌, min, refl, sym, ◌∙◌, arith}
+use Rattle.std.specs.Int.{int_div_euclid, int_rem_euclid}
+use Rattle.std.proofs.lemmas.Int.{ints}
+use Rattle.fh_time.specs.Frame.{absolute_frame, first_frame, frame_start}
+use Rattle.fh_time.proofs.Euclid.{parts_256, resolved, one_frame}
+
+pos_same : (m n : ℕ) → pos m ≡ pos n → m ≡ n
+pos_same m n e = omega (arith, ints, e)
+
+-- a frame's low 8 bits are below 256
+pub id_below : (frame : ℤ) (id : ℕ) → pos id ≡ int_rem_euclid frame (pos 256) → id < 256
+id_below frame id e =
+    let parts = parts_256 frame in
+    let same = pos_same id parts.0 (e ∙ parts.2) in
+    omega (arith, same, parts.1)
+
+-- near to its start a frame is the one that its low 8 bits mean
+pub frame_is : (id : ℕ) (at frame : ℤ) → pos id ≡ int_rem_euclid frame (pos 256) → (at -ℤ pos 1966080000000) ≤ℤ frame_start frame
+    → frame_start frame <ℤ (at +ℤ pos 1966080000000) → absolute_frame id at ≡ frame
+unfolding absolute_frame
+frame_is id at frame e low high =
+    let found = resolved id at (int_div_euclid (at +ℤ pos 15359999999) (pos 15360000000)) (int_rem_euclid (pos id -ℤ first_frame at) (pos 256)) (id_below frame id e) refl refl in
+    one_frame id at (first_frame at +ℤ int_rem_euclid (pos id -ℤ first_frame at) (pos 256)) frame found (record { id_is = sym e; low = low; high = high })
+
+-- a copy of the i-th frame of a symbol: `most` and `least` before the symbol are the ends of the sending window
+pub copy_from : (s most least fast at : ℤ) (wait : ℕ) → (((s +ℤ neg_ℤ most) +ℤ pos wait) +ℤ fast) ≤ℤ at → (s -ℤ at) ≤ℤ (most -ℤ fast)
+copy_from s most least fast at wait h = omega (arith, ints, h)
+
+pub copy_to : (s most least slow at : ℤ) (wait spread : ℕ) → least +ℤ pos spread ≡ most → wait ≤ spread → at ≤ℤ (((s +ℤ neg_ℤ most) +ℤ pos wait) +ℤ slow)
+    → (least -ℤ slow) ≤ℤ (s -ℤ at)
+copy_to s most least slow at wait spread e w h = omega (arith, ints, e, w, h)
+
+pub wait_most : (i gap spread : ℕ) → min (i * gap) spread ≤ spread
+wait_most i gap spread = omega arith

@@ -1,0 +1,13 @@
+//! Laws of a plan that is sent: where the windows pass the check and every frame comes within T12, each planned resource element
+//! is claimed and radiates as the plan says, whatever is repeated, reordered or delayed.
+//!
+//! Each law is the contract of a function that does nothing. All rest on this project's profile of O-RAN.WG4.CUS.
+#![tactic(auto)]
+
+ghost use Rattle.schedule_laws.specs.Commands.{EachIsCommandedOnce};
+
+/// The first copy of each planned command is Accepted and each further one is Repeat, in whatever order they come; what is claimed
+/// in the end is what the lines of the plan name.
+pub fn each_is_commanded_once()
+    ensures { EachIsCommandedOnce }
+{}
