@@ -24,7 +24,7 @@ use Rattle.plan_tests.proofs.SortLemmas.{filter_same, filter_and}
 
 -- ---- what passes a test
 
-filter_in : {X : Type 0} (t : X → Bool) (xs : List X) (x : X) → IsIn x xs → t x ≡ true → IsIn x (filter t xs)
+pub filter_in : {X : Type 0} (t : X → Bool) (xs : List X) (x : X) → IsIn x xs → t x ≡ true → IsIn x (filter t xs)
 filter_in t [] x m is = absurd m
 filter_in {X = X} t (y ∷ xs) x m is = go (t y) refl m (filter_in t xs x)
   where
@@ -34,7 +34,7 @@ filter_in {X = X} t (y ∷ xs) x m is = go (t y) refl m (filter_in t xs x)
     go false e (inl here) rest = (let f = sym (ap t here ∙ e) ∙ is in cc)
     go false e (inr there) rest = rest there is
 
-in_filter : {X : Type 0} (t : X → Bool) (xs : List X) (x : X) → IsIn x (filter t xs) → IsIn x xs × (t x ≡ true)
+pub in_filter : {X : Type 0} (t : X → Bool) (xs : List X) (x : X) → IsIn x (filter t xs) → IsIn x xs × (t x ≡ true)
 in_filter t [] x m = absurd m
 in_filter {X = X} t (y ∷ xs) x m = go (t y) refl m (in_filter t xs x)
   where

@@ -11,3 +11,8 @@ pub mod RunLemmas
 pub mod SortLemmas
 pub mod WalkLemmas
 pub mod EndpointLemmas
+pub mod SweepLemmas
+pub mod SymbolLemmas
+pub mod OrderedLemmas
+pub mod ListedLemmas
+pub mod PartLemmas

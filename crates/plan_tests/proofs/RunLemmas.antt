@@ -22,13 +22,13 @@ use Rattle.plan_tests.proofs.ClashLemmas.{slot_own, slot_is}
 pub slot_total : IsTotalOrder slot_cmp
 slot_total = then_total (on_total (λ (s : Slot). s.frame) int_cmp_total) (then_total (on_total (λ (s : Slot). s.subframe) nat_cmp_total) (on_total (λ (s : Slot). s.slot) nat_cmp_total))
 
-nat_equal : (x y : ℕ) → nat_cmp x y ≡ Equal → x ≡ y
+pub nat_equal : (x y : ℕ) → nat_cmp x y ≡ Equal → x ≡ y
 nat_equal x y h = by_ranked (x < y) (x ≡ y) (y < x) (nat_cmp x y) (ranked x y (nat_cmp x y) refl) (λ e l. cc) (λ e same. same) (λ e l. cc)
 
-int_equal : (x y : ℤ) → int_cmp x y ≡ Equal → x ≡ y
+pub int_equal : (x y : ℤ) → int_cmp x y ≡ Equal → x ≡ y
 int_equal x y h = by_ranked (x <ℤ y) (x ≡ y) (y <ℤ x) (int_cmp x y) (int_ranked x y (int_cmp x y) refl) (λ e l. cc) (λ e same. same) (λ e l. cc)
 
-then_equal : (a b : Ordering) → ordering_then a b ≡ Equal → (a ≡ Equal) × (b ≡ Equal)
+pub then_equal : (a b : Ordering) → ordering_then a b ≡ Equal → (a ≡ Equal) × (b ≡ Equal)
 then_equal Less b h = cc
 then_equal Equal b h = (refl, h)
 then_equal Greater b h = cc

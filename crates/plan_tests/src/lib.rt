@@ -2,5 +2,6 @@
 #![tactic(auto)]
 
 mod judging;
+mod parts;
 mod placing;
 mod sorting;

@@ -1,0 +1,143 @@
+-- Lists in order, stable orders, and when two such lists are the same.
+use Rattle.std.proofs.Common.{◌≡◌, ℕ, zero, suc, ◌+◌, ◌<◌, ◌≤◌, ◌⊎◌, inl, inr, Bool, true, false, not, ◌&&◌, if◌then◌else◌, List, [], ◌∷◌, length, filter, map, get_or, refl, ap, ap₂, sym, ◌∙◌, subst, true≢false, arith}
+use Rattle.std.specs.List.{AllByRecursion}
+use Rattle.std.specs.List.Sorted.{IsSortedBy, ties}
+use Rattle.std.specs.Cmp.{IsStrictWeakOrder}
+use Rattle.std.proofs.lemmas.Bool.{cases_Bool, and_from, and_parts}
+use Rattle.std.proofs.lemmas.List.Sorted.{sorted_far}
+use Rattle.unit_model.specs.Lists.{put_in, in_order}
+use Rattle.plan_tests.specs.Parts.{AreOrderedBy}
+use Rattle.plan_tests.specs.Slots.{IsIn}
+use Rattle.plan_tests.proofs.EndpointLemmas.{filter_in, in_filter}
+use Rattle.plan_tests.proofs.RunLemmas.{all_in, all_from, all_map}
+use Rattle.plan_tests.proofs.SortLemmas.{all_index, filter_and, filter_same}
+
+pub ordered_from : {X : Type 0} (lt : X → X → Bool) → IsStrictWeakOrder lt → (xs : List X) → IsSortedBy lt xs → AreOrderedBy lt xs
+ordered_from lt o [] h = tt
+ordered_from lt o (p ∷ ps) h = (
+  all_index (λ q. lt q p ≡ false) ps (λ k d below. sorted_far lt o (p ∷ ps) h 0 (suc k) d (omega arith) (omega (arith, below))),
+  ordered_from lt o ps (λ k d low high.
+      let e : suc k + 1 ≡ suc (k + 1) = omega arith in
+      subst (λ (n : ℕ). lt (get_or (p ∷ ps) n d) (get_or ps k d) ≡ false) e (h (suc k) d (omega arith) (omega (arith, high)))),
+)
+
+filter_keeps : {X : Type 0} (P : X → Type 0) (t : X → Bool) (xs : List X) → AllByRecursion P xs → AllByRecursion P (filter t xs)
+filter_keeps P t xs all = all_from P (filter t xs) (λ x m. all_in P xs x all (in_filter t xs x m).0)
+
+pub ordered_filter : {X : Type 0} (lt : X → X → Bool) (t : X → Bool) (xs : List X) → AreOrderedBy lt xs → AreOrderedBy lt (filter t xs)
+ordered_filter lt t [] h = tt
+ordered_filter {X = X} lt t (x ∷ xs) h = go (t x) (ordered_filter lt t xs h.1)
+  where
+    go : (b : Bool) → AreOrderedBy lt (filter t xs) → AreOrderedBy lt (let ys : List X = if b then x ∷ filter t xs else filter t xs in ys)
+    go true r = (filter_keeps (λ q. lt q x ≡ false) t xs h.0, r)
+    go false r = r
+
+-- another test that says no more of its elements
+pub ordered_weaker : {X : Type 0} (a b : X → X → Bool) (P : X → Type 0) → ((x y : X) → P x → P y → a y x ≡ false → b y x ≡ false) → (xs : List X) → AllByRecursion P xs → AreOrderedBy a xs
+    → AreOrderedBy b xs
+ordered_weaker a b P h [] all o = tt
+ordered_weaker a b P h (x ∷ xs) all o = (all_from (λ q. b q x ≡ false) xs (λ q m. h x q all.0 (all_in P xs q all.1 m) (all_in (λ y. a y x ≡ false) xs q o.0 m)), ordered_weaker a b P h xs all.1 o.1)
+
+-- ---- two lists
+
+not_is : (b : Bool) → b ≡ false → not b ≡ true
+not_is b e = ap not e
+
+tied_own : {X : Type 0} (lt : X → X → Bool) → IsStrictWeakOrder lt → (x : X) → ties lt x x ≡ true
+tied_own lt o x = elim (cases_Bool (lt x x)) [
+  | inl t ↦ absurd (true≢false (sym t ∙ o.one_way x x t))
+  | inr f ↦ and_from (not (lt x x)) _ (not_is _ f) (not_is _ f)
+]
+
+kept_first : {X : Type 0} (t : X → Bool) (x : X) (xs : List X) → t x ≡ true → filter t (x ∷ xs) ≡ x ∷ filter t xs
+kept_first {X = X} t x xs e = ap (λ (b : Bool). let ys : List X = if b then x ∷ filter t xs else filter t xs in ys) e
+
+cons_first : {X : Type 0} (x y : X) (xs ys : List X) → x ∷ xs ≡ y ∷ ys → (x ≡ y) × (xs ≡ ys)
+cons_first x y xs ys h = (cc, cc)
+
+first_behind : {X : Type 0} (lt : X → X → Bool) (x y : X) (ys : List X) → AllByRecursion (λ q. lt q y ≡ false) ys → lt y y ≡ false → IsIn x (y ∷ ys) → lt x y ≡ false
+first_behind lt x y ys all own m = elim m [
+  | inl here ↦ ap (λ z. lt z y) here ∙ own
+  | inr there ↦ all_in (λ q. lt q y ≡ false) ys x all there
+]
+
+-- they are the same, where those that tie are so
+pub ordered_same : {X : Type 0} (lt : X → X → Bool) → IsStrictWeakOrder lt → (xs ys : List X) → AreOrderedBy lt xs → AreOrderedBy lt ys
+    → ((x : X) → filter (ties lt x) xs ≡ filter (ties lt x) ys) → xs ≡ ys
+ordered_same lt o [] [] a b same = refl
+ordered_same lt o [] (y ∷ ys) a b same = (let e = same y ∙ kept_first (ties lt y) y ys (tied_own lt o y) in cc)
+ordered_same lt o (x ∷ xs) [] a b same = (let e = sym (kept_first (ties lt x) x xs (tied_own lt o x)) ∙ same x in cc)
+ordered_same {X = X} lt o (x ∷ xs) (y ∷ ys) a b same =
+    let own = λ (z : X). off (lt z z) (and_parts (not (lt z z)) _ (tied_own lt o z)).0 in
+    let x_in : IsIn x (y ∷ ys) = (in_filter (ties lt x) (y ∷ ys) x (subst (IsIn x) (same x) (filter_in (ties lt x) (x ∷ xs) x (inl refl) (tied_own lt o x)))).0 in
+    let y_in : IsIn y (x ∷ xs) = (in_filter (ties lt y) (x ∷ xs) y (subst (IsIn y) (sym (same y)) (filter_in (ties lt y) (y ∷ ys) y (inl refl) (tied_own lt o y)))).0 in
+    let tied : ties lt x y ≡ true = and_from (not (lt x y)) _ (not_is _ (first_behind lt x y ys b.0 (own y) x_in)) (not_is _ (first_behind lt y x xs a.0 (own x) y_in)) in
+    let heads = cons_first x y (filter (ties lt x) xs) (filter (ties lt x) ys) (sym (kept_first (ties lt x) x xs (tied_own lt o x)) ∙ same x ∙ kept_first (ties lt x) y ys tied) in
+    ap₂ (λ (z : X) (zs : List X). z ∷ zs) heads.0 (ordered_same lt o xs ys a.1 b.1 (λ z. tail z (ties lt z x) refl heads.0 (same z)))
+  where
+    off : (c : Bool) → not c ≡ true → c ≡ false
+    off true h = cc
+    off false h = refl
+
+    tail : (z : X) (t : Bool) → ties lt z x ≡ t → x ≡ y → filter (ties lt z) (x ∷ xs) ≡ filter (ties lt z) (y ∷ ys) → filter (ties lt z) xs ≡ filter (ties lt z) ys
+    tail z true e xy h = (cons_first x y (filter (ties lt z) xs) (filter (ties lt z) ys)
+        (sym (kept_first (ties lt z) x xs e) ∙ h ∙ kept_first (ties lt z) y ys (ap (ties lt z) (sym xy) ∙ e))).1
+    tail z false e xy h =
+        sym (ap (λ (b : Bool). let us : List X = if b then x ∷ filter (ties lt z) xs else filter (ties lt z) xs in us) e) ∙ h
+        ∙ ap (λ (b : Bool). let us : List X = if b then y ∷ filter (ties lt z) ys else filter (ties lt z) ys in us) (ap (ties lt z) (sym xy) ∙ e)
+
+-- ---- by insertion
+
+put_all : {X : Type 0} (below : X → X → Bool) (P : X → Type 0) (x : X) (xs : List X) → P x → AllByRecursion P xs → AllByRecursion P (put_in below x xs)
+unfolding put_in
+put_all below P x [] px all = (px, tt)
+put_all {X = X} below P x (y ∷ ys) px all = go (below y x) (put_all below P x ys px all.1)
+  where
+    go : (b : Bool) → AllByRecursion P (put_in below x ys) → AllByRecursion P (let zs : List X = if b then y ∷ put_in below x ys else x ∷ y ∷ ys in zs)
+    go true r = (all.0, r)
+    go false r = (px, all)
+
+put_ordered : {X : Type 0} (below : X → X → Bool) → IsStrictWeakOrder below → (x : X) (xs : List X) → AreOrderedBy below xs → AreOrderedBy below (put_in below x xs)
+unfolding put_in
+put_ordered below o x [] h = (tt, tt)
+put_ordered {X = X} below o x (y ∷ ys) h = go (below y x) refl (put_ordered below o x ys h.1)
+  where
+    go : (b : Bool) → below y x ≡ b → AreOrderedBy below (put_in below x ys) → AreOrderedBy below (let zs : List X = if b then y ∷ put_in below x ys else x ∷ y ∷ ys in zs)
+    go true e r = (put_all below (λ q. below q y ≡ false) x ys (o.one_way y x e) h.0, r)
+    go false e r = ((e, all_from (λ q. below q x ≡ false) ys (λ q m. o.chain q y x (all_in (λ z. below z y ≡ false) ys q h.0 m) e)), h)
+
+pub in_order_ordered : {X : Type 0} (below : X → X → Bool) → IsStrictWeakOrder below → (xs : List X) → AreOrderedBy below (in_order below xs)
+unfolding in_order
+in_order_ordered below o [] = tt
+in_order_ordered below o (x ∷ xs) = put_ordered below o x (in_order below xs) (in_order_ordered below o xs)
+
+put_keeps : {X : Type 0} (below : X → X → Bool) (t : X → Bool) → ((a b : X) → t a ≡ true → t b ≡ true → below a b ≡ false) → (x : X) (xs : List X)
+    → filter t (put_in below x xs) ≡ filter t (x ∷ xs)
+unfolding put_in
+put_keeps below t h x [] = refl
+put_keeps {X = X} below t h x (y ∷ ys) = go (below y x) refl (t x) refl (t y) refl (put_keeps below t h x ys)
+  where
+    go : (b : Bool) → below y x ≡ b → (c : Bool) → t x ≡ c → (d : Bool) → t y ≡ d → filter t (put_in below x ys) ≡ (let us : List X = if t x then x ∷ filter t ys else filter t ys in us)
+        → filter t (let zs : List X = if b then y ∷ put_in below x ys else x ∷ y ∷ ys in zs) ≡ filter t (x ∷ y ∷ ys)
+    go false e c p d q r = refl
+    go true e true p true q r = absurd (true≢false (sym e ∙ h y x q p))
+    go true e true p false q r = rw (p, q) (let s : filter t (put_in below x ys) ≡ x ∷ filter t ys = r ∙ ap (λ (b : Bool). let us : List X = if b then x ∷ filter t ys else filter t ys in us) p in s)
+    go true e false p true q r = rw (p, q) (let s : filter t (put_in below x ys) ≡ filter t ys = r ∙ ap (λ (b : Bool). let us : List X = if b then x ∷ filter t ys else filter t ys in us) p in ap (λ (zs : List X). y ∷ zs) s)
+    go true e false p false q r = rw (p, q) (let s : filter t (put_in below x ys) ≡ filter t ys = r ∙ ap (λ (b : Bool). let us : List X = if b then x ∷ filter t ys else filter t ys in us) p in s)
+
+-- those that pass a test none of which is below another stay as they were
+pub in_order_keeps : {X : Type 0} (below : X → X → Bool) (t : X → Bool) → ((a b : X) → t a ≡ true → t b ≡ true → below a b ≡ false) → (xs : List X)
+    → filter t (in_order below xs) ≡ filter t xs
+unfolding in_order
+in_order_keeps below t h [] = refl
+in_order_keeps {X = X} below t h (x ∷ xs) =
+    put_keeps below t h x (in_order below xs) ∙ ap (λ (ys : List X). let zs : List X = if t x then x ∷ ys else ys in zs) (in_order_keeps below t h xs)
+
+pub filter_map : {X Y : Type 0} (f : X → Y) (t : Y → Bool) (xs : List X) → filter t (map f xs) ≡ map f (filter (λ x. t (f x)) xs)
+filter_map f t [] = refl
+filter_map {X = X} {Y = Y} f t (x ∷ xs) = go (t (f x)) (filter_map f t xs)
+  where
+    go : (b : Bool) → filter t (map f xs) ≡ map f (filter (λ z. t (f z)) xs)
+        → (let ys : List Y = if b then f x ∷ filter t (map f xs) else filter t (map f xs) in ys) ≡ map f (let us : List X = if b then x ∷ filter (λ z. t (f z)) xs else filter (λ z. t (f z)) xs in us)
+    go true r = ap (λ (ys : List Y). f x ∷ ys) r
+    go false r = r

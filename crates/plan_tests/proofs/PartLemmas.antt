@@ -1,0 +1,412 @@
+-- The parts in their order are those of the definition.
+use Rattle.std.proofs.Common.{◌≡◌, ℕ, ℤ, pos, zero, suc, ◌+◌, ◌*◌, ◌<◌, ◌≤◌, ◌+ℤ◌, ◌*ℤ◌, ◌<ℤ◌, ◌≤ℤ◌, ◌⊎◌, inl, inr, Bool, true, false, not, ◌&&◌, ◌||◌, ◌==◌, nat_lt, cond, if◌then◌else◌, List, [], ◌∷◌, ◌++◌, filter, map, refl, ap, ap₂, sym, ◌∙◌, subst, true≢false, arith}
+use Rattle.std.specs.Int.{int_gap}
+use Rattle.std.specs.List.{AllByRecursion}
+use Rattle.std.specs.List.Sorted.{IsStableBy, ties}
+use Rattle.std.specs.Cmp.{IsTotalOrder, IsStrictWeakOrder}
+use Rattle.std.specs.Ordering.{nat_cmp, int_cmp, int_eq, on, then_cmp, is_lt, ordering_reverse, ordering_then}
+use Rattle.std.specs.declared.cmp.Ordering.{Ordering}
+use Rattle.std.specs.declared.cmp.Ordering.TheVariants.{Less, Equal, Greater}
+use Rattle.std.proofs.lemmas.Bool.{cases_Bool, and_parts, and_from, eqb-true, eq-eqb}
+use Rattle.std.proofs.lemmas.Bool.Decides.{Decides-int_eq}
+use Rattle.std.proofs.lemmas.Cmp.{by_ranked, ranked, int_ranked, nat_cmp_total, int_cmp_total, on_total, then_total, tied_itself}
+use Rattle.std.proofs.lemmas.Int.{ints}
+use Rattle.std.proofs.lemmas.List.{map-append}
+use Rattle.std.proofs.lemmas.List.Sorted.{ranks_by}
+use Rattle.fh_time.specs.Air.{air_of}
+use Rattle.fh_time.specs.Kinds.{kind_start}
+use Rattle.fh_time.specs.Numbering.{IsSlotOf, slots_of, symbols_of}
+use Rattle.fh_time.proofs.Kept.{offsets_short}
+use Rattle.window_config.specs.declared.endpoints.EndpointConfig.{EndpointConfig}
+use Rattle.unit_model.specs.Lists.{each, each_tick, in_order}
+use Rattle.unit_model.specs.Radiated.{first_clock}
+use Rattle.unit_model.specs.Sweeps.{slot_at, first_swept, frames_swept, of_slot, of_subframe, of_frame, of_endpoint as swept}
+use Rattle.unit_model.specs.Times.{end_of_time}
+use Rattle.unit_model.proofs.SweepLaws.{gap_is}
+use Rattle.unit_laws.proofs.FrameLemmas.{frames_of_symbol, symbol_short}
+use Rattle.plan_model.specs.Lines.{allocation_of}
+use Rattle.plan_model.specs.Streams.{Part, part_in, has_part, line_before, in_stream_order, symbol_parts, parts_in}
+use Rattle.plan_model.specs.declared.lines.PlannedLine.{PlannedLine}
+use Rattle.plan_tests.specs.Judging.{ArePlaced}
+use Rattle.plan_tests.specs.Parts.{stream_of, if_up, timed, listed, prb_cmp, part_cmp, part_first, AreOrderedBy, HasEndpoint}
+use Rattle.plan_tests.specs.Slots.{IsIn}
+use Rattle.plan_tests.specs.Sweeping.{Clock, clock_of, is_at, of_endpoint, IsPart, Precedes, AreOrdered}
+use Rattle.plan_tests.specs.declared.parts.TimedPart.{TimedPart}
+use Rattle.plan_tests.proofs.EndpointLemmas.{filter_in, in_filter}
+use Rattle.plan_tests.proofs.KnowLemmas.{inside_is}
+use Rattle.plan_tests.proofs.ListedLemmas.{Named, named_is, listed_at}
+use Rattle.plan_tests.proofs.OrderedLemmas.{ordered_filter, ordered_weaker, ordered_same, in_order_ordered, in_order_keeps, filter_map}
+use Rattle.plan_tests.proofs.RangeLemmas.{same_tests}
+use Rattle.plan_tests.proofs.RunLemmas.{all_in, all_from, all_map, filter_all, nat_equal, int_equal, then_equal}
+use Rattle.plan_tests.proofs.SortLemmas.{filter_and, filter_same}
+use Rattle.plan_tests.proofs.SymbolLemmas.{filter_alike, sweeps_find_all}
+
+abbrev pub ticks_in_all : ℕ
+ticks_in_all = int_gap first_clock (end_of_time +ℤ pos 1)
+
+-- ---- the order
+
+pub prb_total : IsTotalOrder prb_cmp
+prb_total = then_total (on_total (λ (p : TimedPart). p.start_prb) nat_cmp_total) (then_total (on_total (λ (p : TimedPart). p.num_prb) nat_cmp_total) (on_total (λ (p : TimedPart). p.section) nat_cmp_total))
+
+pub part_total : IsTotalOrder part_cmp
+part_total = then_total (on_total (λ (p : TimedPart). p.start.0) int_cmp_total) (then_total (on_total (λ (p : TimedPart). p.frame) int_cmp_total)
+    (then_total (on_total (λ (p : TimedPart). p.subframe) nat_cmp_total) (then_total (on_total (λ (p : TimedPart). p.slot) nat_cmp_total)
+    (then_total (on_total (λ (p : TimedPart). p.symbol) nat_cmp_total) prb_total))))
+
+pub part_ranks : IsStrictWeakOrder part_first
+part_ranks = ranks_by part_total (λ (p : TimedPart). p)
+
+abbrev prb_first : TimedPart → TimedPart → Bool
+prb_first p q = is_lt (prb_cmp p q)
+
+prb_ranks : IsStrictWeakOrder prb_first
+prb_ranks = ranks_by prb_total (λ (p : TimedPart). p)
+
+tie_equal : {K : Type 0} {R : K → K → Ordering} (o : IsTotalOrder R) → (a b : K) → is_lt (R a b) ≡ false → is_lt (R b a) ≡ false → R a b ≡ Equal
+tie_equal {R = R} o a b h g = go (R a b) (R b a) h g (o.antisymm a b)
+  where
+    go : (x y : Ordering) → is_lt x ≡ false → is_lt y ≡ false → x ≡ ordering_reverse y → x ≡ Equal
+    go Less y h g e = cc
+    go Equal y h g e = refl
+    go Greater Less h g e = cc
+    go Greater Equal h g e = cc
+    go Greater Greater h g e = cc
+
+off : (b : Bool) → not b ≡ true → b ≡ false
+off true h = cc
+off false h = refl
+
+tied_equal : {K : Type 0} {R : K → K → Ordering} (o : IsTotalOrder R) → (a b : K) → ties (λ x y. is_lt (R x y)) a b ≡ true → R a b ≡ Equal
+tied_equal {R = R} o a b h = let w = and_parts (not (is_lt (R a b))) _ h in tie_equal o a b (off _ w.0) (off _ w.1)
+
+equal_tied : {K : Type 0} {R : K → K → Ordering} (o : IsTotalOrder R) → (a b : K) → R a b ≡ Equal → ties (λ x y. is_lt (R x y)) a b ≡ true
+equal_tied {R = R} o a b h = go (R a b) (R b a) h (o.antisymm b a)
+  where
+    go : (x y : Ordering) → x ≡ Equal → y ≡ ordering_reverse x → (not (is_lt x) && not (is_lt y)) ≡ true
+    go x y h e = rw (e, h) refl
+
+-- what is not put behind precedes
+step : (o r : Ordering) → is_lt (ordering_then o r) ≡ false → (o ≡ Less → ⊥) × (o ≡ Equal → is_lt r ≡ false)
+step Less r h = absurd (true≢false h)
+step Equal r h = ((λ e. cc), λ e. h)
+step Greater r h = ((λ e. cc), λ e. cc)
+
+precedes : (x y : TimedPart) → part_first y x ≡ false → Precedes x y
+precedes x y h =
+    let r4 : Ordering = ordering_then (nat_cmp y.symbol x.symbol) (prb_cmp y x) in
+    let r3 : Ordering = ordering_then (nat_cmp y.slot x.slot) r4 in
+    let r2 : Ordering = ordering_then (nat_cmp y.subframe x.subframe) r3 in
+    let r1 : Ordering = ordering_then (int_cmp y.frame x.frame) r2 in
+    let s0 = step (int_cmp y.start.0 x.start.0) r1 h in
+    by_ranked (y.start.0 <ℤ x.start.0) (y.start.0 ≡ x.start.0) (x.start.0 <ℤ y.start.0) (int_cmp y.start.0 x.start.0) (int_ranked y.start.0 x.start.0 _ refl)
+    (λ e l. absurd (s0.0 e))
+    (λ e same. inr (
+      sym same,
+      let s1 = step (int_cmp y.frame x.frame) r2 (s0.1 e) in
+          by_ranked (y.frame <ℤ x.frame) (y.frame ≡ x.frame) (x.frame <ℤ y.frame) (int_cmp y.frame x.frame) (int_ranked y.frame x.frame _ refl)
+          (λ e l. absurd (s1.0 e))
+          (λ e same. inr (
+            sym same,
+            let s2 = step (nat_cmp y.subframe x.subframe) r3 (s1.1 e) in
+                by_ranked (y.subframe < x.subframe) (y.subframe ≡ x.subframe) (x.subframe < y.subframe) (nat_cmp y.subframe x.subframe) (ranked y.subframe x.subframe _ refl)
+                (λ e l. absurd (s2.0 e))
+                (λ e same. inr (
+                  sym same,
+                  let s3 = step (nat_cmp y.slot x.slot) r4 (s2.1 e) in
+                      by_ranked (y.slot < x.slot) (y.slot ≡ x.slot) (x.slot < y.slot) (nat_cmp y.slot x.slot) (ranked y.slot x.slot _ refl)
+                      (λ e l. absurd (s3.0 e))
+                      (λ e same. inr (
+                        sym same,
+                        let s4 = step (nat_cmp y.symbol x.symbol) (prb_cmp y x) (s3.1 e) in
+                            by_ranked (y.symbol < x.symbol) (y.symbol ≡ x.symbol) (x.symbol < y.symbol) (nat_cmp y.symbol x.symbol) (ranked y.symbol x.symbol _ refl)
+                            (λ e l. absurd (s4.0 e)) (λ e same. omega (arith, same)) (λ e l. omega (arith, l)),
+                      ))
+                      (λ e l. inl l),
+                ))
+                (λ e l. inl l),
+          ))
+          (λ e l. inl l),
+    ))
+    (λ e l. inl l)
+
+pub all_precede : (ys : List TimedPart) → AreOrderedBy part_first ys → AreOrdered ys
+all_precede [] h = tt
+all_precede (x ∷ ys) h = (all_map (λ y. part_first y x ≡ false) (λ y. Precedes x y) (λ y f. precedes x y f) ys h.0, all_precede ys h.1)
+
+-- ---- what is known of each part
+
+pub record Fact (up : Bool) (e : EndpointConfig) (y : TimedPart) : Type 0 where
+  pub part : IsPart (clock_of e) first_clock ticks_in_all y
+  pub plain : up ≡ false → (y.start_prb ≡ 0) × (y.num_prb ≡ 0) × (y.section ≡ 0)
+
+no_prb : (up : Bool) (n : ℕ) → up ≡ false → if_up up n ≡ 0
+no_prb true n h = cc
+no_prb false n h = refl
+
+in_time : (frame start : ℤ) (offset : ℕ) → pos 1 ≤ℤ frame → frame ≤ℤ pos 99999 → offset < 92160000000 → start ≡ frame *ℤ pos 15360000000 +ℤ pos offset
+    → (first_clock ≤ℤ start) × (start <ℤ (end_of_time +ℤ pos 1))
+in_time frame start offset low high few is = (omega (arith, ints), omega (arith, ints))
+
+pub fact_is : (up : Bool) (ep : ℕ) (ps : List PlannedLine) (e : EndpointConfig) → ArePlaced ps → HasEndpoint ps ep e → (x : TimedPart) → Named up ep ps x → Fact up e x
+fact_is up ep ps e placed ends x n = subst (Fact up e) (sym n.is) (record { part = part; plain = λ h. (no_prb up _ h, no_prb up _ h, no_prb up _ h) })
+  where
+    same : n.line.endpoint ≡ e
+    same = ends n.line n.there n.ep_is
+
+    at : EndpointConfig → ℤ
+    at c = air_of c.numerology n.line.line.slot n.symbol
+
+    slot_ok : IsSlotOf n.line.endpoint.numerology n.line.line.slot
+    slot_ok = record { subframe = (placed.ranges n.line n.there).subframe; slot = (inside_is n.line (placed.inside n.line n.there)).slot }
+
+    symbol_ok : n.symbol < symbols_of n.line.endpoint.numerology
+    symbol_ok = let w = (inside_is n.line (placed.inside n.line n.there)).within in let h = n.high in omega (arith, w, h)
+
+    near : (first_swept (at n.line.endpoint) ≤ℤ n.line.line.slot.frame) × (n.line.line.slot.frame <ℤ (first_swept (at n.line.endpoint) +ℤ pos 6))
+    near = frames_of_symbol n.line.endpoint.numerology n.line.line.slot n.symbol (offsets_short n.line.endpoint.numerology) slot_ok symbol_ok
+
+    times : (first_clock ≤ℤ at n.line.endpoint) × (at n.line.endpoint <ℤ (end_of_time +ℤ pos 1))
+    times = in_time n.line.line.slot.frame (at n.line.endpoint) (n.line.line.slot.subframe * 1536000000 + kind_start n.line.endpoint.numerology.kind n.line.line.slot.slot n.symbol)
+        (placed.ranges n.line n.there).frame_low (placed.ranges n.line n.there).frame_high
+        (symbol_short n.line.endpoint.numerology n.line.line.slot n.symbol (offsets_short n.line.endpoint.numerology) slot_ok symbol_ok) refl
+
+    part : IsPart (clock_of e) first_clock ticks_in_all (timed up (part_in n.symbol n.line))
+    part = record {
+      starts = ap at same;
+      low = near.0;
+      high = near.1;
+      subframe = slot_ok.subframe;
+      slot = subst (λ (c : EndpointConfig). n.line.line.slot.slot < slots_of c.numerology) same slot_ok.slot;
+      symbol = subst (λ (c : EndpointConfig). n.symbol < symbols_of c.numerology) same symbol_ok;
+      begun = times.0;
+      ended = subst (λ (t : ℤ). at n.line.endpoint <ℤ t) (sym (gap_is first_clock (end_of_time +ℤ pos 1) (omega (arith, ints)))) times.1;
+    }
+
+-- ---- the parts of one symbol
+
+-- a part of this symbol with the order of another
+at_symbol : EndpointConfig → ℤ → ℕ → ℕ → ℕ → TimedPart → TimedPart
+at_symbol e f b l y x = record {
+  start = record { 0 = air_of e.numerology (slot_at f b l) y };
+  frame = f;
+  subframe = b;
+  slot = l;
+  symbol = y;
+  start_prb = x.start_prb;
+  num_prb = x.num_prb;
+  section = x.section;
+  size = 0;
+  line = 0;
+}
+
+nat_tied : (a b : ℕ) → a ≡ b → nat_cmp a b ≡ Equal
+nat_tied a b e = ap (nat_cmp a) (sym e) ∙ tied_itself nat_cmp_total a
+
+int_tied : (a b : ℤ) → a ≡ b → int_cmp a b ≡ Equal
+int_tied a b e = ap (int_cmp a) (sym e) ∙ tied_itself int_cmp_total a
+
+pub record AtSymbol (f : ℤ) (b l y : ℕ) (z : TimedPart) : Type 0 where
+  pub frame : z.frame ≡ f
+  pub subframe : z.subframe ≡ b
+  pub slot : z.slot ≡ l
+  pub symbol : z.symbol ≡ y
+
+at_parts : (f : ℤ) (b l y : ℕ) (z : TimedPart) → is_at f b l y z ≡ true → AtSymbol f b l y z
+at_parts f b l y z h =
+    let p = and_parts (int_eq z.frame f) ((z.subframe == b) && ((z.slot == l) && (z.symbol == y))) h in
+    let q = and_parts (z.subframe == b) ((z.slot == l) && (z.symbol == y)) p.1 in
+    let r = and_parts (z.slot == l) (z.symbol == y) q.1 in
+    record { frame = (Decides-int_eq z.frame f).0 p.0; subframe = eqb-true z.subframe b q.0; slot = eqb-true z.slot l r.0; symbol = eqb-true z.symbol y r.1 }
+
+from_parts : (f : ℤ) (b l y : ℕ) (z : TimedPart) → AtSymbol f b l y z → is_at f b l y z ≡ true
+from_parts f b l y z a =
+    and_from (int_eq z.frame f) _ ((Decides-int_eq z.frame f).1 a.frame)
+    (and_from (z.subframe == b) _ (eq-eqb z.subframe b a.subframe) (and_from (z.slot == l) _ (eq-eqb z.slot l a.slot) (eq-eqb z.symbol y a.symbol)))
+
+start_at : (e : EndpointConfig) (up : Bool) (f : ℤ) (b l y : ℕ) (z : TimedPart) → Fact up e z → AtSymbol f b l y z → z.start.0 ≡ air_of e.numerology (slot_at f b l) y
+start_at e up f b l y z fact a =
+    fact.part.starts ∙ ap (λ (i : ℤ). air_of e.numerology (slot_at i z.subframe z.slot) z.symbol) a.frame
+    ∙ ap (λ (i : ℕ). air_of e.numerology (slot_at f i z.slot) z.symbol) a.subframe
+    ∙ ap (λ (i : ℕ). air_of e.numerology (slot_at f b i) z.symbol) a.slot ∙ ap (λ (i : ℕ). air_of e.numerology (slot_at f b l) i) a.symbol
+
+-- of one symbol the order of PRBs alone decides
+one_symbol : (x z : TimedPart) → x.start.0 ≡ z.start.0 → x.frame ≡ z.frame → x.subframe ≡ z.subframe → x.slot ≡ z.slot → x.symbol ≡ z.symbol → part_cmp x z ≡ prb_cmp x z
+one_symbol x z s f b l y =
+    ap (λ (o : Ordering). ordering_then o (ordering_then (int_cmp x.frame z.frame) (ordering_then (nat_cmp x.subframe z.subframe) (ordering_then (nat_cmp x.slot z.slot) (ordering_then (nat_cmp x.symbol z.symbol) (prb_cmp x z)))))) (int_tied x.start.0 z.start.0 s)
+    ∙ ap (λ (o : Ordering). ordering_then o (ordering_then (nat_cmp x.subframe z.subframe) (ordering_then (nat_cmp x.slot z.slot) (ordering_then (nat_cmp x.symbol z.symbol) (prb_cmp x z))))) (int_tied x.frame z.frame f)
+    ∙ ap (λ (o : Ordering). ordering_then o (ordering_then (nat_cmp x.slot z.slot) (ordering_then (nat_cmp x.symbol z.symbol) (prb_cmp x z)))) (nat_tied x.subframe z.subframe b)
+    ∙ ap (λ (o : Ordering). ordering_then o (ordering_then (nat_cmp x.symbol z.symbol) (prb_cmp x z))) (nat_tied x.slot z.slot l)
+    ∙ ap (λ (o : Ordering). ordering_then o (prb_cmp x z)) (nat_tied x.symbol z.symbol y)
+
+same_place : (x z : TimedPart) → part_cmp x z ≡ Equal → (x.frame ≡ z.frame) × (x.subframe ≡ z.subframe) × (x.slot ≡ z.slot) × (x.symbol ≡ z.symbol) × (prb_cmp x z ≡ Equal)
+same_place x z h =
+    let a = then_equal (int_cmp x.start.0 z.start.0) _ h in
+    let b = then_equal (int_cmp x.frame z.frame) _ a.1 in
+    let c = then_equal (nat_cmp x.subframe z.subframe) _ b.1 in
+    let d = then_equal (nat_cmp x.slot z.slot) _ c.1 in
+    let k = then_equal (nat_cmp x.symbol z.symbol) (prb_cmp x z) d.1 in
+    (int_equal x.frame z.frame b.0, nat_equal x.subframe z.subframe c.0, nat_equal x.slot z.slot d.0, nat_equal x.symbol z.symbol k.0, k.1)
+
+tie_parts : (up : Bool) (e : EndpointConfig) (f : ℤ) (b l y : ℕ) (x z : TimedPart) → Fact up e z
+    → ties part_first (at_symbol e f b l y x) z ≡ (ties prb_first x z && is_at f b l y z)
+unfolding at_symbol
+tie_parts up e f b l y x z fact = same_tests _ _
+    (λ h. let s = same_place (at_symbol e f b l y x) z (tied_equal part_total (at_symbol e f b l y x) z h) in
+    and_from (ties prb_first x z) _ (equal_tied prb_total x z s.4)
+    (from_parts f b l y z (record { frame = sym s.0; subframe = sym s.1; slot = sym s.2; symbol = sym s.3 })))
+    (λ h. let w = and_parts (ties prb_first x z) (is_at f b l y z) h in
+    let a = at_parts f b l y z w.1 in
+    equal_tied part_total (at_symbol e f b l y x) z
+    (one_symbol (at_symbol e f b l y x) z (sym (start_at e up f b l y z fact a)) (sym a.frame) (sym a.subframe) (sym a.slot) (sym a.symbol) ∙ tied_equal prb_total x z w.0))
+
+-- ---- the order of the radio unit
+
+before_is : (p q : PlannedLine) (y : ℕ) → line_before p q ≡ prb_first (timed true (part_in y p)) (timed true (part_in y q))
+before_is p q y = go (nat_lt p.line.start_prb q.line.start_prb) (p.line.start_prb == q.line.start_prb) (nat_lt p.line.num_prb q.line.num_prb) (p.line.num_prb == q.line.num_prb)
+    (nat_lt p.line.section q.line.section) (p.line.section == q.line.section)
+  where
+    go : (a b c d u v : Bool) → (a || (b && (c || (d && (u || (v && false))))))
+        ≡ is_lt (ordering_then (cond a Less (cond b Equal Greater)) (ordering_then (cond c Less (cond d Equal Greater)) (cond u Less (cond v Equal Greater))))
+    go true b c d u v = refl
+    go false false c d u v = refl
+    go false true true d u v = refl
+    go false true false false u v = refl
+    go false true false true true v = refl
+    go false true false true false true = refl
+    go false true false true false false = refl
+
+before_ranks : (y : ℕ) → IsStrictWeakOrder line_before
+before_ranks y = record {
+  one_way = λ p q h. before_is q p y ∙ prb_ranks.one_way (t p) (t q) (sym (before_is p q y) ∙ h);
+  chain = λ p q r h g. before_is p r y ∙ prb_ranks.chain (t p) (t q) (t r) (sym (before_is p q y) ∙ h) (sym (before_is q r y) ∙ g);
+}
+  where
+    t : PlannedLine → TimedPart
+    t p = timed true (part_in y p)
+
+ordered_map : (y : ℕ) (ps : List PlannedLine) → AreOrderedBy line_before ps → AreOrderedBy prb_first (map (λ p. timed true (part_in y p)) ps)
+ordered_map y [] h = tt
+ordered_map y (p ∷ ps) h = (all_mapped ps h.0, ordered_map y ps h.1)
+  where
+    all_mapped : (qs : List PlannedLine) → AllByRecursion (λ q. line_before q p ≡ false) qs → AllByRecursion (λ z. prb_first z (timed true (part_in y p)) ≡ false) (map (λ q. timed true (part_in y q)) qs)
+    all_mapped [] a = tt
+    all_mapped (q ∷ qs) a = (sym (before_is q p y) ∙ a.0, all_mapped qs a.1)
+
+-- two that tie with one are not put before one another
+none_first : (x a b : TimedPart) → ties prb_first x a ≡ true → ties prb_first x b ≡ true → prb_first a b ≡ false
+none_first x a b h g =
+    let xa = tied_equal prb_total x a h in
+    let xb = tied_equal prb_total x b g in
+    let same : prb_cmp a b ≡ Equal = sym (prb_total.congr x a b xa) ∙ xb in
+    ap (λ (o : Ordering). is_lt o) same
+
+-- ---- all
+
+module _ (up : Bool) (e : EndpointConfig) (ep : ℕ) (lines : List PlannedLine) (ys : List TimedPart) (stable : IsStableBy part_first (map (timed up) (listed up ep lines)) ys)
+    (order : AreOrderedBy part_first ys) (placed : ArePlaced lines) (ends : HasEndpoint lines ep e) where
+  xs : List TimedPart
+  xs = map (timed up) (listed up ep lines)
+
+  x_facts : AllByRecursion (Fact up e) xs
+  unfolding xs
+  x_facts = all_from (Fact up e) (map (timed up) (listed up ep lines)) (λ x m. fact_is up ep lines e placed ends x (named_is up ep lines x m))
+
+  y_facts : AllByRecursion (Fact up e) ys
+  unfolding xs
+  y_facts = all_from (Fact up e) ys (λ y m.
+      let there : IsIn y (filter (ties part_first y) ys) = filter_in (ties part_first y) ys y m (equal_tied part_total y y (tied_itself part_total y)) in
+      all_in (Fact up e) (map (timed up) (listed up ep lines)) y x_facts (in_filter (ties part_first y) (map (timed up) (listed up ep lines)) y (subst (IsIn y) (stable y) there)).0)
+
+  symbol_stable : (f : ℤ) (b l y : ℕ) (x : TimedPart) → filter (ties prb_first x) (filter (is_at f b l y) ys) ≡ filter (ties prb_first x) (filter (is_at f b l y) xs)
+  unfolding xs
+  symbol_stable f b l y x =
+      sym (filter_and (ties prb_first x) (is_at f b l y) ys)
+      ∙ sym (filter_alike (Fact up e) (ties part_first (at_symbol e f b l y x)) (λ z. ties prb_first x z && is_at f b l y z) (λ z fact. tie_parts up e f b l y x z fact) ys y_facts)
+      ∙ stable (at_symbol e f b l y x)
+      ∙ filter_alike (Fact up e) (ties part_first (at_symbol e f b l y x)) (λ z. ties prb_first x z && is_at f b l y z) (λ z fact. tie_parts up e f b l y x z fact) (map (timed up) (listed up ep lines)) x_facts
+      ∙ filter_and (ties prb_first x) (is_at f b l y) (map (timed up) (listed up ep lines))
+
+  symbol_ordered : (f : ℤ) (b l y : ℕ) → AreOrderedBy prb_first (filter (is_at f b l y) ys)
+  symbol_ordered f b l y =
+      ordered_weaker part_first prb_first (λ z. Fact up e z × (is_at f b l y z ≡ true))
+      (λ z w a c h. let p = at_parts f b l y z a.1 in let q = at_parts f b l y w c.1 in
+      sym (ap (λ (o : Ordering). is_lt o) (one_symbol w z (start_at e up f b l y w c.0 q ∙ sym (start_at e up f b l y z a.0 p)) (q.frame ∙ sym p.frame) (q.subframe ∙ sym p.subframe)
+      (q.slot ∙ sym p.slot) (q.symbol ∙ sym p.symbol))) ∙ h)
+      (filter (is_at f b l y) ys)
+      (all_from (λ z. Fact up e z × (is_at f b l y z ≡ true)) (filter (is_at f b l y) ys) (λ z m. let r = in_filter (is_at f b l y) ys z m in (all_in (Fact up e) ys z y_facts r.0, r.1)))
+      (ordered_filter part_first (is_at f b l y) ys order)
+
+abbrev zero_part : TimedPart
+zero_part = record { start = record { 0 = pos 0 }; frame = pos 0; subframe = 0; slot = 0; symbol = 0; start_prb = 0; num_prb = 0; section = 0; size = 0; line = 0 }
+
+zero_tied : (e : EndpointConfig) (z : TimedPart) → Fact false e z → ties prb_first zero_part z ≡ true
+zero_tied e z fact =
+    let p = fact.plain refl in
+    equal_tied prb_total zero_part z
+    (ap (λ (o : Ordering). ordering_then o (ordering_then (nat_cmp 0 z.num_prb) (nat_cmp 0 z.section))) (nat_tied 0 z.start_prb (sym p.0))
+    ∙ ap (λ (o : Ordering). ordering_then o (nat_cmp 0 z.section)) (nat_tied 0 z.num_prb (sym p.1)) ∙ nat_tied 0 z.section (sym p.2))
+
+map_twice : (up : Bool) (y : ℕ) (ps : List PlannedLine) → map (timed up) (map (part_in y) ps) ≡ map (λ p. timed up (part_in y p)) ps
+map_twice up y [] = refl
+map_twice up y (p ∷ ps) = ap (λ (zs : List TimedPart). timed up (part_in y p) ∷ zs) (map_twice up y ps)
+
+pub symbol_is : (up : Bool) (e : EndpointConfig) (ep : ℕ) (lines : List PlannedLine) (ys : List TimedPart) → IsStableBy part_first (map (timed up) (listed up ep lines)) ys
+    → AreOrderedBy part_first ys → ArePlaced lines → HasEndpoint lines ep e → (f : ℤ) (b l y : ℕ)
+    → filter (is_at f b l y) ys ≡ map (timed up) (symbol_parts (stream_of up) lines ep (slot_at f b l) y)
+unfolding symbol_parts xs
+symbol_is false e ep lines ys stable order placed ends f b l y =
+    let all = λ (zs : List TimedPart) (facts : AllByRecursion (Fact false e) zs).
+    filter_all (ties prb_first zero_part) (filter (is_at f b l y) zs)
+    (all_from (λ z. ties prb_first zero_part z ≡ true) (filter (is_at f b l y) zs) (λ z m. zero_tied e z (all_in (Fact false e) zs z facts (in_filter (is_at f b l y) zs z m).0))) in
+    sym (all ys (y_facts false e ep lines ys stable order placed ends))
+    ∙ symbol_stable false e ep lines ys stable order placed ends f b l y zero_part
+    ∙ all (map (timed false) (listed false ep lines)) (x_facts false e ep lines ys stable order placed ends)
+    ∙ listed_at false ep lines f b l y
+    ∙ sym (map_twice false y (filter (λ p. has_part (stream_of false) ep (slot_at f b l) y (allocation_of p)) lines))
+symbol_is true e ep lines ys stable order placed ends f b l y =
+    let fs : List PlannedLine = filter (λ p. has_part (stream_of true) ep (slot_at f b l) y (allocation_of p)) lines in
+    ordered_same prb_first prb_ranks (filter (is_at f b l y) ys) (map (λ p. timed true (part_in y p)) (in_order line_before fs))
+    (symbol_ordered true e ep lines ys stable order placed ends f b l y)
+    (ordered_map y (in_order line_before fs) (in_order_ordered line_before (before_ranks y) fs))
+    (λ x.
+    symbol_stable true e ep lines ys stable order placed ends f b l y x
+    ∙ ap (filter (ties prb_first x)) (listed_at true ep lines f b l y)
+    ∙ filter_map (λ p. timed true (part_in y p)) (ties prb_first x) fs
+    ∙ ap (map (λ p. timed true (part_in y p)))
+    (sym (in_order_keeps line_before (λ p. ties prb_first x (timed true (part_in y p)))
+    (λ p q h g. before_is p q y ∙ none_first x (timed true (part_in y p)) (timed true (part_in y q)) h g) fs))
+    ∙ sym (filter_map (λ p. timed true (part_in y p)) (ties prb_first x) (in_order line_before fs)))
+    ∙ sym (map_twice true y (in_order line_before fs))
+
+-- ---- the sweep
+
+map_each : {X Y : Type 0} (t : X → Y) (from n : ℕ) (f : ℕ → List X) (g : ℕ → List Y) → ((k : ℕ) → g k ≡ map t (f k)) → each from n g ≡ map t (each from n f)
+unfolding each
+map_each t from zero f g h = refl
+map_each t from (suc n) f g h =
+    ap₂ (λ us vs. us ++ vs) (h from) (map_each t (from + 1) n f g h) ∙ sym (map-append t (f from) (each (from + 1) n f))
+
+map_ticks : {X Y : Type 0} (t : X → Y) (from : ℤ) (n : ℕ) (f : ℤ → List X) (g : ℤ → List Y) → ((k : ℤ) → g k ≡ map t (f k)) → each_tick from n g ≡ map t (each_tick from n f)
+unfolding each_tick
+map_ticks t from zero f g h = refl
+map_ticks t from (suc n) f g h =
+    ap₂ (λ us vs. us ++ vs) (h from) (map_ticks t (from +ℤ pos 1) n f g h) ∙ sym (map-append t (f from) (each_tick (from +ℤ pos 1) n f))
+
+if_map : {X Y : Type 0} (t : X → Y) (c : Bool) (xs : List X) (ys : List Y) → ys ≡ map t xs → (let zs : List Y = if c then ys else [] in zs) ≡ map t (let us : List X = if c then xs else [] in us)
+if_map t true xs ys h = h
+if_map t false xs ys h = refl
+
+pub parts_are : (up : Bool) (e : EndpointConfig) (ep : ℕ) (lines : List PlannedLine) (ys : List TimedPart) → IsStableBy part_first (map (timed up) (listed up ep lines)) ys
+    → AreOrderedBy part_first ys → ArePlaced lines → HasEndpoint lines ep e → ys ≡ map (timed up) (parts_in lines (stream_of up) ep e)
+unfolding parts_in swept of_frame of_subframe of_slot
+parts_are up e ep lines ys stable order placed ends =
+    sym (sweeps_find_all (clock_of e) ys first_clock ticks_in_all (all_precede ys order)
+    (all_map (Fact up e) (IsPart (clock_of e) first_clock ticks_in_all) (λ y fact. fact.part) ys (y_facts up e ep lines ys stable order placed ends)))
+    ∙ map_ticks (timed up) first_clock ticks_in_all _ (of_endpoint (clock_of e) ys) (λ s.
+    map_each (timed up) 0 6 _ _ (λ k.
+    map_each (timed up) 0 10 _ _ (λ b.
+    map_each (timed up) 0 (slots_of e.numerology) _ _ (λ l.
+    map_each (timed up) 0 (symbols_of e.numerology) _ _ (λ y.
+    if_map (timed up) (int_eq (air_of e.numerology (slot_at (first_swept s +ℤ pos k) b l) y) s) _ _
+    (symbol_is up e ep lines ys stable order placed ends (first_swept s +ℤ pos k) b l y))))))
