@@ -96,6 +96,7 @@ impl Departures {
         requires spread { self.now.spread < 2 ^ 33 }
         requires wait { wait ≤ self.now.spread }
         requires frames { frames < 2 ^ 24 }
+        ensures sum { result ≡ min (wait + frames * self.now.gap) self.now.spread }
         ensures value { (i : ℕ) → wait ≡ min (i * self.now.gap) self.now.spread
             → result ≡ min ((i + frames) * self.now.gap) self.now.spread }
         ensures small { result ≤ self.now.spread }
@@ -111,6 +112,7 @@ impl Departures {
         requires from_low { neg_ℤ (pos (2 ^ 33)) ≤ℤ self.now.from.0 }
         requires from_high { self.now.from.0 ≤ℤ pos (2 ^ 33) }
         requires wait { wait < 2 ^ 33 }
+        ensures sum { result.0 ≡ (start.0 +ℤ self.now.from.0) +ℤ pos wait }
         ensures value { (i : ℕ) → wait ≡ min (i * self.now.gap) self.now.spread → result.0 ≡ departure self.now start.0 i }
         ensures low { neg_ℤ (pos (2 ^ 57)) ≤ℤ result.0 }
         ensures high { result.0 ≤ℤ pos (2 ^ 57) }

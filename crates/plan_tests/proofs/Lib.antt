@@ -16,3 +16,5 @@ pub mod SymbolLemmas
 pub mod OrderedLemmas
 pub mod ListedLemmas
 pub mod PartLemmas
+pub mod WalkingLemmas
+pub mod MessageLemmas

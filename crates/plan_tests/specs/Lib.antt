@@ -5,3 +5,4 @@ pub mod Order
 pub mod Sweeping
 pub mod Parts
 pub mod Keys
+pub mod Walks

@@ -5,3 +5,4 @@ mod judging;
 mod parts;
 mod placing;
 mod sorting;
+mod walking;

@@ -41,7 +41,7 @@ pub(crate) struct TimedPart {
     pub(crate) start_prb: u16,
     pub(crate) num_prb: u8,
     pub(crate) section: u16,
-    pub(crate) size: usize,
+    pub(crate) size: u16,
     pub(crate) line: usize,
 }
 
@@ -77,7 +77,7 @@ fn timed(up: bool, p: &PlannedLine, symbol: u8) -> TimedPart
         start_prb: if up { p.line.start_prb } else { 0 },
         num_prb: if up { p.line.num_prb } else { 0 },
         section: if up { p.line.section } else { 0 },
-        size: section_size(&p.endpoint, p.line.num_prb),
+        size: section_size(&p.endpoint, p.line.num_prb) as u16,
         line: p.index,
     }
 }

@@ -1,0 +1,154 @@
+-- Messages part by part are the packs of the definition, with their numbers and times.
+use Rattle.std.proofs.Common.{◌≡◌, ℕ, ℤ, pos, zero, suc, ◌+◌, ◌*◌, ◌<◌, ◌≤◌, ◌+ℤ◌, Bool, true, false, ◌&&◌, ◌==◌, nat_lt, nat_le, min, if◌then◌else◌, List, [], ◌∷◌, ◌++◌, length, map, sum, refl, ap, ap₂, sym, ◌∙◌, zero-mul, add-mul, arith}
+use Rattle.std.specs.Ordering.{int_eq}
+use Rattle.std.proofs.lemmas.List.{map-append}
+use Rattle.std.proofs.lemmas.List.Sums.{sum_by-append}
+use Rattle.std.proofs.lemmas.Bool.{cases_Bool, and_parts, and_from, eqb-true, eq-eqb}
+use Rattle.std.proofs.lemmas.Bool.Decides.{Decides-int_eq}
+use Rattle.fh_time.specs.declared.values.Slot.{Slot}
+use Rattle.window_config.specs.declared.config.Config.{Config}
+use Rattle.unit_model.specs.Claims.{same_slot}
+use Rattle.plan_model.specs.Dense.{sending_of}
+use Rattle.plan_model.specs.Departures.{departure, departures_of, sent_at, start_of}
+use Rattle.plan_model.specs.Packs.{Message, Numbered, alone as message_alone, parts_of, with_part, size_of, same_symbol, takes, packs_behind, packs, frames_for, frames_before, numbered_behind, numbered}
+use Rattle.plan_model.specs.Streams.{Part, part_fields, most_parts, frames_in}
+use Rattle.plan_model.specs.declared.dense.Sending.{Sending}
+use Rattle.plan_model.specs.declared.departures.Departures.{Departures}
+use Rattle.plan_model.specs.declared.streams.Stream.{Stream}
+use Rattle.plan_tests.specs.Parts.{stream_of, timed}
+use Rattle.plan_tests.specs.Walks.{alone, takes_more, grown, wait_behind, next_to, sending_from, same_place, walk, walked}
+use Rattle.plan_tests.specs.declared.parts.TimedPart.{TimedPart}
+use Rattle.plan_tests.specs.declared.walking.Limits.{Limits}
+use Rattle.plan_tests.specs.declared.walking.OpenMessage.{OpenMessage}
+use Rattle.plan_tests.proofs.ClashLemmas.{slot_own, slot_is}
+use Rattle.plan_tests.proofs.RangeLemmas.{same_tests}
+
+-- the limits of a configuration and direction
+abbrev pub limits_of : Config → Bool → Limits
+limits_of c up = record { pack = c.pack; fragment = c.fragment; departures = departures_of c (stream_of up) }
+
+-- ---- symbols
+
+regroup : (a b c d : Bool) → (a && (b && (c && d))) ≡ ((a && (b && c)) && d)
+regroup true true c d = refl
+regroup true false c d = refl
+regroup false b c d = refl
+
+place_is : (up : Bool) (p q : Part) → same_place (timed up p) (timed up q) ≡ same_symbol part_fields p q
+place_is up p q = regroup (int_eq p.planned.line.slot.frame q.planned.line.slot.frame) (p.planned.line.slot.subframe == q.planned.line.slot.subframe)
+    (p.planned.line.slot.slot == q.planned.line.slot.slot) (p.symbol == q.symbol)
+
+-- parts of one symbol are so to a third alike
+symbol_alike : (p q r : Part) → same_symbol part_fields p q ≡ true → same_symbol part_fields p r ≡ same_symbol part_fields q r
+symbol_alike p q r h =
+    let a = and_parts (same_slot p.planned.line.slot q.planned.line.slot) (p.symbol == q.symbol) h in
+    ap₂ (λ (s : Slot) (y : ℕ). same_slot s r.planned.line.slot && (y == r.symbol)) (slot_is p.planned.line.slot q.planned.line.slot a.0) (eqb-true p.symbol q.symbol a.1)
+
+before_alike : (frames : Message Part → ℕ) (m n : Message Part) (earlier : List (Message Part)) → ((r : Part) → same_symbol part_fields m.first r ≡ same_symbol part_fields n.first r)
+    → frames_before part_fields frames m earlier ≡ frames_before part_fields frames n earlier
+unfolding frames_before
+before_alike frames m n [] h = refl
+before_alike frames m n (k ∷ earlier) h =
+    ap₂ (λ (t : Bool) (x : ℕ). let y : ℕ = if t then frames k + x else 0 in y) (h k.first) (before_alike frames m n earlier h)
+
+-- ---- bytes and parts
+
+sum_more : (f : Part → ℕ) (ps : List Part) (p : Part) → sum (map f (ps ++ p ∷ [])) ≡ sum (map f ps) + f p
+sum_more f ps p =
+    let e : sum (map f ps ++ f p ∷ []) ≡ sum (map f ps) + sum (f p ∷ []) = sum_by-append (λ x. x) (map f ps) (f p ∷ []) in
+    ap sum (map-append f ps (p ∷ [])) ∙ e ∙ omega arith
+
+length_more : {X : Type 0} (xs : List X) (x : X) → length (xs ++ x ∷ []) ≡ length xs + 1
+length_more [] x = refl
+length_more (y ∷ xs) x = let e = length_more xs x in omega (arith, e)
+
+-- ---- times
+
+wait_more : (before frames gap spread : ℕ) → min (min (before * gap) spread + frames * gap) spread ≡ min ((frames + before) * gap) spread
+wait_more before frames gap spread =
+    let e : (frames + before) * gap ≡ frames * gap + before * gap = add-mul frames before gap in
+    omega (arith, e)
+
+-- ---- an open message
+
+pub record IsOpenOf (c : Config) (up : Bool) (frames : Message Part → ℕ) (o : OpenMessage) (m : Message Part) (earlier : List (Message Part)) : Type 0 where
+  pub first : o.first ≡ timed up m.first
+  pub parts : o.parts ≡ length (parts_of m)
+  pub bytes : o.bytes ≡ size_of part_fields m
+  pub wait : o.wait ≡ min (frames_before part_fields frames m earlier * (limits_of c up).departures.gap) (limits_of c up).departures.spread
+
+module _ (c : Config) (up : Bool) (frames : Message Part → ℕ) (frames_are : (m : Message Part) → frames m ≡ frames_for c.fragment (size_of part_fields m)) where
+  abbrev l : Limits
+  l = limits_of c up
+
+  takes_is : (o : OpenMessage) (m : Message Part) (earlier : List (Message Part)) (p : Part) → IsOpenOf c up frames o m earlier
+      → takes_more l.pack o (timed up p) ≡ takes part_fields c.pack m p
+  takes_is o m earlier p i =
+      ap₂ (λ (x : TimedPart) (n : ℕ). same_place x (timed up p) && (nat_lt n c.pack && nat_le (o.bytes + (timed up p).size) 16384)) i.first i.parts
+      ∙ ap₂ (λ (t : Bool) (b : ℕ). t && (nat_lt (length (parts_of m)) c.pack && nat_le (b + (timed up p).size) 16384)) (place_is up m.first p) i.bytes
+
+  grown_is : (o : OpenMessage) (m : Message Part) (earlier : List (Message Part)) (p : Part) → IsOpenOf c up frames o m earlier
+      → IsOpenOf c up frames (grown o (timed up p)) (with_part m p) earlier
+  grown_is o m earlier p i = record {
+    first = i.first;
+    parts = (let a = i.parts in let b = length_more m.more p in omega (arith, a, b));
+    bytes = (let a = i.bytes in let b = sum_more part_fields.size (parts_of m) p in omega (arith, a, b));
+    wait = i.wait ∙ ap (λ (n : ℕ). min (n * l.departures.gap) l.departures.spread) (before_alike frames m (with_part m p) earlier (λ r. refl));
+  }
+
+  next_is : (o : OpenMessage) (m : Message Part) (earlier : List (Message Part)) (p : Part) → IsOpenOf c up frames o m earlier
+      → IsOpenOf c up frames (next_to l o (timed up p)) (message_alone p) (m ∷ earlier)
+  unfolding frames_before
+  next_is o m earlier p i = record { first = refl; parts = refl; bytes = omega arith; wait = wait }
+    where
+      go : (t : Bool) → same_symbol part_fields p m.first ≡ t
+          → (let w : ℕ = if t then min (o.wait + frames_for c.fragment o.bytes * l.departures.gap) l.departures.spread else 0 in w)
+          ≡ min ((let n : ℕ = if t then frames m + frames_before part_fields frames (message_alone p) earlier else 0 in n) * l.departures.gap) l.departures.spread
+      go false e = omega (arith, zero-mul l.departures.gap)
+      go true e =
+          ap₂ (λ (w f : ℕ). min (w + f * l.departures.gap) l.departures.spread) i.wait (ap (frames_for c.fragment) i.bytes ∙ sym (frames_are m))
+          ∙ wait_more (frames_before part_fields frames m earlier) (frames m) l.departures.gap l.departures.spread
+          ∙ ap (λ (n : ℕ). min ((frames m + n) * l.departures.gap) l.departures.spread) (before_alike frames m (message_alone p) earlier (λ r. sym (symbol_alike p m.first r e)))
+
+      wait : wait_behind l o (timed up p) ≡ min (frames_before part_fields frames (message_alone p) (m ∷ earlier) * l.departures.gap) l.departures.spread
+      wait = ap (λ (t : Bool). let w : ℕ = if t then min (o.wait + frames_for c.fragment o.bytes * l.departures.gap) l.departures.spread else 0 in w)
+          (ap (same_place (timed up p)) i.first ∙ place_is up p m.first) ∙ go (same_symbol part_fields p m.first) refl
+
+  sending_is : (o : OpenMessage) (m : Message Part) (earlier : List (Message Part)) (number : ℕ) → IsOpenOf c up frames o m earlier
+      → sending_of c (stream_of up) (record { message = m; number = number; before = frames_before part_fields frames m earlier }) ≡ sending_from l o
+  sending_is o m earlier number i =
+      let none : frames_before part_fields frames m earlier + 0 ≡ frames_before part_fields frames m earlier = omega arith in
+      ap (λ (n : ℕ). made ((start_of m.first +ℤ l.departures.from.0) +ℤ pos (min (n * l.departures.gap) l.departures.spread)) m.first.planned.index) none
+      ∙ ap (λ (w : ℕ). made ((start_of m.first +ℤ l.departures.from.0) +ℤ pos w) m.first.planned.index) (sym i.wait)
+      ∙ ap (λ (x : TimedPart). made ((x.start.0 +ℤ l.departures.from.0) +ℤ pos o.wait) x.line) (sym i.first)
+    where
+      made : ℤ → ℕ → Sending
+      made at line = record { at = record { 0 = at }; line = line }
+
+  walk_is : (o : OpenMessage) (m : Message Part) (earlier : List (Message Part)) (ps : List Part) → IsOpenOf c up frames o m earlier
+      → map (sending_of c (stream_of up)) (numbered_behind part_fields frames earlier (packs_behind part_fields c.pack m ps)) ≡ sending_from l o ∷ walk l o (map (timed up) ps)
+  unfolding walk numbered_behind packs_behind
+  walk_is o m earlier [] i = ap (λ (s : Sending). s ∷ []) (sending_is o m earlier (length earlier) i)
+  walk_is o m earlier (p ∷ ps) i =
+      go (takes part_fields c.pack m p) refl (walk_is (grown o (timed up p)) (with_part m p) earlier ps (grown_is o m earlier p i))
+      (walk_is (next_to l o (timed up p)) (message_alone p) (m ∷ earlier) ps (next_is o m earlier p i))
+    where
+      go : (t : Bool) → takes part_fields c.pack m p ≡ t
+          → map (sending_of c (stream_of up)) (numbered_behind part_fields frames earlier (packs_behind part_fields c.pack (with_part m p) ps)) ≡ sending_from l o ∷ walk l (grown o (timed up p)) (map (timed up) ps)
+          → map (sending_of c (stream_of up)) (numbered_behind part_fields frames (m ∷ earlier) (packs_behind part_fields c.pack (message_alone p) ps))
+          ≡ sending_from l (next_to l o (timed up p)) ∷ walk l (next_to l o (timed up p)) (map (timed up) ps)
+          → map (sending_of c (stream_of up)) (numbered_behind part_fields frames earlier (let ms : List (Message Part) = if takes part_fields c.pack m p then packs_behind part_fields c.pack (with_part m p) ps
+          else m ∷ packs_behind part_fields c.pack (message_alone p) ps in ms))
+          ≡ sending_from l o ∷ (let ss : List Sending = if takes_more l.pack o (timed up p) then walk l (grown o (timed up p)) (map (timed up) ps)
+          else sending_from l (next_to l o (timed up p)) ∷ walk l (next_to l o (timed up p)) (map (timed up) ps) in ss)
+      go true e taken begun = let f = takes_is o m earlier p i in rw (f, e) taken
+      go false e taken begun = let f = takes_is o m earlier p i in rw (f, e) (ap₂ (λ (s : Sending) (ss : List Sending). s ∷ ss) (sending_is o m earlier (length earlier) i) begun)
+
+  first_is : (p : Part) → IsOpenOf c up frames (alone (timed up p) 0) (message_alone p) []
+  unfolding frames_before
+  first_is p = record { first = refl; parts = refl; bytes = omega arith; wait = omega (arith, zero-mul l.departures.gap) }
+
+  pub walked_is : (ps : List Part) → map (sending_of c (stream_of up)) (numbered part_fields frames (packs part_fields c.pack ps)) ≡ walked l (map (timed up) ps)
+  unfolding numbered_behind
+  walked_is [] = refl
+  walked_is (p ∷ ps) = walk_is (alone (timed up p) 0) (message_alone p) [] ps (first_is p)
