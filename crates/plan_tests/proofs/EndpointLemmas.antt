@@ -5,7 +5,6 @@ use Rattle.std.specs.List.{AllByRecursion}
 use Rattle.std.proofs.lemmas.Bool.{and_parts, eq-eqb, eqb-true, cases_eq, ne_eqb}
 use Rattle.std.proofs.lemmas.Option.{slice_get_within}
 use Rattle.fh_time.specs.Carrier.{count_of}
-use Rattle.fh_time.specs.declared.values.Slot.{Slot}
 use Rattle.window_config.specs.Endpoints.{IsEndpoint}
 use Rattle.window_config.specs.declared.endpoints.EndpointConfig.{EndpointConfig}
 use Rattle.unit_model.specs.Proper.{IsAt}
@@ -15,8 +14,8 @@ use Rattle.plan_model.specs.Validity.{why_claimed}
 use Rattle.plan_model.specs.declared.lines.PlannedLine.{PlannedLine}
 use Rattle.plan_model.specs.declared.refusals.PlanWhy.{PlanWhy}
 use Rattle.plan_tests.specs.Judging.{ArePlaced, Covers, IsBefore, IsLineOf, IsPlaced, ep_of}
-use Rattle.plan_tests.specs.Slots.{IsIn, IsFrom, IsProper, AreProper, is_home, judged, judged_in, of_home, lesser, least_along, entry_of, numbered, refused_along, refused_in, why_judged}
-use Rattle.plan_tests.proofs.GroupLemmas.{along_from, along_kept, along_one, lesser_from, lesser_left, lesser_right, from_none, from_nothing, judged_is, some_line}
+use Rattle.plan_tests.specs.Slots.{IsIn, IsFrom, AreProper, is_home, judged, judged_in, of_home, lesser, least_along, entry_of, numbered, refused_along, refused_in, why_judged}
+use Rattle.plan_tests.proofs.GroupLemmas.{along_from, along_one, lesser_from, lesser_left, lesser_right, from_none, from_nothing, judged_is, some_line}
 use Rattle.plan_tests.proofs.KnowLemmas.{inside_is}
 use Rattle.plan_tests.proofs.RunLemmas.{home_true, all_in, all_from}
 use Rattle.plan_tests.proofs.SlotLemmas.{least_is}

@@ -1,5 +1,5 @@
 -- What the ring knows, and its verdicts.
-use Rattle.std.proofs.Common.{◌≡◌, ℕ, zero, suc, pos, ◌+◌, ◌<◌, ◌≤◌, inl, inr, Bool, true, false, not, ◌&&◌, ◌||◌, ◌==◌, nat_lt, nat_le, if◌then◌else◌, List, [], ◌∷◌, length, map, get_or, Option, Some, None, refl, ap, ap₂, sym, ◌∙◌, subst, true≢false, arith}
+use Rattle.std.proofs.Common.{◌≡◌, ℕ, ◌+◌, ◌<◌, ◌≤◌, inl, inr, Bool, true, false, ◌&&◌, ◌||◌, ◌==◌, nat_lt, nat_le, if◌then◌else◌, List, [], ◌∷◌, length, get_or, Option, Some, None, refl, ap, ap₂, sym, ◌∙◌, subst, arith}
 use Rattle.std.proofs.lemmas.Bool.{cases_Bool, and_from, eq-eqb}
 use Rattle.std.proofs.lemmas.Bool.Decides.{nat_tests}
 use Rattle.std.proofs.lemmas.Int.{ints}
@@ -20,14 +20,14 @@ use Rattle.unit_laws.proofs.LookupLemmas.{repeats_by_lookup, overlaps_by_lookup}
 use Rattle.slot_rings.specs.Places.{PlaceValue, blank, is_of}
 use Rattle.slot_rings.specs.Rings.{RingValue, IsRingCell, place_index, place_of, has_slot, ring_claim, ring_uplink, SameClaims, SameUplink, TouchesOnly}
 use Rattle.slot_rings.specs.Verdicts.{repeats_by, overlaps_by, verdict_by, claim_after, uplink_after}
-use Rattle.slot_rings.proofs.PlaceLemmas.{of_is, slot_is, slot_own}
+use Rattle.slot_rings.proofs.PlaceLemmas.{of_is, slot_own}
 use Rattle.slot_rings.proofs.RingLemmas.{index_within}
 use Rattle.plan_model.specs.Lines.{allocation_of}
 use Rattle.plan_model.specs.Validity.{is_out_of_range}
 use Rattle.plan_model.specs.declared.lines.PlannedLine.{PlannedLine}
 use Rattle.plan_model.specs.declared.refusals.PlanWhy.{PlanWhy}
 use Rattle.plan_model.specs.declared.refusals.PlanWhy.TheVariants.{Overlap, TooManySections}
-use Rattle.plan_tests.specs.Judging.{IsLineOf, IsLineAt, Knows, why_of, why_in}
+use Rattle.plan_tests.specs.Judging.{IsLineOf, IsLineAt, Knows, why_in}
 use Rattle.plan_tests.specs.Slots.{why_judged}
 
 -- ---- what it is to be in range

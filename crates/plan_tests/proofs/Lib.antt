@@ -18,3 +18,4 @@ pub mod ListedLemmas
 pub mod PartLemmas
 pub mod WalkingLemmas
 pub mod MessageLemmas
+pub mod PlanLemmas

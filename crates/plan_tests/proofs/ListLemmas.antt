@@ -1,17 +1,14 @@
 -- Slots that are full, and lines that are tested one after the other.
-use Rattle.std.proofs.Common.{◌≡◌, ℕ, suc, ◌+◌, ◌<◌, ◌≤◌, Bool, true, false, ◌&&◌, ◌||◌, ◌==◌, nat_le, if◌then◌else◌, List, [], ◌∷◌, length, filter, Option, Some, None, refl, ap, ap₂, sym, ◌∙◌, arith}
+use Rattle.std.proofs.Common.{◌≡◌, Bool, true, false, ◌||◌, if◌then◌else◌, List, Option, Some, None, refl}
 use Rattle.std.specs.List.{list_any}
-use Rattle.std.proofs.lemmas.Bool.{and_parts, and_from, eq-eqb, eqb-true, leb-true, leb-false, le-leb}
-use Rattle.fh_time.specs.declared.values.Slot.{Slot}
 use Rattle.unit_model.specs.declared.allocations.Allocation.{Allocation}
-use Rattle.unit_model.specs.Claims.{same_slot, repeats, overlaps}
-use Rattle.unit_model.specs.Commands.{is_uplink, uplink_in, is_full}
-use Rattle.plan_model.specs.Validity.{clash, why_claimed, refused_at}
+use Rattle.unit_model.specs.Claims.{repeats, overlaps}
+use Rattle.unit_model.specs.Commands.{is_full}
+use Rattle.plan_model.specs.Validity.{clash, why_claimed}
 use Rattle.plan_model.specs.declared.refusals.PlanWhy.{PlanWhy}
-use Rattle.plan_tests.specs.Slots.{IsProper, AreProper, AreClear, why_judged, refused_along}
+use Rattle.plan_tests.specs.Slots.{IsProper, AreProper, AreClear, why_judged}
 use Rattle.plan_model.specs.declared.refusals.PlanWhy.TheVariants.{Overlap, TooManySections}
-use Rattle.plan_tests.proofs.RangeLemmas.{same_tests}
-use Rattle.plan_tests.proofs.ClashLemmas.{slot_own, slot_is, verdict_is}
+use Rattle.plan_tests.proofs.ClashLemmas.{verdict_is}
 
 -- ---- line by line
 

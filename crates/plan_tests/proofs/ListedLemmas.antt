@@ -1,6 +1,5 @@
 -- The parts of one symbol among those that are listed line by line.
-use Rattle.std.proofs.Common.{◌≡◌, ℕ, ℤ, zero, suc, ◌+◌, ◌<◌, ◌≤◌, ◌⊎◌, inl, inr, Bool, true, false, not, ◌&&◌, ◌==◌, nat_lt, nat_le, if◌then◌else◌, List, [], ◌∷◌, ◌++◌, length, filter, map, get_or, drop, drop-cons, append_assoc, refl, ap, ap₂, sym, ◌∙◌, subst, arith}
-use Rattle.std.specs.List.{AllByRecursion}
+use Rattle.std.proofs.Common.{◌≡◌, ℕ, ℤ, zero, suc, ◌+◌, ◌<◌, ◌≤◌, ◌⊎◌, inl, inr, Bool, true, false, ◌&&◌, ◌==◌, if◌then◌else◌, List, [], ◌∷◌, ◌++◌, length, filter, map, get_or, drop, drop-cons, append_assoc, refl, ap, ap₂, sym, ◌∙◌, subst, arith}
 use Rattle.std.specs.Ordering.{int_eq}
 use Rattle.std.proofs.lemmas.Bool.{cases_Bool, cases_eq, eq-eqb, ne_eqb, eqb-true, and_parts}
 use Rattle.std.proofs.lemmas.Bool.Decides.{nat_tests}
@@ -21,7 +20,7 @@ use Rattle.plan_tests.specs.Parts.{stream_of, timed, has_data, sends_data, line_
 use Rattle.plan_tests.specs.Slots.{IsIn}
 use Rattle.plan_tests.specs.Sweeping.{is_at}
 use Rattle.plan_tests.specs.declared.parts.TimedPart.{TimedPart}
-use Rattle.plan_tests.proofs.RunLemmas.{filter_append, all_from}
+use Rattle.plan_tests.proofs.RunLemmas.{filter_append}
 
 -- the tests of the slot, as one
 slot_test : ℤ → ℕ → ℕ → PlannedLine → Bool

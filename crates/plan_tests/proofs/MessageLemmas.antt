@@ -1,31 +1,23 @@
 -- Messages part by part are the packs of the definition, with their numbers and times.
-use Rattle.std.proofs.Common.{◌≡◌, ℕ, ℤ, pos, zero, suc, ◌+◌, ◌*◌, ◌<◌, ◌≤◌, ◌+ℤ◌, Bool, true, false, ◌&&◌, ◌==◌, nat_lt, nat_le, min, if◌then◌else◌, List, [], ◌∷◌, ◌++◌, length, map, sum, refl, ap, ap₂, sym, ◌∙◌, zero-mul, add-mul, arith}
+use Rattle.std.proofs.Common.{◌≡◌, ℕ, ℤ, pos, ◌+◌, ◌*◌, ◌+ℤ◌, Bool, true, false, ◌&&◌, ◌==◌, nat_lt, nat_le, min, if◌then◌else◌, List, [], ◌∷◌, ◌++◌, length, map, sum, refl, ap, ap₂, sym, ◌∙◌, zero-mul, add-mul, arith}
 use Rattle.std.specs.Ordering.{int_eq}
 use Rattle.std.proofs.lemmas.List.{map-append}
 use Rattle.std.proofs.lemmas.List.Sums.{sum_by-append}
-use Rattle.std.proofs.lemmas.Bool.{cases_Bool, and_parts, and_from, eqb-true, eq-eqb}
-use Rattle.std.proofs.lemmas.Bool.Decides.{Decides-int_eq}
+use Rattle.std.proofs.lemmas.Bool.{and_parts, eqb-true}
 use Rattle.fh_time.specs.declared.values.Slot.{Slot}
 use Rattle.window_config.specs.declared.config.Config.{Config}
 use Rattle.unit_model.specs.Claims.{same_slot}
 use Rattle.plan_model.specs.Dense.{sending_of}
-use Rattle.plan_model.specs.Departures.{departure, departures_of, sent_at, start_of}
-use Rattle.plan_model.specs.Packs.{Message, Numbered, alone as message_alone, parts_of, with_part, size_of, same_symbol, takes, packs_behind, packs, frames_for, frames_before, numbered_behind, numbered}
-use Rattle.plan_model.specs.Streams.{Part, part_fields, most_parts, frames_in}
+use Rattle.plan_model.specs.Departures.{start_of}
+use Rattle.plan_model.specs.Packs.{Message, alone as message_alone, parts_of, with_part, size_of, same_symbol, takes, packs_behind, packs, frames_for, frames_before, numbered_behind, numbered}
+use Rattle.plan_model.specs.Streams.{Part, part_fields}
 use Rattle.plan_model.specs.declared.dense.Sending.{Sending}
-use Rattle.plan_model.specs.declared.departures.Departures.{Departures}
-use Rattle.plan_model.specs.declared.streams.Stream.{Stream}
 use Rattle.plan_tests.specs.Parts.{stream_of, timed}
-use Rattle.plan_tests.specs.Walks.{alone, takes_more, grown, wait_behind, next_to, sending_from, same_place, walk, walked}
+use Rattle.plan_tests.specs.Walks.{limits_of, alone, takes_more, grown, wait_behind, next_to, sending_from, same_place, walk, walked}
 use Rattle.plan_tests.specs.declared.parts.TimedPart.{TimedPart}
 use Rattle.plan_tests.specs.declared.walking.Limits.{Limits}
 use Rattle.plan_tests.specs.declared.walking.OpenMessage.{OpenMessage}
-use Rattle.plan_tests.proofs.ClashLemmas.{slot_own, slot_is}
-use Rattle.plan_tests.proofs.RangeLemmas.{same_tests}
-
--- the limits of a configuration and direction
-abbrev pub limits_of : Config → Bool → Limits
-limits_of c up = record { pack = c.pack; fragment = c.fragment; departures = departures_of c (stream_of up) }
+use Rattle.plan_tests.proofs.ClashLemmas.{slot_is}
 
 -- ---- symbols
 

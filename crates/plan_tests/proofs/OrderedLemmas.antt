@@ -1,5 +1,5 @@
 -- Lists in order, stable orders, and when two such lists are the same.
-use Rattle.std.proofs.Common.{◌≡◌, ℕ, zero, suc, ◌+◌, ◌<◌, ◌≤◌, ◌⊎◌, inl, inr, Bool, true, false, not, ◌&&◌, if◌then◌else◌, List, [], ◌∷◌, length, filter, map, get_or, refl, ap, ap₂, sym, ◌∙◌, subst, true≢false, arith}
+use Rattle.std.proofs.Common.{◌≡◌, ℕ, suc, ◌+◌, inl, inr, Bool, true, false, not, if◌then◌else◌, List, [], ◌∷◌, filter, map, get_or, refl, ap, ap₂, sym, ◌∙◌, subst, true≢false, arith}
 use Rattle.std.specs.List.{AllByRecursion}
 use Rattle.std.specs.List.Sorted.{IsSortedBy, ties}
 use Rattle.std.specs.Cmp.{IsStrictWeakOrder}
@@ -9,8 +9,8 @@ use Rattle.unit_model.specs.Lists.{put_in, in_order}
 use Rattle.plan_tests.specs.Parts.{AreOrderedBy}
 use Rattle.plan_tests.specs.Slots.{IsIn}
 use Rattle.plan_tests.proofs.EndpointLemmas.{filter_in, in_filter}
-use Rattle.plan_tests.proofs.RunLemmas.{all_in, all_from, all_map}
-use Rattle.plan_tests.proofs.SortLemmas.{all_index, filter_and, filter_same}
+use Rattle.plan_tests.proofs.RunLemmas.{all_in, all_from}
+use Rattle.plan_tests.proofs.SortLemmas.{all_index}
 
 pub ordered_from : {X : Type 0} (lt : X → X → Bool) → IsStrictWeakOrder lt → (xs : List X) → IsSortedBy lt xs → AreOrderedBy lt xs
 ordered_from lt o [] h = tt

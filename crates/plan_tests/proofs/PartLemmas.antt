@@ -1,13 +1,13 @@
 -- The parts in their order are those of the definition.
-use Rattle.std.proofs.Common.{◌≡◌, ℕ, ℤ, pos, zero, suc, ◌+◌, ◌*◌, ◌<◌, ◌≤◌, ◌+ℤ◌, ◌*ℤ◌, ◌<ℤ◌, ◌≤ℤ◌, ◌⊎◌, inl, inr, Bool, true, false, not, ◌&&◌, ◌||◌, ◌==◌, nat_lt, cond, if◌then◌else◌, List, [], ◌∷◌, ◌++◌, filter, map, refl, ap, ap₂, sym, ◌∙◌, subst, true≢false, arith}
+use Rattle.std.proofs.Common.{◌≡◌, ℕ, ℤ, pos, neg_ℤ, zero, suc, ◌+◌, ◌*◌, ◌^◌, ◌<◌, ◌+ℤ◌, ◌*ℤ◌, ◌<ℤ◌, ◌≤ℤ◌, inl, inr, Bool, true, false, not, ◌&&◌, ◌||◌, ◌==◌, nat_lt, cond, if◌then◌else◌, List, [], ◌∷◌, ◌++◌, filter, map, refl, ap, ap₂, sym, ◌∙◌, subst, true≢false, arith}
 use Rattle.std.specs.Int.{int_gap}
 use Rattle.std.specs.List.{AllByRecursion}
 use Rattle.std.specs.List.Sorted.{IsStableBy, ties}
 use Rattle.std.specs.Cmp.{IsTotalOrder, IsStrictWeakOrder}
-use Rattle.std.specs.Ordering.{nat_cmp, int_cmp, int_eq, on, then_cmp, is_lt, ordering_reverse, ordering_then}
+use Rattle.std.specs.Ordering.{nat_cmp, int_cmp, int_eq, is_lt, ordering_reverse, ordering_then}
 use Rattle.std.specs.declared.cmp.Ordering.{Ordering}
 use Rattle.std.specs.declared.cmp.Ordering.TheVariants.{Less, Equal, Greater}
-use Rattle.std.proofs.lemmas.Bool.{cases_Bool, and_parts, and_from, eqb-true, eq-eqb}
+use Rattle.std.proofs.lemmas.Bool.{and_parts, and_from, eqb-true, eq-eqb}
 use Rattle.std.proofs.lemmas.Bool.Decides.{Decides-int_eq}
 use Rattle.std.proofs.lemmas.Cmp.{by_ranked, ranked, int_ranked, nat_cmp_total, int_cmp_total, on_total, then_total, tied_itself}
 use Rattle.std.proofs.lemmas.Int.{ints}
@@ -20,17 +20,18 @@ use Rattle.fh_time.proofs.Kept.{offsets_short}
 use Rattle.window_config.specs.declared.endpoints.EndpointConfig.{EndpointConfig}
 use Rattle.unit_model.specs.Lists.{each, each_tick, in_order}
 use Rattle.unit_model.specs.Radiated.{first_clock}
-use Rattle.unit_model.specs.Sweeps.{slot_at, first_swept, frames_swept, of_slot, of_subframe, of_frame, of_endpoint as swept}
+use Rattle.unit_model.specs.Sweeps.{slot_at, first_swept, of_slot, of_subframe, of_frame, of_endpoint as swept}
 use Rattle.unit_model.specs.Times.{end_of_time}
 use Rattle.unit_model.proofs.SweepLaws.{gap_is}
 use Rattle.unit_laws.proofs.FrameLemmas.{frames_of_symbol, symbol_short}
 use Rattle.plan_model.specs.Lines.{allocation_of}
-use Rattle.plan_model.specs.Streams.{Part, part_in, has_part, line_before, in_stream_order, symbol_parts, parts_in}
+use Rattle.plan_model.specs.Streams.{part_in, has_part, line_before, symbol_parts, parts_in}
 use Rattle.plan_model.specs.declared.lines.PlannedLine.{PlannedLine}
 use Rattle.plan_tests.specs.Judging.{ArePlaced}
 use Rattle.plan_tests.specs.Parts.{stream_of, if_up, timed, listed, prb_cmp, part_cmp, part_first, AreOrderedBy, HasEndpoint}
 use Rattle.plan_tests.specs.Slots.{IsIn}
-use Rattle.plan_tests.specs.Sweeping.{Clock, clock_of, is_at, of_endpoint, IsPart, Precedes, AreOrdered}
+use Rattle.plan_tests.specs.Sweeping.{clock_of, is_at, of_endpoint, IsPart, Precedes, AreOrdered}
+use Rattle.plan_tests.specs.Walks.{IsTimed}
 use Rattle.plan_tests.specs.declared.parts.TimedPart.{TimedPart}
 use Rattle.plan_tests.proofs.EndpointLemmas.{filter_in, in_filter}
 use Rattle.plan_tests.proofs.KnowLemmas.{inside_is}
@@ -38,7 +39,7 @@ use Rattle.plan_tests.proofs.ListedLemmas.{Named, named_is, listed_at}
 use Rattle.plan_tests.proofs.OrderedLemmas.{ordered_filter, ordered_weaker, ordered_same, in_order_ordered, in_order_keeps, filter_map}
 use Rattle.plan_tests.proofs.RangeLemmas.{same_tests}
 use Rattle.plan_tests.proofs.RunLemmas.{all_in, all_from, all_map, filter_all, nat_equal, int_equal, then_equal}
-use Rattle.plan_tests.proofs.SortLemmas.{filter_and, filter_same}
+use Rattle.plan_tests.proofs.SortLemmas.{filter_and}
 use Rattle.plan_tests.proofs.SymbolLemmas.{filter_alike, sweeps_find_all}
 
 abbrev pub ticks_in_all : ℕ
@@ -410,3 +411,19 @@ parts_are up e ep lines ys stable order placed ends =
     map_each (timed up) 0 (symbols_of e.numerology) _ _ (λ y.
     if_map (timed up) (int_eq (air_of e.numerology (slot_at (first_swept s +ℤ pos k) b l) y) s) _ _
     (symbol_is up e ep lines ys stable order placed ends (first_swept s +ℤ pos k) b l y))))))
+
+-- ---- times that can be told
+
+bounded : (t : ℤ) → first_clock ≤ℤ t → t <ℤ (first_clock +ℤ pos ticks_in_all) → (neg_ℤ (pos (2 ^ 56)) ≤ℤ t) × (t ≤ℤ pos (2 ^ 56))
+bounded t low high =
+    let g = gap_is first_clock (end_of_time +ℤ pos 1) (omega (arith, ints)) in
+    let h : t <ℤ (end_of_time +ℤ pos 1) = subst (λ (x : ℤ). t <ℤ x) g high in
+    (omega (arith, ints), omega (arith, ints))
+
+pub all_timed : (up : Bool) (ep : ℕ) (lines : List PlannedLine) (ys : List TimedPart) → IsStableBy part_first (map (timed up) (listed up ep lines)) ys → ArePlaced lines → AllByRecursion IsTimed ys
+all_timed up ep lines ys stable placed = all_from IsTimed ys (λ y m.
+    let there : IsIn y (filter (ties part_first y) ys) = filter_in (ties part_first y) ys y m (equal_tied part_total y y (tied_itself part_total y)) in
+    let n = named_is up ep lines y (in_filter (ties part_first y) (map (timed up) (listed up ep lines)) y (subst (IsIn y) (stable y) there)).0 in
+    let fact = fact_is up ep lines n.line.endpoint placed (λ p k e. placed.same p n.line k n.there (e ∙ sym n.ep_is)) y n in
+    let b = bounded y.start.0 fact.part.begun fact.part.ended in
+    record { low = b.0; high = b.1 })

@@ -1,12 +1,11 @@
 -- Each slot is judged by its own lines alone.
-use Rattle.std.proofs.Common.{◌≡◌, ℕ, suc, pos, ◌+◌, ◌≤◌, ◌⊎◌, inl, inr, Bool, true, false, ◌&&◌, ◌||◌, ◌==◌, nat_le, if◌then◌else◌, List, [], ◌∷◌, filter, Option, Some, None, refl, ap, ap₂, sym, ◌∙◌, subst, true≢false, arith}
+use Rattle.std.proofs.Common.{◌≡◌, ℕ, ◌+◌, ◌≤◌, ◌⊎◌, inl, inr, Bool, true, false, ◌&&◌, ◌||◌, ◌==◌, nat_le, if◌then◌else◌, List, [], ◌∷◌, filter, Option, Some, None, refl, ap, ap₂, sym, ◌∙◌, subst, true≢false, arith}
 use Rattle.std.specs.Prelude.{⊤}
 use Rattle.std.specs.List.{list_any}
 use Rattle.std.proofs.lemmas.Bool.{cases_Bool, and_parts, and_from, eq-eqb, eqb-true}
-use Rattle.unit_model.specs.Lists.{every, some}
 use Rattle.fh_time.specs.declared.values.Slot.{Slot}
 use Rattle.unit_model.specs.declared.allocations.Allocation.{Allocation}
-use Rattle.unit_model.specs.Claims.{same_slot, same_way, claim_at, repeats, overlaps, every_cell, some_cell}
+use Rattle.unit_model.specs.Claims.{same_slot, same_way}
 use Rattle.unit_model.specs.Commands.{is_uplink, uplink_in, is_full, most_uplink}
 use Rattle.plan_model.specs.Validity.{share_cell, clash, why_claimed, refused_at}
 use Rattle.plan_model.specs.declared.refusals.PlanWhy.{PlanWhy}

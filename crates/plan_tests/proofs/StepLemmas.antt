@@ -1,10 +1,9 @@
 -- A slot's lines, judged one after the other.
-use Rattle.std.proofs.Common.{◌≡◌, ℕ, zero, suc, ◌+◌, ◌<◌, ◌≤◌, Bool, true, false, List, [], ◌∷◌, ◌++◌, length, map, get_or, take, drop, drop-cons, Option, Some, None, refl, ap, ap₂, sym, ◌∙◌, subst, arith}
+use Rattle.std.proofs.Common.{◌≡◌, ℕ, zero, suc, ◌+◌, ◌<◌, ◌≤◌, true, false, List, [], ◌∷◌, length, map, get_or, take, drop, drop-cons, Option, Some, None, refl, ap, ap₂, sym, ◌∙◌, subst, arith}
 use Rattle.std.specs.List.{AllByRecursion}
 use Rattle.std.proofs.lemmas.List.{take_more, drop_all, map-append}
 use Rattle.fh_time.specs.declared.values.Slot.{Slot}
 use Rattle.window_config.specs.declared.endpoints.EndpointConfig.{EndpointConfig}
-use Rattle.unit_model.specs.Commands.{timely_verdict}
 use Rattle.unit_model.specs.Lists.{onto}
 use Rattle.unit_model.specs.Proper.{IsSlot}
 use Rattle.unit_model.specs.declared.allocations.Allocation.{Allocation}
@@ -18,7 +17,7 @@ use Rattle.plan_model.specs.Lines.{allocation_of}
 use Rattle.plan_model.specs.Validity.{refused_at}
 use Rattle.plan_model.specs.declared.lines.PlannedLine.{PlannedLine}
 use Rattle.plan_model.specs.declared.refusals.PlanWhy.{PlanWhy}
-use Rattle.plan_tests.specs.Judging.{IsLineOf, IsLineAt, Knows, behind, why_of, why_in}
+use Rattle.plan_tests.specs.Judging.{IsLineAt, Knows, behind, why_of, why_in}
 use Rattle.plan_tests.specs.Slots.{why_judged, refused_of, entry_of, judged}
 use Rattle.plan_tests.proofs.KnowLemmas.{slot_of_line, verdict_known, why_known, knows_more, knows_none}
 

@@ -1,24 +1,18 @@
 -- Slot after slot, and endpoint after endpoint.
-use Rattle.std.proofs.Common.{◌≡◌, ℕ, zero, suc, ◌+◌, ◌<◌, ◌≤◌, ◌⊎◌, inl, inr, Bool, true, false, ◌==◌, List, [], ◌∷◌, ◌++◌, length, map, filter, get_or, take, drop, Option, Some, None, refl, ap, ap₂, sym, ◌∙◌, subst, true≢false, arith}
-use Rattle.std.specs.Prelude.{All, slice_get}
+use Rattle.std.proofs.Common.{◌≡◌, ℕ, zero, suc, ◌+◌, ◌<◌, ◌≤◌, inl, inr, true, false, List, [], ◌∷◌, ◌++◌, length, get_or, take, drop, Option, None, refl, ap, sym, ◌∙◌, subst, true≢false, arith}
 use Rattle.std.specs.List.{AllByRecursion}
-use Rattle.std.proofs.lemmas.Bool.{cases_Bool, cases_eq, eq-eqb, eqb-true}
+use Rattle.std.proofs.lemmas.Bool.{cases_eq}
 use Rattle.unit_model.specs.Claims.{same_slot}
 use Rattle.plan_tests.proofs.ClashLemmas.{slot_own, slot_is}
-use Rattle.std.proofs.lemmas.Option.{slice_get_within}
 use Rattle.std.proofs.Math.Seq.{drop-nil}
 use Rattle.fh_time.specs.declared.values.Slot.{Slot}
-use Rattle.window_config.specs.Endpoints.{IsEndpoint}
 use Rattle.window_config.specs.declared.endpoints.EndpointConfig.{EndpointConfig}
 use Rattle.slot_rings.specs.Rings.{RingValue, has_slot}
-use Rattle.plan_model.specs.Lines.{allocation_of}
-use Rattle.plan_model.specs.Validity.{why_claimed}
 use Rattle.plan_model.specs.declared.lines.PlannedLine.{PlannedLine}
 use Rattle.plan_model.specs.declared.refusals.PlanWhy.{PlanWhy}
-use Rattle.plan_tests.specs.Judging.{Covers, IsBefore, IsFirstRun, IsLineOf, IsLineAt, IsPlaced, ep_of}
+use Rattle.plan_tests.specs.Judging.{IsFirstRun, IsLineOf, IsLineAt}
 use Rattle.plan_tests.specs.Order.{AreInOrder}
-use Rattle.plan_tests.specs.Slots.{IsIn, IsFrom, judged, judged_in, of_home, lesser, least_along}
-use Rattle.plan_tests.proofs.GroupLemmas.{along_from, along_kept, along_one, lesser_from, lesser_left, lesser_right, from_nothing}
+use Rattle.plan_tests.specs.Slots.{IsIn, judged, judged_in, of_home, lesser, least_along}
 use Rattle.plan_tests.proofs.RunLemmas.{IsRun, run_is, home_of_run, home_of_others, least_of_run, all_in, all_from, all_map}
 
 take_all : {X : Type 0} (n : ℕ) (xs : List X) → take n xs ++ drop n xs ≡ xs

@@ -6,3 +6,4 @@ pub mod Sweeping
 pub mod Parts
 pub mod Keys
 pub mod Walks
+pub mod Answers

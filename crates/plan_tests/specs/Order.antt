@@ -1,5 +1,5 @@
 -- Lines in the order of their slots (this project's means).
-use Rattle.std.specs.Prelude.{◌≡◌, ⊤, ℕ, Bool, false, List, [], ◌∷◌}
+use Rattle.std.specs.Prelude.{◌≡◌, ⊤, Bool, false, List, [], ◌∷◌}
 use Rattle.std.specs.List.{AllByRecursion}
 use Rattle.std.specs.Ordering.{nat_cmp, int_cmp, on, then_cmp, is_lt}
 use Rattle.std.specs.declared.cmp.Ordering.{Ordering}

@@ -1,11 +1,18 @@
 -- Messages part by part (this project's means).
-use Rattle.std.specs.Prelude.{ℕ, ℤ, pos, neg_ℤ, ◌+◌, ◌*◌, ◌<◌, ◌≤◌, ◌^◌, ◌+ℤ◌, ◌≤ℤ◌, Bool, ◌&&◌, ◌==◌, nat_lt, nat_le, min, if◌then◌else◌, List, [], ◌∷◌}
+use Rattle.std.specs.Prelude.{ℕ, pos, neg_ℤ, ◌+◌, ◌*◌, ◌<◌, ◌≤◌, ◌^◌, ◌+ℤ◌, ◌≤ℤ◌, Bool, ◌&&◌, ◌==◌, nat_lt, nat_le, min, if◌then◌else◌, List, [], ◌∷◌}
 use Rattle.std.specs.Ordering.{int_eq}
+use Rattle.window_config.specs.declared.config.Config.{Config}
+use Rattle.plan_model.specs.Departures.{departures_of}
 use Rattle.plan_model.specs.Packs.{frames_for}
 use Rattle.plan_model.specs.declared.dense.Sending.{Sending}
+use Rattle.plan_tests.specs.Parts.{stream_of}
 use Rattle.plan_tests.specs.declared.parts.TimedPart.{TimedPart}
 use Rattle.plan_tests.specs.declared.walking.Limits.{Limits}
 use Rattle.plan_tests.specs.declared.walking.OpenMessage.{OpenMessage}
+
+-- those of a configuration and direction
+abbrev pub limits_of : Config → Bool → Limits
+limits_of c up = record { pack = c.pack; fragment = c.fragment; departures = departures_of c (stream_of up) }
 
 -- ranges, so that no sum wraps
 pub record IsLimits (l : Limits) : Type 0 where

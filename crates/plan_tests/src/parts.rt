@@ -1,5 +1,6 @@
 // The parts of data messages: a line in one of its symbols.
 ghost use Rattle.std.specs.Prelude.{◌≡◌, ◌+◌, ◌<◌, ◌≤◌, ◌++◌, [], map, if◌then◌else◌, IfOk, OnOk};
+ghost use Rattle.std.specs.List.{AllByRecursion};
 ghost use Rattle.std.specs.List.Sorted.{IsStableBy};
 ghost use Rattle.fh_time.specs.Numbering.{symbols_of};
 ghost use Rattle.window_config.specs.Endpoints.{IsEndpoint};
@@ -9,6 +10,7 @@ ghost use Rattle.plan_model.specs.Streams.{part_in, parts_in};
 ghost use Rattle.plan_tests.specs.Judging.{ArePlaced};
 ghost use Rattle.plan_tests.specs.Keys.{key_of};
 ghost use Rattle.plan_tests.specs.Parts.{AreOrderedBy, HasEndpoint, line_parts, listed, part_first, sends_data, stream_of, timed};
+ghost use Rattle.plan_tests.specs.Walks.{IsTimed};
 
 use fh_base::NoMemory;
 use fh_time::{Ticks, air};
@@ -160,7 +162,8 @@ pub(crate) fn parts_of(
     lines: &[PlannedLine],
 ) -> Result<Vec<TimedPart>, NoMemory>
     requires { ArePlaced lines.now }
-    ensures { IfOk result (λ v. (e : SpecEndpoint) → HasEndpoint lines.now ep e → v.items ≡ map (timed up) (parts_in lines.now (stream_of up) ep e)) }
+    ensures value { IfOk result (λ v. (e : SpecEndpoint) → HasEndpoint lines.now ep e → v.items ≡ map (timed up) (parts_in lines.now (stream_of up) ep e)) }
+    ensures times { IfOk result (λ v. AllByRecursion IsTimed v.items) }
 {
     let mut parts = listed(alloc, up, ep, lines)?;
     sort_parts(&mut parts)?;

@@ -9,6 +9,7 @@ use std::alloc::Global;
 use window_config::{EndpointConfig, PlanLine};
 
 /// The lines up to the first that is refused by itself, and that one's place with the reason.
+#[derive(Drop)]
 pub(crate) struct Placed {
     pub(crate) lines: Vec<PlannedLine>,
     pub(crate) stop: Option<(usize, PlanWhy)>,

@@ -1,5 +1,5 @@
 -- A ring of one place for the endpoint of the first line.
-use Rattle.std.proofs.Common.{sym, ◌∙◌, subst, List}
+use Rattle.std.proofs.Common.{sym, ◌∙◌, subst}
 use Rattle.std.specs.List.{AllByRecursion}
 use Rattle.window_config.specs.declared.endpoints.EndpointConfig.{EndpointConfig}
 use Rattle.plan_tests.specs.Judging.{IsLineOf, ep_of}

@@ -1,7 +1,6 @@
 -- By what the sort ensures.
 use Rattle.std.proofs.Common.{rules}
 use Rattle.std.proofs.lemmas.List.Sorted.{answers_always}
-use Rattle.std.proofs.lemmas.Result.{on_ok_weaker}
 use Rattle.plan_tests.proofs.SortLemmas.{sorted_order, homes_stay}
 use Rattle.plan_tests.specs.declared.sorting.SlotKey.{SlotKey}
 use Rattle.plan_model.specs.declared.lines.PlannedLine.{PlannedLine}
