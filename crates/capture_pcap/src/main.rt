@@ -1,0 +1,21 @@
+//! The program `capture_pcap`: it hands its words and the standard streams to `run` of `pcap_export`, and ends with the status that
+//! comes of it.
+#![tactic(auto)]
+
+use fh_base::{StdSink, StdSource};
+use pcap_export::{Status, run, write_message};
+use program_words::collect_words;
+use std::process::ExitCode;
+
+fn main(rt: HostRuntime) -> ExitCode {
+    let alloc = rt.alloc();
+    let mut source = StdSource::new(rt.stdin());
+    let mut out = StdSink::new(rt.stdout());
+    let mut err = StdSink::new(rt.stderr());
+    let Ok(words) = collect_words(&rt, alloc) else {
+        let _ = write_message(Status::NoMemory, &mut err);
+        return ExitCode::from(Status::NoMemory.code());
+    };
+    let status = run(alloc, &words, &mut source, &mut out, &mut err);
+    ExitCode::from(status.code())
+}

@@ -1,0 +1,25 @@
+use Rattle.std.proofs.lemmas.Result.{on_ok_weaker}
+use Rattle.owed_bytes.specs.CarriedLaws.{carried_more}
+use Rattle.capture_records.specs.Reading.{records_of}
+use Rattle.pcap_lines.proofs.Telling.{all_written, last_front}
+use Rattle.pcap_export.specs.Packets.{file_head, packets_bytes, wanted}
+use Rattle.pcap_export.proofs.Back.{read_back}
+use Rattle.pcap_export.proofs.writing.put_pcap.Goals as goal
+
+pub returns-in_err-tell_packets-clause-read : goal.returns-in_err-tell_packets-clause-read
+returns-in_err-tell_packets-clause-read g c = λ usual. read_back (wanted c.args.ways (records_of c.args.bytes.now)) usual
+
+pub returns-clause-read : goal.returns-clause-read
+returns-clause-read g c = λ usual. read_back (wanted c.args.ways (records_of c.args.bytes.now)) usual
+
+pub returns-clause-ok : goal.returns-clause-ok
+returns-clause-ok g c =
+    let packets = packets_bytes c.args.ways (records_of c.args.bytes.now) in
+    let carried = carried_more _ _ _ _ _ _ file_head packets c.in_ok-tell.ensures.carried c.in_ok-tell_packets.ensures.carried in
+    on_ok_weaker c.push_out.result (λ h. all_written _ _ _ c.new-owed.result _ _ c.new-owed.ensures carried h) c.push_out.ensures.all
+
+pub returns-clause-front : goal.returns-clause-front
+returns-clause-front g c =
+    let packets = packets_bytes c.args.ways (records_of c.args.bytes.now) in
+    let carried = carried_more _ _ _ _ _ _ file_head packets c.in_ok-tell.ensures.carried c.in_ok-tell_packets.ensures.carried in
+    last_front _ _ _ c.new-owed.result _ _ c.new-owed.ensures carried c.push_out.ensures.front

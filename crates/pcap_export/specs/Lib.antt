@@ -1,0 +1,8 @@
+pub mod Refusals
+pub mod Ways
+pub mod Packets
+pub mod Checked
+pub mod ReadBack
+pub mod Statuses
+pub mod Answers
+pub mod Run

@@ -1,0 +1,95 @@
+// The file.
+ghost use Rattle.std.specs.Prelude.{◌≡◌, ◌≤◌, ◌++◌, Ok, None, length, OnOk, OnErr};
+ghost use Rattle.std.specs.Io.KnownBytes.{append_known};
+ghost use Rattle.fh_base.specs.Causes.{HasSinkCause};
+ghost use Rattle.fh_base.specs.Told.{WritesFront};
+ghost use Rattle.owed_bytes.specs.Owed.{Carried};
+ghost use Rattle.capture_records.specs.Reading.{checked as capture_checked, records_of};
+ghost use Rattle.capture_records.specs.Records.{arrived_of};
+ghost use Rattle.pcap_export.specs.Checked.{checked, fault_of, placed_from};
+ghost use Rattle.pcap_export.specs.Packets.{packet_bytes, packets_bytes, pcap_bytes, wanted, wanted_bytes};
+ghost use Rattle.pcap_export.specs.ReadBack.{AreUsual, IsReadBack};
+
+use crate::packets::{ETHERNET, HEAD, ethernet_head, nanoseconds, record_head};
+use crate::ways::{Ways, is_wanted};
+use capture_records::{Record, records};
+use fh_base::{Sink, SinkFault};
+use owed_bytes::OwedBytes;
+
+// Tells the packet of a record.
+fn tell_packet<K: Sink>(
+    record: &Record<'_>,
+    owed: &mut OwedBytes,
+    out: &mut K,
+) -> Result<(), SinkFault>
+    requires { length record.now.frame.now ≤ 262130 }
+    ensures carried { OnOk result (Carried (K.written out.old) owed.old (packet_bytes (arrived_of record.now)) (K.written out.new) owed.new) }
+    ensures front { OnErr result (WritesFront (K.written out.old) (K.written out.new) (owed.old ++ packet_bytes (arrived_of record.now))) }
+    ensures cause { HasSinkCause (K.faults out.old) (K.faults out.new) (K.refusals out.old) (K.refusals out.new) result }
+{
+    let ns = nanoseconds(record.at).unwrap_or(0);
+    let head = record_head(ns, (ETHERNET + record.frame.len()) as u32);
+    owed.tell(&head, out)?;
+    owed.tell(&ethernet_head(record.side), out)?;
+    owed.tell(record.frame, out)
+}
+
+// Tells the packet of a record that is to be written, and else nothing.
+fn tell_wanted<K: Sink>(
+    record: &Record<'_>,
+    ways: Ways,
+    owed: &mut OwedBytes,
+    out: &mut K,
+) -> Result<(), SinkFault>
+    requires { fault_of ways (arrived_of record.now) ≡ None }
+    ensures carried { OnOk result (Carried (K.written out.old) owed.old (wanted_bytes ways (arrived_of record.now)) (K.written out.new) owed.new) }
+    ensures front { OnErr result (WritesFront (K.written out.old) (K.written out.new) (owed.old ++ wanted_bytes ways (arrived_of record.now))) }
+    ensures cause { HasSinkCause (K.faults out.old) (K.faults out.new) (K.refusals out.old) (K.refusals out.new) result }
+{
+    if is_wanted(ways, record.side) {
+        tell_packet(record, owed, out)
+    } else {
+        Ok(())
+    }
+}
+
+// Tells the packets of all records that are to be written.
+fn tell_packets<K: Sink>(
+    bytes: &[u8],
+    ways: Ways,
+    owed: &mut OwedBytes,
+    out: &mut K,
+) -> Result<(), SinkFault>
+    requires sound { capture_checked bytes.now ≡ Ok tt }
+    requires placed { placed_from ways 8 (records_of bytes.now) ≡ Ok tt }
+    ensures carried { OnOk result (Carried (K.written out.old) owed.old (packets_bytes ways (records_of bytes.now)) (K.written out.new) owed.new) }
+    ensures front { OnErr result (WritesFront (K.written out.old) (K.written out.new) (owed.old ++ packets_bytes ways (records_of bytes.now))) }
+    ensures cause { HasSinkCause (K.faults out.old) (K.faults out.new) (K.refusals out.old) (K.refusals out.new) result }
+{
+    for record in records(bytes) {
+        tell_wanted(&record, ways, owed, out)?;
+    }
+    Ok(())
+}
+
+/// Writes the frames of these ways of a capture that [`check`](crate::check) accepted for them: a classic pcap file of nanoseconds,
+/// highest byte first, with an Ethernet frame for each, in the capture's order. Each unit has an address of its own, and a time is
+/// rounded down to whole nanoseconds.
+///
+/// # Errors
+///
+/// `Failed` only where the sink's count of faults rose, and `NoMemory` only where its count of refusals rose. A front part of the
+/// file was written.
+pub fn put_pcap<K: Sink>(bytes: &[u8], ways: Ways, out: &mut K) -> Result<(), SinkFault>
+    requires { checked ways bytes.now ≡ Ok tt }
+    ensures ok { OnOk result (K.written out.new ≡ append_known (K.written out.old) (pcap_bytes ways (records_of bytes.now))) }
+    ensures front { WritesFront (K.written out.old) (K.written out.new) (pcap_bytes ways (records_of bytes.now)) }
+    ensures cause { HasSinkCause (K.faults out.old) (K.faults out.new) (K.refusals out.old) (K.refusals out.new) result }
+    // frames whose times lie from 0 to 1,000 s and that have at most 9,216 bytes are read back from the file, each at its nanosecond
+    ensures read { AreUsual (wanted ways (records_of bytes.now)) → IsReadBack (pcap_bytes ways (records_of bytes.now)) (wanted ways (records_of bytes.now)) }
+{
+    let mut owed = OwedBytes::new();
+    owed.tell(&HEAD, out)?;
+    tell_packets(bytes, ways, &mut owed, out)?;
+    owed.push_out(out)
+}
