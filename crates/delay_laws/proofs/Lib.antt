@@ -10,6 +10,7 @@ pub mod Sending
 pub mod Ticking
 pub mod Standing
 pub mod Carried
+pub mod Knowing
 pub mod Settling
 pub mod Keeping
 pub mod Ending

@@ -1,24 +1,14 @@
 -- What holds of delays that are measured.
-use Rattle.std.specs.Prelude.{◌≡◌, ℕ, ◌+◌, ℤ, pos, ◌+ℤ◌, ◌*ℤ◌, ◌≤ℤ◌, ◌<ℤ◌, List, [], ◌∷◌, ◌++◌, All, Contains, Some}
+use Rattle.std.specs.Prelude.{◌≡◌, ℕ, ◌+◌, ℤ, pos, ◌+ℤ◌, ◌*ℤ◌, ◌≤ℤ◌, ◌<ℤ◌, List, [], ◌∷◌, ◌++◌, All, Some}
 use Rattle.air_source.specs.declared.events.Side.{Side}
 use Rattle.delay_measure.specs.After.{id_of, exchange_after}
-use Rattle.delay_laws.specs.Nodes.{Compensation, Heard, delay_then, measured, node_of, other, time_of, timed, told_to}
+use Rattle.delay_laws.specs.Nodes.{Compensation, Heard, delay_then, measured, node_of, other, time_of, told_to}
 use Rattle.delay_laws.specs.Runs.{IsRun}
-use Rattle.delay_laws.specs.Ticks.{Flight, IsPure, Setting, State, exchange_of, landing, state}
+use Rattle.delay_laws.specs.Ticks.{Hearing, IsPure, Setting, exchange_of, landing, state, told_all}
 use Rattle.delay_laws.specs.Ends.{EndsBy, HasWholeCompensations, HasWholeTimes}
 use Rattle.delay_laws.specs.Delays.{HasDelay, IsCompensation}
-
--- The delay of an id is that of the one request, which a unit sent in a frame: it is measured from the time at which this was sent to
--- that at which a copy of it came to the other unit, which is the copy's time on the way later.
-pub record IsMeasured (w : Setting) (s : State) (id : ℕ) (delay : ℤ) : Type 0 where
-  pub side : Side
-  pub has : HasDelay (w.comps side) (w.comps (other side)) (node_of side (measured w.comps id s.heard)) (node_of (other side) (measured w.comps id s.heard)) delay
-  pub frame : Flight
-  pub sent : Contains (s.sent (other side)) frame
-  pub is : timed frame.at frame.message ≡ has.request
-  pub way : ℤ
-  pub of : Contains frame.delays way
-  pub took : has.copy.at ≡ frame.at +ℤ way
+use Rattle.delay_laws.specs.Measured.{IsMeasured}
+use Rattle.delay_laws.specs.Known.{IsMeasuredEvent, known, known_while}
 
 -- the exchange that each unit's meter has is that of what it was told
 abbrev pub ExchangesAreTold : Type 0
@@ -40,6 +30,14 @@ abbrev pub TickDelaysAreOfRequests : Type 0
 TickDelaysAreOfRequests = (w : Setting) → IsPure w → ((side : Side) → IsCompensation (w.comps side)) → (first : ℤ) (n : ℕ) (later : List Heard) (one : Heard) (earlier : List Heard) (delay : ℤ)
     → (state w first n).heard ≡ later ++ (one ∷ earlier) → delay_then (w.comps one.side) (exchange_of w earlier one.side (id_of one.told)) one.told ≡ Some delay
     → IsMeasured w (state w first n) (id_of one.told) delay
+
+-- so is each event of a delay
+abbrev pub EventsAreMeasured : Type 0
+EventsAreMeasured = (w : Setting) → IsPure w → ((side : Side) → IsCompensation (w.comps side)) → (first : ℤ) (n : ℕ) → All (IsMeasuredEvent w (state w first n)) (known w (state w first n).heard)
+
+-- what becomes known while more is told stands behind what was known before
+abbrev pub KnownGrows : Type 0
+KnownGrows = (w : Setting) (h : Hearing) (more : List Heard) → known w (told_all w h more).heard ≡ known w h.heard ++ known_while w h more
 
 -- and exactly the time that a copy of it was on its way, where all times and compensations are whole nanoseconds
 abbrev pub TickDelaysAreExact : Type 0

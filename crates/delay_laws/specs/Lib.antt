@@ -3,5 +3,7 @@ pub mod Runs
 pub mod Delays
 pub mod Ticks
 pub mod Ends
+pub mod Measured
+pub mod Known
 pub mod Laws
 pub mod Examples

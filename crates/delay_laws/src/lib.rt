@@ -3,7 +3,7 @@
 //! The functions here do nothing: each one's contract is its law, stated in `specs/`.
 #![tactic(auto)]
 
-ghost use Rattle.delay_laws.specs.Laws.{ExchangesAreTold, DelaysAreOfRequests, TicksAreRuns, TickDelaysAreOfRequests, TickDelaysAreExact, LandingIsSettled, AllEnds};
+ghost use Rattle.delay_laws.specs.Laws.{ExchangesAreTold, DelaysAreOfRequests, TicksAreRuns, TickDelaysAreOfRequests, TickDelaysAreExact, EventsAreMeasured, KnownGrows, LandingIsSettled, AllEnds};
 ghost use Rattle.delay_laws.specs.Examples.{AreWorked};
 
 /// Each unit's exchanges are those of a meter that was told the same.
@@ -21,6 +21,12 @@ pub fn ticks_are_runs()
     ensures runs { TicksAreRuns }
     ensures delays { TickDelaysAreOfRequests }
     ensures exact { TickDelaysAreExact }
+    ensures events { EventsAreMeasured }
+{}
+
+/// What becomes known while units are told more stands behind what was known.
+pub fn known_grows()
+    ensures { KnownGrows }
 {}
 
 /// What lands at a tick was sent before it.

@@ -10,6 +10,7 @@ use Rattle.delay_laws.specs.Delays.{IsCompensation, IsWholeTime}
 use Rattle.delay_laws.specs.Ends.{EndsBy, HasWholeTimes}
 use Rattle.delay_laws.specs.Ticks.{Begin, IsPure}
 use Rattle.delay_laws.proofs.Carried.{tick_delays}
+use Rattle.delay_laws.proofs.Knowing.{events_measured}
 use Rattle.delay_laws.proofs.Ending.{all_end}
 use Rattle.delay_laws.proofs.Settling.{settled}
 use Rattle.delay_laws.proofs.Whole.{tick_exact}
@@ -22,7 +23,7 @@ use Rattle.frame_deliveries.specs.Copies.{copies_of}
 use Rattle.frame_deliveries.proofs.Within.{copies_within}
 use Rattle.window_config.specs.Windows.{ticks_of_ns}
 use Rattle.document_delays.specs.Settings.{begin_of, compensation_of, no_others, setting_of, ways_of}
-use Rattle.document_delays.specs.Laws.{AllEnds, DelaysAreExact, DelaysAreOfRequests, LandingIsSettled}
+use Rattle.document_delays.specs.Laws.{AllEnds, DelaysAreExact, DelaysAreOfRequests, EventsAreMeasured, LandingIsSettled}
 
 -- ---- times
 
@@ -92,3 +93,6 @@ document_settled scope d is others side = settled (setting_of d others) side (λ
 
 pub document_ends : AllEnds
 document_ends scope d is others none = all_end (setting_of d others) (ticks_of_ns (pos 1000000000000)) (ticks_of_ns (pos 3000000000)) (ends scope d is others none)
+
+pub document_events : EventsAreMeasured
+document_events scope d is = events_measured (setting_of d no_others) (pure scope d is) (compensation_is d is.comps)

@@ -2,7 +2,8 @@
 use Rattle.std.specs.Prelude.{◌≡◌, ℕ, ◌+◌, ℤ, pos, ◌+ℤ◌, ◌*ℤ◌, ◌≤ℤ◌, ◌<ℤ◌, List, [], ◌∷◌, ◌++◌, All, Some}
 use Rattle.air_source.specs.declared.events.Side.{Side}
 use Rattle.delay_laws.specs.Ends.{HasWholeCompensations}
-use Rattle.delay_laws.specs.Laws.{IsMeasured}
+use Rattle.delay_laws.specs.Known.{IsMeasuredEvent, known}
+use Rattle.delay_laws.specs.Measured.{IsMeasured}
 use Rattle.delay_laws.specs.Nodes.{Heard, delay_then, time_of}
 use Rattle.delay_laws.specs.Ticks.{exchange_of, landing, state}
 use Rattle.delay_measure.specs.After.{id_of}
@@ -18,6 +19,11 @@ DelaysAreOfRequests = (scope : _) (d : Document) → IsDocumentIn scope d → (f
     → (state (setting_of d no_others) first n).heard ≡ later ++ (one ∷ earlier)
     → delay_then (compensation_of d one.side) (exchange_of (setting_of d no_others) earlier one.side (id_of one.told)) one.told ≡ Some delay
     → IsMeasured (setting_of d no_others) (state (setting_of d no_others) first n) (id_of one.told) delay
+
+-- so is each event of a delay
+abbrev pub EventsAreMeasured : Type 0
+EventsAreMeasured = (scope : _) (d : Document) → IsDocumentIn scope d → (first : ℤ) (n : ℕ)
+    → All (IsMeasuredEvent (setting_of d no_others) (state (setting_of d no_others) first n)) (known (setting_of d no_others) (state (setting_of d no_others) first n).heard)
 
 -- and exactly the copy's time on the way, where the compensations are whole nanoseconds
 abbrev pub DelaysAreExact : Type 0

@@ -4,12 +4,13 @@
 //! The functions here do nothing: each one's contract is its law, stated in `specs/`.
 #![tactic(auto)]
 
-ghost use Rattle.document_delays.specs.Laws.{DelaysAreOfRequests, DelaysAreExact, LandingIsSettled, AllEnds};
+ghost use Rattle.document_delays.specs.Laws.{DelaysAreOfRequests, DelaysAreExact, EventsAreMeasured, LandingIsSettled, AllEnds};
 
 /// Where no other frame has a message of delay measurement, each delay that is measured is that of the one request of its id.
 pub fn delays_are_of_requests()
     ensures delays { DelaysAreOfRequests }
     ensures exact { DelaysAreExact }
+    ensures events { EventsAreMeasured }
 {}
 
 /// What lands at a tick was sent before it.
