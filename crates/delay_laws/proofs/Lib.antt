@@ -12,6 +12,7 @@ pub mod Standing
 pub mod Carried
 pub mod Knowing
 pub mod Settling
+pub mod Quiet
 pub mod Keeping
 pub mod Ending
 pub mod Whole

@@ -1,10 +1,10 @@
 -- What holds of delays that are measured.
-use Rattle.std.specs.Prelude.{◌≡◌, ℕ, ◌+◌, ℤ, pos, ◌+ℤ◌, ◌*ℤ◌, ◌≤ℤ◌, ◌<ℤ◌, List, [], ◌∷◌, ◌++◌, All, Some}
+use Rattle.std.specs.Prelude.{◌≡◌, ℕ, ◌+◌, ◌<◌, ℤ, pos, ◌+ℤ◌, ◌*ℤ◌, ◌≤ℤ◌, ◌<ℤ◌, List, [], ◌∷◌, ◌++◌, All, Some}
 use Rattle.air_source.specs.declared.events.Side.{Side}
 use Rattle.delay_measure.specs.After.{id_of, exchange_after}
 use Rattle.delay_laws.specs.Nodes.{Compensation, Heard, delay_then, measured, node_of, other, time_of, told_to}
 use Rattle.delay_laws.specs.Runs.{IsRun}
-use Rattle.delay_laws.specs.Ticks.{Hearing, IsPure, Setting, exchange_of, landing, state, told_all}
+use Rattle.delay_laws.specs.Ticks.{Hearing, IsPure, IsQuiet, Setting, exchange_of, landing, state, told_all}
 use Rattle.delay_laws.specs.Ends.{EndsBy, HasWholeCompensations, HasWholeTimes}
 use Rattle.delay_laws.specs.Delays.{HasDelay, IsCompensation}
 use Rattle.delay_laws.specs.Measured.{IsMeasured}
@@ -50,6 +50,10 @@ TickDelaysAreExact = (w : Setting) → IsPure w → ((side : Side) → IsCompens
 abbrev pub LandingIsSettled : Type 0
 LandingIsSettled = (w : Setting) (side : Side) → ((k : ℕ) → All (λ d. pos 0 <ℤ d) (w.delays side k)) → (first : ℤ) (n m : ℕ)
     → landing ((state w first (n + m)).sent side) (first +ℤ pos n) ≡ landing ((state w first n).sent side) (first +ℤ pos n)
+
+-- quiet ticks change nothing
+abbrev pub QuietTicksChangeNothing : Type 0
+QuietTicksChangeNothing = (w : Setting) (first : ℤ) (n m : ℕ) → ((k : ℕ) → k < m → IsQuiet w (state w first n) (first +ℤ pos (n + k))) → state w first (n + m) ≡ state w first n
 
 -- where nothing begins or comes otherwise after a time, all is told by three delays later, whatever comes in other frames, and nothing
 -- lands then: a Remote Request is answered by at most a request, this by one Response, and a Response by nothing

@@ -116,3 +116,9 @@ pub record IsPure (w : Setting) : Type 0 where
   pub once : AppearOnce (map (λ b. b.id) w.begins)
   pub late : All (λ b. pos 1536000000 ≤ℤ b.at) w.begins
   pub alone : (side : Side) (t : ℤ) → w.others side t ≡ []
+
+-- nothing begins at a tick, and nothing comes
+pub record IsQuiet (w : Setting) (s : State) (t : ℤ) : Type 0 where
+  pub begins : due t w.begins ≡ []
+  pub landing : (side : Side) → landing (s.sent side) t ≡ []
+  pub others : (side : Side) → w.others side t ≡ []

@@ -3,7 +3,7 @@
 //! The functions here do nothing: each one's contract is its law, stated in `specs/`.
 #![tactic(auto)]
 
-ghost use Rattle.delay_laws.specs.Laws.{ExchangesAreTold, DelaysAreOfRequests, TicksAreRuns, TickDelaysAreOfRequests, TickDelaysAreExact, EventsAreMeasured, KnownGrows, LandingIsSettled, AllEnds};
+ghost use Rattle.delay_laws.specs.Laws.{ExchangesAreTold, DelaysAreOfRequests, TicksAreRuns, TickDelaysAreOfRequests, TickDelaysAreExact, EventsAreMeasured, KnownGrows, LandingIsSettled, QuietTicksChangeNothing, AllEnds};
 ghost use Rattle.delay_laws.specs.Examples.{AreWorked};
 
 /// Each unit's exchanges are those of a meter that was told the same.
@@ -32,6 +32,11 @@ pub fn known_grows()
 /// What lands at a tick was sent before it.
 pub fn landing_is_settled()
     ensures { LandingIsSettled }
+{}
+
+/// Ticks at which nothing begins or comes change nothing.
+pub fn quiet_ticks_change_nothing()
+    ensures { QuietTicksChangeNothing }
 {}
 
 /// Three delays after the last that begins or comes otherwise, all is told.
