@@ -49,7 +49,7 @@ use Rattle.schedule_laws.proofs.ListLemmas.{in_right, in_map, of_map, numerology
 use Rattle.schedule_laws.proofs.PackLemmas.{message_from, one_part}
 use Rattle.schedule_laws.proofs.ReadingLemmas.{Heard, IsCommandStream, command_read, heard, told}
 use Rattle.schedule_laws.proofs.SentLemmas.{IsOfMessage, IsSentStream, is_sent, message_part, part_is, part_message, part_there, sent_is}
-use Rattle.schedule_laws.proofs.TimeLemmas.{copy_from, copy_to, frame_is, wait_most}
+use Rattle.schedule_laws.proofs.TimeLemmas.{copy_from, copy_to, first_less, frame_is, in_end, in_time, wait_most}
 
 -- ---- times
 
@@ -81,7 +81,7 @@ on_time sending awaited t12 s at wait room few from to = record {
 }
 
 -- so it comes near to its frame
-near_frame : (f s at least most : ℤ) → (f *ℤ pos 15360000000) ≤ℤ s → s <ℤ (f *ℤ pos 15360000000 +ℤ pos 76800000000) → pos 0 ≤ℤ least → most ≤ℤ pos 4000000
+pub near_frame : (f s at least most : ℤ) → (f *ℤ pos 15360000000) ≤ℤ s → s <ℤ (f *ℤ pos 15360000000 +ℤ pos 76800000000) → pos 0 ≤ℤ least → most ≤ℤ pos 4000000
     → (least *ℤ pos 1536) ≤ℤ (s -ℤ at) → (s -ℤ at) ≤ℤ (most *ℤ pos 1536)
     → ((at -ℤ pos 1966080000000) ≤ℤ (f *ℤ pos 15360000000)) × ((f *ℤ pos 15360000000) <ℤ (at +ℤ pos 1966080000000))
 near_frame f s at least most low high a b soon late = (omega (arith, ints), omega (arith, ints))
@@ -131,7 +131,7 @@ same_allocation a b e1 e2 e3 e4 e5 e6 e7 e8 e9 e10 e11 e12 =
     } in y) = rw (e1, e2, e3, e4, e5, e6, e7, e8, e9, e10, e11, e12) refl in
     same
 
-same_slot_fields : (a b : Slot) → a.frame ≡ b.frame → a.subframe ≡ b.subframe → a.slot ≡ b.slot → a ≡ b
+pub same_slot_fields : (a b : Slot) → a.frame ≡ b.frame → a.subframe ≡ b.subframe → a.slot ≡ b.slot → a ≡ b
 same_slot_fields a b p q r =
     let same : (let x : Slot = record { frame = a.frame; subframe = a.subframe; slot = a.slot } in x) ≡ (let y : Slot = record { frame = b.frame; subframe = b.subframe; slot = b.slot } in y) = rw (p, q, r) refl in
     same
@@ -340,17 +340,6 @@ module _ (c : Config) (lines : List PlanLine) (text : Texts) (arrivals : List Ar
   most_before UpCommands s = (limits.t1a_cp_ul.order, omega (arith, ints, limits.t1a_cp_ul.high), limits.t1a_cp_ul.low)
   most_before DownData s = absurd s
   most_before UpData s = absurd s
-
-  in_time : (s least most : ℤ) (wait width : ℕ) → pos 15360000000 ≤ℤ s → s ≤ℤ pos 1536100000000000 → most ≤ℤ pos 4000000 → pos 0 ≤ℤ least → least ≤ℤ most
-      → ticks_of_ns least +ℤ pos width ≡ ticks_of_ns most → wait ≤ width
-      → (first_clock ≤ℤ ((s +ℤ neg_ℤ (ticks_of_ns most)) +ℤ pos wait)) × (((s +ℤ neg_ℤ (ticks_of_ns most)) +ℤ pos wait) <ℤ (end_of_time +ℤ pos 1))
-  in_time s least most wait width a b most_few least_some order e w = (omega (arith, ints), omega (arith, ints))
-
-  in_end : (s : ℤ) → pos 15360000000 ≤ℤ s → s ≤ℤ pos 1536100000000000 → (first_clock ≤ℤ s) × (s <ℤ (end_of_time +ℤ pos 1))
-  in_end s a b = (omega (arith, ints), omega (arith, ints))
-
-  first_less : (a b c : ℕ) → 0 < b → a + b ≤ c → a < c
-  first_less a b c h k = omega (arith, h, k)
 
   -- its frame
   record HasFrame (p : PlannedLine) : Type 0 where

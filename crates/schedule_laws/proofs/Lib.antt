@@ -9,3 +9,9 @@ pub mod SentLemmas
 pub mod ReadingLemmas
 pub mod LineLemmas
 pub mod CommandLemmas
+pub mod OrderLemmas
+pub mod FlowLemmas
+pub mod FragmentLemmas
+pub mod DataLemmas
+pub mod WholeLemmas
+pub mod BlockLemmas

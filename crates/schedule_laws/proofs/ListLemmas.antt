@@ -146,10 +146,10 @@ in_piece x xs ys p m = subst (λ zs. IsIn x zs) (sym p.is) (in_right x p.before 
 
 -- ---- what is told of the symbols of one endpoint
 
-abbrev IsAll : {X : Type 0} → (X → Type 0) → List X → List X → Type 0
+abbrev pub IsAll : {X : Type 0} → (X → Type 0) → List X → List X → Type 0
 IsAll P xs ys = (x : _) → IsIn x xs → P x
 
-all_kept : {X : Type 0} (P : X → Type 0) → IsKept {A = X} {B = X} (IsAll P)
+pub all_kept : {X : Type 0} (P : X → Type 0) → IsKept {A = X} {B = X} (IsAll P)
 all_kept P = record {
   none = λ x m. absurd m;
   more = λ xs xs' ys ys' p q x m. elim (in_either x xs xs' m) [ inl l ↦ p x l | inr r ↦ q x r ];

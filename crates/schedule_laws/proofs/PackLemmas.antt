@@ -7,7 +7,7 @@ use Rattle.schedule_laws.proofs.ListLemmas.{in_left, in_right, in_either}
 
 module _ {P : Type 0} (f : PartFields P) (most : ℕ) where
   -- each part of a message is one of the parts
-  parts_behind : (m : Message P) (ps : List P) (n : Message P) (p : P) → IsIn n (packs_behind f most m ps) → IsIn p (parts_of n) → IsIn p (parts_of m) ⊎ IsIn p ps
+  pub parts_behind : (m : Message P) (ps : List P) (n : Message P) (p : P) → IsIn n (packs_behind f most m ps) → IsIn p (parts_of n) → IsIn p (parts_of m) ⊎ IsIn p ps
   unfolding packs_behind
   parts_behind m [] n p i j = elim i [ inl e ↦ inl (subst (λ (x : Message P). IsIn p (parts_of x)) e j) | inr t ↦ absurd t ]
   parts_behind m (q ∷ ps) n p i j = go (takes f most m q) i (parts_behind (with_part m q) ps n p) (parts_behind (alone q) ps n p)

@@ -1,5 +1,5 @@
 -- What is sent for a plan: each frame is one of a message of a line, and each message's frames are sent.
-use Rattle.std.proofs.Common.{◌≡◌, ℕ, ℤ, pos, zero, suc, ◌+◌, ◌<◌, ◌+ℤ◌, ◌≤ℤ◌, ◌<ℤ◌, inl, inr, true, List, [], ◌∷◌, ◌++◌, map, refl, sym, subst, arith}
+use Rattle.std.proofs.Common.{◌≡◌, ℕ, ℤ, pos, zero, suc, ◌+◌, ◌<◌, ◌+ℤ◌, ◌≤ℤ◌, ◌<ℤ◌, inl, inr, true, List, [], ◌∷◌, ◌++◌, map, refl, ap, sym, subst, arith}
 use Rattle.std.specs.Prelude.{filter}
 use Rattle.std.specs.Int.{int_gap}
 use Rattle.std.specs.Ordering.{int_eq}
@@ -49,19 +49,28 @@ pub record IsPart (ps : List PlannedLine) (stream : Stream) (ep : ℕ) (e : Endp
   pub is_symbol : x.symbol < symbols_of e.numerology
 
 module _ (ps : List PlannedLine) (stream : Stream) (is_sent : IsSentStream stream) (ep : ℕ) (e : EndpointConfig) where
-  part_of_symbol : (slot : Slot) (symbol : ℕ) → IsSlotOf e.numerology slot → symbol < symbols_of e.numerology → (x : Part) → IsIn x (symbol_parts stream ps ep slot symbol)
-      → IsPart ps stream ep e x
+  pub symbol_part : (slot : Slot) (symbol : ℕ) (x : Part) → IsIn x (symbol_parts stream ps ep slot symbol)
+      → IsIn x.planned ps × (has_part stream ep slot symbol (allocation_of x.planned) ≡ true) × (x.symbol ≡ symbol)
   unfolding symbol_parts
-  part_of_symbol slot symbol is h x m =
+  symbol_part slot symbol x m =
       let named = filter (λ (p : PlannedLine). has_part stream ep slot symbol (allocation_of p)) ps in
       let w = of_map (part_in symbol) x (in_stream_order stream named) m in
-      let y = of_filter (λ (p : PlannedLine). has_part stream ep slot symbol (allocation_of p)) w.0 ps (subst (λ (qs : List PlannedLine). IsIn w.0 qs) (in_lines_order stream is_sent named) w.1) in
+      let y = of_filter (λ (p : PlannedLine). has_part stream ep slot symbol (allocation_of p)) w.0 ps (subst (λ (qs : List PlannedLine). IsIn w.0 qs) (in_lines_order stream is_sent named) w.1) in (
+        subst (λ (z : Part). IsIn z.planned ps) (sym w.2) y.0,
+        subst (λ (z : Part). has_part stream ep slot symbol (allocation_of z.planned) ≡ true) (sym w.2) y.1,
+        ap (λ (z : Part). z.symbol) w.2,
+      )
+
+  part_of_symbol : (slot : Slot) (symbol : ℕ) → IsSlotOf e.numerology slot → symbol < symbols_of e.numerology → (x : Part) → IsIn x (symbol_parts stream ps ep slot symbol)
+      → IsPart ps stream ep e x
+  part_of_symbol slot symbol is h x m =
+      let w = symbol_part slot symbol x m in
       record {
         slot = slot;
-        from = subst (λ (z : Part). IsIn z.planned ps) (sym w.2) y.0;
-        has = subst (λ (z : Part). has_part stream ep slot z.symbol (allocation_of z.planned) ≡ true) (sym w.2) y.1;
+        from = w.0;
+        has = subst (λ y. has_part stream ep slot y (allocation_of x.planned) ≡ true) (sym w.2) w.1;
         is_slot = is;
-        is_symbol = subst (λ (z : Part). z.symbol < symbols_of e.numerology) (sym w.2) h;
+        is_symbol = subst (λ y. y < symbols_of e.numerology) (sym w.2) h;
       }
 
   pub part_is : (x : Part) → IsIn x (parts_in ps stream ep e) → IsPart ps stream ep e x

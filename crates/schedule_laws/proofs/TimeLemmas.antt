@@ -1,5 +1,8 @@
 -- The frame that a frameId means near its own time, and when copies come.
-use Rattle.std.proofs.Common.{◌≡◌, ℕ, ℤ, pos, neg_ℤ, ◌*◌, ◌<◌, ◌≤◌, ◌+ℤ◌, ◌-ℤ◌, ◌≤ℤ◌, ◌<ℤ◌, min, refl, sym, ◌∙◌, arith}
+use Rattle.std.proofs.Common.{◌≡◌, ℕ, ℤ, pos, neg_ℤ, ◌+◌, ◌*◌, ◌<◌, ◌≤◌, ◌+ℤ◌, ◌-ℤ◌, ◌≤ℤ◌, ◌<ℤ◌, min, refl, sym, ◌∙◌, arith}
+use Rattle.unit_model.specs.Radiated.{first_clock}
+use Rattle.unit_model.specs.Times.{end_of_time}
+use Rattle.window_config.specs.Windows.{ticks_of_ns}
 use Rattle.std.specs.Int.{int_div_euclid, int_rem_euclid}
 use Rattle.std.proofs.lemmas.Int.{ints}
 use Rattle.fh_time.specs.Frame.{absolute_frame, first_frame, frame_start}
@@ -33,3 +36,15 @@ copy_to s most least slow at wait spread e w h = omega (arith, ints, e, w, h)
 
 pub wait_most : (i gap spread : ℕ) → min (i * gap) spread ≤ spread
 wait_most i gap spread = omega arith
+
+-- it leaves within the times that are gone over
+pub in_time : (s least most : ℤ) (wait width : ℕ) → pos 15360000000 ≤ℤ s → s ≤ℤ pos 1536100000000000 → most ≤ℤ pos 4000000 → pos 0 ≤ℤ least → least ≤ℤ most
+    → ticks_of_ns least +ℤ pos width ≡ ticks_of_ns most → wait ≤ width
+    → (first_clock ≤ℤ ((s +ℤ neg_ℤ (ticks_of_ns most)) +ℤ pos wait)) × (((s +ℤ neg_ℤ (ticks_of_ns most)) +ℤ pos wait) <ℤ (end_of_time +ℤ pos 1))
+in_time s least most wait width a b most_few least_some order e w = (omega (arith, ints), omega (arith, ints))
+
+pub in_end : (s : ℤ) → pos 15360000000 ≤ℤ s → s ≤ℤ pos 1536100000000000 → (first_clock ≤ℤ s) × (s <ℤ (end_of_time +ℤ pos 1))
+in_end s a b = (omega (arith, ints), omega (arith, ints))
+
+pub first_less : (a b c : ℕ) → 0 < b → a + b ≤ c → a < c
+first_less a b c h k = omega (arith, h, k)

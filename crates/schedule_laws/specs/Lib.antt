@@ -1,2 +1,4 @@
 pub mod Premise
+pub mod Flows
+pub mod Data
 pub mod Commands

@@ -5,9 +5,16 @@
 #![tactic(auto)]
 
 ghost use Rattle.schedule_laws.specs.Commands.{EachIsCommandedOnce};
+ghost use Rattle.schedule_laws.specs.Data.{EachIsDecodedOnce};
 
 /// The first copy of each planned command is Accepted and each further one is Repeat, in whatever order they come; what is claimed
 /// in the end is what the lines of the plan name.
 pub fn each_is_commanded_once()
     ensures { EachIsCommandedOnce }
+{}
+
+/// Each planned data message becomes whole once and is decoded once, on time, as the sections of its lines; the block of each
+/// downlink cell in the end is the one that the plan gives it.
+pub fn each_is_decoded_once()
+    ensures { EachIsDecodedOnce }
 {}
