@@ -15,3 +15,4 @@ pub mod FragmentLemmas
 pub mod DataLemmas
 pub mod WholeLemmas
 pub mod BlockLemmas
+pub mod CellLemmas

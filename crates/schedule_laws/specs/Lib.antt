@@ -2,3 +2,4 @@ pub mod Premise
 pub mod Flows
 pub mod Data
 pub mod Commands
+pub mod Cells

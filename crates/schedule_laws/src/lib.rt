@@ -4,6 +4,7 @@
 //! Each law is the contract of a function that does nothing. All rest on this project's profile of O-RAN.WG4.CUS.
 #![tactic(auto)]
 
+ghost use Rattle.schedule_laws.specs.Cells.{ThePlanRadiates};
 ghost use Rattle.schedule_laws.specs.Commands.{EachIsCommandedOnce};
 ghost use Rattle.schedule_laws.specs.Data.{EachIsDecodedOnce};
 
@@ -17,4 +18,10 @@ pub fn each_is_commanded_once()
 /// downlink cell in the end is the one that the plan gives it.
 pub fn each_is_decoded_once()
     ensures { EachIsDecodedOnce }
+{}
+
+/// What the radio unit reports is, cell for cell and in order, what the plan says: each cell in which a `dl` line names an element,
+/// once, with the union of their masks, their section id and its samples; no other cell, and none is missing.
+pub fn the_plan_radiates()
+    ensures { ThePlanRadiates }
 {}
