@@ -6,3 +6,4 @@ pub mod SeenLemmas
 pub mod RingLemmas
 pub mod RowLemmas
 pub mod PendingLemmas
+pub mod RunLemmas

@@ -1,5 +1,5 @@
 -- The ring: a call changes one place.
-use Rattle.std.proofs.Common.{◌≡◌, ℕ, ℤ, pos, negsuc, zero, suc, ◌+◌, ◌*◌, ◌<◌, ◌≤◌, inl, inr, Bool, true, false, List, [], ◌∷◌, ◌++◌, length, get_or, set, refl, ap, sym, ◌∙◌, subst, arith, length-set, get_or-set_same, get_or-set_other, Option, Some, None}
+use Rattle.std.proofs.Common.{◌≡◌, ℕ, ℤ, pos, negsuc, zero, suc, ◌+◌, ◌<◌, ◌≤◌, inl, inr, Bool, true, false, List, [], ◌∷◌, ◌++◌, length, get_or, set, refl, ap, sym, ◌∙◌, subst, arith, length-set, get_or-set_same, get_or-set_other, Option, Some, None}
 use Rattle.std.specs.Int.{int_gap, int_rem_euclid}
 use Rattle.std.proofs.lemmas.Bool.{cases_eq, cases_Bool, false_from_ne_true}
 use Rattle.std.proofs.lemmas.List.{get_or_read}
@@ -151,14 +151,20 @@ own_done r cell slot at own =
     let owner : is_of (place_of r slot).slot cell.slot ≡ true = ap (λ (s : Slot). is_of (place_of r slot).slot s) at ∙ own in
     ap (λ (p : PlaceValue). place_done r.endpoint.prbs p cell) there ∙ rw owner refl
 
+pub block_still : (old new : RingValue) (slot : Slot) (cell : Cell) → new.endpoint ≡ old.endpoint
+    → has_slot old slot ≡ true → has_slot new slot ≡ true → cell.slot ≡ slot
+    → get_or (place_of new slot).blocks (cell_number old.endpoint.prbs cell.symbol cell.prb) None ≡ get_or (place_of old slot).blocks (cell_number old.endpoint.prbs cell.symbol cell.prb) None
+    → ring_block new cell ≡ ring_block old cell
+block_still old new slot cell endpoint was is at same =
+    own_block new cell slot at is
+    ∙ ap (λ (n : ℕ). get_or (place_of new slot).blocks (cell_number n cell.symbol cell.prb) None) (ap (λ e. e.prbs) endpoint)
+    ∙ same ∙ sym (own_block old cell slot at was)
+
 pub block_other : (old new : RingValue) (slot : Slot) (cell : Cell) (k : ℕ) → new.endpoint ≡ old.endpoint
     → has_slot old slot ≡ true → has_slot new slot ≡ true → cell.slot ≡ slot → (cell_number old.endpoint.prbs cell.symbol cell.prb ≡ k → ⊥)
     → ((i : ℕ) → (i ≡ k → ⊥) → get_or (place_of new slot).blocks i None ≡ get_or (place_of old slot).blocks i None)
     → ring_block new cell ≡ ring_block old cell
-block_other old new slot cell k endpoint was is at apart others =
-    own_block new cell slot at is
-    ∙ ap (λ (n : ℕ). get_or (place_of new slot).blocks (cell_number n cell.symbol cell.prb) None) (ap (λ e. e.prbs) endpoint)
-    ∙ others _ apart ∙ sym (own_block old cell slot at was)
+block_other old new slot cell k endpoint was is at apart others = block_still old new slot cell endpoint was is at (others _ apart)
 
 pub done_other : (old new : RingValue) (slot : Slot) (cell : Cell) (k : ℕ) → new.endpoint ≡ old.endpoint
     → has_slot old slot ≡ true → has_slot new slot ≡ true → cell.slot ≡ slot → (cell_number old.endpoint.prbs cell.symbol cell.prb ≡ k → ⊥)

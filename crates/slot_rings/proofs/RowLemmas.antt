@@ -13,7 +13,7 @@ use Rattle.slot_rings.specs.declared.rows.Row.TheVariants.{Known, Mixed}
 use Rattle.slot_rings.specs.declared.rows.Run.{Run}
 use Rattle.slot_rings.proofs.JudgeLemmas.{from_above, from_below, from_in}
 use Rattle.slot_rings.proofs.PlaceLemmas.{no_claim}
-use Rattle.slot_rings.proofs.RangeLemmas.{every_at, every_from, every_not, every_same, some_at, some_from, some_one, some_same}
+use Rattle.slot_rings.proofs.RangeLemmas.{every_at, every_from, every_not, every_same, some_from, some_one, some_same}
 
 -- ---- tests of claims go by their ids alone
 

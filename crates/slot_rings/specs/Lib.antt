@@ -3,3 +3,4 @@ pub mod Rings
 pub mod Pending
 pub mod Verdicts
 pub mod Rows
+pub mod Runs

@@ -14,6 +14,7 @@ mod index;
 mod judging;
 mod lists;
 mod marks;
+mod packed;
 mod pending;
 mod place;
 mod ring;
@@ -21,6 +22,7 @@ mod rows;
 mod scans;
 
 pub use marks::Marks;
+pub use packed::PackedRun;
 pub use ring::{SlotRing, Use};
 
 #[cfg(test)]

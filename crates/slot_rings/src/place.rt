@@ -1,18 +1,22 @@
 // The memory of one slot.
 ghost use Rattle.std.specs.Prelude.{◌≡◌, ◌≢◌, ℕ, ◌+◌, ◌*◌, ◌<◌, ◌≤◌, true, false, length, get_or, reverse, if◌then◌else◌, IfOk, None, Some, option_copied, vec_capacity};
 ghost use Rattle.fh_time.specs.Carrier.{is_outside};
-ghost use Rattle.unit_model.specs.Claims.{same_slot};
+ghost use Rattle.bfp_codec.specs.Layout.{HasWidth, length_of, unpacked_of};
+ghost use Rattle.unit_model.specs.Claims.{is_from, same_slot};
 ghost use Rattle.unit_model.specs.Commands.{is_uplink};
 ghost use Rattle.unit_model.specs.Lists.{or_else};
 ghost use Rattle.unit_model.specs.declared.cells.Cell.{Cell};
 ghost use Rattle.unit_model.specs.declared.verdicts.CommandVerdict.TheVariants.{Accepted};
 ghost use Rattle.slot_rings.specs.Verdicts.{uplink_after};
 ghost use Rattle.slot_rings.specs.Places.{is_of};
+ghost use Rattle.slot_rings.specs.Runs.{block_in, samples_of};
 
 use crate::judging::{MOST_UPLINK, claim, is_uplink, verdict};
 use crate::lists::reach;
 use crate::marks::Marks;
+use crate::packed::PackedRun;
 use crate::rows::{EMPTY, Row, SYMBOLS};
+use bfp_codec::{Method, unpack};
 use fh_base::NoMemory;
 use fh_time::Slot;
 use std::alloc::Global;
@@ -100,6 +104,37 @@ fn fill(blocks: &mut Vec<Option<Block>>, k: usize, block: &Block)
     reach(blocks, k, None);
     let pushed = blocks.push(Some(*block)).is_ok();
     prove!(pushed);
+}
+
+/// Writes the samples of a packed PRB where no block is yet.
+fn fill_packed(blocks: &mut Vec<Option<Block>>, k: usize, id: u16, method: Method, packed: &[u8])
+    requires room { k < vec_capacity blocks.old }
+    requires width { HasWidth method }
+    requires len { length packed.now ≡ length_of method }
+    ensures here { get_or blocks.new.items k None ≡ or_else (get_or blocks.old.items k None) (Some (record { id = id; samples = unpacked_of method packed.now })) }
+    ensures others { (i : ℕ) → i ≢ k → get_or blocks.new.items i None ≡ get_or blocks.old.items i None }
+    ensures capacity { vec_capacity blocks.old ≤ vec_capacity blocks.new }
+{
+    if k < blocks.len() && blocks[k].is_some() {
+        return;
+    }
+    let samples = unpack(method, packed);
+    reach(blocks, k + 1, None);
+    blocks[k] = Some(Block { id, samples });
+}
+
+/// Writes the samples of packed PRBs from number `from` on, each where no block is yet.
+fn fill_run(blocks: &mut Vec<Option<Block>>, from: usize, run: &PackedRun<'_>)
+    requires width { HasWidth run.now.method }
+    requires room { from + run.now.count ≤ vec_capacity blocks.old }
+    ensures here { (k : ℕ) → k < run.now.count → get_or blocks.new.items (from + k) None
+        ≡ or_else (get_or blocks.old.items (from + k) None) (Some (block_in run.now.id (samples_of run.now) k)) }
+    ensures others { (i : ℕ) → is_from from run.now.count i ≡ false → get_or blocks.new.items i None ≡ get_or blocks.old.items i None }
+    ensures capacity { vec_capacity blocks.old ≤ vec_capacity blocks.new }
+{
+    for k in 0..run.count as usize {
+        fill_packed(blocks, from + k, run.id, run.method, run.prb(k));
+    }
 }
 
 /// Marks one cell.
@@ -302,6 +337,18 @@ impl Place {
         ensures kept { self.new ≡ record self.old { blocks = self.new.blocks } }
     {
         fill(&mut self.blocks, k, block);
+    }
+
+    /// Gives downlink cells from number `from` on the samples of packed PRBs, each where it has no block.
+    pub(crate) fn fill_run(&mut self, from: usize, run: &PackedRun<'_>)
+        requires width { HasWidth run.now.method }
+        requires room { from + run.now.count ≤ 14 * self.old.prbs }
+        ensures here { (k : ℕ) → k < run.now.count → get_or self.new.blocks (from + k) None
+            ≡ or_else (get_or self.old.blocks (from + k) None) (Some (block_in run.now.id (samples_of run.now) k)) }
+        ensures others { (i : ℕ) → is_from from run.now.count i ≡ false → get_or self.new.blocks i None ≡ get_or self.old.blocks i None }
+        ensures kept { self.new ≡ record self.old { blocks = self.new.blocks } }
+    {
+        fill_run(&mut self.blocks, from, run);
     }
 
     /// Marks a downlink cell as reported.

@@ -1,18 +1,21 @@
 // The ring of places.
 ghost use Rattle.std.specs.Prelude.{◌≡◌, ◌≢◌, ℕ, ◌+◌, ◌*◌, ◌<◌, ◌≤◌, ◌↔◌, true, false, length, get_or, reverse, is_some, IfOk, IfSome, None, Some, option_copied};
+ghost use Rattle.bfp_codec.specs.Layout.{HasWidth};
 ghost use Rattle.fh_time.specs.declared.values.Slot.{Slot};
 ghost use Rattle.fh_time.specs.Numbering.{symbols_of};
-ghost use Rattle.unit_model.specs.Claims.{cell_at};
+ghost use Rattle.unit_model.specs.Claims.{cell_at, is_from};
 ghost use Rattle.unit_model.specs.Lists.{every, some, or_else};
 ghost use Rattle.unit_model.specs.Proper.{IsSlot};
 ghost use Rattle.unit_model.specs.Radiated.{used_mask, cell_id};
 ghost use Rattle.unit_model.specs.declared.cells.Cell.{Cell};
 ghost use Rattle.unit_model.specs.declared.verdicts.CommandVerdict.TheVariants.{Accepted};
 ghost use Rattle.slot_rings.specs.Places.{blank, is_of, is_due, opened, place_claim, place_uplink, cell_number};
+ghost use Rattle.slot_rings.specs.Runs.{block_in, samples_of};
 ghost use Rattle.slot_rings.specs.Verdicts.{verdict_by, claim_after, uplink_after};
 
 use crate::index::place_index;
 use crate::judging::marks_at;
+use crate::packed::PackedRun;
 use crate::pending::{clear_flag, is_flagged, make_flags, set_flags};
 use crate::place::Place;
 use crate::scans::{all_there, any_due, block_at, done_at};
@@ -282,6 +285,21 @@ impl SlotRing {
         self.places[index].fill(number, block);
     }
 
+    /// Gives cells of a slot's place, from one number on, the samples of packed PRBs.
+    fn fill_run_place(&mut self, slot: Slot, number: usize, run: &PackedRun<'_>)
+        requires slot { IsSlot self.old.endpoint.numerology slot }
+        requires number { number + run.now.count ≤ 14 * self.old.endpoint.prbs }
+        requires width { HasWidth run.now.method }
+        ensures only { self.new ≡ with_place self.old slot (place_of self.new slot) }
+        ensures here { (k : ℕ) → k < run.now.count → get_or (place_of self.new slot).blocks (number + k) None
+            ≡ or_else (get_or (place_of self.old slot).blocks (number + k) None) (Some (block_in run.now.id (samples_of run.now) k)) }
+        ensures others { (i : ℕ) → is_from number run.now.count i ≡ false → get_or (place_of self.new slot).blocks i None ≡ get_or (place_of self.old slot).blocks i None }
+        ensures kept { place_of self.new slot ≡ record (place_of self.old slot) { blocks = (place_of self.new slot).blocks } }
+    {
+        let index = self.index(slot);
+        self.places[index].fill_run(number, run);
+    }
+
     /// Marks a cell as reported in a slot's place.
     fn mark_place(&mut self, slot: Slot, number: usize)
         requires slot { IsSlot self.old.endpoint.numerology slot }
@@ -345,6 +363,28 @@ impl SlotRing {
     {
         let number = self.number(symbol, prb);
         self.fill_place(slot, number, &block);
+    }
+
+    /// Gives downlink cells of a symbol, from PRB `first` on, the samples of packed PRBs, each cell where it has no block, in a
+    /// slot that has its place. What has a block already is not unpacked.
+    pub fn fill_run(&mut self, slot: Slot, symbol: u8, first: u16, run: &PackedRun<'_>)
+        requires slot { IsSlot self.old.endpoint.numerology slot }
+        requires symbol { symbol < symbols_of self.old.endpoint.numerology }
+        requires prbs { first + run.now.count ≤ self.old.endpoint.prbs }
+        requires width { HasWidth run.now.method }
+        requires has { has_slot self.old slot ≡ true }
+        ensures here { (ep k : ℕ) → k < run.now.count → ring_block self.new (cell_at ep true slot symbol (first + k))
+            ≡ or_else (ring_block self.old (cell_at ep true slot symbol (first + k))) (Some (block_in run.now.id (samples_of run.now) k)) }
+        ensures others { (cell : Cell) → IsRingCell self.old cell → cell.slot ≡ slot → (cell.symbol ≡ symbol → is_from first run.now.count cell.prb ≡ false)
+            → ring_block self.new cell ≡ ring_block self.old cell }
+        ensures has { has_slot self.new slot ≡ true }
+        ensures claims { SameClaims slot self.old self.new }
+        ensures done { SameDone slot self.old self.new }
+        ensures uplink { SameUplink slot self.old self.new }
+        ensures touches { TouchesOnly slot self.old self.new }
+    {
+        let number = self.number(symbol, first);
+        self.fill_run_place(slot, number, run);
     }
 
     /// Marks a downlink cell as reported, in a slot that has its place.

@@ -1,5 +1,5 @@
 use Rattle.std.proofs.Common.{◌<◌, arith, length-set, ◌∙◌}
-use Rattle.slot_rings.proofs.RowLemmas.{note_grown, note_others, to_note}
+use Rattle.slot_rings.proofs.RowLemmas.{note_grown, note_others}
 use Rattle.slot_rings.proofs.rows.note.Goals as goal
 
 pub loop-symbol-preserved : goal.loop-symbol-preserved

@@ -1,4 +1,4 @@
-use Rattle.std.proofs.Common.{◌≡◌, ℕ, ◌-◌, ◌<◌, ◌≤◌, true, false, length}
+use Rattle.std.proofs.Common.{◌≡◌, ℕ, ◌-◌, ◌<◌, ◌≤◌, false, length}
 use Rattle.unit_model.specs.Claims.{is_from}
 use Rattle.slot_rings.specs.Rows.{Grows, row_at}
 use Rattle.slot_rings.proofs.rows.note.Given as goal

@@ -1,0 +1,18 @@
+use Rattle.std.proofs.Common.{◌<◌, refl, ap, sym, subst, length}
+use Rattle.slot_rings.specs.Places.{PlaceValue}
+use Rattle.slot_rings.specs.Rings.{RingValue}
+use Rattle.slot_rings.proofs.RingLemmas.{put_kept}
+use Rattle.slot_rings.proofs.PendingLemmas.{flagged_put, filled_quiet}
+use Rattle.slot_rings.proofs.ring.SlotRing.fill_run_place.Goals as goal
+
+pub invariant_of-self : goal.invariant_of-self
+invariant_of-self c =
+    let r : RingValue = record { endpoint = c.self.inside.endpoint; places = c.self.inside.places.items } in
+    let within : c.index-index.result < length r.places = subst (λ (x : RingValue). c.index-index.result < length x.places) (sym c.self.view_is) c.index-index.ensures.within in (
+      put_kept r c.index-index.result c.index_mut.result.now c.fill_run.new.self c.self.invariant.0
+          within c.index_mut.ensures.value
+          (ap (λ (p : PlaceValue). p.slot) c.fill_run.ensures.kept) (ap (λ (p : PlaceValue). p.prbs) c.fill_run.ensures.kept),
+      flagged_put r c.self.inside.pending.items c.self.inside.pending.items c.index-index.result c.index_mut.result.now c.fill_run.new.self c.self.invariant.1 within c.index_mut.ensures.value
+          refl (λ j s off. off)
+          (λ s off. filled_quiet r.endpoint.prbs s c.index_mut.result.now c.fill_run.new.self (ap (λ (p : PlaceValue). p.down) c.fill_run.ensures.kept) (ap (λ (p : PlaceValue). p.done) c.fill_run.ensures.kept)),
+    )
