@@ -7,9 +7,8 @@ use Rattle.fh_time.specs.declared.values.Slot.{Slot}
 use Rattle.fh_time.proofs.Order.{same_slot}
 use Rattle.window_config.specs.declared.delays.Delays.{Delays}
 use Rattle.air_source.specs.declared.events.Side.{Side}
-use Rattle.unit_model.specs.Radiated.{is_down}
 use Rattle.unit_model.specs.Proper.{IsSlot}
-use Rattle.unit_model.specs.Sides.{IsLiveFor, IsLiveOn, reach_of}
+use Rattle.unit_model.specs.Sides.{IsLiveOn}
 use Rattle.slot_rings.specs.Rings.{RingValue, SharePlace}
 use Rattle.unit_cells.specs.Cells.{HoldsLive}
 use Rattle.unit_cells.proofs.NumberLemmas.{near_signed}

@@ -1,5 +1,5 @@
 -- What the calls answer, and what they leave.
-use Rattle.std.proofs.Common.{◌≡◌, ℕ, ℤ, pos, ◌+◌, ◌<◌, ◌≤ℤ◌, Bool, true, false, if◌then◌else◌, List, [], ◌∷◌, ◌++◌, length, refl, sym, ap, ◌∙◌, subst, arith, Option, Some, None}
+use Rattle.std.proofs.Common.{◌≡◌, ℕ, ℤ, pos, ◌+◌, ◌<◌, ◌≤◌, ◌≤ℤ◌, Bool, true, false, if◌then◌else◌, List, [], ◌∷◌, ◌++◌, length, refl, sym, ap, ◌∙◌, subst, arith, Option, Some, None}
 use Rattle.std.specs.Prelude.{All, get_or, is_some}
 use Rattle.std.specs.Int.{int_max}
 use Rattle.std.specs.Option.{option_map}
@@ -22,7 +22,6 @@ use Rattle.unit_model.specs.Claims.{cell_at}
 use Rattle.unit_model.specs.Commands.{allocation_of, command_class, command_slot, command_verdict, is_for, verdict_in, with_accepted}
 use Rattle.unit_model.specs.Lists.{every}
 use Rattle.air_source.specs.declared.events.Side.{Side}
-use Rattle.unit_model.specs.Radiated.{is_down}
 use Rattle.unit_model.specs.Proper.{IsAt, IsProperCommand, IsSlot}
 use Rattle.unit_model.specs.declared.allocations.Allocation.{Allocation}
 use Rattle.unit_model.specs.declared.decoded.Command.{Command}
@@ -32,7 +31,7 @@ use Rattle.unit_model.specs.declared.verdicts.CommandVerdict.TheVariants as comm
 use Rattle.unit_model.specs.declared.verdicts.DataVerdict.TheVariants as data_verdict
 use Rattle.unit_model.proofs.SlotLemmas.{command_slot_is}
 use Rattle.unit_model.proofs.SoundLemmas.{sound_command}
-use Rattle.unit_model.specs.Sides.{IsLiveFor, IsLiveOn, reach_of}
+use Rattle.unit_model.specs.Sides.{IsLiveOn}
 use Rattle.slot_rings.specs.Rings.{RingValue, ring_block}
 use Rattle.unit_cells.specs.Cells.{AreRings, CellsValue, HoldsLive, IsOf, endpoint_in, endpoints_of, index_from, ring_of}
 use Rattle.unit_cells.specs.Headings.{IsProperHeading, data_of, with_heading}
@@ -45,7 +44,6 @@ use Rattle.unit_cells.proofs.FillLemmas.{all_there, begun_keeps, fill_keeps, liv
 use Rattle.unit_cells.proofs.KeepLemmas.{IsStep, at_config, at_rings, held_for, marks_still, ring_endpoint}
 use Rattle.unit_cells.proofs.RingsLemmas.{read_is, rings_with}
 use Rattle.unit_cells.proofs.TakeLemmas.{kept_is, takes_keeps, verdict_is}
-use Rattle.unit_cells.proofs.ToldLemmas.{block_with}
 
 -- ---- commands
 
@@ -178,9 +176,9 @@ on_time_first : (side : Side) (d : Delays) (h : DataHeading) (blocks : List (Lis
     → with_heading side d h blocks ds ≡ data_of h blocks ∷ ds
 on_time_first side d h blocks ds on_time = ap (λ (k : Class). with_timely k (data_of h blocks) ds) (class_same side d h blocks ∙ on_time)
 
-module _ (side : Side) (c : Config) (h : DataHeading) (prb : ℕ) (samples : List Wide) (old new : CellsValue) (of : IsOf side c old) (held : AreRings old)
+module _ (side : Side) (c : Config) (h : DataHeading) (prb : ℕ) (run : List (List Wide)) (old new : CellsValue) (of : IsOf side c old) (held : AreRings old)
     (proper : IsProperHeading side (endpoints_of old) h) (on_time : data_class side c.delays (data_of h []) ≡ class.OnTime)
-    (filled : InRing h.ep (Fills (slot_of h) h.section.symbol prb (block_with h samples)) old new) where
+    (filled : InRing h.ep (Fills (slot_of h) h.section.symbol prb h.section.id run) old new) where
   fill_step : IsStep side c h.last.0 h.ep h.endpoint (slot_of h) filled.before filled.after old new
   fill_step = record {
     of = of;
@@ -197,11 +195,11 @@ module _ (side : Side) (c : Config) (h : DataHeading) (prb : ℕ) (samples : Lis
   }
 
   pub filled_keeps : (acc : List Allocation) (ds : List Data) (blocks : List (List Wide)) → prb ≡ first_data_prb (data_of h []) + length blocks
-      → length blocks < data_prb_count (data_of h []) → Keeps side c h.last.0 old acc (with_heading side c.delays h blocks ds)
-      → Keeps side c h.last.0 new acc (with_heading side c.delays h (blocks ++ samples ∷ []) ds)
+      → length blocks + length run ≤ data_prb_count (data_of h []) → Keeps side c h.last.0 old acc (with_heading side c.delays h blocks ds)
+      → Keeps side c h.last.0 new acc (with_heading side c.delays h (blocks ++ run) ds)
   filled_keeps acc ds blocks prb_is below keeps =
-      subst (Keeps side c h.last.0 new acc) (sym (on_time_first side c.delays h (blocks ++ samples ∷ []) ds on_time))
-      (fill_keeps side c h.last.0 h blocks samples prb filled.before filled.after old new acc ds fill_step filled.stepped proper.down prb_is below
+      subst (Keeps side c h.last.0 new acc) (sym (on_time_first side c.delays h (blocks ++ run) ds on_time))
+      (fill_keeps side c h.last.0 h blocks run prb filled.before filled.after old new acc ds fill_step filled.stepped proper.down prb_is below
       (subst (Keeps side c h.last.0 old acc) (on_time_first side c.delays h blocks ds on_time) keeps))
 
   pub filled_marks : SameMarks side c h.last.0 old new

@@ -1,7 +1,7 @@
 -- The blocks of a section that is on time, one by one, and the marks of cells.
 use Rattle.std.proofs.Common.{◌≡◌, ℕ, ℤ, pos, ◌+◌, ◌-◌, ◌<◌, ◌≤◌, ◌≤ℤ◌, Bool, true, false, ◌==◌, List, [], ◌∷◌, ◌++◌, length, refl, sym, ap, ◌∙◌, subst, arith, ◌⊎◌, inl, inr, Option, Some}
 use Rattle.std.specs.Prelude.{All, is_some}
-use Rattle.std.proofs.lemmas.Bool.{and_from, cases_eq, eq-eqb}
+use Rattle.std.proofs.lemmas.Bool.{and_from, cases_Bool, cases_eq, eq-eqb}
 use Rattle.std.proofs.lemmas.Int.{ints}
 use Rattle.std.proofs.lemmas.Bool.Decides.{nat_tests}
 use Rattle.std.proofs.lemmas.List.Elements.{All-cons, All-head, All-tail}
@@ -34,6 +34,7 @@ use Rattle.unit_laws.proofs.CellLemmas.{data_covers_is, from_first}
 use Rattle.unit_laws.proofs.LiveLemmas.{data_live}
 use Rattle.unit_laws.proofs.LookupLemmas.{has_all_by_lookup}
 use Rattle.slot_rings.specs.Rings.{RingValue, ring_block, ring_claim, ring_uplink}
+use Rattle.slot_rings.specs.Runs.{block_in}
 use Rattle.slot_rings.proofs.PlaceLemmas.{slot_own}
 use Rattle.unit_cells.specs.Cells.{CellsValue, block_from, claim_from, ring_of, uplink_from}
 use Rattle.unit_cells.specs.Headings.{IsProperHeading, IsSoundHeading, data_of}
@@ -43,7 +44,7 @@ use Rattle.unit_cells.specs.Told.{IsTold, told_block_at}
 use Rattle.unit_cells.specs.declared.heading.DataHeading.{DataHeading}
 use Rattle.unit_cells.proofs.KeepLemmas.{IsStep, cell_in_ring, lifted, ring_is, same_time}
 use Rattle.unit_cells.proofs.TimeLemmas.{live_at}
-use Rattle.unit_cells.proofs.ToldLemmas.{block_with, told_next, told_nothing, told_other, told_whole}
+use Rattle.unit_cells.proofs.ToldLemmas.{told_next, told_nothing, told_other, told_whole}
 
 -- ---- a step that leaves claims and uplink sections as they are
 
@@ -61,12 +62,12 @@ module _ (side : Side) (c : Config) (clock : ℤ) (ep : ℕ) (e : EndpointConfig
   uplink_of_old =
       ap (λ (o : Option RingValue). uplink_from o slot) (sym step.was) ∙ keeps.uplink e ep slot step.at step.is_slot (live_at side c clock e ep slot step.at step.live)
 
--- ---- one more block
+-- ---- more blocks
 
-either_cell : (y z m n : ℕ) → ((y ≡ z) × (m ≡ n)) ⊎ (y ≡ z → m ≡ n → ⊥)
-either_cell y z m n = elim (cases_eq y z) [
-  | inr ne ↦ inr (λ e _. ne e)
-  | inl e ↦ elim (cases_eq m n) [ inl f ↦ inl (e, f) | inr ne ↦ inr (λ _ f. ne f) ]
+either_cell : (y z first count n : ℕ) → ((y ≡ z) × (is_from first count n ≡ true)) ⊎ (y ≡ z → is_from first count n ≡ false)
+either_cell y z first count n = elim (cases_eq y z) [
+  | inr ne ↦ inr (λ e. absurd (ne e))
+  | inl e ↦ elim (cases_Bool (is_from first count n)) [ inl f ↦ inl (e, f) | inr out ↦ inr (λ _. out) ]
 ]
 
 cell_is : (cell : Cell) (down : Bool) (slot : Slot) (symbol prb : ℕ) → cell.down ≡ down → cell.slot ≡ slot → cell.symbol ≡ symbol → cell.prb ≡ prb
@@ -90,11 +91,18 @@ slots_same a b e = ap (same_slot a) e ∙ slot_own a
 pub from_is : (first count k prb : ℕ) → prb ≡ first + k → k < count → is_from first count prb ≡ true
 from_is first count k prb e below = grind (arith, nat_tests)
 
-distance : (first k prb : ℕ) → prb ≡ first + k → prb - first ≡ k
-distance first k prb e = omega arith
+-- a PRB among the next ones of a section, of which `first` is the first PRB and `done` were told
+run_index : (first done count prb : ℕ) → is_from (first + done) count prb ≡ true → prb ≡ first + done + (prb - (first + done))
+run_index first done count prb h = grind (arith, nat_tests)
 
-place_of_distance : (first k prb : ℕ) → first ≤ prb → prb - first ≡ k → prb ≡ first + k
-place_of_distance first k prb le e = omega arith
+run_below : (first count prb : ℕ) → is_from first count prb ≡ true → prb - first < count
+run_below first count prb h = grind (arith, nat_tests)
+
+distance : (first done k prb : ℕ) → prb ≡ first + done + k → prb - first ≡ done + k
+distance first done k prb e = omega arith
+
+not_next : (first done count prb : ℕ) → is_from (first + done) count prb ≡ false → first ≤ prb → is_from done count (prb - first) ≡ false
+not_next first done count prb h le = grind (arith, nat_tests)
 
 -- the slot of a section, whatever its blocks
 abbrev pub slot_of : DataHeading → Slot
@@ -109,21 +117,21 @@ covers_next side h blocks k cell head down ep slot symbol prb below =
     (and_from (h.section.symbol == cell.symbol) _ (eq-eqb h.section.symbol cell.symbol (sym symbol))
     (from_is (first_data_prb (data_of h blocks)) (data_prb_count (data_of h blocks)) k cell.prb prb below))))
 
-pub fill_keeps : (side : Side) (c : Config) (clock : ℤ) (h : DataHeading) (blocks : List (List Wide)) (samples : List Wide) (prb : ℕ) (before after : RingValue) (old new : CellsValue)
+pub fill_keeps : (side : Side) (c : Config) (clock : ℤ) (h : DataHeading) (blocks run : List (List Wide)) (prb : ℕ) (before after : RingValue) (old new : CellsValue)
     (acc : List Allocation) (ds : List Data)
     → IsStep side c clock h.ep h.endpoint (slot_of h) before after old new
-    → Fills (slot_of h) h.section.symbol prb (block_with h samples) before after
-    → h.head.down ≡ is_down side → prb ≡ first_data_prb (data_of h []) + length blocks → length blocks < data_prb_count (data_of h [])
-    → Keeps side c clock old acc (data_of h blocks ∷ ds) → Keeps side c clock new acc (data_of h (blocks ++ samples ∷ []) ∷ ds)
-fill_keeps side c clock h blocks samples prb before after old new acc ds step fills head prb_is below keeps =
-    lifted side c clock h.ep h.endpoint (slot_of h) before after old new step acc acc (data_of h blocks ∷ ds) (data_of h (blocks ++ samples ∷ []) ∷ ds) keeps
+    → Fills (slot_of h) h.section.symbol prb h.section.id run before after
+    → h.head.down ≡ is_down side → prb ≡ first_data_prb (data_of h []) + length blocks → length blocks + length run ≤ data_prb_count (data_of h [])
+    → Keeps side c clock old acc (data_of h blocks ∷ ds) → Keeps side c clock new acc (data_of h (blocks ++ run) ∷ ds)
+fill_keeps side c clock h blocks run prb before after old new acc ds step fills head prb_is below keeps =
+    lifted side c clock h.ep h.endpoint (slot_of h) before after old new step acc acc (data_of h blocks ∷ ds) (data_of h (blocks ++ run) ∷ ds) keeps
     (λ cell re is live ep slot small.
     fills.claims cell re slot ∙ claims_of_old side c clock h.ep h.endpoint (slot_of h) before after old new step acc (data_of h blocks ∷ ds) keeps cell re is live ep small)
     (λ cell re ne. refl) own_block
-    (λ cell ne. told_other h blocks samples cell ds (λ covers e. let is = data_covers_is (data_of h blocks) cell covers in ne (sym is.ep) (sym is.slot)))
+    (λ cell ne. told_other h blocks run cell ds (λ covers. let is = data_covers_is (data_of h blocks) cell covers in absurd (ne (sym is.ep) (sym is.slot))))
     (fills.uplink ∙ uplink_of_old side c clock h.ep h.endpoint (slot_of h) before after old new step acc (data_of h blocks ∷ ds) keeps)
     (λ k s ne. refl) keeps.accepted
-    (All-cons P (data_of h (blocks ++ samples ∷ [])) ds
+    (All-cons P (data_of h (blocks ++ run)) ds
     (let first = All-head P (data_of h blocks) ds keeps.timely in record { endpoint = first.endpoint; live = first.live })
     (All-tail P (data_of h blocks) ds keeps.timely))
   where
@@ -131,23 +139,29 @@ fill_keeps side c clock h blocks samples prb before after old new acc ds step fi
     P = IsReachedData c.endpoints (reach_of side c.delays) clock
 
     own_block : (cell : Cell) → IsCell c h.endpoint cell → cell.down ≡ is_down side → IsLiveFor side c clock cell.ep cell.slot → cell.ep ≡ h.ep → cell.slot ≡ slot_of h
-        → ring_block after cell ≡ told_block_at (data_of h (blocks ++ samples ∷ []) ∷ ds) cell
+        → ring_block after cell ≡ told_block_at (data_of h (blocks ++ run) ∷ ds) cell
     own_block cell is down live ep slot =
         let was = blocks_of_old side c clock h.ep h.endpoint (slot_of h) before after old new step acc (data_of h blocks ∷ ds) keeps cell is down live ep in
-        elim (either_cell cell.symbol h.section.symbol cell.prb prb) [
+        let first = first_data_prb (data_of h blocks) in
+        let done = length blocks in
+        elim (either_cell cell.symbol h.section.symbol (first + done) (length run) cell.prb) [
           | inl here ↦
-              let e = cell_is cell (is_down side) (slot_of h) h.section.symbol prb down slot here.0 here.1 in
-              let at = here.1 ∙ prb_is in
-              ap (ring_block after) e ∙ fills.here cell.ep
-              ∙ ap (λ (o : Option Block). or_else o (Some (block_with h samples))) (ap (ring_block before) (sym e) ∙ was)
-              ∙ sym (told_next h blocks samples cell ds (covers_next side h blocks (length blocks) cell head down ep slot here.0 at below)
-              (distance (first_data_prb (data_of h blocks)) (length blocks) cell.prb at))
+              let k : ℕ = cell.prb - (first + done) in
+              let small : k < length run = run_below (first + done) (length run) cell.prb here.1 in
+              let at : cell.prb ≡ first + done + k = run_index first done (length run) cell.prb here.1 in
+              let own : cell.prb ≡ prb + k = at ∙ ap (λ (n : ℕ). n + k) (sym prb_is) in
+              let e = cell_is cell (is_down side) (slot_of h) h.section.symbol (prb + k) down slot here.0 own in
+              let inside : cell.prb ≡ first + (done + k) = omega (arith, at) in
+              ap (ring_block after) e ∙ fills.here cell.ep k small
+              ∙ ap (λ (o : Option Block). or_else o (Some (block_in h.section.id run k))) (ap (ring_block before) (sym e) ∙ was)
+              ∙ sym (told_next h blocks run cell k ds (covers_next side h blocks (done + k) cell head down ep slot here.0 inside (omega (arith, below, small)))
+              (distance first done k cell.prb at) small)
           | inr ne ↦
-              fills.others cell (cell_in_ring c h.endpoint before cell (ring_is side c clock h.ep h.endpoint (slot_of h) before after old new step) is) slot (λ s p. ne s p) ∙ was
-              ∙ sym (told_other h blocks samples cell ds (λ covers e.
+              fills.others cell (cell_in_ring c h.endpoint before cell (ring_is side c clock h.ep h.endpoint (slot_of h) before after old new step) is) slot
+              (λ s. ap (λ (n : ℕ). is_from n (length run) cell.prb) prb_is ∙ ne s) ∙ was
+              ∙ sym (told_other h blocks run cell ds (λ covers.
               let is_in = data_covers_is (data_of h blocks) cell covers in
-              let first = first_data_prb (data_of h blocks) in
-              ne (sym is_in.symbol) (place_of_distance first (length blocks) cell.prb (from_first first (data_prb_count (data_of h blocks)) cell.prb is_in.prb) e ∙ sym prb_is)))
+              not_next first done (length run) cell.prb (ne (sym is_in.symbol)) (from_first first (data_prb_count (data_of h blocks)) cell.prb is_in.prb)))
         ]
 
 -- ---- a mark

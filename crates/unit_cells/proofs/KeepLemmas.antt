@@ -8,7 +8,6 @@ use Rattle.std.proofs.lemmas.Option.{slice_get-map, slice_get_within}
 use Rattle.fh_time.specs.Numbering.{symbols_of}
 use Rattle.fh_time.specs.declared.numerology.Numerology.{Numerology}
 use Rattle.fh_time.specs.declared.values.Slot.{Slot}
-use Rattle.window_config.specs.Rings.{ru_reach_of}
 use Rattle.window_config.specs.declared.config.Config.{Config}
 use Rattle.window_config.specs.declared.delays.Delays.{Delays}
 use Rattle.window_config.specs.declared.endpoints.EndpointConfig.{EndpointConfig}

@@ -18,11 +18,10 @@ use Rattle.window_config.specs.declared.delays.Delays.{Delays}
 use Rattle.window_config.specs.declared.endpoints.EndpointConfig.{EndpointConfig}
 use Rattle.unit_model.specs.Claims.{claim_at}
 use Rattle.air_source.specs.declared.events.Side.{Side}
-use Rattle.unit_model.specs.Radiated.{is_down}
 use Rattle.unit_model.specs.Proper.{IsAt, IsSlot}
 use Rattle.unit_model.specs.declared.cells.Cell.{Cell}
 use Rattle.unit_laws.specs.Far.{IsReached, IsReachedData}
-use Rattle.unit_model.specs.Sides.{IsLiveFor, IsLiveOn, reach_of}
+use Rattle.unit_model.specs.Sides.{IsLiveOn, reach_of}
 use Rattle.slot_rings.specs.Rings.{IsEmpty, RingValue, TouchesOnly}
 use Rattle.unit_cells.specs.Cells.{AreRings, CellsValue, HoldsLive, IsSlotIn, block_from, cells_block, cells_claim, cells_done, cells_has, cells_uplink, claim_from, done_from, endpoint_in, endpoints_of, has_from, ring_of, uplink_from}
 use Rattle.unit_cells.specs.Keeping.{Keeps}

@@ -1,10 +1,12 @@
 -- Steps of one ring, one after the other.
-use Rattle.std.proofs.Common.{◌≡◌, ℕ, pos, ◌<◌, ◌∙◌, true, length, refl, ap, sym, subst, Option, Some}
+use Rattle.std.proofs.Common.{◌≡◌, ◌≢◌, ℕ, pos, ◌+◌, ◌<◌, ◌∙◌, true, false, List, [], ◌∷◌, length, refl, ap, sym, subst, arith, Option, Some}
+use Rattle.std.proofs.lemmas.Bool.Decides.{nat_tests}
+use Rattle.bfp_codec.specs.declared.samples.Wide.{Wide}
 use Rattle.std.specs.Int.{int_gap, int_rem_euclid}
 use Rattle.fh_time.specs.Numbering.{slot_number, symbols_of}
 use Rattle.fh_time.specs.declared.values.Slot.{Slot}
 use Rattle.window_config.specs.declared.endpoints.EndpointConfig.{EndpointConfig}
-use Rattle.unit_model.specs.Claims.{cell_at, cell_of}
+use Rattle.unit_model.specs.Claims.{cell_at, cell_of, is_from}
 use Rattle.unit_model.specs.Lists.{or_else}
 use Rattle.unit_model.specs.Proper.{IsSlot}
 use Rattle.unit_model.specs.declared.allocations.Allocation.{Allocation}
@@ -12,7 +14,8 @@ use Rattle.unit_model.specs.declared.cells.Block.{Block}
 use Rattle.unit_model.specs.declared.cells.Cell.{Cell}
 use Rattle.unit_model.specs.declared.cells.Claim.{Claim}
 use Rattle.unit_model.specs.declared.verdicts.CommandVerdict.{CommandVerdict}
-use Rattle.slot_rings.specs.Rings.{IsRingCell, RingValue, SameBlocks, SameClaims, SameDone, SameUplink, TouchesOnly, place_index, ring_claim, ring_uplink}
+use Rattle.slot_rings.specs.Rings.{IsRingCell, RingValue, SameBlocks, SameClaims, SameDone, SameUplink, TouchesOnly, place_index, ring_block, ring_claim, ring_uplink}
+use Rattle.slot_rings.specs.Runs.{block_in}
 use Rattle.slot_rings.specs.Verdicts.{claim_after, uplink_after, verdict_by}
 use Rattle.slot_rings.proofs.PlaceLemmas.{verdict_same}
 use Rattle.unit_cells.specs.Steps.{Claims, Fills, Takes}
@@ -55,11 +58,11 @@ taken a v old mid new claims blocks done uplink touches verdict c = record {
   };
 }
 
-pub filled : (slot : Slot) (symbol prb : ℕ) (block : Block) (old mid new : RingValue)
+pub filled : (slot : Slot) (symbol first id : ℕ) (run : List (List Wide)) (old mid new : RingValue)
     → SameClaims slot old mid → SameBlocks slot old mid → SameDone slot old mid → SameUplink slot old mid → TouchesOnly slot old mid
-    → Fills slot symbol prb block mid new → Fills slot symbol prb block old new
-filled slot symbol prb block old mid new claims blocks done uplink touches f = record {
-  here = λ ep. f.here ep ∙ ap (λ (o : Option Block). or_else o (Some block)) (blocks (cell_at ep true slot symbol prb) refl);
+    → Fills slot symbol first id run mid new → Fills slot symbol first id run old new
+filled slot symbol first id run old mid new claims blocks done uplink touches f = record {
+  here = λ ep k below. f.here ep k below ∙ ap (λ (o : Option Block). or_else o (Some (block_in id run k))) (blocks (cell_at ep true slot symbol (first + k)) refl);
   others = λ cell is at ne. f.others cell (ring_cell_along old mid cell touches.endpoint is) at ne ∙ blocks cell at;
   has = f.has;
   claims = λ cell re at. f.claims cell re at ∙ claims cell re at;
@@ -67,3 +70,25 @@ filled slot symbol prb block old mid new claims blocks done uplink touches f = r
   uplink = f.uplink ∙ uplink;
   touches = touches_both slot old mid new touches f.touches;
 }
+
+-- ---- one cell
+
+pub one_of : (ep : ℕ) (slot : Slot) (symbol prb k id : ℕ) (samples : List Wide) (old new : RingValue) → k < 1
+    → ring_block new (cell_at ep true slot symbol prb) ≡ or_else (ring_block old (cell_at ep true slot symbol prb)) (Some (record { id = id; samples = samples }))
+    → ring_block new (cell_at ep true slot symbol (prb + k)) ≡ or_else (ring_block old (cell_at ep true slot symbol (prb + k))) (Some (block_in id (samples ∷ []) k))
+one_of ep slot symbol prb k id samples old new below is =
+    let first : 0 ≡ k = omega arith in
+    let same : prb ≡ prb + 0 = omega arith in
+    subst (λ (j : ℕ). ring_block new (cell_at ep true slot symbol (prb + j)) ≡ or_else (ring_block old (cell_at ep true slot symbol (prb + j))) (Some (block_in id (samples ∷ []) j))) first
+    (subst (λ (n : ℕ). ring_block new (cell_at ep true slot symbol n) ≡ or_else (ring_block old (cell_at ep true slot symbol n)) (Some (block_in id (samples ∷ []) 0))) same is)
+
+pub not_one : (prb n : ℕ) → is_from prb 1 n ≡ false → n ≢ prb
+not_one prb n h = grind (arith, nat_tests)
+
+-- ---- the cells of a run
+
+pub below_count : (k m n : ℕ) → m ≡ n → k < m → k < n
+below_count k m n e h = omega arith
+
+pub out_count : (first m n prb : ℕ) → m ≡ n → is_from first m prb ≡ false → is_from first n prb ≡ false
+out_count first m n prb e h = ap (λ (x : ℕ). is_from first x prb) (sym e) ∙ h

@@ -6,13 +6,11 @@ use Rattle.std.proofs.lemmas.List.Elements.{All-cons}
 use Rattle.fh_time.specs.Numbering.{symbols_of}
 use Rattle.fh_time.specs.declared.values.Slot.{Slot}
 use Rattle.fh_time.specs.Carrier.{is_outside}
-use Rattle.window_config.specs.Rings.{ru_reach_of}
 use Rattle.window_config.specs.declared.config.Config.{Config}
 use Rattle.window_config.specs.declared.endpoints.EndpointConfig.{EndpointConfig}
 use Rattle.unit_model.specs.Claims.{claim_at, claim_of, covers, in_mask, names, overlaps, repeats, same_slot}
 use Rattle.unit_model.specs.Commands.{is_full, is_uplink, most_uplink, timely_verdict, uplink_in, with_accepted}
 use Rattle.air_source.specs.declared.events.Side.{Side}
-use Rattle.unit_model.specs.Radiated.{is_down}
 use Rattle.unit_model.specs.Proper.{IsAt, IsProperAllocation, IsSlot}
 use Rattle.unit_model.specs.Standing.{IsCell, uplink_of}
 use Rattle.unit_model.specs.declared.allocations.Allocation.{Allocation}

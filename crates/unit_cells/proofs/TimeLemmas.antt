@@ -8,15 +8,12 @@ use Rattle.fh_time.specs.Air.{air_of}
 use Rattle.fh_time.specs.declared.numerology.Numerology.{Numerology}
 use Rattle.fh_time.specs.declared.values.Slot.{Slot}
 use Rattle.window_config.specs.Windows.{ticks_of_ns}
-use Rattle.window_config.specs.Rings.{ru_reach_of}
 use Rattle.window_config.specs.declared.config.Config.{Config}
 use Rattle.window_config.specs.declared.endpoints.EndpointConfig.{EndpointConfig}
 use Rattle.window_config.specs.declared.rings.Reach.{Reach}
 use Rattle.unit_model.specs.Blocks.{data_covers, data_slot}
 use Rattle.air_source.specs.declared.events.Side.{Side}
-use Rattle.unit_model.specs.Radiated.{is_down}
 use Rattle.unit_model.specs.Proper.{IsAt}
-use Rattle.unit_model.specs.Standing.{IsCell}
 use Rattle.unit_model.specs.declared.allocations.Allocation.{Allocation}
 use Rattle.unit_model.specs.declared.cells.Block.{Block}
 use Rattle.unit_model.specs.declared.cells.Cell.{Cell}

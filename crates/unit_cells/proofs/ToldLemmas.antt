@@ -1,9 +1,12 @@
 -- The blocks of sections that are told in part.
-use Rattle.std.proofs.Common.{◌≡◌, ◌≢◌, ℕ, ◌+◌, ◌-◌, ◌<◌, ◌≤◌, Bool, true, false, ◌&&◌, List, [], ◌∷◌, ◌++◌, length, get_or, refl, sym, ap, ap₂, ◌∙◌, arith, inl, inr, Option, Some, None, length-append}
+use Rattle.std.proofs.Common.{◌≡◌, ℕ, ◌+◌, ◌-◌, ◌<◌, ◌≤◌, Bool, true, false, ◌&&◌, List, [], ◌∷◌, ◌++◌, length, get_or, refl, sym, ap, ap₂, ◌∙◌, arith, inl, inr, Option, Some, None, length-append}
 use Rattle.std.specs.Prelude.{if◌then◌else◌}
-use Rattle.std.proofs.lemmas.Bool.{cases_lt, cases_eq, lt-ltb, le-ltb, cases_Bool}
+use Rattle.std.proofs.lemmas.Bool.{cases_lt, lt-ltb, le-ltb, cases_Bool}
 use Rattle.std.proofs.Math.ListN.{get_or-append}
-use Rattle.std.proofs.lemmas.List.{get_or_push}
+use Rattle.std.proofs.lemmas.List.{get_or-append-add}
+use Rattle.std.proofs.lemmas.Bool.Decides.{nat_tests}
+use Rattle.unit_model.specs.Claims.{is_from}
+use Rattle.slot_rings.specs.Runs.{block_in}
 use Rattle.std.proofs.lemmas.List.Elements.{All-head, All-tail}
 use Rattle.bfp_codec.specs.declared.samples.Wide.{Wide}
 use Rattle.unit_model.specs.Blocks.{block_at, block_of, data_covers, data_prb_count, first_data_prb}
@@ -65,70 +68,66 @@ pub told_same : (x y : Data) (earlier : List Data) (cell : Cell) → told_block_
 told_same x y earlier cell e =
     told-cons x earlier cell ∙ ap (λ (o : Option Block). or_else (told_block_at earlier cell) o) e ∙ sym (told-cons y earlier cell)
 
--- the block that a cell is given by one PRB of a section
-abbrev pub block_with : DataHeading → List Wide → Block
-block_with h samples = record { id = h.section.id; samples = samples }
-
-module _ (h : DataHeading) (blocks : List (List Wide)) (samples : List Wide) (cell : Cell) where
-  more : length (blocks ++ samples ∷ []) ≡ length blocks + 1
-  more = omega (arith, length-append blocks (samples ∷ []))
+module _ (h : DataHeading) (blocks run : List (List Wide)) (cell : Cell) where
+  more : length (blocks ++ run) ≡ length blocks + length run
+  more = length-append blocks run
 
   reach : ℕ
   reach = cell.prb - first_data_prb (data_of h blocks)
 
-  told_before : reach ≡ length blocks → told_block_in (data_of h blocks) cell ≡ None
+  told_before : length blocks ≤ reach → told_block_in (data_of h blocks) cell ≡ None
   unfolding reach
   told_before e =
-      let past : reaches (data_of h blocks) cell ≡ false = le-ltb reach (length blocks) (omega arith) in
+      let past : reaches (data_of h blocks) cell ≡ false = le-ltb reach (length blocks) e in
       rw past (none_in (data_covers (data_of h blocks) cell) (block_of (data_of h blocks) cell))
 
-  told_now : data_covers (data_of h blocks) cell ≡ true → reach ≡ length blocks
-      → told_block_in (data_of h (blocks ++ samples ∷ [])) cell ≡ Some (block_with h samples)
+  told_now : (k : ℕ) → data_covers (data_of h blocks) cell ≡ true → reach ≡ length blocks + k → k < length run
+      → told_block_in (data_of h (blocks ++ run)) cell ≡ Some (block_in h.section.id run k)
   unfolding reach
-  told_now covers e =
-      let here : reaches (data_of h (blocks ++ samples ∷ [])) cell ≡ true = lt-ltb reach (length (blocks ++ samples ∷ [])) (omega (arith, more)) in
-      let at : get_or (blocks ++ samples ∷ []) reach [] ≡ samples = get_or_push blocks samples [] reach (sym e) in
-      rw (covers, here) (ap (λ (s : List Wide). Some (block_with h s)) at)
+  told_now k covers e below =
+      let here : reaches (data_of h (blocks ++ run)) cell ≡ true = lt-ltb reach (length (blocks ++ run)) (omega (arith, more, e)) in
+      let at : get_or (blocks ++ run) reach [] ≡ get_or run k [] = ap (λ (n : ℕ). get_or (blocks ++ run) n []) e ∙ get_or-append-add blocks run k [] in
+      rw (covers, here) (ap (λ (s : List Wide). Some (record { id = h.section.id; samples = s })) at)
 
-  -- the cell at the PRB that comes next
-  pub told_next : (earlier : List Data) → data_covers (data_of h blocks) cell ≡ true → cell.prb - first_data_prb (data_of h blocks) ≡ length blocks
-      → told_block_at (data_of h (blocks ++ samples ∷ []) ∷ earlier) cell
-      ≡ or_else (told_block_at (data_of h blocks ∷ earlier) cell) (Some (block_with h samples))
+  -- the cells at the PRBs that come next
+  pub told_next : (k : ℕ) (earlier : List Data) → data_covers (data_of h blocks) cell ≡ true → cell.prb - first_data_prb (data_of h blocks) ≡ length blocks + k → k < length run
+      → told_block_at (data_of h (blocks ++ run) ∷ earlier) cell
+      ≡ or_else (told_block_at (data_of h blocks ∷ earlier) cell) (Some (block_in h.section.id run k))
   unfolding reach
-  told_next earlier covers e =
+  told_next k earlier covers e below =
       let was : told_block_at (data_of h blocks ∷ earlier) cell ≡ told_block_at earlier cell =
-      told-cons (data_of h blocks) earlier cell ∙ ap (λ (o : Option Block). or_else (told_block_at earlier cell) o) (told_before e) ∙ or_none (told_block_at earlier cell) in
-      told-cons (data_of h (blocks ++ samples ∷ [])) earlier cell
-      ∙ ap (λ (o : Option Block). or_else (told_block_at earlier cell) o) (told_now covers e)
-      ∙ ap (λ (o : Option Block). or_else o (Some (block_with h samples))) (sym was)
+      told-cons (data_of h blocks) earlier cell ∙ ap (λ (o : Option Block). or_else (told_block_at earlier cell) o) (told_before (omega (arith, e))) ∙ or_none (told_block_at earlier cell) in
+      told-cons (data_of h (blocks ++ run)) earlier cell
+      ∙ ap (λ (o : Option Block). or_else (told_block_at earlier cell) o) (told_now k covers e below)
+      ∙ ap (λ (o : Option Block). or_else o (Some (block_in h.section.id run k))) (sym was)
 
-  told_below : reach < length blocks → told_block_in (data_of h (blocks ++ samples ∷ [])) cell ≡ told_block_in (data_of h blocks) cell
+  told_below : reach < length blocks → told_block_in (data_of h (blocks ++ run)) cell ≡ told_block_in (data_of h blocks) cell
   unfolding reach
   told_below below =
-      let now : reaches (data_of h (blocks ++ samples ∷ [])) cell ≡ true = lt-ltb reach (length (blocks ++ samples ∷ [])) (omega (arith, more)) in
+      let now : reaches (data_of h (blocks ++ run)) cell ≡ true = lt-ltb reach (length (blocks ++ run)) (omega (arith, more)) in
       let was : reaches (data_of h blocks) cell ≡ true = lt-ltb reach (length blocks) below in
-      let same : get_or (blocks ++ samples ∷ []) reach [] ≡ get_or blocks reach [] = get_or-append blocks (samples ∷ []) [] reach below in
-      rw (now, was) (ap (λ (s : List Wide). if data_covers (data_of h blocks) cell && true then Some (block_with h s) else None) same)
+      let same : get_or (blocks ++ run) reach [] ≡ get_or blocks reach [] = get_or-append blocks run [] reach below in
+      rw (now, was) (ap (λ (s : List Wide). if data_covers (data_of h blocks) cell && true then Some (record { id = h.section.id; samples = s }) else None) same)
 
-  told_past : length blocks < reach → told_block_in (data_of h (blocks ++ samples ∷ [])) cell ≡ told_block_in (data_of h blocks) cell
+  told_past : length blocks + length run ≤ reach → told_block_in (data_of h (blocks ++ run)) cell ≡ told_block_in (data_of h blocks) cell
   unfolding reach
   told_past above =
-      let now : reaches (data_of h (blocks ++ samples ∷ [])) cell ≡ false = le-ltb reach (length (blocks ++ samples ∷ [])) (omega (arith, more)) in
+      let now : reaches (data_of h (blocks ++ run)) cell ≡ false = le-ltb reach (length (blocks ++ run)) (omega (arith, more)) in
       let was : reaches (data_of h blocks) cell ≡ false = le-ltb reach (length blocks) (omega arith) in
-      rw (now, was) (none_in (data_covers (data_of h blocks) cell) (block_of (data_of h (blocks ++ samples ∷ [])) cell)
+      rw (now, was) (none_in (data_covers (data_of h blocks) cell) (block_of (data_of h (blocks ++ run)) cell)
       ∙ sym (none_in (data_covers (data_of h blocks) cell) (block_of (data_of h blocks) cell)))
 
+  beyond : (n b c : ℕ) → is_from b c n ≡ false → b ≤ n → b + c ≤ n
+  beyond n b c h le = grind (arith, nat_tests)
+
   -- all other cells
-  pub told_other : (earlier : List Data) → (data_covers (data_of h blocks) cell ≡ true → cell.prb - first_data_prb (data_of h blocks) ≢ length blocks)
-      → told_block_at (data_of h (blocks ++ samples ∷ []) ∷ earlier) cell ≡ told_block_at (data_of h blocks ∷ earlier) cell
+  pub told_other : (earlier : List Data) → (data_covers (data_of h blocks) cell ≡ true → is_from (length blocks) (length run) (cell.prb - first_data_prb (data_of h blocks)) ≡ false)
+      → told_block_at (data_of h (blocks ++ run) ∷ earlier) cell ≡ told_block_at (data_of h blocks ∷ earlier) cell
   unfolding reach
-  told_other earlier ne = told_same (data_of h (blocks ++ samples ∷ [])) (data_of h blocks) earlier cell (elim (cases_Bool (data_covers (data_of h blocks) cell)) [
+  told_other earlier ne = told_same (data_of h (blocks ++ run)) (data_of h blocks) earlier cell (elim (cases_Bool (data_covers (data_of h blocks) cell)) [
     | inr other ↦ rw other refl
     | inl covers ↦ elim (cases_lt reach (length blocks)) [
       | inl below ↦ told_below below
-      | inr above ↦ elim (cases_eq reach (length blocks)) [
-        | inl e ↦ absurd (ne covers e)
-        | inr apart ↦ told_past (omega (arith, apart))
-      ]
+      | inr above ↦ told_past (beyond reach (length blocks) (length run) (ne covers) above)
     ]
   ])

@@ -1,5 +1,5 @@
 -- The rings of all endpoints of a unit, and what they answer of a cell.
-use Rattle.std.specs.Prelude.{◌≡◌, ℕ, ℤ, pos, ◌<◌, ◌+ℤ◌, ◌<ℤ◌, Bool, false, List, [], length, map, slice_get, Option, Some, None}
+use Rattle.std.specs.Prelude.{◌≡◌, ℕ, ℤ, pos, ◌+◌, ◌<◌, ◌≤◌, ◌+ℤ◌, ◌<ℤ◌, Bool, false, List, [], length, map, slice_get, Option, Some, None}
 use Rattle.fh_time.specs.declared.values.Slot.{Slot}
 use Rattle.fh_time.specs.Numbering.{IsSlotOf, slot_number, symbols_of}
 use Rattle.air_source.specs.declared.events.Side.{Side}
@@ -121,3 +121,11 @@ pub record IsCellIn (v : CellsValue) (cell : Cell) : Type 0 where
   pub slot_is : IsSlot endpoint.numerology cell.slot
   pub symbol : cell.symbol < symbols_of endpoint.numerology
   pub prb : cell.prb < endpoint.prbs
+
+-- so many cells of a symbol, from PRB `first` on
+pub record AreCellsIn (v : CellsValue) (ep : ℕ) (slot : Slot) (symbol first count : ℕ) : Type 0 where
+  pub endpoint : EndpointConfig
+  pub at : IsAt (endpoints_of v) ep endpoint
+  pub slot_is : IsSlot endpoint.numerology slot
+  pub symbol_is : symbol < symbols_of endpoint.numerology
+  pub prbs : first + count ≤ endpoint.prbs

@@ -1,5 +1,5 @@
 -- A section of data whose header is read, and whose PRBs come one by one.
-use Rattle.std.specs.Prelude.{◌≡◌, ◌<◌, ◌≤ℤ◌, List, true, false}
+use Rattle.std.specs.Prelude.{◌≡◌, ◌<◌, ◌≤ℤ◌, List, false}
 use Rattle.fh_time.specs.Numbering.{slots_of, symbols_of}
 use Rattle.bfp_codec.specs.declared.samples.Wide.{Wide}
 use Rattle.fh_time.specs.Carrier.{is_outside}

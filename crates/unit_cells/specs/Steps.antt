@@ -1,13 +1,14 @@
 -- What a call does to the ring of one endpoint, and so to all rings.
-use Rattle.std.specs.Prelude.{◌≡◌, ◌≢◌, ℕ, ◌<◌, true, length, set, Some}
+use Rattle.std.specs.Prelude.{◌≡◌, ◌≢◌, ℕ, ◌+◌, ◌<◌, true, false, List, length, set, Some}
+use Rattle.bfp_codec.specs.declared.samples.Wide.{Wide}
 use Rattle.fh_time.specs.declared.values.Slot.{Slot}
-use Rattle.unit_model.specs.Claims.{cell_at}
+use Rattle.unit_model.specs.Claims.{cell_at, is_from}
 use Rattle.unit_model.specs.Lists.{or_else}
 use Rattle.unit_model.specs.declared.allocations.Allocation.{Allocation}
-use Rattle.unit_model.specs.declared.cells.Block.{Block}
 use Rattle.unit_model.specs.declared.cells.Cell.{Cell}
 use Rattle.unit_model.specs.declared.verdicts.CommandVerdict.{CommandVerdict}
 use Rattle.slot_rings.specs.Rings.{IsRingCell, RingValue, SameBlocks, SameClaims, SameDone, SameUplink, TouchesOnly, has_slot, ring_block, ring_claim, ring_done, ring_uplink}
+use Rattle.slot_rings.specs.Runs.{block_in}
 use Rattle.slot_rings.specs.Verdicts.{claim_after, uplink_after, verdict_by}
 use Rattle.unit_cells.specs.Cells.{CellsValue, ring_of}
 
@@ -26,10 +27,12 @@ pub record Takes (a : Allocation) (v : CommandVerdict) (old new : RingValue) : T
   pub verdict : v ≡ verdict_by (ring_claim old) (length (ring_uplink old a.slot)) a
   pub claims : Claims a v old new
 
--- a downlink cell has this block, where it had none
-pub record Fills (slot : Slot) (symbol prb : ℕ) (block : Block) (old new : RingValue) : Type 0 where
-  pub here : (ep : ℕ) → ring_block new (cell_at ep true slot symbol prb) ≡ or_else (ring_block old (cell_at ep true slot symbol prb)) (Some block)
-  pub others : (cell : Cell) → IsRingCell old cell → cell.slot ≡ slot → (cell.symbol ≡ symbol → cell.prb ≢ prb) → ring_block new cell ≡ ring_block old cell
+-- downlink cells of a symbol, from one PRB on, have the blocks of a section with these samples, where they had none
+pub record Fills (slot : Slot) (symbol first id : ℕ) (run : List (List Wide)) (old new : RingValue) : Type 0 where
+  pub here : (ep k : ℕ) → k < length run
+      → ring_block new (cell_at ep true slot symbol (first + k)) ≡ or_else (ring_block old (cell_at ep true slot symbol (first + k))) (Some (block_in id run k))
+  pub others : (cell : Cell) → IsRingCell old cell → cell.slot ≡ slot → (cell.symbol ≡ symbol → is_from first (length run) cell.prb ≡ false)
+      → ring_block new cell ≡ ring_block old cell
   pub has : has_slot new slot ≡ true
   pub claims : SameClaims slot old new
   pub done : SameDone slot old new

@@ -1,9 +1,10 @@
 // The rings of all endpoints.
-ghost use Rattle.std.specs.Prelude.{◌≡◌, ◌≢◌, ℕ, ℤ, ◌+◌, ◌<◌, ◌≤◌, true, false, List, [], ◌∷◌, ◌++◌, All, length, reverse, is_some, IfOk, IfSome, Some, option_copied};
+ghost use Rattle.std.specs.Prelude.{◌≡◌, ◌≢◌, ℕ, ℤ, ◌+◌, ◌*◌, ◌<◌, ◌≤◌, true, false, List, [], ◌∷◌, ◌++◌, All, length, reverse, is_some, IfOk, IfSome, Some, option_copied};
 ghost use Rattle.fh_time.specs.Numbering.{symbols_of};
 ghost use Rattle.fh_time.specs.declared.values.Slot.{Slot};
 ghost use Rattle.air_source.specs.declared.events.Side.{Side as SpecSide};
 ghost use Rattle.air_source.specs.declared.events.Side.TheVariants.{Ru};
+ghost use Rattle.bfp_codec.specs.Layout.{HasWidth, length_of};
 ghost use Rattle.bfp_codec.specs.declared.samples.Wide.{Wide};
 ghost use Rattle.window_config.specs.Configs.{IsConfig};
 ghost use Rattle.window_config.specs.declared.config.Config.{Config};
@@ -19,17 +20,18 @@ ghost use Rattle.unit_model.specs.declared.cells.Cell.{Cell};
 ghost use Rattle.unit_model.specs.declared.decoded.Data.{Data};
 ghost use Rattle.slot_rings.specs.Places.{is_due};
 ghost use Rattle.slot_rings.specs.Rings.{RingValue, ring_block};
+ghost use Rattle.slot_rings.specs.Runs.{samples_of, unpacked_run};
 ghost use Rattle.unit_cells.specs.Headings.{IsProperHeading, data_of, with_heading};
 ghost use Rattle.unit_cells.specs.Told.{IsTold};
 
 use crate::heading::DataHeading;
-use crate::rings::{fill, make_ring, mark, take};
+use crate::rings::{fill, fill_run, make_ring, mark, take};
 use crate::sections::{data_class, data_slot, first_prb, prb_at, prb_count};
 use air_source::Side;
-use bfp_codec::Wide;
+use bfp_codec::{Method, Wide};
 use fh_base::NoMemory;
 use fh_time::Slot;
-use slot_rings::{SlotRing, Use};
+use slot_rings::{PackedRun, SlotRing, Use};
 use std::alloc::Global;
 use std::marker::Model;
 use unit_model::{
@@ -59,7 +61,7 @@ impl Model for UnitCells {
 }
 
 impl UnitCells {
-    ghost use Rattle.unit_cells.specs.Cells.{AreRings, CellsValue, IsOf, IsSlotIn, IsCellIn, cells_block, cells_claim, cells_done, cells_has, cells_index, cells_places, cells_uplink, endpoints_of, ring_of};
+    ghost use Rattle.unit_cells.specs.Cells.{AreCellsIn, AreRings, CellsValue, IsOf, IsSlotIn, IsCellIn, cells_block, cells_claim, cells_done, cells_has, cells_index, cells_places, cells_uplink, endpoints_of, ring_of};
     ghost use Rattle.unit_cells.specs.Keeping.{Keeps, LiveAreApart, SameKnown, SameMarks};
     ghost use Rattle.unit_cells.specs.Steps.{Fills, InRing, Marks, Takes};
 
@@ -97,10 +99,20 @@ impl UnitCells {
     /// Gives a downlink cell its block, where it has none.
     fn fill_cell(&mut self, ep: usize, slot: Slot, symbol: u8, prb: u16, block: Block)
         requires { IsCellIn self.old (cell_at ep true slot symbol prb) }
-        ensures filled { InRing ep (Fills slot symbol prb block) self.old self.new }
+        ensures filled { InRing ep (Fills slot symbol prb block.id (block.samples ∷ [])) self.old self.new }
         ensures held { AreRings self.old }
     {
         fill(&mut self.rings[ep], slot, symbol, prb, block);
+    }
+
+    /// Gives downlink cells of a symbol, from PRB `first` on, the samples of packed PRBs, each cell where it has no block.
+    fn fill_cells(&mut self, ep: usize, slot: Slot, symbol: u8, first: u16, run: &PackedRun<'_>)
+        requires cells { AreCellsIn self.old ep slot symbol first run.now.count }
+        requires width { HasWidth run.now.method }
+        ensures filled { InRing ep (Fills slot symbol first run.now.id (samples_of run.now)) self.old self.new }
+        ensures held { AreRings self.old }
+    {
+        fill_run(&mut self.rings[ep], slot, symbol, first, run);
     }
 
     /// Marks a downlink cell as reported.
@@ -135,7 +147,7 @@ impl UnitCells {
         }
     }
 
-    /// The verdict on a section of data whose message becomes whole at the clock. Its PRBs come after, by `fill`.
+    /// The verdict on a section of data whose message becomes whole at the clock. Its PRBs come after, by `fill` and `fill_run`.
     pub fn begin(&self, heading: &DataHeading) -> DataVerdict
         requires { IsProperHeading self.now.side (endpoints_of self.now) heading.now }
         ensures verdict { (side : SpecSide) (c : Config) (acc : List Allocation) (ds : List Data) (blocks : List (List Wide)) → IsOf side c self.now
@@ -190,6 +202,43 @@ impl UnitCells {
             let slot = data_slot(heading);
             let prb = prb_at(heading, k);
             self.fill_cell(heading.ep, slot, heading.section.symbol, prb, block);
+        }
+    }
+
+    /// Gives cells the samples of the PRBs of a section of data from number `k` on, which stand packed in these bytes, one behind
+    /// the other: each cell where the section is on time and the cell has no block. It stands for so many calls of `fill`.
+    pub fn fill_run(
+        &mut self,
+        heading: &DataHeading,
+        k: u16,
+        method: Method,
+        count: u16,
+        packed: &[u8],
+    )
+        requires heading { IsProperHeading self.old.side (endpoints_of self.old) heading.now }
+        requires some { 0 < count }
+        requires within { k + count ≤ data_prb_count (data_of heading.now []) }
+        requires width { HasWidth method }
+        requires len { length packed.now ≡ count * length_of method }
+        ensures keeps { (side : SpecSide) (c : Config) (acc : List Allocation) (ds : List Data) (blocks : List (List Wide)) → IsOf side c self.old → length blocks ≡ k
+            → Keeps side c heading.now.last.0 self.old acc (with_heading side c.delays heading.now blocks ds)
+            → Keeps side c heading.now.last.0 self.new acc (with_heading side c.delays heading.now (blocks ++ unpacked_run method count packed.now) ds) }
+        ensures same { data_class self.old.side self.old.delays (data_of heading.now []) ≢ OnTime → self.new ≡ self.old }
+        ensures marks { (side : SpecSide) (c : Config) → IsOf side c self.old → SameMarks side c heading.now.last.0 self.old self.new }
+        ensures side { self.new.side ≡ self.old.side }
+        ensures delays { self.new.delays ≡ self.old.delays }
+        ensures endpoints { endpoints_of self.new ≡ endpoints_of self.old }
+    {
+        if let Class::OnTime = data_class(self.side, &self.delays, heading) {
+            let run = PackedRun {
+                id: heading.section.id,
+                method,
+                count,
+                bytes: packed,
+            };
+            let slot = data_slot(heading);
+            let first = prb_at(heading, k);
+            self.fill_cells(heading.ep, slot, heading.section.symbol, first, &run);
         }
     }
 

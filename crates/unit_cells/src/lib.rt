@@ -10,8 +10,8 @@
 //! answer as those do, for the slots that are live. Calls come in the order of time, and what is kept at one clock is kept at
 //! a later one (`keeps_later`).
 //!
-//! Sections of data are judged by their header (`begin`), and their PRBs follow one by one (`fill`), so that no message has to
-//! be kept. Windows and fields are those of O-RAN.WG4.CUS; the verdicts are this project's profile.
+//! Sections of data are judged by their header (`begin`), and their PRBs follow, one (`fill`) or many packed ones (`fill_run`) at a
+//! time, so that no message has to be kept. Windows and fields are those of O-RAN.WG4.CUS; the verdicts are this project's profile.
 #![tactic(auto)]
 
 mod cells;

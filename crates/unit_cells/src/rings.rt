@@ -1,10 +1,12 @@
 // What is done to the ring of one endpoint.
-ghost use Rattle.std.specs.Prelude.{◌≡◌, ◌+◌, ◌<◌, ◌≤◌, length, true, IfOk};
+ghost use Rattle.std.specs.Prelude.{◌≡◌, ◌+◌, ◌<◌, ◌≤◌, [], ◌∷◌, length, true, IfOk};
+ghost use Rattle.bfp_codec.specs.Layout.{HasWidth};
 ghost use Rattle.fh_time.specs.Numbering.{symbols_of};
 ghost use Rattle.unit_model.specs.Proper.{IsSlot};
 ghost use Rattle.window_config.specs.Limits.{IsReach, IsWithinLimits};
 ghost use Rattle.unit_model.specs.Sides.{reach_of};
 ghost use Rattle.slot_rings.specs.Rings.{IsEmpty, has_slot, ring_claim, ring_uplink};
+ghost use Rattle.slot_rings.specs.Runs.{samples_of};
 ghost use Rattle.slot_rings.specs.Verdicts.{verdict_by};
 ghost use Rattle.unit_cells.specs.Cells.{HoldsLive};
 ghost use Rattle.unit_cells.specs.Steps.{Claims, Takes, Fills, Marks};
@@ -12,7 +14,7 @@ ghost use Rattle.unit_cells.specs.Steps.{Claims, Takes, Fills, Marks};
 use air_source::Side;
 use fh_base::NoMemory;
 use fh_time::Slot;
-use slot_rings::SlotRing;
+use slot_rings::{PackedRun, SlotRing};
 use std::alloc::Global;
 use unit_model::{Allocation, Block, CommandVerdict};
 use window_config::{Delays, EndpointConfig, Reach, du_reach, ring_slots, ru_reach};
@@ -80,10 +82,22 @@ pub(crate) fn fill(ring: &mut SlotRing, slot: Slot, symbol: u8, prb: u16, block:
     requires slot { IsSlot ring.old.endpoint.numerology slot }
     requires symbol { symbol < symbols_of ring.old.endpoint.numerology }
     requires prb { prb < ring.old.endpoint.prbs }
-    ensures { Fills slot symbol prb block ring.old ring.new }
+    ensures { Fills slot symbol prb block.id (block.samples ∷ []) ring.old ring.new }
 {
     ring.open(slot);
     ring.fill(slot, symbol, prb, block);
+}
+
+/// Gives downlink cells of a symbol, from PRB `first` on, the samples of packed PRBs, each cell where it has no block.
+pub(crate) fn fill_run(ring: &mut SlotRing, slot: Slot, symbol: u8, first: u16, run: &PackedRun<'_>)
+    requires slot { IsSlot ring.old.endpoint.numerology slot }
+    requires symbol { symbol < symbols_of ring.old.endpoint.numerology }
+    requires prbs { first + run.now.count ≤ ring.old.endpoint.prbs }
+    requires width { HasWidth run.now.method }
+    ensures { Fills slot symbol first run.now.id (samples_of run.now) ring.old ring.new }
+{
+    ring.open(slot);
+    ring.fill_run(slot, symbol, first, run);
 }
 
 /// Marks a downlink cell as reported, in a slot that has its place.

@@ -1,5 +1,5 @@
 // What a section of data names, and whether it is on time.
-ghost use Rattle.std.specs.Prelude.{◌≡◌, pos, neg_ℤ, ◌^◌, ◌≤ℤ◌, ◌+◌, ◌<◌, []};
+ghost use Rattle.std.specs.Prelude.{◌≡◌, pos, neg_ℤ, ◌^◌, ◌≤ℤ◌, ℕ, ◌+◌, ◌<◌, ◌≤◌, []};
 ghost use Rattle.window_config.specs.Limits.{IsWithinLimits};
 ghost use Rattle.unit_model.specs.Blocks.{data_slot, data_start, data_class, first_data_prb, data_prb_count};
 ghost use Rattle.unit_model.specs.Proper.{IsSlot};
@@ -33,12 +33,13 @@ pub(crate) fn prb_count(h: &DataHeading) -> u16
 }
 
 /// The PRB of the carrier that is number `k` of a section's, 0 for its first one.
-#[tactic(auto, using(crate::proofs::SectionLemmas::prb_within))]
+#[tactic(auto, using(crate::proofs::SectionLemmas::prb_within, crate::proofs::SectionLemmas::prbs_within))]
 pub(crate) fn prb_at(h: &DataHeading, k: u16) -> u16
     requires sound { IsSoundHeading h.now }
     requires within { k < data_prb_count (data_of h.now []) }
     ensures value { result ≡ first_data_prb (data_of h.now []) + k }
     ensures inside { result < h.now.endpoint.prbs }
+    ensures rest { (n : ℕ) → k + n ≤ data_prb_count (data_of h.now []) → result + n ≤ h.now.endpoint.prbs }
 {
     // the proof needs the range of this number
     let _carrier = h.endpoint.prbs;

@@ -1,23 +1,22 @@
-use Rattle.std.proofs.Common.{◌≡◌, ◌+◌, ◌<◌, ◌∙◌, ℕ, [], sym, ap, subst}
+use Rattle.std.proofs.Common.{◌≡◌, ◌∙◌, ℕ, ◌+◌, ap, arith, sym, subst, [], ◌∷◌}
 use Rattle.fh_time.specs.declared.values.Slot.{Slot}
 use Rattle.air_source.specs.declared.events.Side.{Side}
 use Rattle.window_config.specs.declared.config.Config.{Config}
 use Rattle.window_config.specs.declared.verdicts.Class.TheVariants as class
-use Rattle.unit_model.specs.Blocks.{data_class, data_prb_count, first_data_prb}
+use Rattle.unit_model.specs.Blocks.{data_class, first_data_prb}
 use Rattle.unit_cells.specs.Cells.{IsOf}
 use Rattle.unit_cells.specs.Headings.{data_of}
 use Rattle.unit_cells.specs.Steps.{Fills, InRing}
 use Rattle.unit_cells.proofs.CallLemmas.{data_class_is, delays_are, heading_of, filled_keeps, filled_marks, side_are}
 use Rattle.unit_cells.proofs.FillLemmas.{slot_of}
 use Rattle.unit_cells.proofs.RingsLemmas.{endpoints_still}
-use Rattle.unit_cells.proofs.ToldLemmas.{block_with}
 use Rattle.unit_cells.proofs.cells.UnitCells.fill.Goals as goal
 use Rattle.unit_cells.proofs.cells.UnitCells.fill.Goals.{After-fill_cell}
 
 filled : (c : After-fill_cell) → InRing c.args.heading.now.ep (Fills (slot_of c.args.heading.now) c.args.heading.now.section.symbol c.prb_at-prb.result
-    (block_with c.args.heading.now c.args.samples.now)) c.args.self.now c.fill_cell.new.self
+    c.args.heading.now.section.id (c.args.samples.now ∷ [])) c.args.self.now c.fill_cell.new.self
 filled c =
-    subst (λ (s : Slot). InRing c.args.heading.now.ep (Fills s c.args.heading.now.section.symbol c.prb_at-prb.result (block_with c.args.heading.now c.args.samples.now))
+    subst (λ (s : Slot). InRing c.args.heading.now.ep (Fills s c.args.heading.now.section.symbol c.prb_at-prb.result c.args.heading.now.section.id (c.args.samples.now ∷ []))
     c.args.self.now c.fill_cell.new.self) c.data_slot-slot.ensures.value c.fill_cell.ensures.filled
 
 on_time : (c : After-fill_cell) (side : Side) (k : Config) → IsOf side k c.args.self.now → data_class side k.delays (data_of c.args.heading.now []) ≡ class.OnTime
@@ -28,17 +27,19 @@ on_time c side k of =
 
 pub returns-in-OnTime-clause-keeps : goal.returns-in-OnTime-clause-keeps
 returns-in-OnTime-clause-keeps c side k acc ds blocks of long keeps =
-    filled_keeps side k c.args.heading.now c.prb_at-prb.result c.args.samples.now c.args.self.now c.fill_cell.new.self of c.fill_cell.ensures.held (heading_of side k c.args.heading.now c.args.self.now of c.requires.heading)
+    filled_keeps side k c.args.heading.now c.prb_at-prb.result (c.args.samples.now ∷ []) c.args.self.now c.fill_cell.new.self of c.fill_cell.ensures.held
+    (heading_of side k c.args.heading.now c.args.self.now of c.requires.heading)
     (on_time c side k of) (filled c) acc ds blocks
     (c.prb_at-prb.ensures.value ∙ ap (λ (n : ℕ). first_data_prb (data_of c.args.heading.now []) + n) (sym long))
-    (subst (λ (n : ℕ). n < data_prb_count (data_of c.args.heading.now [])) (sym long) c.requires.within) keeps
+    (omega (arith, long, c.requires.within)) keeps
 
 pub returns-in-OnTime-clause-marks : goal.returns-in-OnTime-clause-marks
 returns-in-OnTime-clause-marks c side k of =
-    filled_marks side k c.args.heading.now c.prb_at-prb.result c.args.samples.now c.args.self.now c.fill_cell.new.self of c.fill_cell.ensures.held (heading_of side k c.args.heading.now c.args.self.now of c.requires.heading)
+    filled_marks side k c.args.heading.now c.prb_at-prb.result (c.args.samples.now ∷ []) c.args.self.now c.fill_cell.new.self of c.fill_cell.ensures.held
+    (heading_of side k c.args.heading.now c.args.self.now of c.requires.heading)
     (on_time c side k of) (filled c)
 
 pub returns-in-OnTime-clause-endpoints : goal.returns-in-OnTime-clause-endpoints
 returns-in-OnTime-clause-endpoints c =
-    endpoints_still c.args.heading.now.ep (Fills (slot_of c.args.heading.now) c.args.heading.now.section.symbol c.prb_at-prb.result (block_with c.args.heading.now c.args.samples.now))
+    endpoints_still c.args.heading.now.ep (Fills (slot_of c.args.heading.now) c.args.heading.now.section.symbol c.prb_at-prb.result c.args.heading.now.section.id (c.args.samples.now ∷ []))
     c.args.self.now c.fill_cell.new.self (filled c) (filled c).stepped.touches.endpoint

@@ -1,3 +1,4 @@
+use Rattle.std.proofs.Common.{[], ◌∷◌}
 use Rattle.unit_cells.specs.Steps.{Fills}
 use Rattle.unit_cells.proofs.RingsLemmas.{in_ring, still_rings}
 use Rattle.unit_cells.proofs.cells.UnitCells.fill_cell.Goals as goal
@@ -9,5 +10,5 @@ invariant_of-self c =
 
 pub returns-clause-filled : goal.returns-clause-filled
 returns-clause-filled c =
-    in_ring (Fills c.args.slot c.args.symbol c.args.prb c.args.block) c.self.inside.side c.self.inside.delays c.self.inside.rings.items c.args.self.now c.args.ep c.requires.endpoint
+    in_ring (Fills c.args.slot c.args.symbol c.args.prb c.args.block.id (c.args.block.samples ∷ [])) c.self.inside.side c.self.inside.delays c.self.inside.rings.items c.args.self.now c.args.ep c.requires.endpoint
     c.index_mut.result.now c.fill.new.ring c.self.view_is c.requires.at c.index_mut.ensures.value c.fill.ensures
