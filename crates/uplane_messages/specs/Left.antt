@@ -2,11 +2,12 @@
 use Rattle.std.specs.Prelude.{◌≡◌, List, [], ◌++◌, length, Option, MatchOption}
 use Rattle.uplane_sections.specs.declared.values.URefusal.{URefusal}
 use Rattle.uplane_sections.specs.declared.steps.UFeed.{UFeed}
-use Rattle.uplane_sections.specs.Messages.{Item, Telling}
+use Rattle.uplane_sections.specs.Messages.{Item, Telling, blocks}
 use Rattle.uplane_sections.specs.Phases.{feed_told}
 use Rattle.uplane_sections.specs.States.{tells}
 use Rattle.ecpri_fragments.specs.declared.assembly.Lease.{Lease}
 use Rattle.uplane_messages.specs.declared.walk.DataWalk.{DataWalk}
+use Rattle.uplane_messages.specs.declared.run.DataRun.{DataRun}
 use Rattle.uplane_messages.specs.Joined.{pieces_of, bytes_from}
 
 -- the message that it goes over
@@ -45,3 +46,10 @@ GivesItem s r t =
 -- the message ends here, or is refused already: what comes changes nothing
 abbrev pub IsAtEnd : DataWalk → Type 0
 IsAtEnd walk = telling_of walk ≡ tells walk.walker []
+
+-- a call from s gave these packed PRBs, whose blocks were left first, and led to t, which goes over the same message to the
+-- same refusal
+pub record GivesRun (s : DataWalk) (r : DataRun) (t : DataWalk) : Type 0 where
+  pub first : left_of s ≡ blocks r.method r.prb r.count r.packed.now ++ left_of t
+  pub refusal : refusal_of t ≡ refusal_of s
+  pub lease : lease_of t ≡ lease_of s

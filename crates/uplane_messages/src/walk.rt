@@ -1,11 +1,12 @@
 //! The walk over a message.
-ghost use Rattle.std.specs.Prelude.{◌≡◌, ◌+◌, ◌<◌, ◌^◌, length};
-ghost use Rattle.bfp_codec.specs.Layout.{HasWidth};
+ghost use Rattle.std.specs.Prelude.{◌≡◌, ◌+◌, ◌*◌, ◌<◌, ◌^◌, length};
+ghost use Rattle.bfp_codec.specs.Layout.{HasWidth, length_of};
 ghost use Rattle.uplane_sections.specs.States.{used_by};
 ghost use Rattle.uplane_sections.specs.Messages.{told};
-ghost use Rattle.uplane_messages.specs.Joined.{pieces_of, bytes_from};
+ghost use Rattle.uplane_messages.specs.Joined.{pieces_of, piece_of, bytes_from};
 
-use bfp_codec::Format;
+use crate::run::DataRun;
+use bfp_codec::{Format, Method};
 use ecpri_fragments::Lease;
 use fh_time::Shape;
 use uplane_sections::{UFeed, URefusal, UWalker};
@@ -27,7 +28,7 @@ pub struct DataWalk<'a> {
 impl<'a> DataWalk<'a> {
     ghost use Rattle.uplane_messages.specs.Joined.{message_bytes};
     ghost use Rattle.std.specs.Prelude.{IfNone};
-    ghost use Rattle.uplane_messages.specs.Left.{lease_of, left_of, refusal_of, GivesItem, IsAtEnd};
+    ghost use Rattle.uplane_messages.specs.Left.{lease_of, left_of, refusal_of, telling_of, GivesItem, GivesRun, IsAtEnd};
 
     /// A walk from the start of the message, in this format, on a carrier of `prbs` PRBs, where
     /// `shape` says how many symbols a slot and how many slots a subframe has.
@@ -72,6 +73,47 @@ impl<'a> DataWalk<'a> {
         self.walker.pass(&piece[from..]);
         self.piece += 1;
         self.at = 0;
+    }
+
+    /// Goes to the next piece of which bytes are left, or behind the last one.
+    fn skip_used(&mut self)
+        ensures telling { telling_of self.new ≡ telling_of self.old }
+        ensures lease { lease_of self.new ≡ lease_of self.old }
+        ensures left { self.new.piece < length (pieces_of (lease_of self.new)) → self.new.at < length (piece_of (pieces_of (lease_of self.new)) self.new.piece) }
+    {
+        while self.piece < self.lease.count() && self.at >= self.lease.piece(self.piece).len() {
+            self.piece += 1;
+            self.at = 0;
+        }
+    }
+
+    /// The packed PRBs of a section that come next and lie whole in one piece, where they stand: they are given by this call, and
+    /// none of them is unpacked. There are none where another item comes next, and where the next PRB is cut by the pieces: then
+    /// `next` goes on.
+    pub fn run(&mut self) -> DataRun<'a>
+        ensures gives { GivesRun self.old result self.new }
+        ensures width { HasWidth result.method }
+        ensures len { length result.packed.now ≡ result.count * length_of result.method }
+    {
+        self.skip_used();
+        if self.piece >= self.lease.count() {
+            return DataRun {
+                method: Method::Plain,
+                prb: 0,
+                count: 0,
+                packed: &[],
+            };
+        }
+        let piece = self.lease.piece(self.piece);
+        let from = self.at;
+        let run = self.walker.run(&piece[from..]);
+        self.at = from + run.used;
+        DataRun {
+            method: run.method,
+            prb: run.prb,
+            count: run.count,
+            packed: &piece[from..from + run.used],
+        }
     }
 
     /// The next item, from the piece at hand or a later one.

@@ -1,0 +1,15 @@
+//! A run of packed PRBs.
+use bfp_codec::Method;
+
+/// The packed PRBs of a section that come next and lie whole in one piece of the message, one behind the other.
+#[derive(Clone, Copy)]
+pub struct DataRun<'a> {
+    /// How they are packed; each has as many bytes as `block_len` says for it.
+    pub method: Method,
+    /// The number of the first on the carrier; the others have the numbers after it.
+    pub prb: u16,
+    /// How many there are.
+    pub count: u16,
+    /// All their bytes, where they stand in the piece.
+    pub packed: &'a [u8],
+}
