@@ -1,12 +1,11 @@
 -- What holds of the cells and the counters behind a section.
-use Rattle.std.proofs.Common.{◌≡◌, ℕ, ℤ, ◌+◌, ◌-◌, List, [], ◌∷◌, ◌++◌, length, All, refl, sym, ap, ◌∙◌, subst, arith, length-append}
+use Rattle.std.proofs.Common.{◌≡◌, ℕ, ℤ, ◌+◌, ◌-◌, ◌<◌, ◌≤◌, List, [], ◌∷◌, ◌++◌, length, All, refl, sym, ap, ◌∙◌, subst, arith, length-append}
 use Rattle.std.proofs.lemmas.List.Elements.{All-cons}
 use Rattle.air_source.specs.declared.events.Side.{Side}
 use Rattle.bfp_codec.specs.declared.samples.Wide.{Wide}
 use Rattle.fault_counters.specs.declared.kinds.Counter.{Counter}
 use Rattle.fault_counters.specs.Counts.{capped, count_of, once, times}
 use Rattle.fh_time.specs.Numbering.{shape_of}
-use Rattle.uplane_sections.specs.declared.steps.UFeed.TheVariants as feed
 use Rattle.uplane_sections.specs.Messages.{Item}
 use Rattle.window_config.specs.declared.config.Config.{Config}
 use Rattle.window_config.specs.declared.endpoints.EndpointConfig.{EndpointConfig}
@@ -22,12 +21,10 @@ use Rattle.unit_cells.specs.Headings.{data_of, with_heading}
 use Rattle.unit_cells.specs.Keeping.{Keeps, SameMarks}
 use Rattle.unit_cells.specs.Told.{IsTold}
 use Rattle.unit_cells.specs.declared.heading.DataHeading.{DataHeading}
-use Rattle.uplane_messages.specs.Left.{TellsFirst}
 use Rattle.uplane_messages.specs.Whole.{AreSections}
-use Rattle.uplane_messages.proofs.Steps.{block_next}
 use Rattle.data_messages.specs.Holding.{HoldsData}
-use Rattle.data_messages.specs.Sections.{AreBehind, Filled, GivesBlocks, blocks_from}
-use Rattle.data_messages.proofs.WalkLemmas.{any_number, told_further}
+use Rattle.data_messages.specs.Sections.{AreBehind, Filled, FillsSome, GivesBlocks, IsBehind, blocks_from}
+use Rattle.data_messages.proofs.WalkLemmas.{any_number, run_next, told_further}
 
 -- ---- what no call changes
 
@@ -59,7 +56,7 @@ pub record SoFar (h : DataHeading) (items left : List Item) (k : ℕ) (old new :
   pub blocks : List (List Wide)
   pub all : length blocks ≡ k
   pub told : items ≡ blocks_from (first_data_prb (data_of h [])) blocks ++ left
-  pub behind : AreSections h.endpoint.prbs (shape_of h.endpoint.numerology) (first_data_prb (data_of h []) + k) (data_prb_count (data_of h []) - k) left
+  pub behind : IsBehind h k left
   pub gives : GivesBlocks h blocks old new
   pub stays : Stays h.last.0 old new
 
@@ -81,27 +78,52 @@ none_so_far h items v behind = record {
   stays = stays_none h.last.0 v;
 }
 
--- what a call does that gives a cell the next block
-abbrev pub GivesNext : DataHeading → ℕ → List Wide → CellsValue → CellsValue → Type 0
-GivesNext h k samples old new =
+-- what a call does that gives cells the next blocks
+abbrev pub GivesNext : DataHeading → ℕ → List (List Wide) → CellsValue → CellsValue → Type 0
+GivesNext h k more old new =
     (side : Side) (c : Config) (acc : List Allocation) (ds : List Data) (blocks : List (List Wide)) → IsOf side c old → length blocks ≡ k
     → Keeps side c h.last.0 old acc (with_heading side c.delays h blocks ds)
-    → Keeps side c h.last.0 new acc (with_heading side c.delays h (blocks ++ samples ∷ []) ds)
+    → Keeps side c h.last.0 new acc (with_heading side c.delays h (blocks ++ more) ds)
 
-pub one_further : (h : DataHeading) (items left rest : List Item) (k prb : ℕ) (samples : List Wide) (old mid new : CellsValue) → SoFar h items left k old mid
-    → TellsFirst left rest (feed.Block prb samples) → GivesNext h k samples mid new → Stays h.last.0 mid new → SoFar h items rest (k + 1) old new
-one_further h items left rest k prb samples old mid new s t next stays =
+-- those that come next are blocks of the section
+pub run_within : (h : DataHeading) (items rest : List Item) (k given : ℕ) (more : List (List Wide)) → IsBehind h k items → items ≡ blocks_from given more ++ rest
+    → length more ≤ data_prb_count (data_of h []) - k
+run_within h items rest k given more behind told =
     let first = first_data_prb (data_of h []) in
     let count = data_prb_count (data_of h []) in
-    let step = block_next h.endpoint.prbs (shape_of h.endpoint.numerology) (first + k) (count - k) prb samples left rest t s.behind in
-    let more : length (s.blocks ++ samples ∷ []) ≡ k + 1 = omega (arith, length-append s.blocks (samples ∷ []), s.all) in
+    (run_next h.endpoint.prbs (shape_of h.endpoint.numerology) (first + k) (count - k) given more rest
+    (subst (λ (xs : List Item). AreSections h.endpoint.prbs (shape_of h.endpoint.numerology) (first + k) (count - k) xs) told behind)).within
+
+-- the blocks of a run came, or one
+pub some_filled : (h : DataHeading) (items rest : List Item) (k given : ℕ) (more : List (List Wide)) (old new : CellsValue) → 0 < length more
+    → IsBehind h k items → items ≡ blocks_from given more ++ rest → GivesNext h k more old new → k ≤ data_prb_count (data_of h [])
+    → FillsSome h k (length more) items rest old new
+some_filled h items rest k given more old new some behind told gives below =
+    let first = first_data_prb (data_of h []) in
+    let count = data_prb_count (data_of h []) in
+    let next = run_next h.endpoint.prbs (shape_of h.endpoint.numerology) (first + k) (count - k) given more rest
+    (subst (λ (xs : List Item). AreSections h.endpoint.prbs (shape_of h.endpoint.numerology) (first + k) (count - k) xs) told behind) in
     record {
-      blocks = s.blocks ++ samples ∷ [];
-      all = more;
-      told = told_further items left rest first prb s.blocks samples (step.1 ∙ ap (λ (n : ℕ). first + n) (sym s.all)) s.told t.first;
+      blocks = more;
+      all = refl;
+      some = some;
+      within = omega (arith, next.within, below);
+      told = told ∙ ap (λ (n : ℕ). blocks_from n more ++ rest) (next.number some);
       behind =
-          sections_as h.endpoint.prbs h.endpoint (first + k + 1) (first + (k + 1)) (count - k - 1) (count - (k + 1)) rest (omega arith) (omega arith) step.2;
-      gives = λ side c acc ds of keeps. next side c acc ds s.blocks (of_on side c old mid s.stays.side s.stays.delays s.stays.endpoints of) s.all (s.gives side c acc ds of keeps);
+          sections_as h.endpoint.prbs h.endpoint (first + k + length more) (first + (k + length more)) (count - k - length more) (count - (k + length more)) rest (omega arith) (omega arith) next.behind;
+      gives = gives;
+    }
+
+pub some_further : (h : DataHeading) (items left rest : List Item) (k n : ℕ) (old mid new : CellsValue) → SoFar h items left k old mid
+    → FillsSome h k n left rest mid new → Stays h.last.0 mid new → SoFar h items rest (k + n) old new
+some_further h items left rest k n old mid new s f stays =
+    let first = first_data_prb (data_of h []) in
+    record {
+      blocks = s.blocks ++ f.blocks;
+      all = omega (arith, length-append s.blocks f.blocks, s.all, f.all);
+      told = told_further items left rest first (first + k) s.blocks f.blocks (ap (λ (m : ℕ). first + m) (sym s.all)) s.told f.told;
+      behind = f.behind;
+      gives = λ side c acc ds of keeps. f.gives side c acc ds s.blocks (of_on side c old mid s.stays.side s.stays.delays s.stays.endpoints of) s.all (s.gives side c acc ds of keeps);
       stays = stays_on h.last.0 old mid new s.stays stays;
     }
 

@@ -1,32 +1,76 @@
 -- The blocks of a section, which a walk tells one by one, and the sections of a message.
-use Rattle.std.proofs.Common.{◌≡◌, ℕ, ◌+◌, ◌<◌, List, [], ◌∷◌, ◌++◌, length, refl, sym, ap, ◌∙◌, subst, arith, append_assoc, length-append}
+use Rattle.std.proofs.Common.{◌≡◌, ℕ, zero, suc, ◌+◌, ◌-◌, ◌*◌, ◌<◌, ◌≤◌, take, drop, length-drop, List, [], ◌∷◌, ◌++◌, length, refl, sym, ap, ◌∙◌, subst, arith, append_assoc, length-append}
 use Rattle.std.specs.Prelude.{Option, Some, None, MatchOption}
+use Rattle.std.proofs.lemmas.Bool.{le-ltb}
 use Rattle.std.proofs.lemmas.List.{append-nil}
+use Rattle.bfp_codec.specs.declared.methods.Method.{Method}
+use Rattle.bfp_codec.specs.Layout.{length_of, unpacked_of}
+use Rattle.slot_rings.specs.Runs.{unpacked_run}
 use Rattle.fh_time.specs.declared.values.Shape.{Shape}
 use Rattle.bfp_codec.specs.declared.samples.Wide.{Wide}
 use Rattle.uplane_sections.specs.declared.values.UHead.{UHead}
 use Rattle.uplane_sections.specs.declared.values.USection.{USection}
 use Rattle.uplane_sections.specs.declared.steps.UFeed.{UFeed}
 use Rattle.uplane_sections.specs.declared.steps.UFeed.TheVariants as feed
-use Rattle.uplane_sections.specs.Messages.{Item, Head, Section, Block}
+use Rattle.uplane_sections.specs.Messages.{Item, Head, Section, Block, blocks}
 use Rattle.uplane_messages.specs.Left.{TellsFirst, NothingLeft}
 use Rattle.uplane_messages.specs.Whole.{AreSections}
 use Rattle.unit_model.specs.Decoding.{Gathering, Part, begun, gathered, nothing_told}
 use Rattle.data_messages.specs.Sections.{blocks_from}
 
--- one block more
-pub blocks_further : (prb n : ℕ) (blocks : List (List Wide)) (samples : List Wide) → n ≡ prb + length blocks
-    → blocks_from prb (blocks ++ samples ∷ []) ≡ blocks_from prb blocks ++ Block n samples ∷ []
-blocks_further prb n [] samples e = let same : prb ≡ n = omega (arith, e) in ap (λ (x : ℕ). Block x samples ∷ []) same
-blocks_further prb n (b ∷ blocks) samples e =
-    ap (λ (items : List Item). Block prb b ∷ items) (blocks_further (prb + 1) n blocks samples (omega (arith, e)))
+-- more blocks
+pub blocks_further : (prb n : ℕ) (blocks more : List (List Wide)) → n ≡ prb + length blocks
+    → blocks_from prb (blocks ++ more) ≡ blocks_from prb blocks ++ blocks_from n more
+blocks_further prb n [] more e = let same : prb ≡ n = omega (arith, e) in ap (λ (x : ℕ). blocks_from x more) same
+blocks_further prb n (b ∷ blocks) more e =
+    ap (λ (items : List Item). Block prb b ∷ items) (blocks_further (prb + 1) n blocks more (omega (arith, e)))
 
-pub told_further : (items old new : List Item) (prb n : ℕ) (blocks : List (List Wide)) (samples : List Wide) → n ≡ prb + length blocks
-    → items ≡ blocks_from prb blocks ++ old → old ≡ Block n samples ∷ new → items ≡ blocks_from prb (blocks ++ samples ∷ []) ++ new
-told_further items old new prb n blocks samples e told first =
+pub told_further : (items old new : List Item) (prb n : ℕ) (blocks more : List (List Wide)) → n ≡ prb + length blocks
+    → items ≡ blocks_from prb blocks ++ old → old ≡ blocks_from n more ++ new → items ≡ blocks_from prb (blocks ++ more) ++ new
+told_further items old new prb n blocks more e told first =
     told ∙ ap (λ (xs : List Item). blocks_from prb blocks ++ xs) first
-    ∙ sym (append_assoc (blocks_from prb blocks) (Block n samples ∷ []) new)
-    ∙ ap (λ (xs : List Item). xs ++ new) (sym (blocks_further prb n blocks samples e))
+    ∙ sym (append_assoc (blocks_from prb blocks) (blocks_from n more) new)
+    ∙ ap (λ (xs : List Item). xs ++ new) (sym (blocks_further prb n blocks more e))
+
+-- the blocks of packed PRBs
+pub blocks_packed : (method : Method) (prb n : ℕ) (bytes : List ℕ) → length bytes ≡ n * length_of method
+    → blocks method prb n bytes ≡ blocks_from prb (unpacked_run method n bytes)
+blocks_packed method prb zero bytes h = refl
+blocks_packed method prb (suc n) bytes h =
+    let len = length_of method in
+    let room : len ≤ length bytes = omega arith in
+    let behind : length (drop len bytes) ≡ n * len = omega (arith, length-drop len bytes) in
+    rw (le-ltb (length bytes) len room) (ap (λ (items : List Item). Block prb (unpacked_of method (take len bytes)) ∷ items) (blocks_packed method (prb + 1) n (drop len bytes) behind))
+
+pub none_packed : (method : Method) (prb n : ℕ) (bytes : List ℕ) (items rest : List Item) → n ≡ 0 → items ≡ blocks method prb n bytes ++ rest → items ≡ rest
+none_packed method prb zero bytes items rest none h = h
+none_packed method prb (suc n) bytes items rest none h = absurd (omega (arith, none))
+
+-- blocks that come next are those whose turn it is
+pub record IsRun (prbs : ℕ) (shape : Shape) (prb m given n : ℕ) (rest : List Item) : Type 0 where
+  pub number : 0 < n → given ≡ prb
+  pub within : n ≤ m
+  pub behind : AreSections prbs shape (prb + n) (m - n) rest
+
+sections_along : (prbs : ℕ) (shape : Shape) (p q m k : ℕ) (items : List Item) → p ≡ q → m ≡ k → AreSections prbs shape p m items → AreSections prbs shape q k items
+sections_along prbs shape p q m k items e f h =
+    subst (λ (x : ℕ). AreSections prbs shape x k items) e (subst (λ (x : ℕ). AreSections prbs shape p x items) f h)
+
+pub run_next : (prbs : ℕ) (shape : Shape) (prb m given : ℕ) (more : List (List Wide)) (rest : List Item) → AreSections prbs shape prb m (blocks_from given more ++ rest)
+    → IsRun prbs shape prb m given (length more) rest
+run_next prbs shape prb m given [] rest h = record {
+  number = λ some. absurd (omega (arith, some));
+  within = omega arith;
+  behind = sections_along prbs shape prb (prb + 0) m (m - 0) rest (omega arith) (omega arith) h;
+}
+run_next prbs shape prb m given (b ∷ more) rest h =
+    let next = run_next prbs shape (prb + 1) (m - 1) (given + 1) more rest h.2 in
+    record {
+      number = λ some. h.1;
+      within = omega (arith, h.0, next.within);
+      behind =
+          sections_along prbs shape (prb + 1 + length more) (prb + length (b ∷ more)) (m - 1 - length more) (m - length (b ∷ more)) rest (omega arith) (omega arith) next.behind;
+    }
 
 -- where no block is to come, the number of the next one says nothing
 pub any_number : (prbs : ℕ) (shape : Shape) (p : ℕ) (items : List Item) → AreSections prbs shape p 0 items → AreSections prbs shape 0 0 items

@@ -1,6 +1,6 @@
 -- One section of a whole U-plane message: what is told of it (O-RAN.WG4.CUS, clause 8.3.2), and what becomes of it at a unit
 -- (this project's profile).
-use Rattle.std.specs.Prelude.{◌≡◌, ℕ, ◌+◌, List, [], ◌∷◌, ◌++◌, length}
+use Rattle.std.specs.Prelude.{◌≡◌, ℕ, ◌+◌, ◌-◌, ◌<◌, ◌≤◌, List, [], ◌∷◌, ◌++◌, length}
 use Rattle.air_source.specs.declared.events.Side.{Side}
 use Rattle.bfp_codec.specs.declared.samples.Wide.{Wide}
 use Rattle.fault_counters.specs.declared.kinds.Counter.{Counter}
@@ -34,6 +34,11 @@ abbrev pub AreBehind : DataHeading → List Item → Type 0
 AreBehind h items =
     AreSections h.endpoint.prbs (shape_of h.endpoint.numerology) (first_data_prb (data_of h [])) (data_prb_count (data_of h [])) items
 
+-- and so behind its first k blocks
+abbrev pub IsBehind : DataHeading → ℕ → List Item → Type 0
+IsBehind h k items =
+    AreSections h.endpoint.prbs (shape_of h.endpoint.numerology) (first_data_prb (data_of h []) + k) (data_prb_count (data_of h []) - k) items
+
 -- these were the items up to the next section: the blocks of this one, all of them
 pub record TellsBlocks (h : DataHeading) (items rest : List Item) (blocks : List (List Wide)) : Type 0 where
   pub all : length blocks ≡ data_prb_count (data_of h [])
@@ -45,6 +50,18 @@ abbrev pub GivesBlocks : DataHeading → List (List Wide) → CellsValue → Cel
 GivesBlocks h blocks old new =
     (side : Side) (c : Config) (acc : List Allocation) (ds : List Data) → IsOf side c old
     → Keeps side c h.last.0 old acc (with_heading side c.delays h [] ds) → Keeps side c h.last.0 new acc (with_heading side c.delays h blocks ds)
+
+-- behind its first k blocks n more were told, at least one, and the cells have them
+pub record FillsSome (h : DataHeading) (k n : ℕ) (items rest : List Item) (old new : CellsValue) : Type 0 where
+  pub blocks : List (List Wide)
+  pub all : length blocks ≡ n
+  pub some : 0 < n
+  pub within : k + n ≤ data_prb_count (data_of h [])
+  pub told : items ≡ blocks_from (first_data_prb (data_of h []) + k) blocks ++ rest
+  pub behind : IsBehind h (k + n) rest
+  pub gives : (side : Side) (c : Config) (acc : List Allocation) (ds : List Data) (before : List (List Wide)) → IsOf side c old → length before ≡ k
+      → Keeps side c h.last.0 old acc (with_heading side c.delays h before ds)
+      → Keeps side c h.last.0 new acc (with_heading side c.delays h (before ++ blocks) ds)
 
 -- they have those that were told
 pub record Filled (h : DataHeading) (items rest : List Item) (old new : CellsValue) : Type 0 where

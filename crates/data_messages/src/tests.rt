@@ -290,3 +290,77 @@ fn verdicts_are_counted(rt: HostRuntime) -> Result<(), Fail> {
     assert_eq!(rt; counted(&counters), [2, 2, 3, 1, 1, 1]);
     Ok(())
 }
+
+#[test]
+fn runs_fill_their_cells(rt: HostRuntime) -> Result<(), Fail> {
+    let n = Numerology::ordinary(1).expect(&rt, "30 kHz");
+    assert!(rt; shape(&n).slots == 2);
+    let e = endpoint(n);
+    let config = config(e, Widths::new(4, 4, 4, 4)?);
+    let mut cells = UnitCells::make(rt.alloc(), Side::Ru, &config)?;
+    let mut assembly = Assembly::make(rt.alloc(), 1, of_ns(211_000))?;
+    let mut counters = Counters::new();
+
+    // Section 3 on PRB 1 and on PRB 3 of symbol 0; the last samples are 31 and 33.
+    let mut message = [0; 108];
+    message[..8].copy_from_slice(&[0x90, 0x01, 0, 0, 0x00, 0x30, 0x01, 0x01]);
+    message[53] = 31;
+    message[56..60].copy_from_slice(&[0x00, 0x30, 0x03, 0x01]);
+    message[105] = 33;
+    let fragment = field(0, true, 0);
+    receive(
+        &mut assembly,
+        &mut cells,
+        &mut counters,
+        &e,
+        690_000,
+        fragment,
+        &message,
+    );
+    assert_eq!(rt; counted(&counters), [2, 0, 0, 0, 0, 0]);
+
+    // Section 4 on all PRBs of it: the first fragment ends with PRB 0, the second one in the middle of PRB 2. Every second cell
+    // keeps the block that it has.
+    let mut message = [0; 200];
+    message[..8].copy_from_slice(&[0x90, 0x01, 0, 0, 0x00, 0x40, 0x00, 0x04]);
+    message[53] = 40;
+    message[101] = 41;
+    message[149] = 42;
+    message[197] = 43;
+    let fragment = field(1, false, 0);
+    receive(
+        &mut assembly,
+        &mut cells,
+        &mut counters,
+        &e,
+        700_000,
+        fragment,
+        &message[..56],
+    );
+    let fragment = field(1, false, 1);
+    receive(
+        &mut assembly,
+        &mut cells,
+        &mut counters,
+        &e,
+        701_000,
+        fragment,
+        &message[56..128],
+    );
+    let fragment = field(1, true, 2);
+    receive(
+        &mut assembly,
+        &mut cells,
+        &mut counters,
+        &e,
+        702_000,
+        fragment,
+        &message[128..],
+    );
+    assert_eq!(rt; counted(&counters), [3, 0, 0, 0, 0, 0]);
+    assert_eq!(rt; last_sample(&cells, &e, 0, 0), Some((4, 40)));
+    assert_eq!(rt; last_sample(&cells, &e, 0, 1), Some((3, 31)));
+    assert_eq!(rt; last_sample(&cells, &e, 0, 2), Some((4, 42)));
+    assert_eq!(rt; last_sample(&cells, &e, 0, 3), Some((3, 33)));
+    Ok(())
+}

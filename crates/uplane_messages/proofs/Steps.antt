@@ -1,7 +1,6 @@
 -- What a walk gives next, where what it has left is known to be whole.
-use Rattle.std.proofs.Common.{◌≡◌, ℕ, ◌+◌, ◌-◌, ◌<◌, List, [], ◌∷◌, sym, ap, ◌∙◌, subst}
+use Rattle.std.proofs.Common.{◌≡◌, ℕ, List, [], ◌∷◌, sym, ap, ◌∙◌, subst}
 use Rattle.fh_time.specs.declared.values.Shape.{Shape}
-use Rattle.bfp_codec.specs.declared.samples.Wide.{Wide}
 use Rattle.uplane_sections.specs.declared.values.UHead.{UHead}
 use Rattle.uplane_sections.specs.declared.values.USection.{USection}
 use Rattle.uplane_sections.specs.declared.steps.UFeed.TheVariants as feed
@@ -29,11 +28,6 @@ head_next prbs shape head given old new t whole =
 pub section_next : (prbs : ℕ) (shape : Shape) (prb n : ℕ) (s : USection) (old new : List Item) → TellsFirst old new (feed.Section s) → AreSections prbs shape prb n old →
     (n ≡ 0) × IsSectionAdmitted prbs shape s × AreSections prbs shape (first_of s.start_prb s.num_prb) (count_of prbs s.num_prb) new
 section_next prbs shape prb n s old new t h = subst (λ (items : List Item). AreSections prbs shape prb n items) t.first h
-
--- A block is the one whose turn it is.
-pub block_next : (prbs : ℕ) (shape : Shape) (prb n given : ℕ) (samples : List Wide) (old new : List Item) → TellsFirst old new (feed.Block given samples) → AreSections prbs shape prb n old →
-    (0 < n) × (given ≡ prb) × AreSections prbs shape (prb + 1) (n - 1) new
-block_next prbs shape prb n given samples old new t h = subst (λ (items : List Item). AreSections prbs shape prb n items) t.first h
 
 -- No further header comes.
 pub no_further_head : (prbs : ℕ) (shape : Shape) (prb n : ℕ) (head : UHead) (old new : List Item) → TellsFirst old new (feed.Head head) → AreSections prbs shape prb n old → ⊥
