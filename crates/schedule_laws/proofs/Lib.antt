@@ -16,3 +16,4 @@ pub mod DataLemmas
 pub mod WholeLemmas
 pub mod BlockLemmas
 pub mod CellLemmas
+pub mod LeastLemmas

@@ -3,3 +3,4 @@ pub mod Flows
 pub mod Data
 pub mod Commands
 pub mod Cells
+pub mod Least

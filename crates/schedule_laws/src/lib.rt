@@ -7,6 +7,7 @@
 ghost use Rattle.schedule_laws.specs.Cells.{ThePlanRadiates};
 ghost use Rattle.schedule_laws.specs.Commands.{EachIsCommandedOnce};
 ghost use Rattle.schedule_laws.specs.Data.{EachIsDecodedOnce};
+ghost use Rattle.schedule_laws.specs.Least.{LeastDelaysArrive};
 
 /// The first copy of each planned command is Accepted and each further one is Repeat, in whatever order they come; what is claimed
 /// in the end is what the lines of the plan name.
@@ -24,4 +25,10 @@ pub fn each_is_decoded_once()
 /// once, with the union of their masks, their section id and its samples; no other cell, and none is missing.
 pub fn the_plan_radiates()
     ensures { ThePlanRadiates }
+{}
+
+/// The premise of these laws can be met by every valid plan whose windows pass the check, over however many messages: by each
+/// frame once, with the least delay, where its bytes are read as what is sent by it.
+pub fn least_delays_arrive()
+    ensures { LeastDelaysArrive }
 {}
