@@ -8,6 +8,7 @@
 ghost use Rattle.air_source.specs.declared.events.AirCell.{AirCell};
 ghost use Rattle.history_laws.specs.Arriving.{ArrivalLeavesClaims, ArrivalLeavesDue, ArrivalLeavesJobs, ArrivalLeavesReported, ArrivalLeavesSent, ArrivalLeavesUse};
 ghost use Rattle.history_laws.specs.First.{FirstIsFirst, NothingIsNothing};
+ghost use Rattle.history_laws.specs.Sending.{JobsAreProper};
 ghost use Rattle.unit_model.specs.declared.jobs.UplinkJob.{UplinkJob};
 
 /// What is told of the first symbol of which something is told stands first in all that is told.
@@ -34,4 +35,9 @@ pub fn arrival_leaves_told()
 pub fn arrival_leaves_claims()
     ensures claims { ArrivalLeavesClaims }
     ensures in_use { ArrivalLeavesUse }
+{}
+
+/// Each message that the radio unit is to send is one of a symbol of an endpoint, and its PRBs are the carrier's.
+pub fn jobs_are_proper()
+    ensures { JobsAreProper }
 {}

@@ -3,7 +3,6 @@ pub mod BlockLemmas
 pub mod ClaimLemmas
 pub mod Told
 pub mod TestLemmas
-pub mod VerdictLemmas
 pub mod PlainLemmas
 pub mod TimeLemmas
 pub mod RadiatedLaws

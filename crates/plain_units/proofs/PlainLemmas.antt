@@ -37,7 +37,7 @@ use Rattle.unit_model.specs.declared.decoded.Data.{Data}
 use Rattle.plain_units.specs.declared.plain.Plain.{Plain}
 use Rattle.unit_model.specs.declared.verdicts.CommandVerdict.{CommandVerdict}
 use Rattle.unit_model.specs.declared.verdicts.DataVerdict.{DataVerdict}
-use Rattle.plain_units.proofs.VerdictLemmas.{kept_proper}
+use Rattle.unit_model.proofs.VerdictLemmas.{kept_proper}
 use Rattle.unit_model.proofs.CountLemmas.{capped_data, times-append, one_time}
 
 -- ---- counters

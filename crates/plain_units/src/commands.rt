@@ -74,7 +74,7 @@ fn timely_verdict(accepted: &[Allocation], a: &Allocation) -> CommandVerdict
 }
 
 /// The verdict on a command, where these allocations were accepted, the newest first.
-#[tactic(auto, using(crate::proofs::VerdictLemmas::accepted_proper), unfolding(unit_model::specs::Commands::command_verdict))]
+#[tactic(auto, using(unit_model::proofs::VerdictLemmas::accepted_proper), unfolding(unit_model::specs::Commands::command_verdict))]
 pub(crate) fn command_verdict(
     delays: &Delays,
     accepted: &[Allocation],

@@ -2,4 +2,6 @@ pub mod TickLemmas
 pub mod CameLemmas
 pub mod SettledLemmas
 pub mod MomentLemmas
+pub mod AloneLemmas
+pub mod HeardLemmas
 pub mod EventLemmas

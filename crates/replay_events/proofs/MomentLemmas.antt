@@ -17,6 +17,7 @@ use Rattle.unit_laws.proofs.DueLemmas.{all_is_due, due_in_pieces}
 use Rattle.unit_laws.proofs.SweepLemmas.{sweep-append}
 use Rattle.replay_events.specs.Events.{cells_at}
 use Rattle.replay_events.specs.Moments.{all_arrivals, arrivals_before, end_of_time}
+use Rattle.replay_events.specs.Traffic.{Traffic}
 use Rattle.replay_events.specs.Passing.{AreLandings, DueAtMoment, IsNextMoment, ReportedAtMoment, ReportedBeforeMoment, due_from}
 use Rattle.replay_events.proofs.CameLemmas.{calm_adds_nothing}
 use Rattle.replay_events.proofs.SettledLemmas.{reported_settled}
@@ -72,9 +73,10 @@ same_parts xs ys zs ws front all = append_cancel_left xs ys ws (all ∙ ap (λ (
 -- ---- the cells of a tick
 
 -- they are those by what came before it
-pub cells_settled : (c : Config) (landings : List Arrival) (t : ℤ) → IsConfig c → AreLandings landings → first_clock ≤ℤ t → t ≤ℤ end_of_time
-    → cells_at c landings t ≡ at_tick (symbol_report Ru (ru_known c (arrivals_before landings t))) c.endpoints t
-cells_settled c landings t config are begun ended =
+pub cells_settled : (c : Config) (x : Traffic) (t : ℤ) → IsConfig c → AreLandings x.at_ru → first_clock ≤ℤ t → t ≤ℤ end_of_time
+    → cells_at Ru c x t ≡ at_tick (symbol_report Ru (ru_known c (arrivals_before x.at_ru t))) c.endpoints t
+cells_settled c x t config are begun ended =
+    let landings = x.at_ru in
     let all = ru_known c (all_arrivals landings) in
     let now = ru_known c (arrivals_before landings t) in
     let es = c.endpoints in
@@ -89,7 +91,10 @@ cells_settled c landings t config are begun ended =
 
 -- ---- at the next moment
 
-module _ (c : Config) (landings : List Arrival) (now tick : ℤ) (next : IsNextMoment c landings now tick) where
+module _ (c : Config) (x : Traffic) (now tick : ℤ) (next : IsNextMoment c x now tick) where
+  abbrev landings : List Arrival
+  landings = x.at_ru
+
   abbrev then_known : Known
   then_known = ru_known c (arrivals_before landings now)
 
@@ -104,12 +109,12 @@ module _ (c : Config) (landings : List Arrival) (now tick : ℤ) (next : IsNextM
       ap (λ (t : ℤ). sweep (symbol_report Ru then_known) c.endpoints now t) (sym (next_of_last tick))
       ∙ sym (due_rest c then_known now (tick -ℤ pos 1) next.config next.begun reached) ∙ next.quiet
 
-  cells_then : tick ≤ℤ end_of_time → cells_at c landings tick ≡ at_tick (symbol_report Ru then_known) c.endpoints tick
+  cells_then : tick ≤ℤ end_of_time → cells_at Ru c x tick ≡ at_tick (symbol_report Ru then_known) c.endpoints tick
   cells_then ended =
-      cells_settled c landings tick next.config next.landings_are (at_most first_clock now tick next.begun next.order) ended
+      cells_settled c x tick next.config next.landings_are (at_most first_clock now tick next.begun next.order) ended
       ∙ ap (λ (xs : List Arrival). at_tick (symbol_report Ru (ru_known c xs)) c.endpoints tick) calm_before
 
-  rest_then : tick ≤ℤ end_of_time → sweep (symbol_report Ru then_known) c.endpoints now (tick +ℤ pos 1) ≡ cells_at c landings tick
+  rest_then : tick ≤ℤ end_of_time → sweep (symbol_report Ru then_known) c.endpoints now (tick +ℤ pos 1) ≡ cells_at Ru c x tick
   rest_then ended =
       let g = symbol_report Ru then_known in
       let es = c.endpoints in
@@ -117,11 +122,11 @@ module _ (c : Config) (landings : List Arrival) (now tick : ℤ) (next : IsNextM
       ∙ ap (λ (xs : List AirCell). xs ++ sweep g es tick (tick +ℤ pos 1)) quiet_before
       ∙ sweep_alone g es tick ∙ sym (cells_then ended)
 
-  due_then : tick ≤ℤ end_of_time → due_from c landings now tick ≡ cells_at c landings tick
+  due_then : tick ≤ℤ end_of_time → due_from c landings now tick ≡ cells_at Ru c x tick
   due_then ended = due_rest c then_known now tick next.config next.begun (next_most now tick next.order) ∙ rest_then ended
 
   reported_then : tick ≤ℤ end_of_time
-      → ru_reported c (arrivals_before landings now) (now -ℤ pos 1) ++ cells_at c landings tick ≡ ru_reported c (arrivals_before landings (tick +ℤ pos 1)) tick
+      → ru_reported c (arrivals_before landings now) (now -ℤ pos 1) ++ cells_at Ru c x tick ≡ ru_reported c (arrivals_before landings (tick +ℤ pos 1)) tick
   reported_then ended =
       let es = c.endpoints in
       let d = c.delays in
@@ -145,10 +150,10 @@ module _ (c : Config) (landings : List Arrival) (now tick : ℤ) (next : IsNextM
       sym whole ∙ ap (λ (xs : List Arrival). ru_reported c xs (tick -ℤ pos 1)) (sym calm_before)
 
 pub due_at_moment : DueAtMoment
-due_at_moment c landings now tick next ended = due_then c landings now tick next ended
+due_at_moment c x now tick next ended = due_then c x now tick next ended
 
 pub reported_at_moment : ReportedAtMoment
-reported_at_moment c landings now tick next ended = reported_then c landings now tick next ended
+reported_at_moment c x now tick next ended = reported_then c x now tick next ended
 
 pub reported_before_moment : ReportedBeforeMoment
-reported_before_moment c landings now tick next = reported_until c landings now tick next
+reported_before_moment c x now tick next = reported_until c x now tick next

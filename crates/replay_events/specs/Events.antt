@@ -1,49 +1,72 @@
--- The events of a replay, in the order of time: at each tick first the radio unit's cells, then the frames that land at it; the
--- counters stand last (this project's profile).
-use Rattle.std.specs.Prelude.{ℕ, ℤ, pos, ◌+ℤ◌, ◌==◌, List, [], ◌∷◌, ◌++◌, map, if◌then◌else◌}
+-- The events of a replay, in the order of time: at each tick the radio unit's cells, the frames that land at it, the frames that land
+-- at the distributed unit, and that unit's cells; the counters stand last (this project's profile).
+use Rattle.std.specs.Prelude.{ℕ, ℤ, pos, ◌+ℤ◌, ◌-ℤ◌, ◌==◌, List, [], ◌∷◌, ◌++◌, map, if◌then◌else◌}
 use Rattle.std.specs.List.{flat_map}
 use Rattle.std.specs.Int.{int_gap}
 use Rattle.air_source.specs.declared.events.AirCell.{AirCell}
 use Rattle.air_source.specs.declared.events.Event.{Event}
 use Rattle.air_source.specs.declared.events.Event.TheVariants as event
-use Rattle.air_source.specs.declared.events.Side.TheVariants.{Ru}
+use Rattle.air_source.specs.declared.events.Side.{Side}
+use Rattle.air_source.specs.declared.events.Side.TheVariants.{Ru, Du}
 use Rattle.fault_counters.specs.Counts.{capped, times}
 use Rattle.fault_counters.specs.Names.{all_counters}
 use Rattle.fault_counters.specs.declared.kinds.Counter.{Counter}
 use Rattle.window_config.specs.declared.config.Config.{Config}
+use Rattle.window_config.specs.declared.delays.Delays.{Delays}
 use Rattle.unit_model.specs.Counts.{cells_counted}
 use Rattle.unit_model.specs.Lists.{each_tick}
 use Rattle.unit_model.specs.Meetings.{Arrival}
-use Rattle.unit_model.specs.Radiated.{first_clock, symbol_report}
-use Rattle.unit_model.specs.Reports.{arrivals_counted, ru_known, ru_reported}
+use Rattle.unit_model.specs.Radiated.{first_clock, symbol_report, wait_of}
+use Rattle.unit_model.specs.Reports.{arrivals_counted}
 use Rattle.unit_model.specs.Sweeps.{at_tick}
 use Rattle.replay_events.specs.Moments.{all_arrivals, end_of_time, landing_at}
+use Rattle.replay_events.specs.Traffic.{Traffic, known_at, landings_at, reported_at}
 
--- the cells that are reported at a tick, by all that lands
-abbrev pub cells_at : Config → List Arrival → ℤ → List AirCell
-cells_at c landings tick = at_tick (symbol_report Ru (ru_known c (all_arrivals landings))) c.endpoints tick
+-- the start of the symbols whose cells a unit reports at a tick
+abbrev pub start_of : Side → Delays → ℤ → ℤ
+start_of Ru d tick = tick
+start_of Du d tick = tick -ℤ wait_of Du d
 
-abbrev pub arrival_event : Arrival → Event
-arrival_event a = event.Arrival Ru (record { 0 = a.at }) a.frame
+-- the cells that it reports then, by all that lands at it
+abbrev pub cells_at : Side → Config → Traffic → ℤ → List AirCell
+cells_at side c t tick = at_tick (symbol_report side (known_at side c t.planned (all_arrivals (landings_at side t)))) c.endpoints (start_of side c.delays tick)
 
-unfoldable pub events_at : Config → List Arrival → ℤ → List Event
-events_at c landings tick = map event.Cell (cells_at c landings tick) ++ map arrival_event (landing_at landings tick)
+abbrev pub arrival_event : Side → Arrival → Event
+arrival_event side a = event.Arrival side (record { 0 = a.at }) a.frame
+
+-- what is told of an arrival: results of a measurement that it ends would stand behind it, of which there are none yet
+abbrev pub arrival_told : Side → Arrival → List Event
+arrival_told side a = arrival_event side a ∷ []
+
+unfoldable pub arrivals_told : Side → List Arrival → List Event
+arrivals_told side xs = flat_map (arrival_told side) xs
+
+abbrev pub arrivals_at : Side → Traffic → ℤ → List Event
+arrivals_at side t tick = arrivals_told side (landing_at (landings_at side t) tick)
+
+unfoldable pub events_at : Config → Traffic → ℤ → List Event
+events_at c t tick =
+    map event.Cell (cells_at Ru c t tick) ++ (arrivals_at Ru t tick ++ (arrivals_at Du t tick ++ map event.Cell (cells_at Du c t tick)))
 
 -- those from one tick on and before another
-abbrev pub events_between : Config → List Arrival → ℤ → ℤ → List Event
-events_between c landings from to = each_tick from (int_gap from to) (events_at c landings)
+abbrev pub events_between : Config → Traffic → ℤ → ℤ → List Event
+events_between c t from to = each_tick from (int_gap from to) (events_at c t)
 
--- the number at which a counter stands in the end
-unfoldable pub number_of : Config → List Arrival → Counter → ℕ
-number_of c landings k =
-    capped (times (arrivals_counted Ru c (all_arrivals landings) ++ cells_counted (ru_reported c (all_arrivals landings) end_of_time)) k)
+-- all that a unit counted in a replay, each as often as it happened
+abbrev pub all_counted : Side → Config → Traffic → List Counter
+all_counted side c t =
+    arrivals_counted side c (all_arrivals (landings_at side t)) ++ cells_counted (reported_at side c t.planned (all_arrivals (landings_at side t)) end_of_time)
+
+-- the number at which its counter stands in the end
+unfoldable pub number_of : Side → Config → Traffic → Counter → ℕ
+number_of side c t k = capped (times (all_counted side c t) k)
 
 -- the counters that do not stand at 0
-abbrev pub count_event : ℕ → Counter → List Event
-count_event n k = if n == 0 then [] else event.Count Ru k n ∷ []
+abbrev pub count_event : Side → ℕ → Counter → List Event
+count_event side n k = if n == 0 then [] else event.Count side k n ∷ []
 
-unfoldable pub count_events : Config → List Arrival → List Event
-count_events c landings = flat_map (λ k. count_event (number_of c landings k) k) all_counters
+unfoldable pub count_events : Side → Config → Traffic → List Event
+count_events side c t = flat_map (λ k. count_event side (number_of side c t k) k) all_counters
 
-unfoldable pub events : Config → List Arrival → List Event
-events c landings = events_between c landings first_clock (end_of_time +ℤ pos 1) ++ count_events c landings
+unfoldable pub events : Config → Traffic → List Event
+events c t = events_between c t first_clock (end_of_time +ℤ pos 1) ++ (count_events Ru c t ++ count_events Du c t)

@@ -1,3 +1,6 @@
 pub mod Moments
+pub mod Traffic
 pub mod Events
+pub mod Heard
+pub mod Alone
 pub mod Passing

@@ -11,8 +11,10 @@ use Rattle.unit_model.specs.Radiated.{first_clock}
 use Rattle.unit_model.specs.Reports.{accepted_of, ru_known, ru_reported}
 use Rattle.unit_model.specs.Standing.{AreInTime, due}
 use Rattle.unit_model.specs.Uplink.{jobs}
+use Rattle.replay_events.specs.Alone.{IsDuIdle}
 use Rattle.replay_events.specs.Events.{cells_at, events_at, events_between}
 use Rattle.replay_events.specs.Moments.{all_arrivals, arrivals_before, end_of_time, landing_at}
+use Rattle.replay_events.specs.Traffic.{Traffic}
 
 -- frames that may be replayed
 pub record AreLandings (landings : List Arrival) : Type 0 where
@@ -61,48 +63,49 @@ MessagesAreSettled =
     → jobs c.endpoints (accepted_of c (arrivals_before landings later)) to ≡ jobs c.endpoints (accepted_of c (arrivals_before landings tick)) to
 
 -- Where nothing lands from `now` on and before a tick, and nothing is due before it: what is due up to the tick are its cells, and
--- no events stand between.
-pub record IsNextMoment (c : Config) (landings : List Arrival) (now tick : ℤ) : Type 0 where
+-- no events stand between. Nothing is told of the distributed unit.
+pub record IsNextMoment (c : Config) (t : Traffic) (now tick : ℤ) : Type 0 where
   pub config : IsConfig c
-  pub landings_are : AreLandings landings
+  pub landings_are : AreLandings t.at_ru
   pub begun : first_clock ≤ℤ now
   pub order : now ≤ℤ tick
   pub ended : tick ≤ℤ (end_of_time +ℤ pos 1)
-  pub calm : IsCalm landings now tick
-  pub quiet : due_from c landings now (tick -ℤ pos 1) ≡ []
+  pub calm : IsCalm t.at_ru now tick
+  pub quiet : due_from c t.at_ru now (tick -ℤ pos 1) ≡ []
+  pub idle : IsDuIdle c t
 
 abbrev pub DueAtMoment : Type 0
-DueAtMoment = (c : Config) (landings : List Arrival) (now tick : ℤ) → IsNextMoment c landings now tick → tick ≤ℤ end_of_time
-    → due_from c landings now tick ≡ cells_at c landings tick
+DueAtMoment = (c : Config) (t : Traffic) (now tick : ℤ) → IsNextMoment c t now tick → tick ≤ℤ end_of_time
+    → due_from c t.at_ru now tick ≡ cells_at Ru c t tick
 
 -- then all cells up to the tick are reported
 abbrev pub ReportedAtMoment : Type 0
 ReportedAtMoment =
-    (c : Config) (landings : List Arrival) (now tick : ℤ) → IsNextMoment c landings now tick → tick ≤ℤ end_of_time
-    → ru_reported c (arrivals_before landings now) (now -ℤ pos 1) ++ cells_at c landings tick ≡ ru_reported c (arrivals_before landings (tick +ℤ pos 1)) tick
+    (c : Config) (t : Traffic) (now tick : ℤ) → IsNextMoment c t now tick → tick ≤ℤ end_of_time
+    → ru_reported c (arrivals_before t.at_ru now) (now -ℤ pos 1) ++ cells_at Ru c t tick ≡ ru_reported c (arrivals_before t.at_ru (tick +ℤ pos 1)) tick
 
 -- and up to the tick before it they are
 abbrev pub ReportedBeforeMoment : Type 0
 ReportedBeforeMoment =
-    (c : Config) (landings : List Arrival) (now tick : ℤ) → IsNextMoment c landings now tick
-    → ru_reported c (arrivals_before landings now) (now -ℤ pos 1) ≡ ru_reported c (arrivals_before landings tick) (tick -ℤ pos 1)
+    (c : Config) (t : Traffic) (now tick : ℤ) → IsNextMoment c t now tick
+    → ru_reported c (arrivals_before t.at_ru now) (now -ℤ pos 1) ≡ ru_reported c (arrivals_before t.at_ru tick) (tick -ℤ pos 1)
 
 -- ---- events
 
 abbrev pub EventsWait : Type 0
 EventsWait =
-    (c : Config) (landings : List Arrival) (now tick : ℤ) → IsNextMoment c landings now tick
-    → events_between c landings first_clock tick ≡ events_between c landings first_clock now
+    (c : Config) (t : Traffic) (now tick : ℤ) → IsNextMoment c t now tick
+    → events_between c t first_clock tick ≡ events_between c t first_clock now
 
 abbrev pub EventsGoOn : Type 0
 EventsGoOn =
-    (c : Config) (landings : List Arrival) (tick : ℤ) → first_clock ≤ℤ tick
-    → events_between c landings first_clock (tick +ℤ pos 1) ≡ events_between c landings first_clock tick ++ events_at c landings tick
+    (c : Config) (t : Traffic) (tick : ℤ) → first_clock ≤ℤ tick
+    → events_between c t first_clock (tick +ℤ pos 1) ≡ events_between c t first_clock tick ++ events_at c t tick
 
 -- ---- the end: nothing lands any more, and nothing is due
 
 abbrev pub AllIsOver : Type 0
 AllIsOver =
-    (c : Config) (landings : List Arrival) (now : ℤ) → IsNextMoment c landings now (end_of_time +ℤ pos 1)
-    → (all_arrivals landings ≡ arrivals_before landings now)
-    × (ru_reported c (all_arrivals landings) end_of_time ≡ ru_reported c (arrivals_before landings now) (now -ℤ pos 1))
+    (c : Config) (t : Traffic) (now : ℤ) → IsNextMoment c t now (end_of_time +ℤ pos 1)
+    → (all_arrivals t.at_ru ≡ arrivals_before t.at_ru now)
+    × (ru_reported c (all_arrivals t.at_ru) end_of_time ≡ ru_reported c (arrivals_before t.at_ru now) (now -ℤ pos 1))

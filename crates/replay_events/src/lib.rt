@@ -1,9 +1,10 @@
-//! The events of a replay: what a report tells of the frames that land at a radio unit, in the order of time, by definition
+//! The events of a replay: what a report tells of the frames that land at the two units, in the order of time, by definition
 //! (`specs/Events.antt`), and the laws by which a loop that lets time pass comes to them (`specs/Passing.antt`).
 //!
 //! The functions here do nothing: each one's contract is its law.
 #![tactic(auto)]
 
+ghost use Rattle.replay_events.specs.Alone.{IdleWithoutPlan};
 ghost use Rattle.replay_events.specs.Passing.{AllIsOver, ArrivalsAreInTime, ArrivalsGoOn, CalmAddsNothing, DueAtMoment, EventsGoOn, EventsWait, MessagesAreSettled, ReportedAtMoment, ReportedBeforeMoment, ReportedIsSettled};
 
 /// What came before a tick.
@@ -27,4 +28,9 @@ pub fn moments_follow()
     ensures wait { EventsWait }
     ensures more { EventsGoOn }
     ensures over { AllIsOver }
+{}
+
+/// Where nothing is planned and nothing lands at the distributed unit, nothing is told of it.
+pub fn idle_without_plan()
+    ensures { IdleWithoutPlan }
 {}

@@ -4,7 +4,7 @@ use Rattle.std.specs.Prelude.{◌==◌, if◌then◌else◌, Contains, Option, S
 use Rattle.std.proofs.lemmas.Bool.{and_parts, or_parts, eqb-true}
 use Rattle.std.proofs.lemmas.Option.{same_Some}
 use Rattle.bfp_codec.specs.declared.samples.Wide.{Wide}
-use Rattle.air_source.specs.declared.events.Side.TheVariants.{Ru}
+use Rattle.air_source.specs.declared.events.Side.{Side}
 use Rattle.window_config.specs.declared.delays.Delays.{Delays}
 use Rattle.window_config.specs.declared.verdicts.Class.TheVariants.{OnTime}
 use Rattle.unit_model.specs.Blocks.{block_at, block_in, block_of, data_class, data_covers, timely}
@@ -19,15 +19,16 @@ use Rattle.unit_model.specs.declared.cells.Claim.{Claim}
 use Rattle.unit_model.specs.declared.decoded.Command.{Command}
 use Rattle.unit_model.specs.declared.decoded.Data.{Data}
 use Rattle.unit_model.specs.declared.verdicts.CommandVerdict.TheVariants.{Accepted}
+use Rattle.replay_laws.specs.Shown.{HaveOneId}
 use Rattle.unit_laws.proofs.AcceptanceLemmas.{accepted_is_acceptable}
 use Rattle.unit_laws.proofs.CellLemmas.{covered_cell, covers_is, from_first, from_within, some_false}
 use Rattle.unit_laws.proofs.ChangeLemmas.{accepted_more, block-cons, claim-cons, claim_same, either_way, timely_more}
 
 -- ---- where nothing came
 
-none_given : (d : Delays) (cell : Cell) (b : Block) → block_at (timely Ru d []) cell ≡ Some b → ⊥
+none_given : (side : Side) (d : Delays) (cell : Cell) (b : Block) → block_at (timely side d []) cell ≡ Some b → ⊥
 unfolding timely block_at
-none_given d cell b h = cc
+none_given side d cell b h = cc
 
 none_claimed : (d : Delays) (cell : Cell) (re : ℕ) (k : Claim) → claim_at (accepted d []) cell re ≡ Some k → ⊥
 unfolding accepted claim_at
@@ -51,10 +52,10 @@ samples_are_under id (Some b) samples h = go (b.id == id) refl h
     go false same e = absurd cc
 
 -- a section of data that was on time gave it
-pub record IsGiven (d : Delays) (ds : List Data) (cell : Cell) (b : Block) : Type 0 where
+pub record IsGiven (side : Side) (d : Delays) (ds : List Data) (cell : Cell) (b : Block) : Type 0 where
   pub x : Data
   pub inside : Contains ds x
-  pub on_time : data_class Ru d x ≡ OnTime
+  pub on_time : data_class side d x ≡ OnTime
   pub covers : data_covers x cell ≡ true
   pub is : block_of x cell ≡ b
 
@@ -64,28 +65,28 @@ first_inside x xs = (0, omega arith, refl)
 pub later_inside : {A : Type 0} (x y : A) (xs : List A) → Contains xs y → Contains (x ∷ xs) y
 later_inside x y xs h = let lt = h.1 in (suc h.0, omega arith, h.2)
 
-given_later : (d : Delays) (x : Data) (ds : List Data) (cell : Cell) (b : Block) → IsGiven d ds cell b → IsGiven d (x ∷ ds) cell b
-given_later d x ds cell b g = record { x = g.x; inside = later_inside x g.x ds g.inside; on_time = g.on_time; covers = g.covers; is = g.is }
+given_later : (side : Side) (d : Delays) (x : Data) (ds : List Data) (cell : Cell) (b : Block) → IsGiven side d ds cell b → IsGiven side d (x ∷ ds) cell b
+given_later side d x ds cell b g = record { x = g.x; inside = later_inside x g.x ds g.inside; on_time = g.on_time; covers = g.covers; is = g.is }
 
-given_here : (d : Delays) (x : Data) (ds : List Data) (cell : Cell) (b : Block) (covered : Bool) → data_class Ru d x ≡ OnTime → data_covers x cell ≡ covered
-    → (let o : Option Block = if covered then Some (block_of x cell) else None in o) ≡ Some b → IsGiven d (x ∷ ds) cell b
-given_here d x ds cell b true on_time is e =
+given_here : (side : Side) (d : Delays) (x : Data) (ds : List Data) (cell : Cell) (b : Block) (covered : Bool) → data_class side d x ≡ OnTime → data_covers x cell ≡ covered
+    → (let o : Option Block = if covered then Some (block_of x cell) else None in o) ≡ Some b → IsGiven side d (x ∷ ds) cell b
+given_here side d x ds cell b true on_time is e =
     record { x = x; inside = first_inside x ds; on_time = on_time; covers = is; is = same_Some (block_of x cell) b e }
-given_here d x ds cell b false on_time is e = absurd cc
+given_here side d x ds cell b false on_time is e = absurd cc
 
-pub block_given : (d : Delays) (ds : List Data) (cell : Cell) (b : Block) → block_at (timely Ru d ds) cell ≡ Some b → IsGiven d ds cell b
-block_given d [] cell b there = absurd (none_given d cell b there)
-block_given d (x ∷ earlier) cell b there = elim (timely_more Ru d x earlier) [
-  | inl e ↦ given_later d x earlier cell b (block_given d earlier cell b (sym (ap (λ (xs : List Data). block_at xs cell) e) ∙ there))
-  | inr is ↦ go is.0 (block_given d earlier cell b) (block_at (timely Ru d earlier) cell) refl (sym (block-cons x (timely Ru d earlier) cell) ∙ sym (ap (λ (xs : List Data). block_at xs cell) is.1) ∙ there)
+pub block_given : (side : Side) (d : Delays) (ds : List Data) (cell : Cell) (b : Block) → block_at (timely side d ds) cell ≡ Some b → IsGiven side d ds cell b
+block_given side d [] cell b there = absurd (none_given side d cell b there)
+block_given side d (x ∷ earlier) cell b there = elim (timely_more side d x earlier) [
+  | inl e ↦ given_later side d x earlier cell b (block_given side d earlier cell b (sym (ap (λ (xs : List Data). block_at xs cell) e) ∙ there))
+  | inr is ↦ go is.0 (block_given side d earlier cell b) (block_at (timely side d earlier) cell) refl (sym (block-cons x (timely side d earlier) cell) ∙ sym (ap (λ (xs : List Data). block_at xs cell) is.1) ∙ there)
 ]
   where
-    go : data_class Ru d x ≡ OnTime → (block_at (timely Ru d earlier) cell ≡ Some b → IsGiven d earlier cell b) → (o : Option Block) → block_at (timely Ru d earlier) cell ≡ o
-        → or_else (block_at (timely Ru d earlier) cell) (block_in x cell) ≡ Some b → IsGiven d (x ∷ earlier) cell b
+    go : data_class side d x ≡ OnTime → (block_at (timely side d earlier) cell ≡ Some b → IsGiven side d earlier cell b) → (o : Option Block) → block_at (timely side d earlier) cell ≡ o
+        → or_else (block_at (timely side d earlier) cell) (block_in x cell) ≡ Some b → IsGiven side d (x ∷ earlier) cell b
     go on_time given (Some c) before e =
-        given_later d x earlier cell b (given (before ∙ sym (ap (λ (o : Option Block). or_else o (block_in x cell)) before) ∙ e))
+        given_later side d x earlier cell b (given (before ∙ sym (ap (λ (o : Option Block). or_else o (block_in x cell)) before) ∙ e))
     go on_time given None before e =
-        given_here d x earlier cell b (data_covers x cell) on_time refl (sym (ap (λ (o : Option Block). or_else o (block_in x cell)) before) ∙ e)
+        given_here side d x earlier cell b (data_covers x cell) on_time refl (sym (ap (λ (o : Option Block). or_else o (block_in x cell)) before) ∙ e)
 
 -- ---- the claim on an element
 
@@ -135,6 +136,34 @@ claim_given d (c ∷ earlier) cell re k there = elim (accepted_more d c earlier)
       ]
 ]
 
+-- ---- the claim on an element that is planned
+
+pub record IsPlanned (planned : List Allocation) (cell : Cell) (re : ℕ) (k : Claim) : Type 0 where
+  pub allocation : Allocation
+  pub there : Contains planned allocation
+  pub named : names allocation cell re ≡ true
+  pub is : claim_of allocation ≡ k
+
+nothing_planned : (cell : Cell) (re : ℕ) (k : Claim) → claim_at [] cell re ≡ Some k → ⊥
+unfolding claim_at
+nothing_planned cell re k h = cc
+
+planned_later : (a : Allocation) (planned : List Allocation) (cell : Cell) (re : ℕ) (k : Claim) → IsPlanned planned cell re k → IsPlanned (a ∷ planned) cell re k
+planned_later a planned cell re k g =
+    record { allocation = g.allocation; there = later_inside a g.allocation planned g.there; named = g.named; is = g.is }
+
+pub planned_given : (planned : List Allocation) (cell : Cell) (re : ℕ) (k : Claim) → claim_at planned cell re ≡ Some k → IsPlanned planned cell re k
+planned_given [] cell re k there = absurd (nothing_planned cell re k there)
+planned_given (a ∷ planned) cell re k there = elim (either_way (names a cell re)) [
+  | inl not_named ↦ planned_later a planned cell re k (planned_given planned cell re k (sym (claim_same a planned cell re not_named) ∙ there))
+  | inr named ↦ record {
+    allocation = a;
+    there = first_inside a planned;
+    named = named;
+    is = same_Some (claim_of a) k (sym (claim_named a planned cell re named) ∙ there);
+  }
+]
+
 -- ---- all claims of a cell have one id
 
 not_false : (b : Bool) → not b ≡ false → b ≡ true
@@ -163,10 +192,6 @@ own_id earlier a cell re l apart covered below there =
     (omega arith) (omega arith) in
     let parts = or_parts (in_mask a.mask re && is_some o) (is_other a.section o) element in
     under_not_other a.section o l (ap (λ (x : Cell). claim_at earlier x re) (covered_cell a cell is) ∙ there) parts.1
-
-abbrev pub HaveOneId : List Allocation → Cell → Type 0
-HaveOneId allocations cell =
-    (re other : ℕ) (k l : Claim) → re < 12 → other < 12 → claim_at allocations cell re ≡ Some k → claim_at allocations cell other ≡ Some l → k.id ≡ l.id
 
 one_more_id : (a : Allocation) (earlier : List Allocation) (cell : Cell) → overlaps earlier a ≡ false → HaveOneId earlier cell → HaveOneId (a ∷ earlier) cell
 one_more_id a earlier cell apart one re other k l small few there also = elim (either_way (names a cell re)) [

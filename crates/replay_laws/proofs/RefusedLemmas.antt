@@ -4,7 +4,6 @@ use Rattle.std.specs.Prelude.{◌==◌, cond, if◌then◌else◌, Option, Some,
 use Rattle.std.proofs.lemmas.Bool.{and_parts, cases_eq, eqb-true}
 use Rattle.fh_time.specs.declared.values.Slot.{Slot}
 use Rattle.air_source.specs.declared.events.Side.{Side}
-use Rattle.air_source.specs.declared.events.Side.TheVariants.{Ru}
 use Rattle.ecpri_fragments.specs.Generations.{Fragment, Generation, begins, begun, generations, generations_of, held_in, is_first, is_of, is_within, joined, of_id, with_fragment}
 use Rattle.ecpri_fragments.specs.Verdicts.{Message, Rests, answer, is_whole, placed, refused, standing, standing_before, verdict, verdict_on, with_one}
 use Rattle.ecpri_fragments.specs.declared.verdict.Verdict.{Verdict}
@@ -258,12 +257,12 @@ same_without side hold (Piece e f) earlier rests = record {
 }
 
 pub each_refused_changes_nothing : EachRefusedChangesNothing
-each_refused_changes_nothing c arrivals = record {
+each_refused_changes_nothing side c arrivals = record {
   message_rests = λ later m earlier parts rests.
-      let hold = hold_of Ru c.delays in
-      let same = same_later Ru hold later earlier (m ∷ earlier) (same_without Ru hold m earlier rests) in
-      (same.commands_are ∙ ap commands (sym parts), same.data_are ∙ ap (data_sections Ru hold) (sym parts));
+      let hold = hold_of side c.delays in
+      let same = same_later side hold later earlier (m ∷ earlier) (same_without side hold m earlier rests) in
+      (same.commands_are ∙ ap commands (sym parts), same.data_are ∙ ap (data_sections side hold) (sym parts));
   command_rests = λ later x earlier parts rests. accepted_rests c.delays later x earlier rests ∙ ap (accepted c.delays) (sym parts);
   data_rests = λ later x earlier parts rests cell.
-      blocks_rest Ru c.delays later x earlier rests cell ∙ ap (λ (xs : List Data). block_at (timely Ru c.delays xs) cell) (sym parts);
+      blocks_rest side c.delays later x earlier rests cell ∙ ap (λ (xs : List Data). block_at (timely side c.delays xs) cell) (sym parts);
 }

@@ -9,7 +9,8 @@ use Rattle.bfp_codec.specs.declared.samples.Wide.{Wide}
 use Rattle.air_source.specs.declared.events.AirCell.{AirCell}
 use Rattle.air_source.specs.declared.events.Event.{Event}
 use Rattle.air_source.specs.declared.events.Event.TheVariants as event
-use Rattle.air_source.specs.declared.events.Side.TheVariants.{Ru}
+use Rattle.air_source.specs.declared.events.Side.{Side}
+use Rattle.air_source.specs.declared.events.Side.TheVariants.{Ru, Du}
 use Rattle.fault_counters.specs.Counts.{capped, times}
 use Rattle.fault_counters.specs.Names.{all_counters}
 use Rattle.fault_counters.specs.declared.kinds.Counter.{Counter}
@@ -21,7 +22,7 @@ use Rattle.unit_model.specs.Commands.{command_verdicts}
 use Rattle.unit_model.specs.Counts.{block_counter, cells_counted, commands_counted, data_counted, frames_counted, messages_counted}
 use Rattle.unit_model.specs.Meetings.{Arrival}
 use Rattle.unit_model.specs.Radiated.{first_clock}
-use Rattle.unit_model.specs.Reports.{commands_of, data_of, hold_of, met, ru_reported}
+use Rattle.unit_model.specs.Reports.{commands_of, data_of, hold_of, met}
 use Rattle.unit_model.specs.declared.decoded.Command.{Command}
 use Rattle.unit_model.specs.declared.decoded.Data.{Data}
 use Rattle.unit_model.specs.declared.verdicts.CommandVerdict.{CommandVerdict}
@@ -32,9 +33,10 @@ use Rattle.unit_laws.specs.Totals.{commands_total, data_total}
 use Rattle.unit_laws.proofs.DifferLemmas.{all_kept}
 use Rattle.unit_laws.proofs.SweepLemmas.{each_tick_related}
 use Rattle.unit_laws.proofs.TotalLemmas.{commands_add_up, data_add_up}
-use Rattle.replay_events.specs.Events.{arrival_event, cells_at, count_event, count_events, events, events_at, events_between, number_of}
+use Rattle.replay_events.specs.Events.{all_counted, arrival_event, arrivals_at, arrivals_told, cells_at, count_event, count_events, events, events_at, events_between, number_of}
 use Rattle.replay_events.specs.Moments.{all_arrivals, end_of_time, landing_at}
-use Rattle.replay_laws.specs.Sums.{IsNumber, SumsAddUp, TellsNumber, all_counted, cells_total}
+use Rattle.replay_events.specs.Traffic.{Traffic, landings_at, reported_at}
+use Rattle.replay_laws.specs.Sums.{IsNumber, SumsAddUp, TellsNumber, UnitAddsUp, cells_total}
 use Rattle.replay_laws.proofs.BesideLemmas.{IsBeside, cells-append, commands-append, data-append, frames_beside, meetings_beside, messages_beside}
 use Rattle.replay_laws.proofs.OnceLemmas.{cells_are_reported}
 
@@ -45,10 +47,10 @@ unfolding command_verdicts
 verdict_each d [] = refl
 verdict_each d (c ∷ earlier) = omega (arith, verdict_each d earlier)
 
-data_verdict_each : (d : Delays) (ds : List Data) → length (data_verdicts Ru d ds) ≡ length ds
+data_verdict_each : (side : Side) (d : Delays) (ds : List Data) → length (data_verdicts side d ds) ≡ length ds
 unfolding data_verdicts
-data_verdict_each d [] = refl
-data_verdict_each d (x ∷ earlier) = omega (arith, data_verdict_each d earlier)
+data_verdict_each side d [] = refl
+data_verdict_each side d (x ∷ earlier) = omega (arith, data_verdict_each side d earlier)
 
 -- ---- verdicts of one kind stand beside those of the other, and beside the cells
 
@@ -141,21 +143,21 @@ five frames messages commands sections cells n m k f g h i j =
       cells_are = omega (arith, all.cells_are);
     }
 
-counted_is : (c : Config) (arrivals : List Arrival) (cells : List AirCell)
+counted_is : (side : Side) (c : Config) (arrivals : List Arrival) (cells : List AirCell)
     → IsOf
-    ((frames_counted arrivals ++ (messages_counted Ru (hold_of Ru c.delays) (met Ru c arrivals)
-    ++ (commands_counted (command_verdicts c.delays (commands_of Ru c arrivals)) ++ data_counted (data_verdicts Ru c.delays (data_of Ru c arrivals))))) ++ cells_counted cells)
-    (length (commands_of Ru c arrivals)) (length (data_of Ru c arrivals)) (length cells)
-counted_is c arrivals cells =
-    let commands = commands_of Ru c arrivals in
-    let sections = data_of Ru c arrivals in
+    ((frames_counted arrivals ++ (messages_counted side (hold_of side c.delays) (met side c arrivals)
+    ++ (commands_counted (command_verdicts c.delays (commands_of side c arrivals)) ++ data_counted (data_verdicts side c.delays (data_of side c arrivals))))) ++ cells_counted cells)
+    (length (commands_of side c arrivals)) (length (data_of side c arrivals)) (length cells)
+counted_is side c arrivals cells =
+    let commands = commands_of side c arrivals in
+    let sections = data_of side c arrivals in
     let vs = command_verdicts c.delays commands in
-    let us = data_verdicts Ru c.delays sections in
-    five (frames_counted arrivals) (messages_counted Ru (hold_of Ru c.delays) (met Ru c arrivals)) (commands_counted vs) (data_counted us) (cells_counted cells)
+    let us = data_verdicts side c.delays sections in
+    five (frames_counted arrivals) (messages_counted side (hold_of side c.delays) (met side c arrivals)) (commands_counted vs) (data_counted us) (cells_counted cells)
     (length commands) (length sections) (length cells) (beside_all _ (frames_beside arrivals))
-    (beside_all _ (messages_beside Ru (hold_of Ru c.delays) (met Ru c arrivals) (meetings_beside Ru c.endpoints arrivals)))
+    (beside_all _ (messages_beside side (hold_of side c.delays) (met side c arrivals) (meetings_beside side c.endpoints arrivals)))
     (record { commands_are = commands_add_up vs ∙ verdict_each c.delays commands; sections_are = no_sections vs; cells_are = no_cells vs })
-    (record { commands_are = no_commands us; sections_are = data_add_up us ∙ data_verdict_each c.delays sections; cells_are = no_cells_of_data us })
+    (record { commands_are = no_commands us; sections_are = data_add_up us ∙ data_verdict_each side c.delays sections; cells_are = no_cells_of_data us })
     (cells_alone cells)
 
 -- ---- the events of the counters
@@ -166,7 +168,7 @@ capped_small n h = omega (arith, h)
 capped_is_number : (n value : ℕ) → value ≡ capped n → IsNumber n value
 capped_is_number n value e = record { value_is = e; exact = λ small. e ∙ capped_small n small }
 
-module _ (counted : List Counter) where
+module _ (counted : Side → List Counter) where
   abbrev Tells : Event → Type 0
   Tells = TellsNumber counted
 
@@ -174,41 +176,52 @@ module _ (counted : List Counter) where
   cells_tell_none [] = All-nil Tells
   cells_tell_none (a ∷ rest) = All-cons Tells (event.Cell a) (map event.Cell rest) tt (cells_tell_none rest)
 
-  arrivals_tell_none : (xs : List Arrival) → All Tells (map arrival_event xs)
-  arrivals_tell_none [] = All-nil Tells
-  arrivals_tell_none (x ∷ xs) = All-cons Tells (arrival_event x) (map arrival_event xs) tt (arrivals_tell_none xs)
+  arrivals_tell_none : (side : Side) (xs : List Arrival) → All Tells (arrivals_told side xs)
+  unfolding arrivals_told
+  arrivals_tell_none side [] = All-nil Tells
+  arrivals_tell_none side (x ∷ xs) = All-cons Tells (arrival_event side x) (arrivals_told side xs) tt (arrivals_tell_none side xs)
 
-  one_tells : (k : Counter) (n : ℕ) (b : Bool) → IsNumber (times counted k) n → All Tells (if b then [] else event.Count Ru k n ∷ [])
-  one_tells k n true is = All-nil Tells
-  one_tells k n false is = All-cons Tells (event.Count Ru k n) [] is (All-nil Tells)
+  one_tells : (side : Side) (k : Counter) (n : ℕ) (b : Bool) → IsNumber (times (counted side) k) n → All Tells (if b then [] else event.Count side k n ∷ [])
+  one_tells side k n true is = All-nil Tells
+  one_tells side k n false is = All-cons Tells (event.Count side k n) [] is (All-nil Tells)
 
-  counts_tell : (f : Counter → ℕ) (ks : List Counter) → ((k : Counter) → f k ≡ capped (times counted k)) → All Tells (flat_map (λ k. count_event (f k) k) ks)
-  counts_tell f [] is = All-nil Tells
-  counts_tell f (k ∷ ks) is =
-      All-append Tells (count_event (f k) k) (flat_map (λ j. count_event (f j) j) ks)
-      (one_tells k (f k) (f k == 0) (capped_is_number (times counted k) (f k) (is k))) (counts_tell f ks is)
+  counts_tell : (side : Side) (f : Counter → ℕ) (ks : List Counter) → ((k : Counter) → f k ≡ capped (times (counted side) k)) → All Tells (flat_map (λ k. count_event side (f k) k) ks)
+  counts_tell side f [] is = All-nil Tells
+  counts_tell side f (k ∷ ks) is =
+      All-append Tells (count_event side (f k) k) (flat_map (λ j. count_event side (f j) j) ks)
+      (one_tells side k (f k) (f k == 0) (capped_is_number (times (counted side) k) (f k) (is k))) (counts_tell side f ks is)
 
-  tick_tells : (c : Config) (landings : List Arrival) (t : ℤ) → All Tells (events_at c landings t)
+  tick_tells : (c : Config) (t : Traffic) (tick : ℤ) → All Tells (events_at c t tick)
   unfolding events_at
-  tick_tells c landings t =
-      All-append Tells (map event.Cell (cells_at c landings t)) (map arrival_event (landing_at landings t)) (cells_tell_none (cells_at c landings t))
-      (arrivals_tell_none (landing_at landings t))
+  tick_tells c t tick =
+      let ru = map event.Cell (cells_at Ru c t tick) in
+      let came = arrivals_at Ru t tick in
+      let taken = arrivals_at Du t tick in
+      let du = map event.Cell (cells_at Du c t tick) in
+      All-append Tells ru (came ++ (taken ++ du)) (cells_tell_none (cells_at Ru c t tick))
+      (All-append Tells came (taken ++ du) (arrivals_tell_none Ru (landing_at t.at_ru tick))
+      (All-append Tells taken du (arrivals_tell_none Du (landing_at t.at_du tick)) (cells_tell_none (cells_at Du c t tick))))
 
-  ticks_tell : (c : Config) (landings : List Arrival) (from end : ℤ) → All Tells (events_between c landings from end)
-  ticks_tell c landings from end =
-      each_tick_related (λ xs ys. All Tells xs) (all_kept Tells) from (int_gap from end) (events_at c landings) (events_at c landings)
-      (λ t low high. tick_tells c landings t)
+  ticks_tell : (c : Config) (t : Traffic) (from end : ℤ) → All Tells (events_between c t from end)
+  ticks_tell c t from end =
+      each_tick_related (λ xs ys. All Tells xs) (all_kept Tells) from (int_gap from end) (events_at c t) (events_at c t)
+      (λ tick low high. tick_tells c t tick)
 
-number_is : (c : Config) (landings : List Arrival) (k : Counter) → number_of c landings k ≡ capped (times (all_counted c landings) k)
+number_is : (side : Side) (c : Config) (t : Traffic) (k : Counter) → number_of side c t k ≡ capped (times (all_counted side c t) k)
 unfolding number_of
-number_is c landings k = refl
+number_is side c t k = refl
 
-all_told : (c : Config) (landings : List Arrival) → All (TellsNumber (all_counted c landings)) (events c landings)
-unfolding events count_events
-all_told c landings =
-    let counted = all_counted c landings in
-    All-append (TellsNumber counted) (events_between c landings first_clock (end_of_time +ℤ pos 1)) (flat_map (λ k. count_event (number_of c landings k) k) all_counters)
-    (ticks_tell counted c landings first_clock (end_of_time +ℤ pos 1)) (counts_tell counted (number_of c landings) all_counters (number_is c landings))
+unit_told : (side : Side) (c : Config) (t : Traffic) → All (TellsNumber (λ s. all_counted s c t)) (count_events side c t)
+unfolding count_events
+unit_told side c t = counts_tell (λ s. all_counted s c t) side (number_of side c t) all_counters (number_is side c t)
+
+all_told : (c : Config) (t : Traffic) → All (TellsNumber (λ side. all_counted side c t)) (events c t)
+unfolding events
+all_told c t =
+    let Tells = TellsNumber (λ side. all_counted side c t) in
+    All-append Tells (events_between c t first_clock (end_of_time +ℤ pos 1)) (count_events Ru c t ++ count_events Du c t)
+    (ticks_tell (λ side. all_counted side c t) c t first_clock (end_of_time +ℤ pos 1))
+    (All-append Tells (count_events Ru c t) (count_events Du c t) (unit_told Ru c t) (unit_told Du c t))
 
 -- ---- none is left out
 
@@ -250,43 +263,53 @@ listed counter.DelayResult = (32, omega arith, refl)
 not_none : (n : ℕ) → 0 < n → (n == 0) ≡ false
 not_none n h = false_from_ne_true (n == 0) (λ t. let none = eqb-true n 0 t in omega (arith, h, none))
 
-count_there : (n : ℕ) (k : Counter) → 0 < n → Contains (count_event n k) (event.Count Ru k n)
-count_there n k h =
-    subst (λ (b : Bool). Contains (let es : List Event = if b then [] else event.Count Ru k n ∷ [] in es) (event.Count Ru k n)) (sym (not_none n h)) (0, omega arith, refl)
+count_there : (side : Side) (n : ℕ) (k : Counter) → 0 < n → Contains (count_event side n k) (event.Count side k n)
+count_there side n k h =
+    subst (λ (b : Bool). Contains (let es : List Event = if b then [] else event.Count side k n ∷ [] in es) (event.Count side k n)) (sym (not_none n h)) (0, omega arith, refl)
 
-counts_there : (f : Counter → ℕ) (ks : List Counter) (i : ℕ) (k : Counter) → i < length ks → get_or ks i k ≡ k → 0 < f k
-    → Contains (flat_map (λ j. count_event (f j) j) ks) (event.Count Ru k (f k))
-counts_there f [] i k low is some = absurd (omega (arith, low))
-counts_there f (j ∷ js) zero k low is some =
-    Contains-append_left (count_event (f j) j) (flat_map (λ l. count_event (f l) l) js) (event.Count Ru k (f k))
-    (subst (λ (l : Counter). Contains (count_event (f l) l) (event.Count Ru k (f k))) (sym is) (count_there (f k) k some))
-counts_there f (j ∷ js) (suc i) k low is some =
-    Contains-append_right (count_event (f j) j) (flat_map (λ l. count_event (f l) l) js) (event.Count Ru k (f k))
-    (counts_there f js i k (omega (arith, low)) is some)
+counts_there : (side : Side) (f : Counter → ℕ) (ks : List Counter) (i : ℕ) (k : Counter) → i < length ks → get_or ks i k ≡ k → 0 < f k
+    → Contains (flat_map (λ j. count_event side (f j) j) ks) (event.Count side k (f k))
+counts_there side f [] i k low is some = absurd (omega (arith, low))
+counts_there side f (j ∷ js) zero k low is some =
+    Contains-append_left (count_event side (f j) j) (flat_map (λ l. count_event side (f l) l) js) (event.Count side k (f k))
+    (subst (λ (l : Counter). Contains (count_event side (f l) l) (event.Count side k (f k))) (sym is) (count_there side (f k) k some))
+counts_there side f (j ∷ js) (suc i) k low is some =
+    Contains-append_right (count_event side (f j) j) (flat_map (λ l. count_event side (f l) l) js) (event.Count side k (f k))
+    (counts_there side f js i k (omega (arith, low)) is some)
 
 capped_some : (n : ℕ) → 0 < n → 0 < capped n
 capped_some n h = omega (arith, h)
 
-none_left : (c : Config) (landings : List Arrival) (k : Counter) → 0 < times (all_counted c landings) k
-    → Contains (events c landings) (event.Count Ru k (capped (times (all_counted c landings) k)))
-unfolding events count_events
-none_left c landings k some =
-    let n = capped (times (all_counted c landings) k) in
-    let is : number_of c landings k ≡ n = number_is c landings k in
+unit_left : (side : Side) (c : Config) (t : Traffic) (k : Counter) → 0 < times (all_counted side c t) k
+    → Contains (count_events side c t) (event.Count side k (capped (times (all_counted side c t) k)))
+unfolding count_events
+unit_left side c t k some =
     let place = listed k in
-    Contains-append_right (events_between c landings first_clock (end_of_time +ℤ pos 1)) (flat_map (λ j. count_event (number_of c landings j) j) all_counters) (event.Count Ru k n)
-    (subst (λ (m : ℕ). Contains (flat_map (λ j. count_event (number_of c landings j) j) all_counters) (event.Count Ru k m)) is
-    (counts_there (number_of c landings) all_counters place.0 k place.1 place.2
-    (subst (λ (m : ℕ). 0 < m) (sym is) (capped_some (times (all_counted c landings) k) some))))
+    subst (λ (m : ℕ). Contains (flat_map (λ j. count_event side (number_of side c t j) j) all_counters) (event.Count side k m)) (number_is side c t k)
+    (counts_there side (number_of side c t) all_counters place.0 k place.1 place.2
+    (subst (λ (m : ℕ). 0 < m) (sym (number_is side c t k)) (capped_some (times (all_counted side c t) k) some)))
 
-pub sums_add_up : SumsAddUp
-sums_add_up c landings =
-    let cells = ru_reported c (all_arrivals landings) end_of_time in
-    let all = counted_is c (all_arrivals landings) cells in
+of_unit : (side : Side) (c : Config) (t : Traffic) (x : Event) → Contains (count_events side c t) x → Contains (count_events Ru c t ++ count_events Du c t) x
+of_unit Ru c t x h = Contains-append_left (count_events Ru c t) (count_events Du c t) x h
+of_unit Du c t x h = Contains-append_right (count_events Ru c t) (count_events Du c t) x h
+
+none_left : (side : Side) (c : Config) (t : Traffic) (k : Counter) → 0 < times (all_counted side c t) k
+    → Contains (events c t) (event.Count side k (capped (times (all_counted side c t) k)))
+unfolding events
+none_left side c t k some =
+    let x = event.Count side k (capped (times (all_counted side c t) k)) in
+    Contains-append_right (events_between c t first_clock (end_of_time +ℤ pos 1)) (count_events Ru c t ++ count_events Du c t) x
+    (of_unit side c t x (unit_left side c t k some))
+
+unit_adds_up : (side : Side) (c : Config) (t : Traffic) → UnitAddsUp side c t
+unit_adds_up side c t =
+    let arrivals = all_arrivals (landings_at side t) in
+    let all = counted_is side c arrivals (reported_at side c t.planned arrivals end_of_time) in
     record {
       commands = all.commands_are;
       sections = all.sections_are;
-      cells = all.cells_are ∙ ap length (sym (cells_are_reported c landings));
-      told = all_told c landings;
-      none_left = none_left c landings;
+      cells = all.cells_are ∙ ap length (sym (cells_are_reported side c t));
     }
+
+pub sums_add_up : SumsAddUp
+sums_add_up c t = record { sums = λ side. unit_adds_up side c t; told = all_told c t; none_left = λ side. none_left side c t }

@@ -1,7 +1,7 @@
 -- A message that is refused as it comes, a fragment that does not stand and a section that is refused change nothing but counters (this
 -- project's profile). A message of data that is whole and then refused is none of these: its fragments keep their places.
 use Rattle.std.specs.Prelude.{◌≡◌, ◌≢◌, ℤ, List, ◌∷◌, ◌++◌}
-use Rattle.air_source.specs.declared.events.Side.TheVariants.{Ru}
+use Rattle.air_source.specs.declared.events.Side.{Side}
 use Rattle.ecpri_fragments.specs.Generations.{is_first}
 use Rattle.ecpri_fragments.specs.Verdicts.{Rests, verdict_on}
 use Rattle.window_config.specs.declared.config.Config.{Config}
@@ -9,7 +9,7 @@ use Rattle.unit_model.specs.Blocks.{block_at, data_verdict, timely}
 use Rattle.unit_model.specs.Commands.{accepted, command_verdict}
 use Rattle.unit_model.specs.Decoding.{data_sections}
 use Rattle.unit_model.specs.Meetings.{Arrival, Meeting, Ignored, Commands, Piece, commands, fragments}
-use Rattle.unit_model.specs.Reports.{accepted_of, commands_of, data_of, hold_of, met, timely_of}
+use Rattle.unit_model.specs.Reports.{commands_of, data_of, hold_of, met, timely_of}
 use Rattle.unit_model.specs.declared.cells.Cell.{Cell}
 use Rattle.unit_model.specs.declared.decoded.Command.{Command}
 use Rattle.unit_model.specs.declared.decoded.Data.{Data}
@@ -23,25 +23,25 @@ IsRefusedMessage hold (Ignored k) earlier = Unit {0}
 IsRefusedMessage hold (Commands cs) earlier = ⊥
 IsRefusedMessage hold (Piece e f) earlier = Rests (verdict_on hold f (fragments earlier)) (is_first hold f (fragments earlier))
 
--- what is refused among some arrivals, after the earlier ones and before the later ones
-pub record RefusedChangesNothing (c : Config) (arrivals : List Arrival) : Type 0 where
+-- what is refused among some arrivals at a unit, after the earlier ones and before the later ones
+pub record RefusedChangesNothing (side : Side) (c : Config) (arrivals : List Arrival) : Type 0 where
   -- a message: without it the same sections are decoded, of commands and of data
   pub message_rests :
-      (later : List Meeting) (m : Meeting) (earlier : List Meeting) → met Ru c arrivals ≡ later ++ m ∷ earlier
-      → IsRefusedMessage (hold_of Ru c.delays) m earlier
-      → (commands (later ++ earlier) ≡ commands_of Ru c arrivals)
-      × (data_sections Ru (hold_of Ru c.delays) (later ++ earlier) ≡ data_of Ru c arrivals)
+      (later : List Meeting) (m : Meeting) (earlier : List Meeting) → met side c arrivals ≡ later ++ m ∷ earlier
+      → IsRefusedMessage (hold_of side c.delays) m earlier
+      → (commands (later ++ earlier) ≡ commands_of side c arrivals)
+      × (data_sections side (hold_of side c.delays) (later ++ earlier) ≡ data_of side c arrivals)
   -- a section of a command that is not accepted: without it the same is accepted, so each claim and each uplink message stays
   pub command_rests :
-      (later : List Command) (x : Command) (earlier : List Command) → commands_of Ru c arrivals ≡ later ++ x ∷ earlier
+      (later : List Command) (x : Command) (earlier : List Command) → commands_of side c arrivals ≡ later ++ x ∷ earlier
       → command_verdict c.delays (accepted c.delays earlier) x ≢ Accepted
-      → accepted c.delays (later ++ earlier) ≡ accepted_of c arrivals
+      → accepted c.delays (later ++ earlier) ≡ accepted c.delays (commands_of side c arrivals)
   -- a section of data that is not taken: without it each cell has the same block
   pub data_rests :
-      (later : List Data) (x : Data) (earlier : List Data) → data_of Ru c arrivals ≡ later ++ x ∷ earlier
-      → data_verdict Ru c.delays (timely Ru c.delays earlier) x ≢ Taken
-      → (cell : Cell) → block_at (timely Ru c.delays (later ++ earlier)) cell ≡ block_at (timely_of Ru c arrivals) cell
+      (later : List Data) (x : Data) (earlier : List Data) → data_of side c arrivals ≡ later ++ x ∷ earlier
+      → data_verdict side c.delays (timely side c.delays earlier) x ≢ Taken
+      → (cell : Cell) → block_at (timely side c.delays (later ++ earlier)) cell ≡ block_at (timely_of side c arrivals) cell
 
--- in every configuration, whatever arrives
+-- at each unit, in every configuration, whatever arrives
 abbrev pub EachRefusedChangesNothing : Type 0
-EachRefusedChangesNothing = (c : Config) (arrivals : List Arrival) → RefusedChangesNothing c arrivals
+EachRefusedChangesNothing = (side : Side) (c : Config) (arrivals : List Arrival) → RefusedChangesNothing side c arrivals

@@ -1,5 +1,5 @@
-//! Laws of the events of a replay, in the words of the fronthaul: no cell is reported twice, what a cell shows came in time and was
-//! commanded in time, the counters add up, and a message, fragment or section that is refused changes nothing but counters.
+//! Laws of the events of a replay, in the words of the fronthaul, at both units: no cell is reported twice, what a cell shows came in time
+//! and was commanded in time or planned, the counters add up, and a message, fragment or section that is refused changes nothing but counters.
 //!
 //! The functions here do nothing: each one's contract is its law, stated in `specs/`.
 #![tactic(auto)]
@@ -15,17 +15,17 @@ pub fn all_arrive()
     ensures { EachArrives }
 {}
 
-/// No cell is reported twice.
+/// No unit reports a cell twice.
 pub fn reported_once()
     ensures { AtMostOnce }
 {}
 
-/// What a cell shows came in time, and was commanded in time.
+/// What a cell shows came in time, and was commanded in time, or planned at the distributed unit.
 pub fn shown_in_time()
     ensures { ShownOnlyInTime }
 {}
 
-/// The counters of verdicts add up to the number of sections, those of cells to the number of cells.
+/// At each unit the counters of verdicts add up to the number of sections, those of cells to the number of cells.
 pub fn counters_add_up()
     ensures { SumsAddUp }
 {}

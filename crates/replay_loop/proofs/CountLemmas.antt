@@ -20,34 +20,35 @@ use Rattle.ru_buffers.specs.declared.unit.Ru.{Ru}
 use Rattle.unit_model.specs.Counts.{StandAt, cells_counted}
 use Rattle.unit_model.specs.Meetings.{Arrival as Landing}
 use Rattle.unit_model.specs.Reports.{arrivals_counted, ru_reported}
-use Rattle.replay_loop.specs.Replaying.{IsDone, StopsInStep, arrivals_heard, cells_heard, events_of, landings_of}
+use Rattle.replay_loop.specs.Replaying.{IsDone, StopsInStep, events_of, landings_of, traffic_of}
 use Rattle.replay_loop.specs.Turns.{AtTurn, events_before}
-use Rattle.replay_loop.proofs.HeardLemmas.{arrivals-append, cells-append}
+use Rattle.replay_events.specs.Heard.{arrivals_heard, cells_heard}
+use Rattle.replay_events.proofs.HeardLemmas.{arrivals-append, cells-append}
 use Rattle.replay_loop.proofs.StopLemmas.{all_events}
 use Rattle.replay_loop.proofs.TurnLemmas.{quiet_less}
 
 -- ---- their events, one after the other
 
 abbrev pub counts_by : (Counter → ℕ) → List Counter → List Event
-counts_by number ks = flat_map (λ k. count_event (number k) k) ks
+counts_by number ks = flat_map (λ k. count_event AtRu (number k) k) ks
 
 counts_by-append : (number : Counter → ℕ) (xs ys : List Counter) → counts_by number (xs ++ ys) ≡ counts_by number xs ++ counts_by number ys
 counts_by-append number [] ys = refl
 counts_by-append number (x ∷ xs) ys =
-    ap (λ (es : List Event). count_event (number x) x ++ es) (counts_by-append number xs ys)
-    ∙ sym (append_assoc (count_event (number x) x) (counts_by number xs) (counts_by number ys))
+    ap (λ (es : List Event). count_event AtRu (number x) x ++ es) (counts_by-append number xs ys)
+    ∙ sym (append_assoc (count_event AtRu (number x) x) (counts_by number xs) (counts_by number ys))
 
-counts_by-one : (number : Counter → ℕ) (k : Counter) → counts_by number (k ∷ []) ≡ count_event (number k) k
-counts_by-one number k = append-nil (count_event (number k) k)
+counts_by-one : (number : Counter → ℕ) (k : Counter) → counts_by number (k ∷ []) ≡ count_event AtRu (number k) k
+counts_by-one number k = append-nil (count_event AtRu (number k) k)
 
 pub counts_next : (number : Counter → ℕ) (ks : List Counter) (i : ℕ) (d : Counter) → i < length ks
-    → counts_by number (take i ks) ++ count_event (number (get_or ks i d)) (get_or ks i d) ≡ counts_by number (take (suc i) ks)
+    → counts_by number (take i ks) ++ count_event AtRu (number (get_or ks i d)) (get_or ks i d) ≡ counts_by number (take (suc i) ks)
 counts_next number ks i d lt =
     let k = get_or ks i d in
     sym (ap (counts_by number) (take-suc ks i d lt) ∙ counts_by-append number (take i ks) (k ∷ []) ∙ ap (λ (es : List Event). counts_by number (take i ks) ++ es) (counts_by-one number k))
 
 pub counts_about : (number : Counter → ℕ) (ks : List Counter) (i : ℕ) (d : Counter) → i < length ks
-    → counts_by number ks ≡ counts_by number (take i ks) ++ (count_event (number (get_or ks i d)) (get_or ks i d) ++ counts_by number (drop (suc i) ks))
+    → counts_by number ks ≡ counts_by number (take i ks) ++ (count_event AtRu (number (get_or ks i d)) (get_or ks i d) ++ counts_by number (drop (suc i) ks))
 counts_about number ks i d lt =
     ap (counts_by number) (parted ks i d lt)
     ∙ counts_by-append number (take i ks) (get_or ks i d ∷ drop (suc i) ks)
@@ -55,26 +56,26 @@ counts_about number ks i d lt =
 pub stops_among : {A : Type 0} (grew : A → List Event → A → Type 0) (stopped : A → Event → A → Type 0)
     (more : (a b c : A) (first second : List Event) → grew a first b → grew b second c → grew a (first ++ second) c)
     (number : Counter → ℕ) (ks : List Counter) (i : ℕ) (d : Counter) (a b e : A) → i < length ks → grew a (counts_by number (take i ks)) b
-    → StopsIn grew stopped (count_event (number (get_or ks i d)) (get_or ks i d)) b e → StopsIn grew stopped (counts_by number ks) a e
+    → StopsIn grew stopped (count_event AtRu (number (get_or ks i d)) (get_or ks i d)) b e → StopsIn grew stopped (counts_by number ks) a e
 stops_among grew stopped more number ks i d a b e lt first stop =
     let k = get_or ks i d in
     let rest = counts_by number (drop (suc i) ks) in
     subst (λ (es : List Event). StopsIn grew stopped es a e) (sym (counts_about number ks i d lt))
-    (stops_later grew stopped more (counts_by number (take i ks)) (count_event (number k) k ++ rest) a b e first
-    (stops_early grew stopped (count_event (number k) k) rest b e stop))
+    (stops_later grew stopped more (counts_by number (take i ks)) (count_event AtRu (number k) k ++ rest) a b e first
+    (stops_early grew stopped (count_event AtRu (number k) k) rest b e stop))
 
 not_zero : (v : ℕ) → (v ≡ 0 → ⊥) → (v == 0) ≡ false
 not_zero v some = grind (arith, nat_tests)
 
-pub some_event : (n v : ℕ) (k : Counter) → v ≡ n → (v ≡ 0 → ⊥) → count_event n k ≡ Count AtRu k v ∷ []
+pub some_event : (n v : ℕ) (k : Counter) → v ≡ n → (v ≡ 0 → ⊥) → count_event AtRu n k ≡ Count AtRu k v ∷ []
 some_event n v k is some =
-    ap (λ (m : ℕ). count_event m k) (sym is)
+    ap (λ (m : ℕ). count_event AtRu m k) (sym is)
     ∙ ap (λ (b : Bool). let es : List Event = if b then [] else Count AtRu k v ∷ [] in es) (not_zero v some)
 
 -- the same numbers give the same events
 counts_same : (f g : Counter → ℕ) (ks : List Counter) → ((k : Counter) → f k ≡ g k) → counts_by f ks ≡ counts_by g ks
 counts_same f g [] same = refl
-counts_same f g (k ∷ ks) same = ap₂ (λ (n : ℕ) (es : List Event). count_event n k ++ es) (same k) (counts_same f g ks same)
+counts_same f g (k ∷ ks) same = ap₂ (λ (n : ℕ) (es : List Event). count_event AtRu n k ++ es) (same k) (counts_same f g ks same)
 
 -- ---- they are no arrivals and no cells
 
@@ -98,9 +99,9 @@ front_counts (x ∷ xs) ys h = (h.0, front_counts xs ys h.1)
 
 all_counts : (number : Counter → ℕ) (ks : List Counter) → AllByRecursion IsCount (counts_by number ks)
 all_counts number [] = tt
-all_counts number (k ∷ ks) = both_counts (count_event (number k) k) (counts_by number ks) (one_count (number k) k (number k == 0)) (all_counts number ks)
+all_counts number (k ∷ ks) = both_counts (count_event AtRu (number k) k) (counts_by number ks) (one_count (number k) k (number k == 0)) (all_counts number ks)
 
-arrivals-counts : (earlier : List Landing) (es : List Event) → AllByRecursion IsCount es → arrivals_heard earlier es ≡ earlier
+arrivals-counts : (earlier : List Landing) (es : List Event) → AllByRecursion IsCount es → arrivals_heard AtRu earlier es ≡ earlier
 unfolding arrivals_heard
 arrivals-counts earlier [] h = refl
 arrivals-counts earlier (Cell c ∷ es) h = absurd h.0
@@ -108,7 +109,7 @@ arrivals-counts earlier (Delay at side id value ∷ es) h = absurd h.0
 arrivals-counts earlier (Arrival side at frame ∷ es) h = absurd h.0
 arrivals-counts earlier (Count side counter value ∷ es) h = arrivals-counts earlier es h.1
 
-cells-counts : (es : List Event) → AllByRecursion IsCount es → cells_heard es ≡ []
+cells-counts : (es : List Event) → AllByRecursion IsCount es → cells_heard AtRu es ≡ []
 unfolding cells_heard
 cells-counts [] h = refl
 cells-counts (Cell c ∷ es) h = absurd h.0
@@ -128,20 +129,20 @@ over d u a = record {
 }
 
 numbers_are : (d : Document) (u : Ru) (counts : List ℕ) (done : IsDone d u) → StandAt counts (arrivals_counted AtRu d.config done.history.arrivals ++ cells_counted done.history.reported)
-    → (k : Counter) → count_of counts k ≡ number_of d.config (landings_of d) k
+    → (k : Counter) → count_of counts k ≡ number_of AtRu d.config (traffic_of d) k
 unfolding number_of
 numbers_are d u counts done stand k =
     stand k
     ∙ ap₂ (λ (xs : List Landing) (rs : List AirCell). capped (times (arrivals_counted AtRu d.config xs ++ cells_counted rs) k)) done.arrivals done.reported
 
 pub counts_are : (d : Document) (u : Ru) (counts : List ℕ) (done : IsDone d u) → StandAt counts (arrivals_counted AtRu d.config done.history.arrivals ++ cells_counted done.history.reported)
-    → counts_by (count_of counts) all_counters ≡ count_events d.config (landings_of d)
+    → counts_by (count_of counts) all_counters ≡ count_events AtRu d.config (traffic_of d)
 unfolding count_events
-counts_are d u counts done stand = counts_same (count_of counts) (number_of d.config (landings_of d)) all_counters (numbers_are d u counts done stand)
+counts_are d u counts done stand = counts_same (count_of counts) (number_of AtRu d.config (traffic_of d)) all_counters (numbers_are d u counts done stand)
 
 pub heard_all : {A : Type 0} (grew : A → List Event → A → Type 0)
     (more : (a b c : A) (first second : List Event) → grew a first b → grew b second c → grew a (first ++ second) c)
-    (d : Document) (counts : List Event) (a b e : A) → counts ≡ count_events d.config (landings_of d)
+    (d : Document) (counts : List Event) (a b e : A) → counts ≡ count_events AtRu d.config (traffic_of d)
     → grew a (events_before d (end_of_time +ℤ pos 1)) b → grew b counts e → grew a (events_of d) e
 heard_all grew more d counts a b e are first second =
     subst (λ (es : List Event). grew a es e) (ap (λ (es : List Event). events_before d (end_of_time +ℤ pos 1) ++ es) are ∙ sym (all_events d))
@@ -149,7 +150,7 @@ heard_all grew more d counts a b e are first second =
 
 pub stops_count : {A : Type 0} (grew : A → List Event → A → Type 0) (stopped : A → Event → A → Type 0)
     (more : (a b c : A) (first second : List Event) → grew a first b → grew b second c → grew a (first ++ second) c)
-    (d : Document) (u : Ru) (number : Counter → ℕ) (a b e : A) → AtTurn d (end_of_time +ℤ pos 1) u → counts_by number all_counters ≡ count_events d.config (landings_of d)
+    (d : Document) (u : Ru) (number : Counter → ℕ) (a b e : A) → AtTurn d (end_of_time +ℤ pos 1) u → counts_by number all_counters ≡ count_events AtRu d.config (traffic_of d)
     → grew a (events_before d (end_of_time +ℤ pos 1)) b → StopsIn grew stopped (counts_by number all_counters) b e → StopsInStep grew stopped d u a e
 stops_count grew stopped more d u number a b e at are first s =
     let earlier = events_before d (end_of_time +ℤ pos 1) in
@@ -166,7 +167,7 @@ stops_count grew stopped more d u number a b e at are first s =
       step = record {
         history = at.history;
         stands = at.stands;
-        arrivals = at.turn.came ∙ sym (arrivals-append [] earlier s.before ∙ arrivals-counts (arrivals_heard [] earlier) s.before none);
-        reported = at.turn.told ∙ sym (cells-append earlier s.before ∙ ap (λ (cs : List AirCell). cells_heard earlier ++ cs) (cells-counts s.before none) ∙ append-nil (cells_heard earlier));
+        arrivals = at.turn.came ∙ sym (arrivals-append AtRu [] earlier s.before ∙ arrivals-counts (arrivals_heard AtRu [] earlier) s.before none);
+        reported = at.turn.told ∙ sym (cells-append AtRu earlier s.before ∙ ap (λ (cs : List AirCell). cells_heard AtRu earlier ++ cs) (cells-counts s.before none) ∙ append-nil (cells_heard AtRu earlier));
       };
     }

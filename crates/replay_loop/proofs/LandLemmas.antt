@@ -7,6 +7,7 @@ use Rattle.std.proofs.lemmas.Bool.Decides.{Decides-int_eq}
 use Rattle.std.proofs.lemmas.List.{map-append}
 use Rattle.std.proofs.lemmas.List.Elements.{All-nil, All-head, All-push, All-tail}
 use Rattle.air_source.specs.declared.events.Event.{Event}
+use Rattle.air_source.specs.declared.events.Side.TheVariants.{Ru as AtRu}
 use Rattle.fh_time.specs.declared.values.Ticks.{Ticks}
 use Rattle.frame_network.specs.declared.arrivals.Arrival.{Arrival as Flying}
 use Rattle.replay_events.specs.Events.{arrival_event}
@@ -126,7 +127,7 @@ pub record Lands {A : Type 0} (grew : A → List Event → A → Type 0) (tick :
   pub gone : List Flying
   pub parts : old ≡ gone ++ now
   pub at : AreAt tick gone
-  pub heard : grew before (map arrival_event (map landing_from gone)) after
+  pub heard : grew before (map (arrival_event AtRu) (map landing_from gone)) after
   pub stands : (c : Config) (h : History) → StandsFor c u h → StandsFor c v (landed h (map landing_from gone))
 
 pub lands_none : {A : Type 0} (grew : A → List Event → A → Type 0) (tick : ℤ) (u : Ru) (fs : List Flying) (a : A) → grew a [] a → Lands grew tick u u fs fs a a
@@ -149,7 +150,7 @@ pub lands_next : {A : Type 0} (grew : A → List Event → A → Type 0)
     (more : (a b c : A) (first second : List Event) → grew a first b → grew b second c → grew a (first ++ second) c)
     (tick : Ticks) (x : Flying) (u v w : Ru) (old before now : List Flying) (a b e : A)
     → u.clock ≡ tick → before ≡ x ∷ now → x.at.0 ≡ tick.0 → Lands grew tick.0 u v old before a b
-    → grew b (arrival_event (arrival_at tick.0 x.frame) ∷ []) e
+    → grew b (arrival_event AtRu (arrival_at tick.0 x.frame) ∷ []) e
     → ((c : Config) (h : History) → StandsFor c v h → StandsFor c w (arrived h x.frame))
     → Lands grew tick.0 u w old now a e
 lands_next grew more tick x u v w old before now a b e clock is at lands one delivered =
@@ -160,8 +161,8 @@ lands_next grew more tick x u v w old before now a b e clock is at lands one del
       parts = next_parts old lands.gone x before now lands.parts is;
       at = All-push (λ (y : Flying). y.at.0 ≡ tick.0) lands.gone x lands.at at;
       heard = subst (λ (es : List Event). grew a es e)
-          (sym (ap (map arrival_event) next ∙ map-append arrival_event first (arrival_at tick.0 x.frame ∷ [])))
-          (more a b e (map arrival_event first) (arrival_event (arrival_at tick.0 x.frame) ∷ []) lands.heard one);
+          (sym (ap (map (arrival_event AtRu)) next ∙ map-append (arrival_event AtRu) first (arrival_at tick.0 x.frame ∷ [])))
+          (more a b e (map (arrival_event AtRu) first) (arrival_event AtRu (arrival_at tick.0 x.frame) ∷ []) lands.heard one);
       stands = λ c h stands.
           let at_clock : h.clock ≡ tick.0 = sym stands.kept.clock_is ∙ ap (λ (t : Ticks). t.0) clock in
           subst (λ (k : History). StandsFor c w k)
@@ -177,7 +178,7 @@ gone_all grew tick u v old now a b lands from =
 
 pub stops_here : {A : Type 0} (grew : A → List Event → A → Type 0) (stopped : A → Event → A → Type 0) (tick : Ticks) (x : Flying) (u v : Ru)
     (old before now : List Flying) (a b e : A) (c : Config) (h : History)
-    → before ≡ x ∷ now → x.at.0 ≡ tick.0 → Lands grew tick.0 u v old before a b → stopped b (arrival_event (arrival_at tick.0 x.frame)) e
+    → before ≡ x ∷ now → x.at.0 ≡ tick.0 → Lands grew tick.0 u v old before a b → stopped b (arrival_event AtRu (arrival_at tick.0 x.frame)) e
     → StandsFor c u h → StopsLanding grew stopped c h (flying_at tick.0 old) v a e
 stops_here grew stopped tick x u v old before now a b e c h is at lands stop stands = record {
   told = map landing_from lands.gone;

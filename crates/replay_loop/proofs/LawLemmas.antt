@@ -1,23 +1,46 @@
 -- The laws of a replay's events hold of every document that was read.
+use Rattle.std.proofs.Common.{◌≡◌, ℕ, ◌<◌, List, [], refl, arith}
+use Rattle.std.specs.Prelude.{Option, Some}
+use Rattle.std.proofs.lemmas.List.Elements.{All-nil}
+use Rattle.air_source.specs.declared.events.Side.{Side}
+use Rattle.air_source.specs.declared.events.Side.TheVariants.{Ru, Du}
 use Rattle.fh_document.specs.Proper.{IsDocument}
 use Rattle.fh_document.specs.declared.document.Document.{Document}
-use Rattle.replay_events.specs.Moments.{all_arrivals}
+use Rattle.unit_model.specs.Claims.{claim_at}
+use Rattle.unit_model.specs.Meetings.{Arrival}
+use Rattle.unit_model.specs.Proper.{IsTime}
+use Rattle.unit_model.specs.Radiated.{first_clock}
+use Rattle.unit_model.specs.declared.cells.Cell.{Cell}
+use Rattle.replay_events.specs.Moments.{all_arrivals, end_of_time}
+use Rattle.replay_events.specs.Passing.{AreLandings}
+use Rattle.replay_events.specs.Traffic.{landings_at}
+use Rattle.replay_laws.specs.Landed.{AllArrive}
+use Rattle.replay_laws.specs.Shown.{HaveOneId}
 use Rattle.replay_laws.proofs.LandedLemmas.{each_arrives}
 use Rattle.replay_laws.proofs.OnceLemmas.{at_most_once}
 use Rattle.replay_laws.proofs.RefusedLemmas.{each_refused_changes_nothing}
 use Rattle.replay_laws.proofs.ShownLemmas.{shown_only_in_time}
 use Rattle.replay_laws.proofs.SumLemmas.{sums_add_up}
 use Rattle.replay_loop.specs.Laws.{IsSound}
-use Rattle.replay_loop.specs.Replaying.{landings_of}
+use Rattle.replay_loop.specs.Replaying.{traffic_of}
 use Rattle.replay_loop.proofs.DocumentLemmas.{are_landings}
 
+none_land : AreLandings []
+none_land = record { times = All-nil _; begun = All-nil _; ended = All-nil _ }
+
+nothing_planned : (cell : Cell) → HaveOneId [] cell
+unfolding claim_at
+nothing_planned cell re other k l small few there also = absurd cc
+
+all_arrive : (d : Document) → IsDocument d → (side : Side) → AllArrive (landings_at side (traffic_of d))
+all_arrive d doc Ru = each_arrives (landings_at Ru (traffic_of d)) (are_landings d doc)
+all_arrive d doc Du = each_arrives [] none_land
+
 pub is_sound : (d : Document) → IsDocument d → IsSound d
-is_sound d doc =
-    let landed = are_landings d doc in
-    record {
-      once = at_most_once d.config (landings_of d) doc.config;
-      in_time = shown_only_in_time d.config (landings_of d) landed;
-      sums = sums_add_up d.config (landings_of d);
-      arrive = each_arrives (landings_of d) landed;
-      refused = each_refused_changes_nothing d.config (all_arrivals (landings_of d));
-    }
+is_sound d doc = record {
+  once = at_most_once d.config (traffic_of d) doc.config;
+  in_time = shown_only_in_time d.config (traffic_of d) (are_landings d doc) none_land nothing_planned;
+  sums = sums_add_up d.config (traffic_of d);
+  arrive = all_arrive d doc;
+  refused = λ side. each_refused_changes_nothing side d.config (all_arrivals (landings_at side (traffic_of d)));
+}

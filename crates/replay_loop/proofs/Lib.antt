@@ -1,4 +1,3 @@
-pub mod HeardLemmas
 pub mod DocumentLemmas
 pub mod TurnLemmas
 pub mod StopLemmas

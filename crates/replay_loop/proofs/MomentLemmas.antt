@@ -5,6 +5,7 @@ use Rattle.std.proofs.lemmas.Int.{ints}
 use Rattle.std.proofs.lemmas.List.Elements.{All-tail}
 use Rattle.air_source.specs.declared.events.AirCell.{AirCell}
 use Rattle.air_source.specs.declared.events.Event.TheVariants.{Cell}
+use Rattle.air_source.specs.declared.events.Side.TheVariants.{Ru as AtRu}
 use Rattle.fh_document.specs.Proper.{IsDocument}
 use Rattle.fh_document.specs.declared.document.Document.{Document}
 use Rattle.frame_network.specs.declared.arrivals.Arrival.{Arrival as Flying}
@@ -23,10 +24,11 @@ use Rattle.unit_model.specs.Standing.{History, at_clock, heard}
 use Rattle.replay_loop.specs.declared.coming.Coming.{Coming}
 use Rattle.replay_loop.specs.Coming.{Flies, IsSent, IsSentOrAt, IsToRu, Waits, flying_at, left_at}
 use Rattle.replay_loop.specs.Delivering.{HaveLanded, IsDrained, giving, landed}
-use Rattle.replay_loop.specs.Replaying.{landings_of}
+use Rattle.replay_loop.specs.Replaying.{landings_of, traffic_of}
 use Rattle.replay_loop.specs.Turns.{AtTurn}
 use Rattle.replay_loop.proofs.LandLemmas.{fly_on}
-use Rattle.replay_loop.proofs.TurnLemmas.{after, due_here, events_are, left_less}
+use Rattle.replay_loop.proofs.TurnLemmas.{after, due_here, events_are}
+use Rattle.ru_buffers.proofs.QuietLemmas.{left_less}
 
 pub some_history : (d : Document) (tick : ℤ) (u : Ru) → AtTurn d tick u → StandsForSome u
 some_history d tick u a = record { config = d.config; history = a.history; stands = a.stands }
@@ -47,10 +49,10 @@ abbrev pub reported_then : Document → ℤ → History → History
 reported_then d tick h = at_clock (heard h (due_of d.config h tick)) tick
 
 pub heard_then : (d : Document) (tick : ℤ) (u : Ru) (xs : List Arrival) → IsDocument d → (a : AtTurn d tick u) → tick ≤ℤ end_of_time → xs ≡ landing_at (landings_of d) tick
-    → map Cell (due_of d.config a.history tick) ++ map arrival_event xs ≡ events_at d.config (landings_of d) tick
+    → map Cell (due_of d.config a.history tick) ++ map (arrival_event AtRu) xs ≡ events_at d.config (traffic_of d) tick
 heard_then d tick u xs doc a ended lands =
-    ap₂ (λ (cs : List AirCell) (xs : List Arrival). map Cell cs ++ map arrival_event xs) (due_here d tick a.history doc a.turn ended) lands
-    ∙ sym (events_are d.config (landings_of d) tick)
+    ap₂ (λ (cs : List AirCell) (xs : List Arrival). map Cell cs ++ map (arrival_event AtRu) xs) (due_here d tick a.history doc a.turn ended) lands
+    ∙ sym (events_are d tick)
 
 pub turn_then : (d : Document) (tick : ℤ) (u v : Ru) (xs : List Arrival) → IsDocument d → (a : AtTurn d tick u) → tick ≤ℤ end_of_time → xs ≡ landing_at (landings_of d) tick
     → IsDrained d.config (landed (reported_then d tick a.history) xs) v → v.clock.0 ≤ℤ tick → AtTurn d (tick +ℤ pos 1) v

@@ -26,7 +26,7 @@ use Rattle.unit_model.specs.Standing.{History}
 use Rattle.window_config.specs.declared.config.Config.{Config}
 use Rattle.replay_loop.specs.declared.coming.Coming.{Coming}
 use Rattle.replay_loop.specs.Coming.{AreFlyingFrom, AreFrom, IsCalmTo, Waits}
-use Rattle.replay_loop.specs.Replaying.{landings_of}
+use Rattle.replay_loop.specs.Replaying.{landings_of, traffic_of}
 use Rattle.replay_loop.specs.Turns.{AtTurn, IsMoment, IsNext, IsStill, events_before, within_end}
 use Rattle.replay_loop.proofs.ComingLemmas.{from_less, left_none}
 use Rattle.replay_loop.proofs.LandLemmas.{flying_none}
@@ -169,16 +169,16 @@ waits_idle d now tick h w waits order idle =
 pub events_idle : (d : Document) (now tick : ℤ) (u : Ru) (w : Coming) → IsDocument d → (a : AtTurn d now u) → Waits d now w → IsIdle d.config a.history w tick
     → now ≤ℤ tick → tick ≤ℤ (end_of_time +ℤ pos 1) → events_before d tick ≡ events_before d now
 events_idle d now tick u w doc a waits idle order ended =
-    events_wait d.config (landings_of d) now tick
+    events_wait d.config (traffic_of d) now tick
     (next d now tick a.history doc a.turn order ended (calm_until d now tick a.history w waits idle) (idle (tick -ℤ pos 1) (before_here tick)).quiet.cells)
 
 pub heard_next : {A : Type 0} (grew : A → List Event → A → Type 0)
     (more : (a b c : A) (first second : List Event) → grew a first b → grew b second c → grew a (first ++ second) c)
     (d : Document) (now tick : ℤ) (a b e : A) → first_clock ≤ℤ tick → events_before d tick ≡ events_before d now → grew a (events_before d now) b
-    → grew b (events_at d.config (landings_of d) tick) e → grew a (events_before d (tick +ℤ pos 1)) e
+    → grew b (events_at d.config (traffic_of d) tick) e → grew a (events_before d (tick +ℤ pos 1)) e
 heard_next grew more d now tick a b e begun same first second =
-    subst (λ (es : List Event). grew a es e) (sym (events_go_on d.config (landings_of d) tick begun))
-    (more a b e (events_before d tick) (events_at d.config (landings_of d) tick) (subst (λ (es : List Event). grew a es b) (sym same) first) second)
+    subst (λ (es : List Event). grew a es e) (sym (events_go_on d.config (traffic_of d) tick begun))
+    (more a b e (events_before d tick) (events_at d.config (traffic_of d) tick) (subst (λ (es : List Event). grew a es b) (sym same) first) second)
 
 pub gap_less : (now tick after : ℤ) → now ≤ℤ tick → tick ≤ℤ end_of_time → after ≡ tick +ℤ pos 1 → int_gap after (end_of_time +ℤ pos 1) < int_gap now (end_of_time +ℤ pos 1)
 gap_less now tick after order ended is =

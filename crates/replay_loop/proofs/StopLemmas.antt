@@ -1,11 +1,13 @@
 -- Where an air stopped, and what the unit stands for then.
-use Rattle.std.proofs.Common.{◌≡◌, ℤ, pos, ◌+ℤ◌, ◌≤ℤ◌, List, [], ◌∷◌, ◌++◌, inl, inr, refl, sym, ap, ap₂, ◌∙◌, append_assoc, arith}
+use Rattle.std.proofs.Common.{◌≡◌, ℤ, pos, ◌+ℤ◌, ◌≤ℤ◌, List, [], ◌∷◌, ◌++◌, inl, inr, refl, sym, ap, ap₂, ◌∙◌, append_assoc, append-nil, subst, arith}
 use Rattle.std.specs.Prelude.{map}
 use Rattle.std.proofs.lemmas.Int.{ints}
 use Rattle.std.proofs.lemmas.List.{map-append}
+use Rattle.std.proofs.lemmas.List.Elements.{All-nil, All-cons, All-head, All-tail}
 use Rattle.air_source.specs.declared.events.AirCell.{AirCell}
 use Rattle.air_source.specs.declared.events.Event.{Event}
 use Rattle.air_source.specs.declared.events.Event.TheVariants.{Cell}
+use Rattle.air_source.specs.declared.events.Side.TheVariants.{Ru as AtRu}
 use Rattle.fh_document.specs.Proper.{IsDocument}
 use Rattle.fh_document.specs.declared.document.Document.{Document}
 use Rattle.replay_events.specs.Events.{arrival_event, cells_at, events, events_at, events_between, count_events}
@@ -17,12 +19,14 @@ use Rattle.ru_buffers.specs.Reporting.{due_of}
 use Rattle.ru_buffers.specs.declared.unit.Ru.{Ru}
 use Rattle.unit_model.specs.Meetings.{Arrival}
 use Rattle.unit_model.specs.Radiated.{first_clock}
+use Rattle.unit_model.specs.Reports.{ru_known}
 use Rattle.unit_model.specs.Standing.{History, at_clock, heard, nothing_yet}
 use Rattle.replay_loop.specs.Delivering.{StopsLanding}
-use Rattle.replay_loop.specs.Replaying.{HaltsInStep, RestsInStep, StopsInStep, arrivals_heard, events_of, landings_of}
+use Rattle.replay_loop.specs.Replaying.{HaltsInStep, RestsInStep, StopsInStep, events_of, landings_of, traffic_of}
 use Rattle.replay_loop.specs.Turns.{HaltsBehind, IsTurn, RestsBehind, StopsBehind, events_before}
-use Rattle.replay_loop.proofs.HeardLemmas.{arrivals-append, arrivals-cells, arrivals-none, cells-append, cells-cells, cells-none}
-use Rattle.replay_loop.proofs.TurnLemmas.{arrivals_then, cells_then, due_here, events_are}
+use Rattle.replay_events.specs.Heard.{arrivals_heard}
+use Rattle.replay_events.proofs.HeardLemmas.{AreOf, arrivals-append, arrivals-cells, arrivals-none, cells-append, cells-none, cells-own, due_of_side}
+use Rattle.replay_loop.proofs.TurnLemmas.{arrivals_then, cells_then, due_here, events_are, idle_at_du}
 
 -- in the cells of a tick
 cells_about : (before now : List AirCell) (c : AirCell) (rest : List AirCell) (more : List Event) → before ≡ now ++ c ∷ rest
@@ -31,36 +35,46 @@ cells_about before now c rest more is =
     ap (λ (cs : List AirCell). map Cell cs ++ more) is ∙ ap (λ (es : List Event). es ++ more) (map-append Cell now (c ∷ rest))
     ∙ append_assoc (map Cell now) (Cell c ∷ map Cell rest) more
 
+-- the cells that are due are the radio unit's
+due_own : (d : Document) (tick : ℤ) (h : History) → AreOf AtRu (due_of d.config h tick)
+due_own d tick h = due_of_side AtRu d.config.delays d.config.endpoints (ru_known d.config h.arrivals) h.reported tick
+
+front_own : (xs ys : List AirCell) → AreOf AtRu (xs ++ ys) → AreOf AtRu xs
+front_own [] ys h = All-nil (λ (a : AirCell). a.side ≡ AtRu)
+front_own (x ∷ xs) ys h =
+    let P = λ (a : AirCell). a.side ≡ AtRu in All-cons P x xs (All-head P x (xs ++ ys) h) (front_own xs ys (All-tail P x (xs ++ ys) h))
+
 pub stops_due : {A : Type 0} (grew : A → List Event → A → Type 0) (stopped : A → Event → A → Type 0) (d : Document) (tick : ℤ) (h : History) (u : Ru) (a b : A)
     → IsDocument d → IsTurn d tick h → tick ≤ℤ end_of_time → StopsAtDue grew stopped d.config h tick u a b
-    → StopsBehind grew stopped d (events_before d tick) (events_at d.config (landings_of d) tick) u a b
+    → StopsBehind grew stopped d (events_before d tick) (events_at d.config (traffic_of d) tick) u a b
 stops_due grew stopped d tick h u a b doc turn ended s =
     let c = d.config in
     let ls = landings_of d in
     let earlier = events_before d tick in
+    let own = front_own s.told (s.cell ∷ s.rest) (subst (AreOf AtRu) s.is (due_own d tick h)) in
     record {
       told = map Cell s.told;
       event = Cell s.cell;
-      rest = map Cell s.rest ++ map arrival_event (landing_at ls tick);
-      is = events_are c ls tick
-          ∙ cells_about (cells_at c ls tick) s.told s.cell s.rest (map arrival_event (landing_at ls tick)) (sym (due_here d tick h doc turn ended) ∙ s.is);
+      rest = map Cell s.rest ++ map (arrival_event AtRu) (landing_at ls tick);
+      is = events_are d tick
+          ∙ cells_about (cells_at AtRu c (traffic_of d) tick) s.told s.cell s.rest (map (arrival_event AtRu) (landing_at ls tick)) (sym (due_here d tick h doc turn ended) ∙ s.is);
       middle = s.middle;
       heard = s.heard_is;
       stop = s.stop;
       step = record {
         history = heard h s.told;
         stands = s.stands;
-        arrivals = turn.came ∙ sym (arrivals-append [] earlier (map Cell s.told) ∙ arrivals-cells (arrivals_heard [] earlier) s.told);
-        reported = ap₂ (λ (rs ts : List AirCell). rs ++ ts) turn.told (sym (cells-cells s.told)) ∙ sym (cells-append earlier (map Cell s.told));
+        arrivals = turn.came ∙ sym (arrivals-append AtRu [] earlier (map Cell s.told) ∙ arrivals-cells AtRu (arrivals_heard AtRu [] earlier) s.told);
+        reported = ap₂ (λ (rs ts : List AirCell). rs ++ ts) turn.told (sym (cells-own AtRu s.told own)) ∙ sym (cells-append AtRu earlier (map Cell s.told));
       };
     }
 
 -- in an arrival
 arrivals_about : (front : List Event) (before now : List Arrival) (x : Arrival) (rest : List Arrival) → before ≡ now ++ x ∷ rest
-    → front ++ map arrival_event before ≡ (front ++ map arrival_event now) ++ arrival_event x ∷ map arrival_event rest
+    → front ++ map (arrival_event AtRu) before ≡ (front ++ map (arrival_event AtRu) now) ++ arrival_event AtRu x ∷ map (arrival_event AtRu) rest
 arrivals_about front before now x rest is =
-    ap (λ (xs : List Arrival). front ++ map arrival_event xs) is ∙ ap (λ (es : List Event). front ++ es) (map-append arrival_event now (x ∷ rest))
-    ∙ sym (append_assoc front (map arrival_event now) (arrival_event x ∷ map arrival_event rest))
+    ap (λ (xs : List Arrival). front ++ map (arrival_event AtRu) xs) is ∙ ap (λ (es : List Event). front ++ es) (map-append (arrival_event AtRu) now (x ∷ rest))
+    ∙ sym (append_assoc front (map (arrival_event AtRu) now) (arrival_event AtRu x ∷ map (arrival_event AtRu) rest))
 
 pub stops_landing : {A : Type 0} (grew : A → List Event → A → Type 0) (stopped : A → Event → A → Type 0)
     (more : (a b c : A) (first second : List Event) → grew a first b → grew b second c → grew a (first ++ second) c)
@@ -68,59 +82,59 @@ pub stops_landing : {A : Type 0} (grew : A → List Event → A → Type 0) (sto
     → IsDocument d → IsTurn d tick h → tick ≤ℤ end_of_time → xs ≡ landing_at (landings_of d) tick
     → grew a (map Cell (due_of d.config h tick)) b
     → StopsLanding grew stopped d.config (at_clock (heard h (due_of d.config h tick)) tick) xs u b e
-    → StopsBehind grew stopped d (events_before d tick) (events_at d.config (landings_of d) tick) u a e
+    → StopsBehind grew stopped d (events_before d tick) (events_at d.config (traffic_of d) tick) u a e
 stops_landing grew stopped more d tick h xs u a b e doc turn ended lands first s =
     let c = d.config in
     let ls = landings_of d in
     let cells = due_of c h tick in
     let front = map Cell cells in
     record {
-      told = front ++ map arrival_event s.told;
-      event = arrival_event s.one;
-      rest = map arrival_event s.rest;
-      is = events_are c ls tick
-          ∙ ap (λ (cs : List AirCell). map Cell cs ++ map arrival_event (landing_at ls tick)) (sym (due_here d tick h doc turn ended))
+      told = front ++ map (arrival_event AtRu) s.told;
+      event = arrival_event AtRu s.one;
+      rest = map (arrival_event AtRu) s.rest;
+      is = events_are d tick
+          ∙ ap (λ (cs : List AirCell). map Cell cs ++ map (arrival_event AtRu) (landing_at ls tick)) (sym (due_here d tick h doc turn ended))
           ∙ arrivals_about front (landing_at ls tick) s.told s.one s.rest (sym lands ∙ s.is);
       middle = s.middle;
-      heard = more a b s.middle front (map arrival_event s.told) first s.heard;
+      heard = more a b s.middle front (map (arrival_event AtRu) s.told) first s.heard;
       stop = s.stop;
       step = record {
         history = _;
         stands = s.stands;
         arrivals = arrivals_then d tick h cells s.told turn;
-        reported = cells_then d tick h cells s.told turn;
+        reported = cells_then d tick h cells s.told (due_own d tick h) turn;
       };
     }
 
 -- memory ran out before the arrivals
 pub rests_due : {A : Type 0} (grew : A → List Event → A → Type 0) (d : Document) (tick : ℤ) (h : History) (u : Ru) (a b : A)
     → IsDocument d → IsTurn d tick h → tick ≤ℤ end_of_time → grew a (map Cell (due_of d.config h tick)) b → StandsFor d.config u (at_clock (heard h (due_of d.config h tick)) tick)
-    → RestsBehind grew d (events_before d tick) (events_at d.config (landings_of d) tick) u a b
+    → RestsBehind grew d (events_before d tick) (events_at d.config (traffic_of d) tick) u a b
 rests_due grew d tick h u a b doc turn ended first stands =
     let cells = due_of d.config h tick in
     let earlier = events_before d tick in
     record {
       told = map Cell cells;
-      rest = map arrival_event (landing_at (landings_of d) tick);
-      is = events_are d.config (landings_of d) tick
-          ∙ ap (λ (cs : List AirCell). map Cell cs ++ map arrival_event (landing_at (landings_of d) tick)) (sym (due_here d tick h doc turn ended));
+      rest = map (arrival_event AtRu) (landing_at (landings_of d) tick);
+      is = events_are d tick
+          ∙ ap (λ (cs : List AirCell). map Cell cs ++ map (arrival_event AtRu) (landing_at (landings_of d) tick)) (sym (due_here d tick h doc turn ended));
       heard = first;
       step = record {
         history = _;
         stands = stands;
-        arrivals = turn.came ∙ sym (arrivals-append [] earlier (map Cell cells) ∙ arrivals-cells (arrivals_heard [] earlier) cells);
-        reported = ap₂ (λ (rs ts : List AirCell). rs ++ ts) turn.told (sym (cells-cells cells)) ∙ sym (cells-append earlier (map Cell cells));
+        arrivals = turn.came ∙ sym (arrivals-append AtRu [] earlier (map Cell cells) ∙ arrivals-cells AtRu (arrivals_heard AtRu [] earlier) cells);
+        reported = ap₂ (λ (rs ts : List AirCell). rs ++ ts) turn.told (sym (cells-own AtRu cells (due_own d tick h))) ∙ sym (cells-append AtRu earlier (map Cell cells));
       };
     }
 
 -- ---- from a moment to the whole
 
 ticks_after : (d : Document) (tick : ℤ) → first_clock ≤ℤ tick → tick ≤ℤ end_of_time
-    → events_before d (end_of_time +ℤ pos 1) ≡ (events_before d tick ++ events_at d.config (landings_of d) tick)
-    ++ events_between d.config (landings_of d) (tick +ℤ pos 1) (end_of_time +ℤ pos 1)
+    → events_before d (end_of_time +ℤ pos 1) ≡ (events_before d tick ++ events_at d.config (traffic_of d) tick)
+    ++ events_between d.config (traffic_of d) (tick +ℤ pos 1) (end_of_time +ℤ pos 1)
 ticks_after d tick begun ended =
     let c = d.config in
-    let ls = landings_of d in
+    let ls = traffic_of d in
     ticks_append (events_at c ls) first_clock (tick +ℤ pos 1) (end_of_time +ℤ pos 1) (next_most first_clock tick begun) (next_less tick end_of_time ended)
     ∙ ap (λ (es : List Event). es ++ events_between c ls (tick +ℤ pos 1) (end_of_time +ℤ pos 1)) (events_go_on c ls tick begun)
   where
@@ -137,12 +151,12 @@ events_about whole front these told e rest more is parts =
 pub stops_whole : {A : Type 0} (grew : A → List Event → A → Type 0) (stopped : A → Event → A → Type 0)
     (more : (a b c : A) (first second : List Event) → grew a first b → grew b second c → grew a (first ++ second) c)
     (d : Document) (tick : ℤ) (u : Ru) (a b e : A) → first_clock ≤ℤ tick → tick ≤ℤ end_of_time → grew a (events_before d tick) b
-    → StopsBehind grew stopped d (events_before d tick) (events_at d.config (landings_of d) tick) u b e
+    → StopsBehind grew stopped d (events_before d tick) (events_at d.config (traffic_of d) tick) u b e
     → StopsBehind grew stopped d [] (events_before d (end_of_time +ℤ pos 1)) u a e
 stops_whole grew stopped more d tick u a b e begun ended first s =
     let earlier = events_before d tick in
-    let these = events_at d.config (landings_of d) tick in
-    let later = events_between d.config (landings_of d) (tick +ℤ pos 1) (end_of_time +ℤ pos 1) in
+    let these = events_at d.config (traffic_of d) tick in
+    let later = events_between d.config (traffic_of d) (tick +ℤ pos 1) (end_of_time +ℤ pos 1) in
     record {
       told = earlier ++ s.told;
       event = s.event;
@@ -157,12 +171,12 @@ stops_whole grew stopped more d tick u a b e begun ended first s =
 rests_whole : {A : Type 0} (grew : A → List Event → A → Type 0)
     (more : (a b c : A) (first second : List Event) → grew a first b → grew b second c → grew a (first ++ second) c)
     (d : Document) (tick : ℤ) (u : Ru) (a b e : A) → first_clock ≤ℤ tick → tick ≤ℤ end_of_time → grew a (events_before d tick) b
-    → RestsBehind grew d (events_before d tick) (events_at d.config (landings_of d) tick) u b e
+    → RestsBehind grew d (events_before d tick) (events_at d.config (traffic_of d) tick) u b e
     → RestsBehind grew d [] (events_before d (end_of_time +ℤ pos 1)) u a e
 rests_whole grew more d tick u a b e begun ended first s =
     let earlier = events_before d tick in
-    let these = events_at d.config (landings_of d) tick in
-    let later = events_between d.config (landings_of d) (tick +ℤ pos 1) (end_of_time +ℤ pos 1) in
+    let these = events_at d.config (traffic_of d) tick in
+    let later = events_between d.config (traffic_of d) (tick +ℤ pos 1) (end_of_time +ℤ pos 1) in
     record {
       told = earlier ++ s.told;
       rest = s.rest ++ later;
@@ -175,19 +189,22 @@ rests_whole grew more d tick u a b e begun ended first s =
 pub halts_whole : {A : Type 0} (grew : A → List Event → A → Type 0) (stopped : A → Event → A → Type 0)
     (more : (a b c : A) (first second : List Event) → grew a first b → grew b second c → grew a (first ++ second) c)
     (d : Document) (tick : ℤ) (u : Ru) (a b e : A) → first_clock ≤ℤ tick → tick ≤ℤ end_of_time → grew a (events_before d tick) b
-    → HaltsBehind grew stopped d (events_before d tick) (events_at d.config (landings_of d) tick) u b e
+    → HaltsBehind grew stopped d (events_before d tick) (events_at d.config (traffic_of d) tick) u b e
     → HaltsBehind grew stopped d [] (events_before d (end_of_time +ℤ pos 1)) u a e
 halts_whole grew stopped more d tick u a b e begun ended first (inl s) = inl (stops_whole grew stopped more d tick u a b e begun ended first s)
 halts_whole grew stopped more d tick u a b e begun ended first (inr s) = inr (rests_whole grew more d tick u a b e begun ended first s)
 
-pub all_events : (d : Document) → events_of d ≡ events_before d (end_of_time +ℤ pos 1) ++ count_events d.config (landings_of d)
+pub all_events : (d : Document) → events_of d ≡ events_before d (end_of_time +ℤ pos 1) ++ count_events AtRu d.config (traffic_of d)
 unfolding events
-all_events d = refl
+all_events d =
+    let counts = count_events AtRu d.config (traffic_of d) in
+    ap (λ (es : List Event). events_before d (end_of_time +ℤ pos 1) ++ (counts ++ es)) (idle_at_du d).counts
+    ∙ ap (λ (es : List Event). events_before d (end_of_time +ℤ pos 1) ++ es) (append-nil counts)
 
 pub stops_in_step : {A : Type 0} (grew : A → List Event → A → Type 0) (stopped : A → Event → A → Type 0) (d : Document) (u : Ru) (a e : A)
     → StopsBehind grew stopped d [] (events_before d (end_of_time +ℤ pos 1)) u a e → StopsInStep grew stopped d u a e
 stops_in_step grew stopped d u a e s =
-    let counts = count_events d.config (landings_of d) in
+    let counts = count_events AtRu d.config (traffic_of d) in
     record {
       told = s.told;
       event = s.event;
@@ -202,7 +219,7 @@ stops_in_step grew stopped d u a e s =
 rests_in_step : {A : Type 0} (grew : A → List Event → A → Type 0) (d : Document) (u : Ru) (a e : A)
     → RestsBehind grew d [] (events_before d (end_of_time +ℤ pos 1)) u a e → RestsInStep grew d u a e
 rests_in_step grew d u a e s =
-    let counts = count_events d.config (landings_of d) in
+    let counts = count_events AtRu d.config (traffic_of d) in
     record {
       told = s.told;
       rest = s.rest ++ counts;
@@ -223,5 +240,5 @@ none_heard grew d u a none stands = record {
   rest = events_of d;
   is = refl;
   heard = none;
-  step = record { history = nothing_yet; stands = stands; arrivals = sym (arrivals-none []); reported = sym cells-none };
+  step = record { history = nothing_yet; stands = stands; arrivals = sym (arrivals-none AtRu []); reported = sym (cells-none AtRu) };
 }

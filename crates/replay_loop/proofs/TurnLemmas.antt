@@ -9,12 +9,13 @@ use Rattle.air_source.specs.declared.events.Side.TheVariants.{Ru as AtRu}
 use Rattle.fh_document.specs.Proper.{IsDocument}
 use Rattle.fh_document.specs.declared.document.Document.{Document}
 use Rattle.replay_events.specs.Events.{arrival_event, cells_at, events_at}
-use Rattle.replay_events.specs.Moments.{arrivals_before, end_of_time, landing_at}
+use Rattle.replay_events.specs.Moments.{all_arrivals, arrivals_before, end_of_time, landing_at}
 use Rattle.replay_events.specs.Passing.{IsCalm, IsNextMoment, due_from}
 use Rattle.replay_events.proofs.CameLemmas.{arrivals_go_on, calm_adds_nothing, none_yet}
 use Rattle.replay_events.proofs.EventLemmas.{events_go_on, events_wait}
 use Rattle.replay_events.proofs.MomentLemmas.{due_at_moment, reported_at_moment, reported_before_moment}
 use Rattle.replay_events.proofs.TickLemmas.{at_most, front_empty, last_is_earlier, last_of_next, next_most, no_ticks, same_most}
+use Rattle.ru_buffers.proofs.QuietLemmas.{left_less, sweep_less}
 use Rattle.ru_buffers.specs.Calls.{IsQuietTo, StandsFor}
 use Rattle.ru_buffers.specs.Reporting.{due_of}
 use Rattle.ru_buffers.specs.Units.{left_up_to}
@@ -32,20 +33,15 @@ use Rattle.unit_model.specs.Sweeps.{OfSymbol, sweep}
 use Rattle.window_config.specs.declared.config.Config.{Config}
 use Rattle.window_config.specs.declared.delays.Delays.{Delays}
 use Rattle.window_config.specs.declared.endpoints.EndpointConfig.{EndpointConfig}
-use Rattle.replay_loop.specs.Replaying.{arrivals_heard, cells_heard, landings_of}
+use Rattle.replay_events.specs.Alone.{IsDuIdle}
+use Rattle.replay_events.specs.Heard.{arrivals_heard, cells_heard}
+use Rattle.replay_events.proofs.AloneLemmas.{events_alone, idle_without_plan, told_each}
+use Rattle.replay_loop.specs.Replaying.{landings_of, traffic_of}
 use Rattle.replay_loop.specs.Turns.{IsTurn, events_before}
 use Rattle.replay_loop.proofs.DocumentLemmas.{are_landings}
-use Rattle.replay_loop.proofs.HeardLemmas.{arrivals-append, arrivals-arrivals, arrivals-cells, arrivals-none, cells-append, cells-arrivals, cells-cells, cells-none}
+use Rattle.replay_events.proofs.HeardLemmas.{AreOf, arrivals-append, arrivals-cells, arrivals-none, arrivals-own, cells-append, cells-arrivals, cells-none, cells-own, tick_of_side}
 
 -- ---- what is quiet up to a time is quiet up to each earlier one
-
-sweep_less : {A : Type 0} (g : OfSymbol A) (es : List EndpointConfig) (from a b : ℤ) → a ≤ℤ b → sweep g es from b ≡ [] → sweep g es from a ≡ []
-sweep_less g es from a b order none =
-    by_lt_z a from (λ early. sweep_quiet g es from a (λ t low high. absurd (omega (arith, ints))))
-    (λ begun. front_empty (sweep g es from a) (sweep g es a b) (sym (sweep-append g es from a b begun order) ∙ none))
-
-next_less : (a b : ℤ) → a ≤ℤ b → (a +ℤ pos 1) ≤ℤ (b +ℤ pos 1)
-next_less a b h = omega (arith, ints)
 
 waited_less : (a b w : ℤ) → a ≤ℤ b → ((a -ℤ w) +ℤ pos 1) ≤ℤ ((b -ℤ w) +ℤ pos 1)
 waited_less a b w h = omega (arith, ints)
@@ -54,10 +50,6 @@ due_less : (d : Delays) (es : List EndpointConfig) (k : Known) (heard : List Air
 unfolding due
 due_less d es k heard a b order none =
     sweep_less _ es (first_clock -ℤ wait_of AtRu d) ((a -ℤ wait_of AtRu d) +ℤ pos 1) ((b -ℤ wait_of AtRu d) +ℤ pos 1) (waited_less a b (wait_of AtRu d) order) none
-
-pub left_less : (v : CellsValue) (cursor : JobCursor) (a b : ℤ) → a ≤ℤ b → left_up_to v cursor b ≡ [] → left_up_to v cursor a ≡ []
-unfolding left_up_to
-left_less v cursor a b order none = sweep_less _ _ first_clock (a +ℤ pos 1) (b +ℤ pos 1) (next_less a b order) none
 
 -- before the first tick no message is left
 pub none_left : (v : CellsValue) (cursor : JobCursor) → left_up_to v cursor (first_clock -ℤ pos 1) ≡ []
@@ -77,8 +69,12 @@ due_same d now h turn to =
     let c = d.config in
     sym (ap₂ (λ (xs : List Arrival) (rs : List AirCell). due AtRu c.delays c.endpoints (ru_known c xs) rs to) turn.arrivals turn.reported)
 
+-- nothing is planned, and nothing lands at the distributed unit
+pub idle_at_du : (d : Document) → IsDuIdle d.config (traffic_of d)
+idle_at_du d = idle_without_plan d.config (traffic_of d) refl refl
+
 pub next : (d : Document) (now tick : ℤ) (h : History) → IsDocument d → IsTurn d now h → now ≤ℤ tick → tick ≤ℤ (end_of_time +ℤ pos 1)
-    → IsCalm (landings_of d) now tick → due_of d.config h (tick -ℤ pos 1) ≡ [] → IsNextMoment d.config (landings_of d) now tick
+    → IsCalm (landings_of d) now tick → due_of d.config h (tick -ℤ pos 1) ≡ [] → IsNextMoment d.config (traffic_of d) now tick
 next d now tick h doc turn order ended calm quiet = record {
   config = doc.config;
   landings_are = are_landings d doc;
@@ -87,6 +83,7 @@ next d now tick h doc turn order ended calm quiet = record {
   ended = ended;
   calm = calm;
   quiet = due_same d now h turn (tick -ℤ pos 1) ∙ quiet;
+  idle = idle_at_du d;
 }
 
 -- what stands at the start of a tick stands at the start of the next moment
@@ -100,69 +97,80 @@ skip d now tick h doc turn order ended calm quiet =
       begun = at_most first_clock now tick turn.begun order;
       ended = ended;
       arrivals = turn.arrivals ∙ sym (calm_adds_nothing ls now tick turn.begun order calm);
-      reported = turn.reported ∙ reported_before_moment c ls now tick n;
+      reported = turn.reported ∙ reported_before_moment c (traffic_of d) now tick n;
       quiet = quiet;
-      came = turn.came ∙ ap (arrivals_heard []) (sym (events_wait c ls now tick n));
-      told = turn.told ∙ ap cells_heard (sym (events_wait c ls now tick n));
+      came = turn.came ∙ ap (arrivals_heard AtRu []) (sym (events_wait c (traffic_of d) now tick n));
+      told = turn.told ∙ ap (cells_heard AtRu) (sym (events_wait c (traffic_of d) now tick n));
     }
 
 -- the moment itself
-pub here : (d : Document) (tick : ℤ) (h : History) → IsDocument d → IsTurn d tick h → IsNextMoment d.config (landings_of d) tick tick
+pub here : (d : Document) (tick : ℤ) (h : History) → IsDocument d → IsTurn d tick h → IsNextMoment d.config (traffic_of d) tick tick
 here d tick h doc turn = next d tick tick h doc turn (same_most tick) turn.ended (λ t low high. absurd (omega (arith, ints))) turn.quiet.cells
 
-pub due_here : (d : Document) (tick : ℤ) (h : History) → IsDocument d → IsTurn d tick h → tick ≤ℤ end_of_time → due_of d.config h tick ≡ cells_at d.config (landings_of d) tick
-due_here d tick h doc turn ended = sym (due_same d tick h turn tick) ∙ due_at_moment d.config (landings_of d) tick tick (here d tick h doc turn) ended
+pub due_here : (d : Document) (tick : ℤ) (h : History) → IsDocument d → IsTurn d tick h → tick ≤ℤ end_of_time → due_of d.config h tick ≡ cells_at AtRu d.config (traffic_of d) tick
+due_here d tick h doc turn ended = sym (due_same d tick h turn tick) ∙ due_at_moment d.config (traffic_of d) tick tick (here d tick h doc turn) ended
 
 -- ---- its events
 
-pub events_are : (c : Config) (ls : List Arrival) (tick : ℤ) → events_at c ls tick ≡ map Cell (cells_at c ls tick) ++ map arrival_event (landing_at ls tick)
-unfolding events_at
-events_are c ls tick = refl
+pub events_are : (d : Document) (tick : ℤ)
+    → events_at d.config (traffic_of d) tick ≡ map Cell (cells_at AtRu d.config (traffic_of d) tick) ++ map (arrival_event AtRu) (landing_at (landings_of d) tick)
+events_are d tick =
+    events_alone d.config (traffic_of d) tick (idle_at_du d)
+    ∙ ap (λ (es : List Event). map Cell (cells_at AtRu d.config (traffic_of d) tick) ++ es) (told_each AtRu (landing_at (landings_of d) tick))
 
-pub arrivals-both : (earlier : List Arrival) (cs : List AirCell) (xs : List Arrival) → arrivals_heard earlier (map Cell cs ++ map arrival_event xs) ≡ onto earlier xs
+-- the cells of a tick are the radio unit's
+pub own_cells : (d : Document) (tick : ℤ) → AreOf AtRu (cells_at AtRu d.config (traffic_of d) tick)
+own_cells d tick = tick_of_side AtRu (ru_known d.config (all_arrivals (landings_of d))) d.config.endpoints tick
+
+pub arrivals-both : (earlier : List Arrival) (cs : List AirCell) (xs : List Arrival)
+    → arrivals_heard AtRu earlier (map Cell cs ++ map (arrival_event AtRu) xs) ≡ onto earlier xs
 arrivals-both earlier cs xs =
-    arrivals-append earlier (map Cell cs) (map arrival_event xs)
-    ∙ ap (λ (e : List Arrival). arrivals_heard e (map arrival_event xs)) (arrivals-cells earlier cs)
-    ∙ arrivals-arrivals earlier xs
+    arrivals-append AtRu earlier (map Cell cs) (map (arrival_event AtRu) xs)
+    ∙ ap (λ (e : List Arrival). arrivals_heard AtRu e (map (arrival_event AtRu) xs)) (arrivals-cells AtRu earlier cs)
+    ∙ ap (arrivals_heard AtRu earlier) (sym (told_each AtRu xs))
+    ∙ arrivals-own AtRu earlier xs
 
-pub cells-both : (cs : List AirCell) (xs : List Arrival) → cells_heard (map Cell cs ++ map arrival_event xs) ≡ cs
-cells-both cs xs =
-    cells-append (map Cell cs) (map arrival_event xs)
-    ∙ ap₂ (λ (xs ys : List AirCell). xs ++ ys) (cells-cells cs) (cells-arrivals xs)
+pub cells-both : (cs : List AirCell) (xs : List Arrival) → AreOf AtRu cs → cells_heard AtRu (map Cell cs ++ map (arrival_event AtRu) xs) ≡ cs
+cells-both cs xs own =
+    cells-append AtRu (map Cell cs) (map (arrival_event AtRu) xs)
+    ∙ ap₂ (λ (xs ys : List AirCell). xs ++ ys) (cells-own AtRu cs own)
+    (ap (cells_heard AtRu) (sym (told_each AtRu xs)) ∙ cells-arrivals AtRu AtRu xs)
     ∙ append-nil cs
 
 -- what was heard up to a tick, and then of it
 pub arrivals_then : (d : Document) (tick : ℤ) (h : History) (cs : List AirCell) (xs : List Arrival) → IsTurn d tick h
-    → onto h.arrivals xs ≡ arrivals_heard [] (events_before d tick ++ (map Cell cs ++ map arrival_event xs))
+    → onto h.arrivals xs ≡ arrivals_heard AtRu [] (events_before d tick ++ (map Cell cs ++ map (arrival_event AtRu) xs))
 arrivals_then d tick h cs xs turn =
     ap (λ (e : List Arrival). onto e xs) turn.came
-    ∙ sym (arrivals-append [] (events_before d tick) (map Cell cs ++ map arrival_event xs) ∙ arrivals-both (arrivals_heard [] (events_before d tick)) cs xs)
+    ∙ sym (arrivals-append AtRu [] (events_before d tick) (map Cell cs ++ map (arrival_event AtRu) xs)
+    ∙ arrivals-both (arrivals_heard AtRu [] (events_before d tick)) cs xs)
 
-pub cells_then : (d : Document) (tick : ℤ) (h : History) (cs : List AirCell) (xs : List Arrival) → IsTurn d tick h
-    → h.reported ++ cs ≡ cells_heard (events_before d tick ++ (map Cell cs ++ map arrival_event xs))
-cells_then d tick h cs xs turn =
-    ap₂ (λ (rs ts : List AirCell). rs ++ ts) turn.told (sym (cells-both cs xs))
-    ∙ sym (cells-append (events_before d tick) (map Cell cs ++ map arrival_event xs))
+pub cells_then : (d : Document) (tick : ℤ) (h : History) (cs : List AirCell) (xs : List Arrival) → AreOf AtRu cs → IsTurn d tick h
+    → h.reported ++ cs ≡ cells_heard AtRu (events_before d tick ++ (map Cell cs ++ map (arrival_event AtRu) xs))
+cells_then d tick h cs xs own turn =
+    ap₂ (λ (rs ts : List AirCell). rs ++ ts) turn.told (sym (cells-both cs xs own))
+    ∙ sym (cells-append AtRu (events_before d tick) (map Cell cs ++ map (arrival_event AtRu) xs))
 
 -- over the moment
 pub after : (d : Document) (tick : ℤ) (h k : History) → IsDocument d → IsTurn d tick h → tick ≤ℤ end_of_time
-    → k.arrivals ≡ onto h.arrivals (landing_at (landings_of d) tick) → k.reported ≡ h.reported ++ cells_at d.config (landings_of d) tick
+    → k.arrivals ≡ onto h.arrivals (landing_at (landings_of d) tick) → k.reported ≡ h.reported ++ cells_at AtRu d.config (traffic_of d) tick
     → IsQuietTo d.config k tick → IsTurn d (tick +ℤ pos 1) k
 after d tick h k doc turn ended came told quiet =
     let c = d.config in
     let ls = landings_of d in
-    let then_events = events_go_on c ls tick turn.begun ∙ ap (λ (es : List Event). events_before d tick ++ es) (events_are c ls tick) in
+    let cells = cells_at AtRu c (traffic_of d) tick in
+    let then_events = events_go_on c (traffic_of d) tick turn.begun ∙ ap (λ (es : List Event). events_before d tick ++ es) (events_are d tick) in
     record {
       begun = next_most first_clock tick turn.begun;
       ended = next_ended tick end_of_time ended;
       arrivals = came ∙ ap (λ (e : List Arrival). onto e (landing_at ls tick)) turn.arrivals ∙ sym (arrivals_go_on ls tick turn.begun);
       reported =
-          told ∙ ap (λ (rs : List AirCell). rs ++ cells_at c ls tick) turn.reported
-          ∙ reported_at_moment c ls tick tick (here d tick h doc turn) ended
+          told ∙ ap (λ (rs : List AirCell). rs ++ cells) turn.reported
+          ∙ reported_at_moment c (traffic_of d) tick tick (here d tick h doc turn) ended
           ∙ ap (λ (t : ℤ). ru_reported c (arrivals_before ls (tick +ℤ pos 1)) t) (sym (last_of_next tick));
       quiet = last_quiet c k tick quiet;
-      came = came ∙ arrivals_then d tick h (cells_at c ls tick) (landing_at ls tick) turn ∙ ap (arrivals_heard []) (sym then_events);
-      told = told ∙ cells_then d tick h (cells_at c ls tick) (landing_at ls tick) turn ∙ ap cells_heard (sym then_events);
+      came = came ∙ arrivals_then d tick h cells (landing_at ls tick) turn ∙ ap (arrivals_heard AtRu []) (sym then_events);
+      told = told ∙ cells_then d tick h cells (landing_at ls tick) (own_cells d tick) turn ∙ ap (cells_heard AtRu) (sym then_events);
     }
   where
     next_ended : (a b : ℤ) → a ≤ℤ b → (a +ℤ pos 1) ≤ℤ (b +ℤ pos 1)
@@ -174,7 +182,7 @@ after d tick h k doc turn ended came told quiet =
 -- ---- the start
 
 pub events_none : (d : Document) → events_before d first_clock ≡ []
-events_none d = no_ticks (events_at d.config (landings_of d)) first_clock first_clock (same_most first_clock) (λ t low high. absurd (omega (arith, ints)))
+events_none d = no_ticks (events_at d.config (traffic_of d)) first_clock first_clock (same_most first_clock) (λ t low high. absurd (omega (arith, ints)))
 
 none_waits : (w t : ℤ) → (first_clock -ℤ w) ≤ℤ t → t <ℤ (((first_clock -ℤ pos 1) -ℤ w) +ℤ pos 1) → ⊥
 none_waits w t low high = omega (arith, ints)
@@ -200,6 +208,6 @@ start d u stands =
         cells = due_less c.delays c.endpoints (ru_known c []) [] (first_clock -ℤ pos 1) first_clock (last_is_earlier first_clock) stands.kept.past;
         messages = sym (stands.kept.left (first_clock -ℤ pos 1)) ∙ none_left u.memory.cells u.cursor;
       };
-      came = sym (ap (arrivals_heard []) (events_none d) ∙ arrivals-none []);
-      told = sym (ap cells_heard (events_none d) ∙ cells-none);
+      came = sym (ap (arrivals_heard AtRu []) (events_none d) ∙ arrivals-none AtRu []);
+      told = sym (ap (cells_heard AtRu) (events_none d) ∙ cells-none AtRu);
     }

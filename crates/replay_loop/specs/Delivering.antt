@@ -1,6 +1,7 @@
 -- What one tick's frames, and its messages, make of a radio unit (this project's profile).
 use Rattle.std.specs.Prelude.{◌≡◌, ℤ, pos, ◌+ℤ◌, List, [], ◌∷◌, ◌++◌, All, map}
 use Rattle.air_source.specs.declared.events.Event.{Event}
+use Rattle.air_source.specs.declared.events.Side.TheVariants.{Ru as AtRu}
 use Rattle.frame_network.specs.declared.arrivals.Arrival.{Arrival as Flying}
 use Rattle.replay_events.specs.Events.{arrival_event}
 use Rattle.ru_buffers.specs.Calls.{StandsFor, given_of}
@@ -32,8 +33,8 @@ pub record StopsLanding {A : Type 0} (grew : A → List Event → A → Type 0) 
   pub is : arrivals ≡ told ++ one ∷ rest
   pub stands : StandsFor c u (landed h told)
   pub middle : A
-  pub heard : grew before (map arrival_event told) middle
-  pub stop : stopped middle (arrival_event one) after
+  pub heard : grew before (map (arrival_event AtRu) told) middle
+  pub stop : stopped middle (arrival_event AtRu one) after
 
 -- a history of which these messages were given
 abbrev pub giving : History → List UplinkJob → History

@@ -1,8 +1,7 @@
 -- The replay of a document: its events, and how a radio unit stands to those that were heard (this project's profile).
 use Rattle.std.specs.Prelude.{◌≡◌, ℤ, pos, ◌*ℤ◌, ◌≤ℤ◌, List, [], ◌∷◌, ◌++◌, map, ◌⊎◌}
-use Rattle.air_source.specs.declared.events.AirCell.{AirCell}
 use Rattle.air_source.specs.declared.events.Event.{Event}
-use Rattle.air_source.specs.declared.events.Event.TheVariants.{Cell, Delay, Arrival, Count}
+use Rattle.air_source.specs.declared.events.Side.TheVariants.{Ru as AtRu}
 use Rattle.fh_document.specs.declared.document.Document.{Document}
 use Rattle.fh_document.specs.declared.document.Injection.{Injection}
 use Rattle.unit_model.specs.Meetings.{Arrival as Landing}
@@ -11,6 +10,8 @@ use Rattle.unit_model.specs.Standing.{History}
 use Rattle.ru_buffers.specs.Calls.{IsQuietTo, StandsFor}
 use Rattle.ru_buffers.specs.declared.unit.Ru.{Ru}
 use Rattle.replay_events.specs.Events.{events}
+use Rattle.replay_events.specs.Heard.{arrivals_heard, cells_heard}
+use Rattle.replay_events.specs.Traffic.{Traffic}
 use Rattle.replay_events.specs.Moments.{all_arrivals, end_of_time}
 
 -- an injected frame, with its time in ticks
@@ -21,34 +22,22 @@ landing_of i = record { at = i.at *ℤ pos 1536; frame = i.frame }
 abbrev pub landings_of : Document → List Landing
 landings_of d = map landing_of d.injections
 
+-- with nothing planned, and nothing that lands at the distributed unit
+abbrev pub traffic_of : Document → Traffic
+traffic_of d = record { at_ru = landings_of d; planned = []; at_du = [] }
+
 -- all events of a document, in order
 abbrev pub events_of : Document → List Event
-events_of d = events d.config (landings_of d)
+events_of d = events d.config (traffic_of d)
 
 -- ---- what was heard
 
--- the arrivals among these events, behind earlier ones, the newest first
-unfoldable pub arrivals_heard : List Landing → List Event → List Landing
-arrivals_heard earlier [] = earlier
-arrivals_heard earlier (Arrival side at frame ∷ rest) = arrivals_heard ((let a : Landing = record { at = at.0; frame = frame } in a) ∷ earlier) rest
-arrivals_heard earlier (Cell c ∷ rest) = arrivals_heard earlier rest
-arrivals_heard earlier (Delay at side id value ∷ rest) = arrivals_heard earlier rest
-arrivals_heard earlier (Count side counter value ∷ rest) = arrivals_heard earlier rest
-
--- the cells among them, in order
-unfoldable pub cells_heard : List Event → List AirCell
-cells_heard [] = []
-cells_heard (Cell c ∷ rest) = c ∷ cells_heard rest
-cells_heard (Arrival side at frame ∷ rest) = cells_heard rest
-cells_heard (Delay at side id value ∷ rest) = cells_heard rest
-cells_heard (Count side counter value ∷ rest) = cells_heard rest
-
--- the unit is in step with them: it stands for the arrivals that were heard, and has reported the cells that were
+-- the radio unit is in step with them: it stands for the arrivals at it that were heard, and has reported those of its cells that were
 pub record IsInStep (d : Document) (told : List Event) (u : Ru) : Type 0 where
   pub history : History
   pub stands : StandsFor d.config u history
-  pub arrivals : history.arrivals ≡ arrivals_heard [] told
-  pub reported : history.reported ≡ cells_heard told
+  pub arrivals : history.arrivals ≡ arrivals_heard AtRu [] told
+  pub reported : history.reported ≡ cells_heard AtRu told
 
 -- ---- at the end
 

@@ -1,6 +1,7 @@
 -- How a radio unit stands as time passes, and when the next moment is (this project's profile).
 use Rattle.std.specs.Prelude.{◌≡◌, ℤ, pos, ◌+ℤ◌, ◌-ℤ◌, ◌<ℤ◌, ◌≤ℤ◌, List, [], ◌∷◌, ◌++◌, Option, Some, None, if◌then◌else◌, int_lt, ◌⊎◌}
 use Rattle.air_source.specs.declared.events.Event.{Event}
+use Rattle.air_source.specs.declared.events.Side.TheVariants.{Ru as AtRu}
 use Rattle.fh_document.specs.declared.document.Document.{Document}
 use Rattle.fh_time.specs.declared.values.Ticks.{Ticks}
 use Rattle.replay_events.specs.Events.{events_between}
@@ -13,11 +14,12 @@ use Rattle.unit_model.specs.Standing.{History}
 use Rattle.window_config.specs.declared.config.Config.{Config}
 use Rattle.replay_loop.specs.declared.coming.Coming.{Coming}
 use Rattle.replay_loop.specs.Coming.{IsCalmTo}
-use Rattle.replay_loop.specs.Replaying.{IsInStep, arrivals_heard, cells_heard, landings_of}
+use Rattle.replay_events.specs.Heard.{arrivals_heard, cells_heard}
+use Rattle.replay_loop.specs.Replaying.{IsInStep, landings_of, traffic_of}
 
 -- the events before a tick
 abbrev pub events_before : Document → ℤ → List Event
-events_before d now = events_between d.config (landings_of d) first_clock now
+events_before d now = events_between d.config (traffic_of d) first_clock now
 
 -- ---- the unit at the start of a tick
 
@@ -28,8 +30,8 @@ pub record IsTurn (d : Document) (now : ℤ) (h : History) : Type 0 where
   pub arrivals : h.arrivals ≡ arrivals_before (landings_of d) now
   pub reported : h.reported ≡ ru_reported d.config (arrivals_before (landings_of d) now) (now -ℤ pos 1)
   pub quiet : IsQuietTo d.config h (now -ℤ pos 1)
-  pub came : h.arrivals ≡ arrivals_heard [] (events_before d now)
-  pub told : h.reported ≡ cells_heard (events_before d now)
+  pub came : h.arrivals ≡ arrivals_heard AtRu [] (events_before d now)
+  pub told : h.reported ≡ cells_heard AtRu (events_before d now)
 
 pub record AtTurn (d : Document) (now : ℤ) (u : Ru) : Type 0 where
   pub history : History

@@ -1,6 +1,7 @@
 // The frames of one tick, and the uplink messages up to it.
 ghost use Rattle.std.specs.Prelude.{◌≡◌, ◌<◌, ◌^◌, [], ◌∷◌, All, IfErr, OnErr, OnOk, length, map};
 ghost use Rattle.air_source.specs.Causes.{HasAirCause};
+ghost use Rattle.air_source.specs.declared.events.Side.TheVariants.{Ru as AtRu};
 ghost use Rattle.replay_events.specs.Events.{arrival_event};
 ghost use Rattle.ru_buffers.specs.Calls.{HasGivenPast, StandsFor, StandsForSome};
 ghost use Rattle.unit_model.specs.Standing.{History, arrived};
@@ -18,9 +19,9 @@ fn hear<A: Air>(frame: &[u8], at: Ticks, ru: &mut Ru, out: &mut A) -> Result<(),
     requires short { length frame.now < 2 ^ 32 }
     requires unit { StandsForSome ru.old }
     requires given { HasGivenPast ru.old }
-    ensures heard { OnOk result (A.grew out.old (arrival_event (arrival_at at.0 frame.now) ∷ []) out.new) }
+    ensures heard { OnOk result (A.grew out.old (arrival_event AtRu (arrival_at at.0 frame.now) ∷ []) out.new) }
     ensures stands { (c : Config) (h : History) → StandsFor c ru.old h → OnOk result (StandsFor c ru.new (arrived h frame.now)) }
-    ensures stop { IfErr result (λ f. A.stopped f out.old (arrival_event (arrival_at at.0 frame.now)) out.new) }
+    ensures stop { IfErr result (λ f. A.stopped f out.old (arrival_event AtRu (arrival_at at.0 frame.now)) out.new) }
     ensures stays { OnErr result (ru.new ≡ ru.old) }
     ensures given { HasGivenPast ru.new }
     ensures clock { ru.new.clock ≡ ru.old.clock }
@@ -44,7 +45,7 @@ pub(crate) fn land<A: Air>(
     requires clock { ru.old.clock ≡ tick }
     requires flying { AreFlyingFrom tick.0 in_flight.old }
     requires short { All IsToRu in_flight.old }
-    ensures heard { OnOk result (A.grew out.old (map arrival_event (flying_at tick.0 in_flight.old)) out.new) }
+    ensures heard { OnOk result (A.grew out.old (map (arrival_event AtRu) (flying_at tick.0 in_flight.old)) out.new) }
     ensures stands { (c : Config) (h : History) → StandsFor c ru.old h → OnOk result (StandsFor c ru.new (landed h (flying_at tick.0 in_flight.old))) }
     ensures passed { OnOk result (HaveLanded tick.0 in_flight.old in_flight.new) }
     ensures stop { (c : Config) (h : History) → StandsFor c ru.old h

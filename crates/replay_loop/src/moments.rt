@@ -10,7 +10,7 @@ ghost use Rattle.unit_model.specs.Radiated.{first_clock};
 ghost use Rattle.unit_model.specs.Standing.{History};
 ghost use Rattle.window_config.specs.declared.config.Config.{Config};
 ghost use Rattle.replay_loop.specs.Coming.{Waits};
-ghost use Rattle.replay_loop.specs.Replaying.{landings_of};
+ghost use Rattle.replay_loop.specs.Replaying.{traffic_of};
 ghost use Rattle.replay_loop.specs.Turns.{AtTurn, HaltsBehind, IsNext, StopsBehind, events_before};
 
 use crate::coming::{Coming, inject};
@@ -42,11 +42,11 @@ fn moment<A: Air>(
     requires turn { AtTurn doc.now tick.0 ru.old }
     requires waits { Waits doc.now tick.0 coming.old }
     requires ended { tick.0 ≤ℤ end_of_time }
-    ensures heard { OnOk result (A.grew out.old (events_at doc.now.config (landings_of doc.now) tick.0) out.new) }
+    ensures heard { OnOk result (A.grew out.old (events_at doc.now.config (traffic_of doc.now) tick.0) out.new) }
     ensures turn { OnOk result (AtTurn doc.now (tick.0 +ℤ pos 1) ru.new) }
     ensures waits { OnOk result (Waits doc.now (tick.0 +ℤ pos 1) coming.new) }
-    ensures stop { IsErrOf result Failed → StopsBehind A.grew (A.stopped Failed) doc.now (events_before doc.now tick.0) (events_at doc.now.config (landings_of doc.now) tick.0) ru.new out.old out.new }
-    ensures wants { IsErrOf result WantsMemory → HaltsBehind A.grew (A.stopped WantsMemory) doc.now (events_before doc.now tick.0) (events_at doc.now.config (landings_of doc.now) tick.0) ru.new out.old out.new }
+    ensures stop { IsErrOf result Failed → StopsBehind A.grew (A.stopped Failed) doc.now (events_before doc.now tick.0) (events_at doc.now.config (traffic_of doc.now) tick.0) ru.new out.old out.new }
+    ensures wants { IsErrOf result WantsMemory → HaltsBehind A.grew (A.stopped WantsMemory) doc.now (events_before doc.now tick.0) (events_at doc.now.config (traffic_of doc.now) tick.0) ru.new out.old out.new }
     ensures same { A.same out.old out.new }
     ensures cause { HasAirCause (A.faults out.old) (A.faults out.new) result }
 {

@@ -4,7 +4,8 @@ use Rattle.std.specs.Prelude.{Option, Some, None, int_lt}
 use Rattle.std.specs.Ordering.{int_eq}
 use Rattle.std.proofs.lemmas.Int.{ints, by_lt_z}
 use Rattle.std.proofs.lemmas.List.{drop-append-le}
-use Rattle.std.proofs.lemmas.List.Elements.{All-cons}
+use Rattle.std.proofs.lemmas.List.Elements.{All-cons, All-weaker}
+use Rattle.air_source.specs.declared.events.AirCell.{AirCell}
 use Rattle.air_source.specs.declared.events.Side.TheVariants.{Ru}
 use Rattle.window_config.specs.declared.config.Config.{Config}
 use Rattle.window_config.specs.declared.endpoints.EndpointConfig.{EndpointConfig}
@@ -13,8 +14,8 @@ use Rattle.unit_model.specs.Meetings.{Arrival}
 use Rattle.unit_model.specs.Order.{comes_before}
 use Rattle.unit_model.specs.Proper.{IsTime}
 use Rattle.unit_model.specs.Radiated.{first_clock}
-use Rattle.unit_model.specs.Reports.{accepted_of}
-use Rattle.unit_model.specs.Standing.{History, arrived, still_given}
+use Rattle.unit_model.specs.Reports.{accepted_of, ru_known}
+use Rattle.unit_model.specs.Standing.{History, IsOwed, arrived, still_given}
 use Rattle.unit_model.specs.Starts.{start_at}
 use Rattle.unit_model.specs.Sweeps.{sweep}
 use Rattle.unit_model.specs.Uplink.{jobs, symbol_jobs}
@@ -148,6 +149,17 @@ module _ (c : Config) (m m2 : RuMemory) (clock : ℤ) (cursor : JobCursor) (h : 
       ∙ ap (drop (length h.given)) (sym all))
       (λ before. left_before to before ∙ ap (drop (length h.given)) (sym (sent to before)))
 
+  still_owed : (x : AirCell) → IsOwed Ru c (ru_known c h.arrivals) x → IsOwed Ru c (ru_known c (a ∷ h.arrivals)) x
+  still_owed x o = record {
+    endpoint = o.endpoint;
+    cell = o.cell;
+    is_cell = o.is_cell;
+    down = o.down;
+    of_cell = o.of_cell;
+    starts = o.starts;
+    used = arrival_leaves_use c a h.arrivals o.cell o.used;
+  }
+
   pub delivered : Keeps c m2 clock cursor (arrived h frame)
   delivered = record {
     holds = holds;
@@ -159,6 +171,8 @@ module _ (c : Config) (m m2 : RuMemory) (clock : ℤ) (cursor : JobCursor) (h : 
     marks = λ e cell is down live. marks e cell is live ∙ k.marks e cell is down live;
     past = arrival_leaves_due c a h.arrivals h.reported h.clock is_next (refl_most h.clock) ∙ k.past;
     told = λ e cell is down heard. arrival_leaves_use c a h.arrivals cell (k.told e cell is down heard);
+    differ = k.differ;
+    owed = All-weaker (IsOwed Ru c (ru_known c h.arrivals)) (IsOwed Ru c (ru_known c (a ∷ h.arrivals))) (λ x o. still_owed x o) h.reported k.owed;
     left = λ to.
         left_by_definition c m2 cursor.since.0 (a ∷ h.arrivals) (cells_counted h.reported) holds k.begun small cursor refl to ∙ left_now to;
     given = ap (λ (js : List UplinkJob). h.given ++ drop (length h.given) js) (sent h.clock (refl_most h.clock)) ∙ k.given ∙ sym (sent h.clock (refl_most h.clock));

@@ -1,8 +1,9 @@
 -- What the calls of the unit rest on.
-use Rattle.std.proofs.Common.{◌≡◌, ℕ, ℤ, pos, ◌≤ℤ◌, ◌<ℤ◌, ◌+ℤ◌, ◌-ℤ◌, List, [], ◌∷◌, true, false, inl, inr, sym, ap, ◌∙◌, subst, arith}
-use Rattle.std.specs.Prelude.{Option, Some, None, int_lt}
+use Rattle.std.proofs.Common.{◌≡◌, ℕ, ℤ, pos, ◌≤ℤ◌, ◌<ℤ◌, ◌+ℤ◌, ◌-ℤ◌, List, [], ◌∷◌, length, true, false, inl, inr, sym, ap, ◌∙◌, subst, arith}
+use Rattle.std.specs.Prelude.{All, Option, Some, None, int_lt}
 use Rattle.std.proofs.lemmas.Bool.{cases_Bool}
 use Rattle.std.proofs.lemmas.Int.{ints}
+use Rattle.std.proofs.lemmas.List.Elements.{All-drop, All-head}
 use Rattle.fault_counters.specs.declared.kinds.Counter.{Counter}
 use Rattle.air_source.specs.declared.events.Side.TheVariants.{Ru}
 use Rattle.window_config.specs.declared.config.Config.{Config}
@@ -10,6 +11,11 @@ use Rattle.unit_model.specs.Counts.{cells_counted}
 use Rattle.unit_model.specs.Meetings.{Arrival}
 use Rattle.unit_model.specs.Radiated.{first_clock}
 use Rattle.unit_model.specs.Proper.{IsTime}
+use Rattle.unit_model.specs.ProperJobs.{IsProperJob}
+use Rattle.unit_model.specs.Reports.{accepted_of}
+use Rattle.unit_model.specs.Uplink.{jobs}
+use Rattle.unit_model.specs.declared.jobs.UplinkJob.{UplinkJob}
+use Rattle.history_laws.proofs.SendingLemmas.{jobs_are_proper}
 use Rattle.unit_model.specs.Standing.{History, arrived, at_clock, handed, nothing_yet}
 use Rattle.unit_model.specs.declared.symbol_start.SymbolStart.{SymbolStart}
 use Rattle.unit_laws.specs.Runs.{OffsetsFit}
@@ -35,6 +41,7 @@ use Rattle.ru_buffers.proofs.ArrivalLemmas.{delivered}
 use Rattle.ru_buffers.proofs.HistoryLemmas.{stands}
 use Rattle.ru_buffers.proofs.JobLemmas.{give, later, none_before_first, none_to_give, ready_once_given, settle, some_from_first}
 use Rattle.ru_buffers.proofs.MarkedLemmas.{left_same}
+use Rattle.ru_buffers.proofs.QuietLemmas.{left_less}
 use Rattle.ru_buffers.proofs.ReportLemmas.{nothing_before_first, nothing_is_due, something_at_first}
 use Rattle.ru_buffers.proofs.MadeLemmas.{made, no_messages}
 
@@ -116,6 +123,21 @@ module _ (c : Config) (m : RuMemory) (clock : ℤ) (cursor : JobCursor) (h : His
   pub none_by_clock : (n : NextJob) → IsFirstJob m.cells cursor n → clock <ℤ n.symbol.start.0 → given_of c h h.clock ≡ []
   none_by_clock n first early =
       none_before_first c m clock cursor n h h.clock all.kept first (subst (λ (t : ℤ). t <ℤ n.symbol.start.0) all.kept.clock_is early)
+
+  pub gives_proper : (job : UplinkJob) (rest : List UplinkJob) → given_of c h h.clock ≡ job ∷ rest → IsProperJob c.endpoints h.clock job
+  gives_proper job rest is =
+      let P = IsProperJob c.endpoints h.clock in
+      All-head P job rest
+      (subst (All P) is
+      (All-drop P (length h.given) (jobs c.endpoints (accepted_of c h.arrivals) h.clock)
+      (jobs_are_proper c cursor.since.0 h.arrivals h.clock all.kept.holds.came all.kept.holds.times)))
+
+  -- where none is to be given by the clock, none was to be given before it
+  pub ready_where_quiet : given_of c h h.clock ≡ [] → IsReady m clock cursor
+  ready_where_quiet none = left_less m.cells cursor (clock -ℤ pos 1) h.clock (last_by clock h.clock all.kept.clock_is) (all.kept.left h.clock ∙ none)
+    where
+      last_by : (a b : ℤ) → a ≡ b → (a -ℤ pos 1) ≤ℤ b
+      last_by a b same = omega (arith, ints)
 
   pub gives : (next : JobCursor) (n : NextJob) → OffsetsFit n.symbol.endpoint.numerology → IsFirstJob m.cells cursor n → n.symbol.start.0 ≤ℤ clock
       → GivenOne m.cells cursor n next → (given_of c h h.clock ≡ n.job ∷ given_of c (handed h n.job) h.clock) × Stands c m clock next (handed h n.job)

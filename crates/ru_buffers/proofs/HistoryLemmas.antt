@@ -12,7 +12,7 @@ use Rattle.unit_model.specs.Meetings.{Arrival}
 use Rattle.unit_model.specs.Proper.{IsProperData}
 use Rattle.unit_model.specs.Radiated.{is_used, used_below, used_mask}
 use Rattle.unit_model.specs.Reports.{accepted_of, data_of, ru_known, timely_of}
-use Rattle.unit_model.specs.Standing.{AreInTime, History, IsCell, IsLiveAt, StandsBy, cell_heard}
+use Rattle.unit_model.specs.Standing.{AreInTime, History, IsCell, IsHistory, IsLiveAt, StandsBy, cell_heard, still_given}
 use Rattle.unit_model.specs.declared.allocations.Allocation.{Allocation}
 use Rattle.unit_model.specs.declared.cells.Cell.{Cell}
 use Rattle.unit_model.specs.declared.cells.Claim.{Claim}
@@ -94,18 +94,25 @@ module _ (c : Config) (m : RuMemory) (clock : ℤ) (cursor : JobCursor) (h : His
             ∙ sym (far_not_heard e cell is down far)
       ]
 
+  history : IsHistory Ru c (ru_known c h.arrivals) h
+  history = record { differ = k.differ; owed = k.owed; later = still_given c acc h.given h.clock; given = sym k.given }
+
   pub answers : StandsBy (IsLiveAt c h.clock) c (view_of m clock cursor) h
   answers = record {
-    clock = k.clock_is;
-    came = come_later since h.clock h.arrivals k.since k.holds.came;
-    counts = k.holds.counts;
-    fragments = k.holds.fragments;
+    kept = record {
+      clock = k.clock_is;
+      came = come_later since h.clock h.arrivals k.since k.holds.came;
+      counts = k.holds.counts;
+      fragments = k.holds.fragments;
+      hold = k.holds.hold;
+      blocks = λ e cell is down live. rings_now.blocks e cell is down live ∙ told_whole (timely_of Ru c h.arrivals) cell all_told;
+      past = k.past;
+      told = k.told;
+      history = history;
+    };
     claims = rings_now.claims;
-    blocks = λ e cell is down live. rings_now.blocks e cell is down live ∙ told_whole (timely_of Ru c h.arrivals) cell all_told;
     uplink = rings_now.uplink;
     done = marks_at h.clock k.since;
-    past = k.past;
-    told = k.told;
     jobs = k.left;
   }
 

@@ -106,6 +106,8 @@ module _ (c : Config) (m : RuMemory) (clock : ℤ) (cursor : JobCursor) (h : His
         marks = marks_at next.since.0 since_on;
         past = keeps.past;
         told = keeps.told;
+        differ = keeps.differ;
+        owed = keeps.owed;
         left = λ to. settled_left m.cells clock cursor next settled to begun_clock ready ∙ keeps.left to;
         given = keeps.given;
       };
@@ -188,6 +190,8 @@ module _ (c : Config) (m : RuMemory) (clock : ℤ) (cursor : JobCursor) (h : His
               → cells_done m.cells cell ≡ list_any (cell_heard e cell) h.reported) (sym given.since) keeps.marks;
           past = keeps.past;
           told = keeps.told;
+          differ = keeps.differ;
+          owed = keeps.owed;
           left = left_now;
           given =
               append_assoc h.given (n.job ∷ []) (still_given c (accepted_of c h.arrivals) (h.given ++ n.job ∷ []) h.clock)
@@ -229,6 +233,8 @@ later c m clock cursor h to keeps time order none =
       marks = keeps.marks;
       past = none;
       told = keeps.told;
+      differ = keeps.differ;
+      owed = keeps.owed;
       left = keeps.left;
       given = goes_on h.given (still_given c (accepted_of c h.arrivals) h.given h.clock) (jobs c.endpoints (accepted_of c h.arrivals) h.clock) begin.0
           (jobs c.endpoints (accepted_of c h.arrivals) to) keeps.given begin.1;

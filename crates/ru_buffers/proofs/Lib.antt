@@ -1,4 +1,5 @@
 pub mod SlotLemmas
+pub mod QuietLemmas
 pub mod LookupLemmas
 pub mod HistoryLemmas
 pub mod ArrivalLemmas

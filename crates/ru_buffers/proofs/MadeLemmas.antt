@@ -2,6 +2,7 @@
 use Rattle.std.proofs.Common.{◌≡◌, ℕ, ℤ, pos, ◌+ℤ◌, ◌-ℤ◌, ◌≤ℤ◌, ◌<ℤ◌, ◌^◌, Bool, true, false, List, [], refl, sym, ap, ◌∙◌, arith}
 use Rattle.std.specs.Prelude.{Option, Some, None, filter, int_lt, if◌then◌else◌}
 use Rattle.std.proofs.lemmas.Int.{ints}
+use Rattle.std.proofs.lemmas.List.Elements.{All-nil}
 use Rattle.fh_time.specs.Air.{air_of}
 use Rattle.fh_time.specs.declared.values.Slot.{Slot}
 use Rattle.air_source.specs.declared.events.AirCell.{AirCell}
@@ -14,7 +15,7 @@ use Rattle.window_config.specs.declared.endpoints.EndpointConfig.{EndpointConfig
 use Rattle.unit_model.specs.Proper.{IsAt, IsTime}
 use Rattle.unit_model.specs.Radiated.{first_clock, symbol_report}
 use Rattle.unit_model.specs.Reports.{accepted_of, ru_known}
-use Rattle.unit_model.specs.Standing.{due, nothing_yet, still_reported}
+use Rattle.unit_model.specs.Standing.{IsOwed, due, nothing_yet, still_reported}
 use Rattle.unit_model.specs.Starts.{start_at}
 use Rattle.unit_model.specs.Sweeps.{sweep}
 use Rattle.unit_model.specs.Uplink.{jobs, symbol_jobs}
@@ -110,6 +111,8 @@ made c m cursor holds unmarked since last =
       marks = λ e cell is down live. unmarked cell;
       past = nothing_due c [] first_clock limits;
       told = λ e cell is down heard. cc;
+      differ = tt;
+      owed = All-nil (IsOwed Ru c (ru_known c []));
       left = λ to.
           left_by_definition c m cursor.since.0 [] [] (holds cursor.since.0) begun (small_first cursor.since.0 since) cursor refl to
           ∙ nothing_of c cursor to limits last ∙ sym (no_messages c to limits);

@@ -2,14 +2,15 @@
 use Rattle.std.proofs.Common.{◌≡◌, ℕ, ℤ, pos, zero, suc, ◌+◌, ◌*◌, ◌-◌, ◌<◌, ◌+ℤ◌, ◌≤ℤ◌, ◌<ℤ◌, Bool, true, false, ◌&&◌, ◌||◌, List, [], ◌∷◌, ◌++◌, inl, inr, refl, sym, ap, ap₂, ◌∙◌, subst, arith}
 use Rattle.std.specs.Prelude.{All, Option, ◌==◌, ◌^◌, min, if◌then◌else◌, filter}
 use Rattle.std.specs.List.{list_any}
-use Rattle.std.proofs.lemmas.Bool.{and_parts, eq-eqb, eqb-true}
+use Rattle.std.proofs.lemmas.Bool.{and_from, and_parts, eq-eqb, eqb-true}
 use Rattle.std.proofs.lemmas.Bool.Decides.{nat_tests}
 use Rattle.std.proofs.lemmas.Int.{ints}
 use Rattle.std.proofs.lemmas.List.{map-append}
-use Rattle.std.proofs.lemmas.List.Elements.{All-nil, All-cons, All-head, All-tail, All-weaker}
+use Rattle.std.proofs.lemmas.List.Elements.{All-nil, All-append, All-cons, All-head, All-tail, All-weaker}
 use Rattle.std.proofs.lemmas.List.Folds.{list_any-append}
 use Rattle.fh_time.specs.declared.values.Slot.{Slot}
 use Rattle.air_source.specs.declared.events.AirCell.{AirCell}
+use Rattle.air_source.specs.declared.events.Side.{Side}
 use Rattle.air_source.specs.declared.events.Side.TheVariants.{Ru}
 use Rattle.eaxc_map.specs.Endpoints.{AppearOnce}
 use Rattle.ecpri_fragments.specs.Assemblies.{StandsFor, endpoints_of as places_of, hold_of as assembly_hold}
@@ -19,13 +20,13 @@ use Rattle.fault_counters.specs.declared.kinds.Counter.{Counter}
 use Rattle.window_config.specs.Endpoints.{ids_of}
 use Rattle.window_config.specs.declared.config.Config.{Config}
 use Rattle.window_config.specs.declared.endpoints.EndpointConfig.{EndpointConfig}
-use Rattle.unit_model.specs.Claims.{same_slot}
+use Rattle.unit_model.specs.Claims.{same_slot, same_way}
 use Rattle.unit_model.specs.Counts.{StandAt, block_counter, cells_counted}
 use Rattle.unit_model.specs.Meetings.{fragments}
 use Rattle.unit_model.specs.Proper.{IsAt}
-use Rattle.unit_model.specs.Radiated.{air_cell, first_clock, is_used, used_below, used_mask}
+use Rattle.unit_model.specs.Radiated.{air_cell, first_clock, is_down, is_used, used_below, used_mask}
 use Rattle.unit_model.specs.Reports.{accepted_of, arrivals_counted, met, ru_known, timely_of}
-use Rattle.unit_model.specs.Standing.{History, IsCell, IsLiveAt, cell_heard, heard}
+use Rattle.unit_model.specs.Standing.{AreDifferent, History, IsCell, IsLiveAt, IsOwed, cell_heard, heard}
 use Rattle.unit_model.specs.Starts.{start_at}
 use Rattle.unit_model.specs.Uplink.{symbol_jobs}
 use Rattle.unit_model.specs.declared.allocations.Allocation.{Allocation}
@@ -37,7 +38,7 @@ use Rattle.unit_model.proofs.CountLemmas.{times-append}
 use Rattle.unit_laws.specs.Ticks.{IsLiveSlot}
 use Rattle.unit_laws.proofs.CellLemmas.{slots_equal}
 use Rattle.unit_laws.proofs.DifferLemmas.{all_kept, id_is}
-use Rattle.unit_laws.proofs.DueLemmas.{due_left, unheard}
+use Rattle.unit_laws.proofs.DueLemmas.{due_left, heard_differ, unheard}
 use Rattle.unit_laws.proofs.FarLemmas.{endpoints_equal}
 use Rattle.unit_laws.proofs.SweepLemmas.{each_related, sweep-same}
 use Rattle.slot_rings.proofs.PlaceLemmas.{slot_own}
@@ -50,7 +51,7 @@ use Rattle.ru_memory.specs.declared.memory.RuMemory.{RuMemory}
 use Rattle.ru_reports.specs.Symbols.{CountsTold, IsSymbol, cell_in, is_told, left_at, left_told}
 use Rattle.ru_buffers.specs.Reporting.{IsMarked, KeepsMarked, due_of}
 use Rattle.ru_buffers.specs.Units.{Keeps, left_up_to}
-use Rattle.ru_buffers.proofs.SymbolLemmas.{claims_are, live_or_ahead, since_clock}
+use Rattle.ru_buffers.proofs.SymbolLemmas.{cell_is, claims_are, live_lookup, live_or_ahead, since_clock}
 use Rattle.unit_cells.proofs.TimeLemmas.{far_no_place}
 
 -- ---- tests
@@ -98,6 +99,8 @@ front P (x ∷ xs) ys h = All-cons P x xs (All-head P x (xs ++ ys) h) (front P x
 -- ---- the cells of a symbol of which something is left
 
 pub record IsLeftCell (v : CellsValue) (s : SymbolStart) (a : AirCell) : Type 0 where
+  pub side_is : a.side ≡ Ru
+  pub at_is : a.at.0 ≡ s.start.0
   pub id : a.id ≡ s.endpoint.id
   pub slot_is : a.slot ≡ s.slot
   pub symbol_is : a.symbol ≡ s.symbol
@@ -127,7 +130,7 @@ left_cells v s =
     each_related (λ xs ys. All (IsLeftCell v s) xs) (all_kept (IsLeftCell v s)) 0 s.endpoint.prbs (left_told v s) (left_told v s) (λ prb above below.
     let cell = cell_in s prb in
     unless_none (IsLeftCell v s) (used_mask (cells_claim v cell) == 0) (cells_done v cell) (air_cell Ru s.endpoint cell s.start.0 (cells_claim v cell) (cells_block v cell)) (λ used.
-    record { id = refl; slot_is = refl; symbol_is = refl; prb = small_is prb s.endpoint.prbs below; used = some_used _ used }))
+    record { side_is = refl; at_is = refl; id = refl; slot_is = refl; symbol_is = refl; prb = small_is prb s.endpoint.prbs below; used = some_used _ used }))
 
 -- ---- endpoints by their ids
 
@@ -157,18 +160,22 @@ module _ (es : List EndpointConfig) (s : SymbolStart) (once : AppearOnce (ids_of
       (λ h. eq-eqb cell.symbol s.symbol (sym (eqb-true a.symbol cell.symbol h) ∙ own))
       (λ h. eq-eqb a.symbol cell.symbol (own ∙ sym (eqb-true cell.symbol s.symbol h)))
 
-  cell_tells : (v : CellsValue) (a : AirCell) → IsLeftCell v s a
+  way_tells : (a : AirCell) → a.side ≡ Ru → cell.down ≡ true → same_way (is_down a.side) cell.down ≡ true
+  way_tells a side down = ap₂ (λ (x : Side) (d : Bool). same_way (is_down x) d) side down
+
+  cell_tells : (v : CellsValue) (a : AirCell) → IsLeftCell v s a → cell.down ≡ true
       → cell_heard e cell a ≡ ((cell.ep == s.ep) && (same_slot cell.slot s.slot && ((cell.symbol == s.symbol) && (a.prb == cell.prb))))
-  cell_tells v a is =
-      ap₂ ◌&&◌ (id_tells a is.id)
+  cell_tells v a is down =
+      ap (λ (w : Bool). w && ((a.id == e.id) && (same_slot a.slot cell.slot && ((a.symbol == cell.symbol) && (a.prb == cell.prb))))) (way_tells a is.side_is down)
+      ∙ ap₂ ◌&&◌ (id_tells a is.id)
       (ap₂ ◌&&◌ (slot_tells a is.slot_is) (ap (λ (b : Bool). b && (a.prb == cell.prb)) (symbol_tells a is.symbol_is)))
 
   -- a cell was told where one of these reports is of it
-  pub told_tells : (v : CellsValue) (told : List AirCell) → All (IsLeftCell v s) told → list_any (cell_heard e cell) told ≡ is_told s told cell
-  told_tells v told all =
+  pub told_tells : (v : CellsValue) (told : List AirCell) → All (IsLeftCell v s) told → cell.down ≡ true → list_any (cell_heard e cell) told ≡ is_told s told cell
+  told_tells v told all down =
       any_all (cell_heard e cell) (λ a. (cell.ep == s.ep) && (same_slot cell.slot s.slot && ((cell.symbol == s.symbol) && (a.prb == cell.prb)))) told
       (All-weaker (IsLeftCell v s) (λ a. cell_heard e cell a ≡ ((cell.ep == s.ep) && (same_slot cell.slot s.slot && ((cell.symbol == s.symbol) && (a.prb == cell.prb)))))
-      (λ a is. cell_tells v a is) told all)
+      (λ a is. cell_tells v a is down) told all)
       ∙ any_ands (cell.ep == s.ep) (same_slot cell.slot s.slot) (cell.symbol == s.symbol) (λ a. a.prb == cell.prb) told
 
   same_fields : (prb : ℕ) → cell.ep ≡ s.ep → cell.down ≡ true → cell.slot ≡ s.slot → cell.symbol ≡ s.symbol → cell.prb ≡ prb → cell ≡ cell_in s prb
@@ -182,7 +189,8 @@ module _ (es : List EndpointConfig) (s : SymbolStart) (once : AppearOnce (ids_of
   -- the cell of a report
   pub cell_of_report : (v : CellsValue) (a : AirCell) → IsLeftCell v s a → cell.down ≡ true → cell_heard e cell a ≡ true → cell ≡ cell_in s a.prb
   cell_of_report v a is down h =
-      let one = and_parts (a.id == e.id) _ h in
+      let way = and_parts (same_way (is_down a.side) cell.down) _ h in
+      let one = and_parts (a.id == e.id) _ way.1 in
       let two = and_parts (same_slot a.slot cell.slot) _ one.1 in
       let three = and_parts (a.symbol == cell.symbol) (a.prb == cell.prb) two.1 in
       same_fields a.prb (sym (same_ids es s.ep cell.ep s.endpoint e once at there (sym is.id ∙ eqb-true a.id e.id one.0))) down
@@ -266,7 +274,7 @@ module _ (c : Config) (old new : RuMemory) (clock : ℤ) (cursor : JobCursor) (h
       → cells_done new.cells cell ≡ list_any (cell_heard e cell) (h.reported ++ told)
   marks_now e cell is down live_then =
       marked.marks.marks cell (in_rings e cell is) down
-      ∙ ap₂ ◌||◌ (keeps.marks e cell is down live_then) (sym (told_tells c.endpoints s once at_here e cell is.endpoint old.cells told told_cells))
+      ∙ ap₂ ◌||◌ (keeps.marks e cell is down live_then) (sym (told_tells c.endpoints s once at_here e cell is.endpoint old.cells told told_cells down))
       ∙ sym (list_any-append (cell_heard e cell) h.reported told)
 
   used_now : (a : AirCell) → IsLeftCell old.cells s a → 0 < used_mask ((ru_known c h.arrivals).claims (cell_in s a.prb))
@@ -283,6 +291,34 @@ module _ (c : Config) (old new : RuMemory) (clock : ℤ) (cursor : JobCursor) (h
       (λ now. any_elim (IsLeftCell old.cells s) (cell_heard e cell) told told_cells now (λ a own mine.
       subst (λ (x : Cell). 0 < used_mask ((ru_known c h.arrivals).claims x))
       (sym (cell_of_report c.endpoints s once at_here e cell is.endpoint old.cells a own down mine)) (used_now a own)))
+
+  differ_now : AreDifferent (h.reported ++ told)
+  differ_now =
+      heard_differ Ru (ru_known c h.arrivals) s.ep s.endpoint s.slot s.symbol h.reported told marked.more keeps.differ
+      (live_lookup c old clock cursor h keeps s at_here symbol.slot_is symbol.symbol_is live (sym symbol.starts) ∙ marked.left)
+
+  heard_now : (a : AirCell) → IsLeftCell old.cells s a → cell_heard s.endpoint (cell_in s a.prb) a ≡ true
+  heard_now a own =
+      and_from (same_way (is_down a.side) true) _ (ap (λ (x : Side). same_way (is_down x) true) own.side_is)
+      (and_from (a.id == s.endpoint.id) _ (eq-eqb a.id s.endpoint.id own.id)
+      (and_from (same_slot a.slot s.slot) _ (subst (λ (x : Slot). same_slot x s.slot ≡ true) (sym own.slot_is) (slot_own s.slot))
+      (and_from (a.symbol == s.symbol) (a.prb == a.prb) (eq-eqb a.symbol s.symbol own.symbol_is) (eq-eqb a.prb a.prb refl))))
+
+  owed_one : (a : AirCell) → IsLeftCell old.cells s a → IsOwed Ru c (ru_known c h.arrivals) a
+  owed_one a own = record {
+    endpoint = s.endpoint;
+    cell = cell_in s a.prb;
+    is_cell = cell_is c old clock cursor h keeps s at_here symbol.slot_is symbol.symbol_is live a.prb own.prb;
+    down = refl;
+    of_cell = heard_now a own;
+    starts = own.at_is ∙ symbol.starts;
+    used = used_now a own;
+  }
+
+  owed_now : All (IsOwed Ru c (ru_known c h.arrivals)) (h.reported ++ told)
+  owed_now =
+      All-append (IsOwed Ru c (ru_known c h.arrivals)) h.reported told keeps.owed
+      (All-weaker (IsLeftCell old.cells s) (IsOwed Ru c (ru_known c h.arrivals)) owed_one told told_cells)
 
   past_now : due_of c (heard h told) h.clock ≡ []
   past_now =
@@ -313,6 +349,8 @@ module _ (c : Config) (old new : RuMemory) (clock : ℤ) (cursor : JobCursor) (h
     marks = marks_now;
     past = past_now;
     told = told_now;
+    differ = differ_now;
+    owed = owed_now;
     left = λ to. left_same old.cells new.cells cursor to marked.marks.endpoints marked.marks.known.uplink ∙ keeps.left to;
     given = keeps.given;
   }

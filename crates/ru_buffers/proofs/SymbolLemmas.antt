@@ -111,11 +111,11 @@ kept_one p false true a h = ap (λ (b : Bool). cond b (a ∷ []) []) h
 kept_one p false false a h = ap (λ (b : Bool). cond b (a ∷ []) []) h
 
 one_cell : (e : EndpointConfig) (cell : Cell) (start : ℤ) (claims : ℕ → Option Claim) (block : Option Block) (heard : List AirCell) (done : Bool)
-    → done ≡ list_any (cell_heard e cell) heard
+    → cell.down ≡ true → done ≡ list_any (cell_heard e cell) heard
     → filter (unheard heard) (report_of Ru e cell start claims block) ≡ (if done then [] else report_of Ru e cell start claims block)
-one_cell e cell start claims block heard done is =
+one_cell e cell start claims block heard done down is =
     kept_one (unheard heard) (used_mask claims == 0) done (air_cell Ru e cell start claims block)
-    (ap not (reported_by_mark Ru e cell start claims block heard ∙ sym is))
+    (ap not (reported_by_mark Ru e cell start claims block heard down ∙ sym is))
 
 pub unused : (claims : ℕ → Option Claim) (n : ℕ) → ((re : ℕ) → claims re ≡ None) → used_below claims n ≡ 0
 unfolding used_below
@@ -245,7 +245,7 @@ module _ (c : Config) (m : RuMemory) (clock : ℤ) (cursor : JobCursor) (h : His
       let k = ru_known c h.arrivals in
       let done = cells_done m.cells cell in
       let start = air_of s.endpoint.numerology s.slot s.symbol in
-      one_cell s.endpoint cell start (k.claims cell) (k.blocks cell) h.reported done (keeps.marks s.endpoint cell (cell_is prb below) refl live_here)
+      one_cell s.endpoint cell start (k.claims cell) (k.blocks cell) h.reported done refl (keeps.marks s.endpoint cell (cell_is prb below) refl live_here)
       ∙ ap (λ (xs : List AirCell). if done then [] else xs)
       (report_same Ru s.endpoint cell start (k.claims cell) (cells_claim m.cells cell) (k.blocks cell) (cells_block m.cells cell)
       (λ re few. sym (claims_are prb re below few)) (sym (blocks_are prb below)))

@@ -1,6 +1,6 @@
 -- What a radio unit keeps in fixed memory, and the histories for which it stands: it answers for the slots that are live (this
 -- project's profile).
-use Rattle.std.specs.Prelude.{◌≡◌, ℤ, pos, ◌<◌, ◌+ℤ◌, ◌-ℤ◌, ◌≤ℤ◌, true, List, [], ◌++◌, Some}
+use Rattle.std.specs.Prelude.{◌≡◌, ℤ, pos, ◌<◌, ◌+ℤ◌, ◌-ℤ◌, ◌≤ℤ◌, true, All, List, [], ◌++◌, Some}
 use Rattle.std.specs.List.{list_any}
 use Rattle.air_source.specs.declared.events.Side.TheVariants.{Ru}
 use Rattle.window_config.specs.declared.config.Config.{Config}
@@ -9,7 +9,7 @@ use Rattle.unit_model.specs.Counts.{cells_counted}
 use Rattle.unit_model.specs.Proper.{IsTime}
 use Rattle.unit_model.specs.Radiated.{first_clock, used_mask}
 use Rattle.unit_model.specs.Reports.{accepted_of, ru_known}
-use Rattle.unit_model.specs.Standing.{History, IsCell, IsLiveAt, StandsBy, View, cell_heard, due, still_given}
+use Rattle.unit_model.specs.Standing.{AreDifferent, History, IsCell, IsLiveAt, IsOwed, StandsBy, View, cell_heard, due, still_given}
 use Rattle.unit_model.specs.Sweeps.{sweep}
 use Rattle.unit_model.specs.Uplink.{jobs}
 use Rattle.unit_model.specs.declared.cells.Cell.{Cell}
@@ -29,12 +29,9 @@ left_up_to v cursor to = sweep (jobs_left (cells_uplink v) cursor) (endpoints_of
 -- what contracts see of a unit's memory, its clock, and how far its messages were given
 abbrev pub view_of : RuMemory → ℤ → JobCursor → View
 view_of m clock cursor = record {
-  clock = clock;
-  counts = m.counters;
-  known = known_by m.cells;
+  kept = record { clock = clock; counts = m.counters; known = known_by m.cells; assembly = m.assembly };
   uplink = cells_uplink m.cells;
   done = cells_done m.cells;
-  assembly = m.assembly;
   jobs = left_up_to m.cells cursor;
 }
 
@@ -56,6 +53,8 @@ pub record Keeps (c : Config) (m : RuMemory) (clock : ℤ) (cursor : JobCursor) 
   pub past : due Ru c.delays c.endpoints (ru_known c h.arrivals) h.reported h.clock ≡ []
   pub told : (e : EndpointConfig) (cell : Cell) → IsCell c e cell → cell.down ≡ true → list_any (cell_heard e cell) h.reported ≡ true
       → 0 < used_mask ((ru_known c h.arrivals).claims cell)
+  pub differ : AreDifferent h.reported
+  pub owed : All (IsOwed Ru c (ru_known c h.arrivals)) h.reported
   pub left : (to : ℤ) → left_up_to m.cells cursor to ≡ still_given c (accepted_of c h.arrivals) h.given to
   pub given : h.given ++ still_given c (accepted_of c h.arrivals) h.given h.clock ≡ jobs c.endpoints (accepted_of c h.arrivals) h.clock
 

@@ -1,6 +1,7 @@
 // The unit's uplink messages, and its next moment.
 ghost use Rattle.std.specs.Prelude.{◌≡◌, [], IfNone, IfSome};
 ghost use Rattle.window_config.specs.declared.config.Config.{Config};
+ghost use Rattle.unit_model.specs.ProperJobs.{IsProperJob};
 ghost use Rattle.unit_model.specs.Standing.{History};
 ghost use Rattle.ru_buffers.specs.Calls.{earlier_time};
 
@@ -15,11 +16,13 @@ impl Ru {
     ghost use Rattle.ru_buffers.specs.Calls.{GivesJob, HasGivenPast, IsCellMoment, IsDue, IsMessageMoment, StandsFor, given_of};
 
     /// The next uplink message whose symbol starts at the clock or before it and that was not given: in the order of starts,
-    /// endpoints, slots, symbols, startPrbc, numPrbc, sectionId, filterIndex and acceptance. None where there is none, and then
-    /// nothing changes.
+    /// endpoints, slots, symbols, startPrbc, numPrbc, sectionId, filterIndex and acceptance. It is one of a symbol of an endpoint of
+    /// the configuration, and its PRBs are the carrier's. None where there is none, and then nothing changes, and the clock may go on.
     pub fn next_uplink(&mut self) -> Option<UplinkJob>
         ensures given { (c : Config) (h : History) → StandsFor c self.old h → IfSome result (λ job. GivesJob c h job self.new) }
         ensures none { (c : Config) (h : History) → StandsFor c self.old h → IfNone result (given_of c h h.clock ≡ []) }
+        ensures proper { (c : Config) (h : History) → StandsFor c self.old h → IfSome result (λ job. IsProperJob c.endpoints h.clock job) }
+        ensures ready { (c : Config) (h : History) → StandsFor c self.old h → IfNone result (HasGivenPast self.new) }
         ensures same { IfNone result (self.new ≡ self.old) }
         ensures clock { self.new.clock ≡ self.old.clock }
         ensures past { (c : Config) (h : History) → StandsFor c self.old h → HasGivenPast self.old → HasGivenPast self.new }

@@ -14,19 +14,21 @@ use Rattle.air_source.specs.declared.events.AirCell.{AirCell}
 use Rattle.eaxc_map.specs.Endpoints.{AppearOnce}
 use Rattle.window_config.specs.Endpoints.{ids_of}
 use Rattle.window_config.specs.declared.endpoints.EndpointConfig.{EndpointConfig}
-use Rattle.unit_model.specs.Claims.{same_slot}
+use Rattle.unit_model.specs.Claims.{same_slot, same_way}
 use Rattle.unit_model.specs.Lists.{each, each_tick}
 use Rattle.unit_model.specs.Proper.{IsAt}
+use Rattle.unit_model.specs.Radiated.{is_down}
 use Rattle.unit_model.specs.Standing.{same_cell}
 use Rattle.unit_model.specs.Sweeps.{OfSymbol, at_tick, first_swept, of_endpoint, of_endpoints, of_frame, of_slot, of_subframe, of_symbol, slot_at, sweep}
 use Rattle.unit_laws.specs.Due.{AreDifferent}
-use Rattle.unit_laws.proofs.CellLemmas.{slots_equal}
+use Rattle.unit_laws.proofs.CellLemmas.{slots_equal, ways_equal}
 use Rattle.unit_laws.proofs.FarLemmas.{endpoints_equal}
 use Rattle.unit_laws.proofs.SweepLemmas.{IsKept, each_related, of_symbol_related, of_slot_related, of_subframe_related, of_frame_related, of_endpoint_related, of_endpoints_related, at_tick_related, each_tick_related}
 
 -- ---- two reports of one cell
 
 pub record IsSame (a b : AirCell) : Type 0 where
+  pub way : is_down a.side ≡ is_down b.side
   pub id : a.id ≡ b.id
   pub slot : a.slot ≡ b.slot
   pub symbol : a.symbol ≡ b.symbol
@@ -34,10 +36,12 @@ pub record IsSame (a b : AirCell) : Type 0 where
 
 pub same_is : (a b : AirCell) → same_cell a b ≡ true → IsSame a b
 same_is a b h =
-    let one = and_parts (a.id == b.id) _ h in
+    let way = and_parts (same_way (is_down a.side) (is_down b.side)) _ h in
+    let one = and_parts (a.id == b.id) _ way.1 in
     let two = and_parts (same_slot a.slot b.slot) _ one.1 in
     let three = and_parts (a.symbol == b.symbol) (a.prb == b.prb) two.1 in
     record {
+      way = ways_equal (is_down a.side) (is_down b.side) way.0;
       id = eqb-true a.id b.id one.0;
       slot = slots_equal a.slot b.slot two.0;
       symbol = eqb-true a.symbol b.symbol three.0;
@@ -49,14 +53,19 @@ slot_self s =
     and_from (int_eq s.frame s.frame) ((s.subframe == s.subframe) && (s.slot == s.slot)) ((Decides-int_eq s.frame s.frame).1 refl)
     (and_from (s.subframe == s.subframe) (s.slot == s.slot) (eq-eqb s.subframe s.subframe refl) (eq-eqb s.slot s.slot refl))
 
+way_self : (a : Bool) → same_way a a ≡ true
+way_self true = refl
+way_self false = refl
+
 pub same_from : (a b : AirCell) → IsSame a b → same_cell a b ≡ true
 same_from a b is =
-    and_from (a.id == b.id) _ (eq-eqb a.id b.id is.id)
+    and_from (same_way (is_down a.side) (is_down b.side)) _ (subst (λ (w : Bool). same_way (is_down a.side) w ≡ true) is.way (way_self (is_down a.side)))
+    (and_from (a.id == b.id) _ (eq-eqb a.id b.id is.id)
     (and_from (same_slot a.slot b.slot) _ (subst (λ (s : Slot). same_slot a.slot s ≡ true) is.slot (slot_self a.slot))
-    (and_from (a.symbol == b.symbol) (a.prb == b.prb) (eq-eqb a.symbol b.symbol is.symbol) (eq-eqb a.prb b.prb is.prb)))
+    (and_from (a.symbol == b.symbol) (a.prb == b.prb) (eq-eqb a.symbol b.symbol is.symbol) (eq-eqb a.prb b.prb is.prb))))
 
 pub same_self : (a : AirCell) → same_cell a a ≡ true
-same_self a = same_from a a (record { id = refl; slot = refl; symbol = refl; prb = refl })
+same_self a = same_from a a (record { way = refl; id = refl; slot = refl; symbol = refl; prb = refl })
 
 abbrev pub IsOther : AirCell → AirCell → Type 0
 IsOther a b = same_cell a b ≡ false
@@ -69,7 +78,7 @@ both_ways true h k = cc
 both_ways false h k = cc
 
 pub other_swap : (a b : AirCell) → IsOther a b → IsOther b a
-other_swap a b h = other_from b a (λ is. both_ways (same_cell a b) (same_from a b (record { id = sym is.id; slot = sym is.slot; symbol = sym is.symbol; prb = sym is.prb })) h)
+other_swap a b h = other_from b a (λ is. both_ways (same_cell a b) (same_from a b (record { way = sym is.way; id = sym is.id; slot = sym is.slot; symbol = sym is.symbol; prb = sym is.prb })) h)
 
 -- ---- one list and then another
 

@@ -16,7 +16,7 @@ use Rattle.unit_model.specs.Radiated.{Known, air_cell, cell_report, first_clock,
 use Rattle.unit_model.specs.Standing.{due, is_reported, same_cell, still_reported}
 use Rattle.unit_model.specs.Sweeps.{sweep}
 use Rattle.unit_laws.specs.Due.{AreDifferent, ReportedAreDifferent, DueAreDifferent, AllIsDue, DueInPieces, DueOnce, DueAppends}
-use Rattle.unit_laws.proofs.DifferLemmas.{IsOther, IsOwn, TellsOwn, all_kept, differ-filter, differ-parts, each_differ, not_less, other_swap, same_self, sweep_differ}
+use Rattle.unit_laws.proofs.DifferLemmas.{IsOther, IsOwn, TellsOwn, all_kept, differ-append, differ-filter, differ-parts, each_differ, not_less, other_swap, same_self, sweep_differ}
 use Rattle.unit_laws.proofs.SweepLemmas.{IsKept, each_related, sweep_related, sweep-append, sweep-none, sweep-same}
 
 -- ---- filters
@@ -127,6 +127,52 @@ still_tells side k heard = record {
   own = λ ep e slot symbol. All-filter (unheard heard) (IsOwn e slot symbol) (symbol_report side k ep e slot symbol) (report_own side k ep e slot symbol);
   differ = λ ep e slot symbol. differ-filter (unheard heard) (symbol_report side k ep e slot symbol) (report_differ side k ep e slot symbol);
 }
+
+-- ---- what is still to be reported of a symbol differs from all that was heard
+
+differ-front : (xs ys : List AirCell) → AreDifferent (xs ++ ys) → AreDifferent xs
+differ-front [] ys h = tt
+differ-front (x ∷ xs) ys h = (front xs h.0, differ-front xs ys h.1)
+  where
+    front : (zs : List AirCell) → All (IsOther x) (zs ++ ys) → All (IsOther x) zs
+    front [] all = All-nil (IsOther x)
+    front (z ∷ zs) all = All-cons (IsOther x) z zs (All-head (IsOther x) z (zs ++ ys) all) (front zs (All-tail (IsOther x) z (zs ++ ys) all))
+
+one_passes : (p : AirCell → Bool) (b : Bool) (x : AirCell) (xs : List AirCell) → p x ≡ b → All (λ a. p a ≡ true) xs → All (λ a. p a ≡ true) (cond b (x ∷ xs) xs)
+one_passes p true x xs is rest = All-cons (λ a. p a ≡ true) x xs is rest
+one_passes p false x xs is rest = rest
+
+all_pass : (p : AirCell → Bool) (xs : List AirCell) → All (λ a. p a ≡ true) (filter p xs)
+all_pass p [] = All-nil (λ a. p a ≡ true)
+all_pass p (x ∷ xs) = one_passes p (p x) x (filter p xs) refl (all_pass p xs)
+
+none_same : (heard : List AirCell) (b : AirCell) → unheard heard b ≡ true → All (IsOther b) heard
+none_same [] b h = All-nil (IsOther b)
+none_same (a ∷ heard) b h = let parts = neither (same_cell b a) (is_reported heard b) h in All-cons (IsOther b) a heard parts.0 (none_same heard b parts.1)
+  where
+    neither : (x y : Bool) → not (x || y) ≡ true → (x ≡ false) × (not y ≡ true)
+    neither true y k = absurd cc
+    neither false y k = (refl, k)
+
+still_passes : (side : Side) (k : Known) (heard : List AirCell) (ep : ℕ) (e : EndpointConfig) (slot : Slot) (symbol : ℕ)
+    → All (λ a. unheard heard a ≡ true) (still_reported side k heard ep e slot symbol)
+unfolding still_reported
+still_passes side k heard ep e slot symbol = all_pass (unheard heard) (symbol_report side k ep e slot symbol)
+
+all_front : (P : AirCell → Type 0) (xs ys : List AirCell) → All P (xs ++ ys) → All P xs
+all_front P [] ys h = All-nil P
+all_front P (x ∷ xs) ys h = All-cons P x xs (All-head P x (xs ++ ys) h) (all_front P xs ys (All-tail P x (xs ++ ys) h))
+
+pub heard_differ : (side : Side) (k : Known) (ep : ℕ) (e : EndpointConfig) (slot : Slot) (symbol : ℕ) (heard told more : List AirCell) → AreDifferent heard
+    → still_reported side k heard ep e slot symbol ≡ told ++ more → AreDifferent (heard ++ told)
+heard_differ side k ep e slot symbol heard told more differ is =
+    let still = still_tells side k heard in
+    let apart : All (λ b. All (IsOther b) heard) told =
+    All-weaker (λ b. unheard heard b ≡ true) (λ b. All (IsOther b) heard) (λ b h. none_same heard b h) told
+    (all_front (λ b. unheard heard b ≡ true) told more (subst (All (λ b. unheard heard b ≡ true)) is (still_passes side k heard ep e slot symbol))) in
+    differ-append heard told differ (differ-front told more (subst AreDifferent is (still.differ ep e slot symbol)))
+    (All-weaker (λ a. All (λ b. IsOther b a) told) (λ a. All (IsOther a) told)
+    (λ a all. All-weaker (λ b. IsOther b a) (IsOther a) (λ b h. other_swap b a h) told all) heard (turned told heard apart))
 
 pub reported_differ : ReportedAreDifferent
 unfolding reported

@@ -21,3 +21,4 @@ pub mod FrameLemmas
 pub mod TickLemmas
 pub mod TouchLemmas
 pub mod EndLemmas
+pub mod BeginLemmas

@@ -16,8 +16,8 @@ use Rattle.unit_model.specs.Claims.{cell_at, cell_of, claim_at, covers, every_ce
 use Rattle.unit_model.specs.Commands.{is_uplink, uplink_in}
 use Rattle.unit_model.specs.Lists.{every, in_order, some}
 use Rattle.unit_model.specs.Proper.{IsAt, IsSlot}
-use Rattle.unit_model.specs.Radiated.{air_cell}
-use Rattle.unit_model.specs.Standing.{same_cell, uplink_of}
+use Rattle.unit_model.specs.Radiated.{air_cell, is_down}
+use Rattle.unit_model.specs.Standing.{cell_heard, same_cell, uplink_of}
 use Rattle.unit_model.specs.Uplink.{is_before, job_of, sends_in, symbol_jobs}
 use Rattle.unit_model.specs.declared.allocations.Allocation.{Allocation}
 use Rattle.unit_model.specs.declared.cells.Cell.{Cell}
@@ -193,6 +193,9 @@ any_same p q same [] = refl
 any_same p q same (x ∷ xs) = ap₂ ◌||◌ (same x) (any_same p q same xs)
 
 pub reported_by_mark : ReportedByMark
-reported_by_mark side e cell start claims block heard =
+reported_by_mark side e cell start claims block heard down =
     let r = air_cell side e cell start claims block in
-    any_same (same_cell r) (λ a. same_cell a r) (λ a. same_comm r a) heard
+    any_same (same_cell r) (cell_heard e cell) (λ a.
+    same_comm r a
+    ∙ ap (λ (w : Bool).
+    same_way (is_down a.side) w && ((a.id == e.id) && (same_slot a.slot cell.slot && ((a.symbol == cell.symbol) && (a.prb == cell.prb))))) (sym down)) heard

@@ -1,5 +1,5 @@
 -- What is due falls apart at each time: no cell is told twice, and what is told is due no more.
-use Rattle.std.specs.Prelude.{◌≡◌, ℤ, ◌≤ℤ◌, false, List, [], ◌∷◌, ◌++◌, All}
+use Rattle.std.specs.Prelude.{◌≡◌, ℤ, ◌≤ℤ◌, List, [], ◌++◌}
 use Rattle.air_source.specs.declared.events.AirCell.{AirCell}
 use Rattle.air_source.specs.declared.events.Side.{Side}
 use Rattle.eaxc_map.specs.Endpoints.{AppearOnce}
@@ -7,12 +7,8 @@ use Rattle.window_config.specs.Endpoints.{ids_of}
 use Rattle.window_config.specs.declared.delays.Delays.{Delays}
 use Rattle.window_config.specs.declared.endpoints.EndpointConfig.{EndpointConfig}
 use Rattle.unit_model.specs.Radiated.{Known, reported}
-use Rattle.unit_model.specs.Standing.{due, same_cell}
-
--- no two of these are reports of one cell
-abbrev pub AreDifferent : List AirCell → Type 0
-AreDifferent [] = Unit {0}
-AreDifferent (a ∷ rest) = All (λ b. same_cell a b ≡ false) rest × AreDifferent rest
+use Rattle.unit_model.specs.Standing.{due}
+pub use Rattle.unit_model.specs.Standing.{AreDifferent}
 
 -- there is at most one report for a cell, among all that is reported up to a time, and among what is due
 abbrev pub ReportedAreDifferent : Type 0

@@ -14,3 +14,4 @@ pub mod Runs
 pub mod Ticks
 pub mod Ends
 pub mod Touched
+pub mod Begins

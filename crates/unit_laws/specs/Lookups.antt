@@ -10,7 +10,7 @@ use Rattle.unit_model.specs.Blocks.{block_at, data_covers, every_data_cell, has_
 use Rattle.unit_model.specs.Claims.{claim_at, covers, every_cell, is_claimed, is_overlapped, overlaps, repeats, some_cell}
 use Rattle.unit_model.specs.Commands.{uplink_in}
 use Rattle.unit_model.specs.Proper.{IsProperAllocation, IsProperData, IsSlot}
-use Rattle.unit_model.specs.Radiated.{air_cell}
+use Rattle.unit_model.specs.Radiated.{air_cell, is_down}
 use Rattle.unit_model.specs.Standing.{IsCell, cell_heard, is_reported, uplink_of}
 use Rattle.unit_model.specs.Uplink.{symbol_jobs}
 use Rattle.unit_model.specs.declared.allocations.Allocation.{Allocation}
@@ -60,8 +60,8 @@ JobsAreOfTheirSlot =
     (earlier : List Allocation) (ep : ℕ) (e : EndpointConfig) (slot : Slot) (symbol : ℕ)
     → symbol_jobs earlier ep e slot symbol ≡ symbol_jobs (uplink_of ep slot earlier) ep e slot symbol
 
--- a cell was reported where its mark says so
+-- a cell of the unit's direction was reported where its mark says so
 abbrev pub ReportedByMark : Type 0
 ReportedByMark =
     (side : Side) (e : EndpointConfig) (cell : Cell) (start : ℤ) (claims : ℕ → Option Claim) (block : Option Block) (heard : List AirCell)
-    → is_reported heard (air_cell side e cell start claims block) ≡ list_any (cell_heard e cell) heard
+    → cell.down ≡ is_down side → is_reported heard (air_cell side e cell start claims block) ≡ list_any (cell_heard e cell) heard

@@ -6,6 +6,7 @@
 #![tactic(auto)]
 
 ghost use Rattle.unit_laws.specs.Acceptance.{AcceptedIsAcceptable};
+ghost use Rattle.unit_laws.specs.Begins.{PlanBegins};
 ghost use Rattle.unit_laws.specs.Changes.{OnlyAcceptedClaims, ClaimsStay, OnlyTimelyGives, BlocksStay};
 ghost use Rattle.unit_laws.specs.Due.{ReportedAreDifferent, DueAreDifferent, AllIsDue, DueInPieces, DueOnce, DueAppends};
 ghost use Rattle.unit_laws.specs.Ends.{CellsEnd, JobsEnd, NoCellsLater, NoJobsLater};
@@ -253,4 +254,9 @@ pub fn all_is_told()
     ensures no_jobs { NoJobsLater }
     ensures cells { CellsEnd }
     ensures jobs { JobsEnd }
+{}
+
+/// The distributed unit stands for the history of nothing before anything has arrived, whatever is planned.
+pub fn plan_begins()
+    ensures { PlanBegins }
 {}

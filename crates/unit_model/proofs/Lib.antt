@@ -10,3 +10,4 @@ pub mod OntoLemmas
 pub mod SectionLemmas
 pub mod UplinkLaws
 pub mod ReachLaws
+pub mod VerdictLemmas

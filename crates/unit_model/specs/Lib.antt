@@ -14,6 +14,7 @@ pub mod Radiated
 pub mod Uplink
 pub mod Counts
 pub mod Reports
+pub mod ProperJobs
 pub mod Standing
 pub mod Met
 pub mod Starts

@@ -3,6 +3,7 @@ use Rattle.std.proofs.lemmas.List.Elements.{All-rest}
 use Rattle.std.proofs.lemmas.Result.{IfErr-weaker}
 use Rattle.air_source.specs.declared.airs.AirFault.{AirFault}
 use Rattle.frame_network.specs.declared.arrivals.Arrival.{Arrival as Flying}
+use Rattle.air_source.specs.declared.events.Side.TheVariants.{Ru as AtRu}
 use Rattle.replay_events.specs.Events.{arrival_event}
 use Rattle.ru_buffers.specs.Calls.{StandsFor}
 use Rattle.ru_buffers.specs.declared.unit.Ru.{Ru}
@@ -42,7 +43,7 @@ loop-arrival-preserved g c =
     let told = c.in_ok-hear.ensures in
     let at : a.at.0 ≡ tick.0 = same_tick a.at.0 tick.0 (of_tick (λ (x : Flying). tick.0 ≤ℤ x.at.0) a before rest left old.flying) c.in-Some.ensures.due in
     let is = c.as_slice.ensures in
-    let heard = subst (λ (f : List ℕ). g.A.Air.grew c.loop-arrival.out (arrival_event (arrival_at tick.0 f) ∷ []) c.hear.new.out) is told.heard in
+    let heard = subst (λ (f : List ℕ). g.A.Air.grew c.loop-arrival.out (arrival_event AtRu (arrival_at tick.0 f) ∷ []) c.hear.new.out) is told.heard in
     let delivers : (k : Config) (h : History) → StandsFor k c.loop-arrival.ru h → StandsFor k c.hear.new.ru (arrived h a.frame) =
     λ k h stands. subst (λ (f : List ℕ). StandsFor k c.hear.new.ru (arrived h f)) is (told.stands k h stands) in
     let first = old.later in
@@ -73,10 +74,10 @@ returns-in_err-hear-clause-stop g c k h stands =
     let rest = c.next_until.new.self in
     let left = c.in-Some.ensures.left in
     let at : a.at.0 ≡ tick.0 = same_tick a.at.0 tick.0 (of_tick (λ (x : Flying). tick.0 ≤ℤ x.at.0) a before rest left old.flying) c.in-Some.ensures.due in
-    let here : (f : AirFault) → g.A.Air.stopped f c.loop-arrival.out (arrival_event (arrival_at tick.0 c.as_slice.result.now)) c.hear.new.out
+    let here : (f : AirFault) → g.A.Air.stopped f c.loop-arrival.out (arrival_event AtRu (arrival_at tick.0 c.as_slice.result.now)) c.hear.new.out
     → StopsLanding g.A.Air.grew (g.A.Air.stopped f) k h (flying_at tick.0 c.args.in_flight.now) c.hear.new.ru c.args.out.now c.hear.new.out =
     λ f stop.
-    let stopped = subst (λ (bytes : List ℕ). g.A.Air.stopped f c.loop-arrival.out (arrival_event (arrival_at tick.0 bytes)) c.hear.new.out) c.as_slice.ensures stop in
+    let stopped = subst (λ (bytes : List ℕ). g.A.Air.stopped f c.loop-arrival.out (arrival_event AtRu (arrival_at tick.0 bytes)) c.hear.new.out) c.as_slice.ensures stop in
     let stops = stops_here g.A.Air.grew (g.A.Air.stopped f) tick a c.args.ru.now c.loop-arrival.ru c.args.in_flight.now before rest
     c.args.out.now c.loop-arrival.out c.hear.new.out k h left at old.lands stopped stands in
     subst (λ (u : Ru). StopsLanding g.A.Air.grew (g.A.Air.stopped f) k h (flying_at tick.0 c.args.in_flight.now) u c.args.out.now c.hear.new.out)
@@ -88,7 +89,7 @@ returns-clause-heard g c =
     let old = c.loop-arrival.invariant in
     let from = later_from c.args.tick.0 c.loop-arrival.in_flight c.in_default.ensures.none in
     let all = gone_all g.A.Air.grew c.args.tick.0 c.args.ru.now c.loop-arrival.ru c.args.in_flight.now c.loop-arrival.in_flight c.args.out.now c.loop-arrival.out old.lands from in
-    subst (λ (xs : List Arrival). g.A.Air.grew c.args.out.now (map arrival_event xs) c.loop-arrival.out) all old.lands.heard
+    subst (λ (xs : List Arrival). g.A.Air.grew c.args.out.now (map (arrival_event AtRu) xs) c.loop-arrival.out) all old.lands.heard
 
 pub returns-clause-stands : goal.returns-clause-stands
 returns-clause-stands g c k h stands =

@@ -4,6 +4,7 @@ use Rattle.air_source.specs.declared.airs.AirFault.TheVariants.{Failed, NoMemory
 use Rattle.air_source.specs.declared.events.Event.{Event}
 use Rattle.air_source.specs.declared.events.Event.TheVariants.{Cell}
 use Rattle.fh_time.specs.declared.values.Ticks.{Ticks}
+use Rattle.air_source.specs.declared.events.Side.TheVariants.{Ru as AtRu}
 use Rattle.replay_events.specs.Events.{arrival_event}
 use Rattle.replay_events.proofs.TickLemmas.{same_most}
 use Rattle.ru_buffers.specs.Reporting.{due_of}
@@ -101,7 +102,7 @@ returns-clause-heard g c =
     let flying = flying_at tick c.inject.new.coming.in_flight in
     let lands = flies_here d tick c.args.coming.now c.inject.new.coming c.requires.waits c.in-Ok.ensures in
     subst (λ (es : List Event). g.A.Air.grew c.args.out.now es c.land.new.out) (heard_then d tick c.args.ru.now flying c.requires.document a c.requires.ended lands)
-    (g.met.A.Air.grew_more c.args.out.now c.advance.new.air c.land.new.out (map Cell (due_of d.config a.history tick)) (map arrival_event flying)
+    (g.met.A.Air.grew_more c.args.out.now c.advance.new.air c.land.new.out (map Cell (due_of d.config a.history tick)) (map (arrival_event AtRu) flying)
     (c.in_ok-advance.ensures.heard d.config a.history a.stands) c.in_ok-land.ensures.heard)
 
 pub returns-clause-turn : goal.returns-clause-turn
