@@ -3,7 +3,8 @@ use Rattle.std.proofs.Common.{◌≡◌, ℕ, ℤ, zero, suc, ◌+◌, ◌*◌, 
 use Rattle.std.specs.Prelude.{All, if◌then◌else◌}
 use Rattle.std.proofs.lemmas.Int.{ints}
 use Rattle.fh_time.specs.Air.{air_of}
-use Rattle.air_source.specs.declared.events.Side.TheVariants.{Ru}
+use Rattle.air_source.specs.declared.events.Side.{Side}
+use Rattle.air_source.specs.declared.events.Side.TheVariants.{Ru, Du}
 use Rattle.window_config.specs.declared.config.Config.{Config}
 use Rattle.window_config.specs.declared.endpoints.EndpointConfig.{EndpointConfig}
 use Rattle.unit_model.specs.Blocks.{timely}
@@ -13,7 +14,7 @@ use Rattle.unit_model.specs.Meetings.{Arrival}
 use Rattle.unit_model.specs.Proper.{IsProperCommand, IsProperData}
 use Rattle.unit_model.specs.Radiated.{is_used, known_of, reported, used_below, used_mask}
 use Rattle.unit_model.specs.Reports.{accepted_of, commands_of, data_of, hold_of, ru_known, timely_of}
-use Rattle.unit_model.specs.Standing.{due}
+use Rattle.unit_model.specs.Standing.{due, past_of}
 use Rattle.unit_model.specs.Uplink.{jobs, symbol_jobs}
 use Rattle.unit_model.specs.declared.cells.Claim.{Claim}
 use Rattle.unit_model.specs.declared.decoded.Command.{Command}
@@ -57,14 +58,14 @@ new_commands c a arrivals next =
       all = λ i x at. record { came = added.all i x at; proper = proper i x at; ordered = ordered i x at };
     }
 
-new_data : (c : Config) (a : Arrival) (arrivals : List Arrival) → IsNextArrival c a arrivals
-    → IsAdded (IsNewData c.endpoints a.at) (data_of Ru c arrivals) (data_of Ru c (a ∷ arrivals))
-new_data c a arrivals next =
+new_data : (side : Side) (c : Config) (a : Arrival) (arrivals : List Arrival) → IsNextArrival c a arrivals
+    → IsAdded (IsNewData c.endpoints a.at) (data_of side c arrivals) (data_of side c (a ∷ arrivals))
+new_data side c a arrivals next =
     let es = c.endpoints in
-    let added = data_added Ru (hold_of Ru c.delays) es a arrivals in
+    let added = data_added side (hold_of side c.delays) es a arrivals in
     let proper =
-    in_front (IsProperData es) added.front (data_of Ru c arrivals)
-    (subst (All (IsProperData es)) added.is (data_are_proper Ru c a.at (a ∷ arrivals) (same_most a.at, next.came) next.times)) in
+    in_front (IsProperData es) added.front (data_of side c arrivals)
+    (subst (All (IsProperData es)) added.is (data_are_proper side c a.at (a ∷ arrivals) (same_most a.at, next.came) next.times)) in
     record { front = added.front; is = added.is; all = λ i x at. record { came = added.all i x at; proper = proper i x at } }
 
 -- ---- what is told by its time
@@ -80,34 +81,47 @@ commands_leave c a arrivals f next one =
     let added = new_commands c a arrivals next in
     ap f added.is ∙ all_leave (IsNewCommand c.endpoints a.at) f one added.front (commands_of Ru c arrivals) added.all
 
-data_leave : {X : Type 0} (c : Config) (a : Arrival) (arrivals : List Arrival) (f : List Data → X) → IsNextArrival c a arrivals
+data_leave : {X : Type 0} (side : Side) (c : Config) (a : Arrival) (arrivals : List Arrival) (f : List Data → X) → IsNextArrival c a arrivals
     → ((x : Data) (earlier : List Data) → IsNewData c.endpoints a.at x → f (x ∷ earlier) ≡ f earlier)
-    → f (data_of Ru c (a ∷ arrivals)) ≡ f (data_of Ru c arrivals)
-data_leave c a arrivals f next one =
-    let added = new_data c a arrivals next in
-    ap f added.is ∙ all_leave (IsNewData c.endpoints a.at) f one added.front (data_of Ru c arrivals) added.all
+    → f (data_of side c (a ∷ arrivals)) ≡ f (data_of side c arrivals)
+data_leave side c a arrivals f next one =
+    let added = new_data side c a arrivals next in
+    ap f added.is ∙ all_leave (IsNewData c.endpoints a.at) f one added.front (data_of side c arrivals) added.all
+
+past_then : (side : Side) (to at came : ℤ) → to ≤ℤ past_of side at → came ≡ at → to ≤ℤ past_of side came
+past_then side to at came past is = subst (λ (t : ℤ). to ≤ℤ past_of side t) (sym is) past
 
 pub arrival_leaves_due : ArrivalLeavesDue
-arrival_leaves_due c a arrivals heard to next past =
+arrival_leaves_due Ru c planned a arrivals heard to next past =
     let es = c.endpoints in
     let d = c.delays in
     let given = timely_of Ru c (a ∷ arrivals) in
     let claimed = accepted_of c arrivals in
     commands_leave c a arrivals (λ xs. due Ru d es (known_of (accepted d xs) given) heard to) next (λ x earlier is.
     command_leaves_due es d x earlier given heard to next.limits is.proper is.ordered (by_then to a.at x.at.0 past is.came))
-    ∙ data_leave c a arrivals (λ xs. due Ru d es (known_of claimed (timely Ru d xs)) heard to) next (λ x earlier is.
-    data_leave_due es d x earlier claimed heard to next.limits is.proper (by_then to a.at x.last.0 past is.came))
+    ∙ data_leave Ru c a arrivals (λ xs. due Ru d es (known_of claimed (timely Ru d xs)) heard to) next (λ x earlier is.
+    data_leave_due Ru es d x earlier claimed heard to next.limits is.proper (past_then Ru to a.at x.last.0 past is.came))
+arrival_leaves_due Du c planned a arrivals heard to next past =
+    let es = c.endpoints in
+    let d = c.delays in
+    data_leave Du c a arrivals (λ xs. due Du d es (known_of planned (timely Du d xs)) heard to) next (λ x earlier is.
+    data_leave_due Du es d x earlier planned heard to next.limits is.proper (past_then Du to a.at x.last.0 past is.came))
 
 pub arrival_leaves_reported : ArrivalLeavesReported
-arrival_leaves_reported c a arrivals to next past =
+arrival_leaves_reported Ru c planned a arrivals to next past =
     let es = c.endpoints in
     let d = c.delays in
     let given = timely_of Ru c (a ∷ arrivals) in
     let claimed = accepted_of c arrivals in
     commands_leave c a arrivals (λ xs. reported Ru d es (known_of (accepted d xs) given) to) next (λ x earlier is.
     command_leaves_reported es d x earlier given to next.limits is.proper is.ordered (by_then to a.at x.at.0 past is.came))
-    ∙ data_leave c a arrivals (λ xs. reported Ru d es (known_of claimed (timely Ru d xs)) to) next (λ x earlier is.
-    data_leave_reported es d x earlier claimed to next.limits is.proper (by_then to a.at x.last.0 past is.came))
+    ∙ data_leave Ru c a arrivals (λ xs. reported Ru d es (known_of claimed (timely Ru d xs)) to) next (λ x earlier is.
+    data_leave_reported Ru es d x earlier claimed to next.limits is.proper (past_then Ru to a.at x.last.0 past is.came))
+arrival_leaves_reported Du c planned a arrivals to next past =
+    let es = c.endpoints in
+    let d = c.delays in
+    data_leave Du c a arrivals (λ xs. reported Du d es (known_of planned (timely Du d xs)) to) next (λ x earlier is.
+    data_leave_reported Du es d x earlier planned to next.limits is.proper (past_then Du to a.at x.last.0 past is.came))
 
 pub arrival_leaves_sent : ArrivalLeavesSent
 arrival_leaves_sent c a arrivals to next past =

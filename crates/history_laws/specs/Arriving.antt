@@ -1,20 +1,22 @@
--- What one more arrival at the radio unit leaves as it was: all that is told, or sent, by the time at which it comes, and every claim
--- (this project's profile).
+-- What one more arrival at a unit leaves as it was: all whose moment is past when it comes; and at the radio unit all that is sent by then,
+-- and every claim (this project's profile).
 use Rattle.std.specs.Prelude.{◌≡◌, ℕ, ℤ, ◌<◌, ◌≤ℤ◌, List, ◌∷◌, All, Some}
 use Rattle.fh_time.specs.Air.{air_of}
 use Rattle.fh_time.specs.declared.values.Slot.{Slot}
 use Rattle.air_source.specs.declared.events.AirCell.{AirCell}
-use Rattle.air_source.specs.declared.events.Side.TheVariants.{Ru}
+use Rattle.air_source.specs.declared.events.Side.{Side}
+use Rattle.air_source.specs.declared.events.Side.TheVariants.{Ru, Du}
 use Rattle.window_config.specs.Limits.{IsWithinLimits}
 use Rattle.window_config.specs.declared.config.Config.{Config}
 use Rattle.window_config.specs.declared.endpoints.EndpointConfig.{EndpointConfig}
 use Rattle.unit_model.specs.Claims.{claim_at}
 use Rattle.unit_model.specs.Meetings.{Arrival}
 use Rattle.unit_model.specs.Proper.{IsAt, IsTime}
-use Rattle.unit_model.specs.Radiated.{used_mask}
-use Rattle.unit_model.specs.Reports.{accepted_of, ru_known, ru_reported}
-use Rattle.unit_model.specs.Standing.{AreInTime, due}
+use Rattle.unit_model.specs.Radiated.{Known, reported, used_mask}
+use Rattle.unit_model.specs.Reports.{accepted_of, du_known, ru_known}
+use Rattle.unit_model.specs.Standing.{AreInTime, due, past_of}
 use Rattle.unit_model.specs.Uplink.{jobs, symbol_jobs}
+use Rattle.unit_model.specs.declared.allocations.Allocation.{Allocation}
 use Rattle.unit_model.specs.declared.cells.Cell.{Cell}
 use Rattle.unit_model.specs.declared.cells.Claim.{Claim}
 
@@ -24,15 +26,26 @@ pub record IsNextArrival (c : Config) (a : Arrival) (arrivals : List Arrival) : 
   pub came : AreInTime a.at arrivals
   pub times : All (λ x. IsTime x.at) (a ∷ arrivals)
 
+-- what a unit is to know, where these are planned and these arrived at it
+abbrev pub known_at : Side → Config → List Allocation → List Arrival → Known
+known_at Ru c planned arrivals = ru_known c arrivals
+known_at Du c planned arrivals = du_known c planned arrivals
+
+-- what it reports up to a time
+abbrev pub reported_at : Side → Config → List Allocation → List Arrival → ℤ → List AirCell
+reported_at side c planned arrivals to = reported side c.delays c.endpoints (known_at side c planned arrivals) to
+
 abbrev pub ArrivalLeavesDue : Type 0
 ArrivalLeavesDue =
-    (c : Config) (a : Arrival) (arrivals : List Arrival) (heard : List AirCell) (to : ℤ) → IsNextArrival c a arrivals → to ≤ℤ a.at
-    → due Ru c.delays c.endpoints (ru_known c (a ∷ arrivals)) heard to ≡ due Ru c.delays c.endpoints (ru_known c arrivals) heard to
+    (side : Side) (c : Config) (planned : List Allocation) (a : Arrival) (arrivals : List Arrival) (heard : List AirCell) (to : ℤ)
+    → IsNextArrival c a arrivals → to ≤ℤ past_of side a.at
+    → due side c.delays c.endpoints (known_at side c planned (a ∷ arrivals)) heard to
+    ≡ due side c.delays c.endpoints (known_at side c planned arrivals) heard to
 
 abbrev pub ArrivalLeavesReported : Type 0
 ArrivalLeavesReported =
-    (c : Config) (a : Arrival) (arrivals : List Arrival) (to : ℤ) → IsNextArrival c a arrivals → to ≤ℤ a.at
-    → ru_reported c (a ∷ arrivals) to ≡ ru_reported c arrivals to
+    (side : Side) (c : Config) (planned : List Allocation) (a : Arrival) (arrivals : List Arrival) (to : ℤ) → IsNextArrival c a arrivals → to ≤ℤ past_of side a.at
+    → reported_at side c planned (a ∷ arrivals) to ≡ reported_at side c planned arrivals to
 
 abbrev pub ArrivalLeavesSent : Type 0
 ArrivalLeavesSent =

@@ -23,7 +23,7 @@ pub fn nothing_is_nothing()
     ensures jobs { NothingIsNothing UplinkJob }
 {}
 
-/// An arrival changes nothing of what is reported, due or sent by the time at which it comes.
+/// An arrival changes nothing of what is reported or due whose moment is past when it comes, at either unit, nor of what is sent by then.
 pub fn arrival_leaves_told()
     ensures due { ArrivalLeavesDue }
     ensures reported { ArrivalLeavesReported }

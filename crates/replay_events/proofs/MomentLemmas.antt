@@ -84,8 +84,8 @@ cells_settled c x t config are begun ended =
     let last = t -ℤ pos 1 in
     let end = end_of_time +ℤ pos 1 in
     let order = next_most t end_of_time ended in
-    let before : reported Ru d es all last ≡ reported Ru d es now last = reported_settled c landings last t end config are begun (last_is_earlier t) order in
-    let up_to : reported Ru d es all t ≡ reported Ru d es now t = reported_settled c landings t t end config are begun (same_most t) order in
+    let before : reported Ru d es all last ≡ reported Ru d es now last = reported_settled Ru c [] landings last t end config are begun (last_is_earlier t) order in
+    let up_to : reported Ru d es all t ≡ reported Ru d es now t = reported_settled Ru c [] landings t t end config are begun (same_most t) order in
     same_parts (reported Ru d es all last) (at_tick (symbol_report Ru all) es t) (reported Ru d es now last) (at_tick (symbol_report Ru now) es t) before
     (sym (reported_at_tick d es all t begun) ∙ up_to ∙ reported_at_tick d es now t begun)
 
@@ -133,7 +133,7 @@ module _ (c : Config) (x : Traffic) (now tick : ℤ) (next : IsNextMoment c x no
       ap (λ (xs : List AirCell). reported Ru d es then_known (now -ℤ pos 1) ++ xs) (sym (rest_then ended))
       ∙ sym (reported_parts d es then_known now tick next.begun (next_most now tick next.order))
       ∙ ap (λ (xs : List Arrival). ru_reported c xs tick) (sym calm_before)
-      ∙ sym (reported_settled c landings tick tick (tick +ℤ pos 1) next.config next.landings_are (at_most first_clock now tick next.begun next.order) (same_most tick)
+      ∙ sym (reported_settled Ru c [] landings tick tick (tick +ℤ pos 1) next.config next.landings_are (at_most first_clock now tick next.begun next.order) (same_most tick)
       (next_is_later tick))
 
   reported_until : ru_reported c (arrivals_before landings now) (now -ℤ pos 1) ≡ ru_reported c (arrivals_before landings tick) (tick -ℤ pos 1)

@@ -1,7 +1,10 @@
 -- What lands later changes nothing of what is reported, or sent, by now.
-use Rattle.std.proofs.Common.{◌≡◌, ℤ, pos, ◌-ℤ◌, ◌≤ℤ◌, List, [], ◌∷◌, refl, sym, ap, ◌∙◌, subst}
+use Rattle.std.proofs.Common.{◌≡◌, ℤ, pos, ◌-ℤ◌, ◌≤ℤ◌, List, [], ◌∷◌, refl, sym, ap, ◌∙◌, subst, arith}
 use Rattle.std.specs.Prelude.{All}
 use Rattle.std.proofs.lemmas.List.Elements.{All-cons, All-head, All-tail}
+use Rattle.air_source.specs.declared.events.Side.{Side}
+use Rattle.air_source.specs.declared.events.Side.TheVariants.{Ru, Du}
+use Rattle.std.proofs.lemmas.Int.{ints}
 use Rattle.window_config.specs.Configs.{IsConfig}
 use Rattle.window_config.specs.Limits.{IsWithinLimits}
 use Rattle.window_config.specs.declared.config.Config.{Config}
@@ -9,12 +12,13 @@ use Rattle.unit_model.specs.Lists.{onto}
 use Rattle.unit_model.specs.Meetings.{Arrival}
 use Rattle.unit_model.specs.Proper.{IsTime}
 use Rattle.unit_model.specs.Radiated.{first_clock}
-use Rattle.unit_model.specs.Reports.{accepted_of, ru_reported}
-use Rattle.unit_model.specs.Standing.{AreInTime}
+use Rattle.unit_model.specs.Reports.{accepted_of}
+use Rattle.unit_model.specs.Standing.{AreInTime, past_of}
 use Rattle.unit_model.specs.Uplink.{jobs}
 use Rattle.history_laws.specs.Arriving.{IsNextArrival}
 use Rattle.history_laws.proofs.ArrivingLemmas.{arrival_leaves_reported, arrival_leaves_sent}
 use Rattle.replay_events.specs.Moments.{arrivals_before, landing_at}
+use Rattle.replay_events.specs.Traffic.{reported_at}
 use Rattle.replay_events.specs.Passing.{AreLandings, MessagesAreSettled, ReportedIsSettled}
 use Rattle.replay_events.proofs.CameLemmas.{arrivals_go_on, arrivals_in_time, in_time_later, in_time_next, landed_then, landed_times}
 use Rattle.replay_events.proofs.TickLemmas.{at_most, between, last_is_earlier}
@@ -55,10 +59,17 @@ settled c landings f tick later config are begun order one =
 by_then : (to tick t at : ℤ) → to ≤ℤ tick → tick ≤ℤ t → at ≡ t → to ≤ℤ at
 by_then to tick t at past low is = subst (λ (u : ℤ). to ≤ℤ u) (sym is) (at_most to tick t past low)
 
+past_then : (side : Side) (to tick t at : ℤ) → to ≤ℤ past_of side tick → tick ≤ℤ t → at ≡ t → to ≤ℤ past_of side at
+past_then Ru to tick t at past low is = by_then to tick t at past low is
+past_then Du to tick t at past low is = subst (λ (u : ℤ). to ≤ℤ (u -ℤ pos 1)) (sym is) (at_most to (tick -ℤ pos 1) (t -ℤ pos 1) past (less tick t low))
+  where
+    less : (a b : ℤ) → a ≤ℤ b → (a -ℤ pos 1) ≤ℤ (b -ℤ pos 1)
+    less a b h = omega (arith, ints)
+
 pub reported_settled : ReportedIsSettled
-reported_settled c landings to tick later config are begun past order =
-    settled c landings (λ (xs : List Arrival). ru_reported c xs to) tick later config are begun order (λ t low a earlier next is.
-    arrival_leaves_reported c a earlier to next (by_then to tick t a.at past low is))
+reported_settled side c planned landings to tick later config are begun past order =
+    settled c landings (λ (xs : List Arrival). reported_at side c planned xs to) tick later config are begun order (λ t low a earlier next is.
+    arrival_leaves_reported side c planned a earlier to next (past_then side to tick t a.at past low is))
 
 pub messages_settled : MessagesAreSettled
 messages_settled c landings to tick later config are begun past order =

@@ -1,6 +1,7 @@
 -- What a replay's loop rests on as time passes.
 use Rattle.std.specs.Prelude.{◌≡◌, ℤ, pos, ◌+ℤ◌, ◌-ℤ◌, ◌≤ℤ◌, ◌<ℤ◌, List, [], ◌++◌, All}
 use Rattle.air_source.specs.declared.events.AirCell.{AirCell}
+use Rattle.air_source.specs.declared.events.Side.{Side}
 use Rattle.air_source.specs.declared.events.Side.TheVariants.{Ru}
 use Rattle.window_config.specs.Configs.{IsConfig}
 use Rattle.window_config.specs.declared.config.Config.{Config}
@@ -9,12 +10,13 @@ use Rattle.unit_model.specs.Meetings.{Arrival}
 use Rattle.unit_model.specs.Proper.{IsTime}
 use Rattle.unit_model.specs.Radiated.{first_clock}
 use Rattle.unit_model.specs.Reports.{accepted_of, ru_known, ru_reported}
-use Rattle.unit_model.specs.Standing.{AreInTime, due}
+use Rattle.unit_model.specs.Standing.{AreInTime, due, past_of}
 use Rattle.unit_model.specs.Uplink.{jobs}
 use Rattle.replay_events.specs.Alone.{IsDuIdle}
 use Rattle.replay_events.specs.Events.{cells_at, events_at, events_between}
 use Rattle.replay_events.specs.Moments.{all_arrivals, arrivals_before, end_of_time, landing_at}
-use Rattle.replay_events.specs.Traffic.{Traffic}
+use Rattle.replay_events.specs.Traffic.{Traffic, reported_at}
+use Rattle.unit_model.specs.declared.allocations.Allocation.{Allocation}
 
 -- frames that may be replayed
 pub record AreLandings (landings : List Arrival) : Type 0 where
@@ -51,11 +53,12 @@ ArrivalsAreInTime =
 
 -- ---- what is reported
 
--- what lands at a tick or later changes nothing of what is reported up to it, nor of the messages
+-- what lands at a unit at a tick or later changes nothing of what it reports whose moment is past then, nor of the messages
 abbrev pub ReportedIsSettled : Type 0
 ReportedIsSettled =
-    (c : Config) (landings : List Arrival) (to tick later : ℤ) → IsConfig c → AreLandings landings → first_clock ≤ℤ tick → to ≤ℤ tick → tick ≤ℤ later
-    → ru_reported c (arrivals_before landings later) to ≡ ru_reported c (arrivals_before landings tick) to
+    (side : Side) (c : Config) (planned : List Allocation) (landings : List Arrival) (to tick later : ℤ) → IsConfig c → AreLandings landings
+    → first_clock ≤ℤ tick → to ≤ℤ past_of side tick → tick ≤ℤ later
+    → reported_at side c planned (arrivals_before landings later) to ≡ reported_at side c planned (arrivals_before landings tick) to
 
 abbrev pub MessagesAreSettled : Type 0
 MessagesAreSettled =

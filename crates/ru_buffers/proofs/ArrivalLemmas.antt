@@ -1,5 +1,5 @@
 -- A unit stands for its history and an arrival, once that was treated.
-use Rattle.std.proofs.Common.{◌≡◌, ℕ, ℤ, pos, ◌≤◌, ◌+ℤ◌, ◌≤ℤ◌, ◌<ℤ◌, ◌^◌, ◌||◌, ◌&&◌, Bool, true, false, List, ◌∷◌, ◌++◌, length, drop, refl, sym, ap, ap₂, ◌∙◌, subst, arith, length-append}
+use Rattle.std.proofs.Common.{◌≡◌, ℕ, ℤ, pos, ◌≤◌, ◌+ℤ◌, ◌≤ℤ◌, ◌<ℤ◌, ◌^◌, ◌||◌, ◌&&◌, Bool, true, false, List, [], ◌∷◌, ◌++◌, length, drop, refl, sym, ap, ap₂, ◌∙◌, subst, arith, length-append}
 use Rattle.std.specs.Prelude.{Option, Some, None, int_lt}
 use Rattle.std.specs.Ordering.{int_eq}
 use Rattle.std.proofs.lemmas.Int.{ints, by_lt_z}
@@ -169,7 +169,7 @@ module _ (c : Config) (m m2 : RuMemory) (clock : ℤ) (cursor : JobCursor) (h : 
     since = k.since;
     within = k.within;
     marks = λ e cell is down live. marks e cell is live ∙ k.marks e cell is down live;
-    past = arrival_leaves_due c a h.arrivals h.reported h.clock is_next (refl_most h.clock) ∙ k.past;
+    past = arrival_leaves_due Ru c [] a h.arrivals h.reported h.clock is_next (refl_most h.clock) ∙ k.past;
     told = λ e cell is down heard. arrival_leaves_use c a h.arrivals cell (k.told e cell is down heard);
     differ = k.differ;
     owed = All-weaker (IsOwed Ru c (ru_known c h.arrivals)) (IsOwed Ru c (ru_known c (a ∷ h.arrivals))) (λ x o. still_owed x o) h.reported k.owed;

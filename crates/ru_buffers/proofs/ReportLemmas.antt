@@ -15,7 +15,7 @@ use Rattle.unit_laws.specs.Runs.{OffsetsFit}
 use Rattle.unit_laws.specs.Swept.{IsSwept}
 use Rattle.unit_laws.proofs.DueLemmas.{due_begins, due_in_pieces}
 use Rattle.unit_laws.proofs.FrameLemmas.{symbols_are_swept}
-use Rattle.unit_laws.proofs.TickLemmas.{due_after_clock}
+use Rattle.unit_laws.proofs.TickLemmas.{due_after_now}
 use Rattle.unit_cells.proofs.KeepLemmas.{at_config}
 use Rattle.history_laws.specs.First.{FirstIsFirst, IsSweptIn, NothingIsNothing, told_of}
 use Rattle.ru_jobs.specs.declared.cursor.JobCursor.{JobCursor}
@@ -76,7 +76,7 @@ module _ (c : Config) (m : RuMemory) (clock : ℤ) (cursor : JobCursor) (h : His
   -- what is due is what the symbols tell that start after the clock
   pub due_is : (to : ℤ) → clock ≤ℤ to → due_of c h to ≡ sweep still c.endpoints (clock +ℤ pos 1) (to +ℤ pos 1)
   due_is to order =
-      due_after_clock c.delays c.endpoints (ru_known c h.arrivals) h.reported clock to (clock_first c m clock cursor h keeps) order
+      due_after_now c.delays c.endpoints (ru_known c h.arrivals) h.reported clock to (clock_first c m clock cursor h keeps) order
       (subst (λ (t : ℤ). due_of c h t ≡ []) (sym keeps.clock_is) keeps.past)
 
   -- a symbol that has its place is gone over when it starts

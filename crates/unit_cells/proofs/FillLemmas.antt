@@ -6,11 +6,9 @@ use Rattle.std.proofs.lemmas.Int.{ints}
 use Rattle.std.proofs.lemmas.Bool.Decides.{nat_tests}
 use Rattle.std.proofs.lemmas.List.Elements.{All-cons, All-head, All-tail}
 use Rattle.fh_time.specs.declared.values.Slot.{Slot}
-use Rattle.air_source.specs.declared.events.Side.TheVariants.{Ru, Du}
 use Rattle.bfp_codec.specs.declared.samples.Wide.{Wide}
 use Rattle.fh_time.specs.Carrier.{count_of, first_of, is_outside}
 use Rattle.window_config.specs.Limits.{IsWithinLimits}
-use Rattle.window_config.proofs.Live.{live_on_time_up}
 use Rattle.window_config.specs.declared.config.Config.{Config}
 use Rattle.window_config.specs.declared.delays.Delays.{Delays}
 use Rattle.window_config.specs.declared.endpoints.EndpointConfig.{EndpointConfig}
@@ -183,18 +181,10 @@ mark_keeps side c clock ep e slot symbol prb before after old new acc ds step ma
 pub slot_is : (h : DataHeading) → IsSoundHeading h → IsSlot h.endpoint.numerology (slot_of h)
 slot_is h is = let frame = absolute_near h.head.frame_id h.last.0 is.last in record { low = frame.0; high = frame.1; subframe = is.subframe; slot_is = is.slot }
 
-not_negative : (a b : ℤ) → pos 0 ≤ℤ a → a ≤ℤ b → pos 0 ≤ℤ b
-not_negative a b h k = omega (arith, ints)
-
-self_most : (a : ℤ) → a ≤ℤ a
-self_most a = omega (arith, ints)
-
 -- what is on time at either unit names a slot that is live when the last of it comes
 pub live_is : (side : Side) (d : Delays) (h : DataHeading) → IsWithinLimits d → IsSoundHeading h → h.first.0 ≤ℤ h.last.0 → data_class side d (data_of h []) ≡ class.OnTime
     → IsLiveOn side d h.endpoint h.last.0 (slot_of h)
-live_is Ru d h limits is order on_time = data_live d (data_of h []) limits is.symbol order on_time
-live_is Du d h limits is order on_time =
-    live_on_time_up h.endpoint.numerology (slot_of h) h.section.symbol h.first.0 h.last.0 d.ta4 d.ta4.max is.symbol order limits.ta4.low (self_most d.ta4.max) on_time
+live_is side d h limits is order on_time = data_live side d (data_of h []) limits is.symbol order on_time
 
 pub within_carrier : (prbs start num n : ℕ) → is_outside prbs start num ≡ false → is_from (first_of start num) (count_of prbs num) n ≡ true → n < prbs
 within_carrier prbs start num n inside here = grind (arith, nat_tests)

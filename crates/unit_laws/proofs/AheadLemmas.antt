@@ -14,6 +14,7 @@ use Rattle.unit_model.specs.Lists.{each, in_order}
 use Rattle.unit_model.specs.Meetings.{Arrival}
 use Rattle.unit_model.specs.Radiated.{Known, air_cell, cell_report, is_down, is_used, symbol_report, used_below}
 use Rattle.unit_model.specs.Reports.{accepted_of, commands_of, data_of, ru_known, timely_of}
+use Rattle.unit_model.specs.Sides.{reach_of}
 use Rattle.unit_model.specs.Standing.{AreInTime}
 use Rattle.unit_model.specs.Uplink.{symbol_jobs}
 use Rattle.unit_model.specs.declared.allocations.Allocation.{Allocation}
@@ -28,17 +29,17 @@ reached : (c : Config) (clock : ℤ) (arrivals : List Arrival) → IsWithinLimit
     → All (IsReached c.endpoints (ru_reach_of c.delays) clock) (accepted_of c arrivals)
 reached c clock arrivals limits h = accepted_reached c.endpoints c.delays clock (commands_of Ru c arrivals) limits (commands_are_heard Ru c clock arrivals h)
 
-reached_data : (c : Config) (clock : ℤ) (arrivals : List Arrival) → IsWithinLimits c.delays → AreInTime clock arrivals
-    → All (IsReachedData c.endpoints (ru_reach_of c.delays) clock) (timely_of Ru c arrivals)
-reached_data c clock arrivals limits h = timely_reached c.endpoints c.delays clock (data_of Ru c arrivals) limits (data_are_heard Ru c clock arrivals h)
+reached_data : (side : Side) (c : Config) (clock : ℤ) (arrivals : List Arrival) → IsWithinLimits c.delays → AreInTime clock arrivals
+    → All (IsReachedData c.endpoints (reach_of side c.delays) clock) (timely_of side c arrivals)
+reached_data side c clock arrivals limits h = timely_reached side c.endpoints c.delays clock (data_of side c arrivals) limits (data_are_heard side c clock arrivals h)
 
 pub no_claims_ahead : NoClaimsAhead
 no_claims_ahead c clock arrivals e cell re limits h at far =
     far_unclaimed c.endpoints (ru_reach_of c.delays) clock (accepted_of c arrivals) e cell re (reached c clock arrivals limits h) at far
 
 pub no_blocks_ahead : NoBlocksAhead
-no_blocks_ahead c clock arrivals e cell limits h at far =
-    far_no_block c.endpoints (ru_reach_of c.delays) clock (timely_of Ru c arrivals) e cell (reached_data c clock arrivals limits h) at far
+no_blocks_ahead side c clock arrivals e cell limits h at far =
+    far_no_block c.endpoints (reach_of side c.delays) clock (timely_of side c arrivals) e cell (reached_data side c clock arrivals limits h) at far
 
 pub no_uplink_ahead : NoUplinkAhead
 no_uplink_ahead c clock arrivals e ep slot limits h at far =

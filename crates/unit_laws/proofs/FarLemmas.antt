@@ -7,7 +7,6 @@ use Rattle.std.proofs.lemmas.List.Elements.{All-nil, All-cons, All-head, All-tai
 use Rattle.fh_time.specs.Air.{air_of}
 use Rattle.fh_time.specs.declared.numerology.Numerology.{Numerology}
 use Rattle.fh_time.specs.declared.values.Slot.{Slot}
-use Rattle.air_source.specs.declared.events.Side.TheVariants.{Ru}
 use Rattle.window_config.specs.Rings.{ru_reach_of}
 use Rattle.window_config.specs.Windows.{ticks_of_ns}
 use Rattle.window_config.specs.declared.endpoints.EndpointConfig.{EndpointConfig}
@@ -16,6 +15,7 @@ use Rattle.unit_model.specs.Blocks.{block_at, data_covers, data_slot, timely}
 use Rattle.unit_model.specs.Claims.{claim_at, covers, in_mask, names, same_slot}
 use Rattle.unit_model.specs.Commands.{accepted, allocation_of, is_uplink}
 use Rattle.unit_model.specs.Proper.{IsAt}
+use Rattle.unit_model.specs.Sides.{reach_of}
 use Rattle.unit_model.specs.Standing.{uplink_of}
 use Rattle.unit_model.specs.declared.allocations.Allocation.{Allocation}
 use Rattle.unit_laws.specs.Far.{WasLive, IsFar, IsReached, IsReachedData, IsHeard, IsHeardData, AcceptedAreReached, TimelyAreReached, FarIsUnclaimed, FarHasNoUplink, FarHasNoBlock}
@@ -62,19 +62,19 @@ accepted_reached es d clock (c ∷ earlier) limits heard =
 
 pub timely_reached : TimelyAreReached
 unfolding timely
-timely_reached es d clock [] limits heard = All-nil (IsReachedData es (ru_reach_of d) clock)
-timely_reached es d clock (x ∷ earlier) limits heard =
-    let P = IsReachedData es (ru_reach_of d) clock in
-    let before : All P (timely Ru d earlier) = timely_reached es d clock earlier limits (All-tail (IsHeardData es clock) x earlier heard) in
+timely_reached side es d clock [] limits heard = All-nil (IsReachedData es (reach_of side d) clock)
+timely_reached side es d clock (x ∷ earlier) limits heard =
+    let P = IsReachedData es (reach_of side d) clock in
+    let before : All P (timely side d earlier) = timely_reached side es d clock earlier limits (All-tail (IsHeardData es clock) x earlier heard) in
     let first : IsHeardData es clock x = All-head (IsHeardData es clock) x earlier heard in
-    elim (timely_more Ru d x earlier) [
+    elim (timely_more side d x earlier) [
       | inl e ↦ subst (All P) (sym e) before
       | inr is ↦
           let here : P x = record {
             endpoint = first.endpoint;
-            live = record { when = x.last.0; come = first.come; live = data_live d x limits first.symbol first.order is.0 };
+            live = record { when = x.last.0; come = first.come; live = data_live side d x limits first.symbol first.order is.0 };
           } in
-          subst (All P) (sym is.1) (All-cons P x (timely Ru d earlier) here before)
+          subst (All P) (sym is.1) (All-cons P x (timely side d earlier) here before)
     ]
 
 pub far_unclaimed : FarIsUnclaimed

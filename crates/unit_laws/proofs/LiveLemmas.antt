@@ -1,4 +1,4 @@
--- What is on time at the radio unit is within its reach.
+-- What is on time at a unit is within its reach.
 use Rattle.std.proofs.Common.{◌≡◌, ℤ, pos, ◌<◌, ◌≤ℤ◌, true, false, List, arith}
 use Rattle.std.specs.Int.{int_max}
 use Rattle.std.proofs.lemmas.Int.{ints, clamps}
@@ -6,11 +6,13 @@ use Rattle.window_config.specs.Limits.{IsWithinLimits}
 use Rattle.window_config.specs.Rings.{IsLive, ru_reach_of}
 use Rattle.window_config.specs.Windows.{data_window_of, command_window_of}
 use Rattle.window_config.specs.declared.delays.Delays.{Delays}
-use Rattle.window_config.proofs.Live.{live_on_time, live_on_command}
-use Rattle.air_source.specs.declared.events.Side.TheVariants.{Ru}
+use Rattle.window_config.proofs.Live.{live_on_time, live_on_time_up, live_on_command}
+use Rattle.air_source.specs.declared.events.Side.{Side}
+use Rattle.air_source.specs.declared.events.Side.TheVariants.{Ru, Du}
 use Rattle.fh_time.specs.Numbering.{symbols_of}
 use Rattle.unit_model.specs.Blocks.{data_class, data_slot}
 use Rattle.unit_model.specs.Commands.{command_slot, command_verdict}
+use Rattle.unit_model.specs.Sides.{IsLiveOn}
 use Rattle.unit_model.specs.declared.allocations.Allocation.{Allocation}
 use Rattle.unit_model.specs.declared.decoded.Command.{Command}
 use Rattle.unit_model.specs.declared.decoded.Data.{Data}
@@ -47,15 +49,17 @@ command_live d earlier c limits symbol h =
     (third_most (data_window_of d).max (command_window_of d true).max (command_window_of d false).max)
     (not_negative d.ta3.min d.ta3.max limits.ta3.low limits.ta3.order) symbol (same_time c.at.0) is.on_time
 
-pub data_live : (d : Delays) (x : Data) → IsWithinLimits d → x.section.symbol < symbols_of x.endpoint.numerology → x.first.0 ≤ℤ x.last.0
-    → data_class Ru d x ≡ OnTime → IsLive x.endpoint.numerology (ru_reach_of d).before (ru_reach_of d).after x.last.0 (data_slot x)
-data_live d x limits symbol order h =
+pub data_live : (side : Side) (d : Delays) (x : Data) → IsWithinLimits d → x.section.symbol < symbols_of x.endpoint.numerology → x.first.0 ≤ℤ x.last.0
+    → data_class side d x ≡ OnTime → IsLiveOn side d x.endpoint x.last.0 (data_slot x)
+data_live Ru d x limits symbol order h =
     live_on_time x.endpoint.numerology (data_slot x) x.section.symbol x.first.0 x.last.0 (data_window_of d) (ru_reach_of d).before (ru_reach_of d).after symbol order
     (some_more d.t2a_up.min limits.t2a_up.low) (first_most (data_window_of d).max (command_window_of d true).max (command_window_of d false).max)
     (not_negative d.ta3.min d.ta3.max limits.ta3.low limits.ta3.order) h
+data_live Du d x limits symbol order h =
+    live_on_time_up x.endpoint.numerology (data_slot x) x.section.symbol x.first.0 x.last.0 d.ta4 d.ta4.max symbol order limits.ta4.low (same_time d.ta4.max) h
 
 pub accepted_live : AcceptedIsLive
 accepted_live es d earlier c limits proper h = command_live d earlier c limits proper.start_symbol h
 
 pub timely_live : TimelyIsLive
-timely_live es d x limits proper order h = data_live d x limits proper.symbol order h
+timely_live side es d x limits proper order h = data_live side d x limits proper.symbol order h

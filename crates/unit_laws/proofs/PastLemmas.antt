@@ -8,24 +8,25 @@ use Rattle.std.proofs.lemmas.List.Elements.{filter-append}
 use Rattle.fh_time.specs.Air.{air_of}
 use Rattle.fh_time.specs.declared.values.Slot.{Slot}
 use Rattle.fh_time.proofs.Order.{symbols_in_order}
-use Rattle.air_source.specs.declared.events.Side.TheVariants.{Ru}
+use Rattle.air_source.specs.declared.events.Side.{Side}
+use Rattle.air_source.specs.declared.events.Side.TheVariants.{Ru, Du}
 use Rattle.window_config.specs.Limits.{IsWithinLimits}
 use Rattle.window_config.specs.Windows.{command_window_of, data_window_of}
 use Rattle.window_config.specs.declared.delays.Delays.{Delays}
 use Rattle.window_config.specs.declared.endpoints.EndpointConfig.{EndpointConfig}
 use Rattle.window_config.specs.declared.verdicts.Class.TheVariants as class
-use Rattle.window_config.proofs.Timing.{class_on_time}
+use Rattle.window_config.proofs.Timing.{class_on_time, class_up_on_time}
 use Rattle.unit_model.specs.Blocks.{data_class, data_slot, data_start}
 use Rattle.unit_model.specs.Claims.{cell_at, covers, in_mask, is_from, same_slot}
 use Rattle.unit_model.specs.Commands.{accepted, allocation_of, command_class, command_slot, command_start, is_uplink}
 use Rattle.unit_model.specs.Lists.{in_order}
 use Rattle.unit_model.specs.Proper.{IsAt}
-use Rattle.unit_model.specs.Radiated.{is_down}
+use Rattle.unit_model.specs.Radiated.{is_down, wait_of}
 use Rattle.unit_model.specs.Uplink.{is_before, job_of, sends_in, symbol_jobs}
 use Rattle.unit_model.specs.declared.allocations.Allocation.{Allocation}
 use Rattle.unit_model.specs.declared.decoded.Command.{Command}
 use Rattle.unit_model.specs.declared.decoded.Data.{Data}
-use Rattle.unit_laws.specs.Past.{IsInOrder, CommandLeavesPast, DataLeavePast, CommandLeavesReports, DataLeaveReports, CommandLeavesJobs}
+use Rattle.unit_laws.specs.Past.{IsInOrder, IsPast, CommandLeavesPast, DataLeavePast, CommandLeavesReports, DataLeaveReports, CommandLeavesJobs}
 use Rattle.unit_laws.proofs.AcceptanceLemmas.{accepted_is_acceptable}
 use Rattle.unit_laws.proofs.CellLemmas.{slots_equal, from_first, covers_is, data_covers_is}
 use Rattle.unit_laws.proofs.ChangeLemmas.{accepted_more, either_way, only_accepted, only_timely}
@@ -91,12 +92,22 @@ command_leaves_past es d c earlier e cell re limits proper order at past = elim 
       (same_time es c.ep cell.ep c.endpoint e (command_slot c) cell.slot cell.symbol cell.symbol proper.endpoint at where_is.ep where_is.slot refl) past)
 ]
 
+waited : (last start window at : ℤ) → (last -ℤ start) ≤ℤ window → start ≡ at → (at +ℤ window) <ℤ last → ⊥
+waited last start window at a b c = omega (arith, ints)
+
+-- so data that are on time are of no moment that is past
+never_past : (side : Side) (d : Delays) (x : Data) (start : ℤ) → IsWithinLimits d → data_class side d x ≡ class.OnTime → data_start x ≡ start → IsPast side d start x.last.0 → ⊥
+never_past Ru d x start limits h same past = not_past x.last.0 (data_start x) start (data_before d x limits h) same past
+never_past Du d x start limits h same past =
+    let is = (class_up_on_time x.first.0 x.last.0 (data_start x) d.ta4).0 h in
+    waited x.last.0 (data_start x) (wait_of Du d) start is.soon_enough same past
+
 pub data_leave_past : DataLeavePast
-data_leave_past es d x earlier e cell limits proper at past = elim (only_timely Ru d x earlier cell) [
+data_leave_past side es d x earlier e cell limits proper at past = elim (only_timely side d x earlier cell) [
   | inl same ↦ same
   | inr is ↦
       let where_is = data_covers_is x cell is.1 in
-      absurd (not_past x.last.0 (data_start x) (air_of e.numerology cell.slot cell.symbol) (data_before d x limits is.0)
+      absurd (never_past side d x (air_of e.numerology cell.slot cell.symbol) limits is.0
       (same_time es x.ep cell.ep x.endpoint e (data_slot x) cell.slot x.section.symbol cell.symbol proper.endpoint at where_is.ep where_is.slot where_is.symbol) past)
 ]
 
@@ -110,7 +121,7 @@ pub data_leave_reports : DataLeaveReports
 data_leave_reports side es d x earlier claimed ep e slot symbol limits proper at past =
     report_of_cells side _ _ ep e slot symbol
     (λ prb re prb_below below. refl)
-    (λ prb below. data_leave_past es d x earlier e (cell_at ep (is_down side) slot symbol prb) limits proper at past)
+    (λ prb below. data_leave_past side es d x earlier e (cell_at ep (is_down side) slot symbol prb) limits proper at past)
 
 -- ---- the messages of a symbol
 

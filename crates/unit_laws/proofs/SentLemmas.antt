@@ -7,16 +7,17 @@ use Rattle.fh_time.specs.declared.values.Slot.{Slot}
 use Rattle.fh_time.proofs.Order.{symbols_in_order}
 use Rattle.air_source.specs.declared.events.AirCell.{AirCell}
 use Rattle.air_source.specs.declared.events.Side.{Side}
-use Rattle.air_source.specs.declared.events.Side.TheVariants.{Ru}
+use Rattle.air_source.specs.declared.events.Side.TheVariants.{Ru, Du}
 use Rattle.window_config.specs.declared.delays.Delays.{Delays}
 use Rattle.window_config.specs.declared.endpoints.EndpointConfig.{EndpointConfig}
 use Rattle.unit_model.specs.Blocks.{timely}
 use Rattle.unit_model.specs.Commands.{accepted}
 use Rattle.unit_model.specs.Proper.{IsAt}
-use Rattle.unit_model.specs.Radiated.{Known, first_clock, known_of, reported, symbol_report}
-use Rattle.unit_model.specs.Standing.{due, still_reported}
+use Rattle.unit_model.specs.Radiated.{Known, first_clock, known_of, reported, symbol_report, wait_of}
+use Rattle.unit_model.specs.Standing.{due, past_of, still_reported}
 use Rattle.unit_model.specs.Sweeps.{sweep}
 use Rattle.unit_model.specs.Uplink.{jobs, sends_in, symbol_jobs}
+use Rattle.unit_laws.specs.Past.{IsPast}
 use Rattle.unit_laws.specs.Sent.{JobsBegin, JobsAppend, LaterSendsNothing, CommandLeavesSent}
 use Rattle.unit_laws.specs.Told.{CommandLeavesReported, DataLeaveReported, CommandLeavesDue, DataLeaveDue}
 use Rattle.unit_laws.proofs.CellLemmas.{from_first}
@@ -84,60 +85,62 @@ command_leaves_sent es d c earlier to limits proper order past =
 
 -- ---- reports
 
--- the radio unit reports a cell when its symbol starts
-at_start : (start tick to at : ℤ) → start ≡ tick → tick <ℤ ((to -ℤ pos 0) +ℤ pos 1) → to ≤ℤ at → start ≤ℤ at
-at_start start tick to at a b c = omega (arith, ints)
+-- a unit reports a cell a while after its symbol starts
+at_start : (start tick end : ℤ) → start ≡ tick → tick <ℤ (end +ℤ pos 1) → start ≤ℤ end
+at_start start tick end a b = omega (arith, ints)
 
 still_same : (side : Side) (k m : Known) (heard : List AirCell) (ep : ℕ) (e : EndpointConfig) (slot : Slot) (symbol : ℕ)
     → symbol_report side k ep e slot symbol ≡ symbol_report side m ep e slot symbol → still_reported side k heard ep e slot symbol ≡ still_reported side m heard ep e slot symbol
 unfolding still_reported
 still_same side k m heard ep e slot symbol same = ap (filter (unheard heard)) same
 
--- where two knowledges report the same of each symbol that starts by a time, they report the same up to it, and the same is due
-pub reported-same : (d : Delays) (es : List EndpointConfig) (k m : Known) (to : ℤ)
-    → ((ep : ℕ) (e : EndpointConfig) (slot : Slot) (symbol : ℕ) → IsAt es ep e → air_of e.numerology slot symbol ≤ℤ to
-    → symbol_report Ru k ep e slot symbol ≡ symbol_report Ru m ep e slot symbol)
-    → reported Ru d es k to ≡ reported Ru d es m to
+-- where two knowledges report the same of each symbol whose moment comes by a time, they report the same up to it, and the same is due
+pub reported-same : (side : Side) (d : Delays) (es : List EndpointConfig) (k m : Known) (to : ℤ)
+    → ((ep : ℕ) (e : EndpointConfig) (slot : Slot) (symbol : ℕ) → IsAt es ep e → air_of e.numerology slot symbol ≤ℤ (to -ℤ wait_of side d)
+    → symbol_report side k ep e slot symbol ≡ symbol_report side m ep e slot symbol)
+    → reported side d es k to ≡ reported side d es m to
 unfolding reported
-reported-same d es k m to same =
-    sweep-same (symbol_report Ru k) (symbol_report Ru m) es (first_clock -ℤ pos 0) ((to -ℤ pos 0) +ℤ pos 1) (λ ep e slot symbol tick low high swept.
-    same ep e slot symbol swept.endpoint (at_start (air_of e.numerology slot symbol) tick to to swept.starts high (here to)))
-  where
-    here : (t : ℤ) → t ≤ℤ t
-    here t = omega (arith, ints)
+reported-same side d es k m to same =
+    sweep-same (symbol_report side k) (symbol_report side m) es (first_clock -ℤ wait_of side d) ((to -ℤ wait_of side d) +ℤ pos 1) (λ ep e slot symbol tick low high swept.
+    same ep e slot symbol swept.endpoint (at_start (air_of e.numerology slot symbol) tick (to -ℤ wait_of side d) swept.starts high))
 
-pub due-same : (d : Delays) (es : List EndpointConfig) (k m : Known) (heard : List AirCell) (to : ℤ)
-    → ((ep : ℕ) (e : EndpointConfig) (slot : Slot) (symbol : ℕ) → IsAt es ep e → air_of e.numerology slot symbol ≤ℤ to
-    → symbol_report Ru k ep e slot symbol ≡ symbol_report Ru m ep e slot symbol)
-    → due Ru d es k heard to ≡ due Ru d es m heard to
+pub due-same : (side : Side) (d : Delays) (es : List EndpointConfig) (k m : Known) (heard : List AirCell) (to : ℤ)
+    → ((ep : ℕ) (e : EndpointConfig) (slot : Slot) (symbol : ℕ) → IsAt es ep e → air_of e.numerology slot symbol ≤ℤ (to -ℤ wait_of side d)
+    → symbol_report side k ep e slot symbol ≡ symbol_report side m ep e slot symbol)
+    → due side d es k heard to ≡ due side d es m heard to
 unfolding due
-due-same d es k m heard to same =
-    sweep-same (still_reported Ru k heard) (still_reported Ru m heard) es (first_clock -ℤ pos 0) ((to -ℤ pos 0) +ℤ pos 1) (λ ep e slot symbol tick low high swept.
-    still_same Ru k m heard ep e slot symbol
-    (same ep e slot symbol swept.endpoint (at_start (air_of e.numerology slot symbol) tick to to swept.starts high (here to))))
-  where
-    here : (t : ℤ) → t ≤ℤ t
-    here t = omega (arith, ints)
+due-same side d es k m heard to same =
+    sweep-same (still_reported side k heard) (still_reported side m heard) es (first_clock -ℤ wait_of side d) ((to -ℤ wait_of side d) +ℤ pos 1) (λ ep e slot symbol tick low high swept.
+    still_same side k m heard ep e slot symbol
+    (same ep e slot symbol swept.endpoint (at_start (air_of e.numerology slot symbol) tick (to -ℤ wait_of side d) swept.starts high)))
 
-no_later : (a b c : ℤ) → a ≤ℤ b → b ≤ℤ c → a ≤ℤ c
+no_later : (a b c : ℤ) → a ≤ℤ (b -ℤ pos 0) → b ≤ℤ c → a ≤ℤ c
 no_later a b c h k = omega (arith, ints)
+
+wait_over : (start to wait last : ℤ) → start ≤ℤ (to -ℤ wait) → to ≤ℤ (last -ℤ pos 1) → (start +ℤ wait) <ℤ last
+wait_over start to wait last h k = omega (arith, ints)
+
+-- a moment by a time that is past is past
+past_by : (side : Side) (d : Delays) (start to last : ℤ) → start ≤ℤ (to -ℤ wait_of side d) → to ≤ℤ past_of side last → IsPast side d start last
+past_by Ru d start to last by past = no_later start to last by past
+past_by Du d start to last by past = wait_over start to (wait_of Du d) last by past
 
 pub command_leaves_reported : CommandLeavesReported
 command_leaves_reported es d c earlier given to limits proper order past =
-    reported-same d es (known_of (accepted d (c ∷ earlier)) given) (known_of (accepted d earlier) given) to (λ ep e slot symbol at by.
+    reported-same Ru d es (known_of (accepted d (c ∷ earlier)) given) (known_of (accepted d earlier) given) to (λ ep e slot symbol at by.
     command_leaves_reports Ru es d c earlier given ep e slot symbol limits proper order at (no_later (air_of e.numerology slot symbol) to c.at.0 by past))
 
 pub command_leaves_due : CommandLeavesDue
 command_leaves_due es d c earlier given heard to limits proper order past =
-    due-same d es (known_of (accepted d (c ∷ earlier)) given) (known_of (accepted d earlier) given) heard to (λ ep e slot symbol at by.
+    due-same Ru d es (known_of (accepted d (c ∷ earlier)) given) (known_of (accepted d earlier) given) heard to (λ ep e slot symbol at by.
     command_leaves_reports Ru es d c earlier given ep e slot symbol limits proper order at (no_later (air_of e.numerology slot symbol) to c.at.0 by past))
 
 pub data_leave_reported : DataLeaveReported
-data_leave_reported es d x earlier claimed to limits proper past =
-    reported-same d es (known_of claimed (timely Ru d (x ∷ earlier))) (known_of claimed (timely Ru d earlier)) to (λ ep e slot symbol at by.
-    data_leave_reports Ru es d x earlier claimed ep e slot symbol limits proper at (no_later (air_of e.numerology slot symbol) to x.last.0 by past))
+data_leave_reported side es d x earlier claimed to limits proper past =
+    reported-same side d es (known_of claimed (timely side d (x ∷ earlier))) (known_of claimed (timely side d earlier)) to (λ ep e slot symbol at by.
+    data_leave_reports side es d x earlier claimed ep e slot symbol limits proper at (past_by side d (air_of e.numerology slot symbol) to x.last.0 by past))
 
 pub data_leave_due : DataLeaveDue
-data_leave_due es d x earlier claimed heard to limits proper past =
-    due-same d es (known_of claimed (timely Ru d (x ∷ earlier))) (known_of claimed (timely Ru d earlier)) heard to (λ ep e slot symbol at by.
-    data_leave_reports Ru es d x earlier claimed ep e slot symbol limits proper at (no_later (air_of e.numerology slot symbol) to x.last.0 by past))
+data_leave_due side es d x earlier claimed heard to limits proper past =
+    due-same side d es (known_of claimed (timely side d (x ∷ earlier))) (known_of claimed (timely side d earlier)) heard to (λ ep e slot symbol at by.
+    data_leave_reports side es d x earlier claimed ep e slot symbol limits proper at (past_by side d (air_of e.numerology slot symbol) to x.last.0 by past))

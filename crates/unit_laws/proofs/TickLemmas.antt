@@ -16,7 +16,7 @@ use Rattle.window_config.specs.Windows.{ticks_of_ns}
 use Rattle.window_config.specs.declared.delays.Delays.{Delays}
 use Rattle.window_config.specs.declared.endpoints.EndpointConfig.{EndpointConfig}
 use Rattle.window_config.specs.declared.rings.Reach.{Reach}
-use Rattle.unit_model.specs.Radiated.{Known, first_clock, symbol_report}
+use Rattle.unit_model.specs.Radiated.{Known, first_clock, symbol_report, wait_of}
 use Rattle.unit_model.specs.Reports.{accepted_of, ru_known}
 use Rattle.unit_model.specs.Standing.{due, still_reported}
 use Rattle.unit_model.specs.Sweeps.{sweep}
@@ -96,24 +96,32 @@ jobs_of_live c clock arrivals ep e tick start count limits h order at short is a
 
 -- ---- from the clock on
 
-start_is : (t : ℤ) → (t -ℤ pos 0) +ℤ pos 1 ≡ t +ℤ pos 1
-start_is t = omega (arith, ints)
+from_first : (first clock wait : ℤ) → first ≤ℤ clock → (first -ℤ wait) ≤ℤ ((clock -ℤ wait) +ℤ pos 1)
+from_first first clock wait h = omega (arith, ints)
 
-from_first : (first clock : ℤ) → first ≤ℤ clock → (first -ℤ pos 0) ≤ℤ ((clock -ℤ pos 0) +ℤ pos 1)
-from_first first clock h = omega (arith, ints)
-
-to_last : (clock to : ℤ) → clock ≤ℤ to → ((clock -ℤ pos 0) +ℤ pos 1) ≤ℤ ((to -ℤ pos 0) +ℤ pos 1)
-to_last clock to h = omega (arith, ints)
+to_last : (clock to wait : ℤ) → clock ≤ℤ to → ((clock -ℤ wait) +ℤ pos 1) ≤ℤ ((to -ℤ wait) +ℤ pos 1)
+to_last clock to wait h = omega (arith, ints)
 
 pub due_after_clock : DueAfterClock
 unfolding due
-due_after_clock d es k heard clock to begun order none =
-    let g = still_reported Ru k heard in
-    let mid = (clock -ℤ pos 0) +ℤ pos 1 in
-    let end = (to -ℤ pos 0) +ℤ pos 1 in
-    sweep-append g es (first_clock -ℤ pos 0) mid end (from_first first_clock clock begun) (to_last clock to order)
+due_after_clock side d es k heard clock to begun order none =
+    let g = still_reported side k heard in
+    let w = wait_of side d in
+    let mid = (clock -ℤ w) +ℤ pos 1 in
+    let end = (to -ℤ w) +ℤ pos 1 in
+    sweep-append g es (first_clock -ℤ w) mid end (from_first first_clock clock w begun) (to_last clock to w order)
     ∙ ap (λ (xs : List AirCell). xs ++ sweep g es mid end) none
-    ∙ ap (λ (t : ℤ). sweep g es t end) (start_is clock)
+
+-- at the radio unit, at the ticks after it
+start_is : (t : ℤ) → (t -ℤ pos 0) +ℤ pos 1 ≡ t +ℤ pos 1
+start_is t = omega (arith, ints)
+
+pub due_after_now : (d : Delays) (es : List EndpointConfig) (k : Known) (heard : List AirCell) (clock to : ℤ) → first_clock ≤ℤ clock → clock ≤ℤ to
+    → due Ru d es k heard clock ≡ [] → due Ru d es k heard to ≡ sweep (still_reported Ru k heard) es (clock +ℤ pos 1) (to +ℤ pos 1)
+due_after_now d es k heard clock to begun order none =
+    let g = still_reported Ru k heard in
+    due_after_clock Ru d es k heard clock to begun order none
+    ∙ ap (λ (t : ℤ). sweep g es t ((to -ℤ pos 0) +ℤ pos 1)) (start_is clock)
     ∙ ap (λ (t : ℤ). sweep g es (clock +ℤ pos 1) t) (start_is to)
 
 pub given_in_order : GivenInOrder

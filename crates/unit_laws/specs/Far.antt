@@ -4,7 +4,7 @@ use Rattle.fh_time.specs.Air.{air_of}
 use Rattle.fh_time.specs.Numbering.{symbols_of}
 use Rattle.fh_time.specs.declared.numerology.Numerology.{Numerology}
 use Rattle.fh_time.specs.declared.values.Slot.{Slot}
-use Rattle.air_source.specs.declared.events.Side.TheVariants.{Ru}
+use Rattle.air_source.specs.declared.events.Side.{Side}
 use Rattle.window_config.specs.Limits.{IsWithinLimits}
 use Rattle.window_config.specs.Rings.{IsLive, ru_reach_of}
 use Rattle.window_config.specs.Windows.{ticks_of_ns}
@@ -15,6 +15,7 @@ use Rattle.unit_model.specs.Blocks.{block_at, data_slot, timely}
 use Rattle.unit_model.specs.Claims.{claim_at}
 use Rattle.unit_model.specs.Commands.{accepted}
 use Rattle.unit_model.specs.Proper.{IsAt}
+use Rattle.unit_model.specs.Sides.{reach_of}
 use Rattle.unit_model.specs.Standing.{uplink_of}
 use Rattle.unit_model.specs.declared.allocations.Allocation.{Allocation}
 use Rattle.unit_model.specs.declared.cells.Cell.{Cell}
@@ -60,8 +61,8 @@ AcceptedAreReached =
 
 abbrev pub TimelyAreReached : Type 0
 TimelyAreReached =
-    (es : List EndpointConfig) (d : Delays) (clock : ℤ) (xs : List Data) → IsWithinLimits d → All (IsHeardData es clock) xs
-    → All (IsReachedData es (ru_reach_of d) clock) (timely Ru d xs)
+    (side : Side) (es : List EndpointConfig) (d : Delays) (clock : ℤ) (xs : List Data) → IsWithinLimits d → All (IsHeardData es clock) xs
+    → All (IsReachedData es (reach_of side d) clock) (timely side d xs)
 
 -- so a slot that is not live yet has no claim, no uplink section and no block
 abbrev pub FarIsUnclaimed : Type 0

@@ -1,6 +1,6 @@
--- What is on time at the radio unit names a slot that is live when it comes.
+-- What is on time names a slot that is live when it comes.
 use Rattle.std.specs.Prelude.{◌≡◌, ◌≤ℤ◌, List}
-use Rattle.air_source.specs.declared.events.Side.TheVariants.{Ru}
+use Rattle.air_source.specs.declared.events.Side.{Side}
 use Rattle.window_config.specs.Limits.{IsWithinLimits}
 use Rattle.window_config.specs.Rings.{IsLive, ru_reach_of}
 use Rattle.window_config.specs.declared.delays.Delays.{Delays}
@@ -9,6 +9,7 @@ use Rattle.window_config.specs.declared.verdicts.Class.TheVariants.{OnTime}
 use Rattle.unit_model.specs.Blocks.{data_class, data_slot}
 use Rattle.unit_model.specs.Commands.{command_slot, command_verdict}
 use Rattle.unit_model.specs.Proper.{IsProperCommand, IsProperData}
+use Rattle.unit_model.specs.Sides.{IsLiveOn}
 use Rattle.unit_model.specs.declared.allocations.Allocation.{Allocation}
 use Rattle.unit_model.specs.declared.decoded.Command.{Command}
 use Rattle.unit_model.specs.declared.decoded.Data.{Data}
@@ -21,8 +22,8 @@ AcceptedIsLive =
     → command_verdict d earlier c ≡ Accepted
     → IsLive c.endpoint.numerology (ru_reach_of d).before (ru_reach_of d).after c.at.0 (command_slot c)
 
--- data that are on time name a slot that is live at their last arrival
+-- data that are on time at a unit name a slot that is live there at their last arrival
 abbrev pub TimelyIsLive : Type 0
 TimelyIsLive =
-    (es : List EndpointConfig) (d : Delays) (x : Data) → IsWithinLimits d → IsProperData es x → x.first.0 ≤ℤ x.last.0
-    → data_class Ru d x ≡ OnTime → IsLive x.endpoint.numerology (ru_reach_of d).before (ru_reach_of d).after x.last.0 (data_slot x)
+    (side : Side) (es : List EndpointConfig) (d : Delays) (x : Data) → IsWithinLimits d → IsProperData es x → x.first.0 ≤ℤ x.last.0
+    → data_class side d x ≡ OnTime → IsLiveOn side d x.endpoint x.last.0 (data_slot x)

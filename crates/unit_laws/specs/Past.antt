@@ -1,10 +1,10 @@
--- An arrival changes nothing whose moment has passed. Times are those of the radio unit: a command's arrival, the last arrival of
--- a message of data.
-use Rattle.std.specs.Prelude.{◌≡◌, ℕ, ◌<◌, ◌≤◌, ◌≤ℤ◌, List, ◌∷◌, All}
+-- An arrival changes nothing whose moment has passed: at the radio unit a command's arrival, at both units the last arrival of a message
+-- of data.
+use Rattle.std.specs.Prelude.{◌≡◌, ℕ, ℤ, ◌<◌, ◌≤◌, ◌+ℤ◌, ◌≤ℤ◌, ◌<ℤ◌, List, ◌∷◌, All}
 use Rattle.fh_time.specs.Air.{air_of}
 use Rattle.fh_time.specs.declared.values.Slot.{Slot}
 use Rattle.air_source.specs.declared.events.Side.{Side}
-use Rattle.air_source.specs.declared.events.Side.TheVariants.{Ru}
+use Rattle.air_source.specs.declared.events.Side.TheVariants.{Ru, Du}
 use Rattle.window_config.specs.Limits.{IsWithinLimits}
 use Rattle.window_config.specs.declared.delays.Delays.{Delays}
 use Rattle.window_config.specs.declared.endpoints.EndpointConfig.{EndpointConfig}
@@ -13,7 +13,7 @@ use Rattle.unit_model.specs.Claims.{cell_at, claim_at}
 use Rattle.unit_model.specs.Commands.{accepted}
 use Rattle.unit_model.specs.Meetings.{Arrival, commands, meetings}
 use Rattle.unit_model.specs.Proper.{IsAt, IsProperCommand, IsProperData}
-use Rattle.unit_model.specs.Radiated.{Known, is_down, known_of, symbol_report}
+use Rattle.unit_model.specs.Radiated.{Known, is_down, known_of, symbol_report, wait_of}
 use Rattle.unit_model.specs.Uplink.{symbol_jobs}
 use Rattle.unit_model.specs.declared.allocations.Allocation.{Allocation}
 use Rattle.unit_model.specs.declared.cells.Cell.{Cell}
@@ -35,12 +35,18 @@ CommandLeavesPast =
     → IsWithinLimits d → IsProperCommand es c → IsInOrder c → IsAt es cell.ep e → air_of e.numerology cell.slot cell.symbol ≤ℤ c.at.0
     → claim_at (accepted d (c ∷ earlier)) cell re ≡ claim_at (accepted d earlier) cell re
 
--- the cells of symbols that start by the last arrival of data have the blocks that they had
+-- the moment of a symbol that starts then is past when data come: it starts by then at the radio unit; at the distributed unit, whose
+-- arrivals of a tick come before its cells, its wait is over
+abbrev pub IsPast : Side → Delays → ℤ → ℤ → Type 0
+IsPast Ru d start at = start ≤ℤ at
+IsPast Du d start at = (start +ℤ wait_of Du d) <ℤ at
+
+-- the cells whose moment is past when the last of data arrive have the blocks that they had
 abbrev pub DataLeavePast : Type 0
 DataLeavePast =
-    (es : List EndpointConfig) (d : Delays) (x : Data) (earlier : List Data) (e : EndpointConfig) (cell : Cell)
-    → IsWithinLimits d → IsProperData es x → IsAt es cell.ep e → air_of e.numerology cell.slot cell.symbol ≤ℤ x.last.0
-    → block_at (timely Ru d (x ∷ earlier)) cell ≡ block_at (timely Ru d earlier) cell
+    (side : Side) (es : List EndpointConfig) (d : Delays) (x : Data) (earlier : List Data) (e : EndpointConfig) (cell : Cell)
+    → IsWithinLimits d → IsProperData es x → IsAt es cell.ep e → IsPast side d (air_of e.numerology cell.slot cell.symbol) x.last.0
+    → block_at (timely side d (x ∷ earlier)) cell ≡ block_at (timely side d earlier) cell
 
 -- the report of a symbol rests on the claims and the blocks of its cells alone
 abbrev pub ReportIsOfItsCells : Type 0
@@ -63,8 +69,8 @@ abbrev pub DataLeaveReports : Type 0
 DataLeaveReports =
     (side : Side) (es : List EndpointConfig) (d : Delays) (x : Data) (earlier : List Data) (claimed : List Allocation)
     (ep : ℕ) (e : EndpointConfig) (slot : Slot) (symbol : ℕ)
-    → IsWithinLimits d → IsProperData es x → IsAt es ep e → air_of e.numerology slot symbol ≤ℤ x.last.0
-    → symbol_report side (known_of claimed (timely Ru d (x ∷ earlier))) ep e slot symbol ≡ symbol_report side (known_of claimed (timely Ru d earlier)) ep e slot symbol
+    → IsWithinLimits d → IsProperData es x → IsAt es ep e → IsPast side d (air_of e.numerology slot symbol) x.last.0
+    → symbol_report side (known_of claimed (timely side d (x ∷ earlier))) ep e slot symbol ≡ symbol_report side (known_of claimed (timely side d earlier)) ep e slot symbol
 
 abbrev pub CommandLeavesJobs : Type 0
 CommandLeavesJobs =

@@ -1,10 +1,11 @@
--- What the radio unit tells at ticks that come after its clock: only live slots tell anything.
-use Rattle.std.specs.Prelude.{◌≡◌, ℕ, ℤ, pos, ◌<◌, ◌+ℤ◌, ◌≤ℤ◌, List, [], ◌++◌, ◌⊎◌}
+-- What a unit tells at ticks that come after its clock: at the radio unit only live slots tell anything.
+use Rattle.std.specs.Prelude.{◌≡◌, ℕ, ℤ, pos, ◌<◌, ◌+ℤ◌, ◌-ℤ◌, ◌≤ℤ◌, List, [], ◌++◌, ◌⊎◌}
 use Rattle.fh_time.specs.Air.{air_of}
 use Rattle.fh_time.specs.Numbering.{IsSlotOf, symbols_of}
 use Rattle.fh_time.specs.declared.numerology.Numerology.{Numerology}
 use Rattle.fh_time.specs.declared.values.Slot.{Slot}
 use Rattle.air_source.specs.declared.events.AirCell.{AirCell}
+use Rattle.air_source.specs.declared.events.Side.{Side}
 use Rattle.air_source.specs.declared.events.Side.TheVariants.{Ru}
 use Rattle.window_config.specs.Limits.{IsWithinLimits}
 use Rattle.window_config.specs.Rings.{IsLive, ru_reach_of}
@@ -14,7 +15,7 @@ use Rattle.window_config.specs.declared.endpoints.EndpointConfig.{EndpointConfig
 use Rattle.window_config.specs.declared.rings.Reach.{Reach}
 use Rattle.unit_model.specs.Meetings.{Arrival}
 use Rattle.unit_model.specs.Proper.{IsAt}
-use Rattle.unit_model.specs.Radiated.{Known, first_clock}
+use Rattle.unit_model.specs.Radiated.{Known, first_clock, wait_of}
 use Rattle.unit_model.specs.Reports.{accepted_of, ru_known}
 use Rattle.unit_model.specs.Standing.{AreInTime, due, still_given, still_reported}
 use Rattle.unit_model.specs.Sweeps.{at_tick, of_endpoint, of_slot, sweep}
@@ -78,11 +79,12 @@ JobsOfLive =
     → of_endpoint (symbol_jobs (accepted_of c arrivals) ep e) e tick
     ≡ each_slot e.numerology start count (of_slot (symbol_jobs (accepted_of c arrivals) ep e) e tick)
 
--- where nothing is due at the clock, what is due later is told at the ticks after it
+-- where nothing is due at a time, what is due later is told of the symbols whose moments come after it
 abbrev pub DueAfterClock : Type 0
 DueAfterClock =
-    (d : Delays) (es : List EndpointConfig) (k : Known) (heard : List AirCell) (clock to : ℤ) → first_clock ≤ℤ clock → clock ≤ℤ to
-    → due Ru d es k heard clock ≡ [] → due Ru d es k heard to ≡ sweep (still_reported Ru k heard) es (clock +ℤ pos 1) (to +ℤ pos 1)
+    (side : Side) (d : Delays) (es : List EndpointConfig) (k : Known) (heard : List AirCell) (clock to : ℤ) → first_clock ≤ℤ clock → clock ≤ℤ to
+    → due side d es k heard clock ≡ []
+    → due side d es k heard to ≡ sweep (still_reported side k heard) es ((clock -ℤ wait_of side d) +ℤ pos 1) ((to -ℤ wait_of side d) +ℤ pos 1)
 
 -- a job that was given is given no more
 abbrev pub GivenInOrder : Type 0

@@ -1,6 +1,8 @@
--- At the radio unit, an arrival changes nothing of what is reported up to it.
+-- An arrival changes nothing of what is past: at the radio unit what is reported up to it, at the distributed unit what is reported before
+-- it.
 use Rattle.std.specs.Prelude.{◌≡◌, ℤ, ◌≤ℤ◌, List, ◌∷◌}
 use Rattle.air_source.specs.declared.events.AirCell.{AirCell}
+use Rattle.air_source.specs.declared.events.Side.{Side}
 use Rattle.air_source.specs.declared.events.Side.TheVariants.{Ru}
 use Rattle.window_config.specs.Limits.{IsWithinLimits}
 use Rattle.window_config.specs.declared.delays.Delays.{Delays}
@@ -9,7 +11,7 @@ use Rattle.unit_model.specs.Blocks.{timely}
 use Rattle.unit_model.specs.Commands.{accepted}
 use Rattle.unit_model.specs.Proper.{IsProperCommand, IsProperData}
 use Rattle.unit_model.specs.Radiated.{known_of, reported}
-use Rattle.unit_model.specs.Standing.{due}
+use Rattle.unit_model.specs.Standing.{due, past_of}
 use Rattle.unit_model.specs.declared.allocations.Allocation.{Allocation}
 use Rattle.unit_model.specs.declared.decoded.Command.{Command}
 use Rattle.unit_model.specs.declared.decoded.Data.{Data}
@@ -23,9 +25,9 @@ CommandLeavesReported =
 
 abbrev pub DataLeaveReported : Type 0
 DataLeaveReported =
-    (es : List EndpointConfig) (d : Delays) (x : Data) (earlier : List Data) (claimed : List Allocation) (to : ℤ)
-    → IsWithinLimits d → IsProperData es x → to ≤ℤ x.last.0
-    → reported Ru d es (known_of claimed (timely Ru d (x ∷ earlier))) to ≡ reported Ru d es (known_of claimed (timely Ru d earlier)) to
+    (side : Side) (es : List EndpointConfig) (d : Delays) (x : Data) (earlier : List Data) (claimed : List Allocation) (to : ℤ)
+    → IsWithinLimits d → IsProperData es x → to ≤ℤ past_of side x.last.0
+    → reported side d es (known_of claimed (timely side d (x ∷ earlier))) to ≡ reported side d es (known_of claimed (timely side d earlier)) to
 
 -- nor of what is due, whatever was heard
 abbrev pub CommandLeavesDue : Type 0
@@ -36,6 +38,6 @@ CommandLeavesDue =
 
 abbrev pub DataLeaveDue : Type 0
 DataLeaveDue =
-    (es : List EndpointConfig) (d : Delays) (x : Data) (earlier : List Data) (claimed : List Allocation) (heard : List AirCell) (to : ℤ)
-    → IsWithinLimits d → IsProperData es x → to ≤ℤ x.last.0
-    → due Ru d es (known_of claimed (timely Ru d (x ∷ earlier))) heard to ≡ due Ru d es (known_of claimed (timely Ru d earlier)) heard to
+    (side : Side) (es : List EndpointConfig) (d : Delays) (x : Data) (earlier : List Data) (claimed : List Allocation) (heard : List AirCell) (to : ℤ)
+    → IsWithinLimits d → IsProperData es x → to ≤ℤ past_of side x.last.0
+    → due side d es (known_of claimed (timely side d (x ∷ earlier))) heard to ≡ due side d es (known_of claimed (timely side d earlier)) heard to

@@ -1,7 +1,7 @@
 -- One more section changes nothing of a slot that is not live when it comes.
 use Rattle.std.specs.Prelude.{◌≡◌, ℕ, ◌≤ℤ◌, List, ◌∷◌, ◌==◌, ◌&&◌, Bool, true, ◌⊎◌}
 use Rattle.fh_time.specs.declared.values.Slot.{Slot}
-use Rattle.air_source.specs.declared.events.Side.TheVariants.{Ru}
+use Rattle.air_source.specs.declared.events.Side.{Side}
 use Rattle.window_config.specs.Limits.{IsWithinLimits}
 use Rattle.window_config.specs.declared.delays.Delays.{Delays}
 use Rattle.window_config.specs.declared.endpoints.EndpointConfig.{EndpointConfig}
@@ -9,6 +9,7 @@ use Rattle.unit_model.specs.Blocks.{block_at, timely}
 use Rattle.unit_model.specs.Claims.{claim_at, same_slot}
 use Rattle.unit_model.specs.Commands.{accepted, allocation_of, command_verdict, is_uplink}
 use Rattle.unit_model.specs.Proper.{IsAt, IsProperCommand, IsProperData}
+use Rattle.unit_model.specs.Sides.{IsLiveOn}
 use Rattle.unit_model.specs.Standing.{uplink_of}
 use Rattle.unit_model.specs.declared.allocations.Allocation.{Allocation}
 use Rattle.unit_model.specs.declared.cells.Cell.{Cell}
@@ -24,12 +25,12 @@ ClaimsChangeInLive =
     → IsWithinLimits d → IsProperCommand es c → IsAt es cell.ep e
     → (claim_at (accepted d (c ∷ earlier)) cell re ≡ claim_at (accepted d earlier) cell re) ⊎ IsLiveSlot d e c.at.0 cell.slot
 
--- a block stays as it is, or its slot is live
+-- a block stays as it is, or its slot is live at the unit
 abbrev pub BlocksChangeInLive : Type 0
 BlocksChangeInLive =
-    (es : List EndpointConfig) (d : Delays) (x : Data) (earlier : List Data) (e : EndpointConfig) (cell : Cell)
+    (side : Side) (es : List EndpointConfig) (d : Delays) (x : Data) (earlier : List Data) (e : EndpointConfig) (cell : Cell)
     → IsWithinLimits d → IsProperData es x → x.first.0 ≤ℤ x.last.0 → IsAt es cell.ep e
-    → (block_at (timely Ru d (x ∷ earlier)) cell ≡ block_at (timely Ru d earlier) cell) ⊎ IsLiveSlot d e x.last.0 cell.slot
+    → (block_at (timely side d (x ∷ earlier)) cell ≡ block_at (timely side d earlier) cell) ⊎ IsLiveOn side d e x.last.0 cell.slot
 
 -- an uplink section of this endpoint's slot
 abbrev pub is_uplink_of : ℕ → Slot → Allocation → Bool

@@ -35,7 +35,7 @@ pub fn accepted_is_live()
     ensures { AcceptedIsLive }
 {}
 
-/// Data that are on time at the radio unit name a slot that is live when the last of them come.
+/// Data that are on time at a unit name a slot that is live there when the last of them come.
 pub fn timely_is_live()
     ensures { TimelyIsLive }
 {}
@@ -85,7 +85,7 @@ pub fn command_leaves_past()
     ensures jobs { CommandLeavesJobs }
 {}
 
-/// Data change no block in a symbol that starts by their last arrival, nor what is reported of that symbol.
+/// Data change no block in a symbol whose moment is past at their last arrival, nor what is reported of that symbol.
 pub fn data_leave_past()
     ensures blocks { DataLeavePast }
     ensures reports { DataLeaveReports }
@@ -142,7 +142,7 @@ pub fn command_leaves_told()
     ensures sent { CommandLeavesSent }
 {}
 
-/// Data change nothing of what is reported or due up to their last arrival.
+/// Data change nothing of what is reported or due up to their last arrival, at the distributed unit before it.
 pub fn data_leave_told()
     ensures reported { DataLeaveReported }
     ensures due { DataLeaveDue }
@@ -186,7 +186,7 @@ pub fn all_that_was_read()
     ensures data_proper { DataAreProper }
 {}
 
-/// Of a slot that is not live yet, the radio unit knows nothing, and reports and sends nothing.
+/// Of a slot that is not live yet, a unit has no block, and the radio unit knows nothing, and reports and sends nothing.
 pub fn nothing_ahead()
     ensures claims { NoClaimsAhead }
     ensures blocks { NoBlocksAhead }
@@ -225,7 +225,7 @@ pub fn only_live_slots_tell()
     ensures jobs { JobsOfLive }
 {}
 
-/// Where nothing is due at the clock, what is due later is told at the ticks after it.
+/// Where nothing is due at a time, what is due later is told of the symbols whose moments come after it.
 pub fn due_after_clock()
     ensures { DueAfterClock }
 {}
