@@ -1,8 +1,9 @@
 -- Where nothing is planned and nothing lands at the distributed unit, nothing is told of it.
-use Rattle.std.proofs.Common.{◌≡◌, ℕ, ℤ, pos, zero, suc, ◌+ℤ◌, ◌-ℤ◌, List, [], ◌∷◌, ◌++◌, refl, sym, ap, ap₂, ◌∙◌, append-nil}
-use Rattle.std.specs.Prelude.{None, Option, map, ◌==◌, if◌then◌else◌}
+use Rattle.std.proofs.Common.{◌≡◌, ℕ, ℤ, pos, zero, suc, ◌+ℤ◌, ◌-ℤ◌, List, [], ◌∷◌, ◌++◌, refl, sym, ap, ap₂, ◌∙◌, subst, append-nil}
+use Rattle.std.specs.Prelude.{None, Option, filter, map, ◌==◌, if◌then◌else◌}
 use Rattle.std.specs.Int.{int_gap}
 use Rattle.std.specs.List.{flat_map}
+use Rattle.std.proofs.lemmas.List.Elements.{All-nil}
 use Rattle.air_source.specs.declared.events.AirCell.{AirCell}
 use Rattle.air_source.specs.declared.events.Event.{Event}
 use Rattle.air_source.specs.declared.events.Event.TheVariants as event
@@ -20,16 +21,19 @@ use Rattle.unit_model.specs.Lists.{onto}
 use Rattle.unit_model.specs.Meetings.{Arrival}
 use Rattle.unit_model.specs.Radiated.{first_clock, reported, symbol_report, wait_of}
 use Rattle.unit_model.specs.Reports.{arrivals_counted, du_known}
+use Rattle.unit_model.specs.Standing.{due, still_reported}
 use Rattle.unit_model.specs.Sweeps.{at_tick}
 use Rattle.unit_model.specs.declared.allocations.Allocation.{Allocation}
 use Rattle.unit_model.specs.declared.cells.Cell.{Cell}
 use Rattle.unit_model.specs.declared.cells.Claim.{Claim}
 use Rattle.unit_model.proofs.CountLemmas.{nothing_counted}
 use Rattle.unit_laws.proofs.AheadLemmas.{unclaimed_reports_nothing}
+use Rattle.unit_laws.proofs.DueLemmas.{unheard}
 use Rattle.unit_laws.proofs.SweepLemmas.{sweep-nothing, tick-nothing}
 use Rattle.replay_events.specs.Alone.{IdleWithoutPlan, IsDuIdle}
 use Rattle.replay_events.specs.Events.{arrival_event, arrivals_at, arrivals_told, cells_at, count_event, count_events, events_at, number_of, start_of}
 use Rattle.replay_events.specs.Moments.{all_arrivals, arrivals_in, end_of_time, landing_at}
+use Rattle.replay_events.specs.Passing.{AreLandings}
 use Rattle.replay_events.specs.Traffic.{Traffic}
 
 -- ---- of nothing
@@ -79,9 +83,23 @@ no_number c x k none idle =
     ∙ ap₂ (λ (counted : List Counter) (cells : List AirCell). capped (times (counted ++ cells_counted cells) k))
     (ap (arrivals_counted Du c) none_arrive ∙ nothing_counted Du c) (none_reported c (all_arrivals []) end_of_time)
 
+none_due : (c : Config) (arrivals : List Arrival) (heard : List AirCell) (to : ℤ) → due Du c.delays c.endpoints (du_known c [] arrivals) heard to ≡ []
+unfolding due still_reported
+none_due c arrivals heard to =
+    let g = still_reported Du (du_known c [] arrivals) heard in
+    sweep-nothing g c.endpoints (first_clock -ℤ wait_of Du c.delays) ((to -ℤ wait_of Du c.delays) +ℤ pos 1) (λ tick low high.
+    tick-nothing g c.endpoints tick (λ ep e slot symbol swept. ap (filter (unheard heard)) (no_report c arrivals ep e slot symbol)))
+
+none_land : AreLandings []
+none_land = record { times = All-nil _; begun = All-nil _; ended = All-nil _ }
+
 pub idle_without_plan : IdleWithoutPlan
 unfolding count_events
 idle_without_plan c x none idle = record {
+  landings_are = subst AreLandings (sym idle) none_land;
+  calm = λ tick. ap (λ (xs : List Arrival). landing_at xs tick) idle;
+  quiet = λ arrivals heard to.
+      ap (λ (planned : List Allocation). due Du c.delays c.endpoints (du_known c planned arrivals) heard to) none ∙ none_due c arrivals heard to;
   arrivals = λ tick. ap (λ (xs : List Arrival). arrivals_told Du (landing_at xs tick)) idle ∙ none_told Du;
   cells = λ tick.
       ap (λ (planned : List Allocation). at_tick (symbol_report Du (du_known c planned (all_arrivals x.at_du))) c.endpoints (start_of Du c.delays tick)) none

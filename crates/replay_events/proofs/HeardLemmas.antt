@@ -1,6 +1,6 @@
 -- What an air heard of each unit, among several events.
-use Rattle.std.proofs.Common.{◌≡◌, ℕ, ℤ, pos, ◌+ℤ◌, ◌-ℤ◌, Bool, true, false, List, [], ◌∷◌, ◌++◌, refl, sym, ap, ap₂, ◌∙◌, subst}
-use Rattle.std.specs.Prelude.{All, ◌==◌, filter, if◌then◌else◌, map}
+use Rattle.std.proofs.Common.{◌≡◌, ℕ, ℤ, pos, ◌+ℤ◌, ◌-ℤ◌, Bool, true, false, List, [], ◌∷◌, ◌++◌, refl, ap, ◌∙◌}
+use Rattle.std.specs.Prelude.{All, ◌==◌, if◌then◌else◌, map}
 use Rattle.std.proofs.lemmas.List.Elements.{All-nil, All-cons, All-filter, All-head, All-tail}
 use Rattle.air_source.specs.declared.events.AirCell.{AirCell}
 use Rattle.air_source.specs.declared.events.Event.{Event}
@@ -20,7 +20,7 @@ use Rattle.unit_model.specs.Sweeps.{at_tick}
 use Rattle.unit_laws.proofs.DifferLemmas.{all_kept}
 use Rattle.unit_laws.proofs.DueLemmas.{unheard}
 use Rattle.unit_laws.proofs.SweepLemmas.{at_tick_related, each_related, sweep_related}
-use Rattle.replay_events.specs.Events.{arrival_event, arrivals_told}
+use Rattle.replay_events.specs.Events.{arrivals_told}
 use Rattle.replay_events.specs.Heard.{arrivals_heard, cells_heard, is_of}
 
 -- ---- which unit's

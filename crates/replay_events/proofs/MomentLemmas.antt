@@ -1,159 +1,221 @@
--- At the next moment its cells are due, and all cells before it were reported.
-use Rattle.std.proofs.Common.{◌≡◌, ℤ, pos, ◌+ℤ◌, ◌-ℤ◌, ◌≤ℤ◌, List, [], ◌++◌, sym, ap, ◌∙◌, arith}
+-- At the next moment a unit's cells are due, and all cells before it were reported.
+use Rattle.std.proofs.Common.{◌≡◌, ℤ, pos, ◌+ℤ◌, ◌-ℤ◌, ◌≤ℤ◌, List, [], ◌++◌, refl, sym, ap, ap₂, ◌∙◌, arith}
 use Rattle.std.proofs.lemmas.Int.{ints}
 use Rattle.std.proofs.lemmas.List.{append-nil, append_cancel_left}
 use Rattle.air_source.specs.declared.events.AirCell.{AirCell}
-use Rattle.air_source.specs.declared.events.Side.TheVariants.{Ru}
+use Rattle.air_source.specs.declared.events.Side.{Side}
+use Rattle.air_source.specs.declared.events.Side.TheVariants.{Ru, Du}
 use Rattle.window_config.specs.Configs.{IsConfig}
 use Rattle.window_config.specs.declared.config.Config.{Config}
 use Rattle.window_config.specs.declared.delays.Delays.{Delays}
 use Rattle.window_config.specs.declared.endpoints.EndpointConfig.{EndpointConfig}
 use Rattle.unit_model.specs.Meetings.{Arrival}
-use Rattle.unit_model.specs.Radiated.{Known, first_clock, reported, symbol_report}
-use Rattle.unit_model.specs.Reports.{ru_known, ru_reported}
-use Rattle.unit_model.specs.Standing.{due}
+use Rattle.unit_model.specs.Radiated.{Known, first_clock, reported, symbol_report, wait_of}
+use Rattle.unit_model.specs.Standing.{due, past_of}
 use Rattle.unit_model.specs.Sweeps.{at_tick, sweep}
 use Rattle.unit_laws.proofs.DueLemmas.{all_is_due, due_in_pieces}
 use Rattle.unit_laws.proofs.SweepLemmas.{sweep-append}
 use Rattle.replay_events.specs.Events.{cells_at}
 use Rattle.replay_events.specs.Moments.{all_arrivals, arrivals_before, end_of_time}
-use Rattle.replay_events.specs.Traffic.{Traffic}
-use Rattle.replay_events.specs.Passing.{AreLandings, DueAtMoment, IsNextMoment, ReportedAtMoment, ReportedBeforeMoment, due_from}
+use Rattle.replay_events.specs.Passing.{AreLandings, DueAtMoment, IsNextMoment, ReportedAtMoment, ReportedBeforeMoment, seen_at, seen_before}
+use Rattle.replay_events.specs.Traffic.{Traffic, known_at, landings_at, reported_at}
 use Rattle.replay_events.proofs.CameLemmas.{calm_adds_nothing}
 use Rattle.replay_events.proofs.SettledLemmas.{reported_settled}
-use Rattle.replay_events.proofs.TickLemmas.{at_most, last_is_earlier, last_reached, next_is_later, next_most, next_of_last, same_most, sweep_alone}
+use Rattle.replay_events.proofs.TickLemmas.{at_most, last_is_earlier, last_reached, next_is_later, next_most, same_most, sweep_alone}
 
 -- ---- what is reported, in pieces
 
-mid_is : (t : ℤ) → ((t -ℤ pos 1) -ℤ pos 0) +ℤ pos 1 ≡ t
-mid_is t = omega (arith, ints)
+pub mid_is : (t wait : ℤ) → ((t -ℤ pos 1) -ℤ wait) +ℤ pos 1 ≡ t -ℤ wait
+mid_is t wait = omega (arith, ints)
 
-end_is : (t : ℤ) → (t -ℤ pos 0) +ℤ pos 1 ≡ t +ℤ pos 1
-end_is t = omega (arith, ints)
+mid_low : (first now wait : ℤ) → first ≤ℤ now → (first -ℤ wait) ≤ℤ (((now -ℤ pos 1) -ℤ wait) +ℤ pos 1)
+mid_low first now wait h = omega (arith, ints)
 
-mid_low : (first now : ℤ) → first ≤ℤ now → (first -ℤ pos 0) ≤ℤ (((now -ℤ pos 1) -ℤ pos 0) +ℤ pos 1)
-mid_low first now h = omega (arith, ints)
-
-mid_high : (now to : ℤ) → now ≤ℤ (to +ℤ pos 1) → (((now -ℤ pos 1) -ℤ pos 0) +ℤ pos 1) ≤ℤ ((to -ℤ pos 0) +ℤ pos 1)
-mid_high now to h = omega (arith, ints)
+mid_high : (now to wait : ℤ) → now ≤ℤ (to +ℤ pos 1) → (((now -ℤ pos 1) -ℤ wait) +ℤ pos 1) ≤ℤ ((to -ℤ wait) +ℤ pos 1)
+mid_high now to wait h = omega (arith, ints)
 
 -- before a tick, and from it on
-reported_parts : (d : Delays) (es : List EndpointConfig) (k : Known) (now to : ℤ) → first_clock ≤ℤ now → now ≤ℤ (to +ℤ pos 1)
-    → reported Ru d es k to ≡ reported Ru d es k (now -ℤ pos 1) ++ sweep (symbol_report Ru k) es now (to +ℤ pos 1)
+reported_parts : (side : Side) (d : Delays) (es : List EndpointConfig) (k : Known) (now to : ℤ) → first_clock ≤ℤ now → now ≤ℤ (to +ℤ pos 1)
+    → reported side d es k to ≡ reported side d es k (now -ℤ pos 1) ++ sweep (symbol_report side k) es (now -ℤ wait_of side d) ((to -ℤ wait_of side d) +ℤ pos 1)
 unfolding reported
-reported_parts d es k now to begun order =
-    let g = symbol_report Ru k in
-    let from = first_clock -ℤ pos 0 in
-    let mid = ((now -ℤ pos 1) -ℤ pos 0) +ℤ pos 1 in
-    let end = (to -ℤ pos 0) +ℤ pos 1 in
-    let earlier = sweep g es from mid in
-    sweep-append g es from mid end (mid_low first_clock now begun) (mid_high now to order)
-    ∙ ap (λ (t : ℤ). earlier ++ sweep g es t end) (mid_is now)
-    ∙ ap (λ (t : ℤ). earlier ++ sweep g es now t) (end_is to)
+reported_parts side d es k now to begun order =
+    let g = symbol_report side k in
+    let w = wait_of side d in
+    let from = first_clock -ℤ w in
+    let mid = ((now -ℤ pos 1) -ℤ w) +ℤ pos 1 in
+    let end = (to -ℤ w) +ℤ pos 1 in
+    sweep-append g es from mid end (mid_low first_clock now w begun) (mid_high now to w order)
+    ∙ ap (λ (t : ℤ). sweep g es from mid ++ sweep g es t end) (mid_is now w)
 
 -- up to a tick: before it, and at it
-reported_at_tick : (d : Delays) (es : List EndpointConfig) (k : Known) (t : ℤ) → first_clock ≤ℤ t
-    → reported Ru d es k t ≡ reported Ru d es k (t -ℤ pos 1) ++ at_tick (symbol_report Ru k) es t
-reported_at_tick d es k t begun =
-    reported_parts d es k t t begun (next_is_later t)
-    ∙ ap (λ (xs : List AirCell). reported Ru d es k (t -ℤ pos 1) ++ xs) (sweep_alone (symbol_report Ru k) es t)
+reported_at_tick : (side : Side) (d : Delays) (es : List EndpointConfig) (k : Known) (t : ℤ) → first_clock ≤ℤ t
+    → reported side d es k t ≡ reported side d es k (t -ℤ pos 1) ++ at_tick (symbol_report side k) es (t -ℤ wait_of side d)
+reported_at_tick side d es k t begun =
+    reported_parts side d es k t t begun (next_is_later t)
+    ∙ ap (λ (xs : List AirCell). reported side d es k (t -ℤ pos 1) ++ xs) (sweep_alone (symbol_report side k) es (t -ℤ wait_of side d))
 
 -- where all before `now` was heard, the rest is due
-due_rest : (c : Config) (k : Known) (now to : ℤ) → IsConfig c → first_clock ≤ℤ now → now ≤ℤ (to +ℤ pos 1)
-    → due Ru c.delays c.endpoints k (reported Ru c.delays c.endpoints k (now -ℤ pos 1)) to ≡ sweep (symbol_report Ru k) c.endpoints now (to +ℤ pos 1)
-due_rest c k now to config begun order =
+due_rest : (side : Side) (c : Config) (k : Known) (now to : ℤ) → IsConfig c → first_clock ≤ℤ now → now ≤ℤ (to +ℤ pos 1)
+    → due side c.delays c.endpoints k (reported side c.delays c.endpoints k (now -ℤ pos 1)) to
+    ≡ sweep (symbol_report side k) c.endpoints (now -ℤ wait_of side c.delays) ((to -ℤ wait_of side c.delays) +ℤ pos 1)
+due_rest side c k now to config begun order =
     let es = c.endpoints in
     let d = c.delays in
-    due_in_pieces Ru d es k [] (reported Ru d es k (now -ℤ pos 1)) (sweep (symbol_report Ru k) es now (to +ℤ pos 1)) to config.endpoints.differ
-    (all_is_due Ru d es k to ∙ reported_parts d es k now to begun order)
+    due_in_pieces side d es k [] (reported side d es k (now -ℤ pos 1))
+    (sweep (symbol_report side k) es (now -ℤ wait_of side d) ((to -ℤ wait_of side d) +ℤ pos 1)) to config.endpoints.differ
+    (all_is_due side d es k to ∙ reported_parts side d es k now to begun order)
 
 same_parts : (xs ys zs ws : List AirCell) → xs ≡ zs → xs ++ ys ≡ zs ++ ws → ys ≡ ws
 same_parts xs ys zs ws front all = append_cancel_left xs ys ws (all ∙ ap (λ (us : List AirCell). us ++ ws) (sym front))
 
+-- ---- what a unit has seen at a tick
+
+last_most : (t : ℤ) → t ≤ℤ ((t +ℤ pos 1) -ℤ pos 1)
+last_most t = omega (arith, ints)
+
+next_order : (a b : ℤ) → a ≤ℤ b → (a +ℤ pos 1) ≤ℤ (b +ℤ pos 1)
+next_order a b h = omega (arith, ints)
+
+pub seen_later : (side : Side) (t : ℤ) → t ≤ℤ seen_before side t
+seen_later Ru t = same_most t
+seen_later Du t = next_is_later t
+
+seen_past : (side : Side) (t : ℤ) → t ≤ℤ past_of side (seen_before side t)
+seen_past Ru t = same_most t
+seen_past Du t = last_most t
+
+pub seen_by : (side : Side) (t end : ℤ) → t ≤ℤ end → seen_before side t ≤ℤ (end +ℤ pos 1)
+seen_by Ru t end h = next_most t end h
+seen_by Du t end h = next_order t end h
+
+last_past : (side : Side) (t : ℤ) → (t -ℤ pos 1) ≤ℤ past_of side t
+last_past Ru t = last_is_earlier t
+last_past Du t = same_most (t -ℤ pos 1)
+
 -- ---- the cells of a tick
 
--- they are those by what came before it
-pub cells_settled : (c : Config) (x : Traffic) (t : ℤ) → IsConfig c → AreLandings x.at_ru → first_clock ≤ℤ t → t ≤ℤ end_of_time
-    → cells_at Ru c x t ≡ at_tick (symbol_report Ru (ru_known c (arrivals_before x.at_ru t))) c.endpoints t
-cells_settled c x t config are begun ended =
-    let landings = x.at_ru in
-    let all = ru_known c (all_arrivals landings) in
-    let now = ru_known c (arrivals_before landings t) in
+no_wait : (t : ℤ) → t ≡ t -ℤ pos 0
+no_wait t = omega (arith, ints)
+
+-- they go by the starts of their symbols
+pub by_start : (side : Side) (c : Config) (x : Traffic) (tick : ℤ)
+    → cells_at side c x tick
+    ≡ at_tick (symbol_report side (known_at side c x.planned (all_arrivals (landings_at side x)))) c.endpoints (tick -ℤ wait_of side c.delays)
+by_start Ru c x tick = ap (λ (s : ℤ). at_tick (symbol_report Ru (known_at Ru c x.planned (all_arrivals x.at_ru))) c.endpoints s) (no_wait tick)
+by_start Du c x tick = refl
+
+-- they are those by what the unit has seen then
+pub cells_settled : (side : Side) (c : Config) (x : Traffic) (t : ℤ) → IsConfig c → AreLandings (landings_at side x) → first_clock ≤ℤ t → t ≤ℤ end_of_time
+    → cells_at side c x t ≡ at_tick (symbol_report side (known_at side c x.planned (seen_at side (landings_at side x) t))) c.endpoints (t -ℤ wait_of side c.delays)
+cells_settled side c x t config are begun ended =
+    let landings = landings_at side x in
+    let all = known_at side c x.planned (all_arrivals landings) in
+    let seen = known_at side c x.planned (seen_at side landings t) in
     let es = c.endpoints in
     let d = c.delays in
+    let w = wait_of side d in
     let last = t -ℤ pos 1 in
+    let then = seen_before side t in
     let end = end_of_time +ℤ pos 1 in
-    let order = next_most t end_of_time ended in
-    let before : reported Ru d es all last ≡ reported Ru d es now last = reported_settled Ru c [] landings last t end config are begun (last_is_earlier t) order in
-    let up_to : reported Ru d es all t ≡ reported Ru d es now t = reported_settled Ru c [] landings t t end config are begun (same_most t) order in
-    same_parts (reported Ru d es all last) (at_tick (symbol_report Ru all) es t) (reported Ru d es now last) (at_tick (symbol_report Ru now) es t) before
-    (sym (reported_at_tick d es all t begun) ∙ up_to ∙ reported_at_tick d es now t begun)
+    let order = seen_by side t end_of_time ended in
+    let from = at_most first_clock t then begun (seen_later side t) in
+    let past = seen_past side t in
+    let before : reported side d es all last ≡ reported side d es seen last =
+    reported_settled side c x.planned landings last then end config are from (at_most last t (past_of side then) (last_is_earlier t) past) order in
+    let up_to : reported side d es all t ≡ reported side d es seen t = reported_settled side c x.planned landings t then end config are from past order in
+    by_start side c x t
+    ∙ same_parts (reported side d es all last) (at_tick (symbol_report side all) es (t -ℤ w)) (reported side d es seen last) (at_tick (symbol_report side seen) es (t -ℤ w)) before
+    (sym (reported_at_tick side d es all t begun) ∙ up_to ∙ reported_at_tick side d es seen t begun)
 
 -- ---- at the next moment
 
-module _ (c : Config) (x : Traffic) (now tick : ℤ) (next : IsNextMoment c x now tick) where
+module _ (side : Side) (c : Config) (x : Traffic) (now tick : ℤ) (next : IsNextMoment c x now tick) where
   abbrev landings : List Arrival
-  landings = x.at_ru
+  landings = landings_at side x
 
-  abbrev then_known : Known
-  then_known = ru_known c (arrivals_before landings now)
+  abbrev es : List EndpointConfig
+  es = c.endpoints
+
+  abbrev d : Delays
+  d = c.delays
+
+  abbrev w : ℤ
+  w = wait_of side d
+
+  -- by what came before now, and by what is seen at the tick
+  abbrev old : Known
+  old = known_at side c x.planned (arrivals_before landings now)
+
+  abbrev new : Known
+  new = known_at side c x.planned (seen_at side landings tick)
+
+  are : AreLandings landings
+  are = (next.units side).landings_are
+
+  tick_begun : first_clock ≤ℤ tick
+  tick_begun = at_most first_clock now tick next.begun next.order
 
   reached : now ≤ℤ ((tick -ℤ pos 1) +ℤ pos 1)
   reached = last_reached now tick next.order
 
   pub calm_before : arrivals_before landings tick ≡ arrivals_before landings now
-  calm_before = calm_adds_nothing landings now tick next.begun next.order next.calm
+  calm_before = calm_adds_nothing landings now tick next.begun next.order (next.units side).calm
 
-  pub quiet_before : sweep (symbol_report Ru then_known) c.endpoints now tick ≡ []
+  pub quiet_before : sweep (symbol_report side old) es (now -ℤ w) (tick -ℤ w) ≡ []
   quiet_before =
-      ap (λ (t : ℤ). sweep (symbol_report Ru then_known) c.endpoints now t) (sym (next_of_last tick))
-      ∙ sym (due_rest c then_known now (tick -ℤ pos 1) next.config next.begun reached) ∙ next.quiet
+      ap (λ (t : ℤ). sweep (symbol_report side old) es (now -ℤ w) t) (sym (mid_is tick w))
+      ∙ sym (due_rest side c old now (tick -ℤ pos 1) next.config next.begun reached) ∙ (next.units side).quiet
 
-  cells_then : tick ≤ℤ end_of_time → cells_at Ru c x tick ≡ at_tick (symbol_report Ru then_known) c.endpoints tick
-  cells_then ended =
-      cells_settled c x tick next.config next.landings_are (at_most first_clock now tick next.begun next.order) ended
-      ∙ ap (λ (xs : List Arrival). at_tick (symbol_report Ru (ru_known c xs)) c.endpoints tick) calm_before
+  -- nothing is reported between
+  old_waits : reported side d es old (tick -ℤ pos 1) ≡ reported side d es old (now -ℤ pos 1)
+  old_waits =
+      let earlier = reported side d es old (now -ℤ pos 1) in
+      reported_parts side d es old now (tick -ℤ pos 1) next.begun reached
+      ∙ ap (λ (t : ℤ). earlier ++ sweep (symbol_report side old) es (now -ℤ w) t) (mid_is tick w)
+      ∙ ap (λ (xs : List AirCell). earlier ++ xs) quiet_before
+      ∙ append-nil earlier
 
-  rest_then : tick ≤ℤ end_of_time → sweep (symbol_report Ru then_known) c.endpoints now (tick +ℤ pos 1) ≡ cells_at Ru c x tick
-  rest_then ended =
-      let g = symbol_report Ru then_known in
-      let es = c.endpoints in
-      sweep-append g es now tick (tick +ℤ pos 1) next.order (next_is_later tick)
-      ∙ ap (λ (xs : List AirCell). xs ++ sweep g es tick (tick +ℤ pos 1)) quiet_before
-      ∙ sweep_alone g es tick ∙ sym (cells_then ended)
+  -- and what is seen at the tick changes nothing of it
+  same_then : reported side d es new (now -ℤ pos 1) ≡ reported side d es old (now -ℤ pos 1)
+  same_then =
+      reported_settled side c x.planned landings (now -ℤ pos 1) now (seen_before side tick) next.config are next.begun (last_past side now)
+      (at_most now tick (seen_before side tick) next.order (seen_later side tick))
 
-  due_then : tick ≤ℤ end_of_time → due_from c landings now tick ≡ cells_at Ru c x tick
-  due_then ended = due_rest c then_known now tick next.config next.begun (next_most now tick next.order) ∙ rest_then ended
+  same_until : reported side d es new (tick -ℤ pos 1) ≡ reported side d es old (tick -ℤ pos 1)
+  same_until =
+      reported_settled side c x.planned landings (tick -ℤ pos 1) tick (seen_before side tick) next.config are tick_begun (last_past side tick) (seen_later side tick)
+      ∙ ap (λ (xs : List Arrival). reported_at side c x.planned xs (tick -ℤ pos 1)) calm_before
+
+  new_waits : reported side d es new (now -ℤ pos 1) ≡ reported side d es new (tick -ℤ pos 1)
+  new_waits = same_then ∙ sym old_waits ∙ sym same_until
+
+  rest_is : sweep (symbol_report side new) es (now -ℤ w) ((tick -ℤ w) +ℤ pos 1) ≡ at_tick (symbol_report side new) es (tick -ℤ w)
+  rest_is =
+      same_parts (reported side d es new (now -ℤ pos 1)) _ (reported side d es new (tick -ℤ pos 1)) _ new_waits
+      (sym (reported_parts side d es new now tick next.begun (next_most now tick next.order)) ∙ reported_at_tick side d es new tick tick_begun)
+
+  due_then : tick ≤ℤ end_of_time → due side d es new (reported side d es old (now -ℤ pos 1)) tick ≡ cells_at side c x tick
+  due_then ended =
+      ap (λ (heard : List AirCell). due side d es new heard tick) (sym same_then)
+      ∙ due_rest side c new now tick next.config next.begun (next_most now tick next.order)
+      ∙ rest_is ∙ sym (cells_settled side c x tick next.config are tick_begun ended)
 
   reported_then : tick ≤ℤ end_of_time
-      → ru_reported c (arrivals_before landings now) (now -ℤ pos 1) ++ cells_at Ru c x tick ≡ ru_reported c (arrivals_before landings (tick +ℤ pos 1)) tick
+      → reported side d es old (now -ℤ pos 1) ++ cells_at side c x tick ≡ reported_at side c x.planned (arrivals_before landings (tick +ℤ pos 1)) tick
   reported_then ended =
-      let es = c.endpoints in
-      let d = c.delays in
-      ap (λ (xs : List AirCell). reported Ru d es then_known (now -ℤ pos 1) ++ xs) (sym (rest_then ended))
-      ∙ sym (reported_parts d es then_known now tick next.begun (next_most now tick next.order))
-      ∙ ap (λ (xs : List Arrival). ru_reported c xs tick) (sym calm_before)
-      ∙ sym (reported_settled Ru c [] landings tick tick (tick +ℤ pos 1) next.config next.landings_are (at_most first_clock now tick next.begun next.order) (same_most tick)
-      (next_is_later tick))
+      ap₂ ◌++◌ (sym old_waits ∙ sym same_until) (cells_settled side c x tick next.config are tick_begun ended)
+      ∙ sym (reported_at_tick side d es new tick tick_begun)
+      ∙ sym (reported_settled side c x.planned landings tick (seen_before side tick) (tick +ℤ pos 1) next.config are
+      (at_most first_clock tick (seen_before side tick) tick_begun (seen_later side tick)) (seen_past side tick) (seen_by side tick tick (same_most tick)))
 
-  reported_until : ru_reported c (arrivals_before landings now) (now -ℤ pos 1) ≡ ru_reported c (arrivals_before landings tick) (tick -ℤ pos 1)
-  reported_until =
-      let es = c.endpoints in
-      let d = c.delays in
-      let g = symbol_report Ru then_known in
-      let earlier = reported Ru d es then_known (now -ℤ pos 1) in
-      let whole : reported Ru d es then_known (tick -ℤ pos 1) ≡ earlier =
-      reported_parts d es then_known now (tick -ℤ pos 1) next.begun reached
-      ∙ ap (λ (t : ℤ). earlier ++ sweep g es now t) (next_of_last tick)
-      ∙ ap (λ (xs : List AirCell). earlier ++ xs) quiet_before
-      ∙ append-nil earlier in
-      sym whole ∙ ap (λ (xs : List Arrival). ru_reported c xs (tick -ℤ pos 1)) (sym calm_before)
+  reported_until : reported side d es old (now -ℤ pos 1) ≡ reported_at side c x.planned (arrivals_before landings tick) (tick -ℤ pos 1)
+  reported_until = sym old_waits ∙ ap (λ (xs : List Arrival). reported_at side c x.planned xs (tick -ℤ pos 1)) (sym calm_before)
 
 pub due_at_moment : DueAtMoment
-due_at_moment c x now tick next ended = due_then c x now tick next ended
+due_at_moment side c x now tick next ended = due_then side c x now tick next ended
 
 pub reported_at_moment : ReportedAtMoment
-reported_at_moment c x now tick next ended = reported_then c x now tick next ended
+reported_at_moment side c x now tick next ended = reported_then side c x now tick next ended
 
 pub reported_before_moment : ReportedBeforeMoment
-reported_before_moment c x now tick next = reported_until c x now tick next
+reported_before_moment side c x now tick next = reported_until side c x now tick next

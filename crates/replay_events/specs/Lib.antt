@@ -2,5 +2,5 @@ pub mod Moments
 pub mod Traffic
 pub mod Events
 pub mod Heard
-pub mod Alone
 pub mod Passing
+pub mod Alone

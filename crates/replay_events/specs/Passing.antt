@@ -2,20 +2,19 @@
 use Rattle.std.specs.Prelude.{◌≡◌, ℤ, pos, ◌+ℤ◌, ◌-ℤ◌, ◌≤ℤ◌, ◌<ℤ◌, List, [], ◌++◌, All}
 use Rattle.air_source.specs.declared.events.AirCell.{AirCell}
 use Rattle.air_source.specs.declared.events.Side.{Side}
-use Rattle.air_source.specs.declared.events.Side.TheVariants.{Ru}
+use Rattle.air_source.specs.declared.events.Side.TheVariants.{Ru, Du}
 use Rattle.window_config.specs.Configs.{IsConfig}
 use Rattle.window_config.specs.declared.config.Config.{Config}
 use Rattle.unit_model.specs.Lists.{onto}
 use Rattle.unit_model.specs.Meetings.{Arrival}
 use Rattle.unit_model.specs.Proper.{IsTime}
 use Rattle.unit_model.specs.Radiated.{first_clock}
-use Rattle.unit_model.specs.Reports.{accepted_of, ru_known, ru_reported}
+use Rattle.unit_model.specs.Reports.{accepted_of}
 use Rattle.unit_model.specs.Standing.{AreInTime, due, past_of}
 use Rattle.unit_model.specs.Uplink.{jobs}
-use Rattle.replay_events.specs.Alone.{IsDuIdle}
 use Rattle.replay_events.specs.Events.{cells_at, events_at, events_between}
 use Rattle.replay_events.specs.Moments.{all_arrivals, arrivals_before, end_of_time, landing_at}
-use Rattle.replay_events.specs.Traffic.{Traffic, reported_at}
+use Rattle.replay_events.specs.Traffic.{Traffic, known_at, landings_at, reported_at}
 use Rattle.unit_model.specs.declared.allocations.Allocation.{Allocation}
 
 -- frames that may be replayed
@@ -28,10 +27,19 @@ pub record AreLandings (landings : List Arrival) : Type 0 where
 abbrev pub IsCalm : List Arrival → ℤ → ℤ → Type 0
 IsCalm landings from to = (tick : ℤ) → from ≤ℤ tick → tick <ℤ to → landing_at landings tick ≡ []
 
--- what is due up to a time, where all cells of ticks before `now` were reported
-abbrev pub due_from : Config → List Arrival → ℤ → ℤ → List AirCell
-due_from c landings now to =
-    due Ru c.delays c.endpoints (ru_known c (arrivals_before landings now)) (ru_reported c (arrivals_before landings now) (now -ℤ pos 1)) to
+-- what is due at a unit up to a time, where all its cells of ticks before `now` were reported
+abbrev pub due_from : Side → Config → List Allocation → List Arrival → ℤ → ℤ → List AirCell
+due_from side c planned landings now to =
+    due side c.delays c.endpoints (known_at side c planned (arrivals_before landings now))
+    (reported_at side c planned (arrivals_before landings now) (now -ℤ pos 1)) to
+
+-- what has arrived at a unit when it reports the cells of a tick: at the distributed unit what lands at the tick too
+abbrev pub seen_before : Side → ℤ → ℤ
+seen_before Ru tick = tick
+seen_before Du tick = tick +ℤ pos 1
+
+abbrev pub seen_at : Side → List Arrival → ℤ → List Arrival
+seen_at side landings tick = arrivals_before landings (seen_before side tick)
 
 -- ---- what came
 
@@ -65,33 +73,40 @@ MessagesAreSettled =
     (c : Config) (landings : List Arrival) (to tick later : ℤ) → IsConfig c → AreLandings landings → first_clock ≤ℤ tick → to ≤ℤ tick → tick ≤ℤ later
     → jobs c.endpoints (accepted_of c (arrivals_before landings later)) to ≡ jobs c.endpoints (accepted_of c (arrivals_before landings tick)) to
 
--- Where nothing lands from `now` on and before a tick, and nothing is due before it: what is due up to the tick are its cells, and
--- no events stand between. Nothing is told of the distributed unit.
+-- nothing lands at a unit from `now` on and before a tick, and nothing is due at it before the tick
+pub record IsUnitMoment (side : Side) (c : Config) (t : Traffic) (now tick : ℤ) : Type 0 where
+  pub landings_are : AreLandings (landings_at side t)
+  pub calm : IsCalm (landings_at side t) now tick
+  pub quiet : due_from side c t.planned (landings_at side t) now (tick -ℤ pos 1) ≡ []
+
+-- Where it is so at both units: what is due up to the tick are its cells, and no events stand between.
 pub record IsNextMoment (c : Config) (t : Traffic) (now tick : ℤ) : Type 0 where
   pub config : IsConfig c
-  pub landings_are : AreLandings t.at_ru
   pub begun : first_clock ≤ℤ now
   pub order : now ≤ℤ tick
   pub ended : tick ≤ℤ (end_of_time +ℤ pos 1)
-  pub calm : IsCalm t.at_ru now tick
-  pub quiet : due_from c t.at_ru now (tick -ℤ pos 1) ≡ []
-  pub idle : IsDuIdle c t
+  pub units : (side : Side) → IsUnitMoment side c t now tick
 
 abbrev pub DueAtMoment : Type 0
-DueAtMoment = (c : Config) (t : Traffic) (now tick : ℤ) → IsNextMoment c t now tick → tick ≤ℤ end_of_time
-    → due_from c t.at_ru now tick ≡ cells_at Ru c t tick
+DueAtMoment =
+    (side : Side) (c : Config) (t : Traffic) (now tick : ℤ) → IsNextMoment c t now tick → tick ≤ℤ end_of_time
+    → due side c.delays c.endpoints (known_at side c t.planned (seen_at side (landings_at side t) tick))
+    (reported_at side c t.planned (arrivals_before (landings_at side t) now) (now -ℤ pos 1)) tick
+    ≡ cells_at side c t tick
 
 -- then all cells up to the tick are reported
 abbrev pub ReportedAtMoment : Type 0
 ReportedAtMoment =
-    (c : Config) (t : Traffic) (now tick : ℤ) → IsNextMoment c t now tick → tick ≤ℤ end_of_time
-    → ru_reported c (arrivals_before t.at_ru now) (now -ℤ pos 1) ++ cells_at Ru c t tick ≡ ru_reported c (arrivals_before t.at_ru (tick +ℤ pos 1)) tick
+    (side : Side) (c : Config) (t : Traffic) (now tick : ℤ) → IsNextMoment c t now tick → tick ≤ℤ end_of_time
+    → reported_at side c t.planned (arrivals_before (landings_at side t) now) (now -ℤ pos 1) ++ cells_at side c t tick
+    ≡ reported_at side c t.planned (arrivals_before (landings_at side t) (tick +ℤ pos 1)) tick
 
 -- and up to the tick before it they are
 abbrev pub ReportedBeforeMoment : Type 0
 ReportedBeforeMoment =
-    (c : Config) (t : Traffic) (now tick : ℤ) → IsNextMoment c t now tick
-    → ru_reported c (arrivals_before t.at_ru now) (now -ℤ pos 1) ≡ ru_reported c (arrivals_before t.at_ru tick) (tick -ℤ pos 1)
+    (side : Side) (c : Config) (t : Traffic) (now tick : ℤ) → IsNextMoment c t now tick
+    → reported_at side c t.planned (arrivals_before (landings_at side t) now) (now -ℤ pos 1)
+    ≡ reported_at side c t.planned (arrivals_before (landings_at side t) tick) (tick -ℤ pos 1)
 
 -- ---- events
 
@@ -109,6 +124,7 @@ EventsGoOn =
 
 abbrev pub AllIsOver : Type 0
 AllIsOver =
-    (c : Config) (t : Traffic) (now : ℤ) → IsNextMoment c t now (end_of_time +ℤ pos 1)
-    → (all_arrivals t.at_ru ≡ arrivals_before t.at_ru now)
-    × (ru_reported c (all_arrivals t.at_ru) end_of_time ≡ ru_reported c (arrivals_before t.at_ru now) (now -ℤ pos 1))
+    (side : Side) (c : Config) (t : Traffic) (now : ℤ) → IsNextMoment c t now (end_of_time +ℤ pos 1)
+    → (all_arrivals (landings_at side t) ≡ arrivals_before (landings_at side t) now)
+    × (reported_at side c t.planned (all_arrivals (landings_at side t)) end_of_time
+    ≡ reported_at side c t.planned (arrivals_before (landings_at side t) now) (now -ℤ pos 1))

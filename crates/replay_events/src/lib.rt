@@ -20,7 +20,7 @@ pub fn the_past_is_settled()
     ensures messages { MessagesAreSettled }
 {}
 
-/// At the next moment its cells are due, and no events stand before it.
+/// At the next moment of both units its cells are due at each, and no events stand before it.
 pub fn moments_follow()
     ensures due { DueAtMoment }
     ensures reported { ReportedAtMoment }

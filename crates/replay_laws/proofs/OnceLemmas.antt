@@ -12,10 +12,8 @@ use Rattle.air_source.specs.declared.events.Side.TheVariants.{Ru, Du}
 use Rattle.fault_counters.specs.Names.{all_counters}
 use Rattle.fault_counters.specs.declared.kinds.Counter.{Counter}
 use Rattle.window_config.specs.declared.config.Config.{Config}
-use Rattle.window_config.specs.declared.delays.Delays.{Delays}
 use Rattle.window_config.specs.declared.endpoints.EndpointConfig.{EndpointConfig}
 use Rattle.unit_model.specs.Lists.{each_tick}
-use Rattle.unit_model.specs.Meetings.{Arrival}
 use Rattle.unit_model.specs.Radiated.{Known, first_clock, reported, symbol_report, wait_of}
 use Rattle.unit_model.specs.Sweeps.{OfSymbol, at_tick, sweep}
 use Rattle.unit_model.proofs.SweepLaws.{gap_is}
@@ -26,6 +24,7 @@ use Rattle.replay_events.specs.Events.{arrivals_at, cells_at, count_event, count
 use Rattle.replay_events.specs.Heard.{cells_heard}
 use Rattle.replay_events.specs.Moments.{all_arrivals, end_of_time, landing_at}
 use Rattle.replay_events.specs.Traffic.{Traffic, known_at, landings_at, reported_at}
+use Rattle.replay_events.proofs.MomentLemmas.{by_start}
 use Rattle.replay_events.proofs.HeardLemmas.{cells-append, cells-arrivals, cells-none, cells-other, cells-own, tick_of_side}
 use Rattle.replay_laws.specs.Once.{AtMostOnce}
 
@@ -89,15 +88,6 @@ sweep_shifted : (g : OfSymbol AirCell) (es : List EndpointConfig) (w from end : 
 unfolding sweep
 sweep_shifted g es w from end order =
     ticks_shifted (at_tick g es) w from (int_gap from end) ∙ ap (λ (n : ℕ). each_tick (from -ℤ w) n (at_tick g es)) (gap_shifted from end w order)
-
-no_wait : (t : ℤ) → t ≡ t -ℤ pos 0
-no_wait t = omega (arith, ints)
-
--- what is told at each tick goes by the start of its symbols
-by_start : (side : Side) (c : Config) (t : Traffic) (tick : ℤ)
-    → cells_at side c t tick ≡ at_tick (symbol_report side (known side c t)) c.endpoints (tick -ℤ wait_of side c.delays)
-by_start Ru c t tick = ap (λ (s : ℤ). at_tick (symbol_report Ru (known Ru c t)) c.endpoints s) (no_wait tick)
-by_start Du c t tick = refl
 
 end_shifted : (t w : ℤ) → (t +ℤ pos 1) -ℤ w ≡ (t -ℤ w) +ℤ pos 1
 end_shifted t w = omega (arith, ints)

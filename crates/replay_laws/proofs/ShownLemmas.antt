@@ -1,6 +1,6 @@
 -- What a cell shows came in time.
 use Rattle.std.proofs.Common.{◌≡◌, ℕ, ℤ, pos, ◌+ℤ◌, ◌-ℤ◌, ◌-◌, ◌<◌, Bool, true, false, List, [], ◌∷◌, refl, sym, ap, ap₂, ◌∙◌, subst, arith, length}
-use Rattle.std.specs.Prelude.{◌==◌, if◌then◌else◌, All, Option, Some}
+use Rattle.std.specs.Prelude.{◌==◌, if◌then◌else◌, All, Some}
 use Rattle.std.proofs.lemmas.Option.{slice_get-get_or}
 use Rattle.std.proofs.lemmas.List.Elements.{All-nil, All-cons, All-contains}
 use Rattle.fh_time.specs.Air.{air_of}

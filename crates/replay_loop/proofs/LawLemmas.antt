@@ -1,17 +1,13 @@
 -- The laws of a replay's events hold of every document that was read.
-use Rattle.std.proofs.Common.{◌≡◌, ℕ, ◌<◌, List, [], refl, arith}
-use Rattle.std.specs.Prelude.{Option, Some}
+use Rattle.std.proofs.Common.{[]}
 use Rattle.std.proofs.lemmas.List.Elements.{All-nil}
 use Rattle.air_source.specs.declared.events.Side.{Side}
 use Rattle.air_source.specs.declared.events.Side.TheVariants.{Ru, Du}
 use Rattle.fh_document.specs.Proper.{IsDocument}
 use Rattle.fh_document.specs.declared.document.Document.{Document}
 use Rattle.unit_model.specs.Claims.{claim_at}
-use Rattle.unit_model.specs.Meetings.{Arrival}
-use Rattle.unit_model.specs.Proper.{IsTime}
-use Rattle.unit_model.specs.Radiated.{first_clock}
 use Rattle.unit_model.specs.declared.cells.Cell.{Cell}
-use Rattle.replay_events.specs.Moments.{all_arrivals, end_of_time}
+use Rattle.replay_events.specs.Moments.{all_arrivals}
 use Rattle.replay_events.specs.Passing.{AreLandings}
 use Rattle.replay_events.specs.Traffic.{landings_at}
 use Rattle.replay_laws.specs.Landed.{AllArrive}

@@ -1,20 +1,21 @@
 -- From one tick to the next moment, and over it.
 use Rattle.std.proofs.Common.{◌≡◌, ℤ, pos, ◌+ℤ◌, ◌-ℤ◌, ◌≤ℤ◌, ◌<ℤ◌, List, [], ◌++◌, refl, sym, ap, ap₂, ◌∙◌, subst, arith, append-nil}
 use Rattle.std.specs.Prelude.{map}
-use Rattle.std.proofs.lemmas.Int.{ints, by_lt_z}
+use Rattle.std.proofs.lemmas.Int.{ints}
 use Rattle.air_source.specs.declared.events.AirCell.{AirCell}
 use Rattle.air_source.specs.declared.events.Event.{Event}
 use Rattle.air_source.specs.declared.events.Event.TheVariants.{Cell}
-use Rattle.air_source.specs.declared.events.Side.TheVariants.{Ru as AtRu}
+use Rattle.air_source.specs.declared.events.Side.{Side}
+use Rattle.air_source.specs.declared.events.Side.TheVariants.{Ru as AtRu, Du as AtDu}
 use Rattle.fh_document.specs.Proper.{IsDocument}
 use Rattle.fh_document.specs.declared.document.Document.{Document}
 use Rattle.replay_events.specs.Events.{arrival_event, cells_at, events_at}
 use Rattle.replay_events.specs.Moments.{all_arrivals, arrivals_before, end_of_time, landing_at}
-use Rattle.replay_events.specs.Passing.{IsCalm, IsNextMoment, due_from}
+use Rattle.replay_events.specs.Passing.{IsCalm, IsNextMoment, IsUnitMoment, due_from}
 use Rattle.replay_events.proofs.CameLemmas.{arrivals_go_on, calm_adds_nothing, none_yet}
 use Rattle.replay_events.proofs.EventLemmas.{events_go_on, events_wait}
 use Rattle.replay_events.proofs.MomentLemmas.{due_at_moment, reported_at_moment, reported_before_moment}
-use Rattle.replay_events.proofs.TickLemmas.{at_most, front_empty, last_is_earlier, last_of_next, next_most, no_ticks, same_most}
+use Rattle.replay_events.proofs.TickLemmas.{at_most, last_is_earlier, last_of_next, next_most, no_ticks, same_most}
 use Rattle.ru_buffers.proofs.QuietLemmas.{left_less, sweep_less}
 use Rattle.ru_buffers.specs.Calls.{IsQuietTo, StandsFor}
 use Rattle.ru_buffers.specs.Reporting.{due_of}
@@ -22,14 +23,12 @@ use Rattle.ru_buffers.specs.Units.{left_up_to}
 use Rattle.ru_buffers.specs.declared.unit.Ru.{Ru}
 use Rattle.ru_jobs.specs.declared.cursor.JobCursor.{JobCursor}
 use Rattle.unit_cells.specs.Cells.{CellsValue}
-use Rattle.unit_laws.proofs.SweepLemmas.{sweep-append}
 use Rattle.unit_model.proofs.SweepLaws.{sweep_quiet}
 use Rattle.unit_model.specs.Lists.{onto}
 use Rattle.unit_model.specs.Meetings.{Arrival}
 use Rattle.unit_model.specs.Radiated.{Known, first_clock, reported, wait_of}
 use Rattle.unit_model.specs.Reports.{ru_known, ru_reported}
 use Rattle.unit_model.specs.Standing.{History, due, nothing_yet}
-use Rattle.unit_model.specs.Sweeps.{OfSymbol, sweep}
 use Rattle.window_config.specs.declared.config.Config.{Config}
 use Rattle.window_config.specs.declared.delays.Delays.{Delays}
 use Rattle.window_config.specs.declared.endpoints.EndpointConfig.{EndpointConfig}
@@ -64,7 +63,7 @@ quiet_less c u h a b stands order quiet = record {
 
 -- ---- the next moment
 
-pub due_same : (d : Document) (now : ℤ) (h : History) → IsTurn d now h → (to : ℤ) → due_from d.config (landings_of d) now to ≡ due_of d.config h to
+pub due_same : (d : Document) (now : ℤ) (h : History) → IsTurn d now h → (to : ℤ) → due_from AtRu d.config [] (landings_of d) now to ≡ due_of d.config h to
 due_same d now h turn to =
     let c = d.config in
     sym (ap₂ (λ (xs : List Arrival) (rs : List AirCell). due AtRu c.delays c.endpoints (ru_known c xs) rs to) turn.arrivals turn.reported)
@@ -73,17 +72,22 @@ due_same d now h turn to =
 pub idle_at_du : (d : Document) → IsDuIdle d.config (traffic_of d)
 idle_at_du d = idle_without_plan d.config (traffic_of d) refl refl
 
+each_unit : (d : Document) (now tick : ℤ) (h : History) → IsDocument d → IsTurn d now h → IsCalm (landings_of d) now tick → due_of d.config h (tick -ℤ pos 1) ≡ []
+    → (side : Side) → IsUnitMoment side d.config (traffic_of d) now tick
+each_unit d now tick h doc turn calm quiet AtRu =
+    record { landings_are = are_landings d doc; calm = calm; quiet = due_same d now h turn (tick -ℤ pos 1) ∙ quiet }
+each_unit d now tick h doc turn calm quiet AtDu =
+    let idle = idle_at_du d in
+    record { landings_are = idle.landings_are; calm = λ t low high. idle.calm t; quiet = idle.quiet (arrivals_before [] now) _ (tick -ℤ pos 1) }
+
 pub next : (d : Document) (now tick : ℤ) (h : History) → IsDocument d → IsTurn d now h → now ≤ℤ tick → tick ≤ℤ (end_of_time +ℤ pos 1)
     → IsCalm (landings_of d) now tick → due_of d.config h (tick -ℤ pos 1) ≡ [] → IsNextMoment d.config (traffic_of d) now tick
 next d now tick h doc turn order ended calm quiet = record {
   config = doc.config;
-  landings_are = are_landings d doc;
   begun = turn.begun;
   order = order;
   ended = ended;
-  calm = calm;
-  quiet = due_same d now h turn (tick -ℤ pos 1) ∙ quiet;
-  idle = idle_at_du d;
+  units = λ side. each_unit d now tick h doc turn calm quiet side;
 }
 
 -- what stands at the start of a tick stands at the start of the next moment
@@ -97,7 +101,7 @@ skip d now tick h doc turn order ended calm quiet =
       begun = at_most first_clock now tick turn.begun order;
       ended = ended;
       arrivals = turn.arrivals ∙ sym (calm_adds_nothing ls now tick turn.begun order calm);
-      reported = turn.reported ∙ reported_before_moment c (traffic_of d) now tick n;
+      reported = turn.reported ∙ reported_before_moment AtRu c (traffic_of d) now tick n;
       quiet = quiet;
       came = turn.came ∙ ap (arrivals_heard AtRu []) (sym (events_wait c (traffic_of d) now tick n));
       told = turn.told ∙ ap (cells_heard AtRu) (sym (events_wait c (traffic_of d) now tick n));
@@ -108,7 +112,7 @@ pub here : (d : Document) (tick : ℤ) (h : History) → IsDocument d → IsTurn
 here d tick h doc turn = next d tick tick h doc turn (same_most tick) turn.ended (λ t low high. absurd (omega (arith, ints))) turn.quiet.cells
 
 pub due_here : (d : Document) (tick : ℤ) (h : History) → IsDocument d → IsTurn d tick h → tick ≤ℤ end_of_time → due_of d.config h tick ≡ cells_at AtRu d.config (traffic_of d) tick
-due_here d tick h doc turn ended = sym (due_same d tick h turn tick) ∙ due_at_moment d.config (traffic_of d) tick tick (here d tick h doc turn) ended
+due_here d tick h doc turn ended = sym (due_same d tick h turn tick) ∙ due_at_moment AtRu d.config (traffic_of d) tick tick (here d tick h doc turn) ended
 
 -- ---- its events
 
@@ -166,7 +170,7 @@ after d tick h k doc turn ended came told quiet =
       arrivals = came ∙ ap (λ (e : List Arrival). onto e (landing_at ls tick)) turn.arrivals ∙ sym (arrivals_go_on ls tick turn.begun);
       reported =
           told ∙ ap (λ (rs : List AirCell). rs ++ cells) turn.reported
-          ∙ reported_at_moment c (traffic_of d) tick tick (here d tick h doc turn) ended
+          ∙ reported_at_moment AtRu c (traffic_of d) tick tick (here d tick h doc turn) ended
           ∙ ap (λ (t : ℤ). ru_reported c (arrivals_before ls (tick +ℤ pos 1)) t) (sym (last_of_next tick));
       quiet = last_quiet c k tick quiet;
       came = came ∙ arrivals_then d tick h cells (landing_at ls tick) turn ∙ ap (arrivals_heard AtRu []) (sym then_events);

@@ -14,7 +14,6 @@ use Rattle.unit_model.specs.Proper.{IsAt}
 use Rattle.unit_model.specs.Sides.{IsLiveOn}
 use Rattle.unit_model.specs.Standing.{uplink_of}
 use Rattle.unit_model.specs.declared.allocations.Allocation.{Allocation}
-use Rattle.unit_laws.specs.Ticks.{IsLiveSlot}
 use Rattle.unit_laws.specs.Touched.{ClaimsChangeInLive, BlocksChangeInLive, UplinkGrows, UplinkChangesInLive, is_uplink_of}
 use Rattle.unit_laws.proofs.CellLemmas.{slots_equal, covers_is, data_covers_is}
 use Rattle.unit_laws.proofs.ChangeLemmas.{accepted_more, either_way, only_accepted, only_timely}
