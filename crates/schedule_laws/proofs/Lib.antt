@@ -17,3 +17,4 @@ pub mod WholeLemmas
 pub mod BlockLemmas
 pub mod CellLemmas
 pub mod LeastLemmas
+pub mod SingleLemmas

@@ -141,7 +141,7 @@ at_in k x [] h = absurd cc
 at_in zero x (y ∷ xs) h = inl (let e : y ≡ x = cc in sym e)
 at_in (suc k) x (y ∷ xs) h = inr (at_in k x xs h)
 
-in_piece : {X : Type 0} (x : X) (xs ys : List X) → IsPiece xs ys → IsIn x xs → IsIn x ys
+pub in_piece : {X : Type 0} (x : X) (xs ys : List X) → IsPiece xs ys → IsIn x xs → IsIn x ys
 in_piece x xs ys p m = subst (λ zs. IsIn x zs) (sym p.is) (in_right x p.before (xs ++ p.after) (in_left x xs p.after m))
 
 -- ---- what is told of the symbols of one endpoint

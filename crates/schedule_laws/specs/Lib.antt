@@ -4,3 +4,4 @@ pub mod Data
 pub mod Commands
 pub mod Cells
 pub mod Least
+pub mod Singles

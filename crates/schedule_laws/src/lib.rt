@@ -8,6 +8,7 @@ ghost use Rattle.schedule_laws.specs.Cells.{ThePlanRadiates};
 ghost use Rattle.schedule_laws.specs.Commands.{EachIsCommandedOnce};
 ghost use Rattle.schedule_laws.specs.Data.{EachIsDecodedOnce};
 ghost use Rattle.schedule_laws.specs.Least.{LeastDelaysArrive};
+ghost use Rattle.schedule_laws.specs.Singles.{EachCellRadiatesOnce};
 
 /// The first copy of each planned command is Accepted and each further one is Repeat, in whatever order they come; what is claimed
 /// in the end is what the lines of the plan name.
@@ -25,6 +26,11 @@ pub fn each_is_decoded_once()
 /// once, with the union of their masks, their section id and its samples; no other cell, and none is missing.
 pub fn the_plan_radiates()
     ensures { ThePlanRadiates }
+{}
+
+/// Of each cell in which a `dl` line names an element exactly one event is reported once its symbol has started: the plan's.
+pub fn each_cell_radiates_once()
+    ensures { EachCellRadiatesOnce }
 {}
 
 /// The premise of these laws can be met by every valid plan whose windows pass the check, over however many messages: by each

@@ -1,0 +1,137 @@
+-- Each planned cell radiates exactly once.
+use Rattle.std.proofs.Common.{◌≡◌, ℕ, zero, suc, ℤ, pos, ◌+◌, ◌*◌, ◌<◌, ◌≤◌, ◌+ℤ◌, ◌≤ℤ◌, ◌<ℤ◌, inl, inr, Bool, true, false, not, ◌&&◌, ◌==◌, nat_lt, if◌then◌else◌, List, [], ◌∷◌, refl, ap, sym, ◌∙◌, subst, arith}
+use Rattle.std.specs.Prelude.{All, filter}
+use Rattle.std.proofs.lemmas.Bool.{cases_Bool, cases_eq, and_parts, and_from, eqb-true, ltb-false}
+use Rattle.std.proofs.lemmas.Int.{ints}
+use Rattle.std.proofs.lemmas.List.Elements.{All-head, All-tail}
+use Rattle.fh_time.specs.Air.{air_of}
+use Rattle.fh_time.specs.Carrier.{count_of, first_of, is_outside}
+use Rattle.fh_time.specs.Numbering.{symbols_of}
+use Rattle.air_source.specs.declared.events.AirCell.{AirCell}
+use Rattle.air_source.specs.declared.events.Side.TheVariants.{Ru}
+use Rattle.fragment_laws.specs.Apart.{IsIn}
+use Rattle.window_config.specs.declared.config.Config.{Config}
+use Rattle.window_config.specs.declared.plan.PlanLine.{PlanLine}
+use Rattle.unit_model.specs.Claims.{cell_at, cell_of, covers, in_mask, is_from, names}
+use Rattle.unit_model.specs.Meetings.{Arrival}
+use Rattle.unit_model.specs.Radiated.{first_clock}
+use Rattle.unit_model.specs.Reports.{ru_known, ru_reported}
+use Rattle.unit_model.specs.Standing.{same_cell}
+use Rattle.unit_model.specs.declared.cells.Cell.{Cell}
+use Rattle.unit_model.proofs.ReachLaws.{symbol_piece}
+use Rattle.unit_laws.specs.Due.{AreDifferent}
+use Rattle.unit_laws.proofs.CellLemmas.{covers_is, from_within}
+use Rattle.unit_laws.proofs.DifferLemmas.{IsOther, other_swap, same_self}
+use Rattle.unit_laws.proofs.DueLemmas.{reported_differ}
+use Rattle.plan_model.specs.Lines.{allocation_of, planned}
+use Rattle.plan_model.specs.declared.lines.PlannedLine.{PlannedLine}
+use Rattle.schedule_laws.specs.Cells.{mask_below, planned_air, planned_cell, planned_event, planned_mask, planned_symbol, radiates}
+use Rattle.schedule_laws.specs.Data.{AreWritten, Blocks}
+use Rattle.schedule_laws.specs.Premise.{AllArrive, Texts}
+use Rattle.schedule_laws.specs.Singles.{event_of}
+use Rattle.schedule_laws.proofs.CellLemmas.{plan_radiates}
+use Rattle.schedule_laws.proofs.LineLemmas.{good, start_in_time}
+use Rattle.schedule_laws.proofs.ListLemmas.{in_each, in_piece, numerology_short}
+use Rattle.schedule_laws.proofs.RangeLemmas.{any_in}
+
+-- ---- one of a list in which all differ
+
+none_same : (y : AirCell) (xs : List AirCell) → All (IsOther y) xs → filter (same_cell y) xs ≡ []
+none_same y [] h = refl
+none_same y (x ∷ xs) h = rw (All-head (IsOther y) x xs h) (none_same y xs (All-tail (IsOther y) x xs h))
+
+other_at : (x y : AirCell) (xs : List AirCell) → All (IsOther x) xs → IsIn y xs → IsOther x y
+other_at x y [] h m = absurd m
+other_at x y (z ∷ xs) h (inl e) = subst (IsOther x) (sym e) (All-head (IsOther x) z xs h)
+other_at x y (z ∷ xs) h (inr t) = other_at x y xs (All-tail (IsOther x) z xs h) t
+
+only_one : (y : AirCell) (xs : List AirCell) → AreDifferent xs → IsIn y xs → filter (same_cell y) xs ≡ y ∷ []
+only_one y [] d m = absurd m
+only_one y (x ∷ xs) d (inl e) =
+    let own : same_cell y x ≡ true = subst (λ (z : AirCell). same_cell y z ≡ true) e (same_self y) in
+    let rest : filter (same_cell y) xs ≡ [] = none_same y xs (subst (λ (z : AirCell). All (IsOther z) xs) (sym e) d.0) in
+    rw own (ap (λ (zs : List AirCell). x ∷ zs) rest ∙ ap (λ (z : AirCell). z ∷ []) (sym e))
+only_one y (x ∷ xs) d (inr t) =
+    let other : same_cell y x ≡ false = other_swap x y (other_at x y xs d.0 t) in
+    rw other (only_one y xs d.1 t)
+
+-- ---- a cell's event is there
+
+below_zero : (a b : ℕ) → a ≡ 0 → 2 * a + b ≡ b
+below_zero a b e = omega (arith, e)
+
+mask_some : (test : ℕ → Bool) (n re : ℕ) → re < n → test re ≡ true → mask_below test n ≡ 0 → ⊥
+unfolding mask_below
+mask_some test zero re h is e = absurd (omega arith)
+mask_some test (suc n) re h is e = elim (cases_eq re n) [
+  | inl here ↦ odd (mask_below test n) (test n) (ap test (sym here) ∙ is) e
+  | inr ne ↦ mask_some test n re (omega (arith, ne)) is (half (mask_below test n) _ e)
+]
+  where
+    odd : (m : ℕ) (b : Bool) → b ≡ true → 2 * m + (let k : ℕ = if b then 1 else 0 in k) ≡ 0 → ⊥
+    odd m true h e = omega (arith, e)
+    odd m false h e = cc
+
+    half : (m k : ℕ) → 2 * m + k ≡ 0 → m ≡ 0
+    half m k e = omega (arith, e)
+
+in_carrier : (prbs start num n : ℕ) → is_outside prbs start num ≡ false → is_from (first_of start num) (count_of prbs num) n ≡ true → n < prbs
+in_carrier prbs start num n out h =
+    let high = from_within (first_of start num) (count_of prbs num) n h in
+    elim (cases_Bool (num == 0)) [
+      | inl none ↦
+          let f : first_of start num ≡ 0 = ap (λ (b : Bool). if b then 0 else start) none in
+          let k : count_of prbs num ≡ prbs = ap (λ (b : Bool). if b then prbs else num) none in
+          omega (arith, high, f, k)
+      | inr some ↦
+          let f : first_of start num ≡ start = ap (λ (b : Bool). if b then 0 else start) some in
+          let k : count_of prbs num ≡ num = ap (λ (b : Bool). if b then prbs else num) some in
+          let fits = ltb-false prbs (start + num) (sym (ap (λ b. not b && nat_lt prbs (start + num)) some) ∙ out) in
+          omega (arith, high, f, k, fits)
+    ]
+
+by_then : (s to : ℤ) → s ≤ℤ to → s <ℤ (to +ℤ pos 1)
+by_then s to h = omega (arith, ints, h)
+
+after_clock : (s : ℤ) → pos 15360000000 ≤ℤ s → first_clock ≤ℤ s
+after_clock s h = omega (arith, ints, h)
+
+module _ (c : Config) (lines : List PlanLine) (text : Texts) (blocks : Blocks) (arrivals : List Arrival) (h : AllArrive c lines text arrivals) (w : AreWritten c (planned c.endpoints lines) text blocks) where
+  abbrev ps : List PlannedLine
+  ps = planned c.endpoints lines
+
+  pub radiates_once : (p : PlannedLine) (symbol prb re : ℕ) (to : ℤ) → IsIn p (planned c.endpoints lines) → (allocation_of p).down ≡ true → (allocation_of p).idle ≡ false → re < 12
+      → names (allocation_of p) (cell_of (allocation_of p) symbol prb) re ≡ true → air_of p.endpoint.numerology p.line.slot symbol ≤ℤ to
+      → filter (same_cell (event_of blocks (planned c.endpoints lines) p symbol prb)) (ru_reported c arrivals to) ≡ event_of blocks (planned c.endpoints lines) p symbol prb ∷ []
+  radiates_once p symbol prb re to m down idle below named soon =
+      let a = allocation_of p in
+      let cell = cell_of a symbol prb in
+      let parts = and_parts (covers a cell) (in_mask a.mask re) named in
+      let cover = covers_is a cell parts.0 in
+      let g = good c lines h.config h.lines_fit h.valid p m in
+      let e = p.endpoint in
+      let s = air_of e.numerology p.line.slot symbol in
+      let symbol_below = under symbol (p.line.symbol + p.line.count) (symbols_of e.numerology) (from_within p.line.symbol p.line.count symbol cover.symbol) g.within in
+      let prb_below = in_carrier e.prbs p.line.start_prb p.line.num_prb prb g.prbs cover.prb in
+      let time = start_in_time c.endpoints p symbol g symbol_below in
+      let event = event_of blocks ps p symbol prb in
+      let it : radiates ps cell re ≡ true = any_in (λ (q : PlannedLine). not (allocation_of q).idle && names (allocation_of q) cell re) p ps m (and_from _ _ (ap not idle) named) in
+      let same_way_cell : cell_at p.ep true p.line.slot symbol prb ≡ cell = ap (λ (b : Bool). cell_at p.ep b p.line.slot symbol prb) (sym down) in
+      let some : (planned_mask ps cell == 0) ≡ false = elim (cases_Bool (planned_mask ps cell == 0)) [
+        | inl none ↦ absurd (mask_some (radiates ps cell) 12 re below it (eqb-true (planned_mask ps cell) 0 none))
+        | inr is ↦ is
+      ] in
+      let told : planned_cell blocks ps p.ep e p.line.slot symbol prb ≡ event ∷ [] =
+      ap (λ (x : Cell). let xs : List AirCell = if planned_mask ps x == 0 then [] else planned_event blocks ps e x s ∷ [] in xs) same_way_cell
+      ∙ ap (λ (b : Bool). let xs : List AirCell = if b then [] else planned_event blocks ps e cell s ∷ [] in xs) some in
+      let in_symbol : IsIn event (planned_symbol blocks ps p.ep e p.line.slot symbol) =
+      in_each event 0 e.prbs prb (planned_cell blocks ps p.ep e p.line.slot symbol) (omega arith) (omega (arith, prb_below)) (subst (λ (xs : List AirCell). IsIn event xs) (sym told) (inl refl)) in
+      let piece = symbol_piece (planned_symbol blocks ps) c.endpoints p.ep e p.line.slot symbol first_clock (to +ℤ pos 1) g.at (numerology_short e.numerology)
+      (record { subframe = g.fits.subframe; slot = g.slot }) symbol_below (after_clock s time.0) (by_then s to soon) in
+      let there : IsIn event (planned_air c blocks ps to) =
+      in_piece event (planned_symbol blocks ps p.ep e p.line.slot symbol) (planned_air c blocks ps to) piece in_symbol in
+      let reported_there : IsIn event (ru_reported c arrivals to) = subst (λ (xs : List AirCell). IsIn event xs) (sym (plan_radiates c lines text blocks arrivals h w to)) there in
+      only_one event (ru_reported c arrivals to) (reported_differ Ru c.delays c.endpoints (ru_known c arrivals) to h.config.endpoints.differ) reported_there
+    where
+      under : (s m n : ℕ) → s < m → m ≤ n → s < n
+      under s m n k l = omega (arith, k, l)
