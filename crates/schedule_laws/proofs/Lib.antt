@@ -18,3 +18,4 @@ pub mod BlockLemmas
 pub mod CellLemmas
 pub mod LeastLemmas
 pub mod SingleLemmas
+pub mod FoundLemmas

@@ -1,3 +1,4 @@
+pub mod Found
 pub mod Premise
 pub mod Flows
 pub mod Data

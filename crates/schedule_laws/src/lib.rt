@@ -7,6 +7,7 @@
 ghost use Rattle.schedule_laws.specs.Cells.{ThePlanRadiates};
 ghost use Rattle.schedule_laws.specs.Commands.{EachIsCommandedOnce};
 ghost use Rattle.schedule_laws.specs.Data.{EachIsDecodedOnce};
+ghost use Rattle.schedule_laws.specs.Found.{EndpointsAreFound};
 ghost use Rattle.schedule_laws.specs.Least.{LeastDelaysArrive};
 ghost use Rattle.schedule_laws.specs.Singles.{EachCellRadiatesOnce};
 
@@ -37,4 +38,9 @@ pub fn each_cell_radiates_once()
 /// frame once, with the least delay, where its bytes are read as what is sent by it.
 pub fn least_delays_arrive()
     ensures { LeastDelaysArrive }
+{}
+
+/// Each endpoint of a configuration is found by its eAxC id, under its index.
+pub fn endpoints_are_found()
+    ensures { EndpointsAreFound }
 {}
