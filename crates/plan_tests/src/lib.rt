@@ -13,3 +13,6 @@ mod testing;
 mod walking;
 
 pub use testing::{PlanRefusal, tested};
+
+#[cfg(test)]
+mod tests;
