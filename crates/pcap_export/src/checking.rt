@@ -26,11 +26,11 @@ fn fault_at(ns: Option<u64>, len: usize) -> Option<ExportWhy>
 }
 
 // The fault of a record; one that is not written has none.
-fn fault(record: &Record<'_>, ways: Ways) -> Option<ExportWhy>
-    ensures { result ≡ fault_of ways (arrived_of record.now) }
+fn fault(arrival: &Record<'_>, ways: Ways) -> Option<ExportWhy>
+    ensures { result ≡ fault_of ways (arrived_of arrival.now) }
 {
-    if is_wanted(ways, record.side) {
-        fault_at(nanoseconds(record.at), record.frame.len())
+    if is_wanted(ways, arrival.side) {
+        fault_at(nanoseconds(arrival.at), arrival.frame.len())
     } else {
         None
     }

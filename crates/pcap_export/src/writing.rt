@@ -18,36 +18,36 @@ use owed_bytes::OwedBytes;
 
 // Tells the packet of a record.
 fn tell_packet<K: Sink>(
-    record: &Record<'_>,
+    arrival: &Record<'_>,
     owed: &mut OwedBytes,
     out: &mut K,
 ) -> Result<(), SinkFault>
-    requires { length record.now.frame.now ≤ 262130 }
-    ensures carried { OnOk result (Carried (K.written out.old) owed.old (packet_bytes (arrived_of record.now)) (K.written out.new) owed.new) }
-    ensures front { OnErr result (WritesFront (K.written out.old) (K.written out.new) (owed.old ++ packet_bytes (arrived_of record.now))) }
+    requires { length arrival.now.frame.now ≤ 262130 }
+    ensures carried { OnOk result (Carried (K.written out.old) owed.old (packet_bytes (arrived_of arrival.now)) (K.written out.new) owed.new) }
+    ensures front { OnErr result (WritesFront (K.written out.old) (K.written out.new) (owed.old ++ packet_bytes (arrived_of arrival.now))) }
     ensures cause { HasSinkCause (K.faults out.old) (K.faults out.new) (K.refusals out.old) (K.refusals out.new) result }
 {
-    let ns = nanoseconds(record.at).unwrap_or(0);
-    let head = record_head(ns, (ETHERNET + record.frame.len()) as u32);
+    let ns = nanoseconds(arrival.at).unwrap_or(0);
+    let head = record_head(ns, (ETHERNET + arrival.frame.len()) as u32);
     owed.tell(&head, out)?;
-    owed.tell(&ethernet_head(record.side), out)?;
-    owed.tell(record.frame, out)
+    owed.tell(&ethernet_head(arrival.side), out)?;
+    owed.tell(arrival.frame, out)
 }
 
 // Tells the packet of a record that is to be written, and else nothing.
 fn tell_wanted<K: Sink>(
-    record: &Record<'_>,
+    arrival: &Record<'_>,
     ways: Ways,
     owed: &mut OwedBytes,
     out: &mut K,
 ) -> Result<(), SinkFault>
-    requires { fault_of ways (arrived_of record.now) ≡ None }
-    ensures carried { OnOk result (Carried (K.written out.old) owed.old (wanted_bytes ways (arrived_of record.now)) (K.written out.new) owed.new) }
-    ensures front { OnErr result (WritesFront (K.written out.old) (K.written out.new) (owed.old ++ wanted_bytes ways (arrived_of record.now))) }
+    requires { fault_of ways (arrived_of arrival.now) ≡ None }
+    ensures carried { OnOk result (Carried (K.written out.old) owed.old (wanted_bytes ways (arrived_of arrival.now)) (K.written out.new) owed.new) }
+    ensures front { OnErr result (WritesFront (K.written out.old) (K.written out.new) (owed.old ++ wanted_bytes ways (arrived_of arrival.now))) }
     ensures cause { HasSinkCause (K.faults out.old) (K.faults out.new) (K.refusals out.old) (K.refusals out.new) result }
 {
-    if is_wanted(ways, record.side) {
-        tell_packet(record, owed, out)
+    if is_wanted(ways, arrival.side) {
+        tell_packet(arrival, owed, out)
     } else {
         Ok(())
     }

@@ -9,7 +9,7 @@ use Rattle.pcap_export.proofs.writing.tell_packet.Goals as goal
 
 pub returns-in_err-tell-clause-front : goal.returns-in_err-tell-clause-front
 returns-in_err-tell-clause-front g c =
-    let r = c.args.record.now in
+    let r = c.args.arrival.now in
     let kept = 14 + length r.frame.now in
     let ns = c.unwrap_or-ns.ensures ∙ ap (λ o. unwrap_or o 0) c.nanoseconds.ensures.value in
     let head : c.record_head-head.result ≡ record_head (ns_of (arrived_of r)) kept = c.record_head-head.ensures ∙ ap (λ n. record_head n kept) ns in
@@ -17,7 +17,7 @@ returns-in_err-tell-clause-front g c =
 
 pub returns-in_err-tell-2-clause-front : goal.returns-in_err-tell-2-clause-front
 returns-in_err-tell-2-clause-front g c =
-    let r = c.args.record.now in
+    let r = c.args.arrival.now in
     let kept = 14 + length r.frame.now in
     let ns = c.unwrap_or-ns.ensures ∙ ap (λ o. unwrap_or o 0) c.nanoseconds.ensures.value in
     let head : c.record_head-head.result ≡ record_head (ns_of (arrived_of r)) kept = c.record_head-head.ensures ∙ ap (λ n. record_head n kept) ns in
@@ -26,7 +26,7 @@ returns-in_err-tell-2-clause-front g c =
 
 pub returns-clause-carried : goal.returns-clause-carried
 returns-clause-carried g c =
-    let r = c.args.record.now in
+    let r = c.args.arrival.now in
     let kept = 14 + length r.frame.now in
     let ns = c.unwrap_or-ns.ensures ∙ ap (λ o. unwrap_or o 0) c.nanoseconds.ensures.value in
     let head : c.record_head-head.result ≡ record_head (ns_of (arrived_of r)) kept = c.record_head-head.ensures ∙ ap (λ n. record_head n kept) ns in
@@ -36,7 +36,7 @@ returns-clause-carried g c =
 
 pub returns-clause-front : goal.returns-clause-front
 returns-clause-front g c =
-    let r = c.args.record.now in
+    let r = c.args.arrival.now in
     let kept = 14 + length r.frame.now in
     let ns = c.unwrap_or-ns.ensures ∙ ap (λ o. unwrap_or o 0) c.nanoseconds.ensures.value in
     let head : c.record_head-head.result ≡ record_head (ns_of (arrived_of r)) kept = c.record_head-head.ensures ∙ ap (λ n. record_head n kept) ns in
