@@ -1,5 +1,5 @@
 //! Tests of whole runs, by the top call with ends in memory: worked documents of every command (`replays`, `captures`, `windows`,
-//! `pcaps`), the words (`words`), and ends that fail (`faults`).
+//! `pcaps`), the words (`words`), ends that fail (`faults`), and captures that go to a pcap file and back (`round_trips`).
 //!
 //! They stand beside `top_call`, so that it is proved without them.
 #![tactic(auto)]
@@ -12,6 +12,8 @@ mod faults;
 mod pcaps;
 #[cfg(test)]
 mod replays;
+#[cfg(test)]
+mod round_trips;
 #[cfg(test)]
 mod runs;
 #[cfg(test)]
