@@ -15,7 +15,7 @@ use Rattle.ecpri_fragments.specs.declared.place.Span.{Span}
 use Rattle.ecpri_fragments.specs.declared.assembly.Lease.{Lease}
 use Rattle.ecpri_fragments.specs.Spans.{pieces_in, bytes_of, span_of}
 use Rattle.uplane_messages.specs.Joined.{joined, piece_of, message_bytes, bytes_from}
-use Rattle.uplane_messages.specs.Left.{NothingLeft}
+use Rattle.uplane_messages.specs.Left.{NothingLeft, first_of_pieces}
 use Rattle.std.specs.Prelude.{Option, Some, None}
 use Rattle.std.proofs.Math.Nat.{mul-le-mul_right}
 
@@ -57,6 +57,23 @@ used_of ps k at used =
     ∙ append_assoc (take used (drop at p)) (drop used (drop at p)) behind
     ∙ ap (λ (xs : List ℕ). take used (drop at p) ++ (xs ++ behind)) (drop-drop used at p)
     ∙ ap (λ (xs : List ℕ). take used xs ++ bytes_from ps k (at + used)) (sym all)
+
+-- where all of a piece is used, what comes is what begins with the next one
+pub skipped : (ps : List (List ℕ)) (k at : ℕ) → length (piece_of ps k) ≤ at → bytes_from ps (k + 1) 0 ≡ bytes_from ps k at
+skipped ps k at h =
+    sym (joined_from ps (k + 1)) ∙ ap (λ (xs : List ℕ). xs ++ joined (drop (k + 1) ps)) (sym (drop_of_length-le (piece_of ps k) h))
+
+part_from : (ps : List (List ℕ)) (k : ℕ) → first_of_pieces [] (drop k ps) ≡ first_of_pieces (piece_of ps k) (drop (k + 1) ps)
+part_from ps k =
+    elim (or_beyond ps k) [
+      | inl h ↦ rw (drop-cons ps k [] h, add-one k) refl
+      | inr h ↦ rw (drop_of_length-le ps h, no_piece ps k h, drop_of_length-le ps (let b : length ps ≤ k + 1 = omega arith in b)) refl
+    ]
+
+pub part_skipped : (ps : List (List ℕ)) (k at : ℕ) → length (piece_of ps k) ≤ at
+    → first_of_pieces (piece_of ps (k + 1)) (drop (k + 1 + 1) ps) ≡ first_of_pieces (drop at (piece_of ps k)) (drop (k + 1) ps)
+part_skipped ps k at h =
+    sym (part_from ps (k + 1)) ∙ ap (λ (xs : List ℕ). first_of_pieces xs (drop (k + 1) ps)) (sym (drop_of_length-le (piece_of ps k) h))
 
 -- ---- the walker
 

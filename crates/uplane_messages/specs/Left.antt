@@ -1,14 +1,14 @@
 -- What a walk over a message has left to tell.
-use Rattle.std.specs.Prelude.{◌≡◌, List, [], ◌++◌, length, Option, MatchOption}
+use Rattle.std.specs.Prelude.{◌≡◌, ℕ, ◌+◌, List, [], ◌∷◌, ◌++◌, length, drop, Option, MatchOption}
 use Rattle.uplane_sections.specs.declared.values.URefusal.{URefusal}
 use Rattle.uplane_sections.specs.declared.steps.UFeed.{UFeed}
 use Rattle.uplane_sections.specs.Messages.{Item, Telling, blocks}
 use Rattle.uplane_sections.specs.Phases.{feed_told}
-use Rattle.uplane_sections.specs.States.{tells}
+use Rattle.uplane_sections.specs.States.{tells, run_of}
 use Rattle.ecpri_fragments.specs.declared.assembly.Lease.{Lease}
 use Rattle.uplane_messages.specs.declared.walk.DataWalk.{DataWalk}
 use Rattle.uplane_messages.specs.declared.run.DataRun.{DataRun}
-use Rattle.uplane_messages.specs.Joined.{pieces_of, bytes_from}
+use Rattle.uplane_messages.specs.Joined.{pieces_of, piece_of, bytes_from}
 
 -- the message that it goes over
 abbrev pub lease_of : DataWalk → Lease
@@ -46,6 +46,20 @@ GivesItem s r t =
 -- the message ends here, or is refused already: what comes changes nothing
 abbrev pub IsAtEnd : DataWalk → Type 0
 IsAtEnd walk = telling_of walk ≡ tells walk.walker []
+
+-- the rest of the first of these pieces that is not empty
+abbrev pub first_of_pieces : List ℕ → List (List ℕ) → List ℕ
+first_of_pieces [] [] = []
+first_of_pieces [] (p ∷ ps) = first_of_pieces p ps
+first_of_pieces (b ∷ bytes) ps = b ∷ bytes
+
+-- the bytes that come next and stand in one piece
+abbrev pub next_part : DataWalk → List ℕ
+next_part walk = first_of_pieces (drop walk.at (piece_of (pieces_of (lease_of walk)) walk.piece)) (drop (walk.piece + 1) (pieces_of (lease_of walk)))
+
+-- how many packed PRBs come next that lie whole in that piece
+abbrev pub run_in : DataWalk → ℕ
+run_in walk = run_of walk.walker (length (next_part walk))
 
 -- a call from s gave these packed PRBs, whose blocks were left first, and led to t, which goes over the same message to the
 -- same refusal

@@ -28,7 +28,7 @@ pub struct DataWalk<'a> {
 impl<'a> DataWalk<'a> {
     ghost use Rattle.uplane_messages.specs.Joined.{message_bytes};
     ghost use Rattle.std.specs.Prelude.{IfNone};
-    ghost use Rattle.uplane_messages.specs.Left.{lease_of, left_of, refusal_of, telling_of, GivesItem, GivesRun, IsAtEnd};
+    ghost use Rattle.uplane_messages.specs.Left.{lease_of, left_of, next_part, refusal_of, run_in, telling_of, GivesItem, GivesRun, IsAtEnd};
 
     /// A walk from the start of the message, in this format, on a carrier of `prbs` PRBs, where
     /// `shape` says how many symbols a slot and how many slots a subframe has.
@@ -79,6 +79,8 @@ impl<'a> DataWalk<'a> {
     fn skip_used(&mut self)
         ensures telling { telling_of self.new ≡ telling_of self.old }
         ensures lease { lease_of self.new ≡ lease_of self.old }
+        ensures walker { self.new.walker ≡ self.old.walker }
+        ensures part { next_part self.new ≡ next_part self.old }
         ensures left { self.new.piece < length (pieces_of (lease_of self.new)) → self.new.at < length (piece_of (pieces_of (lease_of self.new)) self.new.piece) }
     {
         while self.piece < self.lease.count() && self.at >= self.lease.piece(self.piece).len() {
@@ -92,6 +94,7 @@ impl<'a> DataWalk<'a> {
     /// `next` goes on.
     pub fn run(&mut self) -> DataRun<'a>
         ensures gives { GivesRun self.old result self.new }
+        ensures count { result.count ≡ run_in self.old }
         ensures width { HasWidth result.method }
         ensures len { length result.packed.now ≡ result.count * length_of result.method }
     {
