@@ -1,0 +1,8 @@
+pub mod LineFields
+pub mod CommandRead
+pub mod PartFacts
+pub mod Fragments
+pub mod Gathered
+pub mod MessageSays
+pub mod SentRead
+pub mod RadiatedLemmas

@@ -1,0 +1,116 @@
+-- What is known of the messages of a sendable plan and of their parts.
+use Rattle.std.proofs.Common.{◌≡◌, ℕ, ◌+◌, ◌<◌, ◌≤◌, ◌^◌, inl, inr, ◌==◌, List, [], ◌∷◌, length, map, Some, refl, ap, ap₂, sym, ◌∙◌}
+use Rattle.std.specs.Prelude.{sum}
+use Rattle.std.specs.List.{slice_get}
+use Rattle.std.specs.Option.{option_map_or}
+use Rattle.std.proofs.lemmas.Bool.{and_parts, eqb-true}
+use Rattle.std.proofs.lemmas.List.Sums.{sum_by-cons}
+use Rattle.fh_time.specs.Numbering.{symbols_of}
+use Rattle.fragment_laws.specs.Apart.{IsIn}
+use Rattle.window_config.specs.declared.config.Config.{Config}
+use Rattle.window_config.specs.declared.endpoints.EndpointConfig.{EndpointConfig}
+use Rattle.window_config.specs.declared.plan.PlanLine.{PlanLine}
+use Rattle.unit_model.specs.Claims.{same_slot}
+use Rattle.unit_model.specs.Proper.{IsAt}
+use Rattle.unit_laws.proofs.CellLemmas.{slots_equal}
+use Rattle.plan_model.specs.Lines.{planned}
+use Rattle.plan_model.specs.Packs.{Message, Numbered, packs, parts_of, size_of}
+use Rattle.plan_model.specs.Streams.{Part, frames_in, messages_of, part_fields, parts_in, section_size as plan_section_size}
+use Rattle.plan_model.specs.declared.lines.PlannedLine.{PlannedLine}
+use Rattle.plan_model.specs.declared.streams.Stream.{Stream}
+use Rattle.plan_model.specs.declared.streams.Stream.TheVariants.{DownData}
+use Rattle.frame_bytes.specs.Messages.{message_size, sections_size}
+use Rattle.frame_bytes.proofs.Sections.{length_message}
+use Rattle.schedule_laws.specs.Flows.{messages_at}
+use Rattle.schedule_laws.proofs.FlowLemmas.{section_short}
+use Rattle.schedule_laws.proofs.LineLemmas.{IsGoodLine, line_good, part_line, same_endpoint}
+use Rattle.schedule_laws.proofs.ListLemmas.{in_all}
+use Rattle.schedule_laws.proofs.OrderLemmas.{all_short, get_in, number_is, one_symbol}
+use Rattle.schedule_laws.proofs.PackLemmas.{message_from}
+use Rattle.schedule_laws.proofs.PlanLemmas.{line_of}
+use Rattle.schedule_laws.proofs.SentLemmas.{IsSentStream, message_part, part_is}
+use Rattle.sent_laws.specs.Messages.{Source, carrier_of, data_head, data_section, message_bytes, message_samples}
+use Rattle.sent_laws.specs.Sent.{IsSendable}
+
+-- a part of a message of an endpoint
+pub record IsGoodPart (c : Config) (ep : ℕ) (e : EndpointConfig) (x : Part) : Type 0 where
+  pub line : IsGoodLine c.endpoints x.planned
+  pub num_prb : x.planned.line.num_prb < 2 ^ 8
+  pub ep_is : x.planned.ep ≡ ep
+  pub endpoint_is : x.planned.endpoint ≡ e
+  pub symbol : x.symbol < symbols_of e.numerology
+
+-- all parts are the endpoint's, and of one slot and symbol
+pub record IsGoodMessage (c : Config) (ep : ℕ) (e : EndpointConfig) (m : Message Part) : Type 0 where
+  pub each : (x : Part) → IsIn x (parts_of m) → IsGoodPart c ep e x
+  pub slot : (x : Part) → IsIn x (parts_of m) → m.first.planned.line.slot ≡ x.planned.line.slot
+  pub symbol : (x : Part) → IsIn x (parts_of m) → m.first.symbol ≡ x.symbol
+
+module _ (c : Config) (lines : List PlanLine) (source : Source) (s : IsSendable c lines source) where
+  abbrev ps : List PlannedLine
+  ps = planned c.endpoints lines
+
+  pub good_part : (stream : Stream) → IsSentStream stream → (ep : ℕ) (e : EndpointConfig) (n : Numbered Part) (x : Part) → IsAt c.endpoints ep e → IsIn n (messages_of c ps stream ep e)
+      → IsIn x (parts_of n.message) → IsGoodPart c ep e x
+  good_part stream is_sent ep e n x at m i =
+      let part = part_is ps stream is_sent ep e x (message_part c ps stream ep e n x m i) in
+      let line = line_good c lines s.config s.lines_fit s.valid x.planned part.from in
+      let place = part_line stream is_sent x.planned ep part.slot x.symbol part.has in
+      record {
+        line = line;
+        num_prb = in_all (λ (l : PlanLine). l.num_prb < 2 ^ 8) x.planned.line lines s.num_prbs (line_of c.endpoints 0 lines x.planned part.from).there;
+        ep_is = place.ep_is;
+        endpoint_is = same_endpoint c.endpoints x.planned.ep ep x.planned.endpoint e line.at at place.ep_is;
+        symbol = part.is_symbol;
+      }
+
+  is_of : (ep : ℕ) (e : EndpointConfig) (n : Numbered Part) → IsIn n (messages_of c ps DownData ep e) → IsIn n.message (packs part_fields c.pack (parts_in ps DownData ep e))
+  unfolding messages_of
+  is_of ep e n m = message_from part_fields (frames_in c DownData) (packs part_fields c.pack (parts_in ps DownData ep e)) n m
+
+  pub good_message : (ep : ℕ) (e : EndpointConfig) (n : Numbered Part) → IsAt c.endpoints ep e → IsIn n (messages_of c ps DownData ep e) → IsGoodMessage c ep e n.message
+  good_message ep e n at m =
+      let one = λ (x : Part) (i : IsIn x (parts_of n.message)). and_parts (same_slot n.message.first.planned.line.slot x.planned.line.slot) (n.message.first.symbol == x.symbol)
+      (one_symbol part_fields c.pack (parts_in ps DownData ep e) n.message (is_of ep e n m) x i) in
+      record {
+        each = λ x i. good_part DownData tt ep e n x at m i;
+        slot = λ x i. slots_equal n.message.first.planned.line.slot x.planned.line.slot (one x i).0;
+        symbol = λ x i. eqb-true n.message.first.symbol x.symbol (one x i).1;
+      }
+
+  pub message_short : (ep : ℕ) (e : EndpointConfig) (n : Numbered Part) → IsAt c.endpoints ep e → IsIn n (messages_of c ps DownData ep e) → size_of part_fields n.message ≤ 16384
+  message_short ep e n at m =
+      all_short part_fields c.pack (parts_in ps DownData ep e) n.message
+      (λ x i. section_short c.endpoints x (line_good c lines s.config s.lines_fit s.valid x.planned (part_is ps DownData tt ep e x i).from))
+      (is_of ep e n m)
+
+  got_number : (ep : ℕ) (e : EndpointConfig) (k : ℕ) (n : Numbered Part) → slice_get (messages_of c ps DownData ep e) k ≡ Some n → n.number ≡ k
+  unfolding messages_of
+  got_number ep e k n h = number_is part_fields (frames_in c DownData) (packs part_fields c.pack (parts_in ps DownData ep e)) k n h
+
+  -- a message stands at its number
+  pub got_message : (ep : ℕ) (e : EndpointConfig) (n : Numbered Part) → IsAt c.endpoints ep e → IsIn n (messages_of c ps DownData ep e) → slice_get (messages_at c ps ep) n.number ≡ Some n
+  got_message ep e n at m =
+      let w = get_in n (messages_of c ps DownData ep e) m in
+      let here : messages_at c ps ep ≡ messages_of c ps DownData ep e = ap (λ o. option_map_or (λ (f : EndpointConfig). messages_of c ps DownData ep f) o []) at in
+      ap (λ (ns : List (Numbered Part)). slice_get ns n.number) here
+      ∙ ap (λ k. slice_get (messages_of c ps DownData ep e) k) (got_number ep e w.0 n w.1) ∙ w.1
+
+-- ---- sizes
+
+sections_sum : (e : EndpointConfig) (xs : List Part) → ((x : Part) → IsIn x xs → x.planned.endpoint ≡ e) → sections_size (carrier_of e) (map data_section xs) ≡ sum (map part_fields.size xs)
+sections_sum e [] h = refl
+sections_sum e (x ∷ xs) h =
+    ap₂ (λ a b. a + b) (ap (λ (f : EndpointConfig). plan_section_size f x.planned.line.num_prb) (sym (h x (inl refl)))) (sections_sum e xs (λ y i. h y (inr i)))
+    ∙ sym (sum_by-cons (λ (n : ℕ). n) (part_fields.size x) (map part_fields.size xs))
+
+pub message_size_is : (c : Config) (ep : ℕ) (e : EndpointConfig) (m : Message Part) → IsGoodMessage c ep e m → message_size (carrier_of e) (map data_section (parts_of m)) ≡ size_of part_fields m
+message_size_is c ep e m g = ap (λ n. 4 + n) (sections_sum e (parts_of m) (λ x i. (g.each x i).endpoint_is))
+
+-- the bytes of a message are as many as its plan says
+pub length_bytes : (c : Config) (ep : ℕ) (e : EndpointConfig) (source : Source) (m : Message Part) → IsGoodMessage c ep e m → length (message_bytes source m) ≡ size_of part_fields m
+length_bytes c ep e source m g =
+    let f = m.first.planned.endpoint in
+    let first = (g.each m.first (inl refl)).endpoint_is in
+    length_message (carrier_of f) (message_samples source m) (data_head m.first) (map data_section (parts_of m))
+    ∙ ap (λ n. 4 + n) (sections_sum f (parts_of m) (λ x i. (g.each x i).endpoint_is ∙ sym first))

@@ -1,0 +1,5 @@
+pub mod Commands
+pub mod Messages
+pub mod Frames
+pub mod Sent
+pub mod Radiated
