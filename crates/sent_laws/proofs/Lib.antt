@@ -6,3 +6,4 @@ pub mod Gathered
 pub mod MessageSays
 pub mod SentRead
 pub mod RadiatedLemmas
+mod Worked
