@@ -1,0 +1,90 @@
+-- All parts of a long plan, in their order, and none for the uplink.
+use Rattle.std.proofs.Common.{◌≡◌, ℕ, ℤ, pos, zero, suc, ◌+◌, ◌<◌, ◌≤◌, ◌+ℤ◌, ◌≤ℤ◌, ◌<ℤ◌, inl, inr, List, [], ◌∷◌, ◌++◌, map, refl, ap, ap₂, ◌∙◌, arith}
+use Rattle.std.specs.Prelude.{filter}
+use Rattle.std.specs.Int.{int_gap}
+use Rattle.std.proofs.lemmas.Bool.{cases_lt}
+use Rattle.std.proofs.lemmas.Int.{ints}
+use Rattle.fh_time.specs.declared.values.Slot.{Slot}
+use Rattle.unit_model.specs.Lists.{each_tick, in_order}
+use Rattle.unit_model.specs.Radiated.{first_clock}
+use Rattle.unit_model.specs.Sweeps.{of_endpoint}
+use Rattle.unit_model.specs.Times.{end_of_time}
+use Rattle.unit_model.proofs.SweepLaws.{gap_is, gap_parts, ticks_none, ticks_split}
+use Rattle.unit_laws.proofs.SweepLemmas.{none_kept, of_endpoint_related}
+use Rattle.plan_model.specs.Examples.{usual}
+use Rattle.plan_model.specs.Lines.{allocation_of}
+use Rattle.plan_model.specs.Streams.{Part, has_part, line_before, part_in, parts_in, symbol_parts}
+use Rattle.plan_model.specs.declared.lines.PlannedLine.{PlannedLine}
+use Rattle.plan_model.specs.declared.streams.Stream.TheVariants.{DownData, UpData}
+use Rattle.long_plans.proofs.Lines.{line_at, lines_from}
+use Rattle.long_plans.proofs.Parts.{part_at, quiet, start, told}
+
+unfoldable pub parts_from : ℕ → ℕ → ℕ → List Part
+parts_from i frame zero = []
+parts_from i frame (suc n) = part_in 0 (line_at i frame) ∷ parts_from (i + 1) (frame + 1) n
+
+past : (k m total : ℕ) (from t : ℤ) → m + 0 ≡ 1 + total → k < 1 + total → (k < m → start k <ℤ from) → from ≤ℤ t → start k ≡ t → ⊥
+past k m total from t all below before low is =
+    let under : k < m = omega (arith, all, below) in
+    let early = before under in
+    omega (arith, ints, early, low, is)
+
+between : (k m : ℕ) (from t : ℤ) (gap : ℕ) → from +ℤ pos gap ≡ start m → (k < m → start k <ℤ from) → from ≤ℤ t → t <ℤ (from +ℤ pos gap) → start k ≡ t → ⊥
+between k m from t gap whole before low high is = elim (cases_lt k m) [
+  | inl under ↦ (let early = before under in omega (arith, ints, early, low, is))
+  | inr over ↦ omega (arith, ints, whole, high, is, over)
+]
+
+later : (k m : ℕ) (from : ℤ) → from ≤ℤ start m → (k < m → start k <ℤ from) → k < m + 1 → start k <ℤ (start m +ℤ pos 1)
+later k m from low before below = omega (arith, ints, below)
+
+next_start : (m : ℕ) → (start m +ℤ pos 1) ≤ℤ start (m + 1)
+next_start m = omega (arith, ints)
+
+module _ (total : ℕ) where
+  all_parts : (from end : ℤ) (i m n : ℕ) → i + 1 ≡ m → m + n ≡ 1 + total → from ≤ℤ start m → ((k : ℕ) → 1 ≤ k → k < m → start k <ℤ from) → ((k : ℕ) → k < 1 + total → start k <ℤ end)
+      → each_tick from (int_gap from end) (of_endpoint (told total) usual) ≡ parts_from i m n
+  unfolding each_tick parts_from
+  all_parts from end i m zero place all low before after =
+      ticks_none from (int_gap from end) (of_endpoint (told total) usual) (λ t a b. quiet total t (λ k some below is. past k m total from t all below (before k some) a is))
+  all_parts from end i m (suc n) place all low before after =
+      let f = of_endpoint (told total) usual in
+      let t = start m in
+      let whole = gap_is from t low in
+      let some : 1 ≤ m = omega (arith, place) in
+      let inside : m < 1 + total = omega (arith, all) in
+      ap (λ k. each_tick from k f) (gap_parts from t end low (after m inside))
+      ∙ ticks_split from (int_gap from t) (suc (int_gap (t +ℤ pos 1) end)) f
+      ∙ ap₂ (λ xs ys. xs ++ ys)
+      (ticks_none from (int_gap from t) f (λ u a b. quiet total u (λ k one below is. between k m from u (int_gap from t) whole (before k one) a b is)))
+      (ap (λ z. each_tick z (suc (int_gap (t +ℤ pos 1) end)) f) whole
+      ∙ ap₂ (λ xs ys. xs ++ ys) (part_at total i m place some inside)
+      (all_parts (t +ℤ pos 1) end (i + 1) (m + 1) n (omega (arith, place)) (omega (arith, all)) (next_start m) (λ k one below. later k m from low (before k one) below) after))
+
+  none_before : (k : ℕ) → 1 ≤ k → k < 1 → start k <ℤ first_clock
+  none_before k a b = absurd (omega (arith, a, b))
+
+  in_time : (k : ℕ) → total ≤ 99999 → k < 1 + total → start k <ℤ (end_of_time +ℤ pos 1)
+  in_time k few below = omega (arith, ints, few, below)
+
+  pub parts_are : total ≤ 99999 → parts_in (lines_from 0 1 total) DownData 0 usual ≡ parts_from 0 1 total
+  unfolding parts_in
+  parts_are few = all_parts first_clock (end_of_time +ℤ pos 1) 0 1 total refl refl (omega (arith, ints)) none_before (λ k below. in_time k few below)
+
+-- ---- the uplink
+
+none_sent : (slot : Slot) (symbol i frame n : ℕ) → filter (λ (p : PlannedLine). has_part UpData 0 slot symbol (allocation_of p)) (lines_from i frame n) ≡ []
+unfolding lines_from
+none_sent slot symbol i frame zero = refl
+none_sent slot symbol i frame (suc n) = none_sent slot symbol (i + 1) (frame + 1) n
+
+none_up : (total : ℕ) (slot : Slot) (symbol : ℕ) → symbol_parts UpData (lines_from 0 1 total) 0 slot symbol ≡ []
+unfolding symbol_parts in_order
+none_up total slot symbol = ap (λ (ps : List PlannedLine). map (part_in symbol) (in_order line_before ps)) (none_sent slot symbol 0 1 total)
+
+pub no_parts_up : (total : ℕ) → parts_in (lines_from 0 1 total) UpData 0 usual ≡ []
+unfolding parts_in
+no_parts_up total =
+    ticks_none first_clock (int_gap first_clock (end_of_time +ℤ pos 1)) (of_endpoint (symbol_parts UpData (lines_from 0 1 total) 0) usual) (λ t a b.
+    of_endpoint_related (λ xs ys. xs ≡ []) none_kept (symbol_parts UpData (lines_from 0 1 total) 0) (symbol_parts UpData (lines_from 0 1 total) 0) usual t (λ slot symbol low high is_slot is_symbol air.
+    none_up total slot symbol))
