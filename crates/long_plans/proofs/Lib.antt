@@ -2,3 +2,4 @@ pub mod Lines
 pub mod Parts
 pub mod Ticks
 pub mod Apart
+pub mod Sendable
