@@ -13,13 +13,14 @@ use fh_time::{Numerology, Slot};
 use plan_model::PlanWhy;
 use std::alloc::Global;
 use std::test::Fail;
-use window_config::{Config, Delays, EndpointConfig, EndpointList, PlanKind, PlanLine};
+use window_config::{Config, Delays, EndpointConfig, EndpointList, PlanKind, PlanLine, Range};
 
 /// One endpoint of id 0, without compression.
 fn endpoint(numerology: Numerology, prbs: u16) -> EndpointConfig
     requires some { 1 ≤ prbs }
     requires few { prbs ≤ 273 }
-    ensures { IsEndpoint result }
+    ensures limits { IsEndpoint result }
+    ensures id { result.id ≡ 0 }
 {
     EndpointConfig {
         id: 0,
@@ -37,6 +38,14 @@ fn listed(e: EndpointConfig) -> EndpointList
 {
     let mut endpoints = EndpointList::new();
     let _room = endpoints.push(e);
+    endpoints
+}
+
+fn two_listed(a: EndpointConfig, b: EndpointConfig) -> EndpointList
+    ensures { result ≡ a ∷ b ∷ [] }
+{
+    let mut endpoints = listed(a);
+    let _room = endpoints.push(b);
     endpoints
 }
 
@@ -58,6 +67,35 @@ fn config(e: EndpointConfig, widths: Widths, hold_dl: i64, pack: usize) -> Confi
         fragment: 1_492,
         pack,
         endpoints: listed(e),
+    }
+}
+
+/// The same with a gap of 2 ms and no time in the network: what is behind a symbol's first frame leaves at the window's end.
+fn slow(e: EndpointConfig, widths: Widths, hold_dl: i64) -> Config
+    requires endpoint { IsEndpoint e }
+    requires hold { IsTime hold_dl }
+    ensures { IsConfig result }
+{
+    let usual = config(e, widths, hold_dl, 1);
+    Config {
+        gap: 2_000_000,
+        delays: Delays {
+            t12: Range { min: 0, max: 0 },
+            ..usual.delays
+        },
+        ..usual
+    }
+}
+
+/// The usual times, `hold` at the edge, and two like endpoints of ids 0 and 1.
+fn of_two(e: EndpointConfig, widths: Widths) -> Config
+    requires endpoint { IsEndpoint e }
+    requires id { e.id ≡ 0 }
+    ensures { IsConfig result }
+{
+    Config {
+        endpoints: two_listed(e, EndpointConfig { id: 1, ..e }),
+        ..config(e, widths, 373_323, 1)
     }
 }
 
@@ -136,6 +174,75 @@ fn uplinks(alloc: Global, count: u16) -> Result<List<PlanLine>, NoMemory>
     for k in 0..count {
         lines.push(line(PlanKind::Up, 0, (0, 1), (k, 1), (0xfff, k)))?;
     }
+    Ok(lines)
+}
+
+/// Appends a line.
+fn put(lines: &mut List<PlanLine>, line: PlanLine) -> Result<(), NoMemory>
+    requires lines { All IsPlanLine lines.old }
+    requires line { IsPlanLine line }
+    ensures { All IsPlanLine lines.new }
+{
+    lines.push(line)?;
+    Ok(())
+}
+
+/// So many lines of one PRB each, all in these symbols of one slot.
+fn lines_in(alloc: Global, symbols: (u8, u8), count: u16) -> Result<List<PlanLine>, NoMemory>
+    requires symbol { symbols.0 < 2 ^ 6 }
+    requires number { symbols.1 < 2 ^ 4 }
+    requires few { count ≤ 300 }
+    ensures { IfOk result (λ lines. All IsPlanLine lines) }
+{
+    let mut lines = List::new(alloc);
+    for k in 0..count {
+        lines.push(line(PlanKind::Down, 0, symbols, (k, 1), (0xfff, k)))?;
+    }
+    Ok(lines)
+}
+
+/// Appends nineteen lines of one PRB, each in these symbols of a slot, at the endpoint of this id.
+fn put_nineteen(
+    lines: &mut List<PlanLine>,
+    id: u16,
+    slot: u8,
+    symbols: (u8, u8),
+) -> Result<(), NoMemory>
+    requires lines { All IsPlanLine lines.old }
+    requires slot { slot < 2 ^ 6 }
+    requires symbol { symbols.0 < 2 ^ 6 }
+    requires count { symbols.1 < 2 ^ 4 }
+    ensures { All IsPlanLine lines.new }
+{
+    for k in 0..19 {
+        let here = line(PlanKind::Down, slot, symbols, (k, 1), (0xfff, k + 1));
+        lines.push(PlanLine { id, ..here })?;
+    }
+    Ok(())
+}
+
+/// Nineteen lines in each symbol of a slot, of one PRB and symbol each, the last symbol's first.
+fn backwards(alloc: Global) -> Result<List<PlanLine>, NoMemory>
+    ensures { IfOk result (λ lines. All IsPlanLine lines) }
+{
+    let mut lines = List::new(alloc);
+    for k in 0..14 {
+        put_nineteen(&mut lines, 0, 0, (13 - k, 1))?;
+    }
+    Ok(lines)
+}
+
+/// One line in slot 0 and nineteen in slot 1 at the endpoint of id `later`, and nineteen in slot 0 at that of id `sooner`.
+fn at_two(alloc: Global, later: u16, sooner: u16) -> Result<List<PlanLine>, NoMemory>
+    ensures { IfOk result (λ lines. All IsPlanLine lines) }
+{
+    let mut lines = List::new(alloc);
+    lines.push(PlanLine {
+        id: later,
+        ..one(0xfff, 1)
+    })?;
+    put_nineteen(&mut lines, later, 1, (0, 14))?;
+    put_nineteen(&mut lines, sooner, 0, (0, 14))?;
     Ok(lines)
 }
 
@@ -235,6 +342,102 @@ fn messages_are_dense_at_an_edge(rt: HostRuntime) -> Result<(), Fail> {
     assert_eq!(rt;
         tested(alloc, &config(e, widths, 373_323, 1), &lines),
         dense
+    );
+    Ok(())
+}
+
+#[test]
+fn density_is_tested_last(rt: HostRuntime) -> Result<(), Fail> {
+    let widths = Widths::new(4, 4, 4, 4).expect(&rt, "16 bits");
+    let n = Numerology::ordinary(1).expect(&rt, "30 kHz");
+    let alloc = rt.alloc();
+    let c = config(endpoint(n, 106), widths, 373_323, 1);
+    let mut lines = nineteen(alloc)?;
+    assert_eq!(rt;
+        tested(alloc, &c, &lines),
+        refused(9, PlanWhy::SequenceDense)
+    );
+    // one line more, on the last one's cell
+    put(
+        &mut lines,
+        line(PlanKind::Down, 0, (13, 1), (18, 1), (0x001, 19)),
+    )?;
+    assert_eq!(rt; tested(alloc, &c, &lines), refused(19, PlanWhy::Overlap));
+    // a 65th uplink line, which also overlaps
+    let mut lines = uplinks(alloc, 64)?;
+    put(
+        &mut lines,
+        line(PlanKind::Up, 0, (0, 1), (0, 1), (0xfff, 0)),
+    )?;
+    assert_eq!(rt; tested(alloc, &c, &lines), refused(64, PlanWhy::Overlap));
+    Ok(())
+}
+
+#[test]
+fn a_message_may_leave_before_an_earlier_one(rt: HostRuntime) -> Result<(), Fail> {
+    let widths = Widths::new(4, 4, 4, 4).expect(&rt, "16 bits");
+    let n = Numerology::ordinary(1).expect(&rt, "30 kHz");
+    let alloc = rt.alloc();
+    let mut lines = lines_in(alloc, (0, 1), 257)?;
+    put(
+        &mut lines,
+        line(PlanKind::Down, 0, (1, 1), (0, 1), (0xfff, 1)),
+    )?;
+    // message 1 waits for the window's end, 111,000 ns; message 257 leaves a symbol of 36,198 ns later, and without a wait
+    let e = endpoint(n, 273);
+    assert_eq!(rt; tested(alloc, &slow(e, widths, 74_000), &lines), Ok(()));
+    let near = slow(e, widths, 75_000);
+    assert_eq!(rt;
+        tested(alloc, &near, &lines),
+        refused(257, PlanWhy::SequenceDense)
+    );
+    Ok(())
+}
+
+#[test]
+fn messages_are_numbered_symbol_by_symbol(rt: HostRuntime) -> Result<(), Fail> {
+    let widths = Widths::new(4, 4, 4, 4).expect(&rt, "16 bits");
+    let n = Numerology::ordinary(1).expect(&rt, "30 kHz");
+    let alloc = rt.alloc();
+    let e = endpoint(n, 106);
+    let apart = config(e, widths, 373_322, 1);
+    let near = config(e, widths, 373_323, 1);
+    // message 256 is the tenth of symbol 13, whose lines stand first
+    let lines = backwards(alloc)?;
+    assert_eq!(rt; tested(alloc, &apart, &lines), Ok(()));
+    assert_eq!(rt;
+        tested(alloc, &near, &lines),
+        refused(9, PlanWhy::SequenceDense)
+    );
+    // two sections a message: nineteen messages in each symbol, the tenth of lines 18 and 19
+    let lines = lines_in(alloc, (0, 14), 38)?;
+    let packed = config(e, widths, 373_322, 2);
+    assert_eq!(rt; tested(alloc, &packed, &lines), Ok(()));
+    let packed = config(e, widths, 373_323, 2);
+    assert_eq!(rt;
+        tested(alloc, &packed, &lines),
+        refused(18, PlanWhy::SequenceDense)
+    );
+    Ok(())
+}
+
+#[test]
+fn the_least_number_is_named(rt: HostRuntime) -> Result<(), Fail> {
+    let widths = Widths::new(4, 4, 4, 4).expect(&rt, "16 bits");
+    let n = Numerology::ordinary(1).expect(&rt, "30 kHz");
+    let alloc = rt.alloc();
+    let c = of_two(endpoint(n, 106), widths);
+    // one endpoint is dense at 257, by line 10, the other at 256, by line 29
+    let dense = refused(29, PlanWhy::SequenceDense);
+    assert_eq!(rt; tested(alloc, &c, &at_two(alloc, 0, 1)?), dense);
+    assert_eq!(rt; tested(alloc, &c, &at_two(alloc, 1, 0)?), dense);
+    // at one number the first endpoint's is named
+    let mut lines = List::new(alloc);
+    put_nineteen(&mut lines, 1, 0, (0, 14))?;
+    put_nineteen(&mut lines, 0, 0, (0, 14))?;
+    assert_eq!(rt;
+        tested(alloc, &c, &lines),
+        refused(28, PlanWhy::SequenceDense)
     );
     Ok(())
 }
