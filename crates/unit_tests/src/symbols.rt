@@ -2,6 +2,7 @@
 // symbol. Commands name PRBs 0 and 1 in symbols 0 and 2 of frame 1; data come for PRB 0 of symbol 0.
 ghost use Rattle.std.specs.Prelude.{◌≡◌, ◌<◌, ◌≤ℤ◌, pos, List, [], ◌∷◌, true, IfSome};
 ghost use Rattle.fh_time.specs.Numbering.{slots_of, symbols_of};
+ghost use Rattle.air_source.specs.declared.events.Side.TheVariants.{Ru};
 ghost use Rattle.unit_cells.specs.Cells.{endpoints_of};
 
 use crate::samples::{config, endpoint};
@@ -68,7 +69,8 @@ fn claim(cells: &mut UnitCells, e: EndpointConfig, symbol: u8, mask: u16) -> Com
     requires listed { endpoints_of cells.old ≡ e ∷ [] }
     requires slots { 0 < slots_of e.numerology }
     requires symbols { symbols_of e.numerology ≡ 14 }
-    ensures { endpoints_of cells.new ≡ e ∷ [] }
+    ensures listed { endpoints_of cells.new ≡ e ∷ [] }
+    ensures side { cells.new.side ≡ cells.old.side }
 {
     let command = command(e, symbol, mask);
     cells.command(&command)
@@ -76,6 +78,7 @@ fn claim(cells: &mut UnitCells, e: EndpointConfig, symbol: u8, mask: u16) -> Com
 
 /// Gives PRB 0 in symbol 0 its samples.
 fn give(cells: &mut UnitCells, e: EndpointConfig)
+    requires side { cells.old.side ≡ Ru }
     requires listed { endpoints_of cells.old ≡ e ∷ [] }
     requires slots { slots_of e.numerology ≡ 2 }
     requires symbols { symbols_of e.numerology ≡ 14 }
