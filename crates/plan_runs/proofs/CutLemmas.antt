@@ -1,0 +1,158 @@
+-- Messages part by part are the packs of the definition, with their numbers, times and frames.
+use Rattle.std.proofs.Common.{◌≡◌, ℕ, ℤ, pos, ◌+◌, ◌*◌, ◌+ℤ◌, Bool, true, false, ◌&&◌, ◌==◌, nat_lt, nat_le, min, if◌then◌else◌, List, [], ◌∷◌, ◌++◌, length, map, sum, refl, ap, ap₂, sym, ◌∙◌, zero-mul, add-mul, arith}
+use Rattle.std.proofs.lemmas.List.{map-append}
+use Rattle.std.proofs.lemmas.List.Sums.{sum_by-append}
+use Rattle.std.proofs.lemmas.Bool.{and_parts, eqb-true}
+use Rattle.fh_time.specs.declared.values.Slot.{Slot}
+use Rattle.window_config.specs.declared.config.Config.{Config}
+use Rattle.unit_model.specs.Claims.{same_slot}
+use Rattle.unit_laws.proofs.CellLemmas.{slots_equal}
+use Rattle.plan_model.specs.Departures.{start_of}
+use Rattle.plan_model.specs.Packs.{Message, alone as message_alone, parts_of, with_part, size_of, same_symbol, takes, packs_behind, packs, frames_before, numbered_behind, numbered}
+use Rattle.plan_model.specs.Streams.{Part, frames_in, most_parts, part_fields, messages_of, parts_in}
+use Rattle.plan_model.specs.declared.streams.Stream.{Stream}
+use Rattle.plan_model.specs.declared.streams.Stream.TheVariants.{DownCommands, UpCommands, DownData, UpData}
+use Rattle.frame_order.specs.declared.turns.Run.{Run}
+use Rattle.sent_order.specs.Runs.{place_of, run_of}
+use Rattle.plan_runs.specs.Runs.{PartsMakeRuns, limits_of, placed}
+use Rattle.plan_runs.specs.Walks.{first_message, frames_of, grown, next_to, run_from, same_place, takes_more, wait_behind, walk, walked}
+use Rattle.plan_runs.specs.declared.limits.Limits.{Limits}
+use Rattle.plan_runs.specs.declared.open_messages.OpenMessage.{OpenMessage}
+use Rattle.plan_runs.specs.declared.open_messages.PlacedPart.{PlacedPart}
+
+-- ---- symbols
+
+-- parts of one symbol are so to a third alike
+symbol_alike : (p q r : Part) → same_symbol part_fields p q ≡ true → same_symbol part_fields p r ≡ same_symbol part_fields q r
+symbol_alike p q r h =
+    let a = and_parts (same_slot p.planned.line.slot q.planned.line.slot) (p.symbol == q.symbol) h in
+    ap₂ (λ (s : Slot) (y : ℕ). same_slot s r.planned.line.slot && (y == r.symbol)) (slots_equal p.planned.line.slot q.planned.line.slot a.0) (eqb-true p.symbol q.symbol a.1)
+
+before_alike : (frames : Message Part → ℕ) (m n : Message Part) (earlier : List (Message Part)) → ((r : Part) → same_symbol part_fields m.first r ≡ same_symbol part_fields n.first r)
+    → frames_before part_fields frames m earlier ≡ frames_before part_fields frames n earlier
+unfolding frames_before
+before_alike frames m n [] h = refl
+before_alike frames m n (k ∷ earlier) h =
+    ap₂ (λ (t : Bool) (x : ℕ). let y : ℕ = if t then frames k + x else 0 in y) (h k.first) (before_alike frames m n earlier h)
+
+-- ---- bytes and parts
+
+sum_more : (f : Part → ℕ) (ps : List Part) (p : Part) → sum (map f (ps ++ p ∷ [])) ≡ sum (map f ps) + f p
+sum_more f ps p =
+    let e : sum (map f ps ++ f p ∷ []) ≡ sum (map f ps) + sum (f p ∷ []) = sum_by-append (λ x. x) (map f ps) (f p ∷ []) in
+    ap sum (map-append f ps (p ∷ [])) ∙ e ∙ omega arith
+
+length_more : {X : Type 0} (xs : List X) (x : X) → length (xs ++ x ∷ []) ≡ length xs + 1
+length_more [] x = refl
+length_more (y ∷ xs) x = let e = length_more xs x in omega (arith, e)
+
+-- ---- times and frames
+
+wait_more : (before frames gap spread : ℕ) → min (min (before * gap) spread + frames * gap) spread ≡ min ((frames + before) * gap) spread
+wait_more before frames gap spread =
+    let e : (frames + before) * gap ≡ frames * gap + before * gap = add-mul frames before gap in
+    omega (arith, e)
+
+frames_are : (c : Config) (stream : Stream) (ep : ℕ) (m : Message Part) → frames_in c stream m ≡ frames_of (limits_of c stream ep).fragment (size_of part_fields m)
+frames_are c DownCommands ep m = refl
+frames_are c UpCommands ep m = refl
+frames_are c DownData ep m = refl
+frames_are c UpData ep m = refl
+
+-- ---- an open message
+
+pub record IsOpenOf (c : Config) (stream : Stream) (ep : ℕ) (o : OpenMessage) (m : Message Part) (earlier : List (Message Part)) : Type 0 where
+  pub first : o.first ≡ placed m.first
+  pub parts : o.parts ≡ length (parts_of m)
+  pub bytes : o.bytes ≡ size_of part_fields m
+  pub number : o.number ≡ length earlier
+  pub wait : o.wait ≡ min (frames_before part_fields (frames_in c stream) m earlier * (limits_of c stream ep).departures.gap) (limits_of c stream ep).departures.spread
+
+module _ (c : Config) (stream : Stream) (ep : ℕ) where
+  abbrev l : Limits
+  l = limits_of c stream ep
+
+  abbrev frames : Message Part → ℕ
+  frames m = frames_in c stream m
+
+  takes_is : (o : OpenMessage) (m : Message Part) (earlier : List (Message Part)) (p : Part) → IsOpenOf c stream ep o m earlier
+      → takes_more l.pack o (placed p) ≡ takes part_fields (most_parts c stream) m p
+  takes_is o m earlier p i =
+      ap₂ (λ (x : PlacedPart) (n : ℕ). same_place x (placed p) && (nat_lt n l.pack && nat_le (o.bytes + (placed p).size) 16384)) i.first i.parts
+      ∙ ap (λ (b : ℕ). same_place (placed m.first) (placed p) && (nat_lt (length (parts_of m)) l.pack && nat_le (b + (placed p).size) 16384)) i.bytes
+
+  grown_is : (o : OpenMessage) (m : Message Part) (earlier : List (Message Part)) (p : Part) → IsOpenOf c stream ep o m earlier
+      → IsOpenOf c stream ep (grown o (placed p)) (with_part m p) earlier
+  grown_is o m earlier p i = record {
+    first = i.first;
+    parts = (let a = i.parts in let b = length_more m.more p in omega (arith, a, b));
+    bytes = (let a = i.bytes in let b = sum_more part_fields.size (parts_of m) p in omega (arith, a, b));
+    number = i.number;
+    wait = i.wait ∙ ap (λ (n : ℕ). min (n * l.departures.gap) l.departures.spread) (before_alike frames m (with_part m p) earlier (λ r. refl));
+  }
+
+  next_is : (o : OpenMessage) (m : Message Part) (earlier : List (Message Part)) (p : Part) → IsOpenOf c stream ep o m earlier
+      → IsOpenOf c stream ep (next_to l o (placed p)) (message_alone p) (m ∷ earlier)
+  unfolding frames_before
+  next_is o m earlier p i = record { first = refl; parts = refl; bytes = omega arith; number = (let n = i.number in omega (arith, n)); wait = wait }
+    where
+      go : (t : Bool) → same_symbol part_fields p m.first ≡ t
+          → (let w : ℕ = if t then min (o.wait + frames_of l.fragment o.bytes * l.departures.gap) l.departures.spread else 0 in w)
+          ≡ min ((let n : ℕ = if t then frames m + frames_before part_fields frames (message_alone p) earlier else 0 in n) * l.departures.gap) l.departures.spread
+      go false e = omega (arith, zero-mul l.departures.gap)
+      go true e =
+          ap₂ (λ (w f : ℕ). min (w + f * l.departures.gap) l.departures.spread) i.wait (ap (frames_of l.fragment) i.bytes ∙ sym (frames_are c stream ep m))
+          ∙ wait_more (frames_before part_fields frames m earlier) (frames m) l.departures.gap l.departures.spread
+          ∙ ap (λ (n : ℕ). min ((frames m + n) * l.departures.gap) l.departures.spread) (before_alike frames m (message_alone p) earlier (λ r. sym (symbol_alike p m.first r e)))
+
+      wait : wait_behind l o (placed p) ≡ min (frames_before part_fields frames (message_alone p) (m ∷ earlier) * l.departures.gap) l.departures.spread
+      wait = ap (λ (t : Bool). let w : ℕ = if t then min (o.wait + frames_of l.fragment o.bytes * l.departures.gap) l.departures.spread else 0 in w)
+          (ap (same_place (placed p)) i.first) ∙ go (same_symbol part_fields p m.first) refl
+
+  run_is : (o : OpenMessage) (m : Message Part) (earlier : List (Message Part)) → IsOpenOf c stream ep o m earlier
+      → run_of c stream ep (record { message = m; number = length earlier; before = frames_before part_fields frames m earlier }) ≡ run_from l o
+  run_is o m earlier i =
+      let none : frames_before part_fields frames m earlier + 0 ≡ frames_before part_fields frames m earlier = omega arith in
+      ap (λ (n : ℕ). made ((start_of m.first +ℤ l.departures.from.0) +ℤ pos (min (n * l.departures.gap) l.departures.spread)) (start_of m.first) (length earlier) (frames m)) none
+      ∙ ap (λ (w : ℕ). made ((start_of m.first +ℤ l.departures.from.0) +ℤ pos w) (start_of m.first) (length earlier) (frames m)) (sym i.wait)
+      ∙ ap (λ (x : PlacedPart). made ((x.start.0 +ℤ l.departures.from.0) +ℤ pos o.wait) x.start.0 (length earlier) (frames m)) (sym i.first)
+      ∙ ap₂ (λ (k f : ℕ). made ((o.first.start.0 +ℤ l.departures.from.0) +ℤ pos o.wait) o.first.start.0 k f) (sym i.number) (frames_are c stream ep m ∙ ap (frames_of l.fragment) (sym i.bytes))
+    where
+      made : ℤ → ℤ → ℕ → ℕ → Run
+      made at start number left = record {
+        turn = record { at = record { 0 = at }; endpoint = ep; stream = place_of stream; number = number; sub = 0 };
+        last = record { 0 = (start +ℤ l.departures.from.0) +ℤ pos l.departures.spread };
+        left = left;
+      }
+
+  walk_is : (o : OpenMessage) (m : Message Part) (earlier : List (Message Part)) (ps : List Part) → IsOpenOf c stream ep o m earlier
+      → map (run_of c stream ep) (numbered_behind part_fields frames earlier (packs_behind part_fields (most_parts c stream) m ps)) ≡ walk l o (map placed ps)
+  unfolding walk numbered_behind packs_behind
+  walk_is o m earlier [] i = ap (λ (s : Run). s ∷ []) (run_is o m earlier i)
+  walk_is o m earlier (p ∷ ps) i =
+      go (takes part_fields (most_parts c stream) m p) refl (walk_is (grown o (placed p)) (with_part m p) earlier ps (grown_is o m earlier p i))
+      (walk_is (next_to l o (placed p)) (message_alone p) (m ∷ earlier) ps (next_is o m earlier p i))
+    where
+      go : (t : Bool) → takes part_fields (most_parts c stream) m p ≡ t
+          → map (run_of c stream ep) (numbered_behind part_fields frames earlier (packs_behind part_fields (most_parts c stream) (with_part m p) ps)) ≡ walk l (grown o (placed p)) (map placed ps)
+          → map (run_of c stream ep) (numbered_behind part_fields frames (m ∷ earlier) (packs_behind part_fields (most_parts c stream) (message_alone p) ps))
+          ≡ walk l (next_to l o (placed p)) (map placed ps)
+          → map (run_of c stream ep) (numbered_behind part_fields frames earlier (let ms : List (Message Part) = if takes part_fields (most_parts c stream) m p then packs_behind part_fields (most_parts c stream) (with_part m p) ps
+          else m ∷ packs_behind part_fields (most_parts c stream) (message_alone p) ps in ms))
+          ≡ (let ss : List Run = if takes_more l.pack o (placed p) then walk l (grown o (placed p)) (map placed ps)
+          else run_from l o ∷ walk l (next_to l o (placed p)) (map placed ps) in ss)
+      go true e taken begun = let f = takes_is o m earlier p i in rw (f, e) taken
+      go false e taken begun = let f = takes_is o m earlier p i in rw (f, e) (ap₂ (λ (s : Run) (ss : List Run). s ∷ ss) (run_is o m earlier i) begun)
+
+  first_is : (p : Part) → IsOpenOf c stream ep (first_message (placed p)) (message_alone p) []
+  unfolding frames_before
+  first_is p = record { first = refl; parts = refl; bytes = omega arith; number = refl; wait = omega (arith, zero-mul l.departures.gap) }
+
+  pub walked_is : (ps : List Part) → map (run_of c stream ep) (numbered part_fields frames (packs part_fields (most_parts c stream) ps)) ≡ walked l (map placed ps)
+  unfolding numbered_behind
+  walked_is [] = refl
+  walked_is (p ∷ ps) = walk_is (first_message (placed p)) (message_alone p) [] ps (first_is p)
+
+pub make_runs : PartsMakeRuns
+unfolding messages_of
+make_runs c lines stream ep e = sym (walked_is c stream ep (parts_in lines stream ep e))

@@ -1,0 +1,100 @@
+-- Messages part by part.
+use Rattle.std.proofs.Common.{◌≡◌, ℕ, zero, suc, ◌+◌, ◌<◌, ◌≤◌, Bool, true, false, ◌==◌, nat_lt, nat_le, if◌then◌else◌, List, [], ◌∷◌, ◌++◌, length, get_or, drop, drop-cons, append_assoc, refl, ap, ap₂, sym, ◌∙◌, subst, arith}
+use Rattle.std.specs.List.{AllByRecursion}
+use Rattle.std.proofs.lemmas.Bool.{and_parts, eqb-true}
+use Rattle.std.proofs.lemmas.Bool.Decides.{nat_tests}
+use Rattle.std.proofs.lemmas.List.{drop_all}
+use Rattle.frame_order.specs.declared.turns.Run.{Run}
+use Rattle.plan_runs.specs.Ranges.{IsLimits, IsOpenMessage, IsPlaced}
+use Rattle.plan_runs.specs.Walks.{first_message, takes_more, grown, next_to, run_from, same_place, walk, walked}
+use Rattle.plan_runs.specs.declared.limits.Limits.{Limits}
+use Rattle.plan_runs.specs.declared.open_messages.OpenMessage.{OpenMessage}
+use Rattle.plan_runs.specs.declared.open_messages.PlacedPart.{PlacedPart}
+
+at_most : (a b : ℕ) → nat_le a b ≡ true → a ≤ b
+at_most a b h = grind (arith, nat_tests)
+
+below : (a b : ℕ) → nat_lt a b ≡ true → a < b
+below a b h = grind (arith, nat_tests)
+
+-- where a message takes a part more, it is short
+pub record Short (pack : ℕ) (m : OpenMessage) (p : PlacedPart) : Type 0 where
+  pub parts : m.parts < pack
+  pub bytes : m.bytes + p.size ≤ 16384
+
+pub takes_short : (pack : ℕ) (m : OpenMessage) (p : PlacedPart) → takes_more pack m p ≡ true → Short pack m p
+takes_short pack m p h =
+    let a = and_parts (same_place m.first p) _ h in
+    let b = and_parts (nat_lt m.parts pack) (nat_le (m.bytes + p.size) 16384) a.1 in
+    record { parts = below m.parts pack b.0; bytes = at_most (m.bytes + p.size) 16384 b.1 }
+
+pub grown_open : (l : Limits) (m : OpenMessage) (p : PlacedPart) → IsLimits l → IsOpenMessage l m → takes_more l.pack m p ≡ true → IsOpenMessage l (grown m p)
+grown_open l m p limits o h =
+    let s = takes_short l.pack m p h in
+    record { first = o.first; parts = (let a = s.parts in let b = limits.pack in omega (arith, a, b)); bytes = s.bytes; wait = o.wait }
+
+pub next_open : (l : Limits) (m n : OpenMessage) (p : PlacedPart) → IsPlaced p → n ≡ next_to l m p → n.wait ≤ l.departures.spread → IsOpenMessage l n
+next_open l m n p is e w = record {
+  first = subst IsPlaced (sym (ap (λ (x : OpenMessage). x.first) e)) is;
+  parts = (let a = ap (λ (x : OpenMessage). x.parts) e in omega (arith, a));
+  bytes = (let a = ap (λ (x : OpenMessage). x.bytes) e in let b = is.size in omega (arith, a, b));
+  wait = w;
+}
+
+pub first_open : (l : Limits) (p : PlacedPart) → IsPlaced p → IsOpenMessage l (first_message p)
+first_open l p is = record { first = is; parts = omega arith; bytes = (let b = is.size in omega (arith, b)); wait = omega arith }
+
+pub walk_takes : (l : Limits) (m : OpenMessage) (p : PlacedPart) (ps : List PlacedPart) → takes_more l.pack m p ≡ true → walk l m (p ∷ ps) ≡ walk l (grown m p) ps
+unfolding walk
+walk_takes l m p ps h = rw h refl
+
+pub walk_next : (l : Limits) (m n : OpenMessage) (p : PlacedPart) (ps : List PlacedPart) (r : Run) (old new : List Run) → takes_more l.pack m p ≡ false → n ≡ next_to l m p → r ≡ run_from l m
+    → new ≡ old ++ r ∷ [] → new ++ walk l n ps ≡ old ++ walk l m (p ∷ ps)
+unfolding walk
+walk_next l m n p ps r old new h n_is r_is new_is =
+    ap (λ (xs : List Run). xs ++ walk l n ps) new_is ∙ append_assoc old (r ∷ []) (walk l n ps)
+    ∙ ap (λ (xs : List Run). old ++ xs)
+    (ap₂ (λ (x : Run) (k : OpenMessage). x ∷ walk l k ps) r_is n_is
+    ∙ sym (ap (λ (t : Bool). let xs : List Run = if t then walk l (grown m p) ps else run_from l m ∷ walk l (next_to l m p) ps in xs) h))
+
+-- ---- so far
+
+pub record SoFar (l : Limits) (parts : List PlacedPart) (k : ℕ) (m : OpenMessage) (runs : List Run) : Type 0 where
+  pub open_is : IsOpenMessage l m
+  pub number : m.number < k
+  pub rest : runs ++ walk l m (drop k parts) ≡ walked l parts
+
+pub so_far_start : (l : Limits) (parts : List PlacedPart) (d : PlacedPart) (m : OpenMessage) (runs : List Run) → 0 < length parts → AllByRecursion IsPlaced parts → m ≡ first_message (get_or parts 0 d)
+    → runs ≡ [] → SoFar l parts 1 m runs
+so_far_start l [] d m runs some all m_is none = absurd (omega (arith, some))
+so_far_start l (p ∷ ps) d m runs some all m_is none = record {
+  open_is = subst (IsOpenMessage l) (sym m_is) (first_open l p all.0);
+  number = (let a = ap (λ (x : OpenMessage). x.number) m_is in omega (arith, a));
+  rest = ap₂ (λ (xs : List Run) (k : OpenMessage). xs ++ walk l k ps) none m_is;
+}
+
+pub so_far_more : (l : Limits) (parts : List PlacedPart) (k : ℕ) (m new : OpenMessage) (old runs : List Run) (d : PlacedPart) → SoFar l parts k m old → k < length parts
+    → ((rest : List PlacedPart) → runs ++ walk l new rest ≡ old ++ walk l m (get_or parts k d ∷ rest)) → IsOpenMessage l new → new.number ≤ m.number + 1 → SoFar l parts (k + 1) new runs
+so_far_more l parts k m new old runs d f inside steps o number = record {
+  open_is = o;
+  number = (let a = f.number in omega (arith, a, number));
+  rest =
+      let e : suc k ≡ k + 1 = omega arith in
+      let here : drop k parts ≡ get_or parts k d ∷ drop (k + 1) parts = drop-cons parts k d inside ∙ ap (λ (n : ℕ). get_or parts k d ∷ drop n parts) e in
+      steps (drop (k + 1) parts) ∙ ap (λ (xs : List PlacedPart). old ++ walk l m xs) (sym here) ∙ f.rest;
+}
+
+pub so_far_end : (l : Limits) (parts : List PlacedPart) (k : ℕ) (m : OpenMessage) (runs new : List Run) (r : Run) → SoFar l parts k m runs → length parts ≤ k → r ≡ run_from l m → new ≡ runs ++ r ∷ []
+    → new ≡ walked l parts
+unfolding walk
+so_far_end l parts k m runs new r f end r_is new_is =
+    new_is ∙ ap (λ (x : Run). runs ++ x ∷ []) r_is ∙ ap (λ (xs : List PlacedPart). runs ++ walk l m xs) (sym (drop_all k parts end)) ∙ f.rest
+
+pub walked_none : (l : Limits) (parts : List PlacedPart) (runs : List Run) → (length parts == 0) ≡ true → runs ≡ [] → runs ≡ walked l parts
+walked_none l [] runs e h = h
+walked_none l (p ∷ ps) runs e h = absurd (let z = eqb-true (length (p ∷ ps)) 0 e in omega (arith, z))
+
+pub placed_at : (parts : List PlacedPart) (k : ℕ) (d : PlacedPart) → AllByRecursion IsPlaced parts → k < length parts → IsPlaced (get_or parts k d)
+placed_at [] k d h inside = absurd (omega (arith, inside))
+placed_at (p ∷ ps) zero d h inside = h.0
+placed_at (p ∷ ps) (suc k) d h inside = placed_at ps k d h.1 (omega (arith, inside))

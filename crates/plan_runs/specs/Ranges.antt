@@ -1,0 +1,28 @@
+-- Ranges of what messages are cut by (this project's profile).
+use Rattle.std.specs.Prelude.{ℕ, pos, neg_ℤ, ⊤, ◌^◌, ◌<◌, ◌≤◌, ◌≤ℤ◌, Option, Some, None}
+use Rattle.plan_runs.specs.declared.limits.Limits.{Limits}
+use Rattle.plan_runs.specs.declared.open_messages.OpenMessage.{OpenMessage}
+use Rattle.plan_runs.specs.declared.open_messages.PlacedPart.{PlacedPart}
+
+abbrev pub IsFragment : Option ℕ → Type 0
+IsFragment None = ⊤
+IsFragment (Some n) = (128 ≤ n) × (n ≤ 9000)
+
+pub record IsLimits (l : Limits) : Type 0 where
+  pub fragment : IsFragment l.fragment
+  pub pack : l.pack ≤ 64
+  pub from_low : neg_ℤ (pos (2 ^ 33)) ≤ℤ l.departures.from.0
+  pub from_high : l.departures.from.0 ≤ℤ pos (2 ^ 33)
+  pub gap : l.departures.gap < 2 ^ 33
+  pub spread : l.departures.spread < 2 ^ 33
+
+pub record IsPlaced (p : PlacedPart) : Type 0 where
+  pub low : neg_ℤ (pos (2 ^ 56)) ≤ℤ p.start.0
+  pub high : p.start.0 ≤ℤ pos (2 ^ 56)
+  pub size : p.size ≤ 13383
+
+pub record IsOpenMessage (l : Limits) (m : OpenMessage) : Type 0 where
+  pub first : IsPlaced m.first
+  pub parts : m.parts ≤ 65
+  pub bytes : m.bytes ≤ 16384
+  pub wait : m.wait ≤ l.departures.spread

@@ -1,0 +1,43 @@
+-- The messages of a stream by its parts.
+use Rattle.std.specs.Prelude.{◌≡◌, ℕ, List, map, Option, Some, None}
+use Rattle.window_config.specs.declared.config.Config.{Config}
+use Rattle.window_config.specs.declared.endpoints.EndpointConfig.{EndpointConfig}
+use Rattle.plan_model.specs.Departures.{departures_of, start_of}
+use Rattle.plan_model.specs.Streams.{Part, most_parts, parts_in, section_size}
+use Rattle.plan_model.specs.declared.lines.PlannedLine.{PlannedLine}
+use Rattle.plan_model.specs.declared.streams.Stream.{Stream}
+use Rattle.plan_model.specs.declared.streams.Stream.TheVariants.{DownCommands, UpCommands, DownData, UpData}
+use Rattle.sent_order.specs.Runs.{place_of, stream_runs}
+use Rattle.plan_runs.specs.Walks.{walked}
+use Rattle.plan_runs.specs.declared.limits.Limits.{Limits}
+use Rattle.plan_runs.specs.declared.open_messages.PlacedPart.{PlacedPart}
+
+-- a command goes in one frame
+abbrev pub fragment_of : Config → Stream → Option ℕ
+fragment_of c DownCommands = None
+fragment_of c UpCommands = None
+fragment_of c DownData = Some c.fragment
+fragment_of c UpData = Some c.fragment
+
+abbrev pub limits_of : Config → Stream → ℕ → Limits
+limits_of c stream ep = record {
+  endpoint = ep;
+  stream = place_of stream;
+  pack = most_parts c stream;
+  fragment = fragment_of c stream;
+  departures = departures_of c stream;
+}
+
+abbrev pub placed : Part → PlacedPart
+placed p = record {
+  start = record { 0 = start_of p };
+  slot = p.planned.line.slot;
+  symbol = p.symbol;
+  size = section_size p.planned.endpoint p.planned.line.num_prb;
+}
+
+-- What the walk over a stream's parts finds are the messages of its definition, each with all its frames.
+abbrev pub PartsMakeRuns : Type 0
+PartsMakeRuns =
+    (c : Config) (lines : List PlannedLine) (stream : Stream) (ep : ℕ) (e : EndpointConfig)
+    → walked (limits_of c stream ep) (map placed (parts_in lines stream ep e)) ≡ stream_runs c lines stream ep e

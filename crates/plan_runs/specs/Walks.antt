@@ -1,0 +1,51 @@
+-- Messages part by part (this project's means).
+use Rattle.std.specs.Prelude.{ℕ, pos, ◌+◌, ◌*◌, ◌+ℤ◌, Bool, ◌&&◌, ◌==◌, nat_lt, nat_le, min, if◌then◌else◌, List, [], ◌∷◌, Option, Some, None}
+use Rattle.unit_model.specs.Claims.{same_slot}
+use Rattle.plan_model.specs.Packs.{frames_for}
+use Rattle.frame_order.specs.declared.turns.Run.{Run}
+use Rattle.plan_runs.specs.declared.limits.Limits.{Limits}
+use Rattle.plan_runs.specs.declared.open_messages.OpenMessage.{OpenMessage}
+use Rattle.plan_runs.specs.declared.open_messages.PlacedPart.{PlacedPart}
+
+abbrev pub same_place : PlacedPart → PlacedPart → Bool
+same_place a b = same_slot a.slot b.slot && (a.symbol == b.symbol)
+
+abbrev pub alone : PlacedPart → ℕ → ℕ → OpenMessage
+alone p number wait = record { first = p; parts = 1; bytes = 4 + p.size; number = number; wait = wait }
+
+abbrev pub first_message : PlacedPart → OpenMessage
+first_message p = alone p 0 0
+
+abbrev pub takes_more : ℕ → OpenMessage → PlacedPart → Bool
+takes_more pack m p = same_place m.first p && (nat_lt m.parts pack && nat_le (m.bytes + p.size) 16384)
+
+abbrev pub grown : OpenMessage → PlacedPart → OpenMessage
+grown m p = record { first = m.first; parts = m.parts + 1; bytes = m.bytes + p.size; number = m.number; wait = m.wait }
+
+abbrev pub frames_of : Option ℕ → ℕ → ℕ
+frames_of None bytes = 1
+frames_of (Some most) bytes = frames_for most bytes
+
+-- the next message waits for the frames of this one, where it is of its symbol
+abbrev pub wait_behind : Limits → OpenMessage → PlacedPart → ℕ
+wait_behind l m p =
+    if same_place p m.first then min (m.wait + frames_of l.fragment m.bytes * l.departures.gap) l.departures.spread else 0
+
+abbrev pub next_to : Limits → OpenMessage → PlacedPart → OpenMessage
+next_to l m p = alone p (m.number + 1) (wait_behind l m p)
+
+abbrev pub run_from : Limits → OpenMessage → Run
+run_from l m = record {
+  turn = record { at = record { 0 = (m.first.start.0 +ℤ l.departures.from.0) +ℤ pos m.wait }; endpoint = l.endpoint; stream = l.stream; number = m.number; sub = 0 };
+  last = record { 0 = (m.first.start.0 +ℤ l.departures.from.0) +ℤ pos l.departures.spread };
+  left = frames_of l.fragment m.bytes;
+}
+
+-- the messages from one on, where these parts follow
+unfoldable pub walk : Limits → OpenMessage → List PlacedPart → List Run
+walk l m [] = run_from l m ∷ []
+walk l m (p ∷ ps) = if takes_more l.pack m p then walk l (grown m p) ps else run_from l m ∷ walk l (next_to l m p) ps
+
+abbrev pub walked : Limits → List PlacedPart → List Run
+walked l [] = []
+walked l (p ∷ ps) = walk l (first_message p) ps

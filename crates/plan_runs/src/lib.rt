@@ -1,0 +1,14 @@
+//! The messages of a plan's parts as a queue takes them: how the sections of a symbol are cut into messages, and when these leave.
+#![tactic(auto)]
+
+mod cutting;
+mod laws;
+mod limits;
+mod open_messages;
+#[cfg(test)]
+mod tests;
+
+pub use cutting::message_runs;
+pub use laws::parts_make_runs;
+pub use limits::Limits;
+pub use open_messages::PlacedPart;

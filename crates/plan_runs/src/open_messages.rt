@@ -1,0 +1,136 @@
+//! A message that may take more parts.
+ghost use Rattle.std.specs.Prelude.{◌≡◌, ◌+◌, ◌<◌, ◌≤◌, ◌^◌};
+ghost use Rattle.plan_runs.specs.Ranges.{IsFragment, IsLimits, IsOpenMessage};
+ghost use Rattle.plan_runs.specs.Walks.{first_message, frames_of, grown, next_to, run_from, same_place, takes_more};
+
+use crate::limits::Limits;
+use fh_time::{Slot, Ticks};
+use frame_order::{Run, Turn};
+use plan_model::frame_count;
+use unit_model::same_slot;
+
+/// A line in one of its symbols: when that starts, and the bytes of the line's U-plane section.
+#[derive(Clone, Copy, Debug, PartialEq, Eq)]
+pub struct PlacedPart {
+    /// When the symbol starts.
+    pub start: Ticks,
+    pub slot: Slot,
+    pub symbol: u8,
+    /// With the section's headers.
+    pub size: u16,
+}
+
+/// A message that may take more parts: its first part, how many parts and application bytes it has, its number, and how long behind
+/// the first frame of its symbol its own first one leaves.
+#[derive(Clone, Copy, Debug, PartialEq, Eq)]
+pub(crate) struct OpenMessage {
+    pub(crate) first: PlacedPart,
+    pub(crate) parts: usize,
+    pub(crate) bytes: usize,
+    pub(crate) number: u32,
+    pub(crate) wait: u64,
+}
+
+/// Whether two parts are of one slot and symbol.
+fn same_place(a: &PlacedPart, b: &PlacedPart) -> bool
+    ensures { result ≡ same_place a.now b.now }
+{
+    same_slot(&a.slot, &b.slot) && a.symbol == b.symbol
+}
+
+/// A message of one part; the header has 4 bytes.
+fn alone(part: &PlacedPart, number: u32, wait: u64) -> OpenMessage
+    ensures first { result.first ≡ part.now }
+    ensures parts { result.parts ≡ 1 }
+    ensures bytes { result.bytes ≡ 4 + part.now.size }
+    ensures number { result.number ≡ number }
+    ensures wait { result.wait ≡ wait }
+{
+    OpenMessage {
+        first: *part,
+        parts: 1,
+        bytes: 4 + part.size as usize,
+        number,
+        wait,
+    }
+}
+
+/// The first message, with its first part.
+pub(crate) fn first_message(part: &PlacedPart) -> OpenMessage
+    ensures { result ≡ first_message part.now }
+{
+    alone(part, 0, 0)
+}
+
+/// Whether a message takes a part more: of its symbol, and where it has room for it.
+pub(crate) fn takes_more(pack: usize, m: &OpenMessage, part: &PlacedPart) -> bool
+    requires bytes { m.now.bytes ≤ 16384 }
+    ensures { result ≡ takes_more pack m.now part.now }
+{
+    same_place(&m.first, part) && m.parts < pack && m.bytes + part.size as usize <= 16_384
+}
+
+/// The message with one part more.
+pub(crate) fn grown(m: &OpenMessage, part: &PlacedPart) -> OpenMessage
+    requires bytes { m.now.bytes ≤ 16384 }
+    requires parts { m.now.parts < 2 ^ 63 }
+    ensures { result ≡ grown m.now part.now }
+{
+    OpenMessage {
+        parts: m.parts + 1,
+        bytes: m.bytes + part.size as usize,
+        ..*m
+    }
+}
+
+/// How many frames carry a message of so many application bytes.
+fn frames_of(fragment: Option<usize>, bytes: usize) -> usize
+    requires fragment { IsFragment fragment }
+    requires bytes { bytes ≤ 16384 }
+    ensures value { result ≡ frames_of fragment bytes }
+    ensures small { result ≤ 128 }
+{
+    match fragment {
+        None => 1,
+        Some(most) => frame_count(most, bytes),
+    }
+}
+
+/// The message of one part behind another.
+pub(crate) fn next_to(limits: &Limits, m: &OpenMessage, part: &PlacedPart) -> OpenMessage
+    requires limits { IsLimits limits.now }
+    requires message { IsOpenMessage limits.now m.now }
+    requires number { m.now.number < 2 ^ 24 }
+    ensures value { result ≡ next_to limits.now m.now part.now }
+    ensures wait { result.wait ≤ limits.now.departures.spread }
+{
+    let wait = if same_place(part, &m.first) {
+        limits
+            .departures
+            .later(m.wait, frames_of(limits.fragment, m.bytes))
+    } else {
+        0
+    };
+    alone(part, m.number + 1, wait)
+}
+
+/// A message with all its frames.
+pub(crate) fn run_from(limits: &Limits, m: &OpenMessage) -> Run
+    requires limits { IsLimits limits.now }
+    requires message { IsOpenMessage limits.now m.now }
+    ensures { result ≡ run_from limits.now m.now }
+{
+    Run {
+        turn: Turn {
+            at: limits.departures.at(m.first.start, m.wait),
+            endpoint: limits.endpoint,
+            stream: limits.stream,
+            number: m.number,
+            sub: 0,
+        },
+        last: limits
+            .departures
+            .at(m.first.start, limits.departures.spread),
+        left: frames_of(limits.fragment, m.bytes) as u8,
+    }
+}
