@@ -1,5 +1,6 @@
 // The functions at values that were worked out by hand.
 ghost use Rattle.std.specs.Prelude.{◌≡◌};
+ghost use Rattle.window_config.specs.Endpoints.{IsEndpoint};
 
 use crate::{
     PlannedLine, allocation_of, frame_count, is_near, is_out_of_range, planned_line, section_size,
@@ -26,7 +27,9 @@ const LINE: PlanLine = PlanLine {
     beam: 0,
 };
 
-fn endpoint(numerology: Numerology) -> EndpointConfig {
+fn endpoint(numerology: Numerology) -> EndpointConfig
+    ensures { IsEndpoint result }
+{
     EndpointConfig {
         id: 7,
         numerology,
