@@ -36,6 +36,7 @@ refusals = record {
   twice = refl;
   two_ids = refl;
   one_id = refl;
+  in_part = refl;
   with_idle = refl;
   both_ways = refl;
   all_prbs = refl;
@@ -62,7 +63,7 @@ parts = record {
 
 dense : DenseAreAsWorked
 unfolding nineteen each first_near
-dense = record { down = refl; up = refl; near = refl; apart = refl }
+dense = record { down = refl; up = refl; near = refl; apart = refl; least = refl; first_of_two = refl }
 
 pub as_worked : AreAsWorked
 as_worked = record { packs = packs; numbers = numbers; departures = departures; refusals = refusals; parts = parts; dense = dense }

@@ -28,12 +28,12 @@ up_distance d = distance_with d.hold_ul d.t34.min d.t34.max
 abbrev pub is_near : ℤ → ℤ → ℤ → Bool
 is_near distance a b = int_le (a -ℤ b) distance && int_le (b -ℤ a) distance
 
--- when a message's first frame leaves, and the place of its first part's line
 -- its time is one that can be told
 pub record IsSending (s : Sending) : Type 0 where
   pub low : neg_ℤ (pos (2 ^ 57)) ≤ℤ s.at.0
   pub high : s.at.0 ≤ℤ pos (2 ^ 57)
 
+-- when a message's first frame leaves, and the place of its first part's line
 abbrev pub sending_of : Config → Stream → Numbered Part → Sending
 sending_of c stream n = record { at = record { 0 = sent_at c stream n 0 }; line = n.message.first.planned.index }
 

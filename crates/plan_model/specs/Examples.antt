@@ -13,7 +13,7 @@ use Rattle.window_config.specs.declared.plan.PlanKind.{PlanKind}
 use Rattle.window_config.specs.declared.plan.PlanKind.TheVariants.{Down, Up, Idle}
 use Rattle.window_config.specs.declared.plan.PlanLine.{PlanLine}
 use Rattle.unit_model.specs.Lists.{each}
-use Rattle.plan_model.specs.Dense.{down_distance, up_distance, dense_in}
+use Rattle.plan_model.specs.Dense.{down_distance, up_distance, dense_in, lesser}
 use Rattle.plan_model.specs.declared.dense.Sending.{Sending}
 use Rattle.plan_model.specs.Departures.{departure, departures_of}
 use Rattle.plan_model.specs.Lines.{planned}
@@ -126,6 +126,8 @@ pub record RefusalsAreAsWorked : Type 0 where
   pub twice : refused (line_of Down 0 1 4095 1 ∷ line_of Down 0 1 4095 1 ∷ []) ≡ Some (1, Overlap)
   pub two_ids : refused (line_of Down 0 1 3840 1 ∷ line_of Down 0 1 15 2 ∷ []) ≡ Some (1, Overlap)
   pub one_id : refused (line_of Down 0 1 3840 1 ∷ line_of Down 0 1 15 1 ∷ []) ≡ None
+  -- masks ff0 and 0ff have four elements in common
+  pub in_part : refused (line_of Down 0 1 4080 1 ∷ line_of Down 0 1 255 1 ∷ []) ≡ Some (1, Overlap)
   pub with_idle : refused (line_of Down 0 1 4095 1 ∷ line_of Idle 0 1 4095 1 ∷ []) ≡ Some (1, Overlap)
   pub both_ways : refused (line_of Down 0 1 4095 1 ∷ line_of Up 0 1 4095 1 ∷ []) ≡ None
   -- numPrb 0 means all PRBs, whatever startPrb
@@ -176,6 +178,9 @@ pub record DenseAreAsWorked : Type 0 where
   -- 902,750 ns, and a nanosecond less
   pub near : dense_in (pos 1386624000) nineteen ≡ Some (record { number = 256; line = 9 })
   pub apart : dense_in (pos 1386622464) nineteen ≡ None
+  -- the lesser number is named, of one number the first
+  pub least : lesser (Some (record { number = 300; line = 1 })) (Some (record { number = 256; line = 2 })) ≡ Some (record { number = 256; line = 2 })
+  pub first_of_two : lesser (Some (record { number = 256; line = 1 })) (Some (record { number = 256; line = 2 })) ≡ Some (record { number = 256; line = 1 })
 
 pub record AreAsWorked : Type 0 where
   pub packs : PacksAreAsWorked

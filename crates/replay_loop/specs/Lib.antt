@@ -1,5 +1,0 @@
-pub mod Replaying
-pub mod Coming
-pub mod Turns
-pub mod Delivering
-pub mod Laws
