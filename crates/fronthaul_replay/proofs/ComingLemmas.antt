@@ -17,9 +17,9 @@ use Rattle.frame_network.specs.Queues.{AreRising, at_time, first_time, landing_o
 use Rattle.frame_network.proofs.QueueLemmas.{none_below}
 use Rattle.replay_events.proofs.TickLemmas.{at_most, below_all, next_after, same_most, weak}
 use Rattle.unit_model.specs.Meetings.{Arrival}
-use Rattle.replay_loop.specs.declared.coming.Coming.{Coming}
-use Rattle.replay_loop.specs.Coming.{AreFlyingFrom, AreFrom, AreListed, ArePlaced, Flies, IsSent, IsSentOrAt, IsToRu, Waits, arrival_at, arrival_of, coming_at, flying_at, frame_at, injected_at, landing_from, left_at}
-use Rattle.replay_loop.proofs.LandLemmas.{equal_not, equal_self, under_next}
+use Rattle.fronthaul_replay.specs.declared.coming.Coming.{Coming}
+use Rattle.fronthaul_replay.specs.Coming.{AreFlyingFrom, AreFrom, AreListed, ArePlaced, Flies, IsSent, IsSentOrAt, IsToRu, Waits, arrival_at, arrival_of, coming_at, flying_at, frame_at, injected_at, landing_from, left_at}
+use Rattle.fronthaul_replay.proofs.LandLemmas.{equal_not, equal_self, under_next}
 
 -- ---- what waits
 

@@ -20,12 +20,12 @@ use Rattle.ru_buffers.specs.declared.unit.Ru.{Ru}
 use Rattle.unit_model.specs.Counts.{StandAt, cells_counted}
 use Rattle.unit_model.specs.Meetings.{Arrival as Landing}
 use Rattle.unit_model.specs.Reports.{arrivals_counted, ru_reported}
-use Rattle.replay_loop.specs.Replaying.{IsDone, StopsInStep, events_of, landings_of, traffic_of}
-use Rattle.replay_loop.specs.Turns.{AtTurn, events_before}
+use Rattle.fronthaul_replay.specs.Replaying.{IsDone, StopsInStep, events_of, landings_of, traffic_of}
+use Rattle.fronthaul_replay.specs.Turns.{AtTurn, events_before}
 use Rattle.replay_events.specs.Heard.{arrivals_heard, cells_heard}
 use Rattle.replay_events.proofs.HeardLemmas.{arrivals-append, cells-append}
-use Rattle.replay_loop.proofs.StopLemmas.{all_events}
-use Rattle.replay_loop.proofs.TurnLemmas.{quiet_less}
+use Rattle.fronthaul_replay.proofs.StopLemmas.{all_events}
+use Rattle.fronthaul_replay.proofs.TurnLemmas.{quiet_less}
 
 -- ---- their events, one after the other
 

@@ -6,7 +6,7 @@ use Rattle.air_source.specs.declared.airs.AirFault.{AirFault}
 use Rattle.air_source.specs.declared.airs.AirFault.TheVariants.{Failed, NoMemory as WantsMemory}
 use Rattle.air_source.specs.declared.events.Event.{Event}
 use Rattle.fh_document.specs.declared.document.Document.{Document}
-use Rattle.replay_loop.specs.Replaying.{events_of}
+use Rattle.fronthaul_replay.specs.Replaying.{events_of}
 use Rattle.owed_bytes.specs.Owed.{Carried}
 use Rattle.air_sinks.specs.Stopping.{Halted}
 use Rattle.air_sinks.proofs.Fronts.{front_of, stops_front, cut_front}

@@ -12,7 +12,7 @@ use Rattle.unit_model.specs.Meetings.{Arrival}
 use Rattle.unit_model.specs.Proper.{IsTime}
 use Rattle.unit_model.specs.Radiated.{first_clock}
 use Rattle.window_config.specs.declared.endpoints.EndpointConfig.{EndpointConfig}
-use Rattle.replay_loop.specs.Replaying.{landing_of, landings_of}
+use Rattle.fronthaul_replay.specs.Replaying.{landing_of, landings_of}
 
 pub record IsLandingTime (at : ℤ) : Type 0 where
   pub time : IsTime at

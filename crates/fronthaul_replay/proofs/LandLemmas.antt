@@ -18,8 +18,8 @@ use Rattle.unit_model.specs.Lists.{onto}
 use Rattle.unit_model.specs.Meetings.{Arrival}
 use Rattle.unit_model.specs.Standing.{History, arrived}
 use Rattle.window_config.specs.declared.config.Config.{Config}
-use Rattle.replay_loop.specs.Coming.{AreFlyingFrom, arrival_at, flying_at, landing_from}
-use Rattle.replay_loop.specs.Delivering.{HaveLanded, StopsLanding, landed}
+use Rattle.fronthaul_replay.specs.Coming.{AreFlyingFrom, arrival_at, flying_at, landing_from}
+use Rattle.fronthaul_replay.specs.Delivering.{HaveLanded, StopsLanding, landed}
 
 -- ---- one more
 

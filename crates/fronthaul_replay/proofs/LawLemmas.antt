@@ -17,9 +17,9 @@ use Rattle.replay_laws.proofs.OnceLemmas.{at_most_once}
 use Rattle.replay_laws.proofs.RefusedLemmas.{each_refused_changes_nothing}
 use Rattle.replay_laws.proofs.ShownLemmas.{shown_only_in_time}
 use Rattle.replay_laws.proofs.SumLemmas.{sums_add_up}
-use Rattle.replay_loop.specs.Laws.{IsSound}
-use Rattle.replay_loop.specs.Replaying.{traffic_of}
-use Rattle.replay_loop.proofs.DocumentLemmas.{are_landings}
+use Rattle.fronthaul_replay.specs.Laws.{IsSound}
+use Rattle.fronthaul_replay.specs.Replaying.{traffic_of}
+use Rattle.fronthaul_replay.proofs.DocumentLemmas.{are_landings}
 
 none_land : AreLandings []
 none_land = record { times = All-nil _; begun = All-nil _; ended = All-nil _ }

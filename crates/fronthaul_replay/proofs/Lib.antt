@@ -1,3 +1,14 @@
+pub mod DocumentLemmas
+pub mod TurnLemmas
+pub mod StopLemmas
+pub mod LandLemmas
+pub mod ComingLemmas
+pub mod NextLemmas
+pub mod MomentLemmas
+pub mod CountLemmas
+pub mod ListLemmas
+pub mod GiveLemmas
+pub mod LawLemmas
 pub mod Counted
 pub mod Cuts
 pub mod Written

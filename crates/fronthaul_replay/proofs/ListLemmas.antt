@@ -16,9 +16,9 @@ use Rattle.replay_events.specs.Moments.{landing_at}
 use Rattle.unit_model.specs.Meetings.{Arrival}
 use Rattle.unit_model.specs.Radiated.{first_clock}
 use Rattle.window_config.specs.declared.endpoints.EndpointConfig.{EndpointConfig}
-use Rattle.replay_loop.specs.Replaying.{landing_of, landings_of}
-use Rattle.replay_loop.specs.Coming.{AreFrom, AreListed, ArePlaced, Waits, arrival_at, arrival_of, frame_at, frame_of, left_at, time_of}
-use Rattle.replay_loop.proofs.DocumentLemmas.{landing_time}
+use Rattle.fronthaul_replay.specs.Replaying.{landing_of, landings_of}
+use Rattle.fronthaul_replay.specs.Coming.{AreFrom, AreListed, ArePlaced, Waits, arrival_at, arrival_of, frame_at, frame_of, left_at, time_of}
+use Rattle.fronthaul_replay.proofs.DocumentLemmas.{landing_time}
 
 -- ---- their times
 

@@ -21,13 +21,13 @@ use Rattle.unit_model.specs.Meetings.{Arrival}
 use Rattle.unit_model.specs.Proper.{IsTime}
 use Rattle.unit_model.specs.Radiated.{first_clock}
 use Rattle.unit_model.specs.Standing.{History, at_clock, heard}
-use Rattle.replay_loop.specs.declared.coming.Coming.{Coming}
-use Rattle.replay_loop.specs.Coming.{Flies, IsSent, IsSentOrAt, IsToRu, Waits, flying_at, left_at}
-use Rattle.replay_loop.specs.Delivering.{HaveLanded, IsDrained, giving, landed}
-use Rattle.replay_loop.specs.Replaying.{landings_of, traffic_of}
-use Rattle.replay_loop.specs.Turns.{AtTurn}
-use Rattle.replay_loop.proofs.LandLemmas.{fly_on}
-use Rattle.replay_loop.proofs.TurnLemmas.{after, due_here, events_are}
+use Rattle.fronthaul_replay.specs.declared.coming.Coming.{Coming}
+use Rattle.fronthaul_replay.specs.Coming.{Flies, IsSent, IsSentOrAt, IsToRu, Waits, flying_at, left_at}
+use Rattle.fronthaul_replay.specs.Delivering.{HaveLanded, IsDrained, giving, landed}
+use Rattle.fronthaul_replay.specs.Replaying.{landings_of, traffic_of}
+use Rattle.fronthaul_replay.specs.Turns.{AtTurn}
+use Rattle.fronthaul_replay.proofs.LandLemmas.{fly_on}
+use Rattle.fronthaul_replay.proofs.TurnLemmas.{after, due_here, events_are}
 use Rattle.ru_buffers.proofs.QuietLemmas.{left_less}
 
 pub some_history : (d : Document) (tick : ℤ) (u : Ru) → AtTurn d tick u → StandsForSome u

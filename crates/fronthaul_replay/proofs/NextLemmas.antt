@@ -24,13 +24,13 @@ use Rattle.unit_model.specs.Meetings.{Arrival}
 use Rattle.unit_model.specs.Radiated.{first_clock}
 use Rattle.unit_model.specs.Standing.{History}
 use Rattle.window_config.specs.declared.config.Config.{Config}
-use Rattle.replay_loop.specs.declared.coming.Coming.{Coming}
-use Rattle.replay_loop.specs.Coming.{AreFlyingFrom, AreFrom, IsCalmTo, Waits}
-use Rattle.replay_loop.specs.Replaying.{landings_of, traffic_of}
-use Rattle.replay_loop.specs.Turns.{AtTurn, IsMoment, IsNext, IsStill, events_before, within_end}
-use Rattle.replay_loop.proofs.ComingLemmas.{from_less, left_none}
-use Rattle.replay_loop.proofs.LandLemmas.{flying_none}
-use Rattle.replay_loop.proofs.TurnLemmas.{next, quiet_less, skip}
+use Rattle.fronthaul_replay.specs.declared.coming.Coming.{Coming}
+use Rattle.fronthaul_replay.specs.Coming.{AreFlyingFrom, AreFrom, IsCalmTo, Waits}
+use Rattle.fronthaul_replay.specs.Replaying.{landings_of, traffic_of}
+use Rattle.fronthaul_replay.specs.Turns.{AtTurn, IsMoment, IsNext, IsStill, events_before, within_end}
+use Rattle.fronthaul_replay.proofs.ComingLemmas.{from_less, left_none}
+use Rattle.fronthaul_replay.proofs.LandLemmas.{flying_none}
+use Rattle.fronthaul_replay.proofs.TurnLemmas.{next, quiet_less, skip}
 
 -- ---- the least of two times
 

@@ -21,12 +21,12 @@ use Rattle.unit_model.specs.Meetings.{Arrival}
 use Rattle.unit_model.specs.Radiated.{first_clock}
 use Rattle.unit_model.specs.Reports.{ru_known}
 use Rattle.unit_model.specs.Standing.{History, at_clock, heard, nothing_yet}
-use Rattle.replay_loop.specs.Delivering.{StopsLanding}
-use Rattle.replay_loop.specs.Replaying.{HaltsInStep, RestsInStep, StopsInStep, events_of, landings_of, traffic_of}
-use Rattle.replay_loop.specs.Turns.{HaltsBehind, IsTurn, RestsBehind, StopsBehind, events_before}
+use Rattle.fronthaul_replay.specs.Delivering.{StopsLanding}
+use Rattle.fronthaul_replay.specs.Replaying.{HaltsInStep, RestsInStep, StopsInStep, events_of, landings_of, traffic_of}
+use Rattle.fronthaul_replay.specs.Turns.{HaltsBehind, IsTurn, RestsBehind, StopsBehind, events_before}
 use Rattle.replay_events.specs.Heard.{arrivals_heard}
 use Rattle.replay_events.proofs.HeardLemmas.{AreOf, arrivals-append, arrivals-cells, arrivals-none, cells-append, cells-none, cells-own, due_of_side}
-use Rattle.replay_loop.proofs.TurnLemmas.{arrivals_then, cells_then, due_here, events_are, idle_at_du}
+use Rattle.fronthaul_replay.proofs.TurnLemmas.{arrivals_then, cells_then, due_here, events_are, idle_at_du}
 
 -- in the cells of a tick
 cells_about : (before now : List AirCell) (c : AirCell) (rest : List AirCell) (more : List Event) → before ≡ now ++ c ∷ rest

@@ -35,9 +35,9 @@ use Rattle.window_config.specs.declared.endpoints.EndpointConfig.{EndpointConfig
 use Rattle.replay_events.specs.Alone.{IsDuIdle}
 use Rattle.replay_events.specs.Heard.{arrivals_heard, cells_heard}
 use Rattle.replay_events.proofs.AloneLemmas.{events_alone, idle_without_plan, told_each}
-use Rattle.replay_loop.specs.Replaying.{landings_of, traffic_of}
-use Rattle.replay_loop.specs.Turns.{IsTurn, events_before}
-use Rattle.replay_loop.proofs.DocumentLemmas.{are_landings}
+use Rattle.fronthaul_replay.specs.Replaying.{landings_of, traffic_of}
+use Rattle.fronthaul_replay.specs.Turns.{IsTurn, events_before}
+use Rattle.fronthaul_replay.proofs.DocumentLemmas.{are_landings}
 use Rattle.replay_events.proofs.HeardLemmas.{AreOf, arrivals-append, arrivals-cells, arrivals-none, arrivals-own, cells-append, cells-arrivals, cells-none, cells-own, tick_of_side}
 
 -- ---- what is quiet up to a time is quiet up to each earlier one

@@ -13,8 +13,8 @@ use Rattle.frame_network.specs.declared.landings.Landing.{Landing}
 use Rattle.frame_network.specs.Queues.{at_time}
 use Rattle.replay_events.specs.Moments.{landing_at}
 use Rattle.unit_model.specs.Meetings.{Arrival}
-use Rattle.replay_loop.specs.declared.coming.Coming.{Coming}
-use Rattle.replay_loop.specs.Replaying.{landings_of}
+use Rattle.fronthaul_replay.specs.declared.coming.Coming.{Coming}
+use Rattle.fronthaul_replay.specs.Replaying.{landings_of}
 
 -- ---- a frame of the document
 

@@ -11,7 +11,7 @@ use Rattle.unit_model.specs.Meetings.{Arrival}
 use Rattle.unit_model.specs.Standing.{History}
 use Rattle.unit_model.specs.declared.jobs.UplinkJob.{UplinkJob}
 use Rattle.window_config.specs.declared.config.Config.{Config}
-use Rattle.replay_loop.specs.Coming.{AreFlyingFrom}
+use Rattle.fronthaul_replay.specs.Coming.{AreFlyingFrom}
 
 -- a history once these landed too
 abbrev pub landed : History → List Arrival → History

@@ -8,7 +8,7 @@ use Rattle.replay_laws.specs.Refused.{RefusedChangesNothing}
 use Rattle.replay_laws.specs.Shown.{IsShownInTime}
 use Rattle.replay_laws.specs.Sums.{AddsUp}
 use Rattle.replay_events.specs.Traffic.{landings_at}
-use Rattle.replay_loop.specs.Replaying.{traffic_of}
+use Rattle.fronthaul_replay.specs.Replaying.{traffic_of}
 
 -- at each unit: no cell is reported twice; the samples of a cell came in the symbol's window, and each of its elements was named by a
 -- command on time that was accepted under the cell's section id, or is planned under it; each decoded section has one counted verdict and

@@ -1,17 +1,14 @@
 -- The texts of a document (this project's profile), each of all its events.
 use Rattle.std.specs.Prelude.{ℕ, List}
 use Rattle.fh_document.specs.declared.document.Document.{Document}
-use Rattle.replay_loop.specs.Replaying.{events_of}
+use Rattle.fronthaul_replay.specs.Replaying.{events_of}
 use Rattle.capture_air.specs.Capture.{whole_capture}
 use Rattle.sum_air.specs.Summary.{whole_summary}
 use Rattle.text_air.specs.Text.{whole_text}
 
 -- the report of a document: the lines of its events, and `end`
-unfoldable pub injected_report : Document → List ℕ
-injected_report d = whole_text (events_of d)
-
-abbrev pub report_of : Document → List ℕ
-report_of d = injected_report d
+unfoldable pub document_report : Document → List ℕ
+document_report d = whole_text (events_of d)
 
 -- the summary of a document: a line for each run of cells, the delays, the counters, and `end`
 unfoldable pub summary_of : Document → List ℕ

@@ -12,10 +12,10 @@ use Rattle.unit_model.specs.Radiated.{first_clock}
 use Rattle.unit_model.specs.Reports.{ru_reported}
 use Rattle.unit_model.specs.Standing.{History}
 use Rattle.window_config.specs.declared.config.Config.{Config}
-use Rattle.replay_loop.specs.declared.coming.Coming.{Coming}
-use Rattle.replay_loop.specs.Coming.{IsCalmTo}
+use Rattle.fronthaul_replay.specs.declared.coming.Coming.{Coming}
+use Rattle.fronthaul_replay.specs.Coming.{IsCalmTo}
 use Rattle.replay_events.specs.Heard.{arrivals_heard, cells_heard}
-use Rattle.replay_loop.specs.Replaying.{IsInStep, landings_of, traffic_of}
+use Rattle.fronthaul_replay.specs.Replaying.{IsInStep, landings_of, traffic_of}
 
 -- the events before a tick
 abbrev pub events_before : Document → ℤ → List Event

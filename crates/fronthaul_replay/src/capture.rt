@@ -4,7 +4,7 @@ ghost use Rattle.std.specs.Io.KnownBytes.{append_known};
 ghost use Rattle.fh_base.specs.Told.{WritesFront};
 ghost use Rattle.fh_document.specs.Proper.{IsDocument};
 ghost use Rattle.capture_air.specs.Airs.{sink_name, sink_of, owed_of};
-ghost use Rattle.replay_loop.specs.Laws.{IsSound};
+ghost use Rattle.fronthaul_replay.specs.Laws.{IsSound};
 ghost use Rattle.fronthaul_replay.specs.Replay.{HasWriteCause};
 ghost use Rattle.fronthaul_replay.specs.Reports.{capture_of};
 

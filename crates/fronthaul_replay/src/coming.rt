@@ -2,7 +2,7 @@
 ghost use Rattle.std.specs.Prelude.{◌≡◌, ◌<◌, IfOk, OnOk, length, true};
 ghost use Rattle.fh_document.specs.Proper.{IsDocument};
 ghost use Rattle.ru_buffers.specs.Calls.{IsLeastOf};
-ghost use Rattle.replay_loop.specs.Coming.{Flies, IsCalmTo, Waits, injected_at};
+ghost use Rattle.fronthaul_replay.specs.Coming.{Flies, IsCalmTo, Waits, injected_at};
 
 use crate::times::earlier_of;
 use air_source::Side;

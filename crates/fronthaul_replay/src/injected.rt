@@ -5,14 +5,14 @@ ghost use Rattle.fh_base.specs.Told.{WritesFront};
 ghost use Rattle.fh_document.specs.Proper.{IsDocument};
 ghost use Rattle.text_air.specs.Airs.{sink_name, sink_of, owed_of};
 ghost use Rattle.text_air.specs.Text.{end_text};
+ghost use Rattle.fronthaul_replay.specs.Laws.{IsSound};
 ghost use Rattle.fronthaul_replay.specs.Replay.{HasWriteCause};
-ghost use Rattle.fronthaul_replay.specs.Reports.{injected_report};
+ghost use Rattle.fronthaul_replay.specs.Reports.{document_report};
 
+use crate::replaying::replay_to;
 use air_source::AirFault;
-use fh_base::{NoMemory, Sink};
+use fh_base::Sink;
 use fh_document::Document;
-use replay_loop::{ReplayFault, replay};
-use ru_buffers::Ru;
 use std::alloc::Global;
 use text_air::TextAir;
 
@@ -39,20 +39,16 @@ pub fn replay_injected<K: Sink>(
     out: &mut K,
 ) -> Result<(), InjectedFault>
     requires { IsDocument document.now }
-    ensures front { WritesFront (K.written out.old) (K.written out.new) (injected_report document.now) }
-    ensures done { OnOk result (K.written out.new ≡ append_known (K.written out.old) (injected_report document.now)) }
+    ensures front { WritesFront (K.written out.old) (K.written out.new) (document_report document.now) }
+    ensures done { OnOk result (K.written out.new ≡ append_known (K.written out.old) (document_report document.now)) }
     ensures cause { HasWriteCause (K.faults out.old) (K.faults out.new) result }
     ensures later { K.faults out.old ≤ K.faults out.new }
+    ensures sound { OnOk result (IsSound document.now) }
 {
-    let mut ru = match Ru::make(alloc, &document.config) {
-        Ok(ru) => ru,
-        Err(NoMemory) => return Err(InjectedFault::NoMemory),
-    };
     let mut air = TextAir::new(out);
-    match replay(alloc, document, &mut ru, &mut air) {
+    match replay_to(alloc, document, &mut air) {
         Ok(()) => finish(&mut air),
-        Err(ReplayFault::AirFailed) => Err(InjectedFault::WriteFault),
-        Err(ReplayFault::NoMemory) => Err(InjectedFault::NoMemory),
+        Err(fault) => Err(fault),
     }
 }
 

@@ -6,8 +6,8 @@ ghost use Rattle.replay_events.specs.Events.{arrival_event};
 ghost use Rattle.ru_buffers.specs.Calls.{HasGivenPast, StandsFor, StandsForSome};
 ghost use Rattle.unit_model.specs.Standing.{History, arrived};
 ghost use Rattle.window_config.specs.declared.config.Config.{Config};
-ghost use Rattle.replay_loop.specs.Coming.{AreFlyingFrom, IsToRu, arrival_at, flying_at};
-ghost use Rattle.replay_loop.specs.Delivering.{HaveLanded, IsDrained, StopsLanding, landed};
+ghost use Rattle.fronthaul_replay.specs.Coming.{AreFlyingFrom, IsToRu, arrival_at, flying_at};
+ghost use Rattle.fronthaul_replay.specs.Delivering.{HaveLanded, IsDrained, StopsLanding, landed};
 
 use air_source::{Air, AirFault, Side};
 use fh_time::Ticks;

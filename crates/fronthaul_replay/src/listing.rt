@@ -2,7 +2,7 @@
 ghost use Rattle.std.specs.Prelude.{◌≡◌, ◌^◌, IfOk, map};
 ghost use Rattle.fh_document.specs.Proper.{IsDocument, IsFrom};
 ghost use Rattle.unit_model.specs.Radiated.{first_clock};
-ghost use Rattle.replay_loop.specs.Coming.{Waits, time_of};
+ghost use Rattle.fronthaul_replay.specs.Coming.{Waits, time_of};
 
 use crate::coming::Coming;
 use fh_base::NoMemory;

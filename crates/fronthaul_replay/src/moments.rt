@@ -9,9 +9,9 @@ ghost use Rattle.ru_buffers.specs.Calls.{StandsFor};
 ghost use Rattle.unit_model.specs.Radiated.{first_clock};
 ghost use Rattle.unit_model.specs.Standing.{History};
 ghost use Rattle.window_config.specs.declared.config.Config.{Config};
-ghost use Rattle.replay_loop.specs.Coming.{Waits};
-ghost use Rattle.replay_loop.specs.Replaying.{traffic_of};
-ghost use Rattle.replay_loop.specs.Turns.{AtTurn, HaltsBehind, IsNext, StopsBehind, events_before};
+ghost use Rattle.fronthaul_replay.specs.Coming.{Waits};
+ghost use Rattle.fronthaul_replay.specs.Replaying.{traffic_of};
+ghost use Rattle.fronthaul_replay.specs.Turns.{AtTurn, HaltsBehind, IsNext, StopsBehind, events_before};
 
 use crate::coming::{Coming, inject};
 use crate::landing::{drain, land};

@@ -3,15 +3,15 @@ ghost use Rattle.std.specs.Prelude.{◌≤◌, OnOk, IfErr, IsErrOf};
 ghost use Rattle.fronthaul_replay.specs.declared.injected.InjectedFault.TheVariants.{WriteFault};
 ghost use Rattle.fh_base.specs.Causes.{Rose};
 ghost use Rattle.fh_document.specs.Proper.{IsDocument};
-ghost use Rattle.replay_loop.specs.Laws.{IsSound};
-ghost use Rattle.replay_loop.specs.Replaying.{events_of};
+ghost use Rattle.fronthaul_replay.specs.Laws.{IsSound};
+ghost use Rattle.fronthaul_replay.specs.Replaying.{events_of};
 ghost use Rattle.fronthaul_replay.specs.Cut.{CutBy};
 
 use crate::injected::InjectedFault;
+use crate::replays::{ReplayFault, replay};
 use air_source::Air;
 use fh_base::NoMemory;
 use fh_document::Document;
-use replay_loop::{ReplayFault, replay};
 use ru_buffers::Ru;
 use std::alloc::Global;
 

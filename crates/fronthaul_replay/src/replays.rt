@@ -7,10 +7,10 @@ ghost use Rattle.fh_document.specs.Proper.{IsDocument};
 ghost use Rattle.unit_model.specs.Radiated.{first_clock};
 ghost use Rattle.unit_model.specs.Standing.{nothing_yet};
 ghost use Rattle.ru_buffers.specs.Calls.{StandsFor};
-ghost use Rattle.replay_loop.specs.Laws.{IsSound};
-ghost use Rattle.replay_loop.specs.Coming.{Waits};
-ghost use Rattle.replay_loop.specs.Replaying.{HaltsInStep, IsDone, StopsInStep, events_of};
-ghost use Rattle.replay_loop.specs.declared.replays.ReplayFault.TheVariants.{AirFailed, NoMemory as WantsMemory};
+ghost use Rattle.fronthaul_replay.specs.Laws.{IsSound};
+ghost use Rattle.fronthaul_replay.specs.Coming.{Waits};
+ghost use Rattle.fronthaul_replay.specs.Replaying.{HaltsInStep, IsDone, StopsInStep, events_of};
+ghost use Rattle.fronthaul_replay.specs.declared.replays.ReplayFault.TheVariants.{AirFailed, NoMemory as WantsMemory};
 
 use crate::coming::Coming;
 use crate::counting::tell_counts;

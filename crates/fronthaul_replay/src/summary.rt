@@ -5,7 +5,7 @@ ghost use Rattle.fh_base.specs.Told.{WritesFront};
 ghost use Rattle.fh_document.specs.Proper.{IsDocument};
 ghost use Rattle.sum_air.specs.Airs.{sink_name, sink_of, owed_of, sums_of};
 ghost use Rattle.sum_air.specs.States.{sum_start, sum_ends};
-ghost use Rattle.replay_loop.specs.Laws.{IsSound};
+ghost use Rattle.fronthaul_replay.specs.Laws.{IsSound};
 ghost use Rattle.fronthaul_replay.specs.Replay.{HasWriteCause};
 ghost use Rattle.fronthaul_replay.specs.Reports.{summary_of};
 

@@ -2,7 +2,7 @@
 ghost use Rattle.std.specs.Prelude.{◌≡◌, pos, ◌+ℤ◌, ◌≤ℤ◌, int_le};
 ghost use Rattle.replay_events.specs.Moments.{end_of_time};
 ghost use Rattle.ru_buffers.specs.Calls.{earlier_time};
-ghost use Rattle.replay_loop.specs.Turns.{within_end};
+ghost use Rattle.fronthaul_replay.specs.Turns.{within_end};
 
 use fh_time::Ticks;
 

@@ -4,7 +4,7 @@ use fault_counters::Counter;
 use fh_base::List;
 use fh_document::read;
 use fh_time::Ticks;
-use replay_loop::{ReplayFault, replay};
+use fronthaul_replay::{ReplayFault, replay};
 use ru_buffers::Ru;
 use std::alloc::Global;
 use std::test::Fail;

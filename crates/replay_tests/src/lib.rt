@@ -1,7 +1,7 @@
 //! Tests of the replay of a document: what an air hears (`events`), the report that is written (`reports`),
 //! and the summary and the capture (`texts`).
 //!
-//! They stand beside `replay_loop` and `fronthaul_replay`, so that these are proved without them.
+//! They stand beside `fronthaul_replay`, so that it is proved without them.
 #![tactic(auto)]
 
 #[cfg(test)]

@@ -15,8 +15,8 @@ use Rattle.fh_document.specs.Document.{document_of}
 use Rattle.fh_document.specs.Proper.{IsDocument}
 use Rattle.fh_document.specs.Steps.{handled}
 use Rattle.fh_document.proofs.Properness.{document_in_in}
-use Rattle.replay_loop.specs.Laws.{IsSound}
-use Rattle.replay_loop.proofs.LawLemmas.{is_sound}
+use Rattle.fronthaul_replay.specs.Laws.{IsSound}
+use Rattle.fronthaul_replay.proofs.LawLemmas.{is_sound}
 use Rattle.top_call.specs.declared.status.Status.{Status}
 use Rattle.top_call.specs.declared.status.Status.TheVariants.{Done, BadWords, BadDocument, BadCapture, ReadFault, WriteFault, NoMemory, TooLong, CheckFails, BadPcap, NoFit}
 use Rattle.top_call.specs.Answers.{Answer, answer_of, asked, is_reading, reads}

@@ -12,7 +12,7 @@ use Rattle.fh_document.specs.declared.document.Document.{Document}
 use Rattle.fh_document.specs.declared.refusals.DocWhy.{DocWhy}
 use Rattle.fh_document.specs.Document.{document_of}
 use Rattle.fh_document.specs.Generated.{generated}
-use Rattle.fronthaul_replay.specs.Reports.{capture_of, injected_report, summary_of}
+use Rattle.fronthaul_replay.specs.Reports.{capture_of, document_report, summary_of}
 use Rattle.pcap_frames.specs.declared.refusals.PcapRefusal.{PcapRefusal}
 use Rattle.pcap_frames.specs.declared.values.PcapHead.{PcapHead}
 use Rattle.pcap_frames.specs.Checked.{checked as pcap_checked}
@@ -48,7 +48,7 @@ of_document answer (Err (line, why)) = refused (BadDocument line (Doc why))
 
 -- `replay`: the report of the document's events
 abbrev pub replayed : Document → Answer
-replayed d = record { text = injected_report d; status = Done }
+replayed d = record { text = document_report d; status = Done }
 
 -- `summary`: the summary of the same events
 abbrev pub summarized : Document → Answer

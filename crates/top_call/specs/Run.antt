@@ -5,7 +5,7 @@ use Rattle.command_words.specs.Words.{command_of}
 use Rattle.fh_base.specs.Causes.{Rose}
 use Rattle.fh_base.specs.Told.{WritesFront}
 use Rattle.fh_document.specs.Document.{document_of}
-use Rattle.replay_loop.specs.Laws.{IsSound}
+use Rattle.fronthaul_replay.specs.Laws.{IsSound}
 use Rattle.top_call.specs.declared.status.Status.{Status}
 use Rattle.top_call.specs.declared.status.Status.TheVariants.{Done, BadWords, BadDocument, BadCapture, ReadFault, WriteFault, NoMemory, TooLong, CheckFails, BadPcap, NoFit}
 use Rattle.top_call.specs.Answers.{Answer, asked, is_reading}

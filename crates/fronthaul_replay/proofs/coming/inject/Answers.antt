@@ -3,10 +3,10 @@ use Rattle.frame_network.specs.declared.arrivals.Arrival.{Arrival as Flying}
 use Rattle.frame_network.specs.Network.{put_in}
 use Rattle.frame_network.specs.declared.landings.Landing.{Landing}
 use Rattle.frame_network.specs.Queues.{AreRising, landing_of}
-use Rattle.replay_loop.specs.Coming.{Flies, injected_at}
-use Rattle.replay_loop.proofs.ComingLemmas.{AtPut, all_fly, put_none, put_one, refused_from, taken_first}
-use Rattle.replay_loop.proofs.ListLemmas.{frame_short}
-use Rattle.replay_loop.proofs.coming.inject.Goals as goal
+use Rattle.fronthaul_replay.specs.Coming.{Flies, injected_at}
+use Rattle.fronthaul_replay.proofs.ComingLemmas.{AtPut, all_fly, put_none, put_one, refused_from, taken_first}
+use Rattle.fronthaul_replay.proofs.ListLemmas.{frame_short}
+use Rattle.fronthaul_replay.proofs.coming.inject.Goals as goal
 
 pub loop-index-init : goal.loop-index-init
 loop-index-init c = put_none c.args.doc.now c.args.tick c.args.coming.now c.requires.waits

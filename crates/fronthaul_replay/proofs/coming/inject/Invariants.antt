@@ -1,6 +1,6 @@
 use Rattle.std.proofs.Common.{length}
-use Rattle.replay_loop.proofs.ComingLemmas.{AtPut}
-use Rattle.replay_loop.proofs.coming.inject.Given as goal
+use Rattle.fronthaul_replay.proofs.ComingLemmas.{AtPut}
+use Rattle.fronthaul_replay.proofs.coming.inject.Given as goal
 
 abbrev pub invariant-loop-index : goal.invariant-loop-index
 invariant-loop-index l = AtPut l.doc l.tick l.initial.coming l.coming

@@ -6,8 +6,8 @@ use Rattle.air_source.specs.declared.events.Event.TheVariants.{Count}
 use Rattle.air_source.specs.declared.events.Side.TheVariants.{Ru}
 use Rattle.air_source.proofs.Stops.{stops_now}
 use Rattle.fault_counters.specs.Counts.{count_of}
-use Rattle.replay_loop.proofs.CountLemmas.{some_event}
-use Rattle.replay_loop.proofs.counting.tell_count.Goals as goal
+use Rattle.fronthaul_replay.proofs.CountLemmas.{some_event}
+use Rattle.fronthaul_replay.proofs.counting.tell_count.Goals as goal
 
 pub returns-clause-stop : goal.returns-clause-stop
 returns-clause-stop g c =

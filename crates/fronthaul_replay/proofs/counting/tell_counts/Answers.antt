@@ -3,8 +3,8 @@ use Rattle.fault_counters.specs.Counts.{count_of}
 use Rattle.fault_counters.specs.declared.kinds.Counter.{Counter}
 use Rattle.air_source.specs.Stops.{StopsIn}
 use Rattle.std.proofs.Common.{rules, ◌≡◌, ℕ, ◌<◌, List, length, ap, sym, subst}
-use Rattle.replay_loop.proofs.CountLemmas.{counts_by, stops_among}
-use Rattle.replay_loop.proofs.counting.tell_counts.Goals as goal
+use Rattle.fronthaul_replay.proofs.CountLemmas.{counts_by, stops_among}
+use Rattle.fronthaul_replay.proofs.counting.tell_counts.Goals as goal
 
 pub returns-in_err-tell_count-clause-stop : goal.returns-in_err-tell_count-clause-stop
 returns-in_err-tell_count-clause-stop g c =

@@ -1,7 +1,7 @@
 use Rattle.std.proofs.Common.{take, ◌≤◌}
 use Rattle.fault_counters.specs.Counts.{count_of}
-use Rattle.replay_loop.proofs.CountLemmas.{counts_by}
-use Rattle.replay_loop.proofs.counting.tell_counts.Given as goal
+use Rattle.fronthaul_replay.proofs.CountLemmas.{counts_by}
+use Rattle.fronthaul_replay.proofs.counting.tell_counts.Given as goal
 
 abbrev pub invariant-loop-counter : goal.invariant-loop-counter
 invariant-loop-counter g l = record {

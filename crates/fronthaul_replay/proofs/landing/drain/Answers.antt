@@ -1,9 +1,9 @@
 use Rattle.std.proofs.Common.{◌≡◌, [], ◌∷◌, ◌++◌, sym, subst, ◌∙◌}
 use Rattle.ru_buffers.specs.Calls.{GivesJob, StandsFor, given_of}
 use Rattle.ru_buffers.specs.declared.unit.Ru.{Ru}
-use Rattle.replay_loop.specs.Delivering.{giving}
-use Rattle.replay_loop.proofs.GiveLemmas.{fewer, none_of, some_of}
-use Rattle.replay_loop.proofs.landing.drain.Goals as goal
+use Rattle.fronthaul_replay.specs.Delivering.{giving}
+use Rattle.fronthaul_replay.proofs.GiveLemmas.{fewer, none_of, some_of}
+use Rattle.fronthaul_replay.proofs.landing.drain.Goals as goal
 
 pub loop-smaller : goal.loop-smaller
 loop-smaller c =

@@ -4,8 +4,8 @@ use Rattle.unit_model.specs.declared.jobs.UplinkJob.{UplinkJob}
 use Rattle.window_config.specs.declared.config.Config.{Config}
 use Rattle.ru_buffers.specs.Calls.{StandsFor}
 use Rattle.ru_buffers.specs.Units.{left_up_to}
-use Rattle.replay_loop.specs.Delivering.{giving}
-use Rattle.replay_loop.proofs.landing.drain.Given as goal
+use Rattle.fronthaul_replay.specs.Delivering.{giving}
+use Rattle.fronthaul_replay.proofs.landing.drain.Given as goal
 
 abbrev pub invariant-loop : goal.invariant-loop
 invariant-loop l = record {

@@ -1,5 +1,5 @@
 use Rattle.std.proofs.Common.{rules, ◌≡◌, sym}
-use Rattle.replay_loop.proofs.landing.hear.Goals as goal
+use Rattle.fronthaul_replay.proofs.landing.hear.Goals as goal
 
 pub returns-in_err-arrival-clause-stop : goal.returns-in_err-arrival-clause-stop
 returns-in_err-arrival-clause-stop g c =

@@ -10,10 +10,10 @@ use Rattle.ru_buffers.specs.declared.unit.Ru.{Ru}
 use Rattle.unit_model.specs.Meetings.{Arrival}
 use Rattle.unit_model.specs.Standing.{History, arrived}
 use Rattle.window_config.specs.declared.config.Config.{Config}
-use Rattle.replay_loop.specs.Coming.{AreFlyingFrom, IsToRu, arrival_at, flying_at}
-use Rattle.replay_loop.specs.Delivering.{StopsLanding, landed}
-use Rattle.replay_loop.proofs.LandLemmas.{gone_all, lands_next, lands_none, later_from, of_tick, same_tick, stops_here}
-use Rattle.replay_loop.proofs.landing.land.Goals as goal
+use Rattle.fronthaul_replay.specs.Coming.{AreFlyingFrom, IsToRu, arrival_at, flying_at}
+use Rattle.fronthaul_replay.specs.Delivering.{StopsLanding, landed}
+use Rattle.fronthaul_replay.proofs.LandLemmas.{gone_all, lands_next, lands_none, later_from, of_tick, same_tick, stops_here}
+use Rattle.fronthaul_replay.proofs.landing.land.Goals as goal
 
 pub loop-arrival-init : goal.loop-arrival-init
 loop-arrival-init g c = record {

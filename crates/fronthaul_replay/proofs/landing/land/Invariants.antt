@@ -1,8 +1,8 @@
 use Rattle.std.proofs.Common.{◌≡◌, ◌≤◌, All, length}
 use Rattle.ru_buffers.specs.Calls.{HasGivenPast, StandsForSome}
-use Rattle.replay_loop.specs.Coming.{AreFlyingFrom, IsToRu}
-use Rattle.replay_loop.proofs.LandLemmas.{Lands}
-use Rattle.replay_loop.proofs.landing.land.Given as goal
+use Rattle.fronthaul_replay.specs.Coming.{AreFlyingFrom, IsToRu}
+use Rattle.fronthaul_replay.proofs.LandLemmas.{Lands}
+use Rattle.fronthaul_replay.proofs.landing.land.Given as goal
 
 abbrev pub invariant-loop-arrival : goal.invariant-loop-arrival
 invariant-loop-arrival g l = record {

@@ -1,8 +1,8 @@
 use Rattle.std.proofs.Common.{rules, ◌≡◌, map, subst, sym}
-use Rattle.replay_loop.specs.Coming.{Waits, time_of}
+use Rattle.fronthaul_replay.specs.Coming.{Waits, time_of}
 use Rattle.unit_model.specs.Radiated.{first_clock}
-use Rattle.replay_loop.proofs.ListLemmas.{all_wait}
-use Rattle.replay_loop.proofs.listing.coming_of.Goals as goal
+use Rattle.fronthaul_replay.proofs.ListLemmas.{all_wait}
+use Rattle.fronthaul_replay.proofs.listing.coming_of.Goals as goal
 
 pub returns : goal.returns
 returns c =

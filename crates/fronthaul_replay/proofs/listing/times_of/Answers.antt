@@ -1,7 +1,7 @@
 use Rattle.std.proofs.Common.{rules, ◌<◌, length, ap, sym, ◌∙◌, arith}
-use Rattle.replay_loop.proofs.ListLemmas.{injection_at, not_past, times_all, times_step}
-use Rattle.replay_loop.proofs.listing.times_of.Goals as goal
-use Rattle.replay_loop.proofs.listing.times_of.Goals.{in-Some+in_ok-push, in_default}
+use Rattle.fronthaul_replay.proofs.ListLemmas.{injection_at, not_past, times_all, times_step}
+use Rattle.fronthaul_replay.proofs.listing.times_of.Goals as goal
+use Rattle.fronthaul_replay.proofs.listing.times_of.Goals.{in-Some+in_ok-push, in_default}
 
 pub tick_of-requires : goal.tick_of-requires
 tick_of-requires c =

@@ -8,11 +8,11 @@ use Rattle.air_source.specs.declared.events.Side.TheVariants.{Ru as AtRu}
 use Rattle.replay_events.specs.Events.{arrival_event}
 use Rattle.replay_events.proofs.TickLemmas.{same_most}
 use Rattle.ru_buffers.specs.Reporting.{due_of}
-use Rattle.replay_loop.specs.Coming.{flying_at}
-use Rattle.replay_loop.specs.Delivering.{landed}
-use Rattle.replay_loop.proofs.MomentLemmas.{all_to_ru, flies_here, heard_then, is_ready, reported_then, turn_then, waits_then}
-use Rattle.replay_loop.proofs.StopLemmas.{rests_due, stops_due, stops_landing}
-use Rattle.replay_loop.proofs.moments.moment.Goals as goal
+use Rattle.fronthaul_replay.specs.Coming.{flying_at}
+use Rattle.fronthaul_replay.specs.Delivering.{landed}
+use Rattle.fronthaul_replay.proofs.MomentLemmas.{all_to_ru, flies_here, heard_then, is_ready, reported_then, turn_then, waits_then}
+use Rattle.fronthaul_replay.proofs.StopLemmas.{rests_due, stops_due, stops_landing}
+use Rattle.fronthaul_replay.proofs.moments.moment.Goals as goal
 
 pub advance-requires-clause-given : goal.advance-requires-clause-given
 advance-requires-clause-given g c = is_ready c.args.doc.now c.args.tick.0 c.args.ru.now c.requires.turn

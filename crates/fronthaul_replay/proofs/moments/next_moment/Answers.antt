@@ -1,7 +1,7 @@
 use Rattle.std.proofs.Common.{sym, ap, subst, ◌∙◌}
-use Rattle.replay_loop.specs.Turns.{IsNext, within_end}
-use Rattle.replay_loop.proofs.NextLemmas.{is_next}
-use Rattle.replay_loop.proofs.moments.next_moment.Goals as goal
+use Rattle.fronthaul_replay.specs.Turns.{IsNext, within_end}
+use Rattle.fronthaul_replay.proofs.NextLemmas.{is_next}
+use Rattle.fronthaul_replay.proofs.moments.next_moment.Goals as goal
 
 pub returns : goal.returns
 returns c k h stands =

@@ -4,12 +4,12 @@ use Rattle.air_source.specs.declared.events.Event.{Event}
 use Rattle.replay_events.specs.Moments.{end_of_time}
 use Rattle.replay_events.proofs.TickLemmas.{at_most, next_most, same_most}
 use Rattle.unit_model.specs.Radiated.{first_clock}
-use Rattle.replay_loop.specs.Coming.{Waits}
-use Rattle.replay_loop.specs.Turns.{AtTurn, events_before}
-use Rattle.replay_loop.proofs.NextLemmas.{events_idle, gap_less, heard_next, in_order, not_before, to_end, to_idle, waits_idle}
-use Rattle.replay_loop.proofs.StopLemmas.{halts_whole, stops_whole}
-use Rattle.replay_loop.proofs.TurnLemmas.{events_none}
-use Rattle.replay_loop.proofs.moments.pass.Goals as goal
+use Rattle.fronthaul_replay.specs.Coming.{Waits}
+use Rattle.fronthaul_replay.specs.Turns.{AtTurn, events_before}
+use Rattle.fronthaul_replay.proofs.NextLemmas.{events_idle, gap_less, heard_next, in_order, not_before, to_end, to_idle, waits_idle}
+use Rattle.fronthaul_replay.proofs.StopLemmas.{halts_whole, stops_whole}
+use Rattle.fronthaul_replay.proofs.TurnLemmas.{events_none}
+use Rattle.fronthaul_replay.proofs.moments.pass.Goals as goal
 
 pub loop-tick-init : goal.loop-tick-init
 loop-tick-init g c = record {

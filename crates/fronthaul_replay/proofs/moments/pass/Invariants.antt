@@ -1,9 +1,9 @@
 use Rattle.std.proofs.Common.{◌≤◌, ◌+ℤ◌, pos}
 use Rattle.std.specs.Int.{int_gap}
 use Rattle.replay_events.specs.Moments.{end_of_time}
-use Rattle.replay_loop.specs.Coming.{Waits}
-use Rattle.replay_loop.specs.Turns.{AtTurn, events_before}
-use Rattle.replay_loop.proofs.moments.pass.Given as goal
+use Rattle.fronthaul_replay.specs.Coming.{Waits}
+use Rattle.fronthaul_replay.specs.Turns.{AtTurn, events_before}
+use Rattle.fronthaul_replay.proofs.moments.pass.Given as goal
 
 abbrev pub invariant-loop-tick : goal.invariant-loop-tick
 invariant-loop-tick g l = record {

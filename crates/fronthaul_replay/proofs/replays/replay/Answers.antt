@@ -1,7 +1,7 @@
 use Rattle.std.proofs.Common.{inr}
-use Rattle.replay_loop.proofs.LawLemmas.{is_sound}
-use Rattle.replay_loop.proofs.StopLemmas.{none_heard}
-use Rattle.replay_loop.proofs.replays.replay.Goals as goal
+use Rattle.fronthaul_replay.proofs.LawLemmas.{is_sound}
+use Rattle.fronthaul_replay.proofs.StopLemmas.{none_heard}
+use Rattle.fronthaul_replay.proofs.replays.replay.Goals as goal
 
 pub returns-in_default-clause-sound : goal.returns-in_default-clause-sound
 returns-in_default-clause-sound g c = is_sound c.args.doc.now c.requires.document

@@ -6,10 +6,10 @@ use Rattle.fault_counters.specs.Names.{all_counters}
 use Rattle.replay_events.proofs.TickLemmas.{same_most}
 use Rattle.unit_model.specs.Radiated.{first_clock}
 use Rattle.unit_model.specs.Standing.{nothing_yet}
-use Rattle.replay_loop.proofs.CountLemmas.{counts_are, counts_by, heard_all, over, stops_count}
-use Rattle.replay_loop.proofs.StopLemmas.{halts_in_step, stops_in_step}
-use Rattle.replay_loop.proofs.TurnLemmas.{start}
-use Rattle.replay_loop.proofs.replays.run.Goals as goal
+use Rattle.fronthaul_replay.proofs.CountLemmas.{counts_are, counts_by, heard_all, over, stops_count}
+use Rattle.fronthaul_replay.proofs.StopLemmas.{halts_in_step, stops_in_step}
+use Rattle.fronthaul_replay.proofs.TurnLemmas.{start}
+use Rattle.fronthaul_replay.proofs.replays.run.Goals as goal
 
 pub pass-requires-clause-turn : goal.pass-requires-clause-turn
 pass-requires-clause-turn g c =

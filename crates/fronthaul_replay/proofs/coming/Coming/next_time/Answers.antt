@@ -3,9 +3,9 @@ use Rattle.std.specs.Prelude.{IfSome}
 use Rattle.ru_buffers.specs.Calls.{IsLeastOf, earlier_time}
 use Rattle.frame_network.specs.Queues.{first_time}
 use Rattle.frame_network.specs.Network.{first_time as first_flying}
-use Rattle.replay_loop.specs.Coming.{AreFlyingFrom, AreFrom, IsCalmTo}
-use Rattle.replay_loop.proofs.NextLemmas.{earlier_of_both, first_flies, first_waits}
-use Rattle.replay_loop.proofs.coming.Coming.next_time.Goals as goal
+use Rattle.fronthaul_replay.specs.Coming.{AreFlyingFrom, AreFrom, IsCalmTo}
+use Rattle.fronthaul_replay.proofs.NextLemmas.{earlier_of_both, first_flies, first_waits}
+use Rattle.fronthaul_replay.proofs.coming.Coming.next_time.Goals as goal
 
 pub returns : goal.returns
 returns c =
