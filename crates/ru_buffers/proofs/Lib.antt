@@ -14,5 +14,9 @@ pub mod MarkedLemmas
 pub mod OrderLemmas
 pub mod RankLemmas
 pub mod AdvanceLemmas
+pub mod ControlLemmas
+pub mod DeliverLemmas
+pub mod FoundLemmas
+pub mod NextLemmas
 pub mod CallLemmas
 pub mod LoopLemmas

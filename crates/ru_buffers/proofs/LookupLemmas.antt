@@ -83,10 +83,10 @@ module _ (c : Config) (m : RuMemory) (since : ℤ) (arrivals : List Arrival) (be
             ∙ sym (no_jobs_ahead c since arrivals e ep slot symbol limits holds.came swept.endpoint far)
       ]
 
-  left_same : (cursor : JobCursor) → cursor.since.0 ≡ since → (ep : ℕ) (e : EndpointConfig) (slot : Slot) (symbol : ℕ) (tick : ℤ)
+  pub left_is : (cursor : JobCursor) → cursor.since.0 ≡ since → (ep : ℕ) (e : EndpointConfig) (slot : Slot) (symbol : ℕ) (tick : ℤ)
       → IsSwept c.endpoints ep e slot symbol tick → jobs_left (cells_uplink m.cells) cursor ep e slot symbol ≡ left_of acc cursor ep e slot symbol
   unfolding jobs_left
-  left_same cursor same ep e slot symbol tick swept =
+  left_is cursor same ep e slot symbol tick swept =
       by_lt_z tick since
       (λ before.
       let past : int_lt (air_of e.numerology slot symbol) cursor.since.0 ≡ true =
@@ -100,4 +100,4 @@ module _ (c : Config) (m : RuMemory) (since : ℤ) (arrivals : List Arrival) (be
   left_by_definition cursor same to =
       ap (λ (es : List EndpointConfig). sweep (jobs_left (cells_uplink m.cells) cursor) es first_clock (to +ℤ pos 1)) holds.of.endpoints
       ∙ sweep-same (jobs_left (cells_uplink m.cells) cursor) (left_of acc cursor) c.endpoints first_clock (to +ℤ pos 1)
-      (λ ep e slot symbol tick low high swept. left_same cursor same ep e slot symbol tick swept)
+      (λ ep e slot symbol tick low high swept. left_is cursor same ep e slot symbol tick swept)

@@ -1,5 +1,5 @@
 -- The loop that reports symbol by symbol, and the calls above it.
-use Rattle.std.proofs.Common.{◌≡◌, ℕ, suc, ℤ, pos, ◌-◌, ◌<◌, ◌≤◌, ◌≤ℤ◌, ◌<ℤ◌, ◌^◌, neg_ℤ, true, false, List, [], ◌∷◌, ◌++◌, length, map, refl, sym, ap, ◌∙◌, subst, arith, append-nil}
+use Rattle.std.proofs.Common.{◌≡◌, ℕ, suc, ℤ, pos, ◌-◌, ◌<◌, ◌≤◌, ◌≤ℤ◌, ◌<ℤ◌, ◌^◌, neg_ℤ, true, List, [], ◌∷◌, ◌++◌, length, map, refl, sym, ap, ◌∙◌, subst, arith, append-nil}
 use Rattle.std.specs.Prelude.{Option, Some, None, Result, Ok, Err}
 use Rattle.fh_base.specs.Causes.{Rose}
 use Rattle.air_source.specs.Causes.{HasAirCause}
@@ -21,57 +21,113 @@ use Rattle.unit_laws.specs.Runs.{OffsetsFit}
 use Rattle.unit_cells.specs.Cells.{CellsValue, endpoints_of}
 use Rattle.unit_cells.specs.Keeping.{SameKnown}
 use Rattle.history_laws.proofs.FirstLemmas.{first_is_first, nothing_is_nothing}
+use Rattle.ru_jobs.specs.Cursors.{IsFirstJob, Settled}
+use Rattle.ru_jobs.specs.declared.cursor.JobCursor.{JobCursor}
+use Rattle.ru_jobs.specs.declared.cursor.NextJob.{NextJob}
 use Rattle.ru_memory.specs.declared.memory.RuMemory.{RuMemory}
-use Rattle.ru_reports.specs.Symbols.{IsSymbol, StopsAtCell, is_left, left_at}
-use Rattle.ru_buffers.specs.Advancing.{AfterReport, GoesOn, InOrder, IsNextReport, IsOver, ToldAll, rank_of, rank_past, ranks_left}
-use Rattle.ru_buffers.specs.Calls.{StandsFor, StopsAtDue}
-use Rattle.ru_buffers.specs.Reporting.{IsFirstLeft, IsLeftAfter, IsMarked, due_of}
+use Rattle.ru_reports.specs.Symbols.{StopsAtCell, left_at}
+use Rattle.ru_buffers.specs.Advancing.{AfterReport, GoesOn, InOrder, IsNextReport, IsOver, StartsLater, ToldAll, rank_of, rank_past, ranks_left}
+use Rattle.ru_buffers.specs.Calls.{IsNextMessage, IsNextSymbol, StandsFor, StopsAtDue}
+use Rattle.ru_buffers.specs.JobLaws.{NothingIsLeft}
+use Rattle.ru_buffers.specs.Reporting.{IsFirstLeft, IsFoundLeft, IsLeftAfter, IsMarked, due_of}
+use Rattle.ru_buffers.specs.Units.{IsReady, Stands}
 use Rattle.ru_buffers.specs.declared.unit.Ru.{Ru}
 use Rattle.ru_buffers.proofs.AdvanceLemmas.{begins_further, goes_further, goes_nowhere, goes_on, nothing_by, nothing_left, stops}
+use Rattle.ru_buffers.proofs.CallLemmas.{stands_settled}
+use Rattle.ru_buffers.proofs.NextLemmas.{message_known, message_settled}
 use Rattle.ru_buffers.proofs.RankLemmas.{IsRanked, rank_below, rank_rises}
 
 -- ---- one symbol
 
--- the first symbol, as it was found
-pub first_found : (v : CellsValue) (clock : ℤ) (s : SymbolStart) → IsSymbol v s → clock <ℤ s.start.0
-    → ((m : SymbolStart) → IsSymbol v m → clock <ℤ m.start.0 → is_left v m ≡ true → comes_before m s ≡ false) → IsFirstLeft v clock s
-first_found v clock s is after first = record { symbol = is; after = after; first = λ x left. first x left.symbol left.after left.left }
+-- as a search finds it
+pub first_next : (v : CellsValue) (clock : ℤ) (s : SymbolStart) → IsFoundLeft v clock s → IsFirstLeft v clock s
+first_next v clock s found = record { symbol = found.was.symbol; after = found.was.after; first = found.first }
 
--- with another memory
-abbrev pub with_memory : Ru → RuMemory → Ru
-with_memory u m = record { memory = m; clock = u.clock; cursor = u.cursor }
+-- with another memory, and another next symbol
+abbrev pub with_memory : Ru → RuMemory → Option SymbolStart → Ru
+with_memory u m o = record { memory = m; clock = u.clock; cursor = u.cursor; symbol = o; message = u.message }
 
-pub over_none : {A : Type 0} (u : Ru) (air : A) (to : ℤ) (c : Config) (h : History) → StandsFor c u h
-    → ((m : SymbolStart) → IsSymbol u.memory.cells m → u.clock.0 <ℤ m.start.0 → is_left u.memory.cells m ≡ true → ⊥) → IsOver c h to u u air air
-over_none u air to c h all none = record {
-  due = nothing_left first_is_first nothing_is_nothing c u.memory u.clock.0 u.cursor h all to (λ x left. absurd (none x left.symbol left.after left.left));
-  unit = refl;
-  air = refl;
-}
+-- what the unit answers by its memory
+pub standing : (c : Config) (u : Ru) (h : History) → StandsFor c u h → Stands c u.memory u.clock.0 u.cursor h
+standing c u h all = record { answers = all.answers; kept = all.kept }
 
-pub over_later : {A : Type 0} (u : Ru) (air : A) (to : ℤ) (c : Config) (h : History) (s : SymbolStart) → StandsFor c u h → IsFirstLeft u.memory.cells u.clock.0 s
+-- and what comes next
+pub standing_with : (c : Config) (u : Ru) (h : History) → Stands c u.memory u.clock.0 u.cursor h → IsNextSymbol u.memory.cells u.clock.0 u.symbol
+    → IsNextMessage u.memory.cells u.cursor u.message → StandsFor c u h
+standing_with c u h all symbol message = record { answers = all.answers; kept = all.kept; symbol = symbol; message = message }
+
+later_none : (to : ℤ) (o : Option SymbolStart) → o ≡ None → StartsLater to o
+later_none to o e = subst (StartsLater to) (sym e) tt
+
+later_some : (to : ℤ) (s : SymbolStart) (o : Option SymbolStart) → o ≡ Some s → to <ℤ s.start.0 → StartsLater to o
+later_some to s o e early = subst (StartsLater to) (sym e) early
+
+pub over_none : {A : Type 0} (u : Ru) (air : A) (to : ℤ) (c : Config) (h : History) → StandsFor c u h → u.symbol ≡ None → IsOver c h to u u air air
+over_none u air to c h all none =
+    let found : IsNextSymbol u.memory.cells u.clock.0 None = subst (IsNextSymbol u.memory.cells u.clock.0) none all.symbol in
+    record {
+      due = nothing_left first_is_first nothing_is_nothing c u.memory u.clock.0 u.cursor h (standing c u h all) to (λ x left. absurd (found x left));
+      unit = refl;
+      air = refl;
+      later = later_none to u.symbol none;
+    }
+
+-- the symbol that is kept is the first one
+pub first_of : (u : Ru) (s : SymbolStart) → IsNextSymbol u.memory.cells u.clock.0 u.symbol → u.symbol ≡ Some s → IsFoundLeft u.memory.cells u.clock.0 s
+first_of u s next is = subst (IsNextSymbol u.memory.cells u.clock.0) is next
+
+pub message_of : (u : Ru) (n : NextJob) → IsNextMessage u.memory.cells u.cursor u.message → u.message ≡ Some n → IsFirstJob u.memory.cells u.cursor n
+message_of u n next is = subst (IsNextMessage u.memory.cells u.cursor) is next
+
+pub no_message_of : (u : Ru) → IsNextMessage u.memory.cells u.cursor u.message → u.message ≡ None → NothingIsLeft u.memory u.cursor
+no_message_of u next is = subst (IsNextMessage u.memory.cells u.cursor) is next
+
+pub over_later : {A : Type 0} (u : Ru) (air : A) (to : ℤ) (c : Config) (h : History) (s : SymbolStart) → StandsFor c u h → u.symbol ≡ Some s
     → to <ℤ s.start.0 → IsOver c h to u u air air
-over_later u air to c h s all first early = record {
-  due = nothing_by first_is_first nothing_is_nothing c u.memory u.clock.0 u.cursor h all to s first early;
+over_later u air to c h s all is early = record {
+  due =
+      nothing_by first_is_first nothing_is_nothing c u.memory u.clock.0 u.cursor h (standing c u h all) to s
+      (first_next u.memory.cells u.clock.0 s (first_of u s all.symbol is)) early;
   unit = refl;
   air = refl;
+  later = later_some to s u.symbol is early;
 }
 
-pub goes_to : {A : Type 0} (grew : A → List Event → A → Type 0) (u : Ru) (m : RuMemory) (before after : A) (to : ℤ) (c : Config) (h : History) (s : SymbolStart)
-    → StandsFor c u h → OffsetsFit s.endpoint.numerology → IsFirstLeft u.memory.cells u.clock.0 s → s.start.0 ≤ℤ to
-    → IsMarked s (left_at u.memory.cells s) u.memory m → grew before (map Reported (left_at u.memory.cells s)) after → GoesOn grew c h to (with_memory u m) before after
-goes_to grew u m before after to c h s all fits first order marked told =
-    let g = goes_on first_is_first nothing_is_nothing c u.memory u.clock.0 u.cursor h all to m s fits first order marked in
-    record { told = left_at u.memory.cells s; is = g.is; stands = g.stands; heard_is = told }
+marked_then : (c : Config) (u : Ru) (m : RuMemory) (o : Option SymbolStart) (s : SymbolStart) (told : List AirCell) (h : History) → Stands c m u.clock.0 u.cursor h
+    → IsNextSymbol m.cells u.clock.0 o → IsMarked s told u.memory m → IsNextMessage u.memory.cells u.cursor u.message → StandsFor c (with_memory u m o) h
+marked_then c u m o s told h all next marked message =
+    standing_with c (with_memory u m o) h all next (message_known u.memory.cells m.cells u.cursor marked.marks.known marked.marks.endpoints u.message message)
 
-pub stops_at : {A : Type 0} (grew : A → List Event → A → Type 0) (stopped : A → Event → A → Type 0) (u : Ru) (m : RuMemory) (before after : A) (to : ℤ) (c : Config)
-    (h : History) (s : SymbolStart) → StandsFor c u h → OffsetsFit s.endpoint.numerology → IsFirstLeft u.memory.cells u.clock.0 s → s.start.0 ≤ℤ to
+pub goes_to : {A : Type 0} (grew : A → List Event → A → Type 0) (u : Ru) (m : RuMemory) (o : Option SymbolStart) (before after : A) (to : ℤ) (c : Config) (h : History)
+    (s : SymbolStart) → IsNextSymbol m.cells u.clock.0 o → StandsFor c u h → OffsetsFit s.endpoint.numerology → IsFirstLeft u.memory.cells u.clock.0 s → s.start.0 ≤ℤ to
+    → IsMarked s (left_at u.memory.cells s) u.memory m → grew before (map Reported (left_at u.memory.cells s)) after → GoesOn grew c h to (with_memory u m o) before after
+goes_to grew u m o before after to c h s next all fits first order marked told =
+    let g = goes_on first_is_first nothing_is_nothing c u.memory u.clock.0 u.cursor h (standing c u h all) to m s fits first order marked in
+    record {
+      told = left_at u.memory.cells s;
+      is = g.is;
+      stands = marked_then c u m o s (left_at u.memory.cells s) (heard h (left_at u.memory.cells s)) g.stands next marked all.message;
+      heard_is = told;
+    }
+
+pub stops_at : {A : Type 0} (grew : A → List Event → A → Type 0) (stopped : A → Event → A → Type 0) (u : Ru) (m : RuMemory) (o : Option SymbolStart) (before after : A)
+    (to : ℤ) (c : Config) (h : History) (s : SymbolStart) → IsNextSymbol m.cells u.clock.0 o → StandsFor c u h → OffsetsFit s.endpoint.numerology → IsFirstLeft u.memory.cells u.clock.0 s → s.start.0 ≤ℤ to
     → (stop : StopsAtCell grew stopped s u.memory.cells m.cells u.memory.counters m.counters before after) → m.endpoints ≡ u.memory.endpoints → m.assembly ≡ u.memory.assembly
-    → StopsAtDue grew stopped c h to (with_memory u m) before after
-stops_at grew stopped u m before after to c h s all fits first order stop endpoints assembly =
+    → StopsAtDue grew stopped c h to (with_memory u m o) before after
+stops_at grew stopped u m o before after to c h s next all fits first order stop endpoints assembly =
     let marked : IsMarked s stop.told u.memory m = record { more = stop.cell ∷ stop.rest; left = stop.is; marks = stop.marks; counts = stop.counts; endpoints = endpoints; assembly = assembly } in
-    let b = stops first_is_first nothing_is_nothing c u.memory u.clock.0 u.cursor h all to m s stop.told stop.rest stop.cell fits first order stop.is marked in
-    record { told = stop.told; cell = stop.cell; rest = b.rest; is = b.is; stands = b.stands; middle = stop.middle; heard_is = stop.heard; stop = stop.stop }
+    let b = stops first_is_first nothing_is_nothing c u.memory u.clock.0 u.cursor h (standing c u h all) to m s stop.told stop.rest stop.cell fits first order stop.is marked in
+    record { told = stop.told; cell = stop.cell; rest = b.rest; is = b.is; stands = marked_then c u m o s stop.told (heard h stop.told) b.stands next marked all.message; middle = stop.middle; heard_is = stop.heard; stop = stop.stop }
+
+-- at a cursor that is settled
+abbrev pub settled_unit : Ru → JobCursor → Ru
+settled_unit u next = record { memory = u.memory; clock = u.clock; cursor = next; symbol = u.symbol; message = u.message }
+
+pub stands_settled_unit : (c : Config) (u : Ru) (next : JobCursor) (h : History) → StandsFor c u h → IsReady u.memory u.clock.0 u.cursor → Settled u.clock.0 u.cursor next
+    → StandsFor c (settled_unit u next) h
+stands_settled_unit c u next h all ready settled =
+    standing_with c (settled_unit u next) h (stands_settled c u.memory u.clock.0 u.cursor next h (standing c u h all) ready settled) all.symbol
+    (message_settled c u.memory u.clock.0 u.cursor next h all.kept ready settled u.message all.message)
 
 -- ---- one after the other
 
@@ -87,6 +143,7 @@ pub record IsReporting {A : Type 0} (grew : A → List Event → A → Type 0) (
   pub order : (m : SymbolStart) → last ≡ Some m → IsLast start.clock.0 to m now.memory.cells
   pub clock : now.clock ≡ start.clock
   pub cursor : now.cursor ≡ start.cursor
+  pub next : IsNextSymbol now.memory.cells now.clock.0 now.symbol
   pub known : SameKnown start.memory.cells now.memory.cells
   pub endpoints : endpoints_of now.memory.cells ≡ endpoints_of start.memory.cells
   pub same_air : same before air
@@ -95,8 +152,8 @@ pub record IsReporting {A : Type 0} (grew : A → List Event → A → Type 0) (
 none_yet : {A : Type 0} (grew : A → List Event → A → Type 0) → ((a : A) → grew a [] a) → (u : Ru) (air : A) (to : ℤ) (c : Config) (h : History) → StandsFor c u h
     → GoesOn grew c h to u air air
 none_yet grew empty u air to c h all =
-    let g = goes_nowhere c u.memory u.clock.0 u.cursor h to all in
-    record { told = []; is = g.is; stands = g.stands; heard_is = empty air }
+    let g = goes_nowhere c u.memory u.clock.0 u.cursor h to (standing c u h all) in
+    record { told = []; is = g.is; stands = standing_with c u (heard h []) g.stands all.symbol all.message; heard_is = empty air }
 
 no_symbol : (m : SymbolStart) → (let none : Option SymbolStart = None in none ≡ Some m) → ⊥
 no_symbol m e = cc
@@ -108,8 +165,9 @@ no_less : (n : ℕ) → n ≤ n
 no_less n = omega arith
 
 pub reporting_starts : {A : Type 0} (grew : A → List Event → A → Type 0) (same : A → A → Type 0) (faults : A → ℕ) (to : ℤ) (u : Ru) (air : A)
-    → ((a : A) → grew a [] a) → ((a : A) → same a a) → IsReporting grew same faults to u u air air None
-reporting_starts grew same faults to u air empty unchanged = record {
+    → ((a : A) → grew a [] a) → ((a : A) → same a a) → IsNextSymbol u.memory.cells u.clock.0 u.symbol → IsReporting grew same faults to u u air air None
+reporting_starts grew same faults to u air empty unchanged next = record {
+  next = next;
   goes = λ c h all. none_yet grew empty u air to c h all;
   order = λ m e. absurd (no_symbol m e);
   clock = refl;
@@ -135,11 +193,11 @@ pub goes_then : {A : Type 0} (grew : A → List Event → A → Type 0) → ((a 
     → (to : ℤ) (middle new : Ru) (before air after : A) (c : Config) (h : History) → (one : GoesOn grew c h to middle before air)
     → GoesOn grew c (heard h one.told) to new air after → GoesOn grew c h to new before after
 goes_then grew more to middle new before air after c h one two =
-    let g = goes_further c new.memory new.clock.0 new.cursor h to one.told two.told one.is (record { is = two.is; stands = two.stands }) in
+    let g = goes_further c new.memory new.clock.0 new.cursor h to one.told two.told one.is (record { is = two.is; stands = standing c new (heard (heard h one.told) two.told) two.stands }) in
     record {
       told = one.told ++ two.told;
       is = g.is;
-      stands = g.stands;
+      stands = standing_with c new (heard h (one.told ++ two.told)) g.stands two.stands.symbol two.stands.message;
       heard_is =
           subst (λ (xs : List Event). grew before xs after) (sym (map-append (λ x. Reported x) one.told two.told))
           (more before air after (map Reported one.told) (map Reported two.told) one.heard_is two.heard_is);
@@ -150,13 +208,13 @@ pub stops_then : {A : Type 0} (grew : A → List Event → A → Type 0) (stoppe
     → (to : ℤ) (middle new : Ru) (before air after : A) (c : Config) (h : History) → (one : GoesOn grew c h to middle before air)
     → StopsAtDue grew stopped c (heard h one.told) to new air after → StopsAtDue grew stopped c h to new before after
 stops_then grew stopped more to middle new before air after c h one two =
-    let b = begins_further c new.memory new.clock.0 new.cursor h to one.told two.told two.cell one.is (record { rest = two.rest; is = two.is; stands = two.stands }) in
+    let b = begins_further c new.memory new.clock.0 new.cursor h to one.told two.told two.cell one.is (record { rest = two.rest; is = two.is; stands = standing c new (heard (heard h one.told) two.told) two.stands }) in
     record {
       told = one.told ++ two.told;
       cell = two.cell;
       rest = b.rest;
       is = b.is;
-      stands = b.stands;
+      stands = standing_with c new (heard h (one.told ++ two.told)) b.stands two.stands.symbol two.stands.message;
       middle = two.middle;
       heard_is =
           subst (λ (xs : List Event). grew before xs two.middle) (sym (map-append (λ x. Reported x) one.told two.told))
@@ -237,9 +295,9 @@ pub reporting_goes : {A : Type 0} (grew : A → List Event → A → Type 0) (sa
     → ((a b d : A) → same a b → same b d → same a d) → length (endpoints_of start.memory.cells) ≤ 16 → neg_ℤ (pos (2 ^ 57)) ≤ℤ start.clock.0
     → IsReporting grew same faults to start now before air last
     → ((c : Config) (h : History) → StandsFor c now h → GoesOn grew c h to new air after) → IsNextReport now.clock.0 to m now.memory.cells new.memory.cells
-    → new.clock ≡ now.clock → new.cursor ≡ now.cursor → SameKnown now.memory.cells new.memory.cells → endpoints_of new.memory.cells ≡ endpoints_of now.memory.cells
+    → new.clock ≡ now.clock → new.cursor ≡ now.cursor → IsNextSymbol new.memory.cells new.clock.0 new.symbol → SameKnown now.memory.cells new.memory.cells → endpoints_of new.memory.cells ≡ endpoints_of now.memory.cells
     → same air after → faults air ≤ faults after → IsReporting grew same faults to start new before after (Some m)
-reporting_goes grew same faults to start now new before air after last m more same_more few low r told next clock cursor known endpoints same_then later =
+reporting_goes grew same faults to start now new before air after last m more same_more few low r told next clock cursor first known endpoints same_then later =
     let next_at = at_clock now.clock start.clock to m now.memory.cells new.memory.cells r.clock next in
     record {
       goes = λ c h all. goes_then grew more to now new before air after c h (r.goes c h all) (told c (heard h (r.goes c h all).told) (r.goes c h all).stands);
@@ -250,6 +308,7 @@ reporting_goes grew same faults to start now new before air after last m more sa
       });
       clock = clock ∙ r.clock;
       cursor = cursor ∙ r.cursor;
+      next = first;
       known = known_then start.memory.cells now.memory.cells new.memory.cells r.known known;
       endpoints = endpoints ∙ r.endpoints;
       same_air = same_more before air after r.same_air same_then;
@@ -275,6 +334,7 @@ told_over grew to old new before air after c h one over =
     record {
       stands = subst (λ (xs : List AirCell). StandsFor c new (heard h xs)) all (subst (λ (x : Ru). StandsFor c x (heard h one.told)) (sym over.unit) one.stands);
       over = subst (λ (xs : List AirCell). due_of c (heard h xs) to ≡ []) all over.due;
+      later = subst (λ (x : Ru). StartsLater to x.symbol) (sym over.unit) over.later;
       heard_is = subst (λ (xs : List AirCell). grew before (map Reported xs) after) all (subst (λ x. grew before (map Reported one.told) x) (sym over.air) one.heard_is);
     }
 

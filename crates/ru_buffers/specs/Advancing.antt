@@ -1,5 +1,5 @@
 -- How a radio unit's reports go on, symbol by symbol (this project's profile).
-use Rattle.std.specs.Prelude.{◌≡◌, ℕ, suc, ℤ, pos, neg_ℤ, ◌+◌, ◌-◌, ◌*◌, ◌^◌, true, ◌≤ℤ◌, List, [], ◌++◌, map, Option, Some, None}
+use Rattle.std.specs.Prelude.{◌≡◌, ℕ, suc, ℤ, pos, neg_ℤ, ◌+◌, ◌-◌, ◌*◌, ◌^◌, true, ◌≤ℤ◌, ◌<ℤ◌, List, [], ◌++◌, map, Option, Some, None}
 use Rattle.std.specs.Int.{int_gap}
 use Rattle.air_source.specs.declared.events.AirCell.{AirCell}
 use Rattle.air_source.specs.declared.events.Event.{Event}
@@ -20,11 +20,17 @@ pub record GoesOn {A : Type 0} (grew : A → List Event → A → Type 0) (c : C
   pub stands : StandsFor c new (heard h told)
   pub heard_is : grew before (map Reported told) after
 
+-- a symbol starts after a time, if there is one
+abbrev pub StartsLater : ℤ → Option SymbolStart → Type 0
+StartsLater to None = Unit {0}
+StartsLater to (Some s) = to <ℤ s.start.0
+
 -- nothing is due, and nothing changed
 pub record IsOver {A : Type 0} (c : Config) (h : History) (to : ℤ) (old new : Ru) (before after : A) : Type 0 where
   pub due : due_of c h to ≡ []
   pub unit : new ≡ old
   pub air : after ≡ before
+  pub later : StartsLater to old.symbol
 
 abbrev pub AfterReport : {A : Type 0} → (A → List Event → A → Type 0) → Config → History → ℤ → Ru → Ru → A → A → Option SymbolStart → Type 0
 AfterReport grew c h to old new before after None = IsOver c h to old new before after
@@ -58,4 +64,5 @@ ranks_left to (Some last) = rank_past to - rank_of last
 pub record ToldAll {A : Type 0} (grew : A → List Event → A → Type 0) (c : Config) (h : History) (to : ℤ) (new : Ru) (before after : A) : Type 0 where
   pub stands : StandsFor c new (heard h (due_of c h to))
   pub over : due_of c (heard h (due_of c h to)) to ≡ []
+  pub later : StartsLater to new.symbol
   pub heard_is : grew before (map Reported (due_of c h to)) after

@@ -6,15 +6,33 @@ use Rattle.air_source.specs.declared.events.Event.TheVariants.{Cell as Reported}
 use Rattle.fh_time.specs.declared.values.Ticks.{Ticks}
 use Rattle.window_config.specs.declared.config.Config.{Config}
 use Rattle.unit_model.specs.Reports.{accepted_of}
-use Rattle.unit_model.specs.Standing.{History, handed, heard, still_given}
+use Rattle.unit_model.specs.Standing.{History, IsLiveAt, StandsBy, handed, heard, still_given}
 use Rattle.unit_model.specs.declared.jobs.UplinkJob.{UplinkJob}
-use Rattle.ru_buffers.specs.Reporting.{due_of}
-use Rattle.ru_buffers.specs.Units.{IsReady, Stands}
+use Rattle.unit_model.specs.declared.symbol_start.SymbolStart.{SymbolStart}
+use Rattle.unit_cells.specs.Cells.{CellsValue, cells_uplink}
+use Rattle.ru_jobs.specs.Cursors.{IsFirstJob, IsJobSymbol, left_in}
+use Rattle.ru_jobs.specs.declared.cursor.JobCursor.{JobCursor}
+use Rattle.ru_jobs.specs.declared.cursor.NextJob.{NextJob}
+use Rattle.ru_buffers.specs.Reporting.{IsFoundLeft, IsLeftAfter, due_of}
+use Rattle.ru_buffers.specs.Units.{IsReady, Keeps, view_of}
 use Rattle.ru_buffers.specs.declared.unit.Ru.{Ru}
 
--- the unit stands for a history of a configuration
-abbrev pub StandsFor : Config → Ru → History → Type 0
-StandsFor c u h = Stands c u.memory u.clock.0 u.cursor h
+-- the first symbol that starts after a clock and of which something is left, as a search finds it; none where there is none
+abbrev pub IsNextSymbol : CellsValue → ℤ → Option SymbolStart → Type 0
+IsNextSymbol v clock None = (x : SymbolStart) → IsLeftAfter v clock x → ⊥
+IsNextSymbol v clock (Some s) = IsFoundLeft v clock s
+
+-- the first message that was not given, as a search finds it; none where there is none
+abbrev pub IsNextMessage : CellsValue → JobCursor → Option NextJob → Type 0
+IsNextMessage v cursor None = (s : SymbolStart) → IsJobSymbol v s → left_in (cells_uplink v) cursor s ≡ []
+IsNextMessage v cursor (Some n) = IsFirstJob v cursor n
+
+-- The unit stands for a history of a configuration: what it keeps of the next moment is what a search would find at its clock.
+pub record StandsFor (c : Config) (u : Ru) (h : History) : Type 0 where
+  pub answers : StandsBy (IsLiveAt c h.clock) c (view_of u.memory u.clock.0 u.cursor) h
+  pub kept : Keeps c u.memory u.clock.0 u.cursor h
+  pub symbol : IsNextSymbol u.memory.cells u.clock.0 u.symbol
+  pub message : IsNextMessage u.memory.cells u.cursor u.message
 
 -- it stands for some history
 pub record StandsForSome (u : Ru) : Type 0 where

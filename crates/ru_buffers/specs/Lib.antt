@@ -1,3 +1,4 @@
+pub mod Control
 pub mod Units
 pub mod JobLaws
 pub mod Reporting

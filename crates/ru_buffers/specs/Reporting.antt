@@ -33,6 +33,11 @@ pub record IsFirstLeft (v : CellsValue) (clock : ℤ) (s : SymbolStart) : Type 0
   pub after : clock <ℤ s.start.0
   pub first : (x : SymbolStart) → IsLeftAfter v clock x → comes_before x s ≡ false
 
+-- it, where something is left of it
+pub record IsFoundLeft (v : CellsValue) (clock : ℤ) (s : SymbolStart) : Type 0 where
+  pub was : IsLeftAfter v clock s
+  pub first : (x : SymbolStart) → IsLeftAfter v clock x → comes_before x s ≡ false
+
 -- all that is due up to a time begins with these
 pub record DueBegins (c : Config) (h : History) (to : ℤ) (begin : List AirCell) : Type 0 where
   pub rest : List AirCell

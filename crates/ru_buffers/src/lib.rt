@@ -6,6 +6,7 @@
 //! `unit_model` over all that ever came: forgetting what can no longer be named changes no answer.
 #![tactic(auto)]
 
+mod finding;
 mod messages;
 mod reporting;
 mod unit;

@@ -5,11 +5,10 @@ ghost use Rattle.unit_model.specs.ProperJobs.{IsProperJob};
 ghost use Rattle.unit_model.specs.Standing.{History};
 ghost use Rattle.ru_buffers.specs.Calls.{earlier_time};
 
+use crate::finding::find_message;
 use crate::reporting::starts_by;
 use crate::unit::Ru;
 use fh_time::Ticks;
-use ru_jobs::next_job;
-use ru_reports::first_left;
 use unit_model::UplinkJob;
 
 impl Ru {
@@ -27,7 +26,7 @@ impl Ru {
         ensures clock { self.new.clock ≡ self.old.clock }
         ensures past { (c : Config) (h : History) → StandsFor c self.old h → HasGivenPast self.old → HasGivenPast self.new }
     {
-        let next = match next_job(&self.memory.cells, &self.cursor) {
+        let next = match self.message {
             Some(next) => next,
             None => return None,
         };
@@ -35,6 +34,7 @@ impl Ru {
             return None;
         }
         self.cursor = self.cursor.after(&next);
+        self.message = find_message(&self.memory.cells, &self.cursor);
         Some(next.job)
     }
 
@@ -42,7 +42,7 @@ impl Ru {
     fn next_cell(&self) -> Option<Ticks>
         ensures { (c : Config) (h : History) → StandsFor c self.now h → IsCellMoment c h result }
     {
-        match first_left(&self.memory.cells, self.clock) {
+        match &self.symbol {
             Some(first) => Some(first.start),
             None => None,
         }
@@ -52,7 +52,7 @@ impl Ru {
     fn next_message(&self) -> Option<Ticks>
         ensures { (c : Config) (h : History) → StandsFor c self.now h → IsMessageMoment c h result }
     {
-        match next_job(&self.memory.cells, &self.cursor) {
+        match &self.message {
             Some(next) => Some(next.symbol.start),
             None => None,
         }

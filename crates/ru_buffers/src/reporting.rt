@@ -6,10 +6,11 @@ ghost use Rattle.window_config.specs.declared.config.Config.{Config};
 ghost use Rattle.unit_model.specs.Proper.{IsTime};
 ghost use Rattle.unit_model.specs.Standing.{History, at_clock, heard};
 
+use crate::finding::find_symbol;
 use crate::unit::Ru;
 use air_source::{Air, AirFault};
 use fh_time::Ticks;
-use ru_reports::{first_left, report};
+use ru_reports::report;
 use unit_model::SymbolStart;
 
 /// Whether a symbol starts by a time.
@@ -21,7 +22,7 @@ pub(crate) fn starts_by(m: &SymbolStart, to: Ticks) -> bool
 }
 
 impl Ru {
-    ghost use Rattle.ru_buffers.specs.Calls.{HasGivenPast, StandsFor, StandsForSome, StopsAtDue, given_of};
+    ghost use Rattle.ru_buffers.specs.Calls.{HasGivenPast, IsNextSymbol, StandsFor, StandsForSome, StopsAtDue, given_of};
     ghost use Rattle.ru_buffers.specs.Advancing.{AfterReport, InOrder, ToldAll};
     ghost use Rattle.unit_cells.specs.Cells.{endpoints_of};
     ghost use Rattle.unit_cells.specs.Keeping.{SameKnown};
@@ -34,18 +35,20 @@ impl Ru {
         to: Ticks,
         air: &mut A,
     ) -> Result<Option<SymbolStart>, AirFault>
+        requires next { IsNextSymbol self.old.memory.cells self.old.clock.0 self.old.symbol }
         ensures told { (c : Config) (h : History) → StandsFor c self.old h
             → IfOk result (AfterReport A.grew c h to.0 self.old self.new air.old air.new) }
         ensures order { IfOk result (InOrder self.old.clock.0 to.0 self.old.memory.cells self.new.memory.cells) }
         ensures stop { (c : Config) (h : History) → StandsFor c self.old h → IfErr result (λ f. StopsAtDue A.grew (A.stopped f) c h to.0 self.new air.old air.new) }
         ensures clock { self.new.clock ≡ self.old.clock }
         ensures cursor { self.new.cursor ≡ self.old.cursor }
+        ensures next { IsNextSymbol self.new.memory.cells self.new.clock.0 self.new.symbol }
         ensures known { SameKnown self.old.memory.cells self.new.memory.cells }
         ensures endpoints { endpoints_of self.new.memory.cells ≡ endpoints_of self.old.memory.cells }
         ensures same { A.same air.old air.new }
         ensures cause { HasAirCause (A.faults air.old) (A.faults air.new) result }
     {
-        let first = match first_left(&self.memory.cells, self.clock) {
+        let first = match self.symbol {
             Some(first) => first,
             None => return Ok(None),
         };
@@ -58,6 +61,7 @@ impl Ru {
             &first,
             air,
         );
+        self.symbol = find_symbol(&self.memory.cells, self.clock);
         match told {
             Ok(()) => Ok(Some(first)),
             Err(stop) => Err(stop),
@@ -70,12 +74,14 @@ impl Ru {
         to: Ticks,
         air: &mut A,
     ) -> Result<Option<SymbolStart>, AirFault>
+        requires next { IsNextSymbol self.old.memory.cells self.old.clock.0 self.old.symbol }
         requires few { length (endpoints_of self.old.memory.cells) ≤ 16 }
         requires low { neg_ℤ (pos (2 ^ 57)) ≤ℤ self.old.clock.0 }
         ensures told { (c : Config) (h : History) → StandsFor c self.old h → OnOk result (ToldAll A.grew c h to.0 self.new air.old air.new) }
         ensures stop { (c : Config) (h : History) → StandsFor c self.old h → IfErr result (λ f. StopsAtDue A.grew (A.stopped f) c h to.0 self.new air.old air.new) }
         ensures clock { self.new.clock ≡ self.old.clock }
         ensures cursor { self.new.cursor ≡ self.old.cursor }
+        ensures next { IsNextSymbol self.new.memory.cells self.new.clock.0 self.new.symbol }
         ensures known { SameKnown self.old.memory.cells self.new.memory.cells }
         ensures endpoints { endpoints_of self.new.memory.cells ≡ endpoints_of self.old.memory.cells }
         ensures same { A.same air.old air.new }

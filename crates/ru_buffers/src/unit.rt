@@ -1,19 +1,20 @@
 // The radio unit.
-ghost use Rattle.std.specs.Prelude.{◌≡◌, ◌-◌, ◌^◌, List, IfOk, length, min};
+ghost use Rattle.std.specs.Prelude.{◌≡◌, ◌-◌, ◌^◌, List, IfOk, length, min, true, false};
 ghost use Rattle.ecpri_frames.specs.Gathering.{whole_messages};
 ghost use Rattle.ecpri_frames.specs.Messages.{pdu};
 ghost use Rattle.window_config.specs.Configs.{IsConfig};
 ghost use Rattle.window_config.specs.declared.config.Config.{Config as SpecConfig};
 ghost use Rattle.unit_model.specs.Standing.{History, arrived, nothing_yet};
 
+use crate::finding::{find_message, find_symbol, has_control};
 use air_source::Side;
 use fault_counters::Counters;
 use fh_base::NoMemory;
 use fh_time::Ticks;
-use ru_jobs::JobCursor;
+use ru_jobs::{JobCursor, NextJob};
 use ru_memory::RuMemory;
 use std::alloc::Global;
-use unit_model::Delivered;
+use unit_model::{Delivered, SymbolStart};
 use window_config::Config;
 
 /// A unit's clock begins one frame before 0.
@@ -22,16 +23,21 @@ const FIRST_CLOCK: Ticks = Ticks(-15_360_000_000);
 /// The radio unit of an open fronthaul, in memory that is taken when it is made.
 ///
 /// Its contracts say of each history for which it stands, for which it stands after a call. Of slots that are live at its clock it
-/// answers as the definitions do over all that ever came; what it keeps of other slots is never asked for again.
+/// answers as the definitions do over all that ever came; what it keeps of other slots is never asked for again. The next symbol and
+/// the next message are kept: they are looked for after a report, after a message was given, and after a frame with a command.
 #[derive(Drop)]
 pub struct Ru {
     pub(crate) memory: RuMemory,
     pub(crate) clock: Ticks,
     pub(crate) cursor: JobCursor,
+    /// The first symbol that starts after the clock and of which something is left to be reported.
+    pub(crate) symbol: Option<SymbolStart>,
+    /// The first message that was not given.
+    pub(crate) message: Option<NextJob>,
 }
 
 impl Ru {
-    ghost use Rattle.ru_buffers.specs.Calls.{HasGivenPast, StandsFor, StandsForSome};
+    ghost use Rattle.ru_buffers.specs.Calls.{HasGivenPast, IsNextMessage, IsNextSymbol, StandsFor, StandsForSome};
     ghost use Rattle.unit_model.specs.Counts.{StandAt, cells_counted};
     ghost use Rattle.unit_model.specs.Reports.{arrivals_counted};
     ghost use Rattle.std.specs.Prelude.{◌++◌};
@@ -48,10 +54,15 @@ impl Ru {
         ensures given { IfOk result (λ u. HasGivenPast u) }
     {
         let memory = RuMemory::make(alloc, Side::Ru, config)?;
+        let cursor = JobCursor::start(FIRST_CLOCK);
+        let symbol = find_symbol(&memory.cells, FIRST_CLOCK);
+        let message = find_message(&memory.cells, &cursor);
         Ok(Ru {
             memory,
             clock: FIRST_CLOCK,
-            cursor: JobCursor::start(FIRST_CLOCK),
+            cursor,
+            symbol,
+            message,
         })
     }
 
@@ -81,6 +92,34 @@ impl Ru {
         ensures refusal { result.refusal ≡ (pdu frame.now).refusal }
     {
         self.cursor = self.cursor.settled(self.clock);
-        self.memory.arrive(self.clock, frame)
+        let delivered = self.memory.arrive(self.clock, frame);
+        let anew = has_control(frame);
+        self.symbol = self.next_symbol(anew);
+        self.message = self.next_job(anew);
+        delivered
+    }
+
+    /// The next symbol of which something is left: looked for anew, or the one that is kept.
+    fn next_symbol(&self, anew: bool) -> Option<SymbolStart>
+        ensures found { anew ≡ true → IsNextSymbol self.now.memory.cells self.now.clock.0 result }
+        ensures kept { anew ≡ false → result ≡ self.now.symbol }
+    {
+        if anew {
+            find_symbol(&self.memory.cells, self.clock)
+        } else {
+            self.symbol
+        }
+    }
+
+    /// The next message: looked for anew, or the one that is kept.
+    fn next_job(&self, anew: bool) -> Option<NextJob>
+        ensures found { anew ≡ true → IsNextMessage self.now.memory.cells self.now.cursor result }
+        ensures kept { anew ≡ false → result ≡ self.now.message }
+    {
+        if anew {
+            find_message(&self.memory.cells, &self.cursor)
+        } else {
+            self.message
+        }
     }
 }

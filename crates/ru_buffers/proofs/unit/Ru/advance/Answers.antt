@@ -1,34 +1,40 @@
-use Rattle.std.proofs.Common.{◌∙◌, ap}
+use Rattle.std.proofs.Common.{ℤ, ◌≤ℤ◌, ◌∙◌, ap, subst, sym}
 use Rattle.std.specs.Prelude.{pos, ◌-ℤ◌}
 use Rattle.fh_time.specs.declared.values.Ticks.{Ticks}
 use Rattle.unit_model.specs.Standing.{heard}
 use Rattle.ru_buffers.specs.Reporting.{due_of}
-use Rattle.ru_buffers.proofs.CallLemmas.{ready_known, ready_settled, stands_later, stands_settled}
+use Rattle.ru_buffers.proofs.CallLemmas.{ready_known, ready_settled, stands_later}
+use Rattle.ru_buffers.proofs.LoopLemmas.{standing, standing_with, stands_settled_unit}
+use Rattle.ru_buffers.proofs.NextLemmas.{symbol_later}
 use Rattle.ru_buffers.proofs.unit.Ru.advance.Goals as goal
 
 pub returns-in-Ok-clause-heard : goal.returns-in-Ok-clause-heard
 returns-in-Ok-clause-heard g c k h all =
     let u = c.args.self.now in
-    (c.in-Ok.ensures.told k h (stands_settled k u.memory u.clock.0 u.cursor c.settled-self.result h all c.requires.given c.settled-self.ensures)).heard_is
+    (c.in-Ok.ensures.told k h (stands_settled_unit k u c.settled-self.result h all c.requires.given c.settled-self.ensures)).heard_is
 
 pub returns-in-Ok-clause-stands : goal.returns-in-Ok-clause-stands
 returns-in-Ok-clause-stands g c k h all =
     let u = c.args.self.now in
-    let told = c.in-Ok.ensures.told k h (stands_settled k u.memory u.clock.0 u.cursor c.settled-self.result h all c.requires.given c.settled-self.ensures) in
+    let told = c.in-Ok.ensures.told k h (stands_settled_unit k u c.settled-self.result h all c.requires.given c.settled-self.ensures) in
     let new = c.report_until.new.self in
-    stands_later k new.memory new.clock.0 u.clock.0 new.cursor (heard h (due_of k h c.args.to.0)) c.args.to.0 told.stands (ap (λ (t : Ticks). t.0) c.report_until.ensures.clock)
-    c.requires.time c.requires.order told.over
+    let same = ap (λ (t : Ticks). t.0) c.report_until.ensures.clock in
+    standing_with k _ _
+    (stands_later k new.memory new.clock.0 u.clock.0 new.cursor (heard h (due_of k h c.args.to.0)) c.args.to.0 (standing k new (heard h (due_of k h c.args.to.0)) told.stands) same
+    c.requires.time c.requires.order told.over)
+    (symbol_later new.memory.cells new.clock.0 c.args.to.0 new.symbol (subst (λ (t : ℤ). t ≤ℤ c.args.to.0) (sym same) c.requires.order) told.later told.stands.symbol)
+    told.stands.message
 
 pub returns-in-Ok-clause-past : goal.returns-in-Ok-clause-past
 returns-in-Ok-clause-past g c k h all none =
     let u = c.args.self.now in
-    let told = c.in-Ok.ensures.told k h (stands_settled k u.memory u.clock.0 u.cursor c.settled-self.result h all c.requires.given c.settled-self.ensures) in
+    let told = c.in-Ok.ensures.told k h (stands_settled_unit k u c.settled-self.result h all c.requires.given c.settled-self.ensures) in
     told.stands.kept.left (c.args.to.0 -ℤ pos 1) ∙ none
 
 pub returns-in-Err-clause-stop : goal.returns-in-Err-clause-stop
 returns-in-Err-clause-stop g c k h all =
     let u = c.args.self.now in
-    c.in-Err.ensures.stop k h (stands_settled k u.memory u.clock.0 u.cursor c.settled-self.result h all c.requires.given c.settled-self.ensures)
+    c.in-Err.ensures.stop k h (stands_settled_unit k u c.settled-self.result h all c.requires.given c.settled-self.ensures)
 
 pub returns-in-Err-clause-given : goal.returns-in-Err-clause-given
 returns-in-Err-clause-given g c =
@@ -36,3 +42,6 @@ returns-in-Err-clause-given g c =
     let new = c.report_until.new.self in
     ready_known u.memory.cells new.memory.cells c.settled-self.result new.cursor new.clock u.clock c.report_until.ensures.known c.report_until.ensures.endpoints
     c.report_until.ensures.cursor c.report_until.ensures.clock (ready_settled u.memory.cells u.clock.0 u.cursor c.settled-self.result c.settled-self.ensures)
+
+pub report_until-requires-clause-next : goal.report_until-requires-clause-next
+report_until-requires-clause-next g c = c.requires.unit.stands.symbol

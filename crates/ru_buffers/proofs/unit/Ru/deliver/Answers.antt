@@ -1,18 +1,30 @@
 use Rattle.air_source.specs.declared.events.Side.TheVariants.{Ru as AtRu}
-use Rattle.ru_buffers.proofs.CallLemmas.{holds_some, ready_settled, stands_delivered}
+use Rattle.ru_buffers.proofs.CallLemmas.{holds_some, ready_settled, settled_is, stands_delivered}
+use Rattle.ru_buffers.proofs.DeliverLemmas.{message_then, symbol_then}
+use Rattle.ru_buffers.proofs.LoopLemmas.{standing, standing_with}
 use Rattle.ru_buffers.proofs.unit.Ru.deliver.Goals as goal
 
-pub arrive-requires-clause-unit : goal.arrive-requires-clause-unit
-arrive-requires-clause-unit c =
+pub arrive-delivered-requires-clause-unit : goal.arrive-delivered-requires-clause-unit
+arrive-delivered-requires-clause-unit c =
     let u = c.args.self.now in
     let some = c.requires.unit in
-    holds_some some.config u.memory u.clock.0 u.cursor c.settled-self.result some.history some.stands c.requires.given c.settled-self.ensures
+    holds_some some.config u.memory u.clock.0 u.cursor c.settled-self.result some.history (standing some.config u some.history some.stands) c.requires.given c.settled-self.ensures
 
 pub returns-clause-stands : goal.returns-clause-stands
 returns-clause-stands c k h all =
     let u = c.args.self.now in
-    stands_delivered k u.memory u.clock.0 u.cursor c.settled-self.result h all c.requires.given c.settled-self.ensures c.arrive.new.self c.args.frame.now
-    (c.arrive.ensures.holds AtRu k) (c.arrive.ensures.marks AtRu k all.kept.holds.of)
+    let own = standing k u h all in
+    let next = c.settled-self.result in
+    let m = c.arrive-delivered.new.self in
+    let frame = c.args.frame.now in
+    let then = stands_delivered k u.memory u.clock.0 u.cursor next h own c.requires.given c.settled-self.ensures m frame
+    (c.arrive-delivered.ensures.holds AtRu k) (c.arrive-delivered.ensures.marks AtRu k all.kept.holds.of) in
+    let was = (settled_is k u.memory u.clock.0 u.cursor next h own c.requires.given c.settled-self.ensures).kept in
+    standing_with k _ _ then
+    (symbol_then k u.memory m u.clock.0 next h frame was then.kept c.has_control-anew.result c.has_control-anew.ensures u.symbol c.next_symbol-self.result all.symbol
+    c.next_symbol-self.ensures.found c.next_symbol-self.ensures.kept)
+    (message_then k u.memory m u.clock.0 u.cursor next h frame all.kept c.requires.given c.settled-self.ensures was then.kept c.has_control-anew.result c.has_control-anew.ensures u.message
+    c.next_job-self.result all.message c.next_job-self.ensures.found c.next_job-self.ensures.kept)
 
 pub returns-clause-given : goal.returns-clause-given
-returns-clause-given c = ready_settled c.arrive.new.self.cells c.args.self.now.clock.0 c.args.self.now.cursor c.settled-self.result c.settled-self.ensures
+returns-clause-given c = ready_settled c.arrive-delivered.new.self.cells c.args.self.now.clock.0 c.args.self.now.cursor c.settled-self.result c.settled-self.ensures

@@ -4,7 +4,7 @@ use Rattle.ru_buffers.proofs.LoopLemmas.{cause_ok, cause_then, goes_some, known_
 use Rattle.ru_buffers.proofs.unit.Ru.report_until.Goals as goal
 
 pub loop-reported-init : goal.loop-reported-init
-loop-reported-init g c = reporting_starts g.A.Air.grew g.A.Air.same g.A.Air.faults c.args.to.0 c.args.self.now c.args.air.now g.met.A.Air.grew_none g.met.A.Air.same_none
+loop-reported-init g c = reporting_starts g.A.Air.grew g.A.Air.same g.A.Air.faults c.args.to.0 c.args.self.now c.args.air.now g.met.A.Air.grew_none g.met.A.Air.same_none c.requires.next
 
 pub loop-reported-smaller : goal.loop-reported-smaller
 loop-reported-smaller g c =
@@ -21,7 +21,7 @@ loop-reported-preserved g c =
     (λ k h all. goes_some g.A.Air.grew k h c.args.to.0 c.loop-reported.self c.report_next.new.self c.loop-reported.air c.report_next.new.air c.in-Ok-Some.field-0 c.in-Ok-Some.reported
     c.in-Ok-Some.field-0-is (next.told k h all))
     (next_some c.loop-reported.self.clock.0 c.args.to.0 c.loop-reported.self.memory.cells c.report_next.new.self.memory.cells c.in-Ok-Some.field-0 c.in-Ok-Some.reported c.in-Ok-Some.field-0-is
-    next.order) next.clock next.cursor next.known next.endpoints next.same next.cause.later
+    next.order) next.clock next.cursor next.next next.known next.endpoints next.same next.cause.later
 
 pub returns-in-Ok-None-clause-told : goal.returns-in-Ok-None-clause-told
 returns-in-Ok-None-clause-told g c k h all =
