@@ -1,25 +1,29 @@
--- The frames of the document that are put in flight at their tick.
-use Rattle.std.proofs.Common.{◌≡◌, ◌≢◌, ℕ, ℤ, pos, ◌+ℤ◌, ◌≤ℤ◌, ◌<ℤ◌, ◌<◌, ◌⊎◌, inl, inr, Bool, true, false, List, [], ◌∷◌, ◌++◌, All, length, Some, refl, sym, ap, ap₂, ◌∙◌, subst, arith, append_assoc, append-nil}
-use Rattle.std.specs.Prelude.{filter, map, if◌then◌else◌}
-use Rattle.std.specs.List.{AllByRecursion, slice_index_or}
+-- The frames of the document that land at their tick.
+use Rattle.std.proofs.Common.{◌≡◌, ◌≢◌, ℕ, ℤ, pos, ◌+ℤ◌, ◌≤ℤ◌, ◌<ℤ◌, ◌<◌, length, Bool, true, false, List, [], ◌∷◌, ◌++◌, Some, refl, sym, ap, ◌∙◌, subst, arith, append_assoc, append-nil}
+use Rattle.std.specs.Prelude.{map, if◌then◌else◌}
+use Rattle.std.specs.List.{AllByRecursion}
 use Rattle.std.specs.Ordering.{int_eq}
 use Rattle.std.proofs.lemmas.Int.{ints}
 use Rattle.std.proofs.lemmas.Bool.Decides.{Decides-int_eq}
 use Rattle.std.proofs.lemmas.List.{map-append}
+use Rattle.air_source.specs.declared.events.Event.{Event}
+use Rattle.air_source.specs.declared.events.Side.TheVariants.{Ru as AtRu}
 use Rattle.fh_document.specs.declared.document.Document.{Document}
 use Rattle.fh_time.specs.declared.values.Ticks.{Ticks}
-use Rattle.frame_network.specs.declared.arrivals.Arrival.{Arrival as Flying}
-use Rattle.frame_network.specs.Network.{IsInOrder, put_in}
-use Rattle.frame_network.proofs.Order.{earlier_place_is_not_after, sent_is_not_after}
-use Rattle.frame_network.proofs.PutIn.{All-put_in, IsInOrder-put_in, IsLastOf, filter-put_in_last, filter-put_in_other}
 use Rattle.frame_network.specs.declared.landings.Landing.{Landing}
 use Rattle.frame_network.specs.Queues.{AreRising, at_time, first_time, landing_of}
 use Rattle.frame_network.proofs.QueueLemmas.{none_below}
-use Rattle.replay_events.proofs.TickLemmas.{at_most, below_all, next_after, same_most, weak}
+use Rattle.replay_events.specs.Events.{arrival_event}
+use Rattle.replay_events.proofs.TickLemmas.{at_most, below_all, next_after}
+use Rattle.ru_buffers.specs.Calls.{StandsFor}
+use Rattle.ru_buffers.specs.declared.unit.Ru.{Ru}
+use Rattle.unit_model.specs.Lists.{onto}
 use Rattle.unit_model.specs.Meetings.{Arrival}
-use Rattle.fronthaul_replay.specs.declared.coming.Coming.{Coming}
-use Rattle.fronthaul_replay.specs.Coming.{AreFlyingFrom, AreFrom, AreListed, ArePlaced, Flies, IsSent, IsSentOrAt, IsToRu, Waits, arrival_at, arrival_of, coming_at, flying_at, frame_at, injected_at, landing_from, left_at}
-use Rattle.fronthaul_replay.proofs.LandLemmas.{equal_not, equal_self, under_next}
+use Rattle.unit_model.specs.Standing.{History, arrived}
+use Rattle.window_config.specs.declared.config.Config.{Config}
+use Rattle.fronthaul_replay.specs.Coming.{AreFrom, ArePlaced, IsListed, arrival_at, arrival_of, frame_at, left_at}
+use Rattle.fronthaul_replay.specs.Delivering.{StopsLanding, landed}
+use Rattle.fronthaul_replay.proofs.LandLemmas.{equal_not, equal_self, landed_next, landed_none, under_next}
 
 -- ---- what waits
 
@@ -81,151 +85,125 @@ below_from t tick (l ∷ q) lt h = (below_all t tick l.at.0 lt h.0, below_from t
 pub left_none : (d : Document) (t : ℤ) (q : List Landing) → AreFrom (t +ℤ pos 1) q → left_at d t q ≡ []
 left_none d t q from = ap (map (arrival_of d)) (none_below t q (below_from t (t +ℤ pos 1) q (under_next t) from))
 
--- ---- one more in flight
+-- ---- one after the other
 
--- it was sent, or injected from an earlier place
-abbrev pub IsEarlier : ℕ → Flying → Type 0
-IsEarlier place a = (a.key.injected ≡ false) ⊎ ((a.key.injected ≡ true) × (a.key.place < place))
+-- those that are gone have landed, and the rest waits
+pub record Passes {A : Type 0} (grew : A → List Event → A → Type 0) (d : Document) (tick : ℤ) (u v : Ru) (old now : List Landing) (before after : A) : Type 0 where
+  pub gone : List Arrival
+  pub parts : left_at d tick old ≡ gone ++ left_at d tick now
+  pub later : (t : ℤ) → tick <ℤ t → at_time t now ≡ at_time t old
+  pub heard : grew before (map (arrival_event AtRu) gone) after
+  pub stands : (c : Config) (h : History) → StandsFor c u h → StandsFor c v (landed h gone)
 
-abbrev is_at : ℤ → Flying → Bool
-is_at t a = int_eq a.at.0 t
-
-same_time : (a b : Ticks) → int_eq a.0 b.0 ≡ true → a ≡ b
-same_time a b e = ap (λ (z : ℤ). let t : Ticks = record { 0 = z } in t) ((Decides-int_eq a.0 b.0).0 e)
-
-not_after_it : (d : Document) (tick : Ticks) (index : ℕ) (x : Flying) → IsToRu x → IsEarlier index x → IsLastOf (is_at tick.0) (injected_at d tick index) x
-not_after_it d tick index x to_ru (inl sent) at = sent_is_not_after x (injected_at d tick index) (same_time x.at tick at) to_ru.side sent refl
-not_after_it d tick index x to_ru (inr injected) at = earlier_place_is_not_after x (injected_at d tick index) (same_time x.at tick at) to_ru.side injected.0 injected.1
-
--- it lands behind those in flight that land at its tick
-flying_put : (d : Document) (tick : Ticks) (index : ℕ) (fs : List Flying) → IsInOrder fs → All (IsSentOrAt tick.0) fs → All (IsEarlier index) fs
-    → flying_at tick.0 (put_in (injected_at d tick index) fs) ≡ flying_at tick.0 fs ++ arrival_at tick.0 (frame_at d index) ∷ []
-flying_put d tick index fs order there earlier =
-    let a = injected_at d tick index in
-    ap (map landing_from) (filter-put_in_last (is_at tick.0) a fs (equal_self tick.0) order
-    (λ k x lt. not_after_it d tick index (slice_index_or fs k x) (there k x lt).0 (earlier k x lt)))
-    ∙ map-append landing_from (filter (is_at tick.0) fs) (a ∷ [])
-
-flying_put_later : (d : Document) (tick : Ticks) (index : ℕ) (fs : List Flying) (t : ℤ) → tick.0 <ℤ t → flying_at t (put_in (injected_at d tick index) fs) ≡ flying_at t fs
-flying_put_later d tick index fs t lt =
-    ap (map landing_from) (filter-put_in_other (is_at t) (injected_at d tick index) fs (equal_not tick.0 t (int_eq tick.0 t) lt refl))
-
--- so what comes at each tick from this one on is as it was
-moved : (xs ys zs ws : List Arrival) (x : Arrival) → zs ≡ xs ++ x ∷ [] → ws ≡ x ∷ ys → zs ++ ys ≡ xs ++ ws
-moved xs ys zs ws x first second =
-    ap (λ (bs : List Arrival). bs ++ ys) first ∙ append_assoc xs (x ∷ []) ys ∙ sym (ap (λ (bs : List Arrival). xs ++ bs) second)
-
-abbrev both : List Landing → List Flying → Coming
-both q fs = record { listed = q; in_flight = fs }
-
-here_or_later : (tick t : ℤ) → tick ≤ℤ t → (t ≡ tick) ⊎ (tick <ℤ t)
-here_or_later tick t h = go (int_eq t tick) refl
-  where
-    go : (b : Bool) → int_eq t tick ≡ b → (t ≡ tick) ⊎ (tick <ℤ t)
-    go true e = inl ((Decides-int_eq t tick).0 e)
-    go false e = inr (let differ : t ≢ tick = λ same. clash same e in omega (arith, ints))
-      where
-        clash : t ≡ tick → int_eq t tick ≡ false → ⊥
-        clash same e = let both : false ≡ true = sym e ∙ (Decides-int_eq t tick).1 same in absurd (cc both)
-
-pub coming_same : (d : Document) (tick : Ticks) (index : ℕ) (before now : List Landing) (fs : List Flying) (t : ℤ) → before ≡ landing_of tick index ∷ now → tick.0 ≤ℤ t
-    → IsInOrder fs → All (IsSentOrAt tick.0) fs → All (IsEarlier index) fs
-    → coming_at d t (both now (put_in (injected_at d tick index) fs)) ≡ coming_at d t (both before fs)
-coming_same d tick index before now fs t is low order there earlier = go (here_or_later tick.0 t low)
-  where
-    here : flying_at tick.0 (put_in (injected_at d tick index) fs) ++ left_at d tick.0 now ≡ flying_at tick.0 fs ++ left_at d tick.0 before
-    here = moved (flying_at tick.0 fs) (left_at d tick.0 now) (flying_at tick.0 (put_in (injected_at d tick index) fs)) (left_at d tick.0 before)
-        (arrival_at tick.0 (frame_at d index)) (flying_put d tick index fs order there earlier) (ap (map (arrival_of d)) (taken_at tick index before now is))
-
-    go : (t ≡ tick.0) ⊎ (tick.0 <ℤ t) → flying_at t (put_in (injected_at d tick index) fs) ++ left_at d t now ≡ flying_at t fs ++ left_at d t before
-    go (inl same) = subst (λ (s : ℤ). flying_at s (put_in (injected_at d tick index) fs) ++ left_at d s now ≡ flying_at s fs ++ left_at d s before) (sym same) here
-    go (inr lt) =
-        ap₂ (λ (xs ys : List Arrival). xs ++ ys) (flying_put_later d tick index fs t lt) (sym (ap (map (arrival_of d)) (taken_later tick index before now t is lt)))
-
--- ---- those in flight stand before those that wait
-
--- for a tick, each that waits stands behind each in flight
-abbrev pub AreBehind : List Flying → List Landing → Type 0
-AreBehind fs q = AllByRecursion (λ l. All (IsEarlier l.index) fs) q
-
-pub sent_first : (fs : List Flying) (q : List Landing) → All IsSent fs → AreBehind fs q
-sent_first fs [] h = tt
-sent_first fs (l ∷ q) h = (λ k d lt. inl (h k d lt).1, sent_first fs q h)
-
-behind_put : (d : Document) (tick : Ticks) (index : ℕ) (fs : List Flying) (q : List Landing) → AllByRecursion (λ l. index < l.index) q → AreBehind fs q
-    → AreBehind (put_in (injected_at d tick index) fs) q
-behind_put d tick index fs [] up h = tt
-behind_put d tick index fs (l ∷ q) up h =
-    (All-put_in (IsEarlier l.index) (injected_at d tick index) fs (inr (refl, up.0)) h.0, behind_put d tick index fs q up.1 h.1)
-
-pub behind_next : (d : Document) (tick : Ticks) (index : ℕ) (before now : List Landing) (fs : List Flying) → before ≡ landing_of tick index ∷ now
-    → ArePlaced (at_time tick.0 before) → AreBehind fs (at_time tick.0 before) → AreBehind (put_in (injected_at d tick index) fs) (at_time tick.0 now)
-behind_next d tick index before now fs is placed behind =
-    let rest = taken_at tick index before now is in
-    behind_put d tick index fs (at_time tick.0 now) (subst ArePlaced rest placed).0 (subst (AreBehind fs) rest behind).1
-
-pub behind_first : (tick : Ticks) (index : ℕ) (before now : List Landing) (fs : List Flying) → before ≡ landing_of tick index ∷ now
-    → AreBehind fs (at_time tick.0 before) → All (IsEarlier index) fs
-behind_first tick index before now fs is behind = (subst (AreBehind fs) (taken_at tick index before now is) behind).0
-
-pub sent_there : (tick : ℤ) (fs : List Flying) → All IsSent fs → All (IsSentOrAt tick) fs
-sent_there tick fs h = λ k d lt. ((h k d lt).0, inl (h k d lt).1)
-
-pub put_from : (d : Document) (tick : Ticks) (index : ℕ) (fs : List Flying) → AreFlyingFrom tick.0 fs → AreFlyingFrom tick.0 (put_in (injected_at d tick index) fs)
-put_from d tick index fs h = All-put_in (λ (a : Flying). tick.0 ≤ℤ a.at.0) (injected_at d tick index) fs (same_most tick.0) h
-
--- ---- while they are put
-
--- what comes at each tick from this one on is what it was; those in flight are in order, and those that wait for the tick come behind them
-pub record AtPut (d : Document) (tick : Ticks) (old w : Coming) : Type 0 where
-  pub same : (t : ℤ) → tick.0 ≤ℤ t → coming_at d t w ≡ coming_at d t old
-  pub from : AreFrom tick.0 w.listed
-  pub listed : AreListed d w.listed
-  pub placed : (t : ℤ) → ArePlaced (at_time t w.listed)
-  pub flying : AreFlyingFrom tick.0 w.in_flight
-  pub order : IsInOrder w.in_flight
-  pub there : All (IsSentOrAt tick.0) w.in_flight
-  pub behind : AreBehind w.in_flight (at_time tick.0 w.listed)
-
-pub put_none : (d : Document) (tick : Ticks) (w : Coming) → Waits d tick.0 w → AtPut d tick w w
-put_none d tick w waits = record {
-  same = λ t low. refl;
-  from = waits.from;
-  listed = waits.listed;
-  placed = waits.placed;
-  flying = waits.flying;
-  order = waits.order;
-  there = sent_there tick.0 w.in_flight waits.sent;
-  behind = sent_first w.in_flight (at_time tick.0 w.listed) waits.sent;
+pub passes_none : {A : Type 0} (grew : A → List Event → A → Type 0) (d : Document) (tick : ℤ) (u : Ru) (q : List Landing) (a : A) → grew a [] a
+    → Passes grew d tick u u q q a a
+passes_none grew d tick u q a none = record {
+  gone = [];
+  parts = refl;
+  later = λ t lt. refl;
+  heard = none;
+  stands = λ c h stands. subst (λ (k : History). StandsFor c u k) (sym (landed_none h)) stands;
 }
 
-pub put_one : (d : Document) (tick : Ticks) (index : ℕ) (old w : Coming) (now : List Landing) → IsToRu (injected_at d tick index) → w.listed ≡ landing_of tick index ∷ now
-    → AtPut d tick old w → AtPut d tick old (both now (put_in (injected_at d tick index) w.in_flight))
-put_one d tick index old w now to_ru is at =
-    let a = injected_at d tick index in
-    let fs = w.in_flight in
+left_first : (d : Document) (tick : Ticks) (index : ℕ) (before now : List Landing) → before ≡ landing_of tick index ∷ now
+    → left_at d tick.0 before ≡ arrival_at tick.0 (frame_at d index) ∷ left_at d tick.0 now
+left_first d tick index before now is = ap (map (arrival_of d)) (taken_at tick index before now is)
+
+pub passes_next : {A : Type 0} (grew : A → List Event → A → Type 0)
+    (more : (a b c : A) (first second : List Event) → grew a first b → grew b second c → grew a (first ++ second) c)
+    (d : Document) (tick : Ticks) (index : ℕ) (u v w : Ru) (old before now : List Landing) (a b e : A)
+    → u.clock ≡ tick → before ≡ landing_of tick index ∷ now → Passes grew d tick.0 u v old before a b
+    → grew b (arrival_event AtRu (arrival_at tick.0 (frame_at d index)) ∷ []) e
+    → ((c : Config) (h : History) → StandsFor c v h → StandsFor c w (arrived h (frame_at d index)))
+    → Passes grew d tick.0 u w old now a e
+passes_next grew more d tick index u v w old before now a b e clock is so_far one delivered =
+    let x = arrival_at tick.0 (frame_at d index) in
     record {
-      same = λ t low. coming_same d tick index w.listed now fs t is low at.order at.there (behind_first tick index w.listed now fs is at.behind) ∙ at.same t low;
-      from = taken_all (λ l. tick.0 ≤ℤ l.at.0) (landing_of tick index) w.listed now is at.from;
-      listed = taken_all (λ l. l.index < length d.injections) (landing_of tick index) w.listed now is at.listed;
-      placed = λ t. taken_placed t tick index w.listed now is (at.placed t);
-      flying = put_from d tick index fs at.flying;
-      order = IsInOrder-put_in a fs at.order;
-      there = All-put_in (IsSentOrAt tick.0) a fs (to_ru, inr refl) at.there;
-      behind = behind_next d tick index w.listed now fs is (at.placed tick.0) at.behind;
+      gone = so_far.gone ++ x ∷ [];
+      parts = so_far.parts ∙ ap (λ (xs : List Arrival). so_far.gone ++ xs) (left_first d tick index before now is)
+          ∙ sym (append_assoc so_far.gone (x ∷ []) (left_at d tick.0 now));
+      later = λ t lt. sym (taken_later tick index before now t is lt) ∙ so_far.later t lt;
+      heard = subst (λ (es : List Event). grew a es e) (sym (map-append (arrival_event AtRu) so_far.gone (x ∷ [])))
+          (more a b e (map (arrival_event AtRu) so_far.gone) (arrival_event AtRu x ∷ []) so_far.heard one);
+      stands = λ c h stands.
+          let at_clock : h.clock ≡ tick.0 = sym stands.kept.clock_is ∙ ap (λ (t : Ticks). t.0) clock in
+          subst (λ (k : History). StandsFor c w k)
+          (landed_next h so_far.gone (frame_at d index) ∙ ap (λ (t : ℤ). landed h (so_far.gone ++ arrival_at t (frame_at d index) ∷ [])) at_clock)
+          (delivered c (landed h so_far.gone) (so_far.stands c h stands));
     }
 
--- ---- none is left
+pub list_next : (d : Document) (tick : Ticks) (index : ℕ) (before now : List Landing) → before ≡ landing_of tick index ∷ now → IsListed d tick.0 before → IsListed d tick.0 now
+list_next d tick index before now is list = record {
+  from = taken_all (λ l. tick.0 ≤ℤ l.at.0) (landing_of tick index) before now is list.from;
+  listed = taken_all (λ l. l.index < length d.injections) (landing_of tick index) before now is list.listed;
+  placed = λ t. taken_placed t tick index before now is (list.placed t);
+}
 
-pub all_fly : (d : Document) (tick : Ticks) (old w : Coming) → AtPut d tick old w → AreFrom (tick.0 +ℤ pos 1) w.listed → Flies d tick.0 old w
-all_fly d tick old w at from = record {
-  now = sym (ap (λ (xs : List Arrival). flying_at tick.0 w.in_flight ++ xs) (left_none d tick.0 w.listed from) ∙ append-nil (flying_at tick.0 w.in_flight))
-      ∙ at.same tick.0 (same_most tick.0);
-  later = λ t lt. at.same t (weak tick.0 t lt);
-  from = from;
-  listed = at.listed;
-  placed = at.placed;
-  flying = at.flying;
-  order = at.order;
-  there = at.there;
+-- where none waits any more, all have landed
+pub passed_all : {A : Type 0} (grew : A → List Event → A → Type 0) (d : Document) (tick : ℤ) (u v : Ru) (old now : List Landing) (a b : A)
+    → (so_far : Passes grew d tick u v old now a b) → AreFrom (tick +ℤ pos 1) now → so_far.gone ≡ left_at d tick old
+passed_all grew d tick u v old now a b so_far from =
+    sym (so_far.parts ∙ ap (λ (xs : List Arrival). so_far.gone ++ xs) (left_none d tick now from) ∙ append-nil so_far.gone)
+
+pub passes_stop : {A : Type 0} (grew : A → List Event → A → Type 0) (stopped : A → Event → A → Type 0) (d : Document) (tick : Ticks) (index : ℕ) (u v : Ru)
+    (old before now : List Landing) (a b e : A) (c : Config) (h : History)
+    → before ≡ landing_of tick index ∷ now → Passes grew d tick.0 u v old before a b → stopped b (arrival_event AtRu (arrival_at tick.0 (frame_at d index))) e
+    → StandsFor c u h → StopsLanding grew stopped c h (left_at d tick.0 old) v a e
+passes_stop grew stopped d tick index u v old before now a b e c h is so_far stop stands = record {
+  told = so_far.gone;
+  one = arrival_at tick.0 (frame_at d index);
+  rest = left_at d tick.0 now;
+  is = so_far.parts ∙ ap (λ (xs : List Arrival). so_far.gone ++ xs) (left_first d tick index before now is);
+  stands = so_far.stands c h stands;
+  middle = b;
+  heard = so_far.heard;
+  stop = stop;
+}
+
+-- ---- those in flight, and then those that waited
+
+onto_both : (earlier xs ys : List Arrival) → onto (onto earlier xs) ys ≡ onto earlier (xs ++ ys)
+unfolding onto
+onto_both earlier [] ys = refl
+onto_both earlier (x ∷ xs) ys = onto_both (x ∷ earlier) xs ys
+
+landed_both : (h : History) (xs ys : List Arrival) → landed (landed h xs) ys ≡ landed h (xs ++ ys)
+landed_both h xs ys =
+    ap (λ (zs : List Arrival). let k : History = record { clock = h.clock; arrivals = zs; reported = h.reported; given = h.given } in k) (onto_both h.arrivals xs ys)
+
+pub heard_both : {A : Type 0} (grew : A → List Event → A → Type 0)
+    (more : (a b c : A) (first second : List Event) → grew a first b → grew b second c → grew a (first ++ second) c)
+    (xs ys : List Arrival) (a b e : A) → grew a (map (arrival_event AtRu) xs) b → grew b (map (arrival_event AtRu) ys) e → grew a (map (arrival_event AtRu) (xs ++ ys)) e
+heard_both grew more xs ys a b e first second =
+    subst (λ (es : List Event). grew a es e) (sym (map-append (arrival_event AtRu) xs ys)) (more a b e (map (arrival_event AtRu) xs) (map (arrival_event AtRu) ys) first second)
+
+pub stands_both : (c : Config) (u : Ru) (h : History) (xs ys : List Arrival) → StandsFor c u (landed (landed h xs) ys) → StandsFor c u (landed h (xs ++ ys))
+stands_both c u h xs ys stands = subst (λ (k : History). StandsFor c u k) (landed_both h xs ys) stands
+
+pub stops_first : {A : Type 0} (grew : A → List Event → A → Type 0) (stopped : A → Event → A → Type 0) (c : Config) (h : History) (xs ys : List Arrival) (u : Ru) (a e : A)
+    → StopsLanding grew stopped c h xs u a e → StopsLanding grew stopped c h (xs ++ ys) u a e
+stops_first grew stopped c h xs ys u a e s = record {
+  told = s.told;
+  one = s.one;
+  rest = s.rest ++ ys;
+  is = ap (λ (zs : List Arrival). zs ++ ys) s.is ∙ append_assoc s.told (s.one ∷ s.rest) ys;
+  stands = s.stands;
+  middle = s.middle;
+  heard = s.heard;
+  stop = s.stop;
+}
+
+pub stops_second : {A : Type 0} (grew : A → List Event → A → Type 0) (stopped : A → Event → A → Type 0)
+    (more : (a b c : A) (first second : List Event) → grew a first b → grew b second c → grew a (first ++ second) c)
+    (c : Config) (h : History) (xs ys : List Arrival) (u : Ru) (a b e : A) → grew a (map (arrival_event AtRu) xs) b
+    → StopsLanding grew stopped c (landed h xs) ys u b e → StopsLanding grew stopped c h (xs ++ ys) u a e
+stops_second grew stopped more c h xs ys u a b e first s = record {
+  told = xs ++ s.told;
+  one = s.one;
+  rest = s.rest;
+  is = ap (λ (zs : List Arrival). xs ++ zs) s.is ∙ sym (append_assoc xs s.told (s.one ∷ s.rest));
+  stands = stands_both c u h xs s.told s.stands;
+  middle = s.middle;
+  heard = heard_both grew more xs s.told a b s.middle first s.heard;
+  stop = s.stop;
 }

@@ -1,5 +1,5 @@
 -- One moment of a replay.
-use Rattle.std.proofs.Common.{◌≡◌, ℤ, pos, ◌+ℤ◌, ◌-ℤ◌, ◌≤ℤ◌, ◌<ℤ◌, ◌⊎◌, inl, inr, false, List, [], ◌∷◌, ◌++◌, All, sym, ap, ap₂, ◌∙◌, subst, arith}
+use Rattle.std.proofs.Common.{◌≡◌, ℤ, pos, ◌+ℤ◌, ◌-ℤ◌, ◌≤ℤ◌, ◌<ℤ◌, List, [], ◌∷◌, ◌++◌, All, sym, ap, ap₂, ◌∙◌, subst, arith}
 use Rattle.std.specs.Prelude.{map}
 use Rattle.std.proofs.lemmas.Int.{ints}
 use Rattle.std.proofs.lemmas.List.Elements.{All-tail}
@@ -8,11 +8,12 @@ use Rattle.air_source.specs.declared.events.Event.TheVariants.{Cell}
 use Rattle.air_source.specs.declared.events.Side.TheVariants.{Ru as AtRu}
 use Rattle.fh_document.specs.Proper.{IsDocument}
 use Rattle.fh_document.specs.declared.document.Document.{Document}
+use Rattle.frame_network.specs.declared.landings.Landing.{Landing}
 use Rattle.frame_network.specs.declared.arrivals.Arrival.{Arrival as Flying}
 use Rattle.replay_events.specs.Events.{arrival_event, events_at}
 use Rattle.frame_network.specs.Network.{IsInOrder}
 use Rattle.replay_events.specs.Moments.{end_of_time, landing_at}
-use Rattle.replay_events.proofs.TickLemmas.{next_most, same_most}
+use Rattle.replay_events.proofs.TickLemmas.{next_most}
 use Rattle.ru_buffers.specs.Calls.{HasGivenPast, StandsForSome}
 use Rattle.ru_buffers.specs.Reporting.{due_of}
 use Rattle.ru_buffers.specs.declared.unit.Ru.{Ru}
@@ -22,8 +23,8 @@ use Rattle.unit_model.specs.Proper.{IsTime}
 use Rattle.unit_model.specs.Radiated.{first_clock}
 use Rattle.unit_model.specs.Standing.{History, at_clock, heard}
 use Rattle.fronthaul_replay.specs.declared.coming.Coming.{Coming}
-use Rattle.fronthaul_replay.specs.Coming.{Flies, IsSent, IsSentOrAt, IsToRu, Waits, flying_at, left_at}
-use Rattle.fronthaul_replay.specs.Delivering.{HaveLanded, IsDrained, giving, landed}
+use Rattle.fronthaul_replay.specs.Coming.{IsSent, IsToRu, Waits, arrival_of}
+use Rattle.fronthaul_replay.specs.Delivering.{HasPassed, HaveLanded, IsDrained, giving, landed}
 use Rattle.fronthaul_replay.specs.Replaying.{landings_of, traffic_of}
 use Rattle.fronthaul_replay.specs.Turns.{AtTurn}
 use Rattle.fronthaul_replay.proofs.LandLemmas.{fly_on}
@@ -71,13 +72,6 @@ turn_then d tick u v xs doc a ended lands drained clock =
 
 -- ---- what is to come then
 
--- what flies at the tick is what lands
-pub flies_here : (d : Document) (tick : ℤ) (old new : Coming) → Waits d tick old → Flies d tick old new → flying_at tick new.in_flight ≡ landing_at (landings_of d) tick
-flies_here d tick old new waits flies = flies.now ∙ waits.left tick (same_most tick)
-
-pub all_to_ru : (tick : ℤ) (fs : List Flying) → All (IsSentOrAt tick) fs → All IsToRu fs
-all_to_ru tick fs h = λ k d lt. (h k d lt).0
-
 below_next : (a t : ℤ) → (a +ℤ pos 1) ≤ℤ t → a <ℤ t
 below_next a t h = omega (arith, ints)
 
@@ -93,28 +87,20 @@ all_rest : (P : Flying → Type 0) (gone now : List Flying) → All P (gone ++ n
 all_rest P [] now h = h
 all_rest P (a ∷ gone) now h = all_rest P gone now (All-tail P a (gone ++ now) h)
 
-not_both : (a tick : ℤ) → a ≡ tick → (tick +ℤ pos 1) ≤ℤ a → ⊥
-not_both a tick same later = omega (arith, ints)
+pub sent_to_ru : (fs : List Flying) → All IsSent fs → All IsToRu fs
+sent_to_ru fs h = λ k d lt. (h k d lt).0
 
--- one that comes later was sent
-sent_later : (tick : ℤ) (a : Flying) → IsSentOrAt tick a → (tick +ℤ pos 1) ≤ℤ a.at.0 → IsSent a
-sent_later tick a h later = (h.0, go h.1)
-  where
-    go : (a.key.injected ≡ false) ⊎ (a.at.0 ≡ tick) → a.key.injected ≡ false
-    go (inl sent) = sent
-    go (inr at) = absurd (not_both a.at.0 tick at later)
-
-pub waits_then : (d : Document) (tick : ℤ) (old w : Coming) (rest : List Flying) → Waits d tick old → Flies d tick old w → HaveLanded tick w.in_flight rest
-    → Waits d (tick +ℤ pos 1) (record { listed = w.listed; in_flight = rest })
-waits_then d tick old w rest waits flies passed =
-    let there = all_rest (IsSentOrAt tick) passed.gone rest (subst (All (IsSentOrAt tick)) passed.parts flies.there) in
-    record {
-      left = λ t low. ap (λ (xs : List Arrival). xs ++ left_at d t w.listed) (fly_on tick t w.in_flight rest passed (below_next tick t low))
-          ∙ flies.later t (below_next tick t low) ∙ waits.left t (above_next tick t low);
-      from = flies.from;
-      listed = flies.listed;
-      placed = flies.placed;
-      flying = passed.from;
-      order = order_rest passed.gone rest (subst IsInOrder passed.parts flies.order);
-      sent = λ k x lt. sent_later tick _ (there k x lt) (passed.from k x lt);
-    }
+pub waits_then : (d : Document) (tick : ℤ) (old : Coming) (rest : List Flying) (q : List Landing) → Waits d tick old → HaveLanded tick old.in_flight rest
+    → HasPassed d tick old.listed q → Waits d (tick +ℤ pos 1) (record { listed = q; in_flight = rest })
+waits_then d tick old rest q waits flown passed = record {
+  left = λ t low.
+      ap₂ (λ (xs ys : List Arrival). xs ++ ys) (fly_on tick t old.in_flight rest flown (below_next tick t low))
+      (ap (map (arrival_of d)) (passed.later t (below_next tick t low)))
+      ∙ waits.left t (above_next tick t low);
+  from = passed.list.from;
+  listed = passed.list.listed;
+  placed = passed.list.placed;
+  flying = flown.from;
+  order = order_rest flown.gone rest (subst IsInOrder flown.parts waits.order);
+  sent = all_rest IsSent flown.gone rest (subst (All IsSent) flown.parts waits.sent);
+}

@@ -1,6 +1,6 @@
 -- The frames that are to come to the radio unit as time passes: those of the document that wait, and those in flight (this project's
 -- profile). At one time those in flight come first, in their order, and then those that wait, in the order of the document.
-use Rattle.std.specs.Prelude.{◌≡◌, ℕ, ℤ, pos, ◌+ℤ◌, ◌*ℤ◌, ◌<◌, ◌^◌, ◌<ℤ◌, ◌≤ℤ◌, true, false, List, [], ◌∷◌, ◌++◌, length, map, filter, All, Option, Some, None, slice_get, ◌⊎◌}
+use Rattle.std.specs.Prelude.{◌≡◌, ℕ, ℤ, pos, ◌+ℤ◌, ◌*ℤ◌, ◌<◌, ◌^◌, ◌≤ℤ◌, false, List, [], ◌∷◌, ◌++◌, length, map, filter, All, Option, Some, None, slice_get}
 use Rattle.std.specs.List.{AllByRecursion}
 use Rattle.std.specs.Ordering.{int_eq}
 use Rattle.air_source.specs.declared.events.Side.TheVariants.{Ru}
@@ -56,11 +56,6 @@ ArePlaced (l ∷ q) = AllByRecursion (λ m. l.index < m.index) q × ArePlaced q
 
 -- ---- a frame in flight
 
--- a frame of the document, in flight to the radio unit
-abbrev pub injected_at : Document → Ticks → ℕ → Flying
-injected_at d tick index =
-    record { side = Ru; at = tick; key = record { injected = true; place = index; copy = 0 }; frame = frame_at d index }
-
 -- what it is once it lands
 abbrev pub landing_from : Flying → Arrival
 landing_from a = arrival_at a.at.0 a.frame
@@ -82,10 +77,6 @@ pub record IsToRu (a : Flying) : Type 0 where
 abbrev pub IsSent : Flying → Type 0
 IsSent a = IsToRu a × (a.key.injected ≡ false)
 
--- one that a unit sent, or one that is injected at this tick
-abbrev pub IsSentOrAt : ℤ → Flying → Type 0
-IsSentOrAt tick a = IsToRu a × ((a.key.injected ≡ false) ⊎ (a.at.0 ≡ tick))
-
 -- ---- both
 
 abbrev pub coming_at : Document → ℤ → Coming → List Arrival
@@ -105,13 +96,8 @@ pub record Waits (d : Document) (now : ℤ) (w : Coming) : Type 0 where
   pub order : IsInOrder w.in_flight
   pub sent : All IsSent w.in_flight
 
--- all that come at a tick are in flight
-pub record Flies (d : Document) (tick : ℤ) (old new : Coming) : Type 0 where
-  pub now : flying_at tick new.in_flight ≡ coming_at d tick old
-  pub later : (t : ℤ) → tick <ℤ t → coming_at d t new ≡ coming_at d t old
-  pub from : AreFrom (tick +ℤ pos 1) new.listed
-  pub listed : AreListed d new.listed
-  pub placed : (t : ℤ) → ArePlaced (at_time t new.listed)
-  pub flying : AreFlyingFrom tick new.in_flight
-  pub order : IsInOrder new.in_flight
-  pub there : All (IsSentOrAt tick) new.in_flight
+-- the frames of the document that wait: none for an earlier tick, and those of one tick in the order of the document
+pub record IsListed (d : Document) (now : ℤ) (q : List Landing) : Type 0 where
+  pub from : AreFrom now q
+  pub listed : AreListed d q
+  pub placed : (tick : ℤ) → ArePlaced (at_time tick q)

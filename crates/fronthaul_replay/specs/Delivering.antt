@@ -1,5 +1,5 @@
 -- What one tick's frames, and its messages, make of a radio unit (this project's profile).
-use Rattle.std.specs.Prelude.{◌≡◌, ℤ, pos, ◌+ℤ◌, List, [], ◌∷◌, ◌++◌, All, map}
+use Rattle.std.specs.Prelude.{◌≡◌, ℤ, pos, ◌+ℤ◌, ◌<ℤ◌, List, [], ◌∷◌, ◌++◌, All, map}
 use Rattle.air_source.specs.declared.events.Event.{Event}
 use Rattle.air_source.specs.declared.events.Side.TheVariants.{Ru as AtRu}
 use Rattle.frame_network.specs.declared.arrivals.Arrival.{Arrival as Flying}
@@ -11,7 +11,10 @@ use Rattle.unit_model.specs.Meetings.{Arrival}
 use Rattle.unit_model.specs.Standing.{History}
 use Rattle.unit_model.specs.declared.jobs.UplinkJob.{UplinkJob}
 use Rattle.window_config.specs.declared.config.Config.{Config}
-use Rattle.fronthaul_replay.specs.Coming.{AreFlyingFrom}
+use Rattle.fh_document.specs.declared.document.Document.{Document}
+use Rattle.frame_network.specs.declared.landings.Landing.{Landing}
+use Rattle.frame_network.specs.Queues.{at_time}
+use Rattle.fronthaul_replay.specs.Coming.{AreFlyingFrom, IsListed}
 
 -- a history once these landed too
 abbrev pub landed : History → List Arrival → History
@@ -23,6 +26,11 @@ pub record HaveLanded (tick : ℤ) (old new : List Flying) : Type 0 where
   pub parts : old ≡ gone ++ new
   pub at : All (λ a. a.at.0 ≡ tick) gone
   pub from : AreFlyingFrom (tick +ℤ pos 1) new
+
+-- those that waited for a tick have landed, and for later ones the same wait
+pub record HasPassed (d : Document) (tick : ℤ) (old new : List Landing) : Type 0 where
+  pub later : (t : ℤ) → tick <ℤ t → at_time t new ≡ at_time t old
+  pub list : IsListed d (tick +ℤ pos 1) new
 
 -- an air stopped in an arrival, and the unit stands for those before it
 pub record StopsLanding {A : Type 0} (grew : A → List Event → A → Type 0) (stopped : A → Event → A → Type 0) (c : Config) (h : History) (arrivals : List Arrival)

@@ -1,17 +1,20 @@
 // The frames of one tick, and the uplink messages up to it.
-ghost use Rattle.std.specs.Prelude.{◌≡◌, ◌<◌, ◌^◌, [], ◌∷◌, All, IfErr, OnErr, OnOk, length, map};
+ghost use Rattle.std.specs.Prelude.{◌≡◌, ◌<◌, ◌+ℤ◌, ◌^◌, pos, [], ◌∷◌, All, IfErr, OnErr, OnOk, length, map};
 ghost use Rattle.air_source.specs.Causes.{HasAirCause};
 ghost use Rattle.air_source.specs.declared.events.Side.TheVariants.{Ru as AtRu};
+ghost use Rattle.fh_document.specs.Proper.{IsDocument};
 ghost use Rattle.replay_events.specs.Events.{arrival_event};
 ghost use Rattle.ru_buffers.specs.Calls.{HasGivenPast, StandsFor, StandsForSome};
 ghost use Rattle.unit_model.specs.Standing.{History, arrived};
 ghost use Rattle.window_config.specs.declared.config.Config.{Config};
-ghost use Rattle.fronthaul_replay.specs.Coming.{AreFlyingFrom, IsToRu, arrival_at, flying_at};
-ghost use Rattle.fronthaul_replay.specs.Delivering.{HaveLanded, IsDrained, StopsLanding, landed};
+ghost use Rattle.fronthaul_replay.specs.Coming.{AreFlyingFrom, IsListed, IsToRu, Waits, arrival_at, coming_at, flying_at, left_at};
+ghost use Rattle.fronthaul_replay.specs.Delivering.{HasPassed, HaveLanded, IsDrained, StopsLanding, landed};
 
+use crate::coming::{Coming, frame_at};
 use air_source::{Air, AirFault, Side};
+use fh_document::Document;
 use fh_time::Ticks;
-use frame_network::Network;
+use frame_network::{LandingQueue, Network};
 use ru_buffers::Ru;
 
 /// Tells the air of a frame that arrives at the unit's clock, and then delivers it.
@@ -34,7 +37,7 @@ fn hear<A: Air>(frame: &[u8], at: Ticks, ru: &mut Ru, out: &mut A) -> Result<(),
 }
 
 /// Lets all frames in flight land that come at a tick, which is the unit's clock.
-pub(crate) fn land<A: Air>(
+fn land_flying<A: Air>(
     tick: Ticks,
     ru: &mut Ru,
     in_flight: &mut Network,
@@ -59,6 +62,62 @@ pub(crate) fn land<A: Air>(
         hear(arrival.frame.as_slice(), tick, ru, out)?;
     }
     Ok(())
+}
+
+/// Lets the document's frames land that wait for a tick, which is the unit's clock, one after the other where the document has them.
+fn land_listed<A: Air>(
+    doc: &Document,
+    tick: Ticks,
+    ru: &mut Ru,
+    listed: &mut LandingQueue,
+    out: &mut A,
+) -> Result<(), AirFault>
+    requires document { IsDocument doc.now }
+    requires unit { StandsForSome ru.old }
+    requires given { HasGivenPast ru.old }
+    requires clock { ru.old.clock ≡ tick }
+    requires list { IsListed doc.now tick.0 listed.old }
+    ensures heard { OnOk result (A.grew out.old (map (arrival_event AtRu) (left_at doc.now tick.0 listed.old)) out.new) }
+    ensures stands { (c : Config) (h : History) → StandsFor c ru.old h → OnOk result (StandsFor c ru.new (landed h (left_at doc.now tick.0 listed.old))) }
+    ensures passed { OnOk result (HasPassed doc.now tick.0 listed.old listed.new) }
+    ensures stop { (c : Config) (h : History) → StandsFor c ru.old h
+        → IfErr result (λ f. StopsLanding A.grew (A.stopped f) c h (left_at doc.now tick.0 listed.old) ru.new out.old out.new) }
+    ensures given { HasGivenPast ru.new }
+    ensures clock { ru.new.clock ≡ ru.old.clock }
+    ensures same { A.same out.old out.new }
+    ensures cause { HasAirCause (A.faults out.old) (A.faults out.new) result }
+{
+    while let Some(index) = listed.take_at(tick) {
+        hear(frame_at(doc, index), tick, ru, out)?;
+    }
+    Ok(())
+}
+
+/// Lets all frames land that come at a tick, which is the unit's clock: those in flight, and behind them the document's.
+pub(crate) fn land<A: Air>(
+    doc: &Document,
+    tick: Ticks,
+    ru: &mut Ru,
+    coming: &mut Coming,
+    out: &mut A,
+) -> Result<(), AirFault>
+    requires document { IsDocument doc.now }
+    requires unit { StandsForSome ru.old }
+    requires given { HasGivenPast ru.old }
+    requires clock { ru.old.clock ≡ tick }
+    requires waits { Waits doc.now tick.0 coming.old }
+    ensures heard { OnOk result (A.grew out.old (map (arrival_event AtRu) (coming_at doc.now tick.0 coming.old)) out.new) }
+    ensures stands { (c : Config) (h : History) → StandsFor c ru.old h → OnOk result (StandsFor c ru.new (landed h (coming_at doc.now tick.0 coming.old))) }
+    ensures waits { OnOk result (Waits doc.now (tick.0 +ℤ pos 1) coming.new) }
+    ensures stop { (c : Config) (h : History) → StandsFor c ru.old h
+        → IfErr result (λ f. StopsLanding A.grew (A.stopped f) c h (coming_at doc.now tick.0 coming.old) ru.new out.old out.new) }
+    ensures given { HasGivenPast ru.new }
+    ensures clock { ru.new.clock ≡ ru.old.clock }
+    ensures same { A.same out.old out.new }
+    ensures cause { HasAirCause (A.faults out.old) (A.faults out.new) result }
+{
+    land_flying(tick, ru, &mut coming.in_flight, out)?;
+    land_listed(doc, tick, ru, &mut coming.listed, out)
 }
 
 /// Takes all uplink messages up to the unit's clock.

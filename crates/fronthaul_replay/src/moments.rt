@@ -13,14 +13,13 @@ ghost use Rattle.fronthaul_replay.specs.Coming.{Waits};
 ghost use Rattle.fronthaul_replay.specs.Replaying.{traffic_of};
 ghost use Rattle.fronthaul_replay.specs.Turns.{AtTurn, HaltsBehind, IsNext, StopsBehind, events_before};
 
-use crate::coming::{Coming, inject};
+use crate::coming::Coming;
 use crate::landing::{drain, land};
 use crate::times::{FIRST_CLOCK, earlier_of, is_up_to, tick_after, up_to_end};
 use air_source::{Air, AirFault};
 use fh_document::Document;
 use fh_time::Ticks;
 use ru_buffers::Ru;
-use std::alloc::Global;
 
 /// The next time at which a cell or a message is due, or a frame comes. None where there is none up to the end.
 fn next_moment(ru: &Ru, coming: &Coming) -> Option<Ticks>
@@ -31,7 +30,6 @@ fn next_moment(ru: &Ru, coming: &Coming) -> Option<Ticks>
 
 /// What comes at one time: the cells, then the frames that land; and the messages are given.
 fn moment<A: Air>(
-    alloc: Global,
     doc: &Document,
     tick: Ticks,
     ru: &mut Ru,
@@ -51,17 +49,13 @@ fn moment<A: Air>(
     ensures cause { HasAirCause (A.faults out.old) (A.faults out.new) result }
 {
     ru.advance(tick, out)?;
-    let Ok(()) = inject(alloc, doc, tick, coming) else {
-        return Err(AirFault::NoMemory);
-    };
-    land(tick, ru, &mut coming.in_flight, out)?;
+    land(doc, tick, ru, coming, out)?;
     drain(ru);
     Ok(())
 }
 
 /// Lets time pass to the end.
 pub(crate) fn pass<A: Air>(
-    alloc: Global,
     doc: &Document,
     ru: &mut Ru,
     coming: &mut Coming,
@@ -82,7 +76,7 @@ pub(crate) fn pass<A: Air>(
         let in_order = is_up_to(now, tick);
         prove!(in_order);
         now = tick_after(tick);
-        moment(alloc, doc, tick, ru, coming, out)?;
+        moment(doc, tick, ru, coming, out)?;
     }
     Ok(())
 }

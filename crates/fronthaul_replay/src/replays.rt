@@ -62,7 +62,7 @@ pub fn replay<A: Air>(
     let Ok(mut coming) = coming_of(alloc, doc) else {
         return Err(ReplayFault::NoMemory);
     };
-    match run(alloc, doc, ru, &mut coming, out) {
+    match run(doc, ru, &mut coming, out) {
         Ok(()) => Ok(()),
         Err(AirFault::Failed) => Err(ReplayFault::AirFailed),
         Err(AirFault::NoMemory) => Err(ReplayFault::NoMemory),
@@ -71,7 +71,6 @@ pub fn replay<A: Air>(
 
 /// Lets all frames land, and tells the counters.
 fn run<A: Air>(
-    alloc: Global,
     doc: &Document,
     ru: &mut Ru,
     coming: &mut Coming,
@@ -87,6 +86,6 @@ fn run<A: Air>(
     ensures same { A.same out.old out.new }
     ensures cause { HasAirCause (A.faults out.old) (A.faults out.new) result }
 {
-    pass(alloc, doc, ru, coming, out)?;
+    pass(doc, ru, coming, out)?;
     tell_counts(ru.counters(), out)
 }

@@ -2,7 +2,7 @@ use Rattle.std.proofs.Common.{◌≡◌, ◌≤◌, All, length}
 use Rattle.ru_buffers.specs.Calls.{HasGivenPast, StandsForSome}
 use Rattle.fronthaul_replay.specs.Coming.{AreFlyingFrom, IsToRu}
 use Rattle.fronthaul_replay.proofs.LandLemmas.{Lands}
-use Rattle.fronthaul_replay.proofs.landing.land.Given as goal
+use Rattle.fronthaul_replay.proofs.landing.land_flying.Given as goal
 
 abbrev pub invariant-loop-arrival : goal.invariant-loop-arrival
 invariant-loop-arrival g l = record {
