@@ -12,8 +12,10 @@ use Rattle.unit_model.specs.declared.cells.Cell.{Cell}
 use Rattle.unit_model.specs.declared.cells.Claim.{Claim}
 use Rattle.unit_model.specs.Claims.{same_slot, same_way, is_from, first_prb, prb_count, covers, in_mask, names, claim_of, claim_at, cell_of, every_cell, some_cell, is_under, is_other, is_claimed, is_overlapped, repeats, overlaps}
 use Rattle.plan_model.specs.Validity.{meet, share_cell, share_bit, clash}
-use Rattle.plan_tests.specs.Slots.{IsIn, IsProper, AreProper, AreClear}
-use Rattle.plan_tests.proofs.RangeLemmas.{same_tests, every_at, some_one, Found, found, any_in, among, is_from_in, meet_from, common}
+use Rattle.plan_parts.specs.Placing.{IsIn}
+use Rattle.plan_tests.specs.Slots.{IsProper, AreProper, AreClear}
+use Rattle.plan_parts.proofs.ListLemmas.{same_tests}
+use Rattle.plan_tests.proofs.RangeLemmas.{every_at, some_one, Found, found, any_in, among, is_from_in, meet_from, common}
 
 -- ---- tests are symmetric
 

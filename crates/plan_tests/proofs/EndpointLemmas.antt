@@ -13,34 +13,20 @@ use Rattle.plan_model.specs.Lines.{allocation_of}
 use Rattle.plan_model.specs.Validity.{why_claimed}
 use Rattle.plan_model.specs.declared.lines.PlannedLine.{PlannedLine}
 use Rattle.plan_model.specs.declared.refusals.PlanWhy.{PlanWhy}
-use Rattle.plan_tests.specs.Judging.{ArePlaced, Covers, IsBefore, IsLineOf, IsPlaced, ep_of}
-use Rattle.plan_tests.specs.Slots.{IsIn, IsFrom, AreProper, is_home, judged, judged_in, of_home, lesser, least_along, entry_of, numbered, refused_along, refused_in, why_judged}
+use Rattle.plan_parts.specs.Placing.{ArePlaced, IsPlaced, IsIn}
+use Rattle.plan_tests.specs.Judging.{Covers, IsBefore, IsLineOf, ep_of}
+use Rattle.plan_tests.specs.Slots.{IsFrom, AreProper, is_home, judged, judged_in, of_home, lesser, least_along, entry_of, numbered, refused_along, refused_in, why_judged}
 use Rattle.plan_tests.proofs.GroupLemmas.{along_from, along_one, lesser_from, lesser_left, lesser_right, from_none, from_nothing, judged_is, some_line}
-use Rattle.plan_tests.proofs.KnowLemmas.{inside_is}
-use Rattle.plan_tests.proofs.RunLemmas.{home_true, all_in, all_from}
+use Rattle.plan_parts.proofs.InsideLemmas.{inside_is}
+use Rattle.plan_tests.proofs.RunLemmas.{home_true}
+use Rattle.plan_parts.proofs.ListLemmas.{all_in, all_from, filter_and}
 use Rattle.plan_tests.proofs.SlotLemmas.{least_is}
-use Rattle.plan_tests.proofs.SortLemmas.{filter_same, filter_and}
+use Rattle.plan_tests.proofs.SortLemmas.{filter_same}
+use Rattle.plan_parts.proofs.ListLemmas.{filter_in}
+use Rattle.plan_parts.proofs.ListLemmas.{in_filter}
+use Rattle.plan_parts.proofs.PlacingLemmas.{endpoint_is}
 
 -- ---- what passes a test
-
-pub filter_in : {X : Type 0} (t : X → Bool) (xs : List X) (x : X) → IsIn x xs → t x ≡ true → IsIn x (filter t xs)
-filter_in t [] x m is = absurd m
-filter_in {X = X} t (y ∷ xs) x m is = go (t y) refl m (filter_in t xs x)
-  where
-    go : (b : Bool) → t y ≡ b → (x ≡ y) ⊎ IsIn x xs → (IsIn x xs → t x ≡ true → IsIn x (filter t xs)) → IsIn x (let ys : List X = if b then y ∷ filter t xs else filter t xs in ys)
-    go true e (inl here) rest = inl here
-    go true e (inr there) rest = inr (rest there is)
-    go false e (inl here) rest = (let f = sym (ap t here ∙ e) ∙ is in cc)
-    go false e (inr there) rest = rest there is
-
-pub in_filter : {X : Type 0} (t : X → Bool) (xs : List X) (x : X) → IsIn x (filter t xs) → IsIn x xs × (t x ≡ true)
-in_filter t [] x m = absurd m
-in_filter {X = X} t (y ∷ xs) x m = go (t y) refl m (in_filter t xs x)
-  where
-    go : (b : Bool) → t y ≡ b → IsIn x (let ys : List X = if b then y ∷ filter t xs else filter t xs in ys) → (IsIn x (filter t xs) → IsIn x xs × (t x ≡ true)) → IsIn x (y ∷ xs) × (t x ≡ true)
-    go true e (inl here) rest = (inl here, ap t here ∙ e)
-    go true e (inr there) rest = let r = rest there in (inr r.0, r.1)
-    go false e n rest = let r = rest n in (inr r.0, r.1)
 
 -- ---- an endpoint's own lines, sorted
 
@@ -98,27 +84,8 @@ covers_own lines ep own least r new o r_is new_is =
 
 -- ---- what is known of them
 
-pub at_is : {X : Type 0} (xs : List X) (k : ℕ) (x d : X) → slice_get xs k ≡ Some x → get_or xs k d ≡ x
-at_is [] k x d h = cc
-at_is (y ∷ xs) zero x d h = cc
-at_is (y ∷ xs) (suc k) x d h = at_is xs k x d h
-
-pub endpoint_is : (es : List EndpointConfig) (ep : ℕ) (e : EndpointConfig) → All IsEndpoint es → IsAt es ep e → IsEndpoint e
-endpoint_is es ep e all at = subst IsEndpoint (at_is es ep e e at) (all ep e (slice_get_within es ep e at))
-
 some_is : {X : Type 0} (x y : X) → Some x ≡ Some y → x ≡ y
 some_is x y h = cc
-
-same_endpoint : (es : List EndpointConfig) (p q : PlannedLine) → IsPlaced es p → IsPlaced es q → p.ep ≡ q.ep → p.endpoint ≡ q.endpoint
-same_endpoint es p q a b e = some_is p.endpoint q.endpoint (sym a.at ∙ ap (slice_get es) e ∙ b.at)
-
-pub are_placed : (es : List EndpointConfig) (lines : List PlannedLine) → All IsEndpoint es → AllByRecursion (IsPlaced es) lines → ArePlaced lines
-are_placed es lines ends all = record {
-  endpoint = λ p m. endpoint_is es p.ep p.endpoint ends (all_in (IsPlaced es) lines p all m).at;
-  same = λ p q m n e. same_endpoint es p q (all_in (IsPlaced es) lines p all m) (all_in (IsPlaced es) lines q all n) e;
-  ranges = λ p m. (all_in (IsPlaced es) lines p all m).ranges;
-  inside = λ p m. (all_in (IsPlaced es) lines p all m).inside;
-}
 
 first_ep : (own : List PlannedLine) (ep : ℕ) (p : PlannedLine) → IsIn p own → ((q : PlannedLine) → IsIn q own → q.ep ≡ ep) → ep_of own ≡ ep
 first_ep [] ep p m h = absurd m

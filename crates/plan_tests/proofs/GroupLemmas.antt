@@ -7,7 +7,8 @@ use Rattle.plan_model.specs.Validity.{why_claimed, refused_at}
 use Rattle.plan_model.specs.declared.refusals.PlanWhy.{PlanWhy}
 use Rattle.plan_model.specs.Lines.{allocation_of}
 use Rattle.plan_model.specs.declared.lines.PlannedLine.{PlannedLine}
-use Rattle.plan_tests.specs.Slots.{IsIn, AreProper, why_judged, refused_along, refused_in, is_home, IsFrom, lesser, numbered, refused_of, entry_of, judged, of_home, judged_in, least_along}
+use Rattle.plan_parts.specs.Placing.{IsIn}
+use Rattle.plan_tests.specs.Slots.{AreProper, why_judged, refused_along, refused_in, is_home, IsFrom, lesser, numbered, refused_of, entry_of, judged, of_home, judged_in, least_along}
 use Rattle.plan_tests.proofs.SlotLemmas.{least_is}
 
 -- ---- the lesser of two

@@ -27,57 +27,14 @@ use Rattle.plan_model.specs.Validity.{is_out_of_range}
 use Rattle.plan_model.specs.declared.lines.PlannedLine.{PlannedLine}
 use Rattle.plan_model.specs.declared.refusals.PlanWhy.{PlanWhy}
 use Rattle.plan_model.specs.declared.refusals.PlanWhy.TheVariants.{Overlap, TooManySections}
+use Rattle.plan_parts.proofs.InsideLemmas.{Inside, inside_is, slot_inside}
 use Rattle.plan_tests.specs.Judging.{IsLineOf, IsLineAt, Knows, why_in}
 use Rattle.plan_tests.specs.Slots.{why_judged}
 
 -- ---- what it is to be in range
 
-pub record Inside (p : PlannedLine) : Type 0 where
-  pub slot : p.line.slot.slot < slots_of p.endpoint.numerology
-  pub some : 0 < p.line.count
-  pub within : p.line.symbol + p.line.count ≤ symbols_of p.endpoint.numerology
-  pub prbs : is_outside p.endpoint.prbs p.line.start_prb p.line.num_prb ≡ false
-  pub mask : 0 < p.line.mask
-
-inside_parts : (a b c d : Bool) → (let x : Bool = a || (b || (c || d)) in x) ≡ false → (a ≡ false) × (b ≡ false) × (c ≡ false) × (d ≡ false)
-inside_parts true b c d h = cc
-inside_parts false true c d h = cc
-inside_parts false false true d h = cc
-inside_parts false false false true h = cc
-inside_parts false false false false h = (refl, refl, refl, refl)
-
-or_split : (a b : Bool) → (a || b) ≡ false → (a ≡ false) × (b ≡ false)
-or_split true b h = cc
-or_split false true h = cc
-or_split false false h = (refl, refl)
-
-not_at_most : (a b : ℕ) → nat_le a b ≡ false → b < a
-not_at_most a b h = grind (arith, nat_tests)
-
-not_below : (a b : ℕ) → nat_lt a b ≡ false → b ≤ a
-not_below a b h = grind (arith, nat_tests)
-
-not_zero : (a : ℕ) → (a == 0) ≡ false → 0 < a
-not_zero a h = grind (arith, nat_tests)
-
-pub inside_is : (p : PlannedLine) → is_out_of_range p.endpoint p.line ≡ false → Inside p
-inside_is p h =
-    let q = inside_parts (nat_le (slots_of p.endpoint.numerology) p.line.slot.slot) (p.line.count == 0) (nat_lt (symbols_of p.endpoint.numerology) (p.line.symbol + p.line.count)) _ h in
-    let r = or_split (is_outside p.endpoint.prbs p.line.start_prb p.line.num_prb) (p.line.mask == 0) q.3 in
-    record {
-      slot = not_at_most (slots_of p.endpoint.numerology) p.line.slot.slot q.0;
-      some = not_zero p.line.count q.1;
-      within = not_below (symbols_of p.endpoint.numerology) (p.line.symbol + p.line.count) q.2;
-      prbs = r.0;
-      mask = not_zero p.line.mask r.1;
-    }
-
 pub slot_of_line : (e : EndpointConfig) (ep : ℕ) (p : PlannedLine) → IsLineOf e ep p → IsSlot p.endpoint.numerology p.line.slot
-slot_of_line e ep p is =
-    let i = inside_is p is.inside in
-    let l = is.ranges.frame_low in
-    let h = is.ranges.frame_high in
-    record { low = omega (arith, ints); high = omega (arith, ints); subframe = is.ranges.subframe; slot_is = i.slot }
+slot_of_line e ep p is = slot_inside p is.ranges is.inside
 
 -- ---- verdicts
 

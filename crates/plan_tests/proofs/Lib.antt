@@ -11,11 +11,6 @@ pub mod RunLemmas
 pub mod SortLemmas
 pub mod WalkLemmas
 pub mod EndpointLemmas
-pub mod SweepLemmas
-pub mod SymbolLemmas
-pub mod OrderedLemmas
-pub mod ListedLemmas
-pub mod PartLemmas
 pub mod WalkingLemmas
 pub mod MessageLemmas
 pub mod PlanLemmas

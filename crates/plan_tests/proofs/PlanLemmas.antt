@@ -20,21 +20,20 @@ use Rattle.plan_model.specs.declared.dense.Dense.{Dense}
 use Rattle.plan_model.specs.declared.lines.PlannedLine.{PlannedLine}
 use Rattle.plan_model.specs.declared.refusals.PlanWhy.{PlanWhy}
 use Rattle.plan_tests.specs.Answers.{distance_of}
-use Rattle.plan_tests.specs.Judging.{IsPlaced}
-use Rattle.plan_tests.specs.Parts.{HasEndpoint, stream_of, timed}
+use Rattle.plan_parts.specs.Placing.{IsPlaced}
+use Rattle.plan_parts.specs.Parts.{HasEndpoint, timed}
+use Rattle.plan_tests.specs.Walks.{stream_of, limits_of, walked}
 use Rattle.plan_tests.specs.Placed.{placed_on, placed_from, stopped_from}
 use Rattle.plan_tests.specs.Slots.{refused_along}
-use Rattle.plan_tests.specs.Walks.{limits_of, walked}
-use Rattle.plan_tests.proofs.EndpointLemmas.{at_is}
+use Rattle.plan_parts.proofs.PlacingLemmas.{at_is}
 use Rattle.plan_tests.proofs.MessageLemmas.{walked_is}
 use Rattle.plan_tests.proofs.PlacedLemmas.{refused_apart, placed_all}
-use Rattle.plan_tests.proofs.RunLemmas.{all_in}
-use Rattle.plan_tests.proofs.SortLemmas.{all_index}
+use Rattle.plan_parts.proofs.ListLemmas.{all_in, all_index}
 
 -- ---- dense messages
 
 pub sendings_are : (c : Config) (up : Bool) (lines : List PlannedLine) (ep : ℕ) (e : EndpointConfig)
-    → walked (limits_of c up) (map (timed up) (parts_in lines (stream_of up) ep e)) ≡ sendings c lines (stream_of up) ep e
+    → walked (limits_of c up) (map (timed (stream_of up)) (parts_in lines (stream_of up) ep e)) ≡ sendings c lines (stream_of up) ep e
 unfolding messages_of
 sendings_are c true lines ep e = sym (walked_is c true (frames_in c (stream_of true)) (λ m. refl) (parts_in lines (stream_of true) ep e))
 sendings_are c false lines ep e = sym (walked_is c false (frames_in c (stream_of false)) (λ m. refl) (parts_in lines (stream_of false) ep e))
@@ -66,11 +65,6 @@ lesser_along (Some p) (Some q) (Some r) = go (nat_lt q.number p.number) refl (na
     go true e false f = rw (f, e) refl
     go false e true f = refl
     go false e false f = rw (not_less p.number q.number r.number e f, e) refl
-
-pub has_endpoint : (es : List EndpointConfig) (lines : List PlannedLine) (ep : ℕ) (d : EndpointConfig) → AllByRecursion (IsPlaced es) lines → HasEndpoint lines ep (get_or es ep d)
-has_endpoint es lines ep d all = λ p m e.
-    let is = all_in (IsPlaced es) lines p all m in
-    sym (ap (λ (i : ℕ). get_or es i d) (sym e) ∙ at_is es p.ep p.endpoint d is.at)
 
 pub dense_more : (c : Config) (lines : List PlannedLine) (up : Bool) (ep : ℕ) (first found new : Option Dense) (d : EndpointConfig) → ep < length c.endpoints
     → lesser first (dense_from c lines (stream_of up) (distance_of c.delays up) ep (drop ep c.endpoints)) ≡ dense_from c lines (stream_of up) (distance_of c.delays up) 0 c.endpoints

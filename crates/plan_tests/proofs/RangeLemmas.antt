@@ -5,13 +5,7 @@ use Rattle.std.proofs.lemmas.Bool.{cases_eq, or_cases, and_parts, and_from, or_l
 use Rattle.unit_model.specs.Lists.{every, some}
 use Rattle.unit_model.specs.Claims.{is_from}
 use Rattle.plan_model.specs.Validity.{meet}
-use Rattle.plan_tests.specs.Slots.{IsIn}
-
--- two tests that follow from one another
-pub same_tests : (a b : Bool) → (a ≡ true → b ≡ true) → (b ≡ true → a ≡ true) → a ≡ b
-same_tests true b f g = sym (f refl)
-same_tests false true f g = g refl
-same_tests false false f g = refl
+use Rattle.plan_parts.specs.Placing.{IsIn}
 
 pub every_at : (from n : ℕ) (p : ℕ → Bool) (k : ℕ) → every from n p ≡ true → from ≤ k → k < from + n → p k ≡ true
 unfolding every

@@ -13,24 +13,23 @@ use Rattle.plan_model.specs.Lines.{allocation_of}
 use Rattle.plan_model.specs.declared.lines.PlannedLine.{PlannedLine}
 use Rattle.plan_model.specs.declared.refusals.PlanWhy.{PlanWhy}
 use Rattle.plan_tests.specs.Order.{slot_cmp, comes_first, AreInOrder}
-use Rattle.plan_tests.specs.Slots.{IsIn, is_home, of_home, judged, judged_in, lesser, least_along}
+use Rattle.plan_parts.specs.Placing.{IsIn}
+use Rattle.plan_tests.specs.Slots.{is_home, of_home, judged, judged_in, lesser, least_along}
 use Rattle.plan_tests.proofs.ClashLemmas.{slot_own, slot_is}
+use Rattle.plan_parts.proofs.ListLemmas.{all_in}
+use Rattle.plan_parts.proofs.ListLemmas.{all_from}
+use Rattle.plan_parts.proofs.ListLemmas.{filter_all}
+use Rattle.plan_parts.proofs.ListLemmas.{filter_none}
+use Rattle.plan_parts.proofs.ListLemmas.{filter_append}
+use Rattle.plan_parts.proofs.ListLemmas.{all_map}
+use Rattle.plan_parts.proofs.OrderLemmas.{nat_equal}
+use Rattle.plan_parts.proofs.OrderLemmas.{int_equal}
+use Rattle.plan_parts.proofs.OrderLemmas.{then_equal}
 
 -- ---- the order of slots
 
 pub slot_total : IsTotalOrder slot_cmp
 slot_total = then_total (on_total (λ (s : Slot). s.frame) int_cmp_total) (then_total (on_total (λ (s : Slot). s.subframe) nat_cmp_total) (on_total (λ (s : Slot). s.slot) nat_cmp_total))
-
-pub nat_equal : (x y : ℕ) → nat_cmp x y ≡ Equal → x ≡ y
-nat_equal x y h = by_ranked (x < y) (x ≡ y) (y < x) (nat_cmp x y) (ranked x y (nat_cmp x y) refl) (λ e l. cc) (λ e same. same) (λ e l. cc)
-
-pub int_equal : (x y : ℤ) → int_cmp x y ≡ Equal → x ≡ y
-int_equal x y h = by_ranked (x <ℤ y) (x ≡ y) (y <ℤ x) (int_cmp x y) (int_ranked x y (int_cmp x y) refl) (λ e l. cc) (λ e same. same) (λ e l. cc)
-
-pub then_equal : (a b : Ordering) → ordering_then a b ≡ Equal → (a ≡ Equal) × (b ≡ Equal)
-then_equal Less b h = cc
-then_equal Equal b h = (refl, h)
-then_equal Greater b h = cc
 
 same_fields : (a b : Slot) → a.frame ≡ b.frame → a.subframe ≡ b.subframe → a.slot ≡ b.slot → a ≡ b
 same_fields a b p q r =
@@ -61,20 +60,9 @@ pub record IsRun (p : PlannedLine) (run others : List PlannedLine) : Type 0 wher
   pub same : AllByRecursion (λ q. q.line.slot ≡ p.line.slot) run
   pub apart : (q : PlannedLine) → IsIn q others → q.line.slot ≡ p.line.slot → ⊥
 
-in_all : {X : Type 0} (P : X → Type 0) (xs : List X) (x : X) → AllByRecursion P xs → IsIn x xs → P x
-in_all P [] x all m = absurd m
-in_all P (y ∷ xs) x all m = elim m [ inl here ↦ subst P (sym here) all.0 | inr there ↦ in_all P xs x all.1 there ]
-
-pub all_in : {X : Type 0} (P : X → Type 0) (xs : List X) (x : X) → AllByRecursion P xs → IsIn x xs → P x
-all_in P xs x all m = in_all P xs x all m
-
-pub all_from : {X : Type 0} (P : X → Type 0) (xs : List X) → ((x : X) → IsIn x xs → P x) → AllByRecursion P xs
-all_from P [] h = tt
-all_from P (x ∷ xs) h = (h x (inl refl), all_from P xs (λ y m. h y (inr m)))
-
 -- what stands behind a line in order
 behind_first : (p : PlannedLine) (xs : List PlannedLine) (others : List PlannedLine) → AreInOrder (p ∷ (xs ++ others)) → (q : PlannedLine) → IsIn q others → comes_first q p ≡ false
-behind_first p [] others h q m = in_all (λ q. comes_first q p ≡ false) others q h.0 m
+behind_first p [] others h q m = all_in (λ q. comes_first q p ≡ false) others q h.0 m
 behind_first p (x ∷ xs) others h q m = behind_first p xs others (h.0.1, h.1.1) q m
 
 order_behind : (xs others : List PlannedLine) → AreInOrder (xs ++ others) → AreInOrder others
@@ -90,7 +78,7 @@ others_apart p xs (z ∷ zs) h first q m e = elim m [
   | inr there ↦
       let z_behind : comes_first z p ≡ false = behind_first p xs (z ∷ zs) h z (inl refl) in
       let order = order_behind xs (z ∷ zs) h.1 in
-      let q_behind : comes_first q z ≡ false = in_all (λ w. comes_first w z ≡ false) zs q order.0 there in
+      let q_behind : comes_first q z ≡ false = all_in (λ w. comes_first w z ≡ false) zs q order.0 there in
       let p_behind : is_lt (slot_cmp p.line.slot z.line.slot) ≡ false = subst (λ (s : Slot). is_lt (slot_cmp s z.line.slot) ≡ false) e q_behind in
       first z zs refl (tie_is z.line.slot p.line.slot z_behind p_behind)
 ]
@@ -101,23 +89,6 @@ run_is p xs others h same first = record { same = same; apart = others_apart p x
 
 -- ---- what a run leaves
 
-pub filter_all : {X : Type 0} (t : X → Bool) (xs : List X) → AllByRecursion (λ x. t x ≡ true) xs → filter t xs ≡ xs
-filter_all t [] h = refl
-filter_all {X = X} t (x ∷ xs) h = let e = h.0 in rw e (ap (λ (ys : List X). x ∷ ys) (filter_all t xs h.1))
-
-pub filter_none : {X : Type 0} (t : X → Bool) (xs : List X) → AllByRecursion (λ x. t x ≡ false) xs → filter t xs ≡ []
-filter_none t [] h = refl
-filter_none t (x ∷ xs) h = let e = h.0 in rw e (filter_none t xs h.1)
-
-pub filter_append : {X : Type 0} (t : X → Bool) (xs ys : List X) → filter t (xs ++ ys) ≡ filter t xs ++ filter t ys
-filter_append t [] ys = refl
-filter_append {X = X} t (x ∷ xs) ys = go (t x) (filter_append t xs ys)
-  where
-    go : (b : Bool) → filter t (xs ++ ys) ≡ filter t xs ++ filter t ys
-        → (let zs : List X = if b then x ∷ filter t (xs ++ ys) else filter t (xs ++ ys) in zs) ≡ (let us : List X = if b then x ∷ filter t xs else filter t xs in us) ++ filter t ys
-    go true e = ap (λ (zs : List X). x ∷ zs) e
-    go false e = e
-
 pub home_true : (ep : ℕ) (slot : Slot) (q : PlannedLine) → q.ep ≡ ep → q.line.slot ≡ slot → is_home ep slot (allocation_of q) ≡ true
 home_true ep slot q e s = and_from (q.ep == ep) _ (eq-eqb q.ep ep e) (ap (λ (t : Slot). same_slot t slot) s ∙ slot_own slot)
 
@@ -126,10 +97,6 @@ home_false ep slot q apart = elim (cases_Bool (is_home ep slot (allocation_of q)
   | inr f ↦ f
   | inl t ↦ absurd (apart (slot_is q.line.slot slot (and_parts (q.ep == ep) _ t).1))
 ]
-
-pub all_map : {X : Type 0} (P Q : X → Type 0) → ((x : X) → P x → Q x) → (xs : List X) → AllByRecursion P xs → AllByRecursion Q xs
-all_map P Q f [] h = tt
-all_map P Q f (x ∷ xs) h = (f x h.0, all_map P Q f xs h.1)
 
 pub both_all : {X : Type 0} (P Q : X → Type 0) (xs : List X) → AllByRecursion P xs → AllByRecursion Q xs → AllByRecursion (λ x. P x × Q x) xs
 both_all P Q [] h g = tt

@@ -14,15 +14,13 @@ use Rattle.plan_model.specs.declared.lines.PlannedLine.{PlannedLine}
 use Rattle.plan_tests.specs.Order.{slot_cmp, comes_first, AreInOrder}
 use Rattle.plan_tests.specs.Slots.{of_home}
 use Rattle.plan_tests.proofs.ClashLemmas.{slot_own, slot_is}
-use Rattle.plan_tests.proofs.RangeLemmas.{same_tests}
+use Rattle.plan_parts.proofs.ListLemmas.{same_tests}
 use Rattle.plan_tests.proofs.RunLemmas.{slot_total, tie_is}
+use Rattle.plan_parts.proofs.ListLemmas.{all_index}
+use Rattle.plan_parts.proofs.ListLemmas.{filter_and}
 
 pub first_ranks : IsStrictWeakOrder comes_first
 first_ranks = ranks_by slot_total (λ (p : PlannedLine). p.line.slot)
-
-pub all_index : {X : Type 0} (P : X → Type 0) (xs : List X) → ((k : ℕ) (d : X) → k < length xs → P (get_or xs k d)) → AllByRecursion P xs
-all_index P [] h = tt
-all_index P (x ∷ xs) h = (h 0 x (omega arith), all_index P xs (λ k d below. h (suc k) d (omega (arith, below))))
 
 pub sorted_order : (xs : List PlannedLine) → IsSortedBy comes_first xs → AreInOrder xs
 sorted_order [] h = tt
@@ -52,17 +50,6 @@ tied p q = same_tests _ _
 pub filter_same : {X : Type 0} (a b : X → Bool) → ((x : X) → a x ≡ b x) → (xs : List X) → filter a xs ≡ filter b xs
 filter_same a b h [] = refl
 filter_same {X = X} a b h (x ∷ xs) = ap₂ (λ (t : Bool) (ys : List X). let zs : List X = if t then x ∷ ys else ys in zs) (h x) (filter_same a b h xs)
-
-pub filter_and : {X : Type 0} (a b : X → Bool) (xs : List X) → filter (λ x. a x && b x) xs ≡ filter a (filter b xs)
-filter_and a b [] = refl
-filter_and {X = X} a b (x ∷ xs) = go (a x) (b x) refl refl (filter_and a b xs)
-  where
-    go : (s t : Bool) → a x ≡ s → b x ≡ t → filter (λ y. a y && b y) xs ≡ filter a (filter b xs)
-        → (let us : List X = if s && t then x ∷ filter (λ y. a y && b y) xs else filter (λ y. a y && b y) xs in us) ≡ filter a (let vs : List X = if t then x ∷ filter b xs else filter b xs in vs)
-    go true true e f h = rw e (ap (λ (ys : List X). x ∷ ys) h)
-    go true false e f h = h
-    go false true e f h = rw e h
-    go false false e f h = h
 
 pub homes_stay : (old new : List PlannedLine) → IsStableBy comes_first old new → (p : PlannedLine) → of_home p.ep p.line.slot new ≡ of_home p.ep p.line.slot old
 homes_stay old new stable p =

@@ -12,8 +12,10 @@ use Rattle.plan_model.specs.declared.lines.PlannedLine.{PlannedLine}
 use Rattle.plan_model.specs.declared.refusals.PlanWhy.{PlanWhy}
 use Rattle.plan_tests.specs.Judging.{IsFirstRun, IsLineOf, IsLineAt}
 use Rattle.plan_tests.specs.Order.{AreInOrder}
-use Rattle.plan_tests.specs.Slots.{IsIn, judged, judged_in, of_home, lesser, least_along}
-use Rattle.plan_tests.proofs.RunLemmas.{IsRun, run_is, home_of_run, home_of_others, least_of_run, all_in, all_from, all_map}
+use Rattle.plan_parts.specs.Placing.{IsIn}
+use Rattle.plan_tests.specs.Slots.{judged, judged_in, of_home, lesser, least_along}
+use Rattle.plan_tests.proofs.RunLemmas.{IsRun, run_is, home_of_run, home_of_others, least_of_run}
+use Rattle.plan_parts.proofs.ListLemmas.{all_in, all_from, all_map}
 
 take_all : {X : Type 0} (n : ℕ) (xs : List X) → take n xs ++ drop n xs ≡ xs
 take_all zero xs = refl

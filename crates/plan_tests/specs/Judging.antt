@@ -18,7 +18,8 @@ use Rattle.plan_model.specs.Validity.{is_out_of_range}
 use Rattle.plan_model.specs.declared.lines.PlannedLine.{PlannedLine}
 use Rattle.plan_model.specs.declared.refusals.PlanWhy.{PlanWhy}
 use Rattle.plan_model.specs.declared.refusals.PlanWhy.TheVariants.{Range, Overlap, TooManySections}
-use Rattle.plan_tests.specs.Slots.{IsIn, IsFrom, judged_in}
+use Rattle.plan_parts.specs.Placing.{IsIn}
+use Rattle.plan_tests.specs.Slots.{IsFrom, judged_in}
 
 -- a line of this endpoint, in its ranges
 pub record IsLineOf (e : EndpointConfig) (ep : ℕ) (p : PlannedLine) : Type 0 where
@@ -60,19 +61,6 @@ why_in verdict.Accepted = None
 why_in v = Some (why_of v)
 
 -- ---- an endpoint's lines
-
--- a line at its endpoint, in its ranges
-pub record IsPlaced (es : List EndpointConfig) (p : PlannedLine) : Type 0 where
-  pub at : IsAt es p.ep p.endpoint
-  pub ranges : IsPlanLine p.line
-  pub inside : is_out_of_range p.endpoint p.line ≡ false
-
--- lines of one endpoint have it whole, and each is in its ranges
-pub record ArePlaced (ps : List PlannedLine) : Type 0 where
-  pub endpoint : (p : PlannedLine) → IsIn p ps → IsEndpoint p.endpoint
-  pub same : (p q : PlannedLine) → IsIn p ps → IsIn q ps → p.ep ≡ q.ep → p.endpoint ≡ q.endpoint
-  pub ranges : (p : PlannedLine) → IsIn p ps → IsPlanLine p.line
-  pub inside : (p : PlannedLine) → IsIn p ps → is_out_of_range p.endpoint p.line ≡ false
 
 -- the index of the endpoint of lines that have one
 abbrev pub ep_of : List PlannedLine → ℕ

@@ -11,10 +11,7 @@ use Rattle.plan_model.specs.Validity.{clash, why_claimed, refused_at}
 use Rattle.plan_model.specs.declared.lines.PlannedLine.{PlannedLine}
 use Rattle.plan_model.specs.declared.refusals.PlanWhy.{PlanWhy}
 use Rattle.plan_model.specs.declared.refusals.PlanWhy.TheVariants.{Overlap, TooManySections}
-
-abbrev pub IsIn : {X : Type 0} → X → List X → Type 0
-IsIn x [] = ⊥
-IsIn x (y ∷ ys) = (x ≡ y) ⊎ IsIn x ys
+use Rattle.plan_parts.specs.Placing.{IsIn}
 
 -- a line in its ranges names an element
 pub record IsProper (a : Allocation) : Type 0 where

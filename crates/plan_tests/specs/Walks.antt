@@ -1,14 +1,19 @@
 -- Messages part by part (this project's means).
-use Rattle.std.specs.Prelude.{ℕ, pos, neg_ℤ, ◌+◌, ◌*◌, ◌<◌, ◌≤◌, ◌^◌, ◌+ℤ◌, ◌≤ℤ◌, Bool, ◌&&◌, ◌==◌, nat_lt, nat_le, min, if◌then◌else◌, List, [], ◌∷◌}
+use Rattle.std.specs.Prelude.{ℕ, pos, neg_ℤ, ◌+◌, ◌*◌, ◌<◌, ◌≤◌, ◌^◌, ◌+ℤ◌, ◌≤ℤ◌, Bool, true, false, ◌&&◌, ◌==◌, nat_lt, nat_le, min, if◌then◌else◌, List, [], ◌∷◌}
 use Rattle.std.specs.Ordering.{int_eq}
 use Rattle.window_config.specs.declared.config.Config.{Config}
 use Rattle.plan_model.specs.Departures.{departures_of}
 use Rattle.plan_model.specs.Packs.{frames_for}
 use Rattle.plan_model.specs.declared.dense.Sending.{Sending}
-use Rattle.plan_tests.specs.Parts.{stream_of}
-use Rattle.plan_tests.specs.declared.parts.TimedPart.{TimedPart}
+use Rattle.plan_model.specs.declared.streams.Stream.{Stream}
+use Rattle.plan_model.specs.declared.streams.Stream.TheVariants.{DownData, UpData}
+use Rattle.plan_parts.specs.declared.parts.TimedPart.{TimedPart}
 use Rattle.plan_tests.specs.declared.walking.Limits.{Limits}
 use Rattle.plan_tests.specs.declared.walking.OpenMessage.{OpenMessage}
+
+abbrev pub stream_of : Bool → Stream
+stream_of true = UpData
+stream_of false = DownData
 
 -- those of a configuration and direction
 abbrev pub limits_of : Config → Bool → Limits
@@ -23,10 +28,6 @@ pub record IsLimits (l : Limits) : Type 0 where
   pub from_high : l.departures.from.0 ≤ℤ pos (2 ^ 33)
   pub gap : l.departures.gap < 2 ^ 33
   pub spread : l.departures.spread < 2 ^ 33
-
-pub record IsTimed (p : TimedPart) : Type 0 where
-  pub low : neg_ℤ (pos (2 ^ 56)) ≤ℤ p.start.0
-  pub high : p.start.0 ≤ℤ pos (2 ^ 56)
 
 pub record IsOpenMessage (l : Limits) (m : OpenMessage) : Type 0 where
   pub bytes : m.bytes < 2 ^ 17

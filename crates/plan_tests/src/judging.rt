@@ -7,9 +7,10 @@ ghost use Rattle.slot_rings.specs.Rings.{has_slot};
 ghost use Rattle.plan_model.specs.Lines.{allocation_of};
 ghost use Rattle.plan_model.specs.Validity.{why_claimed};
 ghost use Rattle.plan_model.specs.declared.lines.PlannedLine.{PlannedLine as SpecLine};
-ghost use Rattle.plan_tests.specs.Judging.{ArePlaced, Covers, IsFirstRun, IsLineAt, IsLineOf, IsPlaced, ep_of, why_of};
+ghost use Rattle.plan_parts.specs.Placing.{ArePlaced, IsPlaced, IsIn};
+ghost use Rattle.plan_tests.specs.Judging.{Covers, IsFirstRun, IsLineAt, IsLineOf, ep_of, why_of};
 ghost use Rattle.plan_tests.specs.Order.{AreInOrder};
-ghost use Rattle.plan_tests.specs.Slots.{IsIn, entry_of, judged, least_along, lesser, numbered, refused_along};
+ghost use Rattle.plan_tests.specs.Slots.{entry_of, judged, least_along, lesser, numbered, refused_along};
 
 use crate::sorting::{lines_of, sort_by_slot};
 use fh_base::NoMemory;

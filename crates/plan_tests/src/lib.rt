@@ -6,7 +6,6 @@
 #![tactic(auto)]
 
 mod judging;
-mod parts;
 mod placing;
 mod sorting;
 mod testing;

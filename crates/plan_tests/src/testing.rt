@@ -8,12 +8,11 @@ ghost use Rattle.window_config.specs.declared.endpoints.EndpointConfig.{Endpoint
 ghost use Rattle.plan_model.specs.Dense.{dense, dense_from, dense_in, lesser, sendings};
 ghost use Rattle.plan_model.specs.Valid.{plan_refusal};
 ghost use Rattle.plan_tests.specs.Answers.{Answers, distance_of};
-ghost use Rattle.plan_tests.specs.Judging.{ArePlaced, IsPlaced};
-ghost use Rattle.plan_tests.specs.Parts.{HasEndpoint, stream_of};
-ghost use Rattle.plan_tests.specs.Walks.{IsLimits, limits_of};
+ghost use Rattle.plan_parts.specs.Placing.{ArePlaced, IsPlaced};
+ghost use Rattle.plan_parts.specs.Parts.{HasEndpoint};
+ghost use Rattle.plan_tests.specs.Walks.{stream_of, IsLimits, limits_of};
 
 use crate::judging::judge_lines;
-use crate::parts::parts_of;
 use crate::placing::place_lines;
 use crate::walking::{Limits, sendings};
 use fh_base::{List, NoMemory};
@@ -21,6 +20,7 @@ use fh_time::Ticks;
 use plan_model::{
     Dense, Departures, PlanWhy, PlannedLine, Stream, dense_in, down_distance, up_distance,
 };
+use plan_parts::parts_of;
 use std::alloc::Global;
 use thiserror::Error;
 use window_config::{Config, Delays, PlanLine};
@@ -36,17 +36,23 @@ pub enum PlanRefusal {
     NoMemory,
 }
 
+/// The data of one direction.
+fn stream_of(up: bool) -> Stream
+    ensures { result ≡ stream_of up }
+{
+    if up { Stream::UpData } else { Stream::DownData }
+}
+
 /// What data messages of one direction are cut by.
 fn limits_of(config: &Config, up: bool) -> Limits
     requires { IsConfig config.now }
     ensures value { result ≡ limits_of config.now up }
     ensures limits { IsLimits result }
 {
-    let stream = if up { Stream::UpData } else { Stream::DownData };
     Limits {
         pack: config.pack,
         fragment: config.fragment,
-        departures: Departures::of(config, stream),
+        departures: Departures::of(config, stream_of(up)),
     }
 }
 
@@ -88,7 +94,7 @@ fn endpoint_dense(
     ensures { IfOk result (λ o. (e : SpecEndpoint) → HasEndpoint lines.now ep e
         → o ≡ dense_in (distance_of config.now.delays up) (sendings config.now lines.now (stream_of up) ep e)) }
 {
-    let parts = parts_of(alloc, up, ep, lines)?;
+    let parts = parts_of(alloc, stream_of(up), ep, lines)?;
     let sent = sendings(alloc, &limits_of(config, up), &parts)?;
     Ok(dense_in(distance_of(&config.delays, up), &sent))
 }

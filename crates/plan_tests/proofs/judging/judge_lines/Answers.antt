@@ -1,5 +1,6 @@
 -- Endpoint after endpoint.
-use Rattle.plan_tests.proofs.EndpointLemmas.{are_placed, found_start, found_more, found_all}
+use Rattle.plan_parts.proofs.PlacingLemmas.{are_placed}
+use Rattle.plan_tests.proofs.EndpointLemmas.{found_start, found_more, found_all}
 use Rattle.plan_tests.proofs.judging.judge_lines.Goals as goal
 
 pub loop-ep-init : goal.loop-ep-init

@@ -1,7 +1,7 @@
 use Rattle.std.proofs.Common.{◌≡◌, drop}
 use Rattle.plan_model.specs.Dense.{dense_from, lesser}
 use Rattle.plan_tests.specs.Answers.{distance_of}
-use Rattle.plan_tests.specs.Parts.{stream_of}
+use Rattle.plan_tests.specs.Walks.{stream_of}
 use Rattle.plan_tests.proofs.testing.direction_dense.Given as goal
 
 abbrev pub invariant-loop-ep : goal.invariant-loop-ep

@@ -7,7 +7,7 @@ use Rattle.fh_time.specs.Numbering.{slots_of, symbols_of}
 use Rattle.window_config.specs.declared.endpoints.EndpointConfig.{EndpointConfig}
 use Rattle.unit_model.specs.Lists.{each, each_tick}
 use Rattle.unit_model.specs.Sweeps.{first_swept, slot_at}
-use Rattle.plan_tests.specs.declared.parts.TimedPart.{TimedPart}
+use Rattle.plan_parts.specs.declared.parts.TimedPart.{TimedPart}
 
 -- no key falls along the list
 abbrev pub IsRising : {A : Type 0} → (A → ℕ) → List A → Type 0

@@ -1,6 +1,6 @@
 -- What parts are sorted by.
-use Rattle.plan_tests.specs.declared.parts.PartKey.{PartKey}
-use Rattle.plan_tests.specs.declared.parts.TimedPart.{TimedPart}
+use Rattle.plan_parts.specs.declared.parts.PartKey.{PartKey}
+use Rattle.plan_parts.specs.declared.parts.TimedPart.{TimedPart}
 
 abbrev pub key_of : TimedPart → PartKey
 key_of p = record {

@@ -6,11 +6,9 @@ use Rattle.std.specs.Cmp.{IsStrictWeakOrder}
 use Rattle.std.proofs.lemmas.Bool.{cases_Bool, and_from, and_parts}
 use Rattle.std.proofs.lemmas.List.Sorted.{sorted_far}
 use Rattle.unit_model.specs.Lists.{put_in, in_order}
-use Rattle.plan_tests.specs.Parts.{AreOrderedBy}
-use Rattle.plan_tests.specs.Slots.{IsIn}
-use Rattle.plan_tests.proofs.EndpointLemmas.{filter_in, in_filter}
-use Rattle.plan_tests.proofs.RunLemmas.{all_in, all_from}
-use Rattle.plan_tests.proofs.SortLemmas.{all_index}
+use Rattle.plan_parts.specs.Parts.{AreOrderedBy}
+use Rattle.plan_parts.specs.Placing.{IsIn}
+use Rattle.plan_parts.proofs.ListLemmas.{filter_in, in_filter, all_in, all_from, all_index}
 
 pub ordered_from : {X : Type 0} (lt : X → X → Bool) → IsStrictWeakOrder lt → (xs : List X) → IsSortedBy lt xs → AreOrderedBy lt xs
 ordered_from lt o [] h = tt

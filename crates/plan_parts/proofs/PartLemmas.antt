@@ -1,5 +1,5 @@
 -- The parts in their order are those of the definition.
-use Rattle.std.proofs.Common.{◌≡◌, ℕ, ℤ, pos, neg_ℤ, zero, suc, ◌+◌, ◌*◌, ◌^◌, ◌<◌, ◌+ℤ◌, ◌*ℤ◌, ◌<ℤ◌, ◌≤ℤ◌, inl, inr, Bool, true, false, not, ◌&&◌, ◌||◌, ◌==◌, nat_lt, cond, if◌then◌else◌, List, [], ◌∷◌, ◌++◌, filter, map, refl, ap, ap₂, sym, ◌∙◌, subst, true≢false, arith}
+use Rattle.std.proofs.Common.{◌≤◌, length, ◌≡◌, ℕ, ℤ, pos, neg_ℤ, zero, suc, ◌+◌, ◌*◌, ◌^◌, ◌<◌, ◌+ℤ◌, ◌*ℤ◌, ◌<ℤ◌, ◌≤ℤ◌, inl, inr, Bool, true, false, not, ◌&&◌, ◌||◌, ◌==◌, nat_lt, cond, if◌then◌else◌, List, [], ◌∷◌, ◌++◌, filter, map, refl, ap, ap₂, sym, ◌∙◌, subst, true≢false, arith}
 use Rattle.std.specs.Int.{int_gap}
 use Rattle.std.specs.List.{AllByRecursion}
 use Rattle.std.specs.List.Sorted.{IsStableBy, ties}
@@ -11,7 +11,7 @@ use Rattle.std.proofs.lemmas.Bool.{and_parts, and_from, eqb-true, eq-eqb}
 use Rattle.std.proofs.lemmas.Bool.Decides.{Decides-int_eq}
 use Rattle.std.proofs.lemmas.Cmp.{by_ranked, ranked, int_ranked, nat_cmp_total, int_cmp_total, on_total, then_total, tied_itself}
 use Rattle.std.proofs.lemmas.Int.{ints}
-use Rattle.std.proofs.lemmas.List.{map-append}
+use Rattle.std.proofs.lemmas.List.{map-append, length-map}
 use Rattle.std.proofs.lemmas.List.Sorted.{ranks_by}
 use Rattle.fh_time.specs.Air.{air_of}
 use Rattle.fh_time.specs.Kinds.{kind_start}
@@ -27,20 +27,18 @@ use Rattle.unit_laws.proofs.FrameLemmas.{frames_of_symbol, symbol_short}
 use Rattle.plan_model.specs.Lines.{allocation_of}
 use Rattle.plan_model.specs.Streams.{part_in, has_part, line_before, symbol_parts, parts_in}
 use Rattle.plan_model.specs.declared.lines.PlannedLine.{PlannedLine}
-use Rattle.plan_tests.specs.Judging.{ArePlaced}
-use Rattle.plan_tests.specs.Parts.{stream_of, if_up, timed, listed, prb_cmp, part_cmp, part_first, AreOrderedBy, HasEndpoint}
-use Rattle.plan_tests.specs.Slots.{IsIn}
-use Rattle.plan_tests.specs.Sweeping.{clock_of, is_at, of_endpoint, IsPart, Precedes, AreOrdered}
-use Rattle.plan_tests.specs.Walks.{IsTimed}
-use Rattle.plan_tests.specs.declared.parts.TimedPart.{TimedPart}
-use Rattle.plan_tests.proofs.EndpointLemmas.{filter_in, in_filter}
-use Rattle.plan_tests.proofs.KnowLemmas.{inside_is}
-use Rattle.plan_tests.proofs.ListedLemmas.{Named, named_is, listed_at}
-use Rattle.plan_tests.proofs.OrderedLemmas.{ordered_filter, ordered_weaker, ordered_same, in_order_ordered, in_order_keeps, filter_map}
-use Rattle.plan_tests.proofs.RangeLemmas.{same_tests}
-use Rattle.plan_tests.proofs.RunLemmas.{all_in, all_from, all_map, filter_all, nat_equal, int_equal, then_equal}
-use Rattle.plan_tests.proofs.SortLemmas.{filter_and}
-use Rattle.plan_tests.proofs.SymbolLemmas.{filter_alike, sweeps_find_all}
+use Rattle.plan_model.specs.declared.streams.Stream.{Stream}
+use Rattle.plan_model.specs.declared.streams.Stream.TheVariants.{DownCommands, UpCommands, DownData, UpData}
+use Rattle.plan_parts.specs.Placing.{ArePlaced, IsIn}
+use Rattle.plan_parts.specs.Parts.{is_up_data, symbols_in, if_up, timed, listed, prb_cmp, part_cmp, part_first, AreOrderedBy, HasEndpoint, IsTimed}
+use Rattle.plan_parts.specs.Sweeping.{clock_of, is_at, of_endpoint, IsPart, Precedes, AreOrdered}
+use Rattle.plan_parts.specs.declared.parts.TimedPart.{TimedPart}
+use Rattle.plan_parts.proofs.ListLemmas.{filter_in, in_filter, same_tests, all_in, all_from, all_map, filter_all, filter_and}
+use Rattle.plan_parts.proofs.InsideLemmas.{inside_is, size_small}
+use Rattle.plan_parts.proofs.ListedLemmas.{Named, named_is, listed_at, listed_few, few_symbols}
+use Rattle.plan_parts.proofs.OrderedLemmas.{ordered_filter, ordered_weaker, ordered_same, in_order_ordered, in_order_keeps, filter_map}
+use Rattle.plan_parts.proofs.OrderLemmas.{nat_equal, int_equal, then_equal}
+use Rattle.plan_parts.proofs.SymbolLemmas.{filter_alike, sweeps_find_all}
 
 abbrev pub ticks_in_all : ℕ
 ticks_in_all = int_gap first_clock (end_of_time +ℤ pos 1)
@@ -137,9 +135,9 @@ all_precede (x ∷ ys) h = (all_map (λ y. part_first y x ≡ false) (λ y. Prec
 
 -- ---- what is known of each part
 
-pub record Fact (up : Bool) (e : EndpointConfig) (y : TimedPart) : Type 0 where
+pub record Fact (stream : Stream) (e : EndpointConfig) (y : TimedPart) : Type 0 where
   pub part : IsPart (clock_of e) first_clock ticks_in_all y
-  pub plain : up ≡ false → (y.start_prb ≡ 0) × (y.num_prb ≡ 0) × (y.section ≡ 0)
+  pub plain : is_up_data stream ≡ false → (y.start_prb ≡ 0) × (y.num_prb ≡ 0) × (y.section ≡ 0)
 
 no_prb : (up : Bool) (n : ℕ) → up ≡ false → if_up up n ≡ 0
 no_prb true n h = cc
@@ -149,8 +147,8 @@ in_time : (frame start : ℤ) (offset : ℕ) → pos 1 ≤ℤ frame → frame �
     → (first_clock ≤ℤ start) × (start <ℤ (end_of_time +ℤ pos 1))
 in_time frame start offset low high few is = (omega (arith, ints), omega (arith, ints))
 
-pub fact_is : (up : Bool) (ep : ℕ) (ps : List PlannedLine) (e : EndpointConfig) → ArePlaced ps → HasEndpoint ps ep e → (x : TimedPart) → Named up ep ps x → Fact up e x
-fact_is up ep ps e placed ends x n = subst (Fact up e) (sym n.is) (record { part = part; plain = λ h. (no_prb up _ h, no_prb up _ h, no_prb up _ h) })
+pub fact_is : (stream : Stream) (ep : ℕ) (ps : List PlannedLine) (e : EndpointConfig) → ArePlaced ps → HasEndpoint ps ep e → (x : TimedPart) → Named stream ep ps x → Fact stream e x
+fact_is stream ep ps e placed ends x n = subst (Fact stream e) (sym n.is) (record { part = part; plain = λ h. (no_prb (is_up_data stream) _ h, no_prb (is_up_data stream) _ h, no_prb (is_up_data stream) _ h) })
   where
     same : n.line.endpoint ≡ e
     same = ends n.line n.there n.ep_is
@@ -162,7 +160,12 @@ fact_is up ep ps e placed ends x n = subst (Fact up e) (sym n.is) (record { part
     slot_ok = record { subframe = (placed.ranges n.line n.there).subframe; slot = (inside_is n.line (placed.inside n.line n.there)).slot }
 
     symbol_ok : n.symbol < symbols_of n.line.endpoint.numerology
-    symbol_ok = let w = (inside_is n.line (placed.inside n.line n.there)).within in let h = n.high in omega (arith, w, h)
+    symbol_ok =
+        let inside = inside_is n.line (placed.inside n.line n.there) in
+        let w = inside.within in
+        let few = few_symbols stream n.line inside.some in
+        let h = n.high in
+        omega (arith, w, h, few)
 
     near : (first_swept (at n.line.endpoint) ≤ℤ n.line.line.slot.frame) × (n.line.line.slot.frame <ℤ (first_swept (at n.line.endpoint) +ℤ pos 6))
     near = frames_of_symbol n.line.endpoint.numerology n.line.line.slot n.symbol (offsets_short n.line.endpoint.numerology) slot_ok symbol_ok
@@ -172,7 +175,7 @@ fact_is up ep ps e placed ends x n = subst (Fact up e) (sym n.is) (record { part
         (placed.ranges n.line n.there).frame_low (placed.ranges n.line n.there).frame_high
         (symbol_short n.line.endpoint.numerology n.line.line.slot n.symbol (offsets_short n.line.endpoint.numerology) slot_ok symbol_ok) refl
 
-    part : IsPart (clock_of e) first_clock ticks_in_all (timed up (part_in n.symbol n.line))
+    part : IsPart (clock_of e) first_clock ticks_in_all (timed stream (part_in n.symbol n.line))
     part = record {
       starts = ap at same;
       low = near.0;
@@ -225,8 +228,8 @@ from_parts f b l y z a =
     and_from (int_eq z.frame f) _ ((Decides-int_eq z.frame f).1 a.frame)
     (and_from (z.subframe == b) _ (eq-eqb z.subframe b a.subframe) (and_from (z.slot == l) _ (eq-eqb z.slot l a.slot) (eq-eqb z.symbol y a.symbol)))
 
-start_at : (e : EndpointConfig) (up : Bool) (f : ℤ) (b l y : ℕ) (z : TimedPart) → Fact up e z → AtSymbol f b l y z → z.start.0 ≡ air_of e.numerology (slot_at f b l) y
-start_at e up f b l y z fact a =
+start_at : (e : EndpointConfig) (stream : Stream) (f : ℤ) (b l y : ℕ) (z : TimedPart) → Fact stream e z → AtSymbol f b l y z → z.start.0 ≡ air_of e.numerology (slot_at f b l) y
+start_at e stream f b l y z fact a =
     fact.part.starts ∙ ap (λ (i : ℤ). air_of e.numerology (slot_at i z.subframe z.slot) z.symbol) a.frame
     ∙ ap (λ (i : ℕ). air_of e.numerology (slot_at f i z.slot) z.symbol) a.subframe
     ∙ ap (λ (i : ℕ). air_of e.numerology (slot_at f b i) z.symbol) a.slot ∙ ap (λ (i : ℕ). air_of e.numerology (slot_at f b l) i) a.symbol
@@ -249,21 +252,21 @@ same_place x z h =
     let k = then_equal (nat_cmp x.symbol z.symbol) (prb_cmp x z) d.1 in
     (int_equal x.frame z.frame b.0, nat_equal x.subframe z.subframe c.0, nat_equal x.slot z.slot d.0, nat_equal x.symbol z.symbol k.0, k.1)
 
-tie_parts : (up : Bool) (e : EndpointConfig) (f : ℤ) (b l y : ℕ) (x z : TimedPart) → Fact up e z
+tie_parts : (stream : Stream) (e : EndpointConfig) (f : ℤ) (b l y : ℕ) (x z : TimedPart) → Fact stream e z
     → ties part_first (at_symbol e f b l y x) z ≡ (ties prb_first x z && is_at f b l y z)
 unfolding at_symbol
-tie_parts up e f b l y x z fact = same_tests _ _
+tie_parts stream e f b l y x z fact = same_tests _ _
     (λ h. let s = same_place (at_symbol e f b l y x) z (tied_equal part_total (at_symbol e f b l y x) z h) in
     and_from (ties prb_first x z) _ (equal_tied prb_total x z s.4)
     (from_parts f b l y z (record { frame = sym s.0; subframe = sym s.1; slot = sym s.2; symbol = sym s.3 })))
     (λ h. let w = and_parts (ties prb_first x z) (is_at f b l y z) h in
     let a = at_parts f b l y z w.1 in
     equal_tied part_total (at_symbol e f b l y x) z
-    (one_symbol (at_symbol e f b l y x) z (sym (start_at e up f b l y z fact a)) (sym a.frame) (sym a.subframe) (sym a.slot) (sym a.symbol) ∙ tied_equal prb_total x z w.0))
+    (one_symbol (at_symbol e f b l y x) z (sym (start_at e stream f b l y z fact a)) (sym a.frame) (sym a.subframe) (sym a.slot) (sym a.symbol) ∙ tied_equal prb_total x z w.0))
 
 -- ---- the order of the radio unit
 
-before_is : (p q : PlannedLine) (y : ℕ) → line_before p q ≡ prb_first (timed true (part_in y p)) (timed true (part_in y q))
+before_is : (p q : PlannedLine) (y : ℕ) → line_before p q ≡ prb_first (timed UpData (part_in y p)) (timed UpData (part_in y q))
 before_is p q y = go (nat_lt p.line.start_prb q.line.start_prb) (p.line.start_prb == q.line.start_prb) (nat_lt p.line.num_prb q.line.num_prb) (p.line.num_prb == q.line.num_prb)
     (nat_lt p.line.section q.line.section) (p.line.section == q.line.section)
   where
@@ -284,13 +287,13 @@ before_ranks y = record {
 }
   where
     t : PlannedLine → TimedPart
-    t p = timed true (part_in y p)
+    t p = timed UpData (part_in y p)
 
-ordered_map : (y : ℕ) (ps : List PlannedLine) → AreOrderedBy line_before ps → AreOrderedBy prb_first (map (λ p. timed true (part_in y p)) ps)
+ordered_map : (y : ℕ) (ps : List PlannedLine) → AreOrderedBy line_before ps → AreOrderedBy prb_first (map (λ p. timed UpData (part_in y p)) ps)
 ordered_map y [] h = tt
 ordered_map y (p ∷ ps) h = (all_mapped ps h.0, ordered_map y ps h.1)
   where
-    all_mapped : (qs : List PlannedLine) → AllByRecursion (λ q. line_before q p ≡ false) qs → AllByRecursion (λ z. prb_first z (timed true (part_in y p)) ≡ false) (map (λ q. timed true (part_in y q)) qs)
+    all_mapped : (qs : List PlannedLine) → AllByRecursion (λ q. line_before q p ≡ false) qs → AllByRecursion (λ z. prb_first z (timed UpData (part_in y p)) ≡ false) (map (λ q. timed UpData (part_in y q)) qs)
     all_mapped [] a = tt
     all_mapped (q ∷ qs) a = (sym (before_is q p y) ∙ a.0, all_mapped qs a.1)
 
@@ -304,81 +307,90 @@ none_first x a b h g =
 
 -- ---- all
 
-module _ (up : Bool) (e : EndpointConfig) (ep : ℕ) (lines : List PlannedLine) (ys : List TimedPart) (stable : IsStableBy part_first (map (timed up) (listed up ep lines)) ys)
+module _ (stream : Stream) (e : EndpointConfig) (ep : ℕ) (lines : List PlannedLine) (ys : List TimedPart) (stable : IsStableBy part_first (map (timed stream) (listed stream ep lines)) ys)
     (order : AreOrderedBy part_first ys) (placed : ArePlaced lines) (ends : HasEndpoint lines ep e) where
   xs : List TimedPart
-  xs = map (timed up) (listed up ep lines)
+  xs = map (timed stream) (listed stream ep lines)
 
-  x_facts : AllByRecursion (Fact up e) xs
+  x_facts : AllByRecursion (Fact stream e) xs
   unfolding xs
-  x_facts = all_from (Fact up e) (map (timed up) (listed up ep lines)) (λ x m. fact_is up ep lines e placed ends x (named_is up ep lines x m))
+  x_facts = all_from (Fact stream e) (map (timed stream) (listed stream ep lines)) (λ x m. fact_is stream ep lines e placed ends x (named_is stream ep lines x m))
 
-  y_facts : AllByRecursion (Fact up e) ys
+  y_facts : AllByRecursion (Fact stream e) ys
   unfolding xs
-  y_facts = all_from (Fact up e) ys (λ y m.
+  y_facts = all_from (Fact stream e) ys (λ y m.
       let there : IsIn y (filter (ties part_first y) ys) = filter_in (ties part_first y) ys y m (equal_tied part_total y y (tied_itself part_total y)) in
-      all_in (Fact up e) (map (timed up) (listed up ep lines)) y x_facts (in_filter (ties part_first y) (map (timed up) (listed up ep lines)) y (subst (IsIn y) (stable y) there)).0)
+      all_in (Fact stream e) (map (timed stream) (listed stream ep lines)) y x_facts (in_filter (ties part_first y) (map (timed stream) (listed stream ep lines)) y (subst (IsIn y) (stable y) there)).0)
 
   symbol_stable : (f : ℤ) (b l y : ℕ) (x : TimedPart) → filter (ties prb_first x) (filter (is_at f b l y) ys) ≡ filter (ties prb_first x) (filter (is_at f b l y) xs)
   unfolding xs
   symbol_stable f b l y x =
       sym (filter_and (ties prb_first x) (is_at f b l y) ys)
-      ∙ sym (filter_alike (Fact up e) (ties part_first (at_symbol e f b l y x)) (λ z. ties prb_first x z && is_at f b l y z) (λ z fact. tie_parts up e f b l y x z fact) ys y_facts)
+      ∙ sym (filter_alike (Fact stream e) (ties part_first (at_symbol e f b l y x)) (λ z. ties prb_first x z && is_at f b l y z) (λ z fact. tie_parts stream e f b l y x z fact) ys y_facts)
       ∙ stable (at_symbol e f b l y x)
-      ∙ filter_alike (Fact up e) (ties part_first (at_symbol e f b l y x)) (λ z. ties prb_first x z && is_at f b l y z) (λ z fact. tie_parts up e f b l y x z fact) (map (timed up) (listed up ep lines)) x_facts
-      ∙ filter_and (ties prb_first x) (is_at f b l y) (map (timed up) (listed up ep lines))
+      ∙ filter_alike (Fact stream e) (ties part_first (at_symbol e f b l y x)) (λ z. ties prb_first x z && is_at f b l y z) (λ z fact. tie_parts stream e f b l y x z fact) (map (timed stream) (listed stream ep lines)) x_facts
+      ∙ filter_and (ties prb_first x) (is_at f b l y) (map (timed stream) (listed stream ep lines))
 
   symbol_ordered : (f : ℤ) (b l y : ℕ) → AreOrderedBy prb_first (filter (is_at f b l y) ys)
   symbol_ordered f b l y =
-      ordered_weaker part_first prb_first (λ z. Fact up e z × (is_at f b l y z ≡ true))
+      ordered_weaker part_first prb_first (λ z. Fact stream e z × (is_at f b l y z ≡ true))
       (λ z w a c h. let p = at_parts f b l y z a.1 in let q = at_parts f b l y w c.1 in
-      sym (ap (λ (o : Ordering). is_lt o) (one_symbol w z (start_at e up f b l y w c.0 q ∙ sym (start_at e up f b l y z a.0 p)) (q.frame ∙ sym p.frame) (q.subframe ∙ sym p.subframe)
+      sym (ap (λ (o : Ordering). is_lt o) (one_symbol w z (start_at e stream f b l y w c.0 q ∙ sym (start_at e stream f b l y z a.0 p)) (q.frame ∙ sym p.frame) (q.subframe ∙ sym p.subframe)
       (q.slot ∙ sym p.slot) (q.symbol ∙ sym p.symbol))) ∙ h)
       (filter (is_at f b l y) ys)
-      (all_from (λ z. Fact up e z × (is_at f b l y z ≡ true)) (filter (is_at f b l y) ys) (λ z m. let r = in_filter (is_at f b l y) ys z m in (all_in (Fact up e) ys z y_facts r.0, r.1)))
+      (all_from (λ z. Fact stream e z × (is_at f b l y z ≡ true)) (filter (is_at f b l y) ys) (λ z m. let r = in_filter (is_at f b l y) ys z m in (all_in (Fact stream e) ys z y_facts r.0, r.1)))
       (ordered_filter part_first (is_at f b l y) ys order)
 
 abbrev zero_part : TimedPart
 zero_part = record { start = record { 0 = pos 0 }; frame = pos 0; subframe = 0; slot = 0; symbol = 0; start_prb = 0; num_prb = 0; section = 0; size = 0; line = 0 }
 
-zero_tied : (e : EndpointConfig) (z : TimedPart) → Fact false e z → ties prb_first zero_part z ≡ true
-zero_tied e z fact =
-    let p = fact.plain refl in
+zero_tied : (stream : Stream) (e : EndpointConfig) (z : TimedPart) → is_up_data stream ≡ false → Fact stream e z → ties prb_first zero_part z ≡ true
+zero_tied stream e z plain fact =
+    let p = fact.plain plain in
     equal_tied prb_total zero_part z
     (ap (λ (o : Ordering). ordering_then o (ordering_then (nat_cmp 0 z.num_prb) (nat_cmp 0 z.section))) (nat_tied 0 z.start_prb (sym p.0))
     ∙ ap (λ (o : Ordering). ordering_then o (nat_cmp 0 z.section)) (nat_tied 0 z.num_prb (sym p.1)) ∙ nat_tied 0 z.section (sym p.2))
 
-map_twice : (up : Bool) (y : ℕ) (ps : List PlannedLine) → map (timed up) (map (part_in y) ps) ≡ map (λ p. timed up (part_in y p)) ps
-map_twice up y [] = refl
-map_twice up y (p ∷ ps) = ap (λ (zs : List TimedPart). timed up (part_in y p) ∷ zs) (map_twice up y ps)
+map_twice : (stream : Stream) (y : ℕ) (ps : List PlannedLine) → map (timed stream) (map (part_in y) ps) ≡ map (λ p. timed stream (part_in y p)) ps
+map_twice stream y [] = refl
+map_twice stream y (p ∷ ps) = ap (λ (zs : List TimedPart). timed stream (part_in y p) ∷ zs) (map_twice stream y ps)
 
-pub symbol_is : (up : Bool) (e : EndpointConfig) (ep : ℕ) (lines : List PlannedLine) (ys : List TimedPart) → IsStableBy part_first (map (timed up) (listed up ep lines)) ys
+-- where lines alone order a symbol's parts
+plain_symbol : (stream : Stream) → is_up_data stream ≡ false → (e : EndpointConfig) (ep : ℕ) (lines : List PlannedLine) (ys : List TimedPart) → IsStableBy part_first (map (timed stream) (listed stream ep lines)) ys
     → AreOrderedBy part_first ys → ArePlaced lines → HasEndpoint lines ep e → (f : ℤ) (b l y : ℕ)
-    → filter (is_at f b l y) ys ≡ map (timed up) (symbol_parts (stream_of up) lines ep (slot_at f b l) y)
-unfolding symbol_parts xs
-symbol_is false e ep lines ys stable order placed ends f b l y =
-    let all = λ (zs : List TimedPart) (facts : AllByRecursion (Fact false e) zs).
+    → filter (is_at f b l y) ys ≡ map (timed stream) (map (part_in y) (filter (λ p. has_part stream ep (slot_at f b l) y (allocation_of p)) lines))
+unfolding xs
+plain_symbol stream plain e ep lines ys stable order placed ends f b l y =
+    let all = λ (zs : List TimedPart) (facts : AllByRecursion (Fact stream e) zs).
     filter_all (ties prb_first zero_part) (filter (is_at f b l y) zs)
-    (all_from (λ z. ties prb_first zero_part z ≡ true) (filter (is_at f b l y) zs) (λ z m. zero_tied e z (all_in (Fact false e) zs z facts (in_filter (is_at f b l y) zs z m).0))) in
-    sym (all ys (y_facts false e ep lines ys stable order placed ends))
-    ∙ symbol_stable false e ep lines ys stable order placed ends f b l y zero_part
-    ∙ all (map (timed false) (listed false ep lines)) (x_facts false e ep lines ys stable order placed ends)
-    ∙ listed_at false ep lines f b l y
-    ∙ sym (map_twice false y (filter (λ p. has_part (stream_of false) ep (slot_at f b l) y (allocation_of p)) lines))
-symbol_is true e ep lines ys stable order placed ends f b l y =
-    let fs : List PlannedLine = filter (λ p. has_part (stream_of true) ep (slot_at f b l) y (allocation_of p)) lines in
-    ordered_same prb_first prb_ranks (filter (is_at f b l y) ys) (map (λ p. timed true (part_in y p)) (in_order line_before fs))
-    (symbol_ordered true e ep lines ys stable order placed ends f b l y)
+    (all_from (λ z. ties prb_first zero_part z ≡ true) (filter (is_at f b l y) zs) (λ z m. zero_tied stream e z plain (all_in (Fact stream e) zs z facts (in_filter (is_at f b l y) zs z m).0))) in
+    sym (all ys (y_facts stream e ep lines ys stable order placed ends))
+    ∙ symbol_stable stream e ep lines ys stable order placed ends f b l y zero_part
+    ∙ all (map (timed stream) (listed stream ep lines)) (x_facts stream e ep lines ys stable order placed ends)
+    ∙ listed_at stream ep lines f b l y
+    ∙ sym (map_twice stream y (filter (λ p. has_part stream ep (slot_at f b l) y (allocation_of p)) lines))
+
+pub symbol_is : (stream : Stream) (e : EndpointConfig) (ep : ℕ) (lines : List PlannedLine) (ys : List TimedPart) → IsStableBy part_first (map (timed stream) (listed stream ep lines)) ys
+    → AreOrderedBy part_first ys → ArePlaced lines → HasEndpoint lines ep e → (f : ℤ) (b l y : ℕ)
+    → filter (is_at f b l y) ys ≡ map (timed stream) (symbol_parts stream lines ep (slot_at f b l) y)
+unfolding symbol_parts xs
+symbol_is DownCommands e ep lines ys stable order placed ends f b l y = plain_symbol DownCommands refl e ep lines ys stable order placed ends f b l y
+symbol_is UpCommands e ep lines ys stable order placed ends f b l y = plain_symbol UpCommands refl e ep lines ys stable order placed ends f b l y
+symbol_is DownData e ep lines ys stable order placed ends f b l y = plain_symbol DownData refl e ep lines ys stable order placed ends f b l y
+symbol_is UpData e ep lines ys stable order placed ends f b l y =
+    let fs : List PlannedLine = filter (λ p. has_part UpData ep (slot_at f b l) y (allocation_of p)) lines in
+    ordered_same prb_first prb_ranks (filter (is_at f b l y) ys) (map (λ p. timed UpData (part_in y p)) (in_order line_before fs))
+    (symbol_ordered UpData e ep lines ys stable order placed ends f b l y)
     (ordered_map y (in_order line_before fs) (in_order_ordered line_before (before_ranks y) fs))
     (λ x.
-    symbol_stable true e ep lines ys stable order placed ends f b l y x
-    ∙ ap (filter (ties prb_first x)) (listed_at true ep lines f b l y)
-    ∙ filter_map (λ p. timed true (part_in y p)) (ties prb_first x) fs
-    ∙ ap (map (λ p. timed true (part_in y p)))
-    (sym (in_order_keeps line_before (λ p. ties prb_first x (timed true (part_in y p)))
-    (λ p q h g. before_is p q y ∙ none_first x (timed true (part_in y p)) (timed true (part_in y q)) h g) fs))
-    ∙ sym (filter_map (λ p. timed true (part_in y p)) (ties prb_first x) (in_order line_before fs)))
-    ∙ sym (map_twice true y (in_order line_before fs))
+    symbol_stable UpData e ep lines ys stable order placed ends f b l y x
+    ∙ ap (filter (ties prb_first x)) (listed_at UpData ep lines f b l y)
+    ∙ filter_map (λ p. timed UpData (part_in y p)) (ties prb_first x) fs
+    ∙ ap (map (λ p. timed UpData (part_in y p)))
+    (sym (in_order_keeps line_before (λ p. ties prb_first x (timed UpData (part_in y p)))
+    (λ p q h g. before_is p q y ∙ none_first x (timed UpData (part_in y p)) (timed UpData (part_in y q)) h g) fs))
+    ∙ sym (filter_map (λ p. timed UpData (part_in y p)) (ties prb_first x) (in_order line_before fs)))
+    ∙ sym (map_twice UpData y (in_order line_before fs))
 
 -- ---- the sweep
 
@@ -398,19 +410,19 @@ if_map : {X Y : Type 0} (t : X → Y) (c : Bool) (xs : List X) (ys : List Y) →
 if_map t true xs ys h = h
 if_map t false xs ys h = refl
 
-pub parts_are : (up : Bool) (e : EndpointConfig) (ep : ℕ) (lines : List PlannedLine) (ys : List TimedPart) → IsStableBy part_first (map (timed up) (listed up ep lines)) ys
-    → AreOrderedBy part_first ys → ArePlaced lines → HasEndpoint lines ep e → ys ≡ map (timed up) (parts_in lines (stream_of up) ep e)
+pub parts_are : (stream : Stream) (e : EndpointConfig) (ep : ℕ) (lines : List PlannedLine) (ys : List TimedPart) → IsStableBy part_first (map (timed stream) (listed stream ep lines)) ys
+    → AreOrderedBy part_first ys → ArePlaced lines → HasEndpoint lines ep e → ys ≡ map (timed stream) (parts_in lines stream ep e)
 unfolding parts_in swept of_frame of_subframe of_slot
-parts_are up e ep lines ys stable order placed ends =
+parts_are stream e ep lines ys stable order placed ends =
     sym (sweeps_find_all (clock_of e) ys first_clock ticks_in_all (all_precede ys order)
-    (all_map (Fact up e) (IsPart (clock_of e) first_clock ticks_in_all) (λ y fact. fact.part) ys (y_facts up e ep lines ys stable order placed ends)))
-    ∙ map_ticks (timed up) first_clock ticks_in_all _ (of_endpoint (clock_of e) ys) (λ s.
-    map_each (timed up) 0 6 _ _ (λ k.
-    map_each (timed up) 0 10 _ _ (λ b.
-    map_each (timed up) 0 (slots_of e.numerology) _ _ (λ l.
-    map_each (timed up) 0 (symbols_of e.numerology) _ _ (λ y.
-    if_map (timed up) (int_eq (air_of e.numerology (slot_at (first_swept s +ℤ pos k) b l) y) s) _ _
-    (symbol_is up e ep lines ys stable order placed ends (first_swept s +ℤ pos k) b l y))))))
+    (all_map (Fact stream e) (IsPart (clock_of e) first_clock ticks_in_all) (λ y fact. fact.part) ys (y_facts stream e ep lines ys stable order placed ends)))
+    ∙ map_ticks (timed stream) first_clock ticks_in_all _ (of_endpoint (clock_of e) ys) (λ s.
+    map_each (timed stream) 0 6 _ _ (λ k.
+    map_each (timed stream) 0 10 _ _ (λ b.
+    map_each (timed stream) 0 (slots_of e.numerology) _ _ (λ l.
+    map_each (timed stream) 0 (symbols_of e.numerology) _ _ (λ y.
+    if_map (timed stream) (int_eq (air_of e.numerology (slot_at (first_swept s +ℤ pos k) b l) y) s) _ _
+    (symbol_is stream e ep lines ys stable order placed ends (first_swept s +ℤ pos k) b l y))))))
 
 -- ---- times that can be told
 
@@ -420,10 +432,35 @@ bounded t low high =
     let h : t <ℤ (end_of_time +ℤ pos 1) = subst (λ (x : ℤ). t <ℤ x) g high in
     (omega (arith, ints), omega (arith, ints))
 
-pub all_timed : (up : Bool) (ep : ℕ) (lines : List PlannedLine) (ys : List TimedPart) → IsStableBy part_first (map (timed up) (listed up ep lines)) ys → ArePlaced lines → AllByRecursion IsTimed ys
-all_timed up ep lines ys stable placed = all_from IsTimed ys (λ y m.
+pub all_timed : (stream : Stream) (ep : ℕ) (lines : List PlannedLine) (ys : List TimedPart) → IsStableBy part_first (map (timed stream) (listed stream ep lines)) ys → ArePlaced lines → AllByRecursion IsTimed ys
+all_timed stream ep lines ys stable placed = all_from IsTimed ys (λ y m.
     let there : IsIn y (filter (ties part_first y) ys) = filter_in (ties part_first y) ys y m (equal_tied part_total y y (tied_itself part_total y)) in
-    let n = named_is up ep lines y (in_filter (ties part_first y) (map (timed up) (listed up ep lines)) y (subst (IsIn y) (stable y) there)).0 in
-    let fact = fact_is up ep lines n.line.endpoint placed (λ p k e. placed.same p n.line k n.there (e ∙ sym n.ep_is)) y n in
+    let n = named_is stream ep lines y (in_filter (ties part_first y) (map (timed stream) (listed stream ep lines)) y (subst (IsIn y) (stable y) there)).0 in
+    let fact = fact_is stream ep lines n.line.endpoint placed (λ p k e. placed.same p n.line k n.there (e ∙ sym n.ep_is)) y n in
     let b = bounded y.start.0 fact.part.begun fact.part.ended in
-    record { low = b.0; high = b.1 })
+    record {
+      low = b.0;
+      high = b.1;
+      size = subst (λ (x : TimedPart). x.size ≤ 13383) (sym n.is) (size_small n.line (placed.endpoint n.line n.there) (placed.inside n.line n.there));
+    })
+
+pub few_parts : (stream : Stream) (ep : ℕ) (lines : List PlannedLine) (xs ys : List TimedPart) → xs ≡ map (timed stream) (listed stream ep lines) → length ys ≡ length xs → ArePlaced lines
+    → length ys ≤ 15 * length lines
+few_parts stream ep lines xs ys is same placed =
+    let few = listed_few stream ep lines (λ p m. few_of p m) in
+    let e : length xs ≡ length (listed stream ep lines) = ap length is ∙ length-map (listed stream ep lines) (timed stream) in
+    omega (arith, few, e, same)
+  where
+    few_of : (p : PlannedLine) → IsIn p lines → symbols_in stream p ≤ 15
+    few_of p m =
+        let few = few_symbols stream p (inside_is p (placed.inside p m)).some in
+        let most = (placed.ranges p m).count in
+        omega (arith, few, most)
+
+-- each is of one of the lines
+pub lines_below : (stream : Stream) (ep : ℕ) (lines : List PlannedLine) (ys : List TimedPart) → IsStableBy part_first (map (timed stream) (listed stream ep lines)) ys → (most : ℕ)
+    → AllByRecursion (λ p. p.index < most) lines → AllByRecursion (λ y. y.line < most) ys
+lines_below stream ep lines ys stable most all = all_from (λ y. y.line < most) ys (λ y m.
+    let there : IsIn y (filter (ties part_first y) ys) = filter_in (ties part_first y) ys y m (equal_tied part_total y y (tied_itself part_total y)) in
+    let n = named_is stream ep lines y (in_filter (ties part_first y) (map (timed stream) (listed stream ep lines)) y (subst (IsIn y) (stable y) there)).0 in
+    subst (λ (x : TimedPart). x.line < most) (sym n.is) (all_in (λ p. p.index < most) lines n.line all n.there))

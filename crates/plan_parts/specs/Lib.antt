@@ -1,0 +1,4 @@
+pub mod Placing
+pub mod Sweeping
+pub mod Parts
+pub mod Keys
