@@ -1,8 +1,8 @@
 -- Ranges of what messages are cut by (this project's profile).
 use Rattle.std.specs.Prelude.{ℕ, pos, neg_ℤ, ⊤, ◌^◌, ◌<◌, ◌≤◌, ◌≤ℤ◌, Option, Some, None}
+use Rattle.plan_parts.specs.Parts.{IsTimed}
 use Rattle.plan_runs.specs.declared.limits.Limits.{Limits}
 use Rattle.plan_runs.specs.declared.open_messages.OpenMessage.{OpenMessage}
-use Rattle.plan_runs.specs.declared.open_messages.PlacedPart.{PlacedPart}
 
 abbrev pub IsFragment : Option ℕ → Type 0
 IsFragment None = ⊤
@@ -16,13 +16,8 @@ pub record IsLimits (l : Limits) : Type 0 where
   pub gap : l.departures.gap < 2 ^ 33
   pub spread : l.departures.spread < 2 ^ 33
 
-pub record IsPlaced (p : PlacedPart) : Type 0 where
-  pub low : neg_ℤ (pos (2 ^ 56)) ≤ℤ p.start.0
-  pub high : p.start.0 ≤ℤ pos (2 ^ 56)
-  pub size : p.size ≤ 13383
-
 pub record IsOpenMessage (l : Limits) (m : OpenMessage) : Type 0 where
-  pub first : IsPlaced m.first
+  pub first : IsTimed m.first
   pub parts : m.parts ≤ 65
   pub bytes : m.bytes ≤ 16384
   pub wait : m.wait ≤ l.departures.spread

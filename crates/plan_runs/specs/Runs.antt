@@ -1,16 +1,17 @@
 -- The messages of a stream by its parts.
-use Rattle.std.specs.Prelude.{◌≡◌, ℕ, List, map, Option, Some, None}
+use Rattle.std.specs.Prelude.{◌≡◌, ℕ, ◌+◌, List, [], ◌∷◌, length, map, Option, Some, None}
 use Rattle.window_config.specs.declared.config.Config.{Config}
 use Rattle.window_config.specs.declared.endpoints.EndpointConfig.{EndpointConfig}
-use Rattle.plan_model.specs.Departures.{departures_of, start_of}
-use Rattle.plan_model.specs.Streams.{Part, most_parts, parts_in, section_size}
+use Rattle.plan_model.specs.Departures.{departures_of}
+use Rattle.plan_model.specs.Packs.{Message, packs, parts_of}
+use Rattle.plan_model.specs.Streams.{part_fields, most_parts, parts_in}
 use Rattle.plan_model.specs.declared.lines.PlannedLine.{PlannedLine}
 use Rattle.plan_model.specs.declared.streams.Stream.{Stream}
 use Rattle.plan_model.specs.declared.streams.Stream.TheVariants.{DownCommands, UpCommands, DownData, UpData}
 use Rattle.sent_order.specs.Runs.{place_of, stream_runs}
+use Rattle.plan_parts.specs.Parts.{timed}
 use Rattle.plan_runs.specs.Walks.{walked}
 use Rattle.plan_runs.specs.declared.limits.Limits.{Limits}
-use Rattle.plan_runs.specs.declared.open_messages.PlacedPart.{PlacedPart}
 
 -- a command goes in one frame
 abbrev pub fragment_of : Config → Stream → Option ℕ
@@ -28,16 +29,17 @@ limits_of c stream ep = record {
   departures = departures_of c stream;
 }
 
-abbrev pub placed : Part → PlacedPart
-placed p = record {
-  start = record { 0 = start_of p };
-  slot = p.planned.line.slot;
-  symbol = p.symbol;
-  size = section_size p.planned.endpoint p.planned.line.num_prb;
-}
-
 -- What the walk over a stream's parts finds are the messages of its definition, each with all its frames.
 abbrev pub PartsMakeRuns : Type 0
 PartsMakeRuns =
     (c : Config) (lines : List PlannedLine) (stream : Stream) (ep : ℕ) (e : EndpointConfig)
-    → walked (limits_of c stream ep) (map placed (parts_in lines stream ep e)) ≡ stream_runs c lines stream ep e
+    → walked (limits_of c stream ep) (map (timed stream) (parts_in lines stream ep e)) ≡ stream_runs c lines stream ep e
+
+-- where messages begin among all their parts, the first of them at this place
+unfoldable pub begins_of : {P : Type 0} → ℕ → List (Message P) → List ℕ
+begins_of place [] = []
+begins_of place (m ∷ ms) = place ∷ begins_of (place + length (parts_of m)) ms
+
+-- those of a stream
+abbrev pub stream_begins : Config → List PlannedLine → Stream → ℕ → EndpointConfig → List ℕ
+stream_begins c lines stream ep e = begins_of 0 (packs part_fields (most_parts c stream) (parts_in lines stream ep e))

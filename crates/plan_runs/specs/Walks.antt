@@ -1,25 +1,26 @@
 -- Messages part by part (this project's means).
 use Rattle.std.specs.Prelude.{ℕ, pos, ◌+◌, ◌*◌, ◌+ℤ◌, Bool, ◌&&◌, ◌==◌, nat_lt, nat_le, min, if◌then◌else◌, List, [], ◌∷◌, Option, Some, None}
 use Rattle.unit_model.specs.Claims.{same_slot}
+use Rattle.unit_model.specs.Sweeps.{slot_at}
 use Rattle.plan_model.specs.Packs.{frames_for}
 use Rattle.frame_order.specs.declared.turns.Run.{Run}
 use Rattle.plan_runs.specs.declared.limits.Limits.{Limits}
 use Rattle.plan_runs.specs.declared.open_messages.OpenMessage.{OpenMessage}
-use Rattle.plan_runs.specs.declared.open_messages.PlacedPart.{PlacedPart}
+use Rattle.plan_parts.specs.declared.parts.TimedPart.{TimedPart}
 
-abbrev pub same_place : PlacedPart → PlacedPart → Bool
-same_place a b = same_slot a.slot b.slot && (a.symbol == b.symbol)
+abbrev pub same_place : TimedPart → TimedPart → Bool
+same_place a b = same_slot (slot_at a.frame a.subframe a.slot) (slot_at b.frame b.subframe b.slot) && (a.symbol == b.symbol)
 
-abbrev pub alone : PlacedPart → ℕ → ℕ → OpenMessage
+abbrev pub alone : TimedPart → ℕ → ℕ → OpenMessage
 alone p number wait = record { first = p; parts = 1; bytes = 4 + p.size; number = number; wait = wait }
 
-abbrev pub first_message : PlacedPart → OpenMessage
+abbrev pub first_message : TimedPart → OpenMessage
 first_message p = alone p 0 0
 
-abbrev pub takes_more : ℕ → OpenMessage → PlacedPart → Bool
+abbrev pub takes_more : ℕ → OpenMessage → TimedPart → Bool
 takes_more pack m p = same_place m.first p && (nat_lt m.parts pack && nat_le (m.bytes + p.size) 16384)
 
-abbrev pub grown : OpenMessage → PlacedPart → OpenMessage
+abbrev pub grown : OpenMessage → TimedPart → OpenMessage
 grown m p = record { first = m.first; parts = m.parts + 1; bytes = m.bytes + p.size; number = m.number; wait = m.wait }
 
 abbrev pub frames_of : Option ℕ → ℕ → ℕ
@@ -27,11 +28,11 @@ frames_of None bytes = 1
 frames_of (Some most) bytes = frames_for most bytes
 
 -- the next message waits for the frames of this one, where it is of its symbol
-abbrev pub wait_behind : Limits → OpenMessage → PlacedPart → ℕ
+abbrev pub wait_behind : Limits → OpenMessage → TimedPart → ℕ
 wait_behind l m p =
     if same_place p m.first then min (m.wait + frames_of l.fragment m.bytes * l.departures.gap) l.departures.spread else 0
 
-abbrev pub next_to : Limits → OpenMessage → PlacedPart → OpenMessage
+abbrev pub next_to : Limits → OpenMessage → TimedPart → OpenMessage
 next_to l m p = alone p (m.number + 1) (wait_behind l m p)
 
 abbrev pub run_from : Limits → OpenMessage → Run
@@ -42,10 +43,20 @@ run_from l m = record {
 }
 
 -- the messages from one on, where these parts follow
-unfoldable pub walk : Limits → OpenMessage → List PlacedPart → List Run
+unfoldable pub walk : Limits → OpenMessage → List TimedPart → List Run
 walk l m [] = run_from l m ∷ []
 walk l m (p ∷ ps) = if takes_more l.pack m p then walk l (grown m p) ps else run_from l m ∷ walk l (next_to l m p) ps
 
-abbrev pub walked : Limits → List PlacedPart → List Run
+abbrev pub walked : Limits → List TimedPart → List Run
 walked l [] = []
 walked l (p ∷ ps) = walk l (first_message p) ps
+
+-- where the messages behind one begin among the parts, where these parts follow and the first of them has this place
+unfoldable pub later_begins : Limits → OpenMessage → ℕ → List TimedPart → List ℕ
+later_begins l m place [] = []
+later_begins l m place (p ∷ ps) =
+    if takes_more l.pack m p then later_begins l (grown m p) (place + 1) ps else place ∷ later_begins l (next_to l m p) (place + 1) ps
+
+abbrev pub begins : Limits → List TimedPart → List ℕ
+begins l [] = []
+begins l (p ∷ ps) = 0 ∷ later_begins l (first_message p) 1 ps

@@ -7,64 +7,84 @@ ghost use Rattle.plan_model.specs.Streams.{parts_in};
 ghost use Rattle.plan_model.specs.declared.lines.PlannedLine.{PlannedLine as SpecLine};
 ghost use Rattle.plan_model.specs.declared.streams.Stream.{Stream as SpecStream};
 ghost use Rattle.sent_order.specs.Runs.{stream_runs};
-ghost use Rattle.plan_runs.specs.Runs.{limits_of, placed};
-ghost use Rattle.plan_runs.specs.Ranges.{IsLimits, IsOpenMessage, IsPlaced};
-ghost use Rattle.plan_runs.specs.Walks.{walk, walked};
-ghost use Rattle.plan_runs.specs.declared.open_messages.PlacedPart.{PlacedPart as SpecPart};
+ghost use Rattle.plan_parts.specs.Parts.{IsTimed, timed};
+ghost use Rattle.plan_runs.specs.Runs.{limits_of, stream_begins};
+ghost use Rattle.plan_runs.specs.Ranges.{IsLimits, IsOpenMessage};
+ghost use Rattle.plan_runs.specs.Walks.{begins, later_begins, walk, walked};
+ghost use Rattle.plan_parts.specs.declared.parts.TimedPart.{TimedPart as SpecPart};
 
 use crate::limits::Limits;
-use crate::open_messages::{
-    OpenMessage, PlacedPart, first_message, grown, next_to, run_from, takes_more,
-};
+use crate::open_messages::{OpenMessage, first_message, grown, next_to, run_from, takes_more};
 use fh_base::NoMemory;
 use frame_order::Run;
+use plan_parts::TimedPart;
 use std::alloc::Global;
 
-/// Gives a part to a message, or begins another one with it and appends the message that is whole.
+/// The messages of a stream, in their order.
+#[derive(Drop)]
+pub struct Messages {
+    /// Each with all its frames.
+    pub runs: Vec<Run>,
+    /// The place of each one's first part among the parts of the stream.
+    pub begins: Vec<u32>,
+}
+
+/// Gives a part, which has this place, to a message, or begins another one with it and appends the message that is whole.
 fn step(
     limits: &Limits,
     message: &OpenMessage,
-    part: &PlacedPart,
-    runs: &mut Vec<Run>,
+    part: &TimedPart,
+    place: u32,
+    messages: &mut Messages,
 ) -> Result<OpenMessage, NoMemory>
     requires limits { IsLimits limits.now }
     requires message { IsOpenMessage limits.now message.now }
     requires number { message.now.number < 2 ^ 24 }
-    requires part { IsPlaced part.now }
-    ensures walk { IfOk result (λ m. (rest : List SpecPart) → runs.new.items ++ walk limits.now m rest ≡ runs.old.items ++ walk limits.now message.now (part.now ∷ rest)) }
+    requires part { IsTimed part.now }
+    ensures walk { IfOk result (λ m. (rest : List SpecPart) → messages.new.runs.items ++ walk limits.now m rest ≡ messages.old.runs.items ++ walk limits.now message.now (part.now ∷ rest)) }
+    ensures begins { IfOk result (λ m. (rest : List SpecPart)
+        → messages.new.begins.items ++ later_begins limits.now m (place + 1) rest ≡ messages.old.begins.items ++ later_begins limits.now message.now place (part.now ∷ rest)) }
     ensures open { IfOk result (λ m. IsOpenMessage limits.now m) }
     ensures number { IfOk result (λ m. m.number ≤ message.now.number + 1) }
 {
     if takes_more(limits.pack, message, part) {
         return Ok(grown(message, part));
     }
-    runs.push(run_from(limits, message))?;
+    messages.runs.push(run_from(limits, message))?;
+    messages.begins.push(place)?;
     Ok(next_to(limits, message, part))
 }
 
-/// The messages of an endpoint's stream, in their order, each with all its frames, by the stream's parts in their order.
+/// The messages of an endpoint's stream, by the stream's parts in their order.
 ///
 /// `NoMemory` where memory cannot be had.
-pub fn message_runs(
+pub fn stream_messages(
     alloc: Global,
     limits: &Limits,
-    parts: &[PlacedPart],
-) -> Result<Vec<Run>, NoMemory>
+    parts: &[TimedPart],
+) -> Result<Messages, NoMemory>
     requires limits { IsLimits limits.now }
-    requires parts { AllByRecursion IsPlaced parts.now }
+    requires parts { AllByRecursion IsTimed parts.now }
     requires few { length parts.now ≤ 2 ^ 24 }
-    ensures walked { IfOk result (λ v. v.items ≡ walked limits.now parts.now) }
+    ensures walked { IfOk result (λ v. v.runs.items ≡ walked limits.now parts.now) }
     ensures runs { IfOk result (λ v. (c : SpecConfig) → (lines : List SpecLine) → (stream : SpecStream) → (ep : ℕ) → (e : SpecEndpoint)
-        → limits.now ≡ limits_of c stream ep → parts.now ≡ map placed (parts_in lines stream ep e) → v.items ≡ stream_runs c lines stream ep e) }
+        → limits.now ≡ limits_of c stream ep → parts.now ≡ map (timed stream) (parts_in lines stream ep e) → v.runs.items ≡ stream_runs c lines stream ep e) }
+    ensures begun { IfOk result (λ v. v.begins.items ≡ begins limits.now parts.now) }
+    ensures begins { IfOk result (λ v. (c : SpecConfig) → (lines : List SpecLine) → (stream : SpecStream) → (ep : ℕ) → (e : SpecEndpoint)
+        → limits.now ≡ limits_of c stream ep → parts.now ≡ map (timed stream) (parts_in lines stream ep e) → v.begins.items ≡ stream_begins c lines stream ep e) }
 {
-    let mut runs = Vec::new(alloc);
+    let mut messages = Messages {
+        runs: Vec::new(alloc),
+        begins: Vec::new(alloc),
+    };
     if parts.is_empty() {
-        return Ok(runs);
+        return Ok(messages);
     }
     let mut message = first_message(&parts[0]);
+    messages.begins.push(0)?;
     for k in 1..parts.len() {
-        message = step(limits, &message, &parts[k], &mut runs)?;
+        message = step(limits, &message, &parts[k], k as u32, &mut messages)?;
     }
-    runs.push(run_from(limits, &message))?;
-    Ok(runs)
+    messages.runs.push(run_from(limits, &message))?;
+    Ok(messages)
 }

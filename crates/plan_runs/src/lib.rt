@@ -8,7 +8,6 @@ mod open_messages;
 #[cfg(test)]
 mod tests;
 
-pub use cutting::message_runs;
+pub use cutting::{Messages, stream_messages};
 pub use laws::parts_make_runs;
 pub use limits::Limits;
-pub use open_messages::PlacedPart;

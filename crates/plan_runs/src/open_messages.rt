@@ -4,27 +4,15 @@ ghost use Rattle.plan_runs.specs.Ranges.{IsFragment, IsLimits, IsOpenMessage};
 ghost use Rattle.plan_runs.specs.Walks.{first_message, frames_of, grown, next_to, run_from, same_place, takes_more};
 
 use crate::limits::Limits;
-use fh_time::{Slot, Ticks};
 use frame_order::{Run, Turn};
 use plan_model::frame_count;
-use unit_model::same_slot;
-
-/// A line in one of its symbols: when that starts, and the bytes of the line's U-plane section.
-#[derive(Clone, Copy, Debug, PartialEq, Eq)]
-pub struct PlacedPart {
-    /// When the symbol starts.
-    pub start: Ticks,
-    pub slot: Slot,
-    pub symbol: u8,
-    /// With the section's headers.
-    pub size: u16,
-}
+use plan_parts::TimedPart;
 
 /// A message that may take more parts: its first part, how many parts and application bytes it has, its number, and how long behind
 /// the first frame of its symbol its own first one leaves.
 #[derive(Clone, Copy, Debug, PartialEq, Eq)]
 pub(crate) struct OpenMessage {
-    pub(crate) first: PlacedPart,
+    pub(crate) first: TimedPart,
     pub(crate) parts: usize,
     pub(crate) bytes: usize,
     pub(crate) number: u32,
@@ -32,14 +20,15 @@ pub(crate) struct OpenMessage {
 }
 
 /// Whether two parts are of one slot and symbol.
-fn same_place(a: &PlacedPart, b: &PlacedPart) -> bool
+fn same_place(a: &TimedPart, b: &TimedPart) -> bool
     ensures { result ≡ same_place a.now b.now }
 {
-    same_slot(&a.slot, &b.slot) && a.symbol == b.symbol
+    let same_slot = a.frame == b.frame && a.subframe == b.subframe && a.slot == b.slot;
+    same_slot && a.symbol == b.symbol
 }
 
 /// A message of one part; the header has 4 bytes.
-fn alone(part: &PlacedPart, number: u32, wait: u64) -> OpenMessage
+fn alone(part: &TimedPart, number: u32, wait: u64) -> OpenMessage
     ensures first { result.first ≡ part.now }
     ensures parts { result.parts ≡ 1 }
     ensures bytes { result.bytes ≡ 4 + part.now.size }
@@ -56,14 +45,14 @@ fn alone(part: &PlacedPart, number: u32, wait: u64) -> OpenMessage
 }
 
 /// The first message, with its first part.
-pub(crate) fn first_message(part: &PlacedPart) -> OpenMessage
+pub(crate) fn first_message(part: &TimedPart) -> OpenMessage
     ensures { result ≡ first_message part.now }
 {
     alone(part, 0, 0)
 }
 
 /// Whether a message takes a part more: of its symbol, and where it has room for it.
-pub(crate) fn takes_more(pack: usize, m: &OpenMessage, part: &PlacedPart) -> bool
+pub(crate) fn takes_more(pack: usize, m: &OpenMessage, part: &TimedPart) -> bool
     requires bytes { m.now.bytes ≤ 16384 }
     ensures { result ≡ takes_more pack m.now part.now }
 {
@@ -71,7 +60,7 @@ pub(crate) fn takes_more(pack: usize, m: &OpenMessage, part: &PlacedPart) -> boo
 }
 
 /// The message with one part more.
-pub(crate) fn grown(m: &OpenMessage, part: &PlacedPart) -> OpenMessage
+pub(crate) fn grown(m: &OpenMessage, part: &TimedPart) -> OpenMessage
     requires bytes { m.now.bytes ≤ 16384 }
     requires parts { m.now.parts < 2 ^ 63 }
     ensures { result ≡ grown m.now part.now }
@@ -97,7 +86,7 @@ fn frames_of(fragment: Option<usize>, bytes: usize) -> usize
 }
 
 /// The message of one part behind another.
-pub(crate) fn next_to(limits: &Limits, m: &OpenMessage, part: &PlacedPart) -> OpenMessage
+pub(crate) fn next_to(limits: &Limits, m: &OpenMessage, part: &TimedPart) -> OpenMessage
     requires limits { IsLimits limits.now }
     requires message { IsOpenMessage limits.now m.now }
     requires number { m.now.number < 2 ^ 24 }

@@ -1,28 +1,31 @@
 // Messages of parts, worked out by hand.
 ghost use Rattle.std.specs.Prelude.{pos, ◌≤◌, ◌≤ℤ◌};
-ghost use Rattle.plan_runs.specs.Ranges.{IsPlaced};
+ghost use Rattle.plan_parts.specs.Parts.{IsTimed};
 
-use crate::{Limits, PlacedPart, message_runs, parts_make_runs};
+use crate::{Limits, parts_make_runs, stream_messages};
 use fh_base::NoMemory;
-use fh_time::{Slot, Ticks};
+use fh_time::Ticks;
 use frame_order::{Run, Turn};
 use plan_model::Departures;
+use plan_parts::TimedPart;
 
-fn part(start: Ticks, symbol: u8, size: u16) -> PlacedPart
+fn part(start: Ticks, symbol: u8, size: u16) -> TimedPart
     requires low { pos 0 ≤ℤ start.0 }
     requires high { start.0 ≤ℤ pos 10000 }
     requires size { size ≤ 13383 }
-    ensures { IsPlaced result }
+    ensures { IsTimed result }
 {
-    PlacedPart {
+    TimedPart {
         start,
-        slot: Slot {
-            frame: 1,
-            subframe: 0,
-            slot: 0,
-        },
+        frame: 1,
+        subframe: 0,
+        slot: 0,
         symbol,
+        start_prb: 0,
+        num_prb: 0,
+        section: 0,
         size,
+        line: 0,
     }
 }
 
@@ -61,16 +64,22 @@ fn parts_are_cut(rt: HostRuntime) -> Result<(), NoMemory> {
         part(Ticks(1000), 0, 996),
         part(Ticks(2000), 1, 997),
     ];
-    let runs = message_runs(rt.alloc(), &limits, &parts)?;
+    let messages = stream_messages(rt.alloc(), &limits, &parts)?;
     let wanted = [
         run(700, 811, 0, 2),
         run(811, 811, 1, 1),
         run(1700, 1811, 2, 2),
     ];
-    assert_eq!(rt; runs.len(), 3);
+    assert_eq!(rt; messages.runs.len(), 3);
     for k in 0..3 {
-        assert_eq!(rt; runs.get(k), Some(&wanted[k]));
+        assert_eq!(rt; messages.runs.get(k), Some(&wanted[k]));
     }
+
+    // They begin with parts 0, 2 and 3.
+    assert_eq!(rt; messages.begins.len(), 3);
+    assert_eq!(rt; messages.begins.get(0), Some(&0));
+    assert_eq!(rt; messages.begins.get(1), Some(&2));
+    assert_eq!(rt; messages.begins.get(2), Some(&3));
 
     // Commands: one part each, in one frame.
     let commands = Limits {
@@ -78,18 +87,18 @@ fn parts_are_cut(rt: HostRuntime) -> Result<(), NoMemory> {
         fragment: None,
         ..limits
     };
-    let runs = message_runs(rt.alloc(), &commands, &parts)?;
+    let messages = stream_messages(rt.alloc(), &commands, &parts)?;
     let wanted = [
         run(700, 811, 0, 1),
         run(760, 811, 1, 1),
         run(811, 811, 2, 1),
         run(1700, 1811, 3, 1),
     ];
-    assert_eq!(rt; runs.len(), 4);
+    assert_eq!(rt; messages.runs.len(), 4);
     for k in 0..4 {
-        assert_eq!(rt; runs.get(k), Some(&wanted[k]));
+        assert_eq!(rt; messages.runs.get(k), Some(&wanted[k]));
     }
-    assert_eq!(rt; message_runs(rt.alloc(), &limits, &[])?.len(), 0);
+    assert_eq!(rt; stream_messages(rt.alloc(), &limits, &[])?.runs.len(), 0);
     parts_make_runs();
     Ok(())
 }
