@@ -1,6 +1,5 @@
 pub mod LineFields
 pub mod CommandRead
-pub mod PartFacts
 pub mod Fragments
 pub mod Gathered
 pub mod MessageSays

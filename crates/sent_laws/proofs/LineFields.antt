@@ -30,7 +30,7 @@ use Rattle.plan_model.specs.declared.lines.PlannedLine.{PlannedLine}
 use Rattle.schedule_laws.proofs.LineLemmas.{IsGoodLine}
 use Rattle.schedule_laws.proofs.TimeLemmas.{id_below}
 use Rattle.frame_bytes.specs.Commands.{IsCommand}
-use Rattle.sent_laws.specs.Commands.{beam_of, body_for, channel_body, command_head, command_section, comp_of, frame_id_of}
+use Rattle.sent_frames.specs.Commands.{beam_of, body_for, channel_body, command_head, command_section, comp_of, frame_id_of}
 
 -- ---- the frame's low 8 bits
 

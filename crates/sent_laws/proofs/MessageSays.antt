@@ -1,18 +1,14 @@
 -- A message's bytes say the sections of its lines.
 use Rattle.std.proofs.Common.{◌≡◌, ℕ, ℤ, pos, zero, suc, ◌+◌, ◌-◌, ◌<◌, ◌≤◌, ◌^◌, inl, inr, true, List, [], ◌∷◌, ◌++◌, length, map, Some, None, refl, ap, sym, ◌∙◌, subst, arith, append-nil}
-use Rattle.std.specs.Prelude.{All}
 use Rattle.std.specs.List.{slice_get, slice_index_or}
 use Rattle.std.specs.Option.{option_map_or}
 use Rattle.std.proofs.lemmas.Bool.{cases_lt}
-use Rattle.std.proofs.lemmas.List.Elements.{All-cons}
 use Rattle.std.proofs.lemmas.Option.{get_or_from_slice_get, slice_get-get_or}
-use Rattle.fh_time.specs.Carrier.{count_of, is_outside}
-use Rattle.fh_time.specs.Numbering.{shape_of, slots_of, symbols_of}
+use Rattle.fh_time.specs.Carrier.{count_of}
+use Rattle.fh_time.specs.Numbering.{shape_of, slots_of}
 use Rattle.fh_time.specs.declared.values.Shape.{Shape}
 use Rattle.fh_time.specs.declared.values.Slot.{Slot}
-use Rattle.fh_time.proofs.Order.{symbols_few}
 use Rattle.air_source.specs.declared.events.Side.TheVariants.{Ru}
-use Rattle.bfp_codec.specs.Layout.{HasWidth}
 use Rattle.bfp_codec.specs.Shrunk.{CanPack, shrunk}
 use Rattle.bfp_codec.specs.declared.samples.Iq.{Iq}
 use Rattle.uplane_sections.specs.Messages.{Head, Telling, told}
@@ -28,7 +24,7 @@ use Rattle.unit_model.specs.declared.decoded.Data.{Data}
 use Rattle.plan_model.specs.Lines.{allocation_of}
 use Rattle.plan_model.specs.Packs.{Message, parts_of, size_of}
 use Rattle.plan_model.specs.Streams.{Part, part_fields}
-use Rattle.frame_bytes.specs.Messages.{SectionFits, head_fields, message_of, sections_of}
+use Rattle.frame_bytes.specs.Messages.{head_fields, message_of, sections_of}
 use Rattle.frame_bytes.specs.Reading.{IsReadable, sections_items}
 use Rattle.frame_bytes.specs.Spelled.{in_bytes}
 use Rattle.frame_bytes.specs.declared.messages.Carrier.{Carrier}
@@ -37,12 +33,12 @@ use Rattle.frame_bytes.proofs.ReadBack.{head_written, sections_say}
 use Rattle.schedule_laws.specs.Data.{AreSections, Blocks, IsDataFor}
 use Rattle.schedule_laws.proofs.ListLemmas.{at_in}
 use Rattle.schedule_laws.proofs.RangeLemmas.{from_high, from_low}
-use Rattle.sent_laws.specs.Commands.{frame_id_of}
+use Rattle.sent_frames.specs.Commands.{frame_id_of}
 use Rattle.sent_laws.specs.Frames.{blocks_of}
-use Rattle.sent_laws.specs.Messages.{Source, carrier_of, data_head, data_section, message_bytes, message_samples, part_samples}
+use Rattle.sent_frames.specs.Messages.{Source, carrier_of, data_head, data_section, message_bytes, message_samples, part_samples}
 use Rattle.sent_laws.proofs.Gathered.{block_in, read_part, read_parts, sections_gathered, shrunk_blocks}
-use Rattle.sent_laws.proofs.LineFields.{at_most_nine, below_four, frame_id_is, frame_id_small}
-use Rattle.sent_laws.proofs.PartFacts.{IsGoodMessage, IsGoodPart, message_size_is}
+use Rattle.sent_laws.proofs.LineFields.{at_most_nine, frame_id_is, frame_id_small}
+use Rattle.sent_frames.proofs.MessageFacts.{IsGoodMessage, IsGoodPart, all_map, message_fits}
 
 -- ---- what is told
 
@@ -56,10 +52,6 @@ message_told k shape source h ss r =
     let whole = ap (told k.format k.prbs shape) (sym (append-nil bytes)) ∙ says [] in
     let items = append-nil (Head h ∷ sections_items k h.symbol source 0 ss) in
     rw items at whole
-
-all_map : {X Y : Type 0} (P : Y → Type 0) (f : X → Y) (xs : List X) → ((x : X) → IsIn x xs → P (f x)) → All P (map f xs)
-all_map P f [] h = λ k d below. absurd (omega (arith, below))
-all_map P f (x ∷ xs) h = All-cons P (f x) (map f xs) (h x (inl refl)) (all_map P f xs (λ y i. h y (inr i)))
 
 -- what is at a place of a list is in it, or what is answered past its end
 in_or : {X : Type 0} (xs : List X) (k : ℕ) (d : X) → IsIn d xs → IsIn (slice_index_or xs k d) xs
@@ -105,18 +97,9 @@ module _ (blocks : Blocks) (first last : ℤ) (as_data : ReadPart → Data) (at_
 
 -- ---- a message of an endpoint
 
-module _ (c : Config) (ep : ℕ) (e : EndpointConfig) (source : Source) (m : Message Part) (g : IsGoodMessage c ep e m) (short : size_of part_fields m ≤ 16384) (can : (slot : Slot) (symbol prb : ℕ) → CanPack e.format.method (source (cell_at ep true slot symbol prb))) where
+module _ (c : Config) (ep : ℕ) (e : EndpointConfig) (source : Source) (m : Message Part) (g : IsGoodMessage c ep e m) (nums : (x : Part) → IsIn x (parts_of m) → x.planned.line.num_prb < 2 ^ 8) (short : size_of part_fields m ≤ 16384) (can : (slot : Slot) (symbol prb : ℕ) → CanPack e.format.method (source (cell_at ep true slot symbol prb))) where
   one : IsGoodPart c ep e m.first
   one = g.each m.first (inl refl)
-
-  section_fits : (x : Part) → IsIn x (parts_of m) → SectionFits (carrier_of e) (data_section x)
-  section_fits x i =
-      let p = g.each x i in
-      record {
-        id = p.line.fits.section;
-        start_prb = p.line.fits.start_prb;
-        within = ap (λ (f : EndpointConfig). is_outside f.prbs x.planned.line.start_prb x.planned.line.num_prb) (sym p.endpoint_is) ∙ p.line.prbs;
-      }
 
   can_be_packed : (place prb : ℕ) → CanPack e.format.method (message_samples source m place prb)
   can_be_packed place prb =
@@ -126,19 +109,9 @@ module _ (c : Config) (ep : ℕ) (e : EndpointConfig) (source : Source) (m : Mes
 
   readable : IsReadable (carrier_of e) (shape_of e.numerology) (message_samples source m) (data_head m.first) (map data_section (parts_of m))
   readable = record {
-    fits = record {
-      head = record {
-        filter = omega arith;
-        subframe = below_four m.first.planned.line.slot.subframe one.line.fits.subframe;
-        slot = one.line.fits.slot;
-        symbol = below_six m.first.symbol (symbols_of e.numerology) one.symbol (symbols_few e.numerology).1;
-      };
-      width = subst (λ (f : EndpointConfig). HasWidth f.format.method) one.endpoint_is one.line.endpoint.width;
-      sections = all_map (SectionFits (carrier_of e)) data_section (parts_of m) section_fits;
-      size = subst (λ n. n ≤ 16384) (sym (message_size_is c ep e m g)) short;
-    };
+    fits = message_fits c ep e m g short;
     frame_id = frame_id_small m.first.planned.line.slot.frame;
-    num_prbs = all_map (λ (s : DataSection). s.num_prb < 2 ^ 8) data_section (parts_of m) (λ x i. (g.each x i).num_prb);
+    num_prbs = all_map (λ (s : DataSection). s.num_prb < 2 ^ 8) data_section (parts_of m) nums;
     admitted = record {
       subframe = at_most_nine m.first.planned.line.slot.subframe one.line.fits.subframe;
       slot = subst (λ (f : EndpointConfig). m.first.planned.line.slot.slot < slots_of f.numerology) one.endpoint_is one.line.slot;

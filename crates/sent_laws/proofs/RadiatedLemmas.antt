@@ -16,8 +16,9 @@ use Rattle.schedule_laws.proofs.CellLemmas.{plan_radiates}
 use Rattle.schedule_laws.proofs.LeastLemmas.{least_arrive}
 use Rattle.schedule_laws.proofs.ListLemmas.{in_map, in_onto, of_map, onto_right}
 use Rattle.schedule_laws.proofs.SingleLemmas.{radiates_once}
-use Rattle.sent_laws.specs.Frames.{blocks_of, sent_bytes, texts_of}
-use Rattle.sent_laws.specs.Messages.{Source}
+use Rattle.sent_frames.specs.Frames.{sent_bytes}
+use Rattle.sent_laws.specs.Frames.{blocks_of, texts_of}
+use Rattle.sent_frames.specs.Messages.{Source}
 use Rattle.sent_laws.specs.Radiated.{CopiesArrive, IsSentCopy, LeastCopiesArrive, SentCellRadiatesOnce, SentPlanRadiates}
 use Rattle.sent_laws.specs.Sent.{IsSendable}
 use Rattle.sent_laws.proofs.SentRead.{frames_are_read, messages_say}

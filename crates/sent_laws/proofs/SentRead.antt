@@ -23,7 +23,7 @@ use Rattle.unit_model.specs.Lists.{joined}
 use Rattle.unit_model.specs.Meetings.{Piece, command, met_in}
 use Rattle.unit_model.specs.Proper.{IsAt}
 use Rattle.plan_model.specs.Lines.{planned}
-use Rattle.plan_model.specs.Packs.{Message, Numbered, size_of}
+use Rattle.plan_model.specs.Packs.{Message, Numbered, parts_of, size_of}
 use Rattle.plan_model.specs.Sent.{SentFrame}
 use Rattle.plan_model.specs.Streams.{Part, frames_in, messages_of, part_fields}
 use Rattle.plan_model.specs.declared.lines.PlannedLine.{PlannedLine}
@@ -41,16 +41,18 @@ use Rattle.schedule_laws.specs.Least.{AreReadable, arrival_of}
 use Rattle.schedule_laws.specs.Premise.{IsReadAsCommand, IsReadBy, fragment_at}
 use Rattle.schedule_laws.proofs.FoundLemmas.{found}
 use Rattle.schedule_laws.proofs.ListLemmas.{at_in, in_all}
-use Rattle.schedule_laws.proofs.SentLemmas.{IsOfMessage, IsSentStream, sent_is}
-use Rattle.sent_laws.specs.Commands.{body_for, command_head, command_section}
-use Rattle.sent_laws.specs.Frames.{blocks_of, bytes_in, command_bytes, fragment_bytes, fragment_field, sent_bytes, texts_of}
-use Rattle.sent_laws.specs.Messages.{Source, message_bytes}
+use Rattle.schedule_laws.proofs.PlanLemmas.{line_of}
+use Rattle.schedule_laws.proofs.SentLemmas.{IsOfMessage, IsSentStream, message_part, part_is, sent_is}
+use Rattle.sent_frames.specs.Commands.{body_for, command_head, command_section}
+use Rattle.sent_frames.specs.Frames.{bytes_in, command_bytes, fragment_bytes, fragment_field, sent_bytes}
+use Rattle.sent_laws.specs.Frames.{blocks_of, texts_of}
+use Rattle.sent_frames.specs.Messages.{Source, message_bytes}
 use Rattle.sent_laws.specs.Sent.{IsSendable, SentFramesAreRead, SentMessagesSay}
 use Rattle.sent_laws.proofs.CommandRead.{command_frame_met, fragment_frame_met}
 use Rattle.sent_laws.proofs.Fragments.{few_pieces, fragments_joined, piece_short, size_joined}
 use Rattle.sent_laws.proofs.LineFields.{body_idle, body_is_for, frame_id_is, line_admitted, line_command}
 use Rattle.sent_laws.proofs.MessageSays.{are_sections, is_decoded, sections_read}
-use Rattle.sent_laws.proofs.PartFacts.{IsGoodPart, good_message, good_part, got_message, length_bytes, message_short}
+use Rattle.sent_frames.proofs.MessageFacts.{IsGoodPart, good_message, good_part, got_message, length_bytes, message_short}
 
 -- ---- sizes
 
@@ -95,18 +97,25 @@ module _ (c : Config) (lines : List PlanLine) (source : Source) (s : IsSendable 
   id_fits : (ep : ℕ) (e : EndpointConfig) → IsAt c.endpoints ep e → e.id < 2 ^ 16
   id_fits ep e at = in_all (λ (f : EndpointConfig). f.id < 2 ^ 16) e c.endpoints s.ids (at_in ep e c.endpoints at)
 
+  -- numPrb of a part of a message
+  part_num : (stream : Stream) → IsSentStream stream → (ep : ℕ) (e : EndpointConfig) (n : Numbered Part) (x : Part) → IsIn n (messages_of c ps stream ep e) → IsIn x (parts_of n.message)
+      → x.planned.line.num_prb < 2 ^ 8
+  part_num stream is_sent ep e n x m i =
+      let part = part_is ps stream is_sent ep e x (message_part c ps stream ep e n x m i) in
+      in_all (λ (l : PlanLine). l.num_prb < 2 ^ 8) x.planned.line lines s.num_prbs (line_of c.endpoints 0 lines x.planned part.from).there
+
   -- ---- commands
 
   -- a line's command is read as the line's
-  command_read : (ep : ℕ) (e : EndpointConfig) (x : Part) → IsGoodPart c ep e x → IsReadAs (shape_of e.numerology) (command_head x.planned) (command_section x.planned ∷ []) (command_of (command_head x.planned) (command_section x.planned))
-  command_read ep e x g =
+  command_read : (ep : ℕ) (e : EndpointConfig) (x : Part) → IsGoodPart c ep e x → x.planned.line.num_prb < 2 ^ 8 → IsReadAs (shape_of e.numerology) (command_head x.planned) (command_section x.planned ∷ []) (command_of (command_head x.planned) (command_section x.planned))
+  command_read ep e x g num =
       let p = x.planned in
       subst (λ (f : EndpointConfig). IsReadAs (shape_of f.numerology) (command_head p) (command_section p ∷ []) (command_of (command_head p) (command_section p))) g.endpoint_is
-      (command_back (shape_of p.endpoint.numerology) (command_head p) (command_section p) (line_command c.endpoints p g.line g.num_prb) (line_admitted c.endpoints p g.line))
+      (command_back (shape_of p.endpoint.numerology) (command_head p) (command_section p) (line_command c.endpoints p g.line num) (line_admitted c.endpoints p g.line))
 
-  command_case : (f : SentFrame) (at : ℤ) → IsAt c.endpoints f.ep f.endpoint → IsGoodPart c f.ep f.endpoint f.message.first
+  command_case : (f : SentFrame) (at : ℤ) → IsAt c.endpoints f.ep f.endpoint → IsGoodPart c f.ep f.endpoint f.message.first → f.message.first.planned.line.num_prb < 2 ^ 8
       → IsReadAsCommand f (arrival_of (sent_bytes c source) f at) (met_in Ru c.endpoints at (whole_messages (command_bytes f)))
-  command_case f at here g =
+  command_case f at here g num =
       let p = f.message.first.planned in
       let h = command_head p in
       let section = command_section p in
@@ -115,7 +124,7 @@ module _ (c : Config) (lines : List PlanLine) (source : Source) (s : IsSendable 
         is = command_frame_met c.endpoints f.ep f.endpoint at (f.number % 256) (command_of h section) h section
             (found c.endpoints f.ep f.endpoint s.config.endpoints.differ here)
             (record { kind_fits = omega arith; id_fits = id_fits f.ep f.endpoint here; seq_fits = low_byte f.number; sub_fits = omega arith; size_fits = command_short h section })
-            (command_read f.ep f.endpoint f.message.first g);
+            (command_read f.ep f.endpoint f.message.first g num);
         at = refl;
         for_line = record {
           ep = sym g.ep_is;
@@ -150,13 +159,13 @@ module _ (c : Config) (lines : List PlanLine) (source : Source) (s : IsSendable 
         kind_fits = omega arith;
         id_fits = id_fits f.ep f.endpoint here;
         seq_fits = low_byte f.number;
-        sub_fits = few_pieces c.fragment (size_of part_fields n.message) f.sub s.config.fragment_low (message_short c lines source s f.ep f.endpoint n here there) below;
+        sub_fits = few_pieces c.fragment (size_of part_fields n.message) f.sub s.config.fragment_low (message_short c lines s.config s.lines_fit s.valid f.ep f.endpoint n here there) below;
         size_fits = in_size (length piece) c.fragment (piece_short c.fragment (message_bytes source f.message) f.sub) s.config.fragment_high;
       }) in
       let same : piece ≡ texts_of c ps source f.ep f.number f.sub =
       ap (λ (m : Message Part). piece_at c.fragment (message_bytes source m) f.sub) message
       ∙ ap (λ (o : Option (Numbered Part)). option_map_or (λ k. piece_at c.fragment (message_bytes source k.message) f.sub) o [])
-      (sym (ap (λ j. slice_get (messages_at c ps f.ep) j) number ∙ got_message c lines source s f.ep f.endpoint n here there)) in
+      (sym (ap (λ j. slice_get (messages_at c ps f.ep) j) number ∙ got_message c lines s.config s.lines_fit s.valid f.ep f.endpoint n here there)) in
       met ∙ ap (λ (bytes : List ℕ). Piece f.endpoint (record { ep = f.ep; seq = f.number % 256; at = at; last = (fragment_field c f).last; sub = f.sub; bytes = bytes }) ∷ []) same
 
   -- ---- all frames
@@ -164,12 +173,17 @@ module _ (c : Config) (lines : List PlanLine) (source : Source) (s : IsSendable 
   first_good : (f : SentFrame) → IsOfMessage c ps f → IsGoodPart c f.ep f.endpoint f.message.first
   first_good f w =
       subst (λ (m : Message Part). IsGoodPart c f.ep f.endpoint m.first) (sym (ap (λ (g : SentFrame). g.message) w.is))
-      (good_part c lines source s f.stream w.is_sent f.ep f.endpoint w.n w.n.message.first w.at w.there (inl refl))
+      (good_part c lines s.config s.lines_fit s.valid f.stream w.is_sent f.ep f.endpoint w.n w.n.message.first w.at w.there (inl refl))
+
+  first_num : (f : SentFrame) → IsOfMessage c ps f → f.message.first.planned.line.num_prb < 2 ^ 8
+  first_num f w =
+      subst (λ (m : Message Part). m.first.planned.line.num_prb < 2 ^ 8) (sym (ap (λ (g : SentFrame). g.message) w.is))
+      (part_num f.stream w.is_sent f.ep f.endpoint w.n w.n.message.first w.there (inl refl))
 
   read_by : (f : SentFrame) (at : ℤ) (w : IsOfMessage c ps f) (stream : Stream) → f.stream ≡ stream
       → IsReadBy stream c (texts_of c ps source) f (arrival_of (sent_bytes c source) f at) (met_in Ru c.endpoints at (whole_messages (bytes_in stream c source f)))
-  read_by f at w DownCommands is = command_case f at w.at (first_good f w)
-  read_by f at w UpCommands is = command_case f at w.at (first_good f w)
+  read_by f at w DownCommands is = command_case f at w.at (first_good f w) (first_num f w)
+  read_by f at w UpCommands is = command_case f at w.at (first_good f w) (first_num f w)
   read_by f at w DownData is =
       fragment_case f at w.n is w.at (subst (λ (t : Stream). IsIn w.n (messages_of c ps t f.ep f.endpoint)) is w.there)
       (ap (λ (g : SentFrame). g.message) w.is) (ap (λ (g : SentFrame). g.number) w.is) (subst (λ (t : Stream). f.sub < frames_in c t w.n.message) is w.below)
@@ -186,8 +200,8 @@ module _ (c : Config) (lines : List PlanLine) (source : Source) (s : IsSendable 
   as_pieces : (ep : ℕ) (e : EndpointConfig) (n : Numbered Part) → IsAt c.endpoints ep e → IsIn n (messages_of c ps DownData ep e)
       → texts (texts_of c ps source ep n.number) (frames_in c DownData n.message) ≡ texts (piece_at c.fragment (bytes_of n)) (pieces_of c.fragment (length (bytes_of n)))
   as_pieces ep e n at m =
-      ap (λ (o : Option (Numbered Part)). texts (λ sub. option_map_or (λ k. piece_at c.fragment (message_bytes source k.message) sub) o []) (frames_in c DownData n.message)) (got_message c lines source s ep e n at m)
-      ∙ ap (λ size. texts (piece_at c.fragment (bytes_of n)) (pieces_of c.fragment size)) (sym (length_bytes c ep e source n.message (good_message c lines source s ep e n at m)))
+      ap (λ (o : Option (Numbered Part)). texts (λ sub. option_map_or (λ k. piece_at c.fragment (message_bytes source k.message) sub) o []) (frames_in c DownData n.message)) (got_message c lines s.config s.lines_fit s.valid ep e n at m)
+      ∙ ap (λ size. texts (piece_at c.fragment (bytes_of n)) (pieces_of c.fragment size)) (sym (length_bytes c ep e source n.message (good_message c lines s.config s.lines_fit s.valid ep e n at m)))
 
   all_joined : (ep : ℕ) (e : EndpointConfig) (n : Numbered Part) → IsAt c.endpoints ep e → IsIn n (messages_of c ps DownData ep e)
       → joined (texts (texts_of c ps source ep n.number) (frames_in c DownData n.message)) ≡ bytes_of n
@@ -198,18 +212,19 @@ module _ (c : Config) (lines : List PlanLine) (source : Source) (s : IsSendable 
   size_is ep e n at m =
       size_joined (texts_of c ps source ep n.number) (frames_in c DownData n.message)
       ∙ ap length (all_joined ep e n at m)
-      ∙ length_bytes c ep e source n.message (good_message c lines source s ep e n at m)
+      ∙ length_bytes c ep e source n.message (good_message c lines s.config s.lines_fit s.valid ep e n at m)
 
   pub decoded_is : (ep : ℕ) (e : EndpointConfig) (n : Numbered Part) (first last : ℤ) → IsAt c.endpoints ep e → IsIn n (messages_of c ps DownData ep e)
       → IsDecoded c (texts_of c (planned c.endpoints lines) source) (blocks_of c source) ep e n first last
   decoded_is ep e n first last at m =
-      let good = good_message c lines source s ep e n at m in
-      let short = message_short c lines source s ep e n at m in
+      let good = good_message c lines s.config s.lines_fit s.valid ep e n at m in
+      let nums = λ (x : Part) (i : IsIn x (parts_of n.message)). part_num DownData tt ep e n x m i in
+      let short = message_short c lines s.config s.lines_fit s.valid ep e n at m in
       let can = s.can ep e at in
       record {
-        sections = sections_read c ep e source n.message good short can first last;
-        is = ap (decode Ru ep e first last) (all_joined ep e n at m) ∙ is_decoded c ep e source n.message good short can first last;
-        are = are_sections c ep e source n.message good short can first last;
+        sections = sections_read c ep e source n.message good nums short can first last;
+        is = ap (decode Ru ep e first last) (all_joined ep e n at m) ∙ is_decoded c ep e source n.message good nums short can first last;
+        are = are_sections c ep e source n.message good nums short can first last;
       }
 
 pub frames_are_read : SentFramesAreRead

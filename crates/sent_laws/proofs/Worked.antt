@@ -17,8 +17,8 @@ use Rattle.plan_model.specs.Streams.{Part}
 use Rattle.plan_model.specs.declared.streams.Stream.{Stream}
 use Rattle.plan_model.specs.declared.streams.Stream.TheVariants.{DownCommands, UpCommands, DownData}
 use Rattle.frame_bytes.specs.Messages.{message_of, section_of}
-use Rattle.sent_laws.specs.Frames.{sent_bytes}
-use Rattle.sent_laws.specs.Messages.{Source}
+use Rattle.sent_frames.specs.Frames.{sent_bytes}
+use Rattle.sent_frames.specs.Messages.{Source}
 
 -- symbols 2 to 6 of frame 300, subframe 3, slot 1; a PRB from 10 on, section 7, beam 9
 abbrev line_of : PlanKind → ℕ → ℕ → PlanLine

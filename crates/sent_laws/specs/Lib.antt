@@ -1,5 +1,3 @@
-pub mod Commands
-pub mod Messages
 pub mod Frames
 pub mod Sent
 pub mod Radiated

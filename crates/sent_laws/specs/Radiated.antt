@@ -18,8 +18,9 @@ use Rattle.schedule_laws.specs.Cells.{planned_air}
 use Rattle.schedule_laws.specs.Least.{with_least_delay}
 use Rattle.schedule_laws.specs.Premise.{AreInOrder}
 use Rattle.schedule_laws.specs.Singles.{event_of}
-use Rattle.sent_laws.specs.Frames.{blocks_of, sent_bytes}
-use Rattle.sent_laws.specs.Messages.{Source}
+use Rattle.sent_frames.specs.Frames.{sent_bytes}
+use Rattle.sent_laws.specs.Frames.{blocks_of}
+use Rattle.sent_frames.specs.Messages.{Source}
 use Rattle.sent_laws.specs.Sent.{IsSendable}
 
 -- a copy of a frame: its very bytes, no sooner than T12's minimum after it left and no later than the maximum

@@ -13,8 +13,9 @@ use Rattle.plan_model.specs.Lines.{planned}
 use Rattle.plan_model.specs.Valid.{IsValid}
 use Rattle.schedule_laws.specs.Data.{AreWritten}
 use Rattle.schedule_laws.specs.Least.{AreReadable}
-use Rattle.sent_laws.specs.Frames.{blocks_of, sent_bytes, texts_of}
-use Rattle.sent_laws.specs.Messages.{Source}
+use Rattle.sent_frames.specs.Frames.{sent_bytes}
+use Rattle.sent_laws.specs.Frames.{blocks_of, texts_of}
+use Rattle.sent_frames.specs.Messages.{Source}
 
 -- A valid plan of a configuration, and a source whose blocks the endpoints' methods can pack; an eAxC id has 16 bits and numPrb 8,
 -- as in the types that hold them.

@@ -11,7 +11,7 @@ use Rattle.plan_model.specs.Streams.{Part}
 use Rattle.frame_bytes.specs.declared.messages.Carrier.{Carrier}
 use Rattle.frame_bytes.specs.declared.messages.DataSection.{DataSection}
 use Rattle.frame_bytes.specs.Messages.{message_of}
-use Rattle.sent_laws.specs.Commands.{frame_id_of}
+use Rattle.sent_frames.specs.Commands.{frame_id_of}
 
 -- the twelve samples of each cell
 abbrev pub Source : Type 0

@@ -1,12 +1,18 @@
--- What is known of the messages of a sendable plan and of their parts.
-use Rattle.std.proofs.Common.{◌≡◌, ℕ, ◌+◌, ◌<◌, ◌≤◌, ◌^◌, inl, inr, ◌==◌, List, [], ◌∷◌, length, map, Some, refl, ap, ap₂, sym, ◌∙◌}
-use Rattle.std.specs.Prelude.{sum}
+-- What is known of the messages of a valid plan and of their parts.
+use Rattle.std.proofs.Common.{◌≡◌, ℕ, ◌+◌, ◌<◌, ◌≤◌, ◌^◌, inl, inr, ◌==◌, List, [], ◌∷◌, length, map, Some, refl, ap, ap₂, sym, ◌∙◌, subst, arith}
+use Rattle.std.specs.Prelude.{All, sum}
+use Rattle.std.proofs.lemmas.List.Elements.{All-cons}
+use Rattle.bfp_codec.specs.Layout.{HasWidth}
+use Rattle.fh_time.specs.Carrier.{is_outside}
+use Rattle.fh_time.proofs.Order.{symbols_few}
 use Rattle.std.specs.List.{slice_get}
 use Rattle.std.specs.Option.{option_map_or}
 use Rattle.std.proofs.lemmas.Bool.{and_parts, eqb-true}
 use Rattle.std.proofs.lemmas.List.Sums.{sum_by-cons}
 use Rattle.fh_time.specs.Numbering.{symbols_of}
 use Rattle.fragment_laws.specs.Apart.{IsIn}
+use Rattle.window_config.specs.Configs.{IsConfig}
+use Rattle.window_config.specs.Plans.{IsPlanLine}
 use Rattle.window_config.specs.declared.config.Config.{Config}
 use Rattle.window_config.specs.declared.endpoints.EndpointConfig.{EndpointConfig}
 use Rattle.window_config.specs.declared.plan.PlanLine.{PlanLine}
@@ -16,26 +22,23 @@ use Rattle.unit_laws.proofs.CellLemmas.{slots_equal}
 use Rattle.plan_model.specs.Lines.{planned}
 use Rattle.plan_model.specs.Packs.{Message, Numbered, packs, parts_of, size_of}
 use Rattle.plan_model.specs.Streams.{Part, frames_in, messages_of, part_fields, parts_in, section_size as plan_section_size}
+use Rattle.plan_model.specs.Valid.{IsValid}
 use Rattle.plan_model.specs.declared.lines.PlannedLine.{PlannedLine}
 use Rattle.plan_model.specs.declared.streams.Stream.{Stream}
 use Rattle.plan_model.specs.declared.streams.Stream.TheVariants.{DownData}
-use Rattle.frame_bytes.specs.Messages.{message_size, sections_size}
+use Rattle.frame_bytes.specs.Messages.{MessageFits, SectionFits, message_size, sections_size}
 use Rattle.frame_bytes.proofs.Sections.{length_message}
 use Rattle.schedule_laws.specs.Flows.{messages_at}
 use Rattle.schedule_laws.proofs.FlowLemmas.{section_short}
 use Rattle.schedule_laws.proofs.LineLemmas.{IsGoodLine, line_good, part_line, same_endpoint}
-use Rattle.schedule_laws.proofs.ListLemmas.{in_all}
 use Rattle.schedule_laws.proofs.OrderLemmas.{all_short, get_in, number_is, one_symbol}
 use Rattle.schedule_laws.proofs.PackLemmas.{message_from}
-use Rattle.schedule_laws.proofs.PlanLemmas.{line_of}
 use Rattle.schedule_laws.proofs.SentLemmas.{IsSentStream, message_part, part_is}
-use Rattle.sent_laws.specs.Messages.{Source, carrier_of, data_head, data_section, message_bytes, message_samples}
-use Rattle.sent_laws.specs.Sent.{IsSendable}
+use Rattle.sent_frames.specs.Messages.{Source, carrier_of, data_head, data_section, message_bytes, message_samples}
 
 -- a part of a message of an endpoint
 pub record IsGoodPart (c : Config) (ep : ℕ) (e : EndpointConfig) (x : Part) : Type 0 where
   pub line : IsGoodLine c.endpoints x.planned
-  pub num_prb : x.planned.line.num_prb < 2 ^ 8
   pub ep_is : x.planned.ep ≡ ep
   pub endpoint_is : x.planned.endpoint ≡ e
   pub symbol : x.symbol < symbols_of e.numerology
@@ -46,7 +49,7 @@ pub record IsGoodMessage (c : Config) (ep : ℕ) (e : EndpointConfig) (m : Messa
   pub slot : (x : Part) → IsIn x (parts_of m) → m.first.planned.line.slot ≡ x.planned.line.slot
   pub symbol : (x : Part) → IsIn x (parts_of m) → m.first.symbol ≡ x.symbol
 
-module _ (c : Config) (lines : List PlanLine) (source : Source) (s : IsSendable c lines source) where
+module _ (c : Config) (lines : List PlanLine) (config : IsConfig c) (fit : All IsPlanLine lines) (valid : IsValid c lines) where
   abbrev ps : List PlannedLine
   ps = planned c.endpoints lines
 
@@ -54,11 +57,10 @@ module _ (c : Config) (lines : List PlanLine) (source : Source) (s : IsSendable 
       → IsIn x (parts_of n.message) → IsGoodPart c ep e x
   good_part stream is_sent ep e n x at m i =
       let part = part_is ps stream is_sent ep e x (message_part c ps stream ep e n x m i) in
-      let line = line_good c lines s.config s.lines_fit s.valid x.planned part.from in
+      let line = line_good c lines config fit valid x.planned part.from in
       let place = part_line stream is_sent x.planned ep part.slot x.symbol part.has in
       record {
         line = line;
-        num_prb = in_all (λ (l : PlanLine). l.num_prb < 2 ^ 8) x.planned.line lines s.num_prbs (line_of c.endpoints 0 lines x.planned part.from).there;
         ep_is = place.ep_is;
         endpoint_is = same_endpoint c.endpoints x.planned.ep ep x.planned.endpoint e line.at at place.ep_is;
         symbol = part.is_symbol;
@@ -81,7 +83,7 @@ module _ (c : Config) (lines : List PlanLine) (source : Source) (s : IsSendable 
   pub message_short : (ep : ℕ) (e : EndpointConfig) (n : Numbered Part) → IsAt c.endpoints ep e → IsIn n (messages_of c ps DownData ep e) → size_of part_fields n.message ≤ 16384
   message_short ep e n at m =
       all_short part_fields c.pack (parts_in ps DownData ep e) n.message
-      (λ x i. section_short c.endpoints x (line_good c lines s.config s.lines_fit s.valid x.planned (part_is ps DownData tt ep e x i).from))
+      (λ x i. section_short c.endpoints x (line_good c lines config fit valid x.planned (part_is ps DownData tt ep e x i).from))
       (is_of ep e n m)
 
   got_number : (ep : ℕ) (e : EndpointConfig) (k : ℕ) (n : Numbered Part) → slice_get (messages_of c ps DownData ep e) k ≡ Some n → n.number ≡ k
@@ -114,3 +116,41 @@ length_bytes c ep e source m g =
     let first = (g.each m.first (inl refl)).endpoint_is in
     length_message (carrier_of f) (message_samples source m) (data_head m.first) (map data_section (parts_of m))
     ∙ ap (λ n. 4 + n) (sections_sum f (parts_of m) (λ x i. (g.each x i).endpoint_is ∙ sym first))
+
+-- ---- a message can be written
+
+pub all_map : {X Y : Type 0} (P : Y → Type 0) (f : X → Y) (xs : List X) → ((x : X) → IsIn x xs → P (f x)) → All P (map f xs)
+all_map P f [] h = λ k d below. absurd (omega (arith, below))
+all_map P f (x ∷ xs) h = All-cons P (f x) (map f xs) (h x (inl refl)) (all_map P f xs (λ y i. h y (inr i)))
+
+below_four : (n : ℕ) → n < 10 → n < 2 ^ 4
+below_four n h = omega (arith, h)
+
+below_six : (n k : ℕ) → n < k → k ≤ 14 → n < 2 ^ 6
+below_six n k h l = omega (arith, h, l)
+
+module _ (c : Config) (ep : ℕ) (e : EndpointConfig) (m : Message Part) (g : IsGoodMessage c ep e m) (short : size_of part_fields m ≤ 16384) where
+  one : IsGoodPart c ep e m.first
+  one = g.each m.first (inl refl)
+
+  section_fits : (x : Part) → IsIn x (parts_of m) → SectionFits (carrier_of e) (data_section x)
+  section_fits x i =
+      let p = g.each x i in
+      record {
+        id = p.line.fits.section;
+        start_prb = p.line.fits.start_prb;
+        within = ap (λ (f : EndpointConfig). is_outside f.prbs x.planned.line.start_prb x.planned.line.num_prb) (sym p.endpoint_is) ∙ p.line.prbs;
+      }
+
+  pub message_fits : MessageFits (carrier_of e) (data_head m.first) (map data_section (parts_of m))
+  message_fits = record {
+    head = record {
+      filter = omega arith;
+      subframe = below_four m.first.planned.line.slot.subframe one.line.fits.subframe;
+      slot = one.line.fits.slot;
+      symbol = below_six m.first.symbol (symbols_of e.numerology) one.symbol (symbols_few e.numerology).1;
+    };
+    width = subst (λ (f : EndpointConfig). HasWidth f.format.method) one.endpoint_is one.line.endpoint.width;
+    sections = all_map (SectionFits (carrier_of e)) data_section (parts_of m) section_fits;
+    size = subst (λ n. n ≤ 16384) (sym (message_size_is c ep e m g)) short;
+  }

@@ -1,0 +1,4 @@
+pub mod Commands
+pub mod Messages
+pub mod Frames
+pub mod Sources
