@@ -1,0 +1,4 @@
+pub mod Messages
+pub mod Frames
+pub mod Laws
+pub mod Examples
