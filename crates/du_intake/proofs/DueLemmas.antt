@@ -1,0 +1,319 @@
+-- What is due at the distributed unit, by its cursor.
+use Rattle.std.proofs.Common.{◌≡◌, ◌≢◌, ℕ, zero, suc, ℤ, pos, ◌+◌, ◌<◌, ◌≤◌, ◌+ℤ◌, ◌-ℤ◌, ◌*ℤ◌, ◌*◌, ◌≤ℤ◌, ◌<ℤ◌, Bool, true, false, not, ◌&&◌, ◌||◌, ◌==◌, if◌then◌else◌, List, [], ◌∷◌, ◌++◌, filter, Option, Some, None, inl, inr, refl, sym, ap, ap₂, ◌∙◌, subst, arith}
+use Rattle.std.specs.Prelude.{cond, nat_lt, neg_ℤ, ◌^◌, IfSome}
+use Rattle.std.specs.List.{list_any}
+use Rattle.std.proofs.lemmas.Bool.{cases_Bool, eqb-true}
+use Rattle.std.proofs.lemmas.Bool.Decides.{nat_tests}
+use Rattle.std.proofs.lemmas.Int.{ints}
+use Rattle.std.proofs.lemmas.List.Elements.{filter-append}
+use Rattle.fh_time.specs.Air.{air_of}
+use Rattle.fh_time.specs.Kinds.{kind_start}
+use Rattle.fh_time.specs.declared.values.Slot.{Slot}
+use Rattle.fh_time.proofs.Kept.{offsets_short}
+use Rattle.air_source.specs.declared.events.AirCell.{AirCell}
+use Rattle.air_source.specs.declared.events.Side.TheVariants.{Du}
+use Rattle.window_config.specs.declared.config.Config.{Config}
+use Rattle.window_config.specs.declared.endpoints.EndpointConfig.{EndpointConfig}
+use Rattle.unit_model.specs.Claims.{claim_at, is_from}
+use Rattle.unit_model.specs.Lists.{each}
+use Rattle.unit_model.specs.Order.{comes_before}
+use Rattle.unit_model.specs.Radiated.{Known, air_cell, cell_report, first_clock, report_of, symbol_report, used_mask, wait_of}
+use Rattle.unit_model.specs.Reports.{du_known}
+use Rattle.unit_model.specs.Standing.{History, IsCell, cell_heard, due, still_reported}
+use Rattle.unit_model.specs.Starts.{start_at}
+use Rattle.unit_model.specs.Sweeps.{OfSymbol}
+use Rattle.unit_model.specs.declared.allocations.Allocation.{Allocation}
+use Rattle.unit_model.specs.declared.cells.Block.{Block}
+use Rattle.unit_model.specs.declared.cells.Cell.{Cell}
+use Rattle.unit_model.specs.declared.cells.Claim.{Claim}
+use Rattle.unit_model.specs.declared.symbol_start.SymbolStart.{SymbolStart}
+use Rattle.unit_laws.specs.Swept.{IsSwept}
+use Rattle.unit_laws.proofs.DueLemmas.{unheard}
+use Rattle.unit_laws.proofs.FrameLemmas.{symbol_short, symbols_are_swept}
+use Rattle.window_config.specs.Windows.{ticks_of_ns}
+use Rattle.unit_laws.proofs.LookupLemmas.{reported_by_mark}
+use Rattle.unit_laws.proofs.SweepLemmas.{IsKept, each_related, none_kept}
+use Rattle.history_laws.specs.First.{IsSweptIn, told_of}
+use Rattle.history_laws.proofs.BeforeLemmas.{start_before}
+use Rattle.history_laws.proofs.FirstLemmas.{first_is_first, nothing_is_nothing}
+use Rattle.ru_memory.specs.declared.memory.RuMemory.{RuMemory}
+use Rattle.ru_reports.proofs.OrderLemmas.{not_before_itself}
+use Rattle.du_intake.specs.Cursors.{HasLeft, IsNamed, cell_in, is_behind}
+use Rattle.du_intake.specs.Units.{Keeps, Stands, due_of}
+use Rattle.du_intake.specs.Calls.{IsLeastMoment}
+use Rattle.du_intake.specs.declared.cursor.CellCursor.{CellCursor}
+use Rattle.du_intake.proofs.UsedLemmas.{used_named}
+
+-- ---- what is told of one cell
+
+abbrev one_unless : Bool → AirCell → List AirCell
+one_unless none a = if none then [] else a ∷ []
+
+kept_one : (p : AirCell → Bool) (none done : Bool) (a : AirCell) → p a ≡ not done → filter p (one_unless none a) ≡ (if done then [] else one_unless none a)
+kept_one p true true a h = refl
+kept_one p true false a h = refl
+kept_one p false true a h = ap (λ (b : Bool). cond b (a ∷ []) []) h
+kept_one p false false a h = ap (λ (b : Bool). cond b (a ∷ []) []) h
+
+-- what an air has still to hear of an uplink cell
+pub one_cell : (e : EndpointConfig) (cell : Cell) (start : ℤ) (claims : ℕ → Option Claim) (block : Option Block) (heard : List AirCell) (done : Bool)
+    → cell.down ≡ false → list_any (cell_heard e cell) heard ≡ done
+    → filter (unheard heard) (report_of Du e cell start claims block) ≡ (if done then [] else report_of Du e cell start claims block)
+one_cell e cell start claims block heard done down is =
+    kept_one (unheard heard) (used_mask claims == 0) done (air_cell Du e cell start claims block)
+    (ap not (reported_by_mark Du e cell start claims block heard down ∙ is))
+
+nothing_if : (done none : Bool) (a : AirCell) → (none ≡ false → done ≡ true) → (let xs : List AirCell = if done then [] else one_unless none a in xs) ≡ []
+nothing_if true none a h = refl
+nothing_if false true a h = refl
+nothing_if false false a h = let e : false ≡ true = h refl in cc
+
+something_if : (done none : Bool) (a : AirCell) → done ≡ false → none ≡ false → (let xs : List AirCell = if done then [] else one_unless none a in xs) ≢ []
+something_if true none a h k = cc
+something_if false true a h k = cc
+something_if false false a h k = λ e. cc
+
+filter_kept : (p : AirCell → Bool) → IsKept {A = AirCell} {B = AirCell} (λ xs ys. filter p xs ≡ ys)
+filter_kept p = record { none = refl; more = λ xs xs' ys ys' h k. filter-append p xs xs' ∙ ap₂ ◌++◌ h k }
+
+-- what is still to be told of a symbol, cell by cell
+abbrev pub cells_left : Known → List AirCell → ℕ → EndpointConfig → Slot → ℕ → ℕ → List AirCell
+cells_left k heard ep e slot symbol prb = filter (unheard heard) (cell_report Du k ep e slot symbol prb)
+
+pub by_cells : (k : Known) (heard : List AirCell) (ep : ℕ) (e : EndpointConfig) (slot : Slot) (symbol : ℕ)
+    → still_reported Du k heard ep e slot symbol ≡ each 0 e.prbs (cells_left k heard ep e slot symbol)
+unfolding still_reported symbol_report
+by_cells k heard ep e slot symbol =
+    each_related (λ xs ys. filter (unheard heard) xs ≡ ys) (filter_kept (unheard heard)) 0 e.prbs (cell_report Du k ep e slot symbol)
+    (cells_left k heard ep e slot symbol) (λ prb above below. refl)
+
+each_nothing : (n : ℕ) (f : ℕ → List AirCell) → ((k : ℕ) → k < n → f k ≡ []) → each 0 n f ≡ []
+each_nothing n f none = each_related (λ xs ys. xs ≡ []) none_kept 0 n f f (λ k above below. none k (small k n below))
+  where
+    small : (k n : ℕ) → k < 0 + n → k < n
+    small k n h = omega arith
+
+both_nothing : {A : Type 0} (xs ys : List A) → xs ++ ys ≡ [] → (xs ≡ []) × (ys ≡ [])
+both_nothing [] ys h = (refl, h)
+both_nothing (x ∷ xs) ys h = absurd cc
+
+each_nothing_at : (from n : ℕ) (f : ℕ → List AirCell) (k : ℕ) → each from n f ≡ [] → from ≤ k → k < from + n → f k ≡ []
+unfolding each
+each_nothing_at from zero f k h low high = absurd (omega arith)
+each_nothing_at from (suc n) f k h low high =
+    let parts = both_nothing (f from) (each (from + 1) n f) h in
+    elim (cases_Bool (from == k)) [
+      | inl here ↦ ap f (sym (eqb-true from k here)) ∙ parts.0
+      | inr other ↦ each_nothing_at (from + 1) n f k parts.1 (grind (arith, nat_tests)) (omega arith)
+    ]
+
+not_none : (n : ℕ) → (n == 0) ≡ false → 0 < n
+not_none n h = grind (arith, nat_tests)
+
+is_some : (n : ℕ) → 0 < n → (n == 0) ≡ false
+is_some n h = grind (arith, nat_tests)
+
+both_ways : (b : Bool) → b ≡ true → b ≡ false → ⊥
+both_ways true h k = cc
+both_ways false h k = cc
+
+first_behind : (a b : Bool) → a ≡ true → (a || b) ≡ true
+first_behind a b h = rw h refl
+
+own_not_behind : (a b x : Bool) → a ≡ false → x ≡ false → (a || (b && x)) ≡ false
+own_not_behind a true x h k = rw (h, k) refl
+own_not_behind a false x h k = rw h refl
+
+not_less : (a b : ℕ) → a ≤ b → nat_lt b a ≡ false
+not_less a b h = grind (arith, nat_tests)
+
+-- ---- times
+
+begun_late : (frame start : ℤ) (offset : ℕ) (wait : ℤ) → pos 1 ≤ℤ frame → start ≡ frame *ℤ pos 15360000000 +ℤ pos offset → pos 0 ≤ℤ wait → (first_clock -ℤ wait) ≤ℤ start
+begun_late frame start offset wait h e w = omega (arith, ints)
+
+in_end : (start wait : ℤ) → start <ℤ (((start +ℤ wait) -ℤ wait) +ℤ pos 1)
+in_end start wait = omega (arith, ints)
+
+earlier : (x start wait to : ℤ) → to <ℤ (start +ℤ wait) → x <ℤ ((to -ℤ wait) +ℤ pos 1) → x <ℤ start
+earlier x start wait to h k = omega (arith, ints)
+
+module _ (c : Config) (planned : List Allocation) (m : RuMemory) (clock : ℤ) (cursor : CellCursor) (h : History) (k : Keeps c planned m clock cursor h) where
+  abbrev known : Known
+  known = du_known c planned h.arrivals
+
+  abbrev still : OfSymbol AirCell
+  still = still_reported Du known h.reported
+
+  abbrev wait : ℤ
+  wait = wait_of Du c.delays
+
+  -- a cell in use is one of the configuration
+  pub used_cell : (e : EndpointConfig) (cell : Cell) (tick : ℤ) → IsSwept c.endpoints cell.ep e cell.slot cell.symbol tick → cell.prb < e.prbs
+      → 0 < used_mask (claim_at planned cell) → IsCell c e cell
+  used_cell e cell tick swept below used =
+      let named = used_named c planned e cell k.plan swept.endpoint used in
+      let p = k.plan named.k named.by named.at in
+      let slots : cell.slot ≡ named.by.slot = ap (λ (x : SymbolStart). x.slot) named.names.is in
+      record {
+        endpoint = swept.endpoint;
+        slot = record {
+          low = subst (λ (s : Slot). neg_ℤ (pos 1000000) ≤ℤ s.frame) (sym slots) p.timed.slot_is.low;
+          high = subst (λ (s : Slot). s.frame ≤ℤ pos 1000000) (sym slots) p.timed.slot_is.high;
+          subframe = swept.slot_is.subframe;
+          slot_is = swept.slot_is.slot;
+        };
+        symbol = swept.symbol_is;
+        prb = below;
+      }
+
+  -- nothing is told of a symbol whose cells in use all stand before the cursor
+  pub quiet : (x : SymbolStart) → IsSwept c.endpoints x.ep x.endpoint x.slot x.symbol x.start.0
+      → ((prb : ℕ) → prb < x.endpoint.prbs → is_behind cursor.next cursor.prb (start_at x.ep x.endpoint x.slot x.symbol) prb ≡ true) → told_of still x ≡ []
+  quiet x swept behind =
+      by_cells known h.reported x.ep x.endpoint x.slot x.symbol
+      ∙ each_nothing x.endpoint.prbs (cells_left known h.reported x.ep x.endpoint x.slot x.symbol) (λ prb below.
+      let cell = cell_in x prb in
+      let start = air_of x.endpoint.numerology x.slot x.symbol in
+      let done = list_any (cell_heard x.endpoint cell) h.reported in
+      one_cell x.endpoint cell start (claim_at planned cell) (known.blocks cell) h.reported done refl refl
+      ∙ nothing_if done (used_mask (claim_at planned cell) == 0) (air_cell Du x.endpoint cell start (claim_at planned cell) (known.blocks cell)) (λ used.
+      let some = not_none (used_mask (claim_at planned cell)) used in
+      k.marks x.endpoint cell (used_cell x.endpoint cell x.start.0 swept below some) refl some ∙ behind prb below))
+
+  -- something is told of a symbol of which a cell in use does not stand before the cursor
+  pub told : (x : SymbolStart) (prb : ℕ) → IsSwept c.endpoints x.ep x.endpoint x.slot x.symbol x.start.0 → prb < x.endpoint.prbs
+      → 0 < used_mask (claim_at planned (cell_in x prb)) → is_behind cursor.next cursor.prb (start_at x.ep x.endpoint x.slot x.symbol) prb ≡ false → told_of still x ≢ []
+  told x prb swept below used ahead none =
+      let cell = cell_in x prb in
+      let start = air_of x.endpoint.numerology x.slot x.symbol in
+      let done = list_any (cell_heard x.endpoint cell) h.reported in
+      let here = each_nothing_at 0 x.endpoint.prbs (cells_left known h.reported x.ep x.endpoint x.slot x.symbol) prb
+      (sym (by_cells known h.reported x.ep x.endpoint x.slot x.symbol) ∙ none) (omega arith) (omega (arith, below)) in
+      something_if done (used_mask (claim_at planned cell) == 0) (air_cell Du x.endpoint cell start (claim_at planned cell) (known.blocks cell))
+      (k.marks x.endpoint cell (used_cell x.endpoint cell x.start.0 swept below used) refl used ∙ ahead) (is_some (used_mask (claim_at planned cell)) used)
+      (sym (one_cell x.endpoint cell start (claim_at planned cell) (known.blocks cell) h.reported done refl refl) ∙ here)
+
+  -- a symbol as it is gone over is the start of its place
+  start_is : (x : SymbolStart) → IsSwept c.endpoints x.ep x.endpoint x.slot x.symbol x.start.0 → (start_at x.ep x.endpoint x.slot x.symbol).start.0 ≡ x.start.0
+  start_is x swept = swept.starts
+
+  -- where the cursor stands behind all symbols, nothing is due
+  pub none_due : cursor.next ≡ None → (to : ℤ) → due_of c planned h to ≡ []
+  unfolding due
+  none_due none to =
+      nothing_is_nothing still c.endpoints (first_clock -ℤ wait) ((to -ℤ wait) +ℤ pos 1) (λ x is.
+      quiet x is.swept (λ prb below. ap (λ (o : Option SymbolStart). is_behind o cursor.prb (start_at x.ep x.endpoint x.slot x.symbol) prb) none))
+
+  module _ (next : SymbolStart) (is_next : cursor.next ≡ Some next) (named : IsNamed planned next) where
+    by_next : (x : SymbolStart) (prb : ℕ) (b : Bool) → is_behind (Some next) cursor.prb x prb ≡ b → is_behind cursor.next cursor.prb x prb ≡ b
+    by_next x prb b e = ap (λ (o : Option SymbolStart). is_behind o cursor.prb x prb) is_next ∙ e
+
+    -- nothing is due before the moment of its symbol
+    pub none_before : (to : ℤ) → to <ℤ (next.start.0 +ℤ wait) → due_of c planned h to ≡ []
+    unfolding due
+    none_before to early =
+        nothing_is_nothing still c.endpoints (first_clock -ℤ wait) ((to -ℤ wait) +ℤ pos 1) (λ x is.
+        let own = start_at x.ep x.endpoint x.slot x.symbol in
+        let before : own.start.0 <ℤ next.start.0 =
+        subst (λ (t : ℤ). t <ℤ next.start.0) (sym is.swept.starts) (earlier x.start.0 next.start.0 wait to early is.high) in
+        quiet x is.swept (λ prb below. by_next own prb true (first_behind (comes_before own next) _ (start_before own next before))))
+
+    -- it is gone over when it starts
+    pub next_swept : IsSwept c.endpoints next.ep next.endpoint next.slot next.symbol next.start.0
+    next_swept =
+        let a = named.by in
+        let p = k.plan named.k a named.at in
+        let own = start_at a.ep a.endpoint a.slot next.symbol in
+        subst (λ (x : SymbolStart). IsSwept c.endpoints x.ep x.endpoint x.slot x.symbol x.start.0) (sym named.names.is)
+        (symbols_are_swept c.endpoints a.ep a.endpoint a.slot next.symbol p.at (offsets_short a.endpoint.numerology)
+        (record { subframe = p.timed.slot_is.subframe; slot = p.timed.slot_is.slot_is })
+        (in_slot a.symbol a.num_symbol next.symbol _ named.names.symbol p.timed.within))
+      where
+        in_slot : (first count n most : ℕ) → is_from first count n ≡ true → first + count ≤ most → n < most
+        in_slot first count n most h k = grind (arith, nat_tests)
+
+    -- something is, at that moment
+    pub some_at : HasLeft planned cursor.prb next → pos 0 ≤ℤ wait → due_of c planned h (next.start.0 +ℤ wait) ≢ []
+    unfolding due
+    some_at left positive none =
+        let from = first_clock -ℤ wait in
+        let end = ((next.start.0 +ℤ wait) -ℤ wait) +ℤ pos 1 in
+        let is : IsSweptIn c.endpoints from end next = record { swept = next_swept; low = begun positive; high = in_end next.start.0 wait } in
+        let silent : (x : SymbolStart) → IsSweptIn c.endpoints from end x → comes_before x next ≡ true → told_of still x ≡ [] =
+        λ x in_x before.
+        let own = start_at x.ep x.endpoint x.slot x.symbol in
+        let same : own ≡ x = own_start x in_x.swept in
+        quiet x in_x.swept (λ prb below. by_next own prb true (first_behind (comes_before own next) _ (ap (λ (y : SymbolStart). comes_before y next) same ∙ before))) in
+        let all = first_is_first still still c.endpoints from end next is silent silent (λ x in_x after. refl) in
+        let own = start_at next.ep next.endpoint next.slot next.symbol in
+        let same : own ≡ next = own_start next next_swept in
+        told next left.prb next_swept left.below left.used
+        (by_next own left.prb false
+        (own_not_behind (comes_before own next) (not (comes_before next own)) (nat_lt left.prb cursor.prb)
+        (ap (λ (y : SymbolStart). comes_before y next) same ∙ not_before_itself next) (not_less cursor.prb left.prb left.low)))
+        (first_nothing (told_of still next) all.rest (sym all.one ∙ none))
+      where
+        first_nothing : {A : Type 0} (xs ys : List A) → xs ++ ys ≡ [] → xs ≡ []
+        first_nothing xs ys h = (both_nothing xs ys h).0
+
+        own_start : (x : SymbolStart) → IsSwept c.endpoints x.ep x.endpoint x.slot x.symbol x.start.0 → start_at x.ep x.endpoint x.slot x.symbol ≡ x
+        own_start x swept = ap (λ (t : ℤ). (let y : SymbolStart = record { ep = x.ep; endpoint = x.endpoint; start = record { 0 = t }; slot = x.slot; symbol = x.symbol } in y)) swept.starts
+
+        begun : pos 0 ≤ℤ wait → (first_clock -ℤ wait) ≤ℤ next.start.0
+        begun positive =
+            let a = named.by in
+            let p = k.plan named.k a named.at in
+            let frame : next.slot.frame ≡ a.slot.frame = ap (λ (x : SymbolStart). x.slot.frame) named.names.is in
+            begun_late next.slot.frame next.start.0 (next.slot.subframe * 1536000000 + kind_start next.endpoint.numerology.kind next.slot.slot next.symbol) wait
+            (subst (λ (f : ℤ). pos 1 ≤ℤ f) (sym frame) p.begun) (sym next_swept.starts) positive
+
+-- ---- the moment that the call answers
+
+bounds : (frame start : ℤ) (offset : ℕ) → pos 1 ≤ℤ frame → frame ≤ℤ pos 99999 → offset < 92160000000 → start ≡ frame *ℤ pos 15360000000 +ℤ pos offset
+    → (neg_ℤ (pos (2 ^ 60)) ≤ℤ start) × (start ≤ℤ pos (2 ^ 60))
+bounds frame start offset low high few is = (omega (arith, ints), omega (arith, ints))
+
+pub start_bounds : (c : Config) (planned : List Allocation) (m : RuMemory) (clock : ℤ) (cursor : CellCursor) (h : History) (k : Keeps c planned m clock cursor h) (next : SymbolStart)
+    → IsNamed planned next → cursor.next ≡ Some next → (neg_ℤ (pos (2 ^ 60)) ≤ℤ next.start.0) × (next.start.0 ≤ℤ pos (2 ^ 60))
+start_bounds c planned m clock cursor h k next named is =
+    let a = named.by in
+    let p = k.plan named.k a named.at in
+    let swept = next_swept c planned m clock cursor h k next is named in
+    let frame : next.slot.frame ≡ a.slot.frame = ap (λ (x : SymbolStart). x.slot.frame) named.names.is in
+    bounds next.slot.frame next.start.0 (next.slot.subframe * 1536000000 + kind_start next.endpoint.numerology.kind next.slot.slot next.symbol)
+    (subst (λ (f : ℤ). pos 1 ≤ℤ f) (sym frame) p.begun) (subst (λ (f : ℤ). f ≤ℤ pos 99999) (sym frame) p.ended)
+    (symbol_short next.endpoint.numerology next.slot next.symbol (offsets_short next.endpoint.numerology) swept.slot_is swept.symbol_is) (sym swept.starts)
+
+wait_bounds : (n : ℤ) → pos 0 ≤ℤ n → n ≤ℤ pos 2000000 → (pos 0 ≤ℤ ticks_of_ns n) × (ticks_of_ns n ≤ℤ pos (2 ^ 60))
+wait_bounds n low high = (omega (arith, ints), omega (arith, ints))
+
+least_not_negative : (a b : ℤ) → pos 0 ≤ℤ a → a ≤ℤ b → pos 0 ≤ℤ b
+least_not_negative a b h k = omega (arith, ints)
+
+pub due_none : (c : Config) (planned own : List Allocation) (m : RuMemory) (clock wait : ℤ) (cursor : CellCursor) (h : History) → Stands c planned m clock wait own cursor h
+    → cursor.next ≡ None → (to : ℤ) → due_of c planned h to ≡ []
+due_none c planned own m clock _ cursor h all none to = none_due c planned m clock cursor h all.kept none to
+
+pub due_some : (c : Config) (planned own : List Allocation) (m : RuMemory) (clock wait : ℤ) (cursor : CellCursor) (h : History) (next : SymbolStart) (t : ℤ)
+    → Stands c planned m clock wait own cursor h → cursor.next ≡ Some next
+    → (neg_ℤ (pos (2 ^ 60)) ≤ℤ next.start.0 → next.start.0 ≤ℤ pos (2 ^ 60) → pos 0 ≤ℤ wait → wait ≤ℤ pos (2 ^ 60) → t ≡ next.start.0 +ℤ wait)
+    → IsLeastMoment c planned h t
+due_some c planned own m clock wait cursor h next t all is sum =
+    let k = all.kept in
+    let named : IsNamed planned next = of_some (IsNamed planned) cursor.next next is k.named in
+    let left : HasLeft planned cursor.prb next = of_some (HasLeft planned cursor.prb) cursor.next next is all.left in
+    let limits = k.holds.config.delays in
+    let w = wait_bounds c.delays.ta4.max (least_not_negative c.delays.ta4.min c.delays.ta4.max limits.ta4.low limits.ta4.order) limits.ta4.high in
+    let starts = start_bounds c planned m clock cursor h k next named is in
+    let same : t ≡ next.start.0 +ℤ wait_of Du c.delays =
+    sum starts.0 starts.1 (subst (λ (x : ℤ). pos 0 ≤ℤ x) (sym all.wait_is) w.0) (subst (λ (x : ℤ). x ≤ℤ pos (2 ^ 60)) (sym all.wait_is) w.1)
+    ∙ ap (λ (x : ℤ). next.start.0 +ℤ x) all.wait_is in
+    subst (IsLeastMoment c planned h) (sym same) (record {
+      before = none_before c planned m clock cursor h k next is named;
+      at = some_at c planned m clock cursor h k next is named left w.0;
+    })
+  where
+    of_some : (P : SymbolStart → Type 0) (o : Option SymbolStart) (x : SymbolStart) → o ≡ Some x → IfSome o P → P x
+    of_some P None x e h = cc
+    of_some P (Some y) x e h = let same : y ≡ x = cc in subst P same h

@@ -1,0 +1,175 @@
+-- The intake stands for its history when it is made, and after each arrival.
+use Rattle.std.proofs.Common.{◌≡◌, ℕ, ℤ, pos, ◌+ℤ◌, ◌-ℤ◌, ◌≤ℤ◌, List, [], ◌∷◌, ◌++◌, refl, sym, ap, ◌∙◌, subst, arith}
+use Rattle.std.specs.Prelude.{All, Bool, true, false, not, ◌&&◌, ◌||◌, nat_lt, IfSome, Option, Some, None}
+use Rattle.std.proofs.lemmas.Bool.Decides.{nat_tests}
+use Rattle.std.proofs.lemmas.Int.{ints}
+use Rattle.std.proofs.lemmas.List.Elements.{All-nil, All-cons, All-weaker}
+use Rattle.air_source.specs.declared.events.Side.TheVariants.{Du}
+use Rattle.window_config.specs.declared.config.Config.{Config}
+use Rattle.fault_counters.specs.declared.kinds.Counter.{Counter}
+use Rattle.unit_model.specs.Claims.{claim_at}
+use Rattle.unit_model.specs.Counts.{cells_counted}
+use Rattle.unit_model.specs.Meetings.{Arrival}
+use Rattle.unit_model.specs.Proper.{IsProperData, IsTime}
+use Rattle.unit_model.specs.Radiated.{Known, first_clock, wait_of}
+use Rattle.unit_model.specs.Reports.{data_of, du_known, timely_of}
+use Rattle.unit_model.specs.Standing.{History, IsOwed, arrived, at_clock, due, nothing_yet, past_of, still_reported}
+use Rattle.unit_model.specs.declared.allocations.Allocation.{Allocation}
+use Rattle.unit_model.specs.declared.decoded.Data.{Data}
+use Rattle.unit_model.proofs.BlockLemmas.{all_timely}
+use Rattle.unit_laws.proofs.HistoryLemmas.{data_are_proper}
+use Rattle.unit_laws.proofs.SweepLemmas.{sweep-none}
+use Rattle.unit_cells.specs.Told.{IsTold}
+use Rattle.unit_cells.proofs.ToldLemmas.{told_whole}
+use Rattle.history_laws.specs.Arriving.{IsNextArrival}
+use Rattle.history_laws.proofs.ArrivingLemmas.{arrival_leaves_due}
+use Rattle.ru_memory.specs.Memory.{Holds, HoldsSome, arrival}
+use Rattle.ru_memory.specs.declared.memory.RuMemory.{RuMemory}
+use Rattle.ru_memory.proofs.HoldLemmas.{holds_later}
+use Rattle.unit_model.specs.Order.{comes_before}
+use Rattle.unit_model.specs.Starts.{start_at}
+use Rattle.unit_model.specs.declared.symbol_start.SymbolStart.{SymbolStart}
+use Rattle.du_intake.specs.Cursors.{ArePlanned, HasLeft, IsNamed, IsNextSymbol, IsNotBefore, is_behind}
+use Rattle.du_intake.specs.Units.{Keeps, Stands, due_of}
+use Rattle.du_intake.specs.declared.cursor.CellCursor.{CellCursor}
+use Rattle.du_intake.proofs.UsedLemmas.{named_left, used_named}
+
+whole_data : (c : Config) (d : Data) → IsProperData c.endpoints d → IsTold d
+whole_data c d is = omega (arith, is.blocks)
+
+-- ---- what it answers
+
+module _ (c : Config) (planned : List Allocation) (m : RuMemory) (clock : ℤ) (cursor : CellCursor) (h : History) (k : Keeps c planned m clock cursor h) where
+  all_told : All IsTold (timely_of Du c h.arrivals)
+  all_told =
+      All-weaker (IsProperData c.endpoints) IsTold (whole_data c) (timely_of Du c h.arrivals)
+      (all_timely (IsProperData c.endpoints) Du c.delays (data_of Du c h.arrivals) (data_are_proper Du c h.clock h.arrivals k.holds.came k.holds.times))
+
+  pub stands : (own : List Allocation) (wait : ℤ) → own ≡ planned → wait ≡ wait_of Du c.delays → IfSome cursor.next (HasLeft planned cursor.prb)
+      → Stands c planned m clock wait own cursor h
+  stands own wait same waits left = record {
+    answers = record {
+      kept = record {
+        clock = k.clock_is;
+        came = k.holds.came;
+        counts = k.holds.counts;
+        fragments = k.holds.fragments;
+        hold = k.holds.hold;
+        blocks = λ e cell is down live. k.holds.keeps.blocks e cell is down live ∙ told_whole (timely_of Du c h.arrivals) cell all_told;
+        past = k.past;
+        told = k.told;
+        history = record { differ = k.differ; owed = k.owed; later = []; given = sym (ap (λ js. js ++ []) k.given) };
+      };
+      claims = λ e cell re is down few. ap (λ (xs : List Allocation). claim_at xs cell re) same;
+    };
+    kept = k;
+    wait_is = waits;
+    left = left;
+    plan_is = same;
+  }
+
+-- ---- a unit that was made
+
+over : (first wait : ℤ) → (((first -ℤ pos 1) -ℤ wait) +ℤ pos 1) ≤ℤ (first -ℤ wait)
+over first wait = omega (arith, ints)
+
+nothing_past : (c : Config) (k : Known) → due Du c.delays c.endpoints k [] (past_of Du first_clock) ≡ []
+unfolding due
+nothing_past c k =
+    sweep-none (still_reported Du k []) c.endpoints (first_clock -ℤ wait_of Du c.delays) (((first_clock -ℤ pos 1) -ℤ wait_of Du c.delays) +ℤ pos 1)
+    (over first_clock (wait_of Du c.delays))
+
+first_time : IsTime first_clock
+first_time = record { low = omega (arith, ints); high = omega (arith, ints) }
+
+same_most : (a : ℤ) → a ≤ℤ a
+same_most a = omega (arith, ints)
+
+found_behind : (x : SymbolStart) (prb : ℕ) (next : Option SymbolStart) → IsNotBefore x next → is_behind next 0 x prb ≡ false
+found_behind x prb None h = absurd h
+found_behind x prb (Some f) h = neither (comes_before x f) (not (comes_before f x)) (nat_lt prb 0) h (grind (arith, nat_tests))
+  where
+    neither : (a b x : Bool) → a ≡ false → x ≡ false → (a || (b && x)) ≡ false
+    neither a true x h k = rw (h, k) refl
+    neither a false x h k = rw h refl
+
+left_made : (c : Config) (planned : List Allocation) (next : Option SymbolStart) → ArePlanned c planned → IfSome next (IsNamed planned) → IfSome next (HasLeft planned 0)
+left_made c planned None plan named = tt
+left_made c planned (Some m) plan named = named_left c planned m plan named
+
+pub stands_made : (c : Config) (planned own : List Allocation) (m : RuMemory) (wait : ℤ) (next : Option SymbolStart) → ArePlanned c planned
+    → ((clock : ℤ) → Holds Du c clock m [] []) → own ≡ planned → IsNextSymbol own None next → wait ≡ wait_of Du c.delays
+    → Stands c planned m first_clock wait own (let r : CellCursor = record { next = next; prb = 0 } in r) nothing_yet
+stands_made c planned own m wait next plan holds same found waits =
+    let first : IsNextSymbol planned None next = subst (λ (xs : List Allocation). IsNextSymbol xs None next) same found in
+    stands c planned m first_clock (let r : CellCursor = record { next = next; prb = 0 } in r) nothing_yet (record {
+      holds = holds first_clock;
+      clock_is = refl;
+      time = first_time;
+      begun = same_most first_clock;
+      past = nothing_past c (du_known c planned []);
+      told = λ e cell is down heard. cc;
+      differ = tt;
+      owed = All-nil (IsOwed Du c (du_known c planned []));
+      given = refl;
+      plan = plan;
+      marks = λ e cell is down used.
+          sym (found_behind (start_at cell.ep e cell.slot cell.symbol) cell.prb next
+          (first.first (start_at cell.ep e cell.slot cell.symbol) (used_named c planned e cell plan is.endpoint used) refl));
+      named = first.named;
+    }) own wait same waits (left_made c planned next plan first.named)
+
+-- ---- an arrival
+
+no_later : (a b c : ℤ) → a ≤ℤ b → b ≤ℤ c → a ≤ℤ c
+no_later a b c h k = omega (arith, ints)
+
+module _ (c : Config) (planned own : List Allocation) (m : RuMemory) (clock wait at : ℤ) (cursor : CellCursor) (h : History) (all : Stands c planned m clock wait own cursor h)
+    (order : clock ≤ℤ at) (time : IsTime at) (none : due_of c planned h (at -ℤ pos 1) ≡ []) where
+  abbrev k : Keeps c planned m clock cursor h
+  k = all.kept
+
+  after : h.clock ≤ℤ at
+  after = subst (λ (t : ℤ). t ≤ℤ at) k.clock_is order
+
+  pub holds_at : Holds Du c at m h.arrivals (cells_counted h.reported)
+  holds_at = holds_later Du c h.clock at m h.arrivals (cells_counted h.reported) after k.holds
+
+  pub holds_some : HoldsSome at m
+  holds_some = record { side = Du; config = c; arrivals = h.arrivals; beside = cells_counted h.reported; holds = holds_at }
+
+  is_next : (frame : List ℕ) → IsNextArrival c (arrival at frame) h.arrivals
+  is_next frame = record {
+    limits = k.holds.config.delays;
+    came = holds_at.came;
+    times = All-cons (λ (x : Arrival). IsTime x.at) (arrival at frame) h.arrivals time k.holds.times;
+  }
+
+  pub stands_delivered : (m2 : RuMemory) (frame : List ℕ)
+      → ((arrivals : List Arrival) (beside : List Counter) → Holds Du c at m arrivals beside → Holds Du c at m2 (arrival at frame ∷ arrivals) beside)
+      → Stands c planned m2 at wait own cursor (arrived (at_clock h at) frame)
+  stands_delivered m2 frame holds =
+      stands c planned m2 at cursor (arrived (at_clock h at) frame) (record {
+        holds = holds h.arrivals (cells_counted h.reported) holds_at;
+        clock_is = refl;
+        time = time;
+        begun = no_later first_clock h.clock at k.begun after;
+        past =
+            arrival_leaves_due Du c planned (arrival at frame) h.arrivals h.reported (at -ℤ pos 1) (is_next frame) (same_most (at -ℤ pos 1)) ∙ none;
+        told = k.told;
+        differ = k.differ;
+        owed = All-weaker (IsOwed Du c (du_known c planned h.arrivals)) (IsOwed Du c (du_known c planned (arrival at frame ∷ h.arrivals)))
+            (λ x o. record {
+              endpoint = o.endpoint;
+              cell = o.cell;
+              is_cell = o.is_cell;
+              down = o.down;
+              of_cell = o.of_cell;
+              starts = o.starts;
+              used = o.used;
+            }) h.reported k.owed;
+        given = k.given;
+        plan = k.plan;
+        marks = k.marks;
+        named = k.named;
+      }) own wait all.plan_is all.wait_is all.left

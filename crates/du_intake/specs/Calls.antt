@@ -1,0 +1,33 @@
+-- What the calls of the intake say of the histories for which it stands (this project's profile).
+use Rattle.std.specs.Prelude.{◌≡◌, ◌≢◌, ℤ, pos, ◌-ℤ◌, ◌<ℤ◌, List, [], Option, Some, None}
+use Rattle.fh_time.specs.declared.values.Ticks.{Ticks}
+use Rattle.window_config.specs.declared.config.Config.{Config}
+use Rattle.unit_model.specs.Standing.{History}
+use Rattle.unit_model.specs.declared.allocations.Allocation.{Allocation}
+use Rattle.du_intake.specs.Units.{Stands, due_of}
+use Rattle.du_intake.specs.declared.unit.Intake.{Intake}
+
+-- the unit stands for a history of a configuration, where these uplink allocations are planned
+abbrev pub StandsFor : Config → List Allocation → Intake → History → Type 0
+StandsFor c planned u h = Stands c planned u.memory u.clock.0 u.wait.0 u.planned.items u.cursor h
+
+-- no cell whose moment comes before a time is left to be reported
+abbrev pub IsReportedBefore : Config → List Allocation → History → ℤ → Type 0
+IsReportedBefore c planned h at = due_of c planned h (at -ℤ pos 1) ≡ []
+
+-- it stands for some history, and all cells whose moments come before a time are reported
+pub record MayTakeAt (at : ℤ) (u : Intake) : Type 0 where
+  pub config : Config
+  pub planned : List Allocation
+  pub history : History
+  pub stands : StandsFor config planned u history
+  pub reported : IsReportedBefore config planned history at
+
+-- the least moment of a planned cell that was not reported
+pub record IsLeastMoment (c : Config) (planned : List Allocation) (h : History) (t : ℤ) : Type 0 where
+  pub before : (to : ℤ) → to <ℤ t → due_of c planned h to ≡ []
+  pub at : due_of c planned h t ≢ []
+
+abbrev pub IsDue : Config → List Allocation → History → Option Ticks → Type 0
+IsDue c planned h None = (to : ℤ) → due_of c planned h to ≡ []
+IsDue c planned h (Some t) = IsLeastMoment c planned h t.0

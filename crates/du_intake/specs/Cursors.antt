@@ -1,0 +1,110 @@
+-- The symbols of which uplink cells are planned, in the order in which symbols are told (this project's profile).
+use Rattle.std.specs.Prelude.{pos, ◌≤ℤ◌, ◌≡◌, ℕ, ◌+◌, ◌≤◌, ◌<◌, Bool, true, false, not, ◌&&◌, ◌||◌, nat_lt, if◌then◌else◌, List, slice_get, Option, Some, None, IfSome, ◌⊎◌}
+use Rattle.fh_time.specs.Numbering.{symbols_of}
+use Rattle.window_config.specs.declared.config.Config.{Config}
+use Rattle.unit_model.specs.Claims.{cell_at, claim_at, first_prb, in_mask, is_from, prb_count}
+use Rattle.unit_model.specs.Radiated.{used_mask}
+use Rattle.unit_model.specs.declared.cells.Cell.{Cell}
+use Rattle.unit_model.specs.Order.{comes_before}
+use Rattle.unit_model.specs.Proper.{IsAt, IsSlot}
+use Rattle.unit_model.specs.Starts.{start_at}
+use Rattle.unit_model.specs.declared.allocations.Allocation.{Allocation}
+use Rattle.unit_model.specs.declared.symbol_start.SymbolStart.{SymbolStart}
+use Rattle.ru_reports.specs.Symbols.{IsFound}
+
+-- the times of an allocation's symbols can be told
+pub record IsTimed (a : Allocation) : Type 0 where
+  pub slot_is : IsSlot a.endpoint.numerology a.slot
+  pub within : a.symbol + a.num_symbol ≤ symbols_of a.endpoint.numerology
+
+abbrev pub AreTimed : List Allocation → Type 0
+AreTimed planned = (k : ℕ) (a : Allocation) → slice_get planned k ≡ Some a → IsTimed a
+
+-- ---- a search
+
+-- it comes after the last one, if there is one
+abbrev pub is_after : Option SymbolStart → SymbolStart → Bool
+is_after None m = true
+is_after (Some last) m = comes_before last m
+
+-- the one that comes first of what was found and one more symbol
+abbrev pub earlier_of : Option SymbolStart → SymbolStart → Option SymbolStart
+earlier_of None m = Some m
+earlier_of (Some found) m = if comes_before m found then Some m else Some found
+
+abbrev pub with_symbol : Option SymbolStart → Option SymbolStart → SymbolStart → Option SymbolStart
+with_symbol last found m = if is_after last m then earlier_of found m else found
+
+-- something is found, and this symbol does not come before it
+abbrev pub IsNotBefore : SymbolStart → Option SymbolStart → Type 0
+IsNotBefore m found = IsFound (λ f. comes_before m f ≡ false) found
+
+-- the search went on over these symbols
+pub record Searched (last : Option SymbolStart) (Over : SymbolStart → Type 0) (old new : Option SymbolStart) : Type 0 where
+  pub found : (new ≡ old) ⊎ IsFound (λ m. Over m × (is_after last m ≡ true)) new
+  pub keeps : (m : SymbolStart) → IsNotBefore m old → IsNotBefore m new
+  pub finds : (m : SymbolStart) → Over m → is_after last m ≡ true → IsNotBefore m new
+
+-- one of the first n symbols that an allocation names
+pub record NamesIn (a : Allocation) (n : ℕ) (m : SymbolStart) : Type 0 where
+  pub symbol : is_from a.symbol n m.symbol ≡ true
+  pub is : m ≡ start_at a.ep a.endpoint a.slot m.symbol
+
+-- a symbol that one of the first n of these allocations names
+pub record IsNamedIn (planned : List Allocation) (n : ℕ) (m : SymbolStart) : Type 0 where
+  pub k : ℕ
+  pub below : k < n
+  pub by : Allocation
+  pub at : slice_get planned k ≡ Some by
+  pub names : NamesIn by by.num_symbol m
+
+-- a symbol that one of these allocations names
+pub record IsNamed (planned : List Allocation) (m : SymbolStart) : Type 0 where
+  pub k : ℕ
+  pub by : Allocation
+  pub at : slice_get planned k ≡ Some by
+  pub names : NamesIn by by.num_symbol m
+
+-- the first symbol behind the last one, if there is one, that these allocations name
+pub record IsNextSymbol (planned : List Allocation) (last next : Option SymbolStart) : Type 0 where
+  pub named : IfSome next (IsNamed planned)
+  pub after : IfSome next (λ m. is_after last m ≡ true)
+  pub first : (m : SymbolStart) → IsNamed planned m → is_after last m ≡ true → IsNotBefore m next
+
+-- ---- a cursor
+
+-- the cell of a symbol at a PRB comes before that of the next symbol at the next PRB
+abbrev pub is_behind : Option SymbolStart → ℕ → SymbolStart → ℕ → Bool
+is_behind None next_prb m prb = true
+is_behind (Some next) next_prb m prb = comes_before m next || (not (comes_before next m) && nat_lt prb next_prb)
+
+-- ---- what is planned
+
+-- what a line of a valid plan names of the uplink
+pub record IsPlanned (c : Config) (a : Allocation) : Type 0 where
+  pub at : IsAt c.endpoints a.ep a.endpoint
+  pub begun : pos 1 ≤ℤ a.slot.frame
+  pub ended : a.slot.frame ≤ℤ pos 99999
+  pub timed : IsTimed a
+  pub down : a.down ≡ false
+  pub idle : a.idle ≡ false
+  pub prbs : 0 < prb_count a
+  pub inside : first_prb a + prb_count a ≤ a.endpoint.prbs
+  -- an element that it names
+  pub re : ℕ
+  pub few : re < 12
+  pub mask : in_mask a.mask re ≡ true
+
+abbrev pub ArePlanned : Config → List Allocation → Type 0
+ArePlanned c planned = (k : ℕ) (a : Allocation) → slice_get planned k ≡ Some a → IsPlanned c a
+
+-- the uplink cell of a symbol at a PRB
+abbrev pub cell_in : SymbolStart → ℕ → Cell
+cell_in m prb = cell_at m.ep false m.slot m.symbol prb
+
+-- from a PRB on, a cell of the symbol is planned
+pub record HasLeft (planned : List Allocation) (from : ℕ) (m : SymbolStart) : Type 0 where
+  pub prb : ℕ
+  pub low : from ≤ prb
+  pub below : prb < m.endpoint.prbs
+  pub used : 0 < used_mask (claim_at planned (cell_in m prb))

@@ -1,0 +1,4 @@
+pub mod Planned
+pub mod Cursors
+pub mod Units
+pub mod Calls

@@ -1,0 +1,27 @@
+-- What a plan claims of the uplink (the fields are those of O-RAN.WG4.CUS, C-plane sections; the plan is this project's profile).
+use Rattle.std.specs.Prelude.{◌≡◌, Bool, not, All, List, filter, map}
+use Rattle.window_config.specs.declared.config.Config.{Config}
+use Rattle.window_config.specs.declared.plan.PlanLine.{PlanLine}
+use Rattle.unit_model.specs.declared.allocations.Allocation.{Allocation}
+use Rattle.plan_model.specs.Lines.{allocation_of, is_down, planned}
+use Rattle.plan_model.specs.Valid.{IsValid}
+use Rattle.plan_model.specs.declared.lines.PlannedLine.{PlannedLine}
+use Rattle.window_config.specs.Plans.{IsPlanLine}
+
+abbrev pub is_uplink : PlannedLine → Bool
+is_uplink p = not (is_down p.line.kind)
+
+-- what the uplink lines among these name
+abbrev pub uplink_of : List PlannedLine → List Allocation
+uplink_of ps = map allocation_of (filter is_uplink ps)
+
+-- the lines of a valid plan at their endpoints
+pub record IsPlanOf (c : Config) (lines : List PlannedLine) : Type 0 where
+  pub plan : List PlanLine
+  pub ranges : All IsPlanLine plan
+  pub valid : IsValid c plan
+  pub is : lines ≡ planned c.endpoints plan
+
+-- what the uplink lines of a plan name: no two of a valid plan name one resource element
+abbrev pub planned_of : Config → List PlanLine → List Allocation
+planned_of c plan = uplink_of (planned c.endpoints plan)

@@ -1,0 +1,129 @@
+// The distributed unit's intake.
+ghost use Rattle.std.specs.Prelude.{pos, neg_ℤ, ◌+ℤ◌, ◌≡◌, ◌-◌, ◌^◌, ◌≤ℤ◌, ◌++◌, List, IfOk, length, min};
+ghost use Rattle.air_source.specs.declared.events.Side.TheVariants.{Du as AtDu};
+ghost use Rattle.ecpri_frames.specs.Gathering.{whole_messages};
+ghost use Rattle.ecpri_frames.specs.Messages.{pdu};
+ghost use Rattle.window_config.specs.Configs.{IsConfig};
+ghost use Rattle.window_config.specs.declared.config.Config.{Config as SpecConfig};
+ghost use Rattle.unit_model.specs.Counts.{StandAt, cells_counted};
+ghost use Rattle.unit_model.specs.Proper.{IsTime};
+ghost use Rattle.unit_model.specs.Radiated.{wait_of};
+ghost use Rattle.unit_model.specs.Reports.{arrivals_counted};
+ghost use Rattle.unit_model.specs.Standing.{History, arrived, at_clock, nothing_yet};
+ghost use Rattle.unit_model.specs.declared.allocations.Allocation.{Allocation as SpecAllocation};
+ghost use Rattle.du_intake.specs.Planned.{IsPlanOf, uplink_of};
+
+use crate::cursor::{CellCursor, next_symbol};
+use crate::planned::uplink_of;
+use air_source::Side;
+use fault_counters::Counters;
+use fh_base::NoMemory;
+use fh_time::{Ticks, of_ns};
+use plan_model::PlannedLine;
+use ru_memory::RuMemory;
+use std::alloc::Global;
+use unit_model::{Allocation, Delivered};
+use window_config::Config;
+
+/// A unit's clock begins one frame before 0.
+const FIRST_CLOCK: Ticks = Ticks(-15_360_000_000);
+
+/// How long after the start of its symbol a cell is reported.
+fn wait_of(config: &Config) -> Ticks
+    requires { IsConfig config.now }
+    ensures { result.0 ≡ wait_of AtDu config.now.delays }
+{
+    of_ns(config.delays.ta4.max)
+}
+
+/// The moment of a cell whose symbol starts then.
+fn moment_of(start: Ticks, wait: Ticks) -> Ticks
+    ensures { neg_ℤ (pos (2 ^ 60)) ≤ℤ start.0 → start.0 ≤ℤ pos (2 ^ 60) → pos 0 ≤ℤ wait.0 → wait.0 ≤ℤ pos (2 ^ 60) → result.0 ≡ start.0 +ℤ wait.0 }
+{
+    Ticks(start.0.saturating_add(wait.0))
+}
+
+/// The distributed unit's intake, in memory that is taken when it is made.
+///
+/// Its contracts say of each history for which it stands, for which it stands after a call. Of slots that are live at its clock it
+/// answers as the definitions do over all that ever came; its claims are those of its plan, of every slot.
+#[derive(Drop)]
+pub struct Intake {
+    pub(crate) memory: RuMemory,
+    pub(crate) clock: Ticks,
+    /// What the plan's uplink lines name.
+    pub(crate) planned: Vec<Allocation>,
+    /// Which planned cell is reported next.
+    pub(crate) cursor: CellCursor,
+    /// How long after the start of its symbol a cell is reported: Ta4's maximum.
+    pub(crate) wait: Ticks,
+}
+
+impl Intake {
+    ghost use Rattle.du_intake.specs.Calls.{IsDue, IsReportedBefore, MayTakeAt, StandsFor};
+
+    /// Takes all memory of the unit, for the lines of a plan at their endpoints. Its clock stands one frame before 0.
+    ///
+    /// # Errors
+    ///
+    /// [`NoMemory`] where memory runs out.
+    pub fn make(alloc: Global, config: &Config, lines: &[PlannedLine]) -> Result<Intake, NoMemory>
+        requires config { IsConfig config.now }
+        requires plan { IsPlanOf config.now lines.now }
+        ensures { IfOk result (λ u. StandsFor config.now (uplink_of lines.now) u nothing_yet) }
+    {
+        let planned = uplink_of(alloc, lines)?;
+        let memory = RuMemory::make(alloc, Side::Du, config)?;
+        let next = next_symbol(&planned, &None);
+        Ok(Intake {
+            memory,
+            clock: FIRST_CLOCK,
+            planned,
+            cursor: CellCursor { next, prb: 0 },
+            wait: wait_of(config),
+        })
+    }
+
+    /// The time of the last delivery or close, in ticks; one frame before 0 where there was none.
+    pub fn clock(&self) -> Ticks
+        ensures { (c : SpecConfig) (planned : List SpecAllocation) (h : History) → StandsFor c planned self.now h → result.0 ≡ h.clock }
+    {
+        self.clock
+    }
+
+    /// What the unit counted.
+    pub fn counters(&self) -> &Counters
+        ensures { (c : SpecConfig) (planned : List SpecAllocation) (h : History) → StandsFor c planned self.now h
+            → StandAt result.now (arrivals_counted AtDu c h.arrivals ++ cells_counted h.reported) }
+    {
+        &self.memory.counters
+    }
+
+    /// The least moment, in ticks, of a planned cell that was not reported: the start of its symbol and Ta4's maximum. None where there is
+    /// none.
+    pub fn due(&self) -> Option<Ticks>
+        ensures { (c : SpecConfig) (planned : List SpecAllocation) (h : History) → StandsFor c planned self.now h → IsDue c planned h result }
+    {
+        match &self.cursor.next {
+            Some(next) => Some(moment_of(next.start, self.wait)),
+            None => None,
+        }
+    }
+
+    /// Treats a frame that arrives at a time, in ticks (eCPRI 2.0, and O-RAN.WG4.CUS for the messages; what the unit makes of them is
+    /// this project's profile): not before the clock, and when every planned cell of an earlier moment was reported. The clock is then
+    /// this time. No memory is asked for.
+    pub fn deliver(&mut self, at: Ticks, frame: &[u8]) -> Delivered
+        requires unit { MayTakeAt at.0 self.old }
+        requires order { self.old.clock.0 ≤ℤ at.0 }
+        requires time { IsTime at.0 }
+        ensures stands { (c : SpecConfig) (planned : List SpecAllocation) (h : History) → StandsFor c planned self.old h → IsReportedBefore c planned h at.0
+            → StandsFor c planned self.new (arrived (at_clock h at.0) frame.now) }
+        ensures clock { self.new.clock ≡ at }
+        ensures messages { result.messages ≡ min (length (whole_messages frame.now)) (2 ^ 32 - 1) }
+        ensures refusal { result.refusal ≡ (pdu frame.now).refusal }
+    {
+        self.clock = at;
+        self.memory.arrive(at, frame)
+    }
+}
