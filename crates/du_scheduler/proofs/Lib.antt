@@ -1,0 +1,6 @@
+mod LineLemmas
+mod PartLemmas
+mod PlaceLemmas
+mod FewLemmas
+mod FrameLemmas
+mod GivingLemmas

@@ -1,0 +1,116 @@
+-- The lines of a plan of which none is refused stand at their places.
+use Rattle.std.proofs.Common.{◌≡◌, ℕ, zero, suc, ◌+◌, ◌≤◌, List, [], ◌∷◌, ◌++◌, length, map, inl, inr, Option, Some, None, refl, ap, ap₂, sym, ◌∙◌, arith, subst}
+use Rattle.std.specs.List.{slice_get}
+use Rattle.std.specs.Option.{option_to_list}
+use Rattle.fragment_laws.specs.Apart.{IsIn}
+use Rattle.window_config.specs.declared.config.Config.{Config}
+use Rattle.window_config.specs.declared.endpoints.EndpointConfig.{EndpointConfig}
+use Rattle.window_config.specs.declared.plan.PlanLine.{PlanLine}
+use Rattle.unit_model.specs.Lists.{or_else}
+use Rattle.unit_model.specs.Meetings.{find_endpoint}
+use Rattle.unit_model.specs.declared.allocations.Allocation.{Allocation}
+use Rattle.plan_model.specs.Dense.{dense}
+use Rattle.plan_model.specs.Lines.{allocation_of, planned, planned_at, planned_from, planned_with}
+use Rattle.plan_model.specs.Valid.{IsValid, dense_refused}
+use Rattle.plan_model.specs.Validity.{first_refused, refused_at, refused_from, why_found, why_planned, with_line}
+use Rattle.plan_model.specs.declared.dense.Dense.{Dense}
+use Rattle.plan_model.specs.declared.lines.PlannedLine.{PlannedLine}
+use Rattle.plan_model.specs.declared.refusals.PlanWhy.{PlanWhy}
+
+abbrev index_or : ℕ → Option PlannedLine → ℕ
+index_or k None = k
+index_or k (Some p) = p.index
+
+abbrev line_or : PlanLine → Option PlannedLine → PlanLine
+line_or l None = l
+line_or l (Some p) = p.line
+
+index_is : (k : ℕ) (line : PlanLine) (o : Option (ℕ × EndpointConfig)) → index_or k (planned_with k line o) ≡ k
+index_is k line None = refl
+index_is k line (Some found) = refl
+
+line_is : (k : ℕ) (line : PlanLine) (o : Option (ℕ × EndpointConfig)) → line_or line (planned_with k line o) ≡ line
+line_is k line None = refl
+line_is k line (Some found) = refl
+
+none_refused : (k : ℕ) (w : Option PlanWhy) (later : Option (ℕ × PlanWhy)) → refused_at k w later ≡ None → later ≡ None
+none_refused k None later h = h
+none_refused k (Some why) later h = absurd cc
+
+-- a line at its place, where the first has the place k
+pub record IsPlaceOf (p : PlannedLine) (k : ℕ) (ps : List PlannedLine) : Type 0 where
+  pub i : ℕ
+  pub index : p.index ≡ k + i
+  pub at : slice_get ps i ≡ Some p
+
+next_place : (k i : ℕ) → k + 1 + i ≡ k + suc i
+next_place k i = omega arith
+
+from_none : (i : ℕ) → 0 + i ≡ i
+from_none i = omega arith
+
+no_place_more : (k : ℕ) → k ≡ k + 0
+no_place_more k = omega arith
+
+places : (es : List EndpointConfig) (earlier : List Allocation) (k : ℕ) (lines : List PlanLine) → refused_from es earlier k lines ≡ None → (p : PlannedLine) → IsIn p (planned_from es k lines)
+    → IsPlaceOf p k (planned_from es k lines)
+unfolding refused_from planned_from
+places es earlier k [] h p m = absurd m
+places es earlier k (line ∷ lines) h p m = go (planned_at es k line) (index_is k line (find_endpoint es line.id)) h (λ q g. places es (allocation_of q ∷ earlier) (k + 1) lines g p) m
+  where
+    go : (o : Option PlannedLine) → index_or k o ≡ k → refused_at k (why_found earlier o) (refused_from es (with_line o earlier) (k + 1) lines) ≡ None
+        → ((q : PlannedLine) → refused_from es (allocation_of q ∷ earlier) (k + 1) lines ≡ None → IsIn p (planned_from es (k + 1) lines) → IsPlaceOf p (k + 1) (planned_from es (k + 1) lines))
+        → IsIn p (option_to_list o ++ planned_from es (k + 1) lines) → IsPlaceOf p k (option_to_list o ++ planned_from es (k + 1) lines)
+    go None e g rest i = absurd cc
+    go (Some q) e g rest i = elim i [
+      | inl same ↦ record { i = 0; index = ap (λ (x : PlannedLine). x.index) same ∙ e ∙ no_place_more k; at = ap (λ (x : PlannedLine). Some x) (sym same) }
+      | inr t ↦ (let r = rest q (none_refused k (why_planned earlier q) (refused_from es (allocation_of q ∷ earlier) (k + 1) lines) g) t in
+          record { i = suc r.i; index = r.index ∙ next_place k r.i; at = r.at })
+    ]
+
+-- and they are all the lines
+kept : (es : List EndpointConfig) (earlier : List Allocation) (k : ℕ) (lines : List PlanLine) → refused_from es earlier k lines ≡ None → map (λ p. p.line) (planned_from es k lines) ≡ lines
+unfolding refused_from planned_from
+kept es earlier k [] h = refl
+kept es earlier k (line ∷ lines) h = go (planned_at es k line) (line_is k line (find_endpoint es line.id)) h (λ q. kept es (allocation_of q ∷ earlier) (k + 1) lines)
+  where
+    go : (o : Option PlannedLine) → line_or line o ≡ line → refused_at k (why_found earlier o) (refused_from es (with_line o earlier) (k + 1) lines) ≡ None
+        → ((q : PlannedLine) → refused_from es (allocation_of q ∷ earlier) (k + 1) lines ≡ None → map (λ p. p.line) (planned_from es (k + 1) lines) ≡ lines)
+        → map (λ p. p.line) (option_to_list o ++ planned_from es (k + 1) lines) ≡ line ∷ lines
+    go None e g rest = absurd cc
+    go (Some q) e g rest = ap₂ (λ (l : PlanLine) (ls : List PlanLine). l ∷ ls) e (rest q (none_refused k (why_planned earlier q) (refused_from es (allocation_of q ∷ earlier) (k + 1) lines) g))
+
+no_else : (x : Option (ℕ × PlanWhy)) (d : Option Dense) → or_else x (dense_refused d) ≡ None → x ≡ None
+no_else (Some w) d h = absurd cc
+no_else None d h = refl
+
+none_first : (c : Config) (lines : List PlanLine) → IsValid c lines → first_refused c.endpoints lines ≡ None
+none_first c lines valid = no_else (first_refused c.endpoints lines) (dense c (planned c.endpoints lines)) valid
+
+pub line_place : (c : Config) (lines : List PlanLine) → IsValid c lines → (p : PlannedLine) → IsIn p (planned c.endpoints lines) → slice_get (planned c.endpoints lines) p.index ≡ Some p
+line_place c lines valid p m =
+    let r = places c.endpoints [] 0 lines (none_first c lines valid) p m in
+    let here : p.index ≡ r.i = r.index ∙ from_none r.i in
+    ap (λ i. slice_get (planned c.endpoints lines) i) here ∙ r.at
+
+pub lines_kept : (c : Config) (lines : List PlanLine) → IsValid c lines → map (λ p. p.line) (planned c.endpoints lines) ≡ lines
+lines_kept c lines valid = kept c.endpoints [] 0 lines (none_first c lines valid)
+
+at_line : (ps : List PlannedLine) (k : ℕ) (p : PlannedLine) → slice_get ps k ≡ Some p → slice_get (map (λ (q : PlannedLine). q.line) ps) k ≡ Some p.line
+at_line [] k p h = cc
+at_line (q ∷ qs) zero p h = cc
+at_line (q ∷ qs) (suc k) p h = at_line qs k p h
+
+past_lines : (ps : List PlannedLine) (k : ℕ) → length ps ≤ k → slice_get (map (λ (q : PlannedLine). q.line) ps) k ≡ None
+past_lines [] k h = refl
+past_lines (q ∷ qs) zero h = absurd (omega (arith, h))
+past_lines (q ∷ qs) (suc k) h = past_lines qs k (omega (arith, h))
+
+-- what stands at a place of the lines
+pub line_here : (c : Config) (lines : List PlanLine) (ps : List PlannedLine) (k : ℕ) (p : PlannedLine) → IsValid c lines → ps ≡ planned c.endpoints lines → slice_get ps k ≡ Some p → Some p.line ≡ slice_get lines k
+line_here c lines ps k p valid is at =
+    sym (at_line ps k p at) ∙ ap (λ (qs : List PlannedLine). slice_get (map (λ (q : PlannedLine). q.line) qs) k) is ∙ ap (λ (ls : List PlanLine). slice_get ls k) (lines_kept c lines valid)
+
+pub no_line : (c : Config) (lines : List PlanLine) (ps : List PlannedLine) (k : ℕ) → IsValid c lines → ps ≡ planned c.endpoints lines → length ps ≤ k → None ≡ slice_get lines k
+no_line c lines ps k valid is past =
+    sym (past_lines ps k past) ∙ ap (λ (qs : List PlannedLine). slice_get (map (λ (q : PlannedLine). q.line) qs) k) is ∙ ap (λ (ls : List PlanLine). slice_get ls k) (lines_kept c lines valid)

@@ -1,0 +1,32 @@
+-- A message whose parts stand in a list of lines, as it can be written (this project's means).
+use Rattle.std.specs.Prelude.{◌≡◌, ◌<◌, ◌≤◌, ⊤, List, [], ◌∷◌, length, map, Some}
+use Rattle.std.specs.List.{slice_get}
+use Rattle.plan_model.specs.Packs.{Message, parts_of}
+use Rattle.plan_model.specs.Streams.{Part}
+use Rattle.plan_model.specs.declared.lines.PlannedLine.{PlannedLine}
+use Rattle.frame_bytes.specs.Messages.{MessageFits}
+use Rattle.frame_bytes.specs.declared.messages.DataSection.{DataSection}
+use Rattle.sent_frames.specs.Messages.{carrier_of, data_head, data_section}
+use Rattle.plan_table.specs.Kept.{placed_line}
+use Rattle.plan_table.specs.declared.kept.PlacedLine.{PlacedLine}
+
+-- each part's line stands at its place
+abbrev pub StandIn : List PlannedLine → List Part → Type 0
+StandIn lines [] = ⊤
+StandIn lines (x ∷ xs) = (slice_get lines x.planned.index ≡ Some x.planned) × StandIn lines xs
+
+-- these are the places of the parts
+pub record StandsAt (lines : List PlannedLine) (parts : List PlacedLine) (xs : List Part) : Type 0 where
+  pub are : parts ≡ map placed_line xs
+  pub stand : StandIn lines xs
+
+abbrev pub sections_of : Message Part → List DataSection
+sections_of m = map data_section (parts_of m)
+
+-- a data message that can be written
+pub record IsData (lines : List PlannedLine) (parts : List PlacedLine) (m : Message Part) : Type 0 where
+  pub at : StandsAt lines parts (parts_of m)
+  pub few : length (parts_of m) ≤ 64
+  pub symbol : m.first.symbol < 14
+  pub prbs : m.first.planned.endpoint.prbs ≤ 273
+  pub fits : MessageFits (carrier_of m.first.planned.endpoint) (data_head m.first) (sections_of m)

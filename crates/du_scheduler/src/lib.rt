@@ -1,0 +1,14 @@
+//! The distributed unit's schedule: a plan that was tested, and the frames that it sends, one after the other.
+//!
+//! [`Plan::check`] tests the lines of a plan and takes all memory. [`Plan::next_frame`] lends the frames in their order, each
+//! written into one room: C-plane commands of the lines, and fragments of the downlink U-plane messages with a source's samples.
+//! The plan, its tests and the order of frames are this project's profile; layouts and windows are those of O-RAN.WG4.CUS.
+#![tactic(auto)]
+
+mod keeping;
+mod plans;
+mod writing;
+
+pub use plan_model::PlanWhy;
+pub use plan_tests::PlanRefusal;
+pub use plans::{Plan, Plane, Sent};
