@@ -1,0 +1,6 @@
+pub mod FrameLemmas
+pub mod NumberLemmas
+pub mod SendableLemmas
+pub mod CloseLemmas
+pub mod TakeLemmas
+pub mod EmitLemmas

@@ -1,0 +1,179 @@
+-- A job is taken into the message that is open, or opens its own.
+use Rattle.std.proofs.Common.{◌≡◌, ℕ, ◌+◌, ◌<◌, ◌≤◌, ◌==◌, ◌&&◌, nat_lt, nat_le, Bool, true, false, if◌then◌else◌, List, [], ◌∷◌, ◌++◌, map, length, sum, refl, sym, ap, ◌∙◌, arith, subst, append-nil, get_or, Option, None}
+use Rattle.std.proofs.lemmas.Bool.{and_parts, eqb-true, leb-true, ltb-true}
+use Rattle.std.proofs.lemmas.List.{length-append, map-append}
+use Rattle.std.proofs.lemmas.List.Elements.{All-append, All-cons, All-nil}
+use Rattle.std.proofs.lemmas.List.Sums.{sum_by-append}
+use Rattle.std.proofs.lemmas.Option.{get_or_from_slice_get}
+use Rattle.fh_time.specs.Carrier.{is_outside}
+use Rattle.air_source.specs.Answers.{AnswersBy}
+use Rattle.air_source.specs.declared.links.LinkFrame.{LinkFrame}
+use Rattle.air_source.specs.declared.places.RePlace.{RePlace}
+use Rattle.bfp_codec.specs.declared.samples.Wide.{Wide}
+use Rattle.window_config.specs.Configs.{IsConfig}
+use Rattle.window_config.specs.declared.config.Config.{Config}
+use Rattle.window_config.specs.declared.endpoints.EndpointConfig.{EndpointConfig}
+use Rattle.unit_model.specs.Claims.{same_slot}
+use Rattle.unit_model.specs.Proper.{IsAt}
+use Rattle.unit_model.specs.declared.jobs.UplinkJob.{UplinkJob}
+use Rattle.unit_model.proofs.OntoLemmas.{onto_none, onto_one}
+use Rattle.plan_model.specs.Packs.{Message, alone, parts_of, size_of, takes, with_part}
+use Rattle.uplink_model.specs.Frames.{Antenna, frames_behind, message_frames}
+use Rattle.uplink_model.specs.Messages.{job_fields, messages_behind, takes_job}
+use Rattle.uplink_path.specs.Emitting.{Numbered}
+use Rattle.uplink_path.specs.Opened.{CanTake, IsPartOf, IsProperMessage, StoppedAtJob, TookJob, messages_from}
+use Rattle.uplink_path.specs.Packing.{IsPacked}
+use Rattle.uplink_path.specs.Sending.{SentSome}
+use Rattle.uplink_path.specs.declared.pending.Pending.{Pending}
+use Rattle.uplink_path.specs.declared.uplink.Uplink.{Uplink}
+use Rattle.uplink_path.proofs.CloseLemmas.{OpenIs}
+use Rattle.uplink_path.proofs.SendableLemmas.{endpoint_read}
+
+-- ---- what a message takes
+
+-- what is said where it takes a job
+pub record Taking (c : Config) (m : Message UplinkJob) (j : UplinkJob) : Type 0 where
+  pub ep : j.ep ≡ m.first.ep
+  pub few : length (parts_of m) < c.pack
+  pub size : size_of (job_fields c.endpoints) m + (job_fields c.endpoints).size j ≤ 16384
+
+pub taking : (c : Config) (m : Message UplinkJob) (j : UplinkJob) → takes_job c m j ≡ true → Taking c m j
+taking c m j is =
+    let f = job_fields c.endpoints in
+    let (ep, as_part) = and_parts (m.first.ep == j.ep) (takes f c.pack m j) is in
+    let (symbol, rest) = and_parts (same_slot m.first.slot j.slot && (m.first.symbol == j.symbol))
+    ((m.first.filter == j.filter) && (nat_lt (length (parts_of m)) c.pack && nat_le (size_of f m + f.size j) 16384)) as_part in
+    let (filter, sizes) = and_parts (m.first.filter == j.filter) (nat_lt (length (parts_of m)) c.pack && nat_le (size_of f m + f.size j) 16384) rest in
+    let (few, size) = and_parts (nat_lt (length (parts_of m)) c.pack) (nat_le (size_of f m + f.size j) 16384) sizes in
+    record {
+      ep = sym (eqb-true m.first.ep j.ep ep);
+      few = ltb-true (length (parts_of m)) c.pack few;
+      size = leb-true (size_of f m + f.size j) 16384 size;
+    }
+
+size_with : (f : UplinkJob → ℕ) (js : List UplinkJob) (j : UplinkJob) → sum (map f (js ++ j ∷ [])) ≡ sum (map f js) + f j
+size_with f js j =
+    ap sum (map-append f js (j ∷ [])) ∙ sum_by-append (λ (n : ℕ). n) (map f js) (map f (j ∷ [])) ∙ omega arith
+
+-- ---- proper messages
+
+one_part : (c : Config) (j : UplinkJob) (can : CanTake c j) → IsPartOf can.proper.endpoint j.ep j
+one_part c j can = record { ep_is = refl; start_prb = can.proper.start_prb; prbs = can.proper.prbs }
+
+pub proper_alone : (c : Config) (p : Pending) (j : UplinkJob) → CanTake c j → IsPacked c p (alone j) → p.size ≤ 16384 → IsProperMessage c (alone j)
+proper_alone c p j can packed short = record {
+  to = can.to;
+  first = can.proper;
+  high = can.high;
+  parts = All-cons (IsPartOf can.proper.endpoint j.ep) j [] (one_part c j can) (All-nil (IsPartOf can.proper.endpoint j.ep));
+  size = omega (arith, packed.size, short);
+  few = omega arith;
+}
+
+same_endpoint : (c : Config) (m : Message UplinkJob) (j : UplinkJob) (proper : IsProperMessage c m) (can : CanTake c j) → j.ep ≡ m.first.ep
+    → can.proper.endpoint ≡ proper.first.endpoint
+same_endpoint c m j proper can same =
+    let x = proper.first.endpoint in
+    sym (get_or_from_slice_get c.endpoints j.ep can.proper.endpoint x can.proper.endpoint_is)
+    ∙ ap (λ (k : ℕ). get_or c.endpoints k x) same ∙ get_or_from_slice_get c.endpoints m.first.ep x x proper.first.endpoint_is
+
+part_as : (e x : EndpointConfig) (ep : ℕ) (j : UplinkJob) → j.ep ≡ ep → x ≡ e → j.start_prb < 1024 → is_outside x.prbs j.start_prb j.num_prb ≡ false → IsPartOf e ep j
+part_as e x ep j same is low prbs =
+    record { ep_is = same; start_prb = low; prbs = subst (λ (y : EndpointConfig). is_outside y.prbs j.start_prb j.num_prb ≡ false) is prbs }
+
+pub proper_with : (c : Config) (m : Message UplinkJob) (j : UplinkJob) → IsConfig c → IsProperMessage c m → CanTake c j → takes_job c m j ≡ true
+    → IsProperMessage c (with_part m j)
+proper_with c m j good proper can is =
+    let t = taking c m j is in
+    let e = proper.first.endpoint in
+    let sizes = size_with (job_fields c.endpoints).size (parts_of m) j in
+    let longer = length-append (parts_of m) (j ∷ []) in
+    record {
+      to = proper.to;
+      first = proper.first;
+      high = proper.high;
+      parts = All-append (IsPartOf e m.first.ep) (parts_of m) (j ∷ []) proper.parts
+          (All-cons (IsPartOf e m.first.ep) j [] (part_as e can.proper.endpoint m.first.ep j t.ep (same_endpoint c m j proper can t.ep) can.proper.start_prb can.proper.prbs)
+          (All-nil (IsPartOf e m.first.ep)));
+      size = omega (arith, sizes, t.size);
+      few = omega (arith, longer, t.few, good.pack_high);
+    }
+
+-- ---- the job's endpoint as it is read
+
+pub job_endpoint : {F : Type 0} (c : Config) (u : Uplink F) (ms : List (Message UplinkJob)) (j : UplinkJob) (x : EndpointConfig) → Numbered c u ms → (can : CanTake c j)
+    → x ≡ get_or u.endpoints.items j.ep x → IsAt c.endpoints j.ep x
+job_endpoint c u ms j x n can is =
+    let same = endpoint_read c.endpoints j.ep j.ep can.proper.endpoint x can.proper.endpoint_is refl (is ∙ ap (λ (l : List EndpointConfig). get_or l j.ep x) n.endpoints) in
+    subst (λ (e : EndpointConfig). IsAt c.endpoints j.ep e) (sym same) can.proper.endpoint_is
+
+-- ---- a job was taken
+
+none_more : (c : Config) (antenna : Antenna) (ms : List (Message UplinkJob)) (old : List LinkFrame) → old ≡ old ++ frames_behind c antenna ms []
+unfolding frames_behind
+none_more c antenna ms old = sym (append-nil old)
+
+one_more : (c : Config) (antenna : Antenna) (ms : List (Message UplinkJob)) (m : Message UplinkJob) → message_frames c antenna ms m ≡ frames_behind c antenna ms (m ∷ [])
+unfolding frames_behind
+one_more c antenna ms m = sym (append-nil (message_frames c antenna ms m))
+
+goes_on : (c : Config) (m : Message UplinkJob) (j : UplinkJob) → takes_job c m j ≡ true → (js : List UplinkJob)
+    → messages_behind c m (j ∷ js) ≡ messages_behind c (with_part m j) js
+unfolding messages_behind
+goes_on c m j is js = ap (λ (b : Bool). if b then messages_behind c (with_part m j) js else m ∷ messages_behind c (alone j) js) is
+
+begins : (c : Config) (m : Message UplinkJob) (j : UplinkJob) → takes_job c m j ≡ false → (js : List UplinkJob)
+    → messages_behind c m (j ∷ js) ≡ m ∷ messages_behind c (alone j) js
+unfolding messages_behind
+begins c m j is js = ap (λ (b : Bool). if b then messages_behind c (with_part m j) js else m ∷ messages_behind c (alone j) js) is
+
+-- into the message that is open
+pub took_with : {F : Type 0} (post : RePlace → Wide → Type 0) (c : Config) (ms : List (Message UplinkJob)) (p q : Pending) (om : Option (Message UplinkJob)) (j : UplinkJob) (u : Uplink F) (old : List LinkFrame)
+    → Numbered c u ms → (o : OpenIs c p om) → CanTake c j → takes_job c o.message j ≡ true → IsPacked c q (with_part o.message j)
+    → TookJob post c ms om j u q old old
+took_with post c ms p q om j u old n o can is packed = record {
+  closed = [];
+  message = with_part o.message j;
+  is = λ js. ap (λ (x : Option (Message UplinkJob)). messages_from c x (j ∷ js)) o.is ∙ goes_on c o.message j is js;
+  packed = packed;
+  proper = proper_with c o.message j n.config o.proper can is;
+  sent = λ antenna said. none_more c antenna ms old;
+  numbered = subst (λ (l : List (Message UplinkJob)). Numbered c u l) (sym (onto_none ms)) n;
+}
+
+-- the one that is open was closed
+pub took_anew : {F : Type 0} (post : RePlace → Wide → Type 0) (c : Config) (ms : List (Message UplinkJob)) (p q : Pending) (om : Option (Message UplinkJob)) (j : UplinkJob) (u : Uplink F) (old new : List LinkFrame)
+    → (o : OpenIs c p om) → CanTake c j → takes_job c o.message j ≡ false → IsPacked c q (alone j) → q.size ≤ 16384
+    → ((antenna : Antenna) → AnswersBy post antenna → new ≡ old ++ message_frames c antenna ms o.message) → Numbered c u (o.message ∷ ms)
+    → TookJob post c ms om j u q old new
+took_anew post c ms p q om j u old new o can is packed short sent n = record {
+  closed = o.message ∷ [];
+  message = alone j;
+  is = λ js. ap (λ (x : Option (Message UplinkJob)). messages_from c x (j ∷ js)) o.is ∙ begins c o.message j is js;
+  packed = packed;
+  proper = proper_alone c q j can packed short;
+  sent = λ antenna said. sent antenna said ∙ ap (λ (l : List LinkFrame). old ++ l) (one_more c antenna ms o.message);
+  numbered = subst (λ (l : List (Message UplinkJob)). Numbered c u l) (sym (onto_one ms o.message [] ∙ onto_none (o.message ∷ ms))) n;
+}
+
+-- none was open
+pub took_first : {F : Type 0} (post : RePlace → Wide → Type 0) (c : Config) (ms : List (Message UplinkJob)) (q : Pending) (om : Option (Message UplinkJob)) (j : UplinkJob) (u : Uplink F) (old : List LinkFrame)
+    → om ≡ None → CanTake c j → IsPacked c q (alone j) → q.size ≤ 16384 → Numbered c u ms → TookJob post c ms om j u q old old
+took_first post c ms q om j u old none can packed short n = record {
+  closed = [];
+  message = alone j;
+  is = λ js. ap (λ (x : Option (Message UplinkJob)). messages_from c x (j ∷ js)) none;
+  packed = packed;
+  proper = proper_alone c q j can packed short;
+  sent = λ antenna said. none_more c antenna ms old;
+  numbered = subst (λ (l : List (Message UplinkJob)). Numbered c u l) (sym (onto_none ms)) n;
+}
+
+pub stopped : (c : Config) (ms : List (Message UplinkJob)) (antenna : Antenna) (p : Pending) (om : Option (Message UplinkJob)) (j : UplinkJob) (old new : List LinkFrame) (o : OpenIs c p om)
+    → takes_job c o.message j ≡ false → SentSome (message_frames c antenna ms o.message) old new → StoppedAtJob c ms antenna om j old new
+stopped c ms antenna p om j old new o is some = record {
+  closed = o.message ∷ [];
+  rest = λ js. messages_behind c (alone j) js;
+  is = λ js. ap (λ (x : Option (Message UplinkJob)). messages_from c x (j ∷ js)) o.is ∙ begins c o.message j is js;
+  some = subst (λ (l : List LinkFrame). SentSome l old new) (one_more c antenna ms o.message) some;
+}

@@ -1,0 +1,4 @@
+pub mod Packing
+pub mod Sending
+pub mod Emitting
+pub mod Opened
