@@ -16,9 +16,9 @@ use std::test::Fail;
 use window_config::Config;
 
 /// 9.6 ms, and the start of frame 1.
-const FIRST: Ticks = Ticks(14_745_600_000);
+pub(crate) const FIRST: Ticks = Ticks(14_745_600_000);
 
-const START: Ticks = Ticks(15_360_000_000);
+pub(crate) const START: Ticks = Ticks(15_360_000_000);
 
 /// What a unit to which a command came at a time sends at a later one, where element k answers (k, -k); it sends no more at that time.
 fn sent(
@@ -55,7 +55,7 @@ fn sent(
 }
 
 /// Whether a frame that was sent has this time, and begins with these bytes.
-fn is_sent(link: &MemoryLink, place: usize, at: i64, bytes: &[u8]) -> bool {
+pub(crate) fn is_sent(link: &MemoryLink, place: usize, at: i64, bytes: &[u8]) -> bool {
     match link.frames().get(place) {
         Some(sent) => sent.at == Ticks(at)
             && sent.ep == 0

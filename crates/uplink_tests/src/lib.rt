@@ -7,6 +7,8 @@
 #[cfg(test)]
 mod frames;
 #[cfg(test)]
+mod numbers;
+#[cfg(test)]
 mod refusals;
 #[cfg(test)]
 mod samples;
