@@ -63,7 +63,7 @@ one_cell e cell start claims block heard done down is =
     kept_one (unheard heard) (used_mask claims == 0) done (air_cell Du e cell start claims block)
     (ap not (reported_by_mark Du e cell start claims block heard down ∙ is))
 
-nothing_if : (done none : Bool) (a : AirCell) → (none ≡ false → done ≡ true) → (let xs : List AirCell = if done then [] else one_unless none a in xs) ≡ []
+pub nothing_if : (done none : Bool) (a : AirCell) → (none ≡ false → done ≡ true) → (let xs : List AirCell = if done then [] else one_unless none a in xs) ≡ []
 nothing_if true none a h = refl
 nothing_if false true a h = refl
 nothing_if false false a h = let e : false ≡ true = h refl in cc
@@ -87,7 +87,7 @@ by_cells k heard ep e slot symbol =
     each_related (λ xs ys. filter (unheard heard) xs ≡ ys) (filter_kept (unheard heard)) 0 e.prbs (cell_report Du k ep e slot symbol)
     (cells_left k heard ep e slot symbol) (λ prb above below. refl)
 
-each_nothing : (n : ℕ) (f : ℕ → List AirCell) → ((k : ℕ) → k < n → f k ≡ []) → each 0 n f ≡ []
+pub each_nothing : (n : ℕ) (f : ℕ → List AirCell) → ((k : ℕ) → k < n → f k ≡ []) → each 0 n f ≡ []
 each_nothing n f none = each_related (λ xs ys. xs ≡ []) none_kept 0 n f f (λ k above below. none k (small k n below))
   where
     small : (k n : ℕ) → k < 0 + n → k < n
@@ -120,7 +120,7 @@ both_ways false h k = cc
 first_behind : (a b : Bool) → a ≡ true → (a || b) ≡ true
 first_behind a b h = rw h refl
 
-own_not_behind : (a b x : Bool) → a ≡ false → x ≡ false → (a || (b && x)) ≡ false
+pub own_not_behind : (a b x : Bool) → a ≡ false → x ≡ false → (a || (b && x)) ≡ false
 own_not_behind a true x h k = rw (h, k) refl
 own_not_behind a false x h k = rw h refl
 
@@ -129,7 +129,7 @@ not_less a b h = grind (arith, nat_tests)
 
 -- ---- times
 
-begun_late : (frame start : ℤ) (offset : ℕ) (wait : ℤ) → pos 1 ≤ℤ frame → start ≡ frame *ℤ pos 15360000000 +ℤ pos offset → pos 0 ≤ℤ wait → (first_clock -ℤ wait) ≤ℤ start
+pub begun_late : (frame start : ℤ) (offset : ℕ) (wait : ℤ) → pos 1 ≤ℤ frame → start ≡ frame *ℤ pos 15360000000 +ℤ pos offset → pos 0 ≤ℤ wait → (first_clock -ℤ wait) ≤ℤ start
 begun_late frame start offset wait h e w = omega (arith, ints)
 
 in_end : (start wait : ℤ) → start <ℤ (((start +ℤ wait) -ℤ wait) +ℤ pos 1)
@@ -285,10 +285,10 @@ start_bounds c planned m clock cursor h k next named is =
     (subst (λ (f : ℤ). pos 1 ≤ℤ f) (sym frame) p.begun) (subst (λ (f : ℤ). f ≤ℤ pos 99999) (sym frame) p.ended)
     (symbol_short next.endpoint.numerology next.slot next.symbol (offsets_short next.endpoint.numerology) swept.slot_is swept.symbol_is) (sym swept.starts)
 
-wait_bounds : (n : ℤ) → pos 0 ≤ℤ n → n ≤ℤ pos 2000000 → (pos 0 ≤ℤ ticks_of_ns n) × (ticks_of_ns n ≤ℤ pos (2 ^ 60))
+pub wait_bounds : (n : ℤ) → pos 0 ≤ℤ n → n ≤ℤ pos 2000000 → (pos 0 ≤ℤ ticks_of_ns n) × (ticks_of_ns n ≤ℤ pos (2 ^ 60))
 wait_bounds n low high = (omega (arith, ints), omega (arith, ints))
 
-least_not_negative : (a b : ℤ) → pos 0 ≤ℤ a → a ≤ℤ b → pos 0 ≤ℤ b
+pub least_not_negative : (a b : ℤ) → pos 0 ≤ℤ a → a ≤ℤ b → pos 0 ≤ℤ b
 least_not_negative a b h k = omega (arith, ints)
 
 pub due_none : (c : Config) (planned own : List Allocation) (m : RuMemory) (clock wait : ℤ) (cursor : CellCursor) (h : History) → Stands c planned m clock wait own cursor h

@@ -3,3 +3,7 @@ pub mod PlanLemmas
 pub mod UsedLemmas
 pub mod DueLemmas
 pub mod UnitLemmas
+pub mod CellLemmas
+pub mod StepLemmas
+pub mod CloseLemmas
+pub mod LoopLemmas

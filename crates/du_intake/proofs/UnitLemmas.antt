@@ -40,7 +40,7 @@ whole_data c d is = omega (arith, is.blocks)
 -- ---- what it answers
 
 module _ (c : Config) (planned : List Allocation) (m : RuMemory) (clock : ℤ) (cursor : CellCursor) (h : History) (k : Keeps c planned m clock cursor h) where
-  all_told : All IsTold (timely_of Du c h.arrivals)
+  pub all_told : All IsTold (timely_of Du c h.arrivals)
   all_told =
       All-weaker (IsProperData c.endpoints) IsTold (whole_data c) (timely_of Du c h.arrivals)
       (all_timely (IsProperData c.endpoints) Du c.delays (data_of Du c h.arrivals) (data_are_proper Du c h.clock h.arrivals k.holds.came k.holds.times))
@@ -85,7 +85,7 @@ first_time = record { low = omega (arith, ints); high = omega (arith, ints) }
 same_most : (a : ℤ) → a ≤ℤ a
 same_most a = omega (arith, ints)
 
-found_behind : (x : SymbolStart) (prb : ℕ) (next : Option SymbolStart) → IsNotBefore x next → is_behind next 0 x prb ≡ false
+pub found_behind : (x : SymbolStart) (prb : ℕ) (next : Option SymbolStart) → IsNotBefore x next → is_behind next 0 x prb ≡ false
 found_behind x prb None h = absurd h
 found_behind x prb (Some f) h = neither (comes_before x f) (not (comes_before f x)) (nat_lt prb 0) h (grind (arith, nat_tests))
   where
@@ -121,7 +121,7 @@ stands_made c planned own m wait next plan holds same found waits =
 
 -- ---- an arrival
 
-no_later : (a b c : ℤ) → a ≤ℤ b → b ≤ℤ c → a ≤ℤ c
+pub no_later : (a b c : ℤ) → a ≤ℤ b → b ≤ℤ c → a ≤ℤ c
 no_later a b c h k = omega (arith, ints)
 
 module _ (c : Config) (planned own : List Allocation) (m : RuMemory) (clock wait at : ℤ) (cursor : CellCursor) (h : History) (all : Stands c planned m clock wait own cursor h)

@@ -3,6 +3,7 @@ ghost use Rattle.std.specs.Prelude.{◌≡◌, ◌<◌};
 ghost use Rattle.fh_time.specs.Numbering.{symbols_of};
 ghost use Rattle.unit_model.specs.Proper.{IsSlot};
 ghost use Rattle.unit_model.specs.Starts.{start_at};
+ghost use Rattle.du_intake.specs.Closing.{IsNextPlace};
 ghost use Rattle.du_intake.specs.Cursors.{AreTimed, IsNextSymbol, IsTimed, Searched, NamesIn, earlier_of, is_after, with_symbol};
 
 use fh_time::air;
@@ -100,4 +101,23 @@ pub(crate) fn next_symbol(planned: &[Allocation], last: &Option<SymbolStart>) ->
         first = first_of_line(a, last, first);
     }
     first
+}
+
+/// The place behind a PRB of a symbol: the symbol's next PRB, or the first of the next symbol that an allocation names.
+pub(crate) fn next_place(planned: &[Allocation], m: &SymbolStart, prb: u16) -> CellCursor
+    requires timed { AreTimed planned.now }
+    requires within { prb < m.now.endpoint.prbs }
+    ensures { IsNextPlace planned.now m.now prb result }
+{
+    let prbs = m.endpoint.prbs;
+    if prb + 1 < prbs {
+        return CellCursor {
+            next: Some(*m),
+            prb: prb + 1,
+        };
+    }
+    CellCursor {
+        next: next_symbol(planned, &Some(*m)),
+        prb: 0,
+    }
 }

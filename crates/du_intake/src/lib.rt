@@ -5,6 +5,8 @@
 //! histories it stands (`specs/Calls.antt`), by the definitions of `unit_model` over all that ever came.
 #![tactic(auto)]
 
+mod claims;
+mod closing;
 mod cursor;
 mod planned;
 mod unit;

@@ -37,7 +37,7 @@ fn wait_of(config: &Config) -> Ticks
 }
 
 /// The moment of a cell whose symbol starts then.
-fn moment_of(start: Ticks, wait: Ticks) -> Ticks
+pub(crate) fn moment_of(start: Ticks, wait: Ticks) -> Ticks
     ensures { neg_ℤ (pos (2 ^ 60)) ≤ℤ start.0 → start.0 ≤ℤ pos (2 ^ 60) → pos 0 ≤ℤ wait.0 → wait.0 ≤ℤ pos (2 ^ 60) → result.0 ≡ start.0 +ℤ wait.0 }
 {
     Ticks(start.0.saturating_add(wait.0))

@@ -1,0 +1,146 @@
+-- The cursor goes on, cell by cell, and so does the report.
+use Rattle.std.proofs.Common.{◌≡◌, ℕ, ℤ, ◌+◌, ◌<◌, ◌≤◌, Bool, true, false, not, ◌&&◌, ◌||◌, List, Option, Some, None, inl, inr, refl, sym, ap, ◌∙◌, subst, arith}
+use Rattle.std.specs.Prelude.{nat_lt, IfSome}
+use Rattle.std.proofs.lemmas.Bool.{cases_Bool}
+use Rattle.std.proofs.lemmas.Bool.Decides.{nat_tests}
+use Rattle.window_config.specs.declared.config.Config.{Config}
+use Rattle.window_config.specs.declared.endpoints.EndpointConfig.{EndpointConfig}
+use Rattle.unit_model.specs.Order.{comes_before}
+use Rattle.unit_model.specs.Standing.{History, IsCell}
+use Rattle.unit_model.specs.Starts.{start_at}
+use Rattle.unit_model.specs.declared.allocations.Allocation.{Allocation}
+use Rattle.unit_model.specs.declared.cells.Cell.{Cell}
+use Rattle.unit_model.specs.declared.symbol_start.SymbolStart.{SymbolStart}
+use Rattle.unit_laws.proofs.FarLemmas.{endpoints_equal}
+use Rattle.ru_memory.specs.declared.memory.RuMemory.{RuMemory}
+use Rattle.ru_reports.proofs.OrderLemmas.{comes_trans}
+use Rattle.ru_buffers.proofs.OrderLemmas.{same_place}
+use Rattle.du_intake.specs.Closing.{IsNextPlace}
+use Rattle.du_intake.specs.Cursors.{HasLeft, IsNamed, IsNextSymbol, IsNotBefore, is_behind}
+use Rattle.du_intake.specs.Units.{Keeps}
+use Rattle.du_intake.specs.declared.cursor.CellCursor.{CellCursor}
+use Rattle.du_intake.proofs.CellLemmas.{cursor_at, swept}
+use Rattle.du_intake.proofs.UnitLemmas.{found_behind}
+use Rattle.du_intake.proofs.UsedLemmas.{named_left, used_named}
+
+first_behind : (a b : Bool) → a ≡ true → (a || b) ≡ true
+first_behind a b h = rw h refl
+
+other_ahead : (a b x : Bool) → a ≡ false → b ≡ true → (a || (not b && x)) ≡ false
+other_ahead a b x h k = rw (h, k) refl
+
+own_behind : (a b : Bool) (p n : ℕ) → a ≡ false → b ≡ false → p < n → (a || (not b && nat_lt p n)) ≡ true
+own_behind true b p n h k l = cc
+own_behind false true p n h k l = cc
+own_behind false false p n h k l = grind (arith, nat_tests)
+
+-- all that stands before the next symbol stands before a cursor at its first PRB
+behind_then : (next x : SymbolStart) (p : ℕ) (new : Option SymbolStart) → (comes_before x next ≡ true) → IfSome new (λ f. comes_before next f ≡ true) → is_behind new 0 x p ≡ true
+behind_then next x p None before after = refl
+behind_then next x p (Some f) before after = first_behind (comes_before x f) _ (comes_trans x next f before after)
+
+behind_own : (next x : SymbolStart) (p : ℕ) (new : Option SymbolStart) → x ≡ next → IfSome new (λ f. comes_before next f ≡ true) → is_behind new 0 x p ≡ true
+behind_own next x p None same after = refl
+behind_own next x p (Some f) same after = first_behind (comes_before x f) _ (ap (λ (y : SymbolStart). comes_before y f) same ∙ after)
+
+step_marks : (next x : SymbolStart) (n p : ℕ) (new : Option SymbolStart) → IfSome new (λ f. comes_before next f ≡ true) → (comes_before next x ≡ true → IsNotBefore x new)
+    → (comes_before x next ≡ false → comes_before next x ≡ false → (p < n) × (x ≡ next)) → is_behind (Some next) n x p ≡ is_behind new 0 x p
+step_marks next x n p new after first here = elim (cases_Bool (comes_before x next)) [
+  | inl a ↦ first_behind (comes_before x next) _ a ∙ sym (behind_then next x p new a after)
+  | inr a ↦ elim (cases_Bool (comes_before next x)) [
+    | inl b ↦ other_ahead (comes_before x next) (comes_before next x) (nat_lt p n) a b ∙ sym (found_behind x p new (first b))
+    | inr b ↦ own_behind (comes_before x next) (comes_before next x) p n a b (here a b).0 ∙ sym (behind_own next x p new (here a b).1 after)
+  ]
+]
+
+within_all : (p n few : ℕ) → p < few → few ≤ n → p < n
+within_all p n few h k = omega (arith, h, k)
+
+module _ (c : Config) (planned : List Allocation) (m : RuMemory) (clock : ℤ) (h : History) (next : SymbolStart) (n : ℕ)
+    (k : Keeps c planned m clock (cursor_at next n) h) where
+  -- of the cursor's symbol
+  at_place : (e : EndpointConfig) (cell : Cell) → IsCell c e cell → comes_before (start_at cell.ep e cell.slot cell.symbol) next ≡ false
+      → comes_before next (start_at cell.ep e cell.slot cell.symbol) ≡ false → next.endpoint.prbs ≤ n → (cell.prb < n) × (start_at cell.ep e cell.slot cell.symbol ≡ next)
+  at_place e cell is a b over =
+      let s = swept c planned m clock h next n k in
+      let x = start_at cell.ep e cell.slot cell.symbol in
+      let place = same_place x next a b in
+      let same : e ≡ next.endpoint = endpoints_equal c.endpoints cell.ep next.ep e next.endpoint is.endpoint s.endpoint place.ep in
+      let own : start_at next.ep next.endpoint next.slot next.symbol ≡ next =
+      ap (λ (t : ℤ). (let y : SymbolStart = record { ep = next.ep; endpoint = next.endpoint; start = record { 0 = t }; slot = next.slot; symbol = next.symbol } in y)) s.starts in (
+        within_all cell.prb n next.endpoint.prbs (subst (λ (f : EndpointConfig). cell.prb < f.prbs) same is.prb) over,
+        ap (λ (i : ℕ). start_at i e cell.slot cell.symbol) place.ep
+            ∙ ap (λ (f : EndpointConfig). start_at next.ep f cell.slot cell.symbol) same
+            ∙ ap (λ t. start_at next.ep next.endpoint t cell.symbol) place.slot_is
+            ∙ ap (λ (i : ℕ). start_at next.ep next.endpoint next.slot i) place.symbol ∙ own,
+      )
+
+  pub keeps_symbol : (new : CellCursor) → next.endpoint.prbs ≤ n → IsNextSymbol planned (Some next) new.next → new.prb ≡ 0 → Keeps c planned m clock new h
+  keeps_symbol new over is zero = record {
+    holds = k.holds;
+    clock_is = k.clock_is;
+    time = k.time;
+    begun = k.begun;
+    past = k.past;
+    told = k.told;
+    differ = k.differ;
+    owed = k.owed;
+    given = k.given;
+    plan = k.plan;
+    marks = λ e cell in_c down used.
+        let x = start_at cell.ep e cell.slot cell.symbol in
+        k.marks e cell in_c down used
+        ∙ step_marks next x n cell.prb new.next is.after
+        (λ later. is.first x (used_named c planned e cell k.plan in_c.endpoint used) later)
+        (λ a b. at_place e cell in_c a b over)
+        ∙ ap (λ (i : ℕ). is_behind new.next i x cell.prb) (sym zero);
+    named = is.named;
+  }
+
+over_when : (a b : ℕ) → nat_lt a b ≡ false → b ≤ a
+over_when a b h = grind (arith, nat_tests)
+
+under_when : (a b : ℕ) → nat_lt a b ≡ true → a < b
+under_when a b h = grind (arith, nat_tests)
+
+-- ---- the place behind one
+
+positive_from : (q n : ℕ) → q < n → 0 < n
+positive_from q n h = omega (arith, h)
+
+pub within_none : (P : SymbolStart → Type 0) (o : Option SymbolStart) → ((f : SymbolStart) → o ≡ Some f → P f) → IfSome o P
+within_none P None h = tt
+within_none P (Some f) h = h f refl
+
+pub of_some : (P : SymbolStart → Type 0) (o : Option SymbolStart) (x : SymbolStart) → o ≡ Some x → IfSome o P → P x
+of_some P None x e h = cc
+of_some P (Some y) x e h = let same : y ≡ x = cc in subst P same h
+
+some_is : (m x : SymbolStart) → (let s : Option SymbolStart = Some m in s ≡ Some x) → m ≡ x
+some_is m x e = cc
+
+pub record IsPlaced (c : Config) (planned : List Allocation) (m : RuMemory) (clock : ℤ) (h : History) (next : SymbolStart) (new : CellCursor) : Type 0 where
+  pub kept : Keeps c planned m clock new h
+  pub within : IfSome new.next (λ f. new.prb < f.endpoint.prbs)
+  pub left : (f : SymbolStart) → new.next ≡ Some f → (f ≡ next → ⊥) → HasLeft planned new.prb f
+
+pub placed : (c : Config) (planned : List Allocation) (m : RuMemory) (clock : ℤ) (h : History) (next : SymbolStart) (prb : ℕ) (new : CellCursor)
+    → Keeps c planned m clock (cursor_at next (prb + 1)) h → IsNextPlace planned next prb new → IsPlaced c planned m clock h next new
+placed c planned m clock h next prb new k place = elim (cases_Bool (nat_lt (prb + 1) next.endpoint.prbs)) [
+  | inl more ↦
+      let same = place.on (under_when (prb + 1) next.endpoint.prbs more) in
+      record {
+        kept = subst (λ (x : CellCursor). Keeps c planned m clock x h) (sym same) k;
+        within = subst (λ (x : CellCursor). IfSome x.next (λ f. x.prb < f.endpoint.prbs)) (sym same) (under_when (prb + 1) next.endpoint.prbs more);
+        left = λ f is other. absurd (other (sym (some_is next f (sym (ap (λ (x : CellCursor). x.next) same) ∙ is))));
+      }
+  | inr none ↦
+      let is = place.over (over_when (prb + 1) next.endpoint.prbs none) in
+      let first : (f : SymbolStart) → new.next ≡ Some f → HasLeft planned 0 f = λ f e. named_left c planned f k.plan (of_some (IsNamed planned) new.next f e is.0.named) in
+      record {
+        kept = keeps_symbol c planned m clock h next (prb + 1) k new (over_when (prb + 1) next.endpoint.prbs none) is.0 is.1;
+        within = within_none (λ f. new.prb < f.endpoint.prbs) new.next (λ f e.
+            subst (λ (i : ℕ). i < f.endpoint.prbs) (sym is.1) (let l = first f e in positive_from l.prb f.endpoint.prbs l.below));
+        left = λ f e other. subst (λ (i : ℕ). HasLeft planned i f) (sym is.1) (first f e);
+      }
+]
