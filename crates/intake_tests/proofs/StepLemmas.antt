@@ -17,7 +17,7 @@ use Rattle.du_intake.specs.Calls.{IsDue, StandsFor}
 use Rattle.du_intake.specs.Planned.{IsPlanOf}
 use Rattle.du_intake.specs.Units.{due_of}
 use Rattle.du_intake.specs.declared.unit.Intake.{Intake}
-use Rattle.intake_tests.specs.Units.{StandsSome}
+use Rattle.du_intake.specs.Closing.{StandsForSome}
 
 one_before : (a b : ℤ) → a ≤ℤ b → (a -ℤ pos 1) <ℤ b
 one_before a b h = omega (arith, ints)
@@ -38,6 +38,6 @@ plan_of_one c line p ranges is valid = record {
   is = one_planned c line p is;
 }
 
-pub stands_some : (c : Config) (ps : List Allocation) (r : Result Intake NoMemory) → IfOk r (λ u. StandsFor c ps u nothing_yet) → IfOk r StandsSome
+pub stands_some : (c : Config) (ps : List Allocation) (r : Result Intake NoMemory) → IfOk r (λ u. StandsFor c ps u nothing_yet) → IfOk r StandsForSome
 stands_some c ps (Ok u) h = record { config = c; planned = ps; history = nothing_yet; stands = h }
 stands_some c ps (Err e) h = tt

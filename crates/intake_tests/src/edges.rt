@@ -15,7 +15,7 @@ use std::test::Fail;
 use window_config::{Config, Delays, EndpointConfig, EndpointList, PlanKind, PlanLine};
 
 /// A downlink command: symbol 0 of frame 1, section 1, all elements of PRB 0.
-const COMMAND: [u8; 24] = [
+pub(crate) const COMMAND: [u8; 24] = [
     0x10, 0x02, 0x00, 0x14, 0x00, 0x00, 0x00, 0x80, 0x90, 0x01, 0x00, 0x00, 0x01, 0x01, 0x00, 0x00,
     0x00, 0x10, 0x00, 0x01, 0xff, 0xf1, 0x00, 0x00,
 ];
@@ -23,14 +23,14 @@ const COMMAND: [u8; 24] = [
 /// 49,999 ns, 50 us and 271 us behind the start of frame 1, and a tick later.
 const EARLY: Ticks = Ticks(15_436_798_464);
 
-const FIRST: Ticks = Ticks(15_436_800_000);
+pub(crate) const FIRST: Ticks = Ticks(15_436_800_000);
 
-const LAST: Ticks = Ticks(15_776_256_000);
+pub(crate) const LAST: Ticks = Ticks(15_776_256_000);
 
 const LATE: Ticks = Ticks(15_776_256_001);
 
 /// Uplink data of symbol 0 of frame 1 for section 5, PRB 0, all samples 0, with this sequence id.
-fn data(sequence: u8) -> [u8; 64] {
+pub(crate) fn data(sequence: u8) -> [u8; 64] {
     let mut frame = [0; 64];
     frame[0] = 0x10;
     frame[3] = 0x3c;
@@ -43,7 +43,7 @@ fn data(sequence: u8) -> [u8; 64] {
     frame
 }
 
-fn endpoint(numerology: Numerology) -> EndpointConfig
+pub(crate) fn endpoint(numerology: Numerology) -> EndpointConfig
     ensures { IsEndpoint result }
 {
     EndpointConfig {
@@ -65,7 +65,7 @@ fn listed(e: EndpointConfig) -> EndpointList
     endpoints
 }
 
-fn config(e: EndpointConfig, widths: Widths) -> Config
+pub(crate) fn config(e: EndpointConfig, widths: Widths) -> Config
     requires { IsEndpoint e }
     ensures { IsConfig result }
 {
@@ -102,7 +102,7 @@ fn line() -> PlanLine
 }
 
 /// Whether these counters alone stand above 0, at these values.
-fn has_counted(counters: &Counters, wanted: &[(Counter, u64)]) -> bool {
+pub(crate) fn has_counted(counters: &Counters, wanted: &[(Counter, u64)]) -> bool {
     for counter in Counter::all() {
         let mut value = 0;
         for (other, times) in wanted {
@@ -118,7 +118,7 @@ fn has_counted(counters: &Counters, wanted: &[(Counter, u64)]) -> bool {
 }
 
 /// One message was read.
-const READ: Option<Delivered> = Some(Delivered {
+pub(crate) const READ: Option<Delivered> = Some(Delivered {
     messages: 1,
     refusal: None,
 });

@@ -7,8 +7,9 @@ ghost use Rattle.unit_model.specs.Proper.{IsTime};
 ghost use Rattle.unit_model.specs.Standing.{History};
 ghost use Rattle.unit_model.specs.declared.allocations.Allocation.{Allocation};
 ghost use Rattle.du_intake.specs.Calls.{IsReportedBefore, StandsFor};
-ghost use Rattle.intake_tests.specs.Units.{StandsSome};
+ghost use Rattle.du_intake.specs.Closing.{StandsForSome};
 
+use air_source::{AirFault, MemoryAir};
 use du_intake::{Delivered, Intake};
 use fh_base::{List, NoMemory};
 use fh_time::Ticks;
@@ -21,7 +22,7 @@ use window_config::{Config, PlanLine};
 pub(crate) fn made(alloc: Global, config: &Config, line: &PlanLine) -> Result<Intake, NoMemory>
     requires config { IsConfig config.now }
     requires line { IsPlanLine line.now }
-    ensures { IfOk result StandsSome }
+    ensures { IfOk result StandsForSome }
 {
     let mut lines = List::new(alloc);
     lines.push(*line)?;
@@ -36,7 +37,7 @@ pub(crate) fn made(alloc: Global, config: &Config, line: &PlanLine) -> Result<In
 
 /// Whether a time is not before the clock.
 fn is_later(unit: &Intake, at: Ticks) -> bool
-    ensures { StandsSome unit.now → result ≡ true → unit.now.clock.0 ≤ℤ at.0 }
+    ensures { StandsForSome unit.now → result ≡ true → unit.now.clock.0 ≤ℤ at.0 }
 {
     unit.clock().0 <= at.0
 }
@@ -53,9 +54,9 @@ fn has_reported(unit: &Intake, at: Ticks) -> bool
 
 /// What becomes of a frame; None where the time is before the clock, or a cell of an earlier moment is left.
 pub(crate) fn step(unit: &mut Intake, at: Ticks, frame: &[u8]) -> Option<Delivered>
-    requires unit { StandsSome unit.old }
+    requires unit { StandsForSome unit.old }
     requires time { IsTime at.0 }
-    ensures { StandsSome unit.new }
+    ensures { StandsForSome unit.new }
 {
     if !is_later(unit, at) {
         return None;
@@ -64,4 +65,19 @@ pub(crate) fn step(unit: &mut Intake, at: Ticks, frame: &[u8]) -> Option<Deliver
         return None;
     }
     Some(unit.deliver(at, frame))
+}
+
+/// Reports the cells up to a time; no memory where the time is before the clock.
+pub(crate) fn close(unit: &mut Intake, to: Ticks, air: &mut MemoryAir) -> Result<(), AirFault>
+    requires unit { StandsForSome unit.old }
+    requires time { IsTime to.0 }
+    ensures { StandsForSome unit.new }
+{
+    if !is_later(unit, to) {
+        return Err(AirFault::NoMemory);
+    }
+    match unit.close_until(to, air) {
+        Ok(()) => Ok(()),
+        Err(fault) => Err(fault),
+    }
 }
