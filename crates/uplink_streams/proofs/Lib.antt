@@ -1,0 +1,5 @@
+pub mod ListLemmas
+pub mod JobLemmas
+pub mod MessageLemmas
+pub mod NumberLemmas
+pub mod StreamLemmas

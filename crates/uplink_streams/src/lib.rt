@@ -1,0 +1,10 @@
+//! The uplink stream of a plan is what the radio unit sends for the plan's uplink lines.
+//!
+//! The functions here do nothing: their contracts are laws of the definitions of `plan_model` and `uplink_model`.
+#![tactic(auto)]
+
+mod laws;
+
+pub use laws::{
+    frames_are_the_stream, jobs_are_parts, messages_are_the_stream, test_reads_first_frames,
+};
