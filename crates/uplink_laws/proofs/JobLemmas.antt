@@ -1,0 +1,236 @@
+-- The uplink sections that are accepted of a plan's commands, and their jobs.
+use Rattle.std.proofs.Common.{◌≡◌, ◌≢◌, ℕ, ◌⊎◌, inl, inr, Bool, true, false, not, ◌&&◌, if◌then◌else◌, List, [], ◌∷◌, ◌++◌, map, refl, ap, sym, ◌∙◌, subst, true≢false, append_assoc}
+use Rattle.std.specs.Prelude.{filter, reverse, IsPermutation}
+use Rattle.std.specs.List.{list_any}
+use Rattle.std.proofs.lemmas.Bool.{and_parts, cases_Bool}
+use Rattle.fh_time.specs.Air.{air_of}
+use Rattle.fh_time.specs.declared.values.Slot.{Slot}
+use Rattle.air_source.specs.declared.events.Side.TheVariants.{Ru}
+use Rattle.fragment_laws.specs.Apart.{IsIn}
+use Rattle.window_config.specs.declared.config.Config.{Config}
+use Rattle.window_config.specs.declared.endpoints.EndpointConfig.{EndpointConfig}
+use Rattle.window_config.specs.declared.plan.PlanKind.{PlanKind}
+use Rattle.window_config.specs.declared.plan.PlanKind.TheVariants.{Down, Up, Idle}
+use Rattle.window_config.specs.declared.plan.PlanLine.{PlanLine}
+use Rattle.unit_model.specs.Commands.{accepted, allocation_of as named_by, command_verdict, is_uplink as is_sent_up, with_accepted}
+use Rattle.unit_model.specs.Meetings.{Arrival}
+use Rattle.unit_model.specs.Radiated.{first_clock}
+use Rattle.unit_model.specs.Reports.{accepted_of, commands_of}
+use Rattle.unit_model.specs.Uplink.{jobs, sends_in, symbol_jobs}
+use Rattle.unit_model.specs.declared.allocations.Allocation.{Allocation}
+use Rattle.unit_model.specs.declared.decoded.Command.{Command}
+use Rattle.unit_model.specs.declared.verdicts.CommandVerdict.{CommandVerdict}
+use Rattle.unit_model.specs.declared.verdicts.CommandVerdict.TheVariants.{Accepted, Repeat}
+use Rattle.unit_laws.proofs.SweepLemmas.{sweep-same}
+use Rattle.plan_model.specs.Lines.{allocation_of, is_down, is_idle, planned}
+use Rattle.plan_model.specs.Validity.{clash}
+use Rattle.plan_model.specs.declared.lines.PlannedLine.{PlannedLine}
+use Rattle.schedule_laws.specs.Commands.{AreCommandedOnce}
+use Rattle.schedule_laws.specs.Premise.{AllArrive, Texts}
+use Rattle.schedule_laws.proofs.AcceptedLemmas.{AreDistinct, AreNamed}
+use Rattle.schedule_laws.proofs.ClashLemmas.{own_clash}
+use Rattle.schedule_laws.proofs.CommandLemmas.{commanded_once}
+use Rattle.schedule_laws.proofs.LineLemmas.{are_one, good, line_proper}
+use Rattle.schedule_laws.proofs.ListLemmas.{in_filter, in_map, in_right, of_filter, of_map}
+use Rattle.schedule_laws.proofs.PlanLemmas.{AreTested, valid_tested}
+use Rattle.schedule_laws.proofs.RangeLemmas.{among, any_in}
+use Rattle.uplink_laws.specs.Jobs.{AreJobsOfPlan}
+use Rattle.uplink_laws.specs.Lines.{is_uplink, uplink_of}
+use Rattle.uplink_laws.proofs.MemberLemmas.{distinct_filter, distinct_reverse, in_reverse, of_reverse, same_members, split}
+use Rattle.uplink_laws.proofs.SortLemmas.{sorted_same}
+
+-- ---- no line twice
+
+-- a line clashes with none before it
+clear_of : (earlier : List Allocation) (ps : List PlannedLine) (q : PlannedLine) (a : Allocation) → AreTested earlier ps → IsIn q ps → IsIn a earlier → clash (allocation_of q) a ≡ false
+clear_of earlier [] q a t m n = absurd m
+clear_of earlier (p ∷ ps) q a t m n = elim m [
+  | inl here ↦ elim (cases_Bool (clash (allocation_of q) a)) [
+    | inr none ↦ none
+    | inl is ↦ absurd (true≢false (sym (any_in (clash (allocation_of p)) a earlier n (ap (λ (x : PlannedLine). clash (allocation_of x) a) (sym here) ∙ is)) ∙ t.1))
+  ]
+  | inr there ↦ clear_of (allocation_of p ∷ earlier) ps q a t.3 there (inr n)
+]
+
+distinct_lines : (earlier : List Allocation) (ps : List PlannedLine) → AreTested earlier ps → ((p : PlannedLine) → IsIn p ps → clash (allocation_of p) (allocation_of p) ≡ true)
+    → AreDistinct (map allocation_of ps)
+distinct_lines earlier [] t own = tt
+distinct_lines earlier (p ∷ ps) t own = (
+  λ m.
+      (let w = of_map allocation_of (allocation_of p) ps m in
+      let none = clear_of (allocation_of p ∷ earlier) ps w.0 (allocation_of p) t.3 w.1 (inl refl) in
+      true≢false (sym (own p (inl refl)) ∙ ap (λ (a : Allocation). clash a (allocation_of p)) w.2 ∙ none)),
+  distinct_lines (allocation_of p ∷ earlier) ps t.3 (λ q m. own q (inr m)),
+)
+
+-- the uplink lines are some of them
+distinct_some : (p : PlannedLine → Bool) (ps : List PlannedLine) → AreDistinct (map allocation_of ps) → AreDistinct (map allocation_of (filter p ps))
+distinct_some p [] d = tt
+distinct_some p (q ∷ ps) d = go (p q) (distinct_some p ps d.1)
+  where
+    go : (b : Bool) → AreDistinct (map allocation_of (filter p ps)) → AreDistinct (map allocation_of (if b then q ∷ filter p ps else filter p ps))
+    go true rest = (
+      λ m. (let w = of_map allocation_of (allocation_of q) (filter p ps) m in d.0 (subst (λ (a : Allocation). IsIn a (map allocation_of ps)) (sym w.2) (in_map allocation_of w.0 ps (of_filter p w.0 ps w.1).0))),
+      rest,
+    )
+    go false rest = rest
+
+-- ---- what an uplink line names is sent for
+
+up_sent : (k : PlanKind) → not (is_down k) ≡ true → (not (is_down k) && not (is_idle k)) ≡ true
+up_sent Down h = absurd cc
+up_sent Up h = refl
+up_sent Idle h = absurd cc
+
+pub in_uplink : (ps : List PlannedLine) (p : PlannedLine) → IsIn p ps → is_sent_up (allocation_of p) ≡ true → IsIn (allocation_of p) (uplink_of ps)
+in_uplink ps p m is = in_map allocation_of p (filter is_uplink ps) (in_filter is_uplink p ps m (and_parts (not (is_down p.line.kind)) (not (is_idle p.line.kind)) is).0)
+
+pub of_uplink : (ps : List PlannedLine) (a : Allocation) → IsIn a (uplink_of ps) → (p : PlannedLine) × IsIn p ps × (is_uplink p ≡ true) × (a ≡ allocation_of p)
+of_uplink ps a m =
+    let w = of_map allocation_of a (filter is_uplink ps) m in
+    let f = of_filter is_uplink w.0 ps w.1 in
+    (w.0, f.0, f.1, w.2)
+
+-- ---- what was accepted
+
+module _ (c : Config) (lines : List PlanLine) (text : Texts) (arrivals : List Arrival) (h : AllArrive c lines text arrivals) where
+  abbrev ps : List PlannedLine
+  ps = planned c.endpoints lines
+
+  abbrev cs : List Command
+  cs = commands_of Ru c arrivals
+
+  commanded : AreCommandedOnce c ps arrivals
+  commanded = commanded_once c lines text arrivals h
+
+  own : (p : PlannedLine) → IsIn p ps → clash (allocation_of p) (allocation_of p) ≡ true
+  own p m = own_clash (allocation_of p) (line_proper c.endpoints p (good c lines h.config h.lines_fit h.valid p m))
+
+  line_for : (d : Command) → IsIn d cs → (p : PlannedLine) × IsIn p ps × (named_by d ≡ allocation_of p)
+  line_for d m =
+      let w = split d cs m in
+      let a = commanded.answers w.before w.after d w.is in
+      (a.line, a.planned_is, a.names)
+
+  module _ (d : Command) (earlier : List Command) where
+    again : command_verdict c.delays (accepted c.delays earlier) d ≡ Repeat → accepted c.delays (d ∷ earlier) ≡ accepted c.delays earlier
+    unfolding accepted
+    again e = ap (λ (v : CommandVerdict). with_accepted v (named_by d) (accepted c.delays earlier)) e
+
+    new : command_verdict c.delays (accepted c.delays earlier) d ≡ Accepted → accepted c.delays (d ∷ earlier) ≡ named_by d ∷ accepted c.delays earlier
+    unfolding accepted
+    new e = ap (λ (v : CommandVerdict). with_accepted v (named_by d) (accepted c.delays earlier)) e
+
+    abbrev Names : List Allocation → Type 0
+    Names xs = ((x : Allocation) → IsIn x xs → (y : Command) × IsIn y (d ∷ earlier) × (named_by y ≡ x)) × ((y : Command) → IsIn y (d ∷ earlier) → IsIn (named_by y) xs) × AreDistinct xs
+
+    names_repeat : AreNamed c.delays earlier → IsIn (named_by d) (accepted c.delays earlier) → Names (accepted c.delays earlier)
+    names_repeat n there = (
+      λ x m. (let w = n.from x m in (w.0, inr w.1, w.2)),
+      λ y m. elim m [ inl here ↦ subst (λ (z : Command). IsIn (named_by z) (accepted c.delays earlier)) (sym here) there | inr t ↦ n.all y t ],
+      n.distinct,
+    )
+
+    names_new : AreNamed c.delays earlier → (IsIn (named_by d) (accepted c.delays earlier) → ⊥) → Names (named_by d ∷ accepted c.delays earlier)
+    names_new n none = (
+      λ x m. elim m [ inl here ↦ (d, inl refl, sym here) | inr t ↦ (let w = n.from x t in (w.0, inr w.1, w.2)) ],
+      λ y m. elim m [ inl here ↦ inl (ap (λ (z : Command). named_by z) here) | inr t ↦ inr (n.all y t) ],
+      (none, n.distinct),
+    )
+
+    named_from : Names (accepted c.delays (d ∷ earlier)) → AreNamed c.delays (d ∷ earlier)
+    named_from w = record { from = w.0; all = w.1; distinct = w.2 }
+
+  -- what was accepted is what commands named, each once
+  named : (later earlier : List Command) → cs ≡ later ++ earlier → AreNamed c.delays earlier
+  unfolding accepted
+  named later [] e = record { from = λ a m. absurd m; all = λ d m. absurd m; distinct = tt }
+  named later (d ∷ earlier) e =
+      let n = named (later ++ d ∷ []) earlier (e ∙ sym (append_assoc later (d ∷ []) earlier)) in
+      let a = commanded.answers later earlier d e in
+      let within = λ (x : Command) (m : IsIn x earlier). (let t : IsIn x cs = subst (λ (xs : List Command). IsIn x xs) (sym e) (in_right x later (d ∷ earlier) (inr m)) in t) in
+      go later earlier d n a.line a.planned_is a.names a.first a.further within (cases_Bool (list_any (clash (allocation_of a.line)) (accepted c.delays earlier)))
+    where
+      go : (later earlier : List Command) (d : Command) → AreNamed c.delays earlier → (p : PlannedLine) → IsIn p ps → named_by d ≡ allocation_of p
+          → (((x : Command) → IsIn x earlier → named_by x ≢ allocation_of p) → command_verdict c.delays (accepted c.delays earlier) d ≡ Accepted)
+          → ((x : Command) → IsIn x earlier → named_by x ≡ allocation_of p → command_verdict c.delays (accepted c.delays earlier) d ≡ Repeat)
+          → ((x : Command) → IsIn x earlier → IsIn x cs)
+          → (list_any (clash (allocation_of p)) (accepted c.delays earlier) ≡ true) ⊎ (list_any (clash (allocation_of p)) (accepted c.delays earlier) ≡ false) → AreNamed c.delays (d ∷ earlier)
+      go later earlier d n p m names first further within (inl is) =
+          let k = among (clash (allocation_of p)) (accepted c.delays earlier) is in
+          let x = n.from k.x k.there in
+          let q = line_for x.0 (within x.0 x.1) in
+          let one = are_one c lines h.config h.lines_fit h.valid p q.0 m q.1 (ap (λ (b : Allocation). clash (allocation_of p) b) (sym q.2 ∙ x.2) ∙ k.is) in
+          let same : named_by x.0 ≡ allocation_of p = q.2 ∙ ap (λ (l : PlannedLine). allocation_of l) (sym one) in
+          let there : IsIn (named_by d) (accepted c.delays earlier) = subst (λ (b : Allocation). IsIn b (accepted c.delays earlier)) (sym x.2 ∙ same ∙ sym names) k.there in
+          named_from d earlier (subst (Names d earlier) (sym (again d earlier (further x.0 x.1 same))) (names_repeat d earlier n there))
+      go later earlier d n p m names first further within (inr other) =
+          let none : (b : Allocation) → IsIn b (accepted c.delays earlier) → b ≡ allocation_of p → ⊥ =
+          λ b i e. true≢false (sym (any_in (clash (allocation_of p)) b (accepted c.delays earlier) i (ap (λ (z : Allocation). clash (allocation_of p) z) e ∙ own p m)) ∙ other) in
+          named_from d earlier (subst (Names d earlier) (sym (new d earlier (first (λ x i e. none (named_by x) (n.all x i) e)))) (names_new d earlier n (λ i. none (named_by d) i names)))
+
+  abbrev up : List Allocation
+  up = accepted_of c arrivals
+
+  all_named : AreNamed c.delays cs
+  all_named = named [] cs refl
+
+  -- ---- the lines
+
+  from_line : (a : Allocation) → IsIn a up → (p : PlannedLine) × IsIn p ps × (a ≡ allocation_of p)
+  from_line a m =
+      let x = all_named.from a m in
+      let p = line_for x.0 x.1 in
+      (p.0, p.1, sym x.2 ∙ p.2)
+
+  line_accepted : (p : PlannedLine) → IsIn p ps → IsIn (allocation_of p) up
+  line_accepted p m =
+      let w = commanded.every p m in
+      subst (λ (a : Allocation). IsIn a up) w.names (all_named.all w.command w.came)
+
+  abbrev ls : List Allocation
+  ls = map allocation_of ps
+
+  lines_once : AreDistinct ls
+  lines_once = distinct_lines [] ps (valid_tested c lines h.valid) own
+
+  into_lines : (a : Allocation) → IsIn a up → IsIn a ls
+  into_lines a m = let p = from_line a m in subst (λ (b : Allocation). IsIn b ls) (sym p.2) (in_map allocation_of p.0 ps p.1)
+
+  from_lines : (a : Allocation) → IsIn a ls → IsIn a up
+  from_lines a m = let p = of_map allocation_of a ps m in subst (λ (b : Allocation). IsIn b up) (sym p.2) (line_accepted p.0 p.1)
+
+  accepted_lines : IsPermutation (uplink_of ps) (filter is_sent_up up)
+  accepted_lines =
+      same_members (uplink_of ps) (filter is_sent_up up) (distinct_some is_uplink ps lines_once) (distinct_filter is_sent_up up all_named.distinct)
+      (λ a m.
+      (let p = of_uplink ps a m in
+      in_filter is_sent_up a up (subst (λ (b : Allocation). IsIn b up) (sym p.3) (line_accepted p.0 p.1)) (ap (λ (b : Allocation). is_sent_up b) p.3 ∙ up_sent p.0.line.kind p.2)))
+      (λ a m.
+      (let w = of_filter is_sent_up a up m in
+      let p = from_line a w.0 in
+      subst (λ (b : Allocation). IsIn b (uplink_of ps)) (sym p.2) (in_uplink ps p.0 p.1 (ap (λ (b : Allocation). is_sent_up b) (sym p.2) ∙ w.1))))
+
+  -- ---- the jobs
+
+  symbol_same : (ep : ℕ) (e : EndpointConfig) (slot : Slot) (symbol : ℕ) → symbol_jobs up ep e slot symbol ≡ symbol_jobs (reverse ls) ep e slot symbol
+  unfolding symbol_jobs
+  symbol_same ep e slot symbol =
+      let s = sends_in ep slot symbol in
+      let back = reverse ls in
+      sorted_same ep (air_of e.numerology slot symbol) slot symbol (filter s (reverse up)) (filter s (reverse back))
+      (distinct_filter s (reverse up) (distinct_reverse up all_named.distinct))
+      (distinct_filter s (reverse back) (distinct_reverse back (distinct_reverse ls lines_once)))
+      (λ a m.
+      (let w = of_filter s a (reverse up) m in
+      in_filter s a (reverse back) (in_reverse a back (in_reverse a ls (into_lines a (of_reverse a up w.0)))) w.1))
+      (λ a m.
+      (let w = of_filter s a (reverse back) m in
+      in_filter s a (reverse up) (in_reverse a up (from_lines a (of_reverse a ls (of_reverse a back w.0)))) w.1))
+
+  pub jobs_planned : AreJobsOfPlan c (planned c.endpoints lines) arrivals
+  unfolding jobs
+  jobs_planned = record {
+    accepted = accepted_lines;
+    jobs_are = λ to. sweep-same (symbol_jobs up) (symbol_jobs (reverse ls)) c.endpoints first_clock _ (λ ep e slot symbol tick low high swept. symbol_same ep e slot symbol);
+  }

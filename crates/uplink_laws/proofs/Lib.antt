@@ -1,0 +1,3 @@
+pub mod MemberLemmas
+pub mod SortLemmas
+pub mod JobLemmas

@@ -1,0 +1,24 @@
+-- The uplink messages that a radio unit has to send are those of the plan, whatever is repeated, reordered or delayed.
+use Rattle.std.specs.Prelude.{◌≡◌, ℤ, List, filter, reverse, IsPermutation}
+use Rattle.window_config.specs.declared.config.Config.{Config}
+use Rattle.window_config.specs.declared.plan.PlanLine.{PlanLine}
+use Rattle.unit_model.specs.Commands.{is_uplink as is_sent_up}
+use Rattle.unit_model.specs.Meetings.{Arrival}
+use Rattle.unit_model.specs.Reports.{accepted_of}
+use Rattle.unit_model.specs.Uplink.{jobs}
+use Rattle.plan_model.specs.Lines.{planned}
+use Rattle.plan_model.specs.declared.lines.PlannedLine.{PlannedLine}
+use Rattle.schedule_laws.specs.Commands.{allocations_of}
+use Rattle.schedule_laws.specs.Premise.{AllArrive, Texts}
+use Rattle.uplink_laws.specs.Lines.{uplink_of}
+
+-- The uplink sections of types 1 and 3 that were accepted are what the uplink lines name, each once; and the jobs up to any time are
+-- those of the lines, as equal lists, as if their commands had been accepted in the order of lines.
+pub record AreJobsOfPlan (c : Config) (ps : List PlannedLine) (arrivals : List Arrival) : Type 0 where
+  pub accepted : IsPermutation (uplink_of ps) (filter is_sent_up (accepted_of c arrivals))
+  pub jobs_are : (to : ℤ) → jobs c.endpoints (accepted_of c arrivals) to ≡ jobs c.endpoints (reverse (allocations_of ps)) to
+
+abbrev pub JobsAreOfPlan : Type 0
+JobsAreOfPlan =
+    (c : Config) (lines : List PlanLine) (text : Texts) (arrivals : List Arrival) → AllArrive c lines text arrivals
+    → AreJobsOfPlan c (planned c.endpoints lines) arrivals
