@@ -52,7 +52,7 @@ or_found : (x y : Option Block) (b : Block) → (x ≡ None) ⊎ (x ≡ Some b) 
 or_found x y b (inl n) e = ap (λ (o : Option Block). or_else o y) n ∙ e
 or_found x y b (inr s) e = ap (λ (o : Option Block). or_else o y) s
 
-no_block : (xs : List Data) (cell : Cell) → ((d : Data) → IsIn d xs → data_covers d cell ≡ false) → block_at xs cell ≡ None
+pub no_block : (xs : List Data) (cell : Cell) → ((d : Data) → IsIn d xs → data_covers d cell ≡ false) → block_at xs cell ≡ None
 unfolding block_at
 no_block [] cell h = refl
 no_block (d ∷ xs) cell h = or_none (block_at xs cell) (block_in d cell) (not_covering d cell (h d (inl refl))) ∙ no_block xs cell (λ e m. h e (inr m))
@@ -69,7 +69,7 @@ one_or_none (d ∷ xs) cell b h = go (one_or_none xs cell b (λ e m. h e (inr m)
     go (inl n) (inr other) = inl (or_none (block_at xs cell) (block_in d cell) (not_covering d cell other) ∙ n)
     go (inr s) (inr other) = inr (or_none (block_at xs cell) (block_in d cell) (not_covering d cell other) ∙ s)
 
-one_block : (xs : List Data) (cell : Cell) (b : Block) (d : Data) → ((e : Data) → IsIn e xs → data_covers e cell ≡ true → block_of e cell ≡ b) → IsIn d xs → data_covers d cell ≡ true
+pub one_block : (xs : List Data) (cell : Cell) (b : Block) (d : Data) → ((e : Data) → IsIn e xs → data_covers e cell ≡ true → block_of e cell ≡ b) → IsIn d xs → data_covers d cell ≡ true
     → block_at xs cell ≡ Some b
 unfolding block_at
 one_block [] cell b d h m is = absurd m
@@ -86,11 +86,11 @@ one_block (e ∷ xs) cell b d h m is = go m (one_or_none xs cell b (λ f n. h f 
 
 -- ---- the plan's block of a cell
 
-data Radiating (ps : List PlannedLine) (cell : Cell) : Type 0 where
+pub data Radiating (ps : List PlannedLine) (cell : Cell) : Type 0 where
   radiated_by : (p : PlannedLine) → IsIn p ps → radiates_in p cell ≡ true → Radiating ps cell
   silent : ((p : PlannedLine) → IsIn p ps → radiates_in p cell ≡ false) → Radiating ps cell
 
-find_radiating : (ps : List PlannedLine) (cell : Cell) → Radiating ps cell
+pub find_radiating : (ps : List PlannedLine) (cell : Cell) → Radiating ps cell
 find_radiating [] cell = silent (λ p m. absurd m)
 find_radiating (q ∷ ps) cell = elim (cases_Bool (radiates_in q cell)) [
   | inl is ↦ radiated_by q (inl refl) is
@@ -103,11 +103,11 @@ find_radiating (q ∷ ps) cell = elim (cases_Bool (radiates_in q cell)) [
 block_of_line : Blocks → Cell → ℕ → Block
 block_of_line blocks cell id = record { id = id; samples = blocks cell }
 
-planned_none : (blocks : Blocks) (ps : List PlannedLine) (cell : Cell) → ((p : PlannedLine) → IsIn p ps → radiates_in p cell ≡ false) → planned_block blocks ps cell ≡ None
+pub planned_none : (blocks : Blocks) (ps : List PlannedLine) (cell : Cell) → ((p : PlannedLine) → IsIn p ps → radiates_in p cell ≡ false) → planned_block blocks ps cell ≡ None
 planned_none blocks [] cell h = refl
 planned_none blocks (p ∷ ps) cell h = rw (h p (inl refl)) (planned_none blocks ps cell (λ q m. h q (inr m)))
 
-planned_one : (blocks : Blocks) (ps : List PlannedLine) (cell : Cell) (id : ℕ) (p : PlannedLine) → ((q : PlannedLine) → IsIn q ps → radiates_in q cell ≡ true → q.line.section ≡ id) → IsIn p ps
+pub planned_one : (blocks : Blocks) (ps : List PlannedLine) (cell : Cell) (id : ℕ) (p : PlannedLine) → ((q : PlannedLine) → IsIn q ps → radiates_in q cell ≡ true → q.line.section ≡ id) → IsIn p ps
     → radiates_in p cell ≡ true → planned_block blocks ps cell ≡ Some (record { id = id; samples = blocks cell })
 planned_one blocks [] cell id p h m is = absurd m
 planned_one blocks (q ∷ ps) cell id p h m is = elim (cases_Bool (radiates_in q cell)) [
@@ -123,13 +123,13 @@ planned_one blocks (q ∷ ps) cell id p h m is = elim (cases_Bool (radiates_in q
 
 -- ---- a section and its line cover the same cells of the symbol
 
-same_cell : (a b : Cell) → a.ep ≡ b.ep → a.down ≡ b.down → a.slot ≡ b.slot → a.symbol ≡ b.symbol → a.prb ≡ b.prb → a ≡ b
+pub same_cell : (a b : Cell) → a.ep ≡ b.ep → a.down ≡ b.down → a.slot ≡ b.slot → a.symbol ≡ b.symbol → a.prb ≡ b.prb → a ≡ b
 same_cell a b e1 e2 e3 e4 e5 =
     let same : (let x : Cell = record { ep = a.ep; down = a.down; slot = a.slot; symbol = a.symbol; prb = a.prb } in x)
     ≡ (let y : Cell = record { ep = b.ep; down = b.down; slot = b.slot; symbol = b.symbol; prb = b.prb } in y) = rw (e1, e2, e3, e4, e5) refl in
     same
 
-same_block : (a b : Block) → a.id ≡ b.id → a.samples ≡ b.samples → a ≡ b
+pub same_block : (a b : Block) → a.id ≡ b.id → a.samples ≡ b.samples → a ≡ b
 same_block a b e1 e2 =
     let same : (let x : Block = record { id = a.id; samples = a.samples } in x) ≡ (let y : Block = record { id = b.id; samples = b.samples } in y) = rw (e1, e2) refl in
     same

@@ -59,7 +59,7 @@ none_zero test (suc n) h =
     let here = h n (omega arith) in
     ap₂ (λ (m : ℕ) (b : Bool). 2 * m + (if b then 1 else 0)) before here
 
-has_element : (test : ℕ → Bool) (n : ℕ) → (mask_below test n ≡ 0) ⊎ ((re : ℕ) × (re < n) × (test re ≡ true))
+pub has_element : (test : ℕ → Bool) (n : ℕ) → (mask_below test n ≡ 0) ⊎ ((re : ℕ) × (re < n) × (test re ≡ true))
 unfolding mask_below
 has_element test zero = inl refl
 has_element test (suc n) = elim (has_element test n) [
@@ -72,7 +72,7 @@ has_element test (suc n) = elim (has_element test n) [
 
 -- ---- the id of a cell in which all claims have one
 
-abbrev IsUnder : ℕ → Option Claim → Type 0
+abbrev pub IsUnder : ℕ → Option Claim → Type 0
 IsUnder id None = Unit {0}
 IsUnder id (Some c) = c.id ≡ id
 
@@ -84,7 +84,7 @@ some_first : (o : Option Claim) (id rest : ℕ) (c : Claim) → IsUnder id o →
 some_first None id rest c h e = absurd cc
 some_first (Some d) id rest c h e = h
 
-id_is : (claims : ℕ → Option Claim) (id from n k : ℕ) (c : Claim) → ((re : ℕ) → re < from + n → IsUnder id (claims re)) → from ≤ k → k < from + n → claims k ≡ Some c → id_from claims from n ≡ id
+pub id_is : (claims : ℕ → Option Claim) (id from n k : ℕ) (c : Claim) → ((re : ℕ) → re < from + n → IsUnder id (claims re)) → from ≤ k → k < from + n → claims k ≡ Some c → id_from claims from n ≡ id
 unfolding id_from
 id_is claims id from zero k c h low high e = absurd (omega arith)
 id_is claims id from (suc n) k c h low high e = elim (cases_eq k from) [
@@ -110,7 +110,7 @@ module _ (c : Config) (lines : List PlanLine) (text : Texts) (blocks : Blocks) (
       let p = of_map allocation_of b ps m in
       (p.0, p.1, ap (λ (a : Allocation). names a cell re) (sym p.2) ∙ is, ap (λ (a : Allocation). claim_of a) p.2)
 
-  line_claims : (cell : Cell) (re : ℕ) (p : PlannedLine) → re < 12 → IsIn p ps → names (allocation_of p) cell re ≡ true → claim_at ls cell re ≡ Some (claim_of (allocation_of p))
+  pub line_claims : (cell : Cell) (re : ℕ) (p : PlannedLine) → re < 12 → IsIn p ps → names (allocation_of p) cell re ≡ true → claim_at ls cell re ≡ Some (claim_of (allocation_of p))
   line_claims cell re p below m is = own_claim ls (allocation_of p) cell re all_allowed.clear below (in_map allocation_of p ps m) is
 
   used_is : (cell : Cell) (re : ℕ) → re < 12 → is_used (claim_at ls cell re) ≡ radiates ps cell re
@@ -130,11 +130,11 @@ module _ (c : Config) (lines : List PlanLine) (text : Texts) (blocks : Blocks) (
           let parts = and_parts (not (allocation_of k.x).idle) (names (allocation_of k.x) cell re) k.is in
           ap (λ (o : Option Claim). is_used o) (line_claims cell re k.x below k.there parts.1) ∙ parts.0
 
-  mask_is : (cell : Cell) → used_mask (claim_at ls cell) ≡ planned_mask ps cell
+  pub mask_is : (cell : Cell) → used_mask (claim_at ls cell) ≡ planned_mask ps cell
   mask_is cell = mask_same (claim_at ls cell) (radiates ps cell) 12 (used_is cell)
 
   -- all lines in a cell have one section id
-  one_section : (cell : Cell) (p q : PlannedLine) → IsIn p ps → IsIn q ps → covers (allocation_of p) cell ≡ true → covers (allocation_of q) cell ≡ true → q.line.section ≡ p.line.section
+  pub one_section : (cell : Cell) (p q : PlannedLine) → IsIn p ps → IsIn q ps → covers (allocation_of p) cell ≡ true → covers (allocation_of q) cell ≡ true → q.line.section ≡ p.line.section
   one_section cell p q m n a b = elim (cases_Bool (p.line.section == q.line.section)) [
     | inl same ↦ sym (eqb-true p.line.section q.line.section same)
     | inr differ ↦
@@ -143,7 +143,7 @@ module _ (c : Config) (lines : List PlanLine) (text : Texts) (blocks : Blocks) (
         ap (λ (r : PlannedLine). r.line.section) (sym (are_one c lines h.config h.lines_fit h.valid p q m n both))
   ]
 
-  all_under : (cell : Cell) (p : PlannedLine) (re : ℕ) → IsIn p ps → covers (allocation_of p) cell ≡ true → (o : Option Claim) → claim_at ls cell re ≡ o → IsUnder p.line.section o
+  pub all_under : (cell : Cell) (p : PlannedLine) (re : ℕ) → IsIn p ps → covers (allocation_of p) cell ≡ true → (o : Option Claim) → claim_at ls cell re ≡ o → IsUnder p.line.section o
   all_under cell p re m is None e = tt
   all_under cell p re m is (Some d) e =
       let k = claimed ls cell re d e in
@@ -151,7 +151,7 @@ module _ (c : Config) (lines : List PlanLine) (text : Texts) (blocks : Blocks) (
       let parts = and_parts (covers (allocation_of q.0) cell) (in_mask q.0.line.mask re) q.2 in
       ap (λ (x : Claim). x.id) (k.is ∙ q.3) ∙ one_section cell p q.0 m q.1 is parts.0
 
-  section_is : (qs : List PlannedLine) (cell : Cell) (p : PlannedLine) → ((q : PlannedLine) → IsIn q qs → IsIn q ps) → IsIn p qs → radiates_in p cell ≡ true → planned_section qs cell ≡ p.line.section
+  pub section_is : (qs : List PlannedLine) (cell : Cell) (p : PlannedLine) → ((q : PlannedLine) → IsIn q qs → IsIn q ps) → IsIn p qs → radiates_in p cell ≡ true → planned_section qs cell ≡ p.line.section
   section_is [] cell p within m is = absurd m
   section_is (q ∷ qs) cell p within m is = elim (cases_Bool (radiates_in q cell)) [
     | inl now ↦
@@ -180,7 +180,7 @@ module _ (c : Config) (lines : List PlanLine) (text : Texts) (blocks : Blocks) (
       no : true ≡ false → ⊥
       no q = cc
 
-  own_samples : (id : ℕ) (samples : List Wide) → samples_under id (Some (record { id = id; samples = samples })) ≡ Some samples
+  pub own_samples : (id : ℕ) (samples : List Wide) → samples_under id (Some (record { id = id; samples = samples })) ≡ Some samples
   own_samples id samples = ap (λ (b : Bool). let o : Option (List Wide) = if b then Some samples else None in o) (eq-eqb id id refl)
 
   -- ---- one cell

@@ -52,7 +52,7 @@ use Rattle.schedule_laws.proofs.SentLemmas.{part_is, symbol_part}
 
 -- ---- none is dense
 
-no_lesser : (x y : Option Dense) → lesser x y ≡ None → (x ≡ None) × (y ≡ None)
+pub no_lesser : (x y : Option Dense) → lesser x y ≡ None → (x ≡ None) × (y ≡ None)
 no_lesser None y h = (refl, h)
 no_lesser (Some p) None h = absurd cc
 no_lesser (Some p) (Some q) h = absurd (go (nat_lt q.number p.number) h)
@@ -65,7 +65,7 @@ near_none : (b : Bool) (d : Dense) (rest : Option Dense) → (let o : Option Den
 near_none true d rest h = absurd cc
 near_none false d rest h = (refl, h)
 
-not_near : (distance : ℤ) (k j : ℕ) (xs ys : List Sending) (a b : Sending) → first_near distance k xs ys ≡ None → slice_get xs j ≡ Some a → slice_get ys j ≡ Some b
+pub not_near : (distance : ℤ) (k j : ℕ) (xs ys : List Sending) (a b : Sending) → first_near distance k xs ys ≡ None → slice_get xs j ≡ Some a → slice_get ys j ≡ Some b
     → is_near distance a.at.0 b.at.0 ≡ false
 unfolding first_near
 not_near distance k j [] ys a b h p q = absurd cc
@@ -77,7 +77,7 @@ not_near distance k zero (x ∷ xs) (y ∷ ys) a b h p q =
 not_near distance k (suc j) (x ∷ xs) (y ∷ ys) a b h p q =
     not_near distance (k + 1) j xs ys a b (near_none (is_near distance x.at.0 y.at.0) (record { number = k; line = y.line }) (first_near distance (k + 1) xs ys) h).1 p q
 
-none_dense : (c : Config) (ps : List PlannedLine) (stream : Stream) (distance : ℤ) (start i : ℕ) (es : List EndpointConfig) (e : EndpointConfig)
+pub none_dense : (c : Config) (ps : List PlannedLine) (stream : Stream) (distance : ℤ) (start i : ℕ) (es : List EndpointConfig) (e : EndpointConfig)
     → dense_from c ps stream distance start es ≡ None → IsAt es i e → dense_in distance (sendings c ps stream (start + i) e) ≡ None
 unfolding dense_from
 none_dense c ps stream distance start i [] e h at = absurd cc
@@ -101,7 +101,7 @@ le_true a b h = grind (arith, ints)
 beyond : (x y d h fast slow : ℤ) → d ≡ (h +ℤ (slow -ℤ fast)) *ℤ pos 1536 → d <ℤ (y -ℤ x) → (x +ℤ (h *ℤ pos 1536 +ℤ (slow *ℤ pos 1536 -ℤ fast *ℤ pos 1536))) <ℤ y
 beyond x y d h fast slow e l = omega (arith, ints, e, l)
 
-distant : (x y h fast slow : ℤ) → is_near ((h +ℤ (slow -ℤ fast)) *ℤ pos 1536) x y ≡ false
+pub distant : (x y h fast slow : ℤ) → is_near ((h +ℤ (slow -ℤ fast)) *ℤ pos 1536) x y ≡ false
     → ((x +ℤ (h *ℤ pos 1536 +ℤ (slow *ℤ pos 1536 -ℤ fast *ℤ pos 1536))) <ℤ y) ⊎ ((y +ℤ (h *ℤ pos 1536 +ℤ (slow *ℤ pos 1536 -ℤ fast *ℤ pos 1536))) <ℤ x)
 distant x y h fast slow e = elim (cases_Bool (int_le (x -ℤ y) ((h +ℤ (slow -ℤ fast)) *ℤ pos 1536))) [
   | inr far ↦ inr (beyond y x ((h +ℤ (slow -ℤ fast)) *ℤ pos 1536) h fast slow refl (le_false (x -ℤ y) ((h +ℤ (slow -ℤ fast)) *ℤ pos 1536) far))

@@ -45,7 +45,7 @@ other_at x y [] h m = absurd m
 other_at x y (z ∷ xs) h (inl e) = subst (IsOther x) (sym e) (All-head (IsOther x) z xs h)
 other_at x y (z ∷ xs) h (inr t) = other_at x y xs (All-tail (IsOther x) z xs h) t
 
-only_one : (y : AirCell) (xs : List AirCell) → AreDifferent xs → IsIn y xs → filter (same_cell y) xs ≡ y ∷ []
+pub only_one : (y : AirCell) (xs : List AirCell) → AreDifferent xs → IsIn y xs → filter (same_cell y) xs ≡ y ∷ []
 only_one y [] d m = absurd m
 only_one y (x ∷ xs) d (inl e) =
     let own : same_cell y x ≡ true = subst (λ (z : AirCell). same_cell y z ≡ true) e (same_self y) in
@@ -60,7 +60,7 @@ only_one y (x ∷ xs) d (inr t) =
 below_zero : (a b : ℕ) → a ≡ 0 → 2 * a + b ≡ b
 below_zero a b e = omega (arith, e)
 
-mask_some : (test : ℕ → Bool) (n re : ℕ) → re < n → test re ≡ true → mask_below test n ≡ 0 → ⊥
+pub mask_some : (test : ℕ → Bool) (n re : ℕ) → re < n → test re ≡ true → mask_below test n ≡ 0 → ⊥
 unfolding mask_below
 mask_some test zero re h is e = absurd (omega arith)
 mask_some test (suc n) re h is e = elim (cases_eq re n) [
@@ -75,7 +75,7 @@ mask_some test (suc n) re h is e = elim (cases_eq re n) [
     half : (m k : ℕ) → 2 * m + k ≡ 0 → m ≡ 0
     half m k e = omega (arith, e)
 
-in_carrier : (prbs start num n : ℕ) → is_outside prbs start num ≡ false → is_from (first_of start num) (count_of prbs num) n ≡ true → n < prbs
+pub in_carrier : (prbs start num n : ℕ) → is_outside prbs start num ≡ false → is_from (first_of start num) (count_of prbs num) n ≡ true → n < prbs
 in_carrier prbs start num n out h =
     let high = from_within (first_of start num) (count_of prbs num) n h in
     elim (cases_Bool (num == 0)) [

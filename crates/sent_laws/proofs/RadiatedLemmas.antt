@@ -34,7 +34,7 @@ module _ (c : Config) (lines : List PlanLine) (source : Source) (s : IsSendable 
         read = subst (λ (b : Arrival). IsReadBy f.stream c text f b (met_in Ru c.endpoints b.at (whole_messages b.frame))) (sym same) (frames_are_read c lines source s f m a.at);
       }
 
-  arrive : (arrivals : List Arrival) → CopiesArrive c (planned c.endpoints lines) source arrivals → AllArrive c lines (texts_of c (planned c.endpoints lines) source) arrivals
+  pub arrive : (arrivals : List Arrival) → CopiesArrive c (planned c.endpoints lines) source arrivals → AllArrive c lines (texts_of c (planned c.endpoints lines) source) arrivals
   arrive arrivals h = record {
     config = s.config;
     lines_fit = s.lines_fit;
