@@ -1,3 +1,10 @@
 pub mod MemberLemmas
 pub mod SortLemmas
 pub mod JobLemmas
+pub mod PartLemmas
+pub mod FlowLemmas
+pub mod ReadLemmas
+pub mod ArrivalLemmas
+pub mod WholeLemmas
+pub mod DecodedLemmas
+pub mod BlockLemmas

@@ -1,2 +1,6 @@
 pub mod Lines
 pub mod Jobs
+pub mod Premise
+pub mod Flows
+pub mod Whole
+pub mod Data

@@ -4,10 +4,24 @@
 //! Each law is the contract of a function that does nothing. All rest on this project's profile of O-RAN.WG4.CUS.
 #![tactic(auto)]
 
+ghost use Rattle.uplink_laws.specs.Data.{EachIsDecodedOnce};
 ghost use Rattle.uplink_laws.specs.Jobs.{JobsAreOfPlan};
+ghost use Rattle.uplink_laws.specs.Whole.{EachIsTakenOnce};
 
 /// The uplink sections that the radio unit accepts are those of the plan's `ul` lines, each once, in whatever order their commands
 /// come; so its uplink messages are those of the plan, in their order.
 pub fn jobs_are_of_plan()
     ensures { JobsAreOfPlan }
+{}
+
+/// Each uplink message becomes whole at the distributed unit exactly once, over any number of messages: its first piece comes no
+/// sooner than the minima of Ta3 and T34 after its symbol's start, and its last no later than their maxima.
+pub fn each_is_taken_once()
+    ensures { EachIsTakenOnce }
+{}
+
+/// Each section of uplink data that is decoded carries a `ul` line in one of its symbols, on time, and each `ul` line has one in each;
+/// the block of each uplink cell in the end is what the endpoint's compression leaves of the antenna's samples.
+pub fn each_is_decoded_once()
+    ensures { EachIsDecodedOnce }
 {}

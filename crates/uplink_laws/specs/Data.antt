@@ -1,0 +1,77 @@
+-- Uplink data, once each: whatever is repeated, reordered or delayed within the bounds, over any number of messages.
+use Rattle.std.specs.Prelude.{◌≡◌, ℕ, pos, ◌-◌, true, false, List, []}
+use Rattle.std.specs.Int.{int_rem_euclid}
+use Rattle.std.specs.List.{slice_get, slice_index_or}
+use Rattle.std.specs.Option.{option_map_or}
+use Rattle.air_source.specs.Answers.{block_of}
+use Rattle.air_source.specs.declared.events.Side.TheVariants.{Du}
+use Rattle.bfp_codec.specs.Shrunk.{shrunk}
+use Rattle.fragment_laws.specs.Apart.{IsIn}
+use Rattle.window_config.specs.declared.config.Config.{Config}
+use Rattle.window_config.specs.declared.plan.PlanLine.{PlanLine}
+use Rattle.window_config.specs.declared.verdicts.Class.TheVariants.{OnTime}
+use Rattle.unit_model.specs.Blocks.{block_at, data_class, data_slot}
+use Rattle.unit_model.specs.Claims.{cell_at, first_prb, is_from, prb_count}
+use Rattle.unit_model.specs.Meetings.{Arrival}
+use Rattle.unit_model.specs.Reports.{data_of, timely_of}
+use Rattle.unit_model.specs.declared.cells.Cell.{Cell}
+use Rattle.unit_model.specs.declared.decoded.Data.{Data}
+use Rattle.plan_model.specs.Lines.{allocation_of, planned}
+use Rattle.plan_model.specs.Streams.{Part, part_in}
+use Rattle.plan_model.specs.declared.lines.PlannedLine.{PlannedLine}
+use Rattle.schedule_laws.specs.Data.{Blocks, planned_block}
+use Rattle.sent_frames.specs.Messages.{Source}
+use Rattle.uplink_model.specs.Frames.{Antenna}
+use Rattle.uplink_laws.specs.Lines.{is_uplink}
+use Rattle.uplink_laws.specs.Premise.{BothArrive}
+
+-- what the endpoint's compression leaves of the antenna's block at each cell
+abbrev pub blocks_of : Config → Antenna → Blocks
+blocks_of c antenna cell = option_map_or (λ e. shrunk e.format.method (block_of antenna e.id cell.slot cell.symbol cell.prb)) (slice_get c.endpoints cell.ep) []
+
+-- a section of data that carries an uplink line in one of its symbols: its header has filterIndex 0 and the frame's low 8 bits, and each
+-- PRB its cell's samples (O-RAN.WG4.CUS, U-plane messages)
+pub record IsDataFor (blocks : Blocks) (x : Part) (d : Data) : Type 0 where
+  pub ep : d.ep ≡ x.planned.ep
+  pub endpoint : d.endpoint ≡ x.planned.endpoint
+  pub down : d.head.down ≡ false
+  pub filter : d.head.filter ≡ 0
+  pub frame_id : pos d.head.frame_id ≡ int_rem_euclid x.planned.line.slot.frame (pos 256)
+  pub subframe : d.head.subframe ≡ x.planned.line.slot.subframe
+  pub slot : d.head.slot ≡ x.planned.line.slot.slot
+  pub id : d.section.id ≡ x.planned.line.section
+  pub symbol : d.section.symbol ≡ x.symbol
+  pub start_prb : d.section.start_prb ≡ x.planned.line.start_prb
+  pub num_prb : d.section.num_prb ≡ x.planned.line.num_prb
+  pub samples : (n : ℕ) → is_from (first_prb (allocation_of x.planned)) (prb_count (allocation_of x.planned)) n ≡ true
+      → slice_index_or d.blocks (n - first_prb (allocation_of x.planned)) [] ≡ blocks (cell_at x.planned.ep false x.planned.line.slot x.symbol n)
+
+-- a section came for a line in this symbol
+pub record IsDataSent (blocks : Blocks) (x : Part) (ds : List Data) : Type 0 where
+  pub section : Data
+  pub came : IsIn section ds
+  pub carries : IsDataFor blocks x section
+  pub slot : data_slot section ≡ x.planned.line.slot
+
+-- a section carries an uplink line's part, and is on time
+pub record IsPlannedData (c : Config) (ps : List PlannedLine) (blocks : Blocks) (d : Data) : Type 0 where
+  pub part : Part
+  pub planned_is : IsIn part.planned ps
+  pub uplink : is_uplink part.planned ≡ true
+  pub carries : IsDataFor blocks part d
+  pub slot : data_slot d ≡ part.planned.line.slot
+  pub class : data_class Du c.delays d ≡ OnTime
+
+-- Of the arrivals at the distributed unit, the newest first: each section that is decoded carries an uplink line in one of its symbols,
+-- on time; each `ul` line has one in each of its symbols; and the block of each uplink cell is that of any such line that covers it, none
+-- where no such line does.
+pub record AreDecodedOnce (c : Config) (ps : List PlannedLine) (blocks : Blocks) (up : List Arrival) : Type 0 where
+  pub each : (d : Data) → IsIn d (data_of Du c up) → IsPlannedData c ps blocks d
+  pub every : (p : PlannedLine) (symbol : ℕ) → IsIn p ps → is_uplink p ≡ true → is_from p.line.symbol p.line.count symbol ≡ true
+      → IsDataSent blocks (part_in symbol p) (data_of Du c up)
+  pub blocks_are : (cell : Cell) → cell.down ≡ false → block_at (timely_of Du c up) cell ≡ planned_block blocks ps cell
+
+abbrev pub EachIsDecodedOnce : Type 0
+EachIsDecodedOnce =
+    (c : Config) (lines : List PlanLine) (source : Source) (antenna : Antenna) (down up : List Arrival) → BothArrive c lines source antenna down up
+    → AreDecodedOnce c (planned c.endpoints lines) (blocks_of c antenna) up
