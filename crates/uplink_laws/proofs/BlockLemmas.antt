@@ -45,12 +45,12 @@ all_timely delays (d ∷ xs) h =
 
 -- ---- lines of the uplink
 
-not_down : (k : PlanKind) → not (is_down k) ≡ true → (is_down k ≡ false) × (not (is_idle k) ≡ true)
+pub not_down : (k : PlanKind) → not (is_down k) ≡ true → (is_down k ≡ false) × (not (is_idle k) ≡ true)
 not_down Down h = absurd cc
 not_down Up h = (refl, refl)
 not_down Idle h = absurd cc
 
-is_up : (k : PlanKind) → is_down k ≡ false → not (is_down k) ≡ true
+pub is_up : (k : PlanKind) → is_down k ≡ false → not (is_down k) ≡ true
 is_up Down h = absurd cc
 is_up Up h = refl
 is_up Idle h = absurd cc

@@ -8,3 +8,5 @@ pub mod ArrivalLemmas
 pub mod WholeLemmas
 pub mod DecodedLemmas
 pub mod BlockLemmas
+pub mod CellLemmas
+pub mod SingleLemmas

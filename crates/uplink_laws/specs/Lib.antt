@@ -4,3 +4,5 @@ pub mod Premise
 pub mod Flows
 pub mod Whole
 pub mod Data
+pub mod Cells
+pub mod Singles

@@ -4,8 +4,10 @@
 //! Each law is the contract of a function that does nothing. All rest on this project's profile of O-RAN.WG4.CUS.
 #![tactic(auto)]
 
+ghost use Rattle.uplink_laws.specs.Cells.{ThePlanIsTakenIn};
 ghost use Rattle.uplink_laws.specs.Data.{EachIsDecodedOnce};
 ghost use Rattle.uplink_laws.specs.Jobs.{JobsAreOfPlan};
+ghost use Rattle.uplink_laws.specs.Singles.{EachCellIsTakenOnce};
 ghost use Rattle.uplink_laws.specs.Whole.{EachIsTakenOnce};
 
 /// The uplink sections that the radio unit accepts are those of the plan's `ul` lines, each once, in whatever order their commands
@@ -24,4 +26,15 @@ pub fn each_is_taken_once()
 /// the block of each uplink cell in the end is what the endpoint's compression leaves of the antenna's samples.
 pub fn each_is_decoded_once()
     ensures { EachIsDecodedOnce }
+{}
+
+/// What the distributed unit reports is, cell for cell and in order, what the plan says: each cell in which a `ul` line names an
+/// element, once, with the union of their masks, their section id and its samples; no other cell, and none is missing.
+pub fn the_plan_is_taken_in()
+    ensures { ThePlanIsTakenIn }
+{}
+
+/// Of each cell in which a `ul` line names an element exactly one event is reported once Ta4's maximum is over: the plan's.
+pub fn each_cell_is_taken_once()
+    ensures { EachCellIsTakenOnce }
 {}
