@@ -1,5 +1,6 @@
 -- What claims and blocks of a plan radiate.
 use Rattle.std.proofs.Common.{◌≡◌, ℕ, zero, suc, ℤ, pos, ◌+◌, ◌*◌, ◌<◌, ◌≤◌, ◌+ℤ◌, ◌-ℤ◌, ◌⊎◌, inl, inr, Bool, true, false, not, ◌&&◌, ◌==◌, if◌then◌else◌, List, [], ◌∷◌, map, Option, Some, None, refl, ap, ap₂, sym, ◌∙◌, arith}
+use Rattle.std.specs.Prelude.{All}
 use Rattle.std.proofs.lemmas.Bool.{cases_Bool, cases_eq, and_parts, and_from, eq-eqb, eqb-true, or_right}
 use Rattle.std.proofs.lemmas.Int.{ints}
 use Rattle.fh_time.specs.Air.{air_of}
@@ -8,6 +9,8 @@ use Rattle.air_source.specs.declared.events.AirCell.{AirCell}
 use Rattle.air_source.specs.declared.events.Side.TheVariants.{Ru}
 use Rattle.bfp_codec.specs.declared.samples.Wide.{Wide}
 use Rattle.fragment_laws.specs.Apart.{IsIn}
+use Rattle.window_config.specs.Configs.{IsConfig}
+use Rattle.window_config.specs.Plans.{IsPlanLine}
 use Rattle.window_config.specs.declared.config.Config.{Config}
 use Rattle.window_config.specs.declared.endpoints.EndpointConfig.{EndpointConfig}
 use Rattle.window_config.specs.declared.plan.PlanLine.{PlanLine}
@@ -25,6 +28,7 @@ use Rattle.unit_laws.proofs.ListLemmas.{each_same}
 use Rattle.unit_laws.proofs.ReportLemmas.{report_same}
 use Rattle.unit_laws.proofs.SweepLemmas.{sweep-same}
 use Rattle.plan_model.specs.Lines.{allocation_of, planned}
+use Rattle.plan_model.specs.Valid.{IsValid}
 use Rattle.plan_model.specs.Validity.{clash, share_bit, share_cell}
 use Rattle.plan_model.specs.declared.lines.PlannedLine.{PlannedLine}
 use Rattle.schedule_laws.specs.Cells.{mask_below, planned_air, planned_cell, planned_event, planned_mask, planned_section, planned_symbol, radiates}
@@ -95,63 +99,63 @@ id_is claims id from (suc n) k c h low high e = elim (cases_eq k from) [
 
 -- ---- a plan's claims
 
-module _ (c : Config) (lines : List PlanLine) (text : Texts) (blocks : Blocks) (arrivals : List Arrival) (h : AllArrive c lines text arrivals) (w : AreWritten c (planned c.endpoints lines) text blocks) where
-  abbrev ps : List PlannedLine
-  ps = planned c.endpoints lines
+module _ (c : Config) (lines : List PlanLine) (config : IsConfig c) (fit : All IsPlanLine lines) (valid : IsValid c lines) where
+  abbrev all_lines : List PlannedLine
+  all_lines = planned c.endpoints lines
 
-  abbrev ls : List Allocation
-  ls = map allocation_of ps
+  abbrev all_named : List Allocation
+  all_named = map allocation_of all_lines
 
-  all_allowed : AreAllowed ls
-  all_allowed = allowed c lines h.config h.lines_fit h.valid
+  all_allowed : AreAllowed all_named
+  all_allowed = allowed c lines config fit valid
 
-  line_named : (cell : Cell) (re : ℕ) (b : Allocation) → IsIn b ls → names b cell re ≡ true → (p : PlannedLine) × IsIn p ps × (names (allocation_of p) cell re ≡ true) × (claim_of b ≡ claim_of (allocation_of p))
+  line_named : (cell : Cell) (re : ℕ) (b : Allocation) → IsIn b all_named → names b cell re ≡ true → (p : PlannedLine) × IsIn p all_lines × (names (allocation_of p) cell re ≡ true) × (claim_of b ≡ claim_of (allocation_of p))
   line_named cell re b m is =
-      let p = of_map allocation_of b ps m in
+      let p = of_map allocation_of b all_lines m in
       (p.0, p.1, ap (λ (a : Allocation). names a cell re) (sym p.2) ∙ is, ap (λ (a : Allocation). claim_of a) p.2)
 
-  pub line_claims : (cell : Cell) (re : ℕ) (p : PlannedLine) → re < 12 → IsIn p ps → names (allocation_of p) cell re ≡ true → claim_at ls cell re ≡ Some (claim_of (allocation_of p))
-  line_claims cell re p below m is = own_claim ls (allocation_of p) cell re all_allowed.clear below (in_map allocation_of p ps m) is
+  pub line_claims : (cell : Cell) (re : ℕ) (p : PlannedLine) → re < 12 → IsIn p all_lines → names (allocation_of p) cell re ≡ true → claim_at all_named cell re ≡ Some (claim_of (allocation_of p))
+  line_claims cell re p below m is = own_claim all_named (allocation_of p) cell re all_allowed.clear below (in_map allocation_of p all_lines m) is
 
-  used_is : (cell : Cell) (re : ℕ) → re < 12 → is_used (claim_at ls cell re) ≡ radiates ps cell re
-  used_is cell re below = same_tests (is_used (claim_at ls cell re)) (radiates ps cell re) (forth (claim_at ls cell re) refl) back
+  used_is : (cell : Cell) (re : ℕ) → re < 12 → is_used (claim_at all_named cell re) ≡ radiates all_lines cell re
+  used_is cell re below = same_tests (is_used (claim_at all_named cell re)) (radiates all_lines cell re) (forth (claim_at all_named cell re) refl) back
     where
-      forth : (o : Option Claim) → claim_at ls cell re ≡ o → is_used o ≡ true → radiates ps cell re ≡ true
+      forth : (o : Option Claim) → claim_at all_named cell re ≡ o → is_used o ≡ true → radiates all_lines cell re ≡ true
       forth None e u = absurd cc
       forth (Some d) e u =
-          let k = claimed ls cell re d e in
+          let k = claimed all_named cell re d e in
           let p = line_named cell re k.b k.there k.names_it in
           let used : not (allocation_of p.0).idle ≡ true = ap (λ (x : Claim). not x.idle) (sym (k.is ∙ p.3)) ∙ u in
-          any_in (λ (q : PlannedLine). not (allocation_of q).idle && names (allocation_of q) cell re) p.0 ps p.1 (and_from _ _ used p.2)
+          any_in (λ (q : PlannedLine). not (allocation_of q).idle && names (allocation_of q) cell re) p.0 all_lines p.1 (and_from _ _ used p.2)
 
-      back : radiates ps cell re ≡ true → is_used (claim_at ls cell re) ≡ true
+      back : radiates all_lines cell re ≡ true → is_used (claim_at all_named cell re) ≡ true
       back r =
-          let k = among (λ (q : PlannedLine). not (allocation_of q).idle && names (allocation_of q) cell re) ps r in
+          let k = among (λ (q : PlannedLine). not (allocation_of q).idle && names (allocation_of q) cell re) all_lines r in
           let parts = and_parts (not (allocation_of k.x).idle) (names (allocation_of k.x) cell re) k.is in
           ap (λ (o : Option Claim). is_used o) (line_claims cell re k.x below k.there parts.1) ∙ parts.0
 
-  pub mask_is : (cell : Cell) → used_mask (claim_at ls cell) ≡ planned_mask ps cell
-  mask_is cell = mask_same (claim_at ls cell) (radiates ps cell) 12 (used_is cell)
+  pub mask_is : (cell : Cell) → used_mask (claim_at all_named cell) ≡ planned_mask all_lines cell
+  mask_is cell = mask_same (claim_at all_named cell) (radiates all_lines cell) 12 (used_is cell)
 
   -- all lines in a cell have one section id
-  pub one_section : (cell : Cell) (p q : PlannedLine) → IsIn p ps → IsIn q ps → covers (allocation_of p) cell ≡ true → covers (allocation_of q) cell ≡ true → q.line.section ≡ p.line.section
+  pub one_section : (cell : Cell) (p q : PlannedLine) → IsIn p all_lines → IsIn q all_lines → covers (allocation_of p) cell ≡ true → covers (allocation_of q) cell ≡ true → q.line.section ≡ p.line.section
   one_section cell p q m n a b = elim (cases_Bool (p.line.section == q.line.section)) [
     | inl same ↦ sym (eqb-true p.line.section q.line.section same)
     | inr differ ↦
         let both : clash (allocation_of p) (allocation_of q) ≡ true =
         and_from (share_cell (allocation_of p) (allocation_of q)) _ (both_cover (allocation_of p) (allocation_of q) cell a b) (or_right (share_bit p.line.mask q.line.mask) _ (ap not differ)) in
-        ap (λ (r : PlannedLine). r.line.section) (sym (are_one c lines h.config h.lines_fit h.valid p q m n both))
+        ap (λ (r : PlannedLine). r.line.section) (sym (are_one c lines config fit valid p q m n both))
   ]
 
-  pub all_under : (cell : Cell) (p : PlannedLine) (re : ℕ) → IsIn p ps → covers (allocation_of p) cell ≡ true → (o : Option Claim) → claim_at ls cell re ≡ o → IsUnder p.line.section o
+  pub all_under : (cell : Cell) (p : PlannedLine) (re : ℕ) → IsIn p all_lines → covers (allocation_of p) cell ≡ true → (o : Option Claim) → claim_at all_named cell re ≡ o → IsUnder p.line.section o
   all_under cell p re m is None e = tt
   all_under cell p re m is (Some d) e =
-      let k = claimed ls cell re d e in
+      let k = claimed all_named cell re d e in
       let q = line_named cell re k.b k.there k.names_it in
       let parts = and_parts (covers (allocation_of q.0) cell) (in_mask q.0.line.mask re) q.2 in
       ap (λ (x : Claim). x.id) (k.is ∙ q.3) ∙ one_section cell p q.0 m q.1 is parts.0
 
-  pub section_is : (qs : List PlannedLine) (cell : Cell) (p : PlannedLine) → ((q : PlannedLine) → IsIn q qs → IsIn q ps) → IsIn p qs → radiates_in p cell ≡ true → planned_section qs cell ≡ p.line.section
+  pub section_is : (qs : List PlannedLine) (cell : Cell) (p : PlannedLine) → ((q : PlannedLine) → IsIn q qs → IsIn q all_lines) → IsIn p qs → radiates_in p cell ≡ true → planned_section qs cell ≡ p.line.section
   section_is [] cell p within m is = absurd m
   section_is (q ∷ qs) cell p within m is = elim (cases_Bool (radiates_in q cell)) [
     | inl now ↦
@@ -167,6 +171,18 @@ module _ (c : Config) (lines : List PlanLine) (text : Texts) (blocks : Blocks) (
       no : true ≡ false → ⊥
       no q = cc
 
+-- ---- what a plan radiates
+
+pub own_samples : (id : ℕ) (samples : List Wide) → samples_under id (Some (record { id = id; samples = samples })) ≡ Some samples
+own_samples id samples = ap (λ (b : Bool). let o : Option (List Wide) = if b then Some samples else None in o) (eq-eqb id id refl)
+
+module _ (c : Config) (lines : List PlanLine) (text : Texts) (blocks : Blocks) (arrivals : List Arrival) (h : AllArrive c lines text arrivals) (w : AreWritten c (planned c.endpoints lines) text blocks) where
+  abbrev ps : List PlannedLine
+  ps = planned c.endpoints lines
+
+  abbrev ls : List Allocation
+  ls = map allocation_of ps
+
   planned_is : (qs : List PlannedLine) (cell : Cell) (p : PlannedLine) → IsIn p qs → radiates_in p cell ≡ true → planned_block blocks qs cell ≡ Some (record { id = planned_section qs cell; samples = blocks cell })
   planned_is [] cell p m is = absurd m
   planned_is (q ∷ qs) cell p m is = elim (cases_Bool (radiates_in q cell)) [
@@ -179,9 +195,6 @@ module _ (c : Config) (lines : List PlanLine) (text : Texts) (blocks : Blocks) (
     where
       no : true ≡ false → ⊥
       no q = cc
-
-  pub own_samples : (id : ℕ) (samples : List Wide) → samples_under id (Some (record { id = id; samples = samples })) ≡ Some samples
-  own_samples id samples = ap (λ (b : Bool). let o : Option (List Wide) = if b then Some samples else None in o) (eq-eqb id id refl)
 
   -- ---- one cell
 
@@ -196,19 +209,19 @@ module _ (c : Config) (lines : List PlanLine) (text : Texts) (blocks : Blocks) (
       let parts = and_parts (not (allocation_of p).idle) (names (allocation_of p) cell re) k.is in
       let cover = and_parts (covers (allocation_of p) cell) (in_mask p.line.mask re) parts.1 in
       let in_cell : radiates_in p cell ≡ true = and_from _ _ parts.0 cover.0 in
-      let section = section_is ps cell p (λ q m. m) k.there in_cell in
+      let section = section_is c lines h.config h.lines_fit h.valid ps cell p (λ q m. m) k.there in_cell in
       let ids : cell_id (claim_at ls cell) ≡ planned_section ps cell =
-      id_is (claim_at ls cell) p.line.section 0 12 re (claim_of (allocation_of p)) (λ i small. all_under cell p i k.there cover.0 (claim_at ls cell i) refl) (omega arith) (omega (arith, below))
-      (line_claims cell re p below k.there parts.1) ∙ sym section in
+      id_is (claim_at ls cell) p.line.section 0 12 re (claim_of (allocation_of p)) (λ i small. all_under c lines h.config h.lines_fit h.valid cell p i k.there cover.0 (claim_at ls cell i) refl) (omega arith) (omega (arith, below))
+      (line_claims c lines h.config h.lines_fit h.valid cell re p below k.there parts.1) ∙ sym section in
       let block = planned_is ps cell p k.there in_cell in
       let samples : samples_under (planned_section ps cell) (planned_block blocks ps cell) ≡ Some (blocks cell) =
       ap (λ (o : Option Block). samples_under (planned_section ps cell) o) block ∙ own_samples (planned_section ps cell) (blocks cell) in
-      let masks = mask_is cell in
+      let masks = mask_is c lines h.config h.lines_fit h.valid cell in
       rw (masks, some, ids, samples) refl
 
   cell_is : (e : EndpointConfig) (cell : Cell) (start : ℤ) → plan_report e cell start ≡ (if planned_mask ps cell == 0 then [] else planned_event blocks ps e cell start ∷ [])
   cell_is e cell start = elim (cases_Bool (planned_mask ps cell == 0)) [
-    | inl none ↦ (let masks = mask_is cell in rw (masks, none) refl)
+    | inl none ↦ (let masks = mask_is c lines h.config h.lines_fit h.valid cell in rw (masks, none) refl)
     | inr some ↦ elim (has_element (radiates ps cell) 12) [
       | inl zero_mask ↦ absurd (no (sym (eq-eqb (planned_mask ps cell) 0 zero_mask) ∙ some))
       | inr k ↦ radiating e cell start k.0 k.1 k.2 some ∙ sym (ap (λ (b : Bool). let xs : List AirCell = if b then [] else planned_event blocks ps e cell start ∷ [] in xs) some)

@@ -1,5 +1,6 @@
 -- Commands that come within T12 are on time and name what their lines name; so each line's is accepted once.
 use Rattle.std.proofs.Common.{◌≡◌, ℕ, ℤ, pos, neg_ℤ, ◌+◌, ◌*◌, ◌<◌, ◌≤◌, ◌+ℤ◌, ◌*ℤ◌, ◌-ℤ◌, ◌≤ℤ◌, ◌<ℤ◌, min, inl, inr, Bool, true, false, not, ◌&&◌, ◌==◌, List, [], ◌∷◌, map, refl, ap, ap₂, sym, ◌∙◌, subst, arith}
+use Rattle.std.specs.Prelude.{All}
 use Rattle.std.specs.Int.{int_rem_euclid}
 use Rattle.std.proofs.lemmas.Bool.{and_parts, and_from, eq-eqb, eqb-true}
 use Rattle.std.proofs.lemmas.Int.{ints}
@@ -10,7 +11,9 @@ use Rattle.fh_time.specs.declared.values.Slot.{Slot}
 use Rattle.air_source.specs.declared.events.Side.TheVariants.{Ru}
 use Rattle.fragment_laws.specs.Apart.{IsIn}
 use Rattle.window_config.specs.Classes.{IsOnTime, class_of}
+use Rattle.window_config.specs.Configs.{IsConfig}
 use Rattle.window_config.specs.Limits.{IsWithinLimits}
+use Rattle.window_config.specs.Plans.{IsPlanLine}
 use Rattle.window_config.specs.Relations.{PassesCheck}
 use Rattle.window_config.specs.Windows.{command_window_of, cp_dl_of, ticks_of_ns}
 use Rattle.window_config.specs.declared.config.Config.{Config}
@@ -37,17 +40,18 @@ use Rattle.plan_model.specs.Lines.{allocation_of, is_down, planned}
 use Rattle.plan_model.specs.Packs.{Numbered, packs}
 use Rattle.plan_model.specs.Sent.{SentFrame, frame_of, sent}
 use Rattle.plan_model.specs.Streams.{Part, frames_in, has_part, messages_of, part_fields, part_in, parts_in}
+use Rattle.plan_model.specs.Valid.{IsValid}
 use Rattle.plan_model.specs.declared.lines.PlannedLine.{PlannedLine}
 use Rattle.plan_model.specs.declared.streams.Stream.{Stream}
 use Rattle.plan_model.specs.declared.streams.Stream.TheVariants.{DownCommands, UpCommands, DownData, UpData}
 use Rattle.schedule_laws.specs.Commands.{AreCommandedOnce, IsAnsweredOnce, IsCommanded}
-use Rattle.schedule_laws.specs.Premise.{AllArrive, IsCommandFor, Texts}
+use Rattle.schedule_laws.specs.Premise.{AllArrive, IsCommandFor, IsCopyOf, Texts}
 use Rattle.schedule_laws.proofs.AcceptedLemmas.{AreAllowed, IsTimely, again, named_all, new_one}
 use Rattle.schedule_laws.proofs.ClashLemmas.{claims_same, slot_own}
 use Rattle.schedule_laws.proofs.LineLemmas.{allowed, are_same, good, part_line, same_endpoint, start_in_time}
 use Rattle.schedule_laws.proofs.ListLemmas.{in_right, in_map, of_map, numerology_short}
 use Rattle.schedule_laws.proofs.PackLemmas.{message_from, one_part}
-use Rattle.schedule_laws.proofs.ReadingLemmas.{Heard, IsCommandStream, command_read, heard, told}
+use Rattle.schedule_laws.proofs.ReadingLemmas.{AreCopies, Heard, IsCommandStream, command_read, heard, told}
 use Rattle.schedule_laws.proofs.SentLemmas.{IsOfMessage, IsSentStream, is_sent, message_part, part_is, part_message, part_there, sent_is}
 use Rattle.schedule_laws.proofs.TimeLemmas.{copy_from, copy_to, first_less, frame_is, in_end, in_time, wait_most}
 
@@ -198,7 +202,16 @@ leaves UpData s c n sub = absurd s
 
 -- ---- all that arrives
 
-module _ (c : Config) (lines : List PlanLine) (text : Texts) (arrivals : List Arrival) (h : AllArrive c lines text arrivals) where
+-- what the commands need of the premise: each arrival is a copy of a frame that is sent, and of each command that is sent a copy came
+pub record CommandsArrive (c : Config) (lines : List PlanLine) (text : Texts) (arrivals : List Arrival) : Type 0 where
+  pub config : IsConfig c
+  pub lines_fit : All IsPlanLine lines
+  pub valid : IsValid c lines
+  pub check : PassesCheck c.delays
+  pub came : AreCopies c text (sent c (planned c.endpoints lines)) arrivals
+  pub every : (f : SentFrame) → IsIn f (sent c (planned c.endpoints lines)) → IsCommandStream f.stream → (a : Arrival) × IsIn a arrivals × IsCopyOf c text f a
+
+module _ (c : Config) (lines : List PlanLine) (text : Texts) (arrivals : List Arrival) (h : CommandsArrive c lines text arrivals) where
   abbrev ps : List PlannedLine
   ps = planned c.endpoints lines
 
@@ -384,7 +397,7 @@ module _ (c : Config) (lines : List PlanLine) (text : Texts) (arrivals : List Ar
   commanded : (p : PlannedLine) → IsIn p ps → IsCommanded p cs
   commanded p m =
       let w = has_frame p m in
-      let a = h.every w.f w.there in
+      let a = h.every w.f w.there w.stream in
       let r = command_read c text w.f a.0 w.stream a.2 in
       let there = told c text (sent c ps) arrivals h.came a.0 r.command a.1 r.is in
       let carries : IsCommandFor p r.command = subst (λ (q : PlannedLine). IsCommandFor q r.command) w.is r.for_line in
@@ -415,8 +428,8 @@ module _ (c : Config) (lines : List PlanLine) (text : Texts) (arrivals : List Ar
       let w = commanded p.0 p.1 in
       subst (λ (a : Allocation). IsIn a (accepted c.delays cs)) (w.names ∙ sym p.2) (named.all w.command w.came)))
 
-  pub commanded_once : AreCommandedOnce c (planned c.endpoints lines) arrivals
-  commanded_once = record {
+  pub commanded_by : AreCommandedOnce c (planned c.endpoints lines) arrivals
+  commanded_by = record {
     answers = λ later earlier d e.
         answered earlier d (subst (λ (xs : List Command). IsIn d xs) (sym e) (in_right d later (d ∷ earlier) (inl refl)))
         (λ x i. subst (λ (xs : List Command). IsIn x xs) (sym e) (in_right x later (d ∷ earlier) (inr i)));
@@ -424,3 +437,14 @@ module _ (c : Config) (lines : List PlanLine) (text : Texts) (arrivals : List Ar
     differ = are_same c lines h.config h.lines_fit h.valid;
     claims = claims_are;
   }
+
+pub commanded_once : (c : Config) (lines : List PlanLine) (text : Texts) (arrivals : List Arrival) → AllArrive c lines text arrivals → AreCommandedOnce c (planned c.endpoints lines) arrivals
+commanded_once c lines text arrivals h =
+    commanded_by c lines text arrivals (record {
+      config = h.config;
+      lines_fit = h.lines_fit;
+      valid = h.valid;
+      check = h.check;
+      came = h.came;
+      every = λ f m stream. h.every f m;
+    })

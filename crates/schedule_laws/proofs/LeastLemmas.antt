@@ -45,7 +45,7 @@ map_rising bytes k (f ∷ fs) h = (
 )
 
 -- the newest first
-onto_order : (earlier xs : List Arrival) → AreInOrder earlier → IsRising (λ (a : Arrival). a.at) xs → ((b x : Arrival) → IsIn b earlier → IsIn x xs → b.at ≤ℤ x.at) → AreInOrder (onto earlier xs)
+pub onto_order : (earlier xs : List Arrival) → AreInOrder earlier → IsRising (λ (a : Arrival). a.at) xs → ((b x : Arrival) → IsIn b earlier → IsIn x xs → b.at ≤ℤ x.at) → AreInOrder (onto earlier xs)
 unfolding onto
 onto_order earlier [] o r h = o
 onto_order earlier (x ∷ xs) o r h =

@@ -24,7 +24,7 @@ use Rattle.sent_laws.specs.Sent.{IsSendable}
 use Rattle.sent_laws.proofs.SentRead.{frames_are_read, messages_say}
 
 module _ (c : Config) (lines : List PlanLine) (source : Source) (s : IsSendable c lines source) where
-  copy_is : (f : SentFrame) (a : Arrival) → IsIn f (sent c (planned c.endpoints lines)) → IsSentCopy c source f a → IsCopyOf c (texts_of c (planned c.endpoints lines) source) f a
+  pub copy_is : (f : SentFrame) (a : Arrival) → IsIn f (sent c (planned c.endpoints lines)) → IsSentCopy c source f a → IsCopyOf c (texts_of c (planned c.endpoints lines) source) f a
   copy_is f a m copy =
       let text = texts_of c (planned c.endpoints lines) source in
       let same : a ≡ arrival_of (sent_bytes c source) f a.at = ap (λ (bytes : List ℕ). let b : Arrival = record { at = a.at; frame = bytes } in b) copy.bytes in
