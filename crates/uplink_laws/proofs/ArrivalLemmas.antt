@@ -10,6 +10,7 @@ use Rattle.ecpri_fragments.specs.Generations.{Fragment}
 use Rattle.ecpri_frames.specs.Gathering.{whole_messages}
 use Rattle.fragment_laws.specs.Apart.{IsFalling, IsIn}
 use Rattle.fragment_laws.specs.Flow.{Bounds, Flow, IsCopyOf as IsFragmentCopy, IsDelivered, IsSound, size_to}
+use Rattle.window_config.specs.Relations.{PassesCheck}
 use Rattle.window_config.specs.Windows.{ticks_of_ns}
 use Rattle.window_config.specs.declared.config.Config.{Config}
 use Rattle.window_config.specs.declared.endpoints.EndpointConfig.{EndpointConfig}
@@ -25,18 +26,17 @@ use Rattle.plan_model.specs.Packs.{Message, Numbered}
 use Rattle.plan_model.specs.Streams.{Part, frames_in, messages_of}
 use Rattle.plan_model.specs.declared.lines.PlannedLine.{PlannedLine}
 use Rattle.plan_model.specs.declared.streams.Stream.TheVariants.{UpData}
-use Rattle.schedule_laws.specs.Premise.{AllArrive, AreInOrder}
+use Rattle.schedule_laws.specs.Premise.{AreInOrder}
 use Rattle.schedule_laws.proofs.ListLemmas.{in_each, in_either, in_filter, in_joined, in_map, of_each, of_filter, of_joined, of_map}
 use Rattle.schedule_laws.proofs.OrderLemmas.{get_in}
 use Rattle.sent_frames.specs.Messages.{Source}
-use Rattle.sent_laws.specs.Frames.{texts_of}
-use Rattle.sent_laws.proofs.RadiatedLemmas.{arrive}
 use Rattle.uplink_model.specs.Frames.{Antenna, frame_of, frames_behind, frames_from, message_frames}
 use Rattle.uplink_model.specs.Messages.{frame_count, frames_before, messages_of as job_messages, number_behind}
 use Rattle.uplink_streams.specs.Streams.{frame_for, message_frames_for, planned_frames, stream_frames_for}
 use Rattle.uplink_streams.proofs.StreamLemmas.{frames_are_the_stream}
 use Rattle.uplink_laws.specs.Flows.{bounds_of, flow_of}
-use Rattle.uplink_laws.specs.Premise.{BothArrive, IsUplinkCopy, frames_of, jobs_of}
+use Rattle.sent_laws.specs.Sent.{IsSendable}
+use Rattle.uplink_laws.specs.Premise.{BothArrive, CommandsArrive, IsUplinkCopy, frames_of, jobs_of}
 use Rattle.uplink_laws.proofs.FlowLemmas.{Here, below_at, here, leaves_at, pieces_at, sound, text_at}
 use Rattle.uplink_laws.proofs.JobLemmas.{jobs_planned}
 use Rattle.uplink_laws.proofs.PartLemmas.{message_number}
@@ -77,36 +77,37 @@ pub fragments_piece : (c : Config) (a : Arrival) (earlier : List Arrival) (e : E
 unfolding meetings onto fragments
 fragments_piece c a earlier e x h = ap (λ (ms : List Meeting). fragments (onto (meetings Du c.endpoints earlier) ms)) h
 
--- ---- all that came
+-- ---- what is sent for the commands that came
 
-module _ (c : Config) (lines : List PlanLine) (source : Source) (antenna : Antenna) (down up : List Arrival) (h : BothArrive c lines source antenna down up) where
-  abbrev ps : List PlannedLine
-  ps = planned c.endpoints lines
+module _ (c : Config) (lines : List PlanLine) (source : Source) (antenna : Antenna) (down : List Arrival) (s : IsSendable c lines source) (check : PassesCheck c.delays)
+    (h : CommandsArrive c (planned c.endpoints lines) source down) where
+  abbrev plan : List PlannedLine
+  plan = planned c.endpoints lines
 
-  pub all_arrive : AllArrive c lines (texts_of c (planned c.endpoints lines) source) down
-  all_arrive = arrive c lines source h.sendable down h.down_arrive
+  abbrev stream_at : ℕ → EndpointConfig → List (Numbered Part)
+  stream_at ep e = messages_of c plan UpData ep e
 
-  frames_same : frames_of c antenna (jobs_of c down) ≡ planned_frames c antenna ps
-  frames_same = ap (λ (js : List UplinkJob). frames_behind c antenna [] (job_messages c js)) ((jobs_planned c lines (texts_of c ps source) down all_arrive).jobs_are end_of_time)
+  frames_same : frames_of c antenna (jobs_of c down) ≡ planned_frames c antenna plan
+  frames_same = ap (λ (js : List UplinkJob). frames_behind c antenna [] (job_messages c js)) ((jobs_planned c lines source down s check h).jobs_are end_of_time)
 
   -- a frame of a message
   pub record IsOf (f : LinkFrame) : Type 0 where
     pub e : EndpointConfig
     pub at : IsAt c.endpoints f.ep e
     pub n : Numbered Part
-    pub there : IsIn n (messages_of c ps UpData f.ep e)
+    pub there : IsIn n (stream_at f.ep e)
     pub sub : ℕ
     pub below : sub < frames_in c UpData n.message
     pub is : f ≡ frame_for c antenna f.ep e n sub
 
-  frame_is : (f : LinkFrame) → IsIn f (frames_of c antenna (jobs_of c down)) → IsOf f
+  pub frame_is : (f : LinkFrame) → IsIn f (frames_of c antenna (jobs_of c down)) → IsOf f
   frame_is f m =
       let e = frame_endpoint c antenna [] (job_messages c (jobs_of c down)) f m in
-      let there : IsIn f (planned_frames c antenna ps) = subst (λ (fs : List LinkFrame). IsIn f fs) frames_same m in
-      let own : IsIn f (filter (λ (g : LinkFrame). g.ep == f.ep) (planned_frames c antenna ps)) = in_filter (λ (g : LinkFrame). g.ep == f.ep) f (planned_frames c antenna ps) there (eq-eqb f.ep f.ep refl) in
-      let of_stream : IsIn f (stream_frames_for c antenna ps f.ep e.0) = subst (λ (fs : List LinkFrame). IsIn f fs) (frames_are_the_stream c antenna lines f.ep e.0 e.1) own in
-      let w = of_joined f (map (message_frames_for c antenna f.ep e.0) (messages_of c ps UpData f.ep e.0)) of_stream in
-      let n = of_map (message_frames_for c antenna f.ep e.0) w.0 (messages_of c ps UpData f.ep e.0) w.1 in
+      let there : IsIn f (planned_frames c antenna plan) = subst (λ (fs : List LinkFrame). IsIn f fs) frames_same m in
+      let own : IsIn f (filter (λ (g : LinkFrame). g.ep == f.ep) (planned_frames c antenna plan)) = in_filter (λ (g : LinkFrame). g.ep == f.ep) f (planned_frames c antenna plan) there (eq-eqb f.ep f.ep refl) in
+      let of_stream : IsIn f (stream_frames_for c antenna plan f.ep e.0) = subst (λ (fs : List LinkFrame). IsIn f fs) (frames_are_the_stream c antenna lines f.ep e.0 e.1) own in
+      let w = of_joined f (map (message_frames_for c antenna f.ep e.0) (stream_at f.ep e.0)) of_stream in
+      let n = of_map (message_frames_for c antenna f.ep e.0) w.0 (stream_at f.ep e.0) w.1 in
       let k = of_each f 0 (frames_in c UpData n.0.message) (λ sub. frame_for c antenna f.ep e.0 n.0 sub ∷ []) (subst (λ (fs : List LinkFrame). IsIn f fs) n.2 w.2) in
       record {
         e = e.0;
@@ -118,16 +119,25 @@ module _ (c : Config) (lines : List PlanLine) (source : Source) (antenna : Anten
         is = the_one f (frame_for c antenna f.ep e.0 n.0 k.0) k.3;
       }
 
-  frame_there : (ep : ℕ) (e : EndpointConfig) (n : Numbered Part) (sub : ℕ) → IsAt c.endpoints ep e → IsIn n (messages_of c ps UpData ep e) → sub < frames_in c UpData n.message
+  pub frame_there : (ep : ℕ) (e : EndpointConfig) (n : Numbered Part) (sub : ℕ) → IsAt c.endpoints ep e → IsIn n (stream_at ep e) → sub < frames_in c UpData n.message
       → IsIn (frame_for c antenna ep e n sub) (frames_of c antenna (jobs_of c down))
   frame_there ep e n sub at there below =
       let f = frame_for c antenna ep e n sub in
-      let of_stream : IsIn f (stream_frames_for c antenna ps ep e) =
-      in_joined f (message_frames_for c antenna ep e n) (map (message_frames_for c antenna ep e) (messages_of c ps UpData ep e))
-      (in_map (message_frames_for c antenna ep e) n (messages_of c ps UpData ep e) there)
+      let of_stream : IsIn f (stream_frames_for c antenna plan ep e) =
+      in_joined f (message_frames_for c antenna ep e n) (map (message_frames_for c antenna ep e) (stream_at ep e))
+      (in_map (message_frames_for c antenna ep e) n (stream_at ep e) there)
       (in_each f 0 (frames_in c UpData n.message) sub (λ k. frame_for c antenna ep e n k ∷ []) (omega arith) (omega (arith, below)) (inl refl)) in
-      let own : IsIn f (filter (λ (g : LinkFrame). g.ep == ep) (planned_frames c antenna ps)) = subst (λ (fs : List LinkFrame). IsIn f fs) (sym (frames_are_the_stream c antenna lines ep e at)) of_stream in
-      subst (λ (fs : List LinkFrame). IsIn f fs) (sym frames_same) (of_filter (λ (g : LinkFrame). g.ep == ep) f (planned_frames c antenna ps) own).0
+      let own : IsIn f (filter (λ (g : LinkFrame). g.ep == ep) (planned_frames c antenna plan)) = subst (λ (fs : List LinkFrame). IsIn f fs) (sym (frames_are_the_stream c antenna lines ep e at)) of_stream in
+      subst (λ (fs : List LinkFrame). IsIn f fs) (sym frames_same) (of_filter (λ (g : LinkFrame). g.ep == ep) f (planned_frames c antenna plan) own).0
+
+-- ---- all that came
+
+module _ (c : Config) (lines : List PlanLine) (source : Source) (antenna : Antenna) (down up : List Arrival) (h : BothArrive c lines source antenna down up) where
+  abbrev ps : List PlannedLine
+  ps = planned c.endpoints lines
+
+  abbrev IsSent : LinkFrame → Type 0
+  IsSent f = IsOf c lines source antenna down h.sendable h.check h.down_arrive f
 
   abbrev fragment : ℕ → EndpointConfig → Numbered Part → ℕ → ℤ → Fragment
   fragment ep e n sub t = fragment_at c lines source h.sendable antenna h.can ep e n sub t
@@ -151,7 +161,7 @@ module _ (c : Config) (lines : List PlanLine) (source : Source) (antenna : Anten
   read_as ep e n sub a at there below bytes =
       ap (λ (bs : List ℕ). met_in Du c.endpoints a.at (whole_messages bs)) bytes ∙ frame_read c lines source h.sendable antenna h.can ep e n at there sub a.at below
 
-  frame_came : (f : LinkFrame) (a : Arrival) → IsOf f → IsUplinkCopy c f a → Came a
+  frame_came : (f : LinkFrame) (a : Arrival) → IsSent f → IsUplinkCopy c f a → Came a
   frame_came f a w copy =
       let at_is : f.at.0 ≡ sent_at c UpData w.n w.sub = ap (λ (g : LinkFrame). g.at.0) w.is in
       record {
@@ -168,7 +178,7 @@ module _ (c : Config) (lines : List PlanLine) (source : Source) (antenna : Anten
       }
 
   pub came : (a : Arrival) → IsIn a up → Came a
-  came a m = let w = h.up_arrive.came a m in frame_came w.0 a (frame_is w.0 w.1) w.2
+  came a m = let w = h.up_arrive.came a m in frame_came w.0 a (frame_is c lines source antenna down h.sendable h.check h.down_arrive w.0 w.1) w.2
 
   -- ---- their fragments
 
@@ -225,7 +235,7 @@ module _ (c : Config) (lines : List PlanLine) (source : Source) (antenna : Anten
   b = bounds_of c
 
   abbrev pub IsHere : ℕ → ℕ → Type 0
-  IsHere ep j = Here c lines h.sendable.config h.sendable.lines_fit h.sendable.valid h.down_arrive.check antenna ep j
+  IsHere ep j = Here c lines h.sendable.config h.sendable.lines_fit h.sendable.valid h.check antenna ep j
 
   pub here_of : (ep : ℕ) (e : EndpointConfig) (n : Numbered Part) → IsAt c.endpoints ep e → IsIn n (messages_of c ps UpData ep e) → IsHere ep n.number
   here_of ep e n at there =
@@ -239,8 +249,8 @@ module _ (c : Config) (lines : List PlanLine) (source : Source) (antenna : Anten
 
   pub sounds : (ep : ℕ) → IsSound (bounds_of c) (flow_of c antenna (planned c.endpoints lines) ep)
   sounds =
-      sound c lines h.sendable.config h.sendable.lines_fit h.sendable.valid h.down_arrive.check antenna (λ ep j w.
-      ap (λ (t : ℕ → List ℕ). size_to t (frames_in c UpData w.n.message)) (text_at c lines h.sendable.config h.sendable.lines_fit h.sendable.valid h.down_arrive.check antenna ep j w)
+      sound c lines h.sendable.config h.sendable.lines_fit h.sendable.valid h.check antenna (λ ep j w.
+      ap (λ (t : ℕ → List ℕ). size_to t (frames_in c UpData w.n.message)) (text_at c lines h.sendable.config h.sendable.lines_fit h.sendable.valid h.check antenna ep j w)
       ∙ size_is c lines source h.sendable antenna h.can ep w.e w.n w.at w.there)
 
   -- a copy of a frame is one of the flow's
@@ -250,11 +260,11 @@ module _ (c : Config) (lines : List PlanLine) (source : Source) (antenna : Anten
   unfolding here_of
   copy_of ep e n sub t at there below from to =
       let k = here_of ep e n at there in
-      let pieces = pieces_at c lines h.sendable.config h.sendable.lines_fit h.sendable.valid h.down_arrive.check antenna ep n.number k in
-      let leaves = leaves_at c lines h.sendable.config h.sendable.lines_fit h.sendable.valid h.down_arrive.check antenna ep n.number sub k in
-      let text = text_at c lines h.sendable.config h.sendable.lines_fit h.sendable.valid h.down_arrive.check antenna ep n.number k in
+      let pieces = pieces_at c lines h.sendable.config h.sendable.lines_fit h.sendable.valid h.check antenna ep n.number k in
+      let leaves = leaves_at c lines h.sendable.config h.sendable.lines_fit h.sendable.valid h.check antenna ep n.number sub k in
+      let text = text_at c lines h.sendable.config h.sendable.lines_fit h.sendable.valid h.check antenna ep n.number k in
       record {
-        below = below_at c lines h.sendable.config h.sendable.lines_fit h.sendable.valid h.down_arrive.check antenna ep n.number k;
+        below = below_at c lines h.sendable.config h.sendable.lines_fit h.sendable.valid h.check antenna ep n.number k;
         sub = subst (λ m. sub < m) (sym pieces) below;
         id = refl;
         last = ap (λ m. sub + 1 == m) (sym pieces);
@@ -274,11 +284,11 @@ module _ (c : Config) (lines : List PlanLine) (source : Source) (antenna : Anten
 
   flow_every : (ep j sub : ℕ) → j < (flow ep).count → sub < (flow ep).pieces j → (x : Fragment) × IsIn x all × (x.ep ≡ ep) × (x.sub ≡ sub) × IsFragmentCopy b (flow ep) j x
   flow_every ep j sub below less =
-      let a = here c lines h.sendable.config h.sendable.lines_fit h.sendable.valid h.down_arrive.check antenna ep j below in
-      let pieces = pieces_at c lines h.sendable.config h.sendable.lines_fit h.sendable.valid h.down_arrive.check antenna ep j a in
+      let a = here c lines h.sendable.config h.sendable.lines_fit h.sendable.valid h.check antenna ep j below in
+      let pieces = pieces_at c lines h.sendable.config h.sendable.lines_fit h.sendable.valid h.check antenna ep j a in
       let less_n : sub < frames_in c UpData a.n.message = subst (λ m. sub < m) pieces less in
       let f = frame_for c antenna ep a.e a.n sub in
-      let got = h.up_arrive.every f (frame_there ep a.e a.n sub a.at a.there less_n) in
+      let got = h.up_arrive.every f (frame_there c lines source antenna down h.sendable h.check h.down_arrive ep a.e a.n sub a.at a.there less_n) in
       let copy = got.2 in (
         fragment ep a.e a.n sub got.0.at,
         told up came got.0 a.e (fragment ep a.e a.n sub got.0.at) got.1 (read_as ep a.e a.n sub got.0 a.at a.there less_n copy.bytes),

@@ -27,12 +27,9 @@ use Rattle.schedule_laws.proofs.BlockLemmas.{Radiating, find_radiating, no_block
 use Rattle.schedule_laws.proofs.CellLemmas.{one_section}
 use Rattle.schedule_laws.proofs.ClashLemmas.{slot_own, way_own}
 use Rattle.sent_frames.specs.Messages.{Source}
-use Rattle.sent_laws.specs.Frames.{blocks_of as sent_blocks, texts_of}
-use Rattle.sent_laws.proofs.SentRead.{messages_say}
 use Rattle.uplink_model.specs.Frames.{Antenna}
 use Rattle.uplink_laws.specs.Data.{AreDecodedOnce, IsDataFor, blocks_of}
 use Rattle.uplink_laws.specs.Premise.{BothArrive}
-use Rattle.uplink_laws.proofs.ArrivalLemmas.{all_arrive}
 use Rattle.uplink_laws.proofs.DecodedLemmas.{IsTimely, ds, each_timely, line_sent}
 
 -- ---- data that are all on time
@@ -120,7 +117,7 @@ module _ (c : Config) (lines : List PlanLine) (source : Source) (antenna : Anten
   same_section cell p q m n is is_q =
       let x = and_parts (not (allocation_of p).idle) (covers (allocation_of p) cell) is in
       let y = and_parts (not (allocation_of q).idle) (covers (allocation_of q) cell) is_q in
-      one_section c lines (texts_of c ps source) (sent_blocks c source) down (all_arrive c lines source antenna down up h) (messages_say c lines source h.sendable) cell p q m n x.1 y.1
+      one_section c lines h.sendable.config h.sendable.lines_fit h.sendable.valid cell p q m n x.1 y.1
 
   abbrev line_block : Cell → ℕ → Block
   line_block cell id = record { id = id; samples = blocks cell }

@@ -34,14 +34,11 @@ use Rattle.schedule_laws.proofs.LineLemmas.{allowed}
 use Rattle.schedule_laws.proofs.ListLemmas.{in_filter, in_map, of_map}
 use Rattle.schedule_laws.proofs.RangeLemmas.{among}
 use Rattle.sent_frames.specs.Messages.{Source}
-use Rattle.sent_laws.specs.Frames.{blocks_of as sent_blocks, texts_of}
-use Rattle.sent_laws.proofs.SentRead.{messages_say}
 use Rattle.uplink_model.specs.Frames.{Antenna}
 use Rattle.uplink_laws.specs.Cells.{taken_air, taken_cell, taken_event, taken_symbol}
 use Rattle.uplink_laws.specs.Data.{blocks_of}
 use Rattle.uplink_laws.specs.Lines.{is_uplink, uplink_of}
 use Rattle.uplink_laws.specs.Premise.{BothArrive}
-use Rattle.uplink_laws.proofs.ArrivalLemmas.{all_arrive}
 use Rattle.uplink_laws.proofs.BlockLemmas.{decoded_once, is_up}
 use Rattle.uplink_laws.proofs.JobLemmas.{of_uplink}
 
@@ -82,7 +79,7 @@ module _ (c : Config) (lines : List PlanLine) (source : Source) (antenna : Anten
   -- ---- one cell
 
   mask_same : (cell : Cell) → used_mask (claim_at ls cell) ≡ planned_mask ps cell
-  mask_same cell = mask_is c lines (texts_of c ps source) (sent_blocks c source) down (all_arrive c lines source antenna down up h) (messages_say c lines source h.sendable) cell
+  mask_same cell = mask_is c lines h.sendable.config h.sendable.lines_fit h.sendable.valid cell
 
   abbrev plan_report : EndpointConfig → Cell → ℤ → List AirCell
   plan_report e cell start = report_of Du e cell start (claim_at ls cell) (planned_block blocks ps cell)
@@ -90,25 +87,21 @@ module _ (c : Config) (lines : List PlanLine) (source : Source) (antenna : Anten
   taken : (e : EndpointConfig) (cell : Cell) (start : ℤ) (re : ℕ) → re < 12 → radiates ps cell re ≡ true → (planned_mask ps cell == 0) ≡ false
       → plan_report e cell start ≡ taken_event blocks ps e cell start ∷ []
   taken e cell start re below r some =
-      let down_arrive = all_arrive c lines source antenna down up h in
-      let say = messages_say c lines source h.sendable in
-      let text = texts_of c ps source in
-      let sent = sent_blocks c source in
       let k = among (λ (q : PlannedLine). not (allocation_of q).idle && names (allocation_of q) cell re) ps r in
       let p = k.x in
       let parts = and_parts (not (allocation_of p).idle) (names (allocation_of p) cell re) k.is in
       let cover = and_parts (covers (allocation_of p) cell) (in_mask p.line.mask re) parts.1 in
       let in_cell : radiates_in p cell ≡ true = and_from _ _ parts.0 cover.0 in
-      let section : planned_section ps cell ≡ p.line.section = section_is c lines text sent down down_arrive say ps cell p (λ q m. m) k.there in_cell in
+      let section : planned_section ps cell ≡ p.line.section = section_is c lines h.sendable.config h.sendable.lines_fit h.sendable.valid ps cell p (λ q m. m) k.there in_cell in
       let ids : cell_id (claim_at ls cell) ≡ planned_section ps cell =
-      id_is (claim_at ls cell) p.line.section 0 12 re (claim_of (allocation_of p)) (λ i small. all_under c lines text sent down down_arrive say cell p i k.there cover.0 (claim_at ls cell i) refl) (omega arith)
-      (omega (arith, below)) (line_claims c lines text sent down down_arrive say cell re p below k.there parts.1) ∙ sym section in
+      id_is (claim_at ls cell) p.line.section 0 12 re (claim_of (allocation_of p)) (λ i small. all_under c lines h.sendable.config h.sendable.lines_fit h.sendable.valid cell p i k.there cover.0 (claim_at ls cell i) refl) (omega arith)
+      (omega (arith, below)) (line_claims c lines h.sendable.config h.sendable.lines_fit h.sendable.valid cell re p below k.there parts.1) ∙ sym section in
       let same = λ (q : PlannedLine) (m : IsIn q ps) (is : radiates_in q cell ≡ true).
-      one_section c lines text sent down down_arrive say cell p q k.there m cover.0 (and_parts (not (allocation_of q).idle) (covers (allocation_of q) cell) is).1 in
+      one_section c lines h.sendable.config h.sendable.lines_fit h.sendable.valid cell p q k.there m cover.0 (and_parts (not (allocation_of q).idle) (covers (allocation_of q) cell) is).1 in
       let block : planned_block blocks ps cell ≡ Some (record { id = p.line.section; samples = blocks cell }) = planned_one blocks ps cell p.line.section p same k.there in_cell in
       let samples : samples_under (planned_section ps cell) (planned_block blocks ps cell) ≡ Some (blocks cell) =
       ap (λ (o : Option Block). samples_under (planned_section ps cell) o) block ∙ ap (λ i. samples_under i (Some (record { id = p.line.section; samples = blocks cell }))) section
-      ∙ own_samples c lines text sent down down_arrive say p.line.section (blocks cell) in
+      ∙ own_samples p.line.section (blocks cell) in
       let masks = mask_same cell in
       rw (masks, some, ids, samples) refl
 

@@ -190,8 +190,8 @@ module _ (c : Config) (lines : List PlanLine) (source : Source) (antenna : Anten
   decoded_as : (ep j : ℕ) (a : Is ep j) (m : WholeMessage) (e : EndpointConfig) (s : Says (blocks_of c antenna) ep a.e m.first m.last (parts_of a.n.message) (joined (texts (fragment_text c antenna a.e a.n) (frames_in c UpData a.n.message))))
       → m.pieces ≡ texts ((flow_of c antenna ps ep).text j) ((flow_of c antenna ps ep).pieces j) → e ≡ a.e → sections_of (decode_message Du ep e m) ≡ s.sections
   decoded_as ep j a m e s pieces same =
-      let text = text_at c lines h.sendable.config h.sendable.lines_fit h.sendable.valid h.down_arrive.check antenna ep j a in
-      let count = pieces_at c lines h.sendable.config h.sendable.lines_fit h.sendable.valid h.down_arrive.check antenna ep j a in
+      let text = text_at c lines h.sendable.config h.sendable.lines_fit h.sendable.valid h.check antenna ep j a in
+      let count = pieces_at c lines h.sendable.config h.sendable.lines_fit h.sendable.valid h.check antenna ep j a in
       let pieces_n : m.pieces ≡ texts (fragment_text c antenna a.e a.n) (frames_in c UpData a.n.message) = pieces ∙ ap₂ (λ (t : ℕ → List ℕ) (k : ℕ). texts t k) text count in
       ap (λ (f : EndpointConfig). sections_of (decode Du ep f m.first m.last (joined m.pieces))) same
       ∙ ap (λ (ts : List (List ℕ)). sections_of (decode Du ep a.e m.first m.last (joined ts))) pieces_n
@@ -203,7 +203,7 @@ module _ (c : Config) (lines : List PlanLine) (source : Source) (antenna : Anten
       let j = number_of num x in
       let flow = flow_of c antenna ps in
       let copied = copy (bounds_of c) flow (sounds c lines source antenna down up h) all (delivered c lines source antenna down up h) x x_in in
-      let a = here c lines h.sendable.config h.sendable.lines_fit h.sendable.valid h.down_arrive.check antenna x.ep j copied.below in
+      let a = here c lines h.sendable.config h.sendable.lines_fit h.sendable.valid h.check antenna x.ep j copied.below in
       let once = whole_once c lines source antenna down up h x.ep j copied.below in
       let y = answered (standing_before hold x earlier) x in
       let there : IsIn y (answers hold num x.ep j all) = subst (λ (xs : List Fragment). IsIn y (answers hold num x.ep j xs)) (sym is) (answers_there hold num later earlier x) in
@@ -223,7 +223,7 @@ module _ (c : Config) (lines : List PlanLine) (source : Source) (antenna : Anten
         is = λ e q. decoded_as x.ep j a m e s (ap (λ (z : WholeMessage). z.pieces) (sym shows) ∙ once.pieces) q;
         time = subst (λ (z : WholeMessage). InTime c lines source antenna down up h (start_of a.n.message.first) z.first z.last) shows
             (subst (λ t. InTime c lines source antenna down up h t once.whole.shows.first once.whole.shows.last)
-            (starts_at c lines h.sendable.config h.sendable.lines_fit h.sendable.valid h.down_arrive.check antenna x.ep j a) time);
+            (starts_at c lines h.sendable.config h.sendable.lines_fit h.sendable.valid h.check antenna x.ep j a) time);
       }
 
   -- ---- on time
@@ -293,7 +293,7 @@ module _ (c : Config) (lines : List PlanLine) (source : Source) (antenna : Anten
   -- each part of a message has its section
   part_sent : (ep j : ℕ) (a : Is ep j) (x : Part) → IsIn x (parts_of a.n.message) → (d : Data) × IsIn d ds × IsTimely x d
   part_sent ep j a x m =
-      let below = below_at c lines h.sendable.config h.sendable.lines_fit h.sendable.valid h.down_arrive.check antenna ep j a in
+      let below = below_at c lines h.sendable.config h.sendable.lines_fit h.sendable.valid h.check antenna ep j a in
       let once = whole_once c lines source antenna down up h ep j below in
       let o = answers_from hold num ep j all once.whole (whole_in (bounds_of c) (flow_of c antenna ps ep) j (of_message num ep j all) (answers hold num ep j all) once) in
       let v : verdict_on hold o.x o.earlier ≡ Whole = sym (ap (λ (z : Answered). z.was) o.answer) ∙ once.was in

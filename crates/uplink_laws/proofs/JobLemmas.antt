@@ -7,6 +7,7 @@ use Rattle.fh_time.specs.Air.{air_of}
 use Rattle.fh_time.specs.declared.values.Slot.{Slot}
 use Rattle.air_source.specs.declared.events.Side.TheVariants.{Ru}
 use Rattle.fragment_laws.specs.Apart.{IsIn}
+use Rattle.window_config.specs.Relations.{PassesCheck}
 use Rattle.window_config.specs.declared.config.Config.{Config}
 use Rattle.window_config.specs.declared.endpoints.EndpointConfig.{EndpointConfig}
 use Rattle.window_config.specs.declared.plan.PlanKind.{PlanKind}
@@ -25,16 +26,23 @@ use Rattle.unit_laws.proofs.SweepLemmas.{sweep-same}
 use Rattle.plan_model.specs.Lines.{allocation_of, is_down, is_idle, planned}
 use Rattle.plan_model.specs.Validity.{clash}
 use Rattle.plan_model.specs.declared.lines.PlannedLine.{PlannedLine}
+use Rattle.plan_model.specs.declared.streams.Stream.{Stream}
+use Rattle.plan_model.specs.declared.streams.Stream.TheVariants.{DownCommands, UpCommands, DownData, UpData}
 use Rattle.schedule_laws.specs.Commands.{AreCommandedOnce}
-use Rattle.schedule_laws.specs.Premise.{AllArrive, Texts}
 use Rattle.schedule_laws.proofs.AcceptedLemmas.{AreDistinct, AreNamed}
 use Rattle.schedule_laws.proofs.ClashLemmas.{own_clash}
-use Rattle.schedule_laws.proofs.CommandLemmas.{commanded_once}
+use Rattle.schedule_laws.proofs.CommandLemmas.{commanded_by}
 use Rattle.schedule_laws.proofs.LineLemmas.{are_one, good, line_proper}
 use Rattle.schedule_laws.proofs.ListLemmas.{in_filter, in_map, in_right, of_filter, of_map}
 use Rattle.schedule_laws.proofs.PlanLemmas.{AreTested, valid_tested}
 use Rattle.schedule_laws.proofs.RangeLemmas.{among, any_in}
+use Rattle.schedule_laws.proofs.ReadingLemmas.{IsCommandStream}
+use Rattle.sent_frames.specs.Messages.{Source}
+use Rattle.sent_laws.specs.Frames.{texts_of}
+use Rattle.sent_laws.specs.Sent.{IsSendable}
+use Rattle.sent_laws.proofs.RadiatedLemmas.{copy_is}
 use Rattle.uplink_laws.specs.Jobs.{AreJobsOfPlan}
+use Rattle.uplink_laws.specs.Premise.{CommandsArrive}
 use Rattle.uplink_laws.specs.Lines.{is_uplink, uplink_of}
 use Rattle.uplink_laws.proofs.MemberLemmas.{distinct_filter, distinct_reverse, in_reverse, of_reverse, same_members, split}
 use Rattle.uplink_laws.proofs.SortLemmas.{sorted_same}
@@ -93,18 +101,34 @@ of_uplink ps a m =
 
 -- ---- what was accepted
 
-module _ (c : Config) (lines : List PlanLine) (text : Texts) (arrivals : List Arrival) (h : AllArrive c lines text arrivals) where
+-- a command is not data
+not_data : (stream : Stream) → IsCommandStream stream → stream ≢ DownData
+not_data DownCommands h e = cc
+not_data UpCommands h e = cc
+not_data DownData h e = h
+not_data UpData h e = h
+
+module _ (c : Config) (lines : List PlanLine) (source : Source) (down : List Arrival) (s : IsSendable c lines source) (check : PassesCheck c.delays)
+    (h : CommandsArrive c (planned c.endpoints lines) source down) where
   abbrev ps : List PlannedLine
   ps = planned c.endpoints lines
 
   abbrev cs : List Command
-  cs = commands_of Ru c arrivals
+  cs = commands_of Ru c down
 
-  commanded : AreCommandedOnce c ps arrivals
-  commanded = commanded_once c lines text arrivals h
+  commanded : AreCommandedOnce c ps down
+  commanded =
+      commanded_by c lines (texts_of c ps source) down (record {
+        config = s.config;
+        lines_fit = s.lines_fit;
+        valid = s.valid;
+        check = check;
+        came = λ a m. (let w = h.came a m in (w.0, w.1, copy_is c lines source s w.0 a w.1 w.2));
+        every = λ f m stream. (let w = h.every f m (not_data f.stream stream) in (w.0, w.1, copy_is c lines source s f w.0 m w.2));
+      })
 
   own : (p : PlannedLine) → IsIn p ps → clash (allocation_of p) (allocation_of p) ≡ true
-  own p m = own_clash (allocation_of p) (line_proper c.endpoints p (good c lines h.config h.lines_fit h.valid p m))
+  own p m = own_clash (allocation_of p) (line_proper c.endpoints p (good c lines s.config s.lines_fit s.valid p m))
 
   line_for : (d : Command) → IsIn d cs → (p : PlannedLine) × IsIn p ps × (named_by d ≡ allocation_of p)
   line_for d m =
@@ -160,7 +184,7 @@ module _ (c : Config) (lines : List PlanLine) (text : Texts) (arrivals : List Ar
           let k = among (clash (allocation_of p)) (accepted c.delays earlier) is in
           let x = n.from k.x k.there in
           let q = line_for x.0 (within x.0 x.1) in
-          let one = are_one c lines h.config h.lines_fit h.valid p q.0 m q.1 (ap (λ (b : Allocation). clash (allocation_of p) b) (sym q.2 ∙ x.2) ∙ k.is) in
+          let one = are_one c lines s.config s.lines_fit s.valid p q.0 m q.1 (ap (λ (b : Allocation). clash (allocation_of p) b) (sym q.2 ∙ x.2) ∙ k.is) in
           let same : named_by x.0 ≡ allocation_of p = q.2 ∙ ap (λ (l : PlannedLine). allocation_of l) (sym one) in
           let there : IsIn (named_by d) (accepted c.delays earlier) = subst (λ (b : Allocation). IsIn b (accepted c.delays earlier)) (sym x.2 ∙ same ∙ sym names) k.there in
           named_from d earlier (subst (Names d earlier) (sym (again d earlier (further x.0 x.1 same))) (names_repeat d earlier n there))
@@ -170,7 +194,7 @@ module _ (c : Config) (lines : List PlanLine) (text : Texts) (arrivals : List Ar
           named_from d earlier (subst (Names d earlier) (sym (new d earlier (first (λ x i e. none (named_by x) (n.all x i) e)))) (names_new d earlier n (λ i. none (named_by d) i names)))
 
   abbrev up : List Allocation
-  up = accepted_of c arrivals
+  up = accepted_of c down
 
   all_named : AreNamed c.delays cs
   all_named = named [] cs refl
@@ -192,7 +216,7 @@ module _ (c : Config) (lines : List PlanLine) (text : Texts) (arrivals : List Ar
   ls = map allocation_of ps
 
   lines_once : AreDistinct ls
-  lines_once = distinct_lines [] ps (valid_tested c lines h.valid) own
+  lines_once = distinct_lines [] ps (valid_tested c lines s.valid) own
 
   into_lines : (a : Allocation) → IsIn a up → IsIn a ls
   into_lines a m = let p = from_line a m in subst (λ (b : Allocation). IsIn b ls) (sym p.2) (in_map allocation_of p.0 ps p.1)
@@ -216,19 +240,19 @@ module _ (c : Config) (lines : List PlanLine) (text : Texts) (arrivals : List Ar
   symbol_same : (ep : ℕ) (e : EndpointConfig) (slot : Slot) (symbol : ℕ) → symbol_jobs up ep e slot symbol ≡ symbol_jobs (reverse ls) ep e slot symbol
   unfolding symbol_jobs
   symbol_same ep e slot symbol =
-      let s = sends_in ep slot symbol in
+      let test = sends_in ep slot symbol in
       let back = reverse ls in
-      sorted_same ep (air_of e.numerology slot symbol) slot symbol (filter s (reverse up)) (filter s (reverse back))
-      (distinct_filter s (reverse up) (distinct_reverse up all_named.distinct))
-      (distinct_filter s (reverse back) (distinct_reverse back (distinct_reverse ls lines_once)))
+      sorted_same ep (air_of e.numerology slot symbol) slot symbol (filter test (reverse up)) (filter test (reverse back))
+      (distinct_filter test (reverse up) (distinct_reverse up all_named.distinct))
+      (distinct_filter test (reverse back) (distinct_reverse back (distinct_reverse ls lines_once)))
       (λ a m.
-      (let w = of_filter s a (reverse up) m in
-      in_filter s a (reverse back) (in_reverse a back (in_reverse a ls (into_lines a (of_reverse a up w.0)))) w.1))
+      (let w = of_filter test a (reverse up) m in
+      in_filter test a (reverse back) (in_reverse a back (in_reverse a ls (into_lines a (of_reverse a up w.0)))) w.1))
       (λ a m.
-      (let w = of_filter s a (reverse back) m in
-      in_filter s a (reverse up) (in_reverse a up (from_lines a (of_reverse a ls (of_reverse a back w.0)))) w.1))
+      (let w = of_filter test a (reverse back) m in
+      in_filter test a (reverse up) (in_reverse a up (from_lines a (of_reverse a ls (of_reverse a back w.0)))) w.1))
 
-  pub jobs_planned : AreJobsOfPlan c (planned c.endpoints lines) arrivals
+  pub jobs_planned : AreJobsOfPlan c (planned c.endpoints lines) down
   unfolding jobs
   jobs_planned = record {
     accepted = accepted_lines;

@@ -10,3 +10,4 @@ pub mod DecodedLemmas
 pub mod BlockLemmas
 pub mod CellLemmas
 pub mod SingleLemmas
+pub mod LeastLemmas

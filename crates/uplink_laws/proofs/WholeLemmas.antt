@@ -91,7 +91,7 @@ module _ (c : Config) (lines : List PlanLine) (source : Source) (antenna : Anten
       let d = c.delays in
       let start = start_at c ps ep j in
       let k = last_one (f.pieces j) ((sounds c lines source antenna down up h ep).some j below) in
-      let check = h.down_arrive.check in
+      let check = h.check in
       let order = h.sendable.config.delays.ta3.order in
       let soon = comes_from start d.ta3.min d.t34.min first (min ((f.before j + 0) * f.gap) f.spread) from in
       let late = comes_to start d.ta3.min d.ta3.max d.t34.max last (min ((f.before j + k.0) * f.gap) f.spread) f.spread

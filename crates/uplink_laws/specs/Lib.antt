@@ -6,3 +6,4 @@ pub mod Whole
 pub mod Data
 pub mod Cells
 pub mod Singles
+pub mod Least

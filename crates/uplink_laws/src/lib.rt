@@ -7,6 +7,7 @@
 ghost use Rattle.uplink_laws.specs.Cells.{ThePlanIsTakenIn};
 ghost use Rattle.uplink_laws.specs.Data.{EachIsDecodedOnce};
 ghost use Rattle.uplink_laws.specs.Jobs.{JobsAreOfPlan};
+ghost use Rattle.uplink_laws.specs.Least.{LeastDelaysArrive};
 ghost use Rattle.uplink_laws.specs.Singles.{EachCellIsTakenOnce};
 ghost use Rattle.uplink_laws.specs.Whole.{EachIsTakenOnce};
 
@@ -37,4 +38,10 @@ pub fn the_plan_is_taken_in()
 /// Of each cell in which a `ul` line names an element exactly one event is reported once Ta4's maximum is over: the plan's.
 pub fn each_cell_is_taken_once()
     ensures { EachCellIsTakenOnce }
+{}
+
+/// The premise of these laws can be met by every valid plan whose windows pass the check, over however many messages: by each frame
+/// of both ways once, with the least delay.
+pub fn least_delays_arrive()
+    ensures { LeastDelaysArrive }
 {}
