@@ -1,5 +1,5 @@
 -- The blocks that a plan's uplink data leave at the distributed unit.
-use Rattle.std.proofs.Common.{◌≡◌, ℕ, ◌-◌, inl, inr, true, false, not, List, [], ◌∷◌, refl, ap, sym, ◌∙◌, true≢false}
+use Rattle.std.proofs.Common.{◌≡◌, ℕ, ◌-◌, inl, inr, true, false, not, List, [], ◌∷◌, Some, refl, ap, sym, ◌∙◌, true≢false}
 use Rattle.std.specs.List.{slice_index_or}
 use Rattle.std.proofs.lemmas.Bool.{cases_Bool, and_parts, and_from, eq-eqb}
 use Rattle.air_source.specs.declared.events.Side.TheVariants.{Du}
@@ -29,8 +29,10 @@ use Rattle.schedule_laws.proofs.ClashLemmas.{slot_own, way_own}
 use Rattle.sent_frames.specs.Messages.{Source}
 use Rattle.uplink_model.specs.Frames.{Antenna}
 use Rattle.uplink_laws.specs.Data.{AreDecodedOnce, IsDataFor, blocks_of}
+use Rattle.uplink_laws.specs.Lines.{is_uplink}
 use Rattle.uplink_laws.specs.Premise.{BothArrive}
-use Rattle.uplink_laws.proofs.DecodedLemmas.{IsTimely, ds, each_timely, line_sent}
+use Rattle.uplink_laws.proofs.DecodedLemmas.{IsTimely, ds, each_timely, line_sent, sections_of_wholes}
+use Rattle.uplink_laws.proofs.ReadLemmas.{is_decoded}
 
 -- ---- data that are all on time
 
@@ -146,13 +148,27 @@ module _ (c : Config) (lines : List PlanLine) (source : Source) (antenna : Anten
       d.1 (line_covers blocks (part_in cell.symbol p) d.0 d.2.carries d.2.slot_is cell refl p_down parts.1)
       ∙ sym (planned_one blocks ps cell p.line.section p (λ q n r. same_section cell p q m n is r) m is)
 
-  pub decoded_once : AreDecodedOnce c (planned c.endpoints lines) (blocks_of c antenna) up
+  block_is_planned : (cell : Cell) → cell.down ≡ false → block_at (timely Du c.delays all) cell ≡ planned_block blocks ps cell
+  block_is_planned cell way = ap (λ (xs : List Data). block_at xs cell) timely_all ∙ block_planned cell way (find_radiating ps cell)
+
+  -- that of any line that covers the cell
+  block_of_any : (cell : Cell) (p : PlannedLine) → IsIn p ps → is_uplink p ≡ true → covers (allocation_of p) cell ≡ true → block_at (timely Du c.delays all) cell ≡ Some (line_block cell p.line.section)
+  block_of_any cell p m uplink is =
+      let kind = not_down p.line.kind uplink in
+      let taken : radiates_in p cell ≡ true = and_from _ _ kind.1 is in
+      block_is_planned cell (sym (covers_is (allocation_of p) cell is).down ∙ kind.0)
+      ∙ planned_one blocks ps cell p.line.section p (λ q n r. same_section cell p q m n taken r) m taken
+
+  pub decoded_once : AreDecodedOnce c (planned c.endpoints lines) antenna up
   decoded_once = record {
+    wholes_say = sections_of_wholes c lines source antenna down up h;
+    messages = λ ep e n first last at there. is_decoded c lines source h.sendable antenna h.can ep e n at there first last;
     each = λ d m.
         (let x = (timely_is d m).0 in
         let t = (timely_is d m).1 in
         record { part = x; planned_is = t.facts.from; uplink = t.facts.uplink; carries = t.carries; slot = t.slot_is; class = t.class });
     every = λ p symbol m uplink within.
         (let d = line_sent c lines source antenna down up h p symbol m uplink within in record { section = d.0; came = d.1; carries = d.2.carries; slot = d.2.slot_is });
-    blocks_are = λ cell way. ap (λ (xs : List Data). block_at xs cell) timely_all ∙ block_planned cell way (find_radiating ps cell);
+    blocks_are = block_is_planned;
+    any_line = block_of_any;
   }

@@ -1,6 +1,7 @@
 -- What the distributed unit decodes: a section for each part of a plan's uplink stream, on time.
-use Rattle.std.proofs.Common.{◌≡◌, ℕ, ℤ, pos, ◌+ℤ◌, ◌*ℤ◌, ◌-ℤ◌, ◌≤ℤ◌, ◌<ℤ◌, ◌⊎◌, inl, inr, true, List, [], ◌∷◌, ◌++◌, Some, refl, ap, ap₂, sym, ◌∙◌, subst, arith}
+use Rattle.std.proofs.Common.{◌≡◌, ℕ, ℤ, pos, ◌+ℤ◌, ◌*ℤ◌, ◌-ℤ◌, ◌≤ℤ◌, ◌<ℤ◌, ◌⊎◌, inl, inr, true, List, [], ◌∷◌, ◌++◌, map, Option, Some, refl, ap, ap₂, sym, ◌∙◌, subst, arith}
 use Rattle.std.specs.List.{slice_get}
+use Rattle.std.specs.Option.{option_map_or}
 use Rattle.std.proofs.lemmas.Int.{ints}
 use Rattle.fh_time.specs.Air.{air_of}
 use Rattle.fh_time.specs.Frame.{absolute_frame}
@@ -12,7 +13,7 @@ use Rattle.ecpri_fragments.specs.declared.verdict.Verdict.{Verdict}
 use Rattle.ecpri_fragments.specs.declared.verdict.Verdict.TheVariants.{Stored, Whole, Repeat, Stray, TooLong}
 use Rattle.fragment_laws.specs.Apart.{IsIn, Numbers, number_of, of_message}
 use Rattle.fragment_laws.specs.Flow.{numbers_of}
-use Rattle.fragment_laws.specs.Once.{Answered, answered, answers, texts}
+use Rattle.fragment_laws.specs.Once.{Answered, Completed, answered, answers, texts, whole_of as completed_of, wholes, with_whole}
 use Rattle.fragment_laws.proofs.FlowLemmas.{copy}
 use Rattle.window_config.specs.Classes.{class_up_of}
 use Rattle.window_config.specs.declared.config.Config.{Config}
@@ -37,18 +38,18 @@ use Rattle.plan_model.specs.declared.streams.Stream.TheVariants.{UpData}
 use Rattle.schedule_laws.proofs.CommandLemmas.{same_slot_fields}
 use Rattle.schedule_laws.proofs.FragmentLemmas.{answers_from, answers_there, the_whole, whole_in}
 use Rattle.schedule_laws.proofs.LineLemmas.{same_endpoint}
-use Rattle.schedule_laws.proofs.ListLemmas.{in_either, in_left, in_right, numerology_short}
+use Rattle.schedule_laws.proofs.ListLemmas.{in_either, in_left, in_onto, in_right, numerology_short, onto_right}
 use Rattle.schedule_laws.proofs.TimeLemmas.{frame_is}
 use Rattle.sent_frames.specs.Messages.{Source}
 use Rattle.uplink_model.specs.Frames.{Antenna}
-use Rattle.uplink_laws.specs.Data.{IsDataFor, blocks_of}
+use Rattle.uplink_laws.specs.Data.{AreSections, IsDataFor, IsDecoded, blocks_of, said_by}
 use Rattle.uplink_laws.specs.Flows.{bounds_of, flow_of, fragment_text}
 use Rattle.uplink_laws.specs.Lines.{is_uplink}
 use Rattle.uplink_laws.specs.Premise.{BothArrive}
 use Rattle.uplink_laws.proofs.ArrivalLemmas.{AllCame, IsHere, came, delivered, fragments_piece, here_message, here_of, read_of, sounds}
 use Rattle.uplink_laws.proofs.FlowLemmas.{below_at, here, pieces_at, starts_at, text_at}
 use Rattle.uplink_laws.proofs.PartLemmas.{PartFacts, line_part, message_facts, same_start}
-use Rattle.uplink_laws.proofs.ReadLemmas.{AreSections, IsSectionOf, Says, fragment_at, says}
+use Rattle.uplink_laws.proofs.ReadLemmas.{IsSectionOf, fragment_at, is_decoded, section_for, section_from}
 use Rattle.uplink_laws.proofs.WholeLemmas.{InTime, in_time, whole_once}
 
 -- ---- the sections that a fragment makes
@@ -152,6 +153,31 @@ module _ (c : Config) (lines : List PlanLine) (source : Source) (antenna : Anten
             }
       ]
 
+  -- so all of them are what the whole messages say
+  said_now : (x : Fragment) (s : List Fragment) (e : EndpointConfig) (ws : List Completed) (v : Verdict) → IsAt c.endpoints x.ep e
+      → data_told (decoded_now Du e x (whole_of v x s)) ++ joined (map (said_by c) ws) ≡ joined (map (said_by c) (with_whole x (completed_of v x s) ws))
+  said_now x s e ws Stored at = refl
+  said_now x s e ws Whole at =
+      ap (λ (o : Option EndpointConfig). option_map_or (λ f. sections_of (decode_message Du x.ep f (message (x ∷ s)))) o [] ++ joined (map (said_by c) ws)) (sym at)
+  said_now x s e ws Repeat at = refl
+  said_now x s e ws Stray at = refl
+  said_now x s e ws TooLong at = refl
+
+  said : (arrivals : List Arrival) → AreCame arrivals → data_sections Du hold (meetings Du c.endpoints arrivals) ≡ joined (map (said_by c) (wholes hold (fragments (meetings Du c.endpoints arrivals))))
+  unfolding meetings data_sections fragments
+  said [] came = refl
+  said (a ∷ earlier) came =
+      let w = came a (inl refl) in
+      let x = fragment_at c lines source h.sendable antenna h.can w.ep w.e w.n w.sub a.at in
+      let before = fragments (meetings Du c.endpoints earlier) in
+      sections_piece c hold a earlier w.e x w.read
+      ∙ ap (λ (ds : List Data). data_told (data_now Du hold w.e x before) ++ ds) (said earlier (λ b n. came b (inr n)))
+      ∙ said_now x (standing_before hold x before) w.e (wholes hold before) (verdict_on hold x before) w.at
+      ∙ ap (λ (xs : List Fragment). joined (map (said_by c) (wholes hold xs))) (sym (fragments_piece c a earlier w.e x w.read))
+
+  pub sections_of_wholes : data_sections Du (bounds_of c).hold (meetings Du c.endpoints up) ≡ joined (map (said_by c) (wholes (bounds_of c).hold (fragments (meetings Du c.endpoints up))))
+  sections_of_wholes = said up (came c lines source antenna down up h)
+
   -- and all of that is told
   told_there : (arrivals : List Arrival) → AreCame arrivals → (later earlier : List Fragment) (x : Fragment) (e : EndpointConfig) (d : Data) → IsAt c.endpoints x.ep e
       → fragments (meetings Du c.endpoints arrivals) ≡ later ++ x ∷ earlier → IsIn d (data_told (data_now Du hold e x earlier)) → IsIn d (data_sections Du hold (meetings Du c.endpoints arrivals))
@@ -183,11 +209,11 @@ module _ (c : Config) (lines : List PlanLine) (source : Source) (antenna : Anten
     first : ℤ
     last : ℤ
     sections : List Data
-    are : AreSections (blocks_of c antenna) first last (parts_of is_here.n.message) sections
+    are : AreSections (blocks_of c antenna) first last (onto [] (parts_of is_here.n.message)) sections
     is : (e : EndpointConfig) → e ≡ is_here.e → sections_of (decode_message Du x.ep e (message (x ∷ standing_before hold x earlier))) ≡ sections
     time : InTime c lines source antenna down up h (start_of is_here.n.message.first) first last
 
-  decoded_as : (ep j : ℕ) (a : Is ep j) (m : WholeMessage) (e : EndpointConfig) (s : Says (blocks_of c antenna) ep a.e m.first m.last (parts_of a.n.message) (joined (texts (fragment_text c antenna a.e a.n) (frames_in c UpData a.n.message))))
+  decoded_as : (ep j : ℕ) (a : Is ep j) (m : WholeMessage) (e : EndpointConfig) (s : IsDecoded c antenna ep a.e a.n m.first m.last)
       → m.pieces ≡ texts ((flow_of c antenna ps ep).text j) ((flow_of c antenna ps ep).pieces j) → e ≡ a.e → sections_of (decode_message Du ep e m) ≡ s.sections
   decoded_as ep j a m e s pieces same =
       let text = text_at c lines h.sendable.config h.sendable.lines_fit h.sendable.valid h.check antenna ep j a in
@@ -211,7 +237,7 @@ module _ (c : Config) (lines : List PlanLine) (source : Source) (antenna : Anten
       let m = message (x ∷ standing_before hold x earlier) in
       let shows : once.whole.shows ≡ m = sym (ap (λ (z : Answered). z.shows) same) in
       let time = in_time c lines source antenna down up h x.ep j once.whole.shows.first once.whole.shows.last copied.below once.first_from once.last_from once.last_to in
-      let s = says c lines source h.sendable antenna h.can x.ep a.e a.n a.at a.there m.first m.last in
+      let s = is_decoded c lines source h.sendable antenna h.can x.ep a.e a.n a.at a.there m.first m.last in
       record {
         j = j;
         is_here = a;
@@ -284,8 +310,10 @@ module _ (c : Config) (lines : List PlanLine) (source : Source) (antenna : Anten
       let v = told_whole (verdict_on hold t.x t.earlier) t.e t.x (standing_before hold t.x t.earlier) d t.told in
       let s = says_now t.later t.earlier t.x t.is v.0 in
       let same = same_endpoint c.endpoints t.x.ep t.x.ep t.e s.is_here.e t.at s.is_here.at refl in
-      let got = s.are.from d (subst (λ (xs : List Data). IsIn d xs) (s.is t.e same) v.1) in
-      (got.0, timely_section t.x t.earlier s got.0 d got.1 got.2)
+      let parts = parts_of s.is_here.n.message in
+      let got = section_from (blocks_of c antenna) s.first s.last (onto [] parts) s.sections d s.are (subst (λ (xs : List Data). IsIn d xs) (s.is t.e same) v.1) in
+      let in_message : IsIn got.0 parts = elim (in_onto got.0 [] parts got.1) [ inl none ↦ absurd none | inr i ↦ i ] in
+      (got.0, timely_section t.x t.earlier s got.0 d in_message got.2)
 
   some_same : (m n : Numbered Part) → Some m ≡ Some n → m ≡ n
   some_same m n e = cc
@@ -307,7 +335,7 @@ module _ (c : Config) (lines : List PlanLine) (source : Source) (antenna : Anten
       (subst (λ k. slice_get (messages_of c ps UpData k a.e) j ≡ Some a.n) ep_is a.got)) in
       let same_n : a.n ≡ s.is_here.n = some_same a.n s.is_here.n (sym got ∙ s.is_here.got) in
       let in_message : IsIn x (parts_of s.is_here.n.message) = subst (λ (n : Numbered Part). IsIn x (parts_of n.message)) same_n m in
-      let d = s.are.every x in_message in
+      let d = section_for (blocks_of c antenna) s.first s.last (onto [] (parts_of s.is_here.n.message)) s.sections x s.are (onto_right x [] (parts_of s.is_here.n.message) in_message) in
       let d_told = whole_told (verdict_on hold o.x o.earlier) s.is_here.e o.x (standing_before hold o.x o.earlier) d.0 v (subst (λ (xs : List Data). IsIn d.0 xs) (sym (s.is s.is_here.e refl)) d.1) in (
         d.0,
         told_there up (came c lines source antenna down up h) o.later o.earlier o.x s.is_here.e d.0 s.is_here.at o.is d_told,

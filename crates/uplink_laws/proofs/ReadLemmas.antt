@@ -37,7 +37,7 @@ use Rattle.plan_model.specs.declared.lines.PlannedLine.{PlannedLine}
 use Rattle.plan_model.specs.declared.streams.Stream.TheVariants.{UpData}
 use Rattle.schedule_laws.specs.Data.{Blocks}
 use Rattle.schedule_laws.proofs.FoundLemmas.{found}
-use Rattle.schedule_laws.proofs.ListLemmas.{at_in, in_all, in_map, in_onto, of_map, onto_right}
+use Rattle.schedule_laws.proofs.ListLemmas.{at_in, in_all}
 use Rattle.schedule_laws.proofs.PlanLemmas.{line_of}
 use Rattle.schedule_laws.proofs.RangeLemmas.{from_high, from_low}
 use Rattle.frame_bytes.specs.Cuts.{cut, piece_at, pieces_of}
@@ -59,7 +59,7 @@ use Rattle.sent_laws.proofs.MessageSays.{message_told}
 use Rattle.uplink_model.specs.Frames.{Antenna, carrier_of, fragment_bytes, frame_id_of, head_of, message_bytes, samples_of, section_of}
 use Rattle.uplink_model.specs.Messages.{job_fields}
 use Rattle.uplink_streams.specs.Streams.{job_for, message_for}
-use Rattle.uplink_laws.specs.Data.{IsDataFor, blocks_of}
+use Rattle.uplink_laws.specs.Data.{AreSections, IsDataFor, IsDecoded, blocks_of}
 use Rattle.uplink_laws.specs.Flows.{fragment_text}
 use Rattle.uplink_laws.specs.Premise.{CanAnswer}
 use Rattle.uplink_laws.proofs.PartLemmas.{good_message, message_facts, message_short}
@@ -80,24 +80,6 @@ frame_met es ep e at seq bytes found t =
     let met = data_met es ep e at (4 + length bytes) one.payload (long 0 e.id seq bytes frame one) (found_by 0 e.id seq bytes frame one es (Some (ep, e)) found) in
     let is : Piece e (fragment_of ep at one.payload) ≡ Piece e (record { ep = ep; seq = seq.seq; at = at; last = seq.last; sub = seq.sub; bytes = bytes }) = ap₂ (λ (q : SeqField) (bs : List ℕ). Piece e (fragment_with ep at q bs)) one.seq_read one.application_read in
     ap (met_in Du es at) (one_whole 0 e.id seq bytes frame one) ∙ ap (λ (m : Meeting). m ∷ []) (met ∙ is)
-
--- ---- sections that are read with the same samples at each place
-
-of_read : (k : Carrier) (symbol : ℕ) (block : ℕ → List Iq) (place : ℕ) (xs : List Part) (p : ReadPart) → IsIn p (read_parts k symbol (λ i. block) place (map data_section xs))
-    → (x : Part) × IsIn x xs × (p ≡ read_part k symbol block (data_section x))
-of_read k symbol block place [] p m = absurd m
-of_read k symbol block place (x ∷ xs) p m = elim m [
-  | inl here ↦ (x, inl refl, here)
-  | inr there ↦ (let w = of_read k symbol block (place + 1) xs p there in (w.0, inr w.1, w.2))
-]
-
-in_read : (k : Carrier) (symbol : ℕ) (block : ℕ → List Iq) (place : ℕ) (xs : List Part) (x : Part) → IsIn x xs
-    → IsIn (read_part k symbol block (data_section x)) (read_parts k symbol (λ i. block) place (map data_section xs))
-in_read k symbol block place [] x m = absurd m
-in_read k symbol block place (y ∷ xs) x m = elim m [
-  | inl here ↦ inl (ap (λ (z : Part). read_part k symbol block (data_section z)) here)
-  | inr there ↦ inr (in_read k symbol block (place + 1) xs x there)
-]
 
 -- ---- numbers
 
@@ -121,16 +103,36 @@ pub record IsSectionOf (blocks : Blocks) (first last : ℤ) (x : Part) (d : Data
   pub first_is : d.first.0 ≡ first
   pub last_is : d.last.0 ≡ last
 
--- each section is of a part, and each part has one
-pub record AreSections (blocks : Blocks) (first last : ℤ) (parts : List Part) (ds : List Data) : Type 0 where
-  pub from : (d : Data) → IsIn d ds → (x : Part) × IsIn x parts × IsSectionOf blocks first last x d
-  pub every : (x : Part) → IsIn x parts → (d : Data) × IsIn d ds × IsSectionOf blocks first last x d
+-- each section is of a part
+pub section_from : (blocks : Blocks) (first last : ℤ) (xs : List Part) (ds : List Data) (d : Data) → AreSections blocks first last xs ds → IsIn d ds → (x : Part) × IsIn x xs × IsSectionOf blocks first last x d
+section_from blocks first last [] [] d h m = absurd m
+section_from blocks first last [] (y ∷ ds) d h m = absurd h
+section_from blocks first last (x ∷ xs) [] d h m = absurd m
+section_from blocks first last (x ∷ xs) (y ∷ ds) d h m = elim m [
+  | inl e ↦ (x, inl refl, subst (IsSectionOf blocks first last x) (sym e) (record { carries = h.0; first_is = h.1; last_is = h.2 }))
+  | inr t ↦ (let w = section_from blocks first last xs ds d h.3 t in (w.0, inr w.1, w.2))
+]
 
--- what a whole message says
-pub record Says (blocks : Blocks) (ep : ℕ) (e : EndpointConfig) (first last : ℤ) (parts : List Part) (bytes : List ℕ) : Type 0 where
-  pub sections : List Data
-  pub is : decode Du ep e first last bytes ≡ Sections sections
-  pub are : AreSections blocks first last parts sections
+-- and each part has one
+pub section_for : (blocks : Blocks) (first last : ℤ) (xs : List Part) (ds : List Data) (x : Part) → AreSections blocks first last xs ds → IsIn x xs → (d : Data) × IsIn d ds × IsSectionOf blocks first last x d
+section_for blocks first last [] [] x h m = absurd m
+section_for blocks first last [] (y ∷ ds) x h m = absurd h
+section_for blocks first last (y ∷ xs) [] x h m = absurd h
+section_for blocks first last (y ∷ xs) (d ∷ ds) x h m = elim m [
+  | inl e ↦ (d, inl refl, subst (λ (z : Part). IsSectionOf blocks first last z d) (sym e) (record { carries = h.0; first_is = h.1; last_is = h.2 }))
+  | inr t ↦ (let w = section_for blocks first last xs ds x h.3 t in (w.0, inr w.1, w.2))
+]
+
+-- sections that are read with the same samples at each place, the newest first
+module _ (blocks : Blocks) (first last : ℤ) (as_data : ReadPart → Data) (at_first : (p : ReadPart) → (as_data p).first.0 ≡ first) (at_last : (p : ReadPart) → (as_data p).last.0 ≡ last) where
+  read_sections : (k : Carrier) (symbol : ℕ) (block : ℕ → List Iq) (place : ℕ) (xs : List Part) (ps : List ReadPart) (rest : List Part) → AreSections blocks first last xs (map as_data ps)
+      → ((x : Part) → IsIn x rest → IsDataFor blocks x (as_data (read_part k symbol block (data_section x))))
+      → AreSections blocks first last (onto xs rest) (map as_data (onto ps (read_parts k symbol (λ i. block) place (map data_section rest))))
+  unfolding onto
+  read_sections k symbol block place xs ps [] before h = before
+  read_sections k symbol block place xs ps (x ∷ rest) before h =
+      let r = read_part k symbol block (data_section x) in
+      read_sections k symbol block (place + 1) (x ∷ xs) (r ∷ ps) rest (h x (inl refl), at_first r, at_last r, before) (λ y i. h y (inr i))
 
 -- ---- a message of a plan's uplink stream
 
@@ -273,9 +275,9 @@ module _ (c : Config) (lines : List PlanLine) (source : Source) (s : IsSendable 
     abbrev as_data : ℤ → ℤ → ReadPart → Data
     as_data first last = data_with ep e first last head
 
-    is_decoded : (first last : ℤ) → decode Du ep e first last bytes ≡ Sections (map (as_data first last) (onto [] read))
+    read_as_sections : (first last : ℤ) → decode Du ep e first last bytes ≡ Sections (map (as_data first last) (onto [] read))
     unfolding decode gathered
-    is_decoded first last =
+    read_as_sections first last =
         ap (λ (t : Telling). decoded_from Du ep e first last (gathered nothing_told t.items) t.refusal) is_told
         ∙ ap (λ (w : Gathering). decoded_from Du ep e first last w None)
         (sections_gathered (Some head) [] (carrier_of e) m.first.symbol (samples_of antenna e (job_for m.first)) 0 sections)
@@ -316,29 +318,10 @@ module _ (c : Config) (lines : List PlanLine) (source : Source) (s : IsSendable 
           samples = samples_are x i;
         }
 
-    section_from : (first last : ℤ) (d : Data) → IsIn d (map (as_data first last) (onto [] read)) → (x : Part) × IsIn x (parts_of m) × IsSectionOf (blocks_of c antenna) first last x d
-    section_from first last d i =
-        let w = of_map (as_data first last) d (onto [] read) i in
-        let r : IsIn w.0 read = elim (in_onto w.0 [] read w.1) [ inl none ↦ absurd none | inr t ↦ t ] in
-        let x = of_read (carrier_of e) m.first.symbol block 0 (parts_of m) w.0 r in
-        let is : d ≡ as_data first last (read_part (carrier_of e) m.first.symbol block (data_section x.0)) = w.2 ∙ ap (as_data first last) x.2 in (
-          x.0,
-          x.1,
-          subst (IsSectionOf (blocks_of c antenna) first last x.0) (sym is) (record { carries = data_for first last x.0 x.1; first_is = refl; last_is = refl }),
-        )
-
-    section_for : (first last : ℤ) (x : Part) → IsIn x (parts_of m) → (d : Data) × IsIn d (map (as_data first last) (onto [] read)) × IsSectionOf (blocks_of c antenna) first last x d
-    section_for first last x i =
-        let r = read_part (carrier_of e) m.first.symbol block (data_section x) in (
-          as_data first last r,
-          in_map (as_data first last) r (onto [] read) (onto_right r [] read (in_read (carrier_of e) m.first.symbol block 0 (parts_of m) x i)),
-          record { carries = data_for first last x i; first_is = refl; last_is = refl },
-        )
-
     -- its fragments joined are read as a section for each part
-    pub says : (first last : ℤ) → Says (blocks_of c antenna) ep e first last (parts_of n.message) (joined (texts (fragment_text c antenna e n) (frames_in c UpData n.message)))
-    says first last = record {
+    pub is_decoded : (first last : ℤ) → IsDecoded c antenna ep e n first last
+    is_decoded first last = record {
       sections = map (as_data first last) (onto [] read);
-      is = ap (decode Du ep e first last) all_joined ∙ is_decoded first last;
-      are = record { from = section_from first last; every = section_for first last };
+      is = ap (decode Du ep e first last) all_joined ∙ read_as_sections first last;
+      are = read_sections (blocks_of c antenna) first last (as_data first last) (λ p. refl) (λ p. refl) (carrier_of e) m.first.symbol block 0 [] [] (parts_of m) tt (data_for first last);
     }

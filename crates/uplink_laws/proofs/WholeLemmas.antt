@@ -6,6 +6,7 @@ use Rattle.ecpri_fragments.specs.Generations.{Fragment}
 use Rattle.fragment_laws.specs.Apart.{Numbers, of_message}
 use Rattle.fragment_laws.specs.Flow.{numbers_of, sent_at as flow_sent_at}
 use Rattle.fragment_laws.specs.Once.{IsOnceWhole, answers}
+use Rattle.fragment_laws.proofs.CompletedLemmas.{are_the_sent}
 use Rattle.fragment_laws.proofs.FlowLemmas.{delivered_apart}
 use Rattle.fragment_laws.proofs.OnceLemmas.{once_whole}
 use Rattle.window_config.specs.Classes.{IsOnTimeUp}
@@ -111,6 +112,7 @@ module _ (c : Config) (lines : List PlanLine) (source : Source) (antenna : Anten
   pub taken_once : AreTakenOnce c antenna (planned c.endpoints lines) up
   taken_once = record {
     apart = delivered_apart (bounds_of c) (flow_of c antenna ps) (sounds c lines source antenna down up h) all (delivered c lines source antenna down up h);
+    wholes = are_the_sent (bounds_of c) (flow_of c antenna ps) (sounds c lines source antenna down up h) all (delivered c lines source antenna down up h);
     each = λ ep j below.
         (let w = whole_once ep j below in
         let t = in_time ep j w.whole.shows.first w.whole.shows.last below w.first_from w.last_from w.last_to in

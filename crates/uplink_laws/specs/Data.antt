@@ -1,5 +1,5 @@
 -- Uplink data, once each: whatever is repeated, reordered or delayed within the bounds, over any number of messages.
-use Rattle.std.specs.Prelude.{◌≡◌, ℕ, pos, ◌-◌, true, false, List, []}
+use Rattle.std.specs.Prelude.{◌≡◌, ⊤, ℕ, ℤ, pos, ◌-◌, true, false, List, [], ◌∷◌, map, Some}
 use Rattle.std.specs.Int.{int_rem_euclid}
 use Rattle.std.specs.List.{slice_get, slice_index_or}
 use Rattle.std.specs.Option.{option_map_or}
@@ -7,21 +7,29 @@ use Rattle.air_source.specs.Answers.{block_of}
 use Rattle.air_source.specs.declared.events.Side.TheVariants.{Du}
 use Rattle.bfp_codec.specs.Shrunk.{shrunk}
 use Rattle.fragment_laws.specs.Apart.{IsIn}
+use Rattle.fragment_laws.specs.Once.{Completed, texts, wholes}
 use Rattle.window_config.specs.declared.config.Config.{Config}
+use Rattle.window_config.specs.declared.endpoints.EndpointConfig.{EndpointConfig}
 use Rattle.window_config.specs.declared.plan.PlanLine.{PlanLine}
 use Rattle.window_config.specs.declared.verdicts.Class.TheVariants.{OnTime}
 use Rattle.unit_model.specs.Blocks.{block_at, data_class, data_slot}
-use Rattle.unit_model.specs.Claims.{cell_at, first_prb, is_from, prb_count}
-use Rattle.unit_model.specs.Meetings.{Arrival}
-use Rattle.unit_model.specs.Reports.{data_of, timely_of}
+use Rattle.unit_model.specs.Claims.{cell_at, covers, first_prb, is_from, prb_count}
+use Rattle.unit_model.specs.Decoding.{Sections, decode, decode_message, sections_of}
+use Rattle.unit_model.specs.Lists.{joined, onto}
+use Rattle.unit_model.specs.Meetings.{Arrival, fragments}
+use Rattle.unit_model.specs.Proper.{IsAt}
+use Rattle.unit_model.specs.Reports.{data_of, met, timely_of}
 use Rattle.unit_model.specs.declared.cells.Cell.{Cell}
 use Rattle.unit_model.specs.declared.decoded.Data.{Data}
 use Rattle.plan_model.specs.Lines.{allocation_of, planned}
-use Rattle.plan_model.specs.Streams.{Part, part_in}
+use Rattle.plan_model.specs.Packs.{Numbered, parts_of}
+use Rattle.plan_model.specs.Streams.{Part, frames_in, messages_of, part_in}
 use Rattle.plan_model.specs.declared.lines.PlannedLine.{PlannedLine}
+use Rattle.plan_model.specs.declared.streams.Stream.TheVariants.{UpData}
 use Rattle.schedule_laws.specs.Data.{Blocks, planned_block}
 use Rattle.sent_frames.specs.Messages.{Source}
 use Rattle.uplink_model.specs.Frames.{Antenna}
+use Rattle.uplink_laws.specs.Flows.{bounds_of, fragment_text}
 use Rattle.uplink_laws.specs.Lines.{is_uplink}
 use Rattle.uplink_laws.specs.Premise.{BothArrive}
 
@@ -46,6 +54,25 @@ pub record IsDataFor (blocks : Blocks) (x : Part) (d : Data) : Type 0 where
   pub samples : (n : ℕ) → is_from (first_prb (allocation_of x.planned)) (prb_count (allocation_of x.planned)) n ≡ true
       → slice_index_or d.blocks (n - first_prb (allocation_of x.planned)) [] ≡ blocks (cell_at x.planned.ep false x.planned.line.slot x.symbol n)
 
+-- one section for each part, in this order, of a message whose first and last fragments came then
+abbrev pub AreSections : Blocks → ℤ → ℤ → List Part → List Data → Type 0
+AreSections blocks first last [] [] = ⊤
+AreSections blocks first last [] (d ∷ ds) = ⊥
+AreSections blocks first last (x ∷ xs) [] = ⊥
+AreSections blocks first last (x ∷ xs) (d ∷ ds) = IsDataFor blocks x d × (d.first.0 ≡ first) × (d.last.0 ≡ last) × AreSections blocks first last xs ds
+
+-- what all the fragments of a message say, joined: its parts, the newest section first
+pub record IsDecoded (c : Config) (antenna : Antenna) (ep : ℕ) (e : EndpointConfig) (n : Numbered Part) (first last : ℤ) : Type 0 where
+  pub sections : List Data
+  pub is : decode Du ep e first last (joined (texts (fragment_text c antenna e n) (frames_in c UpData n.message))) ≡ Sections sections
+  pub are : AreSections (blocks_of c antenna) first last (onto [] (parts_of n.message)) sections
+
+-- what a message that became whole says
+abbrev pub said_by : Config → Completed → List Data
+said_by c w = option_map_or (λ e. sections_of (decode_message Du w.by.ep e w.message)) (slice_get c.endpoints w.by.ep) []
+
+-- ---- the law
+
 -- a section came for a line in this symbol
 pub record IsDataSent (blocks : Blocks) (x : Part) (ds : List Data) : Type 0 where
   pub section : Data
@@ -62,16 +89,22 @@ pub record IsPlannedData (c : Config) (ps : List PlannedLine) (blocks : Blocks) 
   pub slot : data_slot d ≡ part.planned.line.slot
   pub class : data_class Du c.delays d ≡ OnTime
 
--- Of the arrivals at the distributed unit, the newest first: each section that is decoded carries an uplink line in one of its symbols,
--- on time; each `ul` line has one in each of its symbols; and the block of each uplink cell is that of any such line that covers it, none
--- where no such line does.
-pub record AreDecodedOnce (c : Config) (ps : List PlannedLine) (blocks : Blocks) (up : List Arrival) : Type 0 where
-  pub each : (d : Data) → IsIn d (data_of Du c up) → IsPlannedData c ps blocks d
+-- Of the arrivals at the distributed unit, the newest first: what is decoded is what the messages say that became whole, one after the
+-- other; a message says a section for each of its parts; each section carries an uplink line in one of its symbols, on time; each `ul`
+-- line has one in each of its symbols; and the block of each uplink cell is that of any such line that covers it, none where no such line
+-- does.
+pub record AreDecodedOnce (c : Config) (ps : List PlannedLine) (antenna : Antenna) (up : List Arrival) : Type 0 where
+  pub wholes_say : data_of Du c up ≡ joined (map (said_by c) (wholes (bounds_of c).hold (fragments (met Du c up))))
+  pub messages : (ep : ℕ) (e : EndpointConfig) (n : Numbered Part) (first last : ℤ) → IsAt c.endpoints ep e → IsIn n (messages_of c ps UpData ep e)
+      → IsDecoded c antenna ep e n first last
+  pub each : (d : Data) → IsIn d (data_of Du c up) → IsPlannedData c ps (blocks_of c antenna) d
   pub every : (p : PlannedLine) (symbol : ℕ) → IsIn p ps → is_uplink p ≡ true → is_from p.line.symbol p.line.count symbol ≡ true
-      → IsDataSent blocks (part_in symbol p) (data_of Du c up)
-  pub blocks_are : (cell : Cell) → cell.down ≡ false → block_at (timely_of Du c up) cell ≡ planned_block blocks ps cell
+      → IsDataSent (blocks_of c antenna) (part_in symbol p) (data_of Du c up)
+  pub blocks_are : (cell : Cell) → cell.down ≡ false → block_at (timely_of Du c up) cell ≡ planned_block (blocks_of c antenna) ps cell
+  pub any_line : (cell : Cell) (p : PlannedLine) → IsIn p ps → is_uplink p ≡ true → covers (allocation_of p) cell ≡ true
+      → block_at (timely_of Du c up) cell ≡ Some (record { id = p.line.section; samples = blocks_of c antenna cell })
 
 abbrev pub EachIsDecodedOnce : Type 0
 EachIsDecodedOnce =
     (c : Config) (lines : List PlanLine) (source : Source) (antenna : Antenna) (down up : List Arrival) → BothArrive c lines source antenna down up
-    → AreDecodedOnce c (planned c.endpoints lines) (blocks_of c antenna) up
+    → AreDecodedOnce c (planned c.endpoints lines) antenna up

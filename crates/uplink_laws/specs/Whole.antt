@@ -4,7 +4,7 @@ use Rattle.air_source.specs.declared.events.Side.TheVariants.{Du}
 use Rattle.ecpri_fragments.specs.Generations.{Fragment}
 use Rattle.fragment_laws.specs.Apart.{AreApart, of_message}
 use Rattle.fragment_laws.specs.Flow.{Flow, numbers_of, sent_at}
-use Rattle.fragment_laws.specs.Once.{Answered, IsOnceWhole, answers}
+use Rattle.fragment_laws.specs.Once.{Answered, AreTheSent, IsOnceWhole, answers}
 use Rattle.window_config.specs.Classes.{IsOnTimeUp}
 use Rattle.window_config.specs.Windows.{ticks_of_ns}
 use Rattle.window_config.specs.declared.config.Config.{Config}
@@ -27,10 +27,12 @@ pub record IsTakenOnce (c : Config) (f : Flow) (j : ℕ) (start : ℤ) (came : L
   pub in_window : IsOnTimeUp once.whole.shows.first once.whole.shows.last start c.delays.ta4
   pub held : once.whole.shows.last ≤ℤ (once.whole.shows.first +ℤ ticks_of_ns c.delays.hold_ul)
 
--- Of what came at the distributed unit: messages with one sequence id are apart, and each message is taken in once.
+-- Of what came at the distributed unit: messages with one sequence id are apart; what becomes whole was sent, and of each message that was
+-- sent there is one; and each message is taken in once.
 pub record AreTakenOnce (c : Config) (antenna : Antenna) (ps : List PlannedLine) (up : List Arrival) : Type 0 where
   pub apart : AreApart (bounds_of c).hold (bounds_of c).fast (bounds_of c).slow (λ ep j. sent_at (flow_of c antenna ps ep) j 0)
       (numbers_of (bounds_of c) (flow_of c antenna ps)) (fragments (met Du c up))
+  pub wholes : AreTheSent (bounds_of c) (flow_of c antenna ps) (fragments (met Du c up))
   pub each : (ep j : ℕ) → j < (flow_of c antenna ps ep).count
       → IsTakenOnce c (flow_of c antenna ps ep) j (start_at c ps ep j) (of_message (numbers_of (bounds_of c) (flow_of c antenna ps)) ep j (fragments (met Du c up)))
       (answers (bounds_of c).hold (numbers_of (bounds_of c) (flow_of c antenna ps)) ep j (fragments (met Du c up)))
