@@ -4,3 +4,4 @@ mod PlaceLemmas
 mod FewLemmas
 mod FrameLemmas
 mod GivingLemmas
+pub mod PlanLemmas

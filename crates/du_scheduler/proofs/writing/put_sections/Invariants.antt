@@ -1,4 +1,4 @@
-use Rattle.std.proofs.Common.{◌≡◌, ◌≤◌, List, length, take, map}
+use Rattle.std.proofs.Common.{◌≡◌, List, length, take, map}
 use Rattle.plan_model.specs.Streams.{Part}
 use Rattle.sent_frames.specs.Messages.{data_section}
 use Rattle.du_scheduler.specs.Written.{StandsAt}

@@ -1,4 +1,3 @@
-use Rattle.std.proofs.Common.{rules}
 use Rattle.du_scheduler.proofs.PartLemmas.{is_read, read_few, read_fits, read_frame}
 use Rattle.du_scheduler.proofs.writing.write_data.Goals as goal
 

@@ -1,4 +1,4 @@
-use Rattle.schedule_tests.proofs.PlanLemmas.{plan_checked}
+use Rattle.du_scheduler.proofs.PlanLemmas.{plan_checked}
 use Rattle.schedule_tests.proofs.steps.checked.Goals as goal
 
 pub returns : goal.returns

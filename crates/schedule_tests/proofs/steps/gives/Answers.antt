@@ -1,4 +1,4 @@
-use Rattle.schedule_tests.proofs.PlanLemmas.{still_plan}
+use Rattle.du_scheduler.proofs.PlanLemmas.{still_plan}
 use Rattle.schedule_tests.proofs.steps.gives.Goals as goal
 
 pub returns-then-sent-wanted-2 : goal.returns-then-sent-wanted-2

@@ -1,4 +1,4 @@
-use Rattle.schedule_tests.proofs.PlanLemmas.{still_plan}
+use Rattle.du_scheduler.proofs.PlanLemmas.{still_plan}
 use Rattle.schedule_tests.proofs.steps.is_over.Goals as goal
 
 pub returns-then-is_none : goal.returns-then-is_none
