@@ -2,7 +2,7 @@
 use crate::outcomes::{refusal, second};
 use air_source::Side;
 use delay_measure::Kind;
-use fh_document::{Class3, DocFault, DocWhy, Measure, parse, read};
+use fh_document::{Class3, DocWhy, Measure, parse};
 use std::test::Fail;
 
 #[test]
@@ -106,21 +106,6 @@ fn frames_and_ids_stand_once(rt: HostRuntime) {
     ];
     for (text, wanted) in cases {
         assert_eq!(rt; refusal(rt.alloc(), text), wanted);
-    }
-}
-
-#[test]
-fn further_lines_are_not_handled(rt: HostRuntime) {
-    let cases: [&[u8]; 2] = [
-        b"fronthaul 1\ndeliver dl u 1\ngap 1\n",
-        b"fronthaul 2\nmeasure du 0 one 1000000\n",
-    ];
-    let fault = DocFault::At {
-        line: 2,
-        why: DocWhy::NotBuilt,
-    };
-    for text in cases {
-        assert_eq!(rt; read(rt.alloc(), text).err(), Some(fault));
     }
 }
 

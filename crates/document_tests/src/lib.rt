@@ -6,6 +6,8 @@ mod frames;
 #[cfg(test)]
 mod generated;
 #[cfg(test)]
+mod handled;
+#[cfg(test)]
 mod kinds;
 #[cfg(test)]
 mod outcomes;

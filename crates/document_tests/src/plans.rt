@@ -1,7 +1,7 @@
 // Lines of a plan, each word at an end of its range and beyond it.
 use crate::outcomes::{refusal, second};
 use fh_base::{Bytes, NoMemory};
-use fh_document::{DocFault, DocWhy, parse, read};
+use fh_document::{DocWhy, parse};
 use fh_time::Slot;
 use std::alloc::Global;
 use std::test::Fail;
@@ -74,7 +74,7 @@ fn plan_lines_have_thirteen_words(rt: HostRuntime) -> Result<(), Fail> {
 }
 
 /// Line 1 and so many lines of a plan.
-fn plan_of(alloc: Global, lines: usize) -> Result<Bytes, NoMemory> {
+pub(crate) fn plan_of(alloc: Global, lines: usize) -> Result<Bytes, NoMemory> {
     let mut text = Bytes::new(alloc);
     text.push_all(b"fronthaul 1\n")?;
     for _ in 0..lines {
@@ -94,16 +94,6 @@ fn plans_have_at_most_65536_lines(rt: HostRuntime) -> Result<(), Fail> {
         Some((65_538, DocWhy::TooMany))
     );
     Ok(())
-}
-
-#[test]
-fn plans_are_not_handled(rt: HostRuntime) {
-    let text = b"fronthaul 1\n\nplan dl 0000 1 0 0 0 14 0 6 fff 1 0\nplan dl 0000 0\n";
-    let fault = DocFault::At {
-        line: 3,
-        why: DocWhy::NotBuilt,
-    };
-    assert_eq!(rt; read(rt.alloc(), text).err(), Some(fault));
 }
 
 #[test]

@@ -9,7 +9,7 @@ use std::test::Fail;
 use window_config::{Delays, EndpointConfig, Range};
 
 /// The first line that is refused and its reason. None where the document is read.
-fn refusal(alloc: Global, text: &[u8]) -> Option<(usize, DocWhy)> {
+pub(crate) fn refusal(alloc: Global, text: &[u8]) -> Option<(usize, DocWhy)> {
     match read(alloc, text) {
         Ok(_) => None,
         Err(DocFault::At { line, why }) => Some((line, why)),
@@ -108,7 +108,7 @@ fn lines_are_refused_for_their_first_reason(rt: HostRuntime) {
 #[test]
 fn second_lines_just_fail(rt: HostRuntime) -> Result<(), Fail> {
     let cases: [(&[u8], DocWhy); 27] = [
-        (b"plan dl 0000 1 0 0 0 14 0 6 fff 1 0", DocWhy::NotBuilt),
+        (b"plan ul 0000 1 0 0 0 14 0 6 fff 1 0", DocWhy::NotBuilt),
         (b"transit", DocWhy::UnknownWord),
         (b"transit x 1", DocWhy::UnknownWord),
         (b"transit dl", DocWhy::Words),

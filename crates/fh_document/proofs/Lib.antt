@@ -11,4 +11,3 @@ pub mod LineBounds
 pub mod Anyone
 pub mod Properness
 pub mod Texts
-pub mod Scopes

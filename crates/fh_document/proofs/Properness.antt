@@ -24,6 +24,7 @@ use Rattle.fh_document.specs.declared.document.Reading.{Reading}
 use Rattle.fh_document.specs.declared.document.Settings.{Settings}
 use Rattle.fh_document.specs.declared.document.Measure.{Measure}
 use Rattle.fh_document.specs.declared.document.Scope.{Scope}
+use Rattle.fh_document.specs.declared.document.Scope.TheVariants.{Built, Whole}
 use Rattle.fh_document.specs.declared.document.Version.{Version}
 use Rattle.fh_document.specs.declared.delivered.Delivery.{Delivery}
 use Rattle.window_config.specs.declared.plan.PlanLine.{PlanLine}
@@ -42,7 +43,7 @@ use Rattle.fh_document.specs.Keywords.{keyword_of}
 use Rattle.window_config.proofs.Usual.{usual_within}
 use Rattle.fh_document.specs.ConfigLines.{number_at, time_at, ordered, both_ordered, widths_line, windows_line, range_line, hold_line, time_line, fragment_line, tone_line, comp_line, transit_line, pack_line, set_of, defaults}
 use Rattle.fh_document.specs.EndpointLines.{has_endpoint_count, numerology_of, dynamic_of, width_of, method_of, endpoint_of, has_id, added, endpoint_line}
-use Rattle.fh_document.specs.Building.{is_built, is_built_kind, passes, if_built}
+use Rattle.fh_document.specs.Building.{is_built, is_built_measure, is_built_plan, passes}
 use Rattle.fh_document.specs.Delivered.{has_like}
 use Rattle.fh_document.specs.PlanLines.{plan_of, planned, plan_line}
 use Rattle.fh_document.specs.DeliverLines.{has_deliver_count, delivery_of, delivered, deliver_line}
@@ -50,7 +51,7 @@ use Rattle.fh_document.specs.MeasureLines.{measure_of, has_measure, measured, me
 use Rattle.fh_document.specs.InjectLines.{side_of, injected, inject_line}
 use Rattle.fh_document.specs.Lines.{start, is_seen, configured, setting_line, comes_late, keyword_line, ordered_line, is_skipped, version_of, first_line, later_line, words_line, line_of}
 use Rattle.fh_document.specs.Document.{finished, after_line, read_from, document_in}
-use Rattle.fh_document.specs.Proper.{IsFrom, IsTone, AreComps, AreTransits, IsPlanLine, IsDelivery, AreApart, IsMeasure, IsInjectionIn, IsDocumentIn}
+use Rattle.fh_document.specs.Proper.{IsFrom, IsTone, AreComps, AreTransits, IsPlanLine, MayPlan, IsDelivery, AreApart, IsMeasure, MayMeasure, IsInjectionIn, IsDocumentIn}
 use Rattle.fh_document.proofs.LineBounds.{plan_in, delivery_in, apart_more, measure_in}
 use Rattle.fh_document.proofs.Bounds.{ok_if, ok_then, ok_or, ok_any, ok_weaker, some_if, some_then, some_any, Within, number_within, number_at_within, time_at_within, ordered_within, counted_within, with_number, with_time}
 
@@ -252,16 +253,22 @@ pub record IsReading (scope : Scope) (r : Reading) : Type 0 where
   pub settings : AreSettings r.settings
   pub endpoints : AreEndpoints r.endpoints
   pub plan : All IsPlanLine r.plan
+  pub handled : All (MayPlan scope) r.plan
   pub few : length r.plan ≤ MOST_LINES
   pub numbered : length r.plan_lines ≡ length r.plan
   pub deliveries : All IsDelivery r.deliveries
   pub frames : AreApart r.deliveries
   pub injections : All (IsInjectionIn scope r.endpoints) r.injections
   pub measures : All IsMeasure r.measures
+  pub unmeasured : MayMeasure scope r.measures
   pub differ : AppearOnce (map (λ m. m.id) r.measures)
 
 no_endpoints : AreEndpoints []
 no_endpoints = record { each = All-nil IsEndpoint; few = omega arith; differ = λ j k jt kt is. absurd (omega arith) }
+
+none_measured : (scope : Scope) → MayMeasure scope []
+none_measured Built = refl
+none_measured Whole = tt
 
 start_in : (scope : Scope) → IsReading scope (start scope)
 start_in scope = record {
@@ -269,12 +276,14 @@ start_in scope = record {
   settings = defaults_in;
   endpoints = no_endpoints;
   plan = All-nil IsPlanLine;
+  handled = All-nil (MayPlan scope);
   few = omega arith;
   numbered = refl;
   deliveries = All-nil IsDelivery;
   frames = tt;
   injections = All-nil (IsInjectionIn scope []);
   measures = All-nil IsMeasure;
+  unmeasured = none_measured scope;
   differ = λ j k jt kt is. absurd (omega arith);
 }
 
@@ -287,12 +296,14 @@ added_in scope r e h none p =
       settings = h.settings;
       endpoints = more_endpoints r.endpoints e h.endpoints p f g;
       plan = h.plan;
+      handled = h.handled;
       few = h.few;
       numbered = h.numbered;
       deliveries = h.deliveries;
       frames = h.frames;
       injections = none_all (IsInjectionIn scope (r.endpoints ++ e ∷ [])) r.injections none;
       measures = h.measures;
+      unmeasured = h.unmeasured;
       differ = h.differ;
     }))
 
@@ -305,19 +316,23 @@ endpoint_line_in scope r ws h none =
 planned_in : (scope : Scope) (r : Reading) (n : ℕ) (line : PlanLine) → IsReading scope r → IsPlanLine line → IfOk (planned r n line) (IsReading scope)
 planned_in scope r n line h p =
     ok_if (IsReading scope) (length r.plan == MOST_LINES) (Err why.TooMany) _ (λ t. tt)
-    (λ f. record {
+    (λ f. ok_if (IsReading scope) (passes r.scope (is_built_plan line)) _ (Err why.NotBuilt)
+    (λ t. record {
       scoped = h.scoped;
       settings = h.settings;
       endpoints = h.endpoints;
       plan = All-push IsPlanLine r.plan line h.plan p;
+      handled = All-push (MayPlan scope) r.plan line h.handled (subst (λ s. passes s (is_built_plan line) ≡ true) h.scoped t);
       few = one_more (length r.plan) h.few f (length_push r.plan line);
       numbered = length_push r.plan_lines n ∙ ap (λ m. m + 1) h.numbered ∙ sym (length_push r.plan line);
       deliveries = h.deliveries;
       frames = h.frames;
       injections = h.injections;
       measures = h.measures;
+      unmeasured = h.unmeasured;
       differ = h.differ;
     })
+    (λ g. tt))
   where
     one_more : {m : ℕ} (n : ℕ) → n ≤ MOST_LINES → (n == MOST_LINES) ≡ false → m ≡ n + 1 → m ≤ MOST_LINES
     one_more n le other is = grind (arith, nat_tests)
@@ -335,12 +350,14 @@ delivered_in scope r d h p =
       settings = h.settings;
       endpoints = h.endpoints;
       plan = h.plan;
+      handled = h.handled;
       few = h.few;
       numbered = h.numbered;
       deliveries = All-push IsDelivery r.deliveries d h.deliveries p;
       frames = apart_more r.deliveries d h.frames f;
       injections = h.injections;
       measures = h.measures;
+      unmeasured = h.unmeasured;
       differ = h.differ;
     })
 
@@ -354,24 +371,33 @@ any_of_measures : (id : ℕ) (ms : List Measure) → list_any (λ x. x == id) (m
 any_of_measures id [] = refl
 any_of_measures id (m ∷ ms) = ap (λ b. (m.id == id) || b) (any_of_measures id ms)
 
+-- a measurement that passes is one of the whole grammar
+measured_more : (scope : Scope) (m : Measure) (ms : List Measure) → passes scope (is_built_measure m) ≡ true → MayMeasure scope (ms ++ m ∷ [])
+measured_more Built m ms t = absurd (cc t)
+measured_more Whole m ms t = tt
+
 measured_in : (scope : Scope) (r : Reading) (m : Measure) → IsReading scope r → IsMeasure m → IfOk (measured r m) (IsReading scope)
 measured_in scope r m h p =
     ok_if (IsReading scope) (has_measure m.id r.measures) (Err why.Twice) _ (λ t. tt)
-    (λ f.
+    (λ f. ok_if (IsReading scope) (passes r.scope (is_built_measure m)) _ (Err why.NotBuilt)
+    (λ t.
     let once : AppearOnce (map (λ (x : Measure). x.id) r.measures ++ m.id ∷ []) = once_push (map (λ (x : Measure). x.id) r.measures) m.id h.differ (any_of_measures m.id r.measures ∙ f) in
     record {
       scoped = h.scoped;
       settings = h.settings;
       endpoints = h.endpoints;
       plan = h.plan;
+      handled = h.handled;
       few = h.few;
       numbered = h.numbered;
       deliveries = h.deliveries;
       frames = h.frames;
       injections = h.injections;
       measures = All-push IsMeasure r.measures m h.measures p;
+      unmeasured = measured_more scope m r.measures (subst (λ s. passes s (is_built_measure m) ≡ true) h.scoped t);
       differ = subst AppearOnce (sym (map-append (λ (x : Measure). x.id) r.measures (m ∷ []))) once;
     })
+    (λ g. tt))
 
 measure_line_in : (scope : Scope) (r : Reading) (ws : List (List ℕ)) → IsReading scope r → IfOk (measure_line r ws) (IsReading scope)
 measure_line_in scope r ws h =
@@ -386,6 +412,7 @@ injected_in scope r i h time short =
       settings = h.settings;
       endpoints = h.endpoints;
       plan = h.plan;
+      handled = h.handled;
       few = h.few;
       numbered = h.numbered;
       deliveries = h.deliveries;
@@ -393,6 +420,7 @@ injected_in scope r i h time short =
       injections = All-push (IsInjectionIn scope r.endpoints) r.injections i h.injections
           (record { time = time; short = short; built = subst (λ s. passes s (is_built r.endpoints i) ≡ true) h.scoped t });
       measures = h.measures;
+      unmeasured = h.unmeasured;
       differ = h.differ;
     })
     (λ f. tt)
@@ -429,12 +457,14 @@ with_settings scope r s settings h p = record {
   settings = p;
   endpoints = h.endpoints;
   plan = h.plan;
+  handled = h.handled;
   few = h.few;
   numbered = h.numbered;
   deliveries = h.deliveries;
   frames = h.frames;
   injections = h.injections;
   measures = h.measures;
+  unmeasured = h.unmeasured;
   differ = h.differ;
 }
 
@@ -458,13 +488,10 @@ keyword_line_in scope r n keyword.Deliver ws h f = deliver_line_in scope r ws h
 keyword_line_in scope r n keyword.Inject ws h f = inject_line_in scope r ws h
 keyword_line_in scope r n keyword.Measure ws h f = measure_line_in scope r ws h
 
-if_built_in : (scope : Scope) (handled : Bool) (r : Reading) → IsReading scope r → IfOk (if_built handled r) (IsReading scope)
-if_built_in scope handled r h = ok_if (IsReading scope) (passes r.scope handled) (Ok r) (Err why.NotBuilt) (λ t. h) (λ f. tt)
-
 ordered_line_in : (scope : Scope) (r : Reading) (n : ℕ) (k : Keyword) (ws : List (List ℕ)) → IsReading scope r → IfOk (ordered_line r n k ws) (IsReading scope)
 ordered_line_in scope r n k ws h =
     ok_if (IsReading scope) (comes_late r k) (Err why.Order) _ (λ t. tt)
-    (λ f. ok_then (IsReading scope) (IsReading scope) (keyword_line r n k ws) _ (keyword_line_in scope r n k ws h f) (λ next p. if_built_in scope (is_built_kind k) next p))
+    (λ f. keyword_line_in scope r n k ws h f)
 
 later_line_in : (scope : Scope) (r : Reading) (n : ℕ) (ws : List (List ℕ)) → IsReading scope r → IfOk (later_line r n ws) (IsReading scope)
 later_line_in scope r n ws h =
@@ -477,12 +504,14 @@ in_version scope r version h = record {
   settings = h.settings;
   endpoints = h.endpoints;
   plan = h.plan;
+  handled = h.handled;
   few = h.few;
   numbered = h.numbered;
   deliveries = h.deliveries;
   frames = h.frames;
   injections = h.injections;
   measures = h.measures;
+  unmeasured = h.unmeasured;
   differ = h.differ;
 }
 
@@ -503,6 +532,7 @@ finished_in : (scope : Scope) (r : Reading) → IsReading scope r → IsDocument
 finished_in scope r h = record {
   config = record { delays = h.settings.delays; gap = h.settings.gap; fragment_low = h.settings.fragment.0; fragment_high = h.settings.fragment.1; pack_low = h.settings.pack.0; pack_high = h.settings.pack.1; endpoints = h.endpoints };
   plan = h.plan;
+  handled = h.handled;
   few = h.few;
   numbered = h.numbered;
   source = h.settings.source;
@@ -513,6 +543,7 @@ finished_in scope r h = record {
   frames = h.frames;
   injections = h.injections;
   measures = h.measures;
+  unmeasured = h.unmeasured;
   differ = h.differ;
 }
 

@@ -1,5 +1,6 @@
--- What is handled so far. Of lines: all but those of a plan, of deliveries and of measurements. Of injected frames: those of the
--- downlink whose messages are all handled; a measurement of delays, and a whole uplink command to a configured endpoint, are not.
+-- What is handled so far. Of lines: all but those of measurements. Of lines of a plan: those for the downlink, data or resources
+-- that stay idle. Of injected frames: those of the downlink whose messages are all handled; a measurement of delays, and a whole
+-- uplink command to a configured endpoint, are not.
 use Rattle.std.specs.Prelude.{ℕ, List, drop, length, Bool, true, false, ◌&&◌, ◌||◌, not, ◌==◌, nat_le, Result, Ok, Err, if◌then◌else◌}
 use Rattle.std.specs.List.{list_any}
 use Rattle.bit_fields.specs.Field.{field}
@@ -12,12 +13,14 @@ use Rattle.ecpri_frames.specs.Messages.{Message}
 use Rattle.ecpri_frames.specs.Gathering.{whole_messages}
 use Rattle.fh_time.specs.Numbering.{shape_of}
 use Rattle.window_config.specs.declared.endpoints.EndpointConfig.{EndpointConfig}
+use Rattle.window_config.specs.declared.plan.PlanKind.{PlanKind}
+use Rattle.window_config.specs.declared.plan.PlanKind.TheVariants.{Down, Up, Idle}
+use Rattle.window_config.specs.declared.plan.PlanLine.{PlanLine}
 use Rattle.fh_document.specs.declared.document.Injection.{Injection}
+use Rattle.fh_document.specs.declared.document.Measure.{Measure}
 use Rattle.fh_document.specs.declared.document.Reading.{Reading}
 use Rattle.fh_document.specs.declared.document.Scope.{Scope}
 use Rattle.fh_document.specs.declared.document.Scope.TheVariants.{Built, Whole}
-use Rattle.fh_document.specs.declared.keywords.Keyword.{Keyword}
-use Rattle.fh_document.specs.declared.keywords.Keyword.TheVariants as keyword
 use Rattle.fh_document.specs.declared.refusals.DocWhy.{DocWhy}
 use Rattle.fh_document.specs.declared.refusals.DocWhy.TheVariants.{NotBuilt}
 
@@ -52,14 +55,18 @@ is_built_frame endpoints frame = not (list_any (is_unbuilt endpoints) (whole_mes
 abbrev pub is_built : List EndpointConfig → Injection → Bool
 is_built endpoints i = is_down i.side && is_built_frame endpoints i.frame
 
--- lines of this kind are handled
-abbrev pub is_built_kind : Keyword → Bool
-is_built_kind (keyword.Configure s) = true
-is_built_kind keyword.Endpoint = true
-is_built_kind keyword.Plan = false
-is_built_kind keyword.Deliver = false
-is_built_kind keyword.Inject = true
-is_built_kind keyword.Measure = false
+-- what is planned for the downlink: data, or resources that stay idle
+abbrev pub is_built_kind : PlanKind → Bool
+is_built_kind Down = true
+is_built_kind Up = false
+is_built_kind Idle = true
+
+abbrev pub is_built_plan : PlanLine → Bool
+is_built_plan line = is_built_kind line.kind
+
+-- no measurement is
+abbrev pub is_built_measure : Measure → Bool
+is_built_measure m = false
 
 -- what is not handled passes where the whole grammar is read
 abbrev pub passes : Scope → Bool → Bool

@@ -21,7 +21,6 @@ use Rattle.fh_document.specs.PlanLines.{plan_line}
 use Rattle.fh_document.specs.DeliverLines.{deliver_line}
 use Rattle.fh_document.specs.InjectLines.{inject_line}
 use Rattle.fh_document.specs.MeasureLines.{measure_line}
-use Rattle.fh_document.specs.Building.{is_built_kind, if_built}
 
 -- before any line but the first
 abbrev pub start : Scope → Reading
@@ -65,7 +64,7 @@ reached r =
 abbrev pub comes_late : Reading → Keyword → Bool
 comes_late r k = nat_lt (rank_of k) (reached r)
 
--- the line by its keyword alone, whether or not it is handled
+-- the line by its keyword
 abbrev pub keyword_line : Reading → ℕ → Keyword → List (List ℕ) → Result Reading DocWhy
 keyword_line r n (keyword.Configure s) ws = setting_line r s ws
 keyword_line r n keyword.Endpoint ws = endpoint_line r ws
@@ -77,7 +76,7 @@ keyword_line r n keyword.Measure ws = measure_line r ws
 abbrev pub ordered_line : Reading → ℕ → Keyword → List (List ℕ) → Result Reading DocWhy
 ordered_line r n k ws =
     if comes_late r k then Err why.Order
-    else keyword_line r n k ws >>= (λ next. if_built (is_built_kind k) next)
+    else keyword_line r n k ws
 
 -- the line has no word, or its first begins with `#`
 abbrev pub is_skipped : List (List ℕ) → Bool

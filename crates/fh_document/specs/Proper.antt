@@ -11,11 +11,11 @@ use Rattle.fh_document.specs.declared.delivered.Delivery.{Delivery}
 use Rattle.fh_document.specs.declared.document.Injection.{Injection}
 use Rattle.fh_document.specs.declared.document.Measure.{Measure}
 use Rattle.fh_document.specs.declared.document.Scope.{Scope}
-use Rattle.fh_document.specs.declared.document.Scope.TheVariants.{Built}
+use Rattle.fh_document.specs.declared.document.Scope.TheVariants.{Built, Whole}
 use Rattle.fh_document.specs.declared.document.Document.{Document}
 use Rattle.fh_document.specs.declared.hex.TheConstants.{MOST_BYTES}
 use Rattle.fh_document.specs.declared.plan_lines.TheConstants.{MOST_LINES}
-use Rattle.fh_document.specs.Building.{is_built, passes}
+use Rattle.fh_document.specs.Building.{is_built, is_built_plan, passes}
 use Rattle.fh_document.specs.Delivered.{has_like}
 use Rattle.fh_document.specs.DeliverLines.{least_of}
 
@@ -65,8 +65,17 @@ abbrev pub AreApart : List Delivery → Type 0
 AreApart [] = Unit {0}
 AreApart (d ∷ ds) = (has_like d ds ≡ false) × AreApart ds
 
+-- a line of a plan that is read
+abbrev pub MayPlan : Scope → PlanLine → Type 0
+MayPlan scope line = passes scope (is_built_plan line) ≡ true
+
 abbrev pub IsMeasure : Measure → Type 0
 IsMeasure m = IsFrom 1000000 (10 ^ 12) m.at
+
+-- the measurements that are read: none but where the whole grammar is
+abbrev pub MayMeasure : Scope → List Measure → Type 0
+MayMeasure Built ms = ms ≡ []
+MayMeasure Whole ms = Unit {0}
 
 -- a frame that these endpoints may be sent
 pub record IsInjectionIn (scope : Scope) (endpoints : List EndpointConfig) (i : Injection) : Type 0 where
@@ -77,6 +86,7 @@ pub record IsInjectionIn (scope : Scope) (endpoints : List EndpointConfig) (i : 
 pub record IsDocumentIn (scope : Scope) (d : Document) : Type 0 where
   pub config : IsConfig d.config
   pub plan : All IsPlanLine d.plan
+  pub handled : All (MayPlan scope) d.plan
   pub few : length d.plan ≤ MOST_LINES
   pub numbered : length d.plan_lines ≡ length d.plan
   pub source : IsTone d.source
@@ -87,6 +97,7 @@ pub record IsDocumentIn (scope : Scope) (d : Document) : Type 0 where
   pub frames : AreApart d.deliveries
   pub injections : All (IsInjectionIn scope d.config.endpoints) d.injections
   pub measures : All IsMeasure d.measures
+  pub unmeasured : MayMeasure scope d.measures
   pub differ : AppearOnce (map (λ m. m.id) d.measures)
 
 -- where all that it says is handled

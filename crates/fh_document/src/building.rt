@@ -1,18 +1,17 @@
 // What is handled so far.
 ghost use Rattle.std.specs.Prelude.{◌≡◌, ◌≤◌, length};
-ghost use Rattle.fh_document.specs.Building.{is_built_kind, passes, is_down, reads_uplink, is_alone, commands_uplink, is_uplink_command, is_unbuilt, is_built_frame, is_built};
+ghost use Rattle.fh_document.specs.Building.{is_built_kind, is_built_measure, is_built_plan, passes, is_down, reads_uplink, is_alone, commands_uplink, is_uplink_command, is_unbuilt, is_built_frame, is_built};
 ghost use Rattle.std.specs.List.{list_any};
 ghost use Rattle.ecpri_frames.specs.Left.{message_of};
 ghost use Rattle.bit_fields.specs.Field.{field};
 ghost use Rattle.cplane_sections.specs.Tests.{checked};
 
-use crate::document::{Injection, Scope};
-use crate::keywords::Keyword;
+use crate::document::{Injection, Measure, Scope};
 use air_source::Side;
 use cplane_sections::check;
 use ecpri_frames::{WholeMessage, messages};
 use fh_time::{Shape, shape};
-use window_config::EndpointConfig;
+use window_config::{EndpointConfig, PlanKind, PlanLine};
 
 /// The message type of real-time control.
 const CONTROL: u8 = 2;
@@ -110,14 +109,28 @@ pub(crate) fn is_built(endpoints: &[EndpointConfig], injection: &Injection) -> b
     is_down(injection.side) && is_built_frame(endpoints, injection.frame.as_slice())
 }
 
-/// Whether lines of this kind are handled.
-pub(crate) fn is_built_kind(keyword: Keyword) -> bool
-    ensures { result ≡ is_built_kind keyword }
+/// Whether what is planned is handled: downlink data, and resources that stay idle.
+fn is_built_kind(kind: PlanKind) -> bool
+    ensures { result ≡ is_built_kind kind }
 {
-    match keyword {
-        Keyword::Configure(_) | Keyword::Endpoint | Keyword::Inject => true,
-        Keyword::Plan | Keyword::Deliver | Keyword::Measure => false,
+    match kind {
+        PlanKind::Down | PlanKind::Idle => true,
+        PlanKind::Up => false,
     }
+}
+
+/// Whether a line of a plan is handled.
+pub(crate) fn is_built_plan(line: &PlanLine) -> bool
+    ensures { result ≡ is_built_plan line.now }
+{
+    is_built_kind(line.kind)
+}
+
+/// Whether a measurement is handled: none is.
+pub(crate) fn is_built_measure(_measure: &Measure) -> bool
+    ensures { result ≡ is_built_measure _measure.now }
+{
+    false
 }
 
 /// Whether a line passes: where it is handled, or the whole grammar is read.

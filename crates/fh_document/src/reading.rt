@@ -2,12 +2,10 @@
 ghost use Rattle.std.specs.Prelude.{◌≡◌, IfOk};
 ghost use Rattle.fh_document.specs.Answered.{Refuses, refused, Reads, Answers};
 ghost use Rattle.fh_document.specs.Lines.{start, is_seen, setting_line, reached, comes_late, keyword_line, ordered_line, is_skipped, version_at, version_of, first_line, later_line, words_line, line_of};
-ghost use Rattle.fh_document.specs.Building.{if_built, is_built_kind};
 ghost use Rattle.fh_document.specs.declared.document.Scope.TheVariants.{Whole};
 ghost use Rattle.fh_document.specs.Document.{finished, document_in, document_of, parsed};
 ghost use Rattle.fh_document.specs.Proper.{IsDocumentIn, IsDocument};
 
-use crate::building::{is_built_kind, passes};
 use crate::config_lines::{defaults, set};
 use crate::deliver_lines::deliver_line;
 use crate::delivered::Deliveries;
@@ -100,17 +98,7 @@ fn refused(answer: Result<(), DocWhy>) -> Result<(), LineFault>
     }
 }
 
-/// The last reason of a line: what it says is not handled.
-fn if_built(reading: &Reading, handled: bool) -> Result<(), LineFault>
-    ensures { Reads (if_built handled reading.now) result reading.now }
-{
-    if !passes(reading.scope, handled) {
-        return Err(LineFault::Why(DocWhy::NotBuilt));
-    }
-    Ok(())
-}
-
-/// The line by its keyword alone, whether or not it is handled.
+/// The line by its keyword.
 fn keyword_line(
     alloc: Global,
     reading: &mut Reading,
@@ -142,10 +130,7 @@ fn ordered_line(
     if comes_late(reading, keyword) {
         return Err(LineFault::Why(DocWhy::Order));
     }
-    match keyword_line(alloc, reading, n, keyword, words) {
-        Ok(()) => if_built(reading, is_built_kind(keyword)),
-        Err(fault) => Err(fault),
-    }
+    keyword_line(alloc, reading, n, keyword, words)
 }
 
 fn is_skipped(words: &Words<'_>) -> bool
@@ -286,8 +271,9 @@ fn read_in(alloc: Global, scope: Scope, bytes: &[u8]) -> Result<Document, DocFau
 /// Reads a document, in the grammar of `fronthaul 1` or `fronthaul 2` as its first line says.
 ///
 /// The answer is what the lines say, or the first line that is refused with its first reason, or want of memory. A document that
-/// is read is within its limits: the configuration is, no id stands twice, and each injected frame is one that is handled. So far
-/// the lines of a plan, of deliveries and of measurements are refused, where no other reason is there (`NotBuilt`).
+/// is read is within its limits: the configuration is, no id stands twice, and each line of its plan and each injected frame is one
+/// that is handled. So far the uplink lines of a plan, measurements, injected uplink frames, and injected frames with a whole
+/// message of delay measurement or a whole uplink command to an endpoint are refused, where no other reason is there (`NotBuilt`).
 pub fn read(alloc: Global, bytes: &[u8]) -> Result<Document, DocFault>
     ensures answers { Answers (document_of bytes.now) result }
     ensures proper { IfOk result (λ d. IsDocument d) }

@@ -1,5 +1,5 @@
 -- Deliver lines.
-use Rattle.std.proofs.Common.{◌≡◌, ℕ, suc, ◌≢◌, ◌≤◌, List, [], ◌∷◌, length, map, true, false, ◌&&◌, ◌||◌, nat_le, Some, refl, ap, ◌∙◌, arith}
+use Rattle.std.proofs.Common.{◌≡◌, ℕ, suc, ◌≢◌, ◌≤◌, List, [], ◌∷◌, length, map, true, false, ◌&&◌, ◌||◌, nat_le, Some, refl, ◌∙◌, arith}
 use Rattle.std.specs.Prelude.{ℤ, All, decimal, ◌==◌}
 use Rattle.std.specs.List.{list_all}
 use Rattle.std.specs.Fmt.{signed_decimal}
@@ -10,13 +10,11 @@ use Rattle.fh_document.specs.declared.delivered.Class3.{Class3}
 use Rattle.fh_document.specs.declared.delivered.Class3.TheVariants.{C, U, M}
 use Rattle.fh_document.specs.declared.delivered.Delivery.{Delivery}
 use Rattle.fh_document.specs.declared.refusals.DocWhy.TheVariants as why
-use Rattle.fh_document.specs.Building.{if_built}
 use Rattle.fh_document.specs.DeliverLines.{class_of, least_of, times_of, has_deliver_count, delivery_of, delivered}
 use Rattle.fh_document.specs.EndpointLines.{taking}
 use Rattle.fh_document.specs.InjectLines.{side_of}
 use Rattle.fh_document.specs.Lines.{reached, line_of}
 use Rattle.fh_document.specs.Proper.{IsFrom, IsDelivery}
-use Rattle.fh_document.specs.Refusals.{◌>>=◌}
 use Rattle.fh_document.specs.Steps.{Said, deliveries}
 use Rattle.fh_document.specs.Words.{number_in}
 use Rattle.line_laws.specs.Joined.{is_word, spaced}
@@ -65,9 +63,8 @@ counted : (n m : ℕ) → n ≡ m → m ≤ 8 → (nat_le 4 (suc (suc (suc (suc 
 counted n m is few = grind (arith, nat_tests)
 
 pub deliver_read : (r : Said) (n : ℕ) (d : Delivery) → n ≢ 1 → reached r ≤ 3 → IsDelivery d
-    → line_of r n (spaced (deliver_words d)) ≡ (delivered r d >>= (λ next. if_built false next))
+    → line_of r n (spaced (deliver_words d)) ≡ delivered r d
 deliver_read r n d later order h =
     line_is r n deliveries (deliver_words d) later (deliver_visible d h) (some_words (length (map signed_decimal d.copies))) refl order
-    ∙ ap (λ x. x >>= (λ next. if_built false next))
-    (if_true (has_deliver_count (deliver_words d)) _ _ (counted (length (map signed_decimal d.copies)) (length d.copies) (length-map d.copies signed_decimal) h.few)
-    ∙ then_some (delivery_of (deliver_words d)) why.Number d (λ x. delivered r x) (delivery_is d h))
+    ∙ if_true (has_deliver_count (deliver_words d)) _ _ (counted (length (map signed_decimal d.copies)) (length d.copies) (length-map d.copies signed_decimal) h.few)
+    ∙ then_some (delivery_of (deliver_words d)) why.Number d (λ x. delivered r x) (delivery_is d h)

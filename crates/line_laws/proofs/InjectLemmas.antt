@@ -20,7 +20,6 @@ use Rattle.fh_document.specs.Proper.{IsFrom}
 use Rattle.fh_document.specs.Refusals.{or_refuse, ◌>>=◌}
 use Rattle.fh_document.specs.Steps.{Said, Reach, injections, with_frames}
 use Rattle.fh_document.specs.Words.{is_text, number_in}
-use Rattle.fh_document.proofs.Scopes.{passes_true}
 use Rattle.line_laws.specs.Joined.{is_word}
 use Rattle.line_laws.specs.Laws.{IsFrame}
 use Rattle.line_laws.specs.Lines.{inject_text, injections_text, document_with}
@@ -66,8 +65,8 @@ line_adds : (r : Said) (so_far : List Injection) (n : ℕ) (i : Injection) → n
     → line_of (with_frames r so_far) n (inject_text i) ≡ Ok (with_frames r (so_far ++ i ∷ []))
 line_adds r so_far n i later h none built =
     line_is (with_frames r so_far) n injections (inject_words i) later (inject_visible i h) refl refl (order r.measures none)
-    ∙ then_ok _ (with_frames r (so_far ++ i ∷ [])) _ (inject_is (with_frames r so_far) i h ∙ if_true (passes r.scope (is_built r.endpoints i)) (Ok (with_frames r (so_far ++ i ∷ []))) (Err why.NotBuilt) built)
-    ∙ if_true (passes r.scope true) (Ok (with_frames r (so_far ++ i ∷ []))) (Err why.NotBuilt) (passes_true r.scope)
+    ∙ inject_is (with_frames r so_far) i h
+    ∙ if_true (passes r.scope (is_built r.endpoints i)) (Ok (with_frames r (so_far ++ i ∷ []))) (Err why.NotBuilt) built
   where
     order : {X : Type 0} (ms : List X) → ms ≡ [] → (if nat_lt 0 (length ms) then 5 else (if nat_lt 0 (length so_far) then 4
         else (if nat_lt 0 (length r.deliveries) then 3 else (if nat_lt 0 (length r.plan) then 2 else (if nat_lt 0 (length r.endpoints) then 1 else 0))))) ≤ 4

@@ -6,8 +6,6 @@ use Rattle.std.proofs.lemmas.Bool.Decides.{nat_tests}
 use Rattle.fh_document.specs.declared.refusals.DocWhy.TheVariants as why
 use Rattle.fh_document.specs.Keywords.{keyword_of, rank_of}
 use Rattle.fh_document.specs.Lines.{reached, comes_late, is_skipped, keyword_line, ordered_line, later_line, words_line, line_of}
-use Rattle.fh_document.specs.Building.{is_built_kind, if_built}
-use Rattle.fh_document.specs.Refusals.{◌>>=◌}
 use Rattle.fh_document.specs.Steps.{Said, Kind}
 use Rattle.fh_document.specs.Words.{is_text}
 use Rattle.line_laws.specs.Joined.{is_word, spaced}
@@ -22,7 +20,7 @@ in_time rank latest h = grind (arith, nat_tests)
 
 -- a line of words behind line 1, of a kind that may stand there
 pub line_is : (r : Said) (n : ℕ) (k : Kind) (ws : List (List ℕ)) → n ≢ 1 → list_all is_word ws ≡ true → is_skipped ws ≡ false → keyword_of r.version ws ≡ Some k
-    → reached r ≤ rank_of k → line_of r n (spaced ws) ≡ (keyword_line r n k ws >>= (λ next. if_built (is_built_kind k) next))
+    → reached r ≤ rank_of k → line_of r n (spaced ws) ≡ keyword_line r n k ws
 unfolding line_of
 line_is r n k ws later words some keyword order =
     if_true (is_text (spaced ws)) _ _ (words_text ws words)

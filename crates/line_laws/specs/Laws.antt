@@ -1,18 +1,17 @@
 -- What a program wrote is read back.
-use Rattle.std.specs.Prelude.{ℕ, ◌≡◌, ◌≢◌, ◌<◌, ◌≤◌, ◌^◌, List, [], All, length, true, false, Some, Ok, decimal, ◌==◌}
+use Rattle.std.specs.Prelude.{ℕ, ◌≡◌, ◌≢◌, ◌<◌, ◌≤◌, ◌^◌, List, [], All, length, true, Some, Ok, decimal, ◌==◌}
 use Rattle.std.specs.List.{slice_split, list_all}
 use Rattle.text_lines.specs.Words.{hex4_text, hex3_text}
 use Rattle.window_config.specs.declared.plan.PlanLine.{PlanLine}
 use Rattle.fh_document.specs.declared.delivered.Delivery.{Delivery}
 use Rattle.fh_document.specs.declared.document.Injection.{Injection}
-use Rattle.fh_document.specs.Building.{is_built, if_built}
+use Rattle.fh_document.specs.Building.{is_built}
 use Rattle.fh_document.specs.Document.{document_of, parsed}
 use Rattle.fh_document.specs.Hex.{hex_of, frame_of}
 use Rattle.fh_document.specs.Lines.{line_of, reached}
 use Rattle.fh_document.specs.PlanLines.{planned}
 use Rattle.fh_document.specs.DeliverLines.{delivered}
 use Rattle.fh_document.specs.Proper.{IsFrom, IsPlanLine, IsDelivery}
-use Rattle.fh_document.specs.Refusals.{◌>>=◌}
 use Rattle.fh_document.specs.Steps.{Said, handled, whole}
 use Rattle.fh_document.specs.Words.{is_text, words_of, number_in, without_last_feed}
 use Rattle.line_laws.specs.Joined.{is_word, spaced, fed}
@@ -55,13 +54,12 @@ InjectionsAreRead = (is : List Injection) → All IsFrame is → parsed (injecti
 abbrev pub BuiltInjectionsAreRead : Type 0
 BuiltInjectionsAreRead = (is : List Injection) → All IsFrame is → All (λ i. is_built [] i ≡ true) is → document_of (injections_text is) ≡ Ok (document_with handled is)
 
--- a line of a plan behind line 1, where no line of a later kind stands: it plans what was written, as far as lines of a plan are
--- handled
+-- a line of a plan behind line 1, where no line of a later kind stands: it plans what was written
 abbrev pub PlansAreRead : Type 0
 PlansAreRead = (r : Said) (n : ℕ) (line : PlanLine) → n ≢ 1 → reached r ≤ 2 → IsPlanLine line → line.id < 2 ^ 16 → line.num_prb < 2 ^ 8
-    → line_of r n (spaced (plan_words line)) ≡ (planned r n line >>= (λ next. if_built false next))
+    → line_of r n (spaced (plan_words line)) ≡ planned r n line
 
 -- the same of a deliver line
 abbrev pub DeliveriesAreRead : Type 0
 DeliveriesAreRead = (r : Said) (n : ℕ) (d : Delivery) → n ≢ 1 → reached r ≤ 3 → IsDelivery d
-    → line_of r n (spaced (deliver_words d)) ≡ (delivered r d >>= (λ next. if_built false next))
+    → line_of r n (spaced (deliver_words d)) ≡ delivered r d

@@ -1,0 +1,112 @@
+// What is handled so far: documents that are read, and lines that are refused for the last reason of all.
+use crate::plans::plan_of;
+use crate::tests::refusal;
+use air_source::Side;
+use fh_document::{Class3, DocWhy, read};
+use std::test::Fail;
+use window_config::PlanKind;
+
+#[test]
+fn downlink_plans_and_deliveries_are_handled(rt: HostRuntime) {
+    let cases: [&[u8]; 10] = [
+        b"fronthaul 1\nplan dl 0000 1 0 0 0 14 0 6 fff 1 0\n",
+        b"fronthaul 1\nplan idle 0000 1 0 0 0 14 0 6 fff 1 0\n",
+        b"fronthaul 2\nplan dl 0000 99999 9 63 63 15 1023 255 FfF 4095 32767\n",
+        b"fronthaul 2\npack 2\nplan idle ffff 1 0 0 0 0 0 0 000 0 0\n",
+        b"fronthaul 1\ndeliver dl c 1\ndeliver dl u 1 1 2 3 4 5 6 7 8\ndeliver dl m 1 1\n",
+        b"fronthaul 1\ndeliver ul c 1\ndeliver ul u 1 0\ndeliver ul m 1 3000000000\n",
+        b"fronthaul 2\ndeliver dl u 9999999\n",
+        b"fronthaul 2\ndeliver ul m 1\n",
+        b"fronthaul 1\nplan dl 0000 1 0 0 0 14 0 6 fff 1 0\nplan idle 0000 1 0 1 0 14 0 6 fff 1 0\ndeliver dl c 2 1\ninject dl 0 -\n",
+        b"fronthaul 2\nendpoint 0001 extended 60 6 static none\nplan dl 0001 1 0 0 0 12 0 6 fff 1 0\ndeliver dl u 1\ninject dl 0 -\n",
+    ];
+    for text in cases {
+        assert_eq!(rt; refusal(rt.alloc(), text), None);
+    }
+}
+
+#[test]
+fn what_is_handled_is_read(rt: HostRuntime) {
+    let text =
+        b"fronthaul 1\n\nplan dl 0000 1 0 0 0 14 0 6 fff 1 0\n# idle\nplan idle 0001 1 0 0 0 14 0 6 fff 1 0\ndeliver ul u 7 5 6\n";
+    let d = read(rt.alloc(), text).expect(&rt, "read");
+    assert_eq!(rt; (d.plan.len(), d.plan_lines.len()), (2, 2));
+    assert_eq!(rt; d.plan.get(0).expect(&rt, "first").kind, PlanKind::Down);
+    assert_eq!(rt; d.plan.get(1).expect(&rt, "second").kind, PlanKind::Idle);
+    assert_eq!(rt; d.plan_lines.get(0), Some(&3));
+    assert_eq!(rt; d.plan_lines.get(1), Some(&5));
+    assert_eq!(rt; d.deliveries.len(), 1);
+    let copies = d.deliveries.get(0).expect(&rt, "copies");
+    assert_eq!(rt;
+        (copies.side, copies.class, copies.k),
+        (Side::Du, Class3::U, 7)
+    );
+    assert_eq!(rt; copies.copies.as_slice(), [5, 6].as_slice());
+    assert_eq!(rt; d.measures.len(), 0);
+}
+
+#[test]
+fn five_things_are_not_handled(rt: HostRuntime) {
+    let cases: [(&[u8], usize); 12] = [
+        // uplink lines of a plan
+        (b"fronthaul 1\nplan ul 0000 1 0 0 0 14 0 6 fff 1 0\n", 2),
+        (b"fronthaul 2\nplan ul 0000 1 0 0 0 14 0 6 fff 1 0\n", 2),
+        (
+            b"fronthaul 1\n\nplan dl 0000 1 0 0 0 14 0 6 fff 1 0\nplan ul 0000 1 0 0 0 14 0 6 fff 1 0\nplan dl 0000 0\n",
+            4,
+        ),
+        // measurements
+        (b"fronthaul 1\nmeasure du 0 one 1000000\n", 2),
+        (b"fronthaul 2\nmeasure ru 255 remote-two 1000000\n", 2),
+        // frames to the distributed unit
+        (b"fronthaul 1\ninject ul 0 -\n", 2),
+        (b"fronthaul 2\ninject ul 0 20\n", 2),
+        // whole uplink commands to an endpoint
+        (
+            b"fronthaul 1\nendpoint 0000 ordinary 30 106 static none\ninject dl 1 1002001400000080100100000101000000100001fff10000\n",
+            3,
+        ),
+        (
+            b"fronthaul 2\nendpoint 0000 ordinary 30 106 static none\ninject dl 1 1002001400000080100100000101000000100001fff10000\n",
+            3,
+        ),
+        // whole messages of delay measurement
+        (b"fronthaul 1\ninject dl 0 10050000\n", 2),
+        (b"fronthaul 2\ninject dl 0 10050000\n", 2),
+        // behind a first message
+        (b"fronthaul 1\ninject dl 0 110600041122334410050000\n", 2),
+    ];
+    for (text, line) in cases {
+        assert_eq!(rt; refusal(rt.alloc(), text), Some((line, DocWhy::NotBuilt)));
+    }
+}
+
+#[test]
+fn it_is_the_last_reason_of_a_line(rt: HostRuntime) -> Result<(), Fail> {
+    let alloc = rt.alloc();
+    let cases: [(&[u8], DocWhy); 6] = [
+        (
+            b"fronthaul 1\nplan ul 0000 1 0 0 0 14 0 6 fff 1\n",
+            DocWhy::Words,
+        ),
+        (
+            b"fronthaul 1\nplan ul 0000 1 0 0 0 16 0 6 fff 1 0\n",
+            DocWhy::Number,
+        ),
+        (b"fronthaul 1\nmeasure du 0 one\n", DocWhy::Words),
+        (b"fronthaul 1\nmeasure du 256 one 1000000\n", DocWhy::Number),
+        (b"fronthaul 1\ninject ul 0\n", DocWhy::Words),
+        (b"fronthaul 1\ninject ul 0 1\n", DocWhy::Number),
+    ];
+    for (text, why) in cases {
+        assert_eq!(rt; refusal(alloc, text), Some((2, why)));
+    }
+    let mut most = plan_of(alloc, 65_536)?;
+    assert_eq!(rt; refusal(alloc, most.as_slice()), None);
+    most.push_all(b"plan ul 0000 1 0 0 0 14 0 6 fff 1 0\n")?;
+    assert_eq!(rt;
+        refusal(alloc, most.as_slice()),
+        Some((65_538, DocWhy::TooMany))
+    );
+    Ok(())
+}
