@@ -73,7 +73,7 @@ section_short kind = go (kind == 3)
 few : (n a b m k : ℕ) → n ≡ a + b → a ≡ m → b ≡ k → m ≤ 12 → k ≤ 12 → 4 + n < 2 ^ 16
 few n a b m k h p q r s = omega (arith, h, p, q, r, s)
 
-command_short : (h : CHead) (s : CSection) → 4 + length (command_of h s) < 2 ^ 16
+pub command_short : (h : CHead) (s : CSection) → 4 + length (command_of h s) < 2 ^ 16
 command_short h s =
     few (length (command_of h s)) (length (in_bytes (head_fields h))) (length (in_bytes (section_fields (kind_of h.body) s))) (size_of_head (kind_of h.body)) (size_of_section (kind_of h.body))
     (length-append (in_bytes (head_fields h)) (in_bytes (section_fields (kind_of h.body) s)))

@@ -1,0 +1,5 @@
+pub mod LineLemmas
+pub mod TimeLemmas
+pub mod CopyLemmas
+pub mod LandingLemmas
+pub mod ShortLemmas

@@ -1,0 +1,4 @@
+pub mod Sending
+pub mod Landing
+pub mod Undisturbed
+pub mod Laws

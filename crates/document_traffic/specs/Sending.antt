@@ -1,0 +1,73 @@
+-- What the distributed unit sends for a document, and how long the copies of each frame are on their way (this project's profile).
+use Rattle.std.specs.Prelude.{ℕ, ℤ, ◌+◌, List, [], ◌∷◌}
+use Rattle.air_source.specs.declared.events.Side.TheVariants.{Ru}
+use Rattle.fh_document.specs.declared.delivered.Class3.{Class3}
+use Rattle.fh_document.specs.declared.delivered.Class3.TheVariants.{C, U, M}
+use Rattle.fh_document.specs.declared.document.Document.{Document}
+use Rattle.frame_deliveries.specs.Copies.{copies_of}
+use Rattle.plan_model.specs.Lines.{planned}
+use Rattle.plan_model.specs.Sent.{SentFrame, sent}
+use Rattle.plan_model.specs.declared.lines.PlannedLine.{PlannedLine}
+use Rattle.plan_model.specs.declared.streams.Stream.{Stream}
+use Rattle.plan_model.specs.declared.streams.Stream.TheVariants.{DownCommands, UpCommands, DownData, UpData}
+use Rattle.sent_frames.specs.Messages.{Source}
+use Rattle.sent_frames.specs.Sources.{source_of}
+use Rattle.tone_source.specs.Tones.{tone_of}
+
+-- the lines of a document's plan, at their endpoints
+abbrev pub lines_of : Document → List PlannedLine
+lines_of d = planned d.config.endpoints d.plan
+
+-- all frames that are sent for them, in their order
+abbrev pub sent_for : Document → List SentFrame
+sent_for d = sent d.config (lines_of d)
+
+-- the samples of each cell: the tone of the document's `source`
+abbrev pub source_for : Document → Source
+source_for d = source_of d.config.endpoints (tone_of d.source)
+
+-- ---- the number of a frame among those of its class, from 1: commands of both directions count together
+
+pub record SentCounts : Type 0 where
+  pub c_plane : ℕ
+  pub u_plane : ℕ
+
+abbrev pub none_sent : SentCounts
+none_sent = record { c_plane = 0; u_plane = 0 }
+
+abbrev pub class_of : Stream → Class3
+class_of DownCommands = C
+class_of UpCommands = C
+class_of DownData = U
+class_of UpData = U
+
+-- the counts with one frame of the class more
+abbrev pub counted : Class3 → SentCounts → SentCounts
+counted C n = record { c_plane = n.c_plane + 1; u_plane = n.u_plane }
+counted U n = record { c_plane = n.c_plane; u_plane = n.u_plane + 1 }
+counted M n = n
+
+abbrev pub count_of : Class3 → SentCounts → ℕ
+count_of C n = n.c_plane
+count_of U n = n.u_plane
+count_of M n = 0
+
+-- ---- copies
+
+-- a frame and how many nanoseconds each of its copies is on its way; it is lost where there is none
+pub record Delayed : Type 0 where
+  pub frame : SentFrame
+  pub delays : List ℤ
+
+-- a frame, where so many of each class were sent with it or before it
+abbrev pub delayed : Document → SentCounts → SentFrame → Delayed
+delayed d n f = record { frame = f; delays = copies_of d Ru (class_of f.stream) (count_of (class_of f.stream) n) }
+
+-- these frames, where so many were sent before them
+unfoldable pub delayed_behind : Document → SentCounts → List SentFrame → List Delayed
+delayed_behind d n [] = []
+delayed_behind d n (f ∷ fs) = delayed d (counted (class_of f.stream) n) f ∷ delayed_behind d (counted (class_of f.stream) n) fs
+
+-- all frames that are sent for a document
+abbrev pub all_delayed : Document → List Delayed
+all_delayed d = delayed_behind d none_sent (sent_for d)
