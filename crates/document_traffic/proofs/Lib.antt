@@ -1,4 +1,5 @@
 pub mod LineLemmas
+pub mod OrderLemmas
 pub mod TimeLemmas
 pub mod CopyLemmas
 pub mod LandingLemmas
