@@ -4,3 +4,6 @@ pub mod TimeLemmas
 pub mod CopyLemmas
 pub mod LandingLemmas
 pub mod ShortLemmas
+pub mod ToneLemmas
+pub mod ArrivalLemmas
+pub mod RadiatedLemmas
