@@ -1,4 +1,7 @@
 pub mod DocumentLemmas
+pub mod OrderLemmas
+pub mod MeasureLemmas
+pub mod SendLemmas
 pub mod TurnLemmas
 pub mod StopLemmas
 pub mod LandLemmas

@@ -4,7 +4,7 @@ use Rattle.std.specs.Prelude.{All, map, slice_get, if◌then◌else◌}
 use Rattle.std.specs.List.{AllByRecursion}
 use Rattle.std.specs.Ordering.{int_eq}
 use Rattle.std.proofs.lemmas.List.{length-map, map-append}
-use Rattle.std.proofs.lemmas.List.Elements.{All-cons, All-head, All-nil, All-tail}
+use Rattle.std.proofs.lemmas.List.Elements.{All-cons, All-head, All-tail}
 use Rattle.std.proofs.lemmas.Option.{get_or_from_slice_get, slice_get_cases, slice_get_within}
 use Rattle.fh_document.specs.Proper.{IsDocument, IsInjection}
 use Rattle.fh_document.specs.declared.document.Document.{Document}
@@ -16,9 +16,9 @@ use Rattle.replay_events.specs.Moments.{landing_at}
 use Rattle.unit_model.specs.Meetings.{Arrival}
 use Rattle.unit_model.specs.Radiated.{first_clock}
 use Rattle.window_config.specs.declared.endpoints.EndpointConfig.{EndpointConfig}
-use Rattle.fronthaul_replay.specs.Replaying.{landing_of, landings_of}
-use Rattle.fronthaul_replay.specs.Coming.{AreFrom, AreListed, ArePlaced, Waits, arrival_at, arrival_of, frame_at, frame_of, left_at, time_of}
-use Rattle.fronthaul_replay.proofs.DocumentLemmas.{landing_time}
+use Rattle.document_traffic.specs.Landing.{injected_at, injected_for}
+use Rattle.fronthaul_replay.specs.Coming.{AreFrom, AreListed, ArePlaced, IsListed, arrival_at, arrival_of, frame_at, frame_of, left_at, time_of}
+use Rattle.fronthaul_replay.proofs.DocumentLemmas.{is_begun}
 
 -- ---- their times
 
@@ -68,15 +68,15 @@ kept whole true l a ls xs here rest = ap₂ (λ x ys. x ∷ ys) here rest
 kept whole false l a ls xs here rest = rest
 
 left_from : (whole : List Injection) (tick : ℤ) (k : ℕ) (is : List Injection) → ((j : ℕ) (i : Injection) → slice_get is j ≡ Some i → slice_get whole (k + j) ≡ Some i)
-    → arrivals_from whole (at_time tick (enumerated_from k (map time_of is))) ≡ landing_at (map landing_of is) tick
+    → arrivals_from whole (at_time tick (enumerated_from k (map time_of is))) ≡ landing_at (map injected_at is) tick
 left_from whole tick k [] at = refl
 left_from whole tick k (i ∷ is) at =
     let here : slice_get whole k ≡ Some i = subst (λ n. slice_get whole n ≡ Some i) {x = k + 0} {y = k} (omega arith) (at 0 i refl) in
-    kept whole (int_eq (i.at *ℤ pos 1536) tick) (place_of (time_of i) k) (landing_of i) (at_time tick (enumerated_from (suc k) (map time_of is))) (landing_at (map landing_of is) tick)
+    kept whole (int_eq (i.at *ℤ pos 1536) tick) (place_of (time_of i) k) (injected_at i) (at_time tick (enumerated_from (suc k) (map time_of is))) (landing_at (map injected_at is) tick)
     (ap (λ o. arrival_at (i.at *ℤ pos 1536) (frame_of o)) here)
     (left_from whole tick (suc k) is (λ j x e. subst (λ n. slice_get whole n ≡ Some x) {x = k + suc j} {y = suc k + j} (omega arith) (at (suc j) x e)))
 
-left_all : (d : Document) (tick : ℤ) → left_at d tick (enumerated (map time_of d.injections)) ≡ landing_at (landings_of d) tick
+left_all : (d : Document) (tick : ℤ) → left_at d tick (enumerated (map time_of d.injections)) ≡ landing_at (injected_for d) tick
 left_all d tick = left_from d.injections tick 0 d.injections (λ j i e. subst (λ n. slice_get d.injections n ≡ Some i) {x = j} {y = 0 + j} (omega arith) e)
 
 -- ---- none is before the first tick
@@ -84,7 +84,7 @@ left_all d tick = left_from d.injections tick 0 d.injections (λ j i e. subst (�
 times_from : (es : List EndpointConfig) (is : List Injection) → All (IsInjection es) is → All (λ t. first_clock ≤ℤ t.0) (map time_of is)
 times_from es [] h = λ k d lt. absurd (omega arith)
 times_from es (i ∷ is) h =
-    All-cons (λ (t : Ticks). first_clock ≤ℤ t.0) (time_of i) (map time_of is) (landing_time i (All-head (IsInjection es) i is h).time).begun
+    All-cons (λ (t : Ticks). first_clock ≤ℤ t.0) (time_of i) (map time_of is) (is_begun i (All-head (IsInjection es) i is h).time)
     (times_from es is (All-tail (IsInjection es) i is h))
 
 placed_from : (times : List Ticks) (l : Landing) → All (λ t. first_clock ≤ℤ t.0) times → IsPlaced times l → first_clock ≤ℤ l.at.0
@@ -129,19 +129,19 @@ placed_in_order t k [] = tt
 placed_in_order t k (x ∷ ts) =
     one_more (int_eq x.0 t) x k (at_time t (enumerated_from (suc k) ts)) (enumerated_not_before t (suc k) ts) (placed_in_order t (suc k) ts)
 
--- ---- at the start all wait, and none is in flight
+-- ---- at the start all wait
 
-pub all_wait : (d : Document) (times : List Ticks) (q : List Landing) → IsDocument d → times ≡ map time_of d.injections
-    → ((t : ℤ) → at_time t q ≡ at_time t (enumerated times)) → All (IsPlaced times) q → Waits d first_clock (record { listed = q; in_flight = [] })
-all_wait d times q doc are same placed = record {
-  left = λ tick low. ap (map (arrival_of d)) (same tick) ∙ ap (λ ts. left_at d tick (enumerated ts)) are ∙ left_all d tick;
+pub all_listed_wait : (d : Document) (times : List Ticks) (q : List Landing) → IsDocument d → times ≡ map time_of d.injections
+    → ((t : ℤ) → at_time t q ≡ at_time t (enumerated times)) → All (IsPlaced times) q → IsListed d first_clock q
+all_listed_wait d times q doc are same placed = record {
   from = all_from times q (subst (All (λ (t : Ticks). first_clock ≤ℤ t.0)) (sym are) (times_from d.config.endpoints d.injections doc.injections)) placed;
   listed = all_listed d times q (ap length are ∙ length-map d.injections time_of) placed;
   placed = λ t. subst ArePlaced (sym (same t)) (placed_in_order t 0 times);
-  flying = All-nil _;
-  order = tt;
-  sent = All-nil _;
 }
+
+pub left_listed : (d : Document) (times : List Ticks) (q : List Landing) → times ≡ map time_of d.injections → ((t : ℤ) → at_time t q ≡ at_time t (enumerated times))
+    → (tick : ℤ) → left_at d tick q ≡ landing_at (injected_for d) tick
+left_listed d times q are same tick = ap (map (arrival_of d)) (same tick) ∙ ap (λ ts. left_at d tick (enumerated ts)) are ∙ left_all d tick
 
 -- ---- a frame of a document is short
 

@@ -1,14 +1,19 @@
 -- The next moment, and the time before it.
 use Rattle.std.proofs.Common.{◌≡◌, ℤ, pos, ◌+ℤ◌, ◌-ℤ◌, ◌≤ℤ◌, ◌<ℤ◌, Bool, true, false, ◌<◌, List, [], ◌∷◌, ◌++◌, Option, Some, None, refl, sym, ap₂, ◌∙◌, subst, arith}
-use Rattle.std.specs.Prelude.{int_le, int_lt, if◌then◌else◌, IfSome}
+use Rattle.std.specs.Prelude.{int_le, int_lt, if◌then◌else◌, IfSome, map}
 use Rattle.std.proofs.lemmas.Int.{ints, by_lt_z}
-use Rattle.std.proofs.lemmas.List.Elements.{All-head, All-nil}
+use Rattle.std.proofs.lemmas.List.Elements.{All-cons, All-head, All-nil}
 use Rattle.std.specs.Int.{int_gap}
 use Rattle.air_source.specs.declared.events.Event.{Event}
-use Rattle.fh_document.specs.Proper.{IsDocument}
 use Rattle.fh_document.specs.declared.document.Document.{Document}
 use Rattle.fh_time.specs.declared.values.Ticks.{Ticks}
+use Rattle.du_scheduler.specs.Plans.{HasToSend, IsPlan}
+use Rattle.du_scheduler.specs.declared.plans.Plan.{Plan}
+use Rattle.frame_order.specs.Queues.{first_time as first_turn}
 use Rattle.frame_network.specs.declared.arrivals.Arrival.{Arrival as Flying}
+use Rattle.plan_model.specs.Sent.{SentFrame}
+use Rattle.sent_order.specs.Runs.{turn_of}
+use Rattle.window_config.specs.declared.plan.PlanLine.{PlanLine}
 use Rattle.frame_network.specs.Network.{first_time as first_flying}
 use Rattle.frame_network.specs.declared.landings.Landing.{Landing}
 use Rattle.frame_network.specs.Queues.{AreRising, first_time}
@@ -25,11 +30,13 @@ use Rattle.unit_model.specs.Radiated.{first_clock}
 use Rattle.unit_model.specs.Standing.{History}
 use Rattle.window_config.specs.declared.config.Config.{Config}
 use Rattle.fronthaul_replay.specs.declared.coming.Coming.{Coming}
-use Rattle.fronthaul_replay.specs.Coming.{AreFlyingFrom, AreFrom, IsCalmTo, Waits}
-use Rattle.fronthaul_replay.specs.Replaying.{landings_of, traffic_of}
+use Rattle.fronthaul_replay.specs.Coming.{AreFlyingFrom, AreFrom, AreSentFrom, IsCalmTo, SendsNoneTo, Waits}
+use Rattle.fronthaul_replay.specs.Replaying.{IsReplayable, landings_of, traffic_of}
 use Rattle.fronthaul_replay.specs.Turns.{AtTurn, IsMoment, IsNext, IsStill, events_before, within_end}
 use Rattle.fronthaul_replay.proofs.ComingLemmas.{from_less, left_none}
 use Rattle.fronthaul_replay.proofs.LandLemmas.{flying_none}
+use Rattle.fronthaul_replay.proofs.OrderLemmas.{first_is_least, from_any, sent_less}
+use Rattle.fronthaul_replay.proofs.SendLemmas.{all_sent}
 use Rattle.fronthaul_replay.proofs.TurnLemmas.{next, quiet_less, skip}
 
 -- ---- the least of two times
@@ -63,6 +70,9 @@ earlier_of_both P Q (Some s) (Some t) p q = earlier_is P Q s t (int_lt t.0 s.0) 
 not_past : (a : ℤ) → (a +ℤ pos 1) ≤ℤ a → ⊥
 not_past a h = omega (arith, ints)
 
+pub some_same : {X : Type 0} {x y : X} → Some x ≡ Some y → x ≡ y
+some_same e = cc e
+
 pub first_waits : (q : List Landing) → AreRising q → IsLeastOf (λ to. AreFrom (to +ℤ pos 1) q) (first_time q)
 first_waits [] up = λ to. tt
 first_waits (l ∷ q) up = record {
@@ -79,6 +89,32 @@ first_flies (a ∷ fs) h = record {
   before = λ to lt. flying_less (to +ℤ pos 1) a.at.0 (a ∷ fs) (next_after to a.at.0 lt) h;
   at = λ from. not_past a.at.0 (All-head (λ (x : Flying). (a.at.0 +ℤ pos 1) ≤ℤ x.at.0) a fs from);
 }
+
+-- of the frames that a plan has still to send the first one is sent first
+pub first_sends : (p : Plan) (o : Option Ticks) → IsPlan p → ((c : Config) (lines : List PlanLine) (left : List SentFrame) → HasToSend c lines left p → o ≡ first_turn (map turn_of left))
+    → IsLeastOf (SendsNoneTo p) o
+first_sends p None plan is = λ to c lines left h. none to left (is c lines left h)
+  where
+    none : (to : ℤ) (left : List SentFrame) → None ≡ first_turn (map turn_of left) → AreSentFrom (to +ℤ pos 1) left
+    none to [] e = All-nil _
+    none to (f ∷ left) e = absurd (cc e)
+first_sends p (Some t) plan is = record {
+  before = λ to lt c lines left h. later to c lines left h lt (is c lines left h);
+  at = λ sends. here plan.left (is plan.config plan.lines plan.left plan.is) (sends plan.config plan.lines plan.left plan.is);
+}
+  where
+    later : (to : ℤ) (c : Config) (lines : List PlanLine) (left : List SentFrame) → HasToSend c lines left p → to <ℤ t.0 → Some t ≡ first_turn (map turn_of left)
+        → AreSentFrom (to +ℤ pos 1) left
+    later to c lines [] h lt e = All-nil _
+    later to c lines (f ∷ left) h lt e =
+        let same : t ≡ record { 0 = f.at } = some_same e in
+        let order = next_after to f.at (subst (λ (x : Ticks). to <ℤ x.0) same lt) in
+        All-cons (λ (g : SentFrame). (to +ℤ pos 1) ≤ℤ g.at) f left order (sent_less (to +ℤ pos 1) f.at left order (first_is_least c lines p f left h))
+
+    here : (left : List SentFrame) → Some t ≡ first_turn (map turn_of left) → AreSentFrom (t.0 +ℤ pos 1) left → ⊥
+    here [] e from = absurd (cc e)
+    here (f ∷ left) e from =
+        not_past t.0 (subst (λ (x : Ticks). (t.0 +ℤ pos 1) ≤ℤ x.0) (sym (some_same e)) (All-head (λ (g : SentFrame). (t.0 +ℤ pos 1) ≤ℤ g.at) f left from))
 
 -- ---- the next moment
 
@@ -119,15 +155,18 @@ before_here : (a : ℤ) → (a -ℤ pos 1) <ℤ a
 before_here a = omega (arith, ints)
 
 -- before a tick all is still
-still_before : (d : Document) (now to : ℤ) (u : Ru) (w : Coming) → (a : AtTurn d now u) → Waits d now w → to <ℤ now → IsStill d.config a.history w to
+still_before : (d : Document) (now to : ℤ) (u : Ru) (w : Coming) → (a : AtTurn d now u) → Waits d now now w → to <ℤ now → IsStill d.config a.history w to
 still_before d now to u w a waits early =
     let order = next_after to now early in
     record {
       quiet = quiet_less d.config u a.history to (now -ℤ pos 1) a.stands (last_before to now early) a.turn.quiet;
-      calm = (from_less (to +ℤ pos 1) now w.listed order waits.from, flying_less (to +ℤ pos 1) now w.in_flight order waits.flying);
+      calm = (
+        (λ e lines left h. from_any (to +ℤ pos 1) w.sending.plan d.config e d.plan lines waits.left left waits.sending.plan h (sent_less (to +ℤ pos 1) now waits.left order waits.later)),
+        (from_less (to +ℤ pos 1) now w.listed order waits.list.from, flying_less (to +ℤ pos 1) now w.in_flight order waits.flying),
+      );
     }
 
-pub not_before : (d : Document) (now : ℤ) (u : Ru) (w : Coming) (tick : ℤ) → (a : AtTurn d now u) → Waits d now w → IsMoment d.config a.history w tick → now ≤ℤ tick
+pub not_before : (d : Document) (now : ℤ) (u : Ru) (w : Coming) (tick : ℤ) → (a : AtTurn d now u) → Waits d now now w → IsMoment d.config a.history w tick → now ≤ℤ tick
 not_before d now u w tick a waits m = by_lt_z tick now (λ early. absurd (m.at (still_before d now tick u w a waits early))) (λ late. late)
 
 -- ---- the time before it
@@ -139,38 +178,46 @@ IsIdle c h w tick = (to : ℤ) → to <ℤ tick → IsStill c h w to
 pub to_end : (c : Config) (h : History) (w : Coming) → IsNext c h w None → IsIdle c h w (end_of_time +ℤ pos 1)
 to_end c h w still = λ to lt. still to (before_next to end_of_time lt)
 
-calm_until : (d : Document) (now tick : ℤ) (h : History) (w : Coming) → Waits d now w → IsIdle d.config h w tick → IsCalm (landings_of d) now tick
-calm_until d now tick h w waits idle t low high =
+calm_until : (d : Document) (now tick : ℤ) (h : History) (w : Coming) → IsReplayable d → Waits d now now w → IsIdle d.config h w tick → IsCalm (landings_of d) now tick
+calm_until d now tick h w doc waits idle t low high =
     let calm = (idle t high).calm in
-    sym (waits.left t low) ∙ ap₂ (λ (xs ys : List Arrival). xs ++ ys) (flying_none t w.in_flight calm.1) (left_none d t w.listed calm.0)
+    sym (waits.lands t low) ∙ all_sent d t waits.counts waits.left w doc.document (calm.0 d.config d.plan waits.left waits.sending.plan)
+    ∙ ap₂ (λ (xs ys : List Arrival). xs ++ ys) (flying_none t w.in_flight calm.1.1) (left_none d t w.listed calm.1.0)
 
-pub to_idle : (d : Document) (now tick : ℤ) (u : Ru) (w : Coming) → IsDocument d → (a : AtTurn d now u) → Waits d now w → IsIdle d.config a.history w tick
+pub to_idle : (d : Document) (now tick : ℤ) (u : Ru) (w : Coming) → IsReplayable d → (a : AtTurn d now u) → Waits d now now w → IsIdle d.config a.history w tick
     → now ≤ℤ tick → tick ≤ℤ (end_of_time +ℤ pos 1) → AtTurn d tick u
 to_idle d now tick u w doc a waits idle order ended = record {
   history = a.history;
   stands = a.stands;
-  turn = skip d now tick a.history doc a.turn order ended (calm_until d now tick a.history w waits idle) (idle (tick -ℤ pos 1) (before_here tick)).quiet;
+  turn = skip d now tick a.history doc a.turn order ended (calm_until d now tick a.history w doc waits idle) (idle (tick -ℤ pos 1) (before_here tick)).quiet;
   clock = at_most u.clock.0 now tick a.clock order;
 }
 
-pub waits_idle : (d : Document) (now tick : ℤ) (h : History) (w : Coming) → Waits d now w → now ≤ℤ tick → IsIdle d.config h w tick → Waits d tick w
+pub waits_idle : (d : Document) (now tick : ℤ) (h : History) (w : Coming) → Waits d now now w → now ≤ℤ tick → IsIdle d.config h w tick → Waits d tick tick w
 waits_idle d now tick h w waits order idle =
     let calm = (idle (tick -ℤ pos 1) (before_here tick)).calm in
+    let here = last_reached tick tick (same_most tick) in
     record {
-      left = λ t low. waits.left t (at_most now tick t order low);
-      from = from_less tick ((tick -ℤ pos 1) +ℤ pos 1) w.listed (last_reached tick tick (same_most tick)) calm.0;
-      listed = waits.listed;
-      placed = waits.placed;
-      flying = flying_less tick ((tick -ℤ pos 1) +ℤ pos 1) w.in_flight (last_reached tick tick (same_most tick)) calm.1;
+      counts = waits.counts;
+      left = waits.left;
+      sending = waits.sending;
+      later = sent_less tick ((tick -ℤ pos 1) +ℤ pos 1) waits.left here (calm.0 d.config d.plan waits.left waits.sending.plan);
+      lands = λ t low. waits.lands t (at_most now tick t order low);
+      list = record {
+        from = from_less tick ((tick -ℤ pos 1) +ℤ pos 1) w.listed here calm.1.0;
+        listed = waits.list.listed;
+        placed = waits.list.placed;
+      };
+      flying = flying_less tick ((tick -ℤ pos 1) +ℤ pos 1) w.in_flight here calm.1.1;
       order = waits.order;
       sent = waits.sent;
     }
 
-pub events_idle : (d : Document) (now tick : ℤ) (u : Ru) (w : Coming) → IsDocument d → (a : AtTurn d now u) → Waits d now w → IsIdle d.config a.history w tick
+pub events_idle : (d : Document) (now tick : ℤ) (u : Ru) (w : Coming) → IsReplayable d → (a : AtTurn d now u) → Waits d now now w → IsIdle d.config a.history w tick
     → now ≤ℤ tick → tick ≤ℤ (end_of_time +ℤ pos 1) → events_before d tick ≡ events_before d now
 events_idle d now tick u w doc a waits idle order ended =
     events_wait d.config (traffic_of d) now tick
-    (next d now tick a.history doc a.turn order ended (calm_until d now tick a.history w waits idle) (idle (tick -ℤ pos 1) (before_here tick)).quiet.cells)
+    (next d now tick a.history doc a.turn order ended (calm_until d now tick a.history w doc waits idle) (idle (tick -ℤ pos 1) (before_here tick)).quiet.cells)
 
 pub heard_next : {A : Type 0} (grew : A → List Event → A → Type 0)
     (more : (a b c : A) (first second : List Event) → grew a first b → grew b second c → grew a (first ++ second) c)

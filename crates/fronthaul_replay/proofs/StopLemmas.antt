@@ -1,14 +1,14 @@
 -- Where an air stopped, and what the unit stands for then.
-use Rattle.std.proofs.Common.{◌≡◌, ℤ, pos, ◌+ℤ◌, ◌≤ℤ◌, List, [], ◌∷◌, ◌++◌, inl, inr, refl, sym, ap, ap₂, ◌∙◌, append_assoc, append-nil, subst, arith}
+use Rattle.std.proofs.Common.{◌≡◌, ℤ, pos, ◌+ℤ◌, ◌≤ℤ◌, List, [], ◌∷◌, ◌++◌, ◌⊎◌, inl, inr, refl, sym, ap, ap₂, ◌∙◌, append_assoc, append-nil, subst, arith}
 use Rattle.std.specs.Prelude.{map}
 use Rattle.std.proofs.lemmas.Int.{ints}
 use Rattle.std.proofs.lemmas.List.{map-append}
 use Rattle.std.proofs.lemmas.List.Elements.{All-nil, All-cons, All-head, All-tail}
+use Rattle.air_source.specs.Stops.{GrewSome, StopsIn}
 use Rattle.air_source.specs.declared.events.AirCell.{AirCell}
 use Rattle.air_source.specs.declared.events.Event.{Event}
 use Rattle.air_source.specs.declared.events.Event.TheVariants.{Cell}
 use Rattle.air_source.specs.declared.events.Side.TheVariants.{Ru as AtRu}
-use Rattle.fh_document.specs.Proper.{IsDocument}
 use Rattle.fh_document.specs.declared.document.Document.{Document}
 use Rattle.replay_events.specs.Events.{arrival_event, cells_at, events, events_at, events_between, count_events}
 use Rattle.replay_events.specs.Moments.{end_of_time, landing_at}
@@ -22,7 +22,7 @@ use Rattle.unit_model.specs.Radiated.{first_clock}
 use Rattle.unit_model.specs.Reports.{ru_known}
 use Rattle.unit_model.specs.Standing.{History, at_clock, heard, nothing_yet}
 use Rattle.fronthaul_replay.specs.Delivering.{StopsLanding}
-use Rattle.fronthaul_replay.specs.Replaying.{HaltsInStep, RestsInStep, StopsInStep, events_of, landings_of, traffic_of}
+use Rattle.fronthaul_replay.specs.Replaying.{HaltsInStep, IsReplayable, RestsInStep, StopsInStep, events_of, landings_of, traffic_of}
 use Rattle.fronthaul_replay.specs.Turns.{HaltsBehind, IsTurn, RestsBehind, StopsBehind, events_before}
 use Rattle.replay_events.specs.Heard.{arrivals_heard}
 use Rattle.replay_events.proofs.HeardLemmas.{AreOf, arrivals-append, arrivals-cells, arrivals-none, cells-append, cells-none, cells-own, due_of_side}
@@ -45,7 +45,7 @@ front_own (x ∷ xs) ys h =
     let P = λ (a : AirCell). a.side ≡ AtRu in All-cons P x xs (All-head P x (xs ++ ys) h) (front_own xs ys (All-tail P x (xs ++ ys) h))
 
 pub stops_due : {A : Type 0} (grew : A → List Event → A → Type 0) (stopped : A → Event → A → Type 0) (d : Document) (tick : ℤ) (h : History) (u : Ru) (a b : A)
-    → IsDocument d → IsTurn d tick h → tick ≤ℤ end_of_time → StopsAtDue grew stopped d.config h tick u a b
+    → IsReplayable d → IsTurn d tick h → tick ≤ℤ end_of_time → StopsAtDue grew stopped d.config h tick u a b
     → StopsBehind grew stopped d (events_before d tick) (events_at d.config (traffic_of d) tick) u a b
 stops_due grew stopped d tick h u a b doc turn ended s =
     let c = d.config in
@@ -79,7 +79,7 @@ arrivals_about front before now x rest is =
 pub stops_landing : {A : Type 0} (grew : A → List Event → A → Type 0) (stopped : A → Event → A → Type 0)
     (more : (a b c : A) (first second : List Event) → grew a first b → grew b second c → grew a (first ++ second) c)
     (d : Document) (tick : ℤ) (h : History) (xs : List Arrival) (u : Ru) (a b e : A)
-    → IsDocument d → IsTurn d tick h → tick ≤ℤ end_of_time → xs ≡ landing_at (landings_of d) tick
+    → IsReplayable d → IsTurn d tick h → tick ≤ℤ end_of_time → xs ≡ landing_at (landings_of d) tick
     → grew a (map Cell (due_of d.config h tick)) b
     → StopsLanding grew stopped d.config (at_clock (heard h (due_of d.config h tick)) tick) xs u b e
     → StopsBehind grew stopped d (events_before d tick) (events_at d.config (traffic_of d) tick) u a e
@@ -108,7 +108,7 @@ stops_landing grew stopped more d tick h xs u a b e doc turn ended lands first s
 
 -- memory ran out before the arrivals
 pub rests_due : {A : Type 0} (grew : A → List Event → A → Type 0) (d : Document) (tick : ℤ) (h : History) (u : Ru) (a b : A)
-    → IsDocument d → IsTurn d tick h → tick ≤ℤ end_of_time → grew a (map Cell (due_of d.config h tick)) b → StandsFor d.config u (at_clock (heard h (due_of d.config h tick)) tick)
+    → IsReplayable d → IsTurn d tick h → tick ≤ℤ end_of_time → grew a (map Cell (due_of d.config h tick)) b → StandsFor d.config u (at_clock (heard h (due_of d.config h tick)) tick)
     → RestsBehind grew d (events_before d tick) (events_at d.config (traffic_of d) tick) u a b
 rests_due grew d tick h u a b doc turn ended first stands =
     let cells = due_of d.config h tick in
@@ -242,3 +242,9 @@ none_heard grew d u a none stands = record {
   heard = none;
   step = record { history = nothing_yet; stands = stands; arrivals = sym (arrivals-none AtRu []); reported = sym (cells-none AtRu) };
 }
+
+-- how far the air heard the events
+pub halts_cut : {A : Type 0} (grew : A → List Event → A → Type 0) (stopped : A → Event → A → Type 0) (d : Document) (u : Ru) (a e : A)
+    → HaltsInStep grew stopped d u a e → GrewSome grew (events_of d) a e ⊎ StopsIn grew stopped (events_of d) a e
+halts_cut grew stopped d u a e (inl s) = inr (record { before = s.told; event = s.event; after = s.rest; is = s.is; middle = s.middle; heard = s.heard; stop = s.stop })
+halts_cut grew stopped d u a e (inr s) = inl (record { before = s.told; after = s.rest; is = s.is; heard = s.heard })

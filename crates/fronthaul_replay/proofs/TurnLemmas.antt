@@ -7,7 +7,6 @@ use Rattle.air_source.specs.declared.events.Event.{Event}
 use Rattle.air_source.specs.declared.events.Event.TheVariants.{Cell}
 use Rattle.air_source.specs.declared.events.Side.{Side}
 use Rattle.air_source.specs.declared.events.Side.TheVariants.{Ru as AtRu, Du as AtDu}
-use Rattle.fh_document.specs.Proper.{IsDocument}
 use Rattle.fh_document.specs.declared.document.Document.{Document}
 use Rattle.replay_events.specs.Events.{arrival_event, cells_at, events_at}
 use Rattle.replay_events.specs.Moments.{all_arrivals, arrivals_before, end_of_time, landing_at}
@@ -35,7 +34,7 @@ use Rattle.window_config.specs.declared.endpoints.EndpointConfig.{EndpointConfig
 use Rattle.replay_events.specs.Alone.{IsDuIdle}
 use Rattle.replay_events.specs.Heard.{arrivals_heard, cells_heard}
 use Rattle.replay_events.proofs.AloneLemmas.{events_alone, idle_without_plan, told_each}
-use Rattle.fronthaul_replay.specs.Replaying.{landings_of, traffic_of}
+use Rattle.fronthaul_replay.specs.Replaying.{IsReplayable, landings_of, traffic_of}
 use Rattle.fronthaul_replay.specs.Turns.{IsTurn, events_before}
 use Rattle.fronthaul_replay.proofs.DocumentLemmas.{are_landings}
 use Rattle.replay_events.proofs.HeardLemmas.{AreOf, arrivals-append, arrivals-cells, arrivals-none, arrivals-own, cells-append, cells-arrivals, cells-none, cells-own, tick_of_side}
@@ -72,7 +71,7 @@ due_same d now h turn to =
 pub idle_at_du : (d : Document) → IsDuIdle d.config (traffic_of d)
 idle_at_du d = idle_without_plan d.config (traffic_of d) refl refl
 
-each_unit : (d : Document) (now tick : ℤ) (h : History) → IsDocument d → IsTurn d now h → IsCalm (landings_of d) now tick → due_of d.config h (tick -ℤ pos 1) ≡ []
+each_unit : (d : Document) (now tick : ℤ) (h : History) → IsReplayable d → IsTurn d now h → IsCalm (landings_of d) now tick → due_of d.config h (tick -ℤ pos 1) ≡ []
     → (side : Side) → IsUnitMoment side d.config (traffic_of d) now tick
 each_unit d now tick h doc turn calm quiet AtRu =
     record { landings_are = are_landings d doc; calm = calm; quiet = due_same d now h turn (tick -ℤ pos 1) ∙ quiet }
@@ -80,10 +79,10 @@ each_unit d now tick h doc turn calm quiet AtDu =
     let idle = idle_at_du d in
     record { landings_are = idle.landings_are; calm = λ t low high. idle.calm t; quiet = idle.quiet (arrivals_before [] now) _ (tick -ℤ pos 1) }
 
-pub next : (d : Document) (now tick : ℤ) (h : History) → IsDocument d → IsTurn d now h → now ≤ℤ tick → tick ≤ℤ (end_of_time +ℤ pos 1)
+pub next : (d : Document) (now tick : ℤ) (h : History) → IsReplayable d → IsTurn d now h → now ≤ℤ tick → tick ≤ℤ (end_of_time +ℤ pos 1)
     → IsCalm (landings_of d) now tick → due_of d.config h (tick -ℤ pos 1) ≡ [] → IsNextMoment d.config (traffic_of d) now tick
 next d now tick h doc turn order ended calm quiet = record {
-  config = doc.config;
+  config = doc.document.config;
   begun = turn.begun;
   order = order;
   ended = ended;
@@ -91,7 +90,7 @@ next d now tick h doc turn order ended calm quiet = record {
 }
 
 -- what stands at the start of a tick stands at the start of the next moment
-pub skip : (d : Document) (now tick : ℤ) (h : History) → IsDocument d → IsTurn d now h → now ≤ℤ tick → tick ≤ℤ (end_of_time +ℤ pos 1)
+pub skip : (d : Document) (now tick : ℤ) (h : History) → IsReplayable d → IsTurn d now h → now ≤ℤ tick → tick ≤ℤ (end_of_time +ℤ pos 1)
     → IsCalm (landings_of d) now tick → IsQuietTo d.config h (tick -ℤ pos 1) → IsTurn d tick h
 skip d now tick h doc turn order ended calm quiet =
     let c = d.config in
@@ -108,10 +107,10 @@ skip d now tick h doc turn order ended calm quiet =
     }
 
 -- the moment itself
-pub here : (d : Document) (tick : ℤ) (h : History) → IsDocument d → IsTurn d tick h → IsNextMoment d.config (traffic_of d) tick tick
+pub here : (d : Document) (tick : ℤ) (h : History) → IsReplayable d → IsTurn d tick h → IsNextMoment d.config (traffic_of d) tick tick
 here d tick h doc turn = next d tick tick h doc turn (same_most tick) turn.ended (λ t low high. absurd (omega (arith, ints))) turn.quiet.cells
 
-pub due_here : (d : Document) (tick : ℤ) (h : History) → IsDocument d → IsTurn d tick h → tick ≤ℤ end_of_time → due_of d.config h tick ≡ cells_at AtRu d.config (traffic_of d) tick
+pub due_here : (d : Document) (tick : ℤ) (h : History) → IsReplayable d → IsTurn d tick h → tick ≤ℤ end_of_time → due_of d.config h tick ≡ cells_at AtRu d.config (traffic_of d) tick
 due_here d tick h doc turn ended = sym (due_same d tick h turn tick) ∙ due_at_moment AtRu d.config (traffic_of d) tick tick (here d tick h doc turn) ended
 
 -- ---- its events
@@ -156,7 +155,7 @@ cells_then d tick h cs xs own turn =
     ∙ sym (cells-append AtRu (events_before d tick) (map Cell cs ++ map (arrival_event AtRu) xs))
 
 -- over the moment
-pub after : (d : Document) (tick : ℤ) (h k : History) → IsDocument d → IsTurn d tick h → tick ≤ℤ end_of_time
+pub after : (d : Document) (tick : ℤ) (h k : History) → IsReplayable d → IsTurn d tick h → tick ≤ℤ end_of_time
     → k.arrivals ≡ onto h.arrivals (landing_at (landings_of d) tick) → k.reported ≡ h.reported ++ cells_at AtRu d.config (traffic_of d) tick
     → IsQuietTo d.config k tick → IsTurn d (tick +ℤ pos 1) k
 after d tick h k doc turn ended came told quiet =

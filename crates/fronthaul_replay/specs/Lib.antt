@@ -1,4 +1,5 @@
 pub mod Replaying
+pub mod Going
 pub mod Coming
 pub mod Turns
 pub mod Delivering

@@ -1,30 +1,23 @@
 -- The replay of a document: its events, and how a radio unit stands to those that were heard (this project's profile).
-use Rattle.std.specs.Prelude.{◌≡◌, ℤ, pos, ◌*ℤ◌, ◌≤ℤ◌, List, [], ◌∷◌, ◌++◌, map, ◌⊎◌}
+use Rattle.std.specs.Prelude.{◌≡◌, ℤ, ◌≤ℤ◌, List, [], ◌∷◌, ◌++◌, ◌⊎◌}
 use Rattle.air_source.specs.declared.events.Event.{Event}
 use Rattle.air_source.specs.declared.events.Side.TheVariants.{Ru as AtRu}
+use Rattle.fh_document.specs.Proper.{IsDocument}
 use Rattle.fh_document.specs.declared.document.Document.{Document}
-use Rattle.fh_document.specs.declared.document.Injection.{Injection}
-use Rattle.unit_model.specs.Meetings.{Arrival as Landing}
+use Rattle.plan_model.specs.Valid.{IsValid}
 use Rattle.unit_model.specs.Reports.{ru_reported}
 use Rattle.unit_model.specs.Standing.{History}
 use Rattle.ru_buffers.specs.Calls.{IsQuietTo, StandsFor}
 use Rattle.ru_buffers.specs.declared.unit.Ru.{Ru}
 use Rattle.replay_events.specs.Events.{events}
 use Rattle.replay_events.specs.Heard.{arrivals_heard, cells_heard}
-use Rattle.replay_events.specs.Traffic.{Traffic}
 use Rattle.replay_events.specs.Moments.{all_arrivals, end_of_time}
+pub use Rattle.document_traffic.specs.Landing.{landings_of, traffic_of}
 
--- an injected frame, with its time in ticks
-abbrev pub landing_of : Injection → Landing
-landing_of i = record { at = i.at *ℤ pos 1536; frame = i.frame }
-
--- the frames that land at the radio unit, in the order of the document
-abbrev pub landings_of : Document → List Landing
-landings_of d = map landing_of d.injections
-
--- with nothing planned, and nothing that lands at the distributed unit
-abbrev pub traffic_of : Document → Traffic
-traffic_of d = record { at_ru = landings_of d; planned = []; at_du = [] }
+-- a document that was read, with a valid plan
+pub record IsReplayable (d : Document) : Type 0 where
+  pub document : IsDocument d
+  pub valid : IsValid d.config d.plan
 
 -- all events of a document, in order
 abbrev pub events_of : Document → List Event

@@ -2,6 +2,8 @@
 ghost use Rattle.std.specs.Prelude.{◌≡◌, ◌≤◌, ◌++◌, OnOk};
 ghost use Rattle.std.specs.Io.KnownBytes.{append_known};
 ghost use Rattle.fh_base.specs.Told.{WritesFront};
+ghost use Rattle.document_traffic.specs.Sending.{sent_for};
+ghost use Rattle.du_scheduler.specs.Plans.{HasToSend};
 ghost use Rattle.fh_document.specs.Proper.{IsDocument};
 ghost use Rattle.text_air.specs.Airs.{sink_name, sink_of, owed_of};
 ghost use Rattle.text_air.specs.Text.{end_text};
@@ -11,6 +13,7 @@ ghost use Rattle.fronthaul_replay.specs.Reports.{document_report};
 
 use crate::replaying::replay_to;
 use air_source::AirFault;
+use du_scheduler::Plan;
 use fh_base::Sink;
 use fh_document::Document;
 use std::alloc::Global;
@@ -36,9 +39,11 @@ pub enum InjectedFault {
 pub fn replay_injected<K: Sink>(
     alloc: Global,
     document: &Document,
+    plan: Plan,
     out: &mut K,
 ) -> Result<(), InjectedFault>
-    requires { IsDocument document.now }
+    requires document { IsDocument document.now }
+    requires plan { HasToSend document.now.config document.now.plan (sent_for document.now) plan }
     ensures front { WritesFront (K.written out.old) (K.written out.new) (document_report document.now) }
     ensures done { OnOk result (K.written out.new ≡ append_known (K.written out.old) (document_report document.now)) }
     ensures cause { HasWriteCause (K.faults out.old) (K.faults out.new) result }
@@ -46,7 +51,7 @@ pub fn replay_injected<K: Sink>(
     ensures sound { OnOk result (IsSound document.now) }
 {
     let mut air = TextAir::new(out);
-    match replay_to(alloc, document, &mut air) {
+    match replay_to(alloc, document, plan, &mut air) {
         Ok(()) => finish(&mut air),
         Err(fault) => Err(fault),
     }

@@ -2,13 +2,13 @@
 ghost use Rattle.std.specs.Prelude.{◌≡◌, ◌<◌, ◌+ℤ◌, ◌^◌, pos, [], ◌∷◌, All, IfErr, OnErr, OnOk, length, map};
 ghost use Rattle.air_source.specs.Causes.{HasAirCause};
 ghost use Rattle.air_source.specs.declared.events.Side.TheVariants.{Ru as AtRu};
-ghost use Rattle.fh_document.specs.Proper.{IsDocument};
 ghost use Rattle.replay_events.specs.Events.{arrival_event};
 ghost use Rattle.ru_buffers.specs.Calls.{HasGivenPast, StandsFor, StandsForSome};
 ghost use Rattle.unit_model.specs.Standing.{History, arrived};
 ghost use Rattle.window_config.specs.declared.config.Config.{Config};
 ghost use Rattle.fronthaul_replay.specs.Coming.{AreFlyingFrom, IsListed, IsToRu, Waits, arrival_at, coming_at, flying_at, left_at};
 ghost use Rattle.fronthaul_replay.specs.Delivering.{HasPassed, HaveLanded, IsDrained, StopsLanding, landed};
+ghost use Rattle.fronthaul_replay.specs.Replaying.{IsReplayable};
 
 use crate::coming::{Coming, frame_at};
 use air_source::{Air, AirFault, Side};
@@ -72,7 +72,7 @@ fn land_listed<A: Air>(
     listed: &mut LandingQueue,
     out: &mut A,
 ) -> Result<(), AirFault>
-    requires document { IsDocument doc.now }
+    requires document { IsReplayable doc.now }
     requires unit { StandsForSome ru.old }
     requires given { HasGivenPast ru.old }
     requires clock { ru.old.clock ≡ tick }
@@ -98,17 +98,17 @@ pub(crate) fn land<A: Air>(
     doc: &Document,
     tick: Ticks,
     ru: &mut Ru,
-    coming: &mut Coming,
+    coming: &mut Coming<'_>,
     out: &mut A,
 ) -> Result<(), AirFault>
-    requires document { IsDocument doc.now }
+    requires document { IsReplayable doc.now }
     requires unit { StandsForSome ru.old }
     requires given { HasGivenPast ru.old }
     requires clock { ru.old.clock ≡ tick }
-    requires waits { Waits doc.now tick.0 coming.old }
+    requires waits { Waits doc.now tick.0 (tick.0 +ℤ pos 1) coming.old }
     ensures heard { OnOk result (A.grew out.old (map (arrival_event AtRu) (coming_at doc.now tick.0 coming.old)) out.new) }
     ensures stands { (c : Config) (h : History) → StandsFor c ru.old h → OnOk result (StandsFor c ru.new (landed h (coming_at doc.now tick.0 coming.old))) }
-    ensures waits { OnOk result (Waits doc.now (tick.0 +ℤ pos 1) coming.new) }
+    ensures waits { OnOk result (Waits doc.now (tick.0 +ℤ pos 1) (tick.0 +ℤ pos 1) coming.new) }
     ensures stop { (c : Config) (h : History) → StandsFor c ru.old h
         → IfErr result (λ f. StopsLanding A.grew (A.stopped f) c h (coming_at doc.now tick.0 coming.old) ru.new out.old out.new) }
     ensures given { HasGivenPast ru.new }

@@ -14,14 +14,17 @@ mod injected;
 mod landing;
 mod listing;
 mod moments;
+mod planning;
 mod replaying;
 mod replays;
+mod sending;
 mod summary;
 mod times;
 
 pub use capture::capture_injected;
 pub use frame_network::{Arrival, ArrivalKey, Network};
 pub use injected::{InjectedFault, replay_injected};
+pub use planning::check_plan;
 pub use replays::{ReplayFault, replay};
 pub use summary::summarize_injected;
 pub use text_air::TextAir;

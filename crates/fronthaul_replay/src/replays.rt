@@ -3,20 +3,27 @@ ghost use Rattle.std.specs.Prelude.{◌≤◌, IsErrOf, OnOk};
 ghost use Rattle.air_source.specs.Causes.{HasAirCause};
 ghost use Rattle.air_source.specs.declared.airs.AirFault.TheVariants.{Failed, NoMemory as AirWantsMemory};
 ghost use Rattle.fh_base.specs.Causes.{Rose};
+ghost use Rattle.air_source.specs.Answers.{AnswersBy};
+ghost use Rattle.air_source.specs.Kept.{IsKept, closure_of};
+ghost use Rattle.document_traffic.specs.Sending.{sent_for};
+ghost use Rattle.du_scheduler.specs.Plans.{HasToSend};
 ghost use Rattle.fh_document.specs.Proper.{IsDocument};
+ghost use Rattle.tone_source.specs.Tones.{tone_of};
 ghost use Rattle.unit_model.specs.Radiated.{first_clock};
 ghost use Rattle.unit_model.specs.Standing.{nothing_yet};
 ghost use Rattle.ru_buffers.specs.Calls.{StandsFor};
 ghost use Rattle.fronthaul_replay.specs.Laws.{IsSound};
 ghost use Rattle.fronthaul_replay.specs.Coming.{Waits};
-ghost use Rattle.fronthaul_replay.specs.Replaying.{HaltsInStep, IsDone, StopsInStep, events_of};
+ghost use Rattle.fronthaul_replay.specs.Replaying.{HaltsInStep, IsDone, IsReplayable, StopsInStep, events_of};
 ghost use Rattle.fronthaul_replay.specs.declared.replays.ReplayFault.TheVariants.{AirFailed, NoMemory as WantsMemory};
 
 use crate::coming::Coming;
 use crate::counting::tell_counts;
 use crate::listing::coming_of;
 use crate::moments::pass;
-use air_source::{Air, AirFault};
+use air_source::{Air, AirFault, RePlace, Samples};
+use bfp_codec::Wide;
+use du_scheduler::Plan;
 use fh_document::Document;
 use ru_buffers::Ru;
 use std::alloc::Global;
@@ -31,24 +38,32 @@ pub enum ReplayFault {
     NoMemory,
 }
 
-/// Replays a document's injected downlink frames: the air hears each frame that arrives (refused ones too), each cell that the radio
-/// unit reports, and at the end the counters that are not 0, in the order of events. At one time cells come before arrivals, and
-/// arrivals in the order of the document.
+/// Replays a document: the frames of its plan are sent at their times with the samples of `du`, lost, repeated and delayed as the
+/// document says, and its injected frames come between. The air hears each frame that arrives (refused ones too), each cell that the
+/// radio unit reports, and at the end the counters that are not 0, in the order of events. At one time cells come before arrivals,
+/// and copies of sent frames, in the order in which they are sent, before injected frames, in the order of the document.
 ///
 /// Of these events holds, for every document: no cell is reported twice; what a cell shows came within its window and was commanded
-/// on time under the same section id; the counters add up; and the frames that arrive are those that the document lists.
+/// on time under the same section id; the counters add up; and the frames that arrive are those that are sent and listed. Where the
+/// windows pass the check, nothing is injected and each sent frame has a copy, each within T12, each scheduled downlink element
+/// radiates exactly once, with its samples as compression leaves them.
 ///
 /// # Errors
 ///
 /// [`ReplayFault::AirFailed`] where the air stopped as failed, only where its count of faults rose. [`ReplayFault::NoMemory`] where
 /// the air stopped for want of memory, or memory runs out for the replay's own work.
-pub fn replay<A: Air>(
+pub fn replay<A: Air, F: Fn(RePlace) -> Wide>(
     alloc: Global,
     doc: &Document,
+    plan: Plan,
     ru: &mut Ru,
+    du: Samples<F>,
     out: &mut A,
 ) -> Result<(), ReplayFault>
     requires document { IsDocument doc.now }
+    requires plan { HasToSend doc.now.config doc.now.plan (sent_for doc.now) plan }
+    requires kept { IsKept F.pre F.post du }
+    requires tone { AnswersBy (F.post (closure_of du)) (tone_of doc.now.source) }
     requires unit { StandsFor doc.now.config ru.old nothing_yet }
     ensures heard { OnOk result (A.grew out.old (events_of doc.now) out.new) }
     ensures done { OnOk result (IsDone doc.now ru.new) }
@@ -59,10 +74,10 @@ pub fn replay<A: Air>(
     ensures same { A.same out.old out.new }
     ensures sound { IsSound doc.now }
 {
-    let Ok(mut coming) = coming_of(alloc, doc) else {
+    let Ok(mut coming) = coming_of(alloc, doc, plan) else {
         return Err(ReplayFault::NoMemory);
     };
-    match run(doc, ru, &mut coming, out) {
+    match run(alloc, doc, &du, ru, &mut coming, out) {
         Ok(()) => Ok(()),
         Err(AirFault::Failed) => Err(ReplayFault::AirFailed),
         Err(AirFault::NoMemory) => Err(ReplayFault::NoMemory),
@@ -70,15 +85,19 @@ pub fn replay<A: Air>(
 }
 
 /// Lets all frames land, and tells the counters.
-fn run<A: Air>(
+fn run<A: Air, F: Fn(RePlace) -> Wide>(
+    alloc: Global,
     doc: &Document,
+    du: &Samples<F>,
     ru: &mut Ru,
-    coming: &mut Coming,
+    coming: &mut Coming<'_>,
     out: &mut A,
 ) -> Result<(), AirFault>
-    requires document { IsDocument doc.now }
+    requires kept { IsKept F.pre F.post du.now }
+    requires tone { AnswersBy (F.post (closure_of du.now)) (tone_of doc.now.source) }
+    requires document { IsReplayable doc.now }
     requires unit { StandsFor doc.now.config ru.old nothing_yet }
-    requires waits { Waits doc.now first_clock coming.old }
+    requires waits { Waits doc.now first_clock first_clock coming.old }
     ensures heard { OnOk result (A.grew out.old (events_of doc.now) out.new) }
     ensures done { OnOk result (IsDone doc.now ru.new) }
     ensures stop { IsErrOf result Failed → StopsInStep A.grew (A.stopped Failed) doc.now ru.new out.old out.new }
@@ -86,6 +105,6 @@ fn run<A: Air>(
     ensures same { A.same out.old out.new }
     ensures cause { HasAirCause (A.faults out.old) (A.faults out.new) result }
 {
-    pass(doc, ru, coming, out)?;
+    pass(alloc, doc, du, ru, coming, out)?;
     tell_counts(ru.counters(), out)
 }

@@ -2,6 +2,8 @@
 ghost use Rattle.std.specs.Prelude.{◌≡◌, ◌≤◌, [], ◌++◌, OnOk};
 ghost use Rattle.std.specs.Io.KnownBytes.{append_known};
 ghost use Rattle.fh_base.specs.Told.{WritesFront};
+ghost use Rattle.document_traffic.specs.Sending.{sent_for};
+ghost use Rattle.du_scheduler.specs.Plans.{HasToSend};
 ghost use Rattle.fh_document.specs.Proper.{IsDocument};
 ghost use Rattle.sum_air.specs.Airs.{sink_name, sink_of, owed_of, sums_of};
 ghost use Rattle.sum_air.specs.States.{sum_start, sum_ends};
@@ -12,6 +14,7 @@ ghost use Rattle.fronthaul_replay.specs.Reports.{summary_of};
 use crate::injected::InjectedFault;
 use crate::replaying::replay_to;
 use air_source::AirFault;
+use du_scheduler::Plan;
 use fh_base::{NoMemory, Sink};
 use fh_document::Document;
 use std::alloc::Global;
@@ -29,9 +32,11 @@ use sum_air::{SumAir, Sums};
 pub fn summarize_injected<K: Sink>(
     alloc: Global,
     document: &Document,
+    plan: Plan,
     out: &mut K,
 ) -> Result<(), InjectedFault>
-    requires { IsDocument document.now }
+    requires document { IsDocument document.now }
+    requires plan { HasToSend document.now.config document.now.plan (sent_for document.now) plan }
     ensures front { WritesFront (K.written out.old) (K.written out.new) (summary_of document.now) }
     ensures done { OnOk result (K.written out.new ≡ append_known (K.written out.old) (summary_of document.now)) }
     ensures cause { HasWriteCause (K.faults out.old) (K.faults out.new) result }
@@ -43,7 +48,7 @@ pub fn summarize_injected<K: Sink>(
         Err(NoMemory) => return Err(InjectedFault::NoMemory),
     };
     let mut air = SumAir::over(sums, out);
-    let told = tell_all(alloc, document, &mut air);
+    let told = tell_all(alloc, document, plan, &mut air);
     let _sink = air.into_sink();
     told
 }
@@ -52,9 +57,11 @@ pub fn summarize_injected<K: Sink>(
 fn tell_all<K: Sink>(
     alloc: Global,
     document: &Document,
+    plan: Plan,
     air: &mut SumAir<'_, K>,
 ) -> Result<(), InjectedFault>
     requires document { IsDocument document.now }
+    requires plan { HasToSend document.now.config document.now.plan (sent_for document.now) plan }
     requires nothing { owed_of air.old ≡ [] }
     requires start { sums_of air.old ≡ sum_start }
     ensures reference { sink_name air.new ≡ sink_name air.old }
@@ -64,7 +71,7 @@ fn tell_all<K: Sink>(
     ensures later { K.faults (sink_of air.old) ≤ K.faults (sink_of air.new) }
     ensures sound { OnOk result (IsSound document.now) }
 {
-    match replay_to(alloc, document, air) {
+    match replay_to(alloc, document, plan, air) {
         Ok(()) => finish(air),
         Err(fault) => Err(fault),
     }

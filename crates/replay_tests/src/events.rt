@@ -1,13 +1,19 @@
 // A replay of a command and its data: the ordinary case by hand, and an air that fails at each call in turn.
-use air_source::{Event, MemoryAir};
+ghost use Rattle.std.specs.Prelude.{◌≡◌, ◌<◌};
+ghost use Rattle.air_source.specs.Answers.{Fits16};
+ghost use Rattle.tone_source.specs.Tones.{tone_of};
+
+use air_source::{Event, MemoryAir, RePlace, Samples};
+use bfp_codec::Wide;
 use fault_counters::Counter;
 use fh_base::List;
 use fh_document::read;
 use fh_time::Ticks;
-use fronthaul_replay::{ReplayFault, replay};
+use fronthaul_replay::{ReplayFault, check_plan, replay};
 use ru_buffers::Ru;
 use std::alloc::Global;
 use std::test::Fail;
+use tone_source::ToneSteps;
 
 /// Symbol 0 of frame 1, PRB 0 of section 1, at 10 ms: its command at 9.6 ms, and its data at 9.7 ms.
 const DOCUMENT: &str =
@@ -53,8 +59,19 @@ fn played(alloc: Global, fails: List<u64>) -> Option<Outcome> {
     let Ok(mut ru) = Ru::make(alloc, &doc.config) else {
         return None;
     };
+    let Ok(plan) = check_plan(alloc, &doc) else {
+        return None;
+    };
+    let steps = ToneSteps::of(doc.source);
+    let du = Samples::keep(
+        |place: RePlace| -> Wide
+            requires { place.re < 12 }
+            ensures value { result ≡ tone_of steps place }
+            ensures narrow { Fits16 result }
+        { steps.at(place) },
+    );
     let mut air = MemoryAir::new(alloc, fails);
-    let result = replay(alloc, &doc, &mut ru, &mut air);
+    let result = replay(alloc, &doc, plan, &mut ru, du, &mut air);
     let frames = ru.counters().get(Counter::Frames);
     let cells = ru.counters().get(Counter::Cells);
     let step = standing(ru.clock(), ru.due(), frames, cells);

@@ -1,7 +1,7 @@
 // Documents and their reports, all of them known from outside: by the standard's fields, and by hand.
 use fh_base::{List, MemorySink, PlainSink};
 use fh_document::read;
-use fronthaul_replay::{InjectedFault, replay_injected};
+use fronthaul_replay::{InjectedFault, check_plan, replay_injected};
 use std::alloc::Global;
 use std::test::Fail;
 
@@ -19,7 +19,10 @@ fn agree(alloc: Global, case: &Case) -> bool {
         return false;
     };
     let mut out = PlainSink::new(alloc);
-    let answer = replay_injected(alloc, &document, &mut out);
+    let Ok(plan) = check_plan(alloc, &document) else {
+        return false;
+    };
+    let answer = replay_injected(alloc, &document, plan, &mut out);
     answer == Ok(()) && out.bytes() == case.report.as_bytes()
 }
 
@@ -192,7 +195,10 @@ fn a_report_is_written(rt: HostRuntime) -> Result<(), Fail> {
     let alloc = rt.alloc();
     let document = read(alloc, ORDINARY)?;
     let mut out = PlainSink::new(alloc);
-    assert_eq!(rt; replay_injected(alloc, &document, &mut out), Ok(()));
+    assert_eq!(rt;
+        replay_injected(alloc, &document, check_plan(alloc, &document)?, &mut out),
+        Ok(())
+    );
     assert_eq!(rt; out.bytes(), REPORT);
     Ok(())
 }
@@ -202,8 +208,14 @@ fn a_report_stands_behind_what_was_there(rt: HostRuntime) -> Result<(), Fail> {
     let alloc = rt.alloc();
     let document = read(alloc, b"fronthaul 1\n")?;
     let mut out = PlainSink::new(alloc);
-    assert_eq!(rt; replay_injected(alloc, &document, &mut out), Ok(()));
-    assert_eq!(rt; replay_injected(alloc, &document, &mut out), Ok(()));
+    assert_eq!(rt;
+        replay_injected(alloc, &document, check_plan(alloc, &document)?, &mut out),
+        Ok(())
+    );
+    assert_eq!(rt;
+        replay_injected(alloc, &document, check_plan(alloc, &document)?, &mut out),
+        Ok(())
+    );
     assert_eq!(rt; out.bytes(), b"end\nend\n".as_slice());
     Ok(())
 }
@@ -219,7 +231,7 @@ fn a_sink_that_fails_keeps_a_front_part(rt: HostRuntime) -> Result<(), Fail> {
         let mut fails = List::new(alloc);
         fails.push(call)?;
         let mut out = MemorySink::new(alloc, 1, fails);
-        let answer = replay_injected(alloc, &document, &mut out);
+        let answer = replay_injected(alloc, &document, check_plan(alloc, &document)?, &mut out);
         assert_eq!(rt; answer, Err(InjectedFault::WriteFault), "call {}", call);
         assert_eq!(rt; out.bytes(), &REPORT[..bytes], "call {}", call);
     }
@@ -233,7 +245,10 @@ fn a_sink_that_would_fail_later_has_it_all(rt: HostRuntime) -> Result<(), Fail> 
     let mut fails = List::new(alloc);
     fails.push(REPORT.len() as u64 + 1)?;
     let mut out = MemorySink::new(alloc, 1, fails);
-    assert_eq!(rt; replay_injected(alloc, &document, &mut out), Ok(()));
+    assert_eq!(rt;
+        replay_injected(alloc, &document, check_plan(alloc, &document)?, &mut out),
+        Ok(())
+    );
     assert_eq!(rt; out.bytes(), REPORT);
     Ok(())
 }

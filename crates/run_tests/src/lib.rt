@@ -1,5 +1,5 @@
 //! Tests of whole runs, by the top call with ends in memory: worked documents of every command (`replays`, `captures`, `windows`,
-//! `pcaps`), the words (`words`), ends that fail (`faults`), and captures that go to a pcap file and back (`round_trips`).
+//! `pcaps`), plans that are refused (`plans`), the words (`words`), ends that fail (`faults`), and captures that go to a pcap file and back (`round_trips`).
 //!
 //! They stand beside `top_call`, so that it is proved without them.
 #![tactic(auto)]
@@ -10,6 +10,8 @@ mod captures;
 mod faults;
 #[cfg(test)]
 mod pcaps;
+#[cfg(test)]
+mod plans;
 #[cfg(test)]
 mod replays;
 #[cfg(test)]

@@ -19,6 +19,8 @@ use Rattle.pcap_frames.specs.declared.values.PcapHead.{PcapHead}
 use Rattle.pcap_frames.specs.Checked.{checked as pcap_checked}
 use Rattle.pcap_frames.specs.Frames.{Timed}
 use Rattle.pcap_lines.specs.Texts.{arrived_as, lines_of}
+use Rattle.plan_model.specs.Valid.{plan_refusal}
+use Rattle.plan_model.specs.declared.refusals.PlanWhy.{PlanWhy}
 use Rattle.window_config.specs.declared.delays.Delays.{Delays}
 use Rattle.window_config.specs.declared.relations.Failing.{Failing}
 use Rattle.window_config.specs.Relations.{checked}
@@ -27,7 +29,7 @@ use Rattle.window_plan.specs.Fitting.{fitted}
 use Rattle.top_call.specs.declared.status.LineWhy.{LineWhy}
 use Rattle.top_call.specs.declared.status.Status.{Status}
 use Rattle.top_call.specs.declared.status.Status.TheVariants.{Done, BadWords, BadDocument, BadCapture, ReadFault, WriteFault, NoMemory, TooLong, CheckFails, BadPcap, NoFit}
-use Rattle.top_call.specs.Answers.{Answer, answer_of, asked, captured, fit_shown, fit_verdict, is_reading, of_capture, of_document, of_pcap, replayed, summarized, verdict_of, windows_shown}
+use Rattle.top_call.specs.Answers.{Answer, answer_of, asked, captured, fit_shown, fit_verdict, is_reading, of_capture, of_document, of_pcap, of_plan, of_planned, replayed, summarized, verdict_of, windows_shown}
 use Rattle.top_call.specs.Run.{AnswersRun, IsDecided, IsRefusal, Outcome, input_limit}
 
 -- ---- a refusal
@@ -40,9 +42,17 @@ fit_refuses_nothing : (fitted : Result Delays Refusal) → IsRefusal (fit_verdic
 fit_refuses_nothing (Ok d) refusal = refusal
 fit_refuses_nothing (Err r) refusal = refusal
 
-document_text : (answer : Document → Answer) (read : Result Document (ℕ × DocWhy)) → ((d : Document) → IsRefusal (answer d).status → ⊥) → IsRefusal (of_document answer read).status → (of_document answer read).text ≡ []
-document_text answer (Ok d) never refusal = absurd (never d refusal)
-document_text answer (Err (line, why)) never refusal = refl
+document_text : (answer : Document → Answer) (read : Result Document (ℕ × DocWhy)) → ((d : Document) → IsRefusal (answer d).status → (answer d).text ≡ []) → IsRefusal (of_document answer read).status → (of_document answer read).text ≡ []
+document_text answer (Ok d) quiet refusal = quiet d refusal
+document_text answer (Err (line, why)) quiet refusal = refl
+
+plan_text : (answer : Document → Answer) (d : Document) (tested : Option (ℕ × PlanWhy)) → (IsRefusal (answer d).status → ⊥) → IsRefusal (of_plan answer d tested).status → (of_plan answer d tested).text ≡ []
+plan_text answer d None never refusal = absurd (never refusal)
+plan_text answer d (Some (index, why)) never refusal = refl
+
+planned_text : (answer : Document → Answer) (d : Document) → (IsRefusal (answer d).status → ⊥) → IsRefusal (of_planned answer d).status → (of_planned answer d).text ≡ []
+unfolding of_planned
+planned_text answer d never refusal = plan_text answer d (plan_refusal d.config d.plan) never refusal
 
 capture_text : (text : List ℕ) (checked : Result (Unit {0}) CaptureRefusal) → IsRefusal (of_capture text checked).status → (of_capture text checked).text ≡ []
 capture_text text (Ok u) refusal = absurd refusal
@@ -56,12 +66,12 @@ pcap_text text start bytes (Err r) refusal = refl
 refusal_text : (o : Option Command) (bytes : List ℕ) → IsRefusal (asked o bytes).status → (asked o bytes).text ≡ []
 unfolding answer_of
 refusal_text None bytes refusal = refl
-refusal_text (Some Replay) bytes refusal = document_text replayed (document_of bytes) (λ d r. r) refusal
-refusal_text (Some Summary) bytes refusal = document_text summarized (document_of bytes) (λ d r. r) refusal
-refusal_text (Some Capture) bytes refusal = document_text captured (document_of bytes) (λ d r. r) refusal
+refusal_text (Some Replay) bytes refusal = document_text (of_planned replayed) (document_of bytes) (λ d. planned_text replayed d (λ r. r)) refusal
+refusal_text (Some Summary) bytes refusal = document_text (of_planned summarized) (document_of bytes) (λ d. planned_text summarized d (λ r. r)) refusal
+refusal_text (Some Capture) bytes refusal = document_text (of_planned captured) (document_of bytes) (λ d. planned_text captured d (λ r. r)) refusal
 refusal_text (Some (Show json)) bytes refusal = capture_text (lines_text json (capture_lines bytes)) (capture_checked bytes) refusal
-refusal_text (Some Windows) bytes refusal = document_text (λ d. windows_shown d.config) (document_of bytes) (λ d. check_refuses_nothing (checked d.config.delays)) refusal
-refusal_text (Some Fit) bytes refusal = document_text (λ d. fit_shown d.config.delays) (document_of bytes) (λ d. fit_refuses_nothing (fitted d.config.delays)) refusal
+refusal_text (Some Windows) bytes refusal = document_text (λ d. windows_shown d.config) (document_of bytes) (λ d r. absurd (check_refuses_nothing (checked d.config.delays) r)) refusal
+refusal_text (Some Fit) bytes refusal = document_text (λ d. fit_shown d.config.delays) (document_of bytes) (λ d r. absurd (fit_refuses_nothing (fitted d.config.delays) r)) refusal
 refusal_text (Some (Generate seed slots)) bytes refusal = absurd refusal
 refusal_text (Some (Pcap side start)) bytes refusal = pcap_text (lines_of side) start bytes (pcap_checked bytes start) refusal
 refusal_text (Some (PcapCapture side start)) bytes refusal = pcap_text (λ ts. capture_bytes (map (arrived_as side) ts)) start bytes (pcap_checked bytes start) refusal

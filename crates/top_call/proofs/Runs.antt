@@ -15,18 +15,17 @@ use Rattle.fh_document.specs.Document.{document_of}
 use Rattle.fh_document.specs.Proper.{IsDocument}
 use Rattle.fh_document.specs.Steps.{handled}
 use Rattle.fh_document.proofs.Properness.{document_in_in}
-use Rattle.fronthaul_replay.specs.Laws.{IsSound}
 use Rattle.fronthaul_replay.proofs.LawLemmas.{is_sound}
 use Rattle.top_call.specs.declared.status.Status.{Status}
 use Rattle.top_call.specs.declared.status.Status.TheVariants.{Done, BadWords, BadDocument, BadCapture, ReadFault, WriteFault, NoMemory, TooLong, CheckFails, BadPcap, NoFit}
 use Rattle.top_call.specs.Answers.{Answer, answer_of, asked, is_reading, reads}
 use Rattle.top_call.specs.Endings.{source_status}
-use Rattle.top_call.specs.Run.{AnswersCommand, AnswersRun, IsDecided, IsRefusal, Outcome, Performs, input_limit}
+use Rattle.top_call.specs.Run.{AnswersCommand, AnswersRun, IsDecided, IsRefusal, IsSoundPlan, Outcome, Performs, input_limit}
 
 -- ---- the laws of a document's events
 
-sound_of : (bytes : List ℕ) → IfOk (document_of bytes) IsSound
-sound_of bytes = IfOk-weaker (document_of bytes) IsDocument IsSound is_sound (document_in_in handled bytes)
+sound_of : (bytes : List ℕ) → IfOk (document_of bytes) IsSoundPlan
+sound_of bytes = IfOk-weaker (document_of bytes) IsDocument IsSoundPlan (λ d is valid. is_sound d (record { document = is; valid = valid })) (document_in_in handled bytes)
 
 -- ---- what a command answers, a run answers
 

@@ -1,5 +1,5 @@
 -- What the words and the input name: the one text, and the status of a run that nothing keeps from its end.
-use Rattle.std.specs.Prelude.{ℕ, List, [], map, Bool, true, false, Option, None, Some, Result, Ok, Err}
+use Rattle.std.specs.Prelude.{ℕ, List, [], map, Bool, true, false, Option, None, Some, Result, Ok, Err, slice_index}
 use Rattle.capture_records.specs.declared.refusals.CaptureRefusal.{CaptureRefusal}
 use Rattle.air_source.specs.declared.events.Side.{Side}
 use Rattle.capture_records.specs.Reading.{checked as capture_checked}
@@ -18,6 +18,8 @@ use Rattle.pcap_frames.specs.declared.values.PcapHead.{PcapHead}
 use Rattle.pcap_frames.specs.Checked.{checked as pcap_checked}
 use Rattle.pcap_frames.specs.Frames.{Timed, frames_of}
 use Rattle.pcap_lines.specs.Texts.{arrived_as, lines_of}
+use Rattle.plan_model.specs.Valid.{plan_refusal}
+use Rattle.plan_model.specs.declared.refusals.PlanWhy.{PlanWhy}
 use Rattle.window_config.specs.declared.config.Config.{Config}
 use Rattle.window_config.specs.declared.delays.Delays.{Delays}
 use Rattle.window_config.specs.declared.relations.Failing.{Failing}
@@ -26,7 +28,7 @@ use Rattle.window_lines.specs.Fit.{fit_text}
 use Rattle.window_lines.specs.Windows.{windows_text}
 use Rattle.window_plan.specs.declared.refusals.NoFit.{NoFit as Refusal}
 use Rattle.window_plan.specs.Fitting.{fitted}
-use Rattle.top_call.specs.declared.status.LineWhy.TheVariants.{Doc}
+use Rattle.top_call.specs.declared.status.LineWhy.TheVariants.{Doc, Plan}
 use Rattle.top_call.specs.declared.status.Status.{Status}
 use Rattle.top_call.specs.declared.status.Status.TheVariants.{Done, BadWords, BadDocument, BadCapture, CheckFails, BadPcap, NoFit}
 
@@ -45,6 +47,15 @@ refused status = record { text = []; status = status }
 abbrev pub of_document : (Document → Answer) → Result Document (ℕ × DocWhy) → Answer
 of_document answer (Ok d) = answer d
 of_document answer (Err (line, why)) = refused (BadDocument line (Doc why))
+
+-- what is answered of a document whose plan is valid, or the document's line that is refused of its plan, and the reason
+abbrev pub of_plan : (Document → Answer) → Document → Option (ℕ × PlanWhy) → Answer
+of_plan answer d None = answer d
+of_plan answer d (Some (index, why)) = refused (BadDocument (slice_index d.plan_lines index) (Plan why))
+
+-- a document that is replayed is refused where its plan is: the plan is tested behind the whole grammar
+unfoldable pub of_planned : (Document → Answer) → Document → Answer
+of_planned answer d = of_plan answer d (plan_refusal d.config d.plan)
 
 -- `replay`: the report of the document's events
 abbrev pub replayed : Document → Answer
@@ -130,9 +141,9 @@ reads (PcapCapture side start) = true
 
 -- what a command answers of a whole input
 unfoldable pub answer_of : Command → List ℕ → Answer
-answer_of Replay bytes = of_document replayed (document_of bytes)
-answer_of Summary bytes = of_document summarized (document_of bytes)
-answer_of Capture bytes = of_document captured (document_of bytes)
+answer_of Replay bytes = of_document (of_planned replayed) (document_of bytes)
+answer_of Summary bytes = of_document (of_planned summarized) (document_of bytes)
+answer_of Capture bytes = of_document (of_planned captured) (document_of bytes)
 answer_of (Show json) bytes = shown json bytes
 answer_of Windows bytes = of_document (λ d. windows_shown d.config) (document_of bytes)
 answer_of Fit bytes = of_document (λ d. fit_shown d.config.delays) (document_of bytes)

@@ -1,16 +1,19 @@
 -- How a run ends, by what its last step answered.
-use Rattle.std.specs.Prelude.{Result, Ok, Err}
+use Rattle.std.specs.Prelude.{Result, Ok, Err, slice_index}
 use Rattle.capture_show.specs.declared.showing.ShowFault.{ShowFault}
 use Rattle.capture_show.specs.declared.showing.ShowFault.TheVariants as show
 use Rattle.fh_base.specs.declared.fault.ReadAllFault.{ReadAllFault}
 use Rattle.fh_base.specs.declared.fault.ReadAllFault.TheVariants as source
 use Rattle.fh_base.specs.declared.fault.SinkFault.{SinkFault}
 use Rattle.fh_base.specs.declared.fault.SinkFault.TheVariants as sink
+use Rattle.fh_document.specs.declared.document.Document.{Document}
 use Rattle.fh_document.specs.declared.refusals.DocFault.{DocFault}
 use Rattle.fh_document.specs.declared.refusals.DocFault.TheVariants as doc
 use Rattle.fronthaul_replay.specs.declared.injected.InjectedFault.{InjectedFault}
 use Rattle.fronthaul_replay.specs.declared.injected.InjectedFault.TheVariants as injected
-use Rattle.top_call.specs.declared.status.LineWhy.TheVariants.{Doc}
+use Rattle.plan_tests.specs.declared.testing.PlanRefusal.{PlanRefusal}
+use Rattle.plan_tests.specs.declared.testing.PlanRefusal.TheVariants as plan
+use Rattle.top_call.specs.declared.status.LineWhy.TheVariants.{Doc, Plan}
 use Rattle.top_call.specs.declared.status.Status.{Status}
 use Rattle.top_call.specs.declared.status.Status.TheVariants.{Done, BadDocument, BadCapture, ReadFault, WriteFault, NoMemory, TooLong}
 
@@ -30,6 +33,11 @@ injected_status (Err injected.NoMemory) = NoMemory
 abbrev pub unread_status : DocFault → Status
 unread_status (doc.At line why) = BadDocument line (Doc why)
 unread_status doc.NoMemory = NoMemory
+
+-- the plan of a document was not accepted: its place in the plan is told as the document's line
+abbrev pub unplanned_status : Document → PlanRefusal → Status
+unplanned_status d (plan.At index why) = BadDocument (slice_index d.plan_lines index) (Plan why)
+unplanned_status d plan.NoMemory = NoMemory
 
 -- an input was not read to its end
 abbrev pub source_status : ReadAllFault → Status

@@ -5,7 +5,9 @@ use Rattle.command_words.specs.Words.{command_of}
 use Rattle.fh_base.specs.Causes.{Rose}
 use Rattle.fh_base.specs.Told.{WritesFront}
 use Rattle.fh_document.specs.Document.{document_of}
+use Rattle.fh_document.specs.declared.document.Document.{Document}
 use Rattle.fronthaul_replay.specs.Laws.{IsSound}
+use Rattle.plan_model.specs.Valid.{IsValid}
 use Rattle.top_call.specs.declared.status.Status.{Status}
 use Rattle.top_call.specs.declared.status.Status.TheVariants.{Done, BadWords, BadDocument, BadCapture, ReadFault, WriteFault, NoMemory, TooLong, CheckFails, BadPcap, NoFit}
 use Rattle.top_call.specs.Answers.{Answer, asked, is_reading}
@@ -65,6 +67,10 @@ AnswersRun wanted source_before source_now out_before out_now NoMemory = Unit {0
 AnswersRun wanted source_before source_now out_before out_now TooLong = Unit {0}
 AnswersRun wanted source_before source_now out_before out_now status = wanted ≡ status
 
+-- the laws of a document's events hold, where its plan is valid and so these events are replayed
+abbrev pub IsSoundPlan : Document → Type 0
+IsSoundPlan d = IsValid d.config d.plan → IsSound d
+
 -- what a run did, but for its line on standard error
 pub record Outcome (words : List (List ℕ)) (left_old left_new : Option (List ℕ)) (source_before source_now : ℕ) (written_old written_new : Option (List ℕ)) (out_before out_now : ℕ) (status : Status) : Type 0 where
   -- the bytes that came
@@ -89,6 +95,6 @@ pub record Outcome (words : List (List ℕ)) (left_old left_new : Option (List �
       → (is_reading (command_of words) ≡ true → (Rose source_before source_now → ⊥) × (left_old ≡ Some bytes) × (length bytes ≤ input_limit))
       → (Rose out_before out_now → ⊥) ⊎ IsRefusal (asked (command_of words) bytes).status
       → (status ≡ (asked (command_of words) bytes).status) ⊎ (status ≡ NoMemory)
-  -- of the events of the document that the bytes spell: none is reported twice, what is shown came and was commanded in time, the
+  -- of the events of the document that the bytes spell, where its plan is valid: none is reported twice, what is shown came and was commanded in time, the
   -- counters add up, the frames that arrive are those that are listed, and what is refused changes nothing but counters
-  pub sound : IfOk (document_of came) IsSound
+  pub sound : IfOk (document_of came) IsSoundPlan

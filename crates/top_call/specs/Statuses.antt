@@ -5,13 +5,15 @@ use Rattle.capture_records.specs.Refusals.{name_of as capture_name}
 use Rattle.fh_document.specs.Refusals.{name_of}
 use Rattle.pcap_frames.specs.declared.refusals.PcapRefusal.{PcapRefusal}
 use Rattle.pcap_frames.specs.Refusals.{name_of as pcap_name}
+use Rattle.plan_model.specs.declared.refusals.PlanWhy.{PlanWhy}
+use Rattle.plan_model.specs.declared.refusals.PlanWhy.TheVariants.{UnknownEndpoint, Range, Overlap, TooManySections, SequenceDense}
 use Rattle.text_lines.specs.Words.{spaced_signed_text}
 use Rattle.window_config.specs.declared.relations.Failing.{Failing}
 use Rattle.window_config.specs.Relations.{name_of as relation_name}
 use Rattle.window_plan.specs.declared.refusals.NoFit.{NoFit as Refusal}
 use Rattle.window_plan.specs.Names.{name_of as window_name}
 use Rattle.top_call.specs.declared.status.LineWhy.{LineWhy}
-use Rattle.top_call.specs.declared.status.LineWhy.TheVariants.{Doc}
+use Rattle.top_call.specs.declared.status.LineWhy.TheVariants.{Doc, Plan}
 use Rattle.top_call.specs.declared.status.Status.{Status}
 use Rattle.top_call.specs.declared.status.Status.TheVariants.{Done, BadWords, BadDocument, BadCapture, ReadFault, WriteFault, NoMemory, TooLong, CheckFails, BadPcap, NoFit}
 
@@ -29,9 +31,18 @@ code_of (CheckFails failing) = 9
 code_of (BadPcap refusal) = 10
 code_of (NoFit refusal) = 11
 
+-- the name of a reason of the plan
+abbrev pub plan_name : PlanWhy → List ℕ
+plan_name UnknownEndpoint = codes "UnknownEndpoint"
+plan_name Range = codes "Range"
+plan_name Overlap = codes "Overlap"
+plan_name TooManySections = codes "TooManySections"
+plan_name SequenceDense = codes "SequenceDense"
+
 -- a reason's name
 abbrev pub why_name : LineWhy → List ℕ
 why_name (Doc why) = name_of why
+why_name (Plan why) = plan_name why
 
 -- the line of a refusal
 abbrev pub refusal_line : ℕ → LineWhy → List ℕ

@@ -1,10 +1,11 @@
 // How a run ends, by what its last step answered.
-ghost use Rattle.std.specs.Prelude.{◌≡◌};
-ghost use Rattle.top_call.specs.Endings.{ending_of, injected_status, source_status, unread_status};
+ghost use Rattle.std.specs.Prelude.{◌≡◌, slice_index};
+ghost use Rattle.top_call.specs.Endings.{ending_of, injected_status, source_status, unplanned_status, unread_status};
 
 use crate::status::{LineWhy, Status};
-use fh_base::{ReadAllFault, SinkFault};
-use fh_document::DocFault;
+use du_scheduler::PlanRefusal;
+use fh_base::{List, ReadAllFault, SinkFault};
+use fh_document::{DocFault, Document};
 use fronthaul_replay::InjectedFault;
 
 /// How a run ends whose whole text was to be written, and which then ends with `status`.
@@ -39,6 +40,29 @@ pub(crate) fn unread_status(fault: DocFault) -> Status
             why: LineWhy::Doc(why),
         },
         DocFault::NoMemory => Status::NoMemory,
+    }
+}
+
+/// The number in the document of the line with this place in its plan.
+fn line_number(numbers: &List<usize>, index: usize) -> usize
+    ensures { result ≡ slice_index numbers.now index }
+{
+    match numbers.get(index) {
+        Some(number) => *number,
+        None => 0,
+    }
+}
+
+/// What a document is answered whose plan was not accepted.
+pub(crate) fn unplanned_status(document: &Document, refusal: PlanRefusal) -> Status
+    ensures { result ≡ unplanned_status document.now refusal }
+{
+    match refusal {
+        PlanRefusal::At { index, why } => Status::BadDocument {
+            line: line_number(&document.plan_lines, index),
+            why: LineWhy::Plan(why),
+        },
+        PlanRefusal::NoMemory => Status::NoMemory,
     }
 }
 

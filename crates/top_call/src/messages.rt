@@ -3,10 +3,11 @@ ghost use Rattle.std.specs.Prelude.{◌≡◌, ◌≤◌, length, OnOk};
 ghost use Rattle.std.specs.Io.KnownBytes.{append_known};
 ghost use Rattle.fh_base.specs.Causes.{HasSinkCause};
 ghost use Rattle.fh_base.specs.Told.{WritesFront};
-ghost use Rattle.top_call.specs.Statuses.{capture_line, failing_line, line_of, no_fit_line, pcap_line, refusal_line};
+ghost use Rattle.top_call.specs.Statuses.{capture_line, failing_line, line_of, no_fit_line, pcap_line, plan_name, refusal_line, why_name};
 
 use crate::status::{LineWhy, Status};
 use capture_records::CaptureWhy;
+use du_scheduler::PlanWhy;
 use fh_base::{Sink, SinkFault, write_all_to};
 use pcap_frames::PcapRefusal;
 use text_lines::Line;
@@ -52,16 +53,40 @@ fn literal(text: &[u8]) -> Line
     line
 }
 
+/// The name of a reason of the plan: its own.
+fn plan_name(why: PlanWhy) -> &'static str
+    ensures name { result.now ≡ plan_name why }
+    ensures short { length result.now ≤ 15 }
+{
+    match why {
+        PlanWhy::UnknownEndpoint => "UnknownEndpoint",
+        PlanWhy::Range => "Range",
+        PlanWhy::Overlap => "Overlap",
+        PlanWhy::TooManySections => "TooManySections",
+        PlanWhy::SequenceDense => "SequenceDense",
+    }
+}
+
+/// The name of a reason.
+fn why_name(why: LineWhy) -> &'static str
+    ensures name { result.now ≡ why_name why }
+    ensures short { length result.now ≤ 15 }
+{
+    match why {
+        LineWhy::Doc(why) => why.name(),
+        LineWhy::Plan(why) => plan_name(why),
+    }
+}
+
 /// Where a document is refused, and why.
 fn refusal_line(line: usize, why: LineWhy) -> Line
     ensures { result ≡ refusal_line line why }
 {
-    let LineWhy::Doc(why) = why;
     let mut text = Line::new();
     text.text(b"fronthaul: line ");
     text.number(line as u64);
     text.text(b": ");
-    text.text(why.name().as_bytes());
+    text.text(why_name(why).as_bytes());
     text.text(b"\n");
     text
 }

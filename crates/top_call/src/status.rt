@@ -2,6 +2,7 @@
 ghost use Rattle.std.specs.Prelude.{◌≡◌};
 
 use capture_records::CaptureWhy;
+use du_scheduler::PlanWhy;
 use fh_document::DocWhy;
 use pcap_frames::PcapRefusal;
 use window_config::Failing;
@@ -12,6 +13,8 @@ use window_plan::NoFit;
 pub enum LineWhy {
     /// By the grammar.
     Doc(DocWhy),
+    /// As a line of the plan.
+    Plan(PlanWhy),
 }
 
 /// How a run ended.
@@ -21,7 +24,7 @@ pub enum Status {
     Done,
     /// The words are no command. Nothing was read or written.
     BadWords,
-    /// The document is refused at a line, counted from 1. Nothing was written.
+    /// The document is refused at a line, counted from 1, by its grammar or as a line of its plan. Nothing was written.
     BadDocument { line: usize, why: LineWhy },
     /// A capture is refused at the byte where its first malformed record begins. Nothing was written.
     BadCapture { place: usize, why: CaptureWhy },

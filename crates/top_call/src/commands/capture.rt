@@ -1,31 +1,47 @@
 // `capture`: the frames of a document as they arrive.
 ghost use Rattle.std.specs.Prelude.{◌≡◌};
+ghost use Rattle.du_scheduler.specs.Plans.{HasToSend};
 ghost use Rattle.fh_document.specs.Document.{document_of};
 ghost use Rattle.fh_document.specs.Proper.{IsDocument};
-ghost use Rattle.top_call.specs.Answers.{of_document, captured};
+ghost use Rattle.plan_model.specs.Lines.{planned};
+ghost use Rattle.plan_model.specs.Sent.{sent};
+ghost use Rattle.top_call.specs.Answers.{of_document, of_planned, captured};
 ghost use Rattle.top_call.specs.Run.{Performs};
 
-use crate::endings::{injected_status, unread_status};
+use crate::endings::{injected_status, unplanned_status, unread_status};
 use crate::status::Status;
+use du_scheduler::Plan;
 use fh_base::Sink;
 use fh_document::{Document, read};
-use fronthaul_replay::capture_injected;
+use fronthaul_replay::{capture_injected, check_plan};
 use std::alloc::Global;
 
 /// Reads a document and writes its capture.
 pub(crate) fn write_capture<K: Sink>(alloc: Global, bytes: &[u8], out: &mut K) -> Status
-    ensures { Performs (of_document captured (document_of bytes.now)) (K.written out.old) (K.written out.new) (K.faults out.old) (K.faults out.new) result }
+    ensures { Performs (of_document (of_planned captured) (document_of bytes.now)) (K.written out.old) (K.written out.new) (K.faults out.old) (K.faults out.new) result }
 {
     match read(alloc, bytes) {
-        Ok(document) => put_capture(alloc, &document, out),
+        Ok(document) => capture_planned(alloc, &document, out),
         Err(fault) => unread_status(fault),
     }
 }
 
-/// Writes the capture of a document.
-fn put_capture<K: Sink>(alloc: Global, document: &Document, out: &mut K) -> Status
+/// Tests the plan of a document and writes its capture.
+fn capture_planned<K: Sink>(alloc: Global, document: &Document, out: &mut K) -> Status
     requires { IsDocument document.now }
+    ensures { Performs (of_planned captured document.now) (K.written out.old) (K.written out.new) (K.faults out.old) (K.faults out.new) result }
+{
+    match check_plan(alloc, document) {
+        Ok(plan) => put_capture(alloc, document, plan, out),
+        Err(refusal) => unplanned_status(document, refusal),
+    }
+}
+
+/// Writes the capture of a document with this plan.
+fn put_capture<K: Sink>(alloc: Global, document: &Document, plan: Plan, out: &mut K) -> Status
+    requires document { IsDocument document.now }
+    requires plan { HasToSend document.now.config document.now.plan (sent document.now.config (planned document.now.config.endpoints document.now.plan)) plan }
     ensures { Performs (captured document.now) (K.written out.old) (K.written out.new) (K.faults out.old) (K.faults out.new) result }
 {
-    injected_status(capture_injected(alloc, document, out))
+    injected_status(capture_injected(alloc, document, plan, out))
 }

@@ -7,7 +7,7 @@ use Rattle.fronthaul_replay.proofs.MomentLemmas.{sent_to_ru, waits_then}
 use Rattle.fronthaul_replay.proofs.landing.land.Goals as goal
 
 pub land_flying-requires-clause-short : goal.land_flying-requires-clause-short
-land_flying-requires-clause-short g c = sent_to_ru c.args.coming.now.in_flight c.requires.waits.sent
+land_flying-requires-clause-short g c = sent_to_ru c.args.coming.now.sending.place c.args.coming.now.in_flight c.requires.waits.sent
 
 pub land_listed-requires-clause-unit : goal.land_listed-requires-clause-unit
 land_listed-requires-clause-unit g c =
@@ -22,8 +22,7 @@ pub land_listed-requires-clause-clock : goal.land_listed-requires-clause-clock
 land_listed-requires-clause-clock g c = c.land_flying.ensures.clock ∙ c.requires.clock
 
 pub land_listed-requires-clause-list : goal.land_listed-requires-clause-list
-land_listed-requires-clause-list g c =
-    let waits = c.requires.waits in record { from = waits.from; listed = waits.listed; placed = waits.placed }
+land_listed-requires-clause-list g c = c.requires.waits.list
 
 pub returns-in_err-land_flying-clause-stop : goal.returns-in_err-land_flying-clause-stop
 returns-in_err-land_flying-clause-stop g c k h stands =

@@ -29,7 +29,7 @@ loop-index-init g c = record {
 
 pub hear-requires-clause-short : goal.hear-requires-clause-short
 hear-requires-clause-short g c =
-    subst (λ (f : List ℕ). length f < 2 ^ 32) (sym c.frame_at.ensures) (frame_short c.args.doc.now c.in-Some.index c.requires.document)
+    subst (λ (f : List ℕ). length f < 2 ^ 32) (sym c.frame_at.ensures) (frame_short c.args.doc.now c.in-Some.index c.requires.document.document)
 
 pub loop-index-preserved : goal.loop-index-preserved
 loop-index-preserved g c =

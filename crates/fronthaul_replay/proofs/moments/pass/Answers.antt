@@ -7,6 +7,7 @@ use Rattle.unit_model.specs.Radiated.{first_clock}
 use Rattle.fronthaul_replay.specs.Coming.{Waits}
 use Rattle.fronthaul_replay.specs.Turns.{AtTurn, events_before}
 use Rattle.fronthaul_replay.proofs.NextLemmas.{events_idle, gap_less, heard_next, in_order, not_before, to_end, to_idle, waits_idle}
+use Rattle.fronthaul_replay.proofs.SendLemmas.{plan_of}
 use Rattle.fronthaul_replay.proofs.StopLemmas.{halts_whole, stops_whole}
 use Rattle.fronthaul_replay.proofs.TurnLemmas.{events_none}
 use Rattle.fronthaul_replay.proofs.moments.pass.Goals as goal
@@ -83,7 +84,7 @@ loop-tick-preserved g c =
     let more = told.cause.later in
     record {
       turn = subst (λ (t : ℤ). AtTurn d t c.moment.new.ru) next told.turn;
-      waits = subst (λ (t : ℤ). Waits d t c.moment.new.coming) next told.waits;
+      waits = subst (λ (t : ℤ). Waits d t t c.moment.new.coming) next told.waits;
       heard = subst (λ (t : ℤ). g.A.Air.grew c.args.out.now (events_before d t) c.moment.new.out) next
           (heard_next g.A.Air.grew g.met.A.Air.grew_more d now tick.0 c.args.out.now c.loop-tick.out c.moment.new.out (at_most first_clock now tick.0 old.turn.turn.begun order)
           idle old.heard told.heard);
@@ -135,3 +136,6 @@ returns-clause-over g c =
     let end = end_of_time +ℤ pos 1 in
     let idle = to_end d.config old.turn.history c.loop-tick.coming (c.in_default.ensures d.config old.turn.history old.turn.stands) in
     to_idle d c.loop-tick.now.0 end c.loop-tick.ru c.loop-tick.coming c.requires.document old.turn old.waits idle old.turn.turn.ended (same_most end)
+
+pub next_moment-requires : goal.next_moment-requires
+next_moment-requires g c = plan_of c.args.doc.now c.loop-tick.now.0 c.loop-tick.coming c.loop-tick.invariant.waits

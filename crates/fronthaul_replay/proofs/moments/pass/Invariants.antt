@@ -8,7 +8,7 @@ use Rattle.fronthaul_replay.proofs.moments.pass.Given as goal
 abbrev pub invariant-loop-tick : goal.invariant-loop-tick
 invariant-loop-tick g l = record {
   turn : AtTurn l.doc l.now.0 l.ru;
-  waits : Waits l.doc l.now.0 l.coming;
+  waits : Waits l.doc l.now.0 l.now.0 l.coming;
   heard : g.A.Air.grew l.initial.out (events_before l.doc l.now.0) l.out;
   same : g.A.Air.same l.initial.out l.out;
   later : g.A.Air.faults l.initial.out ≤ g.A.Air.faults l.out;

@@ -4,17 +4,17 @@ use Rattle.fronthaul_replay.proofs.StopLemmas.{none_heard}
 use Rattle.fronthaul_replay.proofs.replays.replay.Goals as goal
 
 pub returns-in_default-clause-sound : goal.returns-in_default-clause-sound
-returns-in_default-clause-sound g c = is_sound c.args.doc.now c.requires.document
+returns-in_default-clause-sound g c = is_sound c.args.doc.now (record { document = c.requires.document; valid = c.requires.plan.valid })
 
 pub returns-in_default-clause-wants : goal.returns-in_default-clause-wants
 returns-in_default-clause-wants g c wants =
     inr (none_heard g.A.Air.grew c.args.doc.now c.args.ru.now c.args.out.now (g.met.A.Air.grew_none c.args.out.now) c.requires.unit)
 
 pub returns-in-Err-Failed-clause-sound : goal.returns-in-Err-Failed-clause-sound
-returns-in-Err-Failed-clause-sound g c = is_sound c.args.doc.now c.requires.document
+returns-in-Err-Failed-clause-sound g c = is_sound c.args.doc.now (record { document = c.requires.document; valid = c.requires.plan.valid })
 
 pub returns-in-Ok-run-clause-sound : goal.returns-in-Ok-run-clause-sound
-returns-in-Ok-run-clause-sound g c = is_sound c.args.doc.now c.requires.document
+returns-in-Ok-run-clause-sound g c = is_sound c.args.doc.now (record { document = c.requires.document; valid = c.requires.plan.valid })
 
 pub returns-clause-sound : goal.returns-clause-sound
-returns-clause-sound g c = is_sound c.args.doc.now c.requires.document
+returns-clause-sound g c = is_sound c.args.doc.now (record { document = c.requires.document; valid = c.requires.plan.valid })
