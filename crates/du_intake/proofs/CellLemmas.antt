@@ -51,9 +51,8 @@ use Rattle.ru_reports.proofs.OrderLemmas.{not_before_itself}
 use Rattle.ru_buffers.proofs.MarkedLemmas.{counts_more}
 use Rattle.ru_buffers.proofs.OrderLemmas.{same_place}
 use Rattle.schedule_laws.proofs.ClashLemmas.{slot_own}
-use Rattle.du_intake.specs.Cursors.{cell_in, is_behind}
+use Rattle.du_intake.specs.Cursors.{CellCursor, cell_in, is_behind}
 use Rattle.du_intake.specs.Units.{Keeps, due_of}
-use Rattle.du_intake.specs.declared.cursor.CellCursor.{CellCursor}
 use Rattle.du_intake.proofs.DueLemmas.{begun_late, by_cells, cells_left, each_nothing, least_not_negative, next_swept, nothing_if, one_cell, own_not_behind, quiet, used_cell, wait_bounds}
 use Rattle.du_intake.proofs.UnitLemmas.{all_told}
 

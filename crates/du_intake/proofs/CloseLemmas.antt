@@ -1,6 +1,6 @@
 -- The intake stands for its history as its cells are reported.
-use Rattle.std.proofs.Common.{◌≡◌, ℕ, ℤ, ◌+◌, ◌<◌, ◌≤◌, ◌+ℤ◌, ◌≤ℤ◌, ◌<ℤ◌, Bool, true, false, ◌==◌, List, [], ◌∷◌, ◌++◌, Option, Some, None, refl, sym, ap, ◌∙◌, subst, arith, append-nil, append_assoc}
-use Rattle.std.specs.Prelude.{if◌then◌else◌, IfSome}
+use Rattle.std.proofs.Common.{◌≡◌, ℕ, ℤ, ◌+◌, ◌^◌, ◌<◌, ◌≤◌, ◌+ℤ◌, ◌≤ℤ◌, ◌<ℤ◌, Bool, true, false, ◌==◌, List, [], ◌∷◌, ◌++◌, length, get_or, Option, Some, refl, sym, ap, ap₂, ◌∙◌, subst, arith, append-nil, append_assoc}
+use Rattle.std.specs.Prelude.{if◌then◌else◌, slice_get, IfSome}
 use Rattle.std.proofs.lemmas.Bool.{eqb-true}
 use Rattle.std.proofs.lemmas.Int.{ints}
 use Rattle.fh_time.specs.Air.{air_of}
@@ -10,27 +10,55 @@ use Rattle.air_source.specs.declared.events.Event.TheVariants.{Cell as Reported}
 use Rattle.air_source.specs.declared.events.Side.TheVariants.{Du}
 use Rattle.window_config.specs.declared.config.Config.{Config}
 use Rattle.unit_model.specs.Claims.{claim_at}
-use Rattle.unit_model.specs.Radiated.{air_cell, report_of, used_mask, wait_of}
+use Rattle.window_config.specs.declared.endpoints.EndpointConfig.{EndpointConfig}
+use Rattle.unit_model.specs.Radiated.{air_cell, cell_id, report_of, samples_under, used_mask, wait_of}
 use Rattle.unit_model.specs.Standing.{History, heard}
 use Rattle.unit_model.specs.declared.allocations.Allocation.{Allocation}
 use Rattle.unit_model.specs.declared.cells.Block.{Block}
+use Rattle.unit_model.specs.declared.cells.Cell.{Cell}
+use Rattle.unit_model.specs.declared.cells.Claim.{Claim}
 use Rattle.unit_model.specs.declared.symbol_start.SymbolStart.{SymbolStart}
 use Rattle.unit_cells.specs.Cells.{IsSlotIn, cells_block}
 use Rattle.unit_cells.proofs.KeepLemmas.{at_rings}
 use Rattle.ru_reports.specs.Symbols.{CountsTold}
-use Rattle.du_intake.specs.Calls.{StandsFor}
-use Rattle.du_intake.specs.Closing.{Closes, ClosesSome, GoesOn, IsNextPlace, StandsForSome, StopsAtDue}
-use Rattle.du_intake.specs.Cursors.{AreTimed, HasLeft, cell_in}
+use Rattle.ru_buffers.proofs.MarkedLemmas.{used_same}
+use Rattle.du_intake.specs.Calls.{StandsFor, cursor_in, next_in}
+use Rattle.du_intake.specs.Closing.{Closes, ClosesSome, GoesOn, HasMarked, IsMarkedFrom, StandsForSome, StaysAt, StopsAtDue, at_prb}
+use Rattle.du_intake.specs.Cursors.{CellCursor, HasLeft, IsNamed, IsNextSymbol, cell_in}
+use Rattle.du_intake.specs.Rows.{IsRowOf, claim_of_mark, no_mark}
+use Rattle.du_intake.specs.Symbols.{lines_in, symbol_at}
 use Rattle.du_intake.specs.Units.{Keeps, due_of}
-use Rattle.du_intake.specs.declared.cursor.CellCursor.{CellCursor}
+use Rattle.du_intake.specs.declared.marks.CellMark.{CellMark}
+use Rattle.du_intake.specs.declared.plan.UplinkPlan.{UplinkPlan}
 use Rattle.du_intake.specs.declared.unit.Intake.{Intake}
 use Rattle.du_intake.proofs.CellLemmas.{block_is, cursor_at, due_goes, due_is, keeps_told, keeps_unplanned, positive_or_none, slot_is, swept, told_cell, with_counters}
-use Rattle.du_intake.proofs.StepLemmas.{of_some, placed}
+use Rattle.du_intake.proofs.NextLemmas.{next_symbol, of_some, row_claims, some_same}
+use Rattle.du_intake.proofs.RowLemmas.{ids_same}
+use Rattle.du_intake.proofs.StepLemmas.{keeps_symbol}
 use Rattle.du_intake.proofs.UnitLemmas.{stands}
+use Rattle.du_intake.proofs.UsedLemmas.{named_left}
 
--- with other counters and another cursor
-abbrev pub closed_unit : Intake → List ℕ → CellCursor → Intake
-closed_unit u counters new = record { memory = with_counters u.memory counters; clock = u.clock; planned = u.planned; cursor = new; wait = u.wait }
+-- at the next symbol
+abbrev pub over_unit : Intake → Intake
+over_unit u = record {
+  memory = u.memory;
+  clock = u.clock;
+  plan = u.plan;
+  row = u.row;
+  place = record { symbol = u.place.symbol + 1; prb = 0 };
+  wait = u.wait;
+}
+
+-- with other counters, at a PRB of its symbol
+abbrev pub counted_unit : Intake → List ℕ → ℕ → Intake
+counted_unit u counters prb = record {
+  memory = with_counters u.memory counters;
+  clock = u.clock;
+  plan = u.plan;
+  row = u.row;
+  place = record { symbol = u.place.symbol; prb = prb };
+  wait = u.wait;
+}
 
 pub heard_none : (h : History) → heard h [] ≡ h
 heard_none h = ap (λ (xs : List AirCell). let r : History = record { clock = h.clock; arrivals = h.arrivals; reported = xs; given = h.given } in r) (append-nil h.reported)
@@ -50,38 +78,77 @@ not_later : (a b : ℤ) → a ≤ℤ b → b <ℤ a → ⊥
 not_later a b h k = omega (arith, ints)
 
 -- what the unit answers by what it keeps
-pub standing : (c : Config) (planned : List Allocation) (u : Intake) (h : History) → Closes c planned u h → IfSome u.cursor.next (HasLeft planned u.cursor.prb) → StandsFor c planned u h
-standing c planned u h all left = stands c planned u.memory u.clock.0 u.cursor h all.kept u.planned.items u.wait.0 all.plan_is all.wait_is left
-
-within_left : (planned : List Allocation) (prb : ℕ) (o : Option SymbolStart) → IfSome o (HasLeft planned prb) → IfSome o (λ m. prb < m.endpoint.prbs)
-within_left planned prb None h = tt
-within_left planned prb (Some m) h = between prb h.prb m.endpoint.prbs h.low h.below
-  where
-    between : (a b n : ℕ) → a ≤ b → b < n → a < n
-    between a b n h k = omega (arith, h, k)
+pub standing : (c : Config) (planned : List Allocation) (u : Intake) (h : History) → Closes c planned u h → IfSome (next_in u) (HasLeft planned u.place.prb) → StandsFor c planned u h
+standing c planned u h all left =
+    stands c planned u.memory u.clock.0 (cursor_in u) h all.kept u.plan (length u.row.items) u.wait.0 all.plan_is all.room_is all.wait_is left
 
 pub closing : (c : Config) (planned : List Allocation) (u : Intake) (h : History) → StandsFor c planned u h → Closes c planned u h
-closing c planned u h all = record { kept = all.kept; wait_is = all.wait_is; plan_is = all.plan_is; within = within_left planned u.cursor.prb u.cursor.next all.left }
+closing c planned u h all = record { kept = all.kept; wait_is = all.wait_is; plan_is = all.plan_is; room_is = all.room_is }
 
 pub closing_some : (u : Intake) → StandsForSome u → ClosesSome u
 closing_some u some = record { config = some.config; planned = some.planned; history = some.history; closes = closing some.config some.planned u some.history some.stands }
 
+-- ---- what stays
+
+pub stays_next : (old new : Intake) → StaysAt old new → next_in new ≡ next_in old
+stays_next old new same =
+    ap (λ (es : List EndpointConfig). symbol_at es new.plan new.place.symbol) same.endpoints
+    ∙ ap (λ (p : UplinkPlan). symbol_at old.memory.endpoints.items p new.place.symbol) same.plan
+    ∙ ap (λ (k : ℕ). symbol_at old.memory.endpoints.items old.plan k) same.symbol
+
+pub stays_marked : (old new : Intake) → StaysAt old new → HasMarked old → HasMarked new
+stays_marked old new same marked s at =
+    let there : slice_get old.plan.symbols.items old.place.symbol ≡ Some s =
+    sym (ap (λ (p : UplinkPlan). slice_get p.symbols.items new.place.symbol) same.plan ∙ ap (slice_get old.plan.symbols.items) same.symbol) ∙ at in
+    subst (λ (p : UplinkPlan). IsRowOf (lines_in p.lines.items s) s.symbol new.row.items) (sym same.plan)
+    (subst (IsRowOf (lines_in old.plan.lines.items s) s.symbol) (sym same.row) (marked s there))
+
+pub stays_both : (a b d : Intake) → StaysAt a b → StaysAt b d → StaysAt a d
+stays_both a b d one two = record {
+  endpoints = two.endpoints ∙ one.endpoints;
+  clock = two.clock ∙ one.clock;
+  plan = two.plan ∙ one.plan;
+  row = two.row ∙ one.row;
+  symbol = two.symbol ∙ one.symbol;
+  wait = two.wait ∙ one.wait;
+}
+
+-- a unit whose row was written
+pub closes_marked : (c : Config) (planned : List Allocation) (old new : Intake) (h : History) → IsMarkedFrom old new → length new.row.items ≡ length old.row.items
+    → Closes c planned old h → Closes c planned new h
+closes_marked c planned old new h is same all =
+    subst (λ (u : Intake). Closes c planned u h) (sym is)
+    (record { kept = all.kept; wait_is = all.wait_is; plan_is = all.plan_is; room_is = (let r = all.room_is in omega (arith, r, same)) })
+
 -- ---- one cell
 
--- the report of the cell at the cursor, by these lines
-abbrev pub report_by : Intake → SymbolStart → List Allocation → List AirCell
-report_by u next own =
-    report_of Du next.endpoint (cell_in next u.cursor.prb) next.start.0 (claim_at own (cell_in next u.cursor.prb)) (cells_block u.memory.cells (cell_in next u.cursor.prb))
+-- the report of the cell of a symbol at a PRB, by a mark
+abbrev pub report_by : Intake → SymbolStart → ℕ → CellMark → List AirCell
+report_by u next prb mark =
+    report_of Du next.endpoint (cell_in next prb) next.start.0 (claim_of_mark mark) (cells_block u.memory.cells (cell_in next prb))
 
-module _ (c : Config) (planned : List Allocation) (u : Intake) (h : History) (next : SymbolStart) (all : Closes c planned u h) (is : u.cursor.next ≡ Some next) where
-  abbrev prb : ℕ
-  prb = u.cursor.prb
+same_report : (e : EndpointConfig) (cell : Cell) (start : ℤ) (f g : ℕ → Option Claim) (block : Option Block) → used_mask f ≡ used_mask g → cell_id f ≡ cell_id g
+    → air_cell Du e cell start f block ≡ air_cell Du e cell start g block
+same_report e cell start f g block used id =
+    ap₂ (λ (i m : ℕ). (let a : AirCell = record {
+      side = Du;
+      at = record { 0 = start };
+      id = e.id;
+      slot = cell.slot;
+      symbol = cell.symbol;
+      prb = cell.prb;
+      section = i;
+      mask = m;
+      block = samples_under i block;
+    } in a)) id used
 
+module _ (c : Config) (planned : List Allocation) (u : Intake) (h : History) (next : SymbolStart) (prb : ℕ) (all : Closes c planned (at_prb u prb) h) (is : next_in u ≡ Some next) where
   pub kept_at : Keeps c planned u.memory u.clock.0 (cursor_at next prb) h
-  kept_at = subst (λ (x : CellCursor). Keeps c planned u.memory u.clock.0 x h) (ap (λ (o : Option SymbolStart). let r : CellCursor = record { next = o; prb = u.cursor.prb } in r) is) all.kept
+  kept_at = subst (λ (x : CellCursor). Keeps c planned u.memory u.clock.0 x h) (ap (λ (o : Option SymbolStart). let r : CellCursor = record { next = o; prb = prb } in r) is) all.kept
 
-  pub within_at : prb < next.endpoint.prbs
-  within_at = of_some (λ m. u.cursor.prb < m.endpoint.prbs) u.cursor.next next is all.within
+  -- its symbol in the configuration
+  pub own_symbol : symbol_at c.endpoints u.plan u.place.symbol ≡ Some next
+  own_symbol = ap (λ (es : List EndpointConfig). symbol_at es u.plan u.place.symbol) (sym all.kept.holds.endpoints) ∙ is
 
   pub slot_in : IsSlotIn u.memory.cells next.ep next.slot
   slot_in = record {
@@ -90,91 +157,131 @@ module _ (c : Config) (planned : List Allocation) (u : Intake) (h : History) (ne
     slot_is = slot_is c planned u.memory u.clock.0 h next prb kept_at;
   }
 
-  pub timed : AreTimed u.planned.items
-  timed = subst AreTimed (sym all.plan_is) (λ i a at. (all.kept.plan i a at).timed)
+  -- what the row's mark claims
+  pub mark_few : HasMarked u → (mark : CellMark) → mark ≡ get_or u.row.items prb no_mark → mark.mask < 2 ^ 12
+  mark_few marked mark same = subst (λ (x : CellMark). x.mask < 2 ^ 12) (sym same) (row_claims c planned u.plan all.plan_is u.place.symbol next u.row.items own_symbol marked prb).0
 
-  abbrev own_report : List AirCell
-  own_report = report_by u next u.planned.items
+  pub mark_claims : HasMarked u → (mark : CellMark) → mark ≡ get_or u.row.items prb no_mark → (re : ℕ) → claim_of_mark mark re ≡ claim_at planned (cell_in next prb) re
+  mark_claims marked mark same re =
+      ap (λ (x : CellMark). claim_of_mark x re) same ∙ (row_claims c planned u.plan all.plan_is u.place.symbol next u.row.items own_symbol marked prb).1 re
 
-  used_of : (cell : AirCell) → cell ∷ [] ≡ own_report → 0 < used_mask (claim_at planned (cell_in next prb))
-  used_of cell one =
-      subst (λ (n : ℕ). 0 < n) (ap (λ (xs : List Allocation). used_mask (claim_at xs (cell_in next prb))) all.plan_is)
-      (positive_or_none (used_mask (claim_at u.planned.items (cell_in next prb)))
-      (one_of (used_mask (claim_at u.planned.items (cell_in next prb)) == 0) cell _ one).0)
-
-  -- what is handed to the air is what is told
-  told_is : (cell : AirCell) → cell ∷ [] ≡ own_report → cell ≡ told_cell c planned u.memory u.clock.0 h next prb kept_at
-  told_is cell one =
-      let here = cell_in next prb in
-      let e = next.endpoint in
-      (one_of (used_mask (claim_at u.planned.items here) == 0) cell _ one).1
-      ∙ ap (λ (xs : List Allocation). air_cell Du e here next.start.0 (claim_at xs here) (cells_block u.memory.cells here)) all.plan_is
-      ∙ ap (λ (t : ℤ). air_cell Du e here t (claim_at planned here) (cells_block u.memory.cells here)) (sym (swept c planned u.memory u.clock.0 h next prb kept_at).starts)
-      ∙ ap (λ (b : Option Block). air_cell Du e here (air_of e.numerology next.slot next.symbol) (claim_at planned here) b) (block_is c planned u.memory u.clock.0 h next prb kept_at within_at (used_of cell one))
+  -- the unit at the next PRB
+  closes_at : (counters : List ℕ) (h2 : History) → Keeps c planned (with_counters u.memory counters) u.clock.0 (cursor_at next (prb + 1)) h2 → Closes c planned (counted_unit u counters (prb + 1)) h2
+  closes_at counters h2 k = record {
+    kept = subst (λ (x : CellCursor). Keeps c planned (with_counters u.memory counters) u.clock.0 x h2)
+        (ap (λ (o : Option SymbolStart). let r : CellCursor = record { next = o; prb = prb + 1 } in r) (sym is)) k;
+    wait_is = all.wait_is;
+    plan_is = all.plan_is;
+    room_is = all.room_is;
+  }
 
   by_wait : (to : ℤ) → (next.start.0 +ℤ u.wait.0) ≤ℤ to → (next.start.0 +ℤ wait_of Du c.delays) ≤ℤ to
   by_wait to order = subst (λ (w : ℤ). (next.start.0 +ℤ w) ≤ℤ to) all.wait_is order
 
-  pub goes_told : {A : Type 0} (grew : A → List Event → A → Type 0) (to : ℤ) (cell : AirCell) (counters : List ℕ) (new : CellCursor) (before after : A)
-      → (next.start.0 +ℤ u.wait.0) ≤ℤ to → cell ∷ [] ≡ own_report → CountsTold (cell ∷ []) u.memory.counters counters → IsNextPlace u.planned.items next prb new
-      → grew before (Reported cell ∷ []) after → GoesOn grew c planned h to (closed_unit u counters new) before after
-  goes_told grew to cell counters new before after order one counted place heard_it =
-      let used = used_of cell one in
-      let same = told_is cell one in
-      let told = told_cell c planned u.memory u.clock.0 h next prb kept_at in
-      let k : Keeps c planned (with_counters u.memory counters) u.clock.0 (cursor_at next (prb + 1)) (heard h (cell ∷ [])) =
-      subst (λ (x : AirCell). Keeps c planned (with_counters u.memory counters) u.clock.0 (cursor_at next (prb + 1)) (heard h (x ∷ []))) (sym same)
-      (keeps_told c planned u.memory u.clock.0 h next prb kept_at within_at used counters (subst (λ (x : AirCell). CountsTold (x ∷ []) u.memory.counters counters) same counted)) in
-      let p = placed c planned (with_counters u.memory counters) u.clock.0 (heard h (cell ∷ [])) next prb new k (subst (λ (xs : List Allocation). IsNextPlace xs next prb new) all.plan_is place) in
-      record {
-        told = cell ∷ [];
-        is =
-            subst (λ (x : AirCell). due_of c planned h to ≡ x ∷ due_of c planned (heard h (x ∷ [])) to) (sym same)
-            (due_goes c planned u.memory u.clock.0 h next prb kept_at within_at used to (by_wait to order));
-        closes = record { kept = p.kept; wait_is = all.wait_is; plan_is = all.plan_is; within = p.within };
-        left = λ f at late. p.left f at (λ e. not_later (next.start.0 +ℤ u.wait.0) to order (subst (λ (x : SymbolStart). to <ℤ (x.start.0 +ℤ u.wait.0)) e late));
-        heard_is = heard_it;
-      }
+  -- its moment has come
+  pub not_late : (to : ℤ) (n : ℕ) → (next.start.0 +ℤ u.wait.0) ≤ℤ to → (f : SymbolStart) → next_in u ≡ Some f → to <ℤ (f.start.0 +ℤ u.wait.0) → HasLeft planned n f
+  not_late to n order f at late =
+      let same : f ≡ next = some_same (next_in u) f next at is in
+      absurd (not_later (next.start.0 +ℤ u.wait.0) to order (subst (λ (x : SymbolStart). to <ℤ (x.start.0 +ℤ u.wait.0)) same late))
 
-  pub goes_unplanned : {A : Type 0} (grew : A → List Event → A → Type 0) → ((a : A) → grew a [] a) → (to : ℤ) (new : CellCursor) (air : A)
-      → (next.start.0 +ℤ u.wait.0) ≤ℤ to → [] ≡ own_report → IsNextPlace u.planned.items next prb new
-      → GoesOn grew c planned h to (closed_unit u u.memory.counters new) air air
-  goes_unplanned grew empty to new air order none place =
-      let unused : used_mask (claim_at planned (cell_in next prb)) ≡ 0 =
-      sym (ap (λ (xs : List Allocation). used_mask (claim_at xs (cell_in next prb))) all.plan_is)
-      ∙ eqb-true (used_mask (claim_at u.planned.items (cell_in next prb))) 0 (none_of (used_mask (claim_at u.planned.items (cell_in next prb)) == 0) _ none) in
-      let p = placed c planned u.memory u.clock.0 h next prb new (keeps_unplanned c planned u.memory u.clock.0 h next prb kept_at unused)
-      (subst (λ (xs : List Allocation). IsNextPlace xs next prb new) all.plan_is place) in
-      record {
-        told = [];
-        is = ap (λ (x : History). due_of c planned x to) (sym (heard_none h));
-        closes = subst (Closes c planned (closed_unit u u.memory.counters new)) (sym (heard_none h))
-            (record { kept = p.kept; wait_is = all.wait_is; plan_is = all.plan_is; within = p.within });
-        left = λ f at late. p.left f at (λ e. not_later (next.start.0 +ℤ u.wait.0) to order (subst (λ (x : SymbolStart). to <ℤ (x.start.0 +ℤ u.wait.0)) e late));
-        heard_is = empty air;
-      }
+  module _ (mark : CellMark) (within : prb < next.endpoint.prbs) (claims : (re : ℕ) → claim_of_mark mark re ≡ claim_at planned (cell_in next prb) re) where
+    abbrev own_report : List AirCell
+    own_report = report_by u next prb mark
 
-  left_here : 0 < used_mask (claim_at planned (cell_in next prb)) → (o : Option SymbolStart) → o ≡ Some next → IfSome o (HasLeft planned prb)
-  left_here used o e = subst (λ (x : Option SymbolStart). IfSome x (HasLeft planned prb)) (sym e) (record { prb = prb; low = no_less prb; below = within_at; used = used })
-    where
-      no_less : (n : ℕ) → n ≤ n
-      no_less n = omega arith
+    abbrev here : Cell
+    here = cell_in next prb
 
-  pub stops_here : {A : Type 0} (grew : A → List Event → A → Type 0) (stopped : A → Event → A → Type 0) → ((a : A) → grew a [] a) → (to : ℤ) (cell : AirCell)
-      (counters : List ℕ) (before after : A) → (next.start.0 +ℤ u.wait.0) ≤ℤ to → cell ∷ [] ≡ own_report → counters ≡ u.memory.counters
-      → stopped before (Reported cell) after → StopsAtDue grew stopped c planned h to (closed_unit u counters u.cursor) before after
-  stops_here grew stopped empty to cell counters before after order one counts stop =
-      let used = used_of cell one in
-      let d = due_is c planned u.memory u.clock.0 h next prb kept_at within_at used to (by_wait to order) in
-      record {
-        told = [];
-        cell = cell;
-        rest = d.0;
-        is = d.1 ∙ ap (λ (x : AirCell). x ∷ d.0) (sym (told_is cell one));
-        stands =
-            subst (λ (xs : List ℕ). StandsFor c planned (closed_unit u xs u.cursor) (heard h [])) (sym counts)
-            (subst (StandsFor c planned u) (sym (heard_none h)) (standing c planned u h all (left_here used u.cursor.next is)));
-        middle = before;
-        heard_is = empty before;
-        stop = stop;
-      }
+    used_same_mark : used_mask (claim_of_mark mark) ≡ used_mask (claim_at planned (cell_in next prb))
+    used_same_mark = used_same (claim_of_mark mark) (claim_at planned (cell_in next prb)) 12 (λ re below. claims re)
+
+    used_of : (cell : AirCell) → cell ∷ [] ≡ own_report → 0 < used_mask (claim_at planned (cell_in next prb))
+    used_of cell one =
+        subst (λ (n : ℕ). 0 < n) used_same_mark (positive_or_none (used_mask (claim_of_mark mark)) (one_of (used_mask (claim_of_mark mark) == 0) cell _ one).0)
+
+    -- what is handed to the air is what is told
+    told_is : (cell : AirCell) → cell ∷ [] ≡ own_report → cell ≡ told_cell c planned u.memory u.clock.0 h next prb kept_at
+    told_is cell one =
+        let e = next.endpoint in
+        (one_of (used_mask (claim_of_mark mark) == 0) cell _ one).1
+        ∙ same_report e (cell_in next prb) next.start.0 (claim_of_mark mark) (claim_at planned (cell_in next prb)) (cells_block u.memory.cells (cell_in next prb)) used_same_mark
+        (ids_same (claim_of_mark mark) (claim_at planned (cell_in next prb)) 0 12 claims)
+        ∙ ap (λ (t : ℤ). air_cell Du e (cell_in next prb) t (claim_at planned (cell_in next prb)) (cells_block u.memory.cells (cell_in next prb)))
+        (sym (swept c planned u.memory u.clock.0 h next prb kept_at).starts)
+        ∙ ap (λ (b : Option Block). air_cell Du e (cell_in next prb) (air_of e.numerology next.slot next.symbol) (claim_at planned (cell_in next prb)) b)
+        (block_is c planned u.memory u.clock.0 h next prb kept_at within (used_of cell one))
+
+    pub goes_told : {A : Type 0} (grew : A → List Event → A → Type 0) (to : ℤ) (cell : AirCell) (counters : List ℕ) (before after : A)
+        → (next.start.0 +ℤ u.wait.0) ≤ℤ to → cell ∷ [] ≡ own_report → CountsTold (cell ∷ []) u.memory.counters counters
+        → grew before (Reported cell ∷ []) after → GoesOn grew c planned h to (counted_unit u counters (prb + 1)) before after
+    goes_told grew to cell counters before after order one counted heard_it =
+        let used = used_of cell one in
+        let same = told_is cell one in
+        let k : Keeps c planned (with_counters u.memory counters) u.clock.0 (cursor_at next (prb + 1)) (heard h (cell ∷ [])) =
+        subst (λ (x : AirCell). Keeps c planned (with_counters u.memory counters) u.clock.0 (cursor_at next (prb + 1)) (heard h (x ∷ []))) (sym same)
+        (keeps_told c planned u.memory u.clock.0 h next prb kept_at within used counters (subst (λ (x : AirCell). CountsTold (x ∷ []) u.memory.counters counters) same counted)) in
+        record {
+          told = cell ∷ [];
+          is =
+              subst (λ (x : AirCell). due_of c planned h to ≡ x ∷ due_of c planned (heard h (x ∷ [])) to) (sym same)
+              (due_goes c planned u.memory u.clock.0 h next prb kept_at within used to (by_wait to order));
+          closes = closes_at counters (heard h (cell ∷ [])) k;
+          left = not_late to (prb + 1) order;
+          heard_is = heard_it;
+        }
+
+    pub goes_unplanned : {A : Type 0} (grew : A → List Event → A → Type 0) → ((a : A) → grew a [] a) → (to : ℤ) (air : A)
+        → (next.start.0 +ℤ u.wait.0) ≤ℤ to → [] ≡ own_report → GoesOn grew c planned h to (at_prb u (prb + 1)) air air
+    goes_unplanned grew empty to air order none =
+        let unused : used_mask (claim_at planned (cell_in next prb)) ≡ 0 =
+        sym used_same_mark ∙ eqb-true (used_mask (claim_of_mark mark)) 0 (none_of (used_mask (claim_of_mark mark) == 0) _ none) in
+        record {
+          told = [];
+          is = ap (λ (x : History). due_of c planned x to) (sym (heard_none h));
+          closes = closes_at u.memory.counters (heard h []) (subst (Keeps c planned u.memory u.clock.0 (cursor_at next (prb + 1))) (sym (heard_none h))
+              (keeps_unplanned c planned u.memory u.clock.0 h next prb kept_at unused));
+          left = not_late to (prb + 1) order;
+          heard_is = empty air;
+        }
+
+    left_here : 0 < used_mask (claim_at planned (cell_in next prb)) → (o : Option SymbolStart) → o ≡ Some next → IfSome o (HasLeft planned prb)
+    left_here used o e = subst (λ (x : Option SymbolStart). IfSome x (HasLeft planned prb)) (sym e) (record { prb = prb; low = no_less prb; below = within; used = used })
+      where
+        no_less : (n : ℕ) → n ≤ n
+        no_less n = omega arith
+
+    pub stops_here : {A : Type 0} (grew : A → List Event → A → Type 0) (stopped : A → Event → A → Type 0) → ((a : A) → grew a [] a) → (to : ℤ) (cell : AirCell)
+        (counters : List ℕ) (before after : A) → (next.start.0 +ℤ u.wait.0) ≤ℤ to → cell ∷ [] ≡ own_report → counters ≡ u.memory.counters
+        → stopped before (Reported cell) after → StopsAtDue grew stopped c planned h to (counted_unit u counters prb) before after
+    stops_here grew stopped empty to cell counters before after order one counts stop =
+        let used = used_of cell one in
+        let d = due_is c planned u.memory u.clock.0 h next prb kept_at within used to (by_wait to order) in
+        record {
+          told = [];
+          cell = cell;
+          rest = d.0;
+          is = d.1 ∙ ap (λ (x : AirCell). x ∷ d.0) (sym (told_is cell one));
+          stands =
+              subst (λ (xs : List ℕ). StandsFor c planned (counted_unit u xs prb) (heard h [])) (sym counts)
+              (subst (StandsFor c planned (at_prb u prb)) (sym (heard_none h)) (standing c planned (at_prb u prb) h all (left_here used (next_in u) is)));
+          middle = before;
+          heard_is = empty before;
+          stop = stop;
+        }
+
+  -- ---- the symbol is done
+
+  pub next_after : IsNextSymbol planned (Some next) (symbol_at u.memory.endpoints.items u.plan (u.place.symbol + 1))
+  next_after =
+      subst (λ (es : List EndpointConfig). IsNextSymbol planned (Some next) (symbol_at es u.plan (u.place.symbol + 1))) (sym all.kept.holds.endpoints)
+      (next_symbol c planned u.plan all.plan_is u.place.symbol next own_symbol)
+
+  pub closes_over : next.endpoint.prbs ≤ prb → Closes c planned (over_unit u) h
+  closes_over over = record {
+    kept = keeps_symbol c planned u.memory u.clock.0 h next prb kept_at (cursor_in (over_unit u)) over next_after refl;
+    wait_is = all.wait_is;
+    plan_is = all.plan_is;
+    room_is = all.room_is;
+  }
+
+  pub left_over : (f : SymbolStart) → next_in (over_unit u) ≡ Some f → HasLeft planned 0 f
+  left_over f e = named_left c planned f all.kept.plan (of_some (IsNamed planned) (next_in (over_unit u)) f e next_after.named)

@@ -1,7 +1,7 @@
 -- What is due at the distributed unit, by its cursor.
 use Rattle.std.proofs.Common.{◌≡◌, ◌≢◌, ℕ, zero, suc, ℤ, pos, ◌+◌, ◌<◌, ◌≤◌, ◌+ℤ◌, ◌-ℤ◌, ◌*ℤ◌, ◌*◌, ◌≤ℤ◌, ◌<ℤ◌, Bool, true, false, not, ◌&&◌, ◌||◌, ◌==◌, if◌then◌else◌, List, [], ◌∷◌, ◌++◌, filter, Option, Some, None, inl, inr, refl, sym, ap, ap₂, ◌∙◌, subst, arith}
-use Rattle.std.specs.Prelude.{cond, nat_lt, neg_ℤ, ◌^◌, IfSome}
-use Rattle.std.specs.List.{list_any}
+use Rattle.std.specs.Prelude.{cond, nat_lt, neg_ℤ, ◌^◌}
+use Rattle.std.specs.List.{list_any, slice_get}
 use Rattle.std.proofs.lemmas.Bool.{cases_Bool, eqb-true}
 use Rattle.std.proofs.lemmas.Bool.Decides.{nat_tests}
 use Rattle.std.proofs.lemmas.Int.{ints}
@@ -9,6 +9,7 @@ use Rattle.std.proofs.lemmas.List.Elements.{filter-append}
 use Rattle.fh_time.specs.Air.{air_of}
 use Rattle.fh_time.specs.Kinds.{kind_start}
 use Rattle.fh_time.specs.declared.values.Slot.{Slot}
+use Rattle.fh_time.specs.declared.values.Ticks.{Ticks}
 use Rattle.fh_time.proofs.Kept.{offsets_short}
 use Rattle.air_source.specs.declared.events.AirCell.{AirCell}
 use Rattle.air_source.specs.declared.events.Side.TheVariants.{Du}
@@ -38,10 +39,14 @@ use Rattle.history_laws.proofs.BeforeLemmas.{start_before}
 use Rattle.history_laws.proofs.FirstLemmas.{first_is_first, nothing_is_nothing}
 use Rattle.ru_memory.specs.declared.memory.RuMemory.{RuMemory}
 use Rattle.ru_reports.proofs.OrderLemmas.{not_before_itself}
-use Rattle.du_intake.specs.Cursors.{HasLeft, IsNamed, cell_in, is_behind}
-use Rattle.du_intake.specs.Units.{Keeps, Stands, due_of}
+use Rattle.du_intake.specs.Cursors.{CellCursor, HasLeft, IsNamed, cell_in, is_behind}
+use Rattle.du_intake.specs.Symbols.{start_in, symbol_at}
+use Rattle.du_intake.specs.Units.{Keeps, Stands, cursor_by, due_of}
 use Rattle.du_intake.specs.Calls.{IsLeastMoment}
-use Rattle.du_intake.specs.declared.cursor.CellCursor.{CellCursor}
+use Rattle.du_intake.specs.declared.plan.Place.{Place}
+use Rattle.du_intake.specs.declared.plan.UplinkPlan.{UplinkPlan}
+use Rattle.du_intake.specs.declared.symbols.PlannedSymbol.{PlannedSymbol}
+use Rattle.du_intake.proofs.NextLemmas.{of_some, start_is as kept_start}
 use Rattle.du_intake.proofs.UsedLemmas.{used_named}
 
 -- ---- what is told of one cell
@@ -291,15 +296,15 @@ wait_bounds n low high = (omega (arith, ints), omega (arith, ints))
 pub least_not_negative : (a b : ℤ) → pos 0 ≤ℤ a → a ≤ℤ b → pos 0 ≤ℤ b
 least_not_negative a b h k = omega (arith, ints)
 
-pub due_none : (c : Config) (planned own : List Allocation) (m : RuMemory) (clock wait : ℤ) (cursor : CellCursor) (h : History) → Stands c planned m clock wait own cursor h
-    → cursor.next ≡ None → (to : ℤ) → due_of c planned h to ≡ []
-due_none c planned own m clock _ cursor h all none to = none_due c planned m clock cursor h all.kept none to
+pub due_none : (c : Config) (planned : List Allocation) (m : RuMemory) (clock wait : ℤ) (plan : UplinkPlan) (room : ℕ) (cursor : CellCursor) (h : History)
+    → Stands c planned m clock wait plan room cursor h → cursor.next ≡ None → (to : ℤ) → due_of c planned h to ≡ []
+due_none c planned m clock _ plan room cursor h all none to = none_due c planned m clock cursor h all.kept none to
 
-pub due_some : (c : Config) (planned own : List Allocation) (m : RuMemory) (clock wait : ℤ) (cursor : CellCursor) (h : History) (next : SymbolStart) (t : ℤ)
-    → Stands c planned m clock wait own cursor h → cursor.next ≡ Some next
+pub due_some : (c : Config) (planned : List Allocation) (m : RuMemory) (clock wait : ℤ) (plan : UplinkPlan) (room : ℕ) (cursor : CellCursor) (h : History) (next : SymbolStart) (t : ℤ)
+    → Stands c planned m clock wait plan room cursor h → cursor.next ≡ Some next
     → (neg_ℤ (pos (2 ^ 60)) ≤ℤ next.start.0 → next.start.0 ≤ℤ pos (2 ^ 60) → pos 0 ≤ℤ wait → wait ≤ℤ pos (2 ^ 60) → t ≡ next.start.0 +ℤ wait)
     → IsLeastMoment c planned h t
-due_some c planned own m clock wait cursor h next t all is sum =
+due_some c planned m clock wait plan room cursor h next t all is sum =
     let k = all.kept in
     let named : IsNamed planned next = of_some (IsNamed planned) cursor.next next is k.named in
     let left : HasLeft planned cursor.prb next = of_some (HasLeft planned cursor.prb) cursor.next next is all.left in
@@ -313,7 +318,22 @@ due_some c planned own m clock wait cursor h next t all is sum =
       before = none_before c planned m clock cursor h k next is named;
       at = some_at c planned m clock cursor h k next is named left w.0;
     })
-  where
-    of_some : (P : SymbolStart → Type 0) (o : Option SymbolStart) (x : SymbolStart) → o ≡ Some x → IfSome o P → P x
-    of_some P None x e h = cc
-    of_some P (Some y) x e h = let same : y ≡ x = cc in subst P same h
+
+-- ---- by the symbol at its place
+
+pub due_at : (c : Config) (planned : List Allocation) (m : RuMemory) (clock wait : ℤ) (plan : UplinkPlan) (room : ℕ) (place : Place) (h : History) (s : PlannedSymbol) (t : ℤ)
+    → Stands c planned m clock wait plan room (cursor_by m plan place) h → slice_get plan.symbols.items place.symbol ≡ Some s
+    → (neg_ℤ (pos (2 ^ 60)) ≤ℤ s.start.0 → s.start.0 ≤ℤ pos (2 ^ 60) → pos 0 ≤ℤ wait → wait ≤ℤ pos (2 ^ 60) → t ≡ s.start.0 +ℤ wait)
+    → IsLeastMoment c planned h t
+due_at c planned m clock wait plan room place h s t all at sum =
+    let x = all.plan_is.symbols place.symbol s at in
+    let is : symbol_at m.endpoints.items plan place.symbol ≡ Some x.start =
+    ap (λ (es : List EndpointConfig). symbol_at es plan place.symbol) all.kept.holds.endpoints ∙ ap (start_in c.endpoints plan.lines.items) at ∙ x.is in
+    let e = (kept_start c.endpoints plan.lines.items s x.start x.is).0 in
+    due_some c planned m clock wait plan room (cursor_by m plan place) h x.start t all is
+    (subst (λ (q : Ticks). neg_ℤ (pos (2 ^ 60)) ≤ℤ q.0 → q.0 ≤ℤ pos (2 ^ 60) → pos 0 ≤ℤ wait → wait ≤ℤ pos (2 ^ 60) → t ≡ q.0 +ℤ wait) (sym e) sum)
+
+pub due_over : (c : Config) (planned : List Allocation) (m : RuMemory) (clock wait : ℤ) (plan : UplinkPlan) (room : ℕ) (place : Place) (h : History)
+    → Stands c planned m clock wait plan room (cursor_by m plan place) h → slice_get plan.symbols.items place.symbol ≡ None → (to : ℤ) → due_of c planned h to ≡ []
+due_over c planned m clock wait plan room place h all at to =
+    due_none c planned m clock wait plan room (cursor_by m plan place) h all (ap (start_in m.endpoints.items plan.lines.items) at) to

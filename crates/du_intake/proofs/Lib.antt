@@ -1,5 +1,10 @@
-pub mod CursorLemmas
+pub mod ListLemmas
+pub mod HomeLemmas
+pub mod ListingLemmas
+pub mod ClaimLemmas
+pub mod RowLemmas
 pub mod PlanLemmas
+pub mod NextLemmas
 pub mod UsedLemmas
 pub mod DueLemmas
 pub mod UnitLemmas

@@ -1,5 +1,5 @@
 -- The cursor goes on, cell by cell, and so does the report.
-use Rattle.std.proofs.Common.{◌≡◌, ℕ, ℤ, ◌+◌, ◌<◌, ◌≤◌, Bool, true, false, not, ◌&&◌, ◌||◌, List, Option, Some, None, inl, inr, refl, sym, ap, ◌∙◌, subst, arith}
+use Rattle.std.proofs.Common.{◌≡◌, ℕ, ℤ, ◌<◌, ◌≤◌, Bool, true, false, not, ◌&&◌, ◌||◌, List, Option, Some, None, inl, inr, refl, sym, ap, ◌∙◌, subst, arith}
 use Rattle.std.specs.Prelude.{nat_lt, IfSome}
 use Rattle.std.proofs.lemmas.Bool.{cases_Bool}
 use Rattle.std.proofs.lemmas.Bool.Decides.{nat_tests}
@@ -15,13 +15,11 @@ use Rattle.unit_laws.proofs.FarLemmas.{endpoints_equal}
 use Rattle.ru_memory.specs.declared.memory.RuMemory.{RuMemory}
 use Rattle.ru_reports.proofs.OrderLemmas.{comes_trans}
 use Rattle.ru_buffers.proofs.OrderLemmas.{same_place}
-use Rattle.du_intake.specs.Closing.{IsNextPlace}
-use Rattle.du_intake.specs.Cursors.{HasLeft, IsNamed, IsNextSymbol, IsNotBefore, is_behind}
+use Rattle.du_intake.specs.Cursors.{CellCursor, IsNextSymbol, IsNotBefore, is_behind}
 use Rattle.du_intake.specs.Units.{Keeps}
-use Rattle.du_intake.specs.declared.cursor.CellCursor.{CellCursor}
 use Rattle.du_intake.proofs.CellLemmas.{cursor_at, swept}
 use Rattle.du_intake.proofs.UnitLemmas.{found_behind}
-use Rattle.du_intake.proofs.UsedLemmas.{named_left, used_named}
+use Rattle.du_intake.proofs.UsedLemmas.{used_named}
 
 first_behind : (a b : Bool) → a ≡ true → (a || b) ≡ true
 first_behind a b h = rw h refl
@@ -96,51 +94,3 @@ module _ (c : Config) (planned : List Allocation) (m : RuMemory) (clock : ℤ) (
         ∙ ap (λ (i : ℕ). is_behind new.next i x cell.prb) (sym zero);
     named = is.named;
   }
-
-over_when : (a b : ℕ) → nat_lt a b ≡ false → b ≤ a
-over_when a b h = grind (arith, nat_tests)
-
-under_when : (a b : ℕ) → nat_lt a b ≡ true → a < b
-under_when a b h = grind (arith, nat_tests)
-
--- ---- the place behind one
-
-positive_from : (q n : ℕ) → q < n → 0 < n
-positive_from q n h = omega (arith, h)
-
-pub within_none : (P : SymbolStart → Type 0) (o : Option SymbolStart) → ((f : SymbolStart) → o ≡ Some f → P f) → IfSome o P
-within_none P None h = tt
-within_none P (Some f) h = h f refl
-
-pub of_some : (P : SymbolStart → Type 0) (o : Option SymbolStart) (x : SymbolStart) → o ≡ Some x → IfSome o P → P x
-of_some P None x e h = cc
-of_some P (Some y) x e h = let same : y ≡ x = cc in subst P same h
-
-some_is : (m x : SymbolStart) → (let s : Option SymbolStart = Some m in s ≡ Some x) → m ≡ x
-some_is m x e = cc
-
-pub record IsPlaced (c : Config) (planned : List Allocation) (m : RuMemory) (clock : ℤ) (h : History) (next : SymbolStart) (new : CellCursor) : Type 0 where
-  pub kept : Keeps c planned m clock new h
-  pub within : IfSome new.next (λ f. new.prb < f.endpoint.prbs)
-  pub left : (f : SymbolStart) → new.next ≡ Some f → (f ≡ next → ⊥) → HasLeft planned new.prb f
-
-pub placed : (c : Config) (planned : List Allocation) (m : RuMemory) (clock : ℤ) (h : History) (next : SymbolStart) (prb : ℕ) (new : CellCursor)
-    → Keeps c planned m clock (cursor_at next (prb + 1)) h → IsNextPlace planned next prb new → IsPlaced c planned m clock h next new
-placed c planned m clock h next prb new k place = elim (cases_Bool (nat_lt (prb + 1) next.endpoint.prbs)) [
-  | inl more ↦
-      let same = place.on (under_when (prb + 1) next.endpoint.prbs more) in
-      record {
-        kept = subst (λ (x : CellCursor). Keeps c planned m clock x h) (sym same) k;
-        within = subst (λ (x : CellCursor). IfSome x.next (λ f. x.prb < f.endpoint.prbs)) (sym same) (under_when (prb + 1) next.endpoint.prbs more);
-        left = λ f is other. absurd (other (sym (some_is next f (sym (ap (λ (x : CellCursor). x.next) same) ∙ is))));
-      }
-  | inr none ↦
-      let is = place.over (over_when (prb + 1) next.endpoint.prbs none) in
-      let first : (f : SymbolStart) → new.next ≡ Some f → HasLeft planned 0 f = λ f e. named_left c planned f k.plan (of_some (IsNamed planned) new.next f e is.0.named) in
-      record {
-        kept = keeps_symbol c planned m clock h next (prb + 1) k new (over_when (prb + 1) next.endpoint.prbs none) is.0 is.1;
-        within = within_none (λ f. new.prb < f.endpoint.prbs) new.next (λ f e.
-            subst (λ (i : ℕ). i < f.endpoint.prbs) (sym is.1) (let l = first f e in positive_from l.prb f.endpoint.prbs l.below));
-        left = λ f e other. subst (λ (i : ℕ). HasLeft planned i f) (sym is.1) (first f e);
-      }
-]

@@ -1,5 +1,5 @@
 -- The intake stands for its history when it is made, and after each arrival.
-use Rattle.std.proofs.Common.{◌≡◌, ℕ, ℤ, pos, ◌+ℤ◌, ◌-ℤ◌, ◌≤ℤ◌, List, [], ◌∷◌, ◌++◌, refl, sym, ap, ◌∙◌, subst, arith}
+use Rattle.std.proofs.Common.{◌≡◌, ℕ, ℤ, pos, ◌≤◌, ◌+ℤ◌, ◌-ℤ◌, ◌≤ℤ◌, List, [], ◌∷◌, ◌++◌, refl, sym, ap, ◌∙◌, subst, arith}
 use Rattle.std.specs.Prelude.{All, Bool, true, false, not, ◌&&◌, ◌||◌, nat_lt, IfSome, Option, Some, None}
 use Rattle.std.proofs.lemmas.Bool.Decides.{nat_tests}
 use Rattle.std.proofs.lemmas.Int.{ints}
@@ -7,7 +7,6 @@ use Rattle.std.proofs.lemmas.List.Elements.{All-nil, All-cons, All-weaker}
 use Rattle.air_source.specs.declared.events.Side.TheVariants.{Du}
 use Rattle.window_config.specs.declared.config.Config.{Config}
 use Rattle.fault_counters.specs.declared.kinds.Counter.{Counter}
-use Rattle.unit_model.specs.Claims.{claim_at}
 use Rattle.unit_model.specs.Counts.{cells_counted}
 use Rattle.unit_model.specs.Meetings.{Arrival}
 use Rattle.unit_model.specs.Proper.{IsProperData, IsTime}
@@ -29,9 +28,13 @@ use Rattle.ru_memory.proofs.HoldLemmas.{holds_later}
 use Rattle.unit_model.specs.Order.{comes_before}
 use Rattle.unit_model.specs.Starts.{start_at}
 use Rattle.unit_model.specs.declared.symbol_start.SymbolStart.{SymbolStart}
-use Rattle.du_intake.specs.Cursors.{ArePlanned, HasLeft, IsNamed, IsNextSymbol, IsNotBefore, is_behind}
-use Rattle.du_intake.specs.Units.{Keeps, Stands, due_of}
-use Rattle.du_intake.specs.declared.cursor.CellCursor.{CellCursor}
+use Rattle.window_config.specs.declared.endpoints.EndpointConfig.{EndpointConfig}
+use Rattle.du_intake.specs.Cursors.{ArePlanned, CellCursor, HasLeft, IsNamed, IsNextSymbol, IsNotBefore, is_behind}
+use Rattle.du_intake.specs.Symbols.{IsListed, symbol_at}
+use Rattle.du_intake.specs.Units.{Keeps, Stands, cursor_by, due_of}
+use Rattle.du_intake.specs.declared.plan.Place.{Place}
+use Rattle.du_intake.specs.declared.plan.UplinkPlan.{UplinkPlan}
+use Rattle.du_intake.proofs.NextLemmas.{first_symbol}
 use Rattle.du_intake.proofs.UsedLemmas.{named_left, used_named}
 
 whole_data : (c : Config) (d : Data) → IsProperData c.endpoints d → IsTold d
@@ -45,9 +48,9 @@ module _ (c : Config) (planned : List Allocation) (m : RuMemory) (clock : ℤ) (
       All-weaker (IsProperData c.endpoints) IsTold (whole_data c) (timely_of Du c h.arrivals)
       (all_timely (IsProperData c.endpoints) Du c.delays (data_of Du c h.arrivals) (data_are_proper Du c h.clock h.arrivals k.holds.came k.holds.times))
 
-  pub stands : (own : List Allocation) (wait : ℤ) → own ≡ planned → wait ≡ wait_of Du c.delays → IfSome cursor.next (HasLeft planned cursor.prb)
-      → Stands c planned m clock wait own cursor h
-  stands own wait same waits left = record {
+  pub stands : (plan : UplinkPlan) (room : ℕ) (wait : ℤ) → IsListed c planned plan → 273 ≤ room → wait ≡ wait_of Du c.delays → IfSome cursor.next (HasLeft planned cursor.prb)
+      → Stands c planned m clock wait plan room cursor h
+  stands plan room wait listed most waits left = record {
     answers = record {
       kept = record {
         clock = k.clock_is;
@@ -60,12 +63,13 @@ module _ (c : Config) (planned : List Allocation) (m : RuMemory) (clock : ℤ) (
         told = k.told;
         history = record { differ = k.differ; owed = k.owed; later = []; given = sym (ap (λ js. js ++ []) k.given) };
       };
-      claims = λ e cell re is down few. ap (λ (xs : List Allocation). claim_at xs cell re) same;
+      claims = λ e cell re is down few. listed.claims cell re down;
     };
     kept = k;
     wait_is = waits;
     left = left;
-    plan_is = same;
+    plan_is = listed;
+    room_is = most;
   }
 
 -- ---- a unit that was made
@@ -97,12 +101,14 @@ left_made : (c : Config) (planned : List Allocation) (next : Option SymbolStart)
 left_made c planned None plan named = tt
 left_made c planned (Some m) plan named = named_left c planned m plan named
 
-pub stands_made : (c : Config) (planned own : List Allocation) (m : RuMemory) (wait : ℤ) (next : Option SymbolStart) → ArePlanned c planned
-    → ((clock : ℤ) → Holds Du c clock m [] []) → own ≡ planned → IsNextSymbol own None next → wait ≡ wait_of Du c.delays
-    → Stands c planned m first_clock wait own (let r : CellCursor = record { next = next; prb = 0 } in r) nothing_yet
-stands_made c planned own m wait next plan holds same found waits =
-    let first : IsNextSymbol planned None next = subst (λ (xs : List Allocation). IsNextSymbol xs None next) same found in
-    stands c planned m first_clock (let r : CellCursor = record { next = next; prb = 0 } in r) nothing_yet (record {
+pub stands_made : (c : Config) (planned : List Allocation) (plan : UplinkPlan) (room : ℕ) (m : RuMemory) (wait : ℤ) → ArePlanned c planned
+    → ((clock : ℤ) → Holds Du c clock m [] []) → IsListed c planned plan → 273 ≤ room → wait ≡ wait_of Du c.delays
+    → Stands c planned m first_clock wait plan room (cursor_by m plan (record { symbol = 0; prb = 0 })) nothing_yet
+stands_made c planned plan room m wait plans holds listed most waits =
+    let next : Option SymbolStart = symbol_at m.endpoints.items plan 0 in
+    let first : IsNextSymbol planned None next =
+    subst (λ (es : List EndpointConfig). IsNextSymbol planned None (symbol_at es plan 0)) (sym (holds first_clock).endpoints) (first_symbol c planned plan listed) in
+    stands c planned m first_clock (cursor_by m plan (record { symbol = 0; prb = 0 })) nothing_yet (record {
       holds = holds first_clock;
       clock_is = refl;
       time = first_time;
@@ -112,20 +118,23 @@ stands_made c planned own m wait next plan holds same found waits =
       differ = tt;
       owed = All-nil (IsOwed Du c (du_known c planned []));
       given = refl;
-      plan = plan;
+      plan = plans;
       marks = λ e cell is down used.
           sym (found_behind (start_at cell.ep e cell.slot cell.symbol) cell.prb next
-          (first.first (start_at cell.ep e cell.slot cell.symbol) (used_named c planned e cell plan is.endpoint used) refl));
+          (first.first (start_at cell.ep e cell.slot cell.symbol) (used_named c planned e cell plans is.endpoint used) refl));
       named = first.named;
-    }) own wait same waits (left_made c planned next plan first.named)
+    }) plan room wait listed most waits (left_made c planned next plans first.named)
 
 -- ---- an arrival
 
 pub no_later : (a b c : ℤ) → a ≤ℤ b → b ≤ℤ c → a ≤ℤ c
 no_later a b c h k = omega (arith, ints)
 
-module _ (c : Config) (planned own : List Allocation) (m : RuMemory) (clock wait at : ℤ) (cursor : CellCursor) (h : History) (all : Stands c planned m clock wait own cursor h)
-    (order : clock ≤ℤ at) (time : IsTime at) (none : due_of c planned h (at -ℤ pos 1) ≡ []) where
+module _ (c : Config) (planned : List Allocation) (m : RuMemory) (clock wait at : ℤ) (plan : UplinkPlan) (room : ℕ) (place : Place) (h : History)
+    (all : Stands c planned m clock wait plan room (cursor_by m plan place) h) (order : clock ≤ℤ at) (time : IsTime at) (none : due_of c planned h (at -ℤ pos 1) ≡ []) where
+  abbrev cursor : CellCursor
+  cursor = cursor_by m plan place
+
   abbrev k : Keeps c planned m clock cursor h
   k = all.kept
 
@@ -147,9 +156,13 @@ module _ (c : Config) (planned own : List Allocation) (m : RuMemory) (clock wait
 
   pub stands_delivered : (m2 : RuMemory) (frame : List ℕ)
       → ((arrivals : List Arrival) (beside : List Counter) → Holds Du c at m arrivals beside → Holds Du c at m2 (arrival at frame ∷ arrivals) beside)
-      → Stands c planned m2 at wait own cursor (arrived (at_clock h at) frame)
+      → Stands c planned m2 at wait plan room (cursor_by m2 plan place) (arrived (at_clock h at) frame)
   stands_delivered m2 frame holds =
-      stands c planned m2 at cursor (arrived (at_clock h at) frame) (record {
+      let same : cursor ≡ cursor_by m2 plan place =
+      ap (λ (es : List EndpointConfig). (let r : CellCursor = record { next = symbol_at es plan place.symbol; prb = place.prb } in r))
+      (k.holds.endpoints ∙ sym (holds h.arrivals (cells_counted h.reported) holds_at).endpoints) in
+      subst (λ (x : CellCursor). Stands c planned m2 at wait plan room x (arrived (at_clock h at) frame)) same
+      (stands c planned m2 at cursor (arrived (at_clock h at) frame) (record {
         holds = holds h.arrivals (cells_counted h.reported) holds_at;
         clock_is = refl;
         time = time;
@@ -172,4 +185,4 @@ module _ (c : Config) (planned own : List Allocation) (m : RuMemory) (clock wait
         plan = k.plan;
         marks = k.marks;
         named = k.named;
-      }) own wait all.plan_is all.wait_is all.left
+      }) plan room wait all.plan_is all.room_is all.wait_is all.left)

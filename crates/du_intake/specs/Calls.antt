@@ -1,15 +1,25 @@
 -- What the calls of the intake say of the histories for which it stands (this project's profile).
-use Rattle.std.specs.Prelude.{◌≡◌, ◌≢◌, ℤ, pos, ◌-ℤ◌, ◌<ℤ◌, List, [], Option, Some, None}
+use Rattle.std.specs.Prelude.{◌≡◌, ◌≢◌, ℤ, pos, ◌-ℤ◌, ◌<ℤ◌, List, [], length, Option, Some, None}
 use Rattle.fh_time.specs.declared.values.Ticks.{Ticks}
 use Rattle.window_config.specs.declared.config.Config.{Config}
 use Rattle.unit_model.specs.Standing.{History}
 use Rattle.unit_model.specs.declared.allocations.Allocation.{Allocation}
-use Rattle.du_intake.specs.Units.{Stands, due_of}
+use Rattle.unit_model.specs.declared.symbol_start.SymbolStart.{SymbolStart}
+use Rattle.du_intake.specs.Cursors.{CellCursor}
+use Rattle.du_intake.specs.Symbols.{symbol_at}
+use Rattle.du_intake.specs.Units.{Stands, cursor_by, due_of}
 use Rattle.du_intake.specs.declared.unit.Intake.{Intake}
+
+-- the symbol and the PRB of the cell that the unit reports next
+abbrev pub next_in : Intake → Option SymbolStart
+next_in u = symbol_at u.memory.endpoints.items u.plan u.place.symbol
+
+abbrev pub cursor_in : Intake → CellCursor
+cursor_in u = cursor_by u.memory u.plan u.place
 
 -- the unit stands for a history of a configuration, where these uplink allocations are planned
 abbrev pub StandsFor : Config → List Allocation → Intake → History → Type 0
-StandsFor c planned u h = Stands c planned u.memory u.clock.0 u.wait.0 u.planned.items u.cursor h
+StandsFor c planned u h = Stands c planned u.memory u.clock.0 u.wait.0 u.plan (length u.row.items) (cursor_in u) h
 
 -- no cell whose moment comes before a time is left to be reported
 abbrev pub IsReportedBefore : Config → List Allocation → History → ℤ → Type 0

@@ -1,5 +1,5 @@
 -- The symbols of which uplink cells are planned, in the order in which symbols are told (this project's profile).
-use Rattle.std.specs.Prelude.{pos, ◌≤ℤ◌, ◌≡◌, ℕ, ◌+◌, ◌≤◌, ◌<◌, Bool, true, false, not, ◌&&◌, ◌||◌, nat_lt, if◌then◌else◌, List, slice_get, Option, Some, None, IfSome, ◌⊎◌}
+use Rattle.std.specs.Prelude.{pos, ◌≤ℤ◌, ◌≡◌, ℕ, ◌+◌, ◌^◌, ◌≤◌, ◌<◌, Bool, true, false, not, ◌&&◌, ◌||◌, nat_lt, List, slice_get, Option, Some, None, IfSome}
 use Rattle.fh_time.specs.Numbering.{symbols_of}
 use Rattle.window_config.specs.declared.config.Config.{Config}
 use Rattle.unit_model.specs.Claims.{cell_at, claim_at, first_prb, in_mask, is_from, prb_count}
@@ -17,46 +17,21 @@ pub record IsTimed (a : Allocation) : Type 0 where
   pub slot_is : IsSlot a.endpoint.numerology a.slot
   pub within : a.symbol + a.num_symbol ≤ symbols_of a.endpoint.numerology
 
-abbrev pub AreTimed : List Allocation → Type 0
-AreTimed planned = (k : ℕ) (a : Allocation) → slice_get planned k ≡ Some a → IsTimed a
-
--- ---- a search
+-- ---- symbols in their order
 
 -- it comes after the last one, if there is one
 abbrev pub is_after : Option SymbolStart → SymbolStart → Bool
 is_after None m = true
 is_after (Some last) m = comes_before last m
 
--- the one that comes first of what was found and one more symbol
-abbrev pub earlier_of : Option SymbolStart → SymbolStart → Option SymbolStart
-earlier_of None m = Some m
-earlier_of (Some found) m = if comes_before m found then Some m else Some found
-
-abbrev pub with_symbol : Option SymbolStart → Option SymbolStart → SymbolStart → Option SymbolStart
-with_symbol last found m = if is_after last m then earlier_of found m else found
-
 -- something is found, and this symbol does not come before it
 abbrev pub IsNotBefore : SymbolStart → Option SymbolStart → Type 0
 IsNotBefore m found = IsFound (λ f. comes_before m f ≡ false) found
-
--- the search went on over these symbols
-pub record Searched (last : Option SymbolStart) (Over : SymbolStart → Type 0) (old new : Option SymbolStart) : Type 0 where
-  pub found : (new ≡ old) ⊎ IsFound (λ m. Over m × (is_after last m ≡ true)) new
-  pub keeps : (m : SymbolStart) → IsNotBefore m old → IsNotBefore m new
-  pub finds : (m : SymbolStart) → Over m → is_after last m ≡ true → IsNotBefore m new
 
 -- one of the first n symbols that an allocation names
 pub record NamesIn (a : Allocation) (n : ℕ) (m : SymbolStart) : Type 0 where
   pub symbol : is_from a.symbol n m.symbol ≡ true
   pub is : m ≡ start_at a.ep a.endpoint a.slot m.symbol
-
--- a symbol that one of the first n of these allocations names
-pub record IsNamedIn (planned : List Allocation) (n : ℕ) (m : SymbolStart) : Type 0 where
-  pub k : ℕ
-  pub below : k < n
-  pub by : Allocation
-  pub at : slice_get planned k ≡ Some by
-  pub names : NamesIn by by.num_symbol m
 
 -- a symbol that one of these allocations names
 pub record IsNamed (planned : List Allocation) (m : SymbolStart) : Type 0 where
@@ -73,6 +48,11 @@ pub record IsNextSymbol (planned : List Allocation) (last next : Option SymbolSt
 
 -- ---- a cursor
 
+-- the first symbol of which a planned cell is left, if there is one; its PRBs below this one are done
+pub record CellCursor : Type 0 where
+  pub next : Option SymbolStart
+  pub prb : ℕ
+
 -- the cell of a symbol at a PRB comes before that of the next symbol at the next PRB
 abbrev pub is_behind : Option SymbolStart → ℕ → SymbolStart → ℕ → Bool
 is_behind None next_prb m prb = true
@@ -88,6 +68,8 @@ pub record IsPlanned (c : Config) (a : Allocation) : Type 0 where
   pub timed : IsTimed a
   pub down : a.down ≡ false
   pub idle : a.idle ≡ false
+  pub twelve : a.mask < 2 ^ 12
+  pub most : a.endpoint.prbs ≤ 273
   pub prbs : 0 < prb_count a
   pub inside : first_prb a + prb_count a ≤ a.endpoint.prbs
   -- an element that it names

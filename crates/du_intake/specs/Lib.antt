@@ -1,5 +1,9 @@
 pub mod Planned
 pub mod Cursors
+pub mod Lines
+pub mod Symbols
+pub mod Rows
+pub mod Listing
 pub mod Units
 pub mod Calls
 pub mod Closing

@@ -1,6 +1,6 @@
 -- What the distributed unit keeps in fixed memory, and the histories for which it stands: it answers for the slots that are live (this
 -- project's profile).
-use Rattle.std.specs.Prelude.{◌≡◌, ℕ, ℤ, ◌<◌, ◌≤ℤ◌, false, true, All, List, [], IfSome}
+use Rattle.std.specs.Prelude.{◌≡◌, ℕ, ℤ, ◌<◌, ◌≤◌, ◌≤ℤ◌, false, true, All, List, [], IfSome}
 use Rattle.std.specs.List.{list_any}
 use Rattle.fh_time.specs.declared.values.Slot.{Slot}
 use Rattle.air_source.specs.declared.events.AirCell.{AirCell}
@@ -20,21 +20,29 @@ use Rattle.unit_cells.specs.Cells.{cells_block}
 use Rattle.ru_memory.specs.Memory.{Holds}
 use Rattle.ru_memory.specs.declared.memory.RuMemory.{RuMemory}
 use Rattle.unit_model.specs.Starts.{start_at}
-use Rattle.du_intake.specs.Cursors.{ArePlanned, HasLeft, IsNamed, is_behind}
-use Rattle.du_intake.specs.declared.cursor.CellCursor.{CellCursor}
+use Rattle.du_intake.specs.Cursors.{ArePlanned, CellCursor, HasLeft, IsNamed, is_behind}
+use Rattle.du_intake.specs.Lines.{claim_by}
+use Rattle.du_intake.specs.Symbols.{IsListed, symbol_at}
+use Rattle.du_intake.specs.declared.lines.UplinkLine.{UplinkLine}
+use Rattle.du_intake.specs.declared.plan.Place.{Place}
+use Rattle.du_intake.specs.declared.plan.UplinkPlan.{UplinkPlan}
 
 -- what is due up to a time, over all that came
 abbrev pub due_of : Config → List Allocation → History → ℤ → List AirCell
 due_of c planned h to = due Du c.delays c.endpoints (du_known c planned h.arrivals) h.reported to
 
--- what contracts see of a unit's memory, its clock and its plan
-abbrev pub kept_of : RuMemory → ℤ → List Allocation → Kept
-kept_of m clock planned = record {
+-- what contracts see of a unit's memory, its clock and its lines
+abbrev pub kept_of : RuMemory → ℤ → List UplinkLine → Kept
+kept_of m clock ls = record {
   clock = clock;
   counts = m.counters;
-  known = record { claims = claim_at planned; blocks = cells_block m.cells };
+  known = record { claims = claim_by ls; blocks = cells_block m.cells };
   assembly = m.assembly;
 }
+
+-- the cell at a place of a plan
+abbrev pub cursor_by : RuMemory → UplinkPlan → Place → CellCursor
+cursor_by m p place = record { next = symbol_at m.endpoints.items p place.symbol; prb = place.prb }
 
 -- What the next calls rest on.
 pub record Keeps (c : Config) (planned : List Allocation) (m : RuMemory) (clock : ℤ) (cursor : CellCursor) (h : History) : Type 0 where
@@ -60,10 +68,12 @@ IsLiveAt c clock ep slot = IsLiveFor Du c clock ep slot
 
 -- The unit stands for a history: it answers for the slots that are live as the definitions do over all that came, and its claims are
 -- those of the plan.
-pub record Stands (c : Config) (planned : List Allocation) (m : RuMemory) (clock wait : ℤ) (own : List Allocation) (cursor : CellCursor) (h : History) : Type 0 where
-  pub answers : StandsByPlan (IsLiveAt c h.clock) c planned (kept_of m clock own) h
+pub record Stands (c : Config) (planned : List Allocation) (m : RuMemory) (clock wait : ℤ) (plan : UplinkPlan) (room : ℕ) (cursor : CellCursor) (h : History) : Type 0 where
+  pub answers : StandsByPlan (IsLiveAt c h.clock) c planned (kept_of m clock plan.lines.items) h
   pub kept : Keeps c planned m clock cursor h
   pub wait_is : wait ≡ wait_of Du c.delays
   -- a cell is planned of the cursor's symbol, from its PRB on
   pub left : IfSome cursor.next (HasLeft planned cursor.prb)
-  pub plan_is : own ≡ planned
+  pub plan_is : IsListed c planned plan
+  -- the row of marks has room for the PRBs of every carrier
+  pub room_is : 273 ≤ room

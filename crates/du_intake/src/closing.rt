@@ -4,7 +4,6 @@ ghost use Rattle.air_source.specs.Causes.{HasAirCause};
 ghost use Rattle.air_source.specs.declared.events.Event.TheVariants.{Cell as Reported};
 ghost use Rattle.air_source.specs.declared.events.Side.TheVariants.{Du as AtDu};
 ghost use Rattle.window_config.specs.declared.config.Config.{Config as SpecConfig};
-ghost use Rattle.unit_model.specs.Claims.{claim_at};
 ghost use Rattle.unit_model.specs.Proper.{IsTime};
 ghost use Rattle.unit_model.specs.Radiated.{report_of};
 ghost use Rattle.unit_model.specs.Standing.{History, at_clock, heard};
@@ -12,17 +11,18 @@ ghost use Rattle.unit_model.specs.declared.allocations.Allocation.{Allocation as
 ghost use Rattle.unit_cells.specs.Cells.{IsSlotIn, cells_block};
 ghost use Rattle.ru_reports.specs.Symbols.{CountsTold};
 ghost use Rattle.du_intake.specs.Cursors.{cell_in};
+ghost use Rattle.du_intake.specs.Rows.{claim_of_mark};
 ghost use Rattle.du_intake.specs.Units.{due_of};
-ghost use Rattle.std.specs.Prelude.{◌+ℤ◌, ℤ, List};
+ghost use Rattle.std.specs.Prelude.{◌+◌, ◌<◌, ◌^◌, ◌+ℤ◌, ℤ, List, length};
 
-use crate::claims::{cell_id, used_mask};
-use crate::cursor::next_place;
+use crate::marks::{CellMark, mark_at};
+use crate::plan::Place;
 use crate::unit::{Intake, moment_of};
 use air_source::{Air, AirCell, AirFault, Side};
 use fault_counters::Counters;
 use fh_time::Ticks;
 use unit_cells::UnitCells;
-use unit_model::{Allocation, Cell, SymbolStart, block_counter, samples_under};
+use unit_model::{SymbolStart, block_counter, samples_under};
 
 /// Whether a time comes before another one.
 fn is_before(a: Ticks, b: Ticks) -> bool
@@ -32,28 +32,15 @@ fn is_before(a: Ticks, b: Ticks) -> bool
     a.0 < b.0
 }
 
-/// The report of a cell of a symbol, where lines name an element of it.
-fn planned_cell(
-    cells: &UnitCells,
-    planned: &[Allocation],
-    m: &SymbolStart,
-    prb: u16,
-) -> Option<AirCell>
-    requires { IsSlotIn cells.now m.now.ep m.now.slot }
-    ensures { option_to_list result ≡ report_of AtDu m.now.endpoint (cell_in m.now prb) m.now.start.0 (claim_at planned.now (cell_in m.now prb)) (cells_block cells.now (cell_in m.now prb)) }
+/// The report of a cell of a symbol, where an element of it is claimed.
+fn planned_cell(cells: &UnitCells, mark: CellMark, m: &SymbolStart, prb: u16) -> Option<AirCell>
+    requires slot { IsSlotIn cells.now m.now.ep m.now.slot }
+    requires few { mark.mask < 2 ^ 12 }
+    ensures { option_to_list result ≡ report_of AtDu m.now.endpoint (cell_in m.now prb) m.now.start.0 (claim_of_mark mark) (cells_block cells.now (cell_in m.now prb)) }
 {
-    let cell = Cell {
-        ep: m.ep,
-        down: false,
-        slot: m.slot,
-        symbol: m.symbol,
-        prb,
-    };
-    let mask = used_mask(planned, &cell);
-    if mask == 0 {
+    if mark.mask == 0 {
         return None;
     }
-    let section = cell_id(planned, &cell);
     let block = cells.block(m.ep, m.slot, m.symbol, prb).copied();
     Some(AirCell {
         side: Side::Du,
@@ -62,9 +49,9 @@ fn planned_cell(
         slot: m.slot,
         symbol: m.symbol,
         prb,
-        section,
-        mask,
-        block: samples_under(section, block),
+        section: mark.section,
+        mask: mark.mask,
+        block: samples_under(mark.section, block),
     })
 }
 
@@ -83,37 +70,73 @@ fn tell<A: Air>(counters: &mut Counters, cell: &AirCell, air: &mut A) -> Result<
 }
 
 impl Intake {
-    ghost use Rattle.du_intake.specs.Calls.{StandsFor};
-    ghost use Rattle.du_intake.specs.Closing.{Closes, ClosesSome, ComesLater, GoesOn, IsNextDue, IsNextPlace, StandsForSome, StopsAtDue, ToldAll};
+    ghost use Rattle.du_intake.specs.Calls.{StandsFor, next_in};
+    ghost use Rattle.du_intake.specs.Closing.{Closes, ClosesSome, ComesLater, GoesOn, HasMarked, IsMarkedFrom, IsNextDue, StandsForSome, StaysAt, StopsAtDue, ToldAll, at_prb};
 
-    /// Reports the cell at the cursor, where lines name an element of it, and goes on to the next one. After an error nothing changes.
-    fn close_cell<A: Air>(&mut self, m: &SymbolStart, air: &mut A) -> Result<(), AirFault>
+    /// Reports the cell of a symbol at a PRB, where an element of it is claimed. After an error it is the next to be reported.
+    fn close_cell<A: Air>(&mut self, m: &SymbolStart, prb: u16, air: &mut A) -> Result<(), AirFault>
+        requires unit { ClosesSome (at_prb self.old prb) }
+        requires next { next_in self.old ≡ Some m.now }
+        requires within { prb < m.now.endpoint.prbs }
+        requires marks { HasMarked self.old }
+        ensures told { (c : SpecConfig) (planned : List SpecAllocation) (h : History) (to : ℤ) → Closes c planned (at_prb self.old prb) h
+            → (m.now.start.0 +ℤ self.old.wait.0) ≤ℤ to → OnOk result (GoesOn A.grew c planned h to (at_prb self.new (prb + 1)) air.old air.new) }
+        ensures stop { (c : SpecConfig) (planned : List SpecAllocation) (h : History) (to : ℤ) → Closes c planned (at_prb self.old prb) h
+            → (m.now.start.0 +ℤ self.old.wait.0) ≤ℤ to → IfErr result (λ f. StopsAtDue A.grew (A.stopped f) c planned h to self.new air.old air.new) }
+        ensures stays { StaysAt self.old self.new }
+        ensures same { A.same air.old air.new }
+        ensures cause { HasAirCause (A.faults air.old) (A.faults air.new) result }
+    {
+        let mark = mark_at(&self.row, prb);
+        match planned_cell(&self.memory.cells, mark, m, prb) {
+            None => Ok(()),
+            Some(cell) => {
+                self.place.prb = prb;
+                match tell(&mut self.memory.counters, &cell, air) {
+                    Ok(()) => Ok(()),
+                    Err(fault) => Err(fault),
+                }
+            }
+        }
+    }
+
+    /// Marks what the lines claim of the symbol at the place.
+    fn mark(&mut self)
+        requires { ClosesSome self.old }
+        ensures marks { HasMarked self.new }
+        ensures room { length self.new.row.items ≡ length self.old.row.items }
+        ensures stays { IsMarkedFrom self.old self.new }
+    {
+        self.plan.mark(self.place.symbol, &mut self.row);
+    }
+
+    /// Reports the cells of the symbol at the place, from its PRB on, and goes on to the next symbol.
+    fn close_symbol<A: Air>(&mut self, m: &SymbolStart, air: &mut A) -> Result<(), AirFault>
         requires unit { ClosesSome self.old }
-        requires next { self.old.cursor.next ≡ Some m.now }
+        requires next { next_in self.old ≡ Some m.now }
         ensures told { (c : SpecConfig) (planned : List SpecAllocation) (h : History) (to : ℤ) → Closes c planned self.old h → (m.now.start.0 +ℤ self.old.wait.0) ≤ℤ to
             → OnOk result (GoesOn A.grew c planned h to self.new air.old air.new) }
         ensures stop { (c : SpecConfig) (planned : List SpecAllocation) (h : History) (to : ℤ) → Closes c planned self.old h → (m.now.start.0 +ℤ self.old.wait.0) ≤ℤ to
             → IfErr result (λ f. StopsAtDue A.grew (A.stopped f) c planned h to self.new air.old air.new) }
-        ensures place { OnOk result (IsNextPlace self.old.planned.items m.now self.old.cursor.prb self.new.cursor) }
+        ensures plan { self.new.plan ≡ self.old.plan }
+        ensures place { OnOk result (self.new.place.symbol ≡ self.old.place.symbol + 1) }
         ensures clock { self.new.clock ≡ self.old.clock }
         ensures wait { self.new.wait ≡ self.old.wait }
         ensures same { A.same air.old air.new }
         ensures cause { HasAirCause (A.faults air.old) (A.faults air.new) result }
     {
-        let prb = self.cursor.prb;
-        match planned_cell(&self.memory.cells, &self.planned, m, prb) {
-            None => {
-                self.cursor = next_place(&self.planned, m, prb);
-                Ok(())
+        self.mark();
+        for prb in self.place.prb..m.endpoint.prbs {
+            match self.close_cell(m, prb, air) {
+                Ok(()) => {}
+                Err(fault) => return Err(fault),
             }
-            Some(cell) => match tell(&mut self.memory.counters, &cell, air) {
-                Ok(()) => {
-                    self.cursor = next_place(&self.planned, m, prb);
-                    Ok(())
-                }
-                Err(fault) => Err(fault),
-            },
         }
+        self.place = Place {
+            symbol: self.place.symbol + 1,
+            prb: 0,
+        };
+        Ok(())
     }
 
     /// The symbol of the next cell, where its moment comes by a time.
@@ -122,7 +145,10 @@ impl Intake {
         ensures some { IfSome result (λ m. IsNextDue self.now to.0 m) }
         ensures none { IfNone result (ComesLater self.now to.0) }
     {
-        let next = match self.cursor.next {
+        let next = match self
+            .plan
+            .symbol_at(&self.memory.endpoints, self.place.symbol)
+        {
             Some(next) => next,
             None => return None,
         };
@@ -146,7 +172,7 @@ impl Intake {
         loop {
             match self.next_due(to) {
                 None => return Ok(()),
-                Some(next) => match self.close_cell(&next, air) {
+                Some(next) => match self.close_symbol(&next, air) {
                     Ok(()) => {}
                     Err(fault) => return Err(fault),
                 },

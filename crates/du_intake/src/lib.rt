@@ -5,10 +5,11 @@
 //! histories it stands (`specs/Calls.antt`), by the definitions of `unit_model` over all that ever came.
 #![tactic(auto)]
 
-mod claims;
 mod closing;
-mod cursor;
-mod planned;
+mod lines;
+mod marks;
+mod plan;
+mod symbols;
 mod unit;
 
 pub use unit::Intake;

@@ -13,8 +13,8 @@ ghost use Rattle.unit_model.specs.Standing.{History, arrived, at_clock, nothing_
 ghost use Rattle.unit_model.specs.declared.allocations.Allocation.{Allocation as SpecAllocation};
 ghost use Rattle.du_intake.specs.Planned.{IsPlanOf, uplink_of};
 
-use crate::cursor::{CellCursor, next_symbol};
-use crate::planned::uplink_of;
+use crate::marks::{CellMark, NO_MARK};
+use crate::plan::{Place, UplinkPlan};
 use air_source::Side;
 use fault_counters::Counters;
 use fh_base::NoMemory;
@@ -22,7 +22,7 @@ use fh_time::{Ticks, of_ns};
 use plan_model::PlannedLine;
 use ru_memory::RuMemory;
 use std::alloc::Global;
-use unit_model::{Allocation, Delivered};
+use unit_model::Delivered;
 use window_config::Config;
 
 /// A unit's clock begins one frame before 0.
@@ -43,6 +43,16 @@ pub(crate) fn moment_of(start: Ticks, wait: Ticks) -> Ticks
     Ticks(start.0.saturating_add(wait.0))
 }
 
+/// The most PRBs of a carrier.
+const MOST_PRBS: usize = 273;
+
+/// A row of marks for the PRBs of any carrier.
+fn empty_row(alloc: Global) -> Result<Vec<CellMark>, NoMemory>
+    ensures { IfOk result (λ row. length row.items ≡ 273) }
+{
+    Ok(vec![in alloc; NO_MARK; MOST_PRBS]?)
+}
+
 /// The distributed unit's intake, in memory that is taken when it is made.
 ///
 /// Its contracts say of each history for which it stands, for which it stands after a call. Of slots that are live at its clock it
@@ -52,9 +62,11 @@ pub struct Intake {
     pub(crate) memory: RuMemory,
     pub(crate) clock: Ticks,
     /// What the plan's uplink lines name.
-    pub(crate) planned: Vec<Allocation>,
+    pub(crate) plan: UplinkPlan,
+    /// What they claim of the symbol that is reported, PRB by PRB.
+    pub(crate) row: Vec<CellMark>,
     /// Which planned cell is reported next.
-    pub(crate) cursor: CellCursor,
+    pub(crate) place: Place,
     /// How long after the start of its symbol a cell is reported: Ta4's maximum.
     pub(crate) wait: Ticks,
 }
@@ -72,14 +84,15 @@ impl Intake {
         requires plan { IsPlanOf config.now lines.now }
         ensures { IfOk result (λ u. StandsFor config.now (uplink_of lines.now) u nothing_yet) }
     {
-        let planned = uplink_of(alloc, lines)?;
+        let plan = UplinkPlan::make(alloc, config, lines)?;
+        let row = empty_row(alloc)?;
         let memory = RuMemory::make(alloc, Side::Du, config)?;
-        let next = next_symbol(&planned, &None);
         Ok(Intake {
             memory,
             clock: FIRST_CLOCK,
-            planned,
-            cursor: CellCursor { next, prb: 0 },
+            plan,
+            row,
+            place: Place { symbol: 0, prb: 0 },
             wait: wait_of(config),
         })
     }
@@ -104,7 +117,7 @@ impl Intake {
     pub fn due(&self) -> Option<Ticks>
         ensures { (c : SpecConfig) (planned : List SpecAllocation) (h : History) → StandsFor c planned self.now h → IsDue c planned h result }
     {
-        match &self.cursor.next {
+        match self.plan.planned_symbol(self.place.symbol) {
             Some(next) => Some(moment_of(next.start, self.wait)),
             None => None,
         }

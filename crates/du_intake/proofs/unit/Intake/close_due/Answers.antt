@@ -1,5 +1,5 @@
 use Rattle.unit_model.specs.Standing.{heard}
-use Rattle.du_intake.proofs.LoopLemmas.{closing_goes, closing_starts, places_fall, stops_then, told_over}
+use Rattle.du_intake.proofs.LoopLemmas.{closing_goes, closing_starts, stops_then, symbols_fall, told_over}
 use Rattle.du_intake.proofs.unit.Intake.close_due.Goals as goal
 
 pub loop-next-init : goal.loop-next-init
@@ -7,15 +7,11 @@ loop-next-init g c =
     closing_starts g.A.Air.grew g.A.Air.same g.A.Air.faults c.args.to.0 c.args.self.now c.args.air.now g.met.A.Air.grew_none g.met.A.Air.same_none c.requires
 
 pub loop-next-smaller : goal.loop-next-smaller
-loop-next-smaller g c =
-    let all = closing_goes g.A.Air.grew g.A.Air.same g.A.Air.faults c.args.to.0 c.args.self.now c.loop-next.self c.close_cell.new.self c.args.air.now c.loop-next.air c.close_cell.new.air
-    c.in-Some.next g.met.A.Air.grew_more g.met.A.Air.same_more c.loop-next.invariant c.in-Some.ensures.some c.in-Ok.ensures.told c.in-Ok.ensures.clock c.in-Ok.ensures.same
-    c.in-Ok.ensures.cause.later in
-    places_fall c.args.to.0 c.loop-next.self c.close_cell.new.self c.in-Some.next c.loop-next.invariant.some all.some c.in-Some.ensures.some c.in-Ok.ensures.place
+loop-next-smaller g c = symbols_fall c.loop-next.self c.close_symbol.new.self c.args.to.0 c.in-Some.next c.in-Some.ensures.some c.in-Ok.ensures.plan c.in-Ok.ensures.place
 
 pub loop-next-preserved : goal.loop-next-preserved
 loop-next-preserved g c =
-    closing_goes g.A.Air.grew g.A.Air.same g.A.Air.faults c.args.to.0 c.args.self.now c.loop-next.self c.close_cell.new.self c.args.air.now c.loop-next.air c.close_cell.new.air
+    closing_goes g.A.Air.grew g.A.Air.same g.A.Air.faults c.args.to.0 c.args.self.now c.loop-next.self c.close_symbol.new.self c.args.air.now c.loop-next.air c.close_symbol.new.air
     c.in-Some.next g.met.A.Air.grew_more g.met.A.Air.same_more c.loop-next.invariant c.in-Some.ensures.some c.in-Ok.ensures.told c.in-Ok.ensures.clock c.in-Ok.ensures.same
     c.in-Ok.ensures.cause.later
 
@@ -26,5 +22,5 @@ returns-in-None-clause-told g c k planned h all =
 pub returns-in-Err-clause-stop : goal.returns-in-Err-clause-stop
 returns-in-Err-clause-stop g c k planned h all =
     let one = c.loop-next.invariant.goes k planned h all in
-    stops_then g.A.Air.grew (g.A.Air.stopped c.in-Err.fault) g.met.A.Air.grew_more c.args.to.0 c.loop-next.self c.close_cell.new.self c.args.air.now c.loop-next.air c.close_cell.new.air
+    stops_then g.A.Air.grew (g.A.Air.stopped c.in-Err.fault) g.met.A.Air.grew_more c.args.to.0 c.loop-next.self c.close_symbol.new.self c.args.air.now c.loop-next.air c.close_symbol.new.air
     k planned h one (c.in-Err.ensures.stop k planned (heard h one.told) c.args.to.0 one.closes c.in-Some.ensures.some.by)

@@ -1,4 +1,4 @@
-use Rattle.du_intake.specs.Closing.{places_left}
+use Rattle.du_intake.specs.Closing.{symbols_left}
 use Rattle.du_intake.proofs.LoopLemmas.{IsClosing}
 use Rattle.du_intake.proofs.unit.Intake.close_due.Given as goal
 
@@ -6,4 +6,4 @@ abbrev pub invariant-loop-next : goal.invariant-loop-next
 invariant-loop-next g l = IsClosing g.A.Air.grew g.A.Air.same g.A.Air.faults l.to.0 l.initial.self l.self l.initial.air l.air
 
 abbrev pub decreases-loop-next : goal.decreases-loop-next
-decreases-loop-next g l = places_left l.to.0 l.self.cursor
+decreases-loop-next g l = symbols_left l.self

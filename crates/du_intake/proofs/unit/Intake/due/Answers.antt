@@ -1,12 +1,13 @@
-use Rattle.du_intake.proofs.DueLemmas.{due_none, due_some}
+use Rattle.std.proofs.Common.{length, sym}
+use Rattle.du_intake.proofs.DueLemmas.{due_at, due_over}
 use Rattle.du_intake.proofs.unit.Intake.due.Goals as goal
 
 pub returns-in-Some : goal.returns-in-Some
 returns-in-Some c k planned h all =
     let u = c.args.self.now in
-    due_some k planned u.planned.items u.memory u.clock.0 u.wait.0 u.cursor h c.in-Some.next c.moment_of.result.0 all c.in-Some.is c.moment_of.ensures
+    due_at k planned u.memory u.clock.0 u.wait.0 u.plan (length u.row.items) u.place h c.in-Some.next c.moment_of.result.0 all (sym c.in-Some.ensures) c.moment_of.ensures
 
 pub returns-in-None : goal.returns-in-None
 returns-in-None c k planned h all to =
     let u = c.args.self.now in
-    due_none k planned u.planned.items u.memory u.clock.0 u.wait.0 u.cursor h all c.in-None.is to
+    due_over k planned u.memory u.clock.0 u.wait.0 u.plan (length u.row.items) u.place h all (sym c.in-None.ensures) to

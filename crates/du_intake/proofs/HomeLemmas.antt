@@ -1,0 +1,177 @@
+-- The order of the slots of endpoints.
+use Rattle.std.proofs.Common.{◌≡◌, ℕ, ℤ, ◌<◌, ◌≤◌, inl, inr, Bool, true, false, not, ◌&&◌, ◌||◌, ◌==◌, cond, nat_lt, int_lt, List, Option, Some, refl, ap, sym, ◌∙◌, subst, arith}
+use Rattle.std.specs.Prelude.{slice_get}
+use Rattle.std.specs.List.Sorted.{IsSortedBy, IsStableBy, ties}
+use Rattle.std.specs.Cmp.{IsStrictWeakOrder}
+use Rattle.std.specs.Ordering.{int_cmp, int_eq, is_lt, nat_cmp, on, ordering_then, then_cmp}
+use Rattle.std.specs.declared.cmp.Ordering.{Ordering}
+use Rattle.std.specs.declared.cmp.Ordering.TheVariants.{Less, Equal, Greater}
+use Rattle.std.proofs.lemmas.Bool.{and_from, and_parts, cases_Bool, eq-eqb, eqb-true}
+use Rattle.std.proofs.lemmas.Bool.Decides.{nat_tests}
+use Rattle.std.proofs.lemmas.Cmp.{int_cmp_total, nat_cmp_total, on_total, then_total}
+use Rattle.std.specs.Cmp.{IsTotalOrder}
+use Rattle.std.proofs.lemmas.Int.{ints}
+use Rattle.std.proofs.lemmas.List.Sorted.{ranks_by}
+use Rattle.fh_time.specs.declared.values.Slot.{Slot}
+use Rattle.unit_model.specs.Claims.{same_slot}
+use Rattle.unit_model.specs.Order.{slot_before}
+use Rattle.unit_laws.proofs.CellLemmas.{slots_equal}
+use Rattle.schedule_laws.proofs.ClashLemmas.{slot_own}
+use Rattle.du_intake.specs.Lines.{AreInOrder, home_before, is_home, lines_at, same_home}
+use Rattle.du_intake.specs.declared.lines.UplinkLine.{UplinkLine}
+use Rattle.du_intake.proofs.ListLemmas.{filter_same, pairs_at, same_tests, sorted_pairs}
+
+-- ---- one slot
+
+pub home_is : (ep : ℕ) (slot : Slot) (l : UplinkLine) → is_home ep slot l ≡ true → (l.ep ≡ ep) × (l.slot ≡ slot)
+home_is ep slot l h = let p = and_parts (l.ep == ep) _ h in (eqb-true l.ep ep p.0, slots_equal l.slot slot p.1)
+
+pub home_from : (ep : ℕ) (slot : Slot) (l : UplinkLine) → l.ep ≡ ep → l.slot ≡ slot → is_home ep slot l ≡ true
+home_from ep slot l e s = and_from (l.ep == ep) _ (eq-eqb l.ep ep e) (subst (λ (t : Slot). same_slot l.slot t ≡ true) s (slot_own l.slot))
+
+-- ---- the sort's order
+
+abbrev pub home_cmp : UplinkLine → UplinkLine → Ordering
+home_cmp =
+    then_cmp (on (λ l. l.ep) nat_cmp)
+    (then_cmp (on (λ l. l.slot.frame) int_cmp) (then_cmp (on (λ l. l.slot.subframe) nat_cmp) (on (λ l. l.slot.slot) nat_cmp)))
+
+nat_lex : (x y : ℕ) (o : Ordering) (r : Bool) → is_lt o ≡ r → is_lt (ordering_then (nat_cmp x y) o) ≡ (nat_lt x y || ((x == y) && r))
+nat_lex x y o r h = go (nat_lt x y) (x == y)
+  where
+    go : (l e : Bool) → is_lt (ordering_then (cond l Less (cond e Equal Greater)) o) ≡ (l || (e && r))
+    go true e = refl
+    go false true = h
+    go false false = refl
+
+nat_last : (x y : ℕ) → is_lt (nat_cmp x y) ≡ nat_lt x y
+nat_last x y = go (nat_lt x y) (x == y)
+  where
+    go : (l e : Bool) → is_lt (cond l Less (cond e Equal Greater)) ≡ l
+    go true e = refl
+    go false true = refl
+    go false false = refl
+
+int_lex : (x y : ℤ) (o : Ordering) (r : Bool) → is_lt o ≡ r → is_lt (ordering_then (int_cmp x y) o) ≡ (int_lt x y || (int_eq x y && r))
+int_lex x y o r h = go (int_lt x y) (int_lt y x) (int_eq x y) refl refl refl
+  where
+    not_equal : (x y : ℤ) → int_lt y x ≡ true → int_eq x y ≡ false
+    not_equal x y e = grind (arith, ints)
+
+    is_equal : (x y : ℤ) → int_lt x y ≡ false → int_lt y x ≡ false → int_eq x y ≡ true
+    is_equal x y e f = grind (arith, ints)
+
+    go : (l g e : Bool) → int_lt x y ≡ l → int_lt y x ≡ g → int_eq x y ≡ e → is_lt (ordering_then (cond l Less (cond g Greater Equal)) o) ≡ (l || (e && r))
+    go true g e p q s = refl
+    go false true e p q s = let f : e ≡ false = sym s ∙ not_equal x y q in rw f refl
+    go false false e p q s = let f : e ≡ true = sym s ∙ is_equal x y p q in rw f h
+
+pub first_is : (a b : UplinkLine) → is_lt (home_cmp a b) ≡ home_before a b
+first_is a b =
+    nat_lex a.ep b.ep _ _ (int_lex a.slot.frame b.slot.frame _ _ (nat_lex a.slot.subframe b.slot.subframe _ _ (nat_last a.slot.slot b.slot.slot)))
+
+key_total : IsTotalOrder home_cmp
+key_total =
+    then_total (on_total (λ (l : UplinkLine). l.ep) nat_cmp_total)
+    (then_total (on_total (λ (l : UplinkLine). l.slot.frame) int_cmp_total)
+    (then_total (on_total (λ (l : UplinkLine). l.slot.subframe) nat_cmp_total) (on_total (λ (l : UplinkLine). l.slot.slot) nat_cmp_total)))
+
+pub first_ranks : IsStrictWeakOrder (λ (a b : UplinkLine). is_lt (home_cmp a b))
+first_ranks = ranks_by key_total (λ (l : UplinkLine). l)
+
+pub home_chain : (a b c : UplinkLine) → home_before a b ≡ false → home_before b c ≡ false → home_before a c ≡ false
+home_chain a b c h k = sym (first_is a c) ∙ first_ranks.chain a b c (first_is a b ∙ h) (first_is b c ∙ k)
+
+home_one_way : (a b : UplinkLine) → home_before a b ≡ true → home_before b a ≡ false
+home_one_way a b h = sym (first_is b a) ∙ first_ranks.one_way a b (first_is a b ∙ h)
+
+pub not_before_own : (a : UplinkLine) → home_before a a ≡ false
+not_before_own a = elim (cases_Bool (home_before a a)) [ inl t ↦ home_one_way a a t | inr f ↦ f ]
+
+-- ---- three cases
+
+no_first : (p q : Bool) → (p || q) ≡ false → p ≡ false
+no_first false q e = refl
+no_first true q e = e
+
+no_rest : (p q r : Bool) → (p || (q && r)) ≡ false → q ≡ true → r ≡ false
+no_rest false true r e f = e
+no_rest false false r e f = cc
+no_rest true q r e f = cc
+
+same_number : (m n : ℕ) → nat_lt m n ≡ false → nat_lt n m ≡ false → m ≡ n
+same_number m n e f = grind (arith, nat_tests)
+
+slot_cases : (a b : Slot) → slot_before a b ≡ false → slot_before b a ≡ false → same_slot a b ≡ true
+slot_cases a b h k = grind (arith, ints)
+
+pub home_cases : (a b : UplinkLine) → home_before a b ≡ false → home_before b a ≡ false → same_home a b ≡ true
+home_cases a b h k =
+    let ep : a.ep ≡ b.ep = same_number a.ep b.ep (no_first (nat_lt a.ep b.ep) _ h) (no_first (nat_lt b.ep a.ep) _ k) in
+    and_from (a.ep == b.ep) _ (eq-eqb a.ep b.ep ep)
+    (slot_cases a.slot b.slot (no_rest (nat_lt a.ep b.ep) (a.ep == b.ep) _ h (eq-eqb a.ep b.ep ep)) (no_rest (nat_lt b.ep a.ep) (b.ep == a.ep) _ k (eq-eqb b.ep a.ep (sym ep))))
+
+-- of one slot, a line comes before and behind the same
+pub same_before : (a b x : UplinkLine) → same_home a b ≡ true → home_before x a ≡ home_before x b
+same_before a b x h =
+    let e = home_is b.ep b.slot a h in
+    ap (λ (n : ℕ). nat_lt x.ep n || ((x.ep == n) && slot_before x.slot a.slot)) e.0 ∙ ap (λ (t : Slot). nat_lt x.ep b.ep || ((x.ep == b.ep) && slot_before x.slot t)) e.1
+
+pub before_same : (a b x : UplinkLine) → same_home a b ≡ true → home_before a x ≡ home_before b x
+before_same a b x h =
+    let e = home_is b.ep b.slot a h in
+    ap (λ (n : ℕ). nat_lt n x.ep || ((n == x.ep) && slot_before a.slot x.slot)) e.0 ∙ ap (λ (t : Slot). nat_lt b.ep x.ep || ((b.ep == x.ep) && slot_before t x.slot)) e.1
+
+-- ---- what the sort leaves
+
+pub in_order : (ls : List UplinkLine) → IsSortedBy (λ a b. is_lt (home_cmp a b)) ls → AreInOrder ls
+in_order ls h i j p q below at_i at_j =
+    sym (first_is q p) ∙ pairs_at (λ (p q : UplinkLine). is_lt (home_cmp q p) ≡ false) ls (sorted_pairs (λ a b. is_lt (home_cmp a b)) first_ranks ls h) i j p q below at_i at_j
+
+tied : (x l : UplinkLine) → ties (λ (a b : UplinkLine). is_lt (home_cmp a b)) x l ≡ is_home x.ep x.slot l
+tied x l = same_tests _ _
+    (λ h. let w = and_parts (not (is_lt (home_cmp x l))) _ h in
+    home_cases l x (sym (first_is l x) ∙ off (is_lt (home_cmp l x)) w.1) (sym (first_is x l) ∙ off (is_lt (home_cmp x l)) w.0))
+    (λ h. and_from (not (is_lt (home_cmp x l))) _
+    (ap not (first_is x l ∙ same_before l x x h ∙ not_before_own x))
+    (ap not (first_is l x ∙ before_same l x x h ∙ not_before_own x)))
+  where
+    off : (b : Bool) → not b ≡ true → b ≡ false
+    off true h = cc
+    off false h = refl
+
+pub homes_stay : (old new : List UplinkLine) → IsStableBy (λ a b. is_lt (home_cmp a b)) old new → (ep : ℕ) (slot : Slot) → lines_at ep slot new ≡ lines_at ep slot old
+homes_stay old new stable ep slot =
+    let x : UplinkLine = record { ep = ep; slot = slot; first_prb = 0; prbs = 0; mask = 0; section = 0; symbol = 0; num_symbol = 0 } in
+    sym (filter_same (ties (λ (a b : UplinkLine). is_lt (home_cmp a b)) x) (is_home ep slot) (tied x) new) ∙ stable x
+    ∙ filter_same (ties (λ (a b : UplinkLine). is_lt (home_cmp a b)) x) (is_home ep slot) (tied x) old
+
+-- ---- where one slot ends
+
+-- between lines of one slot no other stands
+pub apart : (ls : List UplinkLine) → AreInOrder ls → (i p q j : ℕ) (a b x y : UplinkLine) → i ≤ p → p < q → q ≤ j → slice_get ls i ≡ Some a → slice_get ls p ≡ Some b
+    → slice_get ls q ≡ Some x → slice_get ls j ≡ Some y → same_home x b ≡ false → same_home y a ≡ false
+apart ls order i p q j a b x y ip pq qj at_i at_p at_q at_j other = elim (cases_Bool (same_home y a)) [
+  | inr f ↦ f
+  | inl same ↦
+      let ba : home_before b a ≡ false = behind i p a b ip at_i at_p in
+      let yx : home_before y x ≡ false = behind q j x y qj at_q at_j in
+      let ax : home_before a x ≡ false = sym (before_same y a x same) ∙ yx in
+      let bx : home_before b x ≡ false = home_chain b a x ba ax in
+      let xb : home_before x b ≡ false = order p q b x pq at_p at_q in
+      let is = home_cases x b xb bx in absurd cc
+]
+  where
+    some_same : (a b : UplinkLine) (o : Option UplinkLine) → o ≡ Some a → o ≡ Some b → a ≡ b
+    some_same a b o p q = cc
+
+    behind : (i j : ℕ) (a b : UplinkLine) → i ≤ j → slice_get ls i ≡ Some a → slice_get ls j ≡ Some b → home_before b a ≡ false
+    behind i j a b le at_a at_b = elim (cases_Bool (i == j)) [
+      | inl e ↦
+          let same : a ≡ b = some_same a b (slice_get ls j) (ap (slice_get ls) (sym (eqb-true i j e)) ∙ at_a) at_b in
+          subst (λ (z : UplinkLine). home_before b z ≡ false) (sym same) (not_before_own b)
+      | inr e ↦ order i j a b (less i j le e) at_a at_b
+    ]
+      where
+        less : (i j : ℕ) → i ≤ j → (i == j) ≡ false → i < j
+        less i j le e = grind (arith, nat_tests)

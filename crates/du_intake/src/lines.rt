@@ -1,0 +1,121 @@
+// The uplink lines of a plan, as the unit keeps them.
+ghost use Rattle.std.specs.Prelude.{◌≡◌, ℕ, IfOk, OnOk, map};
+ghost use Rattle.fh_time.specs.declared.values.Slot.{Slot as SpecSlot};
+ghost use Rattle.plan_model.specs.Lines.{allocation_of};
+ghost use Rattle.du_intake.specs.Lines.{AreInOrder, line_of, lines_at, same_home};
+ghost use Rattle.du_intake.specs.Planned.{is_uplink, uplink_of};
+
+use fh_base::NoMemory;
+use fh_time::Slot;
+use plan_model::PlannedLine;
+use std::alloc::Global;
+use unit_model::same_slot;
+use window_config::PlanKind;
+
+/// What an uplink line of a plan names.
+#[derive(Clone, Copy, Debug, PartialEq, Eq)]
+pub struct UplinkLine {
+    /// The endpoint's index in the configuration.
+    pub ep: usize,
+    pub slot: Slot,
+    /// The first PRB.
+    pub first_prb: u16,
+    /// How many PRBs.
+    pub prbs: u16,
+    /// reMask: its resource elements in each PRB, element 0 in the most significant of 12 bits.
+    pub mask: u16,
+    /// sectionId.
+    pub section: u16,
+    /// The first symbol.
+    pub symbol: u8,
+    /// How many symbols.
+    pub num_symbol: u8,
+}
+
+/// What a slot of an endpoint is sorted by.
+#[derive(Clone, Copy, Debug, PartialEq, Eq, PartialOrd, Ord)]
+struct HomeKey {
+    ep: usize,
+    frame: i64,
+    subframe: u8,
+    slot: u8,
+}
+
+/// The endpoint and slot of a line.
+fn home_key(line: &UplinkLine) -> HomeKey
+    ensures ep { result.ep ≡ line.now.ep }
+    ensures frame { result.frame ≡ line.now.slot.frame }
+    ensures subframe { result.subframe ≡ line.now.slot.subframe }
+    ensures slot { result.slot ≡ line.now.slot.slot }
+{
+    HomeKey {
+        ep: line.ep,
+        frame: line.slot.frame,
+        subframe: line.slot.subframe,
+        slot: line.slot.slot,
+    }
+}
+
+/// Whether a line is for the uplink.
+fn is_uplink(p: &PlannedLine) -> bool
+    ensures { result ≡ is_uplink p.now }
+{
+    match p.line.kind {
+        PlanKind::Up => true,
+        PlanKind::Down | PlanKind::Idle => false,
+    }
+}
+
+/// What is kept of a line: a line of no PRBs names all of its carrier.
+fn line_of(p: &PlannedLine) -> UplinkLine
+    ensures { result ≡ line_of (allocation_of p.now) }
+{
+    let line = &p.line;
+    let all = line.num_prb == 0;
+    UplinkLine {
+        ep: p.ep,
+        slot: line.slot,
+        first_prb: if all { 0 } else { line.start_prb },
+        prbs: if all {
+            p.endpoint.prbs
+        } else {
+            u16::from(line.num_prb)
+        },
+        mask: line.mask,
+        section: line.section,
+        symbol: line.symbol,
+        num_symbol: line.count,
+    }
+}
+
+/// The uplink lines of a plan, in its order.
+pub(crate) fn uplink_lines(
+    alloc: Global,
+    planned: &[PlannedLine],
+) -> Result<Vec<UplinkLine>, NoMemory>
+    ensures { IfOk result (λ v. v.items ≡ map line_of (uplink_of planned.now)) }
+{
+    let mut lines = Vec::new(alloc);
+    for p in planned {
+        if is_uplink(p) {
+            lines.push(line_of(p))?;
+        }
+    }
+    Ok(lines)
+}
+
+/// Sorts lines by endpoint and slot; those of one slot stay in their order.
+pub(crate) fn sort_by_home(lines: &mut Vec<UplinkLine>) -> Result<(), NoMemory>
+    ensures order { OnOk result (AreInOrder lines.new.items) }
+    ensures homes { (ep : ℕ) (slot : SpecSlot) → lines_at ep slot lines.new.items ≡ lines_at ep slot lines.old.items }
+{
+    lines.sort_by_key(home_key)?;
+    Ok(())
+}
+
+/// Whether two lines are of one slot of an endpoint.
+pub(crate) fn same_home(a: &UplinkLine, b: &UplinkLine) -> bool
+    ensures { result ≡ same_home a.now b.now }
+{
+    a.ep == b.ep && same_slot(&a.slot, &b.slot)
+}
