@@ -6,9 +6,10 @@ use Rattle.air_source.specs.Answers.{block_of}
 use Rattle.unit_model.specs.Lists.{each, in_order, put_in}
 use Rattle.unit_model.specs.Uplink.{symbol_jobs}
 use Rattle.frame_bytes.specs.Messages.{message_of, section_of}
-use Rattle.uplink_model.specs.Examples.{AreAsWorked, BytesAreAsWorked, MessagesAreAsWorked, OrderIsAsWorked, TimesAreAsWorked}
+use Rattle.uplink_model.specs.Examples.{AreAsWorked, BytesAreAsWorked, MessagesAreAsWorked, OrderIsAsWorked, SentOrderIsAsWorked, TimesAreAsWorked}
 use Rattle.uplink_model.specs.Frames.{frames_behind, message_frames}
 use Rattle.uplink_model.specs.Messages.{frames_before, messages_behind}
+use Rattle.uplink_model.specs.Sent.{leaving_at}
 
 order : OrderIsAsWorked
 unfolding symbol_jobs in_order put_in
@@ -26,5 +27,9 @@ bytes : BytesAreAsWorked
 unfolding be_bytes number_bytes packed_of digits message_of section_of block_of
 bytes = record { one_prb = refl; last_id = refl; wraps = refl; frame_before_0 = refl }
 
+sent : SentOrderIsAsWorked
+unfolding leaving_at each
+sent = record { at_7 = refl; at_8 = refl; at_9 = refl }
+
 pub as_worked : AreAsWorked
-as_worked = record { order = order; messages = messages; times = times; bytes = bytes }
+as_worked = record { order = order; messages = messages; times = times; bytes = bytes; sent = sent }

@@ -3,6 +3,7 @@
 use Rattle.std.specs.Prelude.{◌≡◌, ℕ, ℤ, pos, neg_ℤ, negsuc, true, false, List, [], ◌∷◌, map}
 use Rattle.window_config.specs.Usual.{usual_delays}
 use Rattle.window_config.specs.declared.config.Config.{Config}
+use Rattle.air_source.specs.declared.links.LinkFrame.{LinkFrame}
 use Rattle.unit_model.specs.Uplink.{symbol_jobs}
 use Rattle.unit_model.specs.declared.allocations.Allocation.{Allocation}
 use Rattle.unit_model.specs.declared.jobs.UplinkJob.{UplinkJob}
@@ -10,6 +11,7 @@ use Rattle.plan_model.specs.Examples.{config_with, slot_0, usual}
 use Rattle.plan_model.specs.Packs.{alone, parts_of}
 use Rattle.uplink_model.specs.Frames.{Antenna, fragment_bytes, fragment_field, frame_id_of, frames_behind}
 use Rattle.uplink_model.specs.Messages.{messages_of, number_behind}
+use Rattle.uplink_model.specs.Sent.{leaving_at}
 
 -- ---- jobs
 
@@ -108,8 +110,27 @@ pub record BytesAreAsWorked : Type 0 where
   pub wraps : fragment_field (config_with 1) (alone two_frames) 256 1 ≡ record { seq = 0; last = true; sub = 1 }
   pub frame_before_0 : frame_id_of (negsuc 0) ≡ 255
 
+-- ---- the order in which frames are sent
+
+-- a frame of an endpoint, which leaves then; its one byte says when it was handed over
+abbrev pub handed : ℕ → ℕ → ℕ → LinkFrame
+handed at ep turn = record { at = record { 0 = pos at }; ep = ep; frame = turn ∷ [] }
+
+-- the second of five is of endpoint 0, and the third and the last leave a tick later
+abbrev pub five : List LinkFrame
+five = handed 7 1 1 ∷ handed 7 0 2 ∷ handed 8 1 3 ∷ handed 7 1 4 ∷ handed 8 0 5 ∷ []
+
+abbrev pub turns_at : ℤ → List (List ℕ)
+turns_at t = map (λ f. f.frame) (leaving_at 2 five t)
+
+pub record SentOrderIsAsWorked : Type 0 where
+  pub at_7 : turns_at (pos 7) ≡ (2 ∷ []) ∷ (1 ∷ []) ∷ (4 ∷ []) ∷ []
+  pub at_8 : turns_at (pos 8) ≡ (5 ∷ []) ∷ (3 ∷ []) ∷ []
+  pub at_9 : turns_at (pos 9) ≡ []
+
 pub record AreAsWorked : Type 0 where
   pub order : OrderIsAsWorked
   pub messages : MessagesAreAsWorked
   pub times : TimesAreAsWorked
   pub bytes : BytesAreAsWorked
+  pub sent : SentOrderIsAsWorked

@@ -8,4 +8,4 @@ mod examples;
 mod laws;
 
 pub use examples::examples_hold;
-pub use laws::{frames_append, messages_are_packs};
+pub use laws::{frames_append, leaving_is_handed_over, messages_are_packs, sent_order_is_whole};
