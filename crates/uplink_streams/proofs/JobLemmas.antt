@@ -1,5 +1,5 @@
 -- The jobs of the uplink lines of a plan are the parts of its uplink stream, and stand in the order of starts and endpoints.
-use Rattle.std.proofs.Common.{◌≡◌, ℕ, ℤ, pos, zero, suc, ◌+◌, ◌<◌, ◌≤◌, ◌+ℤ◌, ◌≤ℤ◌, inl, inr, Bool, true, false, ◌==◌, List, [], ◌∷◌, ◌++◌, map, refl, ap, ap₂, sym, ◌∙◌, subst, arith, append-nil}
+use Rattle.std.proofs.Common.{◌≡◌, ℕ, ℤ, pos, zero, suc, ◌+◌, ◌<◌, ◌≤◌, ◌+ℤ◌, ◌≤ℤ◌, ◌<ℤ◌, inl, inr, Bool, true, false, ◌==◌, List, [], ◌∷◌, ◌++◌, map, refl, ap, ap₂, sym, ◌∙◌, subst, arith, append-nil}
 use Rattle.std.specs.Prelude.{filter, reverse}
 use Rattle.std.specs.Int.{int_gap}
 use Rattle.std.proofs.lemmas.Bool.{and_parts, eq-eqb, eqb-true, ne_eqb}
@@ -7,6 +7,7 @@ use Rattle.std.proofs.lemmas.Int.{ints}
 use Rattle.std.proofs.lemmas.List.{map-append, reverse-reverse}
 use Rattle.std.proofs.lemmas.List.Elements.{filter-append}
 use Rattle.fh_time.specs.Air.{air_of}
+use Rattle.fh_time.specs.Numbering.{IsSlotOf, symbols_of}
 use Rattle.fh_time.specs.declared.values.Slot.{Slot}
 use Rattle.fragment_laws.specs.Apart.{IsIn}
 use Rattle.window_config.specs.declared.endpoints.EndpointConfig.{EndpointConfig}
@@ -22,7 +23,7 @@ use Rattle.unit_model.specs.declared.allocations.Allocation.{Allocation}
 use Rattle.unit_model.specs.declared.jobs.UplinkJob.{UplinkJob}
 use Rattle.unit_laws.proofs.CellLemmas.{slots_equal}
 use Rattle.unit_laws.proofs.FarLemmas.{endpoints_equal}
-use Rattle.unit_laws.proofs.SweepLemmas.{IsKept, each_tick_related, of_endpoint_related, sweep_related}
+use Rattle.unit_laws.proofs.SweepLemmas.{IsKept, at_tick_related, each_tick_related, of_endpoint_related, sweep_related}
 use Rattle.plan_model.specs.Lines.{allocation_of}
 use Rattle.plan_model.specs.Streams.{Part, line_before, part_in, parts_in, symbol_parts}
 use Rattle.plan_model.specs.declared.lines.PlannedLine.{PlannedLine}
@@ -33,7 +34,7 @@ use Rattle.uplink_streams.proofs.ListLemmas.{InOrder, filter_all, filter_mapped,
 
 -- ---- what each job is of
 
-symbol_job : (accepted : List Allocation) (ep : ℕ) (e : EndpointConfig) (slot : Slot) (symbol : ℕ) (j : UplinkJob) → IsIn j (symbol_jobs accepted ep e slot symbol)
+pub symbol_job : (accepted : List Allocation) (ep : ℕ) (e : EndpointConfig) (slot : Slot) (symbol : ℕ) (j : UplinkJob) → IsIn j (symbol_jobs accepted ep e slot symbol)
     → (a : Allocation) × (j ≡ job_of ep (air_of e.numerology slot symbol) slot symbol a)
 unfolding symbol_jobs
 symbol_job accepted ep e slot symbol j m =
@@ -45,6 +46,19 @@ pub record IsTimed (es : List EndpointConfig) (j : UplinkJob) : Type 0 where
   pub endpoint : EndpointConfig
   pub at : IsAt es j.ep endpoint
   pub starts : j.s.0 ≡ air_of endpoint.numerology j.slot j.symbol
+
+-- it is of a symbol that starts in these ticks
+pub record IsSweptJob (es : List EndpointConfig) (from end : ℤ) (j : UplinkJob) : Type 0 where
+  pub endpoint : EndpointConfig
+  pub at : IsAt es j.ep endpoint
+  pub slot : IsSlotOf endpoint.numerology j.slot
+  pub symbol : j.symbol < symbols_of endpoint.numerology
+  pub starts : j.s.0 ≡ air_of endpoint.numerology j.slot j.symbol
+  pub low : from ≤ℤ j.s.0
+  pub high : j.s.0 <ℤ end
+
+pub timed_job : (es : List EndpointConfig) (from end : ℤ) (j : UplinkJob) → IsSweptJob es from end j → IsTimed es j
+timed_job es from end j w = record { endpoint = w.endpoint; at = w.at; starts = w.starts }
 
 -- ---- one endpoint's
 
@@ -196,7 +210,7 @@ module _ (accepted : List Allocation) (es : List EndpointConfig) where
       (λ slot symbol low high is_slot is_symbol starts j m.
       (let w = symbol_job accepted ep e slot symbol j m in (ap (λ (x : UplinkJob). x.s.0) w.1 ∙ starts, ap (λ (x : UplinkJob). x.ep) w.1)))
 
-  at_starts : (start : ℕ) (fs : List EndpointConfig) (t : ℤ) (j : UplinkJob) → IsIn j (of_endpoints told start fs t) → (j.s.0 ≡ t) × (start ≤ j.ep)
+  pub at_starts : (start : ℕ) (fs : List EndpointConfig) (t : ℤ) (j : UplinkJob) → IsIn j (of_endpoints told start fs t) → (j.s.0 ≡ t) × (start ≤ j.ep)
   unfolding of_endpoints
   at_starts start [] t j m = absurd m
   at_starts start (e ∷ fs) t j m = elim (in_either j (of_endpoint (told start e) e t) (of_endpoints told (start + 1) fs t) m) [
@@ -239,3 +253,27 @@ module _ (accepted : List Allocation) (es : List EndpointConfig) where
       sweep_related (IsAll (IsTimed es)) (all_kept (IsTimed es)) told told es first_clock (to +ℤ pos 1) (λ ep e slot symbol t low high swept j m.
       (let w = symbol_job accepted ep e slot symbol j m in
       subst (IsTimed es) (sym w.1) (record { endpoint = e; at = swept.endpoint; starts = refl })))
+
+  -- of the symbols that start from one tick on and before another
+  pub swept_jobs : (from end : ℤ) (j : UplinkJob) → IsIn j (sweep told es from end) → IsSweptJob es from end j
+  swept_jobs from end =
+      sweep_related (IsAll (IsSweptJob es from end)) (all_kept (IsSweptJob es from end)) told told es from end (λ ep e slot symbol t low high swept j m.
+      (let w = symbol_job accepted ep e slot symbol j m in
+      subst (IsSweptJob es from end) (sym w.1) (record {
+        endpoint = e;
+        at = swept.endpoint;
+        slot = swept.slot_is;
+        symbol = swept.symbol_is;
+        starts = refl;
+        low = subst (λ z. from ≤ℤ z) (sym swept.starts) low;
+        high = subst (λ z. z <ℤ end) (sym swept.starts) high;
+      })))
+
+  pub job_swept : (to : ℤ) (j : UplinkJob) → IsIn j (jobs es accepted to) → IsSweptJob es first_clock (to +ℤ pos 1) j
+  unfolding jobs
+  job_swept to j m = swept_jobs first_clock (to +ℤ pos 1) j m
+
+  pub timed_at : (t : ℤ) (j : UplinkJob) → IsIn j (at_tick told es t) → IsTimed es j
+  timed_at t =
+      at_tick_related (IsAll (IsTimed es)) (all_kept (IsTimed es)) told told es t (λ ep e slot symbol swept j m.
+      (let w = symbol_job accepted ep e slot symbol j m in subst (IsTimed es) (sym w.1) (record { endpoint = e; at = swept.endpoint; starts = refl })))

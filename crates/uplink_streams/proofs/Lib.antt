@@ -3,3 +3,5 @@ pub mod JobLemmas
 pub mod MessageLemmas
 pub mod NumberLemmas
 pub mod StreamLemmas
+pub mod RunLemmas
+pub mod TurnLemmas

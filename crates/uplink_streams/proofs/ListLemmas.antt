@@ -1,10 +1,13 @@
 -- What filters leave of lists that are made of others, and lists in an order.
-use Rattle.std.proofs.Common.{◌≡◌, ◌⊎◌, inl, inr, Bool, true, false, if◌then◌else◌, List, [], ◌∷◌, ◌++◌, map, refl, ap, ap₂, ◌∙◌}
-use Rattle.std.specs.Prelude.{⊤, filter}
-use Rattle.std.proofs.lemmas.List.Elements.{filter-append}
+use Rattle.std.proofs.Common.{◌≡◌, ◌⊎◌, inl, inr, Bool, true, false, if◌then◌else◌, List, [], ◌∷◌, ◌++◌, map, refl, ap, ap₂, ◌∙◌, ℕ, ℤ, pos, zero, suc, ◌+ℤ◌, ◌≤ℤ◌, ◌<ℤ◌, arith, subst, sym}
+use Rattle.std.specs.Prelude.{⊤, All, filter}
+use Rattle.std.specs.List.{AllByRecursion, AllPairs}
+use Rattle.std.proofs.lemmas.Int.{ints}
+use Rattle.std.proofs.lemmas.List.Elements.{All-from_recursion, filter-append}
+use Rattle.std.proofs.lemmas.List.Kept.{AllPairs-cons}
 use Rattle.fragment_laws.specs.Apart.{IsIn}
-use Rattle.unit_model.specs.Lists.{in_order, joined, put_in}
-use Rattle.schedule_laws.proofs.ListLemmas.{in_either}
+use Rattle.unit_model.specs.Lists.{each_tick, in_order, joined, put_in}
+use Rattle.schedule_laws.proofs.ListLemmas.{in_either, in_right}
 
 -- ---- filters
 
@@ -95,3 +98,48 @@ order_join R (x ∷ xs) ys p q h = (
 pub order_all : {X : Type 0} (R : X → X → Type 0) (xs : List X) → ((x y : X) → IsIn x xs → IsIn y xs → R x y) → InOrder R xs
 order_all R [] h = tt
 order_all R (x ∷ xs) h = (λ y m. h x y (inl refl) (inr m), order_all R xs (λ a b m n. h a b (inr m) (inr n)))
+
+-- one that stands before another in such a list
+pub order_rest : {X : Type 0} (R : X → X → Type 0) (xs ys : List X) → InOrder R (xs ++ ys) → InOrder R ys
+order_rest R [] ys h = h
+order_rest R (x ∷ xs) ys h = order_rest R xs ys h.1
+
+pub order_before : {X : Type 0} (R : X → X → Type 0) (xs ys : List X) (x y : X) → InOrder R (xs ++ y ∷ ys) → IsIn x xs → R x y
+order_before R [] ys x y h m = absurd m
+order_before R (z ∷ xs) ys x y h (inl e) = subst (λ w. R w y) (sym e) (h.0 y (in_right y xs (y ∷ ys) (inl refl)))
+order_before R (z ∷ xs) ys x y h (inr t) = order_before R xs ys x y h.1 t
+
+-- ---- all of a list
+
+rec_of : {X : Type 0} (P : X → Type 0) (xs : List X) → ((x : X) → IsIn x xs → P x) → AllByRecursion P xs
+rec_of P [] h = tt
+rec_of P (x ∷ xs) h = (h x (inl refl), rec_of P xs (λ y m. h y (inr m)))
+
+pub all_of : {X : Type 0} (P : X → Type 0) (xs : List X) → ((x : X) → IsIn x xs → P x) → All P xs
+all_of P xs h = All-from_recursion P xs (rec_of P xs h)
+
+pub pairs_of : {X : Type 0} (R : X → X → Type 0) (xs : List X) → InOrder R xs → AllPairs R xs
+pairs_of R [] h = λ i j d low high. absurd (omega arith)
+pairs_of R (x ∷ xs) h = AllPairs-cons R x xs (all_of (R x) xs h.0) (pairs_of R xs h.1)
+
+-- ---- ticks
+
+pub tick_within : {X : Type 0} (x : X) (from : ℤ) (n : ℕ) (f : ℤ → List X) → IsIn x (each_tick from n f) → (t : ℤ) × (from ≤ℤ t) × (t <ℤ (from +ℤ pos n)) × IsIn x (f t)
+unfolding each_tick
+tick_within x from zero f m = absurd m
+tick_within x from (suc n) f m = elim (in_either x (f from) (each_tick (from +ℤ pos 1) n f) m) [
+  | inl l ↦ (from, here from, ahead from n, l)
+  | inr r ↦ (let w = tick_within x (from +ℤ pos 1) n f r in (w.0, above from w.0 w.1, below from n w.0 w.2, w.3))
+]
+  where
+    here : (a : ℤ) → a ≤ℤ a
+    here a = omega (arith, ints)
+
+    ahead : (a : ℤ) (n : ℕ) → a <ℤ (a +ℤ pos (suc n))
+    ahead a n = omega (arith, ints)
+
+    above : (a t : ℤ) → (a +ℤ pos 1) ≤ℤ t → a ≤ℤ t
+    above a t h = omega (arith, ints, h)
+
+    below : (a : ℤ) (n : ℕ) (t : ℤ) → t <ℤ ((a +ℤ pos 1) +ℤ pos n) → t <ℤ (a +ℤ pos (suc n))
+    below a n t h = omega (arith, ints, h)

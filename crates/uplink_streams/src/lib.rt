@@ -4,7 +4,9 @@
 #![tactic(auto)]
 
 mod laws;
+mod runs;
 
 pub use laws::{
     frames_are_the_stream, jobs_are_parts, messages_are_the_stream, test_reads_first_frames,
 };
+pub use runs::{jobs_stand_together, messages_end_in_time, none_overtakes};
