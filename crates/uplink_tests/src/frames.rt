@@ -21,7 +21,7 @@ pub(crate) const FIRST: Ticks = Ticks(14_745_600_000);
 pub(crate) const START: Ticks = Ticks(15_360_000_000);
 
 /// What a unit to which a command came at a time sends at a later one, where element k answers (k, -k); it sends no more at that time.
-fn sent(
+pub(crate) fn sent(
     alloc: Global,
     config: &Config,
     at: Ticks,
@@ -65,7 +65,7 @@ pub(crate) fn is_sent(link: &MemoryLink, place: usize, at: i64, bytes: &[u8]) ->
 }
 
 /// How long a frame is that was sent.
-fn size_of(link: &MemoryLink, place: usize) -> usize {
+pub(crate) fn size_of(link: &MemoryLink, place: usize) -> usize {
     match link.frames().get(place) {
         Some(sent) => sent.frame.as_slice().len(),
         None => 0,
@@ -143,6 +143,19 @@ fn frames_of_a_symbol_keep_a_gap(rt: HostRuntime) -> Result<(), Fail> {
     }
     assert_eq!(rt; size_of(&link, 0), 1_500);
     assert_eq!(rt; size_of(&link, 1), 924);
+    Ok(())
+}
+
+/// All frames leave at once where Ta3 is 50 us at least and at most.
+#[test]
+fn frames_without_a_spread(rt: HostRuntime) -> Result<(), Fail> {
+    let n = Numerology::ordinary(1).expect(&rt, "30 kHz");
+    let config = config(n, Widths::new(4, 4, 4, 4)?, 60_000, 50_000, 1);
+    let link = sent(rt.alloc(), &config, FIRST, &TWO_HALVES, START)?;
+    assert_eq!(rt; link.frames().len(), 4);
+    for place in 0..4 {
+        assert!(rt; is_sent(&link, place, 15_436_800_000, &[0x10]));
+    }
     Ok(())
 }
 

@@ -7,7 +7,11 @@
 #[cfg(test)]
 mod frames;
 #[cfg(test)]
+mod kinds;
+#[cfg(test)]
 mod numbers;
+#[cfg(test)]
+mod order;
 #[cfg(test)]
 mod refusals;
 #[cfg(test)]

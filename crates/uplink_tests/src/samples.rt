@@ -9,17 +9,36 @@ use eaxc_map::Widths;
 use fh_time::Numerology;
 use window_config::{Config, Delays, EndpointConfig, EndpointList, Range};
 
-/// 106 PRBs at 30 kHz, whose samples are not compressed.
-fn endpoint(numerology: Numerology) -> EndpointConfig
+/// So many PRBs, whose samples are not compressed.
+pub(crate) fn endpoint(numerology: Numerology, prbs: u16) -> EndpointConfig
+    requires some { 1 ≤ prbs }
+    requires most { prbs ≤ 273 }
     ensures { IsEndpoint result }
 {
     EndpointConfig {
         id: 0,
         numerology,
-        prbs: 106,
+        prbs,
         format: Format {
             dynamic: false,
             method: Method::Plain,
+        },
+    }
+}
+
+/// The same, where each section says its compression: block floating point of 16 bits.
+pub(crate) fn dynamic_endpoint(numerology: Numerology, prbs: u16) -> EndpointConfig
+    requires some { 1 ≤ prbs }
+    requires most { prbs ≤ 273 }
+    ensures { IsEndpoint result }
+{
+    EndpointConfig {
+        id: 0,
+        numerology,
+        prbs,
+        format: Format {
+            dynamic: true,
+            method: Method::Bfp(16),
         },
     }
 }
@@ -48,6 +67,32 @@ fn delays(most: i64) -> Delays
 }
 
 /// A configuration of one endpoint, with this gap between frames, up to this time behind a symbol, and so many sections in a message.
+pub(crate) fn config_of(
+    endpoint: EndpointConfig,
+    widths: Widths,
+    gap: i64,
+    most: i64,
+    pack: usize,
+) -> Config
+    requires endpoint { IsEndpoint endpoint }
+    requires gap { IsTime gap }
+    requires low { pos 50000 ≤ℤ most }
+    requires high { most ≤ℤ pos 2000000 }
+    requires some { 1 ≤ pack }
+    requires few { pack ≤ 64 }
+    ensures config { IsConfig result }
+{
+    Config {
+        widths,
+        delays: delays(most),
+        gap,
+        fragment: 1_492,
+        pack,
+        endpoints: listed(endpoint),
+    }
+}
+
+/// The same with 106 PRBs.
 pub(crate) fn config(
     numerology: Numerology,
     widths: Widths,
@@ -62,14 +107,7 @@ pub(crate) fn config(
     requires few { pack ≤ 64 }
     ensures config { IsConfig result }
 {
-    Config {
-        widths,
-        delays: delays(most),
-        gap,
-        fragment: 1_492,
-        pack,
-        endpoints: listed(endpoint(numerology)),
-    }
+    config_of(endpoint(numerology, 106), widths, gap, most, pack)
 }
 
 /// An uplink command: symbol 0 of frame 1, filterIndex 3, section 5, all elements of PRB 2.
