@@ -19,7 +19,8 @@ use Rattle.frame_order.specs.declared.turns.Run.{Run}
 use Rattle.frame_order.specs.declared.queue.Queue.{Queue}
 use Rattle.frame_order.specs.Turns.{AreRising, IsUpTo, IsRun, leaves, is_turn, times, turn_at, turns, rest_of, next_of}
 use Rattle.frame_order.specs.Queues.{Held, IsMerged, StandsFor, first_time, heap_cmp, left_of, run_cmp}
-use Rattle.frame_order.proofs.TurnOrder.{turn_total, same_turn, own, up_itself, up_chain, up_both, run_up, frames_up, first_is, later_is}
+use Rattle.frame_order.specs.TurnLaws.{turn_total}
+use Rattle.frame_order.proofs.TurnOrder.{same_turn, own, up_itself, up_chain, up_both, run_up, frames_up, first_is, later_is}
 
 times-append : (t : Turn) (xs ys : List Turn) → times t (xs ++ ys) ≡ times t xs + times t ys
 times-append t [] ys = omega arith

@@ -1,6 +1,6 @@
 -- The order of frames.
 use Rattle.std.proofs.Common.{◌≡◌, min, ℕ, ℤ, pos, ◌+◌, ◌*◌, ◌≤◌, ◌+ℤ◌, ◌≤ℤ◌, true, false, refl, arith, ap, ◌∙◌}
-use Rattle.std.specs.Cmp.{IsTotalOrder, then_total, on_total, nat_cmp_total, int_cmp_total, upto}
+use Rattle.std.specs.Cmp.{upto}
 use Rattle.std.specs.Int.{int_min}
 use Rattle.std.specs.Ordering.{nat_cmp, int_cmp, is_lt, is_gt, is_eq, ordering_then, ordering_reverse}
 use Rattle.std.specs.declared.cmp.Ordering.{Ordering}
@@ -11,10 +11,7 @@ use Rattle.frame_order.specs.declared.turns.Turn.{Turn}
 use Rattle.frame_order.specs.declared.turns.Run.{Run}
 use Rattle.frame_order.specs.Turns.{turn_cmp, IsUpTo, is_turn, leaves, turn_at}
 use Rattle.frame_order.specs.Queues.{run_cmp}
-
-pub turn_total : IsTotalOrder turn_cmp
-turn_total = then_total (on_total (λ t. t.at.0) int_cmp_total) (then_total (on_total (λ t. t.endpoint) nat_cmp_total)
-    (then_total (on_total (λ t. t.stream) nat_cmp_total) (then_total (on_total (λ t. t.number) nat_cmp_total) (on_total (λ t. t.sub) nat_cmp_total))))
+use Rattle.frame_order.specs.TurnLaws.{turn_total}
 
 -- ---- answers of comparisons
 

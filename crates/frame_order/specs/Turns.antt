@@ -7,13 +7,16 @@ use Rattle.std.specs.declared.cmp.Ordering.{Ordering}
 use Rattle.frame_order.specs.declared.turns.Turn.{Turn}
 use Rattle.frame_order.specs.declared.turns.Run.{Run}
 
--- the order of frames: time, endpoint, stream, number, subsequence
-abbrev pub turn_cmp : Turn → Turn → Ordering
-turn_cmp = then_cmp (on (λ t. t.at.0) int_cmp)
-    (then_cmp (on (λ t. t.endpoint) nat_cmp)
+-- the order of frames that leave together: endpoint, stream, number, subsequence
+abbrev pub one_time_cmp : Turn → Turn → Ordering
+one_time_cmp = then_cmp (on (λ t. t.endpoint) nat_cmp)
     (then_cmp (on (λ t. t.stream) nat_cmp)
     (then_cmp (on (λ t. t.number) nat_cmp)
-    (on (λ t. t.sub) nat_cmp))))
+    (on (λ t. t.sub) nat_cmp)))
+
+-- the order of frames: time, and then that
+abbrev pub turn_cmp : Turn → Turn → Ordering
+turn_cmp = then_cmp (on (λ t. t.at.0) int_cmp) one_time_cmp
 
 -- the first is not after the second
 abbrev pub IsUpTo : Turn → Turn → Type 0

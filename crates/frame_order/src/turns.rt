@@ -1,11 +1,16 @@
 //! Frames and messages, as the order sees them.
 ghost use Rattle.std.specs.Prelude.{◌≡◌, ◌<◌, ◌≤◌, ◌^◌};
+ghost use Rattle.std.specs.Ordering.{as_partial_cmp};
+ghost use Rattle.std.specs.Cmp.{partial_order_from_agreeing_total};
+ghost use Rattle.std.proofs.Common.{refl};
 ghost use Rattle.frame_order.specs.Turns.{IsRun, next_of};
 
 use fh_time::Ticks;
+use std::cmp::Ordering;
 
-/// Which frame it is and when it leaves. Frames are ordered by these fields, from the first on.
-#[derive(Clone, Copy, Debug, PartialEq, Eq, PartialOrd, Ord)]
+/// Which frame it is and when it leaves. Frames are ordered by time, endpoint, stream, number and subsequence id; the fields stand
+/// so that a queue's items are short.
+#[derive(Clone, Copy, Debug, PartialEq, Eq)]
 pub struct Turn {
     /// When it leaves.
     pub at: Ticks,
@@ -14,10 +19,63 @@ pub struct Turn {
     /// The place of its stream among those of its endpoint: commands for the downlink, commands for
     /// the uplink, data.
     pub stream: u8,
-    /// The number of its message in the stream.
-    pub number: u32,
     /// Its subsequence id.
     pub sub: u8,
+    /// The number of its message in the stream.
+    pub number: u32,
+}
+
+impl Turn {
+    ghost use Rattle.frame_order.specs.Turns.{one_time_cmp};
+
+    /// The order of frames that leave together.
+    fn cmp_at_one_time(&self, other: &Turn) -> Ordering
+        ensures { result ≡ one_time_cmp self.now other.now }
+    {
+        match self.endpoint.cmp(&other.endpoint) {
+            Ordering::Equal => match self.stream.cmp(&other.stream) {
+                Ordering::Equal => match self.number.cmp(&other.number) {
+                    Ordering::Equal => self.sub.cmp(&other.sub),
+                    unequal => unequal,
+                },
+                unequal => unequal,
+            },
+            unequal => unequal,
+        }
+    }
+}
+
+impl PartialOrd for Turn {
+    ghost use Rattle.frame_order.specs.Turns.{turn_cmp};
+    ghost use Rattle.frame_order.specs.TurnLaws.{turn_ties, turn_total};
+
+    ghost partial_cmp = { as_partial_cmp turn_cmp };
+
+    ghost laws = { partial_order_from_agreeing_total turn_cmp turn_total (λ x y. refl) turn_ties };
+
+    fn partial_cmp(&self, other: &Turn) -> Option<Ordering> {
+        Some(self.cmp(other))
+    }
+}
+
+impl Ord for Turn {
+    ghost use Rattle.frame_order.specs.Turns.{turn_cmp};
+    ghost use Rattle.frame_order.specs.TurnLaws.{turn_ties, turn_total};
+
+    ghost cmp = { turn_cmp };
+
+    ghost total = { turn_total };
+
+    ghost matches_partial_cmp = { λ x y. refl };
+
+    ghost matches_eq = { turn_ties };
+
+    fn cmp(&self, other: &Turn) -> Ordering {
+        match self.at.cmp(&other.at) {
+            Ordering::Equal => self.cmp_at_one_time(other),
+            unequal => unequal,
+        }
+    }
 }
 
 /// What is left of the frames of a message.

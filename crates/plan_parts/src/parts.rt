@@ -152,6 +152,17 @@ fn put_sent(
     put_line(parts, stream, p)
 }
 
+/// How many parts an endpoint's stream has.
+fn count_of(stream: Stream, ep: usize, lines: &[PlannedLine]) -> usize {
+    let mut count: usize = 0;
+    for line in lines {
+        if is_sent(stream, ep, line) {
+            count = count.saturating_add(symbols_in(stream, line) as usize);
+        }
+    }
+    count
+}
+
 /// The parts of an endpoint's stream, line by line.
 fn listed(
     alloc: Global,
@@ -162,7 +173,7 @@ fn listed(
     requires { ArePlaced lines.now }
     ensures { IfOk result (λ v. v.items ≡ map (timed stream) (listed stream ep lines.now)) }
 {
-    let mut parts = Vec::new(alloc);
+    let mut parts = Vec::with_capacity(alloc, count_of(stream, ep, lines))?;
     for line in lines {
         put_sent(&mut parts, stream, ep, line)?;
     }

@@ -1,5 +1,5 @@
 //! The messages of parts in their order.
-ghost use Rattle.std.specs.Prelude.{◌≡◌, ℕ, ◌+◌, ◌<◌, ◌≤◌, ◌^◌, ◌∷◌, ◌++◌, length, map, IfOk, List};
+ghost use Rattle.std.specs.Prelude.{◌≡◌, ℕ, ◌+◌, ◌<◌, ◌≤◌, ◌^◌, [], ◌∷◌, ◌++◌, length, map, IfOk, List};
 ghost use Rattle.std.specs.List.{AllByRecursion};
 ghost use Rattle.window_config.specs.declared.config.Config.{Config as SpecConfig};
 ghost use Rattle.window_config.specs.declared.endpoints.EndpointConfig.{EndpointConfig as SpecEndpoint};
@@ -27,6 +27,17 @@ pub struct Messages {
     pub runs: Vec<Run>,
     /// The place of each one's first part among the parts of the stream.
     pub begins: Vec<u32>,
+}
+
+/// No messages yet, and room for so many.
+fn with_room(alloc: Global, count: usize) -> Result<Messages, NoMemory>
+    ensures runs { IfOk result (λ m. m.runs.items ≡ []) }
+    ensures begins { IfOk result (λ m. m.begins.items ≡ []) }
+{
+    Ok(Messages {
+        runs: Vec::with_capacity(alloc, count)?,
+        begins: Vec::with_capacity(alloc, count)?,
+    })
 }
 
 /// Gives a part, which has this place, to a message, or begins another one with it and appends the message that is whole.
@@ -73,10 +84,7 @@ pub fn stream_messages(
     ensures begins { IfOk result (λ v. (c : SpecConfig) → (lines : List SpecLine) → (stream : SpecStream) → (ep : ℕ) → (e : SpecEndpoint)
         → limits.now ≡ limits_of c stream ep → parts.now ≡ map (timed stream) (parts_in lines stream ep e) → v.begins.items ≡ stream_begins c lines stream ep e) }
 {
-    let mut messages = Messages {
-        runs: Vec::new(alloc),
-        begins: Vec::new(alloc),
-    };
+    let mut messages = with_room(alloc, parts.len())?;
     if parts.is_empty() {
         return Ok(messages);
     }

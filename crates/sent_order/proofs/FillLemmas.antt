@@ -9,7 +9,8 @@ use Rattle.frame_order.specs.Turns.{AreRising, IsUpTo, is_turn, rest_of, times, 
 use Rattle.frame_order.specs.declared.queue.Queue.{Queue}
 use Rattle.frame_order.specs.declared.turns.Run.{Run}
 use Rattle.frame_order.specs.declared.turns.Turn.{Turn}
-use Rattle.frame_order.proofs.TurnOrder.{turn_total, up_chain}
+use Rattle.frame_order.specs.TurnLaws.{turn_total}
+use Rattle.frame_order.proofs.TurnOrder.{up_chain}
 use Rattle.sent_order.specs.Filling.{IsFilled}
 use Rattle.sent_order.specs.Runs.{rests_of}
 use Rattle.sent_order.proofs.CountLemmas.{times-append}

@@ -9,12 +9,12 @@ use Rattle.plan_runs.proofs.cutting.stream_messages.Goals as goal
 
 pub returns-then-is_empty-clause-runs : goal.returns-then-is_empty-clause-runs
 returns-then-is_empty-clause-runs c = λ config lines stream ep e limits_is parts_is.
-    walked_none c.args.limits.now c.args.parts.now c.new.result.items (search rules) (search rules)
+    walked_none c.args.limits.now c.args.parts.now c.in_ok-messages.messages.runs.items (search rules) (search rules)
     ∙ ap₂ (λ (l : Limits) (ps : List TimedPart). walked l ps) limits_is parts_is ∙ make_runs config lines stream ep e
 
 pub returns-then-is_empty-clause-begins : goal.returns-then-is_empty-clause-begins
 returns-then-is_empty-clause-begins c = λ config lines stream ep e limits_is parts_is.
-    begins_none c.args.limits.now c.args.parts.now c.new-2.result.items (search rules) (search rules)
+    begins_none c.args.limits.now c.args.parts.now c.in_ok-messages.messages.begins.items (search rules) (search rules)
     ∙ ap₂ (λ (l : Limits) (ps : List TimedPart). begins l ps) limits_is parts_is ∙ make_begins config lines stream ep e
 
 pub returns-clause-walked : goal.returns-clause-walked
