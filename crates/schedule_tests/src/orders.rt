@@ -1,7 +1,8 @@
 // The order of frames. At 30 kHz symbol 1 starts 1,112 Ts behind symbol 0, which are 55,600,000 ticks; a gap of 60,000 ns has
 // 92,160,000 ticks, one of 100,000 ns 153,600,000, and 111,000 ns, the width of T1a, 170,496,000.
 use crate::steps::{
-    all_given, at_id, checked, command, config, data, endpoint, is_over, line, of_two, put,
+    all_given, at_id, checked, command, config, data, endpoint, in_subframe, is_over, line,
+    long_command, of_two, put,
 };
 use du_scheduler::{PlanRefusal, PlanWhy};
 use eaxc_map::Widths;
@@ -227,6 +228,64 @@ fn what_leaves_together_is_in_order(rt: HostRuntime) -> Result<(), Fail> {
             &[
                 0x10, 0x00, 0x00, 0x3c, 0x00, 0x01, 0x00, 0x80, 0x90, 0x01, 0x00, 0x00, 0x00, 0x20,
                 0x00, 0x01,
+            ],
+        ),
+    ];
+    assert!(rt; all_given(&mut plan, &wanted));
+    Ok(())
+}
+
+/// An offset endpoint at 15 kHz: with cpLength 512 a symbol has 2,560 Ts, and symbol 12 starts a millisecond behind symbol 0, with the
+/// next slot's. Their frames leave together, those of the earlier slot first; no gap lies between them.
+#[test]
+fn slots_overlap(rt: HostRuntime) -> Result<(), Fail> {
+    let n = Numerology::offset(0, 0, 512).expect(&rt, "15 kHz");
+    let c = config(endpoint(n), Widths::new(4, 4, 4, 4)?, 1_000, 1_492, 1);
+    let mut lines = List::new(rt.alloc());
+    put(
+        &mut lines,
+        in_subframe(line(PlanKind::Down, 0, (0, 1), 2), 1),
+    )?;
+    put(&mut lines, line(PlanKind::Down, 12, (0, 1), 1))?;
+    let mut plan = checked(rt.alloc(), &c, &lines)?;
+    let wanted = [
+        // section type 3: timeOffset 0, frameStructure 0, cpLength 512, freqOffset 0
+        long_command(
+            16_174_080_000,
+            0,
+            32,
+            &[
+                0x10, 0x02, 0x00, 0x1c, 0x00, 0x00, 0x00, 0x80, 0x90, 0x01, 0x00, 0x0c, 0x01, 0x03,
+                0x00, 0x00, 0x00, 0x02, 0x00, 0x00, 0x00, 0x10, 0x00, 0x01, 0xff, 0xf1, 0x00, 0x00,
+                0x00, 0x00, 0x00, 0x00,
+            ],
+        ),
+        long_command(
+            16_174_080_000,
+            0,
+            32,
+            &[
+                0x10, 0x02, 0x00, 0x1c, 0x00, 0x00, 0x01, 0x80, 0x90, 0x01, 0x10, 0x00, 0x01, 0x03,
+                0x00, 0x00, 0x00, 0x02, 0x00, 0x00, 0x00, 0x20, 0x00, 0x01, 0xff, 0xf1, 0x00, 0x00,
+                0x00, 0x00, 0x00, 0x00,
+            ],
+        ),
+        data(
+            16_366_080_000,
+            0,
+            64,
+            &[
+                0x10, 0x00, 0x00, 0x3c, 0x00, 0x00, 0x00, 0x80, 0x90, 0x01, 0x00, 0x0c, 0x00, 0x10,
+                0x00, 0x01, 0x00, 0x01,
+            ],
+        ),
+        data(
+            16_366_080_000,
+            0,
+            64,
+            &[
+                0x10, 0x00, 0x00, 0x3c, 0x00, 0x00, 0x01, 0x80, 0x90, 0x01, 0x10, 0x00, 0x00, 0x20,
+                0x00, 0x01, 0x00, 0x01,
             ],
         ),
     ];

@@ -31,6 +31,28 @@ pub(crate) fn endpoint(numerology: Numerology) -> EndpointConfig
     }
 }
 
+/// The endpoint with so many PRBs.
+pub(crate) fn of_prbs(e: EndpointConfig, prbs: u16) -> EndpointConfig
+    requires endpoint { IsEndpoint e }
+    requires some { 1 ≤ prbs }
+    requires most { prbs ≤ 273 }
+    ensures { IsEndpoint result }
+{
+    EndpointConfig { prbs, ..e }
+}
+
+/// The endpoint with a dynamic format of 16 bit mantissas.
+pub(crate) fn dynamic16(e: EndpointConfig) -> EndpointConfig
+    requires { IsEndpoint e }
+    ensures { IsEndpoint result }
+{
+    let format = Format {
+        dynamic: true,
+        method: Method::Bfp(16),
+    };
+    EndpointConfig { format, ..e }
+}
+
 fn listed(e: EndpointConfig) -> EndpointList
     ensures { result ≡ e ∷ [] }
 {
@@ -131,6 +153,31 @@ pub(crate) fn in_frame(line: PlanLine, frame: i64) -> PlanLine
     }
 }
 
+/// The line in slot 0 of this subframe.
+pub(crate) fn in_subframe(line: PlanLine, subframe: u8) -> PlanLine
+    requires line { IsPlanLine line }
+    requires subframe { subframe < 10 }
+    ensures { IsPlanLine result }
+{
+    PlanLine {
+        slot: Slot {
+            subframe,
+            slot: 0,
+            ..line.slot
+        },
+        ..line
+    }
+}
+
+/// The line with this beamId.
+pub(crate) fn with_beam(line: PlanLine, beam: u16) -> PlanLine
+    requires line { IsPlanLine line }
+    requires beam { beam < 2 ^ 15 }
+    ensures { IsPlanLine result }
+{
+    PlanLine { beam, ..line }
+}
+
 /// Appends a line.
 pub(crate) fn put(lines: &mut List<PlanLine>, line: PlanLine) -> Result<(), NoMemory>
     requires lines { All IsPlanLine lines.old }
@@ -169,11 +216,16 @@ pub(crate) struct Wanted<'a> {
 
 /// A command of section type 1, which has 24 bytes, by its first ones or all.
 pub(crate) fn command(at: i64, ep: usize, head: &[u8]) -> Wanted<'_> {
+    long_command(at, ep, 24, head)
+}
+
+/// A command of another type, by its length and its first bytes or all.
+pub(crate) fn long_command(at: i64, ep: usize, size: usize, head: &[u8]) -> Wanted<'_> {
     Wanted {
         at: Ticks(at),
         plane: Plane::C,
         ep,
-        size: 24,
+        size,
         head,
     }
 }
