@@ -19,6 +19,11 @@ use tone_source::ToneSteps;
 const DOCUMENT: &str =
     "fronthaul 1\nendpoint 0000 ordinary 30 106 static none\ninject dl 9600000 1002001400000080900100000101000000100001fff10000\ninject dl 9700000 1000003c000000809001000000100001000000000001ffff0002fffe0003fffd0004fffc0005fffb0006fffa0007fff90008fff80009fff7000afff6000bfff5\n";
 
+/// A plan of two lines: the data of symbol 0 goes out in two fragments, and that of symbol 1 between them. Five frames, four cells,
+/// and seven counters that are not 0.
+const PLANNED: &str =
+    "fronthaul 1\ngap 100000\nfragment 128\nendpoint 0000 ordinary 30 106 static none\nplan dl 0000 1 0 0 0 1 0 3 fff 1 0\nplan dl 0000 1 0 0 1 1 0 1 fff 2 0\n";
+
 const COMMAND_AT: Ticks = Ticks(14_745_600_000);
 
 const DATA_AT: Ticks = Ticks(14_899_200_000);
@@ -51,9 +56,9 @@ fn standing(clock: Ticks, due: Option<Ticks>, frames: u64, cells: u64) -> Step {
     }
 }
 
-/// Replays the document to an air that fails at some calls. None where memory is refused.
-fn played(alloc: Global, fails: List<u64>) -> Option<Outcome> {
-    let Ok(doc) = read(alloc, DOCUMENT.as_bytes()) else {
+/// Replays a document to an air that fails at some calls. None where memory is refused.
+fn played(alloc: Global, document: &str, fails: List<u64>) -> Option<Outcome> {
+    let Ok(doc) = read(alloc, document.as_bytes()) else {
         return None;
     };
     let Ok(mut ru) = Ru::make(alloc, &doc.config) else {
@@ -107,7 +112,7 @@ fn is_count(event: Option<&Event>, of: Counter, times: u64) -> bool {
 
 #[test]
 fn hears_the_ordinary_case(rt: HostRuntime) {
-    let Some(played) = played(rt.alloc(), List::new(rt.alloc())) else {
+    let Some(played) = played(rt.alloc(), DOCUMENT, List::new(rt.alloc())) else {
         panic!(rt; "no memory");
     };
     let heard = played.air.heard();
@@ -141,12 +146,57 @@ fn is_in_step_where_the_air_fails(rt: HostRuntime) -> Result<(), Fail> {
     for (earlier, wanted) in steps.iter().enumerate() {
         let mut fails = List::new(rt.alloc());
         fails.push(earlier as u64 + 1)?;
-        let Some(played) = played(rt.alloc(), fails) else {
+        let Some(played) = played(rt.alloc(), DOCUMENT, fails) else {
             panic!(rt; "no memory");
         };
         assert_eq!(rt; played.result, Err(ReplayFault::AirFailed));
         assert_eq!(rt; played.air.heard().len(), earlier);
         assert_eq!(rt; played.step, *wanted);
     }
+    Ok(())
+}
+
+/// How many frames an air heard.
+fn arrivals(air: &MemoryAir) -> u64 {
+    let mut count: u64 = 0;
+    for k in 0..air.heard().len() {
+        if let Some(Event::Arrival { .. }) = air.heard().get(k) {
+            count = count.saturating_add(1);
+        }
+    }
+    count
+}
+
+#[test]
+fn a_plan_is_in_step_where_the_air_fails(rt: HostRuntime) -> Result<(), Fail> {
+    for earlier in 0..16u64 {
+        let mut fails = List::new(rt.alloc());
+        fails.push(earlier + 1)?;
+        let Some(played) = played(rt.alloc(), PLANNED, fails) else {
+            panic!(rt; "no memory");
+        };
+        assert_eq!(rt;
+            played.result,
+            Err(ReplayFault::AirFailed),
+            "call {}",
+            earlier
+        );
+        assert_eq!(rt; played.air.heard().len() as u64, earlier);
+        assert_eq!(rt;
+            played.step.frames,
+            arrivals(&played.air),
+            "call {}",
+            earlier
+        );
+    }
+    let mut fails = List::new(rt.alloc());
+    fails.push(17)?;
+    let Some(played) = played(rt.alloc(), PLANNED, fails) else {
+        panic!(rt; "no memory");
+    };
+    assert_eq!(rt; played.result, Ok(()));
+    assert_eq!(rt; played.air.heard().len(), 16);
+    assert_eq!(rt; played.step.frames, 5);
+    assert_eq!(rt; played.step.cells, 4);
     Ok(())
 }

@@ -1,5 +1,5 @@
 //! Tests of the replay of a document: what an air hears (`events`), the report that is written (`reports`),
-//! and the summary and the capture (`texts`).
+//! also of a document with a plan (`scheduled`), and the summary and the capture (`texts`).
 //!
 //! They stand beside `fronthaul_replay`, so that it is proved without them.
 #![tactic(auto)]
@@ -8,5 +8,7 @@
 mod events;
 #[cfg(test)]
 mod reports;
+#[cfg(test)]
+mod scheduled;
 #[cfg(test)]
 mod texts;
