@@ -1,16 +1,19 @@
 // One endpoint of 4 PRBs at 30 kHz, whose frame 1 begins at 10 ms, which is tick 15360000000. Data are on time from 50 to 271 us
 // behind the start of their symbol. The bytes, the moments and the counters are worked out by hand.
-ghost use Rattle.std.specs.Prelude.{◌≡◌, [], ◌∷◌};
+ghost use Rattle.std.specs.Prelude.{◌≡◌, [], ◌∷◌, All, IfOk};
 ghost use Rattle.window_config.specs.Configs.{IsConfig};
 ghost use Rattle.window_config.specs.Endpoints.{IsEndpoint};
+ghost use Rattle.window_config.specs.Limits.{IsWithinLimits};
 ghost use Rattle.window_config.specs.Plans.{IsPlanLine};
 
-use crate::steps::{made, step};
 use bfp_codec::{Format, Method};
 use du_intake::Delivered;
 use eaxc_map::Widths;
 use fault_counters::{Counter, Counters};
+use fh_base::{List, NoMemory};
 use fh_time::{Numerology, Slot, Ticks};
+use intake_samples::{made, step};
+use std::alloc::Global;
 use std::test::Fail;
 use window_config::{Config, Delays, EndpointConfig, EndpointList, PlanKind, PlanLine};
 
@@ -69,9 +72,17 @@ pub(crate) fn config(e: EndpointConfig, widths: Widths) -> Config
     requires { IsEndpoint e }
     ensures { IsConfig result }
 {
+    config_within(e, widths, Delays::usual())
+}
+
+pub(crate) fn config_within(e: EndpointConfig, widths: Widths, delays: Delays) -> Config
+    requires endpoint { IsEndpoint e }
+    requires delays { IsWithinLimits delays }
+    ensures { IsConfig result }
+{
     Config {
         widths,
-        delays: Delays::usual(),
+        delays,
         gap: 1_000,
         fragment: 1_492,
         pack: 1,
@@ -80,7 +91,7 @@ pub(crate) fn config(e: EndpointConfig, widths: Widths) -> Config
 }
 
 /// An uplink line: symbol 0 of frame 1, PRB 0, all elements, section 5.
-fn line() -> PlanLine
+pub(crate) fn line() -> PlanLine
     ensures { IsPlanLine result }
 {
     PlanLine {
@@ -99,6 +110,32 @@ fn line() -> PlanLine
         section: 5,
         beam: 0,
     }
+}
+
+/// A plan of one line.
+pub(crate) fn one(alloc: Global, line: PlanLine) -> Result<List<PlanLine>, NoMemory>
+    requires { IsPlanLine line }
+    ensures { IfOk result (λ lines. All IsPlanLine lines) }
+{
+    let mut lines = List::new(alloc);
+    lines.push(line)?;
+    Ok(lines)
+}
+
+/// A plan of two lines.
+pub(crate) fn two(
+    alloc: Global,
+    first: PlanLine,
+    second: PlanLine,
+) -> Result<List<PlanLine>, NoMemory>
+    requires first { IsPlanLine first }
+    requires second { IsPlanLine second }
+    ensures { IfOk result (λ lines. All IsPlanLine lines) }
+{
+    let mut lines = List::new(alloc);
+    lines.push(first)?;
+    lines.push(second)?;
+    Ok(lines)
 }
 
 /// Whether these counters alone stand above 0, at these values.
@@ -129,7 +166,7 @@ fn both_edges_are_on_time(rt: HostRuntime) -> Result<(), Fail> {
     let alloc = rt.alloc();
     let numerology = Numerology::ordinary(1).expect(&rt, "30 kHz");
     let config = config(endpoint(numerology), Widths::new(4, 4, 4, 4)?);
-    let mut unit = made(alloc, &config, &line())?;
+    let mut unit = made(alloc, &config, &one(alloc, line())?)?;
     assert!(rt; unit.clock() == Ticks(-15_360_000_000));
     assert!(rt; unit.due() == Some(LAST));
     assert_eq!(rt; step(&mut unit, EARLY, &data(0)), READ);

@@ -6,4 +6,6 @@ mod closes;
 #[cfg(test)]
 mod edges;
 #[cfg(test)]
-mod steps;
+mod plans;
+#[cfg(test)]
+mod windows;

@@ -1,9 +1,9 @@
 use Rattle.unit_model.specs.Standing.{at_clock, heard}
 use Rattle.du_intake.specs.Units.{due_of}
-use Rattle.intake_tests.proofs.steps.close.Goals as goal
+use Rattle.intake_samples.proofs.steps.close.Goals as goal
 
 pub returns-in-Ok : goal.returns-in-Ok
-returns-in-Ok c =
+returns-in-Ok g c =
     let s = c.requires.unit in
     record {
       config = s.config;
@@ -13,7 +13,7 @@ returns-in-Ok c =
     }
 
 pub returns-in-Err : goal.returns-in-Err
-returns-in-Err c =
+returns-in-Err g c =
     let s = c.requires.unit in
     let stop = c.in-Err.ensures.stop s.config s.planned s.history s.stands in
     record { config = s.config; planned = s.planned; history = heard s.history stop.told; stands = stop.stands }

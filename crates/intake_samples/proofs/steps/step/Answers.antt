@@ -1,6 +1,6 @@
 use Rattle.std.proofs.Common.{◌≡◌, true, rules}
 use Rattle.unit_model.specs.Standing.{arrived, at_clock}
-use Rattle.intake_tests.proofs.steps.step.Goals as goal
+use Rattle.intake_samples.proofs.steps.step.Goals as goal
 
 pub returns : goal.returns
 returns c =

@@ -1,5 +1,5 @@
 use Rattle.std.proofs.Common.{◌≡◌, ◌≤ℤ◌, ◌∙◌, sym, subst, rules, ℤ}
-use Rattle.intake_tests.proofs.steps.is_later.Goals as goal
+use Rattle.intake_samples.proofs.steps.is_later.Goals as goal
 
 pub returns : goal.returns
 returns c some before =

@@ -1,5 +1,5 @@
-// What a test does with an intake.
-ghost use Rattle.std.specs.Prelude.{◌≡◌, ◌≤ℤ◌, true, List, IfOk};
+// What is done with an intake.
+ghost use Rattle.std.specs.Prelude.{◌≡◌, ◌≤ℤ◌, true, All, List as SpecList, IfOk};
 ghost use Rattle.window_config.specs.Configs.{IsConfig};
 ghost use Rattle.window_config.specs.Plans.{IsPlanLine};
 ghost use Rattle.window_config.specs.declared.config.Config.{Config as SpecConfig};
@@ -8,31 +8,41 @@ ghost use Rattle.unit_model.specs.Standing.{History};
 ghost use Rattle.unit_model.specs.declared.allocations.Allocation.{Allocation};
 ghost use Rattle.du_intake.specs.Calls.{IsReportedBefore, StandsFor};
 ghost use Rattle.du_intake.specs.Closing.{StandsForSome};
+ghost use Rattle.du_intake.specs.Planned.{IsPlanOf};
 
-use air_source::{AirFault, MemoryAir};
+use crate::keeping::planned_lines;
+use air_source::{Air, AirFault};
 use du_intake::{Delivered, Intake};
 use fh_base::{List, NoMemory};
 use fh_time::Ticks;
-use plan_model::planned_line;
+use plan_model::PlannedLine;
 use plan_tests::tested;
 use std::alloc::Global;
 use window_config::{Config, PlanLine};
 
-/// An intake for a plan of one line, if the plan is valid.
-pub(crate) fn made(alloc: Global, config: &Config, line: &PlanLine) -> Result<Intake, NoMemory>
+/// An intake for the lines of a valid plan at their endpoints.
+pub fn made_of(alloc: Global, config: &Config, lines: &[PlannedLine]) -> Result<Intake, NoMemory>
     requires config { IsConfig config.now }
-    requires line { IsPlanLine line.now }
+    requires plan { IsPlanOf config.now lines.now }
     ensures { IfOk result StandsForSome }
 {
-    let mut lines = List::new(alloc);
-    lines.push(*line)?;
-    if tested(alloc, config, &lines).is_err() {
+    match Intake::make(alloc, config, lines) {
+        Ok(unit) => Ok(unit),
+        Err(NoMemory) => Err(NoMemory),
+    }
+}
+
+/// An intake for the lines of a plan; `NoMemory` too where the plan is not valid.
+pub fn made(alloc: Global, config: &Config, lines: &List<PlanLine>) -> Result<Intake, NoMemory>
+    requires config { IsConfig config.now }
+    requires lines { All IsPlanLine lines.now }
+    ensures { IfOk result StandsForSome }
+{
+    if tested(alloc, config, lines).is_err() {
         return Err(NoMemory);
     }
-    match planned_line(config.endpoints.as_slice(), 0, line) {
-        Some(planned) => Intake::make(alloc, config, &[planned]),
-        None => Err(NoMemory),
-    }
+    let planned = planned_lines(alloc, config.endpoints.as_slice(), lines)?;
+    made_of(alloc, config, &planned)
 }
 
 /// Whether a time is not before the clock.
@@ -44,7 +54,7 @@ fn is_later(unit: &Intake, at: Ticks) -> bool
 
 /// Whether all cells whose moments come before a time are reported.
 fn has_reported(unit: &Intake, at: Ticks) -> bool
-    ensures { (c : SpecConfig) (planned : List Allocation) (h : History) → StandsFor c planned unit.now h → result ≡ true → IsReportedBefore c planned h at.0 }
+    ensures { (c : SpecConfig) (planned : SpecList Allocation) (h : History) → StandsFor c planned unit.now h → result ≡ true → IsReportedBefore c planned h at.0 }
 {
     match unit.due() {
         None => true,
@@ -53,7 +63,7 @@ fn has_reported(unit: &Intake, at: Ticks) -> bool
 }
 
 /// What becomes of a frame; None where the time is before the clock, or a cell of an earlier moment is left.
-pub(crate) fn step(unit: &mut Intake, at: Ticks, frame: &[u8]) -> Option<Delivered>
+pub fn step(unit: &mut Intake, at: Ticks, frame: &[u8]) -> Option<Delivered>
     requires unit { StandsForSome unit.old }
     requires time { IsTime at.0 }
     ensures { StandsForSome unit.new }
@@ -68,7 +78,7 @@ pub(crate) fn step(unit: &mut Intake, at: Ticks, frame: &[u8]) -> Option<Deliver
 }
 
 /// Reports the cells up to a time; no memory where the time is before the clock.
-pub(crate) fn close(unit: &mut Intake, to: Ticks, air: &mut MemoryAir) -> Result<(), AirFault>
+pub fn close<A: Air>(unit: &mut Intake, to: Ticks, air: &mut A) -> Result<(), AirFault>
     requires unit { StandsForSome unit.old }
     requires time { IsTime to.0 }
     ensures { StandsForSome unit.new }

@@ -1,20 +1,13 @@
 -- What an intake's calls say of some history.
-use Rattle.std.proofs.Common.{◌≡◌, ℤ, pos, ◌-ℤ◌, ◌≤ℤ◌, ◌<ℤ◌, List, [], ◌∷◌, refl, arith, Result, Ok, Err}
+use Rattle.std.proofs.Common.{◌≡◌, ℤ, pos, ◌-ℤ◌, ◌≤ℤ◌, ◌<ℤ◌, List, [], arith, Result, Ok, Err}
 use Rattle.std.specs.Prelude.{Some, IfOk}
 use Rattle.std.proofs.lemmas.Int.{ints}
-use Rattle.std.proofs.lemmas.List.Elements.{All-nil, All-cons}
 use Rattle.fh_base.specs.declared.fault.NoMemory.{NoMemory}
 use Rattle.fh_time.specs.declared.values.Ticks.{Ticks}
-use Rattle.window_config.specs.Plans.{IsPlanLine}
 use Rattle.window_config.specs.declared.config.Config.{Config}
-use Rattle.window_config.specs.declared.plan.PlanLine.{PlanLine}
 use Rattle.unit_model.specs.Standing.{History, nothing_yet}
 use Rattle.unit_model.specs.declared.allocations.Allocation.{Allocation}
-use Rattle.plan_model.specs.Lines.{planned, planned_at, planned_from}
-use Rattle.plan_model.specs.Valid.{IsValid}
-use Rattle.plan_model.specs.declared.lines.PlannedLine.{PlannedLine}
 use Rattle.du_intake.specs.Calls.{IsDue, StandsFor}
-use Rattle.du_intake.specs.Planned.{IsPlanOf}
 use Rattle.du_intake.specs.Units.{due_of}
 use Rattle.du_intake.specs.declared.unit.Intake.{Intake}
 use Rattle.du_intake.specs.Closing.{StandsForSome}
@@ -24,19 +17,6 @@ one_before a b h = omega (arith, ints)
 
 pub all_before : (c : Config) (ps : List Allocation) (h : History) (at : ℤ) (t : Ticks) → IsDue c ps h (Some t) → at ≤ℤ t.0 → due_of c ps h (at -ℤ pos 1) ≡ []
 all_before c ps h at t due order = due.before (at -ℤ pos 1) (one_before at t.0 order)
-
-one_planned : (c : Config) (line : PlanLine) (p : PlannedLine) → planned_at c.endpoints 0 line ≡ Some p → (p ∷ []) ≡ planned c.endpoints (line ∷ [])
-unfolding planned_from
-one_planned c line p is = rw is refl
-
-pub plan_of_one : (c : Config) (line : PlanLine) (p : PlannedLine) → IsPlanLine line → planned_at c.endpoints 0 line ≡ Some p → IsValid c (line ∷ [])
-    → IsPlanOf c (p ∷ [])
-plan_of_one c line p ranges is valid = record {
-  plan = line ∷ [];
-  ranges = All-cons IsPlanLine line [] ranges (All-nil IsPlanLine);
-  valid = valid;
-  is = one_planned c line p is;
-}
 
 pub stands_some : (c : Config) (ps : List Allocation) (r : Result Intake NoMemory) → IfOk r (λ u. StandsFor c ps u nothing_yet) → IfOk r StandsForSome
 stands_some c ps (Ok u) h = record { config = c; planned = ps; history = nothing_yet; stands = h }

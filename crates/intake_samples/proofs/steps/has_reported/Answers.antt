@@ -3,8 +3,8 @@ use Rattle.std.proofs.Common.{◌≤ℤ◌, Some, subst}
 use Rattle.std.specs.Prelude.{Option}
 use Rattle.fh_time.specs.declared.values.Ticks.{Ticks}
 use Rattle.du_intake.specs.Calls.{IsDue}
-use Rattle.intake_tests.proofs.StepLemmas.{all_before}
-use Rattle.intake_tests.proofs.steps.has_reported.Goals as goal
+use Rattle.intake_samples.proofs.StepLemmas.{all_before}
+use Rattle.intake_samples.proofs.steps.has_reported.Goals as goal
 
 pub returns-in-Some : goal.returns-in-Some
 returns-in-Some c k planned h all before =
