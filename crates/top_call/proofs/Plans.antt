@@ -1,17 +1,13 @@
 -- A command over a document whose plan was tested.
 use Rattle.std.proofs.Common.{◌≡◌, ℕ, zero, suc, List, [], ◌∷◌, Option, None, Result, Err, refl, sym, subst, arith}
 use Rattle.std.specs.Prelude.{slice_get, slice_index, All}
-use Rattle.std.proofs.lemmas.List.Elements.{All-weaker}
 use Rattle.du_scheduler.specs.Plans.{Checks, HasToSend}
 use Rattle.du_scheduler.specs.declared.plans.Plan.{Plan as Schedule}
-use Rattle.fh_document.specs.Proper.{IsPlanLine as IsRead}
 use Rattle.fh_document.specs.declared.document.Document.{Document}
 use Rattle.plan_model.specs.Sent.{SentFrame}
 use Rattle.plan_model.specs.declared.refusals.PlanWhy.{PlanWhy}
 use Rattle.plan_tests.specs.declared.testing.PlanRefusal.{PlanRefusal}
 use Rattle.plan_tests.specs.declared.testing.PlanRefusal.TheVariants as refusal
-use Rattle.window_config.specs.Plans.{IsPlanLine}
-use Rattle.window_config.specs.declared.plan.PlanLine.{PlanLine}
 use Rattle.top_call.specs.declared.status.LineWhy.TheVariants.{Plan}
 use Rattle.top_call.specs.declared.status.Status.{Status}
 use Rattle.top_call.specs.declared.status.Status.TheVariants.{BadDocument}
@@ -19,25 +15,6 @@ use Rattle.top_call.specs.Answers.{Answer, of_plan, of_planned}
 use Rattle.top_call.specs.Endings.{unplanned_status}
 use Rattle.top_call.specs.Run.{Performs}
 use Rattle.top_call.proofs.Documents.{refuses, wanting}
-
--- ---- what the test of a plan needs of its lines
-
-line_fits : (line : PlanLine) → IsRead line → IsPlanLine line
-line_fits line h = record {
-  frame_low = h.frame.low;
-  frame_high = h.frame.high;
-  subframe = omega (arith, h.subframe);
-  slot = omega (arith, h.slot);
-  symbol = omega (arith, h.symbol);
-  count = omega (arith, h.count);
-  start_prb = omega (arith, h.start_prb);
-  mask = h.mask;
-  section = h.section;
-  beam = h.beam;
-}
-
-pub lines_fit : (lines : List PlanLine) → All IsRead lines → All IsPlanLine lines
-lines_fit lines h = All-weaker IsRead IsPlanLine line_fits lines h
 
 -- ---- what is answered
 
