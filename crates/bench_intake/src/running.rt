@@ -1,0 +1,138 @@
+// A run of many slots.
+ghost use Rattle.std.specs.Prelude.{◌≡◌, ◌≤ℤ◌, ◌^◌, pos, true, IfSome};
+ghost use Rattle.window_config.specs.Configs.{IsConfig};
+ghost use Rattle.du_intake.specs.Closing.{StandsForSome};
+ghost use Rattle.unit_model.specs.Proper.{IsTime};
+
+use crate::frames::{TimedFrame, all_to_next_slot, frames_of};
+use crate::plans::lines;
+use crate::tally::Tally;
+use air_source::Air;
+use du_intake::Intake;
+use fh_base::{Source, read_all};
+use fh_document::{Document, parse};
+use fh_time::{Ticks, of_ns};
+use intake_samples::{close, made, step};
+use plan_tests::tested;
+use std::alloc::Global;
+
+/// The most bytes of a document.
+const LIMIT: usize = 67_108_864;
+
+/// A slot of 30 kHz, in nanoseconds.
+const SLOT: i64 = 500_000;
+
+/// How many slots are delivered, how many are planned, and how far these lie apart.
+#[derive(Clone, Copy)]
+pub struct Amounts {
+    pub slots: u16,
+    pub planned: u16,
+    pub step: u16,
+}
+
+/// A time so many slots later, where it is none before time 0 and none after 1,000 seconds.
+fn later(at: i64, slots: u16) -> Option<Ticks>
+    ensures { IfSome result (λ t. IsTime t.0) }
+{
+    if 0 <= at && at <= 1_000_000_000_000 {
+        Some(of_ns(at + slots as i64 * SLOT))
+    } else {
+        None
+    }
+}
+
+/// Reports the cells of moments before a time. Whether it could be done.
+fn close_before<A: Air>(unit: &mut Intake, at: Ticks, air: &mut A) -> bool
+    requires unit { StandsForSome unit.old }
+    requires time { IsTime at.0 }
+    ensures { StandsForSome unit.new }
+{
+    match unit.due() {
+        Some(due) => {
+            if due.0 < at.0 && 0 < at.0 {
+                close(unit, Ticks(at.0 - 1), air).is_ok()
+            } else {
+                true
+            }
+        }
+        None => true,
+    }
+}
+
+/// Delivers the frames of a slot, so many slots later. Whether each of them could be.
+fn deliver_slot(unit: &mut Intake, frames: &Vec<TimedFrame>, slots: u16, air: &mut Tally) -> bool
+    requires { StandsForSome unit.old }
+    ensures { StandsForSome unit.new }
+{
+    for k in 0..frames.len() {
+        let Some(at) = later(frames[k].at, slots) else {
+            return false;
+        };
+        if !close_before(unit, at, air) {
+            return false;
+        }
+        if step(unit, at, frames[k].frame.as_slice()).is_none() {
+            return false;
+        }
+    }
+    true
+}
+
+/// Delivers the frames so many times, and what an air heard of them by 1 ms after the last slot.
+fn deliver_slots(unit: &mut Intake, frames: &mut Vec<TimedFrame>, slots: u16) -> Option<Tally>
+    requires { StandsForSome unit.old }
+{
+    let mut air = Tally::new();
+    for k in 0..slots {
+        if !deliver_slot(unit, frames, k, &mut air) {
+            return None;
+        }
+        all_to_next_slot(frames);
+    }
+    let last = frames.last()?;
+    let end = later(last.at.saturating_add(4_000_000), slots)?;
+    if close_before(unit, end, &mut air) {
+        Some(air)
+    } else {
+        None
+    }
+}
+
+/// What an air heard of so many slots with the frames of a document.
+pub fn run<S: Source>(alloc: Global, source: &mut S, amounts: Amounts) -> Option<Tally> {
+    let Ok(bytes) = read_all(alloc, source, LIMIT) else {
+        return None;
+    };
+    let Ok(document) = parse(alloc, bytes.as_slice()) else {
+        return None;
+    };
+    run_unit(alloc, &document, amounts)
+}
+
+/// The same, of a document that was read.
+fn run_unit(alloc: Global, document: &Document, amounts: Amounts) -> Option<Tally>
+    requires { IsConfig document.now.config }
+{
+    let Ok(mut frames) = frames_of(alloc, &document.injections) else {
+        return None;
+    };
+    let config = &document.config;
+    let Ok(plan) = lines(
+        alloc,
+        config.endpoints.as_slice(),
+        amounts.planned,
+        amounts.step,
+    ) else {
+        return None;
+    };
+    if amounts.slots == 0 {
+        return match tested(alloc, config, &plan) {
+            Ok(()) => Some(Tally::new()),
+            Err(_) => None,
+        };
+    }
+    match made(alloc, config, &plan) {
+        Ok(mut unit) => deliver_slots(&mut unit, &mut frames, amounts.slots),
+        Err(_) => None,
+    }
+}
