@@ -1,10 +1,10 @@
 -- A run, from what a command did over a whole input, or from why it did nothing.
-use Rattle.std.proofs.Common.{◌≡◌, ◌⊎◌, ◌↔◌, inl, inr, ℕ, ◌+◌, ◌<◌, ◌≤◌, List, [], length, length-append, true, false, Option, None, Some, IfSome, IsSome, IsNone, refl, sym, ap, subst, ◌∙◌, ◌++◌, append-nil, is_some, arith, Result, Ok, IfOk, IsErrOf}
+use Rattle.std.proofs.Common.{◌≡◌, ◌⊎◌, ◌↔◌, inl, inr, ℕ, ◌+◌, ◌<◌, ◌≤◌, List, [], length, length-append, true, false, Option, None, Some, IfSome, IsSome, IsNone, refl, sym, ap, subst, ◌∙◌, ◌++◌, append-nil, is_some, arith, Result, Ok, Err, IfOk, IsErrOf}
 use Rattle.std.specs.Io.KnownBytes.{prepend_known, append_known, IsAtEnd}
-use Rattle.std.proofs.lemmas.Result.{IfOk-weaker}
 use Rattle.command_words.specs.Words.{command_of}
 use Rattle.command_words.specs.declared.commands.Command.{Command}
 use Rattle.command_words.specs.declared.commands.Command.TheVariants.{Replay, Summary, Capture, Show, Windows, Fit, Generate, Pcap, PcapCapture}
+use Rattle.document_traffic.specs.Laws.{HasWidths}
 use Rattle.fh_base.specs.Causes.{Rose}
 use Rattle.fh_base.specs.Told.{WritesFront}
 use Rattle.fh_base.specs.declared.fault.ReadAllFault.{ReadAllFault}
@@ -12,20 +12,29 @@ use Rattle.fh_base.specs.declared.fault.ReadAllFault.TheVariants as source
 use Rattle.fh_base.proofs.Known.{prepend_nothing, append_nothing}
 use Rattle.fh_base.proofs.Progress.{front_none}
 use Rattle.fh_document.specs.Document.{document_of}
+use Rattle.fh_document.specs.declared.document.Document.{Document}
 use Rattle.fh_document.specs.Proper.{IsDocument}
 use Rattle.fh_document.specs.Steps.{handled}
 use Rattle.fh_document.proofs.Properness.{document_in_in}
+use Rattle.fronthaul_replay.specs.Laws.{IsSound}
 use Rattle.fronthaul_replay.proofs.LawLemmas.{is_sound}
 use Rattle.top_call.specs.declared.status.Status.{Status}
 use Rattle.top_call.specs.declared.status.Status.TheVariants.{Done, BadWords, BadDocument, BadCapture, ReadFault, WriteFault, NoMemory, TooLong, CheckFails, BadPcap, NoFit}
 use Rattle.top_call.specs.Answers.{Answer, answer_of, asked, is_reading, reads}
 use Rattle.top_call.specs.Endings.{source_status}
 use Rattle.top_call.specs.Run.{AnswersCommand, AnswersRun, IsDecided, IsRefusal, IsSoundPlan, Outcome, Performs, input_limit}
+use Rattle.top_call.proofs.Widths.{widths_in}
 
 -- ---- the laws of a document's events
 
 sound_of : (bytes : List ℕ) → IfOk (document_of bytes) IsSoundPlan
-sound_of bytes = IfOk-weaker (document_of bytes) IsDocument IsSoundPlan (λ d is valid. is_sound d (record { document = is; valid = valid })) (document_in_in handled bytes)
+sound_of bytes = each (document_of bytes) (document_in_in handled bytes) (widths_in bytes)
+  where
+    each : {E : Type 0} (x : Result Document E) → IfOk x IsDocument → IfOk x HasWidths → IfOk x IsSoundPlan
+    each (Ok d) is widths = λ valid.
+        let sound : IsSound d = is_sound d (record { document = is; valid = valid }) in
+        record { sound = sound; exactly_once = sound.exactly_once widths }
+    each (Err why) is widths = tt
 
 -- ---- what a command answers, a run answers
 

@@ -2,6 +2,7 @@
 use Rattle.std.specs.Prelude.{◌≡◌, ◌<◌, ◌≤◌, ◌⊎◌, ◌↔◌, ℕ, List, length, true, Option, Some, IfSome, IfOk, IsSome, IsNone}
 use Rattle.std.specs.Io.KnownBytes.{prepend_known, append_known, IsAtEnd}
 use Rattle.command_words.specs.Words.{command_of}
+use Rattle.document_traffic.specs.Undisturbed.{IsUndisturbed, RadiatesOnce}
 use Rattle.fh_base.specs.Causes.{Rose}
 use Rattle.fh_base.specs.Told.{WritesFront}
 use Rattle.fh_document.specs.Document.{document_of}
@@ -67,9 +68,15 @@ AnswersRun wanted source_before source_now out_before out_now NoMemory = Unit {0
 AnswersRun wanted source_before source_now out_before out_now TooLong = Unit {0}
 AnswersRun wanted source_before source_now out_before out_now status = wanted ≡ status
 
--- the laws of a document's events hold, where its plan is valid and so these events are replayed
+-- the laws of a document's events, and that where nothing disturbs its schedule each scheduled element radiates once, with its samples,
+-- whatever the document's eAxC ids and numPrbs are
+pub record IsSoundReplay (d : Document) : Type 0 where
+  pub sound : IsSound d
+  pub exactly_once : IsUndisturbed d → RadiatesOnce d
+
+-- they hold where the document's plan is valid and so these events are replayed
 abbrev pub IsSoundPlan : Document → Type 0
-IsSoundPlan d = IsValid d.config d.plan → IsSound d
+IsSoundPlan d = IsValid d.config d.plan → IsSoundReplay d
 
 -- what a run did, but for its line on standard error
 pub record Outcome (words : List (List ℕ)) (left_old left_new : Option (List ℕ)) (source_before source_now : ℕ) (written_old written_new : Option (List ℕ)) (out_before out_now : ℕ) (status : Status) : Type 0 where
@@ -96,5 +103,6 @@ pub record Outcome (words : List (List ℕ)) (left_old left_new : Option (List �
       → (Rose out_before out_now → ⊥) ⊎ IsRefusal (asked (command_of words) bytes).status
       → (status ≡ (asked (command_of words) bytes).status) ⊎ (status ≡ NoMemory)
   -- of the events of the document that the bytes spell, where its plan is valid: none is reported twice, what is shown came and was commanded in time, the
-  -- counters add up, the frames that arrive are those that are listed, and what is refused changes nothing but counters
+  -- counters add up, the frames that arrive are those that are listed, and what is refused changes nothing but counters; and where
+  -- nothing disturbs its schedule, each scheduled element radiates once
   pub sound : IfOk (document_of came) IsSoundPlan
