@@ -1,0 +1,4 @@
+pub mod JobLemmas
+pub mod MessageLemmas
+pub mod HandedLemmas
+pub mod LeavingLemmas
