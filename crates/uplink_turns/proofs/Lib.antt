@@ -2,3 +2,4 @@ pub mod JobLemmas
 pub mod MessageLemmas
 pub mod HandedLemmas
 pub mod LeavingLemmas
+pub mod GivenLemmas

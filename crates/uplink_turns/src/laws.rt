@@ -1,4 +1,5 @@
 // Laws of the uplink as time passes.
+ghost use Rattle.uplink_turns.specs.Given.{GivenAndOwed, GivenBefore, GivenIsAll, GivesTick, OwesNone, OwesTick};
 ghost use Rattle.uplink_turns.specs.TurnLaws.{HandedAreOf, HandedBehindAreOf, HandedGoOn, HandedGoOnFrom, HandedLeaveFrom, HandedLeaveLater, JobsAreSettled, JobsGoOn, JobsGoOnFrom, JobsStartBetween, JobsStartThen, LeavingIsSettled, LeftEnds, LeftGoesOn, LeftIsAll, LeftLeaveLater, LeftWaits, MessagesGoOn, MessagesGoOnFrom, NoJobsBefore, NoJobsYet, NoneHandedBefore};
 
 /// The jobs up to a tick are those before it and those of the tick, each of which starts at it; all that landed before a tick tells
@@ -44,4 +45,14 @@ pub fn sent_in_turn()
     ensures all { LeftIsAll }
     ensures over { LeftEnds }
     ensures later { LeftLeaveLater }
+{}
+
+/// A radio unit that gave all jobs before a tick has those of the tick to give, and one that owes none up to a time gave all up to it.
+pub fn given_in_turn()
+    ensures tick { OwesTick }
+    ensures gives { GivesTick }
+    ensures none { OwesNone }
+    ensures parts { GivenAndOwed }
+    ensures whole { GivenIsAll }
+    ensures before { GivenBefore }
 {}
