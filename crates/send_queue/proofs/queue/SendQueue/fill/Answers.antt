@@ -1,0 +1,19 @@
+use Rattle.std.proofs.Common.{◌<◌, List, ◌++◌, All, ap, sym, subst, ◌∙◌}
+use Rattle.std.proofs.lemmas.List.Elements.{All-tail}
+use Rattle.air_source.specs.declared.links.LinkFrame.{LinkFrame}
+use Rattle.send_queue.specs.Queues.{WaitsFor, all_queued}
+use Rattle.send_queue.proofs.QueueLemmas.{waits_for_all}
+use Rattle.send_queue.proofs.queue.SendQueue.fill.Goals as goal
+
+pub loop-frame-preserved : goal.loop-frame-preserved
+loop-frame-preserved c =
+    let left = c.take_first.new.self in
+    record {
+      so_far = ap (all_queued left) c.in_ok-put.ensures.ok ∙ ap (λ (fs : List LinkFrame). all_queued fs c.loop-frame.self) (sym c.in-Some.ensures) ∙ c.loop-frame.invariant.so_far;
+      few = All-tail (λ (f : LinkFrame). f.ep < 16) c.in-Some.frame left (subst (All (λ (f : LinkFrame). f.ep < 16)) c.in-Some.ensures c.loop-frame.invariant.few);
+    }
+
+pub returns-clause-waits : goal.returns-clause-waits
+returns-clause-waits c n now handed w few from =
+    let all = ap (λ (fs : List LinkFrame). all_queued fs c.loop-frame.self) (sym c.in_default.ensures.0) ∙ c.loop-frame.invariant.so_far in
+    subst (λ (q : List LinkFrame). WaitsFor n now (handed ++ c.args.outbox.now) q) (sym all) (waits_for_all n now handed c.args.outbox.now c.args.self.now w few from)

@@ -1,0 +1,12 @@
+use Rattle.std.proofs.Common.{◌≡◌, ◌<◌, All, length}
+use Rattle.send_queue.specs.Queues.{all_queued}
+use Rattle.send_queue.proofs.queue.SendQueue.fill.Given as goal
+
+abbrev pub invariant-loop-frame : goal.invariant-loop-frame
+invariant-loop-frame l = record {
+  so_far : all_queued l.outbox l.self ≡ all_queued l.initial.outbox l.initial.self;
+  few : All (λ f. f.ep < 16) l.outbox;
+}
+
+abbrev pub decreases-loop-frame : goal.decreases-loop-frame
+decreases-loop-frame l = length l.outbox

@@ -1,0 +1,4 @@
+pub mod Queues
+pub mod QueueLaws
+pub mod Held
+pub mod Waiting

@@ -1,0 +1,63 @@
+// Five frames of two endpoints, with the order in which they are sent worked out by hand.
+ghost use Rattle.std.specs.Prelude.{◌<◌, All, OnOk};
+
+use crate::{Outbox, SendQueue};
+use air_source::Link;
+use fh_base::NoMemory;
+use fh_time::Ticks;
+use std::test::Fail;
+
+/// Hands over a frame of one byte, which says when it is handed over.
+fn hand(outbox: &mut Outbox, at: i64, ep: usize, turn: u8) -> Result<(), NoMemory>
+    requires ep { ep < 16 }
+    requires few { All (λ f. f.ep < 16) outbox.old }
+    ensures { OnOk result (All (λ f. f.ep < 16) outbox.new) }
+{
+    outbox.send(Ticks(at), ep, &[turn])
+}
+
+/// The endpoint and the one byte of the next frame that leaves at a tick. 0 where none does.
+fn taken(queue: &mut SendQueue, at: i64) -> (usize, u8) {
+    match queue.take_at(Ticks(at)) {
+        None => (0, 0),
+        Some(frame) => match frame.frame.as_slice() {
+            [turn] if frame.at == Ticks(at) => (frame.ep, *turn),
+            _ => (0, 255),
+        },
+    }
+}
+
+#[test]
+fn five_frames_in_two_goes(rt: HostRuntime) -> Result<(), Fail> {
+    let mut outbox = Outbox::new(rt.alloc());
+    let mut queue = SendQueue::make(rt.alloc());
+    hand(&mut outbox, 7, 1, 1)?;
+    hand(&mut outbox, 7, 0, 2)?;
+    hand(&mut outbox, 8, 1, 3)?;
+    queue.fill(&mut outbox)?;
+    hand(&mut outbox, 7, 1, 4)?;
+    hand(&mut outbox, 8, 0, 5)?;
+    queue.fill(&mut outbox)?;
+    assert_eq!(rt; queue.next_time(), Some(Ticks(7)));
+    assert_eq!(rt; taken(&mut queue, 6), (0, 0));
+    assert_eq!(rt; taken(&mut queue, 8), (0, 0));
+    for next in [(0, 2), (1, 1), (1, 4), (0, 0)] {
+        assert_eq!(rt; taken(&mut queue, 7), next);
+    }
+    assert_eq!(rt; queue.next_time(), Some(Ticks(8)));
+    for next in [(0, 5), (1, 3), (0, 0)] {
+        assert_eq!(rt; taken(&mut queue, 8), next);
+    }
+    assert_eq!(rt; queue.next_time(), None);
+    Ok(())
+}
+
+#[test]
+fn nothing_waits(rt: HostRuntime) -> Result<(), Fail> {
+    let mut outbox = Outbox::new(rt.alloc());
+    let mut queue = SendQueue::make(rt.alloc());
+    queue.fill(&mut outbox)?;
+    assert_eq!(rt; queue.next_time(), None);
+    assert_eq!(rt; taken(&mut queue, 0), (0, 0));
+    Ok(())
+}
