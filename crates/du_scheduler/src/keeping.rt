@@ -1,4 +1,4 @@
-//! The lines of a plan that was tested.
+// The lines of a plan at their endpoints.
 ghost use Rattle.std.specs.Prelude.{◌≡◌, ◌<◌, ◌++◌, length, slice_get, IfOk, OnOk, Some};
 ghost use Rattle.std.specs.Option.{option_to_list};
 ghost use Rattle.plan_model.specs.Lines.{planned};
@@ -30,7 +30,7 @@ fn keep(all: &mut Vec<PlannedLine>, line: Option<PlannedLine>) -> Result<(), NoM
 }
 
 /// The lines at their endpoints; those whose endpoints are unknown are left out.
-pub(crate) fn planned_lines(
+pub fn planned_lines(
     alloc: Global,
     endpoints: &[EndpointConfig],
     lines: &List<PlanLine>,

@@ -9,6 +9,7 @@ mod keeping;
 mod plans;
 mod writing;
 
+pub use keeping::planned_lines;
 pub use plan_model::PlanWhy;
 pub use plan_tests::PlanRefusal;
 pub use plans::{Plan, Plane, Sent};

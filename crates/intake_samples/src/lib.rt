@@ -2,8 +2,6 @@
 //! where the intake's own `clock` and `due` say that it may be done.
 #![tactic(auto)]
 
-mod keeping;
 mod steps;
 
-pub use keeping::planned_lines;
 pub use steps::{close, made, made_of, step};

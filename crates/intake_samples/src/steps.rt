@@ -10,9 +10,9 @@ ghost use Rattle.du_intake.specs.Calls.{IsReportedBefore, StandsFor};
 ghost use Rattle.du_intake.specs.Closing.{StandsForSome};
 ghost use Rattle.du_intake.specs.Planned.{IsPlanOf};
 
-use crate::keeping::planned_lines;
 use air_source::{Air, AirFault};
 use du_intake::{Delivered, Intake};
+use du_scheduler::planned_lines;
 use fh_base::{List, NoMemory};
 use fh_time::Ticks;
 use plan_model::PlannedLine;

@@ -1,5 +1,0 @@
-use Rattle.intake_samples.proofs.LineLemmas.{Goes}
-use Rattle.intake_samples.proofs.keeping.planned_lines.Given as goal
-
-abbrev pub invariant-loop-index : goal.invariant-loop-index
-invariant-loop-index l = Goes l.endpoints l.index l.lines l.all.items
