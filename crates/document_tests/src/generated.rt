@@ -1,5 +1,5 @@
 // Generated documents, against texts from outside.
-use fh_document::{parse, write};
+use fh_document::{read, write};
 use fh_time::Slot;
 use std::test::Fail;
 use window_config::{PlanKind, PlanLine};
@@ -60,9 +60,9 @@ fn most_slots(rt: HostRuntime) -> Result<(), Fail> {
 }
 
 #[test]
-fn generated_documents_are_of_the_grammar(rt: HostRuntime) -> Result<(), Fail> {
+fn generated_documents_are_read(rt: HostRuntime) -> Result<(), Fail> {
     let text = write(rt.alloc(), 9, 400)?;
-    let d = parse(rt.alloc(), text.as_slice()).expect(&rt, "parsed");
+    let d = read(rt.alloc(), text.as_slice()).expect(&rt, "read");
     assert_eq!(rt; d.config.endpoints.as_slice().len(), 4);
     assert_eq!(rt; (d.source.seed, d.antenna.seed), (9, 9));
     assert_eq!(rt; (d.plan.len(), d.plan_lines.len()), (1_600, 1_600));

@@ -7,18 +7,23 @@ use std::test::Fail;
 use window_config::PlanKind;
 
 #[test]
-fn downlink_plans_and_deliveries_are_handled(rt: HostRuntime) {
-    let cases: [&[u8]; 10] = [
+fn plans_deliveries_and_frames_are_handled(rt: HostRuntime) {
+    let cases: [&[u8]; 14] = [
         b"fronthaul 1\nplan dl 0000 1 0 0 0 14 0 6 fff 1 0\n",
+        b"fronthaul 1\nplan ul 0000 1 0 0 0 14 0 6 fff 1 0\n",
         b"fronthaul 1\nplan idle 0000 1 0 0 0 14 0 6 fff 1 0\n",
         b"fronthaul 2\nplan dl 0000 99999 9 63 63 15 1023 255 FfF 4095 32767\n",
+        b"fronthaul 2\nplan ul 0000 99999 9 63 63 15 1023 255 FfF 4095 32767\n",
         b"fronthaul 2\npack 2\nplan idle ffff 1 0 0 0 0 0 0 000 0 0\n",
         b"fronthaul 1\ndeliver dl c 1\ndeliver dl u 1 1 2 3 4 5 6 7 8\ndeliver dl m 1 1\n",
         b"fronthaul 1\ndeliver ul c 1\ndeliver ul u 1 0\ndeliver ul m 1 3000000000\n",
         b"fronthaul 2\ndeliver dl u 9999999\n",
         b"fronthaul 2\ndeliver ul m 1\n",
+        b"fronthaul 2\ninject dl 0 20\ninject ul 0 20\ninject ul 0 -\n",
+        // to the distributed unit, uplink data and a message of type 1
+        b"fronthaul 1\ninject ul 9600000 1000000c000000801001000000100001\ninject ul 9600000 1001000411223344\n",
         b"fronthaul 1\nplan dl 0000 1 0 0 0 14 0 6 fff 1 0\nplan idle 0000 1 0 1 0 14 0 6 fff 1 0\ndeliver dl c 2 1\ninject dl 0 -\n",
-        b"fronthaul 2\nendpoint 0001 extended 60 6 static none\nplan dl 0001 1 0 0 0 12 0 6 fff 1 0\ndeliver dl u 1\ninject dl 0 -\n",
+        b"fronthaul 2\nendpoint 0001 extended 60 6 static none\nplan ul 0001 1 0 0 0 12 0 6 fff 1 0\ndeliver ul u 1\ninject ul 0 -\n",
     ];
     for text in cases {
         assert_eq!(rt; refusal(rt.alloc(), text), None);
@@ -46,35 +51,53 @@ fn what_is_handled_is_read(rt: HostRuntime) {
 }
 
 #[test]
-fn five_things_are_not_handled(rt: HostRuntime) {
-    let cases: [(&[u8], usize); 12] = [
-        // uplink lines of a plan
-        (b"fronthaul 1\nplan ul 0000 1 0 0 0 14 0 6 fff 1 0\n", 2),
-        (b"fronthaul 2\nplan ul 0000 1 0 0 0 14 0 6 fff 1 0\n", 2),
-        (
-            b"fronthaul 1\n\nplan dl 0000 1 0 0 0 14 0 6 fff 1 0\nplan ul 0000 1 0 0 0 14 0 6 fff 1 0\nplan dl 0000 0\n",
-            4,
-        ),
-        // measurements
+fn both_directions_are_read(rt: HostRuntime) {
+    let text =
+        b"fronthaul 1\nendpoint 0000 ordinary 30 106 static none\nplan ul 0000 1 0 0 3 2 4 5 fff 1 0\ndeliver ul u 1 50000\ninject ul 7 c7\ninject dl 1 1002001400000080100100000101000000100001fff10000\n";
+    let d = read(rt.alloc(), text).expect(&rt, "read");
+    let line = d.plan.get(0).expect(&rt, "line");
+    assert_eq!(rt; (line.kind, line.symbol, line.count), (PlanKind::Up, 3, 2));
+    assert_eq!(rt; d.plan_lines.get(0), Some(&3));
+    let copies = d.deliveries.get(0).expect(&rt, "copies");
+    assert_eq!(rt;
+        (copies.side, copies.class, copies.k),
+        (Side::Du, Class3::U, 1)
+    );
+    let to_du = d.injections.get(0).expect(&rt, "first");
+    assert_eq!(rt; (to_du.side, to_du.at), (Side::Du, 7));
+    assert_eq!(rt; to_du.frame.as_slice(), b"\xc7".as_slice());
+    let command = d.injections.get(1).expect(&rt, "second");
+    assert_eq!(rt; (command.side, command.at), (Side::Ru, 1));
+    assert_eq!(rt; command.frame.as_slice().len(), 24);
+    assert_eq!(rt;
+        (d.plan.len(), d.deliveries.len(), d.injections.len()),
+        (1, 1, 2)
+    );
+}
+
+#[test]
+fn measurements_are_not_handled(rt: HostRuntime) {
+    let cases: [(&[u8], usize); 13] = [
         (b"fronthaul 1\nmeasure du 0 one 1000000\n", 2),
         (b"fronthaul 2\nmeasure ru 255 remote-two 1000000\n", 2),
-        // frames to the distributed unit
-        (b"fronthaul 1\ninject ul 0 -\n", 2),
-        (b"fronthaul 2\ninject ul 0 20\n", 2),
-        // whole uplink commands to an endpoint
         (
-            b"fronthaul 1\nendpoint 0000 ordinary 30 106 static none\ninject dl 1 1002001400000080100100000101000000100001fff10000\n",
-            3,
+            b"fronthaul 1\n\nplan ul 0000 1 0 0 0 14 0 6 fff 1 0\nmeasure du 0 one 1000000\ngap\n",
+            4,
         ),
-        (
-            b"fronthaul 2\nendpoint 0000 ordinary 30 106 static none\ninject dl 1 1002001400000080100100000101000000100001fff10000\n",
-            3,
-        ),
-        // whole messages of delay measurement
+        // whole messages of delay measurement, to either unit
         (b"fronthaul 1\ninject dl 0 10050000\n", 2),
         (b"fronthaul 2\ninject dl 0 10050000\n", 2),
+        (b"fronthaul 1\ninject ul 0 10050000\n", 2),
+        (b"fronthaul 2\ninject ul 0 1005000400000000\n", 2),
         // behind a first message
         (b"fronthaul 1\ninject dl 0 110600041122334410050000\n", 2),
+        (b"fronthaul 1\ninject ul 0 110600041122334410050000\n", 2),
+        // before bytes that are no message
+        (b"fronthaul 1\ninject dl 0 1105000020\n", 2),
+        (b"fronthaul 1\ninject ul 0 1105000020\n", 2),
+        // behind frames that are handled
+        (b"fronthaul 1\ninject dl 0 -\ninject ul 0 10050000\n", 3),
+        (b"fronthaul 1\ninject ul 0 -\ninject dl 0 10050000\n", 3),
     ];
     for (text, line) in cases {
         assert_eq!(rt; refusal(rt.alloc(), text), Some((line, DocWhy::NotBuilt)));
@@ -82,26 +105,29 @@ fn five_things_are_not_handled(rt: HostRuntime) {
 }
 
 #[test]
-fn it_is_the_last_reason_of_a_line(rt: HostRuntime) -> Result<(), Fail> {
+fn it_is_the_last_reason_of_a_line(rt: HostRuntime) {
     let alloc = rt.alloc();
     let cases: [(&[u8], DocWhy); 6] = [
-        (
-            b"fronthaul 1\nplan ul 0000 1 0 0 0 14 0 6 fff 1\n",
-            DocWhy::Words,
-        ),
-        (
-            b"fronthaul 1\nplan ul 0000 1 0 0 0 16 0 6 fff 1 0\n",
-            DocWhy::Number,
-        ),
         (b"fronthaul 1\nmeasure du 0 one\n", DocWhy::Words),
         (b"fronthaul 1\nmeasure du 256 one 1000000\n", DocWhy::Number),
-        (b"fronthaul 1\ninject ul 0\n", DocWhy::Words),
-        (b"fronthaul 1\ninject ul 0 1\n", DocWhy::Number),
+        (b"fronthaul 1\ninject ul 0 10050000 0\n", DocWhy::Words),
+        (
+            b"fronthaul 1\ninject dl 1000000000001 10050000\n",
+            DocWhy::Number,
+        ),
+        (b"fronthaul 1\ninject up 0 10050000\n", DocWhy::Number),
+        (b"fronthaul 1\ninject ul 0 1005000\n", DocWhy::Number),
     ];
     for (text, why) in cases {
         assert_eq!(rt; refusal(alloc, text), Some((2, why)));
     }
-    let mut most = plan_of(alloc, 65_536)?;
+}
+
+#[test]
+fn uplink_lines_count_to_the_most_of_a_plan(rt: HostRuntime) -> Result<(), Fail> {
+    let alloc = rt.alloc();
+    let mut most = plan_of(alloc, 65_535)?;
+    most.push_all(b"plan ul 0000 1 0 0 0 14 0 6 fff 1 0\n")?;
     assert_eq!(rt; refusal(alloc, most.as_slice()), None);
     most.push_all(b"plan ul 0000 1 0 0 0 14 0 6 fff 1 0\n")?;
     assert_eq!(rt;

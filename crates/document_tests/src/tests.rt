@@ -108,7 +108,7 @@ fn lines_are_refused_for_their_first_reason(rt: HostRuntime) {
 #[test]
 fn second_lines_just_fail(rt: HostRuntime) -> Result<(), Fail> {
     let cases: [(&[u8], DocWhy); 27] = [
-        (b"plan ul 0000 1 0 0 0 14 0 6 fff 1 0", DocWhy::NotBuilt),
+        (b"measure du 0 one 1000000", DocWhy::NotBuilt),
         (b"transit", DocWhy::UnknownWord),
         (b"transit x 1", DocWhy::UnknownWord),
         (b"transit dl", DocWhy::Words),
@@ -133,7 +133,7 @@ fn second_lines_just_fail(rt: HostRuntime) -> Result<(), Fail> {
         (b"endpoint 0000 ordinary 30 6 static bfp17", DocWhy::Number),
         (b"inject dl 1000000000001 -", DocWhy::Number),
         (b"inject dl 0 100", DocWhy::Number),
-        (b"inject ul 0 -", DocWhy::NotBuilt),
+        (b"inject ul 0 10050000", DocWhy::NotBuilt),
         (b"inject dl 0 10050000", DocWhy::NotBuilt),
     ];
     assert_eq!(rt; DocWhy::UnknownWord.name(), "UnknownWord");
@@ -270,7 +270,7 @@ fn each_configuration_keyword_stands_once(rt: HostRuntime) -> Result<(), Fail> {
 
 #[test]
 fn second_lines_just_pass(rt: HostRuntime) -> Result<(), Fail> {
-    let cases: [&[u8]; 15] = [
+    let cases: [&[u8]; 18] = [
         b"  # gap  ",
         b"gap 0000002000000",
         b"transit m 1",
@@ -281,12 +281,15 @@ fn second_lines_just_pass(rt: HostRuntime) -> Result<(), Fail> {
         b"widths 16 0 0 0",
         b"t2a 1 1 2 2",
         b"endpoint 0000 offset 5 273 static bfp16 65535 0",
+        b"plan ul 0000 1 0 0 0 14 0 6 fff 1 0",
         b"inject dl 1000000000000 -",
+        b"inject ul 1000000000000 -",
         b"inject dl 0 1005",
         // a command whose endpoint is none
         b"inject dl 0 1002001400000080100100000101000000100001fff10000",
         // a message of delay measurement that is not whole
         b"inject dl 0 10050001",
+        b"inject ul 0 10050001",
         b"inject dl 0 -",
     ];
     for line in cases {
@@ -296,26 +299,19 @@ fn second_lines_just_pass(rt: HostRuntime) -> Result<(), Fail> {
 }
 
 #[test]
-fn whole_uplink_commands_are_not_handled(rt: HostRuntime) {
-    let cases: [(&[u8], Option<(usize, DocWhy)>); 3] = [
+fn commands_of_both_directions_are_handled(rt: HostRuntime) {
+    let cases: [&[u8]; 4] = [
         // dataDirection 0
-        (
-            b"fronthaul 1\nendpoint 0000 ordinary 30 106 static none\ninject dl 1 1002001400000080100100000101000000100001fff10000\n",
-            Some((3, DocWhy::NotBuilt)),
-        ),
+        b"fronthaul 1\nendpoint 0000 ordinary 30 106 static none\ninject dl 1 1002001400000080100100000101000000100001fff10000\n",
         // dataDirection 1
-        (
-            b"fronthaul 1\nendpoint 0000 ordinary 30 106 static none\ninject dl 1 1002001400000080900100000101000000100001fff10000\n",
-            None,
-        ),
+        b"fronthaul 1\nendpoint 0000 ordinary 30 106 static none\ninject dl 1 1002001400000080900100000101000000100001fff10000\n",
         // E 0
-        (
-            b"fronthaul 1\nendpoint 0000 ordinary 30 106 static none\ninject dl 1 1002001400000000100100000101000000100001fff10000\n",
-            None,
-        ),
+        b"fronthaul 1\nendpoint 0000 ordinary 30 106 static none\ninject dl 1 1002001400000000100100000101000000100001fff10000\n",
+        // to the distributed unit
+        b"fronthaul 1\nendpoint 0000 ordinary 30 106 static none\ninject ul 1 1002001400000080100100000101000000100001fff10000\n",
     ];
-    for (text, wanted) in cases {
-        assert_eq!(rt; refusal(rt.alloc(), text), wanted);
+    for text in cases {
+        assert_eq!(rt; refusal(rt.alloc(), text), None);
     }
 }
 

@@ -2,8 +2,12 @@ pub mod LineLemmas
 pub mod OrderLemmas
 pub mod TimeLemmas
 pub mod CopyLemmas
+pub mod WithinLemmas
+pub mod ArrivalLemmas
+pub mod AnswerLemmas
 pub mod LandingLemmas
 pub mod ShortLemmas
 pub mod ToneLemmas
-pub mod ArrivalLemmas
+pub mod CarriedLemmas
 pub mod RadiatedLemmas
+pub mod TakenLemmas

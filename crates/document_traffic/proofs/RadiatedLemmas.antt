@@ -1,5 +1,5 @@
 -- Where nothing disturbs its schedule, a document's plan radiates, each element once.
-use Rattle.std.proofs.Common.{◌≡◌, ◌≢◌, ℕ, ℤ, pos, ◌+◌, ◌<◌, ◌≤◌, ◌+ℤ◌, ◌≤ℤ◌, true, inl, inr, List, [], ◌∷◌, map, refl, sym, ◌∙◌, subst, arith}
+use Rattle.std.proofs.Common.{◌≡◌, ℕ, ℤ, pos, ◌+◌, ◌<◌, ◌≤◌, ◌≤ℤ◌, true, List, [], ◌∷◌, sym, ◌∙◌, subst, arith}
 use Rattle.std.specs.Prelude.{filter}
 use Rattle.std.proofs.lemmas.Bool.{and_parts}
 use Rattle.std.proofs.lemmas.Int.{ints}
@@ -9,7 +9,6 @@ use Rattle.bfp_codec.proofs.Laws.{can_pack}
 use Rattle.bfp_codec.specs.Shrunk.{CanPack}
 use Rattle.fh_document.specs.Proper.{IsDocument}
 use Rattle.fh_document.specs.declared.document.Document.{Document}
-use Rattle.fh_document.specs.declared.document.Injection.{Injection}
 use Rattle.fh_time.specs.Air.{air_of}
 use Rattle.fh_time.specs.Numbering.{symbols_of}
 use Rattle.fh_time.specs.declared.values.Slot.{Slot}
@@ -23,7 +22,7 @@ use Rattle.replay_laws.proofs.OnceLemmas.{cells_are_reported}
 use Rattle.schedule_laws.proofs.BlockLemmas.{decoded_once}
 use Rattle.schedule_laws.proofs.CommandLemmas.{commanded_once}
 use Rattle.schedule_laws.proofs.LineLemmas.{good, start_in_time}
-use Rattle.schedule_laws.proofs.ListLemmas.{at_in, in_all, in_either, in_left, in_map, of_map}
+use Rattle.schedule_laws.proofs.ListLemmas.{at_in, in_all, in_map, of_map}
 use Rattle.schedule_laws.specs.Premise.{AllArrive}
 use Rattle.schedule_laws.specs.Singles.{event_of}
 use Rattle.sent_frames.specs.Sources.{id_at}
@@ -39,24 +38,16 @@ use Rattle.unit_model.specs.Proper.{IsAt}
 use Rattle.unit_model.specs.Standing.{same_cell}
 use Rattle.unit_model.specs.Times.{end_of_time}
 use Rattle.window_config.specs.Endpoints.{IsEndpoint}
-use Rattle.window_config.specs.Windows.{ticks_of_ns}
 use Rattle.window_config.specs.declared.endpoints.EndpointConfig.{EndpointConfig}
-use Rattle.document_traffic.specs.Landing.{copies_among, copy_at, injected_at, injected_for, landings_of, traffic_of}
+use Rattle.document_traffic.specs.Landing.{landings_of, traffic_of}
 use Rattle.document_traffic.specs.Laws.{HasWidths, ScheduleRadiatesOnce}
-use Rattle.document_traffic.specs.Sending.{all_delayed, lines_of, none_sent, sent_for, source_for}
-use Rattle.document_traffic.specs.Undisturbed.{IsCarried, IsUndisturbed, RadiatesOnce, blocks_for}
+use Rattle.document_traffic.specs.Sending.{Leaving, leaving_down, leaving_of, lines_of, sent_for, source_for}
+use Rattle.document_traffic.specs.Undisturbed.{IsUndisturbed, RadiatesOnce, blocks_for}
 use Rattle.document_traffic.proofs.ArrivalLemmas.{arrivals_in_order, in_arrivals, of_arrivals}
-use Rattle.document_traffic.proofs.CopyLemmas.{delayed_is, in_copies, in_delayed, of_copies}
+use Rattle.document_traffic.proofs.CarriedLemmas.{IsCopyOf, each_has_copy, each_is_copy}
 use Rattle.document_traffic.proofs.LandingLemmas.{are_replayed}
 use Rattle.document_traffic.proofs.LineLemmas.{lines_fit}
 use Rattle.document_traffic.proofs.ToneLemmas.{tone_fits}
-
-longer : (at x y : ℤ) → x ≤ℤ y → (at +ℤ ticks_of_ns x) ≤ℤ (at +ℤ ticks_of_ns y)
-longer at x y h = omega (arith, ints, h)
-
-some_in : (xs : List ℤ) → xs ≢ [] → (x : ℤ) × IsIn x xs
-some_in [] h = absurd (h refl)
-some_in (x ∷ xs) h = (x, inl refl)
 
 under : (s m n : ℕ) → s < m → m ≤ n → s < n
 under s m n h k = omega (arith, h, k)
@@ -72,7 +63,7 @@ module _ (d : Document) (is : IsDocument d) (widths : HasWidths d) (valid : IsVa
       let endpoint = in_all IsEndpoint e d.config.endpoints is.config.endpoints.each (at_in ep e d.config.endpoints at) in
       can_pack e.format.method (source_for d (cell_at ep true slot symbol prb)) endpoint.width (tone_fits d.source is.source (id_at d.config.endpoints ep) slot symbol prb)
 
-  sendable : IsSendable d.config d.plan (source_for d)
+  pub sendable : IsSendable d.config d.plan (source_for d)
   sendable = record {
     config = is.config;
     lines_fit = lines_fit d.plan is.plan;
@@ -84,53 +75,38 @@ module _ (d : Document) (is : IsDocument d) (widths : HasWidths d) (valid : IsVa
 
   -- ---- copies arrive
 
-  copy_is : (f : SentFrame) (ns : ℤ) → d.config.delays.t12.min ≤ℤ ns → ns ≤ℤ d.config.delays.t12.max → IsSentCopy d.config (source_for d) f (copy_at d f ns)
-  copy_is f ns low high = record { from = longer f.at d.config.delays.t12.min ns low; to = longer f.at ns d.config.delays.t12.max high; bytes = refl }
+  copy_is : (f : SentFrame) (a : Arrival) → IsCopyOf d.config.delays.t12 (leaving_of d f) a → IsSentCopy d.config (source_for d) f a
+  copy_is f a h = record { from = h.from; to = h.to; bytes = h.bytes }
 
   came : (a : Arrival) → IsIn a (all_arrivals (landings_of d)) → (f : SentFrame) × IsIn f (sent_for d) × IsSentCopy d.config (source_for d) f a
-  came a m = elim (in_either a (copies_among d (all_delayed d)) (injected_for d) (of_arrivals (landings_of d) a m)) [
-    | inl copy ↦
-        (let x = of_copies d (all_delayed d) a copy in
-        let f = x.0.frame in
-        let ns = of_map (copy_at d f) a x.0.delays x.2 in
-        let carried = in_all (IsCarried d.config) x.0 (all_delayed d) calm.carried x.1 in
-        let low = in_all (λ (y : ℤ). d.config.delays.t12.min ≤ℤ y) ns.0 x.0.delays carried.from ns.1 in
-        let high = in_all (λ (y : ℤ). y ≤ℤ d.config.delays.t12.max) ns.0 x.0.delays carried.to ns.1 in
-        (f, (delayed_is d none_sent (sent_for d) x.0 x.1).there, subst (IsSentCopy d.config (source_for d) f) (sym ns.2) (copy_is f ns.0 low high)))
-    | inr injected ↦ absurd (subst (λ (xs : List Injection). IsIn a (map injected_at xs)) calm.alone injected)
-  ]
+  came a m =
+      let t12 = d.config.delays.t12 in
+      let x = each_is_copy d Ru (leaving_down d) t12 calm.carried calm.alone a (of_arrivals (landings_of d) a m) in
+      let f = of_map (leaving_of d) x.0 (sent_for d) x.1 in
+      (f.0, f.1, copy_is f.0 a (subst (λ (g : Leaving). IsCopyOf t12 g a) f.2 x.2))
 
   every : (f : SentFrame) → IsIn f (sent_for d) → (a : Arrival) × IsIn a (all_arrivals (landings_of d)) × IsSentCopy d.config (source_for d) f a
   every f m =
-      let x = in_delayed d none_sent (sent_for d) f m in
-      let carried = in_all (IsCarried d.config) x.0 (all_delayed d) calm.carried x.1 in
-      let ns = some_in x.0.delays carried.some in
-      let low = in_all (λ (y : ℤ). d.config.delays.t12.min ≤ℤ y) ns.0 x.0.delays carried.from ns.1 in
-      let high = in_all (λ (y : ℤ). y ≤ℤ d.config.delays.t12.max) ns.0 x.0.delays carried.to ns.1 in
-      let a = copy_at d x.0.frame ns.0 in
-      let copy = in_copies d (all_delayed d) x.0 a x.1 (in_map (copy_at d x.0.frame) ns.0 x.0.delays ns.1) in (
-        a,
-        in_arrivals (landings_of d) a (are_replayed d is valid) (in_left a (copies_among d (all_delayed d)) (injected_for d) copy),
-        subst (λ (g : SentFrame). IsSentCopy d.config (source_for d) g a) x.2 (copy_is x.0.frame ns.0 low high),
-      )
+      let a = each_has_copy d Ru (leaving_down d) d.config.delays.t12 calm.carried calm.alone (leaving_of d f) (in_map (leaving_of d) f (sent_for d) m) in
+      (a.0, in_arrivals (landings_of d) a.0 (are_replayed d Ru is valid) a.1, copy_is f a.0 a.2)
 
-  copies : CopiesArrive d.config (lines_of d) (source_for d) (all_arrivals (landings_of d))
-  copies = record { check = calm.check; in_order = arrivals_in_order (landings_of d) (are_replayed d is valid); came = came; every = every }
+  pub copies : CopiesArrive d.config (lines_of d) (source_for d) (all_arrivals (landings_of d))
+  copies = record { check = calm.check; in_order = arrivals_in_order (landings_of d) (are_replayed d Ru is valid); came = came; every = every }
 
   all_arrive : AllArrive d.config d.plan (texts_of d.config (lines_of d) (source_for d)) (all_arrivals (landings_of d))
   all_arrive = arrive d.config d.plan (source_for d) sendable (all_arrivals (landings_of d)) copies
 
   -- ---- each symbol of a line starts in time
 
-  starts : (p : PlannedLine) (symbol prb re : ℕ) → IsIn p (lines_of d) → names (allocation_of p) (cell_of (allocation_of p) symbol prb) re ≡ true
-      → air_of p.endpoint.numerology p.line.slot symbol ≤ℤ end_of_time
+  pub starts : (p : PlannedLine) (symbol prb re : ℕ) → IsIn p (lines_of d) → names (allocation_of p) (cell_of (allocation_of p) symbol prb) re ≡ true
+      → air_of p.endpoint.numerology p.line.slot symbol ≤ℤ pos 1536100000000000
   starts p symbol prb re m named =
       let a = allocation_of p in
       let cell = cell_of a symbol prb in
       let cover = covers_is a cell (and_parts (covers a cell) (in_mask a.mask re) named).0 in
       let g = good d.config d.plan is.config (lines_fit d.plan is.plan) valid p m in
       let below = under symbol (p.line.symbol + p.line.count) (symbols_of p.endpoint.numerology) (from_within p.line.symbol p.line.count symbol cover.symbol) g.within in
-      by_the_end (air_of p.endpoint.numerology p.line.slot symbol) (start_in_time d.config.endpoints p symbol g below).1
+      (start_in_time d.config.endpoints p symbol g below).1
 
   radiates : RadiatesOnce d
   radiates =
@@ -144,7 +120,8 @@ module _ (d : Document) (is : IsDocument d) (widths : HasWidths d) (valid : IsVa
         once = λ p symbol prb re m down busy below named.
             (let event = event_of (blocks_for d) (lines_of d) p symbol prb in
             subst (λ (cells : List AirCell). filter (same_cell event) cells ≡ event ∷ []) (sym reported)
-            (sent_once d.config d.plan (source_for d) arrivals sendable copies p symbol prb re end_of_time m down busy below named (starts p symbol prb re m named)));
+            (sent_once d.config d.plan (source_for d) arrivals sendable copies p symbol prb re end_of_time m down busy below named
+            (by_the_end (air_of p.endpoint.numerology p.line.slot symbol) (starts p symbol prb re m named))));
       }
 
 pub radiates_once : ScheduleRadiatesOnce

@@ -1,7 +1,8 @@
--- When the frames of a document leave, and when their copies land.
-use Rattle.std.proofs.Common.{◌≡◌, ℕ, ℤ, pos, neg_ℤ, ◌+◌, ◌*◌, ◌^◌, ◌≤◌, ◌+ℤ◌, ◌*ℤ◌, ◌≤ℤ◌, min, inl, List, refl, sym, subst, arith}
+-- When the frames of the distributed unit leave, when copies land, and which landings may be replayed.
+use Rattle.std.proofs.Common.{◌≡◌, ℕ, ℤ, pos, neg_ℤ, ◌+◌, ◌*◌, ◌^◌, ◌≤◌, ◌+ℤ◌, ◌*ℤ◌, ◌≤ℤ◌, min, inl, inr, List, [], ◌∷◌, refl, sym, subst, arith}
 use Rattle.std.specs.Prelude.{All}
 use Rattle.std.proofs.lemmas.Int.{ints}
+use Rattle.std.proofs.lemmas.List.Elements.{All-cons, All-nil}
 use Rattle.fragment_laws.specs.Apart.{IsIn}
 use Rattle.plan_model.specs.Departures.{departures_of, sending_from, sending_window, sent_at, start_of, width_of}
 use Rattle.plan_model.specs.Lines.{planned}
@@ -12,10 +13,12 @@ use Rattle.plan_model.specs.Valid.{IsValid}
 use Rattle.plan_model.specs.declared.lines.PlannedLine.{PlannedLine}
 use Rattle.plan_model.specs.declared.streams.Stream.{Stream}
 use Rattle.plan_model.specs.declared.streams.Stream.TheVariants.{DownCommands, UpCommands, DownData, UpData}
+use Rattle.replay_events.specs.Passing.{AreLandings}
 use Rattle.schedule_laws.proofs.SentLemmas.{IsSentStream, message_part, sent_is}
 use Rattle.schedule_laws.proofs.TimeLemmas.{wait_most}
 use Rattle.sent_order.proofs.BoundLemmas.{in_ticks, most_before, part_time}
 use Rattle.unit_model.proofs.SweepLaws.{gap_is}
+use Rattle.unit_model.specs.Meetings.{Arrival}
 use Rattle.unit_model.specs.Proper.{IsAt, IsTime}
 use Rattle.unit_model.specs.Radiated.{first_clock}
 use Rattle.unit_model.specs.Times.{end_of_time}
@@ -27,15 +30,26 @@ use Rattle.window_config.specs.declared.delays.Delays.{Delays}
 use Rattle.window_config.specs.declared.endpoints.EndpointConfig.{EndpointConfig}
 use Rattle.window_config.specs.declared.plan.PlanLine.{PlanLine}
 
--- ---- a frame leaves from the first clock on, no later than the last symbol of frame 99,999 starts
+-- ---- times of a replay
 
-pub record IsLeaving (t : ℤ) : Type 0 where
+-- it is one from the first clock to a last time
+pub record IsBy (last t : ℤ) : Type 0 where
   pub low : first_clock ≤ℤ t
-  pub high : t ≤ℤ pos 1536100000000000
+  pub high : t ≤ℤ last
+
+-- the distributed unit's frames leave no later than the last symbol of frame 99,999 starts
+abbrev pub last_sent : ℤ
+last_sent = pos 1536100000000000
+
+-- a copy is at most three seconds on its way
+abbrev pub longest : ℤ
+longest = pos 4608000000000
+
+-- ---- a frame of the distributed unit leaves
 
 -- a window is from `least` to `most` before a symbol that starts at s
 leaves_by : (s least most : ℤ) (wait width : ℕ) → pos 15360000000 ≤ℤ s → s ≤ℤ pos 1536100000000000 → most ≤ℤ pos 4000000 → pos 0 ≤ℤ least
-    → ticks_of_ns least +ℤ pos width ≡ ticks_of_ns most → wait ≤ width → IsLeaving ((s +ℤ neg_ℤ (ticks_of_ns most)) +ℤ pos wait)
+    → ticks_of_ns least +ℤ pos width ≡ ticks_of_ns most → wait ≤ width → IsBy last_sent ((s +ℤ neg_ℤ (ticks_of_ns most)) +ℤ pos wait)
 leaves_by s least most wait width low high few some is in_width = record { low = omega (arith, ints); high = omega (arith, ints) }
 
 from_is : (d : Delays) (stream : Stream) → IsSentStream stream → sending_from d stream ≡ neg_ℤ (ticks_of_ns (sending_window d stream).max)
@@ -49,7 +63,7 @@ module _ (c : Config) (lines : List PlanLine) (config : IsConfig c) (fit : All I
   ps = planned c.endpoints lines
 
   message_leaves : (stream : Stream) → IsSentStream stream → (ep : ℕ) (e : EndpointConfig) → IsAt c.endpoints ep e → (n : Numbered Part) → IsIn n (messages_of c ps stream ep e)
-      → (sub : ℕ) → IsLeaving (sent_at c stream n sub)
+      → (sub : ℕ) → IsBy last_sent (sent_at c stream n sub)
   message_leaves stream s ep e at n m sub =
       let x = n.message.first in
       let time = part_time c lines config fit valid stream s ep e at x (message_part c ps stream ep e n x m (inl refl)) in
@@ -57,35 +71,40 @@ module _ (c : Config) (lines : List PlanLine) (config : IsConfig c) (fit : All I
       let most = most_before c lines config fit valid stream s in
       let d = departures_of c stream in
       let wait = min ((n.before + sub) * d.gap) d.spread in
-      subst (λ (from : ℤ). IsLeaving ((start_of x +ℤ from) +ℤ pos wait)) (sym (from_is c.delays stream s))
+      subst (λ (from : ℤ). IsBy last_sent ((start_of x +ℤ from) +ℤ pos wait)) (sym (from_is c.delays stream s))
       (leaves_by (start_of x) window.min window.max wait (width_of window) time.0 time.1 most.1 most.2
       (gap_is (ticks_of_ns window.min) (ticks_of_ns window.max) (in_ticks window.min window.max most.0)) (wait_most (n.before + sub) d.gap d.spread))
 
-  pub frame_leaves : (f : SentFrame) → IsIn f (sent c (planned c.endpoints lines)) → IsLeaving f.at
+  pub frame_leaves : (f : SentFrame) → IsIn f (sent c (planned c.endpoints lines)) → IsBy last_sent f.at
   frame_leaves f m =
       let o = sent_is c ps f m in
-      subst (λ (g : SentFrame). IsLeaving g.at) (sym o.is) (message_leaves f.stream o.is_sent f.ep f.endpoint o.at o.n o.there f.sub)
+      subst (λ (g : SentFrame). IsBy last_sent g.at) (sym o.is) (message_leaves f.stream o.is_sent f.ep f.endpoint o.at o.n o.there f.sub)
 
 -- ---- what lands
 
--- a time at which a frame may land in a replay
-pub record IsLanding (t : ℤ) : Type 0 where
-  pub time : IsTime t
-  pub begun : first_clock ≤ℤ t
-  pub ended : t ≤ℤ end_of_time
-
--- a copy is at most three seconds on its way
-pub copy_lands : (at ns : ℤ) (least : ℕ) → IsLeaving at → pos least ≤ℤ ns → ns ≤ℤ pos 3000000000 → IsLanding (at +ℤ ticks_of_ns ns)
-copy_lands at ns least leaves low high = record {
-  time = record { low = omega (arith, ints); high = omega (arith, ints) };
-  begun = omega (arith, ints);
-  ended = omega (arith, ints);
-}
+-- a copy lands within three seconds
+pub copy_lands : (last at ns : ℤ) (least : ℕ) → IsBy last at → pos least ≤ℤ ns → ns ≤ℤ pos 3000000000 → IsBy (last +ℤ longest) (at +ℤ ticks_of_ns ns)
+copy_lands last at ns least leaves low high = record { low = omega (arith, ints); high = omega (arith, ints) }
 
 -- an injected frame lands in the first 1,000 s
-pub injected_lands : (ns : ℤ) → pos 0 ≤ℤ ns → ns ≤ℤ pos (10 ^ 12) → IsLanding (ns *ℤ pos 1536)
-injected_lands ns low high = record {
-  time = record { low = omega (arith, ints); high = omega (arith, ints) };
-  begun = omega (arith, ints);
-  ended = omega (arith, ints);
+pub injected_lands : (last ns : ℤ) → pos 1536000000000000 ≤ℤ last → pos 0 ≤ℤ ns → ns ≤ℤ pos (10 ^ 12) → IsBy (last +ℤ longest) (ns *ℤ pos 1536)
+injected_lands last ns late low high = record { low = omega (arith, ints); high = omega (arith, ints) }
+
+-- such a time may be given to a unit
+by_is_time : (last t : ℤ) → last ≤ℤ end_of_time → IsBy last t → IsTime t
+by_is_time last t order by = record { low = omega (arith, ints); high = omega (arith, ints) }
+
+by_the_end : (last t : ℤ) → last ≤ℤ end_of_time → IsBy last t → t ≤ℤ end_of_time
+by_the_end last t order by = omega (arith, ints)
+
+pub all_of : {X : Type 0} (P : X → Type 0) (xs : List X) → ((x : X) → IsIn x xs → P x) → All P xs
+all_of P [] h = All-nil P
+all_of P (x ∷ xs) h = All-cons P x xs (h x (inl refl)) (all_of P xs (λ y m. h y (inr m)))
+
+-- frames that land by a last time may be replayed
+pub replayed_by : (last : ℤ) (landings : List Arrival) → last ≤ℤ end_of_time → ((a : Arrival) → IsIn a landings → IsBy last a.at) → AreLandings landings
+replayed_by last landings order by = record {
+  times = all_of (λ (a : Arrival). IsTime a.at) landings (λ a m. by_is_time last a.at order (by a m));
+  begun = all_of (λ (a : Arrival). first_clock ≤ℤ a.at) landings (λ a m. (by a m).low);
+  ended = all_of (λ (a : Arrival). a.at ≤ℤ end_of_time) landings (λ a m. by_the_end last a.at order (by a m));
 }

@@ -1,37 +1,93 @@
--- What lands at each unit in a document's replay (this project's profile): the copies of what is sent, in the order in which it is
--- sent and then by copy, and behind them the injected frames in the order of the document. Times are ticks.
-use Rattle.std.specs.Prelude.{ℤ, pos, ◌+ℤ◌, ◌*ℤ◌, List, [], ◌++◌, map}
+-- What lands at each unit in a document's replay (this project's profile): the copies of what is sent to it, in the order in which it is
+-- sent and then by copy, and behind them the injected frames in the order of the document. Times are ticks. What the radio unit sends
+-- rests on what lands at it alone, so nothing here is recursive.
+use Rattle.std.specs.Prelude.{ℤ, pos, ◌+ℤ◌, ◌*ℤ◌, Bool, List, ◌++◌, filter, length, map}
 use Rattle.std.specs.List.{flat_map}
+use Rattle.air_source.specs.declared.events.Side.{Side}
+use Rattle.air_source.specs.declared.events.Side.TheVariants.{Ru, Du}
+use Rattle.air_source.specs.declared.links.LinkFrame.{LinkFrame}
+use Rattle.fh_document.specs.declared.delivered.Class3.TheVariants.{U}
 use Rattle.fh_document.specs.declared.document.Document.{Document}
 use Rattle.fh_document.specs.declared.document.Injection.{Injection}
-use Rattle.plan_model.specs.Sent.{SentFrame}
+use Rattle.replay_events.specs.Heard.{is_of}
+use Rattle.replay_events.specs.Moments.{all_arrivals}
 use Rattle.replay_events.specs.Traffic.{Traffic}
-use Rattle.sent_frames.specs.Frames.{sent_bytes}
+use Rattle.tone_source.specs.Tones.{tone_of}
 use Rattle.unit_model.specs.Meetings.{Arrival}
+use Rattle.unit_model.specs.declared.jobs.UplinkJob.{UplinkJob}
+use Rattle.uplink_laws.specs.Lines.{uplink_of}
+use Rattle.uplink_laws.specs.Premise.{frames_of, jobs_of}
+use Rattle.uplink_model.specs.Frames.{Antenna}
+use Rattle.uplink_model.specs.Sent.{in_sent_order}
 use Rattle.window_config.specs.Windows.{ticks_of_ns}
-use Rattle.document_traffic.specs.Sending.{Delayed, all_delayed, source_for}
+use Rattle.document_traffic.specs.Sending.{Delayed, Leaving, delayed_behind, leaving_down, lines_of, none_sent}
+
+-- ---- copies, and injected frames
 
 -- a copy of a frame, so many nanoseconds after it left
-abbrev pub copy_at : Document → SentFrame → ℤ → Arrival
-copy_at d f ns = record { at = f.at +ℤ ticks_of_ns ns; frame = sent_bytes d.config (source_for d) f }
+abbrev pub copy_at : Leaving → ℤ → Arrival
+copy_at f ns = record { at = f.at +ℤ ticks_of_ns ns; frame = f.frame }
 
-abbrev pub copies_in : Document → Delayed → List Arrival
-copies_in d x = map (copy_at d x.frame) x.delays
+abbrev pub copies_in : Delayed → List Arrival
+copies_in x = map (copy_at x.frame) x.delays
 
-abbrev pub copies_among : Document → List Delayed → List Arrival
-copies_among d xs = flat_map (copies_in d) xs
+abbrev pub copies_among : List Delayed → List Arrival
+copies_among xs = flat_map copies_in xs
 
 -- an injected frame
 abbrev pub injected_at : Injection → Arrival
 injected_at i = record { at = i.at *ℤ pos 1536; frame = i.frame }
 
-abbrev pub injected_for : Document → List Arrival
-injected_for d = map injected_at d.injections
+-- it arrives at this unit
+abbrev pub is_to : Side → Injection → Bool
+is_to side i = is_of side i.side
 
--- all that lands at the radio unit
+abbrev pub injected_to : Side → Document → List Arrival
+injected_to side d = map injected_at (filter (is_to side) d.injections)
+
+-- all that lands at a unit to which these frames are sent
+abbrev pub landing_with : Document → Side → List Leaving → List Arrival
+landing_with d side fs = copies_among (delayed_behind d side none_sent fs) ++ injected_to side d
+
+-- ---- at the radio unit
+
 abbrev pub landings_of : Document → List Arrival
-landings_of d = copies_among d (all_delayed d) ++ injected_for d
+landings_of d = landing_with d Ru (leaving_down d)
 
--- with nothing planned of the uplink, and nothing that lands at the distributed unit
+-- ---- what the radio unit sends, and what lands at the distributed unit
+
+-- the samples of each uplink cell: the tone of the document's `antenna`
+abbrev pub antenna_for : Document → Antenna
+antenna_for d = tone_of d.antenna
+
+-- the uplink messages that the radio unit owes for all that landed at it
+abbrev pub jobs_for : Document → List UplinkJob
+jobs_for d = jobs_of d.config (all_arrivals (landings_of d))
+
+-- all their frames, as they are handed over
+abbrev pub handed_for : Document → List LinkFrame
+handed_for d = frames_of d.config (antenna_for d) (jobs_for d)
+
+abbrev pub leaving_answer : LinkFrame → Leaving
+leaving_answer f = record { at = f.at.0; class = U; frame = f.frame }
+
+-- all that leaves the radio unit, in the sent order
+abbrev pub leaving_up : Document → List Leaving
+leaving_up d = map leaving_answer (in_sent_order (length d.config.endpoints) (handed_for d))
+
+abbrev pub answers_of : Document → List Arrival
+answers_of d = landing_with d Du (leaving_up d)
+
+-- ---- both units
+
+-- all that lands at each, and what the plan's `ul` lines name
 abbrev pub traffic_of : Document → Traffic
-traffic_of d = record { at_ru = landings_of d; planned = []; at_du = [] }
+traffic_of d = record { at_ru = landings_of d; planned = uplink_of (lines_of d); at_du = answers_of d }
+
+-- all that leaves for a unit
+abbrev pub leaving_to : Side → Document → List Leaving
+leaving_to Ru d = leaving_down d
+leaving_to Du d = leaving_up d
+
+abbrev pub all_delayed : Side → Document → List Delayed
+all_delayed side d = delayed_behind d side none_sent (leaving_to side d)

@@ -1,6 +1,7 @@
--- What the distributed unit sends for a document, and how long the copies of each frame are on their way (this project's profile).
-use Rattle.std.specs.Prelude.{ℕ, ℤ, ◌+◌, List, [], ◌∷◌}
-use Rattle.air_source.specs.declared.events.Side.TheVariants.{Ru}
+-- What the distributed unit sends for a document, and how long the copies of each frame that a unit sends are on their way (this
+-- project's profile).
+use Rattle.std.specs.Prelude.{ℕ, ℤ, ◌+◌, List, [], ◌∷◌, map}
+use Rattle.air_source.specs.declared.events.Side.{Side}
 use Rattle.fh_document.specs.declared.delivered.Class3.{Class3}
 use Rattle.fh_document.specs.declared.delivered.Class3.TheVariants.{C, U, M}
 use Rattle.fh_document.specs.declared.document.Document.{Document}
@@ -10,9 +11,12 @@ use Rattle.plan_model.specs.Sent.{SentFrame, sent}
 use Rattle.plan_model.specs.declared.lines.PlannedLine.{PlannedLine}
 use Rattle.plan_model.specs.declared.streams.Stream.{Stream}
 use Rattle.plan_model.specs.declared.streams.Stream.TheVariants.{DownCommands, UpCommands, DownData, UpData}
+use Rattle.sent_frames.specs.Frames.{sent_bytes}
 use Rattle.sent_frames.specs.Messages.{Source}
 use Rattle.sent_frames.specs.Sources.{source_of}
 use Rattle.tone_source.specs.Tones.{tone_of}
+
+-- ---- what the distributed unit sends
 
 -- the lines of a document's plan, at their endpoints
 abbrev pub lines_of : Document → List PlannedLine
@@ -26,7 +30,26 @@ sent_for d = sent d.config (lines_of d)
 abbrev pub source_for : Document → Source
 source_for d = source_of d.config.endpoints (tone_of d.source)
 
--- ---- the number of a frame among those of its class, from 1: commands of both directions count together
+abbrev pub class_of : Stream → Class3
+class_of DownCommands = C
+class_of UpCommands = C
+class_of DownData = U
+class_of UpData = U
+
+-- a frame as it leaves a unit: when, of which class, and its bytes
+pub record Leaving : Type 0 where
+  pub at : ℤ
+  pub class : Class3
+  pub frame : List ℕ
+
+abbrev pub leaving_of : Document → SentFrame → Leaving
+leaving_of d f = record { at = f.at; class = class_of f.stream; frame = sent_bytes d.config (source_for d) f }
+
+-- all that leaves the distributed unit, in the sent order
+abbrev pub leaving_down : Document → List Leaving
+leaving_down d = map (leaving_of d) (sent_for d)
+
+-- ---- the number of a frame among those of its class and way, from 1: commands of both directions count together
 
 pub record SentCounts : Type 0 where
   pub c_plane : ℕ
@@ -34,12 +57,6 @@ pub record SentCounts : Type 0 where
 
 abbrev pub none_sent : SentCounts
 none_sent = record { c_plane = 0; u_plane = 0 }
-
-abbrev pub class_of : Stream → Class3
-class_of DownCommands = C
-class_of UpCommands = C
-class_of DownData = U
-class_of UpData = U
 
 -- the counts with one frame of the class more
 abbrev pub counted : Class3 → SentCounts → SentCounts
@@ -52,22 +69,18 @@ count_of C n = n.c_plane
 count_of U n = n.u_plane
 count_of M n = 0
 
--- ---- copies
+-- ---- copies of the frames that are sent to a unit
 
 -- a frame and how many nanoseconds each of its copies is on its way; it is lost where there is none
 pub record Delayed : Type 0 where
-  pub frame : SentFrame
+  pub frame : Leaving
   pub delays : List ℤ
 
 -- a frame, where so many of each class were sent with it or before it
-abbrev pub delayed : Document → SentCounts → SentFrame → Delayed
-delayed d n f = record { frame = f; delays = copies_of d Ru (class_of f.stream) (count_of (class_of f.stream) n) }
+abbrev pub delayed : Document → Side → SentCounts → Leaving → Delayed
+delayed d side n f = record { frame = f; delays = copies_of d side f.class (count_of f.class n) }
 
 -- these frames, where so many were sent before them
-unfoldable pub delayed_behind : Document → SentCounts → List SentFrame → List Delayed
-delayed_behind d n [] = []
-delayed_behind d n (f ∷ fs) = delayed d (counted (class_of f.stream) n) f ∷ delayed_behind d (counted (class_of f.stream) n) fs
-
--- all frames that are sent for a document
-abbrev pub all_delayed : Document → List Delayed
-all_delayed d = delayed_behind d none_sent (sent_for d)
+unfoldable pub delayed_behind : Document → Side → SentCounts → List Leaving → List Delayed
+delayed_behind d side n [] = []
+delayed_behind d side n (f ∷ fs) = delayed d side (counted f.class n) f ∷ delayed_behind d side (counted f.class n) fs

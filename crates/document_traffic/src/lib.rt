@@ -1,20 +1,29 @@
-//! What lands at the units in a document's replay: the copies of all that its plan sends, each at its time, and the injected frames
-//! (`specs/Landing.antt`), and what holds of it.
+//! What lands at the units in a document's replay: at the radio unit the copies of all that the document's plan sends, at the
+//! distributed unit those of what the radio unit sends for the uplink sections that it accepted, each copy at its time, and behind them
+//! the injected frames (`specs/Landing.antt`); and what holds of it.
 //!
 //! The functions here do nothing: each one's contract is its law, stated in `specs/`.
 #![tactic(auto)]
 
-ghost use Rattle.document_traffic.specs.Laws.{LandingsAreReplayed, ScheduleRadiatesOnce, SentFramesAreShort};
+ghost use Rattle.document_traffic.specs.Laws.{AnswersAllLeave, LandingsAreReplayed, LeavingAreInOrder, LeavingAreShort, ScheduleRadiatesOnce, UplinkIsTakenInOnce};
 
-/// All that lands for a document with a valid plan has its time between the first clock and the end of time, and each frame that is
-/// sent is short enough for an air.
+/// All that lands at either unit for a document with a valid plan has its time between the first clock and the end of time. Frames leave
+/// for a unit in the order of time, and each is short enough for an air; all that the radio unit hands over leave.
 pub fn landings_are_replayed()
     ensures times { LandingsAreReplayed }
-    ensures short { SentFramesAreShort }
+    ensures order { LeavingAreInOrder }
+    ensures answers { AnswersAllLeave }
+    ensures short { LeavingAreShort }
 {}
 
-/// Where the windows pass the check, nothing is injected and each sent frame has a copy, each within T12: each scheduled downlink
-/// element radiates once, with its source's samples as compression leaves them.
+/// Where the windows pass the check, nothing is injected and each frame that is sent to the radio unit has a copy, each within T12: each
+/// scheduled downlink element radiates once, with its source's samples as compression leaves them.
 pub fn the_schedule_radiates_once()
     ensures { ScheduleRadiatesOnce }
+{}
+
+/// Where besides each frame that the radio unit sends has a copy, each within T34: each planned uplink element is taken in once, with the
+/// antenna's samples as compression leaves them.
+pub fn the_uplink_is_taken_in_once()
+    ensures { UplinkIsTakenInOnce }
 {}

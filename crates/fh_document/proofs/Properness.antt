@@ -1,5 +1,5 @@
 -- What was read is within its limits.
-use Rattle.std.proofs.Common.{◌≡◌, ℕ, map, ◌+◌, ◌*◌, ◌≤◌, ◌<◌, ◌^◌, List, [], ◌∷◌, ◌++◌, length, take, drop, Bool, true, false, ◌&&◌, ◌||◌, Option, Some, None, refl, sym, ap, ◌∙◌, subst, arith, inl, inr, nat_lt, nat_le}
+use Rattle.std.proofs.Common.{◌≡◌, ℕ, map, ◌+◌, ◌*◌, ◌≤◌, ◌<◌, ◌^◌, List, [], ◌∷◌, ◌++◌, length, take, drop, Bool, true, false, ◌&&◌, ◌||◌, Option, Some, None, refl, sym, ap, ◌∙◌, subst, arith, inl, inr, nat_le}
 use Rattle.std.specs.Prelude.{ℤ, pos, Result, Ok, Err, IfOk, IfSome, if◌then◌else◌, ◌==◌, All, slice_index, codes}
 use Rattle.std.proofs.lemmas.Bool.{cases_lt}
 use Rattle.std.proofs.lemmas.Bool.Decides.{nat_tests}
@@ -43,7 +43,7 @@ use Rattle.fh_document.specs.Keywords.{keyword_of}
 use Rattle.window_config.proofs.Usual.{usual_within}
 use Rattle.fh_document.specs.ConfigLines.{number_at, time_at, ordered, both_ordered, widths_line, windows_line, range_line, hold_line, time_line, fragment_line, tone_line, comp_line, transit_line, pack_line, set_of, defaults}
 use Rattle.fh_document.specs.EndpointLines.{has_endpoint_count, numerology_of, dynamic_of, width_of, method_of, endpoint_of, has_id, added, endpoint_line}
-use Rattle.fh_document.specs.Building.{is_built, is_built_measure, is_built_plan, passes}
+use Rattle.fh_document.specs.Building.{is_built, is_built_measure, passes}
 use Rattle.fh_document.specs.Delivered.{has_like}
 use Rattle.fh_document.specs.PlanLines.{plan_of, planned, plan_line}
 use Rattle.fh_document.specs.DeliverLines.{has_deliver_count, delivery_of, delivered, deliver_line}
@@ -51,7 +51,7 @@ use Rattle.fh_document.specs.MeasureLines.{measure_of, has_measure, measured, me
 use Rattle.fh_document.specs.InjectLines.{side_of, injected, inject_line}
 use Rattle.fh_document.specs.Lines.{start, is_seen, configured, setting_line, comes_late, keyword_line, ordered_line, is_skipped, version_of, first_line, later_line, words_line, line_of}
 use Rattle.fh_document.specs.Document.{finished, after_line, read_from, document_in}
-use Rattle.fh_document.specs.Proper.{IsFrom, IsTone, AreComps, AreTransits, IsPlanLine, MayPlan, IsDelivery, AreApart, IsMeasure, MayMeasure, IsInjectionIn, IsDocumentIn}
+use Rattle.fh_document.specs.Proper.{IsFrom, IsTone, AreComps, AreTransits, IsPlanLine, IsDelivery, AreApart, IsMeasure, MayMeasure, IsInjectionIn, IsDocumentIn}
 use Rattle.fh_document.proofs.LineBounds.{plan_in, delivery_in, apart_more, measure_in}
 use Rattle.fh_document.proofs.Bounds.{ok_if, ok_then, ok_or, ok_any, ok_weaker, some_if, some_then, some_any, Within, number_within, number_at_within, time_at_within, ordered_within, counted_within, with_number, with_time}
 
@@ -225,10 +225,6 @@ once_push ids id once none j k jt kt is =
       ]
     ]
 
-none_all : {X : Type 0} (P : X → Type 0) (xs : List X) → xs ≡ [] → All P xs
-none_all P [] e = All-nil P
-none_all P (x ∷ xs) e = absurd (cc e)
-
 more_endpoints : (es : List EndpointConfig) (e : EndpointConfig) → AreEndpoints es → IsEndpoint e → has_id e.id es ≡ false → (length es == 16) ≡ false → AreEndpoints (es ++ e ∷ [])
 more_endpoints es e h p new room =
     let more : length (es ++ e ∷ []) ≡ length es + 1 = length_push es e in
@@ -253,12 +249,11 @@ pub record IsReading (scope : Scope) (r : Reading) : Type 0 where
   pub settings : AreSettings r.settings
   pub endpoints : AreEndpoints r.endpoints
   pub plan : All IsPlanLine r.plan
-  pub handled : All (MayPlan scope) r.plan
   pub few : length r.plan ≤ MOST_LINES
   pub numbered : length r.plan_lines ≡ length r.plan
   pub deliveries : All IsDelivery r.deliveries
   pub frames : AreApart r.deliveries
-  pub injections : All (IsInjectionIn scope r.endpoints) r.injections
+  pub injections : All (IsInjectionIn scope) r.injections
   pub measures : All IsMeasure r.measures
   pub unmeasured : MayMeasure scope r.measures
   pub differ : AppearOnce (map (λ m. m.id) r.measures)
@@ -276,19 +271,18 @@ start_in scope = record {
   settings = defaults_in;
   endpoints = no_endpoints;
   plan = All-nil IsPlanLine;
-  handled = All-nil (MayPlan scope);
   few = omega arith;
   numbered = refl;
   deliveries = All-nil IsDelivery;
   frames = tt;
-  injections = All-nil (IsInjectionIn scope []);
+  injections = All-nil (IsInjectionIn scope);
   measures = All-nil IsMeasure;
   unmeasured = none_measured scope;
   differ = λ j k jt kt is. absurd (omega arith);
 }
 
-added_in : (scope : Scope) (r : Reading) (e : EndpointConfig) → IsReading scope r → r.injections ≡ [] → IsEndpoint e → IfOk (added r e) (IsReading scope)
-added_in scope r e h none p =
+added_in : (scope : Scope) (r : Reading) (e : EndpointConfig) → IsReading scope r → IsEndpoint e → IfOk (added r e) (IsReading scope)
+added_in scope r e h p =
     ok_if (IsReading scope) (has_id e.id r.endpoints) (Err why.Twice) _ (λ t. tt)
     (λ f. ok_if (IsReading scope) (length r.endpoints == 16) (Err why.TooMany) _ (λ t. tt)
     (λ g. record {
@@ -296,33 +290,30 @@ added_in scope r e h none p =
       settings = h.settings;
       endpoints = more_endpoints r.endpoints e h.endpoints p f g;
       plan = h.plan;
-      handled = h.handled;
       few = h.few;
       numbered = h.numbered;
       deliveries = h.deliveries;
       frames = h.frames;
-      injections = none_all (IsInjectionIn scope (r.endpoints ++ e ∷ [])) r.injections none;
+      injections = h.injections;
       measures = h.measures;
       unmeasured = h.unmeasured;
       differ = h.differ;
     }))
 
-endpoint_line_in : (scope : Scope) (r : Reading) (ws : List (List ℕ)) → IsReading scope r → r.injections ≡ [] → IfOk (endpoint_line r ws) (IsReading scope)
-endpoint_line_in scope r ws h none =
+endpoint_line_in : (scope : Scope) (r : Reading) (ws : List (List ℕ)) → IsReading scope r → IfOk (endpoint_line r ws) (IsReading scope)
+endpoint_line_in scope r ws h =
     ok_if (IsReading scope) (has_endpoint_count r.version ws) _ (Err why.Words)
-    (λ t. ok_then IsEndpoint (IsReading scope) (or_refuse (endpoint_of r.version ws) why.Number) _ (ok_or IsEndpoint (endpoint_of r.version ws) why.Number (endpoint_of_in r.version ws)) (λ e p. added_in scope r e h none p))
+    (λ t. ok_then IsEndpoint (IsReading scope) (or_refuse (endpoint_of r.version ws) why.Number) _ (ok_or IsEndpoint (endpoint_of r.version ws) why.Number (endpoint_of_in r.version ws)) (λ e p. added_in scope r e h p))
     (λ f. tt)
 
 planned_in : (scope : Scope) (r : Reading) (n : ℕ) (line : PlanLine) → IsReading scope r → IsPlanLine line → IfOk (planned r n line) (IsReading scope)
 planned_in scope r n line h p =
     ok_if (IsReading scope) (length r.plan == MOST_LINES) (Err why.TooMany) _ (λ t. tt)
-    (λ f. ok_if (IsReading scope) (passes r.scope (is_built_plan line)) _ (Err why.NotBuilt)
-    (λ t. record {
+    (λ f. record {
       scoped = h.scoped;
       settings = h.settings;
       endpoints = h.endpoints;
       plan = All-push IsPlanLine r.plan line h.plan p;
-      handled = All-push (MayPlan scope) r.plan line h.handled (subst (λ s. passes s (is_built_plan line) ≡ true) h.scoped t);
       few = one_more (length r.plan) h.few f (length_push r.plan line);
       numbered = length_push r.plan_lines n ∙ ap (λ m. m + 1) h.numbered ∙ sym (length_push r.plan line);
       deliveries = h.deliveries;
@@ -332,7 +323,6 @@ planned_in scope r n line h p =
       unmeasured = h.unmeasured;
       differ = h.differ;
     })
-    (λ g. tt))
   where
     one_more : {m : ℕ} (n : ℕ) → n ≤ MOST_LINES → (n == MOST_LINES) ≡ false → m ≡ n + 1 → m ≤ MOST_LINES
     one_more n le other is = grind (arith, nat_tests)
@@ -350,7 +340,6 @@ delivered_in scope r d h p =
       settings = h.settings;
       endpoints = h.endpoints;
       plan = h.plan;
-      handled = h.handled;
       few = h.few;
       numbered = h.numbered;
       deliveries = All-push IsDelivery r.deliveries d h.deliveries p;
@@ -387,7 +376,6 @@ measured_in scope r m h p =
       settings = h.settings;
       endpoints = h.endpoints;
       plan = h.plan;
-      handled = h.handled;
       few = h.few;
       numbered = h.numbered;
       deliveries = h.deliveries;
@@ -406,19 +394,18 @@ measure_line_in scope r ws h =
 
 injected_in : (scope : Scope) (r : Reading) (i : Injection) → IsReading scope r → IsFrom 0 (10 ^ 12) i.at → length i.frame ≤ MOST_BYTES → IfOk (injected r i) (IsReading scope)
 injected_in scope r i h time short =
-    ok_if (IsReading scope) (passes r.scope (is_built r.endpoints i)) _ (Err why.NotBuilt)
+    ok_if (IsReading scope) (passes r.scope (is_built i)) _ (Err why.NotBuilt)
     (λ t. record {
       scoped = h.scoped;
       settings = h.settings;
       endpoints = h.endpoints;
       plan = h.plan;
-      handled = h.handled;
       few = h.few;
       numbered = h.numbered;
       deliveries = h.deliveries;
       frames = h.frames;
-      injections = All-push (IsInjectionIn scope r.endpoints) r.injections i h.injections
-          (record { time = time; short = short; built = subst (λ s. passes s (is_built r.endpoints i) ≡ true) h.scoped t });
+      injections = All-push (IsInjectionIn scope) r.injections i h.injections
+          (record { time = time; short = short; built = subst (λ s. passes s (is_built i) ≡ true) h.scoped t });
       measures = h.measures;
       unmeasured = h.unmeasured;
       differ = h.differ;
@@ -457,7 +444,6 @@ with_settings scope r s settings h p = record {
   settings = p;
   endpoints = h.endpoints;
   plan = h.plan;
-  handled = h.handled;
   few = h.few;
   numbered = h.numbered;
   deliveries = h.deliveries;
@@ -474,24 +460,18 @@ setting_line_in scope r s ws h =
     (λ f. ok_then AreSettings (IsReading scope) (set_of r.settings s ws) _ (set_in r.settings s ws h.settings)
     (λ settings p. with_settings scope r s settings h p))
 
--- no frame is injected yet where an endpoint may still come
-none_later : {X Y : Type 0} (ms : List Y) (xs : List X) (m : ℕ) → nat_lt 1 (if nat_lt 0 (length ms) then 5 else (if nat_lt 0 (length xs) then 4 else m)) ≡ false → xs ≡ []
-none_later ms [] m e = refl
-none_later [] (x ∷ xs) m e = absurd (grind (arith, nat_tests))
-none_later (y ∷ ms) (x ∷ xs) m e = absurd (grind (arith, nat_tests))
-
-keyword_line_in : (scope : Scope) (r : Reading) (n : ℕ) (k : Keyword) (ws : List (List ℕ)) → IsReading scope r → comes_late r k ≡ false → IfOk (keyword_line r n k ws) (IsReading scope)
-keyword_line_in scope r n (keyword.Configure s) ws h f = setting_line_in scope r s ws h
-keyword_line_in scope r n keyword.Endpoint ws h f = endpoint_line_in scope r ws h (none_later r.measures r.injections _ f)
-keyword_line_in scope r n keyword.Plan ws h f = plan_line_in scope r n ws h
-keyword_line_in scope r n keyword.Deliver ws h f = deliver_line_in scope r ws h
-keyword_line_in scope r n keyword.Inject ws h f = inject_line_in scope r ws h
-keyword_line_in scope r n keyword.Measure ws h f = measure_line_in scope r ws h
+keyword_line_in : (scope : Scope) (r : Reading) (n : ℕ) (k : Keyword) (ws : List (List ℕ)) → IsReading scope r → IfOk (keyword_line r n k ws) (IsReading scope)
+keyword_line_in scope r n (keyword.Configure s) ws h = setting_line_in scope r s ws h
+keyword_line_in scope r n keyword.Endpoint ws h = endpoint_line_in scope r ws h
+keyword_line_in scope r n keyword.Plan ws h = plan_line_in scope r n ws h
+keyword_line_in scope r n keyword.Deliver ws h = deliver_line_in scope r ws h
+keyword_line_in scope r n keyword.Inject ws h = inject_line_in scope r ws h
+keyword_line_in scope r n keyword.Measure ws h = measure_line_in scope r ws h
 
 ordered_line_in : (scope : Scope) (r : Reading) (n : ℕ) (k : Keyword) (ws : List (List ℕ)) → IsReading scope r → IfOk (ordered_line r n k ws) (IsReading scope)
 ordered_line_in scope r n k ws h =
     ok_if (IsReading scope) (comes_late r k) (Err why.Order) _ (λ t. tt)
-    (λ f. keyword_line_in scope r n k ws h f)
+    (λ f. keyword_line_in scope r n k ws h)
 
 later_line_in : (scope : Scope) (r : Reading) (n : ℕ) (ws : List (List ℕ)) → IsReading scope r → IfOk (later_line r n ws) (IsReading scope)
 later_line_in scope r n ws h =
@@ -504,7 +484,6 @@ in_version scope r version h = record {
   settings = h.settings;
   endpoints = h.endpoints;
   plan = h.plan;
-  handled = h.handled;
   few = h.few;
   numbered = h.numbered;
   deliveries = h.deliveries;
@@ -532,7 +511,6 @@ finished_in : (scope : Scope) (r : Reading) → IsReading scope r → IsDocument
 finished_in scope r h = record {
   config = record { delays = h.settings.delays; gap = h.settings.gap; fragment_low = h.settings.fragment.0; fragment_high = h.settings.fragment.1; pack_low = h.settings.pack.0; pack_high = h.settings.pack.1; endpoints = h.endpoints };
   plan = h.plan;
-  handled = h.handled;
   few = h.few;
   numbered = h.numbered;
   source = h.settings.source;

@@ -22,7 +22,7 @@ side_of w =
 
 -- one injection more, where it is handled
 abbrev pub injected : Reading → Injection → Result Reading DocWhy
-injected r i = if_built (is_built r.endpoints i) (record r { injections = r.injections ++ i ∷ [] })
+injected r i = if_built (is_built i) (record r { injections = r.injections ++ i ∷ [] })
 
 abbrev pub inject_line : Reading → List (List ℕ) → Result Reading DocWhy
 inject_line r ws = counted 4 ws (do

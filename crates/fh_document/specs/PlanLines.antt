@@ -1,5 +1,5 @@
 -- `plan KIND ID FRAME SUBFRAME SLOT SYMBOL COUNT PRB NUM MASK SECTION BEAM`
-use Rattle.std.specs.Prelude.{ℕ, pos, List, [], ◌∷◌, ◌++◌, length, ◌==◌, if◌then◌else◌, Option, Some, None, Result, Err, codes}
+use Rattle.std.specs.Prelude.{ℕ, pos, List, [], ◌∷◌, ◌++◌, length, ◌==◌, if◌then◌else◌, Option, Some, None, Result, Ok, Err, codes}
 use Rattle.std.specs.Str.{bytes_eq}
 use Rattle.fh_time.specs.declared.values.Slot.{Slot}
 use Rattle.window_config.specs.declared.plan.PlanKind.{PlanKind}
@@ -14,7 +14,6 @@ use Rattle.fh_document.specs.Words.{word_at, number_in}
 use Rattle.fh_document.specs.Hex.{hex_of}
 use Rattle.fh_document.specs.ConfigLines.{counted}
 use Rattle.fh_document.specs.EndpointLines.{taking}
-use Rattle.fh_document.specs.Building.{is_built_plan, if_built}
 
 -- downlink data, uplink data, or downlink resources that stay idle
 abbrev pub plan_kind_of : List ℕ → Option PlanKind
@@ -67,11 +66,11 @@ plan_of ws =
       beam = section.1;
     }))))))))
 
--- one line more, with its number in the document, where there are fewer than MOST_LINES and it is handled
+-- one line more, with its number in the document, where there are fewer than MOST_LINES
 abbrev pub planned : Reading → ℕ → PlanLine → Result Reading DocWhy
 planned r n line =
     if length r.plan == MOST_LINES then Err why.TooMany
-    else if_built (is_built_plan line) (record r { plan = r.plan ++ line ∷ []; plan_lines = r.plan_lines ++ n ∷ [] })
+    else Ok (record r { plan = r.plan ++ line ∷ []; plan_lines = r.plan_lines ++ n ∷ [] })
 
 abbrev pub plan_line : Reading → ℕ → List (List ℕ) → Result Reading DocWhy
 plan_line r n ws = counted 13 ws (or_refuse (plan_of ws) why.Number >>= (λ line. planned r n line))

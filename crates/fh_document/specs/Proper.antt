@@ -2,7 +2,6 @@
 use Rattle.std.specs.Prelude.{ℕ, ℤ, pos, ◌^◌, ◌<◌, ◌≤◌, ◌≤ℤ◌, ◌≡◌, List, [], ◌∷◌, All, true, false, length, map}
 use Rattle.eaxc_map.specs.Endpoints.{AppearOnce}
 use Rattle.tone_source.specs.declared.values.Tone.{Tone}
-use Rattle.window_config.specs.declared.endpoints.EndpointConfig.{EndpointConfig}
 use Rattle.window_config.specs.declared.plan.PlanLine.{PlanLine}
 use Rattle.window_config.specs.Configs.{IsConfig}
 use Rattle.fh_document.specs.declared.document.Comps.{Comps}
@@ -15,7 +14,7 @@ use Rattle.fh_document.specs.declared.document.Scope.TheVariants.{Built, Whole}
 use Rattle.fh_document.specs.declared.document.Document.{Document}
 use Rattle.fh_document.specs.declared.hex.TheConstants.{MOST_BYTES}
 use Rattle.fh_document.specs.declared.plan_lines.TheConstants.{MOST_LINES}
-use Rattle.fh_document.specs.Building.{is_built, is_built_plan, passes}
+use Rattle.fh_document.specs.Building.{is_built, passes}
 use Rattle.fh_document.specs.Delivered.{has_like}
 use Rattle.fh_document.specs.DeliverLines.{least_of}
 
@@ -65,10 +64,6 @@ abbrev pub AreApart : List Delivery → Type 0
 AreApart [] = Unit {0}
 AreApart (d ∷ ds) = (has_like d ds ≡ false) × AreApart ds
 
--- a line of a plan that is read
-abbrev pub MayPlan : Scope → PlanLine → Type 0
-MayPlan scope line = passes scope (is_built_plan line) ≡ true
-
 abbrev pub IsMeasure : Measure → Type 0
 IsMeasure m = IsFrom 1000000 (10 ^ 12) m.at
 
@@ -77,16 +72,15 @@ abbrev pub MayMeasure : Scope → List Measure → Type 0
 MayMeasure Built ms = ms ≡ []
 MayMeasure Whole ms = Unit {0}
 
--- a frame that these endpoints may be sent
-pub record IsInjectionIn (scope : Scope) (endpoints : List EndpointConfig) (i : Injection) : Type 0 where
+-- an injected frame that is read
+pub record IsInjectionIn (scope : Scope) (i : Injection) : Type 0 where
   pub time : IsFrom 0 (10 ^ 12) i.at
   pub short : length i.frame ≤ MOST_BYTES
-  pub built : passes scope (is_built endpoints i) ≡ true
+  pub built : passes scope (is_built i) ≡ true
 
 pub record IsDocumentIn (scope : Scope) (d : Document) : Type 0 where
   pub config : IsConfig d.config
   pub plan : All IsPlanLine d.plan
-  pub handled : All (MayPlan scope) d.plan
   pub few : length d.plan ≤ MOST_LINES
   pub numbered : length d.plan_lines ≡ length d.plan
   pub source : IsTone d.source
@@ -95,14 +89,14 @@ pub record IsDocumentIn (scope : Scope) (d : Document) : Type 0 where
   pub transits : AreTransits d.transits
   pub deliveries : All IsDelivery d.deliveries
   pub frames : AreApart d.deliveries
-  pub injections : All (IsInjectionIn scope d.config.endpoints) d.injections
+  pub injections : All (IsInjectionIn scope) d.injections
   pub measures : All IsMeasure d.measures
   pub unmeasured : MayMeasure scope d.measures
   pub differ : AppearOnce (map (λ m. m.id) d.measures)
 
 -- where all that it says is handled
-abbrev pub IsInjection : List EndpointConfig → Injection → Type 0
-IsInjection endpoints i = IsInjectionIn Built endpoints i
+abbrev pub IsInjection : Injection → Type 0
+IsInjection i = IsInjectionIn Built i
 
 abbrev pub IsDocument : Document → Type 0
 IsDocument d = IsDocumentIn Built d

@@ -31,8 +31,7 @@ pub(crate) fn side_of(word: &[u8]) -> Option<Side>
 fn add(reading: &mut Reading, injection: Injection) -> Result<(), LineFault>
     ensures { Reads (injected reading.old injection) result reading.new }
 {
-    let handled = is_built(reading.endpoints.as_slice(), &injection);
-    if !passes(reading.scope, handled) {
+    if !passes(reading.scope, is_built(&injection)) {
         return Err(LineFault::Why(DocWhy::NotBuilt));
     }
     match reading.injections.push(injection) {

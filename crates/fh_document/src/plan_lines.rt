@@ -3,7 +3,6 @@ ghost use Rattle.std.specs.Prelude.{◌≡◌};
 ghost use Rattle.fh_document.specs.Answered.{Reads};
 ghost use Rattle.fh_document.specs.PlanLines.{plan_kind_of, slot_of, symbols_of, prbs_of, section_of, plan_of, planned, plan_line};
 
-use crate::building::{is_built_plan, passes};
 use crate::document::Reading;
 use crate::hex::{hex3, hex4};
 use crate::refusals::{DocWhy, LineFault};
@@ -103,9 +102,6 @@ fn add(reading: &mut Reading, n: usize, line: PlanLine) -> Result<(), LineFault>
 {
     if reading.plan.len() == MOST_LINES {
         return Err(LineFault::Why(DocWhy::TooMany));
-    }
-    if !passes(reading.scope, is_built_plan(&line)) {
-        return Err(LineFault::Why(DocWhy::NotBuilt));
     }
     match (reading.plan.push(line), reading.plan_lines.push(n)) {
         (Ok(()), Ok(())) => Ok(()),

@@ -271,9 +271,9 @@ fn read_in(alloc: Global, scope: Scope, bytes: &[u8]) -> Result<Document, DocFau
 /// Reads a document, in the grammar of `fronthaul 1` or `fronthaul 2` as its first line says.
 ///
 /// The answer is what the lines say, or the first line that is refused with its first reason, or want of memory. A document that
-/// is read is within its limits: the configuration is, no id stands twice, and each line of its plan and each injected frame is one
-/// that is handled. So far the uplink lines of a plan, measurements, injected uplink frames, and injected frames with a whole
-/// message of delay measurement or a whole uplink command to an endpoint are refused, where no other reason is there (`NotBuilt`).
+/// is read is within its limits: the configuration is, no id stands twice, and each injected frame is one that is handled. So far
+/// measurements, and injected frames of either way with a whole message of delay measurement, are refused, where no other reason is
+/// there (`NotBuilt`).
 pub fn read(alloc: Global, bytes: &[u8]) -> Result<Document, DocFault>
     ensures answers { Answers (document_of bytes.now) result }
     ensures proper { IfOk result (λ d. IsDocument d) }

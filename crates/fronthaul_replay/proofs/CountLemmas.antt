@@ -7,75 +7,86 @@ use Rattle.air_source.specs.Stops.{StopsIn}
 use Rattle.air_source.specs.declared.events.AirCell.{AirCell}
 use Rattle.air_source.specs.declared.events.Event.{Event}
 use Rattle.air_source.specs.declared.events.Event.TheVariants.{Cell, Delay, Arrival, Count}
-use Rattle.air_source.specs.declared.events.Side.TheVariants.{Ru as AtRu}
+use Rattle.air_source.specs.declared.events.Side.{Side}
+use Rattle.air_source.specs.declared.events.Side.TheVariants.{Ru as AtRu, Du as AtDu}
 use Rattle.air_source.proofs.Stops.{parted, stops_early, stops_later}
+use Rattle.document_traffic.specs.Landing.{landings_of, traffic_of}
+use Rattle.du_intake.specs.declared.unit.Intake.{Intake}
 use Rattle.fault_counters.specs.Counts.{capped, count_of, times}
 use Rattle.fault_counters.specs.Names.{all_counters}
 use Rattle.fault_counters.specs.declared.kinds.Counter.{Counter}
 use Rattle.fh_document.specs.declared.document.Document.{Document}
+use Rattle.intake_moments.specs.Turns.{AtIntakeTurn, planned_for}
+use Rattle.intake_moments.proofs.NextLemmas.{intake_over}
+use Rattle.radio_moments.specs.Turns.{AtRadioTurn, events_before}
+use Rattle.radio_moments.proofs.TurnLemmas.{quiet_less}
 use Rattle.replay_events.specs.Events.{count_event, count_events, number_of}
+use Rattle.replay_events.specs.Heard.{arrivals_heard, cells_heard}
 use Rattle.replay_events.specs.Moments.{all_arrivals, end_of_time}
+use Rattle.replay_events.specs.Traffic.{landings_at, reported_at}
+use Rattle.replay_events.proofs.HeardLemmas.{arrivals-append, cells-append}
 use Rattle.replay_events.proofs.TickLemmas.{last_of_next}
 use Rattle.ru_buffers.specs.declared.unit.Ru.{Ru}
 use Rattle.unit_model.specs.Counts.{StandAt, cells_counted}
 use Rattle.unit_model.specs.Meetings.{Arrival as Landing}
 use Rattle.unit_model.specs.Reports.{arrivals_counted, ru_reported}
-use Rattle.fronthaul_replay.specs.Replaying.{IsDone, StopsInStep, events_of, landings_of, traffic_of}
-use Rattle.fronthaul_replay.specs.Turns.{AtTurn, events_before}
-use Rattle.replay_events.specs.Heard.{arrivals_heard, cells_heard}
-use Rattle.replay_events.proofs.HeardLemmas.{arrivals-append, cells-append}
+use Rattle.uplink_turns.specs.Turns.{jobs_until}
+use Rattle.fronthaul_replay.specs.Replaying.{IsDone, IsInStep, IsIntakeDone, IsRadioDone, StopsInStep, events_of}
+use Rattle.fronthaul_replay.specs.Turns.{AtTurn}
+use Rattle.fronthaul_replay.proofs.StepLemmas.{turn_in_step}
 use Rattle.fronthaul_replay.proofs.StopLemmas.{all_events}
-use Rattle.fronthaul_replay.proofs.TurnLemmas.{quiet_less}
 
 -- ---- their events, one after the other
 
-abbrev pub counts_by : (Counter → ℕ) → List Counter → List Event
-counts_by number ks = flat_map (λ k. count_event AtRu (number k) k) ks
+abbrev pub counts_by : Side → (Counter → ℕ) → List Counter → List Event
+counts_by side number ks = flat_map (λ k. count_event side (number k) k) ks
 
-counts_by-append : (number : Counter → ℕ) (xs ys : List Counter) → counts_by number (xs ++ ys) ≡ counts_by number xs ++ counts_by number ys
-counts_by-append number [] ys = refl
-counts_by-append number (x ∷ xs) ys =
-    ap (λ (es : List Event). count_event AtRu (number x) x ++ es) (counts_by-append number xs ys)
-    ∙ sym (append_assoc (count_event AtRu (number x) x) (counts_by number xs) (counts_by number ys))
+counts_by-append : (side : Side) (number : Counter → ℕ) (xs ys : List Counter) → counts_by side number (xs ++ ys) ≡ counts_by side number xs ++ counts_by side number ys
+counts_by-append side number [] ys = refl
+counts_by-append side number (x ∷ xs) ys =
+    ap (λ (es : List Event). count_event side (number x) x ++ es) (counts_by-append side number xs ys)
+    ∙ sym (append_assoc (count_event side (number x) x) (counts_by side number xs) (counts_by side number ys))
 
-counts_by-one : (number : Counter → ℕ) (k : Counter) → counts_by number (k ∷ []) ≡ count_event AtRu (number k) k
-counts_by-one number k = append-nil (count_event AtRu (number k) k)
+counts_by-one : (side : Side) (number : Counter → ℕ) (k : Counter) → counts_by side number (k ∷ []) ≡ count_event side (number k) k
+counts_by-one side number k = append-nil (count_event side (number k) k)
 
-pub counts_next : (number : Counter → ℕ) (ks : List Counter) (i : ℕ) (d : Counter) → i < length ks
-    → counts_by number (take i ks) ++ count_event AtRu (number (get_or ks i d)) (get_or ks i d) ≡ counts_by number (take (suc i) ks)
-counts_next number ks i d lt =
+pub counts_next : (side : Side) (number : Counter → ℕ) (ks : List Counter) (i : ℕ) (d : Counter) → i < length ks
+    → counts_by side number (take i ks) ++ count_event side (number (get_or ks i d)) (get_or ks i d) ≡ counts_by side number (take (suc i) ks)
+counts_next side number ks i d lt =
     let k = get_or ks i d in
-    sym (ap (counts_by number) (take-suc ks i d lt) ∙ counts_by-append number (take i ks) (k ∷ []) ∙ ap (λ (es : List Event). counts_by number (take i ks) ++ es) (counts_by-one number k))
+    sym (ap (counts_by side number) (take-suc ks i d lt) ∙ counts_by-append side number (take i ks) (k ∷ [])
+    ∙ ap (λ (es : List Event). counts_by side number (take i ks) ++ es) (counts_by-one side number k))
 
-pub counts_about : (number : Counter → ℕ) (ks : List Counter) (i : ℕ) (d : Counter) → i < length ks
-    → counts_by number ks ≡ counts_by number (take i ks) ++ (count_event AtRu (number (get_or ks i d)) (get_or ks i d) ++ counts_by number (drop (suc i) ks))
-counts_about number ks i d lt =
-    ap (counts_by number) (parted ks i d lt)
-    ∙ counts_by-append number (take i ks) (get_or ks i d ∷ drop (suc i) ks)
+pub counts_about : (side : Side) (number : Counter → ℕ) (ks : List Counter) (i : ℕ) (d : Counter) → i < length ks
+    → counts_by side number ks
+    ≡ counts_by side number (take i ks) ++ (count_event side (number (get_or ks i d)) (get_or ks i d) ++ counts_by side number (drop (suc i) ks))
+counts_about side number ks i d lt =
+    ap (counts_by side number) (parted ks i d lt)
+    ∙ counts_by-append side number (take i ks) (get_or ks i d ∷ drop (suc i) ks)
 
 pub stops_among : {A : Type 0} (grew : A → List Event → A → Type 0) (stopped : A → Event → A → Type 0)
     (more : (a b c : A) (first second : List Event) → grew a first b → grew b second c → grew a (first ++ second) c)
-    (number : Counter → ℕ) (ks : List Counter) (i : ℕ) (d : Counter) (a b e : A) → i < length ks → grew a (counts_by number (take i ks)) b
-    → StopsIn grew stopped (count_event AtRu (number (get_or ks i d)) (get_or ks i d)) b e → StopsIn grew stopped (counts_by number ks) a e
-stops_among grew stopped more number ks i d a b e lt first stop =
+    (side : Side) (number : Counter → ℕ) (ks : List Counter) (i : ℕ) (d : Counter) (a b e : A) → i < length ks → grew a (counts_by side number (take i ks)) b
+    → StopsIn grew stopped (count_event side (number (get_or ks i d)) (get_or ks i d)) b e → StopsIn grew stopped (counts_by side number ks) a e
+stops_among grew stopped more side number ks i d a b e lt first stop =
     let k = get_or ks i d in
-    let rest = counts_by number (drop (suc i) ks) in
-    subst (λ (es : List Event). StopsIn grew stopped es a e) (sym (counts_about number ks i d lt))
-    (stops_later grew stopped more (counts_by number (take i ks)) (count_event AtRu (number k) k ++ rest) a b e first
-    (stops_early grew stopped (count_event AtRu (number k) k) rest b e stop))
+    let rest = counts_by side number (drop (suc i) ks) in
+    subst (λ (es : List Event). StopsIn grew stopped es a e) (sym (counts_about side number ks i d lt))
+    (stops_later grew stopped more (counts_by side number (take i ks)) (count_event side (number k) k ++ rest) a b e first
+    (stops_early grew stopped (count_event side (number k) k) rest b e stop))
 
 not_zero : (v : ℕ) → (v ≡ 0 → ⊥) → (v == 0) ≡ false
 not_zero v some = grind (arith, nat_tests)
 
-pub some_event : (n v : ℕ) (k : Counter) → v ≡ n → (v ≡ 0 → ⊥) → count_event AtRu n k ≡ Count AtRu k v ∷ []
-some_event n v k is some =
-    ap (λ (m : ℕ). count_event AtRu m k) (sym is)
-    ∙ ap (λ (b : Bool). let es : List Event = if b then [] else Count AtRu k v ∷ [] in es) (not_zero v some)
+pub some_event : (side : Side) (n v : ℕ) (k : Counter) → v ≡ n → (v ≡ 0 → ⊥) → count_event side n k ≡ Count side k v ∷ []
+some_event side n v k is some =
+    ap (λ (m : ℕ). count_event side m k) (sym is)
+    ∙ ap (λ (b : Bool). let es : List Event = if b then [] else Count side k v ∷ [] in es) (not_zero v some)
 
 -- the same numbers give the same events
-counts_same : (f g : Counter → ℕ) (ks : List Counter) → ((k : Counter) → f k ≡ g k) → counts_by f ks ≡ counts_by g ks
-counts_same f g [] same = refl
-counts_same f g (k ∷ ks) same = ap₂ (λ (n : ℕ) (es : List Event). count_event AtRu n k ++ es) (same k) (counts_same f g ks same)
+counts_same : (side : Side) (f g : Counter → ℕ) (ks : List Counter) → ((k : Counter) → f k ≡ g k) → counts_by side f ks ≡ counts_by side g ks
+counts_same side f g [] same = refl
+counts_same side f g (k ∷ ks) same = ap₂ (λ (n : ℕ) (es : List Event). count_event side n k ++ es) (same k) (counts_same side f g ks same)
 
 -- ---- they are no arrivals and no cells
 
@@ -85,9 +96,9 @@ IsCount (Delay at side id value) = ⊥
 IsCount (Arrival side at frame) = ⊥
 IsCount (Count side counter value) = Unit {0}
 
-one_count : (n : ℕ) (k : Counter) (b : Bool) → AllByRecursion IsCount (let es : List Event = if b then [] else Count AtRu k n ∷ [] in es)
-one_count n k true = tt
-one_count n k false = (tt, tt)
+one_count : (side : Side) (n : ℕ) (k : Counter) (b : Bool) → AllByRecursion IsCount (let es : List Event = if b then [] else Count side k n ∷ [] in es)
+one_count side n k true = tt
+one_count side n k false = (tt, tt)
 
 both_counts : (xs ys : List Event) → AllByRecursion IsCount xs → AllByRecursion IsCount ys → AllByRecursion IsCount (xs ++ ys)
 both_counts [] ys hx hy = hy
@@ -97,77 +108,148 @@ front_counts : (xs ys : List Event) → AllByRecursion IsCount (xs ++ ys) → Al
 front_counts [] ys h = tt
 front_counts (x ∷ xs) ys h = (h.0, front_counts xs ys h.1)
 
-all_counts : (number : Counter → ℕ) (ks : List Counter) → AllByRecursion IsCount (counts_by number ks)
-all_counts number [] = tt
-all_counts number (k ∷ ks) = both_counts (count_event AtRu (number k) k) (counts_by number ks) (one_count (number k) k (number k == 0)) (all_counts number ks)
+all_counts : (side : Side) (number : Counter → ℕ) (ks : List Counter) → AllByRecursion IsCount (counts_by side number ks)
+all_counts side number [] = tt
+all_counts side number (k ∷ ks) =
+    both_counts (count_event side (number k) k) (counts_by side number ks) (one_count side (number k) k (number k == 0)) (all_counts side number ks)
 
-arrivals-counts : (earlier : List Landing) (es : List Event) → AllByRecursion IsCount es → arrivals_heard AtRu earlier es ≡ earlier
+arrivals-counts : (side : Side) (earlier : List Landing) (es : List Event) → AllByRecursion IsCount es → arrivals_heard side earlier es ≡ earlier
 unfolding arrivals_heard
-arrivals-counts earlier [] h = refl
-arrivals-counts earlier (Cell c ∷ es) h = absurd h.0
-arrivals-counts earlier (Delay at side id value ∷ es) h = absurd h.0
-arrivals-counts earlier (Arrival side at frame ∷ es) h = absurd h.0
-arrivals-counts earlier (Count side counter value ∷ es) h = arrivals-counts earlier es h.1
+arrivals-counts side earlier [] h = refl
+arrivals-counts side earlier (Cell c ∷ es) h = absurd h.0
+arrivals-counts side earlier (Delay at of id value ∷ es) h = absurd h.0
+arrivals-counts side earlier (Arrival of at frame ∷ es) h = absurd h.0
+arrivals-counts side earlier (Count of counter value ∷ es) h = arrivals-counts side earlier es h.1
 
-cells-counts : (es : List Event) → AllByRecursion IsCount es → cells_heard AtRu es ≡ []
+cells-counts : (side : Side) (es : List Event) → AllByRecursion IsCount es → cells_heard side es ≡ []
 unfolding cells_heard
-cells-counts [] h = refl
-cells-counts (Cell c ∷ es) h = absurd h.0
-cells-counts (Delay at side id value ∷ es) h = absurd h.0
-cells-counts (Arrival side at frame ∷ es) h = absurd h.0
-cells-counts (Count side counter value ∷ es) h = cells-counts es h.1
+cells-counts side [] h = refl
+cells-counts side (Cell c ∷ es) h = absurd h.0
+cells-counts side (Delay at of id value ∷ es) h = absurd h.0
+cells-counts side (Arrival of at frame ∷ es) h = absurd h.0
+cells-counts side (Count of counter value ∷ es) h = cells-counts side es h.1
+
+arrivals_stay : (side : Side) (told more : List Event) → AllByRecursion IsCount more → arrivals_heard side [] told ≡ arrivals_heard side [] (told ++ more)
+arrivals_stay side told more none = sym (arrivals-append side [] told more ∙ arrivals-counts side (arrivals_heard side [] told) more none)
+
+cells_stay : (side : Side) (told more : List Event) → AllByRecursion IsCount more → cells_heard side told ≡ cells_heard side (told ++ more)
+cells_stay side told more none =
+    sym (cells-append side told more ∙ ap (λ (cs : List AirCell). cells_heard side told ++ cs) (cells-counts side more none) ∙ append-nil (cells_heard side told))
+
+-- so both units are in step with them too
+counts_in_step : (d : Document) (told more : List Event) (u : Ru) (i : Intake) → AllByRecursion IsCount more → IsInStep d told u i → IsInStep d (told ++ more) u i
+counts_in_step d told more u i none step = record {
+  radio = record {
+    history = step.radio.history;
+    stands = step.radio.stands;
+    arrivals = step.radio.arrivals ∙ arrivals_stay AtRu told more none;
+    reported = step.radio.reported ∙ cells_stay AtRu told more none;
+  };
+  intake = record {
+    history = step.intake.history;
+    stands = step.intake.stands;
+    arrivals = step.intake.arrivals ∙ arrivals_stay AtDu told more none;
+    reported = step.intake.reported ∙ cells_stay AtDu told more none;
+  };
+}
 
 -- ---- at the end of time
 
-pub over : (d : Document) (u : Ru) → AtTurn d (end_of_time +ℤ pos 1) u → IsDone d u
-over d u a = record {
+last_tick : (end_of_time +ℤ pos 1) -ℤ pos 1 ≡ end_of_time
+last_tick = last_of_next end_of_time
+
+radio_done : (d : Document) (u : Ru) → AtRadioTurn d (end_of_time +ℤ pos 1) u → IsRadioDone d u
+radio_done d u a = record {
   history = a.history;
   stands = a.stands;
   arrivals = a.turn.arrivals;
-  reported = a.turn.reported ∙ ap (λ (t : ℤ). ru_reported d.config (all_arrivals (landings_of d)) t) (last_of_next end_of_time);
-  quiet = λ to before. quiet_less d.config u a.history to ((end_of_time +ℤ pos 1) -ℤ pos 1) a.stands (subst (λ (t : ℤ). to ≤ℤ t) (sym (last_of_next end_of_time)) before) a.turn.quiet;
+  reported = a.turn.reported ∙ ap (λ (t : ℤ). ru_reported d.config (all_arrivals (landings_of d)) t) last_tick;
+  given = a.turn.given ∙ ap (λ (t : ℤ). jobs_until d.config (landings_of d) t) last_tick;
+  quiet = λ to before. quiet_less d.config u a.history to ((end_of_time +ℤ pos 1) -ℤ pos 1) a.stands (subst (λ (t : ℤ). to ≤ℤ t) (sym last_tick) before) a.turn.quiet;
 }
 
-numbers_are : (d : Document) (u : Ru) (counts : List ℕ) (done : IsDone d u) → StandAt counts (arrivals_counted AtRu d.config done.history.arrivals ++ cells_counted done.history.reported)
-    → (k : Counter) → count_of counts k ≡ number_of AtRu d.config (traffic_of d) k
-unfolding number_of
-numbers_are d u counts done stand k =
+intake_done : (d : Document) (i : Intake) → AtIntakeTurn d (end_of_time +ℤ pos 1) i → IsIntakeDone d i
+intake_done d i a =
+    let all = intake_over d i a in record { history = a.history; stands = a.stands; arrivals = all.arrivals; reported = all.reported; quiet = all.quiet }
+
+pub over : (d : Document) (u : Ru) (i : Intake) → AtTurn d (end_of_time +ℤ pos 1) u i → IsDone d u i
+over d u i a = record { radio = radio_done d u a.radio; intake = intake_done d i a.intake }
+
+-- ---- the numbers
+
+-- what a unit counted of all that landed at it, and of all that it reported
+pub counts_are : (side : Side) (d : Document) (counts : List ℕ) (came : List Landing) (told : List AirCell)
+    → StandAt counts (arrivals_counted side d.config came ++ cells_counted told)
+    → came ≡ all_arrivals (landings_at side (traffic_of d))
+    → told ≡ reported_at side d.config (planned_for d) (all_arrivals (landings_at side (traffic_of d))) end_of_time
+    → counts_by side (count_of counts) all_counters ≡ count_events side d.config (traffic_of d)
+unfolding count_events number_of
+counts_are side d counts came told stand came_is told_is =
+    counts_same side (count_of counts) (number_of side d.config (traffic_of d)) all_counters (λ k.
     stand k
-    ∙ ap₂ (λ (xs : List Landing) (rs : List AirCell). capped (times (arrivals_counted AtRu d.config xs ++ cells_counted rs) k)) done.arrivals done.reported
+    ∙ ap₂ (λ (xs : List Landing) (rs : List AirCell). capped (times (arrivals_counted side d.config xs ++ cells_counted rs) k)) came_is told_is)
 
-pub counts_are : (d : Document) (u : Ru) (counts : List ℕ) (done : IsDone d u) → StandAt counts (arrivals_counted AtRu d.config done.history.arrivals ++ cells_counted done.history.reported)
-    → counts_by (count_of counts) all_counters ≡ count_events AtRu d.config (traffic_of d)
-unfolding count_events
-counts_are d u counts done stand = counts_same (count_of counts) (number_of AtRu d.config (traffic_of d)) all_counters (numbers_are d u counts done stand)
+pub radio_counts : (d : Document) (u : Ru) (counts : List ℕ) (done : IsRadioDone d u)
+    → StandAt counts (arrivals_counted AtRu d.config done.history.arrivals ++ cells_counted done.history.reported)
+    → counts_by AtRu (count_of counts) all_counters ≡ count_events AtRu d.config (traffic_of d)
+radio_counts d u counts done stand = counts_are AtRu d counts done.history.arrivals done.history.reported stand done.arrivals done.reported
 
-pub heard_all : {A : Type 0} (grew : A → List Event → A → Type 0)
-    (more : (a b c : A) (first second : List Event) → grew a first b → grew b second c → grew a (first ++ second) c)
-    (d : Document) (counts : List Event) (a b e : A) → counts ≡ count_events AtRu d.config (traffic_of d)
-    → grew a (events_before d (end_of_time +ℤ pos 1)) b → grew b counts e → grew a (events_of d) e
-heard_all grew more d counts a b e are first second =
-    subst (λ (es : List Event). grew a es e) (ap (λ (es : List Event). events_before d (end_of_time +ℤ pos 1) ++ es) are ∙ sym (all_events d))
-    (more a b e (events_before d (end_of_time +ℤ pos 1)) counts first second)
+pub intake_counts : (d : Document) (i : Intake) (counts : List ℕ) (done : IsIntakeDone d i)
+    → StandAt counts (arrivals_counted AtDu d.config done.history.arrivals ++ cells_counted done.history.reported)
+    → counts_by AtDu (count_of counts) all_counters ≡ count_events AtDu d.config (traffic_of d)
+intake_counts d i counts done stand = counts_are AtDu d counts done.history.arrivals done.history.reported stand done.arrivals done.reported
 
-pub stops_count : {A : Type 0} (grew : A → List Event → A → Type 0) (stopped : A → Event → A → Type 0)
-    (more : (a b c : A) (first second : List Event) → grew a first b → grew b second c → grew a (first ++ second) c)
-    (d : Document) (u : Ru) (number : Counter → ℕ) (a b e : A) → AtTurn d (end_of_time +ℤ pos 1) u → counts_by number all_counters ≡ count_events AtRu d.config (traffic_of d)
-    → grew a (events_before d (end_of_time +ℤ pos 1)) b → StopsIn grew stopped (counts_by number all_counters) b e → StopsInStep grew stopped d u a e
-stops_count grew stopped more d u number a b e at are first s =
-    let earlier = events_before d (end_of_time +ℤ pos 1) in
-    let none : AllByRecursion IsCount s.before =
-    front_counts s.before (s.event ∷ s.after) (subst (AllByRecursion IsCount) s.is (all_counts number all_counters)) in
-    record {
-      told = earlier ++ s.before;
-      event = s.event;
-      rest = s.after;
-      is = all_events d ∙ ap (λ (es : List Event). earlier ++ es) (sym are ∙ s.is) ∙ sym (append_assoc earlier s.before (s.event ∷ s.after));
-      middle = s.middle;
-      heard = more a b s.middle earlier s.before first s.heard;
-      stop = s.stop;
-      step = record {
-        history = at.history;
-        stands = at.stands;
-        arrivals = at.turn.came ∙ sym (arrivals-append AtRu [] earlier s.before ∙ arrivals-counts (arrivals_heard AtRu [] earlier) s.before none);
-        reported = at.turn.told ∙ sym (cells-append AtRu earlier s.before ∙ ap (λ (cs : List AirCell). cells_heard AtRu earlier ++ cs) (cells-counts s.before none) ∙ append-nil (cells_heard AtRu earlier));
-      };
-    }
+-- ---- the events of both units' counters behind all others
+
+abbrev passed : Document → List Event
+passed d = events_before d (end_of_time +ℤ pos 1)
+
+abbrev counts_for : Side → Document → List Event
+counts_for side d = count_events side d.config (traffic_of d)
+
+module _ {A : Type 0} (grew : A → List Event → A → Type 0) (more : (a b c : A) (first second : List Event) → grew a first b → grew b second c → grew a (first ++ second) c)
+    (d : Document) where
+  pub heard_all : (radio taken : List Event) (a b m e : A) → radio ≡ counts_for AtRu d → taken ≡ counts_for AtDu d
+      → grew a (passed d) b → grew b radio m → grew m taken e → grew a (events_of d) e
+  heard_all radio taken a b m e radio_is taken_is first second third =
+      subst (λ (es : List Event). grew a es e) (ap₂ (λ (xs ys : List Event). passed d ++ (xs ++ ys)) radio_is taken_is ∙ sym (all_events d))
+      (more a b e (passed d) (radio ++ taken) first (more b m e radio taken second third))
+
+  module _ (stopped : A → Event → A → Type 0) (u : Ru) (i : Intake) where
+    -- it stopped in one of a unit's counters
+    stops_count : (side : Side) (number : Counter → ℕ) (front rest : List Event) (a b e : A)
+        → events_of d ≡ front ++ (counts_by side number all_counters ++ rest) → IsInStep d front u i → grew a front b
+        → StopsIn grew stopped (counts_by side number all_counters) b e → StopsInStep grew stopped d u i a e
+    stops_count side number front rest a b e parts step first s =
+        let none : AllByRecursion IsCount s.before =
+        front_counts s.before (s.event ∷ s.after) (subst (AllByRecursion IsCount) s.is (all_counts side number all_counters)) in
+        record {
+          told = front ++ s.before;
+          event = s.event;
+          rest = s.after ++ rest;
+          is = parts ∙ ap (λ (es : List Event). front ++ (es ++ rest)) s.is ∙ ap (λ (es : List Event). front ++ es) (append_assoc s.before (s.event ∷ s.after) rest)
+              ∙ sym (append_assoc front s.before (s.event ∷ (s.after ++ rest)));
+          middle = s.middle;
+          heard = more a b s.middle front s.before first s.heard;
+          stop = s.stop;
+          step = counts_in_step d front s.before u i none step;
+        }
+
+    pub stops_radio_count : (number : Counter → ℕ) (a b e : A) → AtTurn d (end_of_time +ℤ pos 1) u i → counts_by AtRu number all_counters ≡ counts_for AtRu d
+        → grew a (passed d) b → StopsIn grew stopped (counts_by AtRu number all_counters) b e → StopsInStep grew stopped d u i a e
+    stops_radio_count number a b e at are first s =
+        stops_count AtRu number (passed d) (counts_for AtDu d) a b e
+        (all_events d ∙ ap (λ (es : List Event). passed d ++ (es ++ counts_for AtDu d)) (sym are)) (turn_in_step d (end_of_time +ℤ pos 1) u i at) first s
+
+    pub stops_intake_count : (radio_number number : Counter → ℕ) (a b m e : A) → AtTurn d (end_of_time +ℤ pos 1) u i
+        → counts_by AtRu radio_number all_counters ≡ counts_for AtRu d → counts_by AtDu number all_counters ≡ counts_for AtDu d
+        → grew a (passed d) b → grew b (counts_by AtRu radio_number all_counters) m → StopsIn grew stopped (counts_by AtDu number all_counters) m e
+        → StopsInStep grew stopped d u i a e
+    stops_intake_count radio_number number a b m e at radio_are are first second s =
+        let radio = counts_by AtRu radio_number all_counters in
+        let taken = counts_by AtDu number all_counters in
+        stops_count AtDu number (passed d ++ radio) [] a m e
+        (all_events d ∙ ap₂ (λ (xs ys : List Event). passed d ++ (xs ++ ys)) (sym radio_are) (sym are) ∙ sym (append_assoc (passed d) radio taken)
+        ∙ ap (λ (es : List Event). (passed d ++ radio) ++ es) (sym (append-nil taken)))
+        (counts_in_step d (passed d) radio u i (all_counts AtRu radio_number all_counters) (turn_in_step d (end_of_time +ℤ pos 1) u i at))
+        (more a b m (passed d) radio first second) s

@@ -18,7 +18,8 @@ use Rattle.replay_events.specs.Traffic.{Traffic}
 use Rattle.replay_events.specs.Moments.{end_of_time, landing_at}
 use Rattle.replay_events.specs.Events.{arrivals_at, arrivals_told, cells_at, events_at, events_between, number_of, count_event, count_events, events}
 use Rattle.fh_document.specs.declared.document.Document.{Document}
-use Rattle.fronthaul_replay.specs.Replaying.{events_of, traffic_of}
+use Rattle.document_traffic.specs.Landing.{traffic_of}
+use Rattle.fronthaul_replay.specs.Replaying.{events_of}
 use Rattle.sum_air.proofs.Whole.{IsEarlier, IsCount, CountsLast}
 
 -- what holds of two lists holds of both in turn

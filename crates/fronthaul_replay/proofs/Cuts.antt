@@ -18,8 +18,8 @@ use Rattle.sum_air.specs.States.{sum_start, sum_gives, sum_ends}
 use Rattle.sum_air.specs.Summary.{whole_summary}
 use Rattle.sum_air.specs.Laws.{Heard}
 use Rattle.sum_air.proofs.Written as summed
-use Rattle.fronthaul_replay.specs.declared.injected.InjectedFault.{InjectedFault}
-use Rattle.fronthaul_replay.specs.declared.injected.InjectedFault.TheVariants.{WriteFault, NoMemory}
+use Rattle.fronthaul_replay.specs.declared.report.TextFault.{TextFault}
+use Rattle.fronthaul_replay.specs.declared.report.TextFault.TheVariants.{WriteFault, NoMemory}
 use Rattle.fronthaul_replay.specs.Cut.{CutBy}
 use Rattle.fronthaul_replay.specs.Reports.{summary_of, capture_of}
 use Rattle.fronthaul_replay.proofs.Counted.{document_counts}
@@ -33,7 +33,7 @@ module _ {A : Type 0} (written : A → Option (List ℕ)) (faults refusals : A �
   CaptureStopped fault a e b = Halted fault (written a) (faults a) (refusals a) (owed a) (event_record e) (written b) (faults b) (refusals b)
 
   -- where it owed the magic, it wrote a front of the capture
-  pub capture_cut : (f : InjectedFault) → owed old ≡ MAGIC → CutBy f CaptureGrew CaptureStopped (events_of d) old new → WritesFront (written old) (written new) (capture_of d)
+  pub capture_cut : (f : TextFault) → owed old ≡ MAGIC → CutBy f CaptureGrew CaptureStopped (events_of d) old new → WritesFront (written old) (written new) (capture_of d)
   unfolding capture_of
   capture_cut WriteFault magic cut = stops_front CaptureGrew (CaptureStopped Failed) written whole_capture old new (events_of d) (captured.writes_out Failed written faults refusals owed old magic) cut
   capture_cut NoMemory magic cut = cut_front CaptureGrew (CaptureStopped WantsMemory) written whole_capture old new (events_of d) (captured.writes_out WantsMemory written faults refusals owed old magic) cut
@@ -50,7 +50,7 @@ module _ {A : Type 0} (written : A → Option (List ℕ)) (faults refusals : A �
   begins front = front_of (written old) (written new) (summed.summary_begun (events_of d)) (whole_summary (events_of d)) (summed.summary_begins (events_of d) (document_counts d)) front
 
   -- where it had heard nothing, it wrote a front of the summary
-  pub summary_cut : (f : InjectedFault) → owed old ≡ [] → sums old ≡ sum_start → CutBy f SummaryGrew SummaryStopped (events_of d) old new → WritesFront (written old) (written new) (summary_of d)
+  pub summary_cut : (f : TextFault) → owed old ≡ [] → sums old ≡ sum_start → CutBy f SummaryGrew SummaryStopped (events_of d) old new → WritesFront (written old) (written new) (summary_of d)
   unfolding summary_of
   summary_cut WriteFault none start cut =
       begins (stops_front SummaryGrew (SummaryStopped Failed) written summed.summary_begun old new (events_of d) (summed.writes_out Failed written faults refusals owed sums old none start) cut)

@@ -1,43 +1,73 @@
 -- The laws of a replay's events hold of every document that was read.
-use Rattle.std.proofs.Common.{[]}
-use Rattle.std.proofs.lemmas.List.Elements.{All-nil}
+use Rattle.std.proofs.Common.{◌≡◌, List, inl, inr, true, not, ◌==◌, refl, ap, sym, ◌∙◌}
+use Rattle.std.proofs.lemmas.Bool.{and_from, and_parts, cases_Bool, eqb-true, or_right}
 use Rattle.air_source.specs.declared.events.Side.{Side}
 use Rattle.air_source.specs.declared.events.Side.TheVariants.{Ru, Du}
+use Rattle.document_traffic.specs.Landing.{traffic_of}
+use Rattle.document_traffic.specs.Sending.{lines_of}
+use Rattle.document_traffic.proofs.LandingLemmas.{are_replayed}
+use Rattle.document_traffic.proofs.LineLemmas.{lines_fit}
+use Rattle.document_traffic.proofs.RadiatedLemmas.{radiates_once}
+use Rattle.document_traffic.proofs.TakenLemmas.{is_taken_in_once}
+use Rattle.du_intake.specs.Planned.{IsPlanOf}
+use Rattle.du_intake.proofs.PlanLemmas.{plan_clear}
 use Rattle.fh_document.specs.declared.document.Document.{Document}
-use Rattle.unit_model.specs.Claims.{claim_at}
-use Rattle.unit_model.specs.declared.cells.Cell.{Cell}
+use Rattle.fragment_laws.specs.Apart.{IsIn}
+use Rattle.intake_moments.specs.Turns.{planned_for}
+use Rattle.plan_model.specs.Validity.{share_bit, share_cell}
 use Rattle.replay_events.specs.Moments.{all_arrivals}
 use Rattle.replay_events.specs.Passing.{AreLandings}
 use Rattle.replay_events.specs.Traffic.{landings_at}
-use Rattle.replay_laws.specs.Landed.{AllArrive}
 use Rattle.replay_laws.specs.Shown.{HaveOneId}
 use Rattle.replay_laws.proofs.LandedLemmas.{each_arrives}
 use Rattle.replay_laws.proofs.OnceLemmas.{at_most_once}
 use Rattle.replay_laws.proofs.RefusedLemmas.{each_refused_changes_nothing}
 use Rattle.replay_laws.proofs.ShownLemmas.{shown_only_in_time}
 use Rattle.replay_laws.proofs.SumLemmas.{sums_add_up}
-use Rattle.document_traffic.proofs.RadiatedLemmas.{radiates_once}
+use Rattle.schedule_laws.proofs.ClashLemmas.{IsClear, both_cover, claimed}
+use Rattle.unit_model.specs.Claims.{covers}
+use Rattle.unit_model.specs.declared.allocations.Allocation.{Allocation}
+use Rattle.unit_model.specs.declared.cells.Cell.{Cell}
+use Rattle.unit_model.specs.declared.cells.Claim.{Claim}
 use Rattle.fronthaul_replay.specs.Laws.{IsSound}
-use Rattle.fronthaul_replay.specs.Replaying.{IsReplayable, traffic_of}
-use Rattle.fronthaul_replay.proofs.DocumentLemmas.{are_landings}
+use Rattle.fronthaul_replay.specs.Replaying.{IsReplayable}
 
-none_land : AreLandings []
-none_land = record { times = All-nil _; begun = All-nil _; ended = All-nil _ }
+-- ---- what a plan claims of the uplink
 
-nothing_planned : (cell : Cell) → HaveOneId [] cell
-unfolding claim_at
-nothing_planned cell re other k l small few there also = absurd cc
+-- of allocations none of which clash, two that share a cell have one section id
+one_section : (planned : List Allocation) (a b : Allocation) → IsClear planned → IsIn a planned → IsIn b planned → share_cell a b ≡ true → a.section ≡ b.section
+one_section planned a b clear m n shared = elim (cases_Bool (a.section == b.section)) [
+  | inl same ↦ eqb-true a.section b.section same
+  | inr other ↦
+      ap (λ (x : Allocation). x.section)
+      (clear a b m n (and_from (share_cell a b) _ shared (or_right (share_bit a.mask b.mask) (not (a.section == b.section)) (ap not other))))
+]
 
-all_arrive : (d : Document) → IsReplayable d → (side : Side) → AllArrive (landings_at side (traffic_of d))
-all_arrive d doc Ru = each_arrives (landings_at Ru (traffic_of d)) (are_landings d doc)
-all_arrive d doc Du = each_arrives [] none_land
+have_one_id : (planned : List Allocation) (cell : Cell) → IsClear planned → HaveOneId planned cell
+have_one_id planned cell clear re other k l small few there also =
+    let a = claimed planned cell re k there in
+    let b = claimed planned cell other l also in
+    let shared = both_cover a.b b.b cell (and_parts (covers a.b cell) _ a.names_it).0 (and_parts (covers b.b cell) _ b.names_it).0 in
+    ap (λ (x : Claim). x.id) a.is ∙ one_section planned a.b b.b clear a.there b.there shared ∙ sym (ap (λ (x : Claim). x.id) b.is)
+
+-- the lines of a document's plan are a plan of its configuration
+pub is_plan : (d : Document) → IsReplayable d → IsPlanOf d.config (lines_of d)
+is_plan d doc = record { plan = d.plan; ranges = lines_fit d.plan doc.document.plan; valid = doc.valid; is = refl }
+
+planned_once : (d : Document) → IsReplayable d → (cell : Cell) → HaveOneId (planned_for d) cell
+planned_once d doc cell = have_one_id (planned_for d) cell (plan_clear d.config (lines_of d) doc.document.config (is_plan d doc))
+
+-- ---- the laws
 
 pub is_sound : (d : Document) → IsReplayable d → IsSound d
-is_sound d doc = record {
-  once = at_most_once d.config (traffic_of d) doc.document.config;
-  in_time = shown_only_in_time d.config (traffic_of d) (are_landings d doc) none_land nothing_planned;
-  sums = sums_add_up d.config (traffic_of d);
-  arrive = all_arrive d doc;
-  exactly_once = λ widths calm. radiates_once d doc.document widths doc.valid calm;
-  refused = λ side. each_refused_changes_nothing side d.config (all_arrivals (landings_at side (traffic_of d)));
-}
+is_sound d doc =
+    let are : (side : Side) → AreLandings (landings_at side (traffic_of d)) = λ side. are_replayed d side doc.document doc.valid in
+    record {
+      once = at_most_once d.config (traffic_of d) doc.document.config;
+      in_time = shown_only_in_time d.config (traffic_of d) (are Ru) (are Du) (planned_once d doc);
+      sums = sums_add_up d.config (traffic_of d);
+      arrive = λ side. each_arrives (landings_at side (traffic_of d)) (are side);
+      exactly_once = λ widths calm. radiates_once d doc.document widths doc.valid calm;
+      taken_in_once = λ widths calm. is_taken_in_once d doc.document widths doc.valid calm;
+      refused = λ side. each_refused_changes_nothing side d.config (all_arrivals (landings_at side (traffic_of d)));
+    }

@@ -1,16 +1,7 @@
-pub mod DocumentLemmas
-pub mod OrderLemmas
-pub mod MeasureLemmas
-pub mod SendLemmas
-pub mod TurnLemmas
+pub mod StepLemmas
 pub mod StopLemmas
-pub mod LandLemmas
-pub mod ComingLemmas
 pub mod NextLemmas
-pub mod MomentLemmas
 pub mod CountLemmas
-pub mod ListLemmas
-pub mod GiveLemmas
 pub mod LawLemmas
 pub mod Counted
 pub mod Cuts

@@ -10,8 +10,8 @@ use Rattle.owed_bytes.specs.Owed.{Carried}
 use Rattle.air_sinks.specs.Stopping.{Halted}
 use Rattle.text_air.specs.Text.{event_text, events_text, end_text}
 use Rattle.text_air.proofs.Texts.{cut_front, finish_front, finished, front_of_whole, stops_front}
-use Rattle.fronthaul_replay.specs.declared.injected.InjectedFault.{InjectedFault}
-use Rattle.fronthaul_replay.specs.declared.injected.InjectedFault.TheVariants.{WriteFault, NoMemory}
+use Rattle.fronthaul_replay.specs.declared.report.TextFault.{TextFault}
+use Rattle.fronthaul_replay.specs.declared.report.TextFault.TheVariants.{WriteFault, NoMemory}
 use Rattle.fronthaul_replay.specs.Cut.{CutBy}
 use Rattle.fronthaul_replay.specs.Replaying.{events_of}
 use Rattle.fronthaul_replay.specs.Reports.{document_report}
@@ -37,7 +37,7 @@ module _ {A : Type 0} (written : A → Option (List ℕ)) (faults refusals : A �
   ReportStopped fault a e b = Halted fault (written a) (faults a) (refusals a) (owed a) (event_text e) (written b) (faults b) (refusals b)
 
   -- where it owed nothing, it wrote a front of the report
-  pub report_cut : (f : InjectedFault) → owed old ≡ [] → CutBy f ReportGrew ReportStopped (events_of d) old new → WritesFront (written old) (written new) (document_report d)
+  pub report_cut : (f : TextFault) → owed old ≡ [] → CutBy f ReportGrew ReportStopped (events_of d) old new → WritesFront (written old) (written new) (document_report d)
   unfolding document_report
   report_cut WriteFault fresh cut = front_of_whole (written old) (written new) (events_of d) (stops_front Failed written faults refusals owed (events_of d) old new fresh cut)
   report_cut NoMemory fresh cut = front_of_whole (written old) (written new) (events_of d) (cut_front WantsMemory written faults refusals owed (events_of d) old new fresh cut)

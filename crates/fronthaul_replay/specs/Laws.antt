@@ -9,8 +9,8 @@ use Rattle.replay_laws.specs.Shown.{IsShownInTime}
 use Rattle.replay_laws.specs.Sums.{AddsUp}
 use Rattle.replay_events.specs.Traffic.{landings_at}
 use Rattle.document_traffic.specs.Laws.{HasWidths}
-use Rattle.document_traffic.specs.Undisturbed.{IsUndisturbed, RadiatesOnce}
-use Rattle.fronthaul_replay.specs.Replaying.{traffic_of}
+use Rattle.document_traffic.specs.Landing.{traffic_of}
+use Rattle.document_traffic.specs.Undisturbed.{IsTakenInOnce, IsUndisturbed, IsUndisturbedBothWays, RadiatesOnce}
 
 -- at each unit: no cell is reported twice; the samples of a cell came in the symbol's window, and each of its elements was named by a
 -- command on time that was accepted under the cell's section id, or is planned under it; each decoded section has one counted verdict and
@@ -22,4 +22,5 @@ pub record IsSound (d : Document) : Type 0 where
   pub sums : AddsUp d.config (traffic_of d)
   pub arrive : (side : Side) → AllArrive (landings_at side (traffic_of d))
   pub exactly_once : HasWidths d → IsUndisturbed d → RadiatesOnce d
+  pub taken_in_once : HasWidths d → IsUndisturbedBothWays d → IsTakenInOnce d
   pub refused : (side : Side) → RefusedChangesNothing side d.config (all_arrivals (landings_at side (traffic_of d)))

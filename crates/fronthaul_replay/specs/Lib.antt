@@ -1,8 +1,5 @@
 pub mod Replaying
-pub mod Going
-pub mod Coming
 pub mod Turns
-pub mod Delivering
 pub mod Laws
 pub mod Cut
 pub mod Reports

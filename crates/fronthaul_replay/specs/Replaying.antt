@@ -1,23 +1,20 @@
--- The replay of a document: its events, and how a radio unit stands to those that were heard (this project's profile).
+-- The replay of a document: its events, and how both units stand to those that were heard (this project's profile).
 use Rattle.std.specs.Prelude.{◌≡◌, ℤ, ◌≤ℤ◌, List, [], ◌∷◌, ◌++◌, ◌⊎◌}
 use Rattle.air_source.specs.declared.events.Event.{Event}
-use Rattle.air_source.specs.declared.events.Side.TheVariants.{Ru as AtRu}
-use Rattle.fh_document.specs.Proper.{IsDocument}
+use Rattle.document_traffic.specs.Landing.{answers_of, jobs_for, landings_of, traffic_of}
+use Rattle.du_intake.specs.Calls.{StandsFor as IntakeStandsFor}
+use Rattle.du_intake.specs.Units.{due_of as intake_due}
+use Rattle.du_intake.specs.declared.unit.Intake.{Intake}
 use Rattle.fh_document.specs.declared.document.Document.{Document}
-use Rattle.plan_model.specs.Valid.{IsValid}
-use Rattle.unit_model.specs.Reports.{ru_reported}
-use Rattle.unit_model.specs.Standing.{History}
+use Rattle.intake_moments.specs.Turns.{IsIntakeInStep, planned_for}
+use Rattle.radio_moments.specs.Turns.{IsRadioInStep}
+use Rattle.replay_events.specs.Events.{events}
+use Rattle.replay_events.specs.Moments.{all_arrivals, end_of_time}
 use Rattle.ru_buffers.specs.Calls.{IsQuietTo, StandsFor}
 use Rattle.ru_buffers.specs.declared.unit.Ru.{Ru}
-use Rattle.replay_events.specs.Events.{events}
-use Rattle.replay_events.specs.Heard.{arrivals_heard, cells_heard}
-use Rattle.replay_events.specs.Moments.{all_arrivals, end_of_time}
-pub use Rattle.document_traffic.specs.Landing.{landings_of, traffic_of}
-
--- a document that was read, with a valid plan
-pub record IsReplayable (d : Document) : Type 0 where
-  pub document : IsDocument d
-  pub valid : IsValid d.config d.plan
+use Rattle.unit_model.specs.Reports.{du_reported, ru_reported}
+use Rattle.unit_model.specs.Standing.{History}
+pub use Rattle.document_traffic.specs.Laws.{IsReplayable}
 
 -- all events of a document, in order
 abbrev pub events_of : Document → List Event
@@ -25,27 +22,38 @@ events_of d = events d.config (traffic_of d)
 
 -- ---- what was heard
 
--- the radio unit is in step with them: it stands for the arrivals at it that were heard, and has reported those of its cells that were
-pub record IsInStep (d : Document) (told : List Event) (u : Ru) : Type 0 where
-  pub history : History
-  pub stands : StandsFor d.config u history
-  pub arrivals : history.arrivals ≡ arrivals_heard AtRu [] told
-  pub reported : history.reported ≡ cells_heard AtRu told
+-- both units are in step with them: each stands for the arrivals at it that were heard, and has reported those of its cells that were
+pub record IsInStep (d : Document) (told : List Event) (u : Ru) (i : Intake) : Type 0 where
+  pub radio : IsRadioInStep d told u
+  pub intake : IsIntakeInStep d told i
 
 -- ---- at the end
 
--- the unit stands for all that landed, with every cell up to the end of time reported and every message given
-pub record IsDone (d : Document) (u : Ru) : Type 0 where
+-- the radio unit stands for all that landed at it, with every cell up to the end of time reported and every message given
+pub record IsRadioDone (d : Document) (u : Ru) : Type 0 where
   pub history : History
   pub stands : StandsFor d.config u history
   pub arrivals : history.arrivals ≡ all_arrivals (landings_of d)
   pub reported : history.reported ≡ ru_reported d.config (all_arrivals (landings_of d)) end_of_time
+  pub given : history.given ≡ jobs_for d
   pub quiet : (to : ℤ) → to ≤ℤ end_of_time → IsQuietTo d.config history to
+
+-- the intake stands for all that landed at the distributed unit, with every planned cell up to the end of time reported
+pub record IsIntakeDone (d : Document) (u : Intake) : Type 0 where
+  pub history : History
+  pub stands : IntakeStandsFor d.config (planned_for d) u history
+  pub arrivals : history.arrivals ≡ all_arrivals (answers_of d)
+  pub reported : history.reported ≡ du_reported d.config (planned_for d) (all_arrivals (answers_of d)) end_of_time
+  pub quiet : (to : ℤ) → to ≤ℤ end_of_time → intake_due d.config (planned_for d) history to ≡ []
+
+pub record IsDone (d : Document) (u : Ru) (i : Intake) : Type 0 where
+  pub radio : IsRadioDone d u
+  pub intake : IsIntakeDone d i
 
 -- ---- after a fault of the air
 
--- the air stopped in an event, and the unit is in step with those before it
-pub record StopsInStep {A : Type 0} (grew : A → List Event → A → Type 0) (stopped : A → Event → A → Type 0) (d : Document) (u : Ru) (before after : A) : Type 0 where
+-- the air stopped in an event, and both units are in step with those before it
+pub record StopsInStep {A : Type 0} (grew : A → List Event → A → Type 0) (stopped : A → Event → A → Type 0) (d : Document) (u : Ru) (i : Intake) (before after : A) : Type 0 where
   pub told : List Event
   pub event : Event
   pub rest : List Event
@@ -53,16 +61,16 @@ pub record StopsInStep {A : Type 0} (grew : A → List Event → A → Type 0) (
   pub middle : A
   pub heard : grew before told middle
   pub stop : stopped middle event after
-  pub step : IsInStep d told u
+  pub step : IsInStep d told u i
 
--- the air heard the first of the events, and the unit is in step with them
-pub record RestsInStep {A : Type 0} (grew : A → List Event → A → Type 0) (d : Document) (u : Ru) (before after : A) : Type 0 where
+-- the air heard the first of the events, and both units are in step with them
+pub record RestsInStep {A : Type 0} (grew : A → List Event → A → Type 0) (d : Document) (u : Ru) (i : Intake) (before after : A) : Type 0 where
   pub told : List Event
   pub rest : List Event
   pub is : events_of d ≡ told ++ rest
   pub heard : grew before told after
-  pub step : IsInStep d told u
+  pub step : IsInStep d told u i
 
 -- memory ran out in one of them, or between two
-abbrev pub HaltsInStep : {A : Type 0} → (A → List Event → A → Type 0) → (A → Event → A → Type 0) → Document → Ru → A → A → Type 0
-HaltsInStep grew stopped d u before after = StopsInStep grew stopped d u before after ⊎ RestsInStep grew d u before after
+abbrev pub HaltsInStep : {A : Type 0} → (A → List Event → A → Type 0) → (A → Event → A → Type 0) → Document → Ru → Intake → A → A → Type 0
+HaltsInStep grew stopped d u i before after = StopsInStep grew stopped d u i before after ⊎ RestsInStep grew d u i before after

@@ -10,8 +10,8 @@ ghost use Rattle.fronthaul_replay.specs.Laws.{IsSound};
 ghost use Rattle.fronthaul_replay.specs.Replay.{HasWriteCause};
 ghost use Rattle.fronthaul_replay.specs.Reports.{capture_of};
 
-use crate::injected::InjectedFault;
 use crate::replaying::replay_to;
+use crate::report::TextFault;
 use air_source::AirFault;
 use capture_air::CaptureAir;
 use du_scheduler::Plan;
@@ -25,14 +25,14 @@ use std::alloc::Global;
 ///
 /// # Errors
 ///
-/// [`InjectedFault::WriteFault`] where writing failed, only where the sink's count of faults rose. [`InjectedFault::NoMemory`] where
+/// [`TextFault::WriteFault`] where writing failed, only where the sink's count of faults rose. [`TextFault::NoMemory`] where
 /// memory runs out, in the sink too.
-pub fn capture_injected<K: Sink>(
+pub fn capture_document<K: Sink>(
     alloc: Global,
     document: &Document,
     plan: Plan,
     out: &mut K,
-) -> Result<(), InjectedFault>
+) -> Result<(), TextFault>
     requires document { IsDocument document.now }
     requires plan { HasToSend document.now.config document.now.plan (sent_for document.now) plan }
     ensures front { WritesFront (K.written out.old) (K.written out.new) (capture_of document.now) }
@@ -49,7 +49,7 @@ pub fn capture_injected<K: Sink>(
 }
 
 /// Writes what an air owes.
-fn finish<K: Sink>(air: &mut CaptureAir<'_, K>) -> Result<(), InjectedFault>
+fn finish<K: Sink>(air: &mut CaptureAir<'_, K>) -> Result<(), TextFault>
     ensures reference { sink_name air.new ≡ sink_name air.old }
     ensures all { OnOk result (K.written (sink_of air.new) ≡ append_known (K.written (sink_of air.old)) (owed_of air.old)) }
     ensures front { WritesFront (K.written (sink_of air.old)) (K.written (sink_of air.new)) (owed_of air.old) }
@@ -58,7 +58,7 @@ fn finish<K: Sink>(air: &mut CaptureAir<'_, K>) -> Result<(), InjectedFault>
 {
     match air.finish() {
         Ok(()) => Ok(()),
-        Err(AirFault::Failed) => Err(InjectedFault::WriteFault),
-        Err(AirFault::NoMemory) => Err(InjectedFault::NoMemory),
+        Err(AirFault::Failed) => Err(TextFault::WriteFault),
+        Err(AirFault::NoMemory) => Err(TextFault::NoMemory),
     }
 }

@@ -1,41 +1,44 @@
-// The frames that are to come to the radio unit.
-ghost use Rattle.std.specs.Prelude.{◌≡◌};
-ghost use Rattle.du_scheduler.specs.Plans.{IsPlan};
-ghost use Rattle.ru_buffers.specs.Calls.{IsLeastOf};
-ghost use Rattle.fronthaul_replay.specs.Coming.{IsCalmTo, frame_at};
+// What is to come to both units.
+ghost use Rattle.std.specs.Prelude.{IfOk};
+ghost use Rattle.air_source.specs.Answers.{AnswersBy};
+ghost use Rattle.air_source.specs.Kept.{IsKept, closure_of};
+ghost use Rattle.document_traffic.specs.Landing.{antenna_for};
+ghost use Rattle.document_traffic.specs.Laws.{IsReplayable};
+ghost use Rattle.document_traffic.specs.Sending.{sent_for};
+ghost use Rattle.du_scheduler.specs.Plans.{HasToSend};
+ghost use Rattle.unit_model.specs.Radiated.{first_clock};
+ghost use Rattle.fronthaul_replay.specs.Turns.{Waits};
 
-use crate::sending::Sending;
-use crate::times::earlier_of;
+use air_source::{RePlace, Samples};
+use bfp_codec::Wide;
+use du_scheduler::Plan;
+use fh_base::NoMemory;
 use fh_document::Document;
-use fh_time::Ticks;
-use frame_network::{LandingQueue, Network};
+use intake_moments::Answers;
+use radio_moments::Downlink;
+use std::alloc::Global;
 
-/// What is to come: the frames that the plan has still to send, the frames of the document that wait for their times, and the frames
-/// in flight to the radio unit.
+/// What is to come: to the radio unit, and from it to the distributed unit.
 #[derive(Drop)]
-pub(crate) struct Coming<'a> {
-    pub(crate) sending: Sending<'a>,
-    pub(crate) listed: LandingQueue,
-    pub(crate) in_flight: Network,
+pub(crate) struct Coming<'a, G: Fn(RePlace) -> Wide> {
+    pub(crate) downlink: Downlink<'a>,
+    pub(crate) answers: Answers<'a, G>,
 }
 
-impl Coming<'_> {
-    /// The next time at which a frame is sent or comes. None where none is and none does.
-    pub(crate) fn next_time(&self) -> Option<Ticks>
-        requires { IsPlan self.now.sending.plan }
-        ensures { IsLeastOf (IsCalmTo self.now) result }
-    {
-        let comes = earlier_of(self.listed.next_time(), self.in_flight.next_time());
-        earlier_of(self.sending.plan.next_time(), comes)
-    }
-}
-
-/// The bytes of a frame of the document, by its place.
-pub(crate) fn frame_at(doc: &Document, index: usize) -> &[u8]
-    ensures { result.now ≡ frame_at doc.now index }
+/// All frames of a document and of its plan, none of which was sent or has landed, and no answer.
+pub(crate) fn coming_of<G: Fn(RePlace) -> Wide>(
+    alloc: Global,
+    doc: &Document,
+    plan: Plan,
+    antenna: Samples<G>,
+) -> Result<Coming<'_, G>, NoMemory>
+    requires document { IsReplayable doc.now }
+    requires plan { HasToSend doc.now.config doc.now.plan (sent_for doc.now) plan }
+    requires kept { IsKept G.pre G.post antenna }
+    requires tone { AnswersBy (G.post (closure_of antenna)) (antenna_for doc.now) }
+    ensures { IfOk result (λ w. Waits G.pre G.post doc.now first_clock w) }
 {
-    match doc.injections.get(index) {
-        Some(injection) => injection.frame.as_slice(),
-        None => &[],
-    }
+    let downlink = Downlink::make(alloc, doc, plan)?;
+    let answers = Answers::make(alloc, doc, antenna)?;
+    Ok(Coming { downlink, answers })
 }

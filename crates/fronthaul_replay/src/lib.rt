@@ -1,30 +1,27 @@
-//! The replay of a document: time passes, frames land at the radio unit, and what it makes of them is told to an air, or written as a
-//! report, a summary or a capture.
+//! The replay of a document: time passes, frames go out and land at both units, and what the units make of them is told to an air, or
+//! written as a report, a summary or a capture.
 //!
-//! The events are defined over complete lists of arrivals (`replay_events`); [`replay`] lets the radio unit of `ru_buffers` come to
-//! them moment by moment, and keeps no list of what arrived. [`replay_injected`], [`summarize_injected`] and [`capture_injected`] make
-//! the unit, and an air writes as the events come. So the memory is that of the unit and of the document, whatever the unit makes of
-//! the frames.
+//! The events are defined over complete lists of arrivals (`replay_events`); [`replay`] lets the radio unit of `ru_buffers` and the
+//! intake of `du_intake` come to them moment by moment (`radio_moments`, `intake_moments`), and keeps no list of what arrived.
+//! [`report_document`], [`summarize_document`] and [`capture_document`] make the units, and an air writes as the events come. So the
+//! memory is that of the units, of the frames on their way and of the document, whatever the units make of the frames.
 #![tactic(auto)]
 
 mod capture;
 mod coming;
 mod counting;
-mod injected;
-mod landing;
-mod listing;
 mod moments;
 mod planning;
 mod replaying;
 mod replays;
-mod sending;
+mod report;
 mod summary;
 mod times;
 
-pub use capture::capture_injected;
-pub use frame_network::{Arrival, ArrivalKey, Network};
-pub use injected::{InjectedFault, replay_injected};
+pub use capture::capture_document;
 pub use planning::check_plan;
+pub use replaying::intake_of;
 pub use replays::{ReplayFault, replay};
-pub use summary::summarize_injected;
+pub use report::{TextFault, report_document};
+pub use summary::summarize_document;
 pub use text_air::TextAir;

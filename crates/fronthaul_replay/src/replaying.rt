@@ -1,34 +1,40 @@
 // A replay of a document, told to any air.
-ghost use Rattle.std.specs.Prelude.{◌≡◌, ◌<◌, ◌≤◌, OnOk, IfErr, IsErrOf};
+ghost use Rattle.std.specs.Prelude.{◌≡◌, ◌<◌, ◌≤◌, OnOk, IfErr, IfOk, IsErrOf};
 ghost use Rattle.air_source.specs.Answers.{Fits16};
 ghost use Rattle.document_traffic.specs.Sending.{sent_for};
 ghost use Rattle.du_scheduler.specs.Plans.{HasToSend};
 ghost use Rattle.tone_source.specs.Tones.{tone_of};
-ghost use Rattle.fronthaul_replay.specs.declared.injected.InjectedFault.TheVariants.{WriteFault};
+ghost use Rattle.fronthaul_replay.specs.declared.report.TextFault.TheVariants.{WriteFault};
 ghost use Rattle.fh_base.specs.Causes.{Rose};
 ghost use Rattle.fh_document.specs.Proper.{IsDocument};
 ghost use Rattle.fronthaul_replay.specs.Laws.{IsSound};
 ghost use Rattle.fronthaul_replay.specs.Replaying.{events_of};
 ghost use Rattle.fronthaul_replay.specs.Cut.{CutBy};
+ghost use Rattle.fronthaul_replay.specs.Replaying.{IsReplayable};
+ghost use Rattle.du_intake.specs.Calls.{StandsFor as IntakeStandsFor};
+ghost use Rattle.intake_moments.specs.Turns.{planned_for};
+ghost use Rattle.unit_model.specs.Standing.{nothing_yet};
 
-use crate::injected::InjectedFault;
 use crate::replays::{ReplayFault, replay};
+use crate::report::TextFault;
 use air_source::{Air, RePlace, Samples};
 use bfp_codec::Wide;
-use du_scheduler::Plan;
+use du_intake::Intake;
+use du_scheduler::{Plan, planned_lines};
 use fh_base::NoMemory;
 use fh_document::Document;
 use ru_buffers::Ru;
 use std::alloc::Global;
 use tone_source::ToneSteps;
 
-/// Makes the radio unit of a document and tells an air the document's events; the samples that are sent are those of its `source`.
+/// Makes both units of a document and tells an air the document's events; the samples that are sent are those of its `source`, those
+/// that the radio unit takes in those of its `antenna`.
 pub fn replay_to<A: Air>(
     alloc: Global,
     document: &Document,
     plan: Plan,
     air: &mut A,
-) -> Result<(), InjectedFault>
+) -> Result<(), TextFault>
     requires document { IsDocument document.now }
     requires plan { HasToSend document.now.config document.now.plan (sent_for document.now) plan }
     ensures heard { OnOk result (A.grew air.old (events_of document.now) air.new) }
@@ -40,19 +46,53 @@ pub fn replay_to<A: Air>(
 {
     let mut ru = match Ru::make(alloc, &document.config) {
         Ok(ru) => ru,
-        Err(NoMemory) => return Err(InjectedFault::NoMemory),
+        Err(NoMemory) => return Err(TextFault::NoMemory),
     };
-    let steps = ToneSteps::of(document.source);
+    let mut intake = match intake_of(alloc, document) {
+        Ok(intake) => intake,
+        Err(NoMemory) => return Err(TextFault::NoMemory),
+    };
+    let source = ToneSteps::of(document.source);
     let du = Samples::keep(
         |place: RePlace| -> Wide
             requires { place.re < 12 }
-            ensures value { result ≡ tone_of steps place }
+            ensures value { result ≡ tone_of source place }
             ensures narrow { Fits16 result }
-        { steps.at(place) },
+        { source.at(place) },
     );
-    match replay(alloc, document, plan, &mut ru, du, air) {
+    let taken_in = ToneSteps::of(document.antenna);
+    let antenna = Samples::keep(
+        |place: RePlace| -> Wide
+            requires { place.re < 12 }
+            ensures value { result ≡ tone_of taken_in place }
+            ensures narrow { Fits16 result }
+        { taken_in.at(place) },
+    );
+    match replay(
+        alloc,
+        document,
+        plan,
+        &mut ru,
+        &mut intake,
+        du,
+        antenna,
+        air,
+    ) {
         Ok(()) => Ok(()),
-        Err(ReplayFault::AirFailed) => Err(InjectedFault::WriteFault),
-        Err(ReplayFault::NoMemory) => Err(InjectedFault::NoMemory),
+        Err(ReplayFault::AirFailed) => Err(TextFault::WriteFault),
+        Err(ReplayFault::NoMemory) => Err(TextFault::NoMemory),
     }
+}
+
+/// The distributed unit's intake for a document's plan, as [`replay`] takes it.
+///
+/// # Errors
+///
+/// `NoMemory` where memory cannot be had.
+pub fn intake_of(alloc: Global, document: &Document) -> Result<Intake, NoMemory>
+    requires { IsReplayable document.now }
+    ensures { IfOk result (λ u. IntakeStandsFor document.now.config (planned_for document.now) u nothing_yet) }
+{
+    let lines = planned_lines(alloc, document.config.endpoints.as_slice(), &document.plan)?;
+    Intake::make(alloc, &document.config, lines.as_slice())
 }

@@ -1,28 +1,31 @@
 // The replay.
 ghost use Rattle.std.specs.Prelude.{◌≤◌, IsErrOf, OnOk};
-ghost use Rattle.air_source.specs.Causes.{HasAirCause};
-ghost use Rattle.air_source.specs.declared.airs.AirFault.TheVariants.{Failed, NoMemory as AirWantsMemory};
-ghost use Rattle.fh_base.specs.Causes.{Rose};
 ghost use Rattle.air_source.specs.Answers.{AnswersBy};
+ghost use Rattle.air_source.specs.Causes.{HasAirCause};
 ghost use Rattle.air_source.specs.Kept.{IsKept, closure_of};
+ghost use Rattle.air_source.specs.declared.airs.AirFault.TheVariants.{Failed, NoMemory as AirWantsMemory};
+ghost use Rattle.document_traffic.specs.Landing.{antenna_for};
 ghost use Rattle.document_traffic.specs.Sending.{sent_for};
+ghost use Rattle.du_intake.specs.Calls.{StandsFor as IntakeStandsFor};
 ghost use Rattle.du_scheduler.specs.Plans.{HasToSend};
+ghost use Rattle.fh_base.specs.Causes.{Rose};
 ghost use Rattle.fh_document.specs.Proper.{IsDocument};
+ghost use Rattle.intake_moments.specs.Turns.{planned_for};
+ghost use Rattle.ru_buffers.specs.Calls.{StandsFor};
 ghost use Rattle.tone_source.specs.Tones.{tone_of};
 ghost use Rattle.unit_model.specs.Radiated.{first_clock};
 ghost use Rattle.unit_model.specs.Standing.{nothing_yet};
-ghost use Rattle.ru_buffers.specs.Calls.{StandsFor};
 ghost use Rattle.fronthaul_replay.specs.Laws.{IsSound};
-ghost use Rattle.fronthaul_replay.specs.Coming.{Waits};
 ghost use Rattle.fronthaul_replay.specs.Replaying.{HaltsInStep, IsDone, IsReplayable, StopsInStep, events_of};
+ghost use Rattle.fronthaul_replay.specs.Turns.{Waits};
 ghost use Rattle.fronthaul_replay.specs.declared.replays.ReplayFault.TheVariants.{AirFailed, NoMemory as WantsMemory};
 
-use crate::coming::Coming;
+use crate::coming::{Coming, coming_of};
 use crate::counting::tell_counts;
-use crate::listing::coming_of;
 use crate::moments::pass;
-use air_source::{Air, AirFault, RePlace, Samples};
+use air_source::{Air, AirFault, RePlace, Samples, Side};
 use bfp_codec::Wide;
+use du_intake::Intake;
 use du_scheduler::Plan;
 use fh_document::Document;
 use ru_buffers::Ru;
@@ -31,80 +34,91 @@ use std::alloc::Global;
 /// Why a replay did not come to its end.
 #[derive(Clone, Copy, Debug, PartialEq, Eq)]
 pub enum ReplayFault {
-    /// The air failed in an event: it heard those before it, and the unit is in step with them.
+    /// The air failed in an event: it heard those before it, and both units are in step with them.
     AirFailed,
-    /// Memory was refused, to the replay or to the air in an event: the air heard the first of the events, and the unit is in step
+    /// Memory was refused, to the replay or to the air in an event: the air heard the first of the events, and both units are in step
     /// with them.
     NoMemory,
 }
 
-/// Replays a document: the frames of its plan are sent at their times with the samples of `du`, lost, repeated and delayed as the
-/// document says, and its injected frames come between. The air hears each frame that arrives (refused ones too), each cell that the
-/// radio unit reports, and at the end the counters that are not 0, in the order of events. At one time cells come before arrivals,
-/// and copies of sent frames, in the order in which they are sent, before injected frames, in the order of the document.
+/// Replays a document: the frames of its plan are sent at their times with the samples of `du`, the radio unit answers the uplink
+/// sections that it accepts with the samples of `antenna`, the frames of both ways are lost, repeated and delayed as the document says,
+/// and its injected frames come between. The air hears each frame that arrives at a unit (refused ones too), each cell that the radio
+/// unit radiates or the distributed unit takes in, and at the end the counters that are not 0, in the order of events: at one time the
+/// radio unit's cells, its arrivals, the distributed unit's arrivals, and its cells; copies of sent frames come, in the order in which
+/// they are sent, before injected frames, in the order of the document.
 ///
 /// Of these events holds, for every document: no cell is reported twice; what a cell shows came within its window and was commanded
-/// on time under the same section id; the counters add up; and the frames that arrive are those that are sent and listed. Where the
-/// windows pass the check, nothing is injected and each sent frame has a copy, each within T12, each scheduled downlink element
-/// radiates exactly once, with its samples as compression leaves them.
+/// on time, or planned, under the same section id; the counters add up; and the frames that arrive are those that are sent and listed.
+/// Where the windows pass the check, nothing is injected and each frame that is sent to the radio unit has a copy, each within T12, each
+/// scheduled downlink element radiates exactly once, with its samples as compression leaves them; and where each frame that the radio
+/// unit sends has a copy too, each within T34, each planned uplink element is taken in exactly once.
 ///
 /// # Errors
 ///
 /// [`ReplayFault::AirFailed`] where the air stopped as failed, only where its count of faults rose. [`ReplayFault::NoMemory`] where
 /// the air stopped for want of memory, or memory runs out for the replay's own work.
-pub fn replay<A: Air, F: Fn(RePlace) -> Wide>(
+pub fn replay<A: Air, F: Fn(RePlace) -> Wide, G: Fn(RePlace) -> Wide>(
     alloc: Global,
     doc: &Document,
     plan: Plan,
     ru: &mut Ru,
+    intake: &mut Intake,
     du: Samples<F>,
+    antenna: Samples<G>,
     out: &mut A,
 ) -> Result<(), ReplayFault>
     requires document { IsDocument doc.now }
     requires plan { HasToSend doc.now.config doc.now.plan (sent_for doc.now) plan }
     requires kept { IsKept F.pre F.post du }
     requires tone { AnswersBy (F.post (closure_of du)) (tone_of doc.now.source) }
+    requires antenna_kept { IsKept G.pre G.post antenna }
+    requires antenna_tone { AnswersBy (G.post (closure_of antenna)) (antenna_for doc.now) }
     requires unit { StandsFor doc.now.config ru.old nothing_yet }
+    requires intake { IntakeStandsFor doc.now.config (planned_for doc.now) intake.old nothing_yet }
     ensures heard { OnOk result (A.grew out.old (events_of doc.now) out.new) }
-    ensures done { OnOk result (IsDone doc.now ru.new) }
-    ensures stopped { IsErrOf result AirFailed → StopsInStep A.grew (A.stopped Failed) doc.now ru.new out.old out.new }
-    ensures wants { IsErrOf result WantsMemory → HaltsInStep A.grew (A.stopped AirWantsMemory) doc.now ru.new out.old out.new }
+    ensures done { OnOk result (IsDone doc.now ru.new intake.new) }
+    ensures stopped { IsErrOf result AirFailed → StopsInStep A.grew (A.stopped Failed) doc.now ru.new intake.new out.old out.new }
+    ensures wants { IsErrOf result WantsMemory → HaltsInStep A.grew (A.stopped AirWantsMemory) doc.now ru.new intake.new out.old out.new }
     ensures cause { IsErrOf result AirFailed → Rose (A.faults out.old) (A.faults out.new) }
     ensures later { A.faults out.old ≤ A.faults out.new }
     ensures same { A.same out.old out.new }
     ensures sound { IsSound doc.now }
 {
-    let Ok(mut coming) = coming_of(alloc, doc, plan) else {
+    let Ok(mut coming) = coming_of(alloc, doc, plan, antenna) else {
         return Err(ReplayFault::NoMemory);
     };
-    match run(alloc, doc, &du, ru, &mut coming, out) {
+    match run(alloc, doc, &du, ru, intake, &mut coming, out) {
         Ok(()) => Ok(()),
         Err(AirFault::Failed) => Err(ReplayFault::AirFailed),
         Err(AirFault::NoMemory) => Err(ReplayFault::NoMemory),
     }
 }
 
-/// Lets all frames land, and tells the counters.
-fn run<A: Air, F: Fn(RePlace) -> Wide>(
+/// Lets all frames land, and tells the counters of both units.
+fn run<A: Air, F: Fn(RePlace) -> Wide, G: Fn(RePlace) -> Wide>(
     alloc: Global,
     doc: &Document,
     du: &Samples<F>,
     ru: &mut Ru,
-    coming: &mut Coming<'_>,
+    intake: &mut Intake,
+    coming: &mut Coming<'_, G>,
     out: &mut A,
 ) -> Result<(), AirFault>
     requires kept { IsKept F.pre F.post du.now }
     requires tone { AnswersBy (F.post (closure_of du.now)) (tone_of doc.now.source) }
     requires document { IsReplayable doc.now }
     requires unit { StandsFor doc.now.config ru.old nothing_yet }
-    requires waits { Waits doc.now first_clock first_clock coming.old }
+    requires intake { IntakeStandsFor doc.now.config (planned_for doc.now) intake.old nothing_yet }
+    requires waits { Waits G.pre G.post doc.now first_clock coming.old }
     ensures heard { OnOk result (A.grew out.old (events_of doc.now) out.new) }
-    ensures done { OnOk result (IsDone doc.now ru.new) }
-    ensures stop { IsErrOf result Failed → StopsInStep A.grew (A.stopped Failed) doc.now ru.new out.old out.new }
-    ensures wants { IsErrOf result AirWantsMemory → HaltsInStep A.grew (A.stopped AirWantsMemory) doc.now ru.new out.old out.new }
+    ensures done { OnOk result (IsDone doc.now ru.new intake.new) }
+    ensures stop { IsErrOf result Failed → StopsInStep A.grew (A.stopped Failed) doc.now ru.new intake.new out.old out.new }
+    ensures wants { IsErrOf result AirWantsMemory → HaltsInStep A.grew (A.stopped AirWantsMemory) doc.now ru.new intake.new out.old out.new }
     ensures same { A.same out.old out.new }
     ensures cause { HasAirCause (A.faults out.old) (A.faults out.new) result }
 {
-    pass(alloc, doc, du, ru, coming, out)?;
-    tell_counts(ru.counters(), out)
+    pass(alloc, doc, du, ru, intake, coming, out)?;
+    tell_counts(Side::Ru, ru.counters(), out)?;
+    tell_counts(Side::Du, intake.counters(), out)
 }

@@ -11,8 +11,8 @@ ghost use Rattle.fronthaul_replay.specs.Laws.{IsSound};
 ghost use Rattle.fronthaul_replay.specs.Replay.{HasWriteCause};
 ghost use Rattle.fronthaul_replay.specs.Reports.{summary_of};
 
-use crate::injected::InjectedFault;
 use crate::replaying::replay_to;
+use crate::report::TextFault;
 use air_source::AirFault;
 use du_scheduler::Plan;
 use fh_base::{NoMemory, Sink};
@@ -27,14 +27,14 @@ use sum_air::{SumAir, Sums};
 ///
 /// # Errors
 ///
-/// [`InjectedFault::WriteFault`] where writing failed, only where the sink's count of faults rose. [`InjectedFault::NoMemory`] where
+/// [`TextFault::WriteFault`] where writing failed, only where the sink's count of faults rose. [`TextFault::NoMemory`] where
 /// memory runs out, in the sink too.
-pub fn summarize_injected<K: Sink>(
+pub fn summarize_document<K: Sink>(
     alloc: Global,
     document: &Document,
     plan: Plan,
     out: &mut K,
-) -> Result<(), InjectedFault>
+) -> Result<(), TextFault>
     requires document { IsDocument document.now }
     requires plan { HasToSend document.now.config document.now.plan (sent_for document.now) plan }
     ensures front { WritesFront (K.written out.old) (K.written out.new) (summary_of document.now) }
@@ -45,7 +45,7 @@ pub fn summarize_injected<K: Sink>(
 {
     let sums = match Sums::make(alloc) {
         Ok(sums) => sums,
-        Err(NoMemory) => return Err(InjectedFault::NoMemory),
+        Err(NoMemory) => return Err(TextFault::NoMemory),
     };
     let mut air = SumAir::over(sums, out);
     let told = tell_all(alloc, document, plan, &mut air);
@@ -59,7 +59,7 @@ fn tell_all<K: Sink>(
     document: &Document,
     plan: Plan,
     air: &mut SumAir<'_, K>,
-) -> Result<(), InjectedFault>
+) -> Result<(), TextFault>
     requires document { IsDocument document.now }
     requires plan { HasToSend document.now.config document.now.plan (sent_for document.now) plan }
     requires nothing { owed_of air.old ≡ [] }
@@ -78,7 +78,7 @@ fn tell_all<K: Sink>(
 }
 
 /// Writes what an air owes, what stands behind the last event, and the last line.
-fn finish<K: Sink>(air: &mut SumAir<'_, K>) -> Result<(), InjectedFault>
+fn finish<K: Sink>(air: &mut SumAir<'_, K>) -> Result<(), TextFault>
     ensures reference { sink_name air.new ≡ sink_name air.old }
     ensures all { OnOk result (K.written (sink_of air.new) ≡ append_known (K.written (sink_of air.old)) (owed_of air.old ++ sum_ends (sums_of air.old))) }
     ensures front { WritesFront (K.written (sink_of air.old)) (K.written (sink_of air.new)) (owed_of air.old ++ sum_ends (sums_of air.old)) }
@@ -87,7 +87,7 @@ fn finish<K: Sink>(air: &mut SumAir<'_, K>) -> Result<(), InjectedFault>
 {
     match air.finish() {
         Ok(()) => Ok(()),
-        Err(AirFault::Failed) => Err(InjectedFault::WriteFault),
-        Err(AirFault::NoMemory) => Err(InjectedFault::NoMemory),
+        Err(AirFault::Failed) => Err(TextFault::WriteFault),
+        Err(AirFault::NoMemory) => Err(TextFault::NoMemory),
     }
 }

@@ -1,27 +1,15 @@
 // Times in the order of a replay.
 ghost use Rattle.std.specs.Prelude.{◌≡◌, pos, ◌+ℤ◌, ◌≤ℤ◌, int_le};
 ghost use Rattle.replay_events.specs.Moments.{end_of_time};
-ghost use Rattle.ru_buffers.specs.Calls.{earlier_time};
 ghost use Rattle.fronthaul_replay.specs.Turns.{within_end};
 
 use fh_time::Ticks;
 
-/// One frame before 0, where the unit's clock begins.
+/// One frame before 0, where both units' clocks begin.
 pub(crate) const FIRST_CLOCK: Ticks = Ticks(-15_360_000_000);
 
 /// The time up to which cells are reported: 1,100 s.
 const END: Ticks = Ticks(1_689_600_000_000_000);
-
-/// The earlier of two times, where there are any.
-pub(crate) fn earlier_of(a: Option<Ticks>, b: Option<Ticks>) -> Option<Ticks>
-    ensures { result ≡ earlier_time a b }
-{
-    match (a, b) {
-        (None, _) => b,
-        (_, None) => a,
-        (Some(x), Some(y)) => Some(if y.0 < x.0 { y } else { x }),
-    }
-}
 
 /// A time, if it is not after the end.
 pub(crate) fn up_to_end(time: Option<Ticks>) -> Option<Ticks>

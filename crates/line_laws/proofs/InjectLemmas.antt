@@ -61,25 +61,25 @@ may_inject false false false true = omega arith
 may_inject false false false false = omega arith
 
 -- the frames that stand, where all of them pass
-line_adds : (r : Said) (so_far : List Injection) (n : ℕ) (i : Injection) → n ≢ 1 → IsFrame i → r.measures ≡ [] → passes r.scope (is_built r.endpoints i) ≡ true
+line_adds : (r : Said) (so_far : List Injection) (n : ℕ) (i : Injection) → n ≢ 1 → IsFrame i → r.measures ≡ [] → passes r.scope (is_built i) ≡ true
     → line_of (with_frames r so_far) n (inject_text i) ≡ Ok (with_frames r (so_far ++ i ∷ []))
 line_adds r so_far n i later h none built =
     line_is (with_frames r so_far) n injections (inject_words i) later (inject_visible i h) refl refl (order r.measures none)
     ∙ inject_is (with_frames r so_far) i h
-    ∙ if_true (passes r.scope (is_built r.endpoints i)) (Ok (with_frames r (so_far ++ i ∷ []))) (Err why.NotBuilt) built
+    ∙ if_true (passes r.scope (is_built i)) (Ok (with_frames r (so_far ++ i ∷ []))) (Err why.NotBuilt) built
   where
     order : {X : Type 0} (ms : List X) → ms ≡ [] → (if nat_lt 0 (length ms) then 5 else (if nat_lt 0 (length so_far) then 4
         else (if nat_lt 0 (length r.deliveries) then 3 else (if nat_lt 0 (length r.plan) then 2 else (if nat_lt 0 (length r.endpoints) then 1 else 0))))) ≤ 4
     order [] e = may_inject (nat_lt 0 (length so_far)) (nat_lt 0 (length r.deliveries)) (nat_lt 0 (length r.plan)) (nat_lt 0 (length r.endpoints))
     order (m ∷ ms) e = absurd (cc e)
 
-all_read : (r : Said) (so_far : List Injection) (n : ℕ) (is : List Injection) → 2 ≤ n → All IsFrame is → r.measures ≡ [] → All (λ i. passes r.scope (is_built r.endpoints i) ≡ true) is
+all_read : (r : Said) (so_far : List Injection) (n : ℕ) (is : List Injection) → 2 ≤ n → All IsFrame is → r.measures ≡ [] → All (λ i. passes r.scope (is_built i) ≡ true) is
     → read_from n (with_frames r so_far) (map inject_text is) ≡ Ok (finished (with_frames r (so_far ++ is)))
 all_read r so_far n [] later h none built = ap (λ xs. Ok (finished (with_frames r xs))) (sym (append-nil so_far))
 all_read r so_far n (i ∷ is) later h none built =
     ap (λ x. after_line x (λ next. read_from (n + 1) next (map inject_text is)) (λ w. Err (n, w)))
-    (line_adds r so_far n i (λ e. absurd (omega arith)) (All-head IsFrame i is h) none (All-head (λ i. passes r.scope (is_built r.endpoints i) ≡ true) i is built))
-    ∙ all_read r (so_far ++ i ∷ []) (n + 1) is (omega arith) (All-tail IsFrame i is h) none (All-tail (λ i. passes r.scope (is_built r.endpoints i) ≡ true) i is built)
+    (line_adds r so_far n i (λ e. absurd (omega arith)) (All-head IsFrame i is h) none (All-head (λ i. passes r.scope (is_built i) ≡ true) i is built))
+    ∙ all_read r (so_far ++ i ∷ []) (n + 1) is (omega arith) (All-tail IsFrame i is h) none (All-tail (λ i. passes r.scope (is_built i) ≡ true) i is built)
     ∙ ap (λ xs. Ok (finished (with_frames r xs))) (append_assoc so_far (i ∷ []) is)
 
 inject_texts : (is : List Injection) → All IsFrame is → list_all is_text (map inject_text is) ≡ true
@@ -93,7 +93,7 @@ first_read : (scope : Reach) (lines : List (List ℕ)) → read_from 1 (start sc
 unfolding line_of
 first_read scope lines = refl
 
-pub document_is : (scope : Reach) (is : List Injection) → All IsFrame is → All (λ i. passes scope (is_built [] i) ≡ true) is
+pub document_is : (scope : Reach) (is : List Injection) → All IsFrame is → All (λ i. passes scope (is_built i) ≡ true) is
     → document_in scope (injections_text is) ≡ Ok (document_with scope is)
 document_is scope is h built =
     let all = codes "fronthaul 1" ∷ map inject_text is in

@@ -1,5 +1,5 @@
 -- What a program wrote is read back.
-use Rattle.std.specs.Prelude.{ℕ, ◌≡◌, ◌≢◌, ◌<◌, ◌≤◌, ◌^◌, List, [], All, length, true, Some, Ok, decimal, ◌==◌}
+use Rattle.std.specs.Prelude.{ℕ, ◌≡◌, ◌≢◌, ◌<◌, ◌≤◌, ◌^◌, List, All, length, true, Some, Ok, decimal, ◌==◌}
 use Rattle.std.specs.List.{slice_split, list_all}
 use Rattle.text_lines.specs.Words.{hex4_text, hex3_text}
 use Rattle.window_config.specs.declared.plan.PlanLine.{PlanLine}
@@ -52,7 +52,7 @@ abbrev pub InjectionsAreRead : Type 0
 InjectionsAreRead = (is : List Injection) → All IsFrame is → parsed (injections_text is) ≡ Ok (document_with whole is)
 
 abbrev pub BuiltInjectionsAreRead : Type 0
-BuiltInjectionsAreRead = (is : List Injection) → All IsFrame is → All (λ i. is_built [] i ≡ true) is → document_of (injections_text is) ≡ Ok (document_with handled is)
+BuiltInjectionsAreRead = (is : List Injection) → All IsFrame is → All (λ i. is_built i ≡ true) is → document_of (injections_text is) ≡ Ok (document_with handled is)
 
 -- a line of a plan behind line 1, where no line of a later kind stands: it plans what was written
 abbrev pub PlansAreRead : Type 0

@@ -1,15 +1,15 @@
-// A replay of a command and its data: the ordinary case by hand, and an air that fails at each call in turn.
+// A replay of a command and its data: the ordinary case by hand, and an air that fails at each call in turn, also where both units report.
 ghost use Rattle.std.specs.Prelude.{◌≡◌, ◌<◌};
 ghost use Rattle.air_source.specs.Answers.{Fits16};
 ghost use Rattle.tone_source.specs.Tones.{tone_of};
 
-use air_source::{Event, MemoryAir, RePlace, Samples};
+use air_source::{Event, MemoryAir, RePlace, Samples, Side};
 use bfp_codec::Wide;
-use fault_counters::Counter;
+use fault_counters::{Counter, Counters};
 use fh_base::List;
 use fh_document::read;
 use fh_time::Ticks;
-use fronthaul_replay::{ReplayFault, check_plan, replay};
+use fronthaul_replay::{ReplayFault, check_plan, intake_of, replay};
 use ru_buffers::Ru;
 use std::alloc::Global;
 use std::test::Fail;
@@ -24,35 +24,50 @@ const DOCUMENT: &str =
 const PLANNED: &str =
     "fronthaul 1\ngap 100000\nfragment 128\nendpoint 0000 ordinary 30 106 static none\nplan dl 0000 1 0 0 0 1 0 3 fff 1 0\nplan dl 0000 1 0 0 1 1 0 1 fff 2 0\n";
 
+/// One PRB of the uplink, whose command lands at 9.58 ms, and its data at 10.1 ms. Its cell is due 271,000 ns after the symbol. Two frames,
+/// one cell, and eight counters that are not 0.
+const UPLINK: &str =
+    "fronthaul 1\nendpoint 0000 ordinary 30 106 static none\nplan ul 0000 1 0 0 0 1 0 1 fff 5 0\n";
+
+/// The same PRB of the same symbol in both directions: three frames to the radio unit and one from it, a cell of each, and eleven
+/// counters that are not 0.
+const BOTH: &str =
+    "fronthaul 1\nendpoint 0000 ordinary 30 106 static none\nplan dl 0000 1 0 0 0 1 0 1 fff 1 0\nplan ul 0000 1 0 0 0 1 0 1 fff 5 0\n";
+
 const COMMAND_AT: Ticks = Ticks(14_745_600_000);
 
 const DATA_AT: Ticks = Ticks(14_899_200_000);
 
 const CELL_AT: Ticks = Ticks(15_360_000_000);
 
-/// What came of a replay, and where the unit stands then.
+const TAKEN_IN_AT: Ticks = Ticks(15_776_256_000);
+
+/// What came of a replay, and where both units stand then.
 #[derive(Drop)]
 struct Outcome {
     result: Result<(), ReplayFault>,
-    step: Step,
+    ru: Step,
+    du: Step,
     air: MemoryAir,
 }
 
-/// Where a unit stands: its clock, its next moment, and how many frames and cells it has counted.
+/// Where a unit stands: its clock, its next moment, and how many frames, sections of data and cells it has counted.
 #[derive(Clone, Copy, Debug, PartialEq, Eq)]
 struct Step {
     clock: Ticks,
     due: Option<Ticks>,
     frames: u64,
+    taken: u64,
     cells: u64,
 }
 
-fn standing(clock: Ticks, due: Option<Ticks>, frames: u64, cells: u64) -> Step {
+fn step_of(clock: Ticks, due: Option<Ticks>, counters: &Counters) -> Step {
     Step {
         clock,
         due,
-        frames,
-        cells,
+        frames: counters.get(Counter::Frames),
+        taken: counters.get(Counter::UTaken),
+        cells: counters.get(Counter::Cells),
     }
 }
 
@@ -67,6 +82,9 @@ fn played(alloc: Global, document: &str, fails: List<u64>) -> Option<Outcome> {
     let Ok(plan) = check_plan(alloc, &doc) else {
         return None;
     };
+    let Ok(mut intake) = intake_of(alloc, &doc) else {
+        return None;
+    };
     let steps = ToneSteps::of(doc.source);
     let du = Samples::keep(
         |place: RePlace| -> Wide
@@ -75,17 +93,40 @@ fn played(alloc: Global, document: &str, fails: List<u64>) -> Option<Outcome> {
             ensures narrow { Fits16 result }
         { steps.at(place) },
     );
+    let taken_in = ToneSteps::of(doc.antenna);
+    let antenna = Samples::keep(
+        |place: RePlace| -> Wide
+            requires { place.re < 12 }
+            ensures value { result ≡ tone_of taken_in place }
+            ensures narrow { Fits16 result }
+        { taken_in.at(place) },
+    );
     let mut air = MemoryAir::new(alloc, fails);
-    let result = replay(alloc, &doc, plan, &mut ru, du, &mut air);
-    let frames = ru.counters().get(Counter::Frames);
-    let cells = ru.counters().get(Counter::Cells);
-    let step = standing(ru.clock(), ru.due(), frames, cells);
-    Some(Outcome { result, step, air })
+    let result = replay(
+        alloc,
+        &doc,
+        plan,
+        &mut ru,
+        &mut intake,
+        du,
+        antenna,
+        &mut air,
+    );
+    let ru = step_of(ru.clock(), ru.due(), ru.counters());
+    let du = step_of(intake.clock(), intake.due(), intake.counters());
+    Some(Outcome {
+        result,
+        ru,
+        du,
+        air,
+    })
 }
 
-fn is_arrival(event: Option<&Event>, time: Ticks, bytes: usize) -> bool {
+fn is_arrival(event: Option<&Event>, unit: Side, time: Ticks, bytes: usize) -> bool {
     match event {
-        Some(Event::Arrival { side, at, frame }) => *at == time && frame.as_slice().len() == bytes,
+        Some(Event::Arrival { side, at, frame }) => {
+            *side == unit && *at == time && frame.as_slice().len() == bytes
+        }
         _ => false,
     }
 }
@@ -118,8 +159,8 @@ fn hears_the_ordinary_case(rt: HostRuntime) {
     let heard = played.air.heard();
     assert_eq!(rt; played.result, Ok(()));
     assert_eq!(rt; heard.len(), 9);
-    assert!(rt; is_arrival(heard.get(0), COMMAND_AT, 24));
-    assert!(rt; is_arrival(heard.get(1), DATA_AT, 64));
+    assert!(rt; is_arrival(heard.get(0), Side::Ru, COMMAND_AT, 24));
+    assert!(rt; is_arrival(heard.get(1), Side::Ru, DATA_AT, 64));
     assert!(rt; is_cell(heard.get(2), CELL_AT));
     assert!(rt; is_count(heard.get(3), Counter::Frames, 2));
     assert!(rt; is_count(heard.get(4), Counter::Messages, 2));
@@ -129,13 +170,31 @@ fn hears_the_ordinary_case(rt: HostRuntime) {
     assert!(rt; is_count(heard.get(8), Counter::Cells, 1));
 }
 
+/// A unit at a clock, with its next moment, that has counted so many frames, sections of data and cells.
+fn standing(clock: Ticks, due: Option<Ticks>, frames: u64, taken: u64, cells: u64) -> Step {
+    Step {
+        clock,
+        due,
+        frames,
+        taken,
+        cells,
+    }
+}
+
+/// Replays a document to an air that fails at the call behind so many.
+fn stopped_behind(alloc: Global, document: &str, earlier: u64) -> Result<Option<Outcome>, Fail> {
+    let mut fails = List::new(alloc);
+    fails.push(earlier.saturating_add(1))?;
+    Ok(played(alloc, document, fails))
+}
+
 #[test]
 fn is_in_step_where_the_air_fails(rt: HostRuntime) -> Result<(), Fail> {
-    let told = standing(CELL_AT, None, 2, 1);
+    let told = standing(CELL_AT, None, 2, 1, 1);
     let steps = [
-        standing(COMMAND_AT, None, 0, 0),
-        standing(DATA_AT, Some(CELL_AT), 1, 0),
-        standing(DATA_AT, Some(CELL_AT), 2, 0),
+        standing(COMMAND_AT, None, 0, 0, 0),
+        standing(DATA_AT, Some(CELL_AT), 1, 0, 0),
+        standing(DATA_AT, Some(CELL_AT), 2, 1, 0),
         told,
         told,
         told,
@@ -144,59 +203,103 @@ fn is_in_step_where_the_air_fails(rt: HostRuntime) -> Result<(), Fail> {
         told,
     ];
     for (earlier, wanted) in steps.iter().enumerate() {
-        let mut fails = List::new(rt.alloc());
-        fails.push(earlier as u64 + 1)?;
-        let Some(played) = played(rt.alloc(), DOCUMENT, fails) else {
+        let Some(played) = stopped_behind(rt.alloc(), DOCUMENT, earlier as u64)? else {
             panic!(rt; "no memory");
         };
         assert_eq!(rt; played.result, Err(ReplayFault::AirFailed));
         assert_eq!(rt; played.air.heard().len(), earlier);
-        assert_eq!(rt; played.step, *wanted);
+        assert_eq!(rt; played.ru, *wanted);
     }
     Ok(())
 }
 
-/// How many frames an air heard.
-fn arrivals(air: &MemoryAir) -> u64 {
+fn is_arrival_at(event: Option<&Event>, at: Side) -> bool {
+    match event {
+        Some(Event::Arrival { side, .. }) => *side == at,
+        _ => false,
+    }
+}
+
+fn is_cell_of(event: Option<&Event>, of: Side) -> bool {
+    match event {
+        Some(Event::Cell(cell)) => cell.side == of,
+        _ => false,
+    }
+}
+
+/// How many frames an air heard arrive at a unit.
+fn arrivals(air: &MemoryAir, at: Side) -> u64 {
     let mut count: u64 = 0;
     for k in 0..air.heard().len() {
-        if let Some(Event::Arrival { .. }) = air.heard().get(k) {
+        if is_arrival_at(air.heard().get(k), at) {
             count = count.saturating_add(1);
         }
     }
     count
 }
 
-#[test]
-fn a_plan_is_in_step_where_the_air_fails(rt: HostRuntime) -> Result<(), Fail> {
-    for earlier in 0..16u64 {
-        let mut fails = List::new(rt.alloc());
-        fails.push(earlier + 1)?;
-        let Some(played) = played(rt.alloc(), PLANNED, fails) else {
-            panic!(rt; "no memory");
+/// How many cells an air heard of a unit.
+fn cells(air: &MemoryAir, of: Side) -> u64 {
+    let mut count: u64 = 0;
+    for k in 0..air.heard().len() {
+        if is_cell_of(air.heard().get(k), of) {
+            count = count.saturating_add(1);
+        }
+    }
+    count
+}
+
+/// Whether both units have counted what the air heard.
+fn is_in_step(played: &Outcome) -> bool {
+    let air = &played.air;
+    let (ru, du) = (played.ru, played.du);
+    let frames = ru.frames == arrivals(air, Side::Ru) && du.frames == arrivals(air, Side::Du);
+    frames && ru.cells == cells(air, Side::Ru) && du.cells == cells(air, Side::Du)
+}
+
+/// Whether both units are in step with the air that fails in each of so many events, and nothing fails behind them.
+fn is_in_step_throughout(alloc: Global, document: &str, events: u64) -> Result<bool, Fail> {
+    for earlier in 0..events {
+        let Some(played) = stopped_behind(alloc, document, earlier)? else {
+            return Ok(false);
         };
-        assert_eq!(rt;
-            played.result,
-            Err(ReplayFault::AirFailed),
-            "call {}",
-            earlier
-        );
-        assert_eq!(rt; played.air.heard().len() as u64, earlier);
-        assert_eq!(rt;
-            played.step.frames,
-            arrivals(&played.air),
-            "call {}",
-            earlier
+        let stopped = played.result == Err(ReplayFault::AirFailed);
+        if !stopped || played.air.heard().len() as u64 != earlier || !is_in_step(&played) {
+            return Ok(false);
+        }
+    }
+    let Some(played) = stopped_behind(alloc, document, events)? else {
+        return Ok(false);
+    };
+    let whole = played.result == Ok(()) && played.air.heard().len() as u64 == events;
+    Ok(whole && is_in_step(&played))
+}
+
+#[test]
+fn plans_are_in_step_where_the_air_fails(rt: HostRuntime) -> Result<(), Fail> {
+    for (document, events) in [(PLANNED, 16), (UPLINK, 11), (BOTH, 17)] {
+        assert!(rt;
+            is_in_step_throughout(rt.alloc(), document, events)?,
+            "{}",
+            document
         );
     }
-    let mut fails = List::new(rt.alloc());
-    fails.push(17)?;
-    let Some(played) = played(rt.alloc(), PLANNED, fails) else {
+    Ok(())
+}
+
+/// The third event is the planned cell: its data arrived, and it is still the next to be reported.
+#[test]
+fn a_planned_cell_is_left_where_the_air_fails_in_it(rt: HostRuntime) -> Result<(), Fail> {
+    let Some(played) = stopped_behind(rt.alloc(), UPLINK, 2)? else {
         panic!(rt; "no memory");
     };
-    assert_eq!(rt; played.result, Ok(()));
-    assert_eq!(rt; played.air.heard().len(), 16);
-    assert_eq!(rt; played.step.frames, 5);
-    assert_eq!(rt; played.step.cells, 4);
+    let heard = played.air.heard();
+    assert_eq!(rt; played.result, Err(ReplayFault::AirFailed));
+    assert_eq!(rt; heard.len(), 2);
+    assert!(rt; is_arrival(heard.get(0), Side::Ru, Ticks(14_714_880_000), 24));
+    assert!(rt; is_arrival(heard.get(1), Side::Du, Ticks(15_513_600_000), 64));
+    assert_eq!(rt; (played.ru.frames, played.du.frames), (1, 1));
+    assert_eq!(rt; (played.du.taken, played.du.cells), (1, 0));
+    assert_eq!(rt; played.du.due, Some(TAKEN_IN_AT));
     Ok(())
 }

@@ -1,9 +1,13 @@
 //! Tests of the replay of a document: what an air hears (`events`), the report that is written (`reports`),
-//! also of a document with a plan (`scheduled`), and the summary and the capture (`texts`).
+//! also of a document with a plan of the downlink (`scheduled`) or of both ways (`both`), and the summary and the capture (`texts`).
 //!
 //! They stand beside `fronthaul_replay`, so that it is proved without them.
 #![tactic(auto)]
 
+#[cfg(test)]
+mod both;
+#[cfg(test)]
+mod cases;
 #[cfg(test)]
 mod events;
 #[cfg(test)]

@@ -1,30 +1,9 @@
 // Documents and their reports, all of them known from outside: by the standard's fields, and by hand.
+use crate::cases::{Case, agrees};
 use fh_base::{List, MemorySink, PlainSink};
 use fh_document::read;
-use fronthaul_replay::{InjectedFault, check_plan, replay_injected};
-use std::alloc::Global;
+use fronthaul_replay::{TextFault, check_plan, report_document};
 use std::test::Fail;
-
-/// A document, and its report.
-#[derive(Drop)]
-struct Case {
-    name: &'static str,
-    document: &'static str,
-    report: &'static str,
-}
-
-/// Whether each document has its report.
-fn agree(alloc: Global, case: &Case) -> bool {
-    let Ok(document) = read(alloc, case.document.as_bytes()) else {
-        return false;
-    };
-    let mut out = PlainSink::new(alloc);
-    let Ok(plan) = check_plan(alloc, &document) else {
-        return false;
-    };
-    let answer = replay_injected(alloc, &document, plan, &mut out);
-    answer == Ok(()) && out.bytes() == case.report.as_bytes()
-}
 
 #[test]
 fn reports_0(rt: HostRuntime) {
@@ -75,8 +54,8 @@ fn reports_0(rt: HostRuntime) {
             report: "count ru frames 2\ncount ru messages 2\ncount ru f_whole 2\ncount ru u_late 1\ncount ru u_early 1\nend\n",
         },
     ];
-    for case in &cases {
-        assert!(rt; agree(rt.alloc(), case), "{}", case.name);
+    for case in cases {
+        assert!(rt; agrees(rt.alloc(), case), "{}", case.name);
     }
 }
 
@@ -129,8 +108,8 @@ fn reports_1(rt: HostRuntime) {
             report: "dl 15360000000 0000 1 0 0 0 0 1 fff 0,0 1,-1 2,-2 3,-3 4,-4 5,-5 6,-6 7,-7 8,-8 9,-9 10,-10 11,-11\ncount ru frames 3\ncount ru messages 3\ncount ru c_accepted 1\ncount ru f_whole 2\ncount ru u_repeat 1\ncount ru u_taken 1\ncount ru cells 1\nend\n",
         },
     ];
-    for case in &cases {
-        assert!(rt; agree(rt.alloc(), case), "{}", case.name);
+    for case in cases {
+        assert!(rt; agrees(rt.alloc(), case), "{}", case.name);
     }
 }
 
@@ -178,8 +157,8 @@ fn reports_2(rt: HostRuntime) {
             report: "dl 15360000000 0000 1 0 0 0 0 1 0ff . . . . 4,-4 5,-5 6,-6 7,-7 8,-8 9,-9 10,-10 11,-11\ncount ru frames 3\ncount ru messages 3\ncount ru c_accepted 2\ncount ru f_whole 1\ncount ru u_taken 1\ncount ru cells 1\nend\n",
         },
     ];
-    for case in &cases {
-        assert!(rt; agree(rt.alloc(), case), "{}", case.name);
+    for case in cases {
+        assert!(rt; agrees(rt.alloc(), case), "{}", case.name);
     }
 }
 
@@ -196,7 +175,7 @@ fn a_report_is_written(rt: HostRuntime) -> Result<(), Fail> {
     let document = read(alloc, ORDINARY)?;
     let mut out = PlainSink::new(alloc);
     assert_eq!(rt;
-        replay_injected(alloc, &document, check_plan(alloc, &document)?, &mut out),
+        report_document(alloc, &document, check_plan(alloc, &document)?, &mut out),
         Ok(())
     );
     assert_eq!(rt; out.bytes(), REPORT);
@@ -209,11 +188,11 @@ fn a_report_stands_behind_what_was_there(rt: HostRuntime) -> Result<(), Fail> {
     let document = read(alloc, b"fronthaul 1\n")?;
     let mut out = PlainSink::new(alloc);
     assert_eq!(rt;
-        replay_injected(alloc, &document, check_plan(alloc, &document)?, &mut out),
+        report_document(alloc, &document, check_plan(alloc, &document)?, &mut out),
         Ok(())
     );
     assert_eq!(rt;
-        replay_injected(alloc, &document, check_plan(alloc, &document)?, &mut out),
+        report_document(alloc, &document, check_plan(alloc, &document)?, &mut out),
         Ok(())
     );
     assert_eq!(rt; out.bytes(), b"end\nend\n".as_slice());
@@ -231,8 +210,8 @@ fn a_sink_that_fails_keeps_a_front_part(rt: HostRuntime) -> Result<(), Fail> {
         let mut fails = List::new(alloc);
         fails.push(call)?;
         let mut out = MemorySink::new(alloc, 1, fails);
-        let answer = replay_injected(alloc, &document, check_plan(alloc, &document)?, &mut out);
-        assert_eq!(rt; answer, Err(InjectedFault::WriteFault), "call {}", call);
+        let answer = report_document(alloc, &document, check_plan(alloc, &document)?, &mut out);
+        assert_eq!(rt; answer, Err(TextFault::WriteFault), "call {}", call);
         assert_eq!(rt; out.bytes(), &REPORT[..bytes], "call {}", call);
     }
     Ok(())
@@ -246,7 +225,7 @@ fn a_sink_that_would_fail_later_has_it_all(rt: HostRuntime) -> Result<(), Fail> 
     fails.push(REPORT.len() as u64 + 1)?;
     let mut out = MemorySink::new(alloc, 1, fails);
     assert_eq!(rt;
-        replay_injected(alloc, &document, check_plan(alloc, &document)?, &mut out),
+        report_document(alloc, &document, check_plan(alloc, &document)?, &mut out),
         Ok(())
     );
     assert_eq!(rt; out.bytes(), REPORT);

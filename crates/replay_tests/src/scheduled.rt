@@ -1,29 +1,5 @@
 // Documents with a plan, and their reports: times and samples by the formulas of the standard and of the tone, counters by hand.
-use fh_base::PlainSink;
-use fh_document::read;
-use fronthaul_replay::{check_plan, replay_injected};
-use std::alloc::Global;
-
-/// A document, and its report.
-#[derive(Clone, Copy)]
-struct Case {
-    name: &'static str,
-    document: &'static str,
-    report: &'static str,
-}
-
-/// Whether the document has its report.
-fn agrees(alloc: Global, case: Case) -> bool {
-    let Ok(document) = read(alloc, case.document.as_bytes()) else {
-        return false;
-    };
-    let Ok(plan) = check_plan(alloc, &document) else {
-        return false;
-    };
-    let mut out = PlainSink::new(alloc);
-    let answer = replay_injected(alloc, &document, plan, &mut out);
-    answer == Ok(()) && out.bytes() == case.report.as_bytes()
-}
+use crate::cases::{Case, agrees};
 
 #[test]
 fn a_planned_prb_radiates(rt: HostRuntime) {

@@ -1,7 +1,7 @@
 // The summary and the capture of documents, known from outside: by the standard's fields, and by hand.
 use fh_base::{List, MemorySink, PlainSink};
 use fh_document::read;
-use fronthaul_replay::{InjectedFault, capture_injected, check_plan, summarize_injected};
+use fronthaul_replay::{TextFault, capture_document, check_plan, summarize_document};
 use std::test::Fail;
 
 /// A command and its data, both on time.
@@ -36,7 +36,7 @@ fn a_summary_is_written(rt: HostRuntime) -> Result<(), Fail> {
     let document = read(alloc, ORDINARY)?;
     let mut out = PlainSink::new(alloc);
     assert_eq!(rt;
-        summarize_injected(alloc, &document, check_plan(alloc, &document)?, &mut out),
+        summarize_document(alloc, &document, check_plan(alloc, &document)?, &mut out),
         Ok(())
     );
     assert_eq!(rt; out.bytes(), SUMMARY);
@@ -49,7 +49,7 @@ fn a_capture_is_written(rt: HostRuntime) -> Result<(), Fail> {
     let document = read(alloc, ORDINARY)?;
     let mut out = PlainSink::new(alloc);
     assert_eq!(rt;
-        capture_injected(alloc, &document, check_plan(alloc, &document)?, &mut out),
+        capture_document(alloc, &document, check_plan(alloc, &document)?, &mut out),
         Ok(())
     );
     assert_eq!(rt; out.bytes(), CAPTURE.as_slice());
@@ -62,11 +62,11 @@ fn nothing_is_the_magic_and_the_last_line(rt: HostRuntime) -> Result<(), Fail> {
     let document = read(alloc, b"fronthaul 1\n")?;
     let mut out = PlainSink::new(alloc);
     assert_eq!(rt;
-        capture_injected(alloc, &document, check_plan(alloc, &document)?, &mut out),
+        capture_document(alloc, &document, check_plan(alloc, &document)?, &mut out),
         Ok(())
     );
     assert_eq!(rt;
-        summarize_injected(alloc, &document, check_plan(alloc, &document)?, &mut out),
+        summarize_document(alloc, &document, check_plan(alloc, &document)?, &mut out),
         Ok(())
     );
     assert_eq!(rt; out.bytes(), b"FHCAP001end\n".as_slice());
@@ -84,8 +84,8 @@ fn a_sink_that_fails_keeps_a_front_part_of_a_summary(rt: HostRuntime) -> Result<
         let mut fails = List::new(alloc);
         fails.push(call)?;
         let mut out = MemorySink::new(alloc, 1, fails);
-        let answer = summarize_injected(alloc, &document, check_plan(alloc, &document)?, &mut out);
-        assert_eq!(rt; answer, Err(InjectedFault::WriteFault), "call {}", call);
+        let answer = summarize_document(alloc, &document, check_plan(alloc, &document)?, &mut out);
+        assert_eq!(rt; answer, Err(TextFault::WriteFault), "call {}", call);
         assert_eq!(rt; out.bytes(), &SUMMARY[..bytes], "call {}", call);
     }
     Ok(())
@@ -101,8 +101,8 @@ fn a_sink_that_fails_keeps_a_front_part_of_a_capture(rt: HostRuntime) -> Result<
         let mut fails = List::new(alloc);
         fails.push(call)?;
         let mut out = MemorySink::new(alloc, 1, fails);
-        let answer = capture_injected(alloc, &document, check_plan(alloc, &document)?, &mut out);
-        assert_eq!(rt; answer, Err(InjectedFault::WriteFault), "call {}", call);
+        let answer = capture_document(alloc, &document, check_plan(alloc, &document)?, &mut out);
+        assert_eq!(rt; answer, Err(TextFault::WriteFault), "call {}", call);
         assert_eq!(rt; out.bytes(), &CAPTURE[..bytes], "call {}", call);
     }
     Ok(())

@@ -125,7 +125,7 @@ fn the_grammar_comes_before_the_plan(rt: HostRuntime) -> Result<(), Fail> {
             b"fronthaul: line 3: Words\n",
         ],
         [
-            b"fronthaul 1\nplan dl 0001 1 0 0 0 1 0 1 fff 1 0\nplan ul 0001 1 0 0 0 1 0 1 fff 1 0\n",
+            b"fronthaul 1\nplan dl 0001 1 0 0 0 1 0 1 fff 1 0\nmeasure du 0 one 1000000\n",
             b"fronthaul: line 3: NotBuilt\n",
         ],
     ];

@@ -33,7 +33,7 @@ sound_of bytes = each (document_of bytes) (document_in_in handled bytes) (widths
     each : {E : Type 0} (x : Result Document E) → IfOk x IsDocument → IfOk x HasWidths → IfOk x IsSoundPlan
     each (Ok d) is widths = λ valid.
         let sound : IsSound d = is_sound d (record { document = is; valid = valid }) in
-        record { sound = sound; exactly_once = sound.exactly_once widths }
+        record { sound = sound; exactly_once = sound.exactly_once widths; taken_in_once = sound.taken_in_once widths }
     each (Err why) is widths = tt
 
 -- ---- what a command answers, a run answers

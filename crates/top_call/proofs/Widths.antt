@@ -19,7 +19,7 @@ use Rattle.fh_document.specs.Refusals.{or_refuse}
 use Rattle.fh_document.specs.Words.{words_of, word_at, number_in, is_text}
 use Rattle.fh_document.specs.Hex.{is_hex, hex_of, frame_of}
 use Rattle.fh_document.specs.Keywords.{keyword_of, setting_of, transit_of}
-use Rattle.fh_document.specs.Building.{is_built, is_built_measure, is_built_plan, passes}
+use Rattle.fh_document.specs.Building.{is_built, is_built_measure, passes}
 use Rattle.fh_document.specs.ConfigLines.{set_of}
 use Rattle.fh_document.specs.EndpointLines.{has_endpoint_count, numerology_of, dynamic_of, method_of, endpoint_of, has_id, added, endpoint_line}
 use Rattle.fh_document.specs.PlanLines.{plan_kind_of, slot_of, symbols_of, prbs_of, section_of, plan_of, planned, plan_line}
@@ -129,9 +129,7 @@ endpoint_line_wide r ws h =
 planned_wide : (r : Said) (n : ℕ) (line : PlanLine) → AreWide r → HasNumber line → IfOk (planned r n line) AreWide
 planned_wide r n line h p =
     ok_if AreWide (length r.plan == 65536) (Err why.TooMany) _ (λ t. tt)
-    (λ f. ok_if AreWide (passes r.scope (is_built_plan line)) _ (Err why.NotBuilt)
-    (λ t. record { ids = h.ids; num_prbs = All-push HasNumber r.plan line h.num_prbs p })
-    (λ g. tt))
+    (λ f. record { ids = h.ids; num_prbs = All-push HasNumber r.plan line h.num_prbs p })
 
 plan_line_wide : (r : Said) (n : ℕ) (ws : List (List ℕ)) → AreWide r → IfOk (plan_line r n ws) AreWide
 plan_line_wide r n ws h =
@@ -159,7 +157,7 @@ measure_line_wide r ws h =
 
 injected_wide : (r : Said) (i : Injection) → AreWide r → IfOk (injected r i) AreWide
 injected_wide r i h =
-    ok_if AreWide (passes r.scope (is_built r.endpoints i)) _ (Err why.NotBuilt) (λ t. record { ids = h.ids; num_prbs = h.num_prbs }) (λ f. tt)
+    ok_if AreWide (passes r.scope (is_built i)) _ (Err why.NotBuilt) (λ t. record { ids = h.ids; num_prbs = h.num_prbs }) (λ f. tt)
 
 inject_line_wide : (r : Said) (ws : List (List ℕ)) → AreWide r → IfOk (inject_line r ws) AreWide
 inject_line_wide r ws h =

@@ -9,8 +9,8 @@ use Rattle.fh_base.specs.declared.fault.SinkFault.TheVariants as sink
 use Rattle.fh_document.specs.declared.document.Document.{Document}
 use Rattle.fh_document.specs.declared.refusals.DocFault.{DocFault}
 use Rattle.fh_document.specs.declared.refusals.DocFault.TheVariants as doc
-use Rattle.fronthaul_replay.specs.declared.injected.InjectedFault.{InjectedFault}
-use Rattle.fronthaul_replay.specs.declared.injected.InjectedFault.TheVariants as injected
+use Rattle.fronthaul_replay.specs.declared.report.TextFault.{TextFault}
+use Rattle.fronthaul_replay.specs.declared.report.TextFault.TheVariants as text
 use Rattle.plan_tests.specs.declared.testing.PlanRefusal.{PlanRefusal}
 use Rattle.plan_tests.specs.declared.testing.PlanRefusal.TheVariants as plan
 use Rattle.top_call.specs.declared.status.LineWhy.TheVariants.{Doc, Plan}
@@ -24,10 +24,10 @@ ending_of (Err sink.Failed) status = WriteFault
 ending_of (Err sink.NoMemory) status = NoMemory
 
 -- what becomes of a document's events was written, or was not
-abbrev pub injected_status : Result (Unit {0}) InjectedFault → Status
-injected_status (Ok _) = Done
-injected_status (Err injected.WriteFault) = WriteFault
-injected_status (Err injected.NoMemory) = NoMemory
+abbrev pub text_status : Result (Unit {0}) TextFault → Status
+text_status (Ok _) = Done
+text_status (Err text.WriteFault) = WriteFault
+text_status (Err text.NoMemory) = NoMemory
 
 -- a document was not read
 abbrev pub unread_status : DocFault → Status

@@ -2,7 +2,7 @@
 use Rattle.std.specs.Prelude.{◌≡◌, ◌<◌, ◌≤◌, ◌⊎◌, ◌↔◌, ℕ, List, length, true, Option, Some, IfSome, IfOk, IsSome, IsNone}
 use Rattle.std.specs.Io.KnownBytes.{prepend_known, append_known, IsAtEnd}
 use Rattle.command_words.specs.Words.{command_of}
-use Rattle.document_traffic.specs.Undisturbed.{IsUndisturbed, RadiatesOnce}
+use Rattle.document_traffic.specs.Undisturbed.{IsTakenInOnce, IsUndisturbed, IsUndisturbedBothWays, RadiatesOnce}
 use Rattle.fh_base.specs.Causes.{Rose}
 use Rattle.fh_base.specs.Told.{WritesFront}
 use Rattle.fh_document.specs.Document.{document_of}
@@ -73,6 +73,7 @@ AnswersRun wanted source_before source_now out_before out_now status = wanted �
 pub record IsSoundReplay (d : Document) : Type 0 where
   pub sound : IsSound d
   pub exactly_once : IsUndisturbed d → RadiatesOnce d
+  pub taken_in_once : IsUndisturbedBothWays d → IsTakenInOnce d
 
 -- they hold where the document's plan is valid and so these events are replayed
 abbrev pub IsSoundPlan : Document → Type 0

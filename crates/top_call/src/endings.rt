@@ -1,12 +1,12 @@
 // How a run ends, by what its last step answered.
 ghost use Rattle.std.specs.Prelude.{◌≡◌, slice_index};
-ghost use Rattle.top_call.specs.Endings.{ending_of, injected_status, source_status, unplanned_status, unread_status};
+ghost use Rattle.top_call.specs.Endings.{ending_of, text_status, source_status, unplanned_status, unread_status};
 
 use crate::status::{LineWhy, Status};
 use du_scheduler::PlanRefusal;
 use fh_base::{List, ReadAllFault, SinkFault};
 use fh_document::{DocFault, Document};
-use fronthaul_replay::InjectedFault;
+use fronthaul_replay::TextFault;
 
 /// How a run ends whose whole text was to be written, and which then ends with `status`.
 pub(crate) fn ending_of(written: Result<(), SinkFault>, status: Status) -> Status
@@ -20,13 +20,13 @@ pub(crate) fn ending_of(written: Result<(), SinkFault>, status: Status) -> Statu
 }
 
 /// How a run ends that was to write what becomes of a document's events.
-pub(crate) fn injected_status(written: Result<(), InjectedFault>) -> Status
-    ensures { result ≡ injected_status written }
+pub(crate) fn text_status(written: Result<(), TextFault>) -> Status
+    ensures { result ≡ text_status written }
 {
     match written {
         Ok(()) => Status::Done,
-        Err(InjectedFault::WriteFault) => Status::WriteFault,
-        Err(InjectedFault::NoMemory) => Status::NoMemory,
+        Err(TextFault::WriteFault) => Status::WriteFault,
+        Err(TextFault::NoMemory) => Status::NoMemory,
     }
 }
 

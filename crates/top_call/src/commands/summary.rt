@@ -8,12 +8,12 @@ ghost use Rattle.plan_model.specs.Sent.{sent};
 ghost use Rattle.top_call.specs.Answers.{of_document, of_planned, summarized};
 ghost use Rattle.top_call.specs.Run.{Performs};
 
-use crate::endings::{injected_status, unplanned_status, unread_status};
+use crate::endings::{text_status, unplanned_status, unread_status};
 use crate::status::Status;
 use du_scheduler::Plan;
 use fh_base::Sink;
 use fh_document::{Document, read};
-use fronthaul_replay::{check_plan, summarize_injected};
+use fronthaul_replay::{check_plan, summarize_document};
 use std::alloc::Global;
 
 /// Reads a document and writes its summary.
@@ -43,5 +43,5 @@ fn put_summary<K: Sink>(alloc: Global, document: &Document, plan: Plan, out: &mu
     requires plan { HasToSend document.now.config document.now.plan (sent document.now.config (planned document.now.config.endpoints document.now.plan)) plan }
     ensures { Performs (summarized document.now) (K.written out.old) (K.written out.new) (K.faults out.old) (K.faults out.new) result }
 {
-    injected_status(summarize_injected(alloc, document, plan, out))
+    text_status(summarize_document(alloc, document, plan, out))
 }

@@ -3,7 +3,6 @@ use Rattle.std.proofs.lemmas.Result.{IfErr-weaker}
 use Rattle.air_source.specs.Stops.{StopsIn}
 use Rattle.air_source.specs.declared.events.Event.{Event}
 use Rattle.air_source.specs.declared.events.Event.TheVariants.{Count}
-use Rattle.air_source.specs.declared.events.Side.TheVariants.{Ru}
 use Rattle.air_source.proofs.Stops.{stops_now}
 use Rattle.fault_counters.specs.Counts.{count_of}
 use Rattle.fronthaul_replay.proofs.CountLemmas.{some_event}
@@ -15,5 +14,5 @@ returns-clause-stop g c =
     let value = c.get-value.result in
     IfErr-weaker c.count.result _ _ (λ f last.
     subst (λ (es : List Event). StopsIn g.A.Air.grew (g.A.Air.stopped f) es c.args.out.now c.count.new.self)
-    (sym (some_event (count_of c.args.counters.now k) value k c.get-value.ensures c.if-value-eq0.false))
-    (stops_now g.A.Air.grew (g.A.Air.stopped f) g.met.A.Air.grew_none (Count Ru k value) c.args.out.now c.count.new.self last)) c.count.ensures.stop
+    (sym (some_event c.args.side (count_of c.args.counters.now k) value k c.get-value.ensures c.if-value-eq0.false))
+    (stops_now g.A.Air.grew (g.A.Air.stopped f) g.met.A.Air.grew_none (Count c.args.side k value) c.args.out.now c.count.new.self last)) c.count.ensures.stop

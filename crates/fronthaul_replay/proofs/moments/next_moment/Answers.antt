@@ -1,9 +1,12 @@
-use Rattle.std.proofs.Common.{sym, ap, subst, ◌∙◌}
+use Rattle.std.proofs.Common.{sym, ap, ap₂, subst, ◌∙◌}
+use Rattle.intake_moments.specs.Turns.{planned_for}
+use Rattle.ru_buffers.specs.Calls.{earlier_time}
 use Rattle.fronthaul_replay.specs.Turns.{IsNext, within_end}
 use Rattle.fronthaul_replay.proofs.NextLemmas.{is_next}
 use Rattle.fronthaul_replay.proofs.moments.next_moment.Goals as goal
 
 pub returns : goal.returns
-returns c k h stands =
-    subst (IsNext k h c.args.coming.now) (sym (c.up_to_end.ensures ∙ ap within_end c.earlier_of.ensures))
-    (is_next k h c.args.coming.now c.due.result c.next_time.result (c.due.ensures k h stands) c.next_time.ensures)
+returns g c d h k stands taken =
+    subst (IsNext d h k c.args.coming.now) (sym (c.up_to_end.ensures ∙ ap within_end (c.earlier_of.ensures ∙ ap₂ earlier_time c.earlier_of-units.ensures c.earlier_of-frames.ensures)))
+    (is_next d h k c.args.coming.now c.due.result c.due-2.result c.next_time.result c.next_time-2.result (c.due.ensures d.config h stands)
+    (c.due-2.ensures d.config (planned_for d) k taken) c.next_time.ensures c.next_time-2.ensures)

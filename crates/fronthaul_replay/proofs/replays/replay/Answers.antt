@@ -8,7 +8,7 @@ returns-in_default-clause-sound g c = is_sound c.args.doc.now (record { document
 
 pub returns-in_default-clause-wants : goal.returns-in_default-clause-wants
 returns-in_default-clause-wants g c wants =
-    inr (none_heard g.A.Air.grew c.args.doc.now c.args.ru.now c.args.out.now (g.met.A.Air.grew_none c.args.out.now) c.requires.unit)
+    inr (none_heard g.A.Air.grew c.args.doc.now c.args.ru.now c.args.intake.now c.args.out.now (g.met.A.Air.grew_none c.args.out.now) c.requires.unit c.requires.intake)
 
 pub returns-in-Err-Failed-clause-sound : goal.returns-in-Err-Failed-clause-sound
 returns-in-Err-Failed-clause-sound g c = is_sound c.args.doc.now (record { document = c.requires.document; valid = c.requires.plan.valid })

@@ -1,0 +1,97 @@
+// Ways of a small document, worked out by hand.
+ghost use Rattle.std.specs.Prelude.{◌≡◌, IfOk};
+ghost use Rattle.fh_document.specs.Proper.{IsDocument};
+ghost use Rattle.frame_ways.specs.Ways.{document_of};
+
+use crate::{Way, earlier_of};
+use air_source::Side;
+use fh_base::{Bytes, NoMemory};
+use fh_document::{Class3, Document, read};
+use fh_time::{Ticks, of_ns};
+use std::alloc::Global;
+use std::test::Fail;
+
+/// The second frame of the U-plane to the radio unit comes three times, the first command not at all, and the second frame to the
+/// distributed unit early. Of the injected frames three come at the times of others.
+const TEXT: &[u8] = b"fronthaul 1\ntransit dl 40\ntransit ul 60\n\
+    deliver dl u 2 7 5 7\ndeliver dl c 1\ndeliver ul u 2 9\n\
+    inject dl 49 a3\ninject dl 40 a1\ninject dl 40 a2\n";
+
+/// The way to a unit.
+fn way_to<'a>(alloc: Global, doc: &'a Document, side: Side) -> Result<Way<'a>, NoMemory>
+    requires { IsDocument doc.now }
+    ensures { IfOk result (λ w. IsDocument (document_of w)) }
+{
+    Way::make(alloc, doc, side)
+}
+
+/// Sends a frame of one byte at time 0.
+fn send(alloc: Global, way: &mut Way<'_>, class: Class3, mark: u8) -> Result<(), NoMemory>
+    requires { IsDocument (document_of way.old) }
+    ensures { document_of way.new ≡ document_of way.old }
+{
+    way.send(alloc, Ticks(0), class, &[mark])
+}
+
+/// The byte of the next frame that lands so many nanoseconds after time 0, or 0 where none does.
+fn mark_at(way: &mut Way<'_>, tick: Ticks) -> u8 {
+    match way.next_at(tick) {
+        None => 0,
+        Some(frame) => match frame.as_slice() {
+            [mark] => *mark,
+            _ => 255,
+        },
+    }
+}
+
+#[test]
+fn frames_land_in_order(rt: HostRuntime) -> Result<(), Fail> {
+    let alloc = rt.alloc();
+    let doc = read(alloc, TEXT).expect(&rt, "read");
+    let mut down = way_to(alloc, &doc, Side::Ru)?;
+    send(alloc, &mut down, Class3::U, 1)?;
+    send(alloc, &mut down, Class3::C, 2)?;
+    send(alloc, &mut down, Class3::U, 3)?;
+    send(alloc, &mut down, Class3::C, 4)?;
+    for (ns, marks) in [
+        (5, [3, 0, 0, 0, 0]),
+        (7, [3, 3, 0, 0, 0]),
+        (40, [1, 4, 0xa1, 0xa2, 0]),
+        (49, [0xa3, 0, 0, 0, 0]),
+    ] {
+        let tick = of_ns(ns);
+        assert_eq!(rt; down.next_time(), Some(tick));
+        for mark in marks {
+            assert_eq!(rt; mark_at(&mut down, tick), mark);
+        }
+    }
+    assert_eq!(rt; down.next_time(), None);
+    Ok(())
+}
+
+#[test]
+fn each_unit_has_its_own(rt: HostRuntime) -> Result<(), Fail> {
+    let alloc = rt.alloc();
+    let doc = read(alloc, TEXT).expect(&rt, "read");
+    let mut up = way_to(alloc, &doc, Side::Du)?;
+    send(alloc, &mut up, Class3::U, 5)?;
+    let mut frame = Bytes::new(alloc);
+    frame.push_all(&[6])?;
+    up.send_owned(alloc, Ticks(0), Class3::U, frame)?;
+    for (ns, marks) in [(9, [6, 0, 0]), (60, [5, 0, 0])] {
+        let tick = of_ns(ns);
+        assert_eq!(rt; up.next_time(), Some(tick));
+        for mark in marks {
+            assert_eq!(rt; mark_at(&mut up, tick), mark);
+        }
+    }
+    assert_eq!(rt; up.next_time(), None);
+    Ok(())
+}
+
+#[test]
+fn the_earlier_comes_first(rt: HostRuntime) {
+    assert_eq!(rt; earlier_of(Some(Ticks(2)), Some(Ticks(1))), Some(Ticks(1)));
+    assert_eq!(rt; earlier_of(Some(Ticks(2)), None), Some(Ticks(2)));
+    assert_eq!(rt; earlier_of(None, None), None);
+}

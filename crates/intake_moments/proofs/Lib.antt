@@ -1,0 +1,10 @@
+pub mod TimeLemmas
+pub mod BeginLemmas
+pub mod HeardLemmas
+pub mod TurnLemmas
+pub mod StopLemmas
+pub mod LandLemmas
+pub mod AnswerLemmas
+pub mod ReleaseLemmas
+pub mod NextLemmas
+pub mod MomentLemmas

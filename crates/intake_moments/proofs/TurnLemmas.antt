@@ -1,0 +1,194 @@
+-- The distributed unit's intake from one tick to the next moment, and over it.
+use Rattle.std.proofs.Common.{◌≡◌, ℤ, pos, ◌+ℤ◌, ◌-ℤ◌, ◌≤ℤ◌, ◌<ℤ◌, List, [], ◌++◌, sym, ap, ap₂, ◌∙◌, subst, arith, append_assoc, append-nil}
+use Rattle.std.specs.Prelude.{map}
+use Rattle.std.proofs.lemmas.Int.{ints}
+use Rattle.air_source.specs.declared.events.AirCell.{AirCell}
+use Rattle.air_source.specs.declared.events.Event.{Event}
+use Rattle.air_source.specs.declared.events.Event.TheVariants.{Cell}
+use Rattle.air_source.specs.declared.events.Side.{Side}
+use Rattle.air_source.specs.declared.events.Side.TheVariants.{Du}
+use Rattle.document_traffic.specs.Landing.{answers_of, traffic_of}
+use Rattle.document_traffic.specs.Laws.{IsReplayable}
+use Rattle.document_traffic.proofs.LandingLemmas.{are_replayed}
+use Rattle.du_intake.specs.Calls.{StandsFor}
+use Rattle.du_intake.specs.Units.{due_of}
+use Rattle.du_intake.specs.declared.unit.Intake.{Intake}
+use Rattle.fh_document.specs.declared.document.Document.{Document}
+use Rattle.radio_moments.specs.Turns.{events_before, intake_events, radio_events}
+use Rattle.radio_moments.proofs.StepLemmas.{cells_own, next_events, radio_own}
+use Rattle.replay_events.specs.Events.{arrival_event, cells_at, events_at}
+use Rattle.replay_events.specs.Heard.{arrivals_heard, cells_heard}
+use Rattle.replay_events.specs.Moments.{arrivals_before, end_of_time, landing_at}
+use Rattle.replay_events.specs.Passing.{IsCalm, IsNextMoment, IsUnitMoment, due_from}
+use Rattle.replay_events.specs.Traffic.{known_at, landings_at}
+use Rattle.replay_events.proofs.AloneLemmas.{told_each}
+use Rattle.replay_events.proofs.CameLemmas.{arrivals_go_on, calm_adds_nothing, none_yet}
+use Rattle.replay_events.proofs.EventLemmas.{events_wait}
+use Rattle.replay_events.proofs.HeardLemmas.{arrivals-none, cells-none}
+use Rattle.replay_events.proofs.MomentLemmas.{due_at_moment, reported_at_moment, reported_before_moment}
+use Rattle.replay_events.proofs.TickLemmas.{at_most, last_of_next, next_most, no_ticks, same_most}
+use Rattle.ru_buffers.proofs.QuietLemmas.{sweep_less}
+use Rattle.unit_laws.proofs.DueLemmas.{all_is_due, due_in_pieces}
+use Rattle.unit_model.proofs.SweepLaws.{sweep_quiet}
+use Rattle.unit_model.specs.Lists.{onto}
+use Rattle.unit_model.specs.Meetings.{Arrival}
+use Rattle.unit_model.specs.Radiated.{Known, first_clock, reported, wait_of}
+use Rattle.unit_model.specs.Reports.{du_known, du_reported}
+use Rattle.unit_model.specs.Standing.{History, due, nothing_yet}
+use Rattle.window_config.specs.Configs.{IsConfig}
+use Rattle.window_config.specs.declared.config.Config.{Config}
+use Rattle.window_config.specs.declared.delays.Delays.{Delays}
+use Rattle.window_config.specs.declared.endpoints.EndpointConfig.{EndpointConfig}
+use Rattle.intake_moments.specs.Turns.{IsIntakeTurn, planned_for}
+use Rattle.intake_moments.proofs.HeardLemmas.{arrivals_closed, cells_closed}
+
+-- ---- a moment that begins at its own tick
+
+-- what was reported up to a time is due no more
+told_not_due : (side : Side) (c : Config) (k : Known) (to : ℤ) → IsConfig c → due side c.delays c.endpoints k (reported side c.delays c.endpoints k to) to ≡ []
+told_not_due side c k to config =
+    let told = reported side c.delays c.endpoints k to in
+    due_in_pieces side c.delays c.endpoints k [] told [] to config.endpoints.differ (all_is_due side c.delays c.endpoints k to ∙ sym (append-nil told))
+
+unit_here : (side : Side) (d : Document) (tick : ℤ) → IsReplayable d → IsUnitMoment side d.config (traffic_of d) tick tick
+unit_here side d tick doc =
+    let t = traffic_of d in
+    record {
+      landings_are = are_replayed d side doc.document doc.valid;
+      calm = λ u low high. absurd (omega (arith, ints));
+      quiet = told_not_due side d.config (known_at side d.config t.planned (arrivals_before (landings_at side t) tick)) (tick -ℤ pos 1) doc.document.config;
+    }
+
+moment_here : (d : Document) (tick : ℤ) → IsReplayable d → first_clock ≤ℤ tick → tick ≤ℤ (end_of_time +ℤ pos 1) → IsNextMoment d.config (traffic_of d) tick tick
+moment_here d tick doc begun ended =
+    record { config = doc.document.config; begun = begun; order = same_most tick; ended = ended; units = λ side. unit_here side d tick doc }
+
+-- ---- the next moment
+
+due_same : (d : Document) (now : ℤ) (h : History) → IsIntakeTurn d now h → (to : ℤ)
+    → due_from Du d.config (planned_for d) (answers_of d) now to ≡ due_of d.config (planned_for d) h to
+due_same d now h turn to =
+    let c = d.config in
+    sym (ap₂ (λ (xs : List Arrival) (rs : List AirCell). due Du c.delays c.endpoints (du_known c (planned_for d) xs) rs to) turn.arrivals turn.reported)
+
+waited_less : (a b w : ℤ) → a ≤ℤ b → ((a -ℤ w) +ℤ pos 1) ≤ℤ ((b -ℤ w) +ℤ pos 1)
+waited_less a b w h = omega (arith, ints)
+
+-- where nothing is due up to a time, nothing is up to an earlier one
+pub due_less : (d : Document) (h : History) (a b : ℤ) → a ≤ℤ b → due_of d.config (planned_for d) h b ≡ [] → due_of d.config (planned_for d) h a ≡ []
+unfolding due
+due_less d h a b order none =
+    let w = wait_of Du d.config.delays in
+    sweep_less _ d.config.endpoints (first_clock -ℤ w) ((a -ℤ w) +ℤ pos 1) ((b -ℤ w) +ℤ pos 1) (waited_less a b w order) none
+
+-- nothing lands at the distributed unit before a tick, and nothing is due at it
+pub unit_waits : (d : Document) (now tick : ℤ) (h : History) → IsReplayable d → IsIntakeTurn d now h → IsCalm (answers_of d) now tick
+    → due_of d.config (planned_for d) h (tick -ℤ pos 1) ≡ [] → IsUnitMoment Du d.config (traffic_of d) now tick
+unit_waits d now tick h doc turn calm none = record { landings_are = are_replayed d Du doc.document doc.valid; calm = calm; quiet = due_same d now h turn (tick -ℤ pos 1) ∙ none }
+
+-- what stands at the start of a tick stands at the start of the next moment
+pub skip : (d : Document) (now tick : ℤ) (h : History) → IsIntakeTurn d now h → IsNextMoment d.config (traffic_of d) now tick → IsIntakeTurn d tick h
+skip d now tick h turn next =
+    let c = d.config in
+    let t = traffic_of d in
+    let unit = next.units Du in
+    record {
+      begun = at_most first_clock now tick turn.begun next.order;
+      ended = next.ended;
+      arrivals = turn.arrivals ∙ sym (calm_adds_nothing (answers_of d) now tick turn.begun next.order unit.calm);
+      reported = turn.reported ∙ reported_before_moment Du c t now tick next;
+      quiet = sym (due_same d now h turn (tick -ℤ pos 1)) ∙ unit.quiet;
+      came = turn.came ∙ ap (arrivals_heard Du []) (sym (events_wait c t now tick next));
+      told = turn.told ∙ ap (cells_heard Du) (sym (events_wait c t now tick next));
+    }
+
+-- ---- the moment itself
+
+-- all that has landed once the tick's frames have
+came_here : (d : Document) (tick : ℤ) (h : History) → IsIntakeTurn d tick h → onto h.arrivals (landing_at (answers_of d) tick) ≡ arrivals_before (answers_of d) (tick +ℤ pos 1)
+came_here d tick h turn =
+    ap (λ (e : List Arrival). onto e (landing_at (answers_of d) tick)) turn.arrivals ∙ sym (arrivals_go_on (answers_of d) tick turn.begun)
+
+-- what is due then are the cells of the tick
+pub due_here : (d : Document) (tick : ℤ) (h : History) (xs : List Arrival) → IsReplayable d → IsIntakeTurn d tick h → tick ≤ℤ end_of_time
+    → xs ≡ onto h.arrivals (landing_at (answers_of d) tick)
+    → due Du d.config.delays d.config.endpoints (du_known d.config (planned_for d) xs) h.reported tick ≡ cells_at Du d.config (traffic_of d) tick
+due_here d tick h xs doc turn ended came =
+    let c = d.config in
+    ap₂ (λ (xs : List Arrival) (rs : List AirCell). due Du c.delays c.endpoints (du_known c (planned_for d) xs) rs tick) (came ∙ came_here d tick h turn) turn.reported
+    ∙ due_at_moment Du c (traffic_of d) tick tick (moment_here d tick doc turn.begun turn.ended) ended
+
+-- ---- its events
+
+pub intake_is : (d : Document) (tick : ℤ)
+    → intake_events d tick ≡ map (arrival_event Du) (landing_at (answers_of d) tick) ++ map Cell (cells_at Du d.config (traffic_of d) tick)
+intake_is d tick = ap (λ (es : List Event). es ++ map Cell (cells_at Du d.config (traffic_of d) tick)) (told_each Du (landing_at (answers_of d) tick))
+
+events_then : (d : Document) (tick : ℤ) → first_clock ≤ℤ tick
+    → events_before d (tick +ℤ pos 1)
+    ≡ (events_before d tick ++ radio_events d tick) ++ (map (arrival_event Du) (landing_at (answers_of d) tick) ++ map Cell (cells_at Du d.config (traffic_of d) tick))
+events_then d tick begun =
+    next_events d tick begun ∙ sym (append_assoc (events_before d tick) (radio_events d tick) (intake_events d tick))
+    ∙ ap (λ (es : List Event). (events_before d tick ++ radio_events d tick) ++ es) (intake_is d tick)
+
+-- ---- over the moment
+
+next_ended : (a b : ℤ) → a ≤ℤ b → (a +ℤ pos 1) ≤ℤ (b +ℤ pos 1)
+next_ended a b h = omega (arith, ints)
+
+pub after : (d : Document) (tick : ℤ) (h k : History) → IsReplayable d → IsIntakeTurn d tick h → tick ≤ℤ end_of_time
+    → k.arrivals ≡ onto h.arrivals (landing_at (answers_of d) tick) → k.reported ≡ h.reported ++ cells_at Du d.config (traffic_of d) tick
+    → due_of d.config (planned_for d) k tick ≡ [] → IsIntakeTurn d (tick +ℤ pos 1) k
+after d tick h k doc turn ended came told none =
+    let c = d.config in
+    let t = traffic_of d in
+    let cells = cells_at Du c t tick in
+    let xs = landing_at (answers_of d) tick in
+    let earlier = events_before d tick in
+    let other = radio_own d tick in
+    let then = events_then d tick turn.begun in
+    record {
+      begun = next_most first_clock tick turn.begun;
+      ended = next_ended tick end_of_time ended;
+      arrivals = came ∙ came_here d tick h turn;
+      reported =
+          told ∙ ap (λ (rs : List AirCell). rs ++ cells) turn.reported
+          ∙ reported_at_moment Du c t tick tick (moment_here d tick doc turn.begun turn.ended) ended
+          ∙ ap (λ (u : ℤ). du_reported c (planned_for d) (arrivals_before (answers_of d) (tick +ℤ pos 1)) u) (sym (last_of_next tick));
+      quiet = subst (λ (u : ℤ). due_of c (planned_for d) k u ≡ []) (sym (last_of_next tick)) none;
+      came =
+          came ∙ ap (λ (e : List Arrival). onto e xs) turn.came
+          ∙ sym (ap (arrivals_heard Du []) then ∙ arrivals_closed earlier (radio_events d tick) xs cells other);
+      told =
+          told ∙ ap (λ (rs : List AirCell). rs ++ cells) turn.told
+          ∙ sym (ap (cells_heard Du) then ∙ cells_closed earlier (radio_events d tick) xs cells other (cells_own Du d tick));
+    }
+
+-- ---- the start
+
+none_before : (w t : ℤ) → (first_clock -ℤ w) ≤ℤ t → t <ℤ (((first_clock -ℤ pos 1) -ℤ w) +ℤ pos 1) → ⊥
+none_before w t low high = omega (arith, ints)
+
+none_reported : (d : Delays) (es : List EndpointConfig) (k : Known) → reported Du d es k (first_clock -ℤ pos 1) ≡ []
+unfolding reported
+none_reported d es k =
+    sweep_quiet _ es (first_clock -ℤ wait_of Du d) (((first_clock -ℤ pos 1) -ℤ wait_of Du d) +ℤ pos 1) (λ t low high. absurd (none_before (wait_of Du d) t low high))
+
+events_none : (d : Document) → events_before d first_clock ≡ []
+events_none d = no_ticks (events_at d.config (traffic_of d)) first_clock first_clock (same_most first_clock) (λ u low high. absurd (omega (arith, ints)))
+
+first_early : first_clock ≤ℤ (end_of_time +ℤ pos 1)
+first_early = omega (arith, ints)
+
+pub start : (d : Document) (u : Intake) → StandsFor d.config (planned_for d) u nothing_yet → IsIntakeTurn d first_clock nothing_yet
+start d u stands =
+    let c = d.config in
+    record {
+      begun = same_most first_clock;
+      ended = first_early;
+      arrivals = sym (none_yet (answers_of d) first_clock (same_most first_clock));
+      reported = sym (none_reported c.delays c.endpoints (du_known c (planned_for d) (arrivals_before (answers_of d) first_clock)));
+      quiet = stands.kept.past;
+      came = sym (ap (arrivals_heard Du []) (events_none d) ∙ arrivals-none Du []);
+      told = sym (ap (cells_heard Du) (events_none d) ∙ cells-none Du);
+    }

@@ -1,0 +1,4 @@
+pub mod Answers
+pub mod Answering
+pub mod Landing
+pub mod Turns

@@ -1,0 +1,10 @@
+pub mod OrderLemmas
+pub mod MeasureLemmas
+pub mod NextLemmas
+pub mod StepLemmas
+pub mod TurnLemmas
+pub mod StopLemmas
+pub mod LandLemmas
+pub mod SendLemmas
+pub mod DownLemmas
+pub mod MomentLemmas

@@ -1,0 +1,85 @@
+-- One moment of the radio unit, and the time before it.
+use Rattle.std.proofs.Common.{◌≡◌, ℤ, pos, ◌-ℤ◌, ◌≤ℤ◌, ◌<ℤ◌, List, ◌++◌, refl, sym, ap, ap₂, ◌∙◌, arith}
+use Rattle.std.specs.Prelude.{map}
+use Rattle.std.proofs.lemmas.Int.{ints}
+use Rattle.air_source.specs.declared.events.AirCell.{AirCell}
+use Rattle.air_source.specs.declared.events.Event.{Event}
+use Rattle.air_source.specs.declared.events.Event.TheVariants.{Cell}
+use Rattle.air_source.specs.declared.events.Side.TheVariants.{Ru as AtRu}
+use Rattle.document_traffic.specs.Landing.{landings_of, traffic_of}
+use Rattle.document_traffic.specs.Laws.{IsReplayable}
+use Rattle.fh_document.specs.declared.document.Document.{Document}
+use Rattle.replay_events.proofs.AloneLemmas.{told_each}
+use Rattle.replay_events.proofs.TickLemmas.{at_most}
+use Rattle.replay_events.specs.Events.{arrival_event, arrivals_told}
+use Rattle.replay_events.specs.Moments.{end_of_time, landing_at}
+use Rattle.replay_events.specs.Passing.{IsNextMoment, IsUnitMoment}
+use Rattle.ru_buffers.proofs.QuietLemmas.{left_less}
+use Rattle.ru_buffers.specs.Calls.{HasGivenPast, IsQuietTo, StandsFor}
+use Rattle.ru_buffers.specs.Reporting.{due_of}
+use Rattle.ru_buffers.specs.declared.unit.Ru.{Ru}
+use Rattle.unit_model.specs.Lists.{onto}
+use Rattle.unit_model.specs.Meetings.{Arrival}
+use Rattle.unit_model.specs.Standing.{History, at_clock, heard}
+use Rattle.radio_moments.specs.Downlink.{IsCalmTo, WaitsDown}
+use Rattle.radio_moments.specs.Landing.{landed}
+use Rattle.radio_moments.specs.Turns.{AtRadioTurn, HasRadioLanded, IsRadioTurn, radio_events}
+use Rattle.radio_moments.specs.declared.downlink.Downlink.{Downlink}
+use Rattle.radio_moments.proofs.DownLemmas.{calm_until}
+use Rattle.radio_moments.proofs.TurnLemmas.{due_here, has_landed, quiet_less, skip, unit_moment}
+
+-- ---- before the next moment
+
+last_before : (a b : ℤ) → a <ℤ b → a ≤ℤ (b -ℤ pos 1)
+last_before a b h = omega (arith, ints)
+
+-- before a tick nothing is due
+pub quiet_before : (d : Document) (now to : ℤ) (u : Ru) → (a : AtRadioTurn d now u) → to <ℤ now → IsQuietTo d.config a.history to
+quiet_before d now to u a early = quiet_less d.config u a.history to (now -ℤ pos 1) a.stands (last_before to now early) a.turn.quiet
+
+-- where nothing is due and nothing comes before a tick, it is the radio unit's next moment
+pub is_unit_moment : (d : Document) (now tick : ℤ) (u : Ru) (w : Downlink) → IsReplayable d → (a : AtRadioTurn d now u) → WaitsDown d now w → now ≤ℤ tick
+    → IsQuietTo d.config a.history (tick -ℤ pos 1) → IsCalmTo w (tick -ℤ pos 1) → IsUnitMoment AtRu d.config (traffic_of d) now tick
+is_unit_moment d now tick u w doc a waits order quiet calm = unit_moment d now tick a.history doc a.turn (calm_until d now tick w waits order calm) quiet.cells
+
+-- and where it is both units', it is at the start of the tick
+pub turn_at : (d : Document) (now tick : ℤ) (u : Ru) → IsReplayable d → (a : AtRadioTurn d now u) → IsNextMoment d.config (traffic_of d) now tick
+    → IsQuietTo d.config a.history (tick -ℤ pos 1) → AtRadioTurn d tick u
+turn_at d now tick u doc a next quiet = record {
+  history = a.history;
+  stands = a.stands;
+  turn = skip d now tick a.history doc a.turn next quiet;
+  clock = at_most u.clock.0 now tick a.clock next.order;
+}
+
+-- ---- the moment itself
+
+last_order : (clock tick : ℤ) → clock ≤ℤ tick → (clock -ℤ pos 1) ≤ℤ (tick -ℤ pos 1)
+last_order clock tick h = omega (arith, ints)
+
+pub is_ready : (d : Document) (tick : ℤ) (u : Ru) → AtRadioTurn d tick u → HasGivenPast u
+is_ready d tick u a =
+    left_less u.memory.cells u.cursor (u.clock.0 -ℤ pos 1) (tick -ℤ pos 1) (last_order u.clock.0 tick a.clock)
+    (a.stands.kept.left (tick -ℤ pos 1) ∙ a.turn.quiet.messages)
+
+-- the history once the cells of the tick are reported
+abbrev pub reported_then : Document → ℤ → History → History
+reported_then d tick h = at_clock (heard h (due_of d.config h tick)) tick
+
+pub heard_then : (d : Document) (tick : ℤ) (h : History) (xs : List Arrival) → IsReplayable d → IsRadioTurn d tick h → tick ≤ℤ end_of_time → xs ≡ landing_at (landings_of d) tick
+    → map Cell (due_of d.config h tick) ++ map (arrival_event AtRu) xs ≡ radio_events d tick
+heard_then d tick h xs doc turn ended lands =
+    ap₂ (λ (cs : List AirCell) (es : List Event). map Cell cs ++ es) (due_here d tick h doc turn ended) (sym (told_each AtRu xs) ∙ ap (arrivals_told AtRu) lands)
+
+pub landed_then : (d : Document) (tick : ℤ) (u v : Ru) (xs : List Arrival) → IsReplayable d → (a : AtRadioTurn d tick u) → tick ≤ℤ end_of_time → xs ≡ landing_at (landings_of d) tick
+    → StandsFor d.config v (landed (reported_then d tick a.history) xs) → HasRadioLanded d tick v
+landed_then d tick u v xs doc a ended lands stands =
+    let h = a.history in
+    let k = landed (reported_then d tick h) xs in
+    record {
+      history = k;
+      stands = stands;
+      landed = has_landed d tick h k doc a.turn ended refl
+          (ap (λ (ys : List Arrival). onto h.arrivals ys) lands)
+          (ap (λ (cs : List AirCell). h.reported ++ cs) (due_here d tick h doc a.turn ended)) refl;
+    }

@@ -1,0 +1,239 @@
+-- The radio unit from one tick to the next moment, and over it.
+use Rattle.std.proofs.Common.{◌≡◌, ℤ, pos, ◌+ℤ◌, ◌-ℤ◌, ◌≤ℤ◌, ◌<ℤ◌, List, [], ◌++◌, refl, sym, ap, ap₂, ◌∙◌, subst, arith, append-nil}
+use Rattle.std.specs.Prelude.{map}
+use Rattle.std.proofs.lemmas.Int.{ints}
+use Rattle.air_source.specs.declared.events.AirCell.{AirCell}
+use Rattle.air_source.specs.declared.events.Event.TheVariants.{Cell}
+use Rattle.air_source.specs.declared.events.Side.{Side}
+use Rattle.air_source.specs.declared.events.Side.TheVariants.{Ru as AtRu, Du as AtDu}
+use Rattle.document_traffic.proofs.LandingLemmas.{are_replayed}
+use Rattle.document_traffic.specs.Landing.{landings_of, traffic_of}
+use Rattle.document_traffic.specs.Laws.{IsReplayable}
+use Rattle.fh_document.specs.declared.document.Document.{Document}
+use Rattle.replay_events.proofs.AloneLemmas.{idle_without_plan}
+use Rattle.replay_events.proofs.CameLemmas.{arrivals_go_on, calm_adds_nothing, none_yet}
+use Rattle.replay_events.proofs.EventLemmas.{events_wait}
+use Rattle.replay_events.proofs.HeardLemmas.{AreOf, arrivals-append, arrivals-cells, arrivals-none, arrivals-own, cells-append, cells-arrivals, cells-none, cells-own}
+use Rattle.replay_events.proofs.MomentLemmas.{due_at_moment, reported_at_moment, reported_before_moment}
+use Rattle.replay_events.proofs.TickLemmas.{at_most, last_is_earlier, last_reached, no_ticks, same_most}
+use Rattle.replay_events.specs.Alone.{IsDuIdle}
+use Rattle.replay_events.specs.Events.{arrivals_told, cells_at, events_at}
+use Rattle.replay_events.specs.Heard.{arrivals_heard, cells_heard}
+use Rattle.replay_events.specs.Moments.{arrivals_before, end_of_time, landing_at}
+use Rattle.replay_events.specs.Passing.{IsCalm, IsNextMoment, IsUnitMoment, due_from}
+use Rattle.replay_events.specs.Traffic.{Traffic}
+use Rattle.ru_buffers.proofs.QuietLemmas.{left_less, sweep_less}
+use Rattle.ru_buffers.specs.Calls.{IsQuietTo, StandsFor}
+use Rattle.ru_buffers.specs.Reporting.{due_of}
+use Rattle.ru_buffers.specs.Units.{left_up_to}
+use Rattle.ru_buffers.specs.declared.unit.Ru.{Ru}
+use Rattle.ru_jobs.specs.declared.cursor.JobCursor.{JobCursor}
+use Rattle.unit_cells.specs.Cells.{CellsValue}
+use Rattle.unit_model.proofs.SweepLaws.{sweep_quiet}
+use Rattle.unit_model.specs.Lists.{onto}
+use Rattle.unit_model.specs.Meetings.{Arrival}
+use Rattle.unit_model.specs.Radiated.{Known, first_clock, reported, wait_of}
+use Rattle.unit_model.specs.Reports.{ru_known}
+use Rattle.unit_model.specs.Standing.{History, due, nothing_yet}
+use Rattle.uplink_turns.proofs.GivenLemmas.{owes_none}
+use Rattle.uplink_turns.proofs.JobLemmas.{no_jobs_before}
+use Rattle.uplink_turns.specs.Given.{HasSeen}
+use Rattle.uplink_turns.specs.Turns.{jobs_until}
+use Rattle.window_config.specs.declared.config.Config.{Config}
+use Rattle.window_config.specs.declared.delays.Delays.{Delays}
+use Rattle.window_config.specs.declared.endpoints.EndpointConfig.{EndpointConfig}
+use Rattle.radio_moments.specs.Turns.{AtRadioTurn, IsRadioLanded, IsRadioTurn, events_before}
+use Rattle.radio_moments.proofs.StepLemmas.{cells_own}
+
+-- ---- what is quiet up to a time is quiet up to each earlier one
+
+waited_less : (a b w : ℤ) → a ≤ℤ b → ((a -ℤ w) +ℤ pos 1) ≤ℤ ((b -ℤ w) +ℤ pos 1)
+waited_less a b w h = omega (arith, ints)
+
+due_less : (d : Delays) (es : List EndpointConfig) (k : Known) (heard : List AirCell) (a b : ℤ) → a ≤ℤ b → due AtRu d es k heard b ≡ [] → due AtRu d es k heard a ≡ []
+unfolding due
+due_less d es k heard a b order none =
+    sweep_less _ es (first_clock -ℤ wait_of AtRu d) ((a -ℤ wait_of AtRu d) +ℤ pos 1) ((b -ℤ wait_of AtRu d) +ℤ pos 1) (waited_less a b (wait_of AtRu d) order) none
+
+pub quiet_less : (c : Config) (u : Ru) (h : History) (a b : ℤ) → StandsFor c u h → a ≤ℤ b → IsQuietTo c h b → IsQuietTo c h a
+quiet_less c u h a b stands order quiet = record {
+  cells = due_less c.delays c.endpoints (ru_known c h.arrivals) h.reported a b order quiet.cells;
+  messages = sym (stands.kept.left a) ∙ left_less u.memory.cells u.cursor a b order (stands.kept.left b ∙ quiet.messages);
+}
+
+-- ---- the next moment
+
+pub due_same : (d : Document) (now : ℤ) (h : History) → IsRadioTurn d now h → (to : ℤ) → due_from AtRu d.config (traffic_of d).planned (landings_of d) now to ≡ due_of d.config h to
+due_same d now h turn to =
+    let c = d.config in
+    sym (ap₂ (λ (xs : List Arrival) (rs : List AirCell). due AtRu c.delays c.endpoints (ru_known c xs) rs to) turn.arrivals turn.reported)
+
+-- where no frame lands before a tick and no cell is due, it is the radio unit's next moment
+pub unit_moment : (d : Document) (now tick : ℤ) (h : History) → IsReplayable d → IsRadioTurn d now h → IsCalm (landings_of d) now tick → due_of d.config h (tick -ℤ pos 1) ≡ []
+    → IsUnitMoment AtRu d.config (traffic_of d) now tick
+unit_moment d now tick h doc turn calm quiet =
+    record { landings_are = are_replayed d AtRu doc.document doc.valid; calm = calm; quiet = due_same d now h turn (tick -ℤ pos 1) ∙ quiet }
+
+-- and no message starts between
+none_skipped : (d : Document) (now tick : ℤ) (h : History) → IsReplayable d → IsRadioTurn d now h → IsNextMoment d.config (traffic_of d) now tick → IsQuietTo d.config h (tick -ℤ pos 1)
+    → jobs_until d.config (landings_of d) (tick -ℤ pos 1) ≡ jobs_until d.config (landings_of d) (now -ℤ pos 1)
+none_skipped d now tick h doc turn next quiet =
+    let ls = landings_of d in
+    let seen : HasSeen d.config ls tick h = record {
+      config = next.config;
+      landings_are = are_replayed d AtRu doc.document doc.valid;
+      begun = at_most first_clock now tick turn.begun next.order;
+      ended = next.ended;
+      arrivals = turn.arrivals ∙ sym (calm_adds_nothing ls now tick turn.begun next.order (next.units AtRu).calm);
+    } in
+    owes_none d.config ls now (tick -ℤ pos 1) tick h seen turn.begun (last_reached now tick next.order) (last_is_earlier tick) turn.given quiet.messages
+
+-- what stands at the start of a tick stands at the start of the next moment of both units
+pub skip : (d : Document) (now tick : ℤ) (h : History) → IsReplayable d → IsRadioTurn d now h → IsNextMoment d.config (traffic_of d) now tick → IsQuietTo d.config h (tick -ℤ pos 1)
+    → IsRadioTurn d tick h
+skip d now tick h doc turn next quiet =
+    let c = d.config in
+    let ls = landings_of d in
+    let calm = (next.units AtRu).calm in
+    record {
+      begun = at_most first_clock now tick turn.begun next.order;
+      ended = next.ended;
+      arrivals = turn.arrivals ∙ sym (calm_adds_nothing ls now tick turn.begun next.order calm);
+      reported = turn.reported ∙ reported_before_moment AtRu c (traffic_of d) now tick next;
+      quiet = quiet;
+      given = turn.given ∙ sym (none_skipped d now tick h doc turn next quiet);
+      came = turn.came ∙ ap (arrivals_heard AtRu []) (sym (events_wait c (traffic_of d) now tick next));
+      told = turn.told ∙ ap (cells_heard AtRu) (sym (events_wait c (traffic_of d) now tick next));
+    }
+
+-- ---- the moment itself
+
+-- the radio unit's part of what lands, which is all that its cells rest on
+abbrev radio_alone : Document → Traffic
+radio_alone d = record { at_ru = landings_of d; planned = []; at_du = [] }
+
+alone_idle : (d : Document) → IsDuIdle d.config (radio_alone d)
+alone_idle d = idle_without_plan d.config (radio_alone d) refl refl
+
+alone_unit : (d : Document) (tick : ℤ) (h : History) → IsReplayable d → IsRadioTurn d tick h → (side : Side) → IsUnitMoment side d.config (radio_alone d) tick tick
+alone_unit d tick h doc turn AtRu = record {
+  landings_are = are_replayed d AtRu doc.document doc.valid;
+  calm = λ t low high. absurd (omega (arith, ints, low, high));
+  quiet = due_same d tick h turn (tick -ℤ pos 1) ∙ turn.quiet.cells;
+}
+alone_unit d tick h doc turn AtDu =
+    let idle = alone_idle d in
+    record { landings_are = idle.landings_are; calm = λ t low high. idle.calm t; quiet = idle.quiet (arrivals_before [] tick) _ (tick -ℤ pos 1) }
+
+here : (d : Document) (tick : ℤ) (h : History) → IsReplayable d → IsRadioTurn d tick h → IsNextMoment d.config (radio_alone d) tick tick
+here d tick h doc turn = record {
+  config = doc.document.config;
+  begun = turn.begun;
+  order = same_most tick;
+  ended = turn.ended;
+  units = λ side. alone_unit d tick h doc turn side;
+}
+
+-- the cells that are due then are those of the tick
+pub due_here : (d : Document) (tick : ℤ) (h : History) → IsReplayable d → IsRadioTurn d tick h → tick ≤ℤ end_of_time → due_of d.config h tick ≡ cells_at AtRu d.config (traffic_of d) tick
+due_here d tick h doc turn ended = sym (due_same d tick h turn tick) ∙ due_at_moment AtRu d.config (radio_alone d) tick tick (here d tick h doc turn) ended
+
+-- ---- what was heard
+
+arrivals_both : (earlier : List Arrival) (cs : List AirCell) (xs : List Arrival) → arrivals_heard AtRu earlier (map Cell cs ++ arrivals_told AtRu xs) ≡ onto earlier xs
+arrivals_both earlier cs xs =
+    arrivals-append AtRu earlier (map Cell cs) (arrivals_told AtRu xs)
+    ∙ ap (λ (e : List Arrival). arrivals_heard AtRu e (arrivals_told AtRu xs)) (arrivals-cells AtRu earlier cs)
+    ∙ arrivals-own AtRu earlier xs
+
+cells_both : (cs : List AirCell) (xs : List Arrival) → AreOf AtRu cs → cells_heard AtRu (map Cell cs ++ arrivals_told AtRu xs) ≡ cs
+cells_both cs xs own =
+    cells-append AtRu (map Cell cs) (arrivals_told AtRu xs)
+    ∙ ap₂ (λ (xs ys : List AirCell). xs ++ ys) (cells-own AtRu cs own) (cells-arrivals AtRu AtRu xs)
+    ∙ append-nil cs
+
+-- up to a tick, and then of it
+pub arrivals_then : (d : Document) (tick : ℤ) (h : History) (cs : List AirCell) (xs : List Arrival) → IsRadioTurn d tick h
+    → onto h.arrivals xs ≡ arrivals_heard AtRu [] (events_before d tick ++ (map Cell cs ++ arrivals_told AtRu xs))
+arrivals_then d tick h cs xs turn =
+    ap (λ (e : List Arrival). onto e xs) turn.came
+    ∙ sym (arrivals-append AtRu [] (events_before d tick) (map Cell cs ++ arrivals_told AtRu xs)
+    ∙ arrivals_both (arrivals_heard AtRu [] (events_before d tick)) cs xs)
+
+pub cells_then : (d : Document) (tick : ℤ) (h : History) (cs : List AirCell) (xs : List Arrival) → AreOf AtRu cs → IsRadioTurn d tick h
+    → h.reported ++ cs ≡ cells_heard AtRu (events_before d tick ++ (map Cell cs ++ arrivals_told AtRu xs))
+cells_then d tick h cs xs own turn =
+    ap₂ (λ (rs ts : List AirCell). rs ++ ts) turn.told (sym (cells_both cs xs own))
+    ∙ sym (cells-append AtRu (events_before d tick) (map Cell cs ++ arrivals_told AtRu xs))
+
+-- ---- over the moment
+
+-- once the cells of the tick were reported, and its frames have landed
+pub has_landed : (d : Document) (tick : ℤ) (h k : History) → IsReplayable d → IsRadioTurn d tick h → tick ≤ℤ end_of_time → k.clock ≡ tick
+    → k.arrivals ≡ onto h.arrivals (landing_at (landings_of d) tick) → k.reported ≡ h.reported ++ cells_at AtRu d.config (traffic_of d) tick → k.given ≡ h.given → IsRadioLanded d tick k
+has_landed d tick h k doc turn ended clock came told given =
+    let c = d.config in
+    let ls = landings_of d in
+    let cells = cells_at AtRu c (traffic_of d) tick in
+    record {
+      begun = turn.begun;
+      ended = ended;
+      clock = clock;
+      arrivals = came ∙ ap (λ (e : List Arrival). onto e (landing_at ls tick)) turn.arrivals ∙ sym (arrivals_go_on ls tick turn.begun);
+      reported =
+          told ∙ ap (λ (rs : List AirCell). rs ++ cells) turn.reported ∙ reported_at_moment AtRu c (radio_alone d) tick tick (here d tick h doc turn) ended;
+      given = given ∙ turn.given;
+      came = came ∙ arrivals_then d tick h cells (landing_at ls tick) turn;
+      told = told ∙ cells_then d tick h cells (landing_at ls tick) (cells_own AtRu d tick) turn;
+    }
+
+-- ---- the start
+
+pub events_none : (d : Document) → events_before d first_clock ≡ []
+events_none d = no_ticks (events_at d.config (traffic_of d)) first_clock first_clock (same_most first_clock) (λ t low high. absurd (omega (arith, ints)))
+
+-- before the first tick no message is left
+none_left : (v : CellsValue) (cursor : JobCursor) → left_up_to v cursor (first_clock -ℤ pos 1) ≡ []
+unfolding left_up_to
+none_left v cursor = sweep_quiet _ _ first_clock ((first_clock -ℤ pos 1) +ℤ pos 1) (λ t low high. absurd (omega (arith, ints)))
+
+none_waits : (w t : ℤ) → (first_clock -ℤ w) ≤ℤ t → t <ℤ (((first_clock -ℤ pos 1) -ℤ w) +ℤ pos 1) → ⊥
+none_waits w t low high = omega (arith, ints)
+
+none_reported : (d : Delays) (es : List EndpointConfig) (k : Known) → reported AtRu d es k (first_clock -ℤ pos 1) ≡ []
+unfolding reported
+none_reported d es k =
+    sweep_quiet _ es (first_clock -ℤ wait_of AtRu d) (((first_clock -ℤ pos 1) -ℤ wait_of AtRu d) +ℤ pos 1) (λ t low high. absurd (none_waits (wait_of AtRu d) t low high))
+
+before_it : (t : ℤ) → (t -ℤ pos 1) <ℤ t
+before_it t = omega (arith, ints)
+
+first_early : first_clock ≤ℤ (end_of_time +ℤ pos 1)
+first_early = omega (arith, ints)
+
+start : (d : Document) (u : Ru) → StandsFor d.config u nothing_yet → IsRadioTurn d first_clock nothing_yet
+start d u stands =
+    let c = d.config in
+    let ls = landings_of d in
+    record {
+      begun = same_most first_clock;
+      ended = first_early;
+      arrivals = sym (none_yet ls first_clock (same_most first_clock));
+      reported = sym (none_reported c.delays c.endpoints (ru_known c (arrivals_before ls first_clock)));
+      quiet = record {
+        cells = due_less c.delays c.endpoints (ru_known c []) [] (first_clock -ℤ pos 1) first_clock (last_is_earlier first_clock) stands.kept.past;
+        messages = sym (stands.kept.left (first_clock -ℤ pos 1)) ∙ none_left u.memory.cells u.cursor;
+      };
+      given = sym (no_jobs_before c ls (first_clock -ℤ pos 1) (before_it first_clock));
+      came = sym (ap (arrivals_heard AtRu []) (events_none d) ∙ arrivals-none AtRu []);
+      told = sym (ap (cells_heard AtRu) (events_none d) ∙ cells-none AtRu);
+    }
+
+-- a unit that has done nothing yet is at the start of the first tick
+pub first_turn : (d : Document) (u : Ru) → StandsFor d.config u nothing_yet → AtRadioTurn d first_clock u
+first_turn d u stands = record {
+  history = nothing_yet;
+  stands = stands;
+  turn = start d u stands;
+  clock = subst (λ (t : ℤ). t ≤ℤ first_clock) (sym stands.kept.clock_is) (same_most first_clock);
+}

@@ -1,0 +1,17 @@
+use Rattle.std.proofs.Common.{◌≤ℤ◌}
+use Rattle.document_traffic.specs.Sending.{none_sent, sent_for}
+use Rattle.plan_model.specs.Sent.{SentFrame}
+use Rattle.unit_model.specs.Radiated.{first_clock}
+use Rattle.radio_moments.proofs.OrderLemmas.{all_of, sent_time}
+use Rattle.radio_moments.proofs.downlink.Downlink.make.Goals as goal
+
+pub returns : goal.returns
+returns c =
+    let d = c.args.doc.now in
+    record {
+      counts = none_sent;
+      left = sent_for d;
+      plan = c.requires.plan;
+      later = all_of (λ (f : SentFrame). first_clock ≤ℤ f.at) (sent_for d) (λ f m. (sent_time d.config d.plan c.args.plan f (sent_for d) c.requires.plan m).begun);
+      way = c.in_ok-way.ensures;
+    }

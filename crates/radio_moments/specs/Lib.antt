@@ -1,0 +1,4 @@
+pub mod Stops
+pub mod Downlink
+pub mod Landing
+pub mod Turns
