@@ -2,6 +2,8 @@
 //! where the intake's own `clock` and `due` say that it may be done.
 #![tactic(auto)]
 
+mod plans;
 mod steps;
 
-pub use steps::{close, made, made_of, step};
+pub use plans::{config, endpoint, line, one, two};
+pub use steps::{close, close_before, made, made_of, step};

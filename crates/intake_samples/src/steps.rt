@@ -91,3 +91,15 @@ pub fn close<A: Air>(unit: &mut Intake, to: Ticks, air: &mut A) -> Result<(), Ai
         Err(fault) => Err(fault),
     }
 }
+
+/// Reports the cells whose moments come before a time. No plan has a moment before time 0.
+pub fn close_before<A: Air>(unit: &mut Intake, at: Ticks, air: &mut A) -> Result<(), AirFault>
+    requires unit { StandsForSome unit.old }
+    requires time { IsTime at.0 }
+    ensures { StandsForSome unit.new }
+{
+    match unit.due() {
+        Some(due) if 0 <= due.0 && due.0 < at.0 => close(unit, Ticks(at.0 - 1), air),
+        _ => Ok(()),
+    }
+}

@@ -1,5 +1,5 @@
 use Rattle.du_intake.specs.Closing.{StandsForSome}
-use Rattle.intake_tests.proofs.plans.an_air_stops_in_each_cell.Given as goal
+use Rattle.intake_tests.proofs.closes.an_air_stops_in_each_cell.Given as goal
 
 abbrev pub invariant-loop-k-2 : goal.invariant-loop-k-2
 invariant-loop-k-2 g l = StandsForSome l.unit
