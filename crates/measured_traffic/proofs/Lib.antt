@@ -1,0 +1,9 @@
+pub mod ListLemmas
+pub mod FrameLemmas
+pub mod RestLemmas
+pub mod SentLemmas
+pub mod QuietLemmas
+pub mod LeavingLemmas
+pub mod FlightLemmas
+pub mod ReplayedLemmas
+pub mod MessageLemmas

@@ -1,0 +1,72 @@
+-- All that lands with the frames of delay measurement lands while it is replayed.
+use Rattle.std.proofs.Common.{ℤ, pos, ◌+ℤ◌, ◌≤ℤ◌, inl, inr, ◌⊎◌, List, [], ◌∷◌, refl, sym, subst, arith}
+use Rattle.std.specs.List.{flat_map}
+use Rattle.std.specs.Ordering.{int_eq}
+use Rattle.std.proofs.lemmas.Int.{ints}
+use Rattle.air_source.specs.declared.events.Side.{Side}
+use Rattle.delay_laws.specs.Ticks.{Flight}
+use Rattle.document_traffic.proofs.CopyLemmas.{of_copies}
+use Rattle.document_traffic.proofs.TimeLemmas.{IsBy, longest, replayed_by}
+use Rattle.document_traffic.specs.Landing.{all_delayed, copies_among, copies_in, injected_to, leaving_to}
+use Rattle.document_traffic.specs.Sending.{Delayed}
+use Rattle.fh_document.specs.Proper.{IsDocumentIn}
+use Rattle.fh_document.specs.declared.document.Document.{Document}
+use Rattle.fragment_laws.specs.Apart.{IsIn}
+use Rattle.plan_model.specs.Valid.{IsValid}
+use Rattle.schedule_laws.proofs.ListLemmas.{in_either, of_filter, of_map, of_tick}
+use Rattle.unit_model.specs.Meetings.{Arrival}
+use Rattle.unit_model.specs.Radiated.{first_clock}
+use Rattle.unit_model.specs.Times.{end_of_time}
+use Rattle.window_config.specs.Windows.{ticks_of_ns}
+use Rattle.measured_traffic.proofs.FlightLemmas.{flown_after, flown_before}
+use Rattle.measured_traffic.proofs.LeavingLemmas.{copy_by, injected_by, landing_in_time, last_leaving, leaves_by, leaving_late}
+use Rattle.measured_traffic.specs.Laws.{LandingsAreReplayed}
+use Rattle.measured_traffic.specs.Measured.{all_sent, copies_flown, delayed_then, exchanges, flight_copy, flights_then, landings_with_measurement, sent_then, tick_count}
+
+of_flown : (fs : List Flight) (a : Arrival) → IsIn a (flat_map copies_flown fs) → (f : Flight) × IsIn f fs × IsIn a (copies_flown f)
+of_flown [] a m = absurd m
+of_flown (f ∷ fs) a m = elim (in_either a (copies_flown f) (flat_map copies_flown fs) m) [
+  | inl l ↦ (f, inl refl, l)
+  | inr r ↦ (let w = of_flown fs a r in (w.0, inr w.1, w.2))
+]
+
+-- a copy of one of these frames
+abbrev IsCopy : List Delayed → List Flight → Arrival → Type 0
+IsCopy xs fs a = ((x : Delayed) × IsIn x xs × IsIn a (copies_in x)) ⊎ ((f : Flight) × IsIn f fs × IsIn a (copies_flown f))
+
+of_sent : (xs : List Delayed) (fs : List Flight) (a : Arrival) → IsIn a (all_sent xs fs) → IsCopy xs fs a
+unfolding all_sent
+of_sent xs fs a m =
+    let w = of_tick a first_clock tick_count (sent_then xs fs) m in
+    let t = w.0 in
+    elim (in_either a (copies_among (delayed_then xs t)) (flat_map copies_flown (flights_then fs t)) w.1) [
+      | inl l ↦ (let x = of_copies (delayed_then xs t) a l in inl (x.0, (of_filter (λ (y : Delayed). int_eq y.frame.at t) x.0 xs x.1).0, x.2))
+      | inr r ↦ (let f = of_flown (flights_then fs t) a r in inr (f.0, (of_filter (λ (g : Flight). int_eq g.at t) f.0 fs f.1).0, f.2))
+    ]
+
+by_the_end : (last t : ℤ) → last ≤ℤ end_of_time → IsBy last t → IsBy end_of_time t
+by_the_end last t order by = record { low = by.low; high = (let h = by.high in omega (arith, ints, order, h)) }
+
+seconds_in_time : ticks_of_ns (pos 1009000000000) ≤ℤ end_of_time
+seconds_in_time = omega (arith, ints)
+
+end_is_end : end_of_time ≤ℤ end_of_time
+end_is_end = omega (arith, ints)
+
+module _ (scope : _) (d : Document) (side : Side) (is : IsDocumentIn scope d) (valid : IsValid d.config d.plan) where
+  copy_in_time : (a : Arrival) → IsCopy (all_delayed side d) ((exchanges d).sent side) a → IsBy end_of_time a.at
+  copy_in_time a (inl x) =
+      by_the_end (last_leaving side +ℤ longest) a.at (landing_in_time side) (copy_by scope d is side (leaving_to side d) (last_leaving side) x.0 a (leaves_by scope d side is valid) x.1 x.2)
+  copy_in_time a (inr f) =
+      let w = of_map (flight_copy f.0) a f.0.delays f.2 in
+      subst (λ (b : Arrival). IsBy end_of_time b.at) (sym w.2)
+      (by_the_end (ticks_of_ns (pos 1009000000000)) (f.0.at +ℤ w.0) seconds_in_time (record { low = flown_after scope d is side f.0 w.0 f.1 w.1; high = flown_before scope d is side f.0 w.0 f.1 w.1 }))
+
+  each_in_time : (a : Arrival) → IsIn a (landings_with_measurement side d) → IsBy end_of_time a.at
+  each_in_time a m = elim (in_either a (all_sent (all_delayed side d) ((exchanges d).sent side)) (injected_to side d) m) [
+    | inl sent ↦ copy_in_time a (of_sent (all_delayed side d) ((exchanges d).sent side) a sent)
+    | inr injected ↦ by_the_end (last_leaving side +ℤ longest) a.at (landing_in_time side) (injected_by scope d is side (last_leaving side) a (leaving_late side) injected)
+  ]
+
+pub landings_are_replayed : LandingsAreReplayed
+landings_are_replayed scope d side is valid = replayed_by end_of_time (landings_with_measurement side d) end_is_end (each_in_time scope d side is valid)
