@@ -58,6 +58,40 @@ fn frames_and_messages_are_reported(rt: HostRuntime) -> Result<(), Fail> {
 }
 
 #[test]
+fn both_directions_are_reported(rt: HostRuntime) -> Result<(), Fail> {
+    let alloc = rt.alloc();
+    let rows: [[&[u8]; 2]; 4] = [
+        // a planned uplink PRB
+        [
+            b"fronthaul 1\nendpoint 0000 ordinary 30 106 static none\nplan ul 0000 1 0 0 0 1 0 1 fff 5 0\n",
+            b"ul 15360000000 0000 1 0 0 0 0 5 fff -385,852 -368,903 -351,954 -334,-995 -317,-944 -300,-893 -283,-842 -266,-791 -249,-740 -232,-689 -215,-638 -198,-587\ncount ru frames 1\ncount ru messages 1\ncount ru c_accepted 1\ncount du frames 1\ncount du messages 1\ncount du f_whole 1\ncount du u_taken 1\ncount du cells 1\nend\n",
+        ],
+        // its command lost
+        [
+            b"fronthaul 1\nendpoint 0000 ordinary 30 106 static none\nplan ul 0000 1 0 0 0 1 0 1 fff 5 0\ndeliver dl c 1\n",
+            b"ul 15360000000 0000 1 0 0 0 0 5 fff missing\ncount du missing 1\nend\n",
+        ],
+        // an injected uplink command, of no plan
+        [
+            b"fronthaul 1\nendpoint 0000 ordinary 30 106 static none\ninject dl 9600000 1002001400000080100100000101000000100001fff10000\n",
+            b"count ru frames 1\ncount ru messages 1\ncount ru c_accepted 1\ncount du frames 1\ncount du messages 1\ncount du f_whole 1\ncount du u_taken 1\nend\n",
+        ],
+        // a command that comes to the distributed unit
+        [
+            b"fronthaul 1\nendpoint 0000 ordinary 30 106 static none\ninject ul 9600000 1002001400000080900100000101000000100001fff10000\n",
+            b"count du frames 1\ncount du messages 1\ncount du wrong_way 1\nend\n",
+        ],
+    ];
+    for [document, report] in rows {
+        let ran = run_words(alloc, &[b"replay"], document)?;
+        assert_eq!(rt; ran.text(), report);
+        assert_eq!(rt; ran.line(), b"".as_slice());
+        assert_eq!(rt; ran.status(), Status::Done);
+    }
+    Ok(())
+}
+
+#[test]
 fn commands_are_reported(rt: HostRuntime) -> Result<(), Fail> {
     let alloc = rt.alloc();
     let rows: [[&[u8]; 2]; 4] = [
