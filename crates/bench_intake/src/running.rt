@@ -7,12 +7,11 @@ ghost use Rattle.unit_model.specs.Proper.{IsTime};
 use crate::frames::{TimedFrame, all_to_next_slot, frames_of};
 use crate::plans::lines;
 use crate::tally::Tally;
-use air_source::Air;
 use du_intake::Intake;
 use fh_base::{Source, read_all};
 use fh_document::{Document, parse};
 use fh_time::{Ticks, of_ns};
-use intake_samples::{close, made, step};
+use intake_samples::{close_before, made, step};
 use plan_tests::tested;
 use std::alloc::Global;
 
@@ -41,24 +40,6 @@ fn later(at: i64, slots: u16) -> Option<Ticks>
     }
 }
 
-/// Reports the cells of moments before a time. Whether it could be done.
-fn close_before<A: Air>(unit: &mut Intake, at: Ticks, air: &mut A) -> bool
-    requires unit { StandsForSome unit.old }
-    requires time { IsTime at.0 }
-    ensures { StandsForSome unit.new }
-{
-    match unit.due() {
-        Some(due) => {
-            if due.0 < at.0 && 0 < at.0 {
-                close(unit, Ticks(at.0 - 1), air).is_ok()
-            } else {
-                true
-            }
-        }
-        None => true,
-    }
-}
-
 /// Delivers the frames of a slot, so many slots later. Whether each of them could be.
 fn deliver_slot(unit: &mut Intake, frames: &Vec<TimedFrame>, slots: u16, air: &mut Tally) -> bool
     requires { StandsForSome unit.old }
@@ -68,7 +49,7 @@ fn deliver_slot(unit: &mut Intake, frames: &Vec<TimedFrame>, slots: u16, air: &m
         let Some(at) = later(frames[k].at, slots) else {
             return false;
         };
-        if !close_before(unit, at, air) {
+        if close_before(unit, at, air).is_err() {
             return false;
         }
         if step(unit, at, frames[k].frame.as_slice()).is_none() {
@@ -91,11 +72,8 @@ fn deliver_slots(unit: &mut Intake, frames: &mut Vec<TimedFrame>, slots: u16) ->
     }
     let last = frames.last()?;
     let end = later(last.at.saturating_add(4_000_000), slots)?;
-    if close_before(unit, end, &mut air) {
-        Some(air)
-    } else {
-        None
-    }
+    close_before(unit, end, &mut air).ok()?;
+    Some(air)
 }
 
 /// What an air heard of so many slots with the frames of a document.
