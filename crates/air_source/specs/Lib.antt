@@ -1,3 +1,4 @@
+pub use Rattle.fault_counters
 pub mod Answers
 pub mod Causes
 pub mod Grown

@@ -3,7 +3,7 @@
 #![tactic(auto)]
 
 use fh_base::{ReadAllFault, StdSource, read_all};
-use fh_document::{DocFault, parse};
+use fh_document::{DocFault, read};
 use std::io;
 
 /// The most bytes of a document.
@@ -17,7 +17,7 @@ fn main(rt: HostRuntime) -> io::Result<()> {
         Err(ReadAllFault::TooLong) => return println!(rt; "too long"),
         Err(ReadAllFault::NoMemory) => return println!(rt; "no memory"),
     };
-    match parse(rt.alloc(), bytes.as_slice()) {
+    match read(rt.alloc(), bytes.as_slice()) {
         Ok(document) => {
             let endpoints = document.config.endpoints.as_slice().len();
             let deliveries = document.deliveries.len();

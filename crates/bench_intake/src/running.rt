@@ -1,18 +1,18 @@
 // A run of many slots.
 ghost use Rattle.std.specs.Prelude.{◌≡◌, ◌≤ℤ◌, ◌^◌, pos, true, IfSome};
 ghost use Rattle.window_config.specs.Configs.{IsConfig};
-ghost use Rattle.du_intake.specs.Closing.{StandsForSome};
-ghost use Rattle.unit_model.specs.Proper.{IsTime};
+ghost use Rattle.intake_samples.specs.du_intake.specs.Closing.{StandsForSome};
+ghost use Rattle.intake_samples.specs.unit_model.specs.Proper.{IsTime};
 
 use crate::frames::{TimedFrame, all_to_next_slot, frames_of};
 use crate::plans::lines;
 use crate::tally::Tally;
-use du_intake::Intake;
 use fh_base::{Source, read_all};
-use fh_document::{Document, parse};
+use fh_document::{Document, read};
 use fh_time::{Ticks, of_ns};
+use intake_samples::du_intake::Intake;
+use intake_samples::plan_tests::tested;
 use intake_samples::{close_before, made, step};
-use plan_tests::tested;
 use std::alloc::Global;
 
 /// The most bytes of a document.
@@ -81,7 +81,7 @@ pub fn run<S: Source>(alloc: Global, source: &mut S, amounts: Amounts) -> Option
     let Ok(bytes) = read_all(alloc, source, LIMIT) else {
         return None;
     };
-    let Ok(document) = parse(alloc, bytes.as_slice()) else {
+    let Ok(document) = read(alloc, bytes.as_slice()) else {
         return None;
     };
     run_unit(alloc, &document, amounts)

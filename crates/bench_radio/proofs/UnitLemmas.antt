@@ -2,8 +2,8 @@
 use Rattle.std.specs.Prelude.{◌≡◌, Option, Some, None, IfSome, IfNone}
 use Rattle.std.proofs.Common.{sym, subst}
 use Rattle.window_config.specs.declared.config.Config.{Config}
-use Rattle.unit_model.specs.Standing.{History, handed}
-use Rattle.unit_model.specs.declared.jobs.UplinkJob.{UplinkJob}
+use Rattle.ru_buffers.specs.unit_model.specs.Standing.{History, handed}
+use Rattle.ru_buffers.specs.unit_model.specs.declared.jobs.UplinkJob.{UplinkJob}
 use Rattle.ru_buffers.specs.declared.unit.Ru.{Ru}
 use Rattle.ru_buffers.specs.Calls.{GivesJob, StandsFor, StandsForSome}
 

@@ -1,8 +1,8 @@
 // The calls of a radio unit, from moment to moment.
 ghost use Rattle.std.specs.Prelude.{◌≡◌, ◌≤ℤ◌, ◌-ℤ◌, ◌^◌, pos, true, [], OnSome};
 ghost use Rattle.window_config.specs.declared.config.Config.{Config};
-ghost use Rattle.unit_model.specs.Standing.{History};
-ghost use Rattle.unit_model.specs.Proper.{IsTime};
+ghost use Rattle.ru_buffers.specs.unit_model.specs.Standing.{History};
+ghost use Rattle.ru_buffers.specs.unit_model.specs.Proper.{IsTime};
 ghost use Rattle.ru_buffers.specs.Calls.{HasGivenPast, StandsFor, StandsForSome, given_of};
 
 use air_source::Air;

@@ -3,21 +3,21 @@ use Rattle.std.proofs.Common.{◌≡◌, ℤ, pos, ◌-ℤ◌, ◌≤ℤ◌, ◌
 use Rattle.std.proofs.lemmas.Int.{ints}
 use Rattle.air_source.specs.declared.airs.AirFault.{AirFault}
 use Rattle.air_source.specs.declared.events.Event.{Event}
-use Rattle.unit_model.specs.Standing.{History, at_clock, heard, nothing_yet}
+use Rattle.uplink_path.specs.unit_model.specs.Standing.{History, at_clock, heard, nothing_yet}
 use Rattle.window_config.specs.declared.config.Config.{Config}
-use Rattle.ru_buffers.specs.Calls.{HasGivenPast, StandsFor, StopsAtDue, given_of}
-use Rattle.ru_buffers.specs.Reporting.{due_of}
-use Rattle.ru_buffers.specs.declared.unit.Ru.{Ru}
+use Rattle.uplink_path.specs.ru_buffers.specs.Calls.{HasGivenPast, StandsFor, StopsAtDue, given_of}
+use Rattle.uplink_path.specs.ru_buffers.specs.Reporting.{due_of}
+use Rattle.uplink_path.specs.ru_buffers.specs.declared.unit.Ru.{Ru}
 use Rattle.bench_uplink.specs.Steps.{IsSenderOf, IsUnitOf}
 use Rattle.air_source.specs.Kept.{IsKept}
 use Rattle.air_source.specs.declared.links.LinkFrame.{LinkFrame}
 use Rattle.air_source.specs.declared.places.RePlace.{RePlace}
 use Rattle.air_source.specs.declared.samples.Samples.{Samples}
 use Rattle.bfp_codec.specs.declared.samples.Wide.{Wide}
-use Rattle.unit_model.specs.Lists.{onto}
-use Rattle.unit_model.specs.declared.jobs.UplinkJob.{UplinkJob}
-use Rattle.plan_model.specs.Packs.{Message}
-use Rattle.uplink_model.specs.Messages.{messages_of}
+use Rattle.uplink_path.specs.unit_model.specs.Lists.{onto}
+use Rattle.uplink_path.specs.unit_model.specs.declared.jobs.UplinkJob.{UplinkJob}
+use Rattle.uplink_path.specs.plan_model.specs.Packs.{Message}
+use Rattle.uplink_path.specs.uplink_model.specs.Messages.{messages_of}
 use Rattle.uplink_path.specs.Emitting.{SentAll, given_too}
 use Rattle.uplink_path.specs.declared.uplink.Uplink.{Uplink}
 

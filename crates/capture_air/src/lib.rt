@@ -7,6 +7,7 @@
 
 mod capture_air;
 
+pub use air_source;
 pub use capture_air::CaptureAir;
 
 #[cfg(test)]

@@ -1,3 +1,4 @@
+pub use Rattle.air_source
 pub mod Left
 pub mod Reading
 pub mod Records

@@ -19,6 +19,7 @@ mod starting;
 mod tests;
 mod values;
 
+pub use air_source;
 pub use checking::check;
 pub use heads::record_head;
 pub use iterating::Records;

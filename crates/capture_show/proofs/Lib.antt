@@ -4,3 +4,4 @@ pub mod Telling
 pub mod Whole
 pub mod Ascii
 pub mod ObjectLemmas
+pub mod Rules

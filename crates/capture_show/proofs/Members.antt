@@ -3,8 +3,8 @@ use Rattle.std.proofs.Common.{◌≡◌, ℕ, suc, ◌+◌, ◌<◌, List, [], �
 use Rattle.std.specs.List.{flat_map}
 use Rattle.std.proofs.lemmas.Grind.{flat_map-append}
 use Rattle.std.proofs.lemmas.List.{take-append-drop, take_more}
-use Rattle.fh_base.specs.Told.{WritesFront}
-use Rattle.fh_base.proofs.Progress.{front_first}
+use Rattle.owed_bytes.specs.fh_base.specs.Told.{WritesFront}
+use Rattle.owed_bytes.specs.fh_base.proofs.Progress.{front_first}
 use Rattle.owed_bytes.specs.Owed.{Carried}
 use Rattle.owed_bytes.specs.CarriedLaws.{carried_more}
 use Rattle.owed_bytes.proofs.Carrying.{front_behind}

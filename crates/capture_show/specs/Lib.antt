@@ -1,3 +1,4 @@
+pub use Rattle.capture_records
 pub mod Lines
 pub mod Messages
 pub mod Texts

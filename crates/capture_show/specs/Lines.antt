@@ -2,8 +2,8 @@
 -- a number or a word.
 use Rattle.std.specs.Prelude.{ℕ, ℤ, Bool, true, false, List, codes, decimal, if◌then◌else◌}
 use Rattle.std.specs.Fmt.{signed_decimal}
-use Rattle.air_source.specs.declared.events.Side.{Side}
-use Rattle.air_source.specs.declared.events.Side.TheVariants.{Ru, Du}
+use Rattle.capture_records.specs.air_source.specs.declared.events.Side.{Side}
+use Rattle.capture_records.specs.air_source.specs.declared.events.Side.TheVariants.{Ru, Du}
 use Rattle.cplane_sections.specs.Names.{name_of as command_why}
 use Rattle.ecpri_frames.specs.Refusals.{name_of as frame_why}
 use Rattle.text_lines.specs.Words.{hex4_text, hex3_text, hex2_text}

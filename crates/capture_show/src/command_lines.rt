@@ -11,7 +11,7 @@ use ecpri_fragments::{SeqField, read_seq};
 use uplane_sections::{UHead, read_head};
 
 /// The eAxC id of a payload.
-#[tactic(auto, using(std::proofs::lemmas::Grind::common_steps, bit_fields::proofs::Field::fields))]
+#[tactic(auto, using(std::proofs::lemmas::Grind::common_steps, crate::proofs::Rules::fields))]
 pub fn id_at(payload: &[u8]) -> u16
     requires { 4 ≤ length payload.now }
     ensures { result ≡ id_of payload.now }

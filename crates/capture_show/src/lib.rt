@@ -18,4 +18,5 @@ mod showing;
 mod values;
 mod words;
 
+pub use capture_records;
 pub use showing::{ShowFault, show};

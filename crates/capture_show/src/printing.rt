@@ -1,6 +1,6 @@
 // Lines on their way to a sink, as text or as JSON.
 ghost use Rattle.std.specs.Prelude.{◌≡◌, ◌≤◌, ◌++◌, [], ◌∷◌, length, OnOk, OnErr};
-ghost use Rattle.fh_base.specs.Told.{WritesFront};
+ghost use Rattle.owed_bytes.specs.fh_base.specs.Told.{WritesFront};
 ghost use Rattle.owed_bytes.specs.Owed.{Carried};
 ghost use Rattle.serde_json.specs.Written.{comma_if, compact_text};
 ghost use Rattle.capture_show.specs.Faults.{HasWriteCause};
@@ -14,8 +14,8 @@ use crate::objects::object_text;
 use crate::opening::{ending, opening};
 use crate::values::Member;
 use crate::words::put_field;
-use fh_base::{Sink, SinkFault};
 use owed_bytes::OwedBytes;
+use owed_bytes::fh_base::{Sink, SinkFault};
 use std::alloc::Global;
 use text_lines::Line;
 

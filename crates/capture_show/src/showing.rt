@@ -1,8 +1,8 @@
 // A capture, shown.
 ghost use Rattle.std.specs.Prelude.{◌≡◌, ◌≤◌, ℕ, Ok, Err, OnOk, IfErr};
 ghost use Rattle.std.specs.Io.KnownBytes.{append_known};
-ghost use Rattle.fh_base.specs.Causes.{Rose};
-ghost use Rattle.fh_base.specs.Told.{WritesFront};
+ghost use Rattle.owed_bytes.specs.fh_base.specs.Causes.{Rose};
+ghost use Rattle.owed_bytes.specs.fh_base.specs.Told.{WritesFront};
 ghost use Rattle.capture_records.specs.declared.refusals.CaptureWhy.{CaptureWhy};
 ghost use Rattle.capture_records.specs.Reading.{checked};
 ghost use Rattle.capture_show.specs.Faults.{HasWriteCause};
@@ -12,7 +12,7 @@ ghost use Rattle.capture_show.specs.Texts.{lines_text};
 use crate::capture_lines::tell_records;
 use crate::printing::Printer;
 use capture_records::{CaptureWhy, check};
-use fh_base::{Sink, SinkFault};
+use owed_bytes::fh_base::{Sink, SinkFault};
 use std::alloc::Global;
 use thiserror::Error;
 

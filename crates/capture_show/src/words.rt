@@ -3,7 +3,7 @@ ghost use Rattle.std.specs.Prelude.{◌≡◌, ◌+◌, ◌≤◌, ◌++◌, len
 ghost use Rattle.capture_show.specs.Lines.{way_text, word_text, field_text};
 
 use crate::values::{Field, Word};
-use air_source::Side;
+use capture_records::air_source::Side;
 use text_lines::Line;
 
 fn way_text(side: Side) -> &'static [u8]

@@ -14,6 +14,7 @@ mod reading;
 #[cfg(test)]
 mod tests;
 
+pub use air_source;
 pub use commands::Command;
 pub use faults::WordsFault;
 pub use reading::read_words;

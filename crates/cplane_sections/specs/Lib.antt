@@ -1,3 +1,4 @@
+pub use Rattle.fh_time
 pub mod Header
 pub mod Section
 pub mod Tests

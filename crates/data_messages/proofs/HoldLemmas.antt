@@ -1,21 +1,21 @@
 -- What holds of the cells and the counters behind a section.
 use Rattle.std.proofs.Common.{◌≡◌, ℕ, ℤ, ◌+◌, ◌-◌, ◌<◌, ◌≤◌, List, [], ◌∷◌, ◌++◌, length, All, refl, sym, ap, ◌∙◌, subst, arith, length-append}
 use Rattle.std.proofs.lemmas.List.Elements.{All-cons}
-use Rattle.air_source.specs.declared.events.Side.{Side}
+use Rattle.unit_cells.specs.air_source.specs.declared.events.Side.{Side}
 use Rattle.bfp_codec.specs.declared.samples.Wide.{Wide}
 use Rattle.fault_counters.specs.declared.kinds.Counter.{Counter}
 use Rattle.fault_counters.specs.Counts.{capped, count_of, once, times}
 use Rattle.fh_time.specs.Numbering.{shape_of}
 use Rattle.uplane_sections.specs.Messages.{Item}
-use Rattle.window_config.specs.declared.config.Config.{Config}
-use Rattle.window_config.specs.declared.endpoints.EndpointConfig.{EndpointConfig}
-use Rattle.window_config.specs.declared.verdicts.Class.{Class}
-use Rattle.window_config.specs.declared.verdicts.Class.TheVariants as class
-use Rattle.unit_model.specs.Blocks.{data_class, data_prb_count, data_verdict, data_verdicts, first_data_prb, timely, with_timely}
-use Rattle.unit_model.specs.Counts.{data_counted, data_counter}
-use Rattle.unit_model.specs.declared.allocations.Allocation.{Allocation}
-use Rattle.unit_model.specs.declared.decoded.Data.{Data}
-use Rattle.unit_model.specs.declared.verdicts.DataVerdict.{DataVerdict}
+use Rattle.unit_cells.specs.window_config.specs.declared.config.Config.{Config}
+use Rattle.unit_cells.specs.window_config.specs.declared.endpoints.EndpointConfig.{EndpointConfig}
+use Rattle.unit_cells.specs.window_config.specs.declared.verdicts.Class.{Class}
+use Rattle.unit_cells.specs.window_config.specs.declared.verdicts.Class.TheVariants as class
+use Rattle.unit_cells.specs.unit_model.specs.Blocks.{data_class, data_prb_count, data_verdict, data_verdicts, first_data_prb, timely, with_timely}
+use Rattle.unit_cells.specs.unit_model.specs.Counts.{data_counted, data_counter}
+use Rattle.unit_cells.specs.unit_model.specs.declared.allocations.Allocation.{Allocation}
+use Rattle.unit_cells.specs.unit_model.specs.declared.decoded.Data.{Data}
+use Rattle.unit_cells.specs.unit_model.specs.declared.verdicts.DataVerdict.{DataVerdict}
 use Rattle.unit_cells.specs.Cells.{CellsValue, IsOf, endpoints_of}
 use Rattle.unit_cells.specs.Headings.{data_of, with_heading}
 use Rattle.unit_cells.specs.Keeping.{Keeps, SameMarks}

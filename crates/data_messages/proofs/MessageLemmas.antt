@@ -2,12 +2,12 @@
 use Rattle.std.proofs.Common.{◌≡◌, ℕ, ℤ, ◌+◌, ◌≤ℤ◌, Bool, true, false, List, [], ◌∷◌, ◌++◌, map, sym, ap, ◌∙◌, subst, arith}
 use Rattle.std.proofs.lemmas.Bool.{not-true}
 use Rattle.std.specs.Prelude.{Option, Some, None, MatchOption, if◌then◌else◌}
-use Rattle.air_source.specs.declared.events.Side.{Side}
-use Rattle.air_source.specs.declared.events.Side.TheVariants.{Ru, Du}
+use Rattle.unit_cells.specs.air_source.specs.declared.events.Side.{Side}
+use Rattle.unit_cells.specs.air_source.specs.declared.events.Side.TheVariants.{Ru, Du}
 use Rattle.fault_counters.specs.declared.kinds.Counter.TheVariants.{URefused, WrongWay}
 use Rattle.fault_counters.specs.Counts.{capped, count_of, once, times}
 use Rattle.uplane_sections.specs.declared.values.URefusal.{URefusal}
-use Rattle.unit_model.specs.Counts.{decoded_counted}
+use Rattle.unit_cells.specs.unit_model.specs.Counts.{decoded_counted}
 use Rattle.fault_counters.specs.declared.kinds.Counter.{Counter}
 use Rattle.fh_time.specs.Numbering.{shape_of}
 use Rattle.fh_time.specs.declared.values.Shape.{Shape}
@@ -18,13 +18,13 @@ use Rattle.uplane_sections.specs.declared.steps.UFeed.{UFeed}
 use Rattle.uplane_sections.specs.declared.steps.UFeed.TheVariants as feed
 use Rattle.uplane_sections.specs.Messages.{Item, Telling, told}
 use Rattle.uplane_sections.specs.Writes.{IsHeadAdmitted}
-use Rattle.window_config.specs.declared.config.Config.{Config}
-use Rattle.window_config.specs.declared.endpoints.EndpointConfig.{EndpointConfig}
-use Rattle.unit_model.specs.Decoding.{Backwards, Decoded, Gathering, Part, Refused, Sections, data_with, decode, decoded_from, decoded_with, gathered, has_way, nothing_told, sections_of}
-use Rattle.unit_model.specs.Proper.{IsAt, IsTime}
-use Rattle.unit_model.specs.Radiated.{is_down}
-use Rattle.unit_model.specs.declared.allocations.Allocation.{Allocation}
-use Rattle.unit_model.specs.declared.decoded.Data.{Data}
+use Rattle.unit_cells.specs.window_config.specs.declared.config.Config.{Config}
+use Rattle.unit_cells.specs.window_config.specs.declared.endpoints.EndpointConfig.{EndpointConfig}
+use Rattle.unit_cells.specs.unit_model.specs.Decoding.{Backwards, Decoded, Gathering, Part, Refused, Sections, data_with, decode, decoded_from, decoded_with, gathered, has_way, nothing_told, sections_of}
+use Rattle.unit_cells.specs.unit_model.specs.Proper.{IsAt, IsTime}
+use Rattle.unit_cells.specs.unit_model.specs.Radiated.{is_down}
+use Rattle.unit_cells.specs.unit_model.specs.declared.allocations.Allocation.{Allocation}
+use Rattle.unit_cells.specs.unit_model.specs.declared.decoded.Data.{Data}
 use Rattle.unit_cells.specs.Cells.{CellsValue}
 use Rattle.unit_cells.specs.Headings.{IsProperHeading}
 use Rattle.unit_cells.specs.declared.heading.DataHeading.{DataHeading}

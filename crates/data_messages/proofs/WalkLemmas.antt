@@ -5,7 +5,7 @@ use Rattle.std.proofs.lemmas.Bool.{le-ltb}
 use Rattle.std.proofs.lemmas.List.{append-nil}
 use Rattle.bfp_codec.specs.declared.methods.Method.{Method}
 use Rattle.bfp_codec.specs.Layout.{length_of, unpacked_of}
-use Rattle.slot_rings.specs.Runs.{unpacked_run}
+use Rattle.unit_cells.specs.slot_rings.specs.Runs.{unpacked_run}
 use Rattle.fh_time.specs.declared.values.Shape.{Shape}
 use Rattle.bfp_codec.specs.declared.samples.Wide.{Wide}
 use Rattle.uplane_sections.specs.declared.values.UHead.{UHead}
@@ -15,7 +15,7 @@ use Rattle.uplane_sections.specs.declared.steps.UFeed.TheVariants as feed
 use Rattle.uplane_sections.specs.Messages.{Item, Head, Section, Block, blocks}
 use Rattle.uplane_messages.specs.Left.{TellsFirst, NothingLeft}
 use Rattle.uplane_messages.specs.Whole.{AreSections}
-use Rattle.unit_model.specs.Decoding.{Gathering, Part, begun, gathered, nothing_told}
+use Rattle.unit_cells.specs.unit_model.specs.Decoding.{Gathering, Part, begun, gathered, nothing_told}
 use Rattle.data_messages.specs.Sections.{blocks_from}
 
 -- more blocks

@@ -1,13 +1,13 @@
 -- The rings and counters of a unit, where these sections of data came (this project's profile).
 use Rattle.std.specs.Prelude.{◌≡◌, ℕ, ℤ, ◌+◌, List, All}
-use Rattle.air_source.specs.declared.events.Side.{Side}
+use Rattle.unit_cells.specs.air_source.specs.declared.events.Side.{Side}
 use Rattle.fault_counters.specs.declared.kinds.Counter.{Counter}
 use Rattle.fault_counters.specs.Counts.{capped, count_of, times}
-use Rattle.window_config.specs.declared.config.Config.{Config}
-use Rattle.unit_model.specs.Blocks.{data_verdicts, timely}
-use Rattle.unit_model.specs.Counts.{data_counted}
-use Rattle.unit_model.specs.declared.allocations.Allocation.{Allocation}
-use Rattle.unit_model.specs.declared.decoded.Data.{Data}
+use Rattle.unit_cells.specs.window_config.specs.declared.config.Config.{Config}
+use Rattle.unit_cells.specs.unit_model.specs.Blocks.{data_verdicts, timely}
+use Rattle.unit_cells.specs.unit_model.specs.Counts.{data_counted}
+use Rattle.unit_cells.specs.unit_model.specs.declared.allocations.Allocation.{Allocation}
+use Rattle.unit_cells.specs.unit_model.specs.declared.decoded.Data.{Data}
 use Rattle.unit_cells.specs.Cells.{CellsValue, IsOf}
 use Rattle.unit_cells.specs.Keeping.{Keeps}
 use Rattle.unit_cells.specs.Told.{IsTold}

@@ -1,17 +1,17 @@
 -- One section of a whole U-plane message: what is told of it (O-RAN.WG4.CUS, clause 8.3.2), and what becomes of it at a unit
 -- (this project's profile).
 use Rattle.std.specs.Prelude.{◌≡◌, ℕ, ◌+◌, ◌-◌, ◌<◌, ◌≤◌, List, [], ◌∷◌, ◌++◌, length}
-use Rattle.air_source.specs.declared.events.Side.{Side}
+use Rattle.unit_cells.specs.air_source.specs.declared.events.Side.{Side}
 use Rattle.bfp_codec.specs.declared.samples.Wide.{Wide}
 use Rattle.fault_counters.specs.declared.kinds.Counter.{Counter}
 use Rattle.fh_time.specs.Numbering.{shape_of}
 use Rattle.ecpri_fragments.specs.declared.assembly.Lease.{Lease}
 use Rattle.uplane_sections.specs.Messages.{Item, Block, told}
-use Rattle.window_config.specs.declared.endpoints.EndpointConfig.{EndpointConfig}
-use Rattle.window_config.specs.declared.config.Config.{Config}
-use Rattle.unit_model.specs.Blocks.{data_prb_count, first_data_prb}
-use Rattle.unit_model.specs.declared.allocations.Allocation.{Allocation}
-use Rattle.unit_model.specs.declared.decoded.Data.{Data}
+use Rattle.unit_cells.specs.window_config.specs.declared.endpoints.EndpointConfig.{EndpointConfig}
+use Rattle.unit_cells.specs.window_config.specs.declared.config.Config.{Config}
+use Rattle.unit_cells.specs.unit_model.specs.Blocks.{data_prb_count, first_data_prb}
+use Rattle.unit_cells.specs.unit_model.specs.declared.allocations.Allocation.{Allocation}
+use Rattle.unit_cells.specs.unit_model.specs.declared.decoded.Data.{Data}
 use Rattle.unit_cells.specs.Cells.{CellsValue, IsOf}
 use Rattle.unit_cells.specs.Headings.{data_of, with_heading}
 use Rattle.unit_cells.specs.Keeping.{Keeps}

@@ -10,4 +10,7 @@ mod taking;
 #[cfg(test)]
 mod tests;
 
+pub use ecpri_fragments;
 pub use taking::take_message;
+pub use unit_cells;
+pub use unit_cells::{air_source, unit_model, window_config};

@@ -1,17 +1,17 @@
 // One section of a message: its verdict, and its blocks, which the walk tells behind its header.
 ghost use Rattle.std.specs.Prelude.{◌≡◌, ◌<◌, []};
-ghost use Rattle.air_source.specs.declared.events.Side.{Side as SpecSide};
-ghost use Rattle.window_config.specs.declared.config.Config.{Config};
+ghost use Rattle.unit_cells.specs.air_source.specs.declared.events.Side.{Side as SpecSide};
+ghost use Rattle.unit_cells.specs.window_config.specs.declared.config.Config.{Config};
 ghost use Rattle.uplane_messages.specs.Left.{left_of};
-ghost use Rattle.unit_model.specs.Blocks.{data_prb_count};
+ghost use Rattle.unit_cells.specs.unit_model.specs.Blocks.{data_prb_count};
 ghost use Rattle.unit_cells.specs.Cells.{IsOf, endpoints_of};
 ghost use Rattle.unit_cells.specs.Headings.{IsProperHeading, data_of};
 ghost use Rattle.unit_cells.specs.Keeping.{SameMarks};
 ghost use Rattle.data_messages.specs.Sections.{AreBehind, Came, Filled, FillsSome, IsBehind};
 
 use fault_counters::Counters;
+use unit_cells::unit_model::data_counter;
 use unit_cells::{DataHeading, UnitCells};
-use unit_model::data_counter;
 use uplane_messages::DataWalk;
 use uplane_sections::UFeed;
 

@@ -2,33 +2,33 @@
 ghost use Rattle.std.specs.Prelude.{◌≡◌, ◌≢◌, ℕ, ◌+◌, [], ◌++◌, ◌≤ℤ◌, true, List, map, Some};
 ghost use Rattle.fh_time.specs.Numbering.{shape_of};
 ghost use Rattle.bfp_codec.specs.Layout.{HasWidth};
-ghost use Rattle.air_source.specs.declared.events.Side.{Side as SpecSide};
+ghost use Rattle.unit_cells.specs.air_source.specs.declared.events.Side.{Side as SpecSide};
 ghost use Rattle.ecpri_fragments.specs.Assemblies.{message_of};
 ghost use Rattle.fault_counters.specs.declared.kinds.Counter.{Counter as SpecCounter};
 ghost use Rattle.fault_counters.specs.Counts.{times};
-ghost use Rattle.window_config.specs.declared.config.Config.{Config};
+ghost use Rattle.unit_cells.specs.window_config.specs.declared.config.Config.{Config};
 ghost use Rattle.uplane_messages.specs.Joined.{message_bytes};
 ghost use Rattle.uplane_messages.specs.Whole.{IsWhole};
-ghost use Rattle.unit_model.specs.Counts.{decoded_counted};
-ghost use Rattle.unit_model.specs.Decoding.{data_with, decode, gathered, has_way, nothing_told, sections_of};
-ghost use Rattle.unit_model.specs.Proper.{IsAt, IsTime};
-ghost use Rattle.unit_model.specs.Radiated.{is_down};
-ghost use Rattle.unit_model.specs.declared.allocations.Allocation.{Allocation};
-ghost use Rattle.unit_model.specs.declared.decoded.Data.{Data};
+ghost use Rattle.unit_cells.specs.unit_model.specs.Counts.{decoded_counted};
+ghost use Rattle.unit_cells.specs.unit_model.specs.Decoding.{data_with, decode, gathered, has_way, nothing_told, sections_of};
+ghost use Rattle.unit_cells.specs.unit_model.specs.Proper.{IsAt, IsTime};
+ghost use Rattle.unit_cells.specs.unit_model.specs.Radiated.{is_down};
+ghost use Rattle.unit_cells.specs.unit_model.specs.declared.allocations.Allocation.{Allocation};
+ghost use Rattle.unit_cells.specs.unit_model.specs.declared.decoded.Data.{Data};
 ghost use Rattle.unit_cells.specs.Cells.{IsOf, endpoints_of};
 ghost use Rattle.unit_cells.specs.Keeping.{SameMarks};
 ghost use Rattle.data_messages.specs.Holding.{HoldsData};
 ghost use Rattle.data_messages.specs.Sections.{items_of};
 
 use crate::section::take_section;
-use air_source::Side;
 use ecpri_fragments::Lease;
 use fault_counters::{Counter, Counters};
 use fh_time::shape;
+use unit_cells::air_source::Side;
+use unit_cells::window_config::EndpointConfig;
 use unit_cells::{DataHeading, UnitCells};
 use uplane_messages::{DataWalk, tested};
 use uplane_sections::{UFeed, UHead};
-use window_config::EndpointConfig;
 
 /// Whether a message of this direction comes to the unit.
 fn has_way(side: Side, head: &UHead) -> bool

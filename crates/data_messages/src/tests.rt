@@ -4,12 +4,11 @@ ghost use Rattle.std.specs.Prelude.{◌≡◌, ◌<◌, ◌≤ℤ◌, pos, List,
 ghost use Rattle.bfp_codec.specs.Layout.{HasWidth};
 ghost use Rattle.ecpri_fragments.specs.Assemblies.{endpoints_of as assembly_endpoints};
 ghost use Rattle.fh_time.specs.Numbering.{slots_of};
-ghost use Rattle.window_config.specs.Configs.{IsConfig};
-ghost use Rattle.window_config.specs.Endpoints.{IsEndpoint};
+ghost use Rattle.unit_cells.specs.window_config.specs.Configs.{IsConfig};
+ghost use Rattle.unit_cells.specs.window_config.specs.Endpoints.{IsEndpoint};
 ghost use Rattle.unit_cells.specs.Cells.{endpoints_of};
 
 use crate::take_message;
-use air_source::Side;
 use bfp_codec::{Format, Method};
 use eaxc_map::Widths;
 use ecpri_fragments::{Assembly, Lease, SeqField, Taken};
@@ -17,7 +16,8 @@ use fault_counters::{Counter, Counters};
 use fh_time::{Numerology, Slot, of_ns, shape};
 use std::test::Fail;
 use unit_cells::UnitCells;
-use window_config::{Config, Delays, EndpointConfig, EndpointList};
+use unit_cells::air_source::Side;
+use unit_cells::window_config::{Config, Delays, EndpointConfig, EndpointList};
 
 /// Two sections, each of one PRB with the samples (k, -k): section 1 on PRB 0 of symbol 0, and
 /// section 2 with symInc on PRB 0.

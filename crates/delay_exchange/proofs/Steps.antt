@@ -3,7 +3,7 @@ use Rattle.std.proofs.Common.{◌≡◌, ℕ, ℤ, ◌<◌, ltb, eqb, Bool, true
 use Rattle.std.specs.Prelude.{map, Some, None}
 use Rattle.std.proofs.lemmas.Bool.{eq-eqb, ne_eqb}
 use Rattle.bit_fields.proofs.Field.{field_fits}
-use Rattle.delay_laws.specs.Nodes.{Compensation, delay_of, delay_then, sent_then}
+use Rattle.measured_traffic.specs.delay_laws.specs.Nodes.{Compensation, delay_of, delay_then, sent_then}
 use Rattle.delay_measure.specs.After.{StandsFor, Told, begins, comes, id_of}
 use Rattle.delay_measure.specs.Kept.{exchange_of}
 use Rattle.delay_measure.specs.Payload.{message_of}
@@ -21,14 +21,15 @@ use Rattle.fault_counters.specs.declared.kinds.Counter.{Counter}
 use Rattle.fault_counters.specs.declared.kinds.Counter.TheVariants.{DelayShort}
 use Rattle.fault_counters.specs.Counts.{HasCounted}
 use Rattle.measured_traffic.specs.Measured.{delay_frame}
-use Rattle.delay_exchange.specs.Outcomes.{Gains, counted_by, counts_of, frames_of, known_by, results_of}
-use Rattle.delay_exchange.specs.Units.{Doings, Has, compensation_of, counted_then, forgotten, states_of, told_in, with_message, with_messages, with_payload, with_short}
-use Rattle.delay_exchange.specs.declared.outcome.MeasuredDelay.{MeasuredDelay}
+use Rattle.measured_traffic.specs.Doings.{Doings, counted_by, counted_then, forgotten, known_by, states_of, told_in, with_message, with_messages, with_payload, with_short}
+use Rattle.measured_traffic.specs.replay_events.specs.declared.results.DelayResult.{DelayResult}
+use Rattle.delay_exchange.specs.Outcomes.{Gains, counts_of, frames_of, results_of}
+use Rattle.delay_exchange.specs.Units.{Has, compensation_of}
 use Rattle.delay_exchange.specs.declared.unit.UnitMeter.{UnitMeter}
 
 -- the unit was told one thing more, and these came of it
 pub has_more : {C : Type 0} (post : C → Edge → ℤ → Type 0) (c : Compensation) (old new : UnitMeter C) (d : Doings) (one : Told)
-    (sent : List DelayMessage) (known : List MeasuredDelay) (counted : List Counter)
+    (sent : List DelayMessage) (known : List DelayResult) (counted : List Counter)
     → compensation_of new ≡ compensation_of old → StandsFor c.sending c.receiving new.meter (one ∷ d.told) → Gains old.outcome new.outcome sent known counted
     → sent ≡ sent_then c (states_of c d (id_of one)) one → known ≡ known_by (id_of one) (delay_then c (states_of c d (id_of one)) one)
     → counted ≡ counted_then c (states_of c d (id_of one)) one → Has post c old d → Has post c new (told_in c d one)
@@ -37,7 +38,7 @@ has_more {C = C} post c old new d one sent known counted same stands gains sent_
   receiving = subst (λ (f : C). post f Receiving c.receiving) (sym same) h.receiving;
   stands = stands;
   made = gains.frames ∙ ap₂ (λ (xs : List (List ℕ)) (ms : List DelayMessage). xs ++ map delay_frame ms) h.made sent_is;
-  results = gains.results ∙ ap₂ (λ (xs ys : List MeasuredDelay). xs ++ ys) h.results known_is;
+  results = gains.results ∙ ap₂ (λ (xs ys : List DelayResult). xs ++ ys) h.results known_is;
   counted = subst (λ (xs : List Counter). HasCounted (counts_of new.outcome) (xs ++ d.counted)) counted_is (gains.counted d.counted h.counted);
 }
 

@@ -5,30 +5,25 @@ use crate::framing::frame_of;
 use delay_measure::{Begun, DelayMessage, MeterStep};
 use fault_counters::{Counter, Counters};
 use fh_base::NoMemory;
+use measured_traffic::replay_events::DelayResult;
 use std::alloc::Global;
 use std::collections::VecDeque;
-
-/// A delay that was measured: its measurement id, and the delay in units of 2^-16 ns.
-#[derive(Clone, Copy, Debug, PartialEq, Eq)]
-pub struct MeasuredDelay {
-    pub id: u8,
-    pub value: i128,
-}
 
 /// The frames that were made and not taken, the delays that became known, and what was counted.
 #[derive(Drop)]
 pub(crate) struct Outcome {
     frames: VecDeque<[u8; 24]>,
-    results: Vec<MeasuredDelay>,
+    results: Vec<DelayResult>,
     counters: Counters,
 }
 
 impl Outcome {
-    ghost use Rattle.delay_laws.specs.Nodes.{delay_of};
+    ghost use Rattle.measured_traffic.specs.delay_laws.specs.Nodes.{delay_of};
     ghost use Rattle.delay_measure.specs.Table.{CanBeWritten, sent_at_begin, sent_at_step};
     ghost use Rattle.fault_counters.specs.Counts.{count_of};
-    ghost use Rattle.fault_counters.specs.declared.kinds.Counter.TheVariants.{DelayResult, DelayShort};
-    ghost use Rattle.delay_exchange.specs.Outcomes.{Gains, HasNothing, counted_by, counts_of, frames_of, known_by, results_of};
+    ghost use Rattle.fault_counters.specs.declared.kinds.Counter.TheVariants.{DelayResult as CountsResult, DelayShort};
+    ghost use Rattle.measured_traffic.specs.Doings.{counted_by, delay_of_id, known_by};
+    ghost use Rattle.delay_exchange.specs.Outcomes.{Gains, HasNothing, counts_of, frames_of, results_of};
 
     /// Nothing yet. This takes no memory; later growth takes it from `alloc`.
     pub(crate) fn new(alloc: Global) -> Outcome
@@ -42,7 +37,7 @@ impl Outcome {
     }
 
     /// The delays that became known since they were forgotten last, in order.
-    pub(crate) fn results(&self) -> &[MeasuredDelay]
+    pub(crate) fn results(&self) -> &[DelayResult]
         ensures { result.now ≡ results_of self.now }
     {
         self.results.as_slice()
@@ -136,10 +131,10 @@ impl Outcome {
     }
 
     fn know(&mut self, id: u8, value: i128) -> Result<(), NoMemory>
-        ensures { OnOk result (Gains self.old self.new [] (record { id = id; value = value } ∷ []) (DelayResult ∷ [])) }
+        ensures { OnOk result (Gains self.old self.new [] (delay_of_id id value ∷ []) (CountsResult ∷ [])) }
     {
         self.count_one(Counter::DelayResult);
-        self.results.push(MeasuredDelay { id, value })?;
+        self.results.push(DelayResult { id, value })?;
         Ok(())
     }
 

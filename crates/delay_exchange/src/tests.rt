@@ -3,7 +3,7 @@
 ghost use Rattle.std.specs.Prelude.{◌≡◌, pos};
 ghost use Rattle.delay_measure.specs.Kept.{answer_at};
 
-use crate::{MeasuredDelay, UnitMeter};
+use crate::{DelayResult, UnitMeter};
 use delay_measure::{Edge, Kind};
 use fault_counters::Counter;
 use fh_base::NoMemory;
@@ -50,7 +50,7 @@ fn a_request_and_its_response(rt: HostRuntime) -> Result<(), NoMemory> {
     assert_eq!(rt; ru.results().len(), 0);
     du.tell(Ticks(1_689_600_000), &RESPONSE)?;
     assert_eq!(rt; du.take_made(), None);
-    let delay = MeasuredDelay {
+    let delay = DelayResult {
         id: 7,
         value: 3_276_800_000,
     };

@@ -2,12 +2,13 @@
 ghost use Rattle.std.specs.Prelude.{◌≡◌, ℕ, ◌^◌, ◌≤ℤ◌, pos, List, [], ◌∷◌, MatchOption, OnOk};
 
 use crate::framing::DELAY;
-use crate::outcome::{MeasuredDelay, Outcome};
+use crate::outcome::Outcome;
 use delay_measure::{Edge, Kind, Meter, read_delay};
 use ecpri_frames::messages;
 use fault_counters::Counter;
 use fh_base::NoMemory;
 use fh_time::Ticks;
+use measured_traffic::replay_events::DelayResult;
 use std::alloc::Global;
 
 /// A unit's delay measurement: its meter, the frames that it made and that were not taken yet, the delays of the frame that it was told
@@ -19,12 +20,17 @@ pub struct UnitMeter<C: Fn(Edge) -> i64> {
 }
 
 impl<C: Fn(Edge) -> i64> UnitMeter<C> {
-    ghost use Rattle.delay_laws.specs.Nodes.{Compensation};
+    ghost use Rattle.measured_traffic.specs.delay_laws.specs.Nodes.{Compensation};
     ghost use Rattle.delay_measure.specs.After.{begins};
     ghost use Rattle.delay_measure.specs.Kept.{IsCompensation, IsKept};
     ghost use Rattle.delay_measure.specs.declared.edge.Edge.TheVariants.{Sending, Receiving};
     ghost use Rattle.fault_counters.specs.Counts.{capped, times};
-    ghost use Rattle.delay_exchange.specs.Units.{Doings, Has, compensation_of, meter_of, nothing, taken, told_in, with_frame, with_payload};
+    ghost use Rattle.measured_traffic.specs.Doings.{Doings, nothing, taken, told_in, with_frame, with_payload};
+    ghost use Rattle.air_source.specs.declared.events.Side.{Side};
+    ghost use Rattle.measured_traffic.specs.document_delays.specs.Settings.{compensation_of as compensation_in};
+    ghost use Rattle.measured_traffic.specs.fh_document.specs.declared.document.Document.{Document};
+    ghost use Rattle.delay_exchange.specs.Meters.{HasDoings};
+    ghost use Rattle.delay_exchange.specs.Units.{Has, compensation_of, meter_of};
 
     /// A unit that was told nothing, with a closure that may be called at both edges and has one answer at each, from 0 to
     /// 65,536,000,000 units of 2^-16 ns (1 ms). This takes no memory; later growth takes it from `alloc`.
@@ -33,6 +39,8 @@ impl<C: Fn(Edge) -> i64> UnitMeter<C> {
         ensures kept { IsKept C.pre C.post (meter_of result) }
         ensures same { compensation_of result ≡ comp }
         ensures has { (c : Compensation) → C.post comp Sending c.sending → C.post comp Receiving c.receiving → Has C.post c result nothing }
+        ensures doings { (d : Document) (side : Side) → C.post comp Sending (compensation_in d side).sending → C.post comp Receiving (compensation_in d side).receiving
+            → HasDoings C.pre C.post d side nothing result }
     {
         UnitMeter {
             meter: Meter::keep(comp),
@@ -45,7 +53,10 @@ impl<C: Fn(Edge) -> i64> UnitMeter<C> {
         requires kept { IsKept C.pre C.post (meter_of self.old) }
         requires low { pos 0 ≤ℤ at.0 }
         requires high { at.0 ≤ℤ pos (2 ^ 56) }
-        ensures has { OnOk result ((c : Compensation) (d : Doings) → Has C.post c self.old d → Has C.post c self.new (told_in c d (begins at.0 id kind))) }
+        ensures has { OnOk result ((c : Compensation) (x : Doings) → Has C.post c self.old x → Has C.post c self.new (told_in c x (begins at.0 id kind))) }
+        ensures doings { OnOk result ((d : Document) (side : Side) (x : Doings) → HasDoings C.pre C.post d side x self.old
+            → HasDoings C.pre C.post d side (told_in (compensation_in d side) x (begins at.0 id kind)) self.new) }
+        ensures kept { IsKept C.pre C.post (meter_of self.new) }
         ensures same { compensation_of self.new ≡ compensation_of self.old }
     {
         let begun = self.meter.begin(at, id, kind);
@@ -59,7 +70,10 @@ impl<C: Fn(Edge) -> i64> UnitMeter<C> {
         requires kept { IsKept C.pre C.post (meter_of self.old) }
         requires low { pos 0 ≤ℤ at.0 }
         requires high { at.0 ≤ℤ pos (2 ^ 56) }
-        ensures has { OnOk result ((c : Compensation) (d : Doings) → Has C.post c self.old d → Has C.post c self.new (with_frame c at.0 d frame.now)) }
+        ensures has { OnOk result ((c : Compensation) (x : Doings) → Has C.post c self.old x → Has C.post c self.new (with_frame c at.0 x frame.now)) }
+        ensures doings { OnOk result ((d : Document) (side : Side) (x : Doings) → HasDoings C.pre C.post d side x self.old
+            → HasDoings C.pre C.post d side (with_frame (compensation_in d side) at.0 x frame.now) self.new) }
+        ensures kept { IsKept C.pre C.post (meter_of self.new) }
         ensures same { compensation_of self.new ≡ compensation_of self.old }
     {
         self.outcome.forget_results();
@@ -72,16 +86,19 @@ impl<C: Fn(Edge) -> i64> UnitMeter<C> {
     }
 
     /// The delays that became known by the frame that was told last, and since then, in order.
-    pub fn results(&self) -> &[MeasuredDelay]
-        ensures has { (c : Compensation) (d : Doings) → Has C.post c self.now d → result.now ≡ d.results }
+    pub fn results(&self) -> &[DelayResult]
+        ensures has { (c : Compensation) (x : Doings) → Has C.post c self.now x → result.now ≡ x.results }
     {
         self.outcome.results()
     }
 
     /// Takes out the first of the frames that were made and not taken yet. `None` where there is none.
     pub fn take_made(&mut self) -> Option<[u8; 24]>
-        ensures has { (c : Compensation) (d : Doings) → Has C.post c self.old d → MatchOption result ((d.made ≡ []) × Has C.post c self.new d)
-            (λ f. (rest : List (List ℕ)) × (d.made ≡ f ∷ rest) × Has C.post c self.new (taken rest d)) }
+        ensures has { (c : Compensation) (x : Doings) → Has C.post c self.old x → MatchOption result ((x.made ≡ []) × Has C.post c self.new x)
+            (λ f. (rest : List (List ℕ)) × (x.made ≡ f ∷ rest) × Has C.post c self.new (taken rest x)) }
+        ensures doings { (d : Document) (side : Side) (x : Doings) → HasDoings C.pre C.post d side x self.old
+            → MatchOption result ((x.made ≡ []) × HasDoings C.pre C.post d side x self.new)
+            (λ f. (rest : List (List ℕ)) × (x.made ≡ f ∷ rest) × HasDoings C.pre C.post d side (taken rest x) self.new) }
         ensures same { compensation_of self.new ≡ compensation_of self.old }
     {
         self.outcome.take_first()
@@ -90,7 +107,7 @@ impl<C: Fn(Edge) -> i64> UnitMeter<C> {
     /// How often something was counted of delay measurement, or the greatest `u64` where it was more often: `DelayShort`,
     /// `DelayUnknown`, `DelayRepeat` and `DelayResult`; 0 of all else.
     pub fn count(&self, counter: Counter) -> u64
-        ensures has { (c : Compensation) (d : Doings) → Has C.post c self.now d → result ≡ capped (times d.counted counter) }
+        ensures has { (c : Compensation) (x : Doings) → Has C.post c self.now x → result ≡ capped (times x.counted counter) }
     {
         self.outcome.count(counter)
     }
@@ -100,7 +117,7 @@ impl<C: Fn(Edge) -> i64> UnitMeter<C> {
         requires kept { IsKept C.pre C.post (meter_of self.old) }
         requires low { pos 0 ≤ℤ at.0 }
         requires high { at.0 ≤ℤ pos (2 ^ 56) }
-        ensures has { OnOk result ((c : Compensation) (d : Doings) → Has C.post c self.old d → Has C.post c self.new (with_payload c at.0 d payload.now)) }
+        ensures has { OnOk result ((c : Compensation) (x : Doings) → Has C.post c self.old x → Has C.post c self.new (with_payload c at.0 x payload.now)) }
         ensures same { compensation_of self.new ≡ compensation_of self.old }
     {
         let Some(m) = read_delay(payload) else {

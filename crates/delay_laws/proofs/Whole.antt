@@ -85,14 +85,13 @@ of_side m Ru all = all.0
 of_side m Du all = all.1
 
 pub tick_exact : TickDelaysAreExact
-tick_exact w pure are times comps first n later one earlier v is known =
+tick_exact w pure are times first n later one earlier v is known =
     let id : ℕ = id_of one.told in
     let m = tick_delays w pure are first n later one earlier v is known in
     let pair : Measurement = measured w.comps id (state w first n).heard in
     let all = measured_whole w.comps id (state w first n).heard (all_kept w (λ t m. IsWholeTime t) IsWholeHeard (whole_keeps w times) first n).heard in
     let sent = All-contains (λ (x : Timed). IsWholeTime x.at) (node_of m.side pair).sent m.has.request (of_side pair m.side all).0 (the_first (node_of m.side pair).sent m.has.request m.has.alone).0 in
     let came = All-contains (λ (x : Timed). IsWholeTime x.at) (node_of (other m.side) pair).came m.has.copy (of_side pair (other m.side) all).1 m.has.came in
-    let between = m.has.exact sent came (comps m.side).0 (comps (other m.side)).1 in
     let at : m.frame.at ≡ m.has.request.at = ap (λ (x : Timed). x.at) m.is in
     let way : (m.has.copy.at -ℤ m.has.request.at) ≡ m.way = (let took = m.took in omega (arith, ints)) in
-    (m, between ∙ ap (λ (z : ℤ). pos 65536 *ℤ z) way)
+    record { of_request = m; exact = λ sending receiving. m.has.exact sent came sending receiving ∙ ap (λ (z : ℤ). pos 65536 *ℤ z) way }

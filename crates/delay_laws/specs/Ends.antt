@@ -1,7 +1,7 @@
 -- When delay measurement is over, and when all its times are whole nanoseconds.
 use Rattle.std.specs.Prelude.{◌≡◌, ◌==◌, ℕ, ℤ, pos, ◌≤ℤ◌, ◌<ℤ◌, if◌then◌else◌, [], All, ◌⊎◌}
 use Rattle.air_source.specs.declared.events.Side.{Side}
-use Rattle.delay_laws.specs.Delays.{IsWholeCompensation, IsWholeTime}
+use Rattle.delay_laws.specs.Delays.{IsWholeTime}
 use Rattle.delay_laws.specs.Ticks.{Setting}
 
 -- how many messages of its id stand before one at most: before a Request or its Follow_Up a Remote Request, before a Response both
@@ -20,7 +20,3 @@ pub record HasWholeTimes (w : Setting) : Type 0 where
   pub begins : All (λ b. IsWholeTime b.at) w.begins
   pub others : (side : Side) (t : ℤ) → IsWholeTime t ⊎ (w.others side t ≡ [])
   pub delays : (side : Side) (k : ℕ) → All (λ d. IsWholeTime d) (w.delays side k)
-
--- the compensations too
-abbrev pub HasWholeCompensations : Setting → Type 0
-HasWholeCompensations w = (side : Side) → IsWholeCompensation (w.comps side).sending × IsWholeCompensation (w.comps side).receiving

@@ -1,13 +1,13 @@
 -- What holds of delays that are measured.
-use Rattle.std.specs.Prelude.{◌≡◌, ℕ, ◌+◌, ◌<◌, ℤ, pos, ◌+ℤ◌, ◌*ℤ◌, ◌≤ℤ◌, ◌<ℤ◌, List, [], ◌∷◌, ◌++◌, All, Some}
+use Rattle.std.specs.Prelude.{◌≡◌, ℕ, ◌+◌, ◌<◌, ℤ, pos, ◌+ℤ◌, ◌≤ℤ◌, ◌<ℤ◌, List, [], ◌∷◌, ◌++◌, All, Some}
 use Rattle.air_source.specs.declared.events.Side.{Side}
 use Rattle.delay_measure.specs.After.{id_of, exchange_after}
 use Rattle.delay_laws.specs.Nodes.{Compensation, Heard, delay_then, measured, node_of, other, time_of, told_to}
 use Rattle.delay_laws.specs.Runs.{IsRun}
 use Rattle.delay_laws.specs.Ticks.{Hearing, IsPure, IsQuiet, Setting, exchange_of, landing, state, told_all}
-use Rattle.delay_laws.specs.Ends.{EndsBy, HasWholeCompensations, HasWholeTimes}
+use Rattle.delay_laws.specs.Ends.{EndsBy, HasWholeTimes}
 use Rattle.delay_laws.specs.Delays.{HasDelay, IsCompensation}
-use Rattle.delay_laws.specs.Measured.{IsMeasured}
+use Rattle.delay_laws.specs.Measured.{IsMeasured, IsMeasuredExactly}
 use Rattle.delay_laws.specs.Known.{IsMeasuredEvent, known, known_while}
 
 -- the exchange that each unit's meter has is that of what it was told
@@ -39,12 +39,12 @@ EventsAreMeasured = (w : Setting) → IsPure w → ((side : Side) → IsCompensa
 abbrev pub KnownGrows : Type 0
 KnownGrows = (w : Setting) (h : Hearing) (more : List Heard) → known w (told_all w h more).heard ≡ known w h.heard ++ known_while w h more
 
--- and exactly the time that a copy of it was on its way, where all times and compensations are whole nanoseconds
+-- and exactly the time that a copy of it was on its way, where all times are whole nanoseconds and the two compensations that enter it
 abbrev pub TickDelaysAreExact : Type 0
-TickDelaysAreExact = (w : Setting) → IsPure w → ((side : Side) → IsCompensation (w.comps side)) → HasWholeTimes w → HasWholeCompensations w
+TickDelaysAreExact = (w : Setting) → IsPure w → ((side : Side) → IsCompensation (w.comps side)) → HasWholeTimes w
     → (first : ℤ) (n : ℕ) (later : List Heard) (one : Heard) (earlier : List Heard) (delay : ℤ)
     → (state w first n).heard ≡ later ++ (one ∷ earlier) → delay_then (w.comps one.side) (exchange_of w earlier one.side (id_of one.told)) one.told ≡ Some delay
-    → (m : IsMeasured w (state w first n) (id_of one.told) delay) × ((pos 1536 *ℤ delay) ≡ (pos 65536 *ℤ m.way))
+    → IsMeasuredExactly w (state w first n) (id_of one.told) delay
 
 -- where each copy takes at least a tick, what lands at a tick is settled when it begins: nothing that is sent at it or later lands then
 abbrev pub LandingIsSettled : Type 0

@@ -1,7 +1,7 @@
 -- A delay, and the frame whose time on the way it is.
-use Rattle.std.specs.Prelude.{◌≡◌, ℕ, ℤ, ◌+ℤ◌, Contains}
+use Rattle.std.specs.Prelude.{◌≡◌, ℕ, ℤ, pos, ◌+ℤ◌, ◌*ℤ◌, Contains}
 use Rattle.air_source.specs.declared.events.Side.{Side}
-use Rattle.delay_laws.specs.Delays.{HasDelay}
+use Rattle.delay_laws.specs.Delays.{HasDelay, IsWholeCompensation}
 use Rattle.delay_laws.specs.Nodes.{measured, node_of, other, timed}
 use Rattle.delay_laws.specs.Ticks.{Flight, Setting, State}
 
@@ -16,3 +16,10 @@ pub record IsMeasured (w : Setting) (s : State) (id : ℕ) (delay : ℤ) : Type 
   pub way : ℤ
   pub of : Contains frame.delays way
   pub took : has.copy.at ≡ frame.at +ℤ way
+
+-- Two compensations enter it: that of the request's sender at sending, and that of its receiver at receiving. Where both are whole
+-- nanoseconds, whatever the other two are, it is exactly the copy's time on its way.
+pub record IsMeasuredExactly (w : Setting) (s : State) (id : ℕ) (delay : ℤ) : Type 0 where
+  pub of_request : IsMeasured w s id delay
+  pub exact : IsWholeCompensation (w.comps of_request.side).sending → IsWholeCompensation (w.comps (other of_request.side)).receiving
+      → (pos 1536 *ℤ delay) ≡ (pos 65536 *ℤ of_request.way)

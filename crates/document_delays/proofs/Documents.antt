@@ -15,10 +15,10 @@ use Rattle.delay_laws.proofs.Ending.{all_end}
 use Rattle.delay_laws.proofs.Settling.{settled}
 use Rattle.delay_laws.proofs.Whole.{tick_exact}
 use Rattle.delay_measure.specs.declared.message.DelayMessage.{DelayMessage}
-use Rattle.fh_document.specs.declared.delivered.Class3.TheVariants.{M}
-use Rattle.fh_document.specs.declared.document.Document.{Document}
-use Rattle.fh_document.specs.declared.document.Measure.{Measure}
-use Rattle.fh_document.specs.Proper.{AreComps, IsDocumentIn, IsFrom, IsMeasure}
+use Rattle.frame_deliveries.specs.fh_document.specs.declared.delivered.Class3.TheVariants.{M}
+use Rattle.frame_deliveries.specs.fh_document.specs.declared.document.Document.{Document}
+use Rattle.frame_deliveries.specs.fh_document.specs.declared.document.Measure.{Measure}
+use Rattle.frame_deliveries.specs.fh_document.specs.Proper.{AreComps, IsDocument, IsFrom, IsMeasure}
 use Rattle.frame_deliveries.specs.Copies.{copies_of}
 use Rattle.frame_deliveries.proofs.Within.{copies_within}
 use Rattle.window_config.specs.Windows.{ticks_of_ns}
@@ -46,14 +46,14 @@ ids_same (m ∷ ms) = ap (λ (l : List ℕ). m.id ∷ l) (ids_same ms)
 begins_all : (P : Begin → Type 0) (ms : List Measure) → All IsMeasure ms → ((m : Measure) → IsMeasure m → P (begin_of m)) → All P (map begin_of ms)
 begins_all P ms all holds = All-map P begin_of ms (All-weaker IsMeasure (λ (m : Measure). P (begin_of m)) holds ms all)
 
-ways_all : (P : ℤ → Type 0) (scope : _) (d : Document) → IsDocumentIn scope d → ((ns : ℤ) → IsFrom 1 3000000000 ns → P (ticks_of_ns ns)) → (side : Side) (k : ℕ) → All P (ways_of d side k)
-ways_all P scope d is holds side k =
+ways_all : (P : ℤ → Type 0) (d : Document) → IsDocument d → ((ns : ℤ) → IsFrom 1 3000000000 ns → P (ticks_of_ns ns)) → (side : Side) (k : ℕ) → All P (ways_of d side k)
+ways_all P d is holds side k =
     All-map P ticks_of_ns (copies_of d side M k) (All-weaker (IsFrom 1 3000000000) (λ (ns : ℤ). P (ticks_of_ns ns)) holds (copies_of d side M k) (copies_within d is.transits is.deliveries side M k))
 
-pure : (scope : _) (d : Document) → IsDocumentIn scope d → IsPure (setting_of d no_others)
-pure scope d is = record {
+pure : (d : Document) → IsDocument d → IsPure (setting_of d no_others)
+pure d is = record {
   once = subst AppearOnce (sym (ids_same d.measures)) is.differ;
-  late = begins_all (λ (b : Begin). pos 1536000000 ≤ℤ b.at) d.measures is.measures (λ m time. scaled (pos 1000000) m.at time.low);
+  late = begins_all (λ (b : Begin). pos 1536000000 ≤ℤ b.at) d.measures is.measures (λ m proper. scaled (pos 1000000) m.at proper.time.low);
   alone = λ side t. refl;
 }
 
@@ -61,19 +61,19 @@ compensation_is : (d : Document) → AreComps d.comps → (side : Side) → IsCo
 compensation_is d is Ru = record { sending_low = is.ru_sending.low; sending_high = is.ru_sending.high; receiving_low = is.ru_receiving.low; receiving_high = is.ru_receiving.high }
 compensation_is d is Du = record { sending_low = is.du_sending.low; sending_high = is.du_sending.high; receiving_low = is.du_receiving.low; receiving_high = is.du_receiving.high }
 
-whole_times : (scope : _) (d : Document) → IsDocumentIn scope d → HasWholeTimes (setting_of d no_others)
-whole_times scope d is = record {
-  begins = begins_all (λ (b : Begin). IsWholeTime b.at) d.measures is.measures (λ m time. whole_ns m.at (from_zero 1000000 1000000000000 m.at time));
+whole_times : (d : Document) → IsDocument d → HasWholeTimes (setting_of d no_others)
+whole_times d is = record {
+  begins = begins_all (λ (b : Begin). IsWholeTime b.at) d.measures is.measures (λ m proper. whole_ns m.at (from_zero 1000000 1000000000000 m.at proper.time));
   others = λ side t. inr refl;
-  delays = ways_all IsWholeTime scope d is (λ ns time. whole_ns ns (from_zero 1 3000000000 ns time));
+  delays = ways_all IsWholeTime d is (λ ns time. whole_ns ns (from_zero 1 3000000000 ns time));
 }
 
-ends : (scope : _) (d : Document) → IsDocumentIn scope d → (others : Side → ℤ → List DelayMessage) → ((side : Side) (t : ℤ) → ticks_of_ns (pos 1000000000000) <ℤ t → others side t ≡ [])
+ends : (d : Document) → IsDocument d → (others : Side → ℤ → List DelayMessage) → ((side : Side) (t : ℤ) → ticks_of_ns (pos 1000000000000) <ℤ t → others side t ≡ [])
     → EndsBy (setting_of d others) (ticks_of_ns (pos 1000000000000)) (ticks_of_ns (pos 3000000000))
-ends scope d is others none = record {
-  begins = begins_all (λ (b : Begin). b.at ≤ℤ ticks_of_ns (pos 1000000000000)) d.measures is.measures (λ m time. scaled m.at (pos 1000000000000) time.high);
+ends d is others none = record {
+  begins = begins_all (λ (b : Begin). b.at ≤ℤ ticks_of_ns (pos 1000000000000)) d.measures is.measures (λ m proper. scaled m.at (pos 1000000000000) proper.time.high);
   others = none;
-  delays = ways_all (λ (t : ℤ). t ≤ℤ ticks_of_ns (pos 3000000000)) scope d is (λ ns time. scaled ns (pos 3000000000) time.high);
+  delays = ways_all (λ (t : ℤ). t ≤ℤ ticks_of_ns (pos 3000000000)) d is (λ ns time. scaled ns (pos 3000000000) time.high);
   some = omega (arith, ints);
 }
 
@@ -83,16 +83,16 @@ positive ns low = omega (arith, ints)
 -- ---- the laws
 
 pub document_delays : DelaysAreOfRequests
-document_delays scope d is = tick_delays (setting_of d no_others) (pure scope d is) (compensation_is d is.comps)
+document_delays d is = tick_delays (setting_of d no_others) (pure d is) (compensation_is d is.comps)
 
 pub document_exact : DelaysAreExact
-document_exact scope d is whole = tick_exact (setting_of d no_others) (pure scope d is) (compensation_is d is.comps) (whole_times scope d is) whole
+document_exact d is = tick_exact (setting_of d no_others) (pure d is) (compensation_is d is.comps) (whole_times d is)
 
 pub document_settled : LandingIsSettled
-document_settled scope d is others side = settled (setting_of d others) side (λ k. ways_all (λ (t : ℤ). pos 0 <ℤ t) scope d is (λ ns time. positive ns time.low) side k)
+document_settled d is others side = settled (setting_of d others) side (λ k. ways_all (λ (t : ℤ). pos 0 <ℤ t) d is (λ ns time. positive ns time.low) side k)
 
 pub document_ends : AllEnds
-document_ends scope d is others none = all_end (setting_of d others) (ticks_of_ns (pos 1000000000000)) (ticks_of_ns (pos 3000000000)) (ends scope d is others none)
+document_ends d is others none = all_end (setting_of d others) (ticks_of_ns (pos 1000000000000)) (ticks_of_ns (pos 3000000000)) (ends d is others none)
 
 pub document_events : EventsAreMeasured
-document_events scope d is = events_measured (setting_of d no_others) (pure scope d is) (compensation_is d is.comps)
+document_events d is = events_measured (setting_of d no_others) (pure d is) (compensation_is d is.comps)

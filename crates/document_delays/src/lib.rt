@@ -22,3 +22,6 @@ pub fn landing_is_settled()
 pub fn all_ends()
     ensures { AllEnds }
 {}
+
+pub use frame_deliveries;
+pub use frame_deliveries::{fh_document, tone_source};

@@ -2,7 +2,8 @@
 use crate::outcomes::{refusal, second};
 use air_source::Side;
 use delay_measure::Kind;
-use fh_document::{Class3, DocWhy, Measure, parse};
+use fh_base::{Bytes, NoMemory};
+use fh_document::{Class3, DocWhy, Measure, read};
 use std::test::Fail;
 
 #[test]
@@ -112,7 +113,7 @@ fn frames_and_ids_stand_once(rt: HostRuntime) {
 #[test]
 fn deliver_lines_say_what_becomes_of_a_frame(rt: HostRuntime) {
     let text = b"fronthaul 1\ndeliver ul m 9999999 1 2 3 4 5 6 7 3000000000\ndeliver dl u 5\n";
-    let d = parse(rt.alloc(), text).expect(&rt, "parsed");
+    let d = read(rt.alloc(), text).expect(&rt, "read");
     assert_eq!(rt; d.deliveries.len(), 2);
     let all = d.deliveries.get(0).expect(&rt, "first");
     assert_eq!(rt;
@@ -131,7 +132,7 @@ fn deliver_lines_say_what_becomes_of_a_frame(rt: HostRuntime) {
 #[test]
 fn measure_lines_say_what_is_measured(rt: HostRuntime) {
     let text = b"fronthaul 1\nmeasure ru 3 remote-one 2000000\nmeasure du 255 two 1000000000000\n";
-    let d = parse(rt.alloc(), text).expect(&rt, "parsed");
+    let d = read(rt.alloc(), text).expect(&rt, "read");
     let first = Measure {
         side: Side::Ru,
         id: 3,
@@ -147,4 +148,43 @@ fn measure_lines_say_what_is_measured(rt: HostRuntime) {
     assert_eq!(rt; d.measures.len(), 2);
     assert_eq!(rt; d.measures.get(0), Some(&first));
     assert_eq!(rt; d.measures.get(1), Some(&second));
+}
+
+/// Pushes a measurement for each id of these digits and one of the last ones.
+fn push_ids(text: &mut Bytes, digits: &[u8], lasts: &[u8]) -> Result<(), NoMemory> {
+    for last in lasts {
+        text.push_all(b"measure du ")?;
+        text.push_all(digits)?;
+        text.push_all(&[*last])?;
+        text.push_all(b" one 1000000\n")?;
+    }
+    Ok(())
+}
+
+/// Pushes a measurement for each id of a hundred with one of these tens.
+fn push_tens(text: &mut Bytes, hundred: u8, tens: &[u8]) -> Result<(), NoMemory> {
+    for ten in tens {
+        push_ids(text, &[hundred, *ten], b"0123456789")?;
+    }
+    Ok(())
+}
+
+#[test]
+fn each_id_is_measured_once(rt: HostRuntime) -> Result<(), Fail> {
+    let alloc = rt.alloc();
+    let mut text = Bytes::new(alloc);
+    text.push_all(b"fronthaul 1\n")?;
+    push_tens(&mut text, b'0', b"0123456789")?;
+    push_tens(&mut text, b'1', b"0123456789")?;
+    push_tens(&mut text, b'2', b"01234")?;
+    push_ids(&mut text, b"25", b"012345")?;
+    let d = read(alloc, text.as_slice()).expect(&rt, "read");
+    assert_eq!(rt; d.measures.len(), 256);
+    for k in [0, 1, 99, 100, 199, 200, 254, 255] {
+        let measure = d.measures.get(k).expect(&rt, "measure");
+        assert_eq!(rt; usize::from(measure.id), k);
+    }
+    text.push_all(b"measure ru 255 two 1000000\n")?;
+    assert_eq!(rt; refusal(alloc, text.as_slice()), Some((258, DocWhy::Twice)));
+    Ok(())
 }

@@ -2,11 +2,11 @@
 #![tactic(auto)]
 
 #[cfg(test)]
+mod accepted;
+#[cfg(test)]
 mod frames;
 #[cfg(test)]
 mod generated;
-#[cfg(test)]
-mod handled;
 #[cfg(test)]
 mod kinds;
 #[cfg(test)]

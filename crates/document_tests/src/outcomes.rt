@@ -1,14 +1,14 @@
 // What the grammar makes of a text.
 use fh_base::{Bytes, NoMemory};
-use fh_document::{DocFault, DocWhy, parse};
+use fh_document::{DocFault, DocWhy, read};
 use std::alloc::Global;
 
-/// The first line that the grammar refuses and its reason. None where it refuses none.
+/// The first line that the grammar refuses and its reason, line 0 where memory ran out. None where it refuses none.
 pub(crate) fn refusal(alloc: Global, text: &[u8]) -> Option<(usize, DocWhy)> {
-    match parse(alloc, text) {
+    match read(alloc, text) {
         Ok(_) => None,
         Err(DocFault::At { line, why }) => Some((line, why)),
-        Err(DocFault::NoMemory) => Some((0, DocWhy::NotBuilt)),
+        Err(DocFault::NoMemory) => Some((0, DocWhy::TooMany)),
     }
 }
 

@@ -1,7 +1,7 @@
 // Lines of a plan, each word at an end of its range and beyond it.
 use crate::outcomes::{refusal, second};
 use fh_base::{Bytes, NoMemory};
-use fh_document::{DocWhy, parse};
+use fh_document::{DocWhy, read};
 use fh_time::Slot;
 use std::alloc::Global;
 use std::test::Fail;
@@ -100,7 +100,7 @@ fn plans_have_at_most_65536_lines(rt: HostRuntime) -> Result<(), Fail> {
 fn plan_lines_say_what_they_plan(rt: HostRuntime) {
     let text =
         b"fronthaul 1\n# two lines\nplan idle 0A0b 99999 9 63 62 15 1023 255 aBc 4095 32767\n\nplan ul 0000 1 2 3 4 5 6 7 089 10 11\n";
-    let d = parse(rt.alloc(), text).expect(&rt, "parsed");
+    let d = read(rt.alloc(), text).expect(&rt, "read");
     let slot = Slot {
         frame: 99_999,
         subframe: 9,

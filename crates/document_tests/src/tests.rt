@@ -1,29 +1,13 @@
 // Documents whose values were worked out from the grammar by hand, and drawn ones that are refused.
+use crate::outcomes::{refusal, second};
 use air_source::Side;
 use bfp_codec::{Format, Method};
 use fh_base::{Bytes, NoMemory};
-use fh_document::{Comps, DocFault, DocWhy, read};
+use fh_document::{Comps, DocWhy, read};
 use fh_time::Numerology;
 use std::alloc::Global;
 use std::test::Fail;
 use window_config::{Delays, EndpointConfig, Range};
-
-/// The first line that is refused and its reason. None where the document is read.
-pub(crate) fn refusal(alloc: Global, text: &[u8]) -> Option<(usize, DocWhy)> {
-    match read(alloc, text) {
-        Ok(_) => None,
-        Err(DocFault::At { line, why }) => Some((line, why)),
-        Err(DocFault::NoMemory) => Some((0, DocWhy::NotBuilt)),
-    }
-}
-
-/// What comes of a second line.
-fn second(alloc: Global, line: &[u8]) -> Result<Option<(usize, DocWhy)>, NoMemory> {
-    let mut text = Bytes::new(alloc);
-    text.push_all(b"fronthaul 1\n")?;
-    text.push_all(line)?;
-    Ok(refusal(alloc, text.as_slice()))
-}
 
 #[test]
 fn lines_are_refused_for_their_first_reason(rt: HostRuntime) {
@@ -107,8 +91,7 @@ fn lines_are_refused_for_their_first_reason(rt: HostRuntime) {
 
 #[test]
 fn second_lines_just_fail(rt: HostRuntime) -> Result<(), Fail> {
-    let cases: [(&[u8], DocWhy); 27] = [
-        (b"measure du 0 one 1000000", DocWhy::NotBuilt),
+    let cases: [(&[u8], DocWhy); 24] = [
         (b"transit", DocWhy::UnknownWord),
         (b"transit x 1", DocWhy::UnknownWord),
         (b"transit dl", DocWhy::Words),
@@ -133,8 +116,6 @@ fn second_lines_just_fail(rt: HostRuntime) -> Result<(), Fail> {
         (b"endpoint 0000 ordinary 30 6 static bfp17", DocWhy::Number),
         (b"inject dl 1000000000001 -", DocWhy::Number),
         (b"inject dl 0 100", DocWhy::Number),
-        (b"inject ul 0 10050000", DocWhy::NotBuilt),
-        (b"inject dl 0 10050000", DocWhy::NotBuilt),
     ];
     assert_eq!(rt; DocWhy::UnknownWord.name(), "UnknownWord");
     for (line, why) in cases {
@@ -270,7 +251,7 @@ fn each_configuration_keyword_stands_once(rt: HostRuntime) -> Result<(), Fail> {
 
 #[test]
 fn second_lines_just_pass(rt: HostRuntime) -> Result<(), Fail> {
-    let cases: [&[u8]; 18] = [
+    let cases: [&[u8]; 21] = [
         b"  # gap  ",
         b"gap 0000002000000",
         b"transit m 1",
@@ -287,9 +268,12 @@ fn second_lines_just_pass(rt: HostRuntime) -> Result<(), Fail> {
         b"inject dl 0 1005",
         // a command whose endpoint is none
         b"inject dl 0 1002001400000080100100000101000000100001fff10000",
-        // a message of delay measurement that is not whole
+        // messages of delay measurement, whole and not
+        b"inject dl 0 10050000",
+        b"inject ul 0 10050000",
         b"inject dl 0 10050001",
         b"inject ul 0 10050001",
+        b"measure du 0 one 1000000",
         b"inject dl 0 -",
     ];
     for line in cases {
@@ -299,7 +283,7 @@ fn second_lines_just_pass(rt: HostRuntime) -> Result<(), Fail> {
 }
 
 #[test]
-fn commands_of_both_directions_are_handled(rt: HostRuntime) {
+fn commands_of_both_directions_are_read(rt: HostRuntime) {
     let cases: [&[u8]; 4] = [
         // dataDirection 0
         b"fronthaul 1\nendpoint 0000 ordinary 30 106 static none\ninject dl 1 1002001400000080100100000101000000100001fff10000\n",

@@ -1,13 +1,13 @@
 -- All that lands for a document lands while it is replayed.
 use Rattle.std.proofs.Common.{ℤ, pos, ◌+ℤ◌, ◌≤ℤ◌, arith}
 use Rattle.std.proofs.lemmas.Int.{ints}
-use Rattle.air_source.specs.declared.events.Side.{Side}
-use Rattle.air_source.specs.declared.events.Side.TheVariants.{Ru, Du}
-use Rattle.fh_document.specs.Proper.{IsDocument}
-use Rattle.fh_document.specs.declared.document.Document.{Document}
-use Rattle.fragment_laws.specs.Apart.{IsIn}
-use Rattle.plan_model.specs.Valid.{IsValid}
-use Rattle.unit_model.specs.Times.{end_of_time}
+use Rattle.frame_deliveries.specs.air_source.specs.declared.events.Side.{Side}
+use Rattle.frame_deliveries.specs.air_source.specs.declared.events.Side.TheVariants.{Ru, Du}
+use Rattle.frame_deliveries.specs.fh_document.specs.Proper.{IsDocument}
+use Rattle.frame_deliveries.specs.fh_document.specs.declared.document.Document.{Document}
+use Rattle.sent_order.specs.fragment_laws.specs.Apart.{IsIn}
+use Rattle.sent_order.specs.plan_model.specs.Valid.{IsValid}
+use Rattle.replay_laws.specs.unit_model.specs.Times.{end_of_time}
 use Rattle.document_traffic.specs.Landing.{landing_with, leaving_to}
 use Rattle.document_traffic.specs.Laws.{LandingsAreReplayed}
 use Rattle.document_traffic.specs.Sending.{Leaving}
@@ -24,16 +24,16 @@ pub each_leaves : (side : Side) (d : Document) → IsDocument d → IsValid d.co
 each_leaves Ru d is valid = down_leaves d is valid
 each_leaves Du d is valid = up_leaves d is valid
 
-late : (side : Side) → pos 1536000000000000 ≤ℤ last_leaving side
-late Ru = omega (arith, ints)
-late Du = omega (arith, ints)
+pub leaving_late : (side : Side) → pos 1536000000000000 ≤ℤ last_leaving side
+leaving_late Ru = omega (arith, ints)
+leaving_late Du = omega (arith, ints)
 
-in_time : (side : Side) → (last_leaving side +ℤ longest) ≤ℤ end_of_time
-in_time Ru = omega (arith, ints)
-in_time Du = omega (arith, ints)
+pub landing_in_time : (side : Side) → (last_leaving side +ℤ longest) ≤ℤ end_of_time
+landing_in_time Ru = omega (arith, ints)
+landing_in_time Du = omega (arith, ints)
 
 pub are_replayed : LandingsAreReplayed
 are_replayed d Ru is valid =
-    replayed_by (last_sent +ℤ longest) (landing_with d Ru (leaving_to Ru d)) (in_time Ru) (each_lands d is Ru (leaving_to Ru d) last_sent (late Ru) (each_leaves Ru d is valid))
+    replayed_by (last_sent +ℤ longest) (landing_with d Ru (leaving_to Ru d)) (landing_in_time Ru) (each_lands d is Ru (leaving_to Ru d) last_sent (leaving_late Ru) (each_leaves Ru d is valid))
 are_replayed d Du is valid =
-    replayed_by (last_answered +ℤ longest) (landing_with d Du (leaving_to Du d)) (in_time Du) (each_lands d is Du (leaving_to Du d) last_answered (late Du) (each_leaves Du d is valid))
+    replayed_by (last_answered +ℤ longest) (landing_with d Du (leaving_to Du d)) (landing_in_time Du) (each_lands d is Du (leaving_to Du d) last_answered (leaving_late Du) (each_leaves Du d is valid))

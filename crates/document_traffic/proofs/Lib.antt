@@ -1,4 +1,5 @@
 pub mod LineLemmas
+pub mod WidthLemmas
 pub mod OrderLemmas
 pub mod TimeLemmas
 pub mod CopyLemmas
@@ -9,5 +10,6 @@ pub mod LandingLemmas
 pub mod ShortLemmas
 pub mod ToneLemmas
 pub mod CarriedLemmas
+pub mod GenerationLemmas
 pub mod RadiatedLemmas
 pub mod TakenLemmas

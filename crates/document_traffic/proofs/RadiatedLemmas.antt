@@ -3,48 +3,51 @@ use Rattle.std.proofs.Common.{◌≡◌, ℕ, ℤ, pos, ◌+◌, ◌<◌, ◌≤
 use Rattle.std.specs.Prelude.{filter}
 use Rattle.std.proofs.lemmas.Bool.{and_parts}
 use Rattle.std.proofs.lemmas.Int.{ints}
-use Rattle.air_source.specs.declared.events.AirCell.{AirCell}
-use Rattle.air_source.specs.declared.events.Side.TheVariants.{Ru}
+use Rattle.frame_deliveries.specs.air_source.specs.declared.events.AirCell.{AirCell}
+use Rattle.frame_deliveries.specs.air_source.specs.declared.events.Side.TheVariants.{Ru}
 use Rattle.bfp_codec.proofs.Laws.{can_pack}
 use Rattle.bfp_codec.specs.Shrunk.{CanPack}
-use Rattle.fh_document.specs.Proper.{IsDocument}
-use Rattle.fh_document.specs.declared.document.Document.{Document}
+use Rattle.frame_deliveries.specs.fh_document.specs.Proper.{IsDocument}
+use Rattle.frame_deliveries.specs.fh_document.specs.declared.document.Document.{Document}
 use Rattle.fh_time.specs.Air.{air_of}
 use Rattle.fh_time.specs.Numbering.{symbols_of}
 use Rattle.fh_time.specs.declared.values.Slot.{Slot}
-use Rattle.fragment_laws.specs.Apart.{IsIn}
-use Rattle.plan_model.specs.Lines.{allocation_of}
-use Rattle.plan_model.specs.Sent.{SentFrame}
-use Rattle.plan_model.specs.Valid.{IsValid}
-use Rattle.plan_model.specs.declared.lines.PlannedLine.{PlannedLine}
-use Rattle.replay_events.specs.Moments.{all_arrivals}
+use Rattle.sent_order.specs.fragment_laws.specs.Apart.{IsIn}
+use Rattle.sent_order.specs.plan_model.specs.Lines.{allocation_of}
+use Rattle.sent_order.specs.plan_model.specs.Sent.{SentFrame}
+use Rattle.sent_order.specs.plan_model.specs.Valid.{IsValid}
+use Rattle.sent_order.specs.plan_model.specs.declared.lines.PlannedLine.{PlannedLine}
+use Rattle.replay_laws.specs.replay_events.specs.Moments.{all_arrivals}
 use Rattle.replay_laws.proofs.OnceLemmas.{cells_are_reported}
-use Rattle.schedule_laws.proofs.BlockLemmas.{decoded_once}
-use Rattle.schedule_laws.proofs.CommandLemmas.{commanded_once}
-use Rattle.schedule_laws.proofs.LineLemmas.{good, start_in_time}
-use Rattle.schedule_laws.proofs.ListLemmas.{at_in, in_all, in_map, of_map}
-use Rattle.schedule_laws.specs.Premise.{AllArrive}
-use Rattle.schedule_laws.specs.Singles.{event_of}
-use Rattle.sent_frames.specs.Sources.{id_at}
-use Rattle.sent_laws.proofs.RadiatedLemmas.{arrive, sent_once, sent_radiates}
-use Rattle.sent_laws.proofs.SentRead.{messages_say}
-use Rattle.sent_laws.specs.Frames.{texts_of}
-use Rattle.sent_laws.specs.Radiated.{CopiesArrive, IsSentCopy}
-use Rattle.sent_laws.specs.Sent.{IsSendable}
-use Rattle.unit_laws.proofs.CellLemmas.{covers_is, from_within}
-use Rattle.unit_model.specs.Claims.{cell_at, cell_of, covers, in_mask, names}
-use Rattle.unit_model.specs.Meetings.{Arrival}
-use Rattle.unit_model.specs.Proper.{IsAt}
-use Rattle.unit_model.specs.Standing.{same_cell}
-use Rattle.unit_model.specs.Times.{end_of_time}
-use Rattle.window_config.specs.Endpoints.{IsEndpoint}
-use Rattle.window_config.specs.declared.endpoints.EndpointConfig.{EndpointConfig}
-use Rattle.document_traffic.specs.Landing.{landings_of, traffic_of}
+use Rattle.sent_order.specs.schedule_laws.proofs.BlockLemmas.{decoded_once}
+use Rattle.sent_order.specs.schedule_laws.proofs.CommandLemmas.{commanded_once}
+use Rattle.sent_order.specs.schedule_laws.proofs.LineLemmas.{good, start_in_time}
+use Rattle.sent_order.specs.schedule_laws.proofs.ListLemmas.{at_in, in_all, in_map, of_map}
+use Rattle.sent_order.specs.schedule_laws.proofs.WholeLemmas.{delivered, sounds}
+use Rattle.sent_order.specs.schedule_laws.specs.Flows.{bounds_of}
+use Rattle.sent_order.specs.schedule_laws.specs.Premise.{AllArrive}
+use Rattle.sent_order.specs.schedule_laws.specs.Singles.{event_of}
+use Rattle.uplink_laws.specs.sent_frames.specs.Sources.{id_at}
+use Rattle.uplink_laws.specs.sent_laws.proofs.RadiatedLemmas.{arrive, sent_once, sent_radiates}
+use Rattle.uplink_laws.specs.sent_laws.proofs.SentRead.{messages_say}
+use Rattle.uplink_laws.specs.sent_laws.specs.Frames.{texts_of}
+use Rattle.uplink_laws.specs.sent_laws.specs.Radiated.{CopiesArrive, IsSentCopy}
+use Rattle.uplink_laws.specs.sent_laws.specs.Sent.{IsSendable}
+use Rattle.replay_laws.specs.unit_laws.proofs.CellLemmas.{covers_is, from_within}
+use Rattle.replay_laws.specs.unit_model.specs.Claims.{cell_at, cell_of, covers, in_mask, names}
+use Rattle.replay_laws.specs.unit_model.specs.Meetings.{Arrival}
+use Rattle.replay_laws.specs.unit_model.specs.Proper.{IsAt}
+use Rattle.replay_laws.specs.unit_model.specs.Standing.{same_cell}
+use Rattle.replay_laws.specs.unit_model.specs.Times.{end_of_time}
+use Rattle.frame_deliveries.specs.window_config.specs.Endpoints.{IsEndpoint}
+use Rattle.frame_deliveries.specs.window_config.specs.declared.endpoints.EndpointConfig.{EndpointConfig}
+use Rattle.document_traffic.specs.Landing.{landings_of, planned_traffic}
 use Rattle.document_traffic.specs.Laws.{HasWidths, ScheduleRadiatesOnce}
 use Rattle.document_traffic.specs.Sending.{Leaving, leaving_down, leaving_of, lines_of, sent_for, source_for}
-use Rattle.document_traffic.specs.Undisturbed.{IsUndisturbed, RadiatesOnce, blocks_for}
+use Rattle.document_traffic.specs.Undisturbed.{IsUndisturbed, RadiatesOnce, blocks_for, fragments_at, messages_for}
 use Rattle.document_traffic.proofs.ArrivalLemmas.{arrivals_in_order, in_arrivals, of_arrivals}
 use Rattle.document_traffic.proofs.CarriedLemmas.{IsCopyOf, each_has_copy, each_is_copy}
+use Rattle.document_traffic.proofs.GenerationLemmas.{each_holds_one}
 use Rattle.document_traffic.proofs.LandingLemmas.{are_replayed}
 use Rattle.document_traffic.proofs.LineLemmas.{lines_fit}
 use Rattle.document_traffic.proofs.ToneLemmas.{tone_fits}
@@ -108,14 +111,17 @@ module _ (d : Document) (is : IsDocument d) (widths : HasWidths d) (valid : IsVa
       let below = under symbol (p.line.symbol + p.line.count) (symbols_of p.endpoint.numerology) (from_within p.line.symbol p.line.count symbol cover.symbol) g.within in
       (start_in_time d.config.endpoints p symbol g below).1
 
-  radiates : RadiatesOnce d
+  radiates : RadiatesOnce d (planned_traffic d)
   radiates =
       let text = texts_of d.config (lines_of d) (source_for d) in
       let arrivals = all_arrivals (landings_of d) in
-      let reported = cells_are_reported Ru d.config (traffic_of d) in
+      let say = messages_say d.config d.plan (source_for d) sendable in
+      let reported = cells_are_reported Ru d.config (planned_traffic d) in
       record {
         commands = commanded_once d.config d.plan text arrivals all_arrive;
-        messages = decoded_once d.config d.plan text (blocks_for d) arrivals all_arrive (messages_say d.config d.plan (source_for d) sendable);
+        messages = decoded_once d.config d.plan text (blocks_for d) arrivals all_arrive say;
+        generations = each_holds_one (bounds_of d.config) (messages_for d) (sounds d.config d.plan text (blocks_for d) arrivals all_arrive say) (fragments_at Ru d (planned_traffic d))
+            (delivered d.config d.plan text (blocks_for d) arrivals all_arrive say);
         cells = reported ∙ sent_radiates d.config d.plan (source_for d) arrivals sendable copies end_of_time;
         once = λ p symbol prb re m down busy below named.
             (let event = event_of (blocks_for d) (lines_of d) p symbol prb in

@@ -2,39 +2,42 @@
 use Rattle.std.proofs.Common.{◌≡◌, ℤ, pos, ◌+ℤ◌, ◌≤ℤ◌, List, [], ◌∷◌, sym, ◌∙◌, subst, arith}
 use Rattle.std.specs.Prelude.{filter}
 use Rattle.std.proofs.lemmas.Int.{ints}
-use Rattle.air_source.specs.Answers.{block_of}
-use Rattle.air_source.specs.declared.events.AirCell.{AirCell}
-use Rattle.air_source.specs.declared.events.Side.TheVariants.{Du}
-use Rattle.air_source.specs.declared.links.LinkFrame.{LinkFrame}
+use Rattle.frame_deliveries.specs.air_source.specs.Answers.{block_of}
+use Rattle.frame_deliveries.specs.air_source.specs.declared.events.AirCell.{AirCell}
+use Rattle.frame_deliveries.specs.air_source.specs.declared.events.Side.TheVariants.{Du}
+use Rattle.frame_deliveries.specs.air_source.specs.declared.links.LinkFrame.{LinkFrame}
 use Rattle.bfp_codec.proofs.Laws.{can_pack}
-use Rattle.fh_document.specs.Proper.{IsDocument}
-use Rattle.fh_document.specs.declared.document.Document.{Document}
+use Rattle.frame_deliveries.specs.fh_document.specs.Proper.{IsDocument}
+use Rattle.frame_deliveries.specs.fh_document.specs.declared.document.Document.{Document}
 use Rattle.fh_time.specs.Air.{air_of}
-use Rattle.fragment_laws.specs.Apart.{IsIn}
-use Rattle.plan_model.specs.Valid.{IsValid}
-use Rattle.replay_events.specs.Moments.{all_arrivals}
+use Rattle.sent_order.specs.fragment_laws.specs.Apart.{IsIn}
+use Rattle.sent_order.specs.plan_model.specs.Valid.{IsValid}
+use Rattle.replay_laws.specs.replay_events.specs.Moments.{all_arrivals}
 use Rattle.replay_laws.proofs.OnceLemmas.{cells_are_reported}
-use Rattle.schedule_laws.proofs.ListLemmas.{at_in, in_all}
-use Rattle.unit_model.specs.Meetings.{Arrival}
-use Rattle.unit_model.specs.Standing.{same_cell}
-use Rattle.unit_model.specs.Times.{end_of_time}
+use Rattle.sent_order.specs.schedule_laws.proofs.ListLemmas.{at_in, in_all}
+use Rattle.replay_laws.specs.unit_model.specs.Meetings.{Arrival}
+use Rattle.replay_laws.specs.unit_model.specs.Standing.{same_cell}
+use Rattle.replay_laws.specs.unit_model.specs.Times.{end_of_time}
+use Rattle.uplink_laws.proofs.ArrivalLemmas.{delivered, sounds}
 use Rattle.uplink_laws.proofs.BlockLemmas.{decoded_once}
 use Rattle.uplink_laws.proofs.CellLemmas.{plan_taken_in}
 use Rattle.uplink_laws.proofs.JobLemmas.{jobs_planned}
 use Rattle.uplink_laws.proofs.LeastLemmas.{commands_arrive}
 use Rattle.uplink_laws.proofs.SingleLemmas.{taken_once as cell_taken_once}
 use Rattle.uplink_laws.proofs.WholeLemmas.{taken_once}
+use Rattle.uplink_laws.specs.Flows.{bounds_of}
 use Rattle.uplink_laws.specs.Premise.{AnswersArrive, BothArrive, CanAnswer, CommandsArrive, IsUplinkCopy}
 use Rattle.uplink_laws.specs.Singles.{event_of}
-use Rattle.window_config.specs.Endpoints.{IsEndpoint}
-use Rattle.window_config.specs.Windows.{ticks_of_ns}
-use Rattle.document_traffic.specs.Landing.{answers_of, antenna_for, handed_for, jobs_for, landings_of, leaving_answer, leaving_up, traffic_of}
+use Rattle.frame_deliveries.specs.window_config.specs.Endpoints.{IsEndpoint}
+use Rattle.frame_deliveries.specs.window_config.specs.Windows.{ticks_of_ns}
+use Rattle.document_traffic.specs.Landing.{answers_of, antenna_for, handed_for, jobs_for, landings_of, leaving_answer, leaving_up, planned_traffic}
 use Rattle.document_traffic.specs.Laws.{HasWidths, UplinkIsTakenInOnce}
 use Rattle.document_traffic.specs.Sending.{Leaving, lines_of, source_for}
-use Rattle.document_traffic.specs.Undisturbed.{IsTakenInOnce, IsUndisturbedBothWays, answers_for}
+use Rattle.document_traffic.specs.Undisturbed.{IsTakenInOnce, IsUndisturbedBothWays, answered_for, answers_for, fragments_at}
 use Rattle.document_traffic.proofs.AnswerLemmas.{handed_is_sent, sent_is_handed}
 use Rattle.document_traffic.proofs.ArrivalLemmas.{arrivals_in_order, in_arrivals, of_arrivals}
 use Rattle.document_traffic.proofs.CarriedLemmas.{IsCopyOf, each_has_copy, each_is_copy}
+use Rattle.document_traffic.proofs.GenerationLemmas.{each_holds_one}
 use Rattle.document_traffic.proofs.LandingLemmas.{are_replayed}
 use Rattle.document_traffic.proofs.RadiatedLemmas.{copies, sendable, starts}
 use Rattle.document_traffic.proofs.ToneLemmas.{tone_fits}
@@ -77,17 +80,19 @@ module _ (d : Document) (is : IsDocument d) (widths : HasWidths d) (valid : IsVa
 
   -- ---- so all is taken in
 
-  taken_in : IsTakenInOnce d
+  taken_in : IsTakenInOnce d (planned_traffic d)
   taken_in =
       let down = all_arrivals (landings_of d) in
       let up = all_arrivals (answers_of d) in
       let source = source_for d in
       let antenna = antenna_for d in
-      let reported = cells_are_reported Du d.config (traffic_of d) in
+      let reported = cells_are_reported Du d.config (planned_traffic d) in
       record {
         jobs = jobs_planned d.config d.plan source down both.sendable both.check both.down_arrive;
         messages = taken_once d.config d.plan source antenna down up both;
         sections = decoded_once d.config d.plan source antenna down up both;
+        generations = each_holds_one (bounds_of d.config) (answered_for d) (sounds d.config d.plan source antenna down up both) (fragments_at Du d (planned_traffic d))
+            (delivered d.config d.plan source antenna down up both);
         cells = reported ∙ plan_taken_in d.config d.plan source antenna down up both end_of_time;
         once = λ p symbol prb re m uplink below named.
             (let event = event_of (answers_for d) (lines_of d) p symbol prb in

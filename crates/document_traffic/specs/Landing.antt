@@ -1,25 +1,25 @@
--- What lands at each unit in a document's replay (this project's profile): the copies of what is sent to it, in the order in which it is
--- sent and then by copy, and behind them the injected frames in the order of the document. Times are ticks. What the radio unit sends
+-- What lands at each unit for a document without the frames of delay measurement (this project's profile): the copies of what is sent to
+-- it, in the order in which it is sent and then by copy, and behind them the injected frames in the order of the document. Times are ticks. What the radio unit sends
 -- rests on what lands at it alone, so nothing here is recursive.
-use Rattle.std.specs.Prelude.{ℤ, pos, ◌+ℤ◌, ◌*ℤ◌, Bool, List, ◌++◌, filter, length, map}
+use Rattle.std.specs.Prelude.{ℤ, pos, ◌+ℤ◌, ◌*ℤ◌, Bool, List, [], ◌++◌, filter, length, map}
 use Rattle.std.specs.List.{flat_map}
-use Rattle.air_source.specs.declared.events.Side.{Side}
-use Rattle.air_source.specs.declared.events.Side.TheVariants.{Ru, Du}
-use Rattle.air_source.specs.declared.links.LinkFrame.{LinkFrame}
-use Rattle.fh_document.specs.declared.delivered.Class3.TheVariants.{U}
-use Rattle.fh_document.specs.declared.document.Document.{Document}
-use Rattle.fh_document.specs.declared.document.Injection.{Injection}
-use Rattle.replay_events.specs.Heard.{is_of}
-use Rattle.replay_events.specs.Moments.{all_arrivals}
-use Rattle.replay_events.specs.Traffic.{Traffic}
-use Rattle.tone_source.specs.Tones.{tone_of}
-use Rattle.unit_model.specs.Meetings.{Arrival}
-use Rattle.unit_model.specs.declared.jobs.UplinkJob.{UplinkJob}
+use Rattle.frame_deliveries.specs.air_source.specs.declared.events.Side.{Side}
+use Rattle.frame_deliveries.specs.air_source.specs.declared.events.Side.TheVariants.{Ru, Du}
+use Rattle.frame_deliveries.specs.air_source.specs.declared.links.LinkFrame.{LinkFrame}
+use Rattle.frame_deliveries.specs.fh_document.specs.declared.delivered.Class3.TheVariants.{U}
+use Rattle.frame_deliveries.specs.fh_document.specs.declared.document.Document.{Document}
+use Rattle.frame_deliveries.specs.fh_document.specs.declared.document.Injection.{Injection}
+use Rattle.replay_laws.specs.replay_events.specs.Heard.{is_of}
+use Rattle.replay_laws.specs.replay_events.specs.Moments.{all_arrivals}
+use Rattle.replay_laws.specs.replay_events.specs.Traffic.{Traffic}
+use Rattle.frame_deliveries.specs.tone_source.specs.Tones.{tone_of}
+use Rattle.replay_laws.specs.unit_model.specs.Meetings.{Arrival}
+use Rattle.replay_laws.specs.unit_model.specs.declared.jobs.UplinkJob.{UplinkJob}
 use Rattle.uplink_laws.specs.Lines.{uplink_of}
 use Rattle.uplink_laws.specs.Premise.{frames_of, jobs_of}
-use Rattle.uplink_model.specs.Frames.{Antenna}
-use Rattle.uplink_model.specs.Sent.{in_sent_order}
-use Rattle.window_config.specs.Windows.{ticks_of_ns}
+use Rattle.uplink_laws.specs.uplink_model.specs.Frames.{Antenna}
+use Rattle.uplink_laws.specs.uplink_model.specs.Sent.{in_sent_order}
+use Rattle.frame_deliveries.specs.window_config.specs.Windows.{ticks_of_ns}
 use Rattle.document_traffic.specs.Sending.{Delayed, Leaving, delayed_behind, leaving_down, lines_of, none_sent}
 
 -- ---- copies, and injected frames
@@ -80,9 +80,9 @@ answers_of d = landing_with d Du (leaving_up d)
 
 -- ---- both units
 
--- all that lands at each, and what the plan's `ul` lines name
-abbrev pub traffic_of : Document → Traffic
-traffic_of d = record { at_ru = landings_of d; planned = uplink_of (lines_of d); at_du = answers_of d }
+-- all that lands at each of a plan's frames and of those that are injected, and what the plan's `ul` lines name: nothing is measured
+abbrev pub planned_traffic : Document → Traffic
+planned_traffic d = record { at_ru = landings_of d; planned = uplink_of (lines_of d); at_du = answers_of d; results = λ side tick. []; counted = λ side. [] }
 
 -- all that leaves for a unit
 abbrev pub leaving_to : Side → Document → List Leaving

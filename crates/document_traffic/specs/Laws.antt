@@ -1,15 +1,15 @@
 -- What holds of what lands for a document with a valid plan.
 use Rattle.std.specs.Prelude.{◌<◌, ◌^◌, ◌≤ℤ◌, All, IsPermutation, length, map}
 use Rattle.std.specs.List.{AllPairs}
-use Rattle.air_source.specs.declared.events.Side.{Side}
-use Rattle.fh_document.specs.Proper.{IsDocument}
-use Rattle.fh_document.specs.declared.document.Document.{Document}
-use Rattle.plan_model.specs.Valid.{IsValid}
-use Rattle.replay_events.specs.Passing.{AreLandings}
-use Rattle.replay_events.specs.Traffic.{landings_at}
-use Rattle.window_config.specs.declared.endpoints.EndpointConfig.{EndpointConfig}
-use Rattle.window_config.specs.declared.plan.PlanLine.{PlanLine}
-use Rattle.document_traffic.specs.Landing.{handed_for, leaving_answer, leaving_to, leaving_up, traffic_of}
+use Rattle.frame_deliveries.specs.air_source.specs.declared.events.Side.{Side}
+use Rattle.frame_deliveries.specs.fh_document.specs.Proper.{IsDocument}
+use Rattle.frame_deliveries.specs.fh_document.specs.declared.document.Document.{Document}
+use Rattle.sent_order.specs.plan_model.specs.Valid.{IsValid}
+use Rattle.replay_laws.specs.replay_events.specs.Passing.{AreLandings}
+use Rattle.replay_laws.specs.replay_events.specs.Traffic.{landings_at}
+use Rattle.frame_deliveries.specs.window_config.specs.declared.endpoints.EndpointConfig.{EndpointConfig}
+use Rattle.frame_deliveries.specs.window_config.specs.declared.plan.PlanLine.{PlanLine}
+use Rattle.document_traffic.specs.Landing.{handed_for, leaving_answer, leaving_to, leaving_up, planned_traffic}
 use Rattle.document_traffic.specs.Sending.{Leaving}
 use Rattle.document_traffic.specs.Undisturbed.{IsTakenInOnce, IsUndisturbed, IsUndisturbedBothWays, RadiatesOnce}
 
@@ -20,15 +20,15 @@ pub record HasWidths (d : Document) : Type 0 where
 
 -- all that lands at a unit has its time between the first clock and the end of time
 abbrev pub LandingsAreReplayed : Type 0
-LandingsAreReplayed = (d : Document) (side : Side) → IsDocument d → IsValid d.config d.plan → AreLandings (landings_at side (traffic_of d))
+LandingsAreReplayed = (d : Document) (side : Side) → IsDocument d → IsValid d.config d.plan → AreLandings (landings_at side (planned_traffic d))
 
 -- where nothing disturbs its schedule, each scheduled element radiates once, with its samples
 abbrev pub ScheduleRadiatesOnce : Type 0
-ScheduleRadiatesOnce = (d : Document) → IsDocument d → HasWidths d → IsValid d.config d.plan → IsUndisturbed d → RadiatesOnce d
+ScheduleRadiatesOnce = (d : Document) → IsDocument d → HasWidths d → IsValid d.config d.plan → IsUndisturbed d → RadiatesOnce d (planned_traffic d)
 
 -- where nothing disturbs it either way, each planned uplink element is taken in once, with the antenna's samples
 abbrev pub UplinkIsTakenInOnce : Type 0
-UplinkIsTakenInOnce = (d : Document) → IsDocument d → HasWidths d → IsValid d.config d.plan → IsUndisturbedBothWays d → IsTakenInOnce d
+UplinkIsTakenInOnce = (d : Document) → IsDocument d → HasWidths d → IsValid d.config d.plan → IsUndisturbedBothWays d → IsTakenInOnce d (planned_traffic d)
 
 -- frames leave for a unit in the order of time
 abbrev pub LeavingAreInOrder : Type 0

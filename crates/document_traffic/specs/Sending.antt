@@ -1,20 +1,20 @@
 -- What the distributed unit sends for a document, and how long the copies of each frame that a unit sends are on their way (this
 -- project's profile).
 use Rattle.std.specs.Prelude.{ℕ, ℤ, ◌+◌, List, [], ◌∷◌, map}
-use Rattle.air_source.specs.declared.events.Side.{Side}
-use Rattle.fh_document.specs.declared.delivered.Class3.{Class3}
-use Rattle.fh_document.specs.declared.delivered.Class3.TheVariants.{C, U, M}
-use Rattle.fh_document.specs.declared.document.Document.{Document}
+use Rattle.frame_deliveries.specs.air_source.specs.declared.events.Side.{Side}
+use Rattle.frame_deliveries.specs.fh_document.specs.declared.delivered.Class3.{Class3}
+use Rattle.frame_deliveries.specs.fh_document.specs.declared.delivered.Class3.TheVariants.{C, U, M}
+use Rattle.frame_deliveries.specs.fh_document.specs.declared.document.Document.{Document}
 use Rattle.frame_deliveries.specs.Copies.{copies_of}
-use Rattle.plan_model.specs.Lines.{planned}
-use Rattle.plan_model.specs.Sent.{SentFrame, sent}
-use Rattle.plan_model.specs.declared.lines.PlannedLine.{PlannedLine}
-use Rattle.plan_model.specs.declared.streams.Stream.{Stream}
-use Rattle.plan_model.specs.declared.streams.Stream.TheVariants.{DownCommands, UpCommands, DownData, UpData}
-use Rattle.sent_frames.specs.Frames.{sent_bytes}
-use Rattle.sent_frames.specs.Messages.{Source}
-use Rattle.sent_frames.specs.Sources.{source_of}
-use Rattle.tone_source.specs.Tones.{tone_of}
+use Rattle.sent_order.specs.plan_model.specs.Lines.{planned}
+use Rattle.sent_order.specs.plan_model.specs.Sent.{SentFrame, sent}
+use Rattle.sent_order.specs.plan_model.specs.declared.lines.PlannedLine.{PlannedLine}
+use Rattle.sent_order.specs.plan_model.specs.declared.streams.Stream.{Stream}
+use Rattle.sent_order.specs.plan_model.specs.declared.streams.Stream.TheVariants.{DownCommands, UpCommands, DownData, UpData}
+use Rattle.uplink_laws.specs.sent_frames.specs.Frames.{sent_bytes}
+use Rattle.uplink_laws.specs.sent_frames.specs.Messages.{Source}
+use Rattle.uplink_laws.specs.sent_frames.specs.Sources.{source_of}
+use Rattle.frame_deliveries.specs.tone_source.specs.Tones.{tone_of}
 
 -- ---- what the distributed unit sends
 
@@ -54,20 +54,21 @@ leaving_down d = map (leaving_of d) (sent_for d)
 pub record SentCounts : Type 0 where
   pub c_plane : ℕ
   pub u_plane : ℕ
+  pub measurement : ℕ
 
 abbrev pub none_sent : SentCounts
-none_sent = record { c_plane = 0; u_plane = 0 }
+none_sent = record { c_plane = 0; u_plane = 0; measurement = 0 }
 
 -- the counts with one frame of the class more
 abbrev pub counted : Class3 → SentCounts → SentCounts
-counted C n = record { c_plane = n.c_plane + 1; u_plane = n.u_plane }
-counted U n = record { c_plane = n.c_plane; u_plane = n.u_plane + 1 }
-counted M n = n
+counted C n = record { c_plane = n.c_plane + 1; u_plane = n.u_plane; measurement = n.measurement }
+counted U n = record { c_plane = n.c_plane; u_plane = n.u_plane + 1; measurement = n.measurement }
+counted M n = record { c_plane = n.c_plane; u_plane = n.u_plane; measurement = n.measurement + 1 }
 
 abbrev pub count_of : Class3 → SentCounts → ℕ
 count_of C n = n.c_plane
 count_of U n = n.u_plane
-count_of M n = 0
+count_of M n = n.measurement
 
 -- ---- copies of the frames that are sent to a unit
 

@@ -1,33 +1,41 @@
 -- When nothing disturbs a document's schedule, what radiates then and what is taken in (O-RAN.WG4.CUS, delay management; this project's
 -- profile).
 use Rattle.std.specs.Prelude.{◌≡◌, ◌≢◌, ℕ, ◌<◌, ◌≤ℤ◌, true, false, List, [], ◌∷◌, All, filter}
-use Rattle.air_source.specs.declared.events.AirCell.{AirCell}
-use Rattle.air_source.specs.declared.events.Side.{Side}
-use Rattle.air_source.specs.declared.events.Side.TheVariants.{Ru, Du}
-use Rattle.fh_document.specs.declared.document.Document.{Document}
-use Rattle.fragment_laws.specs.Apart.{IsIn}
-use Rattle.plan_model.specs.Lines.{allocation_of}
-use Rattle.plan_model.specs.declared.lines.PlannedLine.{PlannedLine}
-use Rattle.replay_events.specs.Events.{events}
-use Rattle.replay_events.specs.Heard.{cells_heard}
-use Rattle.replay_events.specs.Moments.{all_arrivals, end_of_time}
-use Rattle.schedule_laws.specs.Cells.{planned_air}
-use Rattle.schedule_laws.specs.Commands.{AreCommandedOnce}
-use Rattle.schedule_laws.specs.Data.{AreDecodedOnce, Blocks}
-use Rattle.schedule_laws.specs.Singles.{event_of}
-use Rattle.sent_laws.specs.Frames.{blocks_of, texts_of}
-use Rattle.unit_model.specs.Claims.{cell_of, names}
-use Rattle.unit_model.specs.Standing.{same_cell}
+use Rattle.frame_deliveries.specs.air_source.specs.declared.events.AirCell.{AirCell}
+use Rattle.frame_deliveries.specs.air_source.specs.declared.events.Side.{Side}
+use Rattle.frame_deliveries.specs.air_source.specs.declared.events.Side.TheVariants.{Ru, Du}
+use Rattle.ecpri_fragments.specs.Generations.{Fragment}
+use Rattle.frame_deliveries.specs.fh_document.specs.declared.document.Document.{Document}
+use Rattle.sent_order.specs.fragment_laws.specs.Apart.{IsIn}
+use Rattle.sent_order.specs.fragment_laws.specs.Flow.{Flow}
+use Rattle.sent_order.specs.plan_model.specs.Lines.{allocation_of}
+use Rattle.sent_order.specs.plan_model.specs.declared.lines.PlannedLine.{PlannedLine}
+use Rattle.replay_laws.specs.replay_events.specs.Events.{events}
+use Rattle.replay_laws.specs.replay_events.specs.Heard.{cells_heard}
+use Rattle.replay_laws.specs.replay_events.specs.Moments.{all_arrivals, end_of_time}
+use Rattle.replay_laws.specs.replay_events.specs.Traffic.{Traffic, landings_at}
+use Rattle.sent_order.specs.schedule_laws.specs.Cells.{planned_air}
+use Rattle.sent_order.specs.schedule_laws.specs.Commands.{AreCommandedOnce}
+use Rattle.sent_order.specs.schedule_laws.specs.Data.{AreDecodedOnce, Blocks}
+use Rattle.sent_order.specs.schedule_laws.specs.Flows.{bounds_of, flow_of}
+use Rattle.sent_order.specs.schedule_laws.specs.Singles.{event_of}
+use Rattle.uplink_laws.specs.sent_laws.specs.Frames.{blocks_of, texts_of}
+use Rattle.replay_laws.specs.unit_model.specs.Claims.{cell_of, names}
+use Rattle.replay_laws.specs.unit_model.specs.Meetings.{fragments}
+use Rattle.replay_laws.specs.unit_model.specs.Reports.{met}
+use Rattle.replay_laws.specs.unit_model.specs.Standing.{same_cell}
 use Rattle.uplink_laws.specs.Lines.{is_uplink}
 use Rattle.uplink_laws.specs.Whole.{AreTakenOnce}
-use Rattle.window_config.specs.Relations.{PassesCheck}
-use Rattle.window_config.specs.declared.delays.Delays.{Delays}
-use Rattle.window_config.specs.declared.delays.Range.{Range}
+use Rattle.frame_deliveries.specs.window_config.specs.Relations.{PassesCheck}
+use Rattle.frame_deliveries.specs.window_config.specs.declared.delays.Delays.{Delays}
+use Rattle.frame_deliveries.specs.window_config.specs.declared.delays.Range.{Range}
 use Rattle.uplink_laws.specs.Cells.{taken_air}
 use Rattle.uplink_laws.specs.Data.{AreDecodedOnce as AreAnswersDecodedOnce, blocks_of as answer_blocks_of}
+use Rattle.uplink_laws.specs.Flows.{bounds_of as answer_bounds_of, flow_of as answer_flow_of}
 use Rattle.uplink_laws.specs.Jobs.{AreJobsOfPlan}
 use Rattle.uplink_laws.specs.Singles.{event_of as taken_event_of}
-use Rattle.document_traffic.specs.Landing.{all_delayed, answers_of, antenna_for, landings_of, traffic_of}
+use Rattle.document_traffic.specs.Generations.{EachHoldsOneMessage}
+use Rattle.document_traffic.specs.Landing.{all_delayed, antenna_for}
 use Rattle.document_traffic.specs.Sending.{Delayed, lines_of, source_for}
 
 -- ---- the premise
@@ -63,20 +71,30 @@ pub record IsUndisturbedBothWays (d : Document) : Type 0 where
 abbrev pub blocks_for : Document → Blocks
 blocks_for d = blocks_of d.config (source_for d)
 
--- the cells of a unit among all events
-abbrev pub told_for : Side → Document → List AirCell
-told_for side d = cells_heard side (events d.config (traffic_of d))
+-- the cells of a unit among all events of what lands
+abbrev pub told_for : Side → Document → Traffic → List AirCell
+told_for side d t = cells_heard side (events d.config t)
+
+-- the fragments of data that came at a unit, the newest first
+abbrev pub fragments_at : Side → Document → Traffic → List Fragment
+fragments_at side d t = fragments (met side d.config (all_arrivals (landings_at side t)))
+
+-- the data messages that are sent for each endpoint
+abbrev pub messages_for : Document → ℕ → Flow
+messages_for d = flow_of d.config (lines_of d) (texts_of d.config (lines_of d) (source_for d))
 
 -- Each command carries a line of the plan, the first of it is Accepted and each further one is Repeat; each data message becomes whole
--- once, over any number of messages; the cells that radiate are, cell for cell and in order, those of the plan's `dl` lines with the
--- source's shrunk samples, and none is missing; and of each cell in which a `dl` line names an element there is exactly one event.
-pub record RadiatesOnce (d : Document) : Type 0 where
-  pub commands : AreCommandedOnce d.config (lines_of d) (all_arrivals (landings_of d))
-  pub messages : AreDecodedOnce d.config (lines_of d) (texts_of d.config (lines_of d) (source_for d)) (blocks_for d) (all_arrivals (landings_of d))
-  pub cells : told_for Ru d ≡ planned_air d.config (blocks_for d) (lines_of d) end_of_time
+-- once, over any number of messages; each generation at the radio unit holds fragments of one message only, and every copy of them; the
+-- cells that radiate are, cell for cell and in order, those of the plan's `dl` lines with the source's shrunk samples, and none is missing;
+-- and of each cell in which a `dl` line names an element there is exactly one event.
+pub record RadiatesOnce (d : Document) (t : Traffic) : Type 0 where
+  pub commands : AreCommandedOnce d.config (lines_of d) (all_arrivals t.at_ru)
+  pub messages : AreDecodedOnce d.config (lines_of d) (texts_of d.config (lines_of d) (source_for d)) (blocks_for d) (all_arrivals t.at_ru)
+  pub generations : EachHoldsOneMessage (bounds_of d.config) (messages_for d) (fragments_at Ru d t)
+  pub cells : told_for Ru d t ≡ planned_air d.config (blocks_for d) (lines_of d) end_of_time
   pub once : (p : PlannedLine) (symbol prb re : ℕ) → IsIn p (lines_of d) → (allocation_of p).down ≡ true → (allocation_of p).idle ≡ false → re < 12
       → names (allocation_of p) (cell_of (allocation_of p) symbol prb) re ≡ true
-      → filter (same_cell (event_of (blocks_for d) (lines_of d) p symbol prb)) (told_for Ru d) ≡ event_of (blocks_for d) (lines_of d) p symbol prb ∷ []
+      → filter (same_cell (event_of (blocks_for d) (lines_of d) p symbol prb)) (told_for Ru d t) ≡ event_of (blocks_for d) (lines_of d) p symbol prb ∷ []
 
 -- ---- what is taken in then
 
@@ -84,15 +102,20 @@ pub record RadiatesOnce (d : Document) : Type 0 where
 abbrev pub answers_for : Document → Blocks
 answers_for d = answer_blocks_of d.config (antenna_for d)
 
+-- the uplink messages that are sent for each endpoint
+abbrev pub answered_for : Document → ℕ → Flow
+answered_for d = answer_flow_of d.config (antenna_for d) (lines_of d)
+
 -- The uplink sections that are accepted are those of the plan's `ul` lines, each once; each uplink message becomes whole once, within
--- Ta4, over any number of messages, and is decoded once; the cells that the distributed unit takes in are, cell for cell and in order,
--- those of the `ul` lines with the antenna's shrunk samples, and none is missing; and of each cell in which a `ul` line names an element
--- there is exactly one event.
-pub record IsTakenInOnce (d : Document) : Type 0 where
-  pub jobs : AreJobsOfPlan d.config (lines_of d) (all_arrivals (landings_of d))
-  pub messages : AreTakenOnce d.config (antenna_for d) (lines_of d) (all_arrivals (answers_of d))
-  pub sections : AreAnswersDecodedOnce d.config (lines_of d) (antenna_for d) (all_arrivals (answers_of d))
-  pub cells : told_for Du d ≡ taken_air d.config (answers_for d) (lines_of d) end_of_time
+-- Ta4, over any number of messages, and is decoded once; each generation at the distributed unit holds fragments of one message only, and
+-- every copy of them; the cells that the distributed unit takes in are, cell for cell and in order, those of the `ul` lines with the
+-- antenna's shrunk samples, and none is missing; and of each cell in which a `ul` line names an element there is exactly one event.
+pub record IsTakenInOnce (d : Document) (t : Traffic) : Type 0 where
+  pub jobs : AreJobsOfPlan d.config (lines_of d) (all_arrivals t.at_ru)
+  pub messages : AreTakenOnce d.config (antenna_for d) (lines_of d) (all_arrivals t.at_du)
+  pub sections : AreAnswersDecodedOnce d.config (lines_of d) (antenna_for d) (all_arrivals t.at_du)
+  pub generations : EachHoldsOneMessage (answer_bounds_of d.config) (answered_for d) (fragments_at Du d t)
+  pub cells : told_for Du d t ≡ taken_air d.config (answers_for d) (lines_of d) end_of_time
   pub once : (p : PlannedLine) (symbol prb re : ℕ) → IsIn p (lines_of d) → is_uplink p ≡ true → re < 12
       → names (allocation_of p) (cell_of (allocation_of p) symbol prb) re ≡ true
-      → filter (same_cell (taken_event_of (answers_for d) (lines_of d) p symbol prb)) (told_for Du d) ≡ taken_event_of (answers_for d) (lines_of d) p symbol prb ∷ []
+      → filter (same_cell (taken_event_of (answers_for d) (lines_of d) p symbol prb)) (told_for Du d t) ≡ taken_event_of (answers_for d) (lines_of d) p symbol prb ∷ []

@@ -17,13 +17,15 @@ pub fn landings_are_replayed()
 {}
 
 /// Where the windows pass the check, nothing is injected and each frame that is sent to the radio unit has a copy, each within T12: each
-/// scheduled downlink element radiates once, with its source's samples as compression leaves them.
+/// scheduled downlink element radiates once, with its source's samples as compression leaves them, and each generation at the radio unit
+/// holds fragments of one message only, and every copy of them that came.
 pub fn the_schedule_radiates_once()
     ensures { ScheduleRadiatesOnce }
 {}
 
 /// Where besides each frame that the radio unit sends has a copy, each within T34: each planned uplink element is taken in once, with the
-/// antenna's samples as compression leaves them.
+/// antenna's samples as compression leaves them, and each generation at the distributed unit holds fragments of one message only, and every
+/// copy of them that came.
 pub fn the_uplink_is_taken_in_once()
     ensures { UplinkIsTakenInOnce }
 {}

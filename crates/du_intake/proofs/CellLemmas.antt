@@ -19,35 +19,35 @@ use Rattle.window_config.specs.Rings.{IsLive}
 use Rattle.window_config.specs.Windows.{ticks_of_ns}
 use Rattle.window_config.specs.declared.config.Config.{Config}
 use Rattle.window_config.specs.declared.endpoints.EndpointConfig.{EndpointConfig}
-use Rattle.unit_model.specs.Claims.{claim_at, same_slot, same_way}
-use Rattle.unit_model.specs.Counts.{cells_counted}
-use Rattle.unit_model.specs.Lists.{each}
-use Rattle.unit_model.specs.Order.{comes_before}
-use Rattle.unit_model.specs.Proper.{IsAt, IsSlot}
-use Rattle.unit_model.specs.Radiated.{Known, air_cell, first_clock, is_down, used_mask, wait_of}
-use Rattle.unit_model.specs.Reports.{arrivals_counted, du_known, timely_of}
-use Rattle.unit_model.specs.Standing.{History, IsCell, IsOwed, cell_heard, due, heard, past_of, still_reported}
-use Rattle.unit_model.specs.Starts.{start_at}
-use Rattle.unit_model.specs.Sweeps.{OfSymbol}
-use Rattle.unit_model.specs.declared.allocations.Allocation.{Allocation}
-use Rattle.unit_model.specs.declared.cells.Cell.{Cell}
-use Rattle.unit_model.specs.declared.symbol_start.SymbolStart.{SymbolStart}
-use Rattle.unit_model.proofs.SweepLaws.{each_more, each_split}
-use Rattle.unit_laws.specs.Swept.{IsSwept}
-use Rattle.unit_laws.proofs.CellLemmas.{slots_equal}
-use Rattle.unit_laws.proofs.DifferLemmas.{id_is}
-use Rattle.unit_laws.proofs.DueLemmas.{due_begins, due_in_pieces, due_left, heard_differ, unheard}
-use Rattle.unit_laws.proofs.FarLemmas.{endpoints_equal}
-use Rattle.unit_cells.specs.Cells.{cells_block}
-use Rattle.unit_cells.proofs.TimeLemmas.{live_at}
-use Rattle.unit_cells.proofs.ToldLemmas.{told_whole}
-use Rattle.history_laws.specs.First.{IsSweptIn, told_of}
-use Rattle.history_laws.proofs.FirstLemmas.{first_is_first}
-use Rattle.ru_memory.specs.Memory.{Holds}
-use Rattle.ru_memory.specs.declared.memory.RuMemory.{RuMemory}
-use Rattle.ru_memory.proofs.HoldLemmas.{holds_later}
-use Rattle.ru_reports.specs.Symbols.{CountsTold}
-use Rattle.ru_reports.proofs.OrderLemmas.{not_before_itself}
+use Rattle.schedule_laws.specs.unit_model.specs.Claims.{claim_at, same_slot, same_way}
+use Rattle.schedule_laws.specs.unit_model.specs.Counts.{cells_counted}
+use Rattle.schedule_laws.specs.unit_model.specs.Lists.{each}
+use Rattle.schedule_laws.specs.unit_model.specs.Order.{comes_before}
+use Rattle.schedule_laws.specs.unit_model.specs.Proper.{IsAt, IsSlot}
+use Rattle.schedule_laws.specs.unit_model.specs.Radiated.{Known, air_cell, first_clock, is_down, used_mask, wait_of}
+use Rattle.schedule_laws.specs.unit_model.specs.Reports.{arrivals_counted, du_known, timely_of}
+use Rattle.schedule_laws.specs.unit_model.specs.Standing.{History, IsCell, IsOwed, cell_heard, due, heard, past_of, still_reported}
+use Rattle.schedule_laws.specs.unit_model.specs.Starts.{start_at}
+use Rattle.schedule_laws.specs.unit_model.specs.Sweeps.{OfSymbol}
+use Rattle.schedule_laws.specs.unit_model.specs.declared.allocations.Allocation.{Allocation}
+use Rattle.schedule_laws.specs.unit_model.specs.declared.cells.Cell.{Cell}
+use Rattle.schedule_laws.specs.unit_model.specs.declared.symbol_start.SymbolStart.{SymbolStart}
+use Rattle.schedule_laws.specs.unit_model.proofs.SweepLaws.{each_more, each_split}
+use Rattle.schedule_laws.specs.unit_laws.specs.Swept.{IsSwept}
+use Rattle.schedule_laws.specs.unit_laws.proofs.CellLemmas.{slots_equal}
+use Rattle.schedule_laws.specs.unit_laws.proofs.DifferLemmas.{id_is}
+use Rattle.schedule_laws.specs.unit_laws.proofs.DueLemmas.{due_begins, due_in_pieces, due_left, heard_differ, unheard}
+use Rattle.schedule_laws.specs.unit_laws.proofs.FarLemmas.{endpoints_equal}
+use Rattle.ru_buffers.specs.unit_cells.specs.Cells.{cells_block}
+use Rattle.ru_buffers.specs.unit_cells.proofs.TimeLemmas.{live_at}
+use Rattle.ru_buffers.specs.unit_cells.proofs.ToldLemmas.{told_whole}
+use Rattle.ru_buffers.specs.history_laws.specs.First.{IsSweptIn, told_of}
+use Rattle.ru_buffers.specs.history_laws.proofs.FirstLemmas.{first_is_first}
+use Rattle.ru_buffers.specs.ru_memory.specs.Memory.{Holds}
+use Rattle.ru_buffers.specs.ru_memory.specs.declared.memory.RuMemory.{RuMemory}
+use Rattle.ru_buffers.specs.ru_memory.proofs.HoldLemmas.{holds_later}
+use Rattle.ru_buffers.specs.ru_reports.specs.Symbols.{CountsTold}
+use Rattle.ru_buffers.specs.ru_reports.proofs.OrderLemmas.{not_before_itself}
 use Rattle.ru_buffers.proofs.MarkedLemmas.{counts_more}
 use Rattle.ru_buffers.proofs.OrderLemmas.{same_place}
 use Rattle.schedule_laws.proofs.ClashLemmas.{slot_own}

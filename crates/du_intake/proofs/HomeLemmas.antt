@@ -13,9 +13,9 @@ use Rattle.std.specs.Cmp.{IsTotalOrder}
 use Rattle.std.proofs.lemmas.Int.{ints}
 use Rattle.std.proofs.lemmas.List.Sorted.{ranks_by}
 use Rattle.fh_time.specs.declared.values.Slot.{Slot}
-use Rattle.unit_model.specs.Claims.{same_slot}
-use Rattle.unit_model.specs.Order.{slot_before}
-use Rattle.unit_laws.proofs.CellLemmas.{slots_equal}
+use Rattle.schedule_laws.specs.unit_model.specs.Claims.{same_slot}
+use Rattle.schedule_laws.specs.unit_model.specs.Order.{slot_before}
+use Rattle.schedule_laws.specs.unit_laws.proofs.CellLemmas.{slots_equal}
 use Rattle.schedule_laws.proofs.ClashLemmas.{slot_own}
 use Rattle.du_intake.specs.Lines.{AreInOrder, home_before, is_home, lines_at, same_home}
 use Rattle.du_intake.specs.declared.lines.UplinkLine.{UplinkLine}

@@ -6,7 +6,7 @@ use Rattle.std.specs.Cmp.{IsStrictWeakOrder}
 use Rattle.std.proofs.lemmas.Bool.{cases_Bool, and_from}
 use Rattle.std.proofs.lemmas.List.Sorted.{sorted_far}
 use Rattle.std.proofs.lemmas.Option.{get_or_from_slice_get, slice_get_within}
-use Rattle.fragment_laws.specs.Apart.{IsIn}
+use Rattle.schedule_laws.specs.fragment_laws.specs.Apart.{IsIn}
 use Rattle.schedule_laws.proofs.ListLemmas.{at_in, in_either, in_filter, of_filter}
 use Rattle.du_intake.specs.Listing.{Pairwise}
 

@@ -14,13 +14,13 @@ use Rattle.std.proofs.lemmas.Option.{get_or_from_slice_get, slice_get-get_or, sl
 use Rattle.fh_time.specs.Air.{air_of}
 use Rattle.fh_time.specs.Numbering.{symbols_of}
 use Rattle.fh_time.specs.declared.values.Slot.{Slot}
-use Rattle.fragment_laws.specs.Apart.{IsIn}
+use Rattle.schedule_laws.specs.fragment_laws.specs.Apart.{IsIn}
 use Rattle.window_config.specs.declared.endpoints.EndpointConfig.{EndpointConfig}
-use Rattle.unit_model.specs.Claims.{is_from, same_slot}
-use Rattle.unit_model.specs.Lists.{each}
-use Rattle.unit_model.specs.Order.{comes_before, slot_before}
-use Rattle.unit_model.specs.Proper.{IsAt, IsSlot}
-use Rattle.unit_laws.proofs.FarLemmas.{endpoints_equal}
+use Rattle.schedule_laws.specs.unit_model.specs.Claims.{is_from, same_slot}
+use Rattle.schedule_laws.specs.unit_model.specs.Lists.{each}
+use Rattle.schedule_laws.specs.unit_model.specs.Order.{comes_before, slot_before}
+use Rattle.schedule_laws.specs.unit_model.specs.Proper.{IsAt, IsSlot}
+use Rattle.schedule_laws.specs.unit_laws.proofs.FarLemmas.{endpoints_equal}
 use Rattle.schedule_laws.proofs.ClashLemmas.{slot_own}
 use Rattle.schedule_laws.proofs.ListLemmas.{at_in, in_each, in_either, in_filter, in_left, in_right, of_each}
 use Rattle.du_intake.specs.Lines.{AreInOrder, has_symbol, home_before, is_home, lines_at, same_home}

@@ -7,21 +7,21 @@ use Rattle.std.proofs.lemmas.Bool.{and_parts}
 use Rattle.std.proofs.lemmas.Bool.Decides.{nat_tests}
 use Rattle.std.proofs.lemmas.Nat.{and_mask, or_lt}
 use Rattle.std.proofs.lemmas.Option.{slice_get-get_or}
-use Rattle.fragment_laws.specs.Apart.{IsIn}
-use Rattle.unit_model.specs.Claims.{cell_at, in_mask, is_from}
-use Rattle.unit_cells.specs.Cells.{CellsValue, block_from, cells_block, ring_of}
-use Rattle.slot_rings.specs.Rings.{RingValue}
+use Rattle.schedule_laws.specs.fragment_laws.specs.Apart.{IsIn}
+use Rattle.schedule_laws.specs.unit_model.specs.Claims.{cell_at, in_mask, is_from}
+use Rattle.ru_buffers.specs.unit_cells.specs.Cells.{CellsValue, block_from, cells_block, ring_of}
+use Rattle.ru_buffers.specs.slot_rings.specs.Rings.{RingValue}
 use Rattle.air_source.specs.declared.events.AirCell.{AirCell}
 use Rattle.air_source.specs.declared.events.Side.TheVariants.{Du}
-use Rattle.bfp_codec.specs.declared.samples.Wide.{Wide}
-use Rattle.unit_model.specs.Radiated.{air_cell, cell_id, id_from, id_or, report_of, samples_under, used_mask}
-use Rattle.unit_model.specs.declared.cells.Block.{Block}
-use Rattle.unit_model.specs.declared.symbol_start.SymbolStart.{SymbolStart}
+use Rattle.window_config.specs.bfp_codec.specs.declared.samples.Wide.{Wide}
+use Rattle.schedule_laws.specs.unit_model.specs.Radiated.{air_cell, cell_id, id_from, id_or, report_of, samples_under, used_mask}
+use Rattle.schedule_laws.specs.unit_model.specs.declared.cells.Block.{Block}
+use Rattle.schedule_laws.specs.unit_model.specs.declared.symbol_start.SymbolStart.{SymbolStart}
 use Rattle.du_intake.specs.Cursors.{cell_in}
-use Rattle.unit_model.specs.declared.cells.Claim.{Claim}
-use Rattle.slot_rings.specs.Places.{claim_in}
-use Rattle.slot_rings.specs.declared.marks.Marks.{Marks}
-use Rattle.slot_rings.proofs.MaskLemmas.{in_either, in_none, section_own, used_is}
+use Rattle.schedule_laws.specs.unit_model.specs.declared.cells.Claim.{Claim}
+use Rattle.ru_buffers.specs.slot_rings.specs.Places.{claim_in}
+use Rattle.ru_buffers.specs.slot_rings.specs.declared.marks.Marks.{Marks}
+use Rattle.ru_buffers.specs.slot_rings.proofs.MaskLemmas.{in_either, in_none, section_own, used_is}
 use Rattle.ru_buffers.proofs.MarkedLemmas.{used_same}
 use Rattle.du_intake.specs.Lines.{claim_in_slot, has_symbol, names_in}
 use Rattle.du_intake.specs.Rows.{HaveTwelve, IsRowOf, claim_of_mark, no_mark, with_line}

@@ -5,15 +5,15 @@ use Rattle.std.proofs.lemmas.Bool.{cases_Bool}
 use Rattle.std.proofs.lemmas.Bool.Decides.{nat_tests}
 use Rattle.window_config.specs.declared.config.Config.{Config}
 use Rattle.window_config.specs.declared.endpoints.EndpointConfig.{EndpointConfig}
-use Rattle.unit_model.specs.Order.{comes_before}
-use Rattle.unit_model.specs.Standing.{History, IsCell}
-use Rattle.unit_model.specs.Starts.{start_at}
-use Rattle.unit_model.specs.declared.allocations.Allocation.{Allocation}
-use Rattle.unit_model.specs.declared.cells.Cell.{Cell}
-use Rattle.unit_model.specs.declared.symbol_start.SymbolStart.{SymbolStart}
-use Rattle.unit_laws.proofs.FarLemmas.{endpoints_equal}
-use Rattle.ru_memory.specs.declared.memory.RuMemory.{RuMemory}
-use Rattle.ru_reports.proofs.OrderLemmas.{comes_trans}
+use Rattle.schedule_laws.specs.unit_model.specs.Order.{comes_before}
+use Rattle.schedule_laws.specs.unit_model.specs.Standing.{History, IsCell}
+use Rattle.schedule_laws.specs.unit_model.specs.Starts.{start_at}
+use Rattle.schedule_laws.specs.unit_model.specs.declared.allocations.Allocation.{Allocation}
+use Rattle.schedule_laws.specs.unit_model.specs.declared.cells.Cell.{Cell}
+use Rattle.schedule_laws.specs.unit_model.specs.declared.symbol_start.SymbolStart.{SymbolStart}
+use Rattle.schedule_laws.specs.unit_laws.proofs.FarLemmas.{endpoints_equal}
+use Rattle.ru_buffers.specs.ru_memory.specs.declared.memory.RuMemory.{RuMemory}
+use Rattle.ru_buffers.specs.ru_reports.proofs.OrderLemmas.{comes_trans}
 use Rattle.ru_buffers.proofs.OrderLemmas.{same_place}
 use Rattle.du_intake.specs.Cursors.{CellCursor, IsNextSymbol, IsNotBefore, is_behind}
 use Rattle.du_intake.specs.Units.{Keeps}

@@ -7,27 +7,27 @@ use Rattle.std.proofs.lemmas.List.Elements.{All-nil, All-cons, All-weaker}
 use Rattle.air_source.specs.declared.events.Side.TheVariants.{Du}
 use Rattle.window_config.specs.declared.config.Config.{Config}
 use Rattle.fault_counters.specs.declared.kinds.Counter.{Counter}
-use Rattle.unit_model.specs.Counts.{cells_counted}
-use Rattle.unit_model.specs.Meetings.{Arrival}
-use Rattle.unit_model.specs.Proper.{IsProperData, IsTime}
-use Rattle.unit_model.specs.Radiated.{Known, first_clock, wait_of}
-use Rattle.unit_model.specs.Reports.{data_of, du_known, timely_of}
-use Rattle.unit_model.specs.Standing.{History, IsOwed, arrived, at_clock, due, nothing_yet, past_of, still_reported}
-use Rattle.unit_model.specs.declared.allocations.Allocation.{Allocation}
-use Rattle.unit_model.specs.declared.decoded.Data.{Data}
-use Rattle.unit_model.proofs.BlockLemmas.{all_timely}
-use Rattle.unit_laws.proofs.HistoryLemmas.{data_are_proper}
-use Rattle.unit_laws.proofs.SweepLemmas.{sweep-none}
-use Rattle.unit_cells.specs.Told.{IsTold}
-use Rattle.unit_cells.proofs.ToldLemmas.{told_whole}
-use Rattle.history_laws.specs.Arriving.{IsNextArrival}
-use Rattle.history_laws.proofs.ArrivingLemmas.{arrival_leaves_due}
-use Rattle.ru_memory.specs.Memory.{Holds, HoldsSome, arrival}
-use Rattle.ru_memory.specs.declared.memory.RuMemory.{RuMemory}
-use Rattle.ru_memory.proofs.HoldLemmas.{holds_later}
-use Rattle.unit_model.specs.Order.{comes_before}
-use Rattle.unit_model.specs.Starts.{start_at}
-use Rattle.unit_model.specs.declared.symbol_start.SymbolStart.{SymbolStart}
+use Rattle.schedule_laws.specs.unit_model.specs.Counts.{cells_counted}
+use Rattle.schedule_laws.specs.unit_model.specs.Meetings.{Arrival}
+use Rattle.schedule_laws.specs.unit_model.specs.Proper.{IsProperData, IsTime}
+use Rattle.schedule_laws.specs.unit_model.specs.Radiated.{Known, first_clock, wait_of}
+use Rattle.schedule_laws.specs.unit_model.specs.Reports.{data_of, du_known, timely_of}
+use Rattle.schedule_laws.specs.unit_model.specs.Standing.{History, IsOwed, arrived, at_clock, due, nothing_yet, past_of, still_reported}
+use Rattle.schedule_laws.specs.unit_model.specs.declared.allocations.Allocation.{Allocation}
+use Rattle.schedule_laws.specs.unit_model.specs.declared.decoded.Data.{Data}
+use Rattle.schedule_laws.specs.unit_model.proofs.BlockLemmas.{all_timely}
+use Rattle.schedule_laws.specs.unit_laws.proofs.HistoryLemmas.{data_are_proper}
+use Rattle.schedule_laws.specs.unit_laws.proofs.SweepLemmas.{sweep-none}
+use Rattle.ru_buffers.specs.unit_cells.specs.Told.{IsTold}
+use Rattle.ru_buffers.specs.unit_cells.proofs.ToldLemmas.{told_whole}
+use Rattle.ru_buffers.specs.history_laws.specs.Arriving.{IsNextArrival}
+use Rattle.ru_buffers.specs.history_laws.proofs.ArrivingLemmas.{arrival_leaves_due}
+use Rattle.ru_buffers.specs.ru_memory.specs.Memory.{Holds, HoldsSome, arrival}
+use Rattle.ru_buffers.specs.ru_memory.specs.declared.memory.RuMemory.{RuMemory}
+use Rattle.ru_buffers.specs.ru_memory.proofs.HoldLemmas.{holds_later}
+use Rattle.schedule_laws.specs.unit_model.specs.Order.{comes_before}
+use Rattle.schedule_laws.specs.unit_model.specs.Starts.{start_at}
+use Rattle.schedule_laws.specs.unit_model.specs.declared.symbol_start.SymbolStart.{SymbolStart}
 use Rattle.window_config.specs.declared.endpoints.EndpointConfig.{EndpointConfig}
 use Rattle.du_intake.specs.Cursors.{ArePlanned, CellCursor, HasLeft, IsNamed, IsNextSymbol, IsNotBefore, is_behind}
 use Rattle.du_intake.specs.Symbols.{IsListed, symbol_at}

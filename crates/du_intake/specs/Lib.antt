@@ -1,3 +1,10 @@
+pub use Rattle.schedule_laws.specs.fragment_laws
+pub use Rattle.ru_buffers.specs.history_laws
+pub use Rattle.schedule_laws.specs.plan_model
+pub use Rattle.ru_buffers
+pub use Rattle.schedule_laws
+pub use Rattle.schedule_laws.specs.unit_laws
+pub use Rattle.schedule_laws.specs.unit_model
 pub mod Planned
 pub mod Cursors
 pub mod Lines

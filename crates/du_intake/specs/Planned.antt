@@ -2,10 +2,10 @@
 use Rattle.std.specs.Prelude.{◌≡◌, Bool, not, All, List, filter, map}
 use Rattle.window_config.specs.declared.config.Config.{Config}
 use Rattle.window_config.specs.declared.plan.PlanLine.{PlanLine}
-use Rattle.unit_model.specs.declared.allocations.Allocation.{Allocation}
-use Rattle.plan_model.specs.Lines.{allocation_of, is_down, planned}
-use Rattle.plan_model.specs.Valid.{IsValid}
-use Rattle.plan_model.specs.declared.lines.PlannedLine.{PlannedLine}
+use Rattle.schedule_laws.specs.unit_model.specs.declared.allocations.Allocation.{Allocation}
+use Rattle.schedule_laws.specs.plan_model.specs.Lines.{allocation_of, is_down, planned}
+use Rattle.schedule_laws.specs.plan_model.specs.Valid.{IsValid}
+use Rattle.schedule_laws.specs.plan_model.specs.declared.lines.PlannedLine.{PlannedLine}
 use Rattle.window_config.specs.Plans.{IsPlanLine}
 
 abbrev pub is_uplink : PlannedLine → Bool

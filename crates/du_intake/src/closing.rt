@@ -4,12 +4,12 @@ ghost use Rattle.air_source.specs.Causes.{HasAirCause};
 ghost use Rattle.air_source.specs.declared.events.Event.TheVariants.{Cell as Reported};
 ghost use Rattle.air_source.specs.declared.events.Side.TheVariants.{Du as AtDu};
 ghost use Rattle.window_config.specs.declared.config.Config.{Config as SpecConfig};
-ghost use Rattle.unit_model.specs.Proper.{IsTime};
-ghost use Rattle.unit_model.specs.Radiated.{report_of};
-ghost use Rattle.unit_model.specs.Standing.{History, at_clock, heard};
-ghost use Rattle.unit_model.specs.declared.allocations.Allocation.{Allocation as SpecAllocation};
-ghost use Rattle.unit_cells.specs.Cells.{IsSlotIn, cells_block};
-ghost use Rattle.ru_reports.specs.Symbols.{CountsTold};
+ghost use Rattle.schedule_laws.specs.unit_model.specs.Proper.{IsTime};
+ghost use Rattle.schedule_laws.specs.unit_model.specs.Radiated.{report_of};
+ghost use Rattle.schedule_laws.specs.unit_model.specs.Standing.{History, at_clock, heard};
+ghost use Rattle.schedule_laws.specs.unit_model.specs.declared.allocations.Allocation.{Allocation as SpecAllocation};
+ghost use Rattle.ru_buffers.specs.unit_cells.specs.Cells.{IsSlotIn, cells_block};
+ghost use Rattle.ru_buffers.specs.ru_reports.specs.Symbols.{CountsTold};
 ghost use Rattle.du_intake.specs.Cursors.{cell_in};
 ghost use Rattle.du_intake.specs.Rows.{claim_of_mark};
 ghost use Rattle.du_intake.specs.Units.{due_of};
@@ -21,8 +21,8 @@ use crate::unit::{Intake, moment_of};
 use air_source::{Air, AirCell, AirFault, Side};
 use fault_counters::Counters;
 use fh_time::Ticks;
-use unit_cells::UnitCells;
-use unit_model::{SymbolStart, block_counter, samples_under};
+use ru_buffers::unit_cells::UnitCells;
+use schedule_laws::unit_model::{SymbolStart, block_counter, samples_under};
 
 /// Whether a time comes before another one.
 fn is_before(a: Ticks, b: Ticks) -> bool

@@ -1,15 +1,15 @@
 // The uplink lines of a plan, as the unit keeps them.
 ghost use Rattle.std.specs.Prelude.{◌≡◌, ℕ, IfOk, OnOk, map};
 ghost use Rattle.fh_time.specs.declared.values.Slot.{Slot as SpecSlot};
-ghost use Rattle.plan_model.specs.Lines.{allocation_of};
+ghost use Rattle.schedule_laws.specs.plan_model.specs.Lines.{allocation_of};
 ghost use Rattle.du_intake.specs.Lines.{AreInOrder, line_of, lines_at, same_home};
 ghost use Rattle.du_intake.specs.Planned.{is_uplink, uplink_of};
 
 use fh_base::NoMemory;
 use fh_time::Slot;
-use plan_model::PlannedLine;
+use schedule_laws::plan_model::PlannedLine;
+use schedule_laws::unit_model::same_slot;
 use std::alloc::Global;
-use unit_model::same_slot;
 use window_config::PlanKind;
 
 /// What an uplink line of a plan names.

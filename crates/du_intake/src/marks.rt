@@ -1,12 +1,12 @@
 // What the lines of a symbol claim, PRB by PRB.
 ghost use Rattle.std.specs.Prelude.{◌≡◌, ℕ, ◌+◌, ◌≤◌, ◌<◌, if◌then◌else◌, get_or, length};
-ghost use Rattle.unit_model.specs.Claims.{is_from};
+ghost use Rattle.schedule_laws.specs.unit_model.specs.Claims.{is_from};
 ghost use Rattle.du_intake.specs.Lines.{has_symbol};
 ghost use Rattle.du_intake.specs.Rows.{AreInside, HaveTwelve, IsRowOf, no_mark, with_line};
 ghost use Rattle.du_intake.specs.Symbols.{AreOneSection};
 
 use crate::lines::UplinkLine;
-use unit_model::is_from;
+use schedule_laws::unit_model::is_from;
 
 /// The elements of a cell that are claimed, all under one section id.
 #[derive(Clone, Copy, Debug, PartialEq, Eq)]

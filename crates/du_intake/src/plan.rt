@@ -7,9 +7,9 @@ use crate::lines::{UplinkLine, sort_by_home, uplink_lines};
 use crate::marks::{CellMark, mark_symbol};
 use crate::symbols::{PlannedSymbol, planned_symbols};
 use fh_base::NoMemory;
-use plan_model::PlannedLine;
+use schedule_laws::plan_model::PlannedLine;
+use schedule_laws::unit_model::SymbolStart;
 use std::alloc::Global;
-use unit_model::SymbolStart;
 use window_config::{Config, EndpointConfig};
 
 /// What the uplink lines of a plan name.

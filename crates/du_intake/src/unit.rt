@@ -1,16 +1,16 @@
 // The distributed unit's intake.
 ghost use Rattle.std.specs.Prelude.{pos, neg_ℤ, ◌+ℤ◌, ◌≡◌, ◌-◌, ◌^◌, ◌≤ℤ◌, ◌++◌, List, IfOk, length, min};
 ghost use Rattle.air_source.specs.declared.events.Side.TheVariants.{Du as AtDu};
-ghost use Rattle.ecpri_frames.specs.Gathering.{whole_messages};
-ghost use Rattle.ecpri_frames.specs.Messages.{pdu};
+ghost use Rattle.schedule_laws.specs.ecpri_frames.specs.Gathering.{whole_messages};
+ghost use Rattle.schedule_laws.specs.ecpri_frames.specs.Messages.{pdu};
 ghost use Rattle.window_config.specs.Configs.{IsConfig};
 ghost use Rattle.window_config.specs.declared.config.Config.{Config as SpecConfig};
-ghost use Rattle.unit_model.specs.Counts.{StandAt, cells_counted};
-ghost use Rattle.unit_model.specs.Proper.{IsTime};
-ghost use Rattle.unit_model.specs.Radiated.{wait_of};
-ghost use Rattle.unit_model.specs.Reports.{arrivals_counted};
-ghost use Rattle.unit_model.specs.Standing.{History, arrived, at_clock, nothing_yet};
-ghost use Rattle.unit_model.specs.declared.allocations.Allocation.{Allocation as SpecAllocation};
+ghost use Rattle.schedule_laws.specs.unit_model.specs.Counts.{StandAt, cells_counted};
+ghost use Rattle.schedule_laws.specs.unit_model.specs.Proper.{IsTime};
+ghost use Rattle.schedule_laws.specs.unit_model.specs.Radiated.{wait_of};
+ghost use Rattle.schedule_laws.specs.unit_model.specs.Reports.{arrivals_counted};
+ghost use Rattle.schedule_laws.specs.unit_model.specs.Standing.{History, arrived, at_clock, nothing_yet};
+ghost use Rattle.schedule_laws.specs.unit_model.specs.declared.allocations.Allocation.{Allocation as SpecAllocation};
 ghost use Rattle.du_intake.specs.Planned.{IsPlanOf, uplink_of};
 
 use crate::marks::{CellMark, NO_MARK};
@@ -19,10 +19,10 @@ use air_source::Side;
 use fault_counters::Counters;
 use fh_base::NoMemory;
 use fh_time::{Ticks, of_ns};
-use plan_model::PlannedLine;
-use ru_memory::RuMemory;
+use ru_buffers::ru_memory::RuMemory;
+use schedule_laws::plan_model::PlannedLine;
+use schedule_laws::unit_model::Delivered;
 use std::alloc::Global;
-use unit_model::Delivered;
 use window_config::Config;
 
 /// A unit's clock begins one frame before 0.

@@ -4,17 +4,17 @@ use Rattle.std.specs.List.{slice_get}
 use Rattle.std.proofs.lemmas.List.{take_more_set, take_all}
 use Rattle.std.proofs.lemmas.Option.{get_or_from_slice_get, slice_get-get_or, slice_get_within}
 use Rattle.std.proofs.Math.Seq.{take-suc}
-use Rattle.frame_bytes.specs.declared.messages.DataSection.{DataSection}
+use Rattle.sent_frames.specs.frame_bytes.specs.declared.messages.DataSection.{DataSection}
 use Rattle.sent_frames.specs.Messages.{carrier_of, data_head, data_section}
 use Rattle.sent_frames.specs.Sources.{AreAnswersIn, data_frame}
 use Rattle.sent_frames.specs.declared.data.Fragment.{Fragment}
-use Rattle.air_source.specs.declared.places.RePlace.{RePlace}
+use Rattle.plan_tests.specs.air_source.specs.declared.places.RePlace.{RePlace}
 use Rattle.bfp_codec.specs.declared.samples.Iq.{Iq}
 use Rattle.bfp_codec.specs.declared.samples.Wide.{Wide}
-use Rattle.plan_model.specs.Packs.{Message, frames_for, parts_of}
-use Rattle.plan_model.specs.Streams.{Part, part_in}
-use Rattle.frame_bytes.specs.Messages.{MessageFits, message_size}
-use Rattle.plan_model.specs.declared.lines.PlannedLine.{PlannedLine}
+use Rattle.plan_tests.specs.plan_model.specs.Packs.{Message, frames_for, parts_of}
+use Rattle.plan_tests.specs.plan_model.specs.Streams.{Part, part_in}
+use Rattle.sent_frames.specs.frame_bytes.specs.Messages.{MessageFits, message_size}
+use Rattle.plan_tests.specs.plan_model.specs.declared.lines.PlannedLine.{PlannedLine}
 use Rattle.plan_table.specs.Kept.{placed_line}
 use Rattle.plan_table.specs.declared.kept.PlacedLine.{PlacedLine}
 use Rattle.du_scheduler.specs.Written.{StandIn, StandsAt, sections_of}

@@ -1,11 +1,11 @@
 -- A message whose parts stand in a list of lines, as it can be written (this project's means).
 use Rattle.std.specs.Prelude.{◌≡◌, ◌<◌, ◌≤◌, ⊤, List, [], ◌∷◌, length, map, Some}
 use Rattle.std.specs.List.{slice_get}
-use Rattle.plan_model.specs.Packs.{Message, parts_of}
-use Rattle.plan_model.specs.Streams.{Part}
-use Rattle.plan_model.specs.declared.lines.PlannedLine.{PlannedLine}
-use Rattle.frame_bytes.specs.Messages.{MessageFits}
-use Rattle.frame_bytes.specs.declared.messages.DataSection.{DataSection}
+use Rattle.plan_tests.specs.plan_model.specs.Packs.{Message, parts_of}
+use Rattle.plan_tests.specs.plan_model.specs.Streams.{Part}
+use Rattle.plan_tests.specs.plan_model.specs.declared.lines.PlannedLine.{PlannedLine}
+use Rattle.sent_frames.specs.frame_bytes.specs.Messages.{MessageFits}
+use Rattle.sent_frames.specs.frame_bytes.specs.declared.messages.DataSection.{DataSection}
 use Rattle.sent_frames.specs.Messages.{carrier_of, data_head, data_section}
 use Rattle.plan_table.specs.Kept.{placed_line}
 use Rattle.plan_table.specs.declared.kept.PlacedLine.{PlacedLine}

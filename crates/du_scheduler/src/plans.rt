@@ -1,26 +1,26 @@
 //! A plan and the frames that it has still to send.
 ghost use Rattle.std.specs.Prelude.{◌≡◌, ◌≤◌, All, IfOk, IfSome, List as SpecList, length, map, slice_get};
-ghost use Rattle.air_source.specs.Answers.{AnswersBy};
-ghost use Rattle.air_source.specs.Kept.{IsKept, closure_of};
-ghost use Rattle.air_source.specs.declared.places.RePlace.{RePlace as SpecPlace};
+ghost use Rattle.plan_tests.specs.air_source.specs.Answers.{AnswersBy};
+ghost use Rattle.plan_tests.specs.air_source.specs.Kept.{IsKept, closure_of};
+ghost use Rattle.plan_tests.specs.air_source.specs.declared.places.RePlace.{RePlace as SpecPlace};
 ghost use Rattle.bfp_codec.specs.declared.samples.Wide.{Wide as SpecWide};
 ghost use Rattle.window_config.specs.Configs.{IsConfig};
 ghost use Rattle.window_config.specs.Plans.{IsPlanLine};
 ghost use Rattle.window_config.specs.declared.config.Config.{Config as SpecConfig};
 ghost use Rattle.window_config.specs.declared.plan.PlanLine.{PlanLine as SpecLine};
-ghost use Rattle.plan_model.specs.Lines.{planned};
-ghost use Rattle.plan_model.specs.Sent.{SentFrame, sent};
-ghost use Rattle.plan_model.specs.Valid.{IsValid};
+ghost use Rattle.plan_tests.specs.plan_model.specs.Lines.{planned};
+ghost use Rattle.plan_tests.specs.plan_model.specs.Sent.{SentFrame, sent};
+ghost use Rattle.plan_tests.specs.plan_model.specs.Valid.{IsValid};
 
 use crate::keeping::planned_lines;
 use crate::writing::write_frame;
-use air_source::{RePlace, Samples};
 use bfp_codec::Wide;
 use fh_base::{List, NoMemory};
 use fh_time::Ticks;
 use frame_order::Queue;
-use plan_model::PlannedLine;
 use plan_table::Table;
+use plan_tests::air_source::{RePlace, Samples};
+use plan_tests::plan_model::PlannedLine;
 use plan_tests::{PlanRefusal, tested};
 use std::alloc::Global;
 use window_config::{Config, PlanLine};
@@ -71,7 +71,7 @@ pub struct Plan {
 
 impl Plan {
     ghost use Rattle.frame_order.specs.Queues.{first_time};
-    ghost use Rattle.sent_order.specs.Runs.{turn_of};
+    ghost use Rattle.plan_table.specs.sent_order.specs.Runs.{turn_of};
     ghost use Rattle.du_scheduler.specs.Plans.{Checks, Gives, HasToSend, IsLent, IsPlan, Leaves, Writes};
     ghost use Rattle.du_scheduler.specs.After.{LeavesAfter};
     ghost use Rattle.std.specs.Borrow.{sem};

@@ -1,28 +1,28 @@
 //! The bytes of a frame.
 ghost use Rattle.std.specs.Prelude.{◌≡◌, ℕ, ◌+◌, ◌<◌, ◌≤◌, List, length, map, take};
-ghost use Rattle.air_source.specs.Answers.{AnswersBy};
-ghost use Rattle.air_source.specs.Kept.{IsKept, closure_of};
-ghost use Rattle.air_source.specs.declared.places.RePlace.{RePlace as SpecPlace};
+ghost use Rattle.plan_tests.specs.air_source.specs.Answers.{AnswersBy};
+ghost use Rattle.plan_tests.specs.air_source.specs.Kept.{IsKept, closure_of};
+ghost use Rattle.plan_tests.specs.air_source.specs.declared.places.RePlace.{RePlace as SpecPlace};
 ghost use Rattle.bfp_codec.specs.declared.samples.Iq.{Iq as SpecIq};
 ghost use Rattle.bfp_codec.specs.declared.samples.Wide.{Wide as SpecWide};
-ghost use Rattle.frame_bytes.specs.Messages.{message_size};
+ghost use Rattle.sent_frames.specs.frame_bytes.specs.Messages.{message_size};
 ghost use Rattle.window_config.specs.declared.config.Config.{Config as SpecConfig};
 ghost use Rattle.window_config.specs.declared.plan.PlanLine.{PlanLine as SpecLine};
-ghost use Rattle.plan_model.specs.Sent.{SentFrame};
-ghost use Rattle.plan_model.specs.Packs.{Message, frames_for, parts_of};
-ghost use Rattle.plan_model.specs.Streams.{Part};
+ghost use Rattle.plan_tests.specs.plan_model.specs.Sent.{SentFrame};
+ghost use Rattle.plan_tests.specs.plan_model.specs.Packs.{Message, frames_for, parts_of};
+ghost use Rattle.plan_tests.specs.plan_model.specs.Streams.{Part};
 ghost use Rattle.sent_frames.specs.Messages.{carrier_of, data_section};
 ghost use Rattle.sent_frames.specs.Frames.{sent_bytes};
 ghost use Rattle.sent_frames.specs.Sources.{AreAnswersIn, data_frame, source_of};
 ghost use Rattle.du_scheduler.specs.Frames.{IsFrame, IsFrameOf};
 ghost use Rattle.du_scheduler.specs.Written.{IsData, StandsAt, sections_of};
 
-use air_source::{RePlace, Samples};
 use bfp_codec::Wide;
-use frame_bytes::DataSection;
 use frame_order::Turn;
-use plan_model::PlannedLine;
 use plan_table::PlacedLine;
+use plan_tests::air_source::{RePlace, Samples};
+use plan_tests::plan_model::PlannedLine;
+use sent_frames::frame_bytes::DataSection;
 use sent_frames::{Fragment, command_frame, data_frame, data_section};
 
 /// The most sections of a message.

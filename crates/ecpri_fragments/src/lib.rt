@@ -12,6 +12,7 @@ mod sequence;
 mod verdict;
 
 pub use assembly::{Assembly, Lease, Taken};
+pub use fh_base;
 pub use sequence::{SeqField, put_seq, read_seq};
 pub use verdict::Verdict;
 

@@ -1,3 +1,4 @@
+pub use Rattle.bit_fields
 pub mod Refusals
 pub mod Headers
 pub mod Messages

@@ -18,6 +18,7 @@ mod tests;
 mod turns;
 mod whole;
 
+pub use bit_fields;
 pub use decoding::Pdu;
 pub use heads::{Head, pad_after, put_head, read_head};
 pub use refusals::{PduRefusal, PduWhy};

@@ -25,6 +25,9 @@ fn bytes_and_items_are_kept(rt: HostRuntime) -> Result<(), Fail> {
     let mut bytes = bytes_of(rt.alloc(), b"dl ")?;
     bytes.push_all(b"1")?;
     assert_eq!(rt; bytes.as_slice(), b"dl 1".as_slice());
+    bytes.clear();
+    bytes.push_all(b"ul")?;
+    assert_eq!(rt; bytes.as_slice(), b"ul".as_slice());
     let mut list = calls(rt.alloc(), 7)?;
     list.push(9)?;
     assert_eq!(rt; list.len(), 2);

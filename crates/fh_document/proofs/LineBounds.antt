@@ -1,9 +1,10 @@
--- What lines of a plan, of deliveries and of measurements say is within its limits.
-use Rattle.std.proofs.Common.{◌≡◌, ℕ, suc, ◌+◌, ◌-◌, ◌≤◌, ◌<◌, ◌^◌, List, [], ◌∷◌, ◌++◌, length, drop, Bool, true, false, ◌&&◌, ◌||◌, Option, Some, None, refl, ap, ◌∙◌, arith, nat_le}
+-- What eAxC ids and lines of a plan, of deliveries and of measurements say is within its limits.
+use Rattle.std.proofs.Common.{◌≡◌, ℕ, suc, ◌+◌, ◌*◌, ◌-◌, ◌≤◌, ◌<◌, ◌^◌, List, [], ◌∷◌, ◌++◌, length, drop, Bool, true, false, ◌&&◌, ◌||◌, Option, Some, None, refl, ap, ◌∙◌, arith, nat_le, nat_lt}
 use Rattle.std.specs.Prelude.{ℤ, pos, IfSome, ◌==◌, All}
 use Rattle.std.proofs.lemmas.Bool.Decides.{nat_tests}
 use Rattle.std.proofs.lemmas.List.{length-drop}
 use Rattle.std.proofs.lemmas.List.Elements.{All-nil, All-cons}
+use Rattle.std.specs.Char.{digit_value}
 use Rattle.std.specs.Str.Parse.{digits_value}
 use Rattle.fh_time.specs.declared.values.Slot.{Slot}
 use Rattle.fh_document.specs.declared.delivered.Delivery.{Delivery}
@@ -21,6 +22,39 @@ use Rattle.fh_document.proofs.Bounds.{some_if, some_then, some_any, Within, numb
 with_word : {B : Type 0} (Q : B → Type 0) (low high : ℕ) (w : List ℕ) (next : ℕ → Option B) → ((n : ℕ) → Within low high n → IfSome (next n) Q)
     → IfSome (taking (number_in low high w) next) Q
 with_word Q low high w next f = some_then (Within low high) Q (number_in low high w) next (number_within low high w) f
+
+-- ---- eAxC ids
+
+both_true : (a b : Bool) → (a && b) ≡ true → (a ≡ true) × (b ≡ true)
+both_true true b e = (refl, e)
+both_true false b e = absurd (cc e)
+
+digit_small : (a : ℕ) → nat_lt a 16 ≡ true → a < 16
+digit_small a e = grind (arith, nat_tests)
+
+four_digits : (a b c d : ℕ) → a < 16 → b < 16 → c < 16 → d < 16 → (((0 * 16 + a) * 16 + b) * 16 + c) * 16 + d < 2 ^ 16
+four_digits a b c d h i j k = omega arith
+
+four_small : (w : List ℕ) → length w ≡ 4 → is_hex w ≡ true → digits_value 16 w < 2 ^ 16
+four_small [] l h = absurd (cc l)
+four_small (a ∷ []) l h = absurd (cc l)
+four_small (a ∷ b ∷ []) l h = absurd (cc l)
+four_small (a ∷ b ∷ c ∷ []) l h = absurd (cc l)
+four_small (a ∷ b ∷ c ∷ d ∷ []) l h =
+    let first = both_true (nat_lt (digit_value a) 16) _ h in
+    let second = both_true (nat_lt (digit_value b) 16) _ first.1 in
+    let third = both_true (nat_lt (digit_value c) 16) _ second.1 in
+    let fourth = both_true (nat_lt (digit_value d) 16) _ third.1 in
+    four_digits (digit_value a) (digit_value b) (digit_value c) (digit_value d) (digit_small _ first.0) (digit_small _ second.0) (digit_small _ third.0) (digit_small _ fourth.0)
+four_small (a ∷ b ∷ c ∷ d ∷ e ∷ w) l h = absurd (omega arith)
+
+-- four hexadecimal digits
+pub id_in : (w : List ℕ) → IfSome (hex_of 4 w) (λ n. n < 2 ^ 16)
+id_in w =
+    some_if (λ n. n < 2 ^ 16) ((length w == 4) && is_hex w) (Some (digits_value 16 w)) None (λ t. four_small w (four (length w) (both_true (length w == 4) (is_hex w) t).0) (both_true (length w == 4) (is_hex w) t).1) (λ f. tt)
+  where
+    four : (n : ℕ) → (n == 4) ≡ true → n ≡ 4
+    four n e = grind (arith, nat_tests)
 
 -- ---- lines of a plan
 
@@ -75,6 +109,7 @@ plan_in ws =
       symbol = p.0;
       count = p.1;
       start_prb = q.0;
+      num_prb = under 255 prbs.1 q.1;
       mask = m;
       section = under 4095 section.0 x.0;
       beam = under 32767 section.1 x.1;
@@ -146,4 +181,8 @@ measure_in ws =
     some_then (λ _. Unit {0}) IsMeasure (unit_of (word_at ws 1)) _ (some_any (unit_of (word_at ws 1))) (λ side u.
     with_word IsMeasure 0 255 (word_at ws 2) _ (λ id p.
     some_then (λ _. Unit {0}) IsMeasure (kind_of (word_at ws 3)) _ (some_any (kind_of (word_at ws 3))) (λ kind v.
-    with_word IsMeasure 1000000 (10 ^ 12) (word_at ws 4) _ (λ at q. from_number 1000000 (10 ^ 12) at q.0 q.1))))
+    with_word IsMeasure 1000000 (10 ^ 12) (word_at ws 4) _ (λ at q.
+    record { id = under id p.1; time = from_number 1000000 (10 ^ 12) at q.0 q.1 }))))
+  where
+    under : (n : ℕ) → n ≤ 255 → n < 256
+    under n h = omega arith

@@ -1,5 +1,5 @@
 -- What was read is within its limits.
-use Rattle.std.proofs.Common.{◌≡◌, ℕ, map, ◌+◌, ◌*◌, ◌≤◌, ◌<◌, ◌^◌, List, [], ◌∷◌, ◌++◌, length, take, drop, Bool, true, false, ◌&&◌, ◌||◌, Option, Some, None, refl, sym, ap, ◌∙◌, subst, arith, inl, inr, nat_le}
+use Rattle.std.proofs.Common.{◌≡◌, ℕ, zero, suc, map, ◌+◌, ◌*◌, ◌≤◌, ◌<◌, ◌^◌, List, [], ◌∷◌, ◌++◌, length, take, drop, Bool, true, false, ◌&&◌, ◌||◌, Option, Some, None, refl, sym, ap, ◌∙◌, subst, arith, inl, inr, nat_le, nat_lt}
 use Rattle.std.specs.Prelude.{ℤ, pos, Result, Ok, Err, IfOk, IfSome, if◌then◌else◌, ◌==◌, All, slice_index, codes}
 use Rattle.std.proofs.lemmas.Bool.{cases_lt}
 use Rattle.std.proofs.lemmas.Bool.Decides.{nat_tests}
@@ -9,10 +9,11 @@ use Rattle.std.proofs.lemmas.List.Elements.{All-push, All-nil}
 use Rattle.std.proofs.lemmas.List.Folds.{list_any_at}
 use Rattle.std.proofs.Math.Seq.{get_or-append_seam}
 use Rattle.std.specs.List.{list_any}
+use Rattle.std.specs.Char.{digit_value}
 use Rattle.std.specs.Option.{option_map}
 use Rattle.std.specs.Str.{bytes_eq}
-use Rattle.bfp_codec.specs.Layout.{HasWidth}
-use Rattle.bfp_codec.specs.declared.methods.Method.TheVariants.{Plain, Bfp}
+use Rattle.window_config.specs.bfp_codec.specs.Layout.{HasWidth, AreBytes}
+use Rattle.window_config.specs.bfp_codec.specs.declared.methods.Method.TheVariants.{Plain, Bfp}
 use Rattle.window_config.specs.declared.delays.Range.{Range}
 use Rattle.window_config.specs.declared.endpoints.EndpointConfig.{EndpointConfig}
 use Rattle.window_config.specs.Limits.{IsTime, IsRange, IsWithinLimits}
@@ -23,8 +24,6 @@ use Rattle.fh_document.specs.declared.document.Injection.{Injection}
 use Rattle.fh_document.specs.declared.document.Reading.{Reading}
 use Rattle.fh_document.specs.declared.document.Settings.{Settings}
 use Rattle.fh_document.specs.declared.document.Measure.{Measure}
-use Rattle.fh_document.specs.declared.document.Scope.{Scope}
-use Rattle.fh_document.specs.declared.document.Scope.TheVariants.{Built, Whole}
 use Rattle.fh_document.specs.declared.document.Version.{Version}
 use Rattle.fh_document.specs.declared.delivered.Delivery.{Delivery}
 use Rattle.window_config.specs.declared.plan.PlanLine.{PlanLine}
@@ -43,16 +42,15 @@ use Rattle.fh_document.specs.Keywords.{keyword_of}
 use Rattle.window_config.proofs.Usual.{usual_within}
 use Rattle.fh_document.specs.ConfigLines.{number_at, time_at, ordered, both_ordered, widths_line, windows_line, range_line, hold_line, time_line, fragment_line, tone_line, comp_line, transit_line, pack_line, set_of, defaults}
 use Rattle.fh_document.specs.EndpointLines.{has_endpoint_count, numerology_of, dynamic_of, width_of, method_of, endpoint_of, has_id, added, endpoint_line}
-use Rattle.fh_document.specs.Building.{is_built, is_built_measure, passes}
 use Rattle.fh_document.specs.Delivered.{has_like}
 use Rattle.fh_document.specs.PlanLines.{plan_of, planned, plan_line}
 use Rattle.fh_document.specs.DeliverLines.{has_deliver_count, delivery_of, delivered, deliver_line}
 use Rattle.fh_document.specs.MeasureLines.{measure_of, has_measure, measured, measure_line}
 use Rattle.fh_document.specs.InjectLines.{side_of, injected, inject_line}
 use Rattle.fh_document.specs.Lines.{start, is_seen, configured, setting_line, comes_late, keyword_line, ordered_line, is_skipped, version_of, first_line, later_line, words_line, line_of}
-use Rattle.fh_document.specs.Document.{finished, after_line, read_from, document_in}
-use Rattle.fh_document.specs.Proper.{IsFrom, IsTone, AreComps, AreTransits, IsPlanLine, IsDelivery, AreApart, IsMeasure, MayMeasure, IsInjectionIn, IsDocumentIn}
-use Rattle.fh_document.proofs.LineBounds.{plan_in, delivery_in, apart_more, measure_in}
+use Rattle.fh_document.specs.Document.{finished, after_line, read_from, document_of}
+use Rattle.fh_document.specs.Proper.{IsFrom, IsTone, AreComps, AreTransits, IsPlanLine, IsDelivery, AreApart, IsMeasure, IsInjection, IsDocument}
+use Rattle.fh_document.proofs.LineBounds.{id_in, plan_in, delivery_in, apart_more, measure_in}
 use Rattle.fh_document.proofs.Bounds.{ok_if, ok_then, ok_or, ok_any, ok_weaker, some_if, some_then, some_any, Within, number_within, number_at_within, time_at_within, ordered_within, counted_within, with_number, with_time}
 
 -- ---- the settings
@@ -181,14 +179,22 @@ method_in w =
     some_if HasWidth (bytes_eq w (codes "none")) (Some Plain) _ (λ t. tt)
     (λ f. some_if HasWidth (bytes_eq (take 3 w) (codes "bfp")) (option_map (λ n. Bfp n) (width_of (drop 3 w))) None (λ t. some_bfp (width_of (drop 3 w)) (width_in (drop 3 w))) (λ g. tt))
 
-endpoint_of_in : (version : Version) (ws : List (List ℕ)) → IfSome (endpoint_of version ws) IsEndpoint
+abbrev HasId : EndpointConfig → Type 0
+HasId e = e.id < 2 ^ 16
+
+-- an endpoint as its line gives it
+record IsGiven (e : EndpointConfig) : Type 0 where
+  id : HasId e
+  fits : IsEndpoint e
+
+endpoint_of_in : (version : Version) (ws : List (List ℕ)) → IfSome (endpoint_of version ws) IsGiven
 endpoint_of_in version ws =
-    some_then (λ _. Unit {0}) IsEndpoint (hex_of 4 (word_at ws 1)) _ (some_any (hex_of 4 (word_at ws 1))) (λ id u.
-    some_then (λ _. Unit {0}) IsEndpoint (numerology_of version ws) _ (some_any (numerology_of version ws)) (λ numerology v.
-    some_then (Within 1 273) IsEndpoint (number_in 1 273 (word_at ws 4)) _ (number_within 1 273 (word_at ws 4)) (λ prbs p.
-    some_then (λ _. Unit {0}) IsEndpoint (dynamic_of (word_at ws 5)) _ (some_any (dynamic_of (word_at ws 5))) (λ dynamic x.
-    some_then HasWidth IsEndpoint (method_of (word_at ws 6)) _ (method_in (word_at ws 6)) (λ method m.
-    record { some = p.0; most = p.1; width = m })))))
+    some_then (λ n. n < 2 ^ 16) IsGiven (hex_of 4 (word_at ws 1)) _ (id_in (word_at ws 1)) (λ id i.
+    some_then (λ _. Unit {0}) IsGiven (numerology_of version ws) _ (some_any (numerology_of version ws)) (λ numerology v.
+    some_then (Within 1 273) IsGiven (number_in 1 273 (word_at ws 4)) _ (number_within 1 273 (word_at ws 4)) (λ prbs p.
+    some_then (λ _. Unit {0}) IsGiven (dynamic_of (word_at ws 5)) _ (some_any (dynamic_of (word_at ws 5))) (λ dynamic x.
+    some_then HasWidth IsGiven (method_of (word_at ws 6)) _ (method_in (word_at ws 6)) (λ method m.
+    record { id = i; fits = record { some = p.0; most = p.1; width = m } })))))
 
 any_of_ids : (id : ℕ) (es : List EndpointConfig) → list_any (λ x. x == id) (ids_of es) ≡ has_id id es
 any_of_ids id [] = refl
@@ -244,51 +250,45 @@ more_endpoints es e h p new room =
 
 -- ---- lines
 
-pub record IsReading (scope : Scope) (r : Reading) : Type 0 where
-  pub scoped : r.scope ≡ scope
+pub record IsReading (r : Reading) : Type 0 where
   pub settings : AreSettings r.settings
   pub endpoints : AreEndpoints r.endpoints
+  pub ids : All HasId r.endpoints
   pub plan : All IsPlanLine r.plan
   pub few : length r.plan ≤ MOST_LINES
   pub numbered : length r.plan_lines ≡ length r.plan
   pub deliveries : All IsDelivery r.deliveries
   pub frames : AreApart r.deliveries
-  pub injections : All (IsInjectionIn scope) r.injections
+  pub injections : All IsInjection r.injections
   pub measures : All IsMeasure r.measures
-  pub unmeasured : MayMeasure scope r.measures
   pub differ : AppearOnce (map (λ m. m.id) r.measures)
 
 no_endpoints : AreEndpoints []
 no_endpoints = record { each = All-nil IsEndpoint; few = omega arith; differ = λ j k jt kt is. absurd (omega arith) }
 
-none_measured : (scope : Scope) → MayMeasure scope []
-none_measured Built = refl
-none_measured Whole = tt
-
-start_in : (scope : Scope) → IsReading scope (start scope)
-start_in scope = record {
-  scoped = refl;
+start_in : IsReading start
+start_in = record {
   settings = defaults_in;
   endpoints = no_endpoints;
+  ids = All-nil HasId;
   plan = All-nil IsPlanLine;
   few = omega arith;
   numbered = refl;
   deliveries = All-nil IsDelivery;
   frames = tt;
-  injections = All-nil (IsInjectionIn scope);
+  injections = All-nil IsInjection;
   measures = All-nil IsMeasure;
-  unmeasured = none_measured scope;
   differ = λ j k jt kt is. absurd (omega arith);
 }
 
-added_in : (scope : Scope) (r : Reading) (e : EndpointConfig) → IsReading scope r → IsEndpoint e → IfOk (added r e) (IsReading scope)
-added_in scope r e h p =
-    ok_if (IsReading scope) (has_id e.id r.endpoints) (Err why.Twice) _ (λ t. tt)
-    (λ f. ok_if (IsReading scope) (length r.endpoints == 16) (Err why.TooMany) _ (λ t. tt)
+added_in : (r : Reading) (e : EndpointConfig) → IsReading r → IsGiven e → IfOk (added r e) IsReading
+added_in r e h p =
+    ok_if IsReading (has_id e.id r.endpoints) (Err why.Twice) _ (λ t. tt)
+    (λ f. ok_if IsReading (length r.endpoints == 16) (Err why.TooMany) _ (λ t. tt)
     (λ g. record {
-      scoped = h.scoped;
       settings = h.settings;
-      endpoints = more_endpoints r.endpoints e h.endpoints p f g;
+      endpoints = more_endpoints r.endpoints e h.endpoints p.fits f g;
+      ids = All-push HasId r.endpoints e h.ids p.id;
       plan = h.plan;
       few = h.few;
       numbered = h.numbered;
@@ -296,23 +296,22 @@ added_in scope r e h p =
       frames = h.frames;
       injections = h.injections;
       measures = h.measures;
-      unmeasured = h.unmeasured;
       differ = h.differ;
     }))
 
-endpoint_line_in : (scope : Scope) (r : Reading) (ws : List (List ℕ)) → IsReading scope r → IfOk (endpoint_line r ws) (IsReading scope)
-endpoint_line_in scope r ws h =
-    ok_if (IsReading scope) (has_endpoint_count r.version ws) _ (Err why.Words)
-    (λ t. ok_then IsEndpoint (IsReading scope) (or_refuse (endpoint_of r.version ws) why.Number) _ (ok_or IsEndpoint (endpoint_of r.version ws) why.Number (endpoint_of_in r.version ws)) (λ e p. added_in scope r e h p))
+endpoint_line_in : (r : Reading) (ws : List (List ℕ)) → IsReading r → IfOk (endpoint_line r ws) IsReading
+endpoint_line_in r ws h =
+    ok_if IsReading (has_endpoint_count r.version ws) _ (Err why.Words)
+    (λ t. ok_then IsGiven IsReading (or_refuse (endpoint_of r.version ws) why.Number) _ (ok_or IsGiven (endpoint_of r.version ws) why.Number (endpoint_of_in r.version ws)) (λ e p. added_in r e h p))
     (λ f. tt)
 
-planned_in : (scope : Scope) (r : Reading) (n : ℕ) (line : PlanLine) → IsReading scope r → IsPlanLine line → IfOk (planned r n line) (IsReading scope)
-planned_in scope r n line h p =
-    ok_if (IsReading scope) (length r.plan == MOST_LINES) (Err why.TooMany) _ (λ t. tt)
+planned_in : (r : Reading) (n : ℕ) (line : PlanLine) → IsReading r → IsPlanLine line → IfOk (planned r n line) IsReading
+planned_in r n line h p =
+    ok_if IsReading (length r.plan == MOST_LINES) (Err why.TooMany) _ (λ t. tt)
     (λ f. record {
-      scoped = h.scoped;
       settings = h.settings;
       endpoints = h.endpoints;
+      ids = h.ids;
       plan = All-push IsPlanLine r.plan line h.plan p;
       few = one_more (length r.plan) h.few f (length_push r.plan line);
       numbered = length_push r.plan_lines n ∙ ap (λ m. m + 1) h.numbered ∙ sym (length_push r.plan line);
@@ -320,25 +319,24 @@ planned_in scope r n line h p =
       frames = h.frames;
       injections = h.injections;
       measures = h.measures;
-      unmeasured = h.unmeasured;
       differ = h.differ;
     })
   where
     one_more : {m : ℕ} (n : ℕ) → n ≤ MOST_LINES → (n == MOST_LINES) ≡ false → m ≡ n + 1 → m ≤ MOST_LINES
     one_more n le other is = grind (arith, nat_tests)
 
-plan_line_in : (scope : Scope) (r : Reading) (n : ℕ) (ws : List (List ℕ)) → IsReading scope r → IfOk (plan_line r n ws) (IsReading scope)
-plan_line_in scope r n ws h =
-    counted_within (IsReading scope) 13 ws _
-    (ok_then IsPlanLine (IsReading scope) (or_refuse (plan_of ws) why.Number) _ (ok_or IsPlanLine (plan_of ws) why.Number (plan_in ws)) (λ line p. planned_in scope r n line h p))
+plan_line_in : (r : Reading) (n : ℕ) (ws : List (List ℕ)) → IsReading r → IfOk (plan_line r n ws) IsReading
+plan_line_in r n ws h =
+    counted_within IsReading 13 ws _
+    (ok_then IsPlanLine IsReading (or_refuse (plan_of ws) why.Number) _ (ok_or IsPlanLine (plan_of ws) why.Number (plan_in ws)) (λ line p. planned_in r n line h p))
 
-delivered_in : (scope : Scope) (r : Reading) (d : Delivery) → IsReading scope r → IsDelivery d → IfOk (delivered r d) (IsReading scope)
-delivered_in scope r d h p =
-    ok_if (IsReading scope) (has_like d r.deliveries) (Err why.Twice) _ (λ t. tt)
+delivered_in : (r : Reading) (d : Delivery) → IsReading r → IsDelivery d → IfOk (delivered r d) IsReading
+delivered_in r d h p =
+    ok_if IsReading (has_like d r.deliveries) (Err why.Twice) _ (λ t. tt)
     (λ f. record {
-      scoped = h.scoped;
       settings = h.settings;
       endpoints = h.endpoints;
+      ids = h.ids;
       plan = h.plan;
       few = h.few;
       numbered = h.numbered;
@@ -346,35 +344,28 @@ delivered_in scope r d h p =
       frames = apart_more r.deliveries d h.frames f;
       injections = h.injections;
       measures = h.measures;
-      unmeasured = h.unmeasured;
       differ = h.differ;
     })
 
-deliver_line_in : (scope : Scope) (r : Reading) (ws : List (List ℕ)) → IsReading scope r → IfOk (deliver_line r ws) (IsReading scope)
-deliver_line_in scope r ws h =
-    ok_if (IsReading scope) (has_deliver_count ws) _ (Err why.Words)
-    (λ t. ok_then IsDelivery (IsReading scope) (or_refuse (delivery_of ws) why.Number) _ (ok_or IsDelivery (delivery_of ws) why.Number (delivery_in ws t)) (λ d p. delivered_in scope r d h p))
+deliver_line_in : (r : Reading) (ws : List (List ℕ)) → IsReading r → IfOk (deliver_line r ws) IsReading
+deliver_line_in r ws h =
+    ok_if IsReading (has_deliver_count ws) _ (Err why.Words)
+    (λ t. ok_then IsDelivery IsReading (or_refuse (delivery_of ws) why.Number) _ (ok_or IsDelivery (delivery_of ws) why.Number (delivery_in ws t)) (λ d p. delivered_in r d h p))
     (λ f. tt)
 
 any_of_measures : (id : ℕ) (ms : List Measure) → list_any (λ x. x == id) (map (λ (m : Measure). m.id) ms) ≡ has_measure id ms
 any_of_measures id [] = refl
 any_of_measures id (m ∷ ms) = ap (λ b. (m.id == id) || b) (any_of_measures id ms)
 
--- a measurement that passes is one of the whole grammar
-measured_more : (scope : Scope) (m : Measure) (ms : List Measure) → passes scope (is_built_measure m) ≡ true → MayMeasure scope (ms ++ m ∷ [])
-measured_more Built m ms t = absurd (cc t)
-measured_more Whole m ms t = tt
-
-measured_in : (scope : Scope) (r : Reading) (m : Measure) → IsReading scope r → IsMeasure m → IfOk (measured r m) (IsReading scope)
-measured_in scope r m h p =
-    ok_if (IsReading scope) (has_measure m.id r.measures) (Err why.Twice) _ (λ t. tt)
-    (λ f. ok_if (IsReading scope) (passes r.scope (is_built_measure m)) _ (Err why.NotBuilt)
-    (λ t.
+measured_in : (r : Reading) (m : Measure) → IsReading r → IsMeasure m → IfOk (measured r m) IsReading
+measured_in r m h p =
+    ok_if IsReading (has_measure m.id r.measures) (Err why.Twice) _ (λ t. tt)
+    (λ f.
     let once : AppearOnce (map (λ (x : Measure). x.id) r.measures ++ m.id ∷ []) = once_push (map (λ (x : Measure). x.id) r.measures) m.id h.differ (any_of_measures m.id r.measures ∙ f) in
     record {
-      scoped = h.scoped;
       settings = h.settings;
       endpoints = h.endpoints;
+      ids = h.ids;
       plan = h.plan;
       few = h.few;
       numbered = h.numbered;
@@ -382,67 +373,76 @@ measured_in scope r m h p =
       frames = h.frames;
       injections = h.injections;
       measures = All-push IsMeasure r.measures m h.measures p;
-      unmeasured = measured_more scope m r.measures (subst (λ s. passes s (is_built_measure m) ≡ true) h.scoped t);
       differ = subst AppearOnce (sym (map-append (λ (x : Measure). x.id) r.measures (m ∷ []))) once;
     })
-    (λ g. tt))
 
-measure_line_in : (scope : Scope) (r : Reading) (ws : List (List ℕ)) → IsReading scope r → IfOk (measure_line r ws) (IsReading scope)
-measure_line_in scope r ws h =
-    counted_within (IsReading scope) 5 ws _
-    (ok_then IsMeasure (IsReading scope) (or_refuse (measure_of ws) why.Number) _ (ok_or IsMeasure (measure_of ws) why.Number (measure_in ws)) (λ m p. measured_in scope r m h p))
+measure_line_in : (r : Reading) (ws : List (List ℕ)) → IsReading r → IfOk (measure_line r ws) IsReading
+measure_line_in r ws h =
+    counted_within IsReading 5 ws _
+    (ok_then IsMeasure IsReading (or_refuse (measure_of ws) why.Number) _ (ok_or IsMeasure (measure_of ws) why.Number (measure_in ws)) (λ m p. measured_in r m h p))
 
-injected_in : (scope : Scope) (r : Reading) (i : Injection) → IsReading scope r → IsFrom 0 (10 ^ 12) i.at → length i.frame ≤ MOST_BYTES → IfOk (injected r i) (IsReading scope)
-injected_in scope r i h time short =
-    ok_if (IsReading scope) (passes r.scope (is_built i)) _ (Err why.NotBuilt)
-    (λ t. record {
-      scoped = h.scoped;
-      settings = h.settings;
-      endpoints = h.endpoints;
-      plan = h.plan;
-      few = h.few;
-      numbered = h.numbered;
-      deliveries = h.deliveries;
-      frames = h.frames;
-      injections = All-push (IsInjectionIn scope) r.injections i h.injections
-          (record { time = time; short = short; built = subst (λ s. passes s (is_built i) ≡ true) h.scoped t });
-      measures = h.measures;
-      unmeasured = h.unmeasured;
-      differ = h.differ;
-    })
-    (λ f. tt)
+injected_in : (r : Reading) (i : Injection) → IsReading r → IsInjection i → IfOk (injected r i) IsReading
+injected_in r i h p = record {
+  settings = h.settings;
+  endpoints = h.endpoints;
+  ids = h.ids;
+  plan = h.plan;
+  few = h.few;
+  numbered = h.numbered;
+  deliveries = h.deliveries;
+  frames = h.frames;
+  injections = All-push IsInjection r.injections i h.injections p;
+  measures = h.measures;
+  differ = h.differ;
+}
 
 bytes_half : (w : List ℕ) → 2 * length (bytes_of w) ≤ length w
 bytes_half [] = omega arith
 bytes_half (a ∷ []) = omega arith
 bytes_half (a ∷ b ∷ rest) = omega (arith, bytes_half rest)
 
-abbrev IsShort : List ℕ → Type 0
-IsShort frame = length frame ≤ MOST_BYTES
+-- each two digits are a byte
+digits_bytes : (w : List ℕ) → is_hex w ≡ true → AreBytes (bytes_of w)
+digits_bytes [] hex i = omega arith
+digits_bytes (a ∷ []) hex i = omega arith
+digits_bytes (a ∷ b ∷ rest) hex zero = two (digit_value a) (digit_value b) _ hex
+  where
+    two : (x y : ℕ) (more : Bool) → (nat_lt x 16 && (nat_lt y 16 && more)) ≡ true → 16 * x + y < 256
+    two x y more e = grind (arith, nat_tests)
+digits_bytes (a ∷ b ∷ rest) hex (suc i) = digits_bytes rest (behind (nat_lt (digit_value a) 16) (nat_lt (digit_value b) 16) (is_hex rest) hex) i
+  where
+    behind : (x y more : Bool) → (x && (y && more)) ≡ true → more ≡ true
+    behind true true more e = e
+    behind true false more e = absurd (cc e)
+    behind false y more e = absurd (cc e)
 
-frame_short : (w : List ℕ) → IfSome (frame_of w) IsShort
-frame_short w =
-    some_if IsShort (bytes_eq w (codes "-")) (Some []) (digits_frame w) (λ t. omega arith)
-    (λ f. some_if IsShort _ (decoded w) None
-    (λ t. some_if IsShort (is_hex w) (Some (bytes_of w)) None (λ u. omega (arith, bytes_half w, few (length w) _ t)) (λ v. tt))
+record IsFrame (frame : List ℕ) : Type 0 where
+  bytes : AreBytes frame
+  short : length frame ≤ MOST_BYTES
+
+frame_in : (w : List ℕ) → IfSome (frame_of w) IsFrame
+frame_in w =
+    some_if IsFrame (bytes_eq w (codes "-")) (Some []) (digits_frame w) (λ t. record { bytes = λ i. omega arith; short = omega arith })
+    (λ f. some_if IsFrame _ (decoded w) None
+    (λ t. some_if IsFrame (is_hex w) (Some (bytes_of w)) None (λ u. record { bytes = digits_bytes w u; short = omega (arith, bytes_half w, few (length w) _ t) }) (λ v. tt))
     (λ g. tt))
   where
     few : (n : ℕ) (b : Bool) → (nat_le n (2 * MOST_BYTES) && b) ≡ true → n ≤ 2 * MOST_BYTES
     few n b e = grind (arith, nat_tests)
 
-inject_line_in : (scope : Scope) (r : Reading) (ws : List (List ℕ)) → IsReading scope r → IfOk (inject_line r ws) (IsReading scope)
-inject_line_in scope r ws h =
-    counted_within (IsReading scope) 4 ws _
-    (ok_then (λ _. Unit {0}) (IsReading scope) (or_refuse (side_of (word_at ws 1)) why.Number) _ (ok_any (or_refuse (side_of (word_at ws 1)) why.Number)) (λ side u.
-    with_time (IsReading scope) 0 (10 ^ 12) ws 2 _ (λ at p.
-    ok_then IsShort (IsReading scope) (or_refuse (frame_of (word_at ws 3)) why.Number) _ (ok_or IsShort (frame_of (word_at ws 3)) why.Number (frame_short (word_at ws 3))) (λ frame q.
-    injected_in scope r (record { side = side; at = at; frame = frame }) h p q))))
+inject_line_in : (r : Reading) (ws : List (List ℕ)) → IsReading r → IfOk (inject_line r ws) IsReading
+inject_line_in r ws h =
+    counted_within IsReading 4 ws _
+    (ok_then (λ _. Unit {0}) IsReading (or_refuse (side_of (word_at ws 1)) why.Number) _ (ok_any (or_refuse (side_of (word_at ws 1)) why.Number)) (λ side u.
+    with_time IsReading 0 (10 ^ 12) ws 2 _ (λ at p.
+    ok_then IsFrame IsReading (or_refuse (frame_of (word_at ws 3)) why.Number) _ (ok_or IsFrame (frame_of (word_at ws 3)) why.Number (frame_in (word_at ws 3))) (λ frame q.
+    injected_in r (record { side = side; at = at; frame = frame }) h (record { time = p; bytes = q.bytes; short = q.short })))))
 
-with_settings : (scope : Scope) (r : Reading) (s : Setting) (settings : Settings) → IsReading scope r → AreSettings settings → IsReading scope (configured r s settings)
-with_settings scope r s settings h p = record {
-  scoped = h.scoped;
+with_settings : (r : Reading) (s : Setting) (settings : Settings) → IsReading r → AreSettings settings → IsReading (configured r s settings)
+with_settings r s settings h p = record {
   settings = p;
   endpoints = h.endpoints;
+  ids = h.ids;
   plan = h.plan;
   few = h.few;
   numbered = h.numbered;
@@ -450,39 +450,38 @@ with_settings scope r s settings h p = record {
   frames = h.frames;
   injections = h.injections;
   measures = h.measures;
-  unmeasured = h.unmeasured;
   differ = h.differ;
 }
 
-setting_line_in : (scope : Scope) (r : Reading) (s : Setting) (ws : List (List ℕ)) → IsReading scope r → IfOk (setting_line r s ws) (IsReading scope)
-setting_line_in scope r s ws h =
-    ok_if (IsReading scope) (is_seen r s) (Err why.Twice) _ (λ t. tt)
-    (λ f. ok_then AreSettings (IsReading scope) (set_of r.settings s ws) _ (set_in r.settings s ws h.settings)
-    (λ settings p. with_settings scope r s settings h p))
+setting_line_in : (r : Reading) (s : Setting) (ws : List (List ℕ)) → IsReading r → IfOk (setting_line r s ws) IsReading
+setting_line_in r s ws h =
+    ok_if IsReading (is_seen r s) (Err why.Twice) _ (λ t. tt)
+    (λ f. ok_then AreSettings IsReading (set_of r.settings s ws) _ (set_in r.settings s ws h.settings)
+    (λ settings p. with_settings r s settings h p))
 
-keyword_line_in : (scope : Scope) (r : Reading) (n : ℕ) (k : Keyword) (ws : List (List ℕ)) → IsReading scope r → IfOk (keyword_line r n k ws) (IsReading scope)
-keyword_line_in scope r n (keyword.Configure s) ws h = setting_line_in scope r s ws h
-keyword_line_in scope r n keyword.Endpoint ws h = endpoint_line_in scope r ws h
-keyword_line_in scope r n keyword.Plan ws h = plan_line_in scope r n ws h
-keyword_line_in scope r n keyword.Deliver ws h = deliver_line_in scope r ws h
-keyword_line_in scope r n keyword.Inject ws h = inject_line_in scope r ws h
-keyword_line_in scope r n keyword.Measure ws h = measure_line_in scope r ws h
+keyword_line_in : (r : Reading) (n : ℕ) (k : Keyword) (ws : List (List ℕ)) → IsReading r → IfOk (keyword_line r n k ws) IsReading
+keyword_line_in r n (keyword.Configure s) ws h = setting_line_in r s ws h
+keyword_line_in r n keyword.Endpoint ws h = endpoint_line_in r ws h
+keyword_line_in r n keyword.Plan ws h = plan_line_in r n ws h
+keyword_line_in r n keyword.Deliver ws h = deliver_line_in r ws h
+keyword_line_in r n keyword.Inject ws h = inject_line_in r ws h
+keyword_line_in r n keyword.Measure ws h = measure_line_in r ws h
 
-ordered_line_in : (scope : Scope) (r : Reading) (n : ℕ) (k : Keyword) (ws : List (List ℕ)) → IsReading scope r → IfOk (ordered_line r n k ws) (IsReading scope)
-ordered_line_in scope r n k ws h =
-    ok_if (IsReading scope) (comes_late r k) (Err why.Order) _ (λ t. tt)
-    (λ f. keyword_line_in scope r n k ws h)
+ordered_line_in : (r : Reading) (n : ℕ) (k : Keyword) (ws : List (List ℕ)) → IsReading r → IfOk (ordered_line r n k ws) IsReading
+ordered_line_in r n k ws h =
+    ok_if IsReading (comes_late r k) (Err why.Order) _ (λ t. tt)
+    (λ f. keyword_line_in r n k ws h)
 
-later_line_in : (scope : Scope) (r : Reading) (n : ℕ) (ws : List (List ℕ)) → IsReading scope r → IfOk (later_line r n ws) (IsReading scope)
-later_line_in scope r n ws h =
-    ok_if (IsReading scope) (is_skipped ws) (Ok r) _ (λ t. h)
-    (λ f. ok_then (λ _. Unit {0}) (IsReading scope) (or_refuse (keyword_of r.version ws) why.UnknownWord) _ (ok_any (or_refuse (keyword_of r.version ws) why.UnknownWord)) (λ k u. ordered_line_in scope r n k ws h))
+later_line_in : (r : Reading) (n : ℕ) (ws : List (List ℕ)) → IsReading r → IfOk (later_line r n ws) IsReading
+later_line_in r n ws h =
+    ok_if IsReading (is_skipped ws) (Ok r) _ (λ t. h)
+    (λ f. ok_then (λ _. Unit {0}) IsReading (or_refuse (keyword_of r.version ws) why.UnknownWord) _ (ok_any (or_refuse (keyword_of r.version ws) why.UnknownWord)) (λ k u. ordered_line_in r n k ws h))
 
-in_version : (scope : Scope) (r : Reading) (version : Version) → IsReading scope r → IsReading scope (record r { version = version })
-in_version scope r version h = record {
-  scoped = h.scoped;
+in_version : (r : Reading) (version : Version) → IsReading r → IsReading (record r { version = version })
+in_version r version h = record {
   settings = h.settings;
   endpoints = h.endpoints;
+  ids = h.ids;
   plan = h.plan;
   few = h.few;
   numbered = h.numbered;
@@ -490,26 +489,26 @@ in_version scope r version h = record {
   frames = h.frames;
   injections = h.injections;
   measures = h.measures;
-  unmeasured = h.unmeasured;
   differ = h.differ;
 }
 
-first_line_in : (scope : Scope) (r : Reading) (ws : List (List ℕ)) → IsReading scope r → IfOk (first_line r ws) (IsReading scope)
-first_line_in scope r ws h =
-    ok_then (λ _. Unit {0}) (IsReading scope) (or_refuse (version_of ws) why.FirstLine) _ (ok_any (or_refuse (version_of ws) why.FirstLine)) (λ version u. in_version scope r version h)
+first_line_in : (r : Reading) (ws : List (List ℕ)) → IsReading r → IfOk (first_line r ws) IsReading
+first_line_in r ws h =
+    ok_then (λ _. Unit {0}) IsReading (or_refuse (version_of ws) why.FirstLine) _ (ok_any (or_refuse (version_of ws) why.FirstLine)) (λ version u. in_version r version h)
 
-words_line_in : (scope : Scope) (r : Reading) (n : ℕ) (ws : List (List ℕ)) → IsReading scope r → IfOk (words_line r n ws) (IsReading scope)
-words_line_in scope r n ws h = ok_if (IsReading scope) (n == 1) (first_line r ws) (later_line r n ws) (λ t. first_line_in scope r ws h) (λ f. later_line_in scope r n ws h)
+words_line_in : (r : Reading) (n : ℕ) (ws : List (List ℕ)) → IsReading r → IfOk (words_line r n ws) IsReading
+words_line_in r n ws h = ok_if IsReading (n == 1) (first_line r ws) (later_line r n ws) (λ t. first_line_in r ws h) (λ f. later_line_in r n ws h)
 
-line_of_in : (scope : Scope) (r : Reading) (n : ℕ) (line : List ℕ) → IsReading scope r → IfOk (line_of r n line) (IsReading scope)
+line_of_in : (r : Reading) (n : ℕ) (line : List ℕ) → IsReading r → IfOk (line_of r n line) IsReading
 unfolding line_of
-line_of_in scope r n line h = ok_if (IsReading scope) (is_text line) (words_line r n (words_of line)) (Err why.NotText) (λ t. words_line_in scope r n (words_of line) h) (λ f. tt)
+line_of_in r n line h = ok_if IsReading (is_text line) (words_line r n (words_of line)) (Err why.NotText) (λ t. words_line_in r n (words_of line) h) (λ f. tt)
 
 -- ---- all lines
 
-finished_in : (scope : Scope) (r : Reading) → IsReading scope r → IsDocumentIn scope (finished r)
-finished_in scope r h = record {
+finished_in : (r : Reading) → IsReading r → IsDocument (finished r)
+finished_in r h = record {
   config = record { delays = h.settings.delays; gap = h.settings.gap; fragment_low = h.settings.fragment.0; fragment_high = h.settings.fragment.1; pack_low = h.settings.pack.0; pack_high = h.settings.pack.1; endpoints = h.endpoints };
+  ids = h.ids;
   plan = h.plan;
   few = h.few;
   numbered = h.numbered;
@@ -521,27 +520,26 @@ finished_in scope r h = record {
   frames = h.frames;
   injections = h.injections;
   measures = h.measures;
-  unmeasured = h.unmeasured;
   differ = h.differ;
 }
 
-after_in : (scope : Scope) (x : Result Reading DocWhy) (next : Reading → Result Document (ℕ × DocWhy)) (n : ℕ) → IfOk x (IsReading scope)
-    → ((r : Reading) → IsReading scope r → IfOk (next r) (IsDocumentIn scope)) → IfOk (after_line x next (λ why. Err (n, why))) (IsDocumentIn scope)
-after_in scope (Ok r) next n h f = f r h
-after_in scope (Err w) next n h f = tt
+after_in : (x : Result Reading DocWhy) (next : Reading → Result Document (ℕ × DocWhy)) (n : ℕ) → IfOk x IsReading
+    → ((r : Reading) → IsReading r → IfOk (next r) IsDocument) → IfOk (after_line x next (λ why. Err (n, why))) IsDocument
+after_in (Ok r) next n h f = f r h
+after_in (Err w) next n h f = tt
 
-read_from_in : (scope : Scope) (n : ℕ) (r : Reading) (lines : List (List ℕ)) → IsReading scope r → IfOk (read_from n r lines) (IsDocumentIn scope)
-read_from_in scope n r [] h = finished_in scope r h
-read_from_in scope n r (line ∷ lines) h =
-    after_in scope (line_of r n line) (λ next. read_from (n + 1) next lines) n (line_of_in scope r n line h) (λ next p. read_from_in scope (n + 1) next lines p)
+read_from_in : (n : ℕ) (r : Reading) (lines : List (List ℕ)) → IsReading r → IfOk (read_from n r lines) IsDocument
+read_from_in n r [] h = finished_in r h
+read_from_in n r (line ∷ lines) h =
+    after_in (line_of r n line) (λ next. read_from (n + 1) next lines) n (line_of_in r n line h) (λ next p. read_from_in (n + 1) next lines p)
 
-empty_or : (scope : Scope) (b : Bool) (w : ℕ × DocWhy) (x : Result Document (ℕ × DocWhy)) → IfOk x (IsDocumentIn scope) → IfOk (if b then Err w else x) (IsDocumentIn scope)
-empty_or scope true w x h = tt
-empty_or scope false w x h = h
+empty_or : (b : Bool) (w : ℕ × DocWhy) (x : Result Document (ℕ × DocWhy)) → IfOk x IsDocument → IfOk (if b then Err w else x) IsDocument
+empty_or true w x h = tt
+empty_or false w x h = h
 
-pub document_in_in : (scope : Scope) (text : List ℕ) → IfOk (document_in scope text) (IsDocumentIn scope)
-document_in_in scope text = empty_or scope (length text == 0) (1, why.FirstLine) _ (read_from_in scope 1 (start scope) _ (start_in scope))
+pub document_of_in : (text : List ℕ) → IfOk (document_of text) IsDocument
+document_of_in text = empty_or (length text == 0) (1, why.FirstLine) _ (read_from_in 1 start _ start_in)
 
 -- a document that is read
-pub proper : (scope : Scope) (text : List ℕ) (d : Document) → document_in scope text ≡ Ok d → IsDocumentIn scope d
-proper scope text d is = subst (λ x. IfOk x (IsDocumentIn scope)) is (document_in_in scope text)
+pub proper : (text : List ℕ) (d : Document) → document_of text ≡ Ok d → IsDocument d
+proper text d is = subst (λ x. IfOk x IsDocument) is (document_of_in text)

@@ -3,8 +3,6 @@ use Rattle.std.specs.Prelude.{ℕ, ◌+◌, List, [], ◌∷◌, length, ◌==�
 use Rattle.std.specs.List.{slice_split}
 use Rattle.fh_document.specs.declared.document.Document.{Document}
 use Rattle.fh_document.specs.declared.document.Reading.{Reading}
-use Rattle.fh_document.specs.declared.document.Scope.{Scope}
-use Rattle.fh_document.specs.declared.document.Scope.TheVariants.{Built, Whole}
 use Rattle.fh_document.specs.declared.refusals.DocWhy.{DocWhy}
 use Rattle.fh_document.specs.declared.refusals.DocWhy.TheVariants.{FirstLine}
 use Rattle.fh_document.specs.Words.{without_last_feed}
@@ -34,15 +32,7 @@ abbrev pub read_from : ℕ → Reading → List (List ℕ) → Result Document (
 read_from n r [] = Ok (finished r)
 read_from n r (line ∷ lines) = after_line (line_of r n line) (λ next. read_from (n + 1) next lines) (λ why. Err (n, why))
 
--- all lines of a text; where there is none, the first is missing
-abbrev pub document_in : Scope → List ℕ → Result Document (ℕ × DocWhy)
-document_in scope text = if length text == 0 then Err (1, FirstLine)
-    else read_from 1 (start scope) (slice_split (λ b. b == 10) (without_last_feed text))
-
--- the document that a text says, where all that it says is handled
+-- the document that all lines of a text say; where there is no line, the first is missing
 abbrev pub document_of : List ℕ → Result Document (ℕ × DocWhy)
-document_of text = document_in Built text
-
--- the same by the grammar alone, whether or not what it says is handled
-abbrev pub parsed : List ℕ → Result Document (ℕ × DocWhy)
-parsed text = document_in Whole text
+document_of text = if length text == 0 then Err (1, FirstLine)
+    else read_from 1 start (slice_split (λ b. b == 10) (without_last_feed text))

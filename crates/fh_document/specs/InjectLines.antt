@@ -1,8 +1,8 @@
 -- `inject WAY NS HEX`
-use Rattle.std.specs.Prelude.{ℕ, ◌^◌, List, [], ◌∷◌, ◌++◌, if◌then◌else◌, Option, Some, None, Result, codes}
+use Rattle.std.specs.Prelude.{ℕ, ◌^◌, List, [], ◌∷◌, ◌++◌, if◌then◌else◌, Option, Some, None, Result, Ok, codes}
 use Rattle.std.specs.Str.{bytes_eq}
-use Rattle.air_source.specs.declared.events.Side.{Side}
-use Rattle.air_source.specs.declared.events.Side.TheVariants.{Ru, Du}
+use Rattle.tone_source.specs.air_source.specs.declared.events.Side.{Side}
+use Rattle.tone_source.specs.air_source.specs.declared.events.Side.TheVariants.{Ru, Du}
 use Rattle.fh_document.specs.declared.document.Injection.{Injection}
 use Rattle.fh_document.specs.declared.document.Reading.{Reading}
 use Rattle.fh_document.specs.declared.refusals.DocWhy.{DocWhy}
@@ -11,7 +11,6 @@ use Rattle.fh_document.specs.Refusals.{or_refuse, ◌>>=◌}
 use Rattle.fh_document.specs.Words.{word_at}
 use Rattle.fh_document.specs.Hex.{frame_of}
 use Rattle.fh_document.specs.ConfigLines.{counted, time_at}
-use Rattle.fh_document.specs.Building.{is_built, if_built}
 
 -- downlink frames arrive at the radio unit, uplink frames at the distributed unit
 abbrev pub side_of : List ℕ → Option Side
@@ -20,9 +19,9 @@ side_of w =
     else (if bytes_eq w (codes "ul") then Some Du
     else None)
 
--- one injection more, where it is handled
+-- one injection more
 abbrev pub injected : Reading → Injection → Result Reading DocWhy
-injected r i = if_built (is_built i) (record r { injections = r.injections ++ i ∷ [] })
+injected r i = Ok (record r { injections = r.injections ++ i ∷ [] })
 
 abbrev pub inject_line : Reading → List (List ℕ) → Result Reading DocWhy
 inject_line r ws = counted 4 ws (do

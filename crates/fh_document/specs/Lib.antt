@@ -1,10 +1,11 @@
+pub use Rattle.tone_source
+pub use Rattle.window_config
 pub mod Refusals
 pub mod Words
 pub mod Hex
 pub mod Keywords
 pub mod ConfigLines
 pub mod EndpointLines
-pub mod Building
 pub mod InjectLines
 pub mod PlanLines
 pub mod Delivered

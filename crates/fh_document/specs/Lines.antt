@@ -4,7 +4,6 @@ use Rattle.std.specs.List.{slice_index_or}
 use Rattle.std.specs.Str.{bytes_eq}
 use Rattle.fh_document.specs.declared.document.Reading.{Reading}
 use Rattle.fh_document.specs.declared.document.Settings.{Settings}
-use Rattle.fh_document.specs.declared.document.Scope.{Scope}
 use Rattle.fh_document.specs.declared.document.Version.{Version}
 use Rattle.fh_document.specs.declared.document.Version.TheVariants.{One, Two}
 use Rattle.fh_document.specs.declared.keywords.Setting.{Setting}
@@ -23,9 +22,8 @@ use Rattle.fh_document.specs.InjectLines.{inject_line}
 use Rattle.fh_document.specs.MeasureLines.{measure_line}
 
 -- before any line but the first
-abbrev pub start : Scope → Reading
-start scope = record {
-  scope = scope;
+abbrev pub start : Reading
+start = record {
   version = One;
   settings = defaults;
   seen = replicate 18 false;

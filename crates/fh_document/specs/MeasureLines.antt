@@ -1,9 +1,9 @@
 -- `measure SIDE ID KIND NS`
-use Rattle.std.specs.Prelude.{ℕ, pos, ◌^◌, List, [], ◌∷◌, ◌++◌, Bool, ◌==◌, if◌then◌else◌, Option, Some, None, Result, Err, codes}
+use Rattle.std.specs.Prelude.{ℕ, pos, ◌^◌, List, [], ◌∷◌, ◌++◌, Bool, ◌==◌, if◌then◌else◌, Option, Some, None, Result, Ok, Err, codes}
 use Rattle.std.specs.List.{list_any}
 use Rattle.std.specs.Str.{bytes_eq}
-use Rattle.air_source.specs.declared.events.Side.{Side}
-use Rattle.air_source.specs.declared.events.Side.TheVariants.{Ru, Du}
+use Rattle.tone_source.specs.air_source.specs.declared.events.Side.{Side}
+use Rattle.tone_source.specs.air_source.specs.declared.events.Side.TheVariants.{Ru, Du}
 use Rattle.delay_measure.specs.declared.steps.Kind.{Kind}
 use Rattle.delay_measure.specs.declared.steps.Kind.TheVariants as way
 use Rattle.fh_document.specs.declared.document.Measure.{Measure}
@@ -14,7 +14,6 @@ use Rattle.fh_document.specs.Refusals.{or_refuse, ◌>>=◌}
 use Rattle.fh_document.specs.Words.{word_at, number_in}
 use Rattle.fh_document.specs.ConfigLines.{counted}
 use Rattle.fh_document.specs.EndpointLines.{taking}
-use Rattle.fh_document.specs.Building.{is_built_measure, if_built}
 
 -- the unit that begins the measurement
 abbrev pub unit_of : List ℕ → Option Side
@@ -45,11 +44,11 @@ measure_of ws =
 abbrev pub has_measure : ℕ → List Measure → Bool
 has_measure id = list_any (λ m. m.id == id)
 
--- one measurement more, where its id is new and it is handled
+-- one measurement more, where its id is new
 abbrev pub measured : Reading → Measure → Result Reading DocWhy
 measured r m =
     if has_measure m.id r.measures then Err why.Twice
-    else if_built (is_built_measure m) (record r { measures = r.measures ++ m ∷ [] })
+    else Ok (record r { measures = r.measures ++ m ∷ [] })
 
 abbrev pub measure_line : Reading → List (List ℕ) → Result Reading DocWhy
 measure_line r ws = counted 5 ws (or_refuse (measure_of ws) why.Number >>= (λ m. measured r m))

@@ -1,7 +1,9 @@
 -- What a document that was read may be (this project's profile).
-use Rattle.std.specs.Prelude.{ℕ, ℤ, pos, ◌^◌, ◌<◌, ◌≤◌, ◌≤ℤ◌, ◌≡◌, List, [], ◌∷◌, All, true, false, length, map}
+use Rattle.std.specs.Prelude.{ℕ, ℤ, pos, ◌^◌, ◌<◌, ◌≤◌, ◌≤ℤ◌, ◌≡◌, List, [], ◌∷◌, All, false, length, map}
+use Rattle.window_config.specs.bfp_codec.specs.Layout.{AreBytes}
 use Rattle.eaxc_map.specs.Endpoints.{AppearOnce}
 use Rattle.tone_source.specs.declared.values.Tone.{Tone}
+use Rattle.window_config.specs.declared.endpoints.EndpointConfig.{EndpointConfig}
 use Rattle.window_config.specs.declared.plan.PlanLine.{PlanLine}
 use Rattle.window_config.specs.Configs.{IsConfig}
 use Rattle.fh_document.specs.declared.document.Comps.{Comps}
@@ -9,12 +11,9 @@ use Rattle.fh_document.specs.declared.document.Transits.{Transits}
 use Rattle.fh_document.specs.declared.delivered.Delivery.{Delivery}
 use Rattle.fh_document.specs.declared.document.Injection.{Injection}
 use Rattle.fh_document.specs.declared.document.Measure.{Measure}
-use Rattle.fh_document.specs.declared.document.Scope.{Scope}
-use Rattle.fh_document.specs.declared.document.Scope.TheVariants.{Built, Whole}
 use Rattle.fh_document.specs.declared.document.Document.{Document}
 use Rattle.fh_document.specs.declared.hex.TheConstants.{MOST_BYTES}
 use Rattle.fh_document.specs.declared.plan_lines.TheConstants.{MOST_LINES}
-use Rattle.fh_document.specs.Building.{is_built, passes}
 use Rattle.fh_document.specs.Delivered.{has_like}
 use Rattle.fh_document.specs.DeliverLines.{least_of}
 
@@ -48,6 +47,7 @@ pub record IsPlanLine (line : PlanLine) : Type 0 where
   pub symbol : line.symbol ≤ 63
   pub count : line.count ≤ 15
   pub start_prb : line.start_prb ≤ 1023
+  pub num_prb : line.num_prb < 2 ^ 8
   pub mask : line.mask < 2 ^ 12
   pub section : line.section < 2 ^ 12
   pub beam : line.beam < 2 ^ 15
@@ -64,22 +64,20 @@ abbrev pub AreApart : List Delivery → Type 0
 AreApart [] = Unit {0}
 AreApart (d ∷ ds) = (has_like d ds ≡ false) × AreApart ds
 
-abbrev pub IsMeasure : Measure → Type 0
-IsMeasure m = IsFrom 1000000 (10 ^ 12) m.at
+-- an id of a byte; late enough that no stamp is below 0
+pub record IsMeasure (m : Measure) : Type 0 where
+  pub id : m.id < 256
+  pub time : IsFrom 1000000 (10 ^ 12) m.at
 
--- the measurements that are read: none but where the whole grammar is
-abbrev pub MayMeasure : Scope → List Measure → Type 0
-MayMeasure Built ms = ms ≡ []
-MayMeasure Whole ms = Unit {0}
-
--- an injected frame that is read
-pub record IsInjectionIn (scope : Scope) (i : Injection) : Type 0 where
+pub record IsInjection (i : Injection) : Type 0 where
   pub time : IsFrom 0 (10 ^ 12) i.at
+  pub bytes : AreBytes i.frame
   pub short : length i.frame ≤ MOST_BYTES
-  pub built : passes scope (is_built i) ≡ true
 
-pub record IsDocumentIn (scope : Scope) (d : Document) : Type 0 where
+-- each kind of lines within its limits, and eAxC ids of 16 bits
+pub record IsDocument (d : Document) : Type 0 where
   pub config : IsConfig d.config
+  pub ids : All (λ (e : EndpointConfig). e.id < 2 ^ 16) d.config.endpoints
   pub plan : All IsPlanLine d.plan
   pub few : length d.plan ≤ MOST_LINES
   pub numbered : length d.plan_lines ≡ length d.plan
@@ -89,14 +87,6 @@ pub record IsDocumentIn (scope : Scope) (d : Document) : Type 0 where
   pub transits : AreTransits d.transits
   pub deliveries : All IsDelivery d.deliveries
   pub frames : AreApart d.deliveries
-  pub injections : All (IsInjectionIn scope) d.injections
+  pub injections : All IsInjection d.injections
   pub measures : All IsMeasure d.measures
-  pub unmeasured : MayMeasure scope d.measures
   pub differ : AppearOnce (map (λ m. m.id) d.measures)
-
--- where all that it says is handled
-abbrev pub IsInjection : Injection → Type 0
-IsInjection i = IsInjectionIn Built i
-
-abbrev pub IsDocument : Document → Type 0
-IsDocument d = IsDocumentIn Built d

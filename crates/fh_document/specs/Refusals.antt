@@ -1,7 +1,7 @@
 -- Reasons, and what follows where there is none.
 use Rattle.std.specs.Prelude.{ℕ, List, Option, Some, None, Result, Ok, Err, codes}
 use Rattle.fh_document.specs.declared.refusals.DocWhy.{DocWhy}
-use Rattle.fh_document.specs.declared.refusals.DocWhy.TheVariants.{NotText, FirstLine, UnknownWord, Order, Twice, Words, Number, WidthSum, MinMax, TooMany, NotBuilt}
+use Rattle.fh_document.specs.declared.refusals.DocWhy.TheVariants.{NotText, FirstLine, UnknownWord, Order, Twice, Words, Number, WidthSum, MinMax, TooMany}
 
 -- the reason where there is no value
 abbrev pub or_refuse : {A : Type 0} → Option A → DocWhy → Result A DocWhy
@@ -25,4 +25,3 @@ name_of Number = codes "Number"
 name_of WidthSum = codes "WidthSum"
 name_of MinMax = codes "MinMax"
 name_of TooMany = codes "TooMany"
-name_of NotBuilt = codes "NotBuilt"

@@ -2,24 +2,12 @@
 use Rattle.std.specs.Prelude.{List}
 use Rattle.fh_document.specs.declared.document.Injection.{Injection}
 use Rattle.fh_document.specs.declared.document.Reading.{Reading}
-use Rattle.fh_document.specs.declared.document.Scope.{Scope}
-use Rattle.fh_document.specs.declared.document.Scope.TheVariants.{Built, Whole}
 use Rattle.fh_document.specs.declared.keywords.Keyword.{Keyword}
 use Rattle.fh_document.specs.declared.keywords.Keyword.TheVariants as keyword
 
 -- what the lines said so far
 abbrev pub Said : Type 0
 Said = Reading
-
--- which lines are read, and the two kinds of it: those of which all is handled, and all
-abbrev pub Reach : Type 0
-Reach = Scope
-
-abbrev pub handled : Scope
-handled = Built
-
-abbrev pub whole : Scope
-whole = Whole
 
 -- a kind of lines
 abbrev pub Kind : Type 0

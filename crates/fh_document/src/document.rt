@@ -1,11 +1,11 @@
 // What a document says, and what is known of it while its lines are read.
 
 use crate::delivered::{Deliveries, Delivery};
-use air_source::Side;
 use delay_measure::Kind;
 use eaxc_map::Widths;
 use fh_base::{Bytes, List};
 use tone_source::Tone;
+use tone_source::air_source::Side;
 use window_config::{Config, Delays, EndpointList, PlanLine};
 
 /// The delays between an antenna's connector and the edges that delay measurement stamps, as a unit's compensation: each from 0 to
@@ -96,19 +96,9 @@ pub(crate) enum Version {
     Two,
 }
 
-/// Which lines are read.
-#[derive(Clone, Copy)]
-pub(crate) enum Scope {
-    /// Those of which all is handled.
-    Built,
-    /// All that have their form.
-    Whole,
-}
-
 /// What the lines said so far.
 #[derive(Drop)]
 pub(crate) struct Reading {
-    pub(crate) scope: Scope,
     pub(crate) version: Version,
     pub(crate) settings: Settings,
     /// Which configuration keywords stand already, by their numbers.

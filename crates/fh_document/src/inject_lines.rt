@@ -3,14 +3,13 @@ ghost use Rattle.std.specs.Prelude.{◌≡◌};
 ghost use Rattle.fh_document.specs.Answered.{Reads};
 ghost use Rattle.fh_document.specs.InjectLines.{side_of, injected, inject_line};
 
-use crate::building::{is_built, passes};
 use crate::config_lines::time_at;
 use crate::document::{Injection, Reading};
 use crate::hex::frame_of;
 use crate::refusals::{DocWhy, LineFault};
 use crate::words::Words;
-use air_source::Side;
 use std::alloc::Global;
+use tone_source::air_source::Side;
 
 /// The last nanosecond at which a frame may arrive.
 const LAST: u64 = 1_000_000_000_000;
@@ -31,9 +30,6 @@ pub(crate) fn side_of(word: &[u8]) -> Option<Side>
 fn add(reading: &mut Reading, injection: Injection) -> Result<(), LineFault>
     ensures { Reads (injected reading.old injection) result reading.new }
 {
-    if !passes(reading.scope, is_built(&injection)) {
-        return Err(LineFault::Why(DocWhy::NotBuilt));
-    }
     match reading.injections.push(injection) {
         Ok(()) => Ok(()),
         Err(_) => Err(LineFault::NoMemory),

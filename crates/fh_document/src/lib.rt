@@ -8,7 +8,6 @@
 //! gives.
 #![tactic(auto)]
 
-mod building;
 mod config_lines;
 mod deliver_lines;
 mod delivered;
@@ -27,7 +26,8 @@ mod words;
 pub use delivered::{Class3, Copies, Delivery, ListFull, frame_number};
 pub use document::{Comps, Document, Injection, Measure, Transits};
 pub use generating::write;
-pub use reading::{parse, read};
+pub use reading::read;
 pub use refusals::{DocFault, DocWhy};
 pub use report_lines::{Line, cell_line, count_line, delay_line};
+pub use tone_source;
 pub use tone_source::{Tone, ToneSteps, tone};

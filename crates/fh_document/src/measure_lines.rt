@@ -4,13 +4,12 @@ ghost use Rattle.std.specs.Option.{option_map_or};
 ghost use Rattle.fh_document.specs.Answered.{Reads};
 ghost use Rattle.fh_document.specs.MeasureLines.{unit_of, kind_of, measure_of, has_measure, measured, measure_line};
 
-use crate::building::{is_built_measure, passes};
 use crate::document::{Measure, Reading};
 use crate::refusals::{DocWhy, LineFault};
 use crate::words::{Words, byte_in, number_in};
-use air_source::Side;
 use delay_measure::Kind;
 use fh_base::List;
+use tone_source::air_source::Side;
 
 /// The first nanosecond at which a measurement may begin, so that no stamp is below 0.
 const FIRST: u64 = 1_000_000;
@@ -92,9 +91,6 @@ fn add(reading: &mut Reading, measure: Measure) -> Result<(), LineFault>
 {
     if has_measure(measure.id, &reading.measures) {
         return Err(LineFault::Why(DocWhy::Twice));
-    }
-    if !passes(reading.scope, is_built_measure(&measure)) {
-        return Err(LineFault::Why(DocWhy::NotBuilt));
     }
     match reading.measures.push(measure) {
         Ok(()) => Ok(()),

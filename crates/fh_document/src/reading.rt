@@ -2,14 +2,13 @@
 ghost use Rattle.std.specs.Prelude.{◌≡◌, IfOk};
 ghost use Rattle.fh_document.specs.Answered.{Refuses, refused, Reads, Answers};
 ghost use Rattle.fh_document.specs.Lines.{start, is_seen, setting_line, reached, comes_late, keyword_line, ordered_line, is_skipped, version_at, version_of, first_line, later_line, words_line, line_of};
-ghost use Rattle.fh_document.specs.declared.document.Scope.TheVariants.{Whole};
-ghost use Rattle.fh_document.specs.Document.{finished, document_in, document_of, parsed};
-ghost use Rattle.fh_document.specs.Proper.{IsDocumentIn, IsDocument};
+ghost use Rattle.fh_document.specs.Document.{finished, document_of};
+ghost use Rattle.fh_document.specs.Proper.{IsDocument};
 
 use crate::config_lines::{defaults, set};
 use crate::deliver_lines::deliver_line;
 use crate::delivered::Deliveries;
-use crate::document::{Document, Reading, Scope, Version};
+use crate::document::{Document, Reading, Version};
 use crate::endpoint_lines::endpoint_line;
 use crate::inject_lines::inject_line;
 use crate::keywords::{Keyword, Setting, keyword_of};
@@ -21,11 +20,10 @@ use fh_base::List;
 use std::alloc::Global;
 use window_config::{Config, EndpointList};
 
-fn start(alloc: Global, scope: Scope) -> Reading
-    ensures { result ≡ start scope }
+fn start(alloc: Global) -> Reading
+    ensures { result ≡ start }
 {
     Reading {
-        scope,
         version: Version::One,
         settings: defaults(),
         seen: [false; Setting::COUNT],
@@ -242,11 +240,15 @@ fn finished(reading: Reading) -> Document
     }
 }
 
-fn read_in(alloc: Global, scope: Scope, bytes: &[u8]) -> Result<Document, DocFault>
-    ensures answers { Answers (document_in scope bytes.now) result }
-    ensures proper { IfOk result (λ d. IsDocumentIn scope d) }
+/// Reads a document, in the grammar of `fronthaul 1` or `fronthaul 2` as its first line says.
+///
+/// The answer is what the lines say, or the first line that is refused with its first reason, or want of memory. A document that
+/// is read is within its limits: the configuration is, no id stands twice, and each number is within its range.
+pub fn read(alloc: Global, bytes: &[u8]) -> Result<Document, DocFault>
+    ensures answers { Answers (document_of bytes.now) result }
+    ensures proper { IfOk result (λ d. IsDocument d) }
 {
-    let mut reading = start(alloc, scope);
+    let mut reading = start(alloc);
     if bytes.is_empty() {
         return Err(DocFault::At {
             line: 1,
@@ -266,25 +268,4 @@ fn read_in(alloc: Global, scope: Scope, bytes: &[u8]) -> Result<Document, DocFau
         rest = behind;
     }
     Ok(finished(reading))
-}
-
-/// Reads a document, in the grammar of `fronthaul 1` or `fronthaul 2` as its first line says.
-///
-/// The answer is what the lines say, or the first line that is refused with its first reason, or want of memory. A document that
-/// is read is within its limits: the configuration is, no id stands twice, and each injected frame is one that is handled. So far
-/// measurements, and injected frames of either way with a whole message of delay measurement, are refused, where no other reason is
-/// there (`NotBuilt`).
-pub fn read(alloc: Global, bytes: &[u8]) -> Result<Document, DocFault>
-    ensures answers { Answers (document_of bytes.now) result }
-    ensures proper { IfOk result (λ d. IsDocument d) }
-{
-    read_in(alloc, Scope::Built, bytes)
-}
-
-/// Reads a document by the grammar alone: as [`read`], but what is not handled yet is read as well.
-pub fn parse(alloc: Global, bytes: &[u8]) -> Result<Document, DocFault>
-    ensures answers { Answers (parsed bytes.now) result }
-    ensures proper { IfOk result (λ d. IsDocumentIn Whole d) }
-{
-    read_in(alloc, Scope::Whole, bytes)
 }

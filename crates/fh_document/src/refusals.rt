@@ -37,9 +37,6 @@ pub enum DocWhy {
     /// Sixteen endpoints, or 65,536 lines of a plan, are there already.
     #[error("TooMany")]
     TooMany,
-    /// What the line says is not handled yet.
-    #[error("NotBuilt")]
-    NotBuilt,
 }
 
 /// Why a document is not read.
@@ -77,7 +74,6 @@ impl DocWhy {
             DocWhy::WidthSum => "WidthSum",
             DocWhy::MinMax => "MinMax",
             DocWhy::TooMany => "TooMany",
-            DocWhy::NotBuilt => "NotBuilt",
         }
     }
 }

@@ -9,6 +9,8 @@ mod deliveries;
 mod rows;
 
 pub use deliveries::FrameDeliveries;
+pub use fh_document;
+pub use fh_document::tone_source;
 
 #[cfg(test)]
 mod tests;

@@ -1,7 +1,7 @@
 // The copies of frames of documents, worked out by hand.
 use crate::FrameDeliveries;
 use air_source::Side;
-use fh_document::{Class3, parse};
+use fh_document::{Class3, read};
 use std::test::Fail;
 
 #[test]
@@ -9,7 +9,7 @@ fn copies_are_those_of_the_line(rt: HostRuntime) -> Result<(), Fail> {
     let text = b"fronthaul 1\ntransit dl 51\ntransit ul 62\ntransit m 73\n\
         deliver dl u 7 9 4 4\ndeliver ul u 7 1\ndeliver dl u 6 0\ndeliver dl c 7\ndeliver ul c 7 2 3\n\
         deliver dl m 7 1 3000000000\ndeliver dl u 9999999 1 2 3 4 5 6 7 8\ndeliver dl u 2 20\n";
-    let document = parse(rt.alloc(), text.as_slice()).expect(&rt, "parsed");
+    let document = read(rt.alloc(), text.as_slice()).expect(&rt, "read");
     let deliveries = FrameDeliveries::make(rt.alloc(), &document)?;
     let cases: [(Side, Class3, u32, &[i64]); 16] = [
         (Side::Ru, Class3::U, 7, &[9, 4, 4]),
@@ -37,7 +37,7 @@ fn copies_are_those_of_the_line(rt: HostRuntime) -> Result<(), Fail> {
 
 #[test]
 fn a_frame_comes_once_where_no_line_stands(rt: HostRuntime) -> Result<(), Fail> {
-    let document = parse(rt.alloc(), b"fronthaul 1\n".as_slice()).expect(&rt, "parsed");
+    let document = read(rt.alloc(), b"fronthaul 1\n".as_slice()).expect(&rt, "read");
     let deliveries = FrameDeliveries::make(rt.alloc(), &document)?;
     for side in [Side::Ru, Side::Du] {
         for class in [Class3::C, Class3::U, Class3::M] {

@@ -1,4 +1,6 @@
 pub mod Network
 pub mod Places
 pub mod Held
+pub mod Pool
 pub mod Queues
+pub mod Spare

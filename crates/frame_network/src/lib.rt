@@ -6,18 +6,22 @@
 //!
 //! A document lists frames with times in any order. A replay takes them by time, those of one time in the order of the
 //! list, and looks at each time once. A [`LandingQueue`] sorts them once, when it is made, and then only moves on.
+//!
+//! The memory of a frame that landed goes to a [`FramePool`], from which the next ones take it.
 #![tactic(auto)]
 
 mod arrivals;
 mod in_flight;
 mod landings;
 mod places;
+mod pool;
 mod queue;
 mod sorting;
 
 pub use arrivals::{Arrival, ArrivalKey};
 pub use in_flight::Network;
 pub use landings::Landing;
+pub use pool::FramePool;
 pub use queue::LandingQueue;
 
 #[cfg(test)]

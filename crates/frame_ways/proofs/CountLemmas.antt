@@ -5,15 +5,15 @@ use Rattle.std.proofs.lemmas.Bool.Decides.{nat_tests}
 use Rattle.std.proofs.lemmas.Int.{ints}
 use Rattle.std.proofs.lemmas.List.Elements.{All-head, All-tail}
 use Rattle.air_source.specs.declared.events.Side.{Side}
-use Rattle.document_traffic.specs.Sending.{SentCounts, count_of, counted}
-use Rattle.fh_document.specs.Delivered.{class_number, way_number}
-use Rattle.fh_document.specs.declared.delivered.Class3.{Class3}
-use Rattle.fh_document.specs.declared.delivered.Class3.TheVariants.{C, U, M}
-use Rattle.fh_document.specs.declared.delivered.Delivery.{Delivery}
-use Rattle.fh_document.specs.Proper.{IsDelivery, IsDocument, IsFrom}
-use Rattle.fh_document.specs.declared.document.Document.{Document}
-use Rattle.frame_deliveries.specs.Copies.{copies_of, copies_or, line_of, speaks_of, transit_of}
-use Rattle.frame_deliveries.proofs.Within.{copies_within}
+use Rattle.measured_traffic.specs.document_traffic.specs.Sending.{SentCounts, count_of, counted}
+use Rattle.measured_traffic.specs.fh_document.specs.Delivered.{class_number, way_number}
+use Rattle.measured_traffic.specs.fh_document.specs.declared.delivered.Class3.{Class3}
+use Rattle.measured_traffic.specs.fh_document.specs.declared.delivered.Class3.TheVariants.{C, U, M}
+use Rattle.measured_traffic.specs.fh_document.specs.declared.delivered.Delivery.{Delivery}
+use Rattle.measured_traffic.specs.fh_document.specs.Proper.{IsDelivery, IsDocument, IsFrom}
+use Rattle.measured_traffic.specs.fh_document.specs.declared.document.Document.{Document}
+use Rattle.measured_traffic.specs.frame_deliveries.specs.Copies.{copies_of, copies_or, line_of, speaks_of, transit_of}
+use Rattle.measured_traffic.specs.frame_deliveries.proofs.Within.{copies_within}
 use Rattle.frame_ways.specs.declared.tally.Tally.{Tally}
 use Rattle.frame_ways.specs.Counts.{HasCounted, IsTally, held_count}
 
@@ -70,6 +70,10 @@ pub times_within : (d : Document) → IsDocument d → (side : Side) (class : Cl
 times_within d doc side C k = copies_within d doc.transits doc.deliveries side C k
 times_within d doc side U k = copies_within d doc.transits doc.deliveries side U k
 times_within d doc side M k = λ i z lt. from_1 _ (copies_within d doc.transits doc.deliveries side M k i z lt)
+
+-- and of delay measurement at least a nanosecond later
+pub measured_within : (d : Document) → IsDocument d → (side : Side) (class : Class3) (k : ℕ) → class ≡ M → All (IsFrom 1 3000000000) (copies_of d side class k)
+measured_within d doc side class k is = subst (λ (c : Class3). All (IsFrom 1 3000000000) (copies_of d side c k)) (sym is) (copies_within d doc.transits doc.deliveries side M k)
 
 -- ---- the counts
 

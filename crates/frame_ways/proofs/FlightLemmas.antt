@@ -5,17 +5,16 @@ use Rattle.std.specs.Cmp.{bool_cmp_total, int_cmp_total, nat_cmp_total, tied_its
 use Rattle.std.specs.Ordering.{int_eq, nat_cmp}
 use Rattle.std.specs.declared.cmp.Ordering.TheVariants.{Less}
 use Rattle.std.proofs.lemmas.Bool.Decides.{Decides-int_eq, nat_tests}
-use Rattle.std.proofs.lemmas.Int.{ints}
 use Rattle.std.proofs.lemmas.List.{length-take-le, map-append, take_all}
 use Rattle.std.proofs.lemmas.List.Elements.{All-head, All-pop, All-tail, filter-append}
-use Rattle.fh_document.specs.Proper.{IsFrom}
+use Rattle.measured_traffic.specs.fh_document.specs.Proper.{IsFrom}
 use Rattle.fh_time.specs.declared.values.Ticks.{Ticks}
 use Rattle.frame_network.specs.declared.arrivals.Arrival.{Arrival as Flying}
 use Rattle.frame_network.specs.Network.{IsInOrder, is_after, is_to_du, put_in}
 use Rattle.frame_network.proofs.Order.{earlier_place_is_not_after, not_after}
 use Rattle.frame_network.proofs.PutIn.{All-put_in, IsInOrder-put_in, IsLastOf, filter-put_in_last, filter-put_in_other}
-use Rattle.replay_events.specs.Moments.{landing_at}
-use Rattle.unit_model.specs.Meetings.{Arrival}
+use Rattle.measured_traffic.specs.replay_events.specs.Moments.{landing_at}
+use Rattle.ru_buffers.specs.unit_model.specs.Meetings.{Arrival}
 use Rattle.frame_ways.specs.declared.copies.Departure.{Departure}
 use Rattle.frame_ways.specs.Flying.{AreFlyingFrom, IsSentBefore, arrival_at, flying_at, flying_copies, flying_copy, landing_from, put_all}
 
@@ -118,16 +117,16 @@ are_put x frame copy (ns ∷ delays) fs short order before =
       sent = rest.sent;
     }
 
-later_sum : (now at ns : ℤ) → now ≤ℤ at → IsFrom 0 3000000000 ns → now ≤ℤ (at +ℤ (ns *ℤ pos 1536))
-later_sum now at ns order h = let low = h.low in omega (arith, ints, low, order)
-
-pub put_later : (now : ℤ) (x : Departure) (frame : List ℕ) (copy : ℕ) (delays : List ℤ) (fs : List Flying) → now ≤ℤ x.at.0 → All (IsFrom 0 3000000000) delays → AreFlyingFrom now fs
+-- where no copy lands before a tick, none in flight does
+pub put_later : (now : ℤ) (x : Departure) (frame : List ℕ) (copy : ℕ) (delays : List ℤ) (fs : List Flying) → All (λ (b : Arrival). now ≤ℤ b.at) (copies_from x frame delays) → AreFlyingFrom now fs
     → AreFlyingFrom now (put_all (flying_copies x frame copy delays) fs)
-put_later now x frame copy [] fs order times from = from
-put_later now x frame copy (ns ∷ delays) fs order times from =
+put_later now x frame copy [] fs come from = from
+put_later now x frame copy (ns ∷ delays) fs come from =
+    let P : Arrival → Type 0 = λ b. now ≤ℤ b.at in
     let a = flying_copy x frame copy ns in
-    put_later now x frame (suc copy) delays (put_in a fs) order (All-tail (IsFrom 0 3000000000) ns delays times)
-    (All-put_in (λ (y : Flying). now ≤ℤ y.at.0) a fs (later_sum now x.at.0 ns order (All-head (IsFrom 0 3000000000) ns delays times)) from)
+    let here = arrival_at (x.at.0 +ℤ (ns *ℤ pos 1536)) frame in
+    let rest = copies_from x frame delays in
+    put_later now x frame (suc copy) delays (put_in a fs) (All-tail P here rest come) (All-put_in (λ (y : Flying). now ≤ℤ y.at.0) a fs (All-head P here rest come) from)
 
 -- ---- one delay more
 

@@ -7,14 +7,14 @@ use Rattle.std.proofs.lemmas.Int.{ints}
 use Rattle.std.proofs.lemmas.Bool.Decides.{Decides-int_eq}
 use Rattle.std.proofs.lemmas.List.Elements.{All-head, All-tail}
 use Rattle.air_source.specs.declared.events.Side.{Side}
-use Rattle.fh_document.specs.declared.document.Document.{Document}
+use Rattle.measured_traffic.specs.fh_document.specs.declared.document.Document.{Document}
 use Rattle.fh_time.specs.declared.values.Ticks.{Ticks}
 use Rattle.frame_network.specs.declared.arrivals.Arrival.{Arrival as Flying}
 use Rattle.frame_network.specs.declared.landings.Landing.{Landing}
 use Rattle.frame_network.specs.Queues.{AreRising, at_time, Took, first_time, landing_of}
 use Rattle.frame_network.proofs.QueueLemmas.{none_below, taken_all as all_left}
-use Rattle.replay_events.proofs.TickLemmas.{at_most, below_all, next_after}
-use Rattle.unit_model.specs.Meetings.{Arrival}
+use Rattle.measured_traffic.specs.replay_events.proofs.TickLemmas.{at_most, below_all, next_after}
+use Rattle.ru_buffers.specs.unit_model.specs.Meetings.{Arrival}
 use Rattle.frame_ways.specs.Flying.{AreFlyingFrom, arrival_at, flying_at, landing_from}
 use Rattle.frame_ways.specs.Listed.{AreFrom, arrival_of, frame_at, left_at}
 

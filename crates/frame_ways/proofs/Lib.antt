@@ -3,5 +3,7 @@ pub mod FlightLemmas
 pub mod ListLemmas
 pub mod LandLemmas
 pub mod SendLemmas
+pub mod ComingLemmas
 pub mod WayLemmas
+pub mod QuietLemmas
 pub mod TimeLemmas

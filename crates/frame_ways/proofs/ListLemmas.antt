@@ -9,16 +9,16 @@ use Rattle.std.proofs.lemmas.List.{length-map, map-append, take_more}
 use Rattle.std.proofs.lemmas.List.Elements.{All-cons, All-head, All-nil, All-tail, All-filter, All-weaker, filter-append}
 use Rattle.std.proofs.lemmas.Option.{get_or_from_slice_get, slice_get-get_or, slice_get-map, slice_get_cases, slice_get_within}
 use Rattle.air_source.specs.declared.events.Side.{Side}
-use Rattle.document_traffic.specs.Landing.{injected_at, injected_to, is_to}
-use Rattle.fh_document.specs.Proper.{IsDocument}
-use Rattle.fh_document.specs.declared.document.Document.{Document}
-use Rattle.fh_document.specs.declared.document.Injection.{Injection}
+use Rattle.measured_traffic.specs.document_traffic.specs.Landing.{injected_at, injected_to, is_to}
+use Rattle.measured_traffic.specs.fh_document.specs.Proper.{IsDocument}
+use Rattle.measured_traffic.specs.fh_document.specs.declared.document.Document.{Document}
+use Rattle.measured_traffic.specs.fh_document.specs.declared.document.Injection.{Injection}
 use Rattle.fh_time.specs.declared.values.Ticks.{Ticks}
 use Rattle.frame_network.specs.declared.landings.Landing.{Landing}
 use Rattle.frame_network.specs.Queues.{IsPlaced, at_time, enumerated, enumerated_from, landing_of as place_of}
-use Rattle.replay_events.specs.Moments.{landing_at}
-use Rattle.unit_model.specs.Meetings.{Arrival}
-use Rattle.unit_model.specs.Radiated.{first_clock}
+use Rattle.measured_traffic.specs.replay_events.specs.Moments.{landing_at}
+use Rattle.ru_buffers.specs.unit_model.specs.Meetings.{Arrival}
+use Rattle.ru_buffers.specs.unit_model.specs.Radiated.{first_clock}
 use Rattle.frame_ways.specs.Flying.{arrival_at}
 use Rattle.frame_ways.specs.Listed.{AreFrom, HasTime, arrival_of, frame_of, injections_in, injections_to, left_at, time_of}
 

@@ -4,29 +4,26 @@ use Rattle.std.specs.Prelude.{map, slice_get}
 use Rattle.std.proofs.lemmas.List.Elements.{All-head, All-nil, All-tail}
 use Rattle.std.specs.Borrow.{Bor}
 use Rattle.air_source.specs.declared.events.Side.{Side}
-use Rattle.air_source.specs.declared.events.Side.TheVariants.{Du, Ru}
-use Rattle.document_traffic.specs.Landing.{copies_among, copies_in, injected_to, leaving_to, traffic_of}
-use Rattle.document_traffic.specs.Sending.{Leaving, SentCounts, counted, delayed, delayed_behind, none_sent}
-use Rattle.fh_document.specs.Proper.{IsDocument, IsFrom}
-use Rattle.fh_document.specs.declared.document.Document.{Document}
-use Rattle.fh_document.specs.declared.document.Injection.{Injection}
+use Rattle.measured_traffic.specs.document_traffic.specs.Landing.{copies_among, copies_in, injected_to}
+use Rattle.measured_traffic.specs.document_traffic.specs.Sending.{Leaving, SentCounts, counted, delayed, delayed_behind, none_sent}
+use Rattle.measured_traffic.specs.fh_document.specs.Proper.{IsDocument}
+use Rattle.measured_traffic.specs.fh_document.specs.declared.document.Document.{Document}
+use Rattle.measured_traffic.specs.fh_document.specs.declared.document.Injection.{Injection}
 use Rattle.fh_time.specs.declared.values.Ticks.{Ticks}
 use Rattle.frame_network.specs.Network.{IsInOrder}
 use Rattle.frame_network.specs.Queues.{AreRising, IsPlaced, at_time, enumerated, first_time, landing_of}
 use Rattle.frame_network.specs.declared.arrivals.Arrival.{Arrival as Flying}
-use Rattle.replay_events.specs.Moments.{landing_at}
-use Rattle.replay_events.specs.Traffic.{landings_at}
-use Rattle.replay_events.proofs.TickLemmas.{at_most}
-use Rattle.unit_model.specs.Meetings.{Arrival}
-use Rattle.unit_model.specs.Radiated.{first_clock}
+use Rattle.measured_traffic.specs.Replayed.{all_leaving, landings_for}
+use Rattle.measured_traffic.specs.replay_events.specs.Moments.{landing_at}
+use Rattle.ru_buffers.specs.unit_model.specs.Meetings.{Arrival}
+use Rattle.ru_buffers.specs.unit_model.specs.Radiated.{first_clock}
 use Rattle.frame_ways.specs.declared.copies.Departure.{Departure}
 use Rattle.frame_ways.specs.declared.landed.Landed.TheVariants.{Sent, Listed}
 use Rattle.frame_ways.specs.declared.way.Way.{Way}
 use Rattle.frame_ways.specs.Counts.{IsTally}
 use Rattle.frame_ways.specs.Flying.{AreFlyingFrom, IsSentBefore, arrival_at, flying_at, flying_copies, put_all}
 use Rattle.frame_ways.specs.Listed.{AreFrom, frame_at, frame_of, injections_in, injections_to, left_at, time_of}
-use Rattle.frame_ways.specs.Ways.{IsLanded, IsOver, Waits, sent_at}
-use Rattle.frame_ways.proofs.CountLemmas.{times_within}
+use Rattle.frame_ways.specs.Ways.{ComesFrom, IsLanded, IsOver, Waits, sent_at}
 use Rattle.frame_ways.proofs.FlightLemmas.{are_put, copies_from, landing-append, put_later}
 use Rattle.frame_ways.proofs.LandLemmas.{flying_here, flying_later, flying_none, later_from, left_first, left_later, left_none, refused_from, same_tick, taken_all}
 use Rattle.frame_ways.proofs.ListLemmas.{left_listed, lent_at, listed_from, short_at, times_to}
@@ -40,15 +37,14 @@ pub record IsSameBut (w v : Way) : Type 0 where
 -- ---- nothing was sent
 
 all_come : (d : Document) (side : Side) (t : ℤ) (listed : List Arrival) → listed ≡ landing_at (injected_to side d) t
-    → ([] ++ (sent_at d side t none_sent (leaving_to side d) ++ listed)) ≡ landing_at (landings_at side (traffic_of d)) t
-all_come d Ru t listed is =
-    ap (λ (xs : List Arrival). sent_at d Ru t none_sent (leaving_to Ru d) ++ xs) is ∙ sym (landing-append (copies_among (delayed_behind d Ru none_sent (leaving_to Ru d))) (injected_to Ru d) t)
-all_come d Du t listed is =
-    ap (λ (xs : List Arrival). sent_at d Du t none_sent (leaving_to Du d) ++ xs) is ∙ sym (landing-append (copies_among (delayed_behind d Du none_sent (leaving_to Du d))) (injected_to Du d) t)
+    → ([] ++ (sent_at d side t none_sent (all_leaving side d) ++ listed)) ≡ landing_at (landings_for side d) t
+all_come d side t listed is =
+    let all = all_leaving side d in
+    ap (λ (xs : List Arrival). sent_at d side t none_sent all ++ xs) is ∙ sym (landing-append (copies_among (delayed_behind d side none_sent all)) (injected_to side d) t)
 
 pub starts : (d : Document) (side : Side) (times : List Ticks) (w : Way) → IsDocument d → w.deliveries ≡ d → w.side ≡ side → injections_in w.injections.items ≡ injections_to side d
     → times ≡ map time_of (injections_in w.injections.items) → ((t : ℤ) → at_time t w.listed ≡ at_time t (enumerated times)) → All (IsPlaced times) w.listed → w.in_flight ≡ []
-    → IsTally none_sent w.tally → Waits d side first_clock first_clock none_sent (leaving_to side d) w
+    → IsTally none_sent w.tally → Waits d side first_clock first_clock none_sent (all_leaving side d) w
 starts d side times w doc deliveries unit injections are same placed empty tally = record {
   read = doc;
   document = deliveries;
@@ -56,7 +52,7 @@ starts d side times w doc deliveries unit injections are same placed empty tally
   injections = injections;
   tally = tally;
   lands = λ t low.
-      ap (λ (fs : List Flying). flying_at t fs ++ (sent_at d side t none_sent (leaving_to side d) ++ left_at d side t w.listed)) empty
+      ap (λ (fs : List Flying). flying_at t fs ++ (sent_at d side t none_sent (all_leaving side d) ++ left_at d side t w.listed)) empty
       ∙ all_come d side t (left_at d side t w.listed) (left_listed d side times w.injections.items w.listed are injections same t);
   list = listed_from times w.injections.items w.listed are (times_to d side w.injections.items doc injections) placed;
   flying = subst (AreFlyingFrom first_clock) (sym empty) (All-nil _);
@@ -97,9 +93,9 @@ copies_same d side m f w v g =
     ap₂ (λ (at : ℤ) (bytes : List ℕ). map (λ (ns : ℤ). arrival_at (at +ℤ (ns *ℤ pos 1536)) bytes) g.delays) g.at g.bytes
     ∙ ap (λ (ns : List ℤ). map (λ (n : ℤ). arrival_at (f.at +ℤ (n *ℤ pos 1536)) f.frame) ns) g.times
 
-pub goes_out : (d : Document) (side : Side) (now from : ℤ) (n : SentCounts) (f : Leaving) (rest : List Leaving) (w v : Way) → now ≤ℤ from → from ≤ℤ f.at → Waits d side now from n (f ∷ rest) w
+pub goes_out : (d : Document) (side : Side) (now from : ℤ) (n : SentCounts) (f : Leaving) (rest : List Leaving) (w v : Way) → ComesFrom d side now n f → Waits d side now from n (f ∷ rest) w
     → HasLeft d side (counted f.class n) f w v → Waits d side now from (counted f.class n) rest v
-goes_out d side now from n f rest w v order due h g =
+goes_out d side now from n f rest w v come h g =
     let m = counted f.class n in
     let x = g.departure in
     let unit : side ≡ x.side = sym (g.unit ∙ h.unit) in
@@ -107,8 +103,7 @@ goes_out d side now from n f rest w v order due h g =
     = subst (λ (s : Side). All (IsSentBefore s x.place 0) w.in_flight) unit (subst (λ (p : ℕ). All (IsSentBefore side p 0) w.in_flight) (sym g.place) h.sent) in
     let after = put_all (flying_copies x g.frame 0 g.delays) w.in_flight in
     let puts = are_put x g.frame 0 g.delays w.in_flight g.short h.order sent in
-    let times : All (IsFrom 0 3000000000) g.delays = subst (All (IsFrom 0 3000000000)) (sym g.times) (times_within d h.read side f.class _) in
-    let later : now ≤ℤ x.at.0 = subst (λ (z : ℤ). now ≤ℤ z) (sym g.at) (at_most now from f.at order due) in
+    let later : All (λ (a : Arrival). now ≤ℤ a.at) (copies_from x g.frame g.delays) = subst (All (λ (a : Arrival). now ≤ℤ a.at)) (sym (copies_same d side m f w v g)) come in
     let place : v.place ≡ x.place + 1 = g.next ∙ ap (λ (p : ℕ). p + 1) (sym g.place) in
     record {
       read = h.read;
@@ -124,7 +119,7 @@ goes_out d side now from n f rest w v order due h g =
           ∙ ap (λ (xs : List Arrival). flying_at t w.in_flight ++ (xs ++ left_at d side t w.listed)) (sym (first_lands d side t n f rest))
           ∙ h.lands t low;
       list = subst (AreFrom now) (sym g.listed) h.list;
-      flying = subst (AreFlyingFrom now) (sym g.put) (put_later now x g.frame 0 g.delays w.in_flight later times h.flying);
+      flying = subst (AreFlyingFrom now) (sym g.put) (put_later now x g.frame 0 g.delays w.in_flight later h.flying);
       order = subst IsInOrder (sym g.put) puts.order;
       sent = subst (λ (fs : List Flying). All (IsSentBefore side v.place 0) fs) (sym g.put)
           (subst (λ (s : Side). All (IsSentBefore s v.place 0) after) (sym unit) (subst (λ (p : ℕ). All (IsSentBefore x.side p 0) after) (sym place) puts.sent));

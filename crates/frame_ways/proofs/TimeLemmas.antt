@@ -8,7 +8,7 @@ use Rattle.frame_network.specs.declared.arrivals.Arrival.{Arrival as Flying}
 use Rattle.frame_network.specs.declared.landings.Landing.{Landing}
 use Rattle.frame_network.specs.Network.{first_time as first_flying}
 use Rattle.frame_network.specs.Queues.{AreRising, first_time}
-use Rattle.replay_events.proofs.TickLemmas.{below_all, next_after, weak}
+use Rattle.measured_traffic.specs.replay_events.proofs.TickLemmas.{below_all, next_after, weak}
 use Rattle.ru_buffers.specs.Calls.{IsLeast, IsLeastOf, earlier_time}
 use Rattle.frame_ways.specs.Flying.{AreFlyingFrom}
 use Rattle.frame_ways.specs.Listed.{AreFrom}

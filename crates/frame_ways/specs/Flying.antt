@@ -4,7 +4,7 @@ use Rattle.std.specs.Ordering.{int_eq}
 use Rattle.air_source.specs.declared.events.Side.{Side}
 use Rattle.frame_network.specs.declared.arrivals.Arrival.{Arrival as Flying}
 use Rattle.frame_network.specs.Network.{put_in}
-use Rattle.unit_model.specs.Meetings.{Arrival}
+use Rattle.ru_buffers.specs.unit_model.specs.Meetings.{Arrival}
 use Rattle.frame_ways.specs.declared.copies.Departure.{Departure}
 
 -- ---- copies that are put in flight

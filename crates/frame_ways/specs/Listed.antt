@@ -3,14 +3,14 @@ use Rattle.std.specs.Prelude.{ℕ, ℤ, pos, ◌*ℤ◌, ◌^◌, ◌≤ℤ◌, 
 use Rattle.std.specs.Borrow.{Bor}
 use Rattle.std.specs.List.{AllByRecursion}
 use Rattle.air_source.specs.declared.events.Side.{Side}
-use Rattle.document_traffic.specs.Landing.{is_to}
-use Rattle.fh_document.specs.Proper.{IsFrom}
-use Rattle.fh_document.specs.declared.document.Document.{Document}
-use Rattle.fh_document.specs.declared.document.Injection.{Injection}
+use Rattle.measured_traffic.specs.document_traffic.specs.Landing.{is_to}
+use Rattle.measured_traffic.specs.fh_document.specs.Proper.{IsFrom}
+use Rattle.measured_traffic.specs.fh_document.specs.declared.document.Document.{Document}
+use Rattle.measured_traffic.specs.fh_document.specs.declared.document.Injection.{Injection}
 use Rattle.fh_time.specs.declared.values.Ticks.{Ticks}
 use Rattle.frame_network.specs.declared.landings.Landing.{Landing}
 use Rattle.frame_network.specs.Queues.{at_time}
-use Rattle.unit_model.specs.Meetings.{Arrival}
+use Rattle.ru_buffers.specs.unit_model.specs.Meetings.{Arrival}
 use Rattle.frame_ways.specs.Flying.{arrival_at}
 
 -- ---- the document's frames to a unit

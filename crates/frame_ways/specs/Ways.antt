@@ -1,16 +1,17 @@
 -- How a way to a unit stands to a document as time passes: to what was sent, what is still to be sent, and what lands (this project's
 -- profile). At one time those in flight come first, in their order, then the copies of those that are still to be sent, in the sent
 -- order, and then the frames of the document that wait, in its order.
-use Rattle.std.specs.Prelude.{◌≡◌, ℕ, ℤ, pos, ◌+◌, ◌+ℤ◌, ◌<◌, ◌^◌, ◌≤ℤ◌, List, [], ◌∷◌, ◌++◌, All, length}
+use Rattle.std.specs.Prelude.{◌≡◌, ℕ, ℤ, pos, ◌+◌, ◌+ℤ◌, ◌<◌, ◌^◌, ◌≤ℤ◌, ◌<ℤ◌, ◌⊎◌, List, [], ◌∷◌, ◌++◌, All, length}
 use Rattle.air_source.specs.declared.events.Side.{Side}
-use Rattle.document_traffic.specs.Landing.{copies_among, traffic_of}
-use Rattle.document_traffic.specs.Sending.{Leaving, SentCounts, delayed_behind}
-use Rattle.fh_document.specs.Proper.{IsDocument}
-use Rattle.fh_document.specs.declared.document.Document.{Document}
+use Rattle.measured_traffic.specs.document_traffic.specs.Landing.{copies_among, copies_in}
+use Rattle.measured_traffic.specs.document_traffic.specs.Sending.{Leaving, SentCounts, counted, delayed, delayed_behind}
+use Rattle.measured_traffic.specs.fh_document.specs.Proper.{IsDocument}
+use Rattle.measured_traffic.specs.fh_document.specs.declared.delivered.Class3.TheVariants.{M}
+use Rattle.measured_traffic.specs.fh_document.specs.declared.document.Document.{Document}
 use Rattle.frame_network.specs.Network.{IsInOrder}
-use Rattle.replay_events.specs.Moments.{landing_at}
-use Rattle.replay_events.specs.Traffic.{landings_at}
-use Rattle.unit_model.specs.Meetings.{Arrival}
+use Rattle.measured_traffic.specs.replay_events.specs.Moments.{landing_at}
+use Rattle.measured_traffic.specs.Replayed.{landings_for}
+use Rattle.ru_buffers.specs.unit_model.specs.Meetings.{Arrival}
 use Rattle.frame_ways.specs.declared.landed.Landed.{Landed}
 use Rattle.frame_ways.specs.declared.way.Way.{Way}
 use Rattle.frame_ways.specs.Counts.{IsTally}
@@ -44,6 +45,14 @@ IsEmptyTo w to = AreFrom (to +ℤ pos 1) w.listed × AreFlyingFrom (to +ℤ pos 
 abbrev pub frames_in : Way → ℕ
 frames_in w = length w.in_flight + length w.listed
 
+-- where so many were sent before it, none of a frame's copies lands before a tick
+abbrev pub ComesFrom : Document → Side → ℤ → SentCounts → Leaving → Type 0
+ComesFrom d side now n f = All (λ a. now ≤ℤ a.at) (copies_in (delayed d side (counted f.class n) f))
+
+-- it leaves after a tick, or not before it and is of delay measurement: all its copies land after the tick
+abbrev pub LandsAfter : ℤ → Leaving → Type 0
+LandsAfter tick f = (tick <ℤ f.at) ⊎ ((f.class ≡ M) × (tick ≤ℤ f.at))
+
 -- ---- how it stands to the document
 
 -- From the tick `from` on, those that come are those that land for the document, where so many were sent and these are still to be
@@ -54,7 +63,7 @@ pub record Waits (d : Document) (side : Side) (now from : ℤ) (n : SentCounts) 
   pub unit : w.side ≡ side
   pub injections : injections_in w.injections.items ≡ injections_to side d
   pub tally : IsTally n w.tally
-  pub lands : (tick : ℤ) → from ≤ℤ tick → to_come_at d side tick n left w ≡ landing_at (landings_at side (traffic_of d)) tick
+  pub lands : (tick : ℤ) → from ≤ℤ tick → to_come_at d side tick n left w ≡ landing_at (landings_for side d) tick
   pub list : AreFrom now w.listed
   pub flying : AreFlyingFrom now w.in_flight
   pub order : IsInOrder w.in_flight

@@ -1,15 +1,14 @@
 // The copies of a frame go on their way.
 ghost use Rattle.std.specs.Prelude.{◌≡◌, ◌<◌, ◌≤◌, ◌≤ℤ◌, ◌^◌, All, IfOk, OnOk, length};
-ghost use Rattle.fh_document.specs.Proper.{IsFrom};
-ghost use Rattle.replay_events.specs.Moments.{end_of_time};
-ghost use Rattle.unit_model.specs.Radiated.{first_clock};
+ghost use Rattle.measured_traffic.specs.fh_document.specs.Proper.{IsFrom};
+ghost use Rattle.measured_traffic.specs.replay_events.specs.Moments.{end_of_time};
+ghost use Rattle.ru_buffers.specs.unit_model.specs.Radiated.{first_clock};
 ghost use Rattle.frame_ways.specs.Flying.{flying_copies, flying_copy, put_all};
 
 use air_source::Side;
 use fh_base::{Bytes, NoMemory};
 use fh_time::{Ticks, of_ns};
-use frame_network::{Arrival, ArrivalKey, Network};
-use std::alloc::Global;
+use frame_network::{Arrival, ArrivalKey, FramePool, Network};
 
 /// A frame as it leaves for a unit.
 #[derive(Clone, Copy)]
@@ -41,18 +40,9 @@ impl Departure {
     }
 }
 
-/// The same bytes once more.
-pub(crate) fn copy_of(alloc: Global, bytes: &[u8]) -> Result<Bytes, NoMemory>
-    ensures { IfOk result (λ b. b ≡ bytes.now) }
-{
-    let mut copy = Bytes::with_capacity(alloc, bytes.len())?;
-    copy.push_all(bytes)?;
-    Ok(copy)
-}
-
 /// Puts the copies of a frame in flight, each so many nanoseconds on its way. The last one has the frame's own bytes.
 pub(crate) fn put_copies(
-    alloc: Global,
+    pool: &mut FramePool,
     departure: Departure,
     frame: Bytes,
     delays: &[i64],
@@ -68,7 +58,7 @@ pub(crate) fn put_copies(
         return Ok(());
     };
     for (copy, ns) in others.iter().enumerate() {
-        let bytes = copy_of(alloc, frame.as_slice())?;
+        let bytes = pool.copy_of(frame.as_slice())?;
         in_flight.put(departure.copy(copy as u8, ns, bytes))?;
     }
     in_flight.put(departure.copy(others.len() as u8, last, frame))

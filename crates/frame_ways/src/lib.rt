@@ -14,6 +14,7 @@ mod times;
 mod way;
 
 pub use landed::Landed;
+pub use ru_buffers;
 pub use times::earlier_of;
 pub use way::Way;
 

@@ -1,13 +1,13 @@
 // The frames that a document injects to a unit, and their times.
 ghost use Rattle.std.specs.Prelude.{◌≡◌, ◌^◌, All, IfOk, map};
-ghost use Rattle.document_traffic.specs.Landing.{is_to};
-ghost use Rattle.fh_document.specs.Proper.{IsFrom};
+ghost use Rattle.measured_traffic.specs.document_traffic.specs.Landing.{is_to};
+ghost use Rattle.measured_traffic.specs.fh_document.specs.Proper.{IsFrom};
 ghost use Rattle.frame_ways.specs.Listed.{HasTime, injections_in, injections_to, time_of};
 
 use air_source::Side;
 use fh_base::NoMemory;
-use fh_document::{Document, Injection};
 use fh_time::{Ticks, of_ns};
+use measured_traffic::fh_document::{Document, Injection};
 use std::alloc::Global;
 
 /// Whether a frame arrives at a unit.

@@ -1,18 +1,18 @@
 // How many frames were sent to a unit.
 ghost use Rattle.frame_ways.specs.Counts.{HasCounted};
 
-use fh_document::Class3;
+use measured_traffic::fh_document::Class3;
 
 /// How many frames of each class were sent to a unit, each count at most the greatest number that it can hold.
 #[derive(Clone, Copy)]
 pub(crate) struct Tally {
     pub(crate) c_plane: u32,
     pub(crate) u_plane: u32,
+    pub(crate) measurement: u32,
 }
 
 impl Tally {
-    /// Counts a frame of a class, and answers its number among those of the class, from 1. Frames of delay measurement are not counted,
-    /// and have the number 0.
+    /// Counts a frame of a class, and answers its number among those of the class, from 1.
     pub(crate) fn count(&mut self, class: Class3) -> u32
         ensures { HasCounted class self.old self.new result }
     {
@@ -25,7 +25,10 @@ impl Tally {
                 self.u_plane = self.u_plane.saturating_add(1);
                 self.u_plane
             }
-            Class3::M => 0,
+            Class3::M => {
+                self.measurement = self.measurement.saturating_add(1);
+                self.measurement
+            }
         }
     }
 }

@@ -1,21 +1,23 @@
 // Ways of a small document, worked out by hand.
 ghost use Rattle.std.specs.Prelude.{◌≡◌, IfOk};
-ghost use Rattle.fh_document.specs.Proper.{IsDocument};
+ghost use Rattle.measured_traffic.specs.fh_document.specs.Proper.{IsDocument};
 ghost use Rattle.frame_ways.specs.Ways.{document_of};
 
 use crate::{Way, earlier_of};
 use air_source::Side;
 use fh_base::{Bytes, NoMemory};
-use fh_document::{Class3, Document, read};
 use fh_time::{Ticks, of_ns};
+use frame_network::FramePool;
+use measured_traffic::fh_document::{Class3, Document, read};
 use std::alloc::Global;
 use std::test::Fail;
 
-/// The second frame of the U-plane to the radio unit comes three times, the first command not at all, and the second frame to the
-/// distributed unit early. Of the injected frames three come at the times of others.
-const TEXT: &[u8] = b"fronthaul 1\ntransit dl 40\ntransit ul 60\n\
-    deliver dl u 2 7 5 7\ndeliver dl c 1\ndeliver ul u 2 9\n\
-    inject dl 49 a3\ninject dl 40 a1\ninject dl 40 a2\n";
+/// The second frame of the U-plane to the radio unit comes three times, the first command not at all, the first frame of delay
+/// measurement twice, and the second frame of the U-plane to the distributed unit early. Of the injected frames four come at the times
+/// of others.
+const TEXT: &[u8] = b"fronthaul 1\ntransit dl 40\ntransit ul 60\ntransit m 30\n\
+    deliver dl u 2 7 5 7\ndeliver dl c 1\ndeliver ul u 2 9\ndeliver dl m 1 5 8\n\
+    inject dl 49 a3\ninject ul 60 b1\ninject dl 40 a1\ninject dl 40 a2\n";
 
 /// The way to a unit.
 fn way_to<'a>(alloc: Global, doc: &'a Document, side: Side) -> Result<Way<'a>, NoMemory>
@@ -26,43 +28,52 @@ fn way_to<'a>(alloc: Global, doc: &'a Document, side: Side) -> Result<Way<'a>, N
 }
 
 /// Sends a frame of one byte at time 0.
-fn send(alloc: Global, way: &mut Way<'_>, class: Class3, mark: u8) -> Result<(), NoMemory>
+fn send(pool: &mut FramePool, way: &mut Way<'_>, class: Class3, mark: u8) -> Result<(), NoMemory>
     requires { IsDocument (document_of way.old) }
     ensures { document_of way.new ≡ document_of way.old }
 {
-    way.send(alloc, Ticks(0), class, &[mark])
+    way.send(pool, Ticks(0), class, &[mark])
 }
 
-/// The byte of the next frame that lands so many nanoseconds after time 0, or 0 where none does.
-fn mark_at(way: &mut Way<'_>, tick: Ticks) -> u8 {
-    match way.next_at(tick) {
-        None => 0,
-        Some(frame) => match frame.as_slice() {
-            [mark] => *mark,
-            _ => 255,
-        },
-    }
+/// The byte of the next frame that lands at a tick, or 0 where none does. The frame's memory goes back to the pool.
+fn mark_at(pool: &mut FramePool, way: &mut Way<'_>, tick: Ticks) -> u8
+    ensures { document_of way.new ≡ document_of way.old }
+{
+    let Some(frame) = way.next_at(tick) else {
+        return 0;
+    };
+    let mark = match frame.as_slice() {
+        [mark] => *mark,
+        _ => 255,
+    };
+    frame.give_back(pool);
+    mark
 }
 
 #[test]
 fn frames_land_in_order(rt: HostRuntime) -> Result<(), Fail> {
     let alloc = rt.alloc();
     let doc = read(alloc, TEXT).expect(&rt, "read");
+    let mut pool = FramePool::new(alloc);
     let mut down = way_to(alloc, &doc, Side::Ru)?;
-    send(alloc, &mut down, Class3::U, 1)?;
-    send(alloc, &mut down, Class3::C, 2)?;
-    send(alloc, &mut down, Class3::U, 3)?;
-    send(alloc, &mut down, Class3::C, 4)?;
+    send(&mut pool, &mut down, Class3::U, 1)?;
+    send(&mut pool, &mut down, Class3::M, 8)?;
+    send(&mut pool, &mut down, Class3::C, 2)?;
+    send(&mut pool, &mut down, Class3::U, 3)?;
+    send(&mut pool, &mut down, Class3::M, 9)?;
+    send(&mut pool, &mut down, Class3::C, 4)?;
     for (ns, marks) in [
-        (5, [3, 0, 0, 0, 0]),
+        (5, [8, 3, 0, 0, 0]),
         (7, [3, 3, 0, 0, 0]),
+        (8, [8, 0, 0, 0, 0]),
+        (30, [9, 0, 0, 0, 0]),
         (40, [1, 4, 0xa1, 0xa2, 0]),
         (49, [0xa3, 0, 0, 0, 0]),
     ] {
         let tick = of_ns(ns);
         assert_eq!(rt; down.next_time(), Some(tick));
         for mark in marks {
-            assert_eq!(rt; mark_at(&mut down, tick), mark);
+            assert_eq!(rt; mark_at(&mut pool, &mut down, tick), mark);
         }
     }
     assert_eq!(rt; down.next_time(), None);
@@ -73,19 +84,38 @@ fn frames_land_in_order(rt: HostRuntime) -> Result<(), Fail> {
 fn each_unit_has_its_own(rt: HostRuntime) -> Result<(), Fail> {
     let alloc = rt.alloc();
     let doc = read(alloc, TEXT).expect(&rt, "read");
+    let mut pool = FramePool::new(alloc);
     let mut up = way_to(alloc, &doc, Side::Du)?;
-    send(alloc, &mut up, Class3::U, 5)?;
+    send(&mut pool, &mut up, Class3::U, 5)?;
+    send(&mut pool, &mut up, Class3::M, 7)?;
     let mut frame = Bytes::new(alloc);
     frame.push_all(&[6])?;
-    up.send_owned(alloc, Ticks(0), Class3::U, frame)?;
-    for (ns, marks) in [(9, [6, 0, 0]), (60, [5, 0, 0])] {
+    up.send_owned(&mut pool, Ticks(0), Class3::U, frame)?;
+    for (ns, marks) in [(9, [6, 0, 0]), (30, [7, 0, 0]), (60, [5, 0xb1, 0])] {
         let tick = of_ns(ns);
         assert_eq!(rt; up.next_time(), Some(tick));
         for mark in marks {
-            assert_eq!(rt; mark_at(&mut up, tick), mark);
+            assert_eq!(rt; mark_at(&mut pool, &mut up, tick), mark);
         }
     }
     assert_eq!(rt; up.next_time(), None);
+    Ok(())
+}
+
+#[test]
+fn frames_go_out_in_memory_that_came_back(rt: HostRuntime) -> Result<(), Fail> {
+    let alloc = rt.alloc();
+    let doc = read(alloc, TEXT).expect(&rt, "read");
+    let mut pool = FramePool::new(alloc);
+    let mut down = way_to(alloc, &doc, Side::Ru)?;
+    send(&mut pool, &mut down, Class3::M, 1)?;
+    assert_eq!(rt; mark_at(&mut pool, &mut down, of_ns(5)), 1);
+    send(&mut pool, &mut down, Class3::M, 2)?;
+    assert_eq!(rt; mark_at(&mut pool, &mut down, of_ns(8)), 1);
+    send(&mut pool, &mut down, Class3::M, 3)?;
+    for mark in [2, 3, 0] {
+        assert_eq!(rt; mark_at(&mut pool, &mut down, of_ns(30)), mark);
+    }
     Ok(())
 }
 

@@ -2,17 +2,17 @@
 ghost use Rattle.std.specs.Prelude.{◌<◌, All, length, vec_len};
 ghost use Rattle.frame_network.specs.declared.landings.Landing.{Landing};
 
-use crate::copies::{Departure, copy_of, put_copies};
+use crate::copies::{Departure, put_copies};
 use crate::landed::Landed;
 use crate::listing::{injections_to, times_of};
 use crate::tally::Tally;
 use crate::times::earlier_of;
 use air_source::Side;
 use fh_base::{Bytes, NoMemory};
-use fh_document::{Class3, Document, Injection};
 use fh_time::Ticks;
-use frame_deliveries::FrameDeliveries;
-use frame_network::{LandingQueue, Network};
+use frame_network::{FramePool, LandingQueue, Network};
+use measured_traffic::fh_document::{Class3, Document, Injection};
+use measured_traffic::frame_deliveries::FrameDeliveries;
 use std::alloc::Global;
 
 /// One direction of the fronthaul: what is on its way to a unit.
@@ -36,15 +36,15 @@ pub struct Way<'a> {
 
 impl<'a> Way<'a> {
     ghost use Rattle.std.specs.Prelude.{◌≡◌, ◌≤ℤ◌, ◌+ℤ◌, ◌^◌, ℤ, List, ◌∷◌, pos, IfOk, IfSome, OnOk, MatchOption};
-    ghost use Rattle.document_traffic.specs.Landing.{leaving_to};
-    ghost use Rattle.document_traffic.specs.Sending.{Leaving, SentCounts, counted, none_sent};
-    ghost use Rattle.fh_document.specs.Proper.{IsDocument};
-    ghost use Rattle.fh_document.specs.declared.document.Document.{Document as SpecDocument};
+    ghost use Rattle.measured_traffic.specs.Replayed.{all_leaving};
+    ghost use Rattle.measured_traffic.specs.document_traffic.specs.Sending.{Leaving, SentCounts, counted, none_sent};
+    ghost use Rattle.measured_traffic.specs.fh_document.specs.Proper.{IsDocument};
+    ghost use Rattle.measured_traffic.specs.fh_document.specs.declared.document.Document.{Document as SpecDocument};
     ghost use Rattle.air_source.specs.declared.events.Side.{Side as SpecSide};
-    ghost use Rattle.replay_events.specs.Moments.{end_of_time};
+    ghost use Rattle.measured_traffic.specs.replay_events.specs.Moments.{end_of_time};
     ghost use Rattle.ru_buffers.specs.Calls.{IsLeastOf};
-    ghost use Rattle.unit_model.specs.Radiated.{first_clock};
-    ghost use Rattle.frame_ways.specs.Ways.{IsEmptyTo, IsLanded, IsOver, Waits, document_of, frames_in};
+    ghost use Rattle.ru_buffers.specs.unit_model.specs.Radiated.{first_clock};
+    ghost use Rattle.frame_ways.specs.Ways.{ComesFrom, IsEmptyTo, IsLanded, IsOver, Waits, document_of, frames_in};
 
     /// The way to a unit: nothing was sent, and all frames that the document injects to the unit wait for their times.
     ///
@@ -53,7 +53,7 @@ impl<'a> Way<'a> {
     /// [`NoMemory`] where memory runs out.
     pub fn make(alloc: Global, doc: &'a Document, side: Side) -> Result<Way<'a>, NoMemory>
         requires { IsDocument doc.now }
-        ensures { IfOk result (λ w. Waits doc.now side first_clock first_clock none_sent (leaving_to side doc.now) w) }
+        ensures { IfOk result (λ w. Waits doc.now side first_clock first_clock none_sent (all_leaving side doc.now) w) }
     {
         let deliveries = FrameDeliveries::make(alloc, doc)?;
         let injections = injections_to(alloc, doc, side)?;
@@ -68,20 +68,21 @@ impl<'a> Way<'a> {
             tally: Tally {
                 c_plane: 0,
                 u_plane: 0,
+                measurement: 0,
             },
             place: 0,
         })
     }
 
     /// Sends a frame at a time in ticks: its copies are in flight then, as the document's `deliver` and `transit` lines say of the next
-    /// frame of its class.
+    /// frame of its class. Their memory comes from the pool.
     ///
     /// # Errors
     ///
     /// [`NoMemory`] where memory runs out, and where 2^64 - 1 frames were sent. What is in flight is not said then.
     pub fn send(
         &mut self,
-        alloc: Global,
+        pool: &mut FramePool,
         at: Ticks,
         class: Class3,
         frame: &[u8],
@@ -91,12 +92,12 @@ impl<'a> Way<'a> {
         requires short { length frame.now < 2 ^ 32 }
         requires document { IsDocument (document_of self.old) }
         ensures sent { (d : SpecDocument) (side : SpecSide) (now from : ℤ) (n : SentCounts) (f : Leaving) (rest : List Leaving)
-            → now ≤ℤ from → from ≤ℤ f.at → at.0 ≡ f.at → class ≡ f.class → frame.now ≡ f.frame
+            → now ≤ℤ from → ComesFrom d side now n f → at.0 ≡ f.at → class ≡ f.class → frame.now ≡ f.frame
             → Waits d side now from n (f ∷ rest) self.old → OnOk result (Waits d side now from (counted f.class n) rest self.new) }
         ensures document { document_of self.new ≡ document_of self.old }
     {
-        let copy = copy_of(alloc, frame)?;
-        self.send_owned(alloc, at, class, copy)
+        let copy = pool.copy_of(frame)?;
+        self.send_owned(pool, at, class, copy)
     }
 
     /// The same of a frame whose bytes are its own: the last copy has them.
@@ -106,7 +107,7 @@ impl<'a> Way<'a> {
     /// As those of [`Way::send`].
     pub fn send_owned(
         &mut self,
-        alloc: Global,
+        pool: &mut FramePool,
         at: Ticks,
         class: Class3,
         frame: Bytes,
@@ -116,7 +117,7 @@ impl<'a> Way<'a> {
         requires short { length frame < 2 ^ 32 }
         requires document { IsDocument (document_of self.old) }
         ensures sent { (d : SpecDocument) (side : SpecSide) (now from : ℤ) (n : SentCounts) (f : Leaving) (rest : List Leaving)
-            → now ≤ℤ from → from ≤ℤ f.at → at.0 ≡ f.at → class ≡ f.class → frame ≡ f.frame
+            → now ≤ℤ from → ComesFrom d side now n f → at.0 ≡ f.at → class ≡ f.class → frame ≡ f.frame
             → Waits d side now from n (f ∷ rest) self.old → OnOk result (Waits d side now from (counted f.class n) rest self.new) }
         ensures document { document_of self.new ≡ document_of self.old }
     {
@@ -130,7 +131,7 @@ impl<'a> Way<'a> {
             at,
             place: self.place,
         };
-        put_copies(alloc, departure, frame, delays, &mut self.in_flight)?;
+        put_copies(pool, departure, frame, delays, &mut self.in_flight)?;
         self.place = next;
         Ok(())
     }

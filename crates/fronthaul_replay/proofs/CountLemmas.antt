@@ -1,36 +1,40 @@
 -- The counters at the end.
-use Rattle.std.proofs.Common.{◌≡◌, ℕ, ℤ, pos, ◌+ℤ◌, ◌-ℤ◌, ◌≤ℤ◌, ◌==◌, ◌<◌, suc, Bool, true, false, List, [], ◌∷◌, ◌++◌, take, take-suc, drop, length, get_or, refl, sym, ap, ap₂, ◌∙◌, subst, arith, append_assoc, append-nil}
-use Rattle.std.specs.Prelude.{if◌then◌else◌}
+use Rattle.std.proofs.Common.{◌≡◌, ℕ, ℤ, pos, ◌+ℤ◌, ◌-ℤ◌, ◌≤ℤ◌, ◌==◌, ◌<◌, ◌≤◌, ◌+◌, suc, Bool, true, false, List, [], ◌∷◌, ◌++◌, take, take-suc, drop, length, get_or, refl, sym, ap, ap₂, ◌∙◌, subst, arith, append_assoc, append-nil}
+use Rattle.std.specs.Prelude.{cond, if◌then◌else◌}
 use Rattle.std.specs.List.{flat_map, AllByRecursion}
 use Rattle.std.proofs.lemmas.Bool.Decides.{nat_tests}
-use Rattle.air_source.specs.Stops.{StopsIn}
-use Rattle.air_source.specs.declared.events.AirCell.{AirCell}
-use Rattle.air_source.specs.declared.events.Event.{Event}
-use Rattle.air_source.specs.declared.events.Event.TheVariants.{Cell, Delay, Arrival, Count}
-use Rattle.air_source.specs.declared.events.Side.{Side}
-use Rattle.air_source.specs.declared.events.Side.TheVariants.{Ru as AtRu, Du as AtDu}
-use Rattle.air_source.proofs.Stops.{parted, stops_early, stops_later}
-use Rattle.document_traffic.specs.Landing.{landings_of, traffic_of}
-use Rattle.du_intake.specs.declared.unit.Intake.{Intake}
+use Rattle.std.proofs.lemmas.List.{take_all}
+use Rattle.capture_air.specs.air_source.specs.Stops.{StopsIn}
+use Rattle.capture_air.specs.air_source.specs.declared.events.AirCell.{AirCell}
+use Rattle.capture_air.specs.air_source.specs.declared.events.Event.{Event}
+use Rattle.capture_air.specs.air_source.specs.declared.events.Event.TheVariants.{Cell, Delay, Arrival, Count}
+use Rattle.capture_air.specs.air_source.specs.declared.events.Side.{Side}
+use Rattle.capture_air.specs.air_source.specs.declared.events.Side.TheVariants.{Ru as AtRu, Du as AtDu}
+use Rattle.capture_air.specs.air_source.proofs.Stops.{parted, stops_early, stops_later}
+use Rattle.intake_moments.specs.du_intake.specs.declared.unit.Intake.{Intake}
 use Rattle.fault_counters.specs.Counts.{capped, count_of, times}
 use Rattle.fault_counters.specs.Names.{all_counters}
 use Rattle.fault_counters.specs.declared.kinds.Counter.{Counter}
-use Rattle.fh_document.specs.declared.document.Document.{Document}
+use Rattle.intake_moments.specs.fh_document.specs.declared.document.Document.{Document}
 use Rattle.intake_moments.specs.Turns.{AtIntakeTurn, planned_for}
 use Rattle.intake_moments.proofs.NextLemmas.{intake_over}
-use Rattle.radio_moments.specs.Turns.{AtRadioTurn, events_before}
-use Rattle.radio_moments.proofs.TurnLemmas.{quiet_less}
-use Rattle.replay_events.specs.Events.{count_event, count_events, number_of}
-use Rattle.replay_events.specs.Heard.{arrivals_heard, cells_heard}
-use Rattle.replay_events.specs.Moments.{all_arrivals, end_of_time}
-use Rattle.replay_events.specs.Traffic.{landings_at, reported_at}
-use Rattle.replay_events.proofs.HeardLemmas.{arrivals-append, cells-append}
-use Rattle.replay_events.proofs.TickLemmas.{last_of_next}
-use Rattle.ru_buffers.specs.declared.unit.Ru.{Ru}
-use Rattle.unit_model.specs.Counts.{StandAt, cells_counted}
-use Rattle.unit_model.specs.Meetings.{Arrival as Landing}
-use Rattle.unit_model.specs.Reports.{arrivals_counted, ru_reported}
-use Rattle.uplink_turns.specs.Turns.{jobs_until}
+use Rattle.intake_moments.specs.measured_traffic.specs.Replayed.{doings_at, landings_for, traffic_of}
+use Rattle.intake_moments.specs.measured_traffic.specs.Doings.{Doings}
+use Rattle.intake_moments.specs.measured_traffic.proofs.SentLemmas.{messages_are_owed}
+use Rattle.intake_moments.specs.radio_moments.specs.Turns.{AtRadioTurn, events_before}
+use Rattle.intake_moments.specs.radio_moments.proofs.TurnLemmas.{quiet_less}
+use Rattle.intake_moments.specs.replay_events.specs.Events.{all_counted, count_event, count_events, is_measured, number_of}
+use Rattle.intake_moments.specs.replay_events.specs.Heard.{arrivals_heard, cells_heard}
+use Rattle.intake_moments.specs.replay_events.specs.Moments.{all_arrivals, end_of_time}
+use Rattle.intake_moments.specs.replay_events.specs.Traffic.{landings_at, reported_at}
+use Rattle.intake_moments.specs.replay_events.proofs.HeardLemmas.{arrivals-append, cells-append}
+use Rattle.intake_moments.specs.replay_events.proofs.TickLemmas.{last_of_next}
+use Rattle.intake_moments.specs.ru_buffers.specs.declared.unit.Ru.{Ru}
+use Rattle.intake_moments.specs.unit_model.specs.Counts.{StandAt, cells_counted}
+use Rattle.intake_moments.specs.unit_model.specs.Meetings.{Arrival as Landing}
+use Rattle.intake_moments.specs.unit_model.specs.Reports.{arrivals_counted, ru_reported}
+use Rattle.intake_moments.specs.uplink_turns.specs.Turns.{jobs_until}
+use Rattle.fronthaul_replay.specs.Counting.{told_counts, told_number}
 use Rattle.fronthaul_replay.specs.Replaying.{IsDone, IsInStep, IsIntakeDone, IsRadioDone, StopsInStep, events_of}
 use Rattle.fronthaul_replay.specs.Turns.{AtTurn}
 use Rattle.fronthaul_replay.proofs.StepLemmas.{turn_in_step}
@@ -64,24 +68,32 @@ counts_about side number ks i d lt =
     ap (counts_by side number) (parted ks i d lt)
     ∙ counts_by-append side number (take i ks) (get_or ks i d ∷ drop (suc i) ks)
 
-pub stops_among : {A : Type 0} (grew : A → List Event → A → Type 0) (stopped : A → Event → A → Type 0)
-    (more : (a b c : A) (first second : List Event) → grew a first b → grew b second c → grew a (first ++ second) c)
-    (side : Side) (number : Counter → ℕ) (ks : List Counter) (i : ℕ) (d : Counter) (a b e : A) → i < length ks → grew a (counts_by side number (take i ks)) b
-    → StopsIn grew stopped (count_event side (number (get_or ks i d)) (get_or ks i d)) b e → StopsIn grew stopped (counts_by side number ks) a e
-stops_among grew stopped more side number ks i d a b e lt first stop =
-    let k = get_or ks i d in
-    let rest = counts_by side number (drop (suc i) ks) in
-    subst (λ (es : List Event). StopsIn grew stopped es a e) (sym (counts_about side number ks i d lt))
-    (stops_later grew stopped more (counts_by side number (take i ks)) (count_event side (number k) k ++ rest) a b e first
-    (stops_early grew stopped (count_event side (number k) k) rest b e stop))
+-- a counter's number was told, or an air stopped in it
+module _ {A : Type 0} (grew : A → List Event → A → Type 0) (more : (a b c : A) (first second : List Event) → grew a first b → grew b second c → grew a (first ++ second) c)
+    (side : Side) (number : Counter → ℕ) (ks : List Counter) (i : ℕ) (d : Counter) (v : ℕ) (a b e : A)
+    (inside : i < length ks) (is : v ≡ number (get_or ks i d)) (first : grew a (counts_by side number (take i ks)) b) where
+  one_more : suc i ≡ i + 1
+  one_more = omega arith
+
+  pub heard_among : grew b (count_event side v (get_or ks i d)) e → grew a (counts_by side number (take (i + 1) ks)) e
+  heard_among heard =
+      let k = get_or ks i d in
+      subst (λ (es : List Event). grew a es e) (counts_next side number ks i d inside ∙ ap (λ (n : ℕ). counts_by side number (take n ks)) one_more)
+      (more a b e (counts_by side number (take i ks)) (count_event side (number k) k) first (subst (λ (n : ℕ). grew b (count_event side n k) e) is heard))
+
+  pub stops_among : (stopped : A → Event → A → Type 0) → StopsIn grew stopped (count_event side v (get_or ks i d)) b e → StopsIn grew stopped (counts_by side number ks) a e
+  stops_among stopped stop =
+      let k = get_or ks i d in
+      let rest = counts_by side number (drop (suc i) ks) in
+      subst (λ (es : List Event). StopsIn grew stopped es a e) (sym (counts_about side number ks i d inside))
+      (stops_later grew stopped more (counts_by side number (take i ks)) (count_event side (number k) k ++ rest) a b e first
+      (stops_early grew stopped (count_event side (number k) k) rest b e (subst (λ (n : ℕ). StopsIn grew stopped (count_event side n k) b e) is stop)))
 
 not_zero : (v : ℕ) → (v ≡ 0 → ⊥) → (v == 0) ≡ false
 not_zero v some = grind (arith, nat_tests)
 
-pub some_event : (side : Side) (n v : ℕ) (k : Counter) → v ≡ n → (v ≡ 0 → ⊥) → count_event side n k ≡ Count side k v ∷ []
-some_event side n v k is some =
-    ap (λ (m : ℕ). count_event side m k) (sym is)
-    ∙ ap (λ (b : Bool). let es : List Event = if b then [] else Count side k v ∷ [] in es) (not_zero v some)
+pub some_event : (side : Side) (v : ℕ) (k : Counter) → (v ≡ 0 → ⊥) → count_event side v k ≡ Count side k v ∷ []
+some_event side v k some = ap (λ (b : Bool). let es : List Event = if b then [] else Count side k v ∷ [] in es) (not_zero v some)
 
 -- the same numbers give the same events
 counts_same : (side : Side) (f g : Counter → ℕ) (ks : List Counter) → ((k : Counter) → f k ≡ g k) → counts_by side f ks ≡ counts_by side g ks
@@ -112,6 +124,10 @@ all_counts : (side : Side) (number : Counter → ℕ) (ks : List Counter) → Al
 all_counts side number [] = tt
 all_counts side number (k ∷ ks) =
     both_counts (count_event side (number k) k) (counts_by side number ks) (one_count side (number k) k (number k == 0)) (all_counts side number ks)
+
+all_told : (side : Side) (counts : List ℕ) (measured : List Counter) → AllByRecursion IsCount (told_counts side counts measured)
+unfolding told_counts
+all_told side counts measured = all_counts side (told_number counts measured) all_counters
 
 arrivals-counts : (side : Side) (earlier : List Landing) (es : List Event) → AllByRecursion IsCount es → arrivals_heard side earlier es ≡ earlier
 unfolding arrivals_heard
@@ -163,8 +179,8 @@ radio_done d u a = record {
   history = a.history;
   stands = a.stands;
   arrivals = a.turn.arrivals;
-  reported = a.turn.reported ∙ ap (λ (t : ℤ). ru_reported d.config (all_arrivals (landings_of d)) t) last_tick;
-  given = a.turn.given ∙ ap (λ (t : ℤ). jobs_until d.config (landings_of d) t) last_tick;
+  reported = a.turn.reported ∙ ap (λ (t : ℤ). ru_reported d.config (all_arrivals (landings_for AtRu d)) t) last_tick;
+  given = a.turn.given ∙ ap (λ (t : ℤ). jobs_until d.config (landings_for AtRu d) t) last_tick ∙ messages_are_owed d;
   quiet = λ to before. quiet_less d.config u a.history to ((end_of_time +ℤ pos 1) -ℤ pos 1) a.stands (subst (λ (t : ℤ). to ≤ℤ t) (sym last_tick) before) a.turn.quiet;
 }
 
@@ -177,26 +193,56 @@ over d u i a = record { radio = radio_done d u a.radio; intake = intake_done d i
 
 -- ---- the numbers
 
--- what a unit counted of all that landed at it, and of all that it reported
+-- of one counter, whether it is of delay measurement or not
+told_same : (counts : List ℕ) (measured all : List Counter) (k : Counter) (b : Bool) → count_of counts k ≡ capped (times all k)
+    → cond b (capped (times measured k)) (count_of counts k) ≡ capped (times (cond b measured all) k)
+told_same counts measured all k true is = refl
+told_same counts measured all k false is = is
+
+-- of the first counters, and of all
+abbrev pub counts_to : Side → List ℕ → List Counter → List Counter → List Event
+counts_to side counts measured ks = counts_by side (told_number counts measured) ks
+
+pub told_are : (side : Side) (counts : List ℕ) (measured : List Counter) → told_counts side counts measured ≡ counts_to side counts measured all_counters
+unfolding told_counts
+told_are side counts measured = refl
+
+pub told_to_end : (side : Side) (counts : List ℕ) (measured ks : List Counter) (i : ℕ) → ks ≡ all_counters → length ks ≤ i
+    → counts_to side counts measured (take i ks) ≡ told_counts side counts measured
+told_to_end side counts measured ks i are past = ap (counts_to side counts measured) (take_all i ks past ∙ are) ∙ sym (told_are side counts measured)
+
+-- what a unit's meter has at the end of time
+abbrev pub all_doings : Document → Side → Doings
+all_doings d side = doings_at d side (end_of_time +ℤ pos 1)
+
+-- what is told of a unit at the end of time
+abbrev pub told_for : Side → Document → List ℕ → List Event
+told_for side d counts = told_counts side counts (all_doings d side).counted
+
+-- what a unit counted of all that landed at it, and of all that it reported, and its meter of all that it was told
 pub counts_are : (side : Side) (d : Document) (counts : List ℕ) (came : List Landing) (told : List AirCell)
     → StandAt counts (arrivals_counted side d.config came ++ cells_counted told)
     → came ≡ all_arrivals (landings_at side (traffic_of d))
     → told ≡ reported_at side d.config (planned_for d) (all_arrivals (landings_at side (traffic_of d))) end_of_time
-    → counts_by side (count_of counts) all_counters ≡ count_events side d.config (traffic_of d)
+    → told_for side d counts ≡ count_events side d.config (traffic_of d)
 unfolding count_events number_of
 counts_are side d counts came told stand came_is told_is =
-    counts_same side (count_of counts) (number_of side d.config (traffic_of d)) all_counters (λ k.
-    stand k
-    ∙ ap₂ (λ (xs : List Landing) (rs : List AirCell). capped (times (arrivals_counted side d.config xs ++ cells_counted rs) k)) came_is told_is)
+    let t = traffic_of d in
+    let measured = (all_doings d side).counted in
+    told_are side counts measured
+    ∙ counts_same side (told_number counts measured) (number_of side d.config t) all_counters (λ k.
+    told_same counts measured (all_counted side d.config t) k (is_measured k)
+    (stand k
+    ∙ ap₂ (λ (xs : List Landing) (rs : List AirCell). capped (times (arrivals_counted side d.config xs ++ cells_counted rs) k)) came_is told_is))
 
 pub radio_counts : (d : Document) (u : Ru) (counts : List ℕ) (done : IsRadioDone d u)
     → StandAt counts (arrivals_counted AtRu d.config done.history.arrivals ++ cells_counted done.history.reported)
-    → counts_by AtRu (count_of counts) all_counters ≡ count_events AtRu d.config (traffic_of d)
+    → told_for AtRu d counts ≡ count_events AtRu d.config (traffic_of d)
 radio_counts d u counts done stand = counts_are AtRu d counts done.history.arrivals done.history.reported stand done.arrivals done.reported
 
 pub intake_counts : (d : Document) (i : Intake) (counts : List ℕ) (done : IsIntakeDone d i)
     → StandAt counts (arrivals_counted AtDu d.config done.history.arrivals ++ cells_counted done.history.reported)
-    → counts_by AtDu (count_of counts) all_counters ≡ count_events AtDu d.config (traffic_of d)
+    → told_for AtDu d counts ≡ count_events AtDu d.config (traffic_of d)
 intake_counts d i counts done stand = counts_are AtDu d counts done.history.arrivals done.history.reported stand done.arrivals done.reported
 
 -- ---- the events of both units' counters behind all others
@@ -217,12 +263,12 @@ module _ {A : Type 0} (grew : A → List Event → A → Type 0) (more : (a b c 
 
   module _ (stopped : A → Event → A → Type 0) (u : Ru) (i : Intake) where
     -- it stopped in one of a unit's counters
-    stops_count : (side : Side) (number : Counter → ℕ) (front rest : List Event) (a b e : A)
-        → events_of d ≡ front ++ (counts_by side number all_counters ++ rest) → IsInStep d front u i → grew a front b
-        → StopsIn grew stopped (counts_by side number all_counters) b e → StopsInStep grew stopped d u i a e
-    stops_count side number front rest a b e parts step first s =
+    stops_count : (these front rest : List Event) (a b e : A) → AllByRecursion IsCount these
+        → events_of d ≡ front ++ (these ++ rest) → IsInStep d front u i → grew a front b
+        → StopsIn grew stopped these b e → StopsInStep grew stopped d u i a e
+    stops_count these front rest a b e counts parts step first s =
         let none : AllByRecursion IsCount s.before =
-        front_counts s.before (s.event ∷ s.after) (subst (AllByRecursion IsCount) s.is (all_counts side number all_counters)) in
+        front_counts s.before (s.event ∷ s.after) (subst (AllByRecursion IsCount) s.is counts) in
         record {
           told = front ++ s.before;
           event = s.event;
@@ -235,21 +281,21 @@ module _ {A : Type 0} (grew : A → List Event → A → Type 0) (more : (a b c 
           step = counts_in_step d front s.before u i none step;
         }
 
-    pub stops_radio_count : (number : Counter → ℕ) (a b e : A) → AtTurn d (end_of_time +ℤ pos 1) u i → counts_by AtRu number all_counters ≡ counts_for AtRu d
-        → grew a (passed d) b → StopsIn grew stopped (counts_by AtRu number all_counters) b e → StopsInStep grew stopped d u i a e
-    stops_radio_count number a b e at are first s =
-        stops_count AtRu number (passed d) (counts_for AtDu d) a b e
+    pub stops_radio_count : (counts : List ℕ) (a b e : A) → AtTurn d (end_of_time +ℤ pos 1) u i → told_for AtRu d counts ≡ counts_for AtRu d
+        → grew a (passed d) b → StopsIn grew stopped (told_for AtRu d counts) b e → StopsInStep grew stopped d u i a e
+    stops_radio_count counts a b e at are first s =
+        stops_count (told_for AtRu d counts) (passed d) (counts_for AtDu d) a b e (all_told AtRu counts (all_doings d AtRu).counted)
         (all_events d ∙ ap (λ (es : List Event). passed d ++ (es ++ counts_for AtDu d)) (sym are)) (turn_in_step d (end_of_time +ℤ pos 1) u i at) first s
 
-    pub stops_intake_count : (radio_number number : Counter → ℕ) (a b m e : A) → AtTurn d (end_of_time +ℤ pos 1) u i
-        → counts_by AtRu radio_number all_counters ≡ counts_for AtRu d → counts_by AtDu number all_counters ≡ counts_for AtDu d
-        → grew a (passed d) b → grew b (counts_by AtRu radio_number all_counters) m → StopsIn grew stopped (counts_by AtDu number all_counters) m e
+    pub stops_intake_count : (radio_counted counted : List ℕ) (a b m e : A) → AtTurn d (end_of_time +ℤ pos 1) u i
+        → told_for AtRu d radio_counted ≡ counts_for AtRu d → told_for AtDu d counted ≡ counts_for AtDu d
+        → grew a (passed d) b → grew b (told_for AtRu d radio_counted) m → StopsIn grew stopped (told_for AtDu d counted) m e
         → StopsInStep grew stopped d u i a e
-    stops_intake_count radio_number number a b m e at radio_are are first second s =
-        let radio = counts_by AtRu radio_number all_counters in
-        let taken = counts_by AtDu number all_counters in
-        stops_count AtDu number (passed d ++ radio) [] a m e
+    stops_intake_count radio_counted counted a b m e at radio_are are first second s =
+        let radio = told_for AtRu d radio_counted in
+        let taken = told_for AtDu d counted in
+        stops_count taken (passed d ++ radio) [] a m e (all_told AtDu counted (all_doings d AtDu).counted)
         (all_events d ∙ ap₂ (λ (xs ys : List Event). passed d ++ (xs ++ ys)) (sym radio_are) (sym are) ∙ sym (append_assoc (passed d) radio taken)
         ∙ ap (λ (es : List Event). (passed d ++ radio) ++ es) (sym (append-nil taken)))
-        (counts_in_step d (passed d) radio u i (all_counts AtRu radio_number all_counters) (turn_in_step d (end_of_time +ℤ pos 1) u i at))
+        (counts_in_step d (passed d) radio u i (all_told AtRu radio_counted (all_doings d AtRu).counted) (turn_in_step d (end_of_time +ℤ pos 1) u i at))
         (more a b m (passed d) radio first second) s

@@ -3,22 +3,24 @@ use Rattle.std.proofs.Common.{◌≡◌, ℕ, zero, suc, ℤ, pos, ◌+ℤ◌, B
 use Rattle.std.specs.List.{flat_map, AllByRecursion}
 use Rattle.std.specs.Int.{int_gap}
 use Rattle.std.proofs.lemmas.List.Concat.{flat_map-cons}
-use Rattle.air_source.specs.declared.events.AirCell.{AirCell}
-use Rattle.air_source.specs.declared.events.Event.{Event}
-use Rattle.air_source.specs.declared.events.Event.TheVariants.{Cell, Count}
-use Rattle.air_source.specs.declared.events.Side.{Side}
-use Rattle.air_source.specs.declared.events.Side.TheVariants.{Ru, Du}
+use Rattle.capture_air.specs.air_source.specs.declared.events.AirCell.{AirCell}
+use Rattle.capture_air.specs.air_source.specs.declared.events.Event.{Event}
+use Rattle.capture_air.specs.air_source.specs.declared.events.Event.TheVariants.{Cell, Count}
+use Rattle.capture_air.specs.air_source.specs.declared.events.Side.{Side}
+use Rattle.capture_air.specs.air_source.specs.declared.events.Side.TheVariants.{Ru, Du}
 use Rattle.fault_counters.specs.Names.{all_counters}
 use Rattle.fault_counters.specs.declared.kinds.Counter.{Counter}
-use Rattle.window_config.specs.declared.config.Config.{Config}
-use Rattle.unit_model.specs.Lists.{each_tick}
-use Rattle.unit_model.specs.Meetings.{Arrival}
-use Rattle.unit_model.specs.Radiated.{first_clock}
-use Rattle.replay_events.specs.Traffic.{Traffic}
-use Rattle.replay_events.specs.Moments.{end_of_time, landing_at}
-use Rattle.replay_events.specs.Events.{arrivals_at, arrivals_told, cells_at, events_at, events_between, number_of, count_event, count_events, events}
-use Rattle.fh_document.specs.declared.document.Document.{Document}
-use Rattle.document_traffic.specs.Landing.{traffic_of}
+use Rattle.intake_moments.specs.window_config.specs.declared.config.Config.{Config}
+use Rattle.intake_moments.specs.unit_model.specs.Lists.{each_tick}
+use Rattle.intake_moments.specs.unit_model.specs.Meetings.{Arrival}
+use Rattle.intake_moments.specs.unit_model.specs.Radiated.{first_clock}
+use Rattle.intake_moments.specs.replay_events.proofs.ToldLemmas.{Results, told_kept}
+use Rattle.intake_moments.specs.replay_events.specs.Traffic.{Traffic}
+use Rattle.intake_moments.specs.replay_events.specs.declared.results.DelayResult.{DelayResult}
+use Rattle.intake_moments.specs.replay_events.specs.Moments.{end_of_time, landing_at}
+use Rattle.intake_moments.specs.replay_events.specs.Events.{arrivals_at, arrivals_told, cells_at, events_at, events_between, number_of, count_event, count_events, events, result_event}
+use Rattle.intake_moments.specs.fh_document.specs.declared.document.Document.{Document}
+use Rattle.intake_moments.specs.measured_traffic.specs.Replayed.{traffic_of}
 use Rattle.fronthaul_replay.specs.Replaying.{events_of}
 use Rattle.sum_air.proofs.Whole.{IsEarlier, IsCount, CountsLast}
 
@@ -27,15 +29,17 @@ both : (P : Event → Type 0) (xs ys : List Event) → AllByRecursion P xs → A
 both P [] ys h k = k
 both P (x ∷ xs) ys h k = (h.0, both P xs ys h.1 k)
 
--- cells and arrivals are no counters
+-- cells, arrivals and delays are no counters
 cells_earlier : (cells : List AirCell) → AllByRecursion IsEarlier (map Cell cells)
 cells_earlier [] = tt
 cells_earlier (c ∷ cells) = (tt, cells_earlier cells)
 
-arrivals_earlier : (side : Side) (landed : List Arrival) → AllByRecursion IsEarlier (arrivals_told side landed)
-unfolding arrivals_told
-arrivals_earlier side [] = tt
-arrivals_earlier side (a ∷ landed) = (tt, arrivals_earlier side landed)
+results_earlier : (side : Side) (at : ℤ) (results : List DelayResult) → AllByRecursion IsEarlier (map (result_event side at) results)
+results_earlier side at [] = tt
+results_earlier side at (r ∷ results) = (tt, results_earlier side at results)
+
+arrivals_earlier : (side : Side) (results : Results) (landed : List Arrival) → AllByRecursion IsEarlier (arrivals_told side results landed)
+arrivals_earlier side = told_kept (AllByRecursion IsEarlier) tt (both IsEarlier) side (λ a results. (tt, results_earlier side a.at results))
 
 tick_earlier : (c : Config) (t : Traffic) (tick : ℤ) → AllByRecursion IsEarlier (events_at c t tick)
 unfolding events_at
@@ -44,8 +48,8 @@ tick_earlier c t tick =
     let taken = arrivals_at Du t tick in
     let cells = map Cell (cells_at Du c t tick) in
     both IsEarlier (map Cell (cells_at Ru c t tick)) (came ++ (taken ++ cells)) (cells_earlier (cells_at Ru c t tick))
-    (both IsEarlier came (taken ++ cells) (arrivals_earlier Ru (landing_at t.at_ru tick))
-    (both IsEarlier taken cells (arrivals_earlier Du (landing_at t.at_du tick)) (cells_earlier (cells_at Du c t tick))))
+    (both IsEarlier came (taken ++ cells) (arrivals_earlier Ru (t.results Ru tick) (landing_at t.at_ru tick))
+    (both IsEarlier taken cells (arrivals_earlier Du (t.results Du tick) (landing_at t.at_du tick)) (cells_earlier (cells_at Du c t tick))))
 
 ticks_earlier : (f : ℤ → List Event) (from : ℤ) (n : ℕ) → ((tick : ℤ) → AllByRecursion IsEarlier (f tick)) → AllByRecursion IsEarlier (each_tick from n f)
 unfolding each_tick

@@ -2,15 +2,15 @@
 use Rattle.std.proofs.Common.{◌≡◌, ℕ, List, [], ◌++◌, Option}
 use Rattle.std.specs.Io.KnownBytes.{append_known}
 use Rattle.fh_base.specs.Told.{WritesFront}
-use Rattle.air_source.specs.declared.airs.AirFault.{AirFault}
-use Rattle.air_source.specs.declared.airs.AirFault.TheVariants.{Failed, NoMemory as WantsMemory}
-use Rattle.air_source.specs.declared.events.Event.{Event}
-use Rattle.fh_document.specs.declared.document.Document.{Document}
+use Rattle.capture_air.specs.air_source.specs.declared.airs.AirFault.{AirFault}
+use Rattle.capture_air.specs.air_source.specs.declared.airs.AirFault.TheVariants.{Failed, NoMemory as WantsMemory}
+use Rattle.capture_air.specs.air_source.specs.declared.events.Event.{Event}
+use Rattle.intake_moments.specs.fh_document.specs.declared.document.Document.{Document}
 use Rattle.fronthaul_replay.specs.Replaying.{events_of}
-use Rattle.owed_bytes.specs.Owed.{Carried}
-use Rattle.air_sinks.specs.Stopping.{Halted}
-use Rattle.air_sinks.proofs.Fronts.{front_of, stops_front, cut_front}
-use Rattle.capture_records.specs.declared.layout.TheConstants.{MAGIC}
+use Rattle.capture_air.specs.owed_bytes.specs.Owed.{Carried}
+use Rattle.capture_air.specs.air_sinks.specs.Stopping.{Halted}
+use Rattle.capture_air.specs.air_sinks.proofs.Fronts.{front_of, stops_front, cut_front}
+use Rattle.capture_air.specs.capture_records.specs.declared.layout.TheConstants.{MAGIC}
 use Rattle.capture_air.specs.Capture.{whole_capture, event_record, events_records}
 use Rattle.capture_air.proofs.Captured as captured
 use Rattle.sum_air.specs.SumStates.{SumState}

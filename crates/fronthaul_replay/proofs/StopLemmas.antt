@@ -1,29 +1,30 @@
 -- Where an air stopped, and what both units stand for then.
-use Rattle.std.proofs.Common.{◌≡◌, ℤ, pos, ◌+ℤ◌, ◌≤ℤ◌, List, [], ◌++◌, ◌⊎◌, inl, inr, refl, sym, ap, ◌∙◌, append_assoc, subst, arith}
+use Rattle.std.proofs.Common.{◌≡◌, ℤ, pos, ◌+ℤ◌, ◌≤ℤ◌, List, [], ◌++◌, ◌⊎◌, inl, inr, refl, sym, ap, ◌∙◌, append_assoc, append-nil, subst, arith}
 use Rattle.std.proofs.lemmas.Int.{ints}
-use Rattle.air_source.specs.Stops.{GrewSome, StopsIn}
-use Rattle.air_source.specs.declared.events.Event.{Event}
-use Rattle.air_source.specs.declared.events.Side.TheVariants.{Ru as AtRu, Du as AtDu}
-use Rattle.document_traffic.specs.Landing.{traffic_of}
-use Rattle.du_intake.specs.Calls.{StandsFor as IntakeStandsFor}
-use Rattle.du_intake.specs.declared.unit.Intake.{Intake}
-use Rattle.fh_document.specs.declared.document.Document.{Document}
+use Rattle.capture_air.specs.air_source.specs.Stops.{GrewSome, StopsIn}
+use Rattle.capture_air.specs.air_source.specs.declared.events.Event.{Event}
+use Rattle.capture_air.specs.air_source.specs.declared.events.Side.TheVariants.{Ru as AtRu, Du as AtDu}
+use Rattle.intake_moments.specs.du_intake.specs.Calls.{StandsFor as IntakeStandsFor}
+use Rattle.intake_moments.specs.du_intake.specs.declared.unit.Intake.{Intake}
+use Rattle.intake_moments.specs.fh_document.specs.declared.document.Document.{Document}
 use Rattle.intake_moments.specs.Turns.{AtIntakeTurn, IsIntakeInStep, planned_for}
-use Rattle.radio_moments.specs.Stops.{HaltsBehind, RestsBehind, StopsBehind}
-use Rattle.radio_moments.specs.Turns.{IsRadioInStep, events_before, intake_events, radio_events}
-use Rattle.radio_moments.proofs.StepLemmas.{tick_events}
-use Rattle.radio_moments.proofs.StopLemmas as stop
-use Rattle.replay_events.specs.Events.{count_events, events, events_at, events_between}
-use Rattle.replay_events.specs.Moments.{end_of_time}
-use Rattle.replay_events.proofs.EventLemmas.{events_go_on}
-use Rattle.replay_events.proofs.HeardLemmas.{arrivals-none, cells-none}
-use Rattle.replay_events.proofs.TickLemmas.{next_most, ticks_append}
-use Rattle.ru_buffers.specs.Calls.{StandsFor}
-use Rattle.ru_buffers.specs.declared.unit.Ru.{Ru}
-use Rattle.unit_model.specs.Radiated.{first_clock}
-use Rattle.unit_model.specs.Standing.{nothing_yet}
+use Rattle.intake_moments.specs.measured_traffic.specs.Replayed.{traffic_of}
+use Rattle.intake_moments.specs.radio_moments.specs.Stops.{HaltsBehind, RestsBehind, StopsBehind}
+use Rattle.intake_moments.specs.radio_moments.specs.Turns.{IsRadioInStep, events_before, intake_events, radio_events}
+use Rattle.intake_moments.specs.radio_moments.proofs.StepLemmas.{tick_events}
+use Rattle.intake_moments.specs.radio_moments.proofs.StopLemmas as stop
+use Rattle.intake_moments.specs.replay_events.specs.Events.{count_events, events, events_at, events_between}
+use Rattle.intake_moments.specs.replay_events.specs.Moments.{end_of_time}
+use Rattle.intake_moments.specs.replay_events.proofs.EventLemmas.{events_go_on}
+use Rattle.intake_moments.specs.replay_events.proofs.HeardLemmas.{arrivals-none, cells-none}
+use Rattle.intake_moments.specs.replay_events.proofs.TickLemmas.{next_most, ticks_append}
+use Rattle.intake_moments.specs.ru_buffers.specs.Calls.{StandsFor}
+use Rattle.intake_moments.specs.ru_buffers.specs.declared.unit.Ru.{Ru}
+use Rattle.intake_moments.specs.unit_model.specs.Radiated.{first_clock}
+use Rattle.intake_moments.specs.unit_model.specs.Standing.{nothing_yet}
 use Rattle.fronthaul_replay.specs.Replaying.{HaltsInStep, RestsInStep, StopsInStep, events_of}
-use Rattle.fronthaul_replay.proofs.StepLemmas.{InStep, intake_in_step, radio_in_step}
+use Rattle.fronthaul_replay.specs.Turns.{AtTurn}
+use Rattle.fronthaul_replay.proofs.StepLemmas.{InStep, intake_in_step, radio_in_step, turn_in_step}
 
 -- the events from a tick on
 ticks_after : (d : Document) (tick : ℤ) → first_clock ≤ℤ tick → tick ≤ℤ end_of_time
@@ -40,6 +41,13 @@ ticks_after d tick begun ended =
     next_less : (a b : ℤ) → a ≤ℤ b → (a +ℤ pos 1) ≤ℤ (b +ℤ pos 1)
     next_less a b h = omega (arith, ints)
 
+-- both units' parts of a tick were heard
+pub heard_both : {A : Type 0} (grew : A → List Event → A → Type 0)
+    (more : (a b c : A) (first second : List Event) → grew a first b → grew b second c → grew a (first ++ second) c)
+    (d : Document) (tick : ℤ) (a b e : A) → grew a (radio_events d tick) b → grew b (intake_events d tick) e → grew a (events_at d.config (traffic_of d) tick) e
+heard_both grew more d tick a b e first second =
+    subst (λ (es : List Event). grew a es e) (sym (tick_events d tick)) (more a b e (radio_events d tick) (intake_events d tick) first second)
+
 -- the counters of both units
 abbrev pub counts_for : Document → List Event
 counts_for d = count_events AtRu d.config (traffic_of d) ++ count_events AtDu d.config (traffic_of d)
@@ -49,6 +57,28 @@ unfolding events
 all_events d = refl
 
 module _ {A : Type 0} (grew : A → List Event → A → Type 0) (stopped : A → Event → A → Type 0) where
+  -- ---- memory ran out before a tick's events, or behind them
+
+  pub rests_before : (d : Document) (tick : ℤ) (u : Ru) (i : Intake) (a : A) → grew a [] a → AtTurn d tick u i
+      → HaltsBehind grew stopped (InStep d u i) (events_before d tick) (events_at d.config (traffic_of d) tick) a a
+  rests_before d tick u i a none turn = inr (record {
+    told = [];
+    rest = events_at d.config (traffic_of d) tick;
+    is = refl;
+    heard = none;
+    step_is = subst (InStep d u i) (sym (append-nil (events_before d tick))) (turn_in_step d tick u i turn);
+  })
+
+  pub rests_after : (d : Document) (tick : ℤ) (u : Ru) (i : Intake) (a e : A) → first_clock ≤ℤ tick → grew a (events_at d.config (traffic_of d) tick) e → AtTurn d (tick +ℤ pos 1) u i
+      → HaltsBehind grew stopped (InStep d u i) (events_before d tick) (events_at d.config (traffic_of d) tick) a e
+  rests_after d tick u i a e begun heard turn = inr (record {
+    told = events_at d.config (traffic_of d) tick;
+    rest = [];
+    is = sym (append-nil (events_at d.config (traffic_of d) tick));
+    heard = heard;
+    step_is = subst (InStep d u i) (events_go_on d.config (traffic_of d) tick begun) (turn_in_step d (tick +ℤ pos 1) u i turn);
+  })
+
   -- ---- in the radio unit's part of a tick
 
   pub stops_radio : (d : Document) (tick : ℤ) (u : Ru) (i : Intake) (a e : A) → AtIntakeTurn d tick i

@@ -2,12 +2,12 @@
 use Rattle.std.proofs.Common.{◌≡◌, ℕ, List, [], ◌++◌, Option}
 use Rattle.std.specs.Io.KnownBytes.{append_known}
 use Rattle.fh_base.specs.Told.{WritesFront}
-use Rattle.air_source.specs.declared.airs.AirFault.{AirFault}
-use Rattle.air_source.specs.declared.airs.AirFault.TheVariants.{Failed, NoMemory as WantsMemory}
-use Rattle.air_source.specs.declared.events.Event.{Event}
-use Rattle.fh_document.specs.declared.document.Document.{Document}
-use Rattle.owed_bytes.specs.Owed.{Carried}
-use Rattle.air_sinks.specs.Stopping.{Halted}
+use Rattle.capture_air.specs.air_source.specs.declared.airs.AirFault.{AirFault}
+use Rattle.capture_air.specs.air_source.specs.declared.airs.AirFault.TheVariants.{Failed, NoMemory as WantsMemory}
+use Rattle.capture_air.specs.air_source.specs.declared.events.Event.{Event}
+use Rattle.intake_moments.specs.fh_document.specs.declared.document.Document.{Document}
+use Rattle.capture_air.specs.owed_bytes.specs.Owed.{Carried}
+use Rattle.capture_air.specs.air_sinks.specs.Stopping.{Halted}
 use Rattle.text_air.specs.Text.{event_text, events_text, end_text}
 use Rattle.text_air.proofs.Texts.{cut_front, finish_front, finished, front_of_whole, stops_front}
 use Rattle.fronthaul_replay.specs.declared.report.TextFault.{TextFault}

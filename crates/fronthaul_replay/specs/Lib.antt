@@ -1,3 +1,7 @@
+pub use Rattle.intake_moments.specs.du_scheduler
+pub use Rattle.intake_moments.specs.plan_model
+pub use Rattle.intake_moments.specs.plan_tests
+pub mod Counting
 pub mod Replaying
 pub mod Turns
 pub mod Laws

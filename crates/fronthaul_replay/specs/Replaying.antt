@@ -1,20 +1,22 @@
 -- The replay of a document: its events, and how both units stand to those that were heard (this project's profile).
 use Rattle.std.specs.Prelude.{◌≡◌, ℤ, ◌≤ℤ◌, List, [], ◌∷◌, ◌++◌, ◌⊎◌}
-use Rattle.air_source.specs.declared.events.Event.{Event}
-use Rattle.document_traffic.specs.Landing.{answers_of, jobs_for, landings_of, traffic_of}
-use Rattle.du_intake.specs.Calls.{StandsFor as IntakeStandsFor}
-use Rattle.du_intake.specs.Units.{due_of as intake_due}
-use Rattle.du_intake.specs.declared.unit.Intake.{Intake}
-use Rattle.fh_document.specs.declared.document.Document.{Document}
+use Rattle.capture_air.specs.air_source.specs.declared.events.Event.{Event}
+use Rattle.capture_air.specs.air_source.specs.declared.events.Side.TheVariants.{Ru as AtRu, Du as AtDu}
+use Rattle.intake_moments.specs.document_traffic.specs.Landing.{jobs_for}
+use Rattle.intake_moments.specs.measured_traffic.specs.Replayed.{landings_for, traffic_of}
+use Rattle.intake_moments.specs.du_intake.specs.Calls.{StandsFor as IntakeStandsFor}
+use Rattle.intake_moments.specs.du_intake.specs.Units.{due_of as intake_due}
+use Rattle.intake_moments.specs.du_intake.specs.declared.unit.Intake.{Intake}
+use Rattle.intake_moments.specs.fh_document.specs.declared.document.Document.{Document}
 use Rattle.intake_moments.specs.Turns.{IsIntakeInStep, planned_for}
-use Rattle.radio_moments.specs.Turns.{IsRadioInStep}
-use Rattle.replay_events.specs.Events.{events}
-use Rattle.replay_events.specs.Moments.{all_arrivals, end_of_time}
-use Rattle.ru_buffers.specs.Calls.{IsQuietTo, StandsFor}
-use Rattle.ru_buffers.specs.declared.unit.Ru.{Ru}
-use Rattle.unit_model.specs.Reports.{du_reported, ru_reported}
-use Rattle.unit_model.specs.Standing.{History}
-pub use Rattle.document_traffic.specs.Laws.{IsReplayable}
+use Rattle.intake_moments.specs.radio_moments.specs.Turns.{IsRadioInStep}
+use Rattle.intake_moments.specs.replay_events.specs.Events.{events}
+use Rattle.intake_moments.specs.replay_events.specs.Moments.{all_arrivals, end_of_time}
+use Rattle.intake_moments.specs.ru_buffers.specs.Calls.{IsQuietTo, StandsFor}
+use Rattle.intake_moments.specs.ru_buffers.specs.declared.unit.Ru.{Ru}
+use Rattle.intake_moments.specs.unit_model.specs.Reports.{du_reported, ru_reported}
+use Rattle.intake_moments.specs.unit_model.specs.Standing.{History}
+pub use Rattle.intake_moments.specs.document_traffic.specs.Laws.{IsReplayable}
 
 -- all events of a document, in order
 abbrev pub events_of : Document → List Event
@@ -33,8 +35,8 @@ pub record IsInStep (d : Document) (told : List Event) (u : Ru) (i : Intake) : T
 pub record IsRadioDone (d : Document) (u : Ru) : Type 0 where
   pub history : History
   pub stands : StandsFor d.config u history
-  pub arrivals : history.arrivals ≡ all_arrivals (landings_of d)
-  pub reported : history.reported ≡ ru_reported d.config (all_arrivals (landings_of d)) end_of_time
+  pub arrivals : history.arrivals ≡ all_arrivals (landings_for AtRu d)
+  pub reported : history.reported ≡ ru_reported d.config (all_arrivals (landings_for AtRu d)) end_of_time
   pub given : history.given ≡ jobs_for d
   pub quiet : (to : ℤ) → to ≤ℤ end_of_time → IsQuietTo d.config history to
 
@@ -42,8 +44,8 @@ pub record IsRadioDone (d : Document) (u : Ru) : Type 0 where
 pub record IsIntakeDone (d : Document) (u : Intake) : Type 0 where
   pub history : History
   pub stands : IntakeStandsFor d.config (planned_for d) u history
-  pub arrivals : history.arrivals ≡ all_arrivals (answers_of d)
-  pub reported : history.reported ≡ du_reported d.config (planned_for d) (all_arrivals (answers_of d)) end_of_time
+  pub arrivals : history.arrivals ≡ all_arrivals (landings_for AtDu d)
+  pub reported : history.reported ≡ du_reported d.config (planned_for d) (all_arrivals (landings_for AtDu d)) end_of_time
   pub quiet : (to : ℤ) → to ≤ℤ end_of_time → intake_due d.config (planned_for d) history to ≡ []
 
 pub record IsDone (d : Document) (u : Ru) (i : Intake) : Type 0 where

@@ -1,21 +1,21 @@
 // What is to come to both units.
 ghost use Rattle.std.specs.Prelude.{IfOk};
-ghost use Rattle.air_source.specs.Answers.{AnswersBy};
-ghost use Rattle.air_source.specs.Kept.{IsKept, closure_of};
-ghost use Rattle.document_traffic.specs.Landing.{antenna_for};
-ghost use Rattle.document_traffic.specs.Laws.{IsReplayable};
-ghost use Rattle.document_traffic.specs.Sending.{sent_for};
-ghost use Rattle.du_scheduler.specs.Plans.{HasToSend};
-ghost use Rattle.unit_model.specs.Radiated.{first_clock};
+ghost use Rattle.capture_air.specs.air_source.specs.Answers.{AnswersBy};
+ghost use Rattle.capture_air.specs.air_source.specs.Kept.{IsKept, closure_of};
+ghost use Rattle.intake_moments.specs.document_traffic.specs.Landing.{antenna_for};
+ghost use Rattle.intake_moments.specs.document_traffic.specs.Laws.{IsReplayable};
+ghost use Rattle.intake_moments.specs.document_traffic.specs.Sending.{sent_for};
+ghost use Rattle.intake_moments.specs.du_scheduler.specs.Plans.{HasToSend};
+ghost use Rattle.intake_moments.specs.unit_model.specs.Radiated.{first_clock};
 ghost use Rattle.fronthaul_replay.specs.Turns.{Waits};
 
-use air_source::{RePlace, Samples};
 use bfp_codec::Wide;
-use du_scheduler::Plan;
+use capture_air::air_source::{RePlace, Samples};
 use fh_base::NoMemory;
-use fh_document::Document;
 use intake_moments::Answers;
-use radio_moments::Downlink;
+use intake_moments::du_scheduler::Plan;
+use intake_moments::fh_document::Document;
+use intake_moments::radio_moments::Downlink;
 use std::alloc::Global;
 
 /// What is to come: to the radio unit, and from it to the distributed unit.

@@ -1,28 +1,36 @@
 // The counters at the end.
-ghost use Rattle.std.specs.Prelude.{IfErr, OnOk};
-ghost use Rattle.std.specs.List.{flat_map};
-ghost use Rattle.air_source.specs.Causes.{HasAirCause};
-ghost use Rattle.air_source.specs.Stops.{StopsIn};
-ghost use Rattle.fault_counters.specs.Counts.{count_of};
-ghost use Rattle.fault_counters.specs.Names.{all_counters};
-ghost use Rattle.replay_events.specs.Events.{count_event};
+ghost use Rattle.std.specs.Prelude.{◌≡◌, IfErr, OnOk};
+ghost use Rattle.capture_air.specs.air_source.specs.Causes.{HasAirCause};
+ghost use Rattle.capture_air.specs.air_source.specs.Stops.{StopsIn};
+ghost use Rattle.intake_moments.specs.delay_exchange.specs.Units.{Has};
+ghost use Rattle.intake_moments.specs.delay_laws.specs.Nodes.{Compensation};
+ghost use Rattle.intake_moments.specs.measured_traffic.specs.Doings.{Doings};
+ghost use Rattle.intake_moments.specs.replay_events.specs.Events.{count_event};
+ghost use Rattle.fronthaul_replay.specs.Counting.{told_counts, told_number};
 
-use air_source::{Air, AirFault, Side};
+use capture_air::air_source::{Air, AirFault, Side};
 use fault_counters::{Counter, Counters};
+use intake_moments::delay_exchange::UnitMeter;
+use sum_air::delay_measure::Edge;
 
-/// Tells the air of a unit's counter, if it is not at 0.
-fn tell_count<A: Air>(
-    side: Side,
-    counters: &Counters,
-    counter: Counter,
-    out: &mut A,
-) -> Result<(), AirFault>
-    ensures heard { OnOk result (A.grew out.old (count_event side (count_of counters.now counter) counter) out.new) }
-    ensures stop { IfErr result (λ f. StopsIn A.grew (A.stopped f) (count_event side (count_of counters.now counter) counter) out.old out.new) }
+/// A counter's number in the end: those of delay measurement are the meter's, all others the unit's.
+fn number_of<C: Fn(Edge) -> i64>(counters: &Counters, meter: &UnitMeter<C>, counter: Counter) -> u64
+    ensures { (c : Compensation) (x : Doings) → Has C.post c meter.now x → result ≡ told_number counters.now x.counted counter }
+{
+    match counter {
+        Counter::DelayShort | Counter::DelayUnknown | Counter::DelayRepeat | Counter::DelayResult =>
+            meter.count(counter),
+        _ => counters.get(counter),
+    }
+}
+
+/// Tells the air of a counter, if it is not at 0.
+fn tell_count<A: Air>(side: Side, counter: Counter, value: u64, out: &mut A) -> Result<(), AirFault>
+    ensures heard { OnOk result (A.grew out.old (count_event side value counter) out.new) }
+    ensures stop { IfErr result (λ f. StopsIn A.grew (A.stopped f) (count_event side value counter) out.old out.new) }
     ensures same { A.same out.old out.new }
     ensures cause { HasAirCause (A.faults out.old) (A.faults out.new) result }
 {
-    let value = counters.get(counter);
     if value == 0 {
         return Ok(());
     }
@@ -30,18 +38,20 @@ fn tell_count<A: Air>(
 }
 
 /// Tells the air of a unit's counters that are not at 0.
-pub(crate) fn tell_counts<A: Air>(
+pub(crate) fn tell_counts<A: Air, C: Fn(Edge) -> i64>(
     side: Side,
     counters: &Counters,
+    meter: &UnitMeter<C>,
     out: &mut A,
 ) -> Result<(), AirFault>
-    ensures heard { OnOk result (A.grew out.old (flat_map (λ k. count_event side (count_of counters.now k) k) all_counters) out.new) }
-    ensures stop { IfErr result (λ f. StopsIn A.grew (A.stopped f) (flat_map (λ k. count_event side (count_of counters.now k) k) all_counters) out.old out.new) }
+    requires some { (c : Compensation) × (x : Doings) × Has C.post c meter.now x }
+    ensures heard { (c : Compensation) (x : Doings) → Has C.post c meter.now x → OnOk result (A.grew out.old (told_counts side counters.now x.counted) out.new) }
+    ensures stop { (c : Compensation) (x : Doings) → Has C.post c meter.now x → IfErr result (λ f. StopsIn A.grew (A.stopped f) (told_counts side counters.now x.counted) out.old out.new) }
     ensures same { A.same out.old out.new }
     ensures cause { HasAirCause (A.faults out.old) (A.faults out.new) result }
 {
     for counter in Counter::all() {
-        tell_count(side, counters, counter, out)?;
+        tell_count(side, counter, number_of(counters, meter, counter), out)?;
     }
     Ok(())
 }

@@ -1,110 +1,191 @@
 // The moments of a replay, one after the other.
 ghost use Rattle.std.specs.Prelude.{pos, ◌+ℤ◌, ◌≤ℤ◌, [], IsErrOf, OnOk, List};
-ghost use Rattle.air_source.specs.Answers.{AnswersBy};
-ghost use Rattle.air_source.specs.Causes.{HasAirCause};
-ghost use Rattle.air_source.specs.Kept.{IsKept, closure_of};
-ghost use Rattle.air_source.specs.declared.airs.AirFault.TheVariants.{Failed, NoMemory as WantsMemory};
-ghost use Rattle.document_traffic.specs.Landing.{traffic_of};
-ghost use Rattle.document_traffic.specs.Laws.{IsReplayable};
-ghost use Rattle.du_intake.specs.Calls.{StandsFor as IntakeStandsFor};
-ghost use Rattle.du_scheduler.specs.Plans.{IsPlan};
-ghost use Rattle.fh_document.specs.declared.document.Document.{Document as SpecDocument};
+ghost use Rattle.capture_air.specs.air_source.specs.Answers.{AnswersBy};
+ghost use Rattle.capture_air.specs.air_source.specs.Causes.{HasAirCause};
+ghost use Rattle.capture_air.specs.air_source.specs.Kept.{IsKept, closure_of};
+ghost use Rattle.capture_air.specs.air_source.specs.declared.airs.AirFault.TheVariants.{Failed, NoMemory as WantsMemory};
+ghost use Rattle.intake_moments.specs.document_traffic.specs.Laws.{IsReplayable};
+ghost use Rattle.intake_moments.specs.du_intake.specs.Calls.{StandsFor as IntakeStandsFor};
+ghost use Rattle.intake_moments.specs.du_scheduler.specs.Plans.{IsPlan};
+ghost use Rattle.intake_moments.specs.fh_document.specs.declared.document.Document.{Document as SpecDocument};
 ghost use Rattle.intake_moments.specs.Turns.{planned_for};
-ghost use Rattle.radio_moments.specs.Stops.{HaltsBehind, StopsBehind};
-ghost use Rattle.radio_moments.specs.Turns.{events_before};
-ghost use Rattle.replay_events.specs.Events.{events_at};
-ghost use Rattle.replay_events.specs.Moments.{end_of_time};
-ghost use Rattle.ru_buffers.specs.Calls.{StandsFor};
-ghost use Rattle.tone_source.specs.Tones.{tone_of};
-ghost use Rattle.unit_model.specs.Radiated.{first_clock};
-ghost use Rattle.unit_model.specs.Standing.{History};
+ghost use Rattle.intake_moments.specs.measured_moments.specs.Begins.{MeasuresWait};
+ghost use Rattle.intake_moments.specs.measured_traffic.specs.Replayed.{traffic_of};
+ghost use Rattle.intake_moments.specs.radio_moments.specs.Stops.{HaltsBehind, StopsBehind};
+ghost use Rattle.intake_moments.specs.radio_moments.specs.Turns.{events_before};
+ghost use Rattle.intake_moments.specs.replay_events.specs.Events.{events_at};
+ghost use Rattle.intake_moments.specs.replay_events.specs.Moments.{end_of_time};
+ghost use Rattle.intake_moments.specs.ru_buffers.specs.Calls.{StandsFor};
+ghost use Rattle.intake_moments.specs.tone_source.specs.Tones.{tone_of};
+ghost use Rattle.intake_moments.specs.unit_model.specs.Radiated.{first_clock};
+ghost use Rattle.intake_moments.specs.unit_model.specs.Standing.{History};
 ghost use Rattle.fronthaul_replay.specs.Replaying.{IsInStep};
-ghost use Rattle.fronthaul_replay.specs.Turns.{AtTurn, IsNext, Waits};
+ghost use Rattle.fronthaul_replay.specs.Turns.{AtMoment, AtTurn, HasBegun, HaveLanded, HaveMeasured, IsNext, Waits};
 
 use crate::coming::Coming;
 use crate::times::{FIRST_CLOCK, is_up_to, tick_after, up_to_end};
-use air_source::{Air, AirFault, RePlace, Samples};
 use bfp_codec::Wide;
-use du_intake::Intake;
-use fh_document::Document;
+use capture_air::air_source::{Air, AirFault, RePlace, Samples};
+use fh_base::NoMemory;
 use fh_time::Ticks;
+use intake_moments::du_intake::Intake;
+use intake_moments::fh_document::Document;
 use intake_moments::intake_moment;
-use radio_moments::{earlier_of, radio_moment};
-use ru_buffers::Ru;
-use std::alloc::Global;
+use intake_moments::measured_moments::Meters;
+use intake_moments::radio_moments::{earlier_of, radio_moment};
+use intake_moments::ru_buffers::Ru;
+use sum_air::delay_measure::Edge;
 
-/// The next time at which a cell or a message is due at a unit, or a frame leaves or lands. None where there is none up to the end.
-fn next_moment<G: Fn(RePlace) -> Wide>(
+/// The next time at which a cell or a message is due at a unit, a frame leaves or lands, or a measurement begins. None where there is none
+/// up to the end.
+fn next_moment<G: Fn(RePlace) -> Wide, C: Fn(Edge) -> i64, D: Fn(Edge) -> i64>(
     ru: &Ru,
     intake: &Intake,
     coming: &Coming<'_, G>,
+    meters: &Meters<'_, C, D>,
 ) -> Option<Ticks>
     requires { IsPlan coming.now.downlink.plan }
-    ensures { (d : SpecDocument) (h k : History) → StandsFor d.config ru.now h → IntakeStandsFor d.config (planned_for d) intake.now k → IsNext d h k coming.now result }
+    ensures { (d : SpecDocument) (h k : History) → StandsFor d.config ru.now h → IntakeStandsFor d.config (planned_for d) intake.now k → IsNext d h k coming.now meters.now result }
 {
     let units = earlier_of(ru.due(), intake.due());
     let frames = earlier_of(coming.downlink.next_time(), coming.answers.next_time());
-    up_to_end(earlier_of(units, frames))
+    up_to_end(earlier_of(earlier_of(units, frames), meters.next_time()))
 }
 
-/// What comes at one time: the radio unit's cells, the frames that land at it, also those that leave then; its answers; and then the
-/// frames that land at the distributed unit, and that unit's cells.
-fn moment<A: Air, F: Fn(RePlace) -> Wide, G: Fn(RePlace) -> Wide>(
-    alloc: Global,
+/// The frames of delay measurement that both units made at a time leave.
+fn send_made<G: Fn(RePlace) -> Wide, C: Fn(Edge) -> i64, D: Fn(Edge) -> i64>(
+    tick: Ticks,
+    coming: &mut Coming<'_, G>,
+    meters: &mut Meters<'_, C, D>,
+) -> Result<(), NoMemory>
+    requires begun { first_clock ≤ℤ tick.0 }
+    requires ended { tick.0 ≤ℤ end_of_time }
+    requires some { (d : SpecDocument) × HaveLanded G.pre G.post C.pre C.post D.pre D.post d tick.0 coming.old meters.old }
+    ensures { (d : SpecDocument) → IsReplayable d → HaveLanded G.pre G.post C.pre C.post D.pre D.post d tick.0 coming.old meters.old
+        → OnOk result (Waits G.pre G.post d (tick.0 +ℤ pos 1) coming.new × MeasuresWait C.pre C.post D.pre D.post d (tick.0 +ℤ pos 1) meters.new) }
+{
+    coming.downlink.send_made(tick, &mut meters.du)?;
+    coming.answers.send_made(tick, &mut meters.ru)
+}
+
+/// What comes to both units at one time, once its measurements have begun: the radio unit's cells and the frames that land at it, also those
+/// that leave then; its answers; then the frames that land at the distributed unit, and that unit's cells.
+fn land<
+    A: Air,
+    F: Fn(RePlace) -> Wide,
+    G: Fn(RePlace) -> Wide,
+    C: Fn(Edge) -> i64,
+    D: Fn(Edge) -> i64,
+>(
     doc: &Document,
     tick: Ticks,
     du: &Samples<F>,
     ru: &mut Ru,
     intake: &mut Intake,
     coming: &mut Coming<'_, G>,
+    meters: &mut Meters<'_, C, D>,
     out: &mut A,
 ) -> Result<(), AirFault>
     requires kept { IsKept F.pre F.post du.now }
     requires tone { AnswersBy (F.post (closure_of du.now)) (tone_of doc.now.source) }
     requires document { IsReplayable doc.now }
-    requires turn { AtTurn doc.now tick.0 ru.old intake.old }
-    requires waits { Waits G.pre G.post doc.now tick.0 coming.old }
+    requires begun { HasBegun G.pre G.post C.pre C.post D.pre D.post doc.now tick.0 ru.old intake.old coming.old meters.old }
     requires ended { tick.0 ≤ℤ end_of_time }
     ensures heard { OnOk result (A.grew out.old (events_at doc.now.config (traffic_of doc.now) tick.0) out.new) }
     ensures turn { OnOk result (AtTurn doc.now (tick.0 +ℤ pos 1) ru.new intake.new) }
-    ensures waits { OnOk result (Waits G.pre G.post doc.now (tick.0 +ℤ pos 1) coming.new) }
+    ensures landed { OnOk result (HaveLanded G.pre G.post C.pre C.post D.pre D.post doc.now tick.0 coming.new meters.new) }
     ensures stop { IsErrOf result Failed → StopsBehind A.grew (A.stopped Failed) (λ told. IsInStep doc.now told ru.new intake.new) (events_before doc.now tick.0) (events_at doc.now.config (traffic_of doc.now) tick.0) out.old out.new }
     ensures wants { IsErrOf result WantsMemory → HaltsBehind A.grew (A.stopped WantsMemory) (λ told. IsInStep doc.now told ru.new intake.new) (events_before doc.now tick.0) (events_at doc.now.config (traffic_of doc.now) tick.0) out.old out.new }
     ensures same { A.same out.old out.new }
     ensures cause { HasAirCause (A.faults out.old) (A.faults out.new) result }
 {
-    radio_moment(alloc, doc, tick, du, ru, &mut coming.downlink, out)?;
-    intake_moment(alloc, doc, tick, ru, &mut coming.answers, intake, out)
+    radio_moment(doc, tick, du, ru, &mut meters.ru, &mut coming.downlink, out)?;
+    intake_moment(
+        doc,
+        tick,
+        ru,
+        &mut coming.answers,
+        intake,
+        &mut meters.du,
+        out,
+    )
 }
 
-/// Lets time pass to the end.
-pub(crate) fn pass<A: Air, F: Fn(RePlace) -> Wide, G: Fn(RePlace) -> Wide>(
-    alloc: Global,
+/// What comes at one time: measurements begin, both units' frames land and their cells are told, and the frames of delay measurement that
+/// both made leave.
+fn moment<
+    A: Air,
+    F: Fn(RePlace) -> Wide,
+    G: Fn(RePlace) -> Wide,
+    C: Fn(Edge) -> i64,
+    D: Fn(Edge) -> i64,
+>(
     doc: &Document,
+    tick: Ticks,
     du: &Samples<F>,
     ru: &mut Ru,
     intake: &mut Intake,
     coming: &mut Coming<'_, G>,
+    meters: &mut Meters<'_, C, D>,
     out: &mut A,
 ) -> Result<(), AirFault>
     requires kept { IsKept F.pre F.post du.now }
     requires tone { AnswersBy (F.post (closure_of du.now)) (tone_of doc.now.source) }
     requires document { IsReplayable doc.now }
-    requires turn { AtTurn doc.now first_clock ru.old intake.old }
-    requires waits { Waits G.pre G.post doc.now first_clock coming.old }
+    requires moment { AtMoment G.pre G.post C.pre C.post D.pre D.post doc.now tick.0 ru.old intake.old coming.old meters.old }
+    requires ended { tick.0 ≤ℤ end_of_time }
+    ensures heard { OnOk result (A.grew out.old (events_at doc.now.config (traffic_of doc.now) tick.0) out.new) }
+    ensures moment { OnOk result (AtMoment G.pre G.post C.pre C.post D.pre D.post doc.now (tick.0 +ℤ pos 1) ru.new intake.new coming.new meters.new) }
+    ensures stop { IsErrOf result Failed → StopsBehind A.grew (A.stopped Failed) (λ told. IsInStep doc.now told ru.new intake.new) (events_before doc.now tick.0) (events_at doc.now.config (traffic_of doc.now) tick.0) out.old out.new }
+    ensures wants { IsErrOf result WantsMemory → HaltsBehind A.grew (A.stopped WantsMemory) (λ told. IsInStep doc.now told ru.new intake.new) (events_before doc.now tick.0) (events_at doc.now.config (traffic_of doc.now) tick.0) out.old out.new }
+    ensures same { A.same out.old out.new }
+    ensures cause { HasAirCause (A.faults out.old) (A.faults out.new) result }
+{
+    match meters.begin(tick) {
+        Ok(()) => {}
+        Err(NoMemory) => return Err(AirFault::NoMemory),
+    }
+    land(doc, tick, du, ru, intake, coming, meters, out)?;
+    match send_made(tick, coming, meters) {
+        Ok(()) => Ok(()),
+        Err(NoMemory) => Err(AirFault::NoMemory),
+    }
+}
+
+/// Lets time pass to the end.
+pub(crate) fn pass<
+    A: Air,
+    F: Fn(RePlace) -> Wide,
+    G: Fn(RePlace) -> Wide,
+    C: Fn(Edge) -> i64,
+    D: Fn(Edge) -> i64,
+>(
+    doc: &Document,
+    du: &Samples<F>,
+    ru: &mut Ru,
+    intake: &mut Intake,
+    coming: &mut Coming<'_, G>,
+    meters: &mut Meters<'_, C, D>,
+    out: &mut A,
+) -> Result<(), AirFault>
+    requires kept { IsKept F.pre F.post du.now }
+    requires tone { AnswersBy (F.post (closure_of du.now)) (tone_of doc.now.source) }
+    requires document { IsReplayable doc.now }
+    requires moment { AtMoment G.pre G.post C.pre C.post D.pre D.post doc.now first_clock ru.old intake.old coming.old meters.old }
     ensures heard { OnOk result (A.grew out.old (events_before doc.now (end_of_time +ℤ pos 1)) out.new) }
     ensures over { OnOk result (AtTurn doc.now (end_of_time +ℤ pos 1) ru.new intake.new) }
+    ensures measured { OnOk result (HaveMeasured C.pre C.post D.pre D.post doc.now meters.new) }
     ensures stop { IsErrOf result Failed → StopsBehind A.grew (A.stopped Failed) (λ told. IsInStep doc.now told ru.new intake.new) [] (events_before doc.now (end_of_time +ℤ pos 1)) out.old out.new }
     ensures wants { IsErrOf result WantsMemory → HaltsBehind A.grew (A.stopped WantsMemory) (λ told. IsInStep doc.now told ru.new intake.new) [] (events_before doc.now (end_of_time +ℤ pos 1)) out.old out.new }
     ensures same { A.same out.old out.new }
     ensures cause { HasAirCause (A.faults out.old) (A.faults out.new) result }
 {
     let mut now = FIRST_CLOCK;
-    while let Some(tick) = next_moment(ru, intake, coming) {
+    while let Some(tick) = next_moment(ru, intake, coming, meters) {
         let in_order = is_up_to(now, tick);
         prove!(in_order);
         now = tick_after(tick);
-        moment(alloc, doc, tick, du, ru, intake, coming, out)?;
+        moment(doc, tick, du, ru, intake, coming, meters, out)?;
     }
     Ok(())
 }

@@ -1,9 +1,9 @@
 // The plan of a document that is replayed.
-ghost use Rattle.du_scheduler.specs.Plans.{Checks};
-ghost use Rattle.fh_document.specs.Proper.{IsDocument};
+ghost use Rattle.intake_moments.specs.du_scheduler.specs.Plans.{Checks};
+ghost use Rattle.intake_moments.specs.fh_document.specs.Proper.{IsDocument};
 
-use du_scheduler::{Plan, PlanRefusal};
-use fh_document::Document;
+use intake_moments::du_scheduler::{Plan, PlanRefusal};
+use intake_moments::fh_document::Document;
 use std::alloc::Global;
 
 /// Tests the plan of a document, and takes all memory for its frames: what a replay of the document sends.

@@ -1,31 +1,31 @@
 // A replay of a document, told to any air.
 ghost use Rattle.std.specs.Prelude.{◌≡◌, ◌<◌, ◌≤◌, OnOk, IfErr, IfOk, IsErrOf};
-ghost use Rattle.air_source.specs.Answers.{Fits16};
-ghost use Rattle.document_traffic.specs.Sending.{sent_for};
-ghost use Rattle.du_scheduler.specs.Plans.{HasToSend};
-ghost use Rattle.tone_source.specs.Tones.{tone_of};
+ghost use Rattle.capture_air.specs.air_source.specs.Answers.{Fits16};
+ghost use Rattle.intake_moments.specs.document_traffic.specs.Sending.{sent_for};
+ghost use Rattle.intake_moments.specs.du_scheduler.specs.Plans.{HasToSend};
+ghost use Rattle.intake_moments.specs.tone_source.specs.Tones.{tone_of};
 ghost use Rattle.fronthaul_replay.specs.declared.report.TextFault.TheVariants.{WriteFault};
 ghost use Rattle.fh_base.specs.Causes.{Rose};
-ghost use Rattle.fh_document.specs.Proper.{IsDocument};
+ghost use Rattle.intake_moments.specs.fh_document.specs.Proper.{IsDocument};
 ghost use Rattle.fronthaul_replay.specs.Laws.{IsSound};
 ghost use Rattle.fronthaul_replay.specs.Replaying.{events_of};
 ghost use Rattle.fronthaul_replay.specs.Cut.{CutBy};
 ghost use Rattle.fronthaul_replay.specs.Replaying.{IsReplayable};
-ghost use Rattle.du_intake.specs.Calls.{StandsFor as IntakeStandsFor};
+ghost use Rattle.intake_moments.specs.du_intake.specs.Calls.{StandsFor as IntakeStandsFor};
 ghost use Rattle.intake_moments.specs.Turns.{planned_for};
-ghost use Rattle.unit_model.specs.Standing.{nothing_yet};
+ghost use Rattle.intake_moments.specs.unit_model.specs.Standing.{nothing_yet};
 
 use crate::replays::{ReplayFault, replay};
 use crate::report::TextFault;
-use air_source::{Air, RePlace, Samples};
 use bfp_codec::Wide;
-use du_intake::Intake;
-use du_scheduler::{Plan, planned_lines};
+use capture_air::air_source::{Air, RePlace, Samples};
 use fh_base::NoMemory;
-use fh_document::Document;
-use ru_buffers::Ru;
+use intake_moments::du_intake::Intake;
+use intake_moments::du_scheduler::{Plan, planned_lines};
+use intake_moments::fh_document::Document;
+use intake_moments::ru_buffers::Ru;
+use intake_moments::tone_source::ToneSteps;
 use std::alloc::Global;
-use tone_source::ToneSteps;
 
 /// Makes both units of a document and tells an air the document's events; the samples that are sent are those of its `source`, those
 /// that the radio unit takes in those of its `antenna`.

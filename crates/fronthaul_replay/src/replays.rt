@@ -1,20 +1,22 @@
 // The replay.
-ghost use Rattle.std.specs.Prelude.{◌≤◌, IsErrOf, OnOk};
-ghost use Rattle.air_source.specs.Answers.{AnswersBy};
-ghost use Rattle.air_source.specs.Causes.{HasAirCause};
-ghost use Rattle.air_source.specs.Kept.{IsKept, closure_of};
-ghost use Rattle.air_source.specs.declared.airs.AirFault.TheVariants.{Failed, NoMemory as AirWantsMemory};
-ghost use Rattle.document_traffic.specs.Landing.{antenna_for};
-ghost use Rattle.document_traffic.specs.Sending.{sent_for};
-ghost use Rattle.du_intake.specs.Calls.{StandsFor as IntakeStandsFor};
-ghost use Rattle.du_scheduler.specs.Plans.{HasToSend};
+ghost use Rattle.std.specs.Prelude.{◌≡◌, ◌≤◌, IsErrOf, OnOk};
+ghost use Rattle.capture_air.specs.air_source.specs.Answers.{AnswersBy};
+ghost use Rattle.capture_air.specs.air_source.specs.Causes.{HasAirCause};
+ghost use Rattle.capture_air.specs.air_source.specs.Kept.{IsKept, closure_of};
+ghost use Rattle.capture_air.specs.air_source.specs.declared.airs.AirFault.TheVariants.{Failed, NoMemory as AirWantsMemory};
+ghost use Rattle.intake_moments.specs.document_traffic.specs.Landing.{antenna_for};
+ghost use Rattle.intake_moments.specs.document_traffic.specs.Sending.{sent_for};
+ghost use Rattle.sum_air.specs.delay_measure.specs.Kept.{answer_at};
+ghost use Rattle.intake_moments.specs.measured_moments.specs.Begins.{MeasuresWait};
+ghost use Rattle.intake_moments.specs.du_intake.specs.Calls.{StandsFor as IntakeStandsFor};
+ghost use Rattle.intake_moments.specs.du_scheduler.specs.Plans.{HasToSend};
 ghost use Rattle.fh_base.specs.Causes.{Rose};
-ghost use Rattle.fh_document.specs.Proper.{IsDocument};
+ghost use Rattle.intake_moments.specs.fh_document.specs.Proper.{IsDocument};
 ghost use Rattle.intake_moments.specs.Turns.{planned_for};
-ghost use Rattle.ru_buffers.specs.Calls.{StandsFor};
-ghost use Rattle.tone_source.specs.Tones.{tone_of};
-ghost use Rattle.unit_model.specs.Radiated.{first_clock};
-ghost use Rattle.unit_model.specs.Standing.{nothing_yet};
+ghost use Rattle.intake_moments.specs.ru_buffers.specs.Calls.{StandsFor};
+ghost use Rattle.intake_moments.specs.tone_source.specs.Tones.{tone_of};
+ghost use Rattle.intake_moments.specs.unit_model.specs.Radiated.{first_clock};
+ghost use Rattle.intake_moments.specs.unit_model.specs.Standing.{nothing_yet};
 ghost use Rattle.fronthaul_replay.specs.Laws.{IsSound};
 ghost use Rattle.fronthaul_replay.specs.Replaying.{HaltsInStep, IsDone, IsReplayable, StopsInStep, events_of};
 ghost use Rattle.fronthaul_replay.specs.Turns.{Waits};
@@ -23,36 +25,45 @@ ghost use Rattle.fronthaul_replay.specs.declared.replays.ReplayFault.TheVariants
 use crate::coming::{Coming, coming_of};
 use crate::counting::tell_counts;
 use crate::moments::pass;
-use air_source::{Air, AirFault, RePlace, Samples, Side};
 use bfp_codec::Wide;
-use du_intake::Intake;
-use du_scheduler::Plan;
-use fh_document::Document;
-use ru_buffers::Ru;
+use capture_air::air_source::{Air, AirFault, RePlace, Samples, Side};
+use intake_moments::du_intake::Intake;
+use intake_moments::du_scheduler::Plan;
+use intake_moments::fh_document::Document;
+use intake_moments::measured_moments::Meters;
+use intake_moments::ru_buffers::Ru;
 use std::alloc::Global;
+use sum_air::delay_measure::Edge;
+use thiserror::Error;
 
 /// Why a replay did not come to its end.
-#[derive(Clone, Copy, Debug, PartialEq, Eq)]
+#[derive(Clone, Copy, Debug, PartialEq, Eq, Error)]
 pub enum ReplayFault {
     /// The air failed in an event: it heard those before it, and both units are in step with them.
+    #[error("the air failed")]
     AirFailed,
     /// Memory was refused, to the replay or to the air in an event: the air heard the first of the events, and both units are in step
     /// with them.
+    #[error("no memory")]
     NoMemory,
 }
 
 /// Replays a document: the frames of its plan are sent at their times with the samples of `du`, the radio unit answers the uplink
-/// sections that it accepts with the samples of `antenna`, the frames of both ways are lost, repeated and delayed as the document says,
-/// and its injected frames come between. The air hears each frame that arrives at a unit (refused ones too), each cell that the radio
-/// unit radiates or the distributed unit takes in, and at the end the counters that are not 0, in the order of events: at one time the
-/// radio unit's cells, its arrivals, the distributed unit's arrivals, and its cells; copies of sent frames come, in the order in which
-/// they are sent, before injected frames, in the order of the document.
+/// sections that it accepts with the samples of `antenna`, both units measure delays at the document's times with its compensations, the
+/// frames of both ways are lost, repeated and delayed as the document says, and its injected frames come between. The air hears each frame
+/// that arrives at a unit (refused ones too), behind it each delay that it makes known, each cell that the radio unit radiates or the
+/// distributed unit takes in, and at the end the counters that are not 0, in the order of events: at one time the radio unit's cells, its
+/// arrivals, the distributed unit's arrivals, and its cells; copies of sent frames come, in the order in which they are sent, before
+/// injected frames, in the order of the document. At one time measurements begin first, and the frames that both units made for them leave
+/// last.
 ///
 /// Of these events holds, for every document: no cell is reported twice; what a cell shows came within its window and was commanded
-/// on time, or planned, under the same section id; the counters add up; and the frames that arrive are those that are sent and listed.
-/// Where the windows pass the check, nothing is injected and each frame that is sent to the radio unit has a copy, each within T12, each
-/// scheduled downlink element radiates exactly once, with its samples as compression leaves them; and where each frame that the radio
-/// unit sends has a copy too, each within T34, each planned uplink element is taken in exactly once.
+/// on time, or planned, under the same section id; the counters add up; the frames that arrive are those that are sent and listed; and
+/// each delay stands behind the frame that gave it. Where the windows pass the check, nothing is injected and each frame that is sent to
+/// the radio unit has a copy, each within T12, each scheduled downlink element radiates exactly once, with its samples as compression
+/// leaves them; and where each frame that the radio unit sends has a copy too, each within T34, each planned uplink element is taken in
+/// exactly once. Where no injected frame has a message of delay measurement, each delay is that of the one request of its id and of a copy
+/// of its frame.
 ///
 /// # Errors
 ///
@@ -88,21 +99,51 @@ pub fn replay<A: Air, F: Fn(RePlace) -> Wide, G: Fn(RePlace) -> Wide>(
     let Ok(mut coming) = coming_of(alloc, doc, plan, antenna) else {
         return Err(ReplayFault::NoMemory);
     };
-    match run(alloc, doc, &du, ru, intake, &mut coming, out) {
+    let comps = doc.comps;
+    let meters = Meters::make(
+        alloc,
+        doc,
+        |edge: Edge| -> i64
+            ensures { result ≡ answer_at comps.ru_sending comps.ru_receiving edge }
+        { answer_at(comps.ru_sending, comps.ru_receiving, edge) },
+        |edge: Edge| -> i64
+            ensures { result ≡ answer_at comps.du_sending comps.du_receiving edge }
+        { answer_at(comps.du_sending, comps.du_receiving, edge) },
+    );
+    let Ok(mut meters) = meters else {
+        return Err(ReplayFault::NoMemory);
+    };
+    match run(doc, &du, ru, intake, &mut coming, &mut meters, out) {
         Ok(()) => Ok(()),
         Err(AirFault::Failed) => Err(ReplayFault::AirFailed),
         Err(AirFault::NoMemory) => Err(ReplayFault::NoMemory),
     }
 }
 
+/// A unit's compensation at an edge, in units of 2^-16 ns.
+fn answer_at(sending: i64, receiving: i64, edge: Edge) -> i64
+    ensures { result ≡ answer_at sending receiving edge }
+{
+    match edge {
+        Edge::Sending => sending,
+        Edge::Receiving => receiving,
+    }
+}
+
 /// Lets all frames land, and tells the counters of both units.
-fn run<A: Air, F: Fn(RePlace) -> Wide, G: Fn(RePlace) -> Wide>(
-    alloc: Global,
+fn run<
+    A: Air,
+    F: Fn(RePlace) -> Wide,
+    G: Fn(RePlace) -> Wide,
+    C: Fn(Edge) -> i64,
+    D: Fn(Edge) -> i64,
+>(
     doc: &Document,
     du: &Samples<F>,
     ru: &mut Ru,
     intake: &mut Intake,
     coming: &mut Coming<'_, G>,
+    meters: &mut Meters<'_, C, D>,
     out: &mut A,
 ) -> Result<(), AirFault>
     requires kept { IsKept F.pre F.post du.now }
@@ -111,6 +152,7 @@ fn run<A: Air, F: Fn(RePlace) -> Wide, G: Fn(RePlace) -> Wide>(
     requires unit { StandsFor doc.now.config ru.old nothing_yet }
     requires intake { IntakeStandsFor doc.now.config (planned_for doc.now) intake.old nothing_yet }
     requires waits { Waits G.pre G.post doc.now first_clock coming.old }
+    requires measures { MeasuresWait C.pre C.post D.pre D.post doc.now first_clock meters.old }
     ensures heard { OnOk result (A.grew out.old (events_of doc.now) out.new) }
     ensures done { OnOk result (IsDone doc.now ru.new intake.new) }
     ensures stop { IsErrOf result Failed → StopsInStep A.grew (A.stopped Failed) doc.now ru.new intake.new out.old out.new }
@@ -118,7 +160,7 @@ fn run<A: Air, F: Fn(RePlace) -> Wide, G: Fn(RePlace) -> Wide>(
     ensures same { A.same out.old out.new }
     ensures cause { HasAirCause (A.faults out.old) (A.faults out.new) result }
 {
-    pass(alloc, doc, du, ru, intake, coming, out)?;
-    tell_counts(Side::Ru, ru.counters(), out)?;
-    tell_counts(Side::Du, intake.counters(), out)
+    pass(doc, du, ru, intake, coming, meters, out)?;
+    tell_counts(Side::Ru, ru.counters(), &meters.ru, out)?;
+    tell_counts(Side::Du, intake.counters(), &meters.du, out)
 }

@@ -2,9 +2,9 @@
 ghost use Rattle.std.specs.Prelude.{◌≡◌, ◌≤◌, ◌++◌, OnOk};
 ghost use Rattle.std.specs.Io.KnownBytes.{append_known};
 ghost use Rattle.fh_base.specs.Told.{WritesFront};
-ghost use Rattle.document_traffic.specs.Sending.{sent_for};
-ghost use Rattle.du_scheduler.specs.Plans.{HasToSend};
-ghost use Rattle.fh_document.specs.Proper.{IsDocument};
+ghost use Rattle.intake_moments.specs.document_traffic.specs.Sending.{sent_for};
+ghost use Rattle.intake_moments.specs.du_scheduler.specs.Plans.{HasToSend};
+ghost use Rattle.intake_moments.specs.fh_document.specs.Proper.{IsDocument};
 ghost use Rattle.text_air.specs.Airs.{sink_name, sink_of, owed_of};
 ghost use Rattle.text_air.specs.Text.{end_text};
 ghost use Rattle.fronthaul_replay.specs.Laws.{IsSound};
@@ -12,19 +12,22 @@ ghost use Rattle.fronthaul_replay.specs.Replay.{HasWriteCause};
 ghost use Rattle.fronthaul_replay.specs.Reports.{document_report};
 
 use crate::replaying::replay_to;
-use air_source::AirFault;
-use du_scheduler::Plan;
+use capture_air::air_source::AirFault;
 use fh_base::Sink;
-use fh_document::Document;
+use intake_moments::du_scheduler::Plan;
+use intake_moments::fh_document::Document;
 use std::alloc::Global;
 use text_air::TextAir;
+use thiserror::Error;
 
 /// Why the text of a document was not written whole.
-#[derive(Clone, Copy, Debug, PartialEq, Eq)]
+#[derive(Clone, Copy, Debug, PartialEq, Eq, Error)]
 pub enum TextFault {
     /// The sink failed. A front part of the text was written.
+    #[error("the sink failed")]
     WriteFault,
     /// Memory was refused. A front part of the text was written.
+    #[error("no memory")]
     NoMemory,
 }
 

@@ -2,9 +2,9 @@
 ghost use Rattle.std.specs.Prelude.{◌≡◌, ◌≤◌, [], ◌++◌, OnOk};
 ghost use Rattle.std.specs.Io.KnownBytes.{append_known};
 ghost use Rattle.fh_base.specs.Told.{WritesFront};
-ghost use Rattle.document_traffic.specs.Sending.{sent_for};
-ghost use Rattle.du_scheduler.specs.Plans.{HasToSend};
-ghost use Rattle.fh_document.specs.Proper.{IsDocument};
+ghost use Rattle.intake_moments.specs.document_traffic.specs.Sending.{sent_for};
+ghost use Rattle.intake_moments.specs.du_scheduler.specs.Plans.{HasToSend};
+ghost use Rattle.intake_moments.specs.fh_document.specs.Proper.{IsDocument};
 ghost use Rattle.sum_air.specs.Airs.{sink_name, sink_of, owed_of, sums_of};
 ghost use Rattle.sum_air.specs.States.{sum_start, sum_ends};
 ghost use Rattle.fronthaul_replay.specs.Laws.{IsSound};
@@ -13,10 +13,10 @@ ghost use Rattle.fronthaul_replay.specs.Reports.{summary_of};
 
 use crate::replaying::replay_to;
 use crate::report::TextFault;
-use air_source::AirFault;
-use du_scheduler::Plan;
+use capture_air::air_source::AirFault;
 use fh_base::{NoMemory, Sink};
-use fh_document::Document;
+use intake_moments::du_scheduler::Plan;
+use intake_moments::fh_document::Document;
 use std::alloc::Global;
 use sum_air::{SumAir, Sums};
 

@@ -6,9 +6,9 @@ use Rattle.std.proofs.lemmas.Bool.{and_from, eq-eqb, lt-ltb, or_left, or_right}
 use Rattle.std.proofs.lemmas.Bool.Decides.{Decides-int_eq}
 use Rattle.std.proofs.lemmas.Int.{ints}
 use Rattle.fh_time.specs.declared.values.Slot.{Slot}
-use Rattle.unit_model.specs.Claims.{same_slot}
-use Rattle.unit_model.specs.Order.{comes_before, slot_before, symbol_before}
-use Rattle.unit_model.specs.declared.symbol_start.SymbolStart.{SymbolStart}
+use Rattle.unit_laws.specs.unit_model.specs.Claims.{same_slot}
+use Rattle.unit_laws.specs.unit_model.specs.Order.{comes_before, slot_before, symbol_before}
+use Rattle.unit_laws.specs.unit_model.specs.declared.symbol_start.SymbolStart.{SymbolStart}
 
 is_less : (a b : ℤ) → a <ℤ b → int_lt a b ≡ true
 is_less a b h = grind (arith, ints)

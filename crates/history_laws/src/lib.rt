@@ -9,7 +9,7 @@ ghost use Rattle.air_source.specs.declared.events.AirCell.{AirCell};
 ghost use Rattle.history_laws.specs.Arriving.{ArrivalLeavesClaims, ArrivalLeavesDue, ArrivalLeavesJobs, ArrivalLeavesReported, ArrivalLeavesSent, ArrivalLeavesUse};
 ghost use Rattle.history_laws.specs.First.{FirstIsFirst, NothingIsNothing};
 ghost use Rattle.history_laws.specs.Sending.{JobsAreProper};
-ghost use Rattle.unit_model.specs.declared.jobs.UplinkJob.{UplinkJob};
+ghost use Rattle.unit_laws.specs.unit_model.specs.declared.jobs.UplinkJob.{UplinkJob};
 
 /// What is told of the first symbol of which something is told stands first in all that is told.
 pub fn first_is_first()
@@ -41,3 +41,7 @@ pub fn arrival_leaves_claims()
 pub fn jobs_are_proper()
     ensures { JobsAreProper }
 {}
+
+pub use air_source;
+pub use unit_laws::unit_model;
+pub use window_config;

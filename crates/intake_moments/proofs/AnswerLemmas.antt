@@ -3,44 +3,46 @@ use Rattle.std.proofs.Common.{◌≡◌, ℕ, ℤ, pos, ◌+ℤ◌, ◌-ℤ◌, 
 use Rattle.std.specs.Prelude.{Err, Ok, OnOk, Result}
 use Rattle.std.proofs.lemmas.Int.{ints}
 use Rattle.std.proofs.lemmas.List.Elements.{All-weaker}
-use Rattle.air_source.specs.Answers.{AnswersBy}
-use Rattle.air_source.specs.declared.events.Side.TheVariants.{Ru as AtRu, Du as AtDu}
-use Rattle.air_source.specs.declared.links.LinkFrame.{LinkFrame}
-use Rattle.air_source.specs.Kept.{IsKept, closure_of}
-use Rattle.air_source.specs.declared.places.RePlace.{RePlace}
-use Rattle.air_source.specs.declared.samples.Samples.{Samples}
+use Rattle.send_queue.specs.air_source.specs.Answers.{AnswersBy}
+use Rattle.send_queue.specs.air_source.specs.declared.events.Side.TheVariants.{Ru as AtRu, Du as AtDu}
+use Rattle.send_queue.specs.air_source.specs.declared.links.LinkFrame.{LinkFrame}
+use Rattle.send_queue.specs.air_source.specs.Kept.{IsKept, closure_of}
+use Rattle.send_queue.specs.air_source.specs.declared.places.RePlace.{RePlace}
+use Rattle.send_queue.specs.air_source.specs.declared.samples.Samples.{Samples}
 use Rattle.bfp_codec.specs.declared.samples.Wide.{Wide}
-use Rattle.document_traffic.specs.Landing.{antenna_for, landings_of}
-use Rattle.document_traffic.proofs.LandingLemmas.{are_replayed}
-use Rattle.fh_document.specs.declared.document.Document.{Document}
-use Rattle.frame_ways.specs.declared.way.Way.{Way}
-use Rattle.plan_model.specs.Packs.{Message}
+use Rattle.radio_moments.specs.document_traffic.specs.Landing.{antenna_for}
+use Rattle.radio_moments.specs.fh_document.specs.declared.document.Document.{Document}
+use Rattle.radio_moments.specs.measured_traffic.specs.Replayed.{landings_for}
+use Rattle.radio_moments.specs.measured_traffic.proofs.ReplayedLemmas.{landings_are_replayed}
+use Rattle.radio_moments.specs.frame_ways.specs.declared.way.Way.{Way}
+use Rattle.send_queue.specs.plan_model.specs.Packs.{Message}
 use Rattle.radio_moments.proofs.StepLemmas.{arrivals_stay, cells_stay, intake_own, next_events}
 use Rattle.radio_moments.specs.Turns.{AtRadioTurn, IsRadioInStep, IsRadioLanded, events_before, intake_events, radio_events}
-use Rattle.replay_events.specs.Heard.{arrivals_heard, cells_heard}
-use Rattle.replay_events.specs.Moments.{arrivals_before, end_of_time}
-use Rattle.replay_events.proofs.TickLemmas.{last_of_next, next_most, same_most}
-use Rattle.ru_buffers.specs.Calls.{StandsFor, given_of}
-use Rattle.ru_buffers.specs.Reporting.{due_of}
-use Rattle.ru_buffers.specs.declared.unit.Ru.{Ru}
+use Rattle.radio_moments.specs.replay_events.specs.Heard.{arrivals_heard, cells_heard}
+use Rattle.radio_moments.specs.replay_events.specs.Moments.{arrivals_before, end_of_time}
+use Rattle.radio_moments.specs.replay_events.proofs.TickLemmas.{last_of_next, next_most, same_most}
+use Rattle.du_intake.specs.ru_buffers.specs.Calls.{StandsFor, given_of}
+use Rattle.du_intake.specs.ru_buffers.specs.Reporting.{due_of}
+use Rattle.du_intake.specs.ru_buffers.specs.declared.unit.Ru.{Ru}
+use Rattle.send_queue.specs.Outboxes.{Handed}
 use Rattle.send_queue.specs.Queues.{AreFrom, WaitsFor}
-use Rattle.unit_model.specs.Lists.{onto}
-use Rattle.unit_model.specs.Radiated.{first_clock}
-use Rattle.unit_model.specs.Reports.{accepted_of, ru_reported}
-use Rattle.unit_model.specs.Standing.{History}
-use Rattle.unit_model.specs.Uplink.{jobs}
-use Rattle.unit_model.specs.declared.jobs.UplinkJob.{UplinkJob}
-use Rattle.uplink_model.specs.Frames.{frames_behind}
-use Rattle.uplink_model.specs.Messages.{messages_of}
-use Rattle.uplink_model.specs.SentLaws.{AreOf}
+use Rattle.send_queue.specs.unit_model.specs.Lists.{onto}
+use Rattle.send_queue.specs.unit_model.specs.Radiated.{first_clock}
+use Rattle.send_queue.specs.unit_model.specs.Reports.{accepted_of, ru_reported}
+use Rattle.send_queue.specs.unit_model.specs.Standing.{History}
+use Rattle.send_queue.specs.unit_model.specs.Uplink.{jobs}
+use Rattle.send_queue.specs.unit_model.specs.declared.jobs.UplinkJob.{UplinkJob}
+use Rattle.send_queue.specs.uplink_model.specs.Frames.{frames_behind}
+use Rattle.send_queue.specs.uplink_model.specs.Messages.{messages_of}
+use Rattle.send_queue.specs.uplink_model.specs.SentLaws.{AreOf}
 use Rattle.uplink_path.specs.Emitting.{MaySend, Numbered, SentAll, given_too}
 use Rattle.uplink_path.specs.declared.uplink.Uplink.{Uplink}
-use Rattle.uplink_turns.specs.Given.{HasSeen}
-use Rattle.uplink_turns.specs.Turns.{handed_at, handed_until, jobs_at, jobs_until, messages_at, messages_until}
-use Rattle.uplink_turns.proofs.GivenLemmas.{gives_tick, owes_tick}
-use Rattle.uplink_turns.proofs.HandedLemmas.{handed_behind_are_of, handed_go_on, handed_leave_later}
-use Rattle.uplink_turns.proofs.JobLemmas.{jobs_settled}
-use Rattle.uplink_turns.proofs.MessageLemmas.{messages_go_on}
+use Rattle.radio_moments.specs.uplink_turns.specs.Given.{HasSeen}
+use Rattle.radio_moments.specs.uplink_turns.specs.Turns.{handed_at, handed_until, jobs_at, jobs_until, messages_at, messages_until}
+use Rattle.radio_moments.specs.uplink_turns.proofs.GivenLemmas.{gives_tick, owes_tick}
+use Rattle.radio_moments.specs.uplink_turns.proofs.HandedLemmas.{handed_behind_are_of, handed_go_on, handed_leave_later}
+use Rattle.radio_moments.specs.uplink_turns.proofs.JobLemmas.{jobs_settled}
+use Rattle.radio_moments.specs.uplink_turns.proofs.MessageLemmas.{messages_go_on}
 use Rattle.intake_moments.specs.Answering.{IsDueAt, MayAnswer, heard_before}
 use Rattle.intake_moments.specs.Answers.{AwaitsFrames, HasHanded}
 use Rattle.intake_moments.specs.declared.answers.Answers.{Answers}
@@ -70,37 +72,37 @@ within_next a b h = omega (arith, ints)
 before_tick : (a : ℤ) → (a -ℤ pos 1) <ℤ a
 before_tick a = omega (arith, ints)
 
-pub has_seen : (d : Document) (tick : ℤ) (h : History) → IsDueAt d tick → IsRadioLanded d tick h → HasSeen d.config (landings_of d) (tick +ℤ pos 1) h
+pub has_seen : (d : Document) (tick : ℤ) (h : History) → IsDueAt d tick → IsRadioLanded d tick h → HasSeen d.config (landings_for AtRu d) (tick +ℤ pos 1) h
 has_seen d tick h due landed = record {
   config = due.replayable.document.config;
-  landings_are = are_replayed d AtRu due.replayable.document due.replayable.valid;
+  landings_are = landings_are_replayed d AtRu due.replayable;
   begun = next_most first_clock tick due.begun;
   ended = within_next tick end_of_time due.ended;
   arrivals = landed.arrivals;
 }
 
 -- they are those of the tick
-pub due_jobs : (d : Document) (tick : ℤ) (h : History) → IsDueAt d tick → IsRadioLanded d tick h → given_of d.config h h.clock ≡ jobs_at d.config (landings_of d) tick
+pub due_jobs : (d : Document) (tick : ℤ) (h : History) → IsDueAt d tick → IsRadioLanded d tick h → given_of d.config h h.clock ≡ jobs_at d.config (landings_for AtRu d) tick
 due_jobs d tick h due landed =
     ap (λ (t : ℤ). given_of d.config h t) landed.clock
-    ∙ owes_tick d.config (landings_of d) tick (tick +ℤ pos 1) h (has_seen d tick h due landed) due.begun (next_most tick tick (same_most tick)) landed.given
+    ∙ owes_tick d.config (landings_for AtRu d) tick (tick +ℤ pos 1) h (has_seen d tick h due landed) due.begun (next_most tick tick (same_most tick)) landed.given
 
 -- and with them all up to the tick are given
 pub given_jobs : (d : Document) (tick : ℤ) (h : History) → IsDueAt d tick → IsRadioLanded d tick h
-    → h.given ++ given_of d.config h h.clock ≡ jobs_until d.config (landings_of d) tick
+    → h.given ++ given_of d.config h h.clock ≡ jobs_until d.config (landings_for AtRu d) tick
 given_jobs d tick h due landed =
     ap (λ (t : ℤ). h.given ++ given_of d.config h t) landed.clock
-    ∙ gives_tick d.config (landings_of d) tick (tick +ℤ pos 1) h (has_seen d tick h due landed) due.begun (next_most tick tick (same_most tick)) landed.given
+    ∙ gives_tick d.config (landings_for AtRu d) tick (tick +ℤ pos 1) h (has_seen d tick h due landed) due.begun (next_most tick tick (same_most tick)) landed.given
 
 -- then none is left up to it
-none_left : (d : Document) (tick : ℤ) (k : History) → IsDueAt d tick → k.arrivals ≡ arrivals_before (landings_of d) (tick +ℤ pos 1)
-    → k.given ≡ jobs_until d.config (landings_of d) tick → given_of d.config k tick ≡ []
+none_left : (d : Document) (tick : ℤ) (k : History) → IsDueAt d tick → k.arrivals ≡ arrivals_before (landings_for AtRu d) (tick +ℤ pos 1)
+    → k.given ≡ jobs_until d.config (landings_for AtRu d) tick → given_of d.config k tick ≡ []
 none_left d tick k due came given =
     let c = d.config in
-    let ls = landings_of d in
+    let ls = landings_for AtRu d in
     let all = jobs_until c ls tick in
     let settled : jobs c.endpoints (accepted_of c (arrivals_before ls (tick +ℤ pos 1))) tick ≡ all =
-    jobs_settled c ls tick (tick +ℤ pos 1) due.replayable.document.config (are_replayed d AtRu due.replayable.document due.replayable.valid) (next_most first_clock tick due.begun)
+    jobs_settled c ls tick (tick +ℤ pos 1) due.replayable.document.config (landings_are_replayed d AtRu due.replayable) (next_most first_clock tick due.begun)
     (within_next tick end_of_time due.ended) (next_most tick tick (same_most tick)) in
     ap₂ (λ (gs js : List UplinkJob). drop (length gs) js) given (ap (λ (xs : List _). jobs c.endpoints (accepted_of c xs) tick) came ∙ settled)
     ∙ drop_all all
@@ -113,7 +115,7 @@ pub radio_then : (d : Document) (tick : ℤ) (h : History) (ru : Ru) → IsDueAt
 radio_then d tick h ru due landed stands =
     let c = d.config in
     let k = given_too h (given_of c h h.clock) in
-    let given : k.given ≡ jobs_until c (landings_of d) tick = given_jobs d tick h due landed in
+    let given : k.given ≡ jobs_until c (landings_for AtRu d) tick = given_jobs d tick h due landed in
     let last = sym (last_of_next tick) in
     let other = intake_own d tick in
     let events : events_before d (tick +ℤ pos 1) ≡ heard_before d tick ++ intake_events d tick =
@@ -125,12 +127,12 @@ radio_then d tick h ru due landed stands =
         begun = next_most first_clock tick due.begun;
         ended = within_next tick end_of_time due.ended;
         arrivals = landed.arrivals;
-        reported = landed.reported ∙ ap (λ (u : ℤ). ru_reported c (arrivals_before (landings_of d) (tick +ℤ pos 1)) u) last;
+        reported = landed.reported ∙ ap (λ (u : ℤ). ru_reported c (arrivals_before (landings_for AtRu d) (tick +ℤ pos 1)) u) last;
         quiet = record {
           cells = ap (λ (u : ℤ). due_of c k u) (sym last ∙ sym landed.clock) ∙ stands.kept.past;
           messages = ap (λ (u : ℤ). given_of c k u) (sym last) ∙ none_left d tick k due landed.arrivals given;
         };
-        given = given ∙ ap (λ (u : ℤ). jobs_until c (landings_of d) u) last;
+        given = given ∙ ap (λ (u : ℤ). jobs_until c (landings_for AtRu d) u) last;
         came = landed.came ∙ sym (arrivals_stay AtRu AtDu (heard_before d tick) (intake_events d tick) refl other) ∙ ap (arrivals_heard AtRu []) (sym events);
         told = landed.told ∙ sym (cells_stay AtRu AtDu (heard_before d tick) (intake_events d tick) refl other) ∙ ap (cells_heard AtRu) (sym events);
       };
@@ -148,7 +150,7 @@ pub may_send : {G : Type 0} (pre : G → RePlace → Type 0) (post : G → RePla
 may_send pre post ru a m = record {
   config = m.document.config;
   history = m.landed.history;
-  messages = onto [] (messages_until m.document.config (landings_of m.document) (m.tick -ℤ pos 1));
+  messages = onto [] (messages_until m.document.config (landings_for AtRu m.document) (m.tick -ℤ pos 1));
   numbered = m.waits.handed.numbered;
   stands = m.landed.stands;
   kept = m.waits.handed.kept;
@@ -156,12 +158,12 @@ may_send pre post ru a m = record {
 
 -- what was numbered before a tick
 abbrev pub numbered_before : Document → ℤ → List (Message UplinkJob)
-numbered_before d tick = onto [] (messages_until d.config (landings_of d) (tick -ℤ pos 1))
+numbered_before d tick = onto [] (messages_until d.config (landings_for AtRu d) (tick -ℤ pos 1))
 
 -- the frames that were handed over are those of the tick
 pub handed_now : (post : RePlace → Wide → Type 0) {G : Type 0} (d : Document) (tick : ℤ) (h : History) (u : Uplink G) (ru : Ru) (old new : List LinkFrame)
     → IsDueAt d tick → IsRadioLanded d tick h → SentAll post d.config h (numbered_before d tick) u ru old new → AnswersBy post (antenna_for d) → old ≡ []
-    → new ≡ handed_at d.config (antenna_for d) (landings_of d) tick
+    → new ≡ handed_at d.config (antenna_for d) (landings_for AtRu d) tick
 handed_now post d tick h u ru old new due landed sent tone none =
     let c = d.config in
     let antenna = antenna_for d in
@@ -171,11 +173,11 @@ handed_now post d tick h u ru old new due landed sent tone none =
 
 pub handed_then : {G : Type 0} (pre : G → RePlace → Type 0) (post : G → RePlace → Wide → Type 0) (d : Document) (tick : ℤ) (h : History) (old new : Answers G)
     → IsDueAt d tick → IsRadioLanded d tick h → HasHanded pre post d (tick -ℤ pos 1) old → new.uplink.antenna ≡ old.uplink.antenna
-    → Numbered d.config new.uplink (onto (numbered_before d tick) (messages_of d.config (given_of d.config h h.clock))) → new.outbox ≡ []
+    → Numbered d.config new.uplink (onto (numbered_before d tick) (messages_of d.config (given_of d.config h h.clock))) → new.outbox.frames ≡ []
     → HasHanded pre post d tick new
 handed_then pre post d tick h old new due landed handed same numbered none =
     let c = d.config in
-    let ls = landings_of d in
+    let ls = landings_for AtRu d in
     let before = messages_until c ls (tick -ℤ pos 1) in
     let all : onto (numbered_before d tick) (messages_of c (given_of c h h.clock)) ≡ onto [] (messages_until c ls tick) =
     ap (λ (js : List UplinkJob). onto (onto [] before) (messages_of c js)) (due_jobs d tick h due landed)
@@ -193,28 +195,28 @@ handed_then pre post d tick h old new due landed handed same numbered none =
 few_endpoints : (n : ℕ) (fs : List LinkFrame) → n ≤ 16 → AreOf n fs → All (λ f. f.ep < 16) fs
 few_endpoints n fs few are = All-weaker (λ (f : LinkFrame). f.ep < n) (λ (f : LinkFrame). f.ep < 16) (λ f less. omega (arith, less, few)) fs are
 
-pub are_few : (d : Document) (tick : ℤ) (fs : List LinkFrame) → IsDueAt d tick → fs ≡ handed_at d.config (antenna_for d) (landings_of d) tick → All (λ f. f.ep < 16) fs
+pub are_few : (d : Document) (tick : ℤ) (fs : List LinkFrame) → IsDueAt d tick → fs ≡ handed_at d.config (antenna_for d) (landings_for AtRu d) tick → All (λ f. f.ep < 16) fs
 are_few d tick fs due is =
     let c = d.config in
     few_endpoints (length c.endpoints) fs due.replayable.document.config.endpoints.few
-    (subst (AreOf (length c.endpoints)) (sym is) (handed_behind_are_of c (antenna_for d) (landings_of d) tick (messages_at c (landings_of d) tick)))
+    (subst (AreOf (length c.endpoints)) (sym is) (handed_behind_are_of c (antenna_for d) (landings_for AtRu d) tick (messages_at c (landings_for AtRu d) tick)))
 
-pub are_of : (d : Document) (tick : ℤ) (fs : List LinkFrame) → fs ≡ handed_at d.config (antenna_for d) (landings_of d) tick → AreOf (length d.config.endpoints) fs
+pub are_of : (d : Document) (tick : ℤ) (fs : List LinkFrame) → fs ≡ handed_at d.config (antenna_for d) (landings_for AtRu d) tick → AreOf (length d.config.endpoints) fs
 are_of d tick fs is =
     let c = d.config in
-    subst (AreOf (length c.endpoints)) (sym is) (handed_behind_are_of c (antenna_for d) (landings_of d) tick (messages_at c (landings_of d) tick))
+    subst (AreOf (length c.endpoints)) (sym is) (handed_behind_are_of c (antenna_for d) (landings_for AtRu d) tick (messages_at c (landings_for AtRu d) tick))
 
-pub are_later : (d : Document) (tick : ℤ) (fs : List LinkFrame) → IsDueAt d tick → fs ≡ handed_at d.config (antenna_for d) (landings_of d) tick → AreFrom tick fs
-are_later d tick fs due is = subst (AreFrom tick) (sym is) (handed_leave_later d.config (antenna_for d) (landings_of d) tick due.replayable.document.config)
+pub are_later : (d : Document) (tick : ℤ) (fs : List LinkFrame) → IsDueAt d tick → fs ≡ handed_at d.config (antenna_for d) (landings_for AtRu d) tick → AreFrom tick fs
+are_later d tick fs due is = subst (AreFrom tick) (sym is) (handed_leave_later d.config (antenna_for d) (landings_for AtRu d) tick due.replayable.document.config)
 
-pub queue_then : (d : Document) (tick : ℤ) (fs q : List LinkFrame) → IsDueAt d tick → fs ≡ handed_at d.config (antenna_for d) (landings_of d) tick
-    → WaitsFor (length d.config.endpoints) tick (handed_until d.config (antenna_for d) (landings_of d) (tick -ℤ pos 1) ++ fs) q
-    → WaitsFor (length d.config.endpoints) tick (handed_until d.config (antenna_for d) (landings_of d) tick) q
+pub queue_then : (d : Document) (tick : ℤ) (fs q : List LinkFrame) → IsDueAt d tick → fs ≡ handed_at d.config (antenna_for d) (landings_for AtRu d) tick
+    → WaitsFor (length d.config.endpoints) tick (handed_until d.config (antenna_for d) (landings_for AtRu d) (tick -ℤ pos 1) ++ fs) q
+    → WaitsFor (length d.config.endpoints) tick (handed_until d.config (antenna_for d) (landings_for AtRu d) tick) q
 queue_then d tick fs q due is waits =
     let c = d.config in
-    let earlier = handed_until c (antenna_for d) (landings_of d) (tick -ℤ pos 1) in
+    let earlier = handed_until c (antenna_for d) (landings_for AtRu d) (tick -ℤ pos 1) in
     subst (λ (hs : List LinkFrame). WaitsFor (length c.endpoints) tick hs q)
-    (ap (λ (xs : List LinkFrame). earlier ++ xs) is ∙ sym (handed_go_on c (antenna_for d) (landings_of d) tick due.begun)) waits
+    (ap (λ (xs : List LinkFrame). earlier ++ xs) is ∙ sym (handed_go_on c (antenna_for d) (landings_for AtRu d) tick due.begun)) waits
 
 -- ---- all of it
 
@@ -224,11 +226,11 @@ pub handed_same : {G : Type 0} (pre : G → RePlace → Type 0) (post : G → Re
 handed_same pre post d until old new h uplink outbox = record {
   kept = subst (λ (u : Uplink _). IsKept pre post u.antenna) (sym uplink) h.kept;
   tone = subst (λ (u : Uplink _). AnswersBy (post (closure_of u.antenna)) (antenna_for d)) (sym uplink) h.tone;
-  numbered = subst (λ (u : Uplink _). Numbered d.config u (onto [] (messages_until d.config (landings_of d) until))) (sym uplink) h.numbered;
-  none_handed = outbox ∙ h.none_handed;
+  numbered = subst (λ (u : Uplink _). Numbered d.config u (onto [] (messages_until d.config (landings_for AtRu d) until))) (sym uplink) h.numbered;
+  none_handed = ap (λ (o : Handed). o.frames) outbox ∙ h.none_handed;
 }
 
-pub frames_then : (d : Document) (tick : ℤ) (fs q r : List LinkFrame) (w : Way) → IsDueAt d tick → fs ≡ handed_at d.config (antenna_for d) (landings_of d) tick
+pub frames_then : (d : Document) (tick : ℤ) (fs q r : List LinkFrame) (w : Way) → IsDueAt d tick → fs ≡ handed_at d.config (antenna_for d) (landings_for AtRu d) tick
     → AwaitsFrames d (tick -ℤ pos 1) tick q w
-    → WaitsFor (length d.config.endpoints) tick (handed_until d.config (antenna_for d) (landings_of d) (tick -ℤ pos 1) ++ fs) r → AwaitsFrames d tick tick r w
+    → WaitsFor (length d.config.endpoints) tick (handed_until d.config (antenna_for d) (landings_for AtRu d) (tick -ℤ pos 1) ++ fs) r → AwaitsFrames d tick tick r w
 frames_then d tick fs q r w due is frames waits = record { waiting = queue_then d tick fs r due is waits; counts = frames.counts; on_way = frames.on_way }

@@ -1,32 +1,40 @@
 -- Frames that land at the distributed unit one after the other.
 use Rattle.std.proofs.Common.{◌≡◌, ℕ, ℤ, pos, ◌-ℤ◌, ◌≤ℤ◌, List, [], ◌∷◌, ◌++◌, refl, sym, ap, ◌∙◌, subst, append_assoc, append-nil}
-use Rattle.std.specs.Prelude.{map}
-use Rattle.std.proofs.lemmas.List.{map-append}
 use Rattle.std.proofs.lemmas.List.Elements.{All-cons}
-use Rattle.air_source.specs.declared.events.Event.{Event}
-use Rattle.air_source.specs.declared.events.Side.TheVariants.{Du as AtDu}
+use Rattle.send_queue.specs.air_source.specs.declared.events.AirCell.{AirCell}
+use Rattle.send_queue.specs.air_source.specs.declared.events.Event.{Event}
+use Rattle.send_queue.specs.air_source.specs.declared.events.Side.TheVariants.{Du as AtDu}
+use Rattle.radio_moments.specs.delay_exchange.specs.Meters.{HasDoings}
+use Rattle.radio_moments.specs.delay_exchange.specs.declared.unit.UnitMeter.{UnitMeter}
+use Rattle.delay_measure.specs.declared.edge.Edge.{Edge}
+use Rattle.radio_moments.specs.document_delays.specs.Settings.{compensation_of}
 use Rattle.du_intake.specs.Calls.{IsReportedBefore, MayTakeAt, StandsFor}
 use Rattle.du_intake.specs.declared.unit.Intake.{Intake}
 use Rattle.fh_time.specs.declared.values.Ticks.{Ticks}
-use Rattle.history_laws.specs.Arriving.{IsNextArrival}
-use Rattle.history_laws.proofs.ArrivingLemmas.{arrival_leaves_due}
-use Rattle.replay_events.specs.Events.{arrival_event}
-use Rattle.replay_events.proofs.CameLemmas.{in_time_later}
-use Rattle.replay_events.proofs.TickLemmas.{same_most}
-use Rattle.unit_model.specs.Lists.{onto}
-use Rattle.unit_model.specs.Meetings.{Arrival}
-use Rattle.unit_model.specs.Proper.{IsTime}
-use Rattle.unit_model.specs.Standing.{History, arrived, at_clock}
-use Rattle.unit_model.specs.declared.allocations.Allocation.{Allocation}
-use Rattle.window_config.specs.declared.config.Config.{Config}
-use Rattle.document_traffic.specs.Sending.{Leaving, SentCounts}
-use Rattle.fh_document.specs.declared.document.Document.{Document}
-use Rattle.frame_ways.specs.Flying.{arrival_at}
-use Rattle.frame_ways.specs.Landed.{bytes_of}
-use Rattle.frame_ways.specs.Ways.{IsLanded, IsOver, coming_at}
-use Rattle.frame_ways.specs.declared.landed.Landed.{Landed}
-use Rattle.frame_ways.specs.declared.way.Way.{Way}
-use Rattle.intake_moments.specs.Landing.{HaveLanded, StopsLanding, WaitsToLand, landed}
+use Rattle.du_intake.specs.history_laws.specs.Arriving.{IsNextArrival}
+use Rattle.du_intake.specs.history_laws.proofs.ArrivingLemmas.{arrival_leaves_due}
+use Rattle.radio_moments.specs.measured_traffic.specs.Doings.{Doings, results_of, with_frame, with_frames}
+use Rattle.radio_moments.proofs.StopLemmas.{halts_ahead, halts_behind, stops_ahead, stops_behind}
+use Rattle.radio_moments.specs.Stops.{HaltsBehind, StopsBehind}
+use Rattle.radio_moments.specs.replay_events.specs.Heard.{arrivals_heard, cells_heard}
+use Rattle.radio_moments.specs.replay_events.proofs.CameLemmas.{in_time_later}
+use Rattle.radio_moments.specs.replay_events.proofs.HeardLemmas.{arrivals-append, arrivals-own, cells-append, cells-arrivals}
+use Rattle.radio_moments.specs.replay_events.proofs.TickLemmas.{same_most}
+use Rattle.send_queue.specs.unit_model.specs.Lists.{onto}
+use Rattle.send_queue.specs.unit_model.specs.Meetings.{Arrival}
+use Rattle.send_queue.specs.unit_model.specs.Proper.{IsTime}
+use Rattle.send_queue.specs.unit_model.specs.Standing.{History, arrived, at_clock}
+use Rattle.send_queue.specs.unit_model.specs.declared.allocations.Allocation.{Allocation}
+use Rattle.send_queue.specs.window_config.specs.declared.config.Config.{Config}
+use Rattle.radio_moments.specs.document_traffic.specs.Sending.{Leaving, SentCounts}
+use Rattle.radio_moments.specs.fh_document.specs.declared.document.Document.{Document}
+use Rattle.radio_moments.specs.frame_ways.specs.Flying.{arrival_at}
+use Rattle.radio_moments.specs.frame_ways.specs.Landed.{bytes_of}
+use Rattle.radio_moments.specs.frame_ways.specs.Ways.{IsLanded, IsOver, coming_at}
+use Rattle.radio_moments.specs.frame_ways.specs.declared.landed.Landed.{Landed}
+use Rattle.radio_moments.specs.frame_ways.specs.declared.way.Way.{Way}
+use Rattle.intake_moments.specs.Landing.{HaveLanded, MayHear, WaitsToLand, frame_told, frames_told, landed}
+use Rattle.intake_moments.proofs.ToldLemmas.{frames_split, none_of_none, told_about, told_more}
 
 -- ---- one more
 
@@ -68,64 +76,27 @@ still_reported_before c planned u h tick frame stands order time none =
 -- ---- the frames so far
 
 -- those that are gone have landed, and the rest is to come
-pub record Lands {A : Type 0} (grew : A → List Event → A → Type 0) (d : Document) (tick : ℤ) (n : SentCounts) (left : List Leaving) (u v : Intake)
-    (old now : Way) (before after : A) : Type 0 where
+pub record Lands {A C : Type 0} (grew : A → List Event → A → Type 0) (pre : C → Edge → Type 0) (post : C → Edge → ℤ → Type 0) (d : Document) (tick : ℤ)
+    (n : SentCounts) (left : List Leaving) (x : Doings) (u v : Intake) (meter : UnitMeter C) (old now : Way) (before after : A) : Type 0 where
   pub gone : List Arrival
   pub parts : coming_at d tick old ≡ gone ++ coming_at d tick now
   pub waits : WaitsToLand d tick n left now
-  pub heard : grew before (map (arrival_event AtDu) gone) after
+  pub heard : grew before (frames_told d tick x gone) after
+  pub made : HasDoings pre post d AtDu (with_frames (compensation_of d AtDu) tick x gone) meter
   pub stands : (c : Config) (planned : List Allocation) (h : History) → StandsFor c planned u h → IsReportedBefore c planned h tick → StandsFor c planned v (landed v.clock.0 h gone)
   pub reported : (c : Config) (planned : List Allocation) (h : History) → StandsFor c planned u h → IsReportedBefore c planned h tick
       → IsReportedBefore c planned (landed v.clock.0 h gone) tick
 
-pub lands_none : {A : Type 0} (grew : A → List Event → A → Type 0) (d : Document) (tick : ℤ) (n : SentCounts) (left : List Leaving) (u : Intake) (w : Way) (a : A)
-    → WaitsToLand d tick n left w → grew a [] a → Lands grew d tick n left u u w w a a
-lands_none grew d tick n left u w a waits none = record {
-  gone = [];
-  parts = refl;
-  waits = waits;
-  heard = none;
-  stands = λ c planned h stands reported.
-      subst (λ (k : History). StandsFor c planned u k) (sym (landed_none u.clock.0 h stands.kept.clock_is)) stands;
-  reported = λ c planned h stands reported.
-      subst (λ (k : History). IsReportedBefore c planned k tick) (sym (landed_none u.clock.0 h stands.kept.clock_is)) reported;
-}
-
-next_parts : (whole gone : List Arrival) (x : Arrival) (before rest : List Arrival) → whole ≡ gone ++ before → before ≡ x ∷ rest → whole ≡ (gone ++ x ∷ []) ++ rest
-next_parts whole gone x before rest parts is = parts ∙ ap (λ (xs : List Arrival). gone ++ xs) is ∙ sym (append_assoc gone (x ∷ []) rest)
+-- where one comes, it is not before time 0
+pub comes_late : (d : Document) (tick : ℤ) (n : SentCounts) (left : List Leaving) (f : Landed) (before now : Way) → IsLanded d AtDu tick n left f before now
+    → ((a : Arrival) (more : List Arrival) → coming_at d tick before ≡ a ∷ more → pos 0 ≤ℤ tick) → pos 0 ≤ℤ tick
+comes_late d tick n left f before now next late = late (arrival_at tick (bytes_of f)) (coming_at d tick now) next.first
 
 -- a unit takes the next frame of a tick
 abbrev pub Takes : ℤ → List ℕ → Intake → Intake → Type 0
 Takes tick bytes u v =
     (c : Config) (planned : List Allocation) (h : History) → StandsFor c planned u h → IsReportedBefore c planned h tick
     → StandsFor c planned v (arrived (at_clock h tick) bytes)
-
-pub lands_next : {A : Type 0} (grew : A → List Event → A → Type 0)
-    (more : (a b c : A) (first second : List Event) → grew a first b → grew b second c → grew a (first ++ second) c)
-    (d : Document) (tick : Ticks) (n : SentCounts) (left : List Leaving) (f : Landed) (u v w : Intake) (old before now : Way) (a b e : A)
-    → v.clock.0 ≤ℤ tick.0 → IsTime tick.0 → w.clock ≡ tick → Lands grew d tick.0 n left u v old before a b → IsLanded d AtDu tick.0 n left f before now
-    → grew b (arrival_event AtDu (arrival_at tick.0 (bytes_of f)) ∷ []) e → Takes tick.0 (bytes_of f) v w
-    → Lands grew d tick.0 n left u w old now a e
-lands_next grew more d tick n left f u v w old before now a b e order time clock lands next one takes =
-    let bytes = bytes_of f in
-    let x = arrival_at tick.0 bytes in
-    let gone = lands.gone in
-    let first = map (arrival_event AtDu) gone in
-    let then : (h : History) → arrived (at_clock (landed v.clock.0 h gone) tick.0) bytes ≡ landed w.clock.0 h (gone ++ x ∷ []) =
-    λ h. landed_next v.clock.0 tick.0 h gone bytes ∙ ap (λ (t : Ticks). landed t.0 h (gone ++ x ∷ [])) (sym clock) in
-    record {
-      gone = gone ++ x ∷ [];
-      parts = next_parts (coming_at d tick.0 old) gone x (coming_at d tick.0 before) (coming_at d tick.0 now) lands.parts next.first;
-      waits = next.waits;
-      heard = subst (λ (es : List Event). grew a es e) (sym (map-append (arrival_event AtDu) gone (x ∷ [])))
-          (more a b e first (arrival_event AtDu x ∷ []) lands.heard one);
-      stands = λ c planned h stands reported.
-          subst (λ (k : History). StandsFor c planned w k) (then h)
-          (takes c planned (landed v.clock.0 h gone) (lands.stands c planned h stands reported) (lands.reported c planned h stands reported));
-      reported = λ c planned h stands reported.
-          subst (λ (k : History). IsReportedBefore c planned k tick.0) (then h)
-          (still_reported_before c planned v (landed v.clock.0 h gone) tick.0 bytes (lands.stands c planned h stands reported) order time (lands.reported c planned h stands reported));
-    }
 
 -- one that may take a frame may take the next
 pub takes_next : (u v : Intake) (tick : ℤ) (bytes : List ℕ) → (may : MayTakeAt tick u) → u.clock.0 ≤ℤ tick → IsTime tick → Takes tick bytes u v → MayTakeAt tick v
@@ -137,31 +108,117 @@ takes_next u v tick bytes may order time takes = record {
   reported = still_reported_before may.config may.planned u may.history tick bytes may.stands order time may.reported;
 }
 
--- all have landed
-pub all_landed : {A : Type 0} (grew : A → List Event → A → Type 0) (d : Document) (tick : ℤ) (n : SentCounts) (left : List Leaving) (u v : Intake)
-    (old before now : Way) (a b : A) → Lands grew d tick n left u v old before a b → IsOver d AtDu tick n left before now
-    → HaveLanded grew d tick n left u v old now a b
-all_landed grew d tick n left u v old before now a b lands over =
-    let all : lands.gone ≡ coming_at d tick old =
-    sym (lands.parts ∙ ap (λ (xs : List Arrival). lands.gone ++ xs) over.none ∙ append-nil lands.gone) in
-    record {
-      heard = subst (λ (xs : List Arrival). grew a (map (arrival_event AtDu) xs) b) all lands.heard;
-      stands = λ c planned h stands reported.
-          subst (λ (xs : List Arrival). StandsFor c planned v (landed v.clock.0 h xs)) all (lands.stands c planned h stands reported);
-      waits = over.waits;
-    }
+next_parts : (whole gone : List Arrival) (x : Arrival) (before rest : List Arrival) → whole ≡ gone ++ before → before ≡ x ∷ rest → whole ≡ (gone ++ x ∷ []) ++ rest
+next_parts whole gone x before rest parts is = parts ∙ ap (λ (xs : List Arrival). gone ++ xs) is ∙ sym (append_assoc gone (x ∷ []) rest)
 
-pub stops_here : {A : Type 0} (grew : A → List Event → A → Type 0) (stopped : A → Event → A → Type 0) (d : Document) (tick : ℤ) (n : SentCounts) (left : List Leaving)
-    (f : Landed) (u v : Intake) (old before now : Way) (a b e : A) (c : Config) (planned : List Allocation) (h : History)
-    → Lands grew d tick n left u v old before a b → IsLanded d AtDu tick n left f before now → stopped b (arrival_event AtDu (arrival_at tick (bytes_of f))) e
-    → StandsFor c planned u h → IsReportedBefore c planned h tick → StopsLanding grew stopped c planned h (coming_at d tick old) v a e
-stops_here grew stopped d tick n left f u v old before now a b e c planned h lands next stop stands reported = record {
-  told = lands.gone;
-  one = arrival_at tick (bytes_of f);
-  rest = coming_at d tick now;
-  is = lands.parts ∙ ap (λ (xs : List Arrival). lands.gone ++ xs) next.first;
-  stands = lands.stands c planned h stands reported;
-  middle = b;
-  heard = lands.heard;
-  stop = stop;
-}
+-- what the meter has once these have landed
+abbrev pub has_behind : Document → ℤ → Doings → List Arrival → Doings
+has_behind d tick x gone = with_frames (compensation_of d AtDu) tick x gone
+
+module _ {A C : Type 0} (grew : A → List Event → A → Type 0) (pre : C → Edge → Type 0) (post : C → Edge → ℤ → Type 0) (d : Document) (tick : Ticks)
+    (n : SentCounts) (left : List Leaving) (x : Doings) where
+  pub lands_none : (u : Intake) (meter : UnitMeter C) (w : Way) (a : A) → WaitsToLand d tick.0 n left w → grew a [] a → HasDoings pre post d AtDu x meter
+      → Lands grew pre post d tick.0 n left x u u meter w w a a
+  lands_none u meter w a waits none made = record {
+    gone = [];
+    parts = refl;
+    waits = waits;
+    heard = subst (λ (es : List Event). grew a es a) (sym (none_of_none d tick.0 x)) none;
+    made = made;
+    stands = λ c planned h stands reported.
+        subst (λ (k : History). StandsFor c planned u k) (sym (landed_none u.clock.0 h stands.kept.clock_is)) stands;
+    reported = λ c planned h stands reported.
+        subst (λ (k : History). IsReportedBefore c planned k tick.0) (sym (landed_none u.clock.0 h stands.kept.clock_is)) reported;
+  }
+
+  module _ (more : (a b c : A) (first second : List Event) → grew a first b → grew b second c → grew a (first ++ second) c) (f : Landed) (u v : Intake)
+      (meter : UnitMeter C) (old before now : Way) (a b : A) (so_far : Lands grew pre post d tick.0 n left x u v meter old before a b)
+      (next : IsLanded d AtDu tick.0 n left f before now) where
+    abbrev bytes : List ℕ
+    bytes = bytes_of f
+
+    abbrev gone : List Arrival
+    gone = so_far.gone
+
+    abbrev one : List Event
+    one = frame_told d tick.0 (has_behind d tick.0 x gone) bytes
+
+    -- one more has landed
+    pub lands_next : (w : Intake) (meter_then : UnitMeter C) (e : A) → v.clock.0 ≤ℤ tick.0 → IsTime tick.0 → w.clock ≡ tick → grew b one e
+        → HasDoings pre post d AtDu (with_frame (compensation_of d AtDu) tick.0 (has_behind d tick.0 x gone) bytes) meter_then → Takes tick.0 bytes v w
+        → Lands grew pre post d tick.0 n left x u w meter_then old now a e
+    lands_next w meter_then e order time clock heard made takes =
+        let y = arrival_at tick.0 bytes in
+        let then : (h : History) → arrived (at_clock (landed v.clock.0 h gone) tick.0) bytes ≡ landed w.clock.0 h (gone ++ y ∷ []) =
+        λ h. landed_next v.clock.0 tick.0 h gone bytes ∙ ap (λ (t : Ticks). landed t.0 h (gone ++ y ∷ [])) (sym clock) in
+        record {
+          gone = gone ++ y ∷ [];
+          parts = next_parts (coming_at d tick.0 old) gone y (coming_at d tick.0 before) (coming_at d tick.0 now) so_far.parts next.first;
+          waits = next.waits;
+          heard = subst (λ (es : List Event). grew a es e) (sym (told_more d tick.0 x gone bytes)) (more a b e (frames_told d tick.0 x gone) one so_far.heard heard);
+          made = subst (λ (z : Doings). HasDoings pre post d AtDu z meter_then) (sym (frames_split (compensation_of d AtDu) tick.0 x gone (y ∷ []))) made;
+          stands = λ c planned h stands reported.
+              subst (λ (k : History). StandsFor c planned w k) (then h)
+              (takes c planned (landed v.clock.0 h gone) (so_far.stands c planned h stands reported) (so_far.reported c planned h stands reported));
+          reported = λ c planned h stands reported.
+              subst (λ (k : History). IsReportedBefore c planned k tick.0) (then h)
+              (still_reported_before c planned v (landed v.clock.0 h gone) tick.0 bytes (so_far.stands c planned h stands reported) order time (so_far.reported c planned h stands reported));
+        }
+
+    -- ---- where it was told only in part
+
+    -- all that is told of the tick's frames, at this one
+    told_here : frames_told d tick.0 x (coming_at d tick.0 old)
+        ≡ frames_told d tick.0 x gone ++ (one ++ frames_told d tick.0 (with_frame (compensation_of d AtDu) tick.0 (has_behind d tick.0 x gone) bytes) (coming_at d tick.0 now))
+    told_here =
+        ap (frames_told d tick.0 x) (so_far.parts ∙ ap (λ (xs : List Arrival). gone ++ xs) next.first)
+        ∙ told_about d tick.0 x gone bytes (coming_at d tick.0 now)
+
+    abbrev ahead : List Event
+    ahead = frames_told d tick.0 (with_frame (compensation_of d AtDu) tick.0 (has_behind d tick.0 x gone) bytes) (coming_at d tick.0 now)
+
+    pub stops_next : (stopped : A → Event → A → Type 0) (step : List Event → Type 0) (told : List Event) (e : A)
+        → StopsBehind grew stopped step (told ++ frames_told d tick.0 x gone) one b e → StopsBehind grew stopped step told (frames_told d tick.0 x (coming_at d tick.0 old)) a e
+    stops_next stopped step told e s =
+        let first = frames_told d tick.0 x gone in
+        subst (λ (es : List Event). StopsBehind grew stopped step told es a e) (sym told_here)
+        (stops_behind grew stopped more step told first (one ++ ahead) a b e so_far.heard (stops_ahead grew stopped step (told ++ first) one ahead b e s))
+
+    pub halts_next : (stopped : A → Event → A → Type 0) (step : List Event → Type 0) (told : List Event) (e : A)
+        → HaltsBehind grew stopped step (told ++ frames_told d tick.0 x gone) one b e → HaltsBehind grew stopped step told (frames_told d tick.0 x (coming_at d tick.0 old)) a e
+    halts_next stopped step told e s =
+        let first = frames_told d tick.0 x gone in
+        subst (λ (es : List Event). HaltsBehind grew stopped step told es a e) (sym told_here)
+        (halts_behind grew stopped more step told first (one ++ ahead) a b e so_far.heard (halts_ahead grew stopped step (told ++ first) one ahead b e s))
+
+  -- once some have landed it is in step with them too
+  pub hears_on : (u v : Intake) (meter : UnitMeter C) (old now : Way) (a b : A) (told : List Event) → (so_far : Lands grew pre post d tick.0 n left x u v meter old now a b)
+      → MayHear d told tick.0 u → MayHear d (told ++ frames_told d tick.0 x so_far.gone) tick.0 v
+  hears_on u v meter old now a b told so_far m =
+      let xs = so_far.gone in
+      let results = results_of (compensation_of d AtDu) tick.0 x xs in
+      record {
+        history = landed v.clock.0 m.history xs;
+        stands = so_far.stands d.config _ m.history m.stands m.quiet;
+        arrivals =
+            ap (λ (earlier : List Arrival). onto earlier xs) m.arrivals
+            ∙ sym (arrivals-append AtDu [] told (frames_told d tick.0 x xs) ∙ arrivals-own AtDu (arrivals_heard AtDu [] told) results xs);
+        reported =
+            m.reported
+            ∙ sym (cells-append AtDu told (frames_told d tick.0 x xs) ∙ ap (λ (cs : List AirCell). cells_heard AtDu told ++ cs) (cells-arrivals AtDu AtDu results xs) ∙ append-nil (cells_heard AtDu told));
+        quiet = so_far.reported d.config _ m.history m.stands m.quiet;
+      }
+
+  -- all have landed
+  pub all_landed : (u v : Intake) (meter : UnitMeter C) (old before now : Way) (a b : A) → Lands grew pre post d tick.0 n left x u v meter old before a b
+      → IsOver d AtDu tick.0 n left before now → HaveLanded grew pre post d tick.0 n left x u v meter old now a b
+  all_landed u v meter old before now a b so_far over =
+      let all : so_far.gone ≡ coming_at d tick.0 old =
+      sym (so_far.parts ∙ ap (λ (xs : List Arrival). so_far.gone ++ xs) over.none ∙ append-nil so_far.gone) in
+      record {
+        heard = subst (λ (xs : List Arrival). grew a (frames_told d tick.0 x xs) b) all so_far.heard;
+        stands = λ c planned h stands reported.
+            subst (λ (xs : List Arrival). StandsFor c planned v (landed v.clock.0 h xs)) all (so_far.stands c planned h stands reported);
+        made = subst (λ (xs : List Arrival). HasDoings pre post d AtDu (has_behind d tick.0 x xs) meter) all so_far.made;
+        waits = over.waits;
+      }

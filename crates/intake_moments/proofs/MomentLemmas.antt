@@ -1,44 +1,49 @@
 -- The distributed unit's part of one moment.
 use Rattle.std.proofs.Common.{◌≡◌, ℤ, pos, ◌+ℤ◌, ◌≤ℤ◌, List, ◌++◌, length, map, refl, sym, ap, ◌∙◌, subst, arith}
 use Rattle.std.proofs.lemmas.Int.{ints}
-use Rattle.air_source.specs.declared.events.AirCell.{AirCell}
-use Rattle.air_source.specs.declared.events.Event.{Event}
-use Rattle.air_source.specs.declared.events.Event.TheVariants.{Cell}
-use Rattle.air_source.specs.declared.events.Side.TheVariants.{Du}
-use Rattle.air_source.specs.declared.links.LinkFrame.{LinkFrame}
-use Rattle.air_source.specs.declared.places.RePlace.{RePlace}
+use Rattle.send_queue.specs.air_source.specs.declared.events.AirCell.{AirCell}
+use Rattle.send_queue.specs.air_source.specs.declared.events.Event.{Event}
+use Rattle.send_queue.specs.air_source.specs.declared.events.Event.TheVariants.{Cell}
+use Rattle.send_queue.specs.air_source.specs.declared.events.Side.TheVariants.{Du}
+use Rattle.send_queue.specs.air_source.specs.declared.links.LinkFrame.{LinkFrame}
+use Rattle.send_queue.specs.air_source.specs.declared.places.RePlace.{RePlace}
 use Rattle.bfp_codec.specs.declared.samples.Wide.{Wide}
-use Rattle.document_traffic.specs.Landing.{answers_of, leaving_answer, traffic_of}
-use Rattle.document_traffic.specs.Laws.{IsReplayable}
-use Rattle.document_traffic.specs.Sending.{Leaving, SentCounts}
+use Rattle.radio_moments.specs.delay_exchange.specs.Meters.{HasDoings}
+use Rattle.radio_moments.specs.delay_exchange.specs.declared.unit.UnitMeter.{UnitMeter}
+use Rattle.delay_measure.specs.declared.edge.Edge.{Edge}
+use Rattle.radio_moments.specs.document_delays.specs.Settings.{compensation_of}
+use Rattle.radio_moments.specs.document_traffic.specs.Laws.{IsReplayable}
+use Rattle.radio_moments.specs.document_traffic.specs.Sending.{Leaving, SentCounts}
 use Rattle.du_intake.specs.Calls.{MayTakeAt, StandsFor}
 use Rattle.du_intake.specs.Closing.{StandsForSome}
 use Rattle.du_intake.specs.Units.{due_of}
 use Rattle.du_intake.specs.declared.unit.Intake.{Intake}
-use Rattle.fh_document.specs.declared.document.Document.{Document}
-use Rattle.frame_ways.specs.Ways.{Waits, coming_at}
-use Rattle.frame_ways.specs.declared.way.Way.{Way}
+use Rattle.radio_moments.specs.fh_document.specs.declared.document.Document.{Document}
+use Rattle.radio_moments.specs.frame_ways.specs.Ways.{Waits, coming_at}
+use Rattle.radio_moments.specs.frame_ways.specs.declared.way.Way.{Way}
+use Rattle.radio_moments.specs.measured_traffic.specs.Doings.{with_frames}
+use Rattle.radio_moments.specs.measured_traffic.specs.Replayed.{landings_for, made_at, traffic_of}
 use Rattle.radio_moments.specs.Turns.{intake_events}
-use Rattle.replay_events.specs.Events.{arrival_event, cells_at}
-use Rattle.replay_events.specs.Moments.{end_of_time, landing_at}
-use Rattle.replay_events.proofs.TickLemmas.{last_of_next, next_most, same_most}
+use Rattle.radio_moments.specs.replay_events.specs.Events.{arrivals_at, cells_at}
+use Rattle.radio_moments.specs.replay_events.specs.Moments.{end_of_time, landing_at}
+use Rattle.radio_moments.specs.replay_events.proofs.TickLemmas.{next_most, same_most}
 use Rattle.send_queue.specs.Queues.{WaitsFor}
-use Rattle.unit_laws.proofs.DueLemmas.{due_once}
-use Rattle.unit_model.specs.Lists.{onto}
-use Rattle.unit_model.specs.Meetings.{Arrival}
-use Rattle.unit_model.specs.Proper.{IsTime}
-use Rattle.unit_model.specs.Radiated.{first_clock}
-use Rattle.unit_model.specs.Reports.{du_known}
-use Rattle.unit_model.specs.Standing.{History, at_clock, heard}
+use Rattle.du_intake.specs.unit_laws.proofs.DueLemmas.{due_once}
+use Rattle.send_queue.specs.unit_model.specs.Lists.{onto}
+use Rattle.send_queue.specs.unit_model.specs.Meetings.{Arrival}
+use Rattle.send_queue.specs.unit_model.specs.Proper.{IsTime}
+use Rattle.send_queue.specs.unit_model.specs.Radiated.{first_clock}
+use Rattle.send_queue.specs.unit_model.specs.Reports.{du_known}
+use Rattle.send_queue.specs.unit_model.specs.Standing.{History, at_clock, heard}
 use Rattle.intake_moments.specs.Answering.{IsDueAt}
-use Rattle.intake_moments.specs.Answers.{HasAnswered, HasHanded, HasReleased, WaitsUp}
+use Rattle.intake_moments.specs.Answers.{HasAnswered, HasLandedUp, HasReleased}
 use Rattle.intake_moments.specs.Landing.{HaveLanded, landed}
 use Rattle.intake_moments.specs.Turns.{AtIntakeTurn, planned_for}
 use Rattle.intake_moments.specs.declared.answers.Answers.{Answers}
 use Rattle.intake_moments.proofs.AnswerLemmas.{handed_same}
-use Rattle.intake_moments.proofs.ReleaseLemmas.{handed_by, left_for}
-use Rattle.intake_moments.proofs.StopLemmas.{HasLanded, cells_then}
-use Rattle.intake_moments.proofs.TurnLemmas.{after, intake_is}
+use Rattle.intake_moments.proofs.LeaveLemmas.{handed_by, left_at_end}
+use Rattle.intake_moments.proofs.StopLemmas.{HasLanded, cells_then, told_then}
+use Rattle.intake_moments.proofs.TurnLemmas.{after, begun_at}
 
 pub is_time : (tick : ℤ) → first_clock ≤ℤ tick → tick ≤ℤ end_of_time → IsTime tick
 is_time tick low high = record { low = omega (arith, ints, low, high); high = omega (arith, ints, low, high) }
@@ -56,15 +61,17 @@ may_take d tick u a = record { config = d.config; planned = planned_for d; histo
 pub record HasCome {A : Type 0} (grew : A → List Event → A → Type 0) (d : Document) (tick : ℤ) (h k : History) (v : Intake) (before after : A) : Type 0 where
   pub landed_is : HasLanded d tick h k
   pub stands : StandsFor d.config (planned_for d) v k
-  pub heard_is : grew before (map (arrival_event Du) (landing_at (answers_of d) tick)) after
+  pub heard_is : grew before (arrivals_at Du (traffic_of d) tick) after
 
-pub has_come : {A : Type 0} (grew : A → List Event → A → Type 0) (d : Document) (tick : ℤ) (n : SentCounts) (left : List Leaving) (u v : Intake) (old new : Way) (before after : A)
-    → IsReplayable d → (a : AtIntakeTurn d tick u) → tick ≤ℤ end_of_time → coming_at d tick old ≡ landing_at (answers_of d) tick
-    → HaveLanded grew d tick n left u v old new before after → HasCome grew d tick a.history (landed v.clock.0 a.history (coming_at d tick old)) v before after
-has_come grew d tick n left u v old new before after doc a ended lands all = record {
+pub has_come : {A C : Type 0} (grew : A → List Event → A → Type 0) (pre : C → Edge → Type 0) (post : C → Edge → ℤ → Type 0) (d : Document) (tick : ℤ) (n : SentCounts)
+    (left : List Leaving) (u v : Intake) (meter : UnitMeter C) (old new : Way) (before after : A)
+    → IsReplayable d → (a : AtIntakeTurn d tick u) → tick ≤ℤ end_of_time → coming_at d tick old ≡ landing_at (landings_for Du d) tick
+    → HaveLanded grew pre post d tick n left (begun_at d tick) u v meter old new before after
+    → HasCome grew d tick a.history (landed v.clock.0 a.history (coming_at d tick old)) v before after
+has_come grew pre post d tick n left u v meter old new before after doc a ended lands all = record {
   landed_is = record { replayable = doc; turn = a.turn; ended = ended; came = ap (onto a.history.arrivals) lands; told = refl };
   stands = all.stands d.config (planned_for d) a.history a.stands a.turn.quiet;
-  heard_is = subst (λ (xs : List Arrival). grew before (map (arrival_event Du) xs) after) lands all.heard;
+  heard_is = subst (λ (es : List Event). grew before es after) (told_then d tick (coming_at d tick old) lands) all.heard;
 }
 
 pub stands_some : {A : Type 0} (grew : A → List Event → A → Type 0) (d : Document) (tick : ℤ) (h k : History) (v : Intake) (before after : A)
@@ -77,10 +84,15 @@ pub heard_all : {A : Type 0} (grew : A → List Event → A → Type 0)
     (d : Document) (tick : ℤ) (h k : History) (v : Intake) (a b e : A) → HasCome grew d tick h k v a b
     → grew b (map Cell (due_of d.config (planned_for d) k tick)) e → grew a (intake_events d tick) e
 heard_all grew more d tick h k v a b e come second =
-    let arrivals = map (arrival_event Du) (landing_at (answers_of d) tick) in
-    subst (λ (es : List Event). grew a es e) (sym (intake_is d tick))
-    (more a b e arrivals (map Cell (cells_at Du d.config (traffic_of d) tick)) come.heard_is
-    (subst (λ (cs : List AirCell). grew b (map Cell cs) e) (cells_then d tick h k come.landed_is) second))
+    more a b e (arrivals_at Du (traffic_of d) tick) (map Cell (cells_at Du d.config (traffic_of d) tick)) come.heard_is
+    (subst (λ (cs : List AirCell). grew b (map Cell cs) e) (cells_then d tick h k come.landed_is) second)
+
+-- the meter was told of all of it
+pub made_then : {C : Type 0} (pre : C → Edge → Type 0) (post : C → Edge → ℤ → Type 0) (d : Document) (tick : ℤ) (xs : List Arrival) (meter : UnitMeter C)
+    → xs ≡ landing_at (landings_for Du d) tick → HasDoings pre post d Du (with_frames (compensation_of d Du) tick (begun_at d tick) xs) meter
+    → HasDoings pre post d Du (made_at d Du tick) meter
+made_then pre post d tick xs meter lands made =
+    subst (λ (ys : List Arrival). HasDoings pre post d Du (with_frames (compensation_of d Du) tick (begun_at d tick) ys) meter) lands made
 
 -- the intake stands at the start of the next tick
 pub turn_then : (d : Document) (tick : ℤ) (h k : History) (u : Intake) → HasLanded d tick h k
@@ -100,18 +112,12 @@ turn_then d tick h k u l stands =
 
 -- ---- what is to come then
 
-pub waits_then : {G : Type 0} (pre : G → RePlace → Type 0) (post : G → RePlace → Wide → Type 0) (d : Document) (tick : ℤ) (old new : Answers G) (q : List LinkFrame) (w : Way)
+pub lands_then : {G : Type 0} (pre : G → RePlace → Type 0) (post : G → RePlace → Wide → Type 0) (d : Document) (tick : ℤ) (old new : Answers G) (q : List LinkFrame) (w : Way)
     → HasAnswered pre post d tick old → (r : HasReleased d tick q w) → new.uplink ≡ old.uplink → new.outbox ≡ old.outbox → new.queue ≡ q
-    → Waits d Du (tick +ℤ pos 1) (tick +ℤ pos 1) r.counts (map leaving_answer (left_for d (tick +ℤ pos 1))) new.way → WaitsUp pre post d (tick +ℤ pos 1) new
-waits_then pre post d tick old new q w answered r uplink outbox queue way =
-    let last = sym (last_of_next tick) in
-    let n = length d.config.endpoints in
-    record {
-      handed = subst (λ (t : ℤ). HasHanded pre post d t new) last (handed_same pre post d tick old new answered.handed uplink outbox);
-      frames = record {
-        waiting = subst (λ (t : ℤ). WaitsFor n (tick +ℤ pos 1) (handed_by d t) new.queue) last
-            (subst (λ (xs : List LinkFrame). WaitsFor n (tick +ℤ pos 1) (handed_by d tick) xs) (sym queue) r.waiting);
-        counts = r.counts;
-        on_way = way;
-      };
-    }
+    → Waits d Du (tick +ℤ pos 1) (tick +ℤ pos 1) r.counts (left_at_end d tick) new.way → HasLandedUp pre post d tick new
+lands_then pre post d tick old new q w answered r uplink outbox queue way = record {
+  handed = handed_same pre post d tick old new answered.handed uplink outbox;
+  waiting = subst (λ (xs : List LinkFrame). WaitsFor (length d.config.endpoints) (tick +ℤ pos 1) (handed_by d tick) xs) (sym queue) r.waiting;
+  counts = r.counts;
+  on_way = way;
+}

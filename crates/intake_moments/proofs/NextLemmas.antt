@@ -1,52 +1,66 @@
 -- From one tick to the next moment: what callers need of the distributed unit and of what comes to it.
 use Rattle.std.proofs.Common.{◌≡◌, ℤ, pos, ◌+ℤ◌, ◌-ℤ◌, ◌≤ℤ◌, ◌<ℤ◌, Bool, true, false, List, [], ◌∷◌, ◌++◌, length, refl, sym, ap, ◌∙◌, subst, arith}
-use Rattle.std.specs.Prelude.{cond, map}
+use Rattle.std.specs.Prelude.{All, cond, map}
 use Rattle.std.specs.Ordering.{int_eq}
 use Rattle.std.proofs.lemmas.Bool.Decides.{Decides-int_eq}
 use Rattle.std.proofs.lemmas.Int.{ints}
-use Rattle.std.proofs.lemmas.List.Elements.{All-head, All-tail, All-weaker}
-use Rattle.air_source.specs.declared.events.Event.{Event}
-use Rattle.air_source.specs.declared.events.Side.TheVariants.{Ru as AtRu, Du as AtDu}
-use Rattle.air_source.specs.declared.links.LinkFrame.{LinkFrame}
-use Rattle.air_source.specs.declared.places.RePlace.{RePlace}
+use Rattle.std.proofs.lemmas.List.Elements.{All-head, All-map, All-tail, All-weaker}
+use Rattle.send_queue.specs.air_source.specs.declared.events.Event.{Event}
+use Rattle.send_queue.specs.air_source.specs.declared.events.Side.{Side}
+use Rattle.send_queue.specs.air_source.specs.declared.events.Side.TheVariants.{Ru as AtRu, Du as AtDu}
+use Rattle.send_queue.specs.air_source.specs.declared.links.LinkFrame.{LinkFrame}
+use Rattle.send_queue.specs.air_source.specs.declared.places.RePlace.{RePlace}
 use Rattle.bfp_codec.specs.declared.samples.Wide.{Wide}
-use Rattle.document_traffic.specs.Landing.{answers_of, antenna_for, landings_of, leaving_answer, traffic_of}
-use Rattle.document_traffic.specs.Laws.{IsReplayable}
-use Rattle.document_traffic.proofs.LandingLemmas.{are_replayed}
+use Rattle.radio_moments.specs.document_traffic.specs.Landing.{antenna_for, leaving_answer}
+use Rattle.radio_moments.specs.document_traffic.specs.Laws.{IsReplayable}
+use Rattle.radio_moments.specs.document_traffic.specs.Sending.{Leaving, SentCounts, leaving_of}
 use Rattle.du_intake.specs.Calls.{StandsFor}
 use Rattle.du_intake.specs.Units.{due_of}
 use Rattle.du_intake.specs.declared.unit.Intake.{Intake}
-use Rattle.fh_document.specs.declared.document.Document.{Document}
-use Rattle.frame_ways.specs.Ways.{Waits}
-use Rattle.frame_ways.proofs.LandLemmas.{flying_less, from_less}
-use Rattle.frame_ways.proofs.WayLemmas.{calm_until}
+use Rattle.radio_moments.specs.fh_document.specs.declared.document.Document.{Document}
+use Rattle.radio_moments.specs.frame_ways.specs.Ways.{IsEmptyTo, Waits}
+use Rattle.radio_moments.specs.frame_ways.specs.declared.way.Way.{Way}
+use Rattle.radio_moments.specs.frame_ways.proofs.LandLemmas.{flying_less, from_less}
+use Rattle.radio_moments.specs.frame_ways.proofs.QuietLemmas.{AreSilent, quiet_until}
+use Rattle.radio_moments.specs.frame_ways.proofs.WayLemmas.{empty_less, waits_until}
+use Rattle.radio_moments.specs.measured_traffic.specs.Measured.{exchanges}
+use Rattle.radio_moments.specs.measured_traffic.specs.Replayed.{begins_at, landings_for, leaving_with, traffic_of}
+use Rattle.radio_moments.specs.measured_traffic.specs.Turns.{IsQuietBetween}
+use Rattle.radio_moments.specs.measured_traffic.proofs.LeaveLemmas.{leaving_waits}
+use Rattle.radio_moments.specs.measured_traffic.proofs.ReplayedLemmas.{landings_are_replayed}
+use Rattle.radio_moments.specs.measured_traffic.proofs.TurnLemmas.{flights_wait}
+use Rattle.radio_moments.proofs.OrderLemmas.{sent_less}
 use Rattle.radio_moments.proofs.StepLemmas.{AreEventsOf, arrivals_stay, cells_stay, events_front, radio_own}
+use Rattle.radio_moments.proofs.TurnLemmas.{quiet_less}
+use Rattle.radio_moments.specs.Downlink.{IsCalmTo, WaitsDown}
 use Rattle.radio_moments.specs.Turns.{AtRadioTurn, events_before, radio_events}
-use Rattle.replay_events.specs.Moments.{all_arrivals, end_of_time}
-use Rattle.replay_events.specs.Passing.{IsCalm, IsNextMoment, IsUnitMoment}
-use Rattle.replay_events.proofs.CameLemmas.{calm_adds_nothing}
-use Rattle.replay_events.proofs.TickLemmas.{at_most, below_all, last_is_earlier, last_of_next, last_reached, next_after, same_most}
-use Rattle.ru_buffers.specs.Calls.{given_of}
-use Rattle.ru_buffers.specs.declared.unit.Ru.{Ru}
+use Rattle.radio_moments.specs.declared.downlink.Downlink.{Downlink}
+use Rattle.radio_moments.specs.replay_events.specs.Moments.{all_arrivals, end_of_time}
+use Rattle.radio_moments.specs.replay_events.specs.Passing.{IsCalm, IsNextMoment, IsUnitMoment}
+use Rattle.radio_moments.specs.replay_events.proofs.CameLemmas.{calm_adds_nothing}
+use Rattle.radio_moments.specs.replay_events.proofs.TickLemmas.{at_most, below_all, between, last_is_earlier, last_of_next, last_reached, next_after, next_is_later, same_most, weak}
+use Rattle.du_intake.specs.ru_buffers.specs.Calls.{IsQuietTo}
+use Rattle.du_intake.specs.ru_buffers.specs.declared.unit.Ru.{Ru}
 use Rattle.send_queue.specs.Queues.{IsSilentTo, WaitsFor, waiting_at}
 use Rattle.send_queue.proofs.QueueLemmas.{waits_on as queue_waits_on}
-use Rattle.unit_model.specs.Lists.{onto}
-use Rattle.unit_model.specs.Radiated.{first_clock}
-use Rattle.unit_model.specs.Reports.{du_reported}
-use Rattle.unit_model.specs.Standing.{History, nothing_yet}
-use Rattle.unit_model.specs.declared.jobs.UplinkJob.{UplinkJob}
-use Rattle.uplink_model.specs.Sent.{leaves_at}
+use Rattle.send_queue.specs.unit_model.specs.Lists.{onto}
+use Rattle.send_queue.specs.unit_model.specs.Radiated.{first_clock}
+use Rattle.send_queue.specs.unit_model.specs.Reports.{du_reported}
+use Rattle.send_queue.specs.unit_model.specs.Standing.{History, nothing_yet}
+use Rattle.send_queue.specs.unit_model.specs.declared.jobs.UplinkJob.{UplinkJob}
+use Rattle.send_queue.specs.uplink_model.specs.Frames.{frames_behind}
+use Rattle.send_queue.specs.uplink_model.specs.Messages.{messages_of}
+use Rattle.send_queue.specs.uplink_model.specs.Sent.{leaves_at}
 use Rattle.uplink_path.specs.Emitting.{Numbered}
-use Rattle.uplink_turns.specs.Given.{HasSeen}
-use Rattle.uplink_turns.specs.Turns.{jobs_until, leaving_of_handed}
-use Rattle.uplink_turns.proofs.GivenLemmas.{owes_none}
-use Rattle.uplink_turns.proofs.LeavingLemmas.{left_leave_later, left_waits}
-use Rattle.uplink_model.specs.Frames.{frames_behind}
-use Rattle.uplink_model.specs.Messages.{messages_of}
+use Rattle.radio_moments.specs.uplink_turns.specs.Given.{HasSeen}
+use Rattle.radio_moments.specs.uplink_turns.specs.Turns.{jobs_until, leaving_of_handed}
+use Rattle.radio_moments.specs.uplink_turns.proofs.GivenLemmas.{owes_none}
+use Rattle.radio_moments.specs.uplink_turns.proofs.LeavingLemmas.{left_leave_later, left_waits}
 use Rattle.intake_moments.specs.Answers.{AreSilentTo, WaitsUp}
 use Rattle.intake_moments.specs.Turns.{AtIntakeTurn, IsIntakeInStep, planned_for}
 use Rattle.intake_moments.specs.declared.answers.Answers.{Answers}
-use Rattle.intake_moments.proofs.ReleaseLemmas.{answers_later, handed_by, left_for}
+use Rattle.intake_moments.proofs.LeaveLemmas.{answers_left, handed_by, left_for}
+use Rattle.intake_moments.proofs.ReleaseLemmas.{answers_later}
 use Rattle.intake_moments.proofs.TurnLemmas.{due_less, skip, start, unit_waits}
 
 -- ---- the start
@@ -65,6 +79,12 @@ intake_begins d u stands = record {
 last_before : (a b : ℤ) → a <ℤ b → a ≤ℤ (b -ℤ pos 1)
 last_before a b h = omega (arith, ints)
 
+last_less : (a b : ℤ) → a ≤ℤ b → (a -ℤ pos 1) ≤ℤ (b -ℤ pos 1)
+last_less a b h = omega (arith, ints)
+
+not_before : (a b : ℤ) → a ≤ℤ b → b <ℤ a → ⊥
+not_before a b low high = omega (arith, ints, low, high)
+
 -- before it nothing is due at the intake
 pub none_due_before : (d : Document) (now to : ℤ) (u : Intake) → (a : AtIntakeTurn d now u) → to <ℤ now → due_of d.config (planned_for d) a.history to ≡ []
 none_due_before d now to u a early = due_less d a.history to (now -ℤ pos 1) (last_before to now early) a.turn.quiet
@@ -78,15 +98,17 @@ silent_before pre post d now to a waits early =
       (from_less (to +ℤ pos 1) now a.way.listed next waits.frames.on_way.list, flying_less (to +ℤ pos 1) now a.way.in_flight next waits.frames.on_way.flying),
     )
 
--- Up to a tick nothing happens: at the radio unit no frame lands, no cell is due and no message starts; none of the frames that were
--- handed over leaves, none lands at the distributed unit, and no cell is due at it.
-pub record IsStill {G : Type 0} (pre : G → RePlace → Type 0) (post : G → RePlace → Wide → Type 0) (d : Document) (now tick : ℤ) (ru : Ru) (u : Intake) (a : Answers G) : Type 0 where
+-- Up to a tick nothing happens: no measurement begins at either unit; at the radio unit no cell is due and no message starts; nothing
+-- leaves for either unit or lands at it, and no cell is due at the distributed unit.
+pub record IsStill {G : Type 0} (pre : G → RePlace → Type 0) (post : G → RePlace → Wide → Type 0) (d : Document) (now tick : ℤ) (ru : Ru) (u : Intake) (w : Downlink) (a : Answers G) : Type 0 where
   pub replayable : IsReplayable d
   pub order : now ≤ℤ tick
   pub ended : tick ≤ℤ (end_of_time +ℤ pos 1)
+  pub none_begins : (side : Side) (t : ℤ) → now ≤ℤ t → t <ℤ tick → begins_at d side t ≡ []
   pub radio : AtRadioTurn d now ru
-  pub calm : IsUnitMoment AtRu d.config (traffic_of d) now tick
-  pub none_given : given_of d.config radio.history (tick -ℤ pos 1) ≡ []
+  pub quiet : IsQuietTo d.config radio.history (tick -ℤ pos 1)
+  pub down : WaitsDown d now w
+  pub calm : IsCalmTo w (tick -ℤ pos 1)
   pub intake : AtIntakeTurn d now u
   pub none_due : due_of d.config (planned_for d) intake.history (tick -ℤ pos 1) ≡ []
   pub waits : WaitsUp pre post d now a
@@ -107,40 +129,114 @@ none_then t tick (f ∷ q) low silent =
     ap (λ (b : Bool). cond b (f ∷ waiting_at t q) (waiting_at t q)) (not_then t tick f.at.0 (leaves_at t f) low (All-head P f q silent) refl)
     ∙ none_then t tick q low (All-tail P f q silent)
 
-module _ {G : Type 0} (pre : G → RePlace → Type 0) (post : G → RePlace → Wide → Type 0) (d : Document) (now tick : ℤ) (ru : Ru) (u : Intake) (a : Answers G)
-    (s : IsStill pre post d now tick ru u a) where
-  seen : HasSeen d.config (landings_of d) tick s.radio.history
-  seen = record {
-    config = s.replayable.document.config;
-    landings_are = are_replayed d AtRu s.replayable.document s.replayable.valid;
-    begun = at_most first_clock now tick s.radio.turn.begun s.order;
-    ended = s.ended;
-    arrivals = s.radio.turn.arrivals ∙ sym (calm_adds_nothing (landings_of d) now tick s.radio.turn.begun s.order s.calm.calm);
-  }
+earlier : (to tick at : ℤ) → to <ℤ tick → (tick -ℤ pos 1) <ℤ at → to <ℤ at
+earlier to tick at less late = omega (arith, ints)
 
-  none_starts : jobs_until d.config (landings_of d) (tick -ℤ pos 1) ≡ jobs_until d.config (landings_of d) (now -ℤ pos 1)
-  none_starts =
-      owes_none d.config (landings_of d) now (tick -ℤ pos 1) tick s.radio.history seen s.radio.turn.begun (last_reached now tick s.order) (last_is_earlier tick)
-      s.radio.turn.given s.none_given
+module _ {G : Type 0} (pre : G → RePlace → Type 0) (post : G → RePlace → Wide → Type 0) (d : Document) (now tick : ℤ) (ru : Ru) (u : Intake) (w : Downlink) (a : Answers G)
+    (s : IsStill pre post d now tick ru u w a) where
+  abbrev begun_now : first_clock ≤ℤ now
+  begun_now = s.radio.turn.begun
 
-  none_leaves : (t : ℤ) → now ≤ℤ t → t <ℤ tick → leaving_of_handed d.config (antenna_for d) (landings_of d) (now -ℤ pos 1) t ≡ []
+  -- ---- where nothing landed at the radio unit before a tick, the radio unit sends nothing up to it
+
+  module _ (to : ℤ) (low : now ≤ℤ to) (high : to ≤ℤ tick) (calm : IsCalm (landings_for AtRu d) now to) where
+    to_ended : to ≤ℤ (end_of_time +ℤ pos 1)
+    to_ended = at_most to tick (end_of_time +ℤ pos 1) high s.ended
+
+    seen : HasSeen d.config (landings_for AtRu d) to s.radio.history
+    seen = record {
+      config = s.replayable.document.config;
+      landings_are = landings_are_replayed d AtRu s.replayable;
+      begun = at_most first_clock now to begun_now low;
+      ended = to_ended;
+      arrivals = s.radio.turn.arrivals ∙ sym (calm_adds_nothing (landings_for AtRu d) now to begun_now low calm);
+    }
+
+    none_starts : (until : ℤ) → now ≤ℤ (until +ℤ pos 1) → until ≤ℤ to → until ≤ℤ (tick -ℤ pos 1)
+        → jobs_until d.config (landings_for AtRu d) until ≡ jobs_until d.config (landings_for AtRu d) (now -ℤ pos 1)
+    none_starts until from by early =
+        owes_none d.config (landings_for AtRu d) now until to s.radio.history seen begun_now from by s.radio.turn.given
+        (quiet_less d.config ru s.radio.history until (tick -ℤ pos 1) s.radio.stands early s.quiet).messages
+
+  none_leaves : (t : ℤ) → now ≤ℤ t → t <ℤ tick → leaving_of_handed d.config (antenna_for d) (landings_for AtRu d) (now -ℤ pos 1) t ≡ []
   none_leaves t low high = sym (s.waits.frames.waiting.at t low) ∙ none_then t tick a.queue high s.silent.0
 
-  same_left : left_for d now ≡ left_for d tick
-  same_left =
-      left_waits d.config (antenna_for d) (landings_of d) now tick s.replayable.document.config s.radio.turn.begun s.order s.ended
-      (record { none_starts = none_starts; none_leaves = none_leaves })
+  left_same : (end : ℤ) → now ≤ℤ end → end ≤ℤ tick → jobs_until d.config (landings_for AtRu d) (end -ℤ pos 1) ≡ jobs_until d.config (landings_for AtRu d) (now -ℤ pos 1)
+      → left_for d now ≡ left_for d end
+  left_same end low high none =
+      left_waits d.config (antenna_for d) (landings_for AtRu d) now end s.replayable.document.config begun_now low (at_most end tick (end_of_time +ℤ pos 1) high s.ended)
+      (record { none_starts = none; none_leaves = λ t from before. none_leaves t from (below_all t end tick before high) })
 
-  way_on : IsCalm (answers_of d) now tick × Waits d AtDu tick tick s.waits.frames.counts (map leaving_answer (left_for d tick)) a.way
-  way_on =
-      calm_until d AtDu now tick s.waits.frames.counts (map leaving_answer (left_for d tick)) a.way
-      (subst (λ (fs : List LinkFrame). Waits d AtDu now now s.waits.frames.counts (map leaving_answer fs) a.way) same_left s.waits.frames.on_way) s.order s.silent.1
-      (answers_later tick (left_for d tick) (left_leave_later d.config (antenna_for d) (landings_of d) tick))
+  -- ---- so nothing lands at either unit
 
-  -- nothing lands at the distributed unit, and nothing is due at it
+  abbrev ways : Side → Way
+  ways AtRu = w.way
+  ways AtDu = a.way
+
+  abbrev counts : Side → SentCounts
+  counts AtRu = s.down.counts
+  counts AtDu = s.waits.frames.counts
+
+  abbrev left : Side → List Leaving
+  left AtRu = map (leaving_of d) s.down.left
+  left AtDu = answers_left d now
+
+  both_stand : (side : Side) → Waits d side now now (counts side) (leaving_with side d (left side) now) (ways side)
+  both_stand AtRu = s.down.way
+  both_stand AtDu = s.waits.frames.on_way
+
+  both_empty : (side : Side) → IsEmptyTo (ways side) (tick -ℤ pos 1)
+  both_empty AtRu = s.calm.1
+  both_empty AtDu = s.silent.1
+
+  -- up to a tick before which all was quiet
+  module _ (t : ℤ) (low : now ≤ℤ t) (high : t <ℤ tick) (quiet : IsQuietBetween d now t) where
+    abbrev next : ℤ
+    next = t +ℤ pos 1
+
+    next_high : next ≤ℤ tick
+    next_high = next_after t tick high
+
+    answers_wait : left_for d now ≡ left_for d next
+    answers_wait =
+        left_same next (at_most now t next low (next_is_later t)) next_high
+        (ap (λ (z : ℤ). jobs_until d.config (landings_for AtRu d) z) (last_of_next t)
+        ∙ none_starts t low (weak t tick high) (quiet.calm AtRu) t (at_most now t next low (next_is_later t)) (same_most t) (last_before t tick high))
+
+    both_later : (side : Side) → All (λ (f : Leaving). next ≤ℤ f.at) (left side)
+    both_later AtRu =
+        All-map (λ (f : Leaving). next ≤ℤ f.at) (leaving_of d) s.down.left
+        (sent_less next ((tick -ℤ pos 1) +ℤ pos 1) s.down.left (at_most next tick ((tick -ℤ pos 1) +ℤ pos 1) next_high (last_reached tick tick (same_most tick)))
+        (s.calm.0 d.config d.plan s.down.left s.down.plan))
+    both_later AtDu =
+        subst (λ (fs : List LinkFrame). All (λ (f : Leaving). next ≤ℤ f.at) (map leaving_answer fs)) (sym answers_wait)
+        (answers_later next (left_for d next) (left_leave_later d.config (antenna_for d) (landings_for AtRu d) next))
+
+    both_silent : AreSilent d now next counts left ways
+    both_silent = record {
+      waits = both_stand;
+      empty = λ side. empty_less (next -ℤ pos 1) (tick -ℤ pos 1) (ways side) (last_less next tick next_high) (both_empty side);
+      later = both_later;
+      begins = λ side k from before. s.none_begins side k from (below_all k next tick before next_high);
+    }
+
+    quiet_next : IsQuietBetween d now next
+    quiet_next =
+        quiet_until flights_wait d now next counts left ways s.replayable begun_now (at_most now t next low (next_is_later t))
+        (at_most next tick (end_of_time +ℤ pos 1) next_high s.ended) both_silent
+
+  -- and nothing begins, from the one tick on and before the other
+  pub still_between : IsQuietBetween d now tick
+  still_between =
+      between (λ t. IsQuietBetween d now t) now tick s.order
+      (record { begins = λ side t from before. absurd (not_before now t from before); calm = λ side t from before. absurd (not_before now t from before) })
+      quiet_next
+
+  -- ---- the distributed unit
+
+  -- nothing is due at it, so it is its next moment
   pub still_at_intake : IsUnitMoment AtDu d.config (traffic_of d) now tick
-  still_at_intake =
-      unit_waits d now tick s.intake.history s.replayable s.intake.turn way_on.0 s.none_due
+  still_at_intake = unit_waits d now tick s.intake.history s.replayable s.intake.turn (still_between.calm AtDu) s.none_due
 
   -- so the intake stands at the tick
   pub intake_idle : IsNextMoment d.config (traffic_of d) now tick → AtIntakeTurn d tick u
@@ -154,15 +250,24 @@ module _ {G : Type 0} (pre : G → RePlace → Type 0) (post : G → RePlace →
   silent_until : (to : ℤ) → to <ℤ tick → IsSilentTo a.queue to
   silent_until to less =
       All-weaker (λ (f : LinkFrame). (tick -ℤ pos 1) <ℤ f.at.0) (λ (f : LinkFrame). to <ℤ f.at.0) (λ f late. earlier to tick f.at.0 less late) a.queue s.silent.0
-    where
-      earlier : (to tick at : ℤ) → to <ℤ tick → (tick -ℤ pos 1) <ℤ at → to <ℤ at
-      earlier to tick at less late = omega (arith, ints)
+
+  none_between : jobs_until d.config (landings_for AtRu d) (tick -ℤ pos 1) ≡ jobs_until d.config (landings_for AtRu d) (now -ℤ pos 1)
+  none_between =
+      none_starts tick s.order (same_most tick) (still_between.calm AtRu) (tick -ℤ pos 1) (last_reached now tick s.order) (last_is_earlier tick) (same_most (tick -ℤ pos 1))
+
+  -- what is still to be sent is the same
+  left_stays : leaving_with AtDu d (answers_left d now) now ≡ leaving_with AtDu d (answers_left d tick) tick
+  left_stays =
+      ap (λ (fs : List LinkFrame). leaving_with AtDu d (map leaving_answer fs) now) (left_same tick s.order (same_most tick) none_between)
+      ∙ leaving_waits ((exchanges d).sent AtDu) now tick (answers_left d tick)
+      (answers_later tick (left_for d tick) (left_leave_later d.config (antenna_for d) (landings_for AtRu d) tick)) s.order s.ended
+      (flights_wait d AtDu now tick s.replayable begun_now s.ended still_between)
 
   -- and the same waits for it
   pub waits_idle : WaitsUp pre post d tick a
   waits_idle =
       let c = d.config in
-      let js = sym none_starts in
+      let js = sym none_between in
       record {
         handed = record {
           kept = s.waits.handed.kept;
@@ -174,7 +279,8 @@ module _ {G : Type 0} (pre : G → RePlace → Type 0) (post : G → RePlace →
           waiting = subst (λ (xs : List UplinkJob). WaitsFor (length c.endpoints) tick (frames_behind c (antenna_for d) [] (messages_of c xs)) a.queue) js
               (queue_waits_on (length c.endpoints) now tick (handed_by d (now -ℤ pos 1)) a.queue s.waits.frames.waiting s.order silent_until);
           counts = s.waits.frames.counts;
-          on_way = way_on.1;
+          on_way = subst (λ (fs : List Leaving). Waits d AtDu tick tick s.waits.frames.counts fs a.way) left_stays
+              (waits_until d AtDu now tick s.waits.frames.counts (leaving_with AtDu d (answers_left d now) now) a.way s.waits.frames.on_way s.order s.silent.1);
         };
       }
 
@@ -202,8 +308,8 @@ intake_turn_step d now u a = record { history = a.history; stands = a.stands; ar
 
 -- all that lands has arrived, and all its cells are reported
 pub record IsIntakeOver (d : Document) (h : History) : Type 0 where
-  pub arrivals : h.arrivals ≡ all_arrivals (answers_of d)
-  pub reported : h.reported ≡ du_reported d.config (planned_for d) (all_arrivals (answers_of d)) end_of_time
+  pub arrivals : h.arrivals ≡ all_arrivals (landings_for AtDu d)
+  pub reported : h.reported ≡ du_reported d.config (planned_for d) (all_arrivals (landings_for AtDu d)) end_of_time
   pub quiet : (to : ℤ) → to ≤ℤ end_of_time → due_of d.config (planned_for d) h to ≡ []
 
 pub intake_over : (d : Document) (u : Intake) → (a : AtIntakeTurn d (end_of_time +ℤ pos 1) u) → IsIntakeOver d a.history
@@ -211,6 +317,6 @@ intake_over d u a =
     let last = last_of_next end_of_time in
     record {
       arrivals = a.turn.arrivals;
-      reported = a.turn.reported ∙ ap (du_reported d.config (planned_for d) (all_arrivals (answers_of d))) last;
+      reported = a.turn.reported ∙ ap (du_reported d.config (planned_for d) (all_arrivals (landings_for AtDu d))) last;
       quiet = λ to order. due_less d a.history to end_of_time order (ap (due_of d.config (planned_for d) a.history) (sym last) ∙ a.turn.quiet);
     }

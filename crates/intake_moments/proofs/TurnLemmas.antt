@@ -1,44 +1,41 @@
 -- The distributed unit's intake from one tick to the next moment, and over it.
 use Rattle.std.proofs.Common.{◌≡◌, ℤ, pos, ◌+ℤ◌, ◌-ℤ◌, ◌≤ℤ◌, ◌<ℤ◌, List, [], ◌++◌, sym, ap, ap₂, ◌∙◌, subst, arith, append_assoc, append-nil}
-use Rattle.std.specs.Prelude.{map}
 use Rattle.std.proofs.lemmas.Int.{ints}
-use Rattle.air_source.specs.declared.events.AirCell.{AirCell}
-use Rattle.air_source.specs.declared.events.Event.{Event}
-use Rattle.air_source.specs.declared.events.Event.TheVariants.{Cell}
-use Rattle.air_source.specs.declared.events.Side.{Side}
-use Rattle.air_source.specs.declared.events.Side.TheVariants.{Du}
-use Rattle.document_traffic.specs.Landing.{answers_of, traffic_of}
-use Rattle.document_traffic.specs.Laws.{IsReplayable}
-use Rattle.document_traffic.proofs.LandingLemmas.{are_replayed}
+use Rattle.send_queue.specs.air_source.specs.declared.events.AirCell.{AirCell}
+use Rattle.send_queue.specs.air_source.specs.declared.events.Side.{Side}
+use Rattle.send_queue.specs.air_source.specs.declared.events.Side.TheVariants.{Ru, Du}
+use Rattle.radio_moments.specs.document_traffic.specs.Laws.{IsReplayable}
 use Rattle.du_intake.specs.Calls.{StandsFor}
 use Rattle.du_intake.specs.Units.{due_of}
 use Rattle.du_intake.specs.declared.unit.Intake.{Intake}
-use Rattle.fh_document.specs.declared.document.Document.{Document}
+use Rattle.radio_moments.specs.fh_document.specs.declared.document.Document.{Document}
+use Rattle.radio_moments.specs.measured_traffic.specs.Doings.{Doings}
+use Rattle.radio_moments.specs.measured_traffic.specs.Replayed.{begun, doings_at, landings_for, results_at, traffic_of}
+use Rattle.radio_moments.specs.measured_traffic.proofs.ReplayedLemmas.{landings_are_replayed}
 use Rattle.radio_moments.specs.Turns.{events_before, intake_events, radio_events}
 use Rattle.radio_moments.proofs.StepLemmas.{cells_own, next_events, radio_own}
-use Rattle.replay_events.specs.Events.{arrival_event, cells_at, events_at}
-use Rattle.replay_events.specs.Heard.{arrivals_heard, cells_heard}
-use Rattle.replay_events.specs.Moments.{arrivals_before, end_of_time, landing_at}
-use Rattle.replay_events.specs.Passing.{IsCalm, IsNextMoment, IsUnitMoment, due_from}
-use Rattle.replay_events.specs.Traffic.{known_at, landings_at}
-use Rattle.replay_events.proofs.AloneLemmas.{told_each}
-use Rattle.replay_events.proofs.CameLemmas.{arrivals_go_on, calm_adds_nothing, none_yet}
-use Rattle.replay_events.proofs.EventLemmas.{events_wait}
-use Rattle.replay_events.proofs.HeardLemmas.{arrivals-none, cells-none}
-use Rattle.replay_events.proofs.MomentLemmas.{due_at_moment, reported_at_moment, reported_before_moment}
-use Rattle.replay_events.proofs.TickLemmas.{at_most, last_of_next, next_most, no_ticks, same_most}
-use Rattle.ru_buffers.proofs.QuietLemmas.{sweep_less}
-use Rattle.unit_laws.proofs.DueLemmas.{all_is_due, due_in_pieces}
-use Rattle.unit_model.proofs.SweepLaws.{sweep_quiet}
-use Rattle.unit_model.specs.Lists.{onto}
-use Rattle.unit_model.specs.Meetings.{Arrival}
-use Rattle.unit_model.specs.Radiated.{Known, first_clock, reported, wait_of}
-use Rattle.unit_model.specs.Reports.{du_known, du_reported}
-use Rattle.unit_model.specs.Standing.{History, due, nothing_yet}
-use Rattle.window_config.specs.Configs.{IsConfig}
-use Rattle.window_config.specs.declared.config.Config.{Config}
-use Rattle.window_config.specs.declared.delays.Delays.{Delays}
-use Rattle.window_config.specs.declared.endpoints.EndpointConfig.{EndpointConfig}
+use Rattle.radio_moments.specs.replay_events.specs.Events.{cells_at, events_at}
+use Rattle.radio_moments.specs.replay_events.specs.Heard.{arrivals_heard, cells_heard}
+use Rattle.radio_moments.specs.replay_events.specs.Moments.{arrivals_before, end_of_time, landing_at}
+use Rattle.radio_moments.specs.replay_events.specs.Passing.{AreLandings, IsCalm, IsNextMoment, IsUnitMoment, due_from}
+use Rattle.radio_moments.specs.replay_events.specs.Traffic.{known_at, landings_at}
+use Rattle.radio_moments.specs.replay_events.proofs.CameLemmas.{arrivals_go_on, calm_adds_nothing, none_yet}
+use Rattle.radio_moments.specs.replay_events.proofs.EventLemmas.{events_wait}
+use Rattle.radio_moments.specs.replay_events.proofs.HeardLemmas.{arrivals-none, cells-none}
+use Rattle.radio_moments.specs.replay_events.proofs.MomentLemmas.{due_at_moment, reported_at_moment, reported_before_moment}
+use Rattle.radio_moments.specs.replay_events.proofs.TickLemmas.{at_most, last_of_next, next_most, no_ticks, same_most}
+use Rattle.du_intake.specs.ru_buffers.proofs.QuietLemmas.{sweep_less}
+use Rattle.du_intake.specs.unit_laws.proofs.DueLemmas.{all_is_due, due_in_pieces}
+use Rattle.send_queue.specs.unit_model.proofs.SweepLaws.{sweep_quiet}
+use Rattle.send_queue.specs.unit_model.specs.Lists.{onto}
+use Rattle.send_queue.specs.unit_model.specs.Meetings.{Arrival}
+use Rattle.send_queue.specs.unit_model.specs.Radiated.{Known, first_clock, reported, wait_of}
+use Rattle.send_queue.specs.unit_model.specs.Reports.{du_known, du_reported}
+use Rattle.send_queue.specs.unit_model.specs.Standing.{History, due, nothing_yet}
+use Rattle.send_queue.specs.window_config.specs.Configs.{IsConfig}
+use Rattle.send_queue.specs.window_config.specs.declared.config.Config.{Config}
+use Rattle.send_queue.specs.window_config.specs.declared.delays.Delays.{Delays}
+use Rattle.send_queue.specs.window_config.specs.declared.endpoints.EndpointConfig.{EndpointConfig}
 use Rattle.intake_moments.specs.Turns.{IsIntakeTurn, planned_for}
 use Rattle.intake_moments.proofs.HeardLemmas.{arrivals_closed, cells_closed}
 
@@ -50,11 +47,15 @@ told_not_due side c k to config =
     let told = reported side c.delays c.endpoints k to in
     due_in_pieces side c.delays c.endpoints k [] told [] to config.endpoints.differ (all_is_due side c.delays c.endpoints k to ∙ sym (append-nil told))
 
+lands_in_time : (side : Side) (d : Document) → IsReplayable d → AreLandings (landings_at side (traffic_of d))
+lands_in_time Ru d doc = landings_are_replayed d Ru doc
+lands_in_time Du d doc = landings_are_replayed d Du doc
+
 unit_here : (side : Side) (d : Document) (tick : ℤ) → IsReplayable d → IsUnitMoment side d.config (traffic_of d) tick tick
 unit_here side d tick doc =
     let t = traffic_of d in
     record {
-      landings_are = are_replayed d side doc.document doc.valid;
+      landings_are = lands_in_time side d doc;
       calm = λ u low high. absurd (omega (arith, ints));
       quiet = told_not_due side d.config (known_at side d.config t.planned (arrivals_before (landings_at side t) tick)) (tick -ℤ pos 1) doc.document.config;
     }
@@ -66,7 +67,7 @@ moment_here d tick doc begun ended =
 -- ---- the next moment
 
 due_same : (d : Document) (now : ℤ) (h : History) → IsIntakeTurn d now h → (to : ℤ)
-    → due_from Du d.config (planned_for d) (answers_of d) now to ≡ due_of d.config (planned_for d) h to
+    → due_from Du d.config (planned_for d) (landings_for Du d) now to ≡ due_of d.config (planned_for d) h to
 due_same d now h turn to =
     let c = d.config in
     sym (ap₂ (λ (xs : List Arrival) (rs : List AirCell). due Du c.delays c.endpoints (du_known c (planned_for d) xs) rs to) turn.arrivals turn.reported)
@@ -82,9 +83,9 @@ due_less d h a b order none =
     sweep_less _ d.config.endpoints (first_clock -ℤ w) ((a -ℤ w) +ℤ pos 1) ((b -ℤ w) +ℤ pos 1) (waited_less a b w order) none
 
 -- nothing lands at the distributed unit before a tick, and nothing is due at it
-pub unit_waits : (d : Document) (now tick : ℤ) (h : History) → IsReplayable d → IsIntakeTurn d now h → IsCalm (answers_of d) now tick
+pub unit_waits : (d : Document) (now tick : ℤ) (h : History) → IsReplayable d → IsIntakeTurn d now h → IsCalm (landings_for Du d) now tick
     → due_of d.config (planned_for d) h (tick -ℤ pos 1) ≡ [] → IsUnitMoment Du d.config (traffic_of d) now tick
-unit_waits d now tick h doc turn calm none = record { landings_are = are_replayed d Du doc.document doc.valid; calm = calm; quiet = due_same d now h turn (tick -ℤ pos 1) ∙ none }
+unit_waits d now tick h doc turn calm none = record { landings_are = landings_are_replayed d Du doc; calm = calm; quiet = due_same d now h turn (tick -ℤ pos 1) ∙ none }
 
 -- what stands at the start of a tick stands at the start of the next moment
 pub skip : (d : Document) (now tick : ℤ) (h : History) → IsIntakeTurn d now h → IsNextMoment d.config (traffic_of d) now tick → IsIntakeTurn d tick h
@@ -95,7 +96,7 @@ skip d now tick h turn next =
     record {
       begun = at_most first_clock now tick turn.begun next.order;
       ended = next.ended;
-      arrivals = turn.arrivals ∙ sym (calm_adds_nothing (answers_of d) now tick turn.begun next.order unit.calm);
+      arrivals = turn.arrivals ∙ sym (calm_adds_nothing (landings_for Du d) now tick turn.begun next.order unit.calm);
       reported = turn.reported ∙ reported_before_moment Du c t now tick next;
       quiet = sym (due_same d now h turn (tick -ℤ pos 1)) ∙ unit.quiet;
       came = turn.came ∙ ap (arrivals_heard Du []) (sym (events_wait c t now tick next));
@@ -105,13 +106,13 @@ skip d now tick h turn next =
 -- ---- the moment itself
 
 -- all that has landed once the tick's frames have
-came_here : (d : Document) (tick : ℤ) (h : History) → IsIntakeTurn d tick h → onto h.arrivals (landing_at (answers_of d) tick) ≡ arrivals_before (answers_of d) (tick +ℤ pos 1)
+came_here : (d : Document) (tick : ℤ) (h : History) → IsIntakeTurn d tick h → onto h.arrivals (landing_at (landings_for Du d) tick) ≡ arrivals_before (landings_for Du d) (tick +ℤ pos 1)
 came_here d tick h turn =
-    ap (λ (e : List Arrival). onto e (landing_at (answers_of d) tick)) turn.arrivals ∙ sym (arrivals_go_on (answers_of d) tick turn.begun)
+    ap (λ (e : List Arrival). onto e (landing_at (landings_for Du d) tick)) turn.arrivals ∙ sym (arrivals_go_on (landings_for Du d) tick turn.begun)
 
 -- what is due then are the cells of the tick
 pub due_here : (d : Document) (tick : ℤ) (h : History) (xs : List Arrival) → IsReplayable d → IsIntakeTurn d tick h → tick ≤ℤ end_of_time
-    → xs ≡ onto h.arrivals (landing_at (answers_of d) tick)
+    → xs ≡ onto h.arrivals (landing_at (landings_for Du d) tick)
     → due Du d.config.delays d.config.endpoints (du_known d.config (planned_for d) xs) h.reported tick ≡ cells_at Du d.config (traffic_of d) tick
 due_here d tick h xs doc turn ended came =
     let c = d.config in
@@ -120,16 +121,15 @@ due_here d tick h xs doc turn ended came =
 
 -- ---- its events
 
-pub intake_is : (d : Document) (tick : ℤ)
-    → intake_events d tick ≡ map (arrival_event Du) (landing_at (answers_of d) tick) ++ map Cell (cells_at Du d.config (traffic_of d) tick)
-intake_is d tick = ap (λ (es : List Event). es ++ map Cell (cells_at Du d.config (traffic_of d) tick)) (told_each Du (landing_at (answers_of d) tick))
+-- what the unit has of delay measurement once the tick's measurements have begun
+abbrev pub begun_at : Document → ℤ → Doings
+begun_at d tick = begun d Du tick (doings_at d Du tick)
 
 events_then : (d : Document) (tick : ℤ) → first_clock ≤ℤ tick
     → events_before d (tick +ℤ pos 1)
-    ≡ (events_before d tick ++ radio_events d tick) ++ (map (arrival_event Du) (landing_at (answers_of d) tick) ++ map Cell (cells_at Du d.config (traffic_of d) tick))
+    ≡ (events_before d tick ++ radio_events d tick) ++ intake_events d tick
 events_then d tick begun =
     next_events d tick begun ∙ sym (append_assoc (events_before d tick) (radio_events d tick) (intake_events d tick))
-    ∙ ap (λ (es : List Event). (events_before d tick ++ radio_events d tick) ++ es) (intake_is d tick)
 
 -- ---- over the moment
 
@@ -137,13 +137,13 @@ next_ended : (a b : ℤ) → a ≤ℤ b → (a +ℤ pos 1) ≤ℤ (b +ℤ pos 1)
 next_ended a b h = omega (arith, ints)
 
 pub after : (d : Document) (tick : ℤ) (h k : History) → IsReplayable d → IsIntakeTurn d tick h → tick ≤ℤ end_of_time
-    → k.arrivals ≡ onto h.arrivals (landing_at (answers_of d) tick) → k.reported ≡ h.reported ++ cells_at Du d.config (traffic_of d) tick
+    → k.arrivals ≡ onto h.arrivals (landing_at (landings_for Du d) tick) → k.reported ≡ h.reported ++ cells_at Du d.config (traffic_of d) tick
     → due_of d.config (planned_for d) k tick ≡ [] → IsIntakeTurn d (tick +ℤ pos 1) k
 after d tick h k doc turn ended came told none =
     let c = d.config in
     let t = traffic_of d in
     let cells = cells_at Du c t tick in
-    let xs = landing_at (answers_of d) tick in
+    let xs = landing_at (landings_for Du d) tick in
     let earlier = events_before d tick in
     let other = radio_own d tick in
     let then = events_then d tick turn.begun in
@@ -154,14 +154,14 @@ after d tick h k doc turn ended came told none =
       reported =
           told ∙ ap (λ (rs : List AirCell). rs ++ cells) turn.reported
           ∙ reported_at_moment Du c t tick tick (moment_here d tick doc turn.begun turn.ended) ended
-          ∙ ap (λ (u : ℤ). du_reported c (planned_for d) (arrivals_before (answers_of d) (tick +ℤ pos 1)) u) (sym (last_of_next tick));
+          ∙ ap (λ (u : ℤ). du_reported c (planned_for d) (arrivals_before (landings_for Du d) (tick +ℤ pos 1)) u) (sym (last_of_next tick));
       quiet = subst (λ (u : ℤ). due_of c (planned_for d) k u ≡ []) (sym (last_of_next tick)) none;
       came =
           came ∙ ap (λ (e : List Arrival). onto e xs) turn.came
-          ∙ sym (ap (arrivals_heard Du []) then ∙ arrivals_closed earlier (radio_events d tick) xs cells other);
+          ∙ sym (ap (arrivals_heard Du []) then ∙ arrivals_closed earlier (radio_events d tick) (results_at d Du tick) xs cells other);
       told =
           told ∙ ap (λ (rs : List AirCell). rs ++ cells) turn.told
-          ∙ sym (ap (cells_heard Du) then ∙ cells_closed earlier (radio_events d tick) xs cells other (cells_own Du d tick));
+          ∙ sym (ap (cells_heard Du) then ∙ cells_closed earlier (radio_events d tick) (results_at d Du tick) xs cells other (cells_own Du d tick));
     }
 
 -- ---- the start
@@ -186,8 +186,8 @@ start d u stands =
     record {
       begun = same_most first_clock;
       ended = first_early;
-      arrivals = sym (none_yet (answers_of d) first_clock (same_most first_clock));
-      reported = sym (none_reported c.delays c.endpoints (du_known c (planned_for d) (arrivals_before (answers_of d) first_clock)));
+      arrivals = sym (none_yet (landings_for Du d) first_clock (same_most first_clock));
+      reported = sym (none_reported c.delays c.endpoints (du_known c (planned_for d) (arrivals_before (landings_for Du d) first_clock)));
       quiet = stands.kept.past;
       came = sym (ap (arrivals_heard Du []) (events_none d) ∙ arrivals-none Du []);
       told = sym (ap (cells_heard Du) (events_none d) ∙ cells-none Du);

@@ -1,16 +1,16 @@
 -- How the radio unit's messages of one tick are answered (this project's profile).
 use Rattle.std.specs.Prelude.{ℤ, pos, ◌+ℤ◌, ◌≤ℤ◌, List, ◌++◌}
-use Rattle.air_source.specs.declared.links.LinkFrame.{LinkFrame}
-use Rattle.air_source.specs.declared.places.RePlace.{RePlace}
-use Rattle.air_source.specs.declared.events.Event.{Event}
+use Rattle.send_queue.specs.air_source.specs.declared.links.LinkFrame.{LinkFrame}
+use Rattle.send_queue.specs.air_source.specs.declared.places.RePlace.{RePlace}
+use Rattle.send_queue.specs.air_source.specs.declared.events.Event.{Event}
 use Rattle.bfp_codec.specs.declared.samples.Wide.{Wide}
-use Rattle.document_traffic.specs.Laws.{IsReplayable}
-use Rattle.fh_document.specs.declared.document.Document.{Document}
-use Rattle.frame_ways.specs.declared.way.Way.{Way}
+use Rattle.radio_moments.specs.document_traffic.specs.Laws.{IsReplayable}
+use Rattle.radio_moments.specs.fh_document.specs.declared.document.Document.{Document}
+use Rattle.radio_moments.specs.frame_ways.specs.declared.way.Way.{Way}
 use Rattle.radio_moments.specs.Turns.{AtRadioTurn, HasRadioLanded, events_before, radio_events}
-use Rattle.replay_events.specs.Moments.{end_of_time}
-use Rattle.ru_buffers.specs.declared.unit.Ru.{Ru}
-use Rattle.unit_model.specs.Radiated.{first_clock}
+use Rattle.radio_moments.specs.replay_events.specs.Moments.{end_of_time}
+use Rattle.du_intake.specs.ru_buffers.specs.declared.unit.Ru.{Ru}
+use Rattle.send_queue.specs.unit_model.specs.Radiated.{first_clock}
 use Rattle.intake_moments.specs.Answers.{AwaitsFrames, HasAnswered, WaitsUp}
 use Rattle.intake_moments.specs.declared.answers.Answers.{Answers}
 

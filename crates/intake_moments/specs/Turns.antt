@@ -1,19 +1,19 @@
 -- How the distributed unit's intake stands as time passes, tick by tick (this project's profile).
 use Rattle.std.specs.Prelude.{◌≡◌, ℤ, pos, ◌+ℤ◌, ◌-ℤ◌, ◌≤ℤ◌, List, []}
-use Rattle.air_source.specs.declared.events.Event.{Event}
-use Rattle.air_source.specs.declared.events.Side.TheVariants.{Du as AtDu}
-use Rattle.document_traffic.specs.Landing.{answers_of, traffic_of}
+use Rattle.send_queue.specs.air_source.specs.declared.events.Event.{Event}
+use Rattle.send_queue.specs.air_source.specs.declared.events.Side.TheVariants.{Du as AtDu}
+use Rattle.radio_moments.specs.measured_traffic.specs.Replayed.{landings_for, traffic_of}
 use Rattle.du_intake.specs.Calls.{StandsFor}
 use Rattle.du_intake.specs.Units.{due_of}
 use Rattle.du_intake.specs.declared.unit.Intake.{Intake}
-use Rattle.fh_document.specs.declared.document.Document.{Document}
-use Rattle.replay_events.specs.Heard.{arrivals_heard, cells_heard}
-use Rattle.replay_events.specs.Moments.{arrivals_before, end_of_time}
+use Rattle.radio_moments.specs.fh_document.specs.declared.document.Document.{Document}
+use Rattle.radio_moments.specs.replay_events.specs.Heard.{arrivals_heard, cells_heard}
+use Rattle.radio_moments.specs.replay_events.specs.Moments.{arrivals_before, end_of_time}
 use Rattle.radio_moments.specs.Turns.{events_before}
-use Rattle.unit_model.specs.Radiated.{first_clock}
-use Rattle.unit_model.specs.Reports.{du_reported}
-use Rattle.unit_model.specs.Standing.{History}
-use Rattle.unit_model.specs.declared.allocations.Allocation.{Allocation}
+use Rattle.send_queue.specs.unit_model.specs.Radiated.{first_clock}
+use Rattle.send_queue.specs.unit_model.specs.Reports.{du_reported}
+use Rattle.send_queue.specs.unit_model.specs.Standing.{History}
+use Rattle.send_queue.specs.unit_model.specs.declared.allocations.Allocation.{Allocation}
 
 -- what the plan's uplink lines name
 abbrev pub planned_for : Document → List Allocation
@@ -30,8 +30,8 @@ pub record IsIntakeInStep (d : Document) (told : List Event) (u : Intake) : Type
 pub record IsIntakeTurn (d : Document) (now : ℤ) (h : History) : Type 0 where
   pub begun : first_clock ≤ℤ now
   pub ended : now ≤ℤ (end_of_time +ℤ pos 1)
-  pub arrivals : h.arrivals ≡ arrivals_before (answers_of d) now
-  pub reported : h.reported ≡ du_reported d.config (planned_for d) (arrivals_before (answers_of d) now) (now -ℤ pos 1)
+  pub arrivals : h.arrivals ≡ arrivals_before (landings_for AtDu d) now
+  pub reported : h.reported ≡ du_reported d.config (planned_for d) (arrivals_before (landings_for AtDu d) now) (now -ℤ pos 1)
   pub quiet : due_of d.config (planned_for d) h (now -ℤ pos 1) ≡ []
   pub came : h.arrivals ≡ arrivals_heard AtDu [] (events_before d now)
   pub told : h.reported ≡ cells_heard AtDu (events_before d now)

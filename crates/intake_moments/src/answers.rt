@@ -1,19 +1,23 @@
 // What the radio unit answers, and what is to come to the distributed unit.
 ghost use Rattle.std.specs.Prelude.{IfOk};
-ghost use Rattle.air_source.specs.Answers.{AnswersBy};
-ghost use Rattle.air_source.specs.Kept.{IsKept, closure_of};
-ghost use Rattle.document_traffic.specs.Landing.{antenna_for};
-ghost use Rattle.document_traffic.specs.Laws.{IsReplayable};
-ghost use Rattle.ru_buffers.specs.Calls.{IsLeastOf};
-ghost use Rattle.unit_model.specs.Radiated.{first_clock};
+ghost use Rattle.send_queue.specs.air_source.specs.Answers.{AnswersBy};
+ghost use Rattle.send_queue.specs.air_source.specs.Kept.{IsKept, closure_of};
+ghost use Rattle.radio_moments.specs.document_traffic.specs.Landing.{antenna_for};
+ghost use Rattle.radio_moments.specs.document_traffic.specs.Laws.{IsReplayable};
+ghost use Rattle.du_intake.specs.ru_buffers.specs.Calls.{IsLeastOf};
+ghost use Rattle.send_queue.specs.unit_model.specs.Radiated.{first_clock};
 ghost use Rattle.intake_moments.specs.Answers.{AreSilentTo, WaitsUp};
 
-use air_source::{RePlace, Samples, Side};
 use bfp_codec::Wide;
+use delay_measure::Edge;
 use fh_base::NoMemory;
-use fh_document::Document;
 use fh_time::Ticks;
-use frame_ways::{Way, earlier_of};
+use radio_moments::delay_exchange::UnitMeter;
+use radio_moments::fh_document::Document;
+use radio_moments::frame_ways::{Way, earlier_of};
+use radio_moments::measured_moments::send_made;
+use send_queue::air_source::{RePlace, Samples, Side};
+use send_queue::frame_network::FramePool;
 use send_queue::{Outbox, SendQueue};
 use std::alloc::Global;
 use uplink_path::Uplink;
@@ -26,9 +30,18 @@ pub struct Answers<'a, G: Fn(RePlace) -> Wide> {
     pub(crate) outbox: Outbox,
     pub(crate) queue: SendQueue,
     pub(crate) way: Way<'a>,
+    pub(crate) pool: FramePool,
 }
 
 impl<'a, G: Fn(RePlace) -> Wide> Answers<'a, G> {
+    ghost use Rattle.std.specs.Prelude.{pos, ◌+ℤ◌, ◌≤ℤ◌, OnOk};
+    ghost use Rattle.send_queue.specs.air_source.specs.declared.events.Side.TheVariants.{Ru as AtRu};
+    ghost use Rattle.radio_moments.specs.delay_exchange.specs.Meters.{HasDoings};
+    ghost use Rattle.radio_moments.specs.fh_document.specs.declared.document.Document.{Document as SpecDocument};
+    ghost use Rattle.radio_moments.specs.measured_traffic.specs.Replayed.{doings_at, made_at};
+    ghost use Rattle.radio_moments.specs.replay_events.specs.Moments.{end_of_time};
+    ghost use Rattle.intake_moments.specs.Answers.{HasLandedUp};
+
     /// Nothing was answered, and none of the document's frames has landed.
     ///
     /// # Errors
@@ -53,6 +66,7 @@ impl<'a, G: Fn(RePlace) -> Wide> Answers<'a, G> {
             outbox,
             queue,
             way,
+            pool: FramePool::new(alloc),
         })
     }
 
@@ -61,5 +75,24 @@ impl<'a, G: Fn(RePlace) -> Wide> Answers<'a, G> {
         ensures { IsLeastOf (AreSilentTo self.now) result }
     {
         earlier_of(self.queue.next_time(), self.way.next_time())
+    }
+
+    /// Sends the frames of delay measurement that the radio unit made at a tick, once all else that comes then has landed.
+    ///
+    /// # Errors
+    ///
+    /// [`NoMemory`] where memory runs out.
+    pub fn send_made<C: Fn(Edge) -> i64>(
+        &mut self,
+        tick: Ticks,
+        meter: &mut UnitMeter<C>,
+    ) -> Result<(), NoMemory>
+        requires begun { first_clock ≤ℤ tick.0 }
+        requires ended { tick.0 ≤ℤ end_of_time }
+        requires some { (d : SpecDocument) × HasLandedUp G.pre G.post d tick.0 self.old × HasDoings C.pre C.post d AtRu (made_at d AtRu tick.0) meter.old }
+        ensures { (d : SpecDocument) → IsReplayable d → HasLandedUp G.pre G.post d tick.0 self.old → HasDoings C.pre C.post d AtRu (made_at d AtRu tick.0) meter.old
+            → OnOk result (WaitsUp G.pre G.post d (tick.0 +ℤ pos 1) self.new × HasDoings C.pre C.post d AtRu (doings_at d AtRu (tick.0 +ℤ pos 1)) meter.new) }
+    {
+        send_made(tick, meter, &mut self.pool, &mut self.way)
     }
 }

@@ -5,8 +5,8 @@ use Rattle.std.proofs.lemmas.Int.{ints}
 use Rattle.fh_base.specs.declared.fault.NoMemory.{NoMemory}
 use Rattle.fh_time.specs.declared.values.Ticks.{Ticks}
 use Rattle.window_config.specs.declared.config.Config.{Config}
-use Rattle.unit_model.specs.Standing.{History, nothing_yet}
-use Rattle.unit_model.specs.declared.allocations.Allocation.{Allocation}
+use Rattle.du_intake.specs.unit_model.specs.Standing.{History, nothing_yet}
+use Rattle.du_intake.specs.unit_model.specs.declared.allocations.Allocation.{Allocation}
 use Rattle.du_intake.specs.Calls.{IsDue, StandsFor}
 use Rattle.du_intake.specs.Units.{due_of}
 use Rattle.du_intake.specs.declared.unit.Intake.{Intake}

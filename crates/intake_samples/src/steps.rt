@@ -3,20 +3,20 @@ ghost use Rattle.std.specs.Prelude.{◌≡◌, ◌≤ℤ◌, true, All, List as 
 ghost use Rattle.window_config.specs.Configs.{IsConfig};
 ghost use Rattle.window_config.specs.Plans.{IsPlanLine};
 ghost use Rattle.window_config.specs.declared.config.Config.{Config as SpecConfig};
-ghost use Rattle.unit_model.specs.Proper.{IsTime};
-ghost use Rattle.unit_model.specs.Standing.{History};
-ghost use Rattle.unit_model.specs.declared.allocations.Allocation.{Allocation};
+ghost use Rattle.du_intake.specs.unit_model.specs.Proper.{IsTime};
+ghost use Rattle.du_intake.specs.unit_model.specs.Standing.{History};
+ghost use Rattle.du_intake.specs.unit_model.specs.declared.allocations.Allocation.{Allocation};
 ghost use Rattle.du_intake.specs.Calls.{IsReportedBefore, StandsFor};
 ghost use Rattle.du_intake.specs.Closing.{StandsForSome};
 ghost use Rattle.du_intake.specs.Planned.{IsPlanOf};
 
 use air_source::{Air, AirFault};
+use du_intake::plan_model::PlannedLine;
 use du_intake::{Delivered, Intake};
+use du_scheduler::plan_tests::tested;
 use du_scheduler::planned_lines;
 use fh_base::{List, NoMemory};
 use fh_time::Ticks;
-use plan_model::PlannedLine;
-use plan_tests::tested;
 use std::alloc::Global;
 use window_config::{Config, PlanLine};
 

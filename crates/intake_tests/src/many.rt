@@ -1,17 +1,17 @@
 // 50 s at 30 kHz, slot by slot: 100,000 slots, of which each hundredth has a line. A slot has 768,000,000 ticks, and frame 1 begins at
 // tick 15360000000; a cell is told 416,256,000 ticks behind the start of its symbol.
 ghost use Rattle.std.specs.Prelude.{◌<◌, ◌≤ℤ◌, pos, All, IfOk};
-ghost use Rattle.du_intake.specs.Closing.{StandsForSome};
-ghost use Rattle.unit_model.specs.Proper.{IsTime};
+ghost use Rattle.intake_samples.specs.du_intake.specs.Closing.{StandsForSome};
+ghost use Rattle.plain_units.specs.unit_model.specs.Proper.{IsTime};
 ghost use Rattle.window_config.specs.Plans.{IsPlanLine};
 
 use crate::samples::{DATA, Data, READ, at_30_khz, block, cell, has_counted, heard};
-use air_source::{AirCell, MemoryAir};
-use du_intake::Intake;
 use fault_counters::Counter;
 use fh_base::{List, NoMemory};
 use fh_time::{Slot, Ticks};
+use intake_samples::du_intake::Intake;
 use intake_samples::{close, line, made, step};
+use plain_units::air_source::{AirCell, MemoryAir};
 use std::alloc::Global;
 use std::test::Fail;
 use window_config::{Delays, PlanLine};

@@ -2,24 +2,24 @@
 // keeps all that came. The plan has two lines of section 5 at 30 kHz, of symbol 0 of frame 1: some elements of the PRBs 0 and 1, and
 // others of PRB 0. Ta4 is from 50 to 271 us behind its start. What two of the rows give is worked out by hand.
 ghost use Rattle.std.specs.Prelude.{IfOk, IfSome, All};
-ghost use Rattle.du_intake.specs.Closing.{StandsForSome};
+ghost use Rattle.intake_samples.specs.du_intake.specs.Closing.{StandsForSome};
 ghost use Rattle.plain_units.specs.declared.report.TimedFrame.{TimedFrame as SpecFrame};
-ghost use Rattle.unit_model.specs.Proper.{IsProperAllocation, IsTime};
+ghost use Rattle.plain_units.specs.unit_model.specs.Proper.{IsProperAllocation, IsTime};
 ghost use Rattle.window_config.specs.Configs.{IsConfig};
 ghost use Rattle.window_config.specs.Plans.{IsPlanLine};
 
 use crate::samples::{COMMAND, DATA, Data, EARLY, FIRST, LAST, at_30_khz, heard};
-use air_source::{AirFault, MemoryAir};
-use du_intake::Intake;
 use fault_counters::{Counter, Counters};
 use fh_base::{Bytes, List, NoMemory};
 use fh_time::Ticks;
+use intake_samples::du_intake::Intake;
+use intake_samples::plan_model::{PlannedLine, allocation_of, is_out_of_range};
 use intake_samples::{close, close_before, line, made, step, two};
+use plain_units::air_source::{AirFault, MemoryAir};
+use plain_units::unit_model::Allocation;
 use plain_units::{Report, TimedFrame, plain_du};
-use plan_model::{PlannedLine, allocation_of, is_out_of_range};
 use std::alloc::Global;
 use std::test::Fail;
-use unit_model::Allocation;
 use window_config::{Config, Delays, EndpointConfig, PlanLine};
 
 /// Some elements of the PRBs 0 and 1.

@@ -10,21 +10,20 @@ use Rattle.air_source.specs.declared.events.Side.{Side}
 use Rattle.air_source.specs.declared.events.Side.TheVariants.{Ru, Du}
 use Rattle.fh_document.specs.declared.document.Injection.{Injection}
 use Rattle.fh_document.specs.declared.refusals.DocWhy.TheVariants as why
-use Rattle.fh_document.specs.Building.{is_built, passes}
 use Rattle.fh_document.specs.ConfigLines.{time_at}
-use Rattle.fh_document.specs.Document.{finished, after_line, read_from, document_in}
+use Rattle.fh_document.specs.Document.{finished, after_line, read_from, document_of}
 use Rattle.fh_document.specs.Hex.{frame_of}
 use Rattle.fh_document.specs.InjectLines.{side_of, injected, inject_line}
 use Rattle.fh_document.specs.Lines.{start, line_of}
 use Rattle.fh_document.specs.Proper.{IsFrom}
 use Rattle.fh_document.specs.Refusals.{or_refuse, ◌>>=◌}
-use Rattle.fh_document.specs.Steps.{Said, Reach, injections, with_frames}
+use Rattle.fh_document.specs.Steps.{Said, injections, with_frames}
 use Rattle.fh_document.specs.Words.{is_text, number_in}
 use Rattle.line_laws.specs.Joined.{is_word}
 use Rattle.line_laws.specs.Laws.{IsFrame}
 use Rattle.line_laws.specs.Lines.{inject_text, injections_text, document_with}
 use Rattle.line_laws.specs.Words.{way_word, frame_word, inject_words}
-use Rattle.line_laws.proofs.Tests.{both_true, if_true, if_false, then_ok, then_some}
+use Rattle.line_laws.proofs.Tests.{both_true, if_false, then_ok, then_some}
 use Rattle.line_laws.proofs.JoinLemmas.{words_text, lines_are}
 use Rattle.line_laws.proofs.NumberLemmas.{number_is, signed_word}
 use Rattle.line_laws.proofs.HexLemmas.{frame_is, frame_visible}
@@ -60,26 +59,25 @@ may_inject false false true d = omega arith
 may_inject false false false true = omega arith
 may_inject false false false false = omega arith
 
--- the frames that stand, where all of them pass
-line_adds : (r : Said) (so_far : List Injection) (n : ℕ) (i : Injection) → n ≢ 1 → IsFrame i → r.measures ≡ [] → passes r.scope (is_built i) ≡ true
+-- the frames that stand, and one more
+line_adds : (r : Said) (so_far : List Injection) (n : ℕ) (i : Injection) → n ≢ 1 → IsFrame i → r.measures ≡ []
     → line_of (with_frames r so_far) n (inject_text i) ≡ Ok (with_frames r (so_far ++ i ∷ []))
-line_adds r so_far n i later h none built =
+line_adds r so_far n i later h none =
     line_is (with_frames r so_far) n injections (inject_words i) later (inject_visible i h) refl refl (order r.measures none)
     ∙ inject_is (with_frames r so_far) i h
-    ∙ if_true (passes r.scope (is_built i)) (Ok (with_frames r (so_far ++ i ∷ []))) (Err why.NotBuilt) built
   where
     order : {X : Type 0} (ms : List X) → ms ≡ [] → (if nat_lt 0 (length ms) then 5 else (if nat_lt 0 (length so_far) then 4
         else (if nat_lt 0 (length r.deliveries) then 3 else (if nat_lt 0 (length r.plan) then 2 else (if nat_lt 0 (length r.endpoints) then 1 else 0))))) ≤ 4
     order [] e = may_inject (nat_lt 0 (length so_far)) (nat_lt 0 (length r.deliveries)) (nat_lt 0 (length r.plan)) (nat_lt 0 (length r.endpoints))
     order (m ∷ ms) e = absurd (cc e)
 
-all_read : (r : Said) (so_far : List Injection) (n : ℕ) (is : List Injection) → 2 ≤ n → All IsFrame is → r.measures ≡ [] → All (λ i. passes r.scope (is_built i) ≡ true) is
+all_read : (r : Said) (so_far : List Injection) (n : ℕ) (is : List Injection) → 2 ≤ n → All IsFrame is → r.measures ≡ []
     → read_from n (with_frames r so_far) (map inject_text is) ≡ Ok (finished (with_frames r (so_far ++ is)))
-all_read r so_far n [] later h none built = ap (λ xs. Ok (finished (with_frames r xs))) (sym (append-nil so_far))
-all_read r so_far n (i ∷ is) later h none built =
+all_read r so_far n [] later h none = ap (λ xs. Ok (finished (with_frames r xs))) (sym (append-nil so_far))
+all_read r so_far n (i ∷ is) later h none =
     ap (λ x. after_line x (λ next. read_from (n + 1) next (map inject_text is)) (λ w. Err (n, w)))
-    (line_adds r so_far n i (λ e. absurd (omega arith)) (All-head IsFrame i is h) none (All-head (λ i. passes r.scope (is_built i) ≡ true) i is built))
-    ∙ all_read r (so_far ++ i ∷ []) (n + 1) is (omega arith) (All-tail IsFrame i is h) none (All-tail (λ i. passes r.scope (is_built i) ≡ true) i is built)
+    (line_adds r so_far n i (λ e. absurd (omega arith)) (All-head IsFrame i is h) none)
+    ∙ all_read r (so_far ++ i ∷ []) (n + 1) is (omega arith) (All-tail IsFrame i is h) none
     ∙ ap (λ xs. Ok (finished (with_frames r xs))) (append_assoc so_far (i ∷ []) is)
 
 inject_texts : (is : List Injection) → All IsFrame is → list_all is_text (map inject_text is) ≡ true
@@ -89,15 +87,14 @@ inject_texts (i ∷ is) h = both_true _ _ (words_text (inject_words i) (inject_v
 not_zero : (n : ℕ) → 0 < n → (n == 0) ≡ false
 not_zero n h = grind (arith, nat_tests)
 
-first_read : (scope : Reach) (lines : List (List ℕ)) → read_from 1 (start scope) (codes "fronthaul 1" ∷ lines) ≡ read_from 2 (start scope) lines
+first_read : (lines : List (List ℕ)) → read_from 1 start (codes "fronthaul 1" ∷ lines) ≡ read_from 2 start lines
 unfolding line_of
-first_read scope lines = refl
+first_read lines = refl
 
-pub document_is : (scope : Reach) (is : List Injection) → All IsFrame is → All (λ i. passes scope (is_built i) ≡ true) is
-    → document_in scope (injections_text is) ≡ Ok (document_with scope is)
-document_is scope is h built =
+pub document_is : (is : List Injection) → All IsFrame is → document_of (injections_text is) ≡ Ok (document_with is)
+document_is is h =
     let all = codes "fronthaul 1" ∷ map inject_text is in
     if_false (length (injections_text is) == 0) (Err (1, why.FirstLine)) _ (not_zero (length (injections_text is)) (omega arith))
-    ∙ ap (read_from 1 (start scope)) (lines_are all (omega arith) (inject_texts is h))
-    ∙ first_read scope (map inject_text is)
-    ∙ all_read (start scope) [] 2 is (omega arith) h refl built
+    ∙ ap (read_from 1 start) (lines_are all (omega arith) (inject_texts is h))
+    ∙ first_read (map inject_text is)
+    ∙ all_read start [] 2 is (omega arith) h refl

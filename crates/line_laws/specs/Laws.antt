@@ -5,14 +5,13 @@ use Rattle.text_lines.specs.Words.{hex4_text, hex3_text}
 use Rattle.window_config.specs.declared.plan.PlanLine.{PlanLine}
 use Rattle.fh_document.specs.declared.delivered.Delivery.{Delivery}
 use Rattle.fh_document.specs.declared.document.Injection.{Injection}
-use Rattle.fh_document.specs.Building.{is_built}
-use Rattle.fh_document.specs.Document.{document_of, parsed}
+use Rattle.fh_document.specs.Document.{document_of}
 use Rattle.fh_document.specs.Hex.{hex_of, frame_of}
 use Rattle.fh_document.specs.Lines.{line_of, reached}
 use Rattle.fh_document.specs.PlanLines.{planned}
 use Rattle.fh_document.specs.DeliverLines.{delivered}
 use Rattle.fh_document.specs.Proper.{IsFrom, IsPlanLine, IsDelivery}
-use Rattle.fh_document.specs.Steps.{Said, handled, whole}
+use Rattle.fh_document.specs.Steps.{Said}
 use Rattle.fh_document.specs.Words.{is_text, words_of, number_in, without_last_feed}
 use Rattle.line_laws.specs.Joined.{is_word, spaced, fed}
 use Rattle.line_laws.specs.Words.{frame_word, plan_words, deliver_words}
@@ -47,12 +46,9 @@ pub record IsFrame (i : Injection) : Type 0 where
   pub bytes : AreBytes i.frame
   pub short : length i.frame ≤ 9216
 
--- a text of inject lines is read as exactly these frames, in their order; where all are handled, `read` says the same
+-- a text of inject lines is read as exactly these frames, in their order
 abbrev pub InjectionsAreRead : Type 0
-InjectionsAreRead = (is : List Injection) → All IsFrame is → parsed (injections_text is) ≡ Ok (document_with whole is)
-
-abbrev pub BuiltInjectionsAreRead : Type 0
-BuiltInjectionsAreRead = (is : List Injection) → All IsFrame is → All (λ i. is_built i ≡ true) is → document_of (injections_text is) ≡ Ok (document_with handled is)
+InjectionsAreRead = (is : List Injection) → All IsFrame is → document_of (injections_text is) ≡ Ok (document_with is)
 
 -- a line of a plan behind line 1, where no line of a later kind stands: it plans what was written
 abbrev pub PlansAreRead : Type 0

@@ -1,3 +1,4 @@
+pub use Rattle.fh_document
 pub mod Joined
 pub mod Words
 pub mod Lines

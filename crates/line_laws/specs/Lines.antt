@@ -4,7 +4,7 @@ use Rattle.fh_document.specs.declared.document.Document.{Document}
 use Rattle.fh_document.specs.declared.document.Injection.{Injection}
 use Rattle.fh_document.specs.Lines.{start}
 use Rattle.fh_document.specs.Document.{finished}
-use Rattle.fh_document.specs.Steps.{Reach, with_frames}
+use Rattle.fh_document.specs.Steps.{with_frames}
 use Rattle.line_laws.specs.Joined.{spaced, fed}
 use Rattle.line_laws.specs.Words.{inject_words}
 
@@ -16,5 +16,5 @@ abbrev pub injections_text : List Injection → List ℕ
 injections_text is = fed (codes "fronthaul 1" ∷ map inject_text is)
 
 -- the document of these frames, in this order, where all else is as it is where no line says more
-abbrev pub document_with : Reach → List Injection → Document
-document_with scope is = finished (with_frames (start scope) is)
+abbrev pub document_with : List Injection → Document
+document_with is = finished (with_frames start is)

@@ -3,19 +3,19 @@ use Rattle.std.proofs.Common.{◌≡◌, ℕ, ℤ, pos, zero, suc, ◌+◌, ◌*
 use Rattle.std.specs.Prelude.{⊤}
 use Rattle.std.proofs.lemmas.Bool.{cases_Bool}
 use Rattle.std.proofs.lemmas.Int.{ints}
-use Rattle.plan_model.specs.Dense.{dense, dense_from, dense_in, first_near, is_near, lesser, sending_of, sendings, up_distance}
-use Rattle.plan_model.specs.Departures.{departures_of, start_of}
-use Rattle.plan_model.specs.Examples.{usual}
-use Rattle.plan_model.specs.Lines.{planned}
-use Rattle.plan_model.specs.Packs.{Message, Numbered, alone, frames_before, numbered, numbered_behind, packs, packs_behind, same_symbol, size_of, with_part}
-use Rattle.plan_model.specs.Streams.{Part, frames_in, messages_of, part_fields, part_in, parts_in}
-use Rattle.plan_model.specs.Valid.{dense_refused}
-use Rattle.plan_model.specs.declared.dense.Dense.{Dense}
-use Rattle.plan_model.specs.declared.dense.Sending.{Sending}
-use Rattle.plan_model.specs.declared.lines.PlannedLine.{PlannedLine}
-use Rattle.plan_model.specs.declared.refusals.PlanWhy.{PlanWhy}
-use Rattle.plan_model.specs.declared.streams.Stream.TheVariants.{DownData, UpData}
-use Rattle.unit_model.specs.Lists.{or_else}
+use Rattle.sent_laws.specs.plan_model.specs.Dense.{dense, dense_from, dense_in, first_near, is_near, lesser, sending_of, sendings, up_distance}
+use Rattle.sent_laws.specs.plan_model.specs.Departures.{departures_of, start_of}
+use Rattle.sent_laws.specs.plan_model.specs.Examples.{usual}
+use Rattle.sent_laws.specs.plan_model.specs.Lines.{planned}
+use Rattle.sent_laws.specs.plan_model.specs.Packs.{Message, Numbered, alone, frames_before, numbered, numbered_behind, packs, packs_behind, same_symbol, size_of, with_part}
+use Rattle.sent_laws.specs.plan_model.specs.Streams.{Part, frames_in, messages_of, part_fields, part_in, parts_in}
+use Rattle.sent_laws.specs.plan_model.specs.Valid.{dense_refused}
+use Rattle.sent_laws.specs.plan_model.specs.declared.dense.Dense.{Dense}
+use Rattle.sent_laws.specs.plan_model.specs.declared.dense.Sending.{Sending}
+use Rattle.sent_laws.specs.plan_model.specs.declared.lines.PlannedLine.{PlannedLine}
+use Rattle.sent_laws.specs.plan_model.specs.declared.refusals.PlanWhy.{PlanWhy}
+use Rattle.sent_laws.specs.plan_model.specs.declared.streams.Stream.TheVariants.{DownData, UpData}
+use Rattle.sent_laws.specs.unit_model.specs.Lists.{or_else}
 use Rattle.long_plans.specs.Lines.{frame_lines, long_config, LongPlansAreLong, LongPlansAreValid}
 use Rattle.long_plans.proofs.Lines.{line_at, none_refused, planned_is}
 use Rattle.long_plans.proofs.Parts.{air_start, start}

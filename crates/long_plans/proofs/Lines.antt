@@ -5,16 +5,16 @@ use Rattle.std.proofs.lemmas.Bool.{cases_Bool, and_parts}
 use Rattle.std.proofs.lemmas.Int.{ints}
 use Rattle.fh_time.specs.declared.values.Slot.{Slot}
 use Rattle.fragment_laws.specs.Apart.{IsIn}
-use Rattle.unit_model.specs.Claims.{same_slot, same_way}
-use Rattle.unit_model.specs.Commands.{is_full}
-use Rattle.unit_model.specs.declared.allocations.Allocation.{Allocation}
-use Rattle.unit_laws.proofs.CellLemmas.{slots_equal}
-use Rattle.plan_model.specs.Examples.{usual}
-use Rattle.plan_model.specs.Lines.{allocation_of, planned_from}
-use Rattle.plan_model.specs.Validity.{clash, refused_at, refused_from, share_cell}
-use Rattle.plan_model.specs.declared.lines.PlannedLine.{PlannedLine}
-use Rattle.plan_model.specs.declared.refusals.PlanWhy.{PlanWhy}
-use Rattle.plan_model.specs.declared.refusals.PlanWhy.TheVariants.{Overlap, TooManySections}
+use Rattle.sent_laws.specs.unit_model.specs.Claims.{same_slot, same_way}
+use Rattle.sent_laws.specs.unit_model.specs.Commands.{is_full}
+use Rattle.sent_laws.specs.unit_model.specs.declared.allocations.Allocation.{Allocation}
+use Rattle.sent_laws.specs.unit_laws.proofs.CellLemmas.{slots_equal}
+use Rattle.sent_laws.specs.plan_model.specs.Examples.{usual}
+use Rattle.sent_laws.specs.plan_model.specs.Lines.{allocation_of, planned_from}
+use Rattle.sent_laws.specs.plan_model.specs.Validity.{clash, refused_at, refused_from, share_cell}
+use Rattle.sent_laws.specs.plan_model.specs.declared.lines.PlannedLine.{PlannedLine}
+use Rattle.sent_laws.specs.plan_model.specs.declared.refusals.PlanWhy.{PlanWhy}
+use Rattle.sent_laws.specs.plan_model.specs.declared.refusals.PlanWhy.TheVariants.{Overlap, TooManySections}
 use Rattle.long_plans.specs.Lines.{frame_line, frame_lines}
 
 -- the line of a frame at the endpoint

@@ -9,17 +9,17 @@ use Rattle.std.proofs.lemmas.Int.{ints}
 use Rattle.fh_time.specs.Air.{air_of}
 use Rattle.fh_time.specs.declared.values.Slot.{Slot}
 use Rattle.fh_time.proofs.Euclid.{frame_floor}
-use Rattle.unit_model.specs.Claims.{is_from, same_slot}
-use Rattle.unit_model.specs.Lists.{each}
-use Rattle.unit_model.specs.Sweeps.{first_swept, of_endpoint, of_frame, of_slot, of_subframe, of_symbol, slot_at}
-use Rattle.unit_laws.proofs.CellLemmas.{slots_equal}
-use Rattle.unit_laws.proofs.SweepLemmas.{none_kept, of_endpoint_related, of_frame_related, of_slot_related, of_subframe_related, of_symbol_related}
-use Rattle.plan_model.specs.Examples.{usual}
-use Rattle.plan_model.specs.Lines.{allocation_of}
-use Rattle.plan_model.specs.Streams.{Part, has_part, part_in, symbol_parts}
-use Rattle.plan_model.specs.declared.lines.PlannedLine.{PlannedLine}
-use Rattle.plan_model.specs.declared.streams.Stream.TheVariants.{DownData}
-use Rattle.schedule_laws.proofs.RangeLemmas.{from_high}
+use Rattle.sent_laws.specs.unit_model.specs.Claims.{is_from, same_slot}
+use Rattle.sent_laws.specs.unit_model.specs.Lists.{each}
+use Rattle.sent_laws.specs.unit_model.specs.Sweeps.{first_swept, of_endpoint, of_frame, of_slot, of_subframe, of_symbol, slot_at}
+use Rattle.sent_laws.specs.unit_laws.proofs.CellLemmas.{slots_equal}
+use Rattle.sent_laws.specs.unit_laws.proofs.SweepLemmas.{none_kept, of_endpoint_related, of_frame_related, of_slot_related, of_subframe_related, of_symbol_related}
+use Rattle.sent_laws.specs.plan_model.specs.Examples.{usual}
+use Rattle.sent_laws.specs.plan_model.specs.Lines.{allocation_of}
+use Rattle.sent_laws.specs.plan_model.specs.Streams.{Part, has_part, part_in, symbol_parts}
+use Rattle.sent_laws.specs.plan_model.specs.declared.lines.PlannedLine.{PlannedLine}
+use Rattle.sent_laws.specs.plan_model.specs.declared.streams.Stream.TheVariants.{DownData}
+use Rattle.sent_laws.specs.schedule_laws.proofs.RangeLemmas.{from_high}
 use Rattle.long_plans.proofs.Lines.{line_at, lines_from}
 
 pub each_nothing : {A : Type 0} (from n : ℕ) (f : ℕ → List A) → ((k : ℕ) → from ≤ k → k < from + n → f k ≡ []) → each from n f ≡ []

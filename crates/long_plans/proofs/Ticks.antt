@@ -5,17 +5,17 @@ use Rattle.std.specs.Int.{int_gap}
 use Rattle.std.proofs.lemmas.Bool.{cases_lt}
 use Rattle.std.proofs.lemmas.Int.{ints}
 use Rattle.fh_time.specs.declared.values.Slot.{Slot}
-use Rattle.unit_model.specs.Lists.{each_tick, in_order}
-use Rattle.unit_model.specs.Radiated.{first_clock}
-use Rattle.unit_model.specs.Sweeps.{of_endpoint}
-use Rattle.unit_model.specs.Times.{end_of_time}
-use Rattle.unit_model.proofs.SweepLaws.{gap_is, gap_parts, ticks_none, ticks_split}
-use Rattle.unit_laws.proofs.SweepLemmas.{none_kept, of_endpoint_related}
-use Rattle.plan_model.specs.Examples.{usual}
-use Rattle.plan_model.specs.Lines.{allocation_of}
-use Rattle.plan_model.specs.Streams.{Part, has_part, line_before, part_in, parts_in, symbol_parts}
-use Rattle.plan_model.specs.declared.lines.PlannedLine.{PlannedLine}
-use Rattle.plan_model.specs.declared.streams.Stream.TheVariants.{DownData, UpData}
+use Rattle.sent_laws.specs.unit_model.specs.Lists.{each_tick, in_order}
+use Rattle.sent_laws.specs.unit_model.specs.Radiated.{first_clock}
+use Rattle.sent_laws.specs.unit_model.specs.Sweeps.{of_endpoint}
+use Rattle.sent_laws.specs.unit_model.specs.Times.{end_of_time}
+use Rattle.sent_laws.specs.unit_model.proofs.SweepLaws.{gap_is, gap_parts, ticks_none, ticks_split}
+use Rattle.sent_laws.specs.unit_laws.proofs.SweepLemmas.{none_kept, of_endpoint_related}
+use Rattle.sent_laws.specs.plan_model.specs.Examples.{usual}
+use Rattle.sent_laws.specs.plan_model.specs.Lines.{allocation_of}
+use Rattle.sent_laws.specs.plan_model.specs.Streams.{Part, has_part, line_before, part_in, parts_in, symbol_parts}
+use Rattle.sent_laws.specs.plan_model.specs.declared.lines.PlannedLine.{PlannedLine}
+use Rattle.sent_laws.specs.plan_model.specs.declared.streams.Stream.TheVariants.{DownData, UpData}
 use Rattle.long_plans.proofs.Lines.{line_at, lines_from}
 use Rattle.long_plans.proofs.Parts.{part_at, quiet, start, told}
 

@@ -7,27 +7,27 @@ use Rattle.std.proofs.lemmas.Bool.{cases_Bool}
 use Rattle.std.proofs.lemmas.Bool.Decides.{Decides-int_eq}
 use Rattle.std.proofs.lemmas.Int.{by_lt_z, ints}
 use Rattle.std.proofs.lemmas.List.Elements.{All-filter, All-head, All-map, All-nil, All-tail, All-weaker}
-use Rattle.air_source.specs.declared.events.Side.{Side}
-use Rattle.delay_laws.proofs.Keeping.{IsKept, Keeps, all_kept}
-use Rattle.delay_laws.specs.Nodes.{Heard, time_of}
-use Rattle.delay_laws.specs.Ticks.{Begin, Flight, came_heard, copies_at, landing}
-use Rattle.delay_measure.specs.declared.message.DelayMessage.{DelayMessage}
+use Rattle.document_delays.specs.air_source.specs.declared.events.Side.{Side}
+use Rattle.document_delays.specs.delay_laws.proofs.Keeping.{IsKept, Keeps, all_kept}
+use Rattle.document_delays.specs.delay_laws.specs.Nodes.{Heard, time_of}
+use Rattle.document_delays.specs.delay_laws.specs.Ticks.{Begin, Flight, came_heard, copies_at, landing}
+use Rattle.document_delays.specs.delay_measure.specs.declared.message.DelayMessage.{DelayMessage}
 use Rattle.document_delays.proofs.Documents.{document_ends}
 use Rattle.document_delays.specs.Settings.{begin_of, setting_of, ways_of}
 use Rattle.document_traffic.specs.Landing.{injected_at, injected_to, is_to}
-use Rattle.fh_document.specs.Proper.{IsDocumentIn, IsFrom, IsInjectionIn, IsMeasure}
-use Rattle.fh_document.specs.declared.delivered.Class3.TheVariants.{M}
-use Rattle.fh_document.specs.declared.document.Document.{Document}
-use Rattle.fh_document.specs.declared.document.Injection.{Injection}
-use Rattle.fh_document.specs.declared.document.Measure.{Measure}
-use Rattle.fragment_laws.specs.Apart.{IsIn}
-use Rattle.frame_deliveries.proofs.Within.{copies_within}
-use Rattle.frame_deliveries.specs.Copies.{copies_of}
-use Rattle.replay_events.specs.Moments.{landing_at}
-use Rattle.schedule_laws.proofs.ListLemmas.{in_all}
-use Rattle.unit_model.specs.Meetings.{Arrival}
-use Rattle.unit_model.specs.Radiated.{first_clock}
-use Rattle.window_config.specs.Windows.{ticks_of_ns}
+use Rattle.document_delays.specs.fh_document.specs.Proper.{IsDocument, IsFrom, IsInjection, IsMeasure}
+use Rattle.document_delays.specs.fh_document.specs.declared.delivered.Class3.TheVariants.{M}
+use Rattle.document_delays.specs.fh_document.specs.declared.document.Document.{Document}
+use Rattle.document_delays.specs.fh_document.specs.declared.document.Injection.{Injection}
+use Rattle.document_delays.specs.fh_document.specs.declared.document.Measure.{Measure}
+use Rattle.uplink_turns.specs.fragment_laws.specs.Apart.{IsIn}
+use Rattle.document_delays.specs.frame_deliveries.proofs.Within.{copies_within}
+use Rattle.document_delays.specs.frame_deliveries.specs.Copies.{copies_of}
+use Rattle.uplink_turns.specs.replay_events.specs.Moments.{landing_at}
+use Rattle.uplink_turns.specs.schedule_laws.proofs.ListLemmas.{in_all}
+use Rattle.uplink_turns.specs.unit_model.specs.Meetings.{Arrival}
+use Rattle.uplink_turns.specs.unit_model.specs.Radiated.{first_clock}
+use Rattle.document_delays.specs.window_config.specs.Windows.{ticks_of_ns}
 use Rattle.measured_traffic.proofs.ListLemmas.{apart}
 use Rattle.measured_traffic.specs.Measured.{delay_messages, exchanges, others_of, tick_count}
 
@@ -91,14 +91,14 @@ later a b c h k = omega (arith, ints, h, k)
 begun : (ns : ℤ) → pos 1000000 ≤ℤ ns → first_clock ≤ℤ ticks_of_ns ns
 begun ns low = omega (arith, ints, low)
 
-module _ (scope : _) (d : Document) (is : IsDocumentIn scope d) where
+module _ (d : Document) (is : IsDocument d) where
   no_others : (side : Side) (t : ℤ) → ((ns : ℤ) → IsFrom 0 (10 ^ 12) ns → ns *ℤ pos 1536 ≡ t → ⊥) → others_of d side t ≡ []
   no_others side t differ =
       let injections = filter (is_to side) d.injections in
       ap (λ (arrivals : List Arrival). flat_map (λ (a : Arrival). delay_messages a.frame) arrivals)
       (none_at t (injected_to side d) (All-map (λ (a : Arrival). a.at ≡ t → ⊥) injected_at injections
-      (All-weaker (IsInjectionIn scope) (λ (i : Injection). (injected_at i).at ≡ t → ⊥) (λ i proper. differ i.at proper.time) injections
-      (All-filter (is_to side) (IsInjectionIn scope) d.injections is.injections))))
+      (All-weaker IsInjection (λ (i : Injection). (injected_at i).at ≡ t → ⊥) (λ i proper. differ i.at proper.time) injections
+      (All-filter (is_to side) IsInjection d.injections is.injections))))
 
   -- ---- no frame of delay measurement is sent and no copy lands before the first clock
 
@@ -123,7 +123,7 @@ module _ (scope : _) (d : Document) (is : IsDocumentIn scope d) where
   begins_begun : All (λ b. first_clock ≤ℤ b.at) (map begin_of d.measures)
   begins_begun =
       All-map (λ (b : Begin). first_clock ≤ℤ b.at) begin_of d.measures
-      (All-weaker IsMeasure (λ (m : Measure). first_clock ≤ℤ ticks_of_ns m.at) (λ m time. begun m.at time.low) d.measures is.measures)
+      (All-weaker IsMeasure (λ (m : Measure). first_clock ≤ℤ ticks_of_ns m.at) (λ m proper. begun m.at proper.time.low) d.measures is.measures)
 
   keeps : Keeps (setting_of d (others_of d)) IsBegun IsHeard
   keeps = record {
@@ -142,7 +142,7 @@ module _ (scope : _) (d : Document) (is : IsDocumentIn scope d) where
 
   pub flown_before : (side : Side) (f : Flight) (ticks : ℤ) → IsIn f ((exchanges d).sent side) → IsIn ticks f.delays → (f.at +ℤ ticks) ≤ℤ ticks_of_ns (pos 1009000000000)
   flown_before side f ticks m i =
-      let ends = document_ends scope d is (others_of d) (λ s t behind. no_others s t (λ ns time. late ns t time.high behind)) first_clock tick_count in
+      let ends = document_ends d is (others_of d) (λ s t behind. no_others s t (λ ns time. late ns t time.high behind)) first_clock tick_count in
       by_lt_z (ticks_of_ns (pos 1009000000000)) (f.at +ℤ ticks)
       (λ behind. absurd (flown_lands ((exchanges d).sent side) f ticks m i (ends.1 side (f.at +ℤ ticks) behind)))
       (λ within. within)

@@ -5,24 +5,24 @@ use Rattle.std.specs.List.{flat_map}
 use Rattle.std.proofs.lemmas.Bool.{cases_lt, eq-eqb, le-ltb}
 use Rattle.std.proofs.lemmas.Bool.Decides.{nat_tests}
 use Rattle.std.proofs.lemmas.Int.{ints}
-use Rattle.air_source.specs.declared.events.Side.{Side}
+use Rattle.document_delays.specs.air_source.specs.declared.events.Side.{Side}
 use Rattle.bfp_codec.proofs.Twos.{signed_twos, twos_fits}
 use Rattle.bfp_codec.specs.Layout.{AreBytes, twos}
 use Rattle.bit_fields.proofs.Field.{field_fits}
 use Rattle.bit_fields.specs.Field.{field, signed}
-use Rattle.delay_measure.specs.declared.message.DelayMessage.{DelayMessage}
-use Rattle.delay_measure.specs.Payload.{WritesMessage, message_of}
+use Rattle.document_delays.specs.delay_measure.specs.declared.message.DelayMessage.{DelayMessage}
+use Rattle.document_delays.specs.delay_measure.specs.Payload.{WritesMessage, message_of}
 use Rattle.ecpri_frames.proofs.Spelled.{read_spelled}
 use Rattle.ecpri_frames.specs.Gathering.{is_whole, whole_messages}
 use Rattle.ecpri_frames.specs.Headers.{WritesHead, head_of}
 use Rattle.ecpri_frames.specs.declared.heads.Head.{Head}
 use Rattle.ecpri_frames.specs.Messages.{Message, Reading}
 use Rattle.ecpri_frames.specs.Spelling.{Spells}
-use Rattle.frame_bytes.proofs.Fields.{AreAt, AreSmall, at_fields, bit_read, fields_are, length-in_bytes}
-use Rattle.frame_bytes.specs.Spelled.{in_bytes}
+use Rattle.uplink_turns.specs.frame_bytes.proofs.Fields.{AreAt, AreSmall, at_fields, bit_read, fields_are, length-in_bytes}
+use Rattle.uplink_turns.specs.frame_bytes.specs.Spelled.{in_bytes}
 use Rattle.fault_counters.specs.declared.kinds.Counter.TheVariants.{Delay}
-use Rattle.unit_model.specs.Meetings.{Ignored, meet, meetings, met_in}
-use Rattle.unit_model.specs.Lists.{onto}
+use Rattle.uplink_turns.specs.unit_model.specs.Meetings.{Ignored, meet, meetings, met_in}
+use Rattle.uplink_turns.specs.unit_model.specs.Lists.{onto}
 use Rattle.measured_traffic.specs.Laws.{FramesAreCounted, FramesAreRead, FramesAreWritten, IsDelayMessage}
 use Rattle.measured_traffic.specs.Measured.{delay_frame, delays_of, has_only_delays, header_fields, payload_fields}
 
@@ -33,7 +33,7 @@ payload_of m = in_bytes (payload_fields m)
 abbrev pub told_as : DelayMessage → Message
 told_as m = record { place = 0; head = record { more = false; kind = 5; size = 20 }; payload = payload_of m }
 
-payload_long : (m : DelayMessage) → length (payload_of m) ≡ 20
+pub payload_long : (m : DelayMessage) → length (payload_of m) ≡ 20
 payload_long m = length-in_bytes 20 (payload_fields m) refl
 
 header_small : AreSmall header_fields

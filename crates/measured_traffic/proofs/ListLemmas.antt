@@ -8,10 +8,10 @@ use Rattle.std.proofs.lemmas.Bool.Decides.{Decides-int_eq}
 use Rattle.std.proofs.lemmas.Int.{by_lt_z, ints}
 use Rattle.std.proofs.lemmas.List.Concat.{flat_map-append}
 use Rattle.std.proofs.lemmas.List.Elements.{filter-append}
-use Rattle.fragment_laws.specs.Apart.{IsIn}
-use Rattle.schedule_laws.proofs.ListLemmas.{in_either}
-use Rattle.schedule_laws.proofs.OrderLemmas.{IsRising}
-use Rattle.unit_model.specs.Lists.{each_tick, onto}
+use Rattle.uplink_turns.specs.fragment_laws.specs.Apart.{IsIn}
+use Rattle.uplink_turns.specs.schedule_laws.proofs.ListLemmas.{in_either}
+use Rattle.uplink_turns.specs.schedule_laws.proofs.OrderLemmas.{IsRising}
+use Rattle.uplink_turns.specs.unit_model.specs.Lists.{each_tick, onto}
 
 -- ---- filters
 
@@ -70,10 +70,10 @@ unfolding each_tick
 ticks_none key from zero = refl
 ticks_none key from (suc n) = ticks_none key (from +ℤ pos 1) n
 
-without : {X : Type 0} (key : X → ℤ) (t : ℤ) (x : X) (xs : List X) → (key x ≡ t → ⊥) → at_key key (x ∷ xs) t ≡ at_key key xs t
+pub without : {X : Type 0} (key : X → ℤ) (t : ℤ) (x : X) (xs : List X) → (key x ≡ t → ⊥) → at_key key (x ∷ xs) t ≡ at_key key xs t
 without key t x xs differ = let other = apart (key x) t differ in rw other refl
 
-with_first : {X : Type 0} (key : X → ℤ) (t : ℤ) (x : X) (xs : List X) → int_eq (key x) t ≡ true → at_key key (x ∷ xs) t ≡ x ∷ at_key key xs t
+pub with_first : {X : Type 0} (key : X → ℤ) (t : ℤ) (x : X) (xs : List X) → int_eq (key x) t ≡ true → at_key key (x ∷ xs) t ≡ x ∷ at_key key xs t
 with_first key t x xs same = rw same refl
 
 skip_first : {X : Type 0} (key : X → ℤ) (from : ℤ) (n : ℕ) (x : X) (xs : List X) → key x <ℤ from → each_tick from n (at_key key (x ∷ xs)) ≡ each_tick from n (at_key key xs)
@@ -82,7 +82,7 @@ skip_first key from zero x xs before = refl
 skip_first key from (suc n) x xs before =
     ap₂ ◌++◌ (without key from x xs (λ e. omega (arith, ints, e, before))) (skip_first key (from +ℤ pos 1) n x xs (omega (arith, ints, before)))
 
-none_then : {X : Type 0} (key : X → ℤ) (t : ℤ) (xs : List X) → ((y : X) → IsIn y xs → t <ℤ key y) → at_key key xs t ≡ []
+pub none_then : {X : Type 0} (key : X → ℤ) (t : ℤ) (xs : List X) → ((y : X) → IsIn y xs → t <ℤ key y) → at_key key xs t ≡ []
 none_then key t [] later = refl
 none_then key t (x ∷ xs) later =
     let lt = later x (inl refl) in

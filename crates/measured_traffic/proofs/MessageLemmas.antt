@@ -1,29 +1,26 @@
 -- What comes of delay measurement at a tick is what both units are told then.
-use Rattle.std.proofs.Common.{◌≡◌, ℕ, ℤ, pos, zero, suc, ◌+ℤ◌, ◌≤ℤ◌, ◌<ℤ◌, inl, inr, Bool, true, false, if◌then◌else◌, List, [], ◌∷◌, ◌++◌, length, refl, ap, ap₂, sym, ◌∙◌, subst, arith}
+use Rattle.std.proofs.Common.{◌≡◌, ℕ, ℤ, pos, zero, suc, ◌+ℤ◌, Bool, true, false, if◌then◌else◌, List, [], ◌∷◌, ◌++◌, refl, ap, ap₂, sym, ◌∙◌}
 use Rattle.std.specs.Prelude.{All, map}
 use Rattle.std.specs.List.{flat_map}
 use Rattle.std.specs.Ordering.{int_eq}
-use Rattle.std.proofs.lemmas.Int.{ints}
 use Rattle.std.proofs.lemmas.List.Concat.{flat_map-append}
 use Rattle.std.proofs.lemmas.List.Elements.{All-filter, All-head, All-tail, filter-append}
-use Rattle.air_source.specs.declared.events.Side.{Side}
-use Rattle.delay_laws.specs.Nodes.{other}
-use Rattle.delay_laws.specs.Ticks.{Flight, Setting, after_tick, copies_at, flight, hearing, landing, launched, state}
-use Rattle.delay_measure.specs.declared.message.DelayMessage.{DelayMessage}
+use Rattle.document_delays.specs.delay_laws.specs.Ticks.{Flight, copies_at, landing}
+use Rattle.document_delays.specs.delay_measure.specs.declared.message.DelayMessage.{DelayMessage}
 use Rattle.document_delays.specs.Settings.{setting_of}
 use Rattle.document_traffic.specs.Landing.{all_delayed, copies_among, copies_in, copy_at, injected_to}
 use Rattle.document_traffic.specs.Sending.{Delayed}
-use Rattle.fragment_laws.specs.Apart.{IsIn}
-use Rattle.replay_events.specs.Moments.{landing_at}
-use Rattle.schedule_laws.proofs.ListLemmas.{in_either}
-use Rattle.schedule_laws.proofs.OrderLemmas.{IsRising}
-use Rattle.unit_model.specs.Lists.{each_tick}
-use Rattle.unit_model.specs.Meetings.{Arrival}
-use Rattle.unit_model.specs.Radiated.{first_clock}
+use Rattle.uplink_turns.specs.replay_events.specs.Moments.{landing_at}
+use Rattle.uplink_turns.specs.unit_model.specs.Lists.{each_tick}
+use Rattle.uplink_turns.specs.unit_model.specs.Meetings.{Arrival}
+use Rattle.uplink_turns.specs.unit_model.specs.Radiated.{first_clock}
 use Rattle.measured_traffic.proofs.FrameLemmas.{frames_are_read}
 use Rattle.measured_traffic.proofs.ListLemmas.{swept, ticks_flat, ticks_same}
 use Rattle.measured_traffic.specs.Laws.{IsDelayMessage, MessagesLand}
-use Rattle.measured_traffic.specs.Measured.{all_sent, copies_flown, delay_frame, delay_messages, delayed_then, exchanges, flight_copy, flights_then, others_of, sent_then, tick_count}
+use Rattle.measured_traffic.proofs.AlikeLemmas.{lands_alike}
+use Rattle.measured_traffic.proofs.Apart.{all_sent, copies_flown, delayed_then, flight_copy, sent_then}
+use Rattle.measured_traffic.proofs.OrderLemmas.{AreInTicks, flights_in_ticks}
+use Rattle.measured_traffic.specs.Measured.{delay_frame, delay_messages, exchanges, flights_then, others_of, tick_count}
 
 -- ---- the messages of what lands at a tick
 
@@ -86,68 +83,6 @@ flights_tell t (f ∷ fs) fit =
     ∙ ap₂ (λ (ms more : List DelayMessage). ms ++ more) (copies_tell t f f.delays (frames_are_read f.message (All-head (λ (g : Flight). IsDelayMessage g.message) f fs fit)))
     (flights_tell t fs (All-tail (λ (g : Flight). IsDelayMessage g.message) f fs fit))
 
--- ---- frames of class m are sent in the order of ticks
-
--- in the order of ticks, none before a first or behind a last one
-pub record AreUpTo (first last : ℤ) (fs : List Flight) : Type 0 where
-  pub rising : IsRising (λ (f : Flight). f.at) fs
-  pub within : (f : Flight) → IsIn f fs → (first ≤ℤ f.at) × (f.at ≤ℤ last)
-
-same_tick : (t : ℤ) → t ≤ℤ t
-same_tick t = omega (arith, ints)
-
-rising_push : (fs : List Flight) (g : Flight) → IsRising (λ (f : Flight). f.at) fs → ((f : Flight) → IsIn f fs → f.at ≤ℤ g.at) → IsRising (λ (f : Flight). f.at) (fs ++ g ∷ [])
-rising_push [] g rising before = (λ y m. absurd m, tt)
-rising_push (f ∷ fs) g rising before = (
-  λ y m. elim (in_either y fs (g ∷ []) m) [
-    | inl l ↦ rising.0 y l
-    | inr r ↦ elim r [ inl e ↦ subst (λ (h : Flight). f.at ≤ℤ h.at) (sym e) (before f (inl refl)) | inr t ↦ absurd t ]
-  ],
-  rising_push fs g rising.1 (λ h m. before h (inr m)),
-)
-
-pushed : (first last : ℤ) (fs : List Flight) (g : Flight) → first ≤ℤ last → g.at ≡ last → AreUpTo first last fs → AreUpTo first last (fs ++ g ∷ [])
-pushed first last fs g order at are = record {
-  rising = rising_push fs g are.rising (λ f m. subst (λ (t : ℤ). f.at ≤ℤ t) (sym at) (are.within f m).1);
-  within = λ f m. elim (in_either f fs (g ∷ []) m) [
-    | inl l ↦ are.within f l
-    | inr r ↦ elim r [
-      | inl e ↦ subst (λ (t : ℤ). (first ≤ℤ t) × (t ≤ℤ last)) (sym (ap (λ (h : Flight). h.at) e ∙ at)) (order, same_tick last)
-      | inr t ↦ absurd t
-    ]
-  ];
-}
-
-launched_up_to : (first last : ℤ) (delays : ℕ → List ℤ) (sent : List Flight) (ms : List DelayMessage) → first ≤ℤ last → AreUpTo first last sent → AreUpTo first last (launched delays last sent ms)
-launched_up_to first last delays sent [] order are = are
-launched_up_to first last delays sent (m ∷ ms) order are =
-    let f : Flight = flight delays last (length sent) m in
-    launched_up_to first last delays (sent ++ f ∷ []) ms order (pushed first last sent f order refl are)
-
-before_next : (first : ℤ) (n : ℕ) (t : ℤ) → (first ≤ℤ t) × (t <ℤ (first +ℤ pos n)) → (first ≤ℤ t) × (t ≤ℤ (first +ℤ pos n))
-before_next first n t h = (h.0, (let lt = h.1 in omega (arith, ints, lt)))
-
-up_to_next : (first : ℤ) (n : ℕ) (t : ℤ) → (first ≤ℤ t) × (t ≤ℤ (first +ℤ pos n)) → (first ≤ℤ t) × (t <ℤ (first +ℤ pos (suc n)))
-up_to_next first n t h = (h.0, (let le = h.1 in omega (arith, ints, le)))
-
-begun : (first : ℤ) (n : ℕ) → first ≤ℤ (first +ℤ pos n)
-begun first n = omega (arith, ints)
-
--- in the order of ticks, and within those that are gone over
-pub record AreInTicks (first : ℤ) (n : ℕ) (fs : List Flight) : Type 0 where
-  pub rising : IsRising (λ (f : Flight). f.at) fs
-  pub within : (f : Flight) → IsIn f fs → (first ≤ℤ f.at) × (f.at <ℤ (first +ℤ pos n))
-
-flights_in_ticks : (w : Setting) (first : ℤ) (n : ℕ) (side : Side) → AreInTicks first n ((state w first n).sent side)
-unfolding state after_tick
-flights_in_ticks w first zero side = record { rising = tt; within = λ f m. absurd m }
-flights_in_ticks w first (suc n) side =
-    let earlier = flights_in_ticks w first n side in
-    let last : ℤ = first +ℤ pos n in
-    let now = launched_up_to first last (w.delays side) ((state w first n).sent side) ((hearing w last (state w first n)).made (other side)) (begun first n)
-    (record { rising = earlier.rising; within = λ f m. before_next first n f.at (earlier.within f m) }) in
-    record { rising = now.rising; within = λ f m. up_to_next first n f.at (now.within f m) }
-
 -- ---- so what comes at a tick is what they are told
 
 landing_flat : (t : ℤ) (fs : List Flight) → landing fs t ≡ flat_map (λ (f : Flight). copies_at f.delays f.at f.message t) fs
@@ -172,6 +107,7 @@ sent_tell t xs fs ticks none fit =
 pub messages_land : MessagesLand
 messages_land d side t distinct =
     let fs = (exchanges d).sent side in
-    told_append t (all_sent (all_delayed side d) fs) (injected_to side d)
+    ap (told_at t) (lands_alike side d)
+    ∙ told_append t (all_sent (all_delayed side d) fs) (injected_to side d)
     ∙ ap (λ (ms : List DelayMessage). ms ++ others_of d side t)
     (sent_tell t (all_delayed side d) fs (flights_in_ticks (setting_of d (others_of d)) first_clock tick_count side) distinct.others_have_none distinct.fit)

@@ -1,64 +1,42 @@
 -- Without delay measurement in a document the same lands.
-use Rattle.std.proofs.Common.{◌≡◌, inl, inr, ℕ, ℤ, pos, ◌+◌, ◌+ℤ◌, Bool, true, false, not, ◌||◌, List, [], ◌∷◌, ◌++◌, refl, ap, ap₂, sym, ◌∙◌, arith}
+use Rattle.std.proofs.Common.{◌≡◌, ℕ, ℤ, pos, ◌+◌, ◌+ℤ◌, List, [], ◌∷◌, ◌++◌, refl, ap, ap₂, ◌∙◌, arith}
 use Rattle.std.specs.Prelude.{All, filter, map}
-use Rattle.std.specs.List.{flat_map, list_any}
+use Rattle.std.specs.List.{flat_map}
 use Rattle.std.specs.Ordering.{int_eq}
-use Rattle.std.proofs.lemmas.Bool.{cases_Bool}
-use Rattle.std.proofs.lemmas.List.Elements.{All-filter, All-head, All-map, All-tail, All-weaker}
-use Rattle.air_source.specs.declared.events.Side.{Side}
-use Rattle.delay_laws.proofs.Quiet.{quiet_ticks}
-use Rattle.delay_laws.specs.Ticks.{Flight, Setting, State, due, landing, state}
-use Rattle.delay_measure.specs.declared.message.DelayMessage.{DelayMessage}
+use Rattle.std.proofs.lemmas.List.Elements.{All-filter, All-head, All-map, All-tail}
+use Rattle.document_delays.specs.air_source.specs.declared.events.Side.{Side}
+use Rattle.document_delays.specs.delay_laws.proofs.Quiet.{quiet_ticks}
+use Rattle.document_delays.specs.delay_laws.specs.Ticks.{Flight, Setting, State, due, landing, state}
+use Rattle.document_delays.specs.delay_measure.specs.declared.message.DelayMessage.{DelayMessage}
 use Rattle.document_delays.specs.Settings.{begin_of, setting_of}
 use Rattle.document_traffic.specs.Landing.{injected_at, injected_to, is_to}
-use Rattle.ecpri_frames.specs.Gathering.{whole_messages}
-use Rattle.ecpri_frames.specs.Messages.{Message}
-use Rattle.fh_document.specs.Building.{is_built, is_unbuilt}
-use Rattle.fh_document.specs.Proper.{IsInjection}
-use Rattle.fh_document.specs.declared.document.Document.{Document}
-use Rattle.fh_document.specs.declared.document.Injection.{Injection}
-use Rattle.fh_document.specs.declared.document.Measure.{Measure}
-use Rattle.replay_events.specs.Moments.{landing_at}
-use Rattle.unit_model.specs.Meetings.{Arrival}
-use Rattle.unit_model.specs.Radiated.{first_clock}
+use Rattle.document_delays.specs.fh_document.specs.declared.document.Document.{Document}
+use Rattle.document_delays.specs.fh_document.specs.declared.document.Injection.{Injection}
+use Rattle.document_delays.specs.fh_document.specs.declared.document.Measure.{Measure}
+use Rattle.uplink_turns.specs.replay_events.specs.Moments.{landing_at}
+use Rattle.uplink_turns.specs.unit_model.specs.Meetings.{Arrival}
+use Rattle.uplink_turns.specs.unit_model.specs.Radiated.{first_clock}
 use Rattle.measured_traffic.proofs.SentLemmas.{none_measured}
-use Rattle.measured_traffic.specs.Laws.{BuiltLandsTheSame, UnmeasuredLandsTheSame}
-use Rattle.measured_traffic.specs.Measured.{delay_messages, delays_of, is_delay, others_of, tick_count}
+use Rattle.measured_traffic.specs.Laws.{UnmeasuredLandsTheSame}
+use Rattle.measured_traffic.specs.Measured.{delay_messages, others_of, tick_count}
 
 -- ---- no message of delay measurement comes in an injected frame
 
-none_of_type : (ms : List Message) → list_any is_unbuilt ms ≡ false → flat_map delays_of ms ≡ []
-none_of_type [] none = refl
-none_of_type (m ∷ ms) none = elim (cases_Bool (is_delay m)) [
-  | inl is ↦ (let h : (is_delay m || list_any is_unbuilt ms) ≡ true = rw is refl in let both : true ≡ false = sym h ∙ none in absurd cc)
-  | inr other ↦
-      let rest : list_any is_unbuilt ms ≡ false = (let h : (is_delay m || list_any is_unbuilt ms) ≡ list_any is_unbuilt ms = rw other refl in sym h ∙ none) in
-      rw other (none_of_type ms rest)
-]
-
-was_false : (b : Bool) → not b ≡ true → b ≡ false
-was_false true h = absurd cc
-was_false false h = refl
-
 abbrev pub HasNone : Arrival → Type 0
 HasNone a = delay_messages a.frame ≡ []
-
-built_has_none : (i : Injection) → is_built i ≡ true → HasNone (injected_at i)
-built_has_none i is = none_of_type (whole_messages i.frame) (was_false (list_any is_unbuilt (whole_messages i.frame)) is)
 
 none_in_all : (arrivals : List Arrival) → All HasNone arrivals → flat_map (λ (a : Arrival). delay_messages a.frame) arrivals ≡ []
 none_in_all [] all = refl
 none_in_all (a ∷ arrivals) all =
     ap₂ (λ (ms ns : List DelayMessage). ms ++ ns) (All-head HasNone a arrivals all) (none_in_all arrivals (All-tail HasNone a arrivals all))
 
-injected_have_none : (side : Side) (injections : List Injection) → All (λ i. is_built i ≡ true) injections → All HasNone (map injected_at (filter (is_to side) injections))
-injected_have_none side injections built =
-    All-map HasNone injected_at (filter (is_to side) injections) (All-weaker (λ (i : Injection). is_built i ≡ true) (λ (i : Injection). HasNone (injected_at i)) built_has_none (filter (is_to side) injections)
-    (All-filter (is_to side) (λ (i : Injection). is_built i ≡ true) injections built))
+injected_have_none : (side : Side) (injections : List Injection) → All (λ i. delay_messages i.frame ≡ []) injections → All HasNone (map injected_at (filter (is_to side) injections))
+injected_have_none side injections none =
+    All-map HasNone injected_at (filter (is_to side) injections) (All-filter (is_to side) (λ (i : Injection). delay_messages i.frame ≡ []) injections none)
 
-no_others : (d : Document) (side : Side) (t : ℤ) → All (λ i. is_built i ≡ true) d.injections → others_of d side t ≡ []
-no_others d side t built =
-    none_in_all (landing_at (injected_to side d) t) (All-filter (λ (a : Arrival). int_eq a.at t) HasNone (injected_to side d) (injected_have_none side d.injections built))
+pub no_others : (d : Document) (side : Side) (t : ℤ) → All (λ i. delay_messages i.frame ≡ []) d.injections → others_of d side t ≡ []
+no_others d side t none =
+    none_in_all (landing_at (injected_to side d) t) (All-filter (λ (a : Arrival). int_eq a.at t) HasNone (injected_to side d) (injected_have_none side d.injections none))
 
 -- ---- so no tick does anything
 
@@ -80,9 +58,5 @@ nothing_measured w first n side begins others =
     ∙ nothing_sent w first side
 
 pub unmeasured_lands_the_same : UnmeasuredLandsTheSame
-unmeasured_lands_the_same d side unmeasured built =
-    none_measured side d (nothing_measured (setting_of d (others_of d)) first_clock tick_count side (λ t. none_due d.measures t unmeasured) (λ s t. no_others d s t built))
-
-pub built_lands_the_same : BuiltLandsTheSame
-built_lands_the_same d side is =
-    unmeasured_lands_the_same d side is.unmeasured (All-weaker IsInjection (λ (i : Injection). is_built i ≡ true) (λ i proper. proper.built) d.injections is.injections)
+unmeasured_lands_the_same d side unmeasured none =
+    none_measured side d (nothing_measured (setting_of d (others_of d)) first_clock tick_count side (λ t. none_due d.measures t unmeasured) (λ s t. no_others d s t none))

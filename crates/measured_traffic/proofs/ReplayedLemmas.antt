@@ -3,25 +3,29 @@ use Rattle.std.proofs.Common.{ℤ, pos, ◌+ℤ◌, ◌≤ℤ◌, inl, inr, ◌�
 use Rattle.std.specs.List.{flat_map}
 use Rattle.std.specs.Ordering.{int_eq}
 use Rattle.std.proofs.lemmas.Int.{ints}
-use Rattle.air_source.specs.declared.events.Side.{Side}
-use Rattle.delay_laws.specs.Ticks.{Flight}
+use Rattle.document_delays.specs.air_source.specs.declared.events.Side.{Side}
+use Rattle.document_delays.specs.delay_laws.specs.Ticks.{Flight}
 use Rattle.document_traffic.proofs.CopyLemmas.{of_copies}
+use Rattle.document_traffic.proofs.LandingLemmas.{each_leaves, landing_in_time, last_leaving, leaving_late}
 use Rattle.document_traffic.proofs.TimeLemmas.{IsBy, longest, replayed_by}
+use Rattle.document_traffic.proofs.WithinLemmas.{copy_of_each, injected_of_each}
 use Rattle.document_traffic.specs.Landing.{all_delayed, copies_among, copies_in, injected_to, leaving_to}
 use Rattle.document_traffic.specs.Sending.{Delayed}
-use Rattle.fh_document.specs.Proper.{IsDocumentIn}
-use Rattle.fh_document.specs.declared.document.Document.{Document}
-use Rattle.fragment_laws.specs.Apart.{IsIn}
-use Rattle.plan_model.specs.Valid.{IsValid}
-use Rattle.schedule_laws.proofs.ListLemmas.{in_either, of_filter, of_map, of_tick}
-use Rattle.unit_model.specs.Meetings.{Arrival}
-use Rattle.unit_model.specs.Radiated.{first_clock}
-use Rattle.unit_model.specs.Times.{end_of_time}
-use Rattle.window_config.specs.Windows.{ticks_of_ns}
+use Rattle.document_delays.specs.fh_document.specs.Proper.{IsDocument}
+use Rattle.document_delays.specs.fh_document.specs.declared.document.Document.{Document}
+use Rattle.uplink_turns.specs.fragment_laws.specs.Apart.{IsIn}
+use Rattle.uplink_turns.specs.plan_model.specs.Valid.{IsValid}
+use Rattle.uplink_turns.specs.schedule_laws.proofs.ListLemmas.{in_either, of_filter, of_map, of_tick}
+use Rattle.uplink_turns.specs.unit_model.specs.Meetings.{Arrival}
+use Rattle.uplink_turns.specs.unit_model.specs.Radiated.{first_clock}
+use Rattle.uplink_turns.specs.unit_model.specs.Times.{end_of_time}
+use Rattle.document_delays.specs.window_config.specs.Windows.{ticks_of_ns}
 use Rattle.measured_traffic.proofs.FlightLemmas.{flown_after, flown_before}
-use Rattle.measured_traffic.proofs.LeavingLemmas.{copy_by, injected_by, landing_in_time, last_leaving, leaves_by, leaving_late}
 use Rattle.measured_traffic.specs.Laws.{LandingsAreReplayed}
-use Rattle.measured_traffic.specs.Measured.{all_sent, copies_flown, delayed_then, exchanges, flight_copy, flights_then, landings_with_measurement, sent_then, tick_count}
+use Rattle.measured_traffic.proofs.AlikeLemmas.{lands_alike}
+use Rattle.measured_traffic.proofs.Apart.{all_sent, copies_flown, delayed_then, flight_copy, landings_apart, sent_then}
+use Rattle.measured_traffic.specs.Measured.{exchanges, flights_then, tick_count}
+use Rattle.measured_traffic.specs.Replayed.{landings_for}
 
 of_flown : (fs : List Flight) (a : Arrival) → IsIn a (flat_map copies_flown fs) → (f : Flight) × IsIn f fs × IsIn a (copies_flown f)
 of_flown [] a m = absurd m
@@ -53,20 +57,22 @@ seconds_in_time = omega (arith, ints)
 end_is_end : end_of_time ≤ℤ end_of_time
 end_is_end = omega (arith, ints)
 
-module _ (scope : _) (d : Document) (side : Side) (is : IsDocumentIn scope d) (valid : IsValid d.config d.plan) where
+module _ (d : Document) (side : Side) (is : IsDocument d) (valid : IsValid d.config d.plan) where
   copy_in_time : (a : Arrival) → IsCopy (all_delayed side d) ((exchanges d).sent side) a → IsBy end_of_time a.at
   copy_in_time a (inl x) =
-      by_the_end (last_leaving side +ℤ longest) a.at (landing_in_time side) (copy_by scope d is side (leaving_to side d) (last_leaving side) x.0 a (leaves_by scope d side is valid) x.1 x.2)
+      by_the_end (last_leaving side +ℤ longest) a.at (landing_in_time side) (copy_of_each d is side (leaving_to side d) (last_leaving side) (leaving_late side) (each_leaves side d is valid) x.0 a x.1 x.2)
   copy_in_time a (inr f) =
       let w = of_map (flight_copy f.0) a f.0.delays f.2 in
       subst (λ (b : Arrival). IsBy end_of_time b.at) (sym w.2)
-      (by_the_end (ticks_of_ns (pos 1009000000000)) (f.0.at +ℤ w.0) seconds_in_time (record { low = flown_after scope d is side f.0 w.0 f.1 w.1; high = flown_before scope d is side f.0 w.0 f.1 w.1 }))
+      (by_the_end (ticks_of_ns (pos 1009000000000)) (f.0.at +ℤ w.0) seconds_in_time (record { low = flown_after d is side f.0 w.0 f.1 w.1; high = flown_before d is side f.0 w.0 f.1 w.1 }))
 
-  each_in_time : (a : Arrival) → IsIn a (landings_with_measurement side d) → IsBy end_of_time a.at
+  each_in_time : (a : Arrival) → IsIn a (landings_apart side d) → IsBy end_of_time a.at
   each_in_time a m = elim (in_either a (all_sent (all_delayed side d) ((exchanges d).sent side)) (injected_to side d) m) [
     | inl sent ↦ copy_in_time a (of_sent (all_delayed side d) ((exchanges d).sent side) a sent)
-    | inr injected ↦ by_the_end (last_leaving side +ℤ longest) a.at (landing_in_time side) (injected_by scope d is side (last_leaving side) a (leaving_late side) injected)
+    | inr injected ↦ by_the_end (last_leaving side +ℤ longest) a.at (landing_in_time side) (injected_of_each d is side (leaving_to side d) (last_leaving side) (leaving_late side) (each_leaves side d is valid) a injected)
   ]
 
 pub landings_are_replayed : LandingsAreReplayed
-landings_are_replayed scope d side is valid = replayed_by end_of_time (landings_with_measurement side d) end_is_end (each_in_time scope d side is valid)
+landings_are_replayed d side is =
+    replayed_by end_of_time (landings_for side d) end_is_end
+    (λ a m. each_in_time d side is.document is.valid a (subst (λ (landings : List Arrival). IsIn a landings) (lands_alike side d) m))

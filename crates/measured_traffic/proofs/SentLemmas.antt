@@ -1,64 +1,35 @@
 -- What lands with the frames of delay measurement, and what lands without them.
-use Rattle.std.proofs.Common.{◌≡◌, ℕ, ℤ, pos, ◌+ℤ◌, ◌≤ℤ◌, ◌<ℤ◌, Bool, true, false, not, List, [], ◌∷◌, ◌++◌, length, refl, ap, ap₂, sym, ◌∙◌, subst, append-nil}
+use Rattle.std.proofs.Common.{◌≡◌, ℤ, Bool, true, false, not, List, [], ◌∷◌, ◌++◌, refl, ap, ap₂, sym, ◌∙◌, append-nil}
 use Rattle.std.specs.Prelude.{filter}
 use Rattle.std.specs.List.{flat_map}
 use Rattle.std.proofs.lemmas.List.Elements.{filter-append}
-use Rattle.air_source.specs.declared.events.Side.{Side}
-use Rattle.air_source.specs.declared.events.Side.TheVariants.{Ru, Du}
-use Rattle.air_source.specs.declared.links.LinkFrame.{LinkFrame}
-use Rattle.delay_laws.specs.Ticks.{Flight}
+use Rattle.document_delays.specs.air_source.specs.declared.events.Side.{Side}
+use Rattle.document_delays.specs.air_source.specs.declared.events.Side.TheVariants.{Ru, Du}
+use Rattle.document_delays.specs.delay_laws.specs.Ticks.{Flight}
 use Rattle.document_traffic.proofs.CopyLemmas.{delayed_is}
 use Rattle.document_traffic.proofs.OrderLemmas.{leaving_rising}
-use Rattle.document_traffic.specs.Landing.{all_delayed, copies_among, copies_in, handed_for, injected_to, leaving_answer, leaving_to, traffic_of}
-use Rattle.document_traffic.specs.Sending.{Delayed, Leaving, SentCounts, counted, delayed_behind, leaving_of, lines_of, none_sent, sent_for}
-use Rattle.fh_document.specs.declared.document.Document.{Document}
-use Rattle.fragment_laws.specs.Apart.{IsIn}
-use Rattle.plan_model.specs.Sent.{SentFrame, frames_from, sent}
-use Rattle.plan_model.specs.declared.lines.PlannedLine.{PlannedLine}
-use Rattle.replay_events.specs.Traffic.{landings_at}
-use Rattle.schedule_laws.proofs.ListLemmas.{in_all, of_map}
-use Rattle.schedule_laws.proofs.OrderLemmas.{IsRising}
-use Rattle.sent_order.proofs.KeptLemmas.{at_time, time_is}
-use Rattle.unit_model.specs.Lists.{each_tick}
-use Rattle.unit_model.specs.Meetings.{Arrival}
-use Rattle.unit_model.specs.Radiated.{first_clock}
-use Rattle.unit_model.specs.Times.{end_of_time}
-use Rattle.unit_model.specs.Uplink.{jobs}
-use Rattle.unit_model.specs.declared.allocations.Allocation.{Allocation}
-use Rattle.uplink_model.proofs.SentLemmas.{leaving_leave_then}
-use Rattle.uplink_model.specs.Sent.{in_sent_order, leaving_at}
-use Rattle.window_config.specs.declared.config.Config.{Config}
+use Rattle.document_traffic.specs.Landing.{all_delayed, copies_among, copies_in, injected_to, leaving_to, planned_traffic}
+use Rattle.document_traffic.specs.Sending.{Delayed, Leaving, SentCounts, counted, delayed_behind, none_sent}
+use Rattle.document_delays.specs.fh_document.specs.declared.document.Document.{Document}
+use Rattle.uplink_turns.specs.replay_events.specs.Traffic.{landings_at}
+use Rattle.uplink_turns.specs.schedule_laws.proofs.OrderLemmas.{IsRising}
+use Rattle.uplink_turns.specs.unit_model.specs.Lists.{each_tick}
+use Rattle.uplink_turns.specs.unit_model.specs.Meetings.{Arrival}
+use Rattle.uplink_turns.specs.unit_model.specs.Radiated.{first_clock}
+use Rattle.uplink_turns.specs.unit_model.specs.Times.{end_of_time}
+use Rattle.uplink_turns.specs.unit_model.specs.Uplink.{jobs}
+use Rattle.uplink_turns.specs.unit_model.specs.declared.allocations.Allocation.{Allocation}
 use Rattle.measured_traffic.proofs.FrameLemmas.{only_delays}
-use Rattle.measured_traffic.proofs.ListLemmas.{filter_mapped, swept, ticks_filter, ticks_flat, ticks_same, ticks_within}
+use Rattle.measured_traffic.proofs.ListLemmas.{filter_mapped, swept, ticks_filter, ticks_flat, ticks_same}
 use Rattle.measured_traffic.proofs.RestLemmas.{landings_leave_the_same}
 use Rattle.measured_traffic.specs.Laws.{MeasurementRests, MessagesAreOwed}
-use Rattle.measured_traffic.specs.Measured.{all_sent, copies_flown, delayed_then, exchanges, flight_copy, flights_then, has_only_delays, landings_with_measurement, sent_then, tick_count}
+use Rattle.measured_traffic.proofs.Apart.{all_sent, copies_flown, delayed_then, flight_copy, landings_apart, sent_then}
+use Rattle.measured_traffic.proofs.AlikeLemmas.{lands_alike}
+use Rattle.measured_traffic.proofs.OrderLemmas.{leaves_within}
+use Rattle.measured_traffic.specs.Measured.{exchanges, flights_then, has_only_delays, tick_count}
+use Rattle.measured_traffic.specs.Replayed.{landings_for}
 
--- ---- when the frames of the classes c and u leave
-
-abbrev pub IsGoneOver : ℤ → Type 0
-IsGoneOver t = (first_clock ≤ℤ t) × (t <ℤ (first_clock +ℤ pos tick_count))
-
-sent_within : (c : Config) (lines : List PlannedLine) (f : SentFrame) → IsIn f (sent c lines) → IsGoneOver f.at
-unfolding sent
-sent_within c lines f m =
-    let all = frames_from c lines 0 c.endpoints in
-    ticks_within (λ (g : SentFrame). g.at) first_clock tick_count (at_time all) (time_is all) f m
-
-answers_within : (n : ℕ) (fs : List LinkFrame) (f : LinkFrame) → IsIn f (in_sent_order n fs) → IsGoneOver f.at.0
-unfolding in_sent_order
-answers_within n fs f m =
-    ticks_within (λ (g : LinkFrame). g.at.0) first_clock tick_count (leaving_at n fs)
-    (λ t g i. in_all (λ (h : LinkFrame). h.at.0 ≡ t) g (leaving_at n fs t) (leaving_leave_then n fs t) i) f m
-
-leaves_within : (side : Side) (d : Document) (f : Leaving) → IsIn f (leaving_to side d) → IsGoneOver f.at
-leaves_within Ru d f m =
-    let w = of_map (leaving_of d) f (sent_for d) m in
-    subst (λ (g : Leaving). IsGoneOver g.at) (sym w.2) (sent_within d.config (lines_of d) w.0 w.1)
-leaves_within Du d f m =
-    let n = length d.config.endpoints in
-    let w = of_map leaving_answer f (in_sent_order n (handed_for d)) m in
-    subst (λ (g : Leaving). IsGoneOver g.at) (sym w.2) (answers_within n (handed_for d) w.0 w.1)
+-- ---- without the frames of class m
 
 delayed_rising : (d : Document) (side : Side) (n : SentCounts) (fs : List Leaving) → IsRising (λ (f : Leaving). f.at) fs → IsRising (λ (x : Delayed). x.frame.at) (delayed_behind d side n fs)
 unfolding delayed_behind
@@ -72,8 +43,6 @@ delayed_swept side d =
     swept (λ (x : Delayed). x.frame.at) first_clock tick_count (all_delayed side d) (delayed_rising d side none_sent (leaving_to side d) (leaving_rising side d))
     (λ x m. leaves_within side d x.frame (delayed_is d side none_sent (leaving_to side d) x m).there)
 
--- ---- without the frames of class m
-
 -- the copies of the others, tick by tick
 copies_swept : (side : Side) (d : Document) → each_tick first_clock tick_count (λ t. copies_among (delayed_then (all_delayed side d) t)) ≡ copies_among (all_delayed side d)
 copies_swept side d =
@@ -84,13 +53,14 @@ pub none_flown : (xs : List Delayed) → all_sent xs [] ≡ each_tick first_cloc
 unfolding all_sent
 none_flown xs = ticks_same first_clock tick_count (sent_then xs []) (λ t. copies_among (delayed_then xs t)) (λ t. append-nil (copies_among (delayed_then xs t)))
 
-landing_is : (side : Side) (d : Document) → copies_among (all_delayed side d) ++ injected_to side d ≡ landings_at side (traffic_of d)
+landing_is : (side : Side) (d : Document) → copies_among (all_delayed side d) ++ injected_to side d ≡ landings_at side (planned_traffic d)
 landing_is Ru d = refl
 landing_is Du d = refl
 
-pub none_measured : (side : Side) (d : Document) → (exchanges d).sent side ≡ [] → landings_with_measurement side d ≡ landings_at side (traffic_of d)
+pub none_measured : (side : Side) (d : Document) → (exchanges d).sent side ≡ [] → landings_for side d ≡ landings_at side (planned_traffic d)
 none_measured side d none =
-    ap (λ (fs : List Flight). all_sent (all_delayed side d) fs ++ injected_to side d) none
+    lands_alike side d
+    ∙ ap (λ (fs : List Flight). all_sent (all_delayed side d) fs ++ injected_to side d) none
     ∙ ap (λ (copies : List Arrival). copies ++ injected_to side d) (none_flown (all_delayed side d) ∙ copies_swept side d)
     ∙ landing_is side d
 
@@ -125,7 +95,7 @@ sent_stays xs fs =
     ∙ append-nil (filter stays (copies t)))
     ∙ sym (ticks_filter stays first_clock tick_count copies)
 
-same_stay : (side : Side) (d : Document) → filter stays (landings_with_measurement side d) ≡ filter stays (landings_at side (traffic_of d))
+same_stay : (side : Side) (d : Document) → filter stays (landings_apart side d) ≡ filter stays (landings_at side (planned_traffic d))
 same_stay side d =
     let xs = all_delayed side d in
     let fs = (exchanges d).sent side in
@@ -136,7 +106,8 @@ same_stay side d =
     ∙ ap (filter stays) (landing_is side d)
 
 pub measurement_rests : MeasurementRests
-measurement_rests d side = landings_leave_the_same d.config stays (landings_with_measurement side d) (landings_at side (traffic_of d)) left_out (same_stay side d) side
+measurement_rests d side =
+    landings_leave_the_same d.config stays (landings_for side d) (landings_at side (planned_traffic d)) left_out (ap (filter stays) (lands_alike side d) ∙ same_stay side d) side
 
 pub messages_are_owed : MessagesAreOwed
 messages_are_owed d = ap (λ (claimed : List Allocation). jobs d.config.endpoints claimed end_of_time) (measurement_rests d Ru).accepted

@@ -1,30 +1,29 @@
 -- What holds of what lands with the frames of delay measurement.
 use Rattle.std.specs.Prelude.{◌≡◌, ℕ, ℤ, ◌<◌, ◌^◌, Bool, true, false, List, [], ◌∷◌, ◌++◌, All, filter}
 use Rattle.std.specs.List.{flat_map}
-use Rattle.air_source.specs.declared.events.Side.{Side}
-use Rattle.air_source.specs.declared.events.Side.TheVariants.{Ru}
+use Rattle.document_delays.specs.air_source.specs.declared.events.Side.{Side}
+use Rattle.document_delays.specs.air_source.specs.declared.events.Side.TheVariants.{Ru}
 use Rattle.bfp_codec.specs.Exponent.{Within}
 use Rattle.bfp_codec.specs.Layout.{AreBytes}
-use Rattle.delay_measure.specs.Payload.{WritesMessage}
-use Rattle.delay_measure.specs.declared.message.DelayMessage.{DelayMessage}
-use Rattle.document_traffic.specs.Landing.{all_delayed, jobs_for, traffic_of}
+use Rattle.document_delays.specs.delay_measure.specs.Payload.{WritesMessage}
+use Rattle.document_delays.specs.delay_measure.specs.declared.message.DelayMessage.{DelayMessage}
+use Rattle.document_traffic.specs.Landing.{all_delayed, jobs_for, planned_traffic}
+use Rattle.document_traffic.specs.Laws.{IsReplayable}
 use Rattle.document_traffic.specs.Sending.{Delayed}
 use Rattle.ecpri_frames.specs.Headers.{WritesHead}
-use Rattle.delay_laws.specs.Ticks.{Flight, landing}
+use Rattle.document_delays.specs.delay_laws.specs.Ticks.{Flight, landing}
 use Rattle.fault_counters.specs.declared.kinds.Counter.TheVariants.{Delay}
-use Rattle.fh_document.specs.Building.{is_built}
-use Rattle.fh_document.specs.Proper.{IsDocument, IsDocumentIn}
-use Rattle.fh_document.specs.declared.document.Document.{Document}
-use Rattle.plan_model.specs.Valid.{IsValid}
-use Rattle.replay_events.specs.Moments.{all_arrivals, landing_at}
-use Rattle.replay_events.specs.Passing.{AreLandings}
-use Rattle.replay_events.specs.Traffic.{landings_at, reported_at}
-use Rattle.unit_model.specs.Meetings.{Arrival, Ignored}
-use Rattle.unit_model.specs.Reports.{accepted_of, commands_of, data_of, met, timely_of}
-use Rattle.unit_model.specs.declared.allocations.Allocation.{Allocation}
-use Rattle.uplink_laws.specs.Premise.{jobs_of}
-use Rattle.window_config.specs.declared.config.Config.{Config}
-use Rattle.measured_traffic.specs.Measured.{delay_frame, delay_messages, exchanges, has_only_delays, landings_with_measurement, others_of}
+use Rattle.document_delays.specs.fh_document.specs.declared.document.Document.{Document}
+use Rattle.uplink_turns.specs.replay_events.specs.Moments.{all_arrivals, landing_at}
+use Rattle.uplink_turns.specs.replay_events.specs.Passing.{AreLandings}
+use Rattle.uplink_turns.specs.replay_events.specs.Traffic.{landings_at, reported_at}
+use Rattle.uplink_turns.specs.unit_model.specs.Meetings.{Arrival, Ignored, fragments}
+use Rattle.uplink_turns.specs.unit_model.specs.Reports.{accepted_of, commands_of, data_of, met, timely_of}
+use Rattle.uplink_turns.specs.unit_model.specs.declared.allocations.Allocation.{Allocation}
+use Rattle.document_traffic.specs.uplink_laws.specs.Premise.{jobs_of}
+use Rattle.document_delays.specs.window_config.specs.declared.config.Config.{Config}
+use Rattle.measured_traffic.specs.Measured.{delay_frame, delay_messages, exchanges, has_only_delays, others_of}
+use Rattle.measured_traffic.specs.Replayed.{landings_for}
 
 -- ---- frames
 
@@ -52,11 +51,12 @@ FramesAreCounted = (side : Side) (c : Config) (at : ℤ) (m : DelayMessage) → 
 
 -- ---- what arrivals leave a unit
 
--- but for what they count, these arrivals leave a unit what those leave it: what it decodes, what a radio unit accepts of it, what came
--- in time, and what is reported
+-- but for what they count, these arrivals leave a unit what those leave it: what it decodes, the fragments of data, what a radio unit
+-- accepts of it, what came in time, and what is reported
 pub record LeaveTheSame (side : Side) (c : Config) (these those : List Arrival) : Type 0 where
   pub commands : commands_of side c these ≡ commands_of side c those
   pub sections : data_of side c these ≡ data_of side c those
+  pub fragments : fragments (met side c these) ≡ fragments (met side c those)
   pub accepted : accepted_of c these ≡ accepted_of c those
   pub timely : timely_of side c these ≡ timely_of side c those
   pub reported : (planned : List Allocation) (to : ℤ) → reported_at side c planned these to ≡ reported_at side c planned those to
@@ -73,33 +73,33 @@ OnlyDelaysRest =
 abbrev pub MeasurementRests : Type 0
 MeasurementRests =
     (d : Document) (side : Side)
-    → LeaveTheSame side d.config (all_arrivals (landings_with_measurement side d)) (all_arrivals (landings_at side (traffic_of d)))
+    → LeaveTheSame side d.config (all_arrivals (landings_for side d)) (all_arrivals (landings_at side (planned_traffic d)))
 
 -- nor of the uplink messages that the radio unit owes
 abbrev pub MessagesAreOwed : Type 0
-MessagesAreOwed = (d : Document) → jobs_of d.config (all_arrivals (landings_with_measurement Ru d)) ≡ jobs_for d
+MessagesAreOwed = (d : Document) → jobs_of d.config (all_arrivals (landings_for Ru d)) ≡ jobs_for d
 
 -- the frames of the classes c and u to a unit have no message of delay measurement, and those of class m are read as their messages
 pub record AreDistinct (side : Side) (d : Document) : Type 0 where
   pub others_have_none : All (λ (x : Delayed). delay_messages x.frame.frame ≡ []) (all_delayed side d)
   pub fit : All (λ (f : Flight). IsDelayMessage f.message) ((exchanges d).sent side)
 
+-- so they are in each document that may be replayed, whatever it injects
+abbrev pub DocumentsAreDistinct : Type 0
+DocumentsAreDistinct = (d : Document) (side : Side) → IsReplayable d → AreDistinct side d
+
 -- then of delay measurement comes at each tick, in order, what both units were said to be told then
 abbrev pub MessagesLand : Type 0
 MessagesLand =
     (d : Document) (side : Side) (t : ℤ) → AreDistinct side d
-    → flat_map (λ a. delay_messages a.frame) (landing_at (landings_with_measurement side d) t) ≡ landing ((exchanges d).sent side) t ++ others_of d side t
+    → flat_map (λ a. delay_messages a.frame) (landing_at (landings_for side d) t) ≡ landing ((exchanges d).sent side) t ++ others_of d side t
 
 -- where nothing is measured and no injected frame has a message of delay measurement, the same lands in the same order
 abbrev pub UnmeasuredLandsTheSame : Type 0
 UnmeasuredLandsTheSame =
-    (d : Document) (side : Side) → d.measures ≡ [] → All (λ i. is_built i ≡ true) d.injections
-    → landings_with_measurement side d ≡ landings_at side (traffic_of d)
-
--- so it is with each document of which all is handled without delay measurement
-abbrev pub BuiltLandsTheSame : Type 0
-BuiltLandsTheSame = (d : Document) (side : Side) → IsDocument d → landings_with_measurement side d ≡ landings_at side (traffic_of d)
+    (d : Document) (side : Side) → d.measures ≡ [] → All (λ i. delay_messages i.frame ≡ []) d.injections
+    → landings_for side d ≡ landings_at side (planned_traffic d)
 
 -- all that lands at a unit has its time between the first clock and the end of time
 abbrev pub LandingsAreReplayed : Type 0
-LandingsAreReplayed = (scope : _) (d : Document) (side : Side) → IsDocumentIn scope d → IsValid d.config d.plan → AreLandings (landings_with_measurement side d)
+LandingsAreReplayed = (d : Document) (side : Side) → IsReplayable d → AreLandings (landings_for side d)

@@ -1,28 +1,25 @@
--- What lands at each unit in a document's replay with the frames of delay measurement (eCPRI 2.0, section 3.2.4.6; this project's
+-- The frames of delay measurement, and what both units measure in a document's replay (eCPRI 2.0, section 3.2.4.6; this project's
 -- profile). Times are ticks. What is sent of the classes c and u does not rest on delay measurement, and class m rests on what came
--- before, so all of it is told tick by tick of the sending time.
-use Rattle.std.specs.Prelude.{ℕ, ℤ, pos, ◌+ℤ◌, ◌==◌, nat_lt, Bool, if◌then◌else◌, List, [], ◌∷◌, ◌++◌, filter, length, map, Option, Some, None}
+-- before, so it is told tick by tick.
+use Rattle.std.specs.Prelude.{ℕ, ℤ, pos, ◌+ℤ◌, ◌==◌, nat_lt, Bool, if◌then◌else◌, List, [], ◌∷◌, ◌++◌, filter, length, Option, Some, None}
 use Rattle.std.specs.Int.{int_gap}
 use Rattle.std.specs.List.{flat_map, list_all}
 use Rattle.std.specs.Option.{option_to_list}
 use Rattle.std.specs.Ordering.{int_eq}
-use Rattle.air_source.specs.declared.events.Side.{Side}
+use Rattle.document_delays.specs.air_source.specs.declared.events.Side.{Side}
 use Rattle.bfp_codec.specs.Layout.{twos}
-use Rattle.delay_laws.specs.Ticks.{Flight, State, state}
-use Rattle.delay_measure.specs.declared.message.DelayMessage.{DelayMessage}
-use Rattle.delay_measure.specs.Payload.{message_of}
+use Rattle.document_delays.specs.delay_laws.specs.Ticks.{Flight, State, state}
+use Rattle.document_delays.specs.delay_measure.specs.declared.message.DelayMessage.{DelayMessage}
+use Rattle.document_delays.specs.delay_measure.specs.Payload.{message_of}
 use Rattle.document_delays.specs.Settings.{setting_of}
-use Rattle.document_traffic.specs.Landing.{all_delayed, copies_among, injected_to}
-use Rattle.document_traffic.specs.Sending.{Delayed}
+use Rattle.document_traffic.specs.Landing.{injected_to}
 use Rattle.ecpri_frames.specs.Gathering.{whole_messages}
 use Rattle.ecpri_frames.specs.Messages.{Message}
-use Rattle.fh_document.specs.declared.document.Document.{Document}
-use Rattle.frame_bytes.specs.Spelled.{Field, in_bytes}
-use Rattle.replay_events.specs.Moments.{landing_at}
-use Rattle.unit_model.specs.Lists.{each_tick}
-use Rattle.unit_model.specs.Meetings.{Arrival}
-use Rattle.unit_model.specs.Radiated.{first_clock}
-use Rattle.unit_model.specs.Times.{end_of_time}
+use Rattle.document_delays.specs.fh_document.specs.declared.document.Document.{Document}
+use Rattle.uplink_turns.specs.frame_bytes.specs.Spelled.{Field, in_bytes}
+use Rattle.uplink_turns.specs.replay_events.specs.Moments.{landing_at}
+use Rattle.uplink_turns.specs.unit_model.specs.Radiated.{first_clock}
+use Rattle.uplink_turns.specs.unit_model.specs.Times.{end_of_time}
 
 -- ---- frames of delay measurement
 
@@ -71,30 +68,6 @@ tick_count = int_gap first_clock (end_of_time +ℤ pos 1)
 abbrev pub exchanges : Document → State
 exchanges d = state (setting_of d (others_of d)) first_clock tick_count
 
--- ---- what lands
-
--- a copy of a frame of delay measurement, so many ticks after it left
-abbrev pub flight_copy : Flight → ℤ → Arrival
-flight_copy f ticks = record { at = f.at +ℤ ticks; frame = delay_frame f.message }
-
-abbrev pub copies_flown : Flight → List Arrival
-copies_flown f = map (flight_copy f) f.delays
-
 -- those of these frames that leave at a tick
-abbrev pub delayed_then : List Delayed → ℤ → List Delayed
-delayed_then xs t = filter (λ x. int_eq x.frame.at t) xs
-
 abbrev pub flights_then : List Flight → ℤ → List Flight
 flights_then fs t = filter (λ f. int_eq f.at t) fs
-
--- the copies of what leaves at a tick: of the classes c and u in the sent order, then of class m
-abbrev pub sent_then : List Delayed → List Flight → ℤ → List Arrival
-sent_then xs fs t = copies_among (delayed_then xs t) ++ flat_map copies_flown (flights_then fs t)
-
--- those of all that leaves, tick by tick
-unfoldable pub all_sent : List Delayed → List Flight → List Arrival
-all_sent xs fs = each_tick first_clock tick_count (sent_then xs fs)
-
--- all that lands at a unit: what is sent to it, and behind it what the document injects there
-abbrev pub landings_with_measurement : Side → Document → List Arrival
-landings_with_measurement side d = all_sent (all_delayed side d) ((exchanges d).sent side) ++ injected_to side d

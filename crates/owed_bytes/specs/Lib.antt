@@ -1,2 +1,3 @@
+pub use Rattle.fh_base
 pub mod CarriedLaws
 pub mod Owed

@@ -8,6 +8,7 @@
 mod bytes;
 
 pub use bytes::{OwedBytes, ROOM};
+pub use fh_base;
 
 #[cfg(test)]
 mod tests;

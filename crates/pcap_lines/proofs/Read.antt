@@ -7,8 +7,7 @@ use Rattle.std.specs.Fmt.{signed_decimal}
 use Rattle.std.proofs.lemmas.List.Concat.{flat_map-cons}
 use Rattle.std.proofs.lemmas.List.Elements.{All-nil, All-cons, All-tail, All-take, All-drop}
 use Rattle.air_source.specs.declared.events.Side.{Side}
-use Rattle.fh_document.specs.Document.{parsed}
-use Rattle.fh_document.specs.Steps.{whole}
+use Rattle.line_laws.specs.fh_document.specs.Document.{document_of}
 use Rattle.line_laws.specs.Joined.{fed}
 use Rattle.line_laws.specs.Words.{way_word, frame_word}
 use Rattle.line_laws.specs.Lines.{inject_text, document_with}
@@ -108,13 +107,13 @@ are_frames side (t ∷ ts) h k = All-cons IsFrame (injection_of side t) (map (in
 
 -- behind line 1 the text is read as exactly these frames
 pub read_back : (side : Side) (little nanos : Bool) (first start : ℕ) (bytes : List ℕ) → AreBytes bytes → AreShown (frames_in nanos first start (records_from little 0 bytes))
-    → parsed (codes "fronthaul 1\n" ++ lines_of side (frames_in nanos first start (records_from little 0 bytes)))
-    ≡ Ok (document_with whole (map (injection_of side) (frames_in nanos first start (records_from little 0 bytes))))
+    → document_of (codes "fronthaul 1\n" ++ lines_of side (frames_in nanos first start (records_from little 0 bytes)))
+    ≡ Ok (document_with (map (injection_of side) (frames_in nanos first start (records_from little 0 bytes))))
 read_back side little nanos first start bytes all shown =
     let ts = frames_in nanos first start (records_from little 0 bytes) in
     let is = map (injection_of side) ts in
-    ap (λ t. parsed (codes "fronthaul 1\n" ++ t)) (lines_are side ts)
-    ∙ document_is whole is (are_frames side ts shown (frames_bytes little nanos first start 0 bytes all)) (λ k d lt. refl)
+    ap (λ t. document_of (codes "fronthaul 1\n" ++ t)) (lines_are side ts)
+    ∙ document_is is (are_frames side ts shown (frames_bytes little nanos first start 0 bytes all))
 
 -- a list whose every place has a byte
 pub are_bytes : (bytes : List ℕ) → ((k : ℕ) → get_or bytes k 0 < 256) → AreBytes bytes

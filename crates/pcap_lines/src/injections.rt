@@ -4,8 +4,7 @@ ghost use Rattle.std.specs.Io.KnownBytes.{append_known};
 ghost use Rattle.fh_base.specs.Causes.{HasSinkCause};
 ghost use Rattle.fh_base.specs.Told.{WritesFront};
 ghost use Rattle.owed_bytes.specs.Owed.{Carried};
-ghost use Rattle.fh_document.specs.Document.{parsed};
-ghost use Rattle.fh_document.specs.Steps.{whole};
+ghost use Rattle.line_laws.specs.fh_document.specs.Document.{document_of};
 ghost use Rattle.line_laws.specs.Lines.{document_with};
 ghost use Rattle.pcap_frames.specs.Checked.{checked};
 ghost use Rattle.pcap_frames.specs.Frames.{timed_of, frames_of};
@@ -74,7 +73,7 @@ pub fn inject_text<K: Sink>(
     ensures ok { OnOk result (K.written out.new ≡ append_known (K.written out.old) (lines_of side (frames_of bytes.now head.now start))) }
     ensures front { WritesFront (K.written out.old) (K.written out.new) (lines_of side (frames_of bytes.now head.now start)) }
     // behind line 1 of a document this text is read as exactly these frames, in their order
-    ensures read { parsed (codes "fronthaul 1\n" ++ lines_of side (frames_of bytes.now head.now start)) ≡ Ok (document_with whole (map (injection_of side) (frames_of bytes.now head.now start))) }
+    ensures read { document_of (codes "fronthaul 1\n" ++ lines_of side (frames_of bytes.now head.now start)) ≡ Ok (document_with (map (injection_of side) (frames_of bytes.now head.now start))) }
     ensures cause { HasSinkCause (K.faults out.old) (K.faults out.new) (K.refusals out.old) (K.refusals out.new) result }
 {
     let mut owed = OwedBytes::new();

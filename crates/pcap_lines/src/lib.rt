@@ -10,6 +10,7 @@ mod words;
 
 pub use captures::capture_bytes;
 pub use injections::inject_text;
+pub use line_laws::fh_document;
 
 #[cfg(test)]
 mod tests;

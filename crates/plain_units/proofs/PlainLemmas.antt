@@ -7,12 +7,12 @@ use Rattle.std.proofs.lemmas.List.Elements.{All-cons, All-same}
 use Rattle.fault_counters.specs.declared.kinds.Counter.{Counter}
 use Rattle.fault_counters.specs.declared.kinds.Counter.TheVariants as counter
 use Rattle.fault_counters.specs.Counts.{capped, once, times}
-use Rattle.air_source.specs.declared.events.Side.{Side}
-use Rattle.window_config.specs.declared.config.Config.{Config}
-use Rattle.window_config.specs.declared.delays.Delays.{Delays}
-use Rattle.window_config.specs.declared.endpoints.EndpointConfig.{EndpointConfig}
-use Rattle.window_config.specs.declared.verdicts.Class.{Class}
-use Rattle.window_config.specs.declared.verdicts.Class.TheVariants as class
+use Rattle.unit_model.specs.air_source.specs.declared.events.Side.{Side}
+use Rattle.unit_model.specs.window_config.specs.declared.config.Config.{Config}
+use Rattle.unit_model.specs.window_config.specs.declared.delays.Delays.{Delays}
+use Rattle.unit_model.specs.window_config.specs.declared.endpoints.EndpointConfig.{EndpointConfig}
+use Rattle.unit_model.specs.window_config.specs.declared.verdicts.Class.{Class}
+use Rattle.unit_model.specs.window_config.specs.declared.verdicts.Class.TheVariants as class
 use Rattle.ecpri_fragments.specs.Generations.{Fragment}
 use Rattle.ecpri_fragments.specs.declared.assembly.Assembly.{Assembly}
 use Rattle.ecpri_fragments.specs.declared.verdict.Verdict.{Verdict}

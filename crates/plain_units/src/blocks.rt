@@ -1,15 +1,15 @@
 // The verdicts on sections of data, and what they give a cell.
 ghost use Rattle.std.specs.Prelude.{◌≡◌, All};
-ghost use Rattle.window_config.specs.Limits.{IsWithinLimits};
+ghost use Rattle.unit_model.specs.window_config.specs.Limits.{IsWithinLimits};
 ghost use Rattle.unit_model.specs.Blocks.{data_slot, data_class, first_data_prb, data_prb_count, data_covers, block_in, block_at, has_all, data_verdict};
 ghost use Rattle.unit_model.specs.Claims.{cell_at};
 ghost use Rattle.unit_model.specs.Sound.{IsSoundData};
 
 use crate::claims::same_way;
 use crate::slots::{data_slot, data_start};
-use air_source::Side;
+use unit_model::air_source::Side;
+use unit_model::window_config::{Class, Delays, class, class_up, data_window};
 use unit_model::{Block, Cell, Data, DataVerdict, is_from, same_slot};
-use window_config::{Class, Delays, class, class_up, data_window};
 
 /// The first PRB that a section of data has.
 pub(crate) fn first_data_prb(d: &Data) -> u16

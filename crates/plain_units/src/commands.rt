@@ -2,8 +2,8 @@
 ghost use Rattle.std.specs.Prelude.{◌≡◌, ◌+◌, ◌≤◌, ◌==◌, ◌&&◌, List};
 ghost use Rattle.fh_time.specs.Numbering.{symbols_of};
 ghost use Rattle.fh_time.specs.Carrier.{is_outside};
-ghost use Rattle.window_config.specs.Limits.{IsWithinLimits};
-ghost use Rattle.window_config.specs.declared.endpoints.EndpointConfig.{EndpointConfig};
+ghost use Rattle.unit_model.specs.window_config.specs.Limits.{IsWithinLimits};
+ghost use Rattle.unit_model.specs.window_config.specs.declared.endpoints.EndpointConfig.{EndpointConfig};
 ghost use Rattle.unit_model.specs.Claims.{same_slot};
 ghost use Rattle.unit_model.specs.Commands.{is_uplink, uplink_in, is_full, timely_verdict, command_verdict, allocation_of};
 ghost use Rattle.unit_model.specs.Proper.{IsProperCommand, IsProperAllocation};
@@ -11,10 +11,10 @@ ghost use Rattle.unit_model.specs.Sound.{IsSoundCommand};
 
 use crate::claims::{overlaps, repeats};
 use fh_time::Slot;
+use unit_model::window_config::{Class, Delays};
 use unit_model::{
     Allocation, Command, CommandVerdict, allocation_of, command_class, is_for, is_uplink, same_slot,
 };
-use window_config::{Class, Delays};
 
 /// How many uplink sections a slot of an endpoint takes.
 const MOST_UPLINK: usize = 64;

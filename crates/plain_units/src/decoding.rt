@@ -2,20 +2,20 @@
 ghost use Rattle.std.specs.Prelude.{◌≡◌, List as Items, All, IfOk, map};
 ghost use Rattle.bfp_codec.specs.Layout.{HasWidth};
 ghost use Rattle.fh_time.specs.Numbering.{shape_of};
-ghost use Rattle.uplane_sections.specs.Messages.{told};
-ghost use Rattle.window_config.specs.declared.endpoints.EndpointConfig.{EndpointConfig as SpecEndpoint};
+ghost use Rattle.unit_model.specs.uplane_sections.specs.Messages.{told};
+ghost use Rattle.unit_model.specs.window_config.specs.declared.endpoints.EndpointConfig.{EndpointConfig as SpecEndpoint};
 ghost use Rattle.unit_model.specs.Decoding.{nothing_told, gathered, data_with, decoded_with, decode as decoded, sections_of};
 ghost use Rattle.plain_units.specs.DecodedWords.{decoded_of};
 ghost use Rattle.unit_model.specs.Proper.{IsAt, IsTime, IsProperData};
 
 use crate::gathering::{Gathered, Part};
-use air_source::Side;
 use fh_base::NoMemory;
 use fh_time::{Ticks, shape};
 use std::alloc::Global;
 use unit_model::Data;
-use uplane_sections::{UFeed, UHead, URefusal, UWalker};
-use window_config::EndpointConfig;
+use unit_model::air_source::Side;
+use unit_model::uplane_sections::{UFeed, UHead, URefusal, UWalker};
+use unit_model::window_config::EndpointConfig;
 
 /// What a whole message to an endpoint says.
 #[derive(Drop)]

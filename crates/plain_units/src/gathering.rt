@@ -6,7 +6,7 @@ use bfp_codec::Wide;
 use fh_base::{List, NoMemory};
 use std::alloc::Global;
 use std::marker::Model;
-use uplane_sections::{UFeed, UHead, USection};
+use unit_model::uplane_sections::{UFeed, UHead, USection};
 
 /// A section with the samples of its PRBs, in their order.
 #[derive(Drop)]
@@ -71,8 +71,8 @@ fn lengthen_first(parts: &mut Vec<Part>, samples: [Wide; 12]) -> Result<(), NoMe
 
 impl Gathered {
     ghost use Rattle.unit_model.specs.Decoding.{nothing_told, gathered, with_item};
-    ghost use Rattle.uplane_sections.specs.Messages.{Section, Block};
-    ghost use Rattle.uplane_sections.specs.Phases.{feed_told};
+    ghost use Rattle.unit_model.specs.uplane_sections.specs.Messages.{Section, Block};
+    ghost use Rattle.unit_model.specs.uplane_sections.specs.Phases.{feed_told};
 
     /// Nothing.
     pub(crate) fn new(alloc: Global) -> Gathered

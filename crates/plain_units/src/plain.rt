@@ -6,7 +6,7 @@ ghost use Rattle.ecpri_frames.specs.Left.{message_of};
 ghost use Rattle.ecpri_frames.specs.Messages.{pdu};
 ghost use Rattle.fault_counters.specs.declared.kinds.Counter.{Counter as SpecCounter};
 ghost use Rattle.fault_counters.specs.Counts.{once, times};
-ghost use Rattle.window_config.specs.Configs.{IsConfig};
+ghost use Rattle.unit_model.specs.window_config.specs.Configs.{IsConfig};
 ghost use Rattle.unit_model.specs.declared.decoded.Command.{Command as SpecCommand};
 ghost use Rattle.unit_model.specs.declared.decoded.Data.{Data as SpecData};
 ghost use Rattle.unit_model.specs.Blocks.{with_timely};
@@ -26,7 +26,6 @@ use crate::commands::command_verdict;
 use crate::decoding::{DecodedMessage, decode};
 use crate::reading::commands;
 use crate::taking::{OwnedMessage, take};
-use air_source::Side;
 use cplane_sections::CHead;
 use ecpri_fragments::{Assembly, SeqField};
 use ecpri_frames::{WholeMessage, messages};
@@ -34,11 +33,12 @@ use fault_counters::{Counter, Counters};
 use fh_base::{List, NoMemory};
 use fh_time::{Ticks, of_ns};
 use std::alloc::Global;
+use unit_model::air_source::Side;
+use unit_model::window_config::{Class, Config, EndpointConfig};
 use unit_model::{
     Allocation, Command, CommandVerdict, Data, DataVerdict, Met, allocation_of, command_counter,
     data_counter, fragment_counter, meet,
 };
-use window_config::{Class, Config, EndpointConfig};
 
 /// How long a generation of fragments holds at this side.
 fn hold(side: Side, config: &Config) -> Ticks

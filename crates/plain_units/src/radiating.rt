@@ -7,17 +7,17 @@ ghost use Rattle.unit_model.specs.Radiated.{is_down, is_used, used_mask, cell_id
 ghost use Rattle.unit_model.specs.Sound.{IsSoundData};
 ghost use Rattle.plain_units.specs.ClaimedStarts.{is_in};
 ghost use Rattle.unit_model.specs.Starts.{cell_told, cells_at};
-ghost use Rattle.window_config.specs.Limits.{IsWithinLimits};
+ghost use Rattle.unit_model.specs.window_config.specs.Limits.{IsWithinLimits};
 
 use crate::blocks::block_at;
 use crate::claims::claim_at;
 use crate::starts::{FRAME, claimed_starts, is_in};
-use air_source::{AirCell, Side};
 use fh_base::{List, NoMemory};
 use fh_time::{Ticks, of_ns};
 use std::alloc::Global;
+use unit_model::air_source::{AirCell, Side};
+use unit_model::window_config::{Delays, EndpointConfig};
 use unit_model::{Allocation, Cell, Claim, Data, SymbolStart, samples_under};
-use window_config::{Delays, EndpointConfig};
 
 /// Whether what a unit reports is of the downlink.
 fn is_down(side: Side) -> bool

@@ -4,14 +4,14 @@ ghost use Rattle.cplane_sections.specs.Message.{sections_in};
 ghost use Rattle.unit_model.specs.Meetings.{commands_with};
 ghost use Rattle.unit_model.specs.Met.{IsRead};
 ghost use Rattle.unit_model.specs.Proper.{IsAt, IsTime, IsProperCommand};
-ghost use Rattle.window_config.specs.declared.endpoints.EndpointConfig.{EndpointConfig as SpecEndpoint};
+ghost use Rattle.unit_model.specs.window_config.specs.declared.endpoints.EndpointConfig.{EndpointConfig as SpecEndpoint};
 
 use cplane_sections::{CHead, sections};
 use fh_base::NoMemory;
 use fh_time::Ticks;
 use std::alloc::Global;
 use unit_model::Command;
-use window_config::EndpointConfig;
+use unit_model::window_config::EndpointConfig;
 
 /// The sections of a command that was read, in its order.
 pub(crate) fn commands(

@@ -1,9 +1,9 @@
 // Units that keep whole lists, over whole lists of frames.
 ghost use Rattle.std.specs.Prelude.{◌≡◌, ℕ, ◌+◌, ◌<◌, List as Items, All, IfOk, length, slice_index_or};
-ghost use Rattle.air_source.specs.declared.events.AirCell.{AirCell as SpecCell};
+ghost use Rattle.unit_model.specs.air_source.specs.declared.events.AirCell.{AirCell as SpecCell};
 ghost use Rattle.fault_counters.specs.declared.kinds.Counter.{Counter as SpecCounter};
 ghost use Rattle.fault_counters.specs.Counts.{capped, count_of, times};
-ghost use Rattle.window_config.specs.Configs.{IsConfig};
+ghost use Rattle.unit_model.specs.window_config.specs.Configs.{IsConfig};
 ghost use Rattle.unit_model.specs.Counts.{block_counter, cells_counted};
 ghost use Rattle.unit_model.specs.Meetings.{meetings};
 ghost use Rattle.plain_units.specs.Plain.{Stands, arrivals_of};
@@ -15,13 +15,13 @@ use crate::plain::Plain;
 use crate::radiating::reported;
 use crate::uplink::jobs;
 use crate::{Report, TimedFrame};
-use air_source::{AirCell, Side};
 use fault_counters::{Counter, Counters};
 use fh_base::{List, NoMemory};
 use fh_time::Ticks;
 use std::alloc::Global;
+use unit_model::air_source::{AirCell, Side};
+use unit_model::window_config::Config;
 use unit_model::{Allocation, block_counter};
-use window_config::Config;
 
 /// A unit that frames came to, in this order.
 fn treated(

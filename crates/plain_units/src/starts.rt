@@ -11,8 +11,8 @@ use crate::moments::next_before;
 use fh_base::NoMemory;
 use fh_time::{Slot, Ticks, air, shape};
 use std::alloc::Global;
+use unit_model::window_config::EndpointConfig;
 use unit_model::{Allocation, SymbolStart, is_from, same_slot};
-use window_config::EndpointConfig;
 
 /// The ticks of a frame.
 pub(crate) const FRAME: i64 = 15_360_000_000;

@@ -20,6 +20,7 @@ pub use lines::{PlannedLine, allocation_of, is_out_of_range, planned_line};
 pub use refusals::PlanWhy;
 pub use sizes::{frame_count, section_size};
 pub use streams::Stream;
+pub use unit_model;
 
 #[cfg(test)]
 mod tests;

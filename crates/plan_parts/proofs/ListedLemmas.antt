@@ -6,16 +6,16 @@ use Rattle.std.proofs.lemmas.Bool.Decides.{nat_tests}
 use Rattle.std.proofs.lemmas.List.{map-append, append-nil, drop_all, length-append}
 use Rattle.fh_time.specs.Numbering.{symbols_of}
 use Rattle.window_config.specs.Endpoints.{IsEndpoint}
-use Rattle.unit_model.specs.Proper.{IsSlot}
-use Rattle.unit_model.proofs.SweepLaws.{each_split}
+use Rattle.unit_laws.specs.unit_model.specs.Proper.{IsSlot}
+use Rattle.unit_laws.specs.unit_model.proofs.SweepLaws.{each_split}
 use Rattle.plan_model.specs.declared.streams.Stream.{Stream}
 use Rattle.plan_model.specs.declared.streams.Stream.TheVariants.{DownCommands, UpCommands, DownData, UpData}
 use Rattle.plan_parts.specs.Placing.{ArePlaced, IsIn}
 use Rattle.plan_parts.proofs.InsideLemmas.{inside_is, slot_inside}
 use Rattle.plan_parts.proofs.InsideLemmas.{slot_inside}
-use Rattle.unit_model.specs.Claims.{is_from}
-use Rattle.unit_model.specs.Lists.{each}
-use Rattle.unit_model.specs.Sweeps.{slot_at}
+use Rattle.unit_laws.specs.unit_model.specs.Claims.{is_from}
+use Rattle.unit_laws.specs.unit_model.specs.Lists.{each}
+use Rattle.unit_laws.specs.unit_model.specs.Sweeps.{slot_at}
 use Rattle.plan_model.specs.Lines.{allocation_of}
 use Rattle.plan_model.specs.Streams.{Part, part_in, has_part}
 use Rattle.plan_model.specs.declared.lines.PlannedLine.{PlannedLine}

@@ -5,7 +5,7 @@ use Rattle.std.specs.List.Sorted.{IsSortedBy, ties}
 use Rattle.std.specs.Cmp.{IsStrictWeakOrder}
 use Rattle.std.proofs.lemmas.Bool.{cases_Bool, and_from, and_parts}
 use Rattle.std.proofs.lemmas.List.Sorted.{sorted_far}
-use Rattle.unit_model.specs.Lists.{put_in, in_order}
+use Rattle.unit_laws.specs.unit_model.specs.Lists.{put_in, in_order}
 use Rattle.plan_parts.specs.Parts.{AreOrderedBy}
 use Rattle.plan_parts.specs.Placing.{IsIn}
 use Rattle.plan_parts.proofs.ListLemmas.{filter_in, in_filter, all_in, all_from, all_index}

@@ -5,7 +5,7 @@ use Rattle.std.specs.List.{AllByRecursion}
 use Rattle.std.proofs.lemmas.Option.{slice_get_within}
 use Rattle.window_config.specs.Endpoints.{IsEndpoint}
 use Rattle.window_config.specs.declared.endpoints.EndpointConfig.{EndpointConfig}
-use Rattle.unit_model.specs.Proper.{IsAt}
+use Rattle.unit_laws.specs.unit_model.specs.Proper.{IsAt}
 use Rattle.plan_model.specs.declared.lines.PlannedLine.{PlannedLine}
 use Rattle.plan_parts.specs.Parts.{HasEndpoint}
 use Rattle.plan_parts.specs.Placing.{IsPlaced, ArePlaced}

@@ -8,7 +8,7 @@ use Rattle.std.specs.Cmp.{int_ranks}
 use Rattle.std.proofs.lemmas.Int.{ints}
 use Rattle.std.proofs.lemmas.Bool.{cases_eq, eq-eqb, ne_eqb}
 use Rattle.std.proofs.lemmas.Bool.Decides.{Decides-int_eq}
-use Rattle.unit_model.specs.Lists.{each, each_tick}
+use Rattle.unit_laws.specs.unit_model.specs.Lists.{each, each_tick}
 use Rattle.plan_parts.specs.Sweeping.{of_key, at_tick, EachIsAll, TicksAreAll}
 
 each_same : {A : Type 0} (f g : ℕ → List A) (from count : ℕ) → ((k : ℕ) → from ≤ k → f k ≡ g k) → each from count f ≡ each from count g

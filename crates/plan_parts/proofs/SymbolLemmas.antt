@@ -6,7 +6,7 @@ use Rattle.std.specs.Int.{int_gap}
 use Rattle.std.proofs.lemmas.Int.{ints}
 use Rattle.std.proofs.lemmas.Bool.{cases_eq, cases_Bool, eq-eqb, ne_eqb, eqb-true, and_parts}
 use Rattle.std.proofs.lemmas.Bool.Decides.{Decides-int_eq}
-use Rattle.unit_model.specs.Lists.{each}
+use Rattle.unit_laws.specs.unit_model.specs.Lists.{each}
 use Rattle.plan_parts.specs.Sweeping.{IsRising, IsRisingInt, of_key, at_tick, Clock, is_at, of_symbol, of_endpoint, IsPart, Precedes, AreOrdered, SweepsFindAll}
 use Rattle.plan_parts.specs.declared.parts.TimedPart.{TimedPart}
 use Rattle.plan_parts.proofs.SweepLemmas.{each_is_all, ticks_are_all, each_alike, ticks_alike}

@@ -1,3 +1,6 @@
+pub use Rattle.plan_model
+pub use Rattle.unit_laws
+pub use Rattle.unit_laws.specs.unit_model
 pub mod Placing
 pub mod Sweeping
 pub mod Parts

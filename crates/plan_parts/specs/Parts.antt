@@ -4,9 +4,9 @@ use Rattle.std.specs.List.{AllByRecursion}
 use Rattle.std.specs.Ordering.{nat_cmp, int_cmp, on, then_cmp, is_lt}
 use Rattle.std.specs.declared.cmp.Ordering.{Ordering}
 use Rattle.window_config.specs.declared.endpoints.EndpointConfig.{EndpointConfig}
-use Rattle.unit_model.specs.Commands.{is_uplink}
-use Rattle.unit_model.specs.Lists.{each}
-use Rattle.unit_model.specs.declared.allocations.Allocation.{Allocation}
+use Rattle.unit_laws.specs.unit_model.specs.Commands.{is_uplink}
+use Rattle.unit_laws.specs.unit_model.specs.Lists.{each}
+use Rattle.unit_laws.specs.unit_model.specs.declared.allocations.Allocation.{Allocation}
 use Rattle.plan_model.specs.Departures.{start_of}
 use Rattle.plan_model.specs.Lines.{allocation_of}
 use Rattle.plan_model.specs.Streams.{Part, part_in, section_size}

@@ -4,3 +4,4 @@
 mod parts;
 
 pub use parts::{TimedPart, parts_of};
+pub use plan_model;

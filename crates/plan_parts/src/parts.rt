@@ -5,7 +5,7 @@ ghost use Rattle.std.specs.List.Sorted.{IsStableBy};
 ghost use Rattle.fh_time.specs.Numbering.{symbols_of};
 ghost use Rattle.window_config.specs.Endpoints.{IsEndpoint};
 ghost use Rattle.window_config.specs.declared.endpoints.EndpointConfig.{EndpointConfig as SpecEndpoint};
-ghost use Rattle.unit_model.specs.Proper.{IsSlot};
+ghost use Rattle.unit_laws.specs.unit_model.specs.Proper.{IsSlot};
 ghost use Rattle.plan_model.specs.Streams.{part_in, parts_in};
 ghost use Rattle.plan_parts.specs.Placing.{ArePlaced};
 ghost use Rattle.plan_parts.specs.Keys.{key_of};
@@ -15,7 +15,7 @@ use fh_base::NoMemory;
 use fh_time::{Ticks, air};
 use plan_model::{PlannedLine, Stream, allocation_of, section_size};
 use std::alloc::Global;
-use unit_model::is_uplink;
+use unit_laws::unit_model::is_uplink;
 
 /// What parts are sorted by: the start of their symbol, slot and symbol, and in an uplink symbol the order of the radio unit.
 #[derive(Clone, Copy, Debug, PartialEq, Eq, PartialOrd, Ord)]

@@ -6,14 +6,14 @@ use Rattle.std.proofs.lemmas.Bool.{and_parts, eqb-true}
 use Rattle.fh_time.specs.declared.values.Slot.{Slot}
 use Rattle.window_config.specs.declared.config.Config.{Config}
 use Rattle.window_config.specs.declared.endpoints.EndpointConfig.{EndpointConfig}
-use Rattle.plan_model.specs.declared.lines.PlannedLine.{PlannedLine}
-use Rattle.unit_model.specs.Claims.{same_slot}
-use Rattle.unit_laws.proofs.CellLemmas.{slots_equal}
-use Rattle.plan_model.specs.Departures.{start_of}
-use Rattle.plan_model.specs.Packs.{Message, alone as message_alone, parts_of, with_part, size_of, same_symbol, takes, packs_behind, packs, frames_before, numbered_behind, numbered}
-use Rattle.plan_model.specs.Streams.{Part, frames_in, most_parts, part_fields, messages_of, parts_in}
-use Rattle.plan_model.specs.declared.streams.Stream.{Stream}
-use Rattle.plan_model.specs.declared.streams.Stream.TheVariants.{DownCommands, UpCommands, DownData, UpData}
+use Rattle.plan_parts.specs.plan_model.specs.declared.lines.PlannedLine.{PlannedLine}
+use Rattle.plan_parts.specs.unit_model.specs.Claims.{same_slot}
+use Rattle.plan_parts.specs.unit_laws.proofs.CellLemmas.{slots_equal}
+use Rattle.plan_parts.specs.plan_model.specs.Departures.{start_of}
+use Rattle.plan_parts.specs.plan_model.specs.Packs.{Message, alone as message_alone, parts_of, with_part, size_of, same_symbol, takes, packs_behind, packs, frames_before, numbered_behind, numbered}
+use Rattle.plan_parts.specs.plan_model.specs.Streams.{Part, frames_in, most_parts, part_fields, messages_of, parts_in}
+use Rattle.plan_parts.specs.plan_model.specs.declared.streams.Stream.{Stream}
+use Rattle.plan_parts.specs.plan_model.specs.declared.streams.Stream.TheVariants.{DownCommands, UpCommands, DownData, UpData}
 use Rattle.frame_order.specs.declared.turns.Run.{Run}
 use Rattle.sent_order.specs.Runs.{place_of, run_of}
 use Rattle.plan_parts.specs.Parts.{timed}

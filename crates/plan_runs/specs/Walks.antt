@@ -1,8 +1,8 @@
 -- Messages part by part (this project's means).
 use Rattle.std.specs.Prelude.{ℕ, pos, ◌+◌, ◌*◌, ◌+ℤ◌, Bool, ◌&&◌, ◌==◌, nat_lt, nat_le, min, if◌then◌else◌, List, [], ◌∷◌, Option, Some, None}
-use Rattle.unit_model.specs.Claims.{same_slot}
-use Rattle.unit_model.specs.Sweeps.{slot_at}
-use Rattle.plan_model.specs.Packs.{frames_for}
+use Rattle.plan_parts.specs.unit_model.specs.Claims.{same_slot}
+use Rattle.plan_parts.specs.unit_model.specs.Sweeps.{slot_at}
+use Rattle.plan_parts.specs.plan_model.specs.Packs.{frames_for}
 use Rattle.frame_order.specs.declared.turns.Run.{Run}
 use Rattle.plan_runs.specs.declared.limits.Limits.{Limits}
 use Rattle.plan_runs.specs.declared.open_messages.OpenMessage.{OpenMessage}

@@ -5,8 +5,8 @@ ghost use Rattle.plan_runs.specs.Walks.{first_message, frames_of, grown, next_to
 
 use crate::limits::Limits;
 use frame_order::{Run, Turn};
-use plan_model::frame_count;
 use plan_parts::TimedPart;
+use plan_parts::plan_model::frame_count;
 
 /// A message that may take more parts: its first part, how many parts and application bytes it has, its number, and how long behind
 /// the first frame of its symbol its own first one leaves.

@@ -6,8 +6,8 @@ use crate::{Limits, parts_make_runs, stream_messages};
 use fh_base::NoMemory;
 use fh_time::Ticks;
 use frame_order::{Run, Turn};
-use plan_model::Departures;
 use plan_parts::TimedPart;
+use plan_parts::plan_model::Departures;
 
 fn part(start: Ticks, symbol: u8, size: u16) -> TimedPart
     requires low { pos 0 ≤ℤ start.0 }

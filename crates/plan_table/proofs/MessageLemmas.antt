@@ -5,12 +5,12 @@ use Rattle.std.proofs.lemmas.List.{append-nil, drop_all, length-append, length-m
 use Rattle.window_config.specs.declared.config.Config.{Config}
 use Rattle.window_config.specs.declared.endpoints.EndpointConfig.{EndpointConfig}
 use Rattle.fragment_laws.specs.Apart.{IsIn}
-use Rattle.plan_model.specs.Packs.{PartFields, Message, Numbered, alone, parts_of, with_part, takes, packs_behind, packs, numbered_behind}
-use Rattle.plan_model.specs.Streams.{Part, frames_in, messages_of, most_parts, part_fields, parts_in}
-use Rattle.plan_model.specs.declared.lines.PlannedLine.{PlannedLine}
-use Rattle.plan_model.specs.declared.streams.Stream.{Stream}
-use Rattle.plan_parts.specs.Parts.{timed}
-use Rattle.plan_parts.specs.declared.parts.TimedPart.{TimedPart}
+use Rattle.plan_runs.specs.plan_model.specs.Packs.{PartFields, Message, Numbered, alone, parts_of, with_part, takes, packs_behind, packs, numbered_behind}
+use Rattle.plan_runs.specs.plan_model.specs.Streams.{Part, frames_in, messages_of, most_parts, part_fields, parts_in}
+use Rattle.plan_runs.specs.plan_model.specs.declared.lines.PlannedLine.{PlannedLine}
+use Rattle.plan_runs.specs.plan_model.specs.declared.streams.Stream.{Stream}
+use Rattle.plan_runs.specs.plan_parts.specs.Parts.{timed}
+use Rattle.plan_runs.specs.plan_parts.specs.declared.parts.TimedPart.{TimedPart}
 use Rattle.plan_runs.specs.Runs.{begins_of, stream_begins}
 use Rattle.plan_table.specs.Kept.{line_of, placed_line, IsStreamParts, message_in, HasMessage}
 use Rattle.plan_table.specs.declared.kept.PlacedLine.{PlacedLine}

@@ -6,15 +6,15 @@ use Rattle.window_config.specs.Configs.{IsConfig}
 use Rattle.window_config.specs.declared.config.Config.{Config}
 use Rattle.window_config.specs.declared.endpoints.EndpointConfig.{EndpointConfig}
 use Rattle.window_config.specs.declared.plan.PlanLine.{PlanLine}
-use Rattle.unit_model.specs.Meetings.{find_endpoint}
-use Rattle.unit_model.specs.Proper.{IsAt}
+use Rattle.plan_runs.specs.unit_model.specs.Meetings.{find_endpoint}
+use Rattle.plan_runs.specs.unit_model.specs.Proper.{IsAt}
 use Rattle.fragment_laws.specs.Apart.{IsIn}
-use Rattle.plan_model.specs.Lines.{planned, planned_from, planned_with}
-use Rattle.plan_model.specs.declared.lines.PlannedLine.{PlannedLine}
-use Rattle.plan_parts.specs.Parts.{HasEndpoint}
-use Rattle.plan_parts.specs.Placing.{ArePlaced, IsIn as IsAmong}
-use Rattle.schedule_laws.proofs.LineLemmas.{IsGoodLine, good, same_endpoint}
-use Rattle.schedule_laws.proofs.PlanLemmas.{in_range, valid_tested}
+use Rattle.plan_runs.specs.plan_model.specs.Lines.{planned, planned_from, planned_with}
+use Rattle.plan_runs.specs.plan_model.specs.declared.lines.PlannedLine.{PlannedLine}
+use Rattle.plan_runs.specs.plan_parts.specs.Parts.{HasEndpoint}
+use Rattle.plan_runs.specs.plan_parts.specs.Placing.{ArePlaced, IsIn as IsAmong}
+use Rattle.plan_runs.specs.schedule_laws.proofs.LineLemmas.{IsGoodLine, good, same_endpoint}
+use Rattle.plan_runs.specs.schedule_laws.proofs.PlanLemmas.{in_range, valid_tested}
 use Rattle.plan_table.specs.Plans.{IsPlanOf}
 
 in_both : {X : Type 0} (x : X) (xs : List X) → IsAmong x xs → IsIn x xs

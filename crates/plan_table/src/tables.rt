@@ -2,12 +2,12 @@
 ghost use Rattle.std.specs.Prelude.{◌≡◌, ◌≤◌, ◌<◌, ◌^◌, List, map, IfOk};
 ghost use Rattle.window_config.specs.Configs.{IsConfig};
 ghost use Rattle.window_config.specs.declared.config.Config.{Config as SpecConfig};
-ghost use Rattle.plan_model.specs.Packs.{parts_of};
-ghost use Rattle.plan_model.specs.Sent.{SentFrame, sent};
-ghost use Rattle.plan_model.specs.declared.lines.PlannedLine.{PlannedLine as SpecLine};
+ghost use Rattle.plan_runs.specs.plan_model.specs.Packs.{parts_of};
+ghost use Rattle.plan_runs.specs.plan_model.specs.Sent.{SentFrame, sent};
+ghost use Rattle.plan_runs.specs.plan_model.specs.declared.lines.PlannedLine.{PlannedLine as SpecLine};
 ghost use Rattle.frame_order.specs.Queues.{IsQueue, StandsFor, gap_of};
 ghost use Rattle.fragment_laws.specs.Apart.{IsIn};
-ghost use Rattle.sent_order.specs.Runs.{gap_ticks, turn_of};
+ghost use Rattle.plan_runs.specs.sent_order.specs.Runs.{gap_ticks, turn_of};
 ghost use Rattle.plan_table.specs.Kept.{placed_line};
 ghost use Rattle.plan_table.specs.Plans.{IsPlanOf};
 
@@ -15,8 +15,8 @@ use crate::kept::{PlacedLine, StreamParts};
 use crate::streams::add_endpoint;
 use fh_base::NoMemory;
 use frame_order::{Queue, Turn};
-use plan_model::{Departures, PlannedLine, Stream};
-use sent_order::queue_of;
+use plan_runs::plan_model::{Departures, PlannedLine, Stream};
+use plan_runs::sent_order::queue_of;
 use std::alloc::Global;
 use window_config::Config;
 

@@ -5,13 +5,13 @@ use Rattle.std.specs.Int.{bit_at}
 use Rattle.std.proofs.lemmas.Bool.{cases_Bool, or_cases, and_parts, and_from, or_left, or_right, eq-eqb, eqb-true}
 use Rattle.std.proofs.lemmas.Bool.Decides.{Decides-int_eq}
 use Rattle.std.proofs.lemmas.Nat.Bits.{bit_at-lt, bit_at-zero, same_from_bits_below}
-use Rattle.unit_model.specs.Lists.{every, some}
+use Rattle.slot_rings.specs.unit_model.specs.Lists.{every, some}
 use Rattle.fh_time.specs.declared.values.Slot.{Slot}
-use Rattle.unit_model.specs.declared.allocations.Allocation.{Allocation}
-use Rattle.unit_model.specs.declared.cells.Cell.{Cell}
-use Rattle.unit_model.specs.declared.cells.Claim.{Claim}
-use Rattle.unit_model.specs.Claims.{same_slot, same_way, is_from, first_prb, prb_count, covers, in_mask, names, claim_of, claim_at, cell_of, every_cell, some_cell, is_under, is_other, is_claimed, is_overlapped, repeats, overlaps}
-use Rattle.plan_model.specs.Validity.{meet, share_cell, share_bit, clash}
+use Rattle.slot_rings.specs.unit_model.specs.declared.allocations.Allocation.{Allocation}
+use Rattle.slot_rings.specs.unit_model.specs.declared.cells.Cell.{Cell}
+use Rattle.slot_rings.specs.unit_model.specs.declared.cells.Claim.{Claim}
+use Rattle.slot_rings.specs.unit_model.specs.Claims.{same_slot, same_way, is_from, first_prb, prb_count, covers, in_mask, names, claim_of, claim_at, cell_of, every_cell, some_cell, is_under, is_other, is_claimed, is_overlapped, repeats, overlaps}
+use Rattle.plan_parts.specs.plan_model.specs.Validity.{meet, share_cell, share_bit, clash}
 use Rattle.plan_parts.specs.Placing.{IsIn}
 use Rattle.plan_tests.specs.Slots.{IsProper, AreProper, AreClear}
 use Rattle.plan_parts.proofs.ListLemmas.{same_tests}

@@ -7,12 +7,12 @@ use Rattle.std.proofs.lemmas.Option.{slice_get_within}
 use Rattle.fh_time.specs.Carrier.{count_of}
 use Rattle.window_config.specs.Endpoints.{IsEndpoint}
 use Rattle.window_config.specs.declared.endpoints.EndpointConfig.{EndpointConfig}
-use Rattle.unit_model.specs.Proper.{IsAt}
-use Rattle.unit_model.specs.declared.allocations.Allocation.{Allocation}
-use Rattle.plan_model.specs.Lines.{allocation_of}
-use Rattle.plan_model.specs.Validity.{why_claimed}
-use Rattle.plan_model.specs.declared.lines.PlannedLine.{PlannedLine}
-use Rattle.plan_model.specs.declared.refusals.PlanWhy.{PlanWhy}
+use Rattle.slot_rings.specs.unit_model.specs.Proper.{IsAt}
+use Rattle.slot_rings.specs.unit_model.specs.declared.allocations.Allocation.{Allocation}
+use Rattle.plan_parts.specs.plan_model.specs.Lines.{allocation_of}
+use Rattle.plan_parts.specs.plan_model.specs.Validity.{why_claimed}
+use Rattle.plan_parts.specs.plan_model.specs.declared.lines.PlannedLine.{PlannedLine}
+use Rattle.plan_parts.specs.plan_model.specs.declared.refusals.PlanWhy.{PlanWhy}
 use Rattle.plan_parts.specs.Placing.{ArePlaced, IsPlaced, IsIn}
 use Rattle.plan_tests.specs.Judging.{Covers, IsBefore, IsLineOf, ep_of}
 use Rattle.plan_tests.specs.Slots.{IsFrom, AreProper, is_home, judged, judged_in, of_home, lesser, least_along, entry_of, numbered, refused_along, refused_in, why_judged}

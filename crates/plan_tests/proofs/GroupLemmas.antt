@@ -2,11 +2,11 @@
 use Rattle.std.proofs.Common.{◌≡◌, ℕ, ◌+◌, ◌<◌, ◌≤◌, ◌⊎◌, inl, inr, Bool, true, false, nat_lt, if◌then◌else◌, List, [], ◌∷◌, map, filter, Option, Some, None, refl, ap, sym, ◌∙◌, subst, arith}
 use Rattle.std.proofs.lemmas.Bool.{cases_Bool, ltb-true, lt-ltb}
 use Rattle.fh_time.specs.declared.values.Slot.{Slot}
-use Rattle.unit_model.specs.declared.allocations.Allocation.{Allocation}
-use Rattle.plan_model.specs.Validity.{why_claimed, refused_at}
-use Rattle.plan_model.specs.declared.refusals.PlanWhy.{PlanWhy}
-use Rattle.plan_model.specs.Lines.{allocation_of}
-use Rattle.plan_model.specs.declared.lines.PlannedLine.{PlannedLine}
+use Rattle.slot_rings.specs.unit_model.specs.declared.allocations.Allocation.{Allocation}
+use Rattle.plan_parts.specs.plan_model.specs.Validity.{why_claimed, refused_at}
+use Rattle.plan_parts.specs.plan_model.specs.declared.refusals.PlanWhy.{PlanWhy}
+use Rattle.plan_parts.specs.plan_model.specs.Lines.{allocation_of}
+use Rattle.plan_parts.specs.plan_model.specs.declared.lines.PlannedLine.{PlannedLine}
 use Rattle.plan_parts.specs.Placing.{IsIn}
 use Rattle.plan_tests.specs.Slots.{AreProper, why_judged, refused_along, refused_in, is_home, IsFrom, lesser, numbered, refused_of, entry_of, judged, of_home, judged_in, least_along}
 use Rattle.plan_tests.proofs.SlotLemmas.{least_is}

@@ -6,12 +6,12 @@ use Rattle.std.proofs.lemmas.List.Sums.{sum_by-append}
 use Rattle.std.proofs.lemmas.Bool.{and_parts, eqb-true}
 use Rattle.fh_time.specs.declared.values.Slot.{Slot}
 use Rattle.window_config.specs.declared.config.Config.{Config}
-use Rattle.unit_model.specs.Claims.{same_slot}
-use Rattle.plan_model.specs.Dense.{sending_of}
-use Rattle.plan_model.specs.Departures.{start_of}
-use Rattle.plan_model.specs.Packs.{Message, alone as message_alone, parts_of, with_part, size_of, same_symbol, takes, packs_behind, packs, frames_for, frames_before, numbered_behind, numbered}
-use Rattle.plan_model.specs.Streams.{Part, part_fields}
-use Rattle.plan_model.specs.declared.dense.Sending.{Sending}
+use Rattle.slot_rings.specs.unit_model.specs.Claims.{same_slot}
+use Rattle.plan_parts.specs.plan_model.specs.Dense.{sending_of}
+use Rattle.plan_parts.specs.plan_model.specs.Departures.{start_of}
+use Rattle.plan_parts.specs.plan_model.specs.Packs.{Message, alone as message_alone, parts_of, with_part, size_of, same_symbol, takes, packs_behind, packs, frames_for, frames_before, numbered_behind, numbered}
+use Rattle.plan_parts.specs.plan_model.specs.Streams.{Part, part_fields}
+use Rattle.plan_parts.specs.plan_model.specs.declared.dense.Sending.{Sending}
 use Rattle.plan_tests.specs.Walks.{stream_of, limits_of, alone, takes_more, grown, wait_behind, next_to, sending_from, same_place, walk, walked}
 use Rattle.plan_parts.specs.Parts.{timed}
 use Rattle.plan_parts.specs.declared.parts.TimedPart.{TimedPart}

@@ -2,9 +2,9 @@
 use Rattle.std.proofs.Common.{◌≡◌, ℕ, zero, suc, ◌+◌, ◌<◌, ◌≤◌, max, inl, inr, Bool, true, false, nat_lt, List, [], ◌∷◌, refl, ap, sym, ◌∙◌, arith}
 use Rattle.std.specs.List.{list_any}
 use Rattle.std.proofs.lemmas.Bool.{cases_eq, or_cases, and_parts, and_from, or_left, or_right, leb-true, ltb-true, le-leb, lt-ltb}
-use Rattle.unit_model.specs.Lists.{every, some}
-use Rattle.unit_model.specs.Claims.{is_from}
-use Rattle.plan_model.specs.Validity.{meet}
+use Rattle.slot_rings.specs.unit_model.specs.Lists.{every, some}
+use Rattle.slot_rings.specs.unit_model.specs.Claims.{is_from}
+use Rattle.plan_parts.specs.plan_model.specs.Validity.{meet}
 use Rattle.plan_parts.specs.Placing.{IsIn}
 
 pub every_at : (from n : ℕ) (p : ℕ → Bool) (k : ℕ) → every from n p ≡ true → from ≤ k → k < from + n → p k ≡ true

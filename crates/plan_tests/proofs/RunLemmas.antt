@@ -8,10 +8,10 @@ use Rattle.std.specs.declared.cmp.Ordering.TheVariants.{Less, Equal, Greater}
 use Rattle.std.proofs.lemmas.Bool.{cases_Bool, and_parts, and_from, eq-eqb}
 use Rattle.std.proofs.lemmas.Cmp.{by_ranked, ranked, int_ranked, nat_cmp_total, int_cmp_total, on_total, then_total}
 use Rattle.fh_time.specs.declared.values.Slot.{Slot}
-use Rattle.unit_model.specs.Claims.{same_slot}
-use Rattle.plan_model.specs.Lines.{allocation_of}
-use Rattle.plan_model.specs.declared.lines.PlannedLine.{PlannedLine}
-use Rattle.plan_model.specs.declared.refusals.PlanWhy.{PlanWhy}
+use Rattle.slot_rings.specs.unit_model.specs.Claims.{same_slot}
+use Rattle.plan_parts.specs.plan_model.specs.Lines.{allocation_of}
+use Rattle.plan_parts.specs.plan_model.specs.declared.lines.PlannedLine.{PlannedLine}
+use Rattle.plan_parts.specs.plan_model.specs.declared.refusals.PlanWhy.{PlanWhy}
 use Rattle.plan_tests.specs.Order.{slot_cmp, comes_first, AreInOrder}
 use Rattle.plan_parts.specs.Placing.{IsIn}
 use Rattle.plan_tests.specs.Slots.{is_home, of_home, judged, judged_in, lesser, least_along}

@@ -9,8 +9,8 @@ use Rattle.std.proofs.lemmas.Bool.{and_parts, and_from}
 use Rattle.std.proofs.lemmas.Cmp.{tied_itself}
 use Rattle.std.proofs.lemmas.List.Sorted.{ranks_by, sorted_far}
 use Rattle.fh_time.specs.declared.values.Slot.{Slot}
-use Rattle.unit_model.specs.Claims.{same_slot}
-use Rattle.plan_model.specs.declared.lines.PlannedLine.{PlannedLine}
+use Rattle.slot_rings.specs.unit_model.specs.Claims.{same_slot}
+use Rattle.plan_parts.specs.plan_model.specs.declared.lines.PlannedLine.{PlannedLine}
 use Rattle.plan_tests.specs.Order.{slot_cmp, comes_first, AreInOrder}
 use Rattle.plan_tests.specs.Slots.{of_home}
 use Rattle.plan_tests.proofs.ClashLemmas.{slot_own, slot_is}

@@ -2,14 +2,14 @@
 use Rattle.std.proofs.Common.{◌≡◌, ℕ, zero, suc, ◌+◌, ◌<◌, ◌≤◌, inl, inr, true, false, List, [], ◌∷◌, ◌++◌, length, get_or, take, drop, Option, None, refl, ap, sym, ◌∙◌, subst, true≢false, arith}
 use Rattle.std.specs.List.{AllByRecursion}
 use Rattle.std.proofs.lemmas.Bool.{cases_eq}
-use Rattle.unit_model.specs.Claims.{same_slot}
+use Rattle.slot_rings.specs.unit_model.specs.Claims.{same_slot}
 use Rattle.plan_tests.proofs.ClashLemmas.{slot_own, slot_is}
 use Rattle.std.proofs.Math.Seq.{drop-nil}
 use Rattle.fh_time.specs.declared.values.Slot.{Slot}
 use Rattle.window_config.specs.declared.endpoints.EndpointConfig.{EndpointConfig}
 use Rattle.slot_rings.specs.Rings.{RingValue, has_slot}
-use Rattle.plan_model.specs.declared.lines.PlannedLine.{PlannedLine}
-use Rattle.plan_model.specs.declared.refusals.PlanWhy.{PlanWhy}
+use Rattle.plan_parts.specs.plan_model.specs.declared.lines.PlannedLine.{PlannedLine}
+use Rattle.plan_parts.specs.plan_model.specs.declared.refusals.PlanWhy.{PlanWhy}
 use Rattle.plan_tests.specs.Judging.{IsFirstRun, IsLineOf, IsLineAt}
 use Rattle.plan_tests.specs.Order.{AreInOrder}
 use Rattle.plan_parts.specs.Placing.{IsIn}

@@ -3,7 +3,7 @@ use Rattle.std.proofs.Common.{◌≡◌, ℕ, suc, ◌+◌, ◌<◌, ◌≤◌, 
 use Rattle.std.proofs.lemmas.Bool.{and_parts, eqb-true}
 use Rattle.std.proofs.lemmas.Bool.Decides.{nat_tests}
 use Rattle.std.proofs.lemmas.List.{append-nil, drop_all}
-use Rattle.plan_model.specs.declared.dense.Sending.{Sending}
+use Rattle.plan_parts.specs.plan_model.specs.declared.dense.Sending.{Sending}
 use Rattle.plan_tests.specs.Walks.{IsOpenMessage, alone, takes_more, grown, next_to, sending_from, same_place, walk, walked}
 use Rattle.plan_parts.specs.declared.parts.TimedPart.{TimedPart}
 use Rattle.plan_tests.specs.declared.walking.Limits.{Limits}

@@ -3,14 +3,14 @@
 use Rattle.std.specs.Prelude.{◌≡◌, ⊤, ◌⊎◌, ℕ, ◌+◌, ◌^◌, ◌<◌, Bool, false, ◌&&◌, ◌==◌, nat_lt, if◌then◌else◌, List, [], ◌∷◌, map, filter, Option, Some, None}
 use Rattle.std.specs.List.{list_any, AllByRecursion}
 use Rattle.fh_time.specs.declared.values.Slot.{Slot}
-use Rattle.unit_model.specs.Claims.{same_slot, prb_count, repeats, overlaps}
-use Rattle.unit_model.specs.Commands.{is_full}
-use Rattle.unit_model.specs.declared.allocations.Allocation.{Allocation}
-use Rattle.plan_model.specs.Lines.{allocation_of}
-use Rattle.plan_model.specs.Validity.{clash, why_claimed, refused_at}
-use Rattle.plan_model.specs.declared.lines.PlannedLine.{PlannedLine}
-use Rattle.plan_model.specs.declared.refusals.PlanWhy.{PlanWhy}
-use Rattle.plan_model.specs.declared.refusals.PlanWhy.TheVariants.{Overlap, TooManySections}
+use Rattle.slot_rings.specs.unit_model.specs.Claims.{same_slot, prb_count, repeats, overlaps}
+use Rattle.slot_rings.specs.unit_model.specs.Commands.{is_full}
+use Rattle.slot_rings.specs.unit_model.specs.declared.allocations.Allocation.{Allocation}
+use Rattle.plan_parts.specs.plan_model.specs.Lines.{allocation_of}
+use Rattle.plan_parts.specs.plan_model.specs.Validity.{clash, why_claimed, refused_at}
+use Rattle.plan_parts.specs.plan_model.specs.declared.lines.PlannedLine.{PlannedLine}
+use Rattle.plan_parts.specs.plan_model.specs.declared.refusals.PlanWhy.{PlanWhy}
+use Rattle.plan_parts.specs.plan_model.specs.declared.refusals.PlanWhy.TheVariants.{Overlap, TooManySections}
 use Rattle.plan_parts.specs.Placing.{IsIn}
 
 -- a line in its ranges names an element

@@ -2,11 +2,11 @@
 use Rattle.std.specs.Prelude.{ℕ, pos, neg_ℤ, ◌+◌, ◌*◌, ◌<◌, ◌≤◌, ◌^◌, ◌+ℤ◌, ◌≤ℤ◌, Bool, true, false, ◌&&◌, ◌==◌, nat_lt, nat_le, min, if◌then◌else◌, List, [], ◌∷◌}
 use Rattle.std.specs.Ordering.{int_eq}
 use Rattle.window_config.specs.declared.config.Config.{Config}
-use Rattle.plan_model.specs.Departures.{departures_of}
-use Rattle.plan_model.specs.Packs.{frames_for}
-use Rattle.plan_model.specs.declared.dense.Sending.{Sending}
-use Rattle.plan_model.specs.declared.streams.Stream.{Stream}
-use Rattle.plan_model.specs.declared.streams.Stream.TheVariants.{DownData, UpData}
+use Rattle.plan_parts.specs.plan_model.specs.Departures.{departures_of}
+use Rattle.plan_parts.specs.plan_model.specs.Packs.{frames_for}
+use Rattle.plan_parts.specs.plan_model.specs.declared.dense.Sending.{Sending}
+use Rattle.plan_parts.specs.plan_model.specs.declared.streams.Stream.{Stream}
+use Rattle.plan_parts.specs.plan_model.specs.declared.streams.Stream.TheVariants.{DownData, UpData}
 use Rattle.plan_parts.specs.declared.parts.TimedPart.{TimedPart}
 use Rattle.plan_tests.specs.declared.walking.Limits.{Limits}
 use Rattle.plan_tests.specs.declared.walking.OpenMessage.{OpenMessage}

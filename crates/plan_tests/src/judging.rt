@@ -4,9 +4,9 @@ ghost use Rattle.std.specs.List.{AllByRecursion};
 ghost use Rattle.fh_time.specs.declared.values.Slot.{Slot as SpecSlot};
 ghost use Rattle.window_config.specs.Endpoints.{IsEndpoint};
 ghost use Rattle.slot_rings.specs.Rings.{has_slot};
-ghost use Rattle.plan_model.specs.Lines.{allocation_of};
-ghost use Rattle.plan_model.specs.Validity.{why_claimed};
-ghost use Rattle.plan_model.specs.declared.lines.PlannedLine.{PlannedLine as SpecLine};
+ghost use Rattle.plan_parts.specs.plan_model.specs.Lines.{allocation_of};
+ghost use Rattle.plan_parts.specs.plan_model.specs.Validity.{why_claimed};
+ghost use Rattle.plan_parts.specs.plan_model.specs.declared.lines.PlannedLine.{PlannedLine as SpecLine};
 ghost use Rattle.plan_parts.specs.Placing.{ArePlaced, IsPlaced, IsIn};
 ghost use Rattle.plan_tests.specs.Judging.{Covers, IsFirstRun, IsLineAt, IsLineOf, ep_of, why_of};
 ghost use Rattle.plan_tests.specs.Order.{AreInOrder};
@@ -14,10 +14,10 @@ ghost use Rattle.plan_tests.specs.Slots.{entry_of, judged, least_along, lesser, 
 
 use crate::sorting::{lines_of, sort_by_slot};
 use fh_base::NoMemory;
-use plan_model::{PlanWhy, PlannedLine, allocation_of};
+use plan_parts::plan_model::{PlanWhy, PlannedLine, allocation_of};
 use slot_rings::SlotRing;
+use slot_rings::unit_model::{CommandVerdict, same_slot};
 use std::alloc::Global;
-use unit_model::{CommandVerdict, same_slot};
 use window_config::EndpointConfig;
 
 /// The reason that a verdict other than Accepted is.

@@ -1,10 +1,10 @@
 // The tests of a line by itself.
 ghost use Rattle.std.specs.Prelude.{◌≡◌, ◌<◌, length, slice_get, IfOk, Some};
 ghost use Rattle.plan_tests.specs.Placed.{placed_from, placing, stopped_from};
-ghost use Rattle.plan_model.specs.Lines.{planned_at};
+ghost use Rattle.plan_parts.specs.plan_model.specs.Lines.{planned_at};
 
 use fh_base::{List, NoMemory};
-use plan_model::{PlanWhy, PlannedLine, is_out_of_range, planned_line};
+use plan_parts::plan_model::{PlanWhy, PlannedLine, is_out_of_range, planned_line};
 use std::alloc::Global;
 use window_config::{EndpointConfig, PlanLine};
 

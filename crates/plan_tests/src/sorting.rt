@@ -1,12 +1,12 @@
 // Lines in the order of their slots.
 ghost use Rattle.std.specs.Prelude.{◌≡◌, ℕ, length, take, get_or, ◌<◌, ◌≤◌, false, filter, ◌==◌, List as SpecList, IfOk, OnOk};
 ghost use Rattle.std.specs.List.{AllByRecursion};
-ghost use Rattle.plan_model.specs.declared.lines.PlannedLine.{PlannedLine as SpecLine};
+ghost use Rattle.plan_parts.specs.plan_model.specs.declared.lines.PlannedLine.{PlannedLine as SpecLine};
 ghost use Rattle.plan_tests.specs.Order.{AreInOrder, comes_first, slot_cmp};
 ghost use Rattle.plan_tests.specs.Slots.{of_home};
 
 use fh_base::NoMemory;
-use plan_model::PlannedLine;
+use plan_parts::plan_model::PlannedLine;
 use std::alloc::Global;
 
 /// A slot in the order of slots.

@@ -5,8 +5,8 @@ ghost use Rattle.window_config.specs.Configs.{IsConfig};
 ghost use Rattle.window_config.specs.Limits.{IsWithinLimits};
 ghost use Rattle.window_config.specs.Plans.{IsPlanLine};
 ghost use Rattle.window_config.specs.declared.endpoints.EndpointConfig.{EndpointConfig as SpecEndpoint};
-ghost use Rattle.plan_model.specs.Dense.{dense, dense_from, dense_in, lesser, sendings};
-ghost use Rattle.plan_model.specs.Valid.{plan_refusal};
+ghost use Rattle.plan_parts.specs.plan_model.specs.Dense.{dense, dense_from, dense_in, lesser, sendings};
+ghost use Rattle.plan_parts.specs.plan_model.specs.Valid.{plan_refusal};
 ghost use Rattle.plan_tests.specs.Answers.{Answers, distance_of};
 ghost use Rattle.plan_parts.specs.Placing.{ArePlaced, IsPlaced};
 ghost use Rattle.plan_parts.specs.Parts.{HasEndpoint};
@@ -17,10 +17,10 @@ use crate::placing::place_lines;
 use crate::walking::{Limits, sendings};
 use fh_base::{List, NoMemory};
 use fh_time::Ticks;
-use plan_model::{
+use plan_parts::parts_of;
+use plan_parts::plan_model::{
     Dense, Departures, PlanWhy, PlannedLine, Stream, dense_in, down_distance, up_distance,
 };
-use plan_parts::parts_of;
 use std::alloc::Global;
 use thiserror::Error;
 use window_config::{Config, Delays, PlanLine};

@@ -10,7 +10,7 @@ use bfp_codec::{Format, Method};
 use eaxc_map::Widths;
 use fh_base::{List, NoMemory};
 use fh_time::{Numerology, Slot};
-use plan_model::PlanWhy;
+use plan_parts::plan_model::PlanWhy;
 use std::alloc::Global;
 use std::test::Fail;
 use window_config::{Config, Delays, EndpointConfig, EndpointList, PlanKind, PlanLine, Range};

@@ -1,14 +1,14 @@
 // When the first frames of data messages leave.
 ghost use Rattle.std.specs.Prelude.{◌≡◌, All, pos, neg_ℤ, ◌+◌, ◌<◌, ◌≤◌, ◌^◌, ◌≤ℤ◌, ◌∷◌, ◌++◌, IfOk, OnOk, List as SpecParts};
 ghost use Rattle.std.specs.List.{AllByRecursion};
-ghost use Rattle.plan_model.specs.Dense.{IsSending};
+ghost use Rattle.plan_parts.specs.plan_model.specs.Dense.{IsSending};
 ghost use Rattle.plan_tests.specs.Walks.{IsLimits, IsOpenMessage, alone, grown, next_to, same_place, sending_from, takes_more, walk, walked};
 ghost use Rattle.plan_parts.specs.Parts.{IsTimed};
 ghost use Rattle.plan_parts.specs.declared.parts.TimedPart.{TimedPart as SpecPart};
 
 use fh_base::NoMemory;
-use plan_model::{Departures, Sending, frame_count};
 use plan_parts::TimedPart;
+use plan_parts::plan_model::{Departures, Sending, frame_count};
 use std::alloc::Global;
 
 /// What messages are cut by: how many parts one may have, how many application bytes a frame carries, and when frames leave.

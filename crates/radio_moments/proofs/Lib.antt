@@ -4,6 +4,7 @@ pub mod NextLemmas
 pub mod StepLemmas
 pub mod TurnLemmas
 pub mod StopLemmas
+pub mod HearLemmas
 pub mod LandLemmas
 pub mod SendLemmas
 pub mod DownLemmas

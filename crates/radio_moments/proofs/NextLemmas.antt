@@ -6,13 +6,13 @@ use Rattle.std.proofs.lemmas.List.Elements.{All-cons, All-head, All-nil}
 use Rattle.fh_time.specs.declared.values.Ticks.{Ticks}
 use Rattle.du_scheduler.specs.Plans.{HasToSend, IsPlan}
 use Rattle.du_scheduler.specs.declared.plans.Plan.{Plan}
-use Rattle.frame_order.specs.Queues.{first_time}
-use Rattle.plan_model.specs.Sent.{SentFrame}
-use Rattle.replay_events.proofs.TickLemmas.{next_after}
-use Rattle.ru_buffers.specs.Calls.{IsLeastOf}
-use Rattle.sent_order.specs.Runs.{turn_of}
-use Rattle.window_config.specs.declared.config.Config.{Config}
-use Rattle.window_config.specs.declared.plan.PlanLine.{PlanLine}
+use Rattle.du_scheduler.specs.frame_order.specs.Queues.{first_time}
+use Rattle.du_scheduler.specs.plan_model.specs.Sent.{SentFrame}
+use Rattle.measured_moments.specs.replay_events.proofs.TickLemmas.{next_after}
+use Rattle.measured_moments.specs.ru_buffers.specs.Calls.{IsLeastOf}
+use Rattle.du_scheduler.specs.sent_order.specs.Runs.{turn_of}
+use Rattle.du_scheduler.specs.window_config.specs.declared.config.Config.{Config}
+use Rattle.du_scheduler.specs.window_config.specs.declared.plan.PlanLine.{PlanLine}
 use Rattle.radio_moments.specs.Downlink.{AreSentFrom, SendsNoneTo}
 use Rattle.radio_moments.proofs.OrderLemmas.{first_is_least, sent_less}
 

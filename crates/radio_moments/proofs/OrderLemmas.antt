@@ -5,25 +5,25 @@ use Rattle.std.specs.Int.{int_gap}
 use Rattle.std.specs.Ordering.{int_eq}
 use Rattle.std.proofs.lemmas.Int.{ints}
 use Rattle.std.proofs.lemmas.List.Elements.{All-cons, All-head, All-nil, All-tail}
-use Rattle.document_traffic.proofs.OrderLemmas.{leaving, rising_behind, sent_rising}
+use Rattle.measured_moments.specs.document_traffic.proofs.OrderLemmas.{leaving, rising_behind, sent_rising}
 use Rattle.du_scheduler.specs.Plans.{HasToSend}
 use Rattle.du_scheduler.specs.declared.plans.Plan.{Plan}
-use Rattle.fragment_laws.specs.Apart.{IsIn}
-use Rattle.frame_order.proofs.TurnOrder.{own, same_turn}
-use Rattle.frame_order.specs.Turns.{is_turn, times}
-use Rattle.frame_order.specs.declared.turns.Turn.{Turn}
-use Rattle.plan_model.specs.Lines.{planned}
-use Rattle.plan_model.specs.Sent.{SentFrame, frames_from, sent}
-use Rattle.replay_events.proofs.TickLemmas.{at_most}
-use Rattle.schedule_laws.proofs.ListLemmas.{in_right, of_filter, of_tick}
-use Rattle.schedule_laws.proofs.OrderLemmas.{IsRising}
-use Rattle.sent_order.specs.Runs.{turn_of}
-use Rattle.sent_order.proofs.BoundLemmas.{IsInTime, all_in_time}
-use Rattle.unit_model.specs.Radiated.{first_clock}
-use Rattle.unit_model.specs.Times.{end_of_time}
-use Rattle.unit_model.proofs.SweepLaws.{gap_is}
-use Rattle.window_config.specs.declared.config.Config.{Config}
-use Rattle.window_config.specs.declared.plan.PlanLine.{PlanLine}
+use Rattle.du_scheduler.specs.fragment_laws.specs.Apart.{IsIn}
+use Rattle.du_scheduler.specs.frame_order.proofs.TurnOrder.{own, same_turn}
+use Rattle.du_scheduler.specs.frame_order.specs.Turns.{is_turn, times}
+use Rattle.du_scheduler.specs.frame_order.specs.declared.turns.Turn.{Turn}
+use Rattle.du_scheduler.specs.plan_model.specs.Lines.{planned}
+use Rattle.du_scheduler.specs.plan_model.specs.Sent.{SentFrame, frames_from, sent}
+use Rattle.measured_moments.specs.replay_events.proofs.TickLemmas.{at_most}
+use Rattle.du_scheduler.specs.schedule_laws.proofs.ListLemmas.{in_right, of_filter, of_tick}
+use Rattle.du_scheduler.specs.schedule_laws.proofs.OrderLemmas.{IsRising}
+use Rattle.du_scheduler.specs.sent_order.specs.Runs.{turn_of}
+use Rattle.du_scheduler.specs.sent_order.proofs.BoundLemmas.{IsInTime, all_in_time}
+use Rattle.du_scheduler.specs.unit_model.specs.Radiated.{first_clock}
+use Rattle.du_scheduler.specs.unit_model.specs.Times.{end_of_time}
+use Rattle.du_scheduler.specs.unit_model.proofs.SweepLaws.{gap_is}
+use Rattle.du_scheduler.specs.window_config.specs.declared.config.Config.{Config}
+use Rattle.du_scheduler.specs.window_config.specs.declared.plan.PlanLine.{PlanLine}
 use Rattle.radio_moments.specs.Downlink.{AreSentFrom}
 
 -- ---- each is sent at a time that is gone over

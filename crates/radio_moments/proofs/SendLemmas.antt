@@ -6,28 +6,36 @@ use Rattle.std.proofs.lemmas.List.Elements.{All-cons, All-head, All-nil, All-tai
 use Rattle.air_source.specs.declared.events.Side.TheVariants.{Ru as AtRu}
 use Rattle.air_source.specs.declared.places.RePlace.{RePlace}
 use Rattle.bfp_codec.specs.declared.samples.Wide.{Wide}
-use Rattle.document_traffic.proofs.ShortLemmas.{are_short}
-use Rattle.document_traffic.specs.Landing.{leaving_to}
-use Rattle.document_traffic.specs.Sending.{Leaving, class_of, counted, leaving_of, sent_for}
+use Rattle.measured_moments.specs.document_traffic.proofs.ShortLemmas.{are_short}
+use Rattle.measured_moments.specs.document_traffic.specs.Landing.{leaving_to}
+use Rattle.measured_moments.specs.document_traffic.specs.Sending.{Leaving, class_of, counted, leaving_of, sent_for}
 use Rattle.du_scheduler.specs.Plans.{Gives, HasToSend, Leaves, plane_of}
 use Rattle.du_scheduler.specs.declared.plans.Plan.{Plan}
 use Rattle.du_scheduler.specs.declared.plans.Sent.{Sent}
-use Rattle.fh_document.specs.Proper.{IsDocument}
-use Rattle.fh_document.specs.declared.document.Document.{Document}
+use Rattle.measured_moments.specs.fh_document.specs.Proper.{IsDocument}
+use Rattle.measured_moments.specs.fh_document.specs.declared.document.Document.{Document}
 use Rattle.fh_time.specs.declared.values.Ticks.{Ticks}
-use Rattle.fragment_laws.specs.Apart.{IsIn}
-use Rattle.frame_order.specs.Queues.{first_time}
-use Rattle.frame_ways.specs.Ways.{Waits, document_of}
-use Rattle.frame_ways.specs.declared.way.Way.{Way}
-use Rattle.plan_model.specs.Sent.{SentFrame}
-use Rattle.plan_model.specs.declared.streams.Stream.{Stream}
-use Rattle.plan_model.specs.declared.streams.Stream.TheVariants.{DownCommands, DownData, UpCommands, UpData}
-use Rattle.schedule_laws.proofs.ListLemmas.{in_all, in_map}
-use Rattle.sent_order.specs.Runs.{turn_of}
-use Rattle.tone_source.specs.Tones.{tone_of}
-use Rattle.radio_moments.specs.Downlink.{AreSentFrom, HasSent, HasSentNext, MaySend, WaitsDown, class_for}
+use Rattle.du_scheduler.specs.fragment_laws.specs.Apart.{IsIn}
+use Rattle.du_scheduler.specs.frame_order.specs.Queues.{first_time}
+use Rattle.frame_network.specs.Pool.{Pool}
+use Rattle.measured_moments.specs.frame_ways.proofs.ComingLemmas.{comes_later}
+use Rattle.measured_moments.specs.frame_ways.specs.Ways.{ComesFrom, Waits, document_of}
+use Rattle.measured_moments.specs.frame_ways.specs.declared.way.Way.{Way}
+use Rattle.measured_moments.specs.measured_traffic.proofs.LeaveLemmas.{first_leaves}
+use Rattle.measured_moments.specs.measured_traffic.specs.Measured.{exchanges}
+use Rattle.measured_moments.specs.measured_traffic.specs.Replayed.{leaving_with}
+use Rattle.du_scheduler.specs.plan_model.specs.Sent.{SentFrame}
+use Rattle.du_scheduler.specs.plan_model.specs.declared.streams.Stream.{Stream}
+use Rattle.du_scheduler.specs.plan_model.specs.declared.streams.Stream.TheVariants.{DownCommands, DownData, UpCommands, UpData}
+use Rattle.measured_moments.specs.replay_events.proofs.TickLemmas.{same_most}
+use Rattle.measured_moments.specs.replay_events.specs.Moments.{end_of_time}
+use Rattle.du_scheduler.specs.schedule_laws.proofs.ListLemmas.{in_all, in_map}
+use Rattle.du_scheduler.specs.sent_order.specs.Runs.{turn_of}
+use Rattle.measured_moments.specs.tone_source.specs.Tones.{tone_of}
+use Rattle.radio_moments.specs.Downlink.{AreSentFrom, HasSent, HasSentNext, MaySend, MaySendNext, WaitsDown, class_for}
 use Rattle.radio_moments.specs.declared.downlink.Downlink.{Downlink}
 use Rattle.radio_moments.proofs.MeasureLemmas.{frames_left, left_is}
+use Rattle.radio_moments.proofs.NextLemmas.{some_same}
 use Rattle.radio_moments.proofs.OrderLemmas.{IsSentTime, first_is_least, is_sent, sent_less, sent_time}
 
 -- ---- the frame that a plan gave
@@ -75,40 +83,52 @@ way_document d now w m = subst IsDocument (sym m.waits.way.document) m.document.
 same_rest : {X : Type 0} (x y : X) (xs ys : List X) → x ∷ xs ≡ y ∷ ys → xs ≡ ys
 same_rest x y xs ys e = cc e
 
--- it is the next that leaves for the radio unit
-pub is_ahead : {post : RePlace → Wide → Type 0} (d : Document) (now : ℤ) (w : Downlink) (s : Sent) → (m : MaySend post d now w) → (g : IsGiven d now w s m.waits.left)
-    → (now ≤ℤ g.frame.at) × Waits d AtRu now now m.waits.counts (leaving_of d g.frame ∷ map (leaving_of d) g.rest) w.way
-is_ahead d now w s m g =
-    let waits = m.waits in
-    let later : AreSentFrom now (g.frame ∷ g.rest) = subst (AreSentFrom now) g.is waits.later in (
-      All-head (λ (x : SentFrame). now ≤ℤ x.at) g.frame g.rest later,
-      subst (λ (xs : List SentFrame). Waits d AtRu now now waits.counts (map (leaving_of d) xs) w.way) g.is waits.way,
-    )
+first_at : (f : SentFrame) (rest : List SentFrame) (tick : Ticks) → first_time (map turn_of (f ∷ rest)) ≡ Some tick → f.at ≡ tick.0
+first_at f rest tick is = ap (λ (t : Ticks). t.0) (some_same is)
 
--- it went out, and its copies are on their way
-pub has_sent_next : {post : RePlace → Wide → Type 0} (d : Document) (now : ℤ) (w : Downlink) (p : Plan) (r : Option Sent) (s : Sent) (way : Way) → (m : MaySend post d now w)
-    → r ≡ Some s → Leaves w.plan p r → (g : IsGiven d now w s m.waits.left)
-    → Waits d AtRu now now (counted (class_of g.frame.stream) m.waits.counts) (map (leaving_of d) g.rest) way → HasSentNext d now w (record { plan = p; way = way })
-has_sent_next d now w p r s way m some leaves g gone =
-    let waits = m.waits in
-    let then = subst (Leaves {X = Sent} w.plan p) some leaves d.config d.plan waits.left waits.plan in
-    let rest : then.1 ≡ g.rest = same_rest then.0 g.frame then.1 g.rest (sym then.2 ∙ g.is) in
-    record {
-      waits = record {
-        counts = counted (class_of g.frame.stream) waits.counts;
-        left = g.rest;
-        plan = subst (λ (xs : List SentFrame). HasToSend d.config d.plan xs p) rest then.3;
-        later = All-tail (λ (x : SentFrame). now ≤ℤ x.at) g.frame g.rest (subst (AreSentFrom now) g.is waits.later);
-        way = gone;
-      };
-      next = λ x xs h.
-          let after = subst (Leaves {X = Sent} w.plan p) some leaves d.config d.plan (x ∷ xs) h in
-          subst (λ (ys : List SentFrame). HasToSend d.config d.plan ys p) (sym (same_rest x after.0 xs after.1 after.2)) after.3;
-    }
+-- it leaves now, and is the next that leaves for the radio unit
+module _ {post : RePlace → Wide → Type 0} (d : Document) (now : ℤ) (w : Downlink) (s : Sent) (m : MaySendNext post d now w) (g : IsGiven d now w s m.may.waits.left) where
+  abbrev left_behind : List Leaving
+  left_behind = leaving_with AtRu d (map (leaving_of d) g.rest) now
+
+  leaves_now : g.frame.at ≡ now
+  leaves_now = m.first g.frame g.rest (subst (λ (xs : List SentFrame). HasToSend d.config d.plan xs w.plan) g.is m.may.waits.plan)
+
+  pub comes_then : ComesFrom d AtRu now m.may.waits.counts (leaving_of d g.frame)
+  comes_then = comes_later d AtRu now m.may.waits.counts (leaving_of d g.frame) m.may.document.document (subst (λ (t : ℤ). now ≤ℤ t) (sym leaves_now) (same_most now))
+
+  pub is_ahead : Waits d AtRu now now m.may.waits.counts (leaving_of d g.frame ∷ left_behind) w.way
+  is_ahead =
+      let waits = m.may.waits in
+      let fs = (exchanges d).sent AtRu in
+      let ended : now ≤ℤ end_of_time = subst (λ (t : ℤ). t ≤ℤ end_of_time) (g.at ∙ leaves_now) g.time.ended in
+      subst (λ (ls : List Leaving). Waits d AtRu now now waits.counts ls w.way)
+      (ap (λ (xs : List SentFrame). leaving_with AtRu d (map (leaving_of d) xs) now) g.is
+      ∙ first_leaves fs now (leaving_of d g.frame) (map (leaving_of d) g.rest) leaves_now ended) waits.way
+
+  -- it went out, and its copies are on their way
+  pub has_sent_next : (p : Plan) (r : Option Sent) (way : Way) (pool : Pool) → r ≡ Some s → Leaves w.plan p r
+      → Waits d AtRu now now (counted (class_of g.frame.stream) m.may.waits.counts) left_behind way → HasSentNext d now w (record { plan = p; way = way; pool = pool })
+  has_sent_next p r way pool some leaves gone =
+      let waits = m.may.waits in
+      let then = subst (Leaves {X = Sent} w.plan p) some leaves d.config d.plan waits.left waits.plan in
+      let rest : then.1 ≡ g.rest = same_rest then.0 g.frame then.1 g.rest (sym then.2 ∙ g.is) in
+      record {
+        waits = record {
+          counts = counted (class_of g.frame.stream) waits.counts;
+          left = g.rest;
+          plan = subst (λ (xs : List SentFrame). HasToSend d.config d.plan xs p) rest then.3;
+          later = All-tail (λ (x : SentFrame). now ≤ℤ x.at) g.frame g.rest (subst (AreSentFrom now) g.is waits.later);
+          way = gone;
+        };
+        next = λ x xs h.
+            let after = subst (Leaves {X = Sent} w.plan p) some leaves d.config d.plan (x ∷ xs) h in
+            subst (λ (ys : List SentFrame). HasToSend d.config d.plan ys p) (sym (same_rest x after.0 xs after.1 after.2)) after.3;
+      }
 
 -- there was none
 pub has_none : {post : RePlace → Wide → Type 0} (d : Document) (now : ℤ) (w : Downlink) (p : Plan) (r : Option Sent) → (m : MaySend post d now w) → r ≡ None → Leaves w.plan p r
-    → HasSentNext d now w (record { plan = p; way = w.way })
+    → HasSentNext d now w (record { plan = p; way = w.way; pool = w.pool })
 has_none d now w p r m none leaves =
     let waits = m.waits in
     let over = subst (Leaves {X = Sent} w.plan p) none leaves d.config d.plan waits.left waits.plan in
@@ -124,6 +144,11 @@ has_none d now w p r m none leaves =
     }
 
 -- ---- all of a tick
+
+-- the next frame leaves at the tick
+pub may_send_next : {post : RePlace → Wide → Type 0} (d : Document) (tick : Ticks) (w : Downlink) → MaySend post d tick.0 w
+    → ((f : SentFrame) (rest : List SentFrame) → HasToSend d.config d.plan (f ∷ rest) w.plan → first_time (map turn_of (f ∷ rest)) ≡ Some tick) → MaySendNext post d tick.0 w
+may_send_next d tick w m leaves = record { may = m; first = λ f rest h. first_at f rest tick (leaves f rest h) }
 
 pub still_may : {post : RePlace → Wide → Type 0} (d : Document) (now : ℤ) (old new : Downlink) → MaySend post d now old → WaitsDown d now new → MaySend post d now new
 still_may d now old new m waits = record { document = m.document; tone = m.tone; waits = waits }

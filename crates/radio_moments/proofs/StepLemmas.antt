@@ -7,17 +7,18 @@ use Rattle.air_source.specs.declared.events.Event.{Event}
 use Rattle.air_source.specs.declared.events.Event.TheVariants as event
 use Rattle.air_source.specs.declared.events.Side.{Side}
 use Rattle.air_source.specs.declared.events.Side.TheVariants.{Ru as AtRu, Du as AtDu}
-use Rattle.document_traffic.specs.Landing.{traffic_of}
-use Rattle.fh_document.specs.declared.document.Document.{Document}
-use Rattle.replay_events.proofs.EventLemmas.{events_go_on}
-use Rattle.replay_events.proofs.HeardLemmas.{AreOf, arrivals-append, cells-append, tick_of_side}
-use Rattle.replay_events.specs.Events.{arrivals_told, cells_at, events_at, start_of}
-use Rattle.replay_events.specs.Heard.{arrivals_heard, cells_heard, is_of}
-use Rattle.replay_events.specs.Moments.{all_arrivals, landing_at}
-use Rattle.replay_events.specs.Traffic.{known_at, landings_at}
-use Rattle.ru_buffers.specs.declared.unit.Ru.{Ru}
-use Rattle.unit_model.specs.Meetings.{Arrival}
-use Rattle.unit_model.specs.Radiated.{first_clock}
+use Rattle.measured_moments.specs.fh_document.specs.declared.document.Document.{Document}
+use Rattle.measured_moments.specs.measured_traffic.specs.Replayed.{traffic_of}
+use Rattle.measured_moments.specs.replay_events.proofs.EventLemmas.{events_go_on}
+use Rattle.measured_moments.specs.replay_events.proofs.HeardLemmas.{AreOf, arrivals-append, cells-append, tick_of_side}
+use Rattle.measured_moments.specs.replay_events.proofs.ToldLemmas.{told_all}
+use Rattle.measured_moments.specs.replay_events.specs.Events.{arrivals_at, cells_at, events_at, start_of}
+use Rattle.measured_moments.specs.replay_events.specs.Heard.{arrivals_heard, cells_heard, is_of}
+use Rattle.measured_moments.specs.replay_events.specs.Moments.{all_arrivals, landing_at}
+use Rattle.measured_moments.specs.replay_events.specs.Traffic.{known_at, landings_at}
+use Rattle.measured_moments.specs.ru_buffers.specs.declared.unit.Ru.{Ru}
+use Rattle.du_scheduler.specs.unit_model.specs.Meetings.{Arrival}
+use Rattle.du_scheduler.specs.unit_model.specs.Radiated.{first_clock}
 use Rattle.radio_moments.specs.Turns.{AtRadioTurn, HasRadioLanded, IsRadioInStep, events_before, intake_events, radio_events}
 
 -- ---- events of one unit
@@ -45,10 +46,9 @@ cells_of side (a ∷ cs) h =
     let P = λ (x : AirCell). x.side ≡ side in
     All-cons (λ (e : Event). unit_of e ≡ side) (event.Cell a) (map event.Cell cs) (All-head P a cs h) (cells_of side cs (All-tail P a cs h))
 
-arrivals_of : (side : Side) (xs : List Arrival) → AreEventsOf side (arrivals_told side xs)
-unfolding arrivals_told
-arrivals_of side [] = All-nil (λ (e : Event). unit_of e ≡ side)
-arrivals_of side (x ∷ xs) = All-cons (λ (e : Event). unit_of e ≡ side) _ (arrivals_told side xs) refl (arrivals_of side xs)
+arrivals_of : (side : Side) (d : Document) (tick : ℤ) → AreEventsOf side (arrivals_at side (traffic_of d) tick)
+arrivals_of side d tick =
+    let t = traffic_of d in told_all (λ (e : Event). unit_of e ≡ side) side (λ a. refl) (λ at r. refl) (t.results side tick) (landing_at (landings_at side t) tick)
 
 -- a unit's cells of a tick are its own
 pub cells_own : (side : Side) (d : Document) (tick : ℤ) → AreOf side (cells_at side d.config (traffic_of d) tick)
@@ -59,13 +59,13 @@ cells_own side d tick =
 -- so each of the two parts of a tick's events is one unit's
 pub radio_own : (d : Document) (tick : ℤ) → AreEventsOf AtRu (radio_events d tick)
 radio_own d tick =
-    All-append (λ (e : Event). unit_of e ≡ AtRu) (map event.Cell (cells_at AtRu d.config (traffic_of d) tick)) (arrivals_told AtRu (landing_at (landings_at AtRu (traffic_of d)) tick))
-    (cells_of AtRu _ (cells_own AtRu d tick)) (arrivals_of AtRu (landing_at (landings_at AtRu (traffic_of d)) tick))
+    All-append (λ (e : Event). unit_of e ≡ AtRu) (map event.Cell (cells_at AtRu d.config (traffic_of d) tick)) (arrivals_at AtRu (traffic_of d) tick)
+    (cells_of AtRu _ (cells_own AtRu d tick)) (arrivals_of AtRu d tick)
 
 pub intake_own : (d : Document) (tick : ℤ) → AreEventsOf AtDu (intake_events d tick)
 intake_own d tick =
-    All-append (λ (e : Event). unit_of e ≡ AtDu) (arrivals_told AtDu (landing_at (landings_at AtDu (traffic_of d)) tick)) (map event.Cell (cells_at AtDu d.config (traffic_of d) tick))
-    (arrivals_of AtDu (landing_at (landings_at AtDu (traffic_of d)) tick)) (cells_of AtDu _ (cells_own AtDu d tick))
+    All-append (λ (e : Event). unit_of e ≡ AtDu) (arrivals_at AtDu (traffic_of d) tick) (map event.Cell (cells_at AtDu d.config (traffic_of d) tick))
+    (arrivals_of AtDu d tick) (cells_of AtDu _ (cells_own AtDu d tick))
 
 -- ---- what one unit's events leave of what was heard of the other
 
@@ -133,7 +133,7 @@ landed_step d tick u a = record { history = a.history; stands = a.stands; arriva
 pub tick_events : (d : Document) (tick : ℤ) → events_at d.config (traffic_of d) tick ≡ radio_events d tick ++ intake_events d tick
 unfolding events_at
 tick_events d tick =
-    sym (append_assoc (map event.Cell (cells_at AtRu d.config (traffic_of d) tick)) (arrivals_told AtRu (landing_at (landings_at AtRu (traffic_of d)) tick)) (intake_events d tick))
+    sym (append_assoc (map event.Cell (cells_at AtRu d.config (traffic_of d) tick)) (arrivals_at AtRu (traffic_of d) tick) (intake_events d tick))
 
 -- those before the next tick are those before the tick, and those of the tick
 pub next_events : (d : Document) (tick : ℤ) → first_clock ≤ℤ tick → events_before d (tick +ℤ pos 1) ≡ events_before d tick ++ (radio_events d tick ++ intake_events d tick)

@@ -1,5 +1,5 @@
 -- Where an air stopped, and what the radio unit stands for then.
-use Rattle.std.proofs.Common.{◌≡◌, ℤ, ◌≤ℤ◌, List, [], ◌∷◌, ◌++◌, inl, inr, refl, sym, ap, ap₂, ◌∙◌, append_assoc, subst}
+use Rattle.std.proofs.Common.{◌≡◌, ℤ, ◌≤ℤ◌, List, [], ◌∷◌, ◌++◌, inl, inr, refl, sym, ap, ap₂, ◌∙◌, append_assoc, append-nil, subst}
 use Rattle.std.specs.Prelude.{map}
 use Rattle.std.proofs.lemmas.List.{map-append}
 use Rattle.std.proofs.lemmas.List.Elements.{All-nil, All-cons, All-head, All-tail}
@@ -7,24 +7,25 @@ use Rattle.air_source.specs.declared.events.AirCell.{AirCell}
 use Rattle.air_source.specs.declared.events.Event.{Event}
 use Rattle.air_source.specs.declared.events.Event.TheVariants.{Cell}
 use Rattle.air_source.specs.declared.events.Side.TheVariants.{Ru as AtRu}
-use Rattle.document_traffic.specs.Landing.{landings_of}
-use Rattle.document_traffic.specs.Laws.{IsReplayable}
-use Rattle.fh_document.specs.declared.document.Document.{Document}
-use Rattle.replay_events.proofs.AloneLemmas.{told_each}
-use Rattle.replay_events.proofs.HeardLemmas.{AreOf, arrivals-append, arrivals-cells, cells-append, cells-own, due_of_side}
-use Rattle.replay_events.specs.Events.{arrival_event, arrivals_told}
-use Rattle.replay_events.specs.Heard.{arrivals_heard, cells_heard}
-use Rattle.replay_events.specs.Moments.{end_of_time, landing_at}
-use Rattle.ru_buffers.specs.Calls.{StandsFor, StopsAtDue}
-use Rattle.ru_buffers.specs.Reporting.{due_of}
-use Rattle.ru_buffers.specs.declared.unit.Ru.{Ru}
-use Rattle.unit_model.specs.Meetings.{Arrival}
-use Rattle.unit_model.specs.Reports.{ru_known}
-use Rattle.unit_model.specs.Standing.{History, at_clock, heard}
-use Rattle.radio_moments.specs.Landing.{StopsLanding}
+use Rattle.measured_moments.specs.document_traffic.specs.Laws.{IsReplayable}
+use Rattle.measured_moments.specs.fh_document.specs.declared.document.Document.{Document}
+use Rattle.measured_moments.specs.measured_traffic.specs.Doings.{Doings}
+use Rattle.measured_moments.specs.measured_traffic.specs.Replayed.{landings_for, results_at}
+use Rattle.measured_moments.specs.replay_events.proofs.HeardLemmas.{AreOf, arrivals-append, arrivals-cells, cells-append, cells-arrivals, cells-own, due_of_side}
+use Rattle.measured_moments.specs.replay_events.proofs.TickLemmas.{front_empty}
+use Rattle.measured_moments.specs.replay_events.specs.Events.{arrivals_told}
+use Rattle.measured_moments.specs.replay_events.specs.Heard.{arrivals_heard, cells_heard}
+use Rattle.measured_moments.specs.replay_events.specs.Moments.{end_of_time, landing_at}
+use Rattle.measured_moments.specs.ru_buffers.specs.Calls.{StandsFor, StopsAtDue}
+use Rattle.measured_moments.specs.ru_buffers.specs.Reporting.{due_of}
+use Rattle.measured_moments.specs.ru_buffers.specs.declared.unit.Ru.{Ru}
+use Rattle.du_scheduler.specs.unit_model.specs.Meetings.{Arrival}
+use Rattle.du_scheduler.specs.unit_model.specs.Reports.{ru_known}
+use Rattle.du_scheduler.specs.unit_model.specs.Standing.{History, at_clock, heard}
+use Rattle.radio_moments.specs.Landing.{HasTaken, having_heard, told_of_frames}
 use Rattle.radio_moments.specs.Stops.{HaltsBehind, RestsBehind, StopsBehind}
 use Rattle.radio_moments.specs.Turns.{IsRadioInStep, IsRadioTurn, events_before, radio_events}
-use Rattle.radio_moments.proofs.TurnLemmas.{arrivals_then, cells_then, due_here}
+use Rattle.radio_moments.proofs.TurnLemmas.{due_here}
 
 -- ---- any events
 
@@ -90,11 +91,11 @@ module _ {A : Type 0} (grew : A → List Event → A → Type 0) (stopped : A �
   halts_behind more step earlier first events a b e heard (inl s) = inl (stops_behind more step earlier first events a b e heard s)
   halts_behind more step earlier first events a b e heard (inr s) = inr (rests_behind more step earlier first events a b e heard s)
 
-  -- what is in step with all that was heard, where it is told which of the events were
-  pub stops_in_step : (step other : List Event → Type 0) (earlier events : List Event) (a e : A)
-      → ((told rest : List Event) → events ≡ told ++ rest → step (earlier ++ told) → other (earlier ++ told))
-      → StopsBehind grew stopped step earlier events a e → StopsBehind grew stopped other earlier events a e
-  stops_in_step step other earlier events a e also s = record {
+  -- what is in step with all that was heard behind some events is so behind others
+  pub stops_moved : (step other : List Event → Type 0) (earlier before events : List Event) (a e : A)
+      → ((told rest : List Event) → events ≡ told ++ rest → step (earlier ++ told) → other (before ++ told))
+      → StopsBehind grew stopped step earlier events a e → StopsBehind grew stopped other before events a e
+  stops_moved step other earlier before events a e also s = record {
     told = s.told;
     event = s.event;
     rest = s.rest;
@@ -105,10 +106,10 @@ module _ {A : Type 0} (grew : A → List Event → A → Type 0) (stopped : A �
     step_is = also s.told (s.event ∷ s.rest) s.is s.step_is;
   }
 
-  pub rests_in_step : (step other : List Event → Type 0) (earlier events : List Event) (a e : A)
-      → ((told rest : List Event) → events ≡ told ++ rest → step (earlier ++ told) → other (earlier ++ told))
-      → RestsBehind grew step earlier events a e → RestsBehind grew other earlier events a e
-  rests_in_step step other earlier events a e also s = record {
+  pub rests_moved : (step other : List Event → Type 0) (earlier before events : List Event) (a e : A)
+      → ((told rest : List Event) → events ≡ told ++ rest → step (earlier ++ told) → other (before ++ told))
+      → RestsBehind grew step earlier events a e → RestsBehind grew other before events a e
+  rests_moved step other earlier before events a e also s = record {
     told = s.told;
     rest = s.rest;
     is = s.is;
@@ -116,11 +117,27 @@ module _ {A : Type 0} (grew : A → List Event → A → Type 0) (stopped : A �
     step_is = also s.told s.rest s.is s.step_is;
   }
 
+  pub halts_moved : (step other : List Event → Type 0) (earlier before events : List Event) (a e : A)
+      → ((told rest : List Event) → events ≡ told ++ rest → step (earlier ++ told) → other (before ++ told))
+      → HaltsBehind grew stopped step earlier events a e → HaltsBehind grew stopped other before events a e
+  halts_moved step other earlier before events a e also (inl s) = inl (stops_moved step other earlier before events a e also s)
+  halts_moved step other earlier before events a e also (inr s) = inr (rests_moved step other earlier before events a e also s)
+
+  -- so where it is told which of the events were
+  pub stops_in_step : (step other : List Event → Type 0) (earlier events : List Event) (a e : A)
+      → ((told rest : List Event) → events ≡ told ++ rest → step (earlier ++ told) → other (earlier ++ told))
+      → StopsBehind grew stopped step earlier events a e → StopsBehind grew stopped other earlier events a e
+  stops_in_step step other earlier events a e also s = stops_moved step other earlier earlier events a e also s
+
+  pub rests_in_step : (step other : List Event → Type 0) (earlier events : List Event) (a e : A)
+      → ((told rest : List Event) → events ≡ told ++ rest → step (earlier ++ told) → other (earlier ++ told))
+      → RestsBehind grew step earlier events a e → RestsBehind grew other earlier events a e
+  rests_in_step step other earlier events a e also s = rests_moved step other earlier earlier events a e also s
+
   pub halts_in_step : (step other : List Event → Type 0) (earlier events : List Event) (a e : A)
       → ((told rest : List Event) → events ≡ told ++ rest → step (earlier ++ told) → other (earlier ++ told))
       → HaltsBehind grew stopped step earlier events a e → HaltsBehind grew stopped other earlier events a e
-  halts_in_step step other earlier events a e also (inl s) = inl (stops_in_step step other earlier events a e also s)
-  halts_in_step step other earlier events a e also (inr s) = inr (rests_in_step step other earlier events a e also s)
+  halts_in_step step other earlier events a e also s = halts_moved step other earlier earlier events a e also s
 
 -- ---- the radio unit's cells
 
@@ -128,11 +145,14 @@ module _ {A : Type 0} (grew : A → List Event → A → Type 0) (stopped : A �
 abbrev InStep : Document → Ru → List Event → Type 0
 InStep d u told = IsRadioInStep d told u
 
+-- what is told of the frames of a tick
+abbrev told_at : Document → ℤ → List Event
+told_at d tick = arrivals_told AtRu (results_at d AtRu tick) (landing_at (landings_for AtRu d) tick)
+
 -- the events of the tick, by the cells that are due
 events_are : (d : Document) (tick : ℤ) (h : History) → IsReplayable d → IsRadioTurn d tick h → tick ≤ℤ end_of_time
-    → radio_events d tick ≡ map Cell (due_of d.config h tick) ++ arrivals_told AtRu (landing_at (landings_of d) tick)
-events_are d tick h doc turn ended =
-    ap (λ (cs : List AirCell). map Cell cs ++ arrivals_told AtRu (landing_at (landings_of d) tick)) (sym (due_here d tick h doc turn ended))
+    → radio_events d tick ≡ map Cell (due_of d.config h tick) ++ told_at d tick
+events_are d tick h doc turn ended = ap (λ (cs : List AirCell). map Cell cs ++ told_at d tick) (sym (due_here d tick h doc turn ended))
 
 cells_about : (before now : List AirCell) (c : AirCell) (rest : List AirCell) (more : List Event) → before ≡ now ++ c ∷ rest
     → map Cell before ++ more ≡ map Cell now ++ Cell c ∷ (map Cell rest ++ more)
@@ -149,23 +169,30 @@ front_own [] ys h = All-nil (λ (a : AirCell). a.side ≡ AtRu)
 front_own (x ∷ xs) ys h =
     let P = λ (a : AirCell). a.side ≡ AtRu in All-cons P x xs (All-head P x (xs ++ ys) h) (front_own xs ys (All-tail P x (xs ++ ys) h))
 
--- with some cells of the tick behind what was heard before it
+-- what has arrived and was reported before a tick, with some cells of the tick behind it
+arrived_before : (d : Document) (tick : ℤ) (h : History) (cs : List AirCell) → IsRadioTurn d tick h → h.arrivals ≡ arrivals_heard AtRu [] (events_before d tick ++ map Cell cs)
+arrived_before d tick h cs turn =
+    let earlier = events_before d tick in
+    turn.came ∙ sym (arrivals-append AtRu [] earlier (map Cell cs) ∙ arrivals-cells AtRu (arrivals_heard AtRu [] earlier) cs)
+
+reported_before : (d : Document) (tick : ℤ) (h : History) (cs : List AirCell) → IsRadioTurn d tick h → AreOf AtRu cs → h.reported ++ cs ≡ cells_heard AtRu (events_before d tick ++ map Cell cs)
+reported_before d tick h cs turn own =
+    ap₂ (λ (rs ts : List AirCell). rs ++ ts) turn.told (sym (cells-own AtRu cs own)) ∙ sym (cells-append AtRu (events_before d tick) (map Cell cs))
+
 cells_step : (d : Document) (tick : ℤ) (h k : History) (cs : List AirCell) (u : Ru) → IsRadioTurn d tick h → AreOf AtRu cs → StandsFor d.config u k
     → k.arrivals ≡ h.arrivals → k.reported ≡ h.reported ++ cs → IsRadioInStep d (events_before d tick ++ map Cell cs) u
-cells_step d tick h k cs u turn own stands came told =
-    let earlier = events_before d tick in
-    record {
-      history = k;
-      stands = stands;
-      arrivals = came ∙ turn.came ∙ sym (arrivals-append AtRu [] earlier (map Cell cs) ∙ arrivals-cells AtRu (arrivals_heard AtRu [] earlier) cs);
-      reported = told ∙ ap₂ (λ (rs ts : List AirCell). rs ++ ts) turn.told (sym (cells-own AtRu cs own)) ∙ sym (cells-append AtRu earlier (map Cell cs));
-    }
+cells_step d tick h k cs u turn own stands came told = record {
+  history = k;
+  stands = stands;
+  arrivals = came ∙ arrived_before d tick h cs turn;
+  reported = told ∙ reported_before d tick h cs turn own;
+}
 
 pub stops_due : {A : Type 0} (grew : A → List Event → A → Type 0) (stopped : A → Event → A → Type 0) (d : Document) (tick : ℤ) (h : History) (u : Ru) (a b : A)
     → IsReplayable d → IsRadioTurn d tick h → tick ≤ℤ end_of_time → StopsAtDue grew stopped d.config h tick u a b
     → StopsBehind grew stopped (InStep d u) (events_before d tick) (radio_events d tick) a b
 stops_due grew stopped d tick h u a b doc turn ended s =
-    let more = arrivals_told AtRu (landing_at (landings_of d) tick) in
+    let more = told_at d tick in
     record {
       told = map Cell s.told;
       event = Cell s.cell;
@@ -184,45 +211,59 @@ pub rests_due : {A : Type 0} (grew : A → List Event → A → Type 0) (d : Doc
     → RestsBehind grew (InStep d u) (events_before d tick) (radio_events d tick) a b
 rests_due grew d tick h u a b doc turn ended first stands = record {
   told = map Cell (due_of d.config h tick);
-  rest = arrivals_told AtRu (landing_at (landings_of d) tick);
+  rest = told_at d tick;
   is = events_are d tick h doc turn ended;
   heard = first;
   step_is = cells_step d tick h (at_clock (heard h (due_of d.config h tick)) tick) (due_of d.config h tick) u turn (due_own d tick h) stands refl refl;
 }
 
--- ---- in an arrival
+-- ---- while frames land
 
-arrivals_about : (front : List Event) (before now : List Arrival) (x : Arrival) (rest : List Arrival) → before ≡ now ++ x ∷ rest
-    → front ++ arrivals_told AtRu before ≡ (front ++ map (arrival_event AtRu) now) ++ arrival_event AtRu x ∷ map (arrival_event AtRu) rest
-arrivals_about front before now x rest is =
-    ap (λ (es : List Event). front ++ es)
-    (told_each AtRu before ∙ ap (map (arrival_event AtRu)) is ∙ map-append (arrival_event AtRu) now (x ∷ rest))
-    ∙ sym (append_assoc front (map (arrival_event AtRu) now) (arrival_event AtRu x ∷ map (arrival_event AtRu) rest))
-
-pub stops_landing : {A : Type 0} (grew : A → List Event → A → Type 0) (stopped : A → Event → A → Type 0)
-    (more : (a b c : A) (first second : List Event) → grew a first b → grew b second c → grew a (first ++ second) c)
-    (d : Document) (tick : ℤ) (h : History) (xs : List Arrival) (u : Ru) (a b e : A)
-    → IsReplayable d → IsRadioTurn d tick h → tick ≤ℤ end_of_time → xs ≡ landing_at (landings_of d) tick
-    → grew a (map Cell (due_of d.config h tick)) b
-    → StopsLanding grew stopped d.config (at_clock (heard h (due_of d.config h tick)) tick) xs u b e
-    → StopsBehind grew stopped (InStep d u) (events_before d tick) (radio_events d tick) a e
-stops_landing grew stopped more d tick h xs u a b e doc turn ended lands first s =
+-- what was heard behind the cells of the tick
+frames_step : (d : Document) (tick : ℤ) (x : Doings) (h : History) (xs : List Arrival) (u : Ru) → IsRadioTurn d tick h → (told rest : List Event) → told_of_frames d tick x xs ≡ told ++ rest
+    → HasTaken d.config (at_clock (heard h (due_of d.config h tick)) tick) u told
+    → IsRadioInStep d ((events_before d tick ++ map Cell (due_of d.config h tick)) ++ told) u
+frames_step d tick x h xs u turn told rest is taken =
     let cells = due_of d.config h tick in
-    let front = map Cell cells in
-    let told = map (arrival_event AtRu) s.told in
-    let each = ap (λ (es : List Event). events_before d tick ++ (front ++ es)) (told_each AtRu s.told) in
+    let k = at_clock (heard h cells) tick in
+    let earlier = events_before d tick in
+    let none : cells_heard AtRu told ≡ [] =
+    front_empty (cells_heard AtRu told) (cells_heard AtRu rest)
+    (sym (ap (cells_heard AtRu) is ∙ cells-append AtRu told rest) ∙ cells-arrivals AtRu AtRu _ xs) in
     record {
-      told = front ++ told;
-      event = arrival_event AtRu s.one;
-      rest = map (arrival_event AtRu) s.rest;
-      is = events_are d tick h doc turn ended ∙ arrivals_about front (landing_at (landings_of d) tick) s.told s.one s.rest (sym lands ∙ s.is);
-      middle = s.middle;
-      heard = more a b s.middle front told first s.heard;
-      stop = s.stop;
-      step_is = record {
-        history = _;
-        stands = s.stands;
-        arrivals = arrivals_then d tick h cells s.told turn ∙ ap (arrivals_heard AtRu []) each;
-        reported = cells_then d tick h cells s.told (due_own d tick h) turn ∙ ap (cells_heard AtRu) each;
-      };
+      history = having_heard k told;
+      stands = taken;
+      arrivals = ap (λ (e : List Arrival). arrivals_heard AtRu e told) (arrived_before d tick h cells turn) ∙ sym (arrivals-append AtRu [] (earlier ++ map Cell cells) told);
+      reported = reported_before d tick h cells turn (due_own d tick h) ∙ sym (append-nil (cells_heard AtRu (earlier ++ map Cell cells)))
+          ∙ ap (λ (cs : List AirCell). cells_heard AtRu (earlier ++ map Cell cells) ++ cs) (sym none) ∙ sym (cells-append AtRu (earlier ++ map Cell cells) told);
     }
+
+module _ {A : Type 0} (grew : A → List Event → A → Type 0) (stopped : A → Event → A → Type 0)
+    (more : (a b c : A) (first second : List Event) → grew a first b → grew b second c → grew a (first ++ second) c)
+    (d : Document) (tick : ℤ) (x : Doings) (h : History) (xs : List Arrival) (u : Ru) (a b e : A)
+    (doc : IsReplayable d) (turn : IsRadioTurn d tick h) (ended : tick ≤ℤ end_of_time) (told_is : told_of_frames d tick x xs ≡ told_at d tick)
+    (first : grew a (map Cell (due_of d.config h tick)) b) where
+  abbrev due_cells : List Event
+  due_cells = map Cell (due_of d.config h tick)
+
+  abbrev Taken : List Event → Type 0
+  Taken told = HasTaken d.config (at_clock (heard h (due_of d.config h tick)) tick) u told
+
+  all_are : due_cells ++ told_of_frames d tick x xs ≡ radio_events d tick
+  all_are = ap (λ (es : List Event). due_cells ++ es) told_is ∙ sym (events_are d tick h doc turn ended)
+
+  -- the air stopped in one of the frames, or in a delay that one made known
+  pub stops_landing : StopsBehind grew stopped Taken [] (told_of_frames d tick x xs) b e
+      → StopsBehind grew stopped (InStep d u) (events_before d tick) (radio_events d tick) a e
+  stops_landing s =
+      subst (λ (es : List Event). StopsBehind grew stopped (InStep d u) (events_before d tick) es a e) all_are
+      (stops_behind grew stopped more (InStep d u) (events_before d tick) due_cells (told_of_frames d tick x xs) a b e first
+      (stops_moved grew stopped Taken (InStep d u) [] (events_before d tick ++ due_cells) (told_of_frames d tick x xs) b e (λ told rest is taken. frames_step d tick x h xs u turn told rest is taken) s))
+
+  -- or memory ran out among them
+  pub halts_landing : HaltsBehind grew stopped Taken [] (told_of_frames d tick x xs) b e
+      → HaltsBehind grew stopped (InStep d u) (events_before d tick) (radio_events d tick) a e
+  halts_landing s =
+      subst (λ (es : List Event). HaltsBehind grew stopped (InStep d u) (events_before d tick) es a e) all_are
+      (halts_behind grew stopped more (InStep d u) (events_before d tick) due_cells (told_of_frames d tick x xs) a b e first
+      (halts_moved grew stopped Taken (InStep d u) [] (events_before d tick ++ due_cells) (told_of_frames d tick x xs) b e (λ told rest is taken. frames_step d tick x h xs u turn told rest is taken) s))

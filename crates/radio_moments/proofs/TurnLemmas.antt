@@ -6,42 +6,43 @@ use Rattle.air_source.specs.declared.events.AirCell.{AirCell}
 use Rattle.air_source.specs.declared.events.Event.TheVariants.{Cell}
 use Rattle.air_source.specs.declared.events.Side.{Side}
 use Rattle.air_source.specs.declared.events.Side.TheVariants.{Ru as AtRu, Du as AtDu}
-use Rattle.document_traffic.proofs.LandingLemmas.{are_replayed}
-use Rattle.document_traffic.specs.Landing.{landings_of, traffic_of}
-use Rattle.document_traffic.specs.Laws.{IsReplayable}
-use Rattle.fh_document.specs.declared.document.Document.{Document}
-use Rattle.replay_events.proofs.AloneLemmas.{idle_without_plan}
-use Rattle.replay_events.proofs.CameLemmas.{arrivals_go_on, calm_adds_nothing, none_yet}
-use Rattle.replay_events.proofs.EventLemmas.{events_wait}
-use Rattle.replay_events.proofs.HeardLemmas.{AreOf, arrivals-append, arrivals-cells, arrivals-none, arrivals-own, cells-append, cells-arrivals, cells-none, cells-own}
-use Rattle.replay_events.proofs.MomentLemmas.{due_at_moment, reported_at_moment, reported_before_moment}
-use Rattle.replay_events.proofs.TickLemmas.{at_most, last_is_earlier, last_reached, no_ticks, same_most}
-use Rattle.replay_events.specs.Alone.{IsDuIdle}
-use Rattle.replay_events.specs.Events.{arrivals_told, cells_at, events_at}
-use Rattle.replay_events.specs.Heard.{arrivals_heard, cells_heard}
-use Rattle.replay_events.specs.Moments.{arrivals_before, end_of_time, landing_at}
-use Rattle.replay_events.specs.Passing.{IsCalm, IsNextMoment, IsUnitMoment, due_from}
-use Rattle.replay_events.specs.Traffic.{Traffic}
-use Rattle.ru_buffers.proofs.QuietLemmas.{left_less, sweep_less}
-use Rattle.ru_buffers.specs.Calls.{IsQuietTo, StandsFor}
-use Rattle.ru_buffers.specs.Reporting.{due_of}
-use Rattle.ru_buffers.specs.Units.{left_up_to}
-use Rattle.ru_buffers.specs.declared.unit.Ru.{Ru}
-use Rattle.ru_jobs.specs.declared.cursor.JobCursor.{JobCursor}
-use Rattle.unit_cells.specs.Cells.{CellsValue}
-use Rattle.unit_model.proofs.SweepLaws.{sweep_quiet}
-use Rattle.unit_model.specs.Lists.{onto}
-use Rattle.unit_model.specs.Meetings.{Arrival}
-use Rattle.unit_model.specs.Radiated.{Known, first_clock, reported, wait_of}
-use Rattle.unit_model.specs.Reports.{ru_known}
-use Rattle.unit_model.specs.Standing.{History, due, nothing_yet}
-use Rattle.uplink_turns.proofs.GivenLemmas.{owes_none}
-use Rattle.uplink_turns.proofs.JobLemmas.{no_jobs_before}
-use Rattle.uplink_turns.specs.Given.{HasSeen}
-use Rattle.uplink_turns.specs.Turns.{jobs_until}
-use Rattle.window_config.specs.declared.config.Config.{Config}
-use Rattle.window_config.specs.declared.delays.Delays.{Delays}
-use Rattle.window_config.specs.declared.endpoints.EndpointConfig.{EndpointConfig}
+use Rattle.measured_moments.specs.document_traffic.specs.Laws.{IsReplayable}
+use Rattle.measured_moments.specs.fh_document.specs.declared.document.Document.{Document}
+use Rattle.measured_moments.specs.measured_traffic.proofs.ReplayedLemmas.{landings_are_replayed}
+use Rattle.measured_moments.specs.measured_traffic.specs.Replayed.{landings_for, results_at, traffic_of}
+use Rattle.measured_moments.specs.replay_events.proofs.AloneLemmas.{idle_without_plan}
+use Rattle.measured_moments.specs.replay_events.proofs.CameLemmas.{arrivals_go_on, calm_adds_nothing, none_yet}
+use Rattle.measured_moments.specs.replay_events.proofs.EventLemmas.{events_wait}
+use Rattle.measured_moments.specs.replay_events.proofs.HeardLemmas.{AreOf, arrivals-append, arrivals-cells, arrivals-none, arrivals-own, cells-append, cells-arrivals, cells-none, cells-own}
+use Rattle.measured_moments.specs.replay_events.proofs.MomentLemmas.{due_at_moment, reported_at_moment, reported_before_moment}
+use Rattle.measured_moments.specs.replay_events.proofs.TickLemmas.{at_most, last_is_earlier, last_reached, no_ticks, same_most}
+use Rattle.measured_moments.specs.replay_events.proofs.ToldLemmas.{Results}
+use Rattle.measured_moments.specs.replay_events.specs.Alone.{IsDuIdle}
+use Rattle.measured_moments.specs.replay_events.specs.Events.{arrivals_told, cells_at, events_at}
+use Rattle.measured_moments.specs.replay_events.specs.Heard.{arrivals_heard, cells_heard}
+use Rattle.measured_moments.specs.replay_events.specs.Moments.{arrivals_before, end_of_time, landing_at}
+use Rattle.measured_moments.specs.replay_events.specs.Passing.{IsCalm, IsNextMoment, IsUnitMoment, due_from}
+use Rattle.measured_moments.specs.replay_events.specs.Traffic.{Traffic}
+use Rattle.measured_moments.specs.ru_buffers.proofs.QuietLemmas.{left_less, sweep_less}
+use Rattle.measured_moments.specs.ru_buffers.specs.Calls.{IsQuietTo, StandsFor}
+use Rattle.measured_moments.specs.ru_buffers.specs.Reporting.{due_of}
+use Rattle.measured_moments.specs.ru_buffers.specs.Units.{left_up_to}
+use Rattle.measured_moments.specs.ru_buffers.specs.declared.unit.Ru.{Ru}
+use Rattle.measured_moments.specs.ru_jobs.specs.declared.cursor.JobCursor.{JobCursor}
+use Rattle.measured_moments.specs.unit_cells.specs.Cells.{CellsValue}
+use Rattle.du_scheduler.specs.unit_model.proofs.SweepLaws.{sweep_quiet}
+use Rattle.du_scheduler.specs.unit_model.specs.Lists.{onto}
+use Rattle.du_scheduler.specs.unit_model.specs.Meetings.{Arrival}
+use Rattle.du_scheduler.specs.unit_model.specs.Radiated.{Known, first_clock, reported, wait_of}
+use Rattle.du_scheduler.specs.unit_model.specs.Reports.{ru_known}
+use Rattle.du_scheduler.specs.unit_model.specs.Standing.{History, due, nothing_yet}
+use Rattle.measured_moments.specs.uplink_turns.proofs.GivenLemmas.{owes_none}
+use Rattle.measured_moments.specs.uplink_turns.proofs.JobLemmas.{no_jobs_before}
+use Rattle.measured_moments.specs.uplink_turns.specs.Given.{HasSeen}
+use Rattle.measured_moments.specs.uplink_turns.specs.Turns.{jobs_until}
+use Rattle.du_scheduler.specs.window_config.specs.declared.config.Config.{Config}
+use Rattle.du_scheduler.specs.window_config.specs.declared.delays.Delays.{Delays}
+use Rattle.du_scheduler.specs.window_config.specs.declared.endpoints.EndpointConfig.{EndpointConfig}
 use Rattle.radio_moments.specs.Turns.{AtRadioTurn, IsRadioLanded, IsRadioTurn, events_before}
 use Rattle.radio_moments.proofs.StepLemmas.{cells_own}
 
@@ -63,25 +64,25 @@ quiet_less c u h a b stands order quiet = record {
 
 -- ---- the next moment
 
-pub due_same : (d : Document) (now : ℤ) (h : History) → IsRadioTurn d now h → (to : ℤ) → due_from AtRu d.config (traffic_of d).planned (landings_of d) now to ≡ due_of d.config h to
+pub due_same : (d : Document) (now : ℤ) (h : History) → IsRadioTurn d now h → (to : ℤ) → due_from AtRu d.config (traffic_of d).planned (landings_for AtRu d) now to ≡ due_of d.config h to
 due_same d now h turn to =
     let c = d.config in
     sym (ap₂ (λ (xs : List Arrival) (rs : List AirCell). due AtRu c.delays c.endpoints (ru_known c xs) rs to) turn.arrivals turn.reported)
 
 -- where no frame lands before a tick and no cell is due, it is the radio unit's next moment
-pub unit_moment : (d : Document) (now tick : ℤ) (h : History) → IsReplayable d → IsRadioTurn d now h → IsCalm (landings_of d) now tick → due_of d.config h (tick -ℤ pos 1) ≡ []
+pub unit_moment : (d : Document) (now tick : ℤ) (h : History) → IsReplayable d → IsRadioTurn d now h → IsCalm (landings_for AtRu d) now tick → due_of d.config h (tick -ℤ pos 1) ≡ []
     → IsUnitMoment AtRu d.config (traffic_of d) now tick
 unit_moment d now tick h doc turn calm quiet =
-    record { landings_are = are_replayed d AtRu doc.document doc.valid; calm = calm; quiet = due_same d now h turn (tick -ℤ pos 1) ∙ quiet }
+    record { landings_are = landings_are_replayed d AtRu doc; calm = calm; quiet = due_same d now h turn (tick -ℤ pos 1) ∙ quiet }
 
 -- and no message starts between
 none_skipped : (d : Document) (now tick : ℤ) (h : History) → IsReplayable d → IsRadioTurn d now h → IsNextMoment d.config (traffic_of d) now tick → IsQuietTo d.config h (tick -ℤ pos 1)
-    → jobs_until d.config (landings_of d) (tick -ℤ pos 1) ≡ jobs_until d.config (landings_of d) (now -ℤ pos 1)
+    → jobs_until d.config (landings_for AtRu d) (tick -ℤ pos 1) ≡ jobs_until d.config (landings_for AtRu d) (now -ℤ pos 1)
 none_skipped d now tick h doc turn next quiet =
-    let ls = landings_of d in
+    let ls = landings_for AtRu d in
     let seen : HasSeen d.config ls tick h = record {
       config = next.config;
-      landings_are = are_replayed d AtRu doc.document doc.valid;
+      landings_are = landings_are_replayed d AtRu doc;
       begun = at_most first_clock now tick turn.begun next.order;
       ended = next.ended;
       arrivals = turn.arrivals ∙ sym (calm_adds_nothing ls now tick turn.begun next.order (next.units AtRu).calm);
@@ -93,7 +94,7 @@ pub skip : (d : Document) (now tick : ℤ) (h : History) → IsReplayable d → 
     → IsRadioTurn d tick h
 skip d now tick h doc turn next quiet =
     let c = d.config in
-    let ls = landings_of d in
+    let ls = landings_for AtRu d in
     let calm = (next.units AtRu).calm in
     record {
       begun = at_most first_clock now tick turn.begun next.order;
@@ -110,14 +111,14 @@ skip d now tick h doc turn next quiet =
 
 -- the radio unit's part of what lands, which is all that its cells rest on
 abbrev radio_alone : Document → Traffic
-radio_alone d = record { at_ru = landings_of d; planned = []; at_du = [] }
+radio_alone d = record { at_ru = landings_for AtRu d; planned = []; at_du = []; results = λ side tick. []; counted = λ side. [] }
 
 alone_idle : (d : Document) → IsDuIdle d.config (radio_alone d)
-alone_idle d = idle_without_plan d.config (radio_alone d) refl refl
+alone_idle d = idle_without_plan d.config (radio_alone d) refl refl refl
 
 alone_unit : (d : Document) (tick : ℤ) (h : History) → IsReplayable d → IsRadioTurn d tick h → (side : Side) → IsUnitMoment side d.config (radio_alone d) tick tick
 alone_unit d tick h doc turn AtRu = record {
-  landings_are = are_replayed d AtRu doc.document doc.valid;
+  landings_are = landings_are_replayed d AtRu doc;
   calm = λ t low high. absurd (omega (arith, ints, low, high));
   quiet = due_same d tick h turn (tick -ℤ pos 1) ∙ turn.quiet.cells;
 }
@@ -140,40 +141,40 @@ due_here d tick h doc turn ended = sym (due_same d tick h turn tick) ∙ due_at_
 
 -- ---- what was heard
 
-arrivals_both : (earlier : List Arrival) (cs : List AirCell) (xs : List Arrival) → arrivals_heard AtRu earlier (map Cell cs ++ arrivals_told AtRu xs) ≡ onto earlier xs
-arrivals_both earlier cs xs =
-    arrivals-append AtRu earlier (map Cell cs) (arrivals_told AtRu xs)
-    ∙ ap (λ (e : List Arrival). arrivals_heard AtRu e (arrivals_told AtRu xs)) (arrivals-cells AtRu earlier cs)
-    ∙ arrivals-own AtRu earlier xs
+arrivals_both : (earlier : List Arrival) (cs : List AirCell) (rs : Results) (xs : List Arrival) → arrivals_heard AtRu earlier (map Cell cs ++ arrivals_told AtRu rs xs) ≡ onto earlier xs
+arrivals_both earlier cs rs xs =
+    arrivals-append AtRu earlier (map Cell cs) (arrivals_told AtRu rs xs)
+    ∙ ap (λ (e : List Arrival). arrivals_heard AtRu e (arrivals_told AtRu rs xs)) (arrivals-cells AtRu earlier cs)
+    ∙ arrivals-own AtRu earlier rs xs
 
-cells_both : (cs : List AirCell) (xs : List Arrival) → AreOf AtRu cs → cells_heard AtRu (map Cell cs ++ arrivals_told AtRu xs) ≡ cs
-cells_both cs xs own =
-    cells-append AtRu (map Cell cs) (arrivals_told AtRu xs)
-    ∙ ap₂ (λ (xs ys : List AirCell). xs ++ ys) (cells-own AtRu cs own) (cells-arrivals AtRu AtRu xs)
+cells_both : (cs : List AirCell) (rs : Results) (xs : List Arrival) → AreOf AtRu cs → cells_heard AtRu (map Cell cs ++ arrivals_told AtRu rs xs) ≡ cs
+cells_both cs rs xs own =
+    cells-append AtRu (map Cell cs) (arrivals_told AtRu rs xs)
+    ∙ ap₂ (λ (xs ys : List AirCell). xs ++ ys) (cells-own AtRu cs own) (cells-arrivals AtRu AtRu rs xs)
     ∙ append-nil cs
 
 -- up to a tick, and then of it
-pub arrivals_then : (d : Document) (tick : ℤ) (h : History) (cs : List AirCell) (xs : List Arrival) → IsRadioTurn d tick h
-    → onto h.arrivals xs ≡ arrivals_heard AtRu [] (events_before d tick ++ (map Cell cs ++ arrivals_told AtRu xs))
-arrivals_then d tick h cs xs turn =
+arrivals_then : (d : Document) (tick : ℤ) (h : History) (cs : List AirCell) (rs : Results) (xs : List Arrival) → IsRadioTurn d tick h
+    → onto h.arrivals xs ≡ arrivals_heard AtRu [] (events_before d tick ++ (map Cell cs ++ arrivals_told AtRu rs xs))
+arrivals_then d tick h cs rs xs turn =
     ap (λ (e : List Arrival). onto e xs) turn.came
-    ∙ sym (arrivals-append AtRu [] (events_before d tick) (map Cell cs ++ arrivals_told AtRu xs)
-    ∙ arrivals_both (arrivals_heard AtRu [] (events_before d tick)) cs xs)
+    ∙ sym (arrivals-append AtRu [] (events_before d tick) (map Cell cs ++ arrivals_told AtRu rs xs)
+    ∙ arrivals_both (arrivals_heard AtRu [] (events_before d tick)) cs rs xs)
 
-pub cells_then : (d : Document) (tick : ℤ) (h : History) (cs : List AirCell) (xs : List Arrival) → AreOf AtRu cs → IsRadioTurn d tick h
-    → h.reported ++ cs ≡ cells_heard AtRu (events_before d tick ++ (map Cell cs ++ arrivals_told AtRu xs))
-cells_then d tick h cs xs own turn =
-    ap₂ (λ (rs ts : List AirCell). rs ++ ts) turn.told (sym (cells_both cs xs own))
-    ∙ sym (cells-append AtRu (events_before d tick) (map Cell cs ++ arrivals_told AtRu xs))
+cells_then : (d : Document) (tick : ℤ) (h : History) (cs : List AirCell) (rs : Results) (xs : List Arrival) → AreOf AtRu cs → IsRadioTurn d tick h
+    → h.reported ++ cs ≡ cells_heard AtRu (events_before d tick ++ (map Cell cs ++ arrivals_told AtRu rs xs))
+cells_then d tick h cs rs xs own turn =
+    ap₂ (λ (rs ts : List AirCell). rs ++ ts) turn.told (sym (cells_both cs rs xs own))
+    ∙ sym (cells-append AtRu (events_before d tick) (map Cell cs ++ arrivals_told AtRu rs xs))
 
 -- ---- over the moment
 
 -- once the cells of the tick were reported, and its frames have landed
 pub has_landed : (d : Document) (tick : ℤ) (h k : History) → IsReplayable d → IsRadioTurn d tick h → tick ≤ℤ end_of_time → k.clock ≡ tick
-    → k.arrivals ≡ onto h.arrivals (landing_at (landings_of d) tick) → k.reported ≡ h.reported ++ cells_at AtRu d.config (traffic_of d) tick → k.given ≡ h.given → IsRadioLanded d tick k
+    → k.arrivals ≡ onto h.arrivals (landing_at (landings_for AtRu d) tick) → k.reported ≡ h.reported ++ cells_at AtRu d.config (traffic_of d) tick → k.given ≡ h.given → IsRadioLanded d tick k
 has_landed d tick h k doc turn ended clock came told given =
     let c = d.config in
-    let ls = landings_of d in
+    let ls = landings_for AtRu d in
     let cells = cells_at AtRu c (traffic_of d) tick in
     record {
       begun = turn.begun;
@@ -183,8 +184,8 @@ has_landed d tick h k doc turn ended clock came told given =
       reported =
           told ∙ ap (λ (rs : List AirCell). rs ++ cells) turn.reported ∙ reported_at_moment AtRu c (radio_alone d) tick tick (here d tick h doc turn) ended;
       given = given ∙ turn.given;
-      came = came ∙ arrivals_then d tick h cells (landing_at ls tick) turn;
-      told = told ∙ cells_then d tick h cells (landing_at ls tick) (cells_own AtRu d tick) turn;
+      came = came ∙ arrivals_then d tick h cells (results_at d AtRu tick) (landing_at ls tick) turn;
+      told = told ∙ cells_then d tick h cells (results_at d AtRu tick) (landing_at ls tick) (cells_own AtRu d tick) turn;
     }
 
 -- ---- the start
@@ -214,7 +215,7 @@ first_early = omega (arith, ints)
 start : (d : Document) (u : Ru) → StandsFor d.config u nothing_yet → IsRadioTurn d first_clock nothing_yet
 start d u stands =
     let c = d.config in
-    let ls = landings_of d in
+    let ls = landings_for AtRu d in
     record {
       begun = same_most first_clock;
       ended = first_early;

@@ -1,23 +1,24 @@
 -- What is to come to the radio unit: what the plan has still to send, and what is on its way (this project's profile).
-use Rattle.std.specs.Prelude.{ℤ, pos, ◌+ℤ◌, ◌≤ℤ◌, List, ◌∷◌, All, map}
+use Rattle.std.specs.Prelude.{◌≡◌, ℤ, pos, ◌+ℤ◌, ◌≤ℤ◌, List, ◌∷◌, All, map}
 use Rattle.air_source.specs.Answers.{AnswersBy}
 use Rattle.air_source.specs.declared.events.Side.TheVariants.{Ru}
 use Rattle.air_source.specs.declared.places.RePlace.{RePlace}
 use Rattle.bfp_codec.specs.declared.samples.Wide.{Wide}
-use Rattle.document_traffic.specs.Laws.{IsReplayable}
-use Rattle.document_traffic.specs.Sending.{SentCounts, leaving_of}
+use Rattle.measured_moments.specs.document_traffic.specs.Laws.{IsReplayable}
+use Rattle.measured_moments.specs.document_traffic.specs.Sending.{SentCounts, leaving_of}
 use Rattle.du_scheduler.specs.Plans.{HasToSend}
 use Rattle.du_scheduler.specs.declared.plans.Plan.{Plan}
 use Rattle.du_scheduler.specs.declared.plans.Plane.{Plane}
 use Rattle.du_scheduler.specs.declared.plans.Plane.TheVariants.{C as OfC, U as OfU}
-use Rattle.fh_document.specs.declared.delivered.Class3.{Class3}
-use Rattle.fh_document.specs.declared.delivered.Class3.TheVariants.{C, U}
-use Rattle.fh_document.specs.declared.document.Document.{Document}
-use Rattle.frame_ways.specs.Ways.{IsEmptyTo, Waits}
-use Rattle.plan_model.specs.Sent.{SentFrame}
-use Rattle.tone_source.specs.Tones.{tone_of}
-use Rattle.window_config.specs.declared.config.Config.{Config}
-use Rattle.window_config.specs.declared.plan.PlanLine.{PlanLine}
+use Rattle.measured_moments.specs.fh_document.specs.declared.delivered.Class3.{Class3}
+use Rattle.measured_moments.specs.fh_document.specs.declared.delivered.Class3.TheVariants.{C, U}
+use Rattle.measured_moments.specs.fh_document.specs.declared.document.Document.{Document}
+use Rattle.measured_moments.specs.frame_ways.specs.Ways.{IsEmptyTo, Waits}
+use Rattle.measured_moments.specs.measured_traffic.specs.Replayed.{leaving_with}
+use Rattle.du_scheduler.specs.plan_model.specs.Sent.{SentFrame}
+use Rattle.measured_moments.specs.tone_source.specs.Tones.{tone_of}
+use Rattle.du_scheduler.specs.window_config.specs.declared.config.Config.{Config}
+use Rattle.du_scheduler.specs.window_config.specs.declared.plan.PlanLine.{PlanLine}
 use Rattle.radio_moments.specs.declared.downlink.Downlink.{Downlink}
 
 -- ---- frames that the plan has still to send
@@ -47,7 +48,7 @@ pub record WaitsDown (d : Document) (now : ℤ) (w : Downlink) : Type 0 where
   pub left : List SentFrame
   pub plan : HasToSend d.config d.plan left w.plan
   pub later : AreSentFrom now left
-  pub way : Waits d Ru now now counts (map (leaving_of d) left) w.way
+  pub way : Waits d Ru now now counts (leaving_with Ru d (map (leaving_of d) left) now) w.way
 
 -- ---- the frames of a tick go out
 
@@ -56,6 +57,11 @@ pub record MaySend (post : RePlace → Wide → Type 0) (d : Document) (now : �
   pub document : IsReplayable d
   pub tone : AnswersBy post (tone_of d.source)
   pub waits : WaitsDown d now w
+
+-- and the next of them, if there is one, leaves then
+pub record MaySendNext (post : RePlace → Wide → Type 0) (d : Document) (now : ℤ) (w : Downlink) : Type 0 where
+  pub may : MaySend post d now w
+  pub first : (f : SentFrame) (rest : List SentFrame) → HasToSend d.config d.plan (f ∷ rest) w.plan → f.at ≡ now
 
 -- the next frame of the plan went out
 pub record HasSentNext (d : Document) (now : ℤ) (old new : Downlink) : Type 0 where
@@ -66,3 +72,11 @@ pub record HasSentNext (d : Document) (now : ℤ) (old new : Downlink) : Type 0 
 pub record HasSent (d : Document) (tick : ℤ) (w : Downlink) : Type 0 where
   pub waits : WaitsDown d tick w
   pub later : AreSentFrom (tick +ℤ pos 1) waits.left
+
+-- all that comes to the unit at a tick has landed: the frames of delay measurement that are made in it have still to be sent
+pub record HasLandedDown (d : Document) (tick : ℤ) (w : Downlink) : Type 0 where
+  pub counts : SentCounts
+  pub left : List SentFrame
+  pub plan : HasToSend d.config d.plan left w.plan
+  pub later : AreSentFrom (tick +ℤ pos 1) left
+  pub way : Waits d Ru (tick +ℤ pos 1) (tick +ℤ pos 1) counts (leaving_with Ru d (map (leaving_of d) left) tick) w.way

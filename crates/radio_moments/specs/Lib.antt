@@ -1,3 +1,17 @@
+pub use Rattle.measured_moments.specs.delay_exchange
+pub use Rattle.measured_moments.specs.delay_laws
+pub use Rattle.measured_moments.specs.document_delays
+pub use Rattle.measured_moments.specs.document_traffic
+pub use Rattle.du_scheduler
+pub use Rattle.measured_moments.specs.fh_document
+pub use Rattle.measured_moments.specs.frame_ways
+pub use Rattle.measured_moments
+pub use Rattle.measured_moments.specs.measured_traffic
+pub use Rattle.du_scheduler.specs.plan_tests
+pub use Rattle.measured_moments.specs.replay_events
+pub use Rattle.measured_moments.specs.replay_laws
+pub use Rattle.measured_moments.specs.tone_source
+pub use Rattle.measured_moments.specs.uplink_turns
 pub mod Stops
 pub mod Downlink
 pub mod Landing

@@ -3,17 +3,17 @@ use Rattle.std.specs.Prelude.{◌≡◌, ℤ, pos, ◌+ℤ◌, ◌-ℤ◌, ◌�
 use Rattle.air_source.specs.declared.events.Event.{Event}
 use Rattle.air_source.specs.declared.events.Event.TheVariants.{Cell}
 use Rattle.air_source.specs.declared.events.Side.TheVariants.{Ru as AtRu, Du as AtDu}
-use Rattle.document_traffic.specs.Landing.{landings_of, traffic_of}
-use Rattle.fh_document.specs.declared.document.Document.{Document}
-use Rattle.replay_events.specs.Events.{arrivals_at, cells_at, events_between}
-use Rattle.replay_events.specs.Heard.{arrivals_heard, cells_heard}
-use Rattle.replay_events.specs.Moments.{arrivals_before, end_of_time}
-use Rattle.ru_buffers.specs.Calls.{IsQuietTo, StandsFor}
-use Rattle.ru_buffers.specs.declared.unit.Ru.{Ru}
-use Rattle.unit_model.specs.Radiated.{first_clock}
-use Rattle.unit_model.specs.Reports.{ru_reported}
-use Rattle.unit_model.specs.Standing.{History}
-use Rattle.uplink_turns.specs.Turns.{jobs_until}
+use Rattle.measured_moments.specs.measured_traffic.specs.Replayed.{landings_for, traffic_of}
+use Rattle.measured_moments.specs.fh_document.specs.declared.document.Document.{Document}
+use Rattle.measured_moments.specs.replay_events.specs.Events.{arrivals_at, cells_at, events_between}
+use Rattle.measured_moments.specs.replay_events.specs.Heard.{arrivals_heard, cells_heard}
+use Rattle.measured_moments.specs.replay_events.specs.Moments.{arrivals_before, end_of_time}
+use Rattle.measured_moments.specs.ru_buffers.specs.Calls.{IsQuietTo, StandsFor}
+use Rattle.measured_moments.specs.ru_buffers.specs.declared.unit.Ru.{Ru}
+use Rattle.du_scheduler.specs.unit_model.specs.Radiated.{first_clock}
+use Rattle.du_scheduler.specs.unit_model.specs.Reports.{ru_reported}
+use Rattle.du_scheduler.specs.unit_model.specs.Standing.{History}
+use Rattle.measured_moments.specs.uplink_turns.specs.Turns.{jobs_until}
 
 -- ---- the events of a tick: the radio unit's, and then the distributed unit's
 
@@ -21,11 +21,11 @@ use Rattle.uplink_turns.specs.Turns.{jobs_until}
 abbrev pub events_before : Document → ℤ → List Event
 events_before d now = events_between d.config (traffic_of d) first_clock now
 
--- the radio unit's cells, and the frames that land at it
+-- the radio unit's cells, and the frames that land at it, each with the delays that it makes known
 abbrev pub radio_events : Document → ℤ → List Event
 radio_events d tick = map Cell (cells_at AtRu d.config (traffic_of d) tick) ++ arrivals_at AtRu (traffic_of d) tick
 
--- the frames that land at the distributed unit, and its cells
+-- the frames that land at the distributed unit, each with the delays that it makes known, and its cells
 abbrev pub intake_events : Document → ℤ → List Event
 intake_events d tick = arrivals_at AtDu (traffic_of d) tick ++ map Cell (cells_at AtDu d.config (traffic_of d) tick)
 
@@ -44,10 +44,10 @@ pub record IsRadioInStep (d : Document) (told : List Event) (u : Ru) : Type 0 wh
 pub record IsRadioTurn (d : Document) (now : ℤ) (h : History) : Type 0 where
   pub begun : first_clock ≤ℤ now
   pub ended : now ≤ℤ (end_of_time +ℤ pos 1)
-  pub arrivals : h.arrivals ≡ arrivals_before (landings_of d) now
-  pub reported : h.reported ≡ ru_reported d.config (arrivals_before (landings_of d) now) (now -ℤ pos 1)
+  pub arrivals : h.arrivals ≡ arrivals_before (landings_for AtRu d) now
+  pub reported : h.reported ≡ ru_reported d.config (arrivals_before (landings_for AtRu d) now) (now -ℤ pos 1)
   pub quiet : IsQuietTo d.config h (now -ℤ pos 1)
-  pub given : h.given ≡ jobs_until d.config (landings_of d) (now -ℤ pos 1)
+  pub given : h.given ≡ jobs_until d.config (landings_for AtRu d) (now -ℤ pos 1)
   pub came : h.arrivals ≡ arrivals_heard AtRu [] (events_before d now)
   pub told : h.reported ≡ cells_heard AtRu (events_before d now)
 
@@ -63,9 +63,9 @@ pub record IsRadioLanded (d : Document) (tick : ℤ) (h : History) : Type 0 wher
   pub begun : first_clock ≤ℤ tick
   pub ended : tick ≤ℤ end_of_time
   pub clock : h.clock ≡ tick
-  pub arrivals : h.arrivals ≡ arrivals_before (landings_of d) (tick +ℤ pos 1)
-  pub reported : h.reported ≡ ru_reported d.config (arrivals_before (landings_of d) (tick +ℤ pos 1)) tick
-  pub given : h.given ≡ jobs_until d.config (landings_of d) (tick -ℤ pos 1)
+  pub arrivals : h.arrivals ≡ arrivals_before (landings_for AtRu d) (tick +ℤ pos 1)
+  pub reported : h.reported ≡ ru_reported d.config (arrivals_before (landings_for AtRu d) (tick +ℤ pos 1)) tick
+  pub given : h.given ≡ jobs_until d.config (landings_for AtRu d) (tick -ℤ pos 1)
   pub came : h.arrivals ≡ arrivals_heard AtRu [] (events_before d tick ++ radio_events d tick)
   pub told : h.reported ≡ cells_heard AtRu (events_before d tick ++ radio_events d tick)
 

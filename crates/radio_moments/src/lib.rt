@@ -8,5 +8,8 @@ mod moments;
 mod sending;
 
 pub use downlink::Downlink;
-pub use frame_ways::earlier_of;
+pub use du_scheduler;
+pub use measured_moments;
+pub use measured_moments::frame_ways::earlier_of;
+pub use measured_moments::{delay_exchange, fh_document, frame_ways, tone_source};
 pub use moments::radio_moment;

@@ -2,22 +2,21 @@
 ghost use Rattle.std.specs.Prelude.{◌≡◌, ◌≢◌, ℤ, List, OnOk, Some, map, true, false};
 ghost use Rattle.air_source.specs.Kept.{IsKept, closure_of};
 ghost use Rattle.du_scheduler.specs.Plans.{HasToSend, IsPlan};
-ghost use Rattle.fh_document.specs.declared.document.Document.{Document};
-ghost use Rattle.frame_order.specs.Queues.{first_time};
-ghost use Rattle.plan_model.specs.Sent.{SentFrame};
-ghost use Rattle.sent_order.specs.Runs.{turn_of};
-ghost use Rattle.window_config.specs.declared.config.Config.{Config};
-ghost use Rattle.window_config.specs.declared.plan.PlanLine.{PlanLine};
-ghost use Rattle.radio_moments.specs.Downlink.{HasSent, HasSentNext, MaySend, class_for};
+ghost use Rattle.measured_moments.specs.fh_document.specs.declared.document.Document.{Document};
+ghost use Rattle.du_scheduler.specs.frame_order.specs.Queues.{first_time};
+ghost use Rattle.du_scheduler.specs.plan_model.specs.Sent.{SentFrame};
+ghost use Rattle.du_scheduler.specs.sent_order.specs.Runs.{turn_of};
+ghost use Rattle.du_scheduler.specs.window_config.specs.declared.config.Config.{Config};
+ghost use Rattle.du_scheduler.specs.window_config.specs.declared.plan.PlanLine.{PlanLine};
+ghost use Rattle.radio_moments.specs.Downlink.{HasSent, HasSentNext, MaySend, MaySendNext, class_for};
 
 use crate::Downlink;
 use air_source::{RePlace, Samples};
 use bfp_codec::Wide;
 use du_scheduler::{Plan, Plane};
 use fh_base::NoMemory;
-use fh_document::Class3;
 use fh_time::Ticks;
-use std::alloc::Global;
+use measured_moments::fh_document::Class3;
 
 /// The class of the frames of a plane.
 fn class_of(plane: Plane) -> Class3
@@ -41,27 +40,28 @@ fn leaves_at(plan: &Plan, tick: Ticks) -> bool
     }
 }
 
-/// Sends the next frame of the plan, if there is one.
+/// Sends the next frame of the plan, which leaves now, if there is one.
 fn send_next<F: Fn(RePlace) -> Wide>(
-    alloc: Global,
     du: &Samples<F>,
     downlink: &mut Downlink<'_>,
 ) -> Result<(), NoMemory>
     requires kept { IsKept F.pre F.post du.now }
-    requires some { (d : Document) × (now : ℤ) × MaySend (F.post (closure_of du.now)) d now downlink.old }
-    ensures { (d : Document) (now : ℤ) → MaySend (F.post (closure_of du.now)) d now downlink.old → OnOk result (HasSentNext d now downlink.old downlink.new) }
+    requires some { (d : Document) × (now : ℤ) × MaySendNext (F.post (closure_of du.now)) d now downlink.old }
+    ensures { (d : Document) (now : ℤ) → MaySendNext (F.post (closure_of du.now)) d now downlink.old → OnOk result (HasSentNext d now downlink.old downlink.new) }
 {
     match downlink.plan.next_frame(du) {
-        Some(frame) => downlink
-            .way
-            .send(alloc, frame.at, class_of(frame.plane), frame.bytes),
+        Some(frame) => downlink.way.send(
+            &mut downlink.pool,
+            frame.at,
+            class_of(frame.plane),
+            frame.bytes,
+        ),
         None => Ok(()),
     }
 }
 
 /// Sends all frames of the plan that leave at a tick.
 pub(crate) fn send<F: Fn(RePlace) -> Wide>(
-    alloc: Global,
     tick: Ticks,
     du: &Samples<F>,
     downlink: &mut Downlink<'_>,
@@ -71,7 +71,7 @@ pub(crate) fn send<F: Fn(RePlace) -> Wide>(
     ensures { (d : Document) → MaySend (F.post (closure_of du.now)) d tick.0 downlink.old → OnOk result (HasSent d tick.0 downlink.new) }
 {
     while leaves_at(&downlink.plan, tick) {
-        send_next(alloc, du, downlink)?;
+        send_next(du, downlink)?;
     }
     Ok(())
 }

@@ -6,12 +6,12 @@ use Rattle.std.specs.Ordering.{int_eq}
 use Rattle.std.proofs.lemmas.Bool.Decides.{Decides-int_eq}
 use Rattle.std.proofs.lemmas.Int.{by_lt_z}
 use Rattle.std.proofs.lemmas.List.Elements.{All-nil, All-cons, All-filter, All-head, All-tail, All-weaker, filter_passes}
-use Rattle.unit_model.specs.Lists.{onto}
-use Rattle.unit_model.specs.Meetings.{Arrival}
-use Rattle.unit_model.specs.Proper.{IsTime}
-use Rattle.unit_model.specs.Radiated.{first_clock}
-use Rattle.unit_model.specs.Standing.{AreInTime}
-use Rattle.unit_model.proofs.SweepLaws.{gap_is, gap_none}
+use Rattle.history_laws.specs.unit_model.specs.Lists.{onto}
+use Rattle.history_laws.specs.unit_model.specs.Meetings.{Arrival}
+use Rattle.history_laws.specs.unit_model.specs.Proper.{IsTime}
+use Rattle.history_laws.specs.unit_model.specs.Radiated.{first_clock}
+use Rattle.history_laws.specs.unit_model.specs.Standing.{AreInTime}
+use Rattle.history_laws.specs.unit_model.proofs.SweepLaws.{gap_is, gap_none}
 use Rattle.replay_events.specs.Moments.{arrivals_before, arrivals_in, landing_at}
 use Rattle.replay_events.specs.Passing.{AreLandings, ArrivalsAreInTime, ArrivalsGoOn, CalmAddsNothing, IsCalm}
 use Rattle.replay_events.proofs.TickLemmas.{at_most, below_all, between, last_is_earlier, last_of_next, next_gap, same_most, weak}

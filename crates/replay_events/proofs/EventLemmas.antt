@@ -8,14 +8,14 @@ use Rattle.air_source.specs.declared.events.Event.TheVariants as event
 use Rattle.air_source.specs.declared.events.Side.{Side}
 use Rattle.air_source.specs.declared.events.Side.TheVariants.{Ru, Du}
 use Rattle.window_config.specs.declared.config.Config.{Config}
-use Rattle.unit_model.specs.Meetings.{Arrival}
-use Rattle.unit_model.specs.Radiated.{first_clock, symbol_report, wait_of}
-use Rattle.unit_model.specs.Sweeps.{at_tick}
+use Rattle.history_laws.specs.unit_model.specs.Meetings.{Arrival}
+use Rattle.history_laws.specs.unit_model.specs.Radiated.{first_clock, symbol_report, wait_of}
+use Rattle.history_laws.specs.unit_model.specs.Sweeps.{at_tick}
 use Rattle.replay_events.specs.Events.{arrivals_at, arrivals_told, cells_at, events_at, events_between}
 use Rattle.replay_events.specs.Moments.{all_arrivals, arrivals_before, end_of_time}
 use Rattle.replay_events.specs.Passing.{AllIsOver, EventsGoOn, EventsWait, IsNextMoment, seen_before}
 use Rattle.replay_events.specs.Traffic.{Traffic, known_at, landings_at, reported_at}
-use Rattle.replay_events.proofs.AloneLemmas.{none_told}
+use Rattle.replay_events.proofs.ToldLemmas.{none_told}
 use Rattle.replay_events.proofs.CameLemmas.{calm_adds_nothing, calm_in_part}
 use Rattle.replay_events.proofs.MomentLemmas.{calm_before, cells_settled, quiet_before, reported_before_moment, seen_by, seen_later}
 use Rattle.replay_events.proofs.TickLemmas.{at_most, before_next, below_all, last_of_next, next_after, next_is_later, no_ticks, tick_alone, tick_empty, ticks_append}
@@ -52,7 +52,7 @@ no_cells side c x now tick t next low high =
     here a = omega (arith, ints)
 
 no_arrivals : (side : Side) (c : Config) (x : Traffic) (now tick t : ℤ) → IsNextMoment c x now tick → now ≤ℤ t → t <ℤ tick → arrivals_at side x t ≡ []
-no_arrivals side c x now tick t next low high = ap (arrivals_told side) ((next.units side).calm t low high) ∙ none_told side
+no_arrivals side c x now tick t next low high = ap (arrivals_told side (x.results side t)) ((next.units side).calm t low high) ∙ none_told side (x.results side t)
 
 -- so it has no events
 no_events : (c : Config) (x : Traffic) (now tick t : ℤ) → IsNextMoment c x now tick → now ≤ℤ t → t <ℤ tick → events_at c x t ≡ []

@@ -1,5 +1,5 @@
 -- What an air heard of each unit, among several events.
-use Rattle.std.proofs.Common.{◌≡◌, ℕ, ℤ, pos, ◌+ℤ◌, ◌-ℤ◌, Bool, true, false, List, [], ◌∷◌, ◌++◌, refl, ap, ◌∙◌}
+use Rattle.std.proofs.Common.{◌≡◌, ℕ, ℤ, pos, ◌+ℤ◌, ◌-ℤ◌, Bool, true, false, List, [], ◌∷◌, ◌++◌, refl, sym, ap, ap₂, ◌∙◌}
 use Rattle.std.specs.Prelude.{All, ◌==◌, if◌then◌else◌, map}
 use Rattle.std.proofs.lemmas.List.Elements.{All-nil, All-cons, All-filter, All-head, All-tail}
 use Rattle.air_source.specs.declared.events.AirCell.{AirCell}
@@ -11,17 +11,19 @@ use Rattle.fh_time.specs.Air.{air_of}
 use Rattle.fh_time.specs.declared.values.Slot.{Slot}
 use Rattle.window_config.specs.declared.delays.Delays.{Delays}
 use Rattle.window_config.specs.declared.endpoints.EndpointConfig.{EndpointConfig}
-use Rattle.unit_model.specs.Claims.{cell_at}
-use Rattle.unit_model.specs.Lists.{onto}
-use Rattle.unit_model.specs.Meetings.{Arrival}
-use Rattle.unit_model.specs.Radiated.{Known, air_cell, cell_report, first_clock, is_down, symbol_report, used_mask, wait_of}
-use Rattle.unit_model.specs.Standing.{due, still_reported}
-use Rattle.unit_model.specs.Sweeps.{at_tick}
-use Rattle.unit_laws.proofs.DifferLemmas.{all_kept}
-use Rattle.unit_laws.proofs.DueLemmas.{unheard}
-use Rattle.unit_laws.proofs.SweepLemmas.{at_tick_related, each_related, sweep_related}
-use Rattle.replay_events.specs.Events.{arrivals_told}
+use Rattle.history_laws.specs.unit_model.specs.Claims.{cell_at}
+use Rattle.history_laws.specs.unit_model.specs.Lists.{onto}
+use Rattle.history_laws.specs.unit_model.specs.Meetings.{Arrival}
+use Rattle.history_laws.specs.unit_model.specs.Radiated.{Known, air_cell, cell_report, first_clock, is_down, symbol_report, used_mask, wait_of}
+use Rattle.history_laws.specs.unit_model.specs.Standing.{due, still_reported}
+use Rattle.history_laws.specs.unit_model.specs.Sweeps.{at_tick}
+use Rattle.history_laws.specs.unit_laws.proofs.DifferLemmas.{all_kept}
+use Rattle.history_laws.specs.unit_laws.proofs.DueLemmas.{unheard}
+use Rattle.history_laws.specs.unit_laws.proofs.SweepLemmas.{at_tick_related, each_related, sweep_related}
+use Rattle.replay_events.specs.Events.{arrival_told, arrivals_told, result_event}
 use Rattle.replay_events.specs.Heard.{arrivals_heard, cells_heard, is_of}
+use Rattle.replay_events.specs.Traffic.{DelayResult}
+use Rattle.replay_events.proofs.ToldLemmas.{none_told, told_kept, told_next, told_next_alone}
 
 -- ---- which unit's
 
@@ -108,10 +110,19 @@ cells-other side other (a ∷ cs) apart all =
     (ap (is_of side) (All-head P a cs all) ∙ apart)
     ∙ cells-other side other cs apart (All-tail P a cs all)
 
-pub cells-arrivals : (side other : Side) (xs : List Arrival) → cells_heard side (arrivals_told other xs) ≡ []
-unfolding cells_heard arrivals_told
-cells-arrivals side other [] = refl
-cells-arrivals side other (x ∷ xs) = cells-arrivals side other xs
+-- frames and their results tell none
+pub cells-results : (side other : Side) (at : ℤ) (rs : List DelayResult) → cells_heard side (map (result_event other at) rs) ≡ []
+unfolding cells_heard
+cells-results side other at [] = refl
+cells-results side other at (r ∷ rs) = cells-results side other at rs
+
+pub cells-told : (side other : Side) (x : Arrival) (rs : List DelayResult) → cells_heard side (arrival_told other x rs) ≡ []
+unfolding cells_heard
+cells-told side other x rs = cells-results side other x.at rs
+
+pub cells-arrivals : (side other : Side) (results : List (List DelayResult)) (xs : List Arrival) → cells_heard side (arrivals_told other results xs) ≡ []
+cells-arrivals side other results xs =
+    told_kept (λ es. cells_heard side es ≡ []) (cells-none side) (λ es fs p q. cells-append side es fs ∙ ap₂ ◌++◌ p q) other (cells-told side other) results xs
 
 -- ---- arrivals
 
@@ -133,9 +144,54 @@ unfolding arrivals_heard
 arrivals-cells side earlier [] = refl
 arrivals-cells side earlier (a ∷ cs) = arrivals-cells side earlier cs
 
-pub arrivals-own : (side : Side) (earlier xs : List Arrival) → arrivals_heard side earlier (arrivals_told side xs) ≡ onto earlier xs
-unfolding arrivals_heard arrivals_told onto
-arrivals-own side earlier [] = refl
-arrivals-own side earlier (x ∷ xs) =
-    ap (λ (b : Bool). arrivals_heard side (let zs : List Arrival = if b then x ∷ earlier else earlier in zs) (arrivals_told side xs)) (own side)
-    ∙ arrivals-own side (x ∷ earlier) xs
+-- results tell no frame
+pub arrivals-results : (side other : Side) (earlier : List Arrival) (at : ℤ) (rs : List DelayResult) → arrivals_heard side earlier (map (result_event other at) rs) ≡ earlier
+unfolding arrivals_heard
+arrivals-results side other earlier at [] = refl
+arrivals-results side other earlier at (r ∷ rs) = arrivals-results side other earlier at rs
+
+-- a frame, of this unit and of the other
+pub arrival-own : (side : Side) (earlier : List Arrival) (x : Arrival) (rs : List DelayResult) → arrivals_heard side earlier (arrival_told side x rs) ≡ x ∷ earlier
+unfolding arrivals_heard
+arrival-own side earlier x rs =
+    ap (λ (b : Bool). arrivals_heard side (let zs : List Arrival = if b then x ∷ earlier else earlier in zs) (map (result_event side x.at) rs)) (own side)
+    ∙ arrivals-results side side (x ∷ earlier) x.at rs
+
+pub arrival-other : (side other : Side) (earlier : List Arrival) (x : Arrival) (rs : List DelayResult) → is_of side other ≡ false
+    → arrivals_heard side earlier (arrival_told other x rs) ≡ earlier
+unfolding arrivals_heard
+arrival-other side other earlier x rs apart =
+    ap (λ (b : Bool). arrivals_heard side (let zs : List Arrival = if b then x ∷ earlier else earlier in zs) (map (result_event other x.at) rs)) apart
+    ∙ arrivals-results side other earlier x.at rs
+
+onto-none : (earlier : List Arrival) → onto earlier [] ≡ earlier
+unfolding onto
+onto-none earlier = refl
+
+onto-next : (earlier : List Arrival) (x : Arrival) (xs : List Arrival) → onto earlier (x ∷ xs) ≡ onto (x ∷ earlier) xs
+unfolding onto
+onto-next earlier x xs = refl
+
+-- frames, each with its results
+pub arrivals-own : (side : Side) (earlier : List Arrival) (results : List (List DelayResult)) (xs : List Arrival)
+    → arrivals_heard side earlier (arrivals_told side results xs) ≡ onto earlier xs
+arrivals-own side earlier results [] = ap (arrivals_heard side earlier) (none_told side results) ∙ arrivals-none side earlier ∙ sym (onto-none earlier)
+arrivals-own side earlier [] (x ∷ xs) =
+    ap (arrivals_heard side earlier) (told_next_alone side x xs)
+    ∙ arrivals-append side earlier (arrival_told side x []) (arrivals_told side [] xs)
+    ∙ ap (λ (zs : List Arrival). arrivals_heard side zs (arrivals_told side [] xs)) (arrival-own side earlier x [])
+    ∙ arrivals-own side (x ∷ earlier) [] xs
+    ∙ sym (onto-next earlier x xs)
+arrivals-own side earlier (r ∷ results) (x ∷ xs) =
+    ap (arrivals_heard side earlier) (told_next side r results x xs)
+    ∙ arrivals-append side earlier (arrival_told side x r) (arrivals_told side results xs)
+    ∙ ap (λ (zs : List Arrival). arrivals_heard side zs (arrivals_told side results xs)) (arrival-own side earlier x r)
+    ∙ arrivals-own side (x ∷ earlier) results xs
+    ∙ sym (onto-next earlier x xs)
+
+pub arrivals-other : (side other : Side) (earlier : List Arrival) (results : List (List DelayResult)) (xs : List Arrival) → is_of side other ≡ false
+    → arrivals_heard side earlier (arrivals_told other results xs) ≡ earlier
+arrivals-other side other earlier results xs apart =
+    told_kept (λ es. arrivals_heard side earlier es ≡ earlier) (arrivals-none side earlier)
+    (λ es fs p q. arrivals-append side earlier es fs ∙ ap (λ (zs : List Arrival). arrivals_heard side zs fs) p ∙ q) other
+    (λ a rs. arrival-other side other earlier a rs apart) results xs

@@ -8,13 +8,13 @@ use Rattle.std.proofs.lemmas.Int.{ints}
 use Rattle.window_config.specs.Configs.{IsConfig}
 use Rattle.window_config.specs.Limits.{IsWithinLimits}
 use Rattle.window_config.specs.declared.config.Config.{Config}
-use Rattle.unit_model.specs.Lists.{onto}
-use Rattle.unit_model.specs.Meetings.{Arrival}
-use Rattle.unit_model.specs.Proper.{IsTime}
-use Rattle.unit_model.specs.Radiated.{first_clock}
-use Rattle.unit_model.specs.Reports.{accepted_of}
-use Rattle.unit_model.specs.Standing.{AreInTime, past_of}
-use Rattle.unit_model.specs.Uplink.{jobs}
+use Rattle.history_laws.specs.unit_model.specs.Lists.{onto}
+use Rattle.history_laws.specs.unit_model.specs.Meetings.{Arrival}
+use Rattle.history_laws.specs.unit_model.specs.Proper.{IsTime}
+use Rattle.history_laws.specs.unit_model.specs.Radiated.{first_clock}
+use Rattle.history_laws.specs.unit_model.specs.Reports.{accepted_of}
+use Rattle.history_laws.specs.unit_model.specs.Standing.{AreInTime, past_of}
+use Rattle.history_laws.specs.unit_model.specs.Uplink.{jobs}
 use Rattle.history_laws.specs.Arriving.{IsNextArrival}
 use Rattle.history_laws.proofs.ArrivingLemmas.{arrival_leaves_reported, arrival_leaves_sent}
 use Rattle.replay_events.specs.Moments.{arrivals_before, landing_at}

@@ -4,10 +4,10 @@ use Rattle.std.specs.Prelude.{length}
 use Rattle.std.specs.Int.{int_gap}
 use Rattle.std.proofs.lemmas.Int.{ints}
 use Rattle.window_config.specs.declared.endpoints.EndpointConfig.{EndpointConfig}
-use Rattle.unit_model.specs.Lists.{each_tick}
-use Rattle.unit_model.specs.Sweeps.{OfSymbol, at_tick, sweep}
-use Rattle.unit_model.proofs.SweepLaws.{gap_is, gap_none, ticks_none, ticks_split}
-use Rattle.unit_laws.proofs.SweepLemmas.{sweep-append}
+use Rattle.history_laws.specs.unit_model.specs.Lists.{each_tick}
+use Rattle.history_laws.specs.unit_model.specs.Sweeps.{OfSymbol, at_tick, sweep}
+use Rattle.history_laws.specs.unit_model.proofs.SweepLaws.{gap_is, gap_none, ticks_none, ticks_split}
+use Rattle.history_laws.specs.unit_laws.proofs.SweepLemmas.{sweep-append}
 
 -- ---- numbers
 

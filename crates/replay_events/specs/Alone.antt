@@ -1,11 +1,11 @@
--- Where nothing is planned and nothing lands at the distributed unit, all events are the radio unit's (this project's profile).
+-- Where nothing is planned, and nothing lands and is measured at the distributed unit, all events are the radio unit's (this project's profile).
 use Rattle.std.specs.Prelude.{◌≡◌, ℤ, List, []}
 use Rattle.air_source.specs.declared.events.AirCell.{AirCell}
 use Rattle.air_source.specs.declared.events.Side.TheVariants.{Du}
 use Rattle.window_config.specs.declared.config.Config.{Config}
-use Rattle.unit_model.specs.Meetings.{Arrival}
-use Rattle.unit_model.specs.Reports.{du_known}
-use Rattle.unit_model.specs.Standing.{due}
+use Rattle.history_laws.specs.unit_model.specs.Meetings.{Arrival}
+use Rattle.history_laws.specs.unit_model.specs.Reports.{du_known}
+use Rattle.history_laws.specs.unit_model.specs.Standing.{due}
 use Rattle.replay_events.specs.Events.{arrivals_at, cells_at, count_events}
 use Rattle.replay_events.specs.Moments.{landing_at}
 use Rattle.replay_events.specs.Passing.{AreLandings}
@@ -21,4 +21,4 @@ pub record IsDuIdle (c : Config) (t : Traffic) : Type 0 where
   pub counts : count_events Du c t ≡ []
 
 abbrev pub IdleWithoutPlan : Type 0
-IdleWithoutPlan = (c : Config) (t : Traffic) → t.planned ≡ [] → t.at_du ≡ [] → IsDuIdle c t
+IdleWithoutPlan = (c : Config) (t : Traffic) → t.planned ≡ [] → t.at_du ≡ [] → t.counted Du ≡ [] → IsDuIdle c t

@@ -1,11 +1,15 @@
-//! The events of a replay: what a report tells of the frames that land at the two units, in the order of time, by definition
+//! The events of a replay: what a report tells of the frames that land at the two units and of their results, in the order of time, by definition
 //! (`specs/Events.antt`), and the laws by which a loop that lets time pass comes to them (`specs/Passing.antt`).
 //!
 //! The functions here do nothing: each one's contract is its law.
 #![tactic(auto)]
 
+mod results;
+
 ghost use Rattle.replay_events.specs.Alone.{IdleWithoutPlan};
 ghost use Rattle.replay_events.specs.Passing.{AllIsOver, ArrivalsAreInTime, ArrivalsGoOn, CalmAddsNothing, DueAtMoment, EventsGoOn, EventsWait, MessagesAreSettled, ReportedAtMoment, ReportedBeforeMoment, ReportedIsSettled};
+
+pub use results::DelayResult;
 
 /// What came before a tick.
 pub fn arrivals_go_on()
@@ -30,7 +34,7 @@ pub fn moments_follow()
     ensures over { AllIsOver }
 {}
 
-/// Where nothing is planned and nothing lands at the distributed unit, nothing is told of it.
+/// Where nothing is planned, and nothing lands and is measured at the distributed unit, nothing is told of it.
 pub fn idle_without_plan()
     ensures { IdleWithoutPlan }
 {}

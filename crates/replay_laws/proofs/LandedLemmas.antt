@@ -8,10 +8,10 @@ use Rattle.std.proofs.lemmas.Bool.Decides.{Decides-int_eq}
 use Rattle.std.proofs.lemmas.Int.{by_lt_z, ints}
 use Rattle.std.proofs.lemmas.List.Elements.{All-head, All-tail, All-weaker}
 use Rattle.std.proofs.lemmas.List.Recursion.{is_count_by}
-use Rattle.unit_model.specs.Lists.{onto}
-use Rattle.unit_model.specs.Meetings.{Arrival}
-use Rattle.unit_model.specs.Radiated.{first_clock}
-use Rattle.unit_model.proofs.SweepLaws.{gap_is}
+use Rattle.replay_events.specs.unit_model.specs.Lists.{onto}
+use Rattle.replay_events.specs.unit_model.specs.Meetings.{Arrival}
+use Rattle.replay_events.specs.unit_model.specs.Radiated.{first_clock}
+use Rattle.replay_events.specs.unit_model.proofs.SweepLaws.{gap_is}
 use Rattle.replay_events.specs.Moments.{all_arrivals, arrivals_in, end_of_time, landing_at}
 use Rattle.replay_laws.specs.Landed.{EachArrives}
 

@@ -6,3 +6,9 @@ pub mod BesideLemmas
 pub mod SumLemmas
 pub mod LandedLemmas
 pub mod RefusedLemmas
+pub mod DelayLemmas
+pub mod FallingLemmas
+pub mod SilentLemmas
+pub mod WithoutLemmas
+pub mod StandingLemmas
+pub mod GatheredLemmas

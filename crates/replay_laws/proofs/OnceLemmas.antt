@@ -4,22 +4,22 @@ use Rattle.std.specs.Prelude.{map, ◌==◌, if◌then◌else◌, Bool, true, fa
 use Rattle.std.specs.Int.{int_gap}
 use Rattle.std.specs.List.{flat_map}
 use Rattle.std.proofs.lemmas.Int.{ints}
-use Rattle.air_source.specs.declared.events.AirCell.{AirCell}
-use Rattle.air_source.specs.declared.events.Event.{Event}
-use Rattle.air_source.specs.declared.events.Event.TheVariants as event
-use Rattle.air_source.specs.declared.events.Side.{Side}
-use Rattle.air_source.specs.declared.events.Side.TheVariants.{Ru, Du}
+use Rattle.replay_events.specs.air_source.specs.declared.events.AirCell.{AirCell}
+use Rattle.replay_events.specs.air_source.specs.declared.events.Event.{Event}
+use Rattle.replay_events.specs.air_source.specs.declared.events.Event.TheVariants as event
+use Rattle.replay_events.specs.air_source.specs.declared.events.Side.{Side}
+use Rattle.replay_events.specs.air_source.specs.declared.events.Side.TheVariants.{Ru, Du}
 use Rattle.fault_counters.specs.Names.{all_counters}
 use Rattle.fault_counters.specs.declared.kinds.Counter.{Counter}
 use Rattle.window_config.specs.declared.config.Config.{Config}
 use Rattle.window_config.specs.declared.endpoints.EndpointConfig.{EndpointConfig}
-use Rattle.unit_model.specs.Lists.{each_tick}
-use Rattle.unit_model.specs.Radiated.{Known, first_clock, reported, symbol_report, wait_of}
-use Rattle.unit_model.specs.Sweeps.{OfSymbol, at_tick, sweep}
-use Rattle.unit_model.proofs.SweepLaws.{gap_is}
-use Rattle.unit_laws.specs.Due.{AreDifferent}
-use Rattle.unit_laws.proofs.DueLemmas.{reported_differ}
-use Rattle.unit_laws.proofs.SweepLemmas.{IsKept, each_tick_related}
+use Rattle.replay_events.specs.unit_model.specs.Lists.{each_tick}
+use Rattle.replay_events.specs.unit_model.specs.Radiated.{Known, first_clock, reported, symbol_report, wait_of}
+use Rattle.replay_events.specs.unit_model.specs.Sweeps.{OfSymbol, at_tick, sweep}
+use Rattle.replay_events.specs.unit_model.proofs.SweepLaws.{gap_is}
+use Rattle.replay_events.specs.unit_laws.specs.Due.{AreDifferent}
+use Rattle.replay_events.specs.unit_laws.proofs.DueLemmas.{reported_differ}
+use Rattle.replay_events.specs.unit_laws.proofs.SweepLemmas.{IsKept, each_tick_related}
 use Rattle.replay_events.specs.Events.{arrivals_at, cells_at, count_event, count_events, events, events_at, events_between, number_of, start_of}
 use Rattle.replay_events.specs.Heard.{cells_heard}
 use Rattle.replay_events.specs.Moments.{all_arrivals, end_of_time, landing_at}
@@ -48,13 +48,13 @@ cells_of_tick : (side : Side) (c : Config) (t : Traffic) (tick : ℤ) → cells_
 unfolding events_at
 cells_of_tick Ru c t tick =
     four_parts Ru (map event.Cell (cells_at Ru c t tick)) (arrivals_at Ru t tick) (arrivals_at Du t tick) (map event.Cell (cells_at Du c t tick)) (cells_at Ru c t tick) [] [] []
-    (own_cells Ru c t tick) (cells-arrivals Ru Ru (landing_at t.at_ru tick)) (cells-arrivals Ru Du (landing_at t.at_du tick))
+    (own_cells Ru c t tick) (cells-arrivals Ru Ru (t.results Ru tick) (landing_at t.at_ru tick)) (cells-arrivals Ru Du (t.results Du tick) (landing_at t.at_du tick))
     (cells-other Ru Du (cells_at Du c t tick) refl (tick_of_side Du (known Du c t) c.endpoints (start_of Du c.delays tick)))
     ∙ append-nil (cells_at Ru c t tick)
 cells_of_tick Du c t tick =
     four_parts Du (map event.Cell (cells_at Ru c t tick)) (arrivals_at Ru t tick) (arrivals_at Du t tick) (map event.Cell (cells_at Du c t tick)) [] [] [] (cells_at Du c t tick)
     (cells-other Du Ru (cells_at Ru c t tick) refl (tick_of_side Ru (known Ru c t) c.endpoints (start_of Ru c.delays tick)))
-    (cells-arrivals Du Ru (landing_at t.at_ru tick)) (cells-arrivals Du Du (landing_at t.at_du tick))
+    (cells-arrivals Du Ru (t.results Ru tick) (landing_at t.at_ru tick)) (cells-arrivals Du Du (t.results Du tick) (landing_at t.at_du tick))
     (own_cells Du c t tick)
 
 -- ---- those of all ticks

@@ -3,7 +3,7 @@ use Rattle.std.proofs.Common.{◌≡◌, ◌≢◌, ℕ, ℤ, zero, suc, ◌+◌
 use Rattle.std.specs.Prelude.{◌==◌, cond, if◌then◌else◌, Option, Some, None, is_some}
 use Rattle.std.proofs.lemmas.Bool.{and_parts, cases_eq, eqb-true}
 use Rattle.fh_time.specs.declared.values.Slot.{Slot}
-use Rattle.air_source.specs.declared.events.Side.{Side}
+use Rattle.replay_events.specs.air_source.specs.declared.events.Side.{Side}
 use Rattle.ecpri_fragments.specs.Generations.{Fragment, Generation, begins, begun, generations, generations_of, held_in, is_first, is_of, is_within, joined, of_id, with_fragment}
 use Rattle.ecpri_fragments.specs.Verdicts.{Message, Rests, answer, is_whole, placed, refused, standing, standing_before, verdict, verdict_on, with_one}
 use Rattle.ecpri_fragments.specs.declared.verdict.Verdict.{Verdict}
@@ -11,23 +11,23 @@ use Rattle.ecpri_fragments.specs.declared.verdict.Verdict.TheVariants as fragmen
 use Rattle.window_config.specs.declared.delays.Delays.{Delays}
 use Rattle.window_config.specs.declared.verdicts.Class.{Class}
 use Rattle.window_config.specs.declared.verdicts.Class.TheVariants as class
-use Rattle.unit_model.specs.Blocks.{block_at, block_in, data_class, data_covers, data_prb_count, data_slot, data_verdict, data_verdict_in, every_data_cell, first_data_prb, has_all, timely, with_timely}
-use Rattle.unit_model.specs.Claims.{cell_at}
-use Rattle.unit_model.specs.Commands.{accepted, allocation_of, command_verdict, with_accepted}
-use Rattle.unit_model.specs.Decoding.{data_sections, data_told, decoded_now, whole_of}
-use Rattle.unit_model.specs.Lists.{every, onto, or_else}
-use Rattle.unit_model.specs.Meetings.{Meeting, Ignored, Commands, Piece, commands, fragments}
-use Rattle.unit_model.specs.Reports.{hold_of}
-use Rattle.unit_model.specs.declared.allocations.Allocation.{Allocation}
-use Rattle.unit_model.specs.declared.cells.Block.{Block}
-use Rattle.unit_model.specs.declared.cells.Cell.{Cell}
-use Rattle.unit_model.specs.declared.decoded.Command.{Command}
-use Rattle.unit_model.specs.declared.decoded.Data.{Data}
-use Rattle.unit_model.specs.declared.verdicts.CommandVerdict.TheVariants.{Accepted}
-use Rattle.unit_model.specs.declared.verdicts.DataVerdict.TheVariants.{Repeat, Taken}
-use Rattle.unit_model.proofs.BlockLemmas.{newer_found}
-use Rattle.unit_laws.proofs.CellLemmas.{DataCovers, data_covers_is, from_first, from_within}
-use Rattle.unit_laws.proofs.ChangeLemmas.{accepted-cons, accepted_more, block-cons, block_same, either_way, timely-cons, timely_more}
+use Rattle.replay_events.specs.unit_model.specs.Blocks.{block_at, block_in, data_class, data_covers, data_prb_count, data_slot, data_verdict, data_verdict_in, every_data_cell, first_data_prb, has_all, timely, with_timely}
+use Rattle.replay_events.specs.unit_model.specs.Claims.{cell_at}
+use Rattle.replay_events.specs.unit_model.specs.Commands.{accepted, allocation_of, command_verdict, with_accepted}
+use Rattle.replay_events.specs.unit_model.specs.Decoding.{data_sections, data_told, decoded_now, whole_of}
+use Rattle.replay_events.specs.unit_model.specs.Lists.{every, onto, or_else}
+use Rattle.replay_events.specs.unit_model.specs.Meetings.{Meeting, Ignored, Commands, Piece, commands, fragments}
+use Rattle.replay_events.specs.unit_model.specs.Reports.{hold_of}
+use Rattle.replay_events.specs.unit_model.specs.declared.allocations.Allocation.{Allocation}
+use Rattle.replay_events.specs.unit_model.specs.declared.cells.Block.{Block}
+use Rattle.replay_events.specs.unit_model.specs.declared.cells.Cell.{Cell}
+use Rattle.replay_events.specs.unit_model.specs.declared.decoded.Command.{Command}
+use Rattle.replay_events.specs.unit_model.specs.declared.decoded.Data.{Data}
+use Rattle.replay_events.specs.unit_model.specs.declared.verdicts.CommandVerdict.TheVariants.{Accepted}
+use Rattle.replay_events.specs.unit_model.specs.declared.verdicts.DataVerdict.TheVariants.{Repeat, Taken}
+use Rattle.replay_events.specs.unit_model.proofs.BlockLemmas.{newer_found}
+use Rattle.replay_events.specs.unit_laws.proofs.CellLemmas.{DataCovers, data_covers_is, from_first, from_within}
+use Rattle.replay_events.specs.unit_laws.proofs.ChangeLemmas.{accepted-cons, accepted_more, block-cons, block_same, either_way, timely-cons, timely_more}
 use Rattle.replay_laws.specs.Refused.{EachRefusedChangesNothing, IsRefusedMessage}
 
 -- ---- a section of a command
@@ -114,7 +114,7 @@ blocks_rest side d (y ∷ later) x earlier untaken cell =
 -- ---- generations that a later fragment cannot tell apart
 
 -- the last ones began at one time, and the same stands in them
-abbrev AreAlike : List Generation → List Generation → Type 0
+abbrev pub AreAlike : List Generation → List Generation → Type 0
 AreAlike [] [] = Unit {0}
 AreAlike [] (h ∷ hs) = ⊥
 AreAlike (g ∷ gs) [] = ⊥
@@ -124,7 +124,7 @@ alike_self : (gs : List Generation) → AreAlike gs gs
 alike_self [] = tt
 alike_self (g ∷ gs) = (refl, refl)
 
-alike_more : (hold : ℤ) (a : Fragment) (gs hs : List Generation) → AreAlike gs hs → AreAlike (with_fragment hold a gs) (with_fragment hold a hs)
+pub alike_more : (hold : ℤ) (a : Fragment) (gs hs : List Generation) → AreAlike gs hs → AreAlike (with_fragment hold a gs) (with_fragment hold a hs)
 alike_more hold a [] [] same = (refl, refl)
 alike_more hold a [] (h ∷ hs) same = absurd same
 alike_more hold a (g ∷ gs) [] same = absurd same
@@ -137,7 +137,7 @@ alike_more hold a (g ∷ gs) (h ∷ hs) same =
     go false = (refl, refl)
 
 -- the same stands before a fragment
-alike_standing : (hold at : ℤ) (gs hs : List Generation) → AreAlike gs hs → standing (held_in hold at gs) ≡ standing (held_in hold at hs)
+pub alike_standing : (hold at : ℤ) (gs hs : List Generation) → AreAlike gs hs → standing (held_in hold at gs) ≡ standing (held_in hold at hs)
 alike_standing hold at [] [] same = refl
 alike_standing hold at [] (h ∷ hs) same = absurd same
 alike_standing hold at (g ∷ gs) [] same = absurd same

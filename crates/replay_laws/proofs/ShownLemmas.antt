@@ -6,34 +6,34 @@ use Rattle.std.proofs.lemmas.List.Elements.{All-nil, All-cons, All-contains}
 use Rattle.fh_time.specs.Air.{air_of}
 use Rattle.fh_time.specs.declared.values.Slot.{Slot}
 use Rattle.bfp_codec.specs.declared.samples.Wide.{Wide}
-use Rattle.air_source.specs.declared.events.AirCell.{AirCell}
-use Rattle.air_source.specs.declared.events.Side.{Side}
-use Rattle.air_source.specs.declared.events.Side.TheVariants.{Ru, Du}
+use Rattle.replay_events.specs.air_source.specs.declared.events.AirCell.{AirCell}
+use Rattle.replay_events.specs.air_source.specs.declared.events.Side.{Side}
+use Rattle.replay_events.specs.air_source.specs.declared.events.Side.TheVariants.{Ru, Du}
 use Rattle.window_config.specs.Windows.{data_window_of}
 use Rattle.window_config.specs.declared.config.Config.{Config}
 use Rattle.window_config.specs.declared.endpoints.EndpointConfig.{EndpointConfig}
 use Rattle.window_config.specs.declared.delays.Delays.{Delays}
 use Rattle.window_config.specs.declared.verdicts.Class.TheVariants.{OnTime}
 use Rattle.window_config.proofs.Timing.{class_on_time, class_up_on_time}
-use Rattle.unit_model.specs.Blocks.{block_at, data_class, data_covers, data_prb_count, data_slot, data_start, first_data_prb}
-use Rattle.unit_model.specs.Claims.{cell_at, claim_at, in_mask, is_from}
-use Rattle.unit_model.specs.Meetings.{Arrival}
-use Rattle.unit_model.specs.Proper.{IsAt, IsProperData, IsTime}
-use Rattle.unit_model.specs.Radiated.{Known, air_cell, cell_id, cell_report, first_clock, is_down, reported, samples_under, symbol_report, used_mask, wait_of}
-use Rattle.unit_model.specs.Reports.{accepted_of, commands_of, data_of, timely_of}
-use Rattle.unit_model.specs.Standing.{AreInTime}
-use Rattle.unit_model.specs.declared.allocations.Allocation.{Allocation}
-use Rattle.unit_model.specs.declared.cells.Block.{Block}
-use Rattle.unit_model.specs.declared.cells.Cell.{Cell}
-use Rattle.unit_model.specs.declared.cells.Claim.{Claim}
-use Rattle.unit_model.specs.declared.decoded.Data.{Data}
-use Rattle.unit_laws.specs.Far.{IsHeardData}
-use Rattle.unit_laws.proofs.AcceptanceLemmas.{accepted_is_acceptable}
-use Rattle.unit_laws.proofs.CellLemmas.{data_covers_is, from_first, from_within}
-use Rattle.unit_laws.proofs.FarLemmas.{endpoints_equal}
-use Rattle.unit_laws.proofs.HistoryLemmas.{data_are_heard, data_are_proper}
-use Rattle.unit_laws.proofs.DifferLemmas.{all_kept}
-use Rattle.unit_laws.proofs.SweepLemmas.{each_related, sweep_related}
+use Rattle.replay_events.specs.unit_model.specs.Blocks.{block_at, data_class, data_covers, data_prb_count, data_slot, data_start, first_data_prb}
+use Rattle.replay_events.specs.unit_model.specs.Claims.{cell_at, claim_at, in_mask, is_from}
+use Rattle.replay_events.specs.unit_model.specs.Meetings.{Arrival}
+use Rattle.replay_events.specs.unit_model.specs.Proper.{IsAt, IsProperData, IsTime}
+use Rattle.replay_events.specs.unit_model.specs.Radiated.{Known, air_cell, cell_id, cell_report, first_clock, is_down, reported, samples_under, symbol_report, used_mask, wait_of}
+use Rattle.replay_events.specs.unit_model.specs.Reports.{accepted_of, commands_of, data_of, timely_of}
+use Rattle.replay_events.specs.unit_model.specs.Standing.{AreInTime}
+use Rattle.replay_events.specs.unit_model.specs.declared.allocations.Allocation.{Allocation}
+use Rattle.replay_events.specs.unit_model.specs.declared.cells.Block.{Block}
+use Rattle.replay_events.specs.unit_model.specs.declared.cells.Cell.{Cell}
+use Rattle.replay_events.specs.unit_model.specs.declared.cells.Claim.{Claim}
+use Rattle.replay_events.specs.unit_model.specs.declared.decoded.Data.{Data}
+use Rattle.replay_events.specs.unit_laws.specs.Far.{IsHeardData}
+use Rattle.replay_events.specs.unit_laws.proofs.AcceptanceLemmas.{accepted_is_acceptable}
+use Rattle.replay_events.specs.unit_laws.proofs.CellLemmas.{data_covers_is, from_first, from_within}
+use Rattle.replay_events.specs.unit_laws.proofs.FarLemmas.{endpoints_equal}
+use Rattle.replay_events.specs.unit_laws.proofs.HistoryLemmas.{data_are_heard, data_are_proper}
+use Rattle.replay_events.specs.unit_laws.proofs.DifferLemmas.{all_kept}
+use Rattle.replay_events.specs.unit_laws.proofs.SweepLemmas.{each_related, sweep_related}
 use Rattle.replay_events.proofs.CameLemmas.{arrivals_in_time}
 use Rattle.replay_events.specs.Moments.{all_arrivals, end_of_time}
 use Rattle.replay_events.specs.Passing.{AreLandings}
@@ -197,7 +197,7 @@ symbol_in_time side c planned arrivals clock came times one_planned ep e slot sy
     one_or_none P (used_mask (k.claims (cell_at ep (is_down side) slot symbol prb)) == 0) (shown side c planned arrivals clock came times one_planned ep e slot symbol prb)
     (cell_in_time side c planned arrivals clock came times one_planned ep e slot symbol prb is))
 
-landings_of_side : (side : Side) (t : Traffic) → AreLandings t.at_ru → AreLandings t.at_du → AreLandings (landings_at side t)
+pub landings_of_side : (side : Side) (t : Traffic) → AreLandings t.at_ru → AreLandings t.at_du → AreLandings (landings_at side t)
 landings_of_side Ru t ru du = ru
 landings_of_side Du t ru du = du
 

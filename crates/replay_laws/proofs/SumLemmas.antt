@@ -6,36 +6,38 @@ use Rattle.std.specs.List.{flat_map}
 use Rattle.std.proofs.lemmas.Bool.{eqb-true, false_from_ne_true}
 use Rattle.std.proofs.lemmas.List.Elements.{All-nil, All-cons, All-append, Contains-append_left, Contains-append_right}
 use Rattle.bfp_codec.specs.declared.samples.Wide.{Wide}
-use Rattle.air_source.specs.declared.events.AirCell.{AirCell}
-use Rattle.air_source.specs.declared.events.Event.{Event}
-use Rattle.air_source.specs.declared.events.Event.TheVariants as event
-use Rattle.air_source.specs.declared.events.Side.{Side}
-use Rattle.air_source.specs.declared.events.Side.TheVariants.{Ru, Du}
+use Rattle.replay_events.specs.air_source.specs.declared.events.AirCell.{AirCell}
+use Rattle.replay_events.specs.air_source.specs.declared.events.Event.{Event}
+use Rattle.replay_events.specs.air_source.specs.declared.events.Event.TheVariants as event
+use Rattle.replay_events.specs.air_source.specs.declared.events.Side.{Side}
+use Rattle.replay_events.specs.air_source.specs.declared.events.Side.TheVariants.{Ru, Du}
 use Rattle.fault_counters.specs.Counts.{capped, times}
 use Rattle.fault_counters.specs.Names.{all_counters}
 use Rattle.fault_counters.specs.declared.kinds.Counter.{Counter}
 use Rattle.fault_counters.specs.declared.kinds.Counter.TheVariants as counter
 use Rattle.window_config.specs.declared.config.Config.{Config}
 use Rattle.window_config.specs.declared.delays.Delays.{Delays}
-use Rattle.unit_model.specs.Blocks.{data_verdicts}
-use Rattle.unit_model.specs.Commands.{command_verdicts}
-use Rattle.unit_model.specs.Counts.{block_counter, cells_counted, commands_counted, data_counted, frames_counted, messages_counted}
-use Rattle.unit_model.specs.Meetings.{Arrival}
-use Rattle.unit_model.specs.Radiated.{first_clock}
-use Rattle.unit_model.specs.Reports.{commands_of, data_of, hold_of, met}
-use Rattle.unit_model.specs.declared.decoded.Command.{Command}
-use Rattle.unit_model.specs.declared.decoded.Data.{Data}
-use Rattle.unit_model.specs.declared.verdicts.CommandVerdict.{CommandVerdict}
-use Rattle.unit_model.specs.declared.verdicts.CommandVerdict.TheVariants as control
-use Rattle.unit_model.specs.declared.verdicts.DataVerdict.{DataVerdict}
-use Rattle.unit_model.specs.declared.verdicts.DataVerdict.TheVariants as user
-use Rattle.unit_laws.specs.Totals.{commands_total, data_total}
-use Rattle.unit_laws.proofs.DifferLemmas.{all_kept}
-use Rattle.unit_laws.proofs.SweepLemmas.{each_tick_related}
-use Rattle.unit_laws.proofs.TotalLemmas.{commands_add_up, data_add_up}
-use Rattle.replay_events.specs.Events.{all_counted, arrival_event, arrivals_at, arrivals_told, cells_at, count_event, count_events, events, events_at, events_between, number_of}
+use Rattle.replay_events.specs.unit_model.specs.Blocks.{data_verdicts}
+use Rattle.replay_events.specs.unit_model.specs.Commands.{command_verdicts}
+use Rattle.replay_events.specs.unit_model.specs.Counts.{block_counter, cells_counted, commands_counted, data_counted, frames_counted, messages_counted}
+use Rattle.replay_events.specs.unit_model.specs.Meetings.{Arrival}
+use Rattle.replay_events.specs.unit_model.specs.Radiated.{first_clock}
+use Rattle.replay_events.specs.unit_model.specs.Reports.{commands_of, data_of, hold_of, met}
+use Rattle.replay_events.specs.unit_model.specs.declared.decoded.Command.{Command}
+use Rattle.replay_events.specs.unit_model.specs.declared.decoded.Data.{Data}
+use Rattle.replay_events.specs.unit_model.specs.declared.verdicts.CommandVerdict.{CommandVerdict}
+use Rattle.replay_events.specs.unit_model.specs.declared.verdicts.CommandVerdict.TheVariants as control
+use Rattle.replay_events.specs.unit_model.specs.declared.verdicts.DataVerdict.{DataVerdict}
+use Rattle.replay_events.specs.unit_model.specs.declared.verdicts.DataVerdict.TheVariants as user
+use Rattle.replay_events.specs.unit_laws.specs.Totals.{commands_total, data_total}
+use Rattle.replay_events.specs.unit_laws.proofs.DifferLemmas.{all_kept}
+use Rattle.replay_events.specs.unit_laws.proofs.SweepLemmas.{each_tick_related}
+use Rattle.replay_events.specs.unit_laws.proofs.TotalLemmas.{commands_add_up, data_add_up}
+use Rattle.replay_events.specs.Events.{additions_of, arrivals_at, arrivals_told, cells_at, count_event, count_events, events, events_at, events_between, number_of}
 use Rattle.replay_events.specs.Moments.{all_arrivals, end_of_time, landing_at}
 use Rattle.replay_events.specs.Traffic.{Traffic, landings_at, reported_at}
+use Rattle.replay_events.specs.declared.results.DelayResult.{DelayResult}
+use Rattle.replay_events.proofs.ToldLemmas.{told_all}
 use Rattle.replay_laws.specs.Sums.{IsNumber, SumsAddUp, TellsNumber, UnitAddsUp, cells_total}
 use Rattle.replay_laws.proofs.BesideLemmas.{IsBeside, cells-append, commands-append, data-append, frames_beside, meetings_beside, messages_beside}
 use Rattle.replay_laws.proofs.OnceLemmas.{cells_are_reported}
@@ -168,7 +170,7 @@ capped_small n h = omega (arith, h)
 capped_is_number : (n value : ℕ) → value ≡ capped n → IsNumber n value
 capped_is_number n value e = record { value_is = e; exact = λ small. e ∙ capped_small n small }
 
-module _ (counted : Side → List Counter) where
+module _ (counted : Side → Counter → List Counter) where
   abbrev Tells : Event → Type 0
   Tells = TellsNumber counted
 
@@ -176,20 +178,18 @@ module _ (counted : Side → List Counter) where
   cells_tell_none [] = All-nil Tells
   cells_tell_none (a ∷ rest) = All-cons Tells (event.Cell a) (map event.Cell rest) tt (cells_tell_none rest)
 
-  arrivals_tell_none : (side : Side) (xs : List Arrival) → All Tells (arrivals_told side xs)
-  unfolding arrivals_told
-  arrivals_tell_none side [] = All-nil Tells
-  arrivals_tell_none side (x ∷ xs) = All-cons Tells (arrival_event side x) (arrivals_told side xs) tt (arrivals_tell_none side xs)
+  arrivals_tell_none : (side : Side) (results : List (List DelayResult)) (xs : List Arrival) → All Tells (arrivals_told side results xs)
+  arrivals_tell_none side results xs = told_all Tells side (λ a. tt) (λ at r. tt) results xs
 
-  one_tells : (side : Side) (k : Counter) (n : ℕ) (b : Bool) → IsNumber (times (counted side) k) n → All Tells (if b then [] else event.Count side k n ∷ [])
+  one_tells : (side : Side) (k : Counter) (n : ℕ) (b : Bool) → IsNumber (times (counted side k) k) n → All Tells (if b then [] else event.Count side k n ∷ [])
   one_tells side k n true is = All-nil Tells
   one_tells side k n false is = All-cons Tells (event.Count side k n) [] is (All-nil Tells)
 
-  counts_tell : (side : Side) (f : Counter → ℕ) (ks : List Counter) → ((k : Counter) → f k ≡ capped (times (counted side) k)) → All Tells (flat_map (λ k. count_event side (f k) k) ks)
+  counts_tell : (side : Side) (f : Counter → ℕ) (ks : List Counter) → ((k : Counter) → f k ≡ capped (times (counted side k) k)) → All Tells (flat_map (λ k. count_event side (f k) k) ks)
   counts_tell side f [] is = All-nil Tells
   counts_tell side f (k ∷ ks) is =
       All-append Tells (count_event side (f k) k) (flat_map (λ j. count_event side (f j) j) ks)
-      (one_tells side k (f k) (f k == 0) (capped_is_number (times (counted side) k) (f k) (is k))) (counts_tell side f ks is)
+      (one_tells side k (f k) (f k == 0) (capped_is_number (times (counted side k) k) (f k) (is k))) (counts_tell side f ks is)
 
   tick_tells : (c : Config) (t : Traffic) (tick : ℤ) → All Tells (events_at c t tick)
   unfolding events_at
@@ -199,28 +199,28 @@ module _ (counted : Side → List Counter) where
       let taken = arrivals_at Du t tick in
       let du = map event.Cell (cells_at Du c t tick) in
       All-append Tells ru (came ++ (taken ++ du)) (cells_tell_none (cells_at Ru c t tick))
-      (All-append Tells came (taken ++ du) (arrivals_tell_none Ru (landing_at t.at_ru tick))
-      (All-append Tells taken du (arrivals_tell_none Du (landing_at t.at_du tick)) (cells_tell_none (cells_at Du c t tick))))
+      (All-append Tells came (taken ++ du) (arrivals_tell_none Ru (t.results Ru tick) (landing_at t.at_ru tick))
+      (All-append Tells taken du (arrivals_tell_none Du (t.results Du tick) (landing_at t.at_du tick)) (cells_tell_none (cells_at Du c t tick))))
 
   ticks_tell : (c : Config) (t : Traffic) (from end : ℤ) → All Tells (events_between c t from end)
   ticks_tell c t from end =
       each_tick_related (λ xs ys. All Tells xs) (all_kept Tells) from (int_gap from end) (events_at c t) (events_at c t)
       (λ tick low high. tick_tells c t tick)
 
-number_is : (side : Side) (c : Config) (t : Traffic) (k : Counter) → number_of side c t k ≡ capped (times (all_counted side c t) k)
+number_is : (side : Side) (c : Config) (t : Traffic) (k : Counter) → number_of side c t k ≡ capped (times (additions_of side c t k) k)
 unfolding number_of
 number_is side c t k = refl
 
-unit_told : (side : Side) (c : Config) (t : Traffic) → All (TellsNumber (λ s. all_counted s c t)) (count_events side c t)
+unit_told : (side : Side) (c : Config) (t : Traffic) → All (TellsNumber (λ s. additions_of s c t)) (count_events side c t)
 unfolding count_events
-unit_told side c t = counts_tell (λ s. all_counted s c t) side (number_of side c t) all_counters (number_is side c t)
+unit_told side c t = counts_tell (λ s. additions_of s c t) side (number_of side c t) all_counters (number_is side c t)
 
-all_told : (c : Config) (t : Traffic) → All (TellsNumber (λ side. all_counted side c t)) (events c t)
+all_told : (c : Config) (t : Traffic) → All (TellsNumber (λ side. additions_of side c t)) (events c t)
 unfolding events
 all_told c t =
-    let Tells = TellsNumber (λ side. all_counted side c t) in
+    let Tells = TellsNumber (λ side. additions_of side c t) in
     All-append Tells (events_between c t first_clock (end_of_time +ℤ pos 1)) (count_events Ru c t ++ count_events Du c t)
-    (ticks_tell (λ side. all_counted side c t) c t first_clock (end_of_time +ℤ pos 1))
+    (ticks_tell (λ side. additions_of side c t) c t first_clock (end_of_time +ℤ pos 1))
     (All-append Tells (count_events Ru c t) (count_events Du c t) (unit_told Ru c t) (unit_told Du c t))
 
 -- ---- none is left out
@@ -280,24 +280,24 @@ counts_there side f (j ∷ js) (suc i) k low is some =
 capped_some : (n : ℕ) → 0 < n → 0 < capped n
 capped_some n h = omega (arith, h)
 
-unit_left : (side : Side) (c : Config) (t : Traffic) (k : Counter) → 0 < times (all_counted side c t) k
-    → Contains (count_events side c t) (event.Count side k (capped (times (all_counted side c t) k)))
+unit_left : (side : Side) (c : Config) (t : Traffic) (k : Counter) → 0 < times (additions_of side c t k) k
+    → Contains (count_events side c t) (event.Count side k (capped (times (additions_of side c t k) k)))
 unfolding count_events
 unit_left side c t k some =
     let place = listed k in
     subst (λ (m : ℕ). Contains (flat_map (λ j. count_event side (number_of side c t j) j) all_counters) (event.Count side k m)) (number_is side c t k)
     (counts_there side (number_of side c t) all_counters place.0 k place.1 place.2
-    (subst (λ (m : ℕ). 0 < m) (sym (number_is side c t k)) (capped_some (times (all_counted side c t) k) some)))
+    (subst (λ (m : ℕ). 0 < m) (sym (number_is side c t k)) (capped_some (times (additions_of side c t k) k) some)))
 
 of_unit : (side : Side) (c : Config) (t : Traffic) (x : Event) → Contains (count_events side c t) x → Contains (count_events Ru c t ++ count_events Du c t) x
 of_unit Ru c t x h = Contains-append_left (count_events Ru c t) (count_events Du c t) x h
 of_unit Du c t x h = Contains-append_right (count_events Ru c t) (count_events Du c t) x h
 
-none_left : (side : Side) (c : Config) (t : Traffic) (k : Counter) → 0 < times (all_counted side c t) k
-    → Contains (events c t) (event.Count side k (capped (times (all_counted side c t) k)))
+none_left : (side : Side) (c : Config) (t : Traffic) (k : Counter) → 0 < times (additions_of side c t k) k
+    → Contains (events c t) (event.Count side k (capped (times (additions_of side c t k) k)))
 unfolding events
 none_left side c t k some =
-    let x = event.Count side k (capped (times (all_counted side c t) k)) in
+    let x = event.Count side k (capped (times (additions_of side c t k) k)) in
     Contains-append_right (events_between c t first_clock (end_of_time +ℤ pos 1)) (count_events Ru c t ++ count_events Du c t) x
     (of_unit side c t x (unit_left side c t k some))
 

@@ -7,10 +7,10 @@ use air_source::{Event, MemoryAir, RePlace, Samples, Side};
 use bfp_codec::Wide;
 use fault_counters::{Counter, Counters};
 use fh_base::List;
-use fh_document::read;
 use fh_time::Ticks;
+use fronthaul_replay::fh_document::read;
+use fronthaul_replay::ru_buffers::Ru;
 use fronthaul_replay::{ReplayFault, check_plan, intake_of, replay};
-use ru_buffers::Ru;
 use std::alloc::Global;
 use std::test::Fail;
 use tone_source::ToneSteps;
@@ -33,6 +33,18 @@ const UPLINK: &str =
 /// counters that are not 0.
 const BOTH: &str =
     "fronthaul 1\nendpoint 0000 ordinary 30 106 static none\nplan dl 0000 1 0 0 0 1 0 1 fff 1 0\nplan ul 0000 1 0 0 0 1 0 1 fff 5 0\n";
+
+/// A Remote Request of the radio unit, the Request that answers it, and its Response: three frames, a delay at each unit, and eight counters
+/// that are not 0.
+const MEASURED: &str = "fronthaul 1\nmeasure ru 3 remote-one 2000000\n";
+
+/// A Request that is sent with the command of `UPLINK` and as long on its way.
+const TOGETHER: &str =
+    "fronthaul 1\nendpoint 0000 ordinary 30 106 static none\nplan ul 0000 1 0 0 0 1 0 1 fff 5 0\nmeasure du 7 one 9530000\n";
+
+/// The same Request, sent 10,000 ns earlier and 10,000 ns longer on its way.
+const OVERTAKEN: &str =
+    "fronthaul 1\nendpoint 0000 ordinary 30 106 static none\nplan ul 0000 1 0 0 0 1 0 1 fff 5 0\ndeliver dl m 1 60000\nmeasure du 7 one 9520000\n";
 
 const COMMAND_AT: Ticks = Ticks(14_745_600_000);
 
@@ -277,7 +289,7 @@ fn is_in_step_throughout(alloc: Global, document: &str, events: u64) -> Result<b
 
 #[test]
 fn plans_are_in_step_where_the_air_fails(rt: HostRuntime) -> Result<(), Fail> {
-    for (document, events) in [(PLANNED, 16), (UPLINK, 11), (BOTH, 17)] {
+    for (document, events) in [(PLANNED, 16), (UPLINK, 11), (BOTH, 17), (MEASURED, 13)] {
         assert!(rt;
             is_in_step_throughout(rt.alloc(), document, events)?,
             "{}",
@@ -301,5 +313,48 @@ fn a_planned_cell_is_left_where_the_air_fails_in_it(rt: HostRuntime) -> Result<(
     assert_eq!(rt; (played.ru.frames, played.du.frames), (1, 1));
     assert_eq!(rt; (played.du.taken, played.du.cells), (1, 0));
     assert_eq!(rt; played.du.due, Some(TAKEN_IN_AT));
+    Ok(())
+}
+
+/// The eCPRI message type of a frame that arrives at the radio unit at a time.
+fn type_at(event: Option<&Event>, time: Ticks) -> Option<u8> {
+    match event {
+        Some(Event::Arrival { side, at, frame }) if *side == Side::Ru && *at == time => {
+            frame.as_slice().get(1).copied()
+        }
+        _ => None,
+    }
+}
+
+/// The frames of one time come in the order in which they were sent, those of delay measurement behind the others.
+#[test]
+fn requests_come_in_the_sent_order(rt: HostRuntime) {
+    let at = Ticks(14_714_880_000);
+    for (document, types) in [(TOGETHER, [2, 5]), (OVERTAKEN, [5, 2])] {
+        let Some(played) = played(rt.alloc(), document, List::new(rt.alloc())) else {
+            panic!(rt; "no memory");
+        };
+        let heard = played.air.heard();
+        assert_eq!(rt; type_at(heard.get(0), at), Some(types[0]));
+        assert_eq!(rt; type_at(heard.get(1), at), Some(types[1]));
+    }
+}
+
+/// Where the air fails in a delay, the unit and its meter have taken the frame that gave it.
+#[test]
+fn a_delay_is_left_where_the_air_fails_in_it(rt: HostRuntime) -> Result<(), Fail> {
+    let Some(played) = stopped_behind(rt.alloc(), MEASURED, 2)? else {
+        panic!(rt; "no memory");
+    };
+    assert_eq!(rt; played.result, Err(ReplayFault::AirFailed));
+    assert!(rt;
+        is_arrival(
+            played.air.heard().get(1),
+            Side::Ru,
+            Ticks(3_225_600_000),
+            24
+        )
+    );
+    assert_eq!(rt; (played.ru.frames, played.du.frames), (1, 1));
     Ok(())
 }

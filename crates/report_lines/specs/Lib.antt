@@ -1,2 +1,4 @@
+pub use Rattle.air_source
+pub use Rattle.bfp_codec
 pub mod Cells
 pub mod Units

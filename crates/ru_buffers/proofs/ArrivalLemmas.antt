@@ -5,26 +5,26 @@ use Rattle.std.specs.Ordering.{int_eq}
 use Rattle.std.proofs.lemmas.Int.{ints, by_lt_z}
 use Rattle.std.proofs.lemmas.List.{drop-append-le}
 use Rattle.std.proofs.lemmas.List.Elements.{All-cons, All-weaker}
-use Rattle.air_source.specs.declared.events.AirCell.{AirCell}
-use Rattle.air_source.specs.declared.events.Side.TheVariants.{Ru}
-use Rattle.window_config.specs.declared.config.Config.{Config}
-use Rattle.window_config.specs.declared.endpoints.EndpointConfig.{EndpointConfig}
-use Rattle.unit_model.specs.Counts.{cells_counted}
-use Rattle.unit_model.specs.Meetings.{Arrival}
-use Rattle.unit_model.specs.Order.{comes_before}
-use Rattle.unit_model.specs.Proper.{IsTime}
-use Rattle.unit_model.specs.Radiated.{first_clock}
-use Rattle.unit_model.specs.Reports.{accepted_of, ru_known}
-use Rattle.unit_model.specs.Standing.{History, IsOwed, arrived, still_given}
-use Rattle.unit_model.specs.Starts.{start_at}
-use Rattle.unit_model.specs.Sweeps.{sweep}
-use Rattle.unit_model.specs.Uplink.{jobs, symbol_jobs}
-use Rattle.unit_model.specs.declared.allocations.Allocation.{Allocation}
-use Rattle.unit_model.specs.declared.jobs.UplinkJob.{UplinkJob}
-use Rattle.unit_model.specs.declared.symbol_start.SymbolStart.{SymbolStart}
-use Rattle.unit_laws.proofs.SentLemmas.{jobs_append}
-use Rattle.unit_laws.proofs.SweepLemmas.{sweep-append, sweep-same}
-use Rattle.unit_cells.specs.Keeping.{SameMarks}
+use Rattle.history_laws.specs.air_source.specs.declared.events.AirCell.{AirCell}
+use Rattle.history_laws.specs.air_source.specs.declared.events.Side.TheVariants.{Ru}
+use Rattle.history_laws.specs.window_config.specs.declared.config.Config.{Config}
+use Rattle.history_laws.specs.window_config.specs.declared.endpoints.EndpointConfig.{EndpointConfig}
+use Rattle.history_laws.specs.unit_model.specs.Counts.{cells_counted}
+use Rattle.history_laws.specs.unit_model.specs.Meetings.{Arrival}
+use Rattle.history_laws.specs.unit_model.specs.Order.{comes_before}
+use Rattle.history_laws.specs.unit_model.specs.Proper.{IsTime}
+use Rattle.history_laws.specs.unit_model.specs.Radiated.{first_clock}
+use Rattle.history_laws.specs.unit_model.specs.Reports.{accepted_of, ru_known}
+use Rattle.history_laws.specs.unit_model.specs.Standing.{History, IsOwed, arrived, still_given}
+use Rattle.history_laws.specs.unit_model.specs.Starts.{start_at}
+use Rattle.history_laws.specs.unit_model.specs.Sweeps.{sweep}
+use Rattle.history_laws.specs.unit_model.specs.Uplink.{jobs, symbol_jobs}
+use Rattle.history_laws.specs.unit_model.specs.declared.allocations.Allocation.{Allocation}
+use Rattle.history_laws.specs.unit_model.specs.declared.jobs.UplinkJob.{UplinkJob}
+use Rattle.history_laws.specs.unit_model.specs.declared.symbol_start.SymbolStart.{SymbolStart}
+use Rattle.history_laws.specs.unit_laws.proofs.SentLemmas.{jobs_append}
+use Rattle.history_laws.specs.unit_laws.proofs.SweepLemmas.{sweep-append, sweep-same}
+use Rattle.ru_reports.specs.unit_cells.specs.Keeping.{SameMarks}
 use Rattle.history_laws.specs.Arriving.{IsNextArrival}
 use Rattle.history_laws.proofs.ArrivingLemmas.{arrival_leaves_due, arrival_leaves_jobs, arrival_leaves_sent, arrival_leaves_use}
 use Rattle.ru_jobs.specs.Cursors.{left_behind, left_jobs}

@@ -5,27 +5,27 @@ use Rattle.std.proofs.lemmas.Bool.{cases_Bool}
 use Rattle.std.proofs.lemmas.Int.{ints}
 use Rattle.std.proofs.lemmas.List.Elements.{All-drop, All-head}
 use Rattle.fault_counters.specs.declared.kinds.Counter.{Counter}
-use Rattle.air_source.specs.declared.events.Side.TheVariants.{Ru}
-use Rattle.window_config.specs.declared.config.Config.{Config}
-use Rattle.unit_model.specs.Counts.{cells_counted}
-use Rattle.unit_model.specs.Meetings.{Arrival}
-use Rattle.unit_model.specs.Radiated.{first_clock}
-use Rattle.unit_model.specs.Proper.{IsTime}
-use Rattle.unit_model.specs.ProperJobs.{IsProperJob}
-use Rattle.unit_model.specs.Reports.{accepted_of}
-use Rattle.unit_model.specs.Uplink.{jobs}
-use Rattle.unit_model.specs.declared.jobs.UplinkJob.{UplinkJob}
+use Rattle.history_laws.specs.air_source.specs.declared.events.Side.TheVariants.{Ru}
+use Rattle.history_laws.specs.window_config.specs.declared.config.Config.{Config}
+use Rattle.history_laws.specs.unit_model.specs.Counts.{cells_counted}
+use Rattle.history_laws.specs.unit_model.specs.Meetings.{Arrival}
+use Rattle.history_laws.specs.unit_model.specs.Radiated.{first_clock}
+use Rattle.history_laws.specs.unit_model.specs.Proper.{IsTime}
+use Rattle.history_laws.specs.unit_model.specs.ProperJobs.{IsProperJob}
+use Rattle.history_laws.specs.unit_model.specs.Reports.{accepted_of}
+use Rattle.history_laws.specs.unit_model.specs.Uplink.{jobs}
+use Rattle.history_laws.specs.unit_model.specs.declared.jobs.UplinkJob.{UplinkJob}
 use Rattle.history_laws.proofs.SendingLemmas.{jobs_are_proper}
-use Rattle.unit_model.specs.Standing.{History, arrived, at_clock, handed, nothing_yet}
-use Rattle.unit_model.specs.declared.symbol_start.SymbolStart.{SymbolStart}
-use Rattle.unit_laws.specs.Runs.{OffsetsFit}
+use Rattle.history_laws.specs.unit_model.specs.Standing.{History, arrived, at_clock, handed, nothing_yet}
+use Rattle.history_laws.specs.unit_model.specs.declared.symbol_start.SymbolStart.{SymbolStart}
+use Rattle.history_laws.specs.unit_laws.specs.Runs.{OffsetsFit}
 use Rattle.fh_time.specs.declared.values.Ticks.{Ticks}
 use Rattle.history_laws.proofs.FirstLemmas.{first_is_first, nothing_is_nothing}
-use Rattle.unit_model.specs.Starts.{start_at}
-use Rattle.unit_model.specs.declared.cells.Cell.{Cell}
-use Rattle.unit_laws.proofs.SweepLemmas.{sweep-nothing, tick-nothing}
-use Rattle.unit_cells.specs.Cells.{CellsValue, cells_done, cells_uplink, endpoints_of}
-use Rattle.unit_cells.specs.Keeping.{SameKnown, SameMarks}
+use Rattle.history_laws.specs.unit_model.specs.Starts.{start_at}
+use Rattle.history_laws.specs.unit_model.specs.declared.cells.Cell.{Cell}
+use Rattle.history_laws.specs.unit_laws.proofs.SweepLemmas.{sweep-nothing, tick-nothing}
+use Rattle.ru_reports.specs.unit_cells.specs.Cells.{CellsValue, cells_done, cells_uplink, endpoints_of}
+use Rattle.ru_reports.specs.unit_cells.specs.Keeping.{SameKnown, SameMarks}
 use Rattle.ru_jobs.specs.Cursors.{GivenOne, IsFirstJob, Settled, jobs_left}
 use Rattle.ru_jobs.specs.declared.cursor.NextJob.{NextJob}
 use Rattle.ru_reports.specs.Symbols.{IsSymbol, is_left}

@@ -2,19 +2,19 @@
 use Rattle.std.proofs.Common.{◌≡◌, ℕ, ℤ, Bool, true, false, ◌||◌, ◌==◌, not, List, [], ◌∷◌, length, map, refl, sym, ap, ◌∙◌, Option, None, Some}
 use Rattle.std.specs.Prelude.{nat_lt, if◌then◌else◌}
 use Rattle.std.specs.List.{list_any}
-use Rattle.air_source.specs.declared.events.Side.TheVariants.{Ru}
-use Rattle.ecpri_fragments.specs.Generations.{Fragment}
+use Rattle.history_laws.specs.air_source.specs.declared.events.Side.TheVariants.{Ru}
+use Rattle.history_laws.specs.ecpri_fragments.specs.Generations.{Fragment}
 use Rattle.fault_counters.specs.declared.kinds.Counter.{Counter}
 use Rattle.fault_counters.specs.declared.kinds.Counter.TheVariants.{Delay, OtherType, Short, UnknownEndpoint}
 use Rattle.ecpri_frames.specs.Gathering.{whole_messages}
 use Rattle.ecpri_frames.specs.Messages.{Message}
-use Rattle.window_config.specs.declared.config.Config.{Config}
-use Rattle.window_config.specs.declared.endpoints.EndpointConfig.{EndpointConfig}
-use Rattle.unit_model.specs.Commands.{accepted}
-use Rattle.unit_model.specs.Lists.{onto}
-use Rattle.unit_model.specs.Meetings.{Arrival, Meeting, Ignored, Piece, commands, control_met, find_endpoint, fragment_of, id_of, meet, meetings, met_by}
-use Rattle.unit_model.specs.Reports.{accepted_of}
-use Rattle.unit_model.specs.declared.decoded.Command.{Command}
+use Rattle.history_laws.specs.window_config.specs.declared.config.Config.{Config}
+use Rattle.history_laws.specs.window_config.specs.declared.endpoints.EndpointConfig.{EndpointConfig}
+use Rattle.history_laws.specs.unit_model.specs.Commands.{accepted}
+use Rattle.history_laws.specs.unit_model.specs.Lists.{onto}
+use Rattle.history_laws.specs.unit_model.specs.Meetings.{Arrival, Meeting, Ignored, Piece, commands, control_met, find_endpoint, fragment_of, id_of, meet, meetings, met_by}
+use Rattle.history_laws.specs.unit_model.specs.Reports.{accepted_of}
+use Rattle.history_laws.specs.unit_model.specs.declared.decoded.Command.{Command}
 use Rattle.ru_buffers.specs.Control.{has_control, is_control}
 
 first_of : (a b : Bool) → (a || b) ≡ false → (a ≡ false) × (b ≡ false)

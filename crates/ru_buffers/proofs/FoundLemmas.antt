@@ -1,9 +1,9 @@
 -- What searches find.
 use Rattle.std.proofs.Common.{◌≡◌, ℤ, ◌<ℤ◌, true, false, [], Option, None, Some}
 use Rattle.std.specs.Prelude.{IfNone, IfSome}
-use Rattle.unit_model.specs.Order.{comes_before}
-use Rattle.unit_model.specs.declared.symbol_start.SymbolStart.{SymbolStart}
-use Rattle.unit_cells.specs.Cells.{CellsValue, cells_uplink}
+use Rattle.history_laws.specs.unit_model.specs.Order.{comes_before}
+use Rattle.history_laws.specs.unit_model.specs.declared.symbol_start.SymbolStart.{SymbolStart}
+use Rattle.ru_reports.specs.unit_cells.specs.Cells.{CellsValue, cells_uplink}
 use Rattle.ru_jobs.specs.Cursors.{IsFirstJob, IsJobSymbol, left_in}
 use Rattle.ru_jobs.specs.declared.cursor.JobCursor.{JobCursor}
 use Rattle.ru_jobs.specs.declared.cursor.NextJob.{NextJob}

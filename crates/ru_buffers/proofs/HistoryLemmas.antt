@@ -4,29 +4,29 @@ use Rattle.std.specs.Prelude.{All, Option, None, if◌then◌else◌}
 use Rattle.std.specs.List.{list_any}
 use Rattle.std.proofs.lemmas.Int.{ints}
 use Rattle.std.proofs.lemmas.List.Elements.{All-weaker}
-use Rattle.air_source.specs.declared.events.Side.TheVariants.{Ru}
-use Rattle.window_config.specs.Rings.{ru_reach_of}
-use Rattle.window_config.specs.declared.config.Config.{Config}
-use Rattle.window_config.specs.declared.endpoints.EndpointConfig.{EndpointConfig}
-use Rattle.unit_model.specs.Meetings.{Arrival}
-use Rattle.unit_model.specs.Proper.{IsProperData}
-use Rattle.unit_model.specs.Radiated.{is_used, used_below, used_mask}
-use Rattle.unit_model.specs.Reports.{accepted_of, data_of, ru_known, timely_of}
-use Rattle.unit_model.specs.Standing.{AreInTime, History, IsCell, IsHistory, IsLiveAt, StandsBy, cell_heard, still_given}
-use Rattle.unit_model.specs.declared.allocations.Allocation.{Allocation}
-use Rattle.unit_model.specs.declared.cells.Cell.{Cell}
-use Rattle.unit_model.specs.declared.cells.Claim.{Claim}
-use Rattle.unit_model.specs.declared.decoded.Data.{Data}
-use Rattle.unit_model.proofs.BlockLemmas.{all_timely}
-use Rattle.unit_laws.specs.Far.{IsFar}
-use Rattle.unit_laws.proofs.AheadLemmas.{no_claims_ahead}
-use Rattle.unit_laws.proofs.HistoryLemmas.{data_are_proper}
-use Rattle.unit_laws.proofs.TickLemmas.{live_later}
-use Rattle.unit_cells.specs.Cells.{cells_done}
-use Rattle.unit_cells.specs.Keeping.{Keeps as RingsKeep}
-use Rattle.unit_cells.specs.Told.{IsTold}
-use Rattle.unit_cells.proofs.TimeLemmas.{far_not_marked, keeps_later, live_at}
-use Rattle.unit_cells.proofs.ToldLemmas.{told_whole}
+use Rattle.history_laws.specs.air_source.specs.declared.events.Side.TheVariants.{Ru}
+use Rattle.history_laws.specs.window_config.specs.Rings.{ru_reach_of}
+use Rattle.history_laws.specs.window_config.specs.declared.config.Config.{Config}
+use Rattle.history_laws.specs.window_config.specs.declared.endpoints.EndpointConfig.{EndpointConfig}
+use Rattle.history_laws.specs.unit_model.specs.Meetings.{Arrival}
+use Rattle.history_laws.specs.unit_model.specs.Proper.{IsProperData}
+use Rattle.history_laws.specs.unit_model.specs.Radiated.{is_used, used_below, used_mask}
+use Rattle.history_laws.specs.unit_model.specs.Reports.{accepted_of, data_of, ru_known, timely_of}
+use Rattle.history_laws.specs.unit_model.specs.Standing.{AreInTime, History, IsCell, IsHistory, IsLiveAt, StandsBy, cell_heard, still_given}
+use Rattle.history_laws.specs.unit_model.specs.declared.allocations.Allocation.{Allocation}
+use Rattle.history_laws.specs.unit_model.specs.declared.cells.Cell.{Cell}
+use Rattle.history_laws.specs.unit_model.specs.declared.cells.Claim.{Claim}
+use Rattle.history_laws.specs.unit_model.specs.declared.decoded.Data.{Data}
+use Rattle.history_laws.specs.unit_model.proofs.BlockLemmas.{all_timely}
+use Rattle.history_laws.specs.unit_laws.specs.Far.{IsFar}
+use Rattle.history_laws.specs.unit_laws.proofs.AheadLemmas.{no_claims_ahead}
+use Rattle.history_laws.specs.unit_laws.proofs.HistoryLemmas.{data_are_proper}
+use Rattle.history_laws.specs.unit_laws.proofs.TickLemmas.{live_later}
+use Rattle.ru_reports.specs.unit_cells.specs.Cells.{cells_done}
+use Rattle.ru_reports.specs.unit_cells.specs.Keeping.{Keeps as RingsKeep}
+use Rattle.ru_reports.specs.unit_cells.specs.Told.{IsTold}
+use Rattle.ru_reports.specs.unit_cells.proofs.TimeLemmas.{far_not_marked, keeps_later, live_at}
+use Rattle.ru_reports.specs.unit_cells.proofs.ToldLemmas.{told_whole}
 use Rattle.ru_jobs.specs.declared.cursor.JobCursor.{JobCursor}
 use Rattle.ru_memory.specs.declared.memory.RuMemory.{RuMemory}
 use Rattle.ru_buffers.specs.Units.{Keeps, Stands, view_of}

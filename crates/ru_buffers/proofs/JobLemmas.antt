@@ -6,27 +6,27 @@ use Rattle.std.specs.List.{list_any}
 use Rattle.std.proofs.lemmas.Bool.{cases_Bool}
 use Rattle.std.proofs.lemmas.Int.{ints, clamps, by_lt_z}
 use Rattle.std.proofs.lemmas.List.{drop-drop, drop_at}
-use Rattle.air_source.specs.declared.events.Side.TheVariants.{Ru}
-use Rattle.window_config.specs.Rings.{ru_reach_of}
-use Rattle.window_config.specs.declared.config.Config.{Config}
-use Rattle.window_config.specs.declared.endpoints.EndpointConfig.{EndpointConfig}
-use Rattle.unit_model.specs.Counts.{cells_counted}
-use Rattle.unit_model.specs.Radiated.{first_clock, is_used, used_below, used_mask}
-use Rattle.unit_model.specs.Reports.{accepted_of, ru_known, timely_of}
-use Rattle.unit_model.specs.Standing.{History, IsCell, IsLiveAt, cell_heard, still_given}
-use Rattle.unit_model.specs.Uplink.{jobs}
-use Rattle.unit_model.specs.declared.cells.Cell.{Cell}
-use Rattle.unit_model.specs.declared.cells.Claim.{Claim}
-use Rattle.unit_model.specs.declared.jobs.UplinkJob.{UplinkJob}
-use Rattle.unit_model.specs.declared.symbol_start.SymbolStart.{SymbolStart}
-use Rattle.unit_laws.specs.Far.{IsFar}
-use Rattle.unit_laws.specs.Runs.{OffsetsFit}
-use Rattle.unit_laws.proofs.AheadLemmas.{no_claims_ahead}
-use Rattle.unit_laws.proofs.SentLemmas.{jobs_begin}
-use Rattle.unit_laws.proofs.TickLemmas.{given_in_order, live_later}
-use Rattle.unit_cells.specs.Cells.{cells_done, cells_uplink, endpoints_of}
-use Rattle.unit_cells.proofs.ListLemmas.{some_equal}
-use Rattle.unit_cells.proofs.TimeLemmas.{far_not_marked, live_at}
+use Rattle.history_laws.specs.air_source.specs.declared.events.Side.TheVariants.{Ru}
+use Rattle.history_laws.specs.window_config.specs.Rings.{ru_reach_of}
+use Rattle.history_laws.specs.window_config.specs.declared.config.Config.{Config}
+use Rattle.history_laws.specs.window_config.specs.declared.endpoints.EndpointConfig.{EndpointConfig}
+use Rattle.history_laws.specs.unit_model.specs.Counts.{cells_counted}
+use Rattle.history_laws.specs.unit_model.specs.Radiated.{first_clock, is_used, used_below, used_mask}
+use Rattle.history_laws.specs.unit_model.specs.Reports.{accepted_of, ru_known, timely_of}
+use Rattle.history_laws.specs.unit_model.specs.Standing.{History, IsCell, IsLiveAt, cell_heard, still_given}
+use Rattle.history_laws.specs.unit_model.specs.Uplink.{jobs}
+use Rattle.history_laws.specs.unit_model.specs.declared.cells.Cell.{Cell}
+use Rattle.history_laws.specs.unit_model.specs.declared.cells.Claim.{Claim}
+use Rattle.history_laws.specs.unit_model.specs.declared.jobs.UplinkJob.{UplinkJob}
+use Rattle.history_laws.specs.unit_model.specs.declared.symbol_start.SymbolStart.{SymbolStart}
+use Rattle.history_laws.specs.unit_laws.specs.Far.{IsFar}
+use Rattle.history_laws.specs.unit_laws.specs.Runs.{OffsetsFit}
+use Rattle.history_laws.specs.unit_laws.proofs.AheadLemmas.{no_claims_ahead}
+use Rattle.history_laws.specs.unit_laws.proofs.SentLemmas.{jobs_begin}
+use Rattle.history_laws.specs.unit_laws.proofs.TickLemmas.{given_in_order, live_later}
+use Rattle.ru_reports.specs.unit_cells.specs.Cells.{cells_done, cells_uplink, endpoints_of}
+use Rattle.ru_reports.specs.unit_cells.proofs.ListLemmas.{some_equal}
+use Rattle.ru_reports.specs.unit_cells.proofs.TimeLemmas.{far_not_marked, live_at}
 use Rattle.history_laws.specs.First.{FirstIsFirst, IsSweptIn, told_of}
 use Rattle.ru_jobs.specs.Cursors.{GivenOne, IsFirstJob, IsJobSymbol, Settled, jobs_left}
 use Rattle.ru_jobs.specs.declared.cursor.JobCursor.{JobCursor}

@@ -3,14 +3,14 @@ use Rattle.std.proofs.Common.{◌≡◌, ℕ, ℤ, zero, suc, ◌≤ℤ◌, ◌<
 use Rattle.std.specs.Prelude.{if◌then◌else◌, int_lt}
 use Rattle.std.proofs.lemmas.Int.{ints}
 use Rattle.fh_time.specs.declared.values.Slot.{Slot}
-use Rattle.window_config.specs.declared.endpoints.EndpointConfig.{EndpointConfig}
-use Rattle.unit_model.specs.Lists.{in_order}
-use Rattle.unit_model.specs.Order.{comes_before}
-use Rattle.unit_model.specs.Starts.{start_at}
-use Rattle.unit_model.specs.Uplink.{symbol_jobs}
-use Rattle.unit_model.specs.declared.allocations.Allocation.{Allocation}
-use Rattle.unit_model.specs.declared.jobs.UplinkJob.{UplinkJob}
-use Rattle.unit_model.specs.declared.symbol_start.SymbolStart.{SymbolStart}
+use Rattle.history_laws.specs.window_config.specs.declared.endpoints.EndpointConfig.{EndpointConfig}
+use Rattle.history_laws.specs.unit_model.specs.Lists.{in_order}
+use Rattle.history_laws.specs.unit_model.specs.Order.{comes_before}
+use Rattle.history_laws.specs.unit_model.specs.Starts.{start_at}
+use Rattle.history_laws.specs.unit_model.specs.Uplink.{symbol_jobs}
+use Rattle.history_laws.specs.unit_model.specs.declared.allocations.Allocation.{Allocation}
+use Rattle.history_laws.specs.unit_model.specs.declared.jobs.UplinkJob.{UplinkJob}
+use Rattle.history_laws.specs.unit_model.specs.declared.symbol_start.SymbolStart.{SymbolStart}
 use Rattle.ru_jobs.specs.Cursors.{at_start, jobs_left, left_behind, left_jobs}
 use Rattle.ru_jobs.specs.declared.cursor.JobCursor.{JobCursor}
 

@@ -2,24 +2,24 @@
 use Rattle.std.proofs.Common.{◌≡◌, ℕ, suc, ℤ, pos, ◌-◌, ◌<◌, ◌≤◌, ◌≤ℤ◌, ◌<ℤ◌, ◌^◌, neg_ℤ, true, List, [], ◌∷◌, ◌++◌, length, map, refl, sym, ap, ◌∙◌, subst, arith, append-nil}
 use Rattle.std.specs.Prelude.{Option, Some, None, Result, Ok, Err}
 use Rattle.fh_base.specs.Causes.{Rose}
-use Rattle.air_source.specs.Causes.{HasAirCause}
-use Rattle.air_source.specs.declared.airs.AirFault.{AirFault}
-use Rattle.air_source.specs.declared.airs.AirFault.TheVariants.{Failed}
+use Rattle.history_laws.specs.air_source.specs.Causes.{HasAirCause}
+use Rattle.history_laws.specs.air_source.specs.declared.airs.AirFault.{AirFault}
+use Rattle.history_laws.specs.air_source.specs.declared.airs.AirFault.TheVariants.{Failed}
 use Rattle.std.proofs.lemmas.Int.{ints}
 use Rattle.std.proofs.lemmas.List.{map-append}
 use Rattle.std.proofs.lemmas.Option.{slice_get_within}
 use Rattle.fh_time.specs.declared.values.Ticks.{Ticks}
 use Rattle.fh_time.proofs.Order.{slots_few, symbols_few}
-use Rattle.air_source.specs.declared.events.AirCell.{AirCell}
-use Rattle.air_source.specs.declared.events.Event.{Event}
-use Rattle.air_source.specs.declared.events.Event.TheVariants.{Cell as Reported}
-use Rattle.window_config.specs.declared.config.Config.{Config}
-use Rattle.unit_model.specs.Order.{comes_before}
-use Rattle.unit_model.specs.Standing.{History, heard}
-use Rattle.unit_model.specs.declared.symbol_start.SymbolStart.{SymbolStart}
-use Rattle.unit_laws.specs.Runs.{OffsetsFit}
-use Rattle.unit_cells.specs.Cells.{CellsValue, endpoints_of}
-use Rattle.unit_cells.specs.Keeping.{SameKnown}
+use Rattle.history_laws.specs.air_source.specs.declared.events.AirCell.{AirCell}
+use Rattle.history_laws.specs.air_source.specs.declared.events.Event.{Event}
+use Rattle.history_laws.specs.air_source.specs.declared.events.Event.TheVariants.{Cell as Reported}
+use Rattle.history_laws.specs.window_config.specs.declared.config.Config.{Config}
+use Rattle.history_laws.specs.unit_model.specs.Order.{comes_before}
+use Rattle.history_laws.specs.unit_model.specs.Standing.{History, heard}
+use Rattle.history_laws.specs.unit_model.specs.declared.symbol_start.SymbolStart.{SymbolStart}
+use Rattle.history_laws.specs.unit_laws.specs.Runs.{OffsetsFit}
+use Rattle.ru_reports.specs.unit_cells.specs.Cells.{CellsValue, endpoints_of}
+use Rattle.ru_reports.specs.unit_cells.specs.Keeping.{SameKnown}
 use Rattle.history_laws.proofs.FirstLemmas.{first_is_first, nothing_is_nothing}
 use Rattle.ru_jobs.specs.Cursors.{IsFirstJob, Settled}
 use Rattle.ru_jobs.specs.declared.cursor.JobCursor.{JobCursor}

@@ -9,41 +9,41 @@ use Rattle.std.proofs.lemmas.List.{map-append}
 use Rattle.std.proofs.lemmas.List.Elements.{All-nil, All-append, All-cons, All-head, All-tail, All-weaker}
 use Rattle.std.proofs.lemmas.List.Folds.{list_any-append}
 use Rattle.fh_time.specs.declared.values.Slot.{Slot}
-use Rattle.air_source.specs.declared.events.AirCell.{AirCell}
-use Rattle.air_source.specs.declared.events.Side.{Side}
-use Rattle.air_source.specs.declared.events.Side.TheVariants.{Ru}
-use Rattle.eaxc_map.specs.Endpoints.{AppearOnce}
-use Rattle.ecpri_fragments.specs.Assemblies.{StandsFor, endpoints_of as places_of, hold_of as assembly_hold}
-use Rattle.ecpri_fragments.specs.declared.assembly.Assembly.{Assembly}
+use Rattle.history_laws.specs.air_source.specs.declared.events.AirCell.{AirCell}
+use Rattle.history_laws.specs.air_source.specs.declared.events.Side.{Side}
+use Rattle.history_laws.specs.air_source.specs.declared.events.Side.TheVariants.{Ru}
+use Rattle.history_laws.specs.eaxc_map.specs.Endpoints.{AppearOnce}
+use Rattle.history_laws.specs.ecpri_fragments.specs.Assemblies.{StandsFor, endpoints_of as places_of, hold_of as assembly_hold}
+use Rattle.history_laws.specs.ecpri_fragments.specs.declared.assembly.Assembly.{Assembly}
 use Rattle.fault_counters.specs.Counts.{capped, times}
 use Rattle.fault_counters.specs.declared.kinds.Counter.{Counter}
-use Rattle.window_config.specs.Endpoints.{ids_of}
-use Rattle.window_config.specs.declared.config.Config.{Config}
-use Rattle.window_config.specs.declared.endpoints.EndpointConfig.{EndpointConfig}
-use Rattle.unit_model.specs.Claims.{same_slot, same_way}
-use Rattle.unit_model.specs.Counts.{StandAt, block_counter, cells_counted}
-use Rattle.unit_model.specs.Meetings.{fragments}
-use Rattle.unit_model.specs.Proper.{IsAt}
-use Rattle.unit_model.specs.Radiated.{air_cell, first_clock, is_down, is_used, used_below, used_mask}
-use Rattle.unit_model.specs.Reports.{accepted_of, arrivals_counted, met, ru_known, timely_of}
-use Rattle.unit_model.specs.Standing.{AreDifferent, History, IsCell, IsLiveAt, IsOwed, cell_heard, heard}
-use Rattle.unit_model.specs.Starts.{start_at}
-use Rattle.unit_model.specs.Uplink.{symbol_jobs}
-use Rattle.unit_model.specs.declared.allocations.Allocation.{Allocation}
-use Rattle.unit_model.specs.declared.cells.Cell.{Cell}
-use Rattle.unit_model.specs.declared.cells.Claim.{Claim}
-use Rattle.unit_model.specs.declared.symbol_start.SymbolStart.{SymbolStart}
-use Rattle.unit_model.specs.Sweeps.{sweep}
-use Rattle.unit_model.proofs.CountLemmas.{times-append}
-use Rattle.unit_laws.specs.Ticks.{IsLiveSlot}
-use Rattle.unit_laws.proofs.CellLemmas.{slots_equal}
-use Rattle.unit_laws.proofs.DifferLemmas.{all_kept, id_is}
-use Rattle.unit_laws.proofs.DueLemmas.{due_left, heard_differ, unheard}
-use Rattle.unit_laws.proofs.FarLemmas.{endpoints_equal}
-use Rattle.unit_laws.proofs.SweepLemmas.{each_related, sweep-same}
-use Rattle.slot_rings.proofs.PlaceLemmas.{slot_own}
-use Rattle.unit_cells.specs.Cells.{CellsValue, IsCellIn, cells_block, cells_claim, cells_done, cells_uplink, endpoints_of}
-use Rattle.unit_cells.proofs.KeepLemmas.{at_config, at_rings, of_still}
+use Rattle.history_laws.specs.window_config.specs.Endpoints.{ids_of}
+use Rattle.history_laws.specs.window_config.specs.declared.config.Config.{Config}
+use Rattle.history_laws.specs.window_config.specs.declared.endpoints.EndpointConfig.{EndpointConfig}
+use Rattle.history_laws.specs.unit_model.specs.Claims.{same_slot, same_way}
+use Rattle.history_laws.specs.unit_model.specs.Counts.{StandAt, block_counter, cells_counted}
+use Rattle.history_laws.specs.unit_model.specs.Meetings.{fragments}
+use Rattle.history_laws.specs.unit_model.specs.Proper.{IsAt}
+use Rattle.history_laws.specs.unit_model.specs.Radiated.{air_cell, first_clock, is_down, is_used, used_below, used_mask}
+use Rattle.history_laws.specs.unit_model.specs.Reports.{accepted_of, arrivals_counted, met, ru_known, timely_of}
+use Rattle.history_laws.specs.unit_model.specs.Standing.{AreDifferent, History, IsCell, IsLiveAt, IsOwed, cell_heard, heard}
+use Rattle.history_laws.specs.unit_model.specs.Starts.{start_at}
+use Rattle.history_laws.specs.unit_model.specs.Uplink.{symbol_jobs}
+use Rattle.history_laws.specs.unit_model.specs.declared.allocations.Allocation.{Allocation}
+use Rattle.history_laws.specs.unit_model.specs.declared.cells.Cell.{Cell}
+use Rattle.history_laws.specs.unit_model.specs.declared.cells.Claim.{Claim}
+use Rattle.history_laws.specs.unit_model.specs.declared.symbol_start.SymbolStart.{SymbolStart}
+use Rattle.history_laws.specs.unit_model.specs.Sweeps.{sweep}
+use Rattle.history_laws.specs.unit_model.proofs.CountLemmas.{times-append}
+use Rattle.history_laws.specs.unit_laws.specs.Ticks.{IsLiveSlot}
+use Rattle.history_laws.specs.unit_laws.proofs.CellLemmas.{slots_equal}
+use Rattle.history_laws.specs.unit_laws.proofs.DifferLemmas.{all_kept, id_is}
+use Rattle.history_laws.specs.unit_laws.proofs.DueLemmas.{due_left, heard_differ, unheard}
+use Rattle.history_laws.specs.unit_laws.proofs.FarLemmas.{endpoints_equal}
+use Rattle.history_laws.specs.unit_laws.proofs.SweepLemmas.{each_related, sweep-same}
+use Rattle.ru_reports.specs.slot_rings.proofs.PlaceLemmas.{slot_own}
+use Rattle.ru_reports.specs.unit_cells.specs.Cells.{CellsValue, IsCellIn, cells_block, cells_claim, cells_done, cells_uplink, endpoints_of}
+use Rattle.ru_reports.specs.unit_cells.proofs.KeepLemmas.{at_config, at_rings, of_still}
 use Rattle.ru_jobs.specs.Cursors.{jobs_left, left_jobs}
 use Rattle.ru_jobs.specs.declared.cursor.JobCursor.{JobCursor}
 use Rattle.ru_memory.specs.Memory.{Holds}
@@ -52,7 +52,7 @@ use Rattle.ru_reports.specs.Symbols.{CountsTold, IsSymbol, cell_in, is_told, lef
 use Rattle.ru_buffers.specs.Reporting.{IsMarked, KeepsMarked, due_of}
 use Rattle.ru_buffers.specs.Units.{Keeps, left_up_to}
 use Rattle.ru_buffers.proofs.SymbolLemmas.{cell_is, claims_are, live_lookup, live_or_ahead, since_clock}
-use Rattle.unit_cells.proofs.TimeLemmas.{far_no_place}
+use Rattle.ru_reports.specs.unit_cells.proofs.TimeLemmas.{far_no_place}
 
 -- ---- tests
 

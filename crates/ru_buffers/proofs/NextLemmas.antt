@@ -7,31 +7,31 @@ use Rattle.std.proofs.lemmas.Int.{ints, by_lt_z}
 use Rattle.fh_time.specs.Air.{air_of}
 use Rattle.fh_time.specs.Numbering.{symbols_of}
 use Rattle.fh_time.proofs.Kept.{offsets_short}
-use Rattle.air_source.specs.declared.events.Side.TheVariants.{Ru}
-use Rattle.window_config.specs.declared.config.Config.{Config}
-use Rattle.window_config.specs.declared.endpoints.EndpointConfig.{EndpointConfig}
-use Rattle.air_source.specs.declared.events.AirCell.{AirCell}
-use Rattle.unit_model.specs.Claims.{claim_at}
-use Rattle.unit_model.specs.Counts.{cells_counted}
-use Rattle.unit_model.specs.Lists.{some}
-use Rattle.unit_model.specs.Proper.{IsAt, IsSlot}
-use Rattle.unit_model.specs.Radiated.{is_used, used_below}
-use Rattle.unit_model.specs.Reports.{accepted_of, timely_of}
-use Rattle.unit_model.specs.Standing.{History, cell_heard, uplink_of}
-use Rattle.unit_model.specs.Starts.{start_at}
-use Rattle.unit_model.specs.Uplink.{symbol_jobs}
-use Rattle.unit_model.specs.declared.allocations.Allocation.{Allocation}
-use Rattle.unit_model.specs.declared.cells.Claim.{Claim}
-use Rattle.unit_model.specs.declared.jobs.UplinkJob.{UplinkJob}
-use Rattle.unit_model.specs.declared.symbol_start.SymbolStart.{SymbolStart}
-use Rattle.unit_laws.specs.Swept.{IsSwept}
-use Rattle.unit_laws.specs.Ticks.{IsLiveSlot}
-use Rattle.unit_laws.proofs.FrameLemmas.{symbols_are_swept}
-use Rattle.slot_rings.specs.Places.{is_due}
-use Rattle.unit_cells.specs.Cells.{CellsValue, cells_claim, cells_done, cells_has, cells_uplink, endpoints_of, ring_of}
-use Rattle.unit_cells.specs.Keeping.{SameKnown}
-use Rattle.unit_cells.proofs.KeepLemmas.{at_config, at_rings}
-use Rattle.unit_cells.proofs.TimeLemmas.{far_no_place, live_at, no_uplink_from}
+use Rattle.history_laws.specs.air_source.specs.declared.events.Side.TheVariants.{Ru}
+use Rattle.history_laws.specs.window_config.specs.declared.config.Config.{Config}
+use Rattle.history_laws.specs.window_config.specs.declared.endpoints.EndpointConfig.{EndpointConfig}
+use Rattle.history_laws.specs.air_source.specs.declared.events.AirCell.{AirCell}
+use Rattle.history_laws.specs.unit_model.specs.Claims.{claim_at}
+use Rattle.history_laws.specs.unit_model.specs.Counts.{cells_counted}
+use Rattle.history_laws.specs.unit_model.specs.Lists.{some}
+use Rattle.history_laws.specs.unit_model.specs.Proper.{IsAt, IsSlot}
+use Rattle.history_laws.specs.unit_model.specs.Radiated.{is_used, used_below}
+use Rattle.history_laws.specs.unit_model.specs.Reports.{accepted_of, timely_of}
+use Rattle.history_laws.specs.unit_model.specs.Standing.{History, cell_heard, uplink_of}
+use Rattle.history_laws.specs.unit_model.specs.Starts.{start_at}
+use Rattle.history_laws.specs.unit_model.specs.Uplink.{symbol_jobs}
+use Rattle.history_laws.specs.unit_model.specs.declared.allocations.Allocation.{Allocation}
+use Rattle.history_laws.specs.unit_model.specs.declared.cells.Claim.{Claim}
+use Rattle.history_laws.specs.unit_model.specs.declared.jobs.UplinkJob.{UplinkJob}
+use Rattle.history_laws.specs.unit_model.specs.declared.symbol_start.SymbolStart.{SymbolStart}
+use Rattle.history_laws.specs.unit_laws.specs.Swept.{IsSwept}
+use Rattle.history_laws.specs.unit_laws.specs.Ticks.{IsLiveSlot}
+use Rattle.history_laws.specs.unit_laws.proofs.FrameLemmas.{symbols_are_swept}
+use Rattle.ru_reports.specs.slot_rings.specs.Places.{is_due}
+use Rattle.ru_reports.specs.unit_cells.specs.Cells.{CellsValue, cells_claim, cells_done, cells_has, cells_uplink, endpoints_of, ring_of}
+use Rattle.ru_reports.specs.unit_cells.specs.Keeping.{SameKnown}
+use Rattle.ru_reports.specs.unit_cells.proofs.KeepLemmas.{at_config, at_rings}
+use Rattle.ru_reports.specs.unit_cells.proofs.TimeLemmas.{far_no_place, live_at, no_uplink_from}
 use Rattle.history_laws.proofs.FirstLemmas.{first_is_first}
 use Rattle.ru_jobs.specs.Cursors.{IsFirstJob, IsJobSymbol, Settled, at_start, jobs_left, left_in, left_jobs}
 use Rattle.ru_jobs.specs.declared.cursor.JobCursor.{JobCursor}

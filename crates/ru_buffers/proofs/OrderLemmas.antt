@@ -7,23 +7,23 @@ use Rattle.std.proofs.lemmas.Bool.{cases_Bool, eq-eqb, eqb-true}
 use Rattle.std.proofs.lemmas.Bool.Decides.{nat_tests}
 use Rattle.std.proofs.lemmas.Int.{ints}
 use Rattle.std.proofs.lemmas.List.Folds.{list_any-append}
-use Rattle.unit_model.specs.Claims.{cell_at}
-use Rattle.unit_model.specs.Proper.{IsAt}
+use Rattle.history_laws.specs.unit_model.specs.Claims.{cell_at}
+use Rattle.history_laws.specs.unit_model.specs.Proper.{IsAt}
 use Rattle.fh_time.specs.declared.values.Slot.{Slot}
-use Rattle.air_source.specs.declared.events.AirCell.{AirCell}
-use Rattle.air_source.specs.declared.events.Side.TheVariants.{Ru}
-use Rattle.window_config.specs.declared.endpoints.EndpointConfig.{EndpointConfig}
-use Rattle.unit_model.specs.Claims.{same_slot}
-use Rattle.unit_model.specs.Lists.{each, some}
-use Rattle.unit_model.specs.Order.{comes_before, slot_before, symbol_before}
-use Rattle.unit_model.specs.Radiated.{air_cell, used_mask}
-use Rattle.unit_model.specs.declared.cells.Cell.{Cell}
-use Rattle.unit_model.specs.declared.symbol_start.SymbolStart.{SymbolStart}
-use Rattle.unit_laws.proofs.CellLemmas.{slots_equal}
-use Rattle.unit_laws.proofs.FarLemmas.{endpoints_equal}
-use Rattle.slot_rings.specs.Places.{is_due}
-use Rattle.slot_rings.proofs.PlaceLemmas.{slot_own}
-use Rattle.unit_cells.specs.Cells.{CellsValue, IsCellIn, cells_block, cells_claim, cells_done, endpoints_of}
+use Rattle.history_laws.specs.air_source.specs.declared.events.AirCell.{AirCell}
+use Rattle.history_laws.specs.air_source.specs.declared.events.Side.TheVariants.{Ru}
+use Rattle.history_laws.specs.window_config.specs.declared.endpoints.EndpointConfig.{EndpointConfig}
+use Rattle.history_laws.specs.unit_model.specs.Claims.{same_slot}
+use Rattle.history_laws.specs.unit_model.specs.Lists.{each, some}
+use Rattle.history_laws.specs.unit_model.specs.Order.{comes_before, slot_before, symbol_before}
+use Rattle.history_laws.specs.unit_model.specs.Radiated.{air_cell, used_mask}
+use Rattle.history_laws.specs.unit_model.specs.declared.cells.Cell.{Cell}
+use Rattle.history_laws.specs.unit_model.specs.declared.symbol_start.SymbolStart.{SymbolStart}
+use Rattle.history_laws.specs.unit_laws.proofs.CellLemmas.{slots_equal}
+use Rattle.history_laws.specs.unit_laws.proofs.FarLemmas.{endpoints_equal}
+use Rattle.ru_reports.specs.slot_rings.specs.Places.{is_due}
+use Rattle.ru_reports.specs.slot_rings.proofs.PlaceLemmas.{slot_own}
+use Rattle.ru_reports.specs.unit_cells.specs.Cells.{CellsValue, IsCellIn, cells_block, cells_claim, cells_done, endpoints_of}
 use Rattle.ru_reports.specs.Symbols.{IsSymbol, MarksTold, cell_in, is_left, is_told, left_at, left_told}
 use Rattle.ru_buffers.specs.Reporting.{IsFirstLeft, IsLeftAfter}
 use Rattle.ru_buffers.proofs.MarkedLemmas.{used_same}

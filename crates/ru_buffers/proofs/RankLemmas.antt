@@ -6,11 +6,11 @@ use Rattle.std.specs.Ordering.{int_eq}
 use Rattle.std.proofs.lemmas.Bool.Decides.{nat_tests}
 use Rattle.std.proofs.lemmas.Int.{ints}
 use Rattle.fh_time.specs.declared.values.Slot.{Slot}
-use Rattle.unit_model.specs.Claims.{same_slot}
-use Rattle.unit_model.specs.Order.{comes_before, slot_before, symbol_before}
-use Rattle.unit_model.specs.declared.symbol_start.SymbolStart.{SymbolStart}
-use Rattle.unit_model.proofs.SweepLaws.{gap_is}
-use Rattle.unit_laws.proofs.CellLemmas.{slots_equal}
+use Rattle.history_laws.specs.unit_model.specs.Claims.{same_slot}
+use Rattle.history_laws.specs.unit_model.specs.Order.{comes_before, slot_before, symbol_before}
+use Rattle.history_laws.specs.unit_model.specs.declared.symbol_start.SymbolStart.{SymbolStart}
+use Rattle.history_laws.specs.unit_model.proofs.SweepLaws.{gap_is}
+use Rattle.history_laws.specs.unit_laws.proofs.CellLemmas.{slots_equal}
 use Rattle.ru_buffers.specs.Advancing.{rank_of, rank_past}
 
 -- a symbol whose place has a number

@@ -3,15 +3,15 @@ use Rattle.std.proofs.Common.{ℕ, ℤ, pos, ◌+◌, ◌*◌, ◌≤ℤ◌, ◌
 use Rattle.std.proofs.lemmas.Int.{ints, clamps}
 use Rattle.fh_time.specs.Kinds.{kind_start}
 use Rattle.fh_time.specs.declared.values.Slot.{Slot}
-use Rattle.window_config.specs.Limits.{IsWithinLimits}
-use Rattle.window_config.specs.Rings.{ru_reach_of}
-use Rattle.window_config.specs.declared.delays.Delays.{Delays}
-use Rattle.window_config.specs.declared.endpoints.EndpointConfig.{EndpointConfig}
-use Rattle.unit_model.specs.Proper.{IsSlot}
-use Rattle.unit_model.specs.Radiated.{first_clock}
-use Rattle.unit_model.specs.Sweeps.{frame_of_tick}
-use Rattle.unit_laws.specs.Swept.{IsSwept}
-use Rattle.unit_laws.specs.Ticks.{IsLiveSlot}
+use Rattle.history_laws.specs.window_config.specs.Limits.{IsWithinLimits}
+use Rattle.history_laws.specs.window_config.specs.Rings.{ru_reach_of}
+use Rattle.history_laws.specs.window_config.specs.declared.delays.Delays.{Delays}
+use Rattle.history_laws.specs.window_config.specs.declared.endpoints.EndpointConfig.{EndpointConfig}
+use Rattle.history_laws.specs.unit_model.specs.Proper.{IsSlot}
+use Rattle.history_laws.specs.unit_model.specs.Radiated.{first_clock}
+use Rattle.history_laws.specs.unit_model.specs.Sweeps.{frame_of_tick}
+use Rattle.history_laws.specs.unit_laws.specs.Swept.{IsSwept}
+use Rattle.history_laws.specs.unit_laws.specs.Ticks.{IsLiveSlot}
 use Rattle.fh_time.proofs.Euclid.{frame_floor}
 
 before_most : (d : Delays) → IsWithinLimits d → (ru_reach_of d).before ≤ℤ pos 4000000

@@ -10,50 +10,50 @@ use Rattle.fh_time.specs.Air.{air_of}
 use Rattle.fh_time.specs.Numbering.{symbols_of}
 use Rattle.fh_time.specs.declared.values.Slot.{Slot}
 use Rattle.fh_time.proofs.Euclid.{frame_floor}
-use Rattle.air_source.specs.declared.events.AirCell.{AirCell}
-use Rattle.air_source.specs.declared.events.Side.{Side}
-use Rattle.air_source.specs.declared.events.Side.TheVariants.{Ru}
-use Rattle.window_config.specs.Limits.{IsWithinLimits}
-use Rattle.window_config.specs.Rings.{ru_reach_of}
-use Rattle.window_config.specs.declared.config.Config.{Config}
-use Rattle.window_config.specs.declared.delays.Delays.{Delays}
-use Rattle.window_config.specs.declared.endpoints.EndpointConfig.{EndpointConfig}
-use Rattle.unit_model.specs.Blocks.{block_at, timely}
-use Rattle.unit_model.specs.Claims.{claim_at}
-use Rattle.unit_model.specs.Lists.{each, some}
-use Rattle.unit_model.specs.Proper.{IsAt, IsProperData, IsSlot}
-use Rattle.unit_model.specs.Radiated.{Known, air_cell, cell_report, first_clock, is_used, report_of, symbol_report, used_below, used_mask}
-use Rattle.unit_model.specs.Reports.{accepted_of, data_of, ru_known, timely_of}
-use Rattle.unit_model.specs.Standing.{IsCell, IsLiveAt, cell_heard, still_reported}
-use Rattle.unit_model.specs.Sweeps.{frame_of_tick}
-use Rattle.unit_model.specs.declared.cells.Block.{Block}
-use Rattle.unit_model.specs.declared.cells.Cell.{Cell}
-use Rattle.unit_model.specs.declared.cells.Claim.{Claim}
-use Rattle.unit_model.specs.declared.decoded.Data.{Data}
-use Rattle.unit_model.specs.declared.symbol_start.SymbolStart.{SymbolStart}
-use Rattle.unit_laws.specs.Far.{IsFar}
-use Rattle.unit_laws.specs.Swept.{IsSwept}
-use Rattle.unit_laws.specs.Ticks.{IsLiveSlot}
-use Rattle.unit_laws.proofs.AheadLemmas.{no_reports_ahead}
-use Rattle.unit_laws.proofs.ChangeLemmas.{timely_more}
-use Rattle.unit_laws.proofs.DueLemmas.{unheard}
-use Rattle.unit_laws.proofs.HistoryLemmas.{data_are_proper}
-use Rattle.unit_laws.proofs.LookupLemmas.{reported_by_mark}
-use Rattle.unit_laws.proofs.ReportLemmas.{report_same}
-use Rattle.unit_laws.proofs.SweepLemmas.{IsKept, each_related, none_kept}
-use Rattle.unit_laws.proofs.TickLemmas.{starts_later}
-use Rattle.slot_rings.specs.Places.{is_due}
-use Rattle.unit_cells.specs.Cells.{CellsValue, cells_block, cells_claim, cells_done, cells_has, ring_of}
-use Rattle.unit_cells.specs.Told.{IsTold}
-use Rattle.unit_cells.proofs.KeepLemmas.{at_rings}
-use Rattle.unit_cells.proofs.TimeLemmas.{far_no_place, live_at, no_claim_from}
-use Rattle.unit_cells.proofs.ToldLemmas.{told_whole}
+use Rattle.history_laws.specs.air_source.specs.declared.events.AirCell.{AirCell}
+use Rattle.history_laws.specs.air_source.specs.declared.events.Side.{Side}
+use Rattle.history_laws.specs.air_source.specs.declared.events.Side.TheVariants.{Ru}
+use Rattle.history_laws.specs.window_config.specs.Limits.{IsWithinLimits}
+use Rattle.history_laws.specs.window_config.specs.Rings.{ru_reach_of}
+use Rattle.history_laws.specs.window_config.specs.declared.config.Config.{Config}
+use Rattle.history_laws.specs.window_config.specs.declared.delays.Delays.{Delays}
+use Rattle.history_laws.specs.window_config.specs.declared.endpoints.EndpointConfig.{EndpointConfig}
+use Rattle.history_laws.specs.unit_model.specs.Blocks.{block_at, timely}
+use Rattle.history_laws.specs.unit_model.specs.Claims.{claim_at}
+use Rattle.history_laws.specs.unit_model.specs.Lists.{each, some}
+use Rattle.history_laws.specs.unit_model.specs.Proper.{IsAt, IsProperData, IsSlot}
+use Rattle.history_laws.specs.unit_model.specs.Radiated.{Known, air_cell, cell_report, first_clock, is_used, report_of, symbol_report, used_below, used_mask}
+use Rattle.history_laws.specs.unit_model.specs.Reports.{accepted_of, data_of, ru_known, timely_of}
+use Rattle.history_laws.specs.unit_model.specs.Standing.{IsCell, IsLiveAt, cell_heard, still_reported}
+use Rattle.history_laws.specs.unit_model.specs.Sweeps.{frame_of_tick}
+use Rattle.history_laws.specs.unit_model.specs.declared.cells.Block.{Block}
+use Rattle.history_laws.specs.unit_model.specs.declared.cells.Cell.{Cell}
+use Rattle.history_laws.specs.unit_model.specs.declared.cells.Claim.{Claim}
+use Rattle.history_laws.specs.unit_model.specs.declared.decoded.Data.{Data}
+use Rattle.history_laws.specs.unit_model.specs.declared.symbol_start.SymbolStart.{SymbolStart}
+use Rattle.history_laws.specs.unit_laws.specs.Far.{IsFar}
+use Rattle.history_laws.specs.unit_laws.specs.Swept.{IsSwept}
+use Rattle.history_laws.specs.unit_laws.specs.Ticks.{IsLiveSlot}
+use Rattle.history_laws.specs.unit_laws.proofs.AheadLemmas.{no_reports_ahead}
+use Rattle.history_laws.specs.unit_laws.proofs.ChangeLemmas.{timely_more}
+use Rattle.history_laws.specs.unit_laws.proofs.DueLemmas.{unheard}
+use Rattle.history_laws.specs.unit_laws.proofs.HistoryLemmas.{data_are_proper}
+use Rattle.history_laws.specs.unit_laws.proofs.LookupLemmas.{reported_by_mark}
+use Rattle.history_laws.specs.unit_laws.proofs.ReportLemmas.{report_same}
+use Rattle.history_laws.specs.unit_laws.proofs.SweepLemmas.{IsKept, each_related, none_kept}
+use Rattle.history_laws.specs.unit_laws.proofs.TickLemmas.{starts_later}
+use Rattle.ru_reports.specs.slot_rings.specs.Places.{is_due}
+use Rattle.ru_reports.specs.unit_cells.specs.Cells.{CellsValue, cells_block, cells_claim, cells_done, cells_has, ring_of}
+use Rattle.ru_reports.specs.unit_cells.specs.Told.{IsTold}
+use Rattle.ru_reports.specs.unit_cells.proofs.KeepLemmas.{at_rings}
+use Rattle.ru_reports.specs.unit_cells.proofs.TimeLemmas.{far_no_place, live_at, no_claim_from}
+use Rattle.ru_reports.specs.unit_cells.proofs.ToldLemmas.{told_whole}
 use Rattle.ru_jobs.specs.declared.cursor.JobCursor.{JobCursor}
 use Rattle.ru_memory.specs.declared.memory.RuMemory.{RuMemory}
 use Rattle.ru_reports.specs.Symbols.{IsSymbol, cell_in, is_left, left_at, left_told}
 use Rattle.ru_buffers.specs.Reporting.{LeftByLookup}
 use Rattle.ru_buffers.specs.Units.{Keeps}
-use Rattle.unit_model.specs.Standing.{History}
+use Rattle.history_laws.specs.unit_model.specs.Standing.{History}
 
 -- ---- times
 

@@ -1,15 +1,15 @@
 -- What the calls of a radio unit say of the histories for which it stands (this project's profile).
 use Rattle.std.specs.Prelude.{◌≡◌, ℤ, ◌<ℤ◌, List, [], ◌∷◌, ◌++◌, map, if◌then◌else◌, int_lt, Option, Some, None}
-use Rattle.air_source.specs.declared.events.AirCell.{AirCell}
-use Rattle.air_source.specs.declared.events.Event.{Event}
-use Rattle.air_source.specs.declared.events.Event.TheVariants.{Cell as Reported}
+use Rattle.history_laws.specs.air_source.specs.declared.events.AirCell.{AirCell}
+use Rattle.history_laws.specs.air_source.specs.declared.events.Event.{Event}
+use Rattle.history_laws.specs.air_source.specs.declared.events.Event.TheVariants.{Cell as Reported}
 use Rattle.fh_time.specs.declared.values.Ticks.{Ticks}
-use Rattle.window_config.specs.declared.config.Config.{Config}
-use Rattle.unit_model.specs.Reports.{accepted_of}
-use Rattle.unit_model.specs.Standing.{History, IsLiveAt, StandsBy, handed, heard, still_given}
-use Rattle.unit_model.specs.declared.jobs.UplinkJob.{UplinkJob}
-use Rattle.unit_model.specs.declared.symbol_start.SymbolStart.{SymbolStart}
-use Rattle.unit_cells.specs.Cells.{CellsValue, cells_uplink}
+use Rattle.history_laws.specs.window_config.specs.declared.config.Config.{Config}
+use Rattle.history_laws.specs.unit_model.specs.Reports.{accepted_of}
+use Rattle.history_laws.specs.unit_model.specs.Standing.{History, IsLiveAt, StandsBy, handed, heard, still_given}
+use Rattle.history_laws.specs.unit_model.specs.declared.jobs.UplinkJob.{UplinkJob}
+use Rattle.history_laws.specs.unit_model.specs.declared.symbol_start.SymbolStart.{SymbolStart}
+use Rattle.ru_reports.specs.unit_cells.specs.Cells.{CellsValue, cells_uplink}
 use Rattle.ru_jobs.specs.Cursors.{IsFirstJob, IsJobSymbol, left_in}
 use Rattle.ru_jobs.specs.declared.cursor.JobCursor.{JobCursor}
 use Rattle.ru_jobs.specs.declared.cursor.NextJob.{NextJob}

@@ -1,13 +1,13 @@
 -- How what a radio unit keeps goes on, as its messages are given and as time passes (this project's profile).
 use Rattle.std.specs.Prelude.{◌≡◌, ◌≢◌, ℤ, ◌≤ℤ◌, ◌<ℤ◌, [], ◌∷◌, ◌++◌}
-use Rattle.air_source.specs.declared.events.Side.TheVariants.{Ru}
-use Rattle.window_config.specs.declared.config.Config.{Config}
-use Rattle.unit_model.specs.Proper.{IsTime}
-use Rattle.unit_model.specs.Reports.{accepted_of, ru_known}
-use Rattle.unit_model.specs.Standing.{History, at_clock, due, handed, still_given}
-use Rattle.unit_model.specs.declared.symbol_start.SymbolStart.{SymbolStart}
-use Rattle.unit_laws.specs.Runs.{OffsetsFit}
-use Rattle.unit_cells.specs.Cells.{cells_uplink}
+use Rattle.history_laws.specs.air_source.specs.declared.events.Side.TheVariants.{Ru}
+use Rattle.history_laws.specs.window_config.specs.declared.config.Config.{Config}
+use Rattle.history_laws.specs.unit_model.specs.Proper.{IsTime}
+use Rattle.history_laws.specs.unit_model.specs.Reports.{accepted_of, ru_known}
+use Rattle.history_laws.specs.unit_model.specs.Standing.{History, at_clock, due, handed, still_given}
+use Rattle.history_laws.specs.unit_model.specs.declared.symbol_start.SymbolStart.{SymbolStart}
+use Rattle.history_laws.specs.unit_laws.specs.Runs.{OffsetsFit}
+use Rattle.ru_reports.specs.unit_cells.specs.Cells.{cells_uplink}
 use Rattle.ru_jobs.specs.Cursors.{GivenOne, IsFirstJob, IsJobSymbol, Settled, left_in}
 use Rattle.ru_jobs.specs.declared.cursor.JobCursor.{JobCursor}
 use Rattle.ru_jobs.specs.declared.cursor.NextJob.{NextJob}

@@ -1,16 +1,16 @@
 -- What a radio unit is still to report, by what its memory holds: what the definitions tell over all that came is told by look-up of
 -- the symbols that start after the clock (this project's profile).
 use Rattle.std.specs.Prelude.{◌≡◌, ◌≢◌, ℤ, true, false, ◌<ℤ◌, ◌≤ℤ◌, List, [], ◌++◌}
-use Rattle.air_source.specs.declared.events.AirCell.{AirCell}
-use Rattle.air_source.specs.declared.events.Side.TheVariants.{Ru}
-use Rattle.window_config.specs.declared.config.Config.{Config}
-use Rattle.unit_model.specs.Order.{comes_before}
-use Rattle.unit_model.specs.Reports.{ru_known}
-use Rattle.unit_model.specs.Standing.{History, due, heard, still_reported}
-use Rattle.unit_model.specs.declared.symbol_start.SymbolStart.{SymbolStart}
-use Rattle.unit_laws.specs.Runs.{OffsetsFit}
-use Rattle.unit_laws.specs.Swept.{IsSwept}
-use Rattle.unit_cells.specs.Cells.{CellsValue}
+use Rattle.history_laws.specs.air_source.specs.declared.events.AirCell.{AirCell}
+use Rattle.history_laws.specs.air_source.specs.declared.events.Side.TheVariants.{Ru}
+use Rattle.history_laws.specs.window_config.specs.declared.config.Config.{Config}
+use Rattle.history_laws.specs.unit_model.specs.Order.{comes_before}
+use Rattle.history_laws.specs.unit_model.specs.Reports.{ru_known}
+use Rattle.history_laws.specs.unit_model.specs.Standing.{History, due, heard, still_reported}
+use Rattle.history_laws.specs.unit_model.specs.declared.symbol_start.SymbolStart.{SymbolStart}
+use Rattle.history_laws.specs.unit_laws.specs.Runs.{OffsetsFit}
+use Rattle.history_laws.specs.unit_laws.specs.Swept.{IsSwept}
+use Rattle.ru_reports.specs.unit_cells.specs.Cells.{CellsValue}
 use Rattle.history_laws.specs.First.{FirstIsFirst, NothingIsNothing}
 use Rattle.ru_jobs.specs.declared.cursor.JobCursor.{JobCursor}
 use Rattle.ru_memory.specs.declared.memory.RuMemory.{RuMemory}

@@ -5,10 +5,10 @@ ghost use Rattle.ru_buffers.specs.Control.{has_control};
 
 use ecpri_frames::messages;
 use fh_time::Ticks;
+use history_laws::unit_model::SymbolStart;
 use ru_jobs::{JobCursor, NextJob, next_job};
 use ru_reports::first_left;
-use unit_cells::UnitCells;
-use unit_model::SymbolStart;
+use ru_reports::unit_cells::UnitCells;
 
 /// The type of messages of real-time control data (eCPRI 2.0, section 3.2.4.3).
 const CONTROL: u8 = 2;

@@ -11,5 +11,8 @@ mod messages;
 mod reporting;
 mod unit;
 
+pub use history_laws::unit_model::{Delivered, UplinkJob};
+pub use ru_memory;
+pub use ru_reports;
+pub use ru_reports::unit_cells;
 pub use unit::Ru;
-pub use unit_model::{Delivered, UplinkJob};

@@ -1,15 +1,15 @@
 // The unit's uplink messages, and its next moment.
 ghost use Rattle.std.specs.Prelude.{◌≡◌, [], IfNone, IfSome};
-ghost use Rattle.window_config.specs.declared.config.Config.{Config};
-ghost use Rattle.unit_model.specs.ProperJobs.{IsProperJob};
-ghost use Rattle.unit_model.specs.Standing.{History};
+ghost use Rattle.history_laws.specs.window_config.specs.declared.config.Config.{Config};
+ghost use Rattle.history_laws.specs.unit_model.specs.ProperJobs.{IsProperJob};
+ghost use Rattle.history_laws.specs.unit_model.specs.Standing.{History};
 ghost use Rattle.ru_buffers.specs.Calls.{earlier_time};
 
 use crate::finding::find_message;
 use crate::reporting::starts_by;
 use crate::unit::Ru;
 use fh_time::Ticks;
-use unit_model::UplinkJob;
+use history_laws::unit_model::UplinkJob;
 
 impl Ru {
     ghost use Rattle.ru_buffers.specs.Calls.{GivesJob, HasGivenPast, IsCellMoment, IsDue, IsMessageMoment, StandsFor, given_of};

@@ -1,17 +1,17 @@
 // The unit's cells, as time passes.
 ghost use Rattle.std.specs.Prelude.{◌≡◌, ◌≤ℤ◌, ◌<ℤ◌, true, false, OnErr, OnOk, map};
-ghost use Rattle.air_source.specs.Causes.{HasAirCause};
-ghost use Rattle.air_source.specs.declared.events.Event.TheVariants.{Cell as Reported};
-ghost use Rattle.window_config.specs.declared.config.Config.{Config};
-ghost use Rattle.unit_model.specs.Proper.{IsTime};
-ghost use Rattle.unit_model.specs.Standing.{History, at_clock, heard};
+ghost use Rattle.history_laws.specs.air_source.specs.Causes.{HasAirCause};
+ghost use Rattle.history_laws.specs.air_source.specs.declared.events.Event.TheVariants.{Cell as Reported};
+ghost use Rattle.history_laws.specs.window_config.specs.declared.config.Config.{Config};
+ghost use Rattle.history_laws.specs.unit_model.specs.Proper.{IsTime};
+ghost use Rattle.history_laws.specs.unit_model.specs.Standing.{History, at_clock, heard};
 
 use crate::finding::find_symbol;
 use crate::unit::Ru;
-use air_source::{Air, AirFault};
 use fh_time::Ticks;
+use history_laws::air_source::{Air, AirFault};
+use history_laws::unit_model::SymbolStart;
 use ru_reports::report;
-use unit_model::SymbolStart;
 
 /// Whether a symbol starts by a time.
 pub(crate) fn starts_by(m: &SymbolStart, to: Ticks) -> bool
@@ -24,8 +24,8 @@ pub(crate) fn starts_by(m: &SymbolStart, to: Ticks) -> bool
 impl Ru {
     ghost use Rattle.ru_buffers.specs.Calls.{HasGivenPast, IsNextSymbol, StandsFor, StandsForSome, StopsAtDue, given_of};
     ghost use Rattle.ru_buffers.specs.Advancing.{AfterReport, InOrder, ToldAll};
-    ghost use Rattle.unit_cells.specs.Cells.{endpoints_of};
-    ghost use Rattle.unit_cells.specs.Keeping.{SameKnown};
+    ghost use Rattle.ru_reports.specs.unit_cells.specs.Cells.{endpoints_of};
+    ghost use Rattle.ru_reports.specs.unit_cells.specs.Keeping.{SameKnown};
     ghost use Rattle.std.specs.Prelude.{IfErr, IfOk, ◌-ℤ◌, ◌^◌, ◌≤◌, pos, neg_ℤ, [], length};
     ghost use Rattle.ru_buffers.specs.Reporting.{due_of};
 

@@ -2,20 +2,20 @@
 ghost use Rattle.std.specs.Prelude.{◌≡◌, ◌-◌, ◌^◌, List, IfOk, length, min, true, false};
 ghost use Rattle.ecpri_frames.specs.Gathering.{whole_messages};
 ghost use Rattle.ecpri_frames.specs.Messages.{pdu};
-ghost use Rattle.window_config.specs.Configs.{IsConfig};
-ghost use Rattle.window_config.specs.declared.config.Config.{Config as SpecConfig};
-ghost use Rattle.unit_model.specs.Standing.{History, arrived, nothing_yet};
+ghost use Rattle.history_laws.specs.window_config.specs.Configs.{IsConfig};
+ghost use Rattle.history_laws.specs.window_config.specs.declared.config.Config.{Config as SpecConfig};
+ghost use Rattle.history_laws.specs.unit_model.specs.Standing.{History, arrived, nothing_yet};
 
 use crate::finding::{find_message, find_symbol, has_control};
-use air_source::Side;
 use fault_counters::Counters;
 use fh_base::NoMemory;
 use fh_time::Ticks;
+use history_laws::air_source::Side;
+use history_laws::unit_model::{Delivered, SymbolStart};
+use history_laws::window_config::Config;
 use ru_jobs::{JobCursor, NextJob};
 use ru_memory::RuMemory;
 use std::alloc::Global;
-use unit_model::{Delivered, SymbolStart};
-use window_config::Config;
 
 /// A unit's clock begins one frame before 0.
 const FIRST_CLOCK: Ticks = Ticks(-15_360_000_000);
@@ -38,10 +38,10 @@ pub struct Ru {
 
 impl Ru {
     ghost use Rattle.ru_buffers.specs.Calls.{HasGivenPast, IsNextMessage, IsNextSymbol, StandsFor, StandsForSome};
-    ghost use Rattle.unit_model.specs.Counts.{StandAt, cells_counted};
-    ghost use Rattle.unit_model.specs.Reports.{arrivals_counted};
+    ghost use Rattle.history_laws.specs.unit_model.specs.Counts.{StandAt, cells_counted};
+    ghost use Rattle.history_laws.specs.unit_model.specs.Reports.{arrivals_counted};
     ghost use Rattle.std.specs.Prelude.{◌++◌};
-    ghost use Rattle.air_source.specs.declared.events.Side.TheVariants.{Ru as AtRu};
+    ghost use Rattle.history_laws.specs.air_source.specs.declared.events.Side.TheVariants.{Ru as AtRu};
 
     /// Takes all memory of the unit. Its clock stands one frame before 0.
     ///

@@ -7,14 +7,14 @@ use Rattle.std.proofs.lemmas.List.{nil_from_length, drop_all}
 use Rattle.fh_time.specs.Numbering.{symbols_of}
 use Rattle.fh_time.specs.declared.values.Slot.{Slot}
 use Rattle.window_config.specs.declared.endpoints.EndpointConfig.{EndpointConfig}
-use Rattle.unit_model.specs.Order.{comes_before}
-use Rattle.unit_model.specs.Proper.{IsAt, IsSlot}
-use Rattle.unit_model.specs.Starts.{jobs_at, start_at}
-use Rattle.unit_model.specs.Uplink.{symbol_jobs}
-use Rattle.unit_model.specs.declared.allocations.Allocation.{Allocation}
-use Rattle.unit_model.specs.Lists.{in_order}
-use Rattle.unit_model.specs.declared.jobs.UplinkJob.{UplinkJob}
-use Rattle.unit_model.specs.declared.symbol_start.SymbolStart.{SymbolStart}
+use Rattle.unit_cells.specs.unit_model.specs.Order.{comes_before}
+use Rattle.unit_cells.specs.unit_model.specs.Proper.{IsAt, IsSlot}
+use Rattle.unit_cells.specs.unit_model.specs.Starts.{jobs_at, start_at}
+use Rattle.unit_cells.specs.unit_model.specs.Uplink.{symbol_jobs}
+use Rattle.unit_cells.specs.unit_model.specs.declared.allocations.Allocation.{Allocation}
+use Rattle.unit_cells.specs.unit_model.specs.Lists.{in_order}
+use Rattle.unit_cells.specs.unit_model.specs.declared.jobs.UplinkJob.{UplinkJob}
+use Rattle.unit_cells.specs.unit_model.specs.declared.symbol_start.SymbolStart.{SymbolStart}
 use Rattle.unit_cells.specs.Cells.{CellsValue, IsSlotIn, cells_has, cells_index, cells_uplink, endpoints_of}
 use Rattle.ru_jobs.specs.Cursors.{IsJobSymbol, at_start, jobs_left, left_behind, left_in, left_jobs}
 use Rattle.ru_jobs.specs.Firsts.{IsAtPlace, IsBelow, IsFirstLeft, IsFirstOf, IsInRing, IsInSlot, IsOfEndpoint, earlier}

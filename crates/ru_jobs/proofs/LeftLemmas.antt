@@ -3,11 +3,11 @@ use Rattle.std.proofs.Common.{◌≡◌, ℕ, ◌-◌, List, length, drop, sym, 
 use Rattle.std.specs.Prelude.{nat_lt, filter, reverse}
 use Rattle.std.proofs.lemmas.List.{length-drop}
 use Rattle.std.proofs.lemmas.Bool.Decides.{nat_tests}
-use Rattle.unit_model.specs.Starts.{jobs_at}
-use Rattle.unit_model.specs.Uplink.{sends_in}
-use Rattle.unit_model.specs.declared.allocations.Allocation.{Allocation}
-use Rattle.unit_model.specs.declared.jobs.UplinkJob.{UplinkJob}
-use Rattle.unit_model.specs.declared.symbol_start.SymbolStart.{SymbolStart}
+use Rattle.unit_cells.specs.unit_model.specs.Starts.{jobs_at}
+use Rattle.unit_cells.specs.unit_model.specs.Uplink.{sends_in}
+use Rattle.unit_cells.specs.unit_model.specs.declared.allocations.Allocation.{Allocation}
+use Rattle.unit_cells.specs.unit_model.specs.declared.jobs.UplinkJob.{UplinkJob}
+use Rattle.unit_cells.specs.unit_model.specs.declared.symbol_start.SymbolStart.{SymbolStart}
 use Rattle.ru_jobs.proofs.SortLemmas.{length_jobs}
 
 pub some_left : (xs : List Allocation) (m : SymbolStart) (given count : ℕ) (left : List UplinkJob) → left ≡ drop given (jobs_at (reverse xs) m)

@@ -4,14 +4,14 @@ use Rattle.std.specs.Int.{int_max}
 use Rattle.fh_time.specs.declared.values.Slot.{Slot}
 use Rattle.fh_time.specs.Air.{air_of}
 use Rattle.fh_time.specs.Numbering.{symbols_of}
-use Rattle.unit_model.specs.Order.{comes_before}
-use Rattle.unit_model.specs.Proper.{IsAt, IsSlot}
-use Rattle.unit_model.specs.Starts.{start_at}
-use Rattle.unit_model.specs.Sweeps.{OfSymbol}
-use Rattle.unit_model.specs.Uplink.{symbol_jobs}
-use Rattle.unit_model.specs.declared.allocations.Allocation.{Allocation}
-use Rattle.unit_model.specs.declared.jobs.UplinkJob.{UplinkJob}
-use Rattle.unit_model.specs.declared.symbol_start.SymbolStart.{SymbolStart}
+use Rattle.unit_cells.specs.unit_model.specs.Order.{comes_before}
+use Rattle.unit_cells.specs.unit_model.specs.Proper.{IsAt, IsSlot}
+use Rattle.unit_cells.specs.unit_model.specs.Starts.{start_at}
+use Rattle.unit_cells.specs.unit_model.specs.Sweeps.{OfSymbol}
+use Rattle.unit_cells.specs.unit_model.specs.Uplink.{symbol_jobs}
+use Rattle.unit_cells.specs.unit_model.specs.declared.allocations.Allocation.{Allocation}
+use Rattle.unit_cells.specs.unit_model.specs.declared.jobs.UplinkJob.{UplinkJob}
+use Rattle.unit_cells.specs.unit_model.specs.declared.symbol_start.SymbolStart.{SymbolStart}
 use Rattle.unit_cells.specs.Cells.{CellsValue, cells_has, cells_uplink, endpoints_of}
 use Rattle.ru_jobs.specs.declared.cursor.JobCursor.{JobCursor}
 use Rattle.ru_jobs.specs.declared.cursor.NextJob.{NextJob}

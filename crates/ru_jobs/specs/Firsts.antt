@@ -1,9 +1,9 @@
 -- The first symbol of some of which something is left (this project's profile).
 use Rattle.std.specs.Prelude.{◌≡◌, ℕ, ℤ, ◌<◌, Bool, true, int_lt, if◌then◌else◌, List, [], length, drop, Option, Some, None}
 use Rattle.fh_time.specs.declared.values.Slot.{Slot}
-use Rattle.unit_model.specs.Order.{comes_before}
-use Rattle.unit_model.specs.declared.jobs.UplinkJob.{UplinkJob}
-use Rattle.unit_model.specs.declared.symbol_start.SymbolStart.{SymbolStart}
+use Rattle.unit_cells.specs.unit_model.specs.Order.{comes_before}
+use Rattle.unit_cells.specs.unit_model.specs.declared.jobs.UplinkJob.{UplinkJob}
+use Rattle.unit_cells.specs.unit_model.specs.declared.symbol_start.SymbolStart.{SymbolStart}
 use Rattle.unit_cells.specs.Cells.{CellsValue, cells_index, cells_uplink}
 use Rattle.ru_jobs.specs.Cursors.{IsJobSymbol, left_in}
 use Rattle.ru_jobs.specs.declared.cursor.JobCursor.{JobCursor}

@@ -2,15 +2,15 @@
 ghost use Rattle.std.specs.Prelude.{◌≡◌, ◌<◌, true, length};
 ghost use Rattle.fh_time.specs.Numbering.{symbols_of};
 ghost use Rattle.unit_cells.specs.Cells.{cells_has, cells_places, endpoints_of};
-ghost use Rattle.unit_model.specs.Proper.{IsAt, IsSlot};
-ghost use Rattle.unit_model.specs.Starts.{start_at};
+ghost use Rattle.unit_cells.specs.unit_model.specs.Proper.{IsAt, IsSlot};
+ghost use Rattle.unit_cells.specs.unit_model.specs.Starts.{start_at};
 ghost use Rattle.ru_jobs.specs.Firsts.{IsAtPlace, IsBelow, IsFirstOf, IsInSlot, IsOfEndpoint, earlier};
 
 use crate::cursor::JobCursor;
 use crate::left::has_left;
 use fh_time::{Slot, air, shape};
 use unit_cells::UnitCells;
-use unit_model::{SymbolStart, comes_before};
+use unit_cells::unit_model::{SymbolStart, comes_before};
 use window_config::EndpointConfig;
 
 /// Of two first ones the one that comes first.

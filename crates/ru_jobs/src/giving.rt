@@ -1,7 +1,7 @@
 // The next message.
 ghost use Rattle.std.specs.Prelude.{◌≡◌, [], IfNone, IfSome};
 ghost use Rattle.std.specs.Int.{int_max};
-ghost use Rattle.unit_model.specs.declared.symbol_start.SymbolStart.{SymbolStart as SpecStart};
+ghost use Rattle.unit_cells.specs.unit_model.specs.declared.symbol_start.SymbolStart.{SymbolStart as SpecStart};
 ghost use Rattle.unit_cells.specs.Cells.{cells_uplink};
 ghost use Rattle.ru_jobs.specs.Cursors.{IsFirstJob, IsJobSymbol, left_in};
 

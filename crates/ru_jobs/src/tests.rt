@@ -14,7 +14,7 @@ use eaxc_map::Widths;
 use fh_time::{Numerology, Slot, Ticks, shape};
 use std::test::Fail;
 use unit_cells::UnitCells;
-use unit_model::{Command, CommandVerdict, UplinkJob};
+use unit_cells::unit_model::{Command, CommandVerdict, UplinkJob};
 use window_config::{Config, Delays, EndpointConfig, EndpointList};
 
 fn endpoint(numerology: Numerology) -> EndpointConfig

@@ -2,35 +2,35 @@
 use Rattle.std.proofs.Common.{◌≡◌, ℕ, suc, ℤ, ◌+◌, ◌-◌, ◌^◌, ◌≤ℤ◌, List, [], ◌∷◌, ◌++◌, All, refl, sym, ap, ◌∙◌, subst, arith}
 use Rattle.std.specs.Prelude.{length, min, Option}
 use Rattle.std.proofs.lemmas.List.Elements.{All-nil, All-cons, All-head, All-tail, All-weaker}
-use Rattle.air_source.specs.declared.events.Side.{Side}
+use Rattle.data_messages.specs.air_source.specs.declared.events.Side.{Side}
 use Rattle.ecpri_frames.specs.Gathering.{whole_messages}
 use Rattle.ecpri_frames.specs.declared.refusals.PduRefusal.{PduRefusal}
 use Rattle.ecpri_frames.specs.Messages.{Message as WholeMessage, pdu}
 use Rattle.fault_counters.specs.declared.kinds.Counter.{Counter}
 use Rattle.fault_counters.specs.declared.kinds.Counter.TheVariants as counter
 use Rattle.fault_counters.specs.Counts.{capped, once, times}
-use Rattle.window_config.specs.declared.config.Config.{Config}
-use Rattle.window_config.specs.declared.delays.Delays.{Delays}
-use Rattle.window_config.specs.declared.endpoints.EndpointConfig.{EndpointConfig}
-use Rattle.window_config.specs.declared.verdicts.Class.{Class}
-use Rattle.window_config.specs.declared.verdicts.Class.TheVariants.{Late, Early, OnTime}
-use Rattle.ecpri_fragments.specs.Generations.{Fragment}
-use Rattle.unit_model.specs.Blocks.{data_class, data_prb_count, data_verdicts, timely, with_timely}
-use Rattle.unit_model.specs.Commands.{command_verdicts}
-use Rattle.unit_model.specs.Counts.{commands_counted, data_counted, frames_counted, messages_counted, piece_counted, refusal_counted}
-use Rattle.unit_model.specs.Decoding.{data_now, data_sections, data_told}
-use Rattle.unit_model.specs.Lists.{onto}
-use Rattle.unit_model.specs.Meetings.{Arrival, Meeting, Ignored, Commands, Piece, commands, fragments, meetings, met_in}
-use Rattle.unit_model.specs.Counts.{counted_of}
-use Rattle.unit_model.specs.Proper.{IsProperData, IsTime}
-use Rattle.unit_model.specs.Reports.{commands_of, data_of, hold_of, met}
-use Rattle.unit_model.specs.Standing.{AreInTime}
-use Rattle.unit_model.specs.declared.decoded.Command.{Command}
-use Rattle.unit_model.specs.declared.decoded.Data.{Data}
-use Rattle.unit_model.proofs.CountLemmas.{times-append}
-use Rattle.unit_laws.proofs.HistoryLemmas.{data_are_proper}
-use Rattle.unit_cells.specs.Told.{IsTold}
-use Rattle.unit_cells.proofs.TimeLemmas.{keeps_later}
+use Rattle.data_messages.specs.window_config.specs.declared.config.Config.{Config}
+use Rattle.data_messages.specs.window_config.specs.declared.delays.Delays.{Delays}
+use Rattle.data_messages.specs.window_config.specs.declared.endpoints.EndpointConfig.{EndpointConfig}
+use Rattle.data_messages.specs.window_config.specs.declared.verdicts.Class.{Class}
+use Rattle.data_messages.specs.window_config.specs.declared.verdicts.Class.TheVariants.{Late, Early, OnTime}
+use Rattle.data_messages.specs.ecpri_fragments.specs.Generations.{Fragment}
+use Rattle.data_messages.specs.unit_model.specs.Blocks.{data_class, data_prb_count, data_verdicts, timely, with_timely}
+use Rattle.data_messages.specs.unit_model.specs.Commands.{command_verdicts}
+use Rattle.data_messages.specs.unit_model.specs.Counts.{commands_counted, data_counted, frames_counted, messages_counted, piece_counted, refusal_counted}
+use Rattle.data_messages.specs.unit_model.specs.Decoding.{data_now, data_sections, data_told}
+use Rattle.data_messages.specs.unit_model.specs.Lists.{onto}
+use Rattle.data_messages.specs.unit_model.specs.Meetings.{Arrival, Meeting, Ignored, Commands, Piece, commands, fragments, meetings, met_in}
+use Rattle.data_messages.specs.unit_model.specs.Counts.{counted_of}
+use Rattle.data_messages.specs.unit_model.specs.Proper.{IsProperData, IsTime}
+use Rattle.data_messages.specs.unit_model.specs.Reports.{commands_of, data_of, hold_of, met}
+use Rattle.data_messages.specs.unit_model.specs.Standing.{AreInTime}
+use Rattle.data_messages.specs.unit_model.specs.declared.decoded.Command.{Command}
+use Rattle.data_messages.specs.unit_model.specs.declared.decoded.Data.{Data}
+use Rattle.data_messages.specs.unit_model.proofs.CountLemmas.{times-append}
+use Rattle.data_messages.specs.unit_laws.proofs.HistoryLemmas.{data_are_proper}
+use Rattle.data_messages.specs.unit_cells.specs.Told.{IsTold}
+use Rattle.data_messages.specs.unit_cells.proofs.TimeLemmas.{keeps_later}
 use Rattle.ru_memory.specs.Memory.{Holds, HoldsLater, arrival}
 use Rattle.ru_memory.specs.Parts.{HoldsParts, Stands}
 use Rattle.ru_memory.specs.declared.memory.RuMemory.{RuMemory}

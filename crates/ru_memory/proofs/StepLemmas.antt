@@ -2,34 +2,34 @@
 use Rattle.std.proofs.Common.{◌≡◌, ℕ, ℤ, ◌+◌, ◌≤ℤ◌, List, [], ◌∷◌, ◌++◌, refl, sym, ap, ◌∙◌, subst, arith}
 use Rattle.std.specs.Prelude.{Option, Some}
 use Rattle.std.proofs.lemmas.List.Elements.{All-cons}
-use Rattle.air_source.specs.declared.events.Side.{Side}
-use Rattle.air_source.specs.declared.events.Side.TheVariants.{Ru}
+use Rattle.data_messages.specs.air_source.specs.declared.events.Side.{Side}
+use Rattle.data_messages.specs.air_source.specs.declared.events.Side.TheVariants.{Ru}
 use Rattle.data_messages.specs.Holding.{HoldsData}
-use Rattle.uplane_messages.specs.Joined.{joined}
-use Rattle.ecpri_fragments.specs.Assemblies.{Took}
-use Rattle.ecpri_fragments.specs.Generations.{Fragment}
-use Rattle.ecpri_fragments.specs.Verdicts.{Message, message, standing_before, verdict_on}
-use Rattle.ecpri_fragments.specs.declared.assembly.Assembly.{Assembly}
-use Rattle.ecpri_fragments.specs.declared.verdict.Verdict.{Verdict}
-use Rattle.ecpri_fragments.specs.declared.verdict.Verdict.TheVariants.{Whole}
+use Rattle.data_messages.specs.uplane_messages.specs.Joined.{joined}
+use Rattle.data_messages.specs.ecpri_fragments.specs.Assemblies.{Took}
+use Rattle.data_messages.specs.ecpri_fragments.specs.Generations.{Fragment}
+use Rattle.data_messages.specs.ecpri_fragments.specs.Verdicts.{Message, message, standing_before, verdict_on}
+use Rattle.data_messages.specs.ecpri_fragments.specs.declared.assembly.Assembly.{Assembly}
+use Rattle.data_messages.specs.ecpri_fragments.specs.declared.verdict.Verdict.{Verdict}
+use Rattle.data_messages.specs.ecpri_fragments.specs.declared.verdict.Verdict.TheVariants.{Whole}
 use Rattle.fault_counters.specs.declared.kinds.Counter.{Counter}
 use Rattle.fault_counters.specs.Counts.{capped, once, times}
-use Rattle.window_config.specs.declared.config.Config.{Config}
-use Rattle.window_config.specs.declared.endpoints.EndpointConfig.{EndpointConfig}
-use Rattle.unit_model.specs.Blocks.{data_verdicts}
-use Rattle.unit_model.specs.Commands.{accepted, allocation_of, command_verdict, command_verdicts, with_accepted}
-use Rattle.unit_model.specs.Counts.{commands_counted, data_counted, decoded_counted}
-use Rattle.unit_model.specs.Decoding.{Decoded, data_now, data_told, decode, decoded_now, sections_of, whole_of}
-use Rattle.unit_model.specs.Lists.{joined as all_joined, onto}
-use Rattle.unit_model.specs.Proper.{IsTime}
-use Rattle.unit_model.specs.declared.allocations.Allocation.{Allocation}
-use Rattle.unit_model.specs.declared.decoded.Command.{Command}
-use Rattle.unit_model.specs.declared.decoded.Data.{Data}
-use Rattle.unit_model.specs.declared.verdicts.CommandVerdict.{CommandVerdict}
-use Rattle.unit_model.proofs.SectionLemmas.{accepted_on}
-use Rattle.unit_model.proofs.CountLemmas.{times-append}
-use Rattle.unit_cells.specs.Cells.{CellsValue, IsOf, endpoints_of}
-use Rattle.unit_cells.specs.Keeping.{Keeps}
+use Rattle.data_messages.specs.window_config.specs.declared.config.Config.{Config}
+use Rattle.data_messages.specs.window_config.specs.declared.endpoints.EndpointConfig.{EndpointConfig}
+use Rattle.data_messages.specs.unit_model.specs.Blocks.{data_verdicts}
+use Rattle.data_messages.specs.unit_model.specs.Commands.{accepted, allocation_of, command_verdict, command_verdicts, with_accepted}
+use Rattle.data_messages.specs.unit_model.specs.Counts.{commands_counted, data_counted, decoded_counted}
+use Rattle.data_messages.specs.unit_model.specs.Decoding.{Decoded, data_now, data_told, decode, decoded_now, sections_of, whole_of}
+use Rattle.data_messages.specs.unit_model.specs.Lists.{joined as all_joined, onto}
+use Rattle.data_messages.specs.unit_model.specs.Proper.{IsTime}
+use Rattle.data_messages.specs.unit_model.specs.declared.allocations.Allocation.{Allocation}
+use Rattle.data_messages.specs.unit_model.specs.declared.decoded.Command.{Command}
+use Rattle.data_messages.specs.unit_model.specs.declared.decoded.Data.{Data}
+use Rattle.data_messages.specs.unit_model.specs.declared.verdicts.CommandVerdict.{CommandVerdict}
+use Rattle.data_messages.specs.unit_model.proofs.SectionLemmas.{accepted_on}
+use Rattle.data_messages.specs.unit_model.proofs.CountLemmas.{times-append}
+use Rattle.data_messages.specs.unit_cells.specs.Cells.{CellsValue, IsOf, endpoints_of}
+use Rattle.data_messages.specs.unit_cells.specs.Keeping.{Keeps}
 use Rattle.ru_memory.specs.Parts.{CameBy, HoldsParts, LeavesMarks}
 use Rattle.ru_memory.specs.declared.memory.RuMemory.{RuMemory}
 use Rattle.ru_memory.proofs.Times.{same_most}

@@ -3,11 +3,11 @@ use Rattle.std.proofs.Common.{◌≡◌, ℕ, ℤ, ◌≤ℤ◌, Bool, true, fal
 use Rattle.std.specs.Prelude.{◌==◌, ◌||◌, not, nat_lt, length}
 use Rattle.std.proofs.lemmas.Int.{ints}
 use Rattle.std.proofs.lemmas.List.Elements.{All-nil, All-cons, All-head, All-tail}
-use Rattle.air_source.specs.declared.events.Side.{Side}
-use Rattle.air_source.specs.declared.events.Side.TheVariants.{Ru, Du}
-use Rattle.ecpri_fragments.specs.Generations.{Fragment, Generation, begun, generations, generations_of, held_in, is_of, is_within, joined, of_id, with_fragment}
-use Rattle.ecpri_fragments.specs.Verdicts.{Message, first_of, message, refused, standing, standing_before, with_one}
-use Rattle.ecpri_fragments.specs.declared.verdict.Verdict.{Verdict}
+use Rattle.data_messages.specs.air_source.specs.declared.events.Side.{Side}
+use Rattle.data_messages.specs.air_source.specs.declared.events.Side.TheVariants.{Ru, Du}
+use Rattle.data_messages.specs.ecpri_fragments.specs.Generations.{Fragment, Generation, begun, generations, generations_of, held_in, is_of, is_within, joined, of_id, with_fragment}
+use Rattle.data_messages.specs.ecpri_fragments.specs.Verdicts.{Message, first_of, message, refused, standing, standing_before, with_one}
+use Rattle.data_messages.specs.ecpri_fragments.specs.declared.verdict.Verdict.{Verdict}
 use Rattle.ecpri_frames.specs.Gathering.{whole_messages}
 use Rattle.ecpri_frames.specs.Messages.{Message as WholeMessage}
 use Rattle.fault_counters.specs.declared.kinds.Counter.TheVariants.{CRefused, OtherType, Delay, Short}
@@ -15,11 +15,11 @@ use Rattle.cplane_sections.specs.declared.values.CHead.{CHead}
 use Rattle.cplane_sections.specs.declared.values.CRefusal.{CRefusal}
 use Rattle.cplane_sections.specs.Tests.{checked}
 use Rattle.fh_time.specs.Numbering.{shape_of}
-use Rattle.window_config.specs.declared.endpoints.EndpointConfig.{EndpointConfig}
-use Rattle.unit_model.specs.Meetings.{Arrival, Meeting, Ignored, Commands, Piece, application, command_met, control_met, command_read, find_endpoint, fragment_of, fragments, id_of, is_fragmented, meet, meetings, met_by, met_in, sequence_of}
-use Rattle.unit_model.specs.Proper.{IsTime}
-use Rattle.unit_model.specs.Standing.{AreInTime}
-use Rattle.unit_laws.proofs.OrderLemmas.{All-onto}
+use Rattle.data_messages.specs.window_config.specs.declared.endpoints.EndpointConfig.{EndpointConfig}
+use Rattle.data_messages.specs.unit_model.specs.Meetings.{Arrival, Meeting, Ignored, Commands, Piece, application, command_met, control_met, command_read, find_endpoint, fragment_of, fragments, id_of, is_fragmented, meet, meetings, met_by, met_in, sequence_of}
+use Rattle.data_messages.specs.unit_model.specs.Proper.{IsTime}
+use Rattle.data_messages.specs.unit_model.specs.Standing.{AreInTime}
+use Rattle.data_messages.specs.unit_laws.proofs.OrderLemmas.{All-onto}
 use Rattle.ru_memory.specs.Parts.{CameBy}
 use Rattle.std.specs.Prelude.{Result, Ok, Err}
 

@@ -1,19 +1,19 @@
 -- What a unit keeps of the frames that came (this project's profile): the fragments of messages of data, what is claimed and
 -- given, and what was counted.
 use Rattle.std.specs.Prelude.{◌≡◌, ℕ, ℤ, ◌≤ℤ◌, List, ◌++◌, length, All}
-use Rattle.air_source.specs.declared.events.Side.{Side}
-use Rattle.ecpri_fragments.specs.Assemblies.{StandsFor, endpoints_of, hold_of as assembly_hold}
+use Rattle.data_messages.specs.air_source.specs.declared.events.Side.{Side}
+use Rattle.data_messages.specs.ecpri_fragments.specs.Assemblies.{StandsFor, endpoints_of, hold_of as assembly_hold}
 use Rattle.fault_counters.specs.declared.kinds.Counter.{Counter}
-use Rattle.window_config.specs.Configs.{IsConfig}
-use Rattle.window_config.specs.declared.config.Config.{Config}
-use Rattle.unit_model.specs.Commands.{accepted}
-use Rattle.unit_model.specs.Counts.{StandAt}
-use Rattle.unit_model.specs.Meetings.{Arrival, fragments}
-use Rattle.unit_model.specs.Proper.{IsTime}
-use Rattle.unit_model.specs.Reports.{arrivals_counted, commands_of, hold_of, met, timely_of}
-use Rattle.unit_model.specs.Standing.{AreInTime}
-use Rattle.unit_cells.specs.Cells.{IsOf}
-use Rattle.unit_cells.specs.Keeping.{Keeps}
+use Rattle.data_messages.specs.window_config.specs.Configs.{IsConfig}
+use Rattle.data_messages.specs.window_config.specs.declared.config.Config.{Config}
+use Rattle.data_messages.specs.unit_model.specs.Commands.{accepted}
+use Rattle.data_messages.specs.unit_model.specs.Counts.{StandAt}
+use Rattle.data_messages.specs.unit_model.specs.Meetings.{Arrival, fragments}
+use Rattle.data_messages.specs.unit_model.specs.Proper.{IsTime}
+use Rattle.data_messages.specs.unit_model.specs.Reports.{arrivals_counted, commands_of, hold_of, met, timely_of}
+use Rattle.data_messages.specs.unit_model.specs.Standing.{AreInTime}
+use Rattle.data_messages.specs.unit_cells.specs.Cells.{IsOf}
+use Rattle.data_messages.specs.unit_cells.specs.Keeping.{Keeps}
 use Rattle.ru_memory.specs.declared.memory.RuMemory.{RuMemory}
 
 -- At a clock it holds what these arrivals leave, the newest first. What is counted beside them stands in a list of its own.

@@ -1,26 +1,26 @@
 -- The parts of what a unit keeps, and the fragments and sections for which they stand (this project's profile).
 use Rattle.std.specs.Prelude.{◌≡◌, ℕ, ℤ, ◌+◌, ◌≤ℤ◌, List, length, All}
-use Rattle.air_source.specs.declared.events.Side.{Side}
-use Rattle.ecpri_fragments.specs.Assemblies.{StandsFor, endpoints_of as places_of, hold_of as assembly_hold}
-use Rattle.ecpri_fragments.specs.declared.assembly.Assembly.{Assembly}
-use Rattle.ecpri_fragments.specs.Generations.{Fragment}
+use Rattle.data_messages.specs.air_source.specs.declared.events.Side.{Side}
+use Rattle.data_messages.specs.ecpri_fragments.specs.Assemblies.{StandsFor, endpoints_of as places_of, hold_of as assembly_hold}
+use Rattle.data_messages.specs.ecpri_fragments.specs.declared.assembly.Assembly.{Assembly}
+use Rattle.data_messages.specs.ecpri_fragments.specs.Generations.{Fragment}
 use Rattle.fault_counters.specs.declared.kinds.Counter.{Counter}
 use Rattle.fault_counters.specs.Counts.{capped, count_of, times}
-use Rattle.window_config.specs.Configs.{IsConfig}
-use Rattle.window_config.specs.declared.config.Config.{Config}
-use Rattle.unit_model.specs.Blocks.{data_verdicts, timely}
-use Rattle.unit_model.specs.Commands.{accepted, command_verdicts}
-use Rattle.unit_model.specs.Counts.{commands_counted, data_counted}
-use Rattle.unit_model.specs.Decoding.{data_sections}
-use Rattle.unit_model.specs.Meetings.{Arrival, Meeting, commands, fragments}
-use Rattle.unit_model.specs.Counts.{counted_of}
-use Rattle.unit_model.specs.Proper.{IsTime}
-use Rattle.unit_model.specs.Reports.{hold_of}
-use Rattle.unit_model.specs.declared.decoded.Command.{Command}
-use Rattle.unit_model.specs.declared.decoded.Data.{Data}
-use Rattle.unit_cells.specs.Cells.{CellsValue, IsOf, endpoints_of}
-use Rattle.unit_cells.specs.Keeping.{Keeps, SameMarks}
-use Rattle.unit_cells.specs.Told.{IsTold}
+use Rattle.data_messages.specs.window_config.specs.Configs.{IsConfig}
+use Rattle.data_messages.specs.window_config.specs.declared.config.Config.{Config}
+use Rattle.data_messages.specs.unit_model.specs.Blocks.{data_verdicts, timely}
+use Rattle.data_messages.specs.unit_model.specs.Commands.{accepted, command_verdicts}
+use Rattle.data_messages.specs.unit_model.specs.Counts.{commands_counted, data_counted}
+use Rattle.data_messages.specs.unit_model.specs.Decoding.{data_sections}
+use Rattle.data_messages.specs.unit_model.specs.Meetings.{Arrival, Meeting, commands, fragments}
+use Rattle.data_messages.specs.unit_model.specs.Counts.{counted_of}
+use Rattle.data_messages.specs.unit_model.specs.Proper.{IsTime}
+use Rattle.data_messages.specs.unit_model.specs.Reports.{hold_of}
+use Rattle.data_messages.specs.unit_model.specs.declared.decoded.Command.{Command}
+use Rattle.data_messages.specs.unit_model.specs.declared.decoded.Data.{Data}
+use Rattle.data_messages.specs.unit_cells.specs.Cells.{CellsValue, IsOf, endpoints_of}
+use Rattle.data_messages.specs.unit_cells.specs.Keeping.{Keeps, SameMarks}
+use Rattle.data_messages.specs.unit_cells.specs.Told.{IsTold}
 use Rattle.ru_memory.specs.declared.memory.RuMemory.{RuMemory}
 
 -- it came by the clock, at a time that a unit may be given

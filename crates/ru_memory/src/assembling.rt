@@ -1,28 +1,28 @@
 // A fragment, and the message that it makes whole.
 ghost use Rattle.std.specs.Prelude.{◌≡◌, ℕ, ◌+◌, ◌<◌, ◌++◌, List};
-ghost use Rattle.air_source.specs.declared.events.Side.{Side as SpecSide};
+ghost use Rattle.data_messages.specs.air_source.specs.declared.events.Side.{Side as SpecSide};
 ghost use Rattle.bfp_codec.specs.Layout.{HasWidth};
-ghost use Rattle.ecpri_fragments.specs.Assemblies.{StandsFor, Took, endpoints_of as places_of, hold_of};
-ghost use Rattle.ecpri_fragments.specs.Generations.{Fragment, fragment};
-ghost use Rattle.ecpri_fragments.specs.Verdicts.{verdict_on};
+ghost use Rattle.data_messages.specs.ecpri_fragments.specs.Assemblies.{StandsFor, Took, endpoints_of as places_of, hold_of};
+ghost use Rattle.data_messages.specs.ecpri_fragments.specs.Generations.{Fragment, fragment};
+ghost use Rattle.data_messages.specs.ecpri_fragments.specs.Verdicts.{verdict_on};
 ghost use Rattle.fault_counters.specs.declared.kinds.Counter.{Counter as SpecCounter};
 ghost use Rattle.fault_counters.specs.Counts.{times};
-ghost use Rattle.window_config.specs.declared.config.Config.{Config};
-ghost use Rattle.unit_model.specs.Counts.{decoded_counted};
-ghost use Rattle.unit_model.specs.Decoding.{data_now, data_told};
-ghost use Rattle.unit_model.specs.Proper.{IsAt, IsTime};
-ghost use Rattle.unit_model.specs.declared.allocations.Allocation.{Allocation};
-ghost use Rattle.unit_model.specs.declared.decoded.Data.{Data};
-ghost use Rattle.unit_cells.specs.Cells.{endpoints_of};
+ghost use Rattle.data_messages.specs.window_config.specs.declared.config.Config.{Config};
+ghost use Rattle.data_messages.specs.unit_model.specs.Counts.{decoded_counted};
+ghost use Rattle.data_messages.specs.unit_model.specs.Decoding.{data_now, data_told};
+ghost use Rattle.data_messages.specs.unit_model.specs.Proper.{IsAt, IsTime};
+ghost use Rattle.data_messages.specs.unit_model.specs.declared.allocations.Allocation.{Allocation};
+ghost use Rattle.data_messages.specs.unit_model.specs.declared.decoded.Data.{Data};
+ghost use Rattle.data_messages.specs.unit_cells.specs.Cells.{endpoints_of};
 ghost use Rattle.data_messages.specs.Holding.{HoldsData};
 ghost use Rattle.ru_memory.specs.Parts.{CameSome, LeavesMarks};
 
+use data_messages::ecpri_fragments::{Assembly, SeqField, Taken, Verdict};
 use data_messages::take_message;
-use ecpri_fragments::{Assembly, SeqField, Taken, Verdict};
+use data_messages::unit_cells::UnitCells;
+use data_messages::window_config::EndpointConfig;
 use fault_counters::Counters;
 use fh_time::Ticks;
-use unit_cells::UnitCells;
-use window_config::EndpointConfig;
 
 /// Takes a fragment to an endpoint, and treats the message that it makes whole, if it does.
 pub(crate) fn assemble(

@@ -1,29 +1,29 @@
 // What a unit keeps of the frames that came.
 ghost use Rattle.std.specs.Prelude.{◌≡◌, ℤ, ◌-◌, ◌^◌, ◌≤ℤ◌, pos, List, [], ◌∷◌, IfOk, length, min, false};
-ghost use Rattle.air_source.specs.declared.events.Side.{Side as SpecSide};
+ghost use Rattle.data_messages.specs.air_source.specs.declared.events.Side.{Side as SpecSide};
 ghost use Rattle.ecpri_frames.specs.Gathering.{whole_messages};
 ghost use Rattle.ecpri_frames.specs.Messages.{pdu};
 ghost use Rattle.fault_counters.specs.declared.kinds.Counter.{Counter};
-ghost use Rattle.unit_cells.specs.Cells.{IsOf, cells_done};
-ghost use Rattle.unit_cells.specs.Keeping.{SameMarks};
-ghost use Rattle.unit_model.specs.Lists.{onto};
-ghost use Rattle.unit_model.specs.Meetings.{Arrival, Meeting, met_in};
-ghost use Rattle.unit_model.specs.Proper.{IsTime};
-ghost use Rattle.unit_model.specs.Reports.{hold_of};
-ghost use Rattle.unit_model.specs.declared.cells.Cell.{Cell};
-ghost use Rattle.window_config.specs.Configs.{IsConfig};
-ghost use Rattle.window_config.specs.declared.config.Config.{Config as SpecConfig};
+ghost use Rattle.data_messages.specs.unit_cells.specs.Cells.{IsOf, cells_done};
+ghost use Rattle.data_messages.specs.unit_cells.specs.Keeping.{SameMarks};
+ghost use Rattle.data_messages.specs.unit_model.specs.Lists.{onto};
+ghost use Rattle.data_messages.specs.unit_model.specs.Meetings.{Arrival, Meeting, met_in};
+ghost use Rattle.data_messages.specs.unit_model.specs.Proper.{IsTime};
+ghost use Rattle.data_messages.specs.unit_model.specs.Reports.{hold_of};
+ghost use Rattle.data_messages.specs.unit_model.specs.declared.cells.Cell.{Cell};
+ghost use Rattle.data_messages.specs.window_config.specs.Configs.{IsConfig};
+ghost use Rattle.data_messages.specs.window_config.specs.declared.config.Config.{Config as SpecConfig};
 
-use air_source::Side;
-use ecpri_fragments::Assembly;
+use data_messages::air_source::Side;
+use data_messages::ecpri_fragments::Assembly;
+use data_messages::unit_cells::UnitCells;
+use data_messages::unit_model::Delivered;
+use data_messages::window_config::{Config, EndpointConfig};
 use ecpri_frames::messages;
 use fault_counters::Counters;
 use fh_base::NoMemory;
 use fh_time::{Ticks, of_ns};
 use std::alloc::Global;
-use unit_cells::UnitCells;
-use unit_model::Delivered;
-use window_config::{Config, EndpointConfig};
 
 /// How long a generation of fragments holds at this side.
 fn hold(side: Side, config: &Config) -> Ticks

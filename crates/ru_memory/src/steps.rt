@@ -1,34 +1,34 @@
 // One step of a unit at a clock: something that is counted, a section, a fragment, a message.
 ghost use Rattle.std.specs.Prelude.{◌≡◌, ℕ, ℤ, ◌+◌, ◌<◌, ◌∷◌, [], ◌++◌, List};
-ghost use Rattle.air_source.specs.declared.events.Side.{Side as SpecSide};
-ghost use Rattle.air_source.specs.declared.events.Side.TheVariants.{Ru};
+ghost use Rattle.data_messages.specs.air_source.specs.declared.events.Side.{Side as SpecSide};
+ghost use Rattle.data_messages.specs.air_source.specs.declared.events.Side.TheVariants.{Ru};
 ghost use Rattle.cplane_sections.specs.Message.{sections_in};
-ghost use Rattle.ecpri_fragments.specs.Generations.{Fragment};
+ghost use Rattle.data_messages.specs.ecpri_fragments.specs.Generations.{Fragment};
 ghost use Rattle.ecpri_frames.specs.Left.{message_of};
 ghost use Rattle.fault_counters.specs.declared.kinds.Counter.{Counter as SpecCounter};
 ghost use Rattle.fault_counters.specs.Counts.{once, times};
-ghost use Rattle.window_config.specs.declared.config.Config.{Config};
-ghost use Rattle.unit_model.specs.Counts.{piece_counted, refusal_counted};
-ghost use Rattle.unit_model.specs.Decoding.{data_now, data_told};
-ghost use Rattle.unit_model.specs.Lists.{onto};
-ghost use Rattle.unit_model.specs.Meetings.{Arrival, Meeting, commands_with, fragment_with, meet as met_by_definition};
-ghost use Rattle.unit_model.specs.Met.{IsRead};
-ghost use Rattle.unit_model.specs.Proper.{IsAt, IsProperCommand, IsTime};
-ghost use Rattle.unit_model.specs.Reports.{hold_of};
-ghost use Rattle.unit_model.specs.declared.decoded.Command.{Command as SpecCommand};
-ghost use Rattle.unit_model.specs.declared.decoded.Data.{Data};
-ghost use Rattle.unit_cells.specs.Cells.{endpoints_of};
+ghost use Rattle.data_messages.specs.window_config.specs.declared.config.Config.{Config};
+ghost use Rattle.data_messages.specs.unit_model.specs.Counts.{piece_counted, refusal_counted};
+ghost use Rattle.data_messages.specs.unit_model.specs.Decoding.{data_now, data_told};
+ghost use Rattle.data_messages.specs.unit_model.specs.Lists.{onto};
+ghost use Rattle.data_messages.specs.unit_model.specs.Meetings.{Arrival, Meeting, commands_with, fragment_with, meet as met_by_definition};
+ghost use Rattle.data_messages.specs.unit_model.specs.Met.{IsRead};
+ghost use Rattle.data_messages.specs.unit_model.specs.Proper.{IsAt, IsProperCommand, IsTime};
+ghost use Rattle.data_messages.specs.unit_model.specs.Reports.{hold_of};
+ghost use Rattle.data_messages.specs.unit_model.specs.declared.decoded.Command.{Command as SpecCommand};
+ghost use Rattle.data_messages.specs.unit_model.specs.declared.decoded.Data.{Data};
+ghost use Rattle.data_messages.specs.unit_cells.specs.Cells.{endpoints_of};
 
 use crate::RuMemory;
 use crate::assembling::assemble;
-use air_source::Side;
 use cplane_sections::{CHead, sections};
-use ecpri_fragments::SeqField;
+use data_messages::air_source::Side;
+use data_messages::ecpri_fragments::SeqField;
+use data_messages::unit_model::{Command, Met, command_counter, fragment_counter, meet};
+use data_messages::window_config::EndpointConfig;
 use ecpri_frames::{PduRefusal, WholeMessage};
 use fault_counters::Counter;
 use fh_time::Ticks;
-use unit_model::{Command, Met, command_counter, fragment_counter, meet};
-use window_config::EndpointConfig;
 
 impl RuMemory {
     ghost use Rattle.ru_memory.specs.Parts.{HoldsParts, HoldsSomeParts, LeavesMarks, Stands, StandsForSome};

@@ -2,17 +2,20 @@
 // symbol, and data from 345 to 134 us. The bytes and the counters are worked out by hand.
 ghost use Rattle.std.specs.Prelude.{◌≡◌, ◌<◌, ◌≤ℤ◌, pos, List, [], ◌∷◌, IfOk};
 ghost use Rattle.fh_time.specs.Numbering.{slots_of};
-ghost use Rattle.air_source.specs.declared.events.Side.{Side as SpecSide};
-ghost use Rattle.window_config.specs.Configs.{IsConfig};
-ghost use Rattle.window_config.specs.Endpoints.{IsEndpoint};
-ghost use Rattle.unit_model.specs.Meetings.{Arrival};
-ghost use Rattle.unit_model.specs.Proper.{IsTime};
-ghost use Rattle.unit_cells.specs.Cells.{endpoints_of};
+ghost use Rattle.data_messages.specs.air_source.specs.declared.events.Side.{Side as SpecSide};
+ghost use Rattle.data_messages.specs.window_config.specs.Configs.{IsConfig};
+ghost use Rattle.data_messages.specs.window_config.specs.Endpoints.{IsEndpoint};
+ghost use Rattle.data_messages.specs.unit_model.specs.Meetings.{Arrival};
+ghost use Rattle.data_messages.specs.unit_model.specs.Proper.{IsTime};
+ghost use Rattle.data_messages.specs.unit_cells.specs.Cells.{endpoints_of};
 ghost use Rattle.ru_memory.specs.Memory.{Holds};
 
 use crate::{RuMemory, holds_later};
-use air_source::Side;
 use bfp_codec::{Format, Method, Wide};
+use data_messages::air_source::Side;
+use data_messages::unit_cells::UnitCells;
+use data_messages::unit_model::Delivered;
+use data_messages::window_config::{Config, Delays, EndpointConfig, EndpointList};
 use eaxc_map::Widths;
 use ecpri_frames::{PduRefusal, PduWhy};
 use fault_counters::{Counter, Counters};
@@ -20,9 +23,6 @@ use fh_base::NoMemory;
 use fh_time::{Numerology, Slot, Ticks, shape};
 use std::alloc::Global;
 use std::test::Fail;
-use unit_cells::UnitCells;
-use unit_model::Delivered;
-use window_config::{Config, Delays, EndpointConfig, EndpointList};
 
 /// A downlink command: symbol 0 of frame 1, section 1, all elements of PRB 0.
 const COMMAND: [u8; 24] = [

@@ -6,15 +6,15 @@ use Rattle.std.proofs.lemmas.Bool.{and_from, and_parts, cases_Bool, cases_eq, eq
 use Rattle.std.proofs.lemmas.List.Folds.{list_any-append}
 use Rattle.air_source.specs.declared.events.AirCell.{AirCell}
 use Rattle.air_source.specs.declared.events.Side.TheVariants.{Ru}
-use Rattle.unit_model.specs.Claims.{same_slot}
-use Rattle.unit_model.specs.Lists.{each}
-use Rattle.unit_model.specs.Radiated.{air_cell, used_mask}
-use Rattle.unit_model.specs.declared.cells.Claim.{Claim}
-use Rattle.unit_model.specs.declared.symbol_start.SymbolStart.{SymbolStart}
-use Rattle.unit_laws.proofs.ListLemmas.{each_same}
-use Rattle.slot_rings.specs.Places.{is_due}
-use Rattle.slot_rings.proofs.PlaceLemmas.{slot_is, slot_own}
-use Rattle.slot_rings.proofs.RangeLemmas.{some_from, some_same}
+use Rattle.unit_cells.specs.unit_model.specs.Claims.{same_slot}
+use Rattle.unit_cells.specs.unit_model.specs.Lists.{each}
+use Rattle.unit_cells.specs.unit_model.specs.Radiated.{air_cell, used_mask}
+use Rattle.unit_cells.specs.unit_model.specs.declared.cells.Claim.{Claim}
+use Rattle.unit_cells.specs.unit_model.specs.declared.symbol_start.SymbolStart.{SymbolStart}
+use Rattle.unit_cells.specs.unit_laws.proofs.ListLemmas.{each_same}
+use Rattle.unit_cells.specs.slot_rings.specs.Places.{is_due}
+use Rattle.unit_cells.specs.slot_rings.proofs.PlaceLemmas.{slot_is, slot_own}
+use Rattle.unit_cells.specs.slot_rings.proofs.RangeLemmas.{some_from, some_same}
 use Rattle.unit_cells.specs.Cells.{CellsValue, cells_block, cells_claim, cells_done}
 use Rattle.unit_cells.specs.Keeping.{SameKnown}
 use Rattle.ru_reports.specs.Symbols.{IsSymbol, MarksTold, cell_in, is_left, is_told, left_at, left_told}

@@ -1,23 +1,23 @@
--- Marks on cells of a symbol, one list of them after another.
-use Rattle.std.proofs.Common.{◌≡◌, ◌≢◌, ℕ, ◌<◌, ◌==◌, Bool, true, false, ◌&&◌, inl, inr, List, [], ◌∷◌, ◌++◌, refl, sym, ap, ◌∙◌, subst}
+-- Marks on the cells of a symbol that were told.
+use Rattle.std.proofs.Common.{◌≡◌, ◌≢◌, ℕ, zero, suc, ◌+◌, ◌<◌, ◌≤◌, ◌==◌, Bool, true, false, not, ◌&&◌, inl, inr, List, [], ◌∷◌, refl, sym, ap, ap₂, ◌∙◌, arith}
 use Rattle.std.specs.Prelude.{◌||◌, if◌then◌else◌}
 use Rattle.std.specs.List.{list_any}
-use Rattle.std.proofs.lemmas.Bool.{and_from, and_parts, and_right, cases_Bool, eq-eqb, eqb-true, ne_eqb}
+use Rattle.std.proofs.lemmas.Bool.{and_from, and_parts, cases_Bool, cases_eq, cases_lt, eq-eqb, eqb-true, ne_eqb}
 use Rattle.std.proofs.lemmas.List.Folds.{list_any-append}
 use Rattle.fh_time.specs.declared.values.Slot.{Slot}
 use Rattle.air_source.specs.declared.events.AirCell.{AirCell}
 use Rattle.air_source.specs.declared.events.Side.TheVariants.{Ru}
-use Rattle.window_config.specs.declared.endpoints.EndpointConfig.{EndpointConfig}
-use Rattle.unit_model.specs.Claims.{cell_at, same_slot}
-use Rattle.unit_model.specs.Proper.{IsAt}
-use Rattle.unit_model.specs.Radiated.{Known, air_cell, used_mask}
-use Rattle.unit_model.specs.Starts.{cell_told}
-use Rattle.unit_model.specs.declared.cells.Cell.{Cell}
-use Rattle.unit_model.specs.declared.symbol_start.SymbolStart.{SymbolStart}
-use Rattle.slot_rings.proofs.PlaceLemmas.{slot_is, slot_own}
-use Rattle.unit_cells.specs.Cells.{CellsValue, IsCellIn, cells_block, cells_claim, cells_done, endpoints_of}
+use Rattle.unit_cells.specs.unit_model.specs.Claims.{cell_at, same_slot}
+use Rattle.unit_cells.specs.unit_model.specs.Lists.{each}
+use Rattle.unit_cells.specs.unit_model.specs.Radiated.{Known, air_cell, used_mask}
+use Rattle.unit_cells.specs.unit_model.specs.Starts.{cell_told}
+use Rattle.unit_cells.specs.unit_model.specs.declared.cells.Cell.{Cell}
+use Rattle.unit_cells.specs.unit_model.specs.declared.symbol_start.SymbolStart.{SymbolStart}
+use Rattle.unit_cells.specs.slot_rings.specs.Places.{is_in_use}
+use Rattle.unit_cells.specs.slot_rings.proofs.PlaceLemmas.{slot_is, slot_own}
+use Rattle.unit_cells.specs.Cells.{CellsValue, IsCellIn, cells_block, cells_claim, cells_done}
 use Rattle.unit_cells.specs.Keeping.{SameKnown}
-use Rattle.ru_reports.specs.Symbols.{IsSymbol, MarksTold, cell_in, is_told, known_by, left_told}
+use Rattle.ru_reports.specs.Symbols.{IsSymbol, cell_in, is_told, known_by, left_told}
 
 -- ---- tests
 
@@ -25,145 +25,151 @@ or_none : (a b : Bool) → b ≡ false → a ≡ (a || b)
 or_none true b e = refl
 or_none false b e = sym e
 
-or_more : (a b c x y z : Bool) → b ≡ (a || x) → c ≡ (b || y) → z ≡ (x || y) → c ≡ (a || z)
-or_more true b c x y z p q r = q ∙ ap (λ t. t || y) p
-or_more false b c x y z p q r = q ∙ ap (λ t. t || y) p ∙ sym r
+or_false : (a : Bool) → (a || false) ≡ a
+or_false true = refl
+or_false false = refl
 
-or_all : (a b : Bool) → b ≡ true → true ≡ (a || b)
-or_all true b e = refl
-or_all false b e = sym e
+-- a cell that is marked if it is in use, and one that is marked if it is told
+same_mark : (done uses : Bool) → (done || uses) ≡ (done || (not done && uses))
+same_mark true uses = refl
+same_mark false uses = refl
 
-under_all : (a b c x y : Bool) → (a && (b && (c && (x || y)))) ≡ ((a && (b && (c && x))) || (a && (b && (c && y))))
-under_all true true true x y = refl
-under_all true true false x y = refl
-under_all true false c x y = refl
-under_all false b c x y = refl
+all_three : (a b c d : Bool) → (a && (b && (c && d))) ≡ ((a && (b && c)) && d)
+all_three true true c d = refl
+all_three true false c d = refl
+all_three false b c d = refl
 
--- ---- what is told
+first_true : (a b : Bool) → a ≡ true → (a && b) ≡ b
+first_true true b e = refl
+first_true false b e = cc
 
-told_none : (m : SymbolStart) (cell : Cell) → is_told m [] cell ≡ false
-told_none m cell = and_right (cell.ep == m.ep) _ (and_right (same_slot cell.slot m.slot) _ (and_right (cell.symbol == m.symbol) false refl))
+first_false : (a b : Bool) → a ≡ false → (a && b) ≡ false
+first_false true b e = cc
+first_false false b e = refl
 
-told_more : (m : SymbolStart) (first second : List AirCell) (cell : Cell) → is_told m (first ++ second) cell ≡ (is_told m first cell || is_told m second cell)
-told_more m first second cell =
-    ap (λ (t : Bool). (cell.ep == m.ep) && (same_slot cell.slot m.slot && ((cell.symbol == m.symbol) && t)))
-    (list_any-append (λ (a : AirCell). a.prb == cell.prb) first second)
-    ∙ under_all (cell.ep == m.ep) (same_slot cell.slot m.slot) (cell.symbol == m.symbol) _ _
+unequal : (b : Bool) → b ≡ false → b ≡ true → ⊥
+unequal b p q = cc
 
-or_false : (a : Bool) → (a || false) ≡ true → a ≡ true
-or_false true e = refl
-or_false false e = e
+-- ---- a test of one PRB among the reports of many
 
-true_or : (a b : Bool) → a ≡ true → (a || b) ≡ true
-true_or true b e = refl
-true_or false b e = cc
+any_none : (p : AirCell → Bool) (from n : ℕ) (f : ℕ → List AirCell) → ((j : ℕ) → from ≤ j → j < from + n → list_any p (f j) ≡ false) → list_any p (each from n f) ≡ false
+unfolding each
+any_none p from zero f none = refl
+any_none p from (suc n) f none =
+    list_any-append p (f from) (each (from + 1) n f)
+    ∙ ap₂ ◌||◌ (none from (omega arith) (omega arith)) (any_none p (from + 1) n f (λ j low high. none j (omega arith) (omega arith)))
 
-cell_parts : (cell : Cell) (ep : ℕ) (slot : Slot) (symbol prb : ℕ) → cell.down ≡ true → cell.ep ≡ ep → cell.slot ≡ slot → cell.symbol ≡ symbol → prb ≡ cell.prb
-    → cell ≡ cell_at ep true slot symbol prb
-cell_parts cell ep slot symbol prb d p q r s =
-    ap (λ (x : ℕ). cell_at x cell.down cell.slot cell.symbol cell.prb) p
-    ∙ ap (λ (x : Bool). cell_at ep x cell.slot cell.symbol cell.prb) d
-    ∙ ap (λ (x : Slot). cell_at ep true x cell.symbol cell.prb) q
-    ∙ ap (λ (x : ℕ). cell_at ep true slot x cell.prb) r
-    ∙ ap (λ (x : ℕ). cell_at ep true slot symbol x) (sym s)
+any_one : (p : AirCell → Bool) (from n : ℕ) (f : ℕ → List AirCell) (k : ℕ) → from ≤ k → k < from + n → ((j : ℕ) → j ≢ k → list_any p (f j) ≡ false)
+    → list_any p (each from n f) ≡ list_any p (f k)
+unfolding each
+any_one p from zero f k low high others = absurd (omega arith)
+any_one p from (suc n) f k low high others = list_any-append p (f from) (each (from + 1) n f) ∙ elim (cases_eq k from) [
+  | inl e ↦
+      ap₂ ◌||◌ (ap (λ (j : ℕ). list_any p (f j)) (sym e)) (any_none p (from + 1) n f (λ j past within. others j (λ same. omega (arith, past, same, e))))
+      ∙ or_false (list_any p (f k))
+  | inr ne ↦
+      ap₂ ◌||◌ (others from (λ same. ne (sym same))) (any_one p (from + 1) n f k (omega (arith, ne)) (omega arith) others)
+]
 
--- the cell that is told alone
-told_is : (m : SymbolStart) (a : AirCell) (cell : Cell) → cell.down ≡ true → is_told m (a ∷ []) cell ≡ true → cell ≡ cell_in m a.prb
-told_is m a cell down told =
-    let p = and_parts (cell.ep == m.ep) _ told in
-    let q = and_parts (same_slot cell.slot m.slot) _ p.1 in
-    let r = and_parts (cell.symbol == m.symbol) _ q.1 in
-    cell_parts cell m.ep m.slot m.symbol a.prb down (eqb-true _ _ p.0) (slot_is cell.slot m.slot q.0) (eqb-true _ _ r.0) (eqb-true _ _ (or_false (a.prb == cell.prb) r.1))
+-- ---- what is told of a cell
 
-told_own : (m : SymbolStart) (a : AirCell) (cell : Cell) → cell.ep ≡ m.ep → cell.slot ≡ m.slot → cell.symbol ≡ m.symbol → cell.prb ≡ a.prb → is_told m (a ∷ []) cell ≡ true
-told_own m a cell p q r s =
-    and_from (cell.ep == m.ep) _ (eq-eqb _ _ p)
-    (and_from (same_slot cell.slot m.slot) _ (ap (same_slot cell.slot) (sym q) ∙ slot_own cell.slot)
-    (and_from (cell.symbol == m.symbol) _ (eq-eqb _ _ r) (true_or (a.prb == cell.prb) _ (eq-eqb _ _ (sym s)))))
+told_alone : (a : AirCell) (k : ℕ) → a.prb ≡ k → list_any (λ (x : AirCell). x.prb == k) (a ∷ []) ≡ true
+told_alone a k e = let f : (a.prb == k) ≡ true = eq-eqb a.prb k e in rw f refl
 
--- what is left of one PRB tells of no other one
-elsewhere : (a : AirCell) (prb k : ℕ) → k ≢ prb → a.prb ≡ prb → list_any (λ (x : AirCell). x.prb == k) (a ∷ []) ≡ false
-elsewhere a prb k ne e = let f : (a.prb == k) ≡ false = ne_eqb a.prb k (λ g. ne (sym g ∙ e)) in rw f refl
+told_other : (a : AirCell) (prb k : ℕ) → k ≢ prb → a.prb ≡ prb → list_any (λ (x : AirCell). x.prb == k) (a ∷ []) ≡ false
+told_other a prb k ne e = let f : (a.prb == k) ≡ false = ne_eqb a.prb k (λ g. ne (sym g ∙ e)) in rw f refl
+
+left_own : (v : CellsValue) (m : SymbolStart) (k : ℕ) → list_any (λ (x : AirCell). x.prb == k) (left_told v m k)
+    ≡ (not (cells_done v (cell_in m k)) && is_in_use (cells_claim v (cell_in m k)))
+left_own v m k = elim (cases_Bool (cells_done v (cell_in m k))) [
+  | inl done ↦ rw done refl
+  | inr fresh ↦ rw fresh (elim (cases_Bool (used_mask (cells_claim v (cell_in m k)) == 0)) [
+    | inl idle ↦ rw idle refl
+    | inr used ↦ rw used (told_alone (air_cell Ru m.endpoint (cell_in m k) m.start.0 (cells_claim v (cell_in m k)) (cells_block v (cell_in m k))) k refl)
+  ])
+]
 
 left_elsewhere : (v : CellsValue) (m : SymbolStart) (prb k : ℕ) → k ≢ prb → list_any (λ (x : AirCell). x.prb == k) (left_told v m prb) ≡ false
 left_elsewhere v m prb k ne = elim (cases_Bool (cells_done v (cell_in m prb))) [
   | inl done ↦ rw done refl
   | inr fresh ↦ rw fresh (elim (cases_Bool (used_mask (cells_claim v (cell_in m prb)) == 0)) [
     | inl idle ↦ rw idle refl
-    | inr used ↦ rw used (elsewhere (air_cell Ru m.endpoint (cell_in m prb) m.start.0 (cells_claim v (cell_in m prb)) (cells_block v (cell_in m prb))) prb k ne refl)
+    | inr used ↦ rw used (told_other (air_cell Ru m.endpoint (cell_in m prb) m.start.0 (cells_claim v (cell_in m prb)) (cells_block v (cell_in m prb))) prb k ne refl)
   ])
 ]
 
-pub told_elsewhere : (v : CellsValue) (m : SymbolStart) (prb k : ℕ) → k ≢ prb → is_told m (left_told v m prb) (cell_in m k) ≡ false
-told_elsewhere v m prb k ne = and_right (m.ep == m.ep) _ (and_right (same_slot m.slot m.slot) _ (and_right (m.symbol == m.symbol) _ (left_elsewhere v m prb k ne)))
+module _ (v : CellsValue) (m : SymbolStart) (n k : ℕ) where
+  told_below : k < n → list_any (λ (x : AirCell). x.prb == k) (each 0 n (left_told v m))
+      ≡ (not (cells_done v (cell_in m k)) && is_in_use (cells_claim v (cell_in m k)))
+  told_below below =
+      any_one (λ (x : AirCell). x.prb == k) 0 n (left_told v m) k (omega arith) (omega (arith, below)) (λ j ne. left_elsewhere v m j k (λ same. ne (sym same)))
+      ∙ left_own v m k
+
+  told_behind : n ≤ k → list_any (λ (x : AirCell). x.prb == k) (each 0 n (left_told v m)) ≡ false
+  told_behind behind =
+      any_none (λ (x : AirCell). x.prb == k) 0 n (left_told v m) (λ j low high. left_elsewhere v m j k (λ same. omega (arith, same, high, behind)))
+
+-- ---- a cell of the symbol
+
+abbrev of_symbol : SymbolStart → Cell → Bool
+of_symbol m cell = (cell.ep == m.ep) && (same_slot cell.slot m.slot && (cell.symbol == m.symbol))
+
+record IsOfSymbol (m : SymbolStart) (cell : Cell) : Type 0 where
+  ep_is : cell.ep ≡ m.ep
+  slot_is : cell.slot ≡ m.slot
+  symbol_is : cell.symbol ≡ m.symbol
+
+of_parts : (m : SymbolStart) (cell : Cell) → of_symbol m cell ≡ true → IsOfSymbol m cell
+of_parts m cell own =
+    let p = and_parts (cell.ep == m.ep) _ own in
+    let q = and_parts (same_slot cell.slot m.slot) _ p.1 in
+    record { ep_is = eqb-true _ _ p.0; slot_is = slot_is cell.slot m.slot q.0; symbol_is = eqb-true _ _ q.1 }
+
+of_own : (m : SymbolStart) (cell : Cell) → cell.ep ≡ m.ep → cell.slot ≡ m.slot → cell.symbol ≡ m.symbol → of_symbol m cell ≡ true
+of_own m cell p q r =
+    and_from (cell.ep == m.ep) _ (eq-eqb _ _ p)
+    (and_from (same_slot cell.slot m.slot) _ (ap (same_slot cell.slot) (sym q) ∙ slot_own cell.slot) (eq-eqb _ _ r))
+
+cell_is : (m : SymbolStart) (cell : Cell) → cell.down ≡ true → IsOfSymbol m cell → cell ≡ cell_in m cell.prb
+cell_is m cell down is =
+    ap (λ (x : ℕ). cell_at x cell.down cell.slot cell.symbol cell.prb) is.ep_is
+    ∙ ap (λ (x : Bool). cell_at m.ep x cell.slot cell.symbol cell.prb) down
+    ∙ ap (λ (x : Slot). cell_at m.ep true x cell.symbol cell.prb) is.slot_is
+    ∙ ap (λ (x : ℕ). cell_at m.ep true m.slot x cell.prb) is.symbol_is
 
 -- ---- marks
 
-pub marks_none : (m : SymbolStart) (v : CellsValue) → MarksTold m [] v v
-marks_none m v = record {
-  marks = λ cell is down. or_none (cells_done v cell) (is_told m [] cell) (told_none m cell);
-  keeps = λ side c clock acc ds k. k;
-  known = record { claims = λ cell re. refl; blocks = λ cell. refl; uplink = λ ep slot. refl; places = λ ep slot. refl };
-  side = refl;
-  delays = refl;
-  endpoints = refl;
-}
-
-pub cell_still : (old new : CellsValue) (cell : Cell) → endpoints_of new ≡ endpoints_of old → IsCellIn old cell → IsCellIn new cell
-cell_still old new cell same is = record {
-  endpoint = is.endpoint;
-  at = subst (λ (es : List EndpointConfig). IsAt es cell.ep is.endpoint) (sym same) is.at;
-  slot_is = is.slot_is;
-  symbol = is.symbol;
-  prb = is.prb;
-}
-
-known_then : (old middle new : CellsValue) → SameKnown old middle → SameKnown middle new → SameKnown old new
-known_then old middle new a b = record {
-  claims = λ cell re. b.claims cell re ∙ a.claims cell re;
-  blocks = λ cell. b.blocks cell ∙ a.blocks cell;
-  uplink = λ ep slot. b.uplink ep slot ∙ a.uplink ep slot;
-  places = λ ep slot. b.places ep slot ∙ a.places ep slot;
-}
-
-pub marks_then : (m : SymbolStart) (first second : List AirCell) (old middle new : CellsValue) → MarksTold m first old middle → MarksTold m second middle new
-    → MarksTold m (first ++ second) old new
-marks_then m first second old middle new a b = record {
-  marks = λ cell is down.
-      or_more (cells_done old cell) (cells_done middle cell) (cells_done new cell) (is_told m first cell) (is_told m second cell) (is_told m (first ++ second) cell)
-      (a.marks cell is down) (b.marks cell (cell_still old middle cell a.endpoints is) down) (told_more m first second cell);
-  keeps = λ side c clock acc ds k. b.keeps side c clock acc ds (a.keeps side c clock acc ds k);
-  known = known_then old middle new a.known b.known;
-  side = b.side ∙ a.side;
-  delays = b.delays ∙ a.delays;
-  endpoints = b.endpoints ∙ a.endpoints;
-}
-
--- what is marked where one cell is, and nothing else
-pub one_marked : (m : SymbolStart) (a : AirCell) (old new : CellsValue) → cells_done new (cell_in m a.prb) ≡ true
-    → ((cell : Cell) → IsCellIn old cell → (cell.ep ≡ m.ep → cell.slot ≡ m.slot → cell.symbol ≡ m.symbol → cell.prb ≢ a.prb) → cells_done new cell ≡ cells_done old cell)
-    → (cell : Cell) → IsCellIn old cell → cell.down ≡ true → cells_done new cell ≡ (cells_done old cell || is_told m (a ∷ []) cell)
-one_marked m a old new here others cell is down = elim (cases_Bool (is_told m (a ∷ []) cell)) [
-  | inl told ↦
-      ap (cells_done new) (told_is m a cell down told) ∙ here ∙ or_all (cells_done old cell) (is_told m (a ∷ []) cell) told
-  | inr not ↦
-      others cell is (λ p q r s. let t = told_own m a cell p q r s in cc)
-      ∙ or_none (cells_done old cell) (is_told m (a ∷ []) cell) not
+-- where the cells in use of the first n PRBs are marked and nothing else, those are marked that were left there
+pub used_marked : (m : SymbolStart) (n : ℕ) (old new : CellsValue)
+    → ((prb : ℕ) → prb < n → cells_done new (cell_in m prb) ≡ (cells_done old (cell_in m prb) || is_in_use (cells_claim old (cell_in m prb))))
+    → ((cell : Cell) → IsCellIn old cell → (cell.ep ≡ m.ep → cell.slot ≡ m.slot → cell.symbol ≡ m.symbol → n ≤ cell.prb) → cells_done new cell ≡ cells_done old cell)
+    → (cell : Cell) → IsCellIn old cell → cell.down ≡ true → cells_done new cell ≡ (cells_done old cell || is_told m (each 0 n (left_told old m)) cell)
+used_marked m n old new here others cell is down = elim (cases_Bool (of_symbol m cell)) [
+  | inr other ↦
+      others cell is (λ p q r. absurd (unequal (of_symbol m cell) other (of_own m cell p q r)))
+      ∙ or_none (cells_done old cell) _ (parts ∙ first_false (of_symbol m cell) any other)
+  | inl own ↦ elim (cases_lt cell.prb n) [
+    | inr behind ↦
+        others cell is (λ p q r. behind)
+        ∙ or_none (cells_done old cell) _ (parts ∙ first_true (of_symbol m cell) any own ∙ told_behind old m n cell.prb behind)
+    | inl below ↦
+        let at : cell ≡ cell_in m cell.prb = cell_is m cell down (of_parts m cell own) in
+        ap (cells_done new) at ∙ here cell.prb below
+        ∙ same_mark (cells_done old (cell_in m cell.prb)) (is_in_use (cells_claim old (cell_in m cell.prb)))
+        ∙ ap₂ ◌||◌ (ap (cells_done old) (sym at)) (sym (parts ∙ first_true (of_symbol m cell) any own ∙ told_below old m n cell.prb below))
+  ]
 ]
+  where
+    any : Bool
+    any = list_any (λ (x : AirCell). x.prb == cell.prb) (each 0 n (left_told old m))
 
-pub symbol_still : (m : SymbolStart) (told : List AirCell) (old new : CellsValue) → MarksTold m told old new → IsSymbol old m → IsSymbol new m
-symbol_still m told old new marks is = record {
-  at = subst (λ (es : List EndpointConfig). IsAt es m.ep m.endpoint) (sym marks.endpoints) is.at;
-  slot_is = is.slot_is;
-  symbol_is = is.symbol_is;
-  starts = is.starts;
-  has = marks.known.places m.ep m.slot ∙ is.has;
-}
+    parts : is_told m (each 0 n (left_told old m)) cell ≡ (of_symbol m cell && any)
+    parts = all_three (cell.ep == m.ep) (same_slot cell.slot m.slot) (cell.symbol == m.symbol) any
 
 pub symbol_cell : (v : CellsValue) (m : SymbolStart) (prb : ℕ) → IsSymbol v m → prb < m.endpoint.prbs → IsCellIn v (cell_in m prb)
 symbol_cell v m prb is below = record { endpoint = m.endpoint; at = is.at; slot_is = is.slot_is; symbol = is.symbol_is; prb = below }
 
--- ---- what is left of the other PRBs
+-- ---- what is left where a cell's mark is the same
 
 known_same : (old new : CellsValue) → SameKnown old new → known_by new ≡ known_by old
 known_same old new same = λ i. let k : Known = record { claims = λ cell re. same.claims cell re i; blocks = λ cell. same.blocks cell i } in k
@@ -173,9 +179,3 @@ pub left_same : (m : SymbolStart) (old new : CellsValue) (k : ℕ) → SameKnown
 left_same m old new k same done =
     ap (λ (t : Bool). if t then [] else cell_told Ru (known_by new) m k) done
     ∙ ap (λ (x : Known). if cells_done old (cell_in m k) then [] else cell_told Ru x m k) (known_same old new same)
-
-pub left_beside : (m : SymbolStart) (old new : CellsValue) (prb k : ℕ) → IsSymbol old m → k < m.endpoint.prbs → k ≢ prb → MarksTold m (left_told old m prb) old new
-    → left_told new m k ≡ left_told old m k
-left_beside m old new prb k is below ne marks =
-    left_same m old new k marks.known
-    (marks.marks (cell_in m k) (symbol_cell old m k is below) refl ∙ sym (or_none (cells_done old (cell_in m k)) _ (told_elsewhere old m prb k ne)))

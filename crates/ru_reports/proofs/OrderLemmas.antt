@@ -6,10 +6,10 @@ use Rattle.std.proofs.lemmas.Bool.{cases_Bool, eqb-true, false_from_ne_true, ltb
 use Rattle.std.proofs.lemmas.Bool.Decides.{Decides-int_eq, nat_tests}
 use Rattle.std.proofs.lemmas.Int.{ints}
 use Rattle.fh_time.specs.declared.values.Slot.{Slot}
-use Rattle.unit_model.specs.Claims.{same_slot}
-use Rattle.unit_model.specs.Order.{comes_before, slot_before, symbol_before}
-use Rattle.unit_model.specs.declared.symbol_start.SymbolStart.{SymbolStart}
-use Rattle.slot_rings.proofs.PlaceLemmas.{slot_is, slot_own}
+use Rattle.unit_cells.specs.unit_model.specs.Claims.{same_slot}
+use Rattle.unit_cells.specs.unit_model.specs.Order.{comes_before, slot_before, symbol_before}
+use Rattle.unit_cells.specs.unit_model.specs.declared.symbol_start.SymbolStart.{SymbolStart}
+use Rattle.unit_cells.specs.slot_rings.proofs.PlaceLemmas.{slot_is, slot_own}
 
 -- ---- by a first part, and where that is one, by the rest
 

@@ -1,62 +1,87 @@
--- The report of a symbol as far as a PRB, one PRB more, and to the end.
-use Rattle.std.proofs.Common.{◌≡◌, ℕ, ◌+◌, ◌-◌, ◌<◌, ◌≤◌, List, [], ◌∷◌, ◌++◌, map, refl, sym, ap, ◌∙◌, subst, arith, append_assoc}
+-- The report of a symbol's lent cells as far as a PRB, one PRB more, and what it says of the rings.
+use Rattle.std.proofs.Common.{◌≡◌, ℕ, ◌+◌, ◌-◌, ◌<◌, Bool, List, [], ◌∷◌, ◌++◌, map, sym, ap, ◌∙◌, subst, arith, append_assoc, Option, Result, Ok, Err}
+use Rattle.std.specs.Prelude.{OnOk, if◌then◌else◌}
 use Rattle.std.proofs.lemmas.List.{map-append}
 use Rattle.air_source.specs.declared.events.AirCell.{AirCell}
 use Rattle.air_source.specs.declared.events.Event.{Event}
 use Rattle.air_source.specs.declared.events.Event.TheVariants.{Cell as Reported}
-use Rattle.unit_model.specs.Lists.{each}
-use Rattle.unit_model.specs.declared.symbol_start.SymbolStart.{SymbolStart}
-use Rattle.unit_model.proofs.SweepLaws.{each_more, each_split, each_zero}
-use Rattle.unit_cells.specs.Cells.{CellsValue}
-use Rattle.ru_reports.specs.Symbols.{CountsTold, IsSymbol, MarksTold, StopsAtCell, left_at, left_told}
-use Rattle.ru_reports.specs.Tellings.{StopsInOne}
+use Rattle.air_source.specs.declared.events.Side.TheVariants.{Ru}
+use Rattle.unit_cells.specs.unit_model.specs.Lists.{each}
+use Rattle.unit_cells.specs.unit_model.specs.Radiated.{report_of}
+use Rattle.unit_cells.specs.unit_model.specs.declared.cells.Block.{Block}
+use Rattle.unit_cells.specs.unit_model.specs.declared.cells.Claim.{Claim}
+use Rattle.unit_cells.specs.unit_model.specs.declared.symbol_start.SymbolStart.{SymbolStart}
+use Rattle.unit_cells.specs.unit_model.proofs.SweepLaws.{each_more, each_split, each_zero}
+use Rattle.unit_cells.specs.unit_laws.proofs.ListLemmas.{each_same}
+use Rattle.unit_cells.specs.slot_rings.specs.Symbols.{lent_block, lent_claim}
+use Rattle.unit_cells.specs.slot_rings.specs.declared.symbol_cells.SymbolCells.{SymbolCells}
+use Rattle.unit_cells.specs.Cells.{AreCellsOf, CellsValue, cells_claim, cells_done}
+use Rattle.ru_reports.specs.Symbols.{CountsTold, MarksTold, StopsAtCell, cell_in, left_at, left_told}
+use Rattle.ru_reports.specs.Tellings.{StopsAtPrb, StopsInOne, lent_below, lent_told}
 use Rattle.ru_reports.proofs.CountLemmas.{counts_none, counts_then}
-use Rattle.ru_reports.proofs.MarkLemmas.{left_beside, marks_none, marks_then, symbol_still}
+
+-- ---- one PRB more
+
+module _ {A : Type 0} (grew : A → List Event → A → Type 0) (cells : SymbolCells) (m : SymbolStart) where
+  pub heard_none : (a : A) → grew a [] a → grew a (map Reported (lent_below cells m 0)) a
+  heard_none a none = subst (λ (told : List AirCell). grew a (map Reported told) a) (sym (each_zero 0 (lent_told cells m))) none
+
+  pub heard_more : (more : (a b c : A) (first second : List Event) → grew a first b → grew b second c → grew a (first ++ second) c)
+      (n : ℕ) (a b c : A) → grew a (map Reported (lent_below cells m n)) b → grew b (map Reported (lent_told cells m n)) c → grew a (map Reported (lent_below cells m (n + 1))) c
+  heard_more more n a b c before heard =
+      subst (λ (es : List Event). grew a es c)
+      (sym (map-append Reported (lent_below cells m n) (lent_told cells m n)) ∙ ap (λ (xs : List AirCell). map Reported xs) (sym (each_more n (lent_told cells m))))
+      (more a b c (map Reported (lent_below cells m n)) (map Reported (lent_told cells m n)) before heard)
+
+  pub stops_there : (stopped : A → Event → A → Type 0) (n : ℕ) (co cn : List ℕ) (a b c : A) → n < m.endpoint.prbs → grew a (map Reported (lent_below cells m n)) b
+      → StopsInOne stopped (lent_told cells m n) co cn b c → StopsAtPrb grew stopped cells m n a c
+  stops_there stopped n co cn a b c below heard stop = record {
+    within = below;
+    cell = stop.cell;
+    is = stop.is;
+    middle = b;
+    heard = heard;
+    stop = stop.stop;
+  }
+
+pub counts_zero : (cells : SymbolCells) (m : SymbolStart) (counts : List ℕ) → CountsTold (lent_below cells m 0) counts counts
+counts_zero cells m counts = subst (λ (told : List AirCell). CountsTold told counts counts) (sym (each_zero 0 (lent_told cells m))) (counts_none counts)
+
+pub counts_more : (cells : SymbolCells) (m : SymbolStart) (n : ℕ) (old middle new : List ℕ) → CountsTold (lent_below cells m n) old middle → CountsTold (lent_told cells m n) middle new
+    → CountsTold (lent_below cells m (n + 1)) old new
+counts_more cells m n old middle new before told =
+    subst (λ (xs : List AirCell). CountsTold xs old new) (sym (each_more n (lent_told cells m))) (counts_then (lent_below cells m n) (lent_told cells m n) old middle new before told)
+
+-- ---- what was lent is what the rings answer
 
 -- what is left of the first n PRBs
 abbrev pub left_below : CellsValue → SymbolStart → ℕ → List AirCell
 left_below v m n = each 0 n (left_told v m)
 
--- these were told, marked and counted, and of the others the same is left
-pub record ToldBelow {A : Type 0} (grew : A → List Event → A → Type 0) (m : SymbolStart) (n : ℕ) (old new : CellsValue) (counts_old counts_new : List ℕ)
-    (before after : A) : Type 0 where
-  pub heard : grew before (map Reported (left_below old m n)) after
-  pub marks : MarksTold m (left_below old m n) old new
-  pub counts : CountsTold (left_below old m n) counts_old counts_new
-  pub left : (k : ℕ) → n ≤ k → k < m.endpoint.prbs → left_told new m k ≡ left_told old m k
+-- the first n are all of them
+pub all_below : (v : CellsValue) (m : SymbolStart) (n : ℕ) → n ≡ m.endpoint.prbs → left_below v m n ≡ left_at v m
+unfolding left_at
+all_below v m n e = ap (λ (k : ℕ). each 0 k (left_told v m)) e
 
-module _ {A : Type 0} (grew : A → List Event → A → Type 0) (m : SymbolStart) where
-  pub told_below_none : (none : (a : A) → grew a [] a) (v : CellsValue) (counts : List ℕ) (a : A) → ToldBelow grew m 0 v v counts counts a a
-  told_below_none none v counts a =
-      let nothing = sym (each_zero 0 (left_told v m)) in record {
-        heard = subst (λ (told : List AirCell). grew a (map Reported told) a) nothing (none a);
-        marks = subst (λ (told : List AirCell). MarksTold m told v v) nothing (marks_none m v);
-        counts = subst (λ (told : List AirCell). CountsTold told counts counts) nothing (counts_none counts);
-        left = λ k _ _. refl;
-      }
+module _ (v : CellsValue) (m : SymbolStart) (cells : SymbolCells) (are : AreCellsOf v m.ep m.slot m.symbol cells) where
+  lent_left : (prb : ℕ) → lent_told cells m prb ≡ left_told v m prb
+  lent_left prb =
+      let claims : lent_claim cells prb ≡ cells_claim v (cell_in m prb) = λ i re. are.claims prb re i in
+      ap (λ (t : Bool). if t then [] else report_of Ru m.endpoint (cell_in m prb) m.start.0 (lent_claim cells prb) (lent_block cells prb)) (are.done prb)
+      ∙ ap (λ (c : ℕ → Option Claim). if cells_done v (cell_in m prb) then [] else report_of Ru m.endpoint (cell_in m prb) m.start.0 c (lent_block cells prb)) claims
+      ∙ ap (λ (b : Option Block). if cells_done v (cell_in m prb) then [] else report_of Ru m.endpoint (cell_in m prb) m.start.0 (cells_claim v (cell_in m prb)) b) (are.blocks prb)
 
-  pub told_below_more : (more : (a b c : A) (first second : List Event) → grew a first b → grew b second c → grew a (first ++ second) c)
-      (n : ℕ) (old middle new : CellsValue) (co cm cn : List ℕ) (a b c : A) → n < m.endpoint.prbs → IsSymbol old m → ToldBelow grew m n old middle co cm a b
-      → grew b (map Reported (left_told middle m n)) c → MarksTold m (left_told middle m n) middle new → CountsTold (left_told middle m n) cm cn
-      → ToldBelow grew m (n + 1) old new co cn a c
-  told_below_more more n old middle new co cm cn a b c below is told heard marks counts =
-      let here : left_told middle m n ≡ left_told old m n = told.left n (omega arith) below in
-      let all : left_below old m n ++ left_told middle m n ≡ left_below old m (n + 1) = ap (λ xs. left_below old m n ++ xs) here ∙ sym (each_more n (left_told old m)) in
-      let still : IsSymbol middle m = symbol_still m (left_below old m n) old middle told.marks is in record {
-        heard = subst (λ (es : List Event). grew a es c)
-            (sym (map-append Reported (left_below old m n) (left_told middle m n)) ∙ ap (λ xs. map Reported xs) all)
-            (more a b c (map Reported (left_below old m n)) (map Reported (left_told middle m n)) told.heard heard);
-        marks = subst (λ (xs : List AirCell). MarksTold m xs old new) all (marks_then m (left_below old m n) (left_told middle m n) old middle new told.marks marks);
-        counts = subst (λ (xs : List AirCell). CountsTold xs co cn) all (counts_then (left_below old m n) (left_told middle m n) co cm cn told.counts counts);
-        left = λ k past within.
-            left_beside m middle new n k still within (λ e. omega (arith, e, past)) marks ∙ told.left k (omega (arith, past)) within;
-      }
+  pub below_left : (n : ℕ) → lent_below cells m n ≡ left_below v m n
+  below_left n = each_same 0 n (lent_told cells m) (left_told v m) (λ k low high. lent_left k)
 
-  -- what is left of a symbol, about a PRB of which one cell is left
-  parted : (v : CellsValue) (n : ℕ) (cell : AirCell) → n < m.endpoint.prbs → left_told v m n ≡ cell ∷ []
+  pub all_left : (n : ℕ) → n ≡ m.endpoint.prbs → lent_below cells m n ≡ left_at v m
+  all_left n e = below_left n ∙ all_below v m n e
+
+  -- all that is left, about a PRB of which one cell is left
+  parted : (n : ℕ) (cell : AirCell) → n < m.endpoint.prbs → left_told v m n ≡ cell ∷ []
       → left_at v m ≡ left_below v m n ++ cell ∷ each (n + 1) (m.endpoint.prbs - (n + 1)) (left_told v m)
   unfolding left_at
-  parted v n cell below one =
+  parted n cell below one =
       let rest = each (n + 1) (m.endpoint.prbs - (n + 1)) (left_told v m) in
       let count : m.endpoint.prbs ≡ (n + 1) + (m.endpoint.prbs - (n + 1)) = omega (arith, below) in
       let place : 0 + (n + 1) ≡ n + 1 = omega arith in
@@ -66,22 +91,24 @@ module _ {A : Type 0} (grew : A → List Event → A → Type 0) (m : SymbolStar
       ∙ ap (λ (xs : List AirCell). xs ++ rest) (each_more n (left_told v m) ∙ ap (λ (xs : List AirCell). left_below v m n ++ xs) one)
       ∙ append_assoc (left_below v m n) (cell ∷ []) rest
 
-  pub stops_below : (stopped : A → Event → A → Type 0) (n : ℕ) (old middle new : CellsValue) (co cm cn : List ℕ) (a b c : A) → n < m.endpoint.prbs
-      → ToldBelow grew m n old middle co cm a b → StopsInOne stopped (left_told middle m n) middle new cm cn b c
-      → StopsAtCell grew stopped m old new co cn a c
-  stops_below stopped n old middle new co cm cn a b c below told stop = record {
-    told = left_below old m n;
+  -- where the air stopped, those before are marked and counted
+  pub stops_at : {A : Type 0} (grew : A → List Event → A → Type 0) (stopped : A → Event → A → Type 0) (n : ℕ) (new : CellsValue) (co cn : List ℕ) (a c : A)
+      → MarksTold m (left_below v m n) v new → CountsTold (lent_below cells m n) co cn → StopsAtPrb grew stopped cells m n a c
+      → StopsAtCell grew stopped m v new co cn a c
+  stops_at grew stopped n new co cn a c marks counts stop = record {
+    told = left_below v m n;
     cell = stop.cell;
-    rest = each (n + 1) (m.endpoint.prbs - (n + 1)) (left_told old m);
-    is = parted old n stop.cell below (sym (told.left n (omega arith) below) ∙ stop.is);
-    marks = subst (λ (v : CellsValue). MarksTold m (left_below old m n) old v) (sym stop.cells) told.marks;
-    counts = subst (λ (xs : List ℕ). CountsTold (left_below old m n) co xs) (sym stop.counts) told.counts;
-    middle = b;
-    heard = told.heard;
+    rest = each (n + 1) (m.endpoint.prbs - (n + 1)) (left_told v m);
+    is = parted n stop.cell stop.within (sym (lent_left n) ∙ stop.is);
+    marks = marks;
+    counts = subst (λ (xs : List AirCell). CountsTold xs co cn) (below_left n) counts;
+    middle = stop.middle;
+    heard = subst (λ (xs : List AirCell). grew a (map Reported xs) stop.middle) (below_left n) stop.heard;
     stop = stop.stop;
   }
 
--- at the end
-pub all_below : (v : CellsValue) (m : SymbolStart) (n : ℕ) → n ≡ m.endpoint.prbs → left_below v m n ≡ left_at v m
-unfolding left_at
-all_below v m n e = ap (λ (k : ℕ). each 0 k (left_told v m)) e
+-- ---- an answer
+
+pub ok_then : {T E P Q R : Type 0} (r : Result T E) → OnOk r P → OnOk r Q → (P → Q → R) → OnOk r R
+ok_then (Ok x) p q f = f p q
+ok_then (Err e) p q f = tt

@@ -8,10 +8,10 @@ use Rattle.fh_time.specs.Air.{air_of}
 use Rattle.fh_time.specs.Numbering.{symbols_of}
 use Rattle.fh_time.proofs.Order.{symbols_in_order}
 use Rattle.window_config.specs.declared.endpoints.EndpointConfig.{EndpointConfig}
-use Rattle.unit_model.specs.Order.{comes_before}
-use Rattle.unit_model.specs.Proper.{IsAt, IsSlot}
-use Rattle.unit_model.specs.Starts.{start_at}
-use Rattle.unit_model.specs.declared.symbol_start.SymbolStart.{SymbolStart}
+use Rattle.unit_cells.specs.unit_model.specs.Order.{comes_before}
+use Rattle.unit_cells.specs.unit_model.specs.Proper.{IsAt, IsSlot}
+use Rattle.unit_cells.specs.unit_model.specs.Starts.{start_at}
+use Rattle.unit_cells.specs.unit_model.specs.declared.symbol_start.SymbolStart.{SymbolStart}
 use Rattle.unit_cells.specs.Cells.{CellsValue, IsSlotIn, cells_has, cells_index, endpoints_of}
 use Rattle.unit_cells.proofs.ListLemmas.{some_equal}
 use Rattle.ru_reports.specs.Searches.{InPlace, InSlot, IsNotBefore, IsWanted, Searched, earlier_of}

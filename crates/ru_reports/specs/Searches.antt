@@ -1,8 +1,8 @@
 -- A search for the symbol that is told first, over some symbols of the rings (this project's profile).
 use Rattle.std.specs.Prelude.{◌≡◌, ℕ, ℤ, ◌<ℤ◌, true, false, if◌then◌else◌, Option, Some, None, IfSome}
 use Rattle.fh_time.specs.declared.values.Slot.{Slot}
-use Rattle.unit_model.specs.Order.{comes_before}
-use Rattle.unit_model.specs.declared.symbol_start.SymbolStart.{SymbolStart}
+use Rattle.unit_cells.specs.unit_model.specs.Order.{comes_before}
+use Rattle.unit_cells.specs.unit_model.specs.declared.symbol_start.SymbolStart.{SymbolStart}
 use Rattle.unit_cells.specs.Cells.{CellsValue, cells_index}
 use Rattle.ru_reports.specs.Symbols.{IsFound, IsSymbol, is_left}
 

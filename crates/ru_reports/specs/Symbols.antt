@@ -10,17 +10,17 @@ use Rattle.air_source.specs.declared.events.Side.TheVariants.{Ru}
 use Rattle.fault_counters.specs.declared.kinds.Counter.{Counter}
 use Rattle.fault_counters.specs.Counts.{capped, count_of, times}
 use Rattle.window_config.specs.declared.config.Config.{Config}
-use Rattle.unit_model.specs.Claims.{cell_at, same_slot}
-use Rattle.unit_model.specs.Counts.{cells_counted}
-use Rattle.unit_model.specs.Lists.{each, some}
-use Rattle.unit_model.specs.Proper.{IsAt, IsSlot}
-use Rattle.unit_model.specs.Radiated.{Known}
-use Rattle.unit_model.specs.Starts.{cell_told}
-use Rattle.unit_model.specs.declared.allocations.Allocation.{Allocation}
-use Rattle.unit_model.specs.declared.cells.Cell.{Cell}
-use Rattle.unit_model.specs.declared.decoded.Data.{Data}
-use Rattle.unit_model.specs.declared.symbol_start.SymbolStart.{SymbolStart}
-use Rattle.slot_rings.specs.Places.{is_due}
+use Rattle.unit_cells.specs.unit_model.specs.Claims.{cell_at, same_slot}
+use Rattle.unit_cells.specs.unit_model.specs.Counts.{cells_counted}
+use Rattle.unit_cells.specs.unit_model.specs.Lists.{each, some}
+use Rattle.unit_cells.specs.unit_model.specs.Proper.{IsAt, IsSlot}
+use Rattle.unit_cells.specs.unit_model.specs.Radiated.{Known}
+use Rattle.unit_cells.specs.unit_model.specs.Starts.{cell_told}
+use Rattle.unit_cells.specs.unit_model.specs.declared.allocations.Allocation.{Allocation}
+use Rattle.unit_cells.specs.unit_model.specs.declared.cells.Cell.{Cell}
+use Rattle.unit_cells.specs.unit_model.specs.declared.decoded.Data.{Data}
+use Rattle.unit_cells.specs.unit_model.specs.declared.symbol_start.SymbolStart.{SymbolStart}
+use Rattle.unit_cells.specs.slot_rings.specs.Places.{is_due}
 use Rattle.air_source.specs.declared.events.Side.{Side}
 use Rattle.unit_cells.specs.Cells.{CellsValue, IsCellIn, cells_block, cells_claim, cells_done, cells_has, endpoints_of}
 use Rattle.unit_cells.specs.Keeping.{Keeps, SameKnown}

@@ -2,17 +2,17 @@
 ghost use Rattle.std.specs.Prelude.{◌≡◌, ◌-◌, ◌<ℤ◌, ◌<◌, true, false, int_le, IfNone, IfSome};
 ghost use Rattle.fh_time.specs.Air.{air_of};
 ghost use Rattle.fh_time.specs.Numbering.{symbols_of};
-ghost use Rattle.unit_model.specs.Order.{comes_before};
-ghost use Rattle.unit_model.specs.Proper.{IsAt, IsSlot};
-ghost use Rattle.unit_model.specs.Starts.{start_at};
-ghost use Rattle.unit_model.specs.declared.symbol_start.SymbolStart.{SymbolStart as SpecStart};
+ghost use Rattle.unit_cells.specs.unit_model.specs.Order.{comes_before};
+ghost use Rattle.unit_cells.specs.unit_model.specs.Proper.{IsAt, IsSlot};
+ghost use Rattle.unit_cells.specs.unit_model.specs.Starts.{start_at};
+ghost use Rattle.unit_cells.specs.unit_model.specs.declared.symbol_start.SymbolStart.{SymbolStart as SpecStart};
 ghost use Rattle.unit_cells.specs.Cells.{cells_has, cells_index, cells_places, endpoints_of};
 ghost use Rattle.ru_reports.specs.Searches.{InPlace, OfEndpoint, InSlot, IsWanted, Searched, earlier_of};
 ghost use Rattle.ru_reports.specs.Symbols.{IsFound, IsSymbol, is_left};
 
 use fh_time::{Slot, Ticks, air, shape};
 use unit_cells::UnitCells;
-use unit_model::{SymbolStart, comes_before};
+use unit_cells::unit_model::{SymbolStart, comes_before};
 use window_config::EndpointConfig;
 
 /// A symbol of an endpoint, with its start.

@@ -9,3 +9,4 @@ mod reporting;
 
 pub use finding::first_left;
 pub use reporting::report;
+pub use unit_cells;

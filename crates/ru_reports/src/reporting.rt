@@ -1,25 +1,34 @@
 // The report of a symbol.
-ghost use Rattle.std.specs.Prelude.{◌≡◌, ◌<◌, [], ◌∷◌, IfErr, OnOk, map, option_to_list};
+ghost use Rattle.std.specs.Prelude.{◌≡◌, ◌<◌, ◌≤◌, [], ◌∷◌, IfErr, OnOk, map, option_to_list};
 ghost use Rattle.air_source.specs.Causes.{HasAirCause};
 ghost use Rattle.air_source.specs.declared.events.Event.TheVariants.{Cell as Reported};
-ghost use Rattle.ru_reports.specs.Symbols.{CountsTold, IsSymbol, MarksTold, StopsAtCell, left_at, left_told};
-ghost use Rattle.ru_reports.specs.Tellings.{StopsInOne};
+ghost use Rattle.ru_reports.specs.Symbols.{CountsTold, IsSymbol, MarksTold, StopsAtCell, left_at};
+ghost use Rattle.ru_reports.specs.Tellings.{StopsAtPrb, StopsInOne, lent_below, lent_told};
 
 use air_source::{Air, AirCell, AirFault, Side};
 use fault_counters::Counters;
 use unit_cells::UnitCells;
-use unit_model::{SymbolStart, block_counter, samples_under};
+use unit_cells::slot_rings::SymbolCells;
+use unit_cells::unit_model::{SymbolStart, block_counter, samples_under};
+
+/// How far the cells of a symbol were told to an air.
+#[derive(Drop)]
+struct Telling {
+    /// The number of PRBs before the one in which the air stopped, or of all.
+    prbs: u16,
+    /// The air's answer.
+    answer: Result<(), AirFault>,
+}
 
 /// The report of a cell of a symbol, if it is in use and was not reported.
-fn left_cell(cells: &UnitCells, m: &SymbolStart, prb: u16) -> Option<AirCell>
-    requires { IsSymbol cells.now m.now }
-    ensures { option_to_list result ≡ left_told cells.now m.now prb }
+fn left_cell(cells: &SymbolCells<'_>, m: &SymbolStart, prb: u16) -> Option<AirCell>
+    ensures { option_to_list result ≡ lent_told cells.now m.now prb }
 {
-    let used = cells.cell(m.ep, m.slot, m.symbol, prb);
+    let used = cells.cell(prb);
     if used.done || used.mask == 0 {
         return None;
     }
-    let block = cells.block(m.ep, m.slot, m.symbol, prb).copied();
+    let block = cells.block(prb).copied();
     Some(AirCell {
         side: Side::Ru,
         at: m.start,
@@ -33,32 +42,17 @@ fn left_cell(cells: &UnitCells, m: &SymbolStart, prb: u16) -> Option<AirCell>
     })
 }
 
-/// Marks a cell of a symbol as reported, and counts it.
-fn settle(cells: &mut UnitCells, counters: &mut Counters, m: &SymbolStart, cell: &AirCell)
-    requires symbol { IsSymbol cells.old m.now }
-    requires prb { cell.now.prb < m.now.endpoint.prbs }
-    ensures marks { MarksTold m.now (cell.now ∷ []) cells.old cells.new }
-    ensures counts { CountsTold (cell.now ∷ []) counters.old counters.new }
-{
-    cells.mark(m.ep, m.slot, m.symbol, cell.prb);
-    counters.add(block_counter(cell.block));
-}
-
-/// Hands an air a cell of a symbol if it is in use and was not reported, marks it and counts it. After an error nothing is marked
-/// or counted.
-fn report_cell<A: Air>(
-    cells: &mut UnitCells,
+/// Hands an air a cell of a symbol if it is in use and was not reported, and counts it. After an error nothing is counted.
+fn tell_cell<A: Air>(
+    cells: &SymbolCells<'_>,
     counters: &mut Counters,
     m: &SymbolStart,
     prb: u16,
     air: &mut A,
 ) -> Result<(), AirFault>
-    requires symbol { IsSymbol cells.old m.now }
-    requires prb { prb < m.now.endpoint.prbs }
-    ensures heard { OnOk result (A.grew air.old (map Reported (left_told cells.old m.now prb)) air.new) }
-    ensures marks { OnOk result (MarksTold m.now (left_told cells.old m.now prb) cells.old cells.new) }
-    ensures counts { OnOk result (CountsTold (left_told cells.old m.now prb) counters.old counters.new) }
-    ensures stop { IfErr result (λ f. StopsInOne (A.stopped f) (left_told cells.old m.now prb) cells.old cells.new counters.old counters.new air.old air.new) }
+    ensures heard { OnOk result (A.grew air.old (map Reported (lent_told cells.now m.now prb)) air.new) }
+    ensures counts { OnOk result (CountsTold (lent_told cells.now m.now prb) counters.old counters.new) }
+    ensures stop { IfErr result (λ f. StopsInOne (A.stopped f) (lent_told cells.now m.now prb) counters.old counters.new air.old air.new) }
     ensures same { A.same air.old air.new }
     ensures cause { HasAirCause (A.faults air.old) (A.faults air.new) result }
 {
@@ -66,31 +60,43 @@ fn report_cell<A: Air>(
         None => Ok(()),
         Some(cell) => {
             air.cell(&cell)?;
-            settle(cells, counters, m, &cell);
+            counters.add(block_counter(cell.block));
             Ok(())
         }
     }
 }
 
-/// Hands an air the cells of a symbol.
-fn report_cells<A: Air>(
-    cells: &mut UnitCells,
+/// Hands an air the cells of a symbol, and counts those that it heard.
+fn tell_cells<A: Air>(
+    cells: &SymbolCells<'_>,
     counters: &mut Counters,
     m: &SymbolStart,
     air: &mut A,
-) -> Result<(), AirFault>
-    requires { IsSymbol cells.old m.now }
-    ensures heard { OnOk result (A.grew air.old (map Reported (left_at cells.old m.now)) air.new) }
-    ensures marks { OnOk result (MarksTold m.now (left_at cells.old m.now) cells.old cells.new) }
-    ensures counts { OnOk result (CountsTold (left_at cells.old m.now) counters.old counters.new) }
-    ensures stop { IfErr result (λ f. StopsAtCell A.grew (A.stopped f) m.now cells.old cells.new counters.old counters.new air.old air.new) }
+) -> Telling
+    ensures within { result.prbs ≤ m.now.endpoint.prbs }
+    ensures all { OnOk result.answer (result.prbs ≡ m.now.endpoint.prbs) }
+    ensures heard { OnOk result.answer (A.grew air.old (map Reported (lent_below cells.now m.now result.prbs)) air.new) }
+    ensures counts { CountsTold (lent_below cells.now m.now result.prbs) counters.old counters.new }
+    ensures stop { IfErr result.answer (λ f. StopsAtPrb A.grew (A.stopped f) cells.now m.now result.prbs air.old air.new) }
     ensures same { A.same air.old air.new }
-    ensures cause { HasAirCause (A.faults air.old) (A.faults air.new) result }
+    ensures cause { HasAirCause (A.faults air.old) (A.faults air.new) result.answer }
 {
-    for prb in 0..m.endpoint.prbs {
-        report_cell(cells, counters, m, prb, air)?;
+    let prbs = m.endpoint.prbs;
+    for prb in 0..prbs {
+        match tell_cell(cells, counters, m, prb, air) {
+            Ok(()) => {}
+            Err(fault) => {
+                return Telling {
+                    prbs: prb,
+                    answer: Err(fault),
+                };
+            }
+        }
     }
-    Ok(())
+    Telling {
+        prbs,
+        answer: Ok(()),
+    }
 }
 
 /// Hands an air each cell of a symbol that is in use and was not reported, in the order of PRBs, marks it and counts it. After an
@@ -113,11 +119,8 @@ pub fn report<A: Air>(
     ensures same { A.same air.old air.new }
     ensures cause { HasAirCause (A.faults air.old) (A.faults air.new) result }
 {
-    match report_cells(cells, counters, m, air) {
-        Ok(()) => {
-            cells.settle(m.ep, m.slot, m.symbol);
-            Ok(())
-        }
-        Err(fault) => Err(fault),
-    }
+    let lent = cells.symbol_cells(m.ep, m.slot, m.symbol);
+    let told = tell_cells(&lent, counters, m, air);
+    cells.mark_used(m.ep, m.slot, m.symbol, told.prbs);
+    told.answer
 }

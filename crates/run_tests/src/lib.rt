@@ -1,11 +1,13 @@
-//! Tests of whole runs, by the top call with ends in memory: worked documents of every command (`replays`, `captures`, `windows`,
-//! `pcaps`), plans that are refused (`plans`), the words (`words`), ends that fail (`faults`), and captures that go to a pcap file and back (`round_trips`).
+//! Tests of whole runs, by the top call with ends in memory: worked documents of every command (`replays`, `delays`, `captures`,
+//! `windows`, `pcaps`), plans that are refused (`plans`), the words (`words`), ends that fail (`faults`), and captures that go to a pcap file and back (`round_trips`).
 //!
 //! They stand beside `top_call`, so that it is proved without them.
 #![tactic(auto)]
 
 #[cfg(test)]
 mod captures;
+#[cfg(test)]
+mod delays;
 #[cfg(test)]
 mod faults;
 #[cfg(test)]

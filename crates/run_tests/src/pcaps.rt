@@ -114,6 +114,27 @@ fn a_file_becomes_a_document_and_a_capture(rt: HostRuntime) -> Result<(), Fail> 
     Ok(())
 }
 
+#[test]
+fn a_request_of_delay_measurement_is_replayed(rt: HostRuntime) -> Result<(), Fail> {
+    let alloc = rt.alloc();
+    let mut file = bytes_of(alloc, HEAD)?;
+    let request: &[u8] = b"\x10\x05\0\x14\x07\0\0\0\0\0\0\x02\0\0\x0b\xb8\0\0\0\0\0\x01\x80\0";
+    push_record(&mut file, 7, 1, b"\xae\xfe", request)?;
+    let lines = run_words(alloc, &[b"pcap", b"dl", b"1000000"], file.as_slice())?;
+    let mut document = bytes_of(alloc, b"fronthaul 1\n")?;
+    document.push_all(lines.text())?;
+    let report = run_words(alloc, &[b"replay"], document.as_slice())?;
+    assert_eq!(rt;
+        lines.text(),
+        b"inject dl 1000000 10050014070000000000000200000bb80000000000018000\n".as_slice()
+    );
+    assert_eq!(rt;
+        report.text(),
+        b"count ru frames 1\ncount ru messages 1\ncount ru delay 1\ncount du frames 1\ncount du messages 1\ncount du delay 1\ncount du delay_unknown 1\nend\n".as_slice()
+    );
+    Ok(())
+}
+
 /// What a file of these two records answers, each an Ethernet frame without addresses, at the start of time 0.
 fn two(
     alloc: Global,

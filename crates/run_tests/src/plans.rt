@@ -1,9 +1,9 @@
 // Documents whose plan is refused: the line of the document is told, behind the whole grammar, by the commands that replay.
 use crate::runs::run_words;
-use du_scheduler::PlanWhy;
 use fh_base::{Bytes, NoMemory};
 use std::alloc::Global;
 use std::test::Fail;
+use top_call::du_scheduler::PlanWhy;
 use top_call::{LineWhy, Status};
 
 // The commands that replay a document.
@@ -125,8 +125,8 @@ fn the_grammar_comes_before_the_plan(rt: HostRuntime) -> Result<(), Fail> {
             b"fronthaul: line 3: Words\n",
         ],
         [
-            b"fronthaul 1\nplan dl 0001 1 0 0 0 1 0 1 fff 1 0\nmeasure du 0 one 1000000\n",
-            b"fronthaul: line 3: NotBuilt\n",
+            b"fronthaul 1\nplan dl 0001 1 0 0 0 1 0 1 fff 1 0\nmeasure du 0 one 999999\n",
+            b"fronthaul: line 3: Number\n",
         ],
     ];
     for [document, line] in rows {

@@ -1,5 +1,5 @@
 // Worked documents and their reports.
-use crate::runs::run_words;
+use crate::runs::{first_wrong, run_words};
 use std::test::Fail;
 use top_call::Status;
 
@@ -48,12 +48,7 @@ fn frames_and_messages_are_reported(rt: HostRuntime) -> Result<(), Fail> {
             b"count ru frames 2\ncount ru messages 2\ncount ru f_whole 2\ncount ru u_late 1\ncount ru u_early 1\nend\n",
         ],
     ];
-    for [document, report] in rows {
-        let ran = run_words(alloc, &[b"replay"], document)?;
-        assert_eq!(rt; ran.text(), report);
-        assert_eq!(rt; ran.line(), b"".as_slice());
-        assert_eq!(rt; ran.status(), Status::Done);
-    }
+    assert_eq!(rt; first_wrong(alloc, &rows)?, None);
     Ok(())
 }
 
@@ -82,12 +77,7 @@ fn both_directions_are_reported(rt: HostRuntime) -> Result<(), Fail> {
             b"count du frames 1\ncount du messages 1\ncount du wrong_way 1\nend\n",
         ],
     ];
-    for [document, report] in rows {
-        let ran = run_words(alloc, &[b"replay"], document)?;
-        assert_eq!(rt; ran.text(), report);
-        assert_eq!(rt; ran.line(), b"".as_slice());
-        assert_eq!(rt; ran.status(), Status::Done);
-    }
+    assert_eq!(rt; first_wrong(alloc, &rows)?, None);
     Ok(())
 }
 
@@ -116,12 +106,7 @@ fn commands_are_reported(rt: HostRuntime) -> Result<(), Fail> {
             b"count ru frames 3\ncount ru messages 3\ncount ru c_repeat 1\ncount ru c_accepted 1\ncount ru f_whole 1\ncount ru u_taken 1\nend\n",
         ],
     ];
-    for [document, report] in rows {
-        let ran = run_words(alloc, &[b"replay"], document)?;
-        assert_eq!(rt; ran.text(), report);
-        assert_eq!(rt; ran.line(), b"".as_slice());
-        assert_eq!(rt; ran.status(), Status::Done);
-    }
+    assert_eq!(rt; first_wrong(alloc, &rows)?, None);
     Ok(())
 }
 
@@ -170,12 +155,7 @@ fn data_are_reported(rt: HostRuntime) -> Result<(), Fail> {
             b"count ru frames 1\ncount ru messages 1\ncount ru c_mismatch 1\nend\n",
         ],
     ];
-    for [document, report] in rows {
-        let ran = run_words(alloc, &[b"replay"], document)?;
-        assert_eq!(rt; ran.text(), report);
-        assert_eq!(rt; ran.line(), b"".as_slice());
-        assert_eq!(rt; ran.status(), Status::Done);
-    }
+    assert_eq!(rt; first_wrong(alloc, &rows)?, None);
     Ok(())
 }
 

@@ -50,3 +50,17 @@ pub(crate) fn run_words(alloc: Global, words: &[&[u8]], input: &[u8]) -> Result<
     let status = run(alloc, &words, &mut source, &mut out, &mut err);
     Ok(Ran { status, out, err })
 }
+
+/// The place of the first of these documents that `replay` does not report by this text, done and with nothing on `err`.
+pub(crate) fn first_wrong(alloc: Global, rows: &[[&[u8]; 2]]) -> Result<Option<usize>, NoMemory> {
+    for (index, [document, report]) in rows.iter().enumerate() {
+        let ran = run_words(alloc, &[b"replay"], document)?;
+        let as_wanted = ran.text() == *report
+            && ran.line().is_empty()
+            && ran.status() == Status::Done;
+        if !as_wanted {
+            return Ok(Some(index));
+        }
+    }
+    Ok(None)
+}

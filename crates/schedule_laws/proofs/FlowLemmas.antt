@@ -13,22 +13,22 @@ use Rattle.fh_time.specs.declared.values.Slot.{Slot}
 use Rattle.bfp_codec.specs.Layout.{HasWidth, length_of}
 use Rattle.bfp_codec.specs.declared.methods.Method.{Method}
 use Rattle.bfp_codec.specs.declared.methods.Method.TheVariants.{Plain, Bfp}
-use Rattle.uplane_sections.specs.Section.{header_size}
+use Rattle.unit_laws.specs.uplane_sections.specs.Section.{header_size}
 use Rattle.fragment_laws.specs.Apart.{IsIn}
 use Rattle.fragment_laws.specs.Flow.{IsDistant, IsSound, size_to}
 use Rattle.fragment_laws.specs.Flow.{sent_at as flow_sent_at}
-use Rattle.window_config.specs.Configs.{IsConfig}
-use Rattle.window_config.specs.Plans.{IsPlanLine}
-use Rattle.window_config.specs.Relations.{PassesCheck}
-use Rattle.window_config.specs.Windows.{ticks_of_ns}
-use Rattle.window_config.specs.declared.config.Config.{Config}
-use Rattle.window_config.specs.declared.endpoints.EndpointConfig.{EndpointConfig}
-use Rattle.window_config.specs.declared.plan.PlanLine.{PlanLine}
-use Rattle.unit_model.specs.Proper.{IsAt}
-use Rattle.unit_model.specs.Radiated.{first_clock}
-use Rattle.unit_model.specs.Sweeps.{of_endpoint}
-use Rattle.unit_model.specs.Times.{end_of_time}
-use Rattle.unit_model.proofs.SweepLaws.{gap_is}
+use Rattle.unit_laws.specs.window_config.specs.Configs.{IsConfig}
+use Rattle.unit_laws.specs.window_config.specs.Plans.{IsPlanLine}
+use Rattle.unit_laws.specs.window_config.specs.Relations.{PassesCheck}
+use Rattle.unit_laws.specs.window_config.specs.Windows.{ticks_of_ns}
+use Rattle.unit_laws.specs.window_config.specs.declared.config.Config.{Config}
+use Rattle.unit_laws.specs.window_config.specs.declared.endpoints.EndpointConfig.{EndpointConfig}
+use Rattle.unit_laws.specs.window_config.specs.declared.plan.PlanLine.{PlanLine}
+use Rattle.unit_laws.specs.unit_model.specs.Proper.{IsAt}
+use Rattle.unit_laws.specs.unit_model.specs.Radiated.{first_clock}
+use Rattle.unit_laws.specs.unit_model.specs.Sweeps.{of_endpoint}
+use Rattle.unit_laws.specs.unit_model.specs.Times.{end_of_time}
+use Rattle.unit_laws.specs.unit_model.proofs.SweepLaws.{gap_is}
 use Rattle.unit_laws.proofs.SweepLemmas.{of_endpoint_related}
 use Rattle.plan_model.specs.Dense.{dense_from, dense_in, down_distance, up_distance, first_near, is_near, lesser, sending_of, sendings}
 use Rattle.plan_model.specs.Departures.{departures_of, sent_at, start_of}

@@ -10,17 +10,17 @@ use Rattle.fh_time.specs.Carrier.{count_of, is_outside}
 use Rattle.fh_time.specs.Numbering.{slots_of, symbols_of}
 use Rattle.fh_time.specs.declared.values.Slot.{Slot}
 use Rattle.fragment_laws.specs.Apart.{IsIn}
-use Rattle.window_config.specs.Configs.{IsConfig}
-use Rattle.window_config.specs.Endpoints.{IsEndpoint}
-use Rattle.window_config.specs.Plans.{IsPlanLine}
-use Rattle.window_config.specs.declared.config.Config.{Config}
-use Rattle.window_config.specs.declared.endpoints.EndpointConfig.{EndpointConfig}
-use Rattle.window_config.specs.declared.plan.PlanLine.{PlanLine}
-use Rattle.unit_model.specs.Claims.{same_slot}
-use Rattle.unit_model.specs.Commands.{uplink_in}
-use Rattle.unit_model.specs.Proper.{IsAt}
-use Rattle.unit_model.specs.declared.allocations.Allocation.{Allocation}
-use Rattle.unit_model.proofs.ReachLaws.{symbol_soon}
+use Rattle.unit_laws.specs.window_config.specs.Configs.{IsConfig}
+use Rattle.unit_laws.specs.window_config.specs.Endpoints.{IsEndpoint}
+use Rattle.unit_laws.specs.window_config.specs.Plans.{IsPlanLine}
+use Rattle.unit_laws.specs.window_config.specs.declared.config.Config.{Config}
+use Rattle.unit_laws.specs.window_config.specs.declared.endpoints.EndpointConfig.{EndpointConfig}
+use Rattle.unit_laws.specs.window_config.specs.declared.plan.PlanLine.{PlanLine}
+use Rattle.unit_laws.specs.unit_model.specs.Claims.{same_slot}
+use Rattle.unit_laws.specs.unit_model.specs.Commands.{uplink_in}
+use Rattle.unit_laws.specs.unit_model.specs.Proper.{IsAt}
+use Rattle.unit_laws.specs.unit_model.specs.declared.allocations.Allocation.{Allocation}
+use Rattle.unit_laws.specs.unit_model.proofs.ReachLaws.{symbol_soon}
 use Rattle.unit_laws.proofs.CellLemmas.{slots_equal}
 use Rattle.plan_model.specs.Lines.{allocation_of, planned}
 use Rattle.plan_model.specs.Streams.{has_part}

@@ -5,7 +5,7 @@ use Rattle.std.specs.List.{fold, slice_get}
 use Rattle.std.proofs.lemmas.Bool.{and_parts, and_from, eq-eqb, leb-true}
 use Rattle.std.proofs.lemmas.Int.{ints}
 use Rattle.fragment_laws.specs.Apart.{IsIn}
-use Rattle.unit_model.specs.Lists.{each_tick}
+use Rattle.unit_laws.specs.unit_model.specs.Lists.{each_tick}
 use Rattle.plan_model.specs.Packs.{PartFields, Message, Numbered, alone, frames_before, numbered, numbered_behind, packs, packs_behind, parts_of, same_symbol, size_of, takes, with_part}
 use Rattle.schedule_laws.proofs.ClashLemmas.{slot_own}
 use Rattle.schedule_laws.proofs.ListLemmas.{at_in, in_either}

@@ -7,7 +7,7 @@ use Rattle.fh_time.specs.Air.{air_of}
 use Rattle.fh_time.specs.Frame.{absolute_frame}
 use Rattle.fh_time.specs.Numbering.{symbols_of}
 use Rattle.fh_time.specs.declared.values.Slot.{Slot}
-use Rattle.air_source.specs.declared.events.Side.TheVariants.{Ru}
+use Rattle.unit_laws.specs.air_source.specs.declared.events.Side.TheVariants.{Ru}
 use Rattle.ecpri_fragments.specs.Generations.{Fragment}
 use Rattle.ecpri_fragments.specs.Verdicts.{Message as WholeMessage, message, standing_before, verdict_on}
 use Rattle.ecpri_fragments.specs.declared.verdict.Verdict.TheVariants.{Whole}
@@ -16,24 +16,24 @@ use Rattle.fragment_laws.specs.Flow.{Bounds, Flow, IsCopyOf as IsFragmentCopy, I
 use Rattle.fragment_laws.specs.Once.{Answered, IsOnceWhole, answered, answers, texts}
 use Rattle.fragment_laws.proofs.FlowLemmas.{copy}
 use Rattle.fragment_laws.proofs.OnceLemmas.{once_whole}
-use Rattle.window_config.specs.Classes.{IsOnTime, class_of}
-use Rattle.window_config.specs.Windows.{ticks_of_ns}
-use Rattle.window_config.specs.declared.config.Config.{Config}
-use Rattle.window_config.specs.declared.endpoints.EndpointConfig.{EndpointConfig}
-use Rattle.window_config.specs.declared.plan.PlanLine.{PlanLine}
-use Rattle.window_config.specs.declared.verdicts.Class.TheVariants.{OnTime}
-use Rattle.window_config.proofs.Timing.{class_on_time}
-use Rattle.unit_model.specs.Blocks.{data_class, data_slot, data_start}
-use Rattle.unit_model.specs.Claims.{is_from, same_slot}
-use Rattle.unit_model.specs.Decoding.{Decoded, data_sections, decode, decode_message, sections_of}
-use Rattle.unit_model.specs.Lists.{joined, onto}
-use Rattle.unit_model.specs.Meetings.{Arrival, fragments, meetings}
-use Rattle.unit_model.specs.Proper.{IsAt}
-use Rattle.unit_model.specs.Radiated.{first_clock}
-use Rattle.unit_model.specs.Times.{end_of_time}
-use Rattle.unit_model.specs.declared.decoded.Data.{Data}
-use Rattle.unit_model.proofs.ReachLaws.{symbol_soon}
-use Rattle.unit_model.proofs.SweepLaws.{gap_is}
+use Rattle.unit_laws.specs.window_config.specs.Classes.{IsOnTime, class_of}
+use Rattle.unit_laws.specs.window_config.specs.Windows.{ticks_of_ns}
+use Rattle.unit_laws.specs.window_config.specs.declared.config.Config.{Config}
+use Rattle.unit_laws.specs.window_config.specs.declared.endpoints.EndpointConfig.{EndpointConfig}
+use Rattle.unit_laws.specs.window_config.specs.declared.plan.PlanLine.{PlanLine}
+use Rattle.unit_laws.specs.window_config.specs.declared.verdicts.Class.TheVariants.{OnTime}
+use Rattle.unit_laws.specs.window_config.proofs.Timing.{class_on_time}
+use Rattle.unit_laws.specs.unit_model.specs.Blocks.{data_class, data_slot, data_start}
+use Rattle.unit_laws.specs.unit_model.specs.Claims.{is_from, same_slot}
+use Rattle.unit_laws.specs.unit_model.specs.Decoding.{Decoded, data_sections, decode, decode_message, sections_of}
+use Rattle.unit_laws.specs.unit_model.specs.Lists.{joined, onto}
+use Rattle.unit_laws.specs.unit_model.specs.Meetings.{Arrival, fragments, meetings}
+use Rattle.unit_laws.specs.unit_model.specs.Proper.{IsAt}
+use Rattle.unit_laws.specs.unit_model.specs.Radiated.{first_clock}
+use Rattle.unit_laws.specs.unit_model.specs.Times.{end_of_time}
+use Rattle.unit_laws.specs.unit_model.specs.declared.decoded.Data.{Data}
+use Rattle.unit_laws.specs.unit_model.proofs.ReachLaws.{symbol_soon}
+use Rattle.unit_laws.specs.unit_model.proofs.SweepLaws.{gap_is}
 use Rattle.unit_laws.proofs.CellLemmas.{from_within, slots_equal}
 use Rattle.plan_model.specs.Departures.{departures_of, sent_at, start_of, width_of}
 use Rattle.plan_model.specs.Lines.{allocation_of, planned}
@@ -103,7 +103,7 @@ module _ (c : Config) (lines : List PlanLine) (text : Texts) (blocks : Blocks) (
   abbrev IsHere : ℕ → ℕ → Type 0
   IsHere ep j = Here c lines h.config h.lines_fit h.valid h.check text ep j
 
-  sounds : (ep : ℕ) → IsSound b (flow ep)
+  pub sounds : (ep : ℕ) → IsSound (bounds_of c) (flow_of c (planned c.endpoints lines) text ep)
   sounds ep = sound c lines h.config h.lines_fit h.valid h.check text w.size ep
 
   -- ---- a part of data
@@ -224,7 +224,7 @@ module _ (c : Config) (lines : List PlanLine) (text : Texts) (blocks : Blocks) (
         flow_copy f came.0 k refl came.2,
       )
 
-  delivered : IsDelivered b flow all
+  pub delivered : IsDelivered (bounds_of c) (flow_of c (planned c.endpoints lines) text) (fragments (meetings Ru c.endpoints arrivals))
   delivered = record { falling = falling c text (sent c ps) arrivals h.came h.in_order; came = flow_came; every = flow_every }
 
   abbrev num : Numbers

@@ -9,8 +9,8 @@ use Rattle.std.proofs.lemmas.Int.{ints}
 use Rattle.std.proofs.lemmas.List.Elements.{All-from_recursion, All-head, All-nil, All-tail, filter-append, recursion_from_All}
 use Rattle.air_source.specs.declared.links.LinkFrame.{LinkFrame}
 use Rattle.fh_time.specs.declared.values.Ticks.{Ticks}
-use Rattle.unit_model.specs.Lists.{each}
-use Rattle.unit_model.proofs.SweepLaws.{each_none, each_same}
+use Rattle.uplink_model.specs.unit_model.specs.Lists.{each}
+use Rattle.uplink_model.specs.unit_model.proofs.SweepLaws.{each_none, each_same}
 use Rattle.uplink_model.specs.Sent.{leaves_at, leaving_at, leaving_of}
 use Rattle.uplink_model.specs.SentLaws.{AreOf}
 use Rattle.send_queue.specs.Queues.{AllHaveLeft, AreFrom, AreInTurn, Gives, HasLeft, IsNextTime, IsSilentTo, Leaves, Took, WaitsFor, all_queued, first_time, leaves_after, queued, waiting_at}

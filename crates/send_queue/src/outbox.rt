@@ -1,54 +1,71 @@
 // The frames that a unit handed over.
-ghost use Rattle.std.specs.Prelude.{◌≡◌, [], ◌∷◌, MatchOption};
+ghost use Rattle.std.specs.Prelude.{◌≡◌, [], ◌∷◌, ◌++◌, MatchOption, OnErr, OnOk};
+ghost use Rattle.frame_network.specs.Pool.{no_spare, without_spare};
 
 use air_source::{Link, LinkFrame};
-use fh_base::{Bytes, NoMemory};
+use fh_base::NoMemory;
 use fh_time::Ticks;
+use frame_network::FramePool;
 use std::alloc::Global;
 use std::collections::VecDeque;
 use std::marker::Model;
+use std::mem;
 
-/// The frames that a unit handed over and that were not taken on yet. Contracts see the list of them, in order.
+/// The frames that a unit handed over and that were not taken on yet, and a pool of memory for them. Contracts see the frames, in order,
+/// and the pool.
 #[derive(Drop)]
 pub struct Outbox {
-    alloc: Global,
+    pool: FramePool,
     frames: VecDeque<LinkFrame>,
 }
 
 impl Model for Outbox {
-    ghost use Rattle.std.specs.Prelude.{List};
-    ghost use Rattle.air_source.specs.declared.links.LinkFrame.{LinkFrame};
+    ghost use Rattle.send_queue.specs.Outboxes.{Handed};
 
-    ghost Value = { List LinkFrame };
+    ghost Value = { Handed };
 
-    ghost view = { λ outbox. outbox.frames.items };
+    ghost view = { λ outbox. record { frames = outbox.frames.items; pool = outbox.pool } };
 }
 
 impl Outbox {
     /// No frames. This takes no memory; later growth takes it from `alloc`.
     pub fn new(alloc: Global) -> Outbox
-        ensures { result ≡ [] }
+        ensures frames { result.frames ≡ [] }
+        ensures pool { result.pool ≡ no_spare }
     {
         Outbox {
-            alloc,
+            pool: FramePool::new(alloc),
             frames: VecDeque::new(alloc),
         }
     }
 
+    /// Takes the frames' memory from this pool from now on, and leaves there the pool that it had.
+    pub fn swap_pool(&mut self, pool: &mut FramePool)
+        ensures frames { self.new.frames ≡ self.old.frames }
+        ensures taken { self.new.pool ≡ pool.old }
+        ensures left { pool.new ≡ self.old.pool }
+    {
+        mem::swap(&mut self.pool, pool);
+    }
+
     /// Takes out the frame that was handed over first. `None` where there is none.
     pub(crate) fn take_first(&mut self) -> Option<LinkFrame>
-        ensures { MatchOption result ((self.old ≡ []) × (self.new ≡ [])) (λ f. self.old ≡ f ∷ self.new) }
+        ensures frames { MatchOption result ((self.old.frames ≡ []) × (self.new.frames ≡ [])) (λ f. self.old.frames ≡ f ∷ self.new.frames) }
+        ensures pool { self.new.pool ≡ self.old.pool }
     {
         self.frames.pop_front()
     }
 }
 
 impl Link for Outbox {
-    ghost sent = { λ frames. frames };
+    ghost sent = { λ outbox. outbox.frames };
 
-    fn send(&mut self, at: Ticks, ep: usize, frame: &[u8]) -> Result<(), NoMemory> {
-        let mut kept = Bytes::new(self.alloc);
-        kept.push_all(frame)?;
+    fn send(&mut self, at: Ticks, ep: usize, frame: &[u8]) -> Result<(), NoMemory>
+        ensures ok { OnOk result (self.new.frames ≡ self.old.frames ++ record { at = at; ep = ep; frame = frame.now } ∷ []) }
+        ensures err { OnErr result (self.new.frames ≡ self.old.frames) }
+        ensures pool { OnOk result (self.new.pool ≡ without_spare self.old.pool) }
+    {
+        let kept = self.pool.copy_of(frame)?;
         self.frames.push_back(LinkFrame {
             at,
             ep,

@@ -97,11 +97,13 @@ impl SendQueue {
     ///
     /// [`NoMemory`] where memory is refused, and where 2^56 frames were taken in before. Then a frame may be lost.
     pub fn fill(&mut self, outbox: &mut Outbox) -> Result<(), NoMemory>
-        requires { All (λ f. f.ep < 16) outbox.old }
-        ensures filled { OnOk result (self.new ≡ all_queued outbox.old self.old) }
-        ensures emptied { OnOk result (outbox.new ≡ []) }
-        ensures waits { (endpoints : ℕ) (now : ℤ) (handed : List SpecFrame) → WaitsFor endpoints now handed self.old → AreOf endpoints outbox.old → AreFrom now outbox.old
-            → OnOk result (WaitsFor endpoints now (handed ++ outbox.old) self.new) }
+        requires { All (λ f. f.ep < 16) outbox.old.frames }
+        ensures filled { OnOk result (self.new ≡ all_queued outbox.old.frames self.old) }
+        ensures emptied { OnOk result (outbox.new.frames ≡ []) }
+        ensures pool { outbox.new.pool ≡ outbox.old.pool }
+        ensures waits { (endpoints : ℕ) (now : ℤ) (handed : List SpecFrame)
+            → WaitsFor endpoints now handed self.old → AreOf endpoints outbox.old.frames → AreFrom now outbox.old.frames
+            → OnOk result (WaitsFor endpoints now (handed ++ outbox.old.frames) self.new) }
     {
         while let Some(frame) = outbox.take_first() {
             self.put(frame)?;

@@ -10,22 +10,22 @@ use Rattle.std.specs.Option.{option_map_or}
 use Rattle.std.proofs.lemmas.Bool.{and_parts, eqb-true}
 use Rattle.std.proofs.lemmas.List.Sums.{sum_by-cons}
 use Rattle.fh_time.specs.Numbering.{symbols_of}
-use Rattle.fragment_laws.specs.Apart.{IsIn}
+use Rattle.schedule_laws.specs.fragment_laws.specs.Apart.{IsIn}
 use Rattle.window_config.specs.Configs.{IsConfig}
 use Rattle.window_config.specs.Plans.{IsPlanLine}
 use Rattle.window_config.specs.declared.config.Config.{Config}
 use Rattle.window_config.specs.declared.endpoints.EndpointConfig.{EndpointConfig}
 use Rattle.window_config.specs.declared.plan.PlanLine.{PlanLine}
-use Rattle.unit_model.specs.Claims.{same_slot}
-use Rattle.unit_model.specs.Proper.{IsAt}
-use Rattle.unit_laws.proofs.CellLemmas.{slots_equal}
-use Rattle.plan_model.specs.Lines.{planned}
-use Rattle.plan_model.specs.Packs.{Message, Numbered, packs, parts_of, size_of}
-use Rattle.plan_model.specs.Streams.{Part, frames_in, messages_of, part_fields, parts_in, section_size as plan_section_size}
-use Rattle.plan_model.specs.Valid.{IsValid}
-use Rattle.plan_model.specs.declared.lines.PlannedLine.{PlannedLine}
-use Rattle.plan_model.specs.declared.streams.Stream.{Stream}
-use Rattle.plan_model.specs.declared.streams.Stream.TheVariants.{DownData}
+use Rattle.schedule_laws.specs.unit_model.specs.Claims.{same_slot}
+use Rattle.schedule_laws.specs.unit_model.specs.Proper.{IsAt}
+use Rattle.schedule_laws.specs.unit_laws.proofs.CellLemmas.{slots_equal}
+use Rattle.schedule_laws.specs.plan_model.specs.Lines.{planned}
+use Rattle.schedule_laws.specs.plan_model.specs.Packs.{Message, Numbered, packs, parts_of, size_of}
+use Rattle.schedule_laws.specs.plan_model.specs.Streams.{Part, frames_in, messages_of, part_fields, parts_in, section_size as plan_section_size}
+use Rattle.schedule_laws.specs.plan_model.specs.Valid.{IsValid}
+use Rattle.schedule_laws.specs.plan_model.specs.declared.lines.PlannedLine.{PlannedLine}
+use Rattle.schedule_laws.specs.plan_model.specs.declared.streams.Stream.{Stream}
+use Rattle.schedule_laws.specs.plan_model.specs.declared.streams.Stream.TheVariants.{DownData}
 use Rattle.frame_bytes.specs.Messages.{MessageFits, SectionFits, message_size, sections_size}
 use Rattle.frame_bytes.proofs.Sections.{length_message}
 use Rattle.schedule_laws.specs.Flows.{messages_at}

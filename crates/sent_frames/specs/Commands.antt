@@ -12,8 +12,8 @@ use Rattle.uplane_sections.specs.Writes.{udCompHdr}
 use Rattle.window_config.specs.declared.endpoints.EndpointConfig.{EndpointConfig}
 use Rattle.window_config.specs.declared.plan.PlanKind.{PlanKind}
 use Rattle.window_config.specs.declared.plan.PlanKind.TheVariants.{Down, Up, Idle}
-use Rattle.plan_model.specs.Lines.{is_down}
-use Rattle.plan_model.specs.declared.lines.PlannedLine.{PlannedLine}
+use Rattle.schedule_laws.specs.plan_model.specs.Lines.{is_down}
+use Rattle.schedule_laws.specs.plan_model.specs.declared.lines.PlannedLine.{PlannedLine}
 
 -- frameId: the frame's low 8 bits
 abbrev pub frame_id_of : ℤ → ℕ

@@ -4,7 +4,7 @@ ghost use Rattle.bfp_codec.specs.Layout.{HasWidth};
 ghost use Rattle.cplane_sections.specs.Message.{HeadFits, SectionFits};
 ghost use Rattle.window_config.specs.Endpoints.{IsEndpoint};
 ghost use Rattle.window_config.specs.Plans.{IsPlanLine};
-ghost use Rattle.plan_model.specs.Lines.{is_down};
+ghost use Rattle.schedule_laws.specs.plan_model.specs.Lines.{is_down};
 ghost use Rattle.frame_bytes.specs.Commands.{command_frame as frame_of_command};
 ghost use Rattle.sent_frames.specs.Commands.{beam_of, body_for, channel_body, command_head, command_section, comp_of, frame_id_of};
 
@@ -12,7 +12,7 @@ use bfp_codec::{Format, Method};
 use cplane_sections::{CBody, CHead, CSection};
 use fh_time::{code, offsets};
 use frame_bytes::command;
-use plan_model::PlannedLine;
+use schedule_laws::plan_model::PlannedLine;
 use window_config::{EndpointConfig, PlanKind};
 
 /// frameId: the low 8 bits of a frame's number.

@@ -2,24 +2,24 @@
 ghost use Rattle.std.specs.Prelude.{◌≡◌, ℕ, ◌+◌, ◌-◌, ◌*◌, ◌≤◌, ◌<◌, min, List, length, take};
 ghost use Rattle.bfp_codec.specs.declared.samples.Iq.{Iq as SpecIq};
 ghost use Rattle.bfp_codec.specs.declared.samples.Wide.{Wide as SpecWide};
-ghost use Rattle.air_source.specs.Answers.{AnswersBy, block_of};
-ghost use Rattle.air_source.specs.Kept.{IsKept, closure_of};
-ghost use Rattle.air_source.specs.declared.places.RePlace.{RePlace as SpecPlace};
+ghost use Rattle.schedule_laws.specs.air_source.specs.Answers.{AnswersBy, block_of};
+ghost use Rattle.schedule_laws.specs.air_source.specs.Kept.{IsKept, closure_of};
+ghost use Rattle.schedule_laws.specs.air_source.specs.declared.places.RePlace.{RePlace as SpecPlace};
 ghost use Rattle.uplane_sections.specs.Writes.{HeadFits};
 ghost use Rattle.window_config.specs.Endpoints.{IsEndpoint};
 ghost use Rattle.window_config.specs.Plans.{IsPlanLine};
-ghost use Rattle.plan_model.specs.Packs.{frames_for};
-ghost use Rattle.plan_model.specs.Streams.{part_in};
+ghost use Rattle.schedule_laws.specs.plan_model.specs.Packs.{frames_for};
+ghost use Rattle.schedule_laws.specs.plan_model.specs.Streams.{part_in};
 ghost use Rattle.frame_bytes.specs.Messages.{MessageFits, message_size};
 ghost use Rattle.sent_frames.specs.Messages.{carrier_of, data_head, data_section};
 ghost use Rattle.sent_frames.specs.Sources.{AreAnswersIn, data_frame, field_of};
 
 use crate::commands::frame_id_of;
-use air_source::{RePlace, Samples};
 use bfp_codec::{Iq, Wide};
 use ecpri_fragments::SeqField;
 use frame_bytes::{Carrier, DataMessage, DataSection, Span, message_size, piece};
-use plan_model::{PlannedLine, frame_count};
+use schedule_laws::air_source::{RePlace, Samples};
+use schedule_laws::plan_model::{PlannedLine, frame_count};
 use uplane_sections::UHead;
 use window_config::EndpointConfig;
 

@@ -13,3 +13,4 @@ mod tests;
 
 pub use commands::command_frame;
 pub use data::{Fragment, data_frame, data_section};
+pub use frame_bytes;

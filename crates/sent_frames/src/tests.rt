@@ -5,11 +5,11 @@ ghost use Rattle.window_config.specs.Endpoints.{IsEndpoint};
 ghost use Rattle.window_config.specs.Plans.{IsPlanLine};
 
 use crate::{Fragment, command_frame, data_frame, data_section};
-use air_source::{RePlace, Samples};
 use bfp_codec::{Format, Method, Wide};
 use fh_time::{Numerology, Slot};
 use frame_bytes::DataSection;
-use plan_model::PlannedLine;
+use schedule_laws::air_source::{RePlace, Samples};
+use schedule_laws::plan_model::PlannedLine;
 use std::test::Fail;
 use window_config::{EndpointConfig, PlanKind, PlanLine};
 

@@ -2,12 +2,12 @@
 use Rattle.std.proofs.Common.{◌≡◌, ℕ, zero, suc, ◌+◌, ◌-◌, ◌*◌, ◌/◌, ◌<◌, ◌≤◌, min, inl, inr, List, [], ◌∷◌, ◌++◌, length, refl, ap, sym, ◌∙◌, arith, append-nil, append_assoc, length-append}
 use Rattle.std.proofs.lemmas.Bool.{cases_lt}
 use Rattle.std.proofs.Math.Nat.{div-lt_iff_lt-mul}
-use Rattle.fragment_laws.specs.Flow.{size_to}
-use Rattle.fragment_laws.specs.Once.{texts}
-use Rattle.unit_model.specs.Lists.{joined}
-use Rattle.frame_bytes.specs.Cuts.{joined_from, piece_at, pieces_of}
-use Rattle.frame_bytes.proofs.CutBytes.{length_cut}
-use Rattle.frame_bytes.proofs.Joining.{joined_all}
+use Rattle.sent_frames.specs.fragment_laws.specs.Flow.{size_to}
+use Rattle.sent_frames.specs.fragment_laws.specs.Once.{texts}
+use Rattle.sent_frames.specs.unit_model.specs.Lists.{joined}
+use Rattle.sent_frames.specs.frame_bytes.specs.Cuts.{joined_from, piece_at, pieces_of}
+use Rattle.sent_frames.specs.frame_bytes.proofs.CutBytes.{length_cut}
+use Rattle.sent_frames.specs.frame_bytes.proofs.Joining.{joined_all}
 
 -- ---- sizes
 

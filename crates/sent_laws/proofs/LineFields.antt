@@ -19,17 +19,17 @@ use Rattle.bfp_codec.specs.declared.methods.Method.TheVariants.{Plain, Bfp}
 use Rattle.cplane_sections.specs.Header.{kind_of}
 use Rattle.cplane_sections.specs.Message.{Admits, AreAdmitted}
 use Rattle.cplane_sections.specs.Words.{BodyFits}
-use Rattle.uplane_sections.specs.Writes.{udCompHdr}
-use Rattle.window_config.specs.declared.endpoints.EndpointConfig.{EndpointConfig}
-use Rattle.window_config.specs.declared.plan.PlanKind.{PlanKind}
-use Rattle.window_config.specs.declared.plan.PlanKind.TheVariants.{Down, Up, Idle}
-use Rattle.unit_model.specs.Commands.{has_no_offsets, has_offsets, is_for, is_idle}
-use Rattle.unit_model.proofs.SweepLaws.{gap_is}
-use Rattle.plan_model.specs.Lines.{is_idle as is_idle_line}
-use Rattle.plan_model.specs.declared.lines.PlannedLine.{PlannedLine}
-use Rattle.schedule_laws.proofs.LineLemmas.{IsGoodLine}
-use Rattle.schedule_laws.proofs.TimeLemmas.{id_below}
-use Rattle.frame_bytes.specs.Commands.{IsCommand}
+use Rattle.sent_frames.specs.uplane_sections.specs.Writes.{udCompHdr}
+use Rattle.sent_frames.specs.window_config.specs.declared.endpoints.EndpointConfig.{EndpointConfig}
+use Rattle.sent_frames.specs.window_config.specs.declared.plan.PlanKind.{PlanKind}
+use Rattle.sent_frames.specs.window_config.specs.declared.plan.PlanKind.TheVariants.{Down, Up, Idle}
+use Rattle.sent_frames.specs.unit_model.specs.Commands.{has_no_offsets, has_offsets, is_for, is_idle}
+use Rattle.sent_frames.specs.unit_model.proofs.SweepLaws.{gap_is}
+use Rattle.sent_frames.specs.plan_model.specs.Lines.{is_idle as is_idle_line}
+use Rattle.sent_frames.specs.plan_model.specs.declared.lines.PlannedLine.{PlannedLine}
+use Rattle.sent_frames.specs.schedule_laws.proofs.LineLemmas.{IsGoodLine}
+use Rattle.sent_frames.specs.schedule_laws.proofs.TimeLemmas.{id_below}
+use Rattle.sent_frames.specs.frame_bytes.specs.Commands.{IsCommand}
 use Rattle.sent_frames.specs.Commands.{beam_of, body_for, channel_body, command_head, command_section, comp_of, frame_id_of}
 
 -- ---- the frame's low 8 bits

@@ -5,8 +5,8 @@ use Rattle.std.proofs.lemmas.Bool.Decides.{Decides-int_eq}
 use Rattle.std.proofs.lemmas.Int.{ints}
 use Rattle.std.proofs.lemmas.List.{map-append}
 use Rattle.fragment_laws.specs.Apart.{IsIn}
-use Rattle.unit_model.specs.Lists.{each_tick}
-use Rattle.plan_model.specs.Sent.{SentFrame}
+use Rattle.schedule_laws.specs.unit_model.specs.Lists.{each_tick}
+use Rattle.schedule_laws.specs.plan_model.specs.Sent.{SentFrame}
 use Rattle.frame_order.specs.Turns.{is_turn, times}
 use Rattle.frame_order.specs.declared.turns.Turn.{Turn}
 use Rattle.sent_order.specs.Runs.{turn_of}

@@ -10,13 +10,13 @@ use Rattle.std.proofs.lemmas.Int.{ints}
 use Rattle.fragment_laws.specs.Apart.{IsIn}
 use Rattle.window_config.specs.declared.config.Config.{Config}
 use Rattle.window_config.specs.declared.endpoints.EndpointConfig.{EndpointConfig}
-use Rattle.unit_model.specs.Lists.{each, each_tick, joined}
-use Rattle.plan_model.specs.Packs.{Message, Numbered, PartFields, numbered_behind, packs}
-use Rattle.plan_model.specs.Sent.{SentFrame, endpoint_frames, frame_of, frames_from, message_frames, stream_frames}
-use Rattle.plan_model.specs.Streams.{Part, frames_in, messages_of, most_parts, part_fields, parts_in}
-use Rattle.plan_model.specs.declared.lines.PlannedLine.{PlannedLine}
-use Rattle.plan_model.specs.declared.streams.Stream.{Stream}
-use Rattle.plan_model.specs.declared.streams.Stream.TheVariants.{DownCommands, UpCommands, DownData}
+use Rattle.schedule_laws.specs.unit_model.specs.Lists.{each, each_tick, joined}
+use Rattle.schedule_laws.specs.plan_model.specs.Packs.{Message, Numbered, PartFields, numbered_behind, packs}
+use Rattle.schedule_laws.specs.plan_model.specs.Sent.{SentFrame, endpoint_frames, frame_of, frames_from, message_frames, stream_frames}
+use Rattle.schedule_laws.specs.plan_model.specs.Streams.{Part, frames_in, messages_of, most_parts, part_fields, parts_in}
+use Rattle.schedule_laws.specs.plan_model.specs.declared.lines.PlannedLine.{PlannedLine}
+use Rattle.schedule_laws.specs.plan_model.specs.declared.streams.Stream.{Stream}
+use Rattle.schedule_laws.specs.plan_model.specs.declared.streams.Stream.TheVariants.{DownCommands, UpCommands, DownData}
 use Rattle.frame_order.specs.Turns.{AreRising, IsUpTo}
 use Rattle.schedule_laws.proofs.ListLemmas.{in_either, of_each, of_filter, of_joined, of_map}
 use Rattle.sent_order.specs.Runs.{place_of, turn_of}

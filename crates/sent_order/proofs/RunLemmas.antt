@@ -3,14 +3,14 @@ use Rattle.std.proofs.Common.{◌≡◌, ℕ, ℤ, pos, zero, suc, ◌+◌, ◌*
 use Rattle.std.proofs.lemmas.List.{map-append}
 use Rattle.window_config.specs.declared.config.Config.{Config}
 use Rattle.window_config.specs.declared.endpoints.EndpointConfig.{EndpointConfig}
-use Rattle.unit_model.specs.Lists.{each, joined}
-use Rattle.plan_model.specs.Departures.{departures_of, sent_at, start_of}
-use Rattle.plan_model.specs.Packs.{Numbered}
-use Rattle.plan_model.specs.Sent.{SentFrame, endpoint_frames, frame_of, frames_from, message_frames, stream_frames}
-use Rattle.plan_model.specs.Streams.{Part, frames_in, messages_of}
-use Rattle.plan_model.specs.declared.lines.PlannedLine.{PlannedLine}
-use Rattle.plan_model.specs.declared.streams.Stream.{Stream}
-use Rattle.plan_model.specs.declared.streams.Stream.TheVariants.{DownCommands, UpCommands, DownData}
+use Rattle.schedule_laws.specs.unit_model.specs.Lists.{each, joined}
+use Rattle.schedule_laws.specs.plan_model.specs.Departures.{departures_of, sent_at, start_of}
+use Rattle.schedule_laws.specs.plan_model.specs.Packs.{Numbered}
+use Rattle.schedule_laws.specs.plan_model.specs.Sent.{SentFrame, endpoint_frames, frame_of, frames_from, message_frames, stream_frames}
+use Rattle.schedule_laws.specs.plan_model.specs.Streams.{Part, frames_in, messages_of}
+use Rattle.schedule_laws.specs.plan_model.specs.declared.lines.PlannedLine.{PlannedLine}
+use Rattle.schedule_laws.specs.plan_model.specs.declared.streams.Stream.{Stream}
+use Rattle.schedule_laws.specs.plan_model.specs.declared.streams.Stream.TheVariants.{DownCommands, UpCommands, DownData}
 use Rattle.frame_order.specs.Turns.{leaves, rest_of, turn_at, turns}
 use Rattle.frame_order.specs.declared.turns.Turn.{Turn}
 use Rattle.frame_order.specs.declared.turns.Run.{Run}

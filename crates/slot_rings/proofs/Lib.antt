@@ -7,3 +7,4 @@ pub mod RingLemmas
 pub mod RowLemmas
 pub mod PendingLemmas
 pub mod RunLemmas
+pub mod MarkedLemmas

@@ -1,5 +1,6 @@
 -- Where the flag of a symbol is not set, none of its cells is due.
-use Rattle.std.proofs.Common.{◌≡◌, ℕ, zero, suc, ◌+◌, ◌*◌, ◌<◌, ◌≤◌, inl, inr, Bool, true, false, not, ◌&&◌, ◌==◌, if◌then◌else◌, List, [], ◌∷◌, ◌++◌, length, get_or, set, refl, ap, ap₂, sym, ◌∙◌, subst, arith, length-set, get_or-set_same, get_or-set_other, Option, Some, None}
+use Rattle.std.proofs.Common.{◌≡◌, ◌≢◌, ℕ, zero, suc, ◌+◌, ◌*◌, ◌<◌, ◌≤◌, inl, inr, Bool, true, false, not, ◌&&◌, ◌==◌, if◌then◌else◌, List, [], ◌∷◌, ◌++◌, length, get_or, set, refl, ap, ap₂, sym, ◌∙◌, subst, arith, length-set, get_or-set_same, get_or-set_other, Option, Some, None}
+use Rattle.std.specs.Prelude.{◌||◌}
 use Rattle.std.proofs.lemmas.Bool.{cases_eq, cases_Bool, and_parts, eq-eqb, eqb-true}
 use Rattle.std.proofs.lemmas.List.{get_or_read}
 use Rattle.fh_time.specs.declared.values.Slot.{Slot}
@@ -11,13 +12,12 @@ use Rattle.unit_model.specs.declared.cells.Cell.{Cell}
 use Rattle.unit_model.specs.declared.cells.Claim.{Claim}
 use Rattle.unit_model.specs.declared.verdicts.CommandVerdict.TheVariants.{Accepted}
 use Rattle.slot_rings.specs.Pending.{IsFlagged, due_in, flag_at}
-use Rattle.slot_rings.specs.Places.{PlaceValue, blank, cell_number, claim_in, empty_place, is_due, is_of, no_marks, opened, place_claim}
-use Rattle.slot_rings.specs.Rings.{IsRing, RingValue, has_slot, place_index, place_of, ring_claim, ring_done}
+use Rattle.slot_rings.specs.Places.{PlaceValue, blank, cell_number, claim_in, empty_place, is_due, is_in_use, is_of, no_marks, opened, place_claim}
+use Rattle.slot_rings.specs.Rings.{IsRing, RingValue, has_slot, ring_claim, ring_done}
 use Rattle.slot_rings.specs.Verdicts.{claim_after}
 use Rattle.slot_rings.specs.declared.marks.Marks.{Marks}
 use Rattle.slot_rings.proofs.PlaceLemmas.{no_claim}
 use Rattle.slot_rings.proofs.RangeLemmas.{some_at, some_from, some_same}
-use Rattle.slot_rings.proofs.SeenLemmas.{due_seen}
 use Rattle.slot_rings.proofs.RingLemmas.{put}
 
 pub unequal : (b : Bool) → b ≡ true → b ≡ false → ⊥
@@ -73,22 +73,40 @@ opened_quiet prbs s slot p q is off = elim (cases_Bool (is_of p.slot slot)) [
       due_empty prbs s q (ap (λ (x : PlaceValue). x.down) new)
 ]
 
-done_due : (g : ℕ → Option Claim) (d : Bool) → d ≡ true → is_due g d ≡ false
-done_due g d e = rw e (none (not (used_mask g == 0)))
+unused_due : (g : ℕ → Option Claim) (c d : Bool) → is_due g c ≡ false → (c ≡ true → d ≡ true) → is_due g d ≡ false
+unused_due g c d off more = parts (is_in_use g) c d off more
   where
-    none : (b : Bool) → (b && false) ≡ false
-    none true = refl
-    none false = refl
+    parts : (u c d : Bool) → (u && not c) ≡ false → (c ≡ true → d ≡ true) → (u && not d) ≡ false
+    parts false c d off more = refl
+    parts true true d off more = let e = more refl in rw e refl
+    parts true false d off more = cc
 
-pub marked_quiet : (prbs s k : ℕ) (p q : PlaceValue) → q.down ≡ p.down → get_or q.done k false ≡ true
-    → ((i : ℕ) → (i ≡ k → ⊥) → get_or q.done i false ≡ get_or p.done i false) → due_in prbs p s ≡ false → due_in prbs q s ≡ false
-marked_quiet prbs s k p q down here others off = some_from 0 prbs _ (λ n low high.
-    elim (cases_eq (cell_number prbs s 0 + n) k) [
-      | inl e ↦ done_due _ _ (ap (λ (i : ℕ). get_or q.done i false) e ∙ here)
-      | inr ne ↦
-          ap₂ (λ (ms : List Marks) (d : Bool). is_due (claim_in (get_or ms (cell_number prbs s 0 + n) no_marks)) d) down (others (cell_number prbs s 0 + n) ne)
-          ∙ some_at 0 prbs (λ n. is_due (claim_in (get_or p.down (cell_number prbs s 0 + n) no_marks)) (get_or p.done (cell_number prbs s 0 + n) false)) n off low high
-    ])
+-- what is marked stays marked
+pub marked_quiet : (prbs s : ℕ) (p q : PlaceValue) → q.down ≡ p.down → ((i : ℕ) → get_or p.done i false ≡ true → get_or q.done i false ≡ true)
+    → due_in prbs p s ≡ false → due_in prbs q s ≡ false
+marked_quiet prbs s p q down more off = some_from 0 prbs _ (λ n low high.
+    ap (λ (ms : List Marks). is_due (claim_in (get_or ms (cell_number prbs s 0 + n) no_marks)) (get_or q.done (cell_number prbs s 0 + n) false)) down
+    ∙ unused_due (claim_in (get_or p.down (cell_number prbs s 0 + n) no_marks)) (get_or p.done (cell_number prbs s 0 + n) false) (get_or q.done (cell_number prbs s 0 + n) false)
+    (some_at 0 prbs (λ n. is_due (claim_in (get_or p.down (cell_number prbs s 0 + n) no_marks)) (get_or p.done (cell_number prbs s 0 + n) false)) n off low high)
+    (more (cell_number prbs s 0 + n)))
+
+marked_due : (g : ℕ → Option Claim) (c d : Bool) → d ≡ (c || is_in_use g) → is_due g d ≡ false
+marked_due g c d is = ap (is_due g) is ∙ parts (is_in_use g) c
+  where
+    parts : (u c : Bool) → (u && not (c || u)) ≡ false
+    parts false c = refl
+    parts true true = refl
+    parts true false = refl
+
+-- all cells in use of a symbol are marked
+pub all_quiet : (prbs s : ℕ) (p q : PlaceValue) → q.down ≡ p.down
+    → ((k : ℕ) → k < prbs → get_or q.done (cell_number prbs s 0 + k) false
+    ≡ (get_or p.done (cell_number prbs s 0 + k) false || is_in_use (claim_in (get_or p.down (cell_number prbs s 0 + k) no_marks))))
+    → due_in prbs q s ≡ false
+all_quiet prbs s p q down here = some_from 0 prbs _ (λ n low high.
+    ap (λ (ms : List Marks). is_due (claim_in (get_or ms (cell_number prbs s 0 + n) no_marks)) (get_or q.done (cell_number prbs s 0 + n) false)) down
+    ∙ marked_due (claim_in (get_or p.down (cell_number prbs s 0 + n) no_marks)) (get_or p.done (cell_number prbs s 0 + n) false) (get_or q.done (cell_number prbs s 0 + n) false)
+    (here n (omega (arith, high))))
 
 -- ---- a claim
 
@@ -160,6 +178,36 @@ flagged_put r flags new i p q flagged within read size kept changed = record {
   ];
 }
 
+-- marks in a place, and the flag of a symbol cleared if all of its cells are reported
+pub flagged_told : (r : RingValue) (flags new : List (List Bool)) (i symbol : ℕ) (p q : PlaceValue) (all : Bool) → IsFlagged r flags → i < length r.places
+    → p ≡ get_or r.places i p → length new ≡ length flags → ((j s : ℕ) → (all ≡ true → j ≡ i → s ≢ symbol) → flag_at new j s ≡ flag_at flags j s)
+    → q.down ≡ p.down → ((k : ℕ) → get_or p.done k false ≡ true → get_or q.done k false ≡ true) → (all ≡ true → due_in r.endpoint.prbs q symbol ≡ false)
+    → IsFlagged (put r i q) new
+flagged_told r flags new i symbol p q all flagged within read size others down more settled = record {
+  size = size ∙ flagged.size ∙ sym (length-set r.places i q);
+  quiet = λ j s off. elim (cases_eq j i) [
+    | inr ne ↦
+        ap (λ (x : PlaceValue). due_in r.endpoint.prbs x s) (get_or-set_other r.places i j q blank ne)
+        ∙ flagged.quiet j s (sym (others j s (λ told e. absurd (ne e))) ∙ off)
+    | inl e ↦
+        ap (λ (k : ℕ). due_in r.endpoint.prbs (get_or (set r.places i q) k blank) s) e
+        ∙ ap (λ (x : PlaceValue). due_in r.endpoint.prbs x s) (get_or-set_same r.places i q blank within)
+        ∙ elim (cases_eq s symbol) [
+          | inr ne ↦ still s (sym (others i s (λ told same. ne)) ∙ ap (λ (k : ℕ). flag_at new k s) (sym e) ∙ off)
+          | inl own ↦ elim (cases_Bool all) [
+            | inl told ↦ ap (λ (k : ℕ). due_in r.endpoint.prbs q k) own ∙ settled told
+            | inr part ↦ still s (sym (others i s (λ told. absurd (unequal all told part))) ∙ ap (λ (k : ℕ). flag_at new k s) (sym e) ∙ off)
+          ]
+        ]
+  ];
+}
+  where
+    there : p ≡ get_or r.places i blank
+    there = get_or_read r.places i p within read blank
+
+    still : (s : ℕ) → flag_at flags i s ≡ false → due_in r.endpoint.prbs q s ≡ false
+    still s off = marked_quiet r.endpoint.prbs s p q down more (ap (λ (x : PlaceValue). due_in r.endpoint.prbs x s) there ∙ flagged.quiet i s off)
+
 pub flagged_empty : (r : RingValue) (flags : List (List Bool)) → length flags ≡ length r.places → ((i : ℕ) → (get_or r.places i blank).down ≡ []) → IsFlagged r flags
 flagged_empty r flags size empty = record {
   size = size;
@@ -187,31 +235,6 @@ unflagged r ep slot s quiet = sym (elim (cases_Bool (has_slot r slot)) [
   | inl has ↦ quiet has
   | inr none ↦ due_elsewhere r ep slot s none
 ])
-
-due_own : (r : RingValue) (ep : ℕ) (slot : Slot) (s : ℕ) → has_slot r slot ≡ true → due_in r.endpoint.prbs (place_of r slot) s ≡ ring_due r ep slot s
-due_own r ep slot s has = due_seen r slot s (cell_number r.endpoint.prbs s 0) ep (place_of r slot).down (place_of r slot).done refl
-    (rw has refl) (rw has refl)
-
-pub flagged_clear : (r v : RingValue) (flags new : List (List Bool)) (slot : Slot) (i symbol : ℕ) → r ≡ v → IsFlagged r flags → i ≡ place_index v slot
-    → has_slot v slot ≡ true → ring_due v 0 slot symbol ≡ false → length new ≡ length flags
-    → ((j s : ℕ) → (j ≡ i → s ≡ symbol → ⊥) → flag_at new j s ≡ flag_at flags j s) → IsFlagged r new
-flagged_clear r v flags new slot i symbol same flagged i_is has settled size others =
-    subst (λ (x : RingValue). IsFlagged x new) (sym same) (record { size = size ∙ was.size; quiet = quiet })
-  where
-    was : IsFlagged v flags
-    was = subst (λ (x : RingValue). IsFlagged x flags) same flagged
-
-    quiet : (j s : ℕ) → flag_at new j s ≡ false → due_in v.endpoint.prbs (get_or v.places j blank) s ≡ false
-    quiet j s off = elim (cases_eq j i) [
-      | inr ne ↦ was.quiet j s (sym (others j s (λ e is. ne e)) ∙ off)
-      | inl e ↦ elim (cases_eq s symbol) [
-        | inr ne ↦ was.quiet j s (sym (others j s (λ is own. ne own)) ∙ off)
-        | inl own ↦
-            ap (λ (k : ℕ). due_in v.endpoint.prbs (get_or v.places k blank) s) (e ∙ i_is)
-            ∙ ap (λ (k : ℕ). due_in v.endpoint.prbs (place_of v slot) k) own
-            ∙ due_own v 0 slot symbol has ∙ settled
-      ]
-    ]
 
 -- ---- a ring of places that are no slot's
 

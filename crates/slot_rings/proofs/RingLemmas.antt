@@ -1,6 +1,7 @@
 -- The ring: a call changes one place.
-use Rattle.std.proofs.Common.{◌≡◌, ℕ, ℤ, pos, negsuc, zero, suc, ◌+◌, ◌<◌, ◌≤◌, inl, inr, Bool, true, false, List, [], ◌∷◌, ◌++◌, length, get_or, set, refl, ap, sym, ◌∙◌, subst, arith, length-set, get_or-set_same, get_or-set_other, Option, Some, None}
+use Rattle.std.proofs.Common.{◌≡◌, ℕ, ℤ, pos, negsuc, zero, suc, ◌+◌, ◌<◌, ◌≤◌, inl, inr, Bool, true, false, List, [], ◌∷◌, ◌++◌, length, get_or, set, refl, ap, ap₂, not, ◌==◌, sym, ◌∙◌, subst, arith, length-set, get_or-set_same, get_or-set_other, Option, Some, None}
 use Rattle.std.specs.Int.{int_gap, int_rem_euclid}
+use Rattle.std.specs.Prelude.{◌||◌}
 use Rattle.std.proofs.lemmas.Bool.{cases_eq, cases_Bool, false_from_ne_true}
 use Rattle.std.proofs.lemmas.List.{get_or_read}
 use Rattle.std.proofs.lemmas.Nat.{mod_below}
@@ -10,15 +11,16 @@ use Rattle.fh_time.specs.declared.numerology.Numerology.{Numerology}
 use Rattle.fh_time.specs.declared.values.Slot.{Slot}
 use Rattle.fh_time.specs.Kinds.{kind_symbols}
 use Rattle.fh_time.specs.Numbering.{slot_number, symbols_of}
+use Rattle.unit_model.specs.Claims.{cell_at}
 use Rattle.unit_model.specs.Proper.{IsSlot}
 use Rattle.unit_model.specs.declared.allocations.Allocation.{Allocation}
 use Rattle.unit_model.specs.declared.cells.Cell.{Cell}
-use Rattle.slot_rings.specs.Places.{PlaceValue, blank, empty_place, opened, is_of, marks_of, claim_in, no_marks, place_claim, place_block, place_done, place_uplink, cell_number}
+use Rattle.slot_rings.specs.Places.{PlaceValue, blank, empty_place, opened, is_in_use, is_of, marks_of, marks_seen, claim_in, no_marks, place_claim, place_block, place_done, place_uplink, cell_number}
 use Rattle.slot_rings.specs.Rings.{RingValue, IsRing, SharePlace, SameClaims, SameBlocks, SameDone, SameUplink, place_index, place_of, with_place, ring_claim, ring_block, ring_done, ring_uplink, has_slot}
 use Rattle.slot_rings.specs.declared.marks.Marks.{Marks}
 use Rattle.unit_model.specs.declared.verdicts.CommandVerdict.TheVariants.{Accepted}
 use Rattle.slot_rings.specs.Verdicts.{verdict_by, claim_after}
-use Rattle.slot_rings.proofs.SeenLemmas.{verdict_seen}
+use Rattle.slot_rings.proofs.SeenLemmas.{mask_seen, verdict_seen}
 use Rattle.slot_rings.proofs.PlaceLemmas.{of_is, of_own, slot_is, no_claim}
 
 pub symbols_are : (n : Numerology) → symbols_of n ≤ 14
@@ -93,6 +95,9 @@ put_kept r i p q ring within read slot prbs =
     (prbs ∙ ap (λ (x : PlaceValue). x.prbs) there ∙ ring.widths i within)
     (λ s is. ring.homes i s within (ap (λ (x : PlaceValue). x.slot) (sym there) ∙ sym slot ∙ is))
 
+pub read_prbs : (r : RingValue) (i : ℕ) (p : PlaceValue) → IsRing r → i < length r.places → p ≡ get_or r.places i p → p.prbs ≡ r.endpoint.prbs
+read_prbs r i p ring within read = ap (λ (x : PlaceValue). x.prbs) (get_or_read r.places i p within read blank) ∙ ring.widths i within
+
 some_own : (s t : Slot) → Some s ≡ Some t → s ≡ t
 some_own s t e = cc
 
@@ -166,14 +171,38 @@ pub block_other : (old new : RingValue) (slot : Slot) (cell : Cell) (k : ℕ) �
     → ring_block new cell ≡ ring_block old cell
 block_other old new slot cell k endpoint was is at apart others = block_still old new slot cell endpoint was is at (others _ apart)
 
-pub done_other : (old new : RingValue) (slot : Slot) (cell : Cell) (k : ℕ) → new.endpoint ≡ old.endpoint
-    → has_slot old slot ≡ true → has_slot new slot ≡ true → cell.slot ≡ slot → (cell_number old.endpoint.prbs cell.symbol cell.prb ≡ k → ⊥)
-    → ((i : ℕ) → (i ≡ k → ⊥) → get_or (place_of new slot).done i false ≡ get_or (place_of old slot).done i false)
+pub done_still : (old new : RingValue) (slot : Slot) (cell : Cell) → new.endpoint ≡ old.endpoint
+    → has_slot old slot ≡ true → has_slot new slot ≡ true → cell.slot ≡ slot
+    → get_or (place_of new slot).done (cell_number old.endpoint.prbs cell.symbol cell.prb) false ≡ get_or (place_of old slot).done (cell_number old.endpoint.prbs cell.symbol cell.prb) false
     → ring_done new cell ≡ ring_done old cell
-done_other old new slot cell k endpoint was is at apart others =
+done_still old new slot cell endpoint was is at same =
     own_done new cell slot at is
     ∙ ap (λ (n : ℕ). get_or (place_of new slot).done (cell_number n cell.symbol cell.prb) false) (ap (λ e. e.prbs) endpoint)
-    ∙ others _ apart ∙ sym (own_done old cell slot at was)
+    ∙ same ∙ sym (own_done old cell slot at was)
+
+-- a cell of a row, by the number of its first one
+row_cell : (prbs symbol prb : ℕ) → cell_number prbs symbol prb ≡ cell_number prbs symbol 0 + prb
+row_cell prbs symbol prb = omega arith
+
+-- a cell that is marked if it is in use
+pub used_marked : (old new : RingValue) (slot : Slot) (symbol ep prb : ℕ) → new.endpoint ≡ old.endpoint → has_slot old slot ≡ true → has_slot new slot ≡ true
+    → get_or (place_of new slot).done (cell_number old.endpoint.prbs symbol 0 + prb) false
+    ≡ (get_or (place_of old slot).done (cell_number old.endpoint.prbs symbol 0 + prb) false
+    || is_in_use (claim_in (get_or (place_of old slot).down (cell_number old.endpoint.prbs symbol 0 + prb) no_marks)))
+    → ring_done new (cell_at ep true slot symbol prb) ≡ (ring_done old (cell_at ep true slot symbol prb) || is_in_use (ring_claim old (cell_at ep true slot symbol prb)))
+used_marked old new slot symbol ep prb endpoint was is step =
+    let cell = cell_at ep true slot symbol prb in
+    let at = row_cell old.endpoint.prbs symbol prb in
+    let m_is : get_or (place_of old slot).down (cell_number old.endpoint.prbs symbol 0 + prb) no_marks
+    ≡ get_or (marks_seen (place_of old slot) slot true) (cell_number old.endpoint.prbs symbol prb) no_marks =
+    rw was (ap (λ (k : ℕ). get_or (place_of old slot).down k no_marks) (sym at)) in
+    own_done new cell slot refl is
+    ∙ ap (λ (n : ℕ). get_or (place_of new slot).done (cell_number n symbol prb) false) (ap (λ e. e.prbs) endpoint)
+    ∙ ap (λ (k : ℕ). get_or (place_of new slot).done k false) at
+    ∙ step
+    ∙ ap₂ (λ (d : Bool) (u : ℕ). d || not (u == 0))
+    (ap (λ (k : ℕ). get_or (place_of old slot).done k false) (sym at) ∙ sym (own_done old cell slot refl was))
+    (mask_seen old slot symbol prb ep _ m_is)
 
 -- ---- a slot that is given its place
 

@@ -36,19 +36,19 @@ prb_within k n len size below is = let rows : (k + 1) * len ≤ n * len = mul-le
 
 -- ---- numbers from one on
 
-from_low : (f c n : ℕ) → is_from f c n ≡ true → f ≤ n
+pub from_low : (f c n : ℕ) → is_from f c n ≡ true → f ≤ n
 from_low f c n h = grind (arith, nat_tests)
 
-from_high : (f c n : ℕ) → is_from f c n ≡ true → n < f + c
+pub from_high : (f c n : ℕ) → is_from f c n ≡ true → n < f + c
 from_high f c n h = grind (arith, nat_tests)
 
-not_last : (f c n : ℕ) → is_from f (c + 1) n ≡ false → n ≢ f + c
+pub not_last : (f c n : ℕ) → is_from f (c + 1) n ≡ false → n ≢ f + c
 not_last f c n h = grind (arith, nat_tests)
 
-not_before : (f c n : ℕ) → is_from f (c + 1) n ≡ false → is_from f c n ≡ false
+pub not_before : (f c n : ℕ) → is_from f (c + 1) n ≡ false → is_from f c n ≡ false
 not_before f c n h = grind (arith, nat_tests)
 
-behind_all : (f c : ℕ) → is_from f c (f + c) ≡ false
+pub behind_all : (f c : ℕ) → is_from f c (f + c) ≡ false
 behind_all f c = grind (arith, nat_tests)
 
 inside_from : (f c n : ℕ) → f ≤ n → n < f + c → is_from f c n ≡ true

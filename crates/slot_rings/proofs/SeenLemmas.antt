@@ -5,15 +5,17 @@ use Rattle.std.proofs.lemmas.Bool.{cases_Bool}
 use Rattle.fh_time.specs.declared.values.Slot.{Slot}
 use Rattle.unit_model.specs.Claims.{cell_at}
 use Rattle.unit_model.specs.Lists.{every, some}
-use Rattle.unit_model.specs.Radiated.{used_below, used_mask, id_from, cell_id}
+use Rattle.unit_model.specs.Radiated.{used_below, used_mask}
 use Rattle.unit_model.specs.declared.allocations.Allocation.{Allocation}
 use Rattle.unit_model.specs.declared.cells.Block.{Block}
 use Rattle.unit_model.specs.declared.cells.Cell.{Cell}
 use Rattle.unit_model.specs.declared.cells.Claim.{Claim}
 use Rattle.slot_rings.specs.Places.{PlaceValue, claim_in, no_marks, is_of, is_due, marks_seen, blocks_seen, done_seen, place_claim, place_block, place_done, place_uplink, cell_number}
 use Rattle.slot_rings.specs.Rings.{RingValue, place_of, ring_claim, ring_block, ring_done, ring_uplink}
+use Rattle.slot_rings.specs.Symbols.{AreCellsOf}
 use Rattle.slot_rings.specs.Verdicts.{verdict_by}
 use Rattle.slot_rings.specs.declared.marks.Marks.{Marks}
+use Rattle.slot_rings.specs.declared.symbol_cells.SymbolCells.{SymbolCells}
 use Rattle.slot_rings.proofs.RangeLemmas.{every_same, some_same}
 use Rattle.slot_rings.proofs.PlaceLemmas.{seen, verdict_same}
 
@@ -21,11 +23,6 @@ used_same : (f g : ℕ → Option Claim) → ((re : ℕ) → f re ≡ g re) → 
 unfolding used_below
 used_same f g same zero = refl
 used_same f g same (suc n) = let here = same n in let before = used_same f g same n in rw (here, before) refl
-
-id_same : (f g : ℕ → Option Claim) → ((re : ℕ) → f re ≡ g re) → (from n : ℕ) → id_from f from n ≡ id_from g from n
-unfolding id_from
-id_same f g same from zero = refl
-id_same f g same from (suc n) = let here = same from in let rest = id_same f g same (from + 1) n in rw (here, rest) refl
 
 block_seen : (prbs : ℕ) (p : PlaceValue) (cell : Cell) → get_or (blocks_seen p cell.slot) (cell_number prbs cell.symbol cell.prb) None ≡ place_block prbs p cell
 block_seen prbs p cell = elim (cases_Bool (is_of p.slot cell.slot)) [
@@ -47,11 +44,31 @@ module _ (r : RingValue) (slot : Slot) (symbol prb ep : ℕ) (m : Marks)
   pub mask_seen : used_mask (claim_in m) ≡ used_mask (ring_claim r (cell_at ep true slot symbol prb))
   mask_seen = used_same _ _ one_seen 12
 
-  pub section_seen : cell_id (claim_in m) ≡ cell_id (ring_claim r (cell_at ep true slot symbol prb))
-  section_seen = id_same _ _ one_seen 0 12
-
 row_at : (prbs symbol base n : ℕ) → base ≡ cell_number prbs symbol 0 → base + n ≡ cell_number prbs symbol n
 row_at prbs symbol base n e = omega (arith, e)
+
+-- the cells of a symbol, lent as what its place's lists have from the first of them on
+pub cells_lent : (r : RingValue) (slot : Slot) (symbol base : ℕ) (cells : SymbolCells) (ms : List Marks) (bs : List (Option Block)) (ds : List Bool)
+    → base ≡ cell_number r.endpoint.prbs symbol 0
+    → ms ≡ marks_seen (place_of r slot) slot true → bs ≡ blocks_seen (place_of r slot) slot → ds ≡ done_seen (place_of r slot) slot
+    → ((k : ℕ) → get_or cells.marks.now k no_marks ≡ get_or ms (base + k) no_marks)
+    → ((k : ℕ) → get_or cells.blocks.now k None ≡ get_or bs (base + k) None)
+    → ((k : ℕ) → get_or cells.done.now k false ≡ get_or ds (base + k) false)
+    → AreCellsOf r slot symbol cells
+cells_lent r slot symbol base cells ms bs ds base_is ms_is bs_is ds_is marks blocks done = record {
+  claims = λ ep prb re.
+      one_seen r slot symbol prb ep (get_or cells.marks.now prb no_marks)
+      (marks prb ∙ ap (λ (l : List Marks). get_or l (base + prb) no_marks) ms_is
+      ∙ ap (λ (k : ℕ). get_or (marks_seen (place_of r slot) slot true) k no_marks) (row_at r.endpoint.prbs symbol base prb base_is)) re;
+  blocks = λ ep prb.
+      blocks prb ∙ ap (λ (l : List (Option Block)). get_or l (base + prb) None) bs_is
+      ∙ ap (λ (k : ℕ). get_or (blocks_seen (place_of r slot) slot) k None) (row_at r.endpoint.prbs symbol base prb base_is)
+      ∙ block_seen r.endpoint.prbs (place_of r slot) (cell_at ep true slot symbol prb);
+  done = λ ep prb.
+      done prb ∙ ap (λ (l : List Bool). get_or l (base + prb) false) ds_is
+      ∙ ap (λ (k : ℕ). get_or (done_seen (place_of r slot) slot) k false) (row_at r.endpoint.prbs symbol base prb base_is)
+      ∙ flag_seen r.endpoint.prbs (place_of r slot) (cell_at ep true slot symbol prb);
+}
 
 pub due_seen : (r : RingValue) (slot : Slot) (symbol base ep : ℕ) (ms : List Marks) (ds : List Bool) → base ≡ cell_number r.endpoint.prbs symbol 0
     → ms ≡ marks_seen (place_of r slot) slot true → ds ≡ done_seen (place_of r slot) slot

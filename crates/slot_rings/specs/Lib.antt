@@ -1,6 +1,9 @@
+pub use Rattle.unit_model.specs.air_source
+pub use Rattle.unit_model
 pub mod Places
 pub mod Rings
 pub mod Pending
 pub mod Verdicts
 pub mod Rows
 pub mod Runs
+pub mod Symbols

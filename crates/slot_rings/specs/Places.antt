@@ -81,6 +81,10 @@ place_done prbs p cell =
 abbrev pub place_uplink : PlaceValue → Slot → List Allocation
 place_uplink p slot = if is_of p.slot slot then p.uplink else []
 
--- an element of the cell is in use, and the cell was not reported
+-- an element of the cell is in use
+abbrev pub is_in_use : (ℕ → Option Claim) → Bool
+is_in_use claims = not (used_mask claims == 0)
+
+-- and the cell was not reported
 abbrev pub is_due : (ℕ → Option Claim) → Bool → Bool
-is_due claims done = not (used_mask claims == 0) && not done
+is_due claims done = is_in_use claims && not done

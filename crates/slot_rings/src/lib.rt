@@ -20,10 +20,14 @@ mod place;
 mod ring;
 mod rows;
 mod scans;
+mod symbol_cells;
 
 pub use marks::Marks;
 pub use packed::PackedRun;
-pub use ring::{SlotRing, Use};
+pub use ring::SlotRing;
+pub use symbol_cells::{SymbolCells, Use};
+pub use unit_model;
+pub use unit_model::air_source;
 
 #[cfg(test)]
 mod tests;

@@ -1,5 +1,5 @@
 // Lists that end where nothing was written yet.
-ghost use Rattle.std.specs.Prelude.{◌≡◌, ℕ, ◌≤◌, get_or, vec_len, vec_capacity};
+ghost use Rattle.std.specs.Prelude.{◌≡◌, ℕ, ◌+◌, ◌≤◌, get_or, vec_len, vec_capacity};
 
 /// Fills a list up with blanks to a length for which it has room.
 pub(crate) fn reach<T: Copy + Drop>(list: &mut Vec<T>, len: usize, blank: T)
@@ -13,4 +13,11 @@ pub(crate) fn reach<T: Copy + Drop>(list: &mut Vec<T>, len: usize, blank: T)
         let pushed = list.push(blank).is_ok();
         prove!(pushed);
     }
+}
+
+/// What a list has from one number on.
+pub(crate) fn items_from<T>(list: &[T], from: usize) -> &[T]
+    ensures { (k : ℕ) (blank : T) → get_or result.now k blank ≡ get_or list.now (from + k) blank }
+{
+    &list[from.min(list.len())..]
 }

@@ -52,14 +52,14 @@ pub(crate) fn set_flags(flags: &mut Vec<[bool; 14]>, index: usize, a: &Allocatio
     }
 }
 
-/// Clears the flag of a symbol of a place.
-pub(crate) fn clear_flag(flags: &mut Vec<[bool; 14]>, index: usize, symbol: u8)
+/// Clears the flag of a symbol of a place, if all of its cells were reported.
+pub(crate) fn clear_flag(flags: &mut Vec<[bool; 14]>, index: usize, symbol: u8, all: bool)
     requires { index < length flags.old.items }
-    ensures others { (i s : ℕ) → (i ≡ index → s ≢ symbol) → flag_at flags.new.items i s ≡ flag_at flags.old.items i s }
+    ensures others { (i s : ℕ) → (all ≡ true → i ≡ index → s ≢ symbol) → flag_at flags.new.items i s ≡ flag_at flags.old.items i s }
     ensures size { length flags.new.items ≡ length flags.old.items }
 {
     let symbol = symbol as usize;
-    if symbol < SYMBOLS {
+    if all && symbol < SYMBOLS {
         flags[index][symbol] = false;
     }
 }

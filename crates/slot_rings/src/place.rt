@@ -1,5 +1,5 @@
 // The memory of one slot.
-ghost use Rattle.std.specs.Prelude.{◌≡◌, ◌≢◌, ℕ, ◌+◌, ◌*◌, ◌<◌, ◌≤◌, true, false, length, get_or, reverse, if◌then◌else◌, IfOk, None, Some, option_copied, vec_capacity};
+ghost use Rattle.std.specs.Prelude.{◌≡◌, ◌≢◌, ℕ, ◌+◌, ◌*◌, ◌<◌, ◌≤◌, ◌||◌, true, false, length, get_or, reverse, if◌then◌else◌, IfOk, None, Some, option_copied, vec_capacity, vec_len};
 ghost use Rattle.fh_time.specs.Carrier.{is_outside};
 ghost use Rattle.bfp_codec.specs.Layout.{HasWidth, length_of, unpacked_of};
 ghost use Rattle.unit_model.specs.Claims.{is_from, same_slot};
@@ -8,10 +8,10 @@ ghost use Rattle.unit_model.specs.Lists.{or_else};
 ghost use Rattle.unit_model.specs.declared.cells.Cell.{Cell};
 ghost use Rattle.unit_model.specs.declared.verdicts.CommandVerdict.TheVariants.{Accepted};
 ghost use Rattle.slot_rings.specs.Verdicts.{uplink_after};
-ghost use Rattle.slot_rings.specs.Places.{is_of};
+ghost use Rattle.slot_rings.specs.Places.{claim_in, is_in_use, is_of, no_marks};
 ghost use Rattle.slot_rings.specs.Runs.{block_in, samples_of};
 
-use crate::judging::{MOST_UPLINK, claim, is_uplink, verdict};
+use crate::judging::{MOST_UPLINK, claim, is_uplink, marks_at, verdict};
 use crate::lists::reach;
 use crate::marks::Marks;
 use crate::packed::PackedRun;
@@ -137,15 +137,32 @@ fn fill_run(blocks: &mut Vec<Option<Block>>, from: usize, run: &PackedRun<'_>)
     }
 }
 
-/// Marks one cell.
-fn mark(done: &mut Vec<bool>, k: usize)
-    requires { k < vec_capacity done.old }
-    ensures here { get_or done.new.items k false ≡ true }
+/// Marks one cell, if it is in use.
+fn mark(done: &mut Vec<bool>, k: usize, used: bool)
+    requires { k < vec_len done.old }
+    ensures here { get_or done.new.items k false ≡ (get_or done.old.items k false || used) }
     ensures others { (i : ℕ) → i ≢ k → get_or done.new.items i false ≡ get_or done.old.items i false }
+    ensures len { vec_len done.new ≡ vec_len done.old }
     ensures capacity { vec_capacity done.old ≤ vec_capacity done.new }
 {
-    reach(done, k + 1, false);
-    done[k] = true;
+    if used {
+        done[k] = true;
+    }
+}
+
+/// Marks those of so many cells, from number `from` on, that are in use.
+fn mark_used(done: &mut Vec<bool>, marks: &[Marks], from: usize, count: usize)
+    requires { from + count ≤ vec_capacity done.old }
+    ensures here { (k : ℕ) → k < count → get_or done.new.items (from + k) false
+        ≡ (get_or done.old.items (from + k) false || is_in_use (claim_in (get_or marks.now (from + k) no_marks))) }
+    ensures others { (i : ℕ) → is_from from count i ≡ false → get_or done.new.items i false ≡ get_or done.old.items i false }
+    ensures capacity { vec_capacity done.old ≤ vec_capacity done.new }
+{
+    reach(done, from + count, false);
+    for k in 0..count {
+        let used = marks_at(marks, from + k).used() != 0;
+        mark(done, from + k, used);
+    }
 }
 
 impl Place {
@@ -351,13 +368,14 @@ impl Place {
         fill_run(&mut self.blocks, from, run);
     }
 
-    /// Marks a downlink cell as reported.
-    pub(crate) fn mark_done(&mut self, k: usize)
-        requires { k < 14 * self.old.prbs }
-        ensures here { get_or self.new.done k false ≡ true }
-        ensures others { (i : ℕ) → i ≢ k → get_or self.new.done i false ≡ get_or self.old.done i false }
+    /// Marks as reported those of so many downlink cells, from number `from` on, that are in use.
+    pub(crate) fn mark_used(&mut self, from: usize, count: usize)
+        requires { from + count ≤ 14 * self.old.prbs }
+        ensures here { (k : ℕ) → k < count → get_or self.new.done (from + k) false
+            ≡ (get_or self.old.done (from + k) false || is_in_use (claim_in (get_or self.old.down (from + k) no_marks))) }
+        ensures others { (i : ℕ) → is_from from count i ≡ false → get_or self.new.done i false ≡ get_or self.old.done i false }
         ensures kept { self.new ≡ record self.old { done = self.new.done } }
     {
-        mark(&mut self.done, k);
+        mark_used(&mut self.done, self.down.as_slice(), from, count);
     }
 }

@@ -1,41 +1,30 @@
 // The ring of places.
-ghost use Rattle.std.specs.Prelude.{◌≡◌, ◌≢◌, ℕ, ◌+◌, ◌*◌, ◌<◌, ◌≤◌, ◌↔◌, true, false, length, get_or, reverse, is_some, IfOk, IfSome, None, Some, option_copied};
+ghost use Rattle.std.specs.Prelude.{◌≡◌, ◌≢◌, ℕ, ◌+◌, ◌*◌, ◌<◌, ◌≤◌, ◌||◌, ◌↔◌, true, false, length, get_or, reverse, is_some, IfOk, IfSome, None, Some, option_copied};
 ghost use Rattle.bfp_codec.specs.Layout.{HasWidth};
 ghost use Rattle.fh_time.specs.declared.values.Slot.{Slot};
 ghost use Rattle.fh_time.specs.Numbering.{symbols_of};
 ghost use Rattle.unit_model.specs.Claims.{cell_at, is_from};
 ghost use Rattle.unit_model.specs.Lists.{every, some, or_else};
 ghost use Rattle.unit_model.specs.Proper.{IsSlot};
-ghost use Rattle.unit_model.specs.Radiated.{used_mask, cell_id};
 ghost use Rattle.unit_model.specs.declared.cells.Cell.{Cell};
 ghost use Rattle.unit_model.specs.declared.verdicts.CommandVerdict.TheVariants.{Accepted};
-ghost use Rattle.slot_rings.specs.Places.{blank, is_of, is_due, opened, place_claim, place_uplink, cell_number};
+ghost use Rattle.slot_rings.specs.Places.{blank, claim_in, no_marks, is_of, is_due, is_in_use, opened, place_claim, place_uplink, cell_number};
 ghost use Rattle.slot_rings.specs.Runs.{block_in, samples_of};
 ghost use Rattle.slot_rings.specs.Verdicts.{verdict_by, claim_after, uplink_after};
 
 use crate::index::place_index;
-use crate::judging::marks_at;
+use crate::lists::items_from;
 use crate::packed::PackedRun;
 use crate::pending::{clear_flag, is_flagged, make_flags, set_flags};
 use crate::place::Place;
-use crate::scans::{all_there, any_due, block_at, done_at};
+use crate::scans::{all_there, any_due, block_at};
+use crate::symbol_cells::SymbolCells;
 use fh_base::NoMemory;
 use fh_time::Slot;
 use std::alloc::Global;
 use std::marker::Model;
 use unit_model::{Allocation, Block, CommandVerdict};
 use window_config::EndpointConfig;
-
-/// What a report needs of a downlink cell.
-#[derive(Clone, Copy, Debug, PartialEq, Eq)]
-pub struct Use {
-    /// The elements in use: claimed, and not as idle. Element 0 stands in the most significant of 12 bits.
-    pub mask: u16,
-    /// The section id of its claims, 0 where it has none.
-    pub section: u16,
-    /// Whether it was reported.
-    pub done: bool,
-}
 
 /// The memory of one endpoint of a radio unit: a ring of places, each that of one slot at a time. All memory is taken
 /// when it is made; no other call asks for any. A slot's place goes by its number in the order of slots, modulo the number
@@ -61,6 +50,7 @@ impl Model for SlotRing {
 }
 
 impl SlotRing {
+    ghost use Rattle.slot_rings.specs.Symbols.{AreCellsOf};
     ghost use Rattle.slot_rings.specs.Rings.{IsRing, place_index, place_of, ring_claim, ring_block, ring_done, ring_uplink, has_slot, SharePlace, IsRingCell, TouchesOnly, with_place, IsEmpty, SameClaims, SameBlocks, SameDone, SameUplink};
 
     /// Takes all memory, for so many slots of an endpoint.
@@ -165,21 +155,17 @@ impl SlotRing {
         block_at(self.place(slot).blocks(slot), number)
     }
 
-    /// What a report needs of a downlink cell besides its block.
-    pub fn cell(&self, slot: Slot, symbol: u8, prb: u16) -> Use
+    /// The downlink cells of a symbol: their place is found once for all of them.
+    pub fn symbol_cells(&self, slot: Slot, symbol: u8) -> SymbolCells<'_>
         requires { IsSlot self.now.endpoint.numerology slot }
-        ensures mask { (ep : ℕ) → result.mask ≡ used_mask (ring_claim self.now (cell_at ep true slot symbol prb)) }
-        ensures section { (ep : ℕ) → result.section ≡ cell_id (ring_claim self.now (cell_at ep true slot symbol prb)) }
-        ensures done { (ep : ℕ) → result.done ≡ ring_done self.now (cell_at ep true slot symbol prb) }
+        ensures { AreCellsOf self.now slot symbol result }
     {
-        let number = self.number(symbol, prb);
+        let base = self.number(symbol, 0);
         let place = self.place(slot);
-        let marks = marks_at(place.marks(slot, true), number);
-        let done = done_at(place.done(slot), number);
-        Use {
-            mask: marks.used(),
-            section: marks.section(),
-            done,
+        SymbolCells {
+            marks: items_from(place.marks(slot, true), base),
+            blocks: items_from(place.blocks(slot), base),
+            done: items_from(place.done(slot), base),
         }
     }
 
@@ -300,17 +286,25 @@ impl SlotRing {
         self.places[index].fill_run(number, run);
     }
 
-    /// Marks a cell as reported in a slot's place.
-    fn mark_place(&mut self, slot: Slot, number: usize)
+    /// Marks as reported those of the first so many cells of a symbol that are in use, in a slot's place. Where these are all of
+    /// the symbol's, its flag goes.
+    fn mark_place(&mut self, slot: Slot, symbol: u8, count: u16)
         requires slot { IsSlot self.old.endpoint.numerology slot }
-        requires number { number < 14 * self.old.endpoint.prbs }
+        requires symbol { symbol < 14 }
+        requires count { count ≤ self.old.endpoint.prbs }
         ensures only { self.new ≡ with_place self.old slot (place_of self.new slot) }
-        ensures here { get_or (place_of self.new slot).done number false ≡ true }
-        ensures others { (i : ℕ) → i ≢ number → get_or (place_of self.new slot).done i false ≡ get_or (place_of self.old slot).done i false }
+        ensures here { (k : ℕ) → k < count → get_or (place_of self.new slot).done (cell_number self.old.endpoint.prbs symbol 0 + k) false
+            ≡ (get_or (place_of self.old slot).done (cell_number self.old.endpoint.prbs symbol 0 + k) false
+            || is_in_use (claim_in (get_or (place_of self.old slot).down (cell_number self.old.endpoint.prbs symbol 0 + k) no_marks))) }
+        ensures others { (i : ℕ) → is_from (cell_number self.old.endpoint.prbs symbol 0) count i ≡ false
+            → get_or (place_of self.new slot).done i false ≡ get_or (place_of self.old slot).done i false }
         ensures kept { place_of self.new slot ≡ record (place_of self.old slot) { done = (place_of self.new slot).done } }
     {
+        let number = self.number(symbol, 0);
         let index = self.index(slot);
-        self.places[index].mark_done(number);
+        let all = count == self.endpoint.prbs;
+        self.places[index].mark_used(number, count as usize);
+        clear_flag(&mut self.pending, index, symbol, all);
     }
 
     /// Lets a slot have its place. What was kept of another slot in that place is forgotten; what was kept of this one stays.
@@ -387,14 +381,16 @@ impl SlotRing {
         self.fill_run_place(slot, number, run);
     }
 
-    /// Marks a downlink cell as reported, in a slot that has its place.
-    pub fn mark_done(&mut self, slot: Slot, symbol: u8, prb: u16)
+    /// Marks as reported the downlink cells of a symbol that are in use at the first so many PRBs, in a slot that has its place.
+    /// Where these are all PRBs, `is_pending` and `is_used` look at none of its cells until one is claimed.
+    pub fn mark_used(&mut self, slot: Slot, symbol: u8, count: u16)
         requires slot { IsSlot self.old.endpoint.numerology slot }
         requires symbol { symbol < symbols_of self.old.endpoint.numerology }
-        requires prb { prb < self.old.endpoint.prbs }
+        requires count { count ≤ self.old.endpoint.prbs }
         requires has { has_slot self.old slot ≡ true }
-        ensures here { (ep : ℕ) → ring_done self.new (cell_at ep true slot symbol prb) ≡ true }
-        ensures others { (cell : Cell) → IsRingCell self.old cell → cell.slot ≡ slot → (cell.symbol ≡ symbol → cell.prb ≢ prb)
+        ensures here { (ep prb : ℕ) → prb < count → ring_done self.new (cell_at ep true slot symbol prb)
+            ≡ (ring_done self.old (cell_at ep true slot symbol prb) || is_in_use (ring_claim self.old (cell_at ep true slot symbol prb))) }
+        ensures others { (cell : Cell) → IsRingCell self.old cell → cell.slot ≡ slot → (cell.symbol ≡ symbol → count ≤ cell.prb)
             → ring_done self.new cell ≡ ring_done self.old cell }
         ensures has { has_slot self.new slot ≡ true }
         ensures claims { SameClaims slot self.old self.new }
@@ -402,30 +398,6 @@ impl SlotRing {
         ensures uplink { SameUplink slot self.old self.new }
         ensures touches { TouchesOnly slot self.old self.new }
     {
-        let number = self.number(symbol, prb);
-        self.mark_place(slot, number);
-    }
-
-    /// Clears the flag of a symbol of which nothing is due.
-    fn clear(&mut self, slot: Slot, symbol: u8)
-        requires slot { IsSlot self.old.endpoint.numerology slot }
-        requires has { has_slot self.old slot ≡ true }
-        requires settled { (ep : ℕ) → some 0 self.old.endpoint.prbs (λ prb.
-            is_due (ring_claim self.old (cell_at ep true slot symbol prb)) (ring_done self.old (cell_at ep true slot symbol prb))) ≡ false }
-        ensures { self.new ≡ self.old }
-    {
-        let index = self.index(slot);
-        clear_flag(&mut self.pending, index, symbol);
-    }
-
-    /// Looks at the cells of a symbol, so that `is_pending` and `is_used` need not look at them again where the slot has its place
-    /// and none of them is to be reported any more. Nothing else changes.
-    pub fn settle(&mut self, slot: Slot, symbol: u8)
-        requires { IsSlot self.old.endpoint.numerology slot }
-        ensures { self.new ≡ self.old }
-    {
-        if self.has(slot) && !self.is_used(slot, symbol) {
-            self.clear(slot, symbol);
-        }
+        self.mark_place(slot, symbol, count);
     }
 }

@@ -128,11 +128,11 @@ fn claims_of_a_slot(rt: HostRuntime) -> Result<(), Fail> {
         section: 0,
         done: false,
     };
-    assert_eq!(rt; ring.cell(LAST, 2, 1), used);
-    assert_eq!(rt; ring.cell(LAST, 3, 2), used);
-    assert_eq!(rt; ring.cell(LAST, 3, 3), unused);
-    assert_eq!(rt; ring.cell(LAST, 4, 1), unused);
-    assert_eq!(rt; ring.cell(SECOND, 2, 1), unused);
+    assert_eq!(rt; ring.symbol_cells(LAST, 2).cell(1), used);
+    assert_eq!(rt; ring.symbol_cells(LAST, 3).cell(2), used);
+    assert_eq!(rt; ring.symbol_cells(LAST, 3).cell(3), unused);
+    assert_eq!(rt; ring.symbol_cells(LAST, 4).cell(1), unused);
+    assert_eq!(rt; ring.symbol_cells(SECOND, 2).cell(1), unused);
     Ok(())
 }
 
@@ -159,9 +159,9 @@ fn blocks_and_places(rt: HostRuntime) -> Result<(), Fail> {
     assert!(rt; !ring.has_all(LAST, 2, 1, 2));
     assert_eq!(rt; ring.block(LAST, 2, 1).map(|b| b.id), Some(7));
     assert!(rt; ring.block(LAST, 2, 0).is_none());
-    ring.mark_done(LAST, 2, 1);
+    ring.mark_used(LAST, 2, 2);
     assert!(rt; ring.is_used(LAST, 2));
-    ring.mark_done(LAST, 2, 2);
+    ring.mark_used(LAST, 2, 3);
     assert!(rt; !ring.is_used(LAST, 2));
     assert!(rt; ring.is_used(LAST, 3));
     ring.open(FIRST);
@@ -190,15 +190,15 @@ fn pending(ring: &SlotRing, index: usize, symbol: u8) -> bool {
     index < ring.place_count() && ring.is_pending(index, symbol)
 }
 
-/// Marks a cell as reported, where its slot has a place.
-fn report(ring: &mut SlotRing, slot: Slot, symbol: u8, prb: u16)
+/// Marks the cells in use of a symbol at the first so many PRBs as reported, where its slot has a place.
+fn report(ring: &mut SlotRing, slot: Slot, symbol: u8, count: u16)
     requires slot { IsSlot ring.old.endpoint.numerology slot }
     requires symbol { symbol < symbols_of ring.old.endpoint.numerology }
-    requires prb { prb < ring.old.endpoint.prbs }
+    requires count { count ≤ ring.old.endpoint.prbs }
     ensures { ring.new.endpoint ≡ ring.old.endpoint }
 {
     if ring.has(slot) {
-        ring.mark_done(slot, symbol, prb);
+        ring.mark_used(slot, symbol, count);
     }
 }
 
@@ -243,14 +243,12 @@ fn symbols_are_settled(rt: HostRuntime) -> Result<(), Fail> {
         open_and_take(&mut ring, &allocation(e, LAST)),
         CommandVerdict::Accepted
     );
-    report(&mut ring, LAST, 2, 1);
-    ring.settle(LAST, 2);
-    assert!(rt; pending(&ring, 1, 2));
     report(&mut ring, LAST, 2, 2);
-    // a slot that has no place settles nothing there
-    ring.settle(SECOND, 2);
-    assert!(rt; pending(&ring, 1, 2));
-    ring.settle(LAST, 2);
+    assert!(rt; pending(&ring, 1, 2) && ring.is_used(LAST, 2));
+    // only the report of all PRBs says that no cell is left
+    report(&mut ring, LAST, 2, 3);
+    assert!(rt; pending(&ring, 1, 2) && !ring.is_used(LAST, 2));
+    report(&mut ring, LAST, 2, 4);
     assert!(rt; !pending(&ring, 1, 2) && pending(&ring, 1, 3));
     assert!(rt; !ring.is_used(LAST, 2) && ring.is_used(LAST, 3));
     let later = Allocation {

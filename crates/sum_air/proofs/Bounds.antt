@@ -2,7 +2,7 @@
 use Rattle.std.proofs.Common.{◌≡◌, ℕ, ◌<◌, ◌≤◌, Bool, true, false, ◌&&◌, refl, arith}
 use Rattle.std.proofs.lemmas.Bool.{ltb-true}
 use Rattle.std.proofs.lemmas.Int.{ints}
-use Rattle.air_source.specs.declared.events.AirCell.{AirCell}
+use Rattle.report_lines.specs.air_source.specs.declared.events.AirCell.{AirCell}
 use Rattle.sum_air.specs.OpenRuns.{OpenRun}
 use Rattle.sum_air.specs.Places.{place_of, same_place}
 use Rattle.sum_air.specs.States.{goes_on_with}

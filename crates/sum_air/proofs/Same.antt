@@ -2,8 +2,8 @@
 use Rattle.std.proofs.Common.{◌≡◌, ℕ, ℤ, true, ◌==◌, refl, arith}
 use Rattle.std.specs.Ordering.{int_eq}
 use Rattle.std.proofs.lemmas.Bool.Decides.{nat_tests, Decides-int_eq}
-use Rattle.air_source.specs.declared.events.Side.{Side}
-use Rattle.air_source.specs.declared.events.Side.TheVariants.{Ru, Du}
+use Rattle.report_lines.specs.air_source.specs.declared.events.Side.{Side}
+use Rattle.report_lines.specs.air_source.specs.declared.events.Side.TheVariants.{Ru, Du}
 use Rattle.sum_air.specs.declared.places.SymbolPlace.{SymbolPlace}
 use Rattle.sum_air.specs.Places.{same_side, same_place}
 use Rattle.sum_air.proofs.Bounds.{left_of, right_of}

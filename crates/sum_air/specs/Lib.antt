@@ -1,3 +1,4 @@
+pub use Rattle.delay_measure
 pub mod Airs
 pub mod Laws
 pub mod Lines

@@ -1,9 +1,9 @@
 -- The symbol of an endpoint that a line of a summary speaks of (this project's profile).
 use Rattle.std.specs.Prelude.{◌==◌, ◌&&◌, Bool, true, false}
 use Rattle.std.specs.Ordering.{int_eq}
-use Rattle.air_source.specs.declared.events.AirCell.{AirCell}
-use Rattle.air_source.specs.declared.events.Side.{Side}
-use Rattle.air_source.specs.declared.events.Side.TheVariants.{Ru, Du}
+use Rattle.report_lines.specs.air_source.specs.declared.events.AirCell.{AirCell}
+use Rattle.report_lines.specs.air_source.specs.declared.events.Side.{Side}
+use Rattle.report_lines.specs.air_source.specs.declared.events.Side.TheVariants.{Ru, Du}
 use Rattle.sum_air.specs.declared.places.SymbolPlace.{SymbolPlace}
 
 -- the symbol of a cell

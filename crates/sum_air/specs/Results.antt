@@ -4,7 +4,7 @@ use Rattle.std.specs.List.{fold}
 use Rattle.std.specs.Int.{int_min, int_max}
 use Rattle.std.specs.Fmt.{signed_decimal}
 use Rattle.std.specs.Prelude.{ℕ}
-use Rattle.air_source.specs.declared.events.Side.{Side}
+use Rattle.report_lines.specs.air_source.specs.declared.events.Side.{Side}
 use Rattle.report_lines.specs.Units.{side_text}
 use Rattle.text_lines.specs.Words.{spaced_text}
 

@@ -2,11 +2,11 @@
 use Rattle.std.specs.Prelude.{ℕ, ℤ, ◌&&◌, Bool, List, [], ◌∷◌, ◌++◌, codes, nat_lt, if◌then◌else◌}
 use Rattle.std.specs.List.{flat_map}
 use Rattle.circular_buffer.specs.Buffer.{keep_last}
-use Rattle.air_source.specs.declared.events.AirCell.{AirCell}
-use Rattle.air_source.specs.declared.events.Event.{Event}
-use Rattle.air_source.specs.declared.events.Event.TheVariants.{Cell, Delay, Arrival, Count}
-use Rattle.air_source.specs.declared.events.Side.{Side}
-use Rattle.air_source.specs.declared.events.Side.TheVariants.{Ru, Du}
+use Rattle.report_lines.specs.air_source.specs.declared.events.AirCell.{AirCell}
+use Rattle.report_lines.specs.air_source.specs.declared.events.Event.{Event}
+use Rattle.report_lines.specs.air_source.specs.declared.events.Event.TheVariants.{Cell, Delay, Arrival, Count}
+use Rattle.report_lines.specs.air_source.specs.declared.events.Side.{Side}
+use Rattle.report_lines.specs.air_source.specs.declared.events.Side.TheVariants.{Ru, Du}
 use Rattle.report_lines.specs.Units.{count_text}
 use Rattle.sum_air.specs.Lines.{sum_line}
 use Rattle.sum_air.specs.Places.{place_of, same_place, same_side}

@@ -18,5 +18,6 @@ mod telling;
 mod tests;
 mod totals;
 
+pub use delay_measure;
 pub use sum_air::SumAir;
 pub use sums::Sums;

@@ -2,8 +2,8 @@
 ghost use Rattle.std.specs.Prelude.{◌≡◌};
 ghost use Rattle.sum_air.specs.Places.{place_of, same_side, same_place};
 
-use air_source::{AirCell, Side};
 use fh_time::{Slot, Ticks};
+use report_lines::air_source::{AirCell, Side};
 
 /// A symbol of an endpoint, on the air at one time, that a unit reports.
 #[derive(Clone, Copy)]

@@ -2,16 +2,16 @@
 ghost use Rattle.std.specs.Prelude.{◌≡◌, [], OnOk, IfErr, map};
 ghost use Rattle.std.specs.Io.KnownBytes.{append_known};
 ghost use Rattle.fh_base.specs.Told.{WritesFront};
-ghost use Rattle.air_source.specs.Causes.{HasAirCause};
-ghost use Rattle.air_source.specs.Stops.{StopsIn};
-ghost use Rattle.air_source.specs.declared.events.Event.TheVariants.{Cell};
+ghost use Rattle.report_lines.specs.air_source.specs.Causes.{HasAirCause};
+ghost use Rattle.report_lines.specs.air_source.specs.Stops.{StopsIn};
+ghost use Rattle.report_lines.specs.air_source.specs.declared.events.Event.TheVariants.{Cell};
 ghost use Rattle.sum_air.specs.Airs.{sink_name, sink_of, owed_of, sums_of};
 ghost use Rattle.sum_air.specs.States.{sum_start};
 ghost use Rattle.sum_air.specs.Summary.{whole_summary};
 
 use crate::{SumAir, Sums};
-use air_source::{Air, AirCell, AirFault};
 use fh_base::Sink;
+use report_lines::air_source::{Air, AirCell, AirFault};
 
 /// Tells the air each cell, in order.
 pub fn tell_cells<A: Air>(cells: &[AirCell], air: &mut A) -> Result<(), AirFault>

@@ -1,11 +1,11 @@
 // Exact summaries, and fronts of them.
 use crate::telling::write_cells;
 use crate::{SumAir, Sums};
-use air_source::{Air, AirCell, AirFault, Side};
-use bfp_codec::Wide;
 use fault_counters::Counter;
 use fh_base::{List, MemorySink, NoMemory, PlainSink};
 use fh_time::{Slot, Ticks};
+use report_lines::air_source::{Air, AirCell, AirFault, Side};
+use report_lines::bfp_codec::Wide;
 use std::alloc::Global;
 use std::test::Fail;
 

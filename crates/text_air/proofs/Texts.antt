@@ -5,9 +5,9 @@ use Rattle.std.proofs.lemmas.List.Concat.{flat_map-cons}
 use Rattle.std.specs.Io.KnownBytes.{append_known}
 use Rattle.fh_base.specs.Told.{WritesFront}
 use Rattle.fh_base.proofs.Progress.{front_first}
-use Rattle.air_source.specs.declared.airs.AirFault.{AirFault}
-use Rattle.air_source.specs.declared.events.Event.{Event}
-use Rattle.air_source.specs.Stops.{StopsIn, GrewSome}
+use Rattle.report_lines.specs.air_source.specs.declared.airs.AirFault.{AirFault}
+use Rattle.report_lines.specs.air_source.specs.declared.events.Event.{Event}
+use Rattle.report_lines.specs.air_source.specs.Stops.{StopsIn, GrewSome}
 use Rattle.text_air.specs.Text.{event_text, events_text, end_text, whole_text}
 use Rattle.owed_bytes.specs.Owed.{Carried}
 use Rattle.owed_bytes.proofs.Carrying.{carried_front, front_behind, all_behind}

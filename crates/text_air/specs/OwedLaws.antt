@@ -2,7 +2,7 @@
 use Rattle.std.specs.Prelude.{ℕ, List, [], ◌++◌, Option}
 use Rattle.std.proofs.Common.{sym, subst}
 use Rattle.std.proofs.lemmas.Grind.{flat_map-append}
-use Rattle.air_source.specs.declared.events.Event.{Event}
+use Rattle.report_lines.specs.air_source.specs.declared.events.Event.{Event}
 use Rattle.owed_bytes.specs.Owed.{Carried}
 use Rattle.owed_bytes.specs.CarriedLaws.{carried_none, carried_more}
 use Rattle.text_air.specs.Text.{event_text, events_text}

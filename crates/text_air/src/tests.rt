@@ -1,11 +1,11 @@
 // Exact texts, and fronts of them.
 use crate::TextAir;
 use crate::telling_cells::{tell_cells, write_cells};
-use air_source::{Air, AirCell, AirFault, Side};
 use bfp_codec::Wide;
 use fault_counters::Counter;
 use fh_base::{List, MemorySink, NoMemory, PlainSink};
 use fh_time::{Slot, Ticks};
+use report_lines::air_source::{Air, AirCell, AirFault, Side};
 use std::alloc::Global;
 use std::test::Fail;
 

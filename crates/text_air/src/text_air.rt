@@ -3,7 +3,7 @@ ghost use Rattle.std.specs.Prelude.{◌≡◌, [], ◌∷◌, ◌++◌, refl, On
 ghost use Rattle.std.proofs.Common.{◌∙◌};
 ghost use Rattle.std.specs.Io.KnownBytes.{append_known};
 ghost use Rattle.fh_base.specs.Told.{WritesFront};
-ghost use Rattle.air_source.specs.Causes.{HasAirCause};
+ghost use Rattle.report_lines.specs.air_source.specs.Causes.{HasAirCause};
 ghost use Rattle.owed_bytes.specs.Owed.{Carried};
 ghost use Rattle.air_sinks.specs.Causes.{HasRefusal};
 ghost use Rattle.air_sinks.specs.Stopping.{Halted};
@@ -11,11 +11,11 @@ ghost use Rattle.text_air.specs.Text.{event_text, events_text, end_text};
 ghost use Rattle.text_air.specs.OwedLaws.{grew_none, grew_more};
 
 use air_sinks::{push_out, tell};
-use air_source::{Air, AirCell, AirFault, Side};
 use fault_counters::Counter;
 use fh_base::Sink;
 use fh_time::Ticks;
 use owed_bytes::OwedBytes;
+use report_lines::air_source::{Air, AirCell, AirFault, Side};
 use report_lines::{put_cell, put_count, put_delay};
 use text_lines::Line;
 

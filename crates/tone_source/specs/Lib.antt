@@ -1,2 +1,3 @@
+pub use Rattle.air_source
 pub mod Tones
 pub mod Steps

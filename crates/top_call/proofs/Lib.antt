@@ -2,6 +2,5 @@ pub mod Written
 pub mod Documents
 pub mod Plans
 pub mod Captures
-pub mod Widths
 pub mod Runs
 pub mod Follows

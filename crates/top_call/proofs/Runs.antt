@@ -4,37 +4,31 @@ use Rattle.std.specs.Io.KnownBytes.{prepend_known, append_known, IsAtEnd}
 use Rattle.command_words.specs.Words.{command_of}
 use Rattle.command_words.specs.declared.commands.Command.{Command}
 use Rattle.command_words.specs.declared.commands.Command.TheVariants.{Replay, Summary, Capture, Show, Windows, Fit, Generate, Pcap, PcapCapture}
-use Rattle.document_traffic.specs.Laws.{HasWidths}
 use Rattle.fh_base.specs.Causes.{Rose}
 use Rattle.fh_base.specs.Told.{WritesFront}
 use Rattle.fh_base.specs.declared.fault.ReadAllFault.{ReadAllFault}
 use Rattle.fh_base.specs.declared.fault.ReadAllFault.TheVariants as source
 use Rattle.fh_base.proofs.Known.{prepend_nothing, append_nothing}
 use Rattle.fh_base.proofs.Progress.{front_none}
-use Rattle.fh_document.specs.Document.{document_of}
-use Rattle.fh_document.specs.declared.document.Document.{Document}
-use Rattle.fh_document.specs.Proper.{IsDocument}
-use Rattle.fh_document.specs.Steps.{handled}
-use Rattle.fh_document.proofs.Properness.{document_in_in}
-use Rattle.fronthaul_replay.specs.Laws.{IsSound}
+use Rattle.pcap_lines.specs.fh_document.specs.Document.{document_of}
+use Rattle.pcap_lines.specs.fh_document.specs.declared.document.Document.{Document}
+use Rattle.pcap_lines.specs.fh_document.specs.Proper.{IsDocument}
+use Rattle.pcap_lines.specs.fh_document.proofs.Properness.{document_of_in}
 use Rattle.fronthaul_replay.proofs.LawLemmas.{is_sound}
 use Rattle.top_call.specs.declared.status.Status.{Status}
 use Rattle.top_call.specs.declared.status.Status.TheVariants.{Done, BadWords, BadDocument, BadCapture, ReadFault, WriteFault, NoMemory, TooLong, CheckFails, BadPcap, NoFit}
 use Rattle.top_call.specs.Answers.{Answer, answer_of, asked, is_reading, reads}
 use Rattle.top_call.specs.Endings.{source_status}
 use Rattle.top_call.specs.Run.{AnswersCommand, AnswersRun, IsDecided, IsRefusal, IsSoundPlan, Outcome, Performs, input_limit}
-use Rattle.top_call.proofs.Widths.{widths_in}
 
 -- ---- the laws of a document's events
 
 sound_of : (bytes : List ℕ) → IfOk (document_of bytes) IsSoundPlan
-sound_of bytes = each (document_of bytes) (document_in_in handled bytes) (widths_in bytes)
+sound_of bytes = each (document_of bytes) (document_of_in bytes)
   where
-    each : {E : Type 0} (x : Result Document E) → IfOk x IsDocument → IfOk x HasWidths → IfOk x IsSoundPlan
-    each (Ok d) is widths = λ valid.
-        let sound : IsSound d = is_sound d (record { document = is; valid = valid }) in
-        record { sound = sound; exactly_once = sound.exactly_once widths; taken_in_once = sound.taken_in_once widths }
-    each (Err why) is widths = tt
+    each : {E : Type 0} (x : Result Document E) → IfOk x IsDocument → IfOk x IsSoundPlan
+    each (Ok d) is = λ valid. is_sound d (record { document = is; valid = valid })
+    each (Err why) is = tt
 
 -- ---- what a command answers, a run answers
 

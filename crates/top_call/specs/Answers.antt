@@ -1,33 +1,33 @@
 -- What the words and the input name: the one text, and the status of a run that nothing keeps from its end.
 use Rattle.std.specs.Prelude.{ℕ, List, [], map, Bool, true, false, Option, None, Some, Result, Ok, Err, slice_index}
-use Rattle.capture_records.specs.declared.refusals.CaptureRefusal.{CaptureRefusal}
-use Rattle.air_source.specs.declared.events.Side.{Side}
-use Rattle.capture_records.specs.Reading.{checked as capture_checked}
-use Rattle.capture_records.specs.Records.{capture_bytes}
+use Rattle.capture_show.specs.capture_records.specs.declared.refusals.CaptureRefusal.{CaptureRefusal}
+use Rattle.command_words.specs.air_source.specs.declared.events.Side.{Side}
+use Rattle.capture_show.specs.capture_records.specs.Reading.{checked as capture_checked}
+use Rattle.capture_show.specs.capture_records.specs.Records.{capture_bytes}
 use Rattle.capture_show.specs.Messages.{capture_lines}
 use Rattle.capture_show.specs.Texts.{lines_text}
 use Rattle.command_words.specs.declared.commands.Command.{Command}
 use Rattle.command_words.specs.declared.commands.Command.TheVariants.{Replay, Summary, Capture, Show, Windows, Fit, Generate, Pcap, PcapCapture}
-use Rattle.fh_document.specs.declared.document.Document.{Document}
-use Rattle.fh_document.specs.declared.refusals.DocWhy.{DocWhy}
-use Rattle.fh_document.specs.Document.{document_of}
-use Rattle.fh_document.specs.Generated.{generated}
+use Rattle.pcap_lines.specs.fh_document.specs.declared.document.Document.{Document}
+use Rattle.pcap_lines.specs.fh_document.specs.declared.refusals.DocWhy.{DocWhy}
+use Rattle.pcap_lines.specs.fh_document.specs.Document.{document_of}
+use Rattle.pcap_lines.specs.fh_document.specs.Generated.{generated}
 use Rattle.fronthaul_replay.specs.Reports.{capture_of, document_report, summary_of}
 use Rattle.pcap_frames.specs.declared.refusals.PcapRefusal.{PcapRefusal}
 use Rattle.pcap_frames.specs.declared.values.PcapHead.{PcapHead}
 use Rattle.pcap_frames.specs.Checked.{checked as pcap_checked}
 use Rattle.pcap_frames.specs.Frames.{Timed, frames_of}
 use Rattle.pcap_lines.specs.Texts.{arrived_as, lines_of}
-use Rattle.plan_model.specs.Valid.{plan_refusal}
-use Rattle.plan_model.specs.declared.refusals.PlanWhy.{PlanWhy}
-use Rattle.window_config.specs.declared.config.Config.{Config}
-use Rattle.window_config.specs.declared.delays.Delays.{Delays}
-use Rattle.window_config.specs.declared.relations.Failing.{Failing}
-use Rattle.window_config.specs.Relations.{checked}
+use Rattle.fronthaul_replay.specs.plan_model.specs.Valid.{plan_refusal}
+use Rattle.fronthaul_replay.specs.plan_model.specs.declared.refusals.PlanWhy.{PlanWhy}
+use Rattle.window_lines.specs.window_config.specs.declared.config.Config.{Config}
+use Rattle.window_lines.specs.window_config.specs.declared.delays.Delays.{Delays}
+use Rattle.window_lines.specs.window_config.specs.declared.relations.Failing.{Failing}
+use Rattle.window_lines.specs.window_config.specs.Relations.{checked}
 use Rattle.window_lines.specs.Fit.{fit_text}
 use Rattle.window_lines.specs.Windows.{windows_text}
-use Rattle.window_plan.specs.declared.refusals.NoFit.{NoFit as Refusal}
-use Rattle.window_plan.specs.Fitting.{fitted}
+use Rattle.window_lines.specs.window_plan.specs.declared.refusals.NoFit.{NoFit as Refusal}
+use Rattle.window_lines.specs.window_plan.specs.Fitting.{fitted}
 use Rattle.top_call.specs.declared.status.LineWhy.TheVariants.{Doc, Plan}
 use Rattle.top_call.specs.declared.status.Status.{Status}
 use Rattle.top_call.specs.declared.status.Status.TheVariants.{Done, BadWords, BadDocument, BadCapture, CheckFails, BadPcap, NoFit}

@@ -6,13 +6,13 @@ use Rattle.fh_base.specs.declared.fault.ReadAllFault.{ReadAllFault}
 use Rattle.fh_base.specs.declared.fault.ReadAllFault.TheVariants as source
 use Rattle.fh_base.specs.declared.fault.SinkFault.{SinkFault}
 use Rattle.fh_base.specs.declared.fault.SinkFault.TheVariants as sink
-use Rattle.fh_document.specs.declared.document.Document.{Document}
-use Rattle.fh_document.specs.declared.refusals.DocFault.{DocFault}
-use Rattle.fh_document.specs.declared.refusals.DocFault.TheVariants as doc
+use Rattle.pcap_lines.specs.fh_document.specs.declared.document.Document.{Document}
+use Rattle.pcap_lines.specs.fh_document.specs.declared.refusals.DocFault.{DocFault}
+use Rattle.pcap_lines.specs.fh_document.specs.declared.refusals.DocFault.TheVariants as doc
 use Rattle.fronthaul_replay.specs.declared.report.TextFault.{TextFault}
 use Rattle.fronthaul_replay.specs.declared.report.TextFault.TheVariants as text
-use Rattle.plan_tests.specs.declared.testing.PlanRefusal.{PlanRefusal}
-use Rattle.plan_tests.specs.declared.testing.PlanRefusal.TheVariants as plan
+use Rattle.fronthaul_replay.specs.plan_tests.specs.declared.testing.PlanRefusal.{PlanRefusal}
+use Rattle.fronthaul_replay.specs.plan_tests.specs.declared.testing.PlanRefusal.TheVariants as plan
 use Rattle.top_call.specs.declared.status.LineWhy.TheVariants.{Doc, Plan}
 use Rattle.top_call.specs.declared.status.Status.{Status}
 use Rattle.top_call.specs.declared.status.Status.TheVariants.{Done, BadDocument, BadCapture, ReadFault, WriteFault, NoMemory, TooLong}

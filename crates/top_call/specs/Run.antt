@@ -2,13 +2,12 @@
 use Rattle.std.specs.Prelude.{◌≡◌, ◌<◌, ◌≤◌, ◌⊎◌, ◌↔◌, ℕ, List, length, true, Option, Some, IfSome, IfOk, IsSome, IsNone}
 use Rattle.std.specs.Io.KnownBytes.{prepend_known, append_known, IsAtEnd}
 use Rattle.command_words.specs.Words.{command_of}
-use Rattle.document_traffic.specs.Undisturbed.{IsTakenInOnce, IsUndisturbed, IsUndisturbedBothWays, RadiatesOnce}
 use Rattle.fh_base.specs.Causes.{Rose}
 use Rattle.fh_base.specs.Told.{WritesFront}
-use Rattle.fh_document.specs.Document.{document_of}
-use Rattle.fh_document.specs.declared.document.Document.{Document}
+use Rattle.pcap_lines.specs.fh_document.specs.Document.{document_of}
+use Rattle.pcap_lines.specs.fh_document.specs.declared.document.Document.{Document}
 use Rattle.fronthaul_replay.specs.Laws.{IsSound}
-use Rattle.plan_model.specs.Valid.{IsValid}
+use Rattle.fronthaul_replay.specs.plan_model.specs.Valid.{IsValid}
 use Rattle.top_call.specs.declared.status.Status.{Status}
 use Rattle.top_call.specs.declared.status.Status.TheVariants.{Done, BadWords, BadDocument, BadCapture, ReadFault, WriteFault, NoMemory, TooLong, CheckFails, BadPcap, NoFit}
 use Rattle.top_call.specs.Answers.{Answer, asked, is_reading}
@@ -68,16 +67,9 @@ AnswersRun wanted source_before source_now out_before out_now NoMemory = Unit {0
 AnswersRun wanted source_before source_now out_before out_now TooLong = Unit {0}
 AnswersRun wanted source_before source_now out_before out_now status = wanted ≡ status
 
--- the laws of a document's events, and that where nothing disturbs its schedule each scheduled element radiates once, with its samples,
--- whatever the document's eAxC ids and numPrbs are
-pub record IsSoundReplay (d : Document) : Type 0 where
-  pub sound : IsSound d
-  pub exactly_once : IsUndisturbed d → RadiatesOnce d
-  pub taken_in_once : IsUndisturbedBothWays d → IsTakenInOnce d
-
--- they hold where the document's plan is valid and so these events are replayed
+-- the laws of a document's events hold where its plan is valid and so they are replayed
 abbrev pub IsSoundPlan : Document → Type 0
-IsSoundPlan d = IsValid d.config d.plan → IsSoundReplay d
+IsSoundPlan d = IsValid d.config d.plan → IsSound d
 
 -- what a run did, but for its line on standard error
 pub record Outcome (words : List (List ℕ)) (left_old left_new : Option (List ℕ)) (source_before source_now : ℕ) (written_old written_new : Option (List ℕ)) (out_before out_now : ℕ) (status : Status) : Type 0 where
@@ -103,7 +95,8 @@ pub record Outcome (words : List (List ℕ)) (left_old left_new : Option (List �
       → (is_reading (command_of words) ≡ true → (Rose source_before source_now → ⊥) × (left_old ≡ Some bytes) × (length bytes ≤ input_limit))
       → (Rose out_before out_now → ⊥) ⊎ IsRefusal (asked (command_of words) bytes).status
       → (status ≡ (asked (command_of words) bytes).status) ⊎ (status ≡ NoMemory)
-  -- of the events of the document that the bytes spell, where its plan is valid: none is reported twice, what is shown came and was commanded in time, the
-  -- counters add up, the frames that arrive are those that are listed, and what is refused changes nothing but counters; and where
-  -- nothing disturbs its schedule, each scheduled element radiates once
+  -- of the events of the document that the bytes spell, where its plan is valid: no cell is reported twice, what is shown came and was
+  -- commanded in time, the counters add up, the frames that arrive are those that are listed, and what is refused changes nothing but
+  -- counters; each delay stands behind the frame that gave it, and is that of the one request of its id where no injected frame has a
+  -- message of delay measurement; and where nothing disturbs its schedule, each scheduled element radiates once
   pub sound : IfOk (document_of came) IsSoundPlan

@@ -11,6 +11,7 @@ mod messages;
 mod running;
 mod status;
 
+pub use fronthaul_replay::du_scheduler;
 pub use messages::write_message;
 pub use running::{LIMIT, run};
 pub use status::{LineWhy, Status};

@@ -6,7 +6,7 @@ use Rattle.std.specs.Option.{option_map}
 use Rattle.std.proofs.lemmas.Int.{ints, clamps}
 use Rattle.std.proofs.lemmas.Option.{slice_get-map}
 use Rattle.fh_time.specs.Numbering.{symbols_of}
-use Rattle.air_source.specs.declared.events.Side.TheVariants.{Ru, Du}
+use Rattle.unit_model.specs.air_source.specs.declared.events.Side.TheVariants.{Ru, Du}
 use Rattle.bfp_codec.specs.declared.samples.Wide.{Wide}
 use Rattle.window_config.specs.Limits.{IsWithinLimits}
 use Rattle.window_config.specs.Rings.{ru_reach_of}
@@ -21,7 +21,7 @@ use Rattle.unit_model.specs.Blocks.{data_class, data_prb_count, data_verdict, da
 use Rattle.unit_model.specs.Claims.{cell_at}
 use Rattle.unit_model.specs.Commands.{allocation_of, command_class, command_slot, command_verdict, is_for, verdict_in, with_accepted}
 use Rattle.unit_model.specs.Lists.{every}
-use Rattle.air_source.specs.declared.events.Side.{Side}
+use Rattle.unit_model.specs.air_source.specs.declared.events.Side.{Side}
 use Rattle.unit_model.specs.Proper.{IsAt, IsProperCommand, IsSlot}
 use Rattle.unit_model.specs.declared.allocations.Allocation.{Allocation}
 use Rattle.unit_model.specs.declared.decoded.Command.{Command}

@@ -16,7 +16,7 @@ use Rattle.window_config.specs.declared.verdicts.Class.TheVariants as class
 use Rattle.unit_model.specs.Blocks.{block_at, data_class, data_covers, data_prb_count, data_slot, every_data_cell, first_data_prb, has_all, with_timely}
 use Rattle.unit_model.specs.Claims.{cell_at, claim_at, is_from, same_slot, same_way}
 use Rattle.unit_model.specs.Lists.{every, or_else}
-use Rattle.air_source.specs.declared.events.Side.{Side}
+use Rattle.unit_model.specs.air_source.specs.declared.events.Side.{Side}
 use Rattle.unit_model.specs.Radiated.{is_down}
 use Rattle.unit_model.specs.Proper.{IsAt, IsSlot}
 use Rattle.unit_model.specs.Standing.{IsCell, uplink_of}

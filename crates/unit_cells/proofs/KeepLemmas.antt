@@ -13,7 +13,7 @@ use Rattle.window_config.specs.declared.delays.Delays.{Delays}
 use Rattle.window_config.specs.declared.endpoints.EndpointConfig.{EndpointConfig}
 use Rattle.window_config.specs.declared.rings.Reach.{Reach}
 use Rattle.unit_model.specs.Claims.{claim_at, same_slot}
-use Rattle.air_source.specs.declared.events.Side.{Side}
+use Rattle.unit_model.specs.air_source.specs.declared.events.Side.{Side}
 use Rattle.unit_model.specs.Radiated.{is_down}
 use Rattle.unit_model.specs.Proper.{IsAt, IsSlot}
 use Rattle.unit_model.specs.Standing.{IsCell, uplink_of}

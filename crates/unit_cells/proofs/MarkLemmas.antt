@@ -1,20 +1,20 @@
--- A mark changes nothing but the mark.
-use Rattle.std.proofs.Common.{◌≡◌, ◌≢◌, ℕ, ℤ, Bool, true, false, List, sym, ap, ◌∙◌, ◌⊎◌, inl, inr, Option, Some}
-use Rattle.std.specs.Prelude.{slice_get}
+-- Marks change nothing but the marks.
+use Rattle.std.proofs.Common.{◌≡◌, ◌≢◌, ℕ, ℤ, ◌<◌, ◌≤◌, Bool, true, false, List, sym, ap, ◌∙◌, ◌⊎◌, inl, inr, Option, Some}
+use Rattle.std.specs.Prelude.{◌||◌, slice_get}
 use Rattle.std.proofs.lemmas.Bool.{cases_Bool, cases_eq, false_from_ne_true}
 use Rattle.std.proofs.lemmas.Option.{slice_get_within}
 use Rattle.fh_time.specs.declared.values.Slot.{Slot}
-use Rattle.air_source.specs.declared.events.Side.{Side}
+use Rattle.unit_model.specs.air_source.specs.declared.events.Side.{Side}
 use Rattle.window_config.specs.declared.config.Config.{Config}
 use Rattle.window_config.specs.declared.endpoints.EndpointConfig.{EndpointConfig}
 use Rattle.unit_model.specs.Claims.{cell_at, same_slot}
 use Rattle.unit_model.specs.declared.allocations.Allocation.{Allocation}
 use Rattle.unit_model.specs.declared.cells.Cell.{Cell}
 use Rattle.unit_model.specs.declared.decoded.Data.{Data}
-use Rattle.slot_rings.specs.Places.{PlaceValue, is_of, place_block, place_claim, place_done, place_uplink}
+use Rattle.slot_rings.specs.Places.{PlaceValue, is_in_use, is_of, place_block, place_claim, place_done, place_uplink}
 use Rattle.slot_rings.specs.Rings.{IsRingCell, RingValue, has_slot, place_index, place_of, ring_block, ring_claim, ring_done, ring_uplink}
 use Rattle.slot_rings.proofs.PlaceLemmas.{slot_is, slot_own}
-use Rattle.unit_cells.specs.Cells.{CellsValue, IsCellIn, block_from, cells_done, cells_has, claim_from, done_from, has_from, ring_of, uplink_from}
+use Rattle.unit_cells.specs.Cells.{CellsValue, IsCellIn, block_from, cells_claim, cells_done, cells_has, claim_from, done_from, has_from, ring_of, uplink_from}
 use Rattle.unit_cells.specs.Keeping.{Keeps, SameKnown}
 use Rattle.unit_cells.specs.Steps.{InRing, Marks}
 use Rattle.unit_cells.proofs.KeepLemmas.{cell_of_ring, parted, ring_endpoint}
@@ -46,7 +46,7 @@ pub record HasNeither (s : Slot) (before after : RingValue) : Type 0 where
   pub had : has_slot before s ≡ false
   pub has : has_slot after s ≡ false
 
-module _ (slot : Slot) (symbol prb : ℕ) (before after : RingValue) (m : Marks slot symbol prb before after) (had : has_slot before slot ≡ true) where
+module _ (slot : Slot) (symbol count : ℕ) (before after : RingValue) (m : Marks slot symbol count before after) (had : has_slot before slot ≡ true) where
   other : (s : Slot) → (s ≡ slot → ⊥) → (place_of after s ≡ place_of before s) ⊎ HasNeither s before after
   other s ne = elim (cases_eq (place_index before s) (place_index before slot)) [
     | inr apart ↦ inl (m.touches.others s apart)
@@ -98,7 +98,7 @@ module _ (slot : Slot) (symbol prb : ℕ) (before after : RingValue) (m : Marks 
     ]
   ]
 
-  pub mark_done : (cell : Cell) → IsRingCell before cell → (cell.slot ≡ slot → cell.symbol ≡ symbol → cell.prb ≢ prb) → ring_done after cell ≡ ring_done before cell
+  pub mark_done : (cell : Cell) → IsRingCell before cell → (cell.slot ≡ slot → cell.symbol ≡ symbol → count ≤ cell.prb) → ring_done after cell ≡ ring_done before cell
   mark_done cell is apart = elim (either_slot cell.slot slot) [
     | inl own ↦ m.others cell is own (apart own)
     | inr ne ↦ elim (other cell.slot ne) [
@@ -109,7 +109,7 @@ module _ (slot : Slot) (symbol prb : ℕ) (before after : RingValue) (m : Marks 
     ]
   ]
 
-module _ (ep : ℕ) (slot : Slot) (symbol prb : ℕ) (old new : CellsValue) (m : InRing ep (Marks slot symbol prb) old new) (has : cells_has old ep slot ≡ true) where
+module _ (ep : ℕ) (slot : Slot) (symbol count : ℕ) (old new : CellsValue) (m : InRing ep (Marks slot symbol count) old new) (has : cells_has old ep slot ≡ true) where
   now_is : ring_of new ep ≡ Some m.after
   now_is = ap (λ (rs : List RingValue). slice_get rs ep) m.rings ∙ get_set_same old.rings ep m.after (slice_get_within old.rings ep m.before m.was)
 
@@ -128,16 +128,20 @@ module _ (ep : ℕ) (slot : Slot) (symbol prb : ℕ) (old new : CellsValue) (m :
 
   pub marked_known : SameKnown old new
   marked_known = record {
-    claims = λ cell re. by_ring (λ o. claim_from o cell re) cell.ep (mark_claims slot symbol prb m.before m.after m.stepped had cell re);
-    blocks = λ cell. by_ring (λ o. block_from o cell) cell.ep (mark_blocks slot symbol prb m.before m.after m.stepped had cell);
-    uplink = λ k s. by_ring (λ o. uplink_from o s) k (mark_uplink slot symbol prb m.before m.after m.stepped had s);
-    places = λ k s. by_ring (λ o. has_from o s) k (mark_places slot symbol prb m.before m.after m.stepped had s);
+    claims = λ cell re. by_ring (λ o. claim_from o cell re) cell.ep (mark_claims slot symbol count m.before m.after m.stepped had cell re);
+    blocks = λ cell. by_ring (λ o. block_from o cell) cell.ep (mark_blocks slot symbol count m.before m.after m.stepped had cell);
+    uplink = λ k s. by_ring (λ o. uplink_from o s) k (mark_uplink slot symbol count m.before m.after m.stepped had s);
+    places = λ k s. by_ring (λ o. has_from o s) k (mark_places slot symbol count m.before m.after m.stepped had s);
   }
 
-  pub marked_here : cells_done new (cell_at ep true slot symbol prb) ≡ true
-  marked_here = ap (λ (o : Option RingValue). done_from o (cell_at ep true slot symbol prb)) now_is ∙ m.stepped.here ep
+  pub marked_here : (prb : ℕ) → prb < count → cells_done new (cell_at ep true slot symbol prb)
+      ≡ (cells_done old (cell_at ep true slot symbol prb) || is_in_use (cells_claim old (cell_at ep true slot symbol prb)))
+  marked_here prb below =
+      ap (λ (o : Option RingValue). done_from o (cell_at ep true slot symbol prb)) now_is
+      ∙ m.stepped.here ep prb below
+      ∙ sym (ap (λ (o : Option RingValue). done_from o (cell_at ep true slot symbol prb) || is_in_use (λ re. claim_from o (cell_at ep true slot symbol prb) re)) m.was)
 
-  pub marked_others : (cell : Cell) → IsCellIn old cell → (cell.ep ≡ ep → cell.slot ≡ slot → cell.symbol ≡ symbol → cell.prb ≢ prb) → cells_done new cell ≡ cells_done old cell
+  pub marked_others : (cell : Cell) → IsCellIn old cell → (cell.ep ≡ ep → cell.slot ≡ slot → cell.symbol ≡ symbol → count ≤ cell.prb) → cells_done new cell ≡ cells_done old cell
   marked_others cell is apart = elim (cases_eq cell.ep ep) [
     | inr ne ↦ ap (λ (o : Option RingValue). done_from o cell) (others cell.ep ne)
     | inl own ↦
@@ -145,6 +149,6 @@ module _ (ep : ℕ) (slot : Slot) (symbol prb : ℕ) (old new : CellsValue) (m :
         let same : m.before.endpoint ≡ is.endpoint = ring_endpoint old cell.ep is.endpoint m.before is.at there in
         let in_ring : IsRingCell m.before cell = cell_of_ring m.before cell is.endpoint same is.slot_is is.symbol is.prb in
         ap (λ (o : Option RingValue). done_from o cell) (ap (ring_of new) own ∙ now_is)
-        ∙ mark_done slot symbol prb m.before m.after m.stepped had cell in_ring (apart own)
+        ∙ mark_done slot symbol count m.before m.after m.stepped had cell in_ring (apart own)
         ∙ sym (ap (λ (o : Option RingValue). done_from o cell) there)
   ]

@@ -10,7 +10,7 @@ use Rattle.window_config.specs.declared.config.Config.{Config}
 use Rattle.window_config.specs.declared.endpoints.EndpointConfig.{EndpointConfig}
 use Rattle.unit_model.specs.Claims.{claim_at, claim_of, covers, in_mask, names, overlaps, repeats, same_slot}
 use Rattle.unit_model.specs.Commands.{is_full, is_uplink, most_uplink, timely_verdict, uplink_in, with_accepted}
-use Rattle.air_source.specs.declared.events.Side.{Side}
+use Rattle.unit_model.specs.air_source.specs.declared.events.Side.{Side}
 use Rattle.unit_model.specs.Proper.{IsAt, IsProperAllocation, IsSlot}
 use Rattle.unit_model.specs.Standing.{IsCell, uplink_of}
 use Rattle.unit_model.specs.declared.allocations.Allocation.{Allocation}

@@ -1,12 +1,13 @@
 -- The rings of all endpoints of a unit, and what they answer of a cell.
-use Rattle.std.specs.Prelude.{◌≡◌, ℕ, ℤ, pos, ◌+◌, ◌<◌, ◌≤◌, ◌+ℤ◌, ◌<ℤ◌, Bool, false, List, [], length, map, slice_get, Option, Some, None}
+use Rattle.std.specs.Prelude.{◌≡◌, ℕ, ℤ, pos, ◌+◌, ◌<◌, ◌≤◌, ◌+ℤ◌, ◌<ℤ◌, Bool, true, false, List, [], length, map, slice_get, Option, Some, None}
 use Rattle.fh_time.specs.declared.values.Slot.{Slot}
 use Rattle.fh_time.specs.Numbering.{IsSlotOf, slot_number, symbols_of}
-use Rattle.air_source.specs.declared.events.Side.{Side}
+use Rattle.unit_model.specs.air_source.specs.declared.events.Side.{Side}
 use Rattle.window_config.specs.Limits.{IsWithinLimits}
 use Rattle.window_config.specs.declared.config.Config.{Config}
 use Rattle.window_config.specs.declared.delays.Delays.{Delays}
 use Rattle.window_config.specs.declared.endpoints.EndpointConfig.{EndpointConfig}
+use Rattle.unit_model.specs.Claims.{cell_at}
 use Rattle.unit_model.specs.Proper.{IsAt, IsSlot}
 use Rattle.unit_model.specs.declared.allocations.Allocation.{Allocation}
 use Rattle.unit_model.specs.declared.cells.Block.{Block}
@@ -14,6 +15,8 @@ use Rattle.unit_model.specs.declared.cells.Cell.{Cell}
 use Rattle.unit_model.specs.declared.cells.Claim.{Claim}
 use Rattle.unit_model.specs.Sides.{IsLiveOn}
 use Rattle.slot_rings.specs.Rings.{RingValue, has_slot, place_index, ring_block, ring_claim, ring_done, ring_uplink}
+use Rattle.slot_rings.specs.Symbols.{lent_block, lent_claim, lent_done}
+use Rattle.slot_rings.specs.declared.symbol_cells.SymbolCells.{SymbolCells}
 
 -- the delays by which arrivals are judged, and the ring of each endpoint, by its index
 pub record CellsValue : Type 0 where
@@ -129,3 +132,9 @@ pub record AreCellsIn (v : CellsValue) (ep : ℕ) (slot : Slot) (symbol first co
   pub slot_is : IsSlot endpoint.numerology slot
   pub symbol_is : symbol < symbols_of endpoint.numerology
   pub prbs : first + count ≤ endpoint.prbs
+
+-- these are the downlink cells of a symbol
+pub record AreCellsOf (v : CellsValue) (ep : ℕ) (slot : Slot) (symbol : ℕ) (cells : SymbolCells) : Type 0 where
+  pub claims : (prb re : ℕ) → lent_claim cells prb re ≡ cells_claim v (cell_at ep true slot symbol prb) re
+  pub blocks : (prb : ℕ) → lent_block cells prb ≡ cells_block v (cell_at ep true slot symbol prb)
+  pub done : (prb : ℕ) → lent_done cells prb ≡ cells_done v (cell_at ep true slot symbol prb)

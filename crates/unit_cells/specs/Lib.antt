@@ -1,3 +1,8 @@
+pub use Rattle.unit_model.specs.air_source
+pub use Rattle.slot_rings
+pub use Rattle.unit_laws
+pub use Rattle.unit_model
+pub use Rattle.window_config
 pub mod Headings
 pub mod Told
 pub mod Cells

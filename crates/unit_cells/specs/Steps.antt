@@ -1,5 +1,5 @@
 -- What a call does to the ring of one endpoint, and so to all rings.
-use Rattle.std.specs.Prelude.{◌≡◌, ◌≢◌, ℕ, ◌+◌, ◌<◌, true, false, List, length, set, Some}
+use Rattle.std.specs.Prelude.{◌≡◌, ℕ, ◌+◌, ◌<◌, ◌≤◌, ◌||◌, true, false, List, length, set, Some}
 use Rattle.bfp_codec.specs.declared.samples.Wide.{Wide}
 use Rattle.fh_time.specs.declared.values.Slot.{Slot}
 use Rattle.unit_model.specs.Claims.{cell_at, is_from}
@@ -7,6 +7,7 @@ use Rattle.unit_model.specs.Lists.{or_else}
 use Rattle.unit_model.specs.declared.allocations.Allocation.{Allocation}
 use Rattle.unit_model.specs.declared.cells.Cell.{Cell}
 use Rattle.unit_model.specs.declared.verdicts.CommandVerdict.{CommandVerdict}
+use Rattle.slot_rings.specs.Places.{is_in_use}
 use Rattle.slot_rings.specs.Rings.{IsRingCell, RingValue, SameBlocks, SameClaims, SameDone, SameUplink, TouchesOnly, has_slot, ring_block, ring_claim, ring_done, ring_uplink}
 use Rattle.slot_rings.specs.Runs.{block_in}
 use Rattle.slot_rings.specs.Verdicts.{claim_after, uplink_after, verdict_by}
@@ -39,10 +40,11 @@ pub record Fills (slot : Slot) (symbol first id : ℕ) (run : List (List Wide)) 
   pub uplink : SameUplink slot old new
   pub touches : TouchesOnly slot old new
 
--- a downlink cell is marked as reported
-pub record Marks (slot : Slot) (symbol prb : ℕ) (old new : RingValue) : Type 0 where
-  pub here : (ep : ℕ) → ring_done new (cell_at ep true slot symbol prb) ≡ true
-  pub others : (cell : Cell) → IsRingCell old cell → cell.slot ≡ slot → (cell.symbol ≡ symbol → cell.prb ≢ prb) → ring_done new cell ≡ ring_done old cell
+-- the downlink cells of a symbol that are in use at the first so many PRBs are marked as reported
+pub record Marks (slot : Slot) (symbol count : ℕ) (old new : RingValue) : Type 0 where
+  pub here : (ep prb : ℕ) → prb < count → ring_done new (cell_at ep true slot symbol prb)
+      ≡ (ring_done old (cell_at ep true slot symbol prb) || is_in_use (ring_claim old (cell_at ep true slot symbol prb)))
+  pub others : (cell : Cell) → IsRingCell old cell → cell.slot ≡ slot → (cell.symbol ≡ symbol → count ≤ cell.prb) → ring_done new cell ≡ ring_done old cell
   pub has : has_slot new slot ≡ true
   pub claims : SameClaims slot old new
   pub blocks : SameBlocks slot old new

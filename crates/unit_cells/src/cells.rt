@@ -1,9 +1,9 @@
 // The rings of all endpoints.
-ghost use Rattle.std.specs.Prelude.{◌≡◌, ◌≢◌, ℕ, ℤ, ◌+◌, ◌*◌, ◌<◌, ◌≤◌, true, false, List, [], ◌∷◌, ◌++◌, All, length, reverse, is_some, IfOk, IfSome, Some, option_copied};
+ghost use Rattle.std.specs.Prelude.{◌≡◌, ◌≢◌, ℕ, ℤ, ◌+◌, ◌*◌, ◌<◌, ◌≤◌, ◌||◌, true, false, List, [], ◌∷◌, ◌++◌, All, length, reverse, is_some, IfOk, IfSome, Some, option_copied};
 ghost use Rattle.fh_time.specs.Numbering.{symbols_of};
 ghost use Rattle.fh_time.specs.declared.values.Slot.{Slot};
-ghost use Rattle.air_source.specs.declared.events.Side.{Side as SpecSide};
-ghost use Rattle.air_source.specs.declared.events.Side.TheVariants.{Ru};
+ghost use Rattle.unit_model.specs.air_source.specs.declared.events.Side.{Side as SpecSide};
+ghost use Rattle.unit_model.specs.air_source.specs.declared.events.Side.TheVariants.{Ru};
 ghost use Rattle.bfp_codec.specs.Layout.{HasWidth, length_of};
 ghost use Rattle.bfp_codec.specs.declared.samples.Wide.{Wide};
 ghost use Rattle.window_config.specs.Configs.{IsConfig};
@@ -14,26 +14,25 @@ ghost use Rattle.unit_model.specs.Claims.{cell_at};
 ghost use Rattle.unit_model.specs.Commands.{allocation_of, command_verdict, with_accepted};
 ghost use Rattle.unit_model.specs.Lists.{every, some};
 ghost use Rattle.unit_model.specs.Proper.{IsAt, IsProperCommand, IsSlot};
-ghost use Rattle.unit_model.specs.Radiated.{cell_id, used_mask};
 ghost use Rattle.unit_model.specs.declared.allocations.Allocation.{Allocation};
 ghost use Rattle.unit_model.specs.declared.cells.Cell.{Cell};
 ghost use Rattle.unit_model.specs.declared.decoded.Data.{Data};
-ghost use Rattle.slot_rings.specs.Places.{is_due};
+ghost use Rattle.slot_rings.specs.Places.{is_due, is_in_use};
 ghost use Rattle.slot_rings.specs.Rings.{RingValue, ring_block};
 ghost use Rattle.slot_rings.specs.Runs.{samples_of, unpacked_run};
 ghost use Rattle.unit_cells.specs.Headings.{IsProperHeading, data_of, with_heading};
 ghost use Rattle.unit_cells.specs.Told.{IsTold};
 
 use crate::heading::DataHeading;
-use crate::rings::{fill, fill_run, make_ring, mark, take};
+use crate::rings::{fill, fill_run, make_ring, mark_used, take};
 use crate::sections::{data_class, data_slot, first_prb, prb_at, prb_count};
-use air_source::Side;
 use bfp_codec::{Method, Wide};
 use fh_base::NoMemory;
 use fh_time::Slot;
-use slot_rings::{PackedRun, SlotRing, Use};
+use slot_rings::{PackedRun, SlotRing, SymbolCells};
 use std::alloc::Global;
 use std::marker::Model;
+use unit_model::air_source::Side;
 use unit_model::{
     Allocation, Block, Command, CommandVerdict, DataVerdict, allocation_of, command_class, is_for,
 };
@@ -61,7 +60,7 @@ impl Model for UnitCells {
 }
 
 impl UnitCells {
-    ghost use Rattle.unit_cells.specs.Cells.{AreCellsIn, AreRings, CellsValue, IsOf, IsSlotIn, IsCellIn, cells_block, cells_claim, cells_done, cells_has, cells_index, cells_places, cells_uplink, endpoints_of, ring_of};
+    ghost use Rattle.unit_cells.specs.Cells.{AreCellsIn, AreCellsOf, AreRings, CellsValue, IsOf, IsSlotIn, IsCellIn, cells_block, cells_claim, cells_done, cells_has, cells_index, cells_places, cells_uplink, endpoints_of, ring_of};
     ghost use Rattle.unit_cells.specs.Keeping.{Keeps, LiveAreApart, SameKnown, SameMarks};
     ghost use Rattle.unit_cells.specs.Steps.{Fills, InRing, Marks, Takes};
 
@@ -115,13 +114,13 @@ impl UnitCells {
         fill_run(&mut self.rings[ep], slot, symbol, first, run);
     }
 
-    /// Marks a downlink cell as reported.
-    fn mark_cell(&mut self, ep: usize, slot: Slot, symbol: u8, prb: u16)
-        requires cell { IsCellIn self.old (cell_at ep true slot symbol prb) }
+    /// Marks as reported the downlink cells of a symbol that are in use at the first so many PRBs.
+    fn mark_cells(&mut self, ep: usize, slot: Slot, symbol: u8, count: u16)
+        requires cells { AreCellsIn self.old ep slot symbol 0 count }
         requires has { cells_has self.old ep slot ≡ true }
-        ensures { InRing ep (Marks slot symbol prb) self.old self.new }
+        ensures { InRing ep (Marks slot symbol count) self.old self.new }
     {
-        mark(&mut self.rings[ep], slot, symbol, prb);
+        mark_used(&mut self.rings[ep], slot, symbol, count);
     }
 
     /// Judges a section of a command that comes at the clock, and claims what it names where it is accepted (O-RAN.WG4.CUS for
@@ -242,12 +241,15 @@ impl UnitCells {
         }
     }
 
-    /// Marks a downlink cell as reported, in a slot that has its place. Nothing else changes.
-    pub fn mark(&mut self, ep: usize, slot: Slot, symbol: u8, prb: u16)
-        requires cell { IsCellIn self.old (cell_at ep true slot symbol prb) }
+    /// Marks as reported the downlink cells of a symbol that are in use at the first so many PRBs, in a slot that has its place.
+    /// Where these are all PRBs, `is_pending` and `is_used` answer from now on without a look at any of its cells, until one is
+    /// claimed. Nothing else changes.
+    pub fn mark_used(&mut self, ep: usize, slot: Slot, symbol: u8, count: u16)
+        requires cells { AreCellsIn self.old ep slot symbol 0 count }
         requires has { cells_has self.old ep slot ≡ true }
-        ensures here { cells_done self.new (cell_at ep true slot symbol prb) ≡ true }
-        ensures others { (cell : Cell) → IsCellIn self.old cell → (cell.ep ≡ ep → cell.slot ≡ slot → cell.symbol ≡ symbol → cell.prb ≢ prb)
+        ensures here { (prb : ℕ) → prb < count → cells_done self.new (cell_at ep true slot symbol prb)
+            ≡ (cells_done self.old (cell_at ep true slot symbol prb) || is_in_use (cells_claim self.old (cell_at ep true slot symbol prb))) }
+        ensures others { (cell : Cell) → IsCellIn self.old cell → (cell.ep ≡ ep → cell.slot ≡ slot → cell.symbol ≡ symbol → count ≤ cell.prb)
             → cells_done self.new cell ≡ cells_done self.old cell }
         ensures keeps { (side : SpecSide) (c : Config) (clock : ℤ) (acc : List Allocation) (ds : List Data) → Keeps side c clock self.old acc ds → Keeps side c clock self.new acc ds }
         ensures known { SameKnown self.old self.new }
@@ -255,17 +257,15 @@ impl UnitCells {
         ensures delays { self.new.delays ≡ self.old.delays }
         ensures endpoints { endpoints_of self.new ≡ endpoints_of self.old }
     {
-        self.mark_cell(ep, slot, symbol, prb);
+        self.mark_cells(ep, slot, symbol, count);
     }
 
-    /// What a report needs of a downlink cell besides its block.
-    pub fn cell(&self, ep: usize, slot: Slot, symbol: u8, prb: u16) -> Use
+    /// The downlink cells of a symbol: their place is found once for all of them.
+    pub fn symbol_cells(&self, ep: usize, slot: Slot, symbol: u8) -> SymbolCells<'_>
         requires { IsSlotIn self.now ep slot }
-        ensures mask { result.mask ≡ used_mask (cells_claim self.now (cell_at ep true slot symbol prb)) }
-        ensures section { result.section ≡ cell_id (cells_claim self.now (cell_at ep true slot symbol prb)) }
-        ensures done { result.done ≡ cells_done self.now (cell_at ep true slot symbol prb) }
+        ensures { AreCellsOf self.now ep slot symbol result }
     {
-        self.rings[ep].cell(slot, symbol, prb)
+        self.rings[ep].symbol_cells(slot, symbol)
     }
 
     /// The block of a downlink cell.
@@ -295,15 +295,6 @@ impl UnitCells {
             is_due (cells_claim self.now (cell_at ep true slot symbol prb)) (cells_done self.now (cell_at ep true slot symbol prb))) ≡ false }
     {
         self.rings[ep].is_pending(index, symbol)
-    }
-
-    /// Looks at the downlink cells of a symbol: where its slot has a place and none of them is in use and not reported, `is_pending`
-    /// and `is_used` answer so from now on without a look at any, until one is claimed. Nothing else changes.
-    pub fn settle(&mut self, ep: usize, slot: Slot, symbol: u8)
-        requires { IsSlotIn self.old ep slot }
-        ensures { self.new ≡ self.old }
-    {
-        self.rings[ep].settle(slot, symbol);
     }
 
     /// The accepted uplink sections of a slot, the newest last: 64 at most.

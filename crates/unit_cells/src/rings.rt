@@ -11,11 +11,11 @@ ghost use Rattle.slot_rings.specs.Verdicts.{verdict_by};
 ghost use Rattle.unit_cells.specs.Cells.{HoldsLive};
 ghost use Rattle.unit_cells.specs.Steps.{Claims, Takes, Fills, Marks};
 
-use air_source::Side;
 use fh_base::NoMemory;
 use fh_time::Slot;
 use slot_rings::{PackedRun, SlotRing};
 use std::alloc::Global;
+use unit_model::air_source::Side;
 use unit_model::{Allocation, Block, CommandVerdict};
 use window_config::{Delays, EndpointConfig, Reach, du_reach, ring_slots, ru_reach};
 
@@ -100,13 +100,13 @@ pub(crate) fn fill_run(ring: &mut SlotRing, slot: Slot, symbol: u8, first: u16, 
     ring.fill_run(slot, symbol, first, run);
 }
 
-/// Marks a downlink cell as reported, in a slot that has its place.
-pub(crate) fn mark(ring: &mut SlotRing, slot: Slot, symbol: u8, prb: u16)
+/// Marks as reported the downlink cells of a symbol that are in use at the first so many PRBs, in a slot that has its place.
+pub(crate) fn mark_used(ring: &mut SlotRing, slot: Slot, symbol: u8, count: u16)
     requires slot { IsSlot ring.old.endpoint.numerology slot }
     requires symbol { symbol < symbols_of ring.old.endpoint.numerology }
-    requires prb { prb < ring.old.endpoint.prbs }
+    requires count { count ≤ ring.old.endpoint.prbs }
     requires has { has_slot ring.old slot ≡ true }
-    ensures { Marks slot symbol prb ring.old ring.new }
+    ensures { Marks slot symbol count ring.old ring.new }
 {
-    ring.mark_done(slot, symbol, prb);
+    ring.mark_used(slot, symbol, count);
 }

@@ -2,7 +2,7 @@
 use Rattle.std.proofs.Common.{◌≡◌, ℤ, pos, ◌+ℤ◌, ◌-ℤ◌, ◌≤ℤ◌, List, [], ◌++◌, refl, sym, ap, ◌∙◌, subst, arith}
 use Rattle.std.proofs.lemmas.Int.{ints}
 use Rattle.std.proofs.lemmas.List.Elements.{All-nil}
-use Rattle.air_source.specs.declared.events.Side.TheVariants.{Du}
+use Rattle.unit_model.specs.air_source.specs.declared.events.Side.TheVariants.{Du}
 use Rattle.ecpri_fragments.specs.Assemblies.{StandsFor}
 use Rattle.ecpri_fragments.specs.Generations.{Fragment}
 use Rattle.fault_counters.specs.Counts.{capped, times}

@@ -10,7 +10,7 @@ use Rattle.std.proofs.lemmas.List.Elements.{All-nil, All-cons, All-head, All-tai
 use Rattle.fh_time.specs.Air.{air_of}
 use Rattle.fh_time.specs.Numbering.{slots_of, symbols_of}
 use Rattle.fh_time.specs.declared.values.Slot.{Slot}
-use Rattle.air_source.specs.declared.events.AirCell.{AirCell}
+use Rattle.unit_model.specs.air_source.specs.declared.events.AirCell.{AirCell}
 use Rattle.eaxc_map.specs.Endpoints.{AppearOnce}
 use Rattle.window_config.specs.Endpoints.{ids_of}
 use Rattle.window_config.specs.declared.endpoints.EndpointConfig.{EndpointConfig}

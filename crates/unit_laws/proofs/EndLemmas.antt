@@ -5,7 +5,7 @@ use Rattle.std.proofs.lemmas.Int.{clamps, ints}
 use Rattle.fh_time.specs.Kinds.{kind_start}
 use Rattle.fh_time.specs.declared.values.Slot.{Slot}
 use Rattle.fh_time.proofs.Euclid.{frame_floor}
-use Rattle.air_source.specs.declared.events.Side.TheVariants.{Ru}
+use Rattle.unit_model.specs.air_source.specs.declared.events.Side.TheVariants.{Ru}
 use Rattle.window_config.specs.Limits.{IsWithinLimits}
 use Rattle.window_config.specs.Rings.{ru_reach_of}
 use Rattle.window_config.specs.declared.delays.Delays.{Delays}

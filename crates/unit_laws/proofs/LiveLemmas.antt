@@ -7,8 +7,8 @@ use Rattle.window_config.specs.Rings.{IsLive, ru_reach_of}
 use Rattle.window_config.specs.Windows.{data_window_of, command_window_of}
 use Rattle.window_config.specs.declared.delays.Delays.{Delays}
 use Rattle.window_config.proofs.Live.{live_on_time, live_on_time_up, live_on_command}
-use Rattle.air_source.specs.declared.events.Side.{Side}
-use Rattle.air_source.specs.declared.events.Side.TheVariants.{Ru, Du}
+use Rattle.unit_model.specs.air_source.specs.declared.events.Side.{Side}
+use Rattle.unit_model.specs.air_source.specs.declared.events.Side.TheVariants.{Ru, Du}
 use Rattle.fh_time.specs.Numbering.{symbols_of}
 use Rattle.unit_model.specs.Blocks.{data_class, data_slot}
 use Rattle.unit_model.specs.Commands.{command_slot, command_verdict}

@@ -9,7 +9,7 @@ use Rattle.std.proofs.lemmas.List.{append-nil, reverse-append}
 use Rattle.std.proofs.lemmas.List.Elements.{filter-append}
 use Rattle.fh_time.specs.Air.{air_of}
 use Rattle.fh_time.specs.declared.values.Slot.{Slot}
-use Rattle.air_source.specs.declared.events.AirCell.{AirCell}
+use Rattle.unit_model.specs.air_source.specs.declared.events.AirCell.{AirCell}
 use Rattle.fh_time.specs.Carrier.{is_outside, first_of, count_of}
 use Rattle.unit_model.specs.Blocks.{block_at, data_prb_count, data_slot, every_data_cell, first_data_prb, has_all}
 use Rattle.unit_model.specs.Claims.{cell_at, cell_of, claim_at, covers, every_cell, first_prb, in_mask, is_claimed, is_from, is_other, is_overlapped, is_under, overlaps, prb_count, repeats, same_slot, same_way, some_cell}

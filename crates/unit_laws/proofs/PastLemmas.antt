@@ -8,8 +8,8 @@ use Rattle.std.proofs.lemmas.List.Elements.{filter-append}
 use Rattle.fh_time.specs.Air.{air_of}
 use Rattle.fh_time.specs.declared.values.Slot.{Slot}
 use Rattle.fh_time.proofs.Order.{symbols_in_order}
-use Rattle.air_source.specs.declared.events.Side.{Side}
-use Rattle.air_source.specs.declared.events.Side.TheVariants.{Ru, Du}
+use Rattle.unit_model.specs.air_source.specs.declared.events.Side.{Side}
+use Rattle.unit_model.specs.air_source.specs.declared.events.Side.TheVariants.{Ru, Du}
 use Rattle.window_config.specs.Limits.{IsWithinLimits}
 use Rattle.window_config.specs.Windows.{command_window_of, data_window_of}
 use Rattle.window_config.specs.declared.delays.Delays.{Delays}

@@ -1,3 +1,7 @@
+pub use Rattle.unit_model.specs.air_source
+pub use Rattle.unit_model
+pub use Rattle.unit_model.specs.uplane_sections
+pub use Rattle.window_config
 pub mod Acceptance
 pub mod Live
 pub mod Changes

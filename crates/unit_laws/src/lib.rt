@@ -12,7 +12,7 @@ ghost use Rattle.unit_laws.specs.Due.{ReportedAreDifferent, DueAreDifferent, All
 ghost use Rattle.unit_laws.specs.Ends.{CellsEnd, JobsEnd, NoCellsLater, NoJobsLater};
 ghost use Rattle.unit_laws.specs.Far.{AcceptedAreReached, TimelyAreReached, FarIsUnclaimed, FarHasNoUplink, FarHasNoBlock};
 ghost use Rattle.unit_laws.specs.Live.{AcceptedIsLive, TimelyIsLive};
-ghost use Rattle.air_source.specs.declared.events.AirCell.{AirCell};
+ghost use Rattle.unit_model.specs.air_source.specs.declared.events.AirCell.{AirCell};
 ghost use Rattle.unit_laws.specs.Histories.{CommandsAreHeard, DataAreHeard, CommandsAreProper, DataAreProper, NoClaimsAhead, NoBlocksAhead, NoUplinkAhead, NoReportsAhead, NoJobsAhead};
 ghost use Rattle.unit_laws.specs.Lookups.{CoveredAreCells, DataCoverCells, RepeatsByLookup, OverlapsByLookup, HasAllByLookup, UplinkIsCounted, JobsAreOfTheirSlot, ReportedByMark};
 ghost use Rattle.unit_laws.specs.Runs.{EndpointInARow, NextIsNext, SymbolsAreSwept};
@@ -260,3 +260,6 @@ pub fn all_is_told()
 pub fn plan_begins()
     ensures { PlanBegins }
 {}
+
+pub use unit_model;
+pub use unit_model::air_source;

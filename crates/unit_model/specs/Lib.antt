@@ -1,3 +1,6 @@
+pub use Rattle.air_source
+pub use Rattle.uplane_sections
+pub use Rattle.window_config
 pub mod Lists
 pub mod Meetings
 pub mod Decoding

@@ -15,8 +15,8 @@ use Rattle.ecpri_fragments.specs.Generations.{Fragment}
 use Rattle.ecpri_fragments.specs.Sequence.{seq_field_of}
 use Rattle.ecpri_frames.specs.Gathering.{whole_messages}
 use Rattle.ecpri_frames.specs.Messages.{Message}
-use Rattle.fault_counters.specs.declared.kinds.Counter.{Counter}
-use Rattle.fault_counters.specs.declared.kinds.Counter.TheVariants.{OtherType, Delay, Short, UnknownEndpoint, WrongWay, CRefused}
+use Rattle.air_source.specs.fault_counters.specs.declared.kinds.Counter.{Counter}
+use Rattle.air_source.specs.fault_counters.specs.declared.kinds.Counter.TheVariants.{OtherType, Delay, Short, UnknownEndpoint, WrongWay, CRefused}
 use Rattle.window_config.specs.declared.endpoints.EndpointConfig.{EndpointConfig}
 use Rattle.unit_model.specs.Lists.{onto}
 use Rattle.unit_model.specs.declared.decoded.Command.{Command}

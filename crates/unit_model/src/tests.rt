@@ -7,12 +7,12 @@ use crate::{
     samples_under, sends_in,
 };
 use air_source::Side;
-use bfp_codec::{Format, Method, Wide};
+use air_source::fault_counters::Counter;
 use ecpri_fragments::Verdict;
 use ecpri_frames::messages;
-use fault_counters::Counter;
 use fh_time::{Numerology, Slot, Ticks};
 use std::test::Fail;
+use uplane_sections::bfp_codec::{Format, Method, Wide};
 use window_config::EndpointConfig;
 
 /// A measurement message, data with 3 bytes, and data to the id 7: sequence 5, the last piece, with one byte.

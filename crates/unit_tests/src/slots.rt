@@ -1,19 +1,19 @@
 // One endpoint of 4 PRBs, with the usual windows at 30 kHz and with the greatest at 240 kHz; commands and data of many slots. A slot
 // has 768000000 ticks at 30 kHz. At 240 kHz one has 122752 Tc, of 781.25 ticks each, and the first and the ninth of a subframe have
 // 1024 Tc more.
-ghost use Rattle.window_config.specs.Limits.{IsWithinLimits};
+ghost use Rattle.plain_units.specs.window_config.specs.Limits.{IsWithinLimits};
 ghost use Rattle.ru_buffers.specs.Calls.{HasGivenPast, StandsForSome};
 
 use crate::samples::{COMMAND, DATA, cell, config, endpoint, samples};
 use crate::steps::{cell_heard, hand, has_counted, made, step};
-use air_source::{AirFault, MemoryAir};
 use eaxc_map::Widths;
 use fault_counters::Counter;
 use fh_base::List;
 use fh_time::{Numerology, Slot, Ticks};
+use plain_units::air_source::{AirFault, MemoryAir};
+use plain_units::window_config::{Delays, Range, ring_slots, ru_reach};
 use ru_buffers::Ru;
 use std::test::Fail;
-use window_config::{Delays, Range, ring_slots, ru_reach};
 
 const START: i64 = 15_360_000_000;
 

@@ -1,18 +1,18 @@
 // The unit's calls, as tests make them: what a call requires holds after the calls before it.
 ghost use Rattle.std.specs.Prelude.{◌≡◌, [], true, IfOk, OnErr, pos, ◌≤ℤ◌, ◌-ℤ◌};
-ghost use Rattle.window_config.specs.Configs.{IsConfig};
-ghost use Rattle.window_config.specs.declared.config.Config.{Config as SpecConfig};
-ghost use Rattle.unit_model.specs.Proper.{IsTime};
-ghost use Rattle.unit_model.specs.Standing.{History};
+ghost use Rattle.plain_units.specs.window_config.specs.Configs.{IsConfig};
+ghost use Rattle.plain_units.specs.window_config.specs.declared.config.Config.{Config as SpecConfig};
+ghost use Rattle.plain_units.specs.unit_model.specs.Proper.{IsTime};
+ghost use Rattle.plain_units.specs.unit_model.specs.Standing.{History};
 ghost use Rattle.ru_buffers.specs.Calls.{HasGivenPast, StandsFor, StandsForSome, given_of};
 
-use air_source::{AirCell, AirFault, Event, MemoryAir};
 use fault_counters::{Counter, Counters};
 use fh_base::NoMemory;
 use fh_time::Ticks;
+use plain_units::air_source::{AirCell, AirFault, Event, MemoryAir};
+use plain_units::window_config::Config;
 use ru_buffers::{Delivered, Ru, UplinkJob};
 use std::alloc::Global;
-use window_config::Config;
 
 /// No time is further from 0.
 const MOST: i64 = 9_007_199_254_740_992;

@@ -2,24 +2,24 @@
 // symbol. Commands name PRBs 0 and 1 in symbols 0 and 2 of frame 1; data come for PRB 0 of symbol 0.
 ghost use Rattle.std.specs.Prelude.{◌≡◌, ◌<◌, ◌≤ℤ◌, pos, List, [], ◌∷◌, true, IfSome};
 ghost use Rattle.fh_time.specs.Numbering.{slots_of, symbols_of};
-ghost use Rattle.air_source.specs.declared.events.Side.TheVariants.{Ru};
-ghost use Rattle.unit_cells.specs.Cells.{endpoints_of};
+ghost use Rattle.plain_units.specs.air_source.specs.declared.events.Side.TheVariants.{Ru};
+ghost use Rattle.ru_buffers.specs.unit_cells.specs.Cells.{endpoints_of};
 
 use crate::samples::{config, endpoint};
 use crate::steps::cell_heard;
-use air_source::{AirCell, AirFault, MemoryAir, Side};
 use bfp_codec::{Method, Wide};
 use cplane_sections::{CBody, CHead, CSection};
 use eaxc_map::Widths;
 use fault_counters::{Counter, Counters};
 use fh_base::List;
 use fh_time::{Numerology, Slot, Ticks, of_ns, shape};
-use ru_reports::{first_left, report};
+use plain_units::air_source::{AirCell, AirFault, MemoryAir, Side};
+use plain_units::unit_model::{Command, CommandVerdict, SymbolStart};
+use plain_units::uplane_sections::{UHead, USection};
+use plain_units::window_config::{Delays, EndpointConfig};
+use ru_buffers::ru_reports::{first_left, report};
+use ru_buffers::unit_cells::{DataHeading, UnitCells};
 use std::test::Fail;
-use unit_cells::{DataHeading, UnitCells};
-use unit_model::{Command, CommandVerdict, SymbolStart};
-use uplane_sections::{UHead, USection};
-use window_config::{Delays, EndpointConfig};
 
 /// A downlink command for PRBs 0 and 1 in one symbol of frame 1, under section 5, that comes at 9.65 ms.
 fn command(e: EndpointConfig, symbol: u8, mask: u16) -> Command

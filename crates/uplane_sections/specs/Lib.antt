@@ -1,3 +1,4 @@
+pub use Rattle.bfp_codec
 pub mod Header
 pub mod Section
 pub mod Messages

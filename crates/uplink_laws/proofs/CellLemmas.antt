@@ -4,37 +4,37 @@ use Rattle.std.specs.Prelude.{filter}
 use Rattle.std.proofs.lemmas.Bool.{cases_Bool, and_parts, and_from, eq-eqb}
 use Rattle.fh_time.specs.Air.{air_of}
 use Rattle.fh_time.specs.declared.values.Slot.{Slot}
-use Rattle.air_source.specs.declared.events.AirCell.{AirCell}
-use Rattle.air_source.specs.declared.events.Side.TheVariants.{Du}
+use Rattle.sent_laws.specs.air_source.specs.declared.events.AirCell.{AirCell}
+use Rattle.sent_laws.specs.air_source.specs.declared.events.Side.TheVariants.{Du}
 use Rattle.fragment_laws.specs.Apart.{IsIn}
 use Rattle.window_config.specs.declared.config.Config.{Config}
 use Rattle.window_config.specs.declared.endpoints.EndpointConfig.{EndpointConfig}
 use Rattle.window_config.specs.declared.plan.PlanLine.{PlanLine}
-use Rattle.unit_model.specs.Blocks.{block_at}
-use Rattle.unit_model.specs.Claims.{cell_at, claim_at, claim_of, covers, in_mask, names}
-use Rattle.unit_model.specs.Meetings.{Arrival}
-use Rattle.unit_model.specs.Radiated.{cell_id, cell_report, first_clock, report_of, reported, samples_under, symbol_report, used_mask, wait_of}
-use Rattle.unit_model.specs.Reports.{du_known, du_reported, timely_of}
-use Rattle.unit_model.specs.declared.allocations.Allocation.{Allocation}
-use Rattle.unit_model.specs.declared.cells.Block.{Block}
-use Rattle.unit_model.specs.declared.cells.Cell.{Cell}
-use Rattle.unit_laws.proofs.CellLemmas.{covers_is}
-use Rattle.unit_laws.proofs.ListLemmas.{each_same}
-use Rattle.unit_laws.proofs.ReportLemmas.{report_same}
-use Rattle.unit_laws.proofs.SweepLemmas.{sweep-same}
-use Rattle.plan_model.specs.Lines.{allocation_of, planned}
-use Rattle.plan_model.specs.declared.lines.PlannedLine.{PlannedLine}
-use Rattle.schedule_laws.specs.Cells.{planned_mask, planned_section, radiates}
-use Rattle.schedule_laws.specs.Data.{Blocks, planned_block, radiates_in}
-use Rattle.schedule_laws.proofs.AcceptedLemmas.{AreAllowed}
-use Rattle.schedule_laws.proofs.BlockLemmas.{planned_one}
-use Rattle.schedule_laws.proofs.CellLemmas.{all_under, has_element, id_is, line_claims, mask_is, one_section, own_samples, section_is}
-use Rattle.schedule_laws.proofs.ClashLemmas.{IsClear, find_named, named_by, no_claim, own_claim, unnamed}
-use Rattle.schedule_laws.proofs.LineLemmas.{allowed}
-use Rattle.schedule_laws.proofs.ListLemmas.{in_filter, in_map, of_map}
-use Rattle.schedule_laws.proofs.RangeLemmas.{among}
-use Rattle.sent_frames.specs.Messages.{Source}
-use Rattle.uplink_model.specs.Frames.{Antenna}
+use Rattle.sent_laws.specs.unit_model.specs.Blocks.{block_at}
+use Rattle.sent_laws.specs.unit_model.specs.Claims.{cell_at, claim_at, claim_of, covers, in_mask, names}
+use Rattle.sent_laws.specs.unit_model.specs.Meetings.{Arrival}
+use Rattle.sent_laws.specs.unit_model.specs.Radiated.{cell_id, cell_report, first_clock, report_of, reported, samples_under, symbol_report, used_mask, wait_of}
+use Rattle.sent_laws.specs.unit_model.specs.Reports.{du_known, du_reported, timely_of}
+use Rattle.sent_laws.specs.unit_model.specs.declared.allocations.Allocation.{Allocation}
+use Rattle.sent_laws.specs.unit_model.specs.declared.cells.Block.{Block}
+use Rattle.sent_laws.specs.unit_model.specs.declared.cells.Cell.{Cell}
+use Rattle.sent_laws.specs.unit_laws.proofs.CellLemmas.{covers_is}
+use Rattle.sent_laws.specs.unit_laws.proofs.ListLemmas.{each_same}
+use Rattle.sent_laws.specs.unit_laws.proofs.ReportLemmas.{report_same}
+use Rattle.sent_laws.specs.unit_laws.proofs.SweepLemmas.{sweep-same}
+use Rattle.sent_laws.specs.plan_model.specs.Lines.{allocation_of, planned}
+use Rattle.sent_laws.specs.plan_model.specs.declared.lines.PlannedLine.{PlannedLine}
+use Rattle.sent_laws.specs.schedule_laws.specs.Cells.{planned_mask, planned_section, radiates}
+use Rattle.sent_laws.specs.schedule_laws.specs.Data.{Blocks, planned_block, radiates_in}
+use Rattle.sent_laws.specs.schedule_laws.proofs.AcceptedLemmas.{AreAllowed}
+use Rattle.sent_laws.specs.schedule_laws.proofs.BlockLemmas.{planned_one}
+use Rattle.sent_laws.specs.schedule_laws.proofs.CellLemmas.{all_under, has_element, id_is, line_claims, mask_is, one_section, own_samples, section_is}
+use Rattle.sent_laws.specs.schedule_laws.proofs.ClashLemmas.{IsClear, find_named, named_by, no_claim, own_claim, unnamed}
+use Rattle.sent_laws.specs.schedule_laws.proofs.LineLemmas.{allowed}
+use Rattle.sent_laws.specs.schedule_laws.proofs.ListLemmas.{in_filter, in_map, of_map}
+use Rattle.sent_laws.specs.schedule_laws.proofs.RangeLemmas.{among}
+use Rattle.sent_laws.specs.sent_frames.specs.Messages.{Source}
+use Rattle.uplink_streams.specs.uplink_model.specs.Frames.{Antenna}
 use Rattle.uplink_laws.specs.Cells.{taken_air, taken_cell, taken_event, taken_symbol}
 use Rattle.uplink_laws.specs.Data.{blocks_of}
 use Rattle.uplink_laws.specs.Lines.{is_uplink, uplink_of}

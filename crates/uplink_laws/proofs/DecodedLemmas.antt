@@ -6,7 +6,7 @@ use Rattle.std.proofs.lemmas.Int.{ints}
 use Rattle.fh_time.specs.Air.{air_of}
 use Rattle.fh_time.specs.Frame.{absolute_frame}
 use Rattle.fh_time.specs.declared.values.Slot.{Slot}
-use Rattle.air_source.specs.declared.events.Side.TheVariants.{Du}
+use Rattle.sent_laws.specs.air_source.specs.declared.events.Side.TheVariants.{Du}
 use Rattle.ecpri_fragments.specs.Generations.{Fragment}
 use Rattle.ecpri_fragments.specs.Verdicts.{Message as WholeMessage, message, standing_before, verdict_on}
 use Rattle.ecpri_fragments.specs.declared.verdict.Verdict.{Verdict}
@@ -21,27 +21,27 @@ use Rattle.window_config.specs.declared.endpoints.EndpointConfig.{EndpointConfig
 use Rattle.window_config.specs.declared.plan.PlanLine.{PlanLine}
 use Rattle.window_config.specs.declared.verdicts.Class.TheVariants.{OnTime}
 use Rattle.window_config.proofs.Timing.{class_up_on_time}
-use Rattle.unit_model.specs.Blocks.{data_class, data_slot, data_start}
-use Rattle.unit_model.specs.Claims.{is_from}
-use Rattle.unit_model.specs.Decoding.{Decoded, data_now, data_sections, data_told, decode, decode_message, decoded_now, sections_of, whole_of}
-use Rattle.unit_model.specs.Lists.{joined, onto}
-use Rattle.unit_model.specs.Meetings.{Arrival, Meeting, Piece, fragments, meetings}
-use Rattle.unit_model.specs.Proper.{IsAt}
-use Rattle.unit_model.specs.declared.decoded.Data.{Data}
-use Rattle.unit_model.proofs.ReachLaws.{symbol_soon}
-use Rattle.plan_model.specs.Departures.{start_of}
-use Rattle.plan_model.specs.Lines.{planned}
-use Rattle.plan_model.specs.Packs.{Numbered, parts_of}
-use Rattle.plan_model.specs.Streams.{Part, frames_in, messages_of, part_in}
-use Rattle.plan_model.specs.declared.lines.PlannedLine.{PlannedLine}
-use Rattle.plan_model.specs.declared.streams.Stream.TheVariants.{UpData}
-use Rattle.schedule_laws.proofs.CommandLemmas.{same_slot_fields}
-use Rattle.schedule_laws.proofs.FragmentLemmas.{answers_from, answers_there, the_whole, whole_in}
-use Rattle.schedule_laws.proofs.LineLemmas.{same_endpoint}
-use Rattle.schedule_laws.proofs.ListLemmas.{in_either, in_left, in_onto, in_right, numerology_short, onto_right}
-use Rattle.schedule_laws.proofs.TimeLemmas.{frame_is}
-use Rattle.sent_frames.specs.Messages.{Source}
-use Rattle.uplink_model.specs.Frames.{Antenna}
+use Rattle.sent_laws.specs.unit_model.specs.Blocks.{data_class, data_slot, data_start}
+use Rattle.sent_laws.specs.unit_model.specs.Claims.{is_from}
+use Rattle.sent_laws.specs.unit_model.specs.Decoding.{Decoded, data_now, data_sections, data_told, decode, decode_message, decoded_now, sections_of, whole_of}
+use Rattle.sent_laws.specs.unit_model.specs.Lists.{joined, onto}
+use Rattle.sent_laws.specs.unit_model.specs.Meetings.{Arrival, Meeting, Piece, fragments, meetings}
+use Rattle.sent_laws.specs.unit_model.specs.Proper.{IsAt}
+use Rattle.sent_laws.specs.unit_model.specs.declared.decoded.Data.{Data}
+use Rattle.sent_laws.specs.unit_model.proofs.ReachLaws.{symbol_soon}
+use Rattle.sent_laws.specs.plan_model.specs.Departures.{start_of}
+use Rattle.sent_laws.specs.plan_model.specs.Lines.{planned}
+use Rattle.sent_laws.specs.plan_model.specs.Packs.{Numbered, parts_of}
+use Rattle.sent_laws.specs.plan_model.specs.Streams.{Part, frames_in, messages_of, part_in}
+use Rattle.sent_laws.specs.plan_model.specs.declared.lines.PlannedLine.{PlannedLine}
+use Rattle.sent_laws.specs.plan_model.specs.declared.streams.Stream.TheVariants.{UpData}
+use Rattle.sent_laws.specs.schedule_laws.proofs.CommandLemmas.{same_slot_fields}
+use Rattle.sent_laws.specs.schedule_laws.proofs.FragmentLemmas.{answers_from, answers_there, the_whole, whole_in}
+use Rattle.sent_laws.specs.schedule_laws.proofs.LineLemmas.{same_endpoint}
+use Rattle.sent_laws.specs.schedule_laws.proofs.ListLemmas.{in_either, in_left, in_onto, in_right, numerology_short, onto_right}
+use Rattle.sent_laws.specs.schedule_laws.proofs.TimeLemmas.{frame_is}
+use Rattle.sent_laws.specs.sent_frames.specs.Messages.{Source}
+use Rattle.uplink_streams.specs.uplink_model.specs.Frames.{Antenna}
 use Rattle.uplink_laws.specs.Data.{AreSections, IsDataFor, IsDecoded, blocks_of, said_by}
 use Rattle.uplink_laws.specs.Flows.{bounds_of, flow_of, fragment_text}
 use Rattle.uplink_laws.specs.Lines.{is_uplink}

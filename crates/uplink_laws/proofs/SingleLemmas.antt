@@ -5,30 +5,30 @@ use Rattle.std.proofs.lemmas.Bool.{cases_Bool, and_parts, and_from, eqb-true}
 use Rattle.std.proofs.lemmas.Int.{ints}
 use Rattle.fh_time.specs.Air.{air_of}
 use Rattle.fh_time.specs.Numbering.{symbols_of}
-use Rattle.air_source.specs.declared.events.AirCell.{AirCell}
-use Rattle.air_source.specs.declared.events.Side.TheVariants.{Du}
+use Rattle.sent_laws.specs.air_source.specs.declared.events.AirCell.{AirCell}
+use Rattle.sent_laws.specs.air_source.specs.declared.events.Side.TheVariants.{Du}
 use Rattle.fragment_laws.specs.Apart.{IsIn}
 use Rattle.window_config.specs.declared.config.Config.{Config}
 use Rattle.window_config.specs.declared.plan.PlanLine.{PlanLine}
-use Rattle.unit_model.specs.Claims.{cell_at, cell_of, covers, in_mask, names}
-use Rattle.unit_model.specs.Meetings.{Arrival}
-use Rattle.unit_model.specs.Radiated.{first_clock, wait_of}
-use Rattle.unit_model.specs.Reports.{du_known, du_reported}
-use Rattle.unit_model.specs.Standing.{same_cell}
-use Rattle.unit_model.specs.declared.cells.Cell.{Cell}
-use Rattle.unit_model.proofs.ReachLaws.{symbol_piece}
-use Rattle.unit_laws.proofs.CellLemmas.{covers_is, from_within}
-use Rattle.unit_laws.proofs.DueLemmas.{reported_differ}
-use Rattle.plan_model.specs.Lines.{allocation_of, planned}
-use Rattle.plan_model.specs.declared.lines.PlannedLine.{PlannedLine}
-use Rattle.schedule_laws.specs.Cells.{planned_mask, radiates}
-use Rattle.schedule_laws.specs.Data.{Blocks}
-use Rattle.schedule_laws.proofs.LineLemmas.{good, start_in_time}
-use Rattle.schedule_laws.proofs.ListLemmas.{in_each, in_piece, numerology_short}
-use Rattle.schedule_laws.proofs.RangeLemmas.{any_in}
-use Rattle.schedule_laws.proofs.SingleLemmas.{in_carrier, mask_some, only_one}
-use Rattle.sent_frames.specs.Messages.{Source}
-use Rattle.uplink_model.specs.Frames.{Antenna}
+use Rattle.sent_laws.specs.unit_model.specs.Claims.{cell_at, cell_of, covers, in_mask, names}
+use Rattle.sent_laws.specs.unit_model.specs.Meetings.{Arrival}
+use Rattle.sent_laws.specs.unit_model.specs.Radiated.{first_clock, wait_of}
+use Rattle.sent_laws.specs.unit_model.specs.Reports.{du_known, du_reported}
+use Rattle.sent_laws.specs.unit_model.specs.Standing.{same_cell}
+use Rattle.sent_laws.specs.unit_model.specs.declared.cells.Cell.{Cell}
+use Rattle.sent_laws.specs.unit_model.proofs.ReachLaws.{symbol_piece}
+use Rattle.sent_laws.specs.unit_laws.proofs.CellLemmas.{covers_is, from_within}
+use Rattle.sent_laws.specs.unit_laws.proofs.DueLemmas.{reported_differ}
+use Rattle.sent_laws.specs.plan_model.specs.Lines.{allocation_of, planned}
+use Rattle.sent_laws.specs.plan_model.specs.declared.lines.PlannedLine.{PlannedLine}
+use Rattle.sent_laws.specs.schedule_laws.specs.Cells.{planned_mask, radiates}
+use Rattle.sent_laws.specs.schedule_laws.specs.Data.{Blocks}
+use Rattle.sent_laws.specs.schedule_laws.proofs.LineLemmas.{good, start_in_time}
+use Rattle.sent_laws.specs.schedule_laws.proofs.ListLemmas.{in_each, in_piece, numerology_short}
+use Rattle.sent_laws.specs.schedule_laws.proofs.RangeLemmas.{any_in}
+use Rattle.sent_laws.specs.schedule_laws.proofs.SingleLemmas.{in_carrier, mask_some, only_one}
+use Rattle.sent_laws.specs.sent_frames.specs.Messages.{Source}
+use Rattle.uplink_streams.specs.uplink_model.specs.Frames.{Antenna}
 use Rattle.uplink_laws.specs.Cells.{taken_air, taken_cell, taken_event, taken_symbol}
 use Rattle.uplink_laws.specs.Data.{blocks_of}
 use Rattle.uplink_laws.specs.Lines.{is_uplink, uplink_of}

@@ -1,21 +1,21 @@
 -- Each planned uplink cell is taken in exactly once.
 use Rattle.std.specs.Prelude.{◌≡◌, ℕ, ℤ, ◌<◌, ◌+ℤ◌, ◌≤ℤ◌, true, List, [], ◌∷◌, filter}
 use Rattle.fh_time.specs.Air.{air_of}
-use Rattle.air_source.specs.declared.events.AirCell.{AirCell}
-use Rattle.air_source.specs.declared.events.Side.TheVariants.{Du}
+use Rattle.sent_laws.specs.air_source.specs.declared.events.AirCell.{AirCell}
+use Rattle.sent_laws.specs.air_source.specs.declared.events.Side.TheVariants.{Du}
 use Rattle.fragment_laws.specs.Apart.{IsIn}
 use Rattle.window_config.specs.declared.config.Config.{Config}
 use Rattle.window_config.specs.declared.plan.PlanLine.{PlanLine}
-use Rattle.unit_model.specs.Claims.{cell_of, names}
-use Rattle.unit_model.specs.Meetings.{Arrival}
-use Rattle.unit_model.specs.Radiated.{wait_of}
-use Rattle.unit_model.specs.Reports.{du_reported}
-use Rattle.unit_model.specs.Standing.{same_cell}
-use Rattle.plan_model.specs.Lines.{allocation_of, planned}
-use Rattle.plan_model.specs.declared.lines.PlannedLine.{PlannedLine}
-use Rattle.schedule_laws.specs.Data.{Blocks}
-use Rattle.sent_frames.specs.Messages.{Source}
-use Rattle.uplink_model.specs.Frames.{Antenna}
+use Rattle.sent_laws.specs.unit_model.specs.Claims.{cell_of, names}
+use Rattle.sent_laws.specs.unit_model.specs.Meetings.{Arrival}
+use Rattle.sent_laws.specs.unit_model.specs.Radiated.{wait_of}
+use Rattle.sent_laws.specs.unit_model.specs.Reports.{du_reported}
+use Rattle.sent_laws.specs.unit_model.specs.Standing.{same_cell}
+use Rattle.sent_laws.specs.plan_model.specs.Lines.{allocation_of, planned}
+use Rattle.sent_laws.specs.plan_model.specs.declared.lines.PlannedLine.{PlannedLine}
+use Rattle.sent_laws.specs.schedule_laws.specs.Data.{Blocks}
+use Rattle.sent_laws.specs.sent_frames.specs.Messages.{Source}
+use Rattle.uplink_streams.specs.uplink_model.specs.Frames.{Antenna}
 use Rattle.uplink_laws.specs.Cells.{taken_event}
 use Rattle.uplink_laws.specs.Data.{blocks_of}
 use Rattle.uplink_laws.specs.Lines.{is_uplink, uplink_of}

@@ -4,8 +4,8 @@ use Rattle.std.proofs.lemmas.Bool.{eq-eqb}
 use Rattle.std.proofs.lemmas.List.Elements.{All-head, All-tail}
 use Rattle.window_config.specs.declared.config.Config.{Config}
 use Rattle.air_source.specs.declared.links.LinkFrame.{LinkFrame}
-use Rattle.unit_model.specs.Lists.{onto}
-use Rattle.unit_model.specs.declared.jobs.UplinkJob.{UplinkJob}
+use Rattle.plan_model.specs.unit_model.specs.Lists.{onto}
+use Rattle.plan_model.specs.unit_model.specs.declared.jobs.UplinkJob.{UplinkJob}
 use Rattle.plan_model.specs.Packs.{Message, alone, packs, packs_behind, takes, with_part}
 use Rattle.uplink_model.specs.Frames.{Antenna, frames_behind, message_frames}
 use Rattle.uplink_model.specs.Messages.{job_fields, messages_behind, messages_of, takes_job}

@@ -1,16 +1,16 @@
 -- The jobs of a unit are taken one after the other, and their messages are sent.
 use Rattle.std.proofs.Common.{◌≡◌, suc, ◌<◌, List, [], ◌∷◌, ◌++◌, length, refl, sym, ap, ◌∙◌, arith, subst, append_assoc, append-nil, Option, Some, None, Result, Ok, Err, OnOk, OnErr}
-use Rattle.air_source.specs.Answers.{AnswersBy}
-use Rattle.air_source.specs.declared.links.LinkFrame.{LinkFrame}
-use Rattle.air_source.specs.declared.places.RePlace.{RePlace}
+use Rattle.uplink_model.specs.air_source.specs.Answers.{AnswersBy}
+use Rattle.uplink_model.specs.air_source.specs.declared.links.LinkFrame.{LinkFrame}
+use Rattle.uplink_model.specs.air_source.specs.declared.places.RePlace.{RePlace}
 use Rattle.bfp_codec.specs.declared.samples.Wide.{Wide}
 use Rattle.window_config.specs.declared.config.Config.{Config}
-use Rattle.unit_model.specs.Lists.{onto}
-use Rattle.unit_model.specs.ProperJobs.{IsProperJob}
-use Rattle.unit_model.specs.Standing.{History, handed}
-use Rattle.unit_model.specs.declared.jobs.UplinkJob.{UplinkJob}
-use Rattle.unit_model.proofs.OntoLemmas.{onto-append, onto_none}
-use Rattle.plan_model.specs.Packs.{Message}
+use Rattle.uplink_model.specs.unit_model.specs.Lists.{onto}
+use Rattle.uplink_model.specs.unit_model.specs.ProperJobs.{IsProperJob}
+use Rattle.uplink_model.specs.unit_model.specs.Standing.{History, handed}
+use Rattle.uplink_model.specs.unit_model.specs.declared.jobs.UplinkJob.{UplinkJob}
+use Rattle.uplink_model.specs.unit_model.proofs.OntoLemmas.{onto-append, onto_none}
+use Rattle.uplink_model.specs.plan_model.specs.Packs.{Message}
 use Rattle.ru_buffers.specs.Calls.{GivesJob, StandsFor, given_of}
 use Rattle.ru_buffers.specs.Units.{left_up_to}
 use Rattle.ru_buffers.specs.declared.unit.Ru.{Ru}

@@ -3,13 +3,13 @@ use Rattle.std.proofs.Common.{◌≡◌, ℕ, ℤ, suc, ◌+◌, ◌*◌, ◌-�
 use Rattle.std.proofs.Math.Nat.{le-div_iff_mul-le}
 use Rattle.window_config.specs.declared.config.Config.{Config}
 use Rattle.window_config.specs.declared.endpoints.EndpointConfig.{EndpointConfig}
-use Rattle.air_source.specs.declared.links.LinkFrame.{LinkFrame}
-use Rattle.unit_model.specs.Lists.{each}
-use Rattle.unit_model.specs.declared.jobs.UplinkJob.{UplinkJob}
-use Rattle.plan_model.specs.Departures.{departure}
-use Rattle.plan_model.specs.Packs.{Message, frames_for, size_of}
-use Rattle.frame_bytes.specs.Cuts.{piece_frame}
-use Rattle.frame_bytes.specs.Messages.{message_of}
+use Rattle.uplink_model.specs.air_source.specs.declared.links.LinkFrame.{LinkFrame}
+use Rattle.uplink_model.specs.unit_model.specs.Lists.{each}
+use Rattle.uplink_model.specs.unit_model.specs.declared.jobs.UplinkJob.{UplinkJob}
+use Rattle.uplink_model.specs.plan_model.specs.Departures.{departure}
+use Rattle.uplink_model.specs.plan_model.specs.Packs.{Message, frames_for, size_of}
+use Rattle.uplink_model.specs.frame_bytes.specs.Cuts.{piece_frame}
+use Rattle.uplink_model.specs.frame_bytes.specs.Messages.{message_of}
 use Rattle.uplink_model.specs.Frames.{Antenna, carrier_of, frame_of, head_of, samples_of}
 use Rattle.uplink_model.specs.Messages.{frame_count, job_fields}
 use Rattle.uplink_path.specs.Packing.{sections_in}

@@ -4,13 +4,13 @@ use Rattle.std.proofs.lemmas.Bool.{and_parts, cases_Bool, cases_eq, eq-eqb, eqb-
 use Rattle.std.proofs.lemmas.List.{get_or-set_other, get_or-set_same, length-append, length-drop, length-take}
 use Rattle.std.proofs.Common.{drop, take, ◌++◌}
 use Rattle.window_config.specs.declared.config.Config.{Config}
-use Rattle.unit_model.specs.declared.jobs.UplinkJob.{UplinkJob}
-use Rattle.plan_model.specs.Packs.{Message}
-use Rattle.plan_model.specs.Departures.{departures_of}
-use Rattle.plan_model.specs.declared.streams.Stream.TheVariants.{UpData}
+use Rattle.uplink_model.specs.unit_model.specs.declared.jobs.UplinkJob.{UplinkJob}
+use Rattle.uplink_model.specs.plan_model.specs.Packs.{Message}
+use Rattle.uplink_model.specs.plan_model.specs.Departures.{departures_of}
+use Rattle.uplink_model.specs.plan_model.specs.declared.streams.Stream.TheVariants.{UpData}
 use Rattle.fh_time.specs.declared.values.Slot.{Slot}
-use Rattle.unit_model.specs.Claims.{same_slot}
-use Rattle.unit_laws.proofs.CellLemmas.{slots_equal}
+use Rattle.uplink_model.specs.unit_model.specs.Claims.{same_slot}
+use Rattle.ru_buffers.specs.unit_laws.proofs.CellLemmas.{slots_equal}
 use Rattle.uplink_model.specs.Messages.{frame_count, frames_before, number_behind, same_symbol}
 use Rattle.uplink_path.specs.Sending.{wait_behind, wait_in}
 

@@ -14,16 +14,16 @@ use Rattle.uplink_path.specs.Sending.{CanBeSent}
 use Rattle.uplink_path.specs.declared.pending.Pending.{Pending}
 use Rattle.uplink_path.specs.declared.uplink.Uplink.{Uplink}
 use Rattle.std.proofs.Common.{ℤ, pos, neg_ℤ, ◌≤ℤ◌}
-use Rattle.frame_bytes.specs.declared.messages.DataSection.{DataSection}
+use Rattle.uplink_model.specs.frame_bytes.specs.declared.messages.DataSection.{DataSection}
 use Rattle.fh_time.proofs.Order.{slots_few, symbols_few}
 use Rattle.window_config.specs.Endpoints.{IsEndpoint}
 use Rattle.window_config.specs.declared.config.Config.{Config}
 use Rattle.window_config.specs.declared.endpoints.EndpointConfig.{EndpointConfig}
-use Rattle.unit_model.specs.Proper.{IsAt}
-use Rattle.unit_model.specs.declared.jobs.UplinkJob.{UplinkJob}
-use Rattle.plan_model.specs.Packs.{Message, parts_of}
-use Rattle.plan_model.specs.Streams.{section_size}
-use Rattle.frame_bytes.specs.Messages.{SectionFits, message_size, sections_size}
+use Rattle.uplink_model.specs.unit_model.specs.Proper.{IsAt}
+use Rattle.uplink_model.specs.unit_model.specs.declared.jobs.UplinkJob.{UplinkJob}
+use Rattle.uplink_model.specs.plan_model.specs.Packs.{Message, parts_of}
+use Rattle.uplink_model.specs.plan_model.specs.Streams.{section_size}
+use Rattle.uplink_model.specs.frame_bytes.specs.Messages.{SectionFits, message_size, sections_size}
 use Rattle.uplink_model.specs.Frames.{carrier_of, section_of}
 use Rattle.uplink_model.specs.Messages.{job_fields}
 use Rattle.uplink_path.specs.Opened.{IsPartOf}

@@ -9,4 +9,5 @@ mod rules;
 mod sending;
 mod uplink;
 
+pub use ru_buffers;
 pub use uplink::Uplink;

@@ -2,15 +2,15 @@
 ghost use Rattle.std.specs.Prelude.{◌≡◌, ◌+◌, ◌<◌, ◌≤◌, ◌^◌, length};
 ghost use Rattle.window_config.specs.Endpoints.{IsEndpoint};
 ghost use Rattle.window_config.specs.declared.config.Config.{Config as SpecConfig};
-ghost use Rattle.unit_model.specs.Proper.{IsAt};
-ghost use Rattle.unit_model.specs.declared.jobs.UplinkJob.{UplinkJob as SpecJob};
+ghost use Rattle.uplink_model.specs.unit_model.specs.Proper.{IsAt};
+ghost use Rattle.uplink_model.specs.unit_model.specs.declared.jobs.UplinkJob.{UplinkJob as SpecJob};
 ghost use Rattle.uplink_model.specs.Frames.{head_of, section_of};
-ghost use Rattle.plan_model.specs.Streams.{section_size};
+ghost use Rattle.uplink_model.specs.plan_model.specs.Streams.{section_size};
 
-use frame_bytes::DataSection;
-use plan_model::section_size;
-use unit_model::UplinkJob;
 use uplane_sections::UHead;
+use uplink_model::frame_bytes::DataSection;
+use uplink_model::plan_model::section_size;
+use uplink_model::unit_model::UplinkJob;
 use window_config::EndpointConfig;
 
 /// The most sections of a message.
@@ -55,7 +55,7 @@ pub(crate) fn head_of(job: &UplinkJob) -> UHead
 }
 
 impl Pending {
-    ghost use Rattle.plan_model.specs.Packs.{Message, alone, with_part};
+    ghost use Rattle.uplink_model.specs.plan_model.specs.Packs.{Message, alone, with_part};
     ghost use Rattle.uplink_model.specs.Messages.{takes_job};
     ghost use Rattle.uplink_path.specs.Packing.{IsPacked};
 

@@ -1,11 +1,11 @@
 // The frames of one message.
 ghost use Rattle.std.specs.Prelude.{◌≡◌, ℕ, ◌+◌, ◌-◌, ◌<◌, ◌≤◌, ◌++◌, length, take, IfOk, OnOk, OnErr};
-ghost use Rattle.air_source.specs.Answers.{AnswersBy, block_of};
-ghost use Rattle.air_source.specs.Kept.{IsKept, closure_of};
-ghost use Rattle.frame_bytes.specs.Cuts.{piece_frame};
-ghost use Rattle.frame_bytes.specs.Messages.{MessageFits, message_of, message_size};
-ghost use Rattle.plan_model.specs.Packs.{Message};
-ghost use Rattle.unit_model.specs.declared.jobs.UplinkJob.{UplinkJob as SpecJob};
+ghost use Rattle.uplink_model.specs.air_source.specs.Answers.{AnswersBy, block_of};
+ghost use Rattle.uplink_model.specs.air_source.specs.Kept.{IsKept, closure_of};
+ghost use Rattle.uplink_model.specs.frame_bytes.specs.Cuts.{piece_frame};
+ghost use Rattle.uplink_model.specs.frame_bytes.specs.Messages.{MessageFits, message_of, message_size};
+ghost use Rattle.uplink_model.specs.plan_model.specs.Packs.{Message};
+ghost use Rattle.uplink_model.specs.unit_model.specs.declared.jobs.UplinkJob.{UplinkJob as SpecJob};
 ghost use Rattle.uplink_model.specs.Frames.{Antenna, carrier_of, frames_from, head_of, samples_of};
 ghost use Rattle.uplink_model.specs.Messages.{frame_count};
 ghost use Rattle.uplink_path.specs.Packing.{sections_in};
@@ -14,12 +14,12 @@ ghost use Rattle.window_config.specs.declared.config.Config.{Config as SpecConfi
 
 use crate::pending::{Pending, head_of};
 use crate::rules::Rules;
-use air_source::{Link, RePlace, Samples};
 use bfp_codec::{Iq, Wide};
 use ecpri_fragments::SeqField;
 use fh_base::NoMemory;
-use frame_bytes::{Carrier, DataMessage, Span, piece};
-use plan_model::frame_count;
+use uplink_model::air_source::{Link, RePlace, Samples};
+use uplink_model::frame_bytes::{Carrier, DataMessage, Span, piece};
+use uplink_model::plan_model::frame_count;
 use window_config::EndpointConfig;
 
 /// Writes a piece of a message's bytes as a frame, and answers how long it is.

@@ -1,13 +1,13 @@
 // The frames of a unit's messages.
 ghost use Rattle.std.specs.Prelude.{◌≡◌, ◌<◌, ◌≤◌, ◌++◌, length, List, [], ◌∷◌, false, IfOk, IsErr, OnErr, OnOk, Option};
-ghost use Rattle.air_source.specs.Answers.{AnswersBy};
-ghost use Rattle.air_source.specs.Kept.{IsKept, closure_of};
-ghost use Rattle.plan_model.specs.Packs.{Message};
-ghost use Rattle.unit_model.specs.ProperJobs.{IsProperJob};
-ghost use Rattle.unit_model.specs.Standing.{History};
-ghost use Rattle.unit_model.specs.declared.jobs.UplinkJob.{UplinkJob as SpecJob};
+ghost use Rattle.uplink_model.specs.air_source.specs.Answers.{AnswersBy};
+ghost use Rattle.uplink_model.specs.air_source.specs.Kept.{IsKept, closure_of};
+ghost use Rattle.uplink_model.specs.plan_model.specs.Packs.{Message};
+ghost use Rattle.uplink_model.specs.unit_model.specs.ProperJobs.{IsProperJob};
+ghost use Rattle.uplink_model.specs.unit_model.specs.Standing.{History};
+ghost use Rattle.uplink_model.specs.unit_model.specs.declared.jobs.UplinkJob.{UplinkJob as SpecJob};
 ghost use Rattle.uplink_model.specs.Frames.{Antenna, frames_behind, message_frames};
-ghost use Rattle.unit_model.specs.Lists.{onto};
+ghost use Rattle.uplink_model.specs.unit_model.specs.Lists.{onto};
 ghost use Rattle.uplink_path.specs.Packing.{IsPacked};
 ghost use Rattle.uplink_path.specs.Sending.{SentSome};
 ghost use Rattle.window_config.specs.Configs.{IsConfig};
@@ -17,12 +17,12 @@ ghost use Rattle.ru_buffers.specs.Calls.{HasGivenPast, StandsFor};
 use crate::pending::Pending;
 use crate::rules::{Rules, Run, rules_of, wait_in};
 use crate::sending::send_message;
-use air_source::{Link, RePlace, Samples};
 use bfp_codec::Wide;
 use fh_base::NoMemory;
 use ru_buffers::Ru;
 use std::alloc::Global;
-use unit_model::UplinkJob;
+use uplink_model::air_source::{Link, RePlace, Samples};
+use uplink_model::unit_model::UplinkJob;
 use window_config::{Config, EndpointConfig};
 
 /// What sends a radio unit's uplink frames (O-RAN.WG4.CUS, U-plane messages of the uplink and the window Ta3; how sections are packed

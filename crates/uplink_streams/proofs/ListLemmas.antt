@@ -6,7 +6,7 @@ use Rattle.std.proofs.lemmas.Int.{ints}
 use Rattle.std.proofs.lemmas.List.Elements.{All-from_recursion, filter-append}
 use Rattle.std.proofs.lemmas.List.Kept.{AllPairs-cons}
 use Rattle.fragment_laws.specs.Apart.{IsIn}
-use Rattle.unit_model.specs.Lists.{each_tick, in_order, joined, put_in}
+use Rattle.uplink_model.specs.unit_model.specs.Lists.{each_tick, in_order, joined, put_in}
 use Rattle.schedule_laws.proofs.ListLemmas.{in_either, in_right}
 
 -- ---- filters

@@ -8,11 +8,11 @@ use Rattle.fh_time.specs.declared.values.Slot.{Slot}
 use Rattle.fragment_laws.specs.Apart.{IsIn}
 use Rattle.window_config.specs.declared.config.Config.{Config}
 use Rattle.window_config.specs.declared.endpoints.EndpointConfig.{EndpointConfig}
-use Rattle.unit_model.specs.Claims.{same_slot}
-use Rattle.unit_model.specs.declared.jobs.UplinkJob.{UplinkJob}
-use Rattle.unit_laws.proofs.CellLemmas.{slots_equal}
-use Rattle.unit_laws.proofs.FarLemmas.{endpoints_equal}
-use Rattle.plan_model.specs.Packs.{Message, PartFields, alone, packs, packs_behind, parts_of, same_symbol, size_of, takes, with_part}
+use Rattle.uplink_model.specs.unit_model.specs.Claims.{same_slot}
+use Rattle.uplink_model.specs.unit_model.specs.declared.jobs.UplinkJob.{UplinkJob}
+use Rattle.schedule_laws.specs.unit_laws.proofs.CellLemmas.{slots_equal}
+use Rattle.schedule_laws.specs.unit_laws.proofs.FarLemmas.{endpoints_equal}
+use Rattle.uplink_model.specs.plan_model.specs.Packs.{Message, PartFields, alone, packs, packs_behind, parts_of, same_symbol, size_of, takes, with_part}
 use Rattle.schedule_laws.proofs.ListLemmas.{of_filter}
 use Rattle.uplink_model.specs.Messages.{job_fields, messages_behind, messages_of, takes_job}
 use Rattle.uplink_streams.proofs.JobLemmas.{IsTimed, MayPrecede}

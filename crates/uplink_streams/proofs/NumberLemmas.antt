@@ -5,10 +5,10 @@ use Rattle.std.proofs.lemmas.Bool.{eq-eqb, eqb-true}
 use Rattle.fh_time.specs.declared.values.Slot.{Slot}
 use Rattle.fragment_laws.specs.Apart.{IsIn}
 use Rattle.window_config.specs.declared.config.Config.{Config}
-use Rattle.unit_model.specs.Claims.{same_slot}
-use Rattle.unit_model.specs.declared.jobs.UplinkJob.{UplinkJob}
-use Rattle.unit_laws.proofs.CellLemmas.{slots_equal}
-use Rattle.plan_model.specs.Packs.{Message, Numbered, PartFields, numbered_behind as packs_numbered, frames_before as packs_before, same_symbol as same_part}
+use Rattle.uplink_model.specs.unit_model.specs.Claims.{same_slot}
+use Rattle.uplink_model.specs.unit_model.specs.declared.jobs.UplinkJob.{UplinkJob}
+use Rattle.schedule_laws.specs.unit_laws.proofs.CellLemmas.{slots_equal}
+use Rattle.uplink_model.specs.plan_model.specs.Packs.{Message, Numbered, PartFields, numbered_behind as packs_numbered, frames_before as packs_before, same_symbol as same_part}
 use Rattle.schedule_laws.proofs.ClashLemmas.{slot_own}
 use Rattle.schedule_laws.proofs.ListLemmas.{of_filter}
 use Rattle.schedule_laws.proofs.RangeLemmas.{same_tests}

@@ -10,19 +10,19 @@ use Rattle.fh_time.specs.Numbering.{IsSlotOf, slots_of, symbols_of}
 use Rattle.fh_time.specs.declared.values.Slot.{Slot}
 use Rattle.fragment_laws.specs.Apart.{IsIn}
 use Rattle.window_config.specs.declared.endpoints.EndpointConfig.{EndpointConfig}
-use Rattle.unit_model.specs.Claims.{same_slot}
-use Rattle.unit_model.specs.Lists.{each, each_tick}
-use Rattle.unit_model.specs.Proper.{IsAt}
-use Rattle.unit_model.specs.Radiated.{first_clock}
-use Rattle.unit_model.specs.Sweeps.{OfSymbol, at_tick, first_swept, frames_swept, of_endpoint, of_endpoints, of_frame, of_slot, of_subframe, of_symbol, slot_at, sweep}
-use Rattle.unit_model.specs.Uplink.{jobs, symbol_jobs}
-use Rattle.unit_model.specs.declared.allocations.Allocation.{Allocation}
-use Rattle.unit_model.specs.declared.jobs.UplinkJob.{UplinkJob}
-use Rattle.unit_model.proofs.ReachLaws.{frame_swept}
-use Rattle.unit_model.proofs.SweepLaws.{each_split, gap_is, gap_parts, ticks_split}
-use Rattle.unit_laws.proofs.CellLemmas.{slots_equal}
-use Rattle.unit_laws.proofs.FarLemmas.{endpoints_equal}
-use Rattle.unit_laws.proofs.SweepLemmas.{of_endpoint_related, of_frame_related, of_slot_related, of_subframe_related}
+use Rattle.uplink_model.specs.unit_model.specs.Claims.{same_slot}
+use Rattle.uplink_model.specs.unit_model.specs.Lists.{each, each_tick}
+use Rattle.uplink_model.specs.unit_model.specs.Proper.{IsAt}
+use Rattle.uplink_model.specs.unit_model.specs.Radiated.{first_clock}
+use Rattle.uplink_model.specs.unit_model.specs.Sweeps.{OfSymbol, at_tick, first_swept, frames_swept, of_endpoint, of_endpoints, of_frame, of_slot, of_subframe, of_symbol, slot_at, sweep}
+use Rattle.uplink_model.specs.unit_model.specs.Uplink.{jobs, symbol_jobs}
+use Rattle.uplink_model.specs.unit_model.specs.declared.allocations.Allocation.{Allocation}
+use Rattle.uplink_model.specs.unit_model.specs.declared.jobs.UplinkJob.{UplinkJob}
+use Rattle.uplink_model.specs.unit_model.proofs.ReachLaws.{frame_swept}
+use Rattle.uplink_model.specs.unit_model.proofs.SweepLaws.{each_split, gap_is, gap_parts, ticks_split}
+use Rattle.schedule_laws.specs.unit_laws.proofs.CellLemmas.{slots_equal}
+use Rattle.schedule_laws.specs.unit_laws.proofs.FarLemmas.{endpoints_equal}
+use Rattle.schedule_laws.specs.unit_laws.proofs.SweepLemmas.{of_endpoint_related, of_frame_related, of_slot_related, of_subframe_related}
 use Rattle.schedule_laws.proofs.ListLemmas.{IsAll, all_kept, in_either, numerology_short, of_each}
 use Rattle.uplink_streams.specs.Runs.{JobsStandTogether, is_in}
 use Rattle.uplink_streams.proofs.JobLemmas.{at_starts, symbol_job, timed_at}

@@ -9,16 +9,16 @@ use Rattle.window_config.specs.declared.config.Config.{Config}
 use Rattle.window_config.specs.declared.endpoints.EndpointConfig.{EndpointConfig}
 use Rattle.window_config.specs.declared.plan.PlanLine.{PlanLine}
 use Rattle.air_source.specs.declared.links.LinkFrame.{LinkFrame}
-use Rattle.unit_model.specs.Lists.{each, joined}
-use Rattle.unit_model.specs.Proper.{IsAt}
-use Rattle.unit_model.specs.Times.{end_of_time}
-use Rattle.unit_model.specs.declared.jobs.UplinkJob.{UplinkJob}
-use Rattle.unit_model.proofs.SweepLaws.{each_same}
-use Rattle.plan_model.specs.Lines.{planned}
-use Rattle.plan_model.specs.Packs.{Message, Numbered, PartFields, alone, frames_for, numbered_behind as packs_numbered, frames_before as packs_before, packs, packs_behind, parts_of, same_symbol, size_of, takes, with_part}
-use Rattle.plan_model.specs.Streams.{Part, frames_in, messages_of as stream_messages, part_fields, parts_in, section_size}
-use Rattle.plan_model.specs.declared.lines.PlannedLine.{PlannedLine}
-use Rattle.plan_model.specs.declared.streams.Stream.TheVariants.{UpData}
+use Rattle.uplink_model.specs.unit_model.specs.Lists.{each, joined}
+use Rattle.uplink_model.specs.unit_model.specs.Proper.{IsAt}
+use Rattle.uplink_model.specs.unit_model.specs.Times.{end_of_time}
+use Rattle.uplink_model.specs.unit_model.specs.declared.jobs.UplinkJob.{UplinkJob}
+use Rattle.uplink_model.specs.unit_model.proofs.SweepLaws.{each_same}
+use Rattle.uplink_model.specs.plan_model.specs.Lines.{planned}
+use Rattle.uplink_model.specs.plan_model.specs.Packs.{Message, Numbered, PartFields, alone, frames_for, numbered_behind as packs_numbered, frames_before as packs_before, packs, packs_behind, parts_of, same_symbol, size_of, takes, with_part}
+use Rattle.uplink_model.specs.plan_model.specs.Streams.{Part, frames_in, messages_of as stream_messages, part_fields, parts_in, section_size}
+use Rattle.uplink_model.specs.plan_model.specs.declared.lines.PlannedLine.{PlannedLine}
+use Rattle.uplink_model.specs.plan_model.specs.declared.streams.Stream.TheVariants.{UpData}
 use Rattle.schedule_laws.proofs.ListLemmas.{in_either, of_each}
 use Rattle.schedule_laws.proofs.PackLemmas.{message_from, part_from}
 use Rattle.schedule_laws.proofs.PlanLemmas.{line_of}

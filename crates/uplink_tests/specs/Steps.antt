@@ -4,11 +4,11 @@ use Rattle.air_source.specs.Kept.{IsKept}
 use Rattle.air_source.specs.declared.places.RePlace.{RePlace}
 use Rattle.bfp_codec.specs.declared.samples.Wide.{Wide}
 use Rattle.window_config.specs.declared.config.Config.{Config}
-use Rattle.unit_model.specs.Standing.{History}
-use Rattle.unit_model.specs.declared.jobs.UplinkJob.{UplinkJob}
-use Rattle.plan_model.specs.Packs.{Message}
-use Rattle.ru_buffers.specs.Calls.{HasGivenPast, StandsFor}
-use Rattle.ru_buffers.specs.declared.unit.Ru.{Ru}
+use Rattle.uplink_path.specs.unit_model.specs.Standing.{History}
+use Rattle.uplink_path.specs.unit_model.specs.declared.jobs.UplinkJob.{UplinkJob}
+use Rattle.uplink_path.specs.plan_model.specs.Packs.{Message}
+use Rattle.uplink_path.specs.ru_buffers.specs.Calls.{HasGivenPast, StandsFor}
+use Rattle.uplink_path.specs.ru_buffers.specs.declared.unit.Ru.{Ru}
 use Rattle.uplink_path.specs.Emitting.{Numbered}
 use Rattle.uplink_path.specs.declared.uplink.Uplink.{Uplink}
 

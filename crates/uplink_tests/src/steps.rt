@@ -1,9 +1,9 @@
 // The calls, as tests make them: what a call requires holds after the calls before it.
 ghost use Rattle.std.specs.Prelude.{◌≡◌, ◌-ℤ◌, ◌≤ℤ◌, true, pos, [], OnErr, OnOk, IfOk};
 ghost use Rattle.air_source.specs.Kept.{IsKept};
-ghost use Rattle.unit_model.specs.Proper.{IsTime};
-ghost use Rattle.unit_model.specs.Standing.{History};
-ghost use Rattle.ru_buffers.specs.Calls.{StandsFor, given_of};
+ghost use Rattle.uplink_path.specs.unit_model.specs.Proper.{IsTime};
+ghost use Rattle.uplink_path.specs.unit_model.specs.Standing.{History};
+ghost use Rattle.uplink_path.specs.ru_buffers.specs.Calls.{StandsFor, given_of};
 ghost use Rattle.uplink_path.specs.Emitting.{HasFailed};
 ghost use Rattle.uplink_tests.specs.Steps.{IsSenderOf, IsUnitOf};
 ghost use Rattle.window_config.specs.Configs.{IsConfig};
@@ -13,9 +13,9 @@ use air_source::{AirFault, Link, MemoryAir, RePlace, Samples};
 use bfp_codec::Wide;
 use fh_base::{List, NoMemory};
 use fh_time::Ticks;
-use ru_buffers::{Delivered, Ru};
 use std::alloc::Global;
 use uplink_path::Uplink;
+use uplink_path::ru_buffers::{Delivered, Ru};
 use window_config::Config;
 
 /// No time is further from 0.

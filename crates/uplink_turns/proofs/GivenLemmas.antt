@@ -2,13 +2,13 @@
 use Rattle.std.proofs.Common.{◌≡◌, ℤ, pos, ◌+ℤ◌, ◌-ℤ◌, ◌≤ℤ◌, ◌<ℤ◌, inl, inr, List, [], ◌++◌, length, drop, refl, sym, ap, ◌∙◌, arith, append_assoc, append-nil, drop_at}
 use Rattle.std.proofs.lemmas.Int.{ints}
 use Rattle.window_config.specs.declared.config.Config.{Config}
-use Rattle.unit_model.specs.Meetings.{Arrival}
-use Rattle.unit_model.specs.Radiated.{first_clock}
-use Rattle.unit_model.specs.Reports.{accepted_of}
-use Rattle.unit_model.specs.Standing.{History}
-use Rattle.unit_model.specs.Uplink.{jobs}
-use Rattle.unit_model.specs.declared.jobs.UplinkJob.{UplinkJob}
-use Rattle.unit_laws.proofs.SentLemmas.{jobs_begin}
+use Rattle.replay_events.specs.unit_model.specs.Meetings.{Arrival}
+use Rattle.replay_events.specs.unit_model.specs.Radiated.{first_clock}
+use Rattle.replay_events.specs.unit_model.specs.Reports.{accepted_of}
+use Rattle.replay_events.specs.unit_model.specs.Standing.{History}
+use Rattle.replay_events.specs.unit_model.specs.Uplink.{jobs}
+use Rattle.replay_events.specs.unit_model.specs.declared.jobs.UplinkJob.{UplinkJob}
+use Rattle.replay_events.specs.unit_laws.proofs.SentLemmas.{jobs_begin}
 use Rattle.replay_events.proofs.CameLemmas.{none_yet}
 use Rattle.replay_events.proofs.TickLemmas.{front_empty, last_is_earlier}
 use Rattle.uplink_turns.specs.Given.{GivenAndOwed, GivenBefore, GivenIsAll, GivesTick, HasSeen, OwesNone, OwesTick, owed_until}

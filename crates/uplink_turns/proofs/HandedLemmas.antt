@@ -11,14 +11,14 @@ use Rattle.window_config.specs.Limits.{IsWithinLimits}
 use Rattle.window_config.specs.Windows.{ticks_of_ns}
 use Rattle.window_config.specs.declared.config.Config.{Config}
 use Rattle.window_config.specs.declared.endpoints.EndpointConfig.{EndpointConfig}
-use Rattle.unit_model.specs.Lists.{each, onto}
-use Rattle.unit_model.specs.declared.jobs.UplinkJob.{UplinkJob}
-use Rattle.plan_model.specs.Packs.{Message}
-use Rattle.schedule_laws.proofs.ListLemmas.{in_all, of_each}
-use Rattle.uplink_model.specs.Frames.{Antenna, frame_of, frames_behind, frames_from, message_frames}
-use Rattle.uplink_model.specs.Messages.{frame_count, frames_before, messages_of, number_behind}
-use Rattle.uplink_model.specs.SentLaws.{AreOf}
-use Rattle.uplink_model.proofs.MessageLemmas.{frames_both}
+use Rattle.replay_events.specs.unit_model.specs.Lists.{each, onto}
+use Rattle.replay_events.specs.unit_model.specs.declared.jobs.UplinkJob.{UplinkJob}
+use Rattle.uplink_streams.specs.plan_model.specs.Packs.{Message}
+use Rattle.uplink_streams.specs.schedule_laws.proofs.ListLemmas.{in_all, of_each}
+use Rattle.uplink_streams.specs.uplink_model.specs.Frames.{Antenna, frame_of, frames_behind, frames_from, message_frames}
+use Rattle.uplink_streams.specs.uplink_model.specs.Messages.{frame_count, frames_before, messages_of, number_behind}
+use Rattle.uplink_streams.specs.uplink_model.specs.SentLaws.{AreOf}
+use Rattle.uplink_streams.specs.uplink_model.proofs.MessageLemmas.{frames_both}
 use Rattle.uplink_streams.proofs.ListLemmas.{all_of}
 use Rattle.uplink_streams.proofs.MessageLemmas.{message_first}
 use Rattle.uplink_streams.proofs.TurnLemmas.{frames_leave_in_ta3}

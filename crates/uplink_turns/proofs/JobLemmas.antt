@@ -4,17 +4,17 @@ use Rattle.std.proofs.lemmas.Int.{ints}
 use Rattle.fh_time.specs.declared.values.Slot.{Slot}
 use Rattle.window_config.specs.declared.config.Config.{Config}
 use Rattle.window_config.specs.declared.endpoints.EndpointConfig.{EndpointConfig}
-use Rattle.unit_model.specs.Commands.{accepted}
-use Rattle.unit_model.specs.Lists.{in_order}
-use Rattle.unit_model.specs.Meetings.{Arrival, commands, meetings}
-use Rattle.unit_model.specs.Radiated.{first_clock}
-use Rattle.unit_model.specs.Reports.{accepted_of}
-use Rattle.unit_model.specs.Sweeps.{sweep}
-use Rattle.unit_model.specs.Times.{end_of_time}
-use Rattle.unit_model.specs.Uplink.{jobs, symbol_jobs}
-use Rattle.unit_model.specs.declared.allocations.Allocation.{Allocation}
-use Rattle.unit_model.specs.declared.jobs.UplinkJob.{UplinkJob}
-use Rattle.unit_laws.proofs.SweepLemmas.{sweep-append, sweep-none, sweep-nothing, tick-nothing}
+use Rattle.replay_events.specs.unit_model.specs.Commands.{accepted}
+use Rattle.replay_events.specs.unit_model.specs.Lists.{in_order}
+use Rattle.replay_events.specs.unit_model.specs.Meetings.{Arrival, commands, meetings}
+use Rattle.replay_events.specs.unit_model.specs.Radiated.{first_clock}
+use Rattle.replay_events.specs.unit_model.specs.Reports.{accepted_of}
+use Rattle.replay_events.specs.unit_model.specs.Sweeps.{sweep}
+use Rattle.replay_events.specs.unit_model.specs.Times.{end_of_time}
+use Rattle.replay_events.specs.unit_model.specs.Uplink.{jobs, symbol_jobs}
+use Rattle.replay_events.specs.unit_model.specs.declared.allocations.Allocation.{Allocation}
+use Rattle.replay_events.specs.unit_model.specs.declared.jobs.UplinkJob.{UplinkJob}
+use Rattle.replay_events.specs.unit_laws.proofs.SweepLemmas.{sweep-append, sweep-none, sweep-nothing, tick-nothing}
 use Rattle.replay_events.specs.Moments.{arrivals_before}
 use Rattle.replay_events.proofs.CameLemmas.{none_yet}
 use Rattle.replay_events.proofs.SettledLemmas.{messages_settled}

@@ -4,17 +4,17 @@ use Rattle.std.specs.Int.{int_gap}
 use Rattle.std.proofs.lemmas.Int.{ints}
 use Rattle.std.proofs.lemmas.List.Elements.{All-weaker}
 use Rattle.air_source.specs.declared.links.LinkFrame.{LinkFrame}
-use Rattle.unit_model.specs.Lists.{each_tick}
-use Rattle.unit_model.specs.Radiated.{first_clock}
-use Rattle.unit_model.specs.Times.{end_of_time}
-use Rattle.unit_model.specs.declared.jobs.UplinkJob.{UplinkJob}
-use Rattle.unit_model.proofs.SweepLaws.{gap_none}
+use Rattle.replay_events.specs.unit_model.specs.Lists.{each_tick}
+use Rattle.replay_events.specs.unit_model.specs.Radiated.{first_clock}
+use Rattle.replay_events.specs.unit_model.specs.Times.{end_of_time}
+use Rattle.replay_events.specs.unit_model.specs.declared.jobs.UplinkJob.{UplinkJob}
+use Rattle.replay_events.specs.unit_model.proofs.SweepLaws.{gap_none}
 use Rattle.replay_events.proofs.TickLemmas.{at_most, last_of_next, next_after, next_is_later, no_ticks, same_most, tick_alone, ticks_append}
-use Rattle.schedule_laws.proofs.ListLemmas.{in_all}
-use Rattle.uplink_model.specs.Frames.{frames_behind}
-use Rattle.uplink_model.specs.Messages.{messages_of}
-use Rattle.uplink_model.specs.Sent.{in_sent_order, leaving_at}
-use Rattle.uplink_model.proofs.SentLemmas.{later_change_nothing, leaving_leave_then}
+use Rattle.uplink_streams.specs.schedule_laws.proofs.ListLemmas.{in_all}
+use Rattle.uplink_streams.specs.uplink_model.specs.Frames.{frames_behind}
+use Rattle.uplink_streams.specs.uplink_model.specs.Messages.{messages_of}
+use Rattle.uplink_streams.specs.uplink_model.specs.Sent.{in_sent_order, leaving_at}
+use Rattle.uplink_streams.specs.uplink_model.proofs.SentLemmas.{later_change_nothing, leaving_leave_then}
 use Rattle.uplink_streams.proofs.ListLemmas.{all_of, tick_within}
 use Rattle.uplink_turns.specs.TurnLaws.{LeavingIsSettled, LeftEnds, LeftGoesOn, LeftIsAll, LeftLeaveLater, LeftWaits}
 use Rattle.uplink_turns.specs.Turns.{handed_between, handed_until, leaving_of_handed, left_from}

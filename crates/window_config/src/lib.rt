@@ -17,6 +17,7 @@ mod verdicts;
 mod windows;
 
 pub use arrivals::{class, class_up};
+pub use bfp_codec;
 pub use config::Config;
 pub use delays::{Delays, Range};
 pub use endpoints::{EndpointConfig, EndpointList, ListFull};

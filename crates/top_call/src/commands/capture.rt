@@ -1,19 +1,19 @@
 // `capture`: the frames of a document as they arrive.
 ghost use Rattle.std.specs.Prelude.{◌≡◌};
-ghost use Rattle.du_scheduler.specs.Plans.{HasToSend};
-ghost use Rattle.fh_document.specs.Document.{document_of};
-ghost use Rattle.fh_document.specs.Proper.{IsDocument};
-ghost use Rattle.plan_model.specs.Lines.{planned};
-ghost use Rattle.plan_model.specs.Sent.{sent};
+ghost use Rattle.fronthaul_replay.specs.du_scheduler.specs.Plans.{HasToSend};
+ghost use Rattle.pcap_lines.specs.fh_document.specs.Document.{document_of};
+ghost use Rattle.pcap_lines.specs.fh_document.specs.Proper.{IsDocument};
+ghost use Rattle.fronthaul_replay.specs.plan_model.specs.Lines.{planned};
+ghost use Rattle.fronthaul_replay.specs.plan_model.specs.Sent.{sent};
 ghost use Rattle.top_call.specs.Answers.{of_document, of_planned, captured};
 ghost use Rattle.top_call.specs.Run.{Performs};
 
 use crate::endings::{text_status, unplanned_status, unread_status};
 use crate::status::Status;
-use du_scheduler::Plan;
 use fh_base::Sink;
-use fh_document::{Document, read};
+use fronthaul_replay::du_scheduler::Plan;
 use fronthaul_replay::{capture_document, check_plan};
+use pcap_lines::fh_document::{Document, read};
 use std::alloc::Global;
 
 /// Reads a document and writes its capture.

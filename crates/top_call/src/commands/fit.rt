@@ -1,18 +1,18 @@
 // `fit`: what breaks the windows of a document, and the greatest windows that fit.
 ghost use Rattle.std.specs.Prelude.{◌≡◌};
-ghost use Rattle.fh_document.specs.Document.{document_of};
-ghost use Rattle.window_config.specs.Limits.{IsWithinLimits};
+ghost use Rattle.pcap_lines.specs.fh_document.specs.Document.{document_of};
+ghost use Rattle.window_lines.specs.window_config.specs.Limits.{IsWithinLimits};
 ghost use Rattle.top_call.specs.Answers.{fit_shown, fitted_status, of_document};
 ghost use Rattle.top_call.specs.Run.{Performs};
 
 use crate::endings::{ending_of, unread_status};
 use crate::status::Status;
 use fh_base::Sink;
-use fh_document::read;
+use pcap_lines::fh_document::read;
 use std::alloc::Global;
-use window_config::Delays;
 use window_lines::put_fit;
-use window_plan::fit;
+use window_lines::window_config::Delays;
+use window_lines::window_plan::fit;
 
 /// Reads a document and writes what breaks its windows, and the greatest that fit.
 pub(crate) fn write_fit<K: Sink>(alloc: Global, bytes: &[u8], out: &mut K) -> Status

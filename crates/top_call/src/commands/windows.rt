@@ -1,18 +1,18 @@
 // `windows`: the windows, the rings and the check of a document.
 ghost use Rattle.std.specs.Prelude.{◌≡◌};
-ghost use Rattle.fh_document.specs.Document.{document_of};
-ghost use Rattle.window_config.specs.Configs.{IsConfig};
-ghost use Rattle.window_config.specs.Limits.{IsWithinLimits};
+ghost use Rattle.pcap_lines.specs.fh_document.specs.Document.{document_of};
+ghost use Rattle.window_lines.specs.window_config.specs.Configs.{IsConfig};
+ghost use Rattle.window_lines.specs.window_config.specs.Limits.{IsWithinLimits};
 ghost use Rattle.top_call.specs.Answers.{checked_status, of_document, windows_shown};
 ghost use Rattle.top_call.specs.Run.{Performs};
 
 use crate::endings::{ending_of, unread_status};
 use crate::status::Status;
 use fh_base::Sink;
-use fh_document::read;
+use pcap_lines::fh_document::read;
 use std::alloc::Global;
-use window_config::{Config, Delays, check};
 use window_lines::put_windows;
+use window_lines::window_config::{Config, Delays, check};
 
 /// Reads a document and writes its windows, its rings and its check.
 pub(crate) fn write_windows<K: Sink>(alloc: Global, bytes: &[u8], out: &mut K) -> Status

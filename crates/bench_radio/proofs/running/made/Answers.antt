@@ -1,4 +1,4 @@
-use Rattle.unit_model.specs.Standing.{nothing_yet}
+use Rattle.ru_buffers.specs.unit_model.specs.Standing.{nothing_yet}
 use Rattle.bench_radio.proofs.running.made.Goals as goal
 
 pub returns-in-Ok-clause-unit : goal.returns-in-Ok-clause-unit

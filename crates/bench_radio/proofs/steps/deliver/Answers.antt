@@ -1,4 +1,4 @@
-use Rattle.unit_model.specs.Standing.{arrived}
+use Rattle.ru_buffers.specs.unit_model.specs.Standing.{arrived}
 use Rattle.bench_radio.proofs.steps.deliver.Goals as goal
 
 pub returns-clause-unit : goal.returns-clause-unit

@@ -1,4 +1,4 @@
-use Rattle.unit_model.specs.Standing.{at_clock, heard}
+use Rattle.ru_buffers.specs.unit_model.specs.Standing.{at_clock, heard}
 use Rattle.ru_buffers.specs.Reporting.{due_of}
 use Rattle.bench_radio.proofs.steps.go.Goals as goal
 

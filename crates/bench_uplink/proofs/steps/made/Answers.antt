@@ -1,4 +1,4 @@
-use Rattle.unit_model.specs.Standing.{nothing_yet}
+use Rattle.uplink_path.specs.unit_model.specs.Standing.{nothing_yet}
 use Rattle.bench_uplink.proofs.steps.made.Goals as goal
 
 pub returns-in-Ok : goal.returns-in-Ok

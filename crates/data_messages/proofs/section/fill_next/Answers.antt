@@ -2,8 +2,8 @@ use Rattle.std.proofs.Common.{◌≡◌, ◌*◌, ◌++◌, ◌∙◌, ℕ, List
 use Rattle.bfp_codec.specs.Layout.{length_of}
 use Rattle.bfp_codec.specs.declared.samples.Wide.{Wide}
 use Rattle.uplane_sections.specs.Messages.{Item}
-use Rattle.slot_rings.specs.Runs.{unpacked_run}
-use Rattle.slot_rings.proofs.RunLemmas.{run_length}
+use Rattle.unit_cells.specs.slot_rings.specs.Runs.{unpacked_run}
+use Rattle.unit_cells.specs.slot_rings.proofs.RunLemmas.{run_length}
 use Rattle.uplane_messages.specs.Left.{GivesRun, left_of}
 use Rattle.uplane_messages.specs.declared.run.DataRun.{DataRun}
 use Rattle.uplane_messages.specs.declared.walk.DataWalk.{DataWalk}

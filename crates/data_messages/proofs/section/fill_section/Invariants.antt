@@ -1,5 +1,5 @@
 use Rattle.std.proofs.Common.{◌-◌, ◌≤◌, []}
-use Rattle.unit_model.specs.Blocks.{data_prb_count}
+use Rattle.unit_cells.specs.unit_model.specs.Blocks.{data_prb_count}
 use Rattle.unit_cells.specs.Headings.{data_of}
 use Rattle.uplane_messages.specs.Left.{left_of}
 use Rattle.data_messages.proofs.HoldLemmas.{SoFar}

@@ -3,9 +3,9 @@ use Rattle.std.specs.Prelude.{Some}
 use Rattle.fh_time.specs.declared.values.Shape.{Shape}
 use Rattle.ecpri_fragments.specs.Assemblies.{message_of}
 use Rattle.uplane_sections.specs.Messages.{told}
-use Rattle.unit_model.specs.Counts.{decoded_counted}
-use Rattle.air_source.specs.declared.events.Side.{Side}
-use Rattle.unit_model.specs.Decoding.{Decoded, has_way}
+use Rattle.unit_cells.specs.unit_model.specs.Counts.{decoded_counted}
+use Rattle.unit_cells.specs.air_source.specs.declared.events.Side.{Side}
+use Rattle.unit_cells.specs.unit_model.specs.Decoding.{Decoded, has_way}
 use Rattle.uplane_messages.specs.Joined.{message_bytes}
 use Rattle.uplane_messages.specs.Whole.{IsWhole}
 use Rattle.data_messages.specs.Sections.{items_of}

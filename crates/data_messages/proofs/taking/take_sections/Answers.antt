@@ -4,7 +4,7 @@ use Rattle.fh_time.specs.declared.values.Shape.{Shape}
 use Rattle.ecpri_fragments.specs.Assemblies.{message_of}
 use Rattle.uplane_sections.specs.Messages.{Item, told}
 use Rattle.uplane_sections.specs.declared.steps.UFeed.{UFeed}
-use Rattle.unit_model.specs.Decoding.{data_with, gathered, nothing_told}
+use Rattle.unit_cells.specs.unit_model.specs.Decoding.{data_with, gathered, nothing_told}
 use Rattle.unit_cells.specs.Keeping.{SameMarks}
 use Rattle.uplane_messages.specs.Joined.{message_bytes}
 use Rattle.uplane_messages.specs.Left.{left_of, NothingLeft, TellsFirst}

@@ -1,5 +1,5 @@
 use Rattle.std.proofs.Common.{rules, ◌<◌, ◌∙◌, length, sym, ap, arith}
-use Rattle.document_traffic.specs.Landing.{is_to}
+use Rattle.measured_traffic.specs.document_traffic.specs.Landing.{is_to}
 use Rattle.frame_ways.specs.Listed.{injections_in}
 use Rattle.frame_ways.proofs.ListLemmas.{not_past, one_kept, one_passed}
 use Rattle.frame_ways.proofs.listing.injections_to.Goals as goal

@@ -1,6 +1,6 @@
 use Rattle.std.proofs.Common.{◌≡◌, take}
 use Rattle.std.specs.Prelude.{filter}
-use Rattle.document_traffic.specs.Landing.{is_to}
+use Rattle.measured_traffic.specs.document_traffic.specs.Landing.{is_to}
 use Rattle.frame_ways.specs.Listed.{injections_in}
 use Rattle.frame_ways.proofs.listing.injections_to.Given as goal
 

@@ -1,6 +1,6 @@
 use Rattle.std.proofs.Common.{◌<◌, length, sym, subst, arith}
 use Rattle.std.specs.Borrow.{Bor}
-use Rattle.fh_document.specs.declared.document.Injection.{Injection}
+use Rattle.measured_traffic.specs.fh_document.specs.declared.document.Injection.{Injection}
 use Rattle.frame_ways.specs.Listed.{HasTime}
 use Rattle.frame_ways.proofs.ListLemmas.{time_at}
 use Rattle.frame_ways.proofs.listing.times_of.Goals as goal

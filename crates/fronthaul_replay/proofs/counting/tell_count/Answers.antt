@@ -1,18 +1,17 @@
 use Rattle.std.proofs.Common.{List, sym, subst}
 use Rattle.std.proofs.lemmas.Result.{IfErr-weaker}
-use Rattle.air_source.specs.Stops.{StopsIn}
-use Rattle.air_source.specs.declared.events.Event.{Event}
-use Rattle.air_source.specs.declared.events.Event.TheVariants.{Count}
-use Rattle.air_source.proofs.Stops.{stops_now}
-use Rattle.fault_counters.specs.Counts.{count_of}
+use Rattle.capture_air.specs.air_source.specs.Stops.{StopsIn}
+use Rattle.capture_air.specs.air_source.specs.declared.events.Event.{Event}
+use Rattle.capture_air.specs.air_source.specs.declared.events.Event.TheVariants.{Count}
+use Rattle.capture_air.specs.air_source.proofs.Stops.{stops_now}
 use Rattle.fronthaul_replay.proofs.CountLemmas.{some_event}
 use Rattle.fronthaul_replay.proofs.counting.tell_count.Goals as goal
 
 pub returns-clause-stop : goal.returns-clause-stop
 returns-clause-stop g c =
     let k = c.args.counter in
-    let value = c.get-value.result in
+    let value = c.args.value in
     IfErr-weaker c.count.result _ _ (λ f last.
     subst (λ (es : List Event). StopsIn g.A.Air.grew (g.A.Air.stopped f) es c.args.out.now c.count.new.self)
-    (sym (some_event c.args.side (count_of c.args.counters.now k) value k c.get-value.ensures c.if-value-eq0.false))
+    (sym (some_event c.args.side value k c.if-value-eq0.false))
     (stops_now g.A.Air.grew (g.A.Air.stopped f) g.met.A.Air.grew_none (Count c.args.side k value) c.args.out.now c.count.new.self last)) c.count.ensures.stop

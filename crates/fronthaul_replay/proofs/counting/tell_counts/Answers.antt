@@ -1,17 +1,51 @@
+use Rattle.std.proofs.Common.{rules, ◌≡◌, ◌<◌, ◌≤◌, ℕ, List, length, ap, sym, subst, ◌∙◌, arith}
 use Rattle.std.proofs.lemmas.Result.{IfErr-weaker}
-use Rattle.fault_counters.specs.Counts.{count_of}
-use Rattle.fault_counters.specs.declared.kinds.Counter.{Counter}
-use Rattle.air_source.specs.Stops.{StopsIn}
-use Rattle.std.proofs.Common.{rules, ◌≡◌, ℕ, ◌<◌, List, length, ap, sym, subst}
-use Rattle.fronthaul_replay.proofs.CountLemmas.{counts_by, stops_among}
+use Rattle.capture_air.specs.air_source.specs.Stops.{StopsIn}
+use Rattle.capture_air.specs.air_source.specs.declared.events.Event.{Event}
+use Rattle.fault_counters.specs.declared.kinds.Counter.TheVariants.{Frames}
+use Rattle.fronthaul_replay.specs.Counting.{told_number}
+use Rattle.fronthaul_replay.proofs.CountLemmas.{counts_to, heard_among, stops_among, told_are, told_to_end}
 use Rattle.fronthaul_replay.proofs.counting.tell_counts.Goals as goal
 
+-- of so many counters
+inside : (n i : ℕ) → n ≡ 33 → i < 33 → i < n
+inside n i is lt = omega (arith, is, lt)
+
+past : (n i : ℕ) → n ≡ 33 → 33 ≤ i → n ≤ i
+past n i is most = omega (arith, is, most)
+
+pub loop-counter-preserved : goal.loop-counter-preserved
+loop-counter-preserved g c =
+    let old = c.loop-counter.invariant in
+    let told = c.in_ok-tell_count.ensures in
+    let before = old.later in
+    let more = told.cause.later in
+    record {
+      heard = λ comp x has.
+          heard_among g.A.Air.grew g.met.A.Air.grew_more c.args.side (told_number c.args.counters.now x.counted) c.all-counter-items.result c.loop-counter.counter-index Frames
+          c.number_of.result c.args.out.now c.loop-counter.out c.tell_count.new.out
+          (inside (length c.all-counter-items.result) c.loop-counter.counter-index (ap length c.all-counter-items.ensures.order) c.loop-counter-test.true)
+          (c.number_of.ensures comp x has) (old.heard comp x has) told.heard;
+      same = g.met.A.Air.same_more _ _ _ old.same told.same;
+      later = omega (arith, before, more);
+    }
+
+pub returns-clause-heard : goal.returns-clause-heard
+returns-clause-heard g c comp x has =
+    let order = c.all-counter-items.ensures.order in
+    subst (λ (es : List Event). g.A.Air.grew c.args.out.now es c.loop-counter.out)
+    (told_to_end c.args.side c.args.counters.now x.counted c.all-counter-items.result c.loop-counter.counter-index order
+    (past (length c.all-counter-items.result) c.loop-counter.counter-index (ap length order) c.loop-counter-test.false))
+    (c.loop-counter.invariant.heard comp x has)
+
 pub returns-in_err-tell_count-clause-stop : goal.returns-in_err-tell_count-clause-stop
-returns-in_err-tell_count-clause-stop g c =
+returns-in_err-tell_count-clause-stop g c comp x has =
     let same : c.tell_count.result ≡ c.from_residual.result = search rules in
-    let inside = subst (λ (n : ℕ). c.loop-counter.counter-index < n) (sym (ap length c.all-counter-items.ensures.order)) c.loop-counter-test.true in
-    let number = count_of c.args.counters.now in
+    let order = c.all-counter-items.ensures.order in
+    let counted = counts_to c.args.side c.args.counters.now x.counted in
     rw (sym same) (IfErr-weaker c.tell_count.result _ _ (λ f stop.
-    subst (λ (ks : List Counter). StopsIn g.A.Air.grew (g.A.Air.stopped f) (counts_by c.args.side number ks) c.args.out.now c.tell_count.new.out) c.all-counter-items.ensures.order
-    (stops_among g.A.Air.grew (g.A.Air.stopped f) g.met.A.Air.grew_more c.args.side number c.all-counter-items.result c.loop-counter.counter-index _
-    c.args.out.now c.loop-counter.out c.tell_count.new.out inside c.loop-counter.invariant.heard stop)) c.tell_count.ensures.stop)
+    subst (λ (es : List Event). StopsIn g.A.Air.grew (g.A.Air.stopped f) es c.args.out.now c.tell_count.new.out) (ap counted order ∙ sym (told_are c.args.side c.args.counters.now x.counted))
+    (stops_among g.A.Air.grew g.met.A.Air.grew_more c.args.side (told_number c.args.counters.now x.counted) c.all-counter-items.result c.loop-counter.counter-index Frames
+    c.number_of.result c.args.out.now c.loop-counter.out c.tell_count.new.out
+    (inside (length c.all-counter-items.result) c.loop-counter.counter-index (ap length order) c.loop-counter-test.true)
+    (c.number_of.ensures comp x has) (c.loop-counter.invariant.heard comp x has) (g.A.Air.stopped f) stop)) c.tell_count.ensures.stop)

@@ -1,11 +1,14 @@
 use Rattle.std.proofs.Common.{take, ◌≤◌}
-use Rattle.fault_counters.specs.Counts.{count_of}
-use Rattle.fronthaul_replay.proofs.CountLemmas.{counts_by}
+use Rattle.intake_moments.specs.delay_exchange.specs.Units.{Has}
+use Rattle.intake_moments.specs.delay_laws.specs.Nodes.{Compensation}
+use Rattle.intake_moments.specs.measured_traffic.specs.Doings.{Doings}
+use Rattle.fronthaul_replay.proofs.CountLemmas.{counts_to}
 use Rattle.fronthaul_replay.proofs.counting.tell_counts.Given as goal
 
 abbrev pub invariant-loop-counter : goal.invariant-loop-counter
 invariant-loop-counter g l = record {
-  heard : g.A.Air.grew l.initial.out (counts_by l.side (count_of l.counters) (take l.counter-index l.counter-items)) l.out;
+  heard : (c : Compensation) (x : Doings) → Has (goal.C-post g) c l.meter x
+      → g.A.Air.grew l.initial.out (counts_to l.side l.counters x.counted (take l.counter-index l.counter-items)) l.out;
   same : g.A.Air.same l.initial.out l.out;
   later : g.A.Air.faults l.initial.out ≤ g.A.Air.faults l.out;
 }

@@ -1,44 +1,22 @@
-use Rattle.std.proofs.Common.{rules, ◌≡◌, List, ◌∙◌, sym, subst}
-use Rattle.std.proofs.lemmas.Result.{IfErr-at_err, on_ok_weaker}
-use Rattle.air_source.specs.declared.airs.AirFault.TheVariants.{Failed, NoMemory}
-use Rattle.air_source.specs.declared.events.Event.{Event}
-use Rattle.radio_moments.specs.Turns.{intake_events, radio_events}
-use Rattle.radio_moments.proofs.StepLemmas.{tick_events}
-use Rattle.fronthaul_replay.proofs.StopLemmas.{halts_intake, halts_radio, stops_intake, stops_radio}
+use Rattle.std.proofs.Common.{rules, ◌≡◌, ◌∙◌}
+use Rattle.capture_air.specs.air_source.specs.declared.airs.AirFault.TheVariants.{NoMemory}
+use Rattle.fronthaul_replay.proofs.StopLemmas.{rests_after, rests_before}
 use Rattle.fronthaul_replay.proofs.moments.moment.Goals as goal
 
-pub returns-in_err-radio_moment-clause-stop : goal.returns-in_err-radio_moment-clause-stop
-returns-in_err-radio_moment-clause-stop g c failed =
-    let same : c.radio_moment.result ≡ c.from_residual.result = search rules in
-    stops_radio g.A.Air.grew (g.A.Air.stopped Failed) c.args.doc.now c.args.tick.0 c.radio_moment.new.ru c.args.intake.now c.args.out.now c.radio_moment.new.out c.requires.turn.intake
-    (c.radio_moment.ensures.stop (same ∙ failed))
+pub begin-requires : goal.begin-requires
+begin-requires g c = (c.args.doc.now, c.requires.moment.measures)
 
-pub returns-in_err-radio_moment-clause-wants : goal.returns-in_err-radio_moment-clause-wants
-returns-in_err-radio_moment-clause-wants g c wants =
-    let same : c.radio_moment.result ≡ c.from_residual.result = search rules in
-    halts_radio g.A.Air.grew (g.A.Air.stopped NoMemory) c.args.doc.now c.args.tick.0 c.radio_moment.new.ru c.args.intake.now c.args.out.now c.radio_moment.new.out c.requires.turn.intake
-    (c.radio_moment.ensures.wants (same ∙ wants))
+pub returns-in-Err-clause-wants : goal.returns-in-Err-clause-wants
+returns-in-Err-clause-wants g c wants =
+    rests_before g.A.Air.grew (g.A.Air.stopped NoMemory) c.args.doc.now c.args.tick.0 c.args.ru.now c.args.intake.now c.args.out.now
+    (g.met.A.Air.grew_none c.args.out.now) c.requires.moment.turn
 
-pub returns-clause-heard : goal.returns-clause-heard
-returns-clause-heard g c =
-    let d = c.args.doc.now in
-    let tick = c.args.tick.0 in
-    on_ok_weaker c.intake_moment.result (λ last.
-    subst (λ (es : List Event). g.A.Air.grew c.args.out.now es c.intake_moment.new.out) (sym (tick_events d tick))
-    (g.met.A.Air.grew_more c.args.out.now c.radio_moment.new.out c.intake_moment.new.out (radio_events d tick) (intake_events d tick) c.in_ok-radio_moment.ensures.heard last))
-    c.intake_moment.ensures.heard
+pub returns-in_err-land-clause-wants : goal.returns-in_err-land-clause-wants
+returns-in_err-land-clause-wants g c wants =
+    let same : c.land.result ≡ c.from_residual.result = search rules in
+    c.land.ensures.wants (same ∙ wants)
 
-pub returns-clause-stop : goal.returns-clause-stop
-returns-clause-stop g c failed =
-    stops_intake g.A.Air.grew (g.A.Air.stopped Failed) g.met.A.Air.grew_more c.args.doc.now c.args.tick.0 c.intake_moment.new.ru c.intake_moment.new.intake
-    c.args.out.now c.radio_moment.new.out c.intake_moment.new.out c.in_ok-radio_moment.ensures.heard (IfErr-at_err _ failed c.intake_moment.ensures.stays)
-    (c.intake_moment.ensures.stop failed)
-
-pub returns-clause-wants : goal.returns-clause-wants
-returns-clause-wants g c wants =
-    halts_intake g.A.Air.grew (g.A.Air.stopped NoMemory) g.met.A.Air.grew_more c.args.doc.now c.args.tick.0 c.intake_moment.new.ru c.intake_moment.new.intake
-    c.args.out.now c.radio_moment.new.out c.intake_moment.new.out c.in_ok-radio_moment.ensures.heard (IfErr-at_err _ wants c.intake_moment.ensures.stays)
-    (c.intake_moment.ensures.wants wants)
-
-pub returns-clause-same : goal.returns-clause-same
-returns-clause-same g c = g.met.A.Air.same_more c.args.out.now c.radio_moment.new.out c.intake_moment.new.out c.radio_moment.ensures.same c.intake_moment.ensures.same
+pub returns-in-Err-send_made-clause-wants : goal.returns-in-Err-send_made-clause-wants
+returns-in-Err-send_made-clause-wants g c wants =
+    rests_after g.A.Air.grew (g.A.Air.stopped NoMemory) c.args.doc.now c.args.tick.0 c.land.new.ru c.land.new.intake c.args.out.now c.land.new.out
+    c.requires.moment.turn.radio.turn.begun c.in_ok-land.ensures.heard c.in_ok-land.ensures.turn

@@ -1,65 +1,59 @@
 use Rattle.std.proofs.Common.{rules, ◌≡◌, ℤ, pos, ◌+ℤ◌, List, sym, subst, ◌∙◌, arith}
-use Rattle.air_source.specs.declared.airs.AirFault.TheVariants.{Failed, NoMemory}
-use Rattle.air_source.specs.declared.events.Event.{Event}
-use Rattle.radio_moments.specs.Turns.{events_before}
-use Rattle.radio_moments.proofs.DownLemmas.{plan_of}
-use Rattle.radio_moments.proofs.TurnLemmas.{events_none}
-use Rattle.replay_events.specs.Moments.{end_of_time}
-use Rattle.fronthaul_replay.specs.Turns.{AtTurn, Waits}
-use Rattle.fronthaul_replay.proofs.NextLemmas.{end_comes, gap_less, heard_next, heard_there, in_order, moment_comes}
+use Rattle.capture_air.specs.air_source.specs.declared.airs.AirFault.TheVariants.{Failed, NoMemory}
+use Rattle.capture_air.specs.air_source.specs.declared.events.Event.{Event}
+use Rattle.intake_moments.specs.radio_moments.specs.Turns.{events_before}
+use Rattle.intake_moments.specs.radio_moments.proofs.DownLemmas.{plan_of}
+use Rattle.intake_moments.specs.radio_moments.proofs.TurnLemmas.{events_none}
+use Rattle.intake_moments.specs.replay_events.specs.Moments.{end_of_time}
+use Rattle.fronthaul_replay.specs.Turns.{AtMoment}
+use Rattle.fronthaul_replay.proofs.NextLemmas.{all_measured, end_comes, gap_less, heard_next, heard_there, in_order, moment_comes}
 use Rattle.fronthaul_replay.proofs.StepLemmas.{InStep}
 use Rattle.fronthaul_replay.proofs.StopLemmas.{halts_whole, stops_whole}
 use Rattle.fronthaul_replay.proofs.moments.pass.Goals as goal
 
 pub loop-tick-init : goal.loop-tick-init
 loop-tick-init g c = record {
-  turn = c.requires.turn;
-  waits = c.requires.waits;
+  at = c.requires.moment;
   heard = subst (λ (es : List Event). g.A.Air.grew c.args.out.now es c.args.out.now) (sym (events_none c.args.doc.now)) (g.met.A.Air.grew_none c.args.out.now);
   same = g.met.A.Air.same_none c.args.out.now;
   later = omega arith;
 }
 
 pub next_moment-requires : goal.next_moment-requires
-next_moment-requires g c = plan_of c.args.doc.now c.loop-tick.now.0 c.loop-tick.coming.downlink c.loop-tick.invariant.waits.down
+next_moment-requires g c = plan_of c.args.doc.now c.loop-tick.now.0 c.loop-tick.coming.downlink c.loop-tick.invariant.at.waits.down
 
 pub prove-unreachable-requires : goal.prove-unreachable-requires
 prove-unreachable-requires g c =
     let d = c.args.doc.now in
     let old = c.loop-tick.invariant in
     let tick = c.in-Some.tick in
-    let m = c.in-Some.ensures d old.turn.radio.history old.turn.intake.history old.turn.radio.stands old.turn.intake.stands in
-    let n = moment_comes d c.loop-tick.now.0 c.loop-tick.ru c.loop-tick.intake c.loop-tick.coming c.requires.document old.turn old.waits tick.0 m in
+    let m = c.in-Some.ensures d old.at.turn.radio.history old.at.turn.intake.history old.at.turn.radio.stands old.at.turn.intake.stands in
+    let n = moment_comes d c.loop-tick.now.0 c.loop-tick.ru c.loop-tick.intake c.loop-tick.coming c.loop-tick.meters c.requires.document old.at tick.0 m in
     in_order c.loop-tick.now.0 tick.0 c.is_up_to-in_order.result n.next.order c.is_up_to-in_order.ensures c.if-prove.true
 
 pub tick_after-now-requires : goal.tick_after-now-requires
 tick_after-now-requires g c =
-    let a = c.loop-tick.invariant.turn in
-    let m = c.in-Some.ensures c.args.doc.now a.radio.history a.intake.history a.radio.stands a.intake.stands in
+    let d = c.args.doc.now in
+    let old = c.loop-tick.invariant in
+    let tick = c.in-Some.tick in
+    let m = c.in-Some.ensures d old.at.turn.radio.history old.at.turn.intake.history old.at.turn.radio.stands old.at.turn.intake.stands in
     m.ended
 
-pub moment-requires-clause-turn : goal.moment-requires-clause-turn
-moment-requires-clause-turn g c =
+pub moment-requires-clause-moment : goal.moment-requires-clause-moment
+moment-requires-clause-moment g c =
     let d = c.args.doc.now in
     let old = c.loop-tick.invariant in
     let tick = c.in-Some.tick in
-    let m = c.in-Some.ensures d old.turn.radio.history old.turn.intake.history old.turn.radio.stands old.turn.intake.stands in
-    let n = moment_comes d c.loop-tick.now.0 c.loop-tick.ru c.loop-tick.intake c.loop-tick.coming c.requires.document old.turn old.waits tick.0 m in
-    n.turn
-
-pub moment-requires-clause-waits : goal.moment-requires-clause-waits
-moment-requires-clause-waits g c =
-    let d = c.args.doc.now in
-    let old = c.loop-tick.invariant in
-    let tick = c.in-Some.tick in
-    let m = c.in-Some.ensures d old.turn.radio.history old.turn.intake.history old.turn.radio.stands old.turn.intake.stands in
-    let n = moment_comes d c.loop-tick.now.0 c.loop-tick.ru c.loop-tick.intake c.loop-tick.coming c.requires.document old.turn old.waits tick.0 m in
-    n.waits
+    let m = c.in-Some.ensures d old.at.turn.radio.history old.at.turn.intake.history old.at.turn.radio.stands old.at.turn.intake.stands in
+    let n = moment_comes d c.loop-tick.now.0 c.loop-tick.ru c.loop-tick.intake c.loop-tick.coming c.loop-tick.meters c.requires.document old.at tick.0 m in
+    n.moment
 
 pub moment-requires-clause-ended : goal.moment-requires-clause-ended
 moment-requires-clause-ended g c =
-    let a = c.loop-tick.invariant.turn in
-    let m = c.in-Some.ensures c.args.doc.now a.radio.history a.intake.history a.radio.stands a.intake.stands in
+    let d = c.args.doc.now in
+    let old = c.loop-tick.invariant in
+    let tick = c.in-Some.tick in
+    let m = c.in-Some.ensures d old.at.turn.radio.history old.at.turn.intake.history old.at.turn.radio.stands old.at.turn.intake.stands in
     m.ended
 
 pub loop-tick-smaller : goal.loop-tick-smaller
@@ -67,8 +61,8 @@ loop-tick-smaller g c =
     let d = c.args.doc.now in
     let old = c.loop-tick.invariant in
     let tick = c.in-Some.tick in
-    let m = c.in-Some.ensures d old.turn.radio.history old.turn.intake.history old.turn.radio.stands old.turn.intake.stands in
-    let n = moment_comes d c.loop-tick.now.0 c.loop-tick.ru c.loop-tick.intake c.loop-tick.coming c.requires.document old.turn old.waits tick.0 m in
+    let m = c.in-Some.ensures d old.at.turn.radio.history old.at.turn.intake.history old.at.turn.radio.stands old.at.turn.intake.stands in
+    let n = moment_comes d c.loop-tick.now.0 c.loop-tick.ru c.loop-tick.intake c.loop-tick.coming c.loop-tick.meters c.requires.document old.at tick.0 m in
     gap_less c.loop-tick.now.0 tick.0 c.tick_after-now.result.0 n.next.order m.ended c.tick_after-now.ensures
 
 pub loop-tick-preserved : goal.loop-tick-preserved
@@ -76,18 +70,18 @@ loop-tick-preserved g c =
     let d = c.args.doc.now in
     let old = c.loop-tick.invariant in
     let tick = c.in-Some.tick in
-    let m = c.in-Some.ensures d old.turn.radio.history old.turn.intake.history old.turn.radio.stands old.turn.intake.stands in
-    let n = moment_comes d c.loop-tick.now.0 c.loop-tick.ru c.loop-tick.intake c.loop-tick.coming c.requires.document old.turn old.waits tick.0 m in
+    let m = c.in-Some.ensures d old.at.turn.radio.history old.at.turn.intake.history old.at.turn.radio.stands old.at.turn.intake.stands in
+    let n = moment_comes d c.loop-tick.now.0 c.loop-tick.ru c.loop-tick.intake c.loop-tick.coming c.loop-tick.meters c.requires.document old.at tick.0 m in
     let told = c.in_ok-moment.ensures in
     let next = sym c.tick_after-now.ensures in
     let before = old.later in
     let more = told.cause.later in
     let there = heard_there g.A.Air.grew d c.loop-tick.now.0 tick.0 c.args.out.now c.loop-tick.out n.next old.heard in
     record {
-      turn = subst (λ (t : ℤ). AtTurn d t c.moment.new.ru c.moment.new.intake) next told.turn;
-      waits = subst (λ (t : ℤ). Waits (λ f p. goal.G-pre g f p) (λ f p w. goal.G-post g f p w) d t c.moment.new.coming) next told.waits;
+      at = subst (λ (t : ℤ). AtMoment (goal.G-pre g) (goal.G-post g) (goal.C-pre g) (goal.C-post g) (goal.D-pre g) (goal.D-post g) d t c.moment.new.ru c.moment.new.intake c.moment.new.coming c.moment.new.meters)
+          next told.moment;
       heard = subst (λ (t : ℤ). g.A.Air.grew c.args.out.now (events_before d t) c.moment.new.out) next
-          (heard_next g.A.Air.grew g.met.A.Air.grew_more d tick.0 c.args.out.now c.loop-tick.out c.moment.new.out n.turn.radio.turn.begun there told.heard);
+          (heard_next g.A.Air.grew g.met.A.Air.grew_more d tick.0 c.args.out.now c.loop-tick.out c.moment.new.out n.moment.turn.radio.turn.begun there told.heard);
       same = g.met.A.Air.same_more _ _ _ old.same told.same;
       later = omega (arith, before, more);
     }
@@ -98,10 +92,10 @@ returns-in_err-moment-clause-stop g c failed =
     let d = c.args.doc.now in
     let old = c.loop-tick.invariant in
     let tick = c.in-Some.tick in
-    let m = c.in-Some.ensures d old.turn.radio.history old.turn.intake.history old.turn.radio.stands old.turn.intake.stands in
-    let n = moment_comes d c.loop-tick.now.0 c.loop-tick.ru c.loop-tick.intake c.loop-tick.coming c.requires.document old.turn old.waits tick.0 m in
+    let m = c.in-Some.ensures d old.at.turn.radio.history old.at.turn.intake.history old.at.turn.radio.stands old.at.turn.intake.stands in
+    let n = moment_comes d c.loop-tick.now.0 c.loop-tick.ru c.loop-tick.intake c.loop-tick.coming c.loop-tick.meters c.requires.document old.at tick.0 m in
     stops_whole g.A.Air.grew (g.A.Air.stopped Failed) g.met.A.Air.grew_more (InStep d c.moment.new.ru c.moment.new.intake) d tick.0 c.args.out.now c.loop-tick.out c.moment.new.out
-    n.turn.radio.turn.begun m.ended (heard_there g.A.Air.grew d c.loop-tick.now.0 tick.0 c.args.out.now c.loop-tick.out n.next old.heard) (c.moment.ensures.stop (same ∙ failed))
+    n.moment.turn.radio.turn.begun m.ended (heard_there g.A.Air.grew d c.loop-tick.now.0 tick.0 c.args.out.now c.loop-tick.out n.next old.heard) (c.moment.ensures.stop (same ∙ failed))
 
 pub returns-in_err-moment-clause-wants : goal.returns-in_err-moment-clause-wants
 returns-in_err-moment-clause-wants g c wants =
@@ -109,23 +103,31 @@ returns-in_err-moment-clause-wants g c wants =
     let d = c.args.doc.now in
     let old = c.loop-tick.invariant in
     let tick = c.in-Some.tick in
-    let m = c.in-Some.ensures d old.turn.radio.history old.turn.intake.history old.turn.radio.stands old.turn.intake.stands in
-    let n = moment_comes d c.loop-tick.now.0 c.loop-tick.ru c.loop-tick.intake c.loop-tick.coming c.requires.document old.turn old.waits tick.0 m in
+    let m = c.in-Some.ensures d old.at.turn.radio.history old.at.turn.intake.history old.at.turn.radio.stands old.at.turn.intake.stands in
+    let n = moment_comes d c.loop-tick.now.0 c.loop-tick.ru c.loop-tick.intake c.loop-tick.coming c.loop-tick.meters c.requires.document old.at tick.0 m in
     halts_whole g.A.Air.grew (g.A.Air.stopped NoMemory) g.met.A.Air.grew_more (InStep d c.moment.new.ru c.moment.new.intake) d tick.0 c.args.out.now c.loop-tick.out c.moment.new.out
-    n.turn.radio.turn.begun m.ended (heard_there g.A.Air.grew d c.loop-tick.now.0 tick.0 c.args.out.now c.loop-tick.out n.next old.heard) (c.moment.ensures.wants (same ∙ wants))
+    n.moment.turn.radio.turn.begun m.ended (heard_there g.A.Air.grew d c.loop-tick.now.0 tick.0 c.args.out.now c.loop-tick.out n.next old.heard) (c.moment.ensures.wants (same ∙ wants))
 
 pub returns-clause-heard : goal.returns-clause-heard
 returns-clause-heard g c =
     let d = c.args.doc.now in
     let old = c.loop-tick.invariant in
-    let still = c.in_default.ensures d old.turn.radio.history old.turn.intake.history old.turn.radio.stands old.turn.intake.stands in
-    let n = end_comes d c.loop-tick.now.0 c.loop-tick.ru c.loop-tick.intake c.loop-tick.coming c.requires.document old.turn old.waits still in
+    let still = c.in_default.ensures d old.at.turn.radio.history old.at.turn.intake.history old.at.turn.radio.stands old.at.turn.intake.stands in
+    let n = end_comes d c.loop-tick.now.0 c.loop-tick.ru c.loop-tick.intake c.loop-tick.coming c.loop-tick.meters c.requires.document old.at still in
     heard_there g.A.Air.grew d c.loop-tick.now.0 (end_of_time +ℤ pos 1) c.args.out.now c.loop-tick.out n.next old.heard
 
 pub returns-clause-over : goal.returns-clause-over
 returns-clause-over g c =
     let d = c.args.doc.now in
     let old = c.loop-tick.invariant in
-    let still = c.in_default.ensures d old.turn.radio.history old.turn.intake.history old.turn.radio.stands old.turn.intake.stands in
-    let n = end_comes d c.loop-tick.now.0 c.loop-tick.ru c.loop-tick.intake c.loop-tick.coming c.requires.document old.turn old.waits still in
-    n.turn
+    let still = c.in_default.ensures d old.at.turn.radio.history old.at.turn.intake.history old.at.turn.radio.stands old.at.turn.intake.stands in
+    let n = end_comes d c.loop-tick.now.0 c.loop-tick.ru c.loop-tick.intake c.loop-tick.coming c.loop-tick.meters c.requires.document old.at still in
+    n.moment.turn
+
+pub returns-clause-measured : goal.returns-clause-measured
+returns-clause-measured g c =
+    let d = c.args.doc.now in
+    let old = c.loop-tick.invariant in
+    let still = c.in_default.ensures d old.at.turn.radio.history old.at.turn.intake.history old.at.turn.radio.stands old.at.turn.intake.stands in
+    let n = end_comes d c.loop-tick.now.0 c.loop-tick.ru c.loop-tick.intake c.loop-tick.coming c.loop-tick.meters c.requires.document old.at still in
+    all_measured n.moment.measures

@@ -1,5 +1,5 @@
 use Rattle.std.proofs.Common.{rules}
-use Rattle.air_source.specs.declared.airs.AirFault.TheVariants.{NoMemory}
+use Rattle.capture_air.specs.air_source.specs.declared.airs.AirFault.TheVariants.{NoMemory}
 use Rattle.fronthaul_replay.proofs.StopLemmas.{halts_cut}
 use Rattle.fronthaul_replay.proofs.replaying.replay_to.Goals as goal
 

@@ -1,20 +1,23 @@
 use Rattle.std.proofs.Common.{rules, ◌≡◌, inl, ◌∙◌}
 use Rattle.std.proofs.lemmas.Result.{IfErr-at_err, on_ok_weaker}
-use Rattle.air_source.specs.declared.airs.AirFault.TheVariants.{Failed, NoMemory}
-use Rattle.air_source.specs.declared.events.Side.TheVariants.{Ru, Du}
-use Rattle.fault_counters.specs.Counts.{count_of}
-use Rattle.fault_counters.specs.Names.{all_counters}
+use Rattle.capture_air.specs.air_source.specs.declared.airs.AirFault.TheVariants.{Failed, NoMemory}
+use Rattle.capture_air.specs.air_source.specs.declared.events.Side.TheVariants.{Ru, Du}
+use Rattle.intake_moments.specs.document_delays.specs.Settings.{compensation_of}
 use Rattle.intake_moments.specs.Turns.{planned_for}
 use Rattle.intake_moments.proofs.NextLemmas.{intake_begins}
-use Rattle.radio_moments.proofs.TurnLemmas.{first_turn}
-use Rattle.fronthaul_replay.proofs.CountLemmas.{counts_by, heard_all, intake_counts, over, radio_counts, stops_intake_count, stops_radio_count}
+use Rattle.intake_moments.specs.radio_moments.proofs.TurnLemmas.{first_turn}
+use Rattle.fronthaul_replay.proofs.CountLemmas.{all_doings, heard_all, intake_counts, over, radio_counts, stops_intake_count, stops_radio_count, told_for}
 use Rattle.fronthaul_replay.proofs.StopLemmas.{halts_passing, stops_passing}
 use Rattle.fronthaul_replay.proofs.replays.run.Goals as goal
 
-pub pass-requires-clause-turn : goal.pass-requires-clause-turn
-pass-requires-clause-turn g c =
+pub pass-requires-clause-moment : goal.pass-requires-clause-moment
+pass-requires-clause-moment g c =
     let d = c.args.doc.now in
-    record { radio = first_turn d c.args.ru.now c.requires.unit; intake = intake_begins d c.args.intake.now c.requires.intake }
+    record {
+      turn = record { radio = first_turn d c.args.ru.now c.requires.unit; intake = intake_begins d c.args.intake.now c.requires.intake };
+      waits = c.requires.waits;
+      measures = c.requires.measures;
+    }
 
 pub returns-in_err-pass-clause-stop : goal.returns-in_err-pass-clause-stop
 returns-in_err-pass-clause-stop g c failed =
@@ -28,16 +31,20 @@ returns-in_err-pass-clause-wants g c wants =
 
 -- ---- the radio unit's counters
 
+pub tell_counts-requires : goal.tell_counts-requires
+tell_counts-requires g c = let d = c.args.doc.now in record { some = (compensation_of d Ru, all_doings d Ru, c.in_ok-pass.ensures.measured.ru.has) }
+
 pub returns-in_err-tell_counts-clause-stop : goal.returns-in_err-tell_counts-clause-stop
 returns-in_err-tell_counts-clause-stop g c failed =
     let same : c.tell_counts.result ≡ c.from_residual-in_err-tell_counts.result = search rules in
     let d = c.args.doc.now in
     let at = c.in_ok-pass.ensures.over in
     let done = over d c.pass.new.ru c.pass.new.intake at in
-    let counts = c.counters.result.now in
-    stops_radio_count g.A.Air.grew g.met.A.Air.grew_more d (g.A.Air.stopped Failed) c.pass.new.ru c.pass.new.intake (count_of counts) c.args.out.now c.pass.new.out c.tell_counts.new.out at
-    (radio_counts d c.pass.new.ru counts done.radio (c.counters.ensures d.config done.radio.history done.radio.stands))
-    c.in_ok-pass.ensures.heard (IfErr-at_err _ (same ∙ failed) c.tell_counts.ensures.stop)
+    let radio = c.counters.result.now in
+    let ru = c.in_ok-pass.ensures.measured.ru.has in
+    stops_radio_count g.A.Air.grew g.met.A.Air.grew_more d (g.A.Air.stopped Failed) c.pass.new.ru c.pass.new.intake radio c.args.out.now c.pass.new.out c.tell_counts.new.out at
+    (radio_counts d c.pass.new.ru radio done.radio (c.counters.ensures d.config done.radio.history done.radio.stands))
+    c.in_ok-pass.ensures.heard (IfErr-at_err _ (same ∙ failed) (c.tell_counts.ensures.stop (compensation_of d Ru) (all_doings d Ru) ru))
 
 pub returns-in_err-tell_counts-clause-wants : goal.returns-in_err-tell_counts-clause-wants
 returns-in_err-tell_counts-clause-wants g c wants =
@@ -45,33 +52,42 @@ returns-in_err-tell_counts-clause-wants g c wants =
     let d = c.args.doc.now in
     let at = c.in_ok-pass.ensures.over in
     let done = over d c.pass.new.ru c.pass.new.intake at in
-    let counts = c.counters.result.now in
-    inl (stops_radio_count g.A.Air.grew g.met.A.Air.grew_more d (g.A.Air.stopped NoMemory) c.pass.new.ru c.pass.new.intake (count_of counts) c.args.out.now c.pass.new.out c.tell_counts.new.out at
-    (radio_counts d c.pass.new.ru counts done.radio (c.counters.ensures d.config done.radio.history done.radio.stands))
-    c.in_ok-pass.ensures.heard (IfErr-at_err _ (same ∙ wants) c.tell_counts.ensures.stop))
+    let radio = c.counters.result.now in
+    let ru = c.in_ok-pass.ensures.measured.ru.has in
+    inl (stops_radio_count g.A.Air.grew g.met.A.Air.grew_more d (g.A.Air.stopped NoMemory) c.pass.new.ru c.pass.new.intake radio c.args.out.now c.pass.new.out c.tell_counts.new.out at
+    (radio_counts d c.pass.new.ru radio done.radio (c.counters.ensures d.config done.radio.history done.radio.stands))
+    c.in_ok-pass.ensures.heard (IfErr-at_err _ (same ∙ wants) (c.tell_counts.ensures.stop (compensation_of d Ru) (all_doings d Ru) ru)))
 
 pub returns-in_err-tell_counts-clause-same : goal.returns-in_err-tell_counts-clause-same
 returns-in_err-tell_counts-clause-same g c = g.met.A.Air.same_more c.args.out.now c.pass.new.out c.tell_counts.new.out c.pass.ensures.same c.tell_counts.ensures.same
 
 -- ---- and the distributed unit's
 
+pub tell_counts-requires-2 : goal.tell_counts-requires-2
+tell_counts-requires-2 g c = let d = c.args.doc.now in record { some = (compensation_of d Du, all_doings d Du, c.in_ok-pass.ensures.measured.du.has) }
+
 pub returns-clause-heard : goal.returns-clause-heard
 returns-clause-heard g c =
     let d = c.args.doc.now in
-    let done = over d c.pass.new.ru c.pass.new.intake c.in_ok-pass.ensures.over in
+    let at = c.in_ok-pass.ensures.over in
+    let done = over d c.pass.new.ru c.pass.new.intake at in
     let radio = c.counters.result.now in
+    let ru = c.in_ok-pass.ensures.measured.ru.has in
     let taken = c.counters-2.result.now in
+    let du = c.in_ok-pass.ensures.measured.du.has in
     on_ok_weaker c.tell_counts-2.result (λ last.
-    heard_all g.A.Air.grew g.met.A.Air.grew_more d (counts_by Ru (count_of radio) all_counters) (counts_by Du (count_of taken) all_counters)
+    heard_all g.A.Air.grew g.met.A.Air.grew_more d (told_for Ru d radio) (told_for Du d taken)
     c.args.out.now c.pass.new.out c.tell_counts.new.out c.tell_counts-2.new.out
     (radio_counts d c.pass.new.ru radio done.radio (c.counters.ensures d.config done.radio.history done.radio.stands))
     (intake_counts d c.pass.new.intake taken done.intake (c.counters-2.ensures d.config (planned_for d) done.intake.history done.intake.stands))
-    c.in_ok-pass.ensures.heard c.in_ok-tell_counts.ensures.heard last)
-    c.tell_counts-2.ensures.heard
+    c.in_ok-pass.ensures.heard (c.in_ok-tell_counts.ensures.heard (compensation_of d Ru) (all_doings d Ru) ru) last)
+    (c.tell_counts-2.ensures.heard (compensation_of d Du) (all_doings d Du) du)
 
 pub returns-clause-done : goal.returns-clause-done
 returns-clause-done g c =
-    on_ok_weaker c.tell_counts-2.result (λ last. over c.args.doc.now c.pass.new.ru c.pass.new.intake c.in_ok-pass.ensures.over) c.tell_counts-2.ensures.heard
+    let d = c.args.doc.now in
+    on_ok_weaker c.tell_counts-2.result (λ last. over d c.pass.new.ru c.pass.new.intake c.in_ok-pass.ensures.over)
+    (c.tell_counts-2.ensures.heard (compensation_of d Du) (all_doings d Du) c.in_ok-pass.ensures.measured.du.has)
 
 pub returns-clause-stop : goal.returns-clause-stop
 returns-clause-stop g c failed =
@@ -79,12 +95,14 @@ returns-clause-stop g c failed =
     let at = c.in_ok-pass.ensures.over in
     let done = over d c.pass.new.ru c.pass.new.intake at in
     let radio = c.counters.result.now in
+    let ru = c.in_ok-pass.ensures.measured.ru.has in
     let taken = c.counters-2.result.now in
-    stops_intake_count g.A.Air.grew g.met.A.Air.grew_more d (g.A.Air.stopped Failed) c.pass.new.ru c.pass.new.intake (count_of radio) (count_of taken)
+    let du = c.in_ok-pass.ensures.measured.du.has in
+    stops_intake_count g.A.Air.grew g.met.A.Air.grew_more d (g.A.Air.stopped Failed) c.pass.new.ru c.pass.new.intake radio taken
     c.args.out.now c.pass.new.out c.tell_counts.new.out c.tell_counts-2.new.out at
     (radio_counts d c.pass.new.ru radio done.radio (c.counters.ensures d.config done.radio.history done.radio.stands))
     (intake_counts d c.pass.new.intake taken done.intake (c.counters-2.ensures d.config (planned_for d) done.intake.history done.intake.stands))
-    c.in_ok-pass.ensures.heard c.in_ok-tell_counts.ensures.heard (IfErr-at_err _ failed c.tell_counts-2.ensures.stop)
+    c.in_ok-pass.ensures.heard (c.in_ok-tell_counts.ensures.heard (compensation_of d Ru) (all_doings d Ru) ru) (IfErr-at_err _ failed (c.tell_counts-2.ensures.stop (compensation_of d Du) (all_doings d Du) du))
 
 pub returns-clause-wants : goal.returns-clause-wants
 returns-clause-wants g c wants =
@@ -92,12 +110,14 @@ returns-clause-wants g c wants =
     let at = c.in_ok-pass.ensures.over in
     let done = over d c.pass.new.ru c.pass.new.intake at in
     let radio = c.counters.result.now in
+    let ru = c.in_ok-pass.ensures.measured.ru.has in
     let taken = c.counters-2.result.now in
-    inl (stops_intake_count g.A.Air.grew g.met.A.Air.grew_more d (g.A.Air.stopped NoMemory) c.pass.new.ru c.pass.new.intake (count_of radio) (count_of taken)
+    let du = c.in_ok-pass.ensures.measured.du.has in
+    inl (stops_intake_count g.A.Air.grew g.met.A.Air.grew_more d (g.A.Air.stopped NoMemory) c.pass.new.ru c.pass.new.intake radio taken
     c.args.out.now c.pass.new.out c.tell_counts.new.out c.tell_counts-2.new.out at
     (radio_counts d c.pass.new.ru radio done.radio (c.counters.ensures d.config done.radio.history done.radio.stands))
     (intake_counts d c.pass.new.intake taken done.intake (c.counters-2.ensures d.config (planned_for d) done.intake.history done.intake.stands))
-    c.in_ok-pass.ensures.heard c.in_ok-tell_counts.ensures.heard (IfErr-at_err _ wants c.tell_counts-2.ensures.stop))
+    c.in_ok-pass.ensures.heard (c.in_ok-tell_counts.ensures.heard (compensation_of d Ru) (all_doings d Ru) ru) (IfErr-at_err _ wants (c.tell_counts-2.ensures.stop (compensation_of d Du) (all_doings d Du) du)))
 
 pub returns-clause-same : goal.returns-clause-same
 returns-clause-same g c =

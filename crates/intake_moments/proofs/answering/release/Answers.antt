@@ -1,14 +1,16 @@
-use Rattle.std.proofs.Common.{◌≡◌, ◌≤ℤ◌, ◌+ℤ◌, pos, List, [], ◌∷◌, ◌++◌, length, map, refl, sym, ap, subst}
-use Rattle.air_source.specs.declared.events.Side.TheVariants.{Du}
-use Rattle.air_source.specs.declared.links.LinkFrame.{LinkFrame}
-use Rattle.document_traffic.specs.Landing.{leaving_answer}
-use Rattle.document_traffic.specs.Sending.{counted}
-use Rattle.fh_document.specs.declared.delivered.Class3.TheVariants.{U}
+use Rattle.std.proofs.Common.{◌≡◌, ℤ, ◌≤ℤ◌, List, [], ◌∷◌, ◌++◌, length, refl, sym, ap, subst}
+use Rattle.send_queue.specs.air_source.specs.declared.events.Side.TheVariants.{Du}
+use Rattle.send_queue.specs.air_source.specs.declared.links.LinkFrame.{LinkFrame}
+use Rattle.radio_moments.specs.document_traffic.specs.Landing.{leaving_answer}
+use Rattle.radio_moments.specs.document_traffic.specs.Sending.{counted}
+use Rattle.radio_moments.specs.frame_ways.proofs.ComingLemmas.{comes_later}
+use Rattle.radio_moments.specs.fh_document.specs.declared.delivered.Class3.TheVariants.{U}
 use Rattle.fh_time.specs.declared.values.Ticks.{Ticks}
-use Rattle.replay_events.proofs.TickLemmas.{same_most}
+use Rattle.radio_moments.specs.replay_events.proofs.TickLemmas.{same_most}
 use Rattle.send_queue.specs.Queues.{AllHaveLeft, waiting_at}
 use Rattle.intake_moments.specs.Answers.{HasReleased}
-use Rattle.intake_moments.proofs.ReleaseLemmas.{all_released, handed_by, is_short, left_for, next_waits, next_way, releases_none}
+use Rattle.intake_moments.proofs.LeaveLemmas.{handed_by}
+use Rattle.intake_moments.proofs.ReleaseLemmas.{all_released, is_short, left_behind, next_waits, next_way, releases_none}
 use Rattle.intake_moments.proofs.answering.release.Goals as goal
 
 pub loop-frame-init : goal.loop-frame-init
@@ -32,15 +34,16 @@ loop-frame-preserved c d due frames =
     let r = c.loop-frame.invariant d due frames in
     let left = c.in-Some.ensures.gives n (handed_by d tick.0) r.gone r.leaves in
     let at : f.at ≡ tick = c.in-Some.ensures.took.1 in
-    let way = next_way d tick.0 r.counts f before now c.loop-frame.way (next_waits n tick.0 (handed_by d tick.0) r.gone f before now r.leaves left) r.on_way in
-    let here = ap (λ (t : Ticks). t.0) (sym at) in
+    let here : f.at.0 ≡ tick.0 = ap (λ (t : Ticks). t.0) at in
+    let way = next_way d tick.0 r.counts f before now c.loop-frame.way due here (next_waits n tick.0 (handed_by d tick.0) r.gone f before now r.leaves left) r.on_way in
+    let comes = comes_later d Du tick.0 r.counts (leaving_answer f) due.replayable.document (subst (λ (t : ℤ). tick.0 ≤ℤ t) (sym here) (same_most tick.0)) in
     record {
       gone = r.gone ++ f ∷ [];
       leaves = left.leaves;
       counts = counted U r.counts;
       on_way =
-          c.in_ok-send_owned.ensures.sent d Du tick.0 tick.0 r.counts (leaving_answer f) (map leaving_answer (waiting_at tick.0 now ++ left_for d (tick.0 +ℤ pos 1)))
-          (same_most tick.0) (subst (λ (t : Ticks). tick.0 ≤ℤ t.0) (sym at) (same_most tick.0)) here refl refl way;
+          c.in_ok-send_owned.ensures.sent d Du tick.0 tick.0 r.counts (leaving_answer f) (left_behind d tick.0 (waiting_at tick.0 now))
+          (same_most tick.0) comes (sym here) refl refl way;
     }
 
 pub returns : goal.returns

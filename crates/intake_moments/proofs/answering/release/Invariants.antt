@@ -1,5 +1,5 @@
 use Rattle.std.proofs.Common.{length}
-use Rattle.fh_document.specs.declared.document.Document.{Document}
+use Rattle.radio_moments.specs.fh_document.specs.declared.document.Document.{Document}
 use Rattle.intake_moments.specs.Answering.{IsDueAt}
 use Rattle.intake_moments.specs.Answers.{AwaitsFrames}
 use Rattle.intake_moments.proofs.ReleaseLemmas.{Releases}

@@ -1,12 +1,15 @@
-use Rattle.std.proofs.Common.{rules, ◌≡◌, ◌+ℤ◌, pos, inl, inr, map, refl, ◌∙◌}
-use Rattle.std.proofs.lemmas.Result.{IfErr-at_err, on_ok_weaker}
-use Rattle.air_source.specs.declared.airs.AirFault.TheVariants.{Failed, NoMemory}
-use Rattle.document_traffic.specs.Landing.{leaving_answer}
-use Rattle.frame_ways.specs.Ways.{coming_at}
+use Rattle.std.proofs.Common.{rules, ◌≡◌, inl, inr, refl, sym, ◌∙◌}
+use Rattle.std.proofs.lemmas.Result.{on_ok_weaker, IfErr-at_err}
+use Rattle.send_queue.specs.air_source.specs.declared.airs.AirFault.TheVariants.{Failed, NoMemory}
+use Rattle.send_queue.specs.air_source.specs.declared.events.Side.TheVariants.{Du}
+use Rattle.radio_moments.specs.frame_ways.specs.Ways.{coming_at}
+use Rattle.radio_moments.specs.measured_moments.proofs.LateLemmas.{late_enough}
+use Rattle.intake_moments.specs.Answering.{heard_before}
 use Rattle.intake_moments.specs.Turns.{planned_for}
-use Rattle.intake_moments.proofs.MomentLemmas.{has_come, heard_all, is_due, stands_some, turn_then, waits_then}
-use Rattle.intake_moments.proofs.ReleaseLemmas.{left_for}
-use Rattle.intake_moments.proofs.StopLemmas.{rests_before, stops_closing, stops_landing}
+use Rattle.intake_moments.proofs.LeaveLemmas.{left_at_end}
+use Rattle.intake_moments.proofs.MomentLemmas.{has_come, heard_all, is_due, lands_then, made_then, stands_some, turn_then}
+use Rattle.intake_moments.proofs.StopLemmas.{halts_landing, hears_first, rests_before, stops_closing, stops_landing}
+use Rattle.intake_moments.proofs.TurnLemmas.{begun_at}
 use Rattle.intake_moments.proofs.moments.intake_moment.Goals as goal
 
 pub returns-in-Err-clause-wants : goal.returns-in-Err-clause-wants
@@ -35,7 +38,13 @@ land-requires-clause-some g c =
     let tick = c.args.tick.0 in
     let due = is_due d tick c.args.intake.now c.requires.document c.requires.turn c.requires.ended in
     let r = c.in-Ok-release.ensures d due (c.in-Ok.ensures.done d tick due c.requires.landed c.requires.waits).answered.frames in
-    record { document = d; counts = r.counts; left = map leaving_answer (left_for d (tick +ℤ pos 1)); waits = r.on_way }
+    record {
+      document = d;
+      counts = r.counts;
+      left = left_at_end d tick;
+      waits = r.on_way;
+      late = λ a more is. late_enough d Du tick a more c.requires.document (sym r.lands ∙ is);
+    }
 
 pub returns-in_err-land-clause-stop : goal.returns-in_err-land-clause-stop
 returns-in_err-land-clause-stop g c failed =
@@ -45,9 +54,8 @@ returns-in_err-land-clause-stop g c failed =
     let a = c.requires.turn in
     let due = is_due d tick c.args.intake.now c.requires.document a c.requires.ended in
     let r = c.in-Ok-release.ensures d due (c.in-Ok.ensures.done d tick due c.requires.landed c.requires.waits).answered.frames in
-    stops_landing g.A.Air.grew (g.A.Air.stopped Failed) d tick a.history (coming_at d tick c.release.new.way) c.land.new.intake c.args.out.now c.land.new.out a.turn r.lands
-    (IfErr-at_err _ (same ∙ failed)
-    (c.land.ensures.stop d r.counts (map leaving_answer (left_for d (tick +ℤ pos 1))) d.config (planned_for d) a.history r.on_way a.stands a.turn.quiet))
+    stops_landing g.A.Air.grew (g.A.Air.stopped Failed) d tick (coming_at d tick c.release.new.way) c.land.new.intake c.args.out.now c.land.new.out r.lands
+    (c.land.ensures.stop d r.counts (left_at_end d tick) (begun_at d tick) (heard_before d tick) r.on_way c.requires.begun (hears_first d tick c.args.intake.now a) (same ∙ failed))
 
 pub returns-in_err-land-clause-wants : goal.returns-in_err-land-clause-wants
 returns-in_err-land-clause-wants g c wants =
@@ -57,9 +65,8 @@ returns-in_err-land-clause-wants g c wants =
     let a = c.requires.turn in
     let due = is_due d tick c.args.intake.now c.requires.document a c.requires.ended in
     let r = c.in-Ok-release.ensures d due (c.in-Ok.ensures.done d tick due c.requires.landed c.requires.waits).answered.frames in
-    inl (stops_landing g.A.Air.grew (g.A.Air.stopped NoMemory) d tick a.history (coming_at d tick c.release.new.way) c.land.new.intake c.args.out.now c.land.new.out a.turn r.lands
-    (IfErr-at_err _ (same ∙ wants)
-    (c.land.ensures.stop d r.counts (map leaving_answer (left_for d (tick +ℤ pos 1))) d.config (planned_for d) a.history r.on_way a.stands a.turn.quiet)))
+    halts_landing g.A.Air.grew (g.A.Air.stopped NoMemory) d tick (coming_at d tick c.release.new.way) c.land.new.intake c.args.out.now c.land.new.out r.lands
+    (c.land.ensures.wants d r.counts (left_at_end d tick) (begun_at d tick) (heard_before d tick) r.on_way c.requires.begun (hears_first d tick c.args.intake.now a) (same ∙ wants))
 
 pub close_until-requires-clause-unit : goal.close_until-requires-clause-unit
 close_until-requires-clause-unit g c =
@@ -68,9 +75,9 @@ close_until-requires-clause-unit g c =
     let a = c.requires.turn in
     let due = is_due d tick c.args.intake.now c.requires.document a c.requires.ended in
     let r = c.in-Ok-release.ensures d due (c.in-Ok.ensures.done d tick due c.requires.landed c.requires.waits).answered.frames in
-    let left = map leaving_answer (left_for d (tick +ℤ pos 1)) in
-    let come = has_come g.A.Air.grew d tick r.counts left c.args.intake.now c.land.new.intake c.release.new.way c.land.new.way c.args.out.now c.land.new.out
-    c.requires.document a c.requires.ended r.lands (c.in_ok-land.ensures.landed d r.counts left r.on_way) in
+    let left = left_at_end d tick in
+    let come = has_come g.A.Air.grew _ _ d tick r.counts left c.args.intake.now c.land.new.intake c.land.new.meter c.release.new.way c.land.new.way c.args.out.now c.land.new.out
+    c.requires.document a c.requires.ended r.lands (c.in_ok-land.ensures.landed d r.counts left (begun_at d tick) r.on_way c.requires.begun) in
     stands_some g.A.Air.grew d tick a.history _ c.land.new.intake c.args.out.now c.land.new.out come
 
 pub returns-clause-heard : goal.returns-clause-heard
@@ -80,9 +87,9 @@ returns-clause-heard g c =
     let a = c.requires.turn in
     let due = is_due d tick c.args.intake.now c.requires.document a c.requires.ended in
     let r = c.in-Ok-release.ensures d due (c.in-Ok.ensures.done d tick due c.requires.landed c.requires.waits).answered.frames in
-    let left = map leaving_answer (left_for d (tick +ℤ pos 1)) in
-    let come = has_come g.A.Air.grew d tick r.counts left c.args.intake.now c.land.new.intake c.release.new.way c.land.new.way c.args.out.now c.land.new.out
-    c.requires.document a c.requires.ended r.lands (c.in_ok-land.ensures.landed d r.counts left r.on_way) in
+    let left = left_at_end d tick in
+    let come = has_come g.A.Air.grew _ _ d tick r.counts left c.args.intake.now c.land.new.intake c.land.new.meter c.release.new.way c.land.new.way c.args.out.now c.land.new.out
+    c.requires.document a c.requires.ended r.lands (c.in_ok-land.ensures.landed d r.counts left (begun_at d tick) r.on_way c.requires.begun) in
     on_ok_weaker c.close_until.result
     (λ second. heard_all g.A.Air.grew g.met.A.Air.grew_more d tick a.history _ c.land.new.intake c.args.out.now c.land.new.out c.close_until.new.air come second)
     (c.close_until.ensures.heard d.config (planned_for d) _ come.stands)
@@ -94,10 +101,19 @@ returns-clause-waits g c =
     let due = is_due d tick c.args.intake.now c.requires.document c.requires.turn c.requires.ended in
     let done = c.in-Ok.ensures.done d tick due c.requires.landed c.requires.waits in
     let r = c.in-Ok-release.ensures d due done.answered.frames in
-    let all = c.in_ok-land.ensures.landed d r.counts (map leaving_answer (left_for d (tick +ℤ pos 1))) r.on_way in
+    let all = c.in_ok-land.ensures.landed d r.counts (left_at_end d tick) (begun_at d tick) r.on_way c.requires.begun in
     on_ok_weaker c.close_until.result
-    (λ clock. waits_then _ _ d tick c.answer.new.answers _ c.release.new.queue c.release.new.way done.answered r refl refl refl all.waits)
+    (λ clock. lands_then _ _ d tick c.answer.new.answers _ c.release.new.queue c.release.new.way done.answered r refl refl refl all.waits)
     c.close_until.ensures.clock
+
+pub returns-clause-made : goal.returns-clause-made
+returns-clause-made g c =
+    let d = c.args.doc.now in
+    let tick = c.args.tick.0 in
+    let due = is_due d tick c.args.intake.now c.requires.document c.requires.turn c.requires.ended in
+    let r = c.in-Ok-release.ensures d due (c.in-Ok.ensures.done d tick due c.requires.landed c.requires.waits).answered.frames in
+    let all = c.in_ok-land.ensures.landed d r.counts (left_at_end d tick) (begun_at d tick) r.on_way c.requires.begun in
+    on_ok_weaker c.close_until.result (λ clock. made_then _ _ d tick (coming_at d tick c.release.new.way) c.land.new.meter r.lands all.made) c.close_until.ensures.clock
 
 pub returns-clause-turn : goal.returns-clause-turn
 returns-clause-turn g c =
@@ -106,9 +122,9 @@ returns-clause-turn g c =
     let a = c.requires.turn in
     let due = is_due d tick c.args.intake.now c.requires.document a c.requires.ended in
     let r = c.in-Ok-release.ensures d due (c.in-Ok.ensures.done d tick due c.requires.landed c.requires.waits).answered.frames in
-    let left = map leaving_answer (left_for d (tick +ℤ pos 1)) in
-    let come = has_come g.A.Air.grew d tick r.counts left c.args.intake.now c.land.new.intake c.release.new.way c.land.new.way c.args.out.now c.land.new.out
-    c.requires.document a c.requires.ended r.lands (c.in_ok-land.ensures.landed d r.counts left r.on_way) in
+    let left = left_at_end d tick in
+    let come = has_come g.A.Air.grew _ _ d tick r.counts left c.args.intake.now c.land.new.intake c.land.new.meter c.release.new.way c.land.new.way c.args.out.now c.land.new.out
+    c.requires.document a c.requires.ended r.lands (c.in_ok-land.ensures.landed d r.counts left (begun_at d tick) r.on_way c.requires.begun) in
     on_ok_weaker c.close_until.result (λ stands. turn_then d tick a.history _ c.close_until.new.self come.landed_is stands)
     (c.close_until.ensures.stands d.config (planned_for d) _ come.stands)
 
@@ -119,9 +135,9 @@ returns-clause-stop g c failed =
     let a = c.requires.turn in
     let due = is_due d tick c.args.intake.now c.requires.document a c.requires.ended in
     let r = c.in-Ok-release.ensures d due (c.in-Ok.ensures.done d tick due c.requires.landed c.requires.waits).answered.frames in
-    let left = map leaving_answer (left_for d (tick +ℤ pos 1)) in
-    let come = has_come g.A.Air.grew d tick r.counts left c.args.intake.now c.land.new.intake c.release.new.way c.land.new.way c.args.out.now c.land.new.out
-    c.requires.document a c.requires.ended r.lands (c.in_ok-land.ensures.landed d r.counts left r.on_way) in
+    let left = left_at_end d tick in
+    let come = has_come g.A.Air.grew _ _ d tick r.counts left c.args.intake.now c.land.new.intake c.land.new.meter c.release.new.way c.land.new.way c.args.out.now c.land.new.out
+    c.requires.document a c.requires.ended r.lands (c.in_ok-land.ensures.landed d r.counts left (begun_at d tick) r.on_way c.requires.begun) in
     stops_closing g.A.Air.grew (g.A.Air.stopped Failed) g.met.A.Air.grew_more d tick a.history _ c.close_until.new.self c.args.out.now c.land.new.out c.close_until.new.air
     come.landed_is come.heard_is (IfErr-at_err _ failed (c.close_until.ensures.stop d.config (planned_for d) _ come.stands))
 
@@ -132,9 +148,9 @@ returns-clause-wants g c wants =
     let a = c.requires.turn in
     let due = is_due d tick c.args.intake.now c.requires.document a c.requires.ended in
     let r = c.in-Ok-release.ensures d due (c.in-Ok.ensures.done d tick due c.requires.landed c.requires.waits).answered.frames in
-    let left = map leaving_answer (left_for d (tick +ℤ pos 1)) in
-    let come = has_come g.A.Air.grew d tick r.counts left c.args.intake.now c.land.new.intake c.release.new.way c.land.new.way c.args.out.now c.land.new.out
-    c.requires.document a c.requires.ended r.lands (c.in_ok-land.ensures.landed d r.counts left r.on_way) in
+    let left = left_at_end d tick in
+    let come = has_come g.A.Air.grew _ _ d tick r.counts left c.args.intake.now c.land.new.intake c.land.new.meter c.release.new.way c.land.new.way c.args.out.now c.land.new.out
+    c.requires.document a c.requires.ended r.lands (c.in_ok-land.ensures.landed d r.counts left (begun_at d tick) r.on_way c.requires.begun) in
     inl (stops_closing g.A.Air.grew (g.A.Air.stopped NoMemory) g.met.A.Air.grew_more d tick a.history _ c.close_until.new.self c.args.out.now c.land.new.out c.close_until.new.air
     come.landed_is come.heard_is (IfErr-at_err _ wants (c.close_until.ensures.stop d.config (planned_for d) _ come.stands)))
 

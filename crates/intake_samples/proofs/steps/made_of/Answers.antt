@@ -1,4 +1,4 @@
-use Rattle.unit_model.specs.Standing.{nothing_yet}
+use Rattle.du_intake.specs.unit_model.specs.Standing.{nothing_yet}
 use Rattle.du_intake.specs.Planned.{uplink_of}
 use Rattle.intake_samples.proofs.steps.made_of.Goals as goal
 

@@ -1,6 +1,6 @@
 -- A part more, or another message.
 use Rattle.std.proofs.Common.{List, ◌++◌, ap, sym, ◌∙◌}
-use Rattle.plan_model.specs.declared.dense.Sending.{Sending}
+use Rattle.plan_parts.specs.plan_model.specs.declared.dense.Sending.{Sending}
 use Rattle.plan_tests.specs.Walks.{walk}
 use Rattle.plan_tests.specs.declared.walking.OpenMessage.{OpenMessage}
 use Rattle.plan_tests.proofs.WalkingLemmas.{walk_takes, walk_next}

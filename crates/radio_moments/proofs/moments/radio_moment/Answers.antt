@@ -4,14 +4,16 @@ use Rattle.air_source.specs.declared.airs.AirFault.TheVariants.{Failed, NoMemory
 use Rattle.air_source.specs.declared.events.Event.{Event}
 use Rattle.air_source.specs.declared.events.Event.TheVariants.{Cell}
 use Rattle.air_source.specs.declared.events.Side.TheVariants.{Ru as AtRu}
-use Rattle.document_traffic.specs.Sending.{leaving_of}
-use Rattle.frame_ways.specs.Ways.{coming_at}
-use Rattle.replay_events.specs.Events.{arrival_event}
-use Rattle.ru_buffers.specs.Reporting.{due_of}
-use Rattle.radio_moments.specs.Landing.{HaveLanded}
-use Rattle.radio_moments.proofs.DownLemmas.{lands_now, waits_then, waits_to_land}
-use Rattle.radio_moments.proofs.MomentLemmas.{heard_then, is_ready, landed_then, reported_then}
-use Rattle.radio_moments.proofs.StopLemmas.{rests_due, stops_due, stops_landing}
+use Rattle.measured_moments.specs.delay_exchange.specs.Meters.{HasDoings}
+use Rattle.measured_moments.specs.document_delays.specs.Settings.{compensation_of}
+use Rattle.measured_moments.specs.frame_ways.specs.Ways.{coming_at}
+use Rattle.measured_moments.specs.measured_traffic.specs.Doings.{with_frames}
+use Rattle.measured_moments.specs.ru_buffers.specs.Reporting.{due_of}
+use Rattle.du_scheduler.specs.unit_model.specs.Meetings.{Arrival}
+use Rattle.radio_moments.specs.Landing.{told_of_frames}
+use Rattle.radio_moments.proofs.DownLemmas.{landed_down, lands_now, left_then}
+use Rattle.radio_moments.proofs.MomentLemmas.{begun_at, heard_then, is_ready, landed_then, may_land, reported_then, told_then}
+use Rattle.radio_moments.proofs.StopLemmas.{halts_landing, rests_due, stops_due, stops_landing}
 use Rattle.radio_moments.proofs.moments.radio_moment.Goals as goal
 
 pub advance-requires-clause-given : goal.advance-requires-clause-given
@@ -53,8 +55,11 @@ land-requires-clause-unit g c =
 pub land-requires-clause-some : goal.land-requires-clause-some
 land-requires-clause-some g c =
     let d = c.args.doc.now in
+    let tick = c.args.tick.0 in
+    let w = c.send.new.downlink in
     let sent = c.in-Ok.ensures d (record { document = c.requires.document; tone = c.requires.tone; waits = c.requires.waits }) in
-    (d, sent.waits.counts, map (leaving_of d) sent.waits.left, waits_to_land d c.args.tick.0 c.send.new.downlink sent)
+    let may = may_land (goal.C-pre g) (goal.C-post g) d tick w c.args.meter.now c.requires.document sent c.requires.begun c.requires.ended in
+    (d, sent.waits.counts, left_then d tick w sent, begun_at d tick, may)
 
 pub returns-clause-heard : goal.returns-clause-heard
 returns-clause-heard g c =
@@ -63,13 +68,13 @@ returns-clause-heard g c =
     let a = c.requires.turn in
     let w = c.send.new.downlink in
     let sent = c.in-Ok.ensures d (record { document = c.requires.document; tone = c.requires.tone; waits = c.requires.waits }) in
+    let may = may_land (goal.C-pre g) (goal.C-post g) d tick w c.args.meter.now c.requires.document sent c.requires.begun c.requires.ended in
     let flying = coming_at d tick w.way in
     on_ok_weaker c.land.result
-    (λ (l : HaveLanded g.A.Air.grew d tick sent.waits.counts (map (leaving_of d) sent.waits.left) c.advance.new.self c.land.new.ru w.way c.land.new.way c.advance.new.air c.land.new.out).
-    subst (λ (es : List Event). g.A.Air.grew c.args.out.now es c.land.new.out) (heard_then d tick a.history flying c.requires.document a.turn c.requires.ended (lands_now d tick w sent))
-    (g.met.A.Air.grew_more c.args.out.now c.advance.new.air c.land.new.out (map Cell (due_of d.config a.history tick)) (map (arrival_event AtRu) flying)
+    (λ l. subst (λ (es : List Event). g.A.Air.grew c.args.out.now es c.land.new.out) (heard_then d tick a.history flying c.requires.document a.turn c.requires.ended (lands_now d tick w sent))
+    (g.met.A.Air.grew_more c.args.out.now c.advance.new.air c.land.new.out (map Cell (due_of d.config a.history tick)) (told_of_frames d tick (begun_at d tick) flying)
     (c.in_ok-advance.ensures.heard d.config a.history a.stands) l.heard))
-    (c.land.ensures.landed d sent.waits.counts (map (leaving_of d) sent.waits.left) (waits_to_land d tick w sent))
+    (c.land.ensures.landed d sent.waits.counts (left_then d tick w sent) (begun_at d tick) may)
 
 pub returns-clause-landed : goal.returns-clause-landed
 returns-clause-landed g c =
@@ -78,12 +83,11 @@ returns-clause-landed g c =
     let a = c.requires.turn in
     let w = c.send.new.downlink in
     let sent = c.in-Ok.ensures d (record { document = c.requires.document; tone = c.requires.tone; waits = c.requires.waits }) in
-    let flying = coming_at d tick w.way in
+    let may = may_land (goal.C-pre g) (goal.C-post g) d tick w c.args.meter.now c.requires.document sent c.requires.begun c.requires.ended in
     on_ok_weaker c.land.result
-    (λ (l : HaveLanded g.A.Air.grew d tick sent.waits.counts (map (leaving_of d) sent.waits.left) c.advance.new.self c.land.new.ru w.way c.land.new.way c.advance.new.air c.land.new.out).
-    landed_then d tick c.args.ru.now c.land.new.ru flying c.requires.document a c.requires.ended (lands_now d tick w sent)
+    (λ l. landed_then d tick c.args.ru.now c.land.new.ru (coming_at d tick w.way) c.requires.document a c.requires.ended (lands_now d tick w sent)
     (l.stands d.config (reported_then d tick a.history) (c.in_ok-advance.ensures.stands d.config a.history a.stands)))
-    (c.land.ensures.landed d sent.waits.counts (map (leaving_of d) sent.waits.left) (waits_to_land d tick w sent))
+    (c.land.ensures.landed d sent.waits.counts (left_then d tick w sent) (begun_at d tick) may)
 
 pub returns-clause-waits : goal.returns-clause-waits
 returns-clause-waits g c =
@@ -91,10 +95,19 @@ returns-clause-waits g c =
     let tick = c.args.tick.0 in
     let w = c.send.new.downlink in
     let sent = c.in-Ok.ensures d (record { document = c.requires.document; tone = c.requires.tone; waits = c.requires.waits }) in
+    let may = may_land (goal.C-pre g) (goal.C-post g) d tick w c.args.meter.now c.requires.document sent c.requires.begun c.requires.ended in
+    on_ok_weaker c.land.result (λ l. landed_down d tick w sent c.land.new.way c.land.new.pool l.waits) (c.land.ensures.landed d sent.waits.counts (left_then d tick w sent) (begun_at d tick) may)
+
+pub returns-clause-made : goal.returns-clause-made
+returns-clause-made g c =
+    let d = c.args.doc.now in
+    let tick = c.args.tick.0 in
+    let w = c.send.new.downlink in
+    let sent = c.in-Ok.ensures d (record { document = c.requires.document; tone = c.requires.tone; waits = c.requires.waits }) in
+    let may = may_land (goal.C-pre g) (goal.C-post g) d tick w c.args.meter.now c.requires.document sent c.requires.begun c.requires.ended in
     on_ok_weaker c.land.result
-    (λ (l : HaveLanded g.A.Air.grew d tick sent.waits.counts (map (leaving_of d) sent.waits.left) c.advance.new.self c.land.new.ru w.way c.land.new.way c.advance.new.air c.land.new.out).
-    waits_then d tick w c.land.new.way sent l.waits)
-    (c.land.ensures.landed d sent.waits.counts (map (leaving_of d) sent.waits.left) (waits_to_land d tick w sent))
+    (λ l. subst (λ (xs : List Arrival). HasDoings (goal.C-pre g) (goal.C-post g) d AtRu (with_frames (compensation_of d AtRu) tick (begun_at d tick) xs) c.land.new.meter) (lands_now d tick w sent) l.made)
+    (c.land.ensures.landed d sent.waits.counts (left_then d tick w sent) (begun_at d tick) may)
 
 pub returns-clause-stop : goal.returns-clause-stop
 returns-clause-stop g c failed =
@@ -103,10 +116,12 @@ returns-clause-stop g c failed =
     let a = c.requires.turn in
     let w = c.send.new.downlink in
     let sent = c.in-Ok.ensures d (record { document = c.requires.document; tone = c.requires.tone; waits = c.requires.waits }) in
-    stops_landing g.A.Air.grew (g.A.Air.stopped Failed) g.met.A.Air.grew_more d tick a.history (coming_at d tick w.way) c.land.new.ru c.args.out.now c.advance.new.air c.land.new.out
-    c.requires.document a.turn c.requires.ended (lands_now d tick w sent) (c.in_ok-advance.ensures.heard d.config a.history a.stands)
-    (IfErr-at_err _ failed (c.land.ensures.stop d sent.waits.counts (map (leaving_of d) sent.waits.left) (waits_to_land d tick w sent) d.config (reported_then d tick a.history)
-    (c.in_ok-advance.ensures.stands d.config a.history a.stands)))
+    let may = may_land (goal.C-pre g) (goal.C-post g) d tick w c.args.meter.now c.requires.document sent c.requires.begun c.requires.ended in
+    let flying = coming_at d tick w.way in
+    stops_landing g.A.Air.grew (g.A.Air.stopped Failed) g.met.A.Air.grew_more d tick (begun_at d tick) a.history flying c.land.new.ru c.args.out.now c.advance.new.air c.land.new.out
+    c.requires.document a.turn c.requires.ended (told_then d tick flying (lands_now d tick w sent)) (c.in_ok-advance.ensures.heard d.config a.history a.stands)
+    (c.land.ensures.stop d sent.waits.counts (left_then d tick w sent) (begun_at d tick) d.config (reported_then d tick a.history) may
+    (c.in_ok-advance.ensures.stands d.config a.history a.stands) failed)
 
 pub returns-clause-wants : goal.returns-clause-wants
 returns-clause-wants g c wants =
@@ -115,7 +130,9 @@ returns-clause-wants g c wants =
     let a = c.requires.turn in
     let w = c.send.new.downlink in
     let sent = c.in-Ok.ensures d (record { document = c.requires.document; tone = c.requires.tone; waits = c.requires.waits }) in
-    inl (stops_landing g.A.Air.grew (g.A.Air.stopped NoMemory) g.met.A.Air.grew_more d tick a.history (coming_at d tick w.way) c.land.new.ru c.args.out.now c.advance.new.air
-    c.land.new.out c.requires.document a.turn c.requires.ended (lands_now d tick w sent) (c.in_ok-advance.ensures.heard d.config a.history a.stands)
-    (IfErr-at_err _ wants (c.land.ensures.stop d sent.waits.counts (map (leaving_of d) sent.waits.left) (waits_to_land d tick w sent) d.config (reported_then d tick a.history)
-    (c.in_ok-advance.ensures.stands d.config a.history a.stands))))
+    let may = may_land (goal.C-pre g) (goal.C-post g) d tick w c.args.meter.now c.requires.document sent c.requires.begun c.requires.ended in
+    let flying = coming_at d tick w.way in
+    halts_landing g.A.Air.grew (g.A.Air.stopped NoMemory) g.met.A.Air.grew_more d tick (begun_at d tick) a.history flying c.land.new.ru c.args.out.now c.advance.new.air c.land.new.out
+    c.requires.document a.turn c.requires.ended (told_then d tick flying (lands_now d tick w sent)) (c.in_ok-advance.ensures.heard d.config a.history a.stands)
+    (c.land.ensures.wants d sent.waits.counts (left_then d tick w sent) (begun_at d tick) d.config (reported_then d tick a.history) may
+    (c.in_ok-advance.ensures.stands d.config a.history a.stands) wants)

@@ -1,8 +1,8 @@
 use Rattle.std.proofs.Common.{◌≡◌, ℤ, ap, subst}
-use Rattle.ecpri_fragments.specs.Assemblies.{hold_of, message_of}
-use Rattle.ecpri_fragments.specs.Generations.{fragment}
-use Rattle.ecpri_fragments.specs.Verdicts.{Message}
-use Rattle.unit_cells.specs.Keeping.{SameMarks}
+use Rattle.data_messages.specs.ecpri_fragments.specs.Assemblies.{hold_of, message_of}
+use Rattle.data_messages.specs.ecpri_fragments.specs.Generations.{fragment}
+use Rattle.data_messages.specs.ecpri_fragments.specs.Verdicts.{Message}
+use Rattle.data_messages.specs.unit_cells.specs.Keeping.{SameMarks}
 use Rattle.ru_memory.proofs.StepLemmas.{told_whole, whole_data}
 use Rattle.ru_memory.proofs.Times.{message_timely}
 use Rattle.ru_memory.proofs.assembling.assemble.Goals as goal

@@ -1,8 +1,8 @@
-use Rattle.air_source.specs.declared.events.Side.{Side}
+use Rattle.data_messages.specs.air_source.specs.declared.events.Side.{Side}
 use Rattle.std.proofs.Common.{List, [], ℤ, pos, Result, Ok, Err, IfOk}
 use Rattle.fh_base.specs.declared.fault.NoMemory.{NoMemory}
-use Rattle.window_config.specs.declared.config.Config.{Config}
-use Rattle.unit_model.specs.Meetings.{Arrival}
+use Rattle.data_messages.specs.window_config.specs.declared.config.Config.{Config}
+use Rattle.data_messages.specs.unit_model.specs.Meetings.{Arrival}
 use Rattle.ru_memory.specs.Memory.{Holds}
 use Rattle.ru_memory.specs.declared.memory.RuMemory.{RuMemory}
 use Rattle.ru_memory.proofs.tests.made.Goals as goal

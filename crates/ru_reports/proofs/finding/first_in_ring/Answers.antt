@@ -1,4 +1,4 @@
-use Rattle.unit_model.specs.declared.symbol_start.SymbolStart.{SymbolStart}
+use Rattle.unit_cells.specs.unit_model.specs.declared.symbol_start.SymbolStart.{SymbolStart}
 use Rattle.unit_cells.specs.Cells.{cells_index}
 use Rattle.ru_reports.specs.Searches.{InPlace, OfEndpoint}
 use Rattle.ru_reports.proofs.SearchLemmas.{searched_below_more}

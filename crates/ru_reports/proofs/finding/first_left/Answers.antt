@@ -1,6 +1,6 @@
 use Rattle.std.proofs.Common.{◌<◌, None, length, arith}
 use Rattle.std.proofs.lemmas.Option.{slice_get_within}
-use Rattle.unit_model.specs.declared.symbol_start.SymbolStart.{SymbolStart}
+use Rattle.unit_cells.specs.unit_model.specs.declared.symbol_start.SymbolStart.{SymbolStart}
 use Rattle.unit_cells.specs.Cells.{endpoints_of}
 use Rattle.ru_reports.specs.Searches.{OfEndpoint}
 use Rattle.ru_reports.proofs.SearchLemmas.{searched_below_more}

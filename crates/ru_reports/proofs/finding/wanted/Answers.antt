@@ -1,6 +1,6 @@
 use Rattle.std.proofs.Common.{refl, subst, sym}
 use Rattle.unit_cells.specs.Cells.{IsSlotIn}
-use Rattle.unit_model.specs.declared.symbol_start.SymbolStart.{SymbolStart}
+use Rattle.unit_cells.specs.unit_model.specs.declared.symbol_start.SymbolStart.{SymbolStart}
 use Rattle.ru_reports.proofs.SearchLemmas.{not_left}
 use Rattle.ru_reports.proofs.finding.wanted.Goals as goal
 

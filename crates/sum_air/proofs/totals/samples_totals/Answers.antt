@@ -1,6 +1,6 @@
 use Rattle.std.proofs.Common.{◌∙◌, ap, add-one, arith, refl, rules, get_or}
 use Rattle.std.proofs.lemmas.Int.{ints}
-use Rattle.bfp_codec.specs.Samples.{no_wide}
+use Rattle.report_lines.specs.bfp_codec.specs.Samples.{no_wide}
 use Rattle.sum_air.specs.Totals.{samples_totals, with_element}
 use Rattle.sum_air.proofs.totals.samples_totals.Goals as goal
 

@@ -1,5 +1,5 @@
 use Rattle.std.proofs.Common.{List, ℕ, subst, ◌++◌}
-use Rattle.fh_base.specs.Told.{WritesFront}
+use Rattle.owed_bytes.specs.fh_base.specs.Told.{WritesFront}
 use Rattle.owed_bytes.proofs.Carrying.{front_pushed}
 use Rattle.capture_show.proofs.printing.Printer.close.Goals as goal
 

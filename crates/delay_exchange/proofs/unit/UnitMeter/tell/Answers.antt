@@ -2,7 +2,7 @@ use Rattle.std.proofs.Common.{refl, sym, ap, ◌∙◌, subst}
 use Rattle.ecpri_frames.specs.Left.{left_of, message_of}
 use Rattle.delay_measure.specs.Kept.{IsCompensation}
 use Rattle.delay_exchange.proofs.Steps.{goes_by, has_all, has_forgotten}
-use Rattle.delay_exchange.specs.Units.{forgotten, with_messages}
+use Rattle.measured_traffic.specs.Doings.{forgotten, with_messages}
 use Rattle.delay_exchange.proofs.unit.UnitMeter.tell.Goals as goal
 
 pub loop-message-init : goal.loop-message-init

@@ -1,8 +1,9 @@
 use Rattle.std.proofs.Common.{◌≡◌}
-use Rattle.delay_laws.specs.Nodes.{Compensation}
+use Rattle.measured_traffic.specs.delay_laws.specs.Nodes.{Compensation}
 use Rattle.ecpri_frames.specs.Left.{left_of}
 use Rattle.delay_exchange.proofs.Steps.{Going}
-use Rattle.delay_exchange.specs.Units.{Doings, Has, compensation_of, with_frame}
+use Rattle.measured_traffic.specs.Doings.{Doings, with_frame}
+use Rattle.delay_exchange.specs.Units.{Has, compensation_of}
 use Rattle.delay_exchange.proofs.unit.UnitMeter.tell.Given as goal
 
 abbrev pub invariant-loop-message : goal.invariant-loop-message

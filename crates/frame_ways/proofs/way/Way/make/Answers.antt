@@ -20,4 +20,4 @@ returns c =
     let lent = c.in_ok-injections.injections.items in
     let are : times ≡ map time_of (injections_in lent) = c.as_slice-2.ensures.value ∙ c.in_ok-times.ensures ∙ ap (λ xs. map time_of (injections_in xs)) c.as_slice.ensures.value in
     starts c.args.doc.now c.args.side times _ c.requires c.in_ok-deliveries.ensures refl c.in_ok-injections.ensures are c.in_ok-listed.ensures.at_time c.in_ok-listed.ensures.placed
-    c.make-3.ensures (refl, refl)
+    c.make-3.ensures (refl, refl, refl)

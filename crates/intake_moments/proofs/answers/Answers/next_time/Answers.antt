@@ -1,10 +1,10 @@
 use Rattle.std.proofs.Common.{sym, subst}
-use Rattle.frame_ways.specs.Ways.{IsEmptyTo}
-use Rattle.ru_buffers.specs.Calls.{IsLeastOf}
+use Rattle.radio_moments.specs.frame_ways.specs.Ways.{IsEmptyTo}
+use Rattle.du_intake.specs.ru_buffers.specs.Calls.{IsLeastOf}
 use Rattle.send_queue.specs.Queues.{IsSilentTo}
 use Rattle.intake_moments.specs.Answers.{AreSilentTo}
 use Rattle.intake_moments.proofs.TimeLemmas.{least_silent}
-use Rattle.frame_ways.proofs.TimeLemmas.{earlier_of_both}
+use Rattle.radio_moments.specs.frame_ways.proofs.TimeLemmas.{earlier_of_both}
 use Rattle.intake_moments.proofs.answers.Answers.next_time.Goals as goal
 
 pub returns : goal.returns

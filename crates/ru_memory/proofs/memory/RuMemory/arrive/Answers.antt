@@ -1,9 +1,9 @@
 use Rattle.std.proofs.Common.{◌≡◌, ◌∷◌, sym, ap, ◌∙◌, subst}
-use Rattle.air_source.specs.declared.events.Side.{Side}
+use Rattle.data_messages.specs.air_source.specs.declared.events.Side.{Side}
 use Rattle.ecpri_frames.specs.Messages.{pdu}
-use Rattle.unit_model.specs.Reports.{met}
-use Rattle.unit_cells.specs.Cells.{CellsValue, IsOf}
-use Rattle.unit_cells.specs.Keeping.{SameMarks}
+use Rattle.data_messages.specs.unit_model.specs.Reports.{met}
+use Rattle.data_messages.specs.unit_cells.specs.Cells.{CellsValue, IsOf}
+use Rattle.data_messages.specs.unit_cells.specs.Keeping.{SameMarks}
 use Rattle.ru_memory.specs.Memory.{arrival}
 use Rattle.ru_memory.proofs.HoldLemmas.{arrived, begun}
 use Rattle.ru_memory.proofs.memory.RuMemory.arrive.Goals as goal

@@ -1,17 +1,17 @@
-use Rattle.air_source.specs.declared.events.Side.TheVariants.{Ru}
+use Rattle.data_messages.specs.air_source.specs.declared.events.Side.TheVariants.{Ru}
 use Rattle.std.proofs.Common.{◌≡◌, List, [], ◌∷◌, All, sym, ap, ◌∙◌, subst}
 use Rattle.std.proofs.lemmas.List.Elements.{All-head, All-tail}
 use Rattle.cplane_sections.specs.Left.{left_of}
 use Rattle.cplane_sections.specs.Message.{sections_in}
 use Rattle.cplane_sections.specs.declared.values.CSection.{CSection}
-use Rattle.window_config.specs.declared.endpoints.EndpointConfig.{EndpointConfig}
-use Rattle.unit_model.specs.Lists.{onto}
-use Rattle.unit_model.specs.Meetings.{command, commands_with}
-use Rattle.unit_model.specs.Proper.{IsProperCommand}
-use Rattle.unit_model.specs.declared.decoded.Command.{Command}
-use Rattle.unit_model.proofs.OntoLemmas.{onto_none, onto_one}
-use Rattle.unit_model.proofs.Read.{commands_proper}
-use Rattle.unit_cells.specs.Cells.{endpoints_of}
+use Rattle.data_messages.specs.window_config.specs.declared.endpoints.EndpointConfig.{EndpointConfig}
+use Rattle.data_messages.specs.unit_model.specs.Lists.{onto}
+use Rattle.data_messages.specs.unit_model.specs.Meetings.{command, commands_with}
+use Rattle.data_messages.specs.unit_model.specs.Proper.{IsProperCommand}
+use Rattle.data_messages.specs.unit_model.specs.declared.decoded.Command.{Command}
+use Rattle.data_messages.specs.unit_model.proofs.OntoLemmas.{onto_none, onto_one}
+use Rattle.data_messages.specs.unit_model.proofs.Read.{commands_proper}
+use Rattle.data_messages.specs.unit_cells.specs.Cells.{endpoints_of}
 use Rattle.ru_memory.specs.Parts.{HoldsParts}
 use Rattle.ru_memory.proofs.StepLemmas.{marks_more, marks_none}
 use Rattle.ru_memory.proofs.memory.RuMemory.command.Goals as goal

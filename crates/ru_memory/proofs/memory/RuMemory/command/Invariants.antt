@@ -1,16 +1,16 @@
-use Rattle.air_source.specs.declared.events.Side.TheVariants.{Ru}
+use Rattle.data_messages.specs.air_source.specs.declared.events.Side.TheVariants.{Ru}
 use Rattle.std.proofs.Common.{ℕ, List, All}
 use Rattle.cplane_sections.specs.Left.{left_of}
 use Rattle.cplane_sections.specs.Message.{sections_in}
-use Rattle.ecpri_fragments.specs.Generations.{Fragment}
+use Rattle.data_messages.specs.ecpri_fragments.specs.Generations.{Fragment}
 use Rattle.fault_counters.specs.declared.kinds.Counter.{Counter}
-use Rattle.window_config.specs.declared.config.Config.{Config}
-use Rattle.unit_model.specs.Lists.{onto}
-use Rattle.unit_model.specs.Meetings.{commands_with}
-use Rattle.unit_model.specs.Proper.{IsProperCommand}
-use Rattle.unit_model.specs.declared.decoded.Command.{Command}
-use Rattle.unit_model.specs.declared.decoded.Data.{Data}
-use Rattle.unit_cells.specs.Cells.{endpoints_of}
+use Rattle.data_messages.specs.window_config.specs.declared.config.Config.{Config}
+use Rattle.data_messages.specs.unit_model.specs.Lists.{onto}
+use Rattle.data_messages.specs.unit_model.specs.Meetings.{commands_with}
+use Rattle.data_messages.specs.unit_model.specs.Proper.{IsProperCommand}
+use Rattle.data_messages.specs.unit_model.specs.declared.decoded.Command.{Command}
+use Rattle.data_messages.specs.unit_model.specs.declared.decoded.Data.{Data}
+use Rattle.data_messages.specs.unit_cells.specs.Cells.{endpoints_of}
 use Rattle.ru_memory.specs.Parts.{HoldsParts, LeavesMarks}
 use Rattle.ru_memory.proofs.StepLemmas.{CommandsSoFar}
 use Rattle.ru_memory.proofs.memory.RuMemory.command.Given as goal

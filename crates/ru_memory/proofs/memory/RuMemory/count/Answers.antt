@@ -1,4 +1,4 @@
-use Rattle.unit_model.proofs.CountLemmas.{capped_beside}
+use Rattle.data_messages.specs.unit_model.proofs.CountLemmas.{capped_beside}
 use Rattle.ru_memory.proofs.memory.RuMemory.count.Goals as goal
 
 pub returns-clause-holds : goal.returns-clause-holds

@@ -2,7 +2,7 @@ use Rattle.std.proofs.Common.{◌≡◌, ◌+◌, ◌∙◌, sym}
 use Rattle.std.specs.Prelude.{is_some, true, false}
 use Rattle.fault_counters.specs.declared.kinds.Counter.TheVariants.{Frames}
 use Rattle.fault_counters.specs.Counts.{once}
-use Rattle.unit_model.proofs.CountLemmas.{frame_refused, frame_sound}
+use Rattle.data_messages.specs.unit_model.proofs.CountLemmas.{frame_refused, frame_sound}
 use Rattle.ru_memory.proofs.StepLemmas.{parts_as}
 use Rattle.ru_memory.proofs.memory.RuMemory.count_frame.Goals as goal
 

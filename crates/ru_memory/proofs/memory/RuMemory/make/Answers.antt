@@ -1,10 +1,10 @@
 use Rattle.std.proofs.Common.{length, ap, ◌∙◌}
 use Rattle.std.proofs.lemmas.List.Elements.{All-nil}
-use Rattle.unit_model.specs.Blocks.{timely, data_verdicts}
-use Rattle.unit_model.specs.Commands.{accepted, command_verdicts}
-use Rattle.unit_model.specs.Counts.{messages_counted, frames_counted}
-use Rattle.unit_model.specs.Decoding.{data_sections}
-use Rattle.unit_model.specs.Meetings.{commands, fragments, meetings}
+use Rattle.data_messages.specs.unit_model.specs.Blocks.{timely, data_verdicts}
+use Rattle.data_messages.specs.unit_model.specs.Commands.{accepted, command_verdicts}
+use Rattle.data_messages.specs.unit_model.specs.Counts.{messages_counted, frames_counted}
+use Rattle.data_messages.specs.unit_model.specs.Decoding.{data_sections}
+use Rattle.data_messages.specs.unit_model.specs.Meetings.{commands, fragments, meetings}
 use Rattle.ru_memory.proofs.memory.RuMemory.make.Goals as goal
 
 pub returns-clause-holds : goal.returns-clause-holds

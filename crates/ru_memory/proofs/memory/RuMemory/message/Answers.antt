@@ -1,15 +1,15 @@
 use Rattle.std.proofs.Common.{◌≡◌, List, ◌∷◌, sym, ap, ◌∙◌, subst}
-use Rattle.air_source.specs.declared.events.Side.{Side}
-use Rattle.air_source.specs.declared.events.Side.TheVariants.{Ru}
+use Rattle.data_messages.specs.air_source.specs.declared.events.Side.{Side}
+use Rattle.data_messages.specs.air_source.specs.declared.events.Side.TheVariants.{Ru}
 use Rattle.cplane_sections.specs.Message.{sections_in}
 use Rattle.ecpri_frames.specs.Left.{message_of}
-use Rattle.window_config.specs.declared.endpoints.EndpointConfig.{EndpointConfig}
-use Rattle.unit_model.specs.Decoding.{data_sections}
-use Rattle.unit_model.specs.Meetings.{Meeting, Ignored, Commands, Piece, meet, commands_with, fragment_with, commands, fragments}
-use Rattle.unit_model.specs.Proper.{IsAt}
-use Rattle.unit_model.specs.Reports.{hold_of}
+use Rattle.data_messages.specs.window_config.specs.declared.endpoints.EndpointConfig.{EndpointConfig}
+use Rattle.data_messages.specs.unit_model.specs.Decoding.{data_sections}
+use Rattle.data_messages.specs.unit_model.specs.Meetings.{Meeting, Ignored, Commands, Piece, meet, commands_with, fragment_with, commands, fragments}
+use Rattle.data_messages.specs.unit_model.specs.Proper.{IsAt}
+use Rattle.data_messages.specs.unit_model.specs.Reports.{hold_of}
 use Rattle.ru_memory.specs.Parts.{Stands}
-use Rattle.unit_model.proofs.CommandLaws.{for_ru, told_at_ru}
+use Rattle.data_messages.specs.unit_model.proofs.CommandLaws.{for_ru, told_at_ru}
 use Rattle.ru_memory.proofs.HoldLemmas.{before_message, met_so_far, stands_ignored, stands_commands, stands_piece}
 use Rattle.ru_memory.proofs.memory.RuMemory.message.Goals as goal
 

@@ -1,12 +1,12 @@
 use Rattle.std.proofs.Common.{◌≡◌, ℤ, ◌+◌, ◌∷◌, ◌++◌, refl, ap, ◌∙◌, subst}
-use Rattle.air_source.specs.declared.events.Side.{Side}
-use Rattle.ecpri_fragments.specs.Assemblies.{hold_of as assembly_hold}
-use Rattle.ecpri_fragments.specs.Generations.{fragment}
-use Rattle.ecpri_fragments.specs.Verdicts.{verdict_on}
+use Rattle.data_messages.specs.air_source.specs.declared.events.Side.{Side}
+use Rattle.data_messages.specs.ecpri_fragments.specs.Assemblies.{hold_of as assembly_hold}
+use Rattle.data_messages.specs.ecpri_fragments.specs.Generations.{fragment}
+use Rattle.data_messages.specs.ecpri_fragments.specs.Verdicts.{verdict_on}
 use Rattle.fault_counters.specs.Counts.{times}
-use Rattle.unit_model.specs.Commands.{accepted}
-use Rattle.unit_model.specs.Counts.{decoded_counted, fragment_counter, piece_counted}
-use Rattle.unit_model.specs.Decoding.{data_now, data_told}
+use Rattle.data_messages.specs.unit_model.specs.Commands.{accepted}
+use Rattle.data_messages.specs.unit_model.specs.Counts.{decoded_counted, fragment_counter, piece_counted}
+use Rattle.data_messages.specs.unit_model.specs.Decoding.{data_now, data_told}
 use Rattle.ru_memory.specs.Parts.{HoldsParts}
 use Rattle.ru_memory.proofs.StepLemmas.{as_data, counted_piece, of_data, parts_as}
 use Rattle.ru_memory.proofs.memory.RuMemory.piece.Goals as goal

@@ -1,11 +1,11 @@
-use Rattle.air_source.specs.declared.events.Side.{Side}
-use Rattle.air_source.specs.declared.events.Side.TheVariants.{Ru}
-use Rattle.unit_cells.specs.Cells.{IsOf}
-use Rattle.unit_cells.specs.Keeping.{SameMarks}
+use Rattle.data_messages.specs.air_source.specs.declared.events.Side.{Side}
+use Rattle.data_messages.specs.air_source.specs.declared.events.Side.TheVariants.{Ru}
+use Rattle.data_messages.specs.unit_cells.specs.Cells.{IsOf}
+use Rattle.data_messages.specs.unit_cells.specs.Keeping.{SameMarks}
 use Rattle.std.proofs.Common.{◌≡◌, refl, sym, subst, ◌∙◌}
-use Rattle.unit_model.specs.Commands.{accepted, command_verdict}
-use Rattle.unit_model.proofs.CountLemmas.{added_as}
-use Rattle.unit_model.proofs.SectionLemmas.{command_count}
+use Rattle.data_messages.specs.unit_model.specs.Commands.{accepted, command_verdict}
+use Rattle.data_messages.specs.unit_model.proofs.CountLemmas.{added_as}
+use Rattle.data_messages.specs.unit_model.proofs.SectionLemmas.{command_count}
 use Rattle.ru_memory.proofs.StepLemmas.{of_later, keeps_command}
 use Rattle.ru_memory.proofs.memory.RuMemory.section.Goals as goal
 

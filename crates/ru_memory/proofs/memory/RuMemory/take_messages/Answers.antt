@@ -1,11 +1,11 @@
 use Rattle.std.proofs.Common.{◌≡◌, List, [], ◌∷◌, length, sym, ap, ◌∙◌, subst}
-use Rattle.air_source.specs.declared.events.Side.{Side}
+use Rattle.data_messages.specs.air_source.specs.declared.events.Side.{Side}
 use Rattle.ecpri_frames.specs.Gathering.{whole_messages}
 use Rattle.ecpri_frames.specs.Left.{left_of, message_of}
 use Rattle.ecpri_frames.specs.Messages.{Message}
-use Rattle.unit_model.specs.Lists.{onto}
-use Rattle.unit_model.specs.Meetings.{Meeting, meet, met_in}
-use Rattle.unit_model.proofs.OntoLemmas.{onto_none, onto_one}
+use Rattle.data_messages.specs.unit_model.specs.Lists.{onto}
+use Rattle.data_messages.specs.unit_model.specs.Meetings.{Meeting, meet, met_in}
+use Rattle.data_messages.specs.unit_model.proofs.OntoLemmas.{onto_none, onto_one}
 use Rattle.ru_memory.specs.Parts.{Stands}
 use Rattle.ru_memory.proofs.HoldLemmas.{CountSoFar, count_all, count_none, count_one}
 use Rattle.ru_memory.proofs.StepLemmas.{marks_more, marks_none}

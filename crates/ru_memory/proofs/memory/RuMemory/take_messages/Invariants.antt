@@ -1,11 +1,11 @@
 use Rattle.std.proofs.Common.{List, length}
-use Rattle.air_source.specs.declared.events.Side.{Side}
+use Rattle.data_messages.specs.air_source.specs.declared.events.Side.{Side}
 use Rattle.ecpri_frames.specs.Gathering.{whole_messages}
 use Rattle.ecpri_frames.specs.Left.{left_of}
 use Rattle.fault_counters.specs.declared.kinds.Counter.{Counter}
-use Rattle.window_config.specs.declared.config.Config.{Config}
-use Rattle.unit_model.specs.Lists.{onto}
-use Rattle.unit_model.specs.Meetings.{Arrival, Meeting, met_in}
+use Rattle.data_messages.specs.window_config.specs.declared.config.Config.{Config}
+use Rattle.data_messages.specs.unit_model.specs.Lists.{onto}
+use Rattle.data_messages.specs.unit_model.specs.Meetings.{Arrival, Meeting, met_in}
 use Rattle.ru_memory.specs.Parts.{LeavesMarks, Stands}
 use Rattle.ru_memory.proofs.HoldLemmas.{CountSoFar, MetSoFar}
 use Rattle.ru_memory.proofs.memory.RuMemory.take_messages.Given as goal

@@ -7,13 +7,14 @@ use Rattle.send_queue.proofs.queue.SendQueue.fill.Goals as goal
 
 pub loop-frame-preserved : goal.loop-frame-preserved
 loop-frame-preserved c =
-    let left = c.take_first.new.self in
+    let left = c.take_first.new.self.frames in
     record {
-      so_far = ap (all_queued left) c.in_ok-put.ensures.ok ∙ ap (λ (fs : List LinkFrame). all_queued fs c.loop-frame.self) (sym c.in-Some.ensures) ∙ c.loop-frame.invariant.so_far;
-      few = All-tail (λ (f : LinkFrame). f.ep < 16) c.in-Some.frame left (subst (All (λ (f : LinkFrame). f.ep < 16)) c.in-Some.ensures c.loop-frame.invariant.few);
+      so_far = ap (all_queued left) c.in_ok-put.ensures.ok ∙ ap (λ (fs : List LinkFrame). all_queued fs c.loop-frame.self) (sym c.in-Some.ensures.frames) ∙ c.loop-frame.invariant.so_far;
+      few = All-tail (λ (f : LinkFrame). f.ep < 16) c.in-Some.frame left (subst (All (λ (f : LinkFrame). f.ep < 16)) c.in-Some.ensures.frames c.loop-frame.invariant.few);
+      pool = c.take_first.ensures.pool ∙ c.loop-frame.invariant.pool;
     }
 
 pub returns-clause-waits : goal.returns-clause-waits
 returns-clause-waits c n now handed w few from =
-    let all = ap (λ (fs : List LinkFrame). all_queued fs c.loop-frame.self) (sym c.in_default.ensures.0) ∙ c.loop-frame.invariant.so_far in
-    subst (λ (q : List LinkFrame). WaitsFor n now (handed ++ c.args.outbox.now) q) (sym all) (waits_for_all n now handed c.args.outbox.now c.args.self.now w few from)
+    let all = ap (λ (fs : List LinkFrame). all_queued fs c.loop-frame.self) (sym c.in_default.ensures.frames.0) ∙ c.loop-frame.invariant.so_far in
+    subst (λ (q : List LinkFrame). WaitsFor n now (handed ++ c.args.outbox.now.frames) q) (sym all) (waits_for_all n now handed c.args.outbox.now.frames c.args.self.now w few from)

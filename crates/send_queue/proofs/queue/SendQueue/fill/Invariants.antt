@@ -4,9 +4,10 @@ use Rattle.send_queue.proofs.queue.SendQueue.fill.Given as goal
 
 abbrev pub invariant-loop-frame : goal.invariant-loop-frame
 invariant-loop-frame l = record {
-  so_far : all_queued l.outbox l.self ≡ all_queued l.initial.outbox l.initial.self;
-  few : All (λ f. f.ep < 16) l.outbox;
+  so_far : all_queued l.outbox.frames l.self ≡ all_queued l.initial.outbox.frames l.initial.self;
+  few : All (λ f. f.ep < 16) l.outbox.frames;
+  pool : l.outbox.pool ≡ l.initial.outbox.pool;
 }
 
 abbrev pub decreases-loop-frame : goal.decreases-loop-frame
-decreases-loop-frame l = length l.outbox
+decreases-loop-frame l = length l.outbox.frames

@@ -1,18 +1,40 @@
-use Rattle.std.proofs.Common.{◌<◌, refl, ap, sym, subst, length}
-use Rattle.slot_rings.specs.Places.{PlaceValue}
+use Rattle.std.proofs.Common.{◌≡◌, ℕ, ◌+◌, ◌<◌, ◌∙◌, Bool, ap, sym, subst, arith, false, length, get_or}
+use Rattle.std.specs.Prelude.{◌||◌}
+use Rattle.std.proofs.lemmas.Bool.{eqb-true}
+use Rattle.slot_rings.specs.Places.{PlaceValue, cell_number, claim_in, is_in_use, no_marks}
 use Rattle.slot_rings.specs.Rings.{RingValue}
-use Rattle.slot_rings.proofs.RingLemmas.{put_kept}
-use Rattle.slot_rings.proofs.PendingLemmas.{flagged_put, marked_quiet}
+use Rattle.slot_rings.proofs.MarkedLemmas.{still_marked}
+use Rattle.slot_rings.proofs.PendingLemmas.{all_quiet, flagged_told}
+use Rattle.slot_rings.proofs.RingLemmas.{put_kept, read_prbs}
+use Rattle.slot_rings.proofs.RunLemmas.{cells_fit}
 use Rattle.slot_rings.proofs.ring.SlotRing.mark_place.Goals as goal
+
+pub mark_used-requires : goal.mark_used-requires
+mark_used-requires c =
+    let r : RingValue = record { endpoint = c.self.inside.endpoint; places = c.self.inside.places.items } in
+    let within : c.index-index.result < length r.places = subst (λ (x : RingValue). c.index-index.result < length x.places) (sym c.self.view_is) c.index-index.ensures.within in
+    let width : c.index_mut.result.now.prbs ≡ c.args.self.now.endpoint.prbs =
+    read_prbs r c.index-index.result c.index_mut.result.now c.self.invariant.0 within c.index_mut.ensures.value ∙ ap (λ (x : RingValue). x.endpoint.prbs) c.self.view_is in
+    let fits = cells_fit c.args.symbol c.args.self.now.endpoint.prbs 0 c.args.count c.requires.symbol (omega (arith, c.requires.count)) in
+    omega (arith, width, fits, c.number-number.ensures.value)
 
 pub invariant_of-self : goal.invariant_of-self
 invariant_of-self c =
     let r : RingValue = record { endpoint = c.self.inside.endpoint; places = c.self.inside.places.items } in
-    let within : c.index-index.result < length r.places = subst (λ (x : RingValue). c.index-index.result < length x.places) (sym c.self.view_is) c.index-index.ensures.within in (
-      put_kept r c.index-index.result c.index_mut.result.now c.mark_done.new.self c.self.invariant.0
-          within c.index_mut.ensures.value
-          (ap (λ (p : PlaceValue). p.slot) c.mark_done.ensures.kept) (ap (λ (p : PlaceValue). p.prbs) c.mark_done.ensures.kept),
-      flagged_put r c.self.inside.pending.items c.self.inside.pending.items c.index-index.result c.index_mut.result.now c.mark_done.new.self c.self.invariant.1 within c.index_mut.ensures.value
-          refl (λ j s off. off)
-          (λ s off. marked_quiet r.endpoint.prbs s c.args.number c.index_mut.result.now c.mark_done.new.self (ap (λ (p : PlaceValue). p.down) c.mark_done.ensures.kept) c.mark_done.ensures.here c.mark_done.ensures.others),
+    let within : c.index-index.result < length r.places = subst (λ (x : RingValue). c.index-index.result < length x.places) (sym c.self.view_is) c.index-index.ensures.within in
+    let p = c.index_mut.result.now in
+    let q = c.mark_used.new.self in
+    let down = ap (λ (x : PlaceValue). x.down) c.mark_used.ensures.kept in
+    let number : c.number-number.result ≡ cell_number r.endpoint.prbs c.args.symbol 0 =
+    c.number-number.ensures.value ∙ ap (λ (x : RingValue). cell_number x.endpoint.prbs c.args.symbol 0) (sym c.self.view_is) in
+    let uses : ℕ → Bool = λ n. is_in_use (claim_in (get_or p.down n no_marks)) in (
+      put_kept r c.index-index.result p q c.self.invariant.0 within c.index_mut.ensures.value
+          (ap (λ (x : PlaceValue). x.slot) c.mark_used.ensures.kept) (ap (λ (x : PlaceValue). x.prbs) c.mark_used.ensures.kept),
+      flagged_told r c.self.inside.pending.items c.clear_flag.new.flags.items c.index-index.result c.args.symbol p q _ c.self.invariant.1 within c.index_mut.ensures.value
+          c.clear_flag.ensures.size c.clear_flag.ensures.others down
+          (still_marked p.done q.done uses c.number-number.result c.args.count c.mark_used.ensures.here c.mark_used.ensures.others)
+          (λ told. let all = eqb-true c.args.count r.endpoint.prbs told in
+          all_quiet r.endpoint.prbs c.args.symbol p q down (λ k below.
+          subst (λ (n : ℕ). get_or q.done (n + k) false ≡ (get_or p.done (n + k) false || uses (n + k))) number
+          (c.mark_used.ensures.here k (omega (arith, all, below))))),
     )

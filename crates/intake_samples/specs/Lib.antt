@@ -1,0 +1,2 @@
+pub use Rattle.du_intake
+pub use Rattle.du_intake.specs.unit_model

@@ -1,0 +1,5 @@
+pub mod TimeLemmas
+pub mod BeginLemmas
+pub mod MadeLemmas
+pub mod WaitLemmas
+pub mod LateLemmas

@@ -1,0 +1,66 @@
+-- Both units' measurements from one tick to another.
+use Rattle.std.proofs.Common.{◌≡◌, ℤ, pos, ◌+ℤ◌, ◌-ℤ◌, ◌≤ℤ◌, ◌<ℤ◌, List, [], ◌∷◌, sym, ap, ◌∙◌, subst, arith}
+use Rattle.std.specs.Prelude.{filter}
+use Rattle.std.specs.List.{AllByRecursion, flat_map}
+use Rattle.std.proofs.lemmas.Int.{ints}
+use Rattle.air_source.specs.declared.events.Side.{Side}
+use Rattle.air_source.specs.declared.events.Side.TheVariants.{Ru, Du}
+use Rattle.delay_exchange.specs.Meters.{HasDoings}
+use Rattle.delay_exchange.specs.delay_laws.specs.Nodes.{is_side}
+use Rattle.delay_exchange.specs.delay_laws.specs.Ticks.{Begin}
+use Rattle.delay_measure.specs.declared.edge.Edge.{Edge}
+use Rattle.delay_exchange.specs.fh_document.specs.declared.document.Document.{Document}
+use Rattle.frame_network.proofs.QueueLemmas.{none_below}
+use Rattle.frame_network.specs.declared.landings.Landing.{Landing}
+use Rattle.frame_ways.proofs.LandLemmas.{from_less}
+use Rattle.frame_ways.specs.Listed.{AreFrom}
+use Rattle.delay_exchange.specs.measured_traffic.proofs.TurnLemmas.{doings_wait}
+use Rattle.delay_exchange.specs.measured_traffic.specs.Doings.{Doings}
+use Rattle.delay_exchange.specs.measured_traffic.specs.Replayed.{begins_at}
+use Rattle.delay_exchange.specs.measured_traffic.specs.Turns.{IsQuietBetween}
+use Rattle.delay_exchange.specs.replay_events.proofs.TickLemmas.{at_most, below_all, last_reached, same_most}
+use Rattle.delay_exchange.specs.unit_model.specs.Radiated.{first_clock}
+use Rattle.measured_moments.specs.Begins.{AwaitBegins, BeginNoneTo, MeasuresWait, measure_at, waiting_at}
+use Rattle.measured_moments.specs.declared.meters.Meters.{Meters}
+
+-- ---- before the next measurement
+
+below_from : (t from : ℤ) (q : List Landing) → t <ℤ from → AreFrom from q → AllByRecursion (λ m. t <ℤ m.at.0) q
+below_from t from [] lt h = tt
+below_from t from (l ∷ q) lt h = (below_all t from l.at.0 lt h.0, below_from t from q lt h.1)
+
+over_last : (t tick : ℤ) → t <ℤ tick → t <ℤ ((tick -ℤ pos 1) +ℤ pos 1)
+over_last t tick h = omega (arith, ints, h)
+
+module _ {C D : Type 0} where
+  -- before a tick none begins
+  pub begin_before : (d : Document) (now to : ℤ) (m : Meters C D) → AwaitBegins d now m → to <ℤ now → BeginNoneTo m to
+  begin_before d now to m waits early = from_less (to +ℤ pos 1) now m.waiting (next to now early) waits.list
+    where
+      next : (a b : ℤ) → a <ℤ b → (a +ℤ pos 1) ≤ℤ b
+      next a b h = omega (arith, ints, h)
+
+  -- where none begins before a tick, none of the document does
+  pub none_begins : (d : Document) (now tick : ℤ) (m : Meters C D) → AwaitBegins d now m → BeginNoneTo m (tick -ℤ pos 1) → (side : Side) (t : ℤ) → now ≤ℤ t → t <ℤ tick → begins_at d side t ≡ []
+  none_begins d now tick m waits none side t low high =
+      let empty : waiting_at m t ≡ [] = ap (flat_map (measure_at m.measures.now)) (none_below t m.waiting (below_from t ((tick -ℤ pos 1) +ℤ pos 1) m.waiting (over_last t tick high) none)) in
+      ap (filter (λ (b : Begin). is_side side b.side)) (sym (waits.begins t low) ∙ empty)
+
+  -- so they still wait at the tick
+  pub begins_wait : (d : Document) (now tick : ℤ) (m : Meters C D) → AwaitBegins d now m → now ≤ℤ tick → BeginNoneTo m (tick -ℤ pos 1) → AwaitBegins d tick m
+  begins_wait d now tick m waits order none = record {
+    read = waits.read;
+    measures = waits.measures;
+    begins = λ t low. waits.begins t (at_most now tick t order low);
+    list = from_less tick ((tick -ℤ pos 1) +ℤ pos 1) m.waiting (last_reached tick tick (same_most tick)) none;
+  }
+
+  -- and where nothing lands before it either, both units have the same then
+  pub measures_wait : (ru_pre : C → Edge → Type 0) (ru_post : C → Edge → ℤ → Type 0) (du_pre : D → Edge → Type 0) (du_post : D → Edge → ℤ → Type 0)
+      (d : Document) (now tick : ℤ) (m : Meters C D) → MeasuresWait ru_pre ru_post du_pre du_post d now m → first_clock ≤ℤ now → now ≤ℤ tick → BeginNoneTo m (tick -ℤ pos 1)
+      → IsQuietBetween d now tick → MeasuresWait ru_pre ru_post du_pre du_post d tick m
+  measures_wait ru_pre ru_post du_pre du_post d now tick m h begun order none quiet = record {
+    waits = begins_wait d now tick m h.waits order none;
+    ru = subst (λ (x : Doings). HasDoings ru_pre ru_post d Ru x m.ru) (sym (doings_wait d Ru now tick begun order quiet)) h.ru;
+    du = subst (λ (x : Doings). HasDoings du_pre du_post d Du x m.du) (sym (doings_wait d Du now tick begun order quiet)) h.du;
+  }

@@ -1,0 +1,17 @@
+pub use Rattle.delay_exchange
+pub use Rattle.delay_exchange.specs.delay_laws
+pub use Rattle.delay_exchange.specs.document_delays
+pub use Rattle.delay_exchange.specs.document_traffic
+pub use Rattle.delay_exchange.specs.fh_document
+pub use Rattle.frame_ways
+pub use Rattle.delay_exchange.specs.measured_traffic
+pub use Rattle.delay_exchange.specs.replay_events
+pub use Rattle.delay_exchange.specs.replay_laws
+pub use Rattle.frame_ways.specs.ru_buffers
+pub use Rattle.frame_ways.specs.ru_jobs
+pub use Rattle.delay_exchange.specs.tone_source
+pub use Rattle.frame_ways.specs.unit_cells
+pub use Rattle.delay_exchange.specs.uplink_turns
+pub mod Times
+pub mod Made
+pub mod Begins

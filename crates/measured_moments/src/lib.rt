@@ -1,0 +1,18 @@
+//! Delay measurement's part of each moment of a replay: the measurements of a document begin at their times, and the frames that a unit
+//! made at a time leave at its end; the delays that a frame makes known are told (eCPRI 2.0, section 3.2.4.6).
+#![tactic(auto)]
+
+mod made;
+mod meters;
+mod results;
+
+pub use delay_exchange;
+pub use delay_exchange::{fh_document, tone_source};
+pub use frame_ways;
+pub use frame_ways::ru_buffers;
+pub use made::send_made;
+pub use meters::Meters;
+pub use results::tell_results;
+
+#[cfg(test)]
+mod tests;

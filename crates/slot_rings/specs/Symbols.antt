@@ -1,0 +1,26 @@
+-- The downlink cells of a symbol that a ring lends, and what they answer.
+use Rattle.std.specs.Prelude.{◌≡◌, ℕ, Bool, true, false, get_or, Option, None}
+use Rattle.fh_time.specs.declared.values.Slot.{Slot}
+use Rattle.unit_model.specs.Claims.{cell_at}
+use Rattle.unit_model.specs.declared.cells.Block.{Block}
+use Rattle.unit_model.specs.declared.cells.Claim.{Claim}
+use Rattle.slot_rings.specs.Places.{claim_in, no_marks}
+use Rattle.slot_rings.specs.Rings.{RingValue, ring_block, ring_claim, ring_done}
+use Rattle.slot_rings.specs.declared.symbol_cells.SymbolCells.{SymbolCells}
+
+-- ---- what they answer of the cell at a PRB
+
+abbrev pub lent_claim : SymbolCells → ℕ → ℕ → Option Claim
+lent_claim cells prb re = claim_in (get_or cells.marks.now prb no_marks) re
+
+abbrev pub lent_block : SymbolCells → ℕ → Option Block
+lent_block cells prb = get_or cells.blocks.now prb None
+
+abbrev pub lent_done : SymbolCells → ℕ → Bool
+lent_done cells prb = get_or cells.done.now prb false
+
+-- these are the downlink cells of a symbol
+pub record AreCellsOf (r : RingValue) (slot : Slot) (symbol : ℕ) (cells : SymbolCells) : Type 0 where
+  pub claims : (ep prb re : ℕ) → lent_claim cells prb re ≡ ring_claim r (cell_at ep true slot symbol prb) re
+  pub blocks : (ep prb : ℕ) → lent_block cells prb ≡ ring_block r (cell_at ep true slot symbol prb)
+  pub done : (ep prb : ℕ) → lent_done cells prb ≡ ring_done r (cell_at ep true slot symbol prb)

@@ -1,0 +1,57 @@
+// The downlink cells of a symbol, lent.
+ghost use Rattle.std.specs.Prelude.{◌≡◌, option_copied};
+ghost use Rattle.unit_model.specs.Radiated.{cell_id, used_mask};
+
+use crate::judging::marks_at;
+use crate::marks::Marks;
+use crate::scans::{block_at, done_at};
+use unit_model::Block;
+
+/// What a report needs of a downlink cell besides its block.
+#[derive(Clone, Copy, Debug, PartialEq, Eq)]
+pub struct Use {
+    /// The elements in use: claimed, and not as idle. Element 0 stands in the most significant of 12 bits.
+    pub mask: u16,
+    /// The section id of its claims, 0 where it has none.
+    pub section: u16,
+    /// Whether it was reported.
+    pub done: bool,
+}
+
+/// The downlink cells of a slot from the first one of a symbol on, as its place keeps them. Where a list ends, nothing is known of
+/// the cells behind.
+#[derive(Clone, Copy)]
+pub struct SymbolCells<'a> {
+    /// What is claimed of them.
+    pub marks: &'a [Marks],
+    /// The blocks that came for them.
+    pub blocks: &'a [Option<Block>],
+    /// Which of them were reported.
+    pub done: &'a [bool],
+}
+
+impl<'a> SymbolCells<'a> {
+    ghost use Rattle.slot_rings.specs.Symbols.{lent_block, lent_claim, lent_done};
+
+    /// What a report needs of the cell at a PRB besides its block.
+    pub fn cell(&self, prb: u16) -> Use
+        ensures mask { result.mask ≡ used_mask (lent_claim self.now prb) }
+        ensures section { result.section ≡ cell_id (lent_claim self.now prb) }
+        ensures done { result.done ≡ lent_done self.now prb }
+    {
+        let prb = prb as usize;
+        let marks = marks_at(self.marks, prb);
+        Use {
+            mask: marks.used(),
+            section: marks.section(),
+            done: done_at(self.done, prb),
+        }
+    }
+
+    /// The block of the cell at a PRB.
+    pub fn block(&self, prb: u16) -> Option<&'a Block>
+        ensures { option_copied result ≡ lent_block self.now prb }
+    {
+        block_at(self.blocks, prb as usize)
+    }
+}
