@@ -1,6 +1,7 @@
 -- Remainders of sums, and the samples that they make.
-use Rattle.std.proofs.Common.{◌≡◌, ℕ, ◌+◌, ◌-◌, ◌*◌, ◌%◌, ◌<◌, ◌≤◌, ℤ, pos, ◌-ℤ◌, sym, ap, ap₂, ◌∙◌, arith}
+use Rattle.std.proofs.Common.{◌≡◌, ℕ, ◌+◌, ◌-◌, ◌*◌, ◌%◌, ◌<◌, ◌≤◌, inl, inr, ℤ, pos, ◌-ℤ◌, sym, ap, ap₂, ◌∙◌, arith}
 use Rattle.std.proofs.Math.Nat.{mod-add-mod, add-mod-mod, add-mod_right, mod-eq_of_lt}
+use Rattle.std.proofs.lemmas.Bool.{cases_lt}
 use Rattle.air_source.specs.declared.places.RePlace.{RePlace}
 use Rattle.bfp_codec.specs.declared.samples.Wide.{Wide}
 use Rattle.tone_source.specs.Tones.{base_of, number_of, wave, tone_of}
@@ -16,6 +17,32 @@ below_turn a b m v n lt ea eb = sym (mod-eq_of_lt lt) ∙ rest_of_sum a b m v n 
 pub past_turn : (a b m v n : ℕ) → m ≤ a + b → a + b - m < m → a ≡ v % m → b ≡ n % m → a + b - m ≡ (v + n) % m
 past_turn a b m v n le lt ea eb =
     sym (mod-eq_of_lt lt) ∙ sym (add-mod_right (a + b - m) m) ∙ ap (λ x. x % m) (omega arith) ∙ rest_of_sum a b m v n ea eb
+
+-- what is taken from a sum with 32 bits to spare, where no more than the sum is taken
+past_wrap : (s m : ℕ) → s < 131072 → m ≤ s → (s + (4294967296 - m)) % 4294967296 ≡ s - m
+past_wrap s m small le = ap (λ x. x % 4294967296) (first s m small le) ∙ add-mod_right (s - m) 4294967296 ∙ mod-eq_of_lt (omega arith)
+  where
+    first : (s m : ℕ) → s < 131072 → m ≤ s → s + (4294967296 - m) ≡ s - m + 4294967296
+    first s m small le = omega arith
+
+-- and where more is taken
+below_wrap : (s m : ℕ) → m ≤ 65536 → s < m → (s + (4294967296 - m)) % 4294967296 ≡ s + (4294967296 - m)
+below_wrap s m most lt = mod-eq_of_lt (omega arith)
+
+-- the lesser of a sum and what is left of it by a turn is the sum's remainder: it wraps below 0 to more than the sum
+pub less_is : (a b m v n : ℕ) → m ≤ 65536 → a < m → b < m → (a + b + (4294967296 - m)) % 4294967296 < a + b
+    → a ≡ v % m → b ≡ n % m → (a + b + (4294967296 - m)) % 4294967296 ≡ (v + n) % m
+less_is a b m v n most la lb less ea eb = elim (cases_lt (a + b) m) [
+  | inl lt ↦ absurd (let e = below_wrap (a + b) m most lt in omega (arith, e, less))
+  | inr ge ↦ past_wrap (a + b) m (omega arith) ge ∙ past_turn a b m v n ge (omega arith) ea eb
+]
+
+pub sum_is : (a b m v n : ℕ) → m ≤ 65536 → a < m → b < m → ((a + b + (4294967296 - m)) % 4294967296 < a + b → ⊥)
+    → a ≡ v % m → b ≡ n % m → a + b ≡ (v + n) % m
+sum_is a b m v n most la lb more ea eb = elim (cases_lt (a + b) m) [
+  | inl lt ↦ below_turn a b m v n lt ea eb
+  | inr ge ↦ absurd (more (let e = past_wrap (a + b) m (omega arith) ge in omega (arith, e, la, lb)))
+]
 
 thrice : (b r re : ℕ) → r ≡ re → 3 * b + 7 + 51 * re ≡ 3 * (b + 17 * r) + 7
 thrice b r re e = omega arith

@@ -102,6 +102,7 @@ impl ToneSteps {
     }
 
     /// The twelve samples of the tone in a PRB of a symbol.
+    #[inline(always)]
     pub fn block(&self, id: u16, slot: Slot, symbol: u8, prb: u16) -> [Wide; 12]
         ensures { result ≡ tone_block self.now id slot symbol prb }
     {

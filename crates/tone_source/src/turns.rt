@@ -34,7 +34,9 @@ pub(crate) fn stepped(rest: u32, step: u32, turn: u32) -> u32
     ensures small { result < turn }
 {
     let sum = rest + step;
-    if sum < turn { sum } else { sum - turn }
+    // (below 0 this wraps to more than the sum: the lesser of both is one instruction for several samples)
+    let less = sum.wrapping_sub(turn);
+    if less < sum { less } else { sum }
 }
 
 // A remainder by twice the amplitude as a number from minus the amplitude up to one below it.
