@@ -7,8 +7,6 @@
 
 mod section;
 mod taking;
-#[cfg(test)]
-mod tests;
 
 pub use ecpri_fragments;
 pub use taking::take_message;

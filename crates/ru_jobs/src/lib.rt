@@ -9,8 +9,6 @@ mod finding;
 mod giving;
 mod left;
 mod sending;
-#[cfg(test)]
-mod tests;
 
 pub use cursor::{JobCursor, NextJob};
 pub use giving::next_job;

@@ -10,8 +10,6 @@ mod assembling;
 mod laws;
 mod memory;
 mod steps;
-#[cfg(test)]
-mod tests;
 
 pub use laws::holds_later;
 pub use memory::RuMemory;

@@ -16,8 +16,6 @@ mod meeting;
 mod samples;
 mod slots;
 mod symbol_start;
-#[cfg(test)]
-mod tests;
 mod uplink;
 mod verdicts;
 

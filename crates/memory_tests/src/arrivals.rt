@@ -4,23 +4,23 @@ ghost use Rattle.std.specs.Prelude.{◌≡◌, ◌<◌, ◌≤ℤ◌, pos, List,
 ghost use Rattle.fh_time.specs.Numbering.{slots_of};
 ghost use Rattle.data_messages.specs.air_source.specs.declared.events.Side.{Side as SpecSide};
 ghost use Rattle.data_messages.specs.window_config.specs.Configs.{IsConfig};
-ghost use Rattle.data_messages.specs.window_config.specs.Endpoints.{IsEndpoint};
 ghost use Rattle.data_messages.specs.unit_model.specs.Meetings.{Arrival};
 ghost use Rattle.data_messages.specs.unit_model.specs.Proper.{IsTime};
 ghost use Rattle.data_messages.specs.unit_cells.specs.Cells.{endpoints_of};
 ghost use Rattle.ru_memory.specs.Memory.{Holds};
 
-use crate::{RuMemory, holds_later};
-use bfp_codec::{Format, Method, Wide};
+use crate::samples::{block_at, config, endpoint};
+use bfp_codec::{Method, Wide};
 use data_messages::air_source::Side;
+use data_messages::air_source::fault_counters::{Counter, Counters};
+use data_messages::ecpri_fragments::fh_base::NoMemory;
 use data_messages::unit_cells::UnitCells;
 use data_messages::unit_model::Delivered;
-use data_messages::window_config::{Config, Delays, EndpointConfig, EndpointList};
+use data_messages::window_config::{Config, EndpointConfig};
 use eaxc_map::Widths;
 use ecpri_frames::{PduRefusal, PduWhy};
-use fault_counters::{Counter, Counters};
-use fh_base::NoMemory;
-use fh_time::{Numerology, Slot, Ticks, shape};
+use fh_time::{Numerology, Ticks, shape};
+use ru_memory::{RuMemory, holds_later};
 use std::alloc::Global;
 use std::test::Fail;
 
@@ -88,50 +88,6 @@ const THIRD: Ticks = Ticks(14_976_000_000);
 /// 10.1 ms, which is 0.1 ms behind the start of frame 1.
 const BEHIND: Ticks = Ticks(15_513_600_000);
 
-const SLOT: Slot = Slot {
-    frame: 1,
-    subframe: 0,
-    slot: 0,
-};
-
-fn endpoint(numerology: Numerology) -> EndpointConfig
-    ensures endpoint { IsEndpoint result }
-    ensures numerology { result.numerology ≡ numerology }
-{
-    EndpointConfig {
-        id: 0,
-        numerology,
-        prbs: 4,
-        format: Format {
-            dynamic: false,
-            method: Method::Plain,
-        },
-    }
-}
-
-fn listed(e: EndpointConfig) -> EndpointList
-    ensures { result ≡ e ∷ [] }
-{
-    let mut endpoints = EndpointList::new();
-    let _room = endpoints.push(e);
-    endpoints
-}
-
-fn config(e: EndpointConfig, widths: Widths) -> Config
-    requires { IsEndpoint e }
-    ensures config { IsConfig result }
-    ensures endpoints { result.endpoints ≡ e ∷ [] }
-{
-    Config {
-        widths,
-        delays: Delays::usual(),
-        gap: 1_000,
-        fragment: 1_492,
-        pack: 1,
-        endpoints: listed(e),
-    }
-}
-
 /// A unit that nothing came to.
 fn made(alloc: Global, side: Side, config: &Config) -> Result<RuMemory, NoMemory>
     requires { IsConfig config.now }
@@ -174,15 +130,12 @@ fn has_counted(counters: &Counters, wanted: &[(Counter, u64)]) -> bool {
     true
 }
 
-/// The second sample of the block of PRB 0 in symbol 0 of frame 1, and its section.
-fn second_sample(cells: &UnitCells, e: EndpointConfig) -> Option<(u16, Wide)>
-    requires listed { endpoints_of cells.now ≡ e ∷ [] }
-    requires slots { 0 < slots_of e.numerology }
+/// The second sample of the block of PRB 0 in symbol 0, and its section.
+fn second_sample(cells: &UnitCells, e: &EndpointConfig) -> Option<(u16, Wide)>
+    requires listed { endpoints_of cells.now ≡ e.now ∷ [] }
+    requires slots { 0 < slots_of e.now.numerology }
 {
-    match cells.block(0, SLOT, 0, 0) {
-        Some(block) => Some((block.id, block.samples[1])),
-        None => None,
-    }
+    block_at(cells, e, 0, 0).map(|b| (b.id, b.samples[1]))
 }
 
 /// All was read of a frame with so many messages.
@@ -197,20 +150,20 @@ fn read(messages: u32) -> Delivered {
 fn a_command_and_its_data_fill_a_cell(rt: HostRuntime) -> Result<(), Fail> {
     let n = Numerology::ordinary(1).expect(&rt, "30 kHz");
     assert!(rt; shape(&n).slots == 2);
-    let e = endpoint(n);
+    let e = endpoint(n, Method::Plain);
     let config = config(e, Widths::new(4, 4, 4, 4)?);
     let mut memory = made(rt.alloc(), Side::Ru, &config)?;
     assert_eq!(rt;
         deliver(&mut memory, &config, FIRST, FIRST, &COMMAND),
         read(1)
     );
-    assert_eq!(rt; second_sample(&memory.cells, e), None);
+    assert_eq!(rt; second_sample(&memory.cells, &e), None);
     assert_eq!(rt;
         deliver(&mut memory, &config, FIRST, SECOND, &DATA),
         read(1)
     );
     assert_eq!(rt;
-        second_sample(&memory.cells, e),
+        second_sample(&memory.cells, &e),
         Some((1, Wide { i: 1, q: -1 }))
     );
     let wanted = [
@@ -228,20 +181,20 @@ fn a_command_and_its_data_fill_a_cell(rt: HostRuntime) -> Result<(), Fail> {
 fn data_come_in_two_fragments(rt: HostRuntime) -> Result<(), Fail> {
     let n = Numerology::ordinary(1).expect(&rt, "30 kHz");
     assert!(rt; shape(&n).slots == 2);
-    let e = endpoint(n);
+    let e = endpoint(n, Method::Plain);
     let config = config(e, Widths::new(4, 4, 4, 4)?);
     let mut memory = made(rt.alloc(), Side::Ru, &config)?;
     assert_eq!(rt;
         deliver(&mut memory, &config, FIRST, SECOND, &FIRST_PIECE),
         read(1)
     );
-    assert_eq!(rt; second_sample(&memory.cells, e), None);
+    assert_eq!(rt; second_sample(&memory.cells, &e), None);
     assert_eq!(rt;
         deliver(&mut memory, &config, SECOND, THIRD, &LAST_PIECE),
         read(1)
     );
     assert_eq!(rt;
-        second_sample(&memory.cells, e),
+        second_sample(&memory.cells, &e),
         Some((1, Wide { i: 1, q: -1 }))
     );
     let wanted = [
@@ -258,7 +211,7 @@ fn data_come_in_two_fragments(rt: HostRuntime) -> Result<(), Fail> {
 #[test]
 fn a_frame_has_two_commands(rt: HostRuntime) -> Result<(), Fail> {
     let n = Numerology::ordinary(1).expect(&rt, "30 kHz");
-    let config = config(endpoint(n), Widths::new(4, 4, 4, 4)?);
+    let config = config(endpoint(n, Method::Plain), Widths::new(4, 4, 4, 4)?);
     let mut memory = made(rt.alloc(), Side::Ru, &config)?;
     assert_eq!(rt;
         deliver(&mut memory, &config, FIRST, FIRST, &TWO_COMMANDS),
@@ -277,7 +230,7 @@ fn a_frame_has_two_commands(rt: HostRuntime) -> Result<(), Fail> {
 #[test]
 fn messages_are_refused(rt: HostRuntime) -> Result<(), Fail> {
     let n = Numerology::ordinary(1).expect(&rt, "30 kHz");
-    let config = config(endpoint(n), Widths::new(4, 4, 4, 4)?);
+    let config = config(endpoint(n, Method::Plain), Widths::new(4, 4, 4, 4)?);
     let mut memory = made(rt.alloc(), Side::Ru, &config)?;
     assert_eq!(rt;
         deliver(&mut memory, &config, FIRST, FIRST, &FRAGMENTED),
@@ -301,7 +254,7 @@ fn messages_are_refused(rt: HostRuntime) -> Result<(), Fail> {
 #[test]
 fn a_frame_is_cut(rt: HostRuntime) -> Result<(), Fail> {
     let n = Numerology::ordinary(1).expect(&rt, "30 kHz");
-    let config = config(endpoint(n), Widths::new(4, 4, 4, 4)?);
+    let config = config(endpoint(n, Method::Plain), Widths::new(4, 4, 4, 4)?);
     let mut memory = made(rt.alloc(), Side::Ru, &config)?;
     let refusal = PduRefusal {
         place: 47,
@@ -328,7 +281,7 @@ fn a_frame_is_cut(rt: HostRuntime) -> Result<(), Fail> {
 fn uplink_data_come_to_the_du(rt: HostRuntime) -> Result<(), Fail> {
     let n = Numerology::ordinary(1).expect(&rt, "30 kHz");
     assert!(rt; shape(&n).slots == 2);
-    let e = endpoint(n);
+    let e = endpoint(n, Method::Plain);
     let config = config(e, Widths::new(4, 4, 4, 4)?);
     let mut memory = made(rt.alloc(), Side::Du, &config)?;
     // a command is the radio unit's
@@ -341,7 +294,7 @@ fn uplink_data_come_to_the_du(rt: HostRuntime) -> Result<(), Fail> {
         deliver(&mut memory, &config, FIRST, SECOND, &UPLINK_DATA),
         read(1)
     );
-    assert_eq!(rt; second_sample(&memory.cells, e), None);
+    assert_eq!(rt; second_sample(&memory.cells, &e), None);
     // the same in another message, 0.1 ms behind the symbol's start
     let mut later = UPLINK_DATA;
     later[6] = 1;
@@ -350,7 +303,7 @@ fn uplink_data_come_to_the_du(rt: HostRuntime) -> Result<(), Fail> {
         read(1)
     );
     assert_eq!(rt;
-        second_sample(&memory.cells, e),
+        second_sample(&memory.cells, &e),
         Some((5, Wide { i: 1, q: -1 }))
     );
     let wanted = [

@@ -1,23 +1,20 @@
 // Messages written out by hand from the layout tables. One endpoint of 4 PRBs at 30 kHz, whose frame 1 begins at 10 ms: data are on time
 // from 345 to 134 us before their symbol, and symbol 1 begins 36.2 us behind symbol 0.
-ghost use Rattle.std.specs.Prelude.{◌≡◌, ◌<◌, ◌≤ℤ◌, pos, List, [], ◌∷◌};
-ghost use Rattle.bfp_codec.specs.Layout.{HasWidth};
-ghost use Rattle.ecpri_fragments.specs.Assemblies.{endpoints_of as assembly_endpoints};
+ghost use Rattle.std.specs.Prelude.{◌≡◌, ◌<◌, List, [], ◌∷◌};
 ghost use Rattle.fh_time.specs.Numbering.{slots_of};
-ghost use Rattle.unit_cells.specs.window_config.specs.Configs.{IsConfig};
-ghost use Rattle.unit_cells.specs.window_config.specs.Endpoints.{IsEndpoint};
-ghost use Rattle.unit_cells.specs.Cells.{endpoints_of};
+ghost use Rattle.data_messages.specs.unit_cells.specs.Cells.{endpoints_of};
 
-use crate::take_message;
-use bfp_codec::{Format, Method};
+use crate::receiving::{counted, field, receive};
+use crate::samples::{block_at, config, endpoint};
+use bfp_codec::Method;
+use data_messages::air_source::Side;
+use data_messages::air_source::fault_counters::Counters;
+use data_messages::ecpri_fragments::Assembly;
+use data_messages::unit_cells::UnitCells;
+use data_messages::window_config::EndpointConfig;
 use eaxc_map::Widths;
-use ecpri_fragments::{Assembly, Lease, SeqField, Taken};
-use fault_counters::{Counter, Counters};
-use fh_time::{Numerology, Slot, of_ns, shape};
+use fh_time::{Numerology, of_ns, shape};
 use std::test::Fail;
-use unit_cells::UnitCells;
-use unit_cells::air_source::Side;
-use unit_cells::window_config::{Config, Delays, EndpointConfig, EndpointList};
 
 /// Two sections, each of one PRB with the samples (k, -k): section 1 on PRB 0 of symbol 0, and
 /// section 2 with symInc on PRB 0.
@@ -31,119 +28,19 @@ const TWO: [u8; 108] = [
     0x00, 0x09, 0xff, 0xf7, 0x00, 0x0a, 0xff, 0xf6, 0x00, 0x0c, 0xff, 0xf4,
 ];
 
-const FIRST: Slot = Slot {
-    frame: 1,
-    subframe: 0,
-    slot: 0,
-};
-
-fn endpoint(numerology: Numerology) -> EndpointConfig
-    ensures endpoint { IsEndpoint result }
-    ensures numerology { result.numerology ≡ numerology }
-    ensures width { HasWidth result.format.method }
-{
-    EndpointConfig {
-        id: 0,
-        numerology,
-        prbs: 4,
-        format: Format {
-            dynamic: false,
-            method: Method::Plain,
-        },
-    }
-}
-
-fn listed(e: EndpointConfig) -> EndpointList
-    ensures { result ≡ e ∷ [] }
-{
-    let mut endpoints = EndpointList::new();
-    let _room = endpoints.push(e);
-    endpoints
-}
-
-fn config(e: EndpointConfig, widths: Widths) -> Config
-    requires { IsEndpoint e }
-    ensures config { IsConfig result }
-    ensures endpoints { result.endpoints ≡ e ∷ [] }
-{
-    Config {
-        widths,
-        delays: Delays::usual(),
-        gap: 1_000,
-        fragment: 1_492,
-        pack: 1,
-        endpoints: listed(e),
-    }
-}
-
-/// Treats a message whose fragments came at times that a unit may be given.
-fn treat(cells: &mut UnitCells, counters: &mut Counters, e: &EndpointConfig, lease: &Lease<'_>)
-    requires listed { endpoints_of cells.old ≡ e.now ∷ [] }
-    requires width { HasWidth e.now.format.method }
-    ensures { endpoints_of cells.new ≡ endpoints_of cells.old }
-{
-    let first = lease.first();
-    let last = lease.last();
-    if 0 <= first.0 && first.0 <= last.0 && last.0 <= 1 << 53 {
-        take_message(cells, counters, 0, e, lease);
-    }
-}
-
-/// Takes a fragment that comes so many nanoseconds behind 9 ms, and treats the message that it makes whole.
-fn receive(
-    assembly: &mut Assembly,
-    cells: &mut UnitCells,
-    counters: &mut Counters,
-    e: &EndpointConfig,
-    ns: u32,
-    seq: SeqField,
-    bytes: &[u8],
-)
-    requires endpoint { 0 < assembly_endpoints assembly.old }
-    requires sub { seq.sub < 128 }
-    requires listed { endpoints_of cells.old ≡ e.now ∷ [] }
-    requires width { HasWidth e.now.format.method }
-    ensures assembly { assembly_endpoints assembly.new ≡ assembly_endpoints assembly.old }
-    ensures cells { endpoints_of cells.new ≡ endpoints_of cells.old }
-{
-    if let Taken::Whole(lease) = assembly.take(0, of_ns(9_000_000 + i64::from(ns)), seq, bytes) {
-        treat(cells, counters, e, &lease);
-    }
-}
-
-fn field(seq: u8, last: bool, sub: u8) -> SeqField
-    ensures { result ≡ record { seq = seq; last = last; sub = sub } }
-{
-    SeqField { seq, last, sub }
-}
-
-/// The section of a cell's block and the last of its samples, of a cell in the first slot of frame 1.
+/// The section of a cell's block and the last of its samples, of a cell in the slot.
 fn last_sample(cells: &UnitCells, e: &EndpointConfig, symbol: u8, prb: u16) -> Option<(u16, i32)>
     requires listed { endpoints_of cells.now ≡ e.now ∷ [] }
     requires slots { 0 < slots_of e.now.numerology }
 {
-    cells
-        .block(0, FIRST, symbol, prb)
-        .map(|b| (b.id, b.samples[11].i))
-}
-
-/// How many sections were taken, repeats, early or late, how many messages were refused, and how many had the wrong direction.
-fn counted(counters: &Counters) -> [u64; 6] {
-    [
-        counters.get(Counter::UTaken),
-        counters.get(Counter::URepeat),
-        counters.get(Counter::UEarly),
-        counters.get(Counter::ULate),
-        counters.get(Counter::URefused),
-        counters.get(Counter::WrongWay),
-    ]
+    block_at(cells, e, symbol, prb).map(|b| (b.id, b.samples[11].i))
 }
 
 #[test]
 fn sections_fill_their_cells(rt: HostRuntime) -> Result<(), Fail> {
     let n = Numerology::ordinary(1).expect(&rt, "30 kHz");
     assert!(rt; shape(&n).slots == 2);
-    let e = endpoint(n);
+    let e = endpoint(n, Method::Plain);
     let config = config(e, Widths::new(4, 4, 4, 4)?);
     let mut cells = UnitCells::make(rt.alloc(), Side::Ru, &config)?;
     let mut assembly = Assembly::make(rt.alloc(), 1, of_ns(211_000))?;
@@ -203,7 +100,7 @@ fn sections_fill_their_cells(rt: HostRuntime) -> Result<(), Fail> {
 fn verdicts_are_counted(rt: HostRuntime) -> Result<(), Fail> {
     let n = Numerology::ordinary(1).expect(&rt, "30 kHz");
     assert!(rt; shape(&n).slots == 2);
-    let e = endpoint(n);
+    let e = endpoint(n, Method::Plain);
     let config = config(e, Widths::new(4, 4, 4, 4)?);
     let mut cells = UnitCells::make(rt.alloc(), Side::Ru, &config)?;
     let mut assembly = Assembly::make(rt.alloc(), 1, of_ns(211_000))?;
@@ -295,7 +192,7 @@ fn verdicts_are_counted(rt: HostRuntime) -> Result<(), Fail> {
 fn runs_fill_their_cells(rt: HostRuntime) -> Result<(), Fail> {
     let n = Numerology::ordinary(1).expect(&rt, "30 kHz");
     assert!(rt; shape(&n).slots == 2);
-    let e = endpoint(n);
+    let e = endpoint(n, Method::Plain);
     let config = config(e, Widths::new(4, 4, 4, 4)?);
     let mut cells = UnitCells::make(rt.alloc(), Side::Ru, &config)?;
     let mut assembly = Assembly::make(rt.alloc(), 1, of_ns(211_000))?;

@@ -1,19 +1,18 @@
 // The parts of which units are made, each called once.
-ghost use Rattle.std.specs.Prelude.{◌≡◌, ◌≤◌, length};
-
-use crate::{
+use crate::samples::endpoint;
+use bfp_codec::{Method, Wide};
+use data_messages::air_source::Side;
+use data_messages::air_source::fault_counters::Counter;
+use data_messages::ecpri_fragments::Verdict;
+use data_messages::unit_model::{
     Allocation, Block, CommandVerdict, DataVerdict, Met, SymbolStart, block_counter, comes_before,
     command_counter, data_counter, fragment_counter, is_uplink, meet, place_of, same_slot,
     samples_under, sends_in,
 };
-use air_source::Side;
-use air_source::fault_counters::Counter;
-use ecpri_fragments::Verdict;
+use data_messages::window_config::EndpointConfig;
 use ecpri_frames::messages;
 use fh_time::{Numerology, Slot, Ticks};
 use std::test::Fail;
-use uplane_sections::bfp_codec::{Format, Method, Wide};
-use window_config::EndpointConfig;
 
 /// A measurement message, data with 3 bytes, and data to the id 7: sequence 5, the last piece, with one byte.
 const FRAME: [u8; 25] = [
@@ -27,15 +26,12 @@ const SLOT: Slot = Slot {
     slot: 1,
 };
 
-fn endpoint(numerology: Numerology) -> EndpointConfig {
+/// An endpoint of 106 PRBs with the id 7.
+fn wide(numerology: Numerology) -> EndpointConfig {
     EndpointConfig {
         id: 7,
-        numerology,
         prbs: 106,
-        format: Format {
-            dynamic: false,
-            method: Method::Plain,
-        },
+        ..endpoint(numerology, Method::Plain)
     }
 }
 
@@ -59,7 +55,7 @@ fn uplink(endpoint: EndpointConfig, start_prb: u16, section: u16) -> Allocation 
 #[test]
 fn meets_messages_by_their_tests(rt: HostRuntime) -> Result<(), Fail> {
     let n = Numerology::ordinary(1).expect(&rt, "30 kHz");
-    let endpoints = [endpoint(n)];
+    let endpoints = [wide(n)];
     let mut ignored = [Counter::Frames; 3];
     let mut is_piece = [false; 3];
     for (k, message) in messages(&FRAME).enumerate() {
@@ -98,7 +94,7 @@ fn counts_verdicts(rt: HostRuntime) -> Result<(), Fail> {
 #[test]
 fn orders_uplink_sections(rt: HostRuntime) -> Result<(), Fail> {
     let n = Numerology::ordinary(1).expect(&rt, "30 kHz");
-    let e = endpoint(n);
+    let e = wide(n);
     let sorted = [uplink(e, 2, 1), uplink(e, 5, 1)];
     // one that ties came before those that stand, so it stands before its like
     assert_eq!(rt; place_of(&uplink(e, 5, 1), &sorted), 1);
@@ -125,7 +121,7 @@ fn orders_symbols(rt: HostRuntime) -> Result<(), Fail> {
     let n = Numerology::ordinary(1).expect(&rt, "30 kHz");
     let third = SymbolStart {
         ep: 1,
-        endpoint: endpoint(n),
+        endpoint: wide(n),
         start: Ticks(100),
         slot: SLOT,
         symbol: 3,

@@ -1,5 +1,5 @@
 use Rattle.std.proofs.Common.{[]}
-use Rattle.ru_memory.proofs.tests.deliver.Goals as goal
+use Rattle.memory_tests.proofs.arrivals.deliver.Goals as goal
 
 pub arrive-requires-clause-unit : goal.arrive-requires-clause-unit
 arrive-requires-clause-unit c =
