@@ -13,6 +13,3 @@ mod unit;
 pub use measured_traffic::replay_events::DelayResult;
 pub use measured_traffic::{fh_document, tone_source};
 pub use unit::UnitMeter;
-
-#[cfg(test)]
-mod tests;

@@ -23,6 +23,3 @@ pub use in_flight::Network;
 pub use landings::Landing;
 pub use pool::FramePool;
 pub use queue::LandingQueue;
-
-#[cfg(test)]
-mod tests;

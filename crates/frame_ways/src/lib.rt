@@ -17,6 +17,3 @@ pub use landed::Landed;
 pub use ru_buffers;
 pub use times::earlier_of;
 pub use way::Way;
-
-#[cfg(test)]
-mod tests;

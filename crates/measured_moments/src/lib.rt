@@ -13,6 +13,3 @@ pub use frame_ways::ru_buffers;
 pub use made::send_made;
 pub use meters::Meters;
 pub use results::tell_results;
-
-#[cfg(test)]
-mod tests;

@@ -14,6 +14,3 @@ pub use frame_network;
 pub use laws::queue_goes_on;
 pub use outbox::Outbox;
 pub use queue::SendQueue;
-
-#[cfg(test)]
-mod tests;

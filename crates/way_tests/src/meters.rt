@@ -3,21 +3,12 @@
 ghost use Rattle.std.specs.Prelude.{◌≡◌, pos};
 ghost use Rattle.delay_measure.specs.Kept.{answer_at};
 
-use crate::{DelayResult, UnitMeter};
+use crate::built::answer;
 use delay_measure::{Edge, Kind};
 use fault_counters::Counter;
 use fh_base::NoMemory;
 use fh_time::Ticks;
-
-/// The compensations of a unit, in units of 2^-16 ns.
-fn answer(edge: Edge, sending: i64, receiving: i64) -> i64
-    ensures { result ≡ answer_at sending receiving edge }
-{
-    match edge {
-        Edge::Sending => sending,
-        Edge::Receiving => receiving,
-    }
-}
+use measured_moments::delay_exchange::{DelayResult, UnitMeter};
 
 /// The Request of id 7, sent at 999,900 ns with 100 ns of compensation: header, id and action, seconds, nanoseconds, compensation.
 const REQUEST: [u8; 24] = [
@@ -35,13 +26,13 @@ fn a_request_and_its_response(rt: HostRuntime) -> Result<(), NoMemory> {
         rt.alloc(),
         |edge: Edge| -> i64
             ensures { result ≡ answer_at (pos 6553600) (pos 0) edge }
-        { answer(edge, 6_553_600, 0) },
+        { answer(6_553_600, 0, edge) },
     );
     let mut ru = UnitMeter::make(
         rt.alloc(),
         |edge: Edge| -> i64
             ensures { result ≡ answer_at (pos 0) (pos 2621440) edge }
-        { answer(edge, 0, 2_621_440) },
+        { answer(0, 2_621_440, edge) },
     );
     du.begin(Ticks(1_536_000_000), 7, Kind::One)?;
     assert_eq!(rt; du.take_made(), Some(REQUEST));

@@ -1,14 +1,15 @@
 // Ways of a small document, worked out by hand.
 ghost use Rattle.std.specs.Prelude.{◌≡◌, IfOk};
-ghost use Rattle.measured_traffic.specs.fh_document.specs.Proper.{IsDocument};
-ghost use Rattle.frame_ways.specs.Ways.{document_of};
+ghost use Rattle.measured_moments.specs.fh_document.specs.Proper.{IsDocument};
+ghost use Rattle.measured_moments.specs.frame_ways.specs.Ways.{document_of};
 
-use crate::{Way, earlier_of};
+use crate::built::{mark_of, marked};
 use air_source::Side;
-use fh_base::{Bytes, NoMemory};
+use fh_base::NoMemory;
 use fh_time::{Ticks, of_ns};
-use frame_network::FramePool;
-use measured_traffic::fh_document::{Class3, Document, read};
+use measured_moments::fh_document::{Class3, Document, read};
+use measured_moments::frame_ways::{Way, earlier_of};
+use send_queue::frame_network::FramePool;
 use std::alloc::Global;
 use std::test::Fail;
 
@@ -42,10 +43,7 @@ fn mark_at(pool: &mut FramePool, way: &mut Way<'_>, tick: Ticks) -> u8
     let Some(frame) = way.next_at(tick) else {
         return 0;
     };
-    let mark = match frame.as_slice() {
-        [mark] => *mark,
-        _ => 255,
-    };
+    let mark = mark_of(frame.as_slice());
     frame.give_back(pool);
     mark
 }
@@ -88,9 +86,7 @@ fn each_unit_has_its_own(rt: HostRuntime) -> Result<(), Fail> {
     let mut up = way_to(alloc, &doc, Side::Du)?;
     send(&mut pool, &mut up, Class3::U, 5)?;
     send(&mut pool, &mut up, Class3::M, 7)?;
-    let mut frame = Bytes::new(alloc);
-    frame.push_all(&[6])?;
-    up.send_owned(&mut pool, Ticks(0), Class3::U, frame)?;
+    up.send_owned(&mut pool, Ticks(0), Class3::U, marked(alloc, 6)?)?;
     for (ns, marks) in [(9, [6, 0, 0]), (30, [7, 0, 0]), (60, [5, 0xb1, 0])] {
         let tick = of_ns(ns);
         assert_eq!(rt; up.next_time(), Some(tick));

@@ -1,11 +1,12 @@
 // Five frames of two endpoints, with the order in which they are sent worked out by hand.
 ghost use Rattle.std.specs.Prelude.{◌<◌, All, OnOk};
 
-use crate::{Outbox, SendQueue};
+use crate::built::mark_of;
 use air_source::Link;
 use fh_base::NoMemory;
 use fh_time::Ticks;
-use frame_network::FramePool;
+use send_queue::frame_network::FramePool;
+use send_queue::{Outbox, SendQueue};
 use std::test::Fail;
 
 /// Hands over a frame of one byte, which says when it is handed over.
@@ -17,14 +18,17 @@ fn hand(outbox: &mut Outbox, at: i64, ep: usize, turn: u8) -> Result<(), NoMemor
     outbox.send(Ticks(at), ep, &[turn])
 }
 
-/// The endpoint and the one byte of the next frame that leaves at a tick. 0 where none does.
+/// The endpoint and the one byte of the next frame that leaves at a tick, or 0 and 0 where none does.
 fn taken(queue: &mut SendQueue, at: i64) -> (usize, u8) {
     match queue.take_at(Ticks(at)) {
         None => (0, 0),
-        Some(frame) => match frame.frame.as_slice() {
-            [turn] if frame.at == Ticks(at) => (frame.ep, *turn),
-            _ => (0, 255),
-        },
+        Some(frame) => {
+            if frame.at == Ticks(at) {
+                (frame.ep, mark_of(frame.frame.as_slice()))
+            } else {
+                (0, 255)
+            }
+        }
     }
 }
 

@@ -1,8 +1,9 @@
 // Arrivals put and taken, with the order worked out by hand.
-use crate::{Arrival, ArrivalKey, Network};
+use crate::built::{mark_of, marked};
 use air_source::Side;
-use fh_base::{Bytes, NoMemory};
+use fh_base::NoMemory;
 use fh_time::Ticks;
+use send_queue::frame_network::{Arrival, ArrivalKey, Network};
 use std::alloc::Global;
 use std::test::Fail;
 
@@ -22,8 +23,7 @@ fn send(
     key: ArrivalKey,
     mark: u8,
 ) -> Result<(), NoMemory> {
-    let mut frame = Bytes::new(alloc);
-    frame.push_all(&[mark])?;
+    let frame = marked(alloc, mark)?;
     network.put(Arrival {
         side,
         at: Ticks(at),
@@ -32,14 +32,11 @@ fn send(
     })
 }
 
-// The one byte of the next frame, or 0 where no frame comes.
+/// The one byte of the next frame, or 0 where no frame comes.
 fn mark_until(network: &mut Network, to: i64) -> u8 {
     match network.next_until(Ticks(to)) {
         None => 0,
-        Some(arrival) => match arrival.frame.as_slice() {
-            [mark] => *mark,
-            _ => 255,
-        },
+        Some(arrival) => mark_of(arrival.frame.as_slice()),
     }
 }
 

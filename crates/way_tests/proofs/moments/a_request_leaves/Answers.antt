@@ -1,5 +1,5 @@
 use Rattle.air_source.specs.declared.events.Side.TheVariants.{Du}
-use Rattle.measured_moments.proofs.tests.a_request_leaves.Goals as goal
+use Rattle.way_tests.proofs.moments.a_request_leaves.Goals as goal
 
 pub begin-requires : goal.begin-requires
 begin-requires g c = (c.expect-doc.result, c.in_ok-meters.ensures)

@@ -2,28 +2,19 @@
 ghost use Rattle.std.specs.Prelude.{◌≡◌};
 ghost use Rattle.delay_measure.specs.Kept.{answer_at};
 
-use crate::{Meters, send_made};
+use crate::built::answer;
 use air_source::Side;
-use delay_exchange::fh_document::read;
 use delay_measure::{Edge, Kind};
 use fh_time::{Ticks, of_ns};
-use frame_network::FramePool;
-use frame_ways::Way;
+use measured_moments::fh_document::read;
+use measured_moments::frame_ways::Way;
+use measured_moments::{Meters, send_made};
+use send_queue::frame_network::FramePool;
 use std::test::Fail;
 
 /// The distributed unit's measurement begins first, though its line is the second.
 const TEXT: &[u8] =
     b"fronthaul 1\ntransit m 30\nmeasure ru 9 one 2000000\nmeasure du 7 one 1000000\n";
-
-/// The compensation of an edge, in units of 2^-16 ns.
-fn answer(sending: i64, receiving: i64, edge: Edge) -> i64
-    ensures { result ≡ answer_at sending receiving edge }
-{
-    match edge {
-        Edge::Sending => sending,
-        Edge::Receiving => receiving,
-    }
-}
 
 #[test]
 fn a_request_leaves(rt: HostRuntime) -> Result<(), Fail> {

@@ -1,0 +1,22 @@
+//! Tests of what stands between both units, by the public calls of `frame_network`, `send_queue`, `frame_ways`, `measured_moments`,
+//! `delay_exchange` and `frame_deliveries`, which are proved without them.
+#![tactic(auto)]
+
+#[cfg(test)]
+mod built;
+#[cfg(test)]
+mod deliveries;
+#[cfg(test)]
+mod flights;
+#[cfg(test)]
+mod listed;
+#[cfg(test)]
+mod meters;
+#[cfg(test)]
+mod moments;
+#[cfg(test)]
+mod pooled;
+#[cfg(test)]
+mod queues;
+#[cfg(test)]
+mod ways;
