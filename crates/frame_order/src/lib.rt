@@ -7,8 +7,6 @@
 
 mod laws;
 mod queue;
-#[cfg(test)]
-mod tests;
 mod turns;
 
 pub use laws::frames_leave_in_time;

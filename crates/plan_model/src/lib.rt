@@ -21,6 +21,3 @@ pub use refusals::PlanWhy;
 pub use sizes::{frame_count, section_size};
 pub use streams::Stream;
 pub use unit_model;
-
-#[cfg(test)]
-mod tests;

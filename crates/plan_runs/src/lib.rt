@@ -5,8 +5,6 @@ mod cutting;
 mod laws;
 mod limits;
 mod open_messages;
-#[cfg(test)]
-mod tests;
 
 pub use cutting::{Messages, stream_messages};
 pub use laws::parts_make_runs;

@@ -14,6 +14,3 @@ mod walking;
 pub use plan_parts::plan_model;
 pub use slot_rings::air_source;
 pub use testing::{PlanRefusal, tested};
-
-#[cfg(test)]
-mod tests;

@@ -3,7 +3,7 @@
 ghost use Rattle.std.specs.Prelude.{pos, ◌≤ℤ◌};
 
 use crate::steps::{
-    Wanted, all_given, checked, command, config, data, dynamic16, endpoint, line, long_command,
+    Wanted, all_given, checked, command, config, data, endpoint, line, long_command, of_format,
     of_prbs, put, with_beam,
 };
 use eaxc_map::Widths;
@@ -11,6 +11,7 @@ use fh_base::List;
 use fh_time::Numerology;
 use std::test::Fail;
 use window_config::PlanKind;
+use window_config::bfp_codec::Method;
 
 /// Section type 0 of an `idle` line, which has no beamId; nothing else is sent for it.
 #[test]
@@ -84,7 +85,7 @@ fn offset_endpoints_have_their_times(rt: HostRuntime) -> Result<(), Fail> {
 fn dynamic_formats_are_told(rt: HostRuntime) -> Result<(), Fail> {
     let n = Numerology::ordinary(1).expect(&rt, "30 kHz");
     let c = config(
-        dynamic16(endpoint(n)),
+        of_format(endpoint(n), true, Method::Bfp(16)),
         Widths::new(4, 4, 4, 4)?,
         1_000,
         1_492,

@@ -181,7 +181,7 @@ fn a_message_carries_two_sections(rt: HostRuntime) -> Result<(), Fail> {
 #[test]
 fn what_leaves_together_is_in_order(rt: HostRuntime) -> Result<(), Fail> {
     let n = Numerology::ordinary(1).expect(&rt, "30 kHz");
-    let c = of_two(endpoint(n), Widths::new(4, 4, 4, 4)?);
+    let c = of_two(endpoint(n), Widths::new(4, 4, 4, 4)?, 0);
     let mut lines = List::new(rt.alloc());
     put(&mut lines, line(PlanKind::Up, 0, (0, 1), 3))?;
     put(&mut lines, at_id(line(PlanKind::Down, 0, (0, 1), 2), 1))?;

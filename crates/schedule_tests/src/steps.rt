@@ -1,18 +1,19 @@
 // What the tests need: configurations and lines, and a plan that is asked for its next frame.
 ghost use Rattle.std.specs.Prelude.{◌≡◌, ◌<◌, ◌≤◌, ◌+◌, ◌^◌, ◌++◌, ◌∷◌, [], pos, neg_ℤ, ◌≤ℤ◌, All, IfOk, OnOk, length};
+ghost use Rattle.window_config.specs.bfp_codec.specs.Layout.{HasWidth};
 ghost use Rattle.window_config.specs.Configs.{IsConfig};
 ghost use Rattle.window_config.specs.Endpoints.{IsEndpoint};
-ghost use Rattle.window_config.specs.Limits.{IsTime};
+ghost use Rattle.window_config.specs.Limits.{IsTime, IsWithinLimits};
 ghost use Rattle.window_config.specs.Plans.{IsPlanLine};
 ghost use Rattle.du_scheduler.specs.Plans.{IsPlan};
 
-use air_source::{RePlace, Samples};
-use bfp_codec::{Format, Method, Wide};
+use du_scheduler::plan_tests::air_source::{RePlace, Samples};
 use du_scheduler::{Plan, PlanRefusal, Plane};
 use eaxc_map::Widths;
 use fh_base::{List, NoMemory};
 use fh_time::{Numerology, Slot, Ticks};
 use std::alloc::Global;
+use window_config::bfp_codec::{Format, Method, Wide};
 use window_config::{Config, Delays, EndpointConfig, EndpointList, PlanKind, PlanLine};
 
 /// An endpoint of id 0 with 106 PRBs, without compression.
@@ -41,15 +42,13 @@ pub(crate) fn of_prbs(e: EndpointConfig, prbs: u16) -> EndpointConfig
     EndpointConfig { prbs, ..e }
 }
 
-/// The endpoint with a dynamic format of 16 bit mantissas.
-pub(crate) fn dynamic16(e: EndpointConfig) -> EndpointConfig
-    requires { IsEndpoint e }
+/// The endpoint with this format.
+pub(crate) fn of_format(e: EndpointConfig, dynamic: bool, method: Method) -> EndpointConfig
+    requires endpoint { IsEndpoint e }
+    requires width { HasWidth method }
     ensures { IsEndpoint result }
 {
-    let format = Format {
-        dynamic: true,
-        method: Method::Bfp(16),
-    };
+    let format = Format { dynamic, method };
     EndpointConfig { format, ..e }
 }
 
@@ -95,16 +94,26 @@ pub(crate) fn config(
     }
 }
 
-/// The usual values, without a gap, and two like endpoints of ids 0 and 1.
-pub(crate) fn of_two(e: EndpointConfig, widths: Widths) -> Config
+/// The usual values, with this gap, and two like endpoints of ids 0 and 1.
+pub(crate) fn of_two(e: EndpointConfig, widths: Widths, gap: i64) -> Config
     requires endpoint { IsEndpoint e }
     requires id { e.id ≡ 0 }
+    requires gap { IsTime gap }
     ensures { IsConfig result }
 {
     Config {
         endpoints: two_listed(e, EndpointConfig { id: 1, ..e }),
-        ..config(e, widths, 0, 1_492, 1)
+        ..config(e, widths, gap, 1_492, 1)
     }
+}
+
+/// The configuration with these times.
+pub(crate) fn with_delays(config: Config, delays: Delays) -> Config
+    requires config { IsConfig config }
+    requires delays { IsWithinLimits delays }
+    ensures { IsConfig result }
+{
+    Config { delays, ..config }
 }
 
 /// A line of some PRBs in one symbol of slot 0 of frame 1, at the endpoint of id 0.
@@ -167,6 +176,36 @@ pub(crate) fn in_subframe(line: PlanLine, subframe: u8) -> PlanLine
         },
         ..line
     }
+}
+
+/// The line in this slot of its subframe.
+pub(crate) fn in_slot(line: PlanLine, slot: u8) -> PlanLine
+    requires line { IsPlanLine line }
+    requires slot { slot < 2 ^ 6 }
+    ensures { IsPlanLine result }
+{
+    PlanLine {
+        slot: Slot { slot, ..line.slot },
+        ..line
+    }
+}
+
+/// The line in so many symbols.
+pub(crate) fn of_symbols(line: PlanLine, count: u8) -> PlanLine
+    requires line { IsPlanLine line }
+    requires count { count < 2 ^ 4 }
+    ensures { IsPlanLine result }
+{
+    PlanLine { count, ..line }
+}
+
+/// The line with this reMask.
+pub(crate) fn with_mask(line: PlanLine, mask: u16) -> PlanLine
+    requires line { IsPlanLine line }
+    requires mask { mask < 2 ^ 12 }
+    ensures { IsPlanLine result }
+{
+    PlanLine { mask, ..line }
 }
 
 /// The line with this beamId.

@@ -8,8 +8,6 @@
 
 mod commands;
 mod data;
-#[cfg(test)]
-mod tests;
 
 pub use commands::command_frame;
 pub use data::{Fragment, data_frame, data_section};

@@ -6,8 +6,6 @@
 
 mod laws;
 mod queues;
-#[cfg(test)]
-mod tests;
 
 pub use laws::{messages_are_runs, sent_is_in_order};
 pub use queues::queue_of;

@@ -1,6 +1,6 @@
 use Rattle.std.specs.Prelude.{All}
 use Rattle.window_config.specs.Plans.{IsPlanLine}
-use Rattle.plan_tests.proofs.tests.nineteen.Given as goal
+use Rattle.schedule_tests.proofs.refusals.backwards.Given as goal
 
 abbrev pub invariant-loop-k : goal.invariant-loop-k
 invariant-loop-k l = All IsPlanLine l.lines

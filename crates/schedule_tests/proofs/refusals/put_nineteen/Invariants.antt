@@ -1,6 +1,6 @@
 use Rattle.std.specs.Prelude.{All}
 use Rattle.window_config.specs.Plans.{IsPlanLine}
-use Rattle.plan_tests.proofs.tests.uplinks.Given as goal
+use Rattle.schedule_tests.proofs.refusals.put_nineteen.Given as goal
 
 abbrev pub invariant-loop-k : goal.invariant-loop-k
 invariant-loop-k l = All IsPlanLine l.lines

@@ -1,5 +1,5 @@
 use Rattle.frame_order.specs.Queues.{IsQueue}
-use Rattle.frame_order.proofs.tests.messages_take_turns.Given as goal
+use Rattle.schedule_tests.proofs.runs.messages_take_turns.Given as goal
 
 abbrev pub invariant-loop-turn : goal.invariant-loop-turn
 invariant-loop-turn g l = IsQueue l.queue

@@ -1,57 +1,40 @@
 // Frames of planned lines, written out by hand from the layout tables.
 ghost use Rattle.std.specs.Prelude.{◌≡◌, ◌<◌, ◌≤ℤ◌, pos, neg_ℤ};
-ghost use Rattle.bfp_codec.specs.Layout.{HasWidth};
+ghost use Rattle.window_config.specs.bfp_codec.specs.Layout.{HasWidth};
 ghost use Rattle.window_config.specs.Endpoints.{IsEndpoint};
 ghost use Rattle.window_config.specs.Plans.{IsPlanLine};
 
-use crate::{Fragment, command_frame, data_frame, data_section};
-use bfp_codec::{Format, Method, Wide};
+use crate::steps::{at_id, endpoint, in_frame, in_slot, in_subframe, line, of_format, with_beam};
+use du_scheduler::plan_tests::air_source::{RePlace, Samples};
+use du_scheduler::plan_tests::plan_model::PlannedLine;
 use fh_time::{Numerology, Slot};
-use frame_bytes::DataSection;
-use schedule_laws::air_source::{RePlace, Samples};
-use schedule_laws::plan_model::PlannedLine;
+use sent_frames::frame_bytes::DataSection;
+use sent_frames::{Fragment, command_frame, data_frame, data_section};
 use std::test::Fail;
+use window_config::bfp_codec::{Format, Method, Wide};
 use window_config::{EndpointConfig, PlanKind, PlanLine};
 
-/// A line of one PRB and one symbol in frame 1.
+/// A line of one PRB and one symbol in frame 1, at an endpoint of id 0x1234.
 fn planned(kind: PlanKind, numerology: Numerology, dynamic: bool, method: Method) -> PlannedLine
     requires { HasWidth method }
     ensures line { IsPlanLine result.line }
     ensures endpoint { IsEndpoint result.endpoint }
-    ensures format { result.endpoint.format.method ≡ method }
-    ensures dynamic { result.endpoint.format.dynamic ≡ dynamic }
-    ensures prbs { result.endpoint.prbs ≡ 106 }
 {
+    let formatted = of_format(endpoint(numerology), dynamic, method);
+    let here = in_slot(in_subframe(line(kind, 3, (5, 1), 7), 2), 1);
     PlannedLine {
         index: 0,
         ep: 0,
         endpoint: EndpointConfig {
             id: 0x1234,
-            numerology,
-            prbs: 106,
-            format: Format { dynamic, method },
+            ..formatted
         },
-        line: PlanLine {
-            kind,
-            id: 0x1234,
-            slot: Slot {
-                frame: 1,
-                subframe: 2,
-                slot: 1,
-            },
-            symbol: 3,
-            count: 1,
-            start_prb: 5,
-            num_prb: 1,
-            mask: 0xfff,
-            section: 7,
-            beam: 9,
-        },
+        line: at_id(with_beam(here, 9), 0x1234),
     }
 }
 
 /// The line in this frame.
-fn in_frame(p: PlannedLine, frame: i64) -> PlannedLine
+fn planned_in(p: PlannedLine, frame: i64) -> PlannedLine
     requires line { IsPlanLine p.line }
     requires endpoint { IsEndpoint p.endpoint }
     requires low { pos 1 ≤ℤ frame }
@@ -59,12 +42,8 @@ fn in_frame(p: PlannedLine, frame: i64) -> PlannedLine
     ensures line { IsPlanLine result.line }
     ensures endpoint { IsEndpoint result.endpoint }
 {
-    let slot = Slot {
-        frame,
-        ..p.line.slot
-    };
     PlannedLine {
-        line: PlanLine { slot, ..p.line },
+        line: in_frame(p.line, frame),
         ..p
     }
 }
@@ -83,9 +62,9 @@ fn a_downlink_command(rt: HostRuntime) -> Result<(), Fail> {
     assert_eq!(rt; room[..size.min(40)], wanted[..]);
 
     // Frame 256 has frameId 0, and frame 99,999 has 159.
-    command_frame(&in_frame(p, 256), 0, &mut room);
+    command_frame(&planned_in(p, 256), 0, &mut room);
     assert_eq!(rt; room[9], 0);
-    command_frame(&in_frame(p, 99_999), 0, &mut room);
+    command_frame(&planned_in(p, 99_999), 0, &mut room);
     assert_eq!(rt; room[9], 159);
     Ok(())
 }

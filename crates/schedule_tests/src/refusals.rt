@@ -1,73 +1,54 @@
-// Plans that were worked out by hand. Lines are named by their places, from 0.
-ghost use Rattle.std.specs.Prelude.{◌≡◌, ◌<◌, ◌≤◌, ◌+◌, ◌^◌, pos, ◌≤ℤ◌, ◌∷◌, [], All, IfOk, OnOk};
+// Plans whose lines are refused, or just not, worked out by hand. Lines are named by their places, from 0.
+ghost use Rattle.std.specs.Prelude.{◌<◌, ◌≤◌, ◌^◌, All, IfOk};
 ghost use Rattle.window_config.specs.Configs.{IsConfig};
 ghost use Rattle.window_config.specs.Endpoints.{IsEndpoint};
-ghost use Rattle.window_config.specs.Limits.{IsTime};
+ghost use Rattle.window_config.specs.Limits.{IsTime, IsWithinLimits};
 ghost use Rattle.window_config.specs.Plans.{IsPlanLine};
 
-use crate::{PlanRefusal, tested};
-use bfp_codec::{Format, Method};
+use crate::steps::{
+    at_id, config, endpoint, in_slot, line, of_prbs, of_symbols, of_two, put, with_delays,
+    with_mask,
+};
+use du_scheduler::plan_tests::tested;
+use du_scheduler::{PlanRefusal, PlanWhy};
 use eaxc_map::Widths;
 use fh_base::{List, NoMemory};
-use fh_time::{Numerology, Slot};
-use plan_parts::plan_model::PlanWhy;
+use fh_time::Numerology;
 use std::alloc::Global;
 use std::test::Fail;
-use window_config::{Config, Delays, EndpointConfig, EndpointList, PlanKind, PlanLine, Range};
+use window_config::{Config, Delays, EndpointConfig, PlanKind, PlanLine, Range};
 
-/// One endpoint of id 0, without compression.
-fn endpoint(numerology: Numerology, prbs: u16) -> EndpointConfig
-    requires some { 1 ≤ prbs }
-    requires few { prbs ≤ 273 }
-    ensures limits { IsEndpoint result }
-    ensures id { result.id ≡ 0 }
+/// The usual times but for `hold` of the downlink.
+fn held(hold_dl: i64) -> Delays
+    requires { IsTime hold_dl }
+    ensures { IsWithinLimits result }
 {
-    EndpointConfig {
-        id: 0,
-        numerology,
-        prbs,
-        format: Format {
-            dynamic: false,
-            method: Method::Plain,
-        },
+    Delays {
+        hold_dl,
+        ..Delays::usual()
     }
 }
 
-fn listed(e: EndpointConfig) -> EndpointList
-    ensures { result ≡ e ∷ [] }
+/// The same with no time in the network to the radio unit.
+fn held_at_once(hold_dl: i64) -> Delays
+    requires { IsTime hold_dl }
+    ensures { IsWithinLimits result }
 {
-    let mut endpoints = EndpointList::new();
-    let _room = endpoints.push(e);
-    endpoints
+    Delays {
+        t12: Range { min: 0, max: 0 },
+        ..held(hold_dl)
+    }
 }
 
-fn two_listed(a: EndpointConfig, b: EndpointConfig) -> EndpointList
-    ensures { result ≡ a ∷ b ∷ [] }
-{
-    let mut endpoints = listed(a);
-    let _room = endpoints.push(b);
-    endpoints
-}
-
-/// The usual times but for `hold` of the downlink.
-fn config(e: EndpointConfig, widths: Widths, hold_dl: i64, pack: usize) -> Config
+/// The usual values but for `hold` of the downlink, with a gap of 1,000 ns.
+fn holding(e: EndpointConfig, widths: Widths, hold_dl: i64, pack: usize) -> Config
     requires endpoint { IsEndpoint e }
     requires hold { IsTime hold_dl }
     requires some { 1 ≤ pack }
     requires few { pack ≤ 64 }
     ensures { IsConfig result }
 {
-    Config {
-        widths,
-        delays: Delays {
-            hold_dl,
-            ..Delays::usual()
-        },
-        gap: 1_000,
-        fragment: 1_492,
-        pack,
-        endpoints: listed(e),
-    }
+    with_delays(config(e, widths, 1_000, 1_492, pack), held(hold_dl))
 }
 
 /// The same with a gap of 2 ms and no time in the network: what is behind a symbol's first frame leaves at the window's end.
@@ -76,55 +57,10 @@ fn slow(e: EndpointConfig, widths: Widths, hold_dl: i64) -> Config
     requires hold { IsTime hold_dl }
     ensures { IsConfig result }
 {
-    let usual = config(e, widths, hold_dl, 1);
-    Config {
-        gap: 2_000_000,
-        delays: Delays {
-            t12: Range { min: 0, max: 0 },
-            ..usual.delays
-        },
-        ..usual
-    }
-}
-
-/// The usual times, `hold` at the edge, and two like endpoints of ids 0 and 1.
-fn of_two(e: EndpointConfig, widths: Widths) -> Config
-    requires endpoint { IsEndpoint e }
-    requires id { e.id ≡ 0 }
-    ensures { IsConfig result }
-{
-    Config {
-        endpoints: two_listed(e, EndpointConfig { id: 1, ..e }),
-        ..config(e, widths, 373_323, 1)
-    }
-}
-
-/// A line in one slot of frame 1.
-fn line(kind: PlanKind, slot: u8, symbols: (u8, u8), prbs: (u16, u8), named: (u16, u16)) -> PlanLine
-    requires slot { slot < 2 ^ 6 }
-    requires symbol { symbols.0 < 2 ^ 6 }
-    requires count { symbols.1 < 2 ^ 4 }
-    requires prb { prbs.0 < 2 ^ 10 }
-    requires mask { named.0 < 2 ^ 12 }
-    requires section { named.1 < 2 ^ 12 }
-    ensures { IsPlanLine result }
-{
-    PlanLine {
-        kind,
-        id: 0,
-        slot: Slot {
-            frame: 1,
-            subframe: 0,
-            slot,
-        },
-        symbol: symbols.0,
-        count: symbols.1,
-        start_prb: prbs.0,
-        num_prb: prbs.1,
-        mask: named.0,
-        section: named.1,
-        beam: 0,
-    }
+    with_delays(
+        config(e, widths, 2_000_000, 1_492, 1),
+        held_at_once(hold_dl),
+    )
 }
 
 /// A downlink line of one PRB in symbol 0.
@@ -133,7 +69,7 @@ fn one(mask: u16, section: u16) -> PlanLine
     requires section { section < 2 ^ 12 }
     ensures { IsPlanLine result }
 {
-    line(PlanKind::Down, 0, (0, 1), (0, 1), (mask, section))
+    with_mask(line(PlanKind::Down, 0, (0, 1), section), mask)
 }
 
 /// Tests two lines.
@@ -154,17 +90,6 @@ fn both(
     tested(alloc, config, &lines)
 }
 
-/// Nineteen lines of one PRB, each in all 14 symbols of one slot.
-fn nineteen(alloc: Global) -> Result<List<PlanLine>, NoMemory>
-    ensures { IfOk result (λ lines. All IsPlanLine lines) }
-{
-    let mut lines = List::new(alloc);
-    for k in 0..19 {
-        lines.push(line(PlanKind::Down, 0, (0, 14), (k, 1), (0xfff, k + 1)))?;
-    }
-    Ok(lines)
-}
-
 /// So many uplink lines of one PRB each in one slot.
 fn uplinks(alloc: Global, count: u16) -> Result<List<PlanLine>, NoMemory>
     requires { count ≤ 100 }
@@ -172,19 +97,9 @@ fn uplinks(alloc: Global, count: u16) -> Result<List<PlanLine>, NoMemory>
 {
     let mut lines = List::new(alloc);
     for k in 0..count {
-        lines.push(line(PlanKind::Up, 0, (0, 1), (k, 1), (0xfff, k)))?;
+        put(&mut lines, line(PlanKind::Up, 0, (k, 1), k))?;
     }
     Ok(lines)
-}
-
-/// Appends a line.
-fn put(lines: &mut List<PlanLine>, line: PlanLine) -> Result<(), NoMemory>
-    requires lines { All IsPlanLine lines.old }
-    requires line { IsPlanLine line }
-    ensures { All IsPlanLine lines.new }
-{
-    lines.push(line)?;
-    Ok(())
 }
 
 /// So many lines of one PRB each, all in these symbols of one slot.
@@ -196,7 +111,8 @@ fn lines_in(alloc: Global, symbols: (u8, u8), count: u16) -> Result<List<PlanLin
 {
     let mut lines = List::new(alloc);
     for k in 0..count {
-        lines.push(line(PlanKind::Down, 0, symbols, (k, 1), (0xfff, k)))?;
+        let here = line(PlanKind::Down, symbols.0, (k, 1), k);
+        put(&mut lines, of_symbols(here, symbols.1))?;
     }
     Ok(lines)
 }
@@ -215,10 +131,20 @@ fn put_nineteen(
     ensures { All IsPlanLine lines.new }
 {
     for k in 0..19 {
-        let here = line(PlanKind::Down, slot, symbols, (k, 1), (0xfff, k + 1));
-        lines.push(PlanLine { id, ..here })?;
+        let first = line(PlanKind::Down, symbols.0, (k, 1), k + 1);
+        let here = in_slot(of_symbols(first, symbols.1), slot);
+        put(lines, at_id(here, id))?;
     }
     Ok(())
+}
+
+/// Nineteen lines of one PRB, each in all 14 symbols of one slot.
+fn nineteen(alloc: Global) -> Result<List<PlanLine>, NoMemory>
+    ensures { IfOk result (λ lines. All IsPlanLine lines) }
+{
+    let mut lines = List::new(alloc);
+    put_nineteen(&mut lines, 0, 0, (0, 14))?;
+    Ok(lines)
 }
 
 /// Nineteen lines in each symbol of a slot, of one PRB and symbol each, the last symbol's first.
@@ -237,10 +163,7 @@ fn at_two(alloc: Global, later: u16, sooner: u16) -> Result<List<PlanLine>, NoMe
     ensures { IfOk result (λ lines. All IsPlanLine lines) }
 {
     let mut lines = List::new(alloc);
-    lines.push(PlanLine {
-        id: later,
-        ..one(0xfff, 1)
-    })?;
+    put(&mut lines, at_id(one(0xfff, 1), later))?;
     put_nineteen(&mut lines, later, 1, (0, 14))?;
     put_nineteen(&mut lines, sooner, 0, (0, 14))?;
     Ok(lines)
@@ -254,7 +177,7 @@ fn refused(index: usize, why: PlanWhy) -> Result<(), PlanRefusal> {
 fn lines_are_tested_one_after_the_other(rt: HostRuntime) -> Result<(), Fail> {
     let widths = Widths::new(4, 4, 4, 4).expect(&rt, "16 bits");
     let n = Numerology::ordinary(1).expect(&rt, "30 kHz");
-    let c = config(endpoint(n, 106), widths, 211_000, 1);
+    let c = holding(endpoint(n), widths, 211_000, 1);
     let alloc = rt.alloc();
     // twice the same; two section ids in one cell, and one; numPrb 0 with PRB 1023 and the carrier's last PRB
     assert_eq!(rt;
@@ -266,20 +189,20 @@ fn lines_are_tested_one_after_the_other(rt: HostRuntime) -> Result<(), Fail> {
         refused(1, PlanWhy::Overlap)
     );
     assert_eq!(rt; both(alloc, &c, one(0xf00, 1), one(0x00f, 1)), Ok(()));
-    let all = line(PlanKind::Down, 0, (0, 1), (1023, 0), (0xfff, 1));
-    let last = line(PlanKind::Down, 0, (0, 1), (105, 1), (0xfff, 1));
+    let all = line(PlanKind::Down, 0, (1023, 0), 1);
+    let last = line(PlanKind::Down, 0, (105, 1), 1);
     assert_eq!(rt; both(alloc, &c, all, last), refused(1, PlanWhy::Overlap));
     // dl and idle in one cell, dl and ul in one
-    let idle = line(PlanKind::Idle, 0, (0, 1), (0, 1), (0xfff, 1));
-    let up = line(PlanKind::Up, 0, (0, 1), (0, 1), (0xfff, 1));
+    let idle = line(PlanKind::Idle, 0, (0, 1), 1);
+    let up = line(PlanKind::Up, 0, (0, 1), 1);
     assert_eq!(rt;
         both(alloc, &c, one(0xfff, 1), idle),
         refused(1, PlanWhy::Overlap)
     );
     assert_eq!(rt; both(alloc, &c, one(0xfff, 1), up), Ok(()));
     // 30 kHz has the slots 0 and 1; an unknown id is named before it, and behind a line that overlaps
-    let slot_2 = line(PlanKind::Down, 2, (0, 1), (0, 1), (0xfff, 1));
-    let unknown = PlanLine { id: 1, ..slot_2 };
+    let slot_2 = in_slot(one(0xfff, 1), 2);
+    let unknown = at_id(slot_2, 1);
     assert_eq!(rt;
         both(alloc, &c, slot_2, unknown),
         refused(0, PlanWhy::Range)
@@ -293,8 +216,8 @@ fn lines_are_tested_one_after_the_other(rt: HostRuntime) -> Result<(), Fail> {
         refused(1, PlanWhy::UnknownEndpoint)
     );
     // a slot's last symbol, and one more
-    let edge = line(PlanKind::Down, 1, (13, 1), (0, 1), (0xfff, 1));
-    let past = line(PlanKind::Down, 1, (13, 2), (0, 1), (0xfff, 1));
+    let edge = in_slot(line(PlanKind::Down, 13, (0, 1), 1), 1);
+    let past = of_symbols(edge, 2);
     assert_eq!(rt; both(alloc, &c, edge, past), refused(1, PlanWhy::Range));
     Ok(())
 }
@@ -303,7 +226,7 @@ fn lines_are_tested_one_after_the_other(rt: HostRuntime) -> Result<(), Fail> {
 fn a_slot_takes_64_uplink_lines(rt: HostRuntime) -> Result<(), Fail> {
     let widths = Widths::new(4, 4, 4, 4).expect(&rt, "16 bits");
     let n = Numerology::ordinary(1).expect(&rt, "30 kHz");
-    let c = config(endpoint(n, 106), widths, 211_000, 1);
+    let c = holding(endpoint(n), widths, 211_000, 1);
     let alloc = rt.alloc();
     assert_eq!(rt; tested(alloc, &c, &uplinks(alloc, 64)?), Ok(()));
     let full = refused(64, PlanWhy::TooManySections);
@@ -318,29 +241,29 @@ fn messages_are_dense_at_an_edge(rt: HostRuntime) -> Result<(), Fail> {
     let lines = nineteen(alloc)?;
     // symbols of 68,750 ns: message 256, the tenth of symbol 13, leaves 902,750 ns behind message 0
     let offset = Numerology::offset(0, 0, 64).expect(&rt, "15 kHz");
-    let e = endpoint(offset, 106);
+    let e = endpoint(offset);
     assert_eq!(rt;
-        tested(alloc, &config(e, widths, 802_749, 1), &lines),
+        tested(alloc, &holding(e, widths, 802_749, 1), &lines),
         Ok(())
     );
     let dense = refused(9, PlanWhy::SequenceDense);
     assert_eq!(rt;
-        tested(alloc, &config(e, widths, 802_750, 1), &lines),
+        tested(alloc, &holding(e, widths, 802_750, 1), &lines),
         dense
     );
     // two sections a message: 140 messages
     assert_eq!(rt;
-        tested(alloc, &config(e, widths, 802_750, 2), &lines),
+        tested(alloc, &holding(e, widths, 802_750, 2), &lines),
         Ok(())
     );
     let n = Numerology::ordinary(1).expect(&rt, "30 kHz");
-    let e = endpoint(n, 106);
+    let e = endpoint(n);
     assert_eq!(rt;
-        tested(alloc, &config(e, widths, 373_322, 1), &lines),
+        tested(alloc, &holding(e, widths, 373_322, 1), &lines),
         Ok(())
     );
     assert_eq!(rt;
-        tested(alloc, &config(e, widths, 373_323, 1), &lines),
+        tested(alloc, &holding(e, widths, 373_323, 1), &lines),
         dense
     );
     Ok(())
@@ -351,7 +274,7 @@ fn density_is_tested_last(rt: HostRuntime) -> Result<(), Fail> {
     let widths = Widths::new(4, 4, 4, 4).expect(&rt, "16 bits");
     let n = Numerology::ordinary(1).expect(&rt, "30 kHz");
     let alloc = rt.alloc();
-    let c = config(endpoint(n, 106), widths, 373_323, 1);
+    let c = holding(endpoint(n), widths, 373_323, 1);
     let mut lines = nineteen(alloc)?;
     assert_eq!(rt;
         tested(alloc, &c, &lines),
@@ -360,15 +283,12 @@ fn density_is_tested_last(rt: HostRuntime) -> Result<(), Fail> {
     // one line more, on the last one's cell
     put(
         &mut lines,
-        line(PlanKind::Down, 0, (13, 1), (18, 1), (0x001, 19)),
+        with_mask(line(PlanKind::Down, 13, (18, 1), 19), 0x001),
     )?;
     assert_eq!(rt; tested(alloc, &c, &lines), refused(19, PlanWhy::Overlap));
     // a 65th uplink line, which also overlaps
     let mut lines = uplinks(alloc, 64)?;
-    put(
-        &mut lines,
-        line(PlanKind::Up, 0, (0, 1), (0, 1), (0xfff, 0)),
-    )?;
+    put(&mut lines, line(PlanKind::Up, 0, (0, 1), 0))?;
     assert_eq!(rt; tested(alloc, &c, &lines), refused(64, PlanWhy::Overlap));
     Ok(())
 }
@@ -379,12 +299,9 @@ fn a_message_may_leave_before_an_earlier_one(rt: HostRuntime) -> Result<(), Fail
     let n = Numerology::ordinary(1).expect(&rt, "30 kHz");
     let alloc = rt.alloc();
     let mut lines = lines_in(alloc, (0, 1), 257)?;
-    put(
-        &mut lines,
-        line(PlanKind::Down, 0, (1, 1), (0, 1), (0xfff, 1)),
-    )?;
+    put(&mut lines, line(PlanKind::Down, 1, (0, 1), 1))?;
     // message 1 waits for the window's end, 111,000 ns; message 257 leaves a symbol of 36,198 ns later, and without a wait
-    let e = endpoint(n, 273);
+    let e = of_prbs(endpoint(n), 273);
     assert_eq!(rt; tested(alloc, &slow(e, widths, 74_000), &lines), Ok(()));
     let near = slow(e, widths, 75_000);
     assert_eq!(rt;
@@ -399,9 +316,9 @@ fn messages_are_numbered_symbol_by_symbol(rt: HostRuntime) -> Result<(), Fail> {
     let widths = Widths::new(4, 4, 4, 4).expect(&rt, "16 bits");
     let n = Numerology::ordinary(1).expect(&rt, "30 kHz");
     let alloc = rt.alloc();
-    let e = endpoint(n, 106);
-    let apart = config(e, widths, 373_322, 1);
-    let near = config(e, widths, 373_323, 1);
+    let e = endpoint(n);
+    let apart = holding(e, widths, 373_322, 1);
+    let near = holding(e, widths, 373_323, 1);
     // message 256 is the tenth of symbol 13, whose lines stand first
     let lines = backwards(alloc)?;
     assert_eq!(rt; tested(alloc, &apart, &lines), Ok(()));
@@ -411,9 +328,9 @@ fn messages_are_numbered_symbol_by_symbol(rt: HostRuntime) -> Result<(), Fail> {
     );
     // two sections a message: nineteen messages in each symbol, the tenth of lines 18 and 19
     let lines = lines_in(alloc, (0, 14), 38)?;
-    let packed = config(e, widths, 373_322, 2);
+    let packed = holding(e, widths, 373_322, 2);
     assert_eq!(rt; tested(alloc, &packed, &lines), Ok(()));
-    let packed = config(e, widths, 373_323, 2);
+    let packed = holding(e, widths, 373_323, 2);
     assert_eq!(rt;
         tested(alloc, &packed, &lines),
         refused(18, PlanWhy::SequenceDense)
@@ -426,7 +343,7 @@ fn the_least_number_is_named(rt: HostRuntime) -> Result<(), Fail> {
     let widths = Widths::new(4, 4, 4, 4).expect(&rt, "16 bits");
     let n = Numerology::ordinary(1).expect(&rt, "30 kHz");
     let alloc = rt.alloc();
-    let c = of_two(endpoint(n, 106), widths);
+    let c = with_delays(of_two(endpoint(n), widths, 1_000), held(373_323));
     // one endpoint is dense at 257, by line 10, the other at 256, by line 29
     let dense = refused(29, PlanWhy::SequenceDense);
     assert_eq!(rt; tested(alloc, &c, &at_two(alloc, 0, 1)?), dense);
