@@ -6,5 +6,6 @@ pub mod SeenLemmas
 pub mod RingLemmas
 pub mod RowLemmas
 pub mod PendingLemmas
+pub mod CountLemmas
 pub mod RunLemmas
 pub mod MarkedLemmas

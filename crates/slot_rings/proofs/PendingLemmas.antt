@@ -4,6 +4,7 @@ use Rattle.std.specs.Prelude.{◌||◌}
 use Rattle.std.proofs.lemmas.Bool.{cases_eq, cases_Bool, and_parts, eq-eqb, eqb-true}
 use Rattle.std.proofs.lemmas.List.{get_or_read}
 use Rattle.fh_time.specs.declared.values.Slot.{Slot}
+use Rattle.fh_time.specs.Numbering.{symbols_of}
 use Rattle.unit_model.specs.Claims.{cell_at, is_from, names, same_way}
 use Rattle.unit_model.specs.Lists.{some}
 use Rattle.unit_model.specs.Radiated.{is_used, used_below, used_mask}
@@ -12,13 +13,14 @@ use Rattle.unit_model.specs.declared.cells.Cell.{Cell}
 use Rattle.unit_model.specs.declared.cells.Claim.{Claim}
 use Rattle.unit_model.specs.declared.verdicts.CommandVerdict.TheVariants.{Accepted}
 use Rattle.slot_rings.specs.Pending.{IsFlagged, due_in, flag_at}
-use Rattle.slot_rings.specs.Places.{PlaceValue, blank, cell_number, claim_in, empty_place, is_due, is_in_use, is_of, no_marks, opened, place_claim}
-use Rattle.slot_rings.specs.Rings.{IsRing, RingValue, has_slot, ring_claim, ring_done}
+use Rattle.slot_rings.specs.Places.{PlaceValue, blank, cell_number, claim_in, empty_place, is_due, is_in_use, is_of, done_seen, marks_seen, no_marks, opened, place_claim}
+use Rattle.slot_rings.specs.Rings.{IsRing, RingValue, has_slot, place_index, place_of, ring_claim, ring_done}
 use Rattle.slot_rings.specs.Verdicts.{claim_after}
 use Rattle.slot_rings.specs.declared.marks.Marks.{Marks}
 use Rattle.slot_rings.proofs.PlaceLemmas.{no_claim}
 use Rattle.slot_rings.proofs.RangeLemmas.{some_at, some_from, some_same}
-use Rattle.slot_rings.proofs.RingLemmas.{put}
+use Rattle.slot_rings.proofs.SeenLemmas.{due_seen}
+use Rattle.slot_rings.proofs.RingLemmas.{index_within, put, symbols_are}
 
 pub unequal : (b : Bool) → b ≡ true → b ≡ false → ⊥
 unequal b p q = cc
@@ -235,6 +237,27 @@ unflagged r ep slot s quiet = sym (elim (cases_Bool (has_slot r slot)) [
   | inl has ↦ quiet has
   | inr none ↦ due_elsewhere r ep slot s none
 ])
+
+-- a symbol of a slot that has its place
+quiet_has : (r : RingValue) (ep : ℕ) (slot : Slot) (s : ℕ) → has_slot r slot ≡ true → due_in r.endpoint.prbs (place_of r slot) s ≡ false → ring_due r ep slot s ≡ false
+quiet_has r ep slot s has off =
+    sym (due_seen r slot s (cell_number r.endpoint.prbs s 0) ep (marks_seen (place_of r slot) slot true) (done_seen (place_of r slot) slot) refl refl refl)
+    ∙ rw has off
+
+-- a ring without a flag
+pub no_flags : (r v : RingValue) (flags : List (List Bool)) (ep : ℕ) (slot : Slot) (s : ℕ) → r ≡ v → IsRing r → IsFlagged r flags
+    → ((j k : ℕ) → j < length flags → k < 14 → flag_at flags j k ≡ false) → s < symbols_of v.endpoint.numerology → ring_due v ep slot s ≡ false
+no_flags r v flags ep slot s same ring flagged none within =
+    subst (λ (x : RingValue). ring_due x ep slot s ≡ false) same (elim (cases_Bool (has_slot r slot)) [
+      | inr other ↦ due_elsewhere r ep slot s other
+      | inl has ↦ quiet_has r ep slot s has (flagged.quiet (place_index r slot) s off)
+    ])
+  where
+    below : s < symbols_of r.endpoint.numerology
+    below = subst (λ (x : RingValue). s < symbols_of x.endpoint.numerology) (sym same) within
+
+    off : flag_at flags (place_index r slot) s ≡ false
+    off = none (place_index r slot) s (omega (arith, index_within r slot ring.some, flagged.size)) (omega (arith, symbols_are r.endpoint.numerology, below))
 
 -- ---- a ring of places that are no slot's
 

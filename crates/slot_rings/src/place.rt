@@ -268,6 +268,14 @@ impl Place {
         }
     }
 
+    /// How many accepted uplink sections it holds.
+    pub(crate) fn sections(&self) -> usize
+        ensures value { result ≡ length self.now.uplink }
+        ensures few { result ≤ 64 }
+    {
+        self.uplink.len()
+    }
+
     /// The verdict on an allocation that is on time.
     pub(crate) fn judge(&self, a: &Allocation) -> CommandVerdict
         requires prbs { a.now.endpoint.prbs ≡ self.now.prbs }

@@ -1,5 +1,5 @@
 // The ring of places.
-ghost use Rattle.std.specs.Prelude.{◌≡◌, ◌≢◌, ℕ, ◌+◌, ◌*◌, ◌<◌, ◌≤◌, ◌||◌, ◌↔◌, true, false, length, get_or, reverse, is_some, IfOk, IfSome, None, Some, option_copied};
+ghost use Rattle.std.specs.Prelude.{◌≡◌, ◌≢◌, ℕ, ◌+◌, ◌*◌, ◌<◌, ◌≤◌, ◌||◌, ◌↔◌, true, false, [], length, get_or, reverse, is_some, IfOk, IfSome, None, Some, option_copied};
 ghost use Rattle.bfp_codec.specs.Layout.{HasWidth};
 ghost use Rattle.fh_time.specs.declared.values.Slot.{Slot};
 ghost use Rattle.fh_time.specs.Numbering.{symbols_of};
@@ -15,7 +15,7 @@ ghost use Rattle.slot_rings.specs.Verdicts.{verdict_by, claim_after, uplink_afte
 use crate::index::place_index;
 use crate::lists::items_from;
 use crate::packed::PackedRun;
-use crate::pending::{clear_flag, is_flagged, make_flags, set_flags};
+use crate::pending::Flags;
 use crate::place::Place;
 use crate::scans::{all_there, any_due, block_at};
 use crate::symbol_cells::SymbolCells;
@@ -34,11 +34,14 @@ pub struct SlotRing {
     endpoint: EndpointConfig,
     places: Vec<Place>,
     // of each place, the symbols that may have downlink cells to report
-    pending: Vec<[bool; 14]>,
+    pending: Flags,
+    // how many uplink sections all places hold
+    sections: usize,
 }
 
 impl Model for SlotRing {
     ghost use Rattle.slot_rings.specs.Rings.{RingValue, IsRing};
+    ghost use Rattle.slot_rings.specs.Counts.{HasSections};
     ghost use Rattle.slot_rings.specs.Pending.{IsFlagged};
 
     ghost Value = { RingValue };
@@ -46,7 +49,8 @@ impl Model for SlotRing {
     ghost view = { λ r. record { endpoint = r.endpoint; places = r.places.items } };
 
     ghost invariant = { λ r. IsRing (record { endpoint = r.endpoint; places = r.places.items })
-        × IsFlagged (record { endpoint = r.endpoint; places = r.places.items }) r.pending.items };
+        × IsFlagged (record { endpoint = r.endpoint; places = r.places.items }) r.pending
+        × HasSections (record { endpoint = r.endpoint; places = r.places.items }) r.sections };
 }
 
 impl SlotRing {
@@ -68,11 +72,12 @@ impl SlotRing {
             let place = Place::make(alloc, endpoint.prbs)?;
             places.push(place)?;
         }
-        let pending = make_flags(alloc, slots)?;
+        let pending = Flags::make(alloc, slots)?;
         Ok(SlotRing {
             endpoint,
             places,
             pending,
+            sections: 0,
         })
     }
 
@@ -176,7 +181,22 @@ impl SlotRing {
         ensures { result ≡ false → (slot : Slot) → place_index self.now slot ≡ index → has_slot self.now slot ≡ true → (ep : ℕ) → some 0 self.now.endpoint.prbs (λ prb.
             is_due (ring_claim self.now (cell_at ep true slot symbol prb)) (ring_done self.now (cell_at ep true slot symbol prb))) ≡ false }
     {
-        is_flagged(&self.pending, index, symbol)
+        self.pending.has(index, symbol)
+    }
+
+    /// Whether any downlink cell may be in use and not reported, of any slot. It looks at one number.
+    pub fn has_pending(&self) -> bool
+        ensures { result ≡ false → (slot : Slot) (symbol : ℕ) → symbol < symbols_of self.now.endpoint.numerology → (ep : ℕ) → some 0 self.now.endpoint.prbs (λ prb.
+            is_due (ring_claim self.now (cell_at ep true slot symbol prb)) (ring_done self.now (cell_at ep true slot symbol prb))) ≡ false }
+    {
+        self.pending.has_any()
+    }
+
+    /// Whether any accepted uplink section is held, of any slot. It looks at one number.
+    pub fn has_uplink(&self) -> bool
+        ensures { result ≡ false → (slot : Slot) → ring_uplink self.now slot ≡ [] }
+    {
+        self.sections != 0
     }
 
     /// Whether a downlink cell of a symbol is in use and was not reported.
@@ -234,7 +254,11 @@ impl SlotRing {
         ensures ring { IsRing self.old }
     {
         let index = self.index(slot);
-        self.places[index].open(slot);
+        let place = &mut self.places[index];
+        let before = place.sections();
+        place.open(slot);
+        let after = place.sections();
+        self.sections = self.sections - before + after;
     }
 
     /// Claims in a slot's place.
@@ -254,8 +278,12 @@ impl SlotRing {
         ensures done { (place_of self.new a.now.slot).done ≡ (place_of self.old a.now.slot).done }
     {
         let index = self.index(a.slot);
-        self.places[index].claim(a);
-        set_flags(&mut self.pending, index, a);
+        let place = &mut self.places[index];
+        let before = place.sections();
+        place.claim(a);
+        let after = place.sections();
+        self.sections = self.sections - before + after;
+        self.pending.flag(index, a);
     }
 
     /// Gives a cell its block in a slot's place.
@@ -304,7 +332,7 @@ impl SlotRing {
         let index = self.index(slot);
         let all = count == self.endpoint.prbs;
         self.places[index].mark_used(number, count as usize);
-        clear_flag(&mut self.pending, index, symbol, all);
+        self.pending.settle(index, symbol, all);
     }
 
     /// Lets a slot have its place. What was kept of another slot in that place is forgotten; what was kept of this one stays.

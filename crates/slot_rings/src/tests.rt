@@ -223,12 +223,17 @@ fn claims_to_report(rt: HostRuntime) -> Result<(), Fail> {
     };
     assert_eq!(rt; take(&mut ring, &up), CommandVerdict::Accepted);
     assert!(rt; !pending(&ring, 1, 2));
+    assert!(rt; !ring.has_pending() && ring.has_uplink());
     assert_eq!(rt;
         take(&mut ring, &allocation(e, LAST)),
         CommandVerdict::Accepted
     );
     assert!(rt; pending(&ring, 1, 2) && pending(&ring, 1, 3));
     assert!(rt; !pending(&ring, 1, 1) && !pending(&ring, 1, 4) && !pending(&ring, 0, 2));
+    assert!(rt; ring.has_pending() && ring.has_uplink());
+    // the place of another slot holds no section of this one
+    ring.open(SECOND);
+    assert!(rt; !ring.has_uplink());
     Ok(())
 }
 
@@ -239,6 +244,7 @@ fn symbols_are_settled(rt: HostRuntime) -> Result<(), Fail> {
     assert!(rt; shape(&n).symbols == 14);
     let e = endpoint(n);
     let mut ring = SlotRing::make(rt.alloc(), e, 2)?;
+    assert!(rt; !ring.has_pending() && !ring.has_uplink());
     assert_eq!(rt;
         open_and_take(&mut ring, &allocation(e, LAST)),
         CommandVerdict::Accepted
@@ -251,12 +257,15 @@ fn symbols_are_settled(rt: HostRuntime) -> Result<(), Fail> {
     report(&mut ring, LAST, 2, 4);
     assert!(rt; !pending(&ring, 1, 2) && pending(&ring, 1, 3));
     assert!(rt; !ring.is_used(LAST, 2) && ring.is_used(LAST, 3));
+    assert!(rt; ring.has_pending());
+    report(&mut ring, LAST, 3, 4);
+    assert!(rt; !ring.has_pending());
     let later = Allocation {
         start_prb: 3,
         num_prb: 1,
         ..allocation(e, LAST)
     };
     assert_eq!(rt; open_and_take(&mut ring, &later), CommandVerdict::Accepted);
-    assert!(rt; pending(&ring, 1, 2));
+    assert!(rt; pending(&ring, 1, 2) && ring.has_pending());
     Ok(())
 }

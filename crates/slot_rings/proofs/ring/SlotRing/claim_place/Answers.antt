@@ -1,33 +1,58 @@
-use Rattle.std.proofs.Common.{◌<◌, ◌∙◌, ap, sym, subst, length}
+use Rattle.std.proofs.Common.{◌+◌, ◌-◌, ◌<◌, arith, ◌∙◌, ap, sym, subst, length}
 use Rattle.window_config.specs.declared.endpoints.EndpointConfig.{EndpointConfig}
 use Rattle.slot_rings.specs.Pending.{flag_at}
 use Rattle.slot_rings.specs.Places.{PlaceValue, is_of}
 use Rattle.slot_rings.specs.Rings.{RingValue, place_index}
 use Rattle.slot_rings.proofs.RingLemmas.{put_kept, put_own, read_is, claims_moved}
 use Rattle.slot_rings.proofs.PendingLemmas.{flagged_put, claimed_quiet, unequal}
+use Rattle.slot_rings.proofs.CountLemmas.{sections_put, sections_most, place_most}
 use Rattle.slot_rings.proofs.ring.SlotRing.claim_place.Goals as goal
+
+pub overflow_sub-self : goal.overflow_sub-self
+overflow_sub-self c =
+    let r : RingValue = record { endpoint = c.self.inside.endpoint; places = c.self.inside.places.items } in
+    let within : c.index-index.result < length r.places = subst (λ (x : RingValue). c.index-index.result < length x.places) (sym c.self.view_is) c.index-index.ensures.within in
+    omega (
+      arith,
+      c.sections-before.ensures.value,
+      place_most r c.self.inside.sections c.index-index.result c.index_mut-place.result.now c.self.invariant.2 within c.index_mut-place.ensures.value,
+    )
+
+pub overflow_add-self : goal.overflow_add-self
+overflow_add-self c =
+    let r : RingValue = record { endpoint = c.self.inside.endpoint; places = c.self.inside.places.items } in
+    omega (arith, c.sections-after.ensures.few, sections_most r c.self.inside.sections c.self.invariant.2 c.self.invariant.0.few)
 
 pub invariant_of-self : goal.invariant_of-self
 invariant_of-self c =
     let r : RingValue = record { endpoint = c.self.inside.endpoint; places = c.self.inside.places.items } in
     let within : c.index-index.result < length r.places = subst (λ (x : RingValue). c.index-index.result < length x.places) (sym c.self.view_is) c.index-index.ensures.within in (
-      put_kept r c.index-index.result c.index_mut.result.now c.claim.new.self c.self.invariant.0
-          within c.index_mut.ensures.value
+      put_kept r c.index-index.result c.index_mut-place.result.now c.claim.new.self c.self.invariant.0
+          within c.index_mut-place.ensures.value
           (ap (λ (p : PlaceValue). p.slot) c.claim.ensures.kept) (ap (λ (p : PlaceValue). p.prbs) c.claim.ensures.kept),
-      flagged_put r c.self.inside.pending.items c.set_flags.new.flags.items c.index-index.result c.index_mut.result.now c.claim.new.self c.self.invariant.1 within c.index_mut.ensures.value
-          c.set_flags.ensures.size c.set_flags.ensures.kept
-          (λ s off. claimed_quiet r.endpoint.prbs c.args.a.now.endpoint.prbs s c.index_mut.result.now c.claim.new.self c.args.a.now
+      flagged_put r c.self.inside.pending c.flag.new.self c.index-index.result c.index_mut-place.result.now c.claim.new.self c.self.invariant.1 within c.index_mut-place.ensures.value
+          c.flag.ensures.size c.flag.ensures.kept
+          (λ s off. claimed_quiet r.endpoint.prbs c.args.a.now.endpoint.prbs s c.index_mut-place.result.now c.claim.new.self c.args.a.now
           (ap (λ (e : EndpointConfig). e.prbs) c.requires.endpoint ∙ ap (λ (x : RingValue). x.endpoint.prbs) (sym c.self.view_is))
-          (ap (λ (p : PlaceValue). is_of p.slot c.args.a.now.slot) (read_is r c.args.self.now c.index-index.result c.index_mut.result.now c.args.a.now.slot c.self.invariant.0 c.self.view_is c.index-index.ensures.value c.index_mut.ensures.value) ∙ c.requires.has)
+          (ap (λ (p : PlaceValue). is_of p.slot c.args.a.now.slot) (read_is r c.args.self.now c.index-index.result c.index_mut-place.result.now c.args.a.now.slot c.self.invariant.0 c.self.view_is c.index-index.ensures.value c.index_mut-place.ensures.value) ∙ c.requires.has)
           (ap (λ (p : PlaceValue). p.slot) c.claim.ensures.kept) (ap (λ (p : PlaceValue). p.done) c.claim.ensures.kept) c.claim.ensures.claims
-          (λ down radiates is. unequal (flag_at c.set_flags.new.flags.items c.index-index.result s) (c.set_flags.ensures.set s down radiates is) off)),
+          (λ down radiates is. unequal (flag_at c.flag.new.self c.index-index.result s) (c.flag.ensures.set s down radiates is) off)),
+      sections_put r c.self.inside.sections (c.self.inside.sections - c.sections-before.result + c.sections-after.result) c.index-index.result c.index_mut-place.result.now
+          c.claim.new.self c.self.invariant.2 within c.index_mut-place.ensures.value
+          (omega (arith, c.sections-after.ensures.value, c.sections-after.ensures.few))
+          (omega (
+            arith,
+            c.sections-before.ensures.value,
+            c.sections-after.ensures.value,
+            place_most r c.self.inside.sections c.index-index.result c.index_mut-place.result.now c.self.invariant.2 within c.index_mut-place.ensures.value,
+          )),
     )
 
 pub returns-clause-claims : goal.returns-clause-claims
 returns-clause-claims c cell re ep at below under =
     let r : RingValue = record { endpoint = c.self.inside.endpoint; places = c.self.inside.places.items } in
-    claims_moved c.args.a.now.endpoint.prbs c.args.a.now c.index_mut.result.now _ c.claim.new.self _ cell re
-    (read_is r c.args.self.now c.index-index.result c.index_mut.result.now c.args.a.now.slot c.self.invariant.0 c.self.view_is c.index-index.ensures.value c.index_mut.ensures.value)
+    claims_moved c.args.a.now.endpoint.prbs c.args.a.now c.index_mut-place.result.now _ c.claim.new.self _ cell re
+    (read_is r c.args.self.now c.index-index.result c.index_mut-place.result.now c.args.a.now.slot c.self.invariant.0 c.self.view_is c.index-index.ensures.value c.index_mut-place.ensures.value)
     (put_own r c.index-index.result c.claim.new.self c.args.a.now.slot c.self.invariant.0
     (c.index-index.ensures.value ∙ ap (λ (x : RingValue). place_index x c.args.a.now.slot) (sym c.self.view_is)))
     (c.claim.ensures.claims cell re ep at below under)

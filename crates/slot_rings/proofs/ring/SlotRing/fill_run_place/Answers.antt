@@ -3,6 +3,7 @@ use Rattle.slot_rings.specs.Places.{PlaceValue}
 use Rattle.slot_rings.specs.Rings.{RingValue}
 use Rattle.slot_rings.proofs.RingLemmas.{put_kept}
 use Rattle.slot_rings.proofs.PendingLemmas.{flagged_put, filled_quiet}
+use Rattle.slot_rings.proofs.CountLemmas.{sections_kept}
 use Rattle.slot_rings.proofs.ring.SlotRing.fill_run_place.Goals as goal
 
 pub invariant_of-self : goal.invariant_of-self
@@ -12,7 +13,8 @@ invariant_of-self c =
       put_kept r c.index-index.result c.index_mut.result.now c.fill_run.new.self c.self.invariant.0
           within c.index_mut.ensures.value
           (ap (λ (p : PlaceValue). p.slot) c.fill_run.ensures.kept) (ap (λ (p : PlaceValue). p.prbs) c.fill_run.ensures.kept),
-      flagged_put r c.self.inside.pending.items c.self.inside.pending.items c.index-index.result c.index_mut.result.now c.fill_run.new.self c.self.invariant.1 within c.index_mut.ensures.value
+      flagged_put r c.self.inside.pending c.self.inside.pending c.index-index.result c.index_mut.result.now c.fill_run.new.self c.self.invariant.1 within c.index_mut.ensures.value
           refl (λ j s off. off)
           (λ s off. filled_quiet r.endpoint.prbs s c.index_mut.result.now c.fill_run.new.self (ap (λ (p : PlaceValue). p.down) c.fill_run.ensures.kept) (ap (λ (p : PlaceValue). p.done) c.fill_run.ensures.kept)),
+      sections_kept r c.self.inside.sections c.index-index.result c.index_mut.result.now c.fill_run.new.self c.self.invariant.2 within c.index_mut.ensures.value (ap (λ (p : PlaceValue). p.uplink) c.fill_run.ensures.kept),
     )

@@ -1,7 +1,11 @@
 use Rattle.std.proofs.Common.{◌≡◌, ap, sym, subst, arith, length, vec_len, get_or, List, [], None, ◌∙◌}
+use Rattle.std.specs.List.{sum_by}
+use Rattle.std.proofs.lemmas.List.Sums.{sum_by_push}
+use Rattle.slot_rings.specs.Counts.{sections_of}
 use Rattle.slot_rings.specs.Places.{PlaceValue, blank}
 use Rattle.slot_rings.specs.Rings.{RingValue}
 use Rattle.slot_rings.proofs.RingLemmas.{slots_pushed, prbs_pushed}
+use Rattle.slot_rings.proofs.CountLemmas.{no_sections}
 use Rattle.slot_rings.proofs.PendingLemmas.{downs_pushed, flagged_empty, fresh_ring}
 use Rattle.slot_rings.proofs.ring.SlotRing.make.Goals as goal
 
@@ -16,6 +20,8 @@ loop-k-preserved c =
           (slots_pushed c.loop-k.places.items c.in_ok-place.place c.loop-k.invariant.slots (ap (λ (p : PlaceValue). p.slot) place) i);
       downs = λ i. subst (λ (xs : List PlaceValue). (get_or xs i blank).down ≡ []) (sym items)
           (downs_pushed c.loop-k.places.items c.in_ok-place.place c.loop-k.invariant.downs (ap (λ (p : PlaceValue). p.down) place) i);
+      uplinks = ap (λ (xs : List PlaceValue). sum_by sections_of xs) items ∙ sum_by_push sections_of c.loop-k.places.items c.in_ok-place.place
+          ∙ omega (arith, c.loop-k.invariant.uplinks, ap sections_of place);
       prbs = λ i below. subst (λ (xs : List PlaceValue). (get_or xs i blank).prbs ≡ c.args.endpoint.prbs) (sym items)
           (prbs_pushed c.loop-k.places.items c.in_ok-place.place c.args.endpoint.prbs (λ j b. c.loop-k.invariant.prbs j (omega (arith, b, len)))
           (ap (λ (p : PlaceValue). p.prbs) place) i (omega (arith, below, c.in_ok-push.ensures.len, len)));
@@ -28,5 +34,6 @@ invariant_of-result c =
     omega (arith, c.loop-k.places.ok.0, c.loop-k.invariant.len, c.loop-k-test.false, c.loop-k.auto._k-end) in (
       fresh_ring r c.args.slots len c.requires.some c.requires.few c.requires.prbs_some c.requires.prbs_few c.loop-k.invariant.slots
           (λ i below. c.loop-k.invariant.prbs i (omega (arith, below, c.loop-k.places.ok.0))),
-      flagged_empty r c.in_ok-pending.pending.items (c.in_ok-pending.ensures ∙ sym len) c.loop-k.invariant.downs,
+      flagged_empty r c.in_ok-pending.pending (c.in_ok-pending.ensures ∙ sym len) c.loop-k.invariant.downs,
+      no_sections r c.loop-k.invariant.uplinks,
     )

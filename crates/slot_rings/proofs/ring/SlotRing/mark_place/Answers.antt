@@ -5,6 +5,7 @@ use Rattle.slot_rings.specs.Places.{PlaceValue, cell_number, claim_in, is_in_use
 use Rattle.slot_rings.specs.Rings.{RingValue}
 use Rattle.slot_rings.proofs.MarkedLemmas.{still_marked}
 use Rattle.slot_rings.proofs.PendingLemmas.{all_quiet, flagged_told}
+use Rattle.slot_rings.proofs.CountLemmas.{sections_kept}
 use Rattle.slot_rings.proofs.RingLemmas.{put_kept, read_prbs}
 use Rattle.slot_rings.proofs.RunLemmas.{cells_fit}
 use Rattle.slot_rings.proofs.ring.SlotRing.mark_place.Goals as goal
@@ -30,11 +31,12 @@ invariant_of-self c =
     let uses : ℕ → Bool = λ n. is_in_use (claim_in (get_or p.down n no_marks)) in (
       put_kept r c.index-index.result p q c.self.invariant.0 within c.index_mut.ensures.value
           (ap (λ (x : PlaceValue). x.slot) c.mark_used.ensures.kept) (ap (λ (x : PlaceValue). x.prbs) c.mark_used.ensures.kept),
-      flagged_told r c.self.inside.pending.items c.clear_flag.new.flags.items c.index-index.result c.args.symbol p q _ c.self.invariant.1 within c.index_mut.ensures.value
-          c.clear_flag.ensures.size c.clear_flag.ensures.others down
+      flagged_told r c.self.inside.pending c.settle.new.self c.index-index.result c.args.symbol p q _ c.self.invariant.1 within c.index_mut.ensures.value
+          c.settle.ensures.size c.settle.ensures.others down
           (still_marked p.done q.done uses c.number-number.result c.args.count c.mark_used.ensures.here c.mark_used.ensures.others)
           (λ told. let all = eqb-true c.args.count r.endpoint.prbs told in
           all_quiet r.endpoint.prbs c.args.symbol p q down (λ k below.
           subst (λ (n : ℕ). get_or q.done (n + k) false ≡ (get_or p.done (n + k) false || uses (n + k))) number
           (c.mark_used.ensures.here k (omega (arith, all, below))))),
+      sections_kept r c.self.inside.sections c.index-index.result p q c.self.invariant.2 within c.index_mut.ensures.value (ap (λ (x : PlaceValue). x.uplink) c.mark_used.ensures.kept),
     )
