@@ -297,6 +297,23 @@ impl UnitCells {
         self.rings[ep].is_pending(index, symbol)
     }
 
+    /// Whether any downlink cell of an endpoint may be in use and not reported. It looks at one number.
+    pub fn has_pending(&self, ep: usize) -> bool
+        requires { ep < length (endpoints_of self.now) }
+        ensures { result ≡ false → (e : EndpointConfig) → IsAt (endpoints_of self.now) ep e → (slot : Slot) (symbol : ℕ) → symbol < symbols_of e.numerology → some 0 e.prbs (λ prb.
+            is_due (cells_claim self.now (cell_at ep true slot symbol prb)) (cells_done self.now (cell_at ep true slot symbol prb))) ≡ false }
+    {
+        self.rings[ep].has_pending()
+    }
+
+    /// Whether any accepted uplink section of an endpoint is held. It looks at one number.
+    pub fn has_uplink(&self, ep: usize) -> bool
+        requires { ep < length (endpoints_of self.now) }
+        ensures { result ≡ false → (slot : Slot) → cells_uplink self.now ep slot ≡ [] }
+    {
+        self.rings[ep].has_uplink()
+    }
+
     /// The accepted uplink sections of a slot, the newest last: 64 at most.
     pub fn uplink(&self, ep: usize, slot: Slot) -> &[Allocation]
         requires { IsSlotIn self.now ep slot }
