@@ -14,7 +14,7 @@ use Rattle.unit_cells.specs.unit_model.specs.Starts.{start_at}
 use Rattle.unit_cells.specs.unit_model.specs.declared.symbol_start.SymbolStart.{SymbolStart}
 use Rattle.unit_cells.specs.Cells.{CellsValue, IsSlotIn, cells_has, cells_index, endpoints_of}
 use Rattle.unit_cells.proofs.ListLemmas.{some_equal}
-use Rattle.ru_reports.specs.Searches.{InPlace, InSlot, IsNotBefore, IsWanted, Searched, earlier_of}
+use Rattle.ru_reports.specs.Searches.{InPlace, InSlot, IsNotBefore, IsWanted, OfEndpoint, Searched, earlier_of}
 use Rattle.ru_reports.specs.Symbols.{IsSymbol, is_left}
 use Rattle.ru_reports.proofs.OrderLemmas.{earlier_symbol, not_before_earlier, not_before_itself, not_before_later}
 
@@ -94,6 +94,14 @@ pub symbol_one : (v : CellsValue) (ep : ℕ) (e : EndpointConfig) (slot : Slot) 
 symbol_one v ep e slot symbol m at is p q r =
     let own : IsAt (endpoints_of v) ep m.endpoint = subst (λ (k : ℕ). IsAt (endpoints_of v) k m.endpoint) p is.at in
     parts_one m ep symbol e slot p (is_at_one (endpoints_of v) ep m.endpoint e own at) q r is.starts
+
+-- nothing is to be reported of an endpoint
+pub searched_settled : (v : CellsValue) (time : ℤ) (ep : ℕ) (e : EndpointConfig) (best : Option SymbolStart) → IsAt (endpoints_of v) ep e
+    → ((slot : Slot) (symbol : ℕ) → symbol < symbols_of e.numerology → is_left v (start_at ep e slot symbol) ≡ false) → Searched v time (OfEndpoint ep) best best
+searched_settled v time ep e best at quiet = searched_none v time (OfEndpoint ep) best (λ m w is.
+    let one : m ≡ start_at ep e m.slot m.symbol = symbol_one v ep e m.slot m.symbol m at w.is is refl refl in
+    let below : m.symbol < symbols_of e.numerology = subst (λ (x : SymbolStart). m.symbol < symbols_of x.endpoint.numerology) one w.is.symbol_is in
+    not_left w (subst (λ (x : SymbolStart). is_left v x ≡ false) (sym one) (quiet m.slot m.symbol below)))
 
 pub start_is_symbol : (v : CellsValue) (ep : ℕ) (e : EndpointConfig) (slot : Slot) (symbol : ℕ) → IsAt (endpoints_of v) ep e → IsSlot e.numerology slot
     → symbol < symbols_of e.numerology → cells_has v ep slot ≡ true → IsSymbol v (start_at ep e slot symbol)

@@ -138,7 +138,7 @@ fn first_in_place(
     }
 }
 
-/// The first of the best symbol so far and those of an endpoint.
+/// The first of the best symbol so far and those of an endpoint. Where it has nothing to be reported, no place is looked at.
 fn first_in_ring(
     cells: &UnitCells,
     ep: usize,
@@ -149,6 +149,9 @@ fn first_in_ring(
     requires { IsAt (endpoints_of cells.now) ep endpoint.now }
     ensures { Searched cells.now after.0 (OfEndpoint ep) best result }
 {
+    if !cells.has_pending(ep) {
+        return best;
+    }
     let mut first = best;
     for index in 0..cells.places(ep) {
         first = first_in_place(cells, ep, endpoint, index, after, first);
