@@ -158,6 +158,12 @@ slot_empty v cursor ep slot n xs uplink h = λ m j u.
     ap (λ k. cells_uplink v k m.slot) u.ep_is ∙ ap (λ s. cells_uplink v ep s) u.slot_is ∙ sym uplink ∙ ap reverse (nil_from_length xs h) in
     none_sends cursor m.ep m.endpoint m.slot m.symbol (cells_uplink v m.ep m.slot) here
 
+-- and in no slot of an endpoint that holds none
+pub ring_empty : (v : CellsValue) (cursor : JobCursor) (ep : ℕ) → ((slot : Slot) → cells_uplink v ep slot ≡ []) → IsFirstOf v cursor (IsOfEndpoint ep) None
+unfolding jobs_left
+ring_empty v cursor ep none = λ m j u.
+    none_sends cursor m.ep m.endpoint m.slot m.symbol (cells_uplink v m.ep m.slot) (ap (λ k. cells_uplink v k m.slot) u ∙ none m.slot)
+
 pub slot_whole : (v : CellsValue) (cursor : JobCursor) (ep : ℕ) (slot : Slot) (n count : ℕ) (a : Option SymbolStart) → count ≤ n → IsFirstOf v cursor (IsInSlot ep slot n) a
     → IsFirstOf v cursor (IsInSlot ep slot count) a
 slot_whole v cursor ep slot n count a h f =

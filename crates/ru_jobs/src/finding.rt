@@ -81,11 +81,14 @@ fn first_at_place(
     first_in_slot(cells, cursor, ep, endpoint, slot)
 }
 
-/// The first symbol of an endpoint of which something is left.
+/// The first symbol of an endpoint of which something is left. Where no uplink section of it is held, no place is looked at.
 fn first_in_ring(cells: &UnitCells, cursor: &JobCursor, ep: usize) -> Option<SymbolStart>
     requires { ep < length (endpoints_of cells.now) }
     ensures { IsFirstOf cells.now cursor.now (IsOfEndpoint ep) result }
 {
+    if !cells.has_uplink(ep) {
+        return None;
+    }
     let endpoint = cells.endpoint(ep);
     let mut first = None;
     for index in 0..cells.places(ep) {
