@@ -5,7 +5,5 @@
 #![tactic(auto)]
 
 mod telling;
-#[cfg(test)]
-mod tests;
 
 pub use telling::{push_out, tell};

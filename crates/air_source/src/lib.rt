@@ -23,10 +23,3 @@ pub use memory_air::MemoryAir;
 pub use memory_link::MemoryLink;
 pub use places::RePlace;
 pub use samples::Samples;
-
-#[cfg(test)]
-mod line_air;
-#[cfg(test)]
-mod telling;
-#[cfg(test)]
-mod tests;

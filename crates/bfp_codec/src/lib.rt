@@ -15,6 +15,3 @@ pub use packed_bytes::Packed;
 pub use packing::pack;
 pub use samples::{Iq, Wide};
 pub use unpacking::unpack;
-
-#[cfg(test)]
-mod tests;

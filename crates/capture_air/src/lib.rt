@@ -9,8 +9,3 @@ mod capture_air;
 
 pub use air_source;
 pub use capture_air::CaptureAir;
-
-#[cfg(test)]
-mod telling;
-#[cfg(test)]
-mod tests;

@@ -15,8 +15,6 @@ mod layout;
 mod reading;
 mod refusals;
 mod starting;
-#[cfg(test)]
-mod tests;
 mod values;
 
 pub use air_source;

@@ -11,8 +11,6 @@ mod forms;
 mod numbers;
 mod parsing;
 mod reading;
-#[cfg(test)]
-mod tests;
 
 pub use air_source;
 pub use commands::Command;

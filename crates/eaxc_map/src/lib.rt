@@ -9,6 +9,3 @@ mod widths;
 
 pub use endpoints::{AddFault, Endpoints};
 pub use widths::{Parts, WidthSum, Widths};
-
-#[cfg(test)]
-mod tests;

@@ -15,6 +15,3 @@ pub use assembly::{Assembly, Lease, Taken};
 pub use fh_base;
 pub use sequence::{SeqField, put_seq, read_seq};
 pub use verdict::Verdict;
-
-#[cfg(test)]
-mod tests;

@@ -13,8 +13,6 @@ mod phases;
 mod refusals;
 mod starting;
 mod steps;
-#[cfg(test)]
-mod tests;
 mod turns;
 mod whole;
 

@@ -7,6 +7,3 @@ mod values;
 
 pub use kinds::Counter;
 pub use values::Counters;
-
-#[cfg(test)]
-mod tests;

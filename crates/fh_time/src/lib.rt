@@ -20,6 +20,3 @@ pub use shapes::{code, offsets, shape};
 pub use slots::{least_slot, slot_after, span};
 pub use symbols::air;
 pub use values::{Shape, Slot, Ticks};
-
-#[cfg(test)]
-mod tests;

@@ -13,8 +13,6 @@ mod laws;
 mod messages;
 mod parts;
 mod pieces;
-#[cfg(test)]
-mod tests;
 mod transport;
 
 pub use commands::command;

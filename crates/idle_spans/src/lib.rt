@@ -16,6 +16,3 @@ mod spans;
 
 pub use places::{Place, Span};
 pub use spans::Spans;
-
-#[cfg(test)]
-mod tests;

@@ -9,6 +9,3 @@ mod bytes;
 
 pub use bytes::{OwedBytes, ROOM};
 pub use fh_base;
-
-#[cfg(test)]
-mod tests;

@@ -21,6 +21,3 @@ pub use running::{LIMIT, run};
 pub use status::Status;
 pub use ways::Ways;
 pub use writing::put_pcap;
-
-#[cfg(test)]
-mod tests;

@@ -22,6 +22,3 @@ pub use iterating::Frames;
 pub use refusals::{PcapRefusal, PcapWhy};
 pub use starting::frames;
 pub use values::{PcapFrame, PcapHead};
-
-#[cfg(test)]
-mod tests;

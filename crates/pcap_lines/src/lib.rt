@@ -11,6 +11,3 @@ mod words;
 pub use captures::capture_bytes;
 pub use injections::inject_text;
 pub use line_laws::fh_document;
-
-#[cfg(test)]
-mod tests;

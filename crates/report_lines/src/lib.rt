@@ -14,6 +14,3 @@ pub use bfp_codec;
 pub use cell_lines::{cell_line, put_cell};
 pub use text_lines::Line;
 pub use unit_lines::{count_line, delay_line, put_count, put_delay};
-
-#[cfg(test)]
-mod tests;

@@ -12,8 +12,3 @@ mod values;
 
 pub use mixing::Mixer;
 pub use values::{Mixed, Sum};
-
-#[cfg(test)]
-mod following;
-#[cfg(test)]
-mod tests;

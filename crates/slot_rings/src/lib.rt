@@ -28,6 +28,3 @@ pub use ring::SlotRing;
 pub use symbol_cells::{SymbolCells, Use};
 pub use unit_model;
 pub use unit_model::air_source;
-
-#[cfg(test)]
-mod tests;

@@ -12,10 +12,6 @@ mod run_lines;
 mod runs;
 mod sum_air;
 mod sums;
-#[cfg(test)]
-mod telling;
-#[cfg(test)]
-mod tests;
 mod totals;
 
 pub use delay_measure;

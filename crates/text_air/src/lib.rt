@@ -9,8 +9,3 @@
 mod text_air;
 
 pub use text_air::TextAir;
-
-#[cfg(test)]
-mod telling_cells;
-#[cfg(test)]
-mod tests;

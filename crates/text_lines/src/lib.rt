@@ -8,6 +8,3 @@ mod digits;
 mod line;
 
 pub use line::Line;
-
-#[cfg(test)]
-mod tests;

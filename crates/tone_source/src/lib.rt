@@ -16,8 +16,3 @@ pub use air_source;
 pub use plain::tone;
 pub use steps::ToneSteps;
 pub use values::Tone;
-
-#[cfg(test)]
-mod keeping;
-#[cfg(test)]
-mod tests;

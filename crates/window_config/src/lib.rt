@@ -26,6 +26,3 @@ pub use relations::{Failing, Relation, check};
 pub use rings::{Reach, du_reach, is_live, ring_slots, ru_reach};
 pub use verdicts::Class;
 pub use windows::{command_window, cp_dl, data_window};
-
-#[cfg(test)]
-mod tests;

@@ -12,6 +12,3 @@ pub use fit_texts::put_fit;
 pub use window_config;
 pub use window_plan;
 pub use window_texts::put_windows;
-
-#[cfg(test)]
-mod tests;

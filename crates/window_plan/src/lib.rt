@@ -16,6 +16,3 @@ pub use breaches::Breach;
 pub use fitting::fit;
 pub use refusals::{NoFit, Window};
 pub use witnesses::breach;
-
-#[cfg(test)]
-mod tests;
