@@ -43,9 +43,9 @@ use Rattle.ru_buffers.specs.unit_cells.proofs.TimeLemmas.{live_at}
 use Rattle.ru_buffers.specs.unit_cells.proofs.ToldLemmas.{told_whole}
 use Rattle.ru_buffers.specs.history_laws.specs.First.{IsSweptIn, told_of}
 use Rattle.ru_buffers.specs.history_laws.proofs.FirstLemmas.{first_is_first}
-use Rattle.ru_buffers.specs.ru_memory.specs.Memory.{Holds}
-use Rattle.ru_buffers.specs.ru_memory.specs.declared.memory.RuMemory.{RuMemory}
-use Rattle.ru_buffers.specs.ru_memory.proofs.HoldLemmas.{holds_later}
+use Rattle.ru_buffers.specs.unit_memory.specs.Memory.{Holds}
+use Rattle.ru_buffers.specs.unit_memory.specs.declared.memory.UnitMemory.{UnitMemory}
+use Rattle.ru_buffers.specs.unit_memory.proofs.HoldLemmas.{holds_later}
 use Rattle.ru_buffers.specs.ru_reports.specs.Symbols.{CountsTold}
 use Rattle.ru_buffers.specs.ru_reports.proofs.OrderLemmas.{not_before_itself}
 use Rattle.ru_buffers.proofs.MarkedLemmas.{counts_more}
@@ -157,10 +157,10 @@ abbrev pub cursor_at : SymbolStart → ℕ → CellCursor
 cursor_at next prb = record { next = Some next; prb = prb }
 
 -- the memory with other counters
-abbrev pub with_counters : RuMemory → List ℕ → RuMemory
+abbrev pub with_counters : UnitMemory → List ℕ → UnitMemory
 with_counters m counters = record { endpoints = m.endpoints; cells = m.cells; assembly = m.assembly; counters = counters }
 
-module _ (c : Config) (planned : List Allocation) (m : RuMemory) (clock : ℤ) (h : History) (next : SymbolStart) (prb : ℕ)
+module _ (c : Config) (planned : List Allocation) (m : UnitMemory) (clock : ℤ) (h : History) (next : SymbolStart) (prb : ℕ)
     (k : Keeps c planned m clock (cursor_at next prb) h) where
   abbrev known : Known
   known = du_known c planned h.arrivals

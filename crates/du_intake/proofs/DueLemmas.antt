@@ -37,7 +37,7 @@ use Rattle.schedule_laws.specs.unit_laws.proofs.SweepLemmas.{IsKept, each_relate
 use Rattle.ru_buffers.specs.history_laws.specs.First.{IsSweptIn, told_of}
 use Rattle.ru_buffers.specs.history_laws.proofs.BeforeLemmas.{start_before}
 use Rattle.ru_buffers.specs.history_laws.proofs.FirstLemmas.{first_is_first, nothing_is_nothing}
-use Rattle.ru_buffers.specs.ru_memory.specs.declared.memory.RuMemory.{RuMemory}
+use Rattle.ru_buffers.specs.unit_memory.specs.declared.memory.UnitMemory.{UnitMemory}
 use Rattle.ru_buffers.specs.ru_reports.proofs.OrderLemmas.{not_before_itself}
 use Rattle.du_intake.specs.Cursors.{CellCursor, HasLeft, IsNamed, cell_in, is_behind}
 use Rattle.du_intake.specs.Symbols.{start_in, symbol_at}
@@ -143,7 +143,7 @@ in_end start wait = omega (arith, ints)
 earlier : (x start wait to : ℤ) → to <ℤ (start +ℤ wait) → x <ℤ ((to -ℤ wait) +ℤ pos 1) → x <ℤ start
 earlier x start wait to h k = omega (arith, ints)
 
-module _ (c : Config) (planned : List Allocation) (m : RuMemory) (clock : ℤ) (cursor : CellCursor) (h : History) (k : Keeps c planned m clock cursor h) where
+module _ (c : Config) (planned : List Allocation) (m : UnitMemory) (clock : ℤ) (cursor : CellCursor) (h : History) (k : Keeps c planned m clock cursor h) where
   abbrev known : Known
   known = du_known c planned h.arrivals
 
@@ -279,7 +279,7 @@ bounds : (frame start : ℤ) (offset : ℕ) → pos 1 ≤ℤ frame → frame ≤
     → (neg_ℤ (pos (2 ^ 60)) ≤ℤ start) × (start ≤ℤ pos (2 ^ 60))
 bounds frame start offset low high few is = (omega (arith, ints), omega (arith, ints))
 
-pub start_bounds : (c : Config) (planned : List Allocation) (m : RuMemory) (clock : ℤ) (cursor : CellCursor) (h : History) (k : Keeps c planned m clock cursor h) (next : SymbolStart)
+pub start_bounds : (c : Config) (planned : List Allocation) (m : UnitMemory) (clock : ℤ) (cursor : CellCursor) (h : History) (k : Keeps c planned m clock cursor h) (next : SymbolStart)
     → IsNamed planned next → cursor.next ≡ Some next → (neg_ℤ (pos (2 ^ 60)) ≤ℤ next.start.0) × (next.start.0 ≤ℤ pos (2 ^ 60))
 start_bounds c planned m clock cursor h k next named is =
     let a = named.by in
@@ -296,11 +296,11 @@ wait_bounds n low high = (omega (arith, ints), omega (arith, ints))
 pub least_not_negative : (a b : ℤ) → pos 0 ≤ℤ a → a ≤ℤ b → pos 0 ≤ℤ b
 least_not_negative a b h k = omega (arith, ints)
 
-pub due_none : (c : Config) (planned : List Allocation) (m : RuMemory) (clock wait : ℤ) (plan : UplinkPlan) (room : ℕ) (cursor : CellCursor) (h : History)
+pub due_none : (c : Config) (planned : List Allocation) (m : UnitMemory) (clock wait : ℤ) (plan : UplinkPlan) (room : ℕ) (cursor : CellCursor) (h : History)
     → Stands c planned m clock wait plan room cursor h → cursor.next ≡ None → (to : ℤ) → due_of c planned h to ≡ []
 due_none c planned m clock _ plan room cursor h all none to = none_due c planned m clock cursor h all.kept none to
 
-pub due_some : (c : Config) (planned : List Allocation) (m : RuMemory) (clock wait : ℤ) (plan : UplinkPlan) (room : ℕ) (cursor : CellCursor) (h : History) (next : SymbolStart) (t : ℤ)
+pub due_some : (c : Config) (planned : List Allocation) (m : UnitMemory) (clock wait : ℤ) (plan : UplinkPlan) (room : ℕ) (cursor : CellCursor) (h : History) (next : SymbolStart) (t : ℤ)
     → Stands c planned m clock wait plan room cursor h → cursor.next ≡ Some next
     → (neg_ℤ (pos (2 ^ 60)) ≤ℤ next.start.0 → next.start.0 ≤ℤ pos (2 ^ 60) → pos 0 ≤ℤ wait → wait ≤ℤ pos (2 ^ 60) → t ≡ next.start.0 +ℤ wait)
     → IsLeastMoment c planned h t
@@ -321,7 +321,7 @@ due_some c planned m clock wait plan room cursor h next t all is sum =
 
 -- ---- by the symbol at its place
 
-pub due_at : (c : Config) (planned : List Allocation) (m : RuMemory) (clock wait : ℤ) (plan : UplinkPlan) (room : ℕ) (place : Place) (h : History) (s : PlannedSymbol) (t : ℤ)
+pub due_at : (c : Config) (planned : List Allocation) (m : UnitMemory) (clock wait : ℤ) (plan : UplinkPlan) (room : ℕ) (place : Place) (h : History) (s : PlannedSymbol) (t : ℤ)
     → Stands c planned m clock wait plan room (cursor_by m plan place) h → slice_get plan.symbols.items place.symbol ≡ Some s
     → (neg_ℤ (pos (2 ^ 60)) ≤ℤ s.start.0 → s.start.0 ≤ℤ pos (2 ^ 60) → pos 0 ≤ℤ wait → wait ≤ℤ pos (2 ^ 60) → t ≡ s.start.0 +ℤ wait)
     → IsLeastMoment c planned h t
@@ -333,7 +333,7 @@ due_at c planned m clock wait plan room place h s t all at sum =
     due_some c planned m clock wait plan room (cursor_by m plan place) h x.start t all is
     (subst (λ (q : Ticks). neg_ℤ (pos (2 ^ 60)) ≤ℤ q.0 → q.0 ≤ℤ pos (2 ^ 60) → pos 0 ≤ℤ wait → wait ≤ℤ pos (2 ^ 60) → t ≡ q.0 +ℤ wait) (sym e) sum)
 
-pub due_over : (c : Config) (planned : List Allocation) (m : RuMemory) (clock wait : ℤ) (plan : UplinkPlan) (room : ℕ) (place : Place) (h : History)
+pub due_over : (c : Config) (planned : List Allocation) (m : UnitMemory) (clock wait : ℤ) (plan : UplinkPlan) (room : ℕ) (place : Place) (h : History)
     → Stands c planned m clock wait plan room (cursor_by m plan place) h → slice_get plan.symbols.items place.symbol ≡ None → (to : ℤ) → due_of c planned h to ≡ []
 due_over c planned m clock wait plan room place h all at to =
     due_none c planned m clock wait plan room (cursor_by m plan place) h all (ap (start_in m.endpoints.items plan.lines.items) at) to

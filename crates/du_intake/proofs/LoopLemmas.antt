@@ -16,8 +16,8 @@ use Rattle.schedule_laws.specs.unit_model.specs.Standing.{History, at_clock, hea
 use Rattle.schedule_laws.specs.unit_model.specs.declared.allocations.Allocation.{Allocation}
 use Rattle.schedule_laws.specs.unit_model.specs.declared.symbol_start.SymbolStart.{SymbolStart}
 use Rattle.schedule_laws.specs.unit_laws.proofs.DueLemmas.{due_begins}
-use Rattle.ru_buffers.specs.ru_memory.specs.declared.memory.RuMemory.{RuMemory}
-use Rattle.ru_buffers.specs.ru_memory.proofs.HoldLemmas.{holds_later}
+use Rattle.ru_buffers.specs.unit_memory.specs.declared.memory.UnitMemory.{UnitMemory}
+use Rattle.ru_buffers.specs.unit_memory.proofs.HoldLemmas.{holds_later}
 use Rattle.fh_time.specs.declared.values.Ticks.{Ticks}
 use Rattle.du_intake.specs.Calls.{StandsFor, cursor_in, next_in}
 use Rattle.du_intake.specs.Closing.{Closes, ClosesSome, ComesLater, GoesOn, HasMarked, IsMarkedFrom, IsNextDue, StandsForSome, StaysAt, StopsAtDue, ToldAll, at_prb, symbols_left}
@@ -165,7 +165,7 @@ none_of_both : (xs ys : List AirCell) → xs ++ ys ≡ [] → xs ≡ []
 none_of_both [] ys e = refl
 none_of_both (x ∷ xs) ys e = absurd cc
 
-pub stands_later : (c : Config) (planned : List Allocation) (m : RuMemory) (clock : ℤ) (cursor : CellCursor) (h : History) (to : ℤ)
+pub stands_later : (c : Config) (planned : List Allocation) (m : UnitMemory) (clock : ℤ) (cursor : CellCursor) (h : History) (to : ℤ)
     → (all : Keeps c planned m clock cursor h) → clock ≤ℤ to → IsTime to → due_of c planned h to ≡ [] → Keeps c planned m to cursor (at_clock h to)
 stands_later c planned m clock cursor h to k order time none =
     let after : h.clock ≤ℤ to = subst (λ (t : ℤ). t ≤ℤ to) k.clock_is order in

@@ -12,7 +12,7 @@ use Rattle.schedule_laws.specs.unit_model.specs.declared.allocations.Allocation.
 use Rattle.schedule_laws.specs.unit_model.specs.declared.cells.Cell.{Cell}
 use Rattle.schedule_laws.specs.unit_model.specs.declared.symbol_start.SymbolStart.{SymbolStart}
 use Rattle.schedule_laws.specs.unit_laws.proofs.FarLemmas.{endpoints_equal}
-use Rattle.ru_buffers.specs.ru_memory.specs.declared.memory.RuMemory.{RuMemory}
+use Rattle.ru_buffers.specs.unit_memory.specs.declared.memory.UnitMemory.{UnitMemory}
 use Rattle.ru_buffers.specs.ru_reports.proofs.OrderLemmas.{comes_trans}
 use Rattle.ru_buffers.proofs.OrderLemmas.{same_place}
 use Rattle.du_intake.specs.Cursors.{CellCursor, IsNextSymbol, IsNotBefore, is_behind}
@@ -54,7 +54,7 @@ step_marks next x n p new after first here = elim (cases_Bool (comes_before x ne
 within_all : (p n few : ℕ) → p < few → few ≤ n → p < n
 within_all p n few h k = omega (arith, h, k)
 
-module _ (c : Config) (planned : List Allocation) (m : RuMemory) (clock : ℤ) (h : History) (next : SymbolStart) (n : ℕ)
+module _ (c : Config) (planned : List Allocation) (m : UnitMemory) (clock : ℤ) (h : History) (next : SymbolStart) (n : ℕ)
     (k : Keeps c planned m clock (cursor_at next n) h) where
   -- of the cursor's symbol
   at_place : (e : EndpointConfig) (cell : Cell) → IsCell c e cell → comes_before (start_at cell.ep e cell.slot cell.symbol) next ≡ false

@@ -14,7 +14,7 @@ use Rattle.schedule_laws.specs.unit_model.specs.Radiated.{Known, first_clock, wa
 use Rattle.schedule_laws.specs.unit_model.specs.Reports.{data_of, du_known, timely_of}
 use Rattle.schedule_laws.specs.unit_model.specs.Standing.{History, IsOwed, arrived, at_clock, due, nothing_yet, past_of, still_reported}
 use Rattle.schedule_laws.specs.unit_model.specs.declared.allocations.Allocation.{Allocation}
-use Rattle.schedule_laws.specs.unit_model.specs.declared.decoded.Data.{Data}
+use Rattle.schedule_laws.specs.unit_model.specs.declared.decoded.UserSection.{UserSection}
 use Rattle.schedule_laws.specs.unit_model.proofs.BlockLemmas.{all_timely}
 use Rattle.schedule_laws.specs.unit_laws.proofs.HistoryLemmas.{data_are_proper}
 use Rattle.schedule_laws.specs.unit_laws.proofs.SweepLemmas.{sweep-none}
@@ -22,9 +22,9 @@ use Rattle.ru_buffers.specs.unit_cells.specs.Told.{IsTold}
 use Rattle.ru_buffers.specs.unit_cells.proofs.ToldLemmas.{told_whole}
 use Rattle.ru_buffers.specs.history_laws.specs.Arriving.{IsNextArrival}
 use Rattle.ru_buffers.specs.history_laws.proofs.ArrivingLemmas.{arrival_leaves_due}
-use Rattle.ru_buffers.specs.ru_memory.specs.Memory.{Holds, HoldsSome, arrival}
-use Rattle.ru_buffers.specs.ru_memory.specs.declared.memory.RuMemory.{RuMemory}
-use Rattle.ru_buffers.specs.ru_memory.proofs.HoldLemmas.{holds_later}
+use Rattle.ru_buffers.specs.unit_memory.specs.Memory.{Holds, HoldsSome, arrival}
+use Rattle.ru_buffers.specs.unit_memory.specs.declared.memory.UnitMemory.{UnitMemory}
+use Rattle.ru_buffers.specs.unit_memory.proofs.HoldLemmas.{holds_later}
 use Rattle.schedule_laws.specs.unit_model.specs.Order.{comes_before}
 use Rattle.schedule_laws.specs.unit_model.specs.Starts.{start_at}
 use Rattle.schedule_laws.specs.unit_model.specs.declared.symbol_start.SymbolStart.{SymbolStart}
@@ -37,12 +37,12 @@ use Rattle.du_intake.specs.declared.plan.UplinkPlan.{UplinkPlan}
 use Rattle.du_intake.proofs.NextLemmas.{first_symbol}
 use Rattle.du_intake.proofs.UsedLemmas.{named_left, used_named}
 
-whole_data : (c : Config) (d : Data) → IsProperData c.endpoints d → IsTold d
+whole_data : (c : Config) (d : UserSection) → IsProperData c.endpoints d → IsTold d
 whole_data c d is = omega (arith, is.blocks)
 
 -- ---- what it answers
 
-module _ (c : Config) (planned : List Allocation) (m : RuMemory) (clock : ℤ) (cursor : CellCursor) (h : History) (k : Keeps c planned m clock cursor h) where
+module _ (c : Config) (planned : List Allocation) (m : UnitMemory) (clock : ℤ) (cursor : CellCursor) (h : History) (k : Keeps c planned m clock cursor h) where
   pub all_told : All IsTold (timely_of Du c h.arrivals)
   all_told =
       All-weaker (IsProperData c.endpoints) IsTold (whole_data c) (timely_of Du c h.arrivals)
@@ -101,7 +101,7 @@ left_made : (c : Config) (planned : List Allocation) (next : Option SymbolStart)
 left_made c planned None plan named = tt
 left_made c planned (Some m) plan named = named_left c planned m plan named
 
-pub stands_made : (c : Config) (planned : List Allocation) (plan : UplinkPlan) (room : ℕ) (m : RuMemory) (wait : ℤ) → ArePlanned c planned
+pub stands_made : (c : Config) (planned : List Allocation) (plan : UplinkPlan) (room : ℕ) (m : UnitMemory) (wait : ℤ) → ArePlanned c planned
     → ((clock : ℤ) → Holds Du c clock m [] []) → IsListed c planned plan → 273 ≤ room → wait ≡ wait_of Du c.delays
     → Stands c planned m first_clock wait plan room (cursor_by m plan (record { symbol = 0; prb = 0 })) nothing_yet
 stands_made c planned plan room m wait plans holds listed most waits =
@@ -130,7 +130,7 @@ stands_made c planned plan room m wait plans holds listed most waits =
 pub no_later : (a b c : ℤ) → a ≤ℤ b → b ≤ℤ c → a ≤ℤ c
 no_later a b c h k = omega (arith, ints)
 
-module _ (c : Config) (planned : List Allocation) (m : RuMemory) (clock wait at : ℤ) (plan : UplinkPlan) (room : ℕ) (place : Place) (h : History)
+module _ (c : Config) (planned : List Allocation) (m : UnitMemory) (clock wait at : ℤ) (plan : UplinkPlan) (room : ℕ) (place : Place) (h : History)
     (all : Stands c planned m clock wait plan room (cursor_by m plan place) h) (order : clock ≤ℤ at) (time : IsTime at) (none : due_of c planned h (at -ℤ pos 1) ≡ []) where
   abbrev cursor : CellCursor
   cursor = cursor_by m plan place
@@ -154,7 +154,7 @@ module _ (c : Config) (planned : List Allocation) (m : RuMemory) (clock wait at 
     times = All-cons (λ (x : Arrival). IsTime x.at) (arrival at frame) h.arrivals time k.holds.times;
   }
 
-  pub stands_delivered : (m2 : RuMemory) (frame : List ℕ)
+  pub stands_delivered : (m2 : UnitMemory) (frame : List ℕ)
       → ((arrivals : List Arrival) (beside : List Counter) → Holds Du c at m arrivals beside → Holds Du c at m2 (arrival at frame ∷ arrivals) beside)
       → Stands c planned m2 at wait plan room (cursor_by m2 plan place) (arrived (at_clock h at) frame)
   stands_delivered m2 frame holds =

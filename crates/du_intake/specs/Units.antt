@@ -17,8 +17,8 @@ use Rattle.schedule_laws.specs.unit_model.specs.Standing.{AreDifferent, History,
 use Rattle.schedule_laws.specs.unit_model.specs.declared.allocations.Allocation.{Allocation}
 use Rattle.schedule_laws.specs.unit_model.specs.declared.cells.Cell.{Cell}
 use Rattle.ru_buffers.specs.unit_cells.specs.Cells.{cells_block}
-use Rattle.ru_buffers.specs.ru_memory.specs.Memory.{Holds}
-use Rattle.ru_buffers.specs.ru_memory.specs.declared.memory.RuMemory.{RuMemory}
+use Rattle.ru_buffers.specs.unit_memory.specs.Memory.{Holds}
+use Rattle.ru_buffers.specs.unit_memory.specs.declared.memory.UnitMemory.{UnitMemory}
 use Rattle.schedule_laws.specs.unit_model.specs.Starts.{start_at}
 use Rattle.du_intake.specs.Cursors.{ArePlanned, CellCursor, HasLeft, IsNamed, is_behind}
 use Rattle.du_intake.specs.Lines.{claim_by}
@@ -32,7 +32,7 @@ abbrev pub due_of : Config → List Allocation → History → ℤ → List AirC
 due_of c planned h to = due Du c.delays c.endpoints (du_known c planned h.arrivals) h.reported to
 
 -- what contracts see of a unit's memory, its clock and its lines
-abbrev pub kept_of : RuMemory → ℤ → List UplinkLine → Kept
+abbrev pub kept_of : UnitMemory → ℤ → List UplinkLine → Kept
 kept_of m clock ls = record {
   clock = clock;
   counts = m.counters;
@@ -41,11 +41,11 @@ kept_of m clock ls = record {
 }
 
 -- the cell at a place of a plan
-abbrev pub cursor_by : RuMemory → UplinkPlan → Place → CellCursor
+abbrev pub cursor_by : UnitMemory → UplinkPlan → Place → CellCursor
 cursor_by m p place = record { next = symbol_at m.endpoints.items p place.symbol; prb = place.prb }
 
 -- What the next calls rest on.
-pub record Keeps (c : Config) (planned : List Allocation) (m : RuMemory) (clock : ℤ) (cursor : CellCursor) (h : History) : Type 0 where
+pub record Keeps (c : Config) (planned : List Allocation) (m : UnitMemory) (clock : ℤ) (cursor : CellCursor) (h : History) : Type 0 where
   pub holds : Holds Du c h.clock m h.arrivals (cells_counted h.reported)
   pub clock_is : clock ≡ h.clock
   pub time : IsTime h.clock
@@ -68,7 +68,7 @@ IsLiveAt c clock ep slot = IsLiveFor Du c clock ep slot
 
 -- The unit stands for a history: it answers for the slots that are live as the definitions do over all that came, and its claims are
 -- those of the plan.
-pub record Stands (c : Config) (planned : List Allocation) (m : RuMemory) (clock wait : ℤ) (plan : UplinkPlan) (room : ℕ) (cursor : CellCursor) (h : History) : Type 0 where
+pub record Stands (c : Config) (planned : List Allocation) (m : UnitMemory) (clock wait : ℤ) (plan : UplinkPlan) (room : ℕ) (cursor : CellCursor) (h : History) : Type 0 where
   pub answers : StandsByPlan (IsLiveAt c h.clock) c planned (kept_of m clock plan.lines.items) h
   pub kept : Keeps c planned m clock cursor h
   pub wait_is : wait ≡ wait_of Du c.delays

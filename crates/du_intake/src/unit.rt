@@ -19,7 +19,7 @@ use air_source::Side;
 use fault_counters::Counters;
 use fh_base::NoMemory;
 use fh_time::{Ticks, of_ns};
-use ru_buffers::ru_memory::RuMemory;
+use ru_buffers::unit_memory::UnitMemory;
 use schedule_laws::plan_model::PlannedLine;
 use schedule_laws::unit_model::Delivered;
 use std::alloc::Global;
@@ -59,7 +59,7 @@ fn empty_row(alloc: Global) -> Result<Vec<CellMark>, NoMemory>
 /// answers as the definitions do over all that ever came; its claims are those of its plan, of every slot.
 #[derive(Drop)]
 pub struct Intake {
-    pub(crate) memory: RuMemory,
+    pub(crate) memory: UnitMemory,
     pub(crate) clock: Ticks,
     /// What the plan's uplink lines name.
     pub(crate) plan: UplinkPlan,
@@ -86,7 +86,7 @@ impl Intake {
     {
         let plan = UplinkPlan::make(alloc, config, lines)?;
         let row = empty_row(alloc)?;
-        let memory = RuMemory::make(alloc, Side::Du, config)?;
+        let memory = UnitMemory::make(alloc, Side::Du, config)?;
         Ok(Intake {
             memory,
             clock: FIRST_CLOCK,

@@ -23,8 +23,8 @@ use Rattle.window_config.specs.declared.endpoints.EndpointConfig.{EndpointConfig
 use Rattle.unit_laws.specs.unit_model.specs.Decoding.{Backwards, Gathering, Part, Sections, data_now, data_sections, data_told, data_with, decode, decoded_from, decoded_now, decoded_with, gathered, has_way, nothing_told, sections_of, whole_of}
 use Rattle.unit_laws.specs.unit_model.specs.Lists.{joined, onto}
 use Rattle.unit_laws.specs.unit_model.specs.Meetings.{Arrival, Meeting, Ignored, Commands, Piece, application, command, command_read, commands, commands_with, control_met, find_endpoint, fragment_of, fragments, id_of, is_fragmented, meet, meetings, met_by, met_in, sequence_of}
-use Rattle.unit_laws.specs.unit_model.specs.declared.decoded.Command.{Command}
-use Rattle.unit_laws.specs.unit_model.specs.declared.decoded.Data.{Data}
+use Rattle.unit_laws.specs.unit_model.specs.declared.decoded.ControlSection.{ControlSection}
+use Rattle.unit_laws.specs.unit_model.specs.declared.decoded.UserSection.{UserSection}
 
 -- ---- lists that grow at the front
 
@@ -67,10 +67,10 @@ all_leave P f one (x ∷ front) earlier h = one x (front ++ earlier) (All-head P
 
 -- ---- what a message that came then was met as
 
-abbrev pub CommandCame : ℤ → Command → Type 0
+abbrev pub CommandCame : ℤ → ControlSection → Type 0
 CommandCame at c = c.at.0 ≡ at
 
-abbrev pub DataCame : ℤ → Data → Type 0
+abbrev pub DataCame : ℤ → UserSection → Type 0
 DataCame at d = d.last.0 ≡ at
 
 abbrev Came : ℤ → Meeting → Type 0
@@ -140,7 +140,7 @@ same_lasts ep e first last head [] = All-nil (DataCame last)
 same_lasts ep e first last head (p ∷ ps) =
     All-cons (DataCame last) (data_with ep e first last head p) (map (data_with ep e first last head) ps) refl (same_lasts ep e first last head ps)
 
-way_last : (last : ℤ) (ds : List Data) (way : Bool) → All (DataCame last) ds → All (DataCame last) (sections_of (cond way (Sections ds) Backwards))
+way_last : (last : ℤ) (ds : List UserSection) (way : Bool) → All (DataCame last) ds → All (DataCame last) (sections_of (cond way (Sections ds) Backwards))
 way_last last ds true h = h
 way_last last ds false h = All-nil (DataCame last)
 

@@ -17,8 +17,8 @@ use Rattle.unit_laws.specs.unit_model.specs.Reports.{accepted_of, commands_of, d
 use Rattle.unit_laws.specs.unit_model.specs.Standing.{due, past_of}
 use Rattle.unit_laws.specs.unit_model.specs.Uplink.{jobs, symbol_jobs}
 use Rattle.unit_laws.specs.unit_model.specs.declared.cells.Claim.{Claim}
-use Rattle.unit_laws.specs.unit_model.specs.declared.decoded.Command.{Command}
-use Rattle.unit_laws.specs.unit_model.specs.declared.decoded.Data.{Data}
+use Rattle.unit_laws.specs.unit_model.specs.declared.decoded.ControlSection.{ControlSection}
+use Rattle.unit_laws.specs.unit_model.specs.declared.decoded.UserSection.{UserSection}
 use Rattle.unit_laws.specs.Past.{IsInOrder}
 use Rattle.unit_laws.proofs.ChangeLemmas.{claim_stays}
 use Rattle.unit_laws.proofs.HistoryLemmas.{commands_are_proper, data_are_proper}
@@ -30,12 +30,12 @@ use Rattle.history_laws.proofs.AddedLemmas.{IsAdded, all_leave, commands_added, 
 
 -- ---- what it adds is proper
 
-record IsNewCommand (es : List EndpointConfig) (at : ℤ) (c : Command) : Type 0 where
+record IsNewCommand (es : List EndpointConfig) (at : ℤ) (c : ControlSection) : Type 0 where
   came : c.at.0 ≡ at
   proper : IsProperCommand es c
   ordered : IsInOrder c
 
-record IsNewData (es : List EndpointConfig) (at : ℤ) (d : Data) : Type 0 where
+record IsNewData (es : List EndpointConfig) (at : ℤ) (d : UserSection) : Type 0 where
   came : d.last.0 ≡ at
   proper : IsProperData es d
 
@@ -74,15 +74,15 @@ by_then : (to at came : ℤ) → to ≤ℤ at → came ≡ at → to ≤ℤ came
 by_then to at came past is = subst (λ (t : ℤ). to ≤ℤ t) (sym is) past
 
 -- so what each new section leaves, the arrival leaves
-commands_leave : {X : Type 0} (c : Config) (a : Arrival) (arrivals : List Arrival) (f : List Command → X) → IsNextArrival c a arrivals
-    → ((x : Command) (earlier : List Command) → IsNewCommand c.endpoints a.at x → f (x ∷ earlier) ≡ f earlier)
+commands_leave : {X : Type 0} (c : Config) (a : Arrival) (arrivals : List Arrival) (f : List ControlSection → X) → IsNextArrival c a arrivals
+    → ((x : ControlSection) (earlier : List ControlSection) → IsNewCommand c.endpoints a.at x → f (x ∷ earlier) ≡ f earlier)
     → f (commands_of Ru c (a ∷ arrivals)) ≡ f (commands_of Ru c arrivals)
 commands_leave c a arrivals f next one =
     let added = new_commands c a arrivals next in
     ap f added.is ∙ all_leave (IsNewCommand c.endpoints a.at) f one added.front (commands_of Ru c arrivals) added.all
 
-data_leave : {X : Type 0} (side : Side) (c : Config) (a : Arrival) (arrivals : List Arrival) (f : List Data → X) → IsNextArrival c a arrivals
-    → ((x : Data) (earlier : List Data) → IsNewData c.endpoints a.at x → f (x ∷ earlier) ≡ f earlier)
+data_leave : {X : Type 0} (side : Side) (c : Config) (a : Arrival) (arrivals : List Arrival) (f : List UserSection → X) → IsNextArrival c a arrivals
+    → ((x : UserSection) (earlier : List UserSection) → IsNewData c.endpoints a.at x → f (x ∷ earlier) ≡ f earlier)
     → f (data_of side c (a ∷ arrivals)) ≡ f (data_of side c arrivals)
 data_leave side c a arrivals f next one =
     let added = new_data side c a arrivals next in

@@ -20,7 +20,7 @@ use Rattle.unit_laws.specs.unit_model.specs.Radiated.{first_clock}
 use Rattle.unit_laws.specs.unit_model.specs.Reports.{accepted_of, commands_of}
 use Rattle.unit_laws.specs.unit_model.specs.Uplink.{is_before, job_of, jobs, sends_in, symbol_jobs}
 use Rattle.unit_laws.specs.unit_model.specs.declared.allocations.Allocation.{Allocation}
-use Rattle.unit_laws.specs.unit_model.specs.declared.decoded.Command.{Command}
+use Rattle.unit_laws.specs.unit_model.specs.declared.decoded.ControlSection.{ControlSection}
 use Rattle.unit_laws.specs.unit_model.specs.declared.jobs.UplinkJob.{UplinkJob}
 use Rattle.unit_laws.specs.unit_model.specs.declared.verdicts.CommandVerdict.{CommandVerdict}
 use Rattle.unit_laws.specs.unit_model.specs.declared.verdicts.CommandVerdict.TheVariants.{Mismatch, Late, Early, Range, Repeat, Overlap, Full, Accepted}
@@ -49,7 +49,7 @@ with_one P Overlap a earlier here all = all
 with_one P Full a earlier here all = all
 with_one P Accepted a earlier here all = All-cons P a earlier (here refl) all
 
-all_sendable : (es : List EndpointConfig) (d : Delays) (cs : List Command) → All (IsProperCommand es) cs → All (IsSendable es) (accepted d cs)
+all_sendable : (es : List EndpointConfig) (d : Delays) (cs : List ControlSection) → All (IsProperCommand es) cs → All (IsSendable es) (accepted d cs)
 unfolding accepted
 all_sendable es d [] h = All-nil (IsSendable es)
 all_sendable es d (c ∷ earlier) h =

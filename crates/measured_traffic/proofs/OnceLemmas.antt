@@ -35,8 +35,8 @@ use Rattle.uplink_turns.specs.unit_model.specs.Meetings.{Arrival}
 use Rattle.uplink_turns.specs.unit_model.specs.Standing.{same_cell}
 use Rattle.uplink_turns.specs.unit_model.specs.Uplink.{jobs}
 use Rattle.uplink_turns.specs.unit_model.specs.declared.allocations.Allocation.{Allocation}
-use Rattle.uplink_turns.specs.unit_model.specs.declared.decoded.Command.{Command}
-use Rattle.uplink_turns.specs.unit_model.specs.declared.decoded.Data.{Data}
+use Rattle.uplink_turns.specs.unit_model.specs.declared.decoded.ControlSection.{ControlSection}
+use Rattle.uplink_turns.specs.unit_model.specs.declared.decoded.UserSection.{UserSection}
 use Rattle.document_traffic.specs.uplink_laws.specs.Data.{AreDecodedOnce as AreAnswersDecodedOnce, IsDataSent as IsAnswerSent, blocks_of as answer_blocks_of, said_by}
 use Rattle.document_traffic.specs.uplink_laws.specs.Flows.{bounds_of as answer_bounds_of, flow_of as answer_flow_of, start_at}
 use Rattle.document_traffic.specs.uplink_laws.specs.Jobs.{AreJobsOfPlan}
@@ -56,7 +56,7 @@ module _ (c : Config) (ps : List PlannedLine) (these those : List Arrival) (same
   pub commanded_alike : AreCommandedOnce c ps those → AreCommandedOnce c ps these
   commanded_alike h = record {
     answers = λ later earlier d e. h.answers later earlier d (sym same.commands ∙ e);
-    every = λ p m. subst (λ (cs : List Command). IsCommanded p cs) (sym same.commands) (h.every p m);
+    every = λ p m. subst (λ (cs : List ControlSection). IsCommanded p cs) (sym same.commands) (h.every p m);
     differ = h.differ;
     claims = λ cell re lt. ap (λ (claimed : List Allocation). claim_at claimed cell re) same.accepted ∙ h.claims cell re lt;
   }
@@ -66,9 +66,9 @@ module _ (c : Config) (ps : List PlannedLine) (these those : List Arrival) (same
       let num = numbers_of (bounds_of c) (flow_of c ps text) in
       record {
         whole = λ ep j lt. subst (λ (fs : List Fragment). IsOnceWhole (bounds_of c) (flow_of c ps text ep) j (of_message num ep j fs) (answers (bounds_of c).hold num ep j fs)) (sym same.fragments) (h.whole ep j lt);
-        each = λ d m. h.each d (subst (λ (ds : List Data). IsIn d ds) same.sections m);
-        every = λ p symbol m down busy within. subst (λ (ds : List Data). IsDataSent blocks (part_in symbol p) ds) (sym same.sections) (h.every p symbol m down busy within);
-        blocks_are = λ cell down. ap (λ (ds : List Data). block_at ds cell) same.timely ∙ h.blocks_are cell down;
+        each = λ d m. h.each d (subst (λ (ds : List UserSection). IsIn d ds) same.sections m);
+        every = λ p symbol m down busy within. subst (λ (ds : List UserSection). IsDataSent blocks (part_in symbol p) ds) (sym same.sections) (h.every p symbol m down busy within);
+        blocks_are = λ cell down. ap (λ (ds : List UserSection). block_at ds cell) same.timely ∙ h.blocks_are cell down;
       }
 
   pub jobs_alike : AreJobsOfPlan c ps those → AreJobsOfPlan c ps these
@@ -96,10 +96,10 @@ module _ (c : Config) (antenna : Antenna) (ps : List PlannedLine) (these those :
   answers_alike h = record {
     wholes_say = same.sections ∙ h.wholes_say ∙ ap (λ (fs : List Fragment). joined (map (said_by c) (wholes (answer_bounds_of c).hold fs))) (sym same.fragments);
     messages = h.messages;
-    each = λ d m. h.each d (subst (λ (ds : List Data). IsIn d ds) same.sections m);
-    every = λ p symbol m uplink within. subst (λ (ds : List Data). IsAnswerSent (answer_blocks_of c antenna) (part_in symbol p) ds) (sym same.sections) (h.every p symbol m uplink within);
-    blocks_are = λ cell up. ap (λ (ds : List Data). block_at ds cell) same.timely ∙ h.blocks_are cell up;
-    any_line = λ cell p m uplink covered. ap (λ (ds : List Data). block_at ds cell) same.timely ∙ h.any_line cell p m uplink covered;
+    each = λ d m. h.each d (subst (λ (ds : List UserSection). IsIn d ds) same.sections m);
+    every = λ p symbol m uplink within. subst (λ (ds : List UserSection). IsAnswerSent (answer_blocks_of c antenna) (part_in symbol p) ds) (sym same.sections) (h.every p symbol m uplink within);
+    blocks_are = λ cell up. ap (λ (ds : List UserSection). block_at ds cell) same.timely ∙ h.blocks_are cell up;
+    any_line = λ cell p m uplink covered. ap (λ (ds : List UserSection). block_at ds cell) same.timely ∙ h.any_line cell p m uplink covered;
   }
 
 -- ---- so documents do as they do without delay measurement

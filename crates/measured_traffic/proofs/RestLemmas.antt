@@ -20,8 +20,8 @@ use Rattle.uplink_turns.specs.unit_model.specs.Meetings.{Arrival, Commands, Igno
 use Rattle.uplink_turns.specs.unit_model.specs.Radiated.{first_clock, known_of, reported}
 use Rattle.uplink_turns.specs.unit_model.specs.Reports.{accepted_of, commands_of, data_of, hold_of, met, timely_of}
 use Rattle.uplink_turns.specs.unit_model.specs.declared.allocations.Allocation.{Allocation}
-use Rattle.uplink_turns.specs.unit_model.specs.declared.decoded.Command.{Command}
-use Rattle.uplink_turns.specs.unit_model.specs.declared.decoded.Data.{Data}
+use Rattle.uplink_turns.specs.unit_model.specs.declared.decoded.ControlSection.{ControlSection}
+use Rattle.uplink_turns.specs.unit_model.specs.declared.decoded.UserSection.{UserSection}
 use Rattle.document_delays.specs.window_config.specs.declared.config.Config.{Config}
 use Rattle.document_delays.specs.window_config.specs.declared.endpoints.EndpointConfig.{EndpointConfig}
 use Rattle.measured_traffic.proofs.ListLemmas.{filter_onto, filter_swap}
@@ -40,7 +40,7 @@ commands_heeded : (ms : List Meeting) → commands (filter is_heeded ms) ≡ com
 unfolding commands
 commands_heeded [] = refl
 commands_heeded (Ignored k ∷ ms) = commands_heeded ms
-commands_heeded (Commands cs ∷ ms) = ap (λ (earlier : List Command). onto earlier cs) (commands_heeded ms)
+commands_heeded (Commands cs ∷ ms) = ap (λ (earlier : List ControlSection). onto earlier cs) (commands_heeded ms)
 commands_heeded (Piece e f ∷ ms) = commands_heeded ms
 
 fragments_heeded : (ms : List Meeting) → fragments (filter is_heeded ms) ≡ fragments ms
@@ -56,7 +56,7 @@ sections_heeded side hold [] = refl
 sections_heeded side hold (Ignored k ∷ ms) = sections_heeded side hold ms
 sections_heeded side hold (Commands cs ∷ ms) = sections_heeded side hold ms
 sections_heeded side hold (Piece e f ∷ ms) =
-    ap₂ (λ (fs : List Fragment) (ds : List Data). data_told (data_now side hold e f fs) ++ ds) (fragments_heeded ms) (sections_heeded side hold ms)
+    ap₂ (λ (fs : List Fragment) (ds : List UserSection). data_told (data_now side hold e f fs) ++ ds) (fragments_heeded ms) (sections_heeded side hold ms)
 
 delay_met : (side : Side) (es : List EndpointConfig) (at : ℤ) (m : Message) → is_delay m ≡ true → is_heeded (meet side es at m) ≡ false
 unfolding meet
@@ -103,9 +103,9 @@ module _ (side : Side) (es : List EndpointConfig) (stays : Arrival → Bool) (on
 known_same : (side : Side) (c : Config) (planned : List Allocation) (to : ℤ) (these those : List Arrival) → accepted_of c these ≡ accepted_of c those → timely_of side c these ≡ timely_of side c those
     → reported_at side c planned these to ≡ reported_at side c planned those to
 known_same Ru c planned to these those accepted timely =
-    ap₂ (λ (claimed : List Allocation) (ds : List Data). reported Ru c.delays c.endpoints (known_of claimed ds) to) accepted timely
+    ap₂ (λ (claimed : List Allocation) (ds : List UserSection). reported Ru c.delays c.endpoints (known_of claimed ds) to) accepted timely
 known_same Du c planned to these those accepted timely =
-    ap (λ (ds : List Data). reported Du c.delays c.endpoints (known_of planned ds) to) timely
+    ap (λ (ds : List UserSection). reported Du c.delays c.endpoints (known_of planned ds) to) timely
 
 -- of arrivals with the same messages but for those that are counted alone
 module _ (c : Config) (these those : List Arrival) (same : (side : Side) → filter is_heeded (met side c these) ≡ filter is_heeded (met side c those)) where

@@ -2,27 +2,27 @@
 // symbol, and data from 345 to 134 us. The bytes and the counters are worked out by hand.
 ghost use Rattle.std.specs.Prelude.{◌≡◌, ◌<◌, ◌≤ℤ◌, pos, List, [], ◌∷◌, IfOk};
 ghost use Rattle.fh_time.specs.Numbering.{slots_of};
-ghost use Rattle.data_messages.specs.air_source.specs.declared.events.Side.{Side as SpecSide};
-ghost use Rattle.data_messages.specs.window_config.specs.Configs.{IsConfig};
-ghost use Rattle.data_messages.specs.unit_model.specs.Meetings.{Arrival};
-ghost use Rattle.data_messages.specs.unit_model.specs.Proper.{IsTime};
-ghost use Rattle.data_messages.specs.unit_cells.specs.Cells.{endpoints_of};
-ghost use Rattle.ru_memory.specs.Memory.{Holds};
+ghost use Rattle.unit_memory.specs.air_source.specs.declared.events.Side.{Side as SpecSide};
+ghost use Rattle.unit_memory.specs.window_config.specs.Configs.{IsConfig};
+ghost use Rattle.unit_memory.specs.unit_model.specs.Meetings.{Arrival};
+ghost use Rattle.unit_memory.specs.unit_model.specs.Proper.{IsTime};
+ghost use Rattle.unit_memory.specs.unit_cells.specs.Cells.{endpoints_of};
+ghost use Rattle.unit_memory.specs.Memory.{Holds};
 
 use crate::samples::{block_at, config, endpoint};
 use bfp_codec::{Method, Wide};
-use data_messages::air_source::Side;
-use data_messages::air_source::fault_counters::{Counter, Counters};
-use data_messages::ecpri_fragments::fh_base::NoMemory;
-use data_messages::unit_cells::UnitCells;
-use data_messages::unit_model::Delivered;
-use data_messages::window_config::{Config, EndpointConfig};
 use eaxc_map::Widths;
 use ecpri_frames::{PduRefusal, PduWhy};
 use fh_time::{Numerology, Ticks, shape};
-use ru_memory::{RuMemory, holds_later};
 use std::alloc::Global;
 use std::test::Fail;
+use unit_memory::air_source::Side;
+use unit_memory::air_source::fault_counters::{Counter, Counters};
+use unit_memory::ecpri_fragments::fh_base::NoMemory;
+use unit_memory::unit_cells::UnitCells;
+use unit_memory::unit_model::Delivered;
+use unit_memory::window_config::{Config, EndpointConfig};
+use unit_memory::{UnitMemory, holds_later};
 
 /// A downlink command: symbol 0 of frame 1, section 1, all elements of PRB 0.
 const COMMAND: [u8; 24] = [
@@ -89,16 +89,16 @@ const THIRD: Ticks = Ticks(14_976_000_000);
 const BEHIND: Ticks = Ticks(15_513_600_000);
 
 /// A unit that nothing came to.
-fn made(alloc: Global, side: Side, config: &Config) -> Result<RuMemory, NoMemory>
+fn made(alloc: Global, side: Side, config: &Config) -> Result<UnitMemory, NoMemory>
     requires { IsConfig config.now }
     ensures { IfOk result (λ m. (at : SpecSide) × (arrivals : List Arrival) × Holds at config.now (pos 14745600000) m arrivals []) }
 {
-    RuMemory::make(alloc, side, config)
+    UnitMemory::make(alloc, side, config)
 }
 
 /// What becomes of a frame that comes after all that came by `before`.
 fn deliver(
-    memory: &mut RuMemory,
+    memory: &mut UnitMemory,
     config: &Config,
     before: Ticks,
     at: Ticks,

@@ -2,19 +2,19 @@
 // from 345 to 134 us before their symbol, and symbol 1 begins 36.2 us behind symbol 0.
 ghost use Rattle.std.specs.Prelude.{◌≡◌, ◌<◌, List, [], ◌∷◌};
 ghost use Rattle.fh_time.specs.Numbering.{slots_of};
-ghost use Rattle.data_messages.specs.unit_cells.specs.Cells.{endpoints_of};
+ghost use Rattle.unit_memory.specs.unit_cells.specs.Cells.{endpoints_of};
 
 use crate::receiving::{counted, field, receive};
 use crate::samples::{block_at, config, endpoint};
 use bfp_codec::Method;
-use data_messages::air_source::Side;
-use data_messages::air_source::fault_counters::Counters;
-use data_messages::ecpri_fragments::Assembly;
-use data_messages::unit_cells::UnitCells;
-use data_messages::window_config::EndpointConfig;
 use eaxc_map::Widths;
 use fh_time::{Numerology, of_ns, shape};
 use std::test::Fail;
+use unit_memory::air_source::Side;
+use unit_memory::air_source::fault_counters::Counters;
+use unit_memory::ecpri_fragments::Assembly;
+use unit_memory::unit_cells::UnitCells;
+use unit_memory::window_config::EndpointConfig;
 
 /// Two sections, each of one PRB with the samples (k, -k): section 1 on PRB 0 of symbol 0, and
 /// section 2 with symInc on PRB 0.

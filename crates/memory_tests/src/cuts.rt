@@ -3,25 +3,25 @@
 ghost use Rattle.std.specs.Prelude.{◌≡◌, ◌<◌, ◌≤◌, List, [], ◌∷◌, IfOk, length};
 ghost use Rattle.bfp_codec.specs.Layout.{HasWidth};
 ghost use Rattle.fh_time.specs.Numbering.{slots_of, symbols_of};
-ghost use Rattle.data_messages.specs.window_config.specs.Configs.{IsConfig};
-ghost use Rattle.data_messages.specs.unit_cells.specs.Cells.{endpoints_of};
+ghost use Rattle.unit_memory.specs.window_config.specs.Configs.{IsConfig};
+ghost use Rattle.unit_memory.specs.unit_cells.specs.Cells.{endpoints_of};
 
 use crate::receiving::{counted, field, receive};
 use crate::samples::{accept, block_at, claim_at, config, endpoint, section};
 use bfp_codec::{Method, Wide};
 use cplane_sections::CSection;
-use data_messages::air_source::Side;
-use data_messages::air_source::fault_counters::Counters;
-use data_messages::ecpri_fragments::Assembly;
-use data_messages::ecpri_fragments::fh_base::NoMemory;
-use data_messages::unit_cells::UnitCells;
-use data_messages::unit_model::Block;
-use data_messages::window_config::{Config, EndpointConfig};
 use eaxc_map::Widths;
 use fh_time::{Numerology, of_ns, shape};
 use std::alloc::Global;
 use std::process::Abort;
 use std::test::Fail;
+use unit_memory::air_source::Side;
+use unit_memory::air_source::fault_counters::Counters;
+use unit_memory::ecpri_fragments::Assembly;
+use unit_memory::ecpri_fragments::fh_base::NoMemory;
+use unit_memory::unit_cells::UnitCells;
+use unit_memory::unit_model::Block;
+use unit_memory::window_config::{Config, EndpointConfig};
 
 /// Section 1 on PRBs 0 and 1 of symbol 0, and section 2 with symInc on PRBs 2 and 3. Each PRB has its exponent, and then pairs of an I,
 /// which goes on from the PRB before, and the Q that is -1 less it.

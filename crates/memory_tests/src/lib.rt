@@ -1,4 +1,4 @@
-//! Tests of the memory of units by the public calls of `unit_model`, `data_messages`, `ru_memory` and `ru_jobs`, which are proved
+//! Tests of the memory of units by the public calls of `unit_model`, `unit_memory`, `unit_memory` and `ru_jobs`, which are proved
 //! without them.
 //!
 //! `samples` makes what the tests need, and `receiving` takes fragments and keeps what the calls require.

@@ -1,18 +1,18 @@
 // The parts of which units are made, each called once.
 use crate::samples::endpoint;
 use bfp_codec::{Method, Wide};
-use data_messages::air_source::Side;
-use data_messages::air_source::fault_counters::Counter;
-use data_messages::ecpri_fragments::Verdict;
-use data_messages::unit_model::{
+use ecpri_frames::messages;
+use fh_time::{Numerology, Slot, Ticks};
+use std::test::Fail;
+use unit_memory::air_source::Side;
+use unit_memory::air_source::fault_counters::Counter;
+use unit_memory::ecpri_fragments::Verdict;
+use unit_memory::unit_model::{
     Allocation, Block, CommandVerdict, DataVerdict, Met, SymbolStart, block_counter, comes_before,
     command_counter, data_counter, fragment_counter, is_uplink, meet, place_of, same_slot,
     samples_under, sends_in,
 };
-use data_messages::window_config::EndpointConfig;
-use ecpri_frames::messages;
-use fh_time::{Numerology, Slot, Ticks};
-use std::test::Fail;
+use unit_memory::window_config::EndpointConfig;
 
 /// A measurement message, data with 3 bytes, and data to the id 7: sequence 5, the last piece, with one byte.
 const FRAME: [u8; 25] = [

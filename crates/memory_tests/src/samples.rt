@@ -2,17 +2,17 @@
 ghost use Rattle.std.specs.Prelude.{◌≡◌, ◌<◌, ◌≤◌, List, [], ◌∷◌};
 ghost use Rattle.bfp_codec.specs.Layout.{HasWidth};
 ghost use Rattle.fh_time.specs.Numbering.{slots_of, symbols_of};
-ghost use Rattle.data_messages.specs.window_config.specs.Configs.{IsConfig};
-ghost use Rattle.data_messages.specs.window_config.specs.Endpoints.{IsEndpoint};
-ghost use Rattle.data_messages.specs.unit_cells.specs.Cells.{endpoints_of};
+ghost use Rattle.unit_memory.specs.window_config.specs.Configs.{IsConfig};
+ghost use Rattle.unit_memory.specs.window_config.specs.Endpoints.{IsEndpoint};
+ghost use Rattle.unit_memory.specs.unit_cells.specs.Cells.{endpoints_of};
 
 use bfp_codec::{Format, Method};
 use cplane_sections::{CBody, CHead, CSection};
-use data_messages::unit_cells::UnitCells;
-use data_messages::unit_model::{Block, Command, CommandVerdict};
-use data_messages::window_config::{Config, Delays, EndpointConfig, EndpointList};
 use eaxc_map::Widths;
 use fh_time::{Numerology, Slot, Ticks};
+use unit_memory::unit_cells::UnitCells;
+use unit_memory::unit_model::{Block, CommandVerdict, ControlSection};
+use unit_memory::window_config::{Config, Delays, EndpointConfig, EndpointList};
 
 /// The first slot of frame 1, which begins at 10 ms.
 pub(crate) const SLOT: Slot = Slot {
@@ -98,7 +98,7 @@ pub(crate) fn accept(
     requires start_prb { section.start_prb < 1024 }
     ensures { endpoints_of cells.new ≡ e ∷ [] }
 {
-    let command = Command {
+    let command = ControlSection {
         ep: 0,
         endpoint: e,
         at: if down {

@@ -11,7 +11,7 @@ use Rattle.unit_model.specs.Lists.{every, or_else}
 use Rattle.unit_model.specs.Sound.{IsSoundData}
 use Rattle.unit_model.specs.declared.cells.Block.{Block}
 use Rattle.unit_model.specs.declared.cells.Cell.{Cell}
-use Rattle.unit_model.specs.declared.decoded.Data.{Data}
+use Rattle.unit_model.specs.declared.decoded.UserSection.{UserSection}
 use Rattle.plain_units.proofs.TestLemmas.{every_begins}
 
 last_holds : (a b c e f : Bool) → (a && (b && (c && (e && f)))) ≡ true → f ≡ true
@@ -27,27 +27,27 @@ within first count n h = grind (arith, nat_tests)
 pub starts_before : (first count n : ℕ) → is_from first count n ≡ true → first ≤ n
 starts_before first count n h = grind (arith, nat_tests)
 
-prbs_cover : (d : Data) (cell : Cell) → data_covers d cell ≡ true → is_from (first_data_prb d) (data_prb_count d) cell.prb ≡ true
+prbs_cover : (d : UserSection) (cell : Cell) → data_covers d cell ≡ true → is_from (first_data_prb d) (data_prb_count d) cell.prb ≡ true
 prbs_cover d cell h =
     last_holds (d.ep == cell.ep) (same_way d.head.down cell.down) (same_slot (data_slot d) cell.slot) (d.section.symbol == cell.symbol)
     (is_from (first_data_prb d) (data_prb_count d) cell.prb) h
 
 -- a covered cell's PRB is one of the section's
-pub covered_from : (d : Data) (cell : Cell) → data_covers d cell ≡ true → first_data_prb d ≤ cell.prb
+pub covered_from : (d : UserSection) (cell : Cell) → data_covers d cell ≡ true → first_data_prb d ≤ cell.prb
 covered_from d cell h = starts_before (first_data_prb d) (data_prb_count d) cell.prb (prbs_cover d cell h)
 
-covered_below : (d : Data) (cell : Cell) → data_covers d cell ≡ true → cell.prb - first_data_prb d < data_prb_count d
+covered_below : (d : UserSection) (cell : Cell) → data_covers d cell ≡ true → cell.prb - first_data_prb d < data_prb_count d
 covered_below d cell h = within (first_data_prb d) (data_prb_count d) cell.prb (prbs_cover d cell h)
 
 -- its block is there, and is the cell's
-pub block_is : (d : Data) (cell : Cell) (first : ℕ) (samples : List Wide) → data_covers d cell ≡ true → first ≡ first_data_prb d
+pub block_is : (d : UserSection) (cell : Cell) (first : ℕ) (samples : List Wide) → data_covers d cell ≡ true → first ≡ first_data_prb d
     → slice_get d.blocks (cell.prb - first) ≡ Some samples → Some (record { id = d.section.id; samples = samples }) ≡ block_in d cell
 block_is d cell first samples covered place is =
     ap (λ (x : List Wide). Some (record { id = d.section.id; samples = x }))
     (sym (get_or_from_slice_get d.blocks (cell.prb - first) samples [] is) ∙ ap (λ n. get_or d.blocks (cell.prb - n) []) place)
     ∙ sym (ap (λ b. if b then Some (block_of d cell) else None) covered)
 
-pub block_there : (d : Data) (cell : Cell) (first k : ℕ) → IsSoundData d → data_covers d cell ≡ true → first ≡ first_data_prb d → k ≡ cell.prb - first
+pub block_there : (d : UserSection) (cell : Cell) (first k : ℕ) → IsSoundData d → data_covers d cell ≡ true → first ≡ first_data_prb d → k ≡ cell.prb - first
     → None ≡ slice_get d.blocks k → ⊥
 block_there d cell first k sound covered place is none =
     let inside : k < length d.blocks = omega (arith, covered_below d cell covered, sound.blocks) in
@@ -55,7 +55,7 @@ block_there d cell first k sound covered place is none =
     cc
 
 -- a cell that is not covered has none of its
-pub block_none : (d : Data) (cell : Cell) → data_covers d cell ≡ false → None ≡ block_in d cell
+pub block_none : (d : UserSection) (cell : Cell) → data_covers d cell ≡ false → None ≡ block_in d cell
 block_none d cell h = sym (ap (λ b. if b then Some (block_of d cell) else None) h)
 
 -- what is left of the list, and then what was found before it
@@ -63,24 +63,24 @@ or_else_assoc : {A : Type 0} (x y z : Option A) → or_else (or_else x y) z ≡ 
 or_else_assoc None y z = refl
 or_else_assoc (Some x) y z = refl
 
-pub block_further : (ds : List Data) (i : ℕ) (e : Data) (cell : Cell) (found : Option Block) → i < length ds
+pub block_further : (ds : List UserSection) (i : ℕ) (e : UserSection) (cell : Cell) (found : Option Block) → i < length ds
     → or_else (block_at (drop i ds) cell) found ≡ or_else (block_at (drop (i + 1) ds) cell) (or_else (block_in (get_or ds i e) cell) found)
 unfolding block_at
 block_further ds i e cell found inside =
     ap (λ b. or_else b found) (at_drop_more (λ ys. block_at ys cell) ds i e inside)
     ∙ or_else_assoc (block_at (drop (i + 1) ds) cell) (block_in (get_or ds i e) cell) found
 
-pub block_end : (ds : List Data) (i : ℕ) (cell : Cell) (found : Option Block) → length ds ≤ i → or_else (block_at (drop i ds) cell) found ≡ found
+pub block_end : (ds : List UserSection) (i : ℕ) (cell : Cell) (found : Option Block) → length ds ≤ i → or_else (block_at (drop i ds) cell) found ≡ found
 unfolding block_at
 block_end ds i cell found past = ap (λ b. or_else b found) (at_drop_all (λ ys. block_at ys cell) ds i past)
 
 -- ---- whether a section has all its blocks
 
 -- the test of one cell
-abbrev pub cell_has : List Data → Data → ℕ → Bool
+abbrev pub cell_has : List UserSection → UserSection → ℕ → Bool
 cell_has timely d n = is_some (block_at timely (cell_at d.ep d.head.down (data_slot d) d.section.symbol n))
 
-pub has_all_begins : (timely : List Data) (d : Data)
+pub has_all_begins : (timely : List UserSection) (d : UserSection)
     → has_all timely d ≡ every (first_data_prb d) (first_data_prb d + data_prb_count d - first_data_prb d) (cell_has timely d)
 unfolding has_all every_data_cell
 has_all_begins timely d = every_begins (first_data_prb d) (data_prb_count d) (cell_has timely d)

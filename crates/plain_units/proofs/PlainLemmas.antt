@@ -32,8 +32,8 @@ use Rattle.unit_model.specs.Reports.{hold_of}
 use Rattle.plain_units.specs.declared.taking.OwnedMessage.{OwnedMessage}
 use Rattle.unit_model.specs.Proper.{IsProperAllocation, IsProperData, IsTime}
 use Rattle.unit_model.specs.declared.allocations.Allocation.{Allocation}
-use Rattle.unit_model.specs.declared.decoded.Command.{Command}
-use Rattle.unit_model.specs.declared.decoded.Data.{Data}
+use Rattle.unit_model.specs.declared.decoded.ControlSection.{ControlSection}
+use Rattle.unit_model.specs.declared.decoded.UserSection.{UserSection}
 use Rattle.plain_units.specs.declared.plain.Plain.{Plain}
 use Rattle.unit_model.specs.declared.verdicts.CommandVerdict.{CommandVerdict}
 use Rattle.unit_model.specs.declared.verdicts.DataVerdict.{DataVerdict}
@@ -43,7 +43,7 @@ use Rattle.unit_model.proofs.CountLemmas.{capped_data, times-append, one_time}
 -- ---- counters
 
 -- the same numbers in another form
-pub counted_as : (u : Plain) (side : Side) (c : Config) (n m : Counter → ℕ) (fs : List Fragment) (cs : List Command) (ds : List Data)
+pub counted_as : (u : Plain) (side : Side) (c : Config) (n m : Counter → ℕ) (fs : List Fragment) (cs : List ControlSection) (ds : List UserSection)
     → ((k : Counter) → n k ≡ m k) → Holds u side c n fs cs ds → Holds u side c m fs cs ds
 counted_as u side c n m fs cs ds same h = record {
   fragments = h.fragments;
@@ -62,7 +62,7 @@ counted_as u side c n m fs cs ds same h = record {
 -- ---- fragments
 
 -- what an assembly that took a fragment stands for
-pub taken_holds : (u : Plain) (a : Assembly) (side : Side) (c : Config) (n : Counter → ℕ) (fs : List Fragment) (cs : List Command) (ds : List Data) (f : Fragment)
+pub taken_holds : (u : Plain) (a : Assembly) (side : Side) (c : Config) (n : Counter → ℕ) (fs : List Fragment) (cs : List ControlSection) (ds : List UserSection) (f : Fragment)
     → Took u.assembly a f → IsTime f.at → Holds u side c n fs cs ds → Holds (record u { assembly = a }) side c n (f ∷ fs) cs ds
 taken_holds u a side c n fs cs ds f took time h = record {
   fragments = took.stands fs h.fragments;
@@ -92,7 +92,7 @@ some_whole side e f (Some m) o h =
 piece_number : (n o d : ℕ) (told : List Counter) (x k : Counter) → times told k ≡ d → once x k ≡ o → (n + o) + d ≡ n + times (told ++ x ∷ []) k
 piece_number n o d told x k h g = omega (arith, times-append told (x ∷ []) k)
 
-module _ (u : Plain) (side : Side) (c : Config) (n : Counter → ℕ) (fs : List Fragment) (cs : List Command) (ds : List Data) (e : EndpointConfig) (f : Fragment) where
+module _ (u : Plain) (side : Side) (c : Config) (n : Counter → ℕ) (fs : List Fragment) (cs : List ControlSection) (ds : List UserSection) (e : EndpointConfig) (f : Fragment) where
   abbrev hold : ℤ
   hold = hold_of side c.delays
 
@@ -153,7 +153,7 @@ module _ (u : Plain) (side : Side) (c : Config) (arrivals : List Arrival) (ms : 
       counted_as u side c _ _ (fragments ms) (commands ms) (data_sections side held ms)
       (λ k. message_number (times (frames_counted arrivals) k) (times (messages_counted side held ms) k) (once counter.Messages k) (once x k)) h
 
-  pub stands_commands : (cs : List Command) → Holds u side c met_so_far (fragments ms) (onto (commands ms) cs) (data_sections side held ms) → Stands u side c arrivals (Commands cs ∷ ms)
+  pub stands_commands : (cs : List ControlSection) → Holds u side c met_so_far (fragments ms) (onto (commands ms) cs) (data_sections side held ms) → Stands u side c arrivals (Commands cs ∷ ms)
   unfolding fragments commands data_sections messages_counted
   stands_commands cs h =
       counted_as u side c _ _ (fragments ms) (onto (commands ms) cs) (data_sections side held ms)
@@ -190,7 +190,7 @@ pub record MetSoFar (u : Plain) (side : Side) (c : Config) (at : ℤ) (arrivals 
 
 -- ---- sections of commands
 
-pub commands_on : (d : Delays) (c : Command) (cs : List Command) (old : List Allocation) (vs ws : List CommandVerdict) (v : CommandVerdict) → old ≡ accepted d cs
+pub commands_on : (d : Delays) (c : ControlSection) (cs : List ControlSection) (old : List Allocation) (vs ws : List CommandVerdict) (v : CommandVerdict) → old ≡ accepted d cs
     → v ≡ command_verdict d old c → vs ≡ reverse (command_verdicts d cs) → ws ≡ vs ++ v ∷ [] → ws ≡ reverse (command_verdicts d (c ∷ cs))
 unfolding command_verdicts
 commands_on d c cs old vs ws v o e before n =
@@ -203,19 +203,19 @@ allocations_on es v a old new here all n = All-same (IsProperAllocation es) new 
 
 -- ---- sections of data
 
-pub timely_on : (side : Side) (d : Delays) (x : Data) (ds : List Data) (old new : List Data) (k : Class) → old ≡ timely side d ds → k ≡ data_class side d x
+pub timely_on : (side : Side) (d : Delays) (x : UserSection) (ds : List UserSection) (old new : List UserSection) (k : Class) → old ≡ timely side d ds → k ≡ data_class side d x
     → new ≡ with_timely k x old → new ≡ timely side d (x ∷ ds)
 unfolding timely
 timely_on side d x ds old new k o e n = n ∙ ap (λ w. with_timely w x old) e ∙ ap (with_timely (data_class side d x) x) o
 
-pub user_on : (side : Side) (d : Delays) (x : Data) (ds : List Data) (old : List Data) (vs ws : List DataVerdict) (v : DataVerdict) → old ≡ timely side d ds
+pub user_on : (side : Side) (d : Delays) (x : UserSection) (ds : List UserSection) (old : List UserSection) (vs ws : List DataVerdict) (v : DataVerdict) → old ≡ timely side d ds
     → v ≡ data_verdict side d old x → vs ≡ reverse (data_verdicts side d ds) → ws ≡ vs ++ v ∷ [] → ws ≡ reverse (data_verdicts side d (x ∷ ds))
 unfolding data_verdicts
 user_on side d x ds old vs ws v o e before n =
     n ∙ ap (λ xs. xs ++ v ∷ []) before ∙ ap (λ w. reverse (data_verdicts side d ds) ++ w ∷ []) (e ∙ ap (λ xs. data_verdict side d xs x) o)
     ∙ sym (reverse-append (data_verdict side d (timely side d ds) x ∷ []) (data_verdicts side d ds))
 
-pub data_count : (side : Side) (d : Delays) (x : Data) (ds : List Data) (old : List Data) (v : DataVerdict) (p q n a : ℕ) (k : Counter) → old ≡ timely side d ds
+pub data_count : (side : Side) (d : Delays) (x : UserSection) (ds : List UserSection) (old : List UserSection) (v : DataVerdict) (p q n a : ℕ) (k : Counter) → old ≡ timely side d ds
     → v ≡ data_verdict side d old x → p ≡ capped (n + (a + times (data_counted (data_verdicts side d ds)) k)) → q ≡ capped (p + once (data_counter v) k)
     → q ≡ capped (n + (a + times (data_counted (data_verdicts side d (x ∷ ds))) k))
 unfolding data_verdicts
@@ -223,11 +223,11 @@ data_count side d x ds old v p q n a k o e before now =
     capped_data p q n (once (data_counter v) k) a (times (data_counted (data_verdicts side d ds)) k) before now
     ∙ ap (λ w. capped (n + (a + (times (data_counted (data_verdicts side d ds)) k + once (data_counter w) k)))) (e ∙ ap (λ xs. data_verdict side d xs x) o)
 
-kept_sections : (es : List EndpointConfig) (k : Class) (x : Data) (old : List Data) → IsProperData es x → All (IsProperData es) old → All (IsProperData es) (with_timely k x old)
+kept_sections : (es : List EndpointConfig) (k : Class) (x : UserSection) (old : List UserSection) → IsProperData es x → All (IsProperData es) old → All (IsProperData es) (with_timely k x old)
 kept_sections es class.Late x old here all = all
 kept_sections es class.Early x old here all = all
 kept_sections es class.OnTime x old here all = All-cons (IsProperData es) x old here all
 
-pub sections_on : (es : List EndpointConfig) (k : Class) (x : Data) (old new : List Data) → IsProperData es x → All (IsProperData es) old → new ≡ with_timely k x old
+pub sections_on : (es : List EndpointConfig) (k : Class) (x : UserSection) (old new : List UserSection) → IsProperData es x → All (IsProperData es) old → new ≡ with_timely k x old
     → All (IsProperData es) new
 sections_on es k x old new here all n = All-same (IsProperData es) new (with_timely k x old) n (kept_sections es k x old here all)

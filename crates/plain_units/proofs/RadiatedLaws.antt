@@ -18,7 +18,7 @@ use Rattle.unit_model.specs.declared.allocations.Allocation.{Allocation}
 use Rattle.unit_model.specs.declared.cells.Block.{Block}
 use Rattle.unit_model.specs.declared.cells.Cell.{Cell}
 use Rattle.unit_model.specs.declared.cells.Claim.{Claim}
-use Rattle.unit_model.specs.declared.decoded.Data.{Data}
+use Rattle.unit_model.specs.declared.decoded.UserSection.{UserSection}
 use Rattle.unit_model.specs.declared.symbol_start.SymbolStart.{SymbolStart}
 use Rattle.unit_model.proofs.SweepLaws.{each_none, each_same, sweep_flat}
 
@@ -105,7 +105,7 @@ none_used claims (suc n) h =
 no_report : (side : Side) (e : EndpointConfig) (cell : Cell) (start : ℤ) (claims : ℕ → Option Claim) (block : Option Block) → ((re : ℕ) → claims re ≡ None) → report_of side e cell start claims block ≡ []
 no_report side e cell start claims block h = rw (none_used claims 12 h) refl
 
-no_cells : (side : Side) (accepted : List Allocation) (timely : List Data) (ep : ℕ) (e : EndpointConfig) (slot : Slot) (symbol : ℕ)
+no_cells : (side : Side) (accepted : List Allocation) (timely : List UserSection) (ep : ℕ) (e : EndpointConfig) (slot : Slot) (symbol : ℕ)
     → is_claimed_in accepted ep (is_down side) slot symbol ≡ false → symbol_report side (known_of accepted timely) ep e slot symbol ≡ []
 unfolding symbol_report
 no_cells side accepted timely ep e slot symbol h =
@@ -119,7 +119,7 @@ symbol_cells : (side : Side) (k : Known) (ep : ℕ) (e : EndpointConfig) (slot :
 unfolding symbol_report
 symbol_cells side k ep e slot symbol = refl
 
-cells_told : (side : Side) (accepted : List Allocation) (timely : List Data) (ep : ℕ) (e : EndpointConfig) (slot : Slot) (symbol : ℕ) (b : Bool) → is_claimed_in accepted ep (is_down side) slot symbol ≡ b
+cells_told : (side : Side) (accepted : List Allocation) (timely : List UserSection) (ep : ℕ) (e : EndpointConfig) (slot : Slot) (symbol : ℕ) (b : Bool) → is_claimed_in accepted ep (is_down side) slot symbol ≡ b
     → symbol_report side (known_of accepted timely) ep e slot symbol
     ≡ flat_map (cells_at side (known_of accepted timely)) (if b then start_at ep e slot symbol ∷ [] else [])
 cells_told side accepted timely ep e slot symbol true h =
@@ -127,7 +127,7 @@ cells_told side accepted timely ep e slot symbol true h =
 cells_told side accepted timely ep e slot symbol false h = no_cells side accepted timely ep e slot symbol h
 
 -- all that is reported
-pub reported_told : (side : Side) (d : Delays) (es : List EndpointConfig) (accepted : List Allocation) (timely : List Data) (to : ℤ)
+pub reported_told : (side : Side) (d : Delays) (es : List EndpointConfig) (accepted : List Allocation) (timely : List UserSection) (to : ℤ)
     → reported side d es (known_of accepted timely) to
     ≡ flat_map (cells_at side (known_of accepted timely))
     (sweep (claimed_start accepted (is_down side)) es (first_clock -ℤ wait_of side d) ((to -ℤ wait_of side d) +ℤ pos 1))
@@ -154,7 +154,7 @@ claim_in (a ∷ earlier) ep down slot symbol prb re =
     kept_claim a (filter (is_in ep down slot symbol) earlier) (cell_at ep down slot symbol prb) re (claim_at earlier (cell_at ep down slot symbol prb) re) (is_in ep down slot symbol a)
     (claim_in earlier ep down slot symbol prb re) (not_named a ep down slot symbol prb re)
 
-pub cells_in : (side : Side) (accepted : List Allocation) (timely : List Data) (m : SymbolStart)
+pub cells_in : (side : Side) (accepted : List Allocation) (timely : List UserSection) (m : SymbolStart)
     → cells_at side (known_of (filter (is_in m.ep (is_down side) m.slot m.symbol) accepted) timely) m ≡ cells_at side (known_of accepted timely) m
 cells_in side accepted timely m =
     each_same 0 m.endpoint.prbs (cell_told side (known_of (filter (is_in m.ep (is_down side) m.slot m.symbol) accepted) timely) m) (cell_told side (known_of accepted timely) m) (λ prb.
@@ -162,7 +162,7 @@ cells_in side accepted timely m =
     (fun_ext (λ re. claim_in accepted m.ep (is_down side) m.slot m.symbol prb re)))
 
 -- by the starts that the code asks for
-pub reported_by : (side : Side) (d : Delays) (es : List EndpointConfig) (accepted : List Allocation) (timely : List Data) (to : ℤ) (down : Bool) (wait from end : ℤ) (starts : List SymbolStart)
+pub reported_by : (side : Side) (d : Delays) (es : List EndpointConfig) (accepted : List Allocation) (timely : List UserSection) (to : ℤ) (down : Bool) (wait from end : ℤ) (starts : List SymbolStart)
     → down ≡ is_down side → wait ≡ wait_of side d → from ≡ first_clock -ℤ wait → end ≡ (to -ℤ wait) +ℤ pos 1 → starts ≡ sweep (claimed_start accepted down) es from end
     → flat_map (cells_at side (known_of accepted timely)) starts ≡ reported side d es (known_of accepted timely) to
 reported_by side d es accepted timely to down wait from end starts down_is wait_is from_is end_is is =

@@ -13,15 +13,15 @@ use Rattle.unit_model.specs.Decoding.{data_sections}
 use Rattle.unit_model.specs.Meetings.{Arrival, Meeting, commands, fragments}
 use Rattle.unit_model.specs.Proper.{IsProperAllocation, IsProperData, IsTime}
 use Rattle.unit_model.specs.Reports.{hold_of}
-use Rattle.unit_model.specs.declared.decoded.Command.{Command}
-use Rattle.unit_model.specs.declared.decoded.Data.{Data}
+use Rattle.unit_model.specs.declared.decoded.ControlSection.{ControlSection}
+use Rattle.unit_model.specs.declared.decoded.UserSection.{UserSection}
 use Rattle.plain_units.specs.declared.plain.Plain.{Plain}
 use Rattle.plain_units.specs.declared.report.TimedFrame.{TimedFrame}
 use Rattle.unit_model.specs.Counts.{counted_of}
 
 -- It stands for these fragments, sections of commands and sections of data, the newest first, and has counted so much beside
 -- the verdicts on the sections.
-pub record Holds (u : Plain) (side : Side) (c : Config) (counted : Counter → ℕ) (fs : List Fragment) (cs : List Command) (ds : List Data) : Type 0 where
+pub record Holds (u : Plain) (side : Side) (c : Config) (counted : Counter → ℕ) (fs : List Fragment) (cs : List ControlSection) (ds : List UserSection) : Type 0 where
   pub fragments : StandsFor u.assembly fs
   pub came : All (λ f. IsTime f.at) fs
   pub endpoints : endpoints_of u.assembly ≡ length c.endpoints
@@ -39,8 +39,8 @@ pub record Holds (u : Plain) (side : Side) (c : Config) (counted : Counter → �
 pub record HoldsSome (u : Plain) (side : Side) (c : Config) : Type 0 where
   pub counted : Counter → ℕ
   pub fragments : List Fragment
-  pub commands : List Command
-  pub sections : List Data
+  pub commands : List ControlSection
+  pub sections : List UserSection
   pub holds : Holds u side c counted fragments commands sections
 
 -- it stands for these frames and these of their messages

@@ -9,10 +9,10 @@ use crate::claims::same_way;
 use crate::slots::{data_slot, data_start};
 use unit_model::air_source::Side;
 use unit_model::window_config::{Class, Delays, class, class_up, data_window};
-use unit_model::{Block, Cell, Data, DataVerdict, is_from, same_slot};
+use unit_model::{Block, Cell, DataVerdict, UserSection, is_from, same_slot};
 
 /// The first PRB that a section of data has.
-pub(crate) fn first_data_prb(d: &Data) -> u16
+pub(crate) fn first_data_prb(d: &UserSection) -> u16
     ensures { result ≡ first_data_prb d.now }
 {
     if d.section.num_prb == 0 {
@@ -23,7 +23,7 @@ pub(crate) fn first_data_prb(d: &Data) -> u16
 }
 
 /// How many PRBs it has.
-pub(crate) fn data_prb_count(d: &Data) -> u16
+pub(crate) fn data_prb_count(d: &UserSection) -> u16
     ensures { result ≡ data_prb_count d.now }
 {
     if d.section.num_prb == 0 {
@@ -34,7 +34,7 @@ pub(crate) fn data_prb_count(d: &Data) -> u16
 }
 
 /// Whether a cell stands in the symbol and the PRBs of a section of data.
-pub(crate) fn data_covers(d: &Data, cell: &Cell) -> bool
+pub(crate) fn data_covers(d: &UserSection, cell: &Cell) -> bool
     requires { IsSoundData d.now }
     ensures { result ≡ data_covers d.now cell.now }
 {
@@ -46,7 +46,7 @@ pub(crate) fn data_covers(d: &Data, cell: &Cell) -> bool
 }
 
 /// What a section of data gives a cell.
-pub(crate) fn block_in(d: &Data, cell: &Cell) -> Option<Block>
+pub(crate) fn block_in(d: &UserSection, cell: &Cell) -> Option<Block>
     requires { IsSoundData d.now }
     ensures { result ≡ block_in d.now cell.now }
 {
@@ -64,7 +64,7 @@ pub(crate) fn block_in(d: &Data, cell: &Cell) -> Option<Block>
 }
 
 /// The block of a cell, where these came on time, the newest first: that of the first of them that covers it.
-pub(crate) fn block_at(timely: &[Data], cell: &Cell) -> Option<Block>
+pub(crate) fn block_at(timely: &[UserSection], cell: &Cell) -> Option<Block>
     requires { All IsSoundData timely.now }
     ensures { result ≡ block_at timely.now cell.now }
 {
@@ -80,7 +80,7 @@ pub(crate) fn block_at(timely: &[Data], cell: &Cell) -> Option<Block>
 
 /// Whether data is on time, by its own symbol: before it at the radio unit, after it at the distributed unit.
 #[tactic(auto, using(unit_model::proofs::BlockLemmas::windows))]
-pub(crate) fn data_class(side: Side, delays: &Delays, d: &Data) -> Class
+pub(crate) fn data_class(side: Side, delays: &Delays, d: &UserSection) -> Class
     requires limits { IsWithinLimits delays.now }
     requires sound { IsSoundData d.now }
     ensures { result ≡ data_class side delays.now d.now }
@@ -92,7 +92,7 @@ pub(crate) fn data_class(side: Side, delays: &Delays, d: &Data) -> Class
 }
 
 /// The cell of a section of data at a PRB.
-fn data_cell(d: &Data, prb: u16) -> Cell
+fn data_cell(d: &UserSection, prb: u16) -> Cell
     requires { IsSoundData d.now }
     ensures { result ≡ cell_at d.now.ep d.now.head.down (data_slot d.now) d.now.section.symbol prb }
 {
@@ -106,7 +106,7 @@ fn data_cell(d: &Data, prb: u16) -> Cell
 }
 
 /// Whether each cell of a section of data has a block.
-pub(crate) fn has_all(timely: &[Data], d: &Data) -> bool
+pub(crate) fn has_all(timely: &[UserSection], d: &UserSection) -> bool
     requires timely { All IsSoundData timely.now }
     requires sound { IsSoundData d.now }
     ensures { result ≡ has_all timely.now d.now }
@@ -125,7 +125,12 @@ pub(crate) fn has_all(timely: &[Data], d: &Data) -> bool
 
 /// The verdict on a section of data, where these came on time before it, the newest first.
 #[tactic(auto, unfolding(unit_model::specs::Blocks::data_verdict))]
-pub(crate) fn data_verdict(side: Side, delays: &Delays, timely: &[Data], d: &Data) -> DataVerdict
+pub(crate) fn data_verdict(
+    side: Side,
+    delays: &Delays,
+    timely: &[UserSection],
+    d: &UserSection,
+) -> DataVerdict
     requires limits { IsWithinLimits delays.now }
     requires timely { All IsSoundData timely.now }
     requires sound { IsSoundData d.now }

@@ -13,7 +13,8 @@ use crate::claims::{overlaps, repeats};
 use fh_time::Slot;
 use unit_model::window_config::{Class, Delays};
 use unit_model::{
-    Allocation, Command, CommandVerdict, allocation_of, command_class, is_for, is_uplink, same_slot,
+    Allocation, CommandVerdict, ControlSection, allocation_of, command_class, is_for, is_uplink,
+    same_slot,
 };
 
 /// How many uplink sections a slot of an endpoint takes.
@@ -78,7 +79,7 @@ fn timely_verdict(accepted: &[Allocation], a: &Allocation) -> CommandVerdict
 pub(crate) fn command_verdict(
     delays: &Delays,
     accepted: &[Allocation],
-    c: &Command,
+    c: &ControlSection,
 ) -> CommandVerdict
     requires limits { IsWithinLimits delays.now }
     requires sound { IsSoundCommand c.now }

@@ -12,7 +12,7 @@ use crate::gathering::{Gathered, Part};
 use fh_base::NoMemory;
 use fh_time::{Ticks, shape};
 use std::alloc::Global;
-use unit_model::Data;
+use unit_model::UserSection;
 use unit_model::air_source::Side;
 use unit_model::uplane_sections::{UFeed, UHead, URefusal, UWalker};
 use unit_model::window_config::EndpointConfig;
@@ -25,7 +25,7 @@ pub(crate) enum DecodedMessage {
     /// It has the other unit's direction.
     Backwards,
     /// Its sections, the last one first.
-    Sections(Vec<Data>),
+    Sections(Vec<UserSection>),
 }
 
 /// All that a message tells, and its refusal, if it is refused.
@@ -71,12 +71,12 @@ fn data(
     last: Ticks,
     head: UHead,
     parts: Vec<Part>,
-) -> Result<Vec<Data>, NoMemory>
+) -> Result<Vec<UserSection>, NoMemory>
     ensures { IfOk result (λ ds. ds.items ≡ map (data_with ep endpoint.now first.0 last.0 head) parts.items) }
 {
     let mut sections = Vec::new(alloc);
     for part in parts {
-        sections.push(Data {
+        sections.push(UserSection {
             ep,
             endpoint: *endpoint,
             first,

@@ -7,8 +7,8 @@ ghost use Rattle.ecpri_frames.specs.Messages.{pdu};
 ghost use Rattle.fault_counters.specs.declared.kinds.Counter.{Counter as SpecCounter};
 ghost use Rattle.fault_counters.specs.Counts.{once, times};
 ghost use Rattle.unit_model.specs.window_config.specs.Configs.{IsConfig};
-ghost use Rattle.unit_model.specs.declared.decoded.Command.{Command as SpecCommand};
-ghost use Rattle.unit_model.specs.declared.decoded.Data.{Data as SpecData};
+ghost use Rattle.unit_model.specs.declared.decoded.ControlSection.{ControlSection as SpecControlSection};
+ghost use Rattle.unit_model.specs.declared.decoded.UserSection.{UserSection as SpecUserSection};
 ghost use Rattle.unit_model.specs.Blocks.{with_timely};
 ghost use Rattle.unit_model.specs.Commands.{with_accepted, allocation_of};
 ghost use Rattle.unit_model.specs.Lists.{onto};
@@ -36,8 +36,8 @@ use std::alloc::Global;
 use unit_model::air_source::Side;
 use unit_model::window_config::{Class, Config, EndpointConfig};
 use unit_model::{
-    Allocation, Command, CommandVerdict, Data, DataVerdict, Met, allocation_of, command_counter,
-    data_counter, fragment_counter, meet,
+    Allocation, CommandVerdict, ControlSection, DataVerdict, Met, UserSection, allocation_of,
+    command_counter, data_counter, fragment_counter, meet,
 };
 
 /// How long a generation of fragments holds at this side.
@@ -57,7 +57,7 @@ fn hold(side: Side, config: &Config) -> Ticks
 fn accept(
     accepted: &mut Vec<Allocation>,
     verdict: CommandVerdict,
-    c: &Command,
+    c: &ControlSection,
 ) -> Result<(), NoMemory>
     requires { IsSoundCommand c.now }
     ensures { OnOk result (accepted.new.items ≡ with_accepted verdict (allocation_of c.now) accepted.old.items) }
@@ -69,7 +69,7 @@ fn accept(
 }
 
 /// Keeps data that came on time.
-fn keep(timely: &mut Vec<Data>, class: Class, d: Data) -> Result<(), NoMemory>
+fn keep(timely: &mut Vec<UserSection>, class: Class, d: UserSection) -> Result<(), NoMemory>
     ensures { OnOk result (timely.new.items ≡ with_timely class d timely.old.items) }
 {
     if let Class::OnTime = class {
@@ -83,7 +83,7 @@ fn keep(timely: &mut Vec<Data>, class: Class, d: Data) -> Result<(), NoMemory>
 pub(crate) struct Plain {
     pub(crate) assembly: Assembly,
     pub(crate) accepted: Vec<Allocation>,
-    pub(crate) timely: Vec<Data>,
+    pub(crate) timely: Vec<UserSection>,
     pub(crate) command_verdicts: List<CommandVerdict>,
     pub(crate) data_verdicts: List<DataVerdict>,
     pub(crate) counters: Counters,
@@ -109,17 +109,17 @@ impl Plain {
 
     /// Counts what is no section.
     fn count(&mut self, counter: Counter)
-        ensures { (side : Side) (c : Config) (n : SpecCounter → ℕ) (fs : Items Fragment) (cs : Items SpecCommand) (ds : Items SpecData)
+        ensures { (side : Side) (c : Config) (n : SpecCounter → ℕ) (fs : Items Fragment) (cs : Items SpecControlSection) (ds : Items SpecUserSection)
             → Holds self.old side c n fs cs ds → Holds self.new side c (λ k. n k + once counter k) fs cs ds }
     {
         self.counters.add(counter);
     }
 
     /// Treats a section of a command.
-    fn command_section(&mut self, config: &Config, c: &Command) -> Result<(), NoMemory>
+    fn command_section(&mut self, config: &Config, c: &ControlSection) -> Result<(), NoMemory>
         requires config { IsConfig config.now }
         requires proper { IsProperCommand config.now.endpoints c.now }
-        ensures { (side : Side) (n : SpecCounter → ℕ) (fs : Items Fragment) (cs : Items SpecCommand) (ds : Items SpecData)
+        ensures { (side : Side) (n : SpecCounter → ℕ) (fs : Items Fragment) (cs : Items SpecControlSection) (ds : Items SpecUserSection)
             → Holds self.old side config.now n fs cs ds → OnOk result (Holds self.new side config.now n fs (c.now ∷ cs) ds) }
     {
         let verdict = command_verdict(&config.delays, &self.accepted, c);
@@ -129,11 +129,11 @@ impl Plain {
     }
 
     /// Treats a section of data.
-    fn data_section(&mut self, side: Side, config: &Config, d: Data) -> Result<(), NoMemory>
+    fn data_section(&mut self, side: Side, config: &Config, d: UserSection) -> Result<(), NoMemory>
         requires config { IsConfig config.now }
         requires unit { HoldsSome self.old side config.now }
         requires proper { IsProperData config.now.endpoints d }
-        ensures { (n : SpecCounter → ℕ) (fs : Items Fragment) (cs : Items SpecCommand) (ds : Items SpecData)
+        ensures { (n : SpecCounter → ℕ) (fs : Items Fragment) (cs : Items SpecControlSection) (ds : Items SpecUserSection)
             → Holds self.old side config.now n fs cs ds → OnOk result (Holds self.new side config.now n fs cs (d ∷ ds)) }
     {
         let class = data_class(side, &config.delays, &d);
@@ -148,12 +148,12 @@ impl Plain {
         &mut self,
         side: Side,
         config: &Config,
-        mut sections: Vec<Data>,
+        mut sections: Vec<UserSection>,
     ) -> Result<(), NoMemory>
         requires config { IsConfig config.now }
         requires unit { HoldsSome self.old side config.now }
         requires proper { All (IsProperData config.now.endpoints) sections.items }
-        ensures { (n : SpecCounter → ℕ) (fs : Items Fragment) (cs : Items SpecCommand) (ds : Items SpecData)
+        ensures { (n : SpecCounter → ℕ) (fs : Items Fragment) (cs : Items SpecControlSection) (ds : Items SpecUserSection)
             → Holds self.old side config.now n fs cs ds → OnOk result (Holds self.new side config.now n fs cs (sections.items ++ ds)) }
     {
         while let Some(d) = sections.pop() {
@@ -177,7 +177,7 @@ impl Plain {
         requires read { IsRead endpoint.now head.now bytes.now }
         requires endpoint { IsAt config.now.endpoints ep endpoint.now }
         requires time { IsTime at.0 }
-        ensures { (side : Side) (n : SpecCounter → ℕ) (fs : Items Fragment) (cs : Items SpecCommand) (ds : Items SpecData)
+        ensures { (side : Side) (n : SpecCounter → ℕ) (fs : Items Fragment) (cs : Items SpecControlSection) (ds : Items SpecUserSection)
             → Holds self.old side config.now n fs cs ds
             → OnOk result (Holds self.new side config.now n fs (onto cs (commands_with ep endpoint.now at.0 head.now (sections_in head.now bytes.now))) ds) }
     {
@@ -203,7 +203,7 @@ impl Plain {
         requires endpoint { IsAt config.now.endpoints ep endpoint.now }
         requires first { IsTime message.now.first.0 }
         requires last { IsTime message.now.last.0 }
-        ensures { (n : SpecCounter → ℕ) (fs : Items Fragment) (cs : Items SpecCommand) (ds : Items SpecData)
+        ensures { (n : SpecCounter → ℕ) (fs : Items Fragment) (cs : Items SpecControlSection) (ds : Items SpecUserSection)
             → Holds self.old side config.now n fs cs ds
             → let d = decoded side ep endpoint.now message.now.first.0 message.now.last.0 message.now.bytes in
             OnOk result (Holds self.new side config.now (λ k. n k + times (decoded_counted (Some d)) k) fs cs (sections_of d ++ ds)) }
@@ -243,7 +243,7 @@ impl Plain {
         requires endpoint { IsAt config.now.endpoints ep endpoint.now }
         requires time { IsTime at.0 }
         requires sub { seq.sub < 128 }
-        ensures { (n : SpecCounter → ℕ) (fs : Items Fragment) (cs : Items SpecCommand) (ds : Items SpecData)
+        ensures { (n : SpecCounter → ℕ) (fs : Items Fragment) (cs : Items SpecControlSection) (ds : Items SpecUserSection)
             → Holds self.old side config.now n fs cs ds
             → let f = fragment_with ep at.0 seq bytes.now in
             let hold = hold_of side config.now.delays in
@@ -297,7 +297,7 @@ impl Plain {
 
     /// Counts a frame, and whether it spells no PDU.
     fn count_frame(&mut self, frame: &[u8])
-        ensures { (side : Side) (c : Config) (n : SpecCounter → ℕ) (fs : Items Fragment) (cs : Items SpecCommand) (ds : Items SpecData)
+        ensures { (side : Side) (c : Config) (n : SpecCounter → ℕ) (fs : Items Fragment) (cs : Items SpecControlSection) (ds : Items SpecUserSection)
             → Holds self.old side c n fs cs ds
             → Holds self.new side c (λ k. n k + times (refusal_counted (pdu frame.now).refusal ++ SpecCounter.Frames ∷ []) k) fs cs ds }
     {

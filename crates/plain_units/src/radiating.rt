@@ -17,7 +17,7 @@ use fh_time::{Ticks, of_ns};
 use std::alloc::Global;
 use unit_model::air_source::{AirCell, Side};
 use unit_model::window_config::{Delays, EndpointConfig};
-use unit_model::{Allocation, Cell, Claim, Data, SymbolStart, samples_under};
+use unit_model::{Allocation, Cell, Claim, SymbolStart, UserSection, samples_under};
 
 /// Whether what a unit reports is of the downlink.
 fn is_down(side: Side) -> bool
@@ -104,7 +104,7 @@ fn push_cell(
     m: &SymbolStart,
     prb: u16,
     claimed: &[Allocation],
-    timely: &[Data],
+    timely: &[UserSection],
 ) -> Result<(), NoMemory>
     requires { All IsSoundData timely.now }
     ensures { OnOk result (cells.new ≡ cells.old ++ cell_told side (known_of claimed.now timely.now) m.now prb) }
@@ -141,7 +141,7 @@ fn push_cells(
     side: Side,
     m: &SymbolStart,
     claimed: &[Allocation],
-    timely: &[Data],
+    timely: &[UserSection],
 ) -> Result<(), NoMemory>
     requires { All IsSoundData timely.now }
     ensures { OnOk result (cells.new ≡ cells.old ++ cells_at side (known_of claimed.now timely.now) m.now) }
@@ -191,7 +191,7 @@ fn push_symbol(
     side: Side,
     m: &SymbolStart,
     accepted: &[Allocation],
-    timely: &[Data],
+    timely: &[UserSection],
 ) -> Result<(), NoMemory>
     requires { All IsSoundData timely.now }
     ensures { OnOk result (cells.new ≡ cells.old ++ cells_at side (known_of accepted.now timely.now) m.now) }
@@ -207,7 +207,7 @@ fn cells_of(
     side: Side,
     starts: &[SymbolStart],
     accepted: &[Allocation],
-    timely: &[Data],
+    timely: &[UserSection],
 ) -> Result<List<AirCell>, NoMemory>
     requires { All IsSoundData timely.now }
     ensures { IfOk result (λ cells. cells ≡ flat_map (cells_at side (known_of accepted.now timely.now)) starts.now) }
@@ -228,7 +228,7 @@ pub(crate) fn reported(
     delays: &Delays,
     endpoints: &[EndpointConfig],
     accepted: &[Allocation],
-    timely: &[Data],
+    timely: &[UserSection],
     to: Ticks,
 ) -> Result<List<AirCell>, NoMemory>
     requires delays { IsWithinLimits delays.now }

@@ -10,7 +10,7 @@ use cplane_sections::{CHead, sections};
 use fh_base::NoMemory;
 use fh_time::Ticks;
 use std::alloc::Global;
-use unit_model::Command;
+use unit_model::ControlSection;
 use unit_model::window_config::EndpointConfig;
 
 /// The sections of a command that was read, in its order.
@@ -21,14 +21,14 @@ pub(crate) fn commands(
     endpoint: &EndpointConfig,
     head: &CHead,
     bytes: &[u8],
-) -> Result<Vec<Command>, NoMemory>
+) -> Result<Vec<ControlSection>, NoMemory>
     requires { IsRead endpoint.now head.now bytes.now }
     ensures value { IfOk result (λ cs. cs.items ≡ commands_with ep endpoint.now at.0 head.now (sections_in head.now bytes.now)) }
     ensures proper { (es : List SpecEndpoint) → IsAt es ep endpoint.now → IsTime at.0 → IfOk result (λ cs. All (IsProperCommand es) cs.items) }
 {
     let mut commands = Vec::new(alloc);
     for section in sections(bytes, head) {
-        commands.push(Command {
+        commands.push(ControlSection {
             ep,
             endpoint: *endpoint,
             at,

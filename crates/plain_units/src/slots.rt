@@ -5,11 +5,11 @@ ghost use Rattle.unit_model.specs.Proper.{IsSlot};
 ghost use Rattle.unit_model.specs.Sound.{IsSoundData};
 
 use fh_time::{Slot, Ticks, air, resolve};
-use unit_model::Data;
+use unit_model::UserSection;
 
 /// The slot that data names, by the frame nearest to its last arrival.
 #[tactic(auto, using(unit_model::proofs::SlotLemmas::slots))]
-pub(crate) fn data_slot(d: &Data) -> Slot
+pub(crate) fn data_slot(d: &UserSection) -> Slot
     requires { IsSoundData d.now }
     ensures value { result ≡ data_slot d.now }
     ensures slot { IsSlot d.now.endpoint.numerology result }
@@ -22,7 +22,7 @@ pub(crate) fn data_slot(d: &Data) -> Slot
 }
 
 /// When the symbol of a section of data starts.
-pub(crate) fn data_start(d: &Data) -> Ticks
+pub(crate) fn data_start(d: &UserSection) -> Ticks
     requires { IsSoundData d.now }
     ensures value { result.0 ≡ data_start d.now }
     ensures low { neg_ℤ (pos (2 ^ 56)) ≤ℤ result.0 }

@@ -27,7 +27,7 @@ use Rattle.replay_events.specs.unit_model.specs.Lists.{joined}
 use Rattle.replay_events.specs.unit_model.specs.Meetings.{Arrival, Meeting, Ignored, Commands, Piece, fragments}
 use Rattle.replay_events.specs.unit_model.specs.Reports.{hold_of, met}
 use Rattle.replay_events.specs.unit_model.specs.Standing.{AreInTime}
-use Rattle.replay_events.specs.unit_model.specs.declared.decoded.Data.{Data}
+use Rattle.replay_events.specs.unit_model.specs.declared.decoded.UserSection.{UserSection}
 use Rattle.replay_events.specs.Events.{events}
 use Rattle.replay_events.specs.Heard.{cells_heard}
 use Rattle.replay_events.specs.Moments.{all_arrivals, end_of_time}
@@ -44,7 +44,7 @@ use Rattle.replay_laws.proofs.StandingLemmas.{EndsWith, all_seen, all_standing, 
 
 -- ---- what told a section of data
 
-record IsTold (side : Side) (hold : ℤ) (all : List Meeting) (x : Data) : Type 0 where
+record IsTold (side : Side) (hold : ℤ) (all : List Meeting) (x : UserSection) : Type 0 where
   later : List Meeting
   endpoint : EndpointConfig
   fragment : Fragment
@@ -52,14 +52,14 @@ record IsTold (side : Side) (hold : ℤ) (all : List Meeting) (x : Data) : Type 
   came : all ≡ later ++ Piece endpoint fragment ∷ earlier
   message : Message
   whole : whole_now hold fragment (fragments earlier) ≡ Some message
-  sections : List Data
+  sections : List UserSection
   decoded : decode_message side fragment.ep endpoint message ≡ Sections sections
   there : Contains sections x
 
 nothing_inside : {A : Type 0} (x : A) → Contains (let none : List A = [] in none) x → ⊥
 nothing_inside x h = let lt = h.1 in omega (arith, lt)
 
-told_here : (side : Side) (hold : ℤ) (all later : List Meeting) (e : EndpointConfig) (f : Fragment) (earlier : List Meeting) (x : Data) → all ≡ later ++ Piece e f ∷ earlier
+told_here : (side : Side) (hold : ℤ) (all later : List Meeting) (e : EndpointConfig) (f : Fragment) (earlier : List Meeting) (x : UserSection) → all ≡ later ++ Piece e f ∷ earlier
     → Contains (data_told (data_now side hold e f (fragments earlier))) x → IsTold side hold all x
 told_here side hold all later e f earlier x came inside = go (whole_now hold f (fragments earlier)) refl inside
   where
@@ -83,7 +83,7 @@ told_here side hold all later e f earlier x came inside = go (whole_now hold f (
     go None is inside = absurd (nothing_inside x inside)
     go (Some m) is inside = said m is (decode_message side f.ep e m) refl inside
 
-found_in : (side : Side) (hold : ℤ) (all later ms : List Meeting) (x : Data) → all ≡ later ++ ms → Contains (data_sections side hold ms) x → IsTold side hold all x
+found_in : (side : Side) (hold : ℤ) (all later ms : List Meeting) (x : UserSection) → all ≡ later ++ ms → Contains (data_sections side hold ms) x → IsTold side hold all x
 unfolding data_sections
 found_in side hold all later [] x parts inside = absurd (nothing_inside x inside)
 found_in side hold all later (Ignored k ∷ earlier) x parts inside =
@@ -98,7 +98,7 @@ found_in side hold all later (Piece e f ∷ earlier) x parts inside =
 
 -- ---- a section has the times of its message
 
-record HasTimes (ep : ℕ) (first last : ℤ) (x : Data) : Type 0 where
+record HasTimes (ep : ℕ) (first last : ℤ) (x : UserSection) : Type 0 where
   ep_is : x.ep ≡ ep
   first_is : x.first.0 ≡ first
   last_is : x.last.0 ≡ last
@@ -110,7 +110,7 @@ module _ (side : Side) (ep : ℕ) (e : EndpointConfig) (first last : ℤ) where
       All-cons (HasTimes ep first last) (data_with ep e first last head p) (map (data_with ep e first last head) ps)
       (record { ep_is = refl; first_is = refl; last_is = refl }) (parts_times head ps)
 
-  way_times : (ds : List Data) (way : Bool) → All (HasTimes ep first last) ds → All (HasTimes ep first last) (sections_of (if way then Sections ds else Backwards))
+  way_times : (ds : List UserSection) (way : Bool) → All (HasTimes ep first last) ds → All (HasTimes ep first last) (sections_of (if way then Sections ds else Backwards))
   way_times ds true h = h
   way_times ds false h = All-nil (HasTimes ep first last)
 
@@ -159,7 +159,7 @@ later_there (Piece e f ∷ later) ms x h = later_inside f x (fragments (later ++
 
 -- ---- the fragments of one message
 
-module _ (side : Side) (c : Config) (arrivals : List Arrival) (clock : ℤ) (came : AreInTime clock arrivals) (part : Data) (start : ℤ)
+module _ (side : Side) (c : Config) (arrivals : List Arrival) (clock : ℤ) (came : AreInTime clock arrivals) (part : UserSection) (start : ℤ)
     (window : IsInWindow side c.delays part.first.0 part.last.0 start) (t : IsTold side (hold_of side c.delays) (met side c arrivals) part) where
   abbrev hold : ℤ
   hold = hold_of side c.delays

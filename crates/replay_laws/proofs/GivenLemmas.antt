@@ -16,8 +16,8 @@ use Rattle.replay_events.specs.unit_model.specs.declared.allocations.Allocation.
 use Rattle.replay_events.specs.unit_model.specs.declared.cells.Block.{Block}
 use Rattle.replay_events.specs.unit_model.specs.declared.cells.Cell.{Cell}
 use Rattle.replay_events.specs.unit_model.specs.declared.cells.Claim.{Claim}
-use Rattle.replay_events.specs.unit_model.specs.declared.decoded.Command.{Command}
-use Rattle.replay_events.specs.unit_model.specs.declared.decoded.Data.{Data}
+use Rattle.replay_events.specs.unit_model.specs.declared.decoded.ControlSection.{ControlSection}
+use Rattle.replay_events.specs.unit_model.specs.declared.decoded.UserSection.{UserSection}
 use Rattle.replay_events.specs.unit_model.specs.declared.verdicts.CommandVerdict.TheVariants.{Accepted}
 use Rattle.replay_laws.specs.Shown.{HaveOneId}
 use Rattle.replay_events.specs.unit_laws.proofs.AcceptanceLemmas.{accepted_is_acceptable}
@@ -52,8 +52,8 @@ samples_are_under id (Some b) samples h = go (b.id == id) refl h
     go false same e = absurd cc
 
 -- a section of data that was on time gave it
-pub record IsGiven (side : Side) (d : Delays) (ds : List Data) (cell : Cell) (b : Block) : Type 0 where
-  pub x : Data
+pub record IsGiven (side : Side) (d : Delays) (ds : List UserSection) (cell : Cell) (b : Block) : Type 0 where
+  pub x : UserSection
   pub inside : Contains ds x
   pub on_time : data_class side d x ≡ OnTime
   pub covers : data_covers x cell ≡ true
@@ -65,20 +65,20 @@ first_inside x xs = (0, omega arith, refl)
 pub later_inside : {A : Type 0} (x y : A) (xs : List A) → Contains xs y → Contains (x ∷ xs) y
 later_inside x y xs h = let lt = h.1 in (suc h.0, omega arith, h.2)
 
-given_later : (side : Side) (d : Delays) (x : Data) (ds : List Data) (cell : Cell) (b : Block) → IsGiven side d ds cell b → IsGiven side d (x ∷ ds) cell b
+given_later : (side : Side) (d : Delays) (x : UserSection) (ds : List UserSection) (cell : Cell) (b : Block) → IsGiven side d ds cell b → IsGiven side d (x ∷ ds) cell b
 given_later side d x ds cell b g = record { x = g.x; inside = later_inside x g.x ds g.inside; on_time = g.on_time; covers = g.covers; is = g.is }
 
-given_here : (side : Side) (d : Delays) (x : Data) (ds : List Data) (cell : Cell) (b : Block) (covered : Bool) → data_class side d x ≡ OnTime → data_covers x cell ≡ covered
+given_here : (side : Side) (d : Delays) (x : UserSection) (ds : List UserSection) (cell : Cell) (b : Block) (covered : Bool) → data_class side d x ≡ OnTime → data_covers x cell ≡ covered
     → (let o : Option Block = if covered then Some (block_of x cell) else None in o) ≡ Some b → IsGiven side d (x ∷ ds) cell b
 given_here side d x ds cell b true on_time is e =
     record { x = x; inside = first_inside x ds; on_time = on_time; covers = is; is = same_Some (block_of x cell) b e }
 given_here side d x ds cell b false on_time is e = absurd cc
 
-pub block_given : (side : Side) (d : Delays) (ds : List Data) (cell : Cell) (b : Block) → block_at (timely side d ds) cell ≡ Some b → IsGiven side d ds cell b
+pub block_given : (side : Side) (d : Delays) (ds : List UserSection) (cell : Cell) (b : Block) → block_at (timely side d ds) cell ≡ Some b → IsGiven side d ds cell b
 block_given side d [] cell b there = absurd (none_given side d cell b there)
 block_given side d (x ∷ earlier) cell b there = elim (timely_more side d x earlier) [
-  | inl e ↦ given_later side d x earlier cell b (block_given side d earlier cell b (sym (ap (λ (xs : List Data). block_at xs cell) e) ∙ there))
-  | inr is ↦ go is.0 (block_given side d earlier cell b) (block_at (timely side d earlier) cell) refl (sym (block-cons x (timely side d earlier) cell) ∙ sym (ap (λ (xs : List Data). block_at xs cell) is.1) ∙ there)
+  | inl e ↦ given_later side d x earlier cell b (block_given side d earlier cell b (sym (ap (λ (xs : List UserSection). block_at xs cell) e) ∙ there))
+  | inr is ↦ go is.0 (block_given side d earlier cell b) (block_at (timely side d earlier) cell) refl (sym (block-cons x (timely side d earlier) cell) ∙ sym (ap (λ (xs : List UserSection). block_at xs cell) is.1) ∙ there)
 ]
   where
     go : data_class side d x ≡ OnTime → (block_at (timely side d earlier) cell ≡ Some b → IsGiven side d earlier cell b) → (o : Option Block) → block_at (timely side d earlier) cell ≡ o
@@ -91,21 +91,21 @@ block_given side d (x ∷ earlier) cell b there = elim (timely_more side d x ear
 -- ---- the claim on an element
 
 -- a command that was accepted over what the earlier ones left, and names the element, gave it
-pub record IsClaimed (d : Delays) (cs : List Command) (cell : Cell) (re : ℕ) (k : Claim) : Type 0 where
-  pub later : List Command
-  pub command : Command
-  pub earlier : List Command
+pub record IsClaimed (d : Delays) (cs : List ControlSection) (cell : Cell) (re : ℕ) (k : Claim) : Type 0 where
+  pub later : List ControlSection
+  pub command : ControlSection
+  pub earlier : List ControlSection
   pub parts : cs ≡ later ++ command ∷ earlier
   pub named : names (allocation_of command) cell re ≡ true
   pub accepted_is : command_verdict d (accepted d earlier) command ≡ Accepted
   pub is : claim_of (allocation_of command) ≡ k
 
-claimed_later : (d : Delays) (c : Command) (cs : List Command) (cell : Cell) (re : ℕ) (k : Claim) → IsClaimed d cs cell re k → IsClaimed d (c ∷ cs) cell re k
+claimed_later : (d : Delays) (c : ControlSection) (cs : List ControlSection) (cell : Cell) (re : ℕ) (k : Claim) → IsClaimed d cs cell re k → IsClaimed d (c ∷ cs) cell re k
 claimed_later d c cs cell re k g = record {
   later = c ∷ g.later;
   command = g.command;
   earlier = g.earlier;
-  parts = ap (λ (xs : List Command). c ∷ xs) g.parts;
+  parts = ap (λ (xs : List ControlSection). c ∷ xs) g.parts;
   named = g.named;
   accepted_is = g.accepted_is;
   is = g.is;
@@ -114,7 +114,7 @@ claimed_later d c cs cell re k g = record {
 pub claim_named : (a : Allocation) (earlier : List Allocation) (cell : Cell) (re : ℕ) → names a cell re ≡ true → claim_at (a ∷ earlier) cell re ≡ Some (claim_of a)
 claim_named a earlier cell re h = claim-cons a earlier cell re ∙ ap (λ b. if b then Some (claim_of a) else claim_at earlier cell re) h
 
-pub claim_given : (d : Delays) (cs : List Command) (cell : Cell) (re : ℕ) (k : Claim) → claim_at (accepted d cs) cell re ≡ Some k → IsClaimed d cs cell re k
+pub claim_given : (d : Delays) (cs : List ControlSection) (cell : Cell) (re : ℕ) (k : Claim) → claim_at (accepted d cs) cell re ≡ Some k → IsClaimed d cs cell re k
 claim_given d [] cell re k there = absurd (none_claimed d cell re k there)
 claim_given d (c ∷ earlier) cell re k there = elim (accepted_more d c earlier) [
   | inl e ↦ claimed_later d c earlier cell re k (claim_given d earlier cell re k (sym (ap (λ (xs : List Allocation). claim_at xs cell re) e) ∙ there))
@@ -217,7 +217,7 @@ one_more_id a earlier cell apart one re other k l small few there also = elim (e
     own : (r : ℕ) (x : Claim) → names a cell r ≡ false → covers a cell ≡ true → r < 12 → claim_at (a ∷ earlier) cell r ≡ Some x → x.id ≡ a.section
     own r x h over below e = own_id earlier a cell r x apart over below (before r x h e)
 
-pub one_id : (d : Delays) (cs : List Command) (cell : Cell) → HaveOneId (accepted d cs) cell
+pub one_id : (d : Delays) (cs : List ControlSection) (cell : Cell) → HaveOneId (accepted d cs) cell
 one_id d [] cell re other k l small few there also = absurd (none_claimed d cell re k there)
 one_id d (c ∷ earlier) cell re other k l small few there also = elim (accepted_more d c earlier) [
   | inl e ↦ one_id d earlier cell re other k l small few (sym (as_before e re) ∙ there) (sym (as_before e other) ∙ also)

@@ -21,8 +21,8 @@ use Rattle.replay_events.specs.unit_model.specs.Reports.{hold_of}
 use Rattle.replay_events.specs.unit_model.specs.declared.allocations.Allocation.{Allocation}
 use Rattle.replay_events.specs.unit_model.specs.declared.cells.Block.{Block}
 use Rattle.replay_events.specs.unit_model.specs.declared.cells.Cell.{Cell}
-use Rattle.replay_events.specs.unit_model.specs.declared.decoded.Command.{Command}
-use Rattle.replay_events.specs.unit_model.specs.declared.decoded.Data.{Data}
+use Rattle.replay_events.specs.unit_model.specs.declared.decoded.ControlSection.{ControlSection}
+use Rattle.replay_events.specs.unit_model.specs.declared.decoded.UserSection.{UserSection}
 use Rattle.replay_events.specs.unit_model.specs.declared.verdicts.CommandVerdict.TheVariants.{Accepted}
 use Rattle.replay_events.specs.unit_model.specs.declared.verdicts.DataVerdict.TheVariants.{Repeat, Taken}
 use Rattle.replay_events.specs.unit_model.proofs.BlockLemmas.{newer_found}
@@ -32,7 +32,7 @@ use Rattle.replay_laws.specs.Refused.{EachRefusedChangesNothing, IsRefusedMessag
 
 -- ---- a section of a command
 
-accepted_rests : (d : Delays) (later : List Command) (x : Command) (earlier : List Command) → command_verdict d (accepted d earlier) x ≢ Accepted
+accepted_rests : (d : Delays) (later : List ControlSection) (x : ControlSection) (earlier : List ControlSection) → command_verdict d (accepted d earlier) x ≢ Accepted
     → accepted d (later ++ earlier) ≡ accepted d (later ++ x ∷ earlier)
 accepted_rests d [] x earlier not_accepted = elim (accepted_more d x earlier) [
   | inl e ↦ sym e
@@ -56,7 +56,7 @@ every_true from (suc n) p h k above below =
     ]
 
 -- a section that has all its blocks has that of each cell that it covers
-block_there : (x : Data) (earlier : List Data) (cell : Cell) → has_all earlier x ≡ true → data_covers x cell ≡ true
+block_there : (x : UserSection) (earlier : List UserSection) (cell : Cell) → has_all earlier x ≡ true → data_covers x cell ≡ true
     → is_some (block_at earlier cell) ≡ true
 unfolding has_all every_data_cell
 block_there x earlier cell all covered =
@@ -75,14 +75,14 @@ block_there x earlier cell all covered =
         ∙ ap (λ (y : Slot). cell_at cell.ep cell.down y x.section.symbol cell.prb) is.slot
         ∙ ap (λ (y : ℕ). cell_at cell.ep cell.down cell.slot y cell.prb) is.symbol
 
-repeat_rests : (x : Data) (earlier : List Data) (cell : Cell) → has_all earlier x ≡ true → block_at earlier cell ≡ block_at (x ∷ earlier) cell
+repeat_rests : (x : UserSection) (earlier : List UserSection) (cell : Cell) → has_all earlier x ≡ true → block_at earlier cell ≡ block_at (x ∷ earlier) cell
 repeat_rests x earlier cell all = elim (either_way (data_covers x cell)) [
   | inl outside ↦ sym (block_same x earlier cell outside)
   | inr covered ↦ newer_found (block_at earlier cell) (block_in x cell) (block_there x earlier cell all covered) ∙ sym (block-cons x earlier cell)
 ]
 
 -- data on time that are not taken have all their blocks
-not_taken : (side : Side) (d : Delays) (x : Data) (earlier : List Data) → data_class side d x ≡ class.OnTime → data_verdict side d earlier x ≢ Taken
+not_taken : (side : Side) (d : Delays) (x : UserSection) (earlier : List UserSection) → data_class side d x ≡ class.OnTime → data_verdict side d earlier x ≢ Taken
     → has_all earlier x ≡ true
 unfolding data_verdict
 not_taken side d x earlier on_time untaken = go (has_all earlier x) refl
@@ -91,25 +91,25 @@ not_taken side d x earlier on_time untaken = go (has_all earlier x) refl
     go true is = refl
     go false is = absurd (untaken (ap (λ (k : Class). data_verdict_in k earlier x) on_time ∙ ap (λ b. if b then Repeat else Taken) is))
 
-blocks_more : (k : Class) (y : Data) (xs ys : List Data) (cell : Cell) → block_at xs cell ≡ block_at ys cell
+blocks_more : (k : Class) (y : UserSection) (xs ys : List UserSection) (cell : Cell) → block_at xs cell ≡ block_at ys cell
     → block_at (with_timely k y xs) cell ≡ block_at (with_timely k y ys) cell
 blocks_more class.Late y xs ys cell same = same
 blocks_more class.Early y xs ys cell same = same
 blocks_more class.OnTime y xs ys cell same =
     block-cons y xs cell ∙ ap (λ (o : Option Block). or_else o (block_in y cell)) same ∙ sym (block-cons y ys cell)
 
-blocks_rest : (side : Side) (d : Delays) (later : List Data) (x : Data) (earlier : List Data) → data_verdict side d (timely side d earlier) x ≢ Taken
+blocks_rest : (side : Side) (d : Delays) (later : List UserSection) (x : UserSection) (earlier : List UserSection) → data_verdict side d (timely side d earlier) x ≢ Taken
     → (cell : Cell) → block_at (timely side d (later ++ earlier)) cell ≡ block_at (timely side d (later ++ x ∷ earlier)) cell
 blocks_rest side d [] x earlier untaken cell = elim (timely_more side d x earlier) [
-  | inl e ↦ sym (ap (λ (xs : List Data). block_at xs cell) e)
+  | inl e ↦ sym (ap (λ (xs : List UserSection). block_at xs cell) e)
   | inr is ↦
       repeat_rests x (timely side d earlier) cell (not_taken side d x (timely side d earlier) is.0 untaken)
-      ∙ sym (ap (λ (xs : List Data). block_at xs cell) is.1)
+      ∙ sym (ap (λ (xs : List UserSection). block_at xs cell) is.1)
 ]
 blocks_rest side d (y ∷ later) x earlier untaken cell =
-    ap (λ (xs : List Data). block_at xs cell) (timely-cons side d y (later ++ earlier))
+    ap (λ (xs : List UserSection). block_at xs cell) (timely-cons side d y (later ++ earlier))
     ∙ blocks_more (data_class side d y) y _ _ cell (blocks_rest side d later x earlier untaken cell)
-    ∙ sym (ap (λ (xs : List Data). block_at xs cell) (timely-cons side d y (later ++ x ∷ earlier)))
+    ∙ sym (ap (λ (xs : List UserSection). block_at xs cell) (timely-cons side d y (later ++ x ∷ earlier)))
 
 -- ---- generations that a later fragment cannot tell apart
 
@@ -224,7 +224,7 @@ same_more : (side : Side) (hold : ℤ) (m : Meeting) (ms ns : List Meeting) → 
 unfolding commands fragments data_sections
 same_more side hold (Ignored k) ms ns same = record { commands_are = same.commands_are; fragments_are = same.fragments_are; data_are = same.data_are }
 same_more side hold (Commands cs) ms ns same = record {
-  commands_are = ap (λ (xs : List Command). onto xs cs) same.commands_are;
+  commands_are = ap (λ (xs : List ControlSection). onto xs cs) same.commands_are;
   fragments_are = same.fragments_are;
   data_are = same.data_are;
 }
@@ -264,5 +264,5 @@ each_refused_changes_nothing side c arrivals = record {
       (same.commands_are ∙ ap commands (sym parts), same.data_are ∙ ap (data_sections side hold) (sym parts));
   command_rests = λ later x earlier parts rests. accepted_rests c.delays later x earlier rests ∙ ap (accepted c.delays) (sym parts);
   data_rests = λ later x earlier parts rests cell.
-      blocks_rest side c.delays later x earlier rests cell ∙ ap (λ (xs : List Data). block_at (timely side c.delays xs) cell) (sym parts);
+      blocks_rest side c.delays later x earlier rests cell ∙ ap (λ (xs : List UserSection). block_at (timely side c.delays xs) cell) (sym parts);
 }

@@ -26,7 +26,7 @@ use Rattle.replay_events.specs.unit_model.specs.declared.allocations.Allocation.
 use Rattle.replay_events.specs.unit_model.specs.declared.cells.Block.{Block}
 use Rattle.replay_events.specs.unit_model.specs.declared.cells.Cell.{Cell}
 use Rattle.replay_events.specs.unit_model.specs.declared.cells.Claim.{Claim}
-use Rattle.replay_events.specs.unit_model.specs.declared.decoded.Data.{Data}
+use Rattle.replay_events.specs.unit_model.specs.declared.decoded.UserSection.{UserSection}
 use Rattle.replay_events.specs.unit_laws.specs.Far.{IsHeardData}
 use Rattle.replay_events.specs.unit_laws.proofs.AcceptanceLemmas.{accepted_is_acceptable}
 use Rattle.replay_events.specs.unit_laws.proofs.CellLemmas.{data_covers_is, from_first, from_within}
@@ -53,7 +53,7 @@ inside n first count size covered e =
 
 -- ---- by unit
 
-in_window_then : (side : Side) (d : Delays) (x : Data) → data_class side d x ≡ OnTime → IsInWindow side d x.first.0 x.last.0 (data_start x)
+in_window_then : (side : Side) (d : Delays) (x : UserSection) → data_class side d x ≡ OnTime → IsInWindow side d x.first.0 x.last.0 (data_start x)
 in_window_then Ru d x on_time = (class_on_time x.first.0 x.last.0 (data_start x) (data_window_of d)).0 on_time
 in_window_then Du d x on_time = (class_up_on_time x.first.0 x.last.0 (data_start x) d.ta4).0 on_time
 
@@ -133,7 +133,7 @@ module _ (side : Side) (c : Config) (planned : List Allocation) (arrivals : List
   shown = air_cell side e cell (air_of e.numerology slot symbol) (known.claims cell) (known.blocks cell)
 
   -- data that cover the cell name its start
-  starts_then : (x : Data) → IsAt c.endpoints ep e → IsHeardData c.endpoints clock x → data_covers x cell ≡ true → data_start x ≡ air_of e.numerology slot symbol
+  starts_then : (x : UserSection) → IsAt c.endpoints ep e → IsHeardData c.endpoints clock x → data_covers x cell ≡ true → data_start x ≡ air_of e.numerology slot symbol
   starts_then x is heard covered =
       let parts = data_covers_is x cell covered in
       let same = endpoints_equal c.endpoints x.ep ep x.endpoint e heard.endpoint is parts.ep in
@@ -141,7 +141,7 @@ module _ (side : Side) (c : Config) (planned : List Allocation) (arrivals : List
       ∙ ap₂ (λ (s : Slot) (y : ℕ). air_of e.numerology s y) parts.slot parts.symbol
 
   -- and have a block for its PRB
-  inside_blocks : (x : Data) → IsProperData c.endpoints x → data_covers x cell ≡ true → prb - first_data_prb x < length x.blocks
+  inside_blocks : (x : UserSection) → IsProperData c.endpoints x → data_covers x cell ≡ true → prb - first_data_prb x < length x.blocks
   inside_blocks x proper covered = inside prb (first_data_prb x) (data_prb_count x) (length x.blocks) (data_covers_is x cell covered).prb proper.blocks
 
   samples_gave : IsAt c.endpoints ep e → (samples : List Wide) (u : IsUnder (cell_id (known.claims cell)) (block_at (timely_of side c arrivals) cell) samples)

@@ -14,8 +14,8 @@ use Rattle.window_config.specs.declared.endpoints.EndpointConfig.{EndpointConfig
 use Rattle.replay_events.specs.unit_model.specs.Decoding.{Backwards, Decoded, Refused, Sections, data_now, data_sections, data_told, decoded_now, whole_of}
 use Rattle.replay_events.specs.unit_model.specs.Meetings.{Meeting, Ignored, Commands, Piece, commands, fragments}
 use Rattle.replay_events.specs.unit_model.specs.Lists.{onto}
-use Rattle.replay_events.specs.unit_model.specs.declared.decoded.Command.{Command}
-use Rattle.replay_events.specs.unit_model.specs.declared.decoded.Data.{Data}
+use Rattle.replay_events.specs.unit_model.specs.declared.decoded.ControlSection.{ControlSection}
+use Rattle.replay_events.specs.unit_model.specs.declared.decoded.UserSection.{UserSection}
 use Rattle.replay_events.specs.unit_laws.proofs.ChangeLemmas.{either_way}
 use Rattle.replay_laws.specs.Silent.{IsSilent, began}
 use Rattle.replay_laws.proofs.FallingLemmas.{AreFalling}
@@ -136,14 +136,14 @@ pub none_now : (side : Side) (hold : ℤ) (e : EndpointConfig) (f : Fragment) (e
     → data_sections side hold (Piece e f ∷ earlier) ≡ data_sections side hold earlier
 unfolding data_sections
 none_now side hold e f earlier silent =
-    ap (λ (xs : List Data). xs ++ data_sections side hold earlier) (silent_told (data_now side hold e f (fragments earlier)) silent)
+    ap (λ (xs : List UserSection). xs ++ data_sections side hold earlier) (silent_told (data_now side hold e f (fragments earlier)) silent)
 
 -- a fragment is no command
 pub commands_skip : (later : List Meeting) (e : EndpointConfig) (f : Fragment) (earlier : List Meeting) → commands (later ++ earlier) ≡ commands (later ++ Piece e f ∷ earlier)
 unfolding commands
 commands_skip [] e f earlier = refl
 commands_skip (Ignored k ∷ later) e f earlier = commands_skip later e f earlier
-commands_skip (Commands cs ∷ later) e f earlier = ap (λ (xs : List Command). onto xs cs) (commands_skip later e f earlier)
+commands_skip (Commands cs ∷ later) e f earlier = ap (λ (xs : List ControlSection). onto xs cs) (commands_skip later e f earlier)
 commands_skip (Piece d g ∷ later) e f earlier = commands_skip later e f earlier
 
 -- what is counted is no fragment

@@ -23,8 +23,8 @@ use Rattle.replay_events.specs.unit_model.specs.Counts.{block_counter, cells_cou
 use Rattle.replay_events.specs.unit_model.specs.Meetings.{Arrival}
 use Rattle.replay_events.specs.unit_model.specs.Radiated.{first_clock}
 use Rattle.replay_events.specs.unit_model.specs.Reports.{commands_of, data_of, hold_of, met}
-use Rattle.replay_events.specs.unit_model.specs.declared.decoded.Command.{Command}
-use Rattle.replay_events.specs.unit_model.specs.declared.decoded.Data.{Data}
+use Rattle.replay_events.specs.unit_model.specs.declared.decoded.ControlSection.{ControlSection}
+use Rattle.replay_events.specs.unit_model.specs.declared.decoded.UserSection.{UserSection}
 use Rattle.replay_events.specs.unit_model.specs.declared.verdicts.CommandVerdict.{CommandVerdict}
 use Rattle.replay_events.specs.unit_model.specs.declared.verdicts.CommandVerdict.TheVariants as control
 use Rattle.replay_events.specs.unit_model.specs.declared.verdicts.DataVerdict.{DataVerdict}
@@ -44,12 +44,12 @@ use Rattle.replay_laws.proofs.OnceLemmas.{cells_are_reported}
 
 -- ---- each section has one verdict
 
-verdict_each : (d : Delays) (cs : List Command) → length (command_verdicts d cs) ≡ length cs
+verdict_each : (d : Delays) (cs : List ControlSection) → length (command_verdicts d cs) ≡ length cs
 unfolding command_verdicts
 verdict_each d [] = refl
 verdict_each d (c ∷ earlier) = omega (arith, verdict_each d earlier)
 
-data_verdict_each : (side : Side) (d : Delays) (ds : List Data) → length (data_verdicts side d ds) ≡ length ds
+data_verdict_each : (side : Side) (d : Delays) (ds : List UserSection) → length (data_verdicts side d ds) ≡ length ds
 unfolding data_verdicts
 data_verdict_each side d [] = refl
 data_verdict_each side d (x ∷ earlier) = omega (arith, data_verdict_each side d earlier)

@@ -13,8 +13,8 @@ use Rattle.replay_events.specs.unit_model.specs.Lists.{onto}
 use Rattle.replay_events.specs.unit_model.specs.Meetings.{Arrival, Meeting, Ignored, Commands, Piece, commands, fragments}
 use Rattle.replay_events.specs.unit_model.specs.Reports.{hold_of, met}
 use Rattle.replay_events.specs.unit_model.specs.Standing.{AreInTime}
-use Rattle.replay_events.specs.unit_model.specs.declared.decoded.Command.{Command}
-use Rattle.replay_events.specs.unit_model.specs.declared.decoded.Data.{Data}
+use Rattle.replay_events.specs.unit_model.specs.declared.decoded.ControlSection.{ControlSection}
+use Rattle.replay_events.specs.unit_model.specs.declared.decoded.UserSection.{UserSection}
 use Rattle.replay_events.specs.unit_laws.proofs.ChangeLemmas.{either_way}
 use Rattle.replay_events.specs.Moments.{all_arrivals, end_of_time}
 use Rattle.replay_events.proofs.CameLemmas.{arrivals_in_time}
@@ -151,7 +151,7 @@ module _ (side : Side) (hold : ℤ) (e : EndpointConfig) (f : Fragment) (earlier
   unfolding fragments data_sections
   one_other clock d h ms ns order other same = record {
     told =
-        ap₂ (λ (xs ys : List Data). xs ++ ys)
+        ap₂ (λ (xs ys : List UserSection). xs ++ ys)
         (told_same side hold d h (fragments ms) (fragments ns)
         (ap (λ (gs : List Generation). standing (held_in hold h.at gs)) (same.others h.ep h.seq (not_turned h f other)))) same.told;
     own =
@@ -169,7 +169,7 @@ module _ (side : Side) (hold : ℤ) (e : EndpointConfig) (f : Fragment) (earlier
       let m = past_met hold start f.at h.at h (own_of ms) (own_of ns) behind past same.own in
       record {
         told =
-            ap₂ (λ (xs ys : List Data). xs ++ ys)
+            ap₂ (λ (xs ys : List UserSection). xs ++ ys)
             (told_same side hold d h (fragments ms) (fragments ns) (of_same_id f h is (λ (ep seq : ℕ). standing (held_in hold h.at (generations_of hold ep seq (fragments ms)))
             ≡ standing (held_in hold h.at (generations_of hold ep seq (fragments ns)))) m.stood)) same.told;
         own = inr (record {
@@ -238,7 +238,7 @@ commands_but : (some : Fragment → Bool) (later : List Meeting) (e : EndpointCo
 unfolding commands
 commands_but some [] e f earlier = refl
 commands_but some (Ignored k ∷ later) e f earlier = commands_but some later e f earlier
-commands_but some (Commands cs ∷ later) e f earlier = ap (λ (xs : List Command). onto xs cs) (commands_but some later e f earlier)
+commands_but some (Commands cs ∷ later) e f earlier = ap (λ (xs : List ControlSection). onto xs cs) (commands_but some later e f earlier)
 commands_but some (Piece d h ∷ later) e f earlier = go (some h) (commands_but some later e f earlier)
   where
     go : (b : Bool) → commands (without some later ++ earlier) ≡ commands (later ++ Piece e f ∷ earlier)

@@ -13,7 +13,7 @@ use Rattle.replay_events.specs.unit_model.specs.Decoding.{Sections, decode_messa
 use Rattle.replay_events.specs.unit_model.specs.Meetings.{Arrival, Meeting, Piece, fragments}
 use Rattle.replay_events.specs.unit_model.specs.Reports.{hold_of, met}
 use Rattle.replay_events.specs.unit_model.specs.declared.cells.Cell.{Cell}
-use Rattle.replay_events.specs.unit_model.specs.declared.decoded.Data.{Data}
+use Rattle.replay_events.specs.unit_model.specs.declared.decoded.UserSection.{UserSection}
 use Rattle.replay_events.specs.Events.{events}
 use Rattle.replay_events.specs.Heard.{cells_heard}
 use Rattle.replay_events.specs.Moments.{all_arrivals}
@@ -26,7 +26,7 @@ abbrev pub gathered : ℤ → Fragment → List Fragment → List Fragment
 gathered hold f earlier = f ∷ standing_before hold f earlier
 
 -- one of them, where a section of that message is `part` and covers a symbol that starts then
-pub record IsPieceInTime (side : Side) (c : Config) (arrivals : List Arrival) (f : Fragment) (earlier : List Fragment) (part : Data) (start : ℤ) (x : Fragment) : Type 0 where
+pub record IsPieceInTime (side : Side) (c : Config) (arrivals : List Arrival) (f : Fragment) (earlier : List Fragment) (part : UserSection) (start : ℤ) (x : Fragment) : Type 0 where
   pub came : Contains (fragments (met side c arrivals)) x
   pub ep : x.ep ≡ part.ep
   pub seq : x.seq ≡ f.seq
@@ -51,7 +51,7 @@ pub record CameThen (fs : List Fragment) (at : ℤ) : Type 0 where
 -- The message of a section of data that covers a symbol that starts then: one fragment made it whole, after the earlier messages and before
 -- the later ones. What stands then are the fragments of the message, each of which is the piece of its subsequence id: there is one of each
 -- id from 0 to that of the fragment with E = 1, and none beyond.
-pub record IsGathered (side : Side) (c : Config) (arrivals : List Arrival) (part : Data) (start : ℤ) : Type 0 where
+pub record IsGathered (side : Side) (c : Config) (arrivals : List Arrival) (part : UserSection) (start : ℤ) : Type 0 where
   pub later : List Meeting
   pub endpoint : EndpointConfig
   pub fragment : Fragment
@@ -60,7 +60,7 @@ pub record IsGathered (side : Side) (c : Config) (arrivals : List Arrival) (part
   -- the message, and its sections
   pub message : Message
   pub whole : whole_now (hold_of side c.delays) fragment (fragments earlier) ≡ Some message
-  pub sections : List Data
+  pub sections : List UserSection
   pub decoded : decode_message side fragment.ep endpoint message ≡ Sections sections
   pub there : Contains sections part
   -- its fragments

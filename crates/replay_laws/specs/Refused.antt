@@ -11,8 +11,8 @@ use Rattle.replay_events.specs.unit_model.specs.Decoding.{data_sections}
 use Rattle.replay_events.specs.unit_model.specs.Meetings.{Arrival, Meeting, Ignored, Commands, Piece, commands, fragments}
 use Rattle.replay_events.specs.unit_model.specs.Reports.{commands_of, data_of, hold_of, met, timely_of}
 use Rattle.replay_events.specs.unit_model.specs.declared.cells.Cell.{Cell}
-use Rattle.replay_events.specs.unit_model.specs.declared.decoded.Command.{Command}
-use Rattle.replay_events.specs.unit_model.specs.declared.decoded.Data.{Data}
+use Rattle.replay_events.specs.unit_model.specs.declared.decoded.ControlSection.{ControlSection}
+use Rattle.replay_events.specs.unit_model.specs.declared.decoded.UserSection.{UserSection}
 use Rattle.replay_events.specs.unit_model.specs.declared.verdicts.CommandVerdict.TheVariants.{Accepted}
 use Rattle.replay_events.specs.unit_model.specs.declared.verdicts.DataVerdict.TheVariants.{Taken}
 
@@ -33,12 +33,12 @@ pub record RefusedChangesNothing (side : Side) (c : Config) (arrivals : List Arr
       × (data_sections side (hold_of side c.delays) (later ++ earlier) ≡ data_of side c arrivals)
   -- a section of a command that is not accepted: without it the same is accepted, so each claim and each uplink message stays
   pub command_rests :
-      (later : List Command) (x : Command) (earlier : List Command) → commands_of side c arrivals ≡ later ++ x ∷ earlier
+      (later : List ControlSection) (x : ControlSection) (earlier : List ControlSection) → commands_of side c arrivals ≡ later ++ x ∷ earlier
       → command_verdict c.delays (accepted c.delays earlier) x ≢ Accepted
       → accepted c.delays (later ++ earlier) ≡ accepted c.delays (commands_of side c arrivals)
   -- a section of data that is not taken: without it each cell has the same block
   pub data_rests :
-      (later : List Data) (x : Data) (earlier : List Data) → data_of side c arrivals ≡ later ++ x ∷ earlier
+      (later : List UserSection) (x : UserSection) (earlier : List UserSection) → data_of side c arrivals ≡ later ++ x ∷ earlier
       → data_verdict side c.delays (timely side c.delays earlier) x ≢ Taken
       → (cell : Cell) → block_at (timely side c.delays (later ++ earlier)) cell ≡ block_at (timely_of side c arrivals) cell
 

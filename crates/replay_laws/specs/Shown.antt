@@ -27,8 +27,8 @@ use Rattle.replay_events.specs.unit_model.specs.Reports.{commands_of, data_of}
 use Rattle.replay_events.specs.unit_model.specs.declared.allocations.Allocation.{Allocation}
 use Rattle.replay_events.specs.unit_model.specs.declared.cells.Cell.{Cell}
 use Rattle.replay_events.specs.unit_model.specs.declared.cells.Claim.{Claim}
-use Rattle.replay_events.specs.unit_model.specs.declared.decoded.Command.{Command}
-use Rattle.replay_events.specs.unit_model.specs.declared.decoded.Data.{Data}
+use Rattle.replay_events.specs.unit_model.specs.declared.decoded.ControlSection.{ControlSection}
+use Rattle.replay_events.specs.unit_model.specs.declared.decoded.UserSection.{UserSection}
 use Rattle.replay_events.specs.unit_model.specs.declared.verdicts.CommandVerdict.TheVariants.{Accepted}
 use Rattle.replay_events.specs.Events.{events}
 use Rattle.replay_events.specs.Heard.{cells_heard}
@@ -48,7 +48,7 @@ IsInWindow Du d first last start = IsOnTimeUp first last start d.ta4
 -- a section of data that landed gave these samples: it covers the cell, its fragments from the first to the last lie in the window
 -- of the cell's symbol, it has the cell's section id, and the samples are its block for the cell's PRB
 pub record GaveSamples (side : Side) (c : Config) (arrivals : List Arrival) (ep : ℕ) (a : AirCell) (samples : List Wide) : Type 0 where
-  pub part : Data
+  pub part : UserSection
   pub landed : Contains (data_of side c arrivals) part
   pub covers : data_covers part (cell_shown side ep a) ≡ true
   pub on_time : data_class side c.delays part ≡ OnTime
@@ -61,9 +61,9 @@ pub record GaveSamples (side : Side) (c : Config) (arrivals : List Arrival) (ep 
 -- a command that landed at the radio unit, after the earlier ones and before the later ones, gave an element of the cell: it names the
 -- element and is not idle, it was on time, it was accepted over what the earlier ones left, and it has the cell's section id
 pub record GaveElement (c : Config) (arrivals : List Arrival) (ep : ℕ) (a : AirCell) (re : ℕ) : Type 0 where
-  pub later : List Command
-  pub command : Command
-  pub earlier : List Command
+  pub later : List ControlSection
+  pub command : ControlSection
+  pub earlier : List ControlSection
   pub landed : commands_of Ru c arrivals ≡ later ++ command ∷ earlier
   pub named : names (allocation_of command) (cell_shown Ru ep a) re ≡ true
   pub busy : (allocation_of command).idle ≡ false

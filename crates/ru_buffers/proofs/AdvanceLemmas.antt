@@ -8,7 +8,7 @@ use Rattle.history_laws.specs.unit_model.specs.declared.symbol_start.SymbolStart
 use Rattle.history_laws.specs.unit_laws.specs.Runs.{OffsetsFit}
 use Rattle.history_laws.specs.First.{FirstIsFirst, NothingIsNothing}
 use Rattle.ru_jobs.specs.declared.cursor.JobCursor.{JobCursor}
-use Rattle.ru_memory.specs.declared.memory.RuMemory.{RuMemory}
+use Rattle.unit_memory.specs.declared.memory.UnitMemory.{UnitMemory}
 use Rattle.ru_reports.specs.Symbols.{left_at}
 use Rattle.ru_buffers.specs.Reporting.{IsFirstLeft, IsLeftAfter, IsMarked, due_of}
 use Rattle.ru_buffers.specs.Units.{Stands}
@@ -17,12 +17,12 @@ use Rattle.ru_buffers.proofs.MarkedLemmas.{keeps_marked}
 use Rattle.ru_buffers.proofs.ReportLemmas.{due_goes_on, first_is_due, nothing_is_due, starts_no_earlier}
 
 -- some of what was due was heard, and the rest is due now
-pub record Goes (c : Config) (m : RuMemory) (clock : ℤ) (cursor : JobCursor) (h : History) (to : ℤ) (told : List AirCell) : Type 0 where
+pub record Goes (c : Config) (m : UnitMemory) (clock : ℤ) (cursor : JobCursor) (h : History) (to : ℤ) (told : List AirCell) : Type 0 where
   pub is : due_of c h to ≡ told ++ due_of c (heard h told) to
   pub stands : Stands c m clock cursor (heard h told)
 
 -- and these came first of what was due
-pub record Begins (c : Config) (m : RuMemory) (clock : ℤ) (cursor : JobCursor) (h : History) (to : ℤ) (told : List AirCell) (cell : AirCell) : Type 0 where
+pub record Begins (c : Config) (m : UnitMemory) (clock : ℤ) (cursor : JobCursor) (h : History) (to : ℤ) (told : List AirCell) (cell : AirCell) : Type 0 where
   pub rest : List AirCell
   pub is : due_of c h to ≡ told ++ cell ∷ rest
   pub stands : Stands c m clock cursor (heard h told)
@@ -30,16 +30,16 @@ pub record Begins (c : Config) (m : RuMemory) (clock : ℤ) (cursor : JobCursor)
 later_start : (to s x : ℤ) → to <ℤ s → s ≤ℤ x → to <ℤ x
 later_start to s x h k = omega (arith, ints)
 
-module _ (first_law : FirstIsFirst AirCell) (none_law : NothingIsNothing AirCell) (c : Config) (m : RuMemory) (clock : ℤ) (cursor : JobCursor) (h : History)
+module _ (first_law : FirstIsFirst AirCell) (none_law : NothingIsNothing AirCell) (c : Config) (m : UnitMemory) (clock : ℤ) (cursor : JobCursor) (h : History)
     (all : Stands c m clock cursor h) (to : ℤ) where
-  pub goes_on : (m2 : RuMemory) (s : SymbolStart) → OffsetsFit s.endpoint.numerology → IsFirstLeft m.cells clock s → s.start.0 ≤ℤ to
+  pub goes_on : (m2 : UnitMemory) (s : SymbolStart) → OffsetsFit s.endpoint.numerology → IsFirstLeft m.cells clock s → s.start.0 ≤ℤ to
       → IsMarked s (left_at m.cells s) m m2 → Goes c m2 clock cursor h to (left_at m.cells s)
   goes_on m2 s fits first order marked = record {
     is = due_goes_on c m clock cursor h s (left_at m.cells s) [] to first_law all.kept fits first order (sym (append-nil (left_at m.cells s)));
     stands = stands c m2 clock cursor (heard h (left_at m.cells s)) (keeps_marked c m m2 clock cursor h s (left_at m.cells s) all.kept first.symbol first.after marked);
   }
 
-  pub stops : (m2 : RuMemory) (s : SymbolStart) (told rest : List AirCell) (cell : AirCell) → OffsetsFit s.endpoint.numerology → IsFirstLeft m.cells clock s
+  pub stops : (m2 : UnitMemory) (s : SymbolStart) (told rest : List AirCell) (cell : AirCell) → OffsetsFit s.endpoint.numerology → IsFirstLeft m.cells clock s
       → s.start.0 ≤ℤ to → left_at m.cells s ≡ told ++ cell ∷ rest → IsMarked s told m m2 → Begins c m2 clock cursor h to told cell
   stops m2 s told rest cell fits first order is marked =
       let due = first_is_due c m clock cursor h s to first_law all.kept fits first order in
@@ -63,13 +63,13 @@ heard_more h a b = ap (λ (xs : List AirCell). let r : History = record { clock 
 pub heard_none : (h : History) → heard h [] ≡ h
 heard_none h = ap (λ (xs : List AirCell). let r : History = record { clock = h.clock; arrivals = h.arrivals; reported = xs; given = h.given } in r) (append-nil h.reported)
 
-pub goes_nowhere : (c : Config) (m : RuMemory) (clock : ℤ) (cursor : JobCursor) (h : History) (to : ℤ) → Stands c m clock cursor h → Goes c m clock cursor h to []
+pub goes_nowhere : (c : Config) (m : UnitMemory) (clock : ℤ) (cursor : JobCursor) (h : History) (to : ℤ) → Stands c m clock cursor h → Goes c m clock cursor h to []
 goes_nowhere c m clock cursor h to all = record {
   is = ap (λ (x : History). due_of c x to) (sym (heard_none h));
   stands = subst (Stands c m clock cursor) (sym (heard_none h)) all;
 }
 
-pub goes_further : (c : Config) (m2 : RuMemory) (clock : ℤ) (cursor : JobCursor) (h : History) (to : ℤ) (a b : List AirCell)
+pub goes_further : (c : Config) (m2 : UnitMemory) (clock : ℤ) (cursor : JobCursor) (h : History) (to : ℤ) (a b : List AirCell)
     → due_of c h to ≡ a ++ due_of c (heard h a) to → Goes c m2 clock cursor (heard h a) to b → Goes c m2 clock cursor h to (a ++ b)
 goes_further c m2 clock cursor h to a b one two = record {
   is =
@@ -78,7 +78,7 @@ goes_further c m2 clock cursor h to a b one two = record {
   stands = subst (Stands c m2 clock cursor) (heard_more h a b) two.stands;
 }
 
-pub begins_further : (c : Config) (m2 : RuMemory) (clock : ℤ) (cursor : JobCursor) (h : History) (to : ℤ) (a b : List AirCell) (cell : AirCell)
+pub begins_further : (c : Config) (m2 : UnitMemory) (clock : ℤ) (cursor : JobCursor) (h : History) (to : ℤ) (a b : List AirCell) (cell : AirCell)
     → due_of c h to ≡ a ++ due_of c (heard h a) to → Begins c m2 clock cursor (heard h a) to b cell → Begins c m2 clock cursor h to (a ++ b) cell
 begins_further c m2 clock cursor h to a b cell one two = record {
   rest = two.rest;

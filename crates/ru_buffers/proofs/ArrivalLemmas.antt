@@ -29,8 +29,8 @@ use Rattle.history_laws.specs.Arriving.{IsNextArrival}
 use Rattle.history_laws.proofs.ArrivingLemmas.{arrival_leaves_due, arrival_leaves_jobs, arrival_leaves_sent, arrival_leaves_use}
 use Rattle.ru_jobs.specs.Cursors.{left_behind, left_jobs}
 use Rattle.ru_jobs.specs.declared.cursor.JobCursor.{JobCursor}
-use Rattle.ru_memory.specs.Memory.{Holds, arrival}
-use Rattle.ru_memory.specs.declared.memory.RuMemory.{RuMemory}
+use Rattle.unit_memory.specs.Memory.{Holds, arrival}
+use Rattle.unit_memory.specs.declared.memory.UnitMemory.{UnitMemory}
 use Rattle.ru_buffers.specs.Units.{IsWithin, Keeps}
 use Rattle.ru_buffers.proofs.HistoryLemmas.{come_later, since_small}
 use Rattle.ru_buffers.proofs.LookupLemmas.{at_most, left_by_definition, left_of, under_is}
@@ -91,7 +91,7 @@ all_left cursor clock m js since within after =
 front_length : {A : Type 0} (xs ys all : List A) → xs ++ ys ≡ all → length xs ≤ length all
 front_length xs ys all e = omega (arith, length-append xs ys, ap length e)
 
-module _ (c : Config) (m m2 : RuMemory) (clock : ℤ) (cursor : JobCursor) (h : History) (frame : List ℕ) (k : Keeps c m clock cursor h)
+module _ (c : Config) (m m2 : UnitMemory) (clock : ℤ) (cursor : JobCursor) (h : History) (frame : List ℕ) (k : Keeps c m clock cursor h)
     (settled : cursor.since.0 ≡ h.clock) (holds : Holds Ru c cursor.since.0 m2 (arrival h.clock frame ∷ h.arrivals) (cells_counted h.reported))
     (marks : SameMarks Ru c cursor.since.0 m.cells m2.cells) where
   abbrev a : Arrival

@@ -30,9 +30,9 @@ use Rattle.ru_jobs.specs.Cursors.{GivenOne, IsFirstJob, Settled, jobs_left}
 use Rattle.ru_jobs.specs.declared.cursor.NextJob.{NextJob}
 use Rattle.ru_reports.specs.Symbols.{IsSymbol, is_left}
 use Rattle.ru_jobs.specs.declared.cursor.JobCursor.{JobCursor}
-use Rattle.ru_memory.specs.Memory.{Holds, HoldsSome, arrival}
-use Rattle.ru_memory.specs.declared.memory.RuMemory.{RuMemory}
-use Rattle.ru_memory.proofs.HoldLemmas.{holds_later}
+use Rattle.unit_memory.specs.Memory.{Holds, HoldsSome, arrival}
+use Rattle.unit_memory.specs.declared.memory.UnitMemory.{UnitMemory}
+use Rattle.unit_memory.proofs.HoldLemmas.{holds_later}
 use Rattle.ru_buffers.specs.Calls.{IsCellMoment, IsDue, IsLeast, IsMessageMoment, earlier_time, given_of}
 use Rattle.ru_buffers.specs.JobLaws.{IsSettled, NothingIsLeft}
 use Rattle.ru_buffers.specs.Reporting.{IsFirstLeft, due_of}
@@ -50,13 +50,13 @@ use Rattle.ru_buffers.proofs.MadeLemmas.{made, no_messages}
 since_is : (cursor : JobCursor) (t : ℤ) → (let r : JobCursor = record { since = record { 0 = t }; last = None; given = 0 } in cursor ≡ r) → (cursor.since.0 ≡ t)
 since_is cursor t e = ap (λ (x : JobCursor). x.since.0) e
 
-pub stands_made : (c : Config) (m : RuMemory) (cursor : JobCursor) → ((clock : ℤ) → Holds Ru c clock m [] []) → ((cell : Cell) → cells_done m.cells cell ≡ false)
+pub stands_made : (c : Config) (m : UnitMemory) (cursor : JobCursor) → ((clock : ℤ) → Holds Ru c clock m [] []) → ((cell : Cell) → cells_done m.cells cell ≡ false)
     → (let r : JobCursor = record { since = record { 0 = first_clock }; last = None; given = 0 } in cursor ≡ r) → Stands c m first_clock cursor nothing_yet
 stands_made c m cursor holds unmarked is =
     stands c m first_clock cursor nothing_yet (made c m cursor holds unmarked (since_is cursor first_clock is) (ap (λ (x : JobCursor). x.last) is))
 
 -- nothing was to be given before its clock
-pub given_made : (c : Config) (m : RuMemory) (clock : ℤ) (cursor : JobCursor) → Stands c m clock cursor nothing_yet → IsReady m clock cursor
+pub given_made : (c : Config) (m : UnitMemory) (clock : ℤ) (cursor : JobCursor) → Stands c m clock cursor nothing_yet → IsReady m clock cursor
 given_made c m clock cursor all = all.kept.left (clock -ℤ pos 1) ∙ no_messages c (clock -ℤ pos 1) all.kept.holds.config.delays
 
 -- ---- a cursor that is settled
@@ -73,7 +73,7 @@ ready_settled v clock cursor next settled =
     tick-nothing g (endpoints_of v) tick (λ ep e slot symbol swept.
     settled.before (cells_uplink v) (start_at ep e slot symbol) (subst (λ (t : ℤ). t <ℤ clock) (sym swept.starts) (before_clock clock tick high))))
 
-module _ (c : Config) (m : RuMemory) (clock : ℤ) (cursor next : JobCursor) (h : History) (all : Stands c m clock cursor h) (ready : IsReady m clock cursor)
+module _ (c : Config) (m : UnitMemory) (clock : ℤ) (cursor next : JobCursor) (h : History) (all : Stands c m clock cursor h) (ready : IsReady m clock cursor)
     (settled : Settled clock cursor next) where
   pub settled_is : IsSettled c m clock next h
   settled_is = settle holds_later c m clock cursor next h all.kept ready settled
@@ -87,7 +87,7 @@ module _ (c : Config) (m : RuMemory) (clock : ℤ) (cursor next : JobCursor) (h 
   pub holds_some : HoldsSome clock m
   holds_some = record { side = Ru; config = c; arrivals = h.arrivals; beside = cells_counted h.reported; holds = holds_now }
 
-  pub stands_delivered : (m2 : RuMemory) (frame : List ℕ)
+  pub stands_delivered : (m2 : UnitMemory) (frame : List ℕ)
       → ((arrivals : List Arrival) (beside : List Counter) → Holds Ru c clock m arrivals beside → Holds Ru c clock m2 (arrival clock frame ∷ arrivals) beside)
       → SameMarks Ru c clock m.cells m2.cells → Stands c m2 clock next (arrived h frame)
   stands_delivered m2 frame holds marks =
@@ -101,7 +101,7 @@ module _ (c : Config) (m : RuMemory) (clock : ℤ) (cursor next : JobCursor) (h 
 
 -- ---- as the clock goes on
 
-pub stands_later : (c : Config) (m : RuMemory) (clock was : ℤ) (cursor : JobCursor) (h : History) (to : ℤ) → Stands c m clock cursor h → clock ≡ was → IsTime to → was ≤ℤ to
+pub stands_later : (c : Config) (m : UnitMemory) (clock was : ℤ) (cursor : JobCursor) (h : History) (to : ℤ) → Stands c m clock cursor h → clock ≡ was → IsTime to → was ≤ℤ to
     → due_of c h to ≡ [] → Stands c m to cursor (at_clock h to)
 stands_later c m clock was cursor h to all same time order none =
     stands c m to cursor (at_clock h to) (later c m clock cursor h to all.kept time (subst (λ (t : ℤ). t ≤ℤ to) (sym same) order) none)
@@ -116,7 +116,7 @@ ready_known old new next cursor clock was known endpoints same now ready =
 
 -- ---- messages
 
-module _ (c : Config) (m : RuMemory) (clock : ℤ) (cursor : JobCursor) (h : History) (all : Stands c m clock cursor h) where
+module _ (c : Config) (m : UnitMemory) (clock : ℤ) (cursor : JobCursor) (h : History) (all : Stands c m clock cursor h) where
   pub none_at_clock : NothingIsLeft m cursor → given_of c h h.clock ≡ []
   none_at_clock none = none_to_give c m clock cursor h h.clock all.kept none
 

@@ -14,7 +14,7 @@ use Rattle.history_laws.specs.unit_model.specs.Commands.{accepted}
 use Rattle.history_laws.specs.unit_model.specs.Lists.{onto}
 use Rattle.history_laws.specs.unit_model.specs.Meetings.{Arrival, Meeting, Ignored, Piece, commands, control_met, find_endpoint, fragment_of, id_of, meet, meetings, met_by}
 use Rattle.history_laws.specs.unit_model.specs.Reports.{accepted_of}
-use Rattle.history_laws.specs.unit_model.specs.declared.decoded.Command.{Command}
+use Rattle.history_laws.specs.unit_model.specs.declared.decoded.ControlSection.{ControlSection}
 use Rattle.ru_buffers.specs.Control.{has_control, is_control}
 
 first_of : (a b : Bool) → (a || b) ≡ false → (a ≡ false) × (b ≡ false)
@@ -71,4 +71,4 @@ any_later m rest all e other = sym (ap (list_any is_control) e ∙ ap (λ (b : B
 pub none_accepted : (c : Config) (a : Arrival) (arrivals : List Arrival) → has_control a.frame ≡ false → accepted_of c (a ∷ arrivals) ≡ accepted_of c arrivals
 unfolding meetings
 none_accepted c a arrivals none =
-    ap (λ (cs : List Command). accepted c.delays cs) (onto_adds c.endpoints a.at (whole_messages a.frame) (meetings Ru c.endpoints arrivals) none)
+    ap (λ (cs : List ControlSection). accepted c.delays cs) (onto_adds c.endpoints a.at (whole_messages a.frame) (meetings Ru c.endpoints arrivals) none)

@@ -7,15 +7,15 @@ use Rattle.history_laws.specs.unit_model.specs.declared.symbol_start.SymbolStart
 use Rattle.ru_jobs.specs.Cursors.{Settled}
 use Rattle.ru_jobs.specs.declared.cursor.JobCursor.{JobCursor}
 use Rattle.ru_jobs.specs.declared.cursor.NextJob.{NextJob}
-use Rattle.ru_memory.specs.declared.memory.RuMemory.{RuMemory}
-use Rattle.ru_memory.specs.Memory.{arrival}
+use Rattle.unit_memory.specs.declared.memory.UnitMemory.{UnitMemory}
+use Rattle.unit_memory.specs.Memory.{arrival}
 use Rattle.ru_buffers.specs.Calls.{IsNextMessage, IsNextSymbol}
 use Rattle.ru_buffers.specs.Control.{has_control}
 use Rattle.ru_buffers.specs.Units.{IsReady, Keeps}
 use Rattle.ru_buffers.proofs.ControlLemmas.{none_accepted}
 use Rattle.ru_buffers.proofs.NextLemmas.{message_kept, message_settled, symbol_kept}
 
-pub symbol_then : (c : Config) (old new : RuMemory) (clock : ℤ) (next : JobCursor) (h : History) (frame : List ℕ) → Keeps c old clock next h
+pub symbol_then : (c : Config) (old new : UnitMemory) (clock : ℤ) (next : JobCursor) (h : History) (frame : List ℕ) → Keeps c old clock next h
     → Keeps c new clock next (arrived h frame) → (anew : Bool) → anew ≡ has_control frame → (was now : Option SymbolStart) → IsNextSymbol old.cells clock was
     → (anew ≡ true → IsNextSymbol new.cells clock now) → (anew ≡ false → now ≡ was) → IsNextSymbol new.cells clock now
 symbol_then c old new clock next h frame before after anew control was now first found kept = elim (cases_Bool anew) [
@@ -25,7 +25,7 @@ symbol_then c old new clock next h frame before after anew control was now first
       (symbol_kept c old new clock next h (arrived h frame) before after (none_accepted c (arrival h.clock frame) h.arrivals (sym control ∙ not_any)) refl was first)
 ]
 
-pub message_then : (c : Config) (old new : RuMemory) (clock : ℤ) (cursor next : JobCursor) (h : History) (frame : List ℕ) → Keeps c old clock cursor h
+pub message_then : (c : Config) (old new : UnitMemory) (clock : ℤ) (cursor next : JobCursor) (h : History) (frame : List ℕ) → Keeps c old clock cursor h
     → IsReady old clock cursor → Settled clock cursor next → Keeps c old clock next h → Keeps c new clock next (arrived h frame) → (anew : Bool)
     → anew ≡ has_control frame → (was now : Option NextJob) → IsNextMessage old.cells cursor was → (anew ≡ true → IsNextMessage new.cells next now)
     → (anew ≡ false → now ≡ was) → IsNextMessage new.cells next now

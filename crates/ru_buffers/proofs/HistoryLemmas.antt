@@ -16,7 +16,7 @@ use Rattle.history_laws.specs.unit_model.specs.Standing.{AreInTime, History, IsC
 use Rattle.history_laws.specs.unit_model.specs.declared.allocations.Allocation.{Allocation}
 use Rattle.history_laws.specs.unit_model.specs.declared.cells.Cell.{Cell}
 use Rattle.history_laws.specs.unit_model.specs.declared.cells.Claim.{Claim}
-use Rattle.history_laws.specs.unit_model.specs.declared.decoded.Data.{Data}
+use Rattle.history_laws.specs.unit_model.specs.declared.decoded.UserSection.{UserSection}
 use Rattle.history_laws.specs.unit_model.proofs.BlockLemmas.{all_timely}
 use Rattle.history_laws.specs.unit_laws.specs.Far.{IsFar}
 use Rattle.history_laws.specs.unit_laws.proofs.AheadLemmas.{no_claims_ahead}
@@ -28,7 +28,7 @@ use Rattle.ru_reports.specs.unit_cells.specs.Told.{IsTold}
 use Rattle.ru_reports.specs.unit_cells.proofs.TimeLemmas.{far_not_marked, keeps_later, live_at}
 use Rattle.ru_reports.specs.unit_cells.proofs.ToldLemmas.{told_whole}
 use Rattle.ru_jobs.specs.declared.cursor.JobCursor.{JobCursor}
-use Rattle.ru_memory.specs.declared.memory.RuMemory.{RuMemory}
+use Rattle.unit_memory.specs.declared.memory.UnitMemory.{UnitMemory}
 use Rattle.ru_buffers.specs.Units.{Keeps, Stands, view_of}
 
 at_most : (a b c : ℤ) → a ≤ℤ b → b ≤ℤ c → a ≤ℤ c
@@ -53,10 +53,10 @@ pub come_later : (clock later : ℤ) (arrivals : List Arrival) → clock ≤ℤ 
 come_later clock later [] order h = h
 come_later clock later (a ∷ earlier) order h = (at_most a.at clock later h.0 order, h.1)
 
-whole_data : (es : List EndpointConfig) (d : Data) → IsProperData es d → IsTold d
+whole_data : (es : List EndpointConfig) (d : UserSection) → IsProperData es d → IsTold d
 whole_data es d is = omega (arith, is.blocks)
 
-module _ (c : Config) (m : RuMemory) (clock : ℤ) (cursor : JobCursor) (h : History) (k : Keeps c m clock cursor h) where
+module _ (c : Config) (m : UnitMemory) (clock : ℤ) (cursor : JobCursor) (h : History) (k : Keeps c m clock cursor h) where
   abbrev acc : List Allocation
   acc = accepted_of c h.arrivals
 

@@ -31,8 +31,8 @@ use Rattle.history_laws.specs.First.{FirstIsFirst, IsSweptIn, told_of}
 use Rattle.ru_jobs.specs.Cursors.{GivenOne, IsFirstJob, IsJobSymbol, Settled, jobs_left}
 use Rattle.ru_jobs.specs.declared.cursor.JobCursor.{JobCursor}
 use Rattle.ru_jobs.specs.declared.cursor.NextJob.{NextJob}
-use Rattle.ru_memory.specs.Memory.{Holds, HoldsLater}
-use Rattle.ru_memory.specs.declared.memory.RuMemory.{RuMemory}
+use Rattle.unit_memory.specs.Memory.{Holds, HoldsLater}
+use Rattle.unit_memory.specs.declared.memory.UnitMemory.{UnitMemory}
 use Rattle.ru_buffers.specs.JobLaws.{GivesFirst, IsGiven, IsSettled, KeptLater, NoneBeforeFirst, NoneToGive, ReadyOnceGiven, ReadyUpToFirst, ReadyWhereNone, Settles, SomeFromFirst}
 use Rattle.ru_buffers.specs.Units.{IsReady, Keeps, left_up_to}
 use Rattle.ru_buffers.proofs.PlaceLemmas.{left_of_swept}
@@ -58,7 +58,7 @@ unused claims (suc n) none =
 none_below : (n : ℕ) → n ≡ 0 → 0 < n → ⊥
 none_below n e h = omega arith
 
-module _ (c : Config) (m : RuMemory) (clock : ℤ) (cursor : JobCursor) (h : History) (keeps : Keeps c m clock cursor h) where
+module _ (c : Config) (m : UnitMemory) (clock : ℤ) (cursor : JobCursor) (h : History) (keeps : Keeps c m clock cursor h) where
   since_clock : cursor.since.0 ≤ℤ clock
   since_clock = same_then cursor.since.0 h.clock clock keeps.since keeps.clock_is
 
@@ -123,7 +123,7 @@ settle holds_later c m clock cursor next h keeps ready settled = settle_is c m c
 
 -- ---- no message is left
 
-module _ (c : Config) (m : RuMemory) (clock : ℤ) (cursor : JobCursor) (h : History) (keeps : Keeps c m clock cursor h) where
+module _ (c : Config) (m : UnitMemory) (clock : ℤ) (cursor : JobCursor) (h : History) (keeps : Keeps c m clock cursor h) where
   quiet : (end : ℤ) (s : SymbolStart) → (IsJobSymbol m.cells s → told_of (jobs_left (cells_uplink m.cells) cursor) s ≡ [])
       → IsSweptIn (endpoints_of m.cells) first_clock end s → told_of (jobs_left (cells_uplink m.cells) cursor) s ≡ []
   quiet = left_of_swept c m h.arrivals (cells_counted h.reported) cursor.since.0 h.clock keeps.holds keeps.since keeps.time cursor
@@ -156,7 +156,7 @@ drop_more : (given all : List UplinkJob) (job : UplinkJob) → drop (length give
 drop_more given all job none =
     ap (λ (k : ℕ). drop k all) (length-append given (job ∷ [])) ∙ sym (drop-drop 1 (length given) all) ∙ ap (drop 1) none
 
-module _ (c : Config) (m : RuMemory) (clock : ℤ) (cursor : JobCursor) (h : History) (keeps : Keeps c m clock cursor h)
+module _ (c : Config) (m : UnitMemory) (clock : ℤ) (cursor : JobCursor) (h : History) (keeps : Keeps c m clock cursor h)
     (first_is : FirstIsFirst UplinkJob) (next : JobCursor) (n : NextJob) (fit : OffsetsFit n.symbol.endpoint.numerology)
     (first : IsFirstJob m.cells cursor n) (given : GivenOne m.cells cursor n next) where
   left_then : (to : ℤ) → n.symbol.start.0 ≤ℤ to → left_up_to m.cells cursor to ≡ n.job ∷ left_up_to m.cells next to

@@ -32,8 +32,8 @@ use Rattle.ru_reports.specs.unit_cells.specs.Cells.{cells_uplink, ring_of}
 use Rattle.ru_reports.specs.unit_cells.proofs.TimeLemmas.{far_no_place, live_at, no_uplink_from}
 use Rattle.ru_jobs.specs.Cursors.{jobs_left, left_jobs}
 use Rattle.ru_jobs.specs.declared.cursor.JobCursor.{JobCursor}
-use Rattle.ru_memory.specs.Memory.{Holds}
-use Rattle.ru_memory.specs.declared.memory.RuMemory.{RuMemory}
+use Rattle.unit_memory.specs.Memory.{Holds}
+use Rattle.unit_memory.specs.declared.memory.UnitMemory.{UnitMemory}
 use Rattle.ru_buffers.specs.Units.{left_up_to}
 use Rattle.ru_buffers.proofs.SlotLemmas.{swept_slot}
 
@@ -61,7 +61,7 @@ under_is x y h = grind (arith, ints)
 abbrev pub left_of : List Allocation → JobCursor → OfSymbol UplinkJob
 left_of acc cursor ep e slot symbol = left_jobs cursor (start_at ep e slot symbol) (symbol_jobs acc ep e slot symbol)
 
-module _ (c : Config) (m : RuMemory) (since : ℤ) (arrivals : List Arrival) (beside : List Counter) (holds : Holds Ru c since m arrivals beside)
+module _ (c : Config) (m : UnitMemory) (since : ℤ) (arrivals : List Arrival) (beside : List Counter) (holds : Holds Ru c since m arrivals beside)
     (begun : first_clock ≤ℤ since) (small : since ≤ℤ pos (2 ^ 53)) where
   abbrev acc : List Allocation
   acc = accepted_of c arrivals

@@ -24,7 +24,7 @@ use Rattle.history_laws.proofs.FirstLemmas.{first_is_first, nothing_is_nothing}
 use Rattle.ru_jobs.specs.Cursors.{IsFirstJob, Settled}
 use Rattle.ru_jobs.specs.declared.cursor.JobCursor.{JobCursor}
 use Rattle.ru_jobs.specs.declared.cursor.NextJob.{NextJob}
-use Rattle.ru_memory.specs.declared.memory.RuMemory.{RuMemory}
+use Rattle.unit_memory.specs.declared.memory.UnitMemory.{UnitMemory}
 use Rattle.ru_reports.specs.Symbols.{StopsAtCell, left_at}
 use Rattle.ru_buffers.specs.Advancing.{AfterReport, GoesOn, InOrder, IsNextReport, IsOver, StartsLater, ToldAll, rank_of, rank_past, ranks_left}
 use Rattle.ru_buffers.specs.Calls.{IsNextMessage, IsNextSymbol, StandsFor, StopsAtDue}
@@ -44,7 +44,7 @@ pub first_next : (v : CellsValue) (clock : ℤ) (s : SymbolStart) → IsFoundLef
 first_next v clock s found = record { symbol = found.was.symbol; after = found.was.after; first = found.first }
 
 -- with another memory, and another next symbol
-abbrev pub with_memory : Ru → RuMemory → Option SymbolStart → Ru
+abbrev pub with_memory : Ru → UnitMemory → Option SymbolStart → Ru
 with_memory u m o = record { memory = m; clock = u.clock; cursor = u.cursor; symbol = o; message = u.message }
 
 -- what the unit answers by its memory
@@ -93,12 +93,12 @@ over_later u air to c h s all is early = record {
   later = later_some to s u.symbol is early;
 }
 
-marked_then : (c : Config) (u : Ru) (m : RuMemory) (o : Option SymbolStart) (s : SymbolStart) (told : List AirCell) (h : History) → Stands c m u.clock.0 u.cursor h
+marked_then : (c : Config) (u : Ru) (m : UnitMemory) (o : Option SymbolStart) (s : SymbolStart) (told : List AirCell) (h : History) → Stands c m u.clock.0 u.cursor h
     → IsNextSymbol m.cells u.clock.0 o → IsMarked s told u.memory m → IsNextMessage u.memory.cells u.cursor u.message → StandsFor c (with_memory u m o) h
 marked_then c u m o s told h all next marked message =
     standing_with c (with_memory u m o) h all next (message_known u.memory.cells m.cells u.cursor marked.marks.known marked.marks.endpoints u.message message)
 
-pub goes_to : {A : Type 0} (grew : A → List Event → A → Type 0) (u : Ru) (m : RuMemory) (o : Option SymbolStart) (before after : A) (to : ℤ) (c : Config) (h : History)
+pub goes_to : {A : Type 0} (grew : A → List Event → A → Type 0) (u : Ru) (m : UnitMemory) (o : Option SymbolStart) (before after : A) (to : ℤ) (c : Config) (h : History)
     (s : SymbolStart) → IsNextSymbol m.cells u.clock.0 o → StandsFor c u h → OffsetsFit s.endpoint.numerology → IsFirstLeft u.memory.cells u.clock.0 s → s.start.0 ≤ℤ to
     → IsMarked s (left_at u.memory.cells s) u.memory m → grew before (map Reported (left_at u.memory.cells s)) after → GoesOn grew c h to (with_memory u m o) before after
 goes_to grew u m o before after to c h s next all fits first order marked told =
@@ -110,7 +110,7 @@ goes_to grew u m o before after to c h s next all fits first order marked told =
       heard_is = told;
     }
 
-pub stops_at : {A : Type 0} (grew : A → List Event → A → Type 0) (stopped : A → Event → A → Type 0) (u : Ru) (m : RuMemory) (o : Option SymbolStart) (before after : A)
+pub stops_at : {A : Type 0} (grew : A → List Event → A → Type 0) (stopped : A → Event → A → Type 0) (u : Ru) (m : UnitMemory) (o : Option SymbolStart) (before after : A)
     (to : ℤ) (c : Config) (h : History) (s : SymbolStart) → IsNextSymbol m.cells u.clock.0 o → StandsFor c u h → OffsetsFit s.endpoint.numerology → IsFirstLeft u.memory.cells u.clock.0 s → s.start.0 ≤ℤ to
     → (stop : StopsAtCell grew stopped s u.memory.cells m.cells u.memory.counters m.counters before after) → m.endpoints ≡ u.memory.endpoints → m.assembly ≡ u.memory.assembly
     → StopsAtDue grew stopped c h to (with_memory u m o) before after

@@ -29,8 +29,8 @@ use Rattle.history_laws.specs.unit_laws.proofs.SweepLemmas.{sweep-nothing, tick-
 use Rattle.ru_reports.specs.unit_cells.specs.Cells.{cells_done}
 use Rattle.ru_jobs.specs.Cursors.{left_behind, left_jobs}
 use Rattle.ru_jobs.specs.declared.cursor.JobCursor.{JobCursor}
-use Rattle.ru_memory.specs.Memory.{Holds}
-use Rattle.ru_memory.specs.declared.memory.RuMemory.{RuMemory}
+use Rattle.unit_memory.specs.Memory.{Holds}
+use Rattle.unit_memory.specs.declared.memory.UnitMemory.{UnitMemory}
 use Rattle.ru_buffers.specs.Units.{Keeps}
 use Rattle.ru_buffers.proofs.LookupLemmas.{left_by_definition, left_of}
 
@@ -96,7 +96,7 @@ same_most a b e = omega (arith, ints)
 small_first : (a : ℤ) → a ≡ first_clock → a ≤ℤ pos (2 ^ 53)
 small_first a e = omega (arith, ints)
 
-pub made : (c : Config) (m : RuMemory) (cursor : JobCursor) → ((clock : ℤ) → Holds Ru c clock m [] []) → ((cell : Cell) → cells_done m.cells cell ≡ false)
+pub made : (c : Config) (m : UnitMemory) (cursor : JobCursor) → ((clock : ℤ) → Holds Ru c clock m [] []) → ((cell : Cell) → cells_done m.cells cell ≡ false)
     → cursor.since.0 ≡ first_clock → cursor.last ≡ None → Keeps c m first_clock cursor nothing_yet
 made c m cursor holds unmarked since last =
     let limits = (holds first_clock).config.delays in

@@ -46,8 +46,8 @@ use Rattle.ru_reports.specs.unit_cells.specs.Cells.{CellsValue, IsCellIn, cells_
 use Rattle.ru_reports.specs.unit_cells.proofs.KeepLemmas.{at_config, at_rings, of_still}
 use Rattle.ru_jobs.specs.Cursors.{jobs_left, left_jobs}
 use Rattle.ru_jobs.specs.declared.cursor.JobCursor.{JobCursor}
-use Rattle.ru_memory.specs.Memory.{Holds}
-use Rattle.ru_memory.specs.declared.memory.RuMemory.{RuMemory}
+use Rattle.unit_memory.specs.Memory.{Holds}
+use Rattle.unit_memory.specs.declared.memory.UnitMemory.{UnitMemory}
 use Rattle.ru_reports.specs.Symbols.{CountsTold, IsSymbol, cell_in, is_told, left_at, left_told}
 use Rattle.ru_buffers.specs.Reporting.{IsMarked, KeepsMarked, due_of}
 use Rattle.ru_buffers.specs.Units.{Keeps, left_up_to}
@@ -242,7 +242,7 @@ left_same old new cursor to endpoints uplink =
 weaken : (a b c : ℤ) → a ≤ℤ b → b <ℤ c → a ≤ℤ c
 weaken a b c h k = omega (arith, ints)
 
-module _ (c : Config) (old new : RuMemory) (clock : ℤ) (cursor : JobCursor) (h : History) (s : SymbolStart) (told : List AirCell) (keeps : Keeps c old clock cursor h)
+module _ (c : Config) (old new : UnitMemory) (clock : ℤ) (cursor : JobCursor) (h : History) (s : SymbolStart) (told : List AirCell) (keeps : Keeps c old clock cursor h)
     (symbol : IsSymbol old.cells s) (later : clock <ℤ s.start.0) (marked : IsMarked s told old new) where
   at_here : IsAt c.endpoints s.ep s.endpoint
   at_here = at_config Ru c old.cells s.ep s.endpoint keeps.holds.of symbol.at

@@ -36,7 +36,7 @@ use Rattle.history_laws.proofs.FirstLemmas.{first_is_first}
 use Rattle.ru_jobs.specs.Cursors.{IsFirstJob, IsJobSymbol, Settled, at_start, jobs_left, left_in, left_jobs}
 use Rattle.ru_jobs.specs.declared.cursor.JobCursor.{JobCursor}
 use Rattle.ru_jobs.specs.declared.cursor.NextJob.{NextJob}
-use Rattle.ru_memory.specs.declared.memory.RuMemory.{RuMemory}
+use Rattle.unit_memory.specs.declared.memory.UnitMemory.{UnitMemory}
 use Rattle.ru_reports.specs.Symbols.{cell_in, is_left}
 use Rattle.ru_buffers.specs.Advancing.{StartsLater}
 use Rattle.ru_buffers.specs.Calls.{IsNextMessage, IsNextSymbol}
@@ -70,7 +70,7 @@ due_same f g a b same marks = ap₂ (λ (n : ℕ) (d : Bool). not (n == 0) && no
 
 -- ---- a frame by which no section of a command was accepted
 
-module _ (c : Config) (old new : RuMemory) (clock : ℤ) (cursor : JobCursor) (h after : History) (was : Keeps c old clock cursor h) (is : Keeps c new clock cursor after)
+module _ (c : Config) (old new : UnitMemory) (clock : ℤ) (cursor : JobCursor) (h after : History) (was : Keeps c old clock cursor h) (is : Keeps c new clock cursor after)
     (accepted : accepted_of c after.arrivals ≡ accepted_of c h.arrivals) (reported : after.reported ≡ h.reported) where
   module _ (x : SymbolStart) (left : IsLeftAfter old.cells clock x) where
     at : IsAt c.endpoints x.ep x.endpoint
@@ -209,7 +209,7 @@ module _ (c : Config) (old new : RuMemory) (clock : ℤ) (cursor : JobCursor) (h
   message_kept None none = λ s symbol. nothing_at s symbol (none s)
   message_kept (Some n) first = first_still n first
 
-pub symbol_kept : (c : Config) (old new : RuMemory) (clock : ℤ) (cursor : JobCursor) (h after : History) → Keeps c old clock cursor h → Keeps c new clock cursor after
+pub symbol_kept : (c : Config) (old new : UnitMemory) (clock : ℤ) (cursor : JobCursor) (h after : History) → Keeps c old clock cursor h → Keeps c new clock cursor after
     → accepted_of c after.arrivals ≡ accepted_of c h.arrivals → after.reported ≡ h.reported → (o : Option SymbolStart)
     → IsNextSymbol old.cells clock o → IsNextSymbol new.cells clock o
 symbol_kept c old new clock cursor h after was is accepted reported None none =
@@ -237,7 +237,7 @@ same_first v clock cursor next n settled first order = record {
       (λ later. settled.behind (cells_uplink v) s later ∙ first.before s symbol earlier);
 }
 
-pub message_settled : (c : Config) (m : RuMemory) (clock : ℤ) (cursor next : JobCursor) (h : History) → Keeps c m clock cursor h → IsReady m clock cursor
+pub message_settled : (c : Config) (m : UnitMemory) (clock : ℤ) (cursor next : JobCursor) (h : History) → Keeps c m clock cursor h → IsReady m clock cursor
     → Settled clock cursor next → (o : Option NextJob) → IsNextMessage m.cells cursor o → IsNextMessage m.cells next o
 message_settled c m clock cursor next h keeps ready settled None none =
     λ s symbol.

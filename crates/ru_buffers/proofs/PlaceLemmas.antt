@@ -22,8 +22,8 @@ use Rattle.ru_reports.specs.unit_cells.proofs.TimeLemmas.{no_uplink_from}
 use Rattle.history_laws.specs.First.{IsSweptIn, told_of}
 use Rattle.ru_jobs.specs.Cursors.{IsJobSymbol, jobs_left}
 use Rattle.ru_jobs.specs.declared.cursor.JobCursor.{JobCursor}
-use Rattle.ru_memory.specs.Memory.{Holds}
-use Rattle.ru_memory.specs.declared.memory.RuMemory.{RuMemory}
+use Rattle.unit_memory.specs.Memory.{Holds}
+use Rattle.unit_memory.specs.declared.memory.UnitMemory.{UnitMemory}
 use Rattle.ru_buffers.proofs.LeftLemmas.{left_of_none}
 
 -- ---- frames whose symbols' times can be told
@@ -48,7 +48,7 @@ frame_low tick frame a b = floor_low tick (frame_of_tick tick) frame a (frame_fl
 
 -- ---- the symbols that are gone over
 
-module _ (c : Config) (m : RuMemory) (arrivals : List Arrival) (beside : List Counter) (since clock : ℤ)
+module _ (c : Config) (m : UnitMemory) (arrivals : List Arrival) (beside : List Counter) (since clock : ℤ)
     (holds : Holds Ru c since m arrivals beside) (order : since ≤ℤ clock) (time : IsTime clock) where
   -- those of slots that have a place are symbols of which a message may be left
   pub is_job_symbol : (end : ℤ) (s : SymbolStart) → IsSweptIn (endpoints_of m.cells) first_clock end s → cells_has m.cells s.ep s.slot ≡ true → IsJobSymbol m.cells s

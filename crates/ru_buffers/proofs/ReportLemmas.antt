@@ -19,7 +19,7 @@ use Rattle.history_laws.specs.unit_laws.proofs.TickLemmas.{due_after_now}
 use Rattle.ru_reports.specs.unit_cells.proofs.KeepLemmas.{at_config}
 use Rattle.history_laws.specs.First.{FirstIsFirst, IsSweptIn, NothingIsNothing, told_of}
 use Rattle.ru_jobs.specs.declared.cursor.JobCursor.{JobCursor}
-use Rattle.ru_memory.specs.declared.memory.RuMemory.{RuMemory}
+use Rattle.unit_memory.specs.declared.memory.UnitMemory.{UnitMemory}
 use Rattle.ru_reports.specs.Symbols.{IsSymbol, is_left, left_at}
 use Rattle.ru_buffers.specs.Reporting.{DueBegins, DueGoesOn, FirstIsDue, IsFirstLeft, IsLeftAfter, NothingBeforeFirst, NothingIsDue, SomethingAtFirst, due_of}
 use Rattle.ru_buffers.specs.Units.{Keeps}
@@ -69,7 +69,7 @@ first_nothing (x ∷ xs) ys h = absurd cc
 pub starts_no_earlier : (x s : SymbolStart) → comes_before x s ≡ false → s.start.0 ≤ℤ x.start.0
 starts_no_earlier x s h = not_under x.start.0 s.start.0 (first_false (int_lt x.start.0 s.start.0) _ h)
 
-module _ (c : Config) (m : RuMemory) (clock : ℤ) (cursor : JobCursor) (h : History) (keeps : Keeps c m clock cursor h) where
+module _ (c : Config) (m : UnitMemory) (clock : ℤ) (cursor : JobCursor) (h : History) (keeps : Keeps c m clock cursor h) where
   abbrev still : OfSymbol AirCell
   still = still_reported Ru (ru_known c h.arrivals) h.reported
 

@@ -29,7 +29,7 @@ use Rattle.history_laws.specs.unit_model.specs.Sweeps.{frame_of_tick}
 use Rattle.history_laws.specs.unit_model.specs.declared.cells.Block.{Block}
 use Rattle.history_laws.specs.unit_model.specs.declared.cells.Cell.{Cell}
 use Rattle.history_laws.specs.unit_model.specs.declared.cells.Claim.{Claim}
-use Rattle.history_laws.specs.unit_model.specs.declared.decoded.Data.{Data}
+use Rattle.history_laws.specs.unit_model.specs.declared.decoded.UserSection.{UserSection}
 use Rattle.history_laws.specs.unit_model.specs.declared.symbol_start.SymbolStart.{SymbolStart}
 use Rattle.history_laws.specs.unit_laws.specs.Far.{IsFar}
 use Rattle.history_laws.specs.unit_laws.specs.Swept.{IsSwept}
@@ -49,7 +49,7 @@ use Rattle.ru_reports.specs.unit_cells.proofs.KeepLemmas.{at_rings}
 use Rattle.ru_reports.specs.unit_cells.proofs.TimeLemmas.{far_no_place, live_at, no_claim_from}
 use Rattle.ru_reports.specs.unit_cells.proofs.ToldLemmas.{told_whole}
 use Rattle.ru_jobs.specs.declared.cursor.JobCursor.{JobCursor}
-use Rattle.ru_memory.specs.declared.memory.RuMemory.{RuMemory}
+use Rattle.unit_memory.specs.declared.memory.UnitMemory.{UnitMemory}
 use Rattle.ru_reports.specs.Symbols.{IsSymbol, cell_in, is_left, left_at, left_told}
 use Rattle.ru_buffers.specs.Reporting.{LeftByLookup}
 use Rattle.ru_buffers.specs.Units.{Keeps}
@@ -197,7 +197,7 @@ none_is_left v s none =
 
 -- ---- data that are told whole
 
-all_timely : (P : Data → Type 0) (side : Side) (d : Delays) (xs : List Data) → All P xs → All P (timely side d xs)
+all_timely : (P : UserSection → Type 0) (side : Side) (d : Delays) (xs : List UserSection) → All P xs → All P (timely side d xs)
 unfolding timely
 all_timely P side d [] h = All-nil P
 all_timely P side d (x ∷ earlier) h =
@@ -210,7 +210,7 @@ all_timely P side d (x ∷ earlier) h =
 whole : (a b : ℕ) → a ≡ b → b ≤ a
 whole a b e = omega arith
 
-pub all_told : (c : Config) (m : RuMemory) (clock : ℤ) (cursor : JobCursor) (h : History) → Keeps c m clock cursor h → All IsTold (timely_of Ru c h.arrivals)
+pub all_told : (c : Config) (m : UnitMemory) (clock : ℤ) (cursor : JobCursor) (h : History) → Keeps c m clock cursor h → All IsTold (timely_of Ru c h.arrivals)
 all_told c m clock cursor h keeps =
     all_timely IsTold Ru c.delays (data_of Ru c h.arrivals)
     (All-weaker (IsProperData c.endpoints) IsTold (λ d is. whole _ _ is.blocks) (data_of Ru c h.arrivals)
@@ -221,7 +221,7 @@ all_told c m clock cursor h keeps =
 filter_kept : (p : AirCell → Bool) → IsKept {A = AirCell} {B = AirCell} (λ xs ys. filter p xs ≡ ys)
 filter_kept p = record { none = refl; more = λ xs xs' ys ys' h k. filter-append p xs xs' ∙ ap₂ ◌++◌ h k }
 
-module _ (c : Config) (m : RuMemory) (clock : ℤ) (cursor : JobCursor) (h : History) (keeps : Keeps c m clock cursor h) (s : SymbolStart)
+module _ (c : Config) (m : UnitMemory) (clock : ℤ) (cursor : JobCursor) (h : History) (keeps : Keeps c m clock cursor h) (s : SymbolStart)
     (at : IsAt c.endpoints s.ep s.endpoint) (slot_is : IsSlot s.endpoint.numerology s.slot) (small : s.symbol < symbols_of s.endpoint.numerology)
     (live : IsLiveSlot c.delays s.endpoint cursor.since.0 s.slot) where
   pub cell_is : (prb : ℕ) → prb < s.endpoint.prbs → IsCell c s.endpoint (cell_in s prb)
@@ -269,7 +269,7 @@ still_nothing : (k : Known) (heard : List AirCell) (ep : ℕ) (e : EndpointConfi
 unfolding still_reported
 still_nothing k heard ep e slot symbol none = ap (filter (unheard heard)) none
 
-module _ (c : Config) (m : RuMemory) (clock : ℤ) (cursor : JobCursor) (h : History) (keeps : Keeps c m clock cursor h) where
+module _ (c : Config) (m : UnitMemory) (clock : ℤ) (cursor : JobCursor) (h : History) (keeps : Keeps c m clock cursor h) where
   pub clock_first : first_clock ≤ℤ clock
   clock_first = subst (λ (t : ℤ). first_clock ≤ℤ t) (sym keeps.clock_is) (no_later first_clock cursor.since.0 h.clock keeps.begun keeps.since)
 

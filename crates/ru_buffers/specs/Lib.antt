@@ -1,6 +1,6 @@
 pub use Rattle.history_laws
 pub use Rattle.ru_jobs
-pub use Rattle.ru_memory
+pub use Rattle.unit_memory
 pub use Rattle.ru_reports
 pub use Rattle.ru_reports.specs.slot_rings
 pub use Rattle.ru_reports.specs.unit_cells

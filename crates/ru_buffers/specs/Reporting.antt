@@ -13,7 +13,7 @@ use Rattle.history_laws.specs.unit_laws.specs.Swept.{IsSwept}
 use Rattle.ru_reports.specs.unit_cells.specs.Cells.{CellsValue}
 use Rattle.history_laws.specs.First.{FirstIsFirst, NothingIsNothing}
 use Rattle.ru_jobs.specs.declared.cursor.JobCursor.{JobCursor}
-use Rattle.ru_memory.specs.declared.memory.RuMemory.{RuMemory}
+use Rattle.unit_memory.specs.declared.memory.UnitMemory.{UnitMemory}
 use Rattle.ru_reports.specs.Symbols.{CountsTold, IsSymbol, MarksTold, is_left, left_at}
 use Rattle.ru_buffers.specs.Units.{Keeps}
 
@@ -46,38 +46,38 @@ pub record DueBegins (c : Config) (h : History) (to : ℤ) (begin : List AirCell
 -- what is still to be reported of a symbol that starts after the clock
 abbrev pub LeftByLookup : Type 0
 LeftByLookup =
-    (c : Config) (m : RuMemory) (clock : ℤ) (cursor : JobCursor) (h : History) (s : SymbolStart) → Keeps c m clock cursor h
+    (c : Config) (m : UnitMemory) (clock : ℤ) (cursor : JobCursor) (h : History) (s : SymbolStart) → Keeps c m clock cursor h
     → IsSwept c.endpoints s.ep s.endpoint s.slot s.symbol s.start.0 → clock <ℤ s.start.0
     → still_reported Ru (ru_known c h.arrivals) h.reported s.ep s.endpoint s.slot s.symbol ≡ left_at m.cells s
 
 -- what is left of the first symbol is due first
 abbrev pub FirstIsDue : Type 0
 FirstIsDue =
-    (c : Config) (m : RuMemory) (clock : ℤ) (cursor : JobCursor) (h : History) (s : SymbolStart) (to : ℤ) → FirstIsFirst AirCell
+    (c : Config) (m : UnitMemory) (clock : ℤ) (cursor : JobCursor) (h : History) (s : SymbolStart) (to : ℤ) → FirstIsFirst AirCell
     → Keeps c m clock cursor h → OffsetsFit s.endpoint.numerology → IsFirstLeft m.cells clock s → s.start.0 ≤ℤ to
     → DueBegins c h to (left_at m.cells s)
 
 -- where nothing is left of symbols that start up to a time, nothing is due
 abbrev pub NothingIsDue : Type 0
 NothingIsDue =
-    (c : Config) (m : RuMemory) (clock : ℤ) (cursor : JobCursor) (h : History) (to : ℤ) → NothingIsNothing AirCell → Keeps c m clock cursor h
+    (c : Config) (m : UnitMemory) (clock : ℤ) (cursor : JobCursor) (h : History) (to : ℤ) → NothingIsNothing AirCell → Keeps c m clock cursor h
     → ((x : SymbolStart) → IsLeftAfter m.cells clock x → to <ℤ x.start.0) → due_of c h to ≡ []
 
 -- so nothing is due before the first symbol starts
 abbrev pub NothingBeforeFirst : Type 0
 NothingBeforeFirst =
-    (c : Config) (m : RuMemory) (clock : ℤ) (cursor : JobCursor) (h : History) (s : SymbolStart) (to : ℤ) → NothingIsNothing AirCell
+    (c : Config) (m : UnitMemory) (clock : ℤ) (cursor : JobCursor) (h : History) (s : SymbolStart) (to : ℤ) → NothingIsNothing AirCell
     → Keeps c m clock cursor h → IsFirstLeft m.cells clock s → to <ℤ s.start.0 → due_of c h to ≡ []
 
 -- and something is when it starts
 abbrev pub SomethingAtFirst : Type 0
 SomethingAtFirst =
-    (c : Config) (m : RuMemory) (clock : ℤ) (cursor : JobCursor) (h : History) (s : SymbolStart) → FirstIsFirst AirCell
+    (c : Config) (m : UnitMemory) (clock : ℤ) (cursor : JobCursor) (h : History) (s : SymbolStart) → FirstIsFirst AirCell
     → Keeps c m clock cursor h → OffsetsFit s.endpoint.numerology → IsFirstLeft m.cells clock s → is_left m.cells s ≡ true
     → due_of c h s.start.0 ≢ []
 
 -- the first of what is left of a symbol was heard: it is marked and counted
-pub record IsMarked (s : SymbolStart) (told : List AirCell) (old new : RuMemory) : Type 0 where
+pub record IsMarked (s : SymbolStart) (told : List AirCell) (old new : UnitMemory) : Type 0 where
   pub more : List AirCell
   pub left : left_at old.cells s ≡ told ++ more
   pub marks : MarksTold s told old.cells new.cells
@@ -88,12 +88,12 @@ pub record IsMarked (s : SymbolStart) (told : List AirCell) (old new : RuMemory)
 -- then the unit keeps what it kept
 abbrev pub KeepsMarked : Type 0
 KeepsMarked =
-    (c : Config) (old new : RuMemory) (clock : ℤ) (cursor : JobCursor) (h : History) (s : SymbolStart) (told : List AirCell) → Keeps c old clock cursor h
+    (c : Config) (old new : UnitMemory) (clock : ℤ) (cursor : JobCursor) (h : History) (s : SymbolStart) (told : List AirCell) → Keeps c old clock cursor h
     → IsSymbol old.cells s → clock <ℤ s.start.0 → IsMarked s told old new → Keeps c new clock cursor (heard h told)
 
 -- and where it is the first symbol's, these are the first of what was due, and the rest is due now
 abbrev pub DueGoesOn : Type 0
 DueGoesOn =
-    (c : Config) (m : RuMemory) (clock : ℤ) (cursor : JobCursor) (h : History) (s : SymbolStart) (told more : List AirCell) (to : ℤ) → FirstIsFirst AirCell
+    (c : Config) (m : UnitMemory) (clock : ℤ) (cursor : JobCursor) (h : History) (s : SymbolStart) (told more : List AirCell) (to : ℤ) → FirstIsFirst AirCell
     → Keeps c m clock cursor h → OffsetsFit s.endpoint.numerology → IsFirstLeft m.cells clock s → s.start.0 ≤ℤ to → left_at m.cells s ≡ told ++ more
     → due_of c h to ≡ told ++ due_of c (heard h told) to

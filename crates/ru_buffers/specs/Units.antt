@@ -18,8 +18,8 @@ use Rattle.history_laws.specs.unit_model.specs.declared.symbol_start.SymbolStart
 use Rattle.ru_reports.specs.unit_cells.specs.Cells.{CellsValue, cells_done, cells_uplink, endpoints_of}
 use Rattle.ru_jobs.specs.Cursors.{jobs_left}
 use Rattle.ru_jobs.specs.declared.cursor.JobCursor.{JobCursor}
-use Rattle.ru_memory.specs.Memory.{Holds}
-use Rattle.ru_memory.specs.declared.memory.RuMemory.{RuMemory}
+use Rattle.unit_memory.specs.Memory.{Holds}
+use Rattle.unit_memory.specs.declared.memory.UnitMemory.{UnitMemory}
 use Rattle.ru_reports.specs.Symbols.{known_by}
 
 -- the messages up to a time that are left to be given, by look-up
@@ -27,7 +27,7 @@ unfoldable pub left_up_to : CellsValue → JobCursor → ℤ → List UplinkJob
 left_up_to v cursor to = sweep (jobs_left (cells_uplink v) cursor) (endpoints_of v) first_clock (to +ℤ pos 1)
 
 -- what contracts see of a unit's memory, its clock, and how far its messages were given
-abbrev pub view_of : RuMemory → ℤ → JobCursor → View
+abbrev pub view_of : UnitMemory → ℤ → JobCursor → View
 view_of m clock cursor = record {
   kept = record { clock = clock; counts = m.counters; known = known_by m.cells; assembly = m.assembly };
   uplink = cells_uplink m.cells;
@@ -41,7 +41,7 @@ IsWithin clock cursor = (m : SymbolStart) → cursor.last ≡ Some m → m.start
 
 -- What the next calls rest on. The memory answers for the slots that were live since the cursor's time, of which messages may be
 -- left.
-pub record Keeps (c : Config) (m : RuMemory) (clock : ℤ) (cursor : JobCursor) (h : History) : Type 0 where
+pub record Keeps (c : Config) (m : UnitMemory) (clock : ℤ) (cursor : JobCursor) (h : History) : Type 0 where
   pub holds : Holds Ru c cursor.since.0 m h.arrivals (cells_counted h.reported)
   pub clock_is : clock ≡ h.clock
   pub time : IsTime h.clock
@@ -59,10 +59,10 @@ pub record Keeps (c : Config) (m : RuMemory) (clock : ℤ) (cursor : JobCursor) 
   pub given : h.given ++ still_given c (accepted_of c h.arrivals) h.given h.clock ≡ jobs c.endpoints (accepted_of c h.arrivals) h.clock
 
 -- no message is left of a symbol that starts before the clock
-abbrev pub IsReady : RuMemory → ℤ → JobCursor → Type 0
+abbrev pub IsReady : UnitMemory → ℤ → JobCursor → Type 0
 IsReady m clock cursor = left_up_to m.cells cursor (clock -ℤ pos 1) ≡ []
 
 -- The unit stands for a history: it answers for the slots that are live as the definitions do over all that came.
-pub record Stands (c : Config) (m : RuMemory) (clock : ℤ) (cursor : JobCursor) (h : History) : Type 0 where
+pub record Stands (c : Config) (m : UnitMemory) (clock : ℤ) (cursor : JobCursor) (h : History) : Type 0 where
   pub answers : StandsBy (IsLiveAt c h.clock) c (view_of m clock cursor) h
   pub kept : Keeps c m clock cursor h

@@ -12,7 +12,7 @@ mod reporting;
 mod unit;
 
 pub use history_laws::unit_model::{Delivered, UplinkJob};
-pub use ru_memory;
 pub use ru_reports;
 pub use ru_reports::unit_cells;
 pub use unit::Ru;
+pub use unit_memory;

@@ -14,8 +14,8 @@ use history_laws::air_source::Side;
 use history_laws::unit_model::{Delivered, SymbolStart};
 use history_laws::window_config::Config;
 use ru_jobs::{JobCursor, NextJob};
-use ru_memory::RuMemory;
 use std::alloc::Global;
+use unit_memory::UnitMemory;
 
 /// A unit's clock begins one frame before 0.
 const FIRST_CLOCK: Ticks = Ticks(-15_360_000_000);
@@ -27,7 +27,7 @@ const FIRST_CLOCK: Ticks = Ticks(-15_360_000_000);
 /// the next message are kept: they are looked for after a report, after a message was given, and after a frame with a command.
 #[derive(Drop)]
 pub struct Ru {
-    pub(crate) memory: RuMemory,
+    pub(crate) memory: UnitMemory,
     pub(crate) clock: Ticks,
     pub(crate) cursor: JobCursor,
     /// The first symbol that starts after the clock and of which something is left to be reported.
@@ -53,7 +53,7 @@ impl Ru {
         ensures stands { IfOk result (λ u. StandsFor config.now u nothing_yet) }
         ensures given { IfOk result (λ u. HasGivenPast u) }
     {
-        let memory = RuMemory::make(alloc, Side::Ru, config)?;
+        let memory = UnitMemory::make(alloc, Side::Ru, config)?;
         let cursor = JobCursor::start(FIRST_CLOCK);
         let symbol = find_symbol(&memory.cells, FIRST_CLOCK);
         let message = find_message(&memory.cells, &cursor);

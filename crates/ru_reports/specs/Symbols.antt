@@ -18,7 +18,7 @@ use Rattle.unit_cells.specs.unit_model.specs.Radiated.{Known}
 use Rattle.unit_cells.specs.unit_model.specs.Starts.{cell_told}
 use Rattle.unit_cells.specs.unit_model.specs.declared.allocations.Allocation.{Allocation}
 use Rattle.unit_cells.specs.unit_model.specs.declared.cells.Cell.{Cell}
-use Rattle.unit_cells.specs.unit_model.specs.declared.decoded.Data.{Data}
+use Rattle.unit_cells.specs.unit_model.specs.declared.decoded.UserSection.{UserSection}
 use Rattle.unit_cells.specs.unit_model.specs.declared.symbol_start.SymbolStart.{SymbolStart}
 use Rattle.unit_cells.specs.slot_rings.specs.Places.{is_due}
 use Rattle.air_source.specs.declared.events.Side.{Side}
@@ -60,7 +60,7 @@ is_told m told cell =
 -- these cells of a symbol were marked as reported, and nothing else changed
 pub record MarksTold (m : SymbolStart) (told : List AirCell) (old new : CellsValue) : Type 0 where
   pub marks : (cell : Cell) → IsCellIn old cell → cell.down ≡ true → cells_done new cell ≡ (cells_done old cell || is_told m told cell)
-  pub keeps : (side : Side) (c : Config) (clock : ℤ) (acc : List Allocation) (ds : List Data) → Keeps side c clock old acc ds → Keeps side c clock new acc ds
+  pub keeps : (side : Side) (c : Config) (clock : ℤ) (acc : List Allocation) (ds : List UserSection) → Keeps side c clock old acc ds → Keeps side c clock new acc ds
   pub known : SameKnown old new
   pub side : new.side ≡ old.side
   pub delays : new.delays ≡ old.delays

@@ -12,7 +12,7 @@ use Rattle.unit_laws.specs.window_config.specs.declared.verdicts.Class.TheVarian
 use Rattle.unit_laws.specs.unit_model.specs.Claims.{same_slot, repeats, overlaps}
 use Rattle.unit_laws.specs.unit_model.specs.Commands.{accepted, allocation_of, command_class, command_verdict, is_for, is_full, is_uplink, timely_verdict, uplink_in, verdict_in, with_accepted}
 use Rattle.unit_laws.specs.unit_model.specs.declared.allocations.Allocation.{Allocation}
-use Rattle.unit_laws.specs.unit_model.specs.declared.decoded.Command.{Command}
+use Rattle.unit_laws.specs.unit_model.specs.declared.decoded.ControlSection.{ControlSection}
 use Rattle.unit_laws.specs.unit_model.specs.declared.verdicts.CommandVerdict.{CommandVerdict}
 use Rattle.unit_laws.specs.unit_model.specs.declared.verdicts.CommandVerdict.TheVariants.{Mismatch, Range, Repeat, Overlap, Full, Accepted}
 use Rattle.plan_model.specs.Validity.{clash}
@@ -75,7 +75,7 @@ verdict_accepted : (o r p f : Bool) → o ≡ false → r ≡ false → p ≡ fa
     → (let v : CommandVerdict = if o then Range else (if r then Repeat else (if p then Overlap else (if f then Full else Accepted))) in v) ≡ Accepted
 verdict_accepted o r p f a b c d = rw (a, b, c, d) refl
 
-timely : (d : Delays) (xs : List Allocation) (c : Command) → is_for c.head.body c.endpoint.numerology ≡ true → command_class d c ≡ OnTime
+timely : (d : Delays) (xs : List Allocation) (c : ControlSection) → is_for c.head.body c.endpoint.numerology ≡ true → command_class d c ≡ OnTime
     → command_verdict d xs c ≡ timely_verdict xs (allocation_of c)
 unfolding command_verdict
 timely d xs c fits class =
@@ -100,7 +100,7 @@ pub record AreAllowed (ls : List Allocation) : Type 0 where
   pub few : (ep : ℕ) (slot : Slot) → uplink_in ep slot ls ≤ 64
 
 -- a command that names one of these on time
-pub record IsTimely (d : Delays) (ls : List Allocation) (c : Command) : Type 0 where
+pub record IsTimely (d : Delays) (ls : List Allocation) (c : ControlSection) : Type 0 where
   pub fits : is_for c.head.body c.endpoint.numerology ≡ true
   pub class : command_class d c ≡ OnTime
   pub named : IsIn (allocation_of c) ls
@@ -108,14 +108,14 @@ pub record IsTimely (d : Delays) (ls : List Allocation) (c : Command) : Type 0 w
 -- ---- what was accepted
 
 -- it is each allocation that was named, once
-pub record AreNamed (d : Delays) (cs : List Command) : Type 0 where
-  pub from : (a : Allocation) → IsIn a (accepted d cs) → (c : Command) × IsIn c cs × (allocation_of c ≡ a)
-  pub all : (c : Command) → IsIn c cs → IsIn (allocation_of c) (accepted d cs)
+pub record AreNamed (d : Delays) (cs : List ControlSection) : Type 0 where
+  pub from : (a : Allocation) → IsIn a (accepted d cs) → (c : ControlSection) × IsIn c cs × (allocation_of c ≡ a)
+  pub all : (c : ControlSection) → IsIn c cs → IsIn (allocation_of c) (accepted d cs)
   pub distinct : AreDistinct (accepted d cs)
 
 module _ (d : Delays) (ls : List Allocation) (allowed : AreAllowed ls) where
   -- behind these the command is accepted or a repeat
-  module _ (c : Command) (cs : List Command) (timely_c : IsTimely d ls c) (timely_cs : (x : Command) → IsIn x cs → IsTimely d ls x) (named : AreNamed d cs) where
+  module _ (c : ControlSection) (cs : List ControlSection) (timely_c : IsTimely d ls c) (timely_cs : (x : ControlSection) → IsIn x cs → IsTimely d ls x) (named : AreNamed d cs) where
     abbrev a : Allocation
     a = allocation_of c
 
@@ -174,8 +174,8 @@ module _ (d : Delays) (ls : List Allocation) (allowed : AreAllowed ls) where
     with_new e = ap (λ (v : CommandVerdict). with_accepted v a (accepted d cs)) e
 
     abbrev AreNamedBy : List Allocation → Type 0
-    AreNamedBy xs = ((x : Allocation) → IsIn x xs → (y : Command) × IsIn y (c ∷ cs) × (allocation_of y ≡ x))
-        × ((y : Command) → IsIn y (c ∷ cs) → IsIn (allocation_of y) xs) × AreDistinct xs
+    AreNamedBy xs = ((x : Allocation) → IsIn x xs → (y : ControlSection) × IsIn y (c ∷ cs) × (allocation_of y ≡ x))
+        × ((y : ControlSection) → IsIn y (c ∷ cs) → IsIn (allocation_of y) xs) × AreDistinct xs
 
     named_from : AreNamedBy (accepted d (c ∷ cs)) → AreNamed d (c ∷ cs)
     named_from w = record { from = w.0; all = w.1; distinct = w.2 }
@@ -184,17 +184,17 @@ module _ (d : Delays) (ls : List Allocation) (allowed : AreAllowed ls) where
     named_next = elim is_there [
       | inl there ↦ named_from (subst AreNamedBy (sym (with_repeat (again there))) (
         λ x m. (let w = named.from x m in (w.0, inr w.1, w.2)),
-        λ y m. elim m [ inl here ↦ subst (λ (z : Command). IsIn (allocation_of z) (accepted d cs)) (sym here) there | inr t ↦ named.all y t ],
+        λ y m. elim m [ inl here ↦ subst (λ (z : ControlSection). IsIn (allocation_of z) (accepted d cs)) (sym here) there | inr t ↦ named.all y t ],
         named.distinct,
       ))
       | inr new ↦ named_from (subst AreNamedBy (sym (with_new (new_one new))) (
         λ x m. elim m [ inl here ↦ (c, inl refl, sym here) | inr t ↦ (let w = named.from x t in (w.0, inr w.1, w.2)) ],
-        λ y m. elim m [ inl here ↦ inl (ap (λ (z : Command). allocation_of z) here) | inr t ↦ inr (named.all y t) ],
+        λ y m. elim m [ inl here ↦ inl (ap (λ (z : ControlSection). allocation_of z) here) | inr t ↦ inr (named.all y t) ],
         (new, named.distinct),
       ))
     ]
 
-  pub named_all : (cs : List Command) → ((x : Command) → IsIn x cs → IsTimely d ls x) → AreNamed d cs
+  pub named_all : (cs : List ControlSection) → ((x : ControlSection) → IsIn x cs → IsTimely d ls x) → AreNamed d cs
   unfolding accepted
   named_all [] h = record { from = λ a m. absurd m; all = λ c m. absurd m; distinct = tt }
   named_all (c ∷ cs) h = named_next c cs (h c (inl refl)) (λ x m. h x (inr m)) (named_all cs (λ x m. h x (inr m)))

@@ -16,7 +16,7 @@ use Rattle.unit_laws.specs.unit_model.specs.Meetings.{Arrival}
 use Rattle.unit_laws.specs.unit_model.specs.declared.allocations.Allocation.{Allocation}
 use Rattle.unit_laws.specs.unit_model.specs.declared.cells.Block.{Block}
 use Rattle.unit_laws.specs.unit_model.specs.declared.cells.Cell.{Cell}
-use Rattle.unit_laws.specs.unit_model.specs.declared.decoded.Data.{Data}
+use Rattle.unit_laws.specs.unit_model.specs.declared.decoded.UserSection.{UserSection}
 use Rattle.unit_laws.proofs.CellLemmas.{covers_is, data_covers_is}
 use Rattle.plan_model.specs.Lines.{allocation_of, planned}
 use Rattle.plan_model.specs.Streams.{Part, part_in}
@@ -30,18 +30,18 @@ use Rattle.schedule_laws.proofs.WholeLemmas.{IsTimely, each_timely, ds, line_sen
 
 -- ---- data that are all on time
 
-all_timely : (delays : Delays) (xs : List Data) → ((d : Data) → IsIn d xs → data_class Ru delays d ≡ OnTime) → timely Ru delays xs ≡ xs
+all_timely : (delays : Delays) (xs : List UserSection) → ((d : UserSection) → IsIn d xs → data_class Ru delays d ≡ OnTime) → timely Ru delays xs ≡ xs
 unfolding timely
 all_timely delays [] h = refl
 all_timely delays (d ∷ xs) h =
-    ap (λ (k : Class). with_timely k d (timely Ru delays xs)) (h d (inl refl)) ∙ ap (λ (ys : List Data). d ∷ ys) (all_timely delays xs (λ e m. h e (inr m)))
+    ap (λ (k : Class). with_timely k d (timely Ru delays xs)) (h d (inl refl)) ∙ ap (λ (ys : List UserSection). d ∷ ys) (all_timely delays xs (λ e m. h e (inr m)))
 
 -- ---- the block of a cell
 
-not_covering : (d : Data) (cell : Cell) → data_covers d cell ≡ false → block_in d cell ≡ None
+not_covering : (d : UserSection) (cell : Cell) → data_covers d cell ≡ false → block_in d cell ≡ None
 not_covering d cell h = ap (λ (b : Bool). let o : Option Block = if b then Some (block_of d cell) else None in o) h
 
-covering : (d : Data) (cell : Cell) → data_covers d cell ≡ true → block_in d cell ≡ Some (block_of d cell)
+covering : (d : UserSection) (cell : Cell) → data_covers d cell ≡ true → block_in d cell ≡ Some (block_of d cell)
 covering d cell h = ap (λ (b : Bool). let o : Option Block = if b then Some (block_of d cell) else None in o) h
 
 or_none : (x y : Option Block) → y ≡ None → or_else x y ≡ x
@@ -52,13 +52,13 @@ or_found : (x y : Option Block) (b : Block) → (x ≡ None) ⊎ (x ≡ Some b) 
 or_found x y b (inl n) e = ap (λ (o : Option Block). or_else o y) n ∙ e
 or_found x y b (inr s) e = ap (λ (o : Option Block). or_else o y) s
 
-pub no_block : (xs : List Data) (cell : Cell) → ((d : Data) → IsIn d xs → data_covers d cell ≡ false) → block_at xs cell ≡ None
+pub no_block : (xs : List UserSection) (cell : Cell) → ((d : UserSection) → IsIn d xs → data_covers d cell ≡ false) → block_at xs cell ≡ None
 unfolding block_at
 no_block [] cell h = refl
 no_block (d ∷ xs) cell h = or_none (block_at xs cell) (block_in d cell) (not_covering d cell (h d (inl refl))) ∙ no_block xs cell (λ e m. h e (inr m))
 
 -- one that all that cover it give, or none
-one_or_none : (xs : List Data) (cell : Cell) (b : Block) → ((d : Data) → IsIn d xs → data_covers d cell ≡ true → block_of d cell ≡ b) → (block_at xs cell ≡ None) ⊎ (block_at xs cell ≡ Some b)
+one_or_none : (xs : List UserSection) (cell : Cell) (b : Block) → ((d : UserSection) → IsIn d xs → data_covers d cell ≡ true → block_of d cell ≡ b) → (block_at xs cell ≡ None) ⊎ (block_at xs cell ≡ Some b)
 unfolding block_at
 one_or_none [] cell b h = inl refl
 one_or_none (d ∷ xs) cell b h = go (one_or_none xs cell b (λ e m. h e (inr m))) (cases_Bool (data_covers d cell))
@@ -69,7 +69,7 @@ one_or_none (d ∷ xs) cell b h = go (one_or_none xs cell b (λ e m. h e (inr m)
     go (inl n) (inr other) = inl (or_none (block_at xs cell) (block_in d cell) (not_covering d cell other) ∙ n)
     go (inr s) (inr other) = inr (or_none (block_at xs cell) (block_in d cell) (not_covering d cell other) ∙ s)
 
-pub one_block : (xs : List Data) (cell : Cell) (b : Block) (d : Data) → ((e : Data) → IsIn e xs → data_covers e cell ≡ true → block_of e cell ≡ b) → IsIn d xs → data_covers d cell ≡ true
+pub one_block : (xs : List UserSection) (cell : Cell) (b : Block) (d : UserSection) → ((e : UserSection) → IsIn e xs → data_covers e cell ≡ true → block_of e cell ≡ b) → IsIn d xs → data_covers d cell ≡ true
     → block_at xs cell ≡ Some b
 unfolding block_at
 one_block [] cell b d h m is = absurd m
@@ -81,7 +81,7 @@ one_block (e ∷ xs) cell b d h m is = go m (one_or_none xs cell b (λ f n. h f 
     go : (d ≡ e) ⊎ IsIn d xs → (block_at xs cell ≡ None) ⊎ (block_at xs cell ≡ Some b) → (data_covers e cell ≡ true) ⊎ (data_covers e cell ≡ false) → (IsIn d xs → block_at xs cell ≡ Some b)
         → or_else (block_at xs cell) (block_in e cell) ≡ Some b
     go n before (inl covers_e) rest = or_found (block_at xs cell) (block_in e cell) b before (covering e cell covers_e ∙ ap (λ (x : Block). Some x) (h e (inl refl) covers_e))
-    go (inl here) before (inr other) rest = absurd (no (sym is ∙ ap (λ (z : Data). data_covers z cell) here ∙ other))
+    go (inl here) before (inr other) rest = absurd (no (sym is ∙ ap (λ (z : UserSection). data_covers z cell) here ∙ other))
     go (inr there) before (inr other) rest = or_none (block_at xs cell) (block_in e cell) (not_covering e cell other) ∙ rest there
 
 -- ---- the plan's block of a cell
@@ -134,7 +134,7 @@ same_block a b e1 e2 =
     let same : (let x : Block = record { id = a.id; samples = a.samples } in x) ≡ (let y : Block = record { id = b.id; samples = b.samples } in y) = rw (e1, e2) refl in
     same
 
-module _ (blocks : Blocks) (x : Part) (d : Data) (carries : IsDataFor blocks x d) (slot_is : data_slot d ≡ x.planned.line.slot) where
+module _ (blocks : Blocks) (x : Part) (d : UserSection) (carries : IsDataFor blocks x d) (slot_is : data_slot d ≡ x.planned.line.slot) where
   abbrev a : Allocation
   a = allocation_of x.planned
 
@@ -180,10 +180,10 @@ module _ (c : Config) (lines : List PlanLine) (text : Texts) (blocks : Blocks) (
   abbrev ps : List PlannedLine
   ps = planned c.endpoints lines
 
-  abbrev all : List Data
+  abbrev all : List UserSection
   all = ds c lines text blocks arrivals h w
 
-  timely_is : (d : Data) → IsIn d all → (x : Part) × IsTimely c lines text blocks arrivals h w x d
+  timely_is : (d : UserSection) → IsIn d all → (x : Part) × IsTimely c lines text blocks arrivals h w x d
   timely_is d m = each_timely c lines text blocks arrivals h w d m
 
   timely_all : timely Ru c.delays all ≡ all
@@ -202,7 +202,7 @@ module _ (c : Config) (lines : List PlanLine) (text : Texts) (blocks : Blocks) (
         ap (λ (r : PlannedLine). r.line.section) (sym (are_one c lines h.config h.lines_fit h.valid p q m n both))
   ]
 
-  section_radiates : (d : Data) → IsIn d all → (cell : Cell) → data_covers d cell ≡ true → (p : PlannedLine) × IsIn p ps × (radiates_in p cell ≡ true) × (block_of d cell ≡ block_of_line blocks cell p.line.section)
+  section_radiates : (d : UserSection) → IsIn d all → (cell : Cell) → data_covers d cell ≡ true → (p : PlannedLine) × IsIn p ps × (radiates_in p cell ≡ true) × (block_of d cell ≡ block_of_line blocks cell p.line.section)
   unfolding block_of_line
   section_radiates d m cell is =
       let x = (timely_is d m).0 in
@@ -240,5 +240,5 @@ module _ (c : Config) (lines : List PlanLine) (text : Texts) (blocks : Blocks) (
         record { part = x; planned_is = t.facts.from; carries = t.carries; slot = t.slot_is; class = t.class });
     every = λ p symbol m down idle within.
         (let d = line_sent c lines text blocks arrivals h w p symbol m down (ap not idle) within in record { section = d.0; came = d.1; carries = d.2.carries; slot = d.2.slot_is });
-    blocks_are = λ cell down. ap (λ (xs : List Data). block_at xs cell) timely_all ∙ block_planned cell down (find_radiating ps cell);
+    blocks_are = λ cell down. ap (λ (xs : List UserSection). block_at xs cell) timely_all ∙ block_planned cell down (find_radiating ps cell);
   }

@@ -32,7 +32,7 @@ use Rattle.unit_laws.specs.unit_model.specs.Radiated.{first_clock}
 use Rattle.unit_laws.specs.unit_model.specs.Times.{end_of_time}
 use Rattle.unit_laws.specs.unit_model.specs.declared.allocations.Allocation.{Allocation}
 use Rattle.unit_laws.specs.unit_model.specs.declared.cells.Cell.{Cell}
-use Rattle.unit_laws.specs.unit_model.specs.declared.decoded.Command.{Command}
+use Rattle.unit_laws.specs.unit_model.specs.declared.decoded.ControlSection.{ControlSection}
 use Rattle.unit_laws.specs.unit_model.proofs.ReachLaws.{symbol_soon}
 use Rattle.unit_laws.specs.unit_model.proofs.SweepLaws.{gap_is}
 use Rattle.plan_model.specs.Departures.{departures_of, sending_window, sent_at, start_of, width_of}
@@ -140,7 +140,7 @@ same_slot_fields a b p q r =
     let same : (let x : Slot = record { frame = a.frame; subframe = a.subframe; slot = a.slot } in x) ≡ (let y : Slot = record { frame = b.frame; subframe = b.subframe; slot = b.slot } in y) = rw (p, q, r) refl in
     same
 
-module _ (p : PlannedLine) (d : Command) (carries : IsCommandFor p d) where
+module _ (p : PlannedLine) (d : ControlSection) (carries : IsCommandFor p d) where
   slot_named : absolute_frame d.head.frame_id d.at.0 ≡ p.line.slot.frame → command_slot d ≡ p.line.slot
   slot_named f = same_slot_fields (command_slot d) p.line.slot f carries.subframe carries.slot
 
@@ -215,20 +215,20 @@ module _ (c : Config) (lines : List PlanLine) (text : Texts) (arrivals : List Ar
   abbrev ps : List PlannedLine
   ps = planned c.endpoints lines
 
-  abbrev cs : List Command
+  abbrev cs : List ControlSection
   cs = commands (meetings Ru c.endpoints arrivals)
 
   limits : IsWithinLimits c.delays
   limits = h.config.delays
 
   -- what is known of a command that came
-  record Came (line : PlannedLine) (d : Command) : Type 0 where
+  record Came (line : PlannedLine) (d : ControlSection) : Type 0 where
     there : IsIn line ps
     carries : IsCommandFor line d
     names : named_by d ≡ allocation_of line
     class : command_class c.delays d ≡ OnTime
 
-  timely_by : (p : PlannedLine) (d : Command) (f : ℤ) → IsIn p ps → IsCommandFor p d → p.line.slot.frame ≡ f
+  timely_by : (p : PlannedLine) (d : ControlSection) (f : ℤ) → IsIn p ps → IsCommandFor p d → p.line.slot.frame ≡ f
       → (frame_start f ≤ℤ air_of p.endpoint.numerology p.line.slot p.line.symbol)
       → (air_of p.endpoint.numerology p.line.slot p.line.symbol <ℤ (frame_start f +ℤ pos 76800000000))
       → IsOnTime d.at.0 d.at.0 (air_of p.endpoint.numerology p.line.slot p.line.symbol) (command_window_of c.delays (is_down p.line.kind)) → Came p d
@@ -247,7 +247,7 @@ module _ (c : Config) (lines : List PlanLine) (text : Texts) (arrivals : List Ar
             ∙ (class_on_time d.at.0 d.at.0 s window).1 time;
       }
 
-  came_of : (d : Command) → (w : Heard c text (sent c ps) arrivals d) → (o : IsOfMessage c ps w.f) → Came o.n.message.first.planned d
+  came_of : (d : ControlSection) → (w : Heard c text (sent c ps) arrivals d) → (o : IsOfMessage c ps w.f) → Came o.n.message.first.planned d
   came_of d w o =
       let x = o.n.message.first in
       let p = x.planned in
@@ -272,13 +272,13 @@ module _ (c : Config) (lines : List PlanLine) (text : Texts) (arrivals : List Ar
       timely_by p d p.line.slot.frame part.from carries refl soon.0 soon.1
       (subst (λ t. IsOnTime t t (air_of p.endpoint.numerology p.line.slot p.line.symbol) (command_window_of c.delays (is_down p.line.kind))) (sym w.at) time)
 
-  came_is : (d : Command) → IsIn d cs → (p : PlannedLine) × Came p d
+  came_is : (d : ControlSection) → IsIn d cs → (p : PlannedLine) × Came p d
   came_is d m =
       let w = heard c text (sent c ps) arrivals h.came d m in
       let o = sent_is c ps w.f w.sent_is in
       (o.n.message.first.planned, came_of d w o)
 
-  timely_is : (d : Command) → IsIn d cs → IsTimely c.delays (map allocation_of ps) d
+  timely_is : (d : ControlSection) → IsIn d cs → IsTimely c.delays (map allocation_of ps) d
   timely_is d m =
       let v = came_is d m in
       let w = v.1 in
@@ -293,11 +293,11 @@ module _ (c : Config) (lines : List PlanLine) (text : Texts) (arrivals : List Ar
 
   -- ---- each is answered so
 
-  answered : (earlier : List Command) (d : Command) → IsIn d cs → ((x : Command) → IsIn x earlier → IsIn x cs) → IsAnsweredOnce c.delays ps d earlier
+  answered : (earlier : List ControlSection) (d : ControlSection) → IsIn d cs → ((x : ControlSection) → IsIn x earlier → IsIn x cs) → IsAnsweredOnce c.delays ps d earlier
   answered earlier d m within =
       let v = came_is d m in
       let w = v.1 in
-      let before = λ (x : Command) (i : IsIn x earlier). timely_is x (within x i) in
+      let before = λ (x : ControlSection) (i : IsIn x earlier). timely_is x (within x i) in
       let named = named_all c.delays (map allocation_of ps) allowed_all earlier before in
       let timely_d = timely_is d m in
       record {
@@ -431,8 +431,8 @@ module _ (c : Config) (lines : List PlanLine) (text : Texts) (arrivals : List Ar
   pub commanded_by : AreCommandedOnce c (planned c.endpoints lines) arrivals
   commanded_by = record {
     answers = λ later earlier d e.
-        answered earlier d (subst (λ (xs : List Command). IsIn d xs) (sym e) (in_right d later (d ∷ earlier) (inl refl)))
-        (λ x i. subst (λ (xs : List Command). IsIn x xs) (sym e) (in_right x later (d ∷ earlier) (inr i)));
+        answered earlier d (subst (λ (xs : List ControlSection). IsIn d xs) (sym e) (in_right d later (d ∷ earlier) (inl refl)))
+        (λ x i. subst (λ (xs : List ControlSection). IsIn x xs) (sym e) (in_right x later (d ∷ earlier) (inr i)));
     every = commanded;
     differ = are_same c lines h.config h.lines_fit h.valid;
     claims = claims_are;

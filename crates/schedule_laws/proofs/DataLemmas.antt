@@ -12,8 +12,8 @@ use Rattle.unit_laws.specs.unit_model.specs.Decoding.{data_now, data_sections, d
 use Rattle.unit_laws.specs.unit_model.specs.Lists.{onto}
 use Rattle.unit_laws.specs.unit_model.specs.Meetings.{Arrival, Commands, Meeting, Piece, fragments, meetings}
 use Rattle.unit_laws.specs.unit_model.specs.Proper.{IsAt}
-use Rattle.unit_laws.specs.unit_model.specs.declared.decoded.Command.{Command}
-use Rattle.unit_laws.specs.unit_model.specs.declared.decoded.Data.{Data}
+use Rattle.unit_laws.specs.unit_model.specs.declared.decoded.ControlSection.{ControlSection}
+use Rattle.unit_laws.specs.unit_model.specs.declared.decoded.UserSection.{UserSection}
 use Rattle.plan_model.specs.Sent.{SentFrame}
 use Rattle.schedule_laws.specs.Premise.{Texts, fragment_at}
 use Rattle.schedule_laws.proofs.FlowLemmas.{here}
@@ -24,7 +24,7 @@ use Rattle.schedule_laws.proofs.ReadingLemmas.{AreCopies, a_command, a_piece, re
 
 -- ---- the sections that a fragment makes
 
-pub told_whole : (v : Verdict) (e : EndpointConfig) (x : Fragment) (s : List Fragment) (d : Data) → IsIn d (data_told (decoded_now Ru e x (whole_of v x s)))
+pub told_whole : (v : Verdict) (e : EndpointConfig) (x : Fragment) (s : List Fragment) (d : UserSection) → IsIn d (data_told (decoded_now Ru e x (whole_of v x s)))
     → (v ≡ Whole) × IsIn d (sections_of (decode_message Ru x.ep e (message (x ∷ s))))
 told_whole Stored e x s d m = absurd m
 told_whole Whole e x s d m = (refl, m)
@@ -32,7 +32,7 @@ told_whole Repeat e x s d m = absurd m
 told_whole Stray e x s d m = absurd m
 told_whole TooLong e x s d m = absurd m
 
-pub whole_told : (v : Verdict) (e : EndpointConfig) (x : Fragment) (s : List Fragment) (d : Data) → v ≡ Whole → IsIn d (sections_of (decode_message Ru x.ep e (message (x ∷ s))))
+pub whole_told : (v : Verdict) (e : EndpointConfig) (x : Fragment) (s : List Fragment) (d : UserSection) → v ≡ Whole → IsIn d (sections_of (decode_message Ru x.ep e (message (x ∷ s))))
     → IsIn d (data_told (decoded_now Ru e x (whole_of v x s)))
 whole_told Whole e x s d h m = m
 whole_told Stored e x s d h m = absurd cc
@@ -40,7 +40,7 @@ whole_told Repeat e x s d h m = absurd cc
 whole_told Stray e x s d h m = absurd cc
 whole_told TooLong e x s d h m = absurd cc
 
-sections_command : (c : Config) (hold : ℤ) (a : Arrival) (earlier : List Arrival) (d : Command) → read_of c a ≡ Commands (d ∷ []) ∷ []
+sections_command : (c : Config) (hold : ℤ) (a : Arrival) (earlier : List Arrival) (d : ControlSection) → read_of c a ≡ Commands (d ∷ []) ∷ []
     → data_sections Ru hold (meetings Ru c.endpoints (a ∷ earlier)) ≡ data_sections Ru hold (meetings Ru c.endpoints earlier)
 unfolding meetings onto data_sections
 sections_command c hold a earlier d e = ap (λ (ms : List Meeting). data_sections Ru hold (onto (meetings Ru c.endpoints earlier) ms)) e
@@ -51,7 +51,7 @@ unfolding meetings onto data_sections
 sections_piece c hold a earlier e x h = ap (λ (ms : List Meeting). data_sections Ru hold (onto (meetings Ru c.endpoints earlier) ms)) h
 
 -- a section is one of what a fragment makes whole
-pub record IsTold (c : Config) (text : Texts) (frames : List SentFrame) (arrivals : List Arrival) (hold : ℤ) (d : Data) : Type 0 where
+pub record IsTold (c : Config) (text : Texts) (frames : List SentFrame) (arrivals : List Arrival) (hold : ℤ) (d : UserSection) : Type 0 where
   pub later : List Fragment
   pub x : Fragment
   pub earlier : List Fragment
@@ -62,7 +62,7 @@ pub record IsTold (c : Config) (text : Texts) (frames : List SentFrame) (arrival
   pub told : IsIn d (data_told (data_now Ru hold f.endpoint x earlier))
 
 module _ (c : Config) (text : Texts) (frames : List SentFrame) (hold : ℤ) where
-  pub told_in : (arrivals : List Arrival) → AreCopies c text frames arrivals → (d : Data) → IsIn d (data_sections Ru hold (meetings Ru c.endpoints arrivals)) → IsTold c text frames arrivals hold d
+  pub told_in : (arrivals : List Arrival) → AreCopies c text frames arrivals → (d : UserSection) → IsIn d (data_sections Ru hold (meetings Ru c.endpoints arrivals)) → IsTold c text frames arrivals hold d
   unfolding meetings data_sections
   told_in [] came d m = absurd m
   told_in (a ∷ earlier) came d m =
@@ -70,12 +70,12 @@ module _ (c : Config) (text : Texts) (frames : List SentFrame) (hold : ℤ) wher
       let rest = told_in earlier (λ b n. came b (inr n)) d in
       elim (reading c text w.0 a w.2) [
         | a_command stream r ↦
-            let t = rest (subst (λ (xs : List Data). IsIn d xs) (sections_command c hold a earlier r.command r.is) m) in
+            let t = rest (subst (λ (xs : List UserSection). IsIn d xs) (sections_command c hold a earlier r.command r.is) m) in
             record { later = t.later; x = t.x; earlier = t.earlier; is = fragments_command c a earlier r.command r.is ∙ t.is; f = t.f; sent_is = t.sent_is; ep_is = t.ep_is; told = t.told }
         | a_piece e r ↦
             let x = fragment_at c text w.0 a.at in
             elim (in_either d (data_told (data_now Ru hold w.0.endpoint x (fragments (meetings Ru c.endpoints earlier)))) (data_sections Ru hold (meetings Ru c.endpoints earlier))
-            (subst (λ (xs : List Data). IsIn d xs) (sections_piece c hold a earlier w.0.endpoint x r) m)) [
+            (subst (λ (xs : List UserSection). IsIn d xs) (sections_piece c hold a earlier w.0.endpoint x r) m)) [
               | inl here ↦ record {
                 later = [];
                 x = x;
@@ -114,7 +114,7 @@ module _ (c : Config) (text : Texts) (frames : List SentFrame) (hold : ℤ) wher
 
   -- and all of that is told
   pub told_there : (at : (f : SentFrame) → IsIn f frames → IsAt c.endpoints f.ep f.endpoint) (arrivals : List Arrival) → AreCopies c text frames arrivals → (later earlier : List Fragment) (x : Fragment)
-      (e : EndpointConfig) (d : Data) → IsAt c.endpoints x.ep e → fragments (meetings Ru c.endpoints arrivals) ≡ later ++ x ∷ earlier → IsIn d (data_told (data_now Ru hold e x earlier))
+      (e : EndpointConfig) (d : UserSection) → IsAt c.endpoints x.ep e → fragments (meetings Ru c.endpoints arrivals) ≡ later ++ x ∷ earlier → IsIn d (data_told (data_now Ru hold e x earlier))
       → IsIn d (data_sections Ru hold (meetings Ru c.endpoints arrivals))
   unfolding meetings fragments
   told_there at [] came later earlier x e d at_x is m = absurd (not_none later earlier x is)
@@ -123,13 +123,13 @@ module _ (c : Config) (text : Texts) (frames : List SentFrame) (hold : ℤ) wher
       let came_before = λ (b : Arrival) (n : IsIn b before). came b (inr n) in
       elim (reading c text w.0 a w.2) [
         | a_command stream r ↦
-            subst (λ (xs : List Data). IsIn d xs) (sym (sections_command c hold a before r.command r.is))
+            subst (λ (xs : List UserSection). IsIn d xs) (sym (sections_command c hold a before r.command r.is))
             (told_there at before came_before later earlier x e d at_x (sym (fragments_command c a before r.command r.is) ∙ is) m)
         | a_piece s r ↦
             let y = fragment_at c text w.0 a.at in
             let all = fragments (meetings Ru c.endpoints before) in
             let old = data_sections Ru hold (meetings Ru c.endpoints before) in
-            subst (λ (xs : List Data). IsIn d xs) (sym (sections_piece c hold a before w.0.endpoint y r))
+            subst (λ (xs : List UserSection). IsIn d xs) (sym (sections_piece c hold a before w.0.endpoint y r))
             (elim (split_of later earlier all x y (sym (fragments_piece c a before w.0.endpoint y r) ∙ is)) [
               | inl now ↦
                   let same = same_endpoint c.endpoints x.ep w.0.ep e w.0.endpoint at_x (at w.0 w.1) (ap (λ (z : Fragment). z.ep) (sym now.0)) in

@@ -12,7 +12,7 @@ use Rattle.unit_laws.specs.window_config.specs.declared.config.Config.{Config}
 use Rattle.unit_laws.specs.window_config.specs.declared.endpoints.EndpointConfig.{EndpointConfig}
 use Rattle.unit_laws.specs.unit_model.specs.Lists.{onto}
 use Rattle.unit_laws.specs.unit_model.specs.Meetings.{Arrival, Meeting, Commands, Piece, fragments, meetings}
-use Rattle.unit_laws.specs.unit_model.specs.declared.decoded.Command.{Command}
+use Rattle.unit_laws.specs.unit_model.specs.declared.decoded.ControlSection.{ControlSection}
 use Rattle.plan_model.specs.Sent.{SentFrame}
 use Rattle.plan_model.specs.declared.streams.Stream.{Stream}
 use Rattle.plan_model.specs.declared.streams.Stream.TheVariants.{DownCommands, UpCommands, DownData, UpData}
@@ -22,7 +22,7 @@ use Rattle.schedule_laws.proofs.ReadingLemmas.{AreCopies, a_command, a_piece, re
 
 -- ---- one arrival more
 
-pub fragments_command : (c : Config) (a : Arrival) (earlier : List Arrival) (d : Command) → read_of c a ≡ Commands (d ∷ []) ∷ []
+pub fragments_command : (c : Config) (a : Arrival) (earlier : List Arrival) (d : ControlSection) → read_of c a ≡ Commands (d ∷ []) ∷ []
     → fragments (meetings Ru c.endpoints (a ∷ earlier)) ≡ fragments (meetings Ru c.endpoints earlier)
 unfolding meetings onto fragments
 fragments_command c a earlier d e = ap (λ (ms : List Meeting). fragments (onto (meetings Ru c.endpoints earlier) ms)) e

@@ -8,7 +8,7 @@ use Rattle.unit_laws.specs.window_config.specs.declared.config.Config.{Config}
 use Rattle.unit_laws.specs.window_config.specs.declared.endpoints.EndpointConfig.{EndpointConfig}
 use Rattle.unit_laws.specs.unit_model.specs.Lists.{onto}
 use Rattle.unit_laws.specs.unit_model.specs.Meetings.{Arrival, Meeting, Commands, Piece, commands, meetings, met_in}
-use Rattle.unit_laws.specs.unit_model.specs.declared.decoded.Command.{Command}
+use Rattle.unit_laws.specs.unit_model.specs.declared.decoded.ControlSection.{ControlSection}
 use Rattle.plan_model.specs.Sent.{SentFrame}
 use Rattle.plan_model.specs.declared.streams.Stream.{Stream}
 use Rattle.plan_model.specs.declared.streams.Stream.TheVariants.{DownCommands, UpCommands, DownData, UpData}
@@ -49,7 +49,7 @@ command_read c text f a h copy = command_by c text f a f.stream h copy.read
 
 -- ---- one arrival more
 
-pub met_command : (c : Config) (a : Arrival) (earlier : List Arrival) (d : Command) → read_of c a ≡ Commands (d ∷ []) ∷ []
+pub met_command : (c : Config) (a : Arrival) (earlier : List Arrival) (d : ControlSection) → read_of c a ≡ Commands (d ∷ []) ∷ []
     → commands (meetings Ru c.endpoints (a ∷ earlier)) ≡ d ∷ commands (meetings Ru c.endpoints earlier)
 unfolding meetings onto commands
 met_command c a earlier d e = ap (λ (ms : List Meeting). commands (onto (meetings Ru c.endpoints earlier) ms)) e
@@ -62,7 +62,7 @@ met_piece c a earlier e x h = ap (λ (ms : List Meeting). commands (onto (meetin
 -- ---- all of them
 
 -- a command that came is that of a copy
-pub record Heard (c : Config) (text : Texts) (frames : List SentFrame) (arrivals : List Arrival) (d : Command) : Type 0 where
+pub record Heard (c : Config) (text : Texts) (frames : List SentFrame) (arrivals : List Arrival) (d : ControlSection) : Type 0 where
   pub a : Arrival
   pub came : IsIn a arrivals
   pub f : SentFrame
@@ -76,16 +76,16 @@ module _ (c : Config) (text : Texts) (frames : List SentFrame) where
   abbrev pub AreCopies : List Arrival → Type 0
   AreCopies arrivals = (a : Arrival) → IsIn a arrivals → (f : SentFrame) × IsIn f frames × IsCopyOf c text f a
 
-  longer : (a : Arrival) (earlier : List Arrival) (d : Command) → Heard c text frames earlier d → Heard c text frames (a ∷ earlier) d
+  longer : (a : Arrival) (earlier : List Arrival) (d : ControlSection) → Heard c text frames earlier d → Heard c text frames (a ∷ earlier) d
   longer a earlier d h = record { a = h.a; came = inr h.came; f = h.f; sent_is = h.sent_is; copy = h.copy; stream = h.stream; at = h.at; carries = h.carries }
 
-  pub heard : (arrivals : List Arrival) → AreCopies arrivals → (d : Command) → IsIn d (commands (meetings Ru c.endpoints arrivals)) → Heard c text frames arrivals d
+  pub heard : (arrivals : List Arrival) → AreCopies arrivals → (d : ControlSection) → IsIn d (commands (meetings Ru c.endpoints arrivals)) → Heard c text frames arrivals d
   unfolding meetings commands
   heard [] came d m = absurd m
   heard (a ∷ earlier) came d m =
       let w = came a (inl refl) in
       elim (reading c text w.0 a w.2) [
-        | a_command stream r ↦ elim (subst (λ (xs : List Command). IsIn d xs) (met_command c a earlier r.command r.is) m) [
+        | a_command stream r ↦ elim (subst (λ (xs : List ControlSection). IsIn d xs) (met_command c a earlier r.command r.is) m) [
           | inl here ↦ record {
             a = a;
             came = inl refl;
@@ -93,26 +93,26 @@ module _ (c : Config) (text : Texts) (frames : List SentFrame) where
             sent_is = w.1;
             copy = w.2;
             stream = stream;
-            at = ap (λ (x : Command). x.at.0) here ∙ r.at;
+            at = ap (λ (x : ControlSection). x.at.0) here ∙ r.at;
             carries = subst (IsCommandFor w.0.message.first.planned) (sym here) r.for_line;
           }
           | inr there ↦ longer a earlier d (heard earlier (λ b n. came b (inr n)) d there)
         ]
-        | a_piece e r ↦ longer a earlier d (heard earlier (λ b n. came b (inr n)) d (subst (λ (xs : List Command). IsIn d xs) (met_piece c a earlier w.0.endpoint (fragment_at c text w.0 a.at) r) m))
+        | a_piece e r ↦ longer a earlier d (heard earlier (λ b n. came b (inr n)) d (subst (λ (xs : List ControlSection). IsIn d xs) (met_piece c a earlier w.0.endpoint (fragment_at c text w.0 a.at) r) m))
       ]
 
-  pub told : (arrivals : List Arrival) → AreCopies arrivals → (a : Arrival) (d : Command) → IsIn a arrivals → read_of c a ≡ Commands (d ∷ []) ∷ []
+  pub told : (arrivals : List Arrival) → AreCopies arrivals → (a : Arrival) (d : ControlSection) → IsIn a arrivals → read_of c a ≡ Commands (d ∷ []) ∷ []
       → IsIn d (commands (meetings Ru c.endpoints arrivals))
   told [] came a d m e = absurd m
   told (b ∷ earlier) came a d m e = elim m [
     | inl here ↦
         let e_b : read_of c b ≡ Commands (d ∷ []) ∷ [] = ap (read_of c) (sym here) ∙ e in
-        subst (λ (xs : List Command). IsIn d xs) (sym (met_command c b earlier d e_b)) (inl refl)
+        subst (λ (xs : List ControlSection). IsIn d xs) (sym (met_command c b earlier d e_b)) (inl refl)
     | inr there ↦
         let rest = told earlier (λ x n. came x (inr n)) a d there e in
         let w = came b (inl refl) in
         elim (reading c text w.0 b w.2) [
-          | a_command stream r ↦ subst (λ (xs : List Command). IsIn d xs) (sym (met_command c b earlier r.command r.is)) (inr rest)
-          | a_piece f r ↦ subst (λ (xs : List Command). IsIn d xs) (sym (met_piece c b earlier w.0.endpoint (fragment_at c text w.0 b.at) r)) rest
+          | a_command stream r ↦ subst (λ (xs : List ControlSection). IsIn d xs) (sym (met_command c b earlier r.command r.is)) (inr rest)
+          | a_piece f r ↦ subst (λ (xs : List ControlSection). IsIn d xs) (sym (met_piece c b earlier w.0.endpoint (fragment_at c text w.0 b.at) r)) rest
         ]
   ]

@@ -31,7 +31,7 @@ use Rattle.unit_laws.specs.unit_model.specs.Meetings.{Arrival, fragments, meetin
 use Rattle.unit_laws.specs.unit_model.specs.Proper.{IsAt}
 use Rattle.unit_laws.specs.unit_model.specs.Radiated.{first_clock}
 use Rattle.unit_laws.specs.unit_model.specs.Times.{end_of_time}
-use Rattle.unit_laws.specs.unit_model.specs.declared.decoded.Data.{Data}
+use Rattle.unit_laws.specs.unit_model.specs.declared.decoded.UserSection.{UserSection}
 use Rattle.unit_laws.specs.unit_model.proofs.ReachLaws.{symbol_soon}
 use Rattle.unit_laws.specs.unit_model.proofs.SweepLaws.{gap_is}
 use Rattle.unit_laws.proofs.CellLemmas.{from_within, slots_equal}
@@ -60,18 +60,18 @@ use Rattle.schedule_laws.proofs.TimeLemmas.{frame_is, in_end, in_time, wait_most
 
 -- ---- the sections of a message
 
-section_of : (blocks : Blocks) (first last : ℤ) (xs : List Part) (ds : List Data) (d : Data) → AreSections blocks first last xs ds → IsIn d ds
+section_of : (blocks : Blocks) (first last : ℤ) (xs : List Part) (ds : List UserSection) (d : UserSection) → AreSections blocks first last xs ds → IsIn d ds
     → (x : Part) × IsIn x xs × IsDataFor blocks x d × (d.first.0 ≡ first) × (d.last.0 ≡ last)
 section_of blocks first last [] [] d h m = absurd m
 section_of blocks first last [] (y ∷ ds) d h m = absurd h
 section_of blocks first last (x ∷ xs) [] d h m = absurd m
 section_of blocks first last (x ∷ xs) (y ∷ ds) d h m = elim m [
-  | inl e ↦ (x, inl refl, subst (IsDataFor blocks x) (sym e) h.0, ap (λ (z : Data). z.first.0) e ∙ h.1, ap (λ (z : Data). z.last.0) e ∙ h.2)
+  | inl e ↦ (x, inl refl, subst (IsDataFor blocks x) (sym e) h.0, ap (λ (z : UserSection). z.first.0) e ∙ h.1, ap (λ (z : UserSection). z.last.0) e ∙ h.2)
   | inr t ↦ (let w = section_of blocks first last xs ds d h.3 t in (w.0, inr w.1, w.2, w.3, w.4))
 ]
 
-part_section : (blocks : Blocks) (first last : ℤ) (xs : List Part) (ds : List Data) (x : Part) → AreSections blocks first last xs ds → IsIn x xs
-    → (d : Data) × IsIn d ds × IsDataFor blocks x d × (d.first.0 ≡ first) × (d.last.0 ≡ last)
+part_section : (blocks : Blocks) (first last : ℤ) (xs : List Part) (ds : List UserSection) (x : Part) → AreSections blocks first last xs ds → IsIn x xs
+    → (d : UserSection) × IsIn d ds × IsDataFor blocks x d × (d.first.0 ≡ first) × (d.last.0 ≡ last)
 part_section blocks first last [] [] x h m = absurd m
 part_section blocks first last [] (y ∷ ds) x h m = absurd h
 part_section blocks first last (y ∷ xs) [] x h m = absurd h
@@ -242,7 +242,7 @@ module _ (c : Config) (lines : List PlanLine) (text : Texts) (blocks : Blocks) (
     number : number_of num x ≡ j
     first : ℤ
     last : ℤ
-    sections : List Data
+    sections : List UserSection
     are : AreSections blocks first last (onto [] (parts_of is_here.n.message)) sections
     is : (e : EndpointConfig) → e ≡ is_here.e → sections_of (decode_message Ru x.ep e (message (x ∷ standing_before b.hold x earlier))) ≡ sections
     first_from : (flow_sent_at (flow x.ep) j 0 +ℤ b.fast) ≤ℤ first
@@ -319,7 +319,7 @@ module _ (c : Config) (lines : List PlanLine) (text : Texts) (blocks : Blocks) (
       ∙ ap₂ (λ (s : Slot) (z : ℕ). air_of y.planned.endpoint.numerology s z) (sym (slots_equal y.planned.line.slot x.planned.line.slot parts.0)) (sym (eqb-true y.symbol x.symbol parts.1))
 
   -- a section that is on time, of this part
-  pub record IsTimely (x : Part) (d : Data) : Type 0 where
+  pub record IsTimely (x : Part) (d : UserSection) : Type 0 where
     pub ep : ℕ
     pub e : EndpointConfig
     pub facts : PartFacts ep e x
@@ -327,15 +327,15 @@ module _ (c : Config) (lines : List PlanLine) (text : Texts) (blocks : Blocks) (
     pub slot_is : data_slot d ≡ x.planned.line.slot
     pub class : data_class Ru c.delays d ≡ OnTime
 
-  slot_named : (x : Part) (d : Data) → IsDataFor blocks x d → absolute_frame d.head.frame_id d.last.0 ≡ x.planned.line.slot.frame → data_slot d ≡ x.planned.line.slot
+  slot_named : (x : Part) (d : UserSection) → IsDataFor blocks x d → absolute_frame d.head.frame_id d.last.0 ≡ x.planned.line.slot.frame → data_slot d ≡ x.planned.line.slot
   slot_named x d carries f = same_slot_fields (data_slot d) x.planned.line.slot f carries.subframe carries.slot
 
-  start_named : (x : Part) (d : Data) → IsDataFor blocks x d → data_slot d ≡ x.planned.line.slot → data_start d ≡ start_of x
+  start_named : (x : Part) (d : UserSection) → IsDataFor blocks x d → data_slot d ≡ x.planned.line.slot → data_start d ≡ start_of x
   start_named x d carries s =
       ap (λ (e : EndpointConfig). air_of e.numerology (data_slot d) d.section.symbol) carries.endpoint
       ∙ ap₂ (λ (t : Slot) (y : ℕ). air_of x.planned.endpoint.numerology t y) s carries.symbol
 
-  timely_section : (x : Fragment) (earlier : List Fragment) (s : Says x earlier) (part : Part) (d : Data) → IsIn part (parts_of s.is_here.n.message) → IsDataFor blocks part d
+  timely_section : (x : Fragment) (earlier : List Fragment) (s : Says x earlier) (part : Part) (d : UserSection) → IsIn part (parts_of s.is_here.n.message) → IsDataFor blocks part d
       → d.first.0 ≡ s.first → d.last.0 ≡ s.last → IsTimely part d
   timely_section x earlier s part d part_in_message carries first_is last_is =
       let a = s.is_here in
@@ -375,20 +375,20 @@ module _ (c : Config) (lines : List PlanLine) (text : Texts) (blocks : Blocks) (
 
   -- ---- each section, and every part
 
-  abbrev pub ds : List Data
+  abbrev pub ds : List UserSection
   ds = data_sections Ru b.hold (meetings Ru c.endpoints arrivals)
 
   endpoint_at : (f : SentFrame) → IsIn f (sent c ps) → IsAt c.endpoints f.ep f.endpoint
   endpoint_at f m = (sent_is c ps f m).at
 
-  pub each_timely : (d : Data) → IsIn d ds → (x : Part) × IsTimely x d
+  pub each_timely : (d : UserSection) → IsIn d ds → (x : Part) × IsTimely x d
   each_timely d m =
       let t = told_in c text (sent c ps) b.hold arrivals h.came d m in
       let v = told_whole (verdict_on b.hold t.x t.earlier) t.f.endpoint t.x (standing_before b.hold t.x t.earlier) d t.told in
       let s = says t.later t.earlier t.x t.is v.0 in
       let same = same_endpoint c.endpoints t.f.ep t.x.ep t.f.endpoint s.is_here.e (endpoint_at t.f t.sent_is) s.is_here.at (sym t.ep_is) in
       let parts = parts_of s.is_here.n.message in
-      let got = section_of blocks s.first s.last (onto [] parts) s.sections d s.are (subst (λ (xs : List Data). IsIn d xs) (s.is t.f.endpoint same) v.1) in
+      let got = section_of blocks s.first s.last (onto [] parts) s.sections d s.are (subst (λ (xs : List UserSection). IsIn d xs) (s.is t.f.endpoint same) v.1) in
       let in_message : IsIn got.0 parts = elim (in_onto got.0 [] parts got.1) [ inl none ↦ absurd none | inr i ↦ i ] in
       (got.0, timely_section t.x t.earlier s got.0 d in_message got.2 got.3 got.4)
 
@@ -398,7 +398,7 @@ module _ (c : Config) (lines : List PlanLine) (text : Texts) (blocks : Blocks) (
       (whole_in b (flow ep) j (of_message num ep j all) (answers b.hold num ep j all) (whole_once ep j below))
 
   -- each part of a message has its section
-  part_sent : (ep j : ℕ) (a : IsHere ep j) (x : Part) → IsIn x (parts_of a.n.message) → (d : Data) × IsIn d ds × IsTimely x d
+  part_sent : (ep j : ℕ) (a : IsHere ep j) (x : Part) → IsIn x (parts_of a.n.message) → (d : UserSection) × IsIn d ds × IsTimely x d
   part_sent ep j a x m =
       let below = below_at c lines h.config h.lines_fit h.valid h.check text ep j a in
       let o = some_answer ep j below in
@@ -415,7 +415,7 @@ module _ (c : Config) (lines : List PlanLine) (text : Texts) (blocks : Blocks) (
       let in_message : IsIn x (parts_of s.is_here.n.message) = subst (λ (n : Numbered Part). IsIn x (parts_of n.message)) same_n m in
       let x_there : IsIn x (onto [] (parts_of s.is_here.n.message)) = onto_right x [] (parts_of s.is_here.n.message) in_message in
       let d = part_section blocks s.first s.last (onto [] (parts_of s.is_here.n.message)) s.sections x s.are x_there in
-      let d_told = whole_told (verdict_on b.hold o.x o.earlier) s.is_here.e o.x (standing_before b.hold o.x o.earlier) d.0 v (subst (λ (xs : List Data). IsIn d.0 xs) (sym (s.is s.is_here.e refl)) d.1) in
+      let d_told = whole_told (verdict_on b.hold o.x o.earlier) s.is_here.e o.x (standing_before b.hold o.x o.earlier) d.0 v (subst (λ (xs : List UserSection). IsIn d.0 xs) (sym (s.is s.is_here.e refl)) d.1) in
       (d.0, told_there c text (sent c ps) b.hold endpoint_at arrivals h.came o.later o.earlier o.x s.is_here.e d.0 s.is_here.at o.is d_told, timely_section o.x o.earlier s x d.0 in_message d.2 d.3 d.4)
     where
       some_same : (m n : Numbered Part) → Some m ≡ Some n → m ≡ n
@@ -427,7 +427,7 @@ module _ (c : Config) (lines : List PlanLine) (text : Texts) (blocks : Blocks) (
   line_part p symbol down used within = and_from _ _ (and_from _ _ down used) (and_from _ _ (eq-eqb p.ep p.ep refl) (and_from _ _ (slot_own p.line.slot) within))
 
   pub line_sent : (p : PlannedLine) (symbol : ℕ) → IsIn p ps → (allocation_of p).down ≡ true → not (allocation_of p).idle ≡ true → is_from p.line.symbol p.line.count symbol ≡ true
-      → (d : Data) × IsIn d ds × IsTimely (part_in symbol p) d
+      → (d : UserSection) × IsIn d ds × IsTimely (part_in symbol p) d
   line_sent p symbol m down used within =
       let g = good c lines h.config h.lines_fit h.valid p m in
       let high = from_within p.line.symbol p.line.count symbol within in

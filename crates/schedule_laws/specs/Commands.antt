@@ -11,7 +11,7 @@ use Rattle.unit_laws.specs.unit_model.specs.Meetings.{Arrival}
 use Rattle.unit_laws.specs.unit_model.specs.Reports.{accepted_of, commands_of}
 use Rattle.unit_laws.specs.unit_model.specs.declared.allocations.Allocation.{Allocation}
 use Rattle.unit_laws.specs.unit_model.specs.declared.cells.Cell.{Cell}
-use Rattle.unit_laws.specs.unit_model.specs.declared.decoded.Command.{Command}
+use Rattle.unit_laws.specs.unit_model.specs.declared.decoded.ControlSection.{ControlSection}
 use Rattle.unit_laws.specs.unit_model.specs.declared.verdicts.CommandVerdict.TheVariants.{Accepted, Repeat}
 use Rattle.plan_model.specs.Lines.{allocation_of, planned}
 use Rattle.plan_model.specs.declared.lines.PlannedLine.{PlannedLine}
@@ -22,17 +22,17 @@ abbrev pub allocations_of : List PlannedLine → List Allocation
 allocations_of ps = map allocation_of ps
 
 -- a command behind these carries one line, and is the first that names what the line names, and Accepted, or a further one and Repeat
-pub record IsAnsweredOnce (delays : Delays) (ps : List PlannedLine) (d : Command) (earlier : List Command) : Type 0 where
+pub record IsAnsweredOnce (delays : Delays) (ps : List PlannedLine) (d : ControlSection) (earlier : List ControlSection) : Type 0 where
   pub line : PlannedLine
   pub planned_is : IsIn line ps
   pub carries : IsCommandFor line d
   pub names : named_by d ≡ allocation_of line
-  pub first : ((x : Command) → IsIn x earlier → named_by x ≢ allocation_of line) → command_verdict delays (accepted delays earlier) d ≡ Accepted
-  pub further : (x : Command) → IsIn x earlier → named_by x ≡ allocation_of line → command_verdict delays (accepted delays earlier) d ≡ Repeat
+  pub first : ((x : ControlSection) → IsIn x earlier → named_by x ≢ allocation_of line) → command_verdict delays (accepted delays earlier) d ≡ Accepted
+  pub further : (x : ControlSection) → IsIn x earlier → named_by x ≡ allocation_of line → command_verdict delays (accepted delays earlier) d ≡ Repeat
 
 -- a command came for this line
-pub record IsCommanded (p : PlannedLine) (cs : List Command) : Type 0 where
-  pub command : Command
+pub record IsCommanded (p : PlannedLine) (cs : List ControlSection) : Type 0 where
+  pub command : ControlSection
   pub came : IsIn command cs
   pub carries : IsCommandFor p command
   pub names : named_by command ≡ allocation_of p
@@ -40,7 +40,7 @@ pub record IsCommanded (p : PlannedLine) (cs : List Command) : Type 0 where
 -- Of the commands that came, the newest first, each is answered so; each line has one, and no two lines name the same; and what is
 -- claimed is what the lines name, in each cell, also in those that no line names.
 pub record AreCommandedOnce (c : Config) (ps : List PlannedLine) (arrivals : List Arrival) : Type 0 where
-  pub answers : (later earlier : List Command) (d : Command) → commands_of Ru c arrivals ≡ later ++ d ∷ earlier → IsAnsweredOnce c.delays ps d earlier
+  pub answers : (later earlier : List ControlSection) (d : ControlSection) → commands_of Ru c arrivals ≡ later ++ d ∷ earlier → IsAnsweredOnce c.delays ps d earlier
   pub every : (p : PlannedLine) → IsIn p ps → IsCommanded p (commands_of Ru c arrivals)
   pub differ : (p q : PlannedLine) → IsIn p ps → IsIn q ps → allocation_of p ≡ allocation_of q → p ≡ q
   pub claims : (cell : Cell) (re : ℕ) → re < 12 → claim_at (accepted_of c arrivals) cell re ≡ claim_at (allocations_of ps) cell re

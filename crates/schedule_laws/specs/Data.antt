@@ -20,7 +20,7 @@ use Rattle.unit_laws.specs.unit_model.specs.Proper.{IsAt}
 use Rattle.unit_laws.specs.unit_model.specs.Reports.{data_of, met, timely_of}
 use Rattle.unit_laws.specs.unit_model.specs.declared.cells.Block.{Block}
 use Rattle.unit_laws.specs.unit_model.specs.declared.cells.Cell.{Cell}
-use Rattle.unit_laws.specs.unit_model.specs.declared.decoded.Data.{Data}
+use Rattle.unit_laws.specs.unit_model.specs.declared.decoded.UserSection.{UserSection}
 use Rattle.plan_model.specs.Lines.{allocation_of, planned}
 use Rattle.plan_model.specs.Packs.{Numbered, parts_of, size_of}
 use Rattle.plan_model.specs.Streams.{Part, frames_in, messages_of, part_fields, part_in}
@@ -35,7 +35,7 @@ Blocks = Cell → List Wide
 
 -- a section of data that carries a line in one of its symbols: its header has the frame's low 8 bits, and each PRB its cell's samples
 -- (O-RAN.WG4.CUS, U-plane messages)
-pub record IsDataFor (blocks : Blocks) (x : Part) (d : Data) : Type 0 where
+pub record IsDataFor (blocks : Blocks) (x : Part) (d : UserSection) : Type 0 where
   pub ep : d.ep ≡ x.planned.ep
   pub endpoint : d.endpoint ≡ x.planned.endpoint
   pub down : d.head.down ≡ true
@@ -50,7 +50,7 @@ pub record IsDataFor (blocks : Blocks) (x : Part) (d : Data) : Type 0 where
       → slice_index_or d.blocks (n - first_prb (allocation_of x.planned)) [] ≡ blocks (cell_at x.planned.ep true x.planned.line.slot x.symbol n)
 
 -- one section for each part, in this order, of a message whose first and last fragments came then
-abbrev pub AreSections : Blocks → ℤ → ℤ → List Part → List Data → Type 0
+abbrev pub AreSections : Blocks → ℤ → ℤ → List Part → List UserSection → Type 0
 AreSections blocks first last [] [] = ⊤
 AreSections blocks first last [] (d ∷ ds) = ⊥
 AreSections blocks first last (x ∷ xs) [] = ⊥
@@ -58,7 +58,7 @@ AreSections blocks first last (x ∷ xs) (d ∷ ds) = IsDataFor blocks x d × (d
 
 -- what all the bytes of a message say: its parts, the newest section first
 pub record IsDecoded (c : Config) (text : Texts) (blocks : Blocks) (ep : ℕ) (e : EndpointConfig) (n : Numbered Part) (first last : ℤ) : Type 0 where
-  pub sections : List Data
+  pub sections : List UserSection
   pub is : decode Ru ep e first last (joined (texts (text ep n.number) (frames_in c DownData n.message))) ≡ Sections sections
   pub are : AreSections blocks first last (onto [] (parts_of n.message)) sections
 
@@ -82,14 +82,14 @@ planned_block blocks (p ∷ ps) cell =
     if radiates_in p cell then Some (record { id = p.line.section; samples = blocks cell }) else planned_block blocks ps cell
 
 -- a section came for a line in this symbol
-pub record IsDataSent (blocks : Blocks) (x : Part) (ds : List Data) : Type 0 where
-  pub section : Data
+pub record IsDataSent (blocks : Blocks) (x : Part) (ds : List UserSection) : Type 0 where
+  pub section : UserSection
   pub came : IsIn section ds
   pub carries : IsDataFor blocks x section
   pub slot : data_slot section ≡ x.planned.line.slot
 
 -- a section carries a line's part, and is on time
-pub record IsPlannedData (c : Config) (ps : List PlannedLine) (blocks : Blocks) (d : Data) : Type 0 where
+pub record IsPlannedData (c : Config) (ps : List PlannedLine) (blocks : Blocks) (d : UserSection) : Type 0 where
   pub part : Part
   pub planned_is : IsIn part.planned ps
   pub carries : IsDataFor blocks part d
@@ -103,7 +103,7 @@ pub record AreDecodedOnce (c : Config) (ps : List PlannedLine) (text : Texts) (b
   pub whole : (ep j : ℕ) → j < (flow_of c ps text ep).count
       → IsOnceWhole (bounds_of c) (flow_of c ps text ep) j (of_message (numbers_of (bounds_of c) (flow_of c ps text)) ep j (fragments (met Ru c arrivals)))
       (answers (bounds_of c).hold (numbers_of (bounds_of c) (flow_of c ps text)) ep j (fragments (met Ru c arrivals)))
-  pub each : (d : Data) → IsIn d (data_of Ru c arrivals) → IsPlannedData c ps blocks d
+  pub each : (d : UserSection) → IsIn d (data_of Ru c arrivals) → IsPlannedData c ps blocks d
   pub every : (p : PlannedLine) (symbol : ℕ) → IsIn p ps → (allocation_of p).down ≡ true → (allocation_of p).idle ≡ false
       → is_from p.line.symbol p.line.count symbol ≡ true → IsDataSent blocks (part_in symbol p) (data_of Ru c arrivals)
   pub blocks_are : (cell : Cell) → cell.down ≡ true → block_at (timely_of Ru c arrivals) cell ≡ planned_block blocks ps cell

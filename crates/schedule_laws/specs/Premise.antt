@@ -14,7 +14,7 @@ use Rattle.unit_laws.specs.window_config.specs.declared.config.Config.{Config}
 use Rattle.unit_laws.specs.window_config.specs.declared.plan.PlanLine.{PlanLine}
 use Rattle.unit_laws.specs.unit_model.specs.Commands.{is_for, is_idle}
 use Rattle.unit_laws.specs.unit_model.specs.Meetings.{Arrival, Meeting, Commands, Piece, met_in}
-use Rattle.unit_laws.specs.unit_model.specs.declared.decoded.Command.{Command}
+use Rattle.unit_laws.specs.unit_model.specs.declared.decoded.ControlSection.{ControlSection}
 use Rattle.plan_model.specs.Lines.{is_down, is_idle as is_idle_line, planned}
 use Rattle.plan_model.specs.Sent.{SentFrame, sent}
 use Rattle.plan_model.specs.Streams.{frames_in}
@@ -25,7 +25,7 @@ use Rattle.plan_model.specs.declared.streams.Stream.TheVariants.{DownCommands, U
 
 -- a command that carries what a line plans: a header for the endpoint with the frame's low 8 bits, and one section
 -- (O-RAN.WG4.CUS, C-plane messages)
-pub record IsCommandFor (p : PlannedLine) (d : Command) : Type 0 where
+pub record IsCommandFor (p : PlannedLine) (d : ControlSection) : Type 0 where
   pub ep : d.ep ≡ p.ep
   pub endpoint : d.endpoint ≡ p.endpoint
   pub fits : is_for d.head.body d.endpoint.numerology ≡ true
@@ -60,7 +60,7 @@ fragment_at c text f at = record {
 
 -- the one command that a frame is read as
 pub record IsReadAsCommand (f : SentFrame) (a : Arrival) (ms : List Meeting) : Type 0 where
-  pub command : Command
+  pub command : ControlSection
   pub is : ms ≡ Commands (command ∷ []) ∷ []
   pub at : command.at.0 ≡ a.at
   pub for_line : IsCommandFor f.message.first.planned command

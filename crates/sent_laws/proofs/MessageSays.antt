@@ -20,7 +20,7 @@ use Rattle.sent_frames.specs.window_config.specs.declared.endpoints.EndpointConf
 use Rattle.sent_frames.specs.unit_model.specs.Claims.{cell_at, first_prb, is_from, prb_count}
 use Rattle.sent_frames.specs.unit_model.specs.Decoding.{Gathering, Part as ReadPart, Sections, data_with, decode, decoded_from, gathered, nothing_told}
 use Rattle.sent_frames.specs.unit_model.specs.Lists.{onto}
-use Rattle.sent_frames.specs.unit_model.specs.declared.decoded.Data.{Data}
+use Rattle.sent_frames.specs.unit_model.specs.declared.decoded.UserSection.{UserSection}
 use Rattle.sent_frames.specs.plan_model.specs.Lines.{allocation_of}
 use Rattle.sent_frames.specs.plan_model.specs.Packs.{Message, parts_of, size_of}
 use Rattle.sent_frames.specs.plan_model.specs.Streams.{Part, part_fields}
@@ -82,7 +82,7 @@ one_step place k = omega arith
 
 -- ---- sections, the newest first
 
-module _ (blocks : Blocks) (first last : ℤ) (as_data : ReadPart → Data) (at_first : (p : ReadPart) → (as_data p).first.0 ≡ first) (at_last : (p : ReadPart) → (as_data p).last.0 ≡ last) where
+module _ (blocks : Blocks) (first last : ℤ) (as_data : ReadPart → UserSection) (at_first : (p : ReadPart) → (as_data p).first.0 ≡ first) (at_last : (p : ReadPart) → (as_data p).last.0 ≡ last) where
   sections_are : (k : Carrier) (symbol : ℕ) (source : ℕ → ℕ → List Iq) (xs : List Part) (ps : List ReadPart) (rest : List Part) (place : ℕ)
       → AreSections blocks first last xs (map as_data ps)
       → ((j : ℕ) (x : Part) → slice_get rest j ≡ Some x → IsDataFor blocks x (as_data (read_part k symbol (source (place + j)) (data_section x))))
@@ -131,10 +131,10 @@ module _ (c : Config) (ep : ℕ) (e : EndpointConfig) (source : Source) (m : Mes
       ap (λ (f : EndpointConfig). told e.format e.prbs (shape_of e.numerology) (message_of (carrier_of f) (message_samples source m) (data_head m.first) (map data_section (parts_of m)))) one.endpoint_is
       ∙ message_told (carrier_of e) (shape_of e.numerology) (message_samples source m) (data_head m.first) (map data_section (parts_of m)) readable
 
-  abbrev pub as_data : ℤ → ℤ → ReadPart → Data
+  abbrev pub as_data : ℤ → ℤ → ReadPart → UserSection
   as_data first last = data_with ep e first last (data_head m.first)
 
-  abbrev pub sections_read : ℤ → ℤ → List Data
+  abbrev pub sections_read : ℤ → ℤ → List UserSection
   sections_read first last = map (as_data first last) (onto [] (read_parts (carrier_of e) m.first.symbol (message_samples source m) 0 (map data_section (parts_of m))))
 
   pub is_decoded : (first last : ℤ) → decode Ru ep e first last (message_bytes source m) ≡ Sections (sections_read first last)

@@ -24,8 +24,8 @@ use Rattle.unit_model.specs.Lists.{every}
 use Rattle.unit_model.specs.air_source.specs.declared.events.Side.{Side}
 use Rattle.unit_model.specs.Proper.{IsAt, IsProperCommand, IsSlot}
 use Rattle.unit_model.specs.declared.allocations.Allocation.{Allocation}
-use Rattle.unit_model.specs.declared.decoded.Command.{Command}
-use Rattle.unit_model.specs.declared.decoded.Data.{Data}
+use Rattle.unit_model.specs.declared.decoded.ControlSection.{ControlSection}
+use Rattle.unit_model.specs.declared.decoded.UserSection.{UserSection}
 use Rattle.unit_model.specs.declared.verdicts.CommandVerdict.{CommandVerdict}
 use Rattle.unit_model.specs.declared.verdicts.CommandVerdict.TheVariants as command
 use Rattle.unit_model.specs.declared.verdicts.DataVerdict.TheVariants as data_verdict
@@ -50,11 +50,11 @@ use Rattle.unit_cells.proofs.TakeLemmas.{kept_is, takes_keeps, verdict_is}
 chosen : (b c : Bool) (v w : CommandVerdict) → b ≡ c → (if b then v else w) ≡ (if c then v else w)
 chosen b c v w e = ap (λ (x : Bool). if x then v else w) e
 
-pub mismatched : (d : Delays) (acc : List Allocation) (c : Command) → is_for c.head.body c.endpoint.numerology ≡ false → command.Mismatch ≡ command_verdict d acc c
+pub mismatched : (d : Delays) (acc : List Allocation) (c : ControlSection) → is_for c.head.body c.endpoint.numerology ≡ false → command.Mismatch ≡ command_verdict d acc c
 unfolding command_verdict
 mismatched d acc c h = sym (chosen (is_for c.head.body c.endpoint.numerology) false (verdict_in (command_class d c) acc (allocation_of c)) command.Mismatch h)
 
-pub classed : (d : Delays) (acc : List Allocation) (c : Command) (k : Class) → is_for c.head.body c.endpoint.numerology ≡ true → command_class d c ≡ k
+pub classed : (d : Delays) (acc : List Allocation) (c : ControlSection) (k : Class) → is_for c.head.body c.endpoint.numerology ≡ true → command_class d c ≡ k
     → verdict_in k acc (allocation_of c) ≡ command_verdict d acc c
 unfolding command_verdict
 classed d acc c k h is =
@@ -74,7 +74,7 @@ not_negative : (a b : ℤ) → pos 0 ≤ℤ a → a ≤ℤ b → pos 0 ≤ℤ b
 not_negative a b h k = omega (arith, ints)
 
 -- a command that is on time names a live slot
-pub command_live : (d : Delays) (c : Command) → IsWithinLimits d → c.head.start_symbol < symbols_of c.endpoint.numerology → command_class d c ≡ class.OnTime
+pub command_live : (d : Delays) (c : ControlSection) → IsWithinLimits d → c.head.start_symbol < symbols_of c.endpoint.numerology → command_class d c ≡ class.OnTime
     → IsLiveOn Ru d c.endpoint c.at.0 (command_slot c)
 command_live d c limits symbol on_time =
     live_on_command d c.endpoint.numerology (command_slot c) c.head.start_symbol c.at.0 c.at.0 (ru_reach_of d).before (ru_reach_of d).after c.head.down limits
@@ -85,7 +85,7 @@ command_live d c limits symbol on_time =
 limits_of : (side : Side) (c : Config) (v : CellsValue) → IsOf side c v → AreRings v → IsWithinLimits c.delays
 limits_of side c v of held = subst IsWithinLimits of.delays held.limits
 
-module _ (c : Config) (k : Command) (v : CommandVerdict) (old new : CellsValue) (of : IsOf Ru c old) (held : AreRings old)
+module _ (c : Config) (k : ControlSection) (v : CommandVerdict) (old new : CellsValue) (of : IsOf Ru c old) (held : AreRings old)
     (proper : IsProperCommand (endpoints_of old) k) (on_time : command_class c.delays k ≡ class.OnTime)
     (taken : InRing k.ep (Takes (allocation_of k) v) old new) where
   pub command_step : IsStep Ru c k.at.0 k.ep k.endpoint (command_slot k) taken.before taken.after old new
@@ -103,10 +103,10 @@ module _ (c : Config) (k : Command) (v : CommandVerdict) (old new : CellsValue) 
     has = taken.stepped.claims.has;
   }
 
-  pub command_keeps : (acc : List Allocation) (ds : List Data) → Keeps Ru c k.at.0 old acc ds → Keeps Ru c k.at.0 new (with_accepted v (allocation_of k) acc) ds
+  pub command_keeps : (acc : List Allocation) (ds : List UserSection) → Keeps Ru c k.at.0 old acc ds → Keeps Ru c k.at.0 new (with_accepted v (allocation_of k) acc) ds
   command_keeps acc ds keeps = takes_keeps Ru c k.at.0 (allocation_of k) v taken.before taken.after old new acc ds command_step taken.stepped.claims keeps
 
-  pub command_judged : (acc : List Allocation) (ds : List Data) → Keeps Ru c k.at.0 old acc ds → is_for k.head.body k.endpoint.numerology ≡ true → v ≡ command_verdict c.delays acc k
+  pub command_judged : (acc : List Allocation) (ds : List UserSection) → Keeps Ru c k.at.0 old acc ds → is_for k.head.body k.endpoint.numerology ≡ true → v ≡ command_verdict c.delays acc k
   command_judged acc ds keeps fits =
       let kept = kept_is Ru c k.at.0 (allocation_of k) taken.before old acc ds keeps command_step.at command_step.is_slot command_step.live taken.was in
       taken.stepped.verdict
@@ -137,7 +137,7 @@ class_same : (side : Side) (d : Delays) (h : DataHeading) (blocks : List (List W
 class_same Ru d h blocks = refl
 class_same Du d h blocks = refl
 
-pub data_classed : (side : Side) (d : Delays) (ds : List Data) (h : DataHeading) (blocks : List (List Wide)) (k : Class) → data_class side d (data_of h []) ≡ k
+pub data_classed : (side : Side) (d : Delays) (ds : List UserSection) (h : DataHeading) (blocks : List (List Wide)) (k : Class) → data_class side d (data_of h []) ≡ k
     → data_verdict_in k ds (data_of h blocks) ≡ data_verdict side d ds (data_of h blocks)
 unfolding data_verdict
 data_classed side d ds h blocks k is = ap (λ (x : Class). data_verdict_in x ds (data_of h blocks)) (sym (class_same side d h blocks ∙ is))
@@ -155,10 +155,10 @@ heading_at side c v h of proper = record {
 }
 
 module _ (side : Side) (c : Config) (h : DataHeading) (v : CellsValue) (of : IsOf side c v) (held : AreRings v) (proper : IsProperHeading side (endpoints_of v) h) where
-  pub begun : (acc : List Allocation) (ds : List Data) → Keeps side c h.last.0 v acc ds → Keeps side c h.last.0 v acc (with_heading side c.delays h [] ds)
+  pub begun : (acc : List Allocation) (ds : List UserSection) → Keeps side c h.last.0 v acc ds → Keeps side c h.last.0 v acc (with_heading side c.delays h [] ds)
   begun acc ds keeps = begun_keeps side c h v acc ds (data_class side c.delays (data_of h [])) refl (limits_of side c v of held) (heading_at side c v h of proper) keeps
 
-  pub begun_judged : (acc : List Allocation) (ds : List Data) (blocks : List (List Wide)) (whole : Bool) → Keeps side c h.last.0 v acc ds → All IsTold ds
+  pub begun_judged : (acc : List Allocation) (ds : List UserSection) (blocks : List (List Wide)) (whole : Bool) → Keeps side c h.last.0 v acc ds → All IsTold ds
       → data_class side c.delays (data_of h []) ≡ class.OnTime
       → ((r : RingValue) → ring_of v h.ep ≡ Some r → whole
       ≡ every (first_data_prb (data_of h [])) (data_prb_count (data_of h [])) (λ prb. is_some (ring_block r (cell_at h.ep true (slot_of h) h.section.symbol prb))))
@@ -172,7 +172,7 @@ module _ (side : Side) (c : Config) (h : DataHeading) (v : CellsValue) (of : IsO
 
 -- ---- blocks
 
-on_time_first : (side : Side) (d : Delays) (h : DataHeading) (blocks : List (List Wide)) (ds : List Data) → data_class side d (data_of h []) ≡ class.OnTime
+on_time_first : (side : Side) (d : Delays) (h : DataHeading) (blocks : List (List Wide)) (ds : List UserSection) → data_class side d (data_of h []) ≡ class.OnTime
     → with_heading side d h blocks ds ≡ data_of h blocks ∷ ds
 on_time_first side d h blocks ds on_time = ap (λ (k : Class). with_timely k (data_of h blocks) ds) (class_same side d h blocks ∙ on_time)
 
@@ -194,7 +194,7 @@ module _ (side : Side) (c : Config) (h : DataHeading) (prb : ℕ) (run : List (L
     has = filled.stepped.has;
   }
 
-  pub filled_keeps : (acc : List Allocation) (ds : List Data) (blocks : List (List Wide)) → prb ≡ first_data_prb (data_of h []) + length blocks
+  pub filled_keeps : (acc : List Allocation) (ds : List UserSection) (blocks : List (List Wide)) → prb ≡ first_data_prb (data_of h []) + length blocks
       → length blocks + length run ≤ data_prb_count (data_of h []) → Keeps side c h.last.0 old acc (with_heading side c.delays h blocks ds)
       → Keeps side c h.last.0 new acc (with_heading side c.delays h (blocks ++ run) ds)
   filled_keeps acc ds blocks prb_is below keeps =

@@ -23,7 +23,7 @@ use Rattle.unit_model.specs.Standing.{IsCell, uplink_of}
 use Rattle.unit_model.specs.declared.allocations.Allocation.{Allocation}
 use Rattle.unit_model.specs.declared.cells.Block.{Block}
 use Rattle.unit_model.specs.declared.cells.Cell.{Cell}
-use Rattle.unit_model.specs.declared.decoded.Data.{Data}
+use Rattle.unit_model.specs.declared.decoded.UserSection.{UserSection}
 use Rattle.unit_model.proofs.SlotLemmas.{absolute_near}
 use Rattle.unit_laws.specs.Far.{IsReachedData}
 use Rattle.unit_model.specs.Sides.{IsLiveFor, IsLiveOn, reach_of}
@@ -46,7 +46,7 @@ use Rattle.unit_cells.proofs.ToldLemmas.{told_next, told_nothing, told_other, to
 -- ---- a step that leaves claims and uplink sections as they are
 
 module _ (side : Side) (c : Config) (clock : ℤ) (ep : ℕ) (e : EndpointConfig) (slot : Slot) (before after : RingValue) (old new : CellsValue)
-    (step : IsStep side c clock ep e slot before after old new) (acc : List Allocation) (ds : List Data) (keeps : Keeps side c clock old acc ds) where
+    (step : IsStep side c clock ep e slot before after old new) (acc : List Allocation) (ds : List UserSection) (keeps : Keeps side c clock old acc ds) where
   pub claims_of_old : (cell : Cell) (re : ℕ) → IsCell c e cell → IsLiveFor side c clock cell.ep cell.slot → cell.ep ≡ ep → re < 12 → ring_claim before cell re ≡ claim_at acc cell re
   claims_of_old cell re is live at below =
       ap (λ (o : Option RingValue). claim_from o cell re) (sym (ap (ring_of old) at ∙ step.was)) ∙ keeps.claims e cell re is live below
@@ -115,7 +115,7 @@ covers_next side h blocks k cell head down ep slot symbol prb below =
     (from_is (first_data_prb (data_of h blocks)) (data_prb_count (data_of h blocks)) k cell.prb prb below))))
 
 pub fill_keeps : (side : Side) (c : Config) (clock : ℤ) (h : DataHeading) (blocks run : List (List Wide)) (prb : ℕ) (before after : RingValue) (old new : CellsValue)
-    (acc : List Allocation) (ds : List Data)
+    (acc : List Allocation) (ds : List UserSection)
     → IsStep side c clock h.ep h.endpoint (slot_of h) before after old new
     → Fills (slot_of h) h.section.symbol prb h.section.id run before after
     → h.head.down ≡ is_down side → prb ≡ first_data_prb (data_of h []) + length blocks → length blocks + length run ≤ data_prb_count (data_of h [])
@@ -132,7 +132,7 @@ fill_keeps side c clock h blocks run prb before after old new acc ds step fills 
     (let first = All-head P (data_of h blocks) ds keeps.timely in record { endpoint = first.endpoint; live = first.live })
     (All-tail P (data_of h blocks) ds keeps.timely))
   where
-    P : Data → Type 0
+    P : UserSection → Type 0
     P = IsReachedData c.endpoints (reach_of side c.delays) clock
 
     own_block : (cell : Cell) → IsCell c h.endpoint cell → cell.down ≡ is_down side → IsLiveFor side c clock cell.ep cell.slot → cell.ep ≡ h.ep → cell.slot ≡ slot_of h
@@ -164,7 +164,7 @@ fill_keeps side c clock h blocks run prb before after old new acc ds step fills 
 -- ---- a mark
 
 pub mark_keeps : (side : Side) (c : Config) (clock : ℤ) (ep : ℕ) (e : EndpointConfig) (slot : Slot) (symbol prb : ℕ) (before after : RingValue) (old new : CellsValue)
-    (acc : List Allocation) (ds : List Data)
+    (acc : List Allocation) (ds : List UserSection)
     → IsStep side c clock ep e slot before after old new → Marks slot symbol prb before after → Keeps side c clock old acc ds → Keeps side c clock new acc ds
 mark_keeps side c clock ep e slot symbol prb before after old new acc ds step marks keeps =
     lifted side c clock ep e slot before after old new step acc acc ds ds keeps
@@ -201,7 +201,7 @@ covered_cell side c h blocks cell proper covered =
       prb = within_carrier h.endpoint.prbs h.section.start_prb h.section.num_prb cell.prb proper.sound.within is.prb;
     }
 
-pub all_there : (side : Side) (c : Config) (h : DataHeading) (blocks : List (List Wide)) (r : RingValue) (v : CellsValue) (acc : List Allocation) (ds : List Data)
+pub all_there : (side : Side) (c : Config) (h : DataHeading) (blocks : List (List Wide)) (r : RingValue) (v : CellsValue) (acc : List Allocation) (ds : List UserSection)
     → Keeps side c h.last.0 v acc ds → All IsTold ds → IsProperHeading side c.endpoints h → IsLiveOn side c.delays h.endpoint h.last.0 (slot_of h) → ring_of v h.ep ≡ Some r
     → every (first_data_prb (data_of h [])) (data_prb_count (data_of h [])) (λ prb. is_some (ring_block r (cell_at h.ep true (slot_of h) h.section.symbol prb)))
     ≡ has_all ds (data_of h blocks)
@@ -219,7 +219,7 @@ all_there side c h blocks r v acc ds keeps told proper live was =
     ∙ has_all_by_lookup (data_of h blocks) (ring_block r) ds agree
 
 -- nothing is known of it yet
-pub begun_keeps : (side : Side) (c : Config) (h : DataHeading) (v : CellsValue) (acc : List Allocation) (ds : List Data) (k : Class) → data_class side c.delays (data_of h []) ≡ k
+pub begun_keeps : (side : Side) (c : Config) (h : DataHeading) (v : CellsValue) (acc : List Allocation) (ds : List UserSection) (k : Class) → data_class side c.delays (data_of h []) ≡ k
     → IsWithinLimits c.delays → IsProperHeading side c.endpoints h → Keeps side c h.last.0 v acc ds → Keeps side c h.last.0 v acc (with_timely k (data_of h []) ds)
 begun_keeps side c h v acc ds class.Late is limits proper keeps = keeps
 begun_keeps side c h v acc ds class.Early is limits proper keeps = keeps

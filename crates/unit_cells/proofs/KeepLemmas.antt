@@ -19,7 +19,7 @@ use Rattle.unit_model.specs.Proper.{IsAt, IsSlot}
 use Rattle.unit_model.specs.Standing.{IsCell, uplink_of}
 use Rattle.unit_model.specs.declared.allocations.Allocation.{Allocation}
 use Rattle.unit_model.specs.declared.cells.Cell.{Cell}
-use Rattle.unit_model.specs.declared.decoded.Data.{Data}
+use Rattle.unit_model.specs.declared.decoded.UserSection.{UserSection}
 use Rattle.unit_laws.specs.Far.{IsReached, IsReachedData, WasLive}
 use Rattle.unit_model.specs.Sides.{IsLiveFor, IsLiveOn, reach_of}
 use Rattle.unit_laws.proofs.FarLemmas.{endpoints_equal}
@@ -223,7 +223,7 @@ module _ (side : Side) (c : Config) (clock : ℤ) (ep : ℕ) (e : EndpointConfig
     | inr ne ↦ (same_elsewhere cell.ep cell.slot f is.endpoint is.slot live ne).done cell refl refl
   ]
 
-  module _ (acc acc' : List Allocation) (ds ds' : List Data) (keeps : Keeps side c clock old acc ds) where
+  module _ (acc acc' : List Allocation) (ds ds' : List UserSection) (keeps : Keeps side c clock old acc ds) where
     -- The rings keep other lists, where those tell this of the slot, and the same of all else.
     pub lifted : ((cell : Cell) (re : ℕ) → IsCell c e cell → IsLiveFor side c clock cell.ep cell.slot → cell.ep ≡ ep → cell.slot ≡ slot → re < 12 → ring_claim after cell re ≡ claim_at acc' cell re)
         → ((cell : Cell) (re : ℕ) → (cell.ep ≡ ep → cell.slot ≡ slot → ⊥) → claim_at acc' cell re ≡ claim_at acc cell re)

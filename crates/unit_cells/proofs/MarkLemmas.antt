@@ -10,7 +10,7 @@ use Rattle.window_config.specs.declared.endpoints.EndpointConfig.{EndpointConfig
 use Rattle.unit_model.specs.Claims.{cell_at, same_slot}
 use Rattle.unit_model.specs.declared.allocations.Allocation.{Allocation}
 use Rattle.unit_model.specs.declared.cells.Cell.{Cell}
-use Rattle.unit_model.specs.declared.decoded.Data.{Data}
+use Rattle.unit_model.specs.declared.decoded.UserSection.{UserSection}
 use Rattle.slot_rings.specs.Places.{PlaceValue, is_in_use, is_of, place_block, place_claim, place_done, place_uplink}
 use Rattle.slot_rings.specs.Rings.{IsRingCell, RingValue, has_slot, place_index, place_of, ring_block, ring_claim, ring_done, ring_uplink}
 use Rattle.slot_rings.proofs.PlaceLemmas.{slot_is, slot_own}
@@ -22,7 +22,7 @@ use Rattle.unit_cells.proofs.ListLemmas.{get_set_other, get_set_same}
 use Rattle.unit_cells.proofs.StepLemmas.{same_index}
 use Rattle.unit_cells.proofs.TimeLemmas.{no_block_from, no_claim_from, no_done_from, no_uplink_from}
 
-pub keeps_same : (side : Side) (c : Config) (clock : ℤ) (old new : CellsValue) (acc : List Allocation) (ds : List Data) → SameKnown old new → Keeps side c clock old acc ds → Keeps side c clock new acc ds
+pub keeps_same : (side : Side) (c : Config) (clock : ℤ) (old new : CellsValue) (acc : List Allocation) (ds : List UserSection) → SameKnown old new → Keeps side c clock old acc ds → Keeps side c clock new acc ds
 keeps_same side c clock old new acc ds same keeps = record {
   claims = λ e cell re is live below. same.claims cell re ∙ keeps.claims e cell re is live below;
   blocks = λ e cell is down live. same.blocks cell ∙ keeps.blocks e cell is down live;

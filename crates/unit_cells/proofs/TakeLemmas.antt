@@ -16,7 +16,7 @@ use Rattle.unit_model.specs.Standing.{IsCell, uplink_of}
 use Rattle.unit_model.specs.declared.allocations.Allocation.{Allocation}
 use Rattle.unit_model.specs.declared.cells.Cell.{Cell}
 use Rattle.unit_model.specs.declared.cells.Claim.{Claim}
-use Rattle.unit_model.specs.declared.decoded.Data.{Data}
+use Rattle.unit_model.specs.declared.decoded.UserSection.{UserSection}
 use Rattle.unit_model.specs.declared.verdicts.CommandVerdict.{CommandVerdict}
 use Rattle.unit_model.specs.declared.verdicts.CommandVerdict.TheVariants.{Mismatch, Late, Early, Range, Repeat, Overlap, Full, Accepted}
 use Rattle.unit_laws.specs.Far.{IsReached}
@@ -130,7 +130,7 @@ live_along : (side : Side) (c : Config) (clock : ℤ) (a : Allocation) (cell : C
 live_along side c clock a cell at live ep slot =
     subst (λ (k : ℕ). IsLiveFor side c clock k cell.slot) (sym ep) (subst (λ (s : Slot). IsLiveFor side c clock a.ep s) (sym slot) (live_at side c clock a.endpoint a.ep a.slot at live))
 
-pub kept_is : (side : Side) (c : Config) (clock : ℤ) (a : Allocation) (r : RingValue) (v : CellsValue) (acc : List Allocation) (ds : List Data) → Keeps side c clock v acc ds
+pub kept_is : (side : Side) (c : Config) (clock : ℤ) (a : Allocation) (r : RingValue) (v : CellsValue) (acc : List Allocation) (ds : List UserSection) → Keeps side c clock v acc ds
     → IsAt c.endpoints a.ep a.endpoint → IsSlot a.endpoint.numerology a.slot → IsLiveOn side c.delays a.endpoint clock a.slot → ring_of v a.ep ≡ Some r
     → IsKept side c clock a r acc
 kept_is side c clock a r v acc ds keeps at is_slot live was = record {
@@ -166,7 +166,7 @@ verdict_is side c clock a r acc kept at is_slot within = elim (cases_Bool (is_ou
 
 -- ---- the rings after it
 
-pub takes_keeps : (side : Side) (c : Config) (clock : ℤ) (a : Allocation) (v : CommandVerdict) (before after : RingValue) (old new : CellsValue) (acc : List Allocation) (ds : List Data)
+pub takes_keeps : (side : Side) (c : Config) (clock : ℤ) (a : Allocation) (v : CommandVerdict) (before after : RingValue) (old new : CellsValue) (acc : List Allocation) (ds : List UserSection)
     → IsStep side c clock a.ep a.endpoint a.slot before after old new → Claims a v before after → Keeps side c clock old acc ds → Keeps side c clock new (with_accepted v a acc) ds
 takes_keeps side c clock a v before after old new acc ds step claims keeps =
     let kept = kept_is side c clock a before old acc ds keeps step.at step.is_slot step.live step.was in

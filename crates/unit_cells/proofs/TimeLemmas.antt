@@ -17,7 +17,7 @@ use Rattle.unit_model.specs.Proper.{IsAt}
 use Rattle.unit_model.specs.declared.allocations.Allocation.{Allocation}
 use Rattle.unit_model.specs.declared.cells.Block.{Block}
 use Rattle.unit_model.specs.declared.cells.Cell.{Cell}
-use Rattle.unit_model.specs.declared.decoded.Data.{Data}
+use Rattle.unit_model.specs.declared.decoded.UserSection.{UserSection}
 use Rattle.unit_model.specs.Lists.{or_else}
 use Rattle.unit_laws.specs.Far.{IsFar, IsReached, IsReachedData, WasLive}
 use Rattle.unit_model.specs.Sides.{IsLiveFor, IsLiveOn, reach_of}
@@ -72,7 +72,7 @@ far_no_place side c clock v acc ds e ep slot keeps at far = elim (cases_Bool (ce
 pub far_not_marked : FarIsNotMarked
 far_not_marked side c clock v acc ds e cell keeps at far = no_done_from (ring_of v cell.ep) cell (far_no_place side c clock v acc ds e cell.ep cell.slot keeps at far)
 
-far_not_told : (es : List EndpointConfig) (r : Reach) (clock : ℤ) (ds : List Data) (e : EndpointConfig) (cell : Cell)
+far_not_told : (es : List EndpointConfig) (r : Reach) (clock : ℤ) (ds : List UserSection) (e : EndpointConfig) (cell : Cell)
     → All (IsReachedData es r clock) ds → IsAt es cell.ep e → IsFar e.numerology r clock cell.slot → told_block_at ds cell ≡ None
 unfolding told_block_at
 far_not_told es r clock [] e cell all at far = refl
@@ -93,7 +93,7 @@ far_not_told es r clock (d ∷ earlier) e cell all at far =
 reached_later : (es : List EndpointConfig) (r : Reach) (clock to : ℤ) → clock ≤ℤ to → (a : Allocation) → IsReached es r clock a → IsReached es r to a
 reached_later es r clock to order a is = record { endpoint = is.endpoint; live = was_later a.endpoint.numerology r clock to a.slot order is.live }
 
-reached_data_later : (es : List EndpointConfig) (r : Reach) (clock to : ℤ) → clock ≤ℤ to → (d : Data) → IsReachedData es r clock d → IsReachedData es r to d
+reached_data_later : (es : List EndpointConfig) (r : Reach) (clock to : ℤ) → clock ≤ℤ to → (d : UserSection) → IsReachedData es r clock d → IsReachedData es r to d
 reached_data_later es r clock to order d is = record { endpoint = is.endpoint; live = was_later d.endpoint.numerology r clock to (data_slot d) order is.live }
 
 pub live_at : (side : Side) (c : Config) (clock : ℤ) (e : EndpointConfig) (ep : ℕ) (slot : Slot) → IsAt c.endpoints ep e

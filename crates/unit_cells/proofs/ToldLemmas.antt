@@ -13,13 +13,13 @@ use Rattle.unit_model.specs.Blocks.{block_at, block_of, data_covers, data_prb_co
 use Rattle.unit_model.specs.Lists.{or_else}
 use Rattle.unit_model.specs.declared.cells.Block.{Block}
 use Rattle.unit_model.specs.declared.cells.Cell.{Cell}
-use Rattle.unit_model.specs.declared.decoded.Data.{Data}
+use Rattle.unit_model.specs.declared.decoded.UserSection.{UserSection}
 use Rattle.unit_laws.proofs.CellLemmas.{data_covers_is, from_first, from_within}
 use Rattle.unit_cells.specs.Headings.{data_of}
 use Rattle.unit_cells.specs.Told.{IsTold, ToldWhole, reaches, told_block_at, told_block_in}
 use Rattle.unit_cells.specs.declared.heading.DataHeading.{DataHeading}
 
-pub told-cons : (d : Data) (earlier : List Data) (cell : Cell) → told_block_at (d ∷ earlier) cell ≡ or_else (told_block_at earlier cell) (told_block_in d cell)
+pub told-cons : (d : UserSection) (earlier : List UserSection) (cell : Cell) → told_block_at (d ∷ earlier) cell ≡ or_else (told_block_at earlier cell) (told_block_in d cell)
 unfolding told_block_at
 told-cons d earlier cell = refl
 
@@ -32,7 +32,7 @@ or_none (Some b) = refl
 within_blocks : (first count n many : ℕ) → first ≤ n → n < first + count → count ≤ many → n - first < many
 within_blocks first count n many a b c = omega arith
 
-told_in : (d : Data) (cell : Cell) → IsTold d → told_block_in d cell ≡ (if data_covers d cell then Some (block_of d cell) else None)
+told_in : (d : UserSection) (cell : Cell) → IsTold d → told_block_in d cell ≡ (if data_covers d cell then Some (block_of d cell) else None)
 told_in d cell told = elim (cases_Bool (data_covers d cell)) [
   | inl covers ↦
       let is = (data_covers_is d cell covers).prb in
@@ -56,14 +56,14 @@ none_in : (b : Bool) (block : Block) → (if b && false then Some block else Non
 none_in true block = refl
 none_in false block = refl
 
-pub told_nothing : (h : DataHeading) (earlier : List Data) (cell : Cell) → told_block_at (data_of h [] ∷ earlier) cell ≡ told_block_at earlier cell
+pub told_nothing : (h : DataHeading) (earlier : List UserSection) (cell : Cell) → told_block_at (data_of h [] ∷ earlier) cell ≡ told_block_at earlier cell
 told_nothing h earlier cell =
     let d = data_of h [] in
     let past : reaches d cell ≡ false = le-ltb (cell.prb - first_data_prb d) 0 (omega arith) in
     let none : told_block_in d cell ≡ None = rw past (none_in (data_covers d cell) (block_of d cell)) in
     told-cons d earlier cell ∙ ap (λ (o : Option Block). or_else (told_block_at earlier cell) o) none ∙ or_none (told_block_at earlier cell)
 
-pub told_same : (x y : Data) (earlier : List Data) (cell : Cell) → told_block_in x cell ≡ told_block_in y cell
+pub told_same : (x y : UserSection) (earlier : List UserSection) (cell : Cell) → told_block_in x cell ≡ told_block_in y cell
     → told_block_at (x ∷ earlier) cell ≡ told_block_at (y ∷ earlier) cell
 told_same x y earlier cell e =
     told-cons x earlier cell ∙ ap (λ (o : Option Block). or_else (told_block_at earlier cell) o) e ∙ sym (told-cons y earlier cell)
@@ -90,7 +90,7 @@ module _ (h : DataHeading) (blocks run : List (List Wide)) (cell : Cell) where
       rw (covers, here) (ap (λ (s : List Wide). Some (record { id = h.section.id; samples = s })) at)
 
   -- the cells at the PRBs that come next
-  pub told_next : (k : ℕ) (earlier : List Data) → data_covers (data_of h blocks) cell ≡ true → cell.prb - first_data_prb (data_of h blocks) ≡ length blocks + k → k < length run
+  pub told_next : (k : ℕ) (earlier : List UserSection) → data_covers (data_of h blocks) cell ≡ true → cell.prb - first_data_prb (data_of h blocks) ≡ length blocks + k → k < length run
       → told_block_at (data_of h (blocks ++ run) ∷ earlier) cell
       ≡ or_else (told_block_at (data_of h blocks ∷ earlier) cell) (Some (block_in h.section.id run k))
   unfolding reach
@@ -121,7 +121,7 @@ module _ (h : DataHeading) (blocks run : List (List Wide)) (cell : Cell) where
   beyond n b c h le = grind (arith, nat_tests)
 
   -- all other cells
-  pub told_other : (earlier : List Data) → (data_covers (data_of h blocks) cell ≡ true → is_from (length blocks) (length run) (cell.prb - first_data_prb (data_of h blocks)) ≡ false)
+  pub told_other : (earlier : List UserSection) → (data_covers (data_of h blocks) cell ≡ true → is_from (length blocks) (length run) (cell.prb - first_data_prb (data_of h blocks)) ≡ false)
       → told_block_at (data_of h (blocks ++ run) ∷ earlier) cell ≡ told_block_at (data_of h blocks ∷ earlier) cell
   unfolding reach
   told_other earlier ne = told_same (data_of h (blocks ++ run)) (data_of h blocks) earlier cell (elim (cases_Bool (data_covers (data_of h blocks) cell)) [

@@ -9,11 +9,11 @@ use Rattle.window_config.specs.declared.delays.Delays.{Delays}
 use Rattle.unit_model.specs.Blocks.{data_class, with_timely}
 use Rattle.unit_model.specs.Proper.{IsAt, IsTime}
 use Rattle.unit_model.specs.Radiated.{is_down}
-use Rattle.unit_model.specs.declared.decoded.Data.{Data}
+use Rattle.unit_model.specs.declared.decoded.UserSection.{UserSection}
 use Rattle.unit_cells.specs.declared.heading.DataHeading.{DataHeading}
 
 -- the section with these blocks
-abbrev pub data_of : DataHeading → List (List Wide) → Data
+abbrev pub data_of : DataHeading → List (List Wide) → UserSection
 data_of h blocks = record {
   ep = h.ep;
   endpoint = h.endpoint;
@@ -41,5 +41,5 @@ pub record IsProperHeading (side : Side) (es : List EndpointConfig) (h : DataHea
   pub order : h.first.0 ≤ℤ h.last.0
 
 -- the sections of data on time, with this one where it is on time
-abbrev pub with_heading : Side → Delays → DataHeading → List (List Wide) → List Data → List Data
+abbrev pub with_heading : Side → Delays → DataHeading → List (List Wide) → List UserSection → List UserSection
 with_heading side d h blocks ds = with_timely (data_class side d (data_of h blocks)) (data_of h blocks) ds

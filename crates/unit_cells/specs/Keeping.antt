@@ -11,7 +11,7 @@ use Rattle.unit_model.specs.Radiated.{is_down}
 use Rattle.unit_model.specs.Standing.{IsCell, uplink_of}
 use Rattle.unit_model.specs.declared.allocations.Allocation.{Allocation}
 use Rattle.unit_model.specs.declared.cells.Cell.{Cell}
-use Rattle.unit_model.specs.declared.decoded.Data.{Data}
+use Rattle.unit_model.specs.declared.decoded.UserSection.{UserSection}
 use Rattle.unit_laws.specs.Far.{IsFar, IsReached, IsReachedData, WasLive}
 use Rattle.unit_cells.specs.Cells.{CellsValue, IsOf, cells_block, cells_claim, cells_done, cells_has, cells_index, cells_uplink}
 use Rattle.unit_model.specs.Sides.{IsLiveFor, reach_of}
@@ -19,7 +19,7 @@ use Rattle.unit_cells.specs.Told.{told_block_at}
 
 -- The rings keep what these accepted allocations claim and these data on time give, the newest of both first, which came by the
 -- clock.
-pub record Keeps (side : Side) (c : Config) (clock : ℤ) (v : CellsValue) (acc : List Allocation) (ds : List Data) : Type 0 where
+pub record Keeps (side : Side) (c : Config) (clock : ℤ) (v : CellsValue) (acc : List Allocation) (ds : List UserSection) : Type 0 where
   pub claims : (e : EndpointConfig) (cell : Cell) (re : ℕ) → IsCell c e cell → IsLiveFor side c clock cell.ep cell.slot → re < 12
       → cells_claim v cell re ≡ claim_at acc cell re
   pub blocks : (e : EndpointConfig) (cell : Cell) → IsCell c e cell → cell.down ≡ is_down side → IsLiveFor side c clock cell.ep cell.slot
@@ -48,17 +48,17 @@ pub record SameKnown (old new : CellsValue) : Type 0 where
 
 abbrev pub KeepsLater : Type 0
 KeepsLater =
-    (side : Side) (c : Config) (clock to : ℤ) (v : CellsValue) (acc : List Allocation) (ds : List Data) → clock ≤ℤ to → Keeps side c clock v acc ds → Keeps side c to v acc ds
+    (side : Side) (c : Config) (clock to : ℤ) (v : CellsValue) (acc : List Allocation) (ds : List UserSection) → clock ≤ℤ to → Keeps side c clock v acc ds → Keeps side c to v acc ds
 
 -- a slot that is not live yet has no place, so none of its cells is marked
 abbrev pub FarHasNoPlace : Type 0
 FarHasNoPlace =
-    (side : Side) (c : Config) (clock : ℤ) (v : CellsValue) (acc : List Allocation) (ds : List Data) (e : EndpointConfig) (ep : ℕ) (slot : Slot)
+    (side : Side) (c : Config) (clock : ℤ) (v : CellsValue) (acc : List Allocation) (ds : List UserSection) (e : EndpointConfig) (ep : ℕ) (slot : Slot)
     → Keeps side c clock v acc ds → IsAt c.endpoints ep e → IsFar e.numerology (reach_of side c.delays) clock slot → cells_has v ep slot ≡ false
 
 abbrev pub FarIsNotMarked : Type 0
 FarIsNotMarked =
-    (side : Side) (c : Config) (clock : ℤ) (v : CellsValue) (acc : List Allocation) (ds : List Data) (e : EndpointConfig) (cell : Cell)
+    (side : Side) (c : Config) (clock : ℤ) (v : CellsValue) (acc : List Allocation) (ds : List UserSection) (e : EndpointConfig) (cell : Cell)
     → Keeps side c clock v acc ds → IsAt c.endpoints cell.ep e → IsFar e.numerology (reach_of side c.delays) clock cell.slot → cells_done v cell ≡ false
 
 -- ---- places

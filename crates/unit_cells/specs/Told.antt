@@ -4,24 +4,24 @@ use Rattle.unit_model.specs.Blocks.{block_at, block_of, data_covers, data_prb_co
 use Rattle.unit_model.specs.Lists.{or_else}
 use Rattle.unit_model.specs.declared.cells.Block.{Block}
 use Rattle.unit_model.specs.declared.cells.Cell.{Cell}
-use Rattle.unit_model.specs.declared.decoded.Data.{Data}
+use Rattle.unit_model.specs.declared.decoded.UserSection.{UserSection}
 
 -- the blocks of a section reach as far as the cell
-abbrev pub reaches : Data → Cell → Bool
+abbrev pub reaches : UserSection → Cell → Bool
 reaches d cell = nat_lt (cell.prb - first_data_prb d) (length d.blocks)
 
-abbrev pub told_block_in : Data → Cell → Option Block
+abbrev pub told_block_in : UserSection → Cell → Option Block
 told_block_in d cell = if data_covers d cell && reaches d cell then Some (block_of d cell) else None
 
 -- The block of a cell, where these came on time, the newest first: that of the first of them that covers it and reaches it.
-unfoldable pub told_block_at : List Data → Cell → Option Block
+unfoldable pub told_block_at : List UserSection → Cell → Option Block
 told_block_at [] cell = None
 told_block_at (d ∷ earlier) cell = or_else (told_block_at earlier cell) (told_block_in d cell)
 
 -- all PRBs of a section have their blocks
-abbrev pub IsTold : Data → Type 0
+abbrev pub IsTold : UserSection → Type 0
 IsTold d = data_prb_count d ≤ length d.blocks
 
 -- where all sections are told whole, these are the blocks that they give
 abbrev pub ToldWhole : Type 0
-ToldWhole = (ds : List Data) (cell : Cell) → All IsTold ds → told_block_at ds cell ≡ block_at ds cell
+ToldWhole = (ds : List UserSection) (cell : Cell) → All IsTold ds → told_block_at ds cell ≡ block_at ds cell

@@ -16,7 +16,7 @@ ghost use Rattle.unit_model.specs.Lists.{every, some};
 ghost use Rattle.unit_model.specs.Proper.{IsAt, IsProperCommand, IsSlot};
 ghost use Rattle.unit_model.specs.declared.allocations.Allocation.{Allocation};
 ghost use Rattle.unit_model.specs.declared.cells.Cell.{Cell};
-ghost use Rattle.unit_model.specs.declared.decoded.Data.{Data};
+ghost use Rattle.unit_model.specs.declared.decoded.UserSection.{UserSection};
 ghost use Rattle.slot_rings.specs.Places.{is_due, is_in_use};
 ghost use Rattle.slot_rings.specs.Rings.{RingValue, ring_block};
 ghost use Rattle.slot_rings.specs.Runs.{samples_of, unpacked_run};
@@ -34,7 +34,8 @@ use std::alloc::Global;
 use std::marker::Model;
 use unit_model::air_source::Side;
 use unit_model::{
-    Allocation, Block, Command, CommandVerdict, DataVerdict, allocation_of, command_class, is_for,
+    Allocation, Block, CommandVerdict, ControlSection, DataVerdict, allocation_of, command_class,
+    is_for,
 };
 use window_config::{Class, Config, Delays, EndpointConfig};
 
@@ -125,11 +126,11 @@ impl UnitCells {
 
     /// Judges a section of a command that comes at the clock, and claims what it names where it is accepted (O-RAN.WG4.CUS for
     /// the fields and the windows; the verdicts are this project's profile).
-    pub fn command(&mut self, command: &Command) -> CommandVerdict
+    pub fn command(&mut self, command: &ControlSection) -> CommandVerdict
         requires { IsProperCommand (endpoints_of self.old) command.now }
-        ensures verdict { (c : Config) (acc : List Allocation) (ds : List Data) → IsOf Ru c self.old → Keeps Ru c command.now.at.0 self.old acc ds
+        ensures verdict { (c : Config) (acc : List Allocation) (ds : List UserSection) → IsOf Ru c self.old → Keeps Ru c command.now.at.0 self.old acc ds
             → result ≡ command_verdict c.delays acc command.now }
-        ensures keeps { (c : Config) (acc : List Allocation) (ds : List Data) → IsOf Ru c self.old → Keeps Ru c command.now.at.0 self.old acc ds
+        ensures keeps { (c : Config) (acc : List Allocation) (ds : List UserSection) → IsOf Ru c self.old → Keeps Ru c command.now.at.0 self.old acc ds
             → Keeps Ru c command.now.at.0 self.new (with_accepted result (allocation_of command.now) acc) ds }
         ensures marks { (c : Config) → IsOf Ru c self.old → SameMarks Ru c command.now.at.0 self.old self.new }
         ensures side { self.new.side ≡ self.old.side }
@@ -149,9 +150,9 @@ impl UnitCells {
     /// The verdict on a section of data whose message becomes whole at the clock. Its PRBs come after, by `fill` and `fill_run`.
     pub fn begin(&self, heading: &DataHeading) -> DataVerdict
         requires { IsProperHeading self.now.side (endpoints_of self.now) heading.now }
-        ensures verdict { (side : SpecSide) (c : Config) (acc : List Allocation) (ds : List Data) (blocks : List (List Wide)) → IsOf side c self.now
+        ensures verdict { (side : SpecSide) (c : Config) (acc : List Allocation) (ds : List UserSection) (blocks : List (List Wide)) → IsOf side c self.now
             → Keeps side c heading.now.last.0 self.now acc ds → All IsTold ds → result ≡ data_verdict side c.delays ds (data_of heading.now blocks) }
-        ensures keeps { (side : SpecSide) (c : Config) (acc : List Allocation) (ds : List Data) → IsOf side c self.now → Keeps side c heading.now.last.0 self.now acc ds
+        ensures keeps { (side : SpecSide) (c : Config) (acc : List Allocation) (ds : List UserSection) → IsOf side c self.now → Keeps side c heading.now.last.0 self.now acc ds
             → Keeps side c heading.now.last.0 self.now acc (with_heading side c.delays heading.now [] ds) }
     {
         match data_class(self.side, &self.delays, heading) {
@@ -184,7 +185,7 @@ impl UnitCells {
     pub fn fill(&mut self, heading: &DataHeading, k: u16, samples: &[Wide; 12])
         requires heading { IsProperHeading self.old.side (endpoints_of self.old) heading.now }
         requires within { k < data_prb_count (data_of heading.now []) }
-        ensures keeps { (side : SpecSide) (c : Config) (acc : List Allocation) (ds : List Data) (blocks : List (List Wide)) → IsOf side c self.old → length blocks ≡ k
+        ensures keeps { (side : SpecSide) (c : Config) (acc : List Allocation) (ds : List UserSection) (blocks : List (List Wide)) → IsOf side c self.old → length blocks ≡ k
             → Keeps side c heading.now.last.0 self.old acc (with_heading side c.delays heading.now blocks ds)
             → Keeps side c heading.now.last.0 self.new acc (with_heading side c.delays heading.now (blocks ++ samples.now ∷ []) ds) }
         ensures same { data_class self.old.side self.old.delays (data_of heading.now []) ≢ OnTime → self.new ≡ self.old }
@@ -219,7 +220,7 @@ impl UnitCells {
         requires within { k + count ≤ data_prb_count (data_of heading.now []) }
         requires width { HasWidth method }
         requires len { length packed.now ≡ count * length_of method }
-        ensures keeps { (side : SpecSide) (c : Config) (acc : List Allocation) (ds : List Data) (blocks : List (List Wide)) → IsOf side c self.old → length blocks ≡ k
+        ensures keeps { (side : SpecSide) (c : Config) (acc : List Allocation) (ds : List UserSection) (blocks : List (List Wide)) → IsOf side c self.old → length blocks ≡ k
             → Keeps side c heading.now.last.0 self.old acc (with_heading side c.delays heading.now blocks ds)
             → Keeps side c heading.now.last.0 self.new acc (with_heading side c.delays heading.now (blocks ++ unpacked_run method count packed.now) ds) }
         ensures same { data_class self.old.side self.old.delays (data_of heading.now []) ≢ OnTime → self.new ≡ self.old }
@@ -251,7 +252,7 @@ impl UnitCells {
             ≡ (cells_done self.old (cell_at ep true slot symbol prb) || is_in_use (cells_claim self.old (cell_at ep true slot symbol prb))) }
         ensures others { (cell : Cell) → IsCellIn self.old cell → (cell.ep ≡ ep → cell.slot ≡ slot → cell.symbol ≡ symbol → count ≤ cell.prb)
             → cells_done self.new cell ≡ cells_done self.old cell }
-        ensures keeps { (side : SpecSide) (c : Config) (clock : ℤ) (acc : List Allocation) (ds : List Data) → Keeps side c clock self.old acc ds → Keeps side c clock self.new acc ds }
+        ensures keeps { (side : SpecSide) (c : Config) (clock : ℤ) (acc : List Allocation) (ds : List UserSection) → Keeps side c clock self.old acc ds → Keeps side c clock self.new acc ds }
         ensures known { SameKnown self.old self.new }
         ensures side { self.new.side ≡ self.old.side }
         ensures delays { self.new.delays ≡ self.old.delays }

@@ -10,7 +10,7 @@ use Rattle.unit_model.specs.Claims.{same_slot, same_way, is_from, first_prb, prb
 use Rattle.unit_model.specs.Lists.{some}
 use Rattle.unit_model.specs.declared.allocations.Allocation.{Allocation}
 use Rattle.unit_model.specs.declared.cells.Cell.{Cell}
-use Rattle.unit_model.specs.declared.decoded.Data.{Data}
+use Rattle.unit_model.specs.declared.decoded.UserSection.{UserSection}
 
 pub slots_equal : (a b : Slot) → same_slot a b ≡ true → a ≡ b
 slots_equal a b h =
@@ -61,14 +61,14 @@ covers_is a cell h =
       prb = four.1;
     }
 
-pub record DataCovers (d : Data) (cell : Cell) : Type 0 where
+pub record DataCovers (d : UserSection) (cell : Cell) : Type 0 where
   pub ep : d.ep ≡ cell.ep
   pub down : d.head.down ≡ cell.down
   pub slot : data_slot d ≡ cell.slot
   pub symbol : d.section.symbol ≡ cell.symbol
   pub prb : is_from (first_data_prb d) (data_prb_count d) cell.prb ≡ true
 
-pub data_covers_is : (d : Data) (cell : Cell) → data_covers d cell ≡ true → DataCovers d cell
+pub data_covers_is : (d : UserSection) (cell : Cell) → data_covers d cell ≡ true → DataCovers d cell
 data_covers_is d cell h =
     let one = and_parts (d.ep == cell.ep) _ h in
     let two = and_parts (same_way d.head.down cell.down) _ one.1 in

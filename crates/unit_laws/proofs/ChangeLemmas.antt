@@ -13,8 +13,8 @@ use Rattle.unit_model.specs.declared.allocations.Allocation.{Allocation}
 use Rattle.unit_model.specs.declared.cells.Block.{Block}
 use Rattle.unit_model.specs.declared.cells.Cell.{Cell}
 use Rattle.unit_model.specs.declared.cells.Claim.{Claim}
-use Rattle.unit_model.specs.declared.decoded.Command.{Command}
-use Rattle.unit_model.specs.declared.decoded.Data.{Data}
+use Rattle.unit_model.specs.declared.decoded.ControlSection.{ControlSection}
+use Rattle.unit_model.specs.declared.decoded.UserSection.{UserSection}
 use Rattle.unit_model.specs.declared.verdicts.CommandVerdict.{CommandVerdict}
 use Rattle.unit_model.specs.declared.verdicts.CommandVerdict.TheVariants.{Mismatch, Late, Early, Range, Repeat, Overlap, Full, Accepted}
 use Rattle.unit_laws.specs.Changes.{OnlyAcceptedClaims, ClaimsStay, OnlyTimelyGives, BlocksStay}
@@ -22,7 +22,7 @@ use Rattle.unit_laws.proofs.AcceptanceLemmas.{accepted_is_acceptable}
 use Rattle.unit_laws.proofs.CellLemmas.{unclaimed}
 
 -- one more command, or allocation, or section
-pub accepted-cons : (d : Delays) (c : Command) (earlier : List Command)
+pub accepted-cons : (d : Delays) (c : ControlSection) (earlier : List ControlSection)
     → accepted d (c ∷ earlier) ≡ with_accepted (command_verdict d (accepted d earlier) c) (allocation_of c) (accepted d earlier)
 unfolding accepted
 accepted-cons d c earlier = refl
@@ -32,16 +32,16 @@ pub claim-cons : (a : Allocation) (earlier : List Allocation) (cell : Cell) (re 
 unfolding claim_at
 claim-cons a earlier cell re = refl
 
-pub timely-cons : (side : Side) (d : Delays) (x : Data) (earlier : List Data) → timely side d (x ∷ earlier) ≡ with_timely (data_class side d x) x (timely side d earlier)
+pub timely-cons : (side : Side) (d : Delays) (x : UserSection) (earlier : List UserSection) → timely side d (x ∷ earlier) ≡ with_timely (data_class side d x) x (timely side d earlier)
 unfolding timely
 timely-cons side d x earlier = refl
 
-pub block-cons : (x : Data) (earlier : List Data) (cell : Cell) → block_at (x ∷ earlier) cell ≡ or_else (block_at earlier cell) (block_in x cell)
+pub block-cons : (x : UserSection) (earlier : List UserSection) (cell : Cell) → block_at (x ∷ earlier) cell ≡ or_else (block_at earlier cell) (block_in x cell)
 unfolding block_at
 block-cons x earlier cell = refl
 
 -- what is accepted of one more command: it changes nothing, or it is accepted and stands first
-pub accepted_more : (d : Delays) (c : Command) (earlier : List Command)
+pub accepted_more : (d : Delays) (c : ControlSection) (earlier : List ControlSection)
     → (accepted d (c ∷ earlier) ≡ accepted d earlier)
     ⊎ ((command_verdict d (accepted d earlier) c ≡ Accepted) × (accepted d (c ∷ earlier) ≡ allocation_of c ∷ accepted d earlier))
 accepted_more d c earlier = go (command_verdict d (accepted d earlier) c) refl
@@ -61,7 +61,7 @@ accepted_more d c earlier = go (command_verdict d (accepted d earlier) c) refl
     go Full is = inl (from Full is)
     go Accepted is = inr (is, from Accepted is)
 
-pub timely_more : (side : Side) (d : Delays) (x : Data) (earlier : List Data)
+pub timely_more : (side : Side) (d : Delays) (x : UserSection) (earlier : List UserSection)
     → (timely side d (x ∷ earlier) ≡ timely side d earlier)
     ⊎ ((data_class side d x ≡ class.OnTime) × (timely side d (x ∷ earlier) ≡ x ∷ timely side d earlier))
 timely_more side d x earlier = go (data_class side d x) refl
@@ -99,7 +99,7 @@ is_there None k e h = cc
 is_there (Some x) k e h = cc
 
 -- one more command
-claim_stays_one : (d : Delays) (c : Command) (earlier : List Command) (cell : Cell) (re : ℕ) (claim : Claim) → re < 12
+claim_stays_one : (d : Delays) (c : ControlSection) (earlier : List ControlSection) (cell : Cell) (re : ℕ) (claim : Claim) → re < 12
     → claim_at (accepted d earlier) cell re ≡ Some claim → claim_at (accepted d (c ∷ earlier)) cell re ≡ Some claim
 claim_stays_one d c earlier cell re claim below there = elim (only_accepted d c earlier cell re) [
   | inl e ↦ e ∙ there
@@ -119,21 +119,21 @@ or_else_none : (o : Option Block) → or_else o None ≡ o
 or_else_none None = refl
 or_else_none (Some b) = refl
 
-pub block_same : (x : Data) (earlier : List Data) (cell : Cell) → data_covers x cell ≡ false → block_at (x ∷ earlier) cell ≡ block_at earlier cell
+pub block_same : (x : UserSection) (earlier : List UserSection) (cell : Cell) → data_covers x cell ≡ false → block_at (x ∷ earlier) cell ≡ block_at earlier cell
 block_same x earlier cell h =
     block-cons x earlier cell
     ∙ ap (λ b. or_else (block_at earlier cell) (if b then Some (block_of x cell) else None)) h ∙ or_else_none (block_at earlier cell)
 
 pub only_timely : OnlyTimelyGives
 only_timely side d x earlier cell = elim (timely_more side d x earlier) [
-  | inl e ↦ inl (ap (λ (xs : List Data). block_at xs cell) e)
+  | inl e ↦ inl (ap (λ (xs : List UserSection). block_at xs cell) e)
   | inr is ↦ elim (either_way (data_covers x cell)) [
-    | inl not_covered ↦ inl (ap (λ (xs : List Data). block_at xs cell) is.1 ∙ block_same x (timely side d earlier) cell not_covered)
+    | inl not_covered ↦ inl (ap (λ (xs : List UserSection). block_at xs cell) is.1 ∙ block_same x (timely side d earlier) cell not_covered)
     | inr covered ↦ inr (is.0, covered)
   ]
 ]
 
-pub block_kept : (x : Data) (earlier : List Data) (cell : Cell) (block : Block) → block_at earlier cell ≡ Some block → block_at (x ∷ earlier) cell ≡ Some block
+pub block_kept : (x : UserSection) (earlier : List UserSection) (cell : Cell) (block : Block) → block_at earlier cell ≡ Some block → block_at (x ∷ earlier) cell ≡ Some block
 block_kept x earlier cell block there = block-cons x earlier cell ∙ ap (λ (o : Option Block). or_else o (block_in x cell)) there
 
 pub block_stays : BlocksStay
@@ -141,6 +141,6 @@ block_stays side d [] earlier cell block there = there
 block_stays side d (x ∷ later) earlier cell block there =
     let before = block_stays side d later earlier cell block there in
     elim (timely_more side d x (later ++ earlier)) [
-      | inl e ↦ ap (λ (xs : List Data). block_at xs cell) e ∙ before
-      | inr is ↦ ap (λ (xs : List Data). block_at xs cell) is.1 ∙ block_kept x (timely side d (later ++ earlier)) cell block before
+      | inl e ↦ ap (λ (xs : List UserSection). block_at xs cell) e ∙ before
+      | inr is ↦ ap (λ (xs : List UserSection). block_at xs cell) is.1 ∙ block_kept x (timely side d (later ++ earlier)) cell block before
     ]

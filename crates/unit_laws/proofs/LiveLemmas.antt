@@ -14,8 +14,8 @@ use Rattle.unit_model.specs.Blocks.{data_class, data_slot}
 use Rattle.unit_model.specs.Commands.{command_slot, command_verdict}
 use Rattle.unit_model.specs.Sides.{IsLiveOn}
 use Rattle.unit_model.specs.declared.allocations.Allocation.{Allocation}
-use Rattle.unit_model.specs.declared.decoded.Command.{Command}
-use Rattle.unit_model.specs.declared.decoded.Data.{Data}
+use Rattle.unit_model.specs.declared.decoded.ControlSection.{ControlSection}
+use Rattle.unit_model.specs.declared.decoded.UserSection.{UserSection}
 use Rattle.unit_model.specs.declared.verdicts.CommandVerdict.TheVariants.{Accepted}
 use Rattle.window_config.specs.declared.verdicts.Class.TheVariants.{OnTime}
 use Rattle.unit_laws.specs.Live.{AcceptedIsLive, TimelyIsLive}
@@ -40,7 +40,7 @@ some_more : (a : ℤ) → pos 1 ≤ℤ a → pos 0 ≤ℤ a
 some_more a h = omega (arith, ints)
 
 -- all that it takes: the symbol is one of the slot's
-pub command_live : (d : Delays) (earlier : List Allocation) (c : Command) → IsWithinLimits d → c.head.start_symbol < symbols_of c.endpoint.numerology
+pub command_live : (d : Delays) (earlier : List Allocation) (c : ControlSection) → IsWithinLimits d → c.head.start_symbol < symbols_of c.endpoint.numerology
     → command_verdict d earlier c ≡ Accepted → IsLive c.endpoint.numerology (ru_reach_of d).before (ru_reach_of d).after c.at.0 (command_slot c)
 command_live d earlier c limits symbol h =
     let is = accepted_is_acceptable d earlier c h in
@@ -49,7 +49,7 @@ command_live d earlier c limits symbol h =
     (third_most (data_window_of d).max (command_window_of d true).max (command_window_of d false).max)
     (not_negative d.ta3.min d.ta3.max limits.ta3.low limits.ta3.order) symbol (same_time c.at.0) is.on_time
 
-pub data_live : (side : Side) (d : Delays) (x : Data) → IsWithinLimits d → x.section.symbol < symbols_of x.endpoint.numerology → x.first.0 ≤ℤ x.last.0
+pub data_live : (side : Side) (d : Delays) (x : UserSection) → IsWithinLimits d → x.section.symbol < symbols_of x.endpoint.numerology → x.first.0 ≤ℤ x.last.0
     → data_class side d x ≡ OnTime → IsLiveOn side d x.endpoint x.last.0 (data_slot x)
 data_live Ru d x limits symbol order h =
     live_on_time x.endpoint.numerology (data_slot x) x.section.symbol x.first.0 x.last.0 (data_window_of d) (ru_reach_of d).before (ru_reach_of d).after symbol order

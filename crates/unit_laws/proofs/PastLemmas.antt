@@ -24,8 +24,8 @@ use Rattle.unit_model.specs.Proper.{IsAt}
 use Rattle.unit_model.specs.Radiated.{is_down, wait_of}
 use Rattle.unit_model.specs.Uplink.{is_before, job_of, sends_in, symbol_jobs}
 use Rattle.unit_model.specs.declared.allocations.Allocation.{Allocation}
-use Rattle.unit_model.specs.declared.decoded.Command.{Command}
-use Rattle.unit_model.specs.declared.decoded.Data.{Data}
+use Rattle.unit_model.specs.declared.decoded.ControlSection.{ControlSection}
+use Rattle.unit_model.specs.declared.decoded.UserSection.{UserSection}
 use Rattle.unit_laws.specs.Past.{IsInOrder, IsPast, CommandLeavesPast, DataLeavePast, CommandLeavesReports, DataLeaveReports, CommandLeavesJobs}
 use Rattle.unit_laws.proofs.AcceptanceLemmas.{accepted_is_acceptable}
 use Rattle.unit_laws.proofs.CellLemmas.{slots_equal, from_first, covers_is, data_covers_is}
@@ -51,18 +51,18 @@ window_some d true limits = sum_some d.t2a_up.min d.advance limits.t2a_up.low li
 window_some d false limits = limits.t2a_cp_ul.low
 
 -- so what is on time comes before its symbol
-pub command_before : (d : Delays) (c : Command) → IsWithinLimits d → command_class d c ≡ class.OnTime → c.at.0 <ℤ command_start c
+pub command_before : (d : Delays) (c : ControlSection) → IsWithinLimits d → command_class d c ≡ class.OnTime → c.at.0 <ℤ command_start c
 command_before d c limits h =
     let is = (class_on_time c.at.0 c.at.0 (command_start c) (command_window_of d c.head.down)).0 h in
     later (command_window_of d c.head.down).min (command_start c) c.at.0 (window_some d c.head.down limits) is.soon_enough
 
-pub data_before : (d : Delays) (x : Data) → IsWithinLimits d → data_class Ru d x ≡ class.OnTime → x.last.0 <ℤ data_start x
+pub data_before : (d : Delays) (x : UserSection) → IsWithinLimits d → data_class Ru d x ≡ class.OnTime → x.last.0 <ℤ data_start x
 data_before d x limits h =
     let is = (class_on_time x.first.0 x.last.0 (data_start x) (data_window_of d)).0 h in
     later d.t2a_up.min (data_start x) x.last.0 limits.t2a_up.low is.soon_enough
 
 -- the symbols of an accepted section start after it came
-pub section_before : (d : Delays) (c : Command) (symbol : ℕ) → IsWithinLimits d → IsInOrder c → command_class d c ≡ class.OnTime
+pub section_before : (d : Delays) (c : ControlSection) (symbol : ℕ) → IsWithinLimits d → IsInOrder c → command_class d c ≡ class.OnTime
     → is_from c.section.symbol c.section.num_symbol symbol ≡ true → c.at.0 <ℤ air_of c.endpoint.numerology (command_slot c) symbol
 section_before d c symbol limits order on_time within =
     let n = c.endpoint.numerology in
@@ -96,7 +96,7 @@ waited : (last start window at : ℤ) → (last -ℤ start) ≤ℤ window → st
 waited last start window at a b c = omega (arith, ints)
 
 -- so data that are on time are of no moment that is past
-never_past : (side : Side) (d : Delays) (x : Data) (start : ℤ) → IsWithinLimits d → data_class side d x ≡ class.OnTime → data_start x ≡ start → IsPast side d start x.last.0 → ⊥
+never_past : (side : Side) (d : Delays) (x : UserSection) (start : ℤ) → IsWithinLimits d → data_class side d x ≡ class.OnTime → data_start x ≡ start → IsPast side d start x.last.0 → ⊥
 never_past Ru d x start limits h same past = not_past x.last.0 (data_start x) start (data_before d x limits h) same past
 never_past Du d x start limits h same past =
     let is = (class_up_on_time x.first.0 x.last.0 (data_start x) d.ta4).0 h in

@@ -17,12 +17,12 @@ use Rattle.unit_model.specs.Blocks.{data_prb_count}
 use Rattle.unit_model.specs.Decoding.{Part, Gathering, nothing_told, gathered, has_way, data_with, decoded_from, decode, Sections, Backwards, sections_of}
 use Rattle.unit_model.specs.Meetings.{command, commands_with}
 use Rattle.unit_model.specs.Proper.{IsAt}
-use Rattle.unit_model.specs.declared.decoded.Command.{Command}
-use Rattle.unit_model.specs.declared.decoded.Data.{Data}
+use Rattle.unit_model.specs.declared.decoded.ControlSection.{ControlSection}
+use Rattle.unit_model.specs.declared.decoded.UserSection.{UserSection}
 use Rattle.unit_model.proofs.Whole.{IsWholePart, IsWholeMessage, message_whole}
 
 -- a section of a command that was read, where `T` holds of its time
-pub record IsReadCommand (es : List EndpointConfig) (T : ℤ → Type 0) (c : Command) : Type 0 where
+pub record IsReadCommand (es : List EndpointConfig) (T : ℤ → Type 0) (c : ControlSection) : Type 0 where
   pub endpoint : IsAt es c.ep c.endpoint
   pub at : T c.at.0
   pub subframe : c.head.subframe < 10
@@ -33,7 +33,7 @@ pub record IsReadCommand (es : List EndpointConfig) (T : ℤ → Type 0) (c : Co
   pub start_prb : c.section.start_prb < 1024
 
 -- a section of data that was read, where `T` holds of its times
-pub record IsReadData (es : List EndpointConfig) (T : ℤ → Type 0) (d : Data) : Type 0 where
+pub record IsReadData (es : List EndpointConfig) (T : ℤ → Type 0) (d : UserSection) : Type 0 where
   pub endpoint : IsAt es d.ep d.endpoint
   pub first : T d.first.0
   pub last : T d.last.0
@@ -78,7 +78,7 @@ data_read es T ep e first last head ps i f l order subframe slot parts =
     (All-weaker (IsWholePart e.prbs (shape_of e.numerology)) (λ p. IsReadData es T (data_with ep e first last head p))
     (λ p w. record { endpoint = i; first = f; last = l; order = order; subframe = subframe; slot = slot; symbol = w.symbol; within = w.within; blocks = w.blocks }) ps parts)
 
-way_read : (es : List EndpointConfig) (T : ℤ → Type 0) (ds : List Data) (way : Bool) → All (IsReadData es T) ds → All (IsReadData es T) (sections_of (cond way (Sections ds) Backwards))
+way_read : (es : List EndpointConfig) (T : ℤ → Type 0) (ds : List UserSection) (way : Bool) → All (IsReadData es T) ds → All (IsReadData es T) (sections_of (cond way (Sections ds) Backwards))
 way_read es T ds true h = h
 way_read es T ds false h = All-nil (IsReadData es T)
 

@@ -9,32 +9,32 @@ use Rattle.unit_model.specs.Commands.{accepted, allocation_of, command_verdict}
 use Rattle.unit_model.specs.declared.cells.Block.{Block}
 use Rattle.unit_model.specs.declared.cells.Cell.{Cell}
 use Rattle.unit_model.specs.declared.cells.Claim.{Claim}
-use Rattle.unit_model.specs.declared.decoded.Command.{Command}
-use Rattle.unit_model.specs.declared.decoded.Data.{Data}
+use Rattle.unit_model.specs.declared.decoded.ControlSection.{ControlSection}
+use Rattle.unit_model.specs.declared.decoded.UserSection.{UserSection}
 use Rattle.unit_model.specs.declared.verdicts.CommandVerdict.TheVariants.{Accepted}
 
 -- one more command leaves the claim on an element as it is, unless it is accepted and names the element
 abbrev pub OnlyAcceptedClaims : Type 0
 OnlyAcceptedClaims =
-    (d : Delays) (c : Command) (earlier : List Command) (cell : Cell) (re : ℕ)
+    (d : Delays) (c : ControlSection) (earlier : List ControlSection) (cell : Cell) (re : ℕ)
     → (claim_at (accepted d (c ∷ earlier)) cell re ≡ claim_at (accepted d earlier) cell re)
     ⊎ ((command_verdict d (accepted d earlier) c ≡ Accepted) × (names (allocation_of c) cell re ≡ true))
 
 -- a claim that is there stays as it is, whatever commands come later
 abbrev pub ClaimsStay : Type 0
 ClaimsStay =
-    (d : Delays) (later earlier : List Command) (cell : Cell) (re : ℕ) (claim : Claim) → re < 12
+    (d : Delays) (later earlier : List ControlSection) (cell : Cell) (re : ℕ) (claim : Claim) → re < 12
     → claim_at (accepted d earlier) cell re ≡ Some claim → claim_at (accepted d (later ++ earlier)) cell re ≡ Some claim
 
 -- one more section of data leaves the block of a cell as it is, unless it is on time and covers the cell
 abbrev pub OnlyTimelyGives : Type 0
 OnlyTimelyGives =
-    (side : Side) (d : Delays) (x : Data) (earlier : List Data) (cell : Cell)
+    (side : Side) (d : Delays) (x : UserSection) (earlier : List UserSection) (cell : Cell)
     → (block_at (timely side d (x ∷ earlier)) cell ≡ block_at (timely side d earlier) cell)
     ⊎ ((data_class side d x ≡ OnTime) × (data_covers x cell ≡ true))
 
 -- a block that is there stays as it is, whatever data come later
 abbrev pub BlocksStay : Type 0
 BlocksStay =
-    (side : Side) (d : Delays) (later earlier : List Data) (cell : Cell) (block : Block)
+    (side : Side) (d : Delays) (later earlier : List UserSection) (cell : Cell) (block : Block)
     → block_at (timely side d earlier) cell ≡ Some block → block_at (timely side d (later ++ earlier)) cell ≡ Some block

@@ -19,8 +19,8 @@ use Rattle.unit_model.specs.Sides.{reach_of}
 use Rattle.unit_model.specs.Standing.{uplink_of}
 use Rattle.unit_model.specs.declared.allocations.Allocation.{Allocation}
 use Rattle.unit_model.specs.declared.cells.Cell.{Cell}
-use Rattle.unit_model.specs.declared.decoded.Command.{Command}
-use Rattle.unit_model.specs.declared.decoded.Data.{Data}
+use Rattle.unit_model.specs.declared.decoded.ControlSection.{ControlSection}
+use Rattle.unit_model.specs.declared.decoded.UserSection.{UserSection}
 
 -- the slot was live at a time that has come
 pub record WasLive (n : Numerology) (r : Reach) (clock : ℤ) (slot : Slot) : Type 0 where
@@ -37,17 +37,17 @@ pub record IsReached (es : List EndpointConfig) (r : Reach) (clock : ℤ) (a : A
   pub endpoint : IsAt es a.ep a.endpoint
   pub live : WasLive a.endpoint.numerology r clock a.slot
 
-pub record IsReachedData (es : List EndpointConfig) (r : Reach) (clock : ℤ) (x : Data) : Type 0 where
+pub record IsReachedData (es : List EndpointConfig) (r : Reach) (clock : ℤ) (x : UserSection) : Type 0 where
   pub endpoint : IsAt es x.ep x.endpoint
   pub live : WasLive x.endpoint.numerology r clock (data_slot x)
 
 -- sections that were read, and that came by a time
-pub record IsHeard (es : List EndpointConfig) (clock : ℤ) (c : Command) : Type 0 where
+pub record IsHeard (es : List EndpointConfig) (clock : ℤ) (c : ControlSection) : Type 0 where
   pub endpoint : IsAt es c.ep c.endpoint
   pub start_symbol : c.head.start_symbol < symbols_of c.endpoint.numerology
   pub come : c.at.0 ≤ℤ clock
 
-pub record IsHeardData (es : List EndpointConfig) (clock : ℤ) (x : Data) : Type 0 where
+pub record IsHeardData (es : List EndpointConfig) (clock : ℤ) (x : UserSection) : Type 0 where
   pub endpoint : IsAt es x.ep x.endpoint
   pub symbol : x.section.symbol < symbols_of x.endpoint.numerology
   pub order : x.first.0 ≤ℤ x.last.0
@@ -56,12 +56,12 @@ pub record IsHeardData (es : List EndpointConfig) (clock : ℤ) (x : Data) : Typ
 -- all that was accepted named slots that were live when it came, and so did all data on time
 abbrev pub AcceptedAreReached : Type 0
 AcceptedAreReached =
-    (es : List EndpointConfig) (d : Delays) (clock : ℤ) (cs : List Command) → IsWithinLimits d → All (IsHeard es clock) cs
+    (es : List EndpointConfig) (d : Delays) (clock : ℤ) (cs : List ControlSection) → IsWithinLimits d → All (IsHeard es clock) cs
     → All (IsReached es (ru_reach_of d) clock) (accepted d cs)
 
 abbrev pub TimelyAreReached : Type 0
 TimelyAreReached =
-    (side : Side) (es : List EndpointConfig) (d : Delays) (clock : ℤ) (xs : List Data) → IsWithinLimits d → All (IsHeardData es clock) xs
+    (side : Side) (es : List EndpointConfig) (d : Delays) (clock : ℤ) (xs : List UserSection) → IsWithinLimits d → All (IsHeardData es clock) xs
     → All (IsReachedData es (reach_of side d) clock) (timely side d xs)
 
 -- so a slot that is not live yet has no claim, no uplink section and no block
@@ -77,5 +77,5 @@ FarHasNoUplink =
 
 abbrev pub FarHasNoBlock : Type 0
 FarHasNoBlock =
-    (es : List EndpointConfig) (r : Reach) (clock : ℤ) (earlier : List Data) (e : EndpointConfig) (cell : Cell)
+    (es : List EndpointConfig) (r : Reach) (clock : ℤ) (earlier : List UserSection) (e : EndpointConfig) (cell : Cell)
     → All (IsReachedData es r clock) earlier → IsAt es cell.ep e → IsFar e.numerology r clock cell.slot → block_at earlier cell ≡ None

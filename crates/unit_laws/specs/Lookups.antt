@@ -17,7 +17,7 @@ use Rattle.unit_model.specs.declared.allocations.Allocation.{Allocation}
 use Rattle.unit_model.specs.declared.cells.Block.{Block}
 use Rattle.unit_model.specs.declared.cells.Cell.{Cell}
 use Rattle.unit_model.specs.declared.cells.Claim.{Claim}
-use Rattle.unit_model.specs.declared.decoded.Data.{Data}
+use Rattle.unit_model.specs.declared.decoded.UserSection.{UserSection}
 use Rattle.unit_model.specs.Blocks.{data_slot}
 
 -- the cells that a section covers are cells of the configuration
@@ -26,7 +26,7 @@ CoveredAreCells = (c : Config) (a : Allocation) (cell : Cell) → IsProperAlloca
 
 abbrev pub DataCoverCells : Type 0
 DataCoverCells =
-    (c : Config) (x : Data) (cell : Cell) → IsProperData c.endpoints x → IsSlot x.endpoint.numerology (data_slot x) → data_covers x cell ≡ true
+    (c : Config) (x : UserSection) (cell : Cell) → IsProperData c.endpoints x → IsSlot x.endpoint.numerology (data_slot x) → data_covers x cell ≡ true
     → IsCell c x.endpoint cell
 
 -- these claims are those of the elements that an allocation covers
@@ -47,7 +47,7 @@ OverlapsByLookup =
 -- and data have all their blocks where the blocks of the cells that they cover say so
 abbrev pub HasAllByLookup : Type 0
 HasAllByLookup =
-    (x : Data) (blocks : Cell → Option Block) (earlier : List Data)
+    (x : UserSection) (blocks : Cell → Option Block) (earlier : List UserSection)
     → ((cell : Cell) → data_covers x cell ≡ true → blocks cell ≡ block_at earlier cell)
     → every_data_cell x (λ cell. is_some (blocks cell)) ≡ has_all earlier x
 

@@ -17,11 +17,11 @@ use Rattle.unit_model.specs.Radiated.{Known, is_down, known_of, symbol_report, w
 use Rattle.unit_model.specs.Uplink.{symbol_jobs}
 use Rattle.unit_model.specs.declared.allocations.Allocation.{Allocation}
 use Rattle.unit_model.specs.declared.cells.Cell.{Cell}
-use Rattle.unit_model.specs.declared.decoded.Command.{Command}
-use Rattle.unit_model.specs.declared.decoded.Data.{Data}
+use Rattle.unit_model.specs.declared.decoded.ControlSection.{ControlSection}
+use Rattle.unit_model.specs.declared.decoded.UserSection.{UserSection}
 
 -- The symbols of a section start no earlier than that of its header: the maintained symbol number does not go back.
-abbrev pub IsInOrder : Command → Type 0
+abbrev pub IsInOrder : ControlSection → Type 0
 IsInOrder c = c.head.start_symbol ≤ c.section.symbol
 
 -- All sections that a unit reads are so.
@@ -31,7 +31,7 @@ CommandsAreInOrder = (side : Side) (es : List EndpointConfig) (arrivals : List A
 -- the elements of symbols that start by a command's arrival are claimed as before
 abbrev pub CommandLeavesPast : Type 0
 CommandLeavesPast =
-    (es : List EndpointConfig) (d : Delays) (c : Command) (earlier : List Command) (e : EndpointConfig) (cell : Cell) (re : ℕ)
+    (es : List EndpointConfig) (d : Delays) (c : ControlSection) (earlier : List ControlSection) (e : EndpointConfig) (cell : Cell) (re : ℕ)
     → IsWithinLimits d → IsProperCommand es c → IsInOrder c → IsAt es cell.ep e → air_of e.numerology cell.slot cell.symbol ≤ℤ c.at.0
     → claim_at (accepted d (c ∷ earlier)) cell re ≡ claim_at (accepted d earlier) cell re
 
@@ -44,7 +44,7 @@ IsPast Du d start at = (start +ℤ wait_of Du d) <ℤ at
 -- the cells whose moment is past when the last of data arrive have the blocks that they had
 abbrev pub DataLeavePast : Type 0
 DataLeavePast =
-    (side : Side) (es : List EndpointConfig) (d : Delays) (x : Data) (earlier : List Data) (e : EndpointConfig) (cell : Cell)
+    (side : Side) (es : List EndpointConfig) (d : Delays) (x : UserSection) (earlier : List UserSection) (e : EndpointConfig) (cell : Cell)
     → IsWithinLimits d → IsProperData es x → IsAt es cell.ep e → IsPast side d (air_of e.numerology cell.slot cell.symbol) x.last.0
     → block_at (timely side d (x ∷ earlier)) cell ≡ block_at (timely side d earlier) cell
 
@@ -60,20 +60,20 @@ ReportIsOfItsCells =
 -- so what is reported of a symbol that starts by then is as before, and so are the messages that are sent of it
 abbrev pub CommandLeavesReports : Type 0
 CommandLeavesReports =
-    (side : Side) (es : List EndpointConfig) (d : Delays) (c : Command) (earlier : List Command) (given : List Data)
+    (side : Side) (es : List EndpointConfig) (d : Delays) (c : ControlSection) (earlier : List ControlSection) (given : List UserSection)
     (ep : ℕ) (e : EndpointConfig) (slot : Slot) (symbol : ℕ)
     → IsWithinLimits d → IsProperCommand es c → IsInOrder c → IsAt es ep e → air_of e.numerology slot symbol ≤ℤ c.at.0
     → symbol_report side (known_of (accepted d (c ∷ earlier)) given) ep e slot symbol ≡ symbol_report side (known_of (accepted d earlier) given) ep e slot symbol
 
 abbrev pub DataLeaveReports : Type 0
 DataLeaveReports =
-    (side : Side) (es : List EndpointConfig) (d : Delays) (x : Data) (earlier : List Data) (claimed : List Allocation)
+    (side : Side) (es : List EndpointConfig) (d : Delays) (x : UserSection) (earlier : List UserSection) (claimed : List Allocation)
     (ep : ℕ) (e : EndpointConfig) (slot : Slot) (symbol : ℕ)
     → IsWithinLimits d → IsProperData es x → IsAt es ep e → IsPast side d (air_of e.numerology slot symbol) x.last.0
     → symbol_report side (known_of claimed (timely side d (x ∷ earlier))) ep e slot symbol ≡ symbol_report side (known_of claimed (timely side d earlier)) ep e slot symbol
 
 abbrev pub CommandLeavesJobs : Type 0
 CommandLeavesJobs =
-    (es : List EndpointConfig) (d : Delays) (c : Command) (earlier : List Command) (ep : ℕ) (e : EndpointConfig) (slot : Slot) (symbol : ℕ)
+    (es : List EndpointConfig) (d : Delays) (c : ControlSection) (earlier : List ControlSection) (ep : ℕ) (e : EndpointConfig) (slot : Slot) (symbol : ℕ)
     → IsWithinLimits d → IsProperCommand es c → IsInOrder c → IsAt es ep e → air_of e.numerology slot symbol ≤ℤ c.at.0
     → symbol_jobs (accepted d (c ∷ earlier)) ep e slot symbol ≡ symbol_jobs (accepted d earlier) ep e slot symbol

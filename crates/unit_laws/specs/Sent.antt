@@ -10,7 +10,7 @@ use Rattle.unit_model.specs.Radiated.{first_clock}
 use Rattle.unit_model.specs.Sweeps.{sweep}
 use Rattle.unit_model.specs.Uplink.{jobs, symbol_jobs}
 use Rattle.unit_model.specs.declared.allocations.Allocation.{Allocation}
-use Rattle.unit_model.specs.declared.decoded.Command.{Command}
+use Rattle.unit_model.specs.declared.decoded.ControlSection.{ControlSection}
 use Rattle.unit_model.specs.declared.jobs.UplinkJob.{UplinkJob}
 use Rattle.unit_laws.specs.Past.{IsInOrder}
 
@@ -35,6 +35,6 @@ LaterSendsNothing =
 -- so a command changes nothing that is sent by its arrival
 abbrev pub CommandLeavesSent : Type 0
 CommandLeavesSent =
-    (es : List EndpointConfig) (d : Delays) (c : Command) (earlier : List Command) (to : ℤ)
+    (es : List EndpointConfig) (d : Delays) (c : ControlSection) (earlier : List ControlSection) (to : ℤ)
     → IsWithinLimits d → IsProperCommand es c → IsInOrder c → to ≤ℤ c.at.0
     → jobs es (accepted d (c ∷ earlier)) to ≡ jobs es (accepted d earlier) to

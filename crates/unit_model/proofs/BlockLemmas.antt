@@ -11,7 +11,7 @@ use Rattle.window_config.specs.declared.verdicts.Class.TheVariants as class
 use Rattle.unit_model.specs.Blocks.{timely, with_timely, data_class}
 use Rattle.unit_model.specs.Lists.{or_else}
 use Rattle.unit_model.specs.declared.cells.Block.{Block}
-use Rattle.unit_model.specs.declared.decoded.Data.{Data}
+use Rattle.unit_model.specs.declared.decoded.UserSection.{UserSection}
 
 -- one that is found takes the place of the one before it
 pub newer_found : (b found : Option Block) → is_some b ≡ true → b ≡ or_else b found
@@ -31,12 +31,12 @@ data_up_window d is = record {
 
 pub ruleset windows = (data_up_window)
 
-kept_timely : (P : Data → Type 0) (k : Class) (d : Data) (ds : List Data) → P d → All P ds → All P (with_timely k d ds)
+kept_timely : (P : UserSection → Type 0) (k : Class) (d : UserSection) (ds : List UserSection) → P d → All P ds → All P (with_timely k d ds)
 kept_timely P class.OnTime d ds here all = All-cons P d ds here all
 kept_timely P class.Late d ds here all = all
 kept_timely P class.Early d ds here all = all
 
-pub all_timely : (P : Data → Type 0) (side : Side) (delays : Delays) (ds : List Data) → All P ds → All P (timely side delays ds)
+pub all_timely : (P : UserSection → Type 0) (side : Side) (delays : Delays) (ds : List UserSection) → All P ds → All P (timely side delays ds)
 unfolding timely
 all_timely P side delays [] h = All-nil P
 all_timely P side delays (d ∷ earlier) h =

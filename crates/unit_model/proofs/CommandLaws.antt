@@ -6,7 +6,7 @@ use Rattle.ecpri_frames.specs.Messages.{Message}
 use Rattle.air_source.specs.fault_counters.specs.declared.kinds.Counter.TheVariants.{OtherType, Delay, Short, WrongWay}
 use Rattle.window_config.specs.declared.endpoints.EndpointConfig.{EndpointConfig}
 use Rattle.unit_model.specs.Meetings.{Meeting, Ignored, Commands, Piece, met_by, meet, find_endpoint, id_of, fragment_of}
-use Rattle.unit_model.specs.declared.decoded.Command.{Command}
+use Rattle.unit_model.specs.declared.decoded.ControlSection.{ControlSection}
 
 abbrev pub IsNoCommand : Meeting → Type 0
 IsNoCommand (Ignored c) = Unit {0}
@@ -32,10 +32,10 @@ none_met es at m =
     (either_none (nat_lt (length m.payload) 4) (Ignored Short) found tt (none_by m.head.kind at m.payload (find_endpoint es (id_of m.payload)))))
 
 -- so where a message is a command, the unit is the radio unit
-pub told_at_ru : (side : Side) (es : List EndpointConfig) (at : ℤ) (m : Message) (cs : List Command) → Commands cs ≡ meet side es at m → side ≡ Ru
+pub told_at_ru : (side : Side) (es : List EndpointConfig) (at : ℤ) (m : Message) (cs : List ControlSection) → Commands cs ≡ meet side es at m → side ≡ Ru
 told_at_ru Ru es at m cs is = refl
 told_at_ru Du es at m cs is = absurd (subst IsNoCommand (sym is) (none_met es at m))
 
-pub for_ru : (side : Side) (es : List EndpointConfig) (at : ℤ) (m : Message) (cs : List Command) (P : Side → Type 0) → Commands cs ≡ meet side es at m → P Ru → P side
+pub for_ru : (side : Side) (es : List EndpointConfig) (at : ℤ) (m : Message) (cs : List ControlSection) (P : Side → Type 0) → Commands cs ≡ meet side es at m → P Ru → P side
 for_ru Ru es at m cs P is here = here
 for_ru Du es at m cs P is here = absurd (subst IsNoCommand (sym is) (none_met es at m))

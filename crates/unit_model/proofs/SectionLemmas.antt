@@ -6,16 +6,16 @@ use Rattle.window_config.specs.declared.delays.Delays.{Delays}
 use Rattle.unit_model.specs.Commands.{accepted, command_verdict, command_verdicts, with_accepted, allocation_of}
 use Rattle.unit_model.specs.Counts.{command_counter, commands_counted}
 use Rattle.unit_model.specs.declared.allocations.Allocation.{Allocation}
-use Rattle.unit_model.specs.declared.decoded.Command.{Command}
+use Rattle.unit_model.specs.declared.decoded.ControlSection.{ControlSection}
 use Rattle.unit_model.specs.declared.verdicts.CommandVerdict.{CommandVerdict}
 use Rattle.unit_model.proofs.CountLemmas.{capped_command}
 
-pub accepted_on : (d : Delays) (c : Command) (cs : List Command) (old new : List Allocation) (v : CommandVerdict) → old ≡ accepted d cs → v ≡ command_verdict d old c
+pub accepted_on : (d : Delays) (c : ControlSection) (cs : List ControlSection) (old new : List Allocation) (v : CommandVerdict) → old ≡ accepted d cs → v ≡ command_verdict d old c
     → new ≡ with_accepted v (allocation_of c) old → new ≡ accepted d (c ∷ cs)
 unfolding accepted
 accepted_on d c cs old new v o e n = n ∙ ap (λ w. with_accepted w (allocation_of c) old) e ∙ ap (λ xs. with_accepted (command_verdict d xs c) (allocation_of c) xs) o
 
-pub command_count : (d : Delays) (c : Command) (cs : List Command) (old : List Allocation) (v : CommandVerdict) (x y n b : ℕ) (k : Counter) → old ≡ accepted d cs
+pub command_count : (d : Delays) (c : ControlSection) (cs : List ControlSection) (old : List Allocation) (v : CommandVerdict) (x y n b : ℕ) (k : Counter) → old ≡ accepted d cs
     → v ≡ command_verdict d old c → x ≡ capped (n + (times (commands_counted (command_verdicts d cs)) k + b)) → y ≡ capped (x + once (command_counter v) k)
     → y ≡ capped (n + (times (commands_counted (command_verdicts d (c ∷ cs))) k + b))
 unfolding command_verdicts

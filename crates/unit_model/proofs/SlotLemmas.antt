@@ -8,8 +8,8 @@ use Rattle.unit_model.specs.Blocks.{data_slot}
 use Rattle.unit_model.specs.Commands.{command_slot}
 use Rattle.unit_model.specs.Proper.{IsTime, IsSlot}
 use Rattle.unit_model.specs.Sound.{IsSoundCommand, IsSoundData}
-use Rattle.unit_model.specs.declared.decoded.Command.{Command}
-use Rattle.unit_model.specs.declared.decoded.Data.{Data}
+use Rattle.unit_model.specs.declared.decoded.ControlSection.{ControlSection}
+use Rattle.unit_model.specs.declared.decoded.UserSection.{UserSection}
 
 -- the frame nearest to a time that a unit may be given is one whose symbols' times can be told
 pub frame_low : (id : ℕ) (at f : ℤ) → IsTime at → IsFrame id at f → neg_ℤ (pos 1000000) ≤ℤ f
@@ -33,10 +33,10 @@ absolute_near id at time =
     let rest = rest_small (pos id -ℤ first_frame at) (int_rem_euclid (pos id -ℤ first_frame at) (pos 256)) refl in
     bounds at (int_div_euclid (at +ℤ pos 15359999999) (pos 15360000000)) (int_rem_euclid (pos id -ℤ first_frame at) (pos 256)) time.low time.high floor.0 floor.1 rest.0 rest.1
 
-pub command_slot_is : (c : Command) → IsSoundCommand c → IsSlot c.endpoint.numerology (command_slot c)
+pub command_slot_is : (c : ControlSection) → IsSoundCommand c → IsSlot c.endpoint.numerology (command_slot c)
 command_slot_is c is =
     let frame = absolute_near c.head.frame_id c.at.0 is.at in record { low = frame.0; high = frame.1; subframe = is.subframe; slot_is = is.slot }
 
-pub data_slot_is : (d : Data) → IsSoundData d → IsSlot d.endpoint.numerology (data_slot d)
+pub data_slot_is : (d : UserSection) → IsSoundData d → IsSlot d.endpoint.numerology (data_slot d)
 data_slot_is d is =
     let frame = absolute_near d.head.frame_id d.last.0 is.last in record { low = frame.0; high = frame.1; subframe = is.subframe; slot_is = is.slot }

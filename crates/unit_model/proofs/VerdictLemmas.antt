@@ -11,7 +11,7 @@ use Rattle.unit_model.specs.Claims.{repeats, overlaps}
 use Rattle.unit_model.specs.Commands.{command_verdict, command_class, verdict_in, is_for, is_full, accepted, with_accepted, allocation_of}
 use Rattle.unit_model.specs.Proper.{IsProperCommand, IsProperAllocation}
 use Rattle.unit_model.specs.declared.allocations.Allocation.{Allocation}
-use Rattle.unit_model.specs.declared.decoded.Command.{Command}
+use Rattle.unit_model.specs.declared.decoded.ControlSection.{ControlSection}
 use Rattle.unit_model.specs.declared.verdicts.CommandVerdict.{CommandVerdict}
 use Rattle.unit_model.specs.declared.verdicts.CommandVerdict.TheVariants.{Mismatch, Late, Early, Range, Repeat, Overlap, Full, Accepted}
 use Rattle.unit_model.proofs.SlotLemmas.{command_slot_is}
@@ -33,12 +33,12 @@ same_within : (b : Bool) (k : Class) (accepted : List Allocation) (a : Allocatio
 same_within true k accepted a h = class_within k accepted a h
 same_within false k accepted a h = absurd cc
 
-pub accepted_within : (d : Delays) (accepted : List Allocation) (c : Command) → command_verdict d accepted c ≡ Accepted
+pub accepted_within : (d : Delays) (accepted : List Allocation) (c : ControlSection) → command_verdict d accepted c ≡ Accepted
     → is_outside c.endpoint.prbs c.section.start_prb c.section.num_prb ≡ false
 unfolding command_verdict
 accepted_within d accepted c h = same_within (is_for c.head.body c.endpoint.numerology) (command_class d c) accepted (allocation_of c) h
 
-pub accepted_proper : (es : List EndpointConfig) (d : Delays) (accepted : List Allocation) (c : Command) → IsProperCommand es c
+pub accepted_proper : (es : List EndpointConfig) (d : Delays) (accepted : List Allocation) (c : ControlSection) → IsProperCommand es c
     → command_verdict d accepted c ≡ Accepted → IsProperAllocation es (allocation_of c)
 accepted_proper es d accepted c is h = record {
   endpoint = is.endpoint;
@@ -59,7 +59,7 @@ kept_proper es Overlap a earlier here all = all
 kept_proper es Full a earlier here all = all
 kept_proper es Accepted a earlier here all = All-cons (IsProperAllocation es) a earlier (here refl) all
 
-pub all_accepted : (es : List EndpointConfig) (d : Delays) (cs : List Command) → All (IsProperCommand es) cs → All (IsProperAllocation es) (accepted d cs)
+pub all_accepted : (es : List EndpointConfig) (d : Delays) (cs : List ControlSection) → All (IsProperCommand es) cs → All (IsProperAllocation es) (accepted d cs)
 unfolding accepted
 all_accepted es d [] h = All-nil (IsProperAllocation es)
 all_accepted es d (c ∷ earlier) h =

@@ -20,7 +20,7 @@ use Rattle.uplane_sections.specs.Section.{rb, is_method, startPrbu, numPrbu, sym
 use Rattle.uplane_sections.specs.Messages.{Item, Head, Section, Telling, refused, after, blocks, section_at, sections, told}
 use Rattle.window_config.specs.declared.endpoints.EndpointConfig.{EndpointConfig}
 use Rattle.unit_model.specs.Decoding.{Part, Gathering, nothing_told, begun, longer, gathered, has_way, data_with, decoded_from, decode, Sections, Backwards, sections_of}
-use Rattle.unit_model.specs.declared.decoded.Data.{Data}
+use Rattle.unit_model.specs.declared.decoded.UserSection.{UserSection}
 use Rattle.unit_model.specs.Proper.{IsAt, IsTime, IsProperData}
 
 -- a section that passed the tests, with all its PRBs
@@ -185,7 +185,7 @@ data_proper es ep e first last head ps i f l subframe slot parts =
     (All-weaker (IsWholePart e.prbs (shape_of e.numerology)) (λ p. IsProperData es (data_with ep e first last head p))
     (λ p w. record { endpoint = i; first = f; last = l; subframe = subframe; slot = slot; symbol = w.symbol; within = w.within; blocks = w.blocks }) ps parts)
 
-way_proper : (es : List EndpointConfig) (ds : List Data) (way : Bool) → All (IsProperData es) ds → All (IsProperData es) (sections_of (cond way (Sections ds) Backwards))
+way_proper : (es : List EndpointConfig) (ds : List UserSection) (way : Bool) → All (IsProperData es) ds → All (IsProperData es) (sections_of (cond way (Sections ds) Backwards))
 way_proper es ds true h = h
 way_proper es ds false h = All-nil (IsProperData es)
 

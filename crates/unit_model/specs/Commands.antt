@@ -17,18 +17,18 @@ use Rattle.window_config.specs.Classes.{class_of}
 use Rattle.window_config.specs.Windows.{command_window_of}
 use Rattle.unit_model.specs.Claims.{same_slot, repeats, overlaps}
 use Rattle.unit_model.specs.declared.allocations.Allocation.{Allocation}
-use Rattle.unit_model.specs.declared.decoded.Command.{Command}
+use Rattle.unit_model.specs.declared.decoded.ControlSection.{ControlSection}
 use Rattle.unit_model.specs.declared.verdicts.CommandVerdict.{CommandVerdict}
 use Rattle.unit_model.specs.declared.verdicts.CommandVerdict.TheVariants.{Mismatch, Late, Early, Range, Repeat, Overlap, Full, Accepted}
 
 -- the slot that a command names, by the frame nearest to its arrival
-abbrev pub command_slot : Command → Slot
+abbrev pub command_slot : ControlSection → Slot
 command_slot c = record { frame = absolute_frame c.head.frame_id c.at.0; subframe = c.head.subframe; slot = c.head.slot }
 
 abbrev pub is_idle : CBody → Bool
 is_idle body = kind_of body == 0
 
-abbrev pub allocation_of : Command → Allocation
+abbrev pub allocation_of : ControlSection → Allocation
 allocation_of c = record {
   ep = c.ep;
   endpoint = c.endpoint;
@@ -61,11 +61,11 @@ is_for (Idle t structure cp) n = true
 is_for (Normal comp) n = has_no_offsets (offsets_of n)
 is_for (Offset t structure cp comp) n = has_offsets t cp (offsets_of n) && (structure % 16 == code_of n)
 
-abbrev pub command_start : Command → ℤ
+abbrev pub command_start : ControlSection → ℤ
 command_start c = air_of c.endpoint.numerology (command_slot c) c.head.start_symbol
 
 -- whether it is on time goes by the header's symbol, also where its own is a later one
-abbrev pub command_class : Delays → Command → Class
+abbrev pub command_class : Delays → ControlSection → Class
 command_class d c = class_of c.at.0 c.at.0 (command_start c) (command_window_of d c.head.down)
 
 -- an uplink section of type 1 or 3: the radio unit sends data for it
@@ -99,7 +99,7 @@ verdict_in class.Late accepted a = Late
 verdict_in class.Early accepted a = Early
 verdict_in class.OnTime accepted a = timely_verdict accepted a
 
-unfoldable pub command_verdict : Delays → List Allocation → Command → CommandVerdict
+unfoldable pub command_verdict : Delays → List Allocation → ControlSection → CommandVerdict
 command_verdict d accepted c =
     if is_for c.head.body c.endpoint.numerology then verdict_in (command_class d c) accepted (allocation_of c) else Mismatch
 
@@ -110,11 +110,11 @@ with_accepted Accepted a accepted = a ∷ accepted
 with_accepted _ a accepted = accepted
 
 -- what was accepted of these
-unfoldable pub accepted : Delays → List Command → List Allocation
+unfoldable pub accepted : Delays → List ControlSection → List Allocation
 accepted d [] = []
 accepted d (c ∷ earlier) = with_accepted (command_verdict d (accepted d earlier) c) (allocation_of c) (accepted d earlier)
 
 -- the verdicts
-unfoldable pub command_verdicts : Delays → List Command → List CommandVerdict
+unfoldable pub command_verdicts : Delays → List ControlSection → List CommandVerdict
 command_verdicts d [] = []
 command_verdicts d (c ∷ earlier) = command_verdict d (accepted d earlier) c ∷ command_verdicts d earlier

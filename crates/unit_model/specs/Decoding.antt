@@ -15,7 +15,7 @@ use Rattle.uplane_sections.specs.Messages.{Item, Head, Section, Block, told}
 use Rattle.window_config.specs.declared.endpoints.EndpointConfig.{EndpointConfig}
 use Rattle.unit_model.specs.Lists.{joined}
 use Rattle.unit_model.specs.Meetings.{Meeting, Ignored, Commands, Piece, fragments}
-use Rattle.unit_model.specs.declared.decoded.Data.{Data}
+use Rattle.unit_model.specs.declared.decoded.UserSection.{UserSection}
 
 -- a section with the samples of its PRBs, in their order
 pub record Part : Type 0 where
@@ -56,14 +56,14 @@ gathered g (i ∷ is) = gathered (with_item g i) is
 pub data Decoded : Type 0 where
   Refused : Decoded
   Backwards : Decoded
-  Sections : List Data → Decoded
+  Sections : List UserSection → Decoded
 
 -- downlink data go to the radio unit, uplink data to the distributed unit
 abbrev pub has_way : Side → UHead → Bool
 has_way Ru head = head.down
 has_way Du head = not head.down
 
-abbrev pub data_with : ℕ → EndpointConfig → ℤ → ℤ → UHead → Part → Data
+abbrev pub data_with : ℕ → EndpointConfig → ℤ → ℤ → UHead → Part → UserSection
 data_with ep e first last head p = record {
   ep = ep;
   endpoint = e;
@@ -103,7 +103,7 @@ whole_of TooLong f stood = None
 abbrev pub whole_now : ℤ → Fragment → List Fragment → Option Message
 whole_now hold f earlier = whole_of (verdict_on hold f earlier) f (standing_before hold f earlier)
 
-abbrev pub sections_of : Decoded → List Data
+abbrev pub sections_of : Decoded → List UserSection
 sections_of Refused = []
 sections_of Backwards = []
 sections_of (Sections ds) = ds
@@ -116,12 +116,12 @@ decoded_now side e f (Some m) = Some (decode_message side f.ep e m)
 abbrev pub data_now : Side → ℤ → EndpointConfig → Fragment → List Fragment → Option Decoded
 data_now side hold e f earlier = decoded_now side e f (whole_now hold f earlier)
 
-abbrev pub data_told : Option Decoded → List Data
+abbrev pub data_told : Option Decoded → List UserSection
 data_told None = []
 data_told (Some d) = sections_of d
 
 -- the decoded sections of data, the newest first; a generation holds for so many ticks
-unfoldable pub data_sections : Side → ℤ → List Meeting → List Data
+unfoldable pub data_sections : Side → ℤ → List Meeting → List UserSection
 data_sections side hold [] = []
 data_sections side hold (Ignored c ∷ earlier) = data_sections side hold earlier
 data_sections side hold (Commands cs ∷ earlier) = data_sections side hold earlier

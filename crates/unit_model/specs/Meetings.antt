@@ -19,7 +19,7 @@ use Rattle.air_source.specs.fault_counters.specs.declared.kinds.Counter.{Counter
 use Rattle.air_source.specs.fault_counters.specs.declared.kinds.Counter.TheVariants.{OtherType, Delay, Short, UnknownEndpoint, WrongWay, CRefused}
 use Rattle.window_config.specs.declared.endpoints.EndpointConfig.{EndpointConfig}
 use Rattle.unit_model.specs.Lists.{onto}
-use Rattle.unit_model.specs.declared.decoded.Command.{Command}
+use Rattle.unit_model.specs.declared.decoded.ControlSection.{ControlSection}
 
 -- a frame, and when it came, in ticks
 pub record Arrival : Type 0 where
@@ -30,7 +30,7 @@ pub record Arrival : Type 0 where
 -- to an endpoint
 pub data Meeting : Type 0 where
   Ignored : Counter → Meeting
-  Commands : List Command → Meeting
+  Commands : List ControlSection → Meeting
   Piece : EndpointConfig → Fragment → Meeting
 
 -- ---- the payload of the types 0 and 2: the eAxC id, the sequence field, and the application's bytes
@@ -58,11 +58,11 @@ find_endpoint es id = find_from 0 es id
 abbrev pub is_fragmented : SeqField → Bool
 is_fragmented seq = not (seq.last && (seq.sub == 0))
 
-abbrev pub command : ℕ → EndpointConfig → ℤ → CHead → CSection → Command
+abbrev pub command : ℕ → EndpointConfig → ℤ → CHead → CSection → ControlSection
 command ep e at head s = record { ep = ep; endpoint = e; at = record { 0 = at }; head = head; section = s }
 
 -- the sections of a message that was read, in its order
-abbrev pub commands_with : ℕ → EndpointConfig → ℤ → CHead → List CSection → List Command
+abbrev pub commands_with : ℕ → EndpointConfig → ℤ → CHead → List CSection → List ControlSection
 commands_with ep e at head ss = map (command ep e at head) ss
 
 abbrev pub command_read : ℕ → EndpointConfig → ℤ → List ℕ → Result CHead CRefusal → Meeting
@@ -113,7 +113,7 @@ meetings side es [] = []
 meetings side es (a ∷ earlier) = onto (meetings side es earlier) (met_in side es a.at (whole_messages a.frame))
 
 -- the sections of the commands, and the fragments, the newest first
-unfoldable pub commands : List Meeting → List Command
+unfoldable pub commands : List Meeting → List ControlSection
 commands [] = []
 commands (Ignored c ∷ earlier) = commands earlier
 commands (Commands cs ∷ earlier) = onto (commands earlier) cs

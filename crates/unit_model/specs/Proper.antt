@@ -7,8 +7,8 @@ use Rattle.fh_time.specs.Carrier.{is_outside}
 use Rattle.window_config.specs.declared.endpoints.EndpointConfig.{EndpointConfig}
 use Rattle.unit_model.specs.Blocks.{data_prb_count}
 use Rattle.unit_model.specs.declared.allocations.Allocation.{Allocation}
-use Rattle.unit_model.specs.declared.decoded.Command.{Command}
-use Rattle.unit_model.specs.declared.decoded.Data.{Data}
+use Rattle.unit_model.specs.declared.decoded.ControlSection.{ControlSection}
+use Rattle.unit_model.specs.declared.decoded.UserSection.{UserSection}
 
 -- a time that a unit may be given
 pub record IsTime (at : ℤ) : Type 0 where
@@ -26,7 +26,7 @@ pub record IsSlot (n : Numerology) (slot : Slot) : Type 0 where
   pub subframe : slot.subframe < 10
   pub slot_is : slot.slot < slots_of n
 
-pub record IsProperCommand (es : List EndpointConfig) (c : Command) : Type 0 where
+pub record IsProperCommand (es : List EndpointConfig) (c : ControlSection) : Type 0 where
   pub endpoint : IsAt es c.ep c.endpoint
   pub at : IsTime c.at.0
   pub subframe : c.head.subframe < 10
@@ -36,7 +36,7 @@ pub record IsProperCommand (es : List EndpointConfig) (c : Command) : Type 0 whe
   pub within : c.section.symbol + c.section.num_symbol ≤ symbols_of c.endpoint.numerology
   pub start_prb : c.section.start_prb < 1024
 
-pub record IsProperData (es : List EndpointConfig) (d : Data) : Type 0 where
+pub record IsProperData (es : List EndpointConfig) (d : UserSection) : Type 0 where
   pub endpoint : IsAt es d.ep d.endpoint
   pub first : IsTime d.first.0
   pub last : IsTime d.last.0

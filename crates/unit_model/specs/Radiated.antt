@@ -18,7 +18,7 @@ use Rattle.unit_model.specs.declared.allocations.Allocation.{Allocation}
 use Rattle.unit_model.specs.declared.cells.Block.{Block}
 use Rattle.unit_model.specs.declared.cells.Cell.{Cell}
 use Rattle.unit_model.specs.declared.cells.Claim.{Claim}
-use Rattle.unit_model.specs.declared.decoded.Data.{Data}
+use Rattle.unit_model.specs.declared.decoded.UserSection.{UserSection}
 
 -- the direction of what a unit reports
 abbrev pub is_down : Side → Bool
@@ -78,7 +78,7 @@ pub record Known : Type 0 where
   pub claims : Cell → ℕ → Option Claim
   pub blocks : Cell → Option Block
 
-abbrev pub known_of : List Allocation → List Data → Known
+abbrev pub known_of : List Allocation → List UserSection → Known
 known_of accepted timely = record { claims = claim_at accepted; blocks = block_at timely }
 
 abbrev pub cell_report : Side → Known → ℕ → EndpointConfig → Slot → ℕ → ℕ → List AirCell

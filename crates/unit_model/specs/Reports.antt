@@ -14,8 +14,8 @@ use Rattle.unit_model.specs.Decoding.{data_sections}
 use Rattle.unit_model.specs.Meetings.{Arrival, Meeting, meetings, commands}
 use Rattle.unit_model.specs.Radiated.{Known, known_of, reported}
 use Rattle.unit_model.specs.declared.allocations.Allocation.{Allocation}
-use Rattle.unit_model.specs.declared.decoded.Command.{Command}
-use Rattle.unit_model.specs.declared.decoded.Data.{Data}
+use Rattle.unit_model.specs.declared.decoded.ControlSection.{ControlSection}
+use Rattle.unit_model.specs.declared.decoded.UserSection.{UserSection}
 
 -- how long a generation of fragments holds, in ticks
 abbrev pub hold_of : Side → Delays → ℤ
@@ -27,10 +27,10 @@ hold_of Du d = ticks_of_ns d.hold_ul
 abbrev pub met : Side → Config → List Arrival → List Meeting
 met side c arrivals = meetings side c.endpoints arrivals
 
-abbrev pub commands_of : Side → Config → List Arrival → List Command
+abbrev pub commands_of : Side → Config → List Arrival → List ControlSection
 commands_of side c arrivals = commands (met side c arrivals)
 
-abbrev pub data_of : Side → Config → List Arrival → List Data
+abbrev pub data_of : Side → Config → List Arrival → List UserSection
 data_of side c arrivals = data_sections side (hold_of side c.delays) (met side c arrivals)
 
 -- ---- what they leave
@@ -38,7 +38,7 @@ data_of side c arrivals = data_sections side (hold_of side c.delays) (met side c
 abbrev pub accepted_of : Config → List Arrival → List Allocation
 accepted_of c arrivals = accepted c.delays (commands_of Ru c arrivals)
 
-abbrev pub timely_of : Side → Config → List Arrival → List Data
+abbrev pub timely_of : Side → Config → List Arrival → List UserSection
 timely_of side c arrivals = timely side c.delays (data_of side c arrivals)
 
 -- what the radio unit knows; the distributed unit knows the claims of its own plan

@@ -5,11 +5,11 @@ use Rattle.fh_time.specs.Carrier.{is_outside}
 use Rattle.unit_model.specs.Blocks.{data_prb_count}
 use Rattle.unit_model.specs.Proper.{IsTime}
 use Rattle.unit_model.specs.declared.allocations.Allocation.{Allocation}
-use Rattle.unit_model.specs.declared.decoded.Command.{Command}
-use Rattle.unit_model.specs.declared.decoded.Data.{Data}
+use Rattle.unit_model.specs.declared.decoded.ControlSection.{ControlSection}
+use Rattle.unit_model.specs.declared.decoded.UserSection.{UserSection}
 
 -- it names a slot of its endpoint and symbols of that slot
-pub record IsSoundCommand (c : Command) : Type 0 where
+pub record IsSoundCommand (c : ControlSection) : Type 0 where
   pub at : IsTime c.at.0
   pub subframe : c.head.subframe < 10
   pub slot : c.head.slot < slots_of c.endpoint.numerology
@@ -18,7 +18,7 @@ pub record IsSoundCommand (c : Command) : Type 0 where
   pub within : c.section.symbol + c.section.num_symbol ≤ symbols_of c.endpoint.numerology
 
 -- it names a slot and a symbol of its endpoint, and each of its PRBs has a block
-pub record IsSoundData (d : Data) : Type 0 where
+pub record IsSoundData (d : UserSection) : Type 0 where
   pub first : IsTime d.first.0
   pub last : IsTime d.last.0
   pub subframe : d.head.subframe < 10

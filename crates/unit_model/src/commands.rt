@@ -5,7 +5,7 @@ ghost use Rattle.unit_model.specs.Commands.{has_no_offsets, has_offsets, is_for,
 ghost use Rattle.unit_model.specs.Sound.{IsSoundCommand};
 
 use crate::allocations::Allocation;
-use crate::decoded::Command;
+use crate::decoded::ControlSection;
 use crate::slots::command_start;
 use cplane_sections::CBody;
 use fh_time::{Numerology, code, offsets};
@@ -49,7 +49,7 @@ pub fn is_for(body: &CBody, n: &Numerology) -> bool
 }
 
 /// Whether a command is on time, by the symbol of its header (O-RAN.WG4.CUS, delay management).
-pub fn command_class(delays: &Delays, c: &Command) -> Class
+pub fn command_class(delays: &Delays, c: &ControlSection) -> Class
     requires limits { IsWithinLimits delays.now }
     requires sound { IsSoundCommand c.now }
     ensures { result ≡ command_class delays.now c.now }

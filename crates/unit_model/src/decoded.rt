@@ -8,7 +8,7 @@ use window_config::EndpointConfig;
 
 /// One section of a C-plane message that arrived.
 #[derive(Clone, Copy, Debug, PartialEq, Eq)]
-pub struct Command {
+pub struct ControlSection {
     /// The endpoint's index in the configuration.
     pub ep: usize,
     pub endpoint: EndpointConfig,
@@ -20,7 +20,7 @@ pub struct Command {
 
 /// One section of a U-plane message that became whole.
 #[derive(Drop)]
-pub struct Data {
+pub struct UserSection {
     /// The endpoint's index in the configuration.
     pub ep: usize,
     pub endpoint: EndpointConfig,

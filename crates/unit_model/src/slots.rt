@@ -6,7 +6,7 @@ ghost use Rattle.unit_model.specs.Proper.{IsSlot};
 ghost use Rattle.unit_model.specs.Sound.{IsSoundCommand};
 
 use crate::allocations::Allocation;
-use crate::decoded::Command;
+use crate::decoded::ControlSection;
 use cplane_sections::CBody;
 use fh_time::{Slot, Ticks, air, resolve};
 
@@ -19,7 +19,7 @@ pub fn same_slot(a: &Slot, b: &Slot) -> bool
 
 /// The slot that a command names, by the frame nearest to its arrival.
 #[tactic(auto, using(crate::proofs::SlotLemmas::slots))]
-fn command_slot(c: &Command) -> Slot
+fn command_slot(c: &ControlSection) -> Slot
     requires { IsSoundCommand c.now }
     ensures value { result ≡ command_slot c.now }
     ensures slot { IsSlot c.now.endpoint.numerology result }
@@ -32,7 +32,7 @@ fn command_slot(c: &Command) -> Slot
 }
 
 /// When the symbol of a command's header starts.
-pub(crate) fn command_start(c: &Command) -> Ticks
+pub(crate) fn command_start(c: &ControlSection) -> Ticks
     requires { IsSoundCommand c.now }
     ensures value { result.0 ≡ command_start c.now }
     ensures low { neg_ℤ (pos (2 ^ 56)) ≤ℤ result.0 }
@@ -52,7 +52,7 @@ fn is_idle(body: &CBody) -> bool
 }
 
 /// What a command names: its frame is the one nearest to its arrival.
-pub fn allocation_of(c: &Command) -> Allocation
+pub fn allocation_of(c: &ControlSection) -> Allocation
     requires { IsSoundCommand c.now }
     ensures value { result ≡ allocation_of c.now }
     ensures slot { IsSlot result.endpoint.numerology result.slot }

@@ -14,7 +14,7 @@ use fault_counters::{Counter, Counters};
 use fh_base::List;
 use fh_time::{Numerology, Slot, Ticks, of_ns, shape};
 use plain_units::air_source::{AirCell, AirFault, MemoryAir, Side};
-use plain_units::unit_model::{Command, CommandVerdict, SymbolStart};
+use plain_units::unit_model::{CommandVerdict, ControlSection, SymbolStart};
 use plain_units::uplane_sections::{UHead, USection};
 use plain_units::window_config::{Delays, EndpointConfig};
 use ru_buffers::ru_reports::{first_left, report};
@@ -22,7 +22,7 @@ use ru_buffers::unit_cells::{DataHeading, UnitCells};
 use std::test::Fail;
 
 /// A downlink command for PRBs 0 and 1 in one symbol of frame 1, under section 5, that comes at 9.65 ms.
-fn command(e: EndpointConfig, symbol: u8, mask: u16) -> Command
+fn command(e: EndpointConfig, symbol: u8, mask: u16) -> ControlSection
     requires { symbol < 14 }
     ensures ep { result.ep ≡ 0 }
     ensures endpoint { result.endpoint ≡ e }
@@ -35,7 +35,7 @@ fn command(e: EndpointConfig, symbol: u8, mask: u16) -> Command
     ensures num_symbol { result.section.num_symbol ≡ 1 }
     ensures start_prb { result.section.start_prb ≡ 0 }
 {
-    Command {
+    ControlSection {
         ep: 0,
         endpoint: e,
         at: of_ns(9_650_000),

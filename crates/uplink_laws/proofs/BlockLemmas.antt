@@ -17,7 +17,7 @@ use Rattle.sent_laws.specs.unit_model.specs.Meetings.{Arrival}
 use Rattle.sent_laws.specs.unit_model.specs.declared.allocations.Allocation.{Allocation}
 use Rattle.sent_laws.specs.unit_model.specs.declared.cells.Block.{Block}
 use Rattle.sent_laws.specs.unit_model.specs.declared.cells.Cell.{Cell}
-use Rattle.sent_laws.specs.unit_model.specs.declared.decoded.Data.{Data}
+use Rattle.sent_laws.specs.unit_model.specs.declared.decoded.UserSection.{UserSection}
 use Rattle.sent_laws.specs.unit_laws.proofs.CellLemmas.{covers_is, data_covers_is}
 use Rattle.sent_laws.specs.plan_model.specs.Lines.{allocation_of, is_down, is_idle, planned}
 use Rattle.sent_laws.specs.plan_model.specs.Streams.{Part, part_in}
@@ -36,11 +36,11 @@ use Rattle.uplink_laws.proofs.ReadLemmas.{is_decoded}
 
 -- ---- data that are all on time
 
-all_timely : (delays : Delays) (xs : List Data) → ((d : Data) → IsIn d xs → data_class Du delays d ≡ OnTime) → timely Du delays xs ≡ xs
+all_timely : (delays : Delays) (xs : List UserSection) → ((d : UserSection) → IsIn d xs → data_class Du delays d ≡ OnTime) → timely Du delays xs ≡ xs
 unfolding timely
 all_timely delays [] h = refl
 all_timely delays (d ∷ xs) h =
-    ap (λ (k : Class). with_timely k d (timely Du delays xs)) (h d (inl refl)) ∙ ap (λ (ys : List Data). d ∷ ys) (all_timely delays xs (λ e m. h e (inr m)))
+    ap (λ (k : Class). with_timely k d (timely Du delays xs)) (h d (inl refl)) ∙ ap (λ (ys : List UserSection). d ∷ ys) (all_timely delays xs (λ e m. h e (inr m)))
 
 -- ---- lines of the uplink
 
@@ -56,7 +56,7 @@ is_up Idle h = absurd cc
 
 -- ---- a section and its line cover the same cells of the symbol
 
-module _ (blocks : Blocks) (x : Part) (d : Data) (carries : IsDataFor blocks x d) (slot_is : data_slot d ≡ x.planned.line.slot) where
+module _ (blocks : Blocks) (x : Part) (d : UserSection) (carries : IsDataFor blocks x d) (slot_is : data_slot d ≡ x.planned.line.slot) where
   abbrev a : Allocation
   a = allocation_of x.planned
 
@@ -105,10 +105,10 @@ module _ (c : Config) (lines : List PlanLine) (source : Source) (antenna : Anten
   abbrev blocks : Blocks
   blocks = blocks_of c antenna
 
-  abbrev all : List Data
+  abbrev all : List UserSection
   all = ds c lines source antenna down up h
 
-  timely_is : (d : Data) → IsIn d all → (x : Part) × IsTimely c lines source antenna down up h x d
+  timely_is : (d : UserSection) → IsIn d all → (x : Part) × IsTimely c lines source antenna down up h x d
   timely_is d m = each_timely c lines source antenna down up h d m
 
   timely_all : timely Du c.delays all ≡ all
@@ -124,7 +124,7 @@ module _ (c : Config) (lines : List PlanLine) (source : Source) (antenna : Anten
   abbrev line_block : Cell → ℕ → Block
   line_block cell id = record { id = id; samples = blocks cell }
 
-  section_taken : (d : Data) → IsIn d all → (cell : Cell) → data_covers d cell ≡ true → (p : PlannedLine) × IsIn p ps × (radiates_in p cell ≡ true) × (block_of d cell ≡ line_block cell p.line.section)
+  section_taken : (d : UserSection) → IsIn d all → (cell : Cell) → data_covers d cell ≡ true → (p : PlannedLine) × IsIn p ps × (radiates_in p cell ≡ true) × (block_of d cell ≡ line_block cell p.line.section)
   section_taken d m cell is =
       let x = (timely_is d m).0 in
       let t = (timely_is d m).1 in
@@ -149,7 +149,7 @@ module _ (c : Config) (lines : List PlanLine) (source : Source) (antenna : Anten
       ∙ sym (planned_one blocks ps cell p.line.section p (λ q n r. same_section cell p q m n is r) m is)
 
   block_is_planned : (cell : Cell) → cell.down ≡ false → block_at (timely Du c.delays all) cell ≡ planned_block blocks ps cell
-  block_is_planned cell way = ap (λ (xs : List Data). block_at xs cell) timely_all ∙ block_planned cell way (find_radiating ps cell)
+  block_is_planned cell way = ap (λ (xs : List UserSection). block_at xs cell) timely_all ∙ block_planned cell way (find_radiating ps cell)
 
   -- that of any line that covers the cell
   block_of_any : (cell : Cell) (p : PlannedLine) → IsIn p ps → is_uplink p ≡ true → covers (allocation_of p) cell ≡ true → block_at (timely Du c.delays all) cell ≡ Some (line_block cell p.line.section)

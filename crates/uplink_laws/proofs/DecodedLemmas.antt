@@ -27,7 +27,7 @@ use Rattle.sent_laws.specs.unit_model.specs.Decoding.{Decoded, data_now, data_se
 use Rattle.sent_laws.specs.unit_model.specs.Lists.{joined, onto}
 use Rattle.sent_laws.specs.unit_model.specs.Meetings.{Arrival, Meeting, Piece, fragments, meetings}
 use Rattle.sent_laws.specs.unit_model.specs.Proper.{IsAt}
-use Rattle.sent_laws.specs.unit_model.specs.declared.decoded.Data.{Data}
+use Rattle.sent_laws.specs.unit_model.specs.declared.decoded.UserSection.{UserSection}
 use Rattle.sent_laws.specs.unit_model.proofs.ReachLaws.{symbol_soon}
 use Rattle.sent_laws.specs.plan_model.specs.Departures.{start_of}
 use Rattle.sent_laws.specs.plan_model.specs.Lines.{planned}
@@ -54,7 +54,7 @@ use Rattle.uplink_laws.proofs.WholeLemmas.{InTime, in_time, whole_once}
 
 -- ---- the sections that a fragment makes
 
-told_whole : (v : Verdict) (e : EndpointConfig) (x : Fragment) (s : List Fragment) (d : Data) → IsIn d (data_told (decoded_now Du e x (whole_of v x s)))
+told_whole : (v : Verdict) (e : EndpointConfig) (x : Fragment) (s : List Fragment) (d : UserSection) → IsIn d (data_told (decoded_now Du e x (whole_of v x s)))
     → (v ≡ Whole) × IsIn d (sections_of (decode_message Du x.ep e (message (x ∷ s))))
 told_whole Stored e x s d m = absurd m
 told_whole Whole e x s d m = (refl, m)
@@ -62,7 +62,7 @@ told_whole Repeat e x s d m = absurd m
 told_whole Stray e x s d m = absurd m
 told_whole TooLong e x s d m = absurd m
 
-whole_told : (v : Verdict) (e : EndpointConfig) (x : Fragment) (s : List Fragment) (d : Data) → v ≡ Whole → IsIn d (sections_of (decode_message Du x.ep e (message (x ∷ s))))
+whole_told : (v : Verdict) (e : EndpointConfig) (x : Fragment) (s : List Fragment) (d : UserSection) → v ≡ Whole → IsIn d (sections_of (decode_message Du x.ep e (message (x ∷ s))))
     → IsIn d (data_told (decoded_now Du e x (whole_of v x s)))
 whole_told Whole e x s d h m = m
 whole_told Stored e x s d h m = absurd cc
@@ -114,7 +114,7 @@ module _ (c : Config) (lines : List PlanLine) (source : Source) (antenna : Anten
 
   -- ---- each section is of what a fragment makes whole
 
-  record IsTold (arrivals : List Arrival) (d : Data) : Type 0 where
+  record IsTold (arrivals : List Arrival) (d : UserSection) : Type 0 where
     later : List Fragment
     x : Fragment
     earlier : List Fragment
@@ -123,14 +123,14 @@ module _ (c : Config) (lines : List PlanLine) (source : Source) (antenna : Anten
     at : IsAt c.endpoints x.ep e
     told : IsIn d (data_told (data_now Du hold e x earlier))
 
-  told_in : (arrivals : List Arrival) → AreCame arrivals → (d : Data) → IsIn d (data_sections Du hold (meetings Du c.endpoints arrivals)) → IsTold arrivals d
+  told_in : (arrivals : List Arrival) → AreCame arrivals → (d : UserSection) → IsIn d (data_sections Du hold (meetings Du c.endpoints arrivals)) → IsTold arrivals d
   unfolding meetings data_sections
   told_in [] came d m = absurd m
   told_in (a ∷ earlier) came d m =
       let w = came a (inl refl) in
       let x = fragment_at c lines source h.sendable antenna h.can w.ep w.e w.n w.sub a.at in
       elim (in_either d (data_told (data_now Du hold w.e x (fragments (meetings Du c.endpoints earlier)))) (data_sections Du hold (meetings Du c.endpoints earlier))
-      (subst (λ (xs : List Data). IsIn d xs) (sections_piece c hold a earlier w.e x w.read) m)) [
+      (subst (λ (xs : List UserSection). IsIn d xs) (sections_piece c hold a earlier w.e x w.read) m)) [
         | inl here ↦ record {
           later = [];
           x = x;
@@ -171,7 +171,7 @@ module _ (c : Config) (lines : List PlanLine) (source : Source) (antenna : Anten
       let x = fragment_at c lines source h.sendable antenna h.can w.ep w.e w.n w.sub a.at in
       let before = fragments (meetings Du c.endpoints earlier) in
       sections_piece c hold a earlier w.e x w.read
-      ∙ ap (λ (ds : List Data). data_told (data_now Du hold w.e x before) ++ ds) (said earlier (λ b n. came b (inr n)))
+      ∙ ap (λ (ds : List UserSection). data_told (data_now Du hold w.e x before) ++ ds) (said earlier (λ b n. came b (inr n)))
       ∙ said_now x (standing_before hold x before) w.e (wholes hold before) (verdict_on hold x before) w.at
       ∙ ap (λ (xs : List Fragment). joined (map (said_by c) (wholes hold xs))) (sym (fragments_piece c a earlier w.e x w.read))
 
@@ -179,7 +179,7 @@ module _ (c : Config) (lines : List PlanLine) (source : Source) (antenna : Anten
   sections_of_wholes = said up (came c lines source antenna down up h)
 
   -- and all of that is told
-  told_there : (arrivals : List Arrival) → AreCame arrivals → (later earlier : List Fragment) (x : Fragment) (e : EndpointConfig) (d : Data) → IsAt c.endpoints x.ep e
+  told_there : (arrivals : List Arrival) → AreCame arrivals → (later earlier : List Fragment) (x : Fragment) (e : EndpointConfig) (d : UserSection) → IsAt c.endpoints x.ep e
       → fragments (meetings Du c.endpoints arrivals) ≡ later ++ x ∷ earlier → IsIn d (data_told (data_now Du hold e x earlier)) → IsIn d (data_sections Du hold (meetings Du c.endpoints arrivals))
   unfolding meetings fragments
   told_there [] came later earlier x e d at is m = absurd (not_none later earlier x is)
@@ -188,7 +188,7 @@ module _ (c : Config) (lines : List PlanLine) (source : Source) (antenna : Anten
       let y = fragment_at c lines source h.sendable antenna h.can w.ep w.e w.n w.sub a.at in
       let rest = fragments (meetings Du c.endpoints before) in
       let old = data_sections Du hold (meetings Du c.endpoints before) in
-      subst (λ (xs : List Data). IsIn d xs) (sym (sections_piece c hold a before w.e y w.read))
+      subst (λ (xs : List UserSection). IsIn d xs) (sym (sections_piece c hold a before w.e y w.read))
       (elim (split_of later earlier rest x y (sym (fragments_piece c a before w.e y w.read) ∙ is)) [
         | inl now ↦
             let same = same_endpoint c.endpoints x.ep w.ep e w.e at w.at (ap (λ (z : Fragment). z.ep) (sym now.0)) in
@@ -208,7 +208,7 @@ module _ (c : Config) (lines : List PlanLine) (source : Source) (antenna : Anten
     number : number_of num x ≡ j
     first : ℤ
     last : ℤ
-    sections : List Data
+    sections : List UserSection
     are : AreSections (blocks_of c antenna) first last (onto [] (parts_of is_here.n.message)) sections
     is : (e : EndpointConfig) → e ≡ is_here.e → sections_of (decode_message Du x.ep e (message (x ∷ standing_before hold x earlier))) ≡ sections
     time : InTime c lines source antenna down up h (start_of is_here.n.message.first) first last
@@ -255,7 +255,7 @@ module _ (c : Config) (lines : List PlanLine) (source : Source) (antenna : Anten
   -- ---- on time
 
   -- a section that is on time, of this part
-  pub record IsTimely (x : Part) (d : Data) : Type 0 where
+  pub record IsTimely (x : Part) (d : UserSection) : Type 0 where
     pub ep : ℕ
     pub e : EndpointConfig
     pub facts : PartFacts c.endpoints (planned c.endpoints lines) ep e x
@@ -263,16 +263,16 @@ module _ (c : Config) (lines : List PlanLine) (source : Source) (antenna : Anten
     pub slot_is : data_slot d ≡ x.planned.line.slot
     pub class : data_class Du c.delays d ≡ OnTime
 
-  slot_named : (x : Part) (d : Data) → IsDataFor (blocks_of c antenna) x d → absolute_frame d.head.frame_id d.last.0 ≡ x.planned.line.slot.frame → data_slot d ≡ x.planned.line.slot
+  slot_named : (x : Part) (d : UserSection) → IsDataFor (blocks_of c antenna) x d → absolute_frame d.head.frame_id d.last.0 ≡ x.planned.line.slot.frame → data_slot d ≡ x.planned.line.slot
   slot_named x d carries f = same_slot_fields (data_slot d) x.planned.line.slot f carries.subframe carries.slot
 
-  start_named : (x : Part) (d : Data) → IsDataFor (blocks_of c antenna) x d → data_slot d ≡ x.planned.line.slot → data_start d ≡ start_of x
+  start_named : (x : Part) (d : UserSection) → IsDataFor (blocks_of c antenna) x d → data_slot d ≡ x.planned.line.slot → data_start d ≡ start_of x
   start_named x d carries s =
       ap (λ (e : EndpointConfig). air_of e.numerology (data_slot d) d.section.symbol) carries.endpoint
       ∙ ap₂ (λ (t : Slot) (y : ℕ). air_of x.planned.endpoint.numerology t y) s carries.symbol
 
   -- a section of a part whose message came in time
-  timely_by : (ep : ℕ) (e : EndpointConfig) (x : Part) (d : Data) (first last : ℤ) → PartFacts c.endpoints ps ep e x → IsSectionOf (blocks_of c antenna) first last x d
+  timely_by : (ep : ℕ) (e : EndpointConfig) (x : Part) (d : UserSection) (first last : ℤ) → PartFacts c.endpoints ps ep e x → IsSectionOf (blocks_of c antenna) first last x d
       → InTime c lines source antenna down up h (start_of x) first last → IsTimely x d
   timely_by ep e x d first last facts s time =
       let g = facts.line in
@@ -291,7 +291,7 @@ module _ (c : Config) (lines : List PlanLine) (source : Source) (antenna : Anten
             ∙ (class_up_on_time first last (start_of x) c.delays.ta4).1 time.in_window;
       }
 
-  timely_section : (x : Fragment) (earlier : List Fragment) (s : SaysNow x earlier) (part : Part) (d : Data) → IsIn part (parts_of s.is_here.n.message)
+  timely_section : (x : Fragment) (earlier : List Fragment) (s : SaysNow x earlier) (part : Part) (d : UserSection) → IsIn part (parts_of s.is_here.n.message)
       → IsSectionOf (blocks_of c antenna) s.first s.last part d → IsTimely part d
   timely_section x earlier s part d i section =
       let a = s.is_here in
@@ -301,17 +301,17 @@ module _ (c : Config) (lines : List PlanLine) (source : Source) (antenna : Anten
 
   -- ---- each section, and every part
 
-  abbrev pub ds : List Data
+  abbrev pub ds : List UserSection
   ds = data_sections Du (bounds_of c).hold (meetings Du c.endpoints up)
 
-  pub each_timely : (d : Data) → IsIn d (data_sections Du (bounds_of c).hold (meetings Du c.endpoints up)) → (x : Part) × IsTimely x d
+  pub each_timely : (d : UserSection) → IsIn d (data_sections Du (bounds_of c).hold (meetings Du c.endpoints up)) → (x : Part) × IsTimely x d
   each_timely d m =
       let t = told_in up (came c lines source antenna down up h) d m in
       let v = told_whole (verdict_on hold t.x t.earlier) t.e t.x (standing_before hold t.x t.earlier) d t.told in
       let s = says_now t.later t.earlier t.x t.is v.0 in
       let same = same_endpoint c.endpoints t.x.ep t.x.ep t.e s.is_here.e t.at s.is_here.at refl in
       let parts = parts_of s.is_here.n.message in
-      let got = section_from (blocks_of c antenna) s.first s.last (onto [] parts) s.sections d s.are (subst (λ (xs : List Data). IsIn d xs) (s.is t.e same) v.1) in
+      let got = section_from (blocks_of c antenna) s.first s.last (onto [] parts) s.sections d s.are (subst (λ (xs : List UserSection). IsIn d xs) (s.is t.e same) v.1) in
       let in_message : IsIn got.0 parts = elim (in_onto got.0 [] parts got.1) [ inl none ↦ absurd none | inr i ↦ i ] in
       (got.0, timely_section t.x t.earlier s got.0 d in_message got.2)
 
@@ -319,7 +319,7 @@ module _ (c : Config) (lines : List PlanLine) (source : Source) (antenna : Anten
   some_same m n e = cc
 
   -- each part of a message has its section
-  part_sent : (ep j : ℕ) (a : Is ep j) (x : Part) → IsIn x (parts_of a.n.message) → (d : Data) × IsIn d ds × IsTimely x d
+  part_sent : (ep j : ℕ) (a : Is ep j) (x : Part) → IsIn x (parts_of a.n.message) → (d : UserSection) × IsIn d ds × IsTimely x d
   part_sent ep j a x m =
       let below = below_at c lines h.sendable.config h.sendable.lines_fit h.sendable.valid h.check antenna ep j a in
       let once = whole_once c lines source antenna down up h ep j below in
@@ -336,7 +336,7 @@ module _ (c : Config) (lines : List PlanLine) (source : Source) (antenna : Anten
       let same_n : a.n ≡ s.is_here.n = some_same a.n s.is_here.n (sym got ∙ s.is_here.got) in
       let in_message : IsIn x (parts_of s.is_here.n.message) = subst (λ (n : Numbered Part). IsIn x (parts_of n.message)) same_n m in
       let d = section_for (blocks_of c antenna) s.first s.last (onto [] (parts_of s.is_here.n.message)) s.sections x s.are (onto_right x [] (parts_of s.is_here.n.message) in_message) in
-      let d_told = whole_told (verdict_on hold o.x o.earlier) s.is_here.e o.x (standing_before hold o.x o.earlier) d.0 v (subst (λ (xs : List Data). IsIn d.0 xs) (sym (s.is s.is_here.e refl)) d.1) in (
+      let d_told = whole_told (verdict_on hold o.x o.earlier) s.is_here.e o.x (standing_before hold o.x o.earlier) d.0 v (subst (λ (xs : List UserSection). IsIn d.0 xs) (sym (s.is s.is_here.e refl)) d.1) in (
         d.0,
         told_there up (came c lines source antenna down up h) o.later o.earlier o.x s.is_here.e d.0 s.is_here.at o.is d_told,
         timely_section o.x o.earlier s x d.0 in_message d.2,
@@ -344,14 +344,14 @@ module _ (c : Config) (lines : List PlanLine) (source : Source) (antenna : Anten
 
   -- each uplink line has one in each of its symbols
   pub line_sent : (p : PlannedLine) (symbol : ℕ) → IsIn p (planned c.endpoints lines) → is_uplink p ≡ true → is_from p.line.symbol p.line.count symbol ≡ true
-      → (d : Data) × IsIn d (data_sections Du (bounds_of c).hold (meetings Du c.endpoints up)) × IsTimely (part_in symbol p) d
+      → (d : UserSection) × IsIn d (data_sections Du (bounds_of c).hold (meetings Du c.endpoints up)) × IsTimely (part_in symbol p) d
   line_sent p symbol m uplink within =
       let w = line_part c lines h.sendable.config h.sendable.lines_fit h.sendable.valid p symbol m uplink within in
       let n = w.1 in
       line_by p.ep p.endpoint n.0 w.0 n.1 (part_in symbol p) n.2
     where
       line_by : (ep : ℕ) (e : EndpointConfig) (n : Numbered Part) (at : IsAt c.endpoints ep e) (there : IsIn n (messages_of c ps UpData ep e)) (x : Part) → IsIn x (parts_of n.message)
-          → (d : Data) × IsIn d ds × IsTimely x d
+          → (d : UserSection) × IsIn d ds × IsTimely x d
       line_by ep e n at there x i =
           let a = here_of c lines source antenna down up h ep e n at there in
           part_sent ep n.number a x (subst (λ (k : Numbered Part). IsIn x (parts_of k.message)) (sym (here_message c lines source antenna down up h ep e n at there)) i)

@@ -19,7 +19,7 @@ use Rattle.sent_laws.specs.unit_model.specs.Radiated.{first_clock}
 use Rattle.sent_laws.specs.unit_model.specs.Reports.{accepted_of, commands_of}
 use Rattle.sent_laws.specs.unit_model.specs.Uplink.{jobs, sends_in, symbol_jobs}
 use Rattle.sent_laws.specs.unit_model.specs.declared.allocations.Allocation.{Allocation}
-use Rattle.sent_laws.specs.unit_model.specs.declared.decoded.Command.{Command}
+use Rattle.sent_laws.specs.unit_model.specs.declared.decoded.ControlSection.{ControlSection}
 use Rattle.sent_laws.specs.unit_model.specs.declared.verdicts.CommandVerdict.{CommandVerdict}
 use Rattle.sent_laws.specs.unit_model.specs.declared.verdicts.CommandVerdict.TheVariants.{Accepted, Repeat}
 use Rattle.sent_laws.specs.unit_laws.proofs.SweepLemmas.{sweep-same}
@@ -113,7 +113,7 @@ module _ (c : Config) (lines : List PlanLine) (source : Source) (down : List Arr
   abbrev ps : List PlannedLine
   ps = planned c.endpoints lines
 
-  abbrev cs : List Command
+  abbrev cs : List ControlSection
   cs = commands_of Ru c down
 
   commanded : AreCommandedOnce c ps down
@@ -130,13 +130,13 @@ module _ (c : Config) (lines : List PlanLine) (source : Source) (down : List Arr
   own : (p : PlannedLine) → IsIn p ps → clash (allocation_of p) (allocation_of p) ≡ true
   own p m = own_clash (allocation_of p) (line_proper c.endpoints p (good c lines s.config s.lines_fit s.valid p m))
 
-  line_for : (d : Command) → IsIn d cs → (p : PlannedLine) × IsIn p ps × (named_by d ≡ allocation_of p)
+  line_for : (d : ControlSection) → IsIn d cs → (p : PlannedLine) × IsIn p ps × (named_by d ≡ allocation_of p)
   line_for d m =
       let w = split d cs m in
       let a = commanded.answers w.before w.after d w.is in
       (a.line, a.planned_is, a.names)
 
-  module _ (d : Command) (earlier : List Command) where
+  module _ (d : ControlSection) (earlier : List ControlSection) where
     again : command_verdict c.delays (accepted c.delays earlier) d ≡ Repeat → accepted c.delays (d ∷ earlier) ≡ accepted c.delays earlier
     unfolding accepted
     again e = ap (λ (v : CommandVerdict). with_accepted v (named_by d) (accepted c.delays earlier)) e
@@ -146,19 +146,19 @@ module _ (c : Config) (lines : List PlanLine) (source : Source) (down : List Arr
     new e = ap (λ (v : CommandVerdict). with_accepted v (named_by d) (accepted c.delays earlier)) e
 
     abbrev Names : List Allocation → Type 0
-    Names xs = ((x : Allocation) → IsIn x xs → (y : Command) × IsIn y (d ∷ earlier) × (named_by y ≡ x)) × ((y : Command) → IsIn y (d ∷ earlier) → IsIn (named_by y) xs) × AreDistinct xs
+    Names xs = ((x : Allocation) → IsIn x xs → (y : ControlSection) × IsIn y (d ∷ earlier) × (named_by y ≡ x)) × ((y : ControlSection) → IsIn y (d ∷ earlier) → IsIn (named_by y) xs) × AreDistinct xs
 
     names_repeat : AreNamed c.delays earlier → IsIn (named_by d) (accepted c.delays earlier) → Names (accepted c.delays earlier)
     names_repeat n there = (
       λ x m. (let w = n.from x m in (w.0, inr w.1, w.2)),
-      λ y m. elim m [ inl here ↦ subst (λ (z : Command). IsIn (named_by z) (accepted c.delays earlier)) (sym here) there | inr t ↦ n.all y t ],
+      λ y m. elim m [ inl here ↦ subst (λ (z : ControlSection). IsIn (named_by z) (accepted c.delays earlier)) (sym here) there | inr t ↦ n.all y t ],
       n.distinct,
     )
 
     names_new : AreNamed c.delays earlier → (IsIn (named_by d) (accepted c.delays earlier) → ⊥) → Names (named_by d ∷ accepted c.delays earlier)
     names_new n none = (
       λ x m. elim m [ inl here ↦ (d, inl refl, sym here) | inr t ↦ (let w = n.from x t in (w.0, inr w.1, w.2)) ],
-      λ y m. elim m [ inl here ↦ inl (ap (λ (z : Command). named_by z) here) | inr t ↦ inr (n.all y t) ],
+      λ y m. elim m [ inl here ↦ inl (ap (λ (z : ControlSection). named_by z) here) | inr t ↦ inr (n.all y t) ],
       (none, n.distinct),
     )
 
@@ -166,19 +166,19 @@ module _ (c : Config) (lines : List PlanLine) (source : Source) (down : List Arr
     named_from w = record { from = w.0; all = w.1; distinct = w.2 }
 
   -- what was accepted is what commands named, each once
-  named : (later earlier : List Command) → cs ≡ later ++ earlier → AreNamed c.delays earlier
+  named : (later earlier : List ControlSection) → cs ≡ later ++ earlier → AreNamed c.delays earlier
   unfolding accepted
   named later [] e = record { from = λ a m. absurd m; all = λ d m. absurd m; distinct = tt }
   named later (d ∷ earlier) e =
       let n = named (later ++ d ∷ []) earlier (e ∙ sym (append_assoc later (d ∷ []) earlier)) in
       let a = commanded.answers later earlier d e in
-      let within = λ (x : Command) (m : IsIn x earlier). (let t : IsIn x cs = subst (λ (xs : List Command). IsIn x xs) (sym e) (in_right x later (d ∷ earlier) (inr m)) in t) in
+      let within = λ (x : ControlSection) (m : IsIn x earlier). (let t : IsIn x cs = subst (λ (xs : List ControlSection). IsIn x xs) (sym e) (in_right x later (d ∷ earlier) (inr m)) in t) in
       go later earlier d n a.line a.planned_is a.names a.first a.further within (cases_Bool (list_any (clash (allocation_of a.line)) (accepted c.delays earlier)))
     where
-      go : (later earlier : List Command) (d : Command) → AreNamed c.delays earlier → (p : PlannedLine) → IsIn p ps → named_by d ≡ allocation_of p
-          → (((x : Command) → IsIn x earlier → named_by x ≢ allocation_of p) → command_verdict c.delays (accepted c.delays earlier) d ≡ Accepted)
-          → ((x : Command) → IsIn x earlier → named_by x ≡ allocation_of p → command_verdict c.delays (accepted c.delays earlier) d ≡ Repeat)
-          → ((x : Command) → IsIn x earlier → IsIn x cs)
+      go : (later earlier : List ControlSection) (d : ControlSection) → AreNamed c.delays earlier → (p : PlannedLine) → IsIn p ps → named_by d ≡ allocation_of p
+          → (((x : ControlSection) → IsIn x earlier → named_by x ≢ allocation_of p) → command_verdict c.delays (accepted c.delays earlier) d ≡ Accepted)
+          → ((x : ControlSection) → IsIn x earlier → named_by x ≡ allocation_of p → command_verdict c.delays (accepted c.delays earlier) d ≡ Repeat)
+          → ((x : ControlSection) → IsIn x earlier → IsIn x cs)
           → (list_any (clash (allocation_of p)) (accepted c.delays earlier) ≡ true) ⊎ (list_any (clash (allocation_of p)) (accepted c.delays earlier) ≡ false) → AreNamed c.delays (d ∷ earlier)
       go later earlier d n p m names first further within (inl is) =
           let k = among (clash (allocation_of p)) (accepted c.delays earlier) is in

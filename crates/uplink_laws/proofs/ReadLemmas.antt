@@ -29,7 +29,7 @@ use Rattle.sent_laws.specs.unit_model.specs.Decoding.{Gathering, Part as ReadPar
 use Rattle.sent_laws.specs.unit_model.specs.Lists.{joined, onto}
 use Rattle.sent_laws.specs.unit_model.specs.Meetings.{Meeting, Piece, find_endpoint, fragment_of, fragment_with, id_of, meet, met_in}
 use Rattle.sent_laws.specs.unit_model.specs.Proper.{IsAt}
-use Rattle.sent_laws.specs.unit_model.specs.declared.decoded.Data.{Data}
+use Rattle.sent_laws.specs.unit_model.specs.declared.decoded.UserSection.{UserSection}
 use Rattle.sent_laws.specs.plan_model.specs.Lines.{allocation_of, planned}
 use Rattle.sent_laws.specs.plan_model.specs.Packs.{Message, Numbered, frames_for, parts_of, size_of}
 use Rattle.sent_laws.specs.plan_model.specs.Streams.{Part, frames_in, messages_of, part_fields, section_size}
@@ -98,13 +98,13 @@ in_count first count n h k = omega (arith, h, k)
 -- ---- sections of a message
 
 -- a section carries a part, in a message whose first and last fragments came then
-pub record IsSectionOf (blocks : Blocks) (first last : ℤ) (x : Part) (d : Data) : Type 0 where
+pub record IsSectionOf (blocks : Blocks) (first last : ℤ) (x : Part) (d : UserSection) : Type 0 where
   pub carries : IsDataFor blocks x d
   pub first_is : d.first.0 ≡ first
   pub last_is : d.last.0 ≡ last
 
 -- each section is of a part
-pub section_from : (blocks : Blocks) (first last : ℤ) (xs : List Part) (ds : List Data) (d : Data) → AreSections blocks first last xs ds → IsIn d ds → (x : Part) × IsIn x xs × IsSectionOf blocks first last x d
+pub section_from : (blocks : Blocks) (first last : ℤ) (xs : List Part) (ds : List UserSection) (d : UserSection) → AreSections blocks first last xs ds → IsIn d ds → (x : Part) × IsIn x xs × IsSectionOf blocks first last x d
 section_from blocks first last [] [] d h m = absurd m
 section_from blocks first last [] (y ∷ ds) d h m = absurd h
 section_from blocks first last (x ∷ xs) [] d h m = absurd m
@@ -114,7 +114,7 @@ section_from blocks first last (x ∷ xs) (y ∷ ds) d h m = elim m [
 ]
 
 -- and each part has one
-pub section_for : (blocks : Blocks) (first last : ℤ) (xs : List Part) (ds : List Data) (x : Part) → AreSections blocks first last xs ds → IsIn x xs → (d : Data) × IsIn d ds × IsSectionOf blocks first last x d
+pub section_for : (blocks : Blocks) (first last : ℤ) (xs : List Part) (ds : List UserSection) (x : Part) → AreSections blocks first last xs ds → IsIn x xs → (d : UserSection) × IsIn d ds × IsSectionOf blocks first last x d
 section_for blocks first last [] [] x h m = absurd m
 section_for blocks first last [] (y ∷ ds) x h m = absurd h
 section_for blocks first last (y ∷ xs) [] x h m = absurd h
@@ -124,7 +124,7 @@ section_for blocks first last (y ∷ xs) (d ∷ ds) x h m = elim m [
 ]
 
 -- sections that are read with the same samples at each place, the newest first
-module _ (blocks : Blocks) (first last : ℤ) (as_data : ReadPart → Data) (at_first : (p : ReadPart) → (as_data p).first.0 ≡ first) (at_last : (p : ReadPart) → (as_data p).last.0 ≡ last) where
+module _ (blocks : Blocks) (first last : ℤ) (as_data : ReadPart → UserSection) (at_first : (p : ReadPart) → (as_data p).first.0 ≡ first) (at_last : (p : ReadPart) → (as_data p).last.0 ≡ last) where
   read_sections : (k : Carrier) (symbol : ℕ) (block : ℕ → List Iq) (place : ℕ) (xs : List Part) (ps : List ReadPart) (rest : List Part) → AreSections blocks first last xs (map as_data ps)
       → ((x : Part) → IsIn x rest → IsDataFor blocks x (as_data (read_part k symbol block (data_section x))))
       → AreSections blocks first last (onto xs rest) (map as_data (onto ps (read_parts k symbol (λ i. block) place (map data_section rest))))
@@ -272,7 +272,7 @@ module _ (c : Config) (lines : List PlanLine) (source : Source) (s : IsSendable 
     abbrev read : List ReadPart
     read = read_parts (carrier_of e) m.first.symbol (λ i. block) 0 sections
 
-    abbrev as_data : ℤ → ℤ → ReadPart → Data
+    abbrev as_data : ℤ → ℤ → ReadPart → UserSection
     as_data first last = data_with ep e first last head
 
     read_as_sections : (first last : ℤ) → decode Du ep e first last bytes ≡ Sections (map (as_data first last) (onto [] read))

@@ -20,7 +20,7 @@ use Rattle.sent_laws.specs.unit_model.specs.Meetings.{Arrival, fragments}
 use Rattle.sent_laws.specs.unit_model.specs.Proper.{IsAt}
 use Rattle.sent_laws.specs.unit_model.specs.Reports.{data_of, met, timely_of}
 use Rattle.sent_laws.specs.unit_model.specs.declared.cells.Cell.{Cell}
-use Rattle.sent_laws.specs.unit_model.specs.declared.decoded.Data.{Data}
+use Rattle.sent_laws.specs.unit_model.specs.declared.decoded.UserSection.{UserSection}
 use Rattle.sent_laws.specs.plan_model.specs.Lines.{allocation_of, planned}
 use Rattle.sent_laws.specs.plan_model.specs.Packs.{Numbered, parts_of}
 use Rattle.sent_laws.specs.plan_model.specs.Streams.{Part, frames_in, messages_of, part_in}
@@ -39,7 +39,7 @@ blocks_of c antenna cell = option_map_or (λ e. shrunk e.format.method (block_of
 
 -- a section of data that carries an uplink line in one of its symbols: its header has filterIndex 0 and the frame's low 8 bits, and each
 -- PRB its cell's samples (O-RAN.WG4.CUS, U-plane messages)
-pub record IsDataFor (blocks : Blocks) (x : Part) (d : Data) : Type 0 where
+pub record IsDataFor (blocks : Blocks) (x : Part) (d : UserSection) : Type 0 where
   pub ep : d.ep ≡ x.planned.ep
   pub endpoint : d.endpoint ≡ x.planned.endpoint
   pub down : d.head.down ≡ false
@@ -55,7 +55,7 @@ pub record IsDataFor (blocks : Blocks) (x : Part) (d : Data) : Type 0 where
       → slice_index_or d.blocks (n - first_prb (allocation_of x.planned)) [] ≡ blocks (cell_at x.planned.ep false x.planned.line.slot x.symbol n)
 
 -- one section for each part, in this order, of a message whose first and last fragments came then
-abbrev pub AreSections : Blocks → ℤ → ℤ → List Part → List Data → Type 0
+abbrev pub AreSections : Blocks → ℤ → ℤ → List Part → List UserSection → Type 0
 AreSections blocks first last [] [] = ⊤
 AreSections blocks first last [] (d ∷ ds) = ⊥
 AreSections blocks first last (x ∷ xs) [] = ⊥
@@ -63,25 +63,25 @@ AreSections blocks first last (x ∷ xs) (d ∷ ds) = IsDataFor blocks x d × (d
 
 -- what all the fragments of a message say, joined: its parts, the newest section first
 pub record IsDecoded (c : Config) (antenna : Antenna) (ep : ℕ) (e : EndpointConfig) (n : Numbered Part) (first last : ℤ) : Type 0 where
-  pub sections : List Data
+  pub sections : List UserSection
   pub is : decode Du ep e first last (joined (texts (fragment_text c antenna e n) (frames_in c UpData n.message))) ≡ Sections sections
   pub are : AreSections (blocks_of c antenna) first last (onto [] (parts_of n.message)) sections
 
 -- what a message that became whole says
-abbrev pub said_by : Config → Completed → List Data
+abbrev pub said_by : Config → Completed → List UserSection
 said_by c w = option_map_or (λ e. sections_of (decode_message Du w.by.ep e w.message)) (slice_get c.endpoints w.by.ep) []
 
 -- ---- the law
 
 -- a section came for a line in this symbol
-pub record IsDataSent (blocks : Blocks) (x : Part) (ds : List Data) : Type 0 where
-  pub section : Data
+pub record IsDataSent (blocks : Blocks) (x : Part) (ds : List UserSection) : Type 0 where
+  pub section : UserSection
   pub came : IsIn section ds
   pub carries : IsDataFor blocks x section
   pub slot : data_slot section ≡ x.planned.line.slot
 
 -- a section carries an uplink line's part, and is on time
-pub record IsPlannedData (c : Config) (ps : List PlannedLine) (blocks : Blocks) (d : Data) : Type 0 where
+pub record IsPlannedData (c : Config) (ps : List PlannedLine) (blocks : Blocks) (d : UserSection) : Type 0 where
   pub part : Part
   pub planned_is : IsIn part.planned ps
   pub uplink : is_uplink part.planned ≡ true
@@ -97,7 +97,7 @@ pub record AreDecodedOnce (c : Config) (ps : List PlannedLine) (antenna : Antenn
   pub wholes_say : data_of Du c up ≡ joined (map (said_by c) (wholes (bounds_of c).hold (fragments (met Du c up))))
   pub messages : (ep : ℕ) (e : EndpointConfig) (n : Numbered Part) (first last : ℤ) → IsAt c.endpoints ep e → IsIn n (messages_of c ps UpData ep e)
       → IsDecoded c antenna ep e n first last
-  pub each : (d : Data) → IsIn d (data_of Du c up) → IsPlannedData c ps (blocks_of c antenna) d
+  pub each : (d : UserSection) → IsIn d (data_of Du c up) → IsPlannedData c ps (blocks_of c antenna) d
   pub every : (p : PlannedLine) (symbol : ℕ) → IsIn p ps → is_uplink p ≡ true → is_from p.line.symbol p.line.count symbol ≡ true
       → IsDataSent (blocks_of c antenna) (part_in symbol p) (data_of Du c up)
   pub blocks_are : (cell : Cell) → cell.down ≡ false → block_at (timely_of Du c up) cell ≡ planned_block (blocks_of c antenna) ps cell

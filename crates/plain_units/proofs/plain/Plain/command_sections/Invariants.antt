@@ -4,10 +4,10 @@ use Rattle.ecpri_fragments.specs.Generations.{Fragment}
 use Rattle.fault_counters.specs.declared.kinds.Counter.{Counter}
 use Rattle.unit_model.specs.Lists.{onto}
 use Rattle.plain_units.specs.Plain.{Holds}
-use Rattle.unit_model.specs.declared.decoded.Command.{Command}
-use Rattle.unit_model.specs.declared.decoded.Data.{Data}
+use Rattle.unit_model.specs.declared.decoded.ControlSection.{ControlSection}
+use Rattle.unit_model.specs.declared.decoded.UserSection.{UserSection}
 use Rattle.plain_units.proofs.plain.Plain.command_sections.Given as goal
 
 abbrev pub invariant-loop-c : goal.invariant-loop-c
-invariant-loop-c l = (side : Side) (n : Counter → ℕ) (fs : List Fragment) (cs : List Command) (ds : List Data)
+invariant-loop-c l = (side : Side) (n : Counter → ℕ) (fs : List Fragment) (cs : List ControlSection) (ds : List UserSection)
     → Holds l.fn.self side l.config n fs cs ds → Holds l.self side l.config n fs (onto cs (take l.c-index l.c-items)) ds

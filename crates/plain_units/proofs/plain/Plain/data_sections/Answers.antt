@@ -4,11 +4,11 @@ use Rattle.std.proofs.lemmas.List.{append-nil}
 use Rattle.std.proofs.lemmas.List.Elements.{All-pop}
 use Rattle.plain_units.specs.Plain.{Holds}
 use Rattle.unit_model.specs.Proper.{IsProperData}
-use Rattle.unit_model.specs.declared.decoded.Data.{Data}
+use Rattle.unit_model.specs.declared.decoded.UserSection.{UserSection}
 use Rattle.plain_units.proofs.plain.Plain.data_sections.Goals as goal
 
 -- nothing is taken from the end where nothing is left
-popped_all : (xs : List Data) (n : ℕ) (r : Option Data) → n ≡ length xs → ((d : Data) → r ≡ Some d → ⊥) → (IsSome r ↔ (0 < n)) → xs ≡ []
+popped_all : (xs : List UserSection) (n : ℕ) (r : Option UserSection) → n ≡ length xs → ((d : UserSection) → r ≡ Some d → ⊥) → (IsSome r ↔ (0 < n)) → xs ≡ []
 popped_all [] n r l none some = refl
 popped_all (x ∷ xs) n (Some d) l none some = absurd (none d refl)
 popped_all (x ∷ xs) n None l none some = absurd (false≢true (some.1 (omega arith)))
@@ -34,7 +34,7 @@ data_section-requires-clause-proper c =
 pub loop-d-preserved : goal.loop-d-preserved
 loop-d-preserved c =
     let i = c.loop-d.invariant in
-    let one : List Data = c.in-Some.d ∷ [] in
+    let one : List UserSection = c.in-Some.d ∷ [] in
     record {
       treated = one ++ i.treated;
       are = i.are ∙ ap (λ xs. xs ++ i.treated) c.in-Some.ensures.items ∙ append_assoc c.pop.new.self.items one i.treated;
@@ -47,5 +47,5 @@ returns c n fs cs ds h =
     let i = c.loop-d.invariant in
     let none : c.loop-d.sections.items ≡ [] = popped_all c.loop-d.sections.items (vec_len c.loop-d.sections) c.pop.result (omega (arith, c.loop-d.sections.ok.0)) c.in_default.not-Some c.pop.ensures.variant in
     let all : c.args.sections.items ≡ i.treated = i.are ∙ ap (λ xs. xs ++ i.treated) none in
-    let P : List Data → Type 0 = λ (xs : List Data). Holds c.loop-d.self c.args.side c.args.config.now n fs cs (xs ++ ds) in
+    let P : List UserSection → Type 0 = λ (xs : List UserSection). Holds c.loop-d.self c.args.side c.args.config.now n fs cs (xs ++ ds) in
     subst P (sym all) (i.holds n fs cs ds h)

@@ -3,16 +3,16 @@ use Rattle.ecpri_fragments.specs.Generations.{Fragment}
 use Rattle.fault_counters.specs.declared.kinds.Counter.{Counter}
 use Rattle.plain_units.specs.Plain.{Holds}
 use Rattle.unit_model.specs.Proper.{IsProperData}
-use Rattle.unit_model.specs.declared.decoded.Command.{Command}
-use Rattle.unit_model.specs.declared.decoded.Data.{Data}
+use Rattle.unit_model.specs.declared.decoded.ControlSection.{ControlSection}
+use Rattle.unit_model.specs.declared.decoded.UserSection.{UserSection}
 use Rattle.plain_units.proofs.plain.Plain.data_sections.Given as goal
 
 abbrev pub invariant-loop-d : goal.invariant-loop-d
 invariant-loop-d l = record {
-  treated : List Data;
+  treated : List UserSection;
   are : l.fn.sections.items ≡ l.sections.items ++ treated;
   proper : All (IsProperData l.config.endpoints) l.sections.items;
-  holds : (n : Counter → ℕ) (fs : List Fragment) (cs : List Command) (ds : List Data)
+  holds : (n : Counter → ℕ) (fs : List Fragment) (cs : List ControlSection) (ds : List UserSection)
       → Holds l.fn.self l.side l.config n fs cs ds → Holds l.self l.side l.config n fs cs (treated ++ ds);
 }
 

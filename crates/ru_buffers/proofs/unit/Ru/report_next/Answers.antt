@@ -1,6 +1,6 @@
 use Rattle.std.proofs.Common.{[], refl, sym, append-nil}
 use Rattle.fh_time.proofs.Kept.{offsets_short}
-use Rattle.ru_memory.specs.declared.memory.RuMemory.{RuMemory}
+use Rattle.unit_memory.specs.declared.memory.UnitMemory.{UnitMemory}
 use Rattle.ru_buffers.proofs.LoopLemmas.{first_next, first_of, goes_to, over_later, over_none, stops_at}
 use Rattle.ru_buffers.proofs.OrderLemmas.{rest_after}
 use Rattle.ru_buffers.proofs.unit.Ru.report_next.Goals as goal
@@ -20,7 +20,7 @@ returns-in-Ok-clause-told g c k h all =
     let u = c.args.self.now in
     let s = c.in-Some.first in
     let told = c.in-Ok.ensures in
-    let m : RuMemory = record { endpoints = u.memory.endpoints; cells = c.report-told.new.cells; assembly = u.memory.assembly; counters = c.report-told.new.counters } in
+    let m : UnitMemory = record { endpoints = u.memory.endpoints; cells = c.report-told.new.cells; assembly = u.memory.assembly; counters = c.report-told.new.counters } in
     goes_to g.A.Air.grew u m c.find_symbol-self.result c.args.air.now c.report-told.new.air c.args.to.0 k h s c.find_symbol-self.ensures all (offsets_short s.endpoint.numerology)
     (first_next u.memory.cells u.clock.0 s (first_of u s c.requires.next c.in-Some.is)) (c.if-not-starts_by.ensures.by refl)
     (record { more = []; left = sym (append-nil _); marks = told.marks; counts = told.counts; endpoints = refl; assembly = refl }) told.heard
@@ -40,7 +40,7 @@ pub returns-in-Err-clause-stop : goal.returns-in-Err-clause-stop
 returns-in-Err-clause-stop g c k h all =
     let u = c.args.self.now in
     let s = c.in-Some.first in
-    let m : RuMemory = record { endpoints = u.memory.endpoints; cells = c.report-told.new.cells; assembly = u.memory.assembly; counters = c.report-told.new.counters } in
+    let m : UnitMemory = record { endpoints = u.memory.endpoints; cells = c.report-told.new.cells; assembly = u.memory.assembly; counters = c.report-told.new.counters } in
     stops_at g.A.Air.grew (g.A.Air.stopped c.in-Err.stop) u m c.find_symbol-self.result c.args.air.now c.report-told.new.air c.args.to.0 k h s c.find_symbol-self.ensures all
     (offsets_short s.endpoint.numerology) (first_next u.memory.cells u.clock.0 s (first_of u s c.requires.next c.in-Some.is)) (c.if-not-starts_by.ensures.by refl)
     c.in-Err.ensures.stop refl refl

@@ -6,7 +6,7 @@ use Rattle.window_config.specs.declared.verdicts.Class.{Class}
 use Rattle.window_config.specs.declared.verdicts.Class.TheVariants as class
 use Rattle.unit_model.specs.Commands.{allocation_of, command_class}
 use Rattle.unit_model.specs.declared.allocations.Allocation.{Allocation}
-use Rattle.unit_model.specs.declared.decoded.Command.{Command}
+use Rattle.unit_model.specs.declared.decoded.ControlSection.{ControlSection}
 use Rattle.unit_cells.specs.Cells.{IsOf}
 use Rattle.unit_cells.specs.Steps.{InRing, Takes}
 use Rattle.unit_cells.proofs.CallLemmas.{classed, command_judged, command_keeps, command_marks, delays_are, mismatched}
@@ -15,7 +15,7 @@ use Rattle.unit_cells.proofs.cells.UnitCells.command.Goals as goal
 use Rattle.unit_cells.proofs.cells.UnitCells.command.Goals.{After-take}
 
 -- the class is that by the configuration's delays
-class_is : (c : Config) (d : Delays) (k : Class) (x : Command) → k ≡ command_class d x → d ≡ c.delays → command_class c.delays x ≡ k
+class_is : (c : Config) (d : Delays) (k : Class) (x : ControlSection) → k ≡ command_class d x → d ≡ c.delays → command_class c.delays x ≡ k
 class_is c d k x is same = sym (is ∙ ap (λ (e : Delays). command_class e x) same)
 
 taken_is : (c : After-take) → InRing c.args.command.now.ep (Takes (allocation_of c.args.command.now) c.take.result) c.args.self.now c.take.new.self

@@ -1,9 +1,0 @@
-pub use Rattle.unit_cells.specs.air_source
-pub use Rattle.ecpri_fragments
-pub use Rattle.unit_cells
-pub use Rattle.unit_cells.specs.unit_laws
-pub use Rattle.unit_cells.specs.unit_model
-pub use Rattle.uplane_messages
-pub use Rattle.unit_cells.specs.window_config
-pub mod Holding
-pub mod Sections

@@ -1,3 +1,0 @@
-pub mod Times
-pub mod StepLemmas
-pub mod HoldLemmas

@@ -1,0 +1,235 @@
+-- What the unit holds of arrivals, and what its parts stand for.
+use Rattle.std.proofs.Common.{◌≡◌, ℕ, suc, ℤ, ◌+◌, ◌-◌, ◌^◌, ◌≤ℤ◌, List, [], ◌∷◌, ◌++◌, All, refl, sym, ap, ◌∙◌, subst, arith}
+use Rattle.std.specs.Prelude.{length, min, Option}
+use Rattle.std.proofs.lemmas.List.Elements.{All-nil, All-cons, All-head, All-tail, All-weaker}
+use Rattle.unit_cells.specs.air_source.specs.declared.events.Side.{Side}
+use Rattle.ecpri_frames.specs.Gathering.{whole_messages}
+use Rattle.ecpri_frames.specs.declared.refusals.PduRefusal.{PduRefusal}
+use Rattle.ecpri_frames.specs.Messages.{Message as WholeMessage, pdu}
+use Rattle.fault_counters.specs.declared.kinds.Counter.{Counter}
+use Rattle.fault_counters.specs.declared.kinds.Counter.TheVariants as counter
+use Rattle.fault_counters.specs.Counts.{capped, once, times}
+use Rattle.unit_cells.specs.window_config.specs.declared.config.Config.{Config}
+use Rattle.unit_cells.specs.window_config.specs.declared.delays.Delays.{Delays}
+use Rattle.unit_cells.specs.window_config.specs.declared.endpoints.EndpointConfig.{EndpointConfig}
+use Rattle.unit_cells.specs.window_config.specs.declared.verdicts.Class.{Class}
+use Rattle.unit_cells.specs.window_config.specs.declared.verdicts.Class.TheVariants.{Late, Early, OnTime}
+use Rattle.ecpri_fragments.specs.Generations.{Fragment}
+use Rattle.unit_cells.specs.unit_model.specs.Blocks.{data_class, data_prb_count, data_verdicts, timely, with_timely}
+use Rattle.unit_cells.specs.unit_model.specs.Commands.{command_verdicts}
+use Rattle.unit_cells.specs.unit_model.specs.Counts.{commands_counted, data_counted, frames_counted, messages_counted, piece_counted, refusal_counted}
+use Rattle.unit_cells.specs.unit_model.specs.Decoding.{data_now, data_sections, data_told}
+use Rattle.unit_cells.specs.unit_model.specs.Lists.{onto}
+use Rattle.unit_cells.specs.unit_model.specs.Meetings.{Arrival, Meeting, Ignored, Commands, Piece, commands, fragments, meetings, met_in}
+use Rattle.unit_cells.specs.unit_model.specs.Counts.{counted_of}
+use Rattle.unit_cells.specs.unit_model.specs.Proper.{IsProperData, IsTime}
+use Rattle.unit_cells.specs.unit_model.specs.Reports.{commands_of, data_of, hold_of, met}
+use Rattle.unit_cells.specs.unit_model.specs.Standing.{AreInTime}
+use Rattle.unit_cells.specs.unit_model.specs.declared.decoded.ControlSection.{ControlSection}
+use Rattle.unit_cells.specs.unit_model.specs.declared.decoded.UserSection.{UserSection}
+use Rattle.unit_cells.specs.unit_model.proofs.CountLemmas.{times-append}
+use Rattle.unit_cells.specs.unit_laws.proofs.HistoryLemmas.{data_are_proper}
+use Rattle.unit_cells.specs.Told.{IsTold}
+use Rattle.unit_cells.proofs.TimeLemmas.{keeps_later}
+use Rattle.unit_memory.specs.Memory.{Holds, HoldsLater, arrival}
+use Rattle.unit_memory.specs.Parts.{HoldsParts, Stands}
+use Rattle.unit_memory.specs.declared.memory.UnitMemory.{UnitMemory}
+use Rattle.unit_memory.proofs.StepLemmas.{parts_as}
+use Rattle.unit_memory.proofs.Times.{at_most, fragments_by, same_most}
+
+-- ---- data on time
+
+kept_all : (P : UserSection → Type 0) (k : Class) (x : UserSection) (ds : List UserSection) → P x → All P ds → All P (with_timely k x ds)
+kept_all P OnTime x ds p all = All-cons P x ds p all
+kept_all P Late x ds p all = all
+kept_all P Early x ds p all = all
+
+timely_all : (P : UserSection → Type 0) (side : Side) (d : Delays) (ds : List UserSection) → All P ds → All P (timely side d ds)
+unfolding timely
+timely_all P side d [] all = All-nil P
+timely_all P side d (x ∷ ds) all = kept_all P (data_class side d x) x (timely side d ds) (All-head P x ds all) (timely_all P side d ds (All-tail P x ds all))
+
+blocks_told : (x : UserSection) → length x.blocks ≡ data_prb_count x → IsTold x
+blocks_told x h = omega (arith, h)
+
+-- ---- all that is counted
+
+counted_parts : (frames messages cs ds beside : List Counter) (k : Counter)
+    → times (frames ++ (messages ++ (cs ++ ds)) ++ beside) k ≡ ((times frames k + times messages k) + times beside k) + (times cs k + times ds k)
+counted_parts frames messages cs ds beside k =
+    omega (arith, times-append (frames ++ (messages ++ (cs ++ ds))) beside k, times-append frames (messages ++ (cs ++ ds)) k, times-append messages (cs ++ ds) k, times-append cs ds k)
+
+module _ (side : Side) (c : Config) (clock : ℤ) (m : UnitMemory) (arrivals : List Arrival) (beside : List Counter) where
+  abbrev held : ℤ
+  held = hold_of side c.delays
+
+  abbrev ms : List Meeting
+  ms = met side c arrivals
+
+  numbers : (k : Counter)
+      → times (frames_counted arrivals ++ (messages_counted side held ms ++ (commands_counted (command_verdicts c.delays (commands_of side c arrivals)) ++ data_counted (data_verdicts side c.delays (data_of side c arrivals)))) ++ beside) k
+      ≡ (counted_of side held arrivals ms k + times beside k) + (times (commands_counted (command_verdicts c.delays (commands_of side c arrivals))) k + times (data_counted (data_verdicts side c.delays (data_of side c arrivals))) k)
+  numbers k =
+      counted_parts (frames_counted arrivals) (messages_counted side held ms) (commands_counted (command_verdicts c.delays (commands_of side c arrivals)))
+      (data_counted (data_verdicts side c.delays (data_of side c arrivals))) beside k
+
+  -- the parts of a unit that holds some arrivals
+  pub to_parts : Holds side c clock m arrivals beside → Stands side c clock m arrivals ms beside
+  to_parts h = record {
+    config = h.config;
+    endpoints = h.endpoints;
+    of = h.of;
+    came = fragments_by side c.endpoints clock arrivals h.came h.times;
+    fragments = h.fragments;
+    places = h.places;
+    hold = h.hold;
+    keeps = h.keeps;
+    told =
+        timely_all IsTold side c.delays (data_of side c arrivals)
+        (All-weaker (IsProperData c.endpoints) IsTold (λ x is. blocks_told x is.blocks) (data_of side c arrivals) (data_are_proper side c clock arrivals h.came h.times));
+    counts = λ k. h.counts k ∙ ap capped (numbers k);
+  }
+
+  -- and back
+  pub of_parts : AreInTime clock arrivals → All (λ a. IsTime a.at) arrivals → Stands side c clock m arrivals ms beside → Holds side c clock m arrivals beside
+  of_parts came times h = record {
+    config = h.config;
+    endpoints = h.endpoints;
+    of = h.of;
+    came = came;
+    times = times;
+    fragments = h.fragments;
+    places = h.places;
+    hold = h.hold;
+    counts = λ k. h.counts k ∙ ap capped (sym (numbers k));
+    keeps = h.keeps;
+  }
+
+-- ---- as time passes
+
+in_time_later : (clock to : ℤ) (arrivals : List Arrival) → clock ≤ℤ to → AreInTime clock arrivals → AreInTime to arrivals
+in_time_later clock to [] order h = tt
+in_time_later clock to (a ∷ earlier) order h = (at_most a.at clock to h.0 order, h.1)
+
+pub holds_later : HoldsLater
+holds_later side c clock to m arrivals beside order h = record {
+  config = h.config;
+  endpoints = h.endpoints;
+  of = h.of;
+  came = in_time_later clock to arrivals order h.came;
+  times = h.times;
+  fragments = h.fragments;
+  places = h.places;
+  hold = h.hold;
+  counts = h.counts;
+  keeps = keeps_later side c clock to m.cells _ _ order h.keeps;
+}
+
+-- ---- messages
+
+message_number : (a b m o x : ℕ) → (((a + m) + b) + o) + x ≡ (a + ((m + o) + x)) + b
+message_number a b m o x = omega arith
+
+command_number : (a b m o : ℕ) → ((a + m) + b) + o ≡ (a + (m + o)) + b
+command_number a b m o = omega arith
+
+piece_number : (a b m o : ℕ) (p ms : List Counter) (k : Counter) → times ms k ≡ m → once counter.Messages k ≡ o
+    → (((a + m) + b) + o) + times p k ≡ (a + times (p ++ counter.Messages ∷ [] ++ ms) k) + b
+piece_number a b m o p ms k h g = omega (arith, times-append (p ++ counter.Messages ∷ []) ms k, times-append p (counter.Messages ∷ []) k)
+
+-- so many were counted of these frames and messages, and beside them
+abbrev pub before_message : Side → Config → List Arrival → List Meeting → List Counter → Counter → ℕ
+before_message side c arrivals ms beside k = counted_of side (hold_of side c.delays) arrivals ms k + times beside k
+
+module _ (side : Side) (c : Config) (clock : ℤ) (m : UnitMemory) (arrivals : List Arrival) (ms : List Meeting) (beside : List Counter) where
+  abbrev hold : ℤ
+  hold = hold_of side c.delays
+
+  -- and one message more
+  abbrev pub met_so_far : Counter → ℕ
+  met_so_far k = before_message side c arrivals ms beside k + once counter.Messages k
+
+  pub stands_ignored : (x : Counter) → HoldsParts side c clock m (λ k. met_so_far k + once x k) (fragments ms) (commands ms) (data_sections side hold ms)
+      → Stands side c clock m arrivals (Ignored x ∷ ms) beside
+  unfolding fragments commands data_sections messages_counted
+  stands_ignored x h =
+      parts_as side c clock m _ _ (fragments ms) (commands ms) (data_sections side hold ms)
+      (λ k. message_number (times (frames_counted arrivals) k) (times beside k) (times (messages_counted side hold ms) k) (once counter.Messages k) (once x k)) h
+
+  pub stands_commands : (cs : List ControlSection) → HoldsParts side c clock m met_so_far (fragments ms) (onto (commands ms) cs) (data_sections side hold ms)
+      → Stands side c clock m arrivals (Commands cs ∷ ms) beside
+  unfolding fragments commands data_sections messages_counted
+  stands_commands cs h =
+      parts_as side c clock m _ _ (fragments ms) (onto (commands ms) cs) (data_sections side hold ms)
+      (λ k. command_number (times (frames_counted arrivals) k) (times beside k) (times (messages_counted side hold ms) k) (once counter.Messages k)) h
+
+  pub stands_piece : (e : EndpointConfig) (f : Fragment)
+      → (let told = data_now side hold e f (fragments ms) in
+      HoldsParts side c clock m (λ k. met_so_far k + times (piece_counted hold f (fragments ms) told) k) (f ∷ fragments ms) (commands ms) (data_told told ++ data_sections side hold ms))
+      → Stands side c clock m arrivals (Piece e f ∷ ms) beside
+  unfolding fragments commands data_sections messages_counted
+  stands_piece e f h =
+      let told = data_now side hold e f (fragments ms) in
+      parts_as side c clock m _ _ (f ∷ fragments ms) (commands ms) (data_told told ++ data_sections side hold ms)
+      (λ k. piece_number (times (frames_counted arrivals) k) (times beside k) _ _ (piece_counted hold f (fragments ms) told) (messages_counted side hold ms) k refl refl) h
+
+-- the messages of a frame are treated but for these
+pub record MetSoFar (side : Side) (c : Config) (clock : ℤ) (m : UnitMemory) (arrivals : List Arrival) (all : List Meeting) (left : List WholeMessage) (beside : List Counter) : Type 0 where
+  pub so_far : List Meeting
+  pub stands : Stands side c clock m arrivals so_far beside
+  pub are : onto so_far (met_in side c.endpoints clock left) ≡ all
+
+-- of so many messages, those that are left are not counted, and the count stays at the greatest u32
+pub record CountSoFar (count left all : ℕ) : Type 0 where
+  pub so_far : ℕ
+  pub is : count ≡ min so_far (2 ^ 32 - 1)
+  pub are : so_far + left ≡ all
+
+pub count_none : (left all : ℕ) → left ≡ all → CountSoFar 0 left all
+count_none left all h = record { so_far = 0; is = refl; are = omega (arith, h) }
+
+pub count_one : (count new left all : ℕ) → CountSoFar count (suc left) all → new ≡ min (count + 1) (2 ^ 32 - 1) → CountSoFar new left all
+count_one count new left all h e = record { so_far = h.so_far + 1; is = omega (arith, h.is); are = omega (arith, h.are) }
+
+pub count_all : (count all : ℕ) → CountSoFar count 0 all → count ≡ min all (2 ^ 32 - 1)
+count_all count all h = omega (arith, h.is, h.are)
+
+-- ---- frames
+
+frame_number : (f m b o r : ℕ) (rs rest : List Counter) (k : Counter) → times rest k ≡ f → times rs k ≡ r → once counter.Frames k ≡ o
+    → ((f + m) + b) + times (rs ++ counter.Frames ∷ []) k ≡ (times (rs ++ counter.Frames ∷ rest) k + m) + b
+frame_number f m b o r rs rest k x y z = omega (arith, times-append rs (counter.Frames ∷ []) k, times-append rs (counter.Frames ∷ rest) k)
+
+-- a frame of which no message was treated
+pub stands_frame : (side : Side) (c : Config) (clock : ℤ) (m : UnitMemory) (arrivals : List Arrival) (ms : List Meeting) (beside : List Counter) (a : Arrival)
+    → HoldsParts side c clock m (λ k. (counted_of side (hold_of side c.delays) arrivals ms k + times beside k) + times (refusal_counted (pdu a.frame).refusal ++ counter.Frames ∷ []) k)
+    (fragments ms) (commands ms) (data_sections side (hold_of side c.delays) ms)
+    → Stands side c clock m (a ∷ arrivals) ms beside
+unfolding frames_counted
+stands_frame side c clock m arrivals ms beside a h =
+    parts_as side c clock m _ _ (fragments ms) (commands ms) (data_sections side (hold_of side c.delays) ms)
+    (λ k. frame_number (times (frames_counted arrivals) k) (times (messages_counted side (hold_of side c.delays) ms) k) (times beside k) _ _ (refusal_counted (pdu a.frame).refusal)
+    (frames_counted arrivals) k refl refl refl) h
+
+module _ (side : Side) (c : Config) (at : ℤ) (old new : UnitMemory) (arrivals : List Arrival) (beside : List Counter) (frame : List ℕ) where
+  abbrev met_of : List Meeting
+  met_of = met side c arrivals
+
+  abbrev Parts : UnitMemory → (Counter → ℕ) → Type 0
+  Parts m n = HoldsParts side c at m n (fragments met_of) (commands met_of) (data_sections side (hold_of side c.delays) met_of)
+
+  -- the frame is counted
+  pub begun : (r : Option PduRefusal) → r ≡ (pdu frame).refusal
+      → (Parts old (before_message side c arrivals met_of beside) → Parts new (λ k. before_message side c arrivals met_of beside k + times (refusal_counted r ++ counter.Frames ∷ []) k))
+      → Holds side c at old arrivals beside → Stands side c at new (arrival at frame ∷ arrivals) met_of beside
+  begun r is step h =
+      let P : Option PduRefusal → Type 0 = λ (x : Option PduRefusal). Parts new (λ k. before_message side c arrivals met_of beside k + times (refusal_counted x ++ counter.Frames ∷ []) k) in
+      stands_frame side c at new arrivals met_of beside (arrival at frame) (subst P is (step (to_parts side c at old arrivals beside h)))
+
+  -- and its messages are treated
+  pub arrived : Holds side c at old arrivals beside → Stands side c at new (arrival at frame ∷ arrivals) (onto met_of (met_in side c.endpoints at (whole_messages frame))) beside
+      → IsTime at → Holds side c at new (arrival at frame ∷ arrivals) beside
+  unfolding meetings
+  arrived h stands time =
+      let P : Arrival → Type 0 = λ a. IsTime a.at in
+      of_parts side c at new (arrival at frame ∷ arrivals) beside (same_most at, h.came) (All-cons P (arrival at frame) arrivals time h.times) stands

@@ -1,0 +1,68 @@
+use Rattle.std.proofs.Common.{◌≡◌, List, [], ◌∷◌, length, sym, ap, ◌∙◌, subst}
+use Rattle.unit_cells.specs.air_source.specs.declared.events.Side.{Side}
+use Rattle.ecpri_frames.specs.Gathering.{whole_messages}
+use Rattle.ecpri_frames.specs.Left.{left_of, message_of}
+use Rattle.ecpri_frames.specs.Messages.{Message}
+use Rattle.unit_cells.specs.unit_model.specs.Lists.{onto}
+use Rattle.unit_cells.specs.unit_model.specs.Meetings.{Meeting, meet, met_in}
+use Rattle.unit_cells.specs.unit_model.proofs.OntoLemmas.{onto_none, onto_one}
+use Rattle.unit_memory.specs.Parts.{Stands}
+use Rattle.unit_memory.proofs.HoldLemmas.{CountSoFar, count_all, count_none, count_one}
+use Rattle.unit_memory.proofs.StepLemmas.{marks_more, marks_none}
+use Rattle.unit_memory.proofs.memory.UnitMemory.take_messages.Goals as goal
+
+pub loop-message-init : goal.loop-message-init
+loop-message-init c =
+    let a = c.args in
+    let left : left_of c.into_iter-message-iterator.result ≡ whole_messages a.frame.now = ap left_of c.into_iter-message-iterator.ensures.into_iter_gives ∙ c.messages-message-items.ensures.messages in
+    record {
+      marks = marks_none a.at.0 a.self.now.cells;
+      counted = count_none _ _ (ap length left);
+      holds = λ side conf arrivals ms beside h. record { so_far = ms; stands = h; are = ap (λ xs. onto ms (met_in side conf.endpoints a.at.0 xs)) left };
+    }
+
+pub message-requires-clause-unit : goal.message-requires-clause-unit
+message-requires-clause-unit c =
+    let u = c.requires.unit in
+    let i = c.loop-message.invariant.holds u.side u.config u.arrivals u.meetings u.beside u.stands in
+    record { side = u.side; config = u.config; arrivals = u.arrivals; meetings = i.so_far; beside = u.beside; stands = i.stands }
+
+pub loop-message-preserved : goal.loop-message-preserved
+loop-message-preserved c =
+    let a = c.args in
+    let at = a.at.0 in
+    let i = c.loop-message.invariant in
+    let m = message_of c.in-Some.message in
+    let rest = left_of c.next.new.self in
+    let left : left_of c.loop-message.message-iterator ≡ m ∷ rest = c.in-Some.ensures.steps.0 in
+    let C : List Message → Type 0 = λ (xs : List Message). CountSoFar c.loop-message.count (length xs) (length (whole_messages a.frame.now)) in
+    record {
+      marks = marks_more at a.self.now.cells c.loop-message.self.cells c.message.new.self.cells i.marks c.message.ensures.marks;
+      counted = count_one c.loop-message.count _ (length rest) (length (whole_messages a.frame.now)) (subst C left i.counted) c.saturating_add-count.ensures;
+      holds = λ side conf arrivals ms beside h.
+          let y = i.holds side conf arrivals ms beside h in
+          let es = conf.endpoints in
+          record {
+            so_far = meet side es at m ∷ y.so_far;
+            stands = c.message.ensures.holds side conf arrivals y.so_far beside y.stands;
+            are = sym (onto_one y.so_far (meet side es at m) (met_in side es at rest)) ∙ ap (λ xs. onto y.so_far (met_in side es at xs)) (sym left) ∙ y.are;
+          };
+    }
+
+pub returns-clause-holds : goal.returns-clause-holds
+returns-clause-holds c side conf arrivals ms beside h =
+    let a = c.args in
+    let at = a.at.0 in
+    let es = conf.endpoints in
+    let y = c.loop-message.invariant.holds side conf arrivals ms beside h in
+    let none : left_of c.loop-message.message-iterator ≡ [] = c.in-None.ensures.steps.0.0 in
+    let all : y.so_far ≡ onto ms (met_in side es at (whole_messages a.frame.now)) = sym (onto_none y.so_far) ∙ ap (λ xs. onto y.so_far (met_in side es at xs)) (sym none) ∙ y.are in
+    let P : List Meeting → Type 0 = λ (xs : List Meeting). Stands side conf at c.loop-message.self arrivals xs beside in
+    subst P all y.stands
+
+pub returns-clause-count : goal.returns-clause-count
+returns-clause-count c =
+    let all = length (whole_messages c.args.frame.now) in
+    let none : left_of c.loop-message.message-iterator ≡ [] = c.in-None.ensures.steps.0.0 in
+    let C : List Message → Type 0 = λ (xs : List Message). CountSoFar c.loop-message.count (length xs) all in
+    count_all c.loop-message.count all (subst C none c.loop-message.invariant.counted)

@@ -1,0 +1,62 @@
+// A fragment, and the message that it makes whole.
+ghost use Rattle.std.specs.Prelude.{◌≡◌, ℕ, ◌+◌, ◌<◌, ◌++◌, List};
+ghost use Rattle.unit_cells.specs.air_source.specs.declared.events.Side.{Side as SpecSide};
+ghost use Rattle.bfp_codec.specs.Layout.{HasWidth};
+ghost use Rattle.ecpri_fragments.specs.Assemblies.{StandsFor, Took, endpoints_of as places_of, hold_of};
+ghost use Rattle.ecpri_fragments.specs.Generations.{Fragment, fragment};
+ghost use Rattle.ecpri_fragments.specs.Verdicts.{verdict_on};
+ghost use Rattle.fault_counters.specs.declared.kinds.Counter.{Counter as SpecCounter};
+ghost use Rattle.fault_counters.specs.Counts.{times};
+ghost use Rattle.unit_cells.specs.window_config.specs.declared.config.Config.{Config};
+ghost use Rattle.unit_cells.specs.unit_model.specs.Counts.{decoded_counted};
+ghost use Rattle.unit_cells.specs.unit_model.specs.Decoding.{data_now, data_told};
+ghost use Rattle.unit_cells.specs.unit_model.specs.Proper.{IsAt, IsTime};
+ghost use Rattle.unit_cells.specs.unit_model.specs.declared.allocations.Allocation.{Allocation};
+ghost use Rattle.unit_cells.specs.unit_model.specs.declared.decoded.UserSection.{UserSection};
+ghost use Rattle.unit_cells.specs.Cells.{endpoints_of};
+ghost use Rattle.unit_memory.specs.Holding.{HoldsData};
+ghost use Rattle.unit_memory.specs.Parts.{CameSome, LeavesMarks};
+
+use crate::taking::take_message;
+use ecpri_fragments::{Assembly, SeqField, Taken, Verdict};
+use fault_counters::Counters;
+use fh_time::Ticks;
+use unit_cells::UnitCells;
+use unit_cells::window_config::EndpointConfig;
+
+/// Takes a fragment to an endpoint, and treats the message that it makes whole, if it does.
+pub(crate) fn assemble(
+    assembly: &mut Assembly,
+    cells: &mut UnitCells,
+    counters: &mut Counters,
+    at: Ticks,
+    ep: usize,
+    endpoint: &EndpointConfig,
+    seq: SeqField,
+    bytes: &[u8],
+) -> Verdict
+    requires fragments { CameSome at.0 assembly.old }
+    requires place { ep < places_of assembly.old }
+    requires endpoint { IsAt (endpoints_of cells.old) ep endpoint.now }
+    requires width { HasWidth endpoint.now.format.method }
+    requires time { IsTime at.0 }
+    requires sub { seq.sub < 128 }
+    ensures took { Took assembly.old assembly.new (fragment ep at seq bytes.now) }
+    ensures verdict { (fs : List Fragment) → StandsFor assembly.old fs → result ≡ verdict_on (hold_of assembly.old) (fragment ep at seq bytes.now) fs }
+    ensures holds { (side : SpecSide) (c : Config) (n : SpecCounter → ℕ) (acc : List Allocation) (fs : List Fragment) (ds : List UserSection)
+        → StandsFor assembly.old fs → HoldsData side c at.0 n acc ds cells.old counters.old
+        → let told = data_now side (hold_of assembly.old) endpoint.now (fragment ep at seq bytes.now) fs in
+        HoldsData side c at.0 (λ k. n k + times (decoded_counted told) k) acc (data_told told ++ ds) cells.new counters.new }
+    ensures marks { LeavesMarks at.0 cells.old cells.new }
+{
+    match assembly.take(ep, at, seq, bytes) {
+        Taken::Stored => Verdict::Stored,
+        Taken::Whole(lease) => {
+            take_message(cells, counters, ep, endpoint, &lease);
+            Verdict::Whole
+        }
+        Taken::Repeat => Verdict::Repeat,
+        Taken::Stray => Verdict::Stray,
+        Taken::TooLong => Verdict::TooLong,
+    }
+}

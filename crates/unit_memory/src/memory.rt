@@ -1,0 +1,109 @@
+// What a unit keeps of the frames that came.
+ghost use Rattle.std.specs.Prelude.{◌≡◌, ℤ, ◌-◌, ◌^◌, ◌≤ℤ◌, pos, List, [], ◌∷◌, IfOk, length, min, false};
+ghost use Rattle.unit_cells.specs.air_source.specs.declared.events.Side.{Side as SpecSide};
+ghost use Rattle.ecpri_frames.specs.Gathering.{whole_messages};
+ghost use Rattle.ecpri_frames.specs.Messages.{pdu};
+ghost use Rattle.fault_counters.specs.declared.kinds.Counter.{Counter};
+ghost use Rattle.unit_cells.specs.Cells.{IsOf, cells_done};
+ghost use Rattle.unit_cells.specs.Keeping.{SameMarks};
+ghost use Rattle.unit_cells.specs.unit_model.specs.Lists.{onto};
+ghost use Rattle.unit_cells.specs.unit_model.specs.Meetings.{Arrival, Meeting, met_in};
+ghost use Rattle.unit_cells.specs.unit_model.specs.Proper.{IsTime};
+ghost use Rattle.unit_cells.specs.unit_model.specs.Reports.{hold_of};
+ghost use Rattle.unit_cells.specs.unit_model.specs.declared.cells.Cell.{Cell};
+ghost use Rattle.unit_cells.specs.window_config.specs.Configs.{IsConfig};
+ghost use Rattle.unit_cells.specs.window_config.specs.declared.config.Config.{Config as SpecConfig};
+
+use ecpri_fragments::Assembly;
+use ecpri_fragments::fh_base::NoMemory;
+use ecpri_frames::messages;
+use fault_counters::Counters;
+use fh_time::{Ticks, of_ns};
+use std::alloc::Global;
+use unit_cells::UnitCells;
+use unit_cells::air_source::Side;
+use unit_cells::unit_model::Delivered;
+use unit_cells::window_config::{Config, EndpointConfig};
+
+/// How long a generation of fragments holds at this side.
+fn hold(side: Side, config: &Config) -> Ticks
+    requires { IsConfig config.now }
+    ensures value { result.0 ≡ hold_of side config.now.delays }
+    ensures low { pos 0 ≤ℤ result.0 }
+    ensures high { result.0 ≤ℤ pos (2 ^ 56) }
+{
+    match side {
+        Side::Ru => of_ns(config.delays.hold_dl),
+        Side::Du => of_ns(config.delays.hold_ul),
+    }
+}
+
+/// All memory of a unit: what it keeps of the frames that came. It is taken when it is made; no other call asks for any.
+#[derive(Drop)]
+pub struct UnitMemory {
+    /// The endpoints in the configuration's order.
+    pub endpoints: Vec<EndpointConfig>,
+    /// What is claimed of the cells, and the blocks that came for them.
+    pub cells: UnitCells,
+    /// The fragments of U-plane messages.
+    pub assembly: Assembly,
+    /// What was counted.
+    pub counters: Counters,
+}
+
+impl UnitMemory {
+    ghost use Rattle.unit_memory.specs.Memory.{Holds, HoldsSome, arrival};
+    ghost use Rattle.unit_memory.specs.Parts.{LeavesMarks, Stands, StandsForSome};
+
+    /// Takes all memory for a unit and a configuration. Nothing came.
+    pub fn make(alloc: Global, side: Side, config: &Config) -> Result<UnitMemory, NoMemory>
+        requires { IsConfig config.now }
+        ensures holds { IfOk result (λ m. (clock : ℤ) → Holds side config.now clock m [] []) }
+        ensures unmarked { IfOk result (λ m. (cell : Cell) → cells_done m.cells cell ≡ false) }
+    {
+        let endpoints = Vec::from_slice(alloc, config.endpoints.as_slice())?;
+        let cells = UnitCells::make(alloc, side, config)?;
+        let assembly = Assembly::make(alloc, endpoints.len(), hold(side, config))?;
+        Ok(UnitMemory {
+            endpoints,
+            cells,
+            assembly,
+            counters: Counters::new(),
+        })
+    }
+
+    /// Treats the whole messages of a frame in their order, and tells how many they are, or the greatest `u32` where they are more.
+    fn take_messages(&mut self, at: Ticks, frame: &[u8]) -> u32
+        requires unit { StandsForSome at.0 self.old }
+        requires time { IsTime at.0 }
+        ensures holds { (side : SpecSide) (c : SpecConfig) (arrivals : List Arrival) (ms : List Meeting) (beside : List Counter)
+            → Stands side c at.0 self.old arrivals ms beside
+            → Stands side c at.0 self.new arrivals (onto ms (met_in side c.endpoints at.0 (whole_messages frame.now))) beside }
+        ensures marks { LeavesMarks at.0 self.old.cells self.new.cells }
+        ensures count { result ≡ min (length (whole_messages frame.now)) (2 ^ 32 - 1) }
+    {
+        let mut count = 0u32;
+        for message in messages(frame) {
+            self.message(at, &message);
+            count = count.saturating_add(1);
+        }
+        count
+    }
+
+    /// Treats a frame that arrives at a time, in ticks (eCPRI 2.0; O-RAN.WG4.CUS for the messages; what a unit makes of them is this
+    /// project's profile). Its whole messages are treated in their order; the frame's refusal, if it has one, comes after them.
+    pub fn arrive(&mut self, at: Ticks, frame: &[u8]) -> Delivered
+        requires unit { HoldsSome at.0 self.old }
+        requires time { IsTime at.0 }
+        ensures holds { (side : SpecSide) (c : SpecConfig) (arrivals : List Arrival) (beside : List Counter) → Holds side c at.0 self.old arrivals beside
+            → Holds side c at.0 self.new (arrival at.0 frame.now ∷ arrivals) beside }
+        ensures marks { (side : SpecSide) (c : SpecConfig) → IsOf side c self.old.cells → SameMarks side c at.0 self.old.cells self.new.cells }
+        ensures messages { result.messages ≡ min (length (whole_messages frame.now)) (2 ^ 32 - 1) }
+        ensures refusal { result.refusal ≡ (pdu frame.now).refusal }
+    {
+        let refusal = messages(frame).refusal();
+        self.count_frame(refusal);
+        let messages = self.take_messages(at, frame);
+        Delivered { messages, refusal }
+    }
+}

@@ -1,0 +1,101 @@
+// One section of a message: its verdict, and its blocks, which the walk tells behind its header.
+ghost use Rattle.std.specs.Prelude.{◌≡◌, ◌<◌, []};
+ghost use Rattle.unit_cells.specs.air_source.specs.declared.events.Side.{Side as SpecSide};
+ghost use Rattle.unit_cells.specs.window_config.specs.declared.config.Config.{Config};
+ghost use Rattle.uplane_messages.specs.Left.{left_of};
+ghost use Rattle.unit_cells.specs.unit_model.specs.Blocks.{data_prb_count};
+ghost use Rattle.unit_cells.specs.Cells.{IsOf, endpoints_of};
+ghost use Rattle.unit_cells.specs.Headings.{IsProperHeading, data_of};
+ghost use Rattle.unit_cells.specs.Keeping.{SameMarks};
+ghost use Rattle.unit_memory.specs.Sections.{AreBehind, Came, Filled, FillsSome, IsBehind};
+
+use fault_counters::Counters;
+use unit_cells::unit_model::data_counter;
+use unit_cells::unit_model::uplane_sections::UFeed;
+use unit_cells::{DataHeading, UnitCells};
+use uplane_messages::DataWalk;
+
+/// How many PRBs a section has.
+fn prb_count(heading: &DataHeading) -> u16
+    ensures { result ≡ data_prb_count (data_of heading.now []) }
+{
+    match heading.section.num_prb {
+        0 => heading.endpoint.prbs,
+        n => u16::from(n),
+    }
+}
+
+/// Gives the cell of PRB number `k` of a section its block, which comes next.
+fn fill_one(cells: &mut UnitCells, heading: &DataHeading, k: u16, walk: &mut DataWalk<'_>)
+    requires heading { IsProperHeading cells.old.side (endpoints_of cells.old) heading.now }
+    requires within { k < data_prb_count (data_of heading.now []) }
+    requires behind { IsBehind heading.now k (left_of walk.old) }
+    ensures filled { FillsSome heading.now k 1 (left_of walk.old) (left_of walk.new) cells.old cells.new }
+    ensures marks { (side : SpecSide) (c : Config) → IsOf side c cells.old → SameMarks side c heading.now.last.0 cells.old cells.new }
+    ensures side { cells.new.side ≡ cells.old.side }
+    ensures delays { cells.new.delays ≡ cells.old.delays }
+    ensures endpoints { endpoints_of cells.new ≡ endpoints_of cells.old }
+{
+    match walk.next() {
+        Some(UFeed::Block { samples, .. }) => cells.fill(heading, k, &samples),
+        _ => unreachable!(),
+    }
+}
+
+/// Gives the cells of a section, from its PRB number `k` on, the blocks that come next, and says how many they are: those of a run of
+/// packed PRBs, or that of a PRB which the pieces cut.
+fn fill_next(cells: &mut UnitCells, heading: &DataHeading, k: u16, walk: &mut DataWalk<'_>) -> u16
+    requires heading { IsProperHeading cells.old.side (endpoints_of cells.old) heading.now }
+    requires within { k < data_prb_count (data_of heading.now []) }
+    requires behind { IsBehind heading.now k (left_of walk.old) }
+    ensures filled { FillsSome heading.now k result (left_of walk.old) (left_of walk.new) cells.old cells.new }
+    ensures marks { (side : SpecSide) (c : Config) → IsOf side c cells.old → SameMarks side c heading.now.last.0 cells.old cells.new }
+    ensures side { cells.new.side ≡ cells.old.side }
+    ensures delays { cells.new.delays ≡ cells.old.delays }
+    ensures endpoints { endpoints_of cells.new ≡ endpoints_of cells.old }
+{
+    let run = walk.run();
+    if run.count == 0 {
+        fill_one(cells, heading, k, walk);
+        return 1;
+    }
+    cells.fill_run(heading, k, run.method, run.count, run.packed);
+    run.count
+}
+
+/// Gives the cells of a section its blocks, which the walk tells next.
+fn fill_section(cells: &mut UnitCells, heading: &DataHeading, walk: &mut DataWalk<'_>)
+    requires heading { IsProperHeading cells.old.side (endpoints_of cells.old) heading.now }
+    requires behind { AreBehind heading.now (left_of walk.old) }
+    ensures filled { Filled heading.now (left_of walk.old) (left_of walk.new) cells.old cells.new }
+    ensures marks { (side : SpecSide) (c : Config) → IsOf side c cells.old → SameMarks side c heading.now.last.0 cells.old cells.new }
+    ensures side { cells.new.side ≡ cells.old.side }
+    ensures delays { cells.new.delays ≡ cells.old.delays }
+    ensures endpoints { endpoints_of cells.new ≡ endpoints_of cells.old }
+{
+    let count = prb_count(heading);
+    let mut k = 0;
+    while k < count {
+        k += fill_next(cells, heading, k, walk);
+    }
+}
+
+/// Treats a section: its verdict is counted, and its cells get its blocks, which the walk tells next.
+pub(crate) fn take_section(
+    cells: &mut UnitCells,
+    counters: &mut Counters,
+    heading: &DataHeading,
+    walk: &mut DataWalk<'_>,
+)
+    requires heading { IsProperHeading cells.old.side (endpoints_of cells.old) heading.now }
+    requires behind { AreBehind heading.now (left_of walk.old) }
+    ensures taken { Came heading.now (left_of walk.old) (left_of walk.new) cells.old cells.new counters.old counters.new }
+    ensures marks { (side : SpecSide) (c : Config) → IsOf side c cells.old → SameMarks side c heading.now.last.0 cells.old cells.new }
+    ensures side { cells.new.side ≡ cells.old.side }
+    ensures delays { cells.new.delays ≡ cells.old.delays }
+    ensures endpoints { endpoints_of cells.new ≡ endpoints_of cells.old }
+{
+    let verdict = cells.begin(heading);
+    counters.add(data_counter(verdict));
+    fill_section(cells, heading, walk);
+}

@@ -1,0 +1,160 @@
+// One step of a unit at a clock: something that is counted, a section, a fragment, a message.
+ghost use Rattle.std.specs.Prelude.{◌≡◌, ℕ, ℤ, ◌+◌, ◌<◌, ◌∷◌, [], ◌++◌, List};
+ghost use Rattle.unit_cells.specs.air_source.specs.declared.events.Side.{Side as SpecSide};
+ghost use Rattle.unit_cells.specs.air_source.specs.declared.events.Side.TheVariants.{Ru};
+ghost use Rattle.cplane_sections.specs.Message.{sections_in};
+ghost use Rattle.ecpri_fragments.specs.Generations.{Fragment};
+ghost use Rattle.ecpri_frames.specs.Left.{message_of};
+ghost use Rattle.fault_counters.specs.declared.kinds.Counter.{Counter as SpecCounter};
+ghost use Rattle.fault_counters.specs.Counts.{once, times};
+ghost use Rattle.unit_cells.specs.window_config.specs.declared.config.Config.{Config};
+ghost use Rattle.unit_cells.specs.unit_model.specs.Counts.{piece_counted, refusal_counted};
+ghost use Rattle.unit_cells.specs.unit_model.specs.Decoding.{data_now, data_told};
+ghost use Rattle.unit_cells.specs.unit_model.specs.Lists.{onto};
+ghost use Rattle.unit_cells.specs.unit_model.specs.Meetings.{Arrival, Meeting, commands_with, fragment_with, meet as met_by_definition};
+ghost use Rattle.unit_cells.specs.unit_model.specs.Met.{IsRead};
+ghost use Rattle.unit_cells.specs.unit_model.specs.Proper.{IsAt, IsProperCommand, IsTime};
+ghost use Rattle.unit_cells.specs.unit_model.specs.Reports.{hold_of};
+ghost use Rattle.unit_cells.specs.unit_model.specs.declared.decoded.ControlSection.{ControlSection as SpecControlSection};
+ghost use Rattle.unit_cells.specs.unit_model.specs.declared.decoded.UserSection.{UserSection};
+ghost use Rattle.unit_cells.specs.Cells.{endpoints_of};
+
+use crate::UnitMemory;
+use crate::assembling::assemble;
+use cplane_sections::{CHead, sections};
+use ecpri_fragments::SeqField;
+use ecpri_frames::{PduRefusal, WholeMessage};
+use fault_counters::Counter;
+use fh_time::Ticks;
+use unit_cells::air_source::Side;
+use unit_cells::unit_model::{ControlSection, Met, command_counter, fragment_counter, meet};
+use unit_cells::window_config::EndpointConfig;
+
+impl UnitMemory {
+    ghost use Rattle.unit_memory.specs.Parts.{HoldsParts, HoldsSomeParts, LeavesMarks, Stands, StandsForSome};
+
+    /// Counts what is no section.
+    pub(crate) fn count(&mut self, counter: Counter)
+        ensures holds { (side : SpecSide) (c : Config) (clock : ℤ) (n : SpecCounter → ℕ) (fs : List Fragment) (cs : List SpecControlSection) (ds : List UserSection)
+            → HoldsParts side c clock self.old n fs cs ds → HoldsParts side c clock self.new (λ k. n k + once counter k) fs cs ds }
+        ensures cells { self.new.cells ≡ self.old.cells }
+    {
+        self.counters.add(counter);
+    }
+
+    /// Counts a frame, and its refusal, if it has one.
+    pub(crate) fn count_frame(&mut self, refusal: Option<PduRefusal>)
+        ensures holds { (side : SpecSide) (c : Config) (clock : ℤ) (n : SpecCounter → ℕ) (fs : List Fragment) (cs : List SpecControlSection) (ds : List UserSection)
+            → HoldsParts side c clock self.old n fs cs ds
+            → HoldsParts side c clock self.new (λ k. n k + times (refusal_counted refusal ++ SpecCounter.Frames ∷ []) k) fs cs ds }
+        ensures cells { self.new.cells ≡ self.old.cells }
+    {
+        self.count(Counter::Frames);
+        if refusal.is_some() {
+            self.count(Counter::FramesRefused);
+        }
+    }
+
+    /// Treats a section of a command that comes at the clock.
+    fn section(&mut self, command: &ControlSection)
+        requires side { self.old.cells.side ≡ Ru }
+        requires proper { IsProperCommand (endpoints_of self.old.cells) command.now }
+        ensures holds { (c : Config) (n : SpecCounter → ℕ) (fs : List Fragment) (cs : List SpecControlSection) (ds : List UserSection)
+            → HoldsParts Ru c command.now.at.0 self.old n fs cs ds → HoldsParts Ru c command.now.at.0 self.new n fs (command.now ∷ cs) ds }
+        ensures marks { LeavesMarks command.now.at.0 self.old.cells self.new.cells }
+    {
+        let verdict = self.cells.command(command);
+        self.counters.add(command_counter(verdict));
+    }
+
+    /// Treats the sections of a command message, in their order.
+    fn command(
+        &mut self,
+        at: Ticks,
+        ep: usize,
+        endpoint: &EndpointConfig,
+        head: &CHead,
+        bytes: &[u8],
+    )
+        requires side { self.old.cells.side ≡ Ru }
+        requires read { IsRead endpoint.now head.now bytes.now }
+        requires endpoint { IsAt (endpoints_of self.old.cells) ep endpoint.now }
+        requires time { IsTime at.0 }
+        ensures holds { (c : Config) (n : SpecCounter → ℕ) (fs : List Fragment) (cs : List SpecControlSection) (ds : List UserSection)
+            → HoldsParts Ru c at.0 self.old n fs cs ds
+            → HoldsParts Ru c at.0 self.new n fs (onto cs (commands_with ep endpoint.now at.0 head.now (sections_in head.now bytes.now))) ds }
+        ensures marks { LeavesMarks at.0 self.old.cells self.new.cells }
+    {
+        for section in sections(bytes, head) {
+            let command = ControlSection {
+                ep,
+                endpoint: *endpoint,
+                at,
+                head: *head,
+                section,
+            };
+            self.section(&command);
+        }
+    }
+
+    /// Treats a fragment.
+    fn piece(
+        &mut self,
+        at: Ticks,
+        ep: usize,
+        endpoint: &EndpointConfig,
+        seq: SeqField,
+        bytes: &[u8],
+    )
+        requires unit { HoldsSomeParts at.0 self.old }
+        requires endpoint { IsAt (endpoints_of self.old.cells) ep endpoint.now }
+        requires time { IsTime at.0 }
+        requires sub { seq.sub < 128 }
+        ensures holds { (side : SpecSide) (c : Config) (n : SpecCounter → ℕ) (fs : List Fragment) (cs : List SpecControlSection) (ds : List UserSection)
+            → HoldsParts side c at.0 self.old n fs cs ds
+            → let f = fragment_with ep at.0 seq bytes.now in
+            let hold = hold_of side c.delays in
+            let told = data_now side hold endpoint.now f fs in
+            HoldsParts side c at.0 self.new (λ k. n k + times (piece_counted hold f fs told) k) (f ∷ fs) cs (data_told told ++ ds) }
+        ensures marks { LeavesMarks at.0 self.old.cells self.new.cells }
+    {
+        let verdict = assemble(
+            &mut self.assembly,
+            &mut self.cells,
+            &mut self.counters,
+            at,
+            ep,
+            endpoint,
+            seq,
+            bytes,
+        );
+        self.count(fragment_counter(verdict));
+    }
+
+    /// Treats a whole message.
+    pub(crate) fn message(&mut self, at: Ticks, message: &WholeMessage<'_>)
+        requires unit { StandsForSome at.0 self.old }
+        requires time { IsTime at.0 }
+        ensures holds { (side : SpecSide) (c : Config) (arrivals : List Arrival) (ms : List Meeting) (beside : List SpecCounter)
+            → Stands side c at.0 self.old arrivals ms beside
+            → Stands side c at.0 self.new arrivals (met_by_definition side c.endpoints at.0 (message_of message.now) ∷ ms) beside }
+        ensures marks { LeavesMarks at.0 self.old.cells self.new.cells }
+    {
+        self.count(Counter::Messages);
+        match meet(self.cells.side(), self.endpoints.as_slice(), message) {
+            Met::Ignored(counter) => self.count(counter),
+            Met::Command {
+                ep,
+                endpoint,
+                head,
+                bytes,
+            } => self.command(at, ep, &endpoint, &head, bytes),
+            Met::Piece {
+                ep,
+                endpoint,
+                seq,
+                bytes,
+            } => self.piece(at, ep, &endpoint, seq, bytes),
+        }
+    }
+}
