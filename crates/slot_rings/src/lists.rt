@@ -9,9 +9,9 @@ pub(crate) fn reach<T: Copy + Drop>(list: &mut Vec<T>, len: usize, blank: T)
     ensures exact { vec_len list.old ≤ len → vec_len list.new ≡ len }
     ensures capacity { vec_capacity list.old ≤ vec_capacity list.new }
 {
-    for _k in list.len()..len {
-        let pushed = list.push(blank).is_ok();
-        prove!(pushed);
+    if list.len() < len {
+        let filled = list.resize(len, blank).is_ok();
+        prove!(filled);
     }
 }
 
