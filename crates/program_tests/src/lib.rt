@@ -1,0 +1,14 @@
+//! Tests of what the programs are made of, by the public calls of `pcap_frames`, `pcap_lines`, `pcap_export` and `command_words`, which
+//! are proved without them.
+#![tactic(auto)]
+
+#[cfg(test)]
+mod exports;
+#[cfg(test)]
+mod files;
+#[cfg(test)]
+mod lines;
+#[cfg(test)]
+mod made;
+#[cfg(test)]
+mod words;

@@ -1,0 +1,51 @@
+// What the tests make: bytes and words, a file of one command, and the head of a file that is accepted.
+ghost use Rattle.std.specs.Prelude.{◌≡◌, Ok};
+ghost use Rattle.pcap_frames.specs.Checked.{checked};
+
+use fh_base::{Bytes, List, NoMemory};
+use pcap_frames::{PcapHead, check};
+use std::alloc::Global;
+use std::process::Abort;
+
+/// Lowest byte first, in microseconds: a command behind its addresses, at 1.0005 s.
+pub(crate) const LITTLE: [u8; 78] = [
+    0xd4, 0xc3, 0xb2, 0xa1, 0x02, 0x00, 0x04, 0x00, 0x00, 0x00, 0x00, 0x00, 0x00, 0x00, 0x00, 0x00,
+    0x00, 0x00, 0x04, 0x00, 0x01, 0x00, 0x00, 0x00, 0x01, 0x00, 0x00, 0x00, 0xf4, 0x01, 0x00, 0x00,
+    0x26, 0x00, 0x00, 0x00, 0x26, 0x00, 0x00, 0x00, 0xff, 0xff, 0xff, 0xff, 0xff, 0xff, 0x02, 0x00,
+    0x00, 0x00, 0x00, 0x01, 0xae, 0xfe, 0x10, 0x02, 0x00, 0x14, 0x00, 0x00, 0x00, 0x80, 0x90, 0x01,
+    0x00, 0x00, 0x01, 0x01, 0x00, 0x00, 0x00, 0x10, 0x00, 0x01, 0xff, 0xf1, 0x00, 0x00,
+];
+
+/// The head of a file that is accepted with this start.
+pub(crate) fn head_of(rt: &impl Abort, file: &[u8], start: u64) -> PcapHead
+    ensures { checked file.now start ≡ Ok result }
+{
+    match check(file, start) {
+        Ok(head) => head,
+        Err(refusal) => panic!(rt; "{refusal:?}"),
+    }
+}
+
+/// The bytes of some parts, one behind the other.
+pub(crate) fn bytes_of(alloc: Global, parts: &[&[u8]]) -> Result<Bytes, NoMemory> {
+    let mut bytes = Bytes::new(alloc);
+    for part in parts {
+        bytes.push_all(part)?;
+    }
+    Ok(bytes)
+}
+
+pub(crate) fn words_of(alloc: Global, words: &[&[u8]]) -> Result<List<Bytes>, NoMemory> {
+    let mut list = List::new(alloc);
+    for word in words {
+        list.push(bytes_of(alloc, &[word])?)?;
+    }
+    Ok(list)
+}
+
+/// The number of one call of a sink, which is to fail.
+pub(crate) fn calls(alloc: Global, number: u64) -> Result<List<u64>, NoMemory> {
+    let mut list = List::new(alloc);
+    list.push(number)?;
+    Ok(list)
+}
