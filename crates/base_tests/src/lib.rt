@@ -1,0 +1,20 @@
+//! Tests of bytes, lists, times and tables, by the public calls of `bit_fields`, `fh_base`, `fh_time`, `text_lines`, `owed_bytes`,
+//! `eaxc_map`, `fault_counters` and `window_config`, which are proved without them.
+#![tactic(auto)]
+
+#[cfg(test)]
+mod counters;
+#[cfg(test)]
+mod endpoints;
+#[cfg(test)]
+mod fields;
+#[cfg(test)]
+mod lines;
+#[cfg(test)]
+mod lists;
+#[cfg(test)]
+mod owed;
+#[cfg(test)]
+mod times;
+#[cfg(test)]
+mod windows;
