@@ -1,12 +1,20 @@
-//! Tests of messages by the public calls of `cplane_sections`, `uplane_sections`, `uplane_messages` and `delay_measure`, which are
-//! proved without them.
+//! Tests of messages and of the bytes of sent frames, by the public calls of `ecpri_frames`, `ecpri_fragments`, `cplane_sections`,
+//! `bfp_codec`, `uplane_sections`, `uplane_messages`, `delay_measure` and `frame_bytes`, which are proved without them.
 #![tactic(auto)]
 
+#[cfg(test)]
+mod blocks;
 #[cfg(test)]
 mod commands;
 #[cfg(test)]
 mod data;
 #[cfg(test)]
 mod delays;
+#[cfg(test)]
+mod fragments;
+#[cfg(test)]
+mod frames;
+#[cfg(test)]
+mod sent;
 #[cfg(test)]
 mod walks;
