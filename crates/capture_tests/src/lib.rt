@@ -1,5 +1,7 @@
-//! Tests of how captures are shown, by the public call of `capture_show`, which is proved without them.
+//! Tests of captures, by the public calls of `capture_records` and `capture_show`, which are proved without them.
 #![tactic(auto)]
 
+#[cfg(test)]
+mod records;
 #[cfg(test)]
 mod shown;
