@@ -1,5 +1,4 @@
 pub mod DigitSteps
-pub mod DigitTable
 pub mod HexSteps
 pub mod Cuts
 pub mod WordSteps

@@ -13,9 +13,15 @@ is_hex = list_all (λ b. nat_lt (digit_value b) 16)
 abbrev pub hex_of : ℕ → List ℕ → Option ℕ
 hex_of n w = if (length w == n) && is_hex w then Some (digits_value 16 w) else None
 
--- the value of a digit, and 255 of any other byte
-abbrev pub digit_of : ℕ → ℕ
-digit_of b = if nat_lt (digit_value b) 16 then digit_value b else 255
+-- the value of a digit of either case; of another byte it means nothing
+abbrev pub value_of : ℕ → ℕ
+value_of b = b % 16 + (if nat_lt b 64 then 0 else 9)
+
+-- a byte for each two values, which has the last four bits of each
+abbrev pub joined : List ℕ → List ℕ
+joined [] = []
+joined (a ∷ []) = []
+joined (a ∷ b ∷ rest) = (a % 16 * 16 + b % 16) ∷ joined rest
 
 -- a byte for each two digits
 abbrev pub bytes_of : List ℕ → List ℕ

@@ -1,6 +1,6 @@
 // Numbers and frames that are spelled in hexadecimal digits.
-ghost use Rattle.std.specs.Prelude.{◌≡◌, ◌*◌, ◌/◌, ◌%◌, ◌≤◌, length, take, slice_index, IfOk, IsTrue};
-ghost use Rattle.fh_document.specs.Hex.{is_hex, hex_of, digit_of, bytes_of, decoded, digits_frame, frame_of};
+ghost use Rattle.std.specs.Prelude.{◌≡◌, ◌+◌, ◌*◌, ◌%◌, ◌<◌, ◌++◌, length, take, drop, map, IfOk};
+ghost use Rattle.fh_document.specs.Hex.{is_hex, hex_of, value_of, joined, decoded, digits_frame, frame_of};
 
 use fh_base::{Bytes, NoMemory};
 use std::alloc::Global;
@@ -8,69 +8,89 @@ use std::alloc::Global;
 /// The most bytes of a frame.
 const MOST_BYTES: usize = 9_216;
 
-/// How many bytes of a frame are decoded at once.
-const PIECE: usize = 64;
+/// How many digits are decoded at once.
+const DIGITS: usize = 128;
 
-/// The value of each byte as a hexadecimal digit of either case, and 255 where it is none.
-static DIGITS: [u8; 256] = [
-    255, 255, 255, 255, 255, 255, 255, 255, 255, 255, 255, 255, 255, 255, 255, 255, 255, 255, 255,
-    255, 255, 255, 255, 255, 255, 255, 255, 255, 255, 255, 255, 255, 255, 255, 255, 255, 255, 255,
-    255, 255, 255, 255, 255, 255, 255, 255, 255, 255, 0, 1, 2, 3, 4, 5, 6, 7, 8, 9, 255, 255, 255,
-    255, 255, 255, 255, 10, 11, 12, 13, 14, 15, 255, 255, 255, 255, 255, 255, 255, 255, 255, 255,
-    255, 255, 255, 255, 255, 255, 255, 255, 255, 255, 255, 255, 255, 255, 255, 255, 10, 11, 12, 13,
-    14, 15, 255, 255, 255, 255, 255, 255, 255, 255, 255, 255, 255, 255, 255, 255, 255, 255, 255,
-    255, 255, 255, 255, 255, 255, 255, 255, 255, 255, 255, 255, 255, 255, 255, 255, 255, 255, 255,
-    255, 255, 255, 255, 255, 255, 255, 255, 255, 255, 255, 255, 255, 255, 255, 255, 255, 255, 255,
-    255, 255, 255, 255, 255, 255, 255, 255, 255, 255, 255, 255, 255, 255, 255, 255, 255, 255, 255,
-    255, 255, 255, 255, 255, 255, 255, 255, 255, 255, 255, 255, 255, 255, 255, 255, 255, 255, 255,
-    255, 255, 255, 255, 255, 255, 255, 255, 255, 255, 255, 255, 255, 255, 255, 255, 255, 255, 255,
-    255, 255, 255, 255, 255, 255, 255, 255, 255, 255, 255, 255, 255, 255, 255, 255, 255, 255, 255,
-    255, 255, 255, 255, 255, 255, 255, 255, 255, 255, 255, 255, 255, 255, 255, 255, 255, 255, 255,
-    255, 255, 255,
-];
+/// How many bytes they spell.
+const BYTES: usize = 64;
 
-/// What a table has for a byte.
-#[inline]
-fn entry(table: &[u8; 256], b: u8) -> u8
-    ensures { result ≡ slice_index table.now b }
+/// How many bytes are a row of these.
+const ROW: usize = 8;
+
+/// Whether each byte is a digit. All are looked at, many at once, wherever one is none.
+fn is_hex(word: &[u8]) -> bool
+    ensures { result ≡ is_hex word.now }
 {
-    table[b as usize]
-}
-
-/// The value of a hexadecimal digit, and 255 of any other byte.
-#[inline]
-fn digit_of(b: u8) -> u8
-    ensures { result ≡ digit_of b }
-{
-    entry(&DIGITS, b)
-}
-
-/// Decodes digits, two for a byte, into the front of `bytes`. False where one of them is no digit.
-fn decode(word: &[u8], bytes: &mut [u8]) -> bool
-    requires even { length word.now % 2 ≡ 0 }
-    requires room { length word.now ≤ 2 * length bytes.old }
-    ensures digits { result ≡ is_hex word.now }
-    ensures bytes { IsTrue result → take (length word.now / 2) bytes.new ≡ bytes_of word.now }
-{
-    let mut all: u8 = 0;
-    for i in 0..word.len() / 2 {
-        let high = digit_of(word[2 * i]);
-        let low = digit_of(word[2 * i + 1]);
-        all |= high | low;
-        bytes[i] = high % 16 * 16 + low % 16;
+    let mut all = true;
+    for b in word {
+        all &= b.is_ascii_hexdigit();
     }
-    all < 16
+    all
+}
+
+/// The value of a digit. Of another byte it means nothing.
+#[inline]
+fn value_of(b: u8) -> u8
+    ensures { result ≡ value_of b }
+{
+    b % 16 + if b < 64 { 0 } else { 9 }
+}
+
+/// The values of digits.
+#[inline(always)]
+fn values_of(digits: &[u8; DIGITS]) -> [u8; DIGITS]
+    ensures { result ≡ map value_of digits.now }
+{
+    let mut values = [0; DIGITS];
+    for i in 0..DIGITS {
+        values[i] = value_of(digits[i]);
+    }
+    values
+}
+
+/// Puts a row of the bytes that values join to behind the rows before it.
+#[inline(always)]
+fn put_row(row: usize, values: &[u8; DIGITS], bytes: &mut [u8; BYTES])
+    requires row { ROW * row < BYTES }
+    requires before { joined values.now ≡ take (ROW * row) bytes.old ++ joined (drop (2 * (ROW * row)) values.now) }
+    ensures { joined values.now ≡ take (ROW * (row + 1)) bytes.new ++ joined (drop (2 * (ROW * (row + 1))) values.now) }
+{
+    for i in 0..ROW {
+        let at = ROW * row + i;
+        bytes[at] = values[2 * at] % 16 * 16 + values[2 * at + 1] % 16;
+    }
+}
+
+/// The bytes that values join to, two for a byte.
+#[inline(always)]
+fn joined(values: &[u8; DIGITS]) -> [u8; BYTES]
+    ensures { result ≡ joined values.now }
+{
+    let mut bytes = [0; BYTES];
+    for row in 0..BYTES / ROW {
+        put_row(row, values, &mut bytes);
+    }
+    bytes
+}
+
+/// The bytes that digits spell. Their loops are over arrays, so that each does many at once.
+fn decode(digits: &[u8; DIGITS]) -> [u8; BYTES]
+    ensures { result ≡ joined (map value_of digits.now) }
+{
+    let values = values_of(digits);
+    joined(&values)
 }
 
 /// A number of exactly four hexadecimal digits.
 pub(crate) fn hex4(word: &[u8]) -> Option<u16>
     ensures { result ≡ hex_of 4 word.now }
 {
-    let mut bytes = [0; 2];
-    if word.len() != 4 || !decode(word, &mut bytes) {
+    if word.len() != 4 || !is_hex(word) {
         return None;
     }
-    Some(u16::from_be_bytes(bytes))
+    let high = value_of(word[0]) % 16 * 16 + value_of(word[1]) % 16;
+    let low = value_of(word[2]) % 16 * 16 + value_of(word[3]) % 16;
+    Some(u16::from_be_bytes([high, low]))
 }
 
 /// A number of exactly three hexadecimal digits.
@@ -88,15 +108,17 @@ fn decoded(alloc: Global, word: &[u8]) -> Result<Option<Bytes>, NoMemory>
     requires { length word.now % 2 ≡ 0 }
     ensures { IfOk result (λ o. o ≡ decoded word.now) }
 {
+    if !is_hex(word) {
+        return Ok(None);
+    }
     let mut frame = Bytes::with_capacity(alloc, word.len() / 2)?;
-    let mut piece = [0; PIECE];
+    let mut digits = [0; DIGITS];
     let mut rest = word;
     'pieces: while !rest.is_empty() {
-        let (digits, behind) = rest.split_at(rest.len().min(2 * PIECE));
-        if !decode(digits, &mut piece) {
-            return Ok(None);
-        }
-        frame.push_all(&piece[..digits.len() / 2])?;
+        let (piece, behind) = rest.split_at(rest.len().min(DIGITS));
+        digits[..piece.len()].copy_from_slice(piece);
+        let bytes = decode(&digits);
+        frame.push_all(&bytes[..piece.len() / 2])?;
         rest = behind;
     }
     Ok(Some(frame))
