@@ -137,6 +137,6 @@ impl Intake {
         ensures refusal { result.refusal ≡ (pdu frame.now).refusal }
     {
         self.clock = at;
-        self.memory.arrive(at, frame)
+        self.memory.arrive(at, frame).delivered
     }
 }

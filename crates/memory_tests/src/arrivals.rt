@@ -111,7 +111,7 @@ fn deliver(
     ensures listed { endpoints_of memory.new.cells ≡ config.now.endpoints }
 {
     holds_later();
-    memory.arrive(at, frame)
+    memory.arrive(at, frame).delivered
 }
 
 /// Whether these counters alone stand above 0, at these values.

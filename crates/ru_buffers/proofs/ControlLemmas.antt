@@ -1,5 +1,5 @@
 -- Frames without real-time control data: no command comes by them.
-use Rattle.std.proofs.Common.{◌≡◌, ℕ, ℤ, Bool, true, false, ◌||◌, ◌==◌, not, List, [], ◌∷◌, length, map, refl, sym, ap, ◌∙◌, Option, None, Some}
+use Rattle.std.proofs.Common.{◌≡◌, ℕ, ℤ, Bool, true, false, ◌||◌, ◌==◌, not, List, [], ◌∷◌, length, map, refl, ap, ◌∙◌, Option, None, Some}
 use Rattle.std.specs.Prelude.{nat_lt, if◌then◌else◌}
 use Rattle.std.specs.List.{list_any}
 use Rattle.history_laws.specs.air_source.specs.declared.events.Side.TheVariants.{Ru}
@@ -15,7 +15,7 @@ use Rattle.history_laws.specs.unit_model.specs.Lists.{onto}
 use Rattle.history_laws.specs.unit_model.specs.Meetings.{Arrival, Meeting, Ignored, Piece, commands, control_met, find_endpoint, fragment_of, id_of, meet, meetings, met_by}
 use Rattle.history_laws.specs.unit_model.specs.Reports.{accepted_of}
 use Rattle.history_laws.specs.unit_model.specs.declared.decoded.ControlSection.{ControlSection}
-use Rattle.ru_buffers.specs.Control.{has_control, is_control}
+use Rattle.unit_memory.specs.Control.{has_control, is_control}
 
 first_of : (a b : Bool) → (a || b) ≡ false → (a ≡ false) × (b ≡ false)
 first_of false b h = (refl, h)
@@ -59,13 +59,6 @@ onto_adds es at [] earlier none = refl
 onto_adds es at (m ∷ ms) earlier none =
     let parts = first_of (is_control m) (list_any is_control ms) none in
     onto_adds es at ms (meet Ru es at m ∷ earlier) parts.1 ∙ meets_none es at m parts.0 earlier
-
--- the first of what is left is one, or the rest tells
-pub any_here : (m : Message) (rest all : List Message) → all ≡ m ∷ rest → is_control m ≡ true → list_any is_control all ≡ true
-any_here m rest all e here = ap (list_any is_control) e ∙ ap (λ (b : Bool). b || list_any is_control rest) here
-
-pub any_later : (m : Message) (rest all : List Message) → all ≡ m ∷ rest → is_control m ≡ false → list_any is_control rest ≡ list_any is_control all
-any_later m rest all e other = sym (ap (list_any is_control) e ∙ ap (λ (b : Bool). b || list_any is_control rest) other)
 
 -- so no section of a command is accepted
 pub none_accepted : (c : Config) (a : Arrival) (arrivals : List Arrival) → has_control a.frame ≡ false → accepted_of c (a ∷ arrivals) ≡ accepted_of c arrivals

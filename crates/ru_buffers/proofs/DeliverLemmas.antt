@@ -8,9 +8,9 @@ use Rattle.ru_jobs.specs.Cursors.{Settled}
 use Rattle.ru_jobs.specs.declared.cursor.JobCursor.{JobCursor}
 use Rattle.ru_jobs.specs.declared.cursor.NextJob.{NextJob}
 use Rattle.unit_memory.specs.declared.memory.UnitMemory.{UnitMemory}
+use Rattle.unit_memory.specs.Control.{has_control}
 use Rattle.unit_memory.specs.Memory.{arrival}
 use Rattle.ru_buffers.specs.Calls.{IsNextMessage, IsNextSymbol}
-use Rattle.ru_buffers.specs.Control.{has_control}
 use Rattle.ru_buffers.specs.Units.{IsReady, Keeps}
 use Rattle.ru_buffers.proofs.ControlLemmas.{none_accepted}
 use Rattle.ru_buffers.proofs.NextLemmas.{message_kept, message_settled, symbol_kept}

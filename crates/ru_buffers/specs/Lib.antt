@@ -6,7 +6,6 @@ pub use Rattle.ru_reports.specs.slot_rings
 pub use Rattle.ru_reports.specs.unit_cells
 pub use Rattle.history_laws.specs.unit_laws
 pub use Rattle.history_laws.specs.unit_model
-pub mod Control
 pub mod Units
 pub mod JobLaws
 pub mod Reporting

@@ -6,7 +6,7 @@ ghost use Rattle.history_laws.specs.window_config.specs.Configs.{IsConfig};
 ghost use Rattle.history_laws.specs.window_config.specs.declared.config.Config.{Config as SpecConfig};
 ghost use Rattle.history_laws.specs.unit_model.specs.Standing.{History, arrived, nothing_yet};
 
-use crate::finding::{find_message, find_symbol, has_control};
+use crate::finding::{find_message, find_symbol};
 use fault_counters::Counters;
 use fh_base::NoMemory;
 use fh_time::Ticks;
@@ -92,11 +92,10 @@ impl Ru {
         ensures refusal { result.refusal ≡ (pdu frame.now).refusal }
     {
         self.cursor = self.cursor.settled(self.clock);
-        let delivered = self.memory.arrive(self.clock, frame);
-        let anew = has_control(frame);
-        self.symbol = self.next_symbol(anew);
-        self.message = self.next_job(anew);
-        delivered
+        let arrival = self.memory.arrive(self.clock, frame);
+        self.symbol = self.next_symbol(arrival.control);
+        self.message = self.next_job(arrival.control);
+        arrival.delivered
     }
 
     /// The next symbol of which something is left: looked for anew, or the one that is kept.

@@ -1,6 +1,7 @@
 -- What the unit holds of arrivals, and what its parts stand for.
-use Rattle.std.proofs.Common.{◌≡◌, ℕ, suc, ℤ, ◌+◌, ◌-◌, ◌^◌, ◌≤ℤ◌, List, [], ◌∷◌, ◌++◌, All, refl, sym, ap, ◌∙◌, subst, arith}
+use Rattle.std.proofs.Common.{◌≡◌, ℕ, suc, ℤ, ◌+◌, ◌-◌, ◌^◌, ◌≤ℤ◌, ◌||◌, Bool, true, false, List, [], ◌∷◌, ◌++◌, All, refl, sym, ap, ◌∙◌, subst, arith}
 use Rattle.std.specs.Prelude.{length, min, Option}
+use Rattle.std.specs.List.{list_any}
 use Rattle.std.proofs.lemmas.List.Elements.{All-nil, All-cons, All-head, All-tail, All-weaker}
 use Rattle.unit_cells.specs.air_source.specs.declared.events.Side.{Side}
 use Rattle.ecpri_frames.specs.Gathering.{whole_messages}
@@ -17,11 +18,10 @@ use Rattle.unit_cells.specs.window_config.specs.declared.verdicts.Class.TheVaria
 use Rattle.ecpri_fragments.specs.Generations.{Fragment}
 use Rattle.unit_cells.specs.unit_model.specs.Blocks.{data_class, data_prb_count, data_verdicts, timely, with_timely}
 use Rattle.unit_cells.specs.unit_model.specs.Commands.{command_verdicts}
-use Rattle.unit_cells.specs.unit_model.specs.Counts.{commands_counted, data_counted, frames_counted, messages_counted, piece_counted, refusal_counted}
+use Rattle.unit_cells.specs.unit_model.specs.Counts.{commands_counted, counted_of, data_counted, frames_counted, messages_counted, piece_counted, refusal_counted}
 use Rattle.unit_cells.specs.unit_model.specs.Decoding.{data_now, data_sections, data_told}
 use Rattle.unit_cells.specs.unit_model.specs.Lists.{onto}
 use Rattle.unit_cells.specs.unit_model.specs.Meetings.{Arrival, Meeting, Ignored, Commands, Piece, commands, fragments, meetings, met_in}
-use Rattle.unit_cells.specs.unit_model.specs.Counts.{counted_of}
 use Rattle.unit_cells.specs.unit_model.specs.Proper.{IsProperData, IsTime}
 use Rattle.unit_cells.specs.unit_model.specs.Reports.{commands_of, data_of, hold_of, met}
 use Rattle.unit_cells.specs.unit_model.specs.Standing.{AreInTime}
@@ -31,6 +31,7 @@ use Rattle.unit_cells.specs.unit_model.proofs.CountLemmas.{times-append}
 use Rattle.unit_cells.specs.unit_laws.proofs.HistoryLemmas.{data_are_proper}
 use Rattle.unit_cells.specs.Told.{IsTold}
 use Rattle.unit_cells.proofs.TimeLemmas.{keeps_later}
+use Rattle.unit_memory.specs.Control.{is_control}
 use Rattle.unit_memory.specs.Memory.{Holds, HoldsLater, arrival}
 use Rattle.unit_memory.specs.Parts.{HoldsParts, Stands}
 use Rattle.unit_memory.specs.declared.memory.UnitMemory.{UnitMemory}
@@ -185,14 +186,17 @@ pub record CountSoFar (count left all : ℕ) : Type 0 where
   pub is : count ≡ min so_far (2 ^ 32 - 1)
   pub are : so_far + left ≡ all
 
-pub count_none : (left all : ℕ) → left ≡ all → CountSoFar 0 left all
-count_none left all h = record { so_far = 0; is = refl; are = omega (arith, h) }
+pub count_none : (all : ℕ) → CountSoFar 0 all all
+count_none all = record { so_far = 0; is = refl; are = omega arith }
 
 pub count_one : (count new left all : ℕ) → CountSoFar count (suc left) all → new ≡ min (count + 1) (2 ^ 32 - 1) → CountSoFar new left all
 count_one count new left all h e = record { so_far = h.so_far + 1; is = omega (arith, h.is); are = omega (arith, h.are) }
 
-pub count_all : (count all : ℕ) → CountSoFar count 0 all → count ≡ min all (2 ^ 32 - 1)
-count_all count all h = omega (arith, h.is, h.are)
+-- a message so far had control data, or one that is left has
+pub any_one : (before : Bool) (m : WholeMessage) (rest left : List WholeMessage) → left ≡ m ∷ rest
+    → (before || list_any is_control left) ≡ ((before || is_control m) || list_any is_control rest)
+any_one true m rest left e = refl
+any_one false m rest left e = ap (list_any is_control) e
 
 -- ---- frames
 
@@ -200,7 +204,7 @@ frame_number : (f m b o r : ℕ) (rs rest : List Counter) (k : Counter) → time
     → ((f + m) + b) + times (rs ++ counter.Frames ∷ []) k ≡ (times (rs ++ counter.Frames ∷ rest) k + m) + b
 frame_number f m b o r rs rest k x y z = omega (arith, times-append rs (counter.Frames ∷ []) k, times-append rs (counter.Frames ∷ rest) k)
 
--- a frame of which no message was treated
+-- a frame is counted, whichever of its messages were treated
 pub stands_frame : (side : Side) (c : Config) (clock : ℤ) (m : UnitMemory) (arrivals : List Arrival) (ms : List Meeting) (beside : List Counter) (a : Arrival)
     → HoldsParts side c clock m (λ k. (counted_of side (hold_of side c.delays) arrivals ms k + times beside k) + times (refusal_counted (pdu a.frame).refusal ++ counter.Frames ∷ []) k)
     (fragments ms) (commands ms) (data_sections side (hold_of side c.delays) ms)
@@ -211,25 +215,22 @@ stands_frame side c clock m arrivals ms beside a h =
     (λ k. frame_number (times (frames_counted arrivals) k) (times (messages_counted side (hold_of side c.delays) ms) k) (times beside k) _ _ (refusal_counted (pdu a.frame).refusal)
     (frames_counted arrivals) k refl refl refl) h
 
-module _ (side : Side) (c : Config) (at : ℤ) (old new : UnitMemory) (arrivals : List Arrival) (beside : List Counter) (frame : List ℕ) where
-  abbrev met_of : List Meeting
-  met_of = met side c arrivals
+module _ (side : Side) (c : Config) (at : ℤ) (old mid new : UnitMemory) (arrivals : List Arrival) (beside : List Counter) (frame : List ℕ) where
+  -- what was met once its messages are treated
+  abbrev treated : List Meeting
+  treated = onto (met side c arrivals) (met_in side c.endpoints at (whole_messages frame))
 
   abbrev Parts : UnitMemory → (Counter → ℕ) → Type 0
-  Parts m n = HoldsParts side c at m n (fragments met_of) (commands met_of) (data_sections side (hold_of side c.delays) met_of)
+  Parts m n = HoldsParts side c at m n (fragments treated) (commands treated) (data_sections side (hold_of side c.delays) treated)
 
-  -- the frame is counted
-  pub begun : (r : Option PduRefusal) → r ≡ (pdu frame).refusal
-      → (Parts old (before_message side c arrivals met_of beside) → Parts new (λ k. before_message side c arrivals met_of beside k + times (refusal_counted r ++ counter.Frames ∷ []) k))
-      → Holds side c at old arrivals beside → Stands side c at new (arrival at frame ∷ arrivals) met_of beside
-  begun r is step h =
-      let P : Option PduRefusal → Type 0 = λ (x : Option PduRefusal). Parts new (λ k. before_message side c arrivals met_of beside k + times (refusal_counted x ++ counter.Frames ∷ []) k) in
-      stands_frame side c at new arrivals met_of beside (arrival at frame) (subst P is (step (to_parts side c at old arrivals beside h)))
-
-  -- and its messages are treated
-  pub arrived : Holds side c at old arrivals beside → Stands side c at new (arrival at frame ∷ arrivals) (onto met_of (met_in side c.endpoints at (whole_messages frame))) beside
-      → IsTime at → Holds side c at new (arrival at frame ∷ arrivals) beside
+  -- the frame is counted behind its messages
+  pub arrived : (r : Option PduRefusal) → r ≡ (pdu frame).refusal
+      → (Parts mid (before_message side c arrivals treated beside) → Parts new (λ k. before_message side c arrivals treated beside k + times (refusal_counted r ++ counter.Frames ∷ []) k))
+      → Holds side c at old arrivals beside → Stands side c at mid arrivals treated beside → IsTime at → Holds side c at new (arrival at frame ∷ arrivals) beside
   unfolding meetings
-  arrived h stands time =
-      let P : Arrival → Type 0 = λ a. IsTime a.at in
-      of_parts side c at new (arrival at frame ∷ arrivals) beside (same_most at, h.came) (All-cons P (arrival at frame) arrivals time h.times) stands
+  arrived r is step h stands time =
+      let a = arrival at frame in
+      let IsTimely : Arrival → Type 0 = λ x. IsTime x.at in
+      let Counted : Option PduRefusal → Type 0 = λ (x : Option PduRefusal). Parts new (λ k. before_message side c arrivals treated beside k + times (refusal_counted x ++ counter.Frames ∷ []) k) in
+      of_parts side c at new (a ∷ arrivals) beside (same_most at, h.came) (All-cons IsTimely a arrivals time h.times)
+      (stands_frame side c at new arrivals treated beside a (subst Counted is (step stands)))

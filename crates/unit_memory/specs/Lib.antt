@@ -9,3 +9,4 @@ pub mod Holding
 pub mod Sections
 pub mod Memory
 pub mod Parts
+pub mod Control

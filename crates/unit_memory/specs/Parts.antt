@@ -10,10 +10,9 @@ use Rattle.unit_cells.specs.window_config.specs.Configs.{IsConfig}
 use Rattle.unit_cells.specs.window_config.specs.declared.config.Config.{Config}
 use Rattle.unit_cells.specs.unit_model.specs.Blocks.{data_verdicts, timely}
 use Rattle.unit_cells.specs.unit_model.specs.Commands.{accepted, command_verdicts}
-use Rattle.unit_cells.specs.unit_model.specs.Counts.{commands_counted, data_counted}
+use Rattle.unit_cells.specs.unit_model.specs.Counts.{commands_counted, counted_of, data_counted}
 use Rattle.unit_cells.specs.unit_model.specs.Decoding.{data_sections}
 use Rattle.unit_cells.specs.unit_model.specs.Meetings.{Arrival, Meeting, commands, fragments}
-use Rattle.unit_cells.specs.unit_model.specs.Counts.{counted_of}
 use Rattle.unit_cells.specs.unit_model.specs.Proper.{IsTime}
 use Rattle.unit_cells.specs.unit_model.specs.Reports.{hold_of}
 use Rattle.unit_cells.specs.unit_model.specs.declared.decoded.ControlSection.{ControlSection}

@@ -5,6 +5,8 @@
 //! claims and the blocks of the slots that are live, and every counter. What it holds at a clock, it holds at a later one
 //! ([`holds_later`]).
 //!
+//! A frame is gone over once when it arrives: at the end of the walk its refusal is known, and whether it had commands.
+//!
 //! A U-plane message that became whole is gone over twice where its pieces stand ([`take_message`]): once to its end, since one
 //! that is refused changes no cell, and then section by section, PRB by PRB. Nothing is copied but the samples.
 #![tactic(auto)]
@@ -18,7 +20,7 @@ mod taking;
 
 pub use ecpri_fragments;
 pub use laws::holds_later;
-pub use memory::UnitMemory;
+pub use memory::{Arrived, UnitMemory};
 pub use taking::take_message;
 pub use unit_cells;
 pub use unit_cells::{air_source, unit_model, window_config};

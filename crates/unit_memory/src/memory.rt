@@ -1,7 +1,9 @@
 // What a unit keeps of the frames that came.
 ghost use Rattle.std.specs.Prelude.{◌≡◌, ℤ, ◌-◌, ◌^◌, ◌≤ℤ◌, pos, List, [], ◌∷◌, IfOk, length, min, false};
+ghost use Rattle.std.specs.List.{list_any};
 ghost use Rattle.unit_cells.specs.air_source.specs.declared.events.Side.{Side as SpecSide};
 ghost use Rattle.ecpri_frames.specs.Gathering.{whole_messages};
+ghost use Rattle.ecpri_frames.specs.Left.{frame_of, left_of};
 ghost use Rattle.ecpri_frames.specs.Messages.{pdu};
 ghost use Rattle.fault_counters.specs.declared.kinds.Counter.{Counter};
 ghost use Rattle.unit_cells.specs.Cells.{IsOf, cells_done};
@@ -16,7 +18,7 @@ ghost use Rattle.unit_cells.specs.window_config.specs.declared.config.Config.{Co
 
 use ecpri_fragments::Assembly;
 use ecpri_fragments::fh_base::NoMemory;
-use ecpri_frames::messages;
+use ecpri_frames::{Messages, messages};
 use fault_counters::Counters;
 use fh_time::{Ticks, of_ns};
 use std::alloc::Global;
@@ -24,6 +26,18 @@ use unit_cells::UnitCells;
 use unit_cells::air_source::Side;
 use unit_cells::unit_model::Delivered;
 use unit_cells::window_config::{Config, EndpointConfig};
+
+/// The type of messages of real-time control data (eCPRI 2.0, section 3.2.4.3).
+const CONTROL: u8 = 2;
+
+/// What became of a frame that arrived.
+#[derive(Clone, Copy, Debug, PartialEq, Eq)]
+pub struct Arrived {
+    /// Its messages and its refusal.
+    pub delivered: Delivered,
+    /// Whether one of its whole messages has real-time control data: without them no section of a command is accepted.
+    pub control: bool,
+}
 
 /// How long a generation of fragments holds at this side.
 fn hold(side: Side, config: &Config) -> Ticks
@@ -52,6 +66,7 @@ pub struct UnitMemory {
 }
 
 impl UnitMemory {
+    ghost use Rattle.unit_memory.specs.Control.{has_control, is_control};
     ghost use Rattle.unit_memory.specs.Memory.{Holds, HoldsSome, arrival};
     ghost use Rattle.unit_memory.specs.Parts.{LeavesMarks, Stands, StandsForSome};
 
@@ -72,38 +87,49 @@ impl UnitMemory {
         })
     }
 
-    /// Treats the whole messages of a frame in their order, and tells how many they are, or the greatest `u32` where they are more.
-    fn take_messages(&mut self, at: Ticks, frame: &[u8]) -> u32
+    /// Treats the whole messages that are left of a frame, in their order. Tells how many they are, or the greatest `u32` where they
+    /// are more, and whether one of them has real-time control data.
+    fn take_messages(&mut self, at: Ticks, left: &mut Messages<'_>) -> (u32, bool)
         requires unit { StandsForSome at.0 self.old }
         requires time { IsTime at.0 }
         ensures holds { (side : SpecSide) (c : SpecConfig) (arrivals : List Arrival) (ms : List Meeting) (beside : List Counter)
             → Stands side c at.0 self.old arrivals ms beside
-            → Stands side c at.0 self.new arrivals (onto ms (met_in side c.endpoints at.0 (whole_messages frame.now))) beside }
+            → Stands side c at.0 self.new arrivals (onto ms (met_in side c.endpoints at.0 (left_of left.old))) beside }
         ensures marks { LeavesMarks at.0 self.old.cells self.new.cells }
-        ensures count { result ≡ min (length (whole_messages frame.now)) (2 ^ 32 - 1) }
+        ensures count { result.0 ≡ min (length (left_of left.old)) (2 ^ 32 - 1) }
+        ensures control { result.1 ≡ list_any is_control (left_of left.old) }
+        ensures frame { frame_of left.new ≡ frame_of left.old }
     {
         let mut count = 0u32;
-        for message in messages(frame) {
+        let mut control = false;
+        while let Some(message) = left.next() {
             self.message(at, &message);
             count = count.saturating_add(1);
+            control |= message.head.kind == CONTROL;
         }
-        count
+        (count, control)
     }
 
     /// Treats a frame that arrives at a time, in ticks (eCPRI 2.0; O-RAN.WG4.CUS for the messages; what a unit makes of them is this
-    /// project's profile). Its whole messages are treated in their order; the frame's refusal, if it has one, comes after them.
-    pub fn arrive(&mut self, at: Ticks, frame: &[u8]) -> Delivered
+    /// project's profile). The frame is gone over once: its whole messages are treated in their order; the frame and its refusal, if
+    /// it has one, which stands at the end of the walk, are counted behind them.
+    pub fn arrive(&mut self, at: Ticks, frame: &[u8]) -> Arrived
         requires unit { HoldsSome at.0 self.old }
         requires time { IsTime at.0 }
         ensures holds { (side : SpecSide) (c : SpecConfig) (arrivals : List Arrival) (beside : List Counter) → Holds side c at.0 self.old arrivals beside
             → Holds side c at.0 self.new (arrival at.0 frame.now ∷ arrivals) beside }
         ensures marks { (side : SpecSide) (c : SpecConfig) → IsOf side c self.old.cells → SameMarks side c at.0 self.old.cells self.new.cells }
-        ensures messages { result.messages ≡ min (length (whole_messages frame.now)) (2 ^ 32 - 1) }
-        ensures refusal { result.refusal ≡ (pdu frame.now).refusal }
+        ensures messages { result.delivered.messages ≡ min (length (whole_messages frame.now)) (2 ^ 32 - 1) }
+        ensures refusal { result.delivered.refusal ≡ (pdu frame.now).refusal }
+        ensures control { result.control ≡ has_control frame.now }
     {
-        let refusal = messages(frame).refusal();
+        let mut left = messages(frame);
+        let (messages, control) = self.take_messages(at, &mut left);
+        let refusal = left.refusal();
         self.count_frame(refusal);
-        let messages = self.take_messages(at, frame);
-        Delivered { messages, refusal }
+        Arrived {
+            delivered: Delivered { messages, refusal },
+            control,
+        }
     }
 }

@@ -4,8 +4,8 @@ use Rattle.ru_buffers.proofs.DeliverLemmas.{message_then, symbol_then}
 use Rattle.ru_buffers.proofs.LoopLemmas.{standing, standing_with}
 use Rattle.ru_buffers.proofs.unit.Ru.deliver.Goals as goal
 
-pub arrive-delivered-requires-clause-unit : goal.arrive-delivered-requires-clause-unit
-arrive-delivered-requires-clause-unit c =
+pub arrive-arrival-requires-clause-unit : goal.arrive-arrival-requires-clause-unit
+arrive-arrival-requires-clause-unit c =
     let u = c.args.self.now in
     let some = c.requires.unit in
     holds_some some.config u.memory u.clock.0 u.cursor c.settled-self.result some.history (standing some.config u some.history some.stands) c.requires.given c.settled-self.ensures
@@ -15,16 +15,16 @@ returns-clause-stands c k h all =
     let u = c.args.self.now in
     let own = standing k u h all in
     let next = c.settled-self.result in
-    let m = c.arrive-delivered.new.self in
+    let m = c.arrive-arrival.new.self in
     let frame = c.args.frame.now in
     let then = stands_delivered k u.memory u.clock.0 u.cursor next h own c.requires.given c.settled-self.ensures m frame
-    (c.arrive-delivered.ensures.holds AtRu k) (c.arrive-delivered.ensures.marks AtRu k all.kept.holds.of) in
+    (c.arrive-arrival.ensures.holds AtRu k) (c.arrive-arrival.ensures.marks AtRu k all.kept.holds.of) in
     let was = (settled_is k u.memory u.clock.0 u.cursor next h own c.requires.given c.settled-self.ensures).kept in
     standing_with k _ _ then
-    (symbol_then k u.memory m u.clock.0 next h frame was then.kept c.has_control-anew.result c.has_control-anew.ensures u.symbol c.next_symbol-self.result all.symbol
+    (symbol_then k u.memory m u.clock.0 next h frame was then.kept c.arrive-arrival.result.control c.arrive-arrival.ensures.control u.symbol c.next_symbol-self.result all.symbol
     c.next_symbol-self.ensures.found c.next_symbol-self.ensures.kept)
-    (message_then k u.memory m u.clock.0 u.cursor next h frame all.kept c.requires.given c.settled-self.ensures was then.kept c.has_control-anew.result c.has_control-anew.ensures u.message
+    (message_then k u.memory m u.clock.0 u.cursor next h frame all.kept c.requires.given c.settled-self.ensures was then.kept c.arrive-arrival.result.control c.arrive-arrival.ensures.control u.message
     c.next_job-self.result all.message c.next_job-self.ensures.found c.next_job-self.ensures.kept)
 
 pub returns-clause-given : goal.returns-clause-given
-returns-clause-given c = ready_settled c.arrive-delivered.new.self.cells c.args.self.now.clock.0 c.args.self.now.cursor c.settled-self.result c.settled-self.ensures
+returns-clause-given c = ready_settled c.arrive-arrival.new.self.cells c.args.self.now.clock.0 c.args.self.now.cursor c.settled-self.result c.settled-self.ensures

@@ -1,5 +1,4 @@
 use Rattle.std.proofs.Common.{◌≡◌, ℤ, ◌+◌, ◌∷◌, ◌++◌, refl, ap, ◌∙◌, subst}
-use Rattle.unit_cells.specs.air_source.specs.declared.events.Side.{Side}
 use Rattle.ecpri_fragments.specs.Assemblies.{hold_of as assembly_hold}
 use Rattle.ecpri_fragments.specs.Generations.{fragment}
 use Rattle.ecpri_fragments.specs.Verdicts.{verdict_on}

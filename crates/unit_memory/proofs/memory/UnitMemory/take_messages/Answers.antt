@@ -1,25 +1,22 @@
-use Rattle.std.proofs.Common.{◌≡◌, List, [], ◌∷◌, length, sym, ap, ◌∙◌, subst}
-use Rattle.unit_cells.specs.air_source.specs.declared.events.Side.{Side}
-use Rattle.ecpri_frames.specs.Gathering.{whole_messages}
+use Rattle.std.proofs.Common.{◌≡◌, List, [], ◌∷◌, length, refl, sym, ap, ◌∙◌, subst}
 use Rattle.ecpri_frames.specs.Left.{left_of, message_of}
 use Rattle.ecpri_frames.specs.Messages.{Message}
 use Rattle.unit_cells.specs.unit_model.specs.Lists.{onto}
 use Rattle.unit_cells.specs.unit_model.specs.Meetings.{Meeting, meet, met_in}
 use Rattle.unit_cells.specs.unit_model.proofs.OntoLemmas.{onto_none, onto_one}
 use Rattle.unit_memory.specs.Parts.{Stands}
-use Rattle.unit_memory.proofs.HoldLemmas.{CountSoFar, count_all, count_none, count_one}
+use Rattle.unit_memory.proofs.HoldLemmas.{CountSoFar, any_one, count_none, count_one}
 use Rattle.unit_memory.proofs.StepLemmas.{marks_more, marks_none}
 use Rattle.unit_memory.proofs.memory.UnitMemory.take_messages.Goals as goal
 
 pub loop-message-init : goal.loop-message-init
-loop-message-init c =
-    let a = c.args in
-    let left : left_of c.into_iter-message-iterator.result ≡ whole_messages a.frame.now = ap left_of c.into_iter-message-iterator.ensures.into_iter_gives ∙ c.messages-message-items.ensures.messages in
-    record {
-      marks = marks_none a.at.0 a.self.now.cells;
-      counted = count_none _ _ (ap length left);
-      holds = λ side conf arrivals ms beside h. record { so_far = ms; stands = h; are = ap (λ xs. onto ms (met_in side conf.endpoints a.at.0 xs)) left };
-    }
+loop-message-init c = record {
+  frame = refl;
+  marks = marks_none c.args.at.0 c.args.self.now.cells;
+  counted = count_none _;
+  control = refl;
+  holds = λ side conf arrivals ms beside h. record { so_far = ms; stands = h; are = refl };
+}
 
 pub message-requires-clause-unit : goal.message-requires-clause-unit
 message-requires-clause-unit c =
@@ -33,12 +30,15 @@ loop-message-preserved c =
     let at = a.at.0 in
     let i = c.loop-message.invariant in
     let m = message_of c.in-Some.message in
+    let all = length (left_of a.left.now) in
     let rest = left_of c.next.new.self in
-    let left : left_of c.loop-message.message-iterator ≡ m ∷ rest = c.in-Some.ensures.steps.0 in
-    let C : List Message → Type 0 = λ (xs : List Message). CountSoFar c.loop-message.count (length xs) (length (whole_messages a.frame.now)) in
+    let left : left_of c.loop-message.left ≡ m ∷ rest = c.in-Some.ensures.steps.0 in
+    let C : List Message → Type 0 = λ (xs : List Message). CountSoFar c.loop-message.count (length xs) all in
     record {
+      frame = c.in-Some.ensures.steps.1 ∙ i.frame;
       marks = marks_more at a.self.now.cells c.loop-message.self.cells c.message.new.self.cells i.marks c.message.ensures.marks;
-      counted = count_one c.loop-message.count _ (length rest) (length (whole_messages a.frame.now)) (subst C left i.counted) c.saturating_add-count.ensures;
+      counted = count_one c.loop-message.count _ (length rest) all (subst C left i.counted) c.saturating_add-count.ensures;
+      control = sym (any_one c.loop-message.control m rest (left_of c.loop-message.left) left) ∙ i.control;
       holds = λ side conf arrivals ms beside h.
           let y = i.holds side conf arrivals ms beside h in
           let es = conf.endpoints in
@@ -55,14 +55,7 @@ returns-clause-holds c side conf arrivals ms beside h =
     let at = a.at.0 in
     let es = conf.endpoints in
     let y = c.loop-message.invariant.holds side conf arrivals ms beside h in
-    let none : left_of c.loop-message.message-iterator ≡ [] = c.in-None.ensures.steps.0.0 in
-    let all : y.so_far ≡ onto ms (met_in side es at (whole_messages a.frame.now)) = sym (onto_none y.so_far) ∙ ap (λ xs. onto y.so_far (met_in side es at xs)) (sym none) ∙ y.are in
+    let none : left_of c.loop-message.left ≡ [] = c.in_default.ensures.steps.0.0 in
+    let all : y.so_far ≡ onto ms (met_in side es at (left_of a.left.now)) = sym (onto_none y.so_far) ∙ ap (λ xs. onto y.so_far (met_in side es at xs)) (sym none) ∙ y.are in
     let P : List Meeting → Type 0 = λ (xs : List Meeting). Stands side conf at c.loop-message.self arrivals xs beside in
     subst P all y.stands
-
-pub returns-clause-count : goal.returns-clause-count
-returns-clause-count c =
-    let all = length (whole_messages c.args.frame.now) in
-    let none : left_of c.loop-message.message-iterator ≡ [] = c.in-None.ensures.steps.0.0 in
-    let C : List Message → Type 0 = λ (xs : List Message). CountSoFar c.loop-message.count (length xs) all in
-    count_all c.loop-message.count all (subst C none c.loop-message.invariant.counted)

@@ -1,19 +1,25 @@
-use Rattle.std.proofs.Common.{List, length}
+use Rattle.std.proofs.Common.{◌≡◌, ◌||◌, List, length}
+use Rattle.std.specs.List.{list_any}
 use Rattle.unit_cells.specs.air_source.specs.declared.events.Side.{Side}
-use Rattle.ecpri_frames.specs.Gathering.{whole_messages}
-use Rattle.ecpri_frames.specs.Left.{left_of}
+use Rattle.ecpri_frames.specs.Left.{frame_of, left_of}
 use Rattle.fault_counters.specs.declared.kinds.Counter.{Counter}
 use Rattle.unit_cells.specs.window_config.specs.declared.config.Config.{Config}
 use Rattle.unit_cells.specs.unit_model.specs.Lists.{onto}
 use Rattle.unit_cells.specs.unit_model.specs.Meetings.{Arrival, Meeting, met_in}
+use Rattle.unit_memory.specs.Control.{is_control}
 use Rattle.unit_memory.specs.Parts.{LeavesMarks, Stands}
 use Rattle.unit_memory.proofs.HoldLemmas.{CountSoFar, MetSoFar}
 use Rattle.unit_memory.proofs.memory.UnitMemory.take_messages.Given as goal
 
 abbrev pub invariant-loop-message : goal.invariant-loop-message
 invariant-loop-message l = record {
+  frame : frame_of l.left ≡ frame_of l.fn.left;
   marks : LeavesMarks l.at.0 l.fn.self.cells l.self.cells;
-  counted : CountSoFar l.count (length (left_of l.message-iterator)) (length (whole_messages l.fn.frame));
+  counted : CountSoFar l.count (length (left_of l.left)) (length (left_of l.fn.left));
+  control : (l.control || list_any is_control (left_of l.left)) ≡ list_any is_control (left_of l.fn.left);
   holds : (side : Side) (c : Config) (arrivals : List Arrival) (ms : List Meeting) (beside : List Counter) → Stands side c l.at.0 l.fn.self arrivals ms beside
-      → MetSoFar side c l.at.0 l.self arrivals (onto ms (met_in side c.endpoints l.at.0 (whole_messages l.fn.frame))) (left_of l.message-iterator) beside;
+      → MetSoFar side c l.at.0 l.self arrivals (onto ms (met_in side c.endpoints l.at.0 (left_of l.fn.left))) (left_of l.left) beside;
 }
+
+abbrev pub decreases-loop-message : goal.decreases-loop-message
+decreases-loop-message l = length (left_of l.left)
