@@ -47,7 +47,7 @@ use Rattle.ru_buffers.specs.unit_memory.specs.Memory.{Holds}
 use Rattle.ru_buffers.specs.unit_memory.specs.declared.memory.UnitMemory.{UnitMemory}
 use Rattle.ru_buffers.specs.unit_memory.proofs.HoldLemmas.{holds_later}
 use Rattle.ru_buffers.specs.ru_reports.specs.Symbols.{CountsTold}
-use Rattle.ru_buffers.specs.ru_reports.proofs.OrderLemmas.{not_before_itself}
+use Rattle.ru_buffers.specs.symbol_search.proofs.OrderLemmas.{not_before_itself}
 use Rattle.ru_buffers.proofs.MarkedLemmas.{counts_more}
 use Rattle.ru_buffers.proofs.OrderLemmas.{same_place}
 use Rattle.schedule_laws.proofs.ClashLemmas.{slot_own}

@@ -38,7 +38,7 @@ use Rattle.ru_buffers.specs.history_laws.specs.First.{IsSweptIn, told_of}
 use Rattle.ru_buffers.specs.history_laws.proofs.BeforeLemmas.{start_before}
 use Rattle.ru_buffers.specs.history_laws.proofs.FirstLemmas.{first_is_first, nothing_is_nothing}
 use Rattle.ru_buffers.specs.unit_memory.specs.declared.memory.UnitMemory.{UnitMemory}
-use Rattle.ru_buffers.specs.ru_reports.proofs.OrderLemmas.{not_before_itself}
+use Rattle.ru_buffers.specs.symbol_search.proofs.OrderLemmas.{not_before_itself}
 use Rattle.du_intake.specs.Cursors.{CellCursor, HasLeft, IsNamed, cell_in, is_behind}
 use Rattle.du_intake.specs.Symbols.{start_in, symbol_at}
 use Rattle.du_intake.specs.Units.{Keeps, Stands, cursor_by, due_of}

@@ -11,7 +11,7 @@ use Rattle.schedule_laws.specs.unit_model.specs.Claims.{claim_at}
 use Rattle.schedule_laws.specs.unit_model.specs.Order.{comes_before}
 use Rattle.schedule_laws.specs.unit_model.specs.declared.allocations.Allocation.{Allocation}
 use Rattle.schedule_laws.specs.unit_model.specs.declared.symbol_start.SymbolStart.{SymbolStart}
-use Rattle.ru_buffers.specs.ru_reports.proofs.OrderLemmas.{not_before_earlier, not_before_itself}
+use Rattle.ru_buffers.specs.symbol_search.proofs.OrderLemmas.{not_before_earlier, not_before_itself}
 use Rattle.du_intake.specs.Cursors.{IsNamed, IsNextSymbol, IsNotBefore, cell_in, is_after}
 use Rattle.du_intake.specs.Lines.{claim_in_slot, lines_at}
 use Rattle.du_intake.specs.Rows.{IsRowOf, claim_of_mark, no_mark}

@@ -13,7 +13,7 @@ use Rattle.schedule_laws.specs.unit_model.specs.declared.cells.Cell.{Cell}
 use Rattle.schedule_laws.specs.unit_model.specs.declared.symbol_start.SymbolStart.{SymbolStart}
 use Rattle.schedule_laws.specs.unit_laws.proofs.FarLemmas.{endpoints_equal}
 use Rattle.ru_buffers.specs.unit_memory.specs.declared.memory.UnitMemory.{UnitMemory}
-use Rattle.ru_buffers.specs.ru_reports.proofs.OrderLemmas.{comes_trans}
+use Rattle.ru_buffers.specs.symbol_search.proofs.OrderLemmas.{comes_trans}
 use Rattle.ru_buffers.proofs.OrderLemmas.{same_place}
 use Rattle.du_intake.specs.Cursors.{CellCursor, IsNextSymbol, IsNotBefore, is_behind}
 use Rattle.du_intake.specs.Units.{Keeps}

@@ -10,7 +10,7 @@ use Rattle.schedule_laws.specs.unit_model.specs.Proper.{IsAt, IsSlot}
 use Rattle.schedule_laws.specs.unit_model.specs.Starts.{start_at}
 use Rattle.schedule_laws.specs.unit_model.specs.declared.allocations.Allocation.{Allocation}
 use Rattle.schedule_laws.specs.unit_model.specs.declared.symbol_start.SymbolStart.{SymbolStart}
-use Rattle.ru_buffers.specs.ru_reports.specs.Symbols.{IsFound}
+use Rattle.ru_buffers.specs.symbol_search.specs.Symbols.{IsFound}
 
 -- the times of an allocation's symbols can be told
 pub record IsTimed (a : Allocation) : Type 0 where

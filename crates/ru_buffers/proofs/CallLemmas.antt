@@ -28,7 +28,8 @@ use Rattle.ru_reports.specs.unit_cells.specs.Cells.{CellsValue, cells_done, cell
 use Rattle.ru_reports.specs.unit_cells.specs.Keeping.{SameKnown, SameMarks}
 use Rattle.ru_jobs.specs.Cursors.{GivenOne, IsFirstJob, Settled, jobs_left}
 use Rattle.ru_jobs.specs.declared.cursor.NextJob.{NextJob}
-use Rattle.ru_reports.specs.Symbols.{IsSymbol, is_left}
+use Rattle.ru_reports.specs.Symbols.{is_left}
+use Rattle.ru_reports.specs.symbol_search.specs.Symbols.{IsSymbol}
 use Rattle.ru_jobs.specs.declared.cursor.JobCursor.{JobCursor}
 use Rattle.unit_memory.specs.Memory.{Holds, HoldsSome, arrival}
 use Rattle.unit_memory.specs.declared.memory.UnitMemory.{UnitMemory}

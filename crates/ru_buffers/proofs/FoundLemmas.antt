@@ -1,24 +1,37 @@
 -- What searches find.
-use Rattle.std.proofs.Common.{◌≡◌, ℤ, ◌<ℤ◌, true, false, [], Option, None, Some}
-use Rattle.std.specs.Prelude.{IfNone, IfSome}
-use Rattle.history_laws.specs.unit_model.specs.Order.{comes_before}
+use Rattle.std.proofs.Common.{◌≡◌, ℤ, ◌<ℤ◌, true, [], arith, Option, None, Some}
+use Rattle.std.specs.Prelude.{IfNone, IfSome, int_lt}
+use Rattle.std.proofs.lemmas.Bool.{and_from, and_parts}
+use Rattle.std.proofs.lemmas.Int.{ints}
 use Rattle.history_laws.specs.unit_model.specs.declared.symbol_start.SymbolStart.{SymbolStart}
 use Rattle.ru_reports.specs.unit_cells.specs.Cells.{CellsValue, cells_uplink}
-use Rattle.ru_jobs.specs.Cursors.{IsFirstJob, IsJobSymbol, left_in}
+use Rattle.ru_jobs.specs.Cursors.{IsFirstJob, left_in}
 use Rattle.ru_jobs.specs.declared.cursor.JobCursor.{JobCursor}
 use Rattle.ru_jobs.specs.declared.cursor.NextJob.{NextJob}
-use Rattle.ru_reports.specs.Symbols.{IsFound, IsSymbol, is_left}
+use Rattle.ru_reports.specs.Symbols.{is_left_after}
+use Rattle.ru_reports.specs.symbol_search.specs.Symbols.{IsFirst, IsFitting, IsSymbol}
 use Rattle.ru_buffers.specs.Calls.{IsNextMessage, IsNextSymbol}
+use Rattle.ru_buffers.specs.Reporting.{IsLeftAfter}
 
-pub found_symbol : (v : CellsValue) (clock : ℤ) (o : Option SymbolStart) → IfSome o (λ s. IsSymbol v s) → IfSome o (λ s. clock <ℤ s.start.0) → IfSome o (λ s. is_left v s ≡ true)
-    → ((x : SymbolStart) → IsSymbol v x → clock <ℤ x.start.0 → is_left v x ≡ true → IsFound (λ f. comes_before x f ≡ false) o) → IsNextSymbol v clock o
-found_symbol v clock None symbol after left first = λ x is. first x is.symbol is.after is.left
-found_symbol v clock (Some s) symbol after left first = record {
-  was = record { symbol = symbol; after = after; left = left };
-  first = λ x is. first x is.symbol is.after is.left;
-}
+later : (t s : ℤ) → int_lt t s ≡ true → t <ℤ s
+later t s e = grind (arith, ints)
+
+is_later : (t s : ℤ) → t <ℤ s → int_lt t s ≡ true
+is_later t s h = grind (arith, ints)
+
+fitting : (v : CellsValue) (clock : ℤ) (x : SymbolStart) → IsLeftAfter v clock x → IsFitting v (is_left_after v clock) x
+fitting v clock x is = record { is = is.symbol; fit = and_from (int_lt clock x.start.0) _ (is_later clock x.start.0 is.after) is.left }
+
+left_after : (v : CellsValue) (clock : ℤ) (x : SymbolStart) → IsFitting v (is_left_after v clock) x → IsLeftAfter v clock x
+left_after v clock x w =
+    let parts = and_parts (int_lt clock x.start.0) _ w.fit in
+    record { symbol = w.is; after = later clock x.start.0 parts.0; left = parts.1 }
+
+pub found_symbol : (v : CellsValue) (clock : ℤ) (o : Option SymbolStart) → IsFirst v (is_left_after v clock) o → IsNextSymbol v clock o
+found_symbol v clock None none = λ x is. let fit = (fitting v clock x is).fit in let unfit = none x is.symbol in absurd (cc)
+found_symbol v clock (Some s) f = record { was = left_after v clock s f.was; first = λ x is. f.first x (fitting v clock x is) }
 
 pub found_message : (v : CellsValue) (cursor : JobCursor) (o : Option NextJob) → IfSome o (λ n. IsFirstJob v cursor n)
-    → IfNone o ((s : SymbolStart) → IsJobSymbol v s → left_in (cells_uplink v) cursor s ≡ []) → IsNextMessage v cursor o
+    → IfNone o ((s : SymbolStart) → IsSymbol v s → left_in (cells_uplink v) cursor s ≡ []) → IsNextMessage v cursor o
 found_message v cursor None found none = none
 found_message v cursor (Some n) found none = found

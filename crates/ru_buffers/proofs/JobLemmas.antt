@@ -28,7 +28,8 @@ use Rattle.ru_reports.specs.unit_cells.specs.Cells.{cells_done, cells_uplink, en
 use Rattle.ru_reports.specs.unit_cells.proofs.ListLemmas.{some_equal}
 use Rattle.ru_reports.specs.unit_cells.proofs.TimeLemmas.{far_not_marked, live_at}
 use Rattle.history_laws.specs.First.{FirstIsFirst, IsSweptIn, told_of}
-use Rattle.ru_jobs.specs.Cursors.{GivenOne, IsFirstJob, IsJobSymbol, Settled, jobs_left}
+use Rattle.ru_jobs.specs.Cursors.{GivenOne, IsFirstJob, Settled, jobs_left}
+use Rattle.ru_reports.specs.symbol_search.specs.Symbols.{IsSymbol}
 use Rattle.ru_jobs.specs.declared.cursor.JobCursor.{JobCursor}
 use Rattle.ru_jobs.specs.declared.cursor.NextJob.{NextJob}
 use Rattle.unit_memory.specs.Memory.{Holds, HoldsLater}
@@ -124,7 +125,7 @@ settle holds_later c m clock cursor next h keeps ready settled = settle_is c m c
 -- ---- no message is left
 
 module _ (c : Config) (m : UnitMemory) (clock : ℤ) (cursor : JobCursor) (h : History) (keeps : Keeps c m clock cursor h) where
-  quiet : (end : ℤ) (s : SymbolStart) → (IsJobSymbol m.cells s → told_of (jobs_left (cells_uplink m.cells) cursor) s ≡ [])
+  quiet : (end : ℤ) (s : SymbolStart) → (IsSymbol m.cells s → told_of (jobs_left (cells_uplink m.cells) cursor) s ≡ [])
       → IsSweptIn (endpoints_of m.cells) first_clock end s → told_of (jobs_left (cells_uplink m.cells) cursor) s ≡ []
   quiet = left_of_swept c m h.arrivals (cells_counted h.reported) cursor.since.0 h.clock keeps.holds keeps.since keeps.time cursor
 

@@ -48,7 +48,8 @@ use Rattle.ru_jobs.specs.Cursors.{jobs_left, left_jobs}
 use Rattle.ru_jobs.specs.declared.cursor.JobCursor.{JobCursor}
 use Rattle.unit_memory.specs.Memory.{Holds}
 use Rattle.unit_memory.specs.declared.memory.UnitMemory.{UnitMemory}
-use Rattle.ru_reports.specs.Symbols.{CountsTold, IsSymbol, cell_in, is_told, left_at, left_told}
+use Rattle.ru_reports.specs.Symbols.{CountsTold, cell_in, is_told, left_at, left_told}
+use Rattle.ru_reports.specs.symbol_search.specs.Symbols.{IsSymbol}
 use Rattle.ru_buffers.specs.Reporting.{IsMarked, KeepsMarked, due_of}
 use Rattle.ru_buffers.specs.Units.{Keeps, left_up_to}
 use Rattle.ru_buffers.proofs.SymbolLemmas.{cell_is, claims_are, live_lookup, live_or_ahead, since_clock}

@@ -33,7 +33,8 @@ use Rattle.ru_reports.specs.unit_cells.specs.Keeping.{SameKnown}
 use Rattle.ru_reports.specs.unit_cells.proofs.KeepLemmas.{at_config, at_rings}
 use Rattle.ru_reports.specs.unit_cells.proofs.TimeLemmas.{far_no_place, live_at, no_uplink_from}
 use Rattle.history_laws.proofs.FirstLemmas.{first_is_first}
-use Rattle.ru_jobs.specs.Cursors.{IsFirstJob, IsJobSymbol, Settled, at_start, jobs_left, left_in, left_jobs}
+use Rattle.ru_jobs.specs.Cursors.{IsFirstJob, Settled, at_start, jobs_left, left_in, left_jobs}
+use Rattle.ru_reports.specs.symbol_search.specs.Symbols.{IsSymbol}
 use Rattle.ru_jobs.specs.declared.cursor.JobCursor.{JobCursor}
 use Rattle.ru_jobs.specs.declared.cursor.NextJob.{NextJob}
 use Rattle.unit_memory.specs.declared.memory.UnitMemory.{UnitMemory}
@@ -142,7 +143,7 @@ module _ (c : Config) (old new : UnitMemory) (clock : ℤ) (cursor : JobCursor) 
   none_is_some : (n : UplinkJob) (rest xs : List UplinkJob) → xs ≡ n ∷ rest → xs ≡ [] → ⊥
   none_is_some n rest xs e f = cc
 
-  nothing_at : (s : SymbolStart) → IsJobSymbol new.cells s → (IsJobSymbol old.cells s → left_in (cells_uplink old.cells) cursor s ≡ [])
+  nothing_at : (s : SymbolStart) → IsSymbol new.cells s → (IsSymbol old.cells s → left_in (cells_uplink old.cells) cursor s ≡ [])
       → left_in (cells_uplink new.cells) cursor s ≡ []
   nothing_at s symbol none =
       let here : IsAt c.endpoints s.ep s.endpoint = at_config Ru c new.cells s.ep s.endpoint is.holds.of symbol.at in
@@ -181,7 +182,7 @@ module _ (c : Config) (old new : UnitMemory) (clock : ℤ) (cursor : JobCursor) 
         ∙ ap (uplink_of n.symbol.ep n.symbol.slot) accepted
         ∙ sym (was.holds.keeps.uplink n.symbol.endpoint n.symbol.ep n.symbol.slot job_at first.symbol.slot_is live)
 
-    job_symbol : IsJobSymbol new.cells n.symbol
+    job_symbol : IsSymbol new.cells n.symbol
     job_symbol = elim (cases_Bool (cells_has new.cells n.symbol.ep n.symbol.slot)) [
       | inl has ↦ record {
         at = at_rings Ru c new.cells n.symbol.ep n.symbol.endpoint is.holds.of job_at;
@@ -259,7 +260,7 @@ same_in old new cursor known s =
     ap (λ (us : List Allocation). left_jobs cursor (start_at s.ep s.endpoint s.slot s.symbol) (symbol_jobs us s.ep s.endpoint s.slot s.symbol)) (known.uplink s.ep s.slot)
 
 symbol_of : (a b : CellsValue) → endpoints_of a ≡ endpoints_of b → ((s : SymbolStart) → cells_has a s.ep s.slot ≡ cells_has b s.ep s.slot) → (s : SymbolStart)
-    → IsJobSymbol a s → IsJobSymbol b s
+    → IsSymbol a s → IsSymbol b s
 symbol_of a b endpoints places s is = record {
   at = subst (λ (es : List EndpointConfig). IsAt es s.ep s.endpoint) endpoints is.at;
   slot_is = is.slot_is;

@@ -24,7 +24,8 @@ use Rattle.history_laws.specs.unit_laws.proofs.FarLemmas.{endpoints_equal}
 use Rattle.ru_reports.specs.slot_rings.specs.Places.{is_due}
 use Rattle.ru_reports.specs.slot_rings.proofs.PlaceLemmas.{slot_own}
 use Rattle.ru_reports.specs.unit_cells.specs.Cells.{CellsValue, IsCellIn, cells_block, cells_claim, cells_done, endpoints_of}
-use Rattle.ru_reports.specs.Symbols.{IsSymbol, MarksTold, cell_in, is_left, is_told, left_at, left_told}
+use Rattle.ru_reports.specs.Symbols.{MarksTold, cell_in, is_left, is_told, left_at, left_told}
+use Rattle.ru_reports.specs.symbol_search.specs.Symbols.{IsSymbol}
 use Rattle.ru_buffers.specs.Reporting.{IsFirstLeft, IsLeftAfter}
 use Rattle.ru_buffers.proofs.MarkedLemmas.{used_same}
 

@@ -20,7 +20,8 @@ use Rattle.ru_reports.specs.unit_cells.specs.Cells.{cells_has, cells_uplink, end
 use Rattle.ru_reports.specs.unit_cells.proofs.KeepLemmas.{at_config}
 use Rattle.ru_reports.specs.unit_cells.proofs.TimeLemmas.{no_uplink_from}
 use Rattle.history_laws.specs.First.{IsSweptIn, told_of}
-use Rattle.ru_jobs.specs.Cursors.{IsJobSymbol, jobs_left}
+use Rattle.ru_jobs.specs.Cursors.{jobs_left}
+use Rattle.ru_reports.specs.symbol_search.specs.Symbols.{IsSymbol}
 use Rattle.ru_jobs.specs.declared.cursor.JobCursor.{JobCursor}
 use Rattle.unit_memory.specs.Memory.{Holds}
 use Rattle.unit_memory.specs.declared.memory.UnitMemory.{UnitMemory}
@@ -51,7 +52,7 @@ frame_low tick frame a b = floor_low tick (frame_of_tick tick) frame a (frame_fl
 module _ (c : Config) (m : UnitMemory) (arrivals : List Arrival) (beside : List Counter) (since clock : ℤ)
     (holds : Holds Ru c since m arrivals beside) (order : since ≤ℤ clock) (time : IsTime clock) where
   -- those of slots that have a place are symbols of which a message may be left
-  pub is_job_symbol : (end : ℤ) (s : SymbolStart) → IsSweptIn (endpoints_of m.cells) first_clock end s → cells_has m.cells s.ep s.slot ≡ true → IsJobSymbol m.cells s
+  pub is_job_symbol : (end : ℤ) (s : SymbolStart) → IsSweptIn (endpoints_of m.cells) first_clock end s → cells_has m.cells s.ep s.slot ≡ true → IsSymbol m.cells s
   is_job_symbol end s is has =
       let swept = is.swept in
       let was = holds.keeps.reached s.endpoint s.ep s.slot (at_config Ru c m.cells s.ep s.endpoint holds.of swept.endpoint) has in
@@ -71,7 +72,7 @@ module _ (c : Config) (m : UnitMemory) (arrivals : List Arrival) (beside : List 
       }
 
   -- of the others nothing is left
-  pub left_of_swept : (cursor : JobCursor) (end : ℤ) (s : SymbolStart) → (IsJobSymbol m.cells s → told_of (jobs_left (cells_uplink m.cells) cursor) s ≡ [])
+  pub left_of_swept : (cursor : JobCursor) (end : ℤ) (s : SymbolStart) → (IsSymbol m.cells s → told_of (jobs_left (cells_uplink m.cells) cursor) s ≡ [])
       → IsSweptIn (endpoints_of m.cells) first_clock end s → told_of (jobs_left (cells_uplink m.cells) cursor) s ≡ []
   left_of_swept cursor end s none is = elim (cases_Bool (cells_has m.cells s.ep s.slot)) [
     | inl has ↦ none (is_job_symbol end s is has)

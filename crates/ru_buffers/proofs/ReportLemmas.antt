@@ -20,7 +20,8 @@ use Rattle.ru_reports.specs.unit_cells.proofs.KeepLemmas.{at_config}
 use Rattle.history_laws.specs.First.{FirstIsFirst, IsSweptIn, NothingIsNothing, told_of}
 use Rattle.ru_jobs.specs.declared.cursor.JobCursor.{JobCursor}
 use Rattle.unit_memory.specs.declared.memory.UnitMemory.{UnitMemory}
-use Rattle.ru_reports.specs.Symbols.{IsSymbol, is_left, left_at}
+use Rattle.ru_reports.specs.Symbols.{is_left, left_at}
+use Rattle.ru_reports.specs.symbol_search.specs.Symbols.{IsSymbol}
 use Rattle.ru_buffers.specs.Reporting.{DueBegins, DueGoesOn, FirstIsDue, IsFirstLeft, IsLeftAfter, NothingBeforeFirst, NothingIsDue, SomethingAtFirst, due_of}
 use Rattle.ru_buffers.specs.Units.{Keeps}
 use Rattle.ru_buffers.proofs.SymbolLemmas.{clock_first, looked_up, none_is_left, quiet}

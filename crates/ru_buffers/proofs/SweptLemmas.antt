@@ -15,7 +15,8 @@ use Rattle.history_laws.specs.unit_laws.proofs.SweepLemmas.{sweep-append, sweep-
 use Rattle.ru_reports.specs.unit_cells.specs.Cells.{CellsValue, cells_uplink, endpoints_of}
 use Rattle.ru_reports.specs.unit_cells.proofs.ApartLemmas.{is_slot_of}
 use Rattle.history_laws.specs.First.{FirstIsFirst, IsQuietBefore, IsSweptIn, told_of}
-use Rattle.ru_jobs.specs.Cursors.{GivenOne, IsFirstJob, IsJobSymbol, Settled, jobs_left}
+use Rattle.ru_jobs.specs.Cursors.{GivenOne, IsFirstJob, Settled, jobs_left}
+use Rattle.ru_reports.specs.symbol_search.specs.Symbols.{IsSymbol}
 use Rattle.ru_jobs.specs.declared.cursor.JobCursor.{JobCursor}
 use Rattle.ru_jobs.specs.declared.cursor.NextJob.{NextJob}
 use Rattle.ru_buffers.specs.Units.{left_up_to}
@@ -118,7 +119,7 @@ up_to_before : (s to start : ℤ) → s <ℤ (to +ℤ pos 1) → to <ℤ start �
 up_to_before s to start a b = omega (arith, ints)
 
 module _ (v : CellsValue) (cursor : JobCursor) (n : NextJob) (first : IsFirstJob v cursor n) (begun : first_clock ≤ℤ cursor.since.0)
-    (quiet : (end : ℤ) (s : SymbolStart) → (IsJobSymbol v s → told_of (jobs_left (cells_uplink v) cursor) s ≡ []) → IsSweptIn (endpoints_of v) first_clock end s
+    (quiet : (end : ℤ) (s : SymbolStart) → (IsSymbol v s → told_of (jobs_left (cells_uplink v) cursor) s ≡ []) → IsSweptIn (endpoints_of v) first_clock end s
     → told_of (jobs_left (cells_uplink v) cursor) s ≡ []) where
   -- before it nothing is left
   pub quiet_before : (end : ℤ) → IsQuietBefore (jobs_left (cells_uplink v) cursor) (endpoints_of v) first_clock end n.symbol

@@ -50,7 +50,8 @@ use Rattle.ru_reports.specs.unit_cells.proofs.TimeLemmas.{far_no_place, live_at,
 use Rattle.ru_reports.specs.unit_cells.proofs.ToldLemmas.{told_whole}
 use Rattle.ru_jobs.specs.declared.cursor.JobCursor.{JobCursor}
 use Rattle.unit_memory.specs.declared.memory.UnitMemory.{UnitMemory}
-use Rattle.ru_reports.specs.Symbols.{IsSymbol, cell_in, is_left, left_at, left_told}
+use Rattle.ru_reports.specs.Symbols.{cell_in, is_left, left_at, left_told}
+use Rattle.ru_reports.specs.symbol_search.specs.Symbols.{IsSymbol}
 use Rattle.ru_buffers.specs.Reporting.{LeftByLookup}
 use Rattle.ru_buffers.specs.Units.{Keeps}
 use Rattle.history_laws.specs.unit_model.specs.Standing.{History}

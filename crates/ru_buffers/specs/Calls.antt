@@ -10,7 +10,8 @@ use Rattle.history_laws.specs.unit_model.specs.Standing.{History, IsLiveAt, Stan
 use Rattle.history_laws.specs.unit_model.specs.declared.jobs.UplinkJob.{UplinkJob}
 use Rattle.history_laws.specs.unit_model.specs.declared.symbol_start.SymbolStart.{SymbolStart}
 use Rattle.ru_reports.specs.unit_cells.specs.Cells.{CellsValue, cells_uplink}
-use Rattle.ru_jobs.specs.Cursors.{IsFirstJob, IsJobSymbol, left_in}
+use Rattle.ru_jobs.specs.Cursors.{IsFirstJob, left_in}
+use Rattle.ru_reports.specs.symbol_search.specs.Symbols.{IsSymbol}
 use Rattle.ru_jobs.specs.declared.cursor.JobCursor.{JobCursor}
 use Rattle.ru_jobs.specs.declared.cursor.NextJob.{NextJob}
 use Rattle.ru_buffers.specs.Reporting.{IsFoundLeft, IsLeftAfter, due_of}
@@ -24,7 +25,7 @@ IsNextSymbol v clock (Some s) = IsFoundLeft v clock s
 
 -- the first message that was not given, as a search finds it; none where there is none
 abbrev pub IsNextMessage : CellsValue → JobCursor → Option NextJob → Type 0
-IsNextMessage v cursor None = (s : SymbolStart) → IsJobSymbol v s → left_in (cells_uplink v) cursor s ≡ []
+IsNextMessage v cursor None = (s : SymbolStart) → IsSymbol v s → left_in (cells_uplink v) cursor s ≡ []
 IsNextMessage v cursor (Some n) = IsFirstJob v cursor n
 
 -- The unit stands for a history of a configuration: what it keeps of the next moment is what a search would find at its clock.

@@ -8,7 +8,8 @@ use Rattle.history_laws.specs.unit_model.specs.Standing.{History, at_clock, due,
 use Rattle.history_laws.specs.unit_model.specs.declared.symbol_start.SymbolStart.{SymbolStart}
 use Rattle.history_laws.specs.unit_laws.specs.Runs.{OffsetsFit}
 use Rattle.ru_reports.specs.unit_cells.specs.Cells.{cells_uplink}
-use Rattle.ru_jobs.specs.Cursors.{GivenOne, IsFirstJob, IsJobSymbol, Settled, left_in}
+use Rattle.ru_jobs.specs.Cursors.{GivenOne, IsFirstJob, Settled, left_in}
+use Rattle.ru_reports.specs.symbol_search.specs.Symbols.{IsSymbol}
 use Rattle.ru_jobs.specs.declared.cursor.JobCursor.{JobCursor}
 use Rattle.ru_jobs.specs.declared.cursor.NextJob.{NextJob}
 use Rattle.unit_memory.specs.declared.memory.UnitMemory.{UnitMemory}
@@ -45,7 +46,7 @@ ReadyOnceGiven =
 
 -- nothing is left of any symbol
 abbrev pub NothingIsLeft : UnitMemory → JobCursor → Type 0
-NothingIsLeft m cursor = (s : SymbolStart) → IsJobSymbol m.cells s → left_in (cells_uplink m.cells) cursor s ≡ []
+NothingIsLeft m cursor = (s : SymbolStart) → IsSymbol m.cells s → left_in (cells_uplink m.cells) cursor s ≡ []
 
 -- then there is no message to be given, whatever time it is
 abbrev pub NoneToGive : Type 0

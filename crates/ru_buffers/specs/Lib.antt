@@ -3,6 +3,7 @@ pub use Rattle.ru_jobs
 pub use Rattle.unit_memory
 pub use Rattle.ru_reports
 pub use Rattle.ru_reports.specs.slot_rings
+pub use Rattle.ru_reports.specs.symbol_search
 pub use Rattle.ru_reports.specs.unit_cells
 pub use Rattle.history_laws.specs.unit_laws
 pub use Rattle.history_laws.specs.unit_model

@@ -14,7 +14,8 @@ use Rattle.ru_reports.specs.unit_cells.specs.Cells.{CellsValue}
 use Rattle.history_laws.specs.First.{FirstIsFirst, NothingIsNothing}
 use Rattle.ru_jobs.specs.declared.cursor.JobCursor.{JobCursor}
 use Rattle.unit_memory.specs.declared.memory.UnitMemory.{UnitMemory}
-use Rattle.ru_reports.specs.Symbols.{CountsTold, IsSymbol, MarksTold, is_left, left_at}
+use Rattle.ru_reports.specs.Symbols.{CountsTold, MarksTold, is_left, left_at}
+use Rattle.ru_reports.specs.symbol_search.specs.Symbols.{IsSymbol}
 use Rattle.ru_buffers.specs.Units.{Keeps}
 
 -- what is due up to a time, over all that came

@@ -1,13 +1,22 @@
 -- What is left of a symbol's messages.
-use Rattle.std.proofs.Common.{◌≡◌, ℕ, ◌-◌, List, length, drop, sym, ap, ◌∙◌, arith}
-use Rattle.std.specs.Prelude.{nat_lt, filter, reverse}
-use Rattle.std.proofs.lemmas.List.{length-drop}
+use Rattle.std.proofs.Common.{◌≡◌, ℕ, ◌-◌, Bool, true, false, List, [], length, drop, refl, sym, ap, ◌∙◌, arith, Option, Some, None}
+use Rattle.std.specs.Prelude.{nat_lt, int_lt, if◌then◌else◌, filter, reverse}
+use Rattle.std.specs.Bool.{then_some}
+use Rattle.std.proofs.lemmas.List.{length-drop, drop_all, nil_from_length}
 use Rattle.std.proofs.lemmas.Bool.Decides.{nat_tests}
-use Rattle.unit_cells.specs.unit_model.specs.Starts.{jobs_at}
-use Rattle.unit_cells.specs.unit_model.specs.Uplink.{sends_in}
-use Rattle.unit_cells.specs.unit_model.specs.declared.allocations.Allocation.{Allocation}
-use Rattle.unit_cells.specs.unit_model.specs.declared.jobs.UplinkJob.{UplinkJob}
-use Rattle.unit_cells.specs.unit_model.specs.declared.symbol_start.SymbolStart.{SymbolStart}
+use Rattle.fh_time.specs.declared.values.Slot.{Slot}
+use Rattle.window_config.specs.declared.endpoints.EndpointConfig.{EndpointConfig}
+use Rattle.symbol_search.specs.unit_model.specs.Lists.{in_order}
+use Rattle.symbol_search.specs.unit_model.specs.Order.{comes_before}
+use Rattle.symbol_search.specs.unit_model.specs.Starts.{jobs_at, start_at}
+use Rattle.symbol_search.specs.unit_model.specs.Uplink.{sends_in, symbol_jobs}
+use Rattle.symbol_search.specs.unit_model.specs.declared.allocations.Allocation.{Allocation}
+use Rattle.symbol_search.specs.unit_model.specs.declared.jobs.UplinkJob.{UplinkJob}
+use Rattle.symbol_search.specs.unit_model.specs.declared.symbol_start.SymbolStart.{SymbolStart}
+use Rattle.symbol_search.specs.unit_cells.specs.Cells.{CellsValue, cells_uplink}
+use Rattle.symbol_search.specs.Symbols.{HasNone, InSlot, OfEndpoint}
+use Rattle.ru_jobs.specs.Cursors.{is_left, jobs_left, left_behind, left_jobs}
+use Rattle.ru_jobs.specs.declared.cursor.JobCursor.{JobCursor}
 use Rattle.ru_jobs.proofs.SortLemmas.{length_jobs}
 
 pub some_left : (xs : List Allocation) (m : SymbolStart) (given count : ℕ) (left : List UplinkJob) → left ≡ drop given (jobs_at (reverse xs) m)
@@ -16,3 +25,49 @@ some_left xs m given count left is counted =
     let e : length left ≡ length (jobs_at (reverse xs) m) - given = ap length is ∙ length-drop given (jobs_at (reverse xs) m) in
     let f : length (jobs_at (reverse xs) m) ≡ count = length_jobs xs m ∙ sym counted in
     grind (arith, nat_tests)
+
+-- ---- of a symbol whose slot's sections these are
+
+pub left_told : (v : CellsValue) (cursor : JobCursor) (ep : ℕ) (e : EndpointConfig) (slot : Slot) (symbol : ℕ) (xs : List Allocation) (m : SymbolStart) (left : Bool)
+    (told : Option SymbolStart) → reverse xs ≡ cells_uplink v ep slot → m ≡ start_at ep e slot symbol
+    → left ≡ nat_lt 0 (length (left_jobs cursor m (jobs_at (reverse xs) m))) → told ≡ then_some left m
+    → told ≡ then_some (is_left v cursor (start_at ep e slot symbol)) (start_at ep e slot symbol)
+unfolding jobs_left symbol_jobs
+left_told v cursor ep e slot symbol xs m left told uplink is left_is told_is =
+    told_is
+    ∙ ap (λ (b : Bool). then_some b m) left_is
+    ∙ ap (λ (x : SymbolStart). then_some (nat_lt 0 (length (left_jobs cursor x (jobs_at (reverse xs) x)))) x) is
+    ∙ ap (λ ys. then_some (nat_lt 0 (length (left_jobs cursor (start_at ep e slot symbol) (jobs_at ys (start_at ep e slot symbol))))) (start_at ep e slot symbol)) uplink
+
+-- ---- where no section is held
+
+none_of_none : (cursor : JobCursor) (m : SymbolStart) → left_jobs cursor m [] ≡ []
+none_of_none cursor m = outside (int_lt m.start.0 cursor.since.0) _ (behind cursor.last)
+  where
+    inside : (early late : Bool) (given : ℕ) (jobs : List UplinkJob) → jobs ≡ [] → (if early then [] else (if late then jobs else drop given jobs)) ≡ []
+    inside true late given jobs h = refl
+    inside false true given jobs h = h
+    inside false false given jobs h = ap (drop given) h ∙ drop_all given [] (omega arith)
+
+    behind : (last : Option SymbolStart) → left_behind cursor.given last m [] ≡ []
+    behind None = refl
+    behind (Some last) = inside (comes_before m last) (comes_before last m) cursor.given [] refl
+
+    outside : (b : Bool) (jobs : List UplinkJob) → jobs ≡ [] → (if b then [] else jobs) ≡ []
+    outside true jobs h = refl
+    outside false jobs h = h
+
+nothing_sends : (v : CellsValue) (cursor : JobCursor) (m : SymbolStart) → cells_uplink v m.ep m.slot ≡ [] → is_left v cursor m ≡ false
+unfolding jobs_left symbol_jobs in_order
+nothing_sends v cursor m h =
+    let s = start_at m.ep m.endpoint m.slot m.symbol in
+    ap (λ xs. nat_lt 0 (length (left_jobs cursor s (jobs_at xs s)))) h ∙ ap (λ js. nat_lt 0 (length js)) (none_of_none cursor s)
+
+pub none_of_endpoint : (v : CellsValue) (cursor : JobCursor) (ep : ℕ) → ((slot : Slot) → cells_uplink v ep slot ≡ []) → HasNone v (is_left v cursor) (OfEndpoint ep)
+none_of_endpoint v cursor ep none m is of = nothing_sends v cursor m (ap (λ k. cells_uplink v k m.slot) of ∙ none m.slot)
+
+pub none_in_slot : (v : CellsValue) (cursor : JobCursor) (ep : ℕ) (slot : Slot) (xs : List Allocation) → reverse xs ≡ cells_uplink v ep slot → length xs ≡ 0
+    → HasNone v (is_left v cursor) (InSlot ep slot)
+none_in_slot v cursor ep slot xs uplink h m is o =
+    nothing_sends v cursor m
+    (ap (λ k. cells_uplink v k m.slot) o.0 ∙ ap (λ s. cells_uplink v ep s) o.1 ∙ sym uplink ∙ ap reverse (nil_from_length xs h))

@@ -1,27 +1,27 @@
 -- A cursor after one message more, and at a later clock.
-use Rattle.std.proofs.Common.{◌≡◌, ℕ, ℤ, ◌+◌, ◌-◌, ◌<◌, ◌≤◌, ◌<ℤ◌, ◌≤ℤ◌, Bool, true, false, List, [], ◌∷◌, length, drop, refl, sym, ap, ◌∙◌, subst, arith}
-use Rattle.std.specs.Prelude.{int_lt, if◌then◌else◌, min, Option, Some, None, reverse, filter, slice_get, unwrap_or, count_by}
+use Rattle.std.proofs.Common.{◌≡◌, ℕ, ℤ, ◌+◌, ◌-◌, ◌≤◌, ◌<ℤ◌, ◌≤ℤ◌, Bool, true, false, List, [], ◌∷◌, length, drop, refl, sym, ap, ◌∙◌, subst, arith}
+use Rattle.std.specs.Prelude.{int_lt, nat_lt, if◌then◌else◌, min, Option, Some, None, reverse, filter, slice_get, unwrap_or, count_by}
 use Rattle.std.specs.Int.{int_max}
 use Rattle.std.proofs.lemmas.Int.{ints}
-use Rattle.std.proofs.lemmas.List.{length-drop, drop-drop, reverse-reverse, length-reverse}
+use Rattle.std.proofs.lemmas.Bool.{false_from_ne_true, ltb-false}
+use Rattle.std.proofs.lemmas.List.{length-drop, drop-drop, nil_from_length, reverse-reverse, length-reverse}
 use Rattle.std.proofs.lemmas.List.Sums.{length-filter, count_by-le-length}
 use Rattle.fh_time.specs.declared.values.Slot.{Slot}
-use Rattle.unit_cells.specs.unit_model.specs.Order.{comes_before}
-use Rattle.unit_cells.specs.unit_model.specs.Starts.{jobs_at, start_at}
-use Rattle.unit_cells.specs.unit_model.specs.Uplink.{sends_in, symbol_jobs}
-use Rattle.unit_cells.specs.unit_model.specs.declared.allocations.Allocation.{Allocation}
-use Rattle.unit_cells.specs.unit_model.specs.declared.jobs.UplinkJob.{UplinkJob}
-use Rattle.unit_cells.specs.unit_model.specs.declared.symbol_start.SymbolStart.{SymbolStart}
+use Rattle.symbol_search.specs.unit_model.specs.Order.{comes_before}
+use Rattle.symbol_search.specs.unit_model.specs.Starts.{jobs_at, start_at}
+use Rattle.symbol_search.specs.unit_model.specs.Uplink.{sends_in, symbol_jobs}
+use Rattle.symbol_search.specs.unit_model.specs.declared.allocations.Allocation.{Allocation}
+use Rattle.symbol_search.specs.unit_model.specs.declared.jobs.UplinkJob.{UplinkJob}
+use Rattle.symbol_search.specs.unit_model.specs.declared.symbol_start.SymbolStart.{SymbolStart}
 use Rattle.window_config.specs.declared.endpoints.EndpointConfig.{EndpointConfig}
-use Rattle.unit_cells.specs.Cells.{CellsValue, cells_uplink, endpoints_of}
+use Rattle.symbol_search.specs.unit_cells.specs.Cells.{CellsValue, cells_uplink}
 use Rattle.fh_time.specs.declared.values.Ticks.{Ticks}
-use Rattle.std.proofs.lemmas.Option.{slice_get_within}
-use Rattle.ru_jobs.specs.Cursors.{GivenOne, IsFirstJob, IsJobSymbol, Settled, at_start, jobs_left, left_behind, left_in, left_jobs}
-use Rattle.ru_jobs.specs.Firsts.{IsBelow, IsFirstOf, is_past, rest_of}
+use Rattle.ru_jobs.specs.Cursors.{GivenOne, IsFirstJob, Settled, at_start, is_left, is_past, jobs_left, left_behind, left_in, left_jobs, rest_of}
+use Rattle.symbol_search.specs.Symbols.{IsFirst, IsFirstFitting, IsSymbol}
 use Rattle.ru_jobs.specs.declared.cursor.JobCursor.{JobCursor}
 use Rattle.ru_jobs.specs.declared.cursor.NextJob.{NextJob}
-use Rattle.ru_jobs.proofs.FindLemmas.{at_its_start}
-use Rattle.ru_jobs.proofs.OrderLemmas.{before_third, not_after, not_itself}
+use Rattle.symbol_search.proofs.OrderLemmas.{before_third, not_after, not_before_itself}
+use Rattle.symbol_search.proofs.SymbolLemmas.{at_its_start}
 use Rattle.ru_jobs.proofs.SortLemmas.{length_jobs}
 
 -- ---- choices
@@ -83,7 +83,7 @@ rest_here : (old : JobCursor) (n : NextJob) (given : ℕ) (jobs some rest : List
 rest_here old n given jobs some rest job h =
     ap (λ (b : Bool). let ys : List UplinkJob = if b then [] else left_behind given (Some n.symbol) n.symbol jobs in ys)
     (some_then (int_lt n.symbol.start.0 old.since.0) _ rest job h).0
-    ∙ by_order_same (comes_before n.symbol n.symbol) (comes_before n.symbol n.symbol) given jobs (not_itself n.symbol) (not_itself n.symbol)
+    ∙ by_order_same (comes_before n.symbol n.symbol) (comes_before n.symbol n.symbol) given jobs (not_before_itself n.symbol) (not_before_itself n.symbol)
 
 -- one more of those of which so many were given
 one_more_given : (r : Option ℕ) (given most : ℕ) (js rest : List UplinkJob) (job : UplinkJob) → rest_of r js ≡ job ∷ rest → given ≡ min (unwrap_or r 0 + 1) most → 64 ≤ most
@@ -106,11 +106,11 @@ few_jobs accepted ep e slot symbol h =
     let d : length xs ≡ length accepted = length-reverse accepted in
     omega arith
 
-left_in_is : (v : CellsValue) (cursor : JobCursor) (m : SymbolStart) → IsJobSymbol v m
+left_in_is : (v : CellsValue) (cursor : JobCursor) (m : SymbolStart) → IsSymbol v m
     → left_in (cells_uplink v) cursor m ≡ left_jobs cursor m (symbol_jobs (cells_uplink v m.ep m.slot) m.ep m.endpoint m.slot m.symbol)
 unfolding jobs_left
 left_in_is v cursor m j =
-    ap (λ x. left_jobs cursor x (symbol_jobs (cells_uplink v m.ep m.slot) m.ep m.endpoint m.slot m.symbol)) (at_its_start v m j)
+    ap (λ x. left_jobs cursor x (symbol_jobs (cells_uplink v m.ep m.slot) m.ep m.endpoint m.slot m.symbol)) (sym (at_its_start v m j))
 
 pub given_one : (v : CellsValue) (old : JobCursor) (n : NextJob) (r : Option ℕ) (given most : ℕ) → ((jobs : List UplinkJob) → left_jobs old n.symbol jobs ≡ rest_of r jobs)
     → given ≡ min (unwrap_or r 0 + 1) most → 64 ≤ most → IsFirstJob v old n → GivenOne v old n (record { since = old.since; last = Some n.symbol; given = given })
@@ -183,15 +183,15 @@ settled_there clock old since is = record {
 
 -- ---- the first message that is left
 
-within : (v : CellsValue) (m : SymbolStart) → IsJobSymbol v m → m.ep < length (endpoints_of v)
-within v m j = slice_get_within (endpoints_of v) m.ep m.endpoint j.at
+nothing : (js : List UplinkJob) → nat_lt 0 (length js) ≡ false → js ≡ []
+nothing js h = nil_from_length js (let k = ltb-false 0 (length js) h in omega arith)
 
-jobs_here : (v : CellsValue) (m : SymbolStart) (xs : List Allocation) → IsJobSymbol v m → reverse xs ≡ cells_uplink v m.ep m.slot
+jobs_here : (v : CellsValue) (m : SymbolStart) (xs : List Allocation) → IsSymbol v m → reverse xs ≡ cells_uplink v m.ep m.slot
     → symbol_jobs (cells_uplink v m.ep m.slot) m.ep m.endpoint m.slot m.symbol ≡ jobs_at (reverse xs) m
 unfolding symbol_jobs
-jobs_here v m xs j uplink = ap (λ ys. jobs_at ys (at_start m)) (sym uplink) ∙ ap (λ x. jobs_at (reverse xs) x) (at_its_start v m j)
+jobs_here v m xs j uplink = ap (λ ys. jobs_at ys (at_start m)) (sym uplink) ∙ ap (λ x. jobs_at (reverse xs) x) (sym (at_its_start v m j))
 
-left_at : (v : CellsValue) (cursor : JobCursor) (m : SymbolStart) (xs : List Allocation) → IsJobSymbol v m → reverse xs ≡ cells_uplink v m.ep m.slot
+left_at : (v : CellsValue) (cursor : JobCursor) (m : SymbolStart) (xs : List Allocation) → IsSymbol v m → reverse xs ≡ cells_uplink v m.ep m.slot
     → left_in (cells_uplink v) cursor m ≡ left_jobs cursor m (jobs_at (reverse xs) m)
 left_at v cursor m xs j uplink =
     left_in_is v cursor m j ∙ ap (left_jobs cursor m) (jobs_here v m xs j uplink)
@@ -201,28 +201,27 @@ first_of [] job h = absurd (cc)
 first_of (j ∷ js) job h = cc
 
 pub found_first : (v : CellsValue) (cursor : JobCursor) (m : SymbolStart) (xs : List Allocation) (job : UplinkJob) → reverse xs ≡ cells_uplink v m.ep m.slot → length xs ≤ 64
-    → IsFirstOf v cursor (IsBelow (length (endpoints_of v))) (Some m) → Some job ≡ slice_get (left_jobs cursor m (jobs_at (reverse xs) m)) 0
+    → IsFirstFitting v (is_left v cursor) m → Some job ≡ slice_get (left_jobs cursor m (jobs_at (reverse xs) m)) 0
     → IsFirstJob v cursor (record { symbol = m; job = job })
 found_first v cursor m xs job uplink few f is =
-    let told = left_at v cursor m xs f.symbol uplink in
+    let told = left_at v cursor m xs f.was.is uplink in
     record {
-      symbol = f.symbol;
+      symbol = f.was.is;
       rest = drop 1 (left_jobs cursor m (jobs_at (reverse xs) m));
       first = told ∙ first_of _ job is;
       few = let d : length (reverse xs) ≡ length xs = length-reverse xs in let e : length (cells_uplink v m.ep m.slot) ≡ length (reverse xs) = sym (ap length uplink) in omega arith;
-      before = λ n j h. f.before n j (within v n j) h;
+      before = λ n j h. nothing _ (false_from_ne_true (is_left v cursor n) (λ left. let k = f.first n (record { is = j; fit = left }) in cc));
     }
 
 -- something is left
 pub some_found : (v : CellsValue) (cursor : JobCursor) (m : SymbolStart) (xs : List Allocation) → reverse xs ≡ cells_uplink v m.ep m.slot
-    → IsFirstOf v cursor (IsBelow (length (endpoints_of v))) (Some m) → None ≡ slice_get (left_jobs cursor m (jobs_at (reverse xs) m)) 0 → ⊥
+    → IsFirstFitting v (is_left v cursor) m → None ≡ slice_get (left_jobs cursor m (jobs_at (reverse xs) m)) 0 → ⊥
 some_found v cursor m xs uplink f is =
-    not_none _ (subst (λ (js : List UplinkJob). 0 < length js) (left_at v cursor m xs f.symbol uplink) f.some) is
+    not_none _ (subst (λ (js : List UplinkJob). nat_lt 0 (length js) ≡ true) (left_at v cursor m xs f.was.is uplink) f.was.fit) is
   where
-    not_none : (js : List UplinkJob) → 0 < length js → None ≡ slice_get js 0 → ⊥
-    not_none [] h k = omega arith
-    not_none (j ∷ js) h k = cc
+    not_none : (js : List UplinkJob) → nat_lt 0 (length js) ≡ true → None ≡ slice_get js 0 → ⊥
+    not_none [] h k = absurd (cc)
+    not_none (j ∷ js) h k = absurd (cc)
 
-pub none_found : (v : CellsValue) (cursor : JobCursor) → IsFirstOf v cursor (IsBelow (length (endpoints_of v))) None
-    → (m : SymbolStart) → IsJobSymbol v m → left_in (cells_uplink v) cursor m ≡ []
-none_found v cursor f m j = f m j (within v m j)
+pub none_found : (v : CellsValue) (cursor : JobCursor) → IsFirst v (is_left v cursor) None → (m : SymbolStart) → IsSymbol v m → left_in (cells_uplink v) cursor m ≡ []
+none_found v cursor f m j = nothing _ (f m j)

@@ -1,18 +1,16 @@
 -- How far the messages that a radio unit is to send were given, and what is left of them, by look-up (this project's profile).
-use Rattle.std.specs.Prelude.{◌≡◌, ℕ, ℤ, true, ◌<◌, ◌≤◌, ◌<ℤ◌, ◌≤ℤ◌, if◌then◌else◌, int_lt, List, [], ◌∷◌, drop, length, Option, Some, None}
+use Rattle.std.specs.Prelude.{◌≡◌, ℕ, ℤ, Bool, true, nat_lt, ◌≤◌, ◌<ℤ◌, ◌≤ℤ◌, if◌then◌else◌, int_lt, List, [], ◌∷◌, drop, length, Option, Some, None}
 use Rattle.std.specs.Int.{int_max}
 use Rattle.fh_time.specs.declared.values.Slot.{Slot}
-use Rattle.fh_time.specs.Air.{air_of}
-use Rattle.fh_time.specs.Numbering.{symbols_of}
-use Rattle.unit_cells.specs.unit_model.specs.Order.{comes_before}
-use Rattle.unit_cells.specs.unit_model.specs.Proper.{IsAt, IsSlot}
-use Rattle.unit_cells.specs.unit_model.specs.Starts.{start_at}
-use Rattle.unit_cells.specs.unit_model.specs.Sweeps.{OfSymbol}
-use Rattle.unit_cells.specs.unit_model.specs.Uplink.{symbol_jobs}
-use Rattle.unit_cells.specs.unit_model.specs.declared.allocations.Allocation.{Allocation}
-use Rattle.unit_cells.specs.unit_model.specs.declared.jobs.UplinkJob.{UplinkJob}
-use Rattle.unit_cells.specs.unit_model.specs.declared.symbol_start.SymbolStart.{SymbolStart}
-use Rattle.unit_cells.specs.Cells.{CellsValue, cells_has, cells_uplink, endpoints_of}
+use Rattle.symbol_search.specs.unit_model.specs.Order.{comes_before}
+use Rattle.symbol_search.specs.unit_model.specs.Starts.{start_at}
+use Rattle.symbol_search.specs.unit_model.specs.Sweeps.{OfSymbol}
+use Rattle.symbol_search.specs.unit_model.specs.Uplink.{symbol_jobs}
+use Rattle.symbol_search.specs.unit_model.specs.declared.allocations.Allocation.{Allocation}
+use Rattle.symbol_search.specs.unit_model.specs.declared.jobs.UplinkJob.{UplinkJob}
+use Rattle.symbol_search.specs.unit_model.specs.declared.symbol_start.SymbolStart.{SymbolStart}
+use Rattle.symbol_search.specs.unit_cells.specs.Cells.{CellsValue, cells_uplink}
+use Rattle.symbol_search.specs.Symbols.{IsSymbol}
 use Rattle.ru_jobs.specs.declared.cursor.JobCursor.{JobCursor}
 use Rattle.ru_jobs.specs.declared.cursor.NextJob.{NextJob}
 
@@ -26,6 +24,16 @@ left_behind given (Some last) m jobs =
 abbrev pub left_jobs : JobCursor → SymbolStart → List UplinkJob → List UplinkJob
 left_jobs cursor m jobs = if int_lt m.start.0 cursor.since.0 then [] else left_behind cursor.given cursor.last m jobs
 
+-- what is left where so many were given, or all
+abbrev pub rest_of : Option ℕ → List UplinkJob → List UplinkJob
+rest_of None jobs = []
+rest_of (Some given) jobs = drop given jobs
+
+-- the last symbol of which messages were given starts before a clock, if there is one
+abbrev pub is_past : ℤ → Option SymbolStart → Bool
+is_past clock None = true
+is_past clock (Some last) = int_lt last.start.0 clock
+
 -- what is left of each symbol's messages, where these are the accepted uplink sections of each slot, the newest first
 unfoldable pub jobs_left : (ℕ → Slot → List Allocation) → JobCursor → OfSymbol UplinkJob
 jobs_left uplink cursor ep e slot symbol =
@@ -38,21 +46,17 @@ at_start m = start_at m.ep m.endpoint m.slot m.symbol
 abbrev pub left_in : (ℕ → Slot → List Allocation) → JobCursor → SymbolStart → List UplinkJob
 left_in uplink cursor m = jobs_left uplink cursor m.ep m.endpoint m.slot m.symbol
 
--- a symbol of one of the endpoints, in a slot that has its place
-pub record IsJobSymbol (v : CellsValue) (m : SymbolStart) : Type 0 where
-  pub at : IsAt (endpoints_of v) m.ep m.endpoint
-  pub slot_is : IsSlot m.endpoint.numerology m.slot
-  pub symbol_is : m.symbol < symbols_of m.endpoint.numerology
-  pub starts : m.start.0 ≡ air_of m.endpoint.numerology m.slot m.symbol
-  pub has : cells_has v m.ep m.slot ≡ true
+-- a message is left of a symbol
+abbrev pub is_left : CellsValue → JobCursor → SymbolStart → Bool
+is_left v cursor m = nat_lt 0 (length (left_in (cells_uplink v) cursor m))
 
 -- the first of all that is left
 pub record IsFirstJob (v : CellsValue) (cursor : JobCursor) (n : NextJob) : Type 0 where
-  pub symbol : IsJobSymbol v n.symbol
+  pub symbol : IsSymbol v n.symbol
   pub rest : List UplinkJob
   pub first : left_in (cells_uplink v) cursor n.symbol ≡ n.job ∷ rest
   pub few : length (cells_uplink v n.symbol.ep n.symbol.slot) ≤ 64
-  pub before : (m : SymbolStart) → IsJobSymbol v m → comes_before m n.symbol ≡ true → left_in (cells_uplink v) cursor m ≡ []
+  pub before : (m : SymbolStart) → IsSymbol v m → comes_before m n.symbol ≡ true → left_in (cells_uplink v) cursor m ≡ []
 
 -- what is left once it was given: the rest of its symbol, and the same of all that come after
 pub record GivenOne (v : CellsValue) (old : JobCursor) (n : NextJob) (new : JobCursor) : Type 0 where

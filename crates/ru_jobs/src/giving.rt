@@ -1,21 +1,22 @@
 // The next message.
 ghost use Rattle.std.specs.Prelude.{◌≡◌, [], IfNone, IfSome};
 ghost use Rattle.std.specs.Int.{int_max};
-ghost use Rattle.unit_cells.specs.unit_model.specs.declared.symbol_start.SymbolStart.{SymbolStart as SpecStart};
-ghost use Rattle.unit_cells.specs.Cells.{cells_uplink};
-ghost use Rattle.ru_jobs.specs.Cursors.{IsFirstJob, IsJobSymbol, left_in};
+ghost use Rattle.symbol_search.specs.unit_model.specs.declared.symbol_start.SymbolStart.{SymbolStart as SpecStart};
+ghost use Rattle.symbol_search.specs.unit_cells.specs.Cells.{cells_uplink};
+ghost use Rattle.ru_jobs.specs.Cursors.{IsFirstJob, left_in};
+ghost use Rattle.symbol_search.specs.Symbols.{IsSymbol};
 
 use crate::cursor::{JobCursor, NextJob};
-use crate::finding::first_symbol;
 use crate::left::{first_left, given_of};
 use fh_time::Ticks;
-use unit_cells::UnitCells;
+use symbol_search::first_symbol;
+use symbol_search::unit_cells::UnitCells;
 
 /// The first message that was not given: by the start of its symbol, at one tick by endpoint, slot and symbol, and in one symbol
 /// by startPrbc, numPrbc, sectionId and filterIndex and in the order of acceptance (this project's profile).
 pub fn next_job(cells: &UnitCells, cursor: &JobCursor) -> Option<NextJob>
     ensures found { IfSome result (λ n. IsFirstJob cells.now cursor.now n) }
-    ensures none { IfNone result ((m : SpecStart) → IsJobSymbol cells.now m → left_in (cells_uplink cells.now) cursor.now m ≡ []) }
+    ensures none { IfNone result ((m : SpecStart) → IsSymbol cells.now m → left_in (cells_uplink cells.now) cursor.now m ≡ []) }
 {
     let symbol = first_symbol(cells, cursor)?;
     let uplink = cells.uplink(symbol.ep, symbol.slot);
@@ -32,9 +33,8 @@ fn later(a: Ticks, b: Ticks) -> Ticks
 
 impl JobCursor {
     ghost use Rattle.std.specs.Prelude.{None};
-    ghost use Rattle.ru_jobs.specs.Cursors.{GivenOne, IsFirstJob, Settled};
-    ghost use Rattle.ru_jobs.specs.Firsts.{is_past};
-    ghost use Rattle.unit_cells.specs.Cells.{CellsValue};
+    ghost use Rattle.ru_jobs.specs.Cursors.{GivenOne, IsFirstJob, Settled, is_past};
+    ghost use Rattle.symbol_search.specs.unit_cells.specs.Cells.{CellsValue};
 
     /// Where all messages of symbols that start before a tick were given, and none of the others.
     pub fn start(since: Ticks) -> JobCursor

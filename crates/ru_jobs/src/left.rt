@@ -1,13 +1,12 @@
 // What is left of a symbol's messages.
 ghost use Rattle.std.specs.Prelude.{◌≡◌, ◌≤◌, List, filter, length, map, nat_lt, reverse, slice_get};
-ghost use Rattle.unit_cells.specs.unit_model.specs.Starts.{jobs_at};
-ghost use Rattle.unit_cells.specs.unit_model.specs.declared.jobs.UplinkJob.{UplinkJob};
-ghost use Rattle.ru_jobs.specs.Cursors.{left_jobs};
-ghost use Rattle.ru_jobs.specs.Firsts.{rest_of};
+ghost use Rattle.symbol_search.specs.unit_model.specs.Starts.{jobs_at};
+ghost use Rattle.symbol_search.specs.unit_model.specs.declared.jobs.UplinkJob.{UplinkJob};
+ghost use Rattle.ru_jobs.specs.Cursors.{left_jobs, rest_of};
 
 use crate::cursor::JobCursor;
 use crate::sending::{count_sending, job_at};
-use unit_cells::unit_model::{Allocation, SymbolStart, UplinkJob, comes_before};
+use symbol_search::unit_cells::unit_model::{Allocation, SymbolStart, UplinkJob, comes_before};
 
 /// How many of a symbol's messages were given, or none where all were, however many they are.
 pub(crate) fn given_of(cursor: &JobCursor, m: &SymbolStart) -> Option<usize>

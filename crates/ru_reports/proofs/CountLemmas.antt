@@ -4,7 +4,7 @@ use Rattle.std.proofs.lemmas.List.{map-append}
 use Rattle.air_source.specs.declared.events.AirCell.{AirCell}
 use Rattle.fault_counters.specs.declared.kinds.Counter.{Counter}
 use Rattle.fault_counters.specs.Counts.{capped, count_of, once, times}
-use Rattle.unit_cells.specs.unit_model.specs.Counts.{StandAt, block_counter, cells_counted}
+use Rattle.symbol_search.specs.unit_model.specs.Counts.{StandAt, block_counter, cells_counted}
 use Rattle.ru_reports.specs.Symbols.{CountsTold}
 
 pub times_more : (xs ys : List Counter) (k : Counter) → times (xs ++ ys) k ≡ times xs k + times ys k

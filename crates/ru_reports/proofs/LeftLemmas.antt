@@ -1,17 +1,17 @@
 -- For callers: where nothing is left of a symbol.
 use Rattle.std.proofs.Common.{◌≡◌, ℕ, ◌<◌, ◌==◌, Bool, true, false, not, ◌&&◌, inl, inr, [], refl, ap, ◌∙◌, arith, Option, None}
 use Rattle.std.proofs.lemmas.Bool.{cases_Bool}
-use Rattle.unit_cells.specs.unit_model.specs.Radiated.{used_below, used_mask}
-use Rattle.unit_cells.specs.unit_model.specs.declared.cells.Cell.{Cell}
-use Rattle.unit_cells.specs.unit_model.specs.declared.cells.Claim.{Claim}
-use Rattle.unit_cells.specs.unit_model.specs.declared.symbol_start.SymbolStart.{SymbolStart}
-use Rattle.unit_cells.specs.unit_model.proofs.SweepLaws.{each_none}
-use Rattle.unit_cells.specs.unit_laws.proofs.ListLemmas.{each_same}
-use Rattle.unit_cells.specs.slot_rings.specs.Places.{is_due}
-use Rattle.unit_cells.specs.slot_rings.specs.Rings.{RingValue}
-use Rattle.unit_cells.specs.slot_rings.proofs.RangeLemmas.{some_at}
-use Rattle.unit_cells.specs.Cells.{CellsValue, cells_claim, cells_done, cells_has, claim_from, has_from, ring_of}
-use Rattle.unit_cells.proofs.TimeLemmas.{no_claim_from}
+use Rattle.symbol_search.specs.unit_model.specs.Radiated.{used_below, used_mask}
+use Rattle.symbol_search.specs.unit_model.specs.declared.cells.Cell.{Cell}
+use Rattle.symbol_search.specs.unit_model.specs.declared.cells.Claim.{Claim}
+use Rattle.symbol_search.specs.unit_model.specs.declared.symbol_start.SymbolStart.{SymbolStart}
+use Rattle.symbol_search.specs.unit_model.proofs.SweepLaws.{each_none}
+use Rattle.symbol_search.specs.unit_laws.proofs.ListLemmas.{each_same}
+use Rattle.symbol_search.specs.slot_rings.specs.Places.{is_due}
+use Rattle.symbol_search.specs.slot_rings.specs.Rings.{RingValue}
+use Rattle.symbol_search.specs.slot_rings.proofs.RangeLemmas.{some_at}
+use Rattle.symbol_search.specs.unit_cells.specs.Cells.{CellsValue, cells_claim, cells_done, cells_has, claim_from, has_from, ring_of}
+use Rattle.symbol_search.specs.unit_cells.proofs.TimeLemmas.{no_claim_from}
 use Rattle.ru_reports.specs.Symbols.{cell_in, is_left, left_at, left_told}
 
 -- ---- of one cell

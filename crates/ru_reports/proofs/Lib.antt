@@ -1,4 +1,3 @@
-pub mod OrderLemmas
 pub mod SearchLemmas
 pub mod CountLemmas
 pub mod MarkLemmas

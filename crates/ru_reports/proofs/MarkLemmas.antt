@@ -7,17 +7,18 @@ use Rattle.std.proofs.lemmas.List.Folds.{list_any-append}
 use Rattle.fh_time.specs.declared.values.Slot.{Slot}
 use Rattle.air_source.specs.declared.events.AirCell.{AirCell}
 use Rattle.air_source.specs.declared.events.Side.TheVariants.{Ru}
-use Rattle.unit_cells.specs.unit_model.specs.Claims.{cell_at, same_slot}
-use Rattle.unit_cells.specs.unit_model.specs.Lists.{each}
-use Rattle.unit_cells.specs.unit_model.specs.Radiated.{Known, air_cell, used_mask}
-use Rattle.unit_cells.specs.unit_model.specs.Starts.{cell_told}
-use Rattle.unit_cells.specs.unit_model.specs.declared.cells.Cell.{Cell}
-use Rattle.unit_cells.specs.unit_model.specs.declared.symbol_start.SymbolStart.{SymbolStart}
-use Rattle.unit_cells.specs.slot_rings.specs.Places.{is_in_use}
-use Rattle.unit_cells.specs.slot_rings.proofs.PlaceLemmas.{slot_is, slot_own}
-use Rattle.unit_cells.specs.Cells.{CellsValue, IsCellIn, cells_block, cells_claim, cells_done}
-use Rattle.unit_cells.specs.Keeping.{SameKnown}
-use Rattle.ru_reports.specs.Symbols.{IsSymbol, cell_in, is_told, known_by, left_told}
+use Rattle.symbol_search.specs.unit_model.specs.Claims.{cell_at, same_slot}
+use Rattle.symbol_search.specs.unit_model.specs.Lists.{each}
+use Rattle.symbol_search.specs.unit_model.specs.Radiated.{Known, air_cell, used_mask}
+use Rattle.symbol_search.specs.unit_model.specs.Starts.{cell_told}
+use Rattle.symbol_search.specs.unit_model.specs.declared.cells.Cell.{Cell}
+use Rattle.symbol_search.specs.unit_model.specs.declared.symbol_start.SymbolStart.{SymbolStart}
+use Rattle.symbol_search.specs.slot_rings.specs.Places.{is_in_use}
+use Rattle.symbol_search.specs.slot_rings.proofs.PlaceLemmas.{slot_is, slot_own}
+use Rattle.symbol_search.specs.unit_cells.specs.Cells.{CellsValue, IsCellIn, cells_block, cells_claim, cells_done}
+use Rattle.symbol_search.specs.unit_cells.specs.Keeping.{SameKnown}
+use Rattle.ru_reports.specs.Symbols.{cell_in, is_told, known_by, left_told}
+use Rattle.symbol_search.specs.Symbols.{IsSymbol}
 
 -- ---- tests
 

@@ -6,16 +6,16 @@ use Rattle.air_source.specs.declared.events.AirCell.{AirCell}
 use Rattle.air_source.specs.declared.events.Event.{Event}
 use Rattle.air_source.specs.declared.events.Event.TheVariants.{Cell as Reported}
 use Rattle.air_source.specs.declared.events.Side.TheVariants.{Ru}
-use Rattle.unit_cells.specs.unit_model.specs.Lists.{each}
-use Rattle.unit_cells.specs.unit_model.specs.Radiated.{report_of}
-use Rattle.unit_cells.specs.unit_model.specs.declared.cells.Block.{Block}
-use Rattle.unit_cells.specs.unit_model.specs.declared.cells.Claim.{Claim}
-use Rattle.unit_cells.specs.unit_model.specs.declared.symbol_start.SymbolStart.{SymbolStart}
-use Rattle.unit_cells.specs.unit_model.proofs.SweepLaws.{each_more, each_split, each_zero}
-use Rattle.unit_cells.specs.unit_laws.proofs.ListLemmas.{each_same}
-use Rattle.unit_cells.specs.slot_rings.specs.Symbols.{lent_block, lent_claim}
-use Rattle.unit_cells.specs.slot_rings.specs.declared.symbol_cells.SymbolCells.{SymbolCells}
-use Rattle.unit_cells.specs.Cells.{AreCellsOf, CellsValue, cells_claim, cells_done}
+use Rattle.symbol_search.specs.unit_model.specs.Lists.{each}
+use Rattle.symbol_search.specs.unit_model.specs.Radiated.{report_of}
+use Rattle.symbol_search.specs.unit_model.specs.declared.cells.Block.{Block}
+use Rattle.symbol_search.specs.unit_model.specs.declared.cells.Claim.{Claim}
+use Rattle.symbol_search.specs.unit_model.specs.declared.symbol_start.SymbolStart.{SymbolStart}
+use Rattle.symbol_search.specs.unit_model.proofs.SweepLaws.{each_more, each_split, each_zero}
+use Rattle.symbol_search.specs.unit_laws.proofs.ListLemmas.{each_same}
+use Rattle.symbol_search.specs.slot_rings.specs.Symbols.{lent_block, lent_claim}
+use Rattle.symbol_search.specs.slot_rings.specs.declared.symbol_cells.SymbolCells.{SymbolCells}
+use Rattle.symbol_search.specs.unit_cells.specs.Cells.{AreCellsOf, CellsValue, cells_claim, cells_done}
 use Rattle.ru_reports.specs.Symbols.{CountsTold, MarksTold, StopsAtCell, cell_in, left_at, left_told}
 use Rattle.ru_reports.specs.Tellings.{StopsAtPrb, StopsInOne, lent_below, lent_told}
 use Rattle.ru_reports.proofs.CountLemmas.{counts_none, counts_then}

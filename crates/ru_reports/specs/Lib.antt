@@ -1,5 +1,5 @@
-pub use Rattle.unit_cells.specs.slot_rings
-pub use Rattle.unit_cells
+pub use Rattle.symbol_search
+pub use Rattle.symbol_search.specs.slot_rings
+pub use Rattle.symbol_search.specs.unit_cells
 pub mod Symbols
-pub mod Searches
 pub mod Tellings

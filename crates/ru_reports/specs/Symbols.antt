@@ -1,8 +1,6 @@
--- A symbol of a radio unit's rings, and what is still to be reported of it, by look-up (this project's profile).
-use Rattle.std.specs.Prelude.{◌≡◌, ℕ, ℤ, ◌<◌, Bool, true, ◌&&◌, ◌||◌, ◌==◌, if◌then◌else◌, List, [], ◌∷◌, ◌++◌, ◌+◌, ◌^◌, map, Option, Some, None}
+-- What is still to be reported of a symbol of a radio unit's rings, by look-up (this project's profile).
+use Rattle.std.specs.Prelude.{◌≡◌, ℕ, ℤ, ◌<◌, Bool, true, ◌&&◌, ◌||◌, ◌==◌, if◌then◌else◌, List, [], ◌∷◌, ◌++◌, ◌+◌, ◌^◌, int_lt, map}
 use Rattle.std.specs.List.{list_any}
-use Rattle.fh_time.specs.Air.{air_of}
-use Rattle.fh_time.specs.Numbering.{symbols_of}
 use Rattle.air_source.specs.declared.events.AirCell.{AirCell}
 use Rattle.air_source.specs.declared.events.Event.{Event}
 use Rattle.air_source.specs.declared.events.Event.TheVariants.{Cell as Reported}
@@ -10,28 +8,19 @@ use Rattle.air_source.specs.declared.events.Side.TheVariants.{Ru}
 use Rattle.fault_counters.specs.declared.kinds.Counter.{Counter}
 use Rattle.fault_counters.specs.Counts.{capped, count_of, times}
 use Rattle.window_config.specs.declared.config.Config.{Config}
-use Rattle.unit_cells.specs.unit_model.specs.Claims.{cell_at, same_slot}
-use Rattle.unit_cells.specs.unit_model.specs.Counts.{cells_counted}
-use Rattle.unit_cells.specs.unit_model.specs.Lists.{each, some}
-use Rattle.unit_cells.specs.unit_model.specs.Proper.{IsAt, IsSlot}
-use Rattle.unit_cells.specs.unit_model.specs.Radiated.{Known}
-use Rattle.unit_cells.specs.unit_model.specs.Starts.{cell_told}
-use Rattle.unit_cells.specs.unit_model.specs.declared.allocations.Allocation.{Allocation}
-use Rattle.unit_cells.specs.unit_model.specs.declared.cells.Cell.{Cell}
-use Rattle.unit_cells.specs.unit_model.specs.declared.decoded.UserSection.{UserSection}
-use Rattle.unit_cells.specs.unit_model.specs.declared.symbol_start.SymbolStart.{SymbolStart}
-use Rattle.unit_cells.specs.slot_rings.specs.Places.{is_due}
+use Rattle.symbol_search.specs.unit_model.specs.Claims.{cell_at, same_slot}
+use Rattle.symbol_search.specs.unit_model.specs.Counts.{cells_counted}
+use Rattle.symbol_search.specs.unit_model.specs.Lists.{each, some}
+use Rattle.symbol_search.specs.unit_model.specs.Radiated.{Known}
+use Rattle.symbol_search.specs.unit_model.specs.Starts.{cell_told}
+use Rattle.symbol_search.specs.unit_model.specs.declared.allocations.Allocation.{Allocation}
+use Rattle.symbol_search.specs.unit_model.specs.declared.cells.Cell.{Cell}
+use Rattle.symbol_search.specs.unit_model.specs.declared.decoded.UserSection.{UserSection}
+use Rattle.symbol_search.specs.unit_model.specs.declared.symbol_start.SymbolStart.{SymbolStart}
+use Rattle.symbol_search.specs.slot_rings.specs.Places.{is_due}
 use Rattle.air_source.specs.declared.events.Side.{Side}
-use Rattle.unit_cells.specs.Cells.{CellsValue, IsCellIn, cells_block, cells_claim, cells_done, cells_has, endpoints_of}
-use Rattle.unit_cells.specs.Keeping.{Keeps, SameKnown}
-
--- a symbol of one of the endpoints, in a slot that has its place
-pub record IsSymbol (v : CellsValue) (m : SymbolStart) : Type 0 where
-  pub at : IsAt (endpoints_of v) m.ep m.endpoint
-  pub slot_is : IsSlot m.endpoint.numerology m.slot
-  pub symbol_is : m.symbol < symbols_of m.endpoint.numerology
-  pub starts : m.start.0 ≡ air_of m.endpoint.numerology m.slot m.symbol
-  pub has : cells_has v m.ep m.slot ≡ true
+use Rattle.symbol_search.specs.unit_cells.specs.Cells.{CellsValue, IsCellIn, cells_block, cells_claim, cells_done, endpoints_of}
+use Rattle.symbol_search.specs.unit_cells.specs.Keeping.{Keeps, SameKnown}
 
 -- the downlink cell of a symbol at a PRB
 abbrev pub cell_in : SymbolStart → ℕ → Cell
@@ -40,6 +29,10 @@ cell_in m prb = cell_at m.ep true m.slot m.symbol prb
 -- a downlink cell of the symbol is in use and was not reported
 abbrev pub is_left : CellsValue → SymbolStart → Bool
 is_left v m = some 0 m.endpoint.prbs (λ prb. is_due (cells_claim v (cell_in m prb)) (cells_done v (cell_in m prb)))
+
+-- and the symbol starts after a time
+abbrev pub is_left_after : CellsValue → ℤ → SymbolStart → Bool
+is_left_after v time m = int_lt time m.start.0 && is_left v m
 
 -- what is claimed and given, by look-up
 abbrev pub known_by : CellsValue → Known
@@ -82,8 +75,3 @@ pub record StopsAtCell {A : Type 0} (grew : A → List Event → A → Type 0) (
   pub middle : A
   pub heard : grew before (map Reported told) middle
   pub stop : stopped middle (Reported cell) after
-
--- something is found, and this holds of it
-abbrev pub IsFound : (SymbolStart → Type 0) → Option SymbolStart → Type 0
-IsFound P None = ⊥
-IsFound P (Some m) = P m

@@ -9,4 +9,4 @@ mod reporting;
 
 pub use finding::first_left;
 pub use reporting::report;
-pub use unit_cells;
+pub use symbol_search::unit_cells;

@@ -2,14 +2,15 @@
 ghost use Rattle.std.specs.Prelude.{◌≡◌, ◌<◌, ◌≤◌, [], ◌∷◌, IfErr, OnOk, map, option_to_list};
 ghost use Rattle.air_source.specs.Causes.{HasAirCause};
 ghost use Rattle.air_source.specs.declared.events.Event.TheVariants.{Cell as Reported};
-ghost use Rattle.ru_reports.specs.Symbols.{CountsTold, IsSymbol, MarksTold, StopsAtCell, left_at};
+ghost use Rattle.ru_reports.specs.Symbols.{CountsTold, MarksTold, StopsAtCell, left_at};
+ghost use Rattle.symbol_search.specs.Symbols.{IsSymbol};
 ghost use Rattle.ru_reports.specs.Tellings.{StopsAtPrb, StopsInOne, lent_below, lent_told};
 
 use air_source::{Air, AirCell, AirFault, Side};
 use fault_counters::Counters;
-use unit_cells::UnitCells;
-use unit_cells::slot_rings::SymbolCells;
-use unit_cells::unit_model::{SymbolStart, block_counter, samples_under};
+use symbol_search::unit_cells::UnitCells;
+use symbol_search::unit_cells::slot_rings::SymbolCells;
+use symbol_search::unit_cells::unit_model::{SymbolStart, block_counter, samples_under};
 
 /// How far the cells of a symbol were told to an air.
 #[derive(Drop)]

@@ -1,0 +1,15 @@
+use Rattle.std.proofs.Common.{None, arith}
+use Rattle.unit_cells.specs.unit_model.specs.declared.symbol_start.SymbolStart.{SymbolStart}
+use Rattle.symbol_search.specs.Symbols.{OfEndpoint}
+use Rattle.symbol_search.proofs.SearchLemmas.{first_of_all, searched_below_more}
+use Rattle.symbol_search.proofs.finding.first_symbol.Goals as goal
+
+pub loop-ep-preserved : goal.loop-ep-preserved
+loop-ep-preserved g c =
+    searched_below_more c.args.cells.now (g.T.SymbolTest.fits c.args.test.now c.args.cells.now) (λ m. Unit {0}) (OfEndpoint c.loop-ep.ep) (λ (m : SymbolStart). m.ep)
+    c.loop-ep.ep None c.loop-ep.first c.first_in_ring-first.result (λ m p e. e) c.loop-ep.invariant c.first_in_ring-first.ensures
+
+pub returns : goal.returns
+returns g c = record {
+  first = first_of_all c.args.cells.now (g.T.SymbolTest.fits c.args.test.now c.args.cells.now) c.loop-ep.ep c.loop-ep.first (omega arith) c.loop-ep.invariant;
+}

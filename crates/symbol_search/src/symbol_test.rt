@@ -1,0 +1,51 @@
+// What is looked for among the symbols of a unit.
+ghost use Rattle.std.specs.Prelude.{◌≡◌, ◌<◌, Bool, false, length, IfNone, IfSome};
+ghost use Rattle.std.specs.Bool.{then_some};
+ghost use Rattle.fh_time.specs.Numbering.{symbols_of};
+ghost use Rattle.unit_cells.specs.Cells.{CellsValue, endpoints_of};
+ghost use Rattle.unit_cells.specs.unit_model.specs.declared.symbol_start.SymbolStart.{SymbolStart as SpecStart};
+ghost use Rattle.symbol_search.specs.Places.{IsPlace, start_in};
+ghost use Rattle.symbol_search.specs.Symbols.{HasNone, InSlot, OfEndpoint};
+ghost use Rattle.symbol_search.specs.declared.places.SlotPlace.{SlotPlace as SpecPlace};
+
+use crate::SlotPlace;
+use unit_cells::UnitCells;
+use unit_cells::unit_model::SymbolStart;
+
+/// What is looked for among the symbols of cells.
+///
+/// A test says early where there is none, so that no place of such an endpoint is looked at, and no symbol of such a slot.
+pub trait SymbolTest<'c> {
+    /// What is looked up of a slot once for all its symbols.
+    type Lookup: Copy;
+
+    /// A symbol is one of those that are looked for, by these cells.
+    ghost fits: { Self → CellsValue → SpecStart → Bool };
+
+    /// This was looked up of a slot.
+    ghost is_looked_up: { Self → CellsValue → SpecPlace → Self.Lookup → Type 0 };
+
+    /// Whether a symbol of an endpoint may fit.
+    fn may_fit(&self, cells: &UnitCells, ep: usize) -> bool
+        requires { ep < length (endpoints_of cells.now) }
+        ensures { result ≡ false → HasNone cells.now (fits self.now cells.now) (OfEndpoint ep) };
+
+    /// Looks up what its symbols need of a slot. None only where none of them fits.
+    fn look_up(&self, cells: &'c UnitCells, place: &SlotPlace<'_>) -> Option<Self::Lookup>
+        requires { IsPlace cells.now place.now }
+        ensures none { IfNone result (HasNone cells.now (fits self.now cells.now) (InSlot place.now.ep place.now.slot)) }
+        ensures some { IfSome result (is_looked_up self.now cells.now place.now) };
+
+    /// A symbol of a slot, with its start, where it fits.
+    fn fitting(
+        &self,
+        cells: &'c UnitCells,
+        place: &SlotPlace<'_>,
+        lookup: Self::Lookup,
+        symbol: u8,
+    ) -> Option<SymbolStart>
+        requires place { IsPlace cells.now place.now }
+        requires lookup { is_looked_up self.now cells.now place.now lookup }
+        requires symbol { symbol < symbols_of place.now.endpoint.now.numerology }
+        ensures { result ≡ then_some (fits self.now cells.now (start_in place.now symbol)) (start_in place.now symbol) };
+}
