@@ -18,9 +18,9 @@ use Rattle.sent_order.specs.plan_model.specs.Valid.{IsValid}
 use Rattle.sent_order.specs.plan_model.specs.declared.streams.Stream.TheVariants.{UpData}
 use Rattle.replay_laws.specs.replay_events.proofs.CameLemmas.{arrivals_in_time}
 use Rattle.replay_laws.specs.replay_events.specs.Moments.{all_arrivals}
-use Rattle.sent_order.specs.schedule_laws.proofs.ListLemmas.{in_all, in_either, in_map, of_each, of_map}
+use Rattle.sent_order.specs.schedule_laws.proofs.ListLemmas.{in_all, in_map, of_each, of_map}
 use Rattle.sent_order.specs.schedule_laws.proofs.OrderLemmas.{below_get}
-use Rattle.sent_order.specs.schedule_laws.proofs.TimeLemmas.{wait_most}
+use Rattle.sent_order.specs.schedule_laws.proofs.TimeLemmas.{wait_most, in_ticks}
 use Rattle.replay_laws.specs.unit_laws.proofs.EndLemmas.{no_jobs_later}
 use Rattle.replay_laws.specs.unit_laws.proofs.SentLemmas.{jobs_append}
 use Rattle.replay_laws.specs.unit_laws.proofs.SweepLemmas.{sweep-nothing}
@@ -43,12 +43,13 @@ use Rattle.uplink_laws.specs.uplink_model.specs.SentLaws.{AreInTimes, AreOf}
 use Rattle.frame_deliveries.specs.window_config.specs.Windows.{ticks_of_ns}
 use Rattle.frame_deliveries.specs.window_config.specs.declared.config.Config.{Config}
 use Rattle.frame_deliveries.specs.window_config.specs.declared.endpoints.EndpointConfig.{EndpointConfig}
+use Rattle.sent_order.specs.plan_model.proofs.ListLemmas.{in_either, all_of, the_one}
 use Rattle.document_traffic.specs.Landing.{antenna_for, handed_for, jobs_for, landings_of, leaving_answer, leaving_up}
 use Rattle.document_traffic.specs.Laws.{AnswersAllLeave}
 use Rattle.document_traffic.specs.Sending.{Leaving, leaving_down, leaving_of, sent_for}
 use Rattle.document_traffic.proofs.ArrivalLemmas.{of_arrivals}
 use Rattle.document_traffic.proofs.LineLemmas.{lines_fit}
-use Rattle.document_traffic.proofs.TimeLemmas.{IsBy, all_of, frame_leaves, last_sent, longest, replayed_by}
+use Rattle.document_traffic.proofs.TimeLemmas.{IsBy, frame_leaves, last_sent, longest, replayed_by}
 use Rattle.document_traffic.proofs.WithinLemmas.{each_lands}
 
 -- ---- frames that are handed over for messages
@@ -63,10 +64,6 @@ pub record IsHanded (c : Config) (antenna : Antenna) (ms : List (Message UplinkJ
   pub before : ℕ
   pub sub : ℕ
   pub is : f ≡ frame_of c antenna endpoint message number before sub
-
-the_one : {X : Type 0} (x y : X) → IsIn x (y ∷ []) → x ≡ y
-the_one x y (inl same) = same
-the_one x y (inr t) = absurd t
 
 pub handed_is : (c : Config) (antenna : Antenna) (earlier ms : List (Message UplinkJob)) (f : LinkFrame) → IsIn f (frames_behind c antenna earlier ms) → IsHanded c antenna ms f
 unfolding frames_behind message_frames
@@ -146,9 +143,6 @@ in_time_by : (clock last : ℤ) (xs : List Arrival) → AreInTime clock xs → (
 in_time_by clock last [] h by = tt
 in_time_by clock last (a ∷ earlier) h by = (by a (inl refl), h.1)
 
-in_ns : (a b : ℤ) → a ≤ℤ b → ticks_of_ns a ≤ℤ ticks_of_ns b
-in_ns a b h = omega (arith, ints, h)
-
 -- a frame leaves within Ta3 after a symbol that starts at s
 answer_leaves : (s least most : ℤ) (wait width : ℕ) → first_clock ≤ℤ s → s ≤ℤ last_start → pos 0 ≤ℤ least → most ≤ℤ pos 2000000
     → ticks_of_ns least +ℤ pos width ≡ ticks_of_ns most → wait ≤ width → IsBy last_answered ((s +ℤ ticks_of_ns least) +ℤ pos wait)
@@ -196,7 +190,7 @@ module _ (d : Document) (is : IsDocument d) (valid : IsValid d.config d.plan) wh
       let limits = is.config.delays.ta3 in
       subst (λ (g : LinkFrame). IsBy last_answered g.at.0) (sym h.is)
       (answer_leaves h.message.first.s.0 ta3.min ta3.max (min ((h.before + h.sub) * p.gap) p.spread) p.spread job.low job.high limits.low limits.high
-      (gap_is (ticks_of_ns ta3.min) (ticks_of_ns ta3.max) (in_ns ta3.min ta3.max limits.order)) (wait_most (h.before + h.sub) p.gap p.spread))
+      (gap_is (ticks_of_ns ta3.min) (ticks_of_ns ta3.max) (in_ticks ta3.min ta3.max limits.order)) (wait_most (h.before + h.sub) p.gap p.spread))
 
   pub handed_frame : (f : LinkFrame) → IsIn f (handed_for d) → IsHanded d.config (antenna_for d) (messages_of d.config (jobs_for d)) f
   handed_frame f m = handed_is d.config (antenna_for d) [] (messages_of d.config (jobs_for d)) f m

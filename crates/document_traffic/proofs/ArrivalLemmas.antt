@@ -9,13 +9,15 @@ use Rattle.sent_order.specs.fragment_laws.specs.Apart.{IsIn}
 use Rattle.replay_laws.specs.replay_events.proofs.CameLemmas.{arrivals_in_time}
 use Rattle.replay_laws.specs.replay_events.specs.Moments.{all_arrivals, arrivals_in, landing_at}
 use Rattle.replay_laws.specs.replay_events.specs.Passing.{AreLandings}
-use Rattle.sent_order.specs.schedule_laws.proofs.ListLemmas.{in_all, in_filter, in_onto, of_filter, onto_left, onto_right}
+use Rattle.sent_order.specs.schedule_laws.proofs.ListLemmas.{in_all, in_onto, onto_left, onto_right}
 use Rattle.sent_order.specs.schedule_laws.specs.Premise.{AreInOrder}
 use Rattle.replay_laws.specs.unit_model.proofs.SweepLaws.{gap_is}
 use Rattle.replay_laws.specs.unit_model.specs.Meetings.{Arrival}
 use Rattle.replay_laws.specs.unit_model.specs.Radiated.{first_clock}
 use Rattle.replay_laws.specs.unit_model.specs.Standing.{AreInTime}
 use Rattle.replay_laws.specs.unit_model.specs.Times.{end_of_time}
+use Rattle.replay_laws.specs.history_laws.proofs.TickLemmas.{at_most, clock_begins}
+use Rattle.sent_order.specs.plan_model.proofs.ListLemmas.{in_filter, of_filter}
 
 -- ---- what arrives
 
@@ -47,9 +49,6 @@ in_ticks landings (suc n) k a m is below =
 below_gap : (from t end : ℤ) (k n : ℕ) → from +ℤ pos k ≡ t → from +ℤ pos n ≡ end +ℤ pos 1 → t ≤ℤ end → k < n
 below_gap from t end k n here there order = omega (arith, ints, here, there, order)
 
-begins : first_clock ≤ℤ (end_of_time +ℤ pos 1)
-begins = omega (arith, ints)
-
 pub in_arrivals : (landings : List Arrival) (a : Arrival) → AreLandings landings → IsIn a landings → IsIn a (all_arrivals landings)
 in_arrivals landings a are m =
     let begun = in_all (λ (b : Arrival). first_clock ≤ℤ b.at) a landings are.begun m in
@@ -57,17 +56,14 @@ in_arrivals landings a are m =
     let k = int_gap first_clock a.at in
     let here = gap_is first_clock a.at begun in
     in_ticks landings (int_gap first_clock (end_of_time +ℤ pos 1)) k a m (sym here)
-    (below_gap first_clock a.at end_of_time k (int_gap first_clock (end_of_time +ℤ pos 1)) here (gap_is first_clock (end_of_time +ℤ pos 1) begins) ended)
+    (below_gap first_clock a.at end_of_time k (int_gap first_clock (end_of_time +ℤ pos 1)) here (gap_is first_clock (end_of_time +ℤ pos 1) clock_begins) ended)
 
 -- ---- in the order of time
-
-not_after : (a b c : ℤ) → a ≤ℤ b → b ≤ℤ c → a ≤ℤ c
-not_after a b c h k = omega (arith, ints, h, k)
 
 by_clock : (clock : ℤ) (xs : List Arrival) → AreInTime clock xs → (b : Arrival) → IsIn b xs → b.at ≤ℤ clock
 by_clock clock [] h b m = absurd m
 by_clock clock (a ∷ earlier) h b (inl e) = subst (λ (x : Arrival). x.at ≤ℤ clock) (sym e) h.0
-by_clock clock (a ∷ earlier) h b (inr t) = not_after b.at a.at clock (by_clock a.at earlier h.1 b t) h.0
+by_clock clock (a ∷ earlier) h b (inr t) = at_most b.at a.at clock (by_clock a.at earlier h.1 b t) h.0
 
 ordered : (clock : ℤ) (xs : List Arrival) → AreInTime clock xs → AreInOrder xs
 ordered clock [] h = tt

@@ -4,8 +4,8 @@ use Rattle.frame_deliveries.specs.air_source.specs.declared.events.Side.{Side}
 use Rattle.frame_deliveries.specs.fh_document.specs.declared.document.Document.{Document}
 use Rattle.sent_order.specs.fragment_laws.specs.Apart.{IsIn}
 use Rattle.frame_deliveries.specs.Copies.{copies_of}
-use Rattle.sent_order.specs.schedule_laws.proofs.ListLemmas.{in_either, in_left, in_right}
 use Rattle.replay_laws.specs.unit_model.specs.Meetings.{Arrival}
+use Rattle.sent_order.specs.plan_model.proofs.ListLemmas.{in_either, in_left, in_right}
 use Rattle.document_traffic.specs.Landing.{copies_among, copies_in}
 use Rattle.document_traffic.specs.Sending.{Delayed, Leaving, SentCounts, count_of, counted, delayed, delayed_behind}
 

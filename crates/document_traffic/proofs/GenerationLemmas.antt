@@ -1,7 +1,7 @@
 -- What was delivered of sound flows of messages stands in generations that hold one message each.
 use Rattle.std.proofs.Common.{◌≡◌, ℕ, ℤ, ◌%◌, inl, inr, Bool, true, false, ◌==◌, ◌&&◌, List, [], ◌∷◌, refl, ap, sym, ◌∙◌, subst}
 use Rattle.std.specs.Prelude.{All, if◌then◌else◌, ⊤}
-use Rattle.std.proofs.lemmas.Bool.{cases_Bool, and_from, and_parts, eq-eqb, eqb-true}
+use Rattle.std.proofs.lemmas.Bool.{cases_Bool, and_from, and_parts, eq-eqb, eqb-true, both_ways}
 use Rattle.std.proofs.lemmas.List.Elements.{All-cons, All-nil, All-weaker}
 use Rattle.ecpri_fragments.specs.Generations.{Fragment, Generation, begun, generations_of, held_in, is_of, is_within, joined, with_fragment}
 use Rattle.sent_order.specs.fragment_laws.proofs.ApartLemmas.{apart_before, seen_is}
@@ -16,9 +16,6 @@ not_both : (x y : Bool) → (x ≡ true → y ≡ true → ⊥) → (x && y) ≡
 not_both true true h = absurd (h refl refl)
 not_both true false h = refl
 not_both false y h = refl
-
-not_true : (x : Bool) → x ≡ true → x ≡ false → ⊥
-not_true x t f = let e = sym t ∙ f in cc
 
 module _ (num : Numbers) (ep n : ℕ) where
   with_own : (a : Fragment) (xs : List Fragment) → a.ep ≡ ep → number_of num a ≡ n → of_message num ep n (a ∷ xs) ≡ a ∷ of_message num ep n xs
@@ -99,7 +96,7 @@ module _ (num : Numbers) (ep q : ℕ) where
     unlike not_it g w e f =
         let one = is_of_it num ep w.n xs w.one w.there in
         let seq : a.seq ≡ q = h.ids a (inl refl) ∙ ap (λ (i : ℕ). i % 256) (f ∙ sym one.number) ∙ sym (h.ids w.one (inr one.came)) ∙ w.seq in
-        not_true (is_of ep q a) (and_from (a.ep == ep) (a.seq == q) (eq-eqb a.ep ep e) (eq-eqb a.seq q seq)) not_it
+        both_ways (is_of ep q a) not_it (and_from (a.ep == ep) (a.seq == q) (eq-eqb a.ep ep e) (eq-eqb a.seq q seq))
 
     beside : is_of ep q a ≡ false → (gs : List Generation) → HoldEach xs gs → HoldEach (a ∷ xs) gs
     unfolding HoldEach HoldsOther still

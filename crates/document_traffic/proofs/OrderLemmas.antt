@@ -17,10 +17,10 @@ use Rattle.replay_laws.specs.unit_model.specs.Times.{end_of_time}
 use Rattle.uplink_laws.specs.uplink_model.proofs.SentLemmas.{leaving_leave_then}
 use Rattle.uplink_laws.specs.uplink_model.specs.Sent.{in_sent_order, leaving_at}
 use Rattle.frame_deliveries.specs.window_config.specs.declared.config.Config.{Config}
+use Rattle.sent_order.specs.plan_model.proofs.ListLemmas.{all_of}
 use Rattle.document_traffic.specs.Landing.{handed_for, leaving_answer, leaving_to}
 use Rattle.document_traffic.specs.Laws.{LeavingAreInOrder}
 use Rattle.document_traffic.specs.Sending.{Leaving, leaving_of, lines_of, sent_for}
-use Rattle.document_traffic.proofs.TimeLemmas.{all_of}
 
 abbrev pub leaving : SentFrame → ℤ
 leaving f = f.at

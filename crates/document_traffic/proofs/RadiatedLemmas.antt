@@ -1,8 +1,9 @@
 -- Where nothing disturbs its schedule, a document's plan radiates, each element once.
-use Rattle.std.proofs.Common.{◌≡◌, ℕ, ℤ, pos, ◌+◌, ◌<◌, ◌≤◌, ◌≤ℤ◌, true, List, [], ◌∷◌, sym, ◌∙◌, subst, arith}
+use Rattle.std.proofs.Common.{◌≡◌, ℕ, ℤ, pos, ◌≤◌, ◌≤ℤ◌, true, List, [], ◌∷◌, sym, ◌∙◌, subst, arith}
 use Rattle.std.specs.Prelude.{filter}
 use Rattle.std.proofs.lemmas.Bool.{and_parts}
 use Rattle.std.proofs.lemmas.Int.{ints}
+use Rattle.std.proofs.Math.Nat.{lt_of_lt_of_le}
 use Rattle.frame_deliveries.specs.air_source.specs.declared.events.AirCell.{AirCell}
 use Rattle.frame_deliveries.specs.air_source.specs.declared.events.Side.TheVariants.{Ru}
 use Rattle.bfp_codec.proofs.Laws.{can_pack}
@@ -10,7 +11,6 @@ use Rattle.bfp_codec.specs.Shrunk.{CanPack}
 use Rattle.frame_deliveries.specs.fh_document.specs.Proper.{IsDocument}
 use Rattle.frame_deliveries.specs.fh_document.specs.declared.document.Document.{Document}
 use Rattle.fh_time.specs.Air.{air_of}
-use Rattle.fh_time.specs.Numbering.{symbols_of}
 use Rattle.fh_time.specs.declared.values.Slot.{Slot}
 use Rattle.sent_order.specs.fragment_laws.specs.Apart.{IsIn}
 use Rattle.sent_order.specs.plan_model.specs.Lines.{allocation_of}
@@ -51,9 +51,6 @@ use Rattle.document_traffic.proofs.GenerationLemmas.{each_holds_one}
 use Rattle.document_traffic.proofs.LandingLemmas.{are_replayed}
 use Rattle.document_traffic.proofs.LineLemmas.{lines_fit}
 use Rattle.document_traffic.proofs.ToneLemmas.{tone_fits}
-
-under : (s m n : ℕ) → s < m → m ≤ n → s < n
-under s m n h k = omega (arith, h, k)
 
 by_the_end : (s : ℤ) → s ≤ℤ pos 1536100000000000 → s ≤ℤ end_of_time
 by_the_end s h = omega (arith, ints, h)
@@ -108,7 +105,7 @@ module _ (d : Document) (is : IsDocument d) (widths : HasWidths d) (valid : IsVa
       let cell = cell_of a symbol prb in
       let cover = covers_is a cell (and_parts (covers a cell) (in_mask a.mask re) named).0 in
       let g = good d.config d.plan is.config (lines_fit d.plan is.plan) valid p m in
-      let below = under symbol (p.line.symbol + p.line.count) (symbols_of p.endpoint.numerology) (from_within p.line.symbol p.line.count symbol cover.symbol) g.within in
+      let below = lt_of_lt_of_le (from_within p.line.symbol p.line.count symbol cover.symbol) g.within in
       (start_in_time d.config.endpoints p symbol g below).1
 
   radiates : RadiatesOnce d (planned_traffic d)

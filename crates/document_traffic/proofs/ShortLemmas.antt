@@ -30,11 +30,11 @@ use Rattle.uplink_laws.specs.uplink_model.specs.Frames.{Antenna, frame_of, fragm
 use Rattle.uplink_laws.specs.uplink_model.specs.Messages.{job_fields}
 use Rattle.frame_deliveries.specs.window_config.specs.declared.config.Config.{Config}
 use Rattle.frame_deliveries.specs.window_config.specs.declared.endpoints.EndpointConfig.{EndpointConfig}
+use Rattle.sent_order.specs.plan_model.proofs.ListLemmas.{all_of}
 use Rattle.document_traffic.specs.Landing.{antenna_for, leaving_up}
 use Rattle.document_traffic.specs.Laws.{LeavingAreShort}
 use Rattle.document_traffic.specs.Sending.{Leaving, leaving_down, leaving_of, sent_for, source_for}
 use Rattle.document_traffic.proofs.AnswerLemmas.{handed_frame, sent_is_handed}
-use Rattle.document_traffic.proofs.TimeLemmas.{all_of}
 
 -- a frame has eight bytes of headers before its application bytes
 length_frame : (kind id : ℕ) (seq : SeqField) (application : List ℕ) → length (transport_frame kind id seq application) ≡ 8 + length application
@@ -73,7 +73,7 @@ down_short d is f m =
 
 -- ---- what the radio unit sends
 
-short_cut : (n from fragment size len : ℕ) → n ≡ min (min (from + fragment) size) len - from → n ≤ fragment
+pub short_cut : (n from fragment size len : ℕ) → n ≡ min (min (from + fragment) size) len - from → n ≤ fragment
 short_cut n from fragment size len h = omega (arith, h)
 
 handed_short : (c : Config) (antenna : Antenna) (e : EndpointConfig) (m : Message UplinkJob) (number before sub : ℕ) → c.fragment ≤ 9000

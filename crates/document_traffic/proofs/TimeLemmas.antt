@@ -1,8 +1,7 @@
 -- When the frames of the distributed unit leave, when copies land, and which landings may be replayed.
-use Rattle.std.proofs.Common.{◌≡◌, ℕ, ℤ, pos, neg_ℤ, ◌+◌, ◌*◌, ◌^◌, ◌≤◌, ◌+ℤ◌, ◌*ℤ◌, ◌≤ℤ◌, min, inl, inr, List, [], ◌∷◌, refl, sym, subst, arith}
+use Rattle.std.proofs.Common.{◌≡◌, ℕ, ℤ, pos, neg_ℤ, ◌+◌, ◌*◌, ◌^◌, ◌≤◌, ◌+ℤ◌, ◌*ℤ◌, ◌≤ℤ◌, min, inl, List, refl, sym, subst, arith}
 use Rattle.std.specs.Prelude.{All}
 use Rattle.std.proofs.lemmas.Int.{ints}
-use Rattle.std.proofs.lemmas.List.Elements.{All-cons, All-nil}
 use Rattle.sent_order.specs.fragment_laws.specs.Apart.{IsIn}
 use Rattle.sent_order.specs.plan_model.specs.Departures.{departures_of, sending_from, sending_window, sent_at, start_of, width_of}
 use Rattle.sent_order.specs.plan_model.specs.Lines.{planned}
@@ -15,8 +14,8 @@ use Rattle.sent_order.specs.plan_model.specs.declared.streams.Stream.{Stream}
 use Rattle.sent_order.specs.plan_model.specs.declared.streams.Stream.TheVariants.{DownCommands, UpCommands, DownData, UpData}
 use Rattle.replay_laws.specs.replay_events.specs.Passing.{AreLandings}
 use Rattle.sent_order.specs.schedule_laws.proofs.SentLemmas.{IsSentStream, message_part, sent_is}
-use Rattle.sent_order.specs.schedule_laws.proofs.TimeLemmas.{wait_most}
-use Rattle.sent_order.proofs.BoundLemmas.{in_ticks, most_before, part_time}
+use Rattle.sent_order.specs.schedule_laws.proofs.TimeLemmas.{wait_most, in_ticks}
+use Rattle.sent_order.proofs.BoundLemmas.{most_before, part_time}
 use Rattle.replay_laws.specs.unit_model.proofs.SweepLaws.{gap_is}
 use Rattle.replay_laws.specs.unit_model.specs.Meetings.{Arrival}
 use Rattle.replay_laws.specs.unit_model.specs.Proper.{IsAt, IsTime}
@@ -29,6 +28,7 @@ use Rattle.frame_deliveries.specs.window_config.specs.declared.config.Config.{Co
 use Rattle.frame_deliveries.specs.window_config.specs.declared.delays.Delays.{Delays}
 use Rattle.frame_deliveries.specs.window_config.specs.declared.endpoints.EndpointConfig.{EndpointConfig}
 use Rattle.frame_deliveries.specs.window_config.specs.declared.plan.PlanLine.{PlanLine}
+use Rattle.sent_order.specs.plan_model.proofs.ListLemmas.{all_of}
 
 -- ---- times of a replay
 
@@ -52,7 +52,7 @@ leaves_by : (s least most : ℤ) (wait width : ℕ) → pos 15360000000 ≤ℤ s
     → ticks_of_ns least +ℤ pos width ≡ ticks_of_ns most → wait ≤ width → IsBy last_sent ((s +ℤ neg_ℤ (ticks_of_ns most)) +ℤ pos wait)
 leaves_by s least most wait width low high few some is in_width = record { low = omega (arith, ints); high = omega (arith, ints) }
 
-from_is : (d : Delays) (stream : Stream) → IsSentStream stream → sending_from d stream ≡ neg_ℤ (ticks_of_ns (sending_window d stream).max)
+pub from_is : (d : Delays) (stream : Stream) → IsSentStream stream → sending_from d stream ≡ neg_ℤ (ticks_of_ns (sending_window d stream).max)
 from_is d DownCommands s = refl
 from_is d UpCommands s = refl
 from_is d DownData s = refl
@@ -96,10 +96,6 @@ by_is_time last t order by = record { low = omega (arith, ints); high = omega (a
 
 by_the_end : (last t : ℤ) → last ≤ℤ end_of_time → IsBy last t → t ≤ℤ end_of_time
 by_the_end last t order by = omega (arith, ints)
-
-pub all_of : {X : Type 0} (P : X → Type 0) (xs : List X) → ((x : X) → IsIn x xs → P x) → All P xs
-all_of P [] h = All-nil P
-all_of P (x ∷ xs) h = All-cons P x xs (h x (inl refl)) (all_of P xs (λ y m. h y (inr m)))
 
 -- frames that land by a last time may be replayed
 pub replayed_by : (last : ℤ) (landings : List Arrival) → last ≤ℤ end_of_time → ((a : Arrival) → IsIn a landings → IsBy last a.at) → AreLandings landings

@@ -8,8 +8,9 @@ use Rattle.frame_deliveries.specs.fh_document.specs.declared.document.Document.{
 use Rattle.sent_order.specs.fragment_laws.specs.Apart.{IsIn}
 use Rattle.frame_deliveries.proofs.Within.{copies_within}
 use Rattle.frame_deliveries.specs.Copies.{copies_of}
-use Rattle.sent_order.specs.schedule_laws.proofs.ListLemmas.{in_all, in_either, of_filter, of_map}
+use Rattle.sent_order.specs.schedule_laws.proofs.ListLemmas.{in_all, of_map}
 use Rattle.replay_laws.specs.unit_model.specs.Meetings.{Arrival}
+use Rattle.sent_order.specs.plan_model.proofs.ListLemmas.{in_either, of_filter}
 use Rattle.document_traffic.specs.Landing.{copies_among, copies_in, copy_at, injected_at, injected_to, is_to, landing_with}
 use Rattle.document_traffic.specs.Sending.{Delayed, Leaving, delayed_behind, none_sent}
 use Rattle.document_traffic.proofs.CopyLemmas.{delayed_is, of_copies}

@@ -1,5 +1,5 @@
 -- The planned cell at the cursor: what is told of it, and what the intake keeps once it was told, or where none is planned.
-use Rattle.std.proofs.Common.{◌≡◌, ℕ, ℤ, pos, ◌+◌, ◌-◌, ◌<◌, ◌+ℤ◌, ◌-ℤ◌, ◌*◌, ◌≤ℤ◌, ◌<ℤ◌, Bool, true, false, not, ◌&&◌, ◌||◌, ◌==◌, List, [], ◌∷◌, ◌++◌, filter, Some, inl, inr, refl, sym, ap, ap₂, ◌∙◌, subst, arith}
+use Rattle.std.proofs.Common.{◌≡◌, ℕ, ℤ, pos, ◌+◌, ◌-◌, ◌<◌, ◌+ℤ◌, ◌-ℤ◌, ◌*◌, ◌≤ℤ◌, Bool, true, false, not, ◌&&◌, ◌||◌, ◌==◌, List, [], ◌∷◌, ◌++◌, filter, Some, inl, inr, refl, sym, ap, ap₂, ◌∙◌, subst, arith}
 use Rattle.std.specs.Prelude.{nat_lt, if◌then◌else◌}
 use Rattle.std.specs.List.{list_any}
 use Rattle.std.proofs.lemmas.Bool.{and_from, and_parts, cases_Bool, eq-eqb, eqb-true}
@@ -7,14 +7,13 @@ use Rattle.std.proofs.lemmas.Bool.Decides.{nat_tests}
 use Rattle.std.proofs.lemmas.Int.{ints, by_lt_z}
 use Rattle.std.proofs.lemmas.List.Elements.{All-nil, All-append, All-cons}
 use Rattle.std.proofs.lemmas.List.Folds.{list_any-append}
+use Rattle.std.specs.Int.Signed.{≤ℤ_refl}
 use Rattle.fh_time.specs.Air.{air_of, span_of}
 use Rattle.fh_time.specs.Kinds.{kind_start}
 use Rattle.fh_time.specs.declared.values.Slot.{Slot}
 use Rattle.fh_time.proofs.Order.{symbol_in_span, symbols_in_order}
 use Rattle.air_source.specs.declared.events.AirCell.{AirCell}
 use Rattle.air_source.specs.declared.events.Side.TheVariants.{Du}
-use Rattle.eaxc_map.specs.Endpoints.{AppearOnce}
-use Rattle.window_config.specs.Endpoints.{ids_of}
 use Rattle.window_config.specs.Rings.{IsLive}
 use Rattle.window_config.specs.Windows.{ticks_of_ns}
 use Rattle.window_config.specs.declared.config.Config.{Config}
@@ -35,7 +34,6 @@ use Rattle.schedule_laws.specs.unit_model.specs.declared.symbol_start.SymbolStar
 use Rattle.schedule_laws.specs.unit_model.proofs.SweepLaws.{each_more, each_split}
 use Rattle.schedule_laws.specs.unit_laws.specs.Swept.{IsSwept}
 use Rattle.schedule_laws.specs.unit_laws.proofs.CellLemmas.{slots_equal}
-use Rattle.schedule_laws.specs.unit_laws.proofs.DifferLemmas.{id_is}
 use Rattle.schedule_laws.specs.unit_laws.proofs.DueLemmas.{due_begins, due_in_pieces, due_left, heard_differ, unheard}
 use Rattle.schedule_laws.specs.unit_laws.proofs.FarLemmas.{endpoints_equal}
 use Rattle.ru_buffers.specs.unit_cells.specs.Cells.{cells_block}
@@ -43,6 +41,12 @@ use Rattle.ru_buffers.specs.unit_cells.proofs.TimeLemmas.{live_at}
 use Rattle.ru_buffers.specs.unit_cells.proofs.ToldLemmas.{told_whole}
 use Rattle.ru_buffers.specs.history_laws.specs.First.{IsSweptIn, told_of}
 use Rattle.ru_buffers.specs.history_laws.proofs.FirstLemmas.{first_is_first}
+use Rattle.ru_buffers.specs.history_laws.proofs.TickLemmas.{last_before, at_most}
+use Rattle.ru_buffers.specs.history_laws.proofs.UnitLemmas.{same_ids, not_both, not_none}
+use Rattle.ru_buffers.specs.history_laws.proofs.ListLemmas.{one_of_two}
+use Rattle.schedule_laws.specs.plan_model.proofs.SlotLemmas.{slot_own}
+use Rattle.schedule_laws.specs.plan_model.proofs.TickLemmas.{not_zero}
+use Rattle.schedule_laws.proofs.TimeLemmas.{by_then}
 use Rattle.ru_buffers.specs.unit_memory.specs.Memory.{Holds}
 use Rattle.ru_buffers.specs.unit_memory.specs.declared.memory.UnitMemory.{UnitMemory}
 use Rattle.ru_buffers.specs.unit_memory.proofs.HoldLemmas.{holds_later}
@@ -50,10 +54,9 @@ use Rattle.ru_buffers.specs.ru_reports.specs.Symbols.{CountsTold}
 use Rattle.ru_buffers.specs.symbol_search.proofs.OrderLemmas.{not_before_itself}
 use Rattle.ru_buffers.proofs.MarkedLemmas.{counts_more}
 use Rattle.ru_buffers.proofs.OrderLemmas.{same_place}
-use Rattle.schedule_laws.proofs.ClashLemmas.{slot_own}
 use Rattle.du_intake.specs.Cursors.{CellCursor, cell_in, is_behind}
 use Rattle.du_intake.specs.Units.{Keeps, due_of}
-use Rattle.du_intake.proofs.DueLemmas.{begun_late, by_cells, cells_left, each_nothing, least_not_negative, next_swept, nothing_if, one_cell, own_not_behind, quiet, used_cell, wait_bounds}
+use Rattle.du_intake.proofs.DueLemmas.{begun_late, by_cells, cells_left, each_nothing, next_swept, nothing_if, one_cell, own_not_behind, quiet, used_cell, wait_bounds}
 use Rattle.du_intake.proofs.UnitLemmas.{all_told}
 
 -- ---- tests
@@ -94,19 +97,6 @@ own_behind false false p n h k l = grind (arith, nat_tests)
 own_ahead : (n : ℕ) → nat_lt n n ≡ false
 own_ahead n = grind (arith, nat_tests)
 
-is_some : (n : ℕ) → 0 < n → (n == 0) ≡ false
-is_some n h = grind (arith, nat_tests)
-
-is_none : (n : ℕ) → n ≡ 0 → 0 < n → ⊥
-is_none n e h = omega (arith, h, e)
-
-pub positive_or_none : (n : ℕ) → (n == 0) ≡ false → 0 < n
-positive_or_none n h = grind (arith, nat_tests)
-
-one_of_two : {P : Type 0} (a b : Bool) → (a || b) ≡ true → (a ≡ true → P) → (b ≡ true → P) → P
-one_of_two true b h k l = k refl
-one_of_two false b h k l = l h
-
 or_none : (b : Bool) → (b || false) ≡ true → b ≡ true
 or_none true h = refl
 or_none false h = cc
@@ -121,15 +111,6 @@ if_not false xs h = refl
 
 -- ---- times
 
-by_moment : (start wait to : ℤ) → (start +ℤ wait) ≤ℤ to → start <ℤ ((to -ℤ wait) +ℤ pos 1)
-by_moment start wait to h = omega (arith, ints)
-
-early : (moment clock : ℤ) → moment <ℤ clock → moment ≤ℤ (clock -ℤ pos 1)
-early moment clock h = omega (arith, ints)
-
-same_time : (t : ℤ) → t ≤ℤ t
-same_time t = omega (arith, ints)
-
 live_begun : (first start wait none : ℤ) → first ≤ℤ start → pos 0 ≤ℤ wait → pos 0 ≤ℤ none → (first -ℤ none) ≤ℤ (start +ℤ wait)
 live_begun first start wait none h k l = omega (arith, ints)
 
@@ -138,12 +119,6 @@ live_lasting first start wait span h = omega (arith, ints)
 
 no_ticks : pos 0 ≤ℤ ticks_of_ns (pos 0)
 no_ticks = omega (arith, ints)
-
-same_ids : (es : List EndpointConfig) (i j : ℕ) (e f : EndpointConfig) → AppearOnce (ids_of es) → IsAt es i e → IsAt es j f → e.id ≡ f.id → i ≡ j
-same_ids es i j e f once at_i at_j same =
-    let here = id_is es i e at_i in
-    let there = id_is es j f at_j in
-    once i j here.0 there.0 (here.1 ∙ same ∙ sym there.1)
 
 same_fields : (s : SymbolStart) (cell : Cell) (prb : ℕ) → cell.ep ≡ s.ep → cell.down ≡ false → cell.slot ≡ s.slot → cell.symbol ≡ s.symbol → cell.prb ≡ prb → cell ≡ cell_in s prb
 same_fields s cell prb ep down slot symbol here =
@@ -185,7 +160,7 @@ module _ (c : Config) (planned : List Allocation) (m : UnitMemory) (clock : ℤ)
   pub wait_low : pos 0 ≤ℤ wait
   wait_low =
       let limits = k.holds.config.delays in
-      (wait_bounds c.delays.ta4.max (least_not_negative c.delays.ta4.min c.delays.ta4.max limits.ta4.low limits.ta4.order) limits.ta4.high).0
+      (wait_bounds c.delays.ta4.max (at_most (pos 0) c.delays.ta4.min c.delays.ta4.max limits.ta4.low limits.ta4.order) limits.ta4.high).0
 
   -- the cell, and what is told of it
   abbrev pub here : Cell
@@ -231,7 +206,7 @@ module _ (c : Config) (planned : List Allocation) (m : UnitMemory) (clock : ℤ)
     marks = λ e cell is down used.
         k.marks e cell is down used
         ∙ sym (behind_same (comes_before (start_at cell.ep e cell.slot cell.symbol) next) (comes_before next (start_at cell.ep e cell.slot cell.symbol)) cell.prb prb
-        (λ a b p. is_none (used_mask (claim_at planned cell)) (ap (λ (x : Cell). used_mask (claim_at planned x)) (place_cell e cell down a b p) ∙ none) used));
+        (λ a b p. not_both (used_mask (claim_at planned cell)) (ap (λ (x : Cell). used_mask (claim_at planned x)) (place_cell e cell down a b p) ∙ none) used));
     named = k.named;
   }
 
@@ -315,7 +290,7 @@ module _ (c : Config) (planned : List Allocation) (m : UnitMemory) (clock : ℤ)
         let done = list_any (cell_heard next.endpoint cell) h.reported in
         one_cell next.endpoint cell start (claim_at planned cell) (known.blocks cell) h.reported done refl refl
         ∙ nothing_if done (used_mask (claim_at planned cell) == 0) (air_cell Du next.endpoint cell start (claim_at planned cell) (known.blocks cell)) (λ some.
-        done_at q (omega (arith, less, below)) true (positive_or_none (used_mask (claim_at planned cell)) some)
+        done_at q (omega (arith, less, below)) true (not_zero (used_mask (claim_at planned cell)) some)
         (own_behind (comes_before next next) (comes_before next next) q prb (not_before_itself next) (not_before_itself next) less))
 
     told_here : left prb ≡ told_cell ∷ []
@@ -324,7 +299,7 @@ module _ (c : Config) (planned : List Allocation) (m : UnitMemory) (clock : ℤ)
         one_cell next.endpoint here start (claim_at planned here) (known.blocks here) h.reported false refl
         (done_at prb below false used
         (own_not_behind (comes_before next next) (not (comes_before next next)) (nat_lt prb prb) (not_before_itself next) (own_ahead prb)))
-        ∙ one_unless (used_mask (claim_at planned here) == 0) told_cell (is_some (used_mask (claim_at planned here)) used)
+        ∙ one_unless (used_mask (claim_at planned here) == 0) told_cell (not_none (used_mask (claim_at planned here)) used)
 
     pub still_here : told_of still next ≡ told_cell ∷ later
     still_here =
@@ -343,7 +318,7 @@ module _ (c : Config) (planned : List Allocation) (m : UnitMemory) (clock : ℤ)
     due_is to order =
         let from = first_clock -ℤ wait in
         let end = (to -ℤ wait) +ℤ pos 1 in
-        let is : IsSweptIn c.endpoints from end next = record { swept = swept; low = begun; high = by_moment next.start.0 wait to order } in
+        let is : IsSweptIn c.endpoints from end next = record { swept = swept; low = begun; high = by_then next.start.0 wait to order } in
         let silent : (x : SymbolStart) → IsSweptIn c.endpoints from end x → comes_before x next ≡ true → told_of still x ≡ [] =
         λ x in_x before.
         let own = start_at x.ep x.endpoint x.slot x.symbol in
@@ -377,8 +352,8 @@ module _ (c : Config) (planned : List Allocation) (m : UnitMemory) (clock : ℤ)
         let moment = next.start.0 +ℤ wait in
         by_lt_z moment h.clock
         (λ before.
-        let b = due_begins Du c.delays c.endpoints known h.reported moment (h.clock -ℤ pos 1) (early moment h.clock before) in
-        let d = due_is moment (same_time moment) in
+        let b = due_begins Du c.delays c.endpoints known h.reported moment (h.clock -ℤ pos 1) (last_before moment h.clock before) in
+        let d = due_is moment (≤ℤ_refl moment) in
         absurd (no_first told_cell (d.0 ++ b.0) (sym (ap (λ (xs : List AirCell). xs ++ b.0) d.1) ∙ sym b.1 ∙ k.past)))
         (λ after. after)
       where

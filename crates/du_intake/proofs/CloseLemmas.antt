@@ -1,8 +1,8 @@
 -- The intake stands for its history as its cells are reported.
-use Rattle.std.proofs.Common.{◌≡◌, ℕ, ℤ, ◌+◌, ◌^◌, ◌<◌, ◌≤◌, ◌+ℤ◌, ◌≤ℤ◌, ◌<ℤ◌, Bool, true, false, ◌==◌, List, [], ◌∷◌, ◌++◌, length, get_or, Option, Some, refl, sym, ap, ap₂, ◌∙◌, subst, arith, append-nil, append_assoc}
+use Rattle.std.proofs.Common.{◌≡◌, ℕ, ℤ, ◌+◌, ◌^◌, ◌<◌, ◌≤◌, ◌+ℤ◌, ◌≤ℤ◌, ◌<ℤ◌, Bool, true, false, ◌==◌, List, [], ◌∷◌, length, get_or, Option, Some, refl, sym, ap, ap₂, ◌∙◌, subst, arith}
 use Rattle.std.specs.Prelude.{if◌then◌else◌, slice_get, IfSome}
 use Rattle.std.proofs.lemmas.Bool.{eqb-true}
-use Rattle.std.proofs.lemmas.Int.{ints}
+use Rattle.std.specs.Int.Signed.{clash_ℤ}
 use Rattle.fh_time.specs.Air.{air_of}
 use Rattle.air_source.specs.declared.events.AirCell.{AirCell}
 use Rattle.air_source.specs.declared.events.Event.{Event}
@@ -18,10 +18,12 @@ use Rattle.schedule_laws.specs.unit_model.specs.declared.cells.Block.{Block}
 use Rattle.schedule_laws.specs.unit_model.specs.declared.cells.Cell.{Cell}
 use Rattle.schedule_laws.specs.unit_model.specs.declared.cells.Claim.{Claim}
 use Rattle.schedule_laws.specs.unit_model.specs.declared.symbol_start.SymbolStart.{SymbolStart}
+use Rattle.ru_buffers.specs.history_laws.proofs.UnitLemmas.{used_same}
+use Rattle.schedule_laws.specs.plan_model.proofs.TickLemmas.{not_zero}
 use Rattle.ru_buffers.specs.unit_cells.specs.Cells.{IsSlotIn, cells_block}
 use Rattle.ru_buffers.specs.unit_cells.proofs.KeepLemmas.{at_rings}
 use Rattle.ru_buffers.specs.ru_reports.specs.Symbols.{CountsTold}
-use Rattle.ru_buffers.proofs.MarkedLemmas.{used_same}
+use Rattle.ru_buffers.proofs.AdvanceLemmas.{heard_none}
 use Rattle.du_intake.specs.Calls.{StandsFor, cursor_in, next_in}
 use Rattle.du_intake.specs.Closing.{Closes, ClosesSome, GoesOn, HasMarked, IsMarkedFrom, StandsForSome, StaysAt, StopsAtDue, at_prb}
 use Rattle.du_intake.specs.Cursors.{CellCursor, HasLeft, IsNamed, IsNextSymbol, cell_in}
@@ -31,7 +33,7 @@ use Rattle.du_intake.specs.Units.{Keeps, due_of}
 use Rattle.du_intake.specs.declared.marks.CellMark.{CellMark}
 use Rattle.du_intake.specs.declared.plan.UplinkPlan.{UplinkPlan}
 use Rattle.du_intake.specs.declared.unit.Intake.{Intake}
-use Rattle.du_intake.proofs.CellLemmas.{block_is, cursor_at, due_goes, due_is, keeps_told, keeps_unplanned, positive_or_none, slot_is, swept, told_cell, with_counters}
+use Rattle.du_intake.proofs.CellLemmas.{block_is, cursor_at, due_goes, due_is, keeps_told, keeps_unplanned, slot_is, swept, told_cell, with_counters}
 use Rattle.du_intake.proofs.NextLemmas.{next_symbol, of_some, row_claims, some_same}
 use Rattle.du_intake.proofs.RowLemmas.{ids_same}
 use Rattle.du_intake.proofs.StepLemmas.{keeps_symbol}
@@ -60,12 +62,6 @@ counted_unit u counters prb = record {
   wait = u.wait;
 }
 
-pub heard_none : (h : History) → heard h [] ≡ h
-heard_none h = ap (λ (xs : List AirCell). let r : History = record { clock = h.clock; arrivals = h.arrivals; reported = xs; given = h.given } in r) (append-nil h.reported)
-
-pub heard_more : (h : History) (a b : List AirCell) → heard (heard h a) b ≡ heard h (a ++ b)
-heard_more h a b = ap (λ (xs : List AirCell). let r : History = record { clock = h.clock; arrivals = h.arrivals; reported = xs; given = h.given } in r) (append_assoc h.reported a b)
-
 one_of : (none : Bool) (x a : AirCell) → x ∷ [] ≡ (let xs : List AirCell = if none then [] else a ∷ [] in xs) → (none ≡ false) × (x ≡ a)
 one_of true x a h = absurd cc
 one_of false x a h = (refl, cc)
@@ -73,9 +69,6 @@ one_of false x a h = (refl, cc)
 none_of : (none : Bool) (a : AirCell) → [] ≡ (let xs : List AirCell = if none then [] else a ∷ [] in xs) → none ≡ true
 none_of true a h = refl
 none_of false a h = absurd cc
-
-not_later : (a b : ℤ) → a ≤ℤ b → b <ℤ a → ⊥
-not_later a b h k = omega (arith, ints)
 
 -- what the unit answers by what it keeps
 pub standing : (c : Config) (planned : List Allocation) (u : Intake) (h : History) → Closes c planned u h → IfSome (next_in u) (HasLeft planned u.place.prb) → StandsFor c planned u h
@@ -182,7 +175,7 @@ module _ (c : Config) (planned : List Allocation) (u : Intake) (h : History) (ne
   pub not_late : (to : ℤ) (n : ℕ) → (next.start.0 +ℤ u.wait.0) ≤ℤ to → (f : SymbolStart) → next_in u ≡ Some f → to <ℤ (f.start.0 +ℤ u.wait.0) → HasLeft planned n f
   not_late to n order f at late =
       let same : f ≡ next = some_same (next_in u) f next at is in
-      absurd (not_later (next.start.0 +ℤ u.wait.0) to order (subst (λ (x : SymbolStart). to <ℤ (x.start.0 +ℤ u.wait.0)) same late))
+      absurd (clash_ℤ (subst (λ (x : SymbolStart). to <ℤ (x.start.0 +ℤ u.wait.0)) same late) order)
 
   module _ (mark : CellMark) (within : prb < next.endpoint.prbs) (claims : (re : ℕ) → claim_of_mark mark re ≡ claim_at planned (cell_in next prb) re) where
     abbrev own_report : List AirCell
@@ -196,7 +189,7 @@ module _ (c : Config) (planned : List Allocation) (u : Intake) (h : History) (ne
 
     used_of : (cell : AirCell) → cell ∷ [] ≡ own_report → 0 < used_mask (claim_at planned (cell_in next prb))
     used_of cell one =
-        subst (λ (n : ℕ). 0 < n) used_same_mark (positive_or_none (used_mask (claim_of_mark mark)) (one_of (used_mask (claim_of_mark mark) == 0) cell _ one).0)
+        subst (λ (n : ℕ). 0 < n) used_same_mark (not_zero (used_mask (claim_of_mark mark)) (one_of (used_mask (claim_of_mark mark) == 0) cell _ one).0)
 
     -- what is handed to the air is what is told
     told_is : (cell : AirCell) → cell ∷ [] ≡ own_report → cell ≡ told_cell c planned u.memory u.clock.0 h next prb kept_at

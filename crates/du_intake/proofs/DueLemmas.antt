@@ -1,11 +1,10 @@
 -- What is due at the distributed unit, by its cursor.
-use Rattle.std.proofs.Common.{◌≡◌, ◌≢◌, ℕ, zero, suc, ℤ, pos, ◌+◌, ◌<◌, ◌≤◌, ◌+ℤ◌, ◌-ℤ◌, ◌*ℤ◌, ◌*◌, ◌≤ℤ◌, ◌<ℤ◌, Bool, true, false, not, ◌&&◌, ◌||◌, ◌==◌, if◌then◌else◌, List, [], ◌∷◌, ◌++◌, filter, Option, Some, None, inl, inr, refl, sym, ap, ap₂, ◌∙◌, subst, arith}
-use Rattle.std.specs.Prelude.{cond, nat_lt, neg_ℤ, ◌^◌}
+use Rattle.std.proofs.Common.{◌≡◌, ◌≢◌, ℕ, zero, suc, ℤ, pos, ◌+◌, ◌<◌, ◌≤◌, ◌+ℤ◌, ◌-ℤ◌, ◌*ℤ◌, ◌*◌, ◌≤ℤ◌, ◌<ℤ◌, Bool, true, false, not, ◌&&◌, ◌||◌, ◌==◌, if◌then◌else◌, List, [], ◌++◌, filter, Option, Some, None, inl, inr, refl, sym, ap, ◌∙◌, subst, arith}
+use Rattle.std.specs.Prelude.{nat_lt, neg_ℤ, ◌^◌}
 use Rattle.std.specs.List.{list_any, slice_get}
-use Rattle.std.proofs.lemmas.Bool.{cases_Bool, eqb-true}
+use Rattle.std.proofs.lemmas.Bool.{cases_Bool, eqb-true, le-ltb, or_left}
 use Rattle.std.proofs.lemmas.Bool.Decides.{nat_tests}
 use Rattle.std.proofs.lemmas.Int.{ints}
-use Rattle.std.proofs.lemmas.List.Elements.{filter-append}
 use Rattle.fh_time.specs.Air.{air_of}
 use Rattle.fh_time.specs.Kinds.{kind_start}
 use Rattle.fh_time.specs.declared.values.Slot.{Slot}
@@ -33,10 +32,14 @@ use Rattle.schedule_laws.specs.unit_laws.proofs.DueLemmas.{unheard}
 use Rattle.schedule_laws.specs.unit_laws.proofs.FrameLemmas.{symbol_short, symbols_are_swept}
 use Rattle.window_config.specs.Windows.{ticks_of_ns}
 use Rattle.schedule_laws.specs.unit_laws.proofs.LookupLemmas.{reported_by_mark}
-use Rattle.schedule_laws.specs.unit_laws.proofs.SweepLemmas.{IsKept, each_related, none_kept}
+use Rattle.schedule_laws.specs.unit_laws.proofs.SweepLemmas.{each_related, none_kept}
 use Rattle.ru_buffers.specs.history_laws.specs.First.{IsSweptIn, told_of}
 use Rattle.ru_buffers.specs.history_laws.proofs.BeforeLemmas.{start_before}
 use Rattle.ru_buffers.specs.history_laws.proofs.FirstLemmas.{first_is_first, nothing_is_nothing}
+use Rattle.ru_buffers.specs.history_laws.proofs.TickLemmas.{at_most}
+use Rattle.ru_buffers.specs.history_laws.proofs.ListLemmas.{kept_one, filter_kept, both_nothing, one_unless}
+use Rattle.ru_buffers.specs.history_laws.proofs.UnitLemmas.{not_none}
+use Rattle.schedule_laws.specs.plan_model.proofs.TickLemmas.{not_zero}
 use Rattle.ru_buffers.specs.unit_memory.specs.declared.memory.UnitMemory.{UnitMemory}
 use Rattle.ru_buffers.specs.symbol_search.proofs.OrderLemmas.{not_before_itself}
 use Rattle.du_intake.specs.Cursors.{CellCursor, HasLeft, IsNamed, cell_in, is_behind}
@@ -50,15 +53,6 @@ use Rattle.du_intake.proofs.NextLemmas.{of_some, start_is as kept_start}
 use Rattle.du_intake.proofs.UsedLemmas.{used_named}
 
 -- ---- what is told of one cell
-
-abbrev one_unless : Bool → AirCell → List AirCell
-one_unless none a = if none then [] else a ∷ []
-
-kept_one : (p : AirCell → Bool) (none done : Bool) (a : AirCell) → p a ≡ not done → filter p (one_unless none a) ≡ (if done then [] else one_unless none a)
-kept_one p true true a h = refl
-kept_one p true false a h = refl
-kept_one p false true a h = ap (λ (b : Bool). cond b (a ∷ []) []) h
-kept_one p false false a h = ap (λ (b : Bool). cond b (a ∷ []) []) h
 
 -- what an air has still to hear of an uplink cell
 pub one_cell : (e : EndpointConfig) (cell : Cell) (start : ℤ) (claims : ℕ → Option Claim) (block : Option Block) (heard : List AirCell) (done : Bool)
@@ -78,9 +72,6 @@ something_if true none a h k = cc
 something_if false true a h k = cc
 something_if false false a h k = λ e. cc
 
-filter_kept : (p : AirCell → Bool) → IsKept {A = AirCell} {B = AirCell} (λ xs ys. filter p xs ≡ ys)
-filter_kept p = record { none = refl; more = λ xs xs' ys ys' h k. filter-append p xs xs' ∙ ap₂ ◌++◌ h k }
-
 -- what is still to be told of a symbol, cell by cell
 abbrev pub cells_left : Known → List AirCell → ℕ → EndpointConfig → Slot → ℕ → ℕ → List AirCell
 cells_left k heard ep e slot symbol prb = filter (unheard heard) (cell_report Du k ep e slot symbol prb)
@@ -98,10 +89,6 @@ each_nothing n f none = each_related (λ xs ys. xs ≡ []) none_kept 0 n f f (λ
     small : (k n : ℕ) → k < 0 + n → k < n
     small k n h = omega arith
 
-both_nothing : {A : Type 0} (xs ys : List A) → xs ++ ys ≡ [] → (xs ≡ []) × (ys ≡ [])
-both_nothing [] ys h = (refl, h)
-both_nothing (x ∷ xs) ys h = absurd cc
-
 each_nothing_at : (from n : ℕ) (f : ℕ → List AirCell) (k : ℕ) → each from n f ≡ [] → from ≤ k → k < from + n → f k ≡ []
 unfolding each
 each_nothing_at from zero f k h low high = absurd (omega arith)
@@ -112,25 +99,9 @@ each_nothing_at from (suc n) f k h low high =
       | inr other ↦ each_nothing_at (from + 1) n f k parts.1 (grind (arith, nat_tests)) (omega arith)
     ]
 
-not_none : (n : ℕ) → (n == 0) ≡ false → 0 < n
-not_none n h = grind (arith, nat_tests)
-
-is_some : (n : ℕ) → 0 < n → (n == 0) ≡ false
-is_some n h = grind (arith, nat_tests)
-
-both_ways : (b : Bool) → b ≡ true → b ≡ false → ⊥
-both_ways true h k = cc
-both_ways false h k = cc
-
-first_behind : (a b : Bool) → a ≡ true → (a || b) ≡ true
-first_behind a b h = rw h refl
-
 pub own_not_behind : (a b x : Bool) → a ≡ false → x ≡ false → (a || (b && x)) ≡ false
 own_not_behind a true x h k = rw (h, k) refl
 own_not_behind a false x h k = rw h refl
-
-not_less : (a b : ℕ) → a ≤ b → nat_lt b a ≡ false
-not_less a b h = grind (arith, nat_tests)
 
 -- ---- times
 
@@ -183,7 +154,7 @@ module _ (c : Config) (planned : List Allocation) (m : UnitMemory) (clock : ℤ)
       let done = list_any (cell_heard x.endpoint cell) h.reported in
       one_cell x.endpoint cell start (claim_at planned cell) (known.blocks cell) h.reported done refl refl
       ∙ nothing_if done (used_mask (claim_at planned cell) == 0) (air_cell Du x.endpoint cell start (claim_at planned cell) (known.blocks cell)) (λ used.
-      let some = not_none (used_mask (claim_at planned cell)) used in
+      let some = not_zero (used_mask (claim_at planned cell)) used in
       k.marks x.endpoint cell (used_cell x.endpoint cell x.start.0 swept below some) refl some ∙ behind prb below))
 
   -- something is told of a symbol of which a cell in use does not stand before the cursor
@@ -196,7 +167,7 @@ module _ (c : Config) (planned : List Allocation) (m : UnitMemory) (clock : ℤ)
       let here = each_nothing_at 0 x.endpoint.prbs (cells_left known h.reported x.ep x.endpoint x.slot x.symbol) prb
       (sym (by_cells known h.reported x.ep x.endpoint x.slot x.symbol) ∙ none) (omega arith) (omega (arith, below)) in
       something_if done (used_mask (claim_at planned cell) == 0) (air_cell Du x.endpoint cell start (claim_at planned cell) (known.blocks cell))
-      (k.marks x.endpoint cell (used_cell x.endpoint cell x.start.0 swept below used) refl used ∙ ahead) (is_some (used_mask (claim_at planned cell)) used)
+      (k.marks x.endpoint cell (used_cell x.endpoint cell x.start.0 swept below used) refl used ∙ ahead) (not_none (used_mask (claim_at planned cell)) used)
       (sym (one_cell x.endpoint cell start (claim_at planned cell) (known.blocks cell) h.reported done refl refl) ∙ here)
 
   -- a symbol as it is gone over is the start of its place
@@ -222,7 +193,7 @@ module _ (c : Config) (planned : List Allocation) (m : UnitMemory) (clock : ℤ)
         let own = start_at x.ep x.endpoint x.slot x.symbol in
         let before : own.start.0 <ℤ next.start.0 =
         subst (λ (t : ℤ). t <ℤ next.start.0) (sym is.swept.starts) (earlier x.start.0 next.start.0 wait to early is.high) in
-        quiet x is.swept (λ prb below. by_next own prb true (first_behind (comes_before own next) _ (start_before own next before))))
+        quiet x is.swept (λ prb below. by_next own prb true (or_left (comes_before own next) _ (start_before own next before))))
 
     -- it is gone over when it starts
     pub next_swept : IsSwept c.endpoints next.ep next.endpoint next.slot next.symbol next.start.0
@@ -249,14 +220,14 @@ module _ (c : Config) (planned : List Allocation) (m : UnitMemory) (clock : ℤ)
         λ x in_x before.
         let own = start_at x.ep x.endpoint x.slot x.symbol in
         let same : own ≡ x = own_start x in_x.swept in
-        quiet x in_x.swept (λ prb below. by_next own prb true (first_behind (comes_before own next) _ (ap (λ (y : SymbolStart). comes_before y next) same ∙ before))) in
+        quiet x in_x.swept (λ prb below. by_next own prb true (or_left (comes_before own next) _ (ap (λ (y : SymbolStart). comes_before y next) same ∙ before))) in
         let all = first_is_first still still c.endpoints from end next is silent silent (λ x in_x after. refl) in
         let own = start_at next.ep next.endpoint next.slot next.symbol in
         let same : own ≡ next = own_start next next_swept in
         told next left.prb next_swept left.below left.used
         (by_next own left.prb false
         (own_not_behind (comes_before own next) (not (comes_before next own)) (nat_lt left.prb cursor.prb)
-        (ap (λ (y : SymbolStart). comes_before y next) same ∙ not_before_itself next) (not_less cursor.prb left.prb left.low)))
+        (ap (λ (y : SymbolStart). comes_before y next) same ∙ not_before_itself next) (le-ltb left.prb cursor.prb left.low)))
         (first_nothing (told_of still next) all.rest (sym all.one ∙ none))
       where
         first_nothing : {A : Type 0} (xs ys : List A) → xs ++ ys ≡ [] → xs ≡ []
@@ -293,9 +264,6 @@ start_bounds c planned m clock cursor h k next named is =
 pub wait_bounds : (n : ℤ) → pos 0 ≤ℤ n → n ≤ℤ pos 2000000 → (pos 0 ≤ℤ ticks_of_ns n) × (ticks_of_ns n ≤ℤ pos (2 ^ 60))
 wait_bounds n low high = (omega (arith, ints), omega (arith, ints))
 
-pub least_not_negative : (a b : ℤ) → pos 0 ≤ℤ a → a ≤ℤ b → pos 0 ≤ℤ b
-least_not_negative a b h k = omega (arith, ints)
-
 pub due_none : (c : Config) (planned : List Allocation) (m : UnitMemory) (clock wait : ℤ) (plan : UplinkPlan) (room : ℕ) (cursor : CellCursor) (h : History)
     → Stands c planned m clock wait plan room cursor h → cursor.next ≡ None → (to : ℤ) → due_of c planned h to ≡ []
 due_none c planned m clock _ plan room cursor h all none to = none_due c planned m clock cursor h all.kept none to
@@ -309,7 +277,7 @@ due_some c planned m clock wait plan room cursor h next t all is sum =
     let named : IsNamed planned next = of_some (IsNamed planned) cursor.next next is k.named in
     let left : HasLeft planned cursor.prb next = of_some (HasLeft planned cursor.prb) cursor.next next is all.left in
     let limits = k.holds.config.delays in
-    let w = wait_bounds c.delays.ta4.max (least_not_negative c.delays.ta4.min c.delays.ta4.max limits.ta4.low limits.ta4.order) limits.ta4.high in
+    let w = wait_bounds c.delays.ta4.max (at_most (pos 0) c.delays.ta4.min c.delays.ta4.max limits.ta4.low limits.ta4.order) limits.ta4.high in
     let starts = start_bounds c planned m clock cursor h k next named is in
     let same : t ≡ next.start.0 +ℤ wait_of Du c.delays =
     sum starts.0 starts.1 (subst (λ (x : ℤ). pos 0 ≤ℤ x) (sym all.wait_is) w.0) (subst (λ (x : ℤ). x ≤ℤ pos (2 ^ 60)) (sym all.wait_is) w.1)

@@ -2,11 +2,11 @@
 use Rattle.std.proofs.Common.{◌≡◌, ℕ, ℤ, ◌<◌, ◌≤◌, inl, inr, Bool, true, false, not, ◌&&◌, ◌||◌, ◌==◌, cond, nat_lt, int_lt, List, Option, Some, refl, ap, sym, ◌∙◌, subst, arith}
 use Rattle.std.specs.Prelude.{slice_get}
 use Rattle.std.specs.List.Sorted.{IsSortedBy, IsStableBy, ties}
-use Rattle.std.specs.Cmp.{IsStrictWeakOrder}
+use Rattle.std.specs.Cmp.{IsStrictWeakOrder, both_ways}
 use Rattle.std.specs.Ordering.{int_cmp, int_eq, is_lt, nat_cmp, on, ordering_then, then_cmp}
 use Rattle.std.specs.declared.cmp.Ordering.{Ordering}
 use Rattle.std.specs.declared.cmp.Ordering.TheVariants.{Less, Equal, Greater}
-use Rattle.std.proofs.lemmas.Bool.{and_from, and_parts, cases_Bool, eq-eqb, eqb-true}
+use Rattle.std.proofs.lemmas.Bool.{and_from, and_parts, cases_Bool, eq-eqb, eqb-true, or_parts}
 use Rattle.std.proofs.lemmas.Bool.Decides.{nat_tests}
 use Rattle.std.proofs.lemmas.Cmp.{int_cmp_total, nat_cmp_total, on_total, then_total}
 use Rattle.std.specs.Cmp.{IsTotalOrder}
@@ -16,10 +16,12 @@ use Rattle.fh_time.specs.declared.values.Slot.{Slot}
 use Rattle.schedule_laws.specs.unit_model.specs.Claims.{same_slot}
 use Rattle.schedule_laws.specs.unit_model.specs.Order.{slot_before}
 use Rattle.schedule_laws.specs.unit_laws.proofs.CellLemmas.{slots_equal}
-use Rattle.schedule_laws.proofs.ClashLemmas.{slot_own}
+use Rattle.ru_buffers.specs.history_laws.proofs.BeforeLemmas.{slot_cases}
+use Rattle.schedule_laws.specs.plan_model.proofs.SlotLemmas.{slot_own}
+use Rattle.schedule_laws.specs.plan_model.proofs.ListLemmas.{filter_same}
 use Rattle.du_intake.specs.Lines.{AreInOrder, home_before, is_home, lines_at, same_home}
 use Rattle.du_intake.specs.declared.lines.UplinkLine.{UplinkLine}
-use Rattle.du_intake.proofs.ListLemmas.{filter_same, pairs_at, same_tests, sorted_pairs}
+use Rattle.du_intake.proofs.ListLemmas.{pairs_at, sorted_pairs}
 
 -- ---- one slot
 
@@ -90,10 +92,6 @@ not_before_own a = elim (cases_Bool (home_before a a)) [ inl t ↦ home_one_way 
 
 -- ---- three cases
 
-no_first : (p q : Bool) → (p || q) ≡ false → p ≡ false
-no_first false q e = refl
-no_first true q e = e
-
 no_rest : (p q r : Bool) → (p || (q && r)) ≡ false → q ≡ true → r ≡ false
 no_rest false true r e f = e
 no_rest false false r e f = cc
@@ -102,12 +100,9 @@ no_rest true q r e f = cc
 same_number : (m n : ℕ) → nat_lt m n ≡ false → nat_lt n m ≡ false → m ≡ n
 same_number m n e f = grind (arith, nat_tests)
 
-slot_cases : (a b : Slot) → slot_before a b ≡ false → slot_before b a ≡ false → same_slot a b ≡ true
-slot_cases a b h k = grind (arith, ints)
-
 pub home_cases : (a b : UplinkLine) → home_before a b ≡ false → home_before b a ≡ false → same_home a b ≡ true
 home_cases a b h k =
-    let ep : a.ep ≡ b.ep = same_number a.ep b.ep (no_first (nat_lt a.ep b.ep) _ h) (no_first (nat_lt b.ep a.ep) _ k) in
+    let ep : a.ep ≡ b.ep = same_number a.ep b.ep ((or_parts (nat_lt a.ep b.ep) _ h).0) ((or_parts (nat_lt b.ep a.ep) _ k).0) in
     and_from (a.ep == b.ep) _ (eq-eqb a.ep b.ep ep)
     (slot_cases a.slot b.slot (no_rest (nat_lt a.ep b.ep) (a.ep == b.ep) _ h (eq-eqb a.ep b.ep ep)) (no_rest (nat_lt b.ep a.ep) (b.ep == a.ep) _ k (eq-eqb b.ep a.ep (sym ep))))
 
@@ -129,7 +124,7 @@ in_order ls h i j p q below at_i at_j =
     sym (first_is q p) ∙ pairs_at (λ (p q : UplinkLine). is_lt (home_cmp q p) ≡ false) ls (sorted_pairs (λ a b. is_lt (home_cmp a b)) first_ranks ls h) i j p q below at_i at_j
 
 tied : (x l : UplinkLine) → ties (λ (a b : UplinkLine). is_lt (home_cmp a b)) x l ≡ is_home x.ep x.slot l
-tied x l = same_tests _ _
+tied x l = both_ways _ _
     (λ h. let w = and_parts (not (is_lt (home_cmp x l))) _ h in
     home_cases l x (sym (first_is l x) ∙ off (is_lt (home_cmp l x)) w.1) (sym (first_is x l) ∙ off (is_lt (home_cmp x l)) w.0))
     (λ h. and_from (not (is_lt (home_cmp x l))) _

@@ -1,19 +1,14 @@
 -- Lists whose elements stand to one another in some way, and what a stable sort leaves of that.
-use Rattle.std.proofs.Common.{◌≡◌, ℕ, zero, suc, ◌+◌, ◌<◌, inl, inr, Bool, true, false, not, if◌then◌else◌, List, [], ◌∷◌, ◌++◌, length, filter, get_or, Some, refl, ap, sym, ◌∙◌, subst, arith}
+use Rattle.std.proofs.Common.{◌≡◌, ℕ, zero, suc, ◌+◌, ◌<◌, inl, inr, Bool, true, false, if◌then◌else◌, List, [], ◌∷◌, ◌++◌, length, filter, get_or, Some, refl, sym, subst, arith}
 use Rattle.std.specs.List.{slice_get}
 use Rattle.std.specs.List.Sorted.{IsSortedBy, IsStableBy, ties}
 use Rattle.std.specs.Cmp.{IsStrictWeakOrder}
-use Rattle.std.proofs.lemmas.Bool.{cases_Bool, and_from}
 use Rattle.std.proofs.lemmas.List.Sorted.{sorted_far}
 use Rattle.std.proofs.lemmas.Option.{get_or_from_slice_get, slice_get_within}
 use Rattle.schedule_laws.specs.fragment_laws.specs.Apart.{IsIn}
-use Rattle.schedule_laws.proofs.ListLemmas.{at_in, in_either, in_filter, of_filter}
+use Rattle.schedule_laws.specs.plan_model.proofs.ListLemmas.{in_either, in_filter, of_filter, get_in, some_is, own_tie, kept_first}
+use Rattle.schedule_laws.proofs.ListLemmas.{at_in}
 use Rattle.du_intake.specs.Listing.{Pairwise}
-
-pub in_at : {X : Type 0} (x : X) (xs : List X) → IsIn x xs → (k : ℕ) × (slice_get xs k ≡ Some x)
-in_at x [] m = absurd m
-in_at {X = X} x (y ∷ xs) (inl e) = (0, ap (λ (z : X). Some z) (sym e))
-in_at x (y ∷ xs) (inr t) = let w = in_at x xs t in (suc w.0, w.1)
 
 -- ---- pairs
 
@@ -36,9 +31,6 @@ pub pairs_both : {X : Type 0} (R S : X → X → Type 0) (xs : List X) → Pairw
 pairs_both R S [] p q = tt
 pairs_both R S (x ∷ xs) p q = (λ y m. (p.0 y m, q.0 y m), pairs_both R S xs p.1 q.1)
 
-some_is : {X : Type 0} (x y : X) → Some x ≡ Some y → x ≡ y
-some_is x y e = cc
-
 pub pairs_at : {X : Type 0} (R : X → X → Type 0) (xs : List X) → Pairwise R xs → (i j : ℕ) (x y : X) → i < j → slice_get xs i ≡ Some x → slice_get xs j ≡ Some y → R x y
 pairs_at R [] p i j x y below a b = absurd cc
 pairs_at R (z ∷ xs) p zero zero x y below a b = absurd (omega arith)
@@ -48,17 +40,11 @@ pairs_at R (z ∷ xs) p (suc i) (suc j) x y below a b = pairs_at R xs p.1 i j x 
 
 -- ---- sorts
 
-pub own_tie : {X : Type 0} (lt : X → X → Bool) → IsStrictWeakOrder lt → (x : X) → ties lt x x ≡ true
-own_tie lt o x = elim (cases_Bool (lt x x)) [
-  | inl t ↦ let f = o.one_way x x t in absurd cc
-  | inr f ↦ and_from (not (lt x x)) _ (ap not f) (ap not f)
-]
-
 pub sorted_pairs : {X : Type 0} (lt : X → X → Bool) → IsStrictWeakOrder lt → (xs : List X) → IsSortedBy lt xs → Pairwise (λ p q. lt q p ≡ false) xs
 sorted_pairs lt o [] h = tt
 sorted_pairs lt o (p ∷ ps) h = (
   λ q m.
-      let w = in_at q ps m in
+      let w = get_in q ps m in
       let below : w.0 < length ps = slice_get_within ps w.0 q w.1 in
       let is : get_or ps w.0 p ≡ q = get_or_from_slice_get ps w.0 q p w.1 in
       subst (λ x. lt x p ≡ false) is (sorted_far lt o (p ∷ ps) h 0 (suc w.0) p (omega arith) (omega (arith, below))),
@@ -73,9 +59,6 @@ stays_in lt o xs ys stable x m = (of_filter (ties lt x) x ys (subst (IsIn x) (sy
 
 pub was_in : {X : Type 0} (lt : X → X → Bool) → IsStrictWeakOrder lt → (xs ys : List X) → IsStableBy lt xs ys → (x : X) → IsIn x ys → IsIn x xs
 was_in lt o xs ys stable x m = (of_filter (ties lt x) x xs (subst (IsIn x) (stable x) (in_filter (ties lt x) x ys m (own_tie lt o x)))).0
-
-kept_first : {X : Type 0} (t : X → Bool) (x : X) (xs : List X) → t x ≡ true → filter t (x ∷ xs) ≡ x ∷ filter t xs
-kept_first {X = X} t x xs e = ap (λ (b : Bool). let ys : List X = if b then x ∷ filter t xs else filter t xs in ys) e
 
 tied_pairs : {X : Type 0} (lt : X → X → Bool) → IsStrictWeakOrder lt → (R : X → X → Type 0) (ys : List X) → ((x : X) → Pairwise R (filter (ties lt x) ys))
     → Pairwise (λ p q. ties lt p q ≡ true → R p q) ys
@@ -93,15 +76,3 @@ tied_pairs {X = X} lt o R (p ∷ ps) each = (
 pub stable_pairs : {X : Type 0} (lt : X → X → Bool) → IsStrictWeakOrder lt → (R : X → X → Type 0) (xs ys : List X) → Pairwise R xs → IsStableBy lt xs ys
     → Pairwise (λ p q. ties lt p q ≡ true → R p q) ys
 stable_pairs lt o R xs ys p stable = tied_pairs lt o R ys (λ x. subst (Pairwise R) (sym (stable x)) (pairs_filter R (ties lt x) xs p))
-
--- ---- filters
-
-pub same_tests : (a b : Bool) → (a ≡ true → b ≡ true) → (b ≡ true → a ≡ true) → a ≡ b
-same_tests true b f g = sym (f refl)
-same_tests false true f g = g refl
-same_tests false false f g = refl
-
-pub filter_same : {X : Type 0} (a b : X → Bool) → ((x : X) → a x ≡ b x) → (xs : List X) → filter a xs ≡ filter b xs
-filter_same a b h [] = refl
-filter_same {X = X} a b h (x ∷ xs) =
-    ap (λ (t : Bool). let zs : List X = if t then x ∷ filter a xs else filter a xs in zs) (h x) ∙ ap (λ (ys : List X). let zs : List X = if b x then x ∷ ys else ys in zs) (filter_same a b h xs)

@@ -5,7 +5,7 @@ use Rattle.std.specs.List.Sorted.{IsSortedBy, ties}
 use Rattle.std.specs.Cmp.{IsStrictWeakOrder}
 use Rattle.std.specs.Ordering.{int_cmp, int_eq, is_lt}
 use Rattle.std.specs.declared.cmp.Ordering.TheVariants.{Less, Equal, Greater}
-use Rattle.std.proofs.lemmas.Bool.{cases_Bool, eq-eqb, lt-ltb}
+use Rattle.std.proofs.lemmas.Bool.{cases_Bool, eq-eqb, lt-ltb, or_left}
 use Rattle.std.proofs.lemmas.Bool.Decides.{nat_tests}
 use Rattle.std.proofs.lemmas.Cmp.{int_cmp_total}
 use Rattle.std.proofs.lemmas.Int.{ints}
@@ -21,8 +21,9 @@ use Rattle.schedule_laws.specs.unit_model.specs.Lists.{each}
 use Rattle.schedule_laws.specs.unit_model.specs.Order.{comes_before, slot_before}
 use Rattle.schedule_laws.specs.unit_model.specs.Proper.{IsAt, IsSlot}
 use Rattle.schedule_laws.specs.unit_laws.proofs.FarLemmas.{endpoints_equal}
-use Rattle.schedule_laws.proofs.ClashLemmas.{slot_own}
-use Rattle.schedule_laws.proofs.ListLemmas.{at_in, in_each, in_either, in_filter, in_left, in_right, of_each}
+use Rattle.schedule_laws.specs.plan_model.proofs.SlotLemmas.{slot_own}
+use Rattle.schedule_laws.specs.plan_model.proofs.ListLemmas.{in_either, in_filter, in_left, in_right, any_in}
+use Rattle.schedule_laws.proofs.ListLemmas.{at_in, in_each, of_each}
 use Rattle.du_intake.specs.Lines.{AreInOrder, has_symbol, home_before, is_home, lines_at, same_home}
 use Rattle.du_intake.specs.Listing.{AreAscending, AreInTurn, AreSymbols, ComesFirst, IsListedIn, IsSlotEnd, IsStableByStart, IsSymbolOf, Pairwise, Precedes, starts_before, symbol_first}
 use Rattle.du_intake.specs.Symbols.{AreLines, lines_in, start_of, symbol_if, symbols_in}
@@ -58,15 +59,6 @@ filter_range t (x ∷ xs) (suc a) (suc b) ab bl low mid high =
     rw (off, same)
     (filter_range t xs a b (omega (arith, ab)) (omega (arith, bl)) (λ k y h e. low (suc k) y (omega (arith, h)) e) (λ k y h g e. mid (suc k) y (omega (arith, h)) (omega (arith, g)) e)
     (λ k y h e. high (suc k) y (omega (arith, h)) e))
-
-pub any_in : {X : Type 0} (p : X → Bool) (x : X) (xs : List X) → IsIn x xs → p x ≡ true → list_any p xs ≡ true
-any_in p x [] m is = absurd m
-any_in p x (y ∷ xs) (inl here) is = let e : p y ≡ true = ap p (sym here) ∙ is in rw e refl
-any_in p x (y ∷ xs) (inr there) is = last (p y) (list_any p xs) (any_in p x xs there is)
-  where
-    last : (a b : Bool) → b ≡ true → (a || b) ≡ true
-    last true b h = refl
-    last false b h = h
 
 pub of_any : {X : Type 0} (p : X → Bool) (xs : List X) → list_any p xs ≡ true → (x : X) × IsIn x xs × (p x ≡ true)
 of_any p [] h = absurd cc
@@ -323,9 +315,6 @@ int_last x y = go (int_lt x y) (int_lt y x)
 both_not : (a b : Bool) → a ≡ false → b ≡ false → (not a && not b) ≡ true
 both_not a b h k = rw (h, k) refl
 
-or_first : (l r : Bool) → l ≡ true → (l || r) ≡ true
-or_first l r h = rw h refl
-
 is_equal : (x y : ℤ) → int_lt x y ≡ false → int_lt y x ≡ false → int_eq x y ≡ true
 is_equal x y e f = grind (arith, ints)
 
@@ -334,7 +323,7 @@ pub comes_first : (ls : List UplinkLine) (p q : PlannedSymbol) (a b : UplinkLine
 comes_first ls p q a b e f h at_a at_b =
     let qp : int_lt q.start.0 p.start.0 ≡ false = sym (int_last q.start.0 p.start.0) ∙ h.0 in
     elim (cases_Bool (int_lt p.start.0 q.start.0)) [
-      | inl t ↦ or_first (int_lt p.start.0 q.start.0) _ t
+      | inl t ↦ or_left (int_lt p.start.0 q.start.0) _ t
       | inr n ↦
           or_rest (int_lt p.start.0 q.start.0) (int_eq p.start.0 q.start.0) _ (is_equal p.start.0 q.start.0 n qp)
           (h.1 (both_not (starts_before p q) (starts_before q p) (int_last p.start.0 q.start.0 ∙ n) h.0) a b at_a at_b)

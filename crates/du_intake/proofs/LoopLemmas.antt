@@ -1,8 +1,9 @@
 -- The report of cell after cell, and the calls above it.
 use Rattle.std.proofs.Common.{◌≡◌, ℕ, ℤ, pos, neg_ℤ, ◌^◌, ◌+◌, ◌-◌, ◌<◌, ◌≤◌, ◌+ℤ◌, ◌-ℤ◌, ◌≤ℤ◌, ◌<ℤ◌, List, [], ◌∷◌, ◌++◌, length, map, Option, Some, None, refl, sym, ap, ◌∙◌, subst, arith, append-nil, append_assoc}
 use Rattle.std.specs.Prelude.{IfSome}
-use Rattle.std.proofs.lemmas.Int.{ints}
 use Rattle.std.proofs.lemmas.List.{map-append}
+use Rattle.std.specs.Int.Signed.{≤ℤ_refl}
+use Rattle.std.proofs.Math.Nat.{le_refl, le_trans}
 use Rattle.air_source.specs.declared.events.AirCell.{AirCell}
 use Rattle.air_source.specs.declared.events.Event.{Event}
 use Rattle.air_source.specs.declared.events.Event.TheVariants.{Cell as Reported}
@@ -10,7 +11,6 @@ use Rattle.air_source.specs.declared.events.Side.TheVariants.{Du}
 use Rattle.window_config.specs.declared.config.Config.{Config}
 use Rattle.schedule_laws.specs.unit_model.specs.Counts.{cells_counted}
 use Rattle.schedule_laws.specs.unit_model.specs.Proper.{IsTime}
-use Rattle.schedule_laws.specs.unit_model.specs.Radiated.{first_clock}
 use Rattle.schedule_laws.specs.unit_model.specs.Reports.{du_known}
 use Rattle.schedule_laws.specs.unit_model.specs.Standing.{History, at_clock, heard}
 use Rattle.schedule_laws.specs.unit_model.specs.declared.allocations.Allocation.{Allocation}
@@ -19,16 +19,18 @@ use Rattle.schedule_laws.specs.unit_laws.proofs.DueLemmas.{due_begins}
 use Rattle.ru_buffers.specs.unit_memory.specs.declared.memory.UnitMemory.{UnitMemory}
 use Rattle.ru_buffers.specs.unit_memory.proofs.HoldLemmas.{holds_later}
 use Rattle.fh_time.specs.declared.values.Ticks.{Ticks}
+use Rattle.ru_buffers.specs.history_laws.proofs.TickLemmas.{last_is_earlier, at_most}
+use Rattle.ru_buffers.proofs.AdvanceLemmas.{heard_more, heard_none}
 use Rattle.du_intake.specs.Calls.{StandsFor, cursor_in, next_in}
 use Rattle.du_intake.specs.Closing.{Closes, ClosesSome, ComesLater, GoesOn, HasMarked, IsMarkedFrom, IsNextDue, StandsForSome, StaysAt, StopsAtDue, ToldAll, at_prb, symbols_left}
 use Rattle.du_intake.specs.Cursors.{CellCursor, HasLeft, IsNamed}
 use Rattle.du_intake.specs.Units.{Keeps, due_of}
 use Rattle.du_intake.specs.declared.plan.UplinkPlan.{UplinkPlan}
 use Rattle.du_intake.specs.declared.unit.Intake.{Intake}
-use Rattle.du_intake.proofs.CloseLemmas.{closes_marked, closes_over, closing, closing_some, heard_more, heard_none, left_over, not_late, over_unit, standing, stays_both, stays_marked, stays_next}
-use Rattle.du_intake.proofs.DueLemmas.{least_not_negative, none_before, none_due, start_bounds, wait_bounds}
+use Rattle.du_intake.proofs.CloseLemmas.{closes_marked, closes_over, closing, closing_some, left_over, not_late, over_unit, standing, stays_both, stays_marked, stays_next}
+use Rattle.du_intake.proofs.DueLemmas.{none_before, none_due, start_bounds, wait_bounds}
 use Rattle.du_intake.proofs.NextLemmas.{of_some, some_same, symbol_below, within_none}
-use Rattle.du_intake.proofs.UnitLemmas.{no_later, stands}
+use Rattle.du_intake.proofs.UnitLemmas.{stands}
 
 -- ---- the moment of the next cell
 
@@ -40,7 +42,7 @@ moment_is u m t some is sum =
     let c = some.config in
     let k = all.kept in
     let limits = k.holds.config.delays in
-    let w = wait_bounds c.delays.ta4.max (least_not_negative c.delays.ta4.min c.delays.ta4.max limits.ta4.low limits.ta4.order) limits.ta4.high in
+    let w = wait_bounds c.delays.ta4.max (at_most (pos 0) c.delays.ta4.min c.delays.ta4.max limits.ta4.low limits.ta4.order) limits.ta4.high in
     let starts = start_bounds c some.planned u.memory u.clock.0 (cursor_in u) some.history k m (of_some (IsNamed some.planned) (next_in u) m is k.named) is in
     sum starts.0 starts.1 (subst (λ (x : ℤ). pos 0 ≤ℤ x) (sym all.wait_is) w.0) (subst (λ (x : ℤ). x ≤ℤ pos (2 ^ 60)) (sym all.wait_is) w.1)
 
@@ -60,9 +62,6 @@ pub record IsClosing {A : Type 0} (grew : A → List Event → A → Type 0) (sa
   pub same_air : same before air
   pub later : faults before ≤ faults air
 
-no_less : (n : ℕ) → n ≤ n
-no_less n = omega arith
-
 pub closing_starts : {A : Type 0} (grew : A → List Event → A → Type 0) (same : A → A → Type 0) (faults : A → ℕ) (to : ℤ) (u : Intake) (air : A)
     → ((a : A) → grew a [] a) → ((a : A) → same a a) → StandsForSome u → IsClosing grew same faults to u u air air
 closing_starts grew same faults to u air empty unchanged some = record {
@@ -76,7 +75,7 @@ closing_starts grew same faults to u air empty unchanged some = record {
   some = closing_some u some;
   clock = refl;
   same_air = unchanged air;
-  later = no_less (faults air);
+  later = le_refl (faults air);
 }
 
 pub goes_then : {A : Type 0} (grew : A → List Event → A → Type 0) → ((a b d : A) (xs ys : List Event) → grew a xs b → grew b ys d → grew a (xs ++ ys) d)
@@ -111,9 +110,6 @@ stops_then grew stopped more to middle new before air after c planned h one two 
   stop = two.stop;
 }
 
-at_most : (a b d : ℕ) → a ≤ b → b ≤ d → a ≤ d
-at_most a b d h k = omega arith
-
 pub closing_goes : {A : Type 0} (grew : A → List Event → A → Type 0) (same : A → A → Type 0) (faults : A → ℕ) (to : ℤ) (start now new : Intake) (before air after : A) (m : SymbolStart)
     → ((a b d : A) (xs ys : List Event) → grew a xs b → grew b ys d → grew a (xs ++ ys) d) → ((a b d : A) → same a b → same b d → same a d)
     → IsClosing grew same faults to start now before air → IsNextDue now to m
@@ -129,7 +125,7 @@ closing_goes grew same faults to start now new before air after m more same_more
       record { config = s.config; planned = s.planned; history = heard s.history g.told; closes = g.closes };
   clock = clock ∙ r.clock;
   same_air = same_more before air after r.same_air same_then;
-  later = at_most (faults before) (faults air) (faults after) r.later later;
+  later = le_trans r.later later;
 }
 
 -- ---- nothing more is due
@@ -158,9 +154,6 @@ told_over grew to u before air c planned h one later =
 
 -- ---- the clock goes on
 
-before_it : (t : ℤ) → (t -ℤ pos 1) ≤ℤ t
-before_it t = omega (arith, ints)
-
 none_of_both : (xs ys : List AirCell) → xs ++ ys ≡ [] → xs ≡ []
 none_of_both [] ys e = refl
 none_of_both (x ∷ xs) ys e = absurd cc
@@ -169,12 +162,12 @@ pub stands_later : (c : Config) (planned : List Allocation) (m : UnitMemory) (cl
     → (all : Keeps c planned m clock cursor h) → clock ≤ℤ to → IsTime to → due_of c planned h to ≡ [] → Keeps c planned m to cursor (at_clock h to)
 stands_later c planned m clock cursor h to k order time none =
     let after : h.clock ≤ℤ to = subst (λ (t : ℤ). t ≤ℤ to) k.clock_is order in
-    let b = due_begins Du c.delays c.endpoints (du_known c planned h.arrivals) h.reported (to -ℤ pos 1) to (before_it to) in
+    let b = due_begins Du c.delays c.endpoints (du_known c planned h.arrivals) h.reported (to -ℤ pos 1) to (last_is_earlier to) in
     record {
       holds = holds_later Du c h.clock to m h.arrivals (cells_counted h.reported) after k.holds;
       clock_is = refl;
       time = time;
-      begun = no_later first_clock h.clock to k.begun after;
+      begun = at_most _ h.clock to k.begun after;
       past = none_of_both (due_of c planned h (to -ℤ pos 1)) b.0 (sym b.1 ∙ none);
       told = k.told;
       differ = k.differ;
@@ -225,14 +218,11 @@ reporting_starts grew same faults m u air empty unchanged some next marked = rec
   stays = record { endpoints = refl; clock = refl; plan = refl; row = refl; symbol = refl; wait = refl };
   marks = marked;
   same_air = unchanged air;
-  later = no_less (faults air);
+  later = le_refl (faults air);
 }
 
 pub same_wait : (old new : Intake) → StaysAt old new → (m : SymbolStart) (to : ℤ) → (m.start.0 +ℤ old.wait.0) ≤ℤ to → (m.start.0 +ℤ new.wait.0) ≤ℤ to
 same_wait old new stays m to order = subst (λ (w : Ticks). (m.start.0 +ℤ w.0) ≤ℤ to) (sym stays.wait) order
-
-at_once : (t : ℤ) → t ≤ℤ t
-at_once t = omega (arith, ints)
 
 pub reporting_goes : {A : Type 0} (grew : A → List Event → A → Type 0) (same : A → A → Type 0) (faults : A → ℕ) (m : SymbolStart) (start now new : Intake) (prb : ℕ) (before air after : A)
     → ((a b d : A) (xs ys : List Event) → grew a xs b → grew b ys d → grew a (xs ++ ys) d) → ((a b d : A) → same a b → same b d → same a d)
@@ -247,13 +237,13 @@ reporting_goes grew same faults m start now new prb before air after more same_m
       (told c planned (heard h one.told) to one.closes (same_wait start now r.stays m to order));
   some =
       let s = r.some in
-      let g = told s.config s.planned s.history (m.start.0 +ℤ now.wait.0) s.closes (at_once (m.start.0 +ℤ now.wait.0)) in
+      let g = told s.config s.planned s.history (m.start.0 +ℤ now.wait.0) s.closes (≤ℤ_refl (m.start.0 +ℤ now.wait.0)) in
       record { config = s.config; planned = s.planned; history = heard s.history g.told; closes = g.closes };
   next = stays_next now new stays ∙ r.next;
   stays = stays_both start now new r.stays stays;
   marks = stays_marked now new stays r.marks;
   same_air = same_more before air after r.same_air same_then;
-  later = at_most (faults before) (faults air) (faults after) r.later later;
+  later = le_trans r.later later;
 }
 
 -- and the symbol is done

@@ -16,8 +16,8 @@ use Rattle.du_intake.specs.Cursors.{IsNamed, IsNextSymbol, IsNotBefore, cell_in,
 use Rattle.du_intake.specs.Lines.{claim_in_slot, lines_at}
 use Rattle.du_intake.specs.Rows.{IsRowOf, claim_of_mark, no_mark}
 use Rattle.schedule_laws.specs.fragment_laws.specs.Apart.{IsIn}
+use Rattle.schedule_laws.specs.plan_model.proofs.ListLemmas.{get_in}
 use Rattle.schedule_laws.proofs.ListLemmas.{at_in}
-use Rattle.du_intake.proofs.ListLemmas.{in_at}
 use Rattle.du_intake.proofs.RowLemmas.{in_take}
 use Rattle.du_intake.specs.Symbols.{AreLines, IsKeptSymbol, IsLine, IsListed, lines_in, start_by, start_in, start_of, start_with, symbol_at}
 use Rattle.du_intake.specs.declared.lines.UplinkLine.{UplinkLine}
@@ -165,7 +165,7 @@ in_drop (suc n) x (y ∷ xs) m = inr (in_drop n x xs m)
 pub own_line : (es : List EndpointConfig) (p : UplinkPlan) (s : PlannedSymbol) (k : ℕ) (l : UplinkLine) → AreLines es p.lines.items → slice_get (lines_in p.lines.items s) k ≡ Some l → IsLine es l
 own_line es p s k l lines at =
     let m = in_drop s.first l p.lines.items (of_take (s.last - s.first) k l (drop s.first p.lines.items) at) in
-    let w = in_at l p.lines.items m in lines w.0 l w.1
+    let w = get_in l p.lines.items m in lines w.0 l w.1
 
 pub ends_inside : (a b most room : ℕ) → a + b ≤ most → most ≤ 273 → 273 ≤ room → a + b ≤ room
 ends_inside a b most room h k l = omega arith

@@ -25,10 +25,12 @@ use Rattle.schedule_laws.specs.unit_laws.proofs.FarLemmas.{endpoints_equal}
 use Rattle.schedule_laws.specs.plan_model.specs.Lines.{allocation_of, is_down, is_idle, planned}
 use Rattle.schedule_laws.specs.plan_model.specs.Validity.{share_bit, share_cell}
 use Rattle.schedule_laws.specs.plan_model.specs.declared.lines.PlannedLine.{PlannedLine}
-use Rattle.schedule_laws.proofs.ClashLemmas.{IsClear, both_cover, covers_own, own_clash}
+use Rattle.schedule_laws.specs.plan_model.proofs.RangeLemmas.{found}
+use Rattle.schedule_laws.specs.plan_model.proofs.ClashLemmas.{both_cover, covers_own}
+use Rattle.schedule_laws.specs.plan_model.proofs.ListLemmas.{in_filter, of_filter, get_in}
+use Rattle.schedule_laws.proofs.ClashLemmas.{IsClear, own_clash}
 use Rattle.schedule_laws.proofs.LineLemmas.{IsGoodLine, allowed, line_good, line_proper}
-use Rattle.schedule_laws.proofs.ListLemmas.{at_in, in_filter, in_map, of_filter, of_map}
-use Rattle.schedule_laws.proofs.RangeLemmas.{found}
+use Rattle.schedule_laws.proofs.ListLemmas.{at_in, in_map, of_map}
 use Rattle.du_intake.specs.Cursors.{ArePlanned, IsNamed, IsPlanned}
 use Rattle.du_intake.specs.Lines.{claim_in_slot, has_symbol, is_home, line_of, lines_at}
 use Rattle.du_intake.specs.Listing.{AreInTurn, ComesFirst, IsSymbolOf}
@@ -39,7 +41,7 @@ use Rattle.du_intake.specs.declared.plan.UplinkPlan.{UplinkPlan}
 use Rattle.du_intake.specs.declared.symbols.PlannedSymbol.{PlannedSymbol}
 use Rattle.du_intake.proofs.ClaimLemmas.{claims_planned}
 use Rattle.du_intake.proofs.HomeLemmas.{home_from, home_is}
-use Rattle.du_intake.proofs.ListLemmas.{in_at, pairs_at}
+use Rattle.du_intake.proofs.ListLemmas.{pairs_at}
 use Rattle.du_intake.proofs.ListingLemmas.{comes_first, of_any}
 use Rattle.du_intake.proofs.NextLemmas.{symbol_some}
 
@@ -103,7 +105,7 @@ plan_planned c lines config plan k a at =
     subst (IsPlanned c) (sym m.2) (line_planned c m.0 (line_good c plan.plan config plan.ranges plan.valid m.0 there) n.1)
 
 pub in_plan : (c : Config) (lines : List PlannedLine) → IsConfig c → IsPlanOf c lines → (a : Allocation) → IsIn a (uplink_of lines) → IsPlanned c a
-in_plan c lines config plan a m = let w = in_at a (uplink_of lines) m in plan_planned c lines config plan w.0 a w.1
+in_plan c lines config plan a m = let w = get_in a (uplink_of lines) m in plan_planned c lines config plan w.0 a w.1
 
 -- no two of them name one element, or one cell under two section ids
 pub plan_clear : (c : Config) (lines : List PlannedLine) → IsConfig c → IsPlanOf c lines → IsClear (uplink_of lines)
@@ -204,7 +206,7 @@ module _ (c : Config) (lines : List PlannedLine) (config : IsConfig c) (plan : I
       let l = of_any (has_symbol s.symbol) (lines_in ls s) w.named in
       let a = home_line s w l.0 l.1 in
       let p = in_plan c lines config plan a.0 a.1 in
-      let n = in_at a.0 (uplink_of lines) a.1 in
+      let n = get_in a.0 (uplink_of lines) a.1 in
       record {
         start = start_of s w.head w.endpoint;
         is = start_found s w;
@@ -242,10 +244,10 @@ module _ (c : Config) (lines : List PlannedLine) (config : IsConfig c) (plan : I
     kept m named =
         let a = named.by in
         let there = at_in named.k a (uplink_of lines) named.at in
-        let k = in_at (line_of a) ls (of_lines a there) in
+        let k = get_in (line_of a) ls (of_lines a there) in
         let s = turn.all k.0 m.symbol (line_of a) k.1 named.names.symbol in
         let w = turn.each s.s s.there in
-        let i = in_at s.s p.symbols.items s.there in
+        let i = get_in s.s p.symbols.items s.there in
         let home = home_is w.head.ep w.head.slot (line_of a)
         (of_filter (is_home w.head.ep w.head.slot) (line_of a) ls (subst (IsIn (line_of a)) w.lines (in_mid ls s.s.first s.s.last k.0 (line_of a) s.low s.high k.1))).1 in
         record {

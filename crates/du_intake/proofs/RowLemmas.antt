@@ -19,17 +19,17 @@ use Rattle.schedule_laws.specs.unit_model.specs.declared.cells.Block.{Block}
 use Rattle.schedule_laws.specs.unit_model.specs.declared.symbol_start.SymbolStart.{SymbolStart}
 use Rattle.du_intake.specs.Cursors.{cell_in}
 use Rattle.schedule_laws.specs.unit_model.specs.declared.cells.Claim.{Claim}
+use Rattle.ru_buffers.specs.history_laws.proofs.UnitLemmas.{used_same}
+use Rattle.schedule_laws.specs.plan_model.proofs.ListLemmas.{get_in}
 use Rattle.ru_buffers.specs.slot_rings.specs.Places.{claim_in}
 use Rattle.ru_buffers.specs.slot_rings.specs.declared.marks.Marks.{Marks}
 use Rattle.ru_buffers.specs.slot_rings.proofs.MaskLemmas.{in_either, in_none, section_own, used_is}
-use Rattle.ru_buffers.proofs.MarkedLemmas.{used_same}
 use Rattle.du_intake.specs.Lines.{claim_in_slot, has_symbol, names_in}
 use Rattle.du_intake.specs.Rows.{HaveTwelve, IsRowOf, claim_of_mark, no_mark, with_line}
 use Rattle.du_intake.specs.Symbols.{AreOneSection}
 use Rattle.du_intake.specs.declared.lines.UplinkLine.{UplinkLine}
 use Rattle.du_intake.specs.declared.marks.CellMark.{CellMark}
 use Rattle.du_intake.proofs.ClaimLemmas.{claim_last, claim_none, claim_or, claimed_by, own_claim}
-use Rattle.du_intake.proofs.ListLemmas.{in_at}
 
 -- ---- marks that claim the same
 
@@ -178,7 +178,7 @@ row_marked ls i d symbol old new below twelve one is has marks =
     let at = line_at ls i d below in
     subst (λ (xs : List UplinkLine). IsRowOf xs symbol new) (sym (one_longer ls i d below))
     (row_more (take i ls) l symbol old new is has (twelve i l at)
-    (λ k prb m has_k here_k here_l. (let w = in_at k ls (in_take i k ls m) in one w.0 i prb k l w.1 at has_k has here_k here_l)) marks)
+    (λ k prb m has_k here_k here_l. (let w = get_in k ls (in_take i k ls m) in one w.0 i prb k l w.1 at has_k has here_k here_l)) marks)
 
 pub row_skipped : (ls : List UplinkLine) (i : ℕ) (d : UplinkLine) (symbol : ℕ) (row : List CellMark) → i < length ls → IsRowOf (take i ls) symbol row
     → has_symbol symbol (get_or ls i d) ≡ false → IsRowOf (take (i + 1) ls) symbol row

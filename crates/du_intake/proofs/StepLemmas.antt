@@ -1,8 +1,9 @@
 -- The cursor goes on, cell by cell, and so does the report.
 use Rattle.std.proofs.Common.{◌≡◌, ℕ, ℤ, ◌<◌, ◌≤◌, Bool, true, false, not, ◌&&◌, ◌||◌, List, Option, Some, None, inl, inr, refl, sym, ap, ◌∙◌, subst, arith}
 use Rattle.std.specs.Prelude.{nat_lt, IfSome}
-use Rattle.std.proofs.lemmas.Bool.{cases_Bool}
+use Rattle.std.proofs.lemmas.Bool.{cases_Bool, or_left}
 use Rattle.std.proofs.lemmas.Bool.Decides.{nat_tests}
+use Rattle.std.proofs.Math.Nat.{lt_of_lt_of_le}
 use Rattle.window_config.specs.declared.config.Config.{Config}
 use Rattle.window_config.specs.declared.endpoints.EndpointConfig.{EndpointConfig}
 use Rattle.schedule_laws.specs.unit_model.specs.Order.{comes_before}
@@ -21,9 +22,6 @@ use Rattle.du_intake.proofs.CellLemmas.{cursor_at, swept}
 use Rattle.du_intake.proofs.UnitLemmas.{found_behind}
 use Rattle.du_intake.proofs.UsedLemmas.{used_named}
 
-first_behind : (a b : Bool) → a ≡ true → (a || b) ≡ true
-first_behind a b h = rw h refl
-
 other_ahead : (a b x : Bool) → a ≡ false → b ≡ true → (a || (not b && x)) ≡ false
 other_ahead a b x h k = rw (h, k) refl
 
@@ -35,24 +33,21 @@ own_behind false false p n h k l = grind (arith, nat_tests)
 -- all that stands before the next symbol stands before a cursor at its first PRB
 behind_then : (next x : SymbolStart) (p : ℕ) (new : Option SymbolStart) → (comes_before x next ≡ true) → IfSome new (λ f. comes_before next f ≡ true) → is_behind new 0 x p ≡ true
 behind_then next x p None before after = refl
-behind_then next x p (Some f) before after = first_behind (comes_before x f) _ (comes_trans x next f before after)
+behind_then next x p (Some f) before after = or_left (comes_before x f) _ (comes_trans x next f before after)
 
 behind_own : (next x : SymbolStart) (p : ℕ) (new : Option SymbolStart) → x ≡ next → IfSome new (λ f. comes_before next f ≡ true) → is_behind new 0 x p ≡ true
 behind_own next x p None same after = refl
-behind_own next x p (Some f) same after = first_behind (comes_before x f) _ (ap (λ (y : SymbolStart). comes_before y f) same ∙ after)
+behind_own next x p (Some f) same after = or_left (comes_before x f) _ (ap (λ (y : SymbolStart). comes_before y f) same ∙ after)
 
 step_marks : (next x : SymbolStart) (n p : ℕ) (new : Option SymbolStart) → IfSome new (λ f. comes_before next f ≡ true) → (comes_before next x ≡ true → IsNotBefore x new)
     → (comes_before x next ≡ false → comes_before next x ≡ false → (p < n) × (x ≡ next)) → is_behind (Some next) n x p ≡ is_behind new 0 x p
 step_marks next x n p new after first here = elim (cases_Bool (comes_before x next)) [
-  | inl a ↦ first_behind (comes_before x next) _ a ∙ sym (behind_then next x p new a after)
+  | inl a ↦ or_left (comes_before x next) _ a ∙ sym (behind_then next x p new a after)
   | inr a ↦ elim (cases_Bool (comes_before next x)) [
     | inl b ↦ other_ahead (comes_before x next) (comes_before next x) (nat_lt p n) a b ∙ sym (found_behind x p new (first b))
     | inr b ↦ own_behind (comes_before x next) (comes_before next x) p n a b (here a b).0 ∙ sym (behind_own next x p new (here a b).1 after)
   ]
 ]
-
-within_all : (p n few : ℕ) → p < few → few ≤ n → p < n
-within_all p n few h k = omega (arith, h, k)
 
 module _ (c : Config) (planned : List Allocation) (m : UnitMemory) (clock : ℤ) (h : History) (next : SymbolStart) (n : ℕ)
     (k : Keeps c planned m clock (cursor_at next n) h) where
@@ -66,7 +61,7 @@ module _ (c : Config) (planned : List Allocation) (m : UnitMemory) (clock : ℤ)
       let same : e ≡ next.endpoint = endpoints_equal c.endpoints cell.ep next.ep e next.endpoint is.endpoint s.endpoint place.ep in
       let own : start_at next.ep next.endpoint next.slot next.symbol ≡ next =
       ap (λ (t : ℤ). (let y : SymbolStart = record { ep = next.ep; endpoint = next.endpoint; start = record { 0 = t }; slot = next.slot; symbol = next.symbol } in y)) s.starts in (
-        within_all cell.prb n next.endpoint.prbs (subst (λ (f : EndpointConfig). cell.prb < f.prbs) same is.prb) over,
+        lt_of_lt_of_le (subst (λ (f : EndpointConfig). cell.prb < f.prbs) same is.prb) over,
         ap (λ (i : ℕ). start_at i e cell.slot cell.symbol) place.ep
             ∙ ap (λ (f : EndpointConfig). start_at next.ep f cell.slot cell.symbol) same
             ∙ ap (λ t. start_at next.ep next.endpoint t cell.symbol) place.slot_is

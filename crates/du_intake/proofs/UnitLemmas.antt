@@ -4,6 +4,7 @@ use Rattle.std.specs.Prelude.{All, Bool, true, false, not, ◌&&◌, ◌||◌, n
 use Rattle.std.proofs.lemmas.Bool.Decides.{nat_tests}
 use Rattle.std.proofs.lemmas.Int.{ints}
 use Rattle.std.proofs.lemmas.List.Elements.{All-nil, All-cons, All-weaker}
+use Rattle.std.specs.Int.Signed.{≤ℤ_refl}
 use Rattle.air_source.specs.declared.events.Side.TheVariants.{Du}
 use Rattle.window_config.specs.declared.config.Config.{Config}
 use Rattle.fault_counters.specs.declared.kinds.Counter.{Counter}
@@ -29,6 +30,7 @@ use Rattle.schedule_laws.specs.unit_model.specs.Order.{comes_before}
 use Rattle.schedule_laws.specs.unit_model.specs.Starts.{start_at}
 use Rattle.schedule_laws.specs.unit_model.specs.declared.symbol_start.SymbolStart.{SymbolStart}
 use Rattle.window_config.specs.declared.endpoints.EndpointConfig.{EndpointConfig}
+use Rattle.ru_buffers.specs.history_laws.proofs.TickLemmas.{at_most}
 use Rattle.du_intake.specs.Cursors.{ArePlanned, CellCursor, HasLeft, IsNamed, IsNextSymbol, IsNotBefore, is_behind}
 use Rattle.du_intake.specs.Symbols.{IsListed, symbol_at}
 use Rattle.du_intake.specs.Units.{Keeps, Stands, cursor_by, due_of}
@@ -86,9 +88,6 @@ nothing_past c k =
 first_time : IsTime first_clock
 first_time = record { low = omega (arith, ints); high = omega (arith, ints) }
 
-same_most : (a : ℤ) → a ≤ℤ a
-same_most a = omega (arith, ints)
-
 pub found_behind : (x : SymbolStart) (prb : ℕ) (next : Option SymbolStart) → IsNotBefore x next → is_behind next 0 x prb ≡ false
 found_behind x prb None h = absurd h
 found_behind x prb (Some f) h = neither (comes_before x f) (not (comes_before f x)) (nat_lt prb 0) h (grind (arith, nat_tests))
@@ -112,7 +111,7 @@ stands_made c planned plan room m wait plans holds listed most waits =
       holds = holds first_clock;
       clock_is = refl;
       time = first_time;
-      begun = same_most first_clock;
+      begun = ≤ℤ_refl first_clock;
       past = nothing_past c (du_known c planned []);
       told = λ e cell is down heard. cc;
       differ = tt;
@@ -126,9 +125,6 @@ stands_made c planned plan room m wait plans holds listed most waits =
     }) plan room wait listed most waits (left_made c planned next plans first.named)
 
 -- ---- an arrival
-
-pub no_later : (a b c : ℤ) → a ≤ℤ b → b ≤ℤ c → a ≤ℤ c
-no_later a b c h k = omega (arith, ints)
 
 module _ (c : Config) (planned : List Allocation) (m : UnitMemory) (clock wait at : ℤ) (plan : UplinkPlan) (room : ℕ) (place : Place) (h : History)
     (all : Stands c planned m clock wait plan room (cursor_by m plan place) h) (order : clock ≤ℤ at) (time : IsTime at) (none : due_of c planned h (at -ℤ pos 1) ≡ []) where
@@ -166,9 +162,9 @@ module _ (c : Config) (planned : List Allocation) (m : UnitMemory) (clock wait a
         holds = holds h.arrivals (cells_counted h.reported) holds_at;
         clock_is = refl;
         time = time;
-        begun = no_later first_clock h.clock at k.begun after;
+        begun = at_most first_clock h.clock at k.begun after;
         past =
-            arrival_leaves_due Du c planned (arrival at frame) h.arrivals h.reported (at -ℤ pos 1) (is_next frame) (same_most (at -ℤ pos 1)) ∙ none;
+            arrival_leaves_due Du c planned (arrival at frame) h.arrivals h.reported (at -ℤ pos 1) (is_next frame) (≤ℤ_refl (at -ℤ pos 1)) ∙ none;
         told = k.told;
         differ = k.differ;
         owed = All-weaker (IsOwed Du c (du_known c planned h.arrivals)) (IsOwed Du c (du_known c planned (arrival at frame ∷ h.arrivals)))

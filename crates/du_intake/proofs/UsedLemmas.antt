@@ -1,10 +1,9 @@
 -- The cells that are in use by a plan are those of the symbols that it names.
-use Rattle.std.proofs.Common.{◌≡◌, ℕ, zero, suc, ◌+◌, ◌*◌, ◌<◌, ◌≤◌, Bool, true, false, not, ◌==◌, if◌then◌else◌, List, [], ◌∷◌, Option, Some, None, ◌⊎◌, inl, inr, refl, ap, ap₂, sym, ◌∙◌, subst, arith}
+use Rattle.std.proofs.Common.{◌≡◌, ℕ, zero, suc, ◌+◌, ◌*◌, ◌<◌, Bool, true, false, not, ◌==◌, if◌then◌else◌, List, [], ◌∷◌, Option, Some, None, ◌⊎◌, inl, inr, refl, ap, sym, ◌∙◌, subst, arith}
 use Rattle.std.specs.Prelude.{nat_lt}
 use Rattle.std.specs.List.{slice_get}
 use Rattle.std.proofs.lemmas.Bool.{cases_Bool, and_from, eq-eqb}
 use Rattle.schedule_laws.specs.unit_model.specs.Claims.{same_slot}
-use Rattle.schedule_laws.proofs.ClashLemmas.{slot_own}
 use Rattle.std.proofs.lemmas.Bool.Decides.{nat_tests}
 use Rattle.fh_time.specs.declared.values.Slot.{Slot}
 use Rattle.window_config.specs.declared.config.Config.{Config}
@@ -19,6 +18,9 @@ use Rattle.schedule_laws.specs.unit_model.specs.declared.cells.Claim.{Claim}
 use Rattle.schedule_laws.specs.unit_model.specs.declared.symbol_start.SymbolStart.{SymbolStart}
 use Rattle.schedule_laws.specs.unit_laws.proofs.CellLemmas.{covers_is}
 use Rattle.schedule_laws.specs.unit_laws.proofs.FarLemmas.{endpoints_equal}
+use Rattle.ru_buffers.specs.history_laws.proofs.UnitLemmas.{unused, not_both}
+use Rattle.schedule_laws.specs.plan_model.proofs.SlotLemmas.{slot_own}
+use Rattle.schedule_laws.proofs.TimeLemmas.{first_less}
 use Rattle.du_intake.specs.Cursors.{ArePlanned, HasLeft, IsNamed, cell_in}
 
 -- ---- what covers a cell
@@ -44,19 +46,10 @@ covered (a ∷ earlier) cell = elim (cases_Bool (covers a cell)) [
   ]
 ]
 
-unused : (claims : ℕ → Option Claim) (n : ℕ) → ((re : ℕ) → claims re ≡ None) → used_below claims n ≡ 0
-unfolding used_below
-unused claims zero none = refl
-unused claims (suc n) none =
-    ap₂ (λ (low : ℕ) (c : Option Claim). 2 * low + (if is_used c then 1 else 0)) (unused claims n none) (none n)
-
-positive : (n : ℕ) → n ≡ 0 → 0 < n → ⊥
-positive n e h = omega arith
-
 pub used_covered : (planned : List Allocation) (cell : Cell) → 0 < used_mask (claim_at planned cell) → IsCovered planned cell
 used_covered planned cell used = elim (covered planned cell) [
   | inl c ↦ c
-  | inr none ↦ absurd (positive (used_mask (claim_at planned cell)) (unused (claim_at planned cell) 12 none) used)
+  | inr none ↦ absurd (not_both (used_mask (claim_at planned cell)) (unused (claim_at planned cell) 12 none) used)
 ]
 
 -- the symbol of a cell in use is named
@@ -117,9 +110,6 @@ used_positive claims (suc n) re below h = elim (cases_Bool (nat_lt re n)) [
 own_from : (first count : ℕ) → 0 < count → is_from first count first ≡ true
 own_from first count h = grind (arith, nat_tests)
 
-first_inside : (first count most : ℕ) → 0 < count → first + count ≤ most → first < most
-first_inside first count most h k = omega arith
-
 -- a cell is planned of each symbol that is named
 pub named_left : (c : Config) (planned : List Allocation) (m : SymbolStart) → ArePlanned c planned → IsNamed planned m → HasLeft planned 0 m
 named_left c planned m plan is =
@@ -129,7 +119,7 @@ named_left c planned m plan is =
     subst (HasLeft planned 0) (sym is.names.is) (record {
       prb = first_prb a;
       low = omega arith;
-      below = first_inside (first_prb a) (prb_count a) a.endpoint.prbs p.prbs p.inside;
+      below = first_less (first_prb a) (prb_count a) a.endpoint.prbs p.prbs p.inside;
       used = used_positive (claim_at planned (cell_in own (first_prb a))) 12 p.re p.few
           (claim_used planned is.k a (cell_in own (first_prb a)) p.re (λ i x there. (plan i x there).idle) is.at
           (and_from (covers a (cell_in own (first_prb a))) (in_mask a.mask p.re) (covers_own a m.symbol p.down is.names.symbol (own_from (first_prb a) (prb_count a) p.prbs)) p.mask));

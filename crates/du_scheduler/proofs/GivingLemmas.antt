@@ -11,10 +11,10 @@ use Rattle.plan_tests.specs.plan_model.specs.Lines.{planned}
 use Rattle.plan_tests.specs.plan_model.specs.Packs.{parts_of}
 use Rattle.plan_tests.specs.plan_model.specs.Sent.{SentFrame, sent}
 use Rattle.plan_tests.specs.plan_model.specs.declared.lines.PlannedLine.{PlannedLine}
+use Rattle.plan_tests.specs.plan_model.proofs.ListLemmas.{in_right}
 use Rattle.frame_order.specs.Queues.{Gives, IsQueue, StandsFor}
 use Rattle.frame_order.specs.declared.queue.Queue.{Queue}
 use Rattle.frame_order.specs.declared.turns.Turn.{Turn}
-use Rattle.sent_frames.specs.schedule_laws.proofs.ListLemmas.{in_right}
 use Rattle.plan_table.specs.sent_order.specs.Runs.{place_of, turn_of}
 use Rattle.plan_table.specs.Kept.{placed_line}
 use Rattle.plan_table.specs.Tables.{IsTable, IsTurnOf}

@@ -9,6 +9,7 @@ use Rattle.window_config.specs.declared.plan.PlanLine.{PlanLine}
 use Rattle.plan_tests.specs.unit_model.specs.Lists.{or_else}
 use Rattle.plan_tests.specs.unit_model.specs.Meetings.{find_endpoint}
 use Rattle.plan_tests.specs.unit_model.specs.declared.allocations.Allocation.{Allocation}
+use Rattle.plan_tests.specs.unit_model.proofs.CountLemmas.{no_time}
 use Rattle.plan_tests.specs.plan_model.specs.Dense.{dense}
 use Rattle.plan_tests.specs.plan_model.specs.Lines.{allocation_of, planned, planned_at, planned_from, planned_with}
 use Rattle.plan_tests.specs.plan_model.specs.Valid.{IsValid, dense_refused}
@@ -16,6 +17,7 @@ use Rattle.plan_tests.specs.plan_model.specs.Validity.{first_refused, refused_at
 use Rattle.plan_tests.specs.plan_model.specs.declared.dense.Dense.{Dense}
 use Rattle.plan_tests.specs.plan_model.specs.declared.lines.PlannedLine.{PlannedLine}
 use Rattle.plan_tests.specs.plan_model.specs.declared.refusals.PlanWhy.{PlanWhy}
+use Rattle.plan_tests.proofs.PlacedLemmas.{index_is}
 
 abbrev index_or : ℕ → Option PlannedLine → ℕ
 index_or k None = k
@@ -24,10 +26,6 @@ index_or k (Some p) = p.index
 abbrev line_or : PlanLine → Option PlannedLine → PlanLine
 line_or l None = l
 line_or l (Some p) = p.line
-
-index_is : (k : ℕ) (line : PlanLine) (o : Option (ℕ × EndpointConfig)) → index_or k (planned_with k line o) ≡ k
-index_is k line None = refl
-index_is k line (Some found) = refl
 
 line_is : (k : ℕ) (line : PlanLine) (o : Option (ℕ × EndpointConfig)) → line_or line (planned_with k line o) ≡ line
 line_is k line None = refl
@@ -49,9 +47,6 @@ next_place k i = omega arith
 from_none : (i : ℕ) → 0 + i ≡ i
 from_none i = omega arith
 
-no_place_more : (k : ℕ) → k ≡ k + 0
-no_place_more k = omega arith
-
 places : (es : List EndpointConfig) (earlier : List Allocation) (k : ℕ) (lines : List PlanLine) → refused_from es earlier k lines ≡ None → (p : PlannedLine) → IsIn p (planned_from es k lines)
     → IsPlaceOf p k (planned_from es k lines)
 unfolding refused_from planned_from
@@ -63,7 +58,7 @@ places es earlier k (line ∷ lines) h p m = go (planned_at es k line) (index_is
         → IsIn p (option_to_list o ++ planned_from es (k + 1) lines) → IsPlaceOf p k (option_to_list o ++ planned_from es (k + 1) lines)
     go None e g rest i = absurd cc
     go (Some q) e g rest i = elim i [
-      | inl same ↦ record { i = 0; index = ap (λ (x : PlannedLine). x.index) same ∙ e ∙ no_place_more k; at = ap (λ (x : PlannedLine). Some x) (sym same) }
+      | inl same ↦ record { i = 0; index = ap (λ (x : PlannedLine). x.index) same ∙ e ∙ no_time k; at = ap (λ (x : PlannedLine). Some x) (sym same) }
       | inr t ↦ (let r = rest q (none_refused k (why_planned earlier q) (refused_from es (allocation_of q ∷ earlier) (k + 1) lines) g) t in
           record { i = suc r.i; index = r.index ∙ next_place k r.i; at = r.at })
     ]

@@ -6,6 +6,7 @@ use Rattle.std.specs.Ordering.{int_eq}
 use Rattle.std.proofs.lemmas.Bool.Decides.{Decides-int_eq}
 use Rattle.std.proofs.lemmas.Int.{ints}
 use Rattle.std.proofs.lemmas.List.Elements.{All-append, All-cons, All-filter, All-head, All-map, All-nil, All-tail, All-weaker, filter_passes}
+use Rattle.std.specs.Int.Signed.{≤ℤ_refl}
 use Rattle.air_source.specs.declared.events.Side.{Side}
 use Rattle.delay_laws.specs.Ticks.{Flight}
 use Rattle.measured_traffic.specs.document_traffic.specs.Landing.{copy_at}
@@ -16,9 +17,9 @@ use Rattle.measured_traffic.specs.fh_document.specs.declared.document.Document.{
 use Rattle.measured_traffic.specs.Measured.{flights_then}
 use Rattle.measured_traffic.specs.Replayed.{leaving_flight, leaving_from, leaving_then}
 use Rattle.measured_traffic.specs.replay_events.specs.Moments.{end_of_time}
-use Rattle.measured_traffic.specs.replay_events.proofs.TickLemmas.{at_most, next_after, next_is_later, same_most}
 use Rattle.ru_buffers.specs.unit_model.specs.Lists.{each_tick}
 use Rattle.ru_buffers.specs.unit_model.specs.Meetings.{Arrival}
+use Rattle.ru_buffers.specs.history_laws.proofs.TickLemmas.{at_most, next_after, next_is_later, next_order}
 use Rattle.frame_ways.specs.Ways.{ComesFrom, LandsAfter}
 use Rattle.frame_ways.proofs.CountLemmas.{measured_within, times_within}
 
@@ -46,14 +47,11 @@ comes_later d side now n f doc order = copies_come f 0 now (delayed d side (coun
 pub measured_comes : (d : Document) (side : Side) (now : ℤ) (n : SentCounts) (f : Leaving) → IsDocument d → f.class ≡ M → now ≤ℤ (f.at +ℤ pos 1) → ComesFrom d side now n f
 measured_comes d side now n f doc class order = copies_come f 1 now (delayed d side (counted f.class n) f).delays order (measured_within d doc side f.class _ class)
 
-next_most : (tick at : ℤ) → tick ≤ℤ at → (tick +ℤ pos 1) ≤ℤ (at +ℤ pos 1)
-next_most tick at order = omega (arith, ints, order)
-
 -- so of those that land after a tick
 pub lands_after : (d : Document) (side : Side) (tick : ℤ) (n : SentCounts) (f : Leaving) → IsDocument d → LandsAfter tick f → ComesFrom d side (tick +ℤ pos 1) n f
 lands_after d side tick n f doc later = elim later [
   | inl after ↦ comes_later d side (tick +ℤ pos 1) n f doc (next_after tick f.at after)
-  | inr measured ↦ measured_comes d side (tick +ℤ pos 1) n f doc measured.0 (next_most tick f.at measured.1)
+  | inr measured ↦ measured_comes d side (tick +ℤ pos 1) n f doc measured.0 (next_order tick f.at measured.1)
 ]
 
 -- ---- all that leaves from a tick on
@@ -80,7 +78,7 @@ pub leaves_from : (fs : List Flight) (now : ℤ) (ls : List Leaving) → All (λ
 unfolding leaving_from
 leaves_from fs now ls =
     let P = λ (f : Leaving). now ≤ℤ f.at in
-    ticks_all P now now (int_gap now (end_of_time +ℤ pos 1)) (leaving_then ls fs) (same_most now)
+    ticks_all P now now (int_gap now (end_of_time +ℤ pos 1)) (leaving_then ls fs) (≤ℤ_refl now)
     (λ t order.
     All-append P (filter (λ (f : Leaving). int_eq f.at t) ls) (map leaving_flight (flights_then fs t)) (then_from ls now t order) (All-map P leaving_flight (flights_then fs t) (flights_from fs now t order)))
 
@@ -90,7 +88,7 @@ unfolding leaving_from
 leaving_lands_after fs tick ls later =
     let P = LandsAfter tick in
     let others : All P ls = All-weaker (λ (f : Leaving). tick <ℤ f.at) P (λ f after. inl after) ls later in
-    ticks_all P tick tick (int_gap tick (end_of_time +ℤ pos 1)) (leaving_then ls fs) (same_most tick)
+    ticks_all P tick tick (int_gap tick (end_of_time +ℤ pos 1)) (leaving_then ls fs) (≤ℤ_refl tick)
     (λ t order.
     All-append P (filter (λ (f : Leaving). int_eq f.at t) ls) (map leaving_flight (flights_then fs t)) (All-filter (λ (f : Leaving). int_eq f.at t) P ls others)
     (All-map P leaving_flight (flights_then fs t)

@@ -2,9 +2,8 @@
 use Rattle.std.proofs.Common.{◌≡◌, ℕ, suc, ℤ, pos, ◌+◌, ◌<◌, ◌^◌, ◌+ℤ◌, ◌*ℤ◌, ◌≤ℤ◌, ◌≤◌, Result, Ok, Err, Some, OnOk, Bool, true, false, List, [], ◌∷◌, ◌++◌, length, All, take, take-suc, get_or, inl, inr, refl, sym, ap, ap₂, ◌∙◌, arith, append_assoc, append-nil}
 use Rattle.std.specs.Prelude.{filter, map}
 use Rattle.std.specs.Cmp.{bool_cmp_total, int_cmp_total, nat_cmp_total, tied_itself}
-use Rattle.std.specs.Ordering.{int_eq, nat_cmp}
-use Rattle.std.specs.declared.cmp.Ordering.TheVariants.{Less}
-use Rattle.std.proofs.lemmas.Bool.Decides.{Decides-int_eq, nat_tests}
+use Rattle.std.specs.Ordering.{int_eq}
+use Rattle.std.proofs.lemmas.Bool.Decides.{Decides-int_eq}
 use Rattle.std.proofs.lemmas.List.{length-take-le, map-append, take_all}
 use Rattle.std.proofs.lemmas.List.Elements.{All-head, All-pop, All-tail, filter-append}
 use Rattle.measured_traffic.specs.fh_document.specs.Proper.{IsFrom}
@@ -15,13 +14,11 @@ use Rattle.frame_network.proofs.Order.{earlier_place_is_not_after, not_after}
 use Rattle.frame_network.proofs.PutIn.{All-put_in, IsInOrder-put_in, IsLastOf, filter-put_in_last, filter-put_in_other}
 use Rattle.measured_traffic.specs.replay_events.specs.Moments.{landing_at}
 use Rattle.ru_buffers.specs.unit_model.specs.Meetings.{Arrival}
+use Rattle.measured_traffic.specs.sent_order.proofs.KeptLemmas.{nat_less}
 use Rattle.frame_ways.specs.declared.copies.Departure.{Departure}
 use Rattle.frame_ways.specs.Flying.{AreFlyingFrom, IsSentBefore, arrival_at, flying_at, flying_copies, flying_copy, landing_from, put_all}
 
 -- ---- one copy more
-
-nat_less : (x y : ℕ) → x < y → nat_cmp x y ≡ Less
-nat_less x y h = grind (arith, nat_tests)
 
 -- at one time and unit, of one frame that was sent, the later copy is after the earlier one
 later_copy : (a b : Flying) → a.at ≡ b.at → a.side ≡ b.side → a.key.injected ≡ b.key.injected → a.key.place ≡ b.key.place → a.key.copy < b.key.copy → is_after b a ≡ true

@@ -6,6 +6,7 @@ use Rattle.std.specs.Ordering.{int_eq}
 use Rattle.std.proofs.lemmas.Int.{ints}
 use Rattle.std.proofs.lemmas.Bool.Decides.{Decides-int_eq}
 use Rattle.std.proofs.lemmas.List.Elements.{All-head, All-tail}
+use Rattle.std.specs.Int.Signed.{<ℤ-≤ℤ_trans}
 use Rattle.air_source.specs.declared.events.Side.{Side}
 use Rattle.measured_traffic.specs.fh_document.specs.declared.document.Document.{Document}
 use Rattle.fh_time.specs.declared.values.Ticks.{Ticks}
@@ -13,15 +14,12 @@ use Rattle.frame_network.specs.declared.arrivals.Arrival.{Arrival as Flying}
 use Rattle.frame_network.specs.declared.landings.Landing.{Landing}
 use Rattle.frame_network.specs.Queues.{AreRising, at_time, Took, first_time, landing_of}
 use Rattle.frame_network.proofs.QueueLemmas.{none_below, taken_all as all_left}
-use Rattle.measured_traffic.specs.replay_events.proofs.TickLemmas.{at_most, below_all, next_after}
 use Rattle.ru_buffers.specs.unit_model.specs.Meetings.{Arrival}
+use Rattle.ru_buffers.specs.history_laws.proofs.TickLemmas.{at_most, next_after, is_same, after_next}
 use Rattle.frame_ways.specs.Flying.{AreFlyingFrom, arrival_at, flying_at, landing_from}
 use Rattle.frame_ways.specs.Listed.{AreFrom, arrival_of, frame_at, left_at}
 
 -- ---- times
-
-equal_at : (x t : ℤ) → x ≡ t → int_eq x t ≡ true
-equal_at x t is = (Decides-int_eq x t).1 is
 
 equal_not : (x t : ℤ) (b : Bool) → x ≢ t → int_eq x t ≡ b → b ≡ false
 equal_not x t true other e = absurd (other ((Decides-int_eq x t).0 e))
@@ -35,12 +33,6 @@ below_not x t lt same = omega (arith, ints, lt, same)
 
 under_next : (t : ℤ) → t <ℤ (t +ℤ pos 1)
 under_next t = omega (arith, ints)
-
-after_next : (tick t : ℤ) → (tick +ℤ pos 1) ≤ℤ t → tick <ℤ t
-after_next tick t low = omega (arith, ints, low)
-
-pub same_tick : (a tick : ℤ) → tick ≤ℤ a → a ≤ℤ tick → a ≡ tick
-same_tick a tick low high = omega (arith, ints)
 
 -- ---- in flight
 
@@ -58,7 +50,7 @@ flying_first t a fs = go (int_eq a.at.0 t)
 -- one of the tick comes first, and of later ticks nothing changes without it
 pub flying_here : (t : ℤ) (a : Flying) (fs : List Flying) → a.at.0 ≡ t → flying_at t (a ∷ fs) ≡ arrival_at t a.frame ∷ flying_at t fs
 flying_here t a fs at =
-    flying_first t a fs ∙ ap (λ (b : Bool). with_first b a (flying_at t fs)) (equal_at a.at.0 t at) ∙ ap (λ (z : ℤ). arrival_at z a.frame ∷ flying_at t fs) at
+    flying_first t a fs ∙ ap (λ (b : Bool). with_first b a (flying_at t fs)) (is_same a.at.0 t at) ∙ ap (λ (z : ℤ). arrival_at z a.frame ∷ flying_at t fs) at
 
 flying_not : (t : ℤ) (a : Flying) (fs : List Flying) → a.at.0 ≢ t → flying_at t (a ∷ fs) ≡ flying_at t fs
 flying_not t a fs other = flying_first t a fs ∙ ap (λ (b : Bool). with_first b a (flying_at t fs)) (equal_not a.at.0 t (int_eq a.at.0 t) other refl)
@@ -70,7 +62,7 @@ flying_below : (t from : ℤ) (fs : List Flying) → t <ℤ from → AreFlyingFr
 flying_below t from [] lt h = refl
 flying_below t from (a ∷ fs) lt h =
     let low : from ≤ℤ a.at.0 = All-head (λ (x : Flying). from ≤ℤ x.at.0) a fs h in
-    flying_not t a fs (above_not a.at.0 t (below_all t from a.at.0 lt low)) ∙ flying_below t from fs lt (All-tail (λ (x : Flying). from ≤ℤ x.at.0) a fs h)
+    flying_not t a fs (above_not a.at.0 t (<ℤ-≤ℤ_trans lt low)) ∙ flying_below t from fs lt (All-tail (λ (x : Flying). from ≤ℤ x.at.0) a fs h)
 
 -- none is of a tick where all come later
 pub flying_none : (t : ℤ) (fs : List Flying) → AreFlyingFrom (t +ℤ pos 1) fs → flying_at t fs ≡ []
@@ -97,7 +89,7 @@ pub left_first : (d : Document) (side : Side) (tick : Ticks) (index : ℕ) (befo
     → left_at d side tick.0 before ≡ arrival_at tick.0 (frame_at d side index) ∷ left_at d side tick.0 now
 left_first d side tick index before now is =
     ap (map (arrival_of d side))
-    (taken tick.0 tick index before now is ∙ ap (λ (b : Bool). with_one b (landing_of tick index) (at_time tick.0 now)) (equal_at tick.0 tick.0 refl))
+    (taken tick.0 tick index before now is ∙ ap (λ (b : Bool). with_one b (landing_of tick index) (at_time tick.0 now)) (is_same tick.0 tick.0 refl))
 
 pub left_later : (d : Document) (side : Side) (t : ℤ) (tick : Ticks) (index : ℕ) (before now : List Landing) → before ≡ landing_of tick index ∷ now → (tick.0 +ℤ pos 1) ≤ℤ t
     → left_at d side t before ≡ left_at d side t now
@@ -113,7 +105,7 @@ pub from_less : (a b : ℤ) (q : List Landing) → a ≤ℤ b → AreFrom b q �
 from_less a b [] order h = tt
 from_less a b (l ∷ q) order h = (at_most a b l.at.0 order h.0, from_less a b q order h.1)
 
-not_here : (a b : ℤ) → a ≤ℤ b → b ≢ a → (a +ℤ pos 1) ≤ℤ b
+pub not_here : (a b : ℤ) → a ≤ℤ b → b ≢ a → (a +ℤ pos 1) ≤ℤ b
 not_here a b low other = omega (arith, ints, low, other)
 
 -- none was of the tick
@@ -123,9 +115,9 @@ refused_from tick (l ∷ q) from up other =
     let here = not_here tick.0 l.at.0 from.0 (λ same. other (ap (λ z. Some (record { 0 = z })) same)) in
     (here, from_less (tick.0 +ℤ pos 1) l.at.0 q here up.0)
 
-below_from : (t from : ℤ) (q : List Landing) → t <ℤ from → AreFrom from q → AllByRecursion (λ m. t <ℤ m.at.0) q
+pub below_from : (t from : ℤ) (q : List Landing) → t <ℤ from → AreFrom from q → AllByRecursion (λ m. t <ℤ m.at.0) q
 below_from t from [] lt h = tt
-below_from t from (l ∷ q) lt h = (below_all t from l.at.0 lt h.0, below_from t from q lt h.1)
+below_from t from (l ∷ q) lt h = (<ℤ-≤ℤ_trans lt h.0, below_from t from q lt h.1)
 
 pub left_none : (d : Document) (side : Side) (t : ℤ) (q : List Landing) → AreFrom (t +ℤ pos 1) q → left_at d side t q ≡ []
 left_none d side t q from = ap (map (arrival_of d side)) (none_below t q (below_from t (t +ℤ pos 1) q (under_next t) from))

@@ -4,6 +4,7 @@ use Rattle.std.specs.Ordering.{int_eq}
 use Rattle.std.proofs.lemmas.Bool.Decides.{Decides-int_eq}
 use Rattle.std.proofs.lemmas.Int.{ints}
 use Rattle.std.proofs.lemmas.List.Elements.{All-weaker}
+use Rattle.std.specs.Int.Signed.{<ℤ-≤ℤ_trans, clash_ℤ}
 use Rattle.air_source.specs.declared.events.Side.{Side}
 use Rattle.measured_traffic.specs.document_traffic.specs.Laws.{IsReplayable}
 use Rattle.measured_traffic.specs.document_traffic.specs.Sending.{Leaving, SentCounts}
@@ -14,9 +15,10 @@ use Rattle.measured_traffic.specs.Turns.{FlightsWait, IsQuietBetween}
 use Rattle.measured_traffic.proofs.LeaveLemmas.{leaving_waits}
 use Rattle.measured_traffic.specs.replay_events.specs.Moments.{end_of_time, landing_at}
 use Rattle.measured_traffic.specs.replay_events.specs.Passing.{IsCalm}
-use Rattle.measured_traffic.specs.replay_events.proofs.TickLemmas.{at_most, before_next, below_all, between, next_after, weak}
+use Rattle.measured_traffic.specs.replay_events.proofs.TickLemmas.{between}
 use Rattle.ru_buffers.specs.unit_model.specs.Meetings.{Arrival}
 use Rattle.ru_buffers.specs.unit_model.specs.Radiated.{first_clock}
+use Rattle.ru_buffers.specs.history_laws.proofs.TickLemmas.{at_most, before_next, next_after, weak, last_before}
 use Rattle.frame_ways.specs.Ways.{IsEmptyTo, LandsAfter, Waits}
 use Rattle.frame_ways.specs.declared.way.Way.{Way}
 use Rattle.frame_ways.proofs.ComingLemmas.{leaving_lands_after}
@@ -31,12 +33,6 @@ pub record AreSilent (d : Document) (now tick : ℤ) (counts : Side → SentCoun
   pub begins : (side : Side) (t : ℤ) → now ≤ℤ t → t <ℤ tick → begins_at d side t ≡ []
 
 -- ---- one tick more
-
-not_below : (a b : ℤ) → a ≤ℤ b → b <ℤ a → ⊥
-not_below a b low high = omega (arith, ints, low, high)
-
-last_before : (t tick : ℤ) → t <ℤ tick → t ≤ℤ (tick -ℤ pos 1)
-last_before t tick lt = omega (arith, ints, lt)
 
 differs : (a b : ℤ) → int_eq a b ≡ false → a ≢ b
 differs a b e same = let both : true ≡ false = sym ((Decides-int_eq a b).1 same) ∙ e in absurd (cc both)
@@ -62,7 +58,7 @@ calm_then : FlightsWait → (d : Document) (now tick t : ℤ) (counts : Side →
 calm_then flights d now tick t counts left ways ready begun low high ended s quiet side =
     let ls = left side in
     let fs = (exchanges d).sent side in
-    let after : All (λ (f : Leaving). t <ℤ f.at) ls = All-weaker (λ (f : Leaving). tick ≤ℤ f.at) (λ (f : Leaving). t <ℤ f.at) (λ f due. below_all t tick f.at high due) ls (s.later side) in
+    let after : All (λ (f : Leaving). t <ℤ f.at) ls = All-weaker (λ (f : Leaving). tick ≤ℤ f.at) (λ (f : Leaving). t <ℤ f.at) (λ f due. <ℤ-≤ℤ_trans high due) ls (s.later side) in
     let from : All (λ (f : Leaving). t ≤ℤ f.at) ls = All-weaker (λ (f : Leaving). t <ℤ f.at) (λ (f : Leaving). t ≤ℤ f.at) (λ f late. weak t f.at late) ls after in
     let same = left_same flights d side now t ls ready begun low ended from quiet in
     calm_at d side now t (counts side) (leaving_with side d ls now) (ways side) (s.waits side) low
@@ -74,9 +70,9 @@ pub quiet_until : FlightsWait → (d : Document) (now tick : ℤ) (counts : Side
     → now ≤ℤ tick → tick ≤ℤ (end_of_time +ℤ pos 1) → AreSilent d now tick counts left ways → IsQuietBetween d now tick
 quiet_until flights d now tick counts left ways ready begun order ended s =
     between (λ t. IsQuietBetween d now t) now tick order
-    (record { begins = λ side t low high. absurd (not_below now t low high); calm = λ side t low high. absurd (not_below now t low high) })
+    (record { begins = λ side t low high. absurd (clash_ℤ high low); calm = λ side t low high. absurd (clash_ℤ high low) })
     (λ t low high quiet. record {
-      begins = λ side u from to. s.begins side u from (below_all u (t +ℤ pos 1) tick to (next_after t tick high));
+      begins = λ side u from to. s.begins side u from (<ℤ-≤ℤ_trans to (next_after t tick high));
       calm = λ side.
           calm_more (landings_for side d) now t (quiet.calm side)
           (calm_then flights d now tick t counts left ways ready begun low high (at_most t tick (end_of_time +ℤ pos 1) (weak t tick high) ended) s quiet side);

@@ -17,6 +17,7 @@ use Rattle.measured_traffic.specs.Replayed.{all_leaving, landings_for}
 use Rattle.measured_traffic.specs.replay_events.specs.Moments.{landing_at}
 use Rattle.ru_buffers.specs.unit_model.specs.Meetings.{Arrival}
 use Rattle.ru_buffers.specs.unit_model.specs.Radiated.{first_clock}
+use Rattle.ru_buffers.specs.history_laws.proofs.TickLemmas.{same_tick}
 use Rattle.frame_ways.specs.declared.copies.Departure.{Departure}
 use Rattle.frame_ways.specs.declared.landed.Landed.TheVariants.{Sent, Listed}
 use Rattle.frame_ways.specs.declared.way.Way.{Way}
@@ -25,7 +26,7 @@ use Rattle.frame_ways.specs.Flying.{AreFlyingFrom, IsSentBefore, arrival_at, fly
 use Rattle.frame_ways.specs.Listed.{AreFrom, frame_at, frame_of, injections_in, injections_to, left_at, time_of}
 use Rattle.frame_ways.specs.Ways.{ComesFrom, IsLanded, IsOver, Waits, sent_at}
 use Rattle.frame_ways.proofs.FlightLemmas.{are_put, copies_from, landing-append, put_later}
-use Rattle.frame_ways.proofs.LandLemmas.{flying_here, flying_later, flying_none, later_from, left_first, left_later, left_none, refused_from, same_tick, taken_all}
+use Rattle.frame_ways.proofs.LandLemmas.{flying_here, flying_later, flying_none, later_from, left_first, left_later, left_none, refused_from, taken_all}
 use Rattle.frame_ways.proofs.ListLemmas.{left_listed, lent_at, listed_from, short_at, times_to}
 
 -- all but what is on its way, and how many were sent, is as it was

@@ -3,12 +3,14 @@ use Rattle.std.proofs.Common.{◌≡◌, ℤ, pos, ◌+ℤ◌, ◌≤ℤ◌, ◌
 use Rattle.std.specs.Prelude.{int_lt, if◌then◌else◌, IfSome}
 use Rattle.std.proofs.lemmas.Int.{ints}
 use Rattle.std.proofs.lemmas.List.Elements.{All-head, All-nil}
+use Rattle.std.specs.Int.Signed.{<ℤ-≤ℤ_trans}
 use Rattle.fh_time.specs.declared.values.Ticks.{Ticks}
+use Rattle.ru_buffers.specs.history_laws.specs.window_config.proofs.Timing.{not_under, under}
+use Rattle.ru_buffers.specs.history_laws.proofs.TickLemmas.{next_after, weak}
 use Rattle.frame_network.specs.declared.arrivals.Arrival.{Arrival as Flying}
 use Rattle.frame_network.specs.declared.landings.Landing.{Landing}
 use Rattle.frame_network.specs.Network.{first_time as first_flying}
 use Rattle.frame_network.specs.Queues.{AreRising, first_time}
-use Rattle.measured_traffic.specs.replay_events.proofs.TickLemmas.{below_all, next_after, weak}
 use Rattle.ru_buffers.specs.Calls.{IsLeast, IsLeastOf, earlier_time}
 use Rattle.frame_ways.specs.Flying.{AreFlyingFrom}
 use Rattle.frame_ways.specs.Listed.{AreFrom}
@@ -16,21 +18,15 @@ use Rattle.frame_ways.proofs.LandLemmas.{flying_less, from_less}
 
 -- ---- the earlier of two times
 
-not_late : (a b : ℤ) → int_lt a b ≡ false → b ≤ℤ a
-not_late a b e = omega (arith, ints)
-
-late : (a b : ℤ) → int_lt a b ≡ true → a <ℤ b
-late a b e = omega (arith, ints)
-
 -- what holds of both holds before the earlier of their least times
 earlier_is : (P Q : ℤ → Type 0) (s t : Ticks) (b : Bool) → int_lt t.0 s.0 ≡ b → IsLeast P s.0 → IsLeast Q t.0
     → IsLeastOf (λ to. P to × Q to) (if b then Some t else Some s)
 earlier_is P Q s t true e p q = record {
-  before = λ to lt. (p.before to (below_all to t.0 s.0 lt (weak t.0 s.0 (late t.0 s.0 e))), q.before to lt);
+  before = λ to lt. (p.before to (<ℤ-≤ℤ_trans lt (weak t.0 s.0 (under t.0 s.0 e))), q.before to lt);
   at = λ both. q.at both.1;
 }
 earlier_is P Q s t false e p q = record {
-  before = λ to lt. (p.before to lt, q.before to (below_all to s.0 t.0 lt (not_late t.0 s.0 e)));
+  before = λ to lt. (p.before to lt, q.before to (<ℤ-≤ℤ_trans lt (not_under t.0 s.0 e)));
   at = λ both. p.at both.0;
 }
 
@@ -42,7 +38,7 @@ earlier_of_both P Q (Some s) (Some t) p q = earlier_is P Q s t (int_lt t.0 s.0) 
 
 -- ---- the first that lands
 
-not_past : (a : ℤ) → (a +ℤ pos 1) ≤ℤ a → ⊥
+pub not_past : (a : ℤ) → (a +ℤ pos 1) ≤ℤ a → ⊥
 not_past a h = omega (arith, ints)
 
 pub first_waits : (q : List Landing) → AreRising q → IsLeastOf (λ to. AreFrom (to +ℤ pos 1) q) (first_time q)

@@ -5,6 +5,7 @@ use Rattle.std.specs.Ordering.{int_eq}
 use Rattle.std.proofs.lemmas.Int.{ints}
 use Rattle.std.proofs.lemmas.Bool.Decides.{Decides-int_eq}
 use Rattle.std.proofs.lemmas.List.Elements.{All-head, All-tail, All-weaker}
+use Rattle.std.specs.Int.Signed.{≤ℤ_refl, <ℤ-≤ℤ_trans}
 use Rattle.air_source.specs.declared.events.Side.{Side}
 use Rattle.measured_traffic.specs.document_traffic.specs.Landing.{copies_among, copies_in}
 use Rattle.measured_traffic.specs.document_traffic.specs.Sending.{Leaving, SentCounts, counted, delayed, delayed_behind}
@@ -13,8 +14,8 @@ use Rattle.measured_traffic.specs.fh_document.specs.declared.document.Document.{
 use Rattle.measured_traffic.specs.Replayed.{landings_for}
 use Rattle.measured_traffic.specs.replay_events.specs.Moments.{landing_at}
 use Rattle.measured_traffic.specs.replay_events.specs.Passing.{IsCalm}
-use Rattle.measured_traffic.specs.replay_events.proofs.TickLemmas.{at_most, below_all, last_reached, next_is_later, same_most}
 use Rattle.ru_buffers.specs.unit_model.specs.Meetings.{Arrival}
+use Rattle.ru_buffers.specs.history_laws.proofs.TickLemmas.{at_most, last_reached, next_is_later, last_before}
 use Rattle.frame_ways.specs.declared.way.Way.{Way}
 use Rattle.frame_ways.specs.Flying.{flying_at}
 use Rattle.frame_ways.specs.Listed.{left_at}
@@ -65,7 +66,7 @@ all_sent d side t now from n left w h later =
 pub comes_at : (d : Document) (side : Side) (tick : ℤ) (n : SentCounts) (left : List Leaving) (w : Way) → Waits d side tick tick n left w → All (LandsAfter tick) left
     → (coming_at d tick w ≡ landing_at (landings_for side d) tick) × Waits d side tick (tick +ℤ pos 1) n left w
 comes_at d side tick n left w h later = (
-  sym (all_sent d side tick tick tick n left w h later) ∙ h.lands tick (same_most tick),
+  sym (all_sent d side tick tick tick n left w h later) ∙ h.lands tick (≤ℤ_refl tick),
   record {
     read = h.read;
     document = h.document;
@@ -81,9 +82,6 @@ comes_at d side tick n left w h later = (
 )
 
 -- ---- the time before a tick
-
-last_before : (t tick : ℤ) → t <ℤ tick → t ≤ℤ (tick -ℤ pos 1)
-last_before t tick lt = omega (arith, ints, lt)
 
 -- what is empty up to a time is so up to each earlier one
 pub empty_less : (a b : ℤ) (w : Way) → a ≤ℤ b → IsEmptyTo w b → IsEmptyTo w a
@@ -104,7 +102,7 @@ calm_at d side now tick n left w h order empty later =
 pub waits_until : (d : Document) (side : Side) (now tick : ℤ) (n : SentCounts) (left : List Leaving) (w : Way) → Waits d side now now n left w → now ≤ℤ tick → IsEmptyTo w (tick -ℤ pos 1)
     → Waits d side tick tick n left w
 waits_until d side now tick n left w h order empty =
-    let here = last_reached tick tick (same_most tick) in
+    let here = last_reached tick tick (≤ℤ_refl tick) in
     record {
       read = h.read;
       document = h.document;
@@ -124,6 +122,6 @@ pub calm_until : (d : Document) (side : Side) (now tick : ℤ) (n : SentCounts) 
 calm_until d side now tick n left w h order empty later = (
   (λ t low high.
       calm_at d side now t n left w h low (empty_less t (tick -ℤ pos 1) w (last_before t tick high) empty)
-      (All-weaker (λ (f : Leaving). tick ≤ℤ f.at) (LandsAfter t) (λ f due. inl (below_all t tick f.at high due)) left later)),
+      (All-weaker (λ (f : Leaving). tick ≤ℤ f.at) (LandsAfter t) (λ f due. inl (<ℤ-≤ℤ_trans high due)) left later)),
   waits_until d side now tick n left w h order empty,
 )

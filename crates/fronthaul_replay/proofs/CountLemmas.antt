@@ -28,11 +28,11 @@ use Rattle.intake_moments.specs.replay_events.specs.Heard.{arrivals_heard, cells
 use Rattle.intake_moments.specs.replay_events.specs.Moments.{all_arrivals, end_of_time}
 use Rattle.intake_moments.specs.replay_events.specs.Traffic.{landings_at, reported_at}
 use Rattle.intake_moments.specs.replay_events.proofs.HeardLemmas.{arrivals-append, cells-append}
-use Rattle.intake_moments.specs.replay_events.proofs.TickLemmas.{last_of_next}
 use Rattle.intake_moments.specs.ru_buffers.specs.declared.unit.Ru.{Ru}
 use Rattle.intake_moments.specs.unit_model.specs.Counts.{StandAt, cells_counted}
 use Rattle.intake_moments.specs.unit_model.specs.Meetings.{Arrival as Landing}
 use Rattle.intake_moments.specs.unit_model.specs.Reports.{arrivals_counted, ru_reported}
+use Rattle.intake_moments.specs.du_intake.specs.history_laws.proofs.TickLemmas.{last_of_next}
 use Rattle.intake_moments.specs.uplink_turns.specs.Turns.{jobs_until}
 use Rattle.fronthaul_replay.specs.Counting.{told_counts, told_number}
 use Rattle.fronthaul_replay.specs.Replaying.{IsDone, IsInStep, IsIntakeDone, IsRadioDone, StopsInStep, events_of}

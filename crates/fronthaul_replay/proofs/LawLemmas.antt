@@ -1,7 +1,6 @@
 -- The laws of a replay's events hold of every document that was read.
 use Rattle.std.proofs.Common.{◌≡◌, List, inl, inr, true, not, ◌==◌, refl, ap, sym, ◌∙◌}
 use Rattle.std.proofs.lemmas.Bool.{and_from, and_parts, cases_Bool, eqb-true, or_right}
-use Rattle.capture_air.specs.air_source.specs.declared.events.Side.{Side}
 use Rattle.capture_air.specs.air_source.specs.declared.events.Side.TheVariants.{Ru, Du}
 use Rattle.intake_moments.specs.document_traffic.specs.Sending.{lines_of}
 use Rattle.intake_moments.specs.document_traffic.proofs.LineLemmas.{lines_fit}
@@ -13,10 +12,8 @@ use Rattle.intake_moments.specs.Turns.{planned_for}
 use Rattle.intake_moments.specs.measured_traffic.specs.Replayed.{traffic_of}
 use Rattle.intake_moments.specs.measured_traffic.proofs.DelayLemmas.{events_are_exact, events_are_measured}
 use Rattle.intake_moments.specs.measured_traffic.proofs.OnceLemmas.{schedule_radiates, uplink_is_taken_in}
-use Rattle.intake_moments.specs.measured_traffic.proofs.ReplayedLemmas.{landings_are_replayed}
 use Rattle.intake_moments.specs.plan_model.specs.Validity.{share_bit, share_cell}
 use Rattle.intake_moments.specs.replay_events.specs.Moments.{all_arrivals}
-use Rattle.intake_moments.specs.replay_events.specs.Passing.{AreLandings}
 use Rattle.intake_moments.specs.replay_events.specs.Traffic.{landings_at}
 use Rattle.intake_moments.specs.replay_laws.specs.Shown.{HaveOneId}
 use Rattle.intake_moments.specs.replay_laws.proofs.DelayLemmas.{delays_are_results, delays_follow_frames, frames_are_told}
@@ -27,11 +24,13 @@ use Rattle.intake_moments.specs.replay_laws.proofs.RefusedLemmas.{each_refused_c
 use Rattle.intake_moments.specs.replay_laws.proofs.ShownLemmas.{shown_only_in_time}
 use Rattle.intake_moments.specs.replay_laws.proofs.SumLemmas.{sums_add_up}
 use Rattle.intake_moments.specs.replay_laws.proofs.WithoutLemmas.{each_silent_changes_nothing}
-use Rattle.intake_moments.specs.schedule_laws.proofs.ClashLemmas.{IsClear, both_cover, claimed}
+use Rattle.intake_moments.specs.schedule_laws.proofs.ClashLemmas.{IsClear}
 use Rattle.intake_moments.specs.unit_model.specs.Claims.{covers}
 use Rattle.intake_moments.specs.unit_model.specs.declared.allocations.Allocation.{Allocation}
 use Rattle.intake_moments.specs.unit_model.specs.declared.cells.Cell.{Cell}
 use Rattle.intake_moments.specs.unit_model.specs.declared.cells.Claim.{Claim}
+use Rattle.intake_moments.specs.plan_model.proofs.ClashLemmas.{both_cover, claimed}
+use Rattle.intake_moments.proofs.TurnLemmas.{lands_in_time}
 use Rattle.fronthaul_replay.specs.Laws.{IsSound, TellsResults}
 use Rattle.fronthaul_replay.specs.Replaying.{IsReplayable}
 
@@ -62,10 +61,6 @@ planned_once d doc cell = have_one_id (planned_for d) cell (plan_clear d.config 
 
 -- ---- the laws
 
-lands_in_time : (d : Document) → IsReplayable d → (side : Side) → AreLandings (landings_at side (traffic_of d))
-lands_in_time d doc Ru = landings_are_replayed d Ru doc
-lands_in_time d doc Du = landings_are_replayed d Du doc
-
 tells_results : (d : Document) → TellsResults d
 tells_results d = record {
   results = delays_are_results d.config (traffic_of d);
@@ -75,17 +70,16 @@ tells_results d = record {
 
 pub is_sound : (d : Document) → IsReplayable d → IsSound d
 is_sound d doc =
-    let are = lands_in_time d doc in
     record {
       once = at_most_once d.config (traffic_of d) doc.document.config;
-      in_time = shown_only_in_time d.config (traffic_of d) (are Ru) (are Du) (planned_once d doc);
+      in_time = shown_only_in_time d.config (traffic_of d) (lands_in_time Ru d doc) (lands_in_time Du d doc) (planned_once d doc);
       sums = sums_add_up d.config (traffic_of d);
-      arrive = λ side. each_arrives (landings_at side (traffic_of d)) (are side);
+      arrive = λ side. each_arrives (landings_at side (traffic_of d)) (lands_in_time side d doc);
       exactly_once = schedule_radiates d doc;
       taken_in_once = uplink_is_taken_in d doc;
       refused = λ side. each_refused_changes_nothing side d.config (all_arrivals (landings_at side (traffic_of d)));
-      silent = λ side. each_silent_changes_nothing side d.config (landings_at side (traffic_of d)) (are side);
-      gathered = shown_are_gathered d.config (traffic_of d) (are Ru) (are Du) (planned_once d doc);
+      silent = λ side. each_silent_changes_nothing side d.config (landings_at side (traffic_of d)) (lands_in_time side d doc);
+      gathered = shown_are_gathered d.config (traffic_of d) (lands_in_time Ru d doc) (lands_in_time Du d doc) (planned_once d doc);
       results = tells_results d;
       delays = events_are_measured d doc;
       exact_delays = events_are_exact d doc;

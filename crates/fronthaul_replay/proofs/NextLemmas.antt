@@ -3,6 +3,7 @@ use Rattle.std.proofs.Common.{◌≡◌, ℤ, pos, ◌+ℤ◌, ◌-ℤ◌, ◌�
 use Rattle.std.specs.Prelude.{int_le, int_lt, if◌then◌else◌}
 use Rattle.std.specs.Int.{int_gap}
 use Rattle.std.proofs.lemmas.Int.{ints, by_lt_z}
+use Rattle.std.specs.Int.Signed.{≤ℤ_refl}
 use Rattle.capture_air.specs.air_source.specs.declared.events.Event.{Event}
 use Rattle.capture_air.specs.air_source.specs.declared.events.Side.{Side}
 use Rattle.capture_air.specs.air_source.specs.declared.events.Side.TheVariants.{Ru as AtRu, Du as AtDu}
@@ -15,6 +16,7 @@ use Rattle.intake_moments.specs.du_intake.specs.Units.{due_of as intake_due}
 use Rattle.intake_moments.specs.du_intake.specs.declared.unit.Intake.{Intake}
 use Rattle.intake_moments.specs.fh_document.specs.declared.document.Document.{Document}
 use Rattle.fh_time.specs.declared.values.Ticks.{Ticks}
+use Rattle.intake_moments.specs.window_config.proofs.Timing.{not_under, under}
 use Rattle.intake_moments.specs.frame_ways.proofs.TimeLemmas.{earlier_of_both}
 use Rattle.intake_moments.specs.Answers.{AreSilentTo}
 use Rattle.intake_moments.specs.Turns.{planned_for}
@@ -32,22 +34,16 @@ use Rattle.intake_moments.specs.replay_events.specs.Events.{events_at}
 use Rattle.intake_moments.specs.replay_events.specs.Moments.{end_of_time}
 use Rattle.intake_moments.specs.replay_events.specs.Passing.{IsNextMoment, IsUnitMoment}
 use Rattle.intake_moments.specs.replay_events.proofs.EventLemmas.{events_go_on, events_wait}
-use Rattle.intake_moments.specs.replay_events.proofs.TickLemmas.{before_next, next_most, same_most}
 use Rattle.intake_moments.specs.ru_buffers.specs.Calls.{IsDue, IsLeast, IsLeastOf, IsQuietTo, earlier_time}
 use Rattle.intake_moments.specs.ru_buffers.specs.declared.unit.Ru.{Ru}
 use Rattle.intake_moments.specs.unit_model.proofs.SweepLaws.{gap_is}
 use Rattle.intake_moments.specs.unit_model.specs.Radiated.{first_clock}
 use Rattle.intake_moments.specs.unit_model.specs.Standing.{History}
+use Rattle.intake_moments.specs.du_intake.specs.history_laws.proofs.TickLemmas.{before_next, next_most, before_it}
 use Rattle.fronthaul_replay.specs.declared.coming.Coming.{Coming}
 use Rattle.fronthaul_replay.specs.Turns.{AtMoment, HaveMeasured, IsMoment, IsNext, IsStill, within_end}
 
 -- ---- the next moment
-
-not_late : (a b : ℤ) → int_lt a b ≡ false → b ≤ℤ a
-not_late a b e = omega (arith, ints)
-
-late : (a b : ℤ) → int_lt a b ≡ true → a <ℤ b
-late a b e = omega (arith, ints)
 
 radio_least : (d : Document) (h : History) (due : Option Ticks) → IsDue d.config h due → IsLeastOf (IsQuietTo d.config h) due
 radio_least d h None due = due
@@ -78,11 +74,11 @@ module _ {G C D : Type 0} (d : Document) (h k : History) (w : Coming G) (m : Met
   ended_at t true e least = λ to order. still to (least.before to (before_it to order))
     where
       before_it : (to : ℤ) → to ≤ℤ end_of_time → to <ℤ t.0
-      before_it to order = let over = late end_of_time t.0 e in omega (arith, ints, over, order)
+      before_it to order = let over = under end_of_time t.0 e in omega (arith, ints, over, order)
   ended_at t false e least = record {
     before = λ to lt. still to (least.before to lt);
     at = λ s. least.at (((s.quiet, s.taken), (s.calm, s.silent)), s.begins);
-    ended = not_late end_of_time t.0 e;
+    ended = not_under end_of_time t.0 e;
   }
 
   next_by : (time : Option Ticks) → IsLeastOf AreStill time → IsNext d h k w m (within_end time)
@@ -103,9 +99,6 @@ module _ {G C D : Type 0} (d : Document) (h k : History) (w : Coming G) (m : Met
 -- all is still before a tick
 abbrev pub IsIdle : {G C D : Type 0} → Document → History → History → Coming G → Meters C D → ℤ → Type 0
 IsIdle d h k w m tick = (to : ℤ) → to <ℤ tick → IsStill d h k w m to
-
-before_it : (a : ℤ) → (a -ℤ pos 1) <ℤ a
-before_it a = omega (arith, ints)
 
 -- ---- from a tick to the next moment
 
@@ -186,14 +179,14 @@ module _ {G C D : Type 0} {pre : G → RePlace → Type 0} {post : G → RePlace
   }
 
   not_before : (tick : ℤ) → IsMoment d radio_history intake_history w m tick → now ≤ℤ tick
-  not_before tick n = by_lt_z tick now (λ early. absurd (n.at (still_before tick early))) (λ late. late)
+  not_before tick n = by_lt_z tick now (λ early. absurd (n.at (still_before tick early))) (λ under. under)
 
   pub moment_comes : (tick : ℤ) → IsMoment d radio_history intake_history w m tick → ComesTo pre post cp cq dp dq d now tick u i w m
   moment_comes tick n = comes_to tick (not_before tick n) (next_most tick end_of_time n.ended) n.before
 
   -- or to the end
   pub end_comes : IsNext d radio_history intake_history w m None → ComesTo pre post cp cq dp dq d now (end_of_time +ℤ pos 1) u i w m
-  end_comes none = comes_to (end_of_time +ℤ pos 1) at.turn.radio.turn.ended (same_most (end_of_time +ℤ pos 1)) (λ to lt. none to (before_next to end_of_time lt))
+  end_comes none = comes_to (end_of_time +ℤ pos 1) at.turn.radio.turn.ended (≤ℤ_refl (end_of_time +ℤ pos 1)) (λ to lt. none to (before_next to end_of_time lt))
 
 -- then both meters have measured all of it
 pub all_measured : {C D : Type 0} {cp : C → Edge → Type 0} {cq : C → Edge → ℤ → Type 0} {dp : D → Edge → Type 0} {dq : D → Edge → ℤ → Type 0} {d : Document} {m : Meters C D}

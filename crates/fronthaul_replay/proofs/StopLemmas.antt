@@ -17,11 +17,12 @@ use Rattle.intake_moments.specs.replay_events.specs.Events.{count_events, events
 use Rattle.intake_moments.specs.replay_events.specs.Moments.{end_of_time}
 use Rattle.intake_moments.specs.replay_events.proofs.EventLemmas.{events_go_on}
 use Rattle.intake_moments.specs.replay_events.proofs.HeardLemmas.{arrivals-none, cells-none}
-use Rattle.intake_moments.specs.replay_events.proofs.TickLemmas.{next_most, ticks_append}
+use Rattle.intake_moments.specs.replay_events.proofs.TickLemmas.{ticks_append}
 use Rattle.intake_moments.specs.ru_buffers.specs.Calls.{StandsFor}
 use Rattle.intake_moments.specs.ru_buffers.specs.declared.unit.Ru.{Ru}
 use Rattle.intake_moments.specs.unit_model.specs.Radiated.{first_clock}
 use Rattle.intake_moments.specs.unit_model.specs.Standing.{nothing_yet}
+use Rattle.intake_moments.specs.du_intake.specs.history_laws.proofs.TickLemmas.{next_most}
 use Rattle.fronthaul_replay.specs.Replaying.{HaltsInStep, RestsInStep, StopsInStep, events_of}
 use Rattle.fronthaul_replay.specs.Turns.{AtTurn}
 use Rattle.fronthaul_replay.proofs.StepLemmas.{InStep, intake_in_step, radio_in_step, turn_in_step}

@@ -1,7 +1,7 @@
 -- What one more arrival leaves as it was.
 use Rattle.std.proofs.Common.{◌≡◌, ℕ, ℤ, zero, suc, ◌+◌, ◌*◌, ◌<◌, ◌≤◌, ◌≤ℤ◌, List, ◌∷◌, Option, Some, None, refl, sym, ap, ◌∙◌, subst, arith}
 use Rattle.std.specs.Prelude.{All, if◌then◌else◌}
-use Rattle.std.proofs.lemmas.Int.{ints}
+use Rattle.std.specs.Int.Signed.{≤ℤ_refl}
 use Rattle.fh_time.specs.Air.{air_of}
 use Rattle.air_source.specs.declared.events.Side.{Side}
 use Rattle.air_source.specs.declared.events.Side.TheVariants.{Ru, Du}
@@ -27,6 +27,7 @@ use Rattle.unit_laws.proofs.PastLemmas.{command_leaves_jobs}
 use Rattle.unit_laws.proofs.SentLemmas.{command_leaves_due, command_leaves_reported, command_leaves_sent, data_leave_due, data_leave_reported}
 use Rattle.history_laws.specs.Arriving.{ArrivalLeavesClaims, ArrivalLeavesDue, ArrivalLeavesJobs, ArrivalLeavesReported, ArrivalLeavesSent, ArrivalLeavesUse, IsNextArrival}
 use Rattle.history_laws.proofs.AddedLemmas.{IsAdded, all_leave, commands_added, data_added, in_front}
+use Rattle.history_laws.proofs.TickLemmas.{same_then}
 
 -- ---- what it adds is proper
 
@@ -39,9 +40,6 @@ record IsNewData (es : List EndpointConfig) (at : ℤ) (d : UserSection) : Type 
   came : d.last.0 ≡ at
   proper : IsProperData es d
 
-same_most : (a : ℤ) → a ≤ℤ a
-same_most a = omega (arith, ints)
-
 new_commands : (c : Config) (a : Arrival) (arrivals : List Arrival) → IsNextArrival c a arrivals
     → IsAdded (IsNewCommand c.endpoints a.at) (commands_of Ru c arrivals) (commands_of Ru c (a ∷ arrivals))
 new_commands c a arrivals next =
@@ -50,7 +48,7 @@ new_commands c a arrivals next =
     let earlier = commands_of Ru c arrivals in
     let proper =
     in_front (IsProperCommand es) added.front earlier
-    (subst (All (IsProperCommand es)) added.is (commands_are_proper Ru c a.at (a ∷ arrivals) (same_most a.at, next.came) next.times)) in
+    (subst (All (IsProperCommand es)) added.is (commands_are_proper Ru c a.at (a ∷ arrivals) (≤ℤ_refl a.at, next.came) next.times)) in
     let ordered = in_front IsInOrder added.front earlier (subst (All IsInOrder) added.is (commands_in_order Ru es (a ∷ arrivals))) in
     record {
       front = added.front;
@@ -65,13 +63,10 @@ new_data side c a arrivals next =
     let added = data_added side (hold_of side c.delays) es a arrivals in
     let proper =
     in_front (IsProperData es) added.front (data_of side c arrivals)
-    (subst (All (IsProperData es)) added.is (data_are_proper side c a.at (a ∷ arrivals) (same_most a.at, next.came) next.times)) in
+    (subst (All (IsProperData es)) added.is (data_are_proper side c a.at (a ∷ arrivals) (≤ℤ_refl a.at, next.came) next.times)) in
     record { front = added.front; is = added.is; all = λ i x at. record { came = added.all i x at; proper = proper i x at } }
 
 -- ---- what is told by its time
-
-by_then : (to at came : ℤ) → to ≤ℤ at → came ≡ at → to ≤ℤ came
-by_then to at came past is = subst (λ (t : ℤ). to ≤ℤ t) (sym is) past
 
 -- so what each new section leaves, the arrival leaves
 commands_leave : {X : Type 0} (c : Config) (a : Arrival) (arrivals : List Arrival) (f : List ControlSection → X) → IsNextArrival c a arrivals
@@ -98,7 +93,7 @@ arrival_leaves_due Ru c planned a arrivals heard to next past =
     let given = timely_of Ru c (a ∷ arrivals) in
     let claimed = accepted_of c arrivals in
     commands_leave c a arrivals (λ xs. due Ru d es (known_of (accepted d xs) given) heard to) next (λ x earlier is.
-    command_leaves_due es d x earlier given heard to next.limits is.proper is.ordered (by_then to a.at x.at.0 past is.came))
+    command_leaves_due es d x earlier given heard to next.limits is.proper is.ordered (same_then to a.at x.at.0 past is.came))
     ∙ data_leave Ru c a arrivals (λ xs. due Ru d es (known_of claimed (timely Ru d xs)) heard to) next (λ x earlier is.
     data_leave_due Ru es d x earlier claimed heard to next.limits is.proper (past_then Ru to a.at x.last.0 past is.came))
 arrival_leaves_due Du c planned a arrivals heard to next past =
@@ -114,7 +109,7 @@ arrival_leaves_reported Ru c planned a arrivals to next past =
     let given = timely_of Ru c (a ∷ arrivals) in
     let claimed = accepted_of c arrivals in
     commands_leave c a arrivals (λ xs. reported Ru d es (known_of (accepted d xs) given) to) next (λ x earlier is.
-    command_leaves_reported es d x earlier given to next.limits is.proper is.ordered (by_then to a.at x.at.0 past is.came))
+    command_leaves_reported es d x earlier given to next.limits is.proper is.ordered (same_then to a.at x.at.0 past is.came))
     ∙ data_leave Ru c a arrivals (λ xs. reported Ru d es (known_of claimed (timely Ru d xs)) to) next (λ x earlier is.
     data_leave_reported Ru es d x earlier claimed to next.limits is.proper (past_then Ru to a.at x.last.0 past is.came))
 arrival_leaves_reported Du c planned a arrivals to next past =
@@ -126,14 +121,14 @@ arrival_leaves_reported Du c planned a arrivals to next past =
 pub arrival_leaves_sent : ArrivalLeavesSent
 arrival_leaves_sent c a arrivals to next past =
     commands_leave c a arrivals (λ xs. jobs c.endpoints (accepted c.delays xs) to) next (λ x earlier is.
-    command_leaves_sent c.endpoints c.delays x earlier to next.limits is.proper is.ordered (by_then to a.at x.at.0 past is.came))
+    command_leaves_sent c.endpoints c.delays x earlier to next.limits is.proper is.ordered (same_then to a.at x.at.0 past is.came))
 
 -- the messages of a symbol that starts by then
 pub arrival_leaves_jobs : ArrivalLeavesJobs
 arrival_leaves_jobs c a arrivals ep e slot symbol next at past =
     commands_leave c a arrivals (λ xs. symbol_jobs (accepted c.delays xs) ep e slot symbol) next (λ x earlier is.
     command_leaves_jobs c.endpoints c.delays x earlier ep e slot symbol next.limits is.proper is.ordered at
-    (by_then (air_of e.numerology slot symbol) a.at x.at.0 past is.came))
+    (same_then (air_of e.numerology slot symbol) a.at x.at.0 past is.came))
 
 -- ---- claims
 

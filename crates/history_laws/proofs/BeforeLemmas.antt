@@ -1,20 +1,18 @@
 -- Which symbols are told before others.
-use Rattle.std.proofs.Common.{◌≡◌, ℕ, ℤ, ◌<◌, ◌<ℤ◌, true, refl, arith}
+use Rattle.std.proofs.Common.{◌≡◌, ℕ, ℤ, ◌<◌, ◌<ℤ◌, true, false, refl, arith}
 use Rattle.std.specs.Prelude.{◌==◌, nat_lt, int_lt}
 use Rattle.std.specs.Ordering.{int_eq}
 use Rattle.std.proofs.lemmas.Bool.{and_from, eq-eqb, lt-ltb, or_left, or_right}
-use Rattle.std.proofs.lemmas.Bool.Decides.{Decides-int_eq}
-use Rattle.std.proofs.lemmas.Int.{ints}
 use Rattle.fh_time.specs.declared.values.Slot.{Slot}
 use Rattle.unit_laws.specs.unit_model.specs.Claims.{same_slot}
 use Rattle.unit_laws.specs.unit_model.specs.Order.{comes_before, slot_before, symbol_before}
 use Rattle.unit_laws.specs.unit_model.specs.declared.symbol_start.SymbolStart.{SymbolStart}
+use Rattle.std.proofs.lemmas.Int.{ints}
+use Rattle.history_laws.proofs.TickLemmas.{is_less, is_same}
 
-is_less : (a b : ℤ) → a <ℤ b → int_lt a b ≡ true
-is_less a b h = grind (arith, ints)
-
-is_same : (a b : ℤ) → a ≡ b → int_eq a b ≡ true
-is_same a b h = (Decides-int_eq a b).1 h
+-- slots of which none is before the other
+pub slot_cases : (a b : Slot) → slot_before a b ≡ false → slot_before b a ≡ false → same_slot a b ≡ true
+slot_cases a b h k = grind (arith, ints)
 
 -- ---- of one endpoint
 

@@ -20,6 +20,7 @@ use Rattle.unit_laws.specs.Swept.{IsSwept}
 use Rattle.unit_laws.proofs.SweepLemmas.{IsKept, each_related, of_endpoints_related, of_endpoint_related, of_frame_related, of_slot_related, of_subframe_related, of_symbol_related, sweep-nothing, sweep-same, tick-nothing}
 use Rattle.history_laws.specs.First.{FirstIsFirst, IsQuietBefore, IsSameAfter, IsSweptIn, NothingIsNothing, told_of}
 use Rattle.history_laws.proofs.BeforeLemmas.{endpoint_before, frame_before, own_before, slot_comes_before, start_before, subframe_before, symbol_comes_before}
+use Rattle.history_laws.proofs.TickLemmas.{after_next}
 
 -- ---- two lists
 
@@ -214,9 +215,6 @@ symbol_at ep e s slot symbol = record { ep = ep; endpoint = e; start = record { 
 no_earlier : (from s t : ℤ) → from ≤ℤ t → (t +ℤ pos 1) ≤ℤ s → from ≤ℤ s
 no_earlier from s t a b = omega (arith, ints)
 
-after_it : (s t : ℤ) → (t +ℤ pos 1) ≤ℤ s → t <ℤ s
-after_it s t a = omega (arith, ints)
-
 still_in : (s t end : ℤ) → s <ℤ t → t <ℤ end → s <ℤ end
 still_in s t end a b = omega (arith, ints)
 
@@ -283,7 +281,7 @@ module _ {A : Type 0} (g h : OfSymbol A) (es : List EndpointConfig) (from end : 
       let s = first.start.0 in
       let next = s +ℤ pos 1 in
       let rest : sweep h es next end ≡ sweep g es next end = sweep-same h g es next end (λ ep e slot symbol t low high swept.
-      same_after ep e t slot symbol (no_earlier from t s here.low low) high swept (start_before first (symbol_at ep e t slot symbol) (after_it t s low))) in
+      same_after ep e t slot symbol (no_earlier from t s here.low low) high swept (start_before first (symbol_at ep e t slot symbol) (after_next s t low))) in
       let both = before_same (told_of g first) (told_of h first) (at_tick g es s) (at_tick h es s) (sweep g es next end) (sweep h es next end) tick_first rest in
       record {
         rest = both.rest;

@@ -1,3 +1,6 @@
+pub mod TickLemmas
+pub mod ListLemmas
+pub mod UnitLemmas
 pub mod BeforeLemmas
 pub mod FirstLemmas
 pub mod AddedLemmas

@@ -1,8 +1,7 @@
 -- The messages that the radio unit is to send are proper.
-use Rattle.std.proofs.Common.{◌≡◌, ℕ, ℤ, pos, ◌<◌, ◌+ℤ◌, ◌≤ℤ◌, ◌<ℤ◌, Bool, true, false, List, [], ◌∷◌, refl, sym, subst, arith}
+use Rattle.std.proofs.Common.{◌≡◌, ℕ, ℤ, pos, ◌<◌, ◌+ℤ◌, ◌≤ℤ◌, ◌<ℤ◌, Bool, true, false, List, [], ◌∷◌, refl, sym, subst}
 use Rattle.std.specs.Prelude.{All, ◌==◌, cond, filter, if◌then◌else◌, map, reverse}
 use Rattle.std.proofs.lemmas.Bool.{and_parts, eqb-true}
-use Rattle.std.proofs.lemmas.Int.{ints}
 use Rattle.std.proofs.lemmas.List.{reverse-append}
 use Rattle.std.proofs.lemmas.List.Elements.{All-nil, All-cons, All-head, All-tail, All-append}
 use Rattle.fh_time.specs.Air.{air_of}
@@ -32,6 +31,7 @@ use Rattle.unit_laws.proofs.FarLemmas.{endpoints_equal}
 use Rattle.unit_laws.proofs.HistoryLemmas.{commands_are_proper}
 use Rattle.unit_laws.proofs.SweepLemmas.{sweep_related}
 use Rattle.history_laws.specs.Sending.{JobsAreProper}
+use Rattle.history_laws.proofs.TickLemmas.{before_next}
 
 -- ---- what was accepted
 
@@ -115,9 +115,6 @@ sends es ep e slot symbol at a is h =
       prbs = subst (λ (x : EndpointConfig). is_outside x.prbs a.start_prb a.num_prb ≡ false) same is.proper.prbs;
     }
 
-by_end : (s to : ℤ) → s <ℤ (to +ℤ pos 1) → s ≤ℤ to
-by_end s to h = omega (arith, ints)
-
 symbol_proper : (es : List EndpointConfig) (acc : List Allocation) (to : ℤ) (ep : ℕ) (e : EndpointConfig) (slot : Slot) (symbol : ℕ) (tick : ℤ) → All (IsSendable es) acc
     → first_clock ≤ℤ tick → tick <ℤ (to +ℤ pos 1) → IsSwept es ep e slot symbol tick → All (IsProperJob es to) (symbol_jobs acc ep e slot symbol)
 unfolding symbol_jobs
@@ -134,7 +131,7 @@ symbol_proper es acc to ep e slot symbol tick all low high swept =
       prbs = is.prbs;
       starts = refl;
       low = subst (λ (t : ℤ). first_clock ≤ℤ t) (sym swept.starts) low;
-      high = subst (λ (t : ℤ). t ≤ℤ to) (sym swept.starts) (by_end tick to high);
+      high = subst (λ (t : ℤ). t ≤ℤ to) (sym swept.starts) (before_next tick to high);
     })
     (in_order is_before (filter p (reverse acc)))
     (all_ordered (Sends e slot) is_before (filter p (reverse acc))

@@ -1,8 +1,8 @@
 -- The radio unit's messages of one tick are given, and their frames wait.
-use Rattle.std.proofs.Common.{◌≡◌, ℕ, ℤ, pos, ◌+ℤ◌, ◌-ℤ◌, ◌<◌, ◌≤◌, ◌≤ℤ◌, ◌<ℤ◌, List, [], ◌∷◌, ◌++◌, All, length, drop, refl, sym, ap, ap₂, ◌∙◌, subst, append_assoc, arith}
+use Rattle.std.proofs.Common.{◌≡◌, ℕ, ℤ, pos, ◌+ℤ◌, ◌-ℤ◌, ◌<◌, ◌≤◌, ◌≤ℤ◌, List, [], ◌∷◌, ◌++◌, All, length, drop, refl, sym, ap, ap₂, ◌∙◌, subst, append_assoc, arith}
 use Rattle.std.specs.Prelude.{Err, Ok, OnOk, Result}
-use Rattle.std.proofs.lemmas.Int.{ints}
 use Rattle.std.proofs.lemmas.List.Elements.{All-weaker}
+use Rattle.std.specs.Int.Signed.{≤ℤ_refl}
 use Rattle.send_queue.specs.air_source.specs.Answers.{AnswersBy}
 use Rattle.send_queue.specs.air_source.specs.declared.events.Side.TheVariants.{Ru as AtRu, Du as AtDu}
 use Rattle.send_queue.specs.air_source.specs.declared.links.LinkFrame.{LinkFrame}
@@ -20,7 +20,6 @@ use Rattle.radio_moments.proofs.StepLemmas.{arrivals_stay, cells_stay, intake_ow
 use Rattle.radio_moments.specs.Turns.{AtRadioTurn, IsRadioInStep, IsRadioLanded, events_before, intake_events, radio_events}
 use Rattle.radio_moments.specs.replay_events.specs.Heard.{arrivals_heard, cells_heard}
 use Rattle.radio_moments.specs.replay_events.specs.Moments.{arrivals_before, end_of_time}
-use Rattle.radio_moments.specs.replay_events.proofs.TickLemmas.{last_of_next, next_most, same_most}
 use Rattle.du_intake.specs.ru_buffers.specs.Calls.{StandsFor, given_of}
 use Rattle.du_intake.specs.ru_buffers.specs.Reporting.{due_of}
 use Rattle.du_intake.specs.ru_buffers.specs.declared.unit.Ru.{Ru}
@@ -32,6 +31,7 @@ use Rattle.send_queue.specs.unit_model.specs.Reports.{accepted_of, ru_reported}
 use Rattle.send_queue.specs.unit_model.specs.Standing.{History}
 use Rattle.send_queue.specs.unit_model.specs.Uplink.{jobs}
 use Rattle.send_queue.specs.unit_model.specs.declared.jobs.UplinkJob.{UplinkJob}
+use Rattle.du_intake.specs.history_laws.proofs.TickLemmas.{last_of_next, next_most, next_order}
 use Rattle.send_queue.specs.uplink_model.specs.Frames.{frames_behind}
 use Rattle.send_queue.specs.uplink_model.specs.Messages.{messages_of}
 use Rattle.send_queue.specs.uplink_model.specs.SentLaws.{AreOf}
@@ -66,18 +66,12 @@ drop_all (x ∷ xs) = drop_all xs
 
 -- ---- the messages that are due
 
-within_next : (a b : ℤ) → a ≤ℤ b → (a +ℤ pos 1) ≤ℤ (b +ℤ pos 1)
-within_next a b h = omega (arith, ints)
-
-before_tick : (a : ℤ) → (a -ℤ pos 1) <ℤ a
-before_tick a = omega (arith, ints)
-
 pub has_seen : (d : Document) (tick : ℤ) (h : History) → IsDueAt d tick → IsRadioLanded d tick h → HasSeen d.config (landings_for AtRu d) (tick +ℤ pos 1) h
 has_seen d tick h due landed = record {
   config = due.replayable.document.config;
   landings_are = landings_are_replayed d AtRu due.replayable;
   begun = next_most first_clock tick due.begun;
-  ended = within_next tick end_of_time due.ended;
+  ended = next_order tick end_of_time due.ended;
   arrivals = landed.arrivals;
 }
 
@@ -85,14 +79,14 @@ has_seen d tick h due landed = record {
 pub due_jobs : (d : Document) (tick : ℤ) (h : History) → IsDueAt d tick → IsRadioLanded d tick h → given_of d.config h h.clock ≡ jobs_at d.config (landings_for AtRu d) tick
 due_jobs d tick h due landed =
     ap (λ (t : ℤ). given_of d.config h t) landed.clock
-    ∙ owes_tick d.config (landings_for AtRu d) tick (tick +ℤ pos 1) h (has_seen d tick h due landed) due.begun (next_most tick tick (same_most tick)) landed.given
+    ∙ owes_tick d.config (landings_for AtRu d) tick (tick +ℤ pos 1) h (has_seen d tick h due landed) due.begun (next_most tick tick (≤ℤ_refl tick)) landed.given
 
 -- and with them all up to the tick are given
 pub given_jobs : (d : Document) (tick : ℤ) (h : History) → IsDueAt d tick → IsRadioLanded d tick h
     → h.given ++ given_of d.config h h.clock ≡ jobs_until d.config (landings_for AtRu d) tick
 given_jobs d tick h due landed =
     ap (λ (t : ℤ). h.given ++ given_of d.config h t) landed.clock
-    ∙ gives_tick d.config (landings_for AtRu d) tick (tick +ℤ pos 1) h (has_seen d tick h due landed) due.begun (next_most tick tick (same_most tick)) landed.given
+    ∙ gives_tick d.config (landings_for AtRu d) tick (tick +ℤ pos 1) h (has_seen d tick h due landed) due.begun (next_most tick tick (≤ℤ_refl tick)) landed.given
 
 -- then none is left up to it
 none_left : (d : Document) (tick : ℤ) (k : History) → IsDueAt d tick → k.arrivals ≡ arrivals_before (landings_for AtRu d) (tick +ℤ pos 1)
@@ -103,7 +97,7 @@ none_left d tick k due came given =
     let all = jobs_until c ls tick in
     let settled : jobs c.endpoints (accepted_of c (arrivals_before ls (tick +ℤ pos 1))) tick ≡ all =
     jobs_settled c ls tick (tick +ℤ pos 1) due.replayable.document.config (landings_are_replayed d AtRu due.replayable) (next_most first_clock tick due.begun)
-    (within_next tick end_of_time due.ended) (next_most tick tick (same_most tick)) in
+    (next_order tick end_of_time due.ended) (next_most tick tick (≤ℤ_refl tick)) in
     ap₂ (λ (gs js : List UplinkJob). drop (length gs) js) given (ap (λ (xs : List _). jobs c.endpoints (accepted_of c xs) tick) came ∙ settled)
     ∙ drop_all all
 
@@ -125,7 +119,7 @@ radio_then d tick h ru due landed stands =
       stands = stands;
       turn = record {
         begun = next_most first_clock tick due.begun;
-        ended = within_next tick end_of_time due.ended;
+        ended = next_order tick end_of_time due.ended;
         arrivals = landed.arrivals;
         reported = landed.reported ∙ ap (λ (u : ℤ). ru_reported c (arrivals_before (landings_for AtRu d) (tick +ℤ pos 1)) u) last;
         quiet = record {
@@ -136,7 +130,7 @@ radio_then d tick h ru due landed stands =
         came = landed.came ∙ sym (arrivals_stay AtRu AtDu (heard_before d tick) (intake_events d tick) refl other) ∙ ap (arrivals_heard AtRu []) (sym events);
         told = landed.told ∙ sym (cells_stay AtRu AtDu (heard_before d tick) (intake_events d tick) refl other) ∙ ap (cells_heard AtRu) (sym events);
       };
-      clock = subst (λ (u : ℤ). u ≤ℤ (tick +ℤ pos 1)) (sym (stands.kept.clock_is ∙ landed.clock)) (next_most tick tick (same_most tick));
+      clock = subst (λ (u : ℤ). u ≤ℤ (tick +ℤ pos 1)) (sym (stands.kept.clock_is ∙ landed.clock)) (next_most tick tick (≤ℤ_refl tick));
     }
 
 -- whatever was given, it is in step with what was heard

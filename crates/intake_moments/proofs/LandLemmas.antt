@@ -1,6 +1,7 @@
 -- Frames that land at the distributed unit one after the other.
 use Rattle.std.proofs.Common.{◌≡◌, ℕ, ℤ, pos, ◌-ℤ◌, ◌≤ℤ◌, List, [], ◌∷◌, ◌++◌, refl, sym, ap, ◌∙◌, subst, append_assoc, append-nil}
 use Rattle.std.proofs.lemmas.List.Elements.{All-cons}
+use Rattle.std.specs.Int.Signed.{≤ℤ_refl}
 use Rattle.send_queue.specs.air_source.specs.declared.events.AirCell.{AirCell}
 use Rattle.send_queue.specs.air_source.specs.declared.events.Event.{Event}
 use Rattle.send_queue.specs.air_source.specs.declared.events.Side.TheVariants.{Du as AtDu}
@@ -17,15 +18,14 @@ use Rattle.radio_moments.specs.measured_traffic.specs.Doings.{Doings, results_of
 use Rattle.radio_moments.proofs.StopLemmas.{halts_ahead, halts_behind, stops_ahead, stops_behind}
 use Rattle.radio_moments.specs.Stops.{HaltsBehind, StopsBehind}
 use Rattle.radio_moments.specs.replay_events.specs.Heard.{arrivals_heard, cells_heard}
-use Rattle.radio_moments.specs.replay_events.proofs.CameLemmas.{in_time_later}
 use Rattle.radio_moments.specs.replay_events.proofs.HeardLemmas.{arrivals-append, arrivals-own, cells-append, cells-arrivals}
-use Rattle.radio_moments.specs.replay_events.proofs.TickLemmas.{same_most}
 use Rattle.send_queue.specs.unit_model.specs.Lists.{onto}
 use Rattle.send_queue.specs.unit_model.specs.Meetings.{Arrival}
 use Rattle.send_queue.specs.unit_model.specs.Proper.{IsTime}
 use Rattle.send_queue.specs.unit_model.specs.Standing.{History, arrived, at_clock}
 use Rattle.send_queue.specs.unit_model.specs.declared.allocations.Allocation.{Allocation}
 use Rattle.send_queue.specs.window_config.specs.declared.config.Config.{Config}
+use Rattle.du_intake.specs.history_laws.proofs.UnitLemmas.{in_time_later}
 use Rattle.radio_moments.specs.document_traffic.specs.Sending.{Leaving, SentCounts}
 use Rattle.radio_moments.specs.fh_document.specs.declared.document.Document.{Document}
 use Rattle.radio_moments.specs.frame_ways.specs.Flying.{arrival_at}
@@ -34,22 +34,15 @@ use Rattle.radio_moments.specs.frame_ways.specs.Ways.{IsLanded, IsOver, coming_a
 use Rattle.radio_moments.specs.frame_ways.specs.declared.landed.Landed.{Landed}
 use Rattle.radio_moments.specs.frame_ways.specs.declared.way.Way.{Way}
 use Rattle.intake_moments.specs.Landing.{HaveLanded, MayHear, WaitsToLand, frame_told, frames_told, landed}
-use Rattle.intake_moments.proofs.ToldLemmas.{frames_split, none_of_none, told_about, told_more}
+use Rattle.intake_moments.proofs.ToldLemmas.{none_of_none, told_about, told_more}
+use Rattle.radio_moments.specs.replay_events.proofs.CameLemmas.{onto_none}
+use Rattle.radio_moments.proofs.LandLemmas.{onto-append, with_frames-append}
 
 -- ---- one more
 
-onto-append : (earlier xs : List Arrival) (x : Arrival) → onto earlier (xs ++ x ∷ []) ≡ x ∷ onto earlier xs
-unfolding onto
-onto-append earlier [] x = refl
-onto-append earlier (y ∷ xs) x = onto-append (y ∷ earlier) xs x
-
-onto-none : (earlier : List Arrival) → onto earlier [] ≡ earlier
-unfolding onto
-onto-none earlier = refl
-
 pub landed_none : (clock : ℤ) (h : History) → clock ≡ h.clock → landed clock h [] ≡ h
 landed_none clock h is =
-    ap (λ (xs : List Arrival). let k : History = record { clock = clock; arrivals = xs; reported = h.reported; given = h.given } in k) (onto-none h.arrivals)
+    ap (λ (xs : List Arrival). let k : History = record { clock = clock; arrivals = xs; reported = h.reported; given = h.given } in k) (onto_none h.arrivals)
     ∙ ap (λ (t : ℤ). at_clock h t) is
 
 pub landed_next : (clock tick : ℤ) (h : History) (xs : List Arrival) (frame : List ℕ)
@@ -71,7 +64,7 @@ still_reported_before c planned u h tick frame stands order time none =
       came = in_time_later h.clock tick h.arrivals clock holds.came;
       times = All-cons (λ (a : Arrival). IsTime a.at) (arrival_at tick frame) h.arrivals time holds.times;
     } in
-    arrival_leaves_due AtDu c planned (arrival_at tick frame) h.arrivals h.reported (tick -ℤ pos 1) next (same_most (tick -ℤ pos 1)) ∙ none
+    arrival_leaves_due AtDu c planned (arrival_at tick frame) h.arrivals h.reported (tick -ℤ pos 1) next (≤ℤ_refl (tick -ℤ pos 1)) ∙ none
 
 -- ---- the frames so far
 
@@ -156,7 +149,7 @@ module _ {A C : Type 0} (grew : A → List Event → A → Type 0) (pre : C → 
           parts = next_parts (coming_at d tick.0 old) gone y (coming_at d tick.0 before) (coming_at d tick.0 now) so_far.parts next.first;
           waits = next.waits;
           heard = subst (λ (es : List Event). grew a es e) (sym (told_more d tick.0 x gone bytes)) (more a b e (frames_told d tick.0 x gone) one so_far.heard heard);
-          made = subst (λ (z : Doings). HasDoings pre post d AtDu z meter_then) (sym (frames_split (compensation_of d AtDu) tick.0 x gone (y ∷ []))) made;
+          made = subst (λ (z : Doings). HasDoings pre post d AtDu z meter_then) (sym (with_frames-append (compensation_of d AtDu) tick.0 x gone (y ∷ []))) made;
           stands = λ c planned h stands reported.
               subst (λ (k : History). StandsFor c planned w k) (then h)
               (takes c planned (landed v.clock.0 h gone) (so_far.stands c planned h stands reported) (so_far.reported c planned h stands reported));

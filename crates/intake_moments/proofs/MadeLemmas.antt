@@ -1,5 +1,5 @@
 -- The frames of delay measurement that the radio unit made in a tick leave at its end.
-use Rattle.std.proofs.Common.{◌≡◌, ℕ, ℤ, suc, pos, ◌+ℤ◌, ◌≤ℤ◌, List, [], ◌++◌, length, map, refl, sym, ap, ◌∙◌, subst}
+use Rattle.std.proofs.Common.{◌≡◌, ℤ, pos, ◌+ℤ◌, ◌≤ℤ◌, List, [], ◌++◌, length, map, sym, ap, ◌∙◌, subst}
 use Rattle.std.specs.Int.{int_gap}
 use Rattle.send_queue.specs.air_source.specs.declared.events.Side.{Side}
 use Rattle.send_queue.specs.air_source.specs.declared.events.Side.TheVariants.{Ru, Du}
@@ -13,15 +13,16 @@ use Rattle.radio_moments.specs.fh_document.specs.declared.document.Document.{Doc
 use Rattle.radio_moments.specs.frame_ways.specs.Ways.{Waits}
 use Rattle.radio_moments.specs.measured_moments.specs.Made.{HasStillToSend}
 use Rattle.radio_moments.specs.measured_traffic.specs.Measured.{exchanges}
-use Rattle.radio_moments.specs.measured_traffic.specs.Doings.{Doings, taken}
-use Rattle.radio_moments.specs.measured_traffic.specs.Replayed.{after_tick, doings_at, doings_in, landings_for, leaving_made, leaving_with, made_at, told_of}
+use Rattle.radio_moments.specs.measured_traffic.specs.Doings.{taken}
+use Rattle.radio_moments.specs.measured_traffic.specs.Replayed.{after_tick, doings_at, doings_in, landings_for, leaving_made, leaving_with, made_at}
 use Rattle.radio_moments.specs.measured_traffic.proofs.LeaveLemmas.{measured_leave}
-use Rattle.radio_moments.specs.measured_traffic.proofs.TurnLemmas.{made_leave}
-use Rattle.radio_moments.specs.replay_events.specs.Moments.{end_of_time, landing_at}
-use Rattle.radio_moments.specs.replay_events.proofs.TickLemmas.{last_of_next, next_gap}
+use Rattle.radio_moments.specs.measured_traffic.proofs.TurnLemmas.{made_leave, doings_next as doings_step, after_is}
+use Rattle.radio_moments.specs.replay_events.specs.Moments.{end_of_time}
+use Rattle.radio_moments.specs.replay_events.proofs.TickLemmas.{next_gap}
 use Rattle.send_queue.specs.Queues.{WaitsFor}
 use Rattle.send_queue.specs.unit_model.proofs.SweepLaws.{gap_is}
 use Rattle.send_queue.specs.unit_model.specs.Radiated.{first_clock}
+use Rattle.du_intake.specs.history_laws.proofs.TickLemmas.{last_of_next}
 use Rattle.radio_moments.specs.uplink_turns.proofs.LeavingLemmas.{left_leave_later}
 use Rattle.intake_moments.specs.Answers.{HasHanded, HasLandedUp, WaitsUp}
 use Rattle.intake_moments.specs.declared.answers.Answers.{Answers}
@@ -51,14 +52,6 @@ still_to_send pre post d tick a doc begun ended h = record {
 }
 
 -- ---- once they were sent, the next tick begins
-
-doings_step : (d : Document) (side : Side) (n : ℕ) → doings_in d side (suc n) ≡ after_tick d side (first_clock +ℤ pos n) (doings_in d side n)
-unfolding doings_in
-doings_step d side n = refl
-
-after_is : (d : Document) (side : Side) (t : ℤ) (x : Doings) → after_tick d side t x ≡ taken [] (told_of d side t x (landing_at (landings_for side d) t))
-unfolding after_tick
-after_is d side t x = refl
 
 -- what a unit has then is what it made, with no frame left
 pub doings_next : (d : Document) (side : Side) (tick : ℤ) → first_clock ≤ℤ tick → doings_at d side (tick +ℤ pos 1) ≡ taken [] (made_at d side tick)

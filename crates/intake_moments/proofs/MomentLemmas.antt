@@ -1,6 +1,7 @@
 -- The distributed unit's part of one moment.
 use Rattle.std.proofs.Common.{◌≡◌, ℤ, pos, ◌+ℤ◌, ◌≤ℤ◌, List, ◌++◌, length, map, refl, sym, ap, ◌∙◌, subst, arith}
 use Rattle.std.proofs.lemmas.Int.{ints}
+use Rattle.std.specs.Int.Signed.{≤ℤ_refl}
 use Rattle.send_queue.specs.air_source.specs.declared.events.AirCell.{AirCell}
 use Rattle.send_queue.specs.air_source.specs.declared.events.Event.{Event}
 use Rattle.send_queue.specs.air_source.specs.declared.events.Event.TheVariants.{Cell}
@@ -26,7 +27,6 @@ use Rattle.radio_moments.specs.measured_traffic.specs.Replayed.{landings_for, ma
 use Rattle.radio_moments.specs.Turns.{intake_events}
 use Rattle.radio_moments.specs.replay_events.specs.Events.{arrivals_at, cells_at}
 use Rattle.radio_moments.specs.replay_events.specs.Moments.{end_of_time, landing_at}
-use Rattle.radio_moments.specs.replay_events.proofs.TickLemmas.{next_most, same_most}
 use Rattle.send_queue.specs.Queues.{WaitsFor}
 use Rattle.du_intake.specs.unit_laws.proofs.DueLemmas.{due_once}
 use Rattle.send_queue.specs.unit_model.specs.Lists.{onto}
@@ -35,6 +35,7 @@ use Rattle.send_queue.specs.unit_model.specs.Proper.{IsTime}
 use Rattle.send_queue.specs.unit_model.specs.Radiated.{first_clock}
 use Rattle.send_queue.specs.unit_model.specs.Reports.{du_known}
 use Rattle.send_queue.specs.unit_model.specs.Standing.{History, at_clock, heard}
+use Rattle.du_intake.specs.history_laws.proofs.TickLemmas.{next_most}
 use Rattle.intake_moments.specs.Answering.{IsDueAt}
 use Rattle.intake_moments.specs.Answers.{HasAnswered, HasLandedUp, HasReleased}
 use Rattle.intake_moments.specs.Landing.{HaveLanded, landed}
@@ -107,7 +108,7 @@ turn_then d tick h k u l stands =
       turn = after d tick h next l.replayable l.turn l.ended l.came
           (ap (λ (rs : List AirCell). rs ++ cells) l.told ∙ ap (λ (cs : List AirCell). h.reported ++ cs) (cells_then d tick h k l))
           (due_once Du c.delays c.endpoints (du_known c (planned_for d) k.arrivals) k.reported tick l.replayable.document.config.endpoints.differ);
-      clock = subst (λ (t : ℤ). t ≤ℤ (tick +ℤ pos 1)) (sym stands.kept.clock_is) (next_most tick tick (same_most tick));
+      clock = subst (λ (t : ℤ). t ≤ℤ (tick +ℤ pos 1)) (sym stands.kept.clock_is) (next_most tick tick (≤ℤ_refl tick));
     }
 
 -- ---- what is to come then

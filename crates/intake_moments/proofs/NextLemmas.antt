@@ -5,6 +5,7 @@ use Rattle.std.specs.Ordering.{int_eq}
 use Rattle.std.proofs.lemmas.Bool.Decides.{Decides-int_eq}
 use Rattle.std.proofs.lemmas.Int.{ints}
 use Rattle.std.proofs.lemmas.List.Elements.{All-head, All-map, All-tail, All-weaker}
+use Rattle.std.specs.Int.Signed.{≤ℤ_refl, <ℤ-≤ℤ_trans, clash_ℤ}
 use Rattle.send_queue.specs.air_source.specs.declared.events.Event.{Event}
 use Rattle.send_queue.specs.air_source.specs.declared.events.Side.{Side}
 use Rattle.send_queue.specs.air_source.specs.declared.events.Side.TheVariants.{Ru as AtRu, Du as AtDu}
@@ -38,7 +39,7 @@ use Rattle.radio_moments.specs.declared.downlink.Downlink.{Downlink}
 use Rattle.radio_moments.specs.replay_events.specs.Moments.{all_arrivals, end_of_time}
 use Rattle.radio_moments.specs.replay_events.specs.Passing.{IsCalm, IsNextMoment, IsUnitMoment}
 use Rattle.radio_moments.specs.replay_events.proofs.CameLemmas.{calm_adds_nothing}
-use Rattle.radio_moments.specs.replay_events.proofs.TickLemmas.{at_most, below_all, between, last_is_earlier, last_of_next, last_reached, next_after, next_is_later, same_most, weak}
+use Rattle.radio_moments.specs.replay_events.proofs.TickLemmas.{between}
 use Rattle.du_intake.specs.ru_buffers.specs.Calls.{IsQuietTo}
 use Rattle.du_intake.specs.ru_buffers.specs.declared.unit.Ru.{Ru}
 use Rattle.send_queue.specs.Queues.{IsSilentTo, WaitsFor, waiting_at}
@@ -48,6 +49,7 @@ use Rattle.send_queue.specs.unit_model.specs.Radiated.{first_clock}
 use Rattle.send_queue.specs.unit_model.specs.Reports.{du_reported}
 use Rattle.send_queue.specs.unit_model.specs.Standing.{History, nothing_yet}
 use Rattle.send_queue.specs.unit_model.specs.declared.jobs.UplinkJob.{UplinkJob}
+use Rattle.du_intake.specs.history_laws.proofs.TickLemmas.{at_most, last_is_earlier, last_of_next, last_reached, next_after, next_is_later, weak, last_before, last_order}
 use Rattle.send_queue.specs.uplink_model.specs.Frames.{frames_behind}
 use Rattle.send_queue.specs.uplink_model.specs.Messages.{messages_of}
 use Rattle.send_queue.specs.uplink_model.specs.Sent.{leaves_at}
@@ -71,19 +73,10 @@ intake_begins d u stands = record {
   history = nothing_yet;
   stands = stands;
   turn = start d u stands;
-  clock = subst (λ (t : ℤ). t ≤ℤ first_clock) (sym stands.kept.clock_is) (same_most first_clock);
+  clock = subst (λ (t : ℤ). t ≤ℤ first_clock) (sym stands.kept.clock_is) (≤ℤ_refl first_clock);
 }
 
 -- ---- the time before a tick
-
-last_before : (a b : ℤ) → a <ℤ b → a ≤ℤ (b -ℤ pos 1)
-last_before a b h = omega (arith, ints)
-
-last_less : (a b : ℤ) → a ≤ℤ b → (a -ℤ pos 1) ≤ℤ (b -ℤ pos 1)
-last_less a b h = omega (arith, ints)
-
-not_before : (a b : ℤ) → a ≤ℤ b → b <ℤ a → ⊥
-not_before a b low high = omega (arith, ints, low, high)
 
 -- before it nothing is due at the intake
 pub none_due_before : (d : Document) (now to : ℤ) (u : Intake) → (a : AtIntakeTurn d now u) → to <ℤ now → due_of d.config (planned_for d) a.history to ≡ []
@@ -94,7 +87,7 @@ pub silent_before : {G : Type 0} (pre : G → RePlace → Type 0) (post : G → 
     → WaitsUp pre post d now a → to <ℤ now → AreSilentTo a to
 silent_before pre post d now to a waits early =
     let next = next_after to now early in (
-      All-weaker (λ (f : LinkFrame). now ≤ℤ f.at.0) (λ (f : LinkFrame). to <ℤ f.at.0) (λ f late. below_all to now f.at.0 early late) a.queue waits.frames.waiting.from,
+      All-weaker (λ (f : LinkFrame). now ≤ℤ f.at.0) (λ (f : LinkFrame). to <ℤ f.at.0) (λ f late. <ℤ-≤ℤ_trans early late) a.queue waits.frames.waiting.from,
       (from_less (to +ℤ pos 1) now a.way.listed next waits.frames.on_way.list, flying_less (to +ℤ pos 1) now a.way.in_flight next waits.frames.on_way.flying),
     )
 
@@ -165,7 +158,7 @@ module _ {G : Type 0} (pre : G → RePlace → Type 0) (post : G → RePlace →
       → left_for d now ≡ left_for d end
   left_same end low high none =
       left_waits d.config (antenna_for d) (landings_for AtRu d) now end s.replayable.document.config begun_now low (at_most end tick (end_of_time +ℤ pos 1) high s.ended)
-      (record { none_starts = none; none_leaves = λ t from before. none_leaves t from (below_all t end tick before high) })
+      (record { none_starts = none; none_leaves = λ t from before. none_leaves t from (<ℤ-≤ℤ_trans before high) })
 
   -- ---- so nothing lands at either unit
 
@@ -201,12 +194,12 @@ module _ {G : Type 0} (pre : G → RePlace → Type 0) (post : G → RePlace →
     answers_wait =
         left_same next (at_most now t next low (next_is_later t)) next_high
         (ap (λ (z : ℤ). jobs_until d.config (landings_for AtRu d) z) (last_of_next t)
-        ∙ none_starts t low (weak t tick high) (quiet.calm AtRu) t (at_most now t next low (next_is_later t)) (same_most t) (last_before t tick high))
+        ∙ none_starts t low (weak t tick high) (quiet.calm AtRu) t (at_most now t next low (next_is_later t)) (≤ℤ_refl t) (last_before t tick high))
 
     both_later : (side : Side) → All (λ (f : Leaving). next ≤ℤ f.at) (left side)
     both_later AtRu =
         All-map (λ (f : Leaving). next ≤ℤ f.at) (leaving_of d) s.down.left
-        (sent_less next ((tick -ℤ pos 1) +ℤ pos 1) s.down.left (at_most next tick ((tick -ℤ pos 1) +ℤ pos 1) next_high (last_reached tick tick (same_most tick)))
+        (sent_less next ((tick -ℤ pos 1) +ℤ pos 1) s.down.left (at_most next tick ((tick -ℤ pos 1) +ℤ pos 1) next_high (last_reached tick tick (≤ℤ_refl tick)))
         (s.calm.0 d.config d.plan s.down.left s.down.plan))
     both_later AtDu =
         subst (λ (fs : List LinkFrame). All (λ (f : Leaving). next ≤ℤ f.at) (map leaving_answer fs)) (sym answers_wait)
@@ -215,9 +208,9 @@ module _ {G : Type 0} (pre : G → RePlace → Type 0) (post : G → RePlace →
     both_silent : AreSilent d now next counts left ways
     both_silent = record {
       waits = both_stand;
-      empty = λ side. empty_less (next -ℤ pos 1) (tick -ℤ pos 1) (ways side) (last_less next tick next_high) (both_empty side);
+      empty = λ side. empty_less (next -ℤ pos 1) (tick -ℤ pos 1) (ways side) (last_order next tick next_high) (both_empty side);
       later = both_later;
-      begins = λ side k from before. s.none_begins side k from (below_all k next tick before next_high);
+      begins = λ side k from before. s.none_begins side k from (<ℤ-≤ℤ_trans before next_high);
     }
 
     quiet_next : IsQuietBetween d now next
@@ -229,7 +222,7 @@ module _ {G : Type 0} (pre : G → RePlace → Type 0) (post : G → RePlace →
   pub still_between : IsQuietBetween d now tick
   still_between =
       between (λ t. IsQuietBetween d now t) now tick s.order
-      (record { begins = λ side t from before. absurd (not_before now t from before); calm = λ side t from before. absurd (not_before now t from before) })
+      (record { begins = λ side t from before. absurd (clash_ℤ before from); calm = λ side t from before. absurd (clash_ℤ before from) })
       quiet_next
 
   -- ---- the distributed unit
@@ -253,12 +246,12 @@ module _ {G : Type 0} (pre : G → RePlace → Type 0) (post : G → RePlace →
 
   none_between : jobs_until d.config (landings_for AtRu d) (tick -ℤ pos 1) ≡ jobs_until d.config (landings_for AtRu d) (now -ℤ pos 1)
   none_between =
-      none_starts tick s.order (same_most tick) (still_between.calm AtRu) (tick -ℤ pos 1) (last_reached now tick s.order) (last_is_earlier tick) (same_most (tick -ℤ pos 1))
+      none_starts tick s.order (≤ℤ_refl tick) (still_between.calm AtRu) (tick -ℤ pos 1) (last_reached now tick s.order) (last_is_earlier tick) (≤ℤ_refl (tick -ℤ pos 1))
 
   -- what is still to be sent is the same
   left_stays : leaving_with AtDu d (answers_left d now) now ≡ leaving_with AtDu d (answers_left d tick) tick
   left_stays =
-      ap (λ (fs : List LinkFrame). leaving_with AtDu d (map leaving_answer fs) now) (left_same tick s.order (same_most tick) none_between)
+      ap (λ (fs : List LinkFrame). leaving_with AtDu d (map leaving_answer fs) now) (left_same tick s.order (≤ℤ_refl tick) none_between)
       ∙ leaving_waits ((exchanges d).sent AtDu) now tick (answers_left d tick)
       (answers_later tick (left_for d tick) (left_leave_later d.config (antenna_for d) (landings_for AtRu d) tick)) s.order s.ended
       (flights_wait d AtDu now tick s.replayable begun_now s.ended still_between)

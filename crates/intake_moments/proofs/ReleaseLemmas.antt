@@ -1,10 +1,10 @@
 -- The frames that leave in one tick are sent one after the other.
-use Rattle.std.proofs.Common.{◌≡◌, ℕ, ℤ, pos, ◌+ℤ◌, ◌<◌, ◌^◌, ◌≤ℤ◌, ◌<ℤ◌, List, [], ◌∷◌, ◌++◌, All, length, sym, ap, ◌∙◌, subst, append_assoc, append-nil, arith}
+use Rattle.std.proofs.Common.{◌≡◌, ℕ, ℤ, pos, ◌+ℤ◌, ◌<◌, ◌^◌, ◌≤ℤ◌, ◌<ℤ◌, List, [], ◌∷◌, ◌++◌, All, length, sym, ap, ◌∙◌, subst, append_assoc, append-nil}
 use Rattle.std.specs.Prelude.{map}
 use Rattle.std.specs.Int.{int_gap}
-use Rattle.std.proofs.lemmas.Int.{ints}
 use Rattle.std.proofs.lemmas.List.{append_cancel_left, map-append}
 use Rattle.std.proofs.lemmas.List.Elements.{All-cons, All-head, All-nil, All-tail, All-weaker}
+use Rattle.std.specs.Int.Signed.{≤ℤ_refl}
 use Rattle.send_queue.specs.air_source.specs.declared.events.Side.TheVariants.{Ru, Du}
 use Rattle.send_queue.specs.air_source.specs.declared.links.LinkFrame.{LinkFrame}
 use Rattle.radio_moments.specs.document_traffic.specs.Landing.{antenna_for, leaving_answer, leaving_up}
@@ -19,11 +19,13 @@ use Rattle.radio_moments.specs.measured_traffic.specs.Measured.{exchanges}
 use Rattle.radio_moments.specs.measured_traffic.specs.Replayed.{landings_for, leaving_with}
 use Rattle.radio_moments.specs.measured_traffic.proofs.LeaveLemmas.{first_leaves, uplink_alike}
 use Rattle.radio_moments.specs.replay_events.specs.Moments.{end_of_time}
-use Rattle.radio_moments.specs.replay_events.proofs.TickLemmas.{next_most, same_most, ticks_append}
+use Rattle.radio_moments.specs.replay_events.proofs.TickLemmas.{ticks_append}
 use Rattle.send_queue.specs.Queues.{AllHaveLeft, HasLeft, Leaves, waiting_at}
 use Rattle.send_queue.proofs.QueueLemmas.{leaves_at_once}
 use Rattle.send_queue.specs.unit_model.specs.Lists.{each_tick}
 use Rattle.send_queue.specs.unit_model.specs.Radiated.{first_clock}
+use Rattle.du_intake.specs.history_laws.proofs.TickLemmas.{next_most, after_next}
+use Rattle.radio_moments.specs.replay_laws.proofs.DelayLemmas.{it_holds}
 use Rattle.radio_moments.specs.uplink_turns.specs.Turns.{leaving_of_handed}
 use Rattle.radio_moments.specs.uplink_turns.proofs.LeavingLemmas.{left_goes_on, left_leave_later}
 use Rattle.intake_moments.specs.Answering.{IsDueAt}
@@ -32,19 +34,11 @@ use Rattle.intake_moments.proofs.LeaveLemmas.{answers_left, handed_by, left_at_e
 
 -- ---- frames that a document sends
 
--- each is short enough for an air
-one_of : {A : Type 0} (P : A → Type 0) (front : List A) (x : A) (back : List A) → All P (front ++ x ∷ back) → P x
-one_of P [] x back all = All-head P x back all
-one_of P (y ∷ front) x back all = one_of P front x back (All-tail P y (front ++ x ∷ back) all)
-
 pub answers_later : (from : ℤ) (fs : List LinkFrame) → All (λ f. from ≤ℤ f.at.0) fs → All (λ (f : Leaving). from ≤ℤ f.at) (map leaving_answer fs)
 answers_later from [] all = All-nil (λ (f : Leaving). from ≤ℤ f.at)
 answers_later from (f ∷ fs) all =
     let P = λ (g : LinkFrame). from ≤ℤ g.at.0 in
     All-cons (λ (g : Leaving). from ≤ℤ g.at) (leaving_answer f) (map leaving_answer fs) (All-head P f fs all) (answers_later from fs (All-tail P f fs all))
-
-after_next : (a b : ℤ) → (a +ℤ pos 1) ≤ℤ b → a <ℤ b
-after_next a b h = omega (arith, ints)
 
 pub answers_after : (tick : ℤ) (fs : List LinkFrame) → All (λ f. (tick +ℤ pos 1) ≤ℤ f.at.0) fs → All (λ (f : Leaving). tick <ℤ f.at) (map leaving_answer fs)
 answers_after tick fs all =
@@ -80,7 +74,7 @@ is_short d tick gone f rest due is =
     parts.1 ∙ ap (λ (xs : List LinkFrame). map leaving_answer (front ++ (xs ++ later))) is
     ∙ ap (map leaving_answer) (regroup front gone f rest later)
     ∙ map-append leaving_answer (front ++ gone) (f ∷ (rest ++ later)) in
-    one_of IsShort (map leaving_answer (front ++ gone)) (leaving_answer f) (map leaving_answer (rest ++ later))
+    it_holds IsShort (map leaving_answer (front ++ gone)) (leaving_answer f) (map leaving_answer (rest ++ later))
     (subst (All IsShort) all (are_short d Du due.replayable.document due.replayable.valid))
 
 -- ---- the frames so far
@@ -101,7 +95,7 @@ releases_none d tick queue way due h =
     let c = d.config in
     let waiting : left_for d tick ≡ waiting_at tick queue ++ left_for d (tick +ℤ pos 1) =
     left_goes_on c (antenna_for d) (landings_for Ru d) tick due.replayable.document.config due.begun due.ended
-    ∙ ap (λ (xs : List LinkFrame). xs ++ left_for d (tick +ℤ pos 1)) (sym (h.waiting.at tick (same_most tick))) in
+    ∙ ap (λ (xs : List LinkFrame). xs ++ left_for d (tick +ℤ pos 1)) (sym (h.waiting.at tick (≤ℤ_refl tick))) in
     record {
       gone = [];
       leaves = leaves_at_once (length c.endpoints) tick (handed_by d tick) queue h.waiting;

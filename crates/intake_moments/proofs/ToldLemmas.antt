@@ -15,10 +15,6 @@ use Rattle.intake_moments.specs.Landing.{frame_told, frames_told}
 
 -- ---- what a unit has of several frames, and the results of each
 
-pub frames_split : (c : Compensation) (t : ℤ) (x : Doings) (xs ys : List Arrival) → with_frames c t x (xs ++ ys) ≡ with_frames c t (with_frames c t x xs) ys
-frames_split c t x [] ys = refl
-frames_split c t x (a ∷ xs) ys = frames_split c t (with_frame c t x a.frame) xs ys
-
 results_split : (c : Compensation) (t : ℤ) (x : Doings) (xs ys : List Arrival) → results_of c t x (xs ++ ys) ≡ results_of c t x xs ++ results_of c t (with_frames c t x xs) ys
 results_split c t x [] ys = refl
 results_split c t x (a ∷ xs) ys =

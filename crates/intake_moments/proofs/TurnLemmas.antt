@@ -1,6 +1,7 @@
 -- The distributed unit's intake from one tick to the next moment, and over it.
-use Rattle.std.proofs.Common.{◌≡◌, ℤ, pos, ◌+ℤ◌, ◌-ℤ◌, ◌≤ℤ◌, ◌<ℤ◌, List, [], ◌++◌, sym, ap, ap₂, ◌∙◌, subst, arith, append_assoc, append-nil}
+use Rattle.std.proofs.Common.{◌≡◌, ℤ, pos, ◌+ℤ◌, ◌-ℤ◌, ◌≤ℤ◌, List, [], ◌++◌, sym, ap, ap₂, ◌∙◌, subst, arith, append_assoc, append-nil}
 use Rattle.std.proofs.lemmas.Int.{ints}
+use Rattle.std.specs.Int.Signed.{≤ℤ_refl}
 use Rattle.send_queue.specs.air_source.specs.declared.events.AirCell.{AirCell}
 use Rattle.send_queue.specs.air_source.specs.declared.events.Side.{Side}
 use Rattle.send_queue.specs.air_source.specs.declared.events.Side.TheVariants.{Ru, Du}
@@ -14,7 +15,7 @@ use Rattle.radio_moments.specs.measured_traffic.specs.Replayed.{begun, doings_at
 use Rattle.radio_moments.specs.measured_traffic.proofs.ReplayedLemmas.{landings_are_replayed}
 use Rattle.radio_moments.specs.Turns.{events_before, intake_events, radio_events}
 use Rattle.radio_moments.proofs.StepLemmas.{cells_own, next_events, radio_own}
-use Rattle.radio_moments.specs.replay_events.specs.Events.{cells_at, events_at}
+use Rattle.radio_moments.specs.replay_events.specs.Events.{cells_at}
 use Rattle.radio_moments.specs.replay_events.specs.Heard.{arrivals_heard, cells_heard}
 use Rattle.radio_moments.specs.replay_events.specs.Moments.{arrivals_before, end_of_time, landing_at}
 use Rattle.radio_moments.specs.replay_events.specs.Passing.{AreLandings, IsCalm, IsNextMoment, IsUnitMoment, due_from}
@@ -23,7 +24,6 @@ use Rattle.radio_moments.specs.replay_events.proofs.CameLemmas.{arrivals_go_on, 
 use Rattle.radio_moments.specs.replay_events.proofs.EventLemmas.{events_wait}
 use Rattle.radio_moments.specs.replay_events.proofs.HeardLemmas.{arrivals-none, cells-none}
 use Rattle.radio_moments.specs.replay_events.proofs.MomentLemmas.{due_at_moment, reported_at_moment, reported_before_moment}
-use Rattle.radio_moments.specs.replay_events.proofs.TickLemmas.{at_most, last_of_next, next_most, no_ticks, same_most}
 use Rattle.du_intake.specs.ru_buffers.proofs.QuietLemmas.{sweep_less}
 use Rattle.du_intake.specs.unit_laws.proofs.DueLemmas.{all_is_due, due_in_pieces}
 use Rattle.send_queue.specs.unit_model.proofs.SweepLaws.{sweep_quiet}
@@ -36,6 +36,8 @@ use Rattle.send_queue.specs.window_config.specs.Configs.{IsConfig}
 use Rattle.send_queue.specs.window_config.specs.declared.config.Config.{Config}
 use Rattle.send_queue.specs.window_config.specs.declared.delays.Delays.{Delays}
 use Rattle.send_queue.specs.window_config.specs.declared.endpoints.EndpointConfig.{EndpointConfig}
+use Rattle.du_intake.specs.history_laws.proofs.TickLemmas.{at_most, last_of_next, next_most, next_order, clock_begins}
+use Rattle.radio_moments.proofs.TurnLemmas.{waited_less, none_waits, events_none}
 use Rattle.intake_moments.specs.Turns.{IsIntakeTurn, planned_for}
 use Rattle.intake_moments.proofs.HeardLemmas.{arrivals_closed, cells_closed}
 
@@ -47,7 +49,7 @@ told_not_due side c k to config =
     let told = reported side c.delays c.endpoints k to in
     due_in_pieces side c.delays c.endpoints k [] told [] to config.endpoints.differ (all_is_due side c.delays c.endpoints k to ∙ sym (append-nil told))
 
-lands_in_time : (side : Side) (d : Document) → IsReplayable d → AreLandings (landings_at side (traffic_of d))
+pub lands_in_time : (side : Side) (d : Document) → IsReplayable d → AreLandings (landings_at side (traffic_of d))
 lands_in_time Ru d doc = landings_are_replayed d Ru doc
 lands_in_time Du d doc = landings_are_replayed d Du doc
 
@@ -62,7 +64,7 @@ unit_here side d tick doc =
 
 moment_here : (d : Document) (tick : ℤ) → IsReplayable d → first_clock ≤ℤ tick → tick ≤ℤ (end_of_time +ℤ pos 1) → IsNextMoment d.config (traffic_of d) tick tick
 moment_here d tick doc begun ended =
-    record { config = doc.document.config; begun = begun; order = same_most tick; ended = ended; units = λ side. unit_here side d tick doc }
+    record { config = doc.document.config; begun = begun; order = ≤ℤ_refl tick; ended = ended; units = λ side. unit_here side d tick doc }
 
 -- ---- the next moment
 
@@ -71,9 +73,6 @@ due_same : (d : Document) (now : ℤ) (h : History) → IsIntakeTurn d now h →
 due_same d now h turn to =
     let c = d.config in
     sym (ap₂ (λ (xs : List Arrival) (rs : List AirCell). due Du c.delays c.endpoints (du_known c (planned_for d) xs) rs to) turn.arrivals turn.reported)
-
-waited_less : (a b w : ℤ) → a ≤ℤ b → ((a -ℤ w) +ℤ pos 1) ≤ℤ ((b -ℤ w) +ℤ pos 1)
-waited_less a b w h = omega (arith, ints)
 
 -- where nothing is due up to a time, nothing is up to an earlier one
 pub due_less : (d : Document) (h : History) (a b : ℤ) → a ≤ℤ b → due_of d.config (planned_for d) h b ≡ [] → due_of d.config (planned_for d) h a ≡ []
@@ -133,9 +132,6 @@ events_then d tick begun =
 
 -- ---- over the moment
 
-next_ended : (a b : ℤ) → a ≤ℤ b → (a +ℤ pos 1) ≤ℤ (b +ℤ pos 1)
-next_ended a b h = omega (arith, ints)
-
 pub after : (d : Document) (tick : ℤ) (h k : History) → IsReplayable d → IsIntakeTurn d tick h → tick ≤ℤ end_of_time
     → k.arrivals ≡ onto h.arrivals (landing_at (landings_for Du d) tick) → k.reported ≡ h.reported ++ cells_at Du d.config (traffic_of d) tick
     → due_of d.config (planned_for d) k tick ≡ [] → IsIntakeTurn d (tick +ℤ pos 1) k
@@ -149,7 +145,7 @@ after d tick h k doc turn ended came told none =
     let then = events_then d tick turn.begun in
     record {
       begun = next_most first_clock tick turn.begun;
-      ended = next_ended tick end_of_time ended;
+      ended = next_order tick end_of_time ended;
       arrivals = came ∙ came_here d tick h turn;
       reported =
           told ∙ ap (λ (rs : List AirCell). rs ++ cells) turn.reported
@@ -166,27 +162,18 @@ after d tick h k doc turn ended came told none =
 
 -- ---- the start
 
-none_before : (w t : ℤ) → (first_clock -ℤ w) ≤ℤ t → t <ℤ (((first_clock -ℤ pos 1) -ℤ w) +ℤ pos 1) → ⊥
-none_before w t low high = omega (arith, ints)
-
 none_reported : (d : Delays) (es : List EndpointConfig) (k : Known) → reported Du d es k (first_clock -ℤ pos 1) ≡ []
 unfolding reported
 none_reported d es k =
-    sweep_quiet _ es (first_clock -ℤ wait_of Du d) (((first_clock -ℤ pos 1) -ℤ wait_of Du d) +ℤ pos 1) (λ t low high. absurd (none_before (wait_of Du d) t low high))
-
-events_none : (d : Document) → events_before d first_clock ≡ []
-events_none d = no_ticks (events_at d.config (traffic_of d)) first_clock first_clock (same_most first_clock) (λ u low high. absurd (omega (arith, ints)))
-
-first_early : first_clock ≤ℤ (end_of_time +ℤ pos 1)
-first_early = omega (arith, ints)
+    sweep_quiet _ es (first_clock -ℤ wait_of Du d) (((first_clock -ℤ pos 1) -ℤ wait_of Du d) +ℤ pos 1) (λ t low high. absurd (none_waits (wait_of Du d) t low high))
 
 pub start : (d : Document) (u : Intake) → StandsFor d.config (planned_for d) u nothing_yet → IsIntakeTurn d first_clock nothing_yet
 start d u stands =
     let c = d.config in
     record {
-      begun = same_most first_clock;
-      ended = first_early;
-      arrivals = sym (none_yet (landings_for Du d) first_clock (same_most first_clock));
+      begun = ≤ℤ_refl first_clock;
+      ended = clock_begins;
+      arrivals = sym (none_yet (landings_for Du d) first_clock (≤ℤ_refl first_clock));
       reported = sym (none_reported c.delays c.endpoints (du_known c (planned_for d) (arrivals_before (landings_for Du d) first_clock)));
       quiet = stands.kept.past;
       came = sym (ap (arrivals_heard Du []) (events_none d) ∙ arrivals-none Du []);

@@ -1,19 +1,16 @@
 -- What an intake's calls say of some history.
-use Rattle.std.proofs.Common.{◌≡◌, ℤ, pos, ◌-ℤ◌, ◌≤ℤ◌, ◌<ℤ◌, List, [], arith, Result, Ok, Err}
+use Rattle.std.proofs.Common.{◌≡◌, ℤ, pos, ◌-ℤ◌, ◌≤ℤ◌, List, [], Result, Ok, Err}
 use Rattle.std.specs.Prelude.{Some, IfOk}
-use Rattle.std.proofs.lemmas.Int.{ints}
 use Rattle.fh_base.specs.declared.fault.NoMemory.{NoMemory}
 use Rattle.fh_time.specs.declared.values.Ticks.{Ticks}
 use Rattle.window_config.specs.declared.config.Config.{Config}
 use Rattle.du_intake.specs.unit_model.specs.Standing.{History, nothing_yet}
 use Rattle.du_intake.specs.unit_model.specs.declared.allocations.Allocation.{Allocation}
+use Rattle.du_intake.specs.history_laws.proofs.TickLemmas.{one_before}
 use Rattle.du_intake.specs.Calls.{IsDue, StandsFor}
 use Rattle.du_intake.specs.Units.{due_of}
 use Rattle.du_intake.specs.declared.unit.Intake.{Intake}
 use Rattle.du_intake.specs.Closing.{StandsForSome}
-
-one_before : (a b : ℤ) → a ≤ℤ b → (a -ℤ pos 1) <ℤ b
-one_before a b h = omega (arith, ints)
 
 pub all_before : (c : Config) (ps : List Allocation) (h : History) (at : ℤ) (t : Ticks) → IsDue c ps h (Some t) → at ≤ℤ t.0 → due_of c ps h (at -ℤ pos 1) ≡ []
 all_before c ps h at t due order = due.before (at -ℤ pos 1) (one_before at t.0 order)

@@ -16,6 +16,9 @@ use Rattle.sent_laws.specs.plan_model.specs.declared.lines.PlannedLine.{PlannedL
 use Rattle.sent_laws.specs.plan_model.specs.declared.refusals.PlanWhy.{PlanWhy}
 use Rattle.sent_laws.specs.plan_model.specs.declared.streams.Stream.TheVariants.{DownData, UpData}
 use Rattle.sent_laws.specs.unit_model.specs.Lists.{or_else}
+use Rattle.sent_laws.specs.unit_model.proofs.CountLemmas.{no_time}
+use Rattle.sent_laws.specs.schedule_laws.proofs.FlowLemmas.{le_true}
+use Rattle.sent_laws.proofs.Fragments.{next_place}
 use Rattle.long_plans.specs.Lines.{frame_lines, long_config, LongPlansAreLong, LongPlansAreValid}
 use Rattle.long_plans.proofs.Lines.{line_at, none_refused, planned_is}
 use Rattle.long_plans.proofs.Parts.{air_start, start}
@@ -67,29 +70,20 @@ timed i frame (suc n) earlier =
       timed (i + 1) (frame + 1) n (m ∷ earlier),
     )
 
-no_more : (frame : ℕ) → frame ≡ frame + 0
-no_more frame = omega arith
-
-one_more : (frame n : ℕ) → (frame + 1) + n ≡ frame + suc n
-one_more frame n = omega arith
-
 dropped : (n frame : ℕ) (ss : List Sending) → IsTimed frame ss → IsTimed (frame + n) (drop n ss)
-dropped zero frame ss h = subst (λ k. IsTimed k ss) (no_more frame) h
+dropped zero frame ss h = subst (λ k. IsTimed k ss) (no_time frame) h
 dropped (suc n) frame [] h = tt
-dropped (suc n) frame (s ∷ ss) h = subst (λ k. IsTimed k (drop n ss)) (one_more frame n) (dropped n (frame + 1) ss h.2)
+dropped (suc n) frame (s ∷ ss) h = subst (λ k. IsTimed k (drop n ss)) (next_place frame n) (dropped n (frame + 1) ss h.2)
 
 -- ---- none is near
 
 far : (a b f : ℤ) (m k : ℕ) → m < k → a ≤ℤ ((start m +ℤ f) +ℤ pos 170496000) → (start k +ℤ f) ≤ℤ b → (b -ℤ a) ≤ℤ pos 477696000 → ⊥
 far a b f m k h p q r = omega (arith, ints, h, p, q, r)
 
-int_le_is : (a b : ℤ) → int_le a b ≡ true → a ≤ℤ b
-int_le_is a b h = grind (arith, ints)
-
 far_apart : (a b : ℤ) (m k : ℕ) → m < k → a ≤ℤ (low_of m +ℤ pos 170496000) → low_of k ≤ℤ b → is_near (pos 477696000) a b ≡ false
 unfolding low_of
 far_apart a b m k h p q = elim (cases_Bool (int_le (b -ℤ a) (pos 477696000))) [
-  | inl near ↦ absurd (far a b (departures_of long_config DownData).from.0 m k h p q (int_le_is (b -ℤ a) (pos 477696000) near))
+  | inl near ↦ absurd (far a b (departures_of long_config DownData).from.0 m k h p q (le_true (b -ℤ a) (pos 477696000) near))
   | inr other ↦ ap (λ t. int_le (a -ℤ b) (pos 477696000) && t) other ∙ neither (int_le (a -ℤ b) (pos 477696000))
 ]
   where

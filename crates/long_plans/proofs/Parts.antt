@@ -19,7 +19,8 @@ use Rattle.sent_laws.specs.plan_model.specs.Lines.{allocation_of}
 use Rattle.sent_laws.specs.plan_model.specs.Streams.{Part, has_part, part_in, symbol_parts}
 use Rattle.sent_laws.specs.plan_model.specs.declared.lines.PlannedLine.{PlannedLine}
 use Rattle.sent_laws.specs.plan_model.specs.declared.streams.Stream.TheVariants.{DownData}
-use Rattle.sent_laws.specs.schedule_laws.proofs.RangeLemmas.{from_high}
+use Rattle.sent_laws.specs.plan_model.proofs.RangeLemmas.{from_high}
+use Rattle.sent_laws.specs.schedule_laws.proofs.TimeLemmas.{pos_same}
 use Rattle.long_plans.proofs.Lines.{line_at, lines_from}
 
 pub each_nothing : {A : Type 0} (from n : ℕ) (f : ℕ → List A) → ((k : ℕ) → from ≤ k → k < from + n → f k ≡ []) → each from n f ≡ []
@@ -62,13 +63,10 @@ nothing_named slot symbol i frame (suc n) none =
     ap (λ (b : Bool). let xs : List PlannedLine = if b then line_at i frame ∷ rest else rest in xs) (none frame (omega arith) (omega arith))
     ∙ nothing_named slot symbol (i + 1) (frame + 1) n (λ k a b. none k (omega (arith, a)) (omega (arith, b)))
 
-same_number : (k m : ℕ) → pos k ≡ pos m → k ≡ m
-same_number k m h = omega (arith, ints, h)
-
 other_test : (k m symbol : ℕ) → k ≢ m → test k (slot_of m) symbol ≡ false
 other_test k m symbol other = elim (cases_Bool (test k (slot_of m) symbol)) [
   | inr not_named ↦ not_named
-  | inl is ↦ absurd (other (same_number k m (ap (λ (s : Slot). s.frame) (slots_equal (slot_of k) (slot_of m) (and_parts (same_slot (slot_of k) (slot_of m)) _ is).0))))
+  | inl is ↦ absurd (other (pos_same k m (ap (λ (s : Slot). s.frame) (slots_equal (slot_of k) (slot_of m) (and_parts (same_slot (slot_of k) (slot_of m)) _ is).0))))
 ]
 
 own_test : (k m : ℕ) → k ≡ m → test k (slot_of m) 0 ≡ true

@@ -7,6 +7,7 @@ use Rattle.std.specs.Ordering.{int_eq}
 use Rattle.std.proofs.lemmas.Int.{ints}
 use Rattle.std.proofs.lemmas.Bool.Decides.{Decides-int_eq}
 use Rattle.std.proofs.lemmas.List.Elements.{filter-append, filter_passes}
+use Rattle.std.specs.Int.Signed.{≤ℤ_refl, <ℤ-≤ℤ_trans}
 use Rattle.air_source.specs.declared.events.Side.{Side}
 use Rattle.air_source.specs.declared.events.Side.TheVariants.{Ru, Du}
 use Rattle.delay_exchange.specs.Meters.{HasDoings}
@@ -20,6 +21,7 @@ use Rattle.delay_exchange.specs.fh_document.specs.declared.document.Document.{Do
 use Rattle.delay_exchange.specs.fh_document.specs.declared.document.Measure.{Measure}
 use Rattle.fh_time.specs.declared.values.Ticks.{Ticks}
 use Rattle.delay_exchange.specs.fragment_laws.specs.Apart.{IsIn}
+use Rattle.delay_exchange.specs.plan_model.proofs.ListLemmas.{in_right}
 use Rattle.frame_network.proofs.QueueLemmas.{none_below}
 use Rattle.frame_network.specs.Queues.{AreRising, at_time, first_time, landing_of}
 use Rattle.frame_network.specs.declared.landings.Landing.{Landing}
@@ -27,8 +29,7 @@ use Rattle.frame_ways.proofs.LandLemmas.{refused_from, taken_all}
 use Rattle.frame_ways.specs.Listed.{AreFrom}
 use Rattle.delay_exchange.specs.measured_traffic.specs.Doings.{Doings, told_in, with_begins}
 use Rattle.delay_exchange.specs.measured_traffic.specs.Replayed.{doings_at}
-use Rattle.delay_exchange.specs.replay_events.proofs.TickLemmas.{below_all, same_most}
-use Rattle.delay_exchange.specs.schedule_laws.proofs.ListLemmas.{in_all, in_right}
+use Rattle.delay_exchange.specs.schedule_laws.proofs.ListLemmas.{in_all}
 use Rattle.measured_moments.specs.Begins.{HasBegun, HaveBegun, MeasuresWait, begins_among, begins_of, measure_at, waiting_at}
 use Rattle.measured_moments.specs.Times.{begin_then}
 use Rattle.measured_moments.specs.declared.meters.Meters.{Meters}
@@ -95,7 +96,7 @@ module _ {C D : Type 0} (cp : C → Edge → Type 0) (cq : C → Edge → ℤ �
         later = λ t low. w.begins t (at_least tick t low);
         list = w.list;
         gone = [];
-        parts = sym (w.begins tick (same_most tick));
+        parts = sym (w.begins tick (≤ℤ_refl tick));
         ru = h.ru;
         du = h.du;
       }
@@ -173,7 +174,7 @@ module _ {C D : Type 0} (cp : C → Edge → Type 0) (cq : C → Edge → ℤ �
 
   below_from : (t from : ℤ) (q : List Landing) → t <ℤ from → AreFrom from q → AllByRecursion (λ m. t <ℤ m.at.0) q
   below_from t from [] lt h = tt
-  below_from t from (l ∷ q) lt h = (below_all t from l.at.0 lt h.0, below_from t from q lt h.1)
+  below_from t from (l ∷ q) lt h = (<ℤ-≤ℤ_trans lt h.0, below_from t from q lt h.1)
 
   -- none of the tick is left
   pub all_begun : (d : Document) (tick : Ticks) (old new : Meters C D) → IsBeginning cp cq dp dq d tick.0 old → new.waiting ≡ old.waiting → new.measures.now ≡ old.measures.now

@@ -6,7 +6,8 @@ use Rattle.std.specs.List.{flat_map}
 use Rattle.std.specs.Ordering.{int_eq}
 use Rattle.std.proofs.lemmas.Int.{by_lt_z, ints}
 use Rattle.std.proofs.lemmas.Bool.Decides.{Decides-int_eq}
-use Rattle.std.proofs.lemmas.List.Elements.{All-head, All-map, All-nil, All-tail, All-weaker}
+use Rattle.std.proofs.lemmas.List.Elements.{All-map, All-nil, All-weaker}
+use Rattle.std.specs.Int.Signed.{≤ℤ_refl}
 use Rattle.air_source.specs.declared.events.Side.{Side}
 use Rattle.air_source.specs.declared.events.Side.TheVariants.{Ru, Du}
 use Rattle.air_source.specs.declared.links.LinkFrame.{LinkFrame}
@@ -19,7 +20,6 @@ use Rattle.delay_exchange.specs.document_traffic.proofs.AnswerLemmas.{sent_is_ha
 use Rattle.delay_exchange.specs.document_traffic.proofs.CopyLemmas.{delayed_is, of_copies}
 use Rattle.delay_exchange.specs.document_traffic.proofs.LandingLemmas.{are_replayed}
 use Rattle.delay_exchange.specs.document_traffic.proofs.LineLemmas.{lines_fit}
-use Rattle.delay_exchange.specs.document_traffic.proofs.TimeLemmas.{all_of}
 use Rattle.delay_exchange.specs.document_traffic.specs.Landing.{antenna_for, copies_among, copies_in, copy_at, handed_for, injected_at, injected_to, is_to, landing_with, landings_of, leaving_to, leaving_up}
 use Rattle.delay_exchange.specs.document_traffic.specs.Laws.{IsReplayable}
 use Rattle.delay_exchange.specs.document_traffic.specs.Sending.{Delayed, Leaving, delayed_behind, leaving_down, leaving_of, none_sent, sent_for}
@@ -33,7 +33,7 @@ use Rattle.delay_exchange.specs.frame_deliveries.proofs.Within.{copies_within}
 use Rattle.delay_exchange.specs.frame_deliveries.specs.Copies.{copies_of}
 use Rattle.delay_exchange.specs.measured_traffic.specs.Measured.{delay_messages, exchanges, flights_then, others_of, tick_count}
 use Rattle.delay_exchange.specs.measured_traffic.specs.Replayed.{all_leaving, landings_for, leaving_flight, leaving_from, leaving_then}
-use Rattle.delay_exchange.specs.plan_model.specs.Departures.{departures_of, sending_from, sending_window, sent_at, start_of}
+use Rattle.delay_exchange.specs.plan_model.specs.Departures.{departures_of, sending_window, sent_at, start_of}
 use Rattle.delay_exchange.specs.plan_model.specs.Lines.{planned}
 use Rattle.delay_exchange.specs.plan_model.specs.Packs.{Numbered}
 use Rattle.delay_exchange.specs.plan_model.specs.Sent.{SentFrame, sent}
@@ -41,11 +41,9 @@ use Rattle.delay_exchange.specs.plan_model.specs.Streams.{Part, messages_of}
 use Rattle.delay_exchange.specs.plan_model.specs.Valid.{IsValid}
 use Rattle.delay_exchange.specs.plan_model.specs.declared.lines.PlannedLine.{PlannedLine}
 use Rattle.delay_exchange.specs.plan_model.specs.declared.streams.Stream.{Stream}
-use Rattle.delay_exchange.specs.plan_model.specs.declared.streams.Stream.TheVariants.{DownCommands, UpCommands, DownData, UpData}
 use Rattle.delay_exchange.specs.replay_events.proofs.CameLemmas.{calm_adds_nothing, none_yet}
-use Rattle.delay_exchange.specs.replay_events.proofs.TickLemmas.{same_most}
 use Rattle.delay_exchange.specs.replay_events.specs.Moments.{arrivals_before, end_of_time, landing_at}
-use Rattle.delay_exchange.specs.schedule_laws.proofs.ListLemmas.{in_all, in_either, of_filter, of_map, of_tick}
+use Rattle.delay_exchange.specs.schedule_laws.proofs.ListLemmas.{in_all, of_map, of_tick}
 use Rattle.delay_exchange.specs.schedule_laws.proofs.SentLemmas.{IsSentStream, message_part, sent_is}
 use Rattle.delay_exchange.specs.sent_order.proofs.BoundLemmas.{most_before, part_time}
 use Rattle.delay_exchange.specs.unit_model.specs.Meetings.{Arrival}
@@ -61,21 +59,17 @@ use Rattle.window_config.specs.Configs.{IsConfig}
 use Rattle.window_config.specs.Plans.{IsPlanLine}
 use Rattle.window_config.specs.Windows.{ticks_of_ns}
 use Rattle.window_config.specs.declared.config.Config.{Config}
-use Rattle.window_config.specs.declared.delays.Delays.{Delays}
 use Rattle.window_config.specs.declared.endpoints.EndpointConfig.{EndpointConfig}
 use Rattle.window_config.specs.declared.plan.PlanLine.{PlanLine}
+use Rattle.delay_exchange.specs.plan_model.proofs.ListLemmas.{in_either, of_filter, all_of}
+use Rattle.delay_exchange.specs.document_traffic.proofs.TimeLemmas.{from_is}
+use Rattle.delay_exchange.specs.measured_traffic.proofs.FlightLemmas.{none_at}
 
 -- ---- the frames of a plan leave later than time 0
 
 -- a window begins at most 4 ms before its symbol, which starts 10 ms after time 0 at least
 leaves_late : (s most : ℤ) (wait : ℕ) → pos 15360000000 ≤ℤ s → most ≤ℤ pos 4000000 → pos 0 ≤ℤ ((s +ℤ neg_ℤ (ticks_of_ns most)) +ℤ pos wait)
 leaves_late s most wait low few = omega (arith, ints)
-
-from_is : (d : Delays) (stream : Stream) → IsSentStream stream → sending_from d stream ≡ neg_ℤ (ticks_of_ns (sending_window d stream).max)
-from_is d DownCommands s = refl
-from_is d UpCommands s = refl
-from_is d DownData s = refl
-from_is d UpData s = absurd s
 
 module _ (c : Config) (lines : List PlanLine) (config : IsConfig c) (fit : All IsPlanLine lines) (valid : IsValid c lines) where
   abbrev ps : List PlannedLine
@@ -108,12 +102,6 @@ down_late d doc f m =
 apart : (a t : ℤ) (b : Bool) → (a ≡ t → ⊥) → int_eq a t ≡ b → b ≡ false
 apart a t true other e = absurd (other ((Decides-int_eq a t).0 e))
 apart a t false other e = refl
-
-none_at : (t : ℤ) (arrivals : List Arrival) → All (λ a. a.at ≡ t → ⊥) arrivals → landing_at arrivals t ≡ []
-none_at t [] differ = refl
-none_at t (a ∷ arrivals) differ =
-    let other = apart a.at t (int_eq a.at t) (All-head (λ (b : Arrival). b.at ≡ t → ⊥) a arrivals differ) refl in
-    rw other (none_at t arrivals (All-tail (λ (b : Arrival). b.at ≡ t → ⊥) a arrivals differ))
 
 not_before : (t at : ℤ) → t <ℤ pos 0 → pos 0 ≤ℤ at → at ≡ t → ⊥
 not_before t at lt low e = omega (arith, ints, lt, low, e)
@@ -240,8 +228,8 @@ module _ (d : Document) (doc : IsReplayable d) where
 
   nothing_came : arrivals_before landed (pos 0) ≡ []
   nothing_came =
-      calm_adds_nothing landed first_clock (pos 0) (same_most first_clock) clock_begins (λ t low high. none_before t landed high landed_late)
-      ∙ none_yet landed first_clock (same_most first_clock)
+      calm_adds_nothing landed first_clock (pos 0) (≤ℤ_refl first_clock) clock_begins (λ t low high. none_before t landed high landed_late)
+      ∙ none_yet landed first_clock (≤ℤ_refl first_clock)
 
   none_starts : jobs_until d.config landed (pos 0 -ℤ pos 1) ≡ []
   none_starts =

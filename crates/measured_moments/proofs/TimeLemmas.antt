@@ -1,5 +1,5 @@
 -- The measurements of a document, as they wait for their times.
-use Rattle.std.proofs.Common.{◌≡◌, ℕ, suc, ℤ, ◌≤ℤ◌, ◌+◌, ◌<◌, ◌≤◌, ◌⊎◌, inl, inr, Some, None, Option, Bool, true, false, List, [], ◌∷◌, ◌++◌, length, take, get_or, refl, sym, ap, ap₂, ◌∙◌, subst, arith}
+use Rattle.std.proofs.Common.{◌≡◌, ℕ, suc, ℤ, ◌≤ℤ◌, ◌+◌, ◌≤◌, Some, Option, Bool, true, false, List, [], ◌∷◌, ◌++◌, take, refl, sym, ap, ap₂, ◌∙◌, subst, arith}
 use Rattle.std.specs.Prelude.{All, map, slice_get, if◌then◌else◌}
 use Rattle.std.specs.List.{flat_map}
 use Rattle.std.specs.Option.{option_to_list}
@@ -7,7 +7,7 @@ use Rattle.std.specs.Ordering.{int_eq}
 use Rattle.std.proofs.lemmas.Int.{ints}
 use Rattle.std.proofs.lemmas.List.{map-append, take_more}
 use Rattle.std.proofs.lemmas.List.Elements.{All-cons, All-head, All-nil, All-tail}
-use Rattle.std.proofs.lemmas.Option.{get_or_from_slice_get, slice_get_cases, slice_get_within}
+use Rattle.std.proofs.lemmas.Option.{get_or_from_slice_get, slice_get_within}
 use Rattle.delay_exchange.specs.delay_laws.specs.Ticks.{Begin, due}
 use Rattle.delay_exchange.specs.document_delays.specs.Settings.{begin_of}
 use Rattle.delay_exchange.specs.fh_document.specs.Proper.{IsMeasure}
@@ -28,13 +28,6 @@ times_next ms k m t old new found at before pushed =
     let next : take (k + 1) ms ≡ take k ms ++ m ∷ [] =
     take_more ms k m (slice_get_within ms k m found) ∙ ap (λ (x : Measure). take k ms ++ x ∷ []) (get_or_from_slice_get ms k m m found) in
     pushed ∙ ap₂ (λ (ts : List Ticks) (u : Ticks). ts ++ u ∷ []) before at ∙ sym (ap (map begin_time) next ∙ map-append begin_time (take k ms) (m ∷ []))
-
-pub not_past : {A : Type 0} (xs : List A) (i : ℕ) → i < length xs → slice_get xs i ≡ None → ⊥
-not_past {A} xs i inside none = either (slice_get_cases xs i).1
-  where
-    either : ((x : A) × (i < length xs) × (slice_get xs i ≡ Some x) × (get_or xs i x ≡ x)) ⊎ ((length xs ≤ i) × (slice_get xs i ≡ None)) → ⊥
-    either (inl found) = let e : None ≡ Some found.0 = sym none ∙ found.2 in absurd (cc e)
-    either (inr past) = omega (arith, inside, past.0)
 
 pub measure_is : (ms : List Measure) (k : ℕ) (m : Measure) → All IsMeasure ms → slice_get ms k ≡ Some m → IsMeasure m
 measure_is ms k m all found = subst IsMeasure (get_or_from_slice_get ms k m m found) (all k m (slice_get_within ms k m found))

@@ -1,8 +1,9 @@
 -- Both units' measurements from one tick to another.
-use Rattle.std.proofs.Common.{◌≡◌, ℤ, pos, ◌+ℤ◌, ◌-ℤ◌, ◌≤ℤ◌, ◌<ℤ◌, List, [], ◌∷◌, sym, ap, ◌∙◌, subst, arith}
+use Rattle.std.proofs.Common.{◌≡◌, ℤ, pos, ◌+ℤ◌, ◌-ℤ◌, ◌≤ℤ◌, ◌<ℤ◌, [], sym, ap, ◌∙◌, subst, arith}
 use Rattle.std.specs.Prelude.{filter}
-use Rattle.std.specs.List.{AllByRecursion, flat_map}
+use Rattle.std.specs.List.{flat_map}
 use Rattle.std.proofs.lemmas.Int.{ints}
+use Rattle.std.specs.Int.Signed.{≤ℤ_refl}
 use Rattle.air_source.specs.declared.events.Side.{Side}
 use Rattle.air_source.specs.declared.events.Side.TheVariants.{Ru, Du}
 use Rattle.delay_exchange.specs.Meters.{HasDoings}
@@ -11,23 +12,17 @@ use Rattle.delay_exchange.specs.delay_laws.specs.Ticks.{Begin}
 use Rattle.delay_measure.specs.declared.edge.Edge.{Edge}
 use Rattle.delay_exchange.specs.fh_document.specs.declared.document.Document.{Document}
 use Rattle.frame_network.proofs.QueueLemmas.{none_below}
-use Rattle.frame_network.specs.declared.landings.Landing.{Landing}
-use Rattle.frame_ways.proofs.LandLemmas.{from_less}
-use Rattle.frame_ways.specs.Listed.{AreFrom}
+use Rattle.frame_ways.proofs.LandLemmas.{from_less, below_from}
 use Rattle.delay_exchange.specs.measured_traffic.proofs.TurnLemmas.{doings_wait}
 use Rattle.delay_exchange.specs.measured_traffic.specs.Doings.{Doings}
 use Rattle.delay_exchange.specs.measured_traffic.specs.Replayed.{begins_at}
 use Rattle.delay_exchange.specs.measured_traffic.specs.Turns.{IsQuietBetween}
-use Rattle.delay_exchange.specs.replay_events.proofs.TickLemmas.{at_most, below_all, last_reached, same_most}
 use Rattle.delay_exchange.specs.unit_model.specs.Radiated.{first_clock}
+use Rattle.delay_exchange.specs.replay_events.specs.history_laws.proofs.TickLemmas.{at_most, last_reached}
 use Rattle.measured_moments.specs.Begins.{AwaitBegins, BeginNoneTo, MeasuresWait, measure_at, waiting_at}
 use Rattle.measured_moments.specs.declared.meters.Meters.{Meters}
 
 -- ---- before the next measurement
-
-below_from : (t from : ℤ) (q : List Landing) → t <ℤ from → AreFrom from q → AllByRecursion (λ m. t <ℤ m.at.0) q
-below_from t from [] lt h = tt
-below_from t from (l ∷ q) lt h = (below_all t from l.at.0 lt h.0, below_from t from q lt h.1)
 
 over_last : (t tick : ℤ) → t <ℤ tick → t <ℤ ((tick -ℤ pos 1) +ℤ pos 1)
 over_last t tick h = omega (arith, ints, h)
@@ -52,7 +47,7 @@ module _ {C D : Type 0} where
     read = waits.read;
     measures = waits.measures;
     begins = λ t low. waits.begins t (at_most now tick t order low);
-    list = from_less tick ((tick -ℤ pos 1) +ℤ pos 1) m.waiting (last_reached tick tick (same_most tick)) none;
+    list = from_less tick ((tick -ℤ pos 1) +ℤ pos 1) m.waiting (last_reached tick tick (≤ℤ_refl tick)) none;
   }
 
   -- and where nothing lands before it either, both units have the same then

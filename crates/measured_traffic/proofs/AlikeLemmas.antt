@@ -27,7 +27,8 @@ use Rattle.uplink_turns.specs.unit_model.specs.Lists.{each_tick}
 use Rattle.uplink_turns.specs.unit_model.specs.Meetings.{Arrival}
 use Rattle.uplink_turns.specs.unit_model.specs.Radiated.{first_clock}
 use Rattle.document_delays.specs.window_config.specs.Windows.{ticks_of_ns}
-use Rattle.measured_traffic.proofs.ListLemmas.{at_key, ticks_flat, ticks_same, without}
+use Rattle.uplink_turns.specs.plan_model.proofs.TickLemmas.{ticks_same}
+use Rattle.measured_traffic.proofs.ListLemmas.{at_key, ticks_flat, without}
 use Rattle.measured_traffic.proofs.MergeLemmas.{AreFrom, first_merged, later_from, merged, none_from, none_merged, rest_from, second_merged}
 use Rattle.measured_traffic.proofs.Apart.{all_sent, copies_flown, delayed_then, landings_apart, sent_then}
 use Rattle.measured_traffic.proofs.OrderLemmas.{flights_in_ticks, leaves_within}
@@ -315,7 +316,7 @@ unfolding all_sent
 all_sent_alike xs fs =
     let both = merged at_flown at_flight flown_flight (map flown_of xs) fs in
     sym (ticks_flat copies_of_flown first_clock tick_count both)
-    ∙ ticks_same first_clock tick_count (λ t. flat_map copies_of_flown (both t)) (sent_then xs fs) (λ t.
+    ∙ ticks_same first_clock tick_count (λ t. flat_map copies_of_flown (both t)) (sent_then xs fs) (λ t low.
     flat_map-append copies_of_flown (at_key at_flown (map flown_of xs) t) (map flown_flight (flights_then fs t))
     ∙ ap₂ (λ (ys zs : List Arrival). ys ++ zs) (copies_then t xs) (flights_copied (flights_then fs t)))
 

@@ -1,21 +1,15 @@
 -- Each frame of the radio unit is a piece of a message that has at most 128 of them.
-use Rattle.std.proofs.Common.{◌≡◌, ℕ, ◌+◌, ◌*◌, ◌<◌, ◌≤◌, inl, inr, Bool, true, false, not, ◌&&◌, if◌then◌else◌, List, [], ◌∷◌, ◌++◌, length, map, Option, Some, None, refl, ap, sym, ◌∙◌, subst, arith}
+use Rattle.std.proofs.Common.{◌≡◌, ℕ, ◌+◌, ◌<◌, ◌≤◌, inl, inr, Bool, true, false, if◌then◌else◌, List, [], ◌∷◌, ◌++◌, length, map, Option, Some, None, refl, ap, sym, subst, arith}
 use Rattle.std.specs.Prelude.{All, ◌==◌, nat_le, nat_lt, sum}
 use Rattle.std.specs.List.{fold, slice_get}
 use Rattle.std.specs.Option.{option_map_or}
-use Rattle.std.proofs.Math.Nat.{mul-le-mul}
-use Rattle.std.proofs.lemmas.Bool.{and_parts, cases_Bool, leb-true, ltb-false}
+use Rattle.std.proofs.lemmas.Bool.{and_parts, leb-true}
 use Rattle.std.proofs.lemmas.List.Elements.{All-head, All-tail}
 use Rattle.document_delays.specs.air_source.specs.declared.links.LinkFrame.{LinkFrame}
-use Rattle.bfp_codec.specs.Layout.{HasWidth, length_of}
-use Rattle.bfp_codec.specs.declared.methods.Method.{Method}
-use Rattle.bfp_codec.specs.declared.methods.Method.TheVariants.{Plain, Bfp}
-use Rattle.fh_time.specs.Carrier.{count_of, is_outside}
 use Rattle.uplink_turns.specs.fragment_laws.specs.Apart.{IsIn}
 use Rattle.uplink_turns.specs.plan_model.specs.Packs.{Message, PartFields, alone, parts_of, same_symbol, size_of, takes, with_part}
 use Rattle.uplink_turns.specs.plan_model.specs.Streams.{section_size}
-use Rattle.uplink_turns.specs.schedule_laws.proofs.ListLemmas.{at_in, in_all, in_either, of_each}
-use Rattle.uplink_turns.specs.uplane_sections.specs.Section.{header_size}
+use Rattle.uplink_turns.specs.schedule_laws.proofs.ListLemmas.{at_in, in_all, of_each}
 use Rattle.uplink_turns.specs.unit_model.specs.Proper.{IsAt}
 use Rattle.uplink_turns.specs.unit_model.specs.ProperJobs.{IsProperJob}
 use Rattle.uplink_turns.specs.unit_model.specs.declared.jobs.UplinkJob.{UplinkJob}
@@ -24,41 +18,18 @@ use Rattle.uplink_turns.specs.uplink_model.specs.Messages.{frame_count, frames_b
 use Rattle.document_delays.specs.window_config.specs.Endpoints.{IsEndpoint}
 use Rattle.document_delays.specs.window_config.specs.declared.config.Config.{Config}
 use Rattle.document_delays.specs.window_config.specs.declared.endpoints.EndpointConfig.{EndpointConfig}
+use Rattle.uplink_turns.specs.replay_events.specs.history_laws.proofs.UnitLemmas.{small_is}
+use Rattle.uplink_turns.specs.plan_model.proofs.ListLemmas.{in_either, the_one}
+use Rattle.uplink_turns.specs.plan_model.proofs.SizeLemmas.{alone_few, section_few}
 
 -- ---- a section alone
-
-method_short : (m : Method) → HasWidth m → length_of m ≤ 49
-method_short Plain h = omega arith
-method_short (Bfp w) h = omega (arith, h)
-
-count_few : (prbs start num : ℕ) → prbs ≤ 273 → is_outside prbs start num ≡ false → count_of prbs num ≤ 273
-count_few prbs start num few out = elim (cases_Bool (num == 0)) [
-  | inl none ↦ (let e : count_of prbs num ≡ prbs = ap (λ (b : Bool). if b then prbs else num) none in omega (arith, e, few))
-  | inr some ↦
-      (let e : count_of prbs num ≡ num = ap (λ (b : Bool). if b then prbs else num) some in
-      let within : nat_lt prbs (start + num) ≡ false = sym (ap (λ b. not b && nat_lt prbs (start + num)) some) ∙ out in
-      let l = ltb-false prbs (start + num) within in
-      omega (arith, e, few, l))
-]
-
-product_few : (a b : ℕ) → a ≤ 273 → b ≤ 49 → a * b ≤ 13377
-product_few a b h k = mul-le-mul h k
-
-header_few : (b : Bool) → (let n : ℕ = if b then 6 else 4 in n) ≤ 6
-header_few true = omega arith
-header_few false = omega arith
-
-alone_few : (size header packed : ℕ) → size ≡ header + packed → header ≤ 6 → packed ≤ 13377 → 4 + (0 + size) ≤ 16384
-alone_few size header packed e h k = omega (arith, e, h, k)
 
 section_short : (es : List EndpointConfig) → All IsEndpoint es → (to : _) (j : UplinkJob) → IsProperJob es to j → size_of (job_fields es) (alone j) ≤ 16384
 section_short es each to j proper =
     let e = proper.endpoint in
     let is = in_all IsEndpoint e es each (at_in j.ep e es proper.endpoint_is) in
-    let n = count_of e.prbs j.num_prb in
-    alone_few ((job_fields es).size j) (header_size e.format) (n * length_of e.format.method)
-    (ap (λ (o : Option EndpointConfig). option_map_or (λ f. section_size f j.num_prb) o 0) proper.endpoint_is) (header_few e.format.dynamic)
-    (product_few n (length_of e.format.method) (count_few e.prbs j.start_prb j.num_prb is.most proper.prbs) (method_short e.format.method is.width))
+    let size : section_size e j.num_prb ≡ (job_fields es).size j = sym (ap (λ (o : Option EndpointConfig). option_map_or (λ f. section_size f j.num_prb) o 0) proper.endpoint_is) in
+    alone_few ((job_fields es).size j) (subst (λ (n : ℕ). n ≤ 13383) size (section_few e j.start_prb j.num_prb is.width is.most proper.prbs))
 
 -- ---- messages
 
@@ -122,13 +93,6 @@ pub record IsPiece (c : Config) (antenna : Antenna) (ms : List (Message UplinkJo
   pub below : sub < frame_count c message
   pub is : f ≡ frame_of c antenna endpoint message number before sub
 
-the_one : {X : Type 0} (x y : X) → IsIn x (y ∷ []) → x ≡ y
-the_one x y (inl same) = same
-the_one x y (inr t) = absurd t
-
-below_count : (k n : ℕ) → k < 0 + n → k < n
-below_count k n h = omega (arith, h)
-
 pub piece_is : (c : Config) (antenna : Antenna) (earlier ms : List (Message UplinkJob)) (f : LinkFrame) → IsIn f (frames_behind c antenna earlier ms) → IsPiece c antenna ms f
 unfolding frames_behind message_frames
 piece_is c antenna earlier [] f m = absurd m
@@ -155,6 +119,6 @@ piece_is c antenna earlier (x ∷ ms) f m = elim (in_either f (message_frames c 
           number = number;
           before = before;
           sub = w.0;
-          below = below_count w.0 (frame_count c x) w.2;
+          below = small_is w.0 (frame_count c x) w.2;
           is = the_one f (frame_of c antenna e x number before w.0) w.3;
         }

@@ -30,7 +30,8 @@ use Rattle.document_traffic.specs.replay_laws.specs.Delays.{IsAmong, IsResult}
 use Rattle.uplink_turns.specs.unit_model.proofs.SweepLaws.{gap_is, gap_parts}
 use Rattle.uplink_turns.specs.unit_model.specs.Meetings.{Arrival}
 use Rattle.uplink_turns.specs.unit_model.specs.Radiated.{first_clock}
-use Rattle.measured_traffic.proofs.ListLemmas.{apart}
+use Rattle.uplink_turns.specs.replay_events.specs.history_laws.proofs.TickLemmas.{within_next}
+use Rattle.uplink_turns.specs.replay_events.specs.history_laws.proofs.AddedLemmas.{in_front}
 use Rattle.measured_traffic.proofs.QuietLemmas as quiet
 use Rattle.measured_traffic.proofs.ReplayedLemmas.{landings_are_replayed}
 use Rattle.measured_traffic.proofs.SideLemmas.{all_told, begins_told, messages_of, others_pass, results_known, frames_told}
@@ -40,12 +41,9 @@ use Rattle.measured_traffic.specs.Doings.{Doings, results_of, with_begins, with_
 use Rattle.measured_traffic.specs.Measured.{delay_messages, exchanges, tick_count}
 use Rattle.measured_traffic.specs.Replayed.{begun, doings_in, landings_for, results_at, traffic_of}
 use Rattle.measured_traffic.specs.Sides.{IsSideOf, known_as}
+use Rattle.measured_traffic.proofs.FlightLemmas.{none_at}
 
 -- ---- parts of lists
-
-all_front : {X : Type 0} (P : X → Type 0) (xs ys : List X) → All P (xs ++ ys) → All P xs
-all_front P [] ys all = All-nil P
-all_front P (x ∷ xs) ys all = All-cons P x xs (All-head P x (xs ++ ys) all) (all_front P xs ys (All-tail P x (xs ++ ys) all))
 
 all_back : {X : Type 0} (P : X → Type 0) (xs ys : List X) → All P (xs ++ ys) → All P ys
 all_back P [] ys all = all
@@ -82,7 +80,7 @@ module _ (w : Setting) (P : ℕ → ℤ → Type 0) where
 
   known_before : (h : Hearing) (more : List Heard) → AreKnown (told_all w h more) → AreKnown h
   unfolding AreKnown
-  known_before h more all = all_front (DelayIs P) (known w h.heard) (known_while w h more) (subst (All (DelayIs P)) (known_grows w h more) all)
+  known_before h more all = in_front (DelayIs P) (known w h.heard) (known_while w h more) (subst (All (DelayIs P)) (known_grows w h more) all)
 
   known_since : (h : Hearing) (more : List Heard) → AreKnown (told_all w h more) → All (DelayIs P) (known_while w h more)
   unfolding AreKnown
@@ -136,20 +134,11 @@ module _ (w : Setting) (P : ℕ → ℤ → Type 0) where
 
 -- ---- of a document
 
-none_at : (t : ℤ) (arrivals : List Arrival) → All (λ a. a.at ≡ t → ⊥) arrivals → landing_at arrivals t ≡ []
-none_at t [] differ = refl
-none_at t (a ∷ arrivals) differ =
-    let other = apart a.at t (All-head (λ (b : Arrival). b.at ≡ t → ⊥) a arrivals differ) in
-    rw other (none_at t arrivals (All-tail (λ (b : Arrival). b.at ≡ t → ⊥) a arrivals differ))
-
 too_early : (first t at : ℤ) → t <ℤ first → first ≤ℤ at → at ≡ t → ⊥
 too_early first t at h k e = omega (arith, ints, h, k, e)
 
 too_late : (end t at : ℤ) → end <ℤ t → at ≤ℤ end → at ≡ t → ⊥
 too_late end t at h k e = omega (arith, ints, h, k, e)
-
-within_end : (t end : ℤ) → t ≤ℤ end → t <ℤ (end +ℤ pos 1)
-within_end t end h = omega (arith, ints, h)
 
 all_counted : (n m k : ℕ) → k ≡ n + suc m → suc n + m ≡ k
 all_counted n m k h = omega (arith, h)
@@ -191,7 +180,7 @@ module _ (d : Document) (is : IsReplayable d) (P : ℕ → ℤ → Type 0) (know
       let n = int_gap first_clock t in
       let m = int_gap (t +ℤ pos 1) (end_of_time +ℤ pos 1) in
       subst (λ (s : ℤ). ResultsAre P (results_of ((own d).comps side) s (begun d side s (doings_in d side n)) (landing_at (landings_for side d) s)))
-      (gap_is first_clock t low) (results_in side n m (gap_parts first_clock t (end_of_time +ℤ pos 1) low (within_end t end_of_time high)))))
+      (gap_is first_clock t low) (results_in side n m (gap_parts first_clock t (end_of_time +ℤ pos 1) low (within_next t end_of_time high)))))
 
   -- ---- its events
 

@@ -24,6 +24,7 @@ use Rattle.uplink_turns.specs.unit_model.proofs.SweepLaws.{gap_is}
 use Rattle.uplink_turns.specs.unit_model.specs.Meetings.{Arrival}
 use Rattle.uplink_turns.specs.unit_model.specs.Radiated.{first_clock}
 use Rattle.uplink_turns.specs.unit_model.specs.Times.{end_of_time}
+use Rattle.uplink_turns.specs.replay_events.specs.history_laws.proofs.TickLemmas.{clock_begins}
 use Rattle.measured_traffic.proofs.MadeLemmas.{IsIdHeard, IsIdSent, ids_kept, sent_fits}
 use Rattle.measured_traffic.proofs.PlainLemmas.{delayed_plain}
 use Rattle.measured_traffic.proofs.StampLemmas.{AreStamps, receiving_fits, sending_fits}
@@ -65,11 +66,8 @@ tick_low k = omega (arith, ints)
 below_end : (first end : ℤ) (count k : ℕ) → first +ℤ pos count ≡ end +ℤ pos 1 → k < count → (first +ℤ pos k) ≤ℤ end
 below_end first end count k is lt = omega (arith, ints, is, lt)
 
-clock_first : first_clock ≤ℤ (end_of_time +ℤ pos 1)
-clock_first = omega (arith, ints)
-
 tick_high : (k : ℕ) → k < tick_count → (first_clock +ℤ pos k) ≤ℤ end_of_time
-tick_high k lt = below_end first_clock end_of_time tick_count k (gap_is first_clock (end_of_time +ℤ pos 1) clock_first) lt
+tick_high k lt = below_end first_clock end_of_time tick_count k (gap_is first_clock (end_of_time +ℤ pos 1) clock_begins) lt
 
 stamps : (d : Document) → AreComps d.comps → (t : ℤ) → first_clock ≤ℤ t → t ≤ℤ end_of_time → (side : Side) → AreStamps (compensation_of d side) t
 stamps d are t low high Ru = record {

@@ -1,5 +1,5 @@
 -- When the copies of frames of delay measurement land.
-use Rattle.std.proofs.Common.{◌≡◌, ℕ, ℤ, pos, ◌^◌, ◌+ℤ◌, ◌*ℤ◌, ◌≤ℤ◌, ◌<ℤ◌, inl, inr, true, false, List, [], ◌∷◌, ◌++◌, refl, ap, sym, ◌∙◌, subst, arith}
+use Rattle.std.proofs.Common.{◌≡◌, ℕ, ℤ, pos, ◌^◌, ◌+ℤ◌, ◌*ℤ◌, ◌≤ℤ◌, ◌<ℤ◌, inl, inr, true, false, List, [], ◌∷◌, refl, ap, sym, ◌∙◌, subst, arith}
 use Rattle.std.specs.Prelude.{All, filter, map}
 use Rattle.std.specs.List.{flat_map}
 use Rattle.std.specs.Ordering.{int_eq}
@@ -28,7 +28,8 @@ use Rattle.uplink_turns.specs.schedule_laws.proofs.ListLemmas.{in_all}
 use Rattle.uplink_turns.specs.unit_model.specs.Meetings.{Arrival}
 use Rattle.uplink_turns.specs.unit_model.specs.Radiated.{first_clock}
 use Rattle.document_delays.specs.window_config.specs.Windows.{ticks_of_ns}
-use Rattle.measured_traffic.proofs.ListLemmas.{apart}
+use Rattle.uplink_turns.specs.replay_events.specs.history_laws.proofs.ListLemmas.{front_empty, back_empty}
+use Rattle.uplink_turns.specs.plan_model.proofs.TickLemmas.{int_apart}
 use Rattle.measured_traffic.specs.Measured.{delay_messages, exchanges, others_of, tick_count}
 
 -- ---- at a tick at which nothing lands no copy does
@@ -49,14 +50,6 @@ one_lands (d ∷ ds) at m ticks i none = elim (cases_Bool (int_eq (at +ℤ d) (a
   ]
 ]
 
-left_none : {X : Type 0} (xs ys : List X) → xs ++ ys ≡ [] → xs ≡ []
-left_none [] ys h = refl
-left_none (x ∷ xs) ys h = absurd cc
-
-right_none : {X : Type 0} (xs ys : List X) → xs ++ ys ≡ [] → ys ≡ []
-right_none [] ys h = h
-right_none (x ∷ xs) ys h = absurd cc
-
 flown_lands : (fs : List Flight) (f : Flight) (ticks : ℤ) → IsIn f fs → IsIn ticks f.delays → landing fs (f.at +ℤ ticks) ≡ [] → ⊥
 flown_lands [] f ticks m i none = absurd m
 flown_lands (g ∷ fs) f ticks m i none =
@@ -64,16 +57,16 @@ flown_lands (g ∷ fs) f ticks m i none =
     elim m [
       | inl e ↦
           one_lands f.delays f.at f.message ticks i
-          (subst (λ (h : Flight). copies_at h.delays h.at h.message t ≡ []) (sym e) (left_none (copies_at g.delays g.at g.message t) (landing fs t) none))
-      | inr later ↦ flown_lands fs f ticks later i (right_none (copies_at g.delays g.at g.message t) (landing fs t) none)
+          (subst (λ (h : Flight). copies_at h.delays h.at h.message t ≡ []) (sym e) (front_empty (copies_at g.delays g.at g.message t) (landing fs t) none))
+      | inr later ↦ flown_lands fs f ticks later i (back_empty (copies_at g.delays g.at g.message t) (landing fs t) none)
     ]
 
 -- ---- when other frames come
 
-none_at : (t : ℤ) (arrivals : List Arrival) → All (λ a. a.at ≡ t → ⊥) arrivals → landing_at arrivals t ≡ []
+pub none_at : (t : ℤ) (arrivals : List Arrival) → All (λ a. a.at ≡ t → ⊥) arrivals → landing_at arrivals t ≡ []
 none_at t [] differ = refl
 none_at t (a ∷ arrivals) differ =
-    let other = apart a.at t (All-head (λ (b : Arrival). b.at ≡ t → ⊥) a arrivals differ) in
+    let other = int_apart a.at t (All-head (λ (b : Arrival). b.at ≡ t → ⊥) a arrivals differ) in
     rw other (none_at t arrivals (All-tail (λ (b : Arrival). b.at ≡ t → ⊥) a arrivals differ))
 
 early : (ns t : ℤ) → pos 0 ≤ℤ ns → t <ℤ first_clock → ns *ℤ pos 1536 ≡ t → ⊥

@@ -5,12 +5,12 @@ use Rattle.std.specs.Int.{int_gap}
 use Rattle.std.specs.Ordering.{int_eq}
 use Rattle.std.proofs.lemmas.Int.{ints}
 use Rattle.std.proofs.lemmas.List.Elements.{All-map, All-weaker}
+use Rattle.std.specs.Int.Signed.{<ℤ-≤ℤ_trans}
 use Rattle.document_delays.specs.air_source.specs.declared.events.Side.{Side}
 use Rattle.document_delays.specs.air_source.specs.declared.events.Side.TheVariants.{Ru}
 use Rattle.document_delays.specs.delay_laws.specs.Ticks.{Flight}
 use Rattle.document_delays.specs.delay_measure.specs.declared.message.DelayMessage.{DelayMessage}
 use Rattle.document_traffic.proofs.ShortLemmas.{are_short}
-use Rattle.document_traffic.proofs.TimeLemmas.{all_of}
 use Rattle.document_traffic.specs.Landing.{antenna_for, copy_at, leaving_answer, leaving_to}
 use Rattle.document_traffic.specs.Laws.{IsReplayable}
 use Rattle.document_traffic.specs.Sending.{Leaving, count_of}
@@ -25,7 +25,7 @@ use Rattle.uplink_turns.specs.frame_bytes.specs.Spelled.{in_bytes}
 use Rattle.document_delays.specs.frame_deliveries.proofs.Within.{copies_within}
 use Rattle.document_delays.specs.frame_deliveries.specs.Copies.{copies_of}
 use Rattle.uplink_turns.specs.replay_events.proofs.TickLemmas.{no_ticks, ticks_append}
-use Rattle.uplink_turns.specs.schedule_laws.proofs.ListLemmas.{in_all, in_either, of_filter, of_map, of_tick}
+use Rattle.uplink_turns.specs.schedule_laws.proofs.ListLemmas.{in_all, of_map, of_tick}
 use Rattle.uplink_turns.specs.unit_model.proofs.SweepLaws.{gap_is}
 use Rattle.uplink_turns.specs.unit_model.specs.Lists.{each_tick}
 use Rattle.uplink_turns.specs.unit_model.specs.Radiated.{first_clock}
@@ -35,6 +35,8 @@ use Rattle.document_traffic.specs.uplink_laws.specs.Premise.{frames_of}
 use Rattle.uplink_turns.specs.uplink_model.specs.Sent.{in_sent_order}
 use Rattle.uplink_turns.proofs.LeavingLemmas.{left_is_all}
 use Rattle.document_delays.specs.window_config.specs.Windows.{ticks_of_ns}
+use Rattle.uplink_turns.specs.replay_events.specs.history_laws.proofs.TickLemmas.{next_order, after_next, next_most}
+use Rattle.uplink_turns.specs.plan_model.proofs.ListLemmas.{in_either, of_filter, all_of}
 use Rattle.measured_traffic.proofs.FrameLemmas.{payload_long, payload_of}
 use Rattle.measured_traffic.proofs.ListLemmas.{at_key, none_then}
 use Rattle.measured_traffic.proofs.MergeLemmas.{first_merged}
@@ -49,16 +51,10 @@ use Rattle.measured_traffic.specs.Turns.{AllAreShort, FirstLeaves, LeavingWaits,
 gap_counts : (now last : ℤ) (n m : ℕ) → now +ℤ pos n ≡ last +ℤ pos 1 → (now +ℤ pos 1) +ℤ pos m ≡ last +ℤ pos 1 → n ≡ suc m
 gap_counts now last n m a b = omega (arith, ints, a, b)
 
-up_to : (now last : ℤ) → now ≤ℤ last → now ≤ℤ (last +ℤ pos 1)
-up_to now last h = omega (arith, ints, h)
-
-next_up_to : (now last : ℤ) → now ≤ℤ last → (now +ℤ pos 1) ≤ℤ (last +ℤ pos 1)
-next_up_to now last h = omega (arith, ints, h)
-
 gap_next : (now last : ℤ) → now ≤ℤ last → int_gap now (last +ℤ pos 1) ≡ suc (int_gap (now +ℤ pos 1) (last +ℤ pos 1))
 gap_next now last h =
-    gap_counts now last (int_gap now (last +ℤ pos 1)) (int_gap (now +ℤ pos 1) (last +ℤ pos 1)) (gap_is now (last +ℤ pos 1) (up_to now last h))
-    (gap_is (now +ℤ pos 1) (last +ℤ pos 1) (next_up_to now last h))
+    gap_counts now last (int_gap now (last +ℤ pos 1)) (int_gap (now +ℤ pos 1) (last +ℤ pos 1)) (gap_is now (last +ℤ pos 1) (next_most now last h))
+    (gap_is (now +ℤ pos 1) (last +ℤ pos 1) (next_order now last h))
 
 abbrev at_leaving : Leaving → ℤ
 at_leaving f = f.at
@@ -72,9 +68,6 @@ first_leaves fs now f ls here ended =
     ∙ first_merged at_leaving (λ (g : Flight). g.at) leaving_flight now n f ls fs here
     ∙ ap (λ (k : ℕ). f ∷ each_tick now k (leaving_then ls fs)) (sym count)
 
-next_later : (t at : ℤ) → (t +ℤ pos 1) ≤ℤ at → t <ℤ at
-next_later t at h = omega (arith, ints, h)
-
 none_leave : (t : ℤ) (ls : List Leaving) → ((f : Leaving) → IsIn f ls → t <ℤ f.at) → at_key at_leaving ls t ≡ []
 none_leave t ls later = none_then at_leaving t ls later
 
@@ -87,13 +80,10 @@ unfolding leaving_from
 measured_leave fs now ls later ended =
     let n = int_gap (now +ℤ pos 1) (end_of_time +ℤ pos 1) in
     let rest = each_tick (now +ℤ pos 1) n (leaving_then ls fs) in
-    let none = none_leave now ls (λ f m. next_later now f.at (in_all (λ (g : Leaving). (now +ℤ pos 1) ≤ℤ g.at) f ls later m)) in
+    let none = none_leave now ls (λ f m. after_next now f.at (in_all (λ (g : Leaving). (now +ℤ pos 1) ≤ℤ g.at) f ls later m)) in
     ap (λ (k : ℕ). each_tick now k (leaving_then ls fs)) (gap_next now end_of_time ended)
     ∙ with_next now n (leaving_then ls fs)
     ∙ ap (λ (gs : List Leaving). (gs ++ map leaving_flight (flights_then fs now)) ++ rest) none
-
-before_all : (t tick at : ℤ) → t <ℤ tick → tick ≤ℤ at → t <ℤ at
-before_all t tick at h k = omega (arith, ints, h, k)
 
 pub leaving_waits : LeavingWaits
 unfolding leaving_from
@@ -103,7 +93,7 @@ leaving_waits fs now tick ls later low high none =
     ticks_append leave now tick (end_of_time +ℤ pos 1) low high
     ∙ ap (λ (gs : List Leaving). gs ++ all) (no_ticks leave now tick low (λ t from below.
     ap₂ (λ (gs : List Leaving) (hs : List Flight). gs ++ map leaving_flight hs)
-    (none_leave t ls (λ f m. before_all t tick f.at below (in_all (λ (g : Leaving). tick ≤ℤ g.at) f ls later m)))
+    (none_leave t ls (λ f m. <ℤ-≤ℤ_trans below (in_all (λ (g : Leaving). tick ≤ℤ g.at) f ls later m)))
     (none t from below)))
 
 -- ---- how long frames are

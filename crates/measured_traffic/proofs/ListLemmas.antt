@@ -3,15 +3,16 @@ use Rattle.std.proofs.Common.{◌≡◌, ℕ, ℤ, pos, zero, suc, ◌+ℤ◌, �
 use Rattle.std.specs.Prelude.{filter}
 use Rattle.std.specs.List.{flat_map}
 use Rattle.std.specs.Ordering.{int_eq}
-use Rattle.std.proofs.lemmas.Bool.{cases_Bool, false_from_ne_true}
+use Rattle.std.proofs.lemmas.Bool.{cases_Bool}
 use Rattle.std.proofs.lemmas.Bool.Decides.{Decides-int_eq}
-use Rattle.std.proofs.lemmas.Int.{by_lt_z, ints}
+use Rattle.std.proofs.lemmas.Int.{ints}
 use Rattle.std.proofs.lemmas.List.Concat.{flat_map-append}
 use Rattle.std.proofs.lemmas.List.Elements.{filter-append}
 use Rattle.uplink_turns.specs.fragment_laws.specs.Apart.{IsIn}
-use Rattle.uplink_turns.specs.schedule_laws.proofs.ListLemmas.{in_either}
 use Rattle.uplink_turns.specs.schedule_laws.proofs.OrderLemmas.{IsRising}
 use Rattle.uplink_turns.specs.unit_model.specs.Lists.{each_tick, onto}
+use Rattle.uplink_turns.specs.plan_model.proofs.ListLemmas.{in_either}
+use Rattle.uplink_turns.specs.plan_model.proofs.TickLemmas.{int_apart, next_tick}
 
 -- ---- filters
 
@@ -45,11 +46,6 @@ unfolding each_tick
 ticks_filter p from zero f = refl
 ticks_filter {X = X} p from (suc n) f = filter-append p (f from) (each_tick (from +ℤ pos 1) n f) ∙ ap (λ (xs : List X). filter p (f from) ++ xs) (ticks_filter p (from +ℤ pos 1) n f)
 
-pub ticks_same : {X : Type 0} (from : ℤ) (n : ℕ) (f g : ℤ → List X) → ((t : ℤ) → f t ≡ g t) → each_tick from n f ≡ each_tick from n g
-unfolding each_tick
-ticks_same from zero f g same = refl
-ticks_same from (suc n) f g same = ap₂ ◌++◌ (same from) (ticks_same (from +ℤ pos 1) n f g same)
-
 pub ticks_flat : {X Y : Type 0} (g : Y → List X) (from : ℤ) (n : ℕ) (h : ℤ → List Y) → each_tick from n (λ t. flat_map g (h t)) ≡ flat_map g (each_tick from n h)
 unfolding each_tick
 ticks_flat g from zero h = refl
@@ -57,9 +53,6 @@ ticks_flat {X = X} g from (suc n) h =
     ap (λ (xs : List X). flat_map g (h from) ++ xs) (ticks_flat g (from +ℤ pos 1) n h) ∙ sym (flat_map-append g (h from) (each_tick (from +ℤ pos 1) n h))
 
 -- ---- a rising list, tick by tick
-
-pub apart : (a b : ℤ) → (a ≡ b → ⊥) → int_eq a b ≡ false
-apart a b differ = false_from_ne_true (int_eq a b) (λ is. differ ((Decides-int_eq a b).0 is))
 
 -- those of a tick
 abbrev pub at_key : {X : Type 0} → (X → ℤ) → List X → ℤ → List X
@@ -71,7 +64,7 @@ ticks_none key from zero = refl
 ticks_none key from (suc n) = ticks_none key (from +ℤ pos 1) n
 
 pub without : {X : Type 0} (key : X → ℤ) (t : ℤ) (x : X) (xs : List X) → (key x ≡ t → ⊥) → at_key key (x ∷ xs) t ≡ at_key key xs t
-without key t x xs differ = let other = apart (key x) t differ in rw other refl
+without key t x xs differ = let other = int_apart (key x) t differ in rw other refl
 
 pub with_first : {X : Type 0} (key : X → ℤ) (t : ℤ) (x : X) (xs : List X) → int_eq (key x) t ≡ true → at_key key (x ∷ xs) t ≡ x ∷ at_key key xs t
 with_first key t x xs same = rw same refl
@@ -87,9 +80,6 @@ none_then key t [] later = refl
 none_then key t (x ∷ xs) later =
     let lt = later x (inl refl) in
     without key t x xs (λ e. omega (arith, ints, e, lt)) ∙ none_then key t xs (λ y m. later y (inr m))
-
-above : (a b : ℤ) → a ≤ℤ b → (b ≡ a → ⊥) → (a +ℤ pos 1) ≤ℤ b
-above a b le ne = by_lt_z b (a +ℤ pos 1) (λ lt. absurd (ne (omega (arith, ints, le, lt)))) (λ ge. ge)
 
 above_lt : (a b c : ℤ) → (a +ℤ pos 1) ≤ℤ b → b ≤ℤ c → a <ℤ c
 above_lt a b c h k = omega (arith, ints, h, k)
@@ -112,7 +102,7 @@ first_first {X = X} key from (suc n) x xs low high least = elim (cases_Bool (int
       ap₂ (λ (ys zs : List X). ys ++ zs) (with_first key from x xs same) (skip_first key (from +ℤ pos 1) n x xs (after from (key x) ((Decides-int_eq (key x) from).0 same)))
   | inr other ↦
       let differ = λ (e : key x ≡ from). (let is : int_eq (key x) from ≡ true = (Decides-int_eq (key x) from).1 e in let both : true ≡ false = sym is ∙ other in absurd cc) in
-      let next = above from (key x) low differ in
+      let next = next_tick from (key x) low differ in
       let none = none_then key from xs (λ y m. above_lt from (key x) (key y) next (least y m)) in
       ap₂ (λ (ys zs : List X). ys ++ zs) (without key from x xs differ ∙ none) (first_first key (from +ℤ pos 1) n x xs next (next_end from n (key x) high) least)
       ∙ ap (λ (ys : List X). x ∷ (ys ++ each_tick (from +ℤ pos 1) n (at_key key xs))) (sym none)

@@ -1,24 +1,14 @@
 -- Two lists that are told tick by tick together: at each tick those of the one and behind them those of the other.
-use Rattle.std.proofs.Common.{◌≡◌, ℕ, ℤ, pos, zero, suc, ◌+ℤ◌, ◌≤ℤ◌, ◌<ℤ◌, inl, inr, List, [], ◌∷◌, ◌++◌, map, refl, ap, ap₂, sym, ◌∙◌, arith}
+use Rattle.std.proofs.Common.{◌≡◌, ℕ, ℤ, pos, suc, ◌+ℤ◌, ◌≤ℤ◌, ◌<ℤ◌, inl, inr, List, [], ◌∷◌, ◌++◌, map, ap, ap₂, sym, ◌∙◌, arith}
 use Rattle.std.proofs.lemmas.Bool.Decides.{Decides-int_eq}
 use Rattle.std.proofs.lemmas.Int.{ints}
 use Rattle.uplink_turns.specs.fragment_laws.specs.Apart.{IsIn}
 use Rattle.uplink_turns.specs.schedule_laws.proofs.OrderLemmas.{IsRising}
 use Rattle.uplink_turns.specs.unit_model.specs.Lists.{each_tick}
+use Rattle.uplink_turns.specs.plan_model.proofs.TickLemmas.{ticks_same}
 use Rattle.measured_traffic.proofs.ListLemmas.{at_key, none_then, with_first, without}
 
 -- ---- ticks that are gone over
-
-pub ticks_alike : {X : Type 0} (from : ℤ) (n : ℕ) (f g : ℤ → List X) → ((t : ℤ) → from ≤ℤ t → f t ≡ g t) → each_tick from n f ≡ each_tick from n g
-unfolding each_tick
-ticks_alike from zero f g same = refl
-ticks_alike from (suc n) f g same = ap₂ ◌++◌ (same from at_most) (ticks_alike (from +ℤ pos 1) n f g (λ t low. same t (before t low)))
-  where
-    at_most : from ≤ℤ from
-    at_most = omega (arith, ints)
-
-    before : (t : ℤ) → (from +ℤ pos 1) ≤ℤ t → from ≤ℤ t
-    before t low = omega (arith, ints, low)
 
 ahead : (a b t : ℤ) → a ≡ b → (b +ℤ pos 1) ≤ℤ t → a ≡ t → ⊥
 ahead a b t here low e = omega (arith, ints, here, low, e)
@@ -60,7 +50,7 @@ module _ {X Y : Type 0} (first : X → ℤ) (second : Y → ℤ) (as_first : Y �
   first_merged from n x xs ys here =
       ap₂ (λ (zs more : List X). (zs ++ map as_first (at_key second ys from)) ++ more)
       (with_first first from x xs ((Decides-int_eq (first x) from).1 here))
-      (ticks_alike (from +ℤ pos 1) n (merged (x ∷ xs) ys) (merged xs ys) (λ t low.
+      (ticks_same (from +ℤ pos 1) n (merged (x ∷ xs) ys) (merged xs ys) (λ t low.
       ap (λ (zs : List X). zs ++ map as_first (at_key second ys t)) (without first t x xs (ahead (first x) from t here low))))
 
   -- the first of the other comes, and none of the one
@@ -71,7 +61,7 @@ module _ {X Y : Type 0} (first : X → ℤ) (second : Y → ℤ) (as_first : Y �
       let more = each_tick (from +ℤ pos 1) n (merged xs ys) in
       ap₂ (λ (zs : List Y) (rest : List X). (at_key first xs from ++ map as_first zs) ++ rest)
       (with_first second from y ys ((Decides-int_eq (second y) from).1 here))
-      (ticks_alike (from +ℤ pos 1) n (merged xs (y ∷ ys)) (merged xs ys) (λ t low.
+      (ticks_same (from +ℤ pos 1) n (merged xs (y ∷ ys)) (merged xs ys) (λ t low.
       ap (λ (zs : List Y). at_key first xs t ++ map as_first zs) (without second t y ys (ahead (second y) from t here low))))
       ∙ ap (λ (zs : List X). (zs ++ (as_first y ∷ map as_first (at_key second ys from))) ++ more) none
       ∙ ap (λ (zs : List X). as_first y ∷ ((zs ++ map as_first (at_key second ys from)) ++ more)) (sym none)

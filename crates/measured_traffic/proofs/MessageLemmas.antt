@@ -14,8 +14,9 @@ use Rattle.uplink_turns.specs.replay_events.specs.Moments.{landing_at}
 use Rattle.uplink_turns.specs.unit_model.specs.Lists.{each_tick}
 use Rattle.uplink_turns.specs.unit_model.specs.Meetings.{Arrival}
 use Rattle.uplink_turns.specs.unit_model.specs.Radiated.{first_clock}
+use Rattle.uplink_turns.specs.plan_model.proofs.TickLemmas.{ticks_same}
 use Rattle.measured_traffic.proofs.FrameLemmas.{frames_are_read}
-use Rattle.measured_traffic.proofs.ListLemmas.{swept, ticks_flat, ticks_same}
+use Rattle.measured_traffic.proofs.ListLemmas.{swept, ticks_flat}
 use Rattle.measured_traffic.specs.Laws.{IsDelayMessage, MessagesLand}
 use Rattle.measured_traffic.proofs.AlikeLemmas.{lands_alike}
 use Rattle.measured_traffic.proofs.Apart.{all_sent, copies_flown, delayed_then, flight_copy, sent_then}
@@ -95,7 +96,7 @@ unfolding all_sent
 sent_tell t xs fs ticks none fit =
     let copies = λ (f : Flight). copies_at f.delays f.at f.message t in
     told_ticks t first_clock tick_count (sent_then xs fs)
-    ∙ ticks_same first_clock tick_count (λ s. told_at t (sent_then xs fs s)) (λ s. flat_map copies (flights_then fs s)) (λ s.
+    ∙ ticks_same first_clock tick_count (λ s. told_at t (sent_then xs fs s)) (λ s. flat_map copies (flights_then fs s)) (λ s low.
     told_append t (copies_among (delayed_then xs s)) (flat_map copies_flown (flights_then fs s))
     ∙ ap₂ (λ (ms more : List DelayMessage). ms ++ more)
     (all_tell_none t (delayed_then xs s) (All-filter (λ (x : Delayed). int_eq x.frame.at s) (λ (x : Delayed). delay_messages x.frame.frame ≡ []) xs none))

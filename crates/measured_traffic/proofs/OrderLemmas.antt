@@ -1,6 +1,7 @@
 -- All frames that leave for a unit leave at ticks that are gone over, those of class m in their order.
 use Rattle.std.proofs.Common.{◌≡◌, ℕ, ℤ, pos, zero, suc, ◌+ℤ◌, ◌≤ℤ◌, ◌<ℤ◌, inl, inr, List, [], ◌∷◌, ◌++◌, length, refl, ap, sym, ◌∙◌, subst, arith}
 use Rattle.std.proofs.lemmas.Int.{ints}
+use Rattle.std.specs.Int.Signed.{≤ℤ_refl}
 use Rattle.document_delays.specs.air_source.specs.declared.events.Side.{Side}
 use Rattle.document_delays.specs.air_source.specs.declared.events.Side.TheVariants.{Ru, Du}
 use Rattle.document_delays.specs.air_source.specs.declared.links.LinkFrame.{LinkFrame}
@@ -13,13 +14,14 @@ use Rattle.document_delays.specs.fh_document.specs.declared.document.Document.{D
 use Rattle.uplink_turns.specs.fragment_laws.specs.Apart.{IsIn}
 use Rattle.uplink_turns.specs.plan_model.specs.Sent.{SentFrame, frames_from, sent}
 use Rattle.uplink_turns.specs.plan_model.specs.declared.lines.PlannedLine.{PlannedLine}
-use Rattle.uplink_turns.specs.schedule_laws.proofs.ListLemmas.{in_all, in_either, of_map}
+use Rattle.uplink_turns.specs.schedule_laws.proofs.ListLemmas.{in_all, of_map}
 use Rattle.uplink_turns.specs.schedule_laws.proofs.OrderLemmas.{IsRising}
 use Rattle.document_traffic.specs.sent_order.proofs.KeptLemmas.{at_time, time_is}
 use Rattle.uplink_turns.specs.unit_model.specs.Radiated.{first_clock}
 use Rattle.uplink_turns.specs.uplink_model.proofs.SentLemmas.{leaving_leave_then}
 use Rattle.uplink_turns.specs.uplink_model.specs.Sent.{in_sent_order, leaving_at}
 use Rattle.document_delays.specs.window_config.specs.declared.config.Config.{Config}
+use Rattle.uplink_turns.specs.plan_model.proofs.ListLemmas.{in_either}
 use Rattle.measured_traffic.proofs.ListLemmas.{ticks_within}
 use Rattle.measured_traffic.specs.Measured.{tick_count}
 
@@ -56,9 +58,6 @@ pub record AreUpTo (first last : ℤ) (fs : List Flight) : Type 0 where
   pub rising : IsRising (λ (f : Flight). f.at) fs
   pub within : (f : Flight) → IsIn f fs → (first ≤ℤ f.at) × (f.at ≤ℤ last)
 
-same_tick : (t : ℤ) → t ≤ℤ t
-same_tick t = omega (arith, ints)
-
 rising_push : (fs : List Flight) (g : Flight) → IsRising (λ (f : Flight). f.at) fs → ((f : Flight) → IsIn f fs → f.at ≤ℤ g.at) → IsRising (λ (f : Flight). f.at) (fs ++ g ∷ [])
 rising_push [] g rising before = (λ y m. absurd m, tt)
 rising_push (f ∷ fs) g rising before = (
@@ -75,7 +74,7 @@ pushed first last fs g order at are = record {
   within = λ f m. elim (in_either f fs (g ∷ []) m) [
     | inl l ↦ are.within f l
     | inr r ↦ elim r [
-      | inl e ↦ subst (λ (t : ℤ). (first ≤ℤ t) × (t ≤ℤ last)) (sym (ap (λ (h : Flight). h.at) e ∙ at)) (order, same_tick last)
+      | inl e ↦ subst (λ (t : ℤ). (first ≤ℤ t) × (t ≤ℤ last)) (sym (ap (λ (h : Flight). h.at) e ∙ at)) (order, ≤ℤ_refl last)
       | inr t ↦ absurd t
     ]
   ];

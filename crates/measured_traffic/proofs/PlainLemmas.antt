@@ -1,16 +1,14 @@
 -- The frames of the classes c and u have no message of delay measurement.
-use Rattle.std.proofs.Common.{◌≡◌, ℕ, ◌+◌, ◌-◌, ◌*◌, ◌%◌, ◌<◌, ◌≤◌, ◌^◌, min, Bool, false, if◌then◌else◌, List, [], ◌++◌, length, refl, ap, sym, ◌∙◌, subst, arith}
+use Rattle.std.proofs.Common.{◌≡◌, ℕ, ◌+◌, ◌*◌, ◌%◌, ◌<◌, ◌^◌, min, Bool, false, if◌then◌else◌, List, [], ◌++◌, length, refl, ap, sym, ◌∙◌, subst, arith}
 use Rattle.std.specs.Prelude.{All, ◌==◌}
 use Rattle.std.specs.List.{flat_map}
 use Rattle.std.specs.Option.{option_to_list}
-use Rattle.std.proofs.lemmas.Nat.{mod_below}
 use Rattle.document_delays.specs.air_source.specs.declared.events.Side.{Side}
 use Rattle.document_delays.specs.air_source.specs.declared.events.Side.TheVariants.{Ru, Du}
 use Rattle.document_delays.specs.air_source.specs.declared.links.LinkFrame.{LinkFrame}
 use Rattle.document_traffic.proofs.AnswerLemmas.{jobs_proper, last_start, sent_is_handed}
 use Rattle.document_traffic.proofs.CopyLemmas.{delayed_is}
 use Rattle.document_traffic.proofs.LineLemmas.{lines_fit}
-use Rattle.document_traffic.proofs.TimeLemmas.{all_of}
 use Rattle.document_traffic.specs.Landing.{all_delayed, antenna_for, jobs_for, leaving_to, leaving_up}
 use Rattle.document_traffic.specs.Laws.{HasWidths}
 use Rattle.document_traffic.specs.Sending.{Delayed, Leaving, leaving_down, leaving_of, lines_of, none_sent, sent_for, source_for}
@@ -37,14 +35,17 @@ use Rattle.document_traffic.specs.sent_frames.specs.Commands.{command_head, comm
 use Rattle.document_traffic.specs.sent_frames.specs.Frames.{bytes_in, command_bytes, fragment_bytes, fragment_field}
 use Rattle.document_traffic.specs.sent_frames.specs.Messages.{message_bytes}
 use Rattle.document_traffic.specs.sent_laws.proofs.CommandRead.{one_whole}
-use Rattle.document_traffic.specs.sent_laws.proofs.Fragments.{few_pieces, piece_short}
-use Rattle.document_traffic.specs.sent_laws.proofs.SentRead.{command_short}
+use Rattle.document_traffic.specs.sent_laws.proofs.Fragments.{piece_short}
+use Rattle.document_traffic.specs.sent_laws.proofs.SentRead.{command_short, in_size, low_byte}
 use Rattle.uplink_turns.specs.unit_model.specs.Proper.{IsAt}
 use Rattle.uplink_turns.specs.unit_model.specs.declared.jobs.UplinkJob.{UplinkJob}
 use Rattle.uplink_turns.specs.uplink_model.specs.Frames.{fragment_bytes as answer_bytes, fragment_field as answer_field, message_bytes as answer_message}
 use Rattle.uplink_turns.specs.uplink_model.specs.Messages.{job_fields, messages_of}
 use Rattle.document_delays.specs.window_config.specs.declared.config.Config.{Config}
 use Rattle.document_delays.specs.window_config.specs.declared.endpoints.EndpointConfig.{EndpointConfig}
+use Rattle.uplink_turns.specs.plan_model.proofs.SizeLemmas.{few_pieces}
+use Rattle.uplink_turns.specs.plan_model.proofs.ListLemmas.{all_of}
+use Rattle.document_traffic.proofs.ShortLemmas.{short_cut}
 use Rattle.measured_traffic.proofs.AnswerLemmas.{IsPiece, messages_short, piece_is}
 use Rattle.measured_traffic.specs.Measured.{delay_messages, delays_of, read_as}
 
@@ -56,15 +57,6 @@ no_delays kind id seq application other t =
     let one = frame_is_one kind id seq application t in
     ap (λ (ms : List FrameMessage). flat_map delays_of ms) (one_whole kind id seq application frame one)
     ∙ ap (λ (b : Bool). (if b then option_to_list (read_as one.payload) else []) ++ []) other
-
-low_byte : (n : ℕ) → n % 256 < 2 ^ 8
-low_byte n = mod_below n 256 (omega arith)
-
-in_size : (n f : ℕ) → n ≤ f → f ≤ 9000 → 4 + n < 2 ^ 16
-in_size n f h k = omega (arith, h, k)
-
-short_cut : (n from fragment size len : ℕ) → n ≡ min (min (from + fragment) size) len - from → n ≤ fragment
-short_cut n from fragment size len h = omega (arith, h)
 
 module _ (d : Document) (is : IsDocument d) (valid : IsValid d.config d.plan) (widths : HasWidths d) where
   abbrev c : Config

@@ -15,11 +15,12 @@ use Rattle.document_delays.specs.fh_document.specs.Proper.{IsDocument}
 use Rattle.document_delays.specs.fh_document.specs.declared.document.Document.{Document}
 use Rattle.uplink_turns.specs.fragment_laws.specs.Apart.{IsIn}
 use Rattle.uplink_turns.specs.plan_model.specs.Valid.{IsValid}
-use Rattle.uplink_turns.specs.schedule_laws.proofs.ListLemmas.{in_either, of_filter, of_map, of_tick}
+use Rattle.uplink_turns.specs.schedule_laws.proofs.ListLemmas.{of_map, of_tick}
 use Rattle.uplink_turns.specs.unit_model.specs.Meetings.{Arrival}
 use Rattle.uplink_turns.specs.unit_model.specs.Radiated.{first_clock}
 use Rattle.uplink_turns.specs.unit_model.specs.Times.{end_of_time}
 use Rattle.document_delays.specs.window_config.specs.Windows.{ticks_of_ns}
+use Rattle.uplink_turns.specs.plan_model.proofs.ListLemmas.{in_either, of_filter}
 use Rattle.measured_traffic.proofs.FlightLemmas.{flown_after, flown_before}
 use Rattle.measured_traffic.specs.Laws.{LandingsAreReplayed}
 use Rattle.measured_traffic.proofs.AlikeLemmas.{lands_alike}

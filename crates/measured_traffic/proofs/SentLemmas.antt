@@ -19,8 +19,9 @@ use Rattle.uplink_turns.specs.unit_model.specs.Radiated.{first_clock}
 use Rattle.uplink_turns.specs.unit_model.specs.Times.{end_of_time}
 use Rattle.uplink_turns.specs.unit_model.specs.Uplink.{jobs}
 use Rattle.uplink_turns.specs.unit_model.specs.declared.allocations.Allocation.{Allocation}
+use Rattle.uplink_turns.specs.plan_model.proofs.TickLemmas.{ticks_same}
 use Rattle.measured_traffic.proofs.FrameLemmas.{only_delays}
-use Rattle.measured_traffic.proofs.ListLemmas.{filter_mapped, swept, ticks_filter, ticks_flat, ticks_same}
+use Rattle.measured_traffic.proofs.ListLemmas.{filter_mapped, swept, ticks_filter, ticks_flat}
 use Rattle.measured_traffic.proofs.RestLemmas.{landings_leave_the_same}
 use Rattle.measured_traffic.specs.Laws.{MeasurementRests, MessagesAreOwed}
 use Rattle.measured_traffic.proofs.Apart.{all_sent, copies_flown, delayed_then, flight_copy, landings_apart, sent_then}
@@ -51,7 +52,7 @@ copies_swept side d =
 
 pub none_flown : (xs : List Delayed) → all_sent xs [] ≡ each_tick first_clock tick_count (λ t. copies_among (delayed_then xs t))
 unfolding all_sent
-none_flown xs = ticks_same first_clock tick_count (sent_then xs []) (λ t. copies_among (delayed_then xs t)) (λ t. append-nil (copies_among (delayed_then xs t)))
+none_flown xs = ticks_same first_clock tick_count (sent_then xs []) (λ t. copies_among (delayed_then xs t)) (λ t low. append-nil (copies_among (delayed_then xs t)))
 
 landing_is : (side : Side) (d : Document) → copies_among (all_delayed side d) ++ injected_to side d ≡ landings_at side (planned_traffic d)
 landing_is Ru d = refl
@@ -89,7 +90,7 @@ unfolding all_sent
 sent_stays xs fs =
     let copies = λ (t : ℤ). copies_among (delayed_then xs t) in
     ticks_filter stays first_clock tick_count (sent_then xs fs)
-    ∙ ticks_same first_clock tick_count (λ t. filter stays (sent_then xs fs t)) (λ t. filter stays (copies t)) (λ t.
+    ∙ ticks_same first_clock tick_count (λ t. filter stays (sent_then xs fs t)) (λ t. filter stays (copies t)) (λ t low.
     filter-append stays (copies t) (flat_map copies_flown (flights_then fs t))
     ∙ ap (λ (ys : List Arrival). filter stays (copies t) ++ ys) (all_flown_left_out (flights_then fs t))
     ∙ append-nil (filter stays (copies t)))

@@ -4,6 +4,7 @@ use Rattle.std.specs.Prelude.{All, map}
 use Rattle.std.specs.Int.{int_gap}
 use Rattle.std.proofs.lemmas.Int.{ints}
 use Rattle.std.proofs.lemmas.List.Elements.{All-head, All-tail}
+use Rattle.std.specs.Int.Signed.{≤ℤ_refl}
 use Rattle.document_delays.specs.air_source.specs.declared.events.Side.{Side}
 use Rattle.document_delays.specs.air_source.specs.declared.events.Side.TheVariants.{Ru, Du}
 use Rattle.document_delays.specs.delay_laws.proofs.Quiet.{before}
@@ -15,11 +16,12 @@ use Rattle.document_delays.specs.Settings.{compensation_of, setting_of}
 use Rattle.document_traffic.specs.Laws.{IsReplayable}
 use Rattle.document_traffic.specs.Sending.{Leaving}
 use Rattle.document_delays.specs.fh_document.specs.declared.document.Document.{Document}
-use Rattle.uplink_turns.specs.replay_events.proofs.TickLemmas.{between, next_gap, same_most}
+use Rattle.uplink_turns.specs.replay_events.proofs.TickLemmas.{between, next_gap}
 use Rattle.uplink_turns.specs.replay_events.specs.Moments.{end_of_time, landing_at}
 use Rattle.uplink_turns.specs.unit_model.proofs.SweepLaws.{gap_is, gap_none, gap_parts}
 use Rattle.uplink_turns.specs.unit_model.specs.Meetings.{Arrival}
 use Rattle.uplink_turns.specs.unit_model.specs.Radiated.{first_clock}
+use Rattle.uplink_turns.specs.replay_events.specs.history_laws.proofs.TickLemmas.{at_most}
 use Rattle.measured_traffic.proofs.DistinctLemmas.{documents_are_distinct}
 use Rattle.measured_traffic.proofs.LaunchLemmas.{launched_then}
 use Rattle.measured_traffic.proofs.MessageLemmas.{messages_land}
@@ -54,7 +56,7 @@ none_left d side zero = ap (λ (x : Doings). x.made) (doings_zero d side)
 none_left d side (suc n) = ap (λ (x : Doings). x.made) (doings_next d side n ∙ after_is d side (first_clock +ℤ pos n) (doings_in d side n))
 
 pub doings_begin : DoingsBegin
-doings_begin d side = ap (doings_in d side) (gap_none first_clock first_clock (same_most first_clock)) ∙ doings_zero d side
+doings_begin d side = ap (doings_in d side) (gap_none first_clock first_clock (≤ℤ_refl first_clock)) ∙ doings_zero d side
 
 pub doings_go_on : DoingsGoOn
 doings_go_on d side t begun =
@@ -77,13 +79,10 @@ quiet_tick d side t x none calm made =
     ap (taken []) (told_nothing d side t x (landing_at (landings_for side d) t) none calm)
     ∙ ap (λ (ms : List (List ℕ)). taken ms x) (sym made)
 
-later : (first now t : ℤ) → first ≤ℤ now → now ≤ℤ t → first ≤ℤ t
-later first now t h k = omega (arith, ints, h, k)
-
 pub doings_wait : DoingsWait
 doings_wait d side now tick begun order quiet =
     between (λ (t : ℤ). doings_at d side t ≡ doings_at d side now) now tick order refl (λ t low high same.
-    doings_go_on d side t (later first_clock now t begun low)
+    doings_go_on d side t (at_most first_clock now t begun low)
     ∙ quiet_tick d side t (doings_at d side t) (quiet.begins side t low high) (quiet.calm side t low high) (none_left d side (int_gap first_clock t))
     ∙ same)
 
@@ -184,7 +183,7 @@ module _ (d : Document) (is : IsReplayable d) (told : ComesAsTold d) where
       let made = ap (λ (x : Doings). x.made) (told_nothing d by t (doings_at d by t) (landing_at (landings_for by d) t) (quiet.begins by t low high) (quiet.calm by t low high)) ∙ none_left d by (int_gap first_clock t) in
       ap (λ (s : Side). flights_then ((exchanges d).sent s) t) (sym (other_other side))
       ∙ map_none leaving_flight (flights_then ((exchanges d).sent (other by)) t)
-      (leaves_at by t (later first_clock now t begun low) (before_end t tick high ended) ∙ ap (map (leaving_made t)) made)
+      (leaves_at by t (at_most first_clock now t begun low) (before_end t tick high ended) ∙ ap (map (leaving_made t)) made)
 
 -- ---- of a document that may be replayed
 

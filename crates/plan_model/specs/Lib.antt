@@ -1,3 +1,4 @@
+pub use Rattle.fragment_laws
 pub use Rattle.unit_model
 pub mod Lines
 pub mod Validity

@@ -1,6 +1,6 @@
 -- The tests of the lines of a plan, one after the other (this project's profile; numbers of slots, symbols and PRBs are those of
 -- the endpoint, by 3GPP TS 38.211 and its configuration).
-use Rattle.std.specs.Prelude.{ℕ, ◌+◌, Bool, not, ◌&&◌, ◌||◌, ◌==◌, nat_lt, nat_le, if◌then◌else◌, List, [], ◌∷◌, ◌++◌, Option, Some, None}
+use Rattle.std.specs.Prelude.{ℕ, ◌+◌, ◌<◌, ◌^◌, Bool, not, ◌&&◌, ◌||◌, ◌==◌, nat_lt, nat_le, if◌then◌else◌, List, [], ◌∷◌, ◌++◌, Option, Some, None}
 use Rattle.std.specs.List.{list_any}
 use Rattle.std.specs.Option.{option_to_list, option_map}
 use Rattle.fh_time.specs.Carrier.{is_outside}
@@ -30,6 +30,13 @@ is_out_of_range e line =
 -- m numbers from a on and n from b on, neither of them none, have one in common
 abbrev pub meet : ℕ → ℕ → ℕ → ℕ → Bool
 meet a m b n = nat_lt a (b + n) && nat_lt b (a + m)
+
+-- it names a resource element
+pub record IsProper (a : Allocation) : Type 0 where
+  pub symbols : 0 < a.num_symbol
+  pub prbs : 0 < prb_count a
+  pub mask : 0 < a.mask
+  pub twelve : a.mask < 2 ^ 12
 
 -- they share a cell: a PRB in a symbol, of one endpoint and direction
 abbrev pub share_cell : Allocation → Allocation → Bool

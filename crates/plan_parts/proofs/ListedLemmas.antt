@@ -1,37 +1,39 @@
 -- The parts of one symbol among those that are listed line by line.
-use Rattle.std.proofs.Common.{◌*◌, ◌≡◌, ℕ, ℤ, zero, suc, ◌+◌, ◌<◌, ◌≤◌, ◌⊎◌, inl, inr, Bool, true, false, ◌&&◌, ◌==◌, if◌then◌else◌, List, [], ◌∷◌, ◌++◌, length, filter, map, get_or, drop, drop-cons, append_assoc, refl, ap, ap₂, sym, ◌∙◌, subst, arith}
+use Rattle.std.proofs.Common.{◌*◌, ◌≡◌, ℕ, ℤ, zero, suc, ◌+◌, ◌<◌, ◌≤◌, inl, inr, Bool, true, false, ◌&&◌, ◌==◌, if◌then◌else◌, List, [], ◌∷◌, ◌++◌, length, filter, map, get_or, drop, drop-cons, append_assoc, refl, ap, ap₂, sym, ◌∙◌, subst, arith}
 use Rattle.std.specs.Ordering.{int_eq}
 use Rattle.std.proofs.lemmas.Bool.{cases_Bool, cases_eq, eq-eqb, ne_eqb, eqb-true, and_parts}
 use Rattle.std.proofs.lemmas.Bool.Decides.{nat_tests}
 use Rattle.std.proofs.lemmas.List.{map-append, append-nil, drop_all, length-append}
+use Rattle.std.proofs.lemmas.List.Elements.{filter-append}
 use Rattle.fh_time.specs.Numbering.{symbols_of}
 use Rattle.window_config.specs.Endpoints.{IsEndpoint}
 use Rattle.unit_laws.specs.unit_model.specs.Proper.{IsSlot}
 use Rattle.unit_laws.specs.unit_model.proofs.SweepLaws.{each_split}
 use Rattle.plan_model.specs.declared.streams.Stream.{Stream}
 use Rattle.plan_model.specs.declared.streams.Stream.TheVariants.{DownCommands, UpCommands, DownData, UpData}
-use Rattle.plan_parts.specs.Placing.{ArePlaced, IsIn}
+use Rattle.plan_parts.specs.Placing.{ArePlaced}
 use Rattle.plan_parts.proofs.InsideLemmas.{inside_is, slot_inside}
 use Rattle.plan_parts.proofs.InsideLemmas.{slot_inside}
 use Rattle.unit_laws.specs.unit_model.specs.Claims.{is_from}
 use Rattle.unit_laws.specs.unit_model.specs.Lists.{each}
 use Rattle.unit_laws.specs.unit_model.specs.Sweeps.{slot_at}
+use Rattle.plan_model.specs.fragment_laws.specs.Apart.{IsIn}
 use Rattle.plan_model.specs.Lines.{allocation_of}
 use Rattle.plan_model.specs.Streams.{Part, part_in, has_part}
 use Rattle.plan_model.specs.declared.lines.PlannedLine.{PlannedLine}
+use Rattle.plan_model.proofs.ListLemmas.{in_either}
 use Rattle.plan_parts.specs.Parts.{symbols_in, timed, has_stream, is_sent, line_parts, listed}
 use Rattle.plan_parts.specs.Sweeping.{is_at}
 use Rattle.plan_parts.specs.declared.parts.TimedPart.{TimedPart}
-use Rattle.plan_parts.proofs.ListLemmas.{filter_append}
 
 -- the tests of the slot, as one
 slot_test : ℤ → ℕ → ℕ → PlannedLine → Bool
 slot_test f b l p = int_eq p.line.slot.frame f && ((p.line.slot.subframe == b) && (p.line.slot.slot == l))
 
-apart : (a b c d : Bool) → (a && (b && (c && d))) ≡ ((a && (b && c)) && d)
-apart true true c d = refl
-apart true false c d = refl
-apart false b c d = refl
+pub last_apart : (a b c d : Bool) → (a && (b && (c && d))) ≡ ((a && (b && c)) && d)
+last_apart true true c d = refl
+last_apart true false c d = refl
+last_apart false b c d = refl
 
 none_from : (from y : ℕ) → is_from from 0 y ≡ false
 none_from from y = grind (arith, nat_tests)
@@ -70,7 +72,7 @@ one_line stream p f b l y from (suc n) = elim (cases_eq from y) [
     whole = filter (is_at f b l y) (map (timed stream) (each (from + 1) n (λ z. part_in z p ∷ [])))
 
     at_here : from ≡ y → is_at f b l y (timed stream (part_in from p)) ≡ slot_test f b l p
-    at_here e = apart (int_eq p.line.slot.frame f) (p.line.slot.subframe == b) (p.line.slot.slot == l) (from == y)
+    at_here e = last_apart (int_eq p.line.slot.frame f) (p.line.slot.subframe == b) (p.line.slot.slot == l) (from == y)
         ∙ ap (λ (t : Bool). slot_test f b l p && t) (eq-eqb from y e) ∙ and_true (slot_test f b l p)
       where
         and_true : (s : Bool) → (s && true) ≡ s
@@ -78,7 +80,7 @@ one_line stream p f b l y from (suc n) = elim (cases_eq from y) [
         and_true false = refl
 
     at_other : (from ≡ y → ⊥) → is_at f b l y (timed stream (part_in from p)) ≡ false
-    at_other ne = apart (int_eq p.line.slot.frame f) (p.line.slot.subframe == b) (p.line.slot.slot == l) (from == y)
+    at_other ne = last_apart (int_eq p.line.slot.frame f) (p.line.slot.subframe == b) (p.line.slot.slot == l) (from == y)
         ∙ ap (λ (t : Bool). slot_test f b l p && t) (ne_eqb from y ne) ∙ and_false (slot_test f b l p)
       where
         and_false : (s : Bool) → (s && false) ≡ false
@@ -124,7 +126,7 @@ unfolding listed
 listed_at stream ep [] f b l y = refl
 listed_at stream ep (p ∷ ps) f b l y =
     ap (filter (is_at f b l y)) (map-append (timed stream) (own (is_sent stream ep p)) (listed stream ep ps))
-    ∙ filter_append (is_at f b l y) (map (timed stream) (own (is_sent stream ep p))) (map (timed stream) (listed stream ep ps))
+    ∙ filter-append (is_at f b l y) (map (timed stream) (own (is_sent stream ep p))) (map (timed stream) (listed stream ep ps))
     ∙ ap₂ (λ (xs ys : List TimedPart). xs ++ ys) (first (is_sent stream ep p)) (listed_at stream ep ps f b l y)
     ∙ joined (is_sent stream ep p && (slot_test f b l p && is_from p.line.symbol (symbols_in stream p) y))
     (has_part stream ep (slot_at f b l) y (allocation_of p)) (test_is stream ep p f b l y)
@@ -156,13 +158,6 @@ pub record Named (stream : Stream) (ep : ℕ) (ps : List PlannedLine) (x : Timed
   pub high : symbol < line.line.symbol + symbols_in stream line
   pub is : x ≡ timed stream (part_in symbol line)
 
-in_append : {X : Type 0} (x : X) (xs ys : List X) → IsIn x (xs ++ ys) → IsIn x xs ⊎ IsIn x ys
-in_append x [] ys m = inr m
-in_append x (z ∷ xs) ys m = elim m [
-  | inl here ↦ inl (inl here)
-  | inr there ↦ elim (in_append x xs ys there) [ inl a ↦ inl (inr a) | inr b ↦ inr b ]
-]
-
 in_line : (stream : Stream) (p : PlannedLine) (x : TimedPart) (from n : ℕ) → IsIn x (map (timed stream) (each from n (λ z. part_in z p ∷ [])))
     → (y : ℕ) × (from ≤ y) × (y < from + n) × (x ≡ timed stream (part_in y p))
 unfolding each
@@ -182,7 +177,7 @@ named_is stream ep (p ∷ ps) x m = go (is_sent stream ep p) refl m (named_is st
 
     go : (t : Bool) → is_sent stream ep p ≡ t → IsIn x (map (timed stream) ((let xs : List Part = if t then line_parts stream p else [] in xs) ++ listed stream ep ps))
         → (IsIn x (map (timed stream) (listed stream ep ps)) → Named stream ep ps x) → Named stream ep (p ∷ ps) x
-    go true e n rest = elim (in_append x (map (timed stream) (line_parts stream p)) (map (timed stream) (listed stream ep ps)) (subst (IsIn x) (map-append (timed stream) (line_parts stream p) (listed stream ep ps)) n)) [
+    go true e n rest = elim (in_either x (map (timed stream) (line_parts stream p)) (map (timed stream) (listed stream ep ps)) (subst (IsIn x) (map-append (timed stream) (line_parts stream p) (listed stream ep ps)) n)) [
       | inl own ↦
           let r = in_line stream p x p.line.symbol (symbols_in stream p) own in
           record { line = p; there = inl refl; ep_is = eqb-true p.ep ep (and_parts (has_stream stream (allocation_of p)) (p.ep == ep) e).1; symbol = r.0; low = r.1; high = r.2; is = r.3 }

@@ -1,14 +1,15 @@
 -- Lists in order, stable orders, and when two such lists are the same.
-use Rattle.std.proofs.Common.{◌≡◌, ℕ, suc, ◌+◌, inl, inr, Bool, true, false, not, if◌then◌else◌, List, [], ◌∷◌, filter, map, get_or, refl, ap, ap₂, sym, ◌∙◌, subst, true≢false, arith}
+use Rattle.std.proofs.Common.{◌≡◌, ℕ, suc, ◌+◌, inl, inr, Bool, true, false, not, if◌then◌else◌, List, [], ◌∷◌, filter, get_or, refl, ap, ap₂, sym, ◌∙◌, subst, true≢false, arith}
 use Rattle.std.specs.List.{AllByRecursion}
 use Rattle.std.specs.List.Sorted.{IsSortedBy, ties}
 use Rattle.std.specs.Cmp.{IsStrictWeakOrder}
-use Rattle.std.proofs.lemmas.Bool.{cases_Bool, and_from, and_parts}
+use Rattle.std.proofs.lemmas.Bool.{and_from, and_parts}
 use Rattle.std.proofs.lemmas.List.Sorted.{sorted_far}
 use Rattle.unit_laws.specs.unit_model.specs.Lists.{put_in, in_order}
+use Rattle.plan_model.specs.fragment_laws.specs.Apart.{IsIn}
+use Rattle.plan_model.proofs.ListLemmas.{of_filter, in_filter, all_in, all_from, own_tie, kept_first}
 use Rattle.plan_parts.specs.Parts.{AreOrderedBy}
-use Rattle.plan_parts.specs.Placing.{IsIn}
-use Rattle.plan_parts.proofs.ListLemmas.{filter_in, in_filter, all_in, all_from, all_index}
+use Rattle.plan_parts.proofs.ListLemmas.{all_index}
 
 pub ordered_from : {X : Type 0} (lt : X → X → Bool) → IsStrictWeakOrder lt → (xs : List X) → IsSortedBy lt xs → AreOrderedBy lt xs
 ordered_from lt o [] h = tt
@@ -20,7 +21,7 @@ ordered_from lt o (p ∷ ps) h = (
 )
 
 filter_keeps : {X : Type 0} (P : X → Type 0) (t : X → Bool) (xs : List X) → AllByRecursion P xs → AllByRecursion P (filter t xs)
-filter_keeps P t xs all = all_from P (filter t xs) (λ x m. all_in P xs x all (in_filter t xs x m).0)
+filter_keeps P t xs all = all_from P (filter t xs) (λ x m. all_in P xs x all (of_filter t x xs m).0)
 
 pub ordered_filter : {X : Type 0} (lt : X → X → Bool) (t : X → Bool) (xs : List X) → AreOrderedBy lt xs → AreOrderedBy lt (filter t xs)
 ordered_filter lt t [] h = tt
@@ -41,15 +42,6 @@ ordered_weaker a b P h (x ∷ xs) all o = (all_from (λ q. b q x ≡ false) xs (
 not_is : (b : Bool) → b ≡ false → not b ≡ true
 not_is b e = ap not e
 
-tied_own : {X : Type 0} (lt : X → X → Bool) → IsStrictWeakOrder lt → (x : X) → ties lt x x ≡ true
-tied_own lt o x = elim (cases_Bool (lt x x)) [
-  | inl t ↦ absurd (true≢false (sym t ∙ o.one_way x x t))
-  | inr f ↦ and_from (not (lt x x)) _ (not_is _ f) (not_is _ f)
-]
-
-kept_first : {X : Type 0} (t : X → Bool) (x : X) (xs : List X) → t x ≡ true → filter t (x ∷ xs) ≡ x ∷ filter t xs
-kept_first {X = X} t x xs e = ap (λ (b : Bool). let ys : List X = if b then x ∷ filter t xs else filter t xs in ys) e
-
 cons_first : {X : Type 0} (x y : X) (xs ys : List X) → x ∷ xs ≡ y ∷ ys → (x ≡ y) × (xs ≡ ys)
 cons_first x y xs ys h = (cc, cc)
 
@@ -63,14 +55,14 @@ first_behind lt x y ys all own m = elim m [
 pub ordered_same : {X : Type 0} (lt : X → X → Bool) → IsStrictWeakOrder lt → (xs ys : List X) → AreOrderedBy lt xs → AreOrderedBy lt ys
     → ((x : X) → filter (ties lt x) xs ≡ filter (ties lt x) ys) → xs ≡ ys
 ordered_same lt o [] [] a b same = refl
-ordered_same lt o [] (y ∷ ys) a b same = (let e = same y ∙ kept_first (ties lt y) y ys (tied_own lt o y) in cc)
-ordered_same lt o (x ∷ xs) [] a b same = (let e = sym (kept_first (ties lt x) x xs (tied_own lt o x)) ∙ same x in cc)
+ordered_same lt o [] (y ∷ ys) a b same = (let e = same y ∙ kept_first (ties lt y) y ys (own_tie lt o y) in cc)
+ordered_same lt o (x ∷ xs) [] a b same = (let e = sym (kept_first (ties lt x) x xs (own_tie lt o x)) ∙ same x in cc)
 ordered_same {X = X} lt o (x ∷ xs) (y ∷ ys) a b same =
-    let own = λ (z : X). off (lt z z) (and_parts (not (lt z z)) _ (tied_own lt o z)).0 in
-    let x_in : IsIn x (y ∷ ys) = (in_filter (ties lt x) (y ∷ ys) x (subst (IsIn x) (same x) (filter_in (ties lt x) (x ∷ xs) x (inl refl) (tied_own lt o x)))).0 in
-    let y_in : IsIn y (x ∷ xs) = (in_filter (ties lt y) (x ∷ xs) y (subst (IsIn y) (sym (same y)) (filter_in (ties lt y) (y ∷ ys) y (inl refl) (tied_own lt o y)))).0 in
+    let own = λ (z : X). off (lt z z) (and_parts (not (lt z z)) _ (own_tie lt o z)).0 in
+    let x_in : IsIn x (y ∷ ys) = (of_filter (ties lt x) x (y ∷ ys) (subst (IsIn x) (same x) (in_filter (ties lt x) x (x ∷ xs) (inl refl) (own_tie lt o x)))).0 in
+    let y_in : IsIn y (x ∷ xs) = (of_filter (ties lt y) y (x ∷ xs) (subst (IsIn y) (sym (same y)) (in_filter (ties lt y) y (y ∷ ys) (inl refl) (own_tie lt o y)))).0 in
     let tied : ties lt x y ≡ true = and_from (not (lt x y)) _ (not_is _ (first_behind lt x y ys b.0 (own y) x_in)) (not_is _ (first_behind lt y x xs a.0 (own x) y_in)) in
-    let heads = cons_first x y (filter (ties lt x) xs) (filter (ties lt x) ys) (sym (kept_first (ties lt x) x xs (tied_own lt o x)) ∙ same x ∙ kept_first (ties lt x) y ys tied) in
+    let heads = cons_first x y (filter (ties lt x) xs) (filter (ties lt x) ys) (sym (kept_first (ties lt x) x xs (own_tie lt o x)) ∙ same x ∙ kept_first (ties lt x) y ys tied) in
     ap₂ (λ (z : X) (zs : List X). z ∷ zs) heads.0 (ordered_same lt o xs ys a.1 b.1 (λ z. tail z (ties lt z x) refl heads.0 (same z)))
   where
     off : (c : Bool) → not c ≡ true → c ≡ false
@@ -130,12 +122,3 @@ unfolding in_order
 in_order_keeps below t h [] = refl
 in_order_keeps {X = X} below t h (x ∷ xs) =
     put_keeps below t h x (in_order below xs) ∙ ap (λ (ys : List X). let zs : List X = if t x then x ∷ ys else ys in zs) (in_order_keeps below t h xs)
-
-pub filter_map : {X Y : Type 0} (f : X → Y) (t : Y → Bool) (xs : List X) → filter t (map f xs) ≡ map f (filter (λ x. t (f x)) xs)
-filter_map f t [] = refl
-filter_map {X = X} {Y = Y} f t (x ∷ xs) = go (t (f x)) (filter_map f t xs)
-  where
-    go : (b : Bool) → filter t (map f xs) ≡ map f (filter (λ z. t (f z)) xs)
-        → (let ys : List Y = if b then f x ∷ filter t (map f xs) else filter t (map f xs) in ys) ≡ map f (let us : List X = if b then x ∷ filter (λ z. t (f z)) xs else filter (λ z. t (f z)) xs in us)
-    go true r = ap (λ (ys : List Y). f x ∷ ys) r
-    go false r = r

@@ -3,7 +3,7 @@ use Rattle.std.proofs.Common.{◌≤◌, length, ◌≡◌, ℕ, ℤ, pos, neg_�
 use Rattle.std.specs.Int.{int_gap}
 use Rattle.std.specs.List.{AllByRecursion}
 use Rattle.std.specs.List.Sorted.{IsStableBy, ties}
-use Rattle.std.specs.Cmp.{IsTotalOrder, IsStrictWeakOrder}
+use Rattle.std.specs.Cmp.{IsTotalOrder, IsStrictWeakOrder, both_ways}
 use Rattle.std.specs.Ordering.{nat_cmp, int_cmp, int_eq, is_lt, ordering_reverse, ordering_then}
 use Rattle.std.specs.declared.cmp.Ordering.{Ordering}
 use Rattle.std.specs.declared.cmp.Ordering.TheVariants.{Less, Equal, Greater}
@@ -24,19 +24,22 @@ use Rattle.unit_laws.specs.unit_model.specs.Sweeps.{slot_at, first_swept, of_slo
 use Rattle.unit_laws.specs.unit_model.specs.Times.{end_of_time}
 use Rattle.unit_laws.specs.unit_model.proofs.SweepLaws.{gap_is}
 use Rattle.unit_laws.proofs.FrameLemmas.{frames_of_symbol, symbol_short}
+use Rattle.plan_model.specs.fragment_laws.specs.Apart.{IsIn}
 use Rattle.plan_model.specs.Lines.{allocation_of}
 use Rattle.plan_model.specs.Streams.{part_in, has_part, line_before, symbol_parts, parts_in}
 use Rattle.plan_model.specs.declared.lines.PlannedLine.{PlannedLine}
 use Rattle.plan_model.specs.declared.streams.Stream.{Stream}
 use Rattle.plan_model.specs.declared.streams.Stream.TheVariants.{DownCommands, UpCommands, DownData, UpData}
-use Rattle.plan_parts.specs.Placing.{ArePlaced, IsIn}
+use Rattle.plan_model.proofs.ListLemmas.{of_filter, in_filter, all_in, all_from, all_map, filter_all, filter_mapped}
+use Rattle.plan_model.proofs.TickLemmas.{nat_same, int_same}
+use Rattle.plan_parts.specs.Placing.{ArePlaced}
 use Rattle.plan_parts.specs.Parts.{is_up_data, symbols_in, if_up, timed, listed, prb_cmp, part_cmp, part_first, AreOrderedBy, HasEndpoint, IsTimed}
 use Rattle.plan_parts.specs.Sweeping.{clock_of, is_at, of_endpoint, IsPart, Precedes, AreOrdered}
 use Rattle.plan_parts.specs.declared.parts.TimedPart.{TimedPart}
-use Rattle.plan_parts.proofs.ListLemmas.{filter_in, in_filter, same_tests, all_in, all_from, all_map, filter_all, filter_and}
+use Rattle.plan_parts.proofs.ListLemmas.{filter_and}
 use Rattle.plan_parts.proofs.InsideLemmas.{inside_is, size_small}
 use Rattle.plan_parts.proofs.ListedLemmas.{Named, named_is, listed_at, listed_few, few_symbols}
-use Rattle.plan_parts.proofs.OrderedLemmas.{ordered_filter, ordered_weaker, ordered_same, in_order_ordered, in_order_keeps, filter_map}
+use Rattle.plan_parts.proofs.OrderedLemmas.{ordered_filter, ordered_weaker, ordered_same, in_order_ordered, in_order_keeps}
 use Rattle.plan_parts.proofs.OrderLemmas.{nat_equal, int_equal, then_equal}
 use Rattle.plan_parts.proofs.SymbolLemmas.{filter_alike, sweeps_find_all}
 
@@ -204,12 +207,6 @@ at_symbol e f b l y x = record {
   line = 0;
 }
 
-nat_tied : (a b : ℕ) → a ≡ b → nat_cmp a b ≡ Equal
-nat_tied a b e = ap (nat_cmp a) (sym e) ∙ tied_itself nat_cmp_total a
-
-int_tied : (a b : ℤ) → a ≡ b → int_cmp a b ≡ Equal
-int_tied a b e = ap (int_cmp a) (sym e) ∙ tied_itself int_cmp_total a
-
 pub record AtSymbol (f : ℤ) (b l y : ℕ) (z : TimedPart) : Type 0 where
   pub frame : z.frame ≡ f
   pub subframe : z.subframe ≡ b
@@ -237,11 +234,11 @@ start_at e stream f b l y z fact a =
 -- of one symbol the order of PRBs alone decides
 one_symbol : (x z : TimedPart) → x.start.0 ≡ z.start.0 → x.frame ≡ z.frame → x.subframe ≡ z.subframe → x.slot ≡ z.slot → x.symbol ≡ z.symbol → part_cmp x z ≡ prb_cmp x z
 one_symbol x z s f b l y =
-    ap (λ (o : Ordering). ordering_then o (ordering_then (int_cmp x.frame z.frame) (ordering_then (nat_cmp x.subframe z.subframe) (ordering_then (nat_cmp x.slot z.slot) (ordering_then (nat_cmp x.symbol z.symbol) (prb_cmp x z)))))) (int_tied x.start.0 z.start.0 s)
-    ∙ ap (λ (o : Ordering). ordering_then o (ordering_then (nat_cmp x.subframe z.subframe) (ordering_then (nat_cmp x.slot z.slot) (ordering_then (nat_cmp x.symbol z.symbol) (prb_cmp x z))))) (int_tied x.frame z.frame f)
-    ∙ ap (λ (o : Ordering). ordering_then o (ordering_then (nat_cmp x.slot z.slot) (ordering_then (nat_cmp x.symbol z.symbol) (prb_cmp x z)))) (nat_tied x.subframe z.subframe b)
-    ∙ ap (λ (o : Ordering). ordering_then o (ordering_then (nat_cmp x.symbol z.symbol) (prb_cmp x z))) (nat_tied x.slot z.slot l)
-    ∙ ap (λ (o : Ordering). ordering_then o (prb_cmp x z)) (nat_tied x.symbol z.symbol y)
+    ap (λ (o : Ordering). ordering_then o (ordering_then (int_cmp x.frame z.frame) (ordering_then (nat_cmp x.subframe z.subframe) (ordering_then (nat_cmp x.slot z.slot) (ordering_then (nat_cmp x.symbol z.symbol) (prb_cmp x z)))))) (int_same x.start.0 z.start.0 s)
+    ∙ ap (λ (o : Ordering). ordering_then o (ordering_then (nat_cmp x.subframe z.subframe) (ordering_then (nat_cmp x.slot z.slot) (ordering_then (nat_cmp x.symbol z.symbol) (prb_cmp x z))))) (int_same x.frame z.frame f)
+    ∙ ap (λ (o : Ordering). ordering_then o (ordering_then (nat_cmp x.slot z.slot) (ordering_then (nat_cmp x.symbol z.symbol) (prb_cmp x z)))) (nat_same x.subframe z.subframe b)
+    ∙ ap (λ (o : Ordering). ordering_then o (ordering_then (nat_cmp x.symbol z.symbol) (prb_cmp x z))) (nat_same x.slot z.slot l)
+    ∙ ap (λ (o : Ordering). ordering_then o (prb_cmp x z)) (nat_same x.symbol z.symbol y)
 
 same_place : (x z : TimedPart) → part_cmp x z ≡ Equal → (x.frame ≡ z.frame) × (x.subframe ≡ z.subframe) × (x.slot ≡ z.slot) × (x.symbol ≡ z.symbol) × (prb_cmp x z ≡ Equal)
 same_place x z h =
@@ -255,7 +252,7 @@ same_place x z h =
 tie_parts : (stream : Stream) (e : EndpointConfig) (f : ℤ) (b l y : ℕ) (x z : TimedPart) → Fact stream e z
     → ties part_first (at_symbol e f b l y x) z ≡ (ties prb_first x z && is_at f b l y z)
 unfolding at_symbol
-tie_parts stream e f b l y x z fact = same_tests _ _
+tie_parts stream e f b l y x z fact = both_ways _ _
     (λ h. let s = same_place (at_symbol e f b l y x) z (tied_equal part_total (at_symbol e f b l y x) z h) in
     and_from (ties prb_first x z) _ (equal_tied prb_total x z s.4)
     (from_parts f b l y z (record { frame = sym s.0; subframe = sym s.1; slot = sym s.2; symbol = sym s.3 })))
@@ -319,8 +316,8 @@ module _ (stream : Stream) (e : EndpointConfig) (ep : ℕ) (lines : List Planned
   y_facts : AllByRecursion (Fact stream e) ys
   unfolding xs
   y_facts = all_from (Fact stream e) ys (λ y m.
-      let there : IsIn y (filter (ties part_first y) ys) = filter_in (ties part_first y) ys y m (equal_tied part_total y y (tied_itself part_total y)) in
-      all_in (Fact stream e) (map (timed stream) (listed stream ep lines)) y x_facts (in_filter (ties part_first y) (map (timed stream) (listed stream ep lines)) y (subst (IsIn y) (stable y) there)).0)
+      let there : IsIn y (filter (ties part_first y) ys) = in_filter (ties part_first y) y ys m (equal_tied part_total y y (tied_itself part_total y)) in
+      all_in (Fact stream e) (map (timed stream) (listed stream ep lines)) y x_facts (of_filter (ties part_first y) y (map (timed stream) (listed stream ep lines)) (subst (IsIn y) (stable y) there)).0)
 
   symbol_stable : (f : ℤ) (b l y : ℕ) (x : TimedPart) → filter (ties prb_first x) (filter (is_at f b l y) ys) ≡ filter (ties prb_first x) (filter (is_at f b l y) xs)
   unfolding xs
@@ -338,7 +335,7 @@ module _ (stream : Stream) (e : EndpointConfig) (ep : ℕ) (lines : List Planned
       sym (ap (λ (o : Ordering). is_lt o) (one_symbol w z (start_at e stream f b l y w c.0 q ∙ sym (start_at e stream f b l y z a.0 p)) (q.frame ∙ sym p.frame) (q.subframe ∙ sym p.subframe)
       (q.slot ∙ sym p.slot) (q.symbol ∙ sym p.symbol))) ∙ h)
       (filter (is_at f b l y) ys)
-      (all_from (λ z. Fact stream e z × (is_at f b l y z ≡ true)) (filter (is_at f b l y) ys) (λ z m. let r = in_filter (is_at f b l y) ys z m in (all_in (Fact stream e) ys z y_facts r.0, r.1)))
+      (all_from (λ z. Fact stream e z × (is_at f b l y z ≡ true)) (filter (is_at f b l y) ys) (λ z m. let r = of_filter (is_at f b l y) z ys m in (all_in (Fact stream e) ys z y_facts r.0, r.1)))
       (ordered_filter part_first (is_at f b l y) ys order)
 
 abbrev zero_part : TimedPart
@@ -348,8 +345,8 @@ zero_tied : (stream : Stream) (e : EndpointConfig) (z : TimedPart) → is_up_dat
 zero_tied stream e z plain fact =
     let p = fact.plain plain in
     equal_tied prb_total zero_part z
-    (ap (λ (o : Ordering). ordering_then o (ordering_then (nat_cmp 0 z.num_prb) (nat_cmp 0 z.section))) (nat_tied 0 z.start_prb (sym p.0))
-    ∙ ap (λ (o : Ordering). ordering_then o (nat_cmp 0 z.section)) (nat_tied 0 z.num_prb (sym p.1)) ∙ nat_tied 0 z.section (sym p.2))
+    (ap (λ (o : Ordering). ordering_then o (ordering_then (nat_cmp 0 z.num_prb) (nat_cmp 0 z.section))) (nat_same 0 z.start_prb (sym p.0))
+    ∙ ap (λ (o : Ordering). ordering_then o (nat_cmp 0 z.section)) (nat_same 0 z.num_prb (sym p.1)) ∙ nat_same 0 z.section (sym p.2))
 
 map_twice : (stream : Stream) (y : ℕ) (ps : List PlannedLine) → map (timed stream) (map (part_in y) ps) ≡ map (λ p. timed stream (part_in y p)) ps
 map_twice stream y [] = refl
@@ -363,7 +360,7 @@ unfolding xs
 plain_symbol stream plain e ep lines ys stable order placed ends f b l y =
     let all = λ (zs : List TimedPart) (facts : AllByRecursion (Fact stream e) zs).
     filter_all (ties prb_first zero_part) (filter (is_at f b l y) zs)
-    (all_from (λ z. ties prb_first zero_part z ≡ true) (filter (is_at f b l y) zs) (λ z m. zero_tied stream e z plain (all_in (Fact stream e) zs z facts (in_filter (is_at f b l y) zs z m).0))) in
+    (all_from (λ z. ties prb_first zero_part z ≡ true) (filter (is_at f b l y) zs) (λ z m. zero_tied stream e z plain (all_in (Fact stream e) zs z facts (of_filter (is_at f b l y) z zs m).0))) in
     sym (all ys (y_facts stream e ep lines ys stable order placed ends))
     ∙ symbol_stable stream e ep lines ys stable order placed ends f b l y zero_part
     ∙ all (map (timed stream) (listed stream ep lines)) (x_facts stream e ep lines ys stable order placed ends)
@@ -385,11 +382,11 @@ symbol_is UpData e ep lines ys stable order placed ends f b l y =
     (λ x.
     symbol_stable UpData e ep lines ys stable order placed ends f b l y x
     ∙ ap (filter (ties prb_first x)) (listed_at UpData ep lines f b l y)
-    ∙ filter_map (λ p. timed UpData (part_in y p)) (ties prb_first x) fs
+    ∙ filter_mapped (λ p. timed UpData (part_in y p)) (ties prb_first x) fs
     ∙ ap (map (λ p. timed UpData (part_in y p)))
     (sym (in_order_keeps line_before (λ p. ties prb_first x (timed UpData (part_in y p)))
     (λ p q h g. before_is p q y ∙ none_first x (timed UpData (part_in y p)) (timed UpData (part_in y q)) h g) fs))
-    ∙ sym (filter_map (λ p. timed UpData (part_in y p)) (ties prb_first x) (in_order line_before fs)))
+    ∙ sym (filter_mapped (λ p. timed UpData (part_in y p)) (ties prb_first x) (in_order line_before fs)))
     ∙ sym (map_twice UpData y (in_order line_before fs))
 
 -- ---- the sweep
@@ -434,8 +431,8 @@ bounded t low high =
 
 pub all_timed : (stream : Stream) (ep : ℕ) (lines : List PlannedLine) (ys : List TimedPart) → IsStableBy part_first (map (timed stream) (listed stream ep lines)) ys → ArePlaced lines → AllByRecursion IsTimed ys
 all_timed stream ep lines ys stable placed = all_from IsTimed ys (λ y m.
-    let there : IsIn y (filter (ties part_first y) ys) = filter_in (ties part_first y) ys y m (equal_tied part_total y y (tied_itself part_total y)) in
-    let n = named_is stream ep lines y (in_filter (ties part_first y) (map (timed stream) (listed stream ep lines)) y (subst (IsIn y) (stable y) there)).0 in
+    let there : IsIn y (filter (ties part_first y) ys) = in_filter (ties part_first y) y ys m (equal_tied part_total y y (tied_itself part_total y)) in
+    let n = named_is stream ep lines y (of_filter (ties part_first y) y (map (timed stream) (listed stream ep lines)) (subst (IsIn y) (stable y) there)).0 in
     let fact = fact_is stream ep lines n.line.endpoint placed (λ p k e. placed.same p n.line k n.there (e ∙ sym n.ep_is)) y n in
     let b = bounded y.start.0 fact.part.begun fact.part.ended in
     record {
@@ -461,6 +458,6 @@ few_parts stream ep lines xs ys is same placed =
 pub lines_below : (stream : Stream) (ep : ℕ) (lines : List PlannedLine) (ys : List TimedPart) → IsStableBy part_first (map (timed stream) (listed stream ep lines)) ys → (most : ℕ)
     → AllByRecursion (λ p. p.index < most) lines → AllByRecursion (λ y. y.line < most) ys
 lines_below stream ep lines ys stable most all = all_from (λ y. y.line < most) ys (λ y m.
-    let there : IsIn y (filter (ties part_first y) ys) = filter_in (ties part_first y) ys y m (equal_tied part_total y y (tied_itself part_total y)) in
-    let n = named_is stream ep lines y (in_filter (ties part_first y) (map (timed stream) (listed stream ep lines)) y (subst (IsIn y) (stable y) there)).0 in
+    let there : IsIn y (filter (ties part_first y) ys) = in_filter (ties part_first y) y ys m (equal_tied part_total y y (tied_itself part_total y)) in
+    let n = named_is stream ep lines y (of_filter (ties part_first y) y (map (timed stream) (listed stream ep lines)) (subst (IsIn y) (stable y) there)).0 in
     subst (λ (x : TimedPart). x.line < most) (sym n.is) (all_in (λ p. p.index < most) lines n.line all n.there))

@@ -1,5 +1,5 @@
 -- Sweeps over a list in order.
-use Rattle.std.proofs.Common.{◌≡◌, ℕ, zero, suc, ℤ, pos, ◌+◌, ◌<◌, ◌≤◌, ◌+ℤ◌, ◌<ℤ◌, ◌≤ℤ◌, ◌⊎◌, inl, inr, Bool, true, false, List, [], ◌∷◌, ◌++◌, refl, ap, ap₂, sym, ◌∙◌, arith}
+use Rattle.std.proofs.Common.{◌≡◌, ℕ, zero, suc, ℤ, pos, ◌+◌, ◌<◌, ◌≤◌, ◌+ℤ◌, ◌<ℤ◌, ◌≤ℤ◌, inl, inr, true, false, List, [], ◌∷◌, ◌++◌, refl, ap, ap₂, sym, ◌∙◌, arith}
 use Rattle.std.specs.List.{AllByRecursion}
 use Rattle.std.specs.Ordering.{int_eq, int_cmp, MatchOrdering}
 use Rattle.std.specs.declared.cmp.Ordering.{Ordering}
@@ -9,6 +9,7 @@ use Rattle.std.proofs.lemmas.Int.{ints}
 use Rattle.std.proofs.lemmas.Bool.{cases_eq, eq-eqb, ne_eqb}
 use Rattle.std.proofs.lemmas.Bool.Decides.{Decides-int_eq}
 use Rattle.unit_laws.specs.unit_model.specs.Lists.{each, each_tick}
+use Rattle.plan_model.proofs.TickLemmas.{int_cases, int_below, int_above, ticks_same}
 use Rattle.plan_parts.specs.Sweeping.{of_key, at_tick, EachIsAll, TicksAreAll}
 
 each_same : {A : Type 0} (f g : ℕ → List A) (from count : ℕ) → ((k : ℕ) → from ≤ k → f k ≡ g k) → each from count f ≡ each from count g
@@ -49,22 +50,10 @@ each_is_all key (x ∷ xs) from count up within =
 
 -- ---- the same by ticks
 
-ticks_same : {A : Type 0} (f g : ℤ → List A) (from : ℤ) (count : ℕ) → ((k : ℤ) → from ≤ℤ k → f k ≡ g k) → each_tick from count f ≡ each_tick from count g
-unfolding each_tick
-ticks_same f g from zero h = refl
-ticks_same f g from (suc n) h = ap₂ (λ a b. a ++ b) (h from (omega (arith, ints))) (ticks_same f g (from +ℤ pos 1) n (λ k le. h k (omega (arith, ints))))
-
 ticks_none : {A : Type 0} (from : ℤ) (count : ℕ) → each_tick {A = A} from count (λ k. []) ≡ []
 unfolding each_tick
 ticks_none from zero = refl
 ticks_none from (suc n) = ticks_none (from +ℤ pos 1) n
-
-int_cases : (a b : ℤ) → (a ≡ b) ⊎ (int_eq a b ≡ false)
-int_cases a b = go (int_eq a b) refl
-  where
-    go : (r : Bool) → int_eq a b ≡ r → (a ≡ b) ⊎ (int_eq a b ≡ false)
-    go true e = inl ((Decides-int_eq a b).0 e)
-    go false e = inr e
 
 -- a number that is not another one and not below it is above it
 above : (a b : ℤ) → a ≤ℤ b → int_eq b a ≡ false → a <ℤ b
@@ -75,17 +64,11 @@ above a b le ne = go (int_cmp a b) (int_ranks a b)
     go Equal e = absurd (let t : int_eq b a ≡ true = (Decides-int_eq b a).1 (sym e) in let d = sym t ∙ ne in cc)
     go Greater gt = absurd (omega (arith, ints))
 
-unequal : (a b : ℤ) → a <ℤ b → int_eq a b ≡ false
-unequal a b lt = elim (int_cases a b) [ inl e ↦ absurd (omega (arith, ints)) | inr ne ↦ ne ]
-
-unequal_above : (a b : ℤ) → b <ℤ a → int_eq a b ≡ false
-unequal_above a b lt = elim (int_cases a b) [ inl e ↦ absurd (omega (arith, ints)) | inr ne ↦ ne ]
-
 none_at : {A : Type 0} (key : A → ℤ) (xs : List A) (k low : ℤ) → k <ℤ low → AllByRecursion (λ y. low ≤ℤ key y) xs → at_tick key xs k ≡ []
 none_at key [] k low lt h = refl
 none_at key (x ∷ xs) k low lt h =
     let le = h.0 in
-    let e = unequal_above (key x) k (omega (arith, ints)) in
+    let e = int_above (key x) k (omega (arith, ints)) in
     rw e (none_at key xs k low lt h.1)
 
 first_tick : {A : Type 0} (key : A → ℤ) (x : A) (xs : List A) (from : ℤ) (count : ℕ) → from ≤ℤ key x → key x <ℤ (from +ℤ pos count) → AllByRecursion (λ y. key x ≤ℤ key y) xs
@@ -95,7 +78,7 @@ first_tick key x xs from zero low high h = absurd (omega (arith, ints))
 first_tick key x xs from (suc n) low high h = elim (int_cases (key x) from) [
   | inl e ↦
       let here : int_eq (key x) from ≡ true = (Decides-int_eq (key x) from).1 e in
-      rw here (ap (λ l. x ∷ (at_tick key xs from ++ l)) (ticks_same (at_tick key (x ∷ xs)) (at_tick key xs) (from +ℤ pos 1) n (λ k le. let other = unequal (key x) k (omega (arith, ints)) in rw other refl)))
+      rw here (ap (λ l. x ∷ (at_tick key xs from ++ l)) (ticks_same (from +ℤ pos 1) n (at_tick key (x ∷ xs)) (at_tick key xs) (λ k le. let other = int_below (key x) k (omega (arith, ints)) in rw other refl)))
   | inr ne ↦
       let apart : from <ℤ key x = above from (key x) low ne in
       let none = none_at key xs from (key x) apart h in
@@ -106,15 +89,3 @@ pub ticks_are_all : {A : Type 0} → TicksAreAll A
 ticks_are_all key [] from count up within = ticks_none from count
 ticks_are_all key (x ∷ xs) from count up within =
     first_tick key x xs from count within.0.0 within.0.1 up.0 ∙ ap (λ l. x ∷ l) (ticks_are_all key xs from count up.1 within.1)
-
--- ---- two sweeps that tell the same
-
-pub each_alike : {A : Type 0} (f g : ℕ → List A) (from count : ℕ) → ((k : ℕ) → f k ≡ g k) → each from count f ≡ each from count g
-unfolding each
-each_alike f g from zero h = refl
-each_alike f g from (suc n) h = ap₂ (λ a b. a ++ b) (h from) (each_alike f g (from + 1) n h)
-
-pub ticks_alike : {A : Type 0} (f g : ℤ → List A) (from : ℤ) (count : ℕ) → ((k : ℤ) → f k ≡ g k) → each_tick from count f ≡ each_tick from count g
-unfolding each_tick
-ticks_alike f g from zero h = refl
-ticks_alike f g from (suc n) h = ap₂ (λ a b. a ++ b) (h from) (ticks_alike f g (from +ℤ pos 1) n h)

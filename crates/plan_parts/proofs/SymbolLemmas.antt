@@ -4,12 +4,14 @@ use Rattle.std.specs.List.{filter, AllByRecursion}
 use Rattle.std.specs.Ordering.{int_eq}
 use Rattle.std.specs.Int.{int_gap}
 use Rattle.std.proofs.lemmas.Int.{ints}
-use Rattle.std.proofs.lemmas.Bool.{cases_eq, cases_Bool, eq-eqb, ne_eqb, eqb-true, and_parts}
+use Rattle.std.proofs.lemmas.Bool.{cases_eq, eq-eqb, ne_eqb, eqb-true, and_parts}
 use Rattle.std.proofs.lemmas.Bool.Decides.{Decides-int_eq}
 use Rattle.unit_laws.specs.unit_model.specs.Lists.{each}
+use Rattle.unit_laws.specs.unit_model.proofs.SweepLaws.{each_same}
+use Rattle.plan_model.proofs.TickLemmas.{int_apart, ticks_same}
 use Rattle.plan_parts.specs.Sweeping.{IsRising, IsRisingInt, of_key, at_tick, Clock, is_at, of_symbol, of_endpoint, IsPart, Precedes, AreOrdered, SweepsFindAll}
 use Rattle.plan_parts.specs.declared.parts.TimedPart.{TimedPart}
-use Rattle.plan_parts.proofs.SweepLemmas.{each_is_all, ticks_are_all, each_alike, ticks_alike}
+use Rattle.plan_parts.proofs.SweepLemmas.{each_is_all, ticks_are_all}
 
 -- ---- filters
 
@@ -79,9 +81,6 @@ gap_is (negsuc a) (negsuc b) le = omega (arith, ints)
 
 pos_same : (a : ℤ) (m n : ℕ) → a +ℤ pos m ≡ a +ℤ pos n → m ≡ n
 pos_same a m n e = omega (arith, ints)
-
-not_equal : (a b : ℤ) → (a ≡ b → ⊥) → int_eq a b ≡ false
-not_equal a b ne = elim (cases_Bool (int_eq a b)) [ inl e ↦ absurd (ne ((Decides-int_eq a b).0 e)) | inr f ↦ f ]
 
 int_true : (a b : ℤ) → int_eq a b ≡ true → a ≡ b
 int_true a b e = (Decides-int_eq a b).0 e
@@ -247,7 +246,7 @@ module _ (c : Clock) (from : ℤ) (count : ℕ) (ps : List TimedPart) (up : AreO
       same : (x : TimedPart) → IsNow x → int_eq x.frame (c.first t +ℤ pos k) ≡ (frame_number x == k)
       same x h = elim (cases_eq (frame_number x) k) [
         | inl e ↦ (let l = low x h in let g = gap_is (c.first t) x.frame l in (Decides-int_eq x.frame (c.first t +ℤ pos k)).1 (g ∙ ap (λ n. c.first t +ℤ pos n) e) ∙ sym (eq-eqb _ _ e))
-        | inr ne ↦ (let l = low x h in let g = gap_is (c.first t) x.frame l in not_equal x.frame (c.first t +ℤ pos k) (λ q. ne (pos_same (c.first t) (frame_number x) k (sym g ∙ q))) ∙ sym (ne_eqb _ _ ne))
+        | inr ne ↦ (let l = low x h in let g = gap_is (c.first t) x.frame l in int_apart x.frame (c.first t +ℤ pos k) (λ q. ne (pos_same (c.first t) (frame_number x) k (sym g ∙ q))) ∙ sym (ne_eqb _ _ ne))
       ]
 
   in_frames : each 0 6 (of_key frame_number now) ≡ now
@@ -273,10 +272,10 @@ module _ (c : Clock) (from : ℤ) (count : ℕ) (ps : List TimedPart) (up : AreO
   pub tick_found : of_endpoint c ps t ≡ at_tick (λ (p : TimedPart). p.start.0) ps t
   unfolding now
   tick_found =
-      each_alike _ (of_key frame_number now) 0 6 (λ k.
-      each_alike _ (subframe_parts (c.first t +ℤ pos k)) 0 10 (λ b.
-      each_alike _ (slot_parts (c.first t +ℤ pos k) b) 0 c.slots (λ l.
-      each_alike _ (of_key (λ (p : TimedPart). p.symbol) (slot_parts (c.first t +ℤ pos k) b l)) 0 c.symbols (λ y. symbol_found (c.first t +ℤ pos k) b l y ∙ split (c.first t +ℤ pos k) b l y)
+      each_same 0 6 _ (of_key frame_number now) (λ k.
+      each_same 0 10 _ (subframe_parts (c.first t +ℤ pos k)) (λ b.
+      each_same 0 c.slots _ (slot_parts (c.first t +ℤ pos k) b) (λ l.
+      each_same 0 c.symbols _ (of_key (λ (p : TimedPart). p.symbol) (slot_parts (c.first t +ℤ pos k) b l)) (λ y. symbol_found (c.first t +ℤ pos k) b l y ∙ split (c.first t +ℤ pos k) b l y)
       ∙ in_symbols (c.first t +ℤ pos k) b l)
       ∙ in_slots (c.first t +ℤ pos k) b)
       ∙ in_subframes (c.first t +ℤ pos k) ∙ frame_numbered k)
@@ -284,6 +283,6 @@ module _ (c : Clock) (from : ℤ) (count : ℕ) (ps : List TimedPart) (up : AreO
 
 pub sweeps_find_all : SweepsFindAll
 sweeps_find_all c ps from count up parts =
-    ticks_alike (of_endpoint c ps) (at_tick (λ (p : TimedPart). p.start.0) ps) from count (λ t. tick_found c from count ps up parts t)
+    ticks_same from count (of_endpoint c ps) (at_tick (λ (p : TimedPart). p.start.0) ps) (λ t low. tick_found c from count ps up parts t)
     ∙ ticks_are_all (λ (p : TimedPart). p.start.0) ps from count (starts_rise ps up)
     (all_weaker (IsPart c from count) (λ a. (from ≤ℤ a.start.0) × (a.start.0 <ℤ (from +ℤ pos count))) (λ x h. (h.begun, h.ended)) ps parts)

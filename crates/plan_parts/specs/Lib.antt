@@ -1,4 +1,5 @@
 pub use Rattle.plan_model
+pub use Rattle.plan_model.specs.fragment_laws
 pub use Rattle.unit_laws
 pub use Rattle.unit_laws.specs.unit_model
 pub mod Placing

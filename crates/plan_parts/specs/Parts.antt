@@ -7,13 +7,13 @@ use Rattle.window_config.specs.declared.endpoints.EndpointConfig.{EndpointConfig
 use Rattle.unit_laws.specs.unit_model.specs.Commands.{is_uplink}
 use Rattle.unit_laws.specs.unit_model.specs.Lists.{each}
 use Rattle.unit_laws.specs.unit_model.specs.declared.allocations.Allocation.{Allocation}
+use Rattle.plan_model.specs.fragment_laws.specs.Apart.{IsIn}
 use Rattle.plan_model.specs.Departures.{start_of}
 use Rattle.plan_model.specs.Lines.{allocation_of}
 use Rattle.plan_model.specs.Streams.{Part, part_in, section_size}
 use Rattle.plan_model.specs.declared.lines.PlannedLine.{PlannedLine}
 use Rattle.plan_model.specs.declared.streams.Stream.{Stream}
 use Rattle.plan_model.specs.declared.streams.Stream.TheVariants.{DownCommands, UpCommands, DownData, UpData}
-use Rattle.plan_parts.specs.Placing.{IsIn}
 use Rattle.plan_parts.specs.declared.parts.TimedPart.{TimedPart}
 
 -- only uplink data is ordered by more than lines

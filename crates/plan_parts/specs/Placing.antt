@@ -1,15 +1,12 @@
 -- Lines of a plan at their endpoints, in their ranges (this project's profile).
-use Rattle.std.specs.Prelude.{◌≡◌, ◌⊎◌, false, List, [], ◌∷◌}
+use Rattle.std.specs.Prelude.{◌≡◌, false, List}
 use Rattle.window_config.specs.Endpoints.{IsEndpoint}
 use Rattle.window_config.specs.Plans.{IsPlanLine}
 use Rattle.window_config.specs.declared.endpoints.EndpointConfig.{EndpointConfig}
 use Rattle.unit_laws.specs.unit_model.specs.Proper.{IsAt}
+use Rattle.plan_model.specs.fragment_laws.specs.Apart.{IsIn}
 use Rattle.plan_model.specs.Validity.{is_out_of_range}
 use Rattle.plan_model.specs.declared.lines.PlannedLine.{PlannedLine}
-
-abbrev pub IsIn : {X : Type 0} → X → List X → Type 0
-IsIn x [] = ⊥
-IsIn x (y ∷ ys) = (x ≡ y) ⊎ IsIn x ys
 
 -- a line at its endpoint, in its ranges
 pub record IsPlaced (es : List EndpointConfig) (p : PlannedLine) : Type 0 where

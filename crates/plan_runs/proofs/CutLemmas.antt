@@ -1,19 +1,14 @@
 -- Messages part by part are the packs of the definition, with their numbers, times and frames.
-use Rattle.std.proofs.Common.{◌≡◌, ℕ, ℤ, pos, ◌+◌, ◌*◌, ◌+ℤ◌, Bool, true, false, ◌&&◌, ◌==◌, nat_lt, nat_le, min, if◌then◌else◌, List, [], ◌∷◌, ◌++◌, length, map, sum, refl, ap, ap₂, sym, ◌∙◌, zero-mul, add-mul, arith}
-use Rattle.std.proofs.lemmas.List.{map-append}
-use Rattle.std.proofs.lemmas.List.Sums.{sum_by-append}
-use Rattle.std.proofs.lemmas.Bool.{and_parts, eqb-true}
-use Rattle.fh_time.specs.declared.values.Slot.{Slot}
+use Rattle.std.proofs.Common.{◌≡◌, ℕ, ℤ, pos, ◌+◌, ◌*◌, ◌+ℤ◌, Bool, true, false, ◌&&◌, nat_lt, nat_le, min, if◌then◌else◌, List, [], ◌∷◌, length, map, refl, ap, ap₂, sym, ◌∙◌, zero-mul, arith}
 use Rattle.window_config.specs.declared.config.Config.{Config}
 use Rattle.window_config.specs.declared.endpoints.EndpointConfig.{EndpointConfig}
 use Rattle.plan_parts.specs.plan_model.specs.declared.lines.PlannedLine.{PlannedLine}
-use Rattle.plan_parts.specs.unit_model.specs.Claims.{same_slot}
-use Rattle.plan_parts.specs.unit_laws.proofs.CellLemmas.{slots_equal}
 use Rattle.plan_parts.specs.plan_model.specs.Departures.{start_of}
 use Rattle.plan_parts.specs.plan_model.specs.Packs.{Message, alone as message_alone, parts_of, with_part, size_of, same_symbol, takes, packs_behind, packs, frames_before, numbered_behind, numbered}
 use Rattle.plan_parts.specs.plan_model.specs.Streams.{Part, frames_in, most_parts, part_fields, messages_of, parts_in}
 use Rattle.plan_parts.specs.plan_model.specs.declared.streams.Stream.{Stream}
 use Rattle.plan_parts.specs.plan_model.specs.declared.streams.Stream.TheVariants.{DownCommands, UpCommands, DownData, UpData}
+use Rattle.sent_order.specs.plan_model.proofs.PackLemmas.{symbol_alike, before_alike, sum_more, length_more, wait_more}
 use Rattle.frame_order.specs.declared.turns.Run.{Run}
 use Rattle.sent_order.specs.Runs.{place_of, run_of}
 use Rattle.plan_parts.specs.Parts.{timed}
@@ -23,38 +18,7 @@ use Rattle.plan_runs.specs.declared.limits.Limits.{Limits}
 use Rattle.plan_runs.specs.declared.open_messages.OpenMessage.{OpenMessage}
 use Rattle.plan_parts.specs.declared.parts.TimedPart.{TimedPart}
 
--- ---- symbols
-
--- parts of one symbol are so to a third alike
-symbol_alike : (p q r : Part) → same_symbol part_fields p q ≡ true → same_symbol part_fields p r ≡ same_symbol part_fields q r
-symbol_alike p q r h =
-    let a = and_parts (same_slot p.planned.line.slot q.planned.line.slot) (p.symbol == q.symbol) h in
-    ap₂ (λ (s : Slot) (y : ℕ). same_slot s r.planned.line.slot && (y == r.symbol)) (slots_equal p.planned.line.slot q.planned.line.slot a.0) (eqb-true p.symbol q.symbol a.1)
-
-before_alike : (frames : Message Part → ℕ) (m n : Message Part) (earlier : List (Message Part)) → ((r : Part) → same_symbol part_fields m.first r ≡ same_symbol part_fields n.first r)
-    → frames_before part_fields frames m earlier ≡ frames_before part_fields frames n earlier
-unfolding frames_before
-before_alike frames m n [] h = refl
-before_alike frames m n (k ∷ earlier) h =
-    ap₂ (λ (t : Bool) (x : ℕ). let y : ℕ = if t then frames k + x else 0 in y) (h k.first) (before_alike frames m n earlier h)
-
--- ---- bytes and parts
-
-sum_more : (f : Part → ℕ) (ps : List Part) (p : Part) → sum (map f (ps ++ p ∷ [])) ≡ sum (map f ps) + f p
-sum_more f ps p =
-    let e : sum (map f ps ++ f p ∷ []) ≡ sum (map f ps) + sum (f p ∷ []) = sum_by-append (λ x. x) (map f ps) (f p ∷ []) in
-    ap sum (map-append f ps (p ∷ [])) ∙ e ∙ omega arith
-
-length_more : {X : Type 0} (xs : List X) (x : X) → length (xs ++ x ∷ []) ≡ length xs + 1
-length_more [] x = refl
-length_more (y ∷ xs) x = let e = length_more xs x in omega (arith, e)
-
 -- ---- times and frames
-
-wait_more : (before frames gap spread : ℕ) → min (min (before * gap) spread + frames * gap) spread ≡ min ((frames + before) * gap) spread
-wait_more before frames gap spread =
-    let e : (frames + before) * gap ≡ frames * gap + before * gap = add-mul frames before gap in
-    omega (arith, e)
 
 frames_are : (c : Config) (stream : Stream) (ep : ℕ) (m : Message Part) → frames_in c stream m ≡ frames_of (limits_of c stream ep).fragment (size_of part_fields m)
 frames_are c DownCommands ep m = refl

@@ -1,8 +1,7 @@
 -- Messages part by part.
 use Rattle.std.proofs.Common.{◌≡◌, ℕ, zero, suc, ◌+◌, ◌<◌, ◌≤◌, Bool, true, false, ◌==◌, nat_lt, nat_le, if◌then◌else◌, List, [], ◌∷◌, ◌++◌, length, get_or, drop, drop-cons, append_assoc, refl, ap, ap₂, sym, ◌∙◌, subst, arith}
 use Rattle.std.specs.List.{AllByRecursion}
-use Rattle.std.proofs.lemmas.Bool.{and_parts, eqb-true}
-use Rattle.std.proofs.lemmas.Bool.Decides.{nat_tests}
+use Rattle.std.proofs.lemmas.Bool.{and_parts, eqb-true, leb-true, ltb-true}
 use Rattle.std.proofs.lemmas.List.{append-nil, drop_all}
 use Rattle.frame_order.specs.declared.turns.Run.{Run}
 use Rattle.plan_parts.specs.Parts.{IsTimed}
@@ -11,12 +10,6 @@ use Rattle.plan_runs.specs.Walks.{first_message, takes_more, grown, next_to, run
 use Rattle.plan_runs.specs.declared.limits.Limits.{Limits}
 use Rattle.plan_runs.specs.declared.open_messages.OpenMessage.{OpenMessage}
 use Rattle.plan_parts.specs.declared.parts.TimedPart.{TimedPart}
-
-at_most : (a b : ℕ) → nat_le a b ≡ true → a ≤ b
-at_most a b h = grind (arith, nat_tests)
-
-below : (a b : ℕ) → nat_lt a b ≡ true → a < b
-below a b h = grind (arith, nat_tests)
 
 -- where a message takes a part more, it is short
 pub record Short (pack : ℕ) (m : OpenMessage) (p : TimedPart) : Type 0 where
@@ -27,7 +20,7 @@ pub takes_short : (pack : ℕ) (m : OpenMessage) (p : TimedPart) → takes_more 
 takes_short pack m p h =
     let a = and_parts (same_place m.first p) _ h in
     let b = and_parts (nat_lt m.parts pack) (nat_le (m.bytes + p.size) 16384) a.1 in
-    record { parts = below m.parts pack b.0; bytes = at_most (m.bytes + p.size) 16384 b.1 }
+    record { parts = ltb-true m.parts pack b.0; bytes = leb-true (m.bytes + p.size) 16384 b.1 }
 
 pub grown_open : (l : Limits) (m : OpenMessage) (p : TimedPart) → IsLimits l → IsOpenMessage l m → takes_more l.pack m p ≡ true → IsOpenMessage l (grown m p)
 grown_open l m p limits o h =

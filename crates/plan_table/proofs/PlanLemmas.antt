@@ -1,5 +1,5 @@
 -- The lines of a plan that can be sent.
-use Rattle.std.proofs.Common.{ℕ, suc, ◌+◌, ◌*◌, ◌<◌, ◌≤◌, ◌^◌, inl, inr, List, [], ◌∷◌, ◌++◌, length, Option, Some, None, sym, subst, arith}
+use Rattle.std.proofs.Common.{ℕ, suc, ◌+◌, ◌*◌, ◌<◌, ◌≤◌, ◌^◌, List, [], ◌∷◌, ◌++◌, length, Option, Some, None, sym, subst, arith}
 use Rattle.std.specs.List.{AllByRecursion}
 use Rattle.std.specs.Option.{option_to_list}
 use Rattle.window_config.specs.Configs.{IsConfig}
@@ -8,36 +8,33 @@ use Rattle.window_config.specs.declared.endpoints.EndpointConfig.{EndpointConfig
 use Rattle.window_config.specs.declared.plan.PlanLine.{PlanLine}
 use Rattle.plan_runs.specs.unit_model.specs.Meetings.{find_endpoint}
 use Rattle.plan_runs.specs.unit_model.specs.Proper.{IsAt}
+use Rattle.plan_runs.specs.plan_parts.specs.unit_laws.proofs.FarLemmas.{endpoints_equal}
 use Rattle.fragment_laws.specs.Apart.{IsIn}
 use Rattle.plan_runs.specs.plan_model.specs.Lines.{planned, planned_from, planned_with}
 use Rattle.plan_runs.specs.plan_model.specs.declared.lines.PlannedLine.{PlannedLine}
 use Rattle.plan_runs.specs.plan_parts.specs.Parts.{HasEndpoint}
-use Rattle.plan_runs.specs.plan_parts.specs.Placing.{ArePlaced, IsIn as IsAmong}
-use Rattle.plan_runs.specs.schedule_laws.proofs.LineLemmas.{IsGoodLine, good, same_endpoint}
+use Rattle.plan_runs.specs.plan_parts.specs.Placing.{ArePlaced}
+use Rattle.plan_runs.specs.schedule_laws.proofs.LineLemmas.{IsGoodLine, good}
 use Rattle.plan_runs.specs.schedule_laws.proofs.PlanLemmas.{in_range, valid_tested}
 use Rattle.plan_table.specs.Plans.{IsPlanOf}
 
-in_both : {X : Type 0} (x : X) (xs : List X) → IsAmong x xs → IsIn x xs
-in_both x [] m = absurd m
-in_both x (y ∷ ys) m = elim m [ inl here ↦ inl here | inr there ↦ inr (in_both x ys there) ]
-
 module _ (c : Config) (ps : List PlannedLine) (config : IsConfig c) (plan : IsPlanOf c ps) where
-  there : (p : PlannedLine) → IsAmong p ps → IsIn p (planned c.endpoints plan.lines)
-  there p m = subst (λ (xs : List PlannedLine). IsIn p xs) plan.is (in_both p ps m)
+  there : (p : PlannedLine) → IsIn p ps → IsIn p (planned c.endpoints plan.lines)
+  there p m = subst (λ (xs : List PlannedLine). IsIn p xs) plan.is m
 
-  good_line : (p : PlannedLine) → IsAmong p ps → IsGoodLine c.endpoints p
+  good_line : (p : PlannedLine) → IsIn p ps → IsGoodLine c.endpoints p
   good_line p m = good c plan.lines config plan.fit plan.valid p (there p m)
 
   pub placed : ArePlaced ps
   placed = record {
     endpoint = λ p m. (good_line p m).endpoint;
-    same = λ p q m n e. same_endpoint c.endpoints p.ep q.ep p.endpoint q.endpoint (good_line p m).at (good_line q n).at e;
+    same = λ p q m n e. endpoints_equal c.endpoints p.ep q.ep p.endpoint q.endpoint (good_line p m).at (good_line q n).at e;
     ranges = λ p m. (good_line p m).fits;
     inside = λ p m. in_range [] (planned c.endpoints plan.lines) p (valid_tested c plan.lines plan.valid) (there p m);
   }
 
   pub has_endpoint : (ep : ℕ) (e : EndpointConfig) → IsAt c.endpoints ep e → HasEndpoint ps ep e
-  has_endpoint ep e at = λ p m is. same_endpoint c.endpoints p.ep ep p.endpoint e (good_line p m).at at is
+  has_endpoint ep e at = λ p m is. endpoints_equal c.endpoints p.ep ep p.endpoint e (good_line p m).at at is
 
 -- ---- their places, and how many there are
 

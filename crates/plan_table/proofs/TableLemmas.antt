@@ -38,9 +38,6 @@ get_right : {X : Type 0} (xs ys : List X) (k : ℕ) → slice_get (xs ++ ys) (le
 get_right [] ys k = let e : 0 + k ≡ k = omega arith in ap (slice_get ys) e
 get_right (z ∷ xs) ys k = let e : suc (length xs) + k ≡ suc (length xs + k) = omega arith in ap (slice_get (z ∷ (xs ++ ys))) e ∙ get_right xs ys k
 
-some_same : {X : Type 0} (x y : X) → Some x ≡ Some y → x ≡ y
-some_same x y h = cc
-
 pub join_three : {X : Type 0} (old a b d one two new : List X) → one ≡ old ++ a → two ≡ one ++ b → new ≡ two ++ d → new ≡ old ++ (a ++ (b ++ d))
 join_three {X = X} old a b d one two new one_is two_is new_is =
     new_is ∙ ap (λ (xs : List X). xs ++ d) (two_is ∙ ap (λ (xs : List X). xs ++ b) one_is) ∙ append_assoc (old ++ a) b d ∙ append_assoc old a (b ++ d)
@@ -51,11 +48,6 @@ runs_three {X = X} old a b d x y z one two new one_is two_is new_is a_is b_is d_
     ∙ ap (λ (xs : List X). old ++ xs) (ap₂ (λ (us vs : List X). us ++ vs) a_is (ap₂ (λ (us vs : List X). us ++ vs) b_is d_is))
 
 -- ---- endpoint after endpoint
-
--- an endpoint, where there is one
-pub some_of : (es : List EndpointConfig) (k : ℕ) → k < length es → EndpointConfig
-some_of [] k below = absurd (omega (arith, below))
-some_of (e ∷ es) k below = e
 
 -- the streams of the endpoints before this one are kept, and their messages are those before the others'
 pub record IsFilled (c : Config) (ps : List PlannedLine) (ep : ℕ) (streams : List StreamParts) (runs : List Run) : Type 0 where

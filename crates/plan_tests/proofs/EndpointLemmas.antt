@@ -1,32 +1,28 @@
 -- The lines of one endpoint, and all endpoints.
-use Rattle.std.proofs.Common.{◌≡◌, ℕ, zero, suc, ◌+◌, ◌<◌, ◌≤◌, ◌⊎◌, inl, inr, Bool, true, false, ◌&&◌, ◌==◌, if◌then◌else◌, List, [], ◌∷◌, length, map, filter, get_or, Option, Some, None, refl, ap, sym, ◌∙◌, subst, arith}
+use Rattle.std.proofs.Common.{◌≡◌, ℕ, zero, suc, ◌+◌, ◌<◌, ◌≤◌, ◌⊎◌, inl, inr, Bool, true, false, ◌&&◌, ◌==◌, if◌then◌else◌, List, [], ◌∷◌, length, map, filter, get_or, Option, None, refl, ap, sym, ◌∙◌, subst, arith}
 use Rattle.std.specs.Prelude.{All, slice_get}
 use Rattle.std.specs.List.{AllByRecursion}
-use Rattle.std.proofs.lemmas.Bool.{and_parts, eq-eqb, eqb-true, cases_eq, ne_eqb}
+use Rattle.std.proofs.lemmas.Bool.{and_parts, eq-eqb, eqb-true, cases_eq}
 use Rattle.std.proofs.lemmas.Option.{slice_get_within}
-use Rattle.fh_time.specs.Carrier.{count_of}
 use Rattle.window_config.specs.Endpoints.{IsEndpoint}
 use Rattle.window_config.specs.declared.endpoints.EndpointConfig.{EndpointConfig}
 use Rattle.slot_rings.specs.unit_model.specs.Proper.{IsAt}
 use Rattle.slot_rings.specs.unit_model.specs.declared.allocations.Allocation.{Allocation}
+use Rattle.plan_parts.specs.fragment_laws.specs.Apart.{IsIn}
 use Rattle.plan_parts.specs.plan_model.specs.Lines.{allocation_of}
 use Rattle.plan_parts.specs.plan_model.specs.Validity.{why_claimed}
 use Rattle.plan_parts.specs.plan_model.specs.declared.lines.PlannedLine.{PlannedLine}
 use Rattle.plan_parts.specs.plan_model.specs.declared.refusals.PlanWhy.{PlanWhy}
-use Rattle.plan_parts.specs.Placing.{ArePlaced, IsPlaced, IsIn}
+use Rattle.plan_parts.specs.plan_model.proofs.ListLemmas.{of_filter, in_filter, all_in, all_from, filter_same, endpoint_is}
+use Rattle.plan_parts.specs.plan_model.proofs.SizeLemmas.{some_prbs}
+use Rattle.plan_parts.specs.Placing.{ArePlaced, IsPlaced}
 use Rattle.plan_tests.specs.Judging.{Covers, IsBefore, IsLineOf, ep_of}
 use Rattle.plan_tests.specs.Slots.{IsFrom, AreProper, is_home, judged, judged_in, of_home, lesser, least_along, entry_of, numbered, refused_along, refused_in, why_judged}
 use Rattle.plan_tests.proofs.GroupLemmas.{along_from, along_one, lesser_from, lesser_left, lesser_right, from_none, from_nothing, judged_is, some_line}
 use Rattle.plan_parts.proofs.InsideLemmas.{inside_is}
 use Rattle.plan_tests.proofs.RunLemmas.{home_true}
-use Rattle.plan_parts.proofs.ListLemmas.{all_in, all_from, filter_and}
+use Rattle.plan_parts.proofs.ListLemmas.{filter_and}
 use Rattle.plan_tests.proofs.SlotLemmas.{least_is}
-use Rattle.plan_tests.proofs.SortLemmas.{filter_same}
-use Rattle.plan_parts.proofs.ListLemmas.{filter_in}
-use Rattle.plan_parts.proofs.ListLemmas.{in_filter}
-use Rattle.plan_parts.proofs.PlacingLemmas.{endpoint_is}
-
--- ---- what passes a test
 
 -- ---- an endpoint's own lines, sorted
 
@@ -44,14 +40,14 @@ own_is lines ep found own found_is same = record { inside = inside; all = all; h
 
     inside : (q : PlannedLine) → IsIn q own → IsIn q lines × (q.ep ≡ ep)
     inside q m =
-        let there : IsIn q found = (in_filter (λ p. is_home q.ep q.line.slot (allocation_of p)) found q (subst (IsIn q) (same q) (filter_in (λ p. is_home q.ep q.line.slot (allocation_of p)) own q m (self q)))).0 in
-        let r = in_filter (λ p. p.ep == ep) lines q (subst (IsIn q) found_is there) in
+        let there : IsIn q found = (of_filter (λ p. is_home q.ep q.line.slot (allocation_of p)) q found (subst (IsIn q) (same q) (in_filter (λ p. is_home q.ep q.line.slot (allocation_of p)) q own m (self q)))).0 in
+        let r = of_filter (λ p. p.ep == ep) q lines (subst (IsIn q) found_is there) in
         (r.0, eqb-true q.ep ep r.1)
 
     all : (q : PlannedLine) → IsIn q lines → q.ep ≡ ep → IsIn q own
     all q m e =
-        let there : IsIn q found = subst (IsIn q) (sym found_is) (filter_in (λ p. p.ep == ep) lines q m (eq-eqb q.ep ep e)) in
-        (in_filter (λ p. is_home q.ep q.line.slot (allocation_of p)) own q (subst (IsIn q) (sym (same q)) (filter_in (λ p. is_home q.ep q.line.slot (allocation_of p)) found q there (self q)))).0
+        let there : IsIn q found = subst (IsIn q) (sym found_is) (in_filter (λ p. p.ep == ep) q lines m (eq-eqb q.ep ep e)) in
+        (of_filter (λ p. is_home q.ep q.line.slot (allocation_of p)) q own (subst (IsIn q) (sym (same q)) (in_filter (λ p. is_home q.ep q.line.slot (allocation_of p)) q found there (self q)))).0
 
     implied : (a b : Bool) → (a ≡ true → b ≡ true) → (a && b) ≡ a
     implied true b h = h refl
@@ -84,9 +80,6 @@ covers_own lines ep own least r new o r_is new_is =
 
 -- ---- what is known of them
 
-some_is : {X : Type 0} (x y : X) → Some x ≡ Some y → x ≡ y
-some_is x y h = cc
-
 first_ep : (own : List PlannedLine) (ep : ℕ) (p : PlannedLine) → IsIn p own → ((q : PlannedLine) → IsIn q own → q.ep ≡ ep) → ep_of own ≡ ep
 first_ep [] ep p m h = absurd m
 first_ep (x ∷ own) ep p m h = h x (inl refl)
@@ -116,19 +109,13 @@ unfolding least_along
 none_is [] e = refl
 none_is (x ∷ own) e = absurd (let z = eqb-true (length (x ∷ own)) 0 e in omega (arith, z))
 
-prbs_named : (prbs num : ℕ) → 1 ≤ prbs → 0 < count_of prbs num
-prbs_named prbs num some = elim (cases_eq num 0) [
-  | inl e ↦ (let b = eq-eqb num 0 e in rw b some)
-  | inr ne ↦ (let b = ne_eqb num 0 ne in rw b (omega (arith, ne)))
-]
-
 pub proper_lines : (es : List EndpointConfig) (lines : List PlannedLine) → All IsEndpoint es → AllByRecursion (IsPlaced es) lines → AreProper (map allocation_of lines)
 proper_lines es [] ends all = tt
 proper_lines es (p ∷ lines) ends all =
     let i = inside_is p all.0.inside in (
       record {
         symbols = i.some;
-        prbs = prbs_named p.endpoint.prbs p.line.num_prb (endpoint_is es p.ep p.endpoint ends all.0.at).some;
+        prbs = some_prbs p.endpoint.prbs p.line.num_prb (endpoint_is es p.ep p.endpoint ends all.0.at).some;
         mask = i.mask;
         twelve = all.0.ranges.mask;
       },

@@ -1,23 +1,17 @@
 -- The least of what the slots refuse, and a slot's lines as a list of their own.
 use Rattle.std.proofs.Common.{◌≡◌, ℕ, ◌+◌, ◌<◌, ◌≤◌, ◌⊎◌, inl, inr, Bool, true, false, nat_lt, if◌then◌else◌, List, [], ◌∷◌, map, filter, Option, Some, None, refl, ap, sym, ◌∙◌, subst, arith}
-use Rattle.std.proofs.lemmas.Bool.{cases_Bool, ltb-true, lt-ltb}
+use Rattle.std.proofs.lemmas.Bool.{lt-ltb, le-ltb}
 use Rattle.fh_time.specs.declared.values.Slot.{Slot}
 use Rattle.slot_rings.specs.unit_model.specs.declared.allocations.Allocation.{Allocation}
+use Rattle.plan_parts.specs.fragment_laws.specs.Apart.{IsIn}
 use Rattle.plan_parts.specs.plan_model.specs.Validity.{why_claimed, refused_at}
 use Rattle.plan_parts.specs.plan_model.specs.declared.refusals.PlanWhy.{PlanWhy}
 use Rattle.plan_parts.specs.plan_model.specs.Lines.{allocation_of}
 use Rattle.plan_parts.specs.plan_model.specs.declared.lines.PlannedLine.{PlannedLine}
-use Rattle.plan_parts.specs.Placing.{IsIn}
 use Rattle.plan_tests.specs.Slots.{AreProper, why_judged, refused_along, refused_in, is_home, IsFrom, lesser, numbered, refused_of, entry_of, judged, of_home, judged_in, least_along}
 use Rattle.plan_tests.proofs.SlotLemmas.{least_is}
 
 -- ---- the lesser of two
-
-not_less : (a b : ℕ) → a ≤ b → nat_lt b a ≡ false
-not_less a b h = elim (cases_Bool (nat_lt b a)) [
-  | inl is ↦ let l = ltb-true b a is in absurd (omega (arith, l))
-  | inr is ↦ is
-]
 
 chosen_from : (r : Option (ℕ × PlanWhy)) (p q : ℕ × PlanWhy) (b : Bool) → IsFrom r (Some p) → IsFrom r (Some q) → IsFrom r (let o : Option (ℕ × PlanWhy) = if b then Some q else Some p in o)
 chosen_from r p q true x y = y
@@ -32,7 +26,7 @@ pub lesser_left : (r y : Option (ℕ × PlanWhy)) → IsFrom r y → lesser r y 
 lesser_left None None b = refl
 lesser_left None (Some q) b = absurd b
 lesser_left (Some p) None b = refl
-lesser_left (Some p) (Some q) b = ap (λ (t : Bool). let o : Option (ℕ × PlanWhy) = if t then Some q else Some p in o) (not_less p.0 q.0 (low b))
+lesser_left (Some p) (Some q) b = ap (λ (t : Bool). let o : Option (ℕ × PlanWhy) = if t then Some q else Some p in o) (le-ltb q.0 p.0 (low b))
   where
     low : (q ≡ p) ⊎ (p.0 < q.0) → p.0 ≤ q.0
     low (inl e) = let f = ap (λ (x : ℕ × PlanWhy). x.0) e in omega (arith, f)

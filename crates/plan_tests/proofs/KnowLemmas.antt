@@ -1,13 +1,12 @@
 -- What the ring knows, and its verdicts.
 use Rattle.std.proofs.Common.{◌≡◌, ℕ, ◌+◌, ◌<◌, ◌≤◌, inl, inr, Bool, true, false, ◌&&◌, ◌||◌, ◌==◌, nat_lt, nat_le, if◌then◌else◌, List, [], ◌∷◌, length, get_or, Option, Some, None, refl, ap, ap₂, sym, ◌∙◌, subst, arith}
 use Rattle.std.proofs.lemmas.Bool.{cases_Bool, and_from, eq-eqb}
-use Rattle.std.proofs.lemmas.Bool.Decides.{nat_tests}
 use Rattle.std.proofs.lemmas.Int.{ints}
-use Rattle.fh_time.specs.Carrier.{is_outside, first_of, count_of}
+use Rattle.fh_time.specs.Carrier.{is_outside}
 use Rattle.fh_time.specs.Numbering.{slots_of, symbols_of}
 use Rattle.fh_time.specs.declared.values.Slot.{Slot}
 use Rattle.window_config.specs.declared.endpoints.EndpointConfig.{EndpointConfig}
-use Rattle.slot_rings.specs.unit_model.specs.Claims.{same_slot, is_from, claim_at, covers, names, repeats, overlaps, claim_of}
+use Rattle.slot_rings.specs.unit_model.specs.Claims.{same_slot, claim_at, covers, names, repeats, overlaps, claim_of}
 use Rattle.slot_rings.specs.unit_model.specs.Commands.{is_uplink, uplink_in, is_full, most_uplink, timely_verdict}
 use Rattle.slot_rings.specs.unit_model.specs.Proper.{IsSlot}
 use Rattle.slot_rings.specs.unit_model.specs.declared.allocations.Allocation.{Allocation}
@@ -27,6 +26,7 @@ use Rattle.plan_parts.specs.plan_model.specs.Validity.{is_out_of_range}
 use Rattle.plan_parts.specs.plan_model.specs.declared.lines.PlannedLine.{PlannedLine}
 use Rattle.plan_parts.specs.plan_model.specs.declared.refusals.PlanWhy.{PlanWhy}
 use Rattle.plan_parts.specs.plan_model.specs.declared.refusals.PlanWhy.TheVariants.{Overlap, TooManySections}
+use Rattle.plan_parts.specs.plan_model.proofs.RangeLemmas.{within_carrier}
 use Rattle.plan_parts.proofs.InsideLemmas.{Inside, inside_is, slot_inside}
 use Rattle.plan_tests.specs.Judging.{IsLineOf, IsLineAt, Knows, why_in}
 use Rattle.plan_tests.specs.Slots.{why_judged}
@@ -37,9 +37,6 @@ pub slot_of_line : (e : EndpointConfig) (ep : ℕ) (p : PlannedLine) → IsLineO
 slot_of_line e ep p is = slot_inside p is.ranges is.inside
 
 -- ---- verdicts
-
-within_carrier : (prbs start num n : ℕ) → is_outside prbs start num ≡ false → is_from (first_of start num) (count_of prbs num) n ≡ true → n < prbs
-within_carrier prbs start num n inside here = grind (arith, nat_tests)
 
 below_all : (symbol count all y : ℕ) → symbol + count ≤ all → y < symbol + count → y < all
 below_all symbol count all y h k = omega arith

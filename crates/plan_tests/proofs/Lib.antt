@@ -1,5 +1,4 @@
 -- The lemmas, from the bottom up.
-pub mod RangeLemmas
 pub mod ClashLemmas
 pub mod ListLemmas
 pub mod SlotLemmas

@@ -4,9 +4,9 @@ use Rattle.std.specs.List.{list_any}
 use Rattle.slot_rings.specs.unit_model.specs.declared.allocations.Allocation.{Allocation}
 use Rattle.slot_rings.specs.unit_model.specs.Claims.{repeats, overlaps}
 use Rattle.slot_rings.specs.unit_model.specs.Commands.{is_full}
-use Rattle.plan_parts.specs.plan_model.specs.Validity.{clash, why_claimed}
+use Rattle.plan_parts.specs.plan_model.specs.Validity.{clash, why_claimed, IsProper}
 use Rattle.plan_parts.specs.plan_model.specs.declared.refusals.PlanWhy.{PlanWhy}
-use Rattle.plan_tests.specs.Slots.{IsProper, AreProper, AreClear, why_judged}
+use Rattle.plan_tests.specs.Slots.{AreProper, AreClear, why_judged}
 use Rattle.plan_parts.specs.plan_model.specs.declared.refusals.PlanWhy.TheVariants.{Overlap, TooManySections}
 use Rattle.plan_tests.proofs.ClashLemmas.{verdict_is}
 

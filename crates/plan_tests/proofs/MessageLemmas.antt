@@ -1,65 +1,25 @@
 -- Messages part by part are the packs of the definition, with their numbers and times.
-use Rattle.std.proofs.Common.{◌≡◌, ℕ, ℤ, pos, ◌+◌, ◌*◌, ◌+ℤ◌, Bool, true, false, ◌&&◌, ◌==◌, nat_lt, nat_le, min, if◌then◌else◌, List, [], ◌∷◌, ◌++◌, length, map, sum, refl, ap, ap₂, sym, ◌∙◌, zero-mul, add-mul, arith}
+use Rattle.std.proofs.Common.{◌≡◌, ℕ, ℤ, pos, ◌+◌, ◌*◌, ◌+ℤ◌, Bool, true, false, ◌&&◌, ◌==◌, nat_lt, nat_le, min, if◌then◌else◌, List, [], ◌∷◌, length, map, refl, ap, ap₂, sym, ◌∙◌, zero-mul, arith}
 use Rattle.std.specs.Ordering.{int_eq}
-use Rattle.std.proofs.lemmas.List.{map-append}
-use Rattle.std.proofs.lemmas.List.Sums.{sum_by-append}
-use Rattle.std.proofs.lemmas.Bool.{and_parts, eqb-true}
-use Rattle.fh_time.specs.declared.values.Slot.{Slot}
 use Rattle.window_config.specs.declared.config.Config.{Config}
-use Rattle.slot_rings.specs.unit_model.specs.Claims.{same_slot}
 use Rattle.plan_parts.specs.plan_model.specs.Dense.{sending_of}
 use Rattle.plan_parts.specs.plan_model.specs.Departures.{start_of}
 use Rattle.plan_parts.specs.plan_model.specs.Packs.{Message, alone as message_alone, parts_of, with_part, size_of, same_symbol, takes, packs_behind, packs, frames_for, frames_before, numbered_behind, numbered}
 use Rattle.plan_parts.specs.plan_model.specs.Streams.{Part, part_fields}
 use Rattle.plan_parts.specs.plan_model.specs.declared.dense.Sending.{Sending}
+use Rattle.plan_parts.specs.plan_model.proofs.PackLemmas.{symbol_alike, before_alike, sum_more, length_more, wait_more}
 use Rattle.plan_tests.specs.Walks.{stream_of, limits_of, alone, takes_more, grown, wait_behind, next_to, sending_from, same_place, walk, walked}
 use Rattle.plan_parts.specs.Parts.{timed}
 use Rattle.plan_parts.specs.declared.parts.TimedPart.{TimedPart}
+use Rattle.plan_parts.proofs.ListedLemmas.{last_apart}
 use Rattle.plan_tests.specs.declared.walking.Limits.{Limits}
 use Rattle.plan_tests.specs.declared.walking.OpenMessage.{OpenMessage}
-use Rattle.plan_tests.proofs.ClashLemmas.{slot_is}
 
 -- ---- symbols
 
-regroup : (a b c d : Bool) → (a && (b && (c && d))) ≡ ((a && (b && c)) && d)
-regroup true true c d = refl
-regroup true false c d = refl
-regroup false b c d = refl
-
 place_is : (up : Bool) (p q : Part) → same_place (timed (stream_of up) p) (timed (stream_of up) q) ≡ same_symbol part_fields p q
-place_is up p q = regroup (int_eq p.planned.line.slot.frame q.planned.line.slot.frame) (p.planned.line.slot.subframe == q.planned.line.slot.subframe)
+place_is up p q = last_apart (int_eq p.planned.line.slot.frame q.planned.line.slot.frame) (p.planned.line.slot.subframe == q.planned.line.slot.subframe)
     (p.planned.line.slot.slot == q.planned.line.slot.slot) (p.symbol == q.symbol)
-
--- parts of one symbol are so to a third alike
-symbol_alike : (p q r : Part) → same_symbol part_fields p q ≡ true → same_symbol part_fields p r ≡ same_symbol part_fields q r
-symbol_alike p q r h =
-    let a = and_parts (same_slot p.planned.line.slot q.planned.line.slot) (p.symbol == q.symbol) h in
-    ap₂ (λ (s : Slot) (y : ℕ). same_slot s r.planned.line.slot && (y == r.symbol)) (slot_is p.planned.line.slot q.planned.line.slot a.0) (eqb-true p.symbol q.symbol a.1)
-
-before_alike : (frames : Message Part → ℕ) (m n : Message Part) (earlier : List (Message Part)) → ((r : Part) → same_symbol part_fields m.first r ≡ same_symbol part_fields n.first r)
-    → frames_before part_fields frames m earlier ≡ frames_before part_fields frames n earlier
-unfolding frames_before
-before_alike frames m n [] h = refl
-before_alike frames m n (k ∷ earlier) h =
-    ap₂ (λ (t : Bool) (x : ℕ). let y : ℕ = if t then frames k + x else 0 in y) (h k.first) (before_alike frames m n earlier h)
-
--- ---- bytes and parts
-
-sum_more : (f : Part → ℕ) (ps : List Part) (p : Part) → sum (map f (ps ++ p ∷ [])) ≡ sum (map f ps) + f p
-sum_more f ps p =
-    let e : sum (map f ps ++ f p ∷ []) ≡ sum (map f ps) + sum (f p ∷ []) = sum_by-append (λ x. x) (map f ps) (f p ∷ []) in
-    ap sum (map-append f ps (p ∷ [])) ∙ e ∙ omega arith
-
-length_more : {X : Type 0} (xs : List X) (x : X) → length (xs ++ x ∷ []) ≡ length xs + 1
-length_more [] x = refl
-length_more (y ∷ xs) x = let e = length_more xs x in omega (arith, e)
-
--- ---- times
-
-wait_more : (before frames gap spread : ℕ) → min (min (before * gap) spread + frames * gap) spread ≡ min ((frames + before) * gap) spread
-wait_more before frames gap spread =
-    let e : (frames + before) * gap ≡ frames * gap + before * gap = add-mul frames before gap in
-    omega (arith, e)
 
 -- ---- an open message
 

@@ -51,7 +51,7 @@ abbrev index_or : ℕ → Option PlannedLine → ℕ
 index_or k None = k
 index_or k (Some p) = p.index
 
-index_is : (k : ℕ) (line : PlanLine) (o : Option (ℕ × EndpointConfig)) → index_or k (planned_with k line o) ≡ k
+pub index_is : (k : ℕ) (line : PlanLine) (o : Option (ℕ × EndpointConfig)) → index_or k (planned_with k line o) ≡ k
 index_is k line None = refl
 index_is k line (Some found) = refl
 

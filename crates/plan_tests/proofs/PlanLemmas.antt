@@ -4,6 +4,7 @@ use Rattle.std.specs.Prelude.{All, slice_get, is_some}
 use Rattle.std.specs.List.{AllByRecursion}
 use Rattle.std.proofs.lemmas.Bool.Decides.{nat_tests}
 use Rattle.std.proofs.lemmas.List.{drop_all}
+use Rattle.std.proofs.lemmas.Option.{get_or_from_slice_get}
 use Rattle.window_config.specs.Plans.{IsPlanLine}
 use Rattle.window_config.specs.declared.config.Config.{Config}
 use Rattle.window_config.specs.declared.endpoints.EndpointConfig.{EndpointConfig}
@@ -25,10 +26,9 @@ use Rattle.plan_parts.specs.Parts.{HasEndpoint, timed}
 use Rattle.plan_tests.specs.Walks.{stream_of, limits_of, walked}
 use Rattle.plan_tests.specs.Placed.{placed_on, placed_from, stopped_from}
 use Rattle.plan_tests.specs.Slots.{refused_along}
-use Rattle.plan_parts.proofs.PlacingLemmas.{at_is}
 use Rattle.plan_tests.proofs.MessageLemmas.{walked_is}
 use Rattle.plan_tests.proofs.PlacedLemmas.{refused_apart, placed_all}
-use Rattle.plan_parts.proofs.ListLemmas.{all_in, all_index}
+use Rattle.plan_parts.proofs.ListLemmas.{all_index}
 
 -- ---- dense messages
 
@@ -173,11 +173,6 @@ dense_last c lines placed None (Some r) found h none off placed_is stop_is found
 dense_last c lines placed None None found h none off placed_is stop_is found_is =
     ap dense_refused (found_is ∙ ap (dense c) (placed_is ∙ placed_all c.endpoints 0 lines (sym stop_is)))
     ∙ ap (λ (o : Option (ℕ × PlanWhy)). or_else o (dense_refused (dense c (planned c.endpoints lines)))) h
-
--- an endpoint, where there is one
-pub some_of : (es : List EndpointConfig) (k : ℕ) → k < length es → EndpointConfig
-some_of [] k below = absurd (omega (arith, below))
-some_of (e ∷ es) k below = e
 
 pub placed_at : (c : Config) (lines : List PlanLine) (es : List EndpointConfig) (items placed : List PlannedLine) → es ≡ c.endpoints → items ≡ placed_from es 0 lines → placed ≡ items
     → placed ≡ placed_from c.endpoints 0 lines

@@ -7,21 +7,17 @@ use Rattle.std.specs.declared.cmp.Ordering.{Ordering}
 use Rattle.std.specs.declared.cmp.Ordering.TheVariants.{Less, Equal, Greater}
 use Rattle.std.proofs.lemmas.Bool.{cases_Bool, and_parts, and_from, eq-eqb}
 use Rattle.std.proofs.lemmas.Cmp.{by_ranked, ranked, int_ranked, nat_cmp_total, int_cmp_total, on_total, then_total}
+use Rattle.std.proofs.lemmas.List.Elements.{filter-append}
 use Rattle.fh_time.specs.declared.values.Slot.{Slot}
 use Rattle.slot_rings.specs.unit_model.specs.Claims.{same_slot}
+use Rattle.plan_parts.specs.fragment_laws.specs.Apart.{IsIn}
 use Rattle.plan_parts.specs.plan_model.specs.Lines.{allocation_of}
 use Rattle.plan_parts.specs.plan_model.specs.declared.lines.PlannedLine.{PlannedLine}
 use Rattle.plan_parts.specs.plan_model.specs.declared.refusals.PlanWhy.{PlanWhy}
+use Rattle.plan_parts.specs.plan_model.proofs.ListLemmas.{all_in, all_from, all_map, filter_all, filter_none}
+use Rattle.plan_parts.specs.plan_model.proofs.SlotLemmas.{slot_own, slot_is, same_slot_fields}
 use Rattle.plan_tests.specs.Order.{slot_cmp, comes_first, AreInOrder}
-use Rattle.plan_parts.specs.Placing.{IsIn}
 use Rattle.plan_tests.specs.Slots.{is_home, of_home, judged, judged_in, lesser, least_along}
-use Rattle.plan_tests.proofs.ClashLemmas.{slot_own, slot_is}
-use Rattle.plan_parts.proofs.ListLemmas.{all_in}
-use Rattle.plan_parts.proofs.ListLemmas.{all_from}
-use Rattle.plan_parts.proofs.ListLemmas.{filter_all}
-use Rattle.plan_parts.proofs.ListLemmas.{filter_none}
-use Rattle.plan_parts.proofs.ListLemmas.{filter_append}
-use Rattle.plan_parts.proofs.ListLemmas.{all_map}
 use Rattle.plan_parts.proofs.OrderLemmas.{nat_equal}
 use Rattle.plan_parts.proofs.OrderLemmas.{int_equal}
 use Rattle.plan_parts.proofs.OrderLemmas.{then_equal}
@@ -31,16 +27,11 @@ use Rattle.plan_parts.proofs.OrderLemmas.{then_equal}
 pub slot_total : IsTotalOrder slot_cmp
 slot_total = then_total (on_total (λ (s : Slot). s.frame) int_cmp_total) (then_total (on_total (λ (s : Slot). s.subframe) nat_cmp_total) (on_total (λ (s : Slot). s.slot) nat_cmp_total))
 
-same_fields : (a b : Slot) → a.frame ≡ b.frame → a.subframe ≡ b.subframe → a.slot ≡ b.slot → a ≡ b
-same_fields a b p q r =
-    let same : (let x : Slot = record { frame = a.frame; subframe = a.subframe; slot = a.slot } in x) ≡ (let y : Slot = record { frame = b.frame; subframe = b.subframe; slot = b.slot } in y) = rw (p, q, r) refl in
-    same
-
 pub slot_equal : (a b : Slot) → slot_cmp a b ≡ Equal → a ≡ b
 slot_equal a b h =
     let x = then_equal (int_cmp a.frame b.frame) (ordering_then (nat_cmp a.subframe b.subframe) (nat_cmp a.slot b.slot)) h in
     let y = then_equal (nat_cmp a.subframe b.subframe) (nat_cmp a.slot b.slot) x.1 in
-    same_fields a b (int_equal a.frame b.frame x.0) (nat_equal a.subframe b.subframe y.0) (nat_equal a.slot b.slot y.1)
+    same_slot_fields a b (int_equal a.frame b.frame x.0) (nat_equal a.subframe b.subframe y.0) (nat_equal a.slot b.slot y.1)
 
 -- neither comes first: they are of one slot
 pub tie_is : (a b : Slot) → is_lt (slot_cmp a b) ≡ false → is_lt (slot_cmp b a) ≡ false → a ≡ b
@@ -109,7 +100,7 @@ append_none {X = X} (x ∷ xs) = ap (λ (ys : List X). x ∷ ys) (append_none xs
 -- the run is all of its slot
 pub home_of_run : (p : PlannedLine) (run others : List PlannedLine) → IsRun p run others → AllByRecursion (λ q. q.ep ≡ p.ep) run → of_home p.ep p.line.slot (run ++ others) ≡ run
 home_of_run p run others is eps =
-    filter_append (λ q. is_home p.ep p.line.slot (allocation_of q)) run others
+    filter-append (λ q. is_home p.ep p.line.slot (allocation_of q)) run others
     ∙ ap₂ (λ (xs ys : List PlannedLine). xs ++ ys)
     (filter_all (λ q. is_home p.ep p.line.slot (allocation_of q)) run
     (all_map (λ q. (q.ep ≡ p.ep) × (q.line.slot ≡ p.line.slot)) (λ q. is_home p.ep p.line.slot (allocation_of q) ≡ true) (λ q h. home_true p.ep p.line.slot q h.0 h.1) run
@@ -121,7 +112,7 @@ home_of_run p run others is eps =
 pub home_of_others : (p : PlannedLine) (run others : List PlannedLine) → IsRun p run others → (q : PlannedLine) → IsIn q others
     → of_home q.ep q.line.slot others ≡ of_home q.ep q.line.slot (run ++ others)
 home_of_others p run others is q m =
-    sym (filter_append (λ x. is_home q.ep q.line.slot (allocation_of x)) run others
+    sym (filter-append (λ x. is_home q.ep q.line.slot (allocation_of x)) run others
     ∙ ap (λ (xs : List PlannedLine). xs ++ of_home q.ep q.line.slot others)
     (filter_none (λ x. is_home q.ep q.line.slot (allocation_of x)) run
     (all_map (λ x. x.line.slot ≡ p.line.slot) (λ x. is_home q.ep q.line.slot (allocation_of x) ≡ false)

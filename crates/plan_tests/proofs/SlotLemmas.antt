@@ -7,12 +7,12 @@ use Rattle.fh_time.specs.declared.values.Slot.{Slot}
 use Rattle.slot_rings.specs.unit_model.specs.declared.allocations.Allocation.{Allocation}
 use Rattle.slot_rings.specs.unit_model.specs.Claims.{same_slot, same_way}
 use Rattle.slot_rings.specs.unit_model.specs.Commands.{is_uplink, uplink_in, is_full, most_uplink}
+use Rattle.plan_parts.specs.fragment_laws.specs.Apart.{IsIn}
 use Rattle.plan_parts.specs.plan_model.specs.Validity.{share_cell, clash, why_claimed, refused_at}
 use Rattle.plan_parts.specs.plan_model.specs.declared.refusals.PlanWhy.{PlanWhy}
-use Rattle.plan_parts.specs.Placing.{IsIn}
 use Rattle.plan_tests.specs.Slots.{AreProper, AreClear, why_judged, refused_along, refused_in, is_home, IsFrom, IsLeast}
 use Rattle.plan_parts.specs.plan_model.specs.declared.refusals.PlanWhy.TheVariants.{Overlap, TooManySections}
-use Rattle.plan_tests.proofs.ClashLemmas.{slot_own, slot_is}
+use Rattle.plan_parts.specs.plan_model.proofs.SlotLemmas.{slot_own, slot_is}
 use Rattle.plan_tests.proofs.ListLemmas.{why_is, none_is}
 
 -- the words of a line that is refused, of one that is not

@@ -1,8 +1,8 @@
 -- What a stable sort by slots leaves.
-use Rattle.std.proofs.Common.{◌≡◌, ℕ, suc, ◌+◌, ◌<◌, Bool, true, false, not, ◌&&◌, ◌==◌, if◌then◌else◌, List, [], ◌∷◌, length, filter, get_or, refl, ap, ap₂, sym, ◌∙◌, subst, arith}
+use Rattle.std.proofs.Common.{◌≡◌, ℕ, suc, ◌+◌, ◌<◌, Bool, true, false, not, ◌&&◌, ◌==◌, List, [], ◌∷◌, length, filter, get_or, refl, ap, sym, ◌∙◌, subst, arith}
 use Rattle.std.specs.List.{AllByRecursion}
 use Rattle.std.specs.List.Sorted.{IsSortedBy, IsStableBy, ties}
-use Rattle.std.specs.Cmp.{IsStrictWeakOrder}
+use Rattle.std.specs.Cmp.{IsStrictWeakOrder, both_ways}
 use Rattle.std.specs.Ordering.{is_lt}
 use Rattle.std.specs.declared.cmp.Ordering.{Ordering}
 use Rattle.std.proofs.lemmas.Bool.{and_parts, and_from}
@@ -11,10 +11,10 @@ use Rattle.std.proofs.lemmas.List.Sorted.{ranks_by, sorted_far}
 use Rattle.fh_time.specs.declared.values.Slot.{Slot}
 use Rattle.slot_rings.specs.unit_model.specs.Claims.{same_slot}
 use Rattle.plan_parts.specs.plan_model.specs.declared.lines.PlannedLine.{PlannedLine}
+use Rattle.plan_parts.specs.plan_model.proofs.SlotLemmas.{slot_own, slot_is}
+use Rattle.plan_parts.specs.plan_model.proofs.ListLemmas.{filter_same}
 use Rattle.plan_tests.specs.Order.{slot_cmp, comes_first, AreInOrder}
 use Rattle.plan_tests.specs.Slots.{of_home}
-use Rattle.plan_tests.proofs.ClashLemmas.{slot_own, slot_is}
-use Rattle.plan_parts.proofs.ListLemmas.{same_tests}
 use Rattle.plan_tests.proofs.RunLemmas.{slot_total, tie_is}
 use Rattle.plan_parts.proofs.ListLemmas.{all_index}
 use Rattle.plan_parts.proofs.ListLemmas.{filter_and}
@@ -34,7 +34,7 @@ sorted_order (p ∷ ps) h = (
 -- ---- of one slot
 
 tied : (p q : PlannedLine) → ties comes_first p q ≡ same_slot q.line.slot p.line.slot
-tied p q = same_tests _ _
+tied p q = both_ways _ _
     (λ h. let w = and_parts (not (comes_first p q)) _ h in
     let e = tie_is p.line.slot q.line.slot (off (comes_first p q) w.0) (off (comes_first q p) w.1) in
     ap (λ (s : Slot). same_slot q.line.slot s) e ∙ slot_own q.line.slot)
@@ -46,10 +46,6 @@ tied p q = same_tests _ _
     off : (b : Bool) → not b ≡ true → b ≡ false
     off true h = cc
     off false h = refl
-
-pub filter_same : {X : Type 0} (a b : X → Bool) → ((x : X) → a x ≡ b x) → (xs : List X) → filter a xs ≡ filter b xs
-filter_same a b h [] = refl
-filter_same {X = X} a b h (x ∷ xs) = ap₂ (λ (t : Bool) (ys : List X). let zs : List X = if t then x ∷ ys else ys in zs) (h x) (filter_same a b h xs)
 
 pub homes_stay : (old new : List PlannedLine) → IsStableBy comes_first old new → (p : PlannedLine) → of_home p.ep p.line.slot new ≡ of_home p.ep p.line.slot old
 homes_stay old new stable p =

@@ -2,25 +2,21 @@
 use Rattle.std.proofs.Common.{◌≡◌, ℕ, zero, suc, ◌+◌, ◌<◌, ◌≤◌, inl, inr, true, false, List, [], ◌∷◌, ◌++◌, length, get_or, take, drop, Option, None, refl, ap, sym, ◌∙◌, subst, true≢false, arith}
 use Rattle.std.specs.List.{AllByRecursion}
 use Rattle.std.proofs.lemmas.Bool.{cases_eq}
+use Rattle.std.proofs.lemmas.List.{take-append-drop}
 use Rattle.slot_rings.specs.unit_model.specs.Claims.{same_slot}
-use Rattle.plan_tests.proofs.ClashLemmas.{slot_own, slot_is}
 use Rattle.std.proofs.Math.Seq.{drop-nil}
 use Rattle.fh_time.specs.declared.values.Slot.{Slot}
 use Rattle.window_config.specs.declared.endpoints.EndpointConfig.{EndpointConfig}
+use Rattle.plan_parts.specs.fragment_laws.specs.Apart.{IsIn}
 use Rattle.slot_rings.specs.Rings.{RingValue, has_slot}
 use Rattle.plan_parts.specs.plan_model.specs.declared.lines.PlannedLine.{PlannedLine}
 use Rattle.plan_parts.specs.plan_model.specs.declared.refusals.PlanWhy.{PlanWhy}
+use Rattle.plan_parts.specs.plan_model.proofs.ListLemmas.{all_in, all_from, all_map, in_right}
+use Rattle.plan_parts.specs.plan_model.proofs.SlotLemmas.{slot_own, slot_is}
 use Rattle.plan_tests.specs.Judging.{IsFirstRun, IsLineOf, IsLineAt}
 use Rattle.plan_tests.specs.Order.{AreInOrder}
-use Rattle.plan_parts.specs.Placing.{IsIn}
 use Rattle.plan_tests.specs.Slots.{judged, judged_in, of_home, lesser, least_along}
 use Rattle.plan_tests.proofs.RunLemmas.{IsRun, run_is, home_of_run, home_of_others, least_of_run}
-use Rattle.plan_parts.proofs.ListLemmas.{all_in, all_from, all_map}
-
-take_all : {X : Type 0} (n : ℕ) (xs : List X) → take n xs ++ drop n xs ≡ xs
-take_all zero xs = refl
-take_all (suc n) [] = refl
-take_all {X = X} (suc n) (x ∷ xs) = ap (λ (ys : List X). x ∷ ys) (take_all n xs)
 
 -- ---- the first slot of what is left
 
@@ -44,7 +40,7 @@ pub cut_is : (lines : List PlannedLine) (n : ℕ) (p : PlannedLine) → IsFirstR
 cut_is [] n p f is order = absurd (let s = f.some in let w = f.within in omega (arith, s, w))
 cut_is (x ∷ xs) zero p f is order = absurd (let s = f.some in omega (arith, s))
 cut_is (x ∷ xs) (suc n) p f is order =
-    let whole : take n xs ++ drop n xs ≡ xs = take_all n xs in
+    let whole : take n xs ++ drop n xs ≡ xs = take-append-drop n xs in
     let in_order : AreInOrder (x ∷ (take n xs ++ drop n xs)) = subst (λ (ys : List PlannedLine). AreInOrder (x ∷ ys)) (sym whole) order in
     let same : AllByRecursion (λ q. q.line.slot ≡ x.line.slot) (x ∷ take n xs) =
     (refl, all_taken (λ q. q.line.slot ≡ x.line.slot) n xs (λ k d a b. f.same (suc k) d (omega (arith, a)))) in
@@ -86,10 +82,6 @@ all_parts P (x ∷ xs) ys h = let r = all_parts P xs ys h.1 in ((h.0, r.0), r.1)
 order_parts : (xs ys : List PlannedLine) → AreInOrder (xs ++ ys) → AreInOrder ys
 order_parts [] ys h = h
 order_parts (x ∷ xs) ys h = order_parts xs ys h.1
-
-in_behind : {X : Type 0} (xs ys : List X) (x : X) → IsIn x ys → IsIn x (xs ++ ys)
-in_behind [] ys x m = m
-in_behind (y ∷ xs) ys x m = inr (in_behind xs ys x m)
 
 module _ (e : EndpointConfig) (ep : ℕ) (lines rest : List PlannedLine) (ring : RingValue) (least : Option (ℕ × PlanWhy)) (l : Left e ep lines rest ring least)
     (run others : List PlannedLine) (p : PlannedLine) (cut : IsCut rest run others p) where
@@ -135,7 +127,7 @@ module _ (e : EndpointConfig) (ep : ℕ) (lines rest : List PlannedLine) (ring :
     one = one;
     free = λ q m. free q.line.slot (cut.run_is.apart q m);
     homes = λ q m. home_of_others p run others cut.run_is q m ∙ ap (of_home q.ep q.line.slot) cut.whole
-        ∙ l.homes q (subst (IsIn q) cut.whole (in_behind run others q m));
+        ∙ l.homes q (subst (IsIn q) cut.whole (in_right q run others m));
     order = order_parts run others (subst AreInOrder (sym cut.whole) l.order);
     all = parts.1;
     least_is =

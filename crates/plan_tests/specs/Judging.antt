@@ -12,13 +12,13 @@ use Rattle.slot_rings.specs.unit_model.specs.declared.allocations.Allocation.{Al
 use Rattle.slot_rings.specs.unit_model.specs.declared.cells.Cell.{Cell}
 use Rattle.slot_rings.specs.unit_model.specs.declared.verdicts.CommandVerdict.{CommandVerdict}
 use Rattle.slot_rings.specs.unit_model.specs.declared.verdicts.CommandVerdict.TheVariants as verdict
+use Rattle.plan_parts.specs.fragment_laws.specs.Apart.{IsIn}
 use Rattle.slot_rings.specs.Rings.{RingValue, IsRingCell, has_slot, ring_claim, ring_uplink}
 use Rattle.plan_parts.specs.plan_model.specs.Lines.{allocation_of}
 use Rattle.plan_parts.specs.plan_model.specs.Validity.{is_out_of_range}
 use Rattle.plan_parts.specs.plan_model.specs.declared.lines.PlannedLine.{PlannedLine}
 use Rattle.plan_parts.specs.plan_model.specs.declared.refusals.PlanWhy.{PlanWhy}
 use Rattle.plan_parts.specs.plan_model.specs.declared.refusals.PlanWhy.TheVariants.{Range, Overlap, TooManySections}
-use Rattle.plan_parts.specs.Placing.{IsIn}
 use Rattle.plan_tests.specs.Slots.{IsFrom, judged_in}
 
 -- a line of this endpoint, in its ranges

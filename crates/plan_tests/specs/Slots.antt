@@ -1,24 +1,17 @@
 -- The tests of Overlap and TooManySections by the radio unit's verdict, and slot by slot (this project's means to look at each line
 -- once).
-use Rattle.std.specs.Prelude.{◌≡◌, ⊤, ◌⊎◌, ℕ, ◌+◌, ◌^◌, ◌<◌, Bool, false, ◌&&◌, ◌==◌, nat_lt, if◌then◌else◌, List, [], ◌∷◌, map, filter, Option, Some, None}
+use Rattle.std.specs.Prelude.{◌≡◌, ⊤, ◌⊎◌, ℕ, ◌+◌, ◌<◌, Bool, false, ◌&&◌, ◌==◌, nat_lt, if◌then◌else◌, List, [], ◌∷◌, map, filter, Option, Some, None}
 use Rattle.std.specs.List.{list_any, AllByRecursion}
 use Rattle.fh_time.specs.declared.values.Slot.{Slot}
-use Rattle.slot_rings.specs.unit_model.specs.Claims.{same_slot, prb_count, repeats, overlaps}
+use Rattle.slot_rings.specs.unit_model.specs.Claims.{same_slot, repeats, overlaps}
 use Rattle.slot_rings.specs.unit_model.specs.Commands.{is_full}
 use Rattle.slot_rings.specs.unit_model.specs.declared.allocations.Allocation.{Allocation}
+use Rattle.plan_parts.specs.fragment_laws.specs.Apart.{IsIn}
 use Rattle.plan_parts.specs.plan_model.specs.Lines.{allocation_of}
-use Rattle.plan_parts.specs.plan_model.specs.Validity.{clash, why_claimed, refused_at}
+use Rattle.plan_parts.specs.plan_model.specs.Validity.{clash, why_claimed, refused_at, IsProper}
 use Rattle.plan_parts.specs.plan_model.specs.declared.lines.PlannedLine.{PlannedLine}
 use Rattle.plan_parts.specs.plan_model.specs.declared.refusals.PlanWhy.{PlanWhy}
 use Rattle.plan_parts.specs.plan_model.specs.declared.refusals.PlanWhy.TheVariants.{Overlap, TooManySections}
-use Rattle.plan_parts.specs.Placing.{IsIn}
-
--- a line in its ranges names an element
-pub record IsProper (a : Allocation) : Type 0 where
-  pub symbols : 0 < a.num_symbol
-  pub prbs : 0 < prb_count a
-  pub mask : 0 < a.mask
-  pub twelve : a.mask < 2 ^ 12
 
 abbrev pub AreProper : List Allocation → Type 0
 AreProper ls = AllByRecursion IsProper ls

@@ -3,6 +3,7 @@ use Rattle.std.proofs.Common.{◌≡◌, ℤ, pos, ◌+ℤ◌, ◌-ℤ◌, ◌�
 use Rattle.std.specs.Prelude.{All, map}
 use Rattle.std.proofs.lemmas.Int.{ints}
 use Rattle.std.proofs.lemmas.List.Elements.{All-map}
+use Rattle.std.specs.Int.Signed.{≤ℤ_refl}
 use Rattle.air_source.specs.declared.events.Side.TheVariants.{Ru as AtRu, Du as AtDu}
 use Rattle.measured_moments.specs.delay_laws.specs.Ticks.{Flight}
 use Rattle.measured_moments.specs.document_traffic.specs.Laws.{IsReplayable}
@@ -23,10 +24,10 @@ use Rattle.measured_moments.specs.measured_traffic.specs.Measured.{exchanges}
 use Rattle.measured_moments.specs.measured_traffic.specs.Replayed.{landings_for, leaving_made, leaving_with, made_at}
 use Rattle.measured_moments.specs.measured_traffic.specs.Turns.{IsQuietBetween}
 use Rattle.du_scheduler.specs.plan_model.specs.Sent.{SentFrame}
-use Rattle.measured_moments.specs.replay_events.proofs.TickLemmas.{last_reached, next_after, same_most}
 use Rattle.measured_moments.specs.replay_events.specs.Moments.{end_of_time, landing_at}
 use Rattle.du_scheduler.specs.unit_model.specs.Meetings.{Arrival}
 use Rattle.du_scheduler.specs.unit_model.specs.Radiated.{first_clock}
+use Rattle.measured_moments.specs.replay_events.specs.history_laws.proofs.TickLemmas.{last_reached, next_after}
 use Rattle.radio_moments.specs.Downlink.{AreSentFrom, HasLandedDown, HasSent, IsCalmTo, WaitsDown}
 use Rattle.radio_moments.specs.Landing.{WaitsToLand}
 use Rattle.radio_moments.specs.declared.downlink.Downlink.{Downlink}
@@ -50,7 +51,7 @@ calm_before d now to w waits early = (
 
 -- of the frames that are still to be sent none leaves before the moment
 sent_later : (d : Document) (now tick : ℤ) (w : Downlink) → (waits : WaitsDown d now w) → IsCalmTo w (tick -ℤ pos 1) → AreSentFrom tick waits.left
-sent_later d now tick w waits calm = sent_less tick ((tick -ℤ pos 1) +ℤ pos 1) waits.left (last_reached tick tick (same_most tick)) (calm.0 d.config d.plan waits.left waits.plan)
+sent_later d now tick w waits calm = sent_less tick ((tick -ℤ pos 1) +ℤ pos 1) waits.left (last_reached tick tick (≤ℤ_refl tick)) (calm.0 d.config d.plan waits.left waits.plan)
 
 leave_from : (d : Document) (now : ℤ) (fs : List SentFrame) → AreSentFrom now fs → All (λ (f : Leaving). now ≤ℤ f.at) (map (leaving_of d) fs)
 leave_from d now fs later = All-map (λ (f : Leaving). now ≤ℤ f.at) (leaving_of d) fs later

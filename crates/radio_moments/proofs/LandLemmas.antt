@@ -26,34 +26,31 @@ use Rattle.du_scheduler.specs.unit_model.specs.Lists.{onto}
 use Rattle.du_scheduler.specs.unit_model.specs.Meetings.{Arrival}
 use Rattle.du_scheduler.specs.unit_model.specs.Standing.{History, arrived}
 use Rattle.du_scheduler.specs.window_config.specs.declared.config.Config.{Config}
+use Rattle.measured_moments.specs.replay_events.proofs.CameLemmas.{onto_none}
 use Rattle.radio_moments.specs.Landing.{HasTaken, HaveLanded, MayLand, WaitsToLand, landed, told_of_frame, told_of_frames}
 use Rattle.radio_moments.specs.Stops.{HaltsBehind, StopsBehind}
 use Rattle.radio_moments.proofs.StopLemmas.{halts_ahead, halts_behind, halts_moved, stops_ahead, stops_behind, stops_moved}
 
 -- ---- one more
 
-onto-append : (earlier xs : List Arrival) (x : Arrival) → onto earlier (xs ++ x ∷ []) ≡ x ∷ onto earlier xs
+pub onto-append : (earlier xs : List Arrival) (x : Arrival) → onto earlier (xs ++ x ∷ []) ≡ x ∷ onto earlier xs
 unfolding onto
 onto-append earlier [] x = refl
 onto-append earlier (y ∷ xs) x = onto-append (y ∷ earlier) xs x
-
-onto-none : (earlier : List Arrival) → onto earlier [] ≡ earlier
-unfolding onto
-onto-none earlier = refl
 
 -- a history with these arrivals
 abbrev with_arrivals : History → List Arrival → History
 with_arrivals h xs = record { clock = h.clock; arrivals = xs; reported = h.reported; given = h.given }
 
 landed_none : (h : History) → landed h [] ≡ h
-landed_none h = ap (with_arrivals h) (onto-none h.arrivals)
+landed_none h = ap (with_arrivals h) (onto_none h.arrivals)
 
 landed_next : (h : History) (xs : List Arrival) (frame : List ℕ) → arrived (landed h xs) frame ≡ landed h (xs ++ arrival_at h.clock frame ∷ [])
 landed_next h xs frame = ap (with_arrivals h) (sym (onto-append h.arrivals xs (arrival_at h.clock frame)))
 
 -- ---- what a meter has of them, and what is told
 
-with_frames-append : (c : Compensation) (t : ℤ) (x : Doings) (xs ys : List Arrival) → with_frames c t x (xs ++ ys) ≡ with_frames c t (with_frames c t x xs) ys
+pub with_frames-append : (c : Compensation) (t : ℤ) (x : Doings) (xs ys : List Arrival) → with_frames c t x (xs ++ ys) ≡ with_frames c t (with_frames c t x xs) ys
 with_frames-append c t x [] ys = refl
 with_frames-append c t x (a ∷ xs) ys = with_frames-append c t (with_frame c t x a.frame) xs ys
 

@@ -12,6 +12,7 @@ use Rattle.du_scheduler.specs.frame_order.proofs.TurnOrder.{own, same_turn}
 use Rattle.du_scheduler.specs.plan_model.specs.Sent.{SentFrame}
 use Rattle.du_scheduler.specs.window_config.specs.declared.config.Config.{Config}
 use Rattle.du_scheduler.specs.window_config.specs.declared.plan.PlanLine.{PlanLine}
+use Rattle.du_scheduler.specs.sent_order.proofs.CountLemmas.{times-append}
 
 -- a list with one of its frames taken out
 record TakenOut (t : Turn) (whole : List Turn) : Type 0 where
@@ -28,10 +29,6 @@ take_out t (u ∷ ts) h = go (is_turn t u) refl h (λ k. take_out t ts k)
     go false e k next =
         let rest = next (omega (arith, k)) in
         record { front = u ∷ rest.front; back = rest.back; is = ap (λ (xs : List Turn). u ∷ xs) rest.is }
-
-times_both : (t : Turn) (xs ys : List Turn) → times t (xs ++ ys) ≡ times t xs + times t ys
-times_both t [] ys = omega arith
-times_both t (x ∷ xs) ys = let rest = times_both t xs ys in omega (arith, rest)
 
 none_at_all : (ts : List Turn) → ((t : Turn) → times t ts ≡ 0) → length ts ≡ 0
 none_at_all [] h = refl
@@ -50,8 +47,8 @@ as_long (x ∷ xs) ys h =
     let less : (t : Turn) → times t xs ≡ times t (out.front ++ out.back) =
     λ t.
     (let whole = h t ∙ ap (times t) out.is in
-    let parts = times_both t out.front (x ∷ out.back) in
-    let joined = times_both t out.front out.back in
+    let parts = times-append t out.front (x ∷ out.back) in
+    let joined = times-append t out.front out.back in
     omega (arith, whole, parts, joined)) in
     let rest = as_long xs (out.front ++ out.back) less in
     let long = ap length out.is in

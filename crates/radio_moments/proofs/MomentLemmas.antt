@@ -1,7 +1,6 @@
 -- One moment of the radio unit, and the time before it.
-use Rattle.std.proofs.Common.{◌≡◌, ℤ, pos, ◌-ℤ◌, ◌≤ℤ◌, ◌<ℤ◌, List, ◌++◌, refl, ap, ap₂, ◌∙◌, arith}
+use Rattle.std.proofs.Common.{◌≡◌, ℤ, pos, ◌-ℤ◌, ◌≤ℤ◌, ◌<ℤ◌, List, ◌++◌, refl, ap, ap₂, ◌∙◌}
 use Rattle.std.specs.Prelude.{map}
-use Rattle.std.proofs.lemmas.Int.{ints}
 use Rattle.air_source.specs.declared.events.AirCell.{AirCell}
 use Rattle.air_source.specs.declared.events.Event.TheVariants.{Cell}
 use Rattle.air_source.specs.declared.events.Side.TheVariants.{Ru as AtRu}
@@ -12,7 +11,6 @@ use Rattle.measured_moments.specs.document_traffic.specs.Laws.{IsReplayable}
 use Rattle.measured_moments.specs.fh_document.specs.declared.document.Document.{Document}
 use Rattle.measured_moments.specs.measured_traffic.specs.Doings.{Doings}
 use Rattle.measured_moments.specs.measured_traffic.specs.Replayed.{begun, doings_at, landings_for, results_at, traffic_of}
-use Rattle.measured_moments.specs.replay_events.proofs.TickLemmas.{at_most}
 use Rattle.measured_moments.specs.replay_events.specs.Events.{arrivals_told}
 use Rattle.measured_moments.specs.replay_events.specs.Moments.{end_of_time, landing_at}
 use Rattle.measured_moments.specs.replay_events.specs.Passing.{IsCalm, IsNextMoment, IsUnitMoment}
@@ -23,6 +21,7 @@ use Rattle.measured_moments.specs.ru_buffers.specs.declared.unit.Ru.{Ru}
 use Rattle.du_scheduler.specs.unit_model.specs.Lists.{onto}
 use Rattle.du_scheduler.specs.unit_model.specs.Meetings.{Arrival}
 use Rattle.du_scheduler.specs.unit_model.specs.Standing.{History, at_clock, heard}
+use Rattle.measured_moments.specs.replay_events.specs.history_laws.proofs.TickLemmas.{at_most, last_before, last_order}
 use Rattle.radio_moments.specs.Downlink.{HasSent}
 use Rattle.radio_moments.specs.Landing.{MayLand, landed, told_of_frames}
 use Rattle.radio_moments.specs.Turns.{AtRadioTurn, HasRadioLanded, IsRadioTurn, radio_events}
@@ -31,9 +30,6 @@ use Rattle.radio_moments.proofs.DownLemmas.{lands_late, left_then, waits_to_land
 use Rattle.radio_moments.proofs.TurnLemmas.{due_here, has_landed, quiet_less, skip, unit_moment}
 
 -- ---- before the next moment
-
-last_before : (a b : ℤ) → a <ℤ b → a ≤ℤ (b -ℤ pos 1)
-last_before a b h = omega (arith, ints)
 
 -- before a tick nothing is due
 pub quiet_before : (d : Document) (now to : ℤ) (u : Ru) → (a : AtRadioTurn d now u) → to <ℤ now → IsQuietTo d.config a.history to
@@ -55,9 +51,6 @@ turn_at d now tick u doc a next quiet = record {
 }
 
 -- ---- the moment itself
-
-last_order : (clock tick : ℤ) → clock ≤ℤ tick → (clock -ℤ pos 1) ≤ℤ (tick -ℤ pos 1)
-last_order clock tick h = omega (arith, ints)
 
 pub is_ready : (d : Document) (tick : ℤ) (u : Ru) → AtRadioTurn d tick u → HasGivenPast u
 is_ready d tick u a =

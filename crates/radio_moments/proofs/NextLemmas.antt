@@ -1,25 +1,22 @@
 -- When a plan sends next.
-use Rattle.std.proofs.Common.{◌≡◌, ℤ, pos, ◌+ℤ◌, ◌≤ℤ◌, ◌<ℤ◌, List, [], ◌∷◌, Option, Some, None, sym, subst, arith}
+use Rattle.std.proofs.Common.{◌≡◌, ℤ, pos, ◌+ℤ◌, ◌≤ℤ◌, ◌<ℤ◌, List, [], ◌∷◌, Option, Some, None, sym, subst}
 use Rattle.std.specs.Prelude.{map}
-use Rattle.std.proofs.lemmas.Int.{ints}
 use Rattle.std.proofs.lemmas.List.Elements.{All-cons, All-head, All-nil}
 use Rattle.fh_time.specs.declared.values.Ticks.{Ticks}
 use Rattle.du_scheduler.specs.Plans.{HasToSend, IsPlan}
 use Rattle.du_scheduler.specs.declared.plans.Plan.{Plan}
 use Rattle.du_scheduler.specs.frame_order.specs.Queues.{first_time}
 use Rattle.du_scheduler.specs.plan_model.specs.Sent.{SentFrame}
-use Rattle.measured_moments.specs.replay_events.proofs.TickLemmas.{next_after}
 use Rattle.measured_moments.specs.ru_buffers.specs.Calls.{IsLeastOf}
 use Rattle.du_scheduler.specs.sent_order.specs.Runs.{turn_of}
 use Rattle.du_scheduler.specs.window_config.specs.declared.config.Config.{Config}
 use Rattle.du_scheduler.specs.window_config.specs.declared.plan.PlanLine.{PlanLine}
+use Rattle.measured_moments.specs.replay_events.specs.history_laws.proofs.TickLemmas.{next_after}
+use Rattle.measured_moments.specs.frame_ways.proofs.TimeLemmas.{not_past}
 use Rattle.radio_moments.specs.Downlink.{AreSentFrom, SendsNoneTo}
 use Rattle.radio_moments.proofs.OrderLemmas.{first_is_least, sent_less}
 
 -- ---- when a plan sends next
-
-not_past : (a : ℤ) → (a +ℤ pos 1) ≤ℤ a → ⊥
-not_past a h = omega (arith, ints)
 
 pub some_same : {X : Type 0} {x y : X} → Some x ≡ Some y → x ≡ y
 some_same e = cc e

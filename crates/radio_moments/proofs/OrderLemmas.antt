@@ -1,10 +1,10 @@
 -- The frames that a plan has still to send: each at its time, none before the first of them.
-use Rattle.std.proofs.Common.{◌≡◌, ℕ, ℤ, pos, ◌+◌, ◌<◌, ◌+ℤ◌, ◌≤ℤ◌, Bool, true, false, List, [], ◌∷◌, All, inl, inr, refl, sym, ap, ◌∙◌, subst, arith}
+use Rattle.std.proofs.Common.{◌≡◌, ℕ, ℤ, pos, ◌+◌, ◌<◌, ◌+ℤ◌, ◌≤ℤ◌, Bool, true, false, List, [], ◌∷◌, inl, inr, refl, sym, ap, ◌∙◌, subst, arith}
 use Rattle.std.specs.Prelude.{map, filter, if◌then◌else◌}
 use Rattle.std.specs.Int.{int_gap}
 use Rattle.std.specs.Ordering.{int_eq}
 use Rattle.std.proofs.lemmas.Int.{ints}
-use Rattle.std.proofs.lemmas.List.Elements.{All-cons, All-head, All-nil, All-tail}
+use Rattle.std.proofs.lemmas.List.Elements.{All-head, All-tail}
 use Rattle.measured_moments.specs.document_traffic.proofs.OrderLemmas.{leaving, rising_behind, sent_rising}
 use Rattle.du_scheduler.specs.Plans.{HasToSend}
 use Rattle.du_scheduler.specs.declared.plans.Plan.{Plan}
@@ -14,8 +14,7 @@ use Rattle.du_scheduler.specs.frame_order.specs.Turns.{is_turn, times}
 use Rattle.du_scheduler.specs.frame_order.specs.declared.turns.Turn.{Turn}
 use Rattle.du_scheduler.specs.plan_model.specs.Lines.{planned}
 use Rattle.du_scheduler.specs.plan_model.specs.Sent.{SentFrame, frames_from, sent}
-use Rattle.measured_moments.specs.replay_events.proofs.TickLemmas.{at_most}
-use Rattle.du_scheduler.specs.schedule_laws.proofs.ListLemmas.{in_right, of_filter, of_tick}
+use Rattle.du_scheduler.specs.schedule_laws.proofs.ListLemmas.{of_tick}
 use Rattle.du_scheduler.specs.schedule_laws.proofs.OrderLemmas.{IsRising}
 use Rattle.du_scheduler.specs.sent_order.specs.Runs.{turn_of}
 use Rattle.du_scheduler.specs.sent_order.proofs.BoundLemmas.{IsInTime, all_in_time}
@@ -24,6 +23,8 @@ use Rattle.du_scheduler.specs.unit_model.specs.Times.{end_of_time}
 use Rattle.du_scheduler.specs.unit_model.proofs.SweepLaws.{gap_is}
 use Rattle.du_scheduler.specs.window_config.specs.declared.config.Config.{Config}
 use Rattle.du_scheduler.specs.window_config.specs.declared.plan.PlanLine.{PlanLine}
+use Rattle.measured_moments.specs.replay_events.specs.history_laws.proofs.TickLemmas.{at_most}
+use Rattle.du_scheduler.specs.plan_model.proofs.ListLemmas.{in_right, of_filter, all_of}
 use Rattle.radio_moments.specs.Downlink.{AreSentFrom}
 
 -- ---- each is sent at a time that is gone over
@@ -50,10 +51,6 @@ is_sent c lines p f left h m = subst (λ (fs : List SentFrame). IsIn f fs) (sym 
 
 pub sent_time : (c : Config) (lines : List PlanLine) (p : Plan) (f : SentFrame) (left : List SentFrame) → HasToSend c lines left p → IsIn f left → IsSentTime f.at
 sent_time c lines p f left h m = time_is f.at (all_in_time c lines h.config h.fit h.valid f (in_frames c lines f (is_sent c lines p f left h m)))
-
-pub all_of : {X : Type 0} (P : X → Type 0) (xs : List X) → ((x : X) → IsIn x xs → P x) → All P xs
-all_of P [] h = All-nil P
-all_of P (x ∷ xs) h = All-cons P x xs (h x (inl refl)) (all_of P xs (λ y m. h y (inr m)))
 
 -- ---- none leaves before the first one
 

@@ -1,8 +1,8 @@
 -- The frames of the plan go out.
 use Rattle.std.proofs.Common.{◌≡◌, ◌≢◌, ℕ, ℤ, pos, ◌+ℤ◌, ◌≤ℤ◌, ◌<◌, ◌^◌, List, [], ◌∷◌, length, Option, Some, None, inl, refl, sym, ap, ◌∙◌, subst, arith}
 use Rattle.std.specs.Prelude.{map}
-use Rattle.std.proofs.lemmas.Int.{ints}
 use Rattle.std.proofs.lemmas.List.Elements.{All-cons, All-head, All-nil, All-tail}
+use Rattle.std.specs.Int.Signed.{≤ℤ_refl}
 use Rattle.air_source.specs.declared.events.Side.TheVariants.{Ru as AtRu}
 use Rattle.air_source.specs.declared.places.RePlace.{RePlace}
 use Rattle.bfp_codec.specs.declared.samples.Wide.{Wide}
@@ -27,16 +27,16 @@ use Rattle.measured_moments.specs.measured_traffic.specs.Replayed.{leaving_with}
 use Rattle.du_scheduler.specs.plan_model.specs.Sent.{SentFrame}
 use Rattle.du_scheduler.specs.plan_model.specs.declared.streams.Stream.{Stream}
 use Rattle.du_scheduler.specs.plan_model.specs.declared.streams.Stream.TheVariants.{DownCommands, DownData, UpCommands, UpData}
-use Rattle.measured_moments.specs.replay_events.proofs.TickLemmas.{same_most}
 use Rattle.measured_moments.specs.replay_events.specs.Moments.{end_of_time}
 use Rattle.du_scheduler.specs.schedule_laws.proofs.ListLemmas.{in_all, in_map}
 use Rattle.du_scheduler.specs.sent_order.specs.Runs.{turn_of}
 use Rattle.measured_moments.specs.tone_source.specs.Tones.{tone_of}
+use Rattle.measured_moments.specs.frame_ways.proofs.LandLemmas.{not_here}
 use Rattle.radio_moments.specs.Downlink.{AreSentFrom, HasSent, HasSentNext, MaySend, MaySendNext, WaitsDown, class_for}
 use Rattle.radio_moments.specs.declared.downlink.Downlink.{Downlink}
 use Rattle.radio_moments.proofs.MeasureLemmas.{frames_left, left_is}
-use Rattle.radio_moments.proofs.NextLemmas.{some_same}
 use Rattle.radio_moments.proofs.OrderLemmas.{IsSentTime, first_is_least, is_sent, sent_less, sent_time}
+use Rattle.radio_moments.proofs.NextLemmas.{some_same}
 
 -- ---- the frame that a plan gave
 
@@ -95,7 +95,7 @@ module _ {post : RePlace → Wide → Type 0} (d : Document) (now : ℤ) (w : Do
   leaves_now = m.first g.frame g.rest (subst (λ (xs : List SentFrame). HasToSend d.config d.plan xs w.plan) g.is m.may.waits.plan)
 
   pub comes_then : ComesFrom d AtRu now m.may.waits.counts (leaving_of d g.frame)
-  comes_then = comes_later d AtRu now m.may.waits.counts (leaving_of d g.frame) m.may.document.document (subst (λ (t : ℤ). now ≤ℤ t) (sym leaves_now) (same_most now))
+  comes_then = comes_later d AtRu now m.may.waits.counts (leaving_of d g.frame) m.may.document.document (subst (λ (t : ℤ). now ≤ℤ t) (sym leaves_now) (≤ℤ_refl now))
 
   pub is_ahead : Waits d AtRu now now m.may.waits.counts (leaving_of d g.frame ∷ left_behind) w.way
   is_ahead =
@@ -165,9 +165,6 @@ fewer_frames d now old new tick waits sent first = go waits.left refl
         let before = left_is d.config d.plan (f ∷ rest) old.plan plan in
         let after = left_is d.config d.plan rest new.plan (sent.next f rest plan) in
         omega (arith, before, after)
-
-not_here : (a b : ℤ) → a ≤ℤ b → b ≢ a → (a +ℤ pos 1) ≤ℤ b
-not_here a b low other = omega (arith, ints, low, other)
 
 -- none is left to be sent at a tick
 none_left_at : (d : Document) (tick : Ticks) (w : Downlink) → (waits : WaitsDown d tick.0 w) → first_time (map turn_of waits.left) ≢ Some tick

@@ -12,7 +12,6 @@ use Rattle.measured_moments.specs.fh_document.specs.declared.document.Document.{
 use Rattle.measured_moments.specs.measured_traffic.specs.Doings.{Doings}
 use Rattle.measured_moments.specs.measured_traffic.specs.Replayed.{landings_for, results_at}
 use Rattle.measured_moments.specs.replay_events.proofs.HeardLemmas.{AreOf, arrivals-append, arrivals-cells, cells-append, cells-arrivals, cells-own, due_of_side}
-use Rattle.measured_moments.specs.replay_events.proofs.TickLemmas.{front_empty}
 use Rattle.measured_moments.specs.replay_events.specs.Events.{arrivals_told}
 use Rattle.measured_moments.specs.replay_events.specs.Heard.{arrivals_heard, cells_heard}
 use Rattle.measured_moments.specs.replay_events.specs.Moments.{end_of_time, landing_at}
@@ -22,6 +21,7 @@ use Rattle.measured_moments.specs.ru_buffers.specs.declared.unit.Ru.{Ru}
 use Rattle.du_scheduler.specs.unit_model.specs.Meetings.{Arrival}
 use Rattle.du_scheduler.specs.unit_model.specs.Reports.{ru_known}
 use Rattle.du_scheduler.specs.unit_model.specs.Standing.{History, at_clock, heard}
+use Rattle.measured_moments.specs.replay_events.specs.history_laws.proofs.ListLemmas.{front_empty}
 use Rattle.radio_moments.specs.Landing.{HasTaken, having_heard, told_of_frames}
 use Rattle.radio_moments.specs.Stops.{HaltsBehind, RestsBehind, StopsBehind}
 use Rattle.radio_moments.specs.Turns.{IsRadioInStep, IsRadioTurn, events_before, radio_events}

@@ -2,6 +2,7 @@
 use Rattle.std.proofs.Common.{◌≡◌, ℤ, pos, ◌+ℤ◌, ◌-ℤ◌, ◌≤ℤ◌, ◌<ℤ◌, List, [], ◌++◌, refl, sym, ap, ap₂, ◌∙◌, subst, arith, append-nil}
 use Rattle.std.specs.Prelude.{map}
 use Rattle.std.proofs.lemmas.Int.{ints}
+use Rattle.std.specs.Int.Signed.{≤ℤ_refl}
 use Rattle.air_source.specs.declared.events.AirCell.{AirCell}
 use Rattle.air_source.specs.declared.events.Event.TheVariants.{Cell}
 use Rattle.air_source.specs.declared.events.Side.{Side}
@@ -15,7 +16,7 @@ use Rattle.measured_moments.specs.replay_events.proofs.CameLemmas.{arrivals_go_o
 use Rattle.measured_moments.specs.replay_events.proofs.EventLemmas.{events_wait}
 use Rattle.measured_moments.specs.replay_events.proofs.HeardLemmas.{AreOf, arrivals-append, arrivals-cells, arrivals-none, arrivals-own, cells-append, cells-arrivals, cells-none, cells-own}
 use Rattle.measured_moments.specs.replay_events.proofs.MomentLemmas.{due_at_moment, reported_at_moment, reported_before_moment}
-use Rattle.measured_moments.specs.replay_events.proofs.TickLemmas.{at_most, last_is_earlier, last_reached, no_ticks, same_most}
+use Rattle.measured_moments.specs.replay_events.proofs.TickLemmas.{no_ticks}
 use Rattle.measured_moments.specs.replay_events.proofs.ToldLemmas.{Results}
 use Rattle.measured_moments.specs.replay_events.specs.Alone.{IsDuIdle}
 use Rattle.measured_moments.specs.replay_events.specs.Events.{arrivals_told, cells_at, events_at}
@@ -43,12 +44,13 @@ use Rattle.measured_moments.specs.uplink_turns.specs.Turns.{jobs_until}
 use Rattle.du_scheduler.specs.window_config.specs.declared.config.Config.{Config}
 use Rattle.du_scheduler.specs.window_config.specs.declared.delays.Delays.{Delays}
 use Rattle.du_scheduler.specs.window_config.specs.declared.endpoints.EndpointConfig.{EndpointConfig}
+use Rattle.measured_moments.specs.replay_events.specs.history_laws.proofs.TickLemmas.{at_most, last_is_earlier, last_reached, before_it, clock_begins}
 use Rattle.radio_moments.specs.Turns.{AtRadioTurn, IsRadioLanded, IsRadioTurn, events_before}
 use Rattle.radio_moments.proofs.StepLemmas.{cells_own}
 
 -- ---- what is quiet up to a time is quiet up to each earlier one
 
-waited_less : (a b w : ℤ) → a ≤ℤ b → ((a -ℤ w) +ℤ pos 1) ≤ℤ ((b -ℤ w) +ℤ pos 1)
+pub waited_less : (a b w : ℤ) → a ≤ℤ b → ((a -ℤ w) +ℤ pos 1) ≤ℤ ((b -ℤ w) +ℤ pos 1)
 waited_less a b w h = omega (arith, ints)
 
 due_less : (d : Delays) (es : List EndpointConfig) (k : Known) (heard : List AirCell) (a b : ℤ) → a ≤ℤ b → due AtRu d es k heard b ≡ [] → due AtRu d es k heard a ≡ []
@@ -130,7 +132,7 @@ here : (d : Document) (tick : ℤ) (h : History) → IsReplayable d → IsRadioT
 here d tick h doc turn = record {
   config = doc.document.config;
   begun = turn.begun;
-  order = same_most tick;
+  order = ≤ℤ_refl tick;
   ended = turn.ended;
   units = λ side. alone_unit d tick h doc turn side;
 }
@@ -191,14 +193,14 @@ has_landed d tick h k doc turn ended clock came told given =
 -- ---- the start
 
 pub events_none : (d : Document) → events_before d first_clock ≡ []
-events_none d = no_ticks (events_at d.config (traffic_of d)) first_clock first_clock (same_most first_clock) (λ t low high. absurd (omega (arith, ints)))
+events_none d = no_ticks (events_at d.config (traffic_of d)) first_clock first_clock (≤ℤ_refl first_clock) (λ t low high. absurd (omega (arith, ints)))
 
 -- before the first tick no message is left
 none_left : (v : CellsValue) (cursor : JobCursor) → left_up_to v cursor (first_clock -ℤ pos 1) ≡ []
 unfolding left_up_to
 none_left v cursor = sweep_quiet _ _ first_clock ((first_clock -ℤ pos 1) +ℤ pos 1) (λ t low high. absurd (omega (arith, ints)))
 
-none_waits : (w t : ℤ) → (first_clock -ℤ w) ≤ℤ t → t <ℤ (((first_clock -ℤ pos 1) -ℤ w) +ℤ pos 1) → ⊥
+pub none_waits : (w t : ℤ) → (first_clock -ℤ w) ≤ℤ t → t <ℤ (((first_clock -ℤ pos 1) -ℤ w) +ℤ pos 1) → ⊥
 none_waits w t low high = omega (arith, ints)
 
 none_reported : (d : Delays) (es : List EndpointConfig) (k : Known) → reported AtRu d es k (first_clock -ℤ pos 1) ≡ []
@@ -206,20 +208,14 @@ unfolding reported
 none_reported d es k =
     sweep_quiet _ es (first_clock -ℤ wait_of AtRu d) (((first_clock -ℤ pos 1) -ℤ wait_of AtRu d) +ℤ pos 1) (λ t low high. absurd (none_waits (wait_of AtRu d) t low high))
 
-before_it : (t : ℤ) → (t -ℤ pos 1) <ℤ t
-before_it t = omega (arith, ints)
-
-first_early : first_clock ≤ℤ (end_of_time +ℤ pos 1)
-first_early = omega (arith, ints)
-
 start : (d : Document) (u : Ru) → StandsFor d.config u nothing_yet → IsRadioTurn d first_clock nothing_yet
 start d u stands =
     let c = d.config in
     let ls = landings_for AtRu d in
     record {
-      begun = same_most first_clock;
-      ended = first_early;
-      arrivals = sym (none_yet ls first_clock (same_most first_clock));
+      begun = ≤ℤ_refl first_clock;
+      ended = clock_begins;
+      arrivals = sym (none_yet ls first_clock (≤ℤ_refl first_clock));
       reported = sym (none_reported c.delays c.endpoints (ru_known c (arrivals_before ls first_clock)));
       quiet = record {
         cells = due_less c.delays c.endpoints (ru_known c []) [] (first_clock -ℤ pos 1) first_clock (last_is_earlier first_clock) stands.kept.past;
@@ -236,5 +232,5 @@ first_turn d u stands = record {
   history = nothing_yet;
   stands = stands;
   turn = start d u stands;
-  clock = subst (λ (t : ℤ). t ≤ℤ first_clock) (sym stands.kept.clock_is) (same_most first_clock);
+  clock = subst (λ (t : ℤ). t ≤ℤ first_clock) (sym stands.kept.clock_is) (≤ℤ_refl first_clock);
 }

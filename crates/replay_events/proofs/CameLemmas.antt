@@ -6,23 +6,26 @@ use Rattle.std.specs.Ordering.{int_eq}
 use Rattle.std.proofs.lemmas.Bool.Decides.{Decides-int_eq}
 use Rattle.std.proofs.lemmas.Int.{by_lt_z}
 use Rattle.std.proofs.lemmas.List.Elements.{All-nil, All-cons, All-filter, All-head, All-tail, All-weaker, filter_passes}
+use Rattle.std.specs.Int.Signed.{≤ℤ_refl, <ℤ-≤ℤ_trans}
 use Rattle.history_laws.specs.unit_model.specs.Lists.{onto}
 use Rattle.history_laws.specs.unit_model.specs.Meetings.{Arrival}
 use Rattle.history_laws.specs.unit_model.specs.Proper.{IsTime}
 use Rattle.history_laws.specs.unit_model.specs.Radiated.{first_clock}
 use Rattle.history_laws.specs.unit_model.specs.Standing.{AreInTime}
 use Rattle.history_laws.specs.unit_model.proofs.SweepLaws.{gap_is, gap_none}
+use Rattle.history_laws.proofs.TickLemmas.{at_most, last_is_earlier, last_of_next, weak}
+use Rattle.history_laws.proofs.UnitLemmas.{in_time_later}
 use Rattle.replay_events.specs.Moments.{arrivals_before, arrivals_in, landing_at}
 use Rattle.replay_events.specs.Passing.{AreLandings, ArrivalsAreInTime, ArrivalsGoOn, CalmAddsNothing, IsCalm}
-use Rattle.replay_events.proofs.TickLemmas.{at_most, below_all, between, last_is_earlier, last_of_next, next_gap, same_most, weak}
+use Rattle.replay_events.proofs.TickLemmas.{between, next_gap}
 
 -- ---- one tick more
 
-none_first : (landings : List Arrival) → arrivals_in landings 0 ≡ []
+pub none_first : (landings : List Arrival) → arrivals_in landings 0 ≡ []
 unfolding arrivals_in
 none_first landings = refl
 
-next_first : (landings : List Arrival) (n : ℕ) → arrivals_in landings (suc n) ≡ onto (arrivals_in landings n) (landing_at landings (first_clock +ℤ pos n))
+pub next_first : (landings : List Arrival) (n : ℕ) → arrivals_in landings (suc n) ≡ onto (arrivals_in landings n) (landing_at landings (first_clock +ℤ pos n))
 unfolding arrivals_in
 next_first landings n = refl
 
@@ -36,7 +39,7 @@ arrivals_go_on landings tick begun =
 pub none_yet : (landings : List Arrival) (tick : ℤ) → tick ≤ℤ first_clock → arrivals_before landings tick ≡ []
 none_yet landings tick early = ap (arrivals_in landings) (gap_none first_clock tick early) ∙ none_first landings
 
-onto_none : (earlier : List Arrival) → onto earlier [] ≡ earlier
+pub onto_none : (earlier : List Arrival) → onto earlier [] ≡ earlier
 unfolding onto
 onto_none earlier = refl
 
@@ -50,7 +53,7 @@ calm_adds_nothing landings from to begun order calm =
 
 -- a part of a calm time is calm
 pub calm_in_part : (landings : List Arrival) (from to end : ℤ) → to ≤ℤ end → IsCalm landings from end → IsCalm landings from to
-calm_in_part landings from to end order calm t low high = calm t low (below_all t to end high order)
+calm_in_part landings from to end order calm t low high = calm t low (<ℤ-≤ℤ_trans high order)
 
 -- ---- in the order of time
 
@@ -63,14 +66,10 @@ landed_then landings tick =
 pub landed_times : (landings : List Arrival) (tick : ℤ) → AreLandings landings → All (λ a. IsTime a.at) (landing_at landings tick)
 landed_times landings tick are = All-filter (λ (a : Arrival). int_eq a.at tick) (λ (a : Arrival). IsTime a.at) landings are.times
 
-pub in_time_later : (clock later : ℤ) (arrivals : List Arrival) → clock ≤ℤ later → AreInTime clock arrivals → AreInTime later arrivals
-in_time_later clock later [] order came = tt
-in_time_later clock later (a ∷ earlier) order came = (at_most a.at clock later came.0 order, came.1)
-
 -- one more of this time
 pub in_time_next : (at : ℤ) (x : Arrival) (earlier : List Arrival) → x.at ≡ at → AreInTime at earlier → AreInTime at (x ∷ earlier)
 in_time_next at x earlier is came =
-    (subst (λ (t : ℤ). t ≤ℤ at) (sym is) (same_most at), subst (λ (t : ℤ). AreInTime t earlier) (sym is) came)
+    (subst (λ (t : ℤ). t ≤ℤ at) (sym is) (≤ℤ_refl at), subst (λ (t : ℤ). AreInTime t earlier) (sym is) came)
 
 in_time_onto : (at : ℤ) (earlier xs : List Arrival) → All (λ a. a.at ≡ at) xs → AreInTime at earlier → AreInTime at (onto earlier xs)
 unfolding onto
@@ -107,5 +106,5 @@ pub arrivals_in_time : ArrivalsAreInTime
 arrivals_in_time landings tick are =
     by_lt_z tick first_clock (λ early. none_proper (tick -ℤ pos 1) (arrivals_before landings tick) (none_yet landings tick (weak tick first_clock early)))
     (λ begun. between (λ (t : ℤ). AreProper (t -ℤ pos 1) (arrivals_before landings t)) first_clock tick begun
-    (none_proper (first_clock -ℤ pos 1) (arrivals_before landings first_clock) (none_yet landings first_clock (same_most first_clock)))
+    (none_proper (first_clock -ℤ pos 1) (arrivals_before landings first_clock) (none_yet landings first_clock (≤ℤ_refl first_clock)))
     (λ t low high proper. next_proper landings t are low proper))

@@ -2,6 +2,7 @@
 use Rattle.std.proofs.Common.{◌≡◌, ℤ, pos, ◌+ℤ◌, ◌-ℤ◌, ◌≤ℤ◌, ◌<ℤ◌, List, [], ◌++◌, sym, ap, ap₂, ◌∙◌, arith, append-nil}
 use Rattle.std.specs.Prelude.{map}
 use Rattle.std.proofs.lemmas.Int.{ints}
+use Rattle.std.specs.Int.Signed.{<ℤ-≤ℤ_trans}
 use Rattle.air_source.specs.declared.events.AirCell.{AirCell}
 use Rattle.air_source.specs.declared.events.Event.{Event}
 use Rattle.air_source.specs.declared.events.Event.TheVariants as event
@@ -11,6 +12,7 @@ use Rattle.window_config.specs.declared.config.Config.{Config}
 use Rattle.history_laws.specs.unit_model.specs.Meetings.{Arrival}
 use Rattle.history_laws.specs.unit_model.specs.Radiated.{first_clock, symbol_report, wait_of}
 use Rattle.history_laws.specs.unit_model.specs.Sweeps.{at_tick}
+use Rattle.history_laws.proofs.TickLemmas.{at_most, before_next, last_of_next, next_after, next_is_later}
 use Rattle.replay_events.specs.Events.{arrivals_at, arrivals_told, cells_at, events_at, events_between}
 use Rattle.replay_events.specs.Moments.{all_arrivals, arrivals_before, end_of_time}
 use Rattle.replay_events.specs.Passing.{AllIsOver, EventsGoOn, EventsWait, IsNextMoment, seen_before}
@@ -18,7 +20,7 @@ use Rattle.replay_events.specs.Traffic.{Traffic, known_at, landings_at, reported
 use Rattle.replay_events.proofs.ToldLemmas.{none_told}
 use Rattle.replay_events.proofs.CameLemmas.{calm_adds_nothing, calm_in_part}
 use Rattle.replay_events.proofs.MomentLemmas.{calm_before, cells_settled, quiet_before, reported_before_moment, seen_by, seen_later}
-use Rattle.replay_events.proofs.TickLemmas.{at_most, before_next, below_all, last_of_next, next_after, next_is_later, no_ticks, tick_alone, tick_empty, ticks_append}
+use Rattle.replay_events.proofs.TickLemmas.{no_ticks, tick_alone, tick_empty, ticks_append}
 
 pub events_go_on : EventsGoOn
 events_go_on c x tick begun =
@@ -43,7 +45,7 @@ no_cells side c x now tick t next low high =
     let same = calm_adds_nothing landings now seen next.begun (at_most now t seen low (seen_later side t))
     (calm_in_part landings now seen tick (at_most seen (t +ℤ pos 1) tick (seen_by side t t (here t)) (next_after t tick high)) unit.calm) in
     cells_settled side c x t next.config unit.landings_are (at_most first_clock now t next.begun low)
-    (before_next t end_of_time (below_all t tick (end_of_time +ℤ pos 1) high next.ended))
+    (before_next t end_of_time (<ℤ-≤ℤ_trans high next.ended))
     ∙ ap (λ (xs : List Arrival). at_tick (symbol_report side (known_at side c x.planned xs)) es (t -ℤ w)) same
     ∙ tick_empty (symbol_report side (known_at side c x.planned (arrivals_before landings now))) es (now -ℤ w) (t -ℤ w) (tick -ℤ w) (waited_most now t w low) (waited_less t tick w high)
     (quiet_before side c x now tick next)

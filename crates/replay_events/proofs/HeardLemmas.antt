@@ -24,6 +24,7 @@ use Rattle.replay_events.specs.Events.{arrival_told, arrivals_told, result_event
 use Rattle.replay_events.specs.Heard.{arrivals_heard, cells_heard, is_of}
 use Rattle.replay_events.specs.Traffic.{DelayResult}
 use Rattle.replay_events.proofs.ToldLemmas.{none_told, told_kept, told_next, told_next_alone}
+use Rattle.replay_events.proofs.CameLemmas.{onto_none}
 
 -- ---- which unit's
 
@@ -37,7 +38,7 @@ is_own side other same = ap (is_of side) same ∙ own side
 abbrev pub AreOf : Side → List AirCell → Type 0
 AreOf side cs = All (λ a. a.side ≡ side) cs
 
-one_or_none : (P : AirCell → Type 0) (b : Bool) (a : AirCell) → P a → All P (if b then [] else a ∷ [])
+pub one_or_none : (P : AirCell → Type 0) (b : Bool) (a : AirCell) → P a → All P (if b then [] else a ∷ [])
 one_or_none P true a h = All-nil P
 one_or_none P false a h = All-cons P a [] h (All-nil P)
 
@@ -164,10 +165,6 @@ arrival-other side other earlier x rs apart =
     ap (λ (b : Bool). arrivals_heard side (let zs : List Arrival = if b then x ∷ earlier else earlier in zs) (map (result_event other x.at) rs)) apart
     ∙ arrivals-results side other earlier x.at rs
 
-onto-none : (earlier : List Arrival) → onto earlier [] ≡ earlier
-unfolding onto
-onto-none earlier = refl
-
 onto-next : (earlier : List Arrival) (x : Arrival) (xs : List Arrival) → onto earlier (x ∷ xs) ≡ onto (x ∷ earlier) xs
 unfolding onto
 onto-next earlier x xs = refl
@@ -175,7 +172,7 @@ onto-next earlier x xs = refl
 -- frames, each with its results
 pub arrivals-own : (side : Side) (earlier : List Arrival) (results : List (List DelayResult)) (xs : List Arrival)
     → arrivals_heard side earlier (arrivals_told side results xs) ≡ onto earlier xs
-arrivals-own side earlier results [] = ap (arrivals_heard side earlier) (none_told side results) ∙ arrivals-none side earlier ∙ sym (onto-none earlier)
+arrivals-own side earlier results [] = ap (arrivals_heard side earlier) (none_told side results) ∙ arrivals-none side earlier ∙ sym (onto_none earlier)
 arrivals-own side earlier [] (x ∷ xs) =
     ap (arrivals_heard side earlier) (told_next_alone side x xs)
     ∙ arrivals-append side earlier (arrival_told side x []) (arrivals_told side [] xs)

@@ -2,6 +2,7 @@
 use Rattle.std.proofs.Common.{◌≡◌, ℤ, pos, ◌+ℤ◌, ◌-ℤ◌, ◌≤ℤ◌, List, [], ◌++◌, refl, sym, ap, ap₂, ◌∙◌, arith}
 use Rattle.std.proofs.lemmas.Int.{ints}
 use Rattle.std.proofs.lemmas.List.{append-nil, append_cancel_left}
+use Rattle.std.specs.Int.Signed.{≤ℤ_refl}
 use Rattle.air_source.specs.declared.events.AirCell.{AirCell}
 use Rattle.air_source.specs.declared.events.Side.{Side}
 use Rattle.air_source.specs.declared.events.Side.TheVariants.{Ru, Du}
@@ -15,13 +16,14 @@ use Rattle.history_laws.specs.unit_model.specs.Standing.{due, past_of}
 use Rattle.history_laws.specs.unit_model.specs.Sweeps.{at_tick, sweep}
 use Rattle.history_laws.specs.unit_laws.proofs.DueLemmas.{all_is_due, due_in_pieces}
 use Rattle.history_laws.specs.unit_laws.proofs.SweepLemmas.{sweep-append}
+use Rattle.history_laws.proofs.TickLemmas.{at_most, last_is_earlier, last_reached, next_is_later, next_most, next_order}
 use Rattle.replay_events.specs.Events.{cells_at}
 use Rattle.replay_events.specs.Moments.{all_arrivals, arrivals_before, end_of_time}
 use Rattle.replay_events.specs.Passing.{AreLandings, DueAtMoment, IsNextMoment, ReportedAtMoment, ReportedBeforeMoment, seen_at, seen_before}
 use Rattle.replay_events.specs.Traffic.{Traffic, known_at, landings_at, reported_at}
 use Rattle.replay_events.proofs.CameLemmas.{calm_adds_nothing}
 use Rattle.replay_events.proofs.SettledLemmas.{reported_settled}
-use Rattle.replay_events.proofs.TickLemmas.{at_most, last_is_earlier, last_reached, next_is_later, next_most, same_most, sweep_alone}
+use Rattle.replay_events.proofs.TickLemmas.{sweep_alone}
 
 -- ---- what is reported, in pieces
 
@@ -73,15 +75,12 @@ same_parts xs ys zs ws front all = append_cancel_left xs ys ws (all ∙ ap (λ (
 last_most : (t : ℤ) → t ≤ℤ ((t +ℤ pos 1) -ℤ pos 1)
 last_most t = omega (arith, ints)
 
-next_order : (a b : ℤ) → a ≤ℤ b → (a +ℤ pos 1) ≤ℤ (b +ℤ pos 1)
-next_order a b h = omega (arith, ints)
-
 pub seen_later : (side : Side) (t : ℤ) → t ≤ℤ seen_before side t
-seen_later Ru t = same_most t
+seen_later Ru t = ≤ℤ_refl t
 seen_later Du t = next_is_later t
 
 seen_past : (side : Side) (t : ℤ) → t ≤ℤ past_of side (seen_before side t)
-seen_past Ru t = same_most t
+seen_past Ru t = ≤ℤ_refl t
 seen_past Du t = last_most t
 
 pub seen_by : (side : Side) (t end : ℤ) → t ≤ℤ end → seen_before side t ≤ℤ (end +ℤ pos 1)
@@ -90,7 +89,7 @@ seen_by Du t end h = next_order t end h
 
 last_past : (side : Side) (t : ℤ) → (t -ℤ pos 1) ≤ℤ past_of side t
 last_past Ru t = last_is_earlier t
-last_past Du t = same_most (t -ℤ pos 1)
+last_past Du t = ≤ℤ_refl (t -ℤ pos 1)
 
 -- ---- the cells of a tick
 
@@ -206,7 +205,7 @@ module _ (side : Side) (c : Config) (x : Traffic) (now tick : ℤ) (next : IsNex
       ap₂ ◌++◌ (sym old_waits ∙ sym same_until) (cells_settled side c x tick next.config are tick_begun ended)
       ∙ sym (reported_at_tick side d es new tick tick_begun)
       ∙ sym (reported_settled side c x.planned landings tick (seen_before side tick) (tick +ℤ pos 1) next.config are
-      (at_most first_clock tick (seen_before side tick) tick_begun (seen_later side tick)) (seen_past side tick) (seen_by side tick tick (same_most tick)))
+      (at_most first_clock tick (seen_before side tick) tick_begun (seen_later side tick)) (seen_past side tick) (seen_by side tick tick (≤ℤ_refl tick)))
 
   reported_until : reported side d es old (now -ℤ pos 1) ≡ reported_at side c x.planned (arrivals_before landings tick) (tick -ℤ pos 1)
   reported_until = sym old_waits ∙ ap (λ (xs : List Arrival). reported_at side c x.planned xs (tick -ℤ pos 1)) (sym calm_before)

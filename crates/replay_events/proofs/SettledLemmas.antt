@@ -17,11 +17,13 @@ use Rattle.history_laws.specs.unit_model.specs.Standing.{AreInTime, past_of}
 use Rattle.history_laws.specs.unit_model.specs.Uplink.{jobs}
 use Rattle.history_laws.specs.Arriving.{IsNextArrival}
 use Rattle.history_laws.proofs.ArrivingLemmas.{arrival_leaves_reported, arrival_leaves_sent}
+use Rattle.history_laws.proofs.TickLemmas.{at_most, last_is_earlier, later_then}
+use Rattle.history_laws.proofs.UnitLemmas.{in_time_later}
 use Rattle.replay_events.specs.Moments.{arrivals_before, landing_at}
 use Rattle.replay_events.specs.Traffic.{reported_at}
 use Rattle.replay_events.specs.Passing.{AreLandings, MessagesAreSettled, ReportedIsSettled}
-use Rattle.replay_events.proofs.CameLemmas.{arrivals_go_on, arrivals_in_time, in_time_later, in_time_next, landed_then, landed_times}
-use Rattle.replay_events.proofs.TickLemmas.{at_most, between, last_is_earlier}
+use Rattle.replay_events.proofs.CameLemmas.{arrivals_go_on, arrivals_in_time, in_time_next, landed_then, landed_times}
+use Rattle.replay_events.proofs.TickLemmas.{between}
 
 -- what an arrival of this tick leaves as it was
 abbrev Leaves : {X : Type 0} → Config → (List Arrival → X) → ℤ → Type 0
@@ -56,11 +58,8 @@ settled c landings f tick later config are begun order one =
     (in_time_later (t -ℤ pos 1) t earlier (last_is_earlier t) proper.0) proper.1
     ∙ same)
 
-by_then : (to tick t at : ℤ) → to ≤ℤ tick → tick ≤ℤ t → at ≡ t → to ≤ℤ at
-by_then to tick t at past low is = subst (λ (u : ℤ). to ≤ℤ u) (sym is) (at_most to tick t past low)
-
 past_then : (side : Side) (to tick t at : ℤ) → to ≤ℤ past_of side tick → tick ≤ℤ t → at ≡ t → to ≤ℤ past_of side at
-past_then Ru to tick t at past low is = by_then to tick t at past low is
+past_then Ru to tick t at past low is = later_then to tick t at past low is
 past_then Du to tick t at past low is = subst (λ (u : ℤ). to ≤ℤ (u -ℤ pos 1)) (sym is) (at_most to (tick -ℤ pos 1) (t -ℤ pos 1) past (less tick t low))
   where
     less : (a b : ℤ) → a ≤ℤ b → (a -ℤ pos 1) ≤ℤ (b -ℤ pos 1)
@@ -74,4 +73,4 @@ reported_settled side c planned landings to tick later config are begun past ord
 pub messages_settled : MessagesAreSettled
 messages_settled c landings to tick later config are begun past order =
     settled c landings (λ (xs : List Arrival). jobs c.endpoints (accepted_of c xs) to) tick later config are begun order (λ t low a earlier next is.
-    arrival_leaves_sent c a earlier to next (by_then to tick t a.at past low is))
+    arrival_leaves_sent c a earlier to next (later_then to tick t a.at past low is))

@@ -1,51 +1,17 @@
 -- From one tick to another.
-use Rattle.std.proofs.Common.{◌≡◌, ℕ, ℤ, pos, zero, suc, ◌+◌, ◌+ℤ◌, ◌-ℤ◌, ◌≤ℤ◌, ◌<ℤ◌, List, [], ◌∷◌, ◌++◌, refl, sym, ap, ◌∙◌, subst, arith, append-nil}
-use Rattle.std.specs.Prelude.{length}
+use Rattle.std.proofs.Common.{◌≡◌, ℕ, ℤ, pos, zero, suc, ◌+◌, ◌+ℤ◌, ◌≤ℤ◌, ◌<ℤ◌, List, [], ◌++◌, sym, ap, ◌∙◌, subst, arith, append-nil}
 use Rattle.std.specs.Int.{int_gap}
 use Rattle.std.proofs.lemmas.Int.{ints}
+use Rattle.std.specs.Int.Signed.{≤ℤ_refl}
 use Rattle.window_config.specs.declared.endpoints.EndpointConfig.{EndpointConfig}
 use Rattle.history_laws.specs.unit_model.specs.Lists.{each_tick}
 use Rattle.history_laws.specs.unit_model.specs.Sweeps.{OfSymbol, at_tick, sweep}
 use Rattle.history_laws.specs.unit_model.proofs.SweepLaws.{gap_is, gap_none, ticks_none, ticks_split}
 use Rattle.history_laws.specs.unit_laws.proofs.SweepLemmas.{sweep-append}
+use Rattle.history_laws.proofs.TickLemmas.{at_most, weak, next_after, next_most, next_is_later}
+use Rattle.history_laws.proofs.ListLemmas.{front_empty, back_empty}
 
 -- ---- numbers
-
-pub same_most : (a : ℤ) → a ≤ℤ a
-same_most a = omega (arith, ints)
-
-pub at_most : (a b c : ℤ) → a ≤ℤ b → b ≤ℤ c → a ≤ℤ c
-at_most a b c h k = omega (arith, ints)
-
-pub weak : (a b : ℤ) → a <ℤ b → a ≤ℤ b
-weak a b h = omega (arith, ints)
-
-pub below_all : (a b c : ℤ) → a <ℤ b → b ≤ℤ c → a <ℤ c
-below_all a b c h k = omega (arith, ints)
-
-pub next_after : (a b : ℤ) → a <ℤ b → (a +ℤ pos 1) ≤ℤ b
-next_after a b h = omega (arith, ints)
-
-pub next_most : (a b : ℤ) → a ≤ℤ b → a ≤ℤ (b +ℤ pos 1)
-next_most a b h = omega (arith, ints)
-
-pub next_is_later : (a : ℤ) → a ≤ℤ (a +ℤ pos 1)
-next_is_later a = omega (arith, ints)
-
-pub last_is_earlier : (a : ℤ) → (a -ℤ pos 1) ≤ℤ a
-last_is_earlier a = omega (arith, ints)
-
-pub last_of_next : (a : ℤ) → (a +ℤ pos 1) -ℤ pos 1 ≡ a
-last_of_next a = omega (arith, ints)
-
-pub next_of_last : (a : ℤ) → (a -ℤ pos 1) +ℤ pos 1 ≡ a
-next_of_last a = omega (arith, ints)
-
-pub last_reached : (a b : ℤ) → a ≤ℤ b → a ≤ℤ ((b -ℤ pos 1) +ℤ pos 1)
-last_reached a b h = omega (arith, ints)
-
-pub before_next : (a b : ℤ) → a <ℤ (b +ℤ pos 1) → a ≤ℤ b
-before_next a b h = omega (arith, ints)
 
 start_here : (a : ℤ) → a +ℤ pos 0 ≡ a
 start_here a = omega (arith, ints)
@@ -102,7 +68,7 @@ one_tick f t = append-nil (f t)
 
 pub tick_alone : {A : Type 0} (f : ℤ → List A) (t : ℤ) → each_tick t (int_gap t (t +ℤ pos 1)) f ≡ f t
 tick_alone f t =
-    let size : int_gap t (t +ℤ pos 1) ≡ 1 = next_gap t t (same_most t) ∙ ap suc (gap_none t t (same_most t)) in
+    let size : int_gap t (t +ℤ pos 1) ≡ 1 = next_gap t t (≤ℤ_refl t) ∙ ap suc (gap_none t t (≤ℤ_refl t)) in
     ap (λ (k : ℕ). each_tick t k f) size ∙ one_tick f t
 
 pub no_ticks : {A : Type 0} (f : ℤ → List A) (from end : ℤ) → from ≤ℤ end → ((t : ℤ) → from ≤ℤ t → t <ℤ end → f t ≡ [])
@@ -116,18 +82,6 @@ unfolding sweep
 sweep_alone g es t = tick_alone (at_tick g es) t
 
 -- ---- where all is empty, each part is
-
-no_more : {A : Type 0} (x : A) (xs : List A) → x ∷ xs ≡ [] → ⊥
-no_more x xs h =
-    let size : suc (length xs) ≡ 0 = ap length h in
-    omega (arith, size)
-
-pub front_empty : {A : Type 0} (xs ys : List A) → xs ++ ys ≡ [] → xs ≡ []
-front_empty [] ys h = refl
-front_empty (x ∷ xs) ys h = absurd (no_more x (xs ++ ys) h)
-
-pub back_empty : {A : Type 0} (xs ys : List A) → xs ++ ys ≡ [] → ys ≡ []
-back_empty xs ys h = sym (ap (λ (zs : List _). zs ++ ys) (front_empty xs ys h)) ∙ h
 
 -- a sweep without anything has nothing at each of its ticks
 pub tick_empty : {A : Type 0} (g : OfSymbol A) (es : List EndpointConfig) (from t end : ℤ) → from ≤ℤ t → t <ℤ end → sweep g es from end ≡ [] → at_tick g es t ≡ []

@@ -19,10 +19,10 @@ use Rattle.fault_counters.specs.declared.kinds.Counter.TheVariants as counter
 use Rattle.window_config.specs.declared.endpoints.EndpointConfig.{EndpointConfig}
 use Rattle.replay_events.specs.unit_model.specs.Counts.{decoded_counted, fragment_counter, frames_counted, meeting_counted, messages_counted, refusal_counted}
 use Rattle.replay_events.specs.unit_model.specs.Decoding.{Decoded, Refused, Backwards, Sections, data_now}
-use Rattle.replay_events.specs.unit_model.specs.Lists.{onto}
 use Rattle.replay_events.specs.unit_model.specs.Meetings.{Arrival, Meeting, Ignored, Commands, Piece, application, command_read, control_met, find_endpoint, fragments, id_of, is_fragmented, meet, meetings, met_by, met_in, sequence_of}
 use Rattle.replay_events.specs.unit_model.proofs.CountLemmas.{times-append}
 use Rattle.replay_events.specs.unit_laws.specs.Totals.{commands_total, data_total}
+use Rattle.replay_events.specs.unit_laws.proofs.OrderLemmas.{All-onto}
 use Rattle.replay_laws.specs.Sums.{cells_total}
 
 -- none of these is a verdict's counter, or a cell's
@@ -146,16 +146,11 @@ all_met_beside side es at [] = All-nil IsMetBeside
 all_met_beside side es at (m ∷ ms) =
     All-cons IsMetBeside (meet side es at m) (map (meet side es at) ms) (meet_beside side es at m) (all_met_beside side es at ms)
 
-all_onto : {A : Type 0} (P : A → Type 0) (earlier xs : List A) → All P earlier → All P xs → All P (onto earlier xs)
-unfolding onto
-all_onto P earlier [] old new = old
-all_onto P earlier (x ∷ xs) old new = all_onto P (x ∷ earlier) xs (All-cons P x earlier (All-head P x xs new) old) (All-tail P x xs new)
-
 pub meetings_beside : (side : Side) (es : List EndpointConfig) (arrivals : List Arrival) → All IsMetBeside (meetings side es arrivals)
 unfolding meetings
 meetings_beside side es [] = All-nil IsMetBeside
 meetings_beside side es (a ∷ earlier) =
-    all_onto IsMetBeside (meetings side es earlier) (met_in side es a.at (whole_messages a.frame)) (meetings_beside side es earlier)
+    All-onto IsMetBeside (meetings side es earlier) (met_in side es a.at (whole_messages a.frame)) (meetings_beside side es earlier)
     (all_met_beside side es a.at (whole_messages a.frame))
 
 meeting_beside : (side : Side) (hold : ℤ) (m : Meeting) (earlier : List Meeting) → IsMetBeside m → IsBeside (meeting_counted side hold m earlier)

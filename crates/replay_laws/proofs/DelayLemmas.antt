@@ -1,9 +1,8 @@
 -- The delays that a replay tells are the results of the frames that land, each behind its frame.
-use Rattle.std.proofs.Common.{◌≡◌, ℕ, ℤ, zero, suc, pos, ◌+ℤ◌, ◌≤ℤ◌, List, [], ◌∷◌, ◌++◌, refl, sym, ap, ap₂, ◌∙◌, subst, inl, inr, arith, append_assoc, append-nil}
+use Rattle.std.proofs.Common.{◌≡◌, ℕ, ℤ, zero, suc, pos, ◌+ℤ◌, ◌≤ℤ◌, List, [], ◌∷◌, ◌++◌, refl, sym, ap, ap₂, ◌∙◌, subst, inl, inr, append_assoc, append-nil}
 use Rattle.std.specs.Prelude.{All, Contains, ◌⊎◌, map, Some, slice_get, slice_index_or, ◌==◌, if◌then◌else◌, Bool, true, false}
 use Rattle.std.specs.Int.{int_gap}
 use Rattle.std.specs.List.{flat_map}
-use Rattle.std.proofs.lemmas.Int.{ints}
 use Rattle.std.proofs.lemmas.Option.{same_Some}
 use Rattle.std.proofs.lemmas.List.Elements.{All-nil, All-cons, All-append, All-head, All-tail, Contains-append_right}
 use Rattle.replay_events.specs.air_source.specs.declared.events.AirCell.{AirCell}
@@ -17,12 +16,13 @@ use Rattle.window_config.specs.declared.config.Config.{Config}
 use Rattle.replay_events.specs.unit_model.specs.Meetings.{Arrival}
 use Rattle.replay_events.specs.unit_model.specs.Radiated.{first_clock}
 use Rattle.replay_events.specs.unit_laws.proofs.SweepLemmas.{IsKept, each_tick_related}
+use Rattle.replay_events.specs.history_laws.proofs.TickLemmas.{at_most, next_is_later, next_order}
 use Rattle.replay_events.specs.Events.{arrival_event, arrival_told, arrivals_at, arrivals_told, cells_at, count_event, count_events, events, events_at, events_between, number_of, result_event}
 use Rattle.replay_events.specs.Moments.{end_of_time, landing_at}
 use Rattle.replay_events.specs.Traffic.{Traffic, landings_at}
 use Rattle.replay_events.specs.declared.results.DelayResult.{DelayResult}
 use Rattle.replay_events.proofs.CameLemmas.{landed_then}
-use Rattle.replay_events.proofs.TickLemmas.{at_most, next_is_later, tick_alone, ticks_append}
+use Rattle.replay_events.proofs.TickLemmas.{tick_alone, ticks_append}
 use Rattle.replay_events.proofs.ToldLemmas.{Results, none_told, told_next, told_next_alone}
 use Rattle.replay_laws.specs.Delays.{DelaysAreResults, DelaysFollowFrames, FollowsFrame, FramesAreTold, IsAmong, IsBehindFrame, IsLanding, IsResult, StandTogether, given_by}
 use Rattle.replay_laws.proofs.GivenLemmas.{first_inside, later_inside}
@@ -62,7 +62,7 @@ each_holds : {A : Type 0} (P : A → Type 0) (xs : List A) → ((before : List A
 each_holds P [] h = All-nil P
 each_holds P (x ∷ xs) h = All-cons P x xs (h [] x xs refl) (each_holds P xs (λ before y after e. h (x ∷ before) y after (ap (λ (zs : List _). x ∷ zs) e)))
 
-it_holds : {A : Type 0} (P : A → Type 0) (before : List A) (m : A) (after : List A) → All P (before ++ m ∷ after) → P m
+pub it_holds : {A : Type 0} (P : A → Type 0) (before : List A) (m : A) (after : List A) → All P (before ++ m ∷ after) → P m
 it_holds P [] m after h = All-head P m after h
 it_holds P (b ∷ before) m after h = it_holds P before m after (All-tail P b (before ++ m ∷ after) h)
 
@@ -347,9 +347,6 @@ module _ (c : Config) (t : Traffic) (tick : ℤ) (es : List Event) where
   in_events low high h =
       let end = end_of_time +ℤ pos 1 in
       together_left es (events_between c t first_clock end) (count_events Ru c t ++ count_events Du c t) (in_ticks first_clock end low high h)
-
-next_order : (a b : ℤ) → a ≤ℤ b → (a +ℤ pos 1) ≤ℤ (b +ℤ pos 1)
-next_order a b h = omega (arith, ints)
 
 pub frames_are_told : FramesAreTold
 frames_are_told c t side tick place frame low high landed =

@@ -2,6 +2,7 @@
 use Rattle.std.proofs.Common.{◌≡◌, ℕ, ℤ, ◌≤ℤ◌, Bool, true, false, List, [], ◌∷◌, ◌++◌, Option, Some, None, Result, Ok, Err, refl, sym, subst}
 use Rattle.std.specs.Prelude.{All, ◌==◌, ◌||◌, not, nat_lt, length, if◌then◌else◌}
 use Rattle.std.proofs.lemmas.List.Elements.{All-nil, All-cons, All-head, All-tail}
+use Rattle.std.specs.Int.Signed.{≤ℤ_refl}
 use Rattle.fh_time.specs.Numbering.{shape_of}
 use Rattle.replay_events.specs.air_source.specs.declared.events.Side.{Side}
 use Rattle.replay_events.specs.air_source.specs.declared.events.Side.TheVariants.{Ru, Du}
@@ -15,7 +16,7 @@ use Rattle.window_config.specs.declared.endpoints.EndpointConfig.{EndpointConfig
 use Rattle.replay_events.specs.unit_model.specs.Lists.{onto}
 use Rattle.replay_events.specs.unit_model.specs.Meetings.{Arrival, Meeting, Ignored, Commands, Piece, application, command_read, control_met, find_endpoint, fragment_of, fragments, id_of, is_fragmented, meet, meetings, met_by, met_in, sequence_of}
 use Rattle.replay_events.specs.unit_model.specs.Standing.{AreInTime}
-use Rattle.replay_events.proofs.TickLemmas.{at_most, same_most}
+use Rattle.replay_events.specs.history_laws.proofs.TickLemmas.{at_most}
 
 -- the newest first, none later than the clock, and none later than a newer one
 abbrev pub AreFalling : ℤ → List Fragment → Type 0
@@ -70,7 +71,7 @@ unfolding fragments
 one_falling t (Ignored c) earlier h is = h
 one_falling t (Commands cs) earlier h is = h
 one_falling t (Piece e f) earlier h is =
-    (subst (λ (z : ℤ). z ≤ℤ t) (sym is) (same_most t), subst (λ (z : ℤ). AreFalling z (fragments earlier)) (sym is) h)
+    (subst (λ (z : ℤ). z ≤ℤ t) (sym is) (≤ℤ_refl t), subst (λ (z : ℤ). AreFalling z (fragments earlier)) (sym is) h)
 
 falling_onto : (t : ℤ) (earlier xs : List Meeting) → AreFalling t (fragments earlier) → All (IsMetAt t) xs → AreFalling t (fragments (onto earlier xs))
 unfolding onto

@@ -6,6 +6,7 @@ use Rattle.std.proofs.lemmas.Int.{ints}
 use Rattle.std.proofs.lemmas.List.{append_assoc}
 use Rattle.std.proofs.lemmas.List.Elements.{All-nil, All-cons, All-contains, All-contains_itself, All-weaker, Contains-append_cases}
 use Rattle.std.proofs.lemmas.Option.{same_Some}
+use Rattle.std.specs.Int.Signed.{≤ℤ_refl}
 use Rattle.fh_time.specs.Numbering.{shape_of}
 use Rattle.bfp_codec.specs.declared.samples.Wide.{Wide}
 use Rattle.replay_events.specs.air_source.specs.declared.events.Side.{Side}
@@ -33,7 +34,6 @@ use Rattle.replay_events.specs.Heard.{cells_heard}
 use Rattle.replay_events.specs.Moments.{all_arrivals, end_of_time}
 use Rattle.replay_events.specs.Traffic.{landings_at}
 use Rattle.replay_events.proofs.CameLemmas.{arrivals_in_time}
-use Rattle.replay_events.proofs.TickLemmas.{same_most}
 use Rattle.replay_laws.specs.Gathered.{CameThen, EachIsGathered, GaveGathered, IsGathered, IsPieceInTime, ShownAreGathered, gathered}
 use Rattle.replay_laws.specs.Shown.{IsInTime, IsInWindow}
 use Rattle.replay_laws.proofs.FallingLemmas.{AreFalling, falling_behind, met_falling}
@@ -250,7 +250,7 @@ module _ (side : Side) (c : Config) (arrivals : List Arrival) (clock : ℤ) (cam
       (All-weaker (Contains (seen hold f fs)) P (λ x h. later_inside f x (seen hold f fs) h) (seen hold f fs) (All-contains_itself (seen hold f fs))))
 
   stood_falling : AreFalling f.at its
-  stood_falling = (same_most f.at, stood_falls hold f.at f fs falling)
+  stood_falling = (≤ℤ_refl f.at, stood_falls hold f.at f fs falling)
 
   one_in_time : (x : Fragment) → Contains its x → IsPieceInTime side c arrivals f fs part start x
   one_in_time x inside =

@@ -12,7 +12,10 @@ use Rattle.replay_events.specs.unit_model.specs.Lists.{onto}
 use Rattle.replay_events.specs.unit_model.specs.Meetings.{Arrival}
 use Rattle.replay_events.specs.unit_model.specs.Radiated.{first_clock}
 use Rattle.replay_events.specs.unit_model.proofs.SweepLaws.{gap_is}
+use Rattle.replay_events.specs.unit_model.proofs.CountLemmas.{no_time}
+use Rattle.replay_events.specs.history_laws.proofs.TickLemmas.{is_less, not_less, is_same, within_next, next_after, weak, same_tick, clock_begins}
 use Rattle.replay_events.specs.Moments.{all_arrivals, arrivals_in, end_of_time, landing_at}
+use Rattle.replay_events.proofs.CameLemmas.{none_first, next_first}
 use Rattle.replay_laws.specs.Landed.{EachArrives}
 
 -- ---- how many have something
@@ -68,29 +71,8 @@ many_onto p earlier (x ∷ xs) = many_onto p (x ∷ earlier) xs ∙ moved (one_i
 
 -- ---- those before a tick, and those at it
 
-lt_is : (x t : ℤ) → x <ℤ t → int_lt x t ≡ true
-lt_is x t h = grind (arith, ints)
-
-not_lt : (x t : ℤ) → t ≤ℤ x → int_lt x t ≡ false
-not_lt x t h = grind (arith, ints)
-
 not_eq : (x t : ℤ) → (x ≡ t → ⊥) → int_eq x t ≡ false
 not_eq x t ne = false_from_ne_true (int_eq x t) (λ e. ne ((Decides-int_eq x t).0 e))
-
-is_eq : (x t : ℤ) → x ≡ t → int_eq x t ≡ true
-is_eq x t e = (Decides-int_eq x t).1 e
-
-next_lt : (x t : ℤ) → x ≤ℤ t → x <ℤ (t +ℤ pos 1)
-next_lt x t h = omega (arith, ints)
-
-not_next : (x t : ℤ) → t <ℤ x → (t +ℤ pos 1) ≤ℤ x
-not_next x t h = omega (arith, ints)
-
-weak : (x t : ℤ) → x <ℤ t → x ≤ℤ t
-weak x t h = omega (arith, ints)
-
-same_from : (x t : ℤ) → t ≤ℤ x → x ≤ℤ t → x ≡ t
-same_from x t h k = omega (arith, ints)
 
 less_differ : (x t : ℤ) → x <ℤ t → x ≡ t → ⊥
 less_differ x t h e = omega (arith, ints)
@@ -98,28 +80,22 @@ less_differ x t h e = omega (arith, ints)
 more_differ : (x t : ℤ) → t <ℤ x → x ≡ t → ⊥
 more_differ x t h e = omega (arith, ints)
 
-here_lt : (x : ℤ) → x ≤ℤ x
-here_lt x = omega (arith, ints)
-
 -- with the three tests known
 three : (w l e w' l' e' b : Bool) → w ≡ w' → l ≡ l' → e ≡ e' → one_if (w' && b) ≡ one_if (l' && b) + one_if (e' && b)
     → one_if (w && b) ≡ one_if (l && b) + one_if (e && b)
 three w l e w' l' e' b p q r known =
     ap (λ (v : Bool). one_if (v && b)) p ∙ known ∙ sym (ap₂ (λ (v u : Bool). one_if (v && b) + one_if (u && b)) q r)
 
-plus_none : (n : ℕ) → n ≡ n + 0
-plus_none n = omega arith
-
 one_tick_more : (x t : ℤ) (b : Bool) → one_if (int_lt x (t +ℤ pos 1) && b) ≡ one_if (int_lt x t && b) + one_if (int_eq x t && b)
 one_tick_more x t b =
     by_lt_z x t
-    (λ less. three (int_lt x (t +ℤ pos 1)) (int_lt x t) (int_eq x t) true true false b (lt_is x (t +ℤ pos 1) (next_lt x t (weak x t less))) (lt_is x t less)
-    (not_eq x t (less_differ x t less)) (plus_none (one_if b)))
+    (λ less. three (int_lt x (t +ℤ pos 1)) (int_lt x t) (int_eq x t) true true false b (is_less x (t +ℤ pos 1) (within_next x t (weak x t less))) (is_less x t less)
+    (not_eq x t (less_differ x t less)) (no_time (one_if b)))
     (λ reached. by_lt_z t x
-    (λ more. three (int_lt x (t +ℤ pos 1)) (int_lt x t) (int_eq x t) false false false b (not_lt x (t +ℤ pos 1) (not_next x t more)) (not_lt x t reached)
+    (λ more. three (int_lt x (t +ℤ pos 1)) (int_lt x t) (int_eq x t) false false false b (not_less x (t +ℤ pos 1) (next_after t x more)) (not_less x t reached)
     (not_eq x t (more_differ x t more)) refl)
-    (λ low. three (int_lt x (t +ℤ pos 1)) (int_lt x t) (int_eq x t) true false true b (lt_is x (t +ℤ pos 1) (next_lt x t low)) (not_lt x t reached)
-    (is_eq x t (same_from x t reached low)) (none_plus (one_if b))))
+    (λ low. three (int_lt x (t +ℤ pos 1)) (int_lt x t) (int_eq x t) true false true b (is_less x (t +ℤ pos 1) (within_next x t low)) (not_less x t reached)
+    (is_same x t (same_tick x t reached low)) (none_plus (one_if b))))
 
 -- ---- those of the first ticks
 
@@ -132,26 +108,18 @@ start_here t = omega (arith, ints)
 next_tick : (t : ℤ) (n : ℕ) → t +ℤ pos (suc n) ≡ (t +ℤ pos n) +ℤ pos 1
 next_tick t n = omega (arith, ints)
 
-first_none : (landings : List Arrival) → arrivals_in landings 0 ≡ []
-unfolding arrivals_in
-first_none landings = refl
-
-first_more : (landings : List Arrival) (n : ℕ) → arrivals_in landings (suc n) ≡ onto (arrivals_in landings n) (landing_at landings (first_clock +ℤ pos n))
-unfolding arrivals_in
-first_more landings n = refl
-
 not_begun : (p : Arrival → Bool) (a : Arrival) → first_clock ≤ℤ a.at → came p 0 a ≡ false
 not_begun p a begun =
-    ap (λ (t : ℤ). int_lt a.at t && p a) (sym (start_here first_clock)) ∙ ap (λ (b : Bool). b && p a) (not_lt a.at first_clock begun)
+    ap (λ (t : ℤ). int_lt a.at t && p a) (sym (start_here first_clock)) ∙ ap (λ (b : Bool). b && p a) (not_less a.at first_clock begun)
 
 came_in : (p : Arrival → Bool) (landings : List Arrival) (n : ℕ) → All (λ a. first_clock ≤ℤ a.at) landings → many p (arrivals_in landings n) ≡ many (came p n) landings
 came_in p landings zero begun =
-    ap (many p) (first_none landings)
+    ap (many p) (none_first landings)
     ∙ sym (none_have (came p 0) landings (All-weaker (λ (a : Arrival). first_clock ≤ℤ a.at) (λ (a : Arrival). came p 0 a ≡ false) (not_begun p) landings begun))
 came_in p landings (suc n) begun =
     let t = first_clock +ℤ pos n in
     let here : Arrival → Bool = λ a. int_eq a.at t && p a in
-    ap (many p) (first_more landings n)
+    ap (many p) (next_first landings n)
     ∙ many_onto p (arrivals_in landings n) (landing_at landings t)
     ∙ ap₂ ◌+◌ (came_in p landings n begun) (many_filter p (λ a. int_eq a.at t) landings)
     ∙ sym (many_sum (came p n) here (came p (suc n)) (λ a.
@@ -159,10 +127,7 @@ came_in p landings (suc n) begun =
 
 all_came : (p : Arrival → Bool) (n : ℕ) → first_clock +ℤ pos n ≡ end_of_time +ℤ pos 1 → (a : Arrival) → a.at ≤ℤ end_of_time → came p n a ≡ p a
 all_came p n reach a ended =
-    ap (λ (t : ℤ). int_lt a.at t && p a) reach ∙ ap (λ (b : Bool). b && p a) (lt_is a.at (end_of_time +ℤ pos 1) (next_lt a.at end_of_time ended))
-
-begins : first_clock ≤ℤ (end_of_time +ℤ pos 1)
-begins = omega (arith, ints)
+    ap (λ (t : ℤ). int_lt a.at t && p a) reach ∙ ap (λ (b : Bool). b && p a) (is_less a.at (end_of_time +ℤ pos 1) (within_next a.at end_of_time ended))
 
 pub each_arrives : EachArrives
 each_arrives landings are p =
@@ -171,5 +136,5 @@ each_arrives landings are p =
     sym (counts (all_arrivals landings))
     ∙ came_in p landings n are.begun
     ∙ many_same (came p n) p landings
-    (All-weaker (λ (a : Arrival). a.at ≤ℤ end_of_time) (λ (a : Arrival). came p n a ≡ p a) (all_came p n (gap_is first_clock (end_of_time +ℤ pos 1) begins)) landings are.ended)
+    (All-weaker (λ (a : Arrival). a.at ≤ℤ end_of_time) (λ (a : Arrival). came p n a ≡ p a) (all_came p n (gap_is first_clock (end_of_time +ℤ pos 1) clock_begins)) landings are.ended)
     ∙ counts landings

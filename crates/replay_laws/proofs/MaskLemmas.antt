@@ -1,7 +1,8 @@
 -- The mask of a cell has exactly the elements that are in use, and a cell's section id is that of each of its claims.
 use Rattle.std.proofs.Common.{◌≡◌, ℕ, zero, suc, ◌+◌, ◌*◌, ◌-◌, ◌/◌, ◌%◌, ◌^◌, ◌<◌, ◌≤◌, Bool, true, false, refl, sym, ap, ◌∙◌, subst, arith}
-use Rattle.std.specs.Prelude.{◌==◌, if◌then◌else◌, not, Option, Some, None}
+use Rattle.std.specs.Prelude.{◌==◌, if◌then◌else◌, Option, Some, None}
 use Rattle.std.proofs.lemmas.Nat.{shr_high}
+use Rattle.std.proofs.lemmas.Bool.{not-true}
 use Rattle.replay_events.specs.unit_model.specs.Claims.{in_mask}
 use Rattle.replay_events.specs.unit_model.specs.Radiated.{cell_id, id_from, id_or, is_used, used_below, used_mask}
 use Rattle.replay_events.specs.unit_model.specs.declared.cells.Claim.{Claim}
@@ -80,13 +81,9 @@ pub record IsBusy (o : Option Claim) : Type 0 where
   pub is : o ≡ Some claim
   pub busy : claim.idle ≡ false
 
-not_true : (b : Bool) → not b ≡ true → b ≡ false
-not_true true h = absurd cc
-not_true false h = refl
-
 pub used_is_busy : (o : Option Claim) → is_used o ≡ true → IsBusy o
 used_is_busy None h = absurd cc
-used_is_busy (Some k) h = record { claim = k; is = refl; busy = not_true k.idle h }
+used_is_busy (Some k) h = record { claim = k; is = refl; busy = not-true k.idle h }
 
 -- ---- the section id
 

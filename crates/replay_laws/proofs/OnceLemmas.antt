@@ -20,6 +20,7 @@ use Rattle.replay_events.specs.unit_model.proofs.SweepLaws.{gap_is}
 use Rattle.replay_events.specs.unit_laws.specs.Due.{AreDifferent}
 use Rattle.replay_events.specs.unit_laws.proofs.DueLemmas.{reported_differ}
 use Rattle.replay_events.specs.unit_laws.proofs.SweepLemmas.{IsKept, each_tick_related}
+use Rattle.replay_events.specs.history_laws.proofs.TickLemmas.{clock_begins}
 use Rattle.replay_events.specs.Events.{arrivals_at, cells_at, count_event, count_events, events, events_at, events_between, number_of, start_of}
 use Rattle.replay_events.specs.Heard.{cells_heard}
 use Rattle.replay_events.specs.Moments.{all_arrivals, end_of_time, landing_at}
@@ -92,9 +93,6 @@ sweep_shifted g es w from end order =
 end_shifted : (t w : ℤ) → (t +ℤ pos 1) -ℤ w ≡ (t -ℤ w) +ℤ pos 1
 end_shifted t w = omega (arith, ints)
 
-begins : first_clock ≤ℤ (end_of_time +ℤ pos 1)
-begins = omega (arith, ints)
-
 pub swept_is_reported : (side : Side) (c : Config) (t : Traffic)
     → each_tick first_clock (int_gap first_clock (end_of_time +ℤ pos 1)) (cells_at side c t)
     ≡ reported_at side c t.planned (all_arrivals (landings_at side t)) end_of_time
@@ -106,7 +104,7 @@ swept_is_reported side c t =
     let n = int_gap first_clock end in
     each_tick_related (λ xs ys. xs ≡ ys) (record { none = refl; more = λ xs xs' ys ys' p q. ap₂ ◌++◌ p q }) first_clock n (cells_at side c t) (λ tick. at_tick g c.endpoints (tick -ℤ w))
     (λ tick low high. by_start side c t tick)
-    ∙ sweep_shifted g c.endpoints w first_clock end begins
+    ∙ sweep_shifted g c.endpoints w first_clock end clock_begins
     ∙ ap (λ (s : ℤ). sweep g c.endpoints (first_clock -ℤ w) s) (end_shifted end_of_time w)
 
 -- ---- the counters tell no cells

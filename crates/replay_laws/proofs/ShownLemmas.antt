@@ -1,8 +1,8 @@
 -- What a cell shows came in time.
-use Rattle.std.proofs.Common.{◌≡◌, ℕ, ℤ, pos, ◌+ℤ◌, ◌-ℤ◌, ◌-◌, ◌<◌, Bool, true, false, List, [], ◌∷◌, refl, sym, ap, ap₂, ◌∙◌, subst, arith, length}
-use Rattle.std.specs.Prelude.{◌==◌, if◌then◌else◌, All, Some}
+use Rattle.std.proofs.Common.{◌≡◌, ℕ, ℤ, pos, ◌+ℤ◌, ◌-ℤ◌, ◌-◌, ◌<◌, true, false, List, [], refl, sym, ap, ap₂, ◌∙◌, subst, arith, length}
+use Rattle.std.specs.Prelude.{◌==◌, All, Some}
 use Rattle.std.proofs.lemmas.Option.{slice_get-get_or}
-use Rattle.std.proofs.lemmas.List.Elements.{All-nil, All-cons, All-contains}
+use Rattle.std.proofs.lemmas.List.Elements.{All-contains}
 use Rattle.fh_time.specs.Air.{air_of}
 use Rattle.fh_time.specs.declared.values.Slot.{Slot}
 use Rattle.bfp_codec.specs.declared.samples.Wide.{Wide}
@@ -38,6 +38,7 @@ use Rattle.replay_events.proofs.CameLemmas.{arrivals_in_time}
 use Rattle.replay_events.specs.Moments.{all_arrivals, end_of_time}
 use Rattle.replay_events.specs.Passing.{AreLandings}
 use Rattle.replay_events.specs.Traffic.{Traffic, known_at, landings_at}
+use Rattle.replay_events.proofs.HeardLemmas.{one_or_none}
 use Rattle.replay_laws.specs.Shown.{ElementIsGiven, GaveElement, GaveSamples, HaveOneId, IsInTime, IsInWindow, PlannedElement, ShownOnlyInTime}
 use Rattle.replay_laws.proofs.GivenLemmas.{IsGiven, IsUnder, block_given, claim_given, one_id, planned_given, samples_are_under}
 use Rattle.replay_laws.proofs.MaskLemmas.{cell_id_is, in_use, used_is_busy}
@@ -180,10 +181,6 @@ module _ (side : Side) (c : Config) (planned : List Allocation) (arrivals : List
   }
 
 -- ---- all cells
-
-one_or_none : (P : AirCell → Type 0) (b : Bool) (a : AirCell) → P a → All P (if b then [] else a ∷ [])
-one_or_none P true a h = All-nil P
-one_or_none P false a h = All-cons P a [] h (All-nil P)
 
 symbol_in_time : (side : Side) (c : Config) (planned : List Allocation) (arrivals : List Arrival) (clock : ℤ) → AreInTime clock arrivals → All (λ a. IsTime a.at) arrivals
     → ((cell : Cell) → HaveOneId planned cell) → (ep : ℕ) (e : EndpointConfig) (slot : Slot) (symbol : ℕ) → IsAt c.endpoints ep e

@@ -6,10 +6,11 @@ use Rattle.std.proofs.Math.Seq.{get_or-append_seam}
 use Rattle.std.proofs.lemmas.Bool.{and_parts, cases_lt, eq-eqb, eqb-true, ltb-false, or_parts}
 use Rattle.std.proofs.lemmas.Option.{slice_get-get_or}
 use Rattle.std.proofs.lemmas.List.Elements.{All-nil, All-cons, All-head, All-tail, All-weaker}
+use Rattle.std.specs.Int.Signed.{≤ℤ_refl}
 use Rattle.ecpri_fragments.specs.Generations.{Fragment, Generation, begun, generations, generations_of, held_in, is_of, is_within, joined, of_id, seen, with_fragment}
 use Rattle.ecpri_fragments.specs.Verdicts.{all_stand, end_of, first_of, has_greater, is_whole, piece_at, pieces_below, refused, standing, standing_before, stands, whole_to, with_one}
 use Rattle.ecpri_fragments.specs.declared.verdict.Verdict.{Verdict}
-use Rattle.replay_events.proofs.TickLemmas.{at_most, same_most}
+use Rattle.replay_events.specs.history_laws.proofs.TickLemmas.{at_most}
 use Rattle.replay_laws.specs.Gathered.{CameThen, HasFragment}
 use Rattle.replay_laws.proofs.FallingLemmas.{AreFalling, falling_later}
 use Rattle.replay_laws.proofs.GivenLemmas.{first_inside, later_inside}
@@ -122,7 +123,7 @@ stood_falls hold clock f earlier h =
 
 -- none came before the first of them
 pub none_before : (f : Fragment) (s : List Fragment) → AreFalling f.at s → All (λ x. first_of (f ∷ s) ≤ℤ x.at) (f ∷ s)
-none_before f [] h = All-cons (λ (x : Fragment). f.at ≤ℤ x.at) f [] (same_most f.at) (All-nil (λ (x : Fragment). f.at ≤ℤ x.at))
+none_before f [] h = All-cons (λ (x : Fragment). f.at ≤ℤ x.at) f [] (≤ℤ_refl f.at) (All-nil (λ (x : Fragment). f.at ≤ℤ x.at))
 none_before f (g ∷ s) h =
     let P : Fragment → Type 0 = λ x. first_of (g ∷ s) ≤ℤ x.at in
     let rest : All P (g ∷ s) = none_before g s h.1 in

@@ -3,7 +3,6 @@ use Rattle.std.proofs.Common.{◌≡◌, ℕ, ℤ, pos, zero, suc, ◌+ℤ◌, �
 use Rattle.std.specs.Prelude.{◌==◌, if◌then◌else◌, map, All, Contains, Option, Some, None}
 use Rattle.std.specs.Int.{int_gap}
 use Rattle.std.specs.List.{flat_map}
-use Rattle.std.proofs.lemmas.Bool.{eqb-true, false_from_ne_true}
 use Rattle.std.proofs.lemmas.List.Elements.{All-nil, All-cons, All-append, Contains-append_left, Contains-append_right}
 use Rattle.bfp_codec.specs.declared.samples.Wide.{Wide}
 use Rattle.replay_events.specs.air_source.specs.declared.events.AirCell.{AirCell}
@@ -33,6 +32,7 @@ use Rattle.replay_events.specs.unit_laws.specs.Totals.{commands_total, data_tota
 use Rattle.replay_events.specs.unit_laws.proofs.DifferLemmas.{all_kept}
 use Rattle.replay_events.specs.unit_laws.proofs.SweepLemmas.{each_tick_related}
 use Rattle.replay_events.specs.unit_laws.proofs.TotalLemmas.{commands_add_up, data_add_up}
+use Rattle.replay_events.specs.history_laws.proofs.UnitLemmas.{not_none}
 use Rattle.replay_events.specs.Events.{additions_of, arrivals_at, arrivals_told, cells_at, count_event, count_events, events, events_at, events_between, number_of}
 use Rattle.replay_events.specs.Moments.{all_arrivals, end_of_time, landing_at}
 use Rattle.replay_events.specs.Traffic.{Traffic, landings_at, reported_at}
@@ -259,9 +259,6 @@ listed counter.DelayShort = (29, omega arith, refl)
 listed counter.DelayUnknown = (30, omega arith, refl)
 listed counter.DelayRepeat = (31, omega arith, refl)
 listed counter.DelayResult = (32, omega arith, refl)
-
-not_none : (n : ℕ) → 0 < n → (n == 0) ≡ false
-not_none n h = false_from_ne_true (n == 0) (λ t. let none = eqb-true n 0 t in omega (arith, h, none))
 
 count_there : (side : Side) (n : ℕ) (k : Counter) → 0 < n → Contains (count_event side n k) (event.Count side k n)
 count_there side n k h =

@@ -16,9 +16,9 @@ use Rattle.replay_events.specs.unit_model.specs.Standing.{AreInTime}
 use Rattle.replay_events.specs.unit_model.specs.declared.decoded.ControlSection.{ControlSection}
 use Rattle.replay_events.specs.unit_model.specs.declared.decoded.UserSection.{UserSection}
 use Rattle.replay_events.specs.unit_laws.proofs.ChangeLemmas.{either_way}
+use Rattle.replay_events.specs.history_laws.proofs.TickLemmas.{at_most}
 use Rattle.replay_events.specs.Moments.{all_arrivals, end_of_time}
 use Rattle.replay_events.proofs.CameLemmas.{arrivals_in_time}
-use Rattle.replay_events.proofs.TickLemmas.{at_most}
 use Rattle.replay_laws.specs.Silent.{EachSilentChangesNothing, IsSilent, SilentChangesNothing, began, is_with, without}
 use Rattle.replay_laws.proofs.FallingLemmas.{AreFalling, falling_behind, met_falling}
 use Rattle.replay_laws.proofs.RefusedLemmas.{AreAlike, alike_more, alike_standing}

@@ -1,6 +1,6 @@
 -- Reports go on symbol by symbol.
-use Rattle.std.proofs.Common.{◌≡◌, ℤ, ◌≤ℤ◌, ◌<ℤ◌, List, [], ◌∷◌, ◌++◌, sym, ap, ◌∙◌, subst, arith, append-nil, append_assoc}
-use Rattle.std.proofs.lemmas.Int.{ints}
+use Rattle.std.proofs.Common.{◌≡◌, ℤ, ◌≤ℤ◌, ◌<ℤ◌, List, [], ◌∷◌, ◌++◌, sym, ap, ◌∙◌, subst, append-nil, append_assoc}
+use Rattle.std.specs.Int.Signed.{<ℤ-≤ℤ_trans}
 use Rattle.history_laws.specs.air_source.specs.declared.events.AirCell.{AirCell}
 use Rattle.history_laws.specs.window_config.specs.declared.config.Config.{Config}
 use Rattle.history_laws.specs.unit_model.specs.Standing.{History, heard}
@@ -27,9 +27,6 @@ pub record Begins (c : Config) (m : UnitMemory) (clock : ℤ) (cursor : JobCurso
   pub is : due_of c h to ≡ told ++ cell ∷ rest
   pub stands : Stands c m clock cursor (heard h told)
 
-later_start : (to s x : ℤ) → to <ℤ s → s ≤ℤ x → to <ℤ x
-later_start to s x h k = omega (arith, ints)
-
 module _ (first_law : FirstIsFirst AirCell) (none_law : NothingIsNothing AirCell) (c : Config) (m : UnitMemory) (clock : ℤ) (cursor : JobCursor) (h : History)
     (all : Stands c m clock cursor h) (to : ℤ) where
   pub goes_on : (m2 : UnitMemory) (s : SymbolStart) → OffsetsFit s.endpoint.numerology → IsFirstLeft m.cells clock s → s.start.0 ≤ℤ to
@@ -53,7 +50,7 @@ module _ (first_law : FirstIsFirst AirCell) (none_law : NothingIsNothing AirCell
   nothing_left none = nothing_is_due c m clock cursor h to none_law all.kept none
 
   pub nothing_by : (s : SymbolStart) → IsFirstLeft m.cells clock s → to <ℤ s.start.0 → due_of c h to ≡ []
-  nothing_by s first early = nothing_left (λ x left. later_start to s.start.0 x.start.0 early (starts_no_earlier x s (first.first x left)))
+  nothing_by s first early = nothing_left (λ x left. <ℤ-≤ℤ_trans early (starts_no_earlier x s (first.first x left)))
 
 -- ---- one after the other
 

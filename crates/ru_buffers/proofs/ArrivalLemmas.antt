@@ -1,10 +1,11 @@
 -- A unit stands for its history and an arrival, once that was treated.
-use Rattle.std.proofs.Common.{◌≡◌, ℕ, ℤ, pos, ◌≤◌, ◌+ℤ◌, ◌≤ℤ◌, ◌<ℤ◌, ◌^◌, ◌||◌, ◌&&◌, Bool, true, false, List, [], ◌∷◌, ◌++◌, length, drop, refl, sym, ap, ap₂, ◌∙◌, subst, arith, length-append}
+use Rattle.std.proofs.Common.{◌≡◌, ℕ, ℤ, pos, ◌≤◌, ◌+ℤ◌, ◌≤ℤ◌, ◌<ℤ◌, ◌^◌, ◌||◌, ◌&&◌, Bool, false, List, [], ◌∷◌, ◌++◌, length, drop, refl, sym, ap, ap₂, ◌∙◌, subst, arith, length-append}
 use Rattle.std.specs.Prelude.{Option, Some, None, int_lt}
 use Rattle.std.specs.Ordering.{int_eq}
 use Rattle.std.proofs.lemmas.Int.{ints, by_lt_z}
 use Rattle.std.proofs.lemmas.List.{drop-append-le}
 use Rattle.std.proofs.lemmas.List.Elements.{All-cons, All-weaker}
+use Rattle.std.specs.Int.Signed.{≤ℤ_refl}
 use Rattle.history_laws.specs.air_source.specs.declared.events.AirCell.{AirCell}
 use Rattle.history_laws.specs.air_source.specs.declared.events.Side.TheVariants.{Ru}
 use Rattle.history_laws.specs.window_config.specs.declared.config.Config.{Config}
@@ -27,62 +28,37 @@ use Rattle.history_laws.specs.unit_laws.proofs.SweepLemmas.{sweep-append, sweep-
 use Rattle.ru_reports.specs.unit_cells.specs.Keeping.{SameMarks}
 use Rattle.history_laws.specs.Arriving.{IsNextArrival}
 use Rattle.history_laws.proofs.ArrivingLemmas.{arrival_leaves_due, arrival_leaves_jobs, arrival_leaves_sent, arrival_leaves_use}
+use Rattle.history_laws.proofs.TickLemmas.{not_less, before_next, next_most, after_all, weak, next_order, at_most}
+use Rattle.history_laws.proofs.BeforeLemmas.{start_before}
+use Rattle.history_laws.proofs.UnitLemmas.{in_time_later}
 use Rattle.ru_jobs.specs.Cursors.{left_behind, left_jobs}
 use Rattle.ru_jobs.specs.declared.cursor.JobCursor.{JobCursor}
 use Rattle.unit_memory.specs.Memory.{Holds, arrival}
 use Rattle.unit_memory.specs.declared.memory.UnitMemory.{UnitMemory}
 use Rattle.ru_buffers.specs.Units.{IsWithin, Keeps}
-use Rattle.ru_buffers.proofs.HistoryLemmas.{come_later, since_small}
-use Rattle.ru_buffers.proofs.LookupLemmas.{at_most, left_by_definition, left_of, under_is}
-
-not_under_is : (x y : ℤ) → y ≤ℤ x → int_lt x y ≡ false
-not_under_is x y h = grind (arith, ints)
-
-refl_most : (a : ℤ) → a ≤ℤ a
-refl_most a = omega (arith, ints)
-
-next_most : (a b : ℤ) → a <ℤ (b +ℤ pos 1) → a ≤ℤ b
-next_most a b h = omega (arith, ints)
-
-after_next : (a b t : ℤ) → a ≤ℤ b → (b +ℤ pos 1) ≤ℤ t → a <ℤ t
-after_next a b t h k = omega (arith, ints)
-
-weak : (a b : ℤ) → a <ℤ b → a ≤ℤ b
-weak a b h = omega (arith, ints)
-
-next_order : (a b : ℤ) → a ≤ℤ b → (a +ℤ pos 1) ≤ℤ (b +ℤ pos 1)
-next_order a b h = omega (arith, ints)
-
-later_next : (a b : ℤ) → a ≤ℤ b → a ≤ℤ (b +ℤ pos 1)
-later_next a b h = omega (arith, ints)
+use Rattle.ru_buffers.proofs.HistoryLemmas.{since_small}
+use Rattle.ru_buffers.proofs.LookupLemmas.{left_by_definition, left_of}
 
 first_false : (a b e : Bool) → a ≡ false → b ≡ false → (a || (b && e)) ≡ false
 first_false a b e p q = rw p (rw q refl)
 
-first_true : (a b : Bool) → a ≡ true → (a || b) ≡ true
-first_true a b p = rw p refl
-
 not_same : (x y : ℤ) → x <ℤ y → int_eq y x ≡ false
 not_same x y h = grind (arith, ints)
 
--- a symbol that starts later than one comes after it
-pub later_is_after : (f m : SymbolStart) → f.start.0 <ℤ m.start.0 → comes_before f m ≡ true
-later_is_after f m h = first_true (int_lt f.start.0 m.start.0) _ (under_is f.start.0 m.start.0 h)
-
 pub later_not_before : (f m : SymbolStart) → f.start.0 <ℤ m.start.0 → comes_before m f ≡ false
 later_not_before f m h =
-    first_false (int_lt m.start.0 f.start.0) (int_eq m.start.0 f.start.0) _ (not_under_is m.start.0 f.start.0 (weak f.start.0 m.start.0 h)) (not_same f.start.0 m.start.0 h)
+    first_false (int_lt m.start.0 f.start.0) (int_eq m.start.0 f.start.0) _ (not_less m.start.0 f.start.0 (weak f.start.0 m.start.0 h)) (not_same f.start.0 m.start.0 h)
 
 -- of a symbol that starts after all that were given of, all messages are left
 all_behind : (given : ℕ) (last : Option SymbolStart) (m : SymbolStart) (js : List UplinkJob)
     → ((f : SymbolStart) → last ≡ Some f → f.start.0 <ℤ m.start.0) → left_behind given last m js ≡ js
 all_behind given None m js h = refl
-all_behind given (Some f) m js h = rw (later_not_before f m (h f refl)) (rw (later_is_after f m (h f refl)) refl)
+all_behind given (Some f) m js h = rw (later_not_before f m (h f refl)) (rw (start_before f m (h f refl)) refl)
 
 pub all_left : (cursor : JobCursor) (clock : ℤ) (m : SymbolStart) (js : List UplinkJob) → cursor.since.0 ≤ℤ clock → IsWithin clock cursor → clock <ℤ m.start.0
     → left_jobs cursor m js ≡ js
 all_left cursor clock m js since within after =
-    rw (not_under_is m.start.0 cursor.since.0 (at_most cursor.since.0 clock m.start.0 since (weak clock m.start.0 after)))
+    rw (not_less m.start.0 cursor.since.0 (at_most cursor.since.0 clock m.start.0 since (weak clock m.start.0 after)))
     (all_behind cursor.given cursor.last m js (λ f is. lesser f.start.0 clock m.start.0 (within f is) after))
   where
     lesser : (a b t : ℤ) → a ≤ℤ b → b <ℤ t → a <ℤ t
@@ -109,7 +85,7 @@ module _ (c : Config) (m m2 : UnitMemory) (clock : ℤ) (cursor : JobCursor) (h 
   is_next : IsNextArrival c a h.arrivals
   is_next = record {
     limits = k.holds.config.delays;
-    came = come_later cursor.since.0 h.clock h.arrivals k.since k.holds.came;
+    came = in_time_later cursor.since.0 h.clock h.arrivals k.since k.holds.came;
     times = All-cons (λ (x : Arrival). IsTime x.at) a h.arrivals k.time k.holds.times;
   }
 
@@ -124,7 +100,7 @@ module _ (c : Config) (m m2 : UnitMemory) (clock : ℤ) (cursor : JobCursor) (h 
       sweep-same (left_of acc2 cursor) (left_of acc cursor) es first_clock (to +ℤ pos 1) (λ ep e slot symbol tick low high swept.
       ap (left_jobs cursor (start_at ep e slot symbol))
       (arrival_leaves_jobs c a h.arrivals ep e slot symbol is_next swept.endpoint
-      (subst (λ (t : ℤ). t ≤ℤ h.clock) (sym swept.starts) (at_most tick to h.clock (next_most tick to high) order))))
+      (subst (λ (t : ℤ). t ≤ℤ h.clock) (sym swept.starts) (at_most tick to h.clock (before_next tick to high) order))))
       ∙ sym (left_by_definition c m cursor.since.0 h.arrivals (cells_counted h.reported) k.holds k.begun small cursor refl to)
       ∙ k.left to
 
@@ -139,11 +115,11 @@ module _ (c : Config) (m m2 : UnitMemory) (clock : ℤ) (cursor : JobCursor) (h 
       let behind : sweep (left_of acc2 cursor) es mid end ≡ sweep (symbol_jobs acc2) es mid end =
       sweep-same (left_of acc2 cursor) (symbol_jobs acc2) es mid end (λ ep e slot symbol tick low high swept.
       all_left cursor h.clock (start_at ep e slot symbol) (symbol_jobs acc2 ep e slot symbol) k.since k.within
-      (subst (λ (t : ℤ). h.clock <ℤ t) (sym swept.starts) (after_next h.clock h.clock tick (refl_most h.clock) low))) in
+      (subst (λ (t : ℤ). h.clock <ℤ t) (sym swept.starts) (after_all h.clock h.clock tick (≤ℤ_refl h.clock) low))) in
       let all : jobs es acc2 to ≡ jobs es acc h.clock ++ sweep (symbol_jobs acc2) es mid end =
-      jobs_append es acc2 h.clock to begun order ∙ ap (λ (js : List UplinkJob). js ++ sweep (symbol_jobs acc2) es mid end) (sent h.clock (refl_most h.clock)) in
-      sweep-append (left_of acc2 cursor) es first_clock mid end (later_next first_clock h.clock begun) (next_order h.clock to order)
-      ∙ ap₂ ◌++◌ (left_before h.clock (refl_most h.clock)) behind
+      jobs_append es acc2 h.clock to begun order ∙ ap (λ (js : List UplinkJob). js ++ sweep (symbol_jobs acc2) es mid end) (sent h.clock (≤ℤ_refl h.clock)) in
+      sweep-append (left_of acc2 cursor) es first_clock mid end (next_most first_clock h.clock begun) (next_order h.clock to order)
+      ∙ ap₂ ◌++◌ (left_before h.clock (≤ℤ_refl h.clock)) behind
       ∙ sym (drop-append-le (length h.given) (jobs es acc h.clock) (sweep (symbol_jobs acc2) es mid end)
       (front_length h.given (still_given c acc h.given h.clock) (jobs es acc h.clock) k.given))
       ∙ ap (drop (length h.given)) (sym all))
@@ -169,11 +145,11 @@ module _ (c : Config) (m m2 : UnitMemory) (clock : ℤ) (cursor : JobCursor) (h 
     since = k.since;
     within = k.within;
     marks = λ e cell is down live. marks e cell is live ∙ k.marks e cell is down live;
-    past = arrival_leaves_due Ru c [] a h.arrivals h.reported h.clock is_next (refl_most h.clock) ∙ k.past;
+    past = arrival_leaves_due Ru c [] a h.arrivals h.reported h.clock is_next (≤ℤ_refl h.clock) ∙ k.past;
     told = λ e cell is down heard. arrival_leaves_use c a h.arrivals cell (k.told e cell is down heard);
     differ = k.differ;
     owed = All-weaker (IsOwed Ru c (ru_known c h.arrivals)) (IsOwed Ru c (ru_known c (a ∷ h.arrivals))) (λ x o. still_owed x o) h.reported k.owed;
     left = λ to.
         left_by_definition c m2 cursor.since.0 (a ∷ h.arrivals) (cells_counted h.reported) holds k.begun small cursor refl to ∙ left_now to;
-    given = ap (λ (js : List UplinkJob). h.given ++ drop (length h.given) js) (sent h.clock (refl_most h.clock)) ∙ k.given ∙ sym (sent h.clock (refl_most h.clock));
+    given = ap (λ (js : List UplinkJob). h.given ++ drop (length h.given) js) (sent h.clock (≤ℤ_refl h.clock)) ∙ k.given ∙ sym (sent h.clock (≤ℤ_refl h.clock));
   }

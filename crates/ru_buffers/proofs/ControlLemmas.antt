@@ -2,6 +2,7 @@
 use Rattle.std.proofs.Common.{◌≡◌, ℕ, ℤ, Bool, true, false, ◌||◌, ◌==◌, not, List, [], ◌∷◌, length, map, refl, ap, ◌∙◌, Option, None, Some}
 use Rattle.std.specs.Prelude.{nat_lt, if◌then◌else◌}
 use Rattle.std.specs.List.{list_any}
+use Rattle.std.proofs.lemmas.Bool.{or_parts}
 use Rattle.history_laws.specs.air_source.specs.declared.events.Side.TheVariants.{Ru}
 use Rattle.history_laws.specs.ecpri_fragments.specs.Generations.{Fragment}
 use Rattle.fault_counters.specs.declared.kinds.Counter.{Counter}
@@ -16,10 +17,6 @@ use Rattle.history_laws.specs.unit_model.specs.Meetings.{Arrival, Meeting, Ignor
 use Rattle.history_laws.specs.unit_model.specs.Reports.{accepted_of}
 use Rattle.history_laws.specs.unit_model.specs.declared.decoded.ControlSection.{ControlSection}
 use Rattle.unit_memory.specs.Control.{has_control, is_control}
-
-first_of : (a b : Bool) → (a || b) ≡ false → (a ≡ false) × (b ≡ false)
-first_of false b h = (refl, h)
-first_of true b h = absurd cc
 
 abbrev Adds : Meeting → Type 0
 Adds m = (earlier : List Meeting) → commands (m ∷ earlier) ≡ commands earlier
@@ -57,7 +54,7 @@ onto_adds : (es : List EndpointConfig) (at : ℤ) (ms : List Message) (earlier :
 unfolding onto
 onto_adds es at [] earlier none = refl
 onto_adds es at (m ∷ ms) earlier none =
-    let parts = first_of (is_control m) (list_any is_control ms) none in
+    let parts = or_parts (is_control m) (list_any is_control ms) none in
     onto_adds es at ms (meet Ru es at m ∷ earlier) parts.1 ∙ meets_none es at m parts.0 earlier
 
 -- so no section of a command is accepted

@@ -1,27 +1,26 @@
 -- A unit that stands for a history answers as the definitions do, and stands for it and an arrival once that was treated.
-use Rattle.std.proofs.Common.{◌≡◌, ℕ, zero, suc, ℤ, pos, ◌+◌, ◌*◌, ◌<◌, ◌≤ℤ◌, ◌^◌, Bool, true, false, List, [], ◌∷◌, refl, sym, ap₂, ◌∙◌, inl, inr, arith}
-use Rattle.std.specs.Prelude.{All, Option, None, if◌then◌else◌}
+use Rattle.std.proofs.Common.{◌≡◌, ℤ, pos, ◌≤ℤ◌, ◌^◌, Bool, true, false, List, refl, sym, ◌∙◌, inl, inr, arith}
+use Rattle.std.specs.Prelude.{All}
 use Rattle.std.specs.List.{list_any}
-use Rattle.std.proofs.lemmas.Int.{ints}
 use Rattle.std.proofs.lemmas.List.Elements.{All-weaker}
 use Rattle.history_laws.specs.air_source.specs.declared.events.Side.TheVariants.{Ru}
 use Rattle.history_laws.specs.window_config.specs.Rings.{ru_reach_of}
 use Rattle.history_laws.specs.window_config.specs.declared.config.Config.{Config}
 use Rattle.history_laws.specs.window_config.specs.declared.endpoints.EndpointConfig.{EndpointConfig}
-use Rattle.history_laws.specs.unit_model.specs.Meetings.{Arrival}
 use Rattle.history_laws.specs.unit_model.specs.Proper.{IsProperData}
-use Rattle.history_laws.specs.unit_model.specs.Radiated.{is_used, used_below, used_mask}
+use Rattle.history_laws.specs.unit_model.specs.Radiated.{used_mask}
 use Rattle.history_laws.specs.unit_model.specs.Reports.{accepted_of, data_of, ru_known, timely_of}
-use Rattle.history_laws.specs.unit_model.specs.Standing.{AreInTime, History, IsCell, IsHistory, IsLiveAt, StandsBy, cell_heard, still_given}
+use Rattle.history_laws.specs.unit_model.specs.Standing.{History, IsCell, IsHistory, IsLiveAt, StandsBy, cell_heard, still_given}
 use Rattle.history_laws.specs.unit_model.specs.declared.allocations.Allocation.{Allocation}
 use Rattle.history_laws.specs.unit_model.specs.declared.cells.Cell.{Cell}
-use Rattle.history_laws.specs.unit_model.specs.declared.cells.Claim.{Claim}
 use Rattle.history_laws.specs.unit_model.specs.declared.decoded.UserSection.{UserSection}
 use Rattle.history_laws.specs.unit_model.proofs.BlockLemmas.{all_timely}
 use Rattle.history_laws.specs.unit_laws.specs.Far.{IsFar}
 use Rattle.history_laws.specs.unit_laws.proofs.AheadLemmas.{no_claims_ahead}
 use Rattle.history_laws.specs.unit_laws.proofs.HistoryLemmas.{data_are_proper}
 use Rattle.history_laws.specs.unit_laws.proofs.TickLemmas.{live_later}
+use Rattle.history_laws.proofs.TickLemmas.{at_most}
+use Rattle.history_laws.proofs.UnitLemmas.{unused, in_time_later, not_both}
 use Rattle.ru_reports.specs.unit_cells.specs.Cells.{cells_done}
 use Rattle.ru_reports.specs.unit_cells.specs.Keeping.{Keeps as RingsKeep}
 use Rattle.ru_reports.specs.unit_cells.specs.Told.{IsTold}
@@ -31,27 +30,11 @@ use Rattle.ru_jobs.specs.declared.cursor.JobCursor.{JobCursor}
 use Rattle.unit_memory.specs.declared.memory.UnitMemory.{UnitMemory}
 use Rattle.ru_buffers.specs.Units.{Keeps, Stands, view_of}
 
-at_most : (a b c : ℤ) → a ≤ℤ b → b ≤ℤ c → a ≤ℤ c
-at_most a b c h k = omega (arith, ints)
-
 -- ---- what a unit answers
-
-unused : (claims : ℕ → Option Claim) (n : ℕ) → ((re : ℕ) → claims re ≡ None) → used_below claims n ≡ 0
-unfolding used_below
-unused claims zero none = refl
-unused claims (suc n) none =
-    ap₂ (λ (low : ℕ) (c : Option Claim). 2 * low + (if is_used c then 1 else 0)) (unused claims n none) (none n)
-
-positive : (n : ℕ) → n ≡ 0 → 0 < n → ⊥
-positive n e h = omega arith
 
 not_true : (b : Bool) → (b ≡ true → ⊥) → b ≡ false
 not_true true f = absurd (f refl)
 not_true false f = refl
-
-pub come_later : (clock later : ℤ) (arrivals : List Arrival) → clock ≤ℤ later → AreInTime clock arrivals → AreInTime later arrivals
-come_later clock later [] order h = h
-come_later clock later (a ∷ earlier) order h = (at_most a.at clock later h.0 order, h.1)
 
 whole_data : (es : List EndpointConfig) (d : UserSection) → IsProperData es d → IsTold d
 whole_data es d is = omega (arith, is.blocks)
@@ -79,7 +62,7 @@ module _ (c : Config) (m : UnitMemory) (clock : ℤ) (cursor : JobCursor) (h : H
       → list_any (cell_heard e cell) h.reported ≡ false
   far_not_heard e cell is down far =
       not_true (list_any (cell_heard e cell) h.reported) (λ heard.
-      positive (used_mask ((ru_known c h.arrivals).claims cell))
+      not_both (used_mask ((ru_known c h.arrivals).claims cell))
       (unused ((ru_known c h.arrivals).claims cell) 12 (λ re. no_claims_ahead c since h.arrivals e cell re k.holds.config.delays k.holds.came is.endpoint far))
       (k.told e cell is down heard))
 
@@ -101,7 +84,7 @@ module _ (c : Config) (m : UnitMemory) (clock : ℤ) (cursor : JobCursor) (h : H
   answers = record {
     kept = record {
       clock = k.clock_is;
-      came = come_later since h.clock h.arrivals k.since k.holds.came;
+      came = in_time_later since h.clock h.arrivals k.since k.holds.came;
       counts = k.holds.counts;
       fragments = k.holds.fragments;
       hold = k.holds.hold;

@@ -1,6 +1,5 @@
 -- The uplink messages of a radio unit, as they are given and as time passes.
-use Rattle.std.proofs.Common.{◌≡◌, ℕ, ℤ, zero, suc, pos, ◌+◌, ◌+ℤ◌, ◌-ℤ◌, ◌*◌, ◌<◌, ◌≤ℤ◌, ◌<ℤ◌, true, false, List, [], ◌∷◌, ◌++◌, length, drop, refl, sym, ap, ap₂, ◌∙◌, subst, inl, inr, arith, append_assoc, length-append, Option, None}
-use Rattle.std.specs.Prelude.{if◌then◌else◌}
+use Rattle.std.proofs.Common.{◌≡◌, ℕ, ℤ, pos, ◌+◌, ◌+ℤ◌, ◌-ℤ◌, ◌≤ℤ◌, true, false, List, [], ◌∷◌, ◌++◌, length, drop, refl, sym, ap, ◌∙◌, subst, inl, inr, arith, append_assoc, length-append}
 use Rattle.std.specs.Int.{int_max}
 use Rattle.std.specs.List.{list_any}
 use Rattle.std.proofs.lemmas.Bool.{cases_Bool}
@@ -11,12 +10,11 @@ use Rattle.history_laws.specs.window_config.specs.Rings.{ru_reach_of}
 use Rattle.history_laws.specs.window_config.specs.declared.config.Config.{Config}
 use Rattle.history_laws.specs.window_config.specs.declared.endpoints.EndpointConfig.{EndpointConfig}
 use Rattle.history_laws.specs.unit_model.specs.Counts.{cells_counted}
-use Rattle.history_laws.specs.unit_model.specs.Radiated.{first_clock, is_used, used_below, used_mask}
+use Rattle.history_laws.specs.unit_model.specs.Radiated.{first_clock, used_mask}
 use Rattle.history_laws.specs.unit_model.specs.Reports.{accepted_of, ru_known, timely_of}
 use Rattle.history_laws.specs.unit_model.specs.Standing.{History, IsCell, IsLiveAt, cell_heard, still_given}
 use Rattle.history_laws.specs.unit_model.specs.Uplink.{jobs}
 use Rattle.history_laws.specs.unit_model.specs.declared.cells.Cell.{Cell}
-use Rattle.history_laws.specs.unit_model.specs.declared.cells.Claim.{Claim}
 use Rattle.history_laws.specs.unit_model.specs.declared.jobs.UplinkJob.{UplinkJob}
 use Rattle.history_laws.specs.unit_model.specs.declared.symbol_start.SymbolStart.{SymbolStart}
 use Rattle.history_laws.specs.unit_laws.specs.Far.{IsFar}
@@ -30,6 +28,8 @@ use Rattle.ru_reports.specs.unit_cells.proofs.TimeLemmas.{far_not_marked, live_a
 use Rattle.history_laws.specs.First.{FirstIsFirst, IsSweptIn, told_of}
 use Rattle.ru_jobs.specs.Cursors.{GivenOne, IsFirstJob, Settled, jobs_left}
 use Rattle.ru_reports.specs.symbol_search.specs.Symbols.{IsSymbol}
+use Rattle.history_laws.proofs.TickLemmas.{at_most, same_then, one_before}
+use Rattle.history_laws.proofs.UnitLemmas.{unused, not_both}
 use Rattle.ru_jobs.specs.declared.cursor.JobCursor.{JobCursor}
 use Rattle.ru_jobs.specs.declared.cursor.NextJob.{NextJob}
 use Rattle.unit_memory.specs.Memory.{Holds, HoldsLater}
@@ -39,25 +39,10 @@ use Rattle.ru_buffers.specs.Units.{IsReady, Keeps, left_up_to}
 use Rattle.ru_buffers.proofs.PlaceLemmas.{left_of_swept}
 use Rattle.ru_buffers.proofs.SweptLemmas.{left_first, none_before, none_given_before, nothing_left, settled_left, settled_ready, some_first}
 
-same_then : (a b c : ℤ) → a ≤ℤ b → c ≡ b → a ≤ℤ c
-same_then a b c h e = omega (arith, ints)
-
-at_most : (a b c : ℤ) → a ≤ℤ b → b ≤ℤ c → a ≤ℤ c
-at_most a b c h k = omega (arith, ints)
-
 -- ---- a cursor that is settled
 
 max_is : (since clock now : ℤ) → now ≡ int_max since clock → since ≤ℤ clock → now ≡ clock
 max_is since clock now e h = omega (arith, ints, clamps)
-
-unused : (claims : ℕ → Option Claim) (n : ℕ) → ((re : ℕ) → claims re ≡ None) → used_below claims n ≡ 0
-unfolding used_below
-unused claims zero none = refl
-unused claims (suc n) none =
-    ap₂ (λ (low : ℕ) (o : Option Claim). 2 * low + (if is_used o then 1 else 0)) (unused claims n none) (none n)
-
-none_below : (n : ℕ) → n ≡ 0 → 0 < n → ⊥
-none_below n e h = omega arith
 
 module _ (c : Config) (m : UnitMemory) (clock : ℤ) (cursor : JobCursor) (h : History) (keeps : Keeps c m clock cursor h) where
   since_clock : cursor.since.0 ≤ℤ clock
@@ -72,7 +57,7 @@ module _ (c : Config) (m : UnitMemory) (clock : ℤ) (cursor : JobCursor) (h : H
   far_not_heard e cell is down far = elim (cases_Bool (list_any (cell_heard e cell) h.reported)) [
     | inr none ↦ none
     | inl heard ↦
-        absurd (none_below (used_mask ((ru_known c h.arrivals).claims cell))
+        absurd (not_both (used_mask ((ru_known c h.arrivals).claims cell))
         (unused ((ru_known c h.arrivals).claims cell) 12 (λ re.
         no_claims_ahead c cursor.since.0 h.arrivals e cell re keeps.holds.config.delays keeps.holds.came is.endpoint far))
         (keeps.told e cell is down heard))
@@ -141,12 +126,9 @@ pub some_from_first : FirstIsFirst UplinkJob → SomeFromFirst
 some_from_first first_is c m clock cursor n h to keeps fit first order none =
     some_first m.cells cursor n first keeps.begun (quiet c m clock cursor h keeps) first_is to fit order (keeps.left to ∙ none)
 
-before_first : (to start : ℤ) → to ≤ℤ start → (to -ℤ pos 1) <ℤ start
-before_first to start h = omega (arith, ints)
-
 pub ready_up_to_first : ReadyUpToFirst
 ready_up_to_first c m clock cursor n h to keeps first early =
-    none_before m.cells cursor n first keeps.begun (quiet c m clock cursor h keeps) (to -ℤ pos 1) (before_first to n.symbol.start.0 early)
+    none_before m.cells cursor n first keeps.begun (quiet c m clock cursor h keeps) (to -ℤ pos 1) (one_before to n.symbol.start.0 early)
 
 pub ready_where_none : ReadyWhereNone
 ready_where_none c m clock cursor h to keeps none = keeps.left (to -ℤ pos 1) ∙ none_to_give c m clock cursor h (to -ℤ pos 1) keeps none

@@ -1,30 +1,20 @@
 -- What is left of the messages of symbols.
-use Rattle.std.proofs.Common.{◌≡◌, ℕ, ℤ, zero, suc, ◌≤ℤ◌, ◌<ℤ◌, Bool, true, false, List, [], ◌∷◌, drop, refl, ap, ◌∙◌, arith, Option, Some, None}
+use Rattle.std.proofs.Common.{◌≡◌, ℕ, ℤ, zero, suc, ◌≤ℤ◌, Bool, true, false, List, [], ◌∷◌, drop, refl, ap, ◌∙◌, Option, Some, None}
 use Rattle.std.specs.Prelude.{if◌then◌else◌, int_lt}
-use Rattle.std.proofs.lemmas.Int.{ints}
 use Rattle.fh_time.specs.declared.values.Slot.{Slot}
 use Rattle.history_laws.specs.window_config.specs.declared.endpoints.EndpointConfig.{EndpointConfig}
-use Rattle.history_laws.specs.unit_model.specs.Lists.{in_order}
+use Rattle.history_laws.specs.window_config.proofs.Timing.{not_under}
 use Rattle.history_laws.specs.unit_model.specs.Order.{comes_before}
 use Rattle.history_laws.specs.unit_model.specs.Starts.{start_at}
 use Rattle.history_laws.specs.unit_model.specs.Uplink.{symbol_jobs}
 use Rattle.history_laws.specs.unit_model.specs.declared.allocations.Allocation.{Allocation}
 use Rattle.history_laws.specs.unit_model.specs.declared.jobs.UplinkJob.{UplinkJob}
 use Rattle.history_laws.specs.unit_model.specs.declared.symbol_start.SymbolStart.{SymbolStart}
+use Rattle.history_laws.proofs.UnitLemmas.{no_jobs}
 use Rattle.ru_jobs.specs.Cursors.{at_start, jobs_left, left_behind, left_jobs}
 use Rattle.ru_jobs.specs.declared.cursor.JobCursor.{JobCursor}
 
 -- ---- tests of times
-
-pub below_is : (x y : ℤ) → x <ℤ y → int_lt x y ≡ true
-below_is x y h = grind (arith, ints)
-
-not_below : (x y : ℤ) → int_lt x y ≡ false → y ≤ℤ x
-not_below x y e = grind (arith, ints)
-
--- a symbol that starts earlier comes before
-pub earlier_comes : (a b : SymbolStart) → a.start.0 <ℤ b.start.0 → comes_before a b ≡ true
-earlier_comes a b h = rw (below_is a.start.0 b.start.0 h) refl
 
 abbrev with_start : SymbolStart → ℤ → SymbolStart
 with_start m start = record { ep = m.ep; endpoint = m.endpoint; start = record { 0 = start }; slot = m.slot; symbol = m.symbol }
@@ -61,10 +51,6 @@ first_of_none false xs e = e
 left_none : (cursor : JobCursor) (m : SymbolStart) → left_jobs cursor m [] ≡ []
 left_none cursor m = first_of_none (int_lt m.start.0 cursor.since.0) (left_behind cursor.given cursor.last m []) (left_behind_none cursor.given cursor.last m)
 
-no_jobs : (ep : ℕ) (e : EndpointConfig) (slot : Slot) (symbol : ℕ) → symbol_jobs [] ep e slot symbol ≡ []
-unfolding symbol_jobs in_order
-no_jobs ep e slot symbol = refl
-
 -- of a slot with no section nothing is left
 pub left_of_none : (uplink : ℕ → Slot → List Allocation) (cursor : JobCursor) (ep : ℕ) (e : EndpointConfig) (slot : Slot) (symbol : ℕ)
     → uplink ep slot ≡ [] → jobs_left uplink cursor ep e slot symbol ≡ []
@@ -79,7 +65,7 @@ left_of_none uplink cursor ep e slot symbol none =
 starts_since : (b : Bool) (start since : ℤ) (xs rest : List UplinkJob) (job : UplinkJob) → int_lt start since ≡ b
     → (if b then [] else xs) ≡ job ∷ rest → since ≤ℤ start
 starts_since true start since xs rest job test is = absurd cc
-starts_since false start since xs rest job test is = not_below start since test
+starts_since false start since xs rest job test is = not_under start since test
 
 -- a symbol of which a message is left starts since the cursor's time
 pub left_since : (uplink : ℕ → Slot → List Allocation) (cursor : JobCursor) (m : SymbolStart) (job : UplinkJob) (rest : List UplinkJob)

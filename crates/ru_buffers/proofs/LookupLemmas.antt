@@ -1,7 +1,7 @@
 -- What the rings answer of uplink messages, and that it is what the definitions say.
-use Rattle.std.proofs.Common.{◌≡◌, ℕ, ℤ, pos, ◌<◌, ◌+ℤ◌, ◌≤ℤ◌, ◌<ℤ◌, ◌^◌, true, List, [], refl, sym, ap, ◌∙◌, subst, inl, inr, ◌⊎◌, arith}
+use Rattle.std.proofs.Common.{◌≡◌, ℕ, ℤ, pos, ◌<◌, ◌+ℤ◌, ◌≤ℤ◌, ◌<ℤ◌, ◌^◌, true, List, refl, sym, ap, ◌∙◌, subst, inl, inr, ◌⊎◌}
 use Rattle.std.specs.Prelude.{int_lt}
-use Rattle.std.proofs.lemmas.Int.{ints, by_lt_z}
+use Rattle.std.proofs.lemmas.Int.{by_lt_z}
 use Rattle.fh_time.specs.Air.{air_of}
 use Rattle.fh_time.specs.Numbering.{symbols_of}
 use Rattle.fh_time.specs.declared.values.Slot.{Slot}
@@ -12,7 +12,6 @@ use Rattle.history_laws.specs.window_config.specs.Rings.{ru_reach_of}
 use Rattle.history_laws.specs.window_config.specs.declared.config.Config.{Config}
 use Rattle.history_laws.specs.window_config.specs.declared.delays.Delays.{Delays}
 use Rattle.history_laws.specs.window_config.specs.declared.endpoints.EndpointConfig.{EndpointConfig}
-use Rattle.history_laws.specs.unit_model.specs.Lists.{in_order}
 use Rattle.history_laws.specs.unit_model.specs.Meetings.{Arrival}
 use Rattle.history_laws.specs.unit_model.specs.Radiated.{first_clock}
 use Rattle.history_laws.specs.unit_model.specs.Reports.{accepted_of, timely_of}
@@ -28,6 +27,8 @@ use Rattle.history_laws.specs.unit_laws.proofs.AheadLemmas.{no_jobs_ahead}
 use Rattle.history_laws.specs.unit_laws.proofs.LookupLemmas.{jobs_of_their_slot}
 use Rattle.history_laws.specs.unit_laws.proofs.SweepLemmas.{sweep-same}
 use Rattle.history_laws.specs.unit_laws.proofs.TickLemmas.{starts_later}
+use Rattle.history_laws.proofs.TickLemmas.{at_most, is_less}
+use Rattle.history_laws.proofs.UnitLemmas.{no_jobs}
 use Rattle.ru_reports.specs.unit_cells.specs.Cells.{cells_uplink, ring_of}
 use Rattle.ru_reports.specs.unit_cells.proofs.TimeLemmas.{far_no_place, live_at, no_uplink_from}
 use Rattle.ru_jobs.specs.Cursors.{jobs_left, left_jobs}
@@ -37,25 +38,12 @@ use Rattle.unit_memory.specs.declared.memory.UnitMemory.{UnitMemory}
 use Rattle.ru_buffers.specs.Units.{left_up_to}
 use Rattle.ru_buffers.proofs.SlotLemmas.{swept_slot}
 
-not_negative : (a b : ℤ) → pos 0 ≤ℤ a → a ≤ℤ b → pos 0 ≤ℤ b
-not_negative a b h k = omega (arith, ints)
-
 -- a symbol that starts at a tick that does not come before a clock: its slot is live then, or not live yet
 pub starts_at : (d : Delays) (e : EndpointConfig) (clock tick : ℤ) (slot : Slot) (symbol : ℕ) → IsWithinLimits d → clock ≤ℤ tick → symbol < symbols_of e.numerology
     → air_of e.numerology slot symbol ≡ tick → IsLiveSlot d e clock slot ⊎ IsFar e.numerology (ru_reach_of d) clock slot
 starts_at d e clock tick slot symbol limits order small starts =
-    starts_later e.numerology (ru_reach_of d) clock slot symbol (not_negative d.ta3.min d.ta3.max limits.ta3.low limits.ta3.order) small
+    starts_later e.numerology (ru_reach_of d) clock slot symbol (at_most (pos 0) d.ta3.min d.ta3.max limits.ta3.low limits.ta3.order) small
     (subst (λ (t : ℤ). clock ≤ℤ t) (sym starts) order)
-
-no_jobs : (ep : ℕ) (e : EndpointConfig) (slot : Slot) (symbol : ℕ) → symbol_jobs [] ep e slot symbol ≡ []
-unfolding symbol_jobs in_order
-no_jobs ep e slot symbol = refl
-
-pub at_most : (a b c : ℤ) → a ≤ℤ b → b ≤ℤ c → a ≤ℤ c
-at_most a b c h k = omega (arith, ints)
-
-pub under_is : (x y : ℤ) → x <ℤ y → int_lt x y ≡ true
-under_is x y h = grind (arith, ints)
 
 -- what is left of each symbol's messages, by definition
 abbrev pub left_of : List Allocation → JobCursor → OfSymbol UplinkJob
@@ -90,7 +78,7 @@ module _ (c : Config) (m : UnitMemory) (since : ℤ) (arrivals : List Arrival) (
       by_lt_z tick since
       (λ before.
       let past : int_lt (air_of e.numerology slot symbol) cursor.since.0 ≡ true =
-      under_is _ _ (subst (λ (t : ℤ). t <ℤ cursor.since.0) (sym swept.starts) (subst (λ (t : ℤ). tick <ℤ t) (sym same) before)) in
+      is_less _ _ (subst (λ (t : ℤ). t <ℤ cursor.since.0) (sym swept.starts) (subst (λ (t : ℤ). tick <ℤ t) (sym same) before)) in
       rw past refl)
       (λ after. ap (left_jobs cursor (start_at ep e slot symbol)) (messages_by_lookup ep e slot symbol tick swept after))
 

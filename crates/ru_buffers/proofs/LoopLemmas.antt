@@ -1,13 +1,14 @@
 -- The loop that reports symbol by symbol, and the calls above it.
 use Rattle.std.proofs.Common.{◌≡◌, ℕ, suc, ℤ, pos, ◌-◌, ◌<◌, ◌≤◌, ◌≤ℤ◌, ◌<ℤ◌, ◌^◌, neg_ℤ, true, List, [], ◌∷◌, ◌++◌, length, map, refl, sym, ap, ◌∙◌, subst, arith, append-nil}
 use Rattle.std.specs.Prelude.{Option, Some, None, Result, Ok, Err}
-use Rattle.fh_base.specs.Causes.{Rose}
+use Rattle.std.proofs.Math.Nat.{le_refl, le_trans}
 use Rattle.history_laws.specs.air_source.specs.Causes.{HasAirCause}
 use Rattle.history_laws.specs.air_source.specs.declared.airs.AirFault.{AirFault}
 use Rattle.history_laws.specs.air_source.specs.declared.airs.AirFault.TheVariants.{Failed}
 use Rattle.std.proofs.lemmas.Int.{ints}
 use Rattle.std.proofs.lemmas.List.{map-append}
 use Rattle.std.proofs.lemmas.Option.{slice_get_within}
+use Rattle.fh_base.proofs.Causes.{rose_since}
 use Rattle.fh_time.specs.declared.values.Ticks.{Ticks}
 use Rattle.fh_time.proofs.Order.{slots_few, symbols_few}
 use Rattle.history_laws.specs.air_source.specs.declared.events.AirCell.{AirCell}
@@ -161,9 +162,6 @@ no_symbol m e = cc
 same_known : (v : CellsValue) → SameKnown v v
 same_known v = record { claims = λ cell re. refl; blocks = λ cell. refl; uplink = λ ep slot. refl; places = λ ep slot. refl }
 
-no_less : (n : ℕ) → n ≤ n
-no_less n = omega arith
-
 pub reporting_starts : {A : Type 0} (grew : A → List Event → A → Type 0) (same : A → A → Type 0) (faults : A → ℕ) (to : ℤ) (u : Ru) (air : A)
     → ((a : A) → grew a [] a) → ((a : A) → same a a) → IsNextSymbol u.memory.cells u.clock.0 u.symbol → IsReporting grew same faults to u u air air None
 reporting_starts grew same faults to u air empty unchanged next = record {
@@ -175,7 +173,7 @@ reporting_starts grew same faults to u air empty unchanged next = record {
   known = same_known u.memory.cells;
   endpoints = refl;
   same_air = unchanged air;
-  later = no_less (faults air);
+  later = le_refl (faults air);
 }
 
 at_clock : (to_clock clock : Ticks) (to : ℤ) (m : SymbolStart) (old new : CellsValue) → to_clock ≡ clock → IsNextReport to_clock.0 to m old new → IsNextReport clock.0 to m old new
@@ -312,11 +310,8 @@ reporting_goes grew same faults to start now new before air after last m more sa
       known = known_then start.memory.cells now.memory.cells new.memory.cells r.known known;
       endpoints = endpoints ∙ r.endpoints;
       same_air = same_more before air after r.same_air same_then;
-      later = at_most (faults before) (faults air) (faults after) r.later later;
+      later = le_trans r.later later;
     }
-  where
-    at_most : (a b d : ℕ) → a ≤ b → b ≤ d → a ≤ d
-    at_most a b d h k = omega arith
 
 pub loop_falls : {A : Type 0} (grew : A → List Event → A → Type 0) (same : A → A → Type 0) (faults : A → ℕ) (to : ℤ) (start now new : Ru) (before air : A)
     (last : Option SymbolStart) (m : SymbolStart) → length (endpoints_of start.memory.cells) ≤ 16 → neg_ℤ (pos (2 ^ 57)) ≤ℤ start.clock.0
@@ -353,12 +348,6 @@ over_at_none grew c h to old new before after o e is = subst (AfterReport grew c
 
 -- ---- causes
 
-rose_before : (first before now : ℕ) → first ≤ before → Rose before now → Rose first now
-rose_before first before now h rose = omega (arith, rose)
-
-at_most : (a b d : ℕ) → a ≤ b → b ≤ d → a ≤ d
-at_most a b d h k = omega arith
-
 same_fault : {U : Type 0} (a b : AirFault) → (let r : Result U AirFault = Err a in r ≡ Err b) → a ≡ b
 same_fault a b e = cc
 
@@ -368,12 +357,12 @@ as_err a b e = ap (λ (x : AirFault). Err x) e
 pub cause_then : {T U : Type 0} (first before now : ℕ) (fault : AirFault) → first ≤ before
     → (let one : Result T AirFault = Err fault in HasAirCause before now one) → (let two : Result U AirFault = Err fault in HasAirCause first now two)
 cause_then first before now fault order cause = record {
-  later = at_most first before now order cause.later;
-  failed = λ e. rose_before first before now order (cause.failed (as_err fault Failed (same_fault fault Failed e)));
+  later = le_trans order cause.later;
+  failed = λ e. rose_since first before now order (cause.failed (as_err fault Failed (same_fault fault Failed e)));
 }
 
 no_error : {U : Type 0} (value : U) → (let r : Result U AirFault = Ok value in r ≡ Err Failed) → ⊥
 no_error value e = cc
 
 pub cause_ok : {U : Type 0} (first before now : ℕ) (value : U) → first ≤ before → before ≤ now → (let two : Result U AirFault = Ok value in HasAirCause first now two)
-cause_ok first before now value order later = record { later = at_most first before now order later; failed = λ e. absurd (no_error value e) }
+cause_ok first before now value order later = record { later = le_trans order later; failed = λ e. absurd (no_error value e) }

@@ -1,5 +1,5 @@
 -- A unit that was made stands for the history of nothing.
-use Rattle.std.proofs.Common.{◌≡◌, ℕ, ℤ, pos, ◌+ℤ◌, ◌-ℤ◌, ◌≤ℤ◌, ◌<ℤ◌, ◌^◌, Bool, true, false, List, [], refl, sym, ap, ◌∙◌, arith}
+use Rattle.std.proofs.Common.{◌≡◌, ℕ, ℤ, pos, ◌+ℤ◌, ◌-ℤ◌, ◌≤ℤ◌, ◌^◌, Bool, true, false, List, [], refl, sym, ap, ◌∙◌, arith}
 use Rattle.std.specs.Prelude.{Option, Some, None, filter, int_lt, if◌then◌else◌}
 use Rattle.std.proofs.lemmas.Int.{ints}
 use Rattle.std.proofs.lemmas.List.Elements.{All-nil}
@@ -26,6 +26,7 @@ use Rattle.history_laws.specs.unit_laws.specs.Far.{IsFar}
 use Rattle.history_laws.specs.unit_laws.proofs.AheadLemmas.{no_jobs_ahead, no_reports_ahead}
 use Rattle.history_laws.specs.unit_laws.proofs.DueLemmas.{unheard}
 use Rattle.history_laws.specs.unit_laws.proofs.SweepLemmas.{sweep-nothing, tick-nothing}
+use Rattle.history_laws.proofs.TickLemmas.{before_it, same_most}
 use Rattle.ru_reports.specs.unit_cells.specs.Cells.{cells_done}
 use Rattle.ru_jobs.specs.Cursors.{left_behind, left_jobs}
 use Rattle.ru_jobs.specs.declared.cursor.JobCursor.{JobCursor}
@@ -38,12 +39,9 @@ use Rattle.ru_buffers.proofs.LookupLemmas.{left_by_definition, left_of}
 before : Config → EndpointConfig → Slot → ℤ
 before c e slot = (air_of e.numerology slot 0 -ℤ ticks_of_ns (ru_reach_of c.delays).before) -ℤ pos 1
 
-one_less : (a : ℤ) → (a -ℤ pos 1) <ℤ a
-one_less a = omega (arith, ints)
-
 is_far : (c : Config) (e : EndpointConfig) (slot : Slot) → IsFar e.numerology (ru_reach_of c.delays) (before c e slot) slot
 unfolding before
-is_far c e slot = one_less (air_of e.numerology slot 0 -ℤ ticks_of_ns (ru_reach_of c.delays).before)
+is_far c e slot = before_it (air_of e.numerology slot 0 -ℤ ticks_of_ns (ru_reach_of c.delays).before)
 
 no_report : (c : Config) (ep : ℕ) (e : EndpointConfig) (slot : Slot) (symbol : ℕ) → IsWithinLimits c.delays → IsAt c.endpoints ep e
     → symbol_report Ru (ru_known c []) ep e slot symbol ≡ []
@@ -89,9 +87,6 @@ nothing_of c cursor to limits e =
 
 first_time : IsTime first_clock
 first_time = record { low = omega (arith, ints); high = omega (arith, ints) }
-
-same_most : (a b : ℤ) → a ≡ b → b ≤ℤ a
-same_most a b e = omega (arith, ints)
 
 small_first : (a : ℤ) → a ≡ first_clock → a ≤ℤ pos (2 ^ 53)
 small_first a e = omega (arith, ints)

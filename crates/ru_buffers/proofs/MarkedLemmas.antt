@@ -1,13 +1,13 @@
 -- What a radio unit keeps once the first of what is left of a symbol was heard.
-use Rattle.std.proofs.Common.{◌≡◌, ℕ, ℤ, pos, zero, suc, ◌+◌, ◌*◌, ◌-◌, ◌<◌, ◌+ℤ◌, ◌≤ℤ◌, ◌<ℤ◌, Bool, true, false, ◌&&◌, ◌||◌, List, [], ◌∷◌, ◌++◌, inl, inr, refl, sym, ap, ap₂, ◌∙◌, subst, arith}
-use Rattle.std.specs.Prelude.{All, Option, ◌==◌, ◌^◌, min, if◌then◌else◌, filter}
+use Rattle.std.proofs.Common.{◌≡◌, ℕ, ℤ, pos, ◌+◌, ◌-◌, ◌<◌, ◌+ℤ◌, ◌<ℤ◌, Bool, true, false, ◌&&◌, ◌||◌, List, [], ◌∷◌, ◌++◌, inl, inr, refl, sym, ap, ap₂, ◌∙◌, subst, arith}
+use Rattle.std.specs.Prelude.{All, ◌==◌, ◌^◌, min, if◌then◌else◌, filter}
 use Rattle.std.specs.List.{list_any}
-use Rattle.std.proofs.lemmas.Bool.{and_from, and_parts, eq-eqb, eqb-true}
+use Rattle.std.proofs.lemmas.Bool.{and_from, and_parts, eq-eqb, eqb-true, both_ways}
 use Rattle.std.proofs.lemmas.Bool.Decides.{nat_tests}
-use Rattle.std.proofs.lemmas.Int.{ints}
 use Rattle.std.proofs.lemmas.List.{map-append}
 use Rattle.std.proofs.lemmas.List.Elements.{All-nil, All-append, All-cons, All-head, All-tail, All-weaker}
 use Rattle.std.proofs.lemmas.List.Folds.{list_any-append}
+use Rattle.std.specs.Cmp.{both_ways as same_truth}
 use Rattle.fh_time.specs.declared.values.Slot.{Slot}
 use Rattle.history_laws.specs.air_source.specs.declared.events.AirCell.{AirCell}
 use Rattle.history_laws.specs.air_source.specs.declared.events.Side.{Side}
@@ -24,23 +24,25 @@ use Rattle.history_laws.specs.unit_model.specs.Claims.{same_slot, same_way}
 use Rattle.history_laws.specs.unit_model.specs.Counts.{StandAt, block_counter, cells_counted}
 use Rattle.history_laws.specs.unit_model.specs.Meetings.{fragments}
 use Rattle.history_laws.specs.unit_model.specs.Proper.{IsAt}
-use Rattle.history_laws.specs.unit_model.specs.Radiated.{air_cell, first_clock, is_down, is_used, used_below, used_mask}
+use Rattle.history_laws.specs.unit_model.specs.Radiated.{air_cell, first_clock, is_down, used_mask}
 use Rattle.history_laws.specs.unit_model.specs.Reports.{accepted_of, arrivals_counted, met, ru_known, timely_of}
 use Rattle.history_laws.specs.unit_model.specs.Standing.{AreDifferent, History, IsCell, IsLiveAt, IsOwed, cell_heard, heard}
 use Rattle.history_laws.specs.unit_model.specs.Starts.{start_at}
 use Rattle.history_laws.specs.unit_model.specs.Uplink.{symbol_jobs}
 use Rattle.history_laws.specs.unit_model.specs.declared.allocations.Allocation.{Allocation}
 use Rattle.history_laws.specs.unit_model.specs.declared.cells.Cell.{Cell}
-use Rattle.history_laws.specs.unit_model.specs.declared.cells.Claim.{Claim}
 use Rattle.history_laws.specs.unit_model.specs.declared.symbol_start.SymbolStart.{SymbolStart}
 use Rattle.history_laws.specs.unit_model.specs.Sweeps.{sweep}
 use Rattle.history_laws.specs.unit_model.proofs.CountLemmas.{times-append}
 use Rattle.history_laws.specs.unit_laws.specs.Ticks.{IsLiveSlot}
 use Rattle.history_laws.specs.unit_laws.proofs.CellLemmas.{slots_equal}
-use Rattle.history_laws.specs.unit_laws.proofs.DifferLemmas.{all_kept, id_is}
+use Rattle.history_laws.specs.unit_laws.proofs.DifferLemmas.{all_kept}
 use Rattle.history_laws.specs.unit_laws.proofs.DueLemmas.{due_left, heard_differ, unheard}
 use Rattle.history_laws.specs.unit_laws.proofs.FarLemmas.{endpoints_equal}
 use Rattle.history_laws.specs.unit_laws.proofs.SweepLemmas.{each_related, sweep-same}
+use Rattle.history_laws.proofs.UnitLemmas.{used_same, same_ids, small_is}
+use Rattle.history_laws.proofs.TickLemmas.{at_most, weak}
+use Rattle.history_laws.proofs.ListLemmas.{one_of_two}
 use Rattle.ru_reports.specs.slot_rings.proofs.PlaceLemmas.{slot_own}
 use Rattle.ru_reports.specs.unit_cells.specs.Cells.{CellsValue, IsCellIn, cells_block, cells_claim, cells_done, cells_uplink, endpoints_of}
 use Rattle.ru_reports.specs.unit_cells.proofs.KeepLemmas.{at_config, at_rings, of_still}
@@ -56,20 +58,6 @@ use Rattle.ru_buffers.proofs.SymbolLemmas.{cell_is, claims_are, live_lookup, liv
 use Rattle.ru_reports.specs.unit_cells.proofs.TimeLemmas.{far_no_place}
 
 -- ---- tests
-
-same_truth : (a b : Bool) → (a ≡ true → b ≡ true) → (b ≡ true → a ≡ true) → a ≡ b
-same_truth true true h k = refl
-same_truth false false h k = refl
-same_truth true false h k = sym (h refl)
-same_truth false true h k = k refl
-
-both_ways : (b : Bool) → b ≡ true → b ≡ false → ⊥
-both_ways true h k = cc
-both_ways false h k = cc
-
-one_of_two : {P : Type 0} (a b : Bool) → (a || b) ≡ true → (a ≡ true → P) → (b ≡ true → P) → P
-one_of_two true b h k l = k refl
-one_of_two false b h k l = l h
 
 any_all : (p q : AirCell → Bool) (xs : List AirCell) → All (λ a. p a ≡ q a) xs → list_any p xs ≡ list_any q xs
 any_all p q [] h = refl
@@ -116,15 +104,6 @@ unless_none P none true a h = All-nil P
 unless_none P true false a h = All-nil P
 unless_none P false false a h = All-cons P a [] (h refl) (All-nil P)
 
-pub used_same : (f g : ℕ → Option Claim) (n : ℕ) → ((re : ℕ) → re < n → f re ≡ g re) → used_below f n ≡ used_below g n
-unfolding used_below
-used_same f g zero same = refl
-used_same f g (suc n) same =
-    ap₂ (λ (low : ℕ) (c : Option Claim). 2 * low + (if is_used c then 1 else 0)) (used_same f g n (λ re below. same re (omega arith))) (same n (omega arith))
-
-small_is : (k n : ℕ) → k < 0 + n → k < n
-small_is k n h = omega arith
-
 left_cells : (v : CellsValue) (s : SymbolStart) → All (IsLeftCell v s) (left_at v s)
 unfolding left_at
 left_cells v s =
@@ -134,12 +113,6 @@ left_cells v s =
     record { side_is = refl; at_is = refl; id = refl; slot_is = refl; symbol_is = refl; prb = small_is prb s.endpoint.prbs below; used = some_used _ used }))
 
 -- ---- endpoints by their ids
-
-same_ids : (es : List EndpointConfig) (i j : ℕ) (e f : EndpointConfig) → AppearOnce (ids_of es) → IsAt es i e → IsAt es j f → e.id ≡ f.id → i ≡ j
-same_ids es i j e f once at_i at_j same =
-    let here = id_is es i e at_i in
-    let there = id_is es j f at_j in
-    once i j here.0 there.0 (here.1 ∙ same ∙ sym there.1)
 
 module _ (es : List EndpointConfig) (s : SymbolStart) (once : AppearOnce (ids_of es)) (at : IsAt es s.ep s.endpoint) (e : EndpointConfig) (cell : Cell)
     (there : IsAt es cell.ep e) where
@@ -240,9 +213,6 @@ left_same old new cursor to endpoints uplink =
 
 -- ---- all that is kept
 
-weaken : (a b c : ℤ) → a ≤ℤ b → b <ℤ c → a ≤ℤ c
-weaken a b c h k = omega (arith, ints)
-
 module _ (c : Config) (old new : UnitMemory) (clock : ℤ) (cursor : JobCursor) (h : History) (s : SymbolStart) (told : List AirCell) (keeps : Keeps c old clock cursor h)
     (symbol : IsSymbol old.cells s) (later : clock <ℤ s.start.0) (marked : IsMarked s told old new) where
   at_here : IsAt c.endpoints s.ep s.endpoint
@@ -253,10 +223,9 @@ module _ (c : Config) (old new : UnitMemory) (clock : ℤ) (cursor : JobCursor) 
 
   live : IsLiveSlot c.delays s.endpoint cursor.since.0 s.slot
   live = elim (live_or_ahead c cursor.since.0 s.start.0 s.endpoint s.slot s.symbol keeps.holds.config.delays
-      (weaken cursor.since.0 clock s.start.0 (since_clock c old clock cursor h keeps) later) symbol.symbol_is (sym symbol.starts)) [
+      (at_most cursor.since.0 clock s.start.0 (since_clock c old clock cursor h keeps) (weak clock s.start.0 later)) symbol.symbol_is (sym symbol.starts)) [
         | inl is ↦ is
-        | inr far ↦ absurd (both_ways _ symbol.has
-            (far_no_place Ru c cursor.since.0 old.cells (accepted_of c h.arrivals) (timely_of Ru c h.arrivals) s.endpoint s.ep s.slot keeps.holds.keeps at_here far))
+        | inr far ↦ absurd (both_ways _ (far_no_place Ru c cursor.since.0 old.cells (accepted_of c h.arrivals) (timely_of Ru c h.arrivals) s.endpoint s.ep s.slot keeps.holds.keeps at_here far) symbol.has)
       ]
 
   told_cells : All (IsLeftCell old.cells s) told

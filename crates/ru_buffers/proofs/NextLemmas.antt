@@ -1,8 +1,8 @@
 -- What comes next of a unit is kept: it is what a search finds, as frames come, messages are given and time passes.
-use Rattle.std.proofs.Common.{◌≡◌, ℕ, zero, suc, ℤ, pos, ◌+◌, ◌*◌, ◌<◌, ◌≤◌, ◌-ℤ◌, ◌≤ℤ◌, ◌<ℤ◌, Bool, true, false, not, ◌&&◌, ◌||◌, ◌==◌, List, [], ◌∷◌, length, refl, sym, ap, ap₂, ◌∙◌, subst, inl, inr, arith, Option, None, Some}
-use Rattle.std.specs.Prelude.{◌^◌, if◌then◌else◌}
+use Rattle.std.proofs.Common.{◌≡◌, ℕ, zero, suc, ℤ, pos, ◌+◌, ◌<◌, ◌≤◌, ◌-ℤ◌, ◌≤ℤ◌, ◌<ℤ◌, Bool, true, not, ◌&&◌, ◌||◌, ◌==◌, List, [], ◌∷◌, length, refl, sym, ap, ap₂, ◌∙◌, subst, inl, inr, arith, Option, None, Some}
+use Rattle.std.specs.Prelude.{◌^◌}
 use Rattle.std.specs.List.{list_any}
-use Rattle.std.proofs.lemmas.Bool.{cases_Bool}
+use Rattle.std.proofs.lemmas.Bool.{cases_Bool, both_ways}
 use Rattle.std.proofs.lemmas.Int.{ints, by_lt_z}
 use Rattle.fh_time.specs.Air.{air_of}
 use Rattle.fh_time.specs.Numbering.{symbols_of}
@@ -15,7 +15,6 @@ use Rattle.history_laws.specs.unit_model.specs.Claims.{claim_at}
 use Rattle.history_laws.specs.unit_model.specs.Counts.{cells_counted}
 use Rattle.history_laws.specs.unit_model.specs.Lists.{some}
 use Rattle.history_laws.specs.unit_model.specs.Proper.{IsAt, IsSlot}
-use Rattle.history_laws.specs.unit_model.specs.Radiated.{is_used, used_below}
 use Rattle.history_laws.specs.unit_model.specs.Reports.{accepted_of, timely_of}
 use Rattle.history_laws.specs.unit_model.specs.Standing.{History, cell_heard, uplink_of}
 use Rattle.history_laws.specs.unit_model.specs.Starts.{start_at}
@@ -35,10 +34,13 @@ use Rattle.ru_reports.specs.unit_cells.proofs.TimeLemmas.{far_no_place, live_at,
 use Rattle.history_laws.proofs.FirstLemmas.{first_is_first}
 use Rattle.ru_jobs.specs.Cursors.{IsFirstJob, Settled, at_start, jobs_left, left_in, left_jobs}
 use Rattle.ru_reports.specs.symbol_search.specs.Symbols.{IsSymbol}
+use Rattle.history_laws.proofs.TickLemmas.{last_before}
+use Rattle.history_laws.proofs.UnitLemmas.{used_same}
 use Rattle.ru_jobs.specs.declared.cursor.JobCursor.{JobCursor}
 use Rattle.ru_jobs.specs.declared.cursor.NextJob.{NextJob}
 use Rattle.unit_memory.specs.declared.memory.UnitMemory.{UnitMemory}
 use Rattle.ru_reports.specs.Symbols.{cell_in, is_left}
+use Rattle.ru_reports.proofs.LeftLemmas.{nothing_without_place}
 use Rattle.ru_buffers.specs.Advancing.{StartsLater}
 use Rattle.ru_buffers.specs.Calls.{IsNextMessage, IsNextSymbol}
 use Rattle.ru_buffers.specs.Reporting.{IsLeftAfter}
@@ -47,19 +49,9 @@ use Rattle.ru_buffers.proofs.JobLemmas.{some_from_first}
 use Rattle.ru_buffers.proofs.LeftLemmas.{left_of_none, left_since}
 use Rattle.ru_buffers.proofs.LookupLemmas.{left_is, starts_at}
 use Rattle.ru_buffers.proofs.ReportLemmas.{swept_is}
-use Rattle.ru_buffers.proofs.SymbolLemmas.{cell_is, claims_are, found, live_here, no_place_ahead, none_is_left, none_left}
-
-both_ways : (b : Bool) → b ≡ true → b ≡ false → ⊥
-both_ways true h k = cc
-both_ways false h k = cc
+use Rattle.ru_buffers.proofs.SymbolLemmas.{cell_is, claims_are, found, live_here, no_place_ahead, none_is_left}
 
 -- ---- the same is left of a symbol
-
-used_same : (f g : ℕ → Option Claim) (n : ℕ) → ((re : ℕ) → re < n → f re ≡ g re) → used_below f n ≡ used_below g n
-unfolding used_below
-used_same f g zero same = refl
-used_same f g (suc n) same =
-    ap₂ (λ (low : ℕ) (c : Option Claim). 2 * low + (if is_used c then 1 else 0)) (used_same f g n (λ re below. same re (omega arith))) (same n (omega arith))
 
 some_same : (from n : ℕ) (p q : ℕ → Bool) → ((k : ℕ) → k < from + n → p k ≡ q k) → some from n p ≡ some from n q
 unfolding some
@@ -100,7 +92,7 @@ module _ (c : Config) (old new : UnitMemory) (clock : ℤ) (cursor : JobCursor) 
     is_live : IsLiveSlot c.delays x.endpoint cursor.since.0 x.slot
     is_live = elim (found c old clock cursor h was x swept left.after) [
       | inl live ↦ live
-      | inr far ↦ absurd (both_ways (cells_has old.cells x.ep x.slot) left.symbol.has (no_place_ahead c old clock cursor h was x swept left.after far))
+      | inr far ↦ absurd (both_ways (cells_has old.cells x.ep x.slot) (no_place_ahead c old clock cursor h was x swept left.after far) left.symbol.has)
     ]
 
     still_left : is_left new.cells x ≡ true
@@ -119,7 +111,7 @@ module _ (c : Config) (old new : UnitMemory) (clock : ℤ) (cursor : JobCursor) 
         after = left.after;
         left = still_left;
       }
-      | inr none ↦ absurd (both_ways (is_left new.cells x) still_left (none_is_left new.cells x (none_left new.cells x none)))
+      | inr none ↦ absurd (both_ways (is_left new.cells x) (none_is_left new.cells x (nothing_without_place new.cells x none)) still_left)
     ]
 
   -- the same is left of the messages of each symbol
@@ -171,8 +163,7 @@ module _ (c : Config) (old new : UnitMemory) (clock : ℤ) (cursor : JobCursor) 
         was.holds.config.delays (left_since (cells_uplink old.cells) cursor n.symbol n.job first.rest first.first) first.symbol.symbol_is refl) [
           | inl live ↦ live
           | inr far ↦
-              absurd (both_ways (cells_has old.cells n.symbol.ep n.symbol.slot) first.symbol.has
-              (far_no_place Ru c cursor.since.0 old.cells (accepted_of c h.arrivals) (timely_of Ru c h.arrivals) n.symbol.endpoint n.symbol.ep n.symbol.slot was.holds.keeps job_at far))
+              absurd (both_ways (cells_has old.cells n.symbol.ep n.symbol.slot) (far_no_place Ru c cursor.since.0 old.cells (accepted_of c h.arrivals) (timely_of Ru c h.arrivals) n.symbol.endpoint n.symbol.ep n.symbol.slot was.holds.keeps job_at far) first.symbol.has)
         ]
 
     same_uplink : cells_uplink new.cells n.symbol.ep n.symbol.slot ≡ cells_uplink old.cells n.symbol.ep n.symbol.slot
@@ -222,9 +213,6 @@ symbol_kept c old new clock cursor h after was is accepted reported (Some s) fir
 
 -- ---- a cursor that is settled
 
-past_of : (start clock : ℤ) → start <ℤ clock → start ≤ℤ (clock -ℤ pos 1)
-past_of start clock h = omega (arith, ints)
-
 same_first : (v : CellsValue) (clock : ℤ) (cursor next : JobCursor) (n : NextJob) → Settled clock cursor next → IsFirstJob v cursor n
     → clock ≤ℤ (at_start n.symbol).start.0 → IsFirstJob v next n
 same_first v clock cursor next n settled first order = record {
@@ -248,7 +236,7 @@ message_settled c m clock cursor next h keeps ready settled None none =
 message_settled c m clock cursor next h keeps ready settled (Some n) first =
     by_lt_z n.symbol.start.0 clock
     (λ past.
-    absurd (some_from_first first_is_first c m clock cursor n h (clock -ℤ pos 1) keeps (offsets_short n.symbol.endpoint.numerology) first (past_of n.symbol.start.0 clock past)
+    absurd (some_from_first first_is_first c m clock cursor n h (clock -ℤ pos 1) keeps (offsets_short n.symbol.endpoint.numerology) first (last_before n.symbol.start.0 clock past)
     (sym (keeps.left (clock -ℤ pos 1)) ∙ ready)))
     (λ later. same_first m.cells clock cursor next n settled first (subst (λ (t : ℤ). clock ≤ℤ t) first.symbol.starts later))
 

@@ -3,7 +3,7 @@ use Rattle.std.proofs.Common.{◌≡◌, ℕ, zero, suc, ℤ, ◌+◌, ◌<◌, 
 use Rattle.std.specs.Prelude.{int_lt, nat_lt, if◌then◌else◌}
 use Rattle.std.specs.List.{list_any}
 use Rattle.std.specs.Ordering.{int_eq}
-use Rattle.std.proofs.lemmas.Bool.{cases_Bool, eq-eqb, eqb-true}
+use Rattle.std.proofs.lemmas.Bool.{cases_Bool, eq-eqb, eqb-true, both_ways}
 use Rattle.std.proofs.lemmas.Bool.Decides.{nat_tests}
 use Rattle.std.proofs.lemmas.Int.{ints}
 use Rattle.std.proofs.lemmas.List.Folds.{list_any-append}
@@ -21,18 +21,18 @@ use Rattle.history_laws.specs.unit_model.specs.declared.cells.Cell.{Cell}
 use Rattle.history_laws.specs.unit_model.specs.declared.symbol_start.SymbolStart.{SymbolStart}
 use Rattle.history_laws.specs.unit_laws.proofs.CellLemmas.{slots_equal}
 use Rattle.history_laws.specs.unit_laws.proofs.FarLemmas.{endpoints_equal}
+use Rattle.history_laws.proofs.UnitLemmas.{used_same, small_is}
+use Rattle.history_laws.proofs.BeforeLemmas.{slot_cases}
 use Rattle.ru_reports.specs.slot_rings.specs.Places.{is_due}
 use Rattle.ru_reports.specs.slot_rings.proofs.PlaceLemmas.{slot_own}
 use Rattle.ru_reports.specs.unit_cells.specs.Cells.{CellsValue, IsCellIn, cells_block, cells_claim, cells_done, endpoints_of}
 use Rattle.ru_reports.specs.Symbols.{MarksTold, cell_in, is_left, is_told, left_at, left_told}
 use Rattle.ru_reports.specs.symbol_search.specs.Symbols.{IsSymbol}
+use Rattle.ru_reports.proofs.AfterLemmas.{left_after}
+use Rattle.ru_reports.proofs.MarkLemmas.{symbol_cell}
 use Rattle.ru_buffers.specs.Reporting.{IsFirstLeft, IsLeftAfter}
-use Rattle.ru_buffers.proofs.MarkedLemmas.{used_same}
 
 -- ---- three cases
-
-slot_cases : (a b : Slot) → slot_before a b ≡ false → slot_before b a ≡ false → same_slot a b ≡ true
-slot_cases a b h k = grind (arith, ints)
 
 symbol_cases : (a b : Slot) (x y : ℕ) → symbol_before a x b y ≡ false → symbol_before b y a x ≡ false → (same_slot a b ≡ true) × (x ≡ y)
 symbol_cases a b x y h k =
@@ -94,16 +94,6 @@ some_weaker from (suc n) p q f h =
     either false true false y f g h = g refl
     either false false x y f g h = cc
 
-some_never : (from n : ℕ) (p : ℕ → Bool) → ((k : ℕ) → from ≤ k → k < from + n → p k ≡ false) → some from n p ≡ false
-unfolding some
-some_never from zero p f = refl
-some_never from (suc n) p f =
-    neither (p from) (some (from + 1) n p) (f from (omega arith) (omega arith)) (some_never (from + 1) n p (λ k above below. f k (omega arith) (omega arith)))
-  where
-    neither : (a b : Bool) → a ≡ false → b ≡ false → (a || b) ≡ false
-    neither false b h k = k
-    neither true b h k = absurd cc
-
 any_in_each : (p : AirCell → Bool) (from n : ℕ) (f : ℕ → List AirCell) (k : ℕ) → from ≤ k → k < from + n → list_any p (f k) ≡ true → list_any p (each from n f) ≡ true
 unfolding each
 any_in_each p from zero f k above below h = absurd (omega arith)
@@ -138,12 +128,6 @@ due_over true old told new e h = refl
 due_over false true told new e h = rw e refl
 due_over false false told new e h = rw e (rw (h refl refl) refl)
 
-small_is : (k n : ℕ) → k < 0 + n → k < n
-small_is k n h = omega arith
-
-in_symbol : (v : CellsValue) (m : SymbolStart) (prb : ℕ) → IsSymbol v m → prb < m.endpoint.prbs → IsCellIn v (cell_in m prb)
-in_symbol v m prb is below = record { endpoint = m.endpoint; at = is.at; slot_is = is.slot_is; symbol = is.symbol_is; prb = below }
-
 used_is : (old new : CellsValue) (cell : Cell) → ((re : ℕ) → cells_claim new cell re ≡ cells_claim old cell re) → used_mask (cells_claim new cell) ≡ used_mask (cells_claim old cell)
 used_is old new cell same = used_same (cells_claim new cell) (cells_claim old cell) 12 (λ re below. same re)
 
@@ -163,7 +147,7 @@ module _ (m : SymbolStart) (told : List AirCell) (old new : CellsValue) (marks :
             (λ prb. is_due (cells_claim old (cell_in x prb)) (cells_done old (cell_in x prb)))
             (λ prb above below due.
             due_mono (used_mask (cells_claim old (cell_in x prb)) == 0) (cells_done old (cell_in x prb)) (is_told m told (cell_in x prb)) (cells_done new (cell_in x prb))
-            (marks.marks (cell_in x prb) (in_symbol old x prb was (small_is prb x.endpoint.prbs below)) refl)
+            (marks.marks (cell_in x prb) (symbol_cell old x prb was (small_is prb x.endpoint.prbs below)) refl)
             (ap (λ (u : ℕ). not (u == 0) && not (cells_done new (cell_in x prb))) (sym (used_is old new (cell_in x prb) (marks.known.claims (cell_in x prb)))) ∙ due)) h,
       )
 
@@ -185,15 +169,6 @@ told_at v m prb below used undone =
     (one_told (used_mask (cells_claim v (cell_in m prb)) == 0) (cells_done v (cell_in m prb))
     (air_cell Ru m.endpoint (cell_in m prb) m.start.0 (cells_claim v (cell_in m prb)) (cells_block v (cell_in m prb))) prb used undone refl)
 
-pub over : (m : SymbolStart) (old new : CellsValue) → IsSymbol old m → MarksTold m (left_at old m) old new → is_left new m ≡ false
-over m old new is marks =
-    some_never 0 m.endpoint.prbs (λ prb. is_due (cells_claim new (cell_in m prb)) (cells_done new (cell_in m prb))) (λ prb above below.
-    let cell = cell_in m prb in
-    ap (λ (u : ℕ). not (u == 0) && not (cells_done new cell)) (used_is old new cell (marks.known.claims cell))
-    ∙ due_over (used_mask (cells_claim old cell) == 0) (cells_done old cell) (is_told m (left_at old m) cell) (cells_done new cell)
-    (marks.marks cell (in_symbol old m prb is (small_is prb m.endpoint.prbs below)) refl)
-    (λ used undone. own_told m (left_at old m) prb (told_at old m prb (small_is prb m.endpoint.prbs below) used undone)))
-
 -- the same symbol, by its place
 abbrev due_at : CellsValue → SymbolStart → ℕ → Slot → ℕ → Bool
 due_at v m ep slot symbol = some 0 m.endpoint.prbs (λ prb. is_due (cells_claim v (cell_at ep true slot symbol prb)) (cells_done v (cell_at ep true slot symbol prb)))
@@ -204,10 +179,6 @@ as_same v m x is_m is_x same =
     ap (λ (e : EndpointConfig). some 0 e.prbs (λ prb. is_due (cells_claim v (cell_in x prb)) (cells_done v (cell_in x prb)))) endpoint
     ∙ ap (λ (i : ℕ). due_at v m i x.slot x.symbol) same.ep ∙ ap (λ (s : Slot). due_at v m m.ep s x.symbol) same.slot_is
     ∙ ap (λ (y : ℕ). due_at v m m.ep m.slot y) same.symbol
-
-both_ways : (b : Bool) → b ≡ true → b ≡ false → ⊥
-both_ways true h k = cc
-both_ways false h k = cc
 
 -- what is left after the first symbol was reported is of symbols that come after it
 pub rest_after : (clock : ℤ) (m : SymbolStart) (old new : CellsValue) → IsFirstLeft old clock m → MarksTold m (left_at old m) old new
@@ -225,5 +196,5 @@ rest_after clock m old new first marks x left =
             has = marks.known.places m.ep m.slot ∙ first.symbol.has;
           } in
           let same = same_place x m (first.first x (record { symbol = was.0; after = left.after; left = was.1 })) not_after in
-          absurd (both_ways (is_left new x) left.left (as_same new m x now left.symbol same ∙ over m old new first.symbol marks))
+          absurd (both_ways (is_left new x) (as_same new m x now left.symbol same ∙ left_after m old new first.symbol marks) left.left)
     ]

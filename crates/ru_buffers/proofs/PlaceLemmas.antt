@@ -1,16 +1,13 @@
 -- The symbols that are gone over, and the slots of those of which a message may be left.
-use Rattle.std.proofs.Common.{◌≡◌, ℕ, ℤ, pos, neg_ℤ, ◌+◌, ◌*◌, ◌+ℤ◌, ◌-ℤ◌, ◌*ℤ◌, ◌≤ℤ◌, ◌<ℤ◌, true, List, [], sym, inl, inr, arith}
-use Rattle.std.specs.Int.{int_max}
+use Rattle.std.proofs.Common.{◌≡◌, ℕ, ℤ, pos, neg_ℤ, ◌+◌, ◌*◌, ◌+ℤ◌, ◌-ℤ◌, ◌*ℤ◌, ◌≤ℤ◌, true, List, [], sym, inl, inr, arith}
 use Rattle.std.proofs.lemmas.Bool.{cases_Bool}
-use Rattle.std.proofs.lemmas.Int.{ints, clamps}
+use Rattle.std.proofs.lemmas.Int.{ints}
 use Rattle.fh_time.specs.Kinds.{kind_start}
 use Rattle.fh_time.proofs.Euclid.{frame_floor}
 use Rattle.fault_counters.specs.declared.kinds.Counter.{Counter}
 use Rattle.history_laws.specs.air_source.specs.declared.events.Side.TheVariants.{Ru}
-use Rattle.history_laws.specs.window_config.specs.Limits.{IsWithinLimits}
 use Rattle.history_laws.specs.window_config.specs.Rings.{ru_reach_of}
 use Rattle.history_laws.specs.window_config.specs.declared.config.Config.{Config}
-use Rattle.history_laws.specs.window_config.specs.declared.delays.Delays.{Delays}
 use Rattle.history_laws.specs.unit_model.specs.Meetings.{Arrival}
 use Rattle.history_laws.specs.unit_model.specs.Proper.{IsTime}
 use Rattle.history_laws.specs.unit_model.specs.Radiated.{first_clock}
@@ -26,26 +23,16 @@ use Rattle.ru_jobs.specs.declared.cursor.JobCursor.{JobCursor}
 use Rattle.unit_memory.specs.Memory.{Holds}
 use Rattle.unit_memory.specs.declared.memory.UnitMemory.{UnitMemory}
 use Rattle.ru_buffers.proofs.LeftLemmas.{left_of_none}
+use Rattle.ru_buffers.proofs.SlotLemmas.{reach_small, frame_least}
 
 -- ---- frames whose symbols' times can be told
-
-most_before : (up advance command : ℤ) → up ≤ℤ pos 2000000 → advance ≤ℤ pos 2000000 → command ≤ℤ pos 2000000
-    → int_max (int_max up (up +ℤ advance)) command ≤ℤ pos 4000000
-most_before up advance command a b c = omega (arith, ints, clamps)
-
-pub reach_small : (d : Delays) → IsWithinLimits d → (ru_reach_of d).before ≤ℤ pos 4000000
-reach_small d limits = most_before d.t2a_up.max d.advance d.t2a_cp_ul.max limits.t2a_up.high limits.advance.high limits.t2a_cp_ul.high
 
 frame_high : (frame before when since clock : ℤ) (offset : ℕ) → ((frame *ℤ pos 15360000000 +ℤ pos offset) -ℤ before *ℤ pos 1536) ≤ℤ when → when ≤ℤ since
     → since ≤ℤ clock → clock ≤ℤ pos 9007199254740992 → before ≤ℤ pos 4000000 → frame ≤ℤ pos 1000000
 frame_high frame before when since clock offset a b c d e = omega (arith, ints)
 
-floor_low : (tick q frame : ℤ) → (pos 0 -ℤ pos 15360000000) ≤ℤ tick → tick <ℤ (q *ℤ pos 15360000000 +ℤ pos 15360000000) → (q -ℤ pos 5) ≤ℤ frame
-    → neg_ℤ (pos 1000000) ≤ℤ frame
-floor_low tick q frame a b c = omega (arith, ints)
-
 frame_low : (tick frame : ℤ) → first_clock ≤ℤ tick → first_swept tick ≤ℤ frame → neg_ℤ (pos 1000000) ≤ℤ frame
-frame_low tick frame a b = floor_low tick (frame_of_tick tick) frame a (frame_floor tick).1 b
+frame_low tick frame a b = frame_least frame (frame_of_tick tick) tick a (frame_floor tick).1 b
 
 -- ---- the symbols that are gone over
 

@@ -3,9 +3,10 @@ use Rattle.std.proofs.Common.{◌≡◌, ℕ, ℤ, pos, ◌+◌, ◌+ℤ◌, ◌
 use Rattle.std.specs.Prelude.{int_lt, nat_lt}
 use Rattle.std.specs.Int.{int_gap}
 use Rattle.std.specs.Ordering.{int_eq}
-use Rattle.std.proofs.lemmas.Bool.Decides.{nat_tests}
 use Rattle.std.proofs.lemmas.Int.{ints}
+use Rattle.std.proofs.lemmas.Bool.{ltb-true, eqb-true}
 use Rattle.fh_time.specs.declared.values.Slot.{Slot}
+use Rattle.history_laws.specs.window_config.proofs.Timing.{under}
 use Rattle.history_laws.specs.unit_model.specs.Claims.{same_slot}
 use Rattle.history_laws.specs.unit_model.specs.Order.{comes_before, slot_before, symbol_before}
 use Rattle.history_laws.specs.unit_model.specs.declared.symbol_start.SymbolStart.{SymbolStart}
@@ -75,17 +76,8 @@ or_cases true q r h = inl refl
 or_cases false true r h = inr (refl, h)
 or_cases false false r h = cc
 
-less_z : (x y : ℤ) → int_lt x y ≡ true → x <ℤ y
-less_z x y h = grind (arith, ints)
-
 same_z : (x y : ℤ) → int_eq x y ≡ true → x ≡ y
 same_z x y h = grind (arith, ints)
-
-less_n : (x y : ℕ) → nat_lt x y ≡ true → x < y
-less_n x y h = grind (arith, nat_tests)
-
-same_n : (x y : ℕ) → (x == y) ≡ true → x ≡ y
-same_n x y h = grind (arith, nat_tests)
 
 abbrev since_of : SymbolStart → ℕ
 since_of m = int_gap (neg_ℤ (pos (2 ^ 57))) m.start.0
@@ -137,32 +129,32 @@ module _ (a b : SymbolStart) (ra : IsRanked a) (rb : IsRanked b) where
   in_frame : since_of a ≡ since_of b → a.ep ≡ b.ep → frame_of a ≡ frame_of b
       → (nat_lt a.slot.subframe b.slot.subframe || ((a.slot.subframe == b.slot.subframe) && nat_lt a.slot.slot b.slot.slot)) ≡ true → number_of a < number_of b
   in_frame s e f h = elim (or_cases (nat_lt a.slot.subframe b.slot.subframe) (a.slot.subframe == b.slot.subframe) (nat_lt a.slot.slot b.slot.slot) h) [
-    | inl less ↦ from_subframe s e f (less_n a.slot.subframe b.slot.subframe less)
-    | inr k ↦ from_slot s e f (same_n a.slot.subframe b.slot.subframe k.0) (less_n a.slot.slot b.slot.slot k.1)
+    | inl less ↦ from_subframe s e f (ltb-true a.slot.subframe b.slot.subframe less)
+    | inr k ↦ from_slot s e f (eqb-true a.slot.subframe b.slot.subframe k.0) (ltb-true a.slot.slot b.slot.slot k.1)
   ]
 
   in_slots : since_of a ≡ since_of b → a.ep ≡ b.ep → slot_before a.slot b.slot ≡ true → number_of a < number_of b
   in_slots s e h = elim (or_cases (int_lt a.slot.frame b.slot.frame) (int_eq a.slot.frame b.slot.frame) _ h) [
-    | inl less ↦ from_frame s e (less_z a.slot.frame b.slot.frame less)
+    | inl less ↦ from_frame s e (under a.slot.frame b.slot.frame less)
     | inr k ↦ in_frame s e (gap_same (neg_ℤ (pos (2 ^ 21))) a.slot.frame b.slot.frame (same_z a.slot.frame b.slot.frame k.0)) k.1
   ]
 
   in_endpoint : since_of a ≡ since_of b → a.ep ≡ b.ep → symbol_before a.slot a.symbol b.slot b.symbol ≡ true → number_of a < number_of b
   in_endpoint s e h = elim (or_cases (slot_before a.slot b.slot) (same_slot a.slot b.slot) (nat_lt a.symbol b.symbol) h) [
     | inl less ↦ in_slots s e less
-    | inr k ↦ from_symbol s e (slots_equal a.slot b.slot k.0) (less_n a.symbol b.symbol k.1)
+    | inr k ↦ from_symbol s e (slots_equal a.slot b.slot k.0) (ltb-true a.symbol b.symbol k.1)
   ]
 
   in_tick : since_of a ≡ since_of b → (nat_lt a.ep b.ep || ((a.ep == b.ep) && symbol_before a.slot a.symbol b.slot b.symbol)) ≡ true → number_of a < number_of b
   in_tick s h = elim (or_cases (nat_lt a.ep b.ep) (a.ep == b.ep) (symbol_before a.slot a.symbol b.slot b.symbol) h) [
-    | inl less ↦ from_ep s (less_n a.ep b.ep less)
-    | inr k ↦ in_endpoint s (same_n a.ep b.ep k.0) k.1
+    | inl less ↦ from_ep s (ltb-true a.ep b.ep less)
+    | inr k ↦ in_endpoint s (eqb-true a.ep b.ep k.0) k.1
   ]
 
   pub rank_rises : comes_before a b ≡ true → rank_of a < rank_of b
   unfolding rank_of
   rank_rises h = elim (or_cases (int_lt a.start.0 b.start.0) (int_eq a.start.0 b.start.0) _ h) [
-    | inl less ↦ from_start (less_z a.start.0 b.start.0 less)
+    | inl less ↦ from_start (under a.start.0 b.start.0 less)
     | inr k ↦ in_tick (gap_same (neg_ℤ (pos (2 ^ 57))) a.start.0 b.start.0 (same_z a.start.0 b.start.0 k.0)) k.1
   ]
 

@@ -1,7 +1,9 @@
 -- What is due at a radio unit, by what its memory holds.
-use Rattle.std.proofs.Common.{◌≡◌, ℤ, pos, ◌+ℤ◌, ◌≤ℤ◌, ◌<ℤ◌, Bool, true, false, ◌||◌, List, [], ◌∷◌, ◌++◌, refl, sym, ap, ◌∙◌, subst, arith, append_assoc}
+use Rattle.std.proofs.Common.{◌≡◌, ℤ, pos, ◌+ℤ◌, ◌≤ℤ◌, ◌<ℤ◌, true, false, List, [], ◌++◌, refl, sym, ap, ◌∙◌, subst, arith, append_assoc}
 use Rattle.std.specs.Prelude.{int_lt}
 use Rattle.std.proofs.lemmas.Int.{ints, by_lt_z}
+use Rattle.std.specs.Int.Signed.{<ℤ-≤ℤ_trans, ≤ℤ_refl}
+use Rattle.std.proofs.lemmas.Bool.{both_ways, or_parts}
 use Rattle.history_laws.specs.air_source.specs.declared.events.AirCell.{AirCell}
 use Rattle.history_laws.specs.air_source.specs.declared.events.Side.TheVariants.{Ru}
 use Rattle.history_laws.specs.window_config.specs.declared.config.Config.{Config}
@@ -18,6 +20,8 @@ use Rattle.history_laws.specs.unit_laws.proofs.FrameLemmas.{symbols_are_swept}
 use Rattle.history_laws.specs.unit_laws.proofs.TickLemmas.{due_after_now}
 use Rattle.ru_reports.specs.unit_cells.proofs.KeepLemmas.{at_config}
 use Rattle.history_laws.specs.First.{FirstIsFirst, IsSweptIn, NothingIsNothing, told_of}
+use Rattle.history_laws.proofs.TickLemmas.{next_after, after_next, within_next, weak}
+use Rattle.history_laws.proofs.ListLemmas.{front_empty}
 use Rattle.ru_jobs.specs.declared.cursor.JobCursor.{JobCursor}
 use Rattle.unit_memory.specs.declared.memory.UnitMemory.{UnitMemory}
 use Rattle.ru_reports.specs.Symbols.{is_left, left_at}
@@ -28,47 +32,17 @@ use Rattle.ru_buffers.proofs.SymbolLemmas.{clock_first, looked_up, none_is_left,
 
 -- ---- times
 
-above : (clock t : ℤ) → clock <ℤ t → (clock +ℤ pos 1) ≤ℤ t
-above clock t h = omega (arith, ints)
-
-from_above : (clock t : ℤ) → (clock +ℤ pos 1) ≤ℤ t → clock <ℤ t
-from_above clock t h = omega (arith, ints)
-
-below : (t to : ℤ) → t ≤ℤ to → t <ℤ (to +ℤ pos 1)
-below t to h = omega (arith, ints)
-
 beyond : (t to : ℤ) → t <ℤ (to +ℤ pos 1) → to <ℤ t → ⊥
 beyond t to h k = omega (arith, ints)
 
 no_earlier : (clock t to : ℤ) → clock <ℤ t → t ≤ℤ to → clock ≤ℤ to
 no_earlier clock t to h k = omega (arith, ints)
 
-weak : (a b : ℤ) → a <ℤ b → a ≤ℤ b
-weak a b h = omega (arith, ints)
-
-sooner : (a b c : ℤ) → a <ℤ b → b ≤ℤ c → a <ℤ c
-sooner a b c h k = omega (arith, ints)
-
-here : (t : ℤ) → t ≤ℤ t
-here t = omega (arith, ints)
-
 -- ---- lists and tests
-
-both_ways : (b : Bool) → b ≡ true → b ≡ false → ⊥
-both_ways true h k = cc
-both_ways false h k = cc
-
-first_false : (a b : Bool) → (a || b) ≡ false → a ≡ false
-first_false false b h = refl
-first_false true b h = h
-
-first_nothing : {A : Type 0} (xs ys : List A) → xs ++ ys ≡ [] → xs ≡ []
-first_nothing [] ys h = refl
-first_nothing (x ∷ xs) ys h = absurd cc
 
 -- what does not come before a symbol starts no earlier
 pub starts_no_earlier : (x s : SymbolStart) → comes_before x s ≡ false → s.start.0 ≤ℤ x.start.0
-starts_no_earlier x s h = not_under x.start.0 s.start.0 (first_false (int_lt x.start.0 s.start.0) _ h)
+starts_no_earlier x s h = not_under x.start.0 s.start.0 ((or_parts (int_lt x.start.0 s.start.0) _ h).0)
 
 module _ (c : Config) (m : UnitMemory) (clock : ℤ) (cursor : JobCursor) (h : History) (keeps : Keeps c m clock cursor h) where
   abbrev still : OfSymbol AirCell
@@ -90,7 +64,7 @@ module _ (c : Config) (m : UnitMemory) (clock : ℤ) (cursor : JobCursor) (h : H
   -- nothing is told of a symbol, unless something is left of it
   quiet_at : (to : ℤ) (x : SymbolStart) → IsSweptIn c.endpoints (clock +ℤ pos 1) (to +ℤ pos 1) x → (IsLeftAfter m.cells clock x → ⊥) → told_of still x ≡ []
   quiet_at to x is never =
-      let later : clock <ℤ x.start.0 = from_above clock x.start.0 is.low in
+      let later : clock <ℤ x.start.0 = after_next clock x.start.0 is.low in
       quiet c m clock cursor h keeps x is.swept later (λ symbol left. never (record { symbol = symbol; after = later; left = left }))
 
   pub begins : (s : SymbolStart) (to : ℤ) → FirstIsFirst AirCell → OffsetsFit s.endpoint.numerology → IsFirstLeft m.cells clock s → s.start.0 ≤ℤ to
@@ -100,9 +74,9 @@ module _ (c : Config) (m : UnitMemory) (clock : ℤ) (cursor : JobCursor) (h : H
       let from = clock +ℤ pos 1 in
       let end = to +ℤ pos 1 in
       let is : IsSweptIn c.endpoints from end s =
-      record { swept = swept; low = above clock s.start.0 first.after; high = below s.start.0 to order } in
+      record { swept = swept; low = next_after clock s.start.0 first.after; high = within_next s.start.0 to order } in
       let silent : (x : SymbolStart) → IsSweptIn c.endpoints from end x → comes_before x s ≡ true → told_of still x ≡ [] =
-      λ x in_x earlier. quiet_at to x in_x (λ left. both_ways (comes_before x s) earlier (first.first x left)) in
+      λ x in_x earlier. quiet_at to x in_x (λ left. both_ways (comes_before x s) (first.first x left) earlier) in
       let all = law still still c.endpoints from end s is silent silent (λ x in_x later. refl) in
       record {
         rest = all.rest;
@@ -115,7 +89,7 @@ module _ (c : Config) (m : UnitMemory) (clock : ℤ) (cursor : JobCursor) (h : H
   past_is : (to : ℤ) → to ≤ℤ clock → due_of c h to ≡ []
   past_is to order =
       let begins = due_begins Ru c.delays c.endpoints (ru_known c h.arrivals) h.reported to clock order in
-      first_nothing (due_of c h to) begins.0 (sym begins.1 ∙ subst (λ (t : ℤ). due_of c h t ≡ []) (sym keeps.clock_is) keeps.past)
+      front_empty (due_of c h to) begins.0 (sym begins.1 ∙ subst (λ (t : ℤ). due_of c h t ≡ []) (sym keeps.clock_is) keeps.past)
 
   pub nothing : (to : ℤ) → NothingIsNothing AirCell → ((x : SymbolStart) → IsLeftAfter m.cells clock x → to <ℤ x.start.0) → due_of c h to ≡ []
   nothing to law none =
@@ -131,12 +105,12 @@ nothing_is_due c m clock cursor h to law keeps none = nothing c m clock cursor h
 
 pub nothing_before_first : NothingBeforeFirst
 nothing_before_first c m clock cursor h s to law keeps first early =
-    nothing c m clock cursor h keeps to law (λ x left. sooner to s.start.0 x.start.0 early (starts_no_earlier x s (first.first x left)))
+    nothing c m clock cursor h keeps to law (λ x left. <ℤ-≤ℤ_trans early (starts_no_earlier x s (first.first x left)))
 
 pub something_at_first : SomethingAtFirst
 something_at_first c m clock cursor h s law keeps fits first left none =
-    let due = begins c m clock cursor h keeps s s.start.0 law fits first (here s.start.0) in
-    both_ways (is_left m.cells s) left (none_is_left m.cells s (first_nothing (left_at m.cells s) due.rest (sym due.is ∙ none)))
+    let due = begins c m clock cursor h keeps s s.start.0 law fits first (≤ℤ_refl s.start.0) in
+    both_ways (is_left m.cells s) (none_is_left m.cells s (front_empty (left_at m.cells s) due.rest (sym due.is ∙ none))) left
 
 -- ---- piece by piece
 

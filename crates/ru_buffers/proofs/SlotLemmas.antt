@@ -14,15 +14,15 @@ use Rattle.history_laws.specs.unit_laws.specs.Swept.{IsSwept}
 use Rattle.history_laws.specs.unit_laws.specs.Ticks.{IsLiveSlot}
 use Rattle.fh_time.proofs.Euclid.{frame_floor}
 
-before_most : (d : Delays) → IsWithinLimits d → (ru_reach_of d).before ≤ℤ pos 4000000
-before_most d limits =
+pub reach_small : (d : Delays) → IsWithinLimits d → (ru_reach_of d).before ≤ℤ pos 4000000
+reach_small d limits =
     omega (arith, ints, clamps, limits.t2a_up.high, limits.t2a_up.low, limits.t2a_up.order, limits.t2a_cp_ul.high, limits.t2a_cp_ul.order, limits.t2a_cp_ul.low, limits.advance.low, limits.advance.high)
 
-frame_most : (frame clock before : ℤ) (offset : ℕ) → (frame *ℤ pos 15360000000 +ℤ pos offset -ℤ (before *ℤ pos 1536)) ≤ℤ clock → before ≤ℤ pos 4000000
+pub frame_most : (frame clock before : ℤ) (offset : ℕ) → (frame *ℤ pos 15360000000 +ℤ pos offset -ℤ (before *ℤ pos 1536)) ≤ℤ clock → before ≤ℤ pos 4000000
     → clock ≤ℤ pos (2 ^ 53) → frame ≤ℤ pos 1000000
 frame_most frame clock before offset a b c = omega (arith, ints)
 
-frame_least : (frame q tick : ℤ) → (neg_ℤ (pos 15360000000)) ≤ℤ tick → tick <ℤ (q *ℤ pos 15360000000 +ℤ pos 15360000000) → (q -ℤ pos 5) ≤ℤ frame
+pub frame_least : (frame q tick : ℤ) → (neg_ℤ (pos 15360000000)) ≤ℤ tick → tick <ℤ (q *ℤ pos 15360000000 +ℤ pos 15360000000) → (q -ℤ pos 5) ≤ℤ frame
     → neg_ℤ (pos 1000000) ≤ℤ frame
 frame_least frame q tick a b c = omega (arith, ints)
 
@@ -32,7 +32,7 @@ pub swept_slot : (d : Delays) (es : List EndpointConfig) (ep : ℕ) (e : Endpoin
     → IsSlot e.numerology slot
 swept_slot d es ep e slot symbol tick clock limits swept begun small live = record {
   low = frame_least slot.frame (frame_of_tick tick) tick begun (frame_floor tick).1 swept.frame_low;
-  high = frame_most slot.frame clock (ru_reach_of d).before (slot.subframe * 1536000000 + kind_start e.numerology.kind slot.slot 0) live.begun (before_most d limits) small;
+  high = frame_most slot.frame clock (ru_reach_of d).before (slot.subframe * 1536000000 + kind_start e.numerology.kind slot.slot 0) live.begun (reach_small d limits) small;
   subframe = swept.slot_is.subframe;
   slot_is = swept.slot_is.slot;
 }

@@ -1,6 +1,7 @@
 -- What is left of all symbols, as their messages are given and as time passes.
 use Rattle.std.proofs.Common.{◌≡◌, ◌≢◌, ℕ, ℤ, pos, ◌+ℤ◌, ◌-ℤ◌, ◌≤ℤ◌, ◌<ℤ◌, List, [], ◌∷◌, ◌++◌, refl, sym, ap, ap₂, ◌∙◌, subst, arith}
 use Rattle.std.proofs.lemmas.Int.{ints, by_lt_z}
+use Rattle.std.specs.Int.Signed.{<ℤ-≤ℤ_trans}
 use Rattle.fh_time.specs.Air.{air_of}
 use Rattle.fh_time.specs.declared.values.Slot.{Slot}
 use Rattle.history_laws.specs.window_config.specs.declared.endpoints.EndpointConfig.{EndpointConfig}
@@ -17,10 +18,13 @@ use Rattle.ru_reports.specs.unit_cells.proofs.ApartLemmas.{is_slot_of}
 use Rattle.history_laws.specs.First.{FirstIsFirst, IsQuietBefore, IsSweptIn, told_of}
 use Rattle.ru_jobs.specs.Cursors.{GivenOne, IsFirstJob, Settled, jobs_left}
 use Rattle.ru_reports.specs.symbol_search.specs.Symbols.{IsSymbol}
+use Rattle.history_laws.proofs.TickLemmas.{weak, next_of_last, later_then, within_next, same_then}
+use Rattle.history_laws.proofs.ListLemmas.{front_empty}
+use Rattle.history_laws.proofs.BeforeLemmas.{start_before as earlier_comes}
 use Rattle.ru_jobs.specs.declared.cursor.JobCursor.{JobCursor}
 use Rattle.ru_jobs.specs.declared.cursor.NextJob.{NextJob}
 use Rattle.ru_buffers.specs.Units.{left_up_to}
-use Rattle.ru_buffers.proofs.LeftLemmas.{earlier_comes, left_since, start_before, start_behind}
+use Rattle.ru_buffers.proofs.LeftLemmas.{left_since, start_before, start_behind}
 
 -- ---- nothing of any symbol
 
@@ -41,41 +45,25 @@ nothing_left v cursor to none = nothing_swept (jobs_left (cells_uplink v) cursor
 
 -- ---- a cursor that is settled
 
-none_of_both : {A : Type 0} (xs ys : List A) → xs ++ ys ≡ [] → xs ≡ []
-none_of_both [] ys e = refl
-none_of_both (x ∷ xs) ys e = absurd cc
-
-weak : (a b : ℤ) → a <ℤ b → a ≤ℤ b
-weak a b h = omega (arith, ints)
-
-back_and_on : (t : ℤ) → (t -ℤ pos 1) +ℤ pos 1 ≡ t
-back_and_on t = omega (arith, ints)
-
 moved_below : (start tick clock : ℤ) → start ≡ tick → tick <ℤ clock → start <ℤ clock
 moved_below start tick clock e h = omega (arith, ints)
-
-moved_above : (start tick clock : ℤ) → start ≡ tick → clock ≤ℤ tick → clock ≤ℤ start
-moved_above start tick clock e h = omega (arith, ints)
-
-no_later : (a b c : ℤ) → a <ℤ b → b ≤ℤ c → a <ℤ c
-no_later a b c h k = omega (arith, ints)
 
 -- what tells nothing up to a time tells nothing up to an earlier one
 begins_with_nothing : {A : Type 0} (g : OfSymbol A) (es : List EndpointConfig) (from mid end : ℤ) → mid ≤ℤ end → sweep g es from end ≡ [] → sweep g es from mid ≡ []
 begins_with_nothing g es from mid end order none =
     by_lt_z mid from (λ before. sweep-none g es from mid (weak mid from before))
-    (λ after. none_of_both (sweep g es from mid) (sweep g es mid end) (sym (sweep-append g es from mid end after order) ∙ none))
+    (λ after. front_empty (sweep g es from mid) (sweep g es mid end) (sym (sweep-append g es from mid end after order) ∙ none))
 
 module _ (v : CellsValue) (clock : ℤ) (cursor next : JobCursor) (settled : Settled clock cursor next) where
   settled_before : (end : ℤ) → end ≤ℤ clock → sweep (jobs_left (cells_uplink v) next) (endpoints_of v) first_clock end ≡ []
   settled_before end order =
       nothing_swept (jobs_left (cells_uplink v) next) (endpoints_of v) first_clock end (λ s is.
-      settled.before (cells_uplink v) s (moved_below (air_of s.endpoint.numerology s.slot s.symbol) s.start.0 clock is.swept.starts (no_later s.start.0 end clock is.high order)))
+      settled.before (cells_uplink v) s (moved_below (air_of s.endpoint.numerology s.slot s.symbol) s.start.0 clock is.swept.starts (<ℤ-≤ℤ_trans is.high order)))
 
   settled_behind : (end : ℤ) → sweep (jobs_left (cells_uplink v) next) (endpoints_of v) clock end ≡ sweep (jobs_left (cells_uplink v) cursor) (endpoints_of v) clock end
   settled_behind end =
       sweep-same (jobs_left (cells_uplink v) next) (jobs_left (cells_uplink v) cursor) (endpoints_of v) clock end (λ ep e slot symbol tick low high swept.
-      settled.behind (cells_uplink v) (symbol_at ep e slot symbol tick) (moved_above (air_of e.numerology slot symbol) tick clock swept.starts low))
+      settled.behind (cells_uplink v) (symbol_at ep e slot symbol tick) (same_then clock tick (air_of e.numerology slot symbol) low swept.starts))
 
   settled_sweeps : (end : ℤ) → first_clock ≤ℤ clock → sweep (jobs_left (cells_uplink v) cursor) (endpoints_of v) first_clock clock ≡ []
       → sweep (jobs_left (cells_uplink v) next) (endpoints_of v) first_clock end ≡ sweep (jobs_left (cells_uplink v) cursor) (endpoints_of v) first_clock end
@@ -105,15 +93,9 @@ module _ (v : CellsValue) (clock : ℤ) (cursor next : JobCursor) (settled : Set
   unfolding left_up_to
   settled_left to begun ready =
       settled_sweeps (to +ℤ pos 1) begun
-      (ap (sweep (jobs_left (cells_uplink v) cursor) (endpoints_of v) first_clock) (sym (back_and_on clock)) ∙ ready)
+      (ap (sweep (jobs_left (cells_uplink v) cursor) (endpoints_of v) first_clock) (sym (next_of_last clock)) ∙ ready)
 
 -- ---- the first message that is left
-
-since_first : (first since start tick : ℤ) → first ≤ℤ since → since ≤ℤ start → tick ≡ start → first ≤ℤ tick
-since_first first since start tick a b e = omega (arith, ints)
-
-by_next : (start to : ℤ) → start ≤ℤ to → start <ℤ (to +ℤ pos 1)
-by_next start to h = omega (arith, ints)
 
 up_to_before : (s to start : ℤ) → s <ℤ (to +ℤ pos 1) → to <ℤ start → s <ℤ start
 up_to_before s to start a b = omega (arith, ints)
@@ -136,9 +118,9 @@ module _ (v : CellsValue) (cursor : JobCursor) (n : NextJob) (first : IsFirstJob
       record {
         swept = subst (IsSwept (endpoints_of v) s.ep s.endpoint s.slot s.symbol) (sym first.symbol.starts)
             (symbols_are_swept (endpoints_of v) s.ep s.endpoint s.slot s.symbol first.symbol.at fit (is_slot_of s.endpoint.numerology s.slot first.symbol.slot_is) first.symbol.symbol_is);
-        low = since_first first_clock cursor.since.0 (air_of s.endpoint.numerology s.slot s.symbol) s.start.0 begun
+        low = later_then first_clock cursor.since.0 (air_of s.endpoint.numerology s.slot s.symbol) s.start.0 begun
             (left_since (cells_uplink v) cursor s n.job first.rest first.first) first.symbol.starts;
-        high = by_next s.start.0 to order;
+        high = within_next s.start.0 to order;
       }
 
   -- it begins what is left, where sweeps begin with the first symbol that tells anything

@@ -1,52 +1,44 @@
 -- What is left of one symbol, by look-up.
-use Rattle.std.proofs.Common.{◌≡◌, ℕ, ℤ, pos, zero, suc, ◌+◌, ◌*◌, ◌<◌, ◌≤◌, ◌+ℤ◌, ◌-ℤ◌, ◌*ℤ◌, ◌≤ℤ◌, ◌<ℤ◌, Bool, true, false, not, ◌&&◌, ◌||◌, List, [], ◌∷◌, ◌++◌, ◌⊎◌, inl, inr, refl, sym, ap, ap₂, ◌∙◌, subst, arith}
-use Rattle.std.specs.Prelude.{All, Option, None, ◌==◌, ◌^◌, neg_ℤ, if◌then◌else◌, filter, cond}
-use Rattle.std.specs.Int.{int_max}
+use Rattle.std.proofs.Common.{◌≡◌, ℕ, ℤ, pos, zero, suc, ◌+◌, ◌<◌, ◌≤◌, ◌≤ℤ◌, ◌<ℤ◌, Bool, true, false, not, ◌&&◌, ◌||◌, List, [], ◌++◌, ◌⊎◌, inl, inr, refl, sym, ap, ap₂, ◌∙◌, subst, arith}
+use Rattle.std.specs.Prelude.{All, Option, ◌==◌, ◌^◌, if◌then◌else◌, filter}
 use Rattle.std.specs.List.{list_any}
-use Rattle.std.proofs.lemmas.Bool.{cases_Bool}
-use Rattle.std.proofs.lemmas.Int.{ints, clamps}
-use Rattle.std.proofs.lemmas.List.Elements.{All-nil, All-cons, All-head, All-tail, All-weaker, filter-append}
+use Rattle.std.proofs.lemmas.Bool.{cases_Bool, or_parts}
+use Rattle.std.proofs.lemmas.List.Elements.{All-weaker}
 use Rattle.fh_time.specs.Air.{air_of}
 use Rattle.fh_time.specs.Numbering.{symbols_of}
 use Rattle.fh_time.specs.declared.values.Slot.{Slot}
-use Rattle.fh_time.proofs.Euclid.{frame_floor}
 use Rattle.history_laws.specs.air_source.specs.declared.events.AirCell.{AirCell}
-use Rattle.history_laws.specs.air_source.specs.declared.events.Side.{Side}
 use Rattle.history_laws.specs.air_source.specs.declared.events.Side.TheVariants.{Ru}
 use Rattle.history_laws.specs.window_config.specs.Limits.{IsWithinLimits}
 use Rattle.history_laws.specs.window_config.specs.Rings.{ru_reach_of}
 use Rattle.history_laws.specs.window_config.specs.declared.config.Config.{Config}
-use Rattle.history_laws.specs.window_config.specs.declared.delays.Delays.{Delays}
 use Rattle.history_laws.specs.window_config.specs.declared.endpoints.EndpointConfig.{EndpointConfig}
-use Rattle.history_laws.specs.unit_model.specs.Blocks.{block_at, timely}
+use Rattle.history_laws.specs.unit_model.specs.Blocks.{block_at}
 use Rattle.history_laws.specs.unit_model.specs.Claims.{claim_at}
 use Rattle.history_laws.specs.unit_model.specs.Lists.{each, some}
 use Rattle.history_laws.specs.unit_model.specs.Proper.{IsAt, IsProperData, IsSlot}
-use Rattle.history_laws.specs.unit_model.specs.Radiated.{Known, air_cell, cell_report, first_clock, is_used, report_of, symbol_report, used_below, used_mask}
+use Rattle.history_laws.specs.unit_model.specs.Radiated.{Known, air_cell, cell_report, first_clock, report_of, symbol_report, used_mask}
 use Rattle.history_laws.specs.unit_model.specs.Reports.{accepted_of, data_of, ru_known, timely_of}
 use Rattle.history_laws.specs.unit_model.specs.Standing.{IsCell, IsLiveAt, cell_heard, still_reported}
-use Rattle.history_laws.specs.unit_model.specs.Sweeps.{frame_of_tick}
 use Rattle.history_laws.specs.unit_model.specs.declared.cells.Block.{Block}
 use Rattle.history_laws.specs.unit_model.specs.declared.cells.Cell.{Cell}
 use Rattle.history_laws.specs.unit_model.specs.declared.cells.Claim.{Claim}
-use Rattle.history_laws.specs.unit_model.specs.declared.decoded.UserSection.{UserSection}
 use Rattle.history_laws.specs.unit_model.specs.declared.symbol_start.SymbolStart.{SymbolStart}
 use Rattle.history_laws.specs.unit_laws.specs.Far.{IsFar}
 use Rattle.history_laws.specs.unit_laws.specs.Swept.{IsSwept}
 use Rattle.history_laws.specs.unit_laws.specs.Ticks.{IsLiveSlot}
 use Rattle.history_laws.specs.unit_laws.proofs.AheadLemmas.{no_reports_ahead}
-use Rattle.history_laws.specs.unit_laws.proofs.ChangeLemmas.{timely_more}
 use Rattle.history_laws.specs.unit_laws.proofs.DueLemmas.{unheard}
 use Rattle.history_laws.specs.unit_laws.proofs.HistoryLemmas.{data_are_proper}
 use Rattle.history_laws.specs.unit_laws.proofs.LookupLemmas.{reported_by_mark}
 use Rattle.history_laws.specs.unit_laws.proofs.ReportLemmas.{report_same}
-use Rattle.history_laws.specs.unit_laws.proofs.SweepLemmas.{IsKept, each_related, none_kept}
+use Rattle.history_laws.specs.unit_laws.proofs.SweepLemmas.{each_related}
 use Rattle.history_laws.specs.unit_laws.proofs.TickLemmas.{starts_later}
 use Rattle.ru_reports.specs.slot_rings.specs.Places.{is_due}
-use Rattle.ru_reports.specs.unit_cells.specs.Cells.{CellsValue, cells_block, cells_claim, cells_done, cells_has, ring_of}
+use Rattle.ru_reports.specs.unit_cells.specs.Cells.{CellsValue, cells_block, cells_claim, cells_done, cells_has}
 use Rattle.ru_reports.specs.unit_cells.specs.Told.{IsTold}
 use Rattle.ru_reports.specs.unit_cells.proofs.KeepLemmas.{at_rings}
-use Rattle.ru_reports.specs.unit_cells.proofs.TimeLemmas.{far_no_place, live_at, no_claim_from}
+use Rattle.ru_reports.specs.unit_cells.proofs.TimeLemmas.{far_no_place, live_at}
 use Rattle.ru_reports.specs.unit_cells.proofs.ToldLemmas.{told_whole}
 use Rattle.ru_jobs.specs.declared.cursor.JobCursor.{JobCursor}
 use Rattle.unit_memory.specs.declared.memory.UnitMemory.{UnitMemory}
@@ -55,31 +47,13 @@ use Rattle.ru_reports.specs.symbol_search.specs.Symbols.{IsSymbol}
 use Rattle.ru_buffers.specs.Reporting.{LeftByLookup}
 use Rattle.ru_buffers.specs.Units.{Keeps}
 use Rattle.history_laws.specs.unit_model.specs.Standing.{History}
+use Rattle.history_laws.specs.unit_model.proofs.BlockLemmas.{all_timely}
+use Rattle.history_laws.proofs.ListLemmas.{kept_one, filter_kept, both_nothing, one_unless}
+use Rattle.history_laws.proofs.TickLemmas.{at_most, weak}
+use Rattle.ru_reports.proofs.LeftLemmas.{nothing_without_place, nothing_left}
+use Rattle.ru_buffers.proofs.SlotLemmas.{swept_slot}
 
 -- ---- times
-
-not_negative : (a b : ℤ) → pos 0 ≤ℤ a → a ≤ℤ b → pos 0 ≤ℤ b
-not_negative a b h k = omega (arith, ints)
-
-at_most : (a b c : ℤ) → a ≤ℤ b → b <ℤ c → a ≤ℤ c
-at_most a b c h k = omega (arith, ints)
-
-pub no_later : (a b c : ℤ) → a ≤ℤ b → b ≤ℤ c → a ≤ℤ c
-no_later a b c h k = omega (arith, ints)
-
-reach_few : (a b c : ℤ) → a ≤ℤ pos 2000000 → b ≤ℤ pos 2000000 → c ≤ℤ pos 2000000 → int_max (int_max a (a +ℤ b)) c ≤ℤ pos 4000000
-reach_few a b c h k l = omega (arith, ints, clamps)
-
-reach_bound : (d : Delays) → IsWithinLimits d → (ru_reach_of d).before ≤ℤ pos 4000000
-reach_bound d limits = reach_few d.t2a_up.max d.advance d.t2a_cp_ul.max limits.t2a_up.high limits.advance.high limits.t2a_cp_ul.high
-
-frame_most : (frame since before : ℤ) (k : ℕ) → ((frame *ℤ pos 15360000000 +ℤ pos k) -ℤ before *ℤ pos 1536) ≤ℤ since → before ≤ℤ pos 4000000
-    → since ≤ℤ pos (2 ^ 53) → frame ≤ℤ pos 1000000
-frame_most frame since before k h b s = omega (arith, ints)
-
-frame_least : (q tick frame : ℤ) → tick <ℤ (q *ℤ pos 15360000000 +ℤ pos 15360000000) → (pos 0 -ℤ pos 15360000000) ≤ℤ tick → (q -ℤ pos 5) ≤ℤ frame
-    → neg_ℤ (pos 1000000) ≤ℤ frame
-frame_least q tick frame floor low h = omega (arith, ints)
 
 -- a symbol that starts later is of a slot that is live, or not live yet
 pub live_or_ahead : (c : Config) (since t : ℤ) (e : EndpointConfig) (slot : Slot) (symbol : ℕ) → IsWithinLimits c.delays → since ≤ℤ t
@@ -87,29 +61,15 @@ pub live_or_ahead : (c : Config) (since t : ℤ) (e : EndpointConfig) (slot : Sl
     → IsLiveSlot c.delays e since slot ⊎ IsFar e.numerology (ru_reach_of c.delays) since slot
 live_or_ahead c since t e slot symbol limits order small starts =
     let d = c.delays in
-    starts_later e.numerology (ru_reach_of d) since slot symbol (not_negative d.ta3.min d.ta3.max limits.ta3.low limits.ta3.order) small
+    starts_later e.numerology (ru_reach_of d) since slot symbol (at_most (pos 0) d.ta3.min d.ta3.max limits.ta3.low limits.ta3.order) small
     (subst (λ (x : ℤ). since ≤ℤ x) (sym starts) order)
 
 -- and where it is live, the time of its frame can be told
 pub live_slot : (c : Config) (since : ℤ) (es : List EndpointConfig) (ep : ℕ) (e : EndpointConfig) (slot : Slot) (symbol : ℕ) (tick : ℤ) → IsWithinLimits c.delays
     → since ≤ℤ pos (2 ^ 53) → first_clock ≤ℤ tick → IsSwept es ep e slot symbol tick → IsLiveSlot c.delays e since slot → IsSlot e.numerology slot
-live_slot c since es ep e slot symbol tick limits early late swept live = record {
-  low = frame_least (frame_of_tick tick) tick slot.frame (frame_floor tick).1 late swept.frame_low;
-  high = frame_most slot.frame since (ru_reach_of c.delays).before _ live.begun (reach_bound c.delays limits) early;
-  subframe = swept.slot_is.subframe;
-  slot_is = swept.slot_is.slot;
-}
+live_slot c since es ep e slot symbol tick limits early late swept live = swept_slot c.delays es ep e slot symbol tick since limits swept late early live
 
 -- ---- what is told of one cell
-
-abbrev one_unless : Bool → AirCell → List AirCell
-one_unless none a = if none then [] else a ∷ []
-
-kept_one : (p : AirCell → Bool) (none done : Bool) (a : AirCell) → p a ≡ not done → filter p (one_unless none a) ≡ (if done then [] else one_unless none a)
-kept_one p true true a h = refl
-kept_one p true false a h = refl
-kept_one p false true a h = ap (λ (b : Bool). cond b (a ∷ []) []) h
-kept_one p false false a h = ap (λ (b : Bool). cond b (a ∷ []) []) h
 
 one_cell : (e : EndpointConfig) (cell : Cell) (start : ℤ) (claims : ℕ → Option Claim) (block : Option Block) (heard : List AirCell) (done : Bool)
     → cell.down ≡ true → done ≡ list_any (cell_heard e cell) heard
@@ -118,26 +78,9 @@ one_cell e cell start claims block heard done down is =
     kept_one (unheard heard) (used_mask claims == 0) done (air_cell Ru e cell start claims block)
     (ap not (reported_by_mark Ru e cell start claims block heard down ∙ sym is))
 
-pub unused : (claims : ℕ → Option Claim) (n : ℕ) → ((re : ℕ) → claims re ≡ None) → used_below claims n ≡ 0
-unfolding used_below
-unused claims zero none = refl
-unused claims (suc n) none =
-    ap₂ (λ (low : ℕ) (c : Option Claim). 2 * low + (if is_used c then 1 else 0)) (unused claims n none) (none n)
-
 nothing_either : (done : Bool) → (let xs : List AirCell = if done then [] else [] in xs) ≡ []
 nothing_either true = refl
 nothing_either false = refl
-
--- ---- a slot that has no place
-
-pub none_left : (v : CellsValue) (s : SymbolStart) → cells_has v s.ep s.slot ≡ false → left_at v s ≡ []
-unfolding left_at
-none_left v s none =
-    each_related (λ xs ys. xs ≡ []) none_kept 0 s.endpoint.prbs (left_told v s) (left_told v s) (λ prb above below.
-    let cell = cell_in s prb in
-    let unclaimed : used_mask (cells_claim v cell) ≡ 0 = unused (cells_claim v cell) 12 (λ re. no_claim_from (ring_of v s.ep) cell re none) in
-    ap (λ (n : ℕ). if cells_done v cell then [] else one_unless (n == 0) (air_cell Ru s.endpoint cell s.start.0 (cells_claim v cell) (cells_block v cell))) unclaimed
-    ∙ nothing_either (cells_done v cell))
 
 -- ---- is something left?
 
@@ -152,23 +95,15 @@ unspent true done a h = refl
 unspent false true a h = refl
 unspent false false a h = absurd cc
 
-none_of_two : (a b : Bool) → (a || b) ≡ false → (a ≡ false) × (b ≡ false)
-none_of_two false b h = (refl, h)
-none_of_two true b h = absurd cc
-
 neither : (a b : Bool) → a ≡ false → b ≡ false → (a || b) ≡ false
 neither false b h k = k
 neither true b h k = absurd cc
-
-both_nothing : {A : Type 0} (xs ys : List A) → xs ++ ys ≡ [] → (xs ≡ []) × (ys ≡ [])
-both_nothing [] ys h = (refl, h)
-both_nothing (x ∷ xs) ys h = absurd cc
 
 each_spent : (from n : ℕ) (p : ℕ → Bool) (f : ℕ → List AirCell) → ((k : ℕ) → p k ≡ false → f k ≡ []) → some from n p ≡ false → each from n f ≡ []
 unfolding some each
 each_spent from zero p f none h = refl
 each_spent from (suc n) p f none h =
-    let parts = none_of_two (p from) (some (from + 1) n p) h in
+    let parts = or_parts (p from) (some (from + 1) n p) h in
     ap₂ ◌++◌ (none from parts.0) (each_spent (from + 1) n p f none parts.1)
 
 each_unspent : (from n : ℕ) (p : ℕ → Bool) (f : ℕ → List AirCell) → ((k : ℕ) → f k ≡ [] → p k ≡ false) → each from n f ≡ [] → some from n p ≡ false
@@ -184,12 +119,6 @@ left_cell v s prb = air_cell Ru s.endpoint (cell_in s prb) s.start.0 (cells_clai
 abbrev due_in : CellsValue → SymbolStart → ℕ → Bool
 due_in v s prb = is_due (cells_claim v (cell_in s prb)) (cells_done v (cell_in s prb))
 
-pub left_none : (v : CellsValue) (s : SymbolStart) → is_left v s ≡ false → left_at v s ≡ []
-unfolding left_at
-left_none v s none =
-    each_spent 0 s.endpoint.prbs (due_in v s) (left_told v s)
-    (λ prb. spent (used_mask (cells_claim v (cell_in s prb)) == 0) (cells_done v (cell_in s prb)) (left_cell v s prb)) none
-
 pub none_is_left : (v : CellsValue) (s : SymbolStart) → left_at v s ≡ [] → is_left v s ≡ false
 unfolding left_at
 none_is_left v s none =
@@ -197,16 +126,6 @@ none_is_left v s none =
     (λ prb. unspent (used_mask (cells_claim v (cell_in s prb)) == 0) (cells_done v (cell_in s prb)) (left_cell v s prb)) none
 
 -- ---- data that are told whole
-
-all_timely : (P : UserSection → Type 0) (side : Side) (d : Delays) (xs : List UserSection) → All P xs → All P (timely side d xs)
-unfolding timely
-all_timely P side d [] h = All-nil P
-all_timely P side d (x ∷ earlier) h =
-    let before : All P (timely side d earlier) = all_timely P side d earlier (All-tail P x earlier h) in
-    elim (timely_more side d x earlier) [
-      | inl e ↦ subst (All P) (sym e) before
-      | inr is ↦ subst (All P) (sym is.1) (All-cons P x (timely side d earlier) (All-head P x earlier h) before)
-    ]
 
 whole : (a b : ℕ) → a ≡ b → b ≤ a
 whole a b e = omega arith
@@ -218,9 +137,6 @@ all_told c m clock cursor h keeps =
     (data_are_proper Ru c cursor.since.0 h.arrivals keeps.holds.came keeps.holds.times))
 
 -- ---- a symbol of a live slot
-
-filter_kept : (p : AirCell → Bool) → IsKept {A = AirCell} {B = AirCell} (λ xs ys. filter p xs ≡ ys)
-filter_kept p = record { none = refl; more = λ xs xs' ys ys' h k. filter-append p xs xs' ∙ ap₂ ◌++◌ h k }
 
 module _ (c : Config) (m : UnitMemory) (clock : ℤ) (cursor : JobCursor) (h : History) (keeps : Keeps c m clock cursor h) (s : SymbolStart)
     (at : IsAt c.endpoints s.ep s.endpoint) (slot_is : IsSlot s.endpoint.numerology s.slot) (small : s.symbol < symbols_of s.endpoint.numerology)
@@ -272,7 +188,7 @@ still_nothing k heard ep e slot symbol none = ap (filter (unheard heard)) none
 
 module _ (c : Config) (m : UnitMemory) (clock : ℤ) (cursor : JobCursor) (h : History) (keeps : Keeps c m clock cursor h) where
   pub clock_first : first_clock ≤ℤ clock
-  clock_first = subst (λ (t : ℤ). first_clock ≤ℤ t) (sym keeps.clock_is) (no_later first_clock cursor.since.0 h.clock keeps.begun keeps.since)
+  clock_first = subst (λ (t : ℤ). first_clock ≤ℤ t) (sym keeps.clock_is) (at_most first_clock cursor.since.0 h.clock keeps.begun keeps.since)
 
   pub since_clock : cursor.since.0 ≤ℤ clock
   since_clock = subst (λ (t : ℤ). cursor.since.0 ≤ℤ t) (sym keeps.clock_is) keeps.since
@@ -281,13 +197,13 @@ module _ (c : Config) (m : UnitMemory) (clock : ℤ) (cursor : JobCursor) (h : H
     -- its slot is live, or not live yet
     pub found : IsLiveSlot c.delays s.endpoint cursor.since.0 s.slot ⊎ IsFar s.endpoint.numerology (ru_reach_of c.delays) cursor.since.0 s.slot
     found =
-        live_or_ahead c cursor.since.0 s.start.0 s.endpoint s.slot s.symbol keeps.holds.config.delays (at_most cursor.since.0 clock s.start.0 since_clock later)
+        live_or_ahead c cursor.since.0 s.start.0 s.endpoint s.slot s.symbol keeps.holds.config.delays (at_most cursor.since.0 clock s.start.0 since_clock (weak clock s.start.0 later))
         swept.symbol_is swept.starts
 
     pub slot_told : IsLiveSlot c.delays s.endpoint cursor.since.0 s.slot → IsSlot s.endpoint.numerology s.slot
     slot_told live =
         live_slot c cursor.since.0 c.endpoints s.ep s.endpoint s.slot s.symbol s.start.0 keeps.holds.config.delays
-        (no_later cursor.since.0 h.clock (pos (2 ^ 53)) keeps.since keeps.time.high) (at_most first_clock clock s.start.0 clock_first later) swept live
+        (at_most cursor.since.0 h.clock (pos (2 ^ 53)) keeps.since keeps.time.high) (at_most first_clock clock s.start.0 clock_first (weak clock s.start.0 later)) swept live
 
     pub nothing_ahead : IsFar s.endpoint.numerology (ru_reach_of c.delays) cursor.since.0 s.slot
         → still_reported Ru (ru_known c h.arrivals) h.reported s.ep s.endpoint s.slot s.symbol ≡ []
@@ -302,7 +218,7 @@ module _ (c : Config) (m : UnitMemory) (clock : ℤ) (cursor : JobCursor) (h : H
     pub looked_up : still_reported Ru (ru_known c h.arrivals) h.reported s.ep s.endpoint s.slot s.symbol ≡ left_at m.cells s
     looked_up = elim found [
       | inl live ↦ live_lookup c m clock cursor h keeps s swept.endpoint (slot_told live) swept.symbol_is live swept.starts
-      | inr far ↦ nothing_ahead far ∙ sym (none_left m.cells s (no_place_ahead far))
+      | inr far ↦ nothing_ahead far ∙ sym (nothing_without_place m.cells s (no_place_ahead far))
     ]
 
     -- where it is none of which something is left, nothing is told of it
@@ -310,9 +226,9 @@ module _ (c : Config) (m : UnitMemory) (clock : ℤ) (cursor : JobCursor) (h : H
     quiet never = elim found [
       | inr far ↦ nothing_ahead far
       | inl live ↦ elim (cases_Bool (cells_has m.cells s.ep s.slot)) [
-        | inr none ↦ looked_up ∙ none_left m.cells s none
+        | inr none ↦ looked_up ∙ nothing_without_place m.cells s none
         | inl has ↦ elim (cases_Bool (is_left m.cells s)) [
-          | inr none ↦ looked_up ∙ left_none m.cells s none
+          | inr none ↦ looked_up ∙ nothing_left m.cells s none
           | inl left ↦ absurd (never (record {
             at = at_rings Ru c m.cells s.ep s.endpoint keeps.holds.of swept.endpoint;
             slot_is = slot_told live;

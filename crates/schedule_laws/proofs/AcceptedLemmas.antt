@@ -15,9 +15,10 @@ use Rattle.unit_laws.specs.unit_model.specs.declared.allocations.Allocation.{All
 use Rattle.unit_laws.specs.unit_model.specs.declared.decoded.ControlSection.{ControlSection}
 use Rattle.unit_laws.specs.unit_model.specs.declared.verdicts.CommandVerdict.{CommandVerdict}
 use Rattle.unit_laws.specs.unit_model.specs.declared.verdicts.CommandVerdict.TheVariants.{Mismatch, Range, Repeat, Overlap, Full, Accepted}
-use Rattle.plan_model.specs.Validity.{clash}
-use Rattle.schedule_laws.proofs.RangeLemmas.{any_in, among}
-use Rattle.schedule_laws.proofs.ClashLemmas.{IsProper, IsClear, slot_own, own_clash, is_repeat, no_repeat, no_overlap}
+use Rattle.plan_model.specs.Validity.{clash, IsProper}
+use Rattle.plan_model.proofs.ListLemmas.{any_in, among}
+use Rattle.plan_model.proofs.SlotLemmas.{slot_own}
+use Rattle.schedule_laws.proofs.ClashLemmas.{IsClear, own_clash, is_repeat, no_repeat, no_overlap}
 
 -- ---- how many uplink sections there are of lists without repeats
 

@@ -22,9 +22,10 @@ use Rattle.plan_model.specs.Lines.{allocation_of, planned}
 use Rattle.plan_model.specs.Streams.{Part, part_in}
 use Rattle.plan_model.specs.Validity.{clash, share_bit, share_cell}
 use Rattle.plan_model.specs.declared.lines.PlannedLine.{PlannedLine}
+use Rattle.plan_model.proofs.SlotLemmas.{slot_own, way_own}
+use Rattle.plan_model.proofs.ClashLemmas.{both_cover}
 use Rattle.schedule_laws.specs.Data.{AreDecodedOnce, AreWritten, Blocks, IsDataFor, planned_block, radiates_in}
 use Rattle.schedule_laws.specs.Premise.{AllArrive, Texts}
-use Rattle.schedule_laws.proofs.ClashLemmas.{both_cover, slot_own, way_own}
 use Rattle.schedule_laws.proofs.LineLemmas.{are_one}
 use Rattle.schedule_laws.proofs.WholeLemmas.{IsTimely, each_timely, ds, line_sent, whole_once}
 

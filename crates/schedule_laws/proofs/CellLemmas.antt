@@ -3,6 +3,7 @@ use Rattle.std.proofs.Common.{◌≡◌, ℕ, zero, suc, ℤ, pos, ◌+◌, ◌*
 use Rattle.std.specs.Prelude.{All}
 use Rattle.std.proofs.lemmas.Bool.{cases_Bool, cases_eq, and_parts, and_from, eq-eqb, eqb-true, or_right}
 use Rattle.std.proofs.lemmas.Int.{ints}
+use Rattle.std.specs.Cmp.{both_ways}
 use Rattle.fh_time.specs.Air.{air_of}
 use Rattle.fh_time.specs.declared.values.Slot.{Slot}
 use Rattle.unit_laws.specs.air_source.specs.declared.events.AirCell.{AirCell}
@@ -31,16 +32,17 @@ use Rattle.plan_model.specs.Lines.{allocation_of, planned}
 use Rattle.plan_model.specs.Valid.{IsValid}
 use Rattle.plan_model.specs.Validity.{clash, share_bit, share_cell}
 use Rattle.plan_model.specs.declared.lines.PlannedLine.{PlannedLine}
+use Rattle.plan_model.proofs.ListLemmas.{among, any_in}
+use Rattle.plan_model.proofs.ClashLemmas.{both_cover, claimed}
 use Rattle.schedule_laws.specs.Cells.{mask_below, planned_air, planned_cell, planned_event, planned_mask, planned_section, planned_symbol, radiates}
 use Rattle.schedule_laws.specs.Data.{AreWritten, Blocks, planned_block, radiates_in}
 use Rattle.schedule_laws.specs.Premise.{AllArrive, Texts}
 use Rattle.schedule_laws.proofs.AcceptedLemmas.{AreAllowed}
 use Rattle.schedule_laws.proofs.BlockLemmas.{decoded_once}
-use Rattle.schedule_laws.proofs.ClashLemmas.{both_cover, claimed, own_claim}
+use Rattle.schedule_laws.proofs.ClashLemmas.{own_claim}
 use Rattle.schedule_laws.proofs.CommandLemmas.{commanded_once}
 use Rattle.schedule_laws.proofs.LineLemmas.{allowed, are_one}
 use Rattle.schedule_laws.proofs.ListLemmas.{in_map, of_map}
-use Rattle.schedule_laws.proofs.RangeLemmas.{among, any_in, same_tests}
 
 -- ---- masks
 
@@ -118,7 +120,7 @@ module _ (c : Config) (lines : List PlanLine) (config : IsConfig c) (fit : All I
   line_claims cell re p below m is = own_claim all_named (allocation_of p) cell re all_allowed.clear below (in_map allocation_of p all_lines m) is
 
   used_is : (cell : Cell) (re : ℕ) → re < 12 → is_used (claim_at all_named cell re) ≡ radiates all_lines cell re
-  used_is cell re below = same_tests (is_used (claim_at all_named cell re)) (radiates all_lines cell re) (forth (claim_at all_named cell re) refl) back
+  used_is cell re below = both_ways (is_used (claim_at all_named cell re)) (radiates all_lines cell re) (forth (claim_at all_named cell re) refl) back
     where
       forth : (o : Option Claim) → claim_at all_named cell re ≡ o → is_used o ≡ true → radiates all_lines cell re ≡ true
       forth None e u = absurd cc

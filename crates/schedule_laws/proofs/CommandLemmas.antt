@@ -2,7 +2,7 @@
 use Rattle.std.proofs.Common.{◌≡◌, ℕ, ℤ, pos, neg_ℤ, ◌+◌, ◌*◌, ◌<◌, ◌≤◌, ◌+ℤ◌, ◌*ℤ◌, ◌-ℤ◌, ◌≤ℤ◌, ◌<ℤ◌, min, inl, inr, Bool, true, false, not, ◌&&◌, ◌==◌, List, [], ◌∷◌, map, refl, ap, ap₂, sym, ◌∙◌, subst, arith}
 use Rattle.std.specs.Prelude.{All}
 use Rattle.std.specs.Int.{int_rem_euclid}
-use Rattle.std.proofs.lemmas.Bool.{and_parts, and_from, eq-eqb, eqb-true}
+use Rattle.std.proofs.lemmas.Bool.{and_parts, and_from, eq-eqb, eqb-true, not-true}
 use Rattle.std.proofs.lemmas.Int.{ints}
 use Rattle.fh_time.specs.Air.{air_of}
 use Rattle.fh_time.specs.Frame.{absolute_frame, frame_start}
@@ -35,6 +35,7 @@ use Rattle.unit_laws.specs.unit_model.specs.declared.cells.Cell.{Cell}
 use Rattle.unit_laws.specs.unit_model.specs.declared.decoded.ControlSection.{ControlSection}
 use Rattle.unit_laws.specs.unit_model.proofs.ReachLaws.{symbol_soon}
 use Rattle.unit_laws.specs.unit_model.proofs.SweepLaws.{gap_is}
+use Rattle.unit_laws.proofs.FarLemmas.{endpoints_equal}
 use Rattle.plan_model.specs.Departures.{departures_of, sending_window, sent_at, start_of, width_of}
 use Rattle.plan_model.specs.Lines.{allocation_of, is_down, planned}
 use Rattle.plan_model.specs.Packs.{Numbered, packs}
@@ -44,16 +45,18 @@ use Rattle.plan_model.specs.Valid.{IsValid}
 use Rattle.plan_model.specs.declared.lines.PlannedLine.{PlannedLine}
 use Rattle.plan_model.specs.declared.streams.Stream.{Stream}
 use Rattle.plan_model.specs.declared.streams.Stream.TheVariants.{DownCommands, UpCommands, DownData, UpData}
+use Rattle.plan_model.proofs.SlotLemmas.{slot_own, same_slot_fields}
+use Rattle.plan_model.proofs.ListLemmas.{in_right}
 use Rattle.schedule_laws.specs.Commands.{AreCommandedOnce, IsAnsweredOnce, IsCommanded}
 use Rattle.schedule_laws.specs.Premise.{AllArrive, IsCommandFor, IsCopyOf, Texts}
 use Rattle.schedule_laws.proofs.AcceptedLemmas.{AreAllowed, IsTimely, again, named_all, new_one}
-use Rattle.schedule_laws.proofs.ClashLemmas.{claims_same, slot_own}
-use Rattle.schedule_laws.proofs.LineLemmas.{allowed, are_same, good, part_line, same_endpoint, start_in_time}
-use Rattle.schedule_laws.proofs.ListLemmas.{in_right, in_map, of_map, numerology_short}
+use Rattle.schedule_laws.proofs.ClashLemmas.{claims_same}
+use Rattle.schedule_laws.proofs.LineLemmas.{allowed, are_same, good, part_line, start_in_time}
+use Rattle.schedule_laws.proofs.ListLemmas.{in_map, of_map, numerology_short}
 use Rattle.schedule_laws.proofs.PackLemmas.{message_from, one_part}
 use Rattle.schedule_laws.proofs.ReadingLemmas.{AreCopies, Heard, IsCommandStream, command_read, heard, told}
 use Rattle.schedule_laws.proofs.SentLemmas.{IsOfMessage, IsSentStream, is_sent, message_part, part_is, part_message, part_there, sent_is}
-use Rattle.schedule_laws.proofs.TimeLemmas.{copy_from, copy_to, first_less, frame_is, in_end, in_time, wait_most}
+use Rattle.schedule_laws.proofs.TimeLemmas.{copy_from, copy_to, first_less, frame_is, in_end, in_time, wait_most, in_ticks}
 
 -- ---- times
 
@@ -62,9 +65,6 @@ pub record HasRoom (sending awaited t12 : Range) : Type 0 where
   pub order : sending.min ≤ℤ sending.max
   pub most : sending.max ≤ℤ (awaited.max +ℤ t12.min)
   pub least : (awaited.min +ℤ t12.max) ≤ℤ sending.min
-
-in_ticks : (a b : ℤ) → a ≤ℤ b → ticks_of_ns a ≤ℤ ticks_of_ns b
-in_ticks a b h = omega (arith, ints, h)
 
 late_enough : (s at most fast window : ℤ) → (s -ℤ at) ≤ℤ (ticks_of_ns most -ℤ ticks_of_ns fast) → most ≤ℤ (window +ℤ fast) → (s -ℤ at) ≤ℤ ticks_of_ns window
 late_enough s at most fast window h k = omega (arith, ints, h, k)
@@ -135,11 +135,6 @@ same_allocation a b e1 e2 e3 e4 e5 e6 e7 e8 e9 e10 e11 e12 =
     } in y) = rw (e1, e2, e3, e4, e5, e6, e7, e8, e9, e10, e11, e12) refl in
     same
 
-pub same_slot_fields : (a b : Slot) → a.frame ≡ b.frame → a.subframe ≡ b.subframe → a.slot ≡ b.slot → a ≡ b
-same_slot_fields a b p q r =
-    let same : (let x : Slot = record { frame = a.frame; subframe = a.subframe; slot = a.slot } in x) ≡ (let y : Slot = record { frame = b.frame; subframe = b.subframe; slot = b.slot } in y) = rw (p, q, r) refl in
-    same
-
 module _ (p : PlannedLine) (d : ControlSection) (carries : IsCommandFor p d) where
   slot_named : absolute_frame d.head.frame_id d.at.0 ≡ p.line.slot.frame → command_slot d ≡ p.line.slot
   slot_named f = same_slot_fields (command_slot d) p.line.slot f carries.subframe carries.slot
@@ -171,10 +166,6 @@ first_symbol UpCommands s p ep slot symbol h =
 first_symbol DownData s p ep slot symbol h = absurd s
 first_symbol UpData s p ep slot symbol h = absurd s
 
-not_true : (b : Bool) → not b ≡ true → b ≡ false
-not_true true h = cc
-not_true false h = refl
-
 -- the window of what the stream carries
 window_of : (stream : Stream) → IsCommandStream stream → (d : Delays) (p : PlannedLine) (ep : ℕ) (slot : Slot) (symbol : ℕ) → IsWithinLimits d → PassesCheck d
     → has_part stream ep slot symbol (allocation_of p) ≡ true → HasRoom (sending_window d stream) (command_window_of d (is_down p.line.kind)) d.t12
@@ -183,7 +174,7 @@ window_of DownCommands s d p ep slot symbol l k h =
     subst (λ b. HasRoom (sending_window d DownCommands) (command_window_of d b) d.t12) (sym one.0) (room_down d l k)
 window_of UpCommands s d p ep slot symbol l k h =
     let one = and_parts (not (is_down p.line.kind)) _ h in
-    subst (λ b. HasRoom (sending_window d UpCommands) (command_window_of d b) d.t12) (sym (not_true (is_down p.line.kind) one.0)) (room_up d l k)
+    subst (λ b. HasRoom (sending_window d UpCommands) (command_window_of d b) d.t12) (sym (not-true (is_down p.line.kind) one.0)) (room_up d l k)
 window_of DownData s d p ep slot symbol l k h = absurd s
 window_of UpData s d p ep slot symbol l k h = absurd s
 
@@ -256,7 +247,7 @@ module _ (c : Config) (lines : List PlanLine) (text : Texts) (arrivals : List Ar
       let g = good c lines h.config h.lines_fit h.valid p part.from in
       let place = part_line stream o.is_sent p w.f.ep part.slot x.symbol part.has in
       let symbol = first_symbol stream w.stream p w.f.ep part.slot x.symbol part.has in
-      let endpoint = same_endpoint c.endpoints p.ep w.f.ep p.endpoint w.f.endpoint g.at o.at place.ep_is in
+      let endpoint = endpoints_equal c.endpoints p.ep w.f.ep p.endpoint w.f.endpoint g.at o.at place.ep_is in
       let below : p.line.symbol < symbols_of p.endpoint.numerology = subst (λ (e : EndpointConfig). p.line.symbol < symbols_of e.numerology) (sym endpoint) (subst (λ y. y < symbols_of w.f.endpoint.numerology) (sym symbol) part.is_symbol) in
       let soon = symbol_soon p.endpoint.numerology p.line.slot p.line.symbol (numerology_short p.endpoint.numerology) (record { subframe = g.fits.subframe; slot = g.slot }) below in
       let carries : IsCommandFor p d = subst (λ (f : SentFrame). IsCommandFor f.message.first.planned d) o.is w.carries in

@@ -14,12 +14,12 @@ use Rattle.unit_laws.specs.unit_model.specs.Meetings.{Arrival, Commands, Meeting
 use Rattle.unit_laws.specs.unit_model.specs.Proper.{IsAt}
 use Rattle.unit_laws.specs.unit_model.specs.declared.decoded.ControlSection.{ControlSection}
 use Rattle.unit_laws.specs.unit_model.specs.declared.decoded.UserSection.{UserSection}
+use Rattle.unit_laws.proofs.FarLemmas.{endpoints_equal}
 use Rattle.plan_model.specs.Sent.{SentFrame}
+use Rattle.plan_model.proofs.ListLemmas.{in_left, in_right, in_either}
 use Rattle.schedule_laws.specs.Premise.{Texts, fragment_at}
 use Rattle.schedule_laws.proofs.FlowLemmas.{here}
 use Rattle.schedule_laws.proofs.FragmentLemmas.{fragments_command, fragments_piece}
-use Rattle.schedule_laws.proofs.LineLemmas.{same_endpoint}
-use Rattle.schedule_laws.proofs.ListLemmas.{in_left, in_right, in_either}
 use Rattle.schedule_laws.proofs.ReadingLemmas.{AreCopies, a_command, a_piece, read_of, reading}
 
 -- ---- the sections that a fragment makes
@@ -132,7 +132,7 @@ module _ (c : Config) (text : Texts) (frames : List SentFrame) (hold : ℤ) wher
             subst (λ (xs : List UserSection). IsIn d xs) (sym (sections_piece c hold a before w.0.endpoint y r))
             (elim (split_of later earlier all x y (sym (fragments_piece c a before w.0.endpoint y r) ∙ is)) [
               | inl now ↦
-                  let same = same_endpoint c.endpoints x.ep w.0.ep e w.0.endpoint at_x (at w.0 w.1) (ap (λ (z : Fragment). z.ep) (sym now.0)) in
+                  let same = endpoints_equal c.endpoints x.ep w.0.ep e w.0.endpoint at_x (at w.0 w.1) (ap (λ (z : Fragment). z.ep) (sym now.0)) in
                   in_left d (data_told (data_now Ru hold w.0.endpoint y all)) old
                   (subst (λ (z : Fragment). IsIn d (data_told (data_now Ru hold w.0.endpoint z all))) (sym now.0)
                   (subst (λ (g : EndpointConfig). IsIn d (data_told (data_now Ru hold g x all))) same

@@ -1,19 +1,14 @@
 -- The messages of a valid plan, whose windows pass the check, are sound flows.
-use Rattle.std.proofs.Common.{◌≡◌, ℕ, ℤ, pos, zero, suc, ◌+◌, ◌-◌, ◌*◌, ◌/◌, ◌<◌, ◌≤◌, ◌+ℤ◌, ◌*ℤ◌, ◌-ℤ◌, ◌≤ℤ◌, ◌<ℤ◌, ◌⊎◌, min, inl, inr, Bool, true, false, not, ◌&&◌, ◌==◌, nat_lt, int_le, if◌then◌else◌, List, [], ◌∷◌, length, drop, Option, Some, None, refl, ap, ap₂, sym, ◌∙◌, subst, arith}
+use Rattle.std.proofs.Common.{◌≡◌, ℕ, ℤ, pos, zero, suc, ◌+◌, ◌-◌, ◌*◌, ◌/◌, ◌<◌, ◌≤◌, ◌+ℤ◌, ◌*ℤ◌, ◌-ℤ◌, ◌≤ℤ◌, ◌<ℤ◌, ◌⊎◌, min, inl, inr, Bool, true, false, ◌&&◌, nat_lt, int_le, if◌then◌else◌, List, [], ◌∷◌, length, drop, Option, Some, None, refl, ap, ap₂, sym, ◌∙◌, subst, arith}
 use Rattle.std.specs.Prelude.{All}
 use Rattle.std.specs.Int.{int_gap}
 use Rattle.std.specs.List.{slice_get}
 use Rattle.std.specs.Option.{option_map_or}
-use Rattle.std.proofs.lemmas.Bool.{cases_Bool, cases_eq, ltb-false}
-use Rattle.std.proofs.Math.Nat.{div-lt_iff_lt-mul, mul-le-mul}
+use Rattle.std.proofs.lemmas.Bool.{cases_Bool, cases_eq}
+use Rattle.std.proofs.Math.Nat.{div-lt_iff_lt-mul}
 use Rattle.std.proofs.lemmas.Int.{ints}
 use Rattle.fh_time.specs.Air.{air_of}
-use Rattle.fh_time.specs.Carrier.{count_of, is_outside}
 use Rattle.fh_time.specs.declared.values.Slot.{Slot}
-use Rattle.bfp_codec.specs.Layout.{HasWidth, length_of}
-use Rattle.bfp_codec.specs.declared.methods.Method.{Method}
-use Rattle.bfp_codec.specs.declared.methods.Method.TheVariants.{Plain, Bfp}
-use Rattle.unit_laws.specs.uplane_sections.specs.Section.{header_size}
 use Rattle.fragment_laws.specs.Apart.{IsIn}
 use Rattle.fragment_laws.specs.Flow.{IsDistant, IsSound, size_to}
 use Rattle.fragment_laws.specs.Flow.{sent_at as flow_sent_at}
@@ -30,6 +25,7 @@ use Rattle.unit_laws.specs.unit_model.specs.Sweeps.{of_endpoint}
 use Rattle.unit_laws.specs.unit_model.specs.Times.{end_of_time}
 use Rattle.unit_laws.specs.unit_model.proofs.SweepLaws.{gap_is}
 use Rattle.unit_laws.proofs.SweepLemmas.{of_endpoint_related}
+use Rattle.unit_laws.proofs.FarLemmas.{endpoints_equal}
 use Rattle.plan_model.specs.Dense.{dense_from, dense_in, down_distance, up_distance, first_near, is_near, lesser, sending_of, sendings}
 use Rattle.plan_model.specs.Departures.{departures_of, sent_at, start_of}
 use Rattle.plan_model.specs.Lines.{planned}
@@ -41,9 +37,10 @@ use Rattle.plan_model.specs.declared.dense.Sending.{Sending}
 use Rattle.plan_model.specs.declared.lines.PlannedLine.{PlannedLine}
 use Rattle.plan_model.specs.declared.streams.Stream.{Stream}
 use Rattle.plan_model.specs.declared.streams.Stream.TheVariants.{DownData, UpData}
+use Rattle.plan_model.proofs.SizeLemmas.{alone_few, section_few}
 use Rattle.schedule_laws.specs.Flows.{bounds_of, flow_of, messages_at}
 use Rattle.schedule_laws.specs.Premise.{Texts}
-use Rattle.schedule_laws.proofs.LineLemmas.{IsGoodLine, good, part_line, same_endpoint}
+use Rattle.schedule_laws.proofs.LineLemmas.{IsGoodLine, good, part_line}
 use Rattle.schedule_laws.proofs.ListLemmas.{IsAll, all_kept, at_in}
 use Rattle.schedule_laws.proofs.OrderLemmas.{IsRising, all_short, below_get, get_below, get_drop, get_map, number_is, numbered_rising, packs_rising, rising_at, ticks_rising}
 use Rattle.schedule_laws.proofs.PackLemmas.{message_from}
@@ -92,10 +89,10 @@ none_dense c ps stream distance start (suc i) (f ∷ es) e h at =
     ∙ none_dense c ps stream distance (start + 1) i es e (no_lesser (dense_in distance (sendings c ps stream start f)) (dense_from c ps stream distance (start + 1) es) h).1 at
 
 -- two times that are not near are distant
-le_false : (a b : ℤ) → int_le a b ≡ false → b <ℤ a
+pub le_false : (a b : ℤ) → int_le a b ≡ false → b <ℤ a
 le_false a b h = grind (arith, ints)
 
-le_true : (a b : ℤ) → int_le a b ≡ true → a ≤ℤ b
+pub le_true : (a b : ℤ) → int_le a b ≡ true → a ≤ℤ b
 le_true a b h = grind (arith, ints)
 
 beyond : (x y d h fast slow : ℤ) → d ≡ (h +ℤ (slow -ℤ fast)) *ℤ pos 1536 → d <ℤ (y -ℤ x) → (x +ℤ (h *ℤ pos 1536 +ℤ (slow *ℤ pos 1536 -ℤ fast *ℤ pos 1536))) <ℤ y
@@ -112,40 +109,11 @@ distant x y h fast slow e = elim (cases_Bool (int_le (x -ℤ y) ((h +ℤ (slow -
 
 -- ---- sizes
 
-method_short : (m : Method) → HasWidth m → length_of m ≤ 49
-method_short Plain h = omega arith
-method_short (Bfp w) h = omega (arith, h)
-
-count_few : (prbs start num : ℕ) → prbs ≤ 273 → is_outside prbs start num ≡ false → count_of prbs num ≤ 273
-count_few prbs start num h out = elim (cases_Bool (num == 0)) [
-  | inl none ↦ (let e : count_of prbs num ≡ prbs = ap (λ (b : Bool). if b then prbs else num) none in omega (arith, e, h))
-  | inr some ↦ (let e : count_of prbs num ≡ num = ap (λ (b : Bool). if b then prbs else num) some in
-      let f : nat_lt prbs (start + num) ≡ false = sym (ap (λ b. not b && nat_lt prbs (start + num)) some) ∙ out in
-      let l = ltb-false prbs (start + num) f in
-      omega (arith, e, h, l))
-]
-
-product_few : (a b : ℕ) → a ≤ 273 → b ≤ 49 → a * b ≤ 13377
-product_few a b h k = mul-le-mul h k
-
-header_few : (b : Bool) → (let n : ℕ = if b then 6 else 4 in n) ≤ 6
-header_few true = omega arith
-header_few false = omega arith
-
-sum_few : (h p : ℕ) → h ≤ 6 → p ≤ 13377 → 4 + (h + p) ≤ 16384
-sum_few h p a b = omega (arith, a, b)
-
-alone_sum : (n : ℕ) → 4 + n ≤ 16384 → 4 + (0 + n) ≤ 16384
-alone_sum n h = omega (arith, h)
-
 -- a line's section alone is short enough
 pub section_short : (es : List EndpointConfig) (x : Part) → IsGoodLine es x.planned → size_of part_fields (alone x) ≤ 16384
 section_short es x g =
     let e = x.planned.endpoint in
-    let n = count_of e.prbs x.planned.line.num_prb in
-    alone_sum (section_size e x.planned.line.num_prb)
-    (sum_few (header_size e.format) (n * length_of e.format.method) (header_few e.format.dynamic)
-    (product_few n (length_of e.format.method) (count_few e.prbs x.planned.line.start_prb x.planned.line.num_prb g.endpoint.most g.prbs) (method_short e.format.method g.endpoint.width)))
+    alone_few (section_size e x.planned.line.num_prb) (section_few e x.planned.line.start_prb x.planned.line.num_prb g.endpoint.width g.endpoint.most g.prbs)
 
 -- and has a frame at least
 pub some_frames : (c : Config) (m : Message Part) → 128 ≤ c.fragment → 0 < frames_in c DownData m
@@ -182,7 +150,7 @@ module _ (c : Config) (lines : List PlanLine) (config : IsConfig c) (fit : All I
       let w = symbol_part ps DownData tt ep e slot symbol x m in
       let place = part_line DownData tt x.planned ep slot symbol w.1 in
       let g = line_good x.planned w.0 in
-      let same = same_endpoint c.endpoints x.planned.ep ep x.planned.endpoint e g.at at place.ep_is in
+      let same = endpoints_equal c.endpoints x.planned.ep ep x.planned.endpoint e g.at at place.ep_is in
       ap (λ (f : EndpointConfig). air_of f.numerology x.planned.line.slot x.symbol) same
       ∙ ap₂ (λ (s : Slot) (y : ℕ). air_of e.numerology s y) place.slot_is w.2
 
@@ -261,7 +229,7 @@ module _ (c : Config) (lines : List PlanLine) (config : IsConfig c) (fit : All I
   rising_low ep j k le h =
       let a = here ep j (omega (arith, le, h)) in
       let b = here ep k h in
-      let same = same_endpoint c.endpoints ep ep a.e b.e a.at b.at refl in
+      let same = endpoints_equal c.endpoints ep ep a.e b.e a.at b.at refl in
       let got_b : slice_get (messages_of c ps DownData ep a.e) k ≡ Some b.n = subst (λ (e : EndpointConfig). slice_get (messages_of c ps DownData ep e) k ≡ Some b.n) (sym same) b.got in
       let r = rising_at (λ (n : Numbered Part). start_of n.message.first) (messages_of c ps DownData ep a.e) j k a.n b.n (messages_rising ep a.e a.at) a.got got_b le in
       subst (λ x. x ≤ℤ (flow_of c ps text ep).low k) (sym (low_at ep j a))
@@ -277,7 +245,7 @@ module _ (c : Config) (lines : List PlanLine) (config : IsConfig c) (fit : All I
   apart_at ep j h =
       let a = here ep j (omega (arith, h)) in
       let b = here ep (j + 256) h in
-      let same = same_endpoint c.endpoints ep ep a.e b.e a.at b.at refl in
+      let same = endpoints_equal c.endpoints ep ep a.e b.e a.at b.at refl in
       let all = messages_of c ps DownData ep a.e in
       let got_b : slice_get all (j + 256) ≡ Some b.n = subst (λ (e : EndpointConfig). slice_get (messages_of c ps DownData ep e) (j + 256) ≡ Some b.n) (sym same) b.got in
       let none = (no_lesser (dense_from c ps DownData (down_distance c.delays) 0 c.endpoints) (dense_from c ps UpData (up_distance c.delays) 0 c.endpoints) (valid_apart c lines valid)).0 in

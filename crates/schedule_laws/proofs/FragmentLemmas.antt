@@ -16,8 +16,8 @@ use Rattle.unit_laws.specs.unit_model.specs.declared.decoded.ControlSection.{Con
 use Rattle.plan_model.specs.Sent.{SentFrame}
 use Rattle.plan_model.specs.declared.streams.Stream.{Stream}
 use Rattle.plan_model.specs.declared.streams.Stream.TheVariants.{DownCommands, UpCommands, DownData, UpData}
+use Rattle.plan_model.proofs.ListLemmas.{in_right, in_either}
 use Rattle.schedule_laws.specs.Premise.{AreInOrder, IsCopyOf, IsReadBy, Texts, fragment_at}
-use Rattle.schedule_laws.proofs.ListLemmas.{in_right, in_either}
 use Rattle.schedule_laws.proofs.ReadingLemmas.{AreCopies, a_command, a_piece, read_of, reading}
 
 -- ---- one arrival more

@@ -20,9 +20,10 @@ use Rattle.plan_model.specs.Lines.{planned}
 use Rattle.plan_model.specs.Sent.{SentFrame, frames_from, sent}
 use Rattle.plan_model.specs.Valid.{IsValid}
 use Rattle.plan_model.specs.declared.lines.PlannedLine.{PlannedLine}
+use Rattle.plan_model.proofs.ListLemmas.{of_filter}
 use Rattle.schedule_laws.specs.Least.{AreReadable, arrival_of, with_least_delay}
 use Rattle.schedule_laws.specs.Premise.{AllArrive, AreInOrder, IsCopyOf, Texts}
-use Rattle.schedule_laws.proofs.ListLemmas.{in_map, in_onto, of_filter, of_map, onto_right}
+use Rattle.schedule_laws.proofs.ListLemmas.{in_map, in_onto, of_map, onto_right}
 use Rattle.schedule_laws.proofs.OrderLemmas.{IsRising, ticks_rising}
 
 -- what is sent is in the order of time
@@ -33,7 +34,7 @@ sent_rising c ps =
     ticks_rising (λ (f : SentFrame). f.at) first_clock (int_gap first_clock (end_of_time +ℤ pos 1)) (λ t. filter (λ (f : SentFrame). int_eq f.at t) all) (λ t f m.
     (Decides-int_eq f.at t).0 (of_filter (λ (g : SentFrame). int_eq g.at t) f all m).1)
 
-later_both : (a b k : ℤ) → a ≤ℤ b → (a +ℤ k) ≤ℤ (b +ℤ k)
+pub later_both : (a b k : ℤ) → a ≤ℤ b → (a +ℤ k) ≤ℤ (b +ℤ k)
 later_both a b k h = omega (arith, ints, h)
 
 map_rising : (bytes : SentFrame → List ℕ) (k : ℤ) (fs : List SentFrame) → IsRising (λ (f : SentFrame). f.at) fs
@@ -54,10 +55,10 @@ onto_order earlier (x ∷ xs) o r h =
       | inr there ↦ h b y there (inr n)
     ])
 
-least_is : (a k : ℤ) → (a +ℤ k) ≤ℤ (a +ℤ k)
+pub least_is : (a k : ℤ) → (a +ℤ k) ≤ℤ (a +ℤ k)
 least_is a k = omega (arith, ints)
 
-least_under : (a least most : ℤ) → least ≤ℤ most → (a +ℤ least *ℤ pos 1536) ≤ℤ (a +ℤ most *ℤ pos 1536)
+pub least_under : (a least most : ℤ) → least ≤ℤ most → (a +ℤ least *ℤ pos 1536) ≤ℤ (a +ℤ most *ℤ pos 1536)
 least_under a least most h = omega (arith, ints, h)
 
 pub least_arrive : (c : Config) (lines : List PlanLine) (text : Texts) (bytes : SentFrame → List ℕ) → IsConfig c → All IsPlanLine lines → IsValid c lines → PassesCheck c.delays

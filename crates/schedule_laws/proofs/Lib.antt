@@ -1,4 +1,3 @@
-pub mod RangeLemmas
 pub mod ClashLemmas
 pub mod AcceptedLemmas
 pub mod PlanLemmas

@@ -1,12 +1,10 @@
 -- What is known of the lines of a valid plan, and of their parts.
-use Rattle.std.proofs.Common.{◌≡◌, ℕ, ℤ, pos, zero, suc, ◌+◌, ◌<◌, ◌≤◌, ◌+ℤ◌, ◌*ℤ◌, ◌≤ℤ◌, ◌<ℤ◌, Bool, true, false, not, ◌&&◌, ◌==◌, nat_le, nat_lt, if◌then◌else◌, List, [], map, Some, ap, sym, ◌∙◌, subst, arith}
+use Rattle.std.proofs.Common.{◌≡◌, ℕ, ℤ, pos, ◌+◌, ◌<◌, ◌≤◌, ◌+ℤ◌, ◌*ℤ◌, ◌≤ℤ◌, ◌<ℤ◌, Bool, true, false, not, ◌&&◌, ◌==◌, nat_le, nat_lt, List, [], map, ap, sym, ◌∙◌, subst, arith}
 use Rattle.std.specs.Prelude.{All}
-use Rattle.std.specs.List.{slice_get}
-use Rattle.std.proofs.lemmas.Bool.{and_parts, or_parts, eqb-true, ne_eqb, leb-false}
-use Rattle.std.proofs.lemmas.Bool.Decides.{nat_tests}
+use Rattle.std.proofs.lemmas.Bool.{and_parts, or_parts, eqb-true, leb-false, ltb-false}
 use Rattle.std.proofs.lemmas.Int.{ints}
 use Rattle.fh_time.specs.Air.{air_of}
-use Rattle.fh_time.specs.Carrier.{count_of, is_outside}
+use Rattle.fh_time.specs.Carrier.{is_outside}
 use Rattle.fh_time.specs.Numbering.{slots_of, symbols_of}
 use Rattle.fh_time.specs.declared.values.Slot.{Slot}
 use Rattle.fragment_laws.specs.Apart.{IsIn}
@@ -25,12 +23,14 @@ use Rattle.unit_laws.proofs.CellLemmas.{slots_equal}
 use Rattle.plan_model.specs.Lines.{allocation_of, planned}
 use Rattle.plan_model.specs.Streams.{has_part}
 use Rattle.plan_model.specs.Valid.{IsValid}
-use Rattle.plan_model.specs.Validity.{clash}
+use Rattle.plan_model.specs.Validity.{clash, IsProper}
 use Rattle.plan_model.specs.declared.lines.PlannedLine.{PlannedLine}
 use Rattle.plan_model.specs.declared.streams.Stream.{Stream}
 use Rattle.plan_model.specs.declared.streams.Stream.TheVariants.{DownCommands, UpCommands, DownData, UpData}
+use Rattle.plan_model.proofs.TickLemmas.{not_zero}
+use Rattle.plan_model.proofs.SizeLemmas.{some_prbs}
 use Rattle.schedule_laws.proofs.AcceptedLemmas.{AreAllowed}
-use Rattle.schedule_laws.proofs.ClashLemmas.{IsProper, own_clash}
+use Rattle.schedule_laws.proofs.ClashLemmas.{own_clash}
 use Rattle.schedule_laws.proofs.ListLemmas.{of_map, in_all, at_in, numerology_short}
 use Rattle.schedule_laws.proofs.PlanLemmas.{few_uplink, in_range, line_of, one_line, valid_tested}
 use Rattle.schedule_laws.proofs.SentLemmas.{IsSentStream}
@@ -47,13 +47,6 @@ pub record IsGoodLine (es : List EndpointConfig) (p : PlannedLine) : Type 0 wher
   pub prbs : is_outside p.endpoint.prbs p.line.start_prb p.line.num_prb ≡ false
   pub mask : 0 < p.line.mask
 
-not_none : (n : ℕ) → (n == 0) ≡ false → 0 < n
-not_none zero h = absurd cc
-not_none (suc n) h = omega arith
-
-at_most : (a b : ℕ) → nat_lt a b ≡ false → b ≤ a
-at_most a b h = grind (arith, nat_tests)
-
 pub line_good : (c : Config) (lines : List PlanLine) → IsConfig c → All IsPlanLine lines → IsValid c lines → (p : PlannedLine) → IsIn p (planned c.endpoints lines)
     → IsGoodLine c.endpoints p
 line_good c lines config fit valid p m =
@@ -68,18 +61,11 @@ line_good c lines config fit valid p m =
       endpoint = in_all IsEndpoint p.endpoint c.endpoints config.endpoints.each (at_in p.ep p.endpoint c.endpoints l.at);
       fits = in_all IsPlanLine p.line lines fit l.there;
       slot = leb-false (slots_of p.endpoint.numerology) p.line.slot.slot one.0;
-      some = not_none p.line.count two.0;
-      within = at_most (symbols_of p.endpoint.numerology) (p.line.symbol + p.line.count) three.0;
+      some = not_zero p.line.count two.0;
+      within = ltb-false (symbols_of p.endpoint.numerology) (p.line.symbol + p.line.count) three.0;
       prbs = four.0;
-      mask = not_none p.line.mask four.1;
+      mask = not_zero p.line.mask four.1;
     }
-
-some_prbs : (prbs num : ℕ) → 1 ≤ prbs → 0 < count_of prbs num
-some_prbs prbs zero h = h
-some_prbs prbs (suc n) h =
-    let none : (suc n == 0) ≡ false = ne_eqb (suc n) 0 (λ e. omega (arith, e)) in
-    let is : count_of prbs (suc n) ≡ suc n = ap (λ (b : Bool). if b then prbs else suc n) none in
-    omega (arith, is)
 
 pub line_proper : (es : List EndpointConfig) (p : PlannedLine) → IsGoodLine es p → IsProper (allocation_of p)
 line_proper es p g = record { symbols = g.some; prbs = some_prbs p.endpoint.prbs p.line.num_prb g.endpoint.some; mask = g.mask; twelve = g.fits.mask }
@@ -134,12 +120,6 @@ part_line DownCommands s p ep slot symbol h = part_by p ep slot (allocation_of p
 part_line UpCommands s p ep slot symbol h = part_by p ep slot (not (allocation_of p).down) (p.line.symbol == symbol) true h
 part_line DownData s p ep slot symbol h = part_by p ep slot ((allocation_of p).down && not (allocation_of p).idle) _ true h
 part_line UpData s p ep slot symbol h = absurd s
-
-some_same : (a b : EndpointConfig) → Some a ≡ Some b → a ≡ b
-some_same a b h = cc
-
-pub same_endpoint : (es : List EndpointConfig) (i j : ℕ) (e f : EndpointConfig) → IsAt es i e → IsAt es j f → i ≡ j → e ≡ f
-same_endpoint es i j e f p q s = some_same e f (sym p ∙ ap (λ k. slice_get es k) s ∙ q)
 
 -- ---- its start
 

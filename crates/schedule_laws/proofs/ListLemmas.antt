@@ -1,6 +1,6 @@
 -- What is in lists that are made of lists.
-use Rattle.std.proofs.Common.{◌≡◌, ℕ, ℤ, pos, zero, suc, ◌+◌, ◌<◌, ◌≤◌, ◌+ℤ◌, ◌≤ℤ◌, ◌<ℤ◌, ◌⊎◌, inl, inr, Bool, true, false, if◌then◌else◌, List, [], ◌∷◌, ◌++◌, map, Some, refl, ap, ap₂, sym, ◌∙◌, subst, arith, append-nil}
-use Rattle.std.specs.Prelude.{All, filter}
+use Rattle.std.proofs.Common.{◌≡◌, ℕ, ℤ, pos, zero, suc, ◌+◌, ◌<◌, ◌≤◌, ◌+ℤ◌, ◌≤ℤ◌, ◌<ℤ◌, ◌⊎◌, inl, inr, List, [], ◌∷◌, ◌++◌, map, Some, refl, ap, ap₂, sym, subst, arith, append-nil}
+use Rattle.std.specs.Prelude.{All}
 use Rattle.std.specs.Int.{int_gap}
 use Rattle.std.specs.List.{slice_get}
 use Rattle.std.proofs.lemmas.Bool.{cases_eq}
@@ -22,20 +22,7 @@ use Rattle.unit_laws.specs.unit_model.specs.Times.{end_of_time}
 use Rattle.unit_laws.specs.unit_model.proofs.ReachLaws.{IsShort, IsPiece, symbol_piece}
 use Rattle.unit_laws.proofs.SweepLemmas.{IsKept, each_tick_related, of_endpoint_related}
 use Rattle.plan_model.specs.Streams.{over_symbols}
-
-pub in_left : {X : Type 0} (x : X) (xs ys : List X) → IsIn x xs → IsIn x (xs ++ ys)
-in_left x [] ys m = absurd m
-in_left x (y ∷ xs) ys (inl e) = inl e
-in_left x (y ∷ xs) ys (inr t) = inr (in_left x xs ys t)
-
-pub in_right : {X : Type 0} (x : X) (xs ys : List X) → IsIn x ys → IsIn x (xs ++ ys)
-in_right x [] ys m = m
-in_right x (y ∷ xs) ys m = inr (in_right x xs ys m)
-
-pub in_either : {X : Type 0} (x : X) (xs ys : List X) → IsIn x (xs ++ ys) → IsIn x xs ⊎ IsIn x ys
-in_either x [] ys m = inr m
-in_either x (y ∷ xs) ys (inl e) = inl (inl e)
-in_either x (y ∷ xs) ys (inr t) = elim (in_either x xs ys t) [ inl l ↦ inl (inr l) | inr r ↦ inr r ]
+use Rattle.plan_model.proofs.ListLemmas.{in_left, in_right, in_either}
 
 pub in_map : {X Y : Type 0} (f : X → Y) (x : X) (xs : List X) → IsIn x xs → IsIn (f x) (map f xs)
 in_map f x [] m = absurd m
@@ -46,25 +33,6 @@ pub of_map : {X Y : Type 0} (f : X → Y) (y : Y) (xs : List X) → IsIn y (map 
 of_map f y [] m = absurd m
 of_map f y (x ∷ xs) (inl e) = (x, inl refl, e)
 of_map f y (x ∷ xs) (inr t) = let w = of_map f y xs t in (w.0, inr w.1, w.2)
-
-pub in_filter : {X : Type 0} (p : X → Bool) (x : X) (xs : List X) → IsIn x xs → p x ≡ true → IsIn x (filter p xs)
-in_filter p x [] m is = absurd m
-in_filter p x (y ∷ xs) m is = go (p y) refl (λ t. in_filter p x xs t is)
-  where
-    no : true ≡ false → ⊥
-    no h = cc
-
-    go : (b : Bool) → p y ≡ b → (IsIn x xs → IsIn x (filter p xs)) → IsIn x (if b then y ∷ filter p xs else filter p xs)
-    go true e rest = elim m [ inl here ↦ inl here | inr there ↦ inr (rest there) ]
-    go false e rest = elim m [ inl here ↦ absurd (no (sym is ∙ ap p here ∙ e)) | inr there ↦ rest there ]
-
-pub of_filter : {X : Type 0} (p : X → Bool) (x : X) (xs : List X) → IsIn x (filter p xs) → IsIn x xs × (p x ≡ true)
-of_filter p x [] m = absurd m
-of_filter p x (y ∷ xs) m = go (p y) refl m (of_filter p x xs)
-  where
-    go : (b : Bool) → p y ≡ b → IsIn x (if b then y ∷ filter p xs else filter p xs) → (IsIn x (filter p xs) → IsIn x xs × (p x ≡ true)) → IsIn x (y ∷ xs) × (p x ≡ true)
-    go true e n rest = elim n [ inl here ↦ (inl here, ap p here ∙ e) | inr there ↦ (let w = rest there in (inr w.0, w.1)) ]
-    go false e n rest = let w = rest n in (inr w.0, w.1)
 
 pub in_joined : {X : Type 0} (x : X) (xs : List X) (xss : List (List X)) → IsIn xs xss → IsIn x xs → IsIn x (joined xss)
 in_joined x xs [] m n = absurd m

@@ -4,19 +4,16 @@ use Rattle.std.specs.Prelude.{⊤}
 use Rattle.std.specs.List.{fold, slice_get}
 use Rattle.std.proofs.lemmas.Bool.{and_parts, and_from, eq-eqb, leb-true}
 use Rattle.std.proofs.lemmas.Int.{ints}
+use Rattle.std.specs.Int.Signed.{≤ℤ_refl}
 use Rattle.fragment_laws.specs.Apart.{IsIn}
 use Rattle.unit_laws.specs.unit_model.specs.Lists.{each_tick}
 use Rattle.plan_model.specs.Packs.{PartFields, Message, Numbered, alone, frames_before, numbered, numbered_behind, packs, packs_behind, parts_of, same_symbol, size_of, takes, with_part}
-use Rattle.schedule_laws.proofs.ClashLemmas.{slot_own}
-use Rattle.schedule_laws.proofs.ListLemmas.{at_in, in_either}
+use Rattle.plan_model.proofs.SlotLemmas.{slot_own}
+use Rattle.plan_model.proofs.ListLemmas.{in_either}
+use Rattle.schedule_laws.proofs.ListLemmas.{at_in}
 use Rattle.schedule_laws.proofs.PackLemmas.{parts_behind}
 
 -- ---- places
-
-pub get_in : {X : Type 0} (x : X) (xs : List X) → IsIn x xs → (k : ℕ) × (slice_get xs k ≡ Some x)
-get_in x [] m = absurd m
-get_in x (y ∷ xs) (inl e) = (0, ap (λ z. Some z) (sym e))
-get_in x (y ∷ xs) (inr t) = let w = get_in x xs t in (suc w.0, w.1)
 
 pub get_below : {X : Type 0} (k : ℕ) (xs : List X) → k < length xs → (x : X) × (slice_get xs k ≡ Some x)
 get_below k [] h = absurd (omega arith)
@@ -45,12 +42,9 @@ abbrev pub IsRising : {X : Type 0} → (X → ℤ) → List X → Type 0
 IsRising key [] = ⊤
 IsRising key (x ∷ xs) = ((y : _) → IsIn y xs → key x ≤ℤ key y) × IsRising key xs
 
-le_self : (a : ℤ) → a ≤ℤ a
-le_self a = omega (arith, ints)
-
 pub rising_at : {X : Type 0} (key : X → ℤ) (xs : List X) (j k : ℕ) (x y : X) → IsRising key xs → slice_get xs j ≡ Some x → slice_get xs k ≡ Some y → j ≤ k → key x ≤ℤ key y
 rising_at key [] j k x y r p q h = absurd cc
-rising_at key (z ∷ xs) zero zero x y r p q h = let a : z ≡ x = cc in let b : z ≡ y = cc in subst (λ w. key x ≤ℤ key w) (sym a ∙ b) (le_self (key x))
+rising_at key (z ∷ xs) zero zero x y r p q h = let a : z ≡ x = cc in let b : z ≡ y = cc in subst (λ w. key x ≤ℤ key w) (sym a ∙ b) (≤ℤ_refl (key x))
 rising_at key (z ∷ xs) zero (suc k) x y r p q h = let a : z ≡ x = cc in subst (λ w. key w ≤ℤ key y) a (r.0 y (at_in k y xs q))
 rising_at key (z ∷ xs) (suc j) zero x y r p q h = absurd (omega (arith, h))
 rising_at key (z ∷ xs) (suc j) (suc k) x y r p q h = rising_at key xs j k x y r.1 p q (omega (arith, h))
@@ -65,7 +59,7 @@ rising_join key (x ∷ xs) ys p q h = (
 rising_same : {X : Type 0} (key : X → ℤ) (t : ℤ) (xs : List X) → ((x : X) → IsIn x xs → key x ≡ t) → IsRising key xs
 rising_same key t [] h = tt
 rising_same key t (x ∷ xs) h = (
-  λ y m. (let a = h x (inl refl) in let b = h y (inr m) in subst (λ z. key x ≤ℤ z) (a ∙ sym b) (le_self (key x))),
+  λ y m. (let a = h x (inl refl) in let b = h y (inr m) in subst (λ z. key x ≤ℤ z) (a ∙ sym b) (≤ℤ_refl (key x))),
   rising_same key t xs (λ y m. h y (inr m)),
 )
 
@@ -76,7 +70,7 @@ ticks_from : {X : Type 0} (key : X → ℤ) (from : ℤ) (n : ℕ) (f : ℤ → 
 unfolding each_tick
 ticks_from key from zero f h x m = absurd m
 ticks_from key from (suc n) f h x m = elim (in_either x (f from) (each_tick (from +ℤ pos 1) n f) m) [
-  | inl l ↦ subst (λ z. from ≤ℤ z) (sym (h from x l)) (le_self from)
+  | inl l ↦ subst (λ z. from ≤ℤ z) (sym (h from x l)) (≤ℤ_refl from)
   | inr r ↦ later_tick from (key x) (ticks_from key (from +ℤ pos 1) n f h x r)
 ]
 

@@ -3,7 +3,7 @@ use Rattle.std.proofs.Common.{◌≡◌, ℕ, suc, ◌+◌, ◌⊎◌, inl, inr,
 use Rattle.std.proofs.lemmas.Bool.{cases_Bool, ltb-true}
 use Rattle.fragment_laws.specs.Apart.{IsIn}
 use Rattle.plan_model.specs.Packs.{PartFields, Message, Numbered, alone, frames_before, numbered, numbered_behind, packs, packs_behind, parts_of, same_symbol, size_of, takes, with_part}
-use Rattle.schedule_laws.proofs.ListLemmas.{in_left, in_right, in_either}
+use Rattle.plan_model.proofs.ListLemmas.{in_left, in_right, in_either}
 
 module _ {P : Type 0} (f : PartFields P) (most : ℕ) where
   -- each part of a message is one of the parts

@@ -24,7 +24,7 @@ use Rattle.plan_model.specs.declared.dense.Dense.{Dense}
 use Rattle.plan_model.specs.declared.lines.PlannedLine.{PlannedLine}
 use Rattle.plan_model.specs.declared.refusals.PlanWhy.{PlanWhy}
 use Rattle.plan_model.specs.declared.refusals.PlanWhy.TheVariants.{Range, Overlap, TooManySections}
-use Rattle.schedule_laws.proofs.RangeLemmas.{any_in}
+use Rattle.plan_model.proofs.ListLemmas.{any_in}
 use Rattle.schedule_laws.proofs.ClashLemmas.{clash_swap}
 
 -- ---- a line at its endpoint
@@ -119,7 +119,7 @@ in_range earlier (q ∷ ps) p t m = elim m [
   | inr there ↦ in_range (allocation_of q ∷ earlier) ps p t.3 there
 ]
 
-later_clear : (earlier : List Allocation) (ps : List PlannedLine) (p : PlannedLine) (a : Allocation) → AreTested earlier ps → IsIn p ps → IsIn a earlier → clash (allocation_of p) a ≡ false
+pub later_clear : (earlier : List Allocation) (ps : List PlannedLine) (p : PlannedLine) (a : Allocation) → AreTested earlier ps → IsIn p ps → IsIn a earlier → clash (allocation_of p) a ≡ false
 later_clear earlier [] p a t m n = absurd m
 later_clear earlier (q ∷ ps) p a t m n = elim m [
   | inr there ↦ later_clear (allocation_of q ∷ earlier) ps p a t.3 there (inr n)

@@ -21,8 +21,10 @@ use Rattle.plan_model.specs.Streams.{Part, frames_in, has_part, in_stream_order,
 use Rattle.plan_model.specs.declared.lines.PlannedLine.{PlannedLine}
 use Rattle.plan_model.specs.declared.streams.Stream.{Stream}
 use Rattle.plan_model.specs.declared.streams.Stream.TheVariants.{DownCommands, UpCommands, DownData, UpData}
-use Rattle.schedule_laws.proofs.ListLemmas.{in_left, in_right, in_either, in_map, of_map, in_filter, of_filter, in_joined, of_joined, in_each, of_each, in_tick, of_tick, of_symbols, in_symbols}
+use Rattle.plan_model.proofs.ListLemmas.{in_left, in_right, in_either, in_filter, of_filter}
+use Rattle.schedule_laws.proofs.ListLemmas.{in_map, of_map, in_joined, of_joined, in_each, of_each, in_tick, of_tick, of_symbols, in_symbols}
 use Rattle.schedule_laws.proofs.PackLemmas.{part_from, has_message, message_from, has_number}
+use Rattle.schedule_laws.proofs.TimeLemmas.{less_gap}
 
 -- ---- the streams that the distributed unit sends
 
@@ -188,12 +190,6 @@ in_frames c ps start (suc k) (g ∷ es) e f at m =
     let there : start + suc k ≡ start + 1 + k = omega arith in
     in_right f (endpoint_frames c ps start g) (frames_from c ps (start + 1) es) (in_frames c ps (start + 1) k es e f at (subst (λ i. IsIn f (endpoint_frames c ps i e)) there m))
 
-from_gap : (from t : ℤ) → from ≤ℤ t → from +ℤ pos (int_gap from t) ≡ t
-from_gap from t h = gap_is from t h
-
-less_gap : (a b m : ℕ) → m ≡ a + suc b → a < m
-less_gap a b m e = omega (arith, e)
-
 pub is_sent : (c : Config) (ps : List PlannedLine) (stream : Stream) (ep : ℕ) (e : EndpointConfig) (n : Numbered Part) (sub : ℕ) → IsSentStream stream → IsAt c.endpoints ep e
     → IsIn n (messages_of c ps stream ep e) → sub < frames_in c stream n.message
     → first_clock ≤ℤ (frame_of c stream ep e n sub).at → (frame_of c stream ep e n sub).at <ℤ (end_of_time +ℤ pos 1) → IsIn (frame_of c stream ep e n sub) (sent c ps)
@@ -207,5 +203,5 @@ is_sent c ps stream ep e n sub h at m below low high =
     (subst (λ i. IsIn f (endpoint_frames c ps i e)) (sym here) (in_endpoint c ps stream ep e f h (in_stream c ps stream ep e n sub m below))) in
     in_tick f first_clock (int_gap first_clock end) (int_gap first_clock f.at) (λ t. filter (λ (g : SentFrame). int_eq g.at t) all)
     (less_gap (int_gap first_clock f.at) (int_gap (f.at +ℤ pos 1) end) (int_gap first_clock end) (gap_parts first_clock f.at end low high))
-    (subst (λ t. IsIn f (filter (λ (g : SentFrame). int_eq g.at t) all)) (sym (from_gap first_clock f.at low))
+    (subst (λ t. IsIn f (filter (λ (g : SentFrame). int_eq g.at t) all)) (sym (gap_is first_clock f.at low))
     (in_filter (λ (g : SentFrame). int_eq g.at f.at) f all there ((Decides-int_eq f.at f.at).1 refl)))

@@ -1,18 +1,17 @@
 -- Each planned cell radiates exactly once.
-use Rattle.std.proofs.Common.{◌≡◌, ℕ, zero, suc, ℤ, pos, ◌+◌, ◌*◌, ◌<◌, ◌≤◌, ◌+ℤ◌, ◌≤ℤ◌, ◌<ℤ◌, inl, inr, Bool, true, false, not, ◌&&◌, ◌==◌, nat_lt, if◌then◌else◌, List, [], ◌∷◌, refl, ap, sym, ◌∙◌, subst, arith}
+use Rattle.std.proofs.Common.{◌≡◌, ℕ, zero, suc, ℤ, pos, ◌+◌, ◌*◌, ◌<◌, ◌≤◌, ◌+ℤ◌, ◌≤ℤ◌, ◌<ℤ◌, inl, inr, Bool, true, false, not, ◌&&◌, ◌==◌, if◌then◌else◌, List, [], ◌∷◌, refl, ap, sym, ◌∙◌, subst, arith}
 use Rattle.std.specs.Prelude.{All, filter}
-use Rattle.std.proofs.lemmas.Bool.{cases_Bool, cases_eq, and_parts, and_from, eqb-true, ltb-false}
+use Rattle.std.proofs.lemmas.Bool.{cases_Bool, cases_eq, and_parts, and_from, eqb-true}
 use Rattle.std.proofs.lemmas.Int.{ints}
 use Rattle.std.proofs.lemmas.List.Elements.{All-head, All-tail}
 use Rattle.fh_time.specs.Air.{air_of}
-use Rattle.fh_time.specs.Carrier.{count_of, first_of, is_outside}
 use Rattle.fh_time.specs.Numbering.{symbols_of}
 use Rattle.unit_laws.specs.air_source.specs.declared.events.AirCell.{AirCell}
 use Rattle.unit_laws.specs.air_source.specs.declared.events.Side.TheVariants.{Ru}
 use Rattle.fragment_laws.specs.Apart.{IsIn}
 use Rattle.unit_laws.specs.window_config.specs.declared.config.Config.{Config}
 use Rattle.unit_laws.specs.window_config.specs.declared.plan.PlanLine.{PlanLine}
-use Rattle.unit_laws.specs.unit_model.specs.Claims.{cell_at, cell_of, covers, in_mask, is_from, names}
+use Rattle.unit_laws.specs.unit_model.specs.Claims.{cell_at, cell_of, covers, in_mask, names}
 use Rattle.unit_laws.specs.unit_model.specs.Meetings.{Arrival}
 use Rattle.unit_laws.specs.unit_model.specs.Radiated.{first_clock}
 use Rattle.unit_laws.specs.unit_model.specs.Reports.{ru_known, ru_reported}
@@ -25,6 +24,8 @@ use Rattle.unit_laws.proofs.DifferLemmas.{IsOther, other_swap, same_self}
 use Rattle.unit_laws.proofs.DueLemmas.{reported_differ}
 use Rattle.plan_model.specs.Lines.{allocation_of, planned}
 use Rattle.plan_model.specs.declared.lines.PlannedLine.{PlannedLine}
+use Rattle.plan_model.proofs.ListLemmas.{any_in}
+use Rattle.plan_model.proofs.RangeLemmas.{within_carrier}
 use Rattle.schedule_laws.specs.Cells.{mask_below, planned_air, planned_cell, planned_event, planned_mask, planned_symbol, radiates}
 use Rattle.schedule_laws.specs.Data.{AreWritten, Blocks}
 use Rattle.schedule_laws.specs.Premise.{AllArrive, Texts}
@@ -32,7 +33,6 @@ use Rattle.schedule_laws.specs.Singles.{event_of}
 use Rattle.schedule_laws.proofs.CellLemmas.{plan_radiates}
 use Rattle.schedule_laws.proofs.LineLemmas.{good, start_in_time}
 use Rattle.schedule_laws.proofs.ListLemmas.{in_each, in_piece, numerology_short}
-use Rattle.schedule_laws.proofs.RangeLemmas.{any_in}
 
 -- ---- one of a list in which all differ
 
@@ -75,21 +75,6 @@ mask_some test (suc n) re h is e = elim (cases_eq re n) [
     half : (m k : ℕ) → 2 * m + k ≡ 0 → m ≡ 0
     half m k e = omega (arith, e)
 
-pub in_carrier : (prbs start num n : ℕ) → is_outside prbs start num ≡ false → is_from (first_of start num) (count_of prbs num) n ≡ true → n < prbs
-in_carrier prbs start num n out h =
-    let high = from_within (first_of start num) (count_of prbs num) n h in
-    elim (cases_Bool (num == 0)) [
-      | inl none ↦
-          let f : first_of start num ≡ 0 = ap (λ (b : Bool). if b then 0 else start) none in
-          let k : count_of prbs num ≡ prbs = ap (λ (b : Bool). if b then prbs else num) none in
-          omega (arith, high, f, k)
-      | inr some ↦
-          let f : first_of start num ≡ start = ap (λ (b : Bool). if b then 0 else start) some in
-          let k : count_of prbs num ≡ num = ap (λ (b : Bool). if b then prbs else num) some in
-          let fits = ltb-false prbs (start + num) (sym (ap (λ b. not b && nat_lt prbs (start + num)) some) ∙ out) in
-          omega (arith, high, f, k, fits)
-    ]
-
 by_then : (s to : ℤ) → s ≤ℤ to → s <ℤ (to +ℤ pos 1)
 by_then s to h = omega (arith, ints, h)
 
@@ -112,7 +97,7 @@ module _ (c : Config) (lines : List PlanLine) (text : Texts) (blocks : Blocks) (
       let e = p.endpoint in
       let s = air_of e.numerology p.line.slot symbol in
       let symbol_below = under symbol (p.line.symbol + p.line.count) (symbols_of e.numerology) (from_within p.line.symbol p.line.count symbol cover.symbol) g.within in
-      let prb_below = in_carrier e.prbs p.line.start_prb p.line.num_prb prb g.prbs cover.prb in
+      let prb_below = within_carrier e.prbs p.line.start_prb p.line.num_prb prb g.prbs cover.prb in
       let time = start_in_time c.endpoints p symbol g symbol_below in
       let event = event_of blocks ps p symbol prb in
       let it : radiates ps cell re ≡ true = any_in (λ (q : PlannedLine). not (allocation_of q).idle && names (allocation_of q) cell re) p ps m (and_from _ _ (ap not idle) named) in

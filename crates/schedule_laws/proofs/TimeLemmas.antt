@@ -1,5 +1,5 @@
 -- The frame that a frameId means near its own time, and when copies come.
-use Rattle.std.proofs.Common.{◌≡◌, ℕ, ℤ, pos, neg_ℤ, ◌+◌, ◌*◌, ◌<◌, ◌≤◌, ◌+ℤ◌, ◌-ℤ◌, ◌≤ℤ◌, ◌<ℤ◌, min, refl, sym, ◌∙◌, arith}
+use Rattle.std.proofs.Common.{◌≡◌, ℕ, ℤ, pos, neg_ℤ, ◌+◌, ◌*◌, ◌<◌, ◌≤◌, ◌+ℤ◌, ◌-ℤ◌, ◌≤ℤ◌, ◌<ℤ◌, min, zero, suc, refl, sym, ◌∙◌, arith}
 use Rattle.unit_laws.specs.unit_model.specs.Radiated.{first_clock}
 use Rattle.unit_laws.specs.unit_model.specs.Times.{end_of_time}
 use Rattle.unit_laws.specs.window_config.specs.Windows.{ticks_of_ns}
@@ -8,7 +8,7 @@ use Rattle.std.proofs.lemmas.Int.{ints}
 use Rattle.fh_time.specs.Frame.{absolute_frame, first_frame, frame_start}
 use Rattle.fh_time.proofs.Euclid.{parts_256, resolved, one_frame}
 
-pos_same : (m n : ℕ) → pos m ≡ pos n → m ≡ n
+pub pos_same : (m n : ℕ) → pos m ≡ pos n → m ≡ n
 pos_same m n e = omega (arith, ints, e)
 
 -- a frame's low 8 bits are below 256
@@ -48,3 +48,18 @@ in_end s a b = (omega (arith, ints), omega (arith, ints))
 
 pub first_less : (a b c : ℕ) → 0 < b → a + b ≤ c → a < c
 first_less a b c h k = omega (arith, h, k)
+
+pub in_ticks : (a b : ℤ) → a ≤ℤ b → ticks_of_ns a ≤ℤ ticks_of_ns b
+in_ticks a b h = omega (arith, ints, h)
+
+pub by_then : (s wait to : ℤ) → (s +ℤ wait) ≤ℤ to → s <ℤ ((to -ℤ wait) +ℤ pos 1)
+by_then s wait to h = omega (arith, ints, h)
+
+-- ---- counts
+
+pub last_one : (n : ℕ) → 0 < n → (e : ℕ) × (e + 1 ≡ n)
+last_one zero h = absurd (omega arith)
+last_one (suc n) h = (n, omega arith)
+
+pub less_gap : (a b m : ℕ) → m ≡ a + suc b → a < m
+less_gap a b m e = omega (arith, e)

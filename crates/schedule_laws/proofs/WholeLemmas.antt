@@ -35,6 +35,7 @@ use Rattle.unit_laws.specs.unit_model.specs.declared.decoded.UserSection.{UserSe
 use Rattle.unit_laws.specs.unit_model.proofs.ReachLaws.{symbol_soon}
 use Rattle.unit_laws.specs.unit_model.proofs.SweepLaws.{gap_is}
 use Rattle.unit_laws.proofs.CellLemmas.{from_within, slots_equal}
+use Rattle.unit_laws.proofs.FarLemmas.{endpoints_equal}
 use Rattle.plan_model.specs.Departures.{departures_of, sent_at, start_of, width_of}
 use Rattle.plan_model.specs.Lines.{allocation_of, planned}
 use Rattle.plan_model.specs.Packs.{Message, Numbered, packs, parts_of, same_symbol}
@@ -43,20 +44,21 @@ use Rattle.plan_model.specs.Streams.{Part, frames_in, messages_of, part_fields, 
 use Rattle.plan_model.specs.declared.lines.PlannedLine.{PlannedLine}
 use Rattle.plan_model.specs.declared.streams.Stream.{Stream}
 use Rattle.plan_model.specs.declared.streams.Stream.TheVariants.{DownData}
+use Rattle.plan_model.proofs.SlotLemmas.{slot_own, same_slot_fields}
+use Rattle.plan_model.proofs.ListLemmas.{in_right, get_in}
 use Rattle.schedule_laws.specs.Data.{AreSections, AreWritten, Blocks, IsDataFor, IsDecoded}
-use Rattle.schedule_laws.proofs.ClashLemmas.{slot_own}
 use Rattle.schedule_laws.proofs.DataLemmas.{told_in, told_there, told_whole, whole_told}
 use Rattle.schedule_laws.specs.Flows.{bounds_of, flow_of}
 use Rattle.schedule_laws.specs.Premise.{AllArrive, IsCopyOf, Texts, fragment_at}
-use Rattle.schedule_laws.proofs.CommandLemmas.{HasRoom, near_frame, on_time, same_slot_fields}
+use Rattle.schedule_laws.proofs.CommandLemmas.{HasRoom, near_frame, on_time}
 use Rattle.schedule_laws.proofs.FlowLemmas.{Here, below_at, here, leaves_at, message_number, pieces_at, sound}
 use Rattle.schedule_laws.proofs.FragmentLemmas.{IsAnswer, answers_from, answers_there, falling, heard_piece, piece_read, the_whole, told_piece, whole_in}
-use Rattle.schedule_laws.proofs.LineLemmas.{IsGoodLine, good, part_line, same_endpoint, start_in_time}
-use Rattle.schedule_laws.proofs.ListLemmas.{in_right, in_onto, numerology_short, onto_right}
-use Rattle.schedule_laws.proofs.OrderLemmas.{get_in, one_symbol}
+use Rattle.schedule_laws.proofs.LineLemmas.{IsGoodLine, good, part_line, start_in_time}
+use Rattle.schedule_laws.proofs.ListLemmas.{in_onto, numerology_short, onto_right}
+use Rattle.schedule_laws.proofs.OrderLemmas.{one_symbol}
 use Rattle.schedule_laws.proofs.PackLemmas.{message_from}
 use Rattle.schedule_laws.proofs.SentLemmas.{is_sent, message_part, part_is, part_message, part_there, sent_is}
-use Rattle.schedule_laws.proofs.TimeLemmas.{frame_is, in_end, in_time, wait_most}
+use Rattle.schedule_laws.proofs.TimeLemmas.{frame_is, in_end, in_time, wait_most, last_one}
 
 -- ---- the sections of a message
 
@@ -82,10 +84,6 @@ part_section blocks first last (y ∷ xs) (d ∷ ds) x h m = elim m [
 
 the_frame : (n : Numbered Part) (c : Config) (s : Stream) (ep : ℕ) (e : EndpointConfig) (f : SentFrame) (t : Stream) → s ≡ t → f ≡ frame_of c s ep e n f.sub → f.at ≡ sent_at c t n f.sub
 the_frame n c s ep e f t q is = ap (λ (g : SentFrame). g.at) is ∙ ap (λ (r : Stream). sent_at c r n f.sub) q
-
-last_one : (n : ℕ) → 0 < n → (e : ℕ) × (e + 1 ≡ n)
-last_one zero h = absurd (omega arith)
-last_one (suc n) h = (n, omega arith)
 
 module _ (c : Config) (lines : List PlanLine) (text : Texts) (blocks : Blocks) (arrivals : List Arrival) (h : AllArrive c lines text arrivals) (w : AreWritten c (planned c.endpoints lines) text blocks) where
   abbrev ps : List PlannedLine
@@ -124,7 +122,7 @@ module _ (c : Config) (lines : List PlanLine) (text : Texts) (blocks : Blocks) (
       let p = part_is ps DownData tt ep e x m in
       let g = good c lines h.config h.lines_fit h.valid x.planned p.from in
       let place = part_line DownData tt x.planned ep p.slot x.symbol p.has in
-      let same = same_endpoint c.endpoints x.planned.ep ep x.planned.endpoint e g.at at place.ep_is in
+      let same = endpoints_equal c.endpoints x.planned.ep ep x.planned.endpoint e g.at at place.ep_is in
       let one = and_parts ((allocation_of x.planned).down && not (allocation_of x.planned).idle) _ p.has in
       let kind = and_parts (allocation_of x.planned).down (not (allocation_of x.planned).idle) one.0 in
       let two = and_parts (x.planned.ep == ep) _ one.1 in
@@ -386,7 +384,7 @@ module _ (c : Config) (lines : List PlanLine) (text : Texts) (blocks : Blocks) (
       let t = told_in c text (sent c ps) b.hold arrivals h.came d m in
       let v = told_whole (verdict_on b.hold t.x t.earlier) t.f.endpoint t.x (standing_before b.hold t.x t.earlier) d t.told in
       let s = says t.later t.earlier t.x t.is v.0 in
-      let same = same_endpoint c.endpoints t.f.ep t.x.ep t.f.endpoint s.is_here.e (endpoint_at t.f t.sent_is) s.is_here.at (sym t.ep_is) in
+      let same = endpoints_equal c.endpoints t.f.ep t.x.ep t.f.endpoint s.is_here.e (endpoint_at t.f t.sent_is) s.is_here.at (sym t.ep_is) in
       let parts = parts_of s.is_here.n.message in
       let got = section_of blocks s.first s.last (onto [] parts) s.sections d s.are (subst (λ (xs : List UserSection). IsIn d xs) (s.is t.f.endpoint same) v.1) in
       let in_message : IsIn got.0 parts = elim (in_onto got.0 [] parts got.1) [ inl none ↦ absurd none | inr i ↦ i ] in
@@ -406,7 +404,7 @@ module _ (c : Config) (lines : List PlanLine) (text : Texts) (blocks : Blocks) (
       let s = says o.later o.earlier o.x o.is v in
       let ep_is : ep ≡ o.x.ep = sym o.ep_is in
       let j_is : j ≡ s.j = sym o.number ∙ s.number in
-      let same_e = same_endpoint c.endpoints ep o.x.ep a.e s.is_here.e a.at s.is_here.at ep_is in
+      let same_e = endpoints_equal c.endpoints ep o.x.ep a.e s.is_here.e a.at s.is_here.at ep_is in
       let got : slice_get (messages_of c ps DownData o.x.ep s.is_here.e) s.j ≡ Some a.n =
       subst (λ k. slice_get (messages_of c ps DownData o.x.ep s.is_here.e) k ≡ Some a.n) j_is
       (subst (λ (e : EndpointConfig). slice_get (messages_of c ps DownData o.x.ep e) j ≡ Some a.n) same_e

@@ -3,7 +3,7 @@ use Rattle.std.proofs.Common.{◌≡◌, ◌≢◌, ℕ, ℤ, pos, zero, suc, �
 use Rattle.std.specs.Prelude.{filter, nat_lt}
 use Rattle.std.specs.List.{AllByRecursion}
 use Rattle.std.specs.Ordering.{int_eq}
-use Rattle.std.proofs.lemmas.Bool.{and_parts, cases_eq, eq-eqb, eqb-true, ne_eqb}
+use Rattle.std.proofs.lemmas.Bool.{and_parts, cases_eq, eq-eqb, eqb-true, ne_eqb, le-ltb}
 use Rattle.std.proofs.lemmas.Bool.Decides.{Decides-int_eq, nat_tests}
 use Rattle.std.proofs.lemmas.Int.{ints}
 use Rattle.std.proofs.lemmas.List.Elements.{All-from_recursion, All-head, All-nil, All-tail, filter-append, recursion_from_All}
@@ -11,6 +11,7 @@ use Rattle.air_source.specs.declared.links.LinkFrame.{LinkFrame}
 use Rattle.fh_time.specs.declared.values.Ticks.{Ticks}
 use Rattle.uplink_model.specs.unit_model.specs.Lists.{each}
 use Rattle.uplink_model.specs.unit_model.proofs.SweepLaws.{each_none, each_same}
+use Rattle.uplink_model.specs.plan_model.proofs.TickLemmas.{next_tick}
 use Rattle.uplink_model.specs.Sent.{leaves_at, leaving_at, leaving_of}
 use Rattle.uplink_model.specs.SentLaws.{AreOf}
 use Rattle.send_queue.specs.Queues.{AllHaveLeft, AreFrom, AreInTurn, Gives, HasLeft, IsNextTime, IsSilentTo, Leaves, Took, WaitsFor, all_queued, first_time, leaves_after, queued, waiting_at}
@@ -175,9 +176,6 @@ by_endpoint frames f t ep own =
 less_is : (a b : ℕ) → a < b → nat_lt a b ≡ true
 less_is a b h = grind (arith, nat_tests)
 
-not_less_is : (a b : ℕ) → b ≤ a → nat_lt a b ≡ false
-not_less_is a b h = grind (arith, nat_tests)
-
 module _ (frames : List LinkFrame) (f : LinkFrame) (t : ℤ) (own : leaves_at t f ≡ true) where
   -- those of the endpoints behind it
   all_after : (from n : ℕ) → f.ep < from → AllByRecursion (λ g. leaves_after g f ≡ true) (each from n (leaving_of frames t))
@@ -199,7 +197,7 @@ module _ (frames : List LinkFrame) (f : LinkFrame) (t : ℤ) (own : leaves_at t 
   each_queued from zero low high = absurd (omega arith)
   each_queued from (suc n) low high =
       queued_behind f (leaving_of frames t from) (each (from + 1) n (leaving_of frames t))
-      (all_weaker (λ g. leaves_after g f ≡ nat_lt f.ep from) (λ g. leaves_after g f ≡ false) (λ g e. e ∙ not_less_is f.ep from low) (leaving_of frames t from) (by_endpoint frames f t from own))
+      (all_weaker (λ g. leaves_after g f ≡ nat_lt f.ep from) (λ g. leaves_after g f ≡ false) (λ g e. e ∙ le-ltb f.ep from low) (leaving_of frames t from) (by_endpoint frames f t from own))
       ∙ elim (cases_eq f.ep from) [
         | inl here ↦
             ap₂ ◌++◌ refl
@@ -334,9 +332,6 @@ none_waits t (f ∷ fs) from =
 -- what stands behind one that it does not leave before
 no_earlier : (a b : ℤ) (x y : ℕ) → after a x b y ≡ false → a ≤ℤ b
 no_earlier a b x y h = grind (arith, ints, nat_tests)
-
-next_tick : (a b : ℤ) → a ≤ℤ b → (b ≡ a → ⊥) → (a +ℤ pos 1) ≤ℤ b
-next_tick a b h other = let differ : b ≢ a = other in omega (arith, ints)
 
 -- where the first one leaves at another tick, all leave later
 all_later : (tick : Ticks) (q : List LinkFrame) → AreFrom tick.0 q → AreInTurn q → first_time q ≢ Some tick → AreFrom (tick.0 +ℤ pos 1) q

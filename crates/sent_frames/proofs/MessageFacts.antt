@@ -19,6 +19,7 @@ use Rattle.window_config.specs.declared.plan.PlanLine.{PlanLine}
 use Rattle.schedule_laws.specs.unit_model.specs.Claims.{same_slot}
 use Rattle.schedule_laws.specs.unit_model.specs.Proper.{IsAt}
 use Rattle.schedule_laws.specs.unit_laws.proofs.CellLemmas.{slots_equal}
+use Rattle.schedule_laws.specs.unit_laws.proofs.FarLemmas.{endpoints_equal}
 use Rattle.schedule_laws.specs.plan_model.specs.Lines.{planned}
 use Rattle.schedule_laws.specs.plan_model.specs.Packs.{Message, Numbered, packs, parts_of, size_of}
 use Rattle.schedule_laws.specs.plan_model.specs.Streams.{Part, frames_in, messages_of, part_fields, parts_in, section_size as plan_section_size}
@@ -26,12 +27,13 @@ use Rattle.schedule_laws.specs.plan_model.specs.Valid.{IsValid}
 use Rattle.schedule_laws.specs.plan_model.specs.declared.lines.PlannedLine.{PlannedLine}
 use Rattle.schedule_laws.specs.plan_model.specs.declared.streams.Stream.{Stream}
 use Rattle.schedule_laws.specs.plan_model.specs.declared.streams.Stream.TheVariants.{DownData}
+use Rattle.schedule_laws.specs.plan_model.proofs.ListLemmas.{get_in}
 use Rattle.frame_bytes.specs.Messages.{MessageFits, SectionFits, message_size, sections_size}
 use Rattle.frame_bytes.proofs.Sections.{length_message}
 use Rattle.schedule_laws.specs.Flows.{messages_at}
 use Rattle.schedule_laws.proofs.FlowLemmas.{section_short}
-use Rattle.schedule_laws.proofs.LineLemmas.{IsGoodLine, line_good, part_line, same_endpoint}
-use Rattle.schedule_laws.proofs.OrderLemmas.{all_short, get_in, number_is, one_symbol}
+use Rattle.schedule_laws.proofs.LineLemmas.{IsGoodLine, line_good, part_line}
+use Rattle.schedule_laws.proofs.OrderLemmas.{all_short, number_is, one_symbol}
 use Rattle.schedule_laws.proofs.PackLemmas.{message_from}
 use Rattle.schedule_laws.proofs.SentLemmas.{IsSentStream, message_part, part_is}
 use Rattle.sent_frames.specs.Messages.{Source, carrier_of, data_head, data_section, message_bytes, message_samples}
@@ -62,7 +64,7 @@ module _ (c : Config) (lines : List PlanLine) (config : IsConfig c) (fit : All I
       record {
         line = line;
         ep_is = place.ep_is;
-        endpoint_is = same_endpoint c.endpoints x.planned.ep ep x.planned.endpoint e line.at at place.ep_is;
+        endpoint_is = endpoints_equal c.endpoints x.planned.ep ep x.planned.endpoint e line.at at place.ep_is;
         symbol = part.is_symbol;
       }
 
@@ -123,7 +125,7 @@ pub all_map : {X Y : Type 0} (P : Y → Type 0) (f : X → Y) (xs : List X) → 
 all_map P f [] h = λ k d below. absurd (omega (arith, below))
 all_map P f (x ∷ xs) h = All-cons P (f x) (map f xs) (h x (inl refl)) (all_map P f xs (λ y i. h y (inr i)))
 
-below_four : (n : ℕ) → n < 10 → n < 2 ^ 4
+pub below_four : (n : ℕ) → n < 10 → n < 2 ^ 4
 below_four n h = omega (arith, h)
 
 below_six : (n k : ℕ) → n < k → k ≤ 14 → n < 2 ^ 6

@@ -1,10 +1,9 @@
 -- The fragments of a message: their sizes, and that joined they are the message.
-use Rattle.std.proofs.Common.{◌≡◌, ℕ, zero, suc, ◌+◌, ◌-◌, ◌*◌, ◌/◌, ◌<◌, ◌≤◌, min, inl, inr, List, [], ◌∷◌, ◌++◌, length, refl, ap, sym, ◌∙◌, arith, append-nil, append_assoc, length-append}
-use Rattle.std.proofs.lemmas.Bool.{cases_lt}
-use Rattle.std.proofs.Math.Nat.{div-lt_iff_lt-mul}
+use Rattle.std.proofs.Common.{◌≡◌, ℕ, zero, suc, ◌+◌, ◌-◌, ◌*◌, ◌<◌, ◌≤◌, min, List, [], ◌∷◌, ◌++◌, length, refl, ap, sym, ◌∙◌, arith, append-nil, append_assoc, length-append}
 use Rattle.sent_frames.specs.fragment_laws.specs.Flow.{size_to}
 use Rattle.sent_frames.specs.fragment_laws.specs.Once.{texts}
 use Rattle.sent_frames.specs.unit_model.specs.Lists.{joined}
+use Rattle.sent_frames.specs.unit_model.proofs.CountLemmas.{no_time}
 use Rattle.sent_frames.specs.frame_bytes.specs.Cuts.{joined_from, piece_at, pieces_of}
 use Rattle.sent_frames.specs.frame_bytes.proofs.CutBytes.{length_cut}
 use Rattle.sent_frames.specs.frame_bytes.proofs.Joining.{joined_all}
@@ -18,38 +17,17 @@ piece_short fragment bytes k =
     within : (n from f len : ℕ) → n ≡ min (min (from + f) len) len - from → n ≤ f
     within n from f len h = omega (arith, h)
 
--- a message has at most 128 fragments
-pub few_pieces : (fragment size k : ℕ) → 128 ≤ fragment → size ≤ 16384 → k < (size + (fragment - 1)) / fragment → k < 128
-few_pieces fragment size k low few h = elim (cases_lt k 128) [
-  | inl below ↦ below
-  | inr above ↦
-      let under : (size + (fragment - 1)) / fragment < 129 = (div-lt_iff_lt-mul (some fragment low)).1 (bound fragment size low few) in
-      absurd (contradiction k ((size + (fragment - 1)) / fragment) h under above)
-]
-  where
-    some : (f : ℕ) → 128 ≤ f → 0 < f
-    some f h = omega (arith, h)
-
-    bound : (f s : ℕ) → 128 ≤ f → s ≤ 16384 → s + (f - 1) < 129 * f
-    bound f s h k = omega (arith, h, k)
-
-    contradiction : (k q : ℕ) → k < q → q < 129 → 128 ≤ k → ⊥
-    contradiction k q a b c = omega (arith, a, b, c)
-
 -- ---- all of them
 
 joined_last : (xss : List (List ℕ)) (ys : List ℕ) → joined (xss ++ ys ∷ []) ≡ joined xss ++ ys
 joined_last [] ys = append-nil ys
 joined_last (xs ∷ xss) ys = ap (λ zs. xs ++ zs) (joined_last xss ys) ∙ sym (append_assoc xs (joined xss) ys)
 
-next_place : (k n : ℕ) → (k + 1) + n ≡ k + suc n
+pub next_place : (k n : ℕ) → (k + 1) + n ≡ k + suc n
 next_place k n = omega arith
 
-no_place : (k : ℕ) → k ≡ k + 0
-no_place k = omega arith
-
 from_last : (fragment : ℕ) (bytes : List ℕ) (k n : ℕ) → joined_from fragment bytes k (suc n) ≡ joined_from fragment bytes k n ++ piece_at fragment bytes (k + n)
-from_last fragment bytes k zero = append-nil (piece_at fragment bytes k) ∙ ap (λ j. piece_at fragment bytes j) (no_place k)
+from_last fragment bytes k zero = append-nil (piece_at fragment bytes k) ∙ ap (λ j. piece_at fragment bytes j) (no_time k)
 from_last fragment bytes k (suc n) =
     ap (λ zs. piece_at fragment bytes k ++ zs) (from_last fragment bytes (k + 1) n)
     ∙ sym (append_assoc (piece_at fragment bytes k) (joined_from fragment bytes (k + 1) n) (piece_at fragment bytes ((k + 1) + n)))

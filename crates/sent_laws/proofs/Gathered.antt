@@ -10,28 +10,24 @@ use Rattle.sent_frames.specs.uplane_sections.specs.Messages.{Item}
 use Rattle.sent_frames.specs.uplane_sections.specs.declared.values.UHead.{UHead}
 use Rattle.sent_frames.specs.unit_model.specs.Decoding.{Gathering, Part, gathered, with_item}
 use Rattle.sent_frames.specs.unit_model.specs.Lists.{onto}
+use Rattle.sent_frames.specs.unit_model.proofs.CountLemmas.{no_time}
 use Rattle.sent_frames.specs.frame_bytes.specs.Reading.{read_as, section_items, sections_items, shrunk_prbs}
 use Rattle.sent_frames.specs.frame_bytes.specs.declared.messages.Carrier.{Carrier}
 use Rattle.sent_frames.specs.frame_bytes.specs.declared.messages.DataSection.{DataSection}
+use Rattle.sent_laws.proofs.Fragments.{next_place}
 
 -- n shrunk blocks from a PRB on
 abbrev pub shrunk_blocks : Method → (ℕ → List Iq) → ℕ → ℕ → List (List Wide)
 shrunk_blocks method block prb zero = []
 shrunk_blocks method block prb (suc n) = shrunk method (block prb) ∷ shrunk_blocks method block (prb + 1) n
 
-next_one : (prb k : ℕ) → (prb + 1) + k ≡ prb + suc k
-next_one prb k = omega arith
-
-the_first : (prb : ℕ) → prb ≡ prb + 0
-the_first prb = omega arith
-
 one_less : (k n : ℕ) → suc k < suc n → k < n
 one_less k n h = omega (arith, h)
 
 pub block_in : (method : Method) (block : ℕ → List Iq) (prb n k : ℕ) → k < n → slice_index_or (shrunk_blocks method block prb n) k [] ≡ shrunk method (block (prb + k))
 block_in method block prb zero k h = absurd (omega (arith, h))
-block_in method block prb (suc n) zero h = ap (λ j. shrunk method (block j)) (the_first prb)
-block_in method block prb (suc n) (suc k) h = block_in method block (prb + 1) n k (one_less k n h) ∙ ap (λ j. shrunk method (block j)) (next_one prb k)
+block_in method block prb (suc n) zero h = ap (λ j. shrunk method (block j)) (no_time prb)
+block_in method block prb (suc n) (suc k) h = block_in method block (prb + 1) n k (one_less k n h) ∙ ap (λ j. shrunk method (block j)) (next_place prb k)
 
 -- a section as it is gathered
 abbrev pub read_part : Carrier → ℕ → (ℕ → List Iq) → DataSection → Part

@@ -25,12 +25,14 @@ use Rattle.sent_frames.specs.window_config.specs.declared.plan.PlanKind.{PlanKin
 use Rattle.sent_frames.specs.window_config.specs.declared.plan.PlanKind.TheVariants.{Down, Up, Idle}
 use Rattle.sent_frames.specs.unit_model.specs.Commands.{has_no_offsets, has_offsets, is_for, is_idle}
 use Rattle.sent_frames.specs.unit_model.proofs.SweepLaws.{gap_is}
+use Rattle.sent_frames.specs.unit_model.proofs.CountLemmas.{no_time}
 use Rattle.sent_frames.specs.plan_model.specs.Lines.{is_idle as is_idle_line}
 use Rattle.sent_frames.specs.plan_model.specs.declared.lines.PlannedLine.{PlannedLine}
 use Rattle.sent_frames.specs.schedule_laws.proofs.LineLemmas.{IsGoodLine}
-use Rattle.sent_frames.specs.schedule_laws.proofs.TimeLemmas.{id_below}
+use Rattle.sent_frames.specs.schedule_laws.proofs.TimeLemmas.{id_below, first_less}
 use Rattle.sent_frames.specs.frame_bytes.specs.Commands.{IsCommand}
 use Rattle.sent_frames.specs.Commands.{beam_of, body_for, channel_body, command_head, command_section, comp_of, frame_id_of}
+use Rattle.sent_frames.proofs.MessageFacts.{below_four}
 
 -- ---- the frame's low 8 bits
 
@@ -120,17 +122,8 @@ beam_small Idle beam h = omega arith
 
 -- ---- the whole command
 
-below_sum : (a b m : ℕ) → 0 < b → a + b ≤ m → a < m
-below_sum a b m h k = omega (arith, h, k)
-
-pub below_four : (n : ℕ) → n < 10 → n < 2 ^ 4
-below_four n h = omega (arith, h)
-
 pub at_most_nine : (n : ℕ) → n < 10 → n ≤ 9
 at_most_nine n h = omega (arith, h)
-
-itself : (n : ℕ) → n ≡ n + 0
-itself n = omega arith
 
 pub line_command : (es : List EndpointConfig) (p : PlannedLine) → IsGoodLine es p → p.line.num_prb < 2 ^ 8 → IsCommand (command_head p) (command_section p)
 line_command es p g num = record {
@@ -155,8 +148,8 @@ unfolding AreAdmitted
 line_admitted es p g = record {
   subframe = at_most_nine p.line.slot.subframe g.fits.subframe;
   slot = g.slot;
-  start_symbol = below_sum p.line.symbol p.line.count _ g.some g.within;
+  start_symbol = first_less p.line.symbol p.line.count _ g.some g.within;
   some = omega arith;
   count = refl;
-  sections = (record { maintained = itself p.line.symbol; some = g.some; within = g.within; no_beam = no_beam p.line.kind p.endpoint p.line.beam; no_offset = λ h. refl }, tt);
+  sections = (record { maintained = no_time p.line.symbol; some = g.some; within = g.within; no_beam = no_beam p.line.kind p.endpoint p.line.beam; no_offset = λ h. refl }, tt);
 }

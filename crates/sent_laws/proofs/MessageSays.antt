@@ -24,6 +24,7 @@ use Rattle.sent_frames.specs.unit_model.specs.declared.decoded.UserSection.{User
 use Rattle.sent_frames.specs.plan_model.specs.Lines.{allocation_of}
 use Rattle.sent_frames.specs.plan_model.specs.Packs.{Message, parts_of, size_of}
 use Rattle.sent_frames.specs.plan_model.specs.Streams.{Part, part_fields}
+use Rattle.sent_frames.specs.plan_model.proofs.RangeLemmas.{from_high, from_low}
 use Rattle.sent_frames.specs.frame_bytes.specs.Messages.{head_fields, message_of, sections_of}
 use Rattle.sent_frames.specs.frame_bytes.specs.Reading.{IsReadable, sections_items}
 use Rattle.sent_frames.specs.frame_bytes.specs.Spelled.{in_bytes}
@@ -32,7 +33,6 @@ use Rattle.sent_frames.specs.frame_bytes.specs.declared.messages.DataSection.{Da
 use Rattle.sent_frames.specs.frame_bytes.proofs.ReadBack.{head_written, sections_say}
 use Rattle.sent_frames.specs.schedule_laws.specs.Data.{AreSections, Blocks, IsDataFor}
 use Rattle.sent_frames.specs.schedule_laws.proofs.ListLemmas.{at_in}
-use Rattle.sent_frames.specs.schedule_laws.proofs.RangeLemmas.{from_high, from_low}
 use Rattle.sent_frames.specs.Commands.{frame_id_of}
 use Rattle.sent_laws.specs.Frames.{blocks_of}
 use Rattle.sent_frames.specs.Messages.{Source, carrier_of, data_head, data_section, message_bytes, message_samples, part_samples}
@@ -65,13 +65,10 @@ in_or xs k d m = elim (cases_lt k (length xs)) [
     past (x ∷ xs) zero d h = absurd (omega (arith, h))
     past (x ∷ xs) (suc k) d h = past xs k d (omega (arith, h))
 
-below_six : (n m : ℕ) → n < m → m ≤ 14 → n < 2 ^ 6
-below_six n m h k = omega (arith, h, k)
-
-the_place : (first n : ℕ) → first ≤ n → first + (n - first) ≡ n
+pub the_place : (first n : ℕ) → first ≤ n → first + (n - first) ≡ n
 the_place first n h = omega (arith, h)
 
-in_count : (first count n : ℕ) → first ≤ n → n < first + count → n - first < count
+pub in_count : (first count n : ℕ) → first ≤ n → n < first + count → n - first < count
 in_count first count n h k = omega (arith, h, k)
 
 no_step : (place : ℕ) → place + 0 ≡ place

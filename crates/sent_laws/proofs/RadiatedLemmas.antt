@@ -1,6 +1,5 @@
 -- What radiates where copies of the very bytes come.
-use Rattle.std.proofs.Common.{◌≡◌, ℕ, ℤ, ◌*ℤ◌, ◌+ℤ◌, ◌≤ℤ◌, pos, inl, inr, List, [], map, refl, ap, sym, subst, arith}
-use Rattle.std.proofs.lemmas.Int.{ints}
+use Rattle.std.proofs.Common.{◌≡◌, ℕ, ℤ, ◌+ℤ◌, inl, inr, List, [], map, refl, ap, sym, subst}
 use Rattle.sent_frames.specs.air_source.specs.declared.events.Side.TheVariants.{Ru}
 use Rattle.ecpri_frames.specs.Gathering.{whole_messages}
 use Rattle.sent_frames.specs.fragment_laws.specs.Apart.{IsIn}
@@ -13,7 +12,7 @@ use Rattle.sent_frames.specs.plan_model.specs.Sent.{SentFrame, sent}
 use Rattle.sent_frames.specs.schedule_laws.specs.Least.{arrival_of}
 use Rattle.sent_frames.specs.schedule_laws.specs.Premise.{AllArrive, IsCopyOf, IsReadBy}
 use Rattle.sent_frames.specs.schedule_laws.proofs.CellLemmas.{plan_radiates}
-use Rattle.sent_frames.specs.schedule_laws.proofs.LeastLemmas.{least_arrive}
+use Rattle.sent_frames.specs.schedule_laws.proofs.LeastLemmas.{least_arrive, least_is, least_under}
 use Rattle.sent_frames.specs.schedule_laws.proofs.ListLemmas.{in_map, in_onto, of_map, onto_right}
 use Rattle.sent_frames.specs.schedule_laws.proofs.SingleLemmas.{radiates_once}
 use Rattle.sent_frames.specs.Frames.{sent_bytes}
@@ -54,12 +53,6 @@ sent_once c lines source arrivals s h =
     radiates_once c lines (texts_of c (planned c.endpoints lines) source) (blocks_of c source) arrivals (arrive c lines source s arrivals h) (messages_say c lines source s)
 
 -- ---- the least delays
-
-least_is : (a k : ℤ) → (a +ℤ k) ≤ℤ (a +ℤ k)
-least_is a k = omega (arith, ints)
-
-least_under : (a least most : ℤ) → least ≤ℤ most → (a +ℤ least *ℤ pos 1536) ≤ℤ (a +ℤ most *ℤ pos 1536)
-least_under a least most h = omega (arith, ints, h)
 
 pub least_come : LeastCopiesArrive
 least_come c lines source s check =

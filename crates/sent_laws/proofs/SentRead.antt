@@ -29,6 +29,7 @@ use Rattle.sent_frames.specs.plan_model.specs.Streams.{Part, frames_in, messages
 use Rattle.sent_frames.specs.plan_model.specs.declared.lines.PlannedLine.{PlannedLine}
 use Rattle.sent_frames.specs.plan_model.specs.declared.streams.Stream.{Stream}
 use Rattle.sent_frames.specs.plan_model.specs.declared.streams.Stream.TheVariants.{DownCommands, UpCommands, DownData, UpData}
+use Rattle.sent_frames.specs.plan_model.proofs.SizeLemmas.{few_pieces}
 use Rattle.sent_frames.specs.frame_bytes.specs.Commands.{command_of, head_fields, section_fields}
 use Rattle.sent_frames.specs.frame_bytes.specs.Cuts.{piece_at, pieces_of}
 use Rattle.sent_frames.specs.frame_bytes.specs.Spelled.{in_bytes}
@@ -49,7 +50,7 @@ use Rattle.sent_laws.specs.Frames.{blocks_of, texts_of}
 use Rattle.sent_frames.specs.Messages.{Source, message_bytes}
 use Rattle.sent_laws.specs.Sent.{IsSendable, SentFramesAreRead, SentMessagesSay}
 use Rattle.sent_laws.proofs.CommandRead.{command_frame_met, fragment_frame_met}
-use Rattle.sent_laws.proofs.Fragments.{few_pieces, fragments_joined, piece_short, size_joined}
+use Rattle.sent_laws.proofs.Fragments.{fragments_joined, piece_short, size_joined}
 use Rattle.sent_laws.proofs.LineFields.{body_idle, body_is_for, frame_id_is, line_admitted, line_command}
 use Rattle.sent_laws.proofs.MessageSays.{are_sections, is_decoded, sections_read}
 use Rattle.sent_frames.proofs.MessageFacts.{IsGoodPart, good_message, good_part, got_message, length_bytes, message_short}
@@ -81,13 +82,13 @@ command_short h s =
     (length-in_bytes (size_of_section (kind_of h.body)) (section_fields (kind_of h.body) s) (section_width (kind_of h.body) s))
     (head_short (kind_of h.body)) (section_short (kind_of h.body))
 
-in_size : (n f : ℕ) → n ≤ f → f ≤ 9000 → 4 + n < 2 ^ 16
+pub in_size : (n f : ℕ) → n ≤ f → f ≤ 9000 → 4 + n < 2 ^ 16
 in_size n f h k = omega (arith, h, k)
 
-some_bytes : (f : ℕ) → 128 ≤ f → 0 < f
+pub some_bytes : (f : ℕ) → 128 ≤ f → 0 < f
 some_bytes f h = omega (arith, h)
 
-low_byte : (n : ℕ) → n % 256 < 2 ^ 8
+pub low_byte : (n : ℕ) → n % 256 < 2 ^ 8
 low_byte n = mod_below n 256 (omega arith)
 
 module _ (c : Config) (lines : List PlanLine) (source : Source) (s : IsSendable c lines source) where

@@ -15,6 +15,7 @@ use Rattle.schedule_laws.specs.unit_model.specs.Proper.{IsAt}
 use Rattle.schedule_laws.specs.unit_model.specs.Radiated.{first_clock}
 use Rattle.schedule_laws.specs.unit_model.specs.Times.{end_of_time}
 use Rattle.schedule_laws.specs.unit_model.proofs.SweepLaws.{gap_is}
+use Rattle.schedule_laws.specs.unit_laws.proofs.FarLemmas.{endpoints_equal}
 use Rattle.schedule_laws.specs.plan_model.specs.Departures.{departures_of, sending_window, sent_at, start_of, width_of}
 use Rattle.schedule_laws.specs.plan_model.specs.Lines.{planned}
 use Rattle.schedule_laws.specs.plan_model.specs.Packs.{Numbered}
@@ -24,10 +25,10 @@ use Rattle.schedule_laws.specs.plan_model.specs.Valid.{IsValid}
 use Rattle.schedule_laws.specs.plan_model.specs.declared.lines.PlannedLine.{PlannedLine}
 use Rattle.schedule_laws.specs.plan_model.specs.declared.streams.Stream.{Stream}
 use Rattle.schedule_laws.specs.plan_model.specs.declared.streams.Stream.TheVariants.{DownCommands, UpCommands, DownData, UpData}
-use Rattle.schedule_laws.proofs.LineLemmas.{good, part_line, same_endpoint, start_in_time}
-use Rattle.schedule_laws.proofs.ListLemmas.{in_either}
+use Rattle.schedule_laws.specs.plan_model.proofs.ListLemmas.{in_either}
+use Rattle.schedule_laws.proofs.LineLemmas.{good, part_line, start_in_time}
 use Rattle.schedule_laws.proofs.SentLemmas.{IsSentStream, message_part, part_is}
-use Rattle.schedule_laws.proofs.TimeLemmas.{in_time, wait_most}
+use Rattle.schedule_laws.proofs.TimeLemmas.{in_time, wait_most, in_ticks}
 use Rattle.sent_order.proofs.KeptLemmas.{of_message, of_messages}
 
 abbrev pub IsInTime : ℤ → Type 0
@@ -35,9 +36,6 @@ IsInTime t = (first_clock ≤ℤ t) × (t <ℤ (first_clock +ℤ pos (int_gap fi
 
 to_end : (t : ℤ) → first_clock ≤ℤ t → t <ℤ (end_of_time +ℤ pos 1) → IsInTime t
 to_end t low high = (low, subst (λ (z : ℤ). t <ℤ z) (sym (gap_is first_clock (end_of_time +ℤ pos 1) (omega (arith, ints)))) high)
-
-pub in_ticks : (x y : ℤ) → x ≤ℤ y → ticks_of_ns x ≤ℤ ticks_of_ns y
-in_ticks x y h = omega (arith, ints, h)
 
 module _ (c : Config) (lines : List PlanLine) (config : IsConfig c) (fit : All IsPlanLine lines) (valid : IsValid c lines) where
   abbrev ps : List PlannedLine
@@ -67,7 +65,7 @@ module _ (c : Config) (lines : List PlanLine) (config : IsConfig c) (fit : All I
       let part = part_is ps stream s ep e x m in
       let place = part_line stream s x.planned ep part.slot x.symbol part.has in
       let g = good c lines config fit valid x.planned part.from in
-      let same = same_endpoint c.endpoints x.planned.ep ep x.planned.endpoint e g.at at place.ep_is in
+      let same = endpoints_equal c.endpoints x.planned.ep ep x.planned.endpoint e g.at at place.ep_is in
       start_in_time c.endpoints x.planned x.symbol g (subst (λ (y : EndpointConfig). x.symbol < symbols_of y.numerology) (sym same) part.is_symbol)
 
   message_time : (stream : Stream) → IsSentStream stream → (ep : ℕ) (e : EndpointConfig) → IsAt c.endpoints ep e → (n : Numbered Part) → IsIn n (messages_of c ps stream ep e) → (sub : ℕ)

@@ -17,8 +17,10 @@ use Rattle.schedule_laws.specs.plan_model.specs.Streams.{Part, frames_in, messag
 use Rattle.schedule_laws.specs.plan_model.specs.declared.lines.PlannedLine.{PlannedLine}
 use Rattle.schedule_laws.specs.plan_model.specs.declared.streams.Stream.{Stream}
 use Rattle.schedule_laws.specs.plan_model.specs.declared.streams.Stream.TheVariants.{DownCommands, UpCommands, DownData}
+use Rattle.schedule_laws.specs.plan_model.proofs.ListLemmas.{in_either, of_filter}
+use Rattle.schedule_laws.specs.plan_model.proofs.TickLemmas.{nat_same, int_same}
 use Rattle.frame_order.specs.Turns.{AreRising, IsUpTo}
-use Rattle.schedule_laws.proofs.ListLemmas.{in_either, of_each, of_filter, of_joined, of_map}
+use Rattle.schedule_laws.proofs.ListLemmas.{of_each, of_joined, of_map}
 use Rattle.sent_order.specs.Runs.{place_of, turn_of}
 
 -- ---- lists in which each stands so to all behind it
@@ -49,20 +51,14 @@ abbrev pub IsBehind : SentFrame → SentFrame → Type 0
 IsBehind f g = (f.ep < g.ep) ⊎ ((f.ep ≡ g.ep) × ((place_of f.stream < place_of g.stream) ⊎ ((place_of f.stream ≡ place_of g.stream)
     × ((f.number < g.number) ⊎ ((f.number ≡ g.number) × (f.sub ≤ g.sub))))))
 
-nat_less : (x y : ℕ) → x < y → nat_cmp x y ≡ Less
+pub nat_less : (x y : ℕ) → x < y → nat_cmp x y ≡ Less
 nat_less x y h = grind (arith, nat_tests)
-
-nat_same : (x y : ℕ) → x ≡ y → nat_cmp x y ≡ Equal
-nat_same x y h = grind (arith, nat_tests)
 
 nat_up : (x y : ℕ) → x ≤ y → is_gt (nat_cmp x y) ≡ false
 nat_up x y h = grind (arith, nat_tests)
 
 int_less : (x y : ℤ) → x <ℤ y → int_cmp x y ≡ Less
 int_less x y h = grind (arith, ints, nat_tests)
-
-int_same : (x y : ℤ) → x ≡ y → int_cmp x y ≡ Equal
-int_same x y h = grind (arith, ints, nat_tests)
 
 first_less : (o q : Ordering) → o ≡ Less → is_gt (ordering_then o q) ≡ false
 first_less o q e = rw e refl

@@ -28,8 +28,9 @@ use Rattle.schedule_laws.proofs.LineLemmas.{good}
 use Rattle.schedule_laws.proofs.OrderLemmas.{all_short}
 use Rattle.schedule_laws.proofs.PackLemmas.{message_from}
 use Rattle.schedule_laws.proofs.SentLemmas.{IsSentStream, message_part, part_is}
+use Rattle.schedule_laws.proofs.TimeLemmas.{in_ticks}
 use Rattle.sent_order.specs.Runs.{MessagesAreRuns, endpoint_runs, latest, run_of, runs_from, stream_runs}
-use Rattle.sent_order.proofs.BoundLemmas.{in_ticks, most_before, part_time}
+use Rattle.sent_order.proofs.BoundLemmas.{most_before, part_time}
 
 few_frames : (fragment size : ℕ) → 128 ≤ fragment → size ≤ 16384 → frames_for fragment size ≤ 128
 few_frames fragment size h k =

@@ -1,7 +1,6 @@
 -- What tests rest on: the unit stands for some history after each call.
-use Rattle.std.proofs.Common.{◌≡◌, ◌∷◌, ◌++◌, All, ℤ, pos, ◌-ℤ◌, List, [], sym, subst, arith, ◌≤ℤ◌, ◌<ℤ◌, Result, Ok, Err, OnOk, OnErr, IfErr, IfOk}
+use Rattle.std.proofs.Common.{◌≡◌, ◌∷◌, ◌++◌, All, ℤ, List, [], sym, subst, Result, Ok, Err, OnOk, OnErr, IfErr, IfOk}
 use Rattle.std.specs.Prelude.{Option, Some, None, IfSome, IfNone}
-use Rattle.std.proofs.lemmas.Int.{ints}
 use Rattle.std.proofs.lemmas.List.Elements.{All-nil, All-push}
 use Rattle.plain_units.specs.air_source.specs.declared.airs.AirFault.{AirFault}
 use Rattle.plain_units.specs.air_source.specs.declared.events.Event.{Event}
@@ -32,9 +31,6 @@ both_ways P (Err e) p q = q
 pub some_given : (c : Config) (h : History) (u v : Ru) (r : Option UplinkJob) → StandsFor c u h → IfSome r (λ job. GivesJob c h job v) → IfNone r (v ≡ u) → StandsForSome v
 some_given c h u v (Some job) all g same = record { config = c; history = handed h job; stands = g.stands }
 some_given c h u v None all g same = record { config = c; history = h; stands = subst (λ (x : Ru). StandsFor c x h) (sym same) all }
-
-pub last_before : (a b : ℤ) → a ≤ℤ b → (a -ℤ pos 1) <ℤ b
-last_before a b h = omega (arith, ints)
 
 abbrev HasTime : SpecFrame → Type 0
 HasTime f = IsTime f.at.0

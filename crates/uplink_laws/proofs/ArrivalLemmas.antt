@@ -26,9 +26,9 @@ use Rattle.sent_laws.specs.plan_model.specs.Packs.{Message, Numbered}
 use Rattle.sent_laws.specs.plan_model.specs.Streams.{Part, frames_in, messages_of}
 use Rattle.sent_laws.specs.plan_model.specs.declared.lines.PlannedLine.{PlannedLine}
 use Rattle.sent_laws.specs.plan_model.specs.declared.streams.Stream.TheVariants.{UpData}
+use Rattle.sent_laws.specs.plan_model.proofs.ListLemmas.{in_either, in_filter, of_filter, get_in, the_one}
 use Rattle.sent_laws.specs.schedule_laws.specs.Premise.{AreInOrder}
-use Rattle.sent_laws.specs.schedule_laws.proofs.ListLemmas.{in_each, in_either, in_filter, in_joined, in_map, of_each, of_filter, of_joined, of_map}
-use Rattle.sent_laws.specs.schedule_laws.proofs.OrderLemmas.{get_in}
+use Rattle.sent_laws.specs.schedule_laws.proofs.ListLemmas.{in_each, in_joined, in_map, of_each, of_joined, of_map}
 use Rattle.sent_laws.specs.sent_frames.specs.Messages.{Source}
 use Rattle.uplink_streams.specs.uplink_model.specs.Frames.{Antenna, frame_of, frames_behind, frames_from, message_frames}
 use Rattle.uplink_streams.specs.uplink_model.specs.Messages.{frame_count, frames_before, messages_of as job_messages, number_behind}
@@ -41,10 +41,6 @@ use Rattle.uplink_laws.proofs.FlowLemmas.{Here, below_at, here, leaves_at, piece
 use Rattle.uplink_laws.proofs.JobLemmas.{jobs_planned}
 use Rattle.uplink_laws.proofs.PartLemmas.{message_number}
 use Rattle.uplink_laws.proofs.ReadLemmas.{fragment_at, frame_read, size_is}
-
-the_one : {X : Type 0} (x y : X) → IsIn x (y ∷ []) → x ≡ y
-the_one x y (inl same) = same
-the_one x y (inr t) = absurd t
 
 -- ---- each frame is of an endpoint
 

@@ -22,10 +22,10 @@ use Rattle.sent_laws.specs.unit_laws.proofs.CellLemmas.{covers_is, data_covers_i
 use Rattle.sent_laws.specs.plan_model.specs.Lines.{allocation_of, is_down, is_idle, planned}
 use Rattle.sent_laws.specs.plan_model.specs.Streams.{Part, part_in}
 use Rattle.sent_laws.specs.plan_model.specs.declared.lines.PlannedLine.{PlannedLine}
+use Rattle.sent_laws.specs.plan_model.proofs.SlotLemmas.{slot_own, way_own}
 use Rattle.sent_laws.specs.schedule_laws.specs.Data.{Blocks, planned_block, radiates_in}
 use Rattle.sent_laws.specs.schedule_laws.proofs.BlockLemmas.{Radiating, find_radiating, no_block, one_block, planned_none, planned_one, radiated_by, same_block, same_cell, silent}
 use Rattle.sent_laws.specs.schedule_laws.proofs.CellLemmas.{one_section}
-use Rattle.sent_laws.specs.schedule_laws.proofs.ClashLemmas.{slot_own, way_own}
 use Rattle.sent_laws.specs.sent_frames.specs.Messages.{Source}
 use Rattle.uplink_streams.specs.uplink_model.specs.Frames.{Antenna}
 use Rattle.uplink_laws.specs.Data.{AreDecodedOnce, IsDataFor, blocks_of}

@@ -24,6 +24,7 @@ use Rattle.sent_laws.specs.unit_laws.proofs.ReportLemmas.{report_same}
 use Rattle.sent_laws.specs.unit_laws.proofs.SweepLemmas.{sweep-same}
 use Rattle.sent_laws.specs.plan_model.specs.Lines.{allocation_of, planned}
 use Rattle.sent_laws.specs.plan_model.specs.declared.lines.PlannedLine.{PlannedLine}
+use Rattle.sent_laws.specs.plan_model.proofs.ListLemmas.{among, in_filter}
 use Rattle.sent_laws.specs.schedule_laws.specs.Cells.{planned_mask, planned_section, radiates}
 use Rattle.sent_laws.specs.schedule_laws.specs.Data.{Blocks, planned_block, radiates_in}
 use Rattle.sent_laws.specs.schedule_laws.proofs.AcceptedLemmas.{AreAllowed}
@@ -31,8 +32,7 @@ use Rattle.sent_laws.specs.schedule_laws.proofs.BlockLemmas.{planned_one}
 use Rattle.sent_laws.specs.schedule_laws.proofs.CellLemmas.{all_under, has_element, id_is, line_claims, mask_is, one_section, own_samples, section_is}
 use Rattle.sent_laws.specs.schedule_laws.proofs.ClashLemmas.{IsClear, find_named, named_by, no_claim, own_claim, unnamed}
 use Rattle.sent_laws.specs.schedule_laws.proofs.LineLemmas.{allowed}
-use Rattle.sent_laws.specs.schedule_laws.proofs.ListLemmas.{in_filter, in_map, of_map}
-use Rattle.sent_laws.specs.schedule_laws.proofs.RangeLemmas.{among}
+use Rattle.sent_laws.specs.schedule_laws.proofs.ListLemmas.{in_map, of_map}
 use Rattle.sent_laws.specs.sent_frames.specs.Messages.{Source}
 use Rattle.uplink_streams.specs.uplink_model.specs.Frames.{Antenna}
 use Rattle.uplink_laws.specs.Cells.{taken_air, taken_cell, taken_event, taken_symbol}

@@ -29,16 +29,17 @@ use Rattle.sent_laws.specs.unit_model.specs.Meetings.{Arrival, Meeting, Piece, f
 use Rattle.sent_laws.specs.unit_model.specs.Proper.{IsAt}
 use Rattle.sent_laws.specs.unit_model.specs.declared.decoded.UserSection.{UserSection}
 use Rattle.sent_laws.specs.unit_model.proofs.ReachLaws.{symbol_soon}
+use Rattle.sent_laws.specs.unit_laws.proofs.FarLemmas.{endpoints_equal}
 use Rattle.sent_laws.specs.plan_model.specs.Departures.{start_of}
 use Rattle.sent_laws.specs.plan_model.specs.Lines.{planned}
 use Rattle.sent_laws.specs.plan_model.specs.Packs.{Numbered, parts_of}
 use Rattle.sent_laws.specs.plan_model.specs.Streams.{Part, frames_in, messages_of, part_in}
 use Rattle.sent_laws.specs.plan_model.specs.declared.lines.PlannedLine.{PlannedLine}
 use Rattle.sent_laws.specs.plan_model.specs.declared.streams.Stream.TheVariants.{UpData}
-use Rattle.sent_laws.specs.schedule_laws.proofs.CommandLemmas.{same_slot_fields}
+use Rattle.sent_laws.specs.plan_model.proofs.SlotLemmas.{same_slot_fields}
+use Rattle.sent_laws.specs.plan_model.proofs.ListLemmas.{in_either, in_left, in_right}
 use Rattle.sent_laws.specs.schedule_laws.proofs.FragmentLemmas.{answers_from, answers_there, the_whole, whole_in}
-use Rattle.sent_laws.specs.schedule_laws.proofs.LineLemmas.{same_endpoint}
-use Rattle.sent_laws.specs.schedule_laws.proofs.ListLemmas.{in_either, in_left, in_onto, in_right, numerology_short, onto_right}
+use Rattle.sent_laws.specs.schedule_laws.proofs.ListLemmas.{in_onto, numerology_short, onto_right}
 use Rattle.sent_laws.specs.schedule_laws.proofs.TimeLemmas.{frame_is}
 use Rattle.sent_laws.specs.sent_frames.specs.Messages.{Source}
 use Rattle.uplink_streams.specs.uplink_model.specs.Frames.{Antenna}
@@ -191,7 +192,7 @@ module _ (c : Config) (lines : List PlanLine) (source : Source) (antenna : Anten
       subst (λ (xs : List UserSection). IsIn d xs) (sym (sections_piece c hold a before w.e y w.read))
       (elim (split_of later earlier rest x y (sym (fragments_piece c a before w.e y w.read) ∙ is)) [
         | inl now ↦
-            let same = same_endpoint c.endpoints x.ep w.ep e w.e at w.at (ap (λ (z : Fragment). z.ep) (sym now.0)) in
+            let same = endpoints_equal c.endpoints x.ep w.ep e w.e at w.at (ap (λ (z : Fragment). z.ep) (sym now.0)) in
             in_left d (data_told (data_now Du hold w.e y rest)) old
             (subst (λ (z : Fragment). IsIn d (data_told (data_now Du hold w.e z rest))) (sym now.0)
             (subst (λ (g : EndpointConfig). IsIn d (data_told (data_now Du hold g x rest))) same
@@ -309,7 +310,7 @@ module _ (c : Config) (lines : List PlanLine) (source : Source) (antenna : Anten
       let t = told_in up (came c lines source antenna down up h) d m in
       let v = told_whole (verdict_on hold t.x t.earlier) t.e t.x (standing_before hold t.x t.earlier) d t.told in
       let s = says_now t.later t.earlier t.x t.is v.0 in
-      let same = same_endpoint c.endpoints t.x.ep t.x.ep t.e s.is_here.e t.at s.is_here.at refl in
+      let same = endpoints_equal c.endpoints t.x.ep t.x.ep t.e s.is_here.e t.at s.is_here.at refl in
       let parts = parts_of s.is_here.n.message in
       let got = section_from (blocks_of c antenna) s.first s.last (onto [] parts) s.sections d s.are (subst (λ (xs : List UserSection). IsIn d xs) (s.is t.e same) v.1) in
       let in_message : IsIn got.0 parts = elim (in_onto got.0 [] parts got.1) [ inl none ↦ absurd none | inr i ↦ i ] in
@@ -328,7 +329,7 @@ module _ (c : Config) (lines : List PlanLine) (source : Source) (antenna : Anten
       let s = says_now o.later o.earlier o.x o.is v in
       let ep_is : ep ≡ o.x.ep = sym o.ep_is in
       let j_is : j ≡ s.j = sym o.number ∙ s.number in
-      let same_e = same_endpoint c.endpoints ep o.x.ep a.e s.is_here.e a.at s.is_here.at ep_is in
+      let same_e = endpoints_equal c.endpoints ep o.x.ep a.e s.is_here.e a.at s.is_here.at ep_is in
       let got : slice_get (messages_of c ps UpData o.x.ep s.is_here.e) s.j ≡ Some a.n =
       subst (λ k. slice_get (messages_of c ps UpData o.x.ep s.is_here.e) k ≡ Some a.n) j_is
       (subst (λ (e : EndpointConfig). slice_get (messages_of c ps UpData o.x.ep e) j ≡ Some a.n) same_e

@@ -23,6 +23,7 @@ use Rattle.sent_laws.specs.unit_model.specs.Sweeps.{of_endpoint}
 use Rattle.sent_laws.specs.unit_model.specs.Times.{end_of_time}
 use Rattle.sent_laws.specs.unit_model.proofs.SweepLaws.{gap_is}
 use Rattle.sent_laws.specs.unit_laws.proofs.SweepLemmas.{of_endpoint_related}
+use Rattle.sent_laws.specs.unit_laws.proofs.FarLemmas.{endpoints_equal}
 use Rattle.sent_laws.specs.plan_model.specs.Dense.{dense_from, dense_in, down_distance, sending_of, sendings, up_distance}
 use Rattle.sent_laws.specs.plan_model.specs.Departures.{departures_of, sent_at, start_of}
 use Rattle.sent_laws.specs.plan_model.specs.Lines.{planned}
@@ -32,7 +33,7 @@ use Rattle.sent_laws.specs.plan_model.specs.Valid.{IsValid}
 use Rattle.sent_laws.specs.plan_model.specs.declared.lines.PlannedLine.{PlannedLine}
 use Rattle.sent_laws.specs.plan_model.specs.declared.streams.Stream.TheVariants.{DownData, UpData}
 use Rattle.sent_laws.specs.schedule_laws.proofs.FlowLemmas.{distant, no_lesser, none_dense, not_near, some_frames}
-use Rattle.sent_laws.specs.schedule_laws.proofs.LineLemmas.{good, same_endpoint}
+use Rattle.sent_laws.specs.schedule_laws.proofs.LineLemmas.{good}
 use Rattle.sent_laws.specs.schedule_laws.proofs.ListLemmas.{IsAll, all_kept, at_in}
 use Rattle.sent_laws.specs.schedule_laws.proofs.OrderLemmas.{IsRising, below_get, get_below, get_drop, get_map, numbered_rising, packs_rising, rising_at, ticks_rising}
 use Rattle.sent_laws.specs.schedule_laws.proofs.PlanLemmas.{valid_apart}
@@ -53,7 +54,7 @@ module _ (c : Config) (lines : List PlanLine) (config : IsConfig c) (fit : All I
       let w = symbol_part ps ep e slot symbol x m in
       let s = sent_in x.planned ep slot symbol w.1 in
       let g = good c lines config fit valid x.planned w.0 in
-      let same = same_endpoint c.endpoints x.planned.ep ep x.planned.endpoint e g.at at s.ep_is in
+      let same = endpoints_equal c.endpoints x.planned.ep ep x.planned.endpoint e g.at at s.ep_is in
       ap (λ (f : EndpointConfig). air_of f.numerology x.planned.line.slot x.symbol) same
       ∙ ap₂ (λ (t : Slot) (y : ℕ). air_of e.numerology t y) s.slot_is w.2
 
@@ -126,7 +127,7 @@ module _ (c : Config) (lines : List PlanLine) (config : IsConfig c) (fit : All I
   rising_low ep j k le h =
       let a = here ep j (omega (arith, le, h)) in
       let b = here ep k h in
-      let same = same_endpoint c.endpoints ep ep a.e b.e a.at b.at refl in
+      let same = endpoints_equal c.endpoints ep ep a.e b.e a.at b.at refl in
       let got_b : slice_get (messages_of c ps UpData ep a.e) k ≡ Some b.n = subst (λ (e : EndpointConfig). slice_get (messages_of c ps UpData ep e) k ≡ Some b.n) (sym same) b.got in
       let r = rising_at (λ (n : Numbered Part). start_of n.message.first) (messages_of c ps UpData ep a.e) j k a.n b.n (messages_rising ep a.e a.at) a.got got_b le in
       both (start_at c ps ep j) (start_at c ps ep k) (departures_of c UpData).from.0
@@ -142,7 +143,7 @@ module _ (c : Config) (lines : List PlanLine) (config : IsConfig c) (fit : All I
   apart_at ep j h =
       let a = here ep j (omega (arith, h)) in
       let b = here ep (j + 256) h in
-      let same = same_endpoint c.endpoints ep ep a.e b.e a.at b.at refl in
+      let same = endpoints_equal c.endpoints ep ep a.e b.e a.at b.at refl in
       let all = messages_of c ps UpData ep a.e in
       let got_b : slice_get all (j + 256) ≡ Some b.n = subst (λ (e : EndpointConfig). slice_get (messages_of c ps UpData ep e) (j + 256) ≡ Some b.n) (sym same) b.got in
       let none = (no_lesser (dense_from c ps DownData (down_distance c.delays) 0 c.endpoints) (dense_from c ps UpData (up_distance c.delays) 0 c.endpoints) (valid_apart c lines valid)).1 in

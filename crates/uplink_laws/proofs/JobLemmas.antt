@@ -28,14 +28,14 @@ use Rattle.sent_laws.specs.plan_model.specs.Validity.{clash}
 use Rattle.sent_laws.specs.plan_model.specs.declared.lines.PlannedLine.{PlannedLine}
 use Rattle.sent_laws.specs.plan_model.specs.declared.streams.Stream.{Stream}
 use Rattle.sent_laws.specs.plan_model.specs.declared.streams.Stream.TheVariants.{DownCommands, UpCommands, DownData, UpData}
+use Rattle.sent_laws.specs.plan_model.proofs.ListLemmas.{among, any_in, in_filter, in_right, of_filter}
 use Rattle.sent_laws.specs.schedule_laws.specs.Commands.{AreCommandedOnce}
 use Rattle.sent_laws.specs.schedule_laws.proofs.AcceptedLemmas.{AreDistinct, AreNamed}
 use Rattle.sent_laws.specs.schedule_laws.proofs.ClashLemmas.{own_clash}
 use Rattle.sent_laws.specs.schedule_laws.proofs.CommandLemmas.{commanded_by}
 use Rattle.sent_laws.specs.schedule_laws.proofs.LineLemmas.{are_one, good, line_proper}
-use Rattle.sent_laws.specs.schedule_laws.proofs.ListLemmas.{in_filter, in_map, in_right, of_filter, of_map}
-use Rattle.sent_laws.specs.schedule_laws.proofs.PlanLemmas.{AreTested, valid_tested}
-use Rattle.sent_laws.specs.schedule_laws.proofs.RangeLemmas.{among, any_in}
+use Rattle.sent_laws.specs.schedule_laws.proofs.ListLemmas.{in_map, of_map}
+use Rattle.sent_laws.specs.schedule_laws.proofs.PlanLemmas.{AreTested, valid_tested, later_clear}
 use Rattle.sent_laws.specs.schedule_laws.proofs.ReadingLemmas.{IsCommandStream}
 use Rattle.sent_laws.specs.sent_frames.specs.Messages.{Source}
 use Rattle.sent_laws.specs.Frames.{texts_of}
@@ -49,24 +49,13 @@ use Rattle.uplink_laws.proofs.SortLemmas.{sorted_same}
 
 -- ---- no line twice
 
--- a line clashes with none before it
-clear_of : (earlier : List Allocation) (ps : List PlannedLine) (q : PlannedLine) (a : Allocation) → AreTested earlier ps → IsIn q ps → IsIn a earlier → clash (allocation_of q) a ≡ false
-clear_of earlier [] q a t m n = absurd m
-clear_of earlier (p ∷ ps) q a t m n = elim m [
-  | inl here ↦ elim (cases_Bool (clash (allocation_of q) a)) [
-    | inr none ↦ none
-    | inl is ↦ absurd (true≢false (sym (any_in (clash (allocation_of p)) a earlier n (ap (λ (x : PlannedLine). clash (allocation_of x) a) (sym here) ∙ is)) ∙ t.1))
-  ]
-  | inr there ↦ clear_of (allocation_of p ∷ earlier) ps q a t.3 there (inr n)
-]
-
 distinct_lines : (earlier : List Allocation) (ps : List PlannedLine) → AreTested earlier ps → ((p : PlannedLine) → IsIn p ps → clash (allocation_of p) (allocation_of p) ≡ true)
     → AreDistinct (map allocation_of ps)
 distinct_lines earlier [] t own = tt
 distinct_lines earlier (p ∷ ps) t own = (
   λ m.
       (let w = of_map allocation_of (allocation_of p) ps m in
-      let none = clear_of (allocation_of p ∷ earlier) ps w.0 (allocation_of p) t.3 w.1 (inl refl) in
+      let none = later_clear (allocation_of p ∷ earlier) ps w.0 (allocation_of p) t.3 w.1 (inl refl) in
       true≢false (sym (own p (inl refl)) ∙ ap (λ (a : Allocation). clash a (allocation_of p)) w.2 ∙ none)),
   distinct_lines (allocation_of p ∷ earlier) ps t.3 (λ q m. own q (inr m)),
 )

@@ -1,5 +1,5 @@
 -- Each frame of both ways once, with the least delay, meets the premise.
-use Rattle.std.proofs.Common.{◌≡◌, ℕ, ℤ, pos, suc, ◌+◌, ◌*◌, ◌<◌, ◌≤◌, ◌+ℤ◌, ◌*ℤ◌, ◌≤ℤ◌, ◌<ℤ◌, min, inl, inr, List, [], ◌∷◌, map, refl, sym, subst, arith}
+use Rattle.std.proofs.Common.{◌≡◌, ℕ, ℤ, pos, ◌+◌, ◌*◌, ◌<◌, ◌≤◌, ◌+ℤ◌, ◌*ℤ◌, ◌≤ℤ◌, ◌<ℤ◌, min, inl, inr, List, [], ◌∷◌, map, refl, sym, subst, arith}
 use Rattle.std.specs.Prelude.{filter}
 use Rattle.std.specs.Int.{int_gap}
 use Rattle.std.specs.Ordering.{int_eq}
@@ -19,12 +19,13 @@ use Rattle.sent_laws.specs.plan_model.specs.Departures.{departures_of, start_of}
 use Rattle.sent_laws.specs.plan_model.specs.Lines.{planned}
 use Rattle.sent_laws.specs.plan_model.specs.declared.lines.PlannedLine.{PlannedLine}
 use Rattle.sent_laws.specs.plan_model.specs.declared.streams.Stream.TheVariants.{UpData}
+use Rattle.sent_laws.specs.plan_model.proofs.ListLemmas.{in_filter, of_filter}
 use Rattle.sent_laws.specs.schedule_laws.specs.Premise.{AreInOrder}
-use Rattle.sent_laws.specs.schedule_laws.proofs.LeastLemmas.{onto_order}
+use Rattle.sent_laws.specs.schedule_laws.proofs.LeastLemmas.{onto_order, least_is, least_under, later_both}
 use Rattle.sent_laws.specs.schedule_laws.proofs.LineLemmas.{start_in_time}
-use Rattle.sent_laws.specs.schedule_laws.proofs.ListLemmas.{in_filter, in_map, in_onto, in_tick, of_filter, of_map, of_tick, onto_right}
+use Rattle.sent_laws.specs.schedule_laws.proofs.ListLemmas.{in_map, in_onto, in_tick, of_map, of_tick, onto_right}
 use Rattle.sent_laws.specs.schedule_laws.proofs.OrderLemmas.{IsRising, ticks_rising}
-use Rattle.sent_laws.specs.schedule_laws.proofs.TimeLemmas.{wait_most}
+use Rattle.sent_laws.specs.schedule_laws.proofs.TimeLemmas.{wait_most, in_ticks, less_gap}
 use Rattle.sent_laws.specs.sent_frames.specs.Messages.{Source}
 use Rattle.sent_laws.specs.Radiated.{CopiesArrive}
 use Rattle.sent_laws.specs.Sent.{IsSendable}
@@ -47,9 +48,6 @@ of_time f fs m =
     let w = of_tick f first_clock (int_gap first_clock (end_of_time +ℤ pos 1)) (λ t. filter (λ (g : LinkFrame). int_eq g.at.0 t) fs) m in
     (of_filter (λ (g : LinkFrame). int_eq g.at.0 w.0) f fs w.1).0
 
-less_gap : (a b m : ℕ) → m ≡ a + suc b → a < m
-less_gap a b m e = omega (arith, e)
-
 in_time : (f : LinkFrame) (fs : List LinkFrame) → first_clock ≤ℤ f.at.0 → f.at.0 <ℤ (end_of_time +ℤ pos 1) → IsIn f fs → IsIn f (by_time fs)
 in_time f fs low high m =
     let t = f.at.0 in
@@ -61,9 +59,6 @@ in_time f fs low high m =
 
 -- ---- their copies
 
-later_both : (a b k : ℤ) → a ≤ℤ b → (a +ℤ k) ≤ℤ (b +ℤ k)
-later_both a b k h = omega (arith, ints, h)
-
 copies_rising : (c : Config) (fs : List LinkFrame) → IsRising (λ (f : LinkFrame). f.at.0) fs → IsRising (λ (a : Arrival). a.at) (map (least_copy c) fs)
 copies_rising c [] h = tt
 copies_rising c (f ∷ fs) h = (
@@ -73,12 +68,6 @@ copies_rising c (f ∷ fs) h = (
 
 copies_in_order : (c : Config) (fs : List LinkFrame) → AreInOrder (least_copies c fs)
 copies_in_order c fs = onto_order [] (map (least_copy c) (by_time fs)) tt (copies_rising c (by_time fs) (time_rising fs)) (λ b x m n. absurd m)
-
-least_is : (a k : ℤ) → (a +ℤ k) ≤ℤ (a +ℤ k)
-least_is a k = omega (arith, ints)
-
-least_under : (a least most : ℤ) → least ≤ℤ most → (a +ℤ least *ℤ pos 1536) ≤ℤ (a +ℤ most *ℤ pos 1536)
-least_under a least most h = omega (arith, ints, h)
 
 copy_is : (c : Config) (f : LinkFrame) → c.delays.t34.min ≤ℤ c.delays.t34.max → IsUplinkCopy c f (least_copy c f)
 copy_is c f order = record { from = least_is f.at.0 (ticks_of_ns c.delays.t34.min); to = least_under f.at.0 c.delays.t34.min c.delays.t34.max order; bytes = refl }
@@ -90,9 +79,6 @@ leaves_in_time : (s least most : ℤ) (wait width : ℕ) → pos 15360000000 ≤
     → least *ℤ pos 1536 +ℤ pos width ≡ most *ℤ pos 1536 → wait ≤ width
     → (first_clock ≤ℤ ((s +ℤ least *ℤ pos 1536) +ℤ pos wait)) × (((s +ℤ least *ℤ pos 1536) +ℤ pos wait) <ℤ (end_of_time +ℤ pos 1))
 leaves_in_time s least most wait width a b l m e w = (omega (arith, ints), omega (arith, ints))
-
-in_ns : (a b : ℤ) → a ≤ℤ b → ticks_of_ns a ≤ℤ ticks_of_ns b
-in_ns a b h = omega (arith, ints, h)
 
 -- what the downlink's laws ask for is enough
 pub commands_arrive : (c : Config) (ps : List PlannedLine) (source : Source) (down : List Arrival) → CopiesArrive c ps source down → CommandsArrive c ps source down
@@ -118,7 +104,7 @@ module _ (c : Config) (lines : List PlanLine) (source : Source) (antenna : Anten
       let ta3 = c.delays.ta3 in
       let limits = s.config.delays.ta3 in
       let both = leaves_in_time (start_of x) ta3.min ta3.max (min ((w.n.before + w.sub) * d.gap) d.spread) d.spread time.0 time.1 limits.low limits.high
-      (gap_is (ticks_of_ns ta3.min) (ticks_of_ns ta3.max) (in_ns ta3.min ta3.max limits.order)) (wait_most (w.n.before + w.sub) d.gap d.spread) in
+      (gap_is (ticks_of_ns ta3.min) (ticks_of_ns ta3.max) (in_ticks ta3.min ta3.max limits.order)) (wait_most (w.n.before + w.sub) d.gap d.spread) in
       subst (λ (g : LinkFrame). (first_clock ≤ℤ g.at.0) × (g.at.0 <ℤ (end_of_time +ℤ pos 1))) (sym w.is) both
 
   up_arrive : AnswersArrive c antenna (jobs_of c down) (least_copies c frames)

@@ -21,6 +21,7 @@ use Rattle.sent_laws.specs.unit_model.specs.Radiated.{first_clock}
 use Rattle.sent_laws.specs.unit_model.specs.Times.{end_of_time}
 use Rattle.sent_laws.specs.unit_model.specs.Uplink.{sends_in}
 use Rattle.sent_laws.specs.unit_laws.proofs.CellLemmas.{from_within, slots_equal}
+use Rattle.sent_laws.specs.unit_laws.proofs.FarLemmas.{endpoints_equal}
 use Rattle.sent_laws.specs.plan_model.specs.Departures.{start_of}
 use Rattle.sent_laws.specs.plan_model.specs.Lines.{allocation_of, is_down, is_idle, planned}
 use Rattle.sent_laws.specs.plan_model.specs.Packs.{Numbered, packs, parts_of, size_of}
@@ -28,10 +29,11 @@ use Rattle.sent_laws.specs.plan_model.specs.Streams.{Part, frames_in, line_befor
 use Rattle.sent_laws.specs.plan_model.specs.Valid.{IsValid}
 use Rattle.sent_laws.specs.plan_model.specs.declared.lines.PlannedLine.{PlannedLine}
 use Rattle.sent_laws.specs.plan_model.specs.declared.streams.Stream.TheVariants.{UpData}
-use Rattle.sent_laws.specs.schedule_laws.proofs.ClashLemmas.{slot_own}
+use Rattle.sent_laws.specs.plan_model.proofs.SlotLemmas.{slot_own}
+use Rattle.sent_laws.specs.plan_model.proofs.ListLemmas.{in_filter, of_filter}
 use Rattle.sent_laws.specs.schedule_laws.proofs.FlowLemmas.{section_short}
-use Rattle.sent_laws.specs.schedule_laws.proofs.LineLemmas.{IsGoodLine, good, same_endpoint, start_in_time}
-use Rattle.sent_laws.specs.schedule_laws.proofs.ListLemmas.{in_filter, in_map, in_symbols, of_filter, of_map, of_symbols}
+use Rattle.sent_laws.specs.schedule_laws.proofs.LineLemmas.{IsGoodLine, good, start_in_time}
+use Rattle.sent_laws.specs.schedule_laws.proofs.ListLemmas.{in_map, in_symbols, of_map, of_symbols}
 use Rattle.sent_laws.specs.schedule_laws.proofs.OrderLemmas.{all_short, number_is, one_symbol}
 use Rattle.sent_laws.specs.schedule_laws.proofs.PackLemmas.{message_from}
 use Rattle.sent_laws.specs.schedule_laws.proofs.SentLemmas.{message_part, part_message}
@@ -150,7 +152,7 @@ module _ (c : Config) (lines : List PlanLine) (config : IsConfig c) (fit : All I
       let p = part_is ps ep e x m in
       let g = good c lines config fit valid x.planned p.from in
       let s = sent_in x.planned ep p.slot x.symbol p.sends in
-      let same = same_endpoint c.endpoints x.planned.ep ep x.planned.endpoint e g.at at s.ep_is in
+      let same = endpoints_equal c.endpoints x.planned.ep ep x.planned.endpoint e g.at at s.ep_is in
       record {
         from = p.from;
         line = g;

@@ -35,11 +35,12 @@ use Rattle.sent_laws.specs.plan_model.specs.Packs.{Message, Numbered, frames_for
 use Rattle.sent_laws.specs.plan_model.specs.Streams.{Part, frames_in, messages_of, part_fields, section_size}
 use Rattle.sent_laws.specs.plan_model.specs.declared.lines.PlannedLine.{PlannedLine}
 use Rattle.sent_laws.specs.plan_model.specs.declared.streams.Stream.TheVariants.{UpData}
+use Rattle.sent_laws.specs.plan_model.proofs.RangeLemmas.{from_high, from_low}
+use Rattle.sent_laws.specs.plan_model.proofs.SizeLemmas.{few_pieces}
 use Rattle.sent_laws.specs.schedule_laws.specs.Data.{Blocks}
 use Rattle.sent_laws.specs.schedule_laws.proofs.FoundLemmas.{found}
 use Rattle.sent_laws.specs.schedule_laws.proofs.ListLemmas.{at_in, in_all}
 use Rattle.sent_laws.specs.schedule_laws.proofs.PlanLemmas.{line_of}
-use Rattle.sent_laws.specs.schedule_laws.proofs.RangeLemmas.{from_high, from_low}
 use Rattle.sent_laws.specs.frame_bytes.specs.Cuts.{cut, piece_at, pieces_of}
 use Rattle.sent_laws.specs.frame_bytes.specs.Messages.{message_of}
 use Rattle.sent_laws.specs.frame_bytes.specs.Reading.{IsReadable, sections_items}
@@ -52,10 +53,11 @@ use Rattle.sent_laws.specs.sent_frames.specs.Messages.{Source, data_section}
 use Rattle.sent_laws.specs.sent_frames.proofs.MessageFacts.{IsGoodMessage, IsGoodPart, all_map, message_fits, message_size_is}
 use Rattle.sent_laws.specs.Sent.{IsSendable}
 use Rattle.sent_laws.proofs.CommandRead.{found_by, long, message_of as whole_message, one_whole}
-use Rattle.sent_laws.proofs.Fragments.{few_pieces, fragments_joined, piece_short, size_joined}
+use Rattle.sent_laws.proofs.Fragments.{fragments_joined, piece_short, size_joined}
 use Rattle.sent_laws.proofs.Gathered.{block_in, read_part, read_parts, sections_gathered, shrunk_blocks}
 use Rattle.sent_laws.proofs.LineFields.{at_most_nine, frame_id_is, frame_id_small}
-use Rattle.sent_laws.proofs.MessageSays.{message_told}
+use Rattle.sent_laws.proofs.MessageSays.{message_told, the_place, in_count}
+use Rattle.sent_laws.proofs.SentRead.{some_bytes, in_size}
 use Rattle.uplink_streams.specs.uplink_model.specs.Frames.{Antenna, carrier_of, fragment_bytes, frame_id_of, head_of, message_bytes, samples_of, section_of}
 use Rattle.uplink_streams.specs.uplink_model.specs.Messages.{job_fields}
 use Rattle.uplink_streams.specs.Streams.{job_for, message_for}
@@ -80,20 +82,6 @@ frame_met es ep e at seq bytes found t =
     let met = data_met es ep e at (4 + length bytes) one.payload (long 0 e.id seq bytes frame one) (found_by 0 e.id seq bytes frame one es (Some (ep, e)) found) in
     let is : Piece e (fragment_of ep at one.payload) ≡ Piece e (record { ep = ep; seq = seq.seq; at = at; last = seq.last; sub = seq.sub; bytes = bytes }) = ap₂ (λ (q : SeqField) (bs : List ℕ). Piece e (fragment_with ep at q bs)) one.seq_read one.application_read in
     ap (met_in Du es at) (one_whole 0 e.id seq bytes frame one) ∙ ap (λ (m : Meeting). m ∷ []) (met ∙ is)
-
--- ---- numbers
-
-in_size : (n f : ℕ) → n ≤ f → f ≤ 9000 → 4 + n < 2 ^ 16
-in_size n f h k = omega (arith, h, k)
-
-some_bytes : (f : ℕ) → 128 ≤ f → 0 < f
-some_bytes f h = omega (arith, h)
-
-the_place : (first n : ℕ) → first ≤ n → first + (n - first) ≡ n
-the_place first n h = omega (arith, h)
-
-in_count : (first count n : ℕ) → first ≤ n → n < first + count → n - first < count
-in_count first count n h k = omega (arith, h, k)
 
 -- ---- sections of a message
 

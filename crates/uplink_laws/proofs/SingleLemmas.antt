@@ -1,10 +1,10 @@
 -- Each planned uplink cell is taken in exactly once.
-use Rattle.std.proofs.Common.{◌≡◌, ℕ, ℤ, pos, ◌+◌, ◌<◌, ◌≤◌, ◌+ℤ◌, ◌*ℤ◌, ◌-ℤ◌, ◌≤ℤ◌, ◌<ℤ◌, inl, inr, Bool, true, false, not, ◌&&◌, ◌==◌, if◌then◌else◌, List, [], ◌∷◌, refl, ap, sym, ◌∙◌, subst, arith}
+use Rattle.std.proofs.Common.{◌≡◌, ℕ, ℤ, pos, ◌+◌, ◌<◌, ◌≤◌, ◌+ℤ◌, ◌*ℤ◌, ◌-ℤ◌, ◌≤ℤ◌, inl, inr, Bool, true, false, not, ◌&&◌, ◌==◌, if◌then◌else◌, List, [], ◌∷◌, refl, ap, sym, ◌∙◌, subst, arith}
 use Rattle.std.specs.Prelude.{filter}
 use Rattle.std.proofs.lemmas.Bool.{cases_Bool, and_parts, and_from, eqb-true}
 use Rattle.std.proofs.lemmas.Int.{ints}
+use Rattle.std.proofs.Math.Nat.{lt_of_lt_of_le}
 use Rattle.fh_time.specs.Air.{air_of}
-use Rattle.fh_time.specs.Numbering.{symbols_of}
 use Rattle.sent_laws.specs.air_source.specs.declared.events.AirCell.{AirCell}
 use Rattle.sent_laws.specs.air_source.specs.declared.events.Side.TheVariants.{Du}
 use Rattle.fragment_laws.specs.Apart.{IsIn}
@@ -21,12 +21,14 @@ use Rattle.sent_laws.specs.unit_laws.proofs.CellLemmas.{covers_is, from_within}
 use Rattle.sent_laws.specs.unit_laws.proofs.DueLemmas.{reported_differ}
 use Rattle.sent_laws.specs.plan_model.specs.Lines.{allocation_of, planned}
 use Rattle.sent_laws.specs.plan_model.specs.declared.lines.PlannedLine.{PlannedLine}
+use Rattle.sent_laws.specs.plan_model.proofs.ListLemmas.{any_in}
+use Rattle.sent_laws.specs.plan_model.proofs.RangeLemmas.{within_carrier}
 use Rattle.sent_laws.specs.schedule_laws.specs.Cells.{planned_mask, radiates}
 use Rattle.sent_laws.specs.schedule_laws.specs.Data.{Blocks}
 use Rattle.sent_laws.specs.schedule_laws.proofs.LineLemmas.{good, start_in_time}
 use Rattle.sent_laws.specs.schedule_laws.proofs.ListLemmas.{in_each, in_piece, numerology_short}
-use Rattle.sent_laws.specs.schedule_laws.proofs.RangeLemmas.{any_in}
-use Rattle.sent_laws.specs.schedule_laws.proofs.SingleLemmas.{in_carrier, mask_some, only_one}
+use Rattle.sent_laws.specs.schedule_laws.proofs.SingleLemmas.{mask_some, only_one}
+use Rattle.sent_laws.specs.schedule_laws.proofs.TimeLemmas.{by_then}
 use Rattle.sent_laws.specs.sent_frames.specs.Messages.{Source}
 use Rattle.uplink_streams.specs.uplink_model.specs.Frames.{Antenna}
 use Rattle.uplink_laws.specs.Cells.{taken_air, taken_cell, taken_event, taken_symbol}
@@ -37,17 +39,11 @@ use Rattle.uplink_laws.specs.Singles.{event_of}
 use Rattle.uplink_laws.proofs.BlockLemmas.{not_down}
 use Rattle.uplink_laws.proofs.CellLemmas.{plan_taken_in}
 
-by_then : (s wait to : ℤ) → (s +ℤ wait) ≤ℤ to → s <ℤ ((to -ℤ wait) +ℤ pos 1)
-by_then s wait to h = omega (arith, ints, h)
-
 after_clock : (s ns : ℤ) → pos 15360000000 ≤ℤ s → pos 0 ≤ℤ ns → (first_clock -ℤ ns *ℤ pos 1536) ≤ℤ s
 after_clock s ns h k = omega (arith, ints, h, k)
 
 not_negative : (least most : ℤ) → pos 0 ≤ℤ least → least ≤ℤ most → pos 0 ≤ℤ most
 not_negative least most h k = omega (arith, ints, h, k)
-
-under : (s m n : ℕ) → s < m → m ≤ n → s < n
-under s m n k l = omega (arith, k, l)
 
 module _ (c : Config) (lines : List PlanLine) (source : Source) (antenna : Antenna) (down up : List Arrival) (h : BothArrive c lines source antenna down up) where
   abbrev ps : List PlannedLine
@@ -69,8 +65,8 @@ module _ (c : Config) (lines : List PlanLine) (source : Source) (antenna : Anten
       let g = good c lines h.sendable.config h.sendable.lines_fit h.sendable.valid p m in
       let e = p.endpoint in
       let s = air_of e.numerology p.line.slot symbol in
-      let symbol_below = under symbol (p.line.symbol + p.line.count) (symbols_of e.numerology) (from_within p.line.symbol p.line.count symbol cover.symbol) g.within in
-      let prb_below = in_carrier e.prbs p.line.start_prb p.line.num_prb prb g.prbs cover.prb in
+      let symbol_below = lt_of_lt_of_le (from_within p.line.symbol p.line.count symbol cover.symbol) g.within in
+      let prb_below = within_carrier e.prbs p.line.start_prb p.line.num_prb prb g.prbs cover.prb in
       let time = start_in_time c.endpoints p symbol g symbol_below in
       let event = event_of blocks ps p symbol prb in
       let it : radiates ps cell re ≡ true = any_in (λ (q : PlannedLine). not (allocation_of q).idle && names (allocation_of q) cell re) p ps m (and_from _ _ kind.1 named) in

@@ -1,6 +1,6 @@
 -- Sections in the order in which a radio unit sends them: by their fields alone, whatever the order in which they were accepted.
 use Rattle.std.proofs.Common.{◌≡◌, ℕ, ℤ, ◌<◌, ◌≤◌, inl, inr, Bool, true, false, ◌&&◌, ◌||◌, ◌==◌, nat_lt, if◌then◌else◌, List, [], ◌∷◌, ◌++◌, map, refl, ap, ap₂, sym, ◌∙◌, true≢false, arith}
-use Rattle.std.proofs.lemmas.Bool.{cases_Bool, cases_lt, cases_eq, lt-ltb, eq-eqb, ne_eqb}
+use Rattle.std.proofs.lemmas.Bool.{cases_Bool, cases_lt, cases_eq, lt-ltb, eq-eqb, ne_eqb, le-ltb, ltb-false}
 use Rattle.std.proofs.lemmas.Bool.Decides.{nat_tests}
 use Rattle.fh_time.specs.declared.values.Slot.{Slot}
 use Rattle.fragment_laws.specs.Apart.{IsIn}
@@ -27,17 +27,11 @@ by f rest a b = lex (f a) (f b) (rest a b)
 lex_less : (m n : ℕ) (r : Bool) → m < n → lex m n r ≡ true
 lex_less m n r h = rw (lt-ltb m n h) refl
 
-not_less : (m n : ℕ) → n ≤ m → nat_lt m n ≡ false
-not_less m n h = grind (arith, nat_tests)
-
-at_least : (m n : ℕ) → nat_lt m n ≡ false → n ≤ m
-at_least m n h = grind (arith, nat_tests)
-
 lex_more : (m n : ℕ) (r : Bool) → n < m → lex m n r ≡ false
-lex_more m n r h = rw (not_less m n (omega (arith, h)), ne_eqb m n (λ e. omega (arith, h, e))) refl
+lex_more m n r h = rw (le-ltb m n (omega (arith, h)), ne_eqb m n (λ e. omega (arith, h, e))) refl
 
 lex_same : (m n : ℕ) (r : Bool) → m ≡ n → lex m n r ≡ r
-lex_same m n r e = rw (not_less m n (omega (arith, e)), eq-eqb m n e) refl
+lex_same m n r e = rw (le-ltb m n (omega (arith, e)), eq-eqb m n e) refl
 
 data Three (m n : ℕ) : Type 0 where
   less : m < n → Three m n
@@ -80,7 +74,7 @@ by_order f rest o = record {
 least_order : {K : Type 0} (f : K → ℕ) → IsOrder (λ a b. nat_lt (f a) (f b))
 least_order f = record {
   against = λ x y h. not_above (f x) (f y) h;
-  along = λ x y z h k. (let a = at_least (f y) (f x) h in let b = at_least (f z) (f y) k in not_less (f z) (f x) (omega (arith, a, b)));
+  along = λ x y z h k. (let a = ltb-false (f y) (f x) h in let b = ltb-false (f z) (f y) k in le-ltb (f z) (f x) (omega (arith, a, b)));
 }
   where
     not_above : (m n : ℕ) → nat_lt m n ≡ true → nat_lt n m ≡ false
@@ -173,8 +167,8 @@ module _ (ep : ℕ) (start : ℤ) (slot : Slot) (symbol : ℕ) where
       let one = by_ties a.start_prb b.start_prb _ _ h k in
       let two = by_ties a.num_prb b.num_prb _ _ one.1 one.2 in
       let three = by_ties a.section b.section _ _ two.1 two.2 in
-      let low = at_least a.filter b.filter three.1 in
-      let high = at_least b.filter a.filter three.2 in
+      let low = ltb-false a.filter b.filter three.1 in
+      let high = ltb-false b.filter a.filter three.2 in
       same_job a b one.0 two.0 three.0 (omega (arith, low, high))
 
   put_job : (a : Allocation) (xs : List Allocation) → map job (put_in is_before a xs) ≡ put_in job_before (job a) (map job xs)

@@ -1,5 +1,5 @@
 -- Each uplink message becomes whole once, within Ta4.
-use Rattle.std.proofs.Common.{◌≡◌, ℕ, zero, suc, ℤ, pos, ◌+◌, ◌*◌, ◌<◌, ◌≤◌, ◌+ℤ◌, ◌*ℤ◌, ◌-ℤ◌, ◌≤ℤ◌, min, List, arith}
+use Rattle.std.proofs.Common.{◌≡◌, ℕ, ℤ, pos, ◌+◌, ◌*◌, ◌<◌, ◌≤◌, ◌+ℤ◌, ◌*ℤ◌, ◌-ℤ◌, ◌≤ℤ◌, min, List, arith}
 use Rattle.std.proofs.lemmas.Int.{ints}
 use Rattle.sent_laws.specs.air_source.specs.declared.events.Side.TheVariants.{Du}
 use Rattle.ecpri_fragments.specs.Generations.{Fragment}
@@ -18,7 +18,7 @@ use Rattle.sent_laws.specs.unit_model.proofs.SweepLaws.{gap_is}
 use Rattle.sent_laws.specs.plan_model.specs.Lines.{planned}
 use Rattle.sent_laws.specs.plan_model.specs.declared.lines.PlannedLine.{PlannedLine}
 use Rattle.sent_laws.specs.sent_frames.specs.Messages.{Source}
-use Rattle.sent_laws.specs.schedule_laws.proofs.TimeLemmas.{wait_most}
+use Rattle.sent_laws.specs.schedule_laws.proofs.TimeLemmas.{wait_most, in_ticks, last_one}
 use Rattle.uplink_streams.specs.uplink_model.specs.Frames.{Antenna}
 use Rattle.uplink_laws.specs.Flows.{bounds_of, flow_of, start_at}
 use Rattle.uplink_laws.specs.Premise.{BothArrive}
@@ -48,13 +48,6 @@ still_held s least most fast slow hold first last f l h = omega (arith, ints, f,
 
 after_start : (s least fast last : ℤ) → pos 0 ≤ℤ least → pos 0 ≤ℤ fast → (s +ℤ (least +ℤ fast) *ℤ pos 1536) ≤ℤ last → s ≤ℤ last
 after_start s least fast last a b h = omega (arith, ints, a, b, h)
-
-in_ns : (a b : ℤ) → a ≤ℤ b → ticks_of_ns a ≤ℤ ticks_of_ns b
-in_ns a b h = omega (arith, ints, h)
-
-last_one : (n : ℕ) → 0 < n → (e : ℕ) × (e + 1 ≡ n)
-last_one zero h = absurd (omega arith)
-last_one (suc n) h = (n, omega arith)
 
 -- ---- of the messages of a plan
 
@@ -96,7 +89,7 @@ module _ (c : Config) (lines : List PlanLine) (source : Source) (antenna : Anten
       let order = h.sendable.config.delays.ta3.order in
       let soon = comes_from start d.ta3.min d.t34.min first (min ((f.before j + 0) * f.gap) f.spread) from in
       let late = comes_to start d.ta3.min d.ta3.max d.t34.max last (min ((f.before j + k.0) * f.gap) f.spread) f.spread
-      (gap_is (ticks_of_ns d.ta3.min) (ticks_of_ns d.ta3.max) (in_ns d.ta3.min d.ta3.max order)) (wait_most (f.before j + k.0) f.gap f.spread) (to k.0 k.1) in
+      (gap_is (ticks_of_ns d.ta3.min) (ticks_of_ns d.ta3.max) (in_ticks d.ta3.min d.ta3.max order)) (wait_most (f.before j + k.0) f.gap f.spread) (to k.0 k.1) in
       record {
         soon = soon;
         late = late;

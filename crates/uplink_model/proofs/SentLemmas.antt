@@ -15,18 +15,12 @@ use Rattle.plan_model.specs.unit_model.specs.Lists.{each, each_tick}
 use Rattle.plan_model.specs.unit_model.specs.Radiated.{first_clock}
 use Rattle.plan_model.specs.unit_model.specs.Times.{end_of_time}
 use Rattle.plan_model.specs.unit_model.proofs.SweepLaws.{each_same, gap_is}
+use Rattle.plan_model.proofs.ListLemmas.{filter_all, filter_none, all_map}
+use Rattle.plan_model.proofs.TickLemmas.{int_apart}
 use Rattle.uplink_model.specs.Sent.{in_sent_order, leaves_at, leaving_at, leaving_of}
 use Rattle.uplink_model.specs.SentLaws.{AllAreSent, LaterChangeNothing, LeavingAreByEndpoint, LeavingAreReordered, LeavingAsHandedOver, LeavingLeaveThen, TicksStandTogether, TimesRise}
 
 -- ---- filters
-
-filter_all : {X : Type 0} (t : X → Bool) (xs : List X) → AllByRecursion (λ x. t x ≡ true) xs → filter t xs ≡ xs
-filter_all t [] h = refl
-filter_all {X = X} t (x ∷ xs) h = let e = h.0 in rw e (ap (λ (ys : List X). x ∷ ys) (filter_all t xs h.1))
-
-filter_none : {X : Type 0} (t : X → Bool) (xs : List X) → AllByRecursion (λ x. t x ≡ false) xs → filter t xs ≡ []
-filter_none t [] h = refl
-filter_none t (x ∷ xs) h = let e = h.0 in rw e (filter_none t xs h.1)
 
 filter_both : {X : Type 0} (a b : X → Bool) (xs : List X) → filter (λ x. a x && b x) xs ≡ filter b (filter a xs)
 filter_both a b [] = refl
@@ -47,10 +41,6 @@ filter_within {X = X} a b h (x ∷ xs) = go (b x) refl (a x) refl (filter_within
     go true p t q r = rw q (ap (λ (ys : List X). let vs : List X = if t then x ∷ ys else ys in vs) r)
     go false p true q r = absurd (true≢false (sym (h x q) ∙ p))
     go false p false q r = r
-
-all_weaker : {X : Type 0} (P Q : X → Type 0) → ((x : X) → P x → Q x) → (xs : List X) → AllByRecursion P xs → AllByRecursion Q xs
-all_weaker P Q f [] h = tt
-all_weaker P Q f (x ∷ xs) h = (f x h.0, all_weaker P Q f xs h.1)
 
 all_join : {X : Type 0} (P : X → Type 0) (xs ys : List X) → AllByRecursion P xs → AllByRecursion P ys → AllByRecursion P (xs ++ ys)
 all_join P [] ys p q = q
@@ -86,7 +76,7 @@ ordered_join R (x ∷ xs) ys p q h = (all_join (R x) xs ys p.0 h.0, ordered_join
 -- where each may stand before each
 ordered_all : {X : Type 0} (R : X → X → Type 0) (P : X → Type 0) → ((x y : X) → P x → P y → R x y) → (xs : List X) → AllByRecursion P xs → Ordered R xs
 ordered_all R P f [] h = tt
-ordered_all R P f (x ∷ xs) h = (all_weaker P (R x) (λ y q. f x y h.0 q) xs h.1, ordered_all R P f xs h.1)
+ordered_all R P f (x ∷ xs) h = (all_map P (R x) (λ y q. f x y h.0 q) xs h.1, ordered_all R P f xs h.1)
 
 -- ---- by numbers
 
@@ -139,8 +129,8 @@ module _ {X : Type 0} (key : X → ℕ) where
     each_from from zero = tt
     each_from from (suc n) =
         all_join (λ x. from ≤ key x) (f from) (each (from + 1) n f)
-        (all_weaker (λ x. key x ≡ from) (λ x. from ≤ key x) (λ x e. omega (arith, e)) (f from) (own from))
-        (all_weaker (λ x. from + 1 ≤ key x) (λ x. from ≤ key x) (λ x h. omega (arith, h)) (each (from + 1) n f) (each_from (from + 1) n))
+        (all_map (λ x. key x ≡ from) (λ x. from ≤ key x) (λ x e. omega (arith, e)) (f from) (own from))
+        (all_map (λ x. from + 1 ≤ key x) (λ x. from ≤ key x) (λ x h. omega (arith, h)) (each (from + 1) n f) (each_from (from + 1) n))
 
     each_ordered : (from n : ℕ) → Ordered (λ x y. key x ≤ key y) (each from n f)
     unfolding each
@@ -149,13 +139,13 @@ module _ {X : Type 0} (key : X → ℕ) where
         ordered_join (λ x y. key x ≤ key y) (f from) (each (from + 1) n f)
         (ordered_all (λ x y. key x ≤ key y) (λ x. key x ≡ from) (λ x y p q. omega (arith, p, q)) (f from) (own from))
         (each_ordered (from + 1) n)
-        (all_weaker (λ x. key x ≡ from) (λ x. AllByRecursion (λ y. key x ≤ key y) (each (from + 1) n f)) (λ x e.
-        all_weaker (λ y. from + 1 ≤ key y) (λ y. key x ≤ key y) (λ y h. omega (arith, e, h)) (each (from + 1) n f) (each_from (from + 1) n)) (f from) (own from))
+        (all_map (λ x. key x ≡ from) (λ x. AllByRecursion (λ y. key x ≤ key y) (each (from + 1) n f)) (λ x e.
+        all_map (λ y. from + 1 ≤ key y) (λ y. key x ≤ key y) (λ y h. omega (arith, e, h)) (each (from + 1) n f) (each_from (from + 1) n)) (f from) (own from))
 
     each_none : (from n k : ℕ) → k < from → filter (λ x. key x == k) (each from n f) ≡ []
     each_none from n k h =
         filter_none (λ x. key x == k) (each from n f)
-        (all_weaker (λ x. from ≤ key x) (λ x. (key x == k) ≡ false) (λ x low. ne_eqb (key x) k (λ e. omega (arith, e, low, h))) (each from n f) (each_from from n))
+        (all_map (λ x. from ≤ key x) (λ x. (key x == k) ≡ false) (λ x low. ne_eqb (key x) k (λ e. omega (arith, e, low, h))) (each from n f) (each_from from n))
 
     each_one : (from n k : ℕ) → from ≤ k → k < from + n → filter (λ x. key x == k) (each from n f) ≡ f k
     unfolding each
@@ -164,14 +154,14 @@ module _ {X : Type 0} (key : X → ℕ) where
       | inl e ↦
           filter-append (λ x. key x == k) (f from) (each (from + 1) n f)
           ∙ ap₂ ◌++◌
-          (filter_all (λ x. key x == k) (f from) (all_weaker (λ x. key x ≡ from) (λ x. (key x == k) ≡ true) (λ x o. eq-eqb (key x) k (o ∙ e)) (f from) (own from)))
+          (filter_all (λ x. key x == k) (f from) (all_map (λ x. key x ≡ from) (λ x. (key x == k) ≡ true) (λ x o. eq-eqb (key x) k (o ∙ e)) (f from) (own from)))
           (each_none (from + 1) n k (omega (arith, e)))
           ∙ append-nil (f from) ∙ ap f e
       | inr other ↦
           filter-append (λ x. key x == k) (f from) (each (from + 1) n f)
           ∙ ap₂ ◌++◌
           (filter_none (λ x. key x == k) (f from)
-          (all_weaker (λ x. key x ≡ from) (λ x. (key x == k) ≡ false) (λ x o. ne_eqb (key x) k (λ s. other (sym o ∙ s))) (f from) (own from)))
+          (all_map (λ x. key x ≡ from) (λ x. (key x == k) ≡ false) (λ x o. ne_eqb (key x) k (λ s. other (sym o ∙ s))) (f from) (own from)))
           (each_one (from + 1) n k (omega (arith, other)) (omega arith))
     ]
 
@@ -179,13 +169,6 @@ module _ {X : Type 0} (key : X → ℕ) where
 
 same_tick : (a b : ℤ) → a ≡ b → int_eq a b ≡ true
 same_tick a b e = (Decides-int_eq a b).1 e
-
-other_tick : (a b : ℤ) → (a ≡ b → ⊥) → int_eq a b ≡ false
-other_tick a b h = go (int_eq a b) refl
-  where
-    go : (r : Bool) → int_eq a b ≡ r → r ≡ false
-    go false e = refl
-    go true e = absurd (h ((Decides-int_eq a b).0 e))
 
 tick_cases : (a b : ℤ) → (a ≡ b) ⊎ (a ≡ b → ⊥)
 tick_cases a b = go (int_eq a b) refl
@@ -203,8 +186,8 @@ module _ (told : ℤ → List LinkFrame) (own : (t : ℤ) → AllByRecursion (λ
   ticks_from from zero = tt
   ticks_from from (suc n) =
       all_join (λ f. from ≤ℤ f.at.0) (told from) (each_tick (from +ℤ pos 1) n told)
-      (all_weaker (λ f. f.at.0 ≡ from) (λ f. from ≤ℤ f.at.0) (λ f e. omega (arith, ints, e)) (told from) (own from))
-      (all_weaker (λ f. (from +ℤ pos 1) ≤ℤ f.at.0) (λ f. from ≤ℤ f.at.0) (λ f h. omega (arith, ints, h)) (each_tick (from +ℤ pos 1) n told) (ticks_from (from +ℤ pos 1) n))
+      (all_map (λ f. f.at.0 ≡ from) (λ f. from ≤ℤ f.at.0) (λ f e. omega (arith, ints, e)) (told from) (own from))
+      (all_map (λ f. (from +ℤ pos 1) ≤ℤ f.at.0) (λ f. from ≤ℤ f.at.0) (λ f h. omega (arith, ints, h)) (each_tick (from +ℤ pos 1) n told) (ticks_from (from +ℤ pos 1) n))
 
   ticks_ordered : (from : ℤ) (n : ℕ) → Ordered (λ f g. f.at.0 ≤ℤ g.at.0) (each_tick from n told)
   unfolding each_tick
@@ -213,14 +196,14 @@ module _ (told : ℤ → List LinkFrame) (own : (t : ℤ) → AllByRecursion (λ
       ordered_join (λ f g. f.at.0 ≤ℤ g.at.0) (told from) (each_tick (from +ℤ pos 1) n told)
       (ordered_all (λ f g. f.at.0 ≤ℤ g.at.0) (λ f. f.at.0 ≡ from) (λ f g p q. omega (arith, ints, p, q)) (told from) (own from))
       (ticks_ordered (from +ℤ pos 1) n)
-      (all_weaker (λ f. f.at.0 ≡ from) (λ f. AllByRecursion (λ g. f.at.0 ≤ℤ g.at.0) (each_tick (from +ℤ pos 1) n told)) (λ f e.
-      all_weaker (λ g. (from +ℤ pos 1) ≤ℤ g.at.0) (λ g. f.at.0 ≤ℤ g.at.0) (λ g h. omega (arith, ints, e, h)) (each_tick (from +ℤ pos 1) n told) (ticks_from (from +ℤ pos 1) n))
+      (all_map (λ f. f.at.0 ≡ from) (λ f. AllByRecursion (λ g. f.at.0 ≤ℤ g.at.0) (each_tick (from +ℤ pos 1) n told)) (λ f e.
+      all_map (λ g. (from +ℤ pos 1) ≤ℤ g.at.0) (λ g. f.at.0 ≤ℤ g.at.0) (λ g h. omega (arith, ints, e, h)) (each_tick (from +ℤ pos 1) n told) (ticks_from (from +ℤ pos 1) n))
       (told from) (own from))
 
   ticks_none : (from : ℤ) (n : ℕ) (t : ℤ) → t <ℤ from → filter (leaves_at t) (each_tick from n told) ≡ []
   ticks_none from n t h =
       filter_none (leaves_at t) (each_tick from n told)
-      (all_weaker (λ f. from ≤ℤ f.at.0) (λ f. leaves_at t f ≡ false) (λ f low. other_tick f.at.0 t (λ e. omega (arith, ints, e, low, h))) (each_tick from n told) (ticks_from from n))
+      (all_map (λ f. from ≤ℤ f.at.0) (λ f. leaves_at t f ≡ false) (λ f low. int_apart f.at.0 t (λ e. omega (arith, ints, e, low, h))) (each_tick from n told) (ticks_from from n))
 
   ticks_one : (from : ℤ) (n : ℕ) (t : ℤ) → from ≤ℤ t → t <ℤ (from +ℤ pos n) → filter (leaves_at t) (each_tick from n told) ≡ told t
   unfolding each_tick
@@ -229,14 +212,14 @@ module _ (told : ℤ → List LinkFrame) (own : (t : ℤ) → AllByRecursion (λ
     | inl e ↦
         filter-append (leaves_at t) (told from) (each_tick (from +ℤ pos 1) n told)
         ∙ ap₂ ◌++◌
-        (filter_all (leaves_at t) (told from) (all_weaker (λ f. f.at.0 ≡ from) (λ f. leaves_at t f ≡ true) (λ f o. same_tick f.at.0 t (o ∙ e)) (told from) (own from)))
+        (filter_all (leaves_at t) (told from) (all_map (λ f. f.at.0 ≡ from) (λ f. leaves_at t f ≡ true) (λ f o. same_tick f.at.0 t (o ∙ e)) (told from) (own from)))
         (ticks_none (from +ℤ pos 1) n t (omega (arith, ints, e)))
         ∙ append-nil (told from) ∙ ap told e
     | inr other ↦
         filter-append (leaves_at t) (told from) (each_tick (from +ℤ pos 1) n told)
         ∙ ap₂ ◌++◌
         (filter_none (leaves_at t) (told from)
-        (all_weaker (λ f. f.at.0 ≡ from) (λ f. leaves_at t f ≡ false) (λ f o. other_tick f.at.0 t (λ s. other (sym o ∙ s))) (told from) (own from)))
+        (all_map (λ f. f.at.0 ≡ from) (λ f. leaves_at t f ≡ false) (λ f o. int_apart f.at.0 t (λ s. other (sym o ∙ s))) (told from) (own from)))
         (ticks_one (from +ℤ pos 1) n t (above from t low other) (below from n t high))
   ]
     where
@@ -262,7 +245,7 @@ ticks_rest from (suc n) t fs h =
     (ticks_rest (from +ℤ pos 1) n t fs (omega (arith, ints)))
   where
     other : (f : LinkFrame) → f.at.0 ≡ from → not (leaves_at t f) ≡ true
-    other f e = ap not (other_tick f.at.0 t (λ same. omega (arith, ints, e, same, h)))
+    other f e = ap not (int_apart f.at.0 t (λ same. omega (arith, ints, e, same, h)))
 
 no_ticks : (from : ℤ) (fs : List LinkFrame) → AllByRecursion (IsIn from 0) fs → [] ≡ fs
 no_ticks from [] h = refl
@@ -322,14 +305,14 @@ of_own frames t ep =
     (let w = and_parts (leaves_at t f) (f.ep == ep) e in (at_of t f w.0, eqb-true f.ep ep w.1))) frames (all_unit frames)
 
 own_ep : (frames : List LinkFrame) (t : ℤ) (ep : ℕ) → AllByRecursion (λ f. f.ep ≡ ep) (leaving_of frames t ep)
-own_ep frames t ep = all_weaker (λ (f : LinkFrame). (f.at.0 ≡ t) × (f.ep ≡ ep)) (λ (f : LinkFrame). f.ep ≡ ep) (λ f h. h.1) (leaving_of frames t ep) (of_own frames t ep)
+own_ep frames t ep = all_map (λ (f : LinkFrame). (f.at.0 ≡ t) × (f.ep ≡ ep)) (λ (f : LinkFrame). f.ep ≡ ep) (λ f h. h.1) (leaving_of frames t ep) (of_own frames t ep)
 
 each_then : (frames : List LinkFrame) (t : ℤ) (from n : ℕ) → AllByRecursion (λ f. f.at.0 ≡ t) (each from n (leaving_of frames t))
 unfolding each
 each_then frames t from zero = tt
 each_then frames t from (suc n) =
     all_join (λ (f : LinkFrame). f.at.0 ≡ t) (leaving_of frames t from) (each (from + 1) n (leaving_of frames t))
-    (all_weaker (λ (f : LinkFrame). (f.at.0 ≡ t) × (f.ep ≡ from)) (λ (f : LinkFrame). f.at.0 ≡ t) (λ f h. h.0) (leaving_of frames t from) (of_own frames t from))
+    (all_map (λ (f : LinkFrame). (f.at.0 ≡ t) × (f.ep ≡ from)) (λ (f : LinkFrame). f.at.0 ≡ t) (λ f h. h.0) (leaving_of frames t from) (of_own frames t from))
     (each_then frames t (from + 1) n)
 
 own_tick : (n : ℕ) (frames : List LinkFrame) (t : ℤ) → AllByRecursion (λ f. f.at.0 ≡ t) (leaving_at n frames t)
@@ -351,8 +334,8 @@ leaving_as_handed_over n frames t ep h = each_one (λ (f : LinkFrame). f.ep) (le
 later_none : (t : ℤ) (ep : ℕ) (later : List LinkFrame) → All (λ f. t <ℤ f.at.0) later → leaving_of later t ep ≡ []
 later_none t ep later h =
     filter_none (λ f. leaves_at t f && (f.ep == ep)) later
-    (all_weaker (λ (f : LinkFrame). t <ℤ f.at.0) (λ (f : LinkFrame). (leaves_at t f && (f.ep == ep)) ≡ false) (λ f lt.
-    ap (λ (b : Bool). b && (f.ep == ep)) (other_tick f.at.0 t (λ e. omega (arith, ints, e, lt)))) later (recursion_from_All (λ (f : LinkFrame). t <ℤ f.at.0) later h))
+    (all_map (λ (f : LinkFrame). t <ℤ f.at.0) (λ (f : LinkFrame). (leaves_at t f && (f.ep == ep)) ≡ false) (λ f lt.
+    ap (λ (b : Bool). b && (f.ep == ep)) (int_apart f.at.0 t (λ e. omega (arith, ints, e, lt)))) later (recursion_from_All (λ (f : LinkFrame). t <ℤ f.at.0) later h))
 
 pub later_change_nothing : LaterChangeNothing
 unfolding leaving_at
@@ -374,7 +357,7 @@ all_are_sent n frames are times =
     let count = int_gap first_clock (end_of_time +ℤ pos 1) in
     IsPermutation-trans frames (each_tick first_clock count (at_tick frames)) (each_tick first_clock count (leaving_at n frames))
     (ticks_reordered first_clock count frames
-    (all_weaker (λ (f : LinkFrame). (first_clock ≤ℤ f.at.0) × (f.at.0 ≤ℤ end_of_time)) (IsIn first_clock count) (λ f h.
+    (all_map (λ (f : LinkFrame). (first_clock ≤ℤ f.at.0) × (f.at.0 ≤ℤ end_of_time)) (IsIn first_clock count) (λ f h.
     (h.0, by_end f.at.0 (first_clock +ℤ pos count) ends h.1)) frames (recursion_from_All (λ (f : LinkFrame). (first_clock ≤ℤ f.at.0) × (f.at.0 ≤ℤ end_of_time)) frames times)))
     (ticks_permuted first_clock count (at_tick frames) (leaving_at n frames) (λ t. leaving_are_reordered n frames t are))
 

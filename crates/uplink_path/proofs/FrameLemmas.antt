@@ -32,13 +32,6 @@ begins_within f size sub some below =
     let is = one_more sub f in
     omega (arith, most, is, some)
 
--- a message has at most 128 frames
-pub few_frames : (f size sub : ℕ) → 128 ≤ f → size ≤ 16384 → sub < (size + (f - 1)) / f → sub < 128
-few_frames f size sub least short below =
-    let within = begins_within f size sub (omega (arith, least)) below in
-    let scaled : sub * 128 ≤ sub * f = grind (arith, least) in
-    omega (arith, within, scaled, short)
-
 -- ---- frames
 
 frame_is :

@@ -1,5 +1,5 @@
 -- A message of proper jobs can be sent.
-use Rattle.std.proofs.Common.{◌≡◌, ℕ, ◌+◌, ◌<◌, ◌≤◌, ◌^◌, List, [], ◌∷◌, All, map, length, sum, refl, sym, ap, ap₂, ◌∙◌, arith, subst}
+use Rattle.std.proofs.Common.{◌≡◌, ℕ, ◌+◌, ◌<◌, ◌≤◌, ◌^◌, List, [], ◌∷◌, All, map, length, sum, refl, sym, ap, ap₂, ◌∙◌, arith}
 use Rattle.std.proofs.lemmas.Int.{ints}
 use Rattle.std.specs.List.{slice_get}
 use Rattle.std.specs.Option.{option_map_or}
@@ -23,6 +23,7 @@ use Rattle.uplink_model.specs.unit_model.specs.Proper.{IsAt}
 use Rattle.uplink_model.specs.unit_model.specs.declared.jobs.UplinkJob.{UplinkJob}
 use Rattle.uplink_model.specs.plan_model.specs.Packs.{Message, parts_of}
 use Rattle.uplink_model.specs.plan_model.specs.Streams.{section_size}
+use Rattle.uplink_model.specs.plan_model.proofs.ListLemmas.{endpoint_is}
 use Rattle.uplink_model.specs.frame_bytes.specs.Messages.{SectionFits, message_size, sections_size}
 use Rattle.uplink_model.specs.Frames.{carrier_of, section_of}
 use Rattle.uplink_model.specs.Messages.{job_fields}
@@ -96,7 +97,3 @@ can_be_sent c u ms p m e n packed proper is good =
       };
       size = size;
     }
-
-pub endpoint_is_good : (es : List EndpointConfig) (ep : ℕ) (e : EndpointConfig) → IsAt es ep e → All IsEndpoint es → IsEndpoint e
-endpoint_is_good es ep e is all =
-    subst IsEndpoint (get_or_from_slice_get es ep e e is) (all ep e (slice_get_within es ep e is))

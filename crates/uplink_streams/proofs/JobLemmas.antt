@@ -28,9 +28,10 @@ use Rattle.uplink_model.specs.plan_model.specs.Lines.{allocation_of}
 use Rattle.uplink_model.specs.plan_model.specs.Streams.{Part, line_before, part_in, parts_in, symbol_parts}
 use Rattle.uplink_model.specs.plan_model.specs.declared.lines.PlannedLine.{PlannedLine}
 use Rattle.uplink_model.specs.plan_model.specs.declared.streams.Stream.TheVariants.{UpData}
-use Rattle.schedule_laws.proofs.ListLemmas.{IsAll, all_kept, in_either, of_filter, of_map, of_symbols}
+use Rattle.schedule_laws.specs.plan_model.proofs.ListLemmas.{in_either, of_filter, filter_mapped}
+use Rattle.schedule_laws.proofs.ListLemmas.{IsAll, all_kept, of_map, of_symbols}
 use Rattle.uplink_streams.specs.Streams.{job_for, planned_allocations}
-use Rattle.uplink_streams.proofs.ListLemmas.{InOrder, filter_all, filter_mapped, filter_none, map_map, map_same, of_order, order_all, order_join, order_mapped}
+use Rattle.uplink_streams.proofs.ListLemmas.{InOrder, filter_all, filter_none, map_map, map_same, of_order, order_all, order_join, order_mapped}
 
 -- ---- what each job is of
 

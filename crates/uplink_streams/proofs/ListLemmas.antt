@@ -1,13 +1,13 @@
 -- What filters leave of lists that are made of others, and lists in an order.
 use Rattle.std.proofs.Common.{◌≡◌, ◌⊎◌, inl, inr, Bool, true, false, if◌then◌else◌, List, [], ◌∷◌, ◌++◌, map, refl, ap, ap₂, ◌∙◌, ℕ, ℤ, pos, zero, suc, ◌+ℤ◌, ◌≤ℤ◌, ◌<ℤ◌, arith, subst, sym}
-use Rattle.std.specs.Prelude.{⊤, All, filter}
-use Rattle.std.specs.List.{AllByRecursion, AllPairs}
+use Rattle.std.specs.Prelude.{⊤, filter}
+use Rattle.std.specs.List.{AllPairs}
 use Rattle.std.proofs.lemmas.Int.{ints}
-use Rattle.std.proofs.lemmas.List.Elements.{All-from_recursion, filter-append}
+use Rattle.std.proofs.lemmas.List.Elements.{filter-append}
 use Rattle.std.proofs.lemmas.List.Kept.{AllPairs-cons}
 use Rattle.fragment_laws.specs.Apart.{IsIn}
 use Rattle.uplink_model.specs.unit_model.specs.Lists.{each_tick, in_order, joined, put_in}
-use Rattle.schedule_laws.proofs.ListLemmas.{in_either, in_right}
+use Rattle.schedule_laws.specs.plan_model.proofs.ListLemmas.{in_either, in_right, all_of}
 
 -- ---- filters
 
@@ -18,15 +18,6 @@ filter_all {X = X} t (x ∷ xs) h = let e = h x (inl refl) in rw e (ap (λ (ys :
 pub filter_none : {X : Type 0} (t : X → Bool) (xs : List X) → ((x : X) → IsIn x xs → t x ≡ false) → filter t xs ≡ []
 filter_none t [] h = refl
 filter_none t (x ∷ xs) h = let e = h x (inl refl) in rw e (filter_none t xs (λ y m. h y (inr m)))
-
-pub filter_mapped : {X Y : Type 0} (f : X → Y) (t : Y → Bool) (xs : List X) → filter t (map f xs) ≡ map f (filter (λ x. t (f x)) xs)
-filter_mapped f t [] = refl
-filter_mapped {X = X} {Y = Y} f t (x ∷ xs) = go (t (f x)) (filter_mapped f t xs)
-  where
-    go : (b : Bool) → filter t (map f xs) ≡ map f (filter (λ z. t (f z)) xs)
-        → (let ys : List Y = if b then f x ∷ filter t (map f xs) else filter t (map f xs) in ys) ≡ map f (let us : List X = if b then x ∷ filter (λ z. t (f z)) xs else filter (λ z. t (f z)) xs in us)
-    go true r = ap (λ (ys : List Y). f x ∷ ys) r
-    go false r = r
 
 -- of pieces that pass a test whole, or not at all, as what they are made of does
 pub filter_joined : {X Y : Type 0} (f : X → List Y) (t : X → Bool) (u : Y → Bool) (xs : List X) → ((x : X) (y : Y) → IsIn y (f x) → u y ≡ t x)
@@ -110,13 +101,6 @@ order_before R (z ∷ xs) ys x y h (inl e) = subst (λ w. R w y) (sym e) (h.0 y 
 order_before R (z ∷ xs) ys x y h (inr t) = order_before R xs ys x y h.1 t
 
 -- ---- all of a list
-
-rec_of : {X : Type 0} (P : X → Type 0) (xs : List X) → ((x : X) → IsIn x xs → P x) → AllByRecursion P xs
-rec_of P [] h = tt
-rec_of P (x ∷ xs) h = (h x (inl refl), rec_of P xs (λ y m. h y (inr m)))
-
-pub all_of : {X : Type 0} (P : X → Type 0) (xs : List X) → ((x : X) → IsIn x xs → P x) → All P xs
-all_of P xs h = All-from_recursion P xs (rec_of P xs h)
 
 pub pairs_of : {X : Type 0} (R : X → X → Type 0) (xs : List X) → InOrder R xs → AllPairs R xs
 pairs_of R [] h = λ i j d low high. absurd (omega arith)

@@ -13,7 +13,7 @@ use Rattle.uplink_model.specs.unit_model.specs.declared.jobs.UplinkJob.{UplinkJo
 use Rattle.schedule_laws.specs.unit_laws.proofs.CellLemmas.{slots_equal}
 use Rattle.schedule_laws.specs.unit_laws.proofs.FarLemmas.{endpoints_equal}
 use Rattle.uplink_model.specs.plan_model.specs.Packs.{Message, PartFields, alone, packs, packs_behind, parts_of, same_symbol, size_of, takes, with_part}
-use Rattle.schedule_laws.proofs.ListLemmas.{of_filter}
+use Rattle.schedule_laws.specs.plan_model.proofs.ListLemmas.{of_filter}
 use Rattle.uplink_model.specs.Messages.{job_fields, messages_behind, messages_of, takes_job}
 use Rattle.uplink_streams.proofs.JobLemmas.{IsTimed, MayPrecede}
 use Rattle.uplink_streams.proofs.ListLemmas.{InOrder}

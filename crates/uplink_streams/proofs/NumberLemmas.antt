@@ -2,6 +2,7 @@
 use Rattle.std.proofs.Common.{◌≡◌, ℕ, ◌+◌, inl, inr, Bool, true, false, ◌&&◌, ◌==◌, if◌then◌else◌, List, [], ◌∷◌, length, refl, ap, ap₂, sym, ◌∙◌, subst, arith, true≢false}
 use Rattle.std.specs.Prelude.{filter}
 use Rattle.std.proofs.lemmas.Bool.{eq-eqb, eqb-true}
+use Rattle.std.specs.Cmp.{both_ways}
 use Rattle.fh_time.specs.declared.values.Slot.{Slot}
 use Rattle.fragment_laws.specs.Apart.{IsIn}
 use Rattle.window_config.specs.declared.config.Config.{Config}
@@ -9,21 +10,17 @@ use Rattle.uplink_model.specs.unit_model.specs.Claims.{same_slot}
 use Rattle.uplink_model.specs.unit_model.specs.declared.jobs.UplinkJob.{UplinkJob}
 use Rattle.schedule_laws.specs.unit_laws.proofs.CellLemmas.{slots_equal}
 use Rattle.uplink_model.specs.plan_model.specs.Packs.{Message, Numbered, PartFields, numbered_behind as packs_numbered, frames_before as packs_before, same_symbol as same_part}
-use Rattle.schedule_laws.proofs.ClashLemmas.{slot_own}
-use Rattle.schedule_laws.proofs.ListLemmas.{of_filter}
-use Rattle.schedule_laws.proofs.RangeLemmas.{same_tests}
+use Rattle.schedule_laws.specs.plan_model.proofs.SlotLemmas.{slot_own, eqb_swap}
+use Rattle.schedule_laws.specs.plan_model.proofs.ListLemmas.{of_filter}
 use Rattle.uplink_model.specs.Messages.{frame_count, frames_before, job_fields, number_behind, same_symbol}
 use Rattle.uplink_streams.specs.Streams.{is_of, numbered_behind}
 use Rattle.uplink_streams.proofs.JobLemmas.{IsTimed, MayPrecede}
 use Rattle.uplink_streams.proofs.ListLemmas.{InOrder}
 use Rattle.uplink_streams.proofs.MessageLemmas.{MayLead, passes, symbols_differ}
 
-number_swap : (a b : ℕ) → (a == b) ≡ (b == a)
-number_swap a b = same_tests _ _ (λ h. eq-eqb b a (sym (eqb-true a b h))) (λ h. eq-eqb a b (sym (eqb-true b a h)))
-
 slot_swap : (a b : Slot) → same_slot a b ≡ same_slot b a
 slot_swap a b =
-    same_tests _ _
+    both_ways _ _
     (λ h. subst (λ (x : Slot). same_slot x a ≡ true) (slots_equal a b h) (slot_own a))
     (λ h. subst (λ (x : Slot). same_slot x b ≡ true) (slots_equal b a h) (slot_own b))
 
@@ -39,7 +36,7 @@ module _ (c : Config) (ep : ℕ) where
   same_own m n p q =
       ap (λ (b : Bool). b && (same_slot n.first.slot m.first.slot && (n.first.symbol == m.first.symbol)))
       (eq-eqb n.first.ep m.first.ep (eqb-true n.first.ep ep q ∙ sym (eqb-true m.first.ep ep p)))
-      ∙ ap₂ ◌&&◌ (slot_swap n.first.slot m.first.slot) (number_swap n.first.symbol m.first.symbol)
+      ∙ ap₂ ◌&&◌ (slot_swap n.first.slot m.first.slot) (eqb_swap n.first.symbol m.first.symbol)
 
   same_other : (m n : Message UplinkJob) → (m.first.ep == ep) ≡ true → (n.first.ep == ep) ≡ false → same_symbol n.first m.first ≡ false
   same_other m n p q = go (n.first.ep == m.first.ep) refl
@@ -77,7 +74,7 @@ module _ (c : Config) (ep : ℕ) where
       (frames_are m earlier e timed (record { timed = λ x i. h.timed x (inr i); before = λ x i. h.before x (inr i); order = h.order.1 }))
     where
       swapped : (x : Message UplinkJob) → same_part f x.first m.first ≡ false → same_part f m.first x.first ≡ false
-      swapped x other = ap₂ ◌&&◌ (slot_swap m.first.slot x.first.slot) (number_swap m.first.symbol x.first.symbol) ∙ other
+      swapped x other = ap₂ ◌&&◌ (slot_swap m.first.slot x.first.slot) (eqb_swap m.first.symbol x.first.symbol) ∙ other
 
       apart : (n.first.ep == ep) ≡ false → (x : Message UplinkJob) → IsIn x (filter is_own earlier) → same_part f m.first x.first ≡ false
       apart q x i =

@@ -23,10 +23,11 @@ use Rattle.uplink_model.specs.unit_model.proofs.SweepLaws.{each_split, gap_is, g
 use Rattle.schedule_laws.specs.unit_laws.proofs.CellLemmas.{slots_equal}
 use Rattle.schedule_laws.specs.unit_laws.proofs.FarLemmas.{endpoints_equal}
 use Rattle.schedule_laws.specs.unit_laws.proofs.SweepLemmas.{of_endpoint_related, of_frame_related, of_slot_related, of_subframe_related}
-use Rattle.schedule_laws.proofs.ListLemmas.{IsAll, all_kept, in_either, numerology_short, of_each}
+use Rattle.schedule_laws.specs.plan_model.proofs.ListLemmas.{in_either, all_of}
+use Rattle.schedule_laws.proofs.ListLemmas.{IsAll, all_kept, numerology_short, of_each}
 use Rattle.uplink_streams.specs.Runs.{JobsStandTogether, is_in}
 use Rattle.uplink_streams.proofs.JobLemmas.{at_starts, symbol_job, timed_at}
-use Rattle.uplink_streams.proofs.ListLemmas.{all_of, tick_within}
+use Rattle.uplink_streams.proofs.ListLemmas.{tick_within}
 
 -- ---- a run, and no other that passes a test
 

@@ -19,7 +19,8 @@ use Rattle.uplink_model.specs.plan_model.specs.Packs.{Message, Numbered, PartFie
 use Rattle.uplink_model.specs.plan_model.specs.Streams.{Part, frames_in, messages_of as stream_messages, part_fields, parts_in, section_size}
 use Rattle.uplink_model.specs.plan_model.specs.declared.lines.PlannedLine.{PlannedLine}
 use Rattle.uplink_model.specs.plan_model.specs.declared.streams.Stream.TheVariants.{UpData}
-use Rattle.schedule_laws.proofs.ListLemmas.{in_either, of_each}
+use Rattle.schedule_laws.specs.plan_model.proofs.ListLemmas.{in_either}
+use Rattle.schedule_laws.proofs.ListLemmas.{of_each}
 use Rattle.schedule_laws.proofs.PackLemmas.{message_from, part_from}
 use Rattle.schedule_laws.proofs.PlanLemmas.{line_of}
 use Rattle.uplink_model.specs.Frames.{Antenna, frame_of, frames_behind, frames_from, message_frames}

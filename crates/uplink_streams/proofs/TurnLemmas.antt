@@ -27,13 +27,14 @@ use Rattle.uplink_model.specs.plan_model.specs.Departures.{departure, departures
 use Rattle.uplink_model.specs.plan_model.specs.Packs.{Message, alone, same_symbol as same_part, with_part}
 use Rattle.uplink_model.specs.plan_model.specs.declared.departures.Departures.{Departures}
 use Rattle.uplink_model.specs.plan_model.specs.declared.streams.Stream.TheVariants.{UpData}
-use Rattle.schedule_laws.proofs.ClashLemmas.{slot_own}
-use Rattle.schedule_laws.proofs.ListLemmas.{in_all, in_either, in_right, of_each}
+use Rattle.schedule_laws.specs.plan_model.proofs.SlotLemmas.{slot_own}
+use Rattle.schedule_laws.specs.plan_model.proofs.ListLemmas.{in_either, in_right, all_of}
+use Rattle.schedule_laws.proofs.ListLemmas.{in_all, of_each}
 use Rattle.uplink_model.specs.Frames.{Antenna, frame_of, frames_from, message_frames}
 use Rattle.uplink_model.specs.Messages.{frame_count, frames_before, job_fields, messages_behind, messages_of, number_behind, same_symbol, takes_job}
 use Rattle.uplink_streams.specs.Runs.{FramesLeaveInTa3, FramesLeaveInTurn, MessagesEndInTime, NoneOvertakes, is_in}
 use Rattle.uplink_streams.proofs.JobLemmas.{IsSweptJob, IsTimed, job_swept, swept_jobs, symbol_job, timed_job}
-use Rattle.uplink_streams.proofs.ListLemmas.{InOrder, all_of, order_all, order_before, order_join, order_rest, pairs_of}
+use Rattle.uplink_streams.proofs.ListLemmas.{InOrder, order_all, order_before, order_join, order_rest, pairs_of}
 use Rattle.uplink_streams.proofs.MessageLemmas.{message_first, symbols_differ}
 use Rattle.uplink_streams.proofs.RunLemmas.{jobs_stand_together}
 

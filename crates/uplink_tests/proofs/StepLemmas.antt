@@ -1,6 +1,5 @@
 -- What tests rest on: the unit stands for some history after each call.
-use Rattle.std.proofs.Common.{◌≡◌, ℤ, pos, ◌-ℤ◌, ◌≤ℤ◌, ◌<ℤ◌, List, arith, sym, subst, Result, Ok, Err, OnOk, OnErr, IfErr, IfOk}
-use Rattle.std.proofs.lemmas.Int.{ints}
+use Rattle.std.proofs.Common.{◌≡◌, ℤ, List, sym, subst, Result, Ok, Err, OnOk, OnErr, IfErr, IfOk}
 use Rattle.air_source.specs.declared.airs.AirFault.{AirFault}
 use Rattle.air_source.specs.declared.events.Event.{Event}
 use Rattle.uplink_path.specs.unit_model.specs.Standing.{History, at_clock, heard, nothing_yet}
@@ -20,9 +19,6 @@ use Rattle.uplink_path.specs.plan_model.specs.Packs.{Message}
 use Rattle.uplink_path.specs.uplink_model.specs.Messages.{messages_of}
 use Rattle.uplink_path.specs.Emitting.{SentAll, given_too}
 use Rattle.uplink_path.specs.declared.uplink.Uplink.{Uplink}
-
-pub last_before : (a b : ℤ) → a ≤ℤ b → (a -ℤ pos 1) <ℤ b
-last_before a b h = omega (arith, ints)
 
 pub unit_at_first : {E : Type 0} (c : Config) (r : Result Ru E) → IfOk r (λ u. StandsFor c u nothing_yet) → IfOk r (λ u. HasGivenPast u) → IfOk r (λ u. IsUnitOf c u)
 unit_at_first c (Ok u) stands given = record { history = nothing_yet; stands = stands; given = given }

@@ -9,8 +9,9 @@ use Rattle.replay_events.specs.unit_model.specs.Standing.{History}
 use Rattle.replay_events.specs.unit_model.specs.Uplink.{jobs}
 use Rattle.replay_events.specs.unit_model.specs.declared.jobs.UplinkJob.{UplinkJob}
 use Rattle.replay_events.specs.unit_laws.proofs.SentLemmas.{jobs_begin}
+use Rattle.replay_events.specs.history_laws.proofs.TickLemmas.{last_is_earlier, last_before}
+use Rattle.replay_events.specs.history_laws.proofs.ListLemmas.{front_empty}
 use Rattle.replay_events.proofs.CameLemmas.{none_yet}
-use Rattle.replay_events.proofs.TickLemmas.{front_empty, last_is_earlier}
 use Rattle.uplink_turns.specs.Given.{GivenAndOwed, GivenBefore, GivenIsAll, GivesTick, HasSeen, OwesNone, OwesTick, owed_until}
 use Rattle.uplink_turns.specs.Turns.{jobs_at, jobs_between, jobs_until}
 use Rattle.uplink_turns.proofs.JobLemmas.{jobs_go_on, jobs_go_on_from, jobs_of_nothing, jobs_settled, no_jobs_before}
@@ -68,9 +69,6 @@ pub given_is_all : GivenIsAll
 given_is_all c landings to seen h k see past late history none =
     sym (append-nil h.given) ∙ ap (λ (js : List UplinkJob). h.given ++ js) (sym none) ∙ given_and_owed c landings to seen h k see past late history
 
-by_last : (clock now : ℤ) → clock <ℤ now → clock ≤ℤ (now -ℤ pos 1)
-by_last clock now h = omega (arith, ints)
-
 first_most : (now first : ℤ) → now ≡ first → now ≤ℤ first
 first_most now first e = omega (arith, ints)
 
@@ -79,7 +77,7 @@ last_early now first e = omega (arith, ints)
 
 pub given_before : GivenBefore
 given_before c landings now h k see (inl late) history none =
-    given_is_all c landings (now -ℤ pos 1) now h k see (last_is_earlier now) (by_last h.clock now late) history none
+    given_is_all c landings (now -ℤ pos 1) now h k see (last_is_earlier now) (last_before h.clock now late) history none
 given_before c landings now h k see (inr first) history none =
     let nothing : h.arrivals ≡ [] = see.arrivals ∙ none_yet landings now (first_most now first_clock first) in
     front_empty h.given history.later (sym history.given ∙ jobs_of_nothing c h.arrivals h.clock nothing)

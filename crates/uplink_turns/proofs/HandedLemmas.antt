@@ -13,13 +13,14 @@ use Rattle.window_config.specs.declared.config.Config.{Config}
 use Rattle.window_config.specs.declared.endpoints.EndpointConfig.{EndpointConfig}
 use Rattle.replay_events.specs.unit_model.specs.Lists.{each, onto}
 use Rattle.replay_events.specs.unit_model.specs.declared.jobs.UplinkJob.{UplinkJob}
+use Rattle.replay_events.specs.history_laws.proofs.TickLemmas.{same_most}
 use Rattle.uplink_streams.specs.plan_model.specs.Packs.{Message}
+use Rattle.uplink_streams.specs.plan_model.proofs.ListLemmas.{all_of}
 use Rattle.uplink_streams.specs.schedule_laws.proofs.ListLemmas.{in_all, of_each}
 use Rattle.uplink_streams.specs.uplink_model.specs.Frames.{Antenna, frame_of, frames_behind, frames_from, message_frames}
 use Rattle.uplink_streams.specs.uplink_model.specs.Messages.{frame_count, frames_before, messages_of, number_behind}
 use Rattle.uplink_streams.specs.uplink_model.specs.SentLaws.{AreOf}
 use Rattle.uplink_streams.specs.uplink_model.proofs.MessageLemmas.{frames_both}
-use Rattle.uplink_streams.proofs.ListLemmas.{all_of}
 use Rattle.uplink_streams.proofs.MessageLemmas.{message_first}
 use Rattle.uplink_streams.proofs.TurnLemmas.{frames_leave_in_ta3}
 use Rattle.uplink_turns.specs.TurnLaws.{HandedAreOf, HandedBehindAreOf, HandedGoOn, HandedGoOnFrom, HandedLeaveFrom, HandedLeaveLater, NoneHandedBefore}
@@ -103,14 +104,11 @@ start_from c from js all =
     all_of (λ (m : Message UplinkJob). from ≤ℤ m.first.s.0) (messages_of c js) (λ m i.
     in_all (λ (j : UplinkJob). from ≤ℤ j.s.0) m.first js all (message_first c js m i))
 
-no_earlier : (s tick : ℤ) → s ≡ tick → tick ≤ℤ s
-no_earlier s tick e = omega (arith, ints)
-
 pub handed_leave_later : HandedLeaveLater
 handed_leave_later c antenna landings tick config =
     leave_from c antenna tick (onto [] (messages_until c landings (tick -ℤ pos 1))) (messages_at c landings tick) config.delays
     (start_from c tick (jobs_at c landings tick)
-    (All-weaker (λ (j : UplinkJob). j.s.0 ≡ tick) (λ (j : UplinkJob). tick ≤ℤ j.s.0) (λ j e. no_earlier j.s.0 tick e) (jobs_at c landings tick) (jobs_start_then c landings tick)))
+    (All-weaker (λ (j : UplinkJob). j.s.0 ≡ tick) (λ (j : UplinkJob). tick ≤ℤ j.s.0) (λ j e. same_most j.s.0 tick e) (jobs_at c landings tick) (jobs_start_then c landings tick)))
 
 pub handed_leave_from : HandedLeaveFrom
 handed_leave_from c antenna landings from end config =

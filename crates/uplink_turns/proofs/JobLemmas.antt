@@ -1,11 +1,10 @@
 -- The jobs up to a tick, and those of one.
-use Rattle.std.proofs.Common.{◌≡◌, ℕ, ℤ, pos, ◌+ℤ◌, ◌-ℤ◌, ◌≤ℤ◌, ◌<ℤ◌, List, [], ◌++◌, refl, sym, ap, ◌∙◌, arith}
+use Rattle.std.proofs.Common.{◌≡◌, ℤ, pos, ◌+ℤ◌, ◌-ℤ◌, ◌≤ℤ◌, ◌<ℤ◌, List, [], ◌++◌, refl, sym, ap, ◌∙◌, arith}
 use Rattle.std.proofs.lemmas.Int.{ints}
-use Rattle.fh_time.specs.declared.values.Slot.{Slot}
+use Rattle.std.specs.Int.Signed.{≤ℤ_refl}
 use Rattle.window_config.specs.declared.config.Config.{Config}
 use Rattle.window_config.specs.declared.endpoints.EndpointConfig.{EndpointConfig}
 use Rattle.replay_events.specs.unit_model.specs.Commands.{accepted}
-use Rattle.replay_events.specs.unit_model.specs.Lists.{in_order}
 use Rattle.replay_events.specs.unit_model.specs.Meetings.{Arrival, commands, meetings}
 use Rattle.replay_events.specs.unit_model.specs.Radiated.{first_clock}
 use Rattle.replay_events.specs.unit_model.specs.Reports.{accepted_of}
@@ -15,12 +14,14 @@ use Rattle.replay_events.specs.unit_model.specs.Uplink.{jobs, symbol_jobs}
 use Rattle.replay_events.specs.unit_model.specs.declared.allocations.Allocation.{Allocation}
 use Rattle.replay_events.specs.unit_model.specs.declared.jobs.UplinkJob.{UplinkJob}
 use Rattle.replay_events.specs.unit_laws.proofs.SweepLemmas.{sweep-append, sweep-none, sweep-nothing, tick-nothing}
+use Rattle.replay_events.specs.history_laws.proofs.TickLemmas.{next_after, next_is_later, next_of_last}
+use Rattle.replay_events.specs.history_laws.proofs.UnitLemmas.{no_jobs}
 use Rattle.replay_events.specs.Moments.{arrivals_before}
 use Rattle.replay_events.proofs.CameLemmas.{none_yet}
 use Rattle.replay_events.proofs.SettledLemmas.{messages_settled}
-use Rattle.replay_events.proofs.TickLemmas.{next_after, next_is_later, next_of_last, same_most, sweep_alone}
+use Rattle.replay_events.proofs.TickLemmas.{sweep_alone}
+use Rattle.uplink_streams.specs.plan_model.proofs.ListLemmas.{all_of}
 use Rattle.uplink_streams.proofs.JobLemmas.{at_starts, swept_jobs}
-use Rattle.uplink_streams.proofs.ListLemmas.{all_of}
 use Rattle.uplink_turns.specs.TurnLaws.{JobsAreSettled, JobsGoOn, JobsGoOnFrom, JobsStartBetween, JobsStartThen, NoJobsBefore, NoJobsYet}
 use Rattle.uplink_turns.specs.Turns.{all_accepted, jobs_at, jobs_between, jobs_until}
 
@@ -50,10 +51,6 @@ no_jobs_before c landings to early =
 
 -- ---- of nothing
 
-no_jobs : (ep : ℕ) (e : EndpointConfig) (slot : Slot) (symbol : ℕ) → symbol_jobs [] ep e slot symbol ≡ []
-unfolding symbol_jobs in_order
-no_jobs ep e slot symbol = refl
-
 none_accepted : (c : Config) → accepted_of c [] ≡ []
 unfolding accepted commands meetings
 none_accepted c = refl
@@ -73,8 +70,8 @@ jobs_of_nothing c arrivals to none =
 
 pub no_jobs_yet : NoJobsYet
 no_jobs_yet c landings to config are early =
-    sym (jobs_settled c landings to first_clock config are (same_most first_clock) begins early)
-    ∙ jobs_of_nothing c (arrivals_before landings first_clock) to (none_yet landings first_clock (same_most first_clock))
+    sym (jobs_settled c landings to first_clock config are (≤ℤ_refl first_clock) begins early)
+    ∙ jobs_of_nothing c (arrivals_before landings first_clock) to (none_yet landings first_clock (≤ℤ_refl first_clock))
   where
     begins : first_clock ≤ℤ (end_of_time +ℤ pos 1)
     begins = omega (arith, ints)

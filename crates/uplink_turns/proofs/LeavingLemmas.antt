@@ -3,30 +3,27 @@ use Rattle.std.proofs.Common.{◌≡◌, ℕ, ℤ, pos, ◌+ℤ◌, ◌-ℤ◌, 
 use Rattle.std.specs.Int.{int_gap}
 use Rattle.std.proofs.lemmas.Int.{ints}
 use Rattle.std.proofs.lemmas.List.Elements.{All-weaker}
+use Rattle.std.specs.Int.Signed.{≤ℤ_refl}
 use Rattle.air_source.specs.declared.links.LinkFrame.{LinkFrame}
 use Rattle.replay_events.specs.unit_model.specs.Lists.{each_tick}
 use Rattle.replay_events.specs.unit_model.specs.Radiated.{first_clock}
 use Rattle.replay_events.specs.unit_model.specs.Times.{end_of_time}
 use Rattle.replay_events.specs.unit_model.specs.declared.jobs.UplinkJob.{UplinkJob}
 use Rattle.replay_events.specs.unit_model.proofs.SweepLaws.{gap_none}
-use Rattle.replay_events.proofs.TickLemmas.{at_most, last_of_next, next_after, next_is_later, no_ticks, same_most, tick_alone, ticks_append}
+use Rattle.replay_events.specs.history_laws.proofs.TickLemmas.{at_most, last_of_next, next_after, next_is_later, next_order, last_before, after_all, same_then}
+use Rattle.replay_events.proofs.TickLemmas.{no_ticks, tick_alone, ticks_append}
+use Rattle.uplink_streams.specs.plan_model.proofs.ListLemmas.{all_of}
 use Rattle.uplink_streams.specs.schedule_laws.proofs.ListLemmas.{in_all}
 use Rattle.uplink_streams.specs.uplink_model.specs.Frames.{frames_behind}
 use Rattle.uplink_streams.specs.uplink_model.specs.Messages.{messages_of}
 use Rattle.uplink_streams.specs.uplink_model.specs.Sent.{in_sent_order, leaving_at}
 use Rattle.uplink_streams.specs.uplink_model.proofs.SentLemmas.{later_change_nothing, leaving_leave_then}
-use Rattle.uplink_streams.proofs.ListLemmas.{all_of, tick_within}
+use Rattle.uplink_streams.proofs.ListLemmas.{tick_within}
 use Rattle.uplink_turns.specs.TurnLaws.{LeavingIsSettled, LeftEnds, LeftGoesOn, LeftIsAll, LeftLeaveLater, LeftWaits}
 use Rattle.uplink_turns.specs.Turns.{handed_between, handed_until, leaving_of_handed, left_from}
 use Rattle.uplink_turns.proofs.HandedLemmas.{handed_go_on_from, handed_leave_from}
 
 -- ---- at a tick
-
-next_later : (a b : ℤ) → a ≤ℤ b → (a +ℤ pos 1) ≤ℤ (b +ℤ pos 1)
-next_later a b h = omega (arith, ints)
-
-after_all : (t tick at : ℤ) → t ≤ℤ tick → (tick +ℤ pos 1) ≤ℤ at → t <ℤ at
-after_all t tick at h k = omega (arith, ints)
 
 pub leaving_settled : LeavingIsSettled
 leaving_settled c antenna landings t tick later config begun past order =
@@ -35,7 +32,7 @@ leaving_settled c antenna landings t tick later config begun past order =
     let end = later +ℤ pos 1 in
     let rest = handed_between c antenna landings next end in
     ap (λ (fs : List LinkFrame). leaving_at n fs t)
-    (handed_go_on_from c antenna landings next later (at_most first_clock tick next begun (next_is_later tick)) (next_later tick later order))
+    (handed_go_on_from c antenna landings next later (at_most first_clock tick next begun (next_is_later tick)) (next_order tick later order))
     ∙ later_change_nothing n (handed_until c antenna landings (next -ℤ pos 1)) rest t
     (All-weaker (λ (f : LinkFrame). next ≤ℤ f.at.0) (λ (f : LinkFrame). t <ℤ f.at.0) (λ f h. after_all t tick f.at.0 past h) rest
     (handed_leave_from c antenna landings next end config))
@@ -47,12 +44,9 @@ pub left_goes_on : LeftGoesOn
 left_goes_on c antenna landings now config begun ended =
     let f = leaving_of_handed c antenna landings end_of_time in
     let next = now +ℤ pos 1 in
-    ticks_append f now next (end_of_time +ℤ pos 1) (next_is_later now) (next_later now end_of_time ended)
+    ticks_append f now next (end_of_time +ℤ pos 1) (next_is_later now) (next_order now end_of_time ended)
     ∙ ap (λ (fs : List LinkFrame). fs ++ left_from c antenna landings next)
-    (tick_alone f now ∙ leaving_settled c antenna landings now now end_of_time config begun (same_most now) ended)
-
-by_last : (t tick : ℤ) → t <ℤ tick → t ≤ℤ (tick -ℤ pos 1)
-by_last t tick h = omega (arith, ints)
+    (tick_alone f now ∙ leaving_settled c antenna landings now now end_of_time config begun (≤ℤ_refl now) ended)
 
 last_by : (tick end : ℤ) → tick ≤ℤ (end +ℤ pos 1) → (tick -ℤ pos 1) ≤ℤ end
 last_by tick end h = omega (arith, ints)
@@ -65,7 +59,7 @@ left_waits c antenna landings now tick config begun order ended silent =
     ticks_append f now tick (end_of_time +ℤ pos 1) order ended
     ∙ ap (λ (fs : List LinkFrame). fs ++ left_from c antenna landings tick)
     (no_ticks f now tick order (λ t low high.
-    leaving_settled c antenna landings t last end_of_time config (at_most first_clock t last (at_most first_clock now t begun low) (by_last t tick high)) (by_last t tick high)
+    leaving_settled c antenna landings t last end_of_time config (at_most first_clock t last (at_most first_clock now t begun low) (last_before t tick high)) (last_before t tick high)
     (last_by tick end_of_time ended)
     ∙ ap (λ (js : List UplinkJob). leaving_at n (frames_behind c antenna [] (messages_of c js)) t) silent.none_starts
     ∙ silent.none_leaves t low high))
@@ -83,13 +77,10 @@ left_ends c antenna landings now over =
     let f = leaving_of_handed c antenna landings end_of_time in
     ap (λ (n : ℕ). each_tick now n f) (gap_none now (end_of_time +ℤ pos 1) (next_after end_of_time now over)) ∙ none_of_ticks now f
 
-leaves_later : (now t at : ℤ) → now ≤ℤ t → at ≡ t → now ≤ℤ at
-leaves_later now t at h e = omega (arith, ints)
-
 pub left_leave_later : LeftLeaveLater
 left_leave_later c antenna landings now =
     let n = length c.endpoints in
     let frames = handed_until c antenna landings end_of_time in
     all_of (λ (f : LinkFrame). now ≤ℤ f.at.0) (left_from c antenna landings now) (λ f i.
     (let w = tick_within f now (int_gap now (end_of_time +ℤ pos 1)) (leaving_at n frames) i in
-    leaves_later now w.0 f.at.0 w.1 (in_all (λ (g : LinkFrame). g.at.0 ≡ w.0) f (leaving_at n frames w.0) (leaving_leave_then n frames w.0) w.3)))
+    same_then now w.0 f.at.0 w.1 (in_all (λ (g : LinkFrame). g.at.0 ≡ w.0) f (leaving_at n frames w.0) (leaving_leave_then n frames w.0) w.3)))

@@ -7,7 +7,8 @@ use Rattle.replay_events.specs.unit_model.specs.Radiated.{first_clock}
 use Rattle.replay_events.specs.unit_model.specs.Sweeps.{sweep}
 use Rattle.replay_events.specs.unit_model.specs.Uplink.{symbol_jobs}
 use Rattle.replay_events.specs.unit_model.specs.declared.jobs.UplinkJob.{UplinkJob}
-use Rattle.replay_events.proofs.TickLemmas.{next_is_later, next_of_last, sweep_alone}
+use Rattle.replay_events.specs.history_laws.proofs.TickLemmas.{next_is_later, next_of_last}
+use Rattle.replay_events.proofs.TickLemmas.{sweep_alone}
 use Rattle.uplink_streams.specs.uplink_model.specs.Messages.{messages_of}
 use Rattle.uplink_streams.proofs.TurnLemmas.{messages_end_in_time}
 use Rattle.uplink_turns.specs.TurnLaws.{MessagesGoOn, MessagesGoOnFrom}

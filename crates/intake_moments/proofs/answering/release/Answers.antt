@@ -1,4 +1,5 @@
 use Rattle.std.proofs.Common.{◌≡◌, ℤ, ◌≤ℤ◌, List, [], ◌∷◌, ◌++◌, length, refl, sym, ap, subst}
+use Rattle.std.specs.Int.Signed.{≤ℤ_refl}
 use Rattle.send_queue.specs.air_source.specs.declared.events.Side.TheVariants.{Du}
 use Rattle.send_queue.specs.air_source.specs.declared.links.LinkFrame.{LinkFrame}
 use Rattle.radio_moments.specs.document_traffic.specs.Landing.{leaving_answer}
@@ -6,7 +7,6 @@ use Rattle.radio_moments.specs.document_traffic.specs.Sending.{counted}
 use Rattle.radio_moments.specs.frame_ways.proofs.ComingLemmas.{comes_later}
 use Rattle.radio_moments.specs.fh_document.specs.declared.delivered.Class3.TheVariants.{U}
 use Rattle.fh_time.specs.declared.values.Ticks.{Ticks}
-use Rattle.radio_moments.specs.replay_events.proofs.TickLemmas.{same_most}
 use Rattle.send_queue.specs.Queues.{AllHaveLeft, waiting_at}
 use Rattle.intake_moments.specs.Answers.{HasReleased}
 use Rattle.intake_moments.proofs.LeaveLemmas.{handed_by}
@@ -36,14 +36,14 @@ loop-frame-preserved c d due frames =
     let at : f.at ≡ tick = c.in-Some.ensures.took.1 in
     let here : f.at.0 ≡ tick.0 = ap (λ (t : Ticks). t.0) at in
     let way = next_way d tick.0 r.counts f before now c.loop-frame.way due here (next_waits n tick.0 (handed_by d tick.0) r.gone f before now r.leaves left) r.on_way in
-    let comes = comes_later d Du tick.0 r.counts (leaving_answer f) due.replayable.document (subst (λ (t : ℤ). tick.0 ≤ℤ t) (sym here) (same_most tick.0)) in
+    let comes = comes_later d Du tick.0 r.counts (leaving_answer f) due.replayable.document (subst (λ (t : ℤ). tick.0 ≤ℤ t) (sym here) (≤ℤ_refl tick.0)) in
     record {
       gone = r.gone ++ f ∷ [];
       leaves = left.leaves;
       counts = counted U r.counts;
       on_way =
           c.in_ok-send_owned.ensures.sent d Du tick.0 tick.0 r.counts (leaving_answer f) (left_behind d tick.0 (waiting_at tick.0 now))
-          (same_most tick.0) comes (sym here) refl refl way;
+          (≤ℤ_refl tick.0) comes (sym here) refl refl way;
     }
 
 pub returns : goal.returns

@@ -1,10 +1,10 @@
 use Rattle.std.proofs.Common.{rules, ◌≡◌, ◌≤ℤ◌, List, ◌++◌, sym, ◌∙◌, subst, arith}
+use Rattle.std.specs.Int.Signed.{≤ℤ_refl}
 use Rattle.send_queue.specs.air_source.specs.declared.airs.AirFault.TheVariants.{Failed, NoMemory}
 use Rattle.send_queue.specs.air_source.specs.declared.events.Event.{Event}
 use Rattle.send_queue.specs.air_source.specs.declared.events.Side.TheVariants.{Du as AtDu}
 use Rattle.fh_time.specs.declared.values.Ticks.{Ticks}
 use Rattle.radio_moments.specs.frame_ways.specs.Landed.{bytes_of}
-use Rattle.radio_moments.specs.replay_events.proofs.TickLemmas.{same_most}
 use Rattle.intake_moments.specs.Landing.{frames_told}
 use Rattle.intake_moments.specs.Turns.{IsIntakeInStep}
 use Rattle.intake_moments.proofs.LandLemmas.{all_landed, comes_late, halts_next, has_behind, hears_on, lands_next, lands_none, stops_next, takes_next}
@@ -58,7 +58,7 @@ loop-frame-preserved g c =
             (c.in-Some.ensures.next old.some.document AtDu old.some.counts old.some.left old.some.waits) old.some.late);
       };
       unit = takes_next c.loop-frame.intake c.hear.new.intake tick.0 (bytes_of f) old.unit old.order c.requires.time told.stands;
-      order = subst (λ (t : Ticks). t.0 ≤ℤ tick.0) (sym told.clock) (same_most tick.0);
+      order = subst (λ (t : Ticks). t.0 ≤ℤ tick.0) (sym told.clock) (≤ℤ_refl tick.0);
       kept = c.hear.ensures.kept;
       same = g.met.A.Air.same_more _ _ _ old.same c.hear.ensures.same;
       later = omega (arith, first, more);

@@ -1,10 +1,10 @@
 use Rattle.std.proofs.Common.{◌++◌, map, refl, ◌∙◌}
+use Rattle.std.specs.Int.Signed.{≤ℤ_refl}
 use Rattle.delay_exchange.specs.document_traffic.specs.Sending.{counted}
 use Rattle.delay_exchange.specs.fh_document.specs.declared.delivered.Class3.TheVariants.{M}
 use Rattle.frame_ways.proofs.ComingLemmas.{measured_comes}
 use Rattle.delay_exchange.specs.measured_traffic.specs.Doings.{taken}
 use Rattle.delay_exchange.specs.measured_traffic.specs.Replayed.{leaving_made}
-use Rattle.delay_exchange.specs.replay_events.proofs.TickLemmas.{same_most}
 use Rattle.measured_moments.proofs.MadeLemmas.{fewer_made, made_next, made_none, taken_none}
 use Rattle.measured_moments.proofs.made.send_made.Goals as goal
 
@@ -36,8 +36,8 @@ loop-frame-preserved g c =
           let one = c.in-Some.ensures.doings d _ (taken so_far.left x) so_far.has in
           let ahead = made_next d side tick so_far.left c.in-Some.frame one.0 rest c.loop-frame.way one.1 so_far.way in
           let f = leaving_made tick c.in-Some.frame in
-          let gone = c.in_ok-send.ensures.sent d side _ _ ahead.counts f (map (leaving_made tick) one.0 ++ rest) (same_most _)
-          (measured_comes d side _ ahead.counts f ahead.waits.read refl (same_most _)) refl refl refl ahead.waits in
+          let gone = c.in_ok-send.ensures.sent d side _ _ ahead.counts f (map (leaving_made tick) one.0 ++ rest) (≤ℤ_refl _)
+          (measured_comes d side _ ahead.counts f ahead.waits.read refl (≤ℤ_refl _)) refl refl refl ahead.waits in
           record { left = one.0; has = one.2; way = record { counts = counted M ahead.counts; waits = gone } };
     }
 

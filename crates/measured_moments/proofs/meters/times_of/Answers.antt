@@ -1,5 +1,6 @@
 use Rattle.std.proofs.Common.{rules, ◌<◌, ◌∙◌, length, sym, ap, arith}
-use Rattle.measured_moments.proofs.TimeLemmas.{measure_is, not_past, times_next}
+use Rattle.frame_ways.proofs.ListLemmas.{not_past}
+use Rattle.measured_moments.proofs.TimeLemmas.{measure_is, times_next}
 use Rattle.measured_moments.proofs.meters.times_of.Goals as goal
 use Rattle.measured_moments.proofs.meters.times_of.Goals.{in-Some+in_ok-push, in_default}
 

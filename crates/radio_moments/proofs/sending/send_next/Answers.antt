@@ -1,9 +1,9 @@
 use Rattle.std.proofs.Common.{rules, map, ◌∙◌}
 use Rattle.std.proofs.lemmas.Result.{on_ok_weaker}
+use Rattle.std.specs.Int.Signed.{≤ℤ_refl}
 use Rattle.air_source.specs.declared.events.Side.TheVariants.{Ru as AtRu}
 use Rattle.measured_moments.specs.document_traffic.specs.Sending.{leaving_of}
 use Rattle.measured_moments.specs.measured_traffic.specs.Replayed.{leaving_with}
-use Rattle.measured_moments.specs.replay_events.proofs.TickLemmas.{same_most}
 use Rattle.measured_moments.specs.tone_source.specs.Tones.{tone_of}
 use Rattle.radio_moments.proofs.SendLemmas.{comes_then, has_none, has_sent_next, is_ahead, is_given, way_document}
 use Rattle.radio_moments.proofs.sending.send_next.Goals as goal
@@ -43,5 +43,5 @@ returns-in-Some g c d now m =
     let given = is_given d now w s m.may (c.in-Some.ensures.gives d.config d.plan waits.left waits.plan (tone_of d.source) m.may.tone) in
     on_ok_weaker c.send.result
     (λ gone. has_sent_next d now w s m given c.next_frame.follows.lender-at-none c.next_frame.result c.send.new.self c.send.new.pool c.in-Some.is c.next_frame.follows.holds-at-none gone)
-    (c.send.ensures.sent d AtRu now now waits.counts (leaving_of d given.frame) (leaving_with AtRu d (map (leaving_of d) given.rest) now) (same_most now) (comes_then d now w s m given)
+    (c.send.ensures.sent d AtRu now now waits.counts (leaving_of d given.frame) (leaving_with AtRu d (map (leaving_of d) given.rest) now) (≤ℤ_refl now) (comes_then d now w s m given)
     given.at (c.class_of.ensures ∙ given.class) given.bytes (is_ahead d now w s m given))

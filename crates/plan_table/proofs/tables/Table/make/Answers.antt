@@ -3,7 +3,8 @@ use Rattle.std.proofs.Common.{◌<◌, ◌≤◌, List, length, map, ◌∙◌, 
 use Rattle.window_config.specs.declared.endpoints.EndpointConfig.{EndpointConfig}
 use Rattle.plan_runs.specs.plan_model.specs.Sent.{sent}
 use Rattle.plan_runs.specs.sent_order.specs.Runs.{turn_of}
-use Rattle.plan_table.proofs.TableLemmas.{some_of, filled_more, filled_table, filled_runs, runs_fit, runs_ordered}
+use Rattle.plan_runs.specs.plan_parts.proofs.PlacingLemmas.{some_of}
+use Rattle.plan_table.proofs.TableLemmas.{filled_more, filled_table, filled_runs, runs_fit, runs_ordered}
 use Rattle.plan_table.proofs.tables.Table.make.Goals as goal
 
 pub loop-ep-preserved : goal.loop-ep-preserved

@@ -2,7 +2,8 @@ use Rattle.std.proofs.Common.{◌≤ℤ◌}
 use Rattle.measured_moments.specs.document_traffic.specs.Sending.{none_sent, sent_for}
 use Rattle.du_scheduler.specs.plan_model.specs.Sent.{SentFrame}
 use Rattle.du_scheduler.specs.unit_model.specs.Radiated.{first_clock}
-use Rattle.radio_moments.proofs.OrderLemmas.{all_of, sent_time}
+use Rattle.du_scheduler.specs.plan_model.proofs.ListLemmas.{all_of}
+use Rattle.radio_moments.proofs.OrderLemmas.{sent_time}
 use Rattle.radio_moments.proofs.downlink.Downlink.make.Goals as goal
 
 pub returns : goal.returns

@@ -1,8 +1,8 @@
 use Rattle.std.proofs.Common.{arith, sym, ap, ◌∙◌}
+use Rattle.uplink_model.specs.plan_model.proofs.ListLemmas.{endpoint_is}
 use Rattle.uplink_path.specs.declared.rules.Rules.{Rules}
 use Rattle.uplink_path.proofs.CloseLemmas.{none_is, open_is}
 use Rattle.uplink_path.proofs.FrameLemmas.{on_err}
-use Rattle.uplink_path.proofs.SendableLemmas.{endpoint_is_good}
 use Rattle.uplink_path.proofs.TakeLemmas.{job_endpoint, stopped, taking, took_anew, took_first, took_with}
 use Rattle.uplink_path.proofs.uplink.Uplink.pack.Goals.{in-Some+else-takes+in_ok-send, in_default}
 use Rattle.uplink_path.proofs.uplink.Uplink.pack.Goals as goal
@@ -41,8 +41,7 @@ returns-in_err-send-clause-err g c k answer ms om said n is_open can =
 pub alone-requires : goal.alone-requires
 alone-requires g c =
     let k = c.requires.some in
-    endpoint_is_good k.config.endpoints c.args.job.now.ep c.index.result.now
-    (job_endpoint k.config c.args.self.now k.messages c.args.job.now c.index.result.now k.numbered k.can c.index.ensures) k.numbered.config.endpoints.each
+    endpoint_is k.config.endpoints c.args.job.now.ep c.index.result.now k.numbered.config.endpoints.each (job_endpoint k.config c.args.self.now k.messages c.args.job.now c.index.result.now k.numbered k.can c.index.ensures)
 
 pub returns-clause-took : goal.returns-clause-took
 returns-clause-took g c k ms om n is_open can =

@@ -6,6 +6,7 @@ use Rattle.window_config.specs.declared.config.Config.{Config as SpecConfig}
 use Rattle.window_config.specs.declared.endpoints.EndpointConfig.{EndpointConfig}
 use Rattle.uplink_model.specs.plan_model.specs.Packs.{Message}
 use Rattle.uplink_model.specs.unit_model.specs.declared.jobs.UplinkJob.{UplinkJob as SpecJob}
+use Rattle.uplink_model.specs.plan_model.proofs.ListLemmas.{endpoint_is}
 use Rattle.uplink_model.specs.Frames.{Antenna, frames_from, message_frames}
 use Rattle.uplink_model.specs.Messages.{frame_count, frames_before, number_behind}
 use Rattle.uplink_path.specs.Emitting.{Numbered}
@@ -16,7 +17,7 @@ use Rattle.uplink_path.specs.declared.pending.Pending.{Pending}
 use Rattle.uplink_path.specs.declared.uplink.Uplink.{Uplink}
 use Rattle.uplink_path.proofs.FrameLemmas.{on_err}
 use Rattle.uplink_path.proofs.NumberLemmas.{capped_wait, numbers_next, room_stays, waits_next}
-use Rattle.uplink_path.proofs.SendableLemmas.{can_be_sent, endpoint_is_good, endpoint_read, within_16}
+use Rattle.uplink_path.proofs.SendableLemmas.{can_be_sent, endpoint_read, within_16}
 use Rattle.uplink_path.proofs.uplink.Uplink.send.Goals as goal
 
 pub bounds-self-first-2 : goal.bounds-self-first-2
@@ -36,7 +37,7 @@ send_message-requires-clause-sendable g c =
     let (k, ms, m, n, packed, proper) = c.requires.some in
     let is = read k c.args.self.now ms c.args.message.now m c.index.result.now n packed proper c.index.ensures in
     can_be_sent k c.args.self.now ms c.args.message.now m c.index.result.now n packed proper is
-    (rw is (endpoint_is_good k.endpoints m.first.ep proper.first.endpoint proper.first.endpoint_is n.config.endpoints.each))
+    (rw is (endpoint_is k.endpoints m.first.ep proper.first.endpoint n.config.endpoints.each proper.first.endpoint_is))
 
 behind : {F : Type 0} (k : SpecConfig) (u : Uplink F) (ms : List (Message SpecJob)) (p : Pending) (m : Message SpecJob) (wait : ℕ) → Numbered k u ms → IsPacked k p m
     → IsProperMessage k m → wait ≡ min (wait_in u.run p.first) u.rules.departures.spread

@@ -1,17 +1,11 @@
--- Tests over a range of numbers, and over lists, by a witness.
-use Rattle.std.proofs.Common.{◌≡◌, ℕ, zero, suc, ◌+◌, ◌<◌, ◌≤◌, max, inl, inr, Bool, true, false, nat_lt, List, [], ◌∷◌, refl, ap, sym, ◌∙◌, arith}
-use Rattle.std.specs.List.{list_any}
-use Rattle.std.proofs.lemmas.Bool.{cases_eq, or_cases, and_parts, and_from, or_left, or_right, leb-true, ltb-true, le-leb, lt-ltb}
-use Rattle.unit_laws.specs.unit_model.specs.Lists.{every, some}
-use Rattle.unit_laws.specs.unit_model.specs.Claims.{is_from}
-use Rattle.fragment_laws.specs.Apart.{IsIn}
+-- Tests over a range of numbers by a witness, and intervals that meet.
+use Rattle.std.proofs.Common.{◌≡◌, ℕ, zero, suc, ◌+◌, ◌<◌, ◌≤◌, max, inl, inr, Bool, true, false, nat_lt, refl, ap, sym, ◌∙◌, true≢false, arith}
+use Rattle.std.proofs.lemmas.Bool.{cases_Bool, cases_eq, or_cases, and_parts, and_from, or_left, or_right, leb-true, ltb-true, le-leb, lt-ltb}
+use Rattle.std.proofs.lemmas.Bool.Decides.{nat_tests}
+use Rattle.fh_time.specs.Carrier.{is_outside, first_of, count_of}
+use Rattle.unit_model.specs.Lists.{every, some}
+use Rattle.unit_model.specs.Claims.{is_from}
 use Rattle.plan_model.specs.Validity.{meet}
-
--- two tests that follow from one another
-pub same_tests : (a b : Bool) → (a ≡ true → b ≡ true) → (b ≡ true → a ≡ true) → a ≡ b
-same_tests true b f g = sym (f refl)
-same_tests false true f g = g refl
-same_tests false false f g = refl
 
 pub every_at : (from n : ℕ) (p : ℕ → Bool) (k : ℕ) → every from n p ≡ true → from ≤ k → k < from + n → p k ≡ true
 unfolding every
@@ -34,6 +28,12 @@ some_one from (suc n) p k low high is = elim (cases_eq k from) [
   | inr ne ↦ or_right (p from) _ (some_one (from + 1) n p k (omega (arith, ne)) (omega arith) is)
 ]
 
+pub some_not : (from n : ℕ) (p : ℕ → Bool) (k : ℕ) → some from n p ≡ false → from ≤ k → k < from + n → p k ≡ false
+some_not from n p k h low high = elim (cases_Bool (p k)) [
+  | inl is ↦ absurd (true≢false (sym (some_one from n p k low high is) ∙ h))
+  | inr not_is ↦ not_is
+]
+
 -- a number that passes
 pub record Found (from n : ℕ) (p : ℕ → Bool) : Type 0 where
   pub k : ℕ
@@ -47,27 +47,6 @@ found from zero p h = absurd (cc)
 found from (suc n) p h = elim (or_cases (p from) _ h) [
   | inl now ↦ record { k = from; low = omega arith; high = omega arith; is = now }
   | inr later ↦ let f = found (from + 1) n p later in record { k = f.k; low = (let l = f.low in omega arith); high = (let l = f.high in omega arith); is = f.is }
-]
-
--- ---- lists
-
-pub any_in : {X : Type 0} (p : X → Bool) (x : X) (xs : List X) → IsIn x xs → p x ≡ true → list_any p xs ≡ true
-any_in p x [] m is = absurd m
-any_in p x (y ∷ ys) m is = elim m [
-  | inl here ↦ or_left (p y) _ (ap p (sym here) ∙ is)
-  | inr there ↦ or_right (p y) _ (any_in p x ys there is)
-]
-
-pub record Among {X : Type 0} (p : X → Bool) (xs : List X) : Type 0 where
-  pub x : X
-  pub there : IsIn x xs
-  pub is : p x ≡ true
-
-pub among : {X : Type 0} (p : X → Bool) (xs : List X) → list_any p xs ≡ true → Among p xs
-among p [] h = absurd (cc)
-among p (y ∷ ys) h = elim (or_cases (p y) _ h) [
-  | inl now ↦ record { x = y; there = inl refl; is = now }
-  | inr later ↦ let a = among p ys later in record { x = a.x; there = inr a.there; is = a.is }
 ]
 
 -- ---- intervals
@@ -90,6 +69,9 @@ meet_from a m b n k p q =
     let bh = from_high b n k q in
     and_from _ _ (lt-ltb a (b + n) (omega arith)) (lt-ltb b (a + m) (omega arith))
 
+pub meet_swap : (a m b n : ℕ) → meet a m b n ≡ true → meet b n a m ≡ true
+meet_swap a m b n h = let p = and_parts (nat_lt a (b + n)) (nat_lt b (a + m)) h in and_from (nat_lt b (a + m)) (nat_lt a (b + n)) p.1 p.0
+
 pub record Common (a m b n : ℕ) : Type 0 where
   pub k : ℕ
   pub low : a ≤ k
@@ -101,3 +83,7 @@ common a m b n some_m some_n h =
     let x : a < b + n = ltb-true a (b + n) (and_parts (nat_lt a (b + n)) (nat_lt b (a + m)) h).0 in
     let y : b < a + m = ltb-true b (a + m) (and_parts (nat_lt a (b + n)) (nat_lt b (a + m)) h).1 in
     record { k = max a b; low = omega arith; high = omega arith; other = is_from_in b n (max a b) (omega arith) (omega arith) }
+
+-- what a line names is in the carrier
+pub within_carrier : (prbs start num n : ℕ) → is_outside prbs start num ≡ false → is_from (first_of start num) (count_of prbs num) n ≡ true → n < prbs
+within_carrier prbs start num n inside here = grind (arith, nat_tests)
