@@ -19,14 +19,12 @@ use air_source::Side;
 use fault_counters::Counters;
 use fh_base::NoMemory;
 use fh_time::{Ticks, of_ns};
+use ru_buffers::FIRST_CLOCK;
 use ru_buffers::unit_memory::UnitMemory;
 use schedule_laws::plan_model::PlannedLine;
 use schedule_laws::unit_model::Delivered;
 use std::alloc::Global;
 use window_config::Config;
-
-/// A unit's clock begins one frame before 0.
-const FIRST_CLOCK: Ticks = Ticks(-15_360_000_000);
 
 /// How long after the start of its symbol a cell is reported.
 fn wait_of(config: &Config) -> Ticks

@@ -23,7 +23,7 @@ ghost use Rattle.fronthaul_replay.specs.Replaying.{IsInStep};
 ghost use Rattle.fronthaul_replay.specs.Turns.{AtMoment, AtTurn, HasBegun, HaveLanded, HaveMeasured, IsNext, Waits};
 
 use crate::coming::Coming;
-use crate::times::{FIRST_CLOCK, is_up_to, tick_after, up_to_end};
+use crate::times::{is_up_to, tick_after, up_to_end};
 use bfp_codec::Wide;
 use capture_air::air_source::{Air, AirFault, RePlace, Samples};
 use fh_base::NoMemory;
@@ -33,7 +33,7 @@ use intake_moments::fh_document::Document;
 use intake_moments::intake_moment;
 use intake_moments::measured_moments::Meters;
 use intake_moments::radio_moments::{earlier_of, radio_moment};
-use intake_moments::ru_buffers::Ru;
+use intake_moments::ru_buffers::{FIRST_CLOCK, Ru};
 use sum_air::delay_measure::Edge;
 
 /// The next time at which a cell or a message is due at a unit, a frame leaves or lands, or a measurement begins. None where there is none

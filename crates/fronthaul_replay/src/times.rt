@@ -5,9 +5,6 @@ ghost use Rattle.fronthaul_replay.specs.Turns.{within_end};
 
 use fh_time::Ticks;
 
-/// One frame before 0, where both units' clocks begin.
-pub(crate) const FIRST_CLOCK: Ticks = Ticks(-15_360_000_000);
-
 /// The time up to which cells are reported: 1,100 s.
 const END: Ticks = Ticks(1_689_600_000_000_000);
 

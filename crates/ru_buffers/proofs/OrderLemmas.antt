@@ -25,7 +25,7 @@ use Rattle.history_laws.proofs.UnitLemmas.{used_same, small_is}
 use Rattle.history_laws.proofs.BeforeLemmas.{slot_cases}
 use Rattle.ru_reports.specs.slot_rings.specs.Places.{is_due}
 use Rattle.ru_reports.specs.slot_rings.proofs.PlaceLemmas.{slot_own}
-use Rattle.ru_reports.specs.unit_cells.specs.Cells.{CellsValue, IsCellIn, cells_block, cells_claim, cells_done, endpoints_of}
+use Rattle.ru_reports.specs.unit_cells.specs.Cells.{CellsValue, cells_block, cells_claim, cells_done, endpoints_of}
 use Rattle.ru_reports.specs.Symbols.{MarksTold, cell_in, is_left, is_told, left_at, left_told}
 use Rattle.ru_reports.specs.symbol_search.specs.Symbols.{IsSymbol}
 use Rattle.ru_reports.proofs.AfterLemmas.{left_after}

@@ -14,5 +14,5 @@ mod unit;
 pub use history_laws::unit_model::{Delivered, UplinkJob};
 pub use ru_reports;
 pub use ru_reports::unit_cells;
-pub use unit::Ru;
+pub use unit::{FIRST_CLOCK, Ru};
 pub use unit_memory;

@@ -18,7 +18,7 @@ use std::alloc::Global;
 use unit_memory::UnitMemory;
 
 /// A unit's clock begins one frame before 0.
-const FIRST_CLOCK: Ticks = Ticks(-15_360_000_000);
+pub const FIRST_CLOCK: Ticks = Ticks(-15_360_000_000);
 
 /// The radio unit of an open fronthaul, in memory that is taken when it is made.
 ///
