@@ -5,7 +5,7 @@ ghost use Rattle.owed_bytes.specs.fh_base.specs.Causes.{Rose};
 ghost use Rattle.owed_bytes.specs.fh_base.specs.Told.{WritesFront};
 ghost use Rattle.capture_records.specs.declared.refusals.CaptureWhy.{CaptureWhy};
 ghost use Rattle.capture_records.specs.Reading.{checked};
-ghost use Rattle.capture_show.specs.Faults.{HasWriteCause};
+ghost use Rattle.capture_show.specs.Faults.{show_fault};
 ghost use Rattle.capture_show.specs.Messages.{capture_lines};
 ghost use Rattle.capture_show.specs.Texts.{lines_text};
 
@@ -34,17 +34,15 @@ pub enum ShowFault {
     NoMemory,
 }
 
-// Writes the text of a capture that passed the tests.
-fn print<K: Sink>(alloc: Global, bytes: &[u8], json: bool, out: &mut K) -> Result<(), SinkFault>
-    requires { checked bytes.now ≡ Ok tt }
-    ensures ok { OnOk result (K.written out.new ≡ append_known (K.written out.old) (lines_text json (capture_lines bytes.now))) }
-    ensures front { WritesFront (K.written out.old) (K.written out.new) (lines_text json (capture_lines bytes.now)) }
-    ensures cause { HasWriteCause (K.faults out.old) (K.faults out.new) result }
-{
-    let mut printer = Printer::new(alloc, json);
-    printer.open(out)?;
-    tell_records(bytes, &mut printer, out)?;
-    printer.close(out)
+impl From<SinkFault> for ShowFault {
+    ghost from_gives = { λ fault shown. shown ≡ show_fault fault };
+
+    fn from(fault: SinkFault) -> Self {
+        match fault {
+            SinkFault::Failed => ShowFault::WriteFault,
+            SinkFault::NoMemory => ShowFault::NoMemory,
+        }
+    }
 }
 
 /// Shows a capture: as lines of text, or where `json` as one array with an object for each line.
@@ -72,9 +70,8 @@ pub fn show<K: Sink>(alloc: Global, bytes: &[u8], json: bool, out: &mut K) -> Re
             why: refusal.why,
         });
     }
-    match print(alloc, bytes, json, out) {
-        Ok(()) => Ok(()),
-        Err(SinkFault::Failed) => Err(ShowFault::WriteFault),
-        Err(SinkFault::NoMemory) => Err(ShowFault::NoMemory),
-    }
+    let mut printer = Printer::new(alloc, json);
+    printer.open(out)?;
+    tell_records(bytes, &mut printer, out)?;
+    printer.close(out).map_err(ShowFault::from)
 }
