@@ -1,5 +1,6 @@
 pub mod StepLemmas
 pub mod StopLemmas
+pub mod FaultLemmas
 pub mod NextLemmas
 pub mod CountLemmas
 pub mod LawLemmas

@@ -177,8 +177,11 @@ module _ {A : Type 0} (grew : A → List Event → A → Type 0) (stopped : A �
       (stop.halts_ahead grew stopped (InStep d u i) [] (events_before d (end_of_time +ℤ pos 1)) (counts_for d) a e s))
 
   -- how far the air heard the events
+  pub stops_cut : (d : Document) (u : Ru) (i : Intake) (a e : A) → StopsInStep grew stopped d u i a e → StopsIn grew stopped (events_of d) a e
+  stops_cut d u i a e s = record { before = s.told; event = s.event; after = s.rest; is = s.is; middle = s.middle; heard = s.heard; stop = s.stop }
+
   pub halts_cut : (d : Document) (u : Ru) (i : Intake) (a e : A) → HaltsInStep grew stopped d u i a e → GrewSome grew (events_of d) a e ⊎ StopsIn grew stopped (events_of d) a e
-  halts_cut d u i a e (inl s) = inr (record { before = s.told; event = s.event; after = s.rest; is = s.is; middle = s.middle; heard = s.heard; stop = s.stop })
+  halts_cut d u i a e (inl s) = inr (stops_cut d u i a e s)
   halts_cut d u i a e (inr s) = inl (record { before = s.told; after = s.rest; is = s.is; heard = s.heard })
 
 -- nothing was heard, and nothing landed

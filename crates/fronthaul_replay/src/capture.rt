@@ -5,7 +5,6 @@ ghost use Rattle.fh_base.specs.Told.{WritesFront};
 ghost use Rattle.intake_moments.specs.document_traffic.specs.Sending.{sent_for};
 ghost use Rattle.intake_moments.specs.du_scheduler.specs.Plans.{HasToSend};
 ghost use Rattle.intake_moments.specs.fh_document.specs.Proper.{IsDocument};
-ghost use Rattle.capture_air.specs.Airs.{sink_name, sink_of, owed_of};
 ghost use Rattle.fronthaul_replay.specs.Laws.{IsSound};
 ghost use Rattle.fronthaul_replay.specs.Replay.{HasWriteCause};
 ghost use Rattle.fronthaul_replay.specs.Reports.{capture_of};
@@ -13,7 +12,6 @@ ghost use Rattle.fronthaul_replay.specs.Reports.{capture_of};
 use crate::replaying::replay_to;
 use crate::report::TextFault;
 use capture_air::CaptureAir;
-use capture_air::air_source::AirFault;
 use fh_base::Sink;
 use intake_moments::du_scheduler::Plan;
 use intake_moments::fh_document::Document;
@@ -42,23 +40,6 @@ pub fn capture_document<K: Sink>(
     ensures sound { OnOk result (IsSound document.now) }
 {
     let mut air = CaptureAir::new(out);
-    match replay_to(alloc, document, plan, &mut air) {
-        Ok(()) => finish(&mut air),
-        Err(fault) => Err(fault),
-    }
-}
-
-/// Writes what an air owes.
-fn finish<K: Sink>(air: &mut CaptureAir<'_, K>) -> Result<(), TextFault>
-    ensures reference { sink_name air.new ≡ sink_name air.old }
-    ensures all { OnOk result (K.written (sink_of air.new) ≡ append_known (K.written (sink_of air.old)) (owed_of air.old)) }
-    ensures front { WritesFront (K.written (sink_of air.old)) (K.written (sink_of air.new)) (owed_of air.old) }
-    ensures cause { HasWriteCause (K.faults (sink_of air.old)) (K.faults (sink_of air.new)) result }
-    ensures later { K.faults (sink_of air.old) ≤ K.faults (sink_of air.new) }
-{
-    match air.finish() {
-        Ok(()) => Ok(()),
-        Err(AirFault::Failed) => Err(TextFault::WriteFault),
-        Err(AirFault::NoMemory) => Err(TextFault::NoMemory),
-    }
+    replay_to(alloc, document, plan, &mut air)?;
+    air.finish().map_err(TextFault::from)
 }

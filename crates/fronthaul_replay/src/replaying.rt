@@ -15,7 +15,7 @@ ghost use Rattle.intake_moments.specs.du_intake.specs.Calls.{StandsFor as Intake
 ghost use Rattle.intake_moments.specs.Turns.{planned_for};
 ghost use Rattle.intake_moments.specs.unit_model.specs.Standing.{nothing_yet};
 
-use crate::replays::{ReplayFault, replay};
+use crate::replays::replay;
 use crate::report::TextFault;
 use bfp_codec::Wide;
 use capture_air::air_source::{Air, RePlace, Samples};
@@ -44,14 +44,8 @@ pub fn replay_to<A: Air>(
     ensures same { A.same air.old air.new }
     ensures sound { OnOk result (IsSound document.now) }
 {
-    let mut ru = match Ru::make(alloc, &document.config) {
-        Ok(ru) => ru,
-        Err(NoMemory) => return Err(TextFault::NoMemory),
-    };
-    let mut intake = match intake_of(alloc, document) {
-        Ok(intake) => intake,
-        Err(NoMemory) => return Err(TextFault::NoMemory),
-    };
+    let mut ru = Ru::make(alloc, &document.config)?;
+    let mut intake = intake_of(alloc, document)?;
     let source = ToneSteps::of(document.source);
     let du = Samples::keep(
         |place: RePlace| -> Wide
@@ -68,7 +62,7 @@ pub fn replay_to<A: Air>(
             ensures narrow { Fits16 result }
         { taken_in.at(place) },
     );
-    match replay(
+    replay(
         alloc,
         document,
         plan,
@@ -77,11 +71,8 @@ pub fn replay_to<A: Air>(
         du,
         antenna,
         air,
-    ) {
-        Ok(()) => Ok(()),
-        Err(ReplayFault::AirFailed) => Err(TextFault::WriteFault),
-        Err(ReplayFault::NoMemory) => Err(TextFault::NoMemory),
-    }
+    )?;
+    Ok(())
 }
 
 /// The distributed unit's intake for a document's plan, as [`replay`] takes it.

@@ -17,6 +17,7 @@ ghost use Rattle.intake_moments.specs.ru_buffers.specs.Calls.{StandsFor};
 ghost use Rattle.intake_moments.specs.tone_source.specs.Tones.{tone_of};
 ghost use Rattle.intake_moments.specs.unit_model.specs.Radiated.{first_clock};
 ghost use Rattle.intake_moments.specs.unit_model.specs.Standing.{nothing_yet};
+ghost use Rattle.fronthaul_replay.specs.Faults.{replay_fault};
 ghost use Rattle.fronthaul_replay.specs.Laws.{IsSound};
 ghost use Rattle.fronthaul_replay.specs.Replaying.{HaltsInStep, IsDone, IsReplayable, StopsInStep, events_of};
 ghost use Rattle.fronthaul_replay.specs.Turns.{Waits};
@@ -27,6 +28,7 @@ use crate::counting::tell_counts;
 use crate::moments::pass;
 use bfp_codec::Wide;
 use capture_air::air_source::{Air, AirFault, RePlace, Samples, Side};
+use fh_base::NoMemory;
 use intake_moments::du_intake::Intake;
 use intake_moments::du_scheduler::Plan;
 use intake_moments::fh_document::Document;
@@ -46,6 +48,25 @@ pub enum ReplayFault {
     /// with them.
     #[error("no memory")]
     NoMemory,
+}
+
+impl From<NoMemory> for ReplayFault {
+    ghost from_gives = { λ _ fault. fault ≡ WantsMemory };
+
+    fn from(_: NoMemory) -> Self {
+        ReplayFault::NoMemory
+    }
+}
+
+impl From<AirFault> for ReplayFault {
+    ghost from_gives = { λ air fault. fault ≡ replay_fault air };
+
+    fn from(air: AirFault) -> Self {
+        match air {
+            AirFault::Failed => ReplayFault::AirFailed,
+            AirFault::NoMemory => ReplayFault::NoMemory,
+        }
+    }
 }
 
 /// Replays a document: the frames of its plan are sent at their times with the samples of `du`, the radio unit answers the uplink
@@ -96,11 +117,9 @@ pub fn replay<A: Air, F: Fn(RePlace) -> Wide, G: Fn(RePlace) -> Wide>(
     ensures same { A.same out.old out.new }
     ensures sound { IsSound doc.now }
 {
-    let Ok(mut coming) = coming_of(alloc, doc, plan, antenna) else {
-        return Err(ReplayFault::NoMemory);
-    };
+    let mut coming = coming_of(alloc, doc, plan, antenna)?;
     let comps = doc.comps;
-    let meters = Meters::make(
+    let mut meters = Meters::make(
         alloc,
         doc,
         |edge: Edge| -> i64
@@ -109,15 +128,8 @@ pub fn replay<A: Air, F: Fn(RePlace) -> Wide, G: Fn(RePlace) -> Wide>(
         |edge: Edge| -> i64
             ensures { result ≡ answer_at comps.du_sending comps.du_receiving edge }
         { answer_at(comps.du_sending, comps.du_receiving, edge) },
-    );
-    let Ok(mut meters) = meters else {
-        return Err(ReplayFault::NoMemory);
-    };
-    match run(doc, &du, ru, intake, &mut coming, &mut meters, out) {
-        Ok(()) => Ok(()),
-        Err(AirFault::Failed) => Err(ReplayFault::AirFailed),
-        Err(AirFault::NoMemory) => Err(ReplayFault::NoMemory),
-    }
+    )?;
+    run(doc, &du, ru, intake, &mut coming, &mut meters, out).map_err(ReplayFault::from)
 }
 
 /// A unit's compensation at an edge, in units of 2^-16 ns.

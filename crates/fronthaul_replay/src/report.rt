@@ -1,19 +1,20 @@
 // The report of a document, written.
-ghost use Rattle.std.specs.Prelude.{◌≡◌, ◌≤◌, ◌++◌, OnOk};
+ghost use Rattle.std.specs.Prelude.{◌≡◌, ◌≤◌, OnOk};
 ghost use Rattle.std.specs.Io.KnownBytes.{append_known};
 ghost use Rattle.fh_base.specs.Told.{WritesFront};
 ghost use Rattle.intake_moments.specs.document_traffic.specs.Sending.{sent_for};
 ghost use Rattle.intake_moments.specs.du_scheduler.specs.Plans.{HasToSend};
 ghost use Rattle.intake_moments.specs.fh_document.specs.Proper.{IsDocument};
-ghost use Rattle.text_air.specs.Airs.{sink_name, sink_of, owed_of};
-ghost use Rattle.text_air.specs.Text.{end_text};
+ghost use Rattle.fronthaul_replay.specs.Faults.{replay_fault, text_fault};
 ghost use Rattle.fronthaul_replay.specs.Laws.{IsSound};
 ghost use Rattle.fronthaul_replay.specs.Replay.{HasWriteCause};
 ghost use Rattle.fronthaul_replay.specs.Reports.{document_report};
+ghost use Rattle.fronthaul_replay.specs.declared.report.TextFault.TheVariants.{NoMemory as TextNoMemory};
 
 use crate::replaying::replay_to;
+use crate::replays::ReplayFault;
 use capture_air::air_source::AirFault;
-use fh_base::Sink;
+use fh_base::{NoMemory, Sink};
 use intake_moments::du_scheduler::Plan;
 use intake_moments::fh_document::Document;
 use std::alloc::Global;
@@ -29,6 +30,33 @@ pub enum TextFault {
     /// Memory was refused. A front part of the text was written.
     #[error("no memory")]
     NoMemory,
+}
+
+impl From<NoMemory> for TextFault {
+    ghost from_gives = { λ _ fault. fault ≡ TextNoMemory };
+
+    fn from(_: NoMemory) -> Self {
+        TextFault::NoMemory
+    }
+}
+
+impl From<ReplayFault> for TextFault {
+    ghost from_gives = { λ replay fault. fault ≡ text_fault replay };
+
+    fn from(replay: ReplayFault) -> Self {
+        match replay {
+            ReplayFault::AirFailed => TextFault::WriteFault,
+            ReplayFault::NoMemory => TextFault::NoMemory,
+        }
+    }
+}
+
+impl From<AirFault> for TextFault {
+    ghost from_gives = { λ air fault. fault ≡ text_fault (replay_fault air) };
+
+    fn from(air: AirFault) -> Self {
+        TextFault::from(ReplayFault::from(air))
+    }
 }
 
 /// Writes the report of a document: each cell that radiates or is taken in, the counters of both units that are not at 0, and `end`.
@@ -54,23 +82,6 @@ pub fn report_document<K: Sink>(
     ensures sound { OnOk result (IsSound document.now) }
 {
     let mut air = TextAir::new(out);
-    match replay_to(alloc, document, plan, &mut air) {
-        Ok(()) => finish(&mut air),
-        Err(fault) => Err(fault),
-    }
-}
-
-/// Writes what an air owes, and the last line.
-fn finish<K: Sink>(air: &mut TextAir<'_, K>) -> Result<(), TextFault>
-    ensures reference { sink_name air.new ≡ sink_name air.old }
-    ensures all { OnOk result (K.written (sink_of air.new) ≡ append_known (K.written (sink_of air.old)) (owed_of air.old ++ end_text)) }
-    ensures front { WritesFront (K.written (sink_of air.old)) (K.written (sink_of air.new)) (owed_of air.old ++ end_text) }
-    ensures cause { HasWriteCause (K.faults (sink_of air.old)) (K.faults (sink_of air.new)) result }
-    ensures later { K.faults (sink_of air.old) ≤ K.faults (sink_of air.new) }
-{
-    match air.finish() {
-        Ok(()) => Ok(()),
-        Err(AirFault::Failed) => Err(TextFault::WriteFault),
-        Err(AirFault::NoMemory) => Err(TextFault::NoMemory),
-    }
+    replay_to(alloc, document, plan, &mut air)?;
+    air.finish().map_err(TextFault::from)
 }

@@ -1,20 +1,19 @@
 // The summary of a document, written.
-ghost use Rattle.std.specs.Prelude.{◌≡◌, ◌≤◌, [], ◌++◌, OnOk};
+ghost use Rattle.std.specs.Prelude.{◌≡◌, ◌≤◌, [], OnOk};
 ghost use Rattle.std.specs.Io.KnownBytes.{append_known};
 ghost use Rattle.fh_base.specs.Told.{WritesFront};
 ghost use Rattle.intake_moments.specs.document_traffic.specs.Sending.{sent_for};
 ghost use Rattle.intake_moments.specs.du_scheduler.specs.Plans.{HasToSend};
 ghost use Rattle.intake_moments.specs.fh_document.specs.Proper.{IsDocument};
 ghost use Rattle.sum_air.specs.Airs.{sink_name, sink_of, owed_of, sums_of};
-ghost use Rattle.sum_air.specs.States.{sum_start, sum_ends};
+ghost use Rattle.sum_air.specs.States.{sum_start};
 ghost use Rattle.fronthaul_replay.specs.Laws.{IsSound};
 ghost use Rattle.fronthaul_replay.specs.Replay.{HasWriteCause};
 ghost use Rattle.fronthaul_replay.specs.Reports.{summary_of};
 
 use crate::replaying::replay_to;
 use crate::report::TextFault;
-use capture_air::air_source::AirFault;
-use fh_base::{NoMemory, Sink};
+use fh_base::Sink;
 use intake_moments::du_scheduler::Plan;
 use intake_moments::fh_document::Document;
 use std::alloc::Global;
@@ -43,11 +42,7 @@ pub fn summarize_document<K: Sink>(
     ensures later { K.faults out.old ≤ K.faults out.new }
     ensures sound { OnOk result (IsSound document.now) }
 {
-    let sums = match Sums::make(alloc) {
-        Ok(sums) => sums,
-        Err(NoMemory) => return Err(TextFault::NoMemory),
-    };
-    let mut air = SumAir::over(sums, out);
+    let mut air = SumAir::over(Sums::make(alloc)?, out);
     let told = tell_all(alloc, document, plan, &mut air);
     let _sink = air.into_sink();
     told
@@ -71,23 +66,6 @@ fn tell_all<K: Sink>(
     ensures later { K.faults (sink_of air.old) ≤ K.faults (sink_of air.new) }
     ensures sound { OnOk result (IsSound document.now) }
 {
-    match replay_to(alloc, document, plan, air) {
-        Ok(()) => finish(air),
-        Err(fault) => Err(fault),
-    }
-}
-
-/// Writes what an air owes, what stands behind the last event, and the last line.
-fn finish<K: Sink>(air: &mut SumAir<'_, K>) -> Result<(), TextFault>
-    ensures reference { sink_name air.new ≡ sink_name air.old }
-    ensures all { OnOk result (K.written (sink_of air.new) ≡ append_known (K.written (sink_of air.old)) (owed_of air.old ++ sum_ends (sums_of air.old))) }
-    ensures front { WritesFront (K.written (sink_of air.old)) (K.written (sink_of air.new)) (owed_of air.old ++ sum_ends (sums_of air.old)) }
-    ensures cause { HasWriteCause (K.faults (sink_of air.old)) (K.faults (sink_of air.new)) result }
-    ensures later { K.faults (sink_of air.old) ≤ K.faults (sink_of air.new) }
-{
-    match air.finish() {
-        Ok(()) => Ok(()),
-        Err(AirFault::Failed) => Err(TextFault::WriteFault),
-        Err(AirFault::NoMemory) => Err(TextFault::NoMemory),
-    }
+    replay_to(alloc, document, plan, air)?;
+    air.finish().map_err(TextFault::from)
 }

@@ -1,11 +1,25 @@
-use Rattle.std.proofs.Common.{rules}
-use Rattle.capture_air.specs.air_source.specs.declared.airs.AirFault.TheVariants.{NoMemory}
-use Rattle.fronthaul_replay.proofs.StopLemmas.{halts_cut}
+use Rattle.std.proofs.Common.{Err, ap}
+use Rattle.capture_air.specs.air_source.specs.declared.airs.AirFault.TheVariants.{Failed, NoMemory}
+use Rattle.fronthaul_replay.specs.Replaying.{events_of}
+use Rattle.fronthaul_replay.proofs.FaultLemmas.{cut_from, failed_from}
+use Rattle.fronthaul_replay.proofs.StopLemmas.{halts_cut, stops_cut}
 use Rattle.fronthaul_replay.proofs.replaying.replay_to.Goals as goal
 
 pub intake_of-requires : goal.intake_of-requires
 intake_of-requires g c = record { document = c.requires.document; valid = c.requires.plan.valid }
 
-pub returns-clause-cut : goal.returns-clause-cut
-returns-clause-cut g c =
-    halts_cut g.A.Air.grew (g.A.Air.stopped NoMemory) c.args.document.now c.replay.new.ru c.replay.new.intake c.args.air.now c.replay.new.out (c.in-Err-NoMemory.ensures.wants (search rules))
+pub returns-in_err-replay-clause-cut : goal.returns-in_err-replay-clause-cut
+returns-in_err-replay-clause-cut g c =
+    let grew = g.A.Air.grew in
+    let stopped = g.A.Air.stopped in
+    let d = c.args.document.now in
+    let r = c.replay.new in
+    let x = c.from_residual-in_err-replay in
+    cut_from grew stopped (events_of d) c.args.air.now r.out c.in_err-replay.field-0.0 x.result x.ensures.1
+    (λ is. stops_cut grew (stopped Failed) d r.ru r.intake c.args.air.now r.out (c.in_err-replay.ensures.stopped (ap Err is)))
+    (λ is. halts_cut grew (stopped NoMemory) d r.ru r.intake c.args.air.now r.out (c.in_err-replay.ensures.wants (ap Err is)))
+
+pub returns-in_err-replay-clause-cause : goal.returns-in_err-replay-clause-cause
+returns-in_err-replay-clause-cause g c failed =
+    let x = c.from_residual-in_err-replay in
+    c.in_err-replay.ensures.cause (ap Err (failed_from c.in_err-replay.field-0.0 x.result x.ensures.1 failed))
