@@ -5,15 +5,18 @@ use capture_show::capture_records::CaptureWhy;
 use fronthaul_replay::du_scheduler::PlanWhy;
 use pcap_frames::PcapRefusal;
 use pcap_lines::fh_document::DocWhy;
+use thiserror::Error;
 use window_lines::window_config::Failing;
 use window_lines::window_plan::NoFit;
 
 /// Why a line of the document is refused.
-#[derive(Clone, Copy, Debug, PartialEq, Eq)]
+#[derive(Clone, Copy, Debug, PartialEq, Eq, Error)]
 pub enum LineWhy {
     /// By the grammar.
+    #[error("{0}")]
     Doc(DocWhy),
     /// As a line of the plan.
+    #[error("{0}")]
     Plan(PlanWhy),
 }
 
