@@ -1,7 +1,7 @@
 // The frames that a document injects to a unit, and their times.
 ghost use Rattle.std.specs.Prelude.{◌≡◌, ◌^◌, All, IfOk, map};
 ghost use Rattle.measured_traffic.specs.document_traffic.specs.Landing.{is_to};
-ghost use Rattle.measured_traffic.specs.fh_document.specs.Proper.{IsFrom};
+ghost use Rattle.measured_traffic.specs.fh_document.specs.Proper.{IsDocument, IsFrom};
 ghost use Rattle.frame_ways.specs.Listed.{HasTime, injections_in, injections_to, time_of};
 
 use air_source::Side;
@@ -45,7 +45,7 @@ fn tick_of(injection: &Injection) -> Ticks
 }
 
 /// When frames land, in ticks.
-pub(crate) fn times_of(alloc: Global, injections: &[&Injection]) -> Result<Vec<Ticks>, NoMemory>
+fn times_of(alloc: Global, injections: &[&Injection]) -> Result<Vec<Ticks>, NoMemory>
     requires { All HasTime (injections_in injections.now) }
     ensures { IfOk result (λ times. times.items ≡ map time_of (injections_in injections.now)) }
 {
@@ -54,4 +54,13 @@ pub(crate) fn times_of(alloc: Global, injections: &[&Injection]) -> Result<Vec<T
         times.push(tick_of(injection))?;
     }
     Ok(times)
+}
+
+/// When the frames that a document injects to a unit land, in ticks and in its order. The list of these frames is let go.
+pub(crate) fn times_to(alloc: Global, doc: &Document, side: Side) -> Result<Vec<Ticks>, NoMemory>
+    requires { IsDocument doc.now }
+    ensures { IfOk result (λ times. times.items ≡ map time_of (injections_to side doc.now)) }
+{
+    let injections = injections_to(alloc, doc, side)?;
+    times_of(alloc, injections.as_slice())
 }

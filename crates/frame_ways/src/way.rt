@@ -4,7 +4,7 @@ ghost use Rattle.frame_network.specs.declared.landings.Landing.{Landing};
 
 use crate::copies::{Departure, put_copies};
 use crate::landed::Landed;
-use crate::listing::{injections_to, times_of};
+use crate::listing::{injections_to, times_to};
 use crate::tally::Tally;
 use crate::times::earlier_of;
 use air_source::Side;
@@ -56,9 +56,11 @@ impl<'a> Way<'a> {
         ensures { IfOk result (λ w. Waits doc.now side first_clock first_clock none_sent (all_leaving side doc.now) w) }
     {
         let deliveries = FrameDeliveries::make(alloc, doc)?;
-        let injections = injections_to(alloc, doc, side)?;
-        let times = times_of(alloc, injections.as_slice())?;
+        let times = times_to(alloc, doc, side)?;
         let listed = LandingQueue::make(alloc, times.as_slice())?;
+        // so that a long list of times and that of the frames are never held at once
+        drop(times);
+        let injections = injections_to(alloc, doc, side)?;
         Ok(Way {
             side,
             deliveries,
