@@ -6,6 +6,7 @@ use Rattle.bfp_codec.specs.declared.samples.Iq.{Iq}
 use Rattle.bfp_codec.specs.declared.samples.Wide.{Wide}
 use Rattle.fh_time.specs.declared.values.Slot.{Slot}
 use Rattle.air_source.specs.declared.places.RePlace.{RePlace}
+use Rattle.fh_time.specs.declared.symbols.TheConstants.{SLOT_SYMBOLS}
 
 -- a resource element of a carrier: symbol 0 to 13, PRB 0 to 272, element 0 to 11, and any id and slot
 pub record InRange (p : RePlace) : Type 0 where
@@ -14,7 +15,7 @@ pub record InRange (p : RePlace) : Type 0 where
   pub frame_high : p.slot.frame ≤ℤ pos (2 ^ 63 - 1)
   pub subframe : p.slot.subframe < 2 ^ 8
   pub slot : p.slot.slot < 2 ^ 8
-  pub symbol : p.symbol < 14
+  pub symbol : p.symbol < SLOT_SYMBOLS
   pub prb : p.prb < 273
   pub re : p.re < 12
 

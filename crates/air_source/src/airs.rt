@@ -2,11 +2,13 @@
 ghost use Rattle.std.specs.Prelude.{◌≡◌, List, [], ◌∷◌, ◌++◌, ℕ, ◌<◌, ◌^◌, OnOk, IfErr, length};
 ghost use Rattle.air_source.specs.Causes.{HasAirCause};
 ghost use Rattle.air_source.specs.declared.airs.AirFault.{AirFault};
+ghost use Rattle.air_source.specs.declared.airs.AirFault.TheVariants.{NoMemory as WantsMemory};
 ghost use Rattle.air_source.specs.declared.events.Event.{Event};
 ghost use Rattle.air_source.specs.declared.events.Event.TheVariants.{Cell, Delay, Arrival, Count};
 
 use crate::{AirCell, Side};
 use fault_counters::Counter;
+use fh_base::NoMemory;
 use fh_time::Ticks;
 use thiserror::Error;
 
@@ -19,6 +21,14 @@ pub enum AirFault {
     /// Memory was refused.
     #[error("no memory")]
     NoMemory,
+}
+
+impl From<NoMemory> for AirFault {
+    ghost from_gives = { λ _ fault. fault ≡ WantsMemory };
+
+    fn from(_wants: NoMemory) -> Self {
+        AirFault::NoMemory
+    }
 }
 
 /// What hears events, one at a call.

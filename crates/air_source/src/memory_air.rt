@@ -66,10 +66,8 @@ impl MemoryAir {
     fn keep(&mut self, event: Event) -> Result<(), AirFault>
         ensures { Keeps self.old event self.new result }
     {
-        match self.heard.push(event) {
-            Ok(()) => Ok(()),
-            Err(_) => Err(AirFault::NoMemory),
-        }
+        self.heard.push(event)?;
+        Ok(())
     }
 }
 
@@ -149,14 +147,12 @@ impl Air for MemoryAir {
     {
         self.begin()?;
         let mut kept = Bytes::new(self.alloc);
-        match kept.push_all(frame) {
-            Ok(()) => self.keep(Event::Arrival {
-                side,
-                at,
-                frame: kept,
-            }),
-            Err(_) => Err(AirFault::NoMemory),
-        }
+        kept.push_all(frame)?;
+        self.keep(Event::Arrival {
+            side,
+            at,
+            frame: kept,
+        })
     }
 
     /// Keeps the count, unless memory is refused. `Failed` comes exactly at the listed calls.

@@ -2,16 +2,13 @@
 //! which says how many endpoints, deliveries and injected frames it has, or which line is refused first and why.
 #![tactic(auto)]
 
-use fh_base::{ReadAllFault, StdSource, read_all};
+use fh_base::{INPUT_LIMIT, ReadAllFault, StdSource, read_all};
 use fh_document::{DocFault, read};
 use std::io;
 
-/// The most bytes of a document.
-const LIMIT: usize = 67_108_864;
-
 fn main(rt: HostRuntime) -> io::Result<()> {
     let mut source = StdSource::new(rt.stdin());
-    let bytes = match read_all(rt.alloc(), &mut source, LIMIT) {
+    let bytes = match read_all(rt.alloc(), &mut source, INPUT_LIMIT) {
         Ok(bytes) => bytes,
         Err(ReadAllFault::ReadFault) => return println!(rt; "read fault"),
         Err(ReadAllFault::TooLong) => return println!(rt; "too long"),

@@ -1,22 +1,19 @@
 // A run of many slots.
 ghost use Rattle.std.specs.Prelude.{◌≡◌, ◌≤ℤ◌, ◌^◌, pos, true, IfSome};
 ghost use Rattle.window_config.specs.Configs.{IsConfig};
-ghost use Rattle.intake_samples.specs.du_intake.specs.Closing.{StandsForSome};
+ghost use Rattle.intake_samples.specs.du_intake.specs.Closing.{IntakeStandsForSome};
 ghost use Rattle.intake_samples.specs.unit_model.specs.Proper.{IsTime};
 
 use crate::frames::{TimedFrame, all_to_next_slot, frames_of};
 use crate::plans::lines;
 use crate::tally::Tally;
-use fh_base::{Source, read_all};
+use fh_base::{INPUT_LIMIT, Source, read_all};
 use fh_document::{Document, read};
 use fh_time::{Ticks, of_ns};
 use intake_samples::du_intake::Intake;
 use intake_samples::plan_tests::tested;
 use intake_samples::{close_before, made, step};
 use std::alloc::Global;
-
-/// The most bytes of a document.
-const LIMIT: usize = 67_108_864;
 
 /// A slot of 30 kHz, in nanoseconds.
 const SLOT: i64 = 500_000;
@@ -42,8 +39,8 @@ fn later(at: i64, slots: u16) -> Option<Ticks>
 
 /// Delivers the frames of a slot, so many slots later. Whether each of them could be.
 fn deliver_slot(unit: &mut Intake, frames: &Vec<TimedFrame>, slots: u16, air: &mut Tally) -> bool
-    requires { StandsForSome unit.old }
-    ensures { StandsForSome unit.new }
+    requires { IntakeStandsForSome unit.old }
+    ensures { IntakeStandsForSome unit.new }
 {
     for k in 0..frames.len() {
         let Some(at) = later(frames[k].at, slots) else {
@@ -61,7 +58,7 @@ fn deliver_slot(unit: &mut Intake, frames: &Vec<TimedFrame>, slots: u16, air: &m
 
 /// Delivers the frames so many times, and what an air heard of them by 1 ms after the last slot.
 fn deliver_slots(unit: &mut Intake, frames: &mut Vec<TimedFrame>, slots: u16) -> Option<Tally>
-    requires { StandsForSome unit.old }
+    requires { IntakeStandsForSome unit.old }
 {
     let mut air = Tally::new();
     for k in 0..slots {
@@ -78,7 +75,7 @@ fn deliver_slots(unit: &mut Intake, frames: &mut Vec<TimedFrame>, slots: u16) ->
 
 /// What an air heard of so many slots with the frames of a document.
 pub fn run<S: Source>(alloc: Global, source: &mut S, amounts: Amounts) -> Option<Tally> {
-    let Ok(bytes) = read_all(alloc, source, LIMIT) else {
+    let Ok(bytes) = read_all(alloc, source, INPUT_LIMIT) else {
         return None;
     };
     let Ok(document) = read(alloc, bytes.as_slice()) else {

@@ -5,7 +5,7 @@ ghost use Rattle.tone_source.specs.Tones.{tone_of};
 
 use air_source::{AirCell, RePlace, Samples, Side};
 use bfp_codec::Wide;
-use fh_time::{Slot, Ticks};
+use fh_time::{FRAME, Slot, Ticks};
 use report_lines::put_cell;
 use text_lines::Line;
 use tone_source::{Tone, ToneSteps};
@@ -99,7 +99,7 @@ fn lines(tone: Tone, count: u64) -> u64
     for k in 0..count {
         let cell = AirCell {
             side: Side::Ru,
-            at: Ticks(15_360_000_000i64.wrapping_add(k.cast_signed())),
+            at: Ticks(FRAME.wrapping_add(k.cast_signed())),
             id: 2,
             slot: SLOT,
             symbol: 5,

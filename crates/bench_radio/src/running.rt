@@ -6,15 +6,12 @@ ghost use Rattle.ru_buffers.specs.Calls.{HasGivenPast, StandsForSome};
 use crate::frames::{TimedFrame, all_to_next_slot, frames_of};
 use crate::steps::{advance, deliver};
 use crate::tally::Tally;
-use fh_base::{Source, read_all};
+use fh_base::{INPUT_LIMIT, Source, read_all};
 use fh_document::{Document, read};
-use fh_time::{Ticks, of_ns};
+use fh_time::{FRAME, Ticks, of_ns};
 use ru_buffers::Ru;
 use std::alloc::Global;
 use window_config::Config;
-
-/// The most bytes of a document.
-const LIMIT: usize = 67_108_864;
 
 /// A slot of 30 kHz, in nanoseconds.
 const SLOT: i64 = 500_000;
@@ -71,7 +68,7 @@ fn finish(ru: &mut Ru, frames: &Vec<TimedFrame>, slots: u16, air: &mut Tally) ->
 {
     let last = frames.last()?;
     let end = later(last.at, slots)?;
-    if advance(ru, Ticks(end.0 + 15_360_000_000), air) {
+    if advance(ru, Ticks(end.0 + FRAME), air) {
         Some(*air)
     } else {
         None
@@ -80,7 +77,7 @@ fn finish(ru: &mut Ru, frames: &Vec<TimedFrame>, slots: u16, air: &mut Tally) ->
 
 /// What an air heard of so many slots with the frames of a document.
 pub fn run<S: Source>(alloc: Global, source: &mut S, slots: u16) -> Option<Tally> {
-    let Ok(bytes) = read_all(alloc, source, LIMIT) else {
+    let Ok(bytes) = read_all(alloc, source, INPUT_LIMIT) else {
         return None;
     };
     let Ok(document) = read(alloc, bytes.as_slice()) else {

@@ -3,11 +3,8 @@
 #![tactic(auto)]
 
 use capture_show::{ShowFault, show};
-use fh_base::{StdSink, StdSource, read_all};
+use fh_base::{INPUT_LIMIT, StdSink, StdSource, read_all};
 use std::{env, io};
-
-/// The most bytes of a capture.
-const LIMIT: usize = 67_108_864;
 
 fn main(rt: HostRuntime) -> io::Result<()> {
     let mut words = env::args(&rt)?;
@@ -17,7 +14,7 @@ fn main(rt: HostRuntime) -> io::Result<()> {
         None => false,
     };
     let mut source = StdSource::new(rt.stdin());
-    let Ok(bytes) = read_all(rt.alloc(), &mut source, LIMIT) else {
+    let Ok(bytes) = read_all(rt.alloc(), &mut source, INPUT_LIMIT) else {
         return eprintln!(rt; "not read");
     };
     let mut out = StdSink::new(rt.stdout());

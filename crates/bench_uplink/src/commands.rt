@@ -1,10 +1,8 @@
 // The command of each slot, and when it comes.
 ghost use Rattle.std.specs.Prelude.{◌≤ℤ◌, ◌^◌, pos};
+ghost use Rattle.fh_time.specs.declared.frames.TheConstants.{FRAME};
 
-use fh_time::Ticks;
-
-/// Frame 1 of 30 kHz begins at 10 ms.
-const START: i64 = 15_360_000_000;
+use fh_time::{FRAME, Ticks};
 
 /// A slot of 30 kHz, in ticks.
 const SLOT: i64 = 768_000_000;
@@ -12,12 +10,12 @@ const SLOT: i64 = 768_000_000;
 /// A command comes so long before its slot, in ticks: 300 microseconds.
 const AHEAD: i64 = 460_800_000;
 
-/// When the slot with this number begins; slot 0 is the first of frame 1.
+/// When the slot with this number begins; slot 0 is the first of frame 1, which begins at 10 ms.
 fn begins(slot: u16) -> i64
-    ensures low { pos 15360000000 ≤ℤ result }
+    ensures low { FRAME ≤ℤ result }
     ensures high { result ≤ℤ pos (2 ^ 52) }
 {
-    START + i64::from(slot) * SLOT
+    FRAME + i64::from(slot) * SLOT
 }
 
 /// When its command comes.

@@ -2,7 +2,7 @@
 ghost use Rattle.std.specs.Prelude.{◌≡◌, ◌<◌, true};
 ghost use Rattle.air_source.specs.Answers.{Fits16};
 ghost use Rattle.air_source.specs.Kept.{IsKept};
-ghost use Rattle.bench_uplink.specs.Steps.{IsSenderOf, IsUnitOf};
+ghost use Rattle.uplink_path.specs.Steps.{IsSenderOf, IsUnitOf};
 ghost use Rattle.tone_source.specs.Tones.{tone_of};
 ghost use Rattle.window_config.specs.Configs.{IsConfig};
 

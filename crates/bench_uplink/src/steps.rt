@@ -5,7 +5,7 @@ ghost use Rattle.uplink_path.specs.unit_model.specs.Proper.{IsTime};
 ghost use Rattle.uplink_path.specs.unit_model.specs.Standing.{History};
 ghost use Rattle.uplink_path.specs.ru_buffers.specs.Calls.{StandsFor, given_of};
 ghost use Rattle.uplink_path.specs.Emitting.{HasFailed};
-ghost use Rattle.bench_uplink.specs.Steps.{IsSenderOf, IsUnitOf};
+ghost use Rattle.uplink_path.specs.Steps.{IsSenderOf, IsUnitOf};
 ghost use Rattle.window_config.specs.Configs.{IsConfig};
 ghost use Rattle.window_config.specs.declared.config.Config.{Config as SpecConfig};
 

@@ -1,6 +1,7 @@
 -- The object of a line, member by member.
-use Rattle.std.proofs.Common.{◌≡◌, ℕ, ◌+◌, ◌<◌, List, [], ◌∷◌, ◌++◌, Bool, true, false, take, length, get_or, refl, ap, sym, ◌∙◌, pos, negsuc, ℤ}
+use Rattle.std.proofs.Common.{◌≡◌, ℕ, ◌+◌, ◌<◌, List, [], ◌∷◌, ◌++◌, false, take, length, get_or, refl, ap, sym, ◌∙◌, pos, negsuc, ℤ}
 use Rattle.std.specs.Prelude.{◌||◌, codes}
+use Rattle.std.proofs.lemmas.Bool.{or_from, or_parts}
 use Rattle.std.proofs.lemmas.List.{map_more, get_or_default}
 use Rattle.std.specs.Ordering.{nat_cmp, match_ordering}
 use Rattle.std.specs.Cmp.Lexicographic.{slice_cmp}
@@ -43,24 +44,16 @@ data_is_plain (Count n) = refl
 data_is_plain (Signed z) = integer_is_plain z
 data_is_plain (Word w) = refl
 
-neither : (a b : Bool) → (a || b) ≡ false → (a ≡ false) × (b ≡ false)
-neither true b e = cc
-neither false b e = (refl, e)
-
-none_of : (a b : Bool) → a ≡ false → b ≡ false → (a || b) ≡ false
-none_of true b e f = cc
-none_of false b e f = f
-
 chosen_is_plain : (o : Ordering) (k l : List ℕ) (d e : Data) (ms rest : Members) → has_float d ≡ false → (has_float e || members_have_float ms) ≡ false → members_have_float rest ≡ false
     → members_have_float (match_ordering o (member k d (member l e ms)) (member l d ms) (member l e rest)) ≡ false
-chosen_is_plain Less k l d e ms rest p q r = none_of (has_float d) (has_float e || members_have_float ms) p q
-chosen_is_plain Equal k l d e ms rest p q r = none_of (has_float d) (members_have_float ms) p (neither (has_float e) (members_have_float ms) q).1
-chosen_is_plain Greater k l d e ms rest p q r = none_of (has_float e) (members_have_float rest) (neither (has_float e) (members_have_float ms) q).0 r
+chosen_is_plain Less k l d e ms rest p q r = or_from (has_float d) (has_float e || members_have_float ms) p q
+chosen_is_plain Equal k l d e ms rest p q r = or_from (has_float d) (members_have_float ms) p (or_parts (has_float e) (members_have_float ms) q).1
+chosen_is_plain Greater k l d e ms rest p q r = or_from (has_float e) (members_have_float rest) (or_parts (has_float e) (members_have_float ms) q).0 r
 
 put_is_plain : (k : List ℕ) (d : Data) (ms : Members) → has_float d ≡ false → members_have_float ms ≡ false → members_have_float (put k d ms) ≡ false
-put_is_plain k d no_members p q = none_of (has_float d) false p refl
+put_is_plain k d no_members p q = or_from (has_float d) false p refl
 put_is_plain k d (member l e ms) p q =
-    chosen_is_plain (slice_cmp nat_cmp k l) k l d e ms (put k d ms) p q (put_is_plain k d ms p (neither (has_float e) (members_have_float ms) q).1)
+    chosen_is_plain (slice_cmp nat_cmp k l) k l d e ms (put k d ms) p q (put_is_plain k d ms p (or_parts (has_float e) (members_have_float ms) q).1)
 
 all_plain : (xs : List Member) (ms : Members) → members_have_float ms ≡ false → members_have_float (put_all (shown_members xs) ms) ≡ false
 all_plain [] ms q = q

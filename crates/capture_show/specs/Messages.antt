@@ -29,6 +29,9 @@ use Rattle.capture_show.specs.declared.values.Word.TheVariants as word
 use Rattle.capture_show.specs.declared.values.Word.{Word}
 use Rattle.capture_show.specs.declared.values.Member.{Member}
 use Rattle.capture_show.specs.Lines.{ShownLine, count, signed, flag, said}
+use Rattle.ecpri_frames.specs.declared.heads.TheConstants.{REAL_TIME_CONTROL}
+use Rattle.ecpri_frames.specs.declared.heads.TheConstants.{IQ_DATA}
+use Rattle.ecpri_frames.specs.declared.heads.TheConstants.{ONE_WAY_DELAY}
 
 abbrev pub line : Kind → List Member → ShownLine
 line kind members = record { kind = kind; members = members }
@@ -138,9 +141,9 @@ sized_line kind place type size = line kind (count name.Place place ∷ count na
 -- a message by its type: 0 data, 2 commands, 5 one-way delay measurement
 abbrev pub shown_as : ℕ → ℕ → List ℕ → List ShownLine
 shown_as type place payload =
-    if type == 2 then (if nat_lt (length payload) 4 then sized_line kind.Short place type (length payload) ∷ [] else command_lines place payload)
-    else if type == 0 then (if nat_lt (length payload) 4 then sized_line kind.Short place type (length payload) ∷ [] else data_line place payload ∷ [])
-    else if type == 5 then (if nat_lt (length payload) 20 then sized_line kind.Short place type (length payload) ∷ [] else delay_line place (message_of payload) ∷ [])
+    if type == REAL_TIME_CONTROL then (if nat_lt (length payload) 4 then sized_line kind.Short place type (length payload) ∷ [] else command_lines place payload)
+    else if type == IQ_DATA then (if nat_lt (length payload) 4 then sized_line kind.Short place type (length payload) ∷ [] else data_line place payload ∷ [])
+    else if type == ONE_WAY_DELAY then (if nat_lt (length payload) 20 then sized_line kind.Short place type (length payload) ∷ [] else delay_line place (message_of payload) ∷ [])
     else sized_line kind.Other place type (length payload) ∷ []
 
 abbrev pub message_lines : Message → List ShownLine

@@ -21,7 +21,7 @@ use capture_records::{Record, records};
 use cplane_sections::fh_time::Shape;
 use cplane_sections::{CHead, check, sections};
 use delay_measure::read_delay;
-use ecpri_frames::{PduRefusal, WholeMessage, messages};
+use ecpri_frames::{IQ_DATA, ONE_WAY_DELAY, PduRefusal, REAL_TIME_CONTROL, WholeMessage, messages};
 use owed_bytes::fh_base::{Sink, SinkFault};
 
 /// The most symbols of a slot and slots of a subframe that a command may name.
@@ -104,13 +104,16 @@ fn tell_message<K: Sink>(
 {
     let size = m.payload.len();
     match m.head.kind {
-        2 if size >= 4 => tell_command(m.place, m.payload, printer, out),
-        0 if size >= 4 => printer.tell(&data_line(m.place, m.payload), out),
-        5 => match read_delay(m.payload) {
+        REAL_TIME_CONTROL if size >= 4 => tell_command(m.place, m.payload, printer, out),
+        IQ_DATA if size >= 4 => printer.tell(&data_line(m.place, m.payload), out),
+        ONE_WAY_DELAY => match read_delay(m.payload) {
             Some(delay) => printer.tell(&delay_line(m.place, delay), out),
-            None => printer.tell(&sized_line(Kind::Short, m.place, 5, size), out),
+            None => printer.tell(&sized_line(Kind::Short, m.place, ONE_WAY_DELAY, size), out),
         },
-        kind @ (0 | 2) => printer.tell(&sized_line(Kind::Short, m.place, kind, size), out),
+        kind @ (IQ_DATA | REAL_TIME_CONTROL) => printer.tell(
+            &sized_line(Kind::Short, m.place, kind, size),
+            out,
+        ),
         kind => printer.tell(&sized_line(Kind::Other, m.place, kind, size), out),
     }
 }

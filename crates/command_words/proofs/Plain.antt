@@ -14,19 +14,12 @@ use Rattle.command_words.specs.Words.{bare_command, command_with_one, command_wi
 use Rattle.command_words.specs.declared.commands.Command.{Command}
 use Rattle.command_words.specs.declared.commands.Command.TheVariants.{Replay, Summary, Capture, Show, Windows, Fit, Generate, Pcap, PcapCapture}
 use Rattle.command_words.proofs.Walks.{IsPlainWord, plain_word_is}
+use Rattle.fh_time.specs.declared.nanoseconds.TheConstants.{LAST_TIME}
+use Rattle.fh_time.proofs.Orders.{is_false as not_true, both as both_true}
 
 -- of ASCII, and begun by no hyphen
 abbrev pub is_plain : List ℕ → Bool
 is_plain w = not (slice_index w 0 == 45) && list_all (λ b. nat_lt b 128) w
-
-both_true : (a b : Bool) → (a && b) ≡ true → (a ≡ true) × (b ≡ true)
-both_true true true e = (refl, refl)
-both_true true false e = cc
-both_true false b e = cc
-
-not_true : (b : Bool) → not b ≡ true → b ≡ false
-not_true true e = cc
-not_true false e = refl
 
 -- ---- a literal
 
@@ -114,7 +107,7 @@ numbers_plain first second c e =
 frames_plain : (make : Side → ℕ → Command) (first second : List ℕ) (c : Command) → with_both make (way_in first) (start_in second) ≡ Some c → ArePlainTwo first second
 frames_plain make first second c e =
     let both = both_there make (way_in first) (start_in second) c e in
-    (way_plain first both.0.0 both.0.1, number_plain 13 0 1000000000000 both.1.0 second both.1.1)
+    (way_plain first both.0.0 both.0.1, number_plain 13 0 LAST_TIME both.1.0 second both.1.1)
 
 -- where the word is a literal, what that gives is wanted; or else the rest
 either : {X P : Type 0} (t : Bool) (o rest : Option X) (x : X) → (if t then o else rest) ≡ Some x → (o ≡ Some x → P) → (rest ≡ Some x → P) → P

@@ -7,6 +7,7 @@ use Rattle.air_source.specs.declared.events.Side.TheVariants.{Ru, Du}
 use Rattle.command_words.specs.Numbers.{number_in}
 use Rattle.command_words.specs.declared.commands.Command.{Command}
 use Rattle.command_words.specs.declared.commands.Command.TheVariants.{Replay, Summary, Capture, Show, Windows, Fit, Generate, Pcap, PcapCapture}
+use Rattle.fh_time.specs.declared.nanoseconds.TheConstants.{LAST_TIME}
 
 -- the i-th word, or the empty one
 abbrev pub word_at : List (List ℕ) → ℕ → List ℕ
@@ -42,7 +43,7 @@ way_in word = if bytes_eq word (codes "dl") then Some Ru else (if bytes_eq word 
 
 -- the time of a file's first frame: 1 to 13 digits, at most 10^12 ns
 abbrev pub start_in : List ℕ → Option ℕ
-start_in word = number_in 13 0 1000000000000 word
+start_in word = number_in 13 0 LAST_TIME word
 
 -- what is made of two that are there
 abbrev pub with_both : {A B : Type 0} → (A → B → Command) → Option A → Option B → Option Command
@@ -68,6 +69,6 @@ command_of words = None
 -- the numbers of a command are within their limits
 abbrev pub IsProper : Command → Type 0
 IsProper (Generate seed slots) = (1 ≤ slots) × (slots ≤ 400)
-IsProper (Pcap side start) = start ≤ 1000000000000
-IsProper (PcapCapture side start) = start ≤ 1000000000000
+IsProper (Pcap side start) = start ≤ LAST_TIME
+IsProper (PcapCapture side start) = start ≤ LAST_TIME
 IsProper command = Unit {0}

@@ -2,10 +2,12 @@
 ghost use Rattle.std.specs.Prelude.{◌≡◌, ◌≤◌, IfSome, map, option_map};
 ghost use Rattle.command_words.specs.Words.{IsProper, bare_command, command_of, command_with_one, command_with_two, start_in, way_in};
 ghost use Rattle.command_words.specs.Parsed.{spelled};
+ghost use Rattle.fh_time.specs.declared.nanoseconds.TheConstants.{LAST_TIME};
 
 use crate::commands::Command;
 use crate::numbers::number_in;
 use air_source::Side;
+use fh_time::LAST_TIME;
 
 /// The command that one word is.
 fn bare_command(word: &str) -> Option<Command>
@@ -60,9 +62,9 @@ fn way_in(way: &str) -> Option<Side>
 /// The start that a word is, in nanoseconds.
 fn start_in(word: &str) -> Option<u64>
     ensures start { result ≡ start_in word.now }
-    ensures within { IfSome result (λ start. start ≤ 1000000000000) }
+    ensures within { IfSome result (λ start. start ≤ LAST_TIME) }
 {
-    number_in(word.as_bytes(), 13, 0, 1_000_000_000_000)
+    number_in(word.as_bytes(), 13, 0, LAST_TIME)
 }
 
 /// The command that three words are.

@@ -21,17 +21,18 @@ use Rattle.fault_counters.specs.declared.kinds.Counter.{Counter}
 use Rattle.fault_counters.specs.declared.kinds.Counter.TheVariants.{DelayShort}
 use Rattle.fault_counters.specs.Counts.{HasCounted}
 use Rattle.measured_traffic.specs.Measured.{delay_frame}
-use Rattle.measured_traffic.specs.Doings.{Doings, counted_by, counted_then, forgotten, known_by, states_of, told_in, with_message, with_messages, with_payload, with_short}
+use Rattle.measured_traffic.specs.Doings.{Doings, counted_by, counted_then, forgotten, results_known_by, states_of, told_in, with_message, with_messages, with_payload, with_short}
 use Rattle.measured_traffic.specs.replay_events.specs.declared.results.DelayResult.{DelayResult}
-use Rattle.delay_exchange.specs.Outcomes.{Gains, counts_of, frames_of, results_of}
+use Rattle.delay_exchange.specs.Outcomes.{Gains, counts_of, made_frames, outcome_results}
 use Rattle.delay_exchange.specs.Units.{Has, compensation_of}
 use Rattle.delay_exchange.specs.declared.unit.UnitMeter.{UnitMeter}
+use Rattle.ecpri_frames.specs.declared.heads.TheConstants.{ONE_WAY_DELAY}
 
 -- the unit was told one thing more, and these came of it
 pub has_more : {C : Type 0} (post : C → Edge → ℤ → Type 0) (c : Compensation) (old new : UnitMeter C) (d : Doings) (one : Told)
     (sent : List DelayMessage) (known : List DelayResult) (counted : List Counter)
     → compensation_of new ≡ compensation_of old → StandsFor c.sending c.receiving new.meter (one ∷ d.told) → Gains old.outcome new.outcome sent known counted
-    → sent ≡ sent_then c (states_of c d (id_of one)) one → known ≡ known_by (id_of one) (delay_then c (states_of c d (id_of one)) one)
+    → sent ≡ sent_then c (states_of c d (id_of one)) one → known ≡ results_known_by (id_of one) (delay_then c (states_of c d (id_of one)) one)
     → counted ≡ counted_then c (states_of c d (id_of one)) one → Has post c old d → Has post c new (told_in c d one)
 has_more {C = C} post c old new d one sent known counted same stands gains sent_is known_is counted_is h = record {
   sending = subst (λ (f : C). post f Sending c.sending) (sym same) h.sending;
@@ -98,13 +99,13 @@ pub has_heard : {C : Type 0} (post : C → Edge → ℤ → Type 0) (c : Compens
     → post (compensation_of old) Sending s → post (compensation_of old) Receiving r
     → (exchange_of new.meter m.id, step) ≡ after_message (exchange_of old.meter m.id) m (sending_stamp t s) (receiving_stamp t r)
     → ((s r : ℤ) (told : List Told) → post (compensation_of old) Sending s → post (compensation_of old) Receiving r → StandsFor s r old.meter told → StandsFor s r new.meter (comes t m ∷ told))
-    → Gains old.outcome new.outcome (sent_at_step step) (known_by m.id (delay_of step)) (counted_by step)
+    → Gains old.outcome new.outcome (sent_at_step step) (results_known_by m.id (delay_of step)) (counted_by step)
     → Has post c old d → Has post c new (told_in c d (comes t m))
 has_heard {C = C} post c d t m old new step s r room same one sends receives steps stands gains h =
     let is = step_is c d t m (exchange_of new.meter m.id) (exchange_of old.meter m.id) s r step steps (h.stands m.id room) (one Sending s c.sending sends h.sending) (one Receiving r c.receiving receives h.receiving) in
-    has_more post c old new d (comes t m) (sent_at_step step) (known_by m.id (delay_of step)) (counted_by step) same
+    has_more post c old new d (comes t m) (sent_at_step step) (results_known_by m.id (delay_of step)) (counted_by step) same
     (stands c.sending c.receiving d.told h.sending h.receiving h.stands) gains
-    (ap sent_at_step is) (ap (λ (x : MeterStep). known_by m.id (delay_of x)) is) (ap counted_by is) h
+    (ap sent_at_step is) (ap (λ (x : MeterStep). results_known_by m.id (delay_of x)) is) (ap counted_by is) h
 
 -- ---- a payload
 
@@ -137,7 +138,7 @@ has_payload_short {C = C} post c old new d t payload short same gains h = rw sho
 
 -- the delays that became known are forgotten
 pub has_forgotten : {C : Type 0} (post : C → Edge → ℤ → Type 0) (c : Compensation) (old new : UnitMeter C) (d : Doings)
-    → new.meter ≡ old.meter → results_of new.outcome ≡ [] → frames_of new.outcome ≡ frames_of old.outcome → counts_of new.outcome ≡ counts_of old.outcome
+    → new.meter ≡ old.meter → outcome_results new.outcome ≡ [] → made_frames new.outcome ≡ made_frames old.outcome → counts_of new.outcome ≡ counts_of old.outcome
     → Has post c old d → Has post c new (forgotten d)
 has_forgotten {C = C} post c old new d same none frames counts h = record {
   sending = subst (λ m. post (m.comp) Sending c.sending) (sym same) h.sending;
@@ -150,7 +151,7 @@ has_forgotten {C = C} post c old new d same none frames counts h = record {
 
 -- a message of type 5 was told
 pub goes_on : {C : Type 0} (post : C → Edge → ℤ → Type 0) (c : Compensation) (t : ℤ) (old new : UnitMeter C) (m : Message) (rest left : List Message) (all : Doings)
-    → left ≡ m ∷ rest → m.head.kind ≡ 5 → ((d : Doings) → Has post c old d → Has post c new (with_payload c t d m.payload))
+    → left ≡ m ∷ rest → m.head.kind ≡ ONE_WAY_DELAY → ((d : Doings) → Has post c old d → Has post c new (with_payload c t d m.payload))
     → Going post c t old left all → Going post c t new rest all
 goes_on {C = C} post c t old new m rest left all is kind hears g =
     let told : eqb m.head.kind 5 ≡ true = eq-eqb m.head.kind 5 kind in

@@ -8,12 +8,12 @@ use Rattle.measured_traffic.specs.replay_events.specs.declared.results.DelayResu
 use Rattle.delay_exchange.specs.declared.outcome.Outcome.{Outcome}
 
 -- the frames that were made and not taken, the first of them first
-abbrev pub frames_of : Outcome → List (List ℕ)
-frames_of o = o.frames.items
+abbrev pub made_frames : Outcome → List (List ℕ)
+made_frames o = o.frames.items
 
 -- the delays that became known, in order
-abbrev pub results_of : Outcome → List DelayResult
-results_of o = o.results.items
+abbrev pub outcome_results : Outcome → List DelayResult
+outcome_results o = o.results.items
 
 -- what was counted
 abbrev pub counts_of : Outcome → List ℕ
@@ -21,12 +21,12 @@ counts_of o = o.counters
 
 -- no frames, no delays and nothing counted
 pub record HasNothing (o : Outcome) : Type 0 where
-  pub frames : frames_of o ≡ []
-  pub results : results_of o ≡ []
+  pub frames : made_frames o ≡ []
+  pub results : outcome_results o ≡ []
   pub counted : HasCounted (counts_of o) []
 
 -- the frames of these messages were made, these delays became known and this was counted, the newest first
 pub record Gains (old new : Outcome) (sent : List DelayMessage) (known : List DelayResult) (noted : List Counter) : Type 0 where
-  pub frames : frames_of new ≡ frames_of old ++ map delay_frame sent
-  pub results : results_of new ≡ results_of old ++ known
+  pub frames : made_frames new ≡ made_frames old ++ map delay_frame sent
+  pub results : outcome_results new ≡ outcome_results old ++ known
   pub counted : (earlier : List Counter) → HasCounted (counts_of old) earlier → HasCounted (counts_of new) (noted ++ earlier)

@@ -8,7 +8,7 @@ use Rattle.delay_measure.specs.declared.edge.Edge.TheVariants.{Receiving, Sendin
 use Rattle.delay_measure.specs.declared.meter.Meter.{Meter}
 use Rattle.fault_counters.specs.Counts.{HasCounted}
 use Rattle.measured_traffic.specs.Doings.{Doings}
-use Rattle.delay_exchange.specs.Outcomes.{counts_of, frames_of, results_of}
+use Rattle.delay_exchange.specs.Outcomes.{counts_of, made_frames, outcome_results}
 use Rattle.delay_exchange.specs.declared.unit.UnitMeter.{UnitMeter}
 
 abbrev pub meter_of : {C : Type 0} → UnitMeter C → Meter C
@@ -23,6 +23,6 @@ pub record Has {C : Type 0} (post : C → Edge → ℤ → Type 0) (c : Compensa
   pub sending : post (compensation_of u) Sending c.sending
   pub receiving : post (compensation_of u) Receiving c.receiving
   pub stands : StandsFor c.sending c.receiving u.meter d.told
-  pub made : frames_of u.outcome ≡ d.made
-  pub results : results_of u.outcome ≡ d.results
+  pub made : made_frames u.outcome ≡ d.made
+  pub results : outcome_results u.outcome ≡ d.results
   pub counted : HasCounted (counts_of u.outcome) d.counted

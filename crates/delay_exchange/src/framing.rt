@@ -3,10 +3,7 @@ ghost use Rattle.std.specs.Prelude.{◌≡◌, ◌<◌, ◌^◌};
 ghost use Rattle.measured_traffic.specs.Measured.{delay_frame};
 
 use delay_measure::{DelayMessage, put_delay};
-use ecpri_frames::{Head, put_head};
-
-/// The type of messages of one-way delay measurement (eCPRI 2.0, section 3.2.4.6).
-pub(crate) const DELAY: u8 = 5;
+use ecpri_frames::{Head, ONE_WAY_DELAY, put_head};
 
 /// The frame of a message: one eCPRI message of type 5, without dummy bytes.
 pub(crate) fn frame_of(m: &DelayMessage) -> [u8; 24]
@@ -15,7 +12,7 @@ pub(crate) fn frame_of(m: &DelayMessage) -> [u8; 24]
 {
     let header = put_head(Head {
         more: false,
-        kind: DELAY,
+        kind: ONE_WAY_DELAY,
         size: 20,
     });
     let payload = put_delay(m);

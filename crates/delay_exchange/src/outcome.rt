@@ -22,8 +22,8 @@ impl Outcome {
     ghost use Rattle.delay_measure.specs.Table.{CanBeWritten, sent_at_begin, sent_at_step};
     ghost use Rattle.fault_counters.specs.Counts.{count_of};
     ghost use Rattle.fault_counters.specs.declared.kinds.Counter.TheVariants.{DelayResult as CountsResult, DelayShort};
-    ghost use Rattle.measured_traffic.specs.Doings.{counted_by, delay_of_id, known_by};
-    ghost use Rattle.delay_exchange.specs.Outcomes.{Gains, HasNothing, counts_of, frames_of, results_of};
+    ghost use Rattle.measured_traffic.specs.Doings.{counted_by, delay_of_id, results_known_by};
+    ghost use Rattle.delay_exchange.specs.Outcomes.{Gains, HasNothing, counts_of, made_frames, outcome_results};
 
     /// Nothing yet. This takes no memory; later growth takes it from `alloc`.
     pub(crate) fn new(alloc: Global) -> Outcome
@@ -38,7 +38,7 @@ impl Outcome {
 
     /// The delays that became known since they were forgotten last, in order.
     pub(crate) fn results(&self) -> &[DelayResult]
-        ensures { result.now ≡ results_of self.now }
+        ensures { result.now ≡ outcome_results self.now }
     {
         self.results.as_slice()
     }
@@ -52,8 +52,8 @@ impl Outcome {
 
     /// Forgets the delays that became known.
     pub(crate) fn forget_results(&mut self)
-        ensures results { results_of self.new ≡ [] }
-        ensures frames { frames_of self.new ≡ frames_of self.old }
+        ensures results { outcome_results self.new ≡ [] }
+        ensures frames { made_frames self.new ≡ made_frames self.old }
         ensures counts { counts_of self.new ≡ counts_of self.old }
     {
         self.results.clear();
@@ -61,8 +61,8 @@ impl Outcome {
 
     /// Takes out the frame that was made first. `None` where there is none.
     pub(crate) fn take_first(&mut self) -> Option<[u8; 24]>
-        ensures frames { MatchOption result ((frames_of self.old ≡ []) × (frames_of self.new ≡ [])) (λ f. frames_of self.old ≡ f ∷ frames_of self.new) }
-        ensures results { results_of self.new ≡ results_of self.old }
+        ensures frames { MatchOption result ((made_frames self.old ≡ []) × (made_frames self.new ≡ [])) (λ f. made_frames self.old ≡ f ∷ made_frames self.new) }
+        ensures results { outcome_results self.new ≡ outcome_results self.old }
         ensures counts { counts_of self.new ≡ counts_of self.old }
     {
         self.frames.pop_front()
@@ -93,7 +93,7 @@ impl Outcome {
     /// Makes the frames of what a step with a message of this id sends, and notes its delay and what it counts.
     pub(crate) fn stepped(&mut self, id: u8, step: MeterStep) -> Result<(), NoMemory>
         requires { CanBeWritten (sent_at_step step) }
-        ensures { OnOk result (Gains self.old self.new (sent_at_step step) (known_by id (delay_of step)) (counted_by step)) }
+        ensures { OnOk result (Gains self.old self.new (sent_at_step step) (results_known_by id (delay_of step)) (counted_by step)) }
     {
         match step {
             MeterStep::Send(m) => self.send(&m),

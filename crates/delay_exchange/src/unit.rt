@@ -1,10 +1,9 @@
 // A unit's meter, and what it made.
 ghost use Rattle.std.specs.Prelude.{◌≡◌, ℕ, ◌^◌, ◌≤ℤ◌, pos, List, [], ◌∷◌, MatchOption, OnOk};
 
-use crate::framing::DELAY;
 use crate::outcome::Outcome;
 use delay_measure::{Edge, Kind, Meter, read_delay};
-use ecpri_frames::messages;
+use ecpri_frames::{ONE_WAY_DELAY, messages};
 use fault_counters::Counter;
 use fh_base::NoMemory;
 use fh_time::Ticks;
@@ -78,7 +77,7 @@ impl<C: Fn(Edge) -> i64> UnitMeter<C> {
     {
         self.outcome.forget_results();
         for message in messages(frame) {
-            if message.head.kind == DELAY {
+            if message.head.kind == ONE_WAY_DELAY {
                 self.hear(at, message.payload)?;
             }
         }

@@ -5,6 +5,7 @@ use Rattle.delay_measure.specs.Payload.{value_of}
 use Rattle.delay_measure.specs.declared.stamps.Stamp.{Stamp}
 use Rattle.delay_measure.specs.Stamps.{sending_ns, receiving_ns, delay_between, stamped}
 use Rattle.delay_laws.specs.Delays.{IsNear, IsWholeTime, IsWholeCompensation}
+use Rattle.delay_measure.specs.declared.stamps.TheConstants.{MOST_COMPENSATION}
 
 pub value_stamped : (id action : ℕ) (stamp : Stamp) → value_of (stamped id action stamp) ≡ stamp.nanoseconds
 value_stamped id action stamp = omega arith
@@ -26,7 +27,7 @@ near_natural a b c d le =
     near_floors a b c d (sending_ns (pos a) (pos c)) (receiving_ns (pos b) (pos d)) sent.0 sent.1 came.0 came.1
 
 -- the time is at a millisecond or later, and the compensation at most a millisecond
-pub near_is : (a b c d : ℤ) → pos 1536000000 ≤ℤ a → a ≤ℤ b → pos 0 ≤ℤ c → c ≤ℤ pos 65536000000 → pos 0 ≤ℤ d → IsNear a b (delay_between (sending_ns a c) c (receiving_ns b d) d)
+pub near_is : (a b c d : ℤ) → pos 1536000000 ≤ℤ a → a ≤ℤ b → pos 0 ≤ℤ c → c ≤ℤ pos MOST_COMPENSATION → pos 0 ≤ℤ d → IsNear a b (delay_between (sending_ns a c) c (receiving_ns b d) d)
 near_is (pos a) (pos b) (pos c) (pos d) late after low high least = near_natural a b c d (omega (arith, ints))
 near_is (negsuc a) b c d late after low high least = absurd (omega (arith, ints))
 near_is (pos a) (negsuc b) c d late after low high least = absurd (omega (arith, ints))
@@ -50,7 +51,7 @@ exact_natural a b c d le = exact_floors a b c d _ _ (whole_sent a c) (whole_came
 product : (m n : ℕ) → (pos m *ℤ pos n) ≡ pos (m * n)
 product m n = refl
 
-pub exact_is : (a b c d : ℤ) → pos 1536000000 ≤ℤ a → c ≤ℤ pos 65536000000 → IsWholeTime a → IsWholeTime b → IsWholeCompensation c → IsWholeCompensation d
+pub exact_is : (a b c d : ℤ) → pos 1536000000 ≤ℤ a → c ≤ℤ pos MOST_COMPENSATION → IsWholeTime a → IsWholeTime b → IsWholeCompensation c → IsWholeCompensation d
     → (pos 1536 *ℤ delay_between (sending_ns a c) c (receiving_ns b d) d) ≡ (pos 65536 *ℤ (b -ℤ a))
 exact_is a b c d late high wa wb wc wd =
     let ea = wa.1 ∙ product 1536 wa.0 in

@@ -17,6 +17,7 @@ use Rattle.delay_laws.specs.Ends.{EndsBy, step_of}
 use Rattle.delay_laws.specs.Laws.{AllEnds}
 use Rattle.delay_laws.proofs.Keeping.{IsKept, Keeps, all_kept}
 use Rattle.delay_laws.proofs.Sending.{sent_later}
+use Rattle.fh_time.proofs.Orders.{at_most as through, lasts}
 
 -- the latest time at which a message of this step is sent
 abbrev pub limit : ℤ → ℤ → ℕ → ℤ
@@ -66,9 +67,6 @@ climbs last most t (suc zero) (suc zero) some above small by = absurd (omega ari
 climbs last most t (suc zero) (suc (suc s)) some above small by = omega (arith, ints)
 climbs last most t (suc (suc r)) s some above small by = absurd (omega arith)
 
-through : (a b c : ℤ) → a ≤ℤ b → b ≤ℤ c → a ≤ℤ c
-through a b c ab bc = omega (arith, ints)
-
 answers_by : (last most : ℤ) (c : Compensation) (told : Told) (e : Exchange) → pos 0 ≤ℤ most → ComesBy last most told → All (IsSentBy last most (time_of told)) (sent_then c e told)
 answers_by last most c (begins t id kind) e some by = λ k d lt.
     let m : DelayMessage = get_or (sent_then c e (begins t id kind)) k d in
@@ -81,9 +79,6 @@ answers_by last most c (forgets id) e some by = elim by [ ]
 
 takes : (a b c d : ℤ) → a ≤ℤ b → c ≤ℤ d → (a +ℤ c) ≤ℤ (b +ℤ d)
 takes a b c d ab cd = omega (arith, ints)
-
-lasts : (a b d : ℤ) → a ≤ℤ b → pos 0 ≤ℤ d → a ≤ℤ (b +ℤ d)
-lasts a b d ab some = omega (arith, ints)
 
 ends_keep : (w : Setting) (last most : ℤ) → EndsBy w last most → Keeps w (IsSentBy last most) (IsHeardBy last most)
 ends_keep w last most ends = record {

@@ -5,13 +5,14 @@ use Rattle.delay_measure.specs.declared.edge.Edge.TheVariants.{Sending, Receivin
 use Rattle.delay_measure.specs.declared.states.Exchange.{Exchange}
 use Rattle.delay_measure.specs.declared.meter.Meter.{Meter}
 use Rattle.delay_measure.specs.Table.{unused}
+use Rattle.delay_measure.specs.declared.stamps.TheConstants.{MOST_COMPENSATION}
 
 -- at both edges it may be called and has one answer, from 0 to a millisecond in units of 2^-16 ns
 pub record IsCompensation {C : Type 0} (pre : C → Edge → Type 0) (post : C → Edge → ℤ → Type 0) (comp : C) : Type 0 where
   pub callable : (e : Edge) → pre comp e
   pub one : (e : Edge) (v w : ℤ) → post comp e v → post comp e w → v ≡ w
   pub low : (e : Edge) (v : ℤ) → post comp e v → pos 0 ≤ℤ v
-  pub high : (e : Edge) (v : ℤ) → post comp e v → v ≤ℤ pos 65536000000
+  pub high : (e : Edge) (v : ℤ) → post comp e v → v ≤ℤ pos MOST_COMPENSATION
 
 -- the answers of a unit with these compensations
 abbrev pub answer_at : ℤ → ℤ → Edge → ℤ

@@ -18,6 +18,6 @@ pub use edge::Edge;
 pub use history::History;
 pub use message::{DelayMessage, put_delay, read_delay};
 pub use meter::Meter;
-pub use stamps::Stamp;
+pub use stamps::{MOST_COMPENSATION, Stamp};
 pub use states::{Exchange, OwnState, PeerState};
 pub use steps::{Begun, Kind, MeterStep};

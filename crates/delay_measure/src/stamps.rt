@@ -1,9 +1,13 @@
 // Time stamps, and what they give.
 ghost use Rattle.std.specs.Prelude.{◌≡◌, ◌<◌, ◌≤◌, ◌≤ℤ◌, ◌^◌, pos, neg_ℤ};
 ghost use Rattle.delay_measure.specs.Stamps.{sending_stamp, receiving_stamp, delay_between, stamped, blank};
+ghost use Rattle.delay_measure.specs.declared.stamps.TheConstants.{MOST_COMPENSATION};
 
 use crate::message::DelayMessage;
 use fh_time::Ticks;
+
+/// The greatest compensation, 1 ms, in units of 2^-16 ns.
+pub const MOST_COMPENSATION: u64 = 65_536_000_000;
 
 /// A time stamp in whole nanoseconds, and its compensation in units of 2^-16 ns.
 #[derive(Clone, Copy, Debug, PartialEq, Eq)]
@@ -18,7 +22,7 @@ pub(crate) fn stamp_sent(at: Ticks, comp: i64) -> Stamp
     requires low { pos 0 ≤ℤ at.0 }
     requires high { at.0 ≤ℤ pos (2 ^ 56) }
     requires comp_low { pos 0 ≤ℤ comp }
-    requires comp_high { comp ≤ℤ pos 65536000000 }
+    requires comp_high { comp ≤ℤ pos MOST_COMPENSATION }
     ensures { result ≡ sending_stamp at.0 comp }
 {
     let time = at.0.unsigned_abs() * 128;
@@ -35,7 +39,7 @@ pub(crate) fn stamp_received(at: Ticks, comp: i64) -> Stamp
     requires low { pos 0 ≤ℤ at.0 }
     requires high { at.0 ≤ℤ pos (2 ^ 56) }
     requires comp_low { pos 0 ≤ℤ comp }
-    requires comp_high { comp ≤ℤ pos 65536000000 }
+    requires comp_high { comp ≤ℤ pos MOST_COMPENSATION }
     ensures { result ≡ receiving_stamp at.0 comp }
 {
     let time = at.0.unsigned_abs() * 128;

@@ -24,15 +24,15 @@ use Rattle.frame_deliveries.proofs.Within.{copies_within}
 use Rattle.window_config.specs.Windows.{ticks_of_ns}
 use Rattle.document_delays.specs.Settings.{begin_of, compensation_of, no_others, setting_of, ways_of}
 use Rattle.document_delays.specs.Laws.{AllEnds, DelaysAreExact, DelaysAreOfRequests, EventsAreMeasured, LandingIsSettled}
+use Rattle.frame_deliveries.specs.fh_document.specs.declared.config_lines.TheConstants.{MOST_TRANSIT}
+use Rattle.fh_time.specs.declared.nanoseconds.TheConstants.{LAST_TIME}
+use Rattle.window_config.proofs.TickLemmas.{in_ticks as scaled}
 
 -- ---- times
 
 whole_ns : (ns : ℤ) → pos 0 ≤ℤ ns → IsWholeTime (ticks_of_ns ns)
 whole_ns (pos n) low = (n, omega (arith, ints))
 whole_ns (negsuc n) low = absurd (omega (arith, ints))
-
-scaled : (a b : ℤ) → a ≤ℤ b → ticks_of_ns a ≤ℤ ticks_of_ns b
-scaled a b le = omega (arith, ints)
 
 from_zero : (low : ℕ) (high : ℕ) (ns : ℤ) → IsFrom low high ns → pos 0 ≤ℤ ns
 from_zero low high ns is = let least = is.low in omega (arith, ints)
@@ -46,9 +46,9 @@ ids_same (m ∷ ms) = ap (λ (l : List ℕ). m.id ∷ l) (ids_same ms)
 begins_all : (P : Begin → Type 0) (ms : List Measure) → All IsMeasure ms → ((m : Measure) → IsMeasure m → P (begin_of m)) → All P (map begin_of ms)
 begins_all P ms all holds = All-map P begin_of ms (All-weaker IsMeasure (λ (m : Measure). P (begin_of m)) holds ms all)
 
-ways_all : (P : ℤ → Type 0) (d : Document) → IsDocument d → ((ns : ℤ) → IsFrom 1 3000000000 ns → P (ticks_of_ns ns)) → (side : Side) (k : ℕ) → All P (ways_of d side k)
+ways_all : (P : ℤ → Type 0) (d : Document) → IsDocument d → ((ns : ℤ) → IsFrom 1 MOST_TRANSIT ns → P (ticks_of_ns ns)) → (side : Side) (k : ℕ) → All P (ways_of d side k)
 ways_all P d is holds side k =
-    All-map P ticks_of_ns (copies_of d side M k) (All-weaker (IsFrom 1 3000000000) (λ (ns : ℤ). P (ticks_of_ns ns)) holds (copies_of d side M k) (copies_within d is.transits is.deliveries side M k))
+    All-map P ticks_of_ns (copies_of d side M k) (All-weaker (IsFrom 1 MOST_TRANSIT) (λ (ns : ℤ). P (ticks_of_ns ns)) holds (copies_of d side M k) (copies_within d is.transits is.deliveries side M k))
 
 pure : (d : Document) → IsDocument d → IsPure (setting_of d no_others)
 pure d is = record {
@@ -63,17 +63,17 @@ compensation_is d is Du = record { sending_low = is.du_sending.low; sending_high
 
 whole_times : (d : Document) → IsDocument d → HasWholeTimes (setting_of d no_others)
 whole_times d is = record {
-  begins = begins_all (λ (b : Begin). IsWholeTime b.at) d.measures is.measures (λ m proper. whole_ns m.at (from_zero 1000000 1000000000000 m.at proper.time));
+  begins = begins_all (λ (b : Begin). IsWholeTime b.at) d.measures is.measures (λ m proper. whole_ns m.at (from_zero 1000000 LAST_TIME m.at proper.time));
   others = λ side t. inr refl;
-  delays = ways_all IsWholeTime d is (λ ns time. whole_ns ns (from_zero 1 3000000000 ns time));
+  delays = ways_all IsWholeTime d is (λ ns time. whole_ns ns (from_zero 1 MOST_TRANSIT ns time));
 }
 
-ends : (d : Document) → IsDocument d → (others : Side → ℤ → List DelayMessage) → ((side : Side) (t : ℤ) → ticks_of_ns (pos 1000000000000) <ℤ t → others side t ≡ [])
-    → EndsBy (setting_of d others) (ticks_of_ns (pos 1000000000000)) (ticks_of_ns (pos 3000000000))
+ends : (d : Document) → IsDocument d → (others : Side → ℤ → List DelayMessage) → ((side : Side) (t : ℤ) → ticks_of_ns (pos LAST_TIME) <ℤ t → others side t ≡ [])
+    → EndsBy (setting_of d others) (ticks_of_ns (pos LAST_TIME)) (ticks_of_ns (pos MOST_TRANSIT))
 ends d is others none = record {
-  begins = begins_all (λ (b : Begin). b.at ≤ℤ ticks_of_ns (pos 1000000000000)) d.measures is.measures (λ m proper. scaled m.at (pos 1000000000000) proper.time.high);
+  begins = begins_all (λ (b : Begin). b.at ≤ℤ ticks_of_ns (pos LAST_TIME)) d.measures is.measures (λ m proper. scaled m.at (pos LAST_TIME) proper.time.high);
   others = none;
-  delays = ways_all (λ (t : ℤ). t ≤ℤ ticks_of_ns (pos 3000000000)) d is (λ ns time. scaled ns (pos 3000000000) time.high);
+  delays = ways_all (λ (t : ℤ). t ≤ℤ ticks_of_ns (pos MOST_TRANSIT)) d is (λ ns time. scaled ns (pos MOST_TRANSIT) time.high);
   some = omega (arith, ints);
 }
 
@@ -92,7 +92,7 @@ pub document_settled : LandingIsSettled
 document_settled d is others side = settled (setting_of d others) side (λ k. ways_all (λ (t : ℤ). pos 0 <ℤ t) d is (λ ns time. positive ns time.low) side k)
 
 pub document_ends : AllEnds
-document_ends d is others none = all_end (setting_of d others) (ticks_of_ns (pos 1000000000000)) (ticks_of_ns (pos 3000000000)) (ends d is others none)
+document_ends d is others none = all_end (setting_of d others) (ticks_of_ns (pos LAST_TIME)) (ticks_of_ns (pos MOST_TRANSIT)) (ends d is others none)
 
 pub document_events : EventsAreMeasured
 document_events d is = events_measured (setting_of d no_others) (pure d is) (compensation_is d is.comps)

@@ -11,6 +11,7 @@ use Rattle.frame_deliveries.specs.fh_document.specs.declared.document.Document.{
 use Rattle.frame_deliveries.specs.fh_document.specs.Proper.{IsDocument}
 use Rattle.window_config.specs.Windows.{ticks_of_ns}
 use Rattle.document_delays.specs.Settings.{compensation_of, no_others, setting_of}
+use Rattle.fh_time.specs.declared.nanoseconds.TheConstants.{LAST_TIME}
 
 -- each delay that is measured up to a tick is that of the one request of its id, and of a copy of its frame
 abbrev pub DelaysAreOfRequests : Type 0
@@ -39,6 +40,6 @@ LandingIsSettled = (d : Document) → IsDocument d → (others : Side → ℤ �
 -- where no other frame comes after 1,000 s, all is told by 1,009 s, and nothing lands then
 abbrev pub AllEnds : Type 0
 AllEnds = (d : Document) → IsDocument d → (others : Side → ℤ → List DelayMessage)
-    → ((side : Side) (t : ℤ) → ticks_of_ns (pos 1000000000000) <ℤ t → others side t ≡ []) → (first : ℤ) (n : ℕ)
+    → ((side : Side) (t : ℤ) → ticks_of_ns (pos LAST_TIME) <ℤ t → others side t ≡ []) → (first : ℤ) (n : ℕ)
     → All (λ one. time_of one.told ≤ℤ ticks_of_ns (pos 1009000000000)) (state (setting_of d others) first n).heard
     × ((side : Side) (t : ℤ) → ticks_of_ns (pos 1009000000000) <ℤ t → landing ((state (setting_of d others) first n).sent side) t ≡ [])

@@ -20,11 +20,10 @@ use Rattle.replay_laws.specs.replay_events.proofs.CameLemmas.{arrivals_in_time}
 use Rattle.replay_laws.specs.replay_events.specs.Moments.{all_arrivals}
 use Rattle.sent_order.specs.schedule_laws.proofs.ListLemmas.{in_all, in_map, of_each, of_map}
 use Rattle.sent_order.specs.schedule_laws.proofs.OrderLemmas.{below_get}
-use Rattle.sent_order.specs.schedule_laws.proofs.TimeLemmas.{wait_most, in_ticks}
+use Rattle.sent_order.specs.schedule_laws.proofs.TimeLemmas.{wait_most}
 use Rattle.replay_laws.specs.unit_laws.proofs.EndLemmas.{no_jobs_later}
 use Rattle.replay_laws.specs.unit_laws.proofs.SentLemmas.{jobs_append}
-use Rattle.replay_laws.specs.unit_laws.proofs.SweepLemmas.{sweep-nothing}
-use Rattle.replay_laws.specs.unit_model.proofs.SweepLaws.{gap_is}
+use Rattle.replay_laws.specs.unit_model.proofs.SweepLaws.{gap_is, sweep_quiet as sweep-nothing}
 use Rattle.replay_laws.specs.unit_model.specs.Meetings.{Arrival}
 use Rattle.replay_laws.specs.unit_model.specs.Proper.{IsAt, IsTime}
 use Rattle.replay_laws.specs.unit_model.specs.ProperJobs.{IsProperJob}
@@ -36,8 +35,8 @@ use Rattle.replay_laws.specs.unit_model.specs.Uplink.{jobs, symbol_jobs}
 use Rattle.replay_laws.specs.unit_model.specs.declared.allocations.Allocation.{Allocation}
 use Rattle.replay_laws.specs.unit_model.specs.declared.jobs.UplinkJob.{UplinkJob}
 use Rattle.uplink_laws.specs.uplink_model.proofs.SentLemmas.{all_are_sent}
-use Rattle.uplink_laws.specs.uplink_model.specs.Frames.{Antenna, frame_of, frames_behind, frames_from, message_frames}
-use Rattle.uplink_laws.specs.uplink_model.specs.Messages.{frame_count, frames_before, messages_behind, messages_of, number_behind, takes_job}
+use Rattle.uplink_laws.specs.uplink_model.specs.Frames.{Antenna, uplink_frame_of, frames_behind, uplink_frames_from, uplink_message_frames}
+use Rattle.uplink_laws.specs.uplink_model.specs.Messages.{frame_count, uplink_frames_before, messages_behind, uplink_messages_of, number_behind, takes_job}
 use Rattle.uplink_laws.specs.uplink_model.specs.Sent.{in_sent_order}
 use Rattle.uplink_laws.specs.uplink_model.specs.SentLaws.{AreInTimes, AreOf}
 use Rattle.frame_deliveries.specs.window_config.specs.Windows.{ticks_of_ns}
@@ -51,6 +50,8 @@ use Rattle.document_traffic.proofs.ArrivalLemmas.{of_arrivals}
 use Rattle.document_traffic.proofs.LineLemmas.{lines_fit}
 use Rattle.document_traffic.proofs.TimeLemmas.{IsBy, frame_leaves, last_sent, longest, replayed_by}
 use Rattle.document_traffic.proofs.WithinLemmas.{each_lands}
+use Rattle.frame_deliveries.specs.window_config.specs.declared.delays.TheConstants.{MOST_DELAY}
+use Rattle.frame_deliveries.specs.window_config.proofs.TickLemmas.{in_ticks}
 
 -- ---- frames that are handed over for messages
 
@@ -63,12 +64,12 @@ pub record IsHanded (c : Config) (antenna : Antenna) (ms : List (Message UplinkJ
   pub number : ℕ
   pub before : ℕ
   pub sub : ℕ
-  pub is : f ≡ frame_of c antenna endpoint message number before sub
+  pub is : f ≡ uplink_frame_of c antenna endpoint message number before sub
 
 pub handed_is : (c : Config) (antenna : Antenna) (earlier ms : List (Message UplinkJob)) (f : LinkFrame) → IsIn f (frames_behind c antenna earlier ms) → IsHanded c antenna ms f
-unfolding frames_behind message_frames
+unfolding frames_behind uplink_message_frames
 handed_is c antenna earlier [] f m = absurd m
-handed_is c antenna earlier (x ∷ ms) f m = elim (in_either f (message_frames c antenna earlier x) (frames_behind c antenna (x ∷ earlier) ms) m) [
+handed_is c antenna earlier (x ∷ ms) f m = elim (in_either f (uplink_message_frames c antenna earlier x) (frames_behind c antenna (x ∷ earlier) ms) m) [
   | inl here ↦ go (slice_get c.endpoints x.first.ep) refl here
   | inr later ↦
       (let w = handed_is c antenna (x ∷ earlier) ms f later in
@@ -76,14 +77,14 @@ handed_is c antenna earlier (x ∷ ms) f m = elim (in_either f (message_frames c
 ]
   where
     go : (o : Option EndpointConfig) → slice_get c.endpoints x.first.ep ≡ o
-        → IsIn f (option_map_or (λ e. frames_from c antenna e x (number_behind x.first.ep earlier) (frames_before c x.first earlier) 0 (frame_count c x)) o [])
+        → IsIn f (option_map_or (λ e. uplink_frames_from c antenna e x (number_behind x.first.ep earlier) (uplink_frames_before c x.first earlier) 0 (frame_count c x)) o [])
         → IsHanded c antenna (x ∷ ms) f
     go None at i = absurd i
     go (Some e) at i =
         let number = number_behind x.first.ep earlier in
-        let before = frames_before c x.first earlier in
-        let w = of_each f 0 (frame_count c x) (λ k. frame_of c antenna e x number before k ∷ []) i in
-        record { message = x; there = inl refl; endpoint = e; at = at; number = number; before = before; sub = w.0; is = the_one f (frame_of c antenna e x number before w.0) w.3 }
+        let before = uplink_frames_before c x.first earlier in
+        let w = of_each f 0 (frame_count c x) (λ k. uplink_frame_of c antenna e x number before k ∷ []) i in
+        record { message = x; there = inl refl; endpoint = e; at = at; number = number; before = before; sub = w.0; is = the_one f (uplink_frame_of c antenna e x number before w.0) w.3 }
 
 -- what holds of each job holds of the first of each message
 module _ (P : UplinkJob → Type 0) (c : Config) where
@@ -99,7 +100,7 @@ module _ (P : UplinkJob → Type 0) (c : Config) where
       go true taken other n = taken n
       go false taken other n = elim n [ inl e ↦ subst (λ (y : Message UplinkJob). P y.first) (sym e) h | inr t ↦ other t ]
 
-  first_of_each : (js : List UplinkJob) → All P js → (x : Message UplinkJob) → IsIn x (messages_of c js) → P x.first
+  first_of_each : (js : List UplinkJob) → All P js → (x : Message UplinkJob) → IsIn x (uplink_messages_of c js) → P x.first
   first_of_each [] all x i = absurd i
   first_of_each (j ∷ js) all x i = first_behind (alone j) js (All-head P j js all) (All-tail P j js all) x i
 
@@ -144,7 +145,7 @@ in_time_by clock last [] h by = tt
 in_time_by clock last (a ∷ earlier) h by = (by a (inl refl), h.1)
 
 -- a frame leaves within Ta3 after a symbol that starts at s
-answer_leaves : (s least most : ℤ) (wait width : ℕ) → first_clock ≤ℤ s → s ≤ℤ last_start → pos 0 ≤ℤ least → most ≤ℤ pos 2000000
+answer_leaves : (s least most : ℤ) (wait width : ℕ) → first_clock ≤ℤ s → s ≤ℤ last_start → pos 0 ≤ℤ least → most ≤ℤ pos MOST_DELAY
     → ticks_of_ns least +ℤ pos width ≡ ticks_of_ns most → wait ≤ width → IsBy last_answered ((s +ℤ ticks_of_ns least) +ℤ pos wait)
 answer_leaves s least most wait width low high some few is in_width = record { low = omega (arith, ints); high = omega (arith, ints) }
 
@@ -182,7 +183,7 @@ module _ (d : Document) (is : IsDocument d) (valid : IsValid d.config d.plan) wh
   pub jobs_proper : All (IsProperJob d.config.endpoints last_start) (jobs_for d)
   jobs_proper = subst (All (IsProperJob d.config.endpoints last_start)) (sym jobs_by) (jobs_are_proper d.config last_heard arrivals last_start came.0 came.1)
 
-  frame_leaves_by : (f : LinkFrame) → IsHanded d.config (antenna_for d) (messages_of d.config (jobs_for d)) f → IsBy last_answered f.at.0
+  frame_leaves_by : (f : LinkFrame) → IsHanded d.config (antenna_for d) (uplink_messages_of d.config (jobs_for d)) f → IsBy last_answered f.at.0
   frame_leaves_by f h =
       let job = first_of_each (IsProperJob d.config.endpoints last_start) d.config (jobs_for d) jobs_proper h.message h.there in
       let p = departures_of d.config UpData in
@@ -192,8 +193,8 @@ module _ (d : Document) (is : IsDocument d) (valid : IsValid d.config d.plan) wh
       (answer_leaves h.message.first.s.0 ta3.min ta3.max (min ((h.before + h.sub) * p.gap) p.spread) p.spread job.low job.high limits.low limits.high
       (gap_is (ticks_of_ns ta3.min) (ticks_of_ns ta3.max) (in_ticks ta3.min ta3.max limits.order)) (wait_most (h.before + h.sub) p.gap p.spread))
 
-  pub handed_frame : (f : LinkFrame) → IsIn f (handed_for d) → IsHanded d.config (antenna_for d) (messages_of d.config (jobs_for d)) f
-  handed_frame f m = handed_is d.config (antenna_for d) [] (messages_of d.config (jobs_for d)) f m
+  pub handed_frame : (f : LinkFrame) → IsIn f (handed_for d) → IsHanded d.config (antenna_for d) (uplink_messages_of d.config (jobs_for d)) f
+  handed_frame f m = handed_is d.config (antenna_for d) [] (uplink_messages_of d.config (jobs_for d)) f m
 
   pub handed_leaves : (f : LinkFrame) → IsIn f (handed_for d) → IsBy last_answered f.at.0
   handed_leaves f m = frame_leaves_by f (handed_frame f m)

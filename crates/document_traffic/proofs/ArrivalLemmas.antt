@@ -16,8 +16,9 @@ use Rattle.replay_laws.specs.unit_model.specs.Meetings.{Arrival}
 use Rattle.replay_laws.specs.unit_model.specs.Radiated.{first_clock}
 use Rattle.replay_laws.specs.unit_model.specs.Standing.{AreInTime}
 use Rattle.replay_laws.specs.unit_model.specs.Times.{end_of_time}
-use Rattle.replay_laws.specs.history_laws.proofs.TickLemmas.{at_most, clock_begins}
+use Rattle.replay_laws.specs.history_laws.proofs.TickLemmas.{clock_begins}
 use Rattle.sent_order.specs.plan_model.proofs.ListLemmas.{in_filter, of_filter}
+use Rattle.fh_time.proofs.Orders.{at_most}
 
 -- ---- what arrives
 

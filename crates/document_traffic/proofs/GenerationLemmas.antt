@@ -1,5 +1,5 @@
 -- What was delivered of sound flows of messages stands in generations that hold one message each.
-use Rattle.std.proofs.Common.{◌≡◌, ℕ, ℤ, ◌%◌, inl, inr, Bool, true, false, ◌==◌, ◌&&◌, List, [], ◌∷◌, refl, ap, sym, ◌∙◌, subst}
+use Rattle.std.proofs.Common.{◌≡◌, ℕ, ℤ, ◌%◌, inl, inr, Bool, false, ◌==◌, ◌&&◌, List, [], ◌∷◌, refl, ap, sym, ◌∙◌, subst}
 use Rattle.std.specs.Prelude.{All, if◌then◌else◌, ⊤}
 use Rattle.std.proofs.lemmas.Bool.{cases_Bool, and_from, and_parts, eq-eqb, eqb-true, both_ways}
 use Rattle.std.proofs.lemmas.List.Elements.{All-cons, All-nil, All-weaker}
@@ -9,13 +9,9 @@ use Rattle.sent_order.specs.fragment_laws.proofs.FlowLemmas.{copy, delivered_apa
 use Rattle.sent_order.specs.fragment_laws.specs.Apart.{AreApart, IsIn, Numbers, number_of, of_message}
 use Rattle.sent_order.specs.fragment_laws.specs.Flow.{Bounds, Flow, IsCopyOf, IsDelivered, IsSound, numbers_of, sent_at}
 use Rattle.document_traffic.specs.Generations.{EachHoldsOneMessage, HoldsOneMessage}
+use Rattle.fh_time.proofs.Orders.{and_false as not_both}
 
 -- ---- what came of a message
-
-not_both : (x y : Bool) → (x ≡ true → y ≡ true → ⊥) → (x && y) ≡ false
-not_both true true h = absurd (h refl refl)
-not_both true false h = refl
-not_both false y h = refl
 
 module _ (num : Numbers) (ep n : ℕ) where
   with_own : (a : Fragment) (xs : List Fragment) → a.ep ≡ ep → number_of num a ≡ n → of_message num ep n (a ∷ xs) ≡ a ∷ of_message num ep n xs

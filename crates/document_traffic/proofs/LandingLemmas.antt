@@ -9,7 +9,7 @@ use Rattle.sent_order.specs.fragment_laws.specs.Apart.{IsIn}
 use Rattle.sent_order.specs.plan_model.specs.Valid.{IsValid}
 use Rattle.replay_laws.specs.unit_model.specs.Times.{end_of_time}
 use Rattle.document_traffic.specs.Landing.{landing_with, leaving_to}
-use Rattle.document_traffic.specs.Laws.{LandingsAreReplayed}
+use Rattle.document_traffic.specs.Laws.{PlannedLandingsAreReplayed}
 use Rattle.document_traffic.specs.Sending.{Leaving}
 use Rattle.document_traffic.proofs.AnswerLemmas.{down_leaves, last_answered, up_leaves}
 use Rattle.document_traffic.proofs.TimeLemmas.{IsBy, last_sent, longest, replayed_by}
@@ -32,7 +32,7 @@ pub landing_in_time : (side : Side) → (last_leaving side +ℤ longest) ≤ℤ 
 landing_in_time Ru = omega (arith, ints)
 landing_in_time Du = omega (arith, ints)
 
-pub are_replayed : LandingsAreReplayed
+pub are_replayed : PlannedLandingsAreReplayed
 are_replayed d Ru is valid =
     replayed_by (last_sent +ℤ longest) (landing_with d Ru (leaving_to Ru d)) (landing_in_time Ru) (each_lands d is Ru (leaving_to Ru d) last_sent (leaving_late Ru) (each_leaves Ru d is valid))
 are_replayed d Du is valid =

@@ -13,7 +13,7 @@ use Rattle.frame_deliveries.specs.fh_document.specs.declared.document.Document.{
 use Rattle.fh_time.specs.Air.{air_of}
 use Rattle.fh_time.specs.declared.values.Slot.{Slot}
 use Rattle.sent_order.specs.fragment_laws.specs.Apart.{IsIn}
-use Rattle.sent_order.specs.plan_model.specs.Lines.{allocation_of}
+use Rattle.sent_order.specs.plan_model.specs.Lines.{line_allocation}
 use Rattle.sent_order.specs.plan_model.specs.Sent.{SentFrame}
 use Rattle.sent_order.specs.plan_model.specs.Valid.{IsValid}
 use Rattle.sent_order.specs.plan_model.specs.declared.lines.PlannedLine.{PlannedLine}
@@ -33,7 +33,7 @@ use Rattle.uplink_laws.specs.sent_laws.proofs.SentRead.{messages_say}
 use Rattle.uplink_laws.specs.sent_laws.specs.Frames.{texts_of}
 use Rattle.uplink_laws.specs.sent_laws.specs.Radiated.{CopiesArrive, IsSentCopy}
 use Rattle.uplink_laws.specs.sent_laws.specs.Sent.{IsSendable}
-use Rattle.replay_laws.specs.unit_laws.proofs.CellLemmas.{covers_is, from_within}
+use Rattle.replay_laws.specs.unit_laws.proofs.CellLemmas.{covers_is}
 use Rattle.replay_laws.specs.unit_model.specs.Claims.{cell_at, cell_of, covers, in_mask, names}
 use Rattle.replay_laws.specs.unit_model.specs.Meetings.{Arrival}
 use Rattle.replay_laws.specs.unit_model.specs.Proper.{IsAt}
@@ -42,7 +42,7 @@ use Rattle.replay_laws.specs.unit_model.specs.Times.{end_of_time}
 use Rattle.frame_deliveries.specs.window_config.specs.Endpoints.{IsEndpoint}
 use Rattle.frame_deliveries.specs.window_config.specs.declared.endpoints.EndpointConfig.{EndpointConfig}
 use Rattle.document_traffic.specs.Landing.{landings_of, planned_traffic}
-use Rattle.document_traffic.specs.Laws.{HasWidths, ScheduleRadiatesOnce}
+use Rattle.document_traffic.specs.Laws.{HasWidths, PlannedScheduleRadiatesOnce}
 use Rattle.document_traffic.specs.Sending.{Leaving, leaving_down, leaving_of, lines_of, sent_for, source_for}
 use Rattle.document_traffic.specs.Undisturbed.{IsUndisturbed, RadiatesOnce, blocks_for, fragments_at, messages_for}
 use Rattle.document_traffic.proofs.ArrivalLemmas.{arrivals_in_order, in_arrivals, of_arrivals}
@@ -51,6 +51,7 @@ use Rattle.document_traffic.proofs.GenerationLemmas.{each_holds_one}
 use Rattle.document_traffic.proofs.LandingLemmas.{are_replayed}
 use Rattle.document_traffic.proofs.LineLemmas.{lines_fit}
 use Rattle.document_traffic.proofs.ToneLemmas.{tone_fits}
+use Rattle.replay_laws.specs.unit_model.proofs.ClaimLemmas.{from_within}
 
 by_the_end : (s : ℤ) → s ≤ℤ pos 1536100000000000 → s ≤ℤ end_of_time
 by_the_end s h = omega (arith, ints, h)
@@ -98,10 +99,10 @@ module _ (d : Document) (is : IsDocument d) (widths : HasWidths d) (valid : IsVa
 
   -- ---- each symbol of a line starts in time
 
-  pub starts : (p : PlannedLine) (symbol prb re : ℕ) → IsIn p (lines_of d) → names (allocation_of p) (cell_of (allocation_of p) symbol prb) re ≡ true
+  pub starts : (p : PlannedLine) (symbol prb re : ℕ) → IsIn p (lines_of d) → names (line_allocation p) (cell_of (line_allocation p) symbol prb) re ≡ true
       → air_of p.endpoint.numerology p.line.slot symbol ≤ℤ pos 1536100000000000
   starts p symbol prb re m named =
-      let a = allocation_of p in
+      let a = line_allocation p in
       let cell = cell_of a symbol prb in
       let cover = covers_is a cell (and_parts (covers a cell) (in_mask a.mask re) named).0 in
       let g = good d.config d.plan is.config (lines_fit d.plan is.plan) valid p m in
@@ -127,5 +128,5 @@ module _ (d : Document) (is : IsDocument d) (widths : HasWidths d) (valid : IsVa
             (by_the_end (air_of p.endpoint.numerology p.line.slot symbol) (starts p symbol prb re m named))));
       }
 
-pub radiates_once : ScheduleRadiatesOnce
+pub radiates_once : PlannedScheduleRadiatesOnce
 radiates_once d is widths valid calm = radiates d is widths valid calm

@@ -26,7 +26,7 @@ use Rattle.uplink_laws.specs.sent_frames.specs.Messages.{Source, message_bytes}
 use Rattle.uplink_laws.specs.sent_laws.proofs.Fragments.{piece_short}
 use Rattle.uplink_laws.specs.sent_laws.proofs.SentRead.{command_short}
 use Rattle.replay_laws.specs.unit_model.specs.declared.jobs.UplinkJob.{UplinkJob}
-use Rattle.uplink_laws.specs.uplink_model.specs.Frames.{Antenna, frame_of, fragment_field as answer_field, message_bytes as answer_bytes}
+use Rattle.uplink_laws.specs.uplink_model.specs.Frames.{Antenna, uplink_frame_of, uplink_fragment_field as answer_field, uplink_message_bytes as answer_bytes}
 use Rattle.uplink_laws.specs.uplink_model.specs.Messages.{job_fields}
 use Rattle.frame_deliveries.specs.window_config.specs.declared.config.Config.{Config}
 use Rattle.frame_deliveries.specs.window_config.specs.declared.endpoints.EndpointConfig.{EndpointConfig}
@@ -77,14 +77,14 @@ pub short_cut : (n from fragment size len : ℕ) → n ≡ min (min (from + frag
 short_cut n from fragment size len h = omega (arith, h)
 
 handed_short : (c : Config) (antenna : Antenna) (e : EndpointConfig) (m : Message UplinkJob) (number before sub : ℕ) → c.fragment ≤ 9000
-    → length (frame_of c antenna e m number before sub).frame < 2 ^ 32
+    → length (uplink_frame_of c antenna e m number before sub).frame < 2 ^ 32
 handed_short c antenna e m number before sub most =
     let bytes = answer_bytes antenna e m in
     let size = size_of (job_fields c.endpoints) m in
     let from = sub * c.fragment in
     let to = min (from + c.fragment) size in
     let piece = cut from to bytes in
-    short_piece (length (frame_of c antenna e m number before sub).frame) (length piece) c.fragment (length_frame 0 e.id (answer_field c m number sub) piece)
+    short_piece (length (uplink_frame_of c antenna e m number before sub).frame) (length piece) c.fragment (length_frame 0 e.id (answer_field c m number sub) piece)
     (short_cut (length piece) from c.fragment size (length bytes) (length_cut from to bytes)) most
 
 up_short : (d : Document) → IsDocument d → IsValid d.config d.plan → (f : Leaving) → IsIn f (leaving_up d) → length f.frame < 2 ^ 32

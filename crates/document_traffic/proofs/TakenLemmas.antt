@@ -25,13 +25,13 @@ use Rattle.uplink_laws.proofs.JobLemmas.{jobs_planned}
 use Rattle.uplink_laws.proofs.LeastLemmas.{commands_arrive}
 use Rattle.uplink_laws.proofs.SingleLemmas.{taken_once as cell_taken_once}
 use Rattle.uplink_laws.proofs.WholeLemmas.{taken_once}
-use Rattle.uplink_laws.specs.Flows.{bounds_of}
+use Rattle.uplink_laws.specs.Flows.{uplink_bounds_of}
 use Rattle.uplink_laws.specs.Premise.{AnswersArrive, BothArrive, CanAnswer, CommandsArrive, IsUplinkCopy}
-use Rattle.uplink_laws.specs.Singles.{event_of}
+use Rattle.uplink_laws.specs.Singles.{uplink_event_of}
 use Rattle.frame_deliveries.specs.window_config.specs.Endpoints.{IsEndpoint}
 use Rattle.frame_deliveries.specs.window_config.specs.Windows.{ticks_of_ns}
 use Rattle.document_traffic.specs.Landing.{answers_of, antenna_for, handed_for, jobs_for, landings_of, leaving_answer, leaving_up, planned_traffic}
-use Rattle.document_traffic.specs.Laws.{HasWidths, UplinkIsTakenInOnce}
+use Rattle.document_traffic.specs.Laws.{HasWidths, PlannedUplinkIsTakenInOnce}
 use Rattle.document_traffic.specs.Sending.{Leaving, lines_of, source_for}
 use Rattle.document_traffic.specs.Undisturbed.{IsTakenInOnce, IsUndisturbedBothWays, answered_for, answers_for, fragments_at}
 use Rattle.document_traffic.proofs.AnswerLemmas.{handed_is_sent, sent_is_handed}
@@ -41,9 +41,10 @@ use Rattle.document_traffic.proofs.GenerationLemmas.{each_holds_one}
 use Rattle.document_traffic.proofs.LandingLemmas.{are_replayed}
 use Rattle.document_traffic.proofs.RadiatedLemmas.{copies, sendable, starts}
 use Rattle.document_traffic.proofs.ToneLemmas.{tone_fits}
+use Rattle.frame_deliveries.specs.window_config.specs.declared.delays.TheConstants.{MOST_DELAY}
 
 -- a cell is reported 2 ms after its symbol's start at most
-told_in_time : (s most : ℤ) → s ≤ℤ pos 1536100000000000 → most ≤ℤ pos 2000000 → (s +ℤ ticks_of_ns most) ≤ℤ end_of_time
+told_in_time : (s most : ℤ) → s ≤ℤ pos 1536100000000000 → most ≤ℤ pos MOST_DELAY → (s +ℤ ticks_of_ns most) ≤ℤ end_of_time
 told_in_time s most h few = omega (arith, ints, h, few)
 
 module _ (d : Document) (is : IsDocument d) (widths : HasWidths d) (valid : IsValid d.config d.plan) (calm : IsUndisturbedBothWays d) where
@@ -91,15 +92,15 @@ module _ (d : Document) (is : IsDocument d) (widths : HasWidths d) (valid : IsVa
         jobs = jobs_planned d.config d.plan source down both.sendable both.check both.down_arrive;
         messages = taken_once d.config d.plan source antenna down up both;
         sections = decoded_once d.config d.plan source antenna down up both;
-        generations = each_holds_one (bounds_of d.config) (answered_for d) (sounds d.config d.plan source antenna down up both) (fragments_at Du d (planned_traffic d))
+        generations = each_holds_one (uplink_bounds_of d.config) (answered_for d) (sounds d.config d.plan source antenna down up both) (fragments_at Du d (planned_traffic d))
             (delivered d.config d.plan source antenna down up both);
         cells = reported ∙ plan_taken_in d.config d.plan source antenna down up both end_of_time;
         once = λ p symbol prb re m uplink below named.
-            (let event = event_of (answers_for d) (lines_of d) p symbol prb in
+            (let event = uplink_event_of (answers_for d) (lines_of d) p symbol prb in
             subst (λ (cells : List AirCell). filter (same_cell event) cells ≡ event ∷ []) (sym reported)
             (cell_taken_once d.config d.plan source antenna down up both p symbol prb re end_of_time m uplink below named
             (told_in_time (air_of p.endpoint.numerology p.line.slot symbol) d.config.delays.ta4.max (starts d is widths valid calm.down p symbol prb re m named) is.config.delays.ta4.high)));
       }
 
-pub is_taken_in_once : UplinkIsTakenInOnce
+pub is_taken_in_once : PlannedUplinkIsTakenInOnce
 is_taken_in_once d is widths valid calm = taken_in d is widths valid calm

@@ -1,9 +1,9 @@
 -- When the frames of the distributed unit leave, when copies land, and which landings may be replayed.
-use Rattle.std.proofs.Common.{◌≡◌, ℕ, ℤ, pos, neg_ℤ, ◌+◌, ◌*◌, ◌^◌, ◌≤◌, ◌+ℤ◌, ◌*ℤ◌, ◌≤ℤ◌, min, inl, List, refl, sym, subst, arith}
+use Rattle.std.proofs.Common.{◌≡◌, ℕ, ℤ, pos, neg_ℤ, ◌+◌, ◌*◌, ◌≤◌, ◌+ℤ◌, ◌*ℤ◌, ◌≤ℤ◌, min, inl, List, refl, sym, subst, arith}
 use Rattle.std.specs.Prelude.{All}
 use Rattle.std.proofs.lemmas.Int.{ints}
 use Rattle.sent_order.specs.fragment_laws.specs.Apart.{IsIn}
-use Rattle.sent_order.specs.plan_model.specs.Departures.{departures_of, sending_from, sending_window, sent_at, start_of, width_of}
+use Rattle.sent_order.specs.plan_model.specs.Departures.{departures_of, sending_from, sending_window, sent_at, start_of_part, width_of}
 use Rattle.sent_order.specs.plan_model.specs.Lines.{planned}
 use Rattle.sent_order.specs.plan_model.specs.Packs.{Numbered}
 use Rattle.sent_order.specs.plan_model.specs.Sent.{SentFrame, sent}
@@ -14,7 +14,7 @@ use Rattle.sent_order.specs.plan_model.specs.declared.streams.Stream.{Stream}
 use Rattle.sent_order.specs.plan_model.specs.declared.streams.Stream.TheVariants.{DownCommands, UpCommands, DownData, UpData}
 use Rattle.replay_laws.specs.replay_events.specs.Passing.{AreLandings}
 use Rattle.sent_order.specs.schedule_laws.proofs.SentLemmas.{IsSentStream, message_part, sent_is}
-use Rattle.sent_order.specs.schedule_laws.proofs.TimeLemmas.{wait_most, in_ticks}
+use Rattle.sent_order.specs.schedule_laws.proofs.TimeLemmas.{wait_most}
 use Rattle.sent_order.proofs.BoundLemmas.{most_before, part_time}
 use Rattle.replay_laws.specs.unit_model.proofs.SweepLaws.{gap_is}
 use Rattle.replay_laws.specs.unit_model.specs.Meetings.{Arrival}
@@ -29,6 +29,10 @@ use Rattle.frame_deliveries.specs.window_config.specs.declared.delays.Delays.{De
 use Rattle.frame_deliveries.specs.window_config.specs.declared.endpoints.EndpointConfig.{EndpointConfig}
 use Rattle.frame_deliveries.specs.window_config.specs.declared.plan.PlanLine.{PlanLine}
 use Rattle.sent_order.specs.plan_model.proofs.ListLemmas.{all_of}
+use Rattle.fh_time.specs.declared.frames.TheConstants.{FRAME}
+use Rattle.fh_time.specs.declared.nanoseconds.TheConstants.{LAST_TIME}
+use Rattle.frame_deliveries.specs.fh_document.specs.declared.config_lines.TheConstants.{MOST_TRANSIT}
+use Rattle.frame_deliveries.specs.window_config.proofs.TickLemmas.{in_ticks}
 
 -- ---- times of a replay
 
@@ -48,7 +52,7 @@ longest = pos 4608000000000
 -- ---- a frame of the distributed unit leaves
 
 -- a window is from `least` to `most` before a symbol that starts at s
-leaves_by : (s least most : ℤ) (wait width : ℕ) → pos 15360000000 ≤ℤ s → s ≤ℤ pos 1536100000000000 → most ≤ℤ pos 4000000 → pos 0 ≤ℤ least
+leaves_by : (s least most : ℤ) (wait width : ℕ) → FRAME ≤ℤ s → s ≤ℤ pos 1536100000000000 → most ≤ℤ pos 4000000 → pos 0 ≤ℤ least
     → ticks_of_ns least +ℤ pos width ≡ ticks_of_ns most → wait ≤ width → IsBy last_sent ((s +ℤ neg_ℤ (ticks_of_ns most)) +ℤ pos wait)
 leaves_by s least most wait width low high few some is in_width = record { low = omega (arith, ints); high = omega (arith, ints) }
 
@@ -71,8 +75,8 @@ module _ (c : Config) (lines : List PlanLine) (config : IsConfig c) (fit : All I
       let most = most_before c lines config fit valid stream s in
       let d = departures_of c stream in
       let wait = min ((n.before + sub) * d.gap) d.spread in
-      subst (λ (from : ℤ). IsBy last_sent ((start_of x +ℤ from) +ℤ pos wait)) (sym (from_is c.delays stream s))
-      (leaves_by (start_of x) window.min window.max wait (width_of window) time.0 time.1 most.1 most.2
+      subst (λ (from : ℤ). IsBy last_sent ((start_of_part x +ℤ from) +ℤ pos wait)) (sym (from_is c.delays stream s))
+      (leaves_by (start_of_part x) window.min window.max wait (width_of window) time.0 time.1 most.1 most.2
       (gap_is (ticks_of_ns window.min) (ticks_of_ns window.max) (in_ticks window.min window.max most.0)) (wait_most (n.before + sub) d.gap d.spread))
 
   pub frame_leaves : (f : SentFrame) → IsIn f (sent c (planned c.endpoints lines)) → IsBy last_sent f.at
@@ -83,11 +87,11 @@ module _ (c : Config) (lines : List PlanLine) (config : IsConfig c) (fit : All I
 -- ---- what lands
 
 -- a copy lands within three seconds
-pub copy_lands : (last at ns : ℤ) (least : ℕ) → IsBy last at → pos least ≤ℤ ns → ns ≤ℤ pos 3000000000 → IsBy (last +ℤ longest) (at +ℤ ticks_of_ns ns)
+pub copy_lands : (last at ns : ℤ) (least : ℕ) → IsBy last at → pos least ≤ℤ ns → ns ≤ℤ pos MOST_TRANSIT → IsBy (last +ℤ longest) (at +ℤ ticks_of_ns ns)
 copy_lands last at ns least leaves low high = record { low = omega (arith, ints); high = omega (arith, ints) }
 
 -- an injected frame lands in the first 1,000 s
-pub injected_lands : (last ns : ℤ) → pos 1536000000000000 ≤ℤ last → pos 0 ≤ℤ ns → ns ≤ℤ pos (10 ^ 12) → IsBy (last +ℤ longest) (ns *ℤ pos 1536)
+pub injected_lands : (last ns : ℤ) → pos 1536000000000000 ≤ℤ last → pos 0 ≤ℤ ns → ns ≤ℤ pos LAST_TIME → IsBy (last +ℤ longest) (ns *ℤ pos 1536)
 injected_lands last ns late low high = record { low = omega (arith, ints); high = omega (arith, ints) }
 
 -- such a time may be given to a unit

@@ -15,6 +15,7 @@ use Rattle.document_traffic.specs.Landing.{copies_among, copies_in, copy_at, inj
 use Rattle.document_traffic.specs.Sending.{Delayed, Leaving, delayed_behind, none_sent}
 use Rattle.document_traffic.proofs.CopyLemmas.{delayed_is, of_copies}
 use Rattle.document_traffic.proofs.TimeLemmas.{IsBy, copy_lands, injected_lands, longest}
+use Rattle.frame_deliveries.specs.fh_document.specs.declared.config_lines.TheConstants.{MOST_TRANSIT}
 
 module _ (d : Document) (is : IsDocument d) (side : Side) (fs : List Leaving) (last : ℤ) (late : pos 1536000000000000 ≤ℤ last) (leaves : (f : Leaving) → IsIn f fs → IsBy last f.at) where
   pub copy_of_each : (x : Delayed) (a : Arrival) → IsIn x (delayed_behind d side none_sent fs) → IsIn a (copies_in x) → IsBy (last +ℤ longest) a.at
@@ -22,7 +23,7 @@ module _ (d : Document) (is : IsDocument d) (side : Side) (fs : List Leaving) (l
       let w = delayed_is d side none_sent fs x m in
       let class = x.frame.class in
       let ns = of_map (copy_at x.frame) a x.delays i in
-      let within = in_all (IsFrom (least_of class) 3000000000) ns.0 (copies_of d side class w.number) (copies_within d is.transits is.deliveries side class w.number)
+      let within = in_all (IsFrom (least_of class) MOST_TRANSIT) ns.0 (copies_of d side class w.number) (copies_within d is.transits is.deliveries side class w.number)
       (subst (λ (delays : List ℤ). IsIn ns.0 delays) w.delays_are ns.1) in
       subst (λ (b : Arrival). IsBy (last +ℤ longest) b.at) (sym ns.2) (copy_lands last x.frame.at ns.0 (least_of class) (leaves x.frame w.there) within.low within.high)
 

@@ -15,12 +15,12 @@ use Rattle.replay_laws.specs.replay_events.specs.Traffic.{Traffic}
 use Rattle.frame_deliveries.specs.tone_source.specs.Tones.{tone_of}
 use Rattle.replay_laws.specs.unit_model.specs.Meetings.{Arrival}
 use Rattle.replay_laws.specs.unit_model.specs.declared.jobs.UplinkJob.{UplinkJob}
-use Rattle.uplink_laws.specs.Lines.{uplink_of}
 use Rattle.uplink_laws.specs.Premise.{frames_of, jobs_of}
 use Rattle.uplink_laws.specs.uplink_model.specs.Frames.{Antenna}
 use Rattle.uplink_laws.specs.uplink_model.specs.Sent.{in_sent_order}
 use Rattle.frame_deliveries.specs.window_config.specs.Windows.{ticks_of_ns}
 use Rattle.document_traffic.specs.Sending.{Delayed, Leaving, delayed_behind, leaving_down, lines_of, none_sent}
+use Rattle.sent_order.specs.plan_model.specs.Lines.{uplink_allocations}
 
 -- ---- copies, and injected frames
 
@@ -82,7 +82,7 @@ answers_of d = landing_with d Du (leaving_up d)
 
 -- all that lands at each of a plan's frames and of those that are injected, and what the plan's `ul` lines name: nothing is measured
 abbrev pub planned_traffic : Document → Traffic
-planned_traffic d = record { at_ru = landings_of d; planned = uplink_of (lines_of d); at_du = answers_of d; results = λ side tick. []; counted = λ side. [] }
+planned_traffic d = record { at_ru = landings_of d; planned = uplink_allocations (lines_of d); at_du = answers_of d; results = λ side tick. []; counted = λ side. [] }
 
 -- all that leaves for a unit
 abbrev pub leaving_to : Side → Document → List Leaving

@@ -19,16 +19,16 @@ pub record HasWidths (d : Document) : Type 0 where
   pub num_prbs : All (λ (l : PlanLine). l.num_prb < 2 ^ 8) d.plan
 
 -- all that lands at a unit has its time between the first clock and the end of time
-abbrev pub LandingsAreReplayed : Type 0
-LandingsAreReplayed = (d : Document) (side : Side) → IsDocument d → IsValid d.config d.plan → AreLandings (landings_at side (planned_traffic d))
+abbrev pub PlannedLandingsAreReplayed : Type 0
+PlannedLandingsAreReplayed = (d : Document) (side : Side) → IsDocument d → IsValid d.config d.plan → AreLandings (landings_at side (planned_traffic d))
 
 -- where nothing disturbs its schedule, each scheduled element radiates once, with its samples
-abbrev pub ScheduleRadiatesOnce : Type 0
-ScheduleRadiatesOnce = (d : Document) → IsDocument d → HasWidths d → IsValid d.config d.plan → IsUndisturbed d → RadiatesOnce d (planned_traffic d)
+abbrev pub PlannedScheduleRadiatesOnce : Type 0
+PlannedScheduleRadiatesOnce = (d : Document) → IsDocument d → HasWidths d → IsValid d.config d.plan → IsUndisturbed d → RadiatesOnce d (planned_traffic d)
 
 -- where nothing disturbs it either way, each planned uplink element is taken in once, with the antenna's samples
-abbrev pub UplinkIsTakenInOnce : Type 0
-UplinkIsTakenInOnce = (d : Document) → IsDocument d → HasWidths d → IsValid d.config d.plan → IsUndisturbedBothWays d → IsTakenInOnce d (planned_traffic d)
+abbrev pub PlannedUplinkIsTakenInOnce : Type 0
+PlannedUplinkIsTakenInOnce = (d : Document) → IsDocument d → HasWidths d → IsValid d.config d.plan → IsUndisturbedBothWays d → IsTakenInOnce d (planned_traffic d)
 
 -- frames leave for a unit in the order of time
 abbrev pub LeavingAreInOrder : Type 0

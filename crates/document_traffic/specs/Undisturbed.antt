@@ -8,7 +8,7 @@ use Rattle.ecpri_fragments.specs.Generations.{Fragment}
 use Rattle.frame_deliveries.specs.fh_document.specs.declared.document.Document.{Document}
 use Rattle.sent_order.specs.fragment_laws.specs.Apart.{IsIn}
 use Rattle.sent_order.specs.fragment_laws.specs.Flow.{Flow}
-use Rattle.sent_order.specs.plan_model.specs.Lines.{allocation_of}
+use Rattle.sent_order.specs.plan_model.specs.Lines.{line_allocation}
 use Rattle.sent_order.specs.plan_model.specs.declared.lines.PlannedLine.{PlannedLine}
 use Rattle.replay_laws.specs.replay_events.specs.Events.{events}
 use Rattle.replay_laws.specs.replay_events.specs.Heard.{cells_heard}
@@ -24,19 +24,19 @@ use Rattle.replay_laws.specs.unit_model.specs.Claims.{cell_of, names}
 use Rattle.replay_laws.specs.unit_model.specs.Meetings.{fragments}
 use Rattle.replay_laws.specs.unit_model.specs.Reports.{met}
 use Rattle.replay_laws.specs.unit_model.specs.Standing.{same_cell}
-use Rattle.uplink_laws.specs.Lines.{is_uplink}
 use Rattle.uplink_laws.specs.Whole.{AreTakenOnce}
 use Rattle.frame_deliveries.specs.window_config.specs.Relations.{PassesCheck}
 use Rattle.frame_deliveries.specs.window_config.specs.declared.delays.Delays.{Delays}
 use Rattle.frame_deliveries.specs.window_config.specs.declared.delays.Range.{Range}
 use Rattle.uplink_laws.specs.Cells.{taken_air}
-use Rattle.uplink_laws.specs.Data.{AreDecodedOnce as AreAnswersDecodedOnce, blocks_of as answer_blocks_of}
-use Rattle.uplink_laws.specs.Flows.{bounds_of as answer_bounds_of, flow_of as answer_flow_of}
+use Rattle.uplink_laws.specs.Data.{AreUplinksDecodedOnce as AreAnswersDecodedOnce, antenna_blocks as answer_blocks_of}
+use Rattle.uplink_laws.specs.Flows.{uplink_bounds_of as answer_bounds_of, uplink_flow_of as answer_flow_of}
 use Rattle.uplink_laws.specs.Jobs.{AreJobsOfPlan}
-use Rattle.uplink_laws.specs.Singles.{event_of as taken_event_of}
+use Rattle.uplink_laws.specs.Singles.{uplink_event_of as taken_event_of}
 use Rattle.document_traffic.specs.Generations.{EachHoldsOneMessage}
 use Rattle.document_traffic.specs.Landing.{all_delayed, antenna_for}
 use Rattle.document_traffic.specs.Sending.{Delayed, lines_of, source_for}
+use Rattle.sent_order.specs.plan_model.specs.Lines.{is_up_line}
 
 -- ---- the premise
 
@@ -92,8 +92,8 @@ pub record RadiatesOnce (d : Document) (t : Traffic) : Type 0 where
   pub messages : AreDecodedOnce d.config (lines_of d) (texts_of d.config (lines_of d) (source_for d)) (blocks_for d) (all_arrivals t.at_ru)
   pub generations : EachHoldsOneMessage (bounds_of d.config) (messages_for d) (fragments_at Ru d t)
   pub cells : told_for Ru d t ≡ planned_air d.config (blocks_for d) (lines_of d) end_of_time
-  pub once : (p : PlannedLine) (symbol prb re : ℕ) → IsIn p (lines_of d) → (allocation_of p).down ≡ true → (allocation_of p).idle ≡ false → re < 12
-      → names (allocation_of p) (cell_of (allocation_of p) symbol prb) re ≡ true
+  pub once : (p : PlannedLine) (symbol prb re : ℕ) → IsIn p (lines_of d) → (line_allocation p).down ≡ true → (line_allocation p).idle ≡ false → re < 12
+      → names (line_allocation p) (cell_of (line_allocation p) symbol prb) re ≡ true
       → filter (same_cell (event_of (blocks_for d) (lines_of d) p symbol prb)) (told_for Ru d t) ≡ event_of (blocks_for d) (lines_of d) p symbol prb ∷ []
 
 -- ---- what is taken in then
@@ -116,6 +116,6 @@ pub record IsTakenInOnce (d : Document) (t : Traffic) : Type 0 where
   pub sections : AreAnswersDecodedOnce d.config (lines_of d) (antenna_for d) (all_arrivals t.at_du)
   pub generations : EachHoldsOneMessage (answer_bounds_of d.config) (answered_for d) (fragments_at Du d t)
   pub cells : told_for Du d t ≡ taken_air d.config (answers_for d) (lines_of d) end_of_time
-  pub once : (p : PlannedLine) (symbol prb re : ℕ) → IsIn p (lines_of d) → is_uplink p ≡ true → re < 12
-      → names (allocation_of p) (cell_of (allocation_of p) symbol prb) re ≡ true
+  pub once : (p : PlannedLine) (symbol prb re : ℕ) → IsIn p (lines_of d) → is_up_line p ≡ true → re < 12
+      → names (line_allocation p) (cell_of (line_allocation p) symbol prb) re ≡ true
       → filter (same_cell (taken_event_of (answers_for d) (lines_of d) p symbol prb)) (told_for Du d t) ≡ taken_event_of (answers_for d) (lines_of d) p symbol prb ∷ []

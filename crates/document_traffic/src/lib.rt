@@ -5,12 +5,12 @@
 //! The functions here do nothing: each one's contract is its law, stated in `specs/`.
 #![tactic(auto)]
 
-ghost use Rattle.document_traffic.specs.Laws.{AnswersAllLeave, LandingsAreReplayed, LeavingAreInOrder, LeavingAreShort, ScheduleRadiatesOnce, UplinkIsTakenInOnce};
+ghost use Rattle.document_traffic.specs.Laws.{AnswersAllLeave, PlannedLandingsAreReplayed, LeavingAreInOrder, LeavingAreShort, PlannedScheduleRadiatesOnce, PlannedUplinkIsTakenInOnce};
 
 /// All that lands at either unit for a document with a valid plan has its time between the first clock and the end of time. Frames leave
 /// for a unit in the order of time, and each is short enough for an air; all that the radio unit hands over leave.
-pub fn landings_are_replayed()
-    ensures times { LandingsAreReplayed }
+pub fn planned_landings_are_replayed()
+    ensures times { PlannedLandingsAreReplayed }
     ensures order { LeavingAreInOrder }
     ensures answers { AnswersAllLeave }
     ensures short { LeavingAreShort }
@@ -20,12 +20,12 @@ pub fn landings_are_replayed()
 /// scheduled downlink element radiates once, with its source's samples as compression leaves them, and each generation at the radio unit
 /// holds fragments of one message only, and every copy of them that came.
 pub fn the_schedule_radiates_once()
-    ensures { ScheduleRadiatesOnce }
+    ensures { PlannedScheduleRadiatesOnce }
 {}
 
 /// Where besides each frame that the radio unit sends has a copy, each within T34: each planned uplink element is taken in once, with the
 /// antenna's samples as compression leaves them, and each generation at the distributed unit holds fragments of one message only, and every
 /// copy of them that came.
 pub fn the_uplink_is_taken_in_once()
-    ensures { UplinkIsTakenInOnce }
+    ensures { PlannedUplinkIsTakenInOnce }
 {}

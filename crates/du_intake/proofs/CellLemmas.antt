@@ -33,7 +33,6 @@ use Rattle.schedule_laws.specs.unit_model.specs.declared.cells.Cell.{Cell}
 use Rattle.schedule_laws.specs.unit_model.specs.declared.symbol_start.SymbolStart.{SymbolStart}
 use Rattle.schedule_laws.specs.unit_model.proofs.SweepLaws.{each_more, each_split}
 use Rattle.schedule_laws.specs.unit_laws.specs.Swept.{IsSwept}
-use Rattle.schedule_laws.specs.unit_laws.proofs.CellLemmas.{slots_equal}
 use Rattle.schedule_laws.specs.unit_laws.proofs.DueLemmas.{due_begins, due_in_pieces, due_left, heard_differ, unheard}
 use Rattle.schedule_laws.specs.unit_laws.proofs.FarLemmas.{endpoints_equal}
 use Rattle.ru_buffers.specs.unit_cells.specs.Cells.{cells_block}
@@ -41,23 +40,23 @@ use Rattle.ru_buffers.specs.unit_cells.proofs.TimeLemmas.{live_at}
 use Rattle.ru_buffers.specs.unit_cells.proofs.ToldLemmas.{told_whole}
 use Rattle.ru_buffers.specs.history_laws.specs.First.{IsSweptIn, told_of}
 use Rattle.ru_buffers.specs.history_laws.proofs.FirstLemmas.{first_is_first}
-use Rattle.ru_buffers.specs.history_laws.proofs.TickLemmas.{last_before, at_most}
-use Rattle.ru_buffers.specs.history_laws.proofs.UnitLemmas.{same_ids, not_both, not_none}
+use Rattle.ru_buffers.specs.history_laws.proofs.TickLemmas.{last_before}
+use Rattle.ru_buffers.specs.history_laws.proofs.UnitLemmas.{same_ids, not_both}
 use Rattle.ru_buffers.specs.history_laws.proofs.ListLemmas.{one_of_two}
-use Rattle.schedule_laws.specs.plan_model.proofs.SlotLemmas.{slot_own}
-use Rattle.schedule_laws.specs.plan_model.proofs.TickLemmas.{not_zero}
 use Rattle.schedule_laws.proofs.TimeLemmas.{by_then}
 use Rattle.ru_buffers.specs.unit_memory.specs.Memory.{Holds}
 use Rattle.ru_buffers.specs.unit_memory.specs.declared.memory.UnitMemory.{UnitMemory}
 use Rattle.ru_buffers.specs.unit_memory.proofs.HoldLemmas.{holds_later}
 use Rattle.ru_buffers.specs.ru_reports.specs.Symbols.{CountsTold}
 use Rattle.ru_buffers.specs.symbol_search.proofs.OrderLemmas.{not_before_itself}
-use Rattle.ru_buffers.proofs.MarkedLemmas.{counts_more}
-use Rattle.ru_buffers.proofs.OrderLemmas.{same_place}
-use Rattle.du_intake.specs.Cursors.{CellCursor, cell_in, is_behind}
-use Rattle.du_intake.specs.Units.{Keeps, due_of}
+use Rattle.ru_buffers.specs.radio_laws.proofs.ReportedLemmas.{counts_more}
+use Rattle.ru_buffers.specs.radio_laws.proofs.OrderLemmas.{same_place}
+use Rattle.du_intake.specs.Cursors.{CellCursor, uplink_cell_in, is_behind}
+use Rattle.du_intake.specs.Units.{IntakeKeeps, intake_due_of}
 use Rattle.du_intake.proofs.DueLemmas.{begun_late, by_cells, cells_left, each_nothing, next_swept, nothing_if, one_cell, own_not_behind, quiet, used_cell, wait_bounds}
 use Rattle.du_intake.proofs.UnitLemmas.{all_told}
+use Rattle.schedule_laws.specs.unit_model.proofs.ClaimLemmas.{same_slot_is as slots_equal, slot_self as slot_own}
+use Rattle.fh_time.proofs.Orders.{not_none, not_zero, at_most}
 
 -- ---- tests
 
@@ -89,7 +88,7 @@ behind_same false false p n h = same p n (λ e. h refl refl e)
     same : (p n : ℕ) → (p ≡ n → ⊥) → nat_lt p (n + 1) ≡ nat_lt p n
     same p n other = elim (cases_Bool (p == n)) [ inl e ↦ absurd (other (eqb-true p n e)) | inr e ↦ grind (arith, nat_tests) ]
 
-own_behind : (a b : Bool) (p n : ℕ) → a ≡ false → b ≡ false → p < n → (a || (not b && nat_lt p n)) ≡ true
+pub own_behind : (a b : Bool) (p n : ℕ) → a ≡ false → b ≡ false → p < n → (a || (not b && nat_lt p n)) ≡ true
 own_behind true b p n h k l = cc
 own_behind false true p n h k l = cc
 own_behind false false p n h k l = grind (arith, nat_tests)
@@ -105,10 +104,6 @@ one_unless : (none : Bool) (a : AirCell) → none ≡ false → (let xs : List A
 one_unless true a h = cc
 one_unless false a h = refl
 
-if_not : (done : Bool) (xs : List AirCell) → done ≡ false → (let ys : List AirCell = if done then [] else xs in ys) ≡ xs
-if_not true xs h = cc
-if_not false xs h = refl
-
 -- ---- times
 
 live_begun : (first start wait none : ℤ) → first ≤ℤ start → pos 0 ≤ℤ wait → pos 0 ≤ℤ none → (first -ℤ none) ≤ℤ (start +ℤ wait)
@@ -120,7 +115,7 @@ live_lasting first start wait span h = omega (arith, ints)
 no_ticks : pos 0 ≤ℤ ticks_of_ns (pos 0)
 no_ticks = omega (arith, ints)
 
-same_fields : (s : SymbolStart) (cell : Cell) (prb : ℕ) → cell.ep ≡ s.ep → cell.down ≡ false → cell.slot ≡ s.slot → cell.symbol ≡ s.symbol → cell.prb ≡ prb → cell ≡ cell_in s prb
+same_fields : (s : SymbolStart) (cell : Cell) (prb : ℕ) → cell.ep ≡ s.ep → cell.down ≡ false → cell.slot ≡ s.slot → cell.symbol ≡ s.symbol → cell.prb ≡ prb → cell ≡ uplink_cell_in s prb
 same_fields s cell prb ep down slot symbol here =
     ap (λ (x : ℕ). let r : Cell = record { ep = x; down = cell.down; slot = cell.slot; symbol = cell.symbol; prb = cell.prb } in r) ep
     ∙ ap (λ (x : Bool). let r : Cell = record { ep = s.ep; down = x; slot = cell.slot; symbol = cell.symbol; prb = cell.prb } in r) down
@@ -136,7 +131,7 @@ abbrev pub with_counters : UnitMemory → List ℕ → UnitMemory
 with_counters m counters = record { endpoints = m.endpoints; cells = m.cells; assembly = m.assembly; counters = counters }
 
 module _ (c : Config) (planned : List Allocation) (m : UnitMemory) (clock : ℤ) (h : History) (next : SymbolStart) (prb : ℕ)
-    (k : Keeps c planned m clock (cursor_at next prb) h) where
+    (k : IntakeKeeps c planned m clock (cursor_at next prb) h) where
   abbrev known : Known
   known = du_known c planned h.arrivals
 
@@ -149,7 +144,7 @@ module _ (c : Config) (planned : List Allocation) (m : UnitMemory) (clock : ℤ)
   pub swept : IsSwept c.endpoints next.ep next.endpoint next.slot next.symbol next.start.0
   swept = next_swept c planned m clock (cursor_at next prb) h k next refl k.named
 
-  own_start : start_at next.ep next.endpoint next.slot next.symbol ≡ next
+  pub own_start : start_at next.ep next.endpoint next.slot next.symbol ≡ next
   own_start = ap (λ (t : ℤ). (let y : SymbolStart = record { ep = next.ep; endpoint = next.endpoint; start = record { 0 = t }; slot = next.slot; symbol = next.symbol } in y)) swept.starts
 
   pub slot_is : IsSlot next.endpoint.numerology next.slot
@@ -164,7 +159,7 @@ module _ (c : Config) (planned : List Allocation) (m : UnitMemory) (clock : ℤ)
 
   -- the cell, and what is told of it
   abbrev pub here : Cell
-  here = cell_in next prb
+  here = uplink_cell_in next prb
 
   abbrev pub told_cell : AirCell
   told_cell = air_cell Du next.endpoint here (air_of next.endpoint.numerology next.slot next.symbol) (claim_at planned here) (known.blocks here)
@@ -191,7 +186,7 @@ module _ (c : Config) (planned : List Allocation) (m : UnitMemory) (clock : ℤ)
       same_fields next cell prb place.ep down place.slot_is place.symbol p
 
   -- where none is planned there, the next PRB is as good
-  pub keeps_unplanned : used_mask (claim_at planned here) ≡ 0 → Keeps c planned m clock (cursor_at next (prb + 1)) h
+  pub keeps_unplanned : used_mask (claim_at planned here) ≡ 0 → IntakeKeeps c planned m clock (cursor_at next (prb + 1)) h
   keeps_unplanned none = record {
     holds = k.holds;
     clock_is = k.clock_is;
@@ -203,8 +198,8 @@ module _ (c : Config) (planned : List Allocation) (m : UnitMemory) (clock : ℤ)
     owed = k.owed;
     given = k.given;
     plan = k.plan;
-    marks = λ e cell is down used.
-        k.marks e cell is down used
+    reports = λ e cell is down used.
+        k.reports e cell is down used
         ∙ sym (behind_same (comes_before (start_at cell.ep e cell.slot cell.symbol) next) (comes_before next (start_at cell.ep e cell.slot cell.symbol)) cell.prb prb
         (λ a b p. not_both (used_mask (claim_at planned cell)) (ap (λ (x : Cell). used_mask (claim_at planned x)) (place_cell e cell down a b p) ∙ none) used));
     named = k.named;
@@ -236,12 +231,12 @@ module _ (c : Config) (planned : List Allocation) (m : UnitMemory) (clock : ℤ)
         let same : e ≡ next.endpoint = endpoints_equal c.endpoints cell.ep next.ep e next.endpoint at swept.endpoint (ap (λ (x : Cell). x.ep) is) in
         ap₂ (λ (f : EndpointConfig) (x : Cell). cell_heard f x told_cell) same is ∙ heard_own
 
-    marks_now : (e : EndpointConfig) (cell : Cell) → IsCell c e cell → cell.down ≡ false → 0 < used_mask (claim_at planned cell)
+    reports_now : (e : EndpointConfig) (cell : Cell) → IsCell c e cell → cell.down ≡ false → 0 < used_mask (claim_at planned cell)
         → list_any (cell_heard e cell) (h.reported ++ told_cell ∷ []) ≡ is_behind (Some next) (prb + 1) (start_at cell.ep e cell.slot cell.symbol) cell.prb
-    marks_now e cell is down used_too =
+    reports_now e cell is down used_too =
         let x = start_at cell.ep e cell.slot cell.symbol in
         list_any-append (cell_heard e cell) h.reported (told_cell ∷ [])
-        ∙ ap (λ (b : Bool). b || (cell_heard e cell told_cell || false)) (k.marks e cell is down used_too)
+        ∙ ap (λ (b : Bool). b || (cell_heard e cell told_cell || false)) (k.reports e cell is down used_too)
         ∙ sym (behind_more (comes_before x next) (comes_before next x) (cell_heard e cell told_cell) cell.prb prb
         (λ t.
         let p = heard_place e cell is.endpoint t in
@@ -277,27 +272,27 @@ module _ (c : Config) (planned : List Allocation) (m : UnitMemory) (clock : ℤ)
     abbrev later : List AirCell
     later = each (prb + 1) (next.endpoint.prbs - (prb + 1)) left
 
-    done_at : (q : ℕ) → q < next.endpoint.prbs → (b : Bool) → 0 < used_mask (claim_at planned (cell_in next q)) → is_behind (Some next) prb next q ≡ b
-        → list_any (cell_heard next.endpoint (cell_in next q)) h.reported ≡ b
-    done_at q small b used_too behind =
-        k.marks next.endpoint (cell_in next q) (used_cell c planned m clock (cursor_at next prb) h k next.endpoint (cell_in next q) next.start.0 swept small used_too) refl used_too
+    reported_here : (q : ℕ) → q < next.endpoint.prbs → (b : Bool) → 0 < used_mask (claim_at planned (uplink_cell_in next q)) → is_behind (Some next) prb next q ≡ b
+        → list_any (cell_heard next.endpoint (uplink_cell_in next q)) h.reported ≡ b
+    reported_here q small b used_too behind =
+        k.reports next.endpoint (uplink_cell_in next q) (used_cell c planned m clock (cursor_at next prb) h k next.endpoint (uplink_cell_in next q) next.start.0 swept small used_too) refl used_too
         ∙ ap (λ (x : SymbolStart). is_behind (Some next) prb x q) own_start ∙ behind
 
     told_before : (q : ℕ) → q < prb → left q ≡ []
     told_before q less =
-        let cell = cell_in next q in
+        let cell = uplink_cell_in next q in
         let start = air_of next.endpoint.numerology next.slot next.symbol in
         let done = list_any (cell_heard next.endpoint cell) h.reported in
         one_cell next.endpoint cell start (claim_at planned cell) (known.blocks cell) h.reported done refl refl
         ∙ nothing_if done (used_mask (claim_at planned cell) == 0) (air_cell Du next.endpoint cell start (claim_at planned cell) (known.blocks cell)) (λ some.
-        done_at q (omega (arith, less, below)) true (not_zero (used_mask (claim_at planned cell)) some)
+        reported_here q (omega (arith, less, below)) true (not_zero (used_mask (claim_at planned cell)) some)
         (own_behind (comes_before next next) (comes_before next next) q prb (not_before_itself next) (not_before_itself next) less))
 
     told_here : left prb ≡ told_cell ∷ []
     told_here =
         let start = air_of next.endpoint.numerology next.slot next.symbol in
         one_cell next.endpoint here start (claim_at planned here) (known.blocks here) h.reported false refl
-        (done_at prb below false used
+        (reported_here prb below false used
         (own_not_behind (comes_before next next) (not (comes_before next next)) (nat_lt prb prb) (not_before_itself next) (own_ahead prb)))
         ∙ one_unless (used_mask (claim_at planned here) == 0) told_cell (not_none (used_mask (claim_at planned here)) used)
 
@@ -313,7 +308,7 @@ module _ (c : Config) (planned : List Allocation) (m : UnitMemory) (clock : ℤ)
 
     -- ---- it is due first
 
-    pub due_is : (to : ℤ) → (next.start.0 +ℤ wait) ≤ℤ to → (rest : List AirCell) × (due_of c planned h to ≡ told_cell ∷ rest)
+    pub due_is : (to : ℤ) → (next.start.0 +ℤ wait) ≤ℤ to → (rest : List AirCell) × (intake_due_of c planned h to ≡ told_cell ∷ rest)
     unfolding due
     due_is to order =
         let from = first_clock -ℤ wait in
@@ -339,7 +334,7 @@ module _ (c : Config) (planned : List Allocation) (m : UnitMemory) (clock : ℤ)
             begun_late next.slot.frame next.start.0 (next.slot.subframe * 1536000000 + kind_start next.endpoint.numerology.kind next.slot.slot next.symbol) wait
             (subst (λ (f : ℤ). pos 1 ≤ℤ f) (sym frame) p.begun) (sym swept.starts) wait_low
 
-    pub due_goes : (to : ℤ) → (next.start.0 +ℤ wait) ≤ℤ to → due_of c planned h to ≡ told_cell ∷ due_of c planned (heard h (told_cell ∷ [])) to
+    pub due_goes : (to : ℤ) → (next.start.0 +ℤ wait) ≤ℤ to → intake_due_of c planned h to ≡ told_cell ∷ intake_due_of c planned (heard h (told_cell ∷ [])) to
     due_goes to order =
         let d = due_is to order in
         d.1 ∙ ap (λ (xs : List AirCell). told_cell ∷ xs)
@@ -395,7 +390,7 @@ module _ (c : Config) (planned : List Allocation) (m : UnitMemory) (clock : ℤ)
         keeps = k.holds.keeps;
       }
 
-      pub keeps_told : Keeps c planned (with_counters m counters) clock (cursor_at next (prb + 1)) (heard h (told_cell ∷ []))
+      pub keeps_told : IntakeKeeps c planned (with_counters m counters) clock (cursor_at next (prb + 1)) (heard h (told_cell ∷ []))
       keeps_told = record {
         holds = holds_now;
         clock_is = k.clock_is;
@@ -409,6 +404,6 @@ module _ (c : Config) (planned : List Allocation) (m : UnitMemory) (clock : ℤ)
         owed = All-append (IsOwed Du c known) h.reported (told_cell ∷ []) k.owed (All-cons (IsOwed Du c known) told_cell [] owed_one (All-nil (IsOwed Du c known)));
         given = k.given;
         plan = k.plan;
-        marks = marks_now;
+        reports = reports_now;
         named = k.named;
       }

@@ -1,5 +1,6 @@
 -- What the kept lines claim is what the plan claims.
 use Rattle.std.proofs.Common.{◌≡◌, ℕ, inl, inr, Bool, true, false, ◌&&◌, ◌==◌, if◌then◌else◌, List, [], ◌∷◌, ◌++◌, map, Option, Some, None, refl, sym}
+use Rattle.std.proofs.lemmas.Option.{same_Some}
 use Rattle.schedule_laws.specs.fragment_laws.specs.Apart.{IsIn}
 use Rattle.schedule_laws.specs.unit_model.specs.Claims.{claim_at, claim_of, first_prb, in_mask, is_from, names, prb_count, same_slot, same_way}
 use Rattle.schedule_laws.specs.unit_model.specs.declared.allocations.Allocation.{Allocation}
@@ -84,9 +85,6 @@ pub record IsClaimedBy (ls : List UplinkLine) (y n re : ℕ) (c : Claim) : Type 
   pub names_it : names_in by y n re ≡ true
   pub is : c ≡ (let k : Claim = record { id = by.section; idle = false } in k)
 
-some_is : (x y : Claim) → Some x ≡ Some y → x ≡ y
-some_is x y h = cc
-
 pub claimed_by : (ls : List UplinkLine) (y n re : ℕ) (c : Claim) → claim_in_slot ls y n re ≡ Some c → IsClaimedBy ls y n re c
 unfolding claim_in_slot
 claimed_by [] y n re c h = absurd cc
@@ -94,7 +92,7 @@ claimed_by (l ∷ ls) y n re c h = go (names_in l y n re) refl h (claimed_by ls 
   where
     go : (b : Bool) → names_in l y n re ≡ b → (let o : Option Claim = if b then Some (record { id = l.section; idle = false }) else claim_in_slot ls y n re in o) ≡ Some c
         → (claim_in_slot ls y n re ≡ Some c → IsClaimedBy ls y n re c) → IsClaimedBy (l ∷ ls) y n re c
-    go true e g before = record { by = l; there = inl refl; names_it = e; is = sym (some_is _ _ g) }
+    go true e g before = record { by = l; there = inl refl; names_it = e; is = sym (same_Some _ _ g) }
     go false e g before = let w = before g in record { by = w.by; there = inr w.there; names_it = w.names_it; is = w.is }
 
 pub claim_none : (y n re : ℕ) → claim_in_slot [] y n re ≡ None

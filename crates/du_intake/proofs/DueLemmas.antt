@@ -5,6 +5,7 @@ use Rattle.std.specs.List.{list_any, slice_get}
 use Rattle.std.proofs.lemmas.Bool.{cases_Bool, eqb-true, le-ltb, or_left}
 use Rattle.std.proofs.lemmas.Bool.Decides.{nat_tests}
 use Rattle.std.proofs.lemmas.Int.{ints}
+use Rattle.std.proofs.lemmas.Option.{MatchOption-at_some}
 use Rattle.fh_time.specs.Air.{air_of}
 use Rattle.fh_time.specs.Kinds.{kind_start}
 use Rattle.fh_time.specs.declared.values.Slot.{Slot}
@@ -31,26 +32,27 @@ use Rattle.schedule_laws.specs.unit_laws.specs.Swept.{IsSwept}
 use Rattle.schedule_laws.specs.unit_laws.proofs.DueLemmas.{unheard}
 use Rattle.schedule_laws.specs.unit_laws.proofs.FrameLemmas.{symbol_short, symbols_are_swept}
 use Rattle.window_config.specs.Windows.{ticks_of_ns}
-use Rattle.schedule_laws.specs.unit_laws.proofs.LookupLemmas.{reported_by_mark}
+use Rattle.schedule_laws.specs.unit_laws.proofs.LookupLemmas.{reported_by_lookup}
 use Rattle.schedule_laws.specs.unit_laws.proofs.SweepLemmas.{each_related, none_kept}
 use Rattle.ru_buffers.specs.history_laws.specs.First.{IsSweptIn, told_of}
-use Rattle.ru_buffers.specs.history_laws.proofs.BeforeLemmas.{start_before}
 use Rattle.ru_buffers.specs.history_laws.proofs.FirstLemmas.{first_is_first, nothing_is_nothing}
-use Rattle.ru_buffers.specs.history_laws.proofs.TickLemmas.{at_most}
 use Rattle.ru_buffers.specs.history_laws.proofs.ListLemmas.{kept_one, filter_kept, both_nothing, one_unless}
-use Rattle.ru_buffers.specs.history_laws.proofs.UnitLemmas.{not_none}
-use Rattle.schedule_laws.specs.plan_model.proofs.TickLemmas.{not_zero}
 use Rattle.ru_buffers.specs.unit_memory.specs.declared.memory.UnitMemory.{UnitMemory}
 use Rattle.ru_buffers.specs.symbol_search.proofs.OrderLemmas.{not_before_itself}
-use Rattle.du_intake.specs.Cursors.{CellCursor, HasLeft, IsNamed, cell_in, is_behind}
-use Rattle.du_intake.specs.Symbols.{start_in, symbol_at}
-use Rattle.du_intake.specs.Units.{Keeps, Stands, cursor_by, due_of}
-use Rattle.du_intake.specs.Calls.{IsLeastMoment}
+use Rattle.du_intake.specs.Cursors.{CellCursor, HasStillLeft, IsNamed, uplink_cell_in, is_behind}
+use Rattle.du_intake.specs.Symbols.{planned_start_in, symbol_at}
+use Rattle.du_intake.specs.Units.{IntakeKeeps, IntakeStands, cursor_by, intake_due_of}
+use Rattle.du_intake.specs.Calls.{IsLeastIntakeMoment}
 use Rattle.du_intake.specs.declared.plan.Place.{Place}
 use Rattle.du_intake.specs.declared.plan.UplinkPlan.{UplinkPlan}
 use Rattle.du_intake.specs.declared.symbols.PlannedSymbol.{PlannedSymbol}
-use Rattle.du_intake.proofs.NextLemmas.{of_some, start_is as kept_start}
+use Rattle.du_intake.proofs.NextLemmas.{start_is as kept_start}
 use Rattle.du_intake.proofs.UsedLemmas.{used_named}
+use Rattle.fh_time.specs.declared.frames.TheConstants.{FRAME}
+use Rattle.window_config.specs.declared.delays.TheConstants.{MOST_DELAY}
+use Rattle.window_config.specs.declared.plan.TheConstants.{LAST_FRAME}
+use Rattle.fh_time.proofs.Orders.{not_none, not_zero, at_most}
+use Rattle.schedule_laws.specs.unit_model.proofs.ClaimLemmas.{start_before}
 
 -- ---- what is told of one cell
 
@@ -60,7 +62,7 @@ pub one_cell : (e : EndpointConfig) (cell : Cell) (start : ℤ) (claims : ℕ �
     → filter (unheard heard) (report_of Du e cell start claims block) ≡ (if done then [] else report_of Du e cell start claims block)
 one_cell e cell start claims block heard done down is =
     kept_one (unheard heard) (used_mask claims == 0) done (air_cell Du e cell start claims block)
-    (ap not (reported_by_mark Du e cell start claims block heard down ∙ is))
+    (ap not (reported_by_lookup Du e cell start claims block heard down ∙ is))
 
 pub nothing_if : (done none : Bool) (a : AirCell) → (none ≡ false → done ≡ true) → (let xs : List AirCell = if done then [] else one_unless none a in xs) ≡ []
 nothing_if true none a h = refl
@@ -105,7 +107,7 @@ own_not_behind a false x h k = rw h refl
 
 -- ---- times
 
-pub begun_late : (frame start : ℤ) (offset : ℕ) (wait : ℤ) → pos 1 ≤ℤ frame → start ≡ frame *ℤ pos 15360000000 +ℤ pos offset → pos 0 ≤ℤ wait → (first_clock -ℤ wait) ≤ℤ start
+pub begun_late : (frame start : ℤ) (offset : ℕ) (wait : ℤ) → pos 1 ≤ℤ frame → start ≡ frame *ℤ FRAME +ℤ pos offset → pos 0 ≤ℤ wait → (first_clock -ℤ wait) ≤ℤ start
 begun_late frame start offset wait h e w = omega (arith, ints)
 
 in_end : (start wait : ℤ) → start <ℤ (((start +ℤ wait) -ℤ wait) +ℤ pos 1)
@@ -114,7 +116,7 @@ in_end start wait = omega (arith, ints)
 earlier : (x start wait to : ℤ) → to <ℤ (start +ℤ wait) → x <ℤ ((to -ℤ wait) +ℤ pos 1) → x <ℤ start
 earlier x start wait to h k = omega (arith, ints)
 
-module _ (c : Config) (planned : List Allocation) (m : UnitMemory) (clock : ℤ) (cursor : CellCursor) (h : History) (k : Keeps c planned m clock cursor h) where
+module _ (c : Config) (planned : List Allocation) (m : UnitMemory) (clock : ℤ) (cursor : CellCursor) (h : History) (k : IntakeKeeps c planned m clock cursor h) where
   abbrev known : Known
   known = du_known c planned h.arrivals
 
@@ -149,25 +151,25 @@ module _ (c : Config) (planned : List Allocation) (m : UnitMemory) (clock : ℤ)
   quiet x swept behind =
       by_cells known h.reported x.ep x.endpoint x.slot x.symbol
       ∙ each_nothing x.endpoint.prbs (cells_left known h.reported x.ep x.endpoint x.slot x.symbol) (λ prb below.
-      let cell = cell_in x prb in
+      let cell = uplink_cell_in x prb in
       let start = air_of x.endpoint.numerology x.slot x.symbol in
       let done = list_any (cell_heard x.endpoint cell) h.reported in
       one_cell x.endpoint cell start (claim_at planned cell) (known.blocks cell) h.reported done refl refl
       ∙ nothing_if done (used_mask (claim_at planned cell) == 0) (air_cell Du x.endpoint cell start (claim_at planned cell) (known.blocks cell)) (λ used.
       let some = not_zero (used_mask (claim_at planned cell)) used in
-      k.marks x.endpoint cell (used_cell x.endpoint cell x.start.0 swept below some) refl some ∙ behind prb below))
+      k.reports x.endpoint cell (used_cell x.endpoint cell x.start.0 swept below some) refl some ∙ behind prb below))
 
   -- something is told of a symbol of which a cell in use does not stand before the cursor
   pub told : (x : SymbolStart) (prb : ℕ) → IsSwept c.endpoints x.ep x.endpoint x.slot x.symbol x.start.0 → prb < x.endpoint.prbs
-      → 0 < used_mask (claim_at planned (cell_in x prb)) → is_behind cursor.next cursor.prb (start_at x.ep x.endpoint x.slot x.symbol) prb ≡ false → told_of still x ≢ []
+      → 0 < used_mask (claim_at planned (uplink_cell_in x prb)) → is_behind cursor.next cursor.prb (start_at x.ep x.endpoint x.slot x.symbol) prb ≡ false → told_of still x ≢ []
   told x prb swept below used ahead none =
-      let cell = cell_in x prb in
+      let cell = uplink_cell_in x prb in
       let start = air_of x.endpoint.numerology x.slot x.symbol in
       let done = list_any (cell_heard x.endpoint cell) h.reported in
       let here = each_nothing_at 0 x.endpoint.prbs (cells_left known h.reported x.ep x.endpoint x.slot x.symbol) prb
       (sym (by_cells known h.reported x.ep x.endpoint x.slot x.symbol) ∙ none) (omega arith) (omega (arith, below)) in
       something_if done (used_mask (claim_at planned cell) == 0) (air_cell Du x.endpoint cell start (claim_at planned cell) (known.blocks cell))
-      (k.marks x.endpoint cell (used_cell x.endpoint cell x.start.0 swept below used) refl used ∙ ahead) (not_none (used_mask (claim_at planned cell)) used)
+      (k.reports x.endpoint cell (used_cell x.endpoint cell x.start.0 swept below used) refl used ∙ ahead) (not_none (used_mask (claim_at planned cell)) used)
       (sym (one_cell x.endpoint cell start (claim_at planned cell) (known.blocks cell) h.reported done refl refl) ∙ here)
 
   -- a symbol as it is gone over is the start of its place
@@ -175,7 +177,7 @@ module _ (c : Config) (planned : List Allocation) (m : UnitMemory) (clock : ℤ)
   start_is x swept = swept.starts
 
   -- where the cursor stands behind all symbols, nothing is due
-  pub none_due : cursor.next ≡ None → (to : ℤ) → due_of c planned h to ≡ []
+  pub none_due : cursor.next ≡ None → (to : ℤ) → intake_due_of c planned h to ≡ []
   unfolding due
   none_due none to =
       nothing_is_nothing still c.endpoints (first_clock -ℤ wait) ((to -ℤ wait) +ℤ pos 1) (λ x is.
@@ -186,7 +188,7 @@ module _ (c : Config) (planned : List Allocation) (m : UnitMemory) (clock : ℤ)
     by_next x prb b e = ap (λ (o : Option SymbolStart). is_behind o cursor.prb x prb) is_next ∙ e
 
     -- nothing is due before the moment of its symbol
-    pub none_before : (to : ℤ) → to <ℤ (next.start.0 +ℤ wait) → due_of c planned h to ≡ []
+    pub none_before : (to : ℤ) → to <ℤ (next.start.0 +ℤ wait) → intake_due_of c planned h to ≡ []
     unfolding due
     none_before to early =
         nothing_is_nothing still c.endpoints (first_clock -ℤ wait) ((to -ℤ wait) +ℤ pos 1) (λ x is.
@@ -210,7 +212,7 @@ module _ (c : Config) (planned : List Allocation) (m : UnitMemory) (clock : ℤ)
         in_slot first count n most h k = grind (arith, nat_tests)
 
     -- something is, at that moment
-    pub some_at : HasLeft planned cursor.prb next → pos 0 ≤ℤ wait → due_of c planned h (next.start.0 +ℤ wait) ≢ []
+    pub some_at : HasStillLeft planned cursor.prb next → pos 0 ≤ℤ wait → intake_due_of c planned h (next.start.0 +ℤ wait) ≢ []
     unfolding due
     some_at left positive none =
         let from = first_clock -ℤ wait in
@@ -246,11 +248,11 @@ module _ (c : Config) (planned : List Allocation) (m : UnitMemory) (clock : ℤ)
 
 -- ---- the moment that the call answers
 
-bounds : (frame start : ℤ) (offset : ℕ) → pos 1 ≤ℤ frame → frame ≤ℤ pos 99999 → offset < 92160000000 → start ≡ frame *ℤ pos 15360000000 +ℤ pos offset
+bounds : (frame start : ℤ) (offset : ℕ) → pos 1 ≤ℤ frame → frame ≤ℤ pos LAST_FRAME → offset < 92160000000 → start ≡ frame *ℤ FRAME +ℤ pos offset
     → (neg_ℤ (pos (2 ^ 60)) ≤ℤ start) × (start ≤ℤ pos (2 ^ 60))
 bounds frame start offset low high few is = (omega (arith, ints), omega (arith, ints))
 
-pub start_bounds : (c : Config) (planned : List Allocation) (m : UnitMemory) (clock : ℤ) (cursor : CellCursor) (h : History) (k : Keeps c planned m clock cursor h) (next : SymbolStart)
+pub start_bounds : (c : Config) (planned : List Allocation) (m : UnitMemory) (clock : ℤ) (cursor : CellCursor) (h : History) (k : IntakeKeeps c planned m clock cursor h) (next : SymbolStart)
     → IsNamed planned next → cursor.next ≡ Some next → (neg_ℤ (pos (2 ^ 60)) ≤ℤ next.start.0) × (next.start.0 ≤ℤ pos (2 ^ 60))
 start_bounds c planned m clock cursor h k next named is =
     let a = named.by in
@@ -258,31 +260,31 @@ start_bounds c planned m clock cursor h k next named is =
     let swept = next_swept c planned m clock cursor h k next is named in
     let frame : next.slot.frame ≡ a.slot.frame = ap (λ (x : SymbolStart). x.slot.frame) named.names.is in
     bounds next.slot.frame next.start.0 (next.slot.subframe * 1536000000 + kind_start next.endpoint.numerology.kind next.slot.slot next.symbol)
-    (subst (λ (f : ℤ). pos 1 ≤ℤ f) (sym frame) p.begun) (subst (λ (f : ℤ). f ≤ℤ pos 99999) (sym frame) p.ended)
+    (subst (λ (f : ℤ). pos 1 ≤ℤ f) (sym frame) p.begun) (subst (λ (f : ℤ). f ≤ℤ pos LAST_FRAME) (sym frame) p.ended)
     (symbol_short next.endpoint.numerology next.slot next.symbol (offsets_short next.endpoint.numerology) swept.slot_is swept.symbol_is) (sym swept.starts)
 
-pub wait_bounds : (n : ℤ) → pos 0 ≤ℤ n → n ≤ℤ pos 2000000 → (pos 0 ≤ℤ ticks_of_ns n) × (ticks_of_ns n ≤ℤ pos (2 ^ 60))
+pub wait_bounds : (n : ℤ) → pos 0 ≤ℤ n → n ≤ℤ pos MOST_DELAY → (pos 0 ≤ℤ ticks_of_ns n) × (ticks_of_ns n ≤ℤ pos (2 ^ 60))
 wait_bounds n low high = (omega (arith, ints), omega (arith, ints))
 
 pub due_none : (c : Config) (planned : List Allocation) (m : UnitMemory) (clock wait : ℤ) (plan : UplinkPlan) (room : ℕ) (cursor : CellCursor) (h : History)
-    → Stands c planned m clock wait plan room cursor h → cursor.next ≡ None → (to : ℤ) → due_of c planned h to ≡ []
+    → IntakeStands c planned m clock wait plan room cursor h → cursor.next ≡ None → (to : ℤ) → intake_due_of c planned h to ≡ []
 due_none c planned m clock _ plan room cursor h all none to = none_due c planned m clock cursor h all.kept none to
 
 pub due_some : (c : Config) (planned : List Allocation) (m : UnitMemory) (clock wait : ℤ) (plan : UplinkPlan) (room : ℕ) (cursor : CellCursor) (h : History) (next : SymbolStart) (t : ℤ)
-    → Stands c planned m clock wait plan room cursor h → cursor.next ≡ Some next
+    → IntakeStands c planned m clock wait plan room cursor h → cursor.next ≡ Some next
     → (neg_ℤ (pos (2 ^ 60)) ≤ℤ next.start.0 → next.start.0 ≤ℤ pos (2 ^ 60) → pos 0 ≤ℤ wait → wait ≤ℤ pos (2 ^ 60) → t ≡ next.start.0 +ℤ wait)
-    → IsLeastMoment c planned h t
+    → IsLeastIntakeMoment c planned h t
 due_some c planned m clock wait plan room cursor h next t all is sum =
     let k = all.kept in
-    let named : IsNamed planned next = of_some (IsNamed planned) cursor.next next is k.named in
-    let left : HasLeft planned cursor.prb next = of_some (HasLeft planned cursor.prb) cursor.next next is all.left in
+    let named : IsNamed planned next = MatchOption-at_some (Unit {0}) (IsNamed planned) next is k.named in
+    let left : HasStillLeft planned cursor.prb next = MatchOption-at_some (Unit {0}) (HasStillLeft planned cursor.prb) next is all.left in
     let limits = k.holds.config.delays in
     let w = wait_bounds c.delays.ta4.max (at_most (pos 0) c.delays.ta4.min c.delays.ta4.max limits.ta4.low limits.ta4.order) limits.ta4.high in
     let starts = start_bounds c planned m clock cursor h k next named is in
     let same : t ≡ next.start.0 +ℤ wait_of Du c.delays =
     sum starts.0 starts.1 (subst (λ (x : ℤ). pos 0 ≤ℤ x) (sym all.wait_is) w.0) (subst (λ (x : ℤ). x ≤ℤ pos (2 ^ 60)) (sym all.wait_is) w.1)
     ∙ ap (λ (x : ℤ). next.start.0 +ℤ x) all.wait_is in
-    subst (IsLeastMoment c planned h) (sym same) (record {
+    subst (IsLeastIntakeMoment c planned h) (sym same) (record {
       before = none_before c planned m clock cursor h k next is named;
       at = some_at c planned m clock cursor h k next is named left w.0;
     })
@@ -290,18 +292,18 @@ due_some c planned m clock wait plan room cursor h next t all is sum =
 -- ---- by the symbol at its place
 
 pub due_at : (c : Config) (planned : List Allocation) (m : UnitMemory) (clock wait : ℤ) (plan : UplinkPlan) (room : ℕ) (place : Place) (h : History) (s : PlannedSymbol) (t : ℤ)
-    → Stands c planned m clock wait plan room (cursor_by m plan place) h → slice_get plan.symbols.items place.symbol ≡ Some s
+    → IntakeStands c planned m clock wait plan room (cursor_by m plan place) h → slice_get plan.symbols.items place.symbol ≡ Some s
     → (neg_ℤ (pos (2 ^ 60)) ≤ℤ s.start.0 → s.start.0 ≤ℤ pos (2 ^ 60) → pos 0 ≤ℤ wait → wait ≤ℤ pos (2 ^ 60) → t ≡ s.start.0 +ℤ wait)
-    → IsLeastMoment c planned h t
+    → IsLeastIntakeMoment c planned h t
 due_at c planned m clock wait plan room place h s t all at sum =
     let x = all.plan_is.symbols place.symbol s at in
     let is : symbol_at m.endpoints.items plan place.symbol ≡ Some x.start =
-    ap (λ (es : List EndpointConfig). symbol_at es plan place.symbol) all.kept.holds.endpoints ∙ ap (start_in c.endpoints plan.lines.items) at ∙ x.is in
+    ap (λ (es : List EndpointConfig). symbol_at es plan place.symbol) all.kept.holds.endpoints ∙ ap (planned_start_in c.endpoints plan.lines.items) at ∙ x.is in
     let e = (kept_start c.endpoints plan.lines.items s x.start x.is).0 in
     due_some c planned m clock wait plan room (cursor_by m plan place) h x.start t all is
     (subst (λ (q : Ticks). neg_ℤ (pos (2 ^ 60)) ≤ℤ q.0 → q.0 ≤ℤ pos (2 ^ 60) → pos 0 ≤ℤ wait → wait ≤ℤ pos (2 ^ 60) → t ≡ q.0 +ℤ wait) (sym e) sum)
 
 pub due_over : (c : Config) (planned : List Allocation) (m : UnitMemory) (clock wait : ℤ) (plan : UplinkPlan) (room : ℕ) (place : Place) (h : History)
-    → Stands c planned m clock wait plan room (cursor_by m plan place) h → slice_get plan.symbols.items place.symbol ≡ None → (to : ℤ) → due_of c planned h to ≡ []
+    → IntakeStands c planned m clock wait plan room (cursor_by m plan place) h → slice_get plan.symbols.items place.symbol ≡ None → (to : ℤ) → intake_due_of c planned h to ≡ []
 due_over c planned m clock wait plan room place h all at to =
-    due_none c planned m clock wait plan room (cursor_by m plan place) h all (ap (start_in m.endpoints.items plan.lines.items) at) to
+    due_none c planned m clock wait plan room (cursor_by m plan place) h all (ap (planned_start_in m.endpoints.items plan.lines.items) at) to

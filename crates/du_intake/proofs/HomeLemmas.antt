@@ -1,12 +1,12 @@
 -- The order of the slots of endpoints.
-use Rattle.std.proofs.Common.{◌≡◌, ℕ, ℤ, ◌<◌, ◌≤◌, inl, inr, Bool, true, false, not, ◌&&◌, ◌||◌, ◌==◌, cond, nat_lt, int_lt, List, Option, Some, refl, ap, sym, ◌∙◌, subst, arith}
+use Rattle.std.proofs.Common.{◌≡◌, ℕ, ℤ, ◌<◌, ◌≤◌, inl, inr, Bool, true, false, not, ◌&&◌, ◌||◌, ◌==◌, cond, nat_lt, int_lt, List, Some, refl, ap, sym, ◌∙◌, subst, arith}
 use Rattle.std.specs.Prelude.{slice_get}
 use Rattle.std.specs.List.Sorted.{IsSortedBy, IsStableBy, ties}
 use Rattle.std.specs.Cmp.{IsStrictWeakOrder, both_ways}
 use Rattle.std.specs.Ordering.{int_cmp, int_eq, is_lt, nat_cmp, on, ordering_then, then_cmp}
 use Rattle.std.specs.declared.cmp.Ordering.{Ordering}
 use Rattle.std.specs.declared.cmp.Ordering.TheVariants.{Less, Equal, Greater}
-use Rattle.std.proofs.lemmas.Bool.{and_from, and_parts, cases_Bool, eq-eqb, eqb-true, or_parts}
+use Rattle.std.proofs.lemmas.Bool.{and_from, and_parts, cases_Bool, eq-eqb, eqb-true, or_parts, not-true}
 use Rattle.std.proofs.lemmas.Bool.Decides.{nat_tests}
 use Rattle.std.proofs.lemmas.Cmp.{int_cmp_total, nat_cmp_total, on_total, then_total}
 use Rattle.std.specs.Cmp.{IsTotalOrder}
@@ -15,13 +15,12 @@ use Rattle.std.proofs.lemmas.List.Sorted.{ranks_by}
 use Rattle.fh_time.specs.declared.values.Slot.{Slot}
 use Rattle.schedule_laws.specs.unit_model.specs.Claims.{same_slot}
 use Rattle.schedule_laws.specs.unit_model.specs.Order.{slot_before}
-use Rattle.schedule_laws.specs.unit_laws.proofs.CellLemmas.{slots_equal}
 use Rattle.ru_buffers.specs.history_laws.proofs.BeforeLemmas.{slot_cases}
-use Rattle.schedule_laws.specs.plan_model.proofs.SlotLemmas.{slot_own}
 use Rattle.schedule_laws.specs.plan_model.proofs.ListLemmas.{filter_same}
-use Rattle.du_intake.specs.Lines.{AreInOrder, home_before, is_home, lines_at, same_home}
+use Rattle.du_intake.specs.Lines.{AreLinesInOrder, home_before, is_home, lines_at, same_home}
 use Rattle.du_intake.specs.declared.lines.UplinkLine.{UplinkLine}
-use Rattle.du_intake.proofs.ListLemmas.{pairs_at, sorted_pairs}
+use Rattle.du_intake.proofs.ListLemmas.{pairs_at, sorted_pairs, some_same}
+use Rattle.schedule_laws.specs.unit_model.proofs.ClaimLemmas.{same_slot_is as slots_equal, slot_self as slot_own}
 
 -- ---- one slot
 
@@ -119,21 +118,17 @@ before_same a b x h =
 
 -- ---- what the sort leaves
 
-pub in_order : (ls : List UplinkLine) → IsSortedBy (λ a b. is_lt (home_cmp a b)) ls → AreInOrder ls
+pub in_order : (ls : List UplinkLine) → IsSortedBy (λ a b. is_lt (home_cmp a b)) ls → AreLinesInOrder ls
 in_order ls h i j p q below at_i at_j =
     sym (first_is q p) ∙ pairs_at (λ (p q : UplinkLine). is_lt (home_cmp q p) ≡ false) ls (sorted_pairs (λ a b. is_lt (home_cmp a b)) first_ranks ls h) i j p q below at_i at_j
 
 tied : (x l : UplinkLine) → ties (λ (a b : UplinkLine). is_lt (home_cmp a b)) x l ≡ is_home x.ep x.slot l
 tied x l = both_ways _ _
     (λ h. let w = and_parts (not (is_lt (home_cmp x l))) _ h in
-    home_cases l x (sym (first_is l x) ∙ off (is_lt (home_cmp l x)) w.1) (sym (first_is x l) ∙ off (is_lt (home_cmp x l)) w.0))
+    home_cases l x (sym (first_is l x) ∙ not-true (is_lt (home_cmp l x)) w.1) (sym (first_is x l) ∙ not-true (is_lt (home_cmp x l)) w.0))
     (λ h. and_from (not (is_lt (home_cmp x l))) _
     (ap not (first_is x l ∙ same_before l x x h ∙ not_before_own x))
     (ap not (first_is l x ∙ before_same l x x h ∙ not_before_own x)))
-  where
-    off : (b : Bool) → not b ≡ true → b ≡ false
-    off true h = cc
-    off false h = refl
 
 pub homes_stay : (old new : List UplinkLine) → IsStableBy (λ a b. is_lt (home_cmp a b)) old new → (ep : ℕ) (slot : Slot) → lines_at ep slot new ≡ lines_at ep slot old
 homes_stay old new stable ep slot =
@@ -144,7 +139,7 @@ homes_stay old new stable ep slot =
 -- ---- where one slot ends
 
 -- between lines of one slot no other stands
-pub apart : (ls : List UplinkLine) → AreInOrder ls → (i p q j : ℕ) (a b x y : UplinkLine) → i ≤ p → p < q → q ≤ j → slice_get ls i ≡ Some a → slice_get ls p ≡ Some b
+pub apart : (ls : List UplinkLine) → AreLinesInOrder ls → (i p q j : ℕ) (a b x y : UplinkLine) → i ≤ p → p < q → q ≤ j → slice_get ls i ≡ Some a → slice_get ls p ≡ Some b
     → slice_get ls q ≡ Some x → slice_get ls j ≡ Some y → same_home x b ≡ false → same_home y a ≡ false
 apart ls order i p q j a b x y ip pq qj at_i at_p at_q at_j other = elim (cases_Bool (same_home y a)) [
   | inr f ↦ f
@@ -157,13 +152,10 @@ apart ls order i p q j a b x y ip pq qj at_i at_p at_q at_j other = elim (cases_
       let is = home_cases x b xb bx in absurd cc
 ]
   where
-    some_same : (a b : UplinkLine) (o : Option UplinkLine) → o ≡ Some a → o ≡ Some b → a ≡ b
-    some_same a b o p q = cc
-
     behind : (i j : ℕ) (a b : UplinkLine) → i ≤ j → slice_get ls i ≡ Some a → slice_get ls j ≡ Some b → home_before b a ≡ false
     behind i j a b le at_a at_b = elim (cases_Bool (i == j)) [
       | inl e ↦
-          let same : a ≡ b = some_same a b (slice_get ls j) (ap (slice_get ls) (sym (eqb-true i j e)) ∙ at_a) at_b in
+          let same : a ≡ b = some_same (slice_get ls j) a b (ap (slice_get ls) (sym (eqb-true i j e)) ∙ at_a) at_b in
           subst (λ (z : UplinkLine). home_before b z ≡ false) (sym same) (not_before_own b)
       | inr e ↦ order i j a b (less i j le e) at_a at_b
     ]

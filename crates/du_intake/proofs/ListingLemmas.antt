@@ -1,6 +1,6 @@
 -- The symbols of a plan's lines, slot by slot, and then by their starts.
-use Rattle.std.proofs.Common.{◌≡◌, ℕ, zero, suc, ℤ, pos, ◌+◌, ◌-◌, ◌<◌, ◌≤◌, inl, inr, Bool, true, false, not, ◌&&◌, ◌||◌, ◌==◌, cond, nat_lt, int_lt, if◌then◌else◌, List, [], ◌∷◌, ◌++◌, length, length-drop, length-take-le, filter, get_or, take, drop, Option, Some, refl, ap, sym, ◌∙◌, subst, arith}
-use Rattle.std.specs.List.{list_any, slice_get}
+use Rattle.std.proofs.Common.{◌≡◌, ℕ, zero, suc, ℤ, pos, ◌+◌, ◌-◌, ◌<◌, ◌≤◌, inl, inr, Bool, true, false, not, ◌&&◌, ◌||◌, ◌==◌, cond, nat_lt, int_lt, if◌then◌else◌, List, [], ◌∷◌, ◌++◌, length, length-drop, length-take-le, filter, get_or, take, drop, Some, refl, ap, sym, ◌∙◌, subst, arith}
+use Rattle.std.specs.List.{AllPairs, list_any, slice_get}
 use Rattle.std.specs.List.Sorted.{IsSortedBy, ties}
 use Rattle.std.specs.Cmp.{IsStrictWeakOrder}
 use Rattle.std.specs.Ordering.{int_cmp, int_eq, is_lt}
@@ -21,16 +21,16 @@ use Rattle.schedule_laws.specs.unit_model.specs.Lists.{each}
 use Rattle.schedule_laws.specs.unit_model.specs.Order.{comes_before, slot_before}
 use Rattle.schedule_laws.specs.unit_model.specs.Proper.{IsAt, IsSlot}
 use Rattle.schedule_laws.specs.unit_laws.proofs.FarLemmas.{endpoints_equal}
-use Rattle.schedule_laws.specs.plan_model.proofs.SlotLemmas.{slot_own}
 use Rattle.schedule_laws.specs.plan_model.proofs.ListLemmas.{in_either, in_filter, in_left, in_right, any_in}
 use Rattle.schedule_laws.proofs.ListLemmas.{at_in, in_each, of_each}
-use Rattle.du_intake.specs.Lines.{AreInOrder, has_symbol, home_before, is_home, lines_at, same_home}
-use Rattle.du_intake.specs.Listing.{AreAscending, AreInTurn, AreSymbols, ComesFirst, IsListedIn, IsSlotEnd, IsStableByStart, IsSymbolOf, Pairwise, Precedes, starts_before, symbol_first}
-use Rattle.du_intake.specs.Symbols.{AreLines, lines_in, start_of, symbol_if, symbols_in}
+use Rattle.du_intake.specs.Lines.{AreLinesInOrder, has_symbol, home_before, is_home, lines_at, same_home}
+use Rattle.du_intake.specs.Listing.{AreAscending, AreInTurn, AreSymbols, ComesFirst, IsListedIn, IsSlotEnd, IsStableByStart, IsSymbolOf, PrecedesSymbol, starts_before, symbol_first}
+use Rattle.du_intake.specs.Symbols.{AreLines, lines_in, planned_start, symbol_if, symbols_in}
 use Rattle.du_intake.specs.declared.lines.UplinkLine.{UplinkLine}
 use Rattle.du_intake.specs.declared.symbols.PlannedSymbol.{PlannedSymbol}
 use Rattle.du_intake.proofs.HomeLemmas.{apart, home_cases, home_from, home_is}
-use Rattle.du_intake.proofs.ListLemmas.{pairs_append, pairs_both, sorted_pairs, stable_pairs, stays_in, was_in}
+use Rattle.du_intake.proofs.ListLemmas.{pairs_append, pairs_both, sorted_pairs, stable_pairs, stays_in, was_in, pairs_weaker, some_same}
+use Rattle.schedule_laws.specs.unit_model.proofs.ClaimLemmas.{slot_self as slot_own}
 
 -- ---- lists
 
@@ -60,21 +60,6 @@ filter_range t (x ∷ xs) (suc a) (suc b) ab bl low mid high =
     (filter_range t xs a b (omega (arith, ab)) (omega (arith, bl)) (λ k y h e. low (suc k) y (omega (arith, h)) e) (λ k y h g e. mid (suc k) y (omega (arith, h)) (omega (arith, g)) e)
     (λ k y h e. high (suc k) y (omega (arith, h)) e))
 
-pub of_any : {X : Type 0} (p : X → Bool) (xs : List X) → list_any p xs ≡ true → (x : X) × IsIn x xs × (p x ≡ true)
-of_any p [] h = absurd cc
-of_any p (y ∷ xs) h = elim (cases_Bool (p y)) [
-  | inl is ↦ (y, inl refl, is)
-  | inr off ↦ (let w = of_any p xs (rest (p y) (list_any p xs) off h) in (w.0, inr w.1, w.2))
-]
-  where
-    rest : (a b : Bool) → a ≡ false → (a || b) ≡ true → b ≡ true
-    rest false b e h = h
-    rest true b e h = cc
-
-pub pairs_weaker : {X : Type 0} (R S : X → X → Type 0) (xs : List X) → ((x y : X) → IsIn x xs → IsIn y xs → R x y → S x y) → Pairwise R xs → Pairwise S xs
-pairs_weaker R S [] h p = tt
-pairs_weaker R S (x ∷ xs) h p = (λ y m. h x y (inl refl) (inr m) (p.0 y m), pairs_weaker R S xs (λ a b m n r. h a b (inr m) (inr n) r) p.1)
-
 -- ---- one slot
 
 swap_home : (a b : UplinkLine) → same_home a b ≡ false → same_home b a ≡ false
@@ -87,7 +72,7 @@ swap_home a b h = elim (cases_Bool (same_home b a)) [
 abbrev pub IsBoundary : List UplinkLine → ℕ → Type 0
 IsBoundary ls n = (i j : ℕ) (a b : UplinkLine) → i < n → n ≤ j → slice_get ls i ≡ Some a → slice_get ls j ≡ Some b → same_home b a ≡ false
 
-pub boundary_end : (ls : List UplinkLine) (first end : ℕ) (head : UplinkLine) → AreInOrder ls → IsSlotEnd ls first end → slice_get ls first ≡ Some head → IsBoundary ls first → IsBoundary ls end
+pub boundary_end : (ls : List UplinkLine) (first end : ℕ) (head : UplinkLine) → AreLinesInOrder ls → IsSlotEnd ls first end → slice_get ls first ≡ Some head → IsBoundary ls first → IsBoundary ls end
 boundary_end ls first end head order is at before i j a b low high at_i at_j = elim (cases_Bool (nat_lt i first)) [
   | inl e ↦ before i j a b (grind (arith, nat_tests)) (let o = is.order in omega (arith, o, high)) at_i at_j
   | inr e ↦
@@ -100,7 +85,7 @@ boundary_end ls first end head order is at before i j a b low high at_i at_j = e
 ]
 
 -- the lines of a slot are those from its first one to its end
-pub own_lines : (ls : List UplinkLine) (first end : ℕ) (head : UplinkLine) → AreInOrder ls → IsSlotEnd ls first end → slice_get ls first ≡ Some head → IsBoundary ls first
+pub own_lines : (ls : List UplinkLine) (first end : ℕ) (head : UplinkLine) → AreLinesInOrder ls → IsSlotEnd ls first end → slice_get ls first ≡ Some head → IsBoundary ls first
     → take (end - first) (drop first ls) ≡ lines_at head.ep head.slot ls
 own_lines ls first end head order is at before =
     let after = boundary_end ls first end head order is at before in
@@ -152,9 +137,9 @@ in_symbols e slot own first last y below is =
     (subst (λ (b : Bool). IsIn (symbol_record e slot first last y) (let ss : List PlannedSymbol = if b then symbol_record e slot first last y ∷ [] else [] in ss)) (sym is) (inl refl))
 
 -- they stand by their numbers
-by_number : (e : EndpointConfig) (slot : Slot) (own : List UplinkLine) (first last from n : ℕ) → Pairwise (λ p q. p.symbol < q.symbol) (each from n (symbol_if e slot own first last))
+by_number : (e : EndpointConfig) (slot : Slot) (own : List UplinkLine) (first last from n : ℕ) → AllPairs (λ p q. p.symbol < q.symbol) (each from n (symbol_if e slot own first last))
 unfolding each
-by_number e slot own first last from zero = tt
+by_number e slot own first last from zero = λ i j d low high. absurd (omega (arith, high))
 by_number e slot own first last from (suc n) =
     pairs_append (λ (p q : PlannedSymbol). p.symbol < q.symbol) (symbol_if e slot own first last from) (each (from + 1) n (symbol_if e slot own first last))
     (alone (list_any (has_symbol from) own)) (by_number e slot own first last (from + 1) n) (λ p q m k.
@@ -163,9 +148,9 @@ by_number e slot own first last from (suc n) =
     let there = (own_symbol e slot own first last w.0 q w.3).0 in
     later p.symbol from w.0 q.symbol here w.1 there)
   where
-    alone : (b : Bool) → Pairwise (λ (p q : PlannedSymbol). p.symbol < q.symbol) (let ss : List PlannedSymbol = if b then symbol_record e slot first last from ∷ [] else [] in ss)
-    alone true = (λ q m. absurd m, tt)
-    alone false = tt
+    alone : (b : Bool) → AllPairs (λ (p q : PlannedSymbol). p.symbol < q.symbol) (let ss : List PlannedSymbol = if b then symbol_record e slot first last from ∷ [] else [] in ss)
+    alone true = λ i j d low high. absurd (omega (arith, low, high))
+    alone false = λ i j d low high. absurd (omega (arith, high))
 
     later : (p from k q : ℕ) → p ≡ from → from + 1 ≤ k → q ≡ k → p < q
     later p from k q a b d = omega arith
@@ -189,18 +174,15 @@ same_slot_first : (a : UplinkLine) (x y : ℕ) → x < y → symbol_first a x a 
 same_slot_first a x y lt =
     or_rest (nat_lt a.ep a.ep) (a.ep == a.ep) _ (eq-eqb a.ep a.ep refl) (or_rest (slot_before a.slot a.slot) (same_slot a.slot a.slot) _ (slot_own a.slot) (lt-ltb x y lt))
 
-some_same : (a b : UplinkLine) (o : Option UplinkLine) → o ≡ Some a → o ≡ Some b → a ≡ b
-some_same a b o p q = cc
-
 head_is : (ls : List UplinkLine) (first k : ℕ) (head a : UplinkLine) → slice_get ls first ≡ Some head → k ≡ first → slice_get ls k ≡ Some a → a ≡ head
-head_is ls first k head a at same at_k = some_same a head (slice_get ls first) (ap (slice_get ls) (sym same) ∙ at_k) at
+head_is ls first k head a at same at_k = some_same (slice_get ls first) a head (ap (slice_get ls) (sym same) ∙ at_k) at
 
 -- ---- one slot more
 
 within_slot : (first num n most : ℕ) → is_from first num n ≡ true → first + num ≤ most → n < most
 within_slot first num n most h k = grind (arith, nat_tests)
 
-module _ (es : List EndpointConfig) (ls : List UplinkLine) (first end : ℕ) (head : UplinkLine) (e : EndpointConfig) (order : AreInOrder ls) (lines : AreLines es ls)
+module _ (es : List EndpointConfig) (ls : List UplinkLine) (first end : ℕ) (head : UplinkLine) (e : EndpointConfig) (order : AreLinesInOrder ls) (lines : AreLines es ls)
     (is : IsSlotEnd ls first end) (at : slice_get ls first ≡ Some head) (at_endpoint : IsAt es head.ep e) (before : IsBoundary ls first) where
   abbrev more : List PlannedSymbol
   more = symbols_in e head.slot (take (end - first) (drop first ls)) first end
@@ -245,9 +227,9 @@ module _ (es : List EndpointConfig) (ls : List UplinkLine) (first end : ℕ) (he
         high = high;
       }
 
-  new_order : Pairwise (Precedes ls) more
+  new_order : AllPairs (PrecedesSymbol ls) more
   new_order =
-      pairs_weaker (λ (p q : PlannedSymbol). p.symbol < q.symbol) (Precedes ls) more
+      pairs_weaker (λ (p q : PlannedSymbol). p.symbol < q.symbol) (PrecedesSymbol ls) more
       (λ p q m n less a b at_a at_b.
       let op = of_symbols e head.slot (take (end - first) (drop first ls)) first end p m in
       let oq = of_symbols e head.slot (take (end - first) (drop first ls)) first end q n in
@@ -268,10 +250,10 @@ module _ (es : List EndpointConfig) (ls : List UplinkLine) (first end : ℕ) (he
       | inr f ↦ (let w = new_all k symbol l (grind (arith, nat_tests)) below at_k has in
           record { s = w.s; there = in_right w.s ss more w.there; symbol_is = w.symbol_is; low = w.low; high = w.high })
     ];
-    order = pairs_append (Precedes ls) ss more so_far.order new_order (λ p q m n. between p q m n);
+    order = pairs_append (PrecedesSymbol ls) ss more so_far.order new_order (λ p q m n. between p q m n);
   }
     where
-      between : (p q : PlannedSymbol) → IsIn p ss → IsIn q more → Precedes ls p q
+      between : (p q : PlannedSymbol) → IsIn p ss → IsIn q more → PrecedesSymbol ls p q
       between p q m n a b at_a at_b =
           let w = so_far.each p m in
           let oq = of_symbols e head.slot (take (end - first) (drop first ls)) first end q n in
@@ -300,8 +282,8 @@ are_in_turn es ls old new all up stable = record {
   all = λ k symbol l at has.
       (let w = all.all k symbol l (slice_get_within ls k l at) at has in
       record { s = w.s; there = stays_in starts_before start_ranks old new stable w.s w.there; symbol_is = w.symbol_is; low = w.low; high = w.high });
-  order = pairs_both (λ (p q : PlannedSymbol). starts_before q p ≡ false) (λ (p q : PlannedSymbol). ties starts_before p q ≡ true → Precedes ls p q) new up
-      (stable_pairs starts_before start_ranks (Precedes ls) old new all.order stable);
+  order = pairs_both (λ (p q : PlannedSymbol). starts_before q p ≡ false) (λ (p q : PlannedSymbol). ties starts_before p q ≡ true → PrecedesSymbol ls p q) new up
+      (stable_pairs starts_before start_ranks (PrecedesSymbol ls) old new all.order stable);
 }
 
 int_last : (x y : ℤ) → is_lt (int_cmp x y) ≡ int_lt x y
@@ -319,7 +301,7 @@ is_equal : (x y : ℤ) → int_lt x y ≡ false → int_lt y x ≡ false → int
 is_equal x y e f = grind (arith, ints)
 
 pub comes_first : (ls : List UplinkLine) (p q : PlannedSymbol) (a b : UplinkLine) (e f : EndpointConfig) → ComesFirst ls p q → slice_get ls p.first ≡ Some a → slice_get ls q.first ≡ Some b
-    → comes_before (start_of p a e) (start_of q b f) ≡ true
+    → comes_before (planned_start p a e) (planned_start q b f) ≡ true
 comes_first ls p q a b e f h at_a at_b =
     let qp : int_lt q.start.0 p.start.0 ≡ false = sym (int_last q.start.0 p.start.0) ∙ h.0 in
     elim (cases_Bool (int_lt p.start.0 q.start.0)) [
@@ -361,12 +343,9 @@ end_is ls first k some low high over same = record {
 abbrev pub blank : UplinkLine
 blank = record { ep = 0; slot = record { frame = pos 0; subframe = 0; slot = 0 }; first_prb = 0; prbs = 0; mask = 0; section = 0; symbol = 0; num_symbol = 0 }
 
-pub head_at : (ls : List UplinkLine) (first : ℕ) (d : UplinkLine) → first < length ls → slice_get ls first ≡ Some (get_or ls first d)
-head_at ls first d below = slice_get-get_or ls first d below
-
 pub endpoint_below : (es : List EndpointConfig) (ls : List UplinkLine) (first : ℕ) (d : UplinkLine) → AreLines es ls → first < length ls → (get_or ls first d).ep < length es
 endpoint_below es ls first d lines below =
-    let line = lines first (get_or ls first d) (head_at ls first d below) in slice_get_within es (get_or ls first d).ep line.endpoint line.at
+    let line = lines first (get_or ls first d) (slice_get-get_or ls first d below) in slice_get_within es (get_or ls first d).ep line.endpoint line.at
 
 pub endpoint_at : (es : List EndpointConfig) (ep : ℕ) (e : EndpointConfig) → ep < length es → e ≡ get_or es ep e → IsAt es ep e
 endpoint_at es ep e below is = slice_get-get_or es ep e below ∙ ap (λ (x : EndpointConfig). Some x) (sym is)
@@ -375,7 +354,7 @@ pub slot_of : (es : List EndpointConfig) (ls : List UplinkLine) (first : ℕ) (d
     → IsSlot e.numerology (get_or ls first d).slot
 slot_of es ls first d e lines below at =
     let head = get_or ls first d in
-    let line = lines first head (head_at ls first d below) in
+    let line = lines first head (slice_get-get_or ls first d below) in
     subst (λ (f : EndpointConfig). IsSlot f.numerology head.slot) (endpoints_equal es head.ep head.ep line.endpoint e line.at at refl) line.slot_is
 
 own_length : (ls : List UplinkLine) (first end : ℕ) → first < end → end ≤ length ls → first + length (take (end - first) (drop first ls)) ≡ end
@@ -384,7 +363,7 @@ own_length ls first end less within =
     let few = length-take-le (end - first) (drop first ls) (omega (arith, long)) in
     omega (arith, few)
 
-pub listed_more : (es : List EndpointConfig) (ls : List UplinkLine) (first end : ℕ) (d : UplinkLine) (e : EndpointConfig) (old new : List PlannedSymbol) → AreInOrder ls → AreLines es ls
+pub listed_more : (es : List EndpointConfig) (ls : List UplinkLine) (first end : ℕ) (d : UplinkLine) (e : EndpointConfig) (old new : List PlannedSymbol) → AreLinesInOrder ls → AreLines es ls
     → IsSlotEnd ls first end → IsAt es (get_or ls first d).ep e → IsBoundary ls first → AreSymbols es ls first old
     → new ≡ old ++ symbols_in e (get_or ls first d).slot (take (end - first) (drop first ls)) first (first + length (take (end - first) (drop first ls)))
     → AreSymbols es ls end new
@@ -396,11 +375,11 @@ listed_more es ls first end d e old new order lines is at before so_far same =
     let last = own_length ls first end o w in
     let below : first < length ls = omega (arith, o, w) in
     subst (AreSymbols es ls end) (sym (same ∙ ap (λ (n : ℕ). old ++ symbols_in e head.slot own first n) last))
-    (symbols_more es ls first end head e order lines is (head_at ls first d below) at before old so_far)
+    (symbols_more es ls first end head e order lines is (slice_get-get_or ls first d below) at before old so_far)
 
-pub boundary_more : (ls : List UplinkLine) (first end : ℕ) (d : UplinkLine) → AreInOrder ls → IsSlotEnd ls first end → IsBoundary ls first → IsBoundary ls end
+pub boundary_more : (ls : List UplinkLine) (first end : ℕ) (d : UplinkLine) → AreLinesInOrder ls → IsSlotEnd ls first end → IsBoundary ls first → IsBoundary ls end
 boundary_more ls first end d order is before =
     let o = is.order in
     let w = is.within in
     let below : first < length ls = omega (arith, o, w) in
-    boundary_end ls first end (get_or ls first d) order is (head_at ls first d below) before
+    boundary_end ls first end (get_or ls first d) order is (slice_get-get_or ls first d below) before

@@ -1,6 +1,5 @@
 -- The symbols of a plan in their order: which comes next.
 use Rattle.std.proofs.Common.{◌≡◌, ℕ, suc, zero, ◌+◌, ◌^◌, ◌<◌, ◌≤◌, inl, inr, true, false, ◌==◌, nat_lt, List, [], ◌∷◌, length, get_or, take, drop, ◌-◌, Option, Some, None, refl, ap, sym, ◌∙◌, subst, arith}
-use Rattle.std.specs.Prelude.{IfSome}
 use Rattle.std.specs.List.{slice_get}
 use Rattle.std.proofs.lemmas.Bool.{cases_Bool, eqb-true}
 use Rattle.std.proofs.lemmas.Bool.Decides.{nat_tests}
@@ -11,40 +10,32 @@ use Rattle.schedule_laws.specs.unit_model.specs.Claims.{claim_at}
 use Rattle.schedule_laws.specs.unit_model.specs.Order.{comes_before}
 use Rattle.schedule_laws.specs.unit_model.specs.declared.allocations.Allocation.{Allocation}
 use Rattle.schedule_laws.specs.unit_model.specs.declared.symbol_start.SymbolStart.{SymbolStart}
+use Rattle.ru_buffers.specs.slot_rings.proofs.SeenLemmas.{if_some}
 use Rattle.ru_buffers.specs.symbol_search.proofs.OrderLemmas.{not_before_earlier, not_before_itself}
-use Rattle.du_intake.specs.Cursors.{IsNamed, IsNextSymbol, IsNotBefore, cell_in, is_after}
+use Rattle.du_intake.specs.Cursors.{IsNamed, IsNextPlannedSymbol, uplink_cell_in, is_after}
 use Rattle.du_intake.specs.Lines.{claim_in_slot, lines_at}
-use Rattle.du_intake.specs.Rows.{IsRowOf, claim_of_mark, no_mark}
+use Rattle.du_intake.specs.Rows.{IsRowOf, claim_of_planned, no_claim}
 use Rattle.schedule_laws.specs.fragment_laws.specs.Apart.{IsIn}
 use Rattle.schedule_laws.specs.plan_model.proofs.ListLemmas.{get_in}
 use Rattle.schedule_laws.proofs.ListLemmas.{at_in}
 use Rattle.du_intake.proofs.RowLemmas.{in_take}
-use Rattle.du_intake.specs.Symbols.{AreLines, IsKeptSymbol, IsLine, IsListed, lines_in, start_by, start_in, start_of, start_with, symbol_at}
+use Rattle.du_intake.proofs.ListLemmas.{some_same}
+use Rattle.du_intake.specs.Symbols.{AreLines, IsKeptSymbol, IsLine, IsListed, lines_in, start_by, planned_start_in, planned_start, start_with, symbol_at}
 use Rattle.du_intake.specs.declared.lines.UplinkLine.{UplinkLine}
-use Rattle.du_intake.specs.declared.marks.CellMark.{CellMark}
+use Rattle.du_intake.specs.declared.claims.PlannedClaim.{PlannedClaim}
 use Rattle.du_intake.specs.declared.plan.UplinkPlan.{UplinkPlan}
 use Rattle.du_intake.specs.declared.symbols.PlannedSymbol.{PlannedSymbol}
-
-pub within_none : (P : SymbolStart → Type 0) (o : Option SymbolStart) → ((f : SymbolStart) → o ≡ Some f → P f) → IfSome o P
-within_none P None h = tt
-within_none P (Some f) h = h f refl
-
-pub of_some : (P : SymbolStart → Type 0) (o : Option SymbolStart) (x : SymbolStart) → o ≡ Some x → IfSome o P → P x
-of_some P None x e h = cc
-of_some P (Some y) x e h = let same : y ≡ x = cc in subst P same h
-
-pub some_same : (o : Option SymbolStart) (m x : SymbolStart) → o ≡ Some m → o ≡ Some x → m ≡ x
-some_same o m x h k = cc
+use Rattle.ru_buffers.specs.symbol_search.specs.Searches.{IsNotBefore}
 
 -- ---- a symbol at its place
 
-pub start_is : (es : List EndpointConfig) (ls : List UplinkLine) (s : PlannedSymbol) (m : SymbolStart) → start_in es ls (Some s) ≡ Some m → (m.start ≡ s.start) × (m.symbol ≡ s.symbol)
+pub start_is : (es : List EndpointConfig) (ls : List UplinkLine) (s : PlannedSymbol) (m : SymbolStart) → planned_start_in es ls (Some s) ≡ Some m → (m.start ≡ s.start) × (m.symbol ≡ s.symbol)
 start_is es ls s m h = by_line (slice_get ls s.first) h
   where
     with_endpoint : (l : UplinkLine) (o : Option EndpointConfig) → start_with s l o ≡ Some m → (m.start ≡ s.start) × (m.symbol ≡ s.symbol)
     with_endpoint l None h = absurd cc
     with_endpoint l (Some e) h =
-        let same : start_of s l e ≡ m = cc in
+        let same : planned_start s l e ≡ m = cc in
         (sym (ap (λ (x : SymbolStart). x.start) same), sym (ap (λ (x : SymbolStart). x.symbol) same))
 
     by_line : (o : Option UplinkLine) → start_by es s o ≡ Some m → (m.start ≡ s.start) × (m.symbol ≡ s.symbol)
@@ -54,12 +45,12 @@ start_is es ls s m h = by_line (slice_get ls s.first) h
 pub record IsSymbolAt (es : List EndpointConfig) (p : UplinkPlan) (k : ℕ) (m : SymbolStart) : Type 0 where
   pub s : PlannedSymbol
   pub at : slice_get p.symbols.items k ≡ Some s
-  pub is : start_in es p.lines.items (Some s) ≡ Some m
+  pub is : planned_start_in es p.lines.items (Some s) ≡ Some m
 
 pub symbol_some : (es : List EndpointConfig) (p : UplinkPlan) (k : ℕ) (m : SymbolStart) → symbol_at es p k ≡ Some m → IsSymbolAt es p k m
 symbol_some es p k m h = go (slice_get p.symbols.items k) refl h
   where
-    go : (o : Option PlannedSymbol) → slice_get p.symbols.items k ≡ o → start_in es p.lines.items o ≡ Some m → IsSymbolAt es p k m
+    go : (o : Option PlannedSymbol) → slice_get p.symbols.items k ≡ o → planned_start_in es p.lines.items o ≡ Some m → IsSymbolAt es p k m
     go None e h = absurd cc
     go (Some s) e h = record { s = s; at = e; is = h }
 
@@ -72,7 +63,7 @@ module _ (c : Config) (planned : List Allocation) (p : UplinkPlan) (listed : IsL
   kept_symbol k m h =
       let w = symbol_some c.endpoints p k m h in
       let x = listed.symbols k w.s w.at in
-      (w, x, some_same (start_in c.endpoints p.lines.items (Some w.s)) x.start m x.is w.is)
+      (w, x, some_same (planned_start_in c.endpoints p.lines.items (Some w.s)) x.start m x.is w.is)
 
   pub at_named : (k : ℕ) (m : SymbolStart) → symbol_at c.endpoints p k ≡ Some m → IsNamed planned m
   at_named k m h = let w = kept_symbol k m h in subst (IsNamed planned) w.2 w.1.named
@@ -88,13 +79,13 @@ module _ (c : Config) (planned : List Allocation) (p : UplinkPlan) (listed : IsL
 
       go : (o : Option PlannedSymbol) → slice_get p.symbols.items k ≡ o → (m : SymbolStart) × (symbol_at c.endpoints p k ≡ Some m)
       go None e = absurd (none p.symbols.items k e below)
-      go (Some s) e = let x = listed.symbols k s e in (x.start, ap (start_in c.endpoints p.lines.items) e ∙ x.is)
+      go (Some s) e = let x = listed.symbols k s e in (x.start, ap (planned_start_in c.endpoints p.lines.items) e ∙ x.is)
 
   next_is : (n : ℕ) (last : Option SymbolStart) → ((j : ℕ) (x : SymbolStart) → symbol_at c.endpoints p j ≡ Some x → is_after last x ≡ true → n ≤ j)
-      → ((x : SymbolStart) → symbol_at c.endpoints p n ≡ Some x → is_after last x ≡ true) → IsNextSymbol planned last (symbol_at c.endpoints p n)
+      → ((x : SymbolStart) → symbol_at c.endpoints p n ≡ Some x → is_after last x ≡ true) → IsNextPlannedSymbol planned last (symbol_at c.endpoints p n)
   next_is n last behind after = record {
-    named = within_none (IsNamed planned) (symbol_at c.endpoints p n) (at_named n);
-    after = within_none (λ m. is_after last m ≡ true) (symbol_at c.endpoints p n) after;
+    named = if_some (symbol_at c.endpoints p n) {P = IsNamed planned} (at_named n);
+    after = if_some (symbol_at c.endpoints p n) {P = λ m. is_after last m ≡ true} after;
     first = λ m named late.
         let w = listed.all m named in
         let low : n ≤ w.k = behind w.k m w.is late in
@@ -113,10 +104,10 @@ module _ (c : Config) (planned : List Allocation) (p : UplinkPlan) (listed : IsL
       strictly : (a b : ℕ) → a ≤ b → (a == b) ≡ false → a < b
       strictly a b h e = grind (arith, nat_tests)
 
-  pub first_symbol : IsNextSymbol planned None (symbol_at c.endpoints p 0)
+  pub first_symbol : IsNextPlannedSymbol planned None (symbol_at c.endpoints p 0)
   first_symbol = next_is 0 None (λ j x is late. omega arith) (λ x is. refl)
 
-  pub next_symbol : (k : ℕ) (m : SymbolStart) → symbol_at c.endpoints p k ≡ Some m → IsNextSymbol planned (Some m) (symbol_at c.endpoints p (k + 1))
+  pub next_symbol : (k : ℕ) (m : SymbolStart) → symbol_at c.endpoints p k ≡ Some m → IsNextPlannedSymbol planned (Some m) (symbol_at c.endpoints p (k + 1))
   next_symbol k m is = next_is (k + 1) (Some m) behind (λ x at. listed.order k (k + 1) m x (omega arith) is at)
     where
       less : (k j : ℕ) → nat_lt k j ≡ true → k + 1 ≤ j
@@ -137,18 +128,18 @@ module _ (c : Config) (planned : List Allocation) (p : UplinkPlan) (listed : IsL
         ]
       ]
 
-  -- a row of the symbol's marks has what the plan claims
-  pub row_claims : (k : ℕ) (m : SymbolStart) (row : List CellMark) → symbol_at c.endpoints p k ≡ Some m
+  -- the row of the symbol has what the plan claims
+  pub row_claims : (k : ℕ) (m : SymbolStart) (row : List PlannedClaim) → symbol_at c.endpoints p k ≡ Some m
       → ((s : PlannedSymbol) → slice_get p.symbols.items k ≡ Some s → IsRowOf (lines_in p.lines.items s) s.symbol row)
-      → (prb : ℕ) → ((get_or row prb no_mark).mask < 2 ^ 12) × ((re : ℕ) → claim_of_mark (get_or row prb no_mark) re ≡ claim_at planned (cell_in m prb) re)
-  row_claims k m row is marked prb =
+      → (prb : ℕ) → ((get_or row prb no_claim).mask < 2 ^ 12) × ((re : ℕ) → claim_of_planned (get_or row prb no_claim) re ≡ claim_at planned (uplink_cell_in m prb) re)
+  row_claims k m row is was_claimed prb =
       let w = kept_symbol k m is in
-      let r = marked w.0.s w.0.at in
+      let r = was_claimed w.0.s w.0.at in
       let own : lines_in p.lines.items w.0.s ≡ lines_at m.ep m.slot p.lines.items = w.1.lines ∙ ap (λ (x : SymbolStart). lines_at x.ep x.slot p.lines.items) w.2 in
       let symbol : w.0.s.symbol ≡ m.symbol = sym (start_is c.endpoints p.lines.items w.0.s m w.0.is).1 in (
         r.few prb,
         λ re. r.claims prb re ∙ ap (λ (xs : List UplinkLine). claim_in_slot xs w.0.s.symbol prb re) own
-            ∙ ap (λ (y : ℕ). claim_in_slot (lines_at m.ep m.slot p.lines.items) y prb re) symbol ∙ listed.claims (cell_in m prb) re refl,
+            ∙ ap (λ (y : ℕ). claim_in_slot (lines_at m.ep m.slot p.lines.items) y prb re) symbol ∙ listed.claims (uplink_cell_in m prb) re refl,
       )
 
 -- ---- a row for a symbol
@@ -169,6 +160,3 @@ own_line es p s k l lines at =
 
 pub ends_inside : (a b most room : ℕ) → a + b ≤ most → most ≤ 273 → 273 ≤ room → a + b ≤ room
 ends_inside a b most room h k l = omega arith
-
-pub same_symbol : (o : Option PlannedSymbol) (s t : PlannedSymbol) → o ≡ Some s → o ≡ Some t → s ≡ t
-same_symbol o s t h k = cc

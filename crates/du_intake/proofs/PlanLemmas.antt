@@ -1,5 +1,5 @@
 -- What the uplink lines of a valid plan name.
-use Rattle.std.proofs.Common.{◌≡◌, ℕ, zero, suc, ℤ, pos, ◌+◌, ◌-◌, ◌^◌, ◌<◌, ◌≤◌, ◌≤ℤ◌, neg_ℤ, Bool, true, false, not, ◌&&◌, ◌||◌, ◌==◌, List, [], ◌∷◌, filter, map, take, drop, Option, Some, inl, inr, refl, ap, sym, ◌∙◌, subst, arith}
+use Rattle.std.proofs.Common.{◌≡◌, ℕ, zero, suc, ℤ, pos, ◌+◌, ◌-◌, ◌^◌, ◌<◌, ◌≤◌, ◌≤ℤ◌, neg_ℤ, Bool, true, false, not, ◌&&◌, ◌||◌, ◌==◌, List, [], ◌∷◌, filter, map, take, drop, Some, inl, inr, refl, ap, sym, ◌∙◌, subst, arith}
 use Rattle.std.specs.List.{slice_get}
 use Rattle.std.proofs.lemmas.Bool.{and_from, and_parts, cases_Bool, eqb-true, or_right}
 use Rattle.std.proofs.lemmas.Bool.Decides.{nat_tests}
@@ -22,28 +22,31 @@ use Rattle.schedule_laws.specs.unit_model.specs.declared.allocations.Allocation.
 use Rattle.schedule_laws.specs.unit_model.specs.declared.cells.Cell.{Cell}
 use Rattle.schedule_laws.specs.unit_model.specs.declared.symbol_start.SymbolStart.{SymbolStart}
 use Rattle.schedule_laws.specs.unit_laws.proofs.FarLemmas.{endpoints_equal}
-use Rattle.schedule_laws.specs.plan_model.specs.Lines.{allocation_of, is_down, is_idle, planned}
+use Rattle.schedule_laws.specs.plan_model.specs.Lines.{line_allocation, is_down_kind, is_idle_kind, planned}
 use Rattle.schedule_laws.specs.plan_model.specs.Validity.{share_bit, share_cell}
 use Rattle.schedule_laws.specs.plan_model.specs.declared.lines.PlannedLine.{PlannedLine}
 use Rattle.schedule_laws.specs.plan_model.proofs.RangeLemmas.{found}
 use Rattle.schedule_laws.specs.plan_model.proofs.ClashLemmas.{both_cover, covers_own}
-use Rattle.schedule_laws.specs.plan_model.proofs.ListLemmas.{in_filter, of_filter, get_in}
+use Rattle.schedule_laws.specs.plan_model.proofs.ListLemmas.{among, in_filter, of_filter, get_in}
 use Rattle.schedule_laws.proofs.ClashLemmas.{IsClear, own_clash}
 use Rattle.schedule_laws.proofs.LineLemmas.{IsGoodLine, allowed, line_good, line_proper}
 use Rattle.schedule_laws.proofs.ListLemmas.{at_in, in_map, of_map}
 use Rattle.du_intake.specs.Cursors.{ArePlanned, IsNamed, IsPlanned}
 use Rattle.du_intake.specs.Lines.{claim_in_slot, has_symbol, is_home, line_of, lines_at}
 use Rattle.du_intake.specs.Listing.{AreInTurn, ComesFirst, IsSymbolOf}
-use Rattle.du_intake.specs.Planned.{IsPlanOf, is_uplink, uplink_of}
-use Rattle.du_intake.specs.Symbols.{AreLines, AreOneSection, IsKept, IsKeptSymbol, IsListed, lines_in, start_by, start_in, start_of, start_with, symbol_at}
+use Rattle.du_intake.specs.Planned.{IsPlanOf}
+use Rattle.du_intake.specs.Symbols.{AreLines, AreOneSection, IsSymbolOfPlan, IsKeptSymbol, IsListed, lines_in, start_by, planned_start_in, planned_start, start_with, symbol_at}
 use Rattle.du_intake.specs.declared.lines.UplinkLine.{UplinkLine}
 use Rattle.du_intake.specs.declared.plan.UplinkPlan.{UplinkPlan}
 use Rattle.du_intake.specs.declared.symbols.PlannedSymbol.{PlannedSymbol}
 use Rattle.du_intake.proofs.ClaimLemmas.{claims_planned}
 use Rattle.du_intake.proofs.HomeLemmas.{home_from, home_is}
-use Rattle.du_intake.proofs.ListLemmas.{pairs_at}
-use Rattle.du_intake.proofs.ListingLemmas.{comes_first, of_any}
+use Rattle.du_intake.proofs.ListLemmas.{pairs_at, some_same}
+use Rattle.du_intake.proofs.ListingLemmas.{comes_first}
 use Rattle.du_intake.proofs.NextLemmas.{symbol_some}
+use Rattle.window_config.specs.declared.plan.TheConstants.{LAST_FRAME}
+use Rattle.schedule_laws.specs.plan_model.specs.Lines.{uplink_allocations}
+use Rattle.schedule_laws.specs.plan_model.specs.Lines.{is_up_line}
 
 within_carrier : (prbs start num : ℕ) → is_outside prbs start num ≡ false → first_of start num + count_of prbs num ≤ prbs
 within_carrier prbs start num h = go (num == 0) refl
@@ -52,7 +55,7 @@ within_carrier prbs start num h = go (num == 0) refl
     go true e = rw e (omega arith)
     go false e = rw e (grind (arith, nat_tests))
 
-not_idle : (k : PlanKind) → not (is_down k) ≡ true → (is_down k ≡ false) × (is_idle k ≡ false)
+not_idle : (k : PlanKind) → not (is_down_kind k) ≡ true → (is_down_kind k ≡ false) × (is_idle_kind k ≡ false)
 not_idle Down h = cc
 not_idle Up h = (refl, refl)
 not_idle Idle h = cc
@@ -60,7 +63,7 @@ not_idle Idle h = cc
 frame_low : (f : ℤ) → pos 1 ≤ℤ f → neg_ℤ (pos 1000000) ≤ℤ f
 frame_low f h = omega (arith, ints)
 
-frame_high : (f : ℤ) → f ≤ℤ pos 99999 → f ≤ℤ pos 1000000
+frame_high : (f : ℤ) → f ≤ℤ pos LAST_FRAME → f ≤ℤ pos 1000000
 frame_high f h = omega (arith, ints)
 
 either_bit : (b c : Bool) → (b || not c) ≡ true → c ≡ true → b ≡ true
@@ -71,11 +74,11 @@ either_bit false false h e = cc
 own_section : (n : ℕ) → (n == n) ≡ true
 own_section n = grind (arith, nat_tests)
 
-line_planned : (c : Config) (p : PlannedLine) → IsGoodLine c.endpoints p → is_uplink p ≡ true → IsPlanned c (allocation_of p)
+line_planned : (c : Config) (p : PlannedLine) → IsGoodLine c.endpoints p → is_up_line p ≡ true → IsPlanned c (line_allocation p)
 line_planned c p g up =
     let kind = not_idle p.line.kind up in
     let proper = line_proper c.endpoints p g in
-    let one = and_parts (share_cell (allocation_of p) (allocation_of p)) _ (own_clash (allocation_of p) proper) in
+    let one = and_parts (share_cell (line_allocation p) (line_allocation p)) _ (own_clash (line_allocation p) proper) in
     let bit = either_bit (share_bit p.line.mask p.line.mask) (p.line.section == p.line.section) one.1 (own_section p.line.section) in
     let f = found 0 12 (λ re. in_mask p.line.mask re && in_mask p.line.mask re) bit in
     record {
@@ -97,45 +100,45 @@ line_planned c p g up =
       mask = (and_parts (in_mask p.line.mask f.k) _ f.is).0;
     }
 
-pub plan_planned : (c : Config) (lines : List PlannedLine) → IsConfig c → IsPlanOf c lines → ArePlanned c (uplink_of lines)
+pub plan_planned : (c : Config) (lines : List PlannedLine) → IsConfig c → IsPlanOf c lines → ArePlanned c (uplink_allocations lines)
 plan_planned c lines config plan k a at =
-    let m = of_map allocation_of a (filter is_uplink lines) (at_in k a (uplink_of lines) at) in
-    let n = of_filter is_uplink m.0 lines m.1 in
+    let m = of_map line_allocation a (filter is_up_line lines) (at_in k a (uplink_allocations lines) at) in
+    let n = of_filter is_up_line m.0 lines m.1 in
     let there : IsIn m.0 (planned c.endpoints plan.plan) = subst (IsIn m.0) plan.is n.0 in
     subst (IsPlanned c) (sym m.2) (line_planned c m.0 (line_good c plan.plan config plan.ranges plan.valid m.0 there) n.1)
 
-pub in_plan : (c : Config) (lines : List PlannedLine) → IsConfig c → IsPlanOf c lines → (a : Allocation) → IsIn a (uplink_of lines) → IsPlanned c a
-in_plan c lines config plan a m = let w = get_in a (uplink_of lines) m in plan_planned c lines config plan w.0 a w.1
+pub in_plan : (c : Config) (lines : List PlannedLine) → IsConfig c → IsPlanOf c lines → (a : Allocation) → IsIn a (uplink_allocations lines) → IsPlanned c a
+in_plan c lines config plan a m = let w = get_in a (uplink_allocations lines) m in plan_planned c lines config plan w.0 a w.1
 
 -- no two of them name one element, or one cell under two section ids
-pub plan_clear : (c : Config) (lines : List PlannedLine) → IsConfig c → IsPlanOf c lines → IsClear (uplink_of lines)
+pub plan_clear : (c : Config) (lines : List PlannedLine) → IsConfig c → IsPlanOf c lines → IsClear (uplink_allocations lines)
 plan_clear c lines config plan a b m n h = (allowed c plan.plan config plan.ranges plan.valid).clear a b (of_all a m) (of_all b n) h
   where
-    of_all : (a : Allocation) → IsIn a (uplink_of lines) → IsIn a (map allocation_of (planned c.endpoints plan.plan))
+    of_all : (a : Allocation) → IsIn a (uplink_allocations lines) → IsIn a (map line_allocation (planned c.endpoints plan.plan))
     of_all a m =
-        let w = of_map allocation_of a (filter is_uplink lines) m in
-        let n = of_filter is_uplink w.0 lines w.1 in
-        subst (λ (x : Allocation). IsIn x (map allocation_of (planned c.endpoints plan.plan))) (sym w.2)
-        (in_map allocation_of w.0 (planned c.endpoints plan.plan) (subst (IsIn w.0) plan.is n.0))
+        let w = of_map line_allocation a (filter is_up_line lines) m in
+        let n = of_filter is_up_line w.0 lines w.1 in
+        subst (λ (x : Allocation). IsIn x (map line_allocation (planned c.endpoints plan.plan))) (sym w.2)
+        (in_map line_allocation w.0 (planned c.endpoints plan.plan) (subst (IsIn w.0) plan.is n.0))
 
 -- ---- the kept lines
 
 module _ (c : Config) (lines : List PlannedLine) (config : IsConfig c) (plan : IsPlanOf c lines) (ls : List UplinkLine)
-    (homes : (ep : ℕ) (slot : Slot) → lines_at ep slot ls ≡ lines_at ep slot (map line_of (uplink_of lines))) where
+    (homes : (ep : ℕ) (slot : Slot) → lines_at ep slot ls ≡ lines_at ep slot (map line_of (uplink_allocations lines))) where
   -- a kept line is one of the plan's
-  pub of_plan : (l : UplinkLine) → IsIn l ls → (a : Allocation) × IsIn a (uplink_of lines) × (l ≡ line_of a)
+  pub of_plan : (l : UplinkLine) → IsIn l ls → (a : Allocation) × IsIn a (uplink_allocations lines) × (l ≡ line_of a)
   of_plan l m =
       let own : is_home l.ep l.slot l ≡ true = home_from l.ep l.slot l refl refl in
-      of_map line_of l (uplink_of lines)
-      (of_filter (is_home l.ep l.slot) l (map line_of (uplink_of lines)) (subst (IsIn l) (homes l.ep l.slot) (in_filter (is_home l.ep l.slot) l ls m own))).0
+      of_map line_of l (uplink_allocations lines)
+      (of_filter (is_home l.ep l.slot) l (map line_of (uplink_allocations lines)) (subst (IsIn l) (homes l.ep l.slot) (in_filter (is_home l.ep l.slot) l ls m own))).0
 
   -- and a line of the plan is kept
-  pub of_lines : (a : Allocation) → IsIn a (uplink_of lines) → IsIn (line_of a) ls
+  pub of_lines : (a : Allocation) → IsIn a (uplink_allocations lines) → IsIn (line_of a) ls
   of_lines a m =
       let l : UplinkLine = line_of a in
       let own : is_home l.ep l.slot l ≡ true = home_from l.ep l.slot l refl refl in
       (of_filter (is_home l.ep l.slot) l ls
-      (subst (IsIn l) (sym (homes l.ep l.slot)) (in_filter (is_home l.ep l.slot) l (map line_of (uplink_of lines)) (in_map line_of a (uplink_of lines) m) own))).0
+      (subst (IsIn l) (sym (homes l.ep l.slot)) (in_filter (is_home l.ep l.slot) l (map line_of (uplink_allocations lines)) (in_map line_of a (uplink_allocations lines) m) own))).0
 
   pub are_lines : AreLines c.endpoints ls
   are_lines k l at =
@@ -156,7 +159,7 @@ module _ (c : Config) (lines : List PlannedLine) (config : IsConfig c) (plan : I
 
   -- the start of a symbol that a line of the plan names
   start_same : (s : PlannedSymbol) (head : UplinkLine) (e : EndpointConfig) (a : Allocation) (symbol : ℕ) → IsAt c.endpoints head.ep e → IsPlanned c a → a.ep ≡ head.ep → a.slot ≡ head.slot
-      → s.start.0 ≡ air_of e.numerology head.slot s.symbol → s.symbol ≡ symbol → start_of s head e ≡ start_at a.ep a.endpoint a.slot symbol
+      → s.start.0 ≡ air_of e.numerology head.slot s.symbol → s.symbol ≡ symbol → planned_start s head e ≡ start_at a.ep a.endpoint a.slot symbol
   start_same s head e a symbol at p ep slot starts same =
       let endpoint : a.endpoint ≡ e = endpoints_equal c.endpoints a.ep head.ep a.endpoint e p.at at ep in
       ap (λ (t : ℤ). (let m : SymbolStart = record { ep = head.ep; endpoint = e; start = record { 0 = t }; slot = head.slot; symbol = s.symbol } in m)) starts
@@ -164,12 +167,12 @@ module _ (c : Config) (lines : List PlannedLine) (config : IsConfig c) (plan : I
       ∙ sym (ap (λ (i : ℕ). start_at i a.endpoint a.slot symbol) ep ∙ ap (λ (f : EndpointConfig). start_at head.ep f a.slot symbol) endpoint
       ∙ ap (λ (t : Slot). start_at head.ep e t symbol) slot)
 
-  start_found : (s : PlannedSymbol) (w : IsSymbolOf c.endpoints ls s) → start_in c.endpoints ls (Some s) ≡ Some (start_of s w.head w.endpoint)
+  start_found : (s : PlannedSymbol) (w : IsSymbolOf c.endpoints ls s) → planned_start_in c.endpoints ls (Some s) ≡ Some (planned_start s w.head w.endpoint)
   start_found s w = ap (start_by c.endpoints s) w.at ∙ ap (start_with s w.head) w.at_endpoint
 
   -- the lines of a slot, in the plan
   home_line : (s : PlannedSymbol) (w : IsSymbolOf c.endpoints ls s) (l : UplinkLine) → IsIn l (lines_in ls s)
-      → (a : Allocation) × IsIn a (uplink_of lines) × (l ≡ line_of a) × (a.ep ≡ w.head.ep) × (a.slot ≡ w.head.slot)
+      → (a : Allocation) × IsIn a (uplink_allocations lines) × (l ≡ line_of a) × (a.ep ≡ w.head.ep) × (a.slot ≡ w.head.slot)
   home_line s w l m =
       let n = of_filter (is_home w.head.ep w.head.slot) l ls (subst (IsIn l) w.lines m) in
       let home = home_is w.head.ep w.head.slot l n.1 in
@@ -193,7 +196,7 @@ module _ (c : Config) (lines : List PlannedLine) (config : IsConfig c) (plan : I
       (subst (λ (x : Cell). covers b.0 x ≡ true) same (covers_own b.0 s.symbol prb symbol_b prb_b)) in
       ap (λ (x : UplinkLine). x.section) a.2 ∙ sections a.0 b.0 a.1 b.1 shared ∙ ap (λ (x : UplinkLine). x.section) (sym b.2)
     where
-      sections : (a b : Allocation) → IsIn a (uplink_of lines) → IsIn b (uplink_of lines) → share_cell a b ≡ true → a.section ≡ b.section
+      sections : (a b : Allocation) → IsIn a (uplink_allocations lines) → IsIn b (uplink_allocations lines) → share_cell a b ≡ true → a.section ≡ b.section
       sections a b m n shared = elim (cases_Bool (a.section == b.section)) [
         | inl same ↦ eqb-true a.section b.section same
         | inr other ↦
@@ -201,20 +204,20 @@ module _ (c : Config) (lines : List PlannedLine) (config : IsConfig c) (plan : I
             (plan_clear c lines config plan a b m n (and_from (share_cell a b) _ shared (or_right (share_bit a.mask b.mask) (not (a.section == b.section)) (ap not other))))
       ]
 
-  kept_symbol : (s : PlannedSymbol) → IsSymbolOf c.endpoints ls s → IsKeptSymbol c.endpoints (uplink_of lines) ls s
+  kept_symbol : (s : PlannedSymbol) → IsSymbolOf c.endpoints ls s → IsKeptSymbol c.endpoints (uplink_allocations lines) ls s
   kept_symbol s w =
-      let l = of_any (has_symbol s.symbol) (lines_in ls s) w.named in
-      let a = home_line s w l.0 l.1 in
+      let l = among (has_symbol s.symbol) (lines_in ls s) w.named in
+      let a = home_line s w l.x l.there in
       let p = in_plan c lines config plan a.0 a.1 in
-      let n = get_in a.0 (uplink_of lines) a.1 in
+      let n = get_in a.0 (uplink_allocations lines) a.1 in
       record {
-        start = start_of s w.head w.endpoint;
+        start = planned_start s w.head w.endpoint;
         is = start_found s w;
         named = record {
           k = n.0;
           by = a.0;
           at = n.1;
-          names = record { symbol = ap (has_symbol s.symbol) (sym a.2) ∙ l.2; is = start_same s w.head w.endpoint a.0 s.symbol w.at_endpoint p a.3 a.4 w.starts refl };
+          names = record { symbol = ap (has_symbol s.symbol) (sym a.2) ∙ l.is; is = start_same s w.head w.endpoint a.0 s.symbol w.at_endpoint p a.3 a.4 w.starts refl };
         };
         order = (let r = w.order in omega (arith, r));
         within = w.within;
@@ -240,10 +243,10 @@ module _ (c : Config) (lines : List PlannedLine) (config : IsConfig c) (plan : I
       rw all (inr (subst (λ (n : ℕ). IsIn x (take n xs)) rest there))
 
   module _ (p : UplinkPlan) (own : p.lines.items ≡ ls) (turn : AreInTurn c.endpoints ls p.symbols.items) where
-    kept : (m : SymbolStart) → IsNamed (uplink_of lines) m → IsKept c.endpoints p m
+    kept : (m : SymbolStart) → IsNamed (uplink_allocations lines) m → IsSymbolOfPlan c.endpoints p m
     kept m named =
         let a = named.by in
-        let there = at_in named.k a (uplink_of lines) named.at in
+        let there = at_in named.k a (uplink_allocations lines) named.at in
         let k = get_in (line_of a) ls (of_lines a there) in
         let s = turn.all k.0 m.symbol (line_of a) k.1 named.names.symbol in
         let w = turn.each s.s s.there in
@@ -253,28 +256,25 @@ module _ (c : Config) (lines : List PlannedLine) (config : IsConfig c) (plan : I
         record {
           k = i.0;
           is =
-              ap (λ (xs : List UplinkLine). start_in c.endpoints xs (slice_get p.symbols.items i.0)) own ∙ ap (start_in c.endpoints ls) i.1 ∙ start_found s.s w
+              ap (λ (xs : List UplinkLine). planned_start_in c.endpoints xs (slice_get p.symbols.items i.0)) own ∙ ap (planned_start_in c.endpoints ls) i.1 ∙ start_found s.s w
               ∙ ap (λ (x : SymbolStart). Some x)
               (start_same s.s w.head w.endpoint a m.symbol w.at_endpoint (in_plan c lines config plan a there) home.0 home.1 w.starts s.symbol_is ∙ sym named.names.is);
         }
 
     by_first : (s : PlannedSymbol) (w : IsSymbolOf c.endpoints ls s) (k : ℕ) (m : SymbolStart) → slice_get p.symbols.items k ≡ Some s → symbol_at c.endpoints p k ≡ Some m
-        → start_of s w.head w.endpoint ≡ m
+        → planned_start s w.head w.endpoint ≡ m
     by_first s w k m at is =
-        one (start_of s w.head w.endpoint) m (symbol_at c.endpoints p k)
-        (ap (λ (xs : List UplinkLine). start_in c.endpoints xs (slice_get p.symbols.items k)) own ∙ ap (start_in c.endpoints ls) at ∙ start_found s w) is
-      where
-        one : (x y : SymbolStart) (o : Option SymbolStart) → o ≡ Some x → o ≡ Some y → x ≡ y
-        one x y o h k = cc
+        some_same (symbol_at c.endpoints p k) (planned_start s w.head w.endpoint) m
+        (ap (λ (xs : List UplinkLine). planned_start_in c.endpoints xs (slice_get p.symbols.items k)) own ∙ ap (planned_start_in c.endpoints ls) at ∙ start_found s w) is
 
-    pub is_listed : IsListed c (uplink_of lines) p
+    pub is_listed : IsListed c (uplink_allocations lines) p
     is_listed = record {
       claims = λ cell re down.
           ap (λ (xs : List UplinkLine). claim_in_slot (lines_at cell.ep cell.slot xs) cell.symbol cell.prb re) own
           ∙ ap (λ (xs : List UplinkLine). claim_in_slot xs cell.symbol cell.prb re) (homes cell.ep cell.slot)
-          ∙ claims_planned (uplink_of lines) cell re (λ a m. (let q = in_plan c lines config plan a m in (q.down, q.idle))) down;
+          ∙ claims_planned (uplink_allocations lines) cell re (λ a m. (let q = in_plan c lines config plan a m in (q.down, q.idle))) down;
       lines = subst (AreLines c.endpoints) (sym own) are_lines;
-      symbols = λ k s at. subst (λ (xs : List UplinkLine). IsKeptSymbol c.endpoints (uplink_of lines) xs s) (sym own) (kept_symbol s (turn.each s (at_in k s p.symbols.items at)));
+      symbols = λ k s at. subst (λ (xs : List UplinkLine). IsKeptSymbol c.endpoints (uplink_allocations lines) xs s) (sym own) (kept_symbol s (turn.each s (at_in k s p.symbols.items at)));
       all = kept;
       order = λ i j m n less is_m is_n.
           (let a = symbol_some c.endpoints p i m is_m in
@@ -283,6 +283,6 @@ module _ (c : Config) (lines : List PlannedLine) (config : IsConfig c) (plan : I
           let y = turn.each b.s (at_in j b.s p.symbols.items b.at) in
           let em = by_first a.s x i m a.at is_m in
           let en = by_first b.s y j n b.at is_n in
-          sym (ap (λ (q : SymbolStart). comes_before q (start_of b.s y.head y.endpoint)) em ∙ ap (comes_before m) en)
+          sym (ap (λ (q : SymbolStart). comes_before q (planned_start b.s y.head y.endpoint)) em ∙ ap (comes_before m) en)
           ∙ comes_first ls a.s b.s x.head y.head x.endpoint y.endpoint (pairs_at (ComesFirst ls) p.symbols.items turn.order i j a.s b.s less a.at b.at) x.at y.at);
     }

@@ -1,6 +1,6 @@
 -- The intake stands for its history when it is made, and after each arrival.
 use Rattle.std.proofs.Common.{◌≡◌, ℕ, ℤ, pos, ◌≤◌, ◌+ℤ◌, ◌-ℤ◌, ◌≤ℤ◌, List, [], ◌∷◌, ◌++◌, refl, sym, ap, ◌∙◌, subst, arith}
-use Rattle.std.specs.Prelude.{All, Bool, true, false, not, ◌&&◌, ◌||◌, nat_lt, IfSome, Option, Some, None}
+use Rattle.std.specs.Prelude.{All, false, not, nat_lt, IfSome, Option, Some, None}
 use Rattle.std.proofs.lemmas.Bool.Decides.{nat_tests}
 use Rattle.std.proofs.lemmas.Int.{ints}
 use Rattle.std.proofs.lemmas.List.Elements.{All-nil, All-cons, All-weaker}
@@ -30,28 +30,30 @@ use Rattle.schedule_laws.specs.unit_model.specs.Order.{comes_before}
 use Rattle.schedule_laws.specs.unit_model.specs.Starts.{start_at}
 use Rattle.schedule_laws.specs.unit_model.specs.declared.symbol_start.SymbolStart.{SymbolStart}
 use Rattle.window_config.specs.declared.endpoints.EndpointConfig.{EndpointConfig}
-use Rattle.ru_buffers.specs.history_laws.proofs.TickLemmas.{at_most}
-use Rattle.du_intake.specs.Cursors.{ArePlanned, CellCursor, HasLeft, IsNamed, IsNextSymbol, IsNotBefore, is_behind}
+use Rattle.du_intake.specs.Cursors.{ArePlanned, CellCursor, HasStillLeft, IsNamed, IsNextPlannedSymbol, is_behind}
 use Rattle.du_intake.specs.Symbols.{IsListed, symbol_at}
-use Rattle.du_intake.specs.Units.{Keeps, Stands, cursor_by, due_of}
+use Rattle.du_intake.specs.Units.{IntakeKeeps, IntakeStands, cursor_by, intake_due_of}
 use Rattle.du_intake.specs.declared.plan.Place.{Place}
 use Rattle.du_intake.specs.declared.plan.UplinkPlan.{UplinkPlan}
+use Rattle.du_intake.proofs.DueLemmas.{own_not_behind}
 use Rattle.du_intake.proofs.NextLemmas.{first_symbol}
 use Rattle.du_intake.proofs.UsedLemmas.{named_left, used_named}
+use Rattle.ru_buffers.specs.symbol_search.specs.Searches.{IsNotBefore}
+use Rattle.fh_time.proofs.Orders.{at_most, over}
 
 whole_data : (c : Config) (d : UserSection) → IsProperData c.endpoints d → IsTold d
 whole_data c d is = omega (arith, is.blocks)
 
 -- ---- what it answers
 
-module _ (c : Config) (planned : List Allocation) (m : UnitMemory) (clock : ℤ) (cursor : CellCursor) (h : History) (k : Keeps c planned m clock cursor h) where
+module _ (c : Config) (planned : List Allocation) (m : UnitMemory) (clock : ℤ) (cursor : CellCursor) (h : History) (k : IntakeKeeps c planned m clock cursor h) where
   pub all_told : All IsTold (timely_of Du c h.arrivals)
   all_told =
       All-weaker (IsProperData c.endpoints) IsTold (whole_data c) (timely_of Du c h.arrivals)
       (all_timely (IsProperData c.endpoints) Du c.delays (data_of Du c h.arrivals) (data_are_proper Du c h.clock h.arrivals k.holds.came k.holds.times))
 
-  pub stands : (plan : UplinkPlan) (room : ℕ) (wait : ℤ) → IsListed c planned plan → 273 ≤ room → wait ≡ wait_of Du c.delays → IfSome cursor.next (HasLeft planned cursor.prb)
-      → Stands c planned m clock wait plan room cursor h
+  pub stands : (plan : UplinkPlan) (room : ℕ) (wait : ℤ) → IsListed c planned plan → 273 ≤ room → wait ≡ wait_of Du c.delays → IfSome cursor.next (HasStillLeft planned cursor.prb)
+      → IntakeStands c planned m clock wait plan room cursor h
   stands plan room wait listed most waits left = record {
     answers = record {
       kept = record {
@@ -76,9 +78,6 @@ module _ (c : Config) (planned : List Allocation) (m : UnitMemory) (clock : ℤ)
 
 -- ---- a unit that was made
 
-over : (first wait : ℤ) → (((first -ℤ pos 1) -ℤ wait) +ℤ pos 1) ≤ℤ (first -ℤ wait)
-over first wait = omega (arith, ints)
-
 nothing_past : (c : Config) (k : Known) → due Du c.delays c.endpoints k [] (past_of Du first_clock) ≡ []
 unfolding due
 nothing_past c k =
@@ -90,23 +89,19 @@ first_time = record { low = omega (arith, ints); high = omega (arith, ints) }
 
 pub found_behind : (x : SymbolStart) (prb : ℕ) (next : Option SymbolStart) → IsNotBefore x next → is_behind next 0 x prb ≡ false
 found_behind x prb None h = absurd h
-found_behind x prb (Some f) h = neither (comes_before x f) (not (comes_before f x)) (nat_lt prb 0) h (grind (arith, nat_tests))
-  where
-    neither : (a b x : Bool) → a ≡ false → x ≡ false → (a || (b && x)) ≡ false
-    neither a true x h k = rw (h, k) refl
-    neither a false x h k = rw h refl
+found_behind x prb (Some f) h = own_not_behind (comes_before x f) (not (comes_before f x)) (nat_lt prb 0) h (grind (arith, nat_tests))
 
-left_made : (c : Config) (planned : List Allocation) (next : Option SymbolStart) → ArePlanned c planned → IfSome next (IsNamed planned) → IfSome next (HasLeft planned 0)
+left_made : (c : Config) (planned : List Allocation) (next : Option SymbolStart) → ArePlanned c planned → IfSome next (IsNamed planned) → IfSome next (HasStillLeft planned 0)
 left_made c planned None plan named = tt
 left_made c planned (Some m) plan named = named_left c planned m plan named
 
 pub stands_made : (c : Config) (planned : List Allocation) (plan : UplinkPlan) (room : ℕ) (m : UnitMemory) (wait : ℤ) → ArePlanned c planned
     → ((clock : ℤ) → Holds Du c clock m [] []) → IsListed c planned plan → 273 ≤ room → wait ≡ wait_of Du c.delays
-    → Stands c planned m first_clock wait plan room (cursor_by m plan (record { symbol = 0; prb = 0 })) nothing_yet
+    → IntakeStands c planned m first_clock wait plan room (cursor_by m plan (record { symbol = 0; prb = 0 })) nothing_yet
 stands_made c planned plan room m wait plans holds listed most waits =
     let next : Option SymbolStart = symbol_at m.endpoints.items plan 0 in
-    let first : IsNextSymbol planned None next =
-    subst (λ (es : List EndpointConfig). IsNextSymbol planned None (symbol_at es plan 0)) (sym (holds first_clock).endpoints) (first_symbol c planned plan listed) in
+    let first : IsNextPlannedSymbol planned None next =
+    subst (λ (es : List EndpointConfig). IsNextPlannedSymbol planned None (symbol_at es plan 0)) (sym (holds first_clock).endpoints) (first_symbol c planned plan listed) in
     stands c planned m first_clock (cursor_by m plan (record { symbol = 0; prb = 0 })) nothing_yet (record {
       holds = holds first_clock;
       clock_is = refl;
@@ -118,7 +113,7 @@ stands_made c planned plan room m wait plans holds listed most waits =
       owed = All-nil (IsOwed Du c (du_known c planned []));
       given = refl;
       plan = plans;
-      marks = λ e cell is down used.
+      reports = λ e cell is down used.
           sym (found_behind (start_at cell.ep e cell.slot cell.symbol) cell.prb next
           (first.first (start_at cell.ep e cell.slot cell.symbol) (used_named c planned e cell plans is.endpoint used) refl));
       named = first.named;
@@ -127,11 +122,11 @@ stands_made c planned plan room m wait plans holds listed most waits =
 -- ---- an arrival
 
 module _ (c : Config) (planned : List Allocation) (m : UnitMemory) (clock wait at : ℤ) (plan : UplinkPlan) (room : ℕ) (place : Place) (h : History)
-    (all : Stands c planned m clock wait plan room (cursor_by m plan place) h) (order : clock ≤ℤ at) (time : IsTime at) (none : due_of c planned h (at -ℤ pos 1) ≡ []) where
+    (all : IntakeStands c planned m clock wait plan room (cursor_by m plan place) h) (order : clock ≤ℤ at) (time : IsTime at) (none : intake_due_of c planned h (at -ℤ pos 1) ≡ []) where
   abbrev cursor : CellCursor
   cursor = cursor_by m plan place
 
-  abbrev k : Keeps c planned m clock cursor h
+  abbrev k : IntakeKeeps c planned m clock cursor h
   k = all.kept
 
   after : h.clock ≤ℤ at
@@ -152,12 +147,12 @@ module _ (c : Config) (planned : List Allocation) (m : UnitMemory) (clock wait a
 
   pub stands_delivered : (m2 : UnitMemory) (frame : List ℕ)
       → ((arrivals : List Arrival) (beside : List Counter) → Holds Du c at m arrivals beside → Holds Du c at m2 (arrival at frame ∷ arrivals) beside)
-      → Stands c planned m2 at wait plan room (cursor_by m2 plan place) (arrived (at_clock h at) frame)
+      → IntakeStands c planned m2 at wait plan room (cursor_by m2 plan place) (arrived (at_clock h at) frame)
   stands_delivered m2 frame holds =
       let same : cursor ≡ cursor_by m2 plan place =
       ap (λ (es : List EndpointConfig). (let r : CellCursor = record { next = symbol_at es plan place.symbol; prb = place.prb } in r))
       (k.holds.endpoints ∙ sym (holds h.arrivals (cells_counted h.reported) holds_at).endpoints) in
-      subst (λ (x : CellCursor). Stands c planned m2 at wait plan room x (arrived (at_clock h at) frame)) same
+      subst (λ (x : CellCursor). IntakeStands c planned m2 at wait plan room x (arrived (at_clock h at) frame)) same
       (stands c planned m2 at cursor (arrived (at_clock h at) frame) (record {
         holds = holds h.arrivals (cells_counted h.reported) holds_at;
         clock_is = refl;
@@ -179,6 +174,6 @@ module _ (c : Config) (planned : List Allocation) (m : UnitMemory) (clock wait a
             }) h.reported k.owed;
         given = k.given;
         plan = k.plan;
-        marks = k.marks;
+        reports = k.reports;
         named = k.named;
       }) plan room wait all.plan_is all.room_is all.wait_is all.left)

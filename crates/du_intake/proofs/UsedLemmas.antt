@@ -18,10 +18,10 @@ use Rattle.schedule_laws.specs.unit_model.specs.declared.cells.Claim.{Claim}
 use Rattle.schedule_laws.specs.unit_model.specs.declared.symbol_start.SymbolStart.{SymbolStart}
 use Rattle.schedule_laws.specs.unit_laws.proofs.CellLemmas.{covers_is}
 use Rattle.schedule_laws.specs.unit_laws.proofs.FarLemmas.{endpoints_equal}
-use Rattle.ru_buffers.specs.history_laws.proofs.UnitLemmas.{unused, not_both}
-use Rattle.schedule_laws.specs.plan_model.proofs.SlotLemmas.{slot_own}
+use Rattle.ru_buffers.specs.history_laws.proofs.UnitLemmas.{not_both}
 use Rattle.schedule_laws.proofs.TimeLemmas.{first_less}
-use Rattle.du_intake.specs.Cursors.{ArePlanned, HasLeft, IsNamed, cell_in}
+use Rattle.du_intake.specs.Cursors.{ArePlanned, HasStillLeft, IsNamed, uplink_cell_in}
+use Rattle.schedule_laws.specs.unit_model.proofs.ClaimLemmas.{none_used as unused, slot_self as slot_own}
 
 -- ---- what covers a cell
 
@@ -111,18 +111,18 @@ own_from : (first count : ℕ) → 0 < count → is_from first count first ≡ t
 own_from first count h = grind (arith, nat_tests)
 
 -- a cell is planned of each symbol that is named
-pub named_left : (c : Config) (planned : List Allocation) (m : SymbolStart) → ArePlanned c planned → IsNamed planned m → HasLeft planned 0 m
+pub named_left : (c : Config) (planned : List Allocation) (m : SymbolStart) → ArePlanned c planned → IsNamed planned m → HasStillLeft planned 0 m
 named_left c planned m plan is =
     let a = is.by in
     let p = plan is.k a is.at in
     let own : SymbolStart = start_at a.ep a.endpoint a.slot m.symbol in
-    subst (HasLeft planned 0) (sym is.names.is) (record {
+    subst (HasStillLeft planned 0) (sym is.names.is) (record {
       prb = first_prb a;
       low = omega arith;
       below = first_less (first_prb a) (prb_count a) a.endpoint.prbs p.prbs p.inside;
-      used = used_positive (claim_at planned (cell_in own (first_prb a))) 12 p.re p.few
-          (claim_used planned is.k a (cell_in own (first_prb a)) p.re (λ i x there. (plan i x there).idle) is.at
-          (and_from (covers a (cell_in own (first_prb a))) (in_mask a.mask p.re) (covers_own a m.symbol p.down is.names.symbol (own_from (first_prb a) (prb_count a) p.prbs)) p.mask));
+      used = used_positive (claim_at planned (uplink_cell_in own (first_prb a))) 12 p.re p.few
+          (claim_used planned is.k a (uplink_cell_in own (first_prb a)) p.re (λ i x there. (plan i x there).idle) is.at
+          (and_from (covers a (uplink_cell_in own (first_prb a))) (in_mask a.mask p.re) (covers_own a m.symbol p.down is.names.symbol (own_from (first_prb a) (prb_count a) p.prbs)) p.mask));
     })
   where
     same_down : (a b : Bool) → a ≡ false → b ≡ false → (let w : Bool = if a then b else not b in w) ≡ true

@@ -11,9 +11,11 @@ use Rattle.schedule_laws.specs.unit_model.specs.Starts.{start_at}
 use Rattle.schedule_laws.specs.unit_model.specs.declared.allocations.Allocation.{Allocation}
 use Rattle.schedule_laws.specs.unit_model.specs.declared.symbol_start.SymbolStart.{SymbolStart}
 use Rattle.ru_buffers.specs.symbol_search.specs.Symbols.{IsFound}
+use Rattle.window_config.specs.declared.plan.TheConstants.{LAST_FRAME}
+use Rattle.ru_buffers.specs.symbol_search.specs.Searches.{IsNotBefore}
 
 -- the times of an allocation's symbols can be told
-pub record IsTimed (a : Allocation) : Type 0 where
+pub record IsTimedAllocation (a : Allocation) : Type 0 where
   pub slot_is : IsSlot a.endpoint.numerology a.slot
   pub within : a.symbol + a.num_symbol ≤ symbols_of a.endpoint.numerology
 
@@ -23,10 +25,6 @@ pub record IsTimed (a : Allocation) : Type 0 where
 abbrev pub is_after : Option SymbolStart → SymbolStart → Bool
 is_after None m = true
 is_after (Some last) m = comes_before last m
-
--- something is found, and this symbol does not come before it
-abbrev pub IsNotBefore : SymbolStart → Option SymbolStart → Type 0
-IsNotBefore m found = IsFound (λ f. comes_before m f ≡ false) found
 
 -- one of the first n symbols that an allocation names
 pub record NamesIn (a : Allocation) (n : ℕ) (m : SymbolStart) : Type 0 where
@@ -41,7 +39,7 @@ pub record IsNamed (planned : List Allocation) (m : SymbolStart) : Type 0 where
   pub names : NamesIn by by.num_symbol m
 
 -- the first symbol behind the last one, if there is one, that these allocations name
-pub record IsNextSymbol (planned : List Allocation) (last next : Option SymbolStart) : Type 0 where
+pub record IsNextPlannedSymbol (planned : List Allocation) (last next : Option SymbolStart) : Type 0 where
   pub named : IfSome next (IsNamed planned)
   pub after : IfSome next (λ m. is_after last m ≡ true)
   pub first : (m : SymbolStart) → IsNamed planned m → is_after last m ≡ true → IsNotBefore m next
@@ -64,8 +62,8 @@ is_behind (Some next) next_prb m prb = comes_before m next || (not (comes_before
 pub record IsPlanned (c : Config) (a : Allocation) : Type 0 where
   pub at : IsAt c.endpoints a.ep a.endpoint
   pub begun : pos 1 ≤ℤ a.slot.frame
-  pub ended : a.slot.frame ≤ℤ pos 99999
-  pub timed : IsTimed a
+  pub ended : a.slot.frame ≤ℤ pos LAST_FRAME
+  pub timed : IsTimedAllocation a
   pub down : a.down ≡ false
   pub idle : a.idle ≡ false
   pub twelve : a.mask < 2 ^ 12
@@ -81,12 +79,12 @@ abbrev pub ArePlanned : Config → List Allocation → Type 0
 ArePlanned c planned = (k : ℕ) (a : Allocation) → slice_get planned k ≡ Some a → IsPlanned c a
 
 -- the uplink cell of a symbol at a PRB
-abbrev pub cell_in : SymbolStart → ℕ → Cell
-cell_in m prb = cell_at m.ep false m.slot m.symbol prb
+abbrev pub uplink_cell_in : SymbolStart → ℕ → Cell
+uplink_cell_in m prb = cell_at m.ep false m.slot m.symbol prb
 
 -- from a PRB on, a cell of the symbol is planned
-pub record HasLeft (planned : List Allocation) (from : ℕ) (m : SymbolStart) : Type 0 where
+pub record HasStillLeft (planned : List Allocation) (from : ℕ) (m : SymbolStart) : Type 0 where
   pub prb : ℕ
   pub low : from ≤ prb
   pub below : prb < m.endpoint.prbs
-  pub used : 0 < used_mask (claim_at planned (cell_in m prb))
+  pub used : 0 < used_mask (claim_at planned (uplink_cell_in m prb))

@@ -39,8 +39,8 @@ abbrev pub lines_at : ℕ → Slot → List UplinkLine → List UplinkLine
 lines_at ep slot ls = filter (is_home ep slot) ls
 
 -- none comes behind one of a later slot
-abbrev pub AreInOrder : List UplinkLine → Type 0
-AreInOrder ls = (i j : ℕ) (p q : UplinkLine) → i < j → slice_get ls i ≡ Some p → slice_get ls j ≡ Some q → home_before q p ≡ false
+abbrev pub AreLinesInOrder : List UplinkLine → Type 0
+AreLinesInOrder ls = (i j : ℕ) (p q : UplinkLine) → i < j → slice_get ls i ≡ Some p → slice_get ls j ≡ Some q → home_before q p ≡ false
 
 -- ---- claims
 

@@ -1,6 +1,6 @@
 -- How the symbols of a plan are listed: slot by slot, and then in the order of their starts (this project's means to sort once).
-use Rattle.std.specs.Prelude.{◌≡◌, ⊤, ℕ, ◌<◌, ◌≤◌, Bool, true, false, ◌&&◌, ◌||◌, ◌==◌, nat_lt, List, [], ◌∷◌, length, slice_get, Some}
-use Rattle.std.specs.List.{list_any}
+use Rattle.std.specs.Prelude.{◌≡◌, ℕ, ◌<◌, ◌≤◌, Bool, true, false, ◌&&◌, ◌||◌, ◌==◌, nat_lt, List, length, slice_get, Some}
+use Rattle.std.specs.List.{AllPairs, list_any}
 use Rattle.std.specs.List.Sorted.{IsStableBy, ties}
 use Rattle.std.specs.Ordering.{int_cmp, is_lt}
 use Rattle.fh_time.specs.Air.{air_of}
@@ -12,11 +12,6 @@ use Rattle.du_intake.specs.Lines.{has_symbol, lines_at, same_home}
 use Rattle.du_intake.specs.Symbols.{lines_in}
 use Rattle.du_intake.specs.declared.lines.UplinkLine.{UplinkLine}
 use Rattle.du_intake.specs.declared.symbols.PlannedSymbol.{PlannedSymbol}
-
--- each stands so to all that are behind it
-abbrev pub Pairwise : {X : Type 0} → (X → X → Type 0) → List X → Type 0
-Pairwise R [] = ⊤
-Pairwise R (x ∷ xs) = ((y : _) → IsIn y xs → R x y) × Pairwise R xs
 
 -- the lines of the slot of the one at `first` end there
 pub record IsSlotEnd (ls : List UplinkLine) (first end : ℕ) : Type 0 where
@@ -31,8 +26,8 @@ pub record IsSlotEnd (ls : List UplinkLine) (first end : ℕ) : Type 0 where
 abbrev pub symbol_first : UplinkLine → ℕ → UplinkLine → ℕ → Bool
 symbol_first a x b y = nat_lt a.ep b.ep || ((a.ep == b.ep) && symbol_before a.slot x b.slot y)
 
-abbrev pub Precedes : List UplinkLine → PlannedSymbol → PlannedSymbol → Type 0
-Precedes ls p q = (a b : UplinkLine) → slice_get ls p.first ≡ Some a → slice_get ls q.first ≡ Some b → symbol_first a p.symbol b q.symbol ≡ true
+abbrev pub PrecedesSymbol : List UplinkLine → PlannedSymbol → PlannedSymbol → Type 0
+PrecedesSymbol ls p q = (a b : UplinkLine) → slice_get ls p.first ≡ Some a → slice_get ls q.first ≡ Some b → symbol_first a p.symbol b q.symbol ≡ true
 
 -- it is a symbol of a slot that one of the slot's lines names
 pub record IsSymbolOf (es : List EndpointConfig) (ls : List UplinkLine) (s : PlannedSymbol) : Type 0 where
@@ -58,7 +53,7 @@ pub record IsListedIn (ss : List PlannedSymbol) (k symbol : ℕ) : Type 0 where
 pub record AreSymbols (es : List EndpointConfig) (ls : List UplinkLine) (n : ℕ) (ss : List PlannedSymbol) : Type 0 where
   pub each : (s : PlannedSymbol) → IsIn s ss → IsSymbolOf es ls s × (s.last ≤ n)
   pub all : (k symbol : ℕ) (l : UplinkLine) → k < n → slice_get ls k ≡ Some l → has_symbol symbol l ≡ true → IsListedIn ss k symbol
-  pub order : Pairwise (Precedes ls) ss
+  pub order : AllPairs (PrecedesSymbol ls) ss
 
 -- ---- by their starts
 
@@ -67,7 +62,7 @@ starts_before a b = is_lt (int_cmp a.start.0 b.start.0)
 
 -- none starts before one that stands before it
 abbrev pub AreAscending : List PlannedSymbol → Type 0
-AreAscending ss = Pairwise (λ p q. starts_before q p ≡ false) ss
+AreAscending ss = AllPairs (λ p q. starts_before q p ≡ false) ss
 
 -- those that start at one tick stand as they stood
 abbrev pub IsStableByStart : List PlannedSymbol → List PlannedSymbol → Type 0
@@ -75,10 +70,10 @@ IsStableByStart old new = IsStableBy starts_before old new
 
 -- the one starts no later, and where both start at one tick, it precedes the other
 abbrev pub ComesFirst : List UplinkLine → PlannedSymbol → PlannedSymbol → Type 0
-ComesFirst ls p q = (starts_before q p ≡ false) × (ties starts_before p q ≡ true → Precedes ls p q)
+ComesFirst ls p q = (starts_before q p ≡ false) × (ties starts_before p q ≡ true → PrecedesSymbol ls p q)
 
 -- the symbols of all lines, in the order in which symbols are told
 pub record AreInTurn (es : List EndpointConfig) (ls : List UplinkLine) (ss : List PlannedSymbol) : Type 0 where
   pub each : (s : PlannedSymbol) → IsIn s ss → IsSymbolOf es ls s
   pub all : (k symbol : ℕ) (l : UplinkLine) → slice_get ls k ≡ Some l → has_symbol symbol l ≡ true → IsListedIn ss k symbol
-  pub order : Pairwise (ComesFirst ls) ss
+  pub order : AllPairs (ComesFirst ls) ss

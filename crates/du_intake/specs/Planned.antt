@@ -3,17 +3,11 @@ use Rattle.std.specs.Prelude.{◌≡◌, Bool, not, All, List, filter, map}
 use Rattle.window_config.specs.declared.config.Config.{Config}
 use Rattle.window_config.specs.declared.plan.PlanLine.{PlanLine}
 use Rattle.schedule_laws.specs.unit_model.specs.declared.allocations.Allocation.{Allocation}
-use Rattle.schedule_laws.specs.plan_model.specs.Lines.{allocation_of, is_down, planned}
+use Rattle.schedule_laws.specs.plan_model.specs.Lines.{line_allocation, is_down_kind, planned}
 use Rattle.schedule_laws.specs.plan_model.specs.Valid.{IsValid}
 use Rattle.schedule_laws.specs.plan_model.specs.declared.lines.PlannedLine.{PlannedLine}
 use Rattle.window_config.specs.Plans.{IsPlanLine}
-
-abbrev pub is_uplink : PlannedLine → Bool
-is_uplink p = not (is_down p.line.kind)
-
--- what the uplink lines among these name
-abbrev pub uplink_of : List PlannedLine → List Allocation
-uplink_of ps = map allocation_of (filter is_uplink ps)
+use Rattle.schedule_laws.specs.plan_model.specs.Lines.{uplink_allocations}
 
 -- the lines of a valid plan at their endpoints
 pub record IsPlanOf (c : Config) (lines : List PlannedLine) : Type 0 where
@@ -24,4 +18,4 @@ pub record IsPlanOf (c : Config) (lines : List PlannedLine) : Type 0 where
 
 -- what the uplink lines of a plan name: no two of a valid plan name one resource element
 abbrev pub planned_of : Config → List PlanLine → List Allocation
-planned_of c plan = uplink_of (planned c.endpoints plan)
+planned_of c plan = uplink_allocations (planned c.endpoints plan)

@@ -27,25 +27,25 @@ abbrev pub lines_in : List UplinkLine → PlannedSymbol → List UplinkLine
 lines_in ls s = take (s.last - s.first) (drop s.first ls)
 
 -- its start, where its endpoint and slot are those of a line
-abbrev pub start_of : PlannedSymbol → UplinkLine → EndpointConfig → SymbolStart
-start_of s l e = record { ep = l.ep; endpoint = e; start = s.start; slot = l.slot; symbol = s.symbol }
+abbrev pub planned_start : PlannedSymbol → UplinkLine → EndpointConfig → SymbolStart
+planned_start s l e = record { ep = l.ep; endpoint = e; start = s.start; slot = l.slot; symbol = s.symbol }
 
 abbrev pub start_with : PlannedSymbol → UplinkLine → Option EndpointConfig → Option SymbolStart
 start_with s l None = None
-start_with s l (Some e) = Some (start_of s l e)
+start_with s l (Some e) = Some (planned_start s l e)
 
 abbrev pub start_by : List EndpointConfig → PlannedSymbol → Option UplinkLine → Option SymbolStart
 start_by es s None = None
 start_by es s (Some l) = start_with s l (slice_get es l.ep)
 
 -- its endpoint and slot are those of the first of its lines
-abbrev pub start_in : List EndpointConfig → List UplinkLine → Option PlannedSymbol → Option SymbolStart
-start_in es ls None = None
-start_in es ls (Some s) = start_by es s (slice_get ls s.first)
+abbrev pub planned_start_in : List EndpointConfig → List UplinkLine → Option PlannedSymbol → Option SymbolStart
+planned_start_in es ls None = None
+planned_start_in es ls (Some s) = start_by es s (slice_get ls s.first)
 
 -- the start of the symbol at an index, if there is one
 abbrev pub symbol_at : List EndpointConfig → UplinkPlan → ℕ → Option SymbolStart
-symbol_at es p k = start_in es p.lines.items (slice_get p.symbols.items k)
+symbol_at es p k = planned_start_in es p.lines.items (slice_get p.symbols.items k)
 
 -- ---- the symbols of one slot
 
@@ -85,7 +85,7 @@ AreOneSection ls symbol =
 -- a symbol that is kept: its start, and its slot's lines
 pub record IsKeptSymbol (es : List EndpointConfig) (planned : List Allocation) (ls : List UplinkLine) (s : PlannedSymbol) : Type 0 where
   pub start : SymbolStart
-  pub is : start_in es ls (Some s) ≡ Some start
+  pub is : planned_start_in es ls (Some s) ≡ Some start
   pub named : IsNamed planned start
   pub order : s.first ≤ s.last
   pub within : s.last ≤ length ls
@@ -93,7 +93,7 @@ pub record IsKeptSymbol (es : List EndpointConfig) (planned : List Allocation) (
   pub one : AreOneSection (lines_in ls s) s.symbol
 
 -- one of the symbols has this start
-pub record IsKept (es : List EndpointConfig) (p : UplinkPlan) (m : SymbolStart) : Type 0 where
+pub record IsSymbolOfPlan (es : List EndpointConfig) (p : UplinkPlan) (m : SymbolStart) : Type 0 where
   pub k : ℕ
   pub is : symbol_at es p k ≡ Some m
 
@@ -104,7 +104,7 @@ pub record IsListed (c : Config) (planned : List Allocation) (p : UplinkPlan) : 
   pub lines : AreLines c.endpoints p.lines.items
   -- its symbols are those that the plan names, each before the next
   pub symbols : (k : ℕ) (s : PlannedSymbol) → slice_get p.symbols.items k ≡ Some s → IsKeptSymbol c.endpoints planned p.lines.items s
-  pub all : (m : SymbolStart) → IsNamed planned m → IsKept c.endpoints p m
+  pub all : (m : SymbolStart) → IsNamed planned m → IsSymbolOfPlan c.endpoints p m
   pub order : (i j : ℕ) (m n : SymbolStart) → i < j → symbol_at c.endpoints p i ≡ Some m → symbol_at c.endpoints p j ≡ Some n → comes_before m n ≡ true
 
 -- of some plan of some configuration

@@ -10,12 +10,12 @@ ghost use Rattle.schedule_laws.specs.unit_model.specs.Standing.{History, at_cloc
 ghost use Rattle.schedule_laws.specs.unit_model.specs.declared.allocations.Allocation.{Allocation as SpecAllocation};
 ghost use Rattle.ru_buffers.specs.unit_cells.specs.Cells.{IsSlotIn, cells_block};
 ghost use Rattle.ru_buffers.specs.ru_reports.specs.Symbols.{CountsTold};
-ghost use Rattle.du_intake.specs.Cursors.{cell_in};
-ghost use Rattle.du_intake.specs.Rows.{claim_of_mark};
-ghost use Rattle.du_intake.specs.Units.{due_of};
+ghost use Rattle.du_intake.specs.Cursors.{uplink_cell_in};
+ghost use Rattle.du_intake.specs.Rows.{claim_of_planned};
+ghost use Rattle.du_intake.specs.Units.{intake_due_of};
 ghost use Rattle.std.specs.Prelude.{◌+◌, ◌<◌, ◌^◌, ◌+ℤ◌, ℤ, List, length};
 
-use crate::marks::{CellMark, mark_at};
+use crate::claims::{PlannedClaim, claim_of_prb};
 use crate::plan::Place;
 use crate::unit::{Intake, moment_of};
 use air_source::{Air, AirCell, AirFault, Side};
@@ -33,12 +33,17 @@ fn is_before(a: Ticks, b: Ticks) -> bool
 }
 
 /// The report of a cell of a symbol, where an element of it is claimed.
-fn planned_cell(cells: &UnitCells, mark: CellMark, m: &SymbolStart, prb: u16) -> Option<AirCell>
+fn planned_cell(
+    cells: &UnitCells,
+    claim: PlannedClaim,
+    m: &SymbolStart,
+    prb: u16,
+) -> Option<AirCell>
     requires slot { IsSlotIn cells.now m.now.ep m.now.slot }
-    requires few { mark.mask < 2 ^ 12 }
-    ensures { option_to_list result ≡ report_of AtDu m.now.endpoint (cell_in m.now prb) m.now.start.0 (claim_of_mark mark) (cells_block cells.now (cell_in m.now prb)) }
+    requires few { claim.mask < 2 ^ 12 }
+    ensures { option_to_list result ≡ report_of AtDu m.now.endpoint (uplink_cell_in m.now prb) m.now.start.0 (claim_of_planned claim) (cells_block cells.now (uplink_cell_in m.now prb)) }
 {
-    if mark.mask == 0 {
+    if claim.mask == 0 {
         return None;
     }
     let block = cells.block(m.ep, m.slot, m.symbol, prb).copied();
@@ -49,9 +54,9 @@ fn planned_cell(cells: &UnitCells, mark: CellMark, m: &SymbolStart, prb: u16) ->
         slot: m.slot,
         symbol: m.symbol,
         prb,
-        section: mark.section,
-        mask: mark.mask,
-        block: samples_under(mark.section, block),
+        section: claim.section,
+        mask: claim.mask,
+        block: samples_under(claim.section, block),
     })
 }
 
@@ -70,25 +75,25 @@ fn tell<A: Air>(counters: &mut Counters, cell: &AirCell, air: &mut A) -> Result<
 }
 
 impl Intake {
-    ghost use Rattle.du_intake.specs.Calls.{StandsFor, next_in};
-    ghost use Rattle.du_intake.specs.Closing.{Closes, ClosesSome, ComesLater, GoesOn, HasMarked, IsMarkedFrom, IsNextDue, StandsForSome, StaysAt, StopsAtDue, ToldAll, at_prb};
+    ghost use Rattle.du_intake.specs.Calls.{IntakeStandsFor, next_in, intake_clock};
+    ghost use Rattle.du_intake.specs.Closing.{Closes, ClosesSome, ComesLater, IntakeGoesOn, HasClaimed, IsClaimedFrom, IsNextDue, IntakeStandsForSome, StaysAt, IntakeStopsAtDue, IntakeToldAll, at_prb};
 
     /// Reports the cell of a symbol at a PRB, where an element of it is claimed. After an error it is the next to be reported.
     fn close_cell<A: Air>(&mut self, m: &SymbolStart, prb: u16, air: &mut A) -> Result<(), AirFault>
         requires unit { ClosesSome (at_prb self.old prb) }
         requires next { next_in self.old ≡ Some m.now }
         requires within { prb < m.now.endpoint.prbs }
-        requires marks { HasMarked self.old }
+        requires claims { HasClaimed self.old }
         ensures told { (c : SpecConfig) (planned : List SpecAllocation) (h : History) (to : ℤ) → Closes c planned (at_prb self.old prb) h
-            → (m.now.start.0 +ℤ self.old.wait.0) ≤ℤ to → OnOk result (GoesOn A.grew c planned h to (at_prb self.new (prb + 1)) air.old air.new) }
+            → (m.now.start.0 +ℤ self.old.wait.0) ≤ℤ to → OnOk result (IntakeGoesOn A.grew c planned h to (at_prb self.new (prb + 1)) air.old air.new) }
         ensures stop { (c : SpecConfig) (planned : List SpecAllocation) (h : History) (to : ℤ) → Closes c planned (at_prb self.old prb) h
-            → (m.now.start.0 +ℤ self.old.wait.0) ≤ℤ to → IfErr result (λ f. StopsAtDue A.grew (A.stopped f) c planned h to self.new air.old air.new) }
+            → (m.now.start.0 +ℤ self.old.wait.0) ≤ℤ to → IfErr result (λ f. IntakeStopsAtDue A.grew (A.stopped f) c planned h to self.new air.old air.new) }
         ensures stays { StaysAt self.old self.new }
         ensures same { A.same air.old air.new }
         ensures cause { HasAirCause (A.faults air.old) (A.faults air.new) result }
     {
-        let mark = mark_at(&self.row, prb);
-        match planned_cell(&self.memory.cells, mark, m, prb) {
+        let claim = claim_of_prb(&self.row, prb);
+        match planned_cell(&self.memory.cells, claim, m, prb) {
             None => Ok(()),
             Some(cell) => {
                 self.place.prb = prb;
@@ -100,14 +105,14 @@ impl Intake {
         }
     }
 
-    /// Marks what the lines claim of the symbol at the place.
-    fn mark(&mut self)
+    /// Fills the row with what the lines claim of the symbol at the place.
+    fn claim(&mut self)
         requires { ClosesSome self.old }
-        ensures marks { HasMarked self.new }
+        ensures claims { HasClaimed self.new }
         ensures room { length self.new.row.items ≡ length self.old.row.items }
-        ensures stays { IsMarkedFrom self.old self.new }
+        ensures stays { IsClaimedFrom self.old self.new }
     {
-        self.plan.mark(self.place.symbol, &mut self.row);
+        self.plan.claim(self.place.symbol, &mut self.row);
     }
 
     /// Reports the cells of the symbol at the place, from its PRB on, and goes on to the next symbol.
@@ -115,9 +120,9 @@ impl Intake {
         requires unit { ClosesSome self.old }
         requires next { next_in self.old ≡ Some m.now }
         ensures told { (c : SpecConfig) (planned : List SpecAllocation) (h : History) (to : ℤ) → Closes c planned self.old h → (m.now.start.0 +ℤ self.old.wait.0) ≤ℤ to
-            → OnOk result (GoesOn A.grew c planned h to self.new air.old air.new) }
+            → OnOk result (IntakeGoesOn A.grew c planned h to self.new air.old air.new) }
         ensures stop { (c : SpecConfig) (planned : List SpecAllocation) (h : History) (to : ℤ) → Closes c planned self.old h → (m.now.start.0 +ℤ self.old.wait.0) ≤ℤ to
-            → IfErr result (λ f. StopsAtDue A.grew (A.stopped f) c planned h to self.new air.old air.new) }
+            → IfErr result (λ f. IntakeStopsAtDue A.grew (A.stopped f) c planned h to self.new air.old air.new) }
         ensures plan { self.new.plan ≡ self.old.plan }
         ensures place { OnOk result (self.new.place.symbol ≡ self.old.place.symbol + 1) }
         ensures clock { self.new.clock ≡ self.old.clock }
@@ -125,7 +130,7 @@ impl Intake {
         ensures same { A.same air.old air.new }
         ensures cause { HasAirCause (A.faults air.old) (A.faults air.new) result }
     {
-        self.mark();
+        self.claim();
         for prb in self.place.prb..m.endpoint.prbs {
             match self.close_cell(m, prb, air) {
                 Ok(()) => {}
@@ -160,11 +165,11 @@ impl Intake {
 
     /// Reports all cells whose moments come by a time.
     fn close_due<A: Air>(&mut self, to: Ticks, air: &mut A) -> Result<(), AirFault>
-        requires { StandsForSome self.old }
-        ensures told { (c : SpecConfig) (planned : List SpecAllocation) (h : History) → StandsFor c planned self.old h
-            → OnOk result (ToldAll A.grew c planned h to.0 self.new air.old air.new) }
-        ensures stop { (c : SpecConfig) (planned : List SpecAllocation) (h : History) → StandsFor c planned self.old h
-            → IfErr result (λ f. StopsAtDue A.grew (A.stopped f) c planned h to.0 self.new air.old air.new) }
+        requires { IntakeStandsForSome self.old }
+        ensures told { (c : SpecConfig) (planned : List SpecAllocation) (h : History) → IntakeStandsFor c planned self.old h
+            → OnOk result (IntakeToldAll A.grew c planned h to.0 self.new air.old air.new) }
+        ensures stop { (c : SpecConfig) (planned : List SpecAllocation) (h : History) → IntakeStandsFor c planned self.old h
+            → IfErr result (λ f. IntakeStopsAtDue A.grew (A.stopped f) c planned h to.0 self.new air.old air.new) }
         ensures clock { self.new.clock ≡ self.old.clock }
         ensures same { A.same air.old air.new }
         ensures cause { HasAirCause (A.faults air.old) (A.faults air.new) result }
@@ -189,17 +194,17 @@ impl Intake {
     ///
     /// The air's: the fault with which it stopped.
     pub fn close_until<A: Air>(&mut self, to: Ticks, air: &mut A) -> Result<(), AirFault>
-        requires unit { StandsForSome self.old }
-        requires order { self.old.clock.0 ≤ℤ to.0 }
+        requires unit { IntakeStandsForSome self.old }
+        requires order { (intake_clock self.old).0 ≤ℤ to.0 }
         requires time { IsTime to.0 }
-        ensures heard { (c : SpecConfig) (planned : List SpecAllocation) (h : History) → StandsFor c planned self.old h
-            → OnOk result (A.grew air.old (map Reported (due_of c planned h to.0)) air.new) }
-        ensures stands { (c : SpecConfig) (planned : List SpecAllocation) (h : History) → StandsFor c planned self.old h
-            → OnOk result (StandsFor c planned self.new (at_clock (heard h (due_of c planned h to.0)) to.0)) }
-        ensures clock { OnOk result (self.new.clock ≡ to) }
-        ensures stop { (c : SpecConfig) (planned : List SpecAllocation) (h : History) → StandsFor c planned self.old h
-            → IfErr result (λ f. StopsAtDue A.grew (A.stopped f) c planned h to.0 self.new air.old air.new) }
-        ensures stays { OnErr result (self.new.clock ≡ self.old.clock) }
+        ensures heard { (c : SpecConfig) (planned : List SpecAllocation) (h : History) → IntakeStandsFor c planned self.old h
+            → OnOk result (A.grew air.old (map Reported (intake_due_of c planned h to.0)) air.new) }
+        ensures stands { (c : SpecConfig) (planned : List SpecAllocation) (h : History) → IntakeStandsFor c planned self.old h
+            → OnOk result (IntakeStandsFor c planned self.new (at_clock (heard h (intake_due_of c planned h to.0)) to.0)) }
+        ensures clock { OnOk result (intake_clock self.new ≡ to) }
+        ensures stop { (c : SpecConfig) (planned : List SpecAllocation) (h : History) → IntakeStandsFor c planned self.old h
+            → IfErr result (λ f. IntakeStopsAtDue A.grew (A.stopped f) c planned h to.0 self.new air.old air.new) }
+        ensures stays { OnErr result (intake_clock self.new ≡ intake_clock self.old) }
         ensures same { A.same air.old air.new }
         ensures cause { HasAirCause (A.faults air.old) (A.faults air.new) result }
     {

@@ -5,9 +5,9 @@
 //! histories it stands (`specs/Calls.antt`), by the definitions of `unit_model` over all that ever came.
 #![tactic(auto)]
 
+mod claims;
 mod closing;
 mod lines;
-mod marks;
 mod plan;
 mod symbols;
 mod unit;

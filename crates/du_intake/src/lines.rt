@@ -1,9 +1,10 @@
 // The uplink lines of a plan, as the unit keeps them.
 ghost use Rattle.std.specs.Prelude.{◌≡◌, ℕ, IfOk, OnOk, map};
 ghost use Rattle.fh_time.specs.declared.values.Slot.{Slot as SpecSlot};
-ghost use Rattle.schedule_laws.specs.plan_model.specs.Lines.{allocation_of};
-ghost use Rattle.du_intake.specs.Lines.{AreInOrder, line_of, lines_at, same_home};
-ghost use Rattle.du_intake.specs.Planned.{is_uplink, uplink_of};
+ghost use Rattle.schedule_laws.specs.plan_model.specs.Lines.{line_allocation};
+ghost use Rattle.du_intake.specs.Lines.{AreLinesInOrder, line_of, lines_at, same_home};
+ghost use Rattle.schedule_laws.specs.plan_model.specs.Lines.{uplink_allocations};
+ghost use Rattle.schedule_laws.specs.plan_model.specs.Lines.{is_up_line};
 
 use fh_base::NoMemory;
 use fh_time::Slot;
@@ -58,7 +59,7 @@ fn home_key(line: &UplinkLine) -> HomeKey
 
 /// Whether a line is for the uplink.
 fn is_uplink(p: &PlannedLine) -> bool
-    ensures { result ≡ is_uplink p.now }
+    ensures { result ≡ is_up_line p.now }
 {
     match p.line.kind {
         PlanKind::Up => true,
@@ -68,7 +69,7 @@ fn is_uplink(p: &PlannedLine) -> bool
 
 /// What is kept of a line: a line of no PRBs names all of its carrier.
 fn line_of(p: &PlannedLine) -> UplinkLine
-    ensures { result ≡ line_of (allocation_of p.now) }
+    ensures { result ≡ line_of (line_allocation p.now) }
 {
     let line = &p.line;
     let all = line.num_prb == 0;
@@ -93,7 +94,7 @@ pub(crate) fn uplink_lines(
     alloc: Global,
     planned: &[PlannedLine],
 ) -> Result<Vec<UplinkLine>, NoMemory>
-    ensures { IfOk result (λ v. v.items ≡ map line_of (uplink_of planned.now)) }
+    ensures { IfOk result (λ v. v.items ≡ map line_of (uplink_allocations planned.now)) }
 {
     let mut lines = Vec::new(alloc);
     for p in planned {
@@ -106,7 +107,7 @@ pub(crate) fn uplink_lines(
 
 /// Sorts lines by endpoint and slot; those of one slot stay in their order.
 pub(crate) fn sort_by_home(lines: &mut Vec<UplinkLine>) -> Result<(), NoMemory>
-    ensures order { OnOk result (AreInOrder lines.new.items) }
+    ensures order { OnOk result (AreLinesInOrder lines.new.items) }
     ensures homes { (ep : ℕ) (slot : SpecSlot) → lines_at ep slot lines.new.items ≡ lines_at ep slot lines.old.items }
 {
     lines.sort_by_key(home_key)?;

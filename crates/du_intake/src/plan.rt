@@ -1,10 +1,10 @@
 // The uplink of a plan: its lines slot by slot, and its symbols in the order in which they are told.
 ghost use Rattle.std.specs.Prelude.{◌≡◌, ◌-◌, ◌≤◌, IfOk, Some, drop, length, slice_get, take};
 ghost use Rattle.window_config.specs.Configs.{IsConfig};
-ghost use Rattle.du_intake.specs.Planned.{IsPlanOf, uplink_of};
+ghost use Rattle.du_intake.specs.Planned.{IsPlanOf};
 
+use crate::claims::{PlannedClaim, claim_symbol};
 use crate::lines::{UplinkLine, sort_by_home, uplink_lines};
-use crate::marks::{CellMark, mark_symbol};
 use crate::symbols::{PlannedSymbol, planned_symbols};
 use fh_base::NoMemory;
 use schedule_laws::plan_model::PlannedLine;
@@ -34,6 +34,7 @@ impl UplinkPlan {
     ghost use Rattle.du_intake.specs.Rows.{IsRowOf};
     ghost use Rattle.du_intake.specs.Symbols.{IsListed, IsListedSome, lines_in, symbol_at};
     ghost use Rattle.du_intake.specs.declared.symbols.PlannedSymbol.{PlannedSymbol as SpecSymbol};
+    ghost use Rattle.schedule_laws.specs.plan_model.specs.Lines.{uplink_allocations};
 
     /// Keeps what the uplink lines of a plan name.
     pub(crate) fn make(
@@ -43,7 +44,7 @@ impl UplinkPlan {
     ) -> Result<UplinkPlan, NoMemory>
         requires config { IsConfig config.now }
         requires plan { IsPlanOf config.now planned.now }
-        ensures { IfOk result (λ p. IsListed config.now (uplink_of planned.now) p) }
+        ensures { IfOk result (λ p. IsListed config.now (uplink_allocations planned.now) p) }
     {
         let mut lines = uplink_lines(alloc, planned)?;
         sort_by_home(&mut lines)?;
@@ -68,18 +69,18 @@ impl UplinkPlan {
         &self.lines[first..last]
     }
 
-    /// Marks what the lines claim of the symbol at an index, if there is one.
-    pub(crate) fn mark(&self, index: usize, row: &mut [CellMark])
+    /// Fills the row with what the lines claim of the symbol at an index, if there is one.
+    pub(crate) fn claim(&self, index: usize, row: &mut [PlannedClaim])
         requires plan { IsListedSome self.now }
         requires room { 273 ≤ length row.old }
         ensures len { length row.new ≡ length row.old }
-        ensures marks { (s : SpecSymbol) → slice_get self.now.symbols.items index ≡ Some s → IsRowOf (lines_in self.now.lines.items s) s.symbol row.new }
+        ensures claims { (s : SpecSymbol) → slice_get self.now.symbols.items index ≡ Some s → IsRowOf (lines_in self.now.lines.items s) s.symbol row.new }
     {
         match self.planned_symbol(index) {
             None => {}
             Some(symbol) => {
                 let lines = self.lines_from(symbol.first, symbol.last);
-                mark_symbol(row, lines, symbol.symbol);
+                claim_symbol(row, lines, symbol.symbol);
             }
         }
     }

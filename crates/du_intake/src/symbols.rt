@@ -3,12 +3,12 @@ ghost use Rattle.std.specs.Prelude.{◌≡◌, ◌+◌, ◌^◌, ◌<◌, ◌≤
 ghost use Rattle.std.specs.List.{list_any};
 ghost use Rattle.fh_time.specs.Numbering.{symbols_of};
 ghost use Rattle.schedule_laws.specs.unit_model.specs.Proper.{IsSlot};
-ghost use Rattle.du_intake.specs.Lines.{AreInOrder, has_symbol};
+ghost use Rattle.du_intake.specs.Lines.{AreLinesInOrder, has_symbol};
 ghost use Rattle.du_intake.specs.Symbols.{AreLines, symbol_if, symbols_in};
 ghost use Rattle.du_intake.specs.Listing.{AreAscending, AreInTurn, AreSymbols, IsSlotEnd, IsStableByStart};
 
+use crate::claims::has_symbol;
 use crate::lines::{UplinkLine, same_home};
-use crate::marks::has_symbol;
 use fh_base::NoMemory;
 use fh_time::{Slot, Ticks, air, shape};
 use std::alloc::Global;
@@ -97,7 +97,7 @@ fn listed(
 ) -> Result<Vec<PlannedSymbol>, NoMemory>
     requires few { length endpoints.now ≤ 16 }
     requires lines { AreLines endpoints.now lines.now }
-    requires order { AreInOrder lines.now }
+    requires order { AreLinesInOrder lines.now }
     ensures { IfOk result (λ v. AreSymbols endpoints.now lines.now (length lines.now) v.items) }
 {
     let mut symbols = Vec::new(alloc);
@@ -134,7 +134,7 @@ pub(crate) fn planned_symbols(
 ) -> Result<Vec<PlannedSymbol>, NoMemory>
     requires few { length endpoints.now ≤ 16 }
     requires lines { AreLines endpoints.now lines.now }
-    requires order { AreInOrder lines.now }
+    requires order { AreLinesInOrder lines.now }
     ensures { IfOk result (λ v. AreInTurn endpoints.now lines.now v.items) }
 {
     let mut symbols = listed(alloc, endpoints, lines)?;

@@ -11,9 +11,9 @@ ghost use Rattle.schedule_laws.specs.unit_model.specs.Radiated.{wait_of};
 ghost use Rattle.schedule_laws.specs.unit_model.specs.Reports.{arrivals_counted};
 ghost use Rattle.schedule_laws.specs.unit_model.specs.Standing.{History, arrived, at_clock, nothing_yet};
 ghost use Rattle.schedule_laws.specs.unit_model.specs.declared.allocations.Allocation.{Allocation as SpecAllocation};
-ghost use Rattle.du_intake.specs.Planned.{IsPlanOf, uplink_of};
+ghost use Rattle.du_intake.specs.Planned.{IsPlanOf};
 
-use crate::marks::{CellMark, NO_MARK};
+use crate::claims::{NO_CLAIM, PlannedClaim};
 use crate::plan::{Place, UplinkPlan};
 use air_source::Side;
 use fault_counters::Counters;
@@ -44,11 +44,11 @@ pub(crate) fn moment_of(start: Ticks, wait: Ticks) -> Ticks
 /// The most PRBs of a carrier.
 const MOST_PRBS: usize = 273;
 
-/// A row of marks for the PRBs of any carrier.
-fn empty_row(alloc: Global) -> Result<Vec<CellMark>, NoMemory>
+/// A row of claims for the PRBs of any carrier.
+fn empty_row(alloc: Global) -> Result<Vec<PlannedClaim>, NoMemory>
     ensures { IfOk result (λ row. length row.items ≡ 273) }
 {
-    Ok(vec![in alloc; NO_MARK; MOST_PRBS]?)
+    Ok(vec![in alloc; NO_CLAIM; MOST_PRBS]?)
 }
 
 /// The distributed unit's intake, in memory that is taken when it is made.
@@ -62,7 +62,7 @@ pub struct Intake {
     /// What the plan's uplink lines name.
     pub(crate) plan: UplinkPlan,
     /// What they claim of the symbol that is reported, PRB by PRB.
-    pub(crate) row: Vec<CellMark>,
+    pub(crate) row: Vec<PlannedClaim>,
     /// Which planned cell is reported next.
     pub(crate) place: Place,
     /// How long after the start of its symbol a cell is reported: Ta4's maximum.
@@ -70,7 +70,8 @@ pub struct Intake {
 }
 
 impl Intake {
-    ghost use Rattle.du_intake.specs.Calls.{IsDue, IsReportedBefore, MayTakeAt, StandsFor};
+    ghost use Rattle.du_intake.specs.Calls.{IsIntakeDue, IsReportedBefore, MayTakeAt, IntakeStandsFor, intake_clock};
+    ghost use Rattle.schedule_laws.specs.plan_model.specs.Lines.{uplink_allocations};
 
     /// Takes all memory of the unit, for the lines of a plan at their endpoints. Its clock stands one frame before 0.
     ///
@@ -80,7 +81,7 @@ impl Intake {
     pub fn make(alloc: Global, config: &Config, lines: &[PlannedLine]) -> Result<Intake, NoMemory>
         requires config { IsConfig config.now }
         requires plan { IsPlanOf config.now lines.now }
-        ensures { IfOk result (λ u. StandsFor config.now (uplink_of lines.now) u nothing_yet) }
+        ensures { IfOk result (λ u. IntakeStandsFor config.now (uplink_allocations lines.now) u nothing_yet) }
     {
         let plan = UplinkPlan::make(alloc, config, lines)?;
         let row = empty_row(alloc)?;
@@ -97,14 +98,14 @@ impl Intake {
 
     /// The time of the last delivery or close, in ticks; one frame before 0 where there was none.
     pub fn clock(&self) -> Ticks
-        ensures { (c : SpecConfig) (planned : List SpecAllocation) (h : History) → StandsFor c planned self.now h → result.0 ≡ h.clock }
+        ensures { (c : SpecConfig) (planned : List SpecAllocation) (h : History) → IntakeStandsFor c planned self.now h → result.0 ≡ h.clock }
     {
         self.clock
     }
 
     /// What the unit counted.
     pub fn counters(&self) -> &Counters
-        ensures { (c : SpecConfig) (planned : List SpecAllocation) (h : History) → StandsFor c planned self.now h
+        ensures { (c : SpecConfig) (planned : List SpecAllocation) (h : History) → IntakeStandsFor c planned self.now h
             → StandAt result.now (arrivals_counted AtDu c h.arrivals ++ cells_counted h.reported) }
     {
         &self.memory.counters
@@ -113,7 +114,7 @@ impl Intake {
     /// The least moment, in ticks, of a planned cell that was not reported: the start of its symbol and Ta4's maximum. None where there is
     /// none.
     pub fn due(&self) -> Option<Ticks>
-        ensures { (c : SpecConfig) (planned : List SpecAllocation) (h : History) → StandsFor c planned self.now h → IsDue c planned h result }
+        ensures { (c : SpecConfig) (planned : List SpecAllocation) (h : History) → IntakeStandsFor c planned self.now h → IsIntakeDue c planned h result }
     {
         match self.plan.planned_symbol(self.place.symbol) {
             Some(next) => Some(moment_of(next.start, self.wait)),
@@ -126,11 +127,11 @@ impl Intake {
     /// this time. No memory is asked for.
     pub fn deliver(&mut self, at: Ticks, frame: &[u8]) -> Delivered
         requires unit { MayTakeAt at.0 self.old }
-        requires order { self.old.clock.0 ≤ℤ at.0 }
+        requires order { (intake_clock self.old).0 ≤ℤ at.0 }
         requires time { IsTime at.0 }
-        ensures stands { (c : SpecConfig) (planned : List SpecAllocation) (h : History) → StandsFor c planned self.old h → IsReportedBefore c planned h at.0
-            → StandsFor c planned self.new (arrived (at_clock h at.0) frame.now) }
-        ensures clock { self.new.clock ≡ at }
+        ensures stands { (c : SpecConfig) (planned : List SpecAllocation) (h : History) → IntakeStandsFor c planned self.old h → IsReportedBefore c planned h at.0
+            → IntakeStandsFor c planned self.new (arrived (at_clock h at.0) frame.now) }
+        ensures clock { intake_clock self.new ≡ at }
         ensures messages { result.messages ≡ min (length (whole_messages frame.now)) (2 ^ 32 - 1) }
         ensures refusal { result.refusal ≡ (pdu frame.now).refusal }
     {

@@ -35,26 +35,29 @@ use Rattle.sent_frames.specs.Commands.{command_head, command_section}
 use Rattle.sent_frames.specs.frame_bytes.specs.Commands.{command_frame}
 use Rattle.window_config.specs.Endpoints.{IsEndpoint}
 use Rattle.frame_order.specs.declared.turns.Turn.{Turn}
-use Rattle.plan_table.specs.sent_order.specs.Runs.{place_of}
+use Rattle.plan_table.specs.sent_order.specs.Runs.{stream_place}
 use Rattle.du_scheduler.specs.Frames.{IsFrameOf}
 use Rattle.du_scheduler.proofs.PartLemmas.{first_within, is_read, no_place}
-use Rattle.sent_frames.specs.Messages.{Source, carrier_of, data_head, data_section, message_bytes, message_samples}
+use Rattle.sent_frames.specs.Messages.{Source, data_head, data_section, message_bytes, message_samples}
 use Rattle.sent_frames.specs.Sources.{AreAnswersIn, data_frame, id_at, source_of}
 use Rattle.sent_frames.proofs.MessageFacts.{IsGoodMessage, IsGoodPart, good_message, good_part, message_fits, message_short, message_size_is}
 use Rattle.plan_table.specs.Kept.{placed_line}
 use Rattle.plan_table.specs.declared.kept.PlacedLine.{PlacedLine}
-use Rattle.du_scheduler.specs.Written.{IsData, StandIn, StandsAt, sections_of}
+use Rattle.du_scheduler.specs.Written.{IsData, StandIn, StandsAt, message_sections}
 use Rattle.du_scheduler.proofs.FewLemmas.{all_few}
 use Rattle.du_scheduler.proofs.PlaceLemmas.{line_place}
+use Rattle.window_config.specs.declared.config.TheConstants.{MESSAGE_SECTIONS}
+use Rattle.fh_time.specs.declared.symbols.TheConstants.{SLOT_SYMBOLS}
+use Rattle.sent_frames.specs.frame_bytes.specs.Headers.{carrier_of}
 
 stand_in : (ps : List PlannedLine) (xs : List Part) → ((x : Part) → IsIn x xs → slice_get ps x.planned.index ≡ Some x.planned) → StandIn ps xs
 stand_in ps [] h = tt
 stand_in ps (x ∷ xs) h = (h x (inl refl), stand_in ps xs (λ y i. h y (inr i)))
 
-few_parts : (n k : ℕ) → n ≤ k → k ≤ 64 → n ≤ 64
+few_parts : (n k : ℕ) → n ≤ k → k ≤ MESSAGE_SECTIONS → n ≤ MESSAGE_SECTIONS
 few_parts n k h l = omega (arith, h, l)
 
-below_all : (a b : ℕ) → a < b → b ≤ 14 → a < 14
+below_all : (a b : ℕ) → a < b → b ≤ SLOT_SYMBOLS → a < SLOT_SYMBOLS
 below_all a b h l = omega (arith, h, l)
 
 module _ (c : Config) (lines : List PlanLine) (config : IsConfig c) (fit : All IsPlanLine lines) (valid : IsValid c lines) where
@@ -89,7 +92,7 @@ module _ (c : Config) (lines : List PlanLine) (config : IsConfig c) (fit : All I
         few = few_parts (length (parts_of n.message)) c.pack (all_few part_fields c.pack (parts_in ps DownData ep e) n.message config.pack_low (is_of ep e n m)) config.pack_high;
         symbol = below_all n.message.first.symbol (symbols_of e.numerology) one.symbol (symbols_few e.numerology).1;
         prbs = one.line.endpoint.most;
-        fits = subst (λ (d : EndpointConfig). MessageFits (carrier_of d) (data_head n.message.first) (sections_of n.message)) (sym one.endpoint_is) (message_fits c ep e n.message g short);
+        fits = subst (λ (d : EndpointConfig). MessageFits (carrier_of d) (data_head n.message.first) (message_sections n.message)) (sym one.endpoint_is) (message_fits c ep e n.message g short);
       }
 
   -- the samples of each of its sections are the answers in its symbol
@@ -107,16 +110,16 @@ module _ (c : Config) (lines : List PlanLine) (config : IsConfig c) (fit : All I
       ∙ ap (λ (s : Slot). block_of answer first.endpoint.id s x.symbol prb) (sym (g.slot x i))
       ∙ ap (λ y. block_of answer first.endpoint.id first.line.slot y prb) (sym (g.symbol x i))
 
-  size_here : (ep : ℕ) (e : EndpointConfig) (m : Message Part) → IsGoodMessage c ep e m → message_size (carrier_of m.first.planned.endpoint) (sections_of m) ≡ size_of part_fields m
-  size_here ep e m g = ap (λ (d : EndpointConfig). message_size (carrier_of d) (sections_of m)) (g.each m.first (inl refl)).endpoint_is ∙ message_size_is c ep e m g
+  size_here : (ep : ℕ) (e : EndpointConfig) (m : Message Part) → IsGoodMessage c ep e m → message_size (carrier_of m.first.planned.endpoint) (message_sections m) ≡ size_of part_fields m
+  size_here ep e m g = ap (λ (d : EndpointConfig). message_size (carrier_of d) (message_sections m)) (g.each m.first (inl refl)).endpoint_is ∙ message_size_is c ep e m g
 
   -- what is written is the definition's fragment
   fragment_is : (source : Source) (f : SentFrame) → IsGoodMessage c f.ep f.endpoint f.message → f.stream ≡ DownData
-      → data_frame f.message.first.planned f.message.first.symbol (sections_of f.message) (record { seq = f.number % 256; sub = f.sub; size = c.fragment }) (message_samples source f.message) ≡ fragment_bytes c source f
+      → data_frame f.message.first.planned f.message.first.symbol (message_sections f.message) (record { seq = f.number % 256; sub = f.sub; size = c.fragment }) (message_samples source f.message) ≡ fragment_bytes c source f
   fragment_is source f g is_data =
       let m = f.message in
       let message = message_bytes source m in
-      let frames : frames_for c.fragment (message_size (carrier_of m.first.planned.endpoint) (sections_of m)) ≡ frames_in c f.stream m =
+      let frames : frames_for c.fragment (message_size (carrier_of m.first.planned.endpoint) (message_sections m)) ≡ frames_in c f.stream m =
       ap (frames_for c.fragment) (size_here f.ep f.endpoint m g) ∙ ap (λ (s : Stream). frames_in c s m) (sym is_data) in
       ap₂ (λ (id : ℕ) (n : ℕ). piece_frame id (record { seq = f.number % 256; last = f.sub + 1 == n; sub = f.sub }) (f.sub * c.fragment) (min (f.sub * c.fragment + c.fragment) (length message)) message)
       (ap (λ (d : EndpointConfig). d.id) (g.each m.first (inl refl)).endpoint_is) frames
@@ -132,7 +135,7 @@ module _ (c : Config) (lines : List PlanLine) (config : IsConfig c) (fit : All I
   pub record IsDataFrame (f : SentFrame) (parts : List PlacedLine) : Type 0 where
     pub good : IsGoodMessage c f.ep f.endpoint f.message
     pub writable : IsData ps parts f.message
-    pub few : f.sub < frames_for c.fragment (message_size (carrier_of f.message.first.planned.endpoint) (sections_of f.message))
+    pub few : f.sub < frames_for c.fragment (message_size (carrier_of f.message.first.planned.endpoint) (message_sections f.message))
     pub stream : f.stream ≡ DownData
 
   pub frame_data : (f : SentFrame) (parts : List PlacedLine) → IsIn f (sent c ps) → parts ≡ map placed_line (parts_of f.message) → f.stream ≡ DownData → IsDataFrame f parts
@@ -154,13 +157,13 @@ module _ (c : Config) (lines : List PlanLine) (config : IsConfig c) (fit : All I
 
 -- ---- as it is written
 
-low_bytes : (s : Stream) (c : Config) (source : Source) (f : SentFrame) → f.stream ≡ s → place_of s < 2 → command_bytes f ≡ sent_bytes c source f
+low_bytes : (s : Stream) (c : Config) (source : Source) (f : SentFrame) → f.stream ≡ s → stream_place s < 2 → command_bytes f ≡ sent_bytes c source f
 low_bytes DownCommands c source f e h = sym (ap (λ (s : Stream). bytes_in s c source f) e)
 low_bytes UpCommands c source f e h = sym (ap (λ (s : Stream). bytes_in s c source f) e)
 low_bytes DownData c source f e h = absurd (omega (arith, h))
 low_bytes UpData c source f e h = absurd (omega (arith, h))
 
-data_stream : (s : Stream) → IsSentStream s → 2 ≤ place_of s → s ≡ DownData
+data_stream : (s : Stream) → IsSentStream s → 2 ≤ stream_place s → s ≡ DownData
 data_stream DownCommands t h = absurd (omega (arith, h))
 data_stream UpCommands t h = absurd (omega (arith, h))
 data_stream DownData t h = refl
@@ -199,14 +202,14 @@ module _ (c : Config) (plan : List PlanLine) (f : SentFrame) (lines : List Plann
   pub data_here : 2 ≤ turn.stream → IsData lines parts f.message
   data_here high = subst (λ (ls : List PlannedLine). IsData ls parts f.message) (sym h.lines_are) (is_data high).writable
 
-  pub few_here : 2 ≤ turn.stream → turn.sub < frames_for fragment (message_size (carrier_of f.message.first.planned.endpoint) (sections_of f.message))
+  pub few_here : 2 ≤ turn.stream → turn.sub < frames_for fragment (message_size (carrier_of f.message.first.planned.endpoint) (message_sections f.message))
   few_here high =
-      subst (λ k. turn.sub < frames_for k (message_size (carrier_of f.message.first.planned.endpoint) (sections_of f.message))) (sym h.fragment_is)
-      (subst (λ k. k < frames_for c.fragment (message_size (carrier_of f.message.first.planned.endpoint) (sections_of f.message))) (sym (ap (λ (t : Turn). t.sub) h.turn_is)) (is_data high).few)
+      subst (λ k. turn.sub < frames_for k (message_size (carrier_of f.message.first.planned.endpoint) (message_sections f.message))) (sym h.fragment_is)
+      (subst (λ k. k < frames_for c.fragment (message_size (carrier_of f.message.first.planned.endpoint) (message_sections f.message))) (sym (ap (λ (t : Turn). t.sub) h.turn_is)) (is_data high).few)
 
   pub data_is : (answer : RePlace → Wide) (frame : List ℕ) → 2 ≤ turn.stream
       → (AreAnswersIn f.message.first.planned f.message.first.symbol (length (parts_of f.message)) answer (message_samples (source_of c.endpoints answer) f.message)
-      → frame ≡ data_frame f.message.first.planned f.message.first.symbol (sections_of f.message) (record { seq = turn.number % 256; sub = turn.sub; size = fragment }) (message_samples (source_of c.endpoints answer) f.message))
+      → frame ≡ data_frame f.message.first.planned f.message.first.symbol (message_sections f.message) (record { seq = turn.number % 256; sub = turn.sub; size = fragment }) (message_samples (source_of c.endpoints answer) f.message))
       → frame ≡ sent_bytes c (source_of c.endpoints answer) f
   data_is answer frame high written =
       let d = is_data high in
@@ -214,7 +217,7 @@ module _ (c : Config) (plan : List PlanLine) (f : SentFrame) (lines : List Plann
       let source = source_of c.endpoints answer in
       let blocks = message_samples source m in
       written (samples_in c plan h.config h.fit h.valid answer f.ep f.endpoint m d.good)
-      ∙ ap (λ (t : Turn). data_frame m.first.planned m.first.symbol (sections_of m) (record { seq = t.number % 256; sub = t.sub; size = fragment }) blocks) h.turn_is
-      ∙ ap (λ k. data_frame m.first.planned m.first.symbol (sections_of m) (record { seq = f.number % 256; sub = f.sub; size = k }) blocks) h.fragment_is
+      ∙ ap (λ (t : Turn). data_frame m.first.planned m.first.symbol (message_sections m) (record { seq = t.number % 256; sub = t.sub; size = fragment }) blocks) h.turn_is
+      ∙ ap (λ k. data_frame m.first.planned m.first.symbol (message_sections m) (record { seq = f.number % 256; sub = f.sub; size = k }) blocks) h.fragment_is
       ∙ fragment_is c plan h.config h.fit h.valid source f d.good d.stream
       ∙ sym (ap (λ (s : Stream). bytes_in s c source f) d.stream)

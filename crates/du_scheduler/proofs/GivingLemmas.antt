@@ -15,7 +15,7 @@ use Rattle.plan_tests.specs.plan_model.proofs.ListLemmas.{in_right}
 use Rattle.frame_order.specs.Queues.{Gives, IsQueue, StandsFor}
 use Rattle.frame_order.specs.declared.queue.Queue.{Queue}
 use Rattle.frame_order.specs.declared.turns.Turn.{Turn}
-use Rattle.plan_table.specs.sent_order.specs.Runs.{place_of, turn_of}
+use Rattle.plan_table.specs.sent_order.specs.Runs.{stream_place, turn_of}
 use Rattle.plan_table.specs.Kept.{placed_line}
 use Rattle.plan_table.specs.Tables.{IsTable, IsTurnOf}
 use Rattle.plan_table.specs.declared.kept.PlacedLine.{PlacedLine}
@@ -111,13 +111,13 @@ pub taken_over : (n : ℕ) (room new frame : List ℕ) → room ≡ new → take
 taken_over n room new frame is h = ap (λ (xs : List ℕ). take n xs) is ∙ h
 
 -- the plane by the place of the stream
-pub low_plane : (s : Stream) (k : ℕ) → k ≡ place_of s → k < 2 → C ≡ plane_of s
+pub low_plane : (s : Stream) (k : ℕ) → k ≡ stream_place s → k < 2 → C ≡ plane_of s
 low_plane DownCommands k e h = refl
 low_plane UpCommands k e h = refl
 low_plane DownData k e h = absurd (omega (arith, e, h))
 low_plane UpData k e h = absurd (omega (arith, e, h))
 
-pub high_plane : (s : Stream) (k : ℕ) → k ≡ place_of s → 2 ≤ k → U ≡ plane_of s
+pub high_plane : (s : Stream) (k : ℕ) → k ≡ stream_place s → 2 ≤ k → U ≡ plane_of s
 high_plane DownCommands k e h = absurd (omega (arith, e, h))
 high_plane UpCommands k e h = absurd (omega (arith, e, h))
 high_plane DownData k e h = refl

@@ -1,11 +1,10 @@
 -- The parts of a message at their places.
 use Rattle.std.proofs.Common.{ap₂, set, ◌≡◌, ℕ, zero, suc, ◌+◌, ◌<◌, List, [], ◌∷◌, ◌++◌, length, take, map, get_or, Some, refl, ap, sym, ◌∙◌, arith, subst}
 use Rattle.std.specs.List.{slice_get}
-use Rattle.std.proofs.lemmas.List.{take_more_set, take_all}
-use Rattle.std.proofs.lemmas.Option.{get_or_from_slice_get, slice_get-get_or, slice_get_within}
-use Rattle.std.proofs.Math.Seq.{take-suc}
+use Rattle.std.proofs.lemmas.List.{length-map, map_push, take_all, take_more, take_more_set}
+use Rattle.std.proofs.lemmas.Option.{get_or_from_slice_get, same_Some, slice_get-get_or, slice_get_within}
 use Rattle.sent_frames.specs.frame_bytes.specs.declared.messages.DataSection.{DataSection}
-use Rattle.sent_frames.specs.Messages.{carrier_of, data_head, data_section}
+use Rattle.sent_frames.specs.Messages.{data_head, data_section}
 use Rattle.sent_frames.specs.Sources.{AreAnswersIn, data_frame}
 use Rattle.sent_frames.specs.declared.data.Fragment.{Fragment}
 use Rattle.plan_tests.specs.air_source.specs.declared.places.RePlace.{RePlace}
@@ -17,7 +16,8 @@ use Rattle.sent_frames.specs.frame_bytes.specs.Messages.{MessageFits, message_si
 use Rattle.plan_tests.specs.plan_model.specs.declared.lines.PlannedLine.{PlannedLine}
 use Rattle.plan_table.specs.Kept.{placed_line}
 use Rattle.plan_table.specs.declared.kept.PlacedLine.{PlacedLine}
-use Rattle.du_scheduler.specs.Written.{StandIn, StandsAt, sections_of}
+use Rattle.du_scheduler.specs.Written.{StandIn, StandsAt, message_sections}
+use Rattle.sent_frames.specs.frame_bytes.specs.Headers.{carrier_of}
 
 -- part k and its line
 pub record IsPartAt (lines : List PlannedLine) (part : PlacedLine) (xs : List Part) (k : ℕ) : Type 0 where
@@ -26,15 +26,12 @@ pub record IsPartAt (lines : List PlannedLine) (part : PlacedLine) (xs : List Pa
   pub is : part ≡ placed_line x
   pub line : slice_get lines part.line ≡ Some x.planned
 
-some_same : (a b : PlacedLine) → Some a ≡ Some b → b ≡ a
-some_same a b h = cc
-
 placed_here : (lines : List PlannedLine) (x : Part) (xs : List Part) (part : PlacedLine) → part ≡ placed_line x → slice_get lines x.planned.index ≡ Some x.planned → IsPartAt lines part (x ∷ xs) 0
 placed_here lines x xs part is line = record { x = x; at = refl; is = is; line = ap (λ (q : PlacedLine). slice_get lines q.line) is ∙ line }
 
 part_in_places : (lines : List PlannedLine) (xs : List Part) (k : ℕ) (part : PlacedLine) → StandIn lines xs → slice_get (map placed_line xs) k ≡ Some part → IsPartAt lines part xs k
 part_in_places lines [] k part stand h = cc
-part_in_places lines (x ∷ xs) zero part stand h = placed_here lines x xs part (some_same (placed_line x) part h) stand.0
+part_in_places lines (x ∷ xs) zero part stand h = placed_here lines x xs part (sym (same_Some (placed_line x) part h)) stand.0
 part_in_places lines (x ∷ xs) (suc k) part stand h =
     let r = part_in_places lines xs k part stand.1 h in
     record { x = r.x; at = r.at; is = r.is; line = r.line }
@@ -45,26 +42,16 @@ part_at lines parts xs k part s h = part_in_places lines xs k part s.stand (ap (
 -- ---- sections
 
 take_next : (xs : List Part) (k : ℕ) (x : Part) → slice_get xs k ≡ Some x → take (k + 1) xs ≡ take k xs ++ x ∷ []
-take_next xs k x at =
-    let one : k + 1 ≡ suc k = omega arith in
-    ap (λ n. take n xs) one ∙ take-suc xs k x (slice_get_within xs k x at) ∙ ap (λ (y : Part). take k xs ++ y ∷ []) (get_or_from_slice_get xs k x x at)
-
-mapped_more : (xs : List Part) (x : Part) → map data_section (xs ++ x ∷ []) ≡ map data_section xs ++ data_section x ∷ []
-mapped_more [] x = refl
-mapped_more (y ∷ ys) x = ap (λ (ss : List DataSection). data_section y ∷ ss) (mapped_more ys x)
+take_next xs k x at = take_more xs k x (slice_get_within xs k x at) ∙ ap (λ (y : Part). take k xs ++ y ∷ []) (get_or_from_slice_get xs k x x at)
 
 pub sections_more : (into : List DataSection) (xs : List Part) (k : ℕ) (v : DataSection) (x : Part) → k < length into → slice_get xs k ≡ Some x → v ≡ data_section x
     → take k into ≡ map data_section (take k xs) → take (k + 1) (set into k v) ≡ map data_section (take (k + 1) xs)
 sections_more into xs k v x lt at is so_far =
     take_more_set into k v lt ∙ ap₂ (λ (ss : List DataSection) (s : DataSection). ss ++ s ∷ []) so_far is
-    ∙ sym (ap (λ (ys : List Part). map data_section ys) (take_next xs k x at) ∙ mapped_more (take k xs) x)
-
-length_places : (xs : List Part) → length (map placed_line xs) ≡ length xs
-length_places [] = refl
-length_places (x ∷ xs) = ap suc (length_places xs)
+    ∙ sym (ap (λ (ys : List Part). map data_section ys) (take_next xs k x at) ∙ map_push data_section (take k xs) x)
 
 pub length_parts : (lines : List PlannedLine) (parts : List PlacedLine) (xs : List Part) → StandsAt lines parts xs → length parts ≡ length xs
-length_parts lines parts xs s = ap (λ (ps : List PlacedLine). length ps) s.are ∙ length_places xs
+length_parts lines parts xs s = ap (λ (ps : List PlacedLine). length ps) s.are ∙ length-map xs placed_line
 
 pub sections_all : (lines : List PlannedLine) (parts : List PlacedLine) (xs : List Part) (into : List DataSection) (k : ℕ) → StandsAt lines parts xs → k ≡ length parts
     → take k into ≡ map data_section (take k xs) → take (length parts) into ≡ map data_section xs
@@ -76,15 +63,11 @@ sections_all lines parts xs into k s end so_far =
 abbrev pub no_place : PlacedLine
 no_place = record { line = 0; symbol = 0 }
 
-length_sections : (xs : List Part) → length (map data_section xs) ≡ length xs
-length_sections [] = refl
-length_sections (x ∷ xs) = ap suc (length_sections xs)
-
 -- what is read of a message's places
 pub record IsRead (m : Message Part) (p : PlannedLine) (symbol : ℕ) (ss : List DataSection) : Type 0 where
   pub line : p ≡ m.first.planned
   pub symbol_is : symbol ≡ m.first.symbol
-  pub sections : ss ≡ sections_of m
+  pub sections : ss ≡ message_sections m
 
 first_same : (m : Message Part) (x : Part) → slice_get (parts_of m) 0 ≡ Some x → x ≡ m.first
 first_same m x h = cc
@@ -110,17 +93,17 @@ first_within lines parts m s =
     slice_get_within lines (get_or parts 0 no_place).line r.x.planned r.line
 
 pub read_fits : (m : Message Part) (p : PlannedLine) (symbol : ℕ) (ss : List DataSection) → IsRead m p symbol ss
-    → MessageFits (carrier_of m.first.planned.endpoint) (data_head m.first) (sections_of m) → MessageFits (carrier_of p.endpoint) (data_head (part_in symbol p)) ss
+    → MessageFits (carrier_of m.first.planned.endpoint) (data_head m.first) (message_sections m) → MessageFits (carrier_of p.endpoint) (data_head (part_in symbol p)) ss
 read_fits m p symbol ss r h = let line = r.line in let symbol_is = r.symbol_is in let sections = r.sections in rw (line, symbol_is, sections) h
 
 pub read_few : (m : Message Part) (p : PlannedLine) (symbol : ℕ) (ss : List DataSection) (sub size : ℕ) → IsRead m p symbol ss
-    → sub < frames_for size (message_size (carrier_of m.first.planned.endpoint) (sections_of m)) → sub < frames_for size (message_size (carrier_of p.endpoint) ss)
+    → sub < frames_for size (message_size (carrier_of m.first.planned.endpoint) (message_sections m)) → sub < frames_for size (message_size (carrier_of p.endpoint) ss)
 read_few m p symbol ss sub size r h = let line = r.line in let sections = r.sections in rw (line, sections) h
 
 pub read_frame : (m : Message Part) (p : PlannedLine) (symbol : ℕ) (ss : List DataSection) (f : Fragment) (answer : RePlace → Wide) (blocks : ℕ → ℕ → List Iq) (frame : List ℕ) → IsRead m p symbol ss
     → (AreAnswersIn p symbol (length ss) answer blocks → frame ≡ data_frame p symbol ss f blocks) → AreAnswersIn m.first.planned m.first.symbol (length (parts_of m)) answer blocks
-    → frame ≡ data_frame m.first.planned m.first.symbol (sections_of m) f blocks
+    → frame ≡ data_frame m.first.planned m.first.symbol (message_sections m) f blocks
 read_frame m p symbol ss f answer blocks frame r h are =
     let line = r.line in let symbol_is = r.symbol_is in let sections = r.sections in
     let g = rw (line, symbol_is, sections) at h in
-    g (subst (λ n. AreAnswersIn m.first.planned m.first.symbol n answer blocks) (sym (length_sections (parts_of m))) are)
+    g (subst (λ n. AreAnswersIn m.first.planned m.first.symbol n answer blocks) (sym (length-map (parts_of m) data_section)) are)

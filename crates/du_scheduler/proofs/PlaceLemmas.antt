@@ -1,7 +1,8 @@
 -- The lines of a plan of which none is refused stand at their places.
-use Rattle.std.proofs.Common.{◌≡◌, ℕ, zero, suc, ◌+◌, ◌≤◌, List, [], ◌∷◌, ◌++◌, length, map, inl, inr, Option, Some, None, refl, ap, ap₂, sym, ◌∙◌, arith}
+use Rattle.std.proofs.Common.{◌≡◌, ℕ, suc, ◌+◌, ◌≤◌, List, [], ◌∷◌, ◌++◌, length, map, inl, inr, Option, Some, None, refl, ap, ap₂, sym, ◌∙◌, arith}
 use Rattle.std.specs.List.{slice_get}
-use Rattle.std.specs.Option.{option_to_list}
+use Rattle.std.specs.Option.{option_map, option_to_list}
+use Rattle.std.proofs.lemmas.Option.{slice_get-map, slice_get_past}
 use Rattle.sent_frames.specs.fragment_laws.specs.Apart.{IsIn}
 use Rattle.window_config.specs.declared.config.Config.{Config}
 use Rattle.window_config.specs.declared.endpoints.EndpointConfig.{EndpointConfig}
@@ -11,17 +12,13 @@ use Rattle.plan_tests.specs.unit_model.specs.Meetings.{find_endpoint}
 use Rattle.plan_tests.specs.unit_model.specs.declared.allocations.Allocation.{Allocation}
 use Rattle.plan_tests.specs.unit_model.proofs.CountLemmas.{no_time}
 use Rattle.plan_tests.specs.plan_model.specs.Dense.{dense}
-use Rattle.plan_tests.specs.plan_model.specs.Lines.{allocation_of, planned, planned_at, planned_from, planned_with}
+use Rattle.plan_tests.specs.plan_model.specs.Lines.{line_allocation, planned, planned_at, planned_from, planned_with}
 use Rattle.plan_tests.specs.plan_model.specs.Valid.{IsValid, dense_refused}
 use Rattle.plan_tests.specs.plan_model.specs.Validity.{first_refused, refused_at, refused_from, why_found, why_planned, with_line}
 use Rattle.plan_tests.specs.plan_model.specs.declared.dense.Dense.{Dense}
 use Rattle.plan_tests.specs.plan_model.specs.declared.lines.PlannedLine.{PlannedLine}
 use Rattle.plan_tests.specs.plan_model.specs.declared.refusals.PlanWhy.{PlanWhy}
-use Rattle.plan_tests.proofs.PlacedLemmas.{index_is}
-
-abbrev index_or : ℕ → Option PlannedLine → ℕ
-index_or k None = k
-index_or k (Some p) = p.index
+use Rattle.plan_tests.proofs.PlacedLemmas.{index_is, index_or}
 
 abbrev line_or : PlanLine → Option PlannedLine → PlanLine
 line_or l None = l
@@ -51,15 +48,15 @@ places : (es : List EndpointConfig) (earlier : List Allocation) (k : ℕ) (lines
     → IsPlaceOf p k (planned_from es k lines)
 unfolding refused_from planned_from
 places es earlier k [] h p m = absurd m
-places es earlier k (line ∷ lines) h p m = go (planned_at es k line) (index_is k line (find_endpoint es line.id)) h (λ q g. places es (allocation_of q ∷ earlier) (k + 1) lines g p) m
+places es earlier k (line ∷ lines) h p m = go (planned_at es k line) (index_is k line (find_endpoint es line.id)) h (λ q g. places es (line_allocation q ∷ earlier) (k + 1) lines g p) m
   where
     go : (o : Option PlannedLine) → index_or k o ≡ k → refused_at k (why_found earlier o) (refused_from es (with_line o earlier) (k + 1) lines) ≡ None
-        → ((q : PlannedLine) → refused_from es (allocation_of q ∷ earlier) (k + 1) lines ≡ None → IsIn p (planned_from es (k + 1) lines) → IsPlaceOf p (k + 1) (planned_from es (k + 1) lines))
+        → ((q : PlannedLine) → refused_from es (line_allocation q ∷ earlier) (k + 1) lines ≡ None → IsIn p (planned_from es (k + 1) lines) → IsPlaceOf p (k + 1) (planned_from es (k + 1) lines))
         → IsIn p (option_to_list o ++ planned_from es (k + 1) lines) → IsPlaceOf p k (option_to_list o ++ planned_from es (k + 1) lines)
     go None e g rest i = absurd cc
     go (Some q) e g rest i = elim i [
       | inl same ↦ record { i = 0; index = ap (λ (x : PlannedLine). x.index) same ∙ e ∙ no_time k; at = ap (λ (x : PlannedLine). Some x) (sym same) }
-      | inr t ↦ (let r = rest q (none_refused k (why_planned earlier q) (refused_from es (allocation_of q ∷ earlier) (k + 1) lines) g) t in
+      | inr t ↦ (let r = rest q (none_refused k (why_planned earlier q) (refused_from es (line_allocation q ∷ earlier) (k + 1) lines) g) t in
           record { i = suc r.i; index = r.index ∙ next_place k r.i; at = r.at })
     ]
 
@@ -67,13 +64,13 @@ places es earlier k (line ∷ lines) h p m = go (planned_at es k line) (index_is
 kept : (es : List EndpointConfig) (earlier : List Allocation) (k : ℕ) (lines : List PlanLine) → refused_from es earlier k lines ≡ None → map (λ p. p.line) (planned_from es k lines) ≡ lines
 unfolding refused_from planned_from
 kept es earlier k [] h = refl
-kept es earlier k (line ∷ lines) h = go (planned_at es k line) (line_is k line (find_endpoint es line.id)) h (λ q. kept es (allocation_of q ∷ earlier) (k + 1) lines)
+kept es earlier k (line ∷ lines) h = go (planned_at es k line) (line_is k line (find_endpoint es line.id)) h (λ q. kept es (line_allocation q ∷ earlier) (k + 1) lines)
   where
     go : (o : Option PlannedLine) → line_or line o ≡ line → refused_at k (why_found earlier o) (refused_from es (with_line o earlier) (k + 1) lines) ≡ None
-        → ((q : PlannedLine) → refused_from es (allocation_of q ∷ earlier) (k + 1) lines ≡ None → map (λ p. p.line) (planned_from es (k + 1) lines) ≡ lines)
+        → ((q : PlannedLine) → refused_from es (line_allocation q ∷ earlier) (k + 1) lines ≡ None → map (λ p. p.line) (planned_from es (k + 1) lines) ≡ lines)
         → map (λ p. p.line) (option_to_list o ++ planned_from es (k + 1) lines) ≡ line ∷ lines
     go None e g rest = absurd cc
-    go (Some q) e g rest = ap₂ (λ (l : PlanLine) (ls : List PlanLine). l ∷ ls) e (rest q (none_refused k (why_planned earlier q) (refused_from es (allocation_of q ∷ earlier) (k + 1) lines) g))
+    go (Some q) e g rest = ap₂ (λ (l : PlanLine) (ls : List PlanLine). l ∷ ls) e (rest q (none_refused k (why_planned earlier q) (refused_from es (line_allocation q ∷ earlier) (k + 1) lines) g))
 
 no_else : (x : Option (ℕ × PlanWhy)) (d : Option Dense) → or_else x (dense_refused d) ≡ None → x ≡ None
 no_else (Some w) d h = absurd cc
@@ -91,21 +88,15 @@ line_place c lines valid p m =
 pub lines_kept : (c : Config) (lines : List PlanLine) → IsValid c lines → map (λ p. p.line) (planned c.endpoints lines) ≡ lines
 lines_kept c lines valid = kept c.endpoints [] 0 lines (none_first c lines valid)
 
-at_line : (ps : List PlannedLine) (k : ℕ) (p : PlannedLine) → slice_get ps k ≡ Some p → slice_get (map (λ (q : PlannedLine). q.line) ps) k ≡ Some p.line
-at_line [] k p h = cc
-at_line (q ∷ qs) zero p h = cc
-at_line (q ∷ qs) (suc k) p h = at_line qs k p h
-
-past_lines : (ps : List PlannedLine) (k : ℕ) → length ps ≤ k → slice_get (map (λ (q : PlannedLine). q.line) ps) k ≡ None
-past_lines [] k h = refl
-past_lines (q ∷ qs) zero h = absurd (omega (arith, h))
-past_lines (q ∷ qs) (suc k) h = past_lines qs k (omega (arith, h))
+-- the line of what stands there
+line_of_place : (ps : List PlannedLine) (k : ℕ) (o : Option PlannedLine) → slice_get ps k ≡ o → slice_get (map (λ (q : PlannedLine). q.line) ps) k ≡ option_map (λ (q : PlannedLine). q.line) o
+line_of_place ps k o at = slice_get-map (λ (q : PlannedLine). q.line) ps k ∙ ap (option_map (λ (q : PlannedLine). q.line)) at
 
 -- what stands at a place of the lines
 pub line_here : (c : Config) (lines : List PlanLine) (ps : List PlannedLine) (k : ℕ) (p : PlannedLine) → IsValid c lines → ps ≡ planned c.endpoints lines → slice_get ps k ≡ Some p → Some p.line ≡ slice_get lines k
 line_here c lines ps k p valid is at =
-    sym (at_line ps k p at) ∙ ap (λ (qs : List PlannedLine). slice_get (map (λ (q : PlannedLine). q.line) qs) k) is ∙ ap (λ (ls : List PlanLine). slice_get ls k) (lines_kept c lines valid)
+    sym (line_of_place ps k (Some p) at) ∙ ap (λ (qs : List PlannedLine). slice_get (map (λ (q : PlannedLine). q.line) qs) k) is ∙ ap (λ (ls : List PlanLine). slice_get ls k) (lines_kept c lines valid)
 
 pub no_line : (c : Config) (lines : List PlanLine) (ps : List PlannedLine) (k : ℕ) → IsValid c lines → ps ≡ planned c.endpoints lines → length ps ≤ k → None ≡ slice_get lines k
 no_line c lines ps k valid is past =
-    sym (past_lines ps k past) ∙ ap (λ (qs : List PlannedLine). slice_get (map (λ (q : PlannedLine). q.line) qs) k) is ∙ ap (λ (ls : List PlanLine). slice_get ls k) (lines_kept c lines valid)
+    sym (line_of_place ps k None (slice_get_past ps k past)) ∙ ap (λ (qs : List PlannedLine). slice_get (map (λ (q : PlannedLine). q.line) qs) k) is ∙ ap (λ (ls : List PlanLine). slice_get ls k) (lines_kept c lines valid)

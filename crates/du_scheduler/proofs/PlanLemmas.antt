@@ -11,7 +11,7 @@ use Rattle.plan_tests.specs.plan_model.specs.Sent.{SentFrame, sent}
 use Rattle.plan_tests.specs.declared.testing.PlanRefusal.{PlanRefusal}
 use Rattle.frame_order.specs.Queues.{first_time}
 use Rattle.plan_table.specs.sent_order.specs.Runs.{turn_of}
-use Rattle.du_scheduler.specs.Plans.{Checks, Gives, HasToSend, IsPlan, IsSent, Leaves}
+use Rattle.du_scheduler.specs.Plans.{Checks, GivesSent, HasToSend, IsPlan, IsSent, LeavesPlan}
 use Rattle.du_scheduler.specs.declared.plans.Plan.{Plan}
 use Rattle.du_scheduler.specs.declared.plans.Sent.{Sent}
 
@@ -21,7 +21,7 @@ plan_checked c lines (Ok p) is = record { config = c; lines = lines; left = sent
 plan_checked c lines (Err e) is = tt
 
 -- behind `next_frame` it is still one, whatever was given
-pub still_plan : {X : Type 0} → (old new : Plan) (r : Option X) → Leaves old new r → IsPlan old → IsPlan new
+pub still_plan : {X : Type 0} → (old new : Plan) (r : Option X) → LeavesPlan old new r → IsPlan old → IsPlan new
 still_plan old new None leaves p =
     let left = leaves p.config p.lines p.left p.is in
     record { config = p.config; lines = p.lines; left = []; is = left.1 }
@@ -36,12 +36,12 @@ abbrev pub GoesOn : Config → List PlanLine → (RePlace → Wide) → List Sen
 GoesOn c lines answer left None new = (left ≡ []) × HasToSend c lines [] new
 GoesOn c lines answer left (Some s) new = (f : SentFrame) × (rest : List SentFrame) × (left ≡ f ∷ rest) × IsSent c answer f s × HasToSend c lines rest new
 
-same_rest : (f g : SentFrame) (rest others : List SentFrame) → f ∷ rest ≡ g ∷ others → others ≡ rest
-same_rest f g rest others is = cc
+pub same_rest : {X : Type 0} (x y : X) (xs ys : List X) → x ∷ xs ≡ y ∷ ys → xs ≡ ys
+same_rest x y xs ys e = cc e
 
 -- both clauses of `next_frame` in one
 pub goes_on : (c : Config) (lines : List PlanLine) (answer : RePlace → Wide) (left : List SentFrame) (old new : Plan) (r : Option Sent) → HasToSend c lines left old
-    → Gives c answer left r → Leaves old new r → GoesOn c lines answer left r new
+    → GivesSent c answer left r → LeavesPlan old new r → GoesOn c lines answer left r new
 goes_on c lines answer left old new None h given leaves = (given, (leaves c lines left h).1)
 goes_on c lines answer left old new (Some s) h given leaves =
     let l = leaves c lines left h in (
@@ -49,7 +49,7 @@ goes_on c lines answer left old new (Some s) h given leaves =
       given.1,
       given.2,
       given.3,
-      subst (λ (rest : List SentFrame). HasToSend c lines rest new) (same_rest given.0 l.0 given.1 l.1 (sym given.2 ∙ l.2)) l.3,
+      subst (λ (rest : List SentFrame). HasToSend c lines rest new) (same_rest l.0 given.0 l.1 given.1 (sym l.2 ∙ given.2)) l.3,
     )
 
 -- ---- what `next_time` tells

@@ -67,9 +67,9 @@ pub record IsSent (c : Config) (answer : RePlace → Wide) (f : SentFrame) (s : 
   pub bytes : s.bytes.now ≡ sent_bytes c (source_of c.endpoints answer) f
 
 -- the first frame to come, or none where none is left
-abbrev pub Gives : Config → (RePlace → Wide) → List SentFrame → Option Sent → Type 0
-Gives c answer left None = left ≡ []
-Gives c answer left (Some s) = (f : SentFrame) × (rest : List SentFrame) × (left ≡ f ∷ rest) × IsSent c answer f s
+abbrev pub GivesSent : Config → (RePlace → Wide) → List SentFrame → Option Sent → Type 0
+GivesSent c answer left None = left ≡ []
+GivesSent c answer left (Some s) = (f : SentFrame) × (rest : List SentFrame) × (left ≡ f ∷ rest) × IsSent c answer f s
 
 -- the same of what was written into the room
 pub record IsWritten (c : Config) (answer : RePlace → Wide) (f : SentFrame) (w : Written) (p : Plan) : Type 0 where
@@ -90,8 +90,8 @@ pub record IsLent (w : Written) (p : Plan) (s : Sent) : Type 0 where
   pub bytes : s.bytes.now ≡ take w.size p.room.items
 
 -- when a frame was given, the others are to come
-abbrev pub Leaves : {X : Type 0} → Plan → Plan → Option X → Type 0
-Leaves old new None = (c : Config) (lines : List PlanLine) (left : List SentFrame) → HasToSend c lines left old → (left ≡ []) × HasToSend c lines [] new
-Leaves old new (Some x) =
+abbrev pub LeavesPlan : {X : Type 0} → Plan → Plan → Option X → Type 0
+LeavesPlan old new None = (c : Config) (lines : List PlanLine) (left : List SentFrame) → HasToSend c lines left old → (left ≡ []) × HasToSend c lines [] new
+LeavesPlan old new (Some x) =
     (c : Config) (lines : List PlanLine) (left : List SentFrame) → HasToSend c lines left old
     → (f : SentFrame) × (rest : List SentFrame) × (left ≡ f ∷ rest) × HasToSend c lines rest new

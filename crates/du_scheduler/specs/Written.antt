@@ -6,9 +6,12 @@ use Rattle.plan_tests.specs.plan_model.specs.Streams.{Part}
 use Rattle.plan_tests.specs.plan_model.specs.declared.lines.PlannedLine.{PlannedLine}
 use Rattle.sent_frames.specs.frame_bytes.specs.Messages.{MessageFits}
 use Rattle.sent_frames.specs.frame_bytes.specs.declared.messages.DataSection.{DataSection}
-use Rattle.sent_frames.specs.Messages.{carrier_of, data_head, data_section}
+use Rattle.sent_frames.specs.Messages.{data_head, data_section}
 use Rattle.plan_table.specs.Kept.{placed_line}
 use Rattle.plan_table.specs.declared.kept.PlacedLine.{PlacedLine}
+use Rattle.fh_time.specs.declared.symbols.TheConstants.{SLOT_SYMBOLS}
+use Rattle.window_config.specs.declared.config.TheConstants.{MESSAGE_SECTIONS}
+use Rattle.sent_frames.specs.frame_bytes.specs.Headers.{carrier_of}
 
 -- each part's line stands at its place
 abbrev pub StandIn : List PlannedLine → List Part → Type 0
@@ -20,13 +23,13 @@ pub record StandsAt (lines : List PlannedLine) (parts : List PlacedLine) (xs : L
   pub are : parts ≡ map placed_line xs
   pub stand : StandIn lines xs
 
-abbrev pub sections_of : Message Part → List DataSection
-sections_of m = map data_section (parts_of m)
+abbrev pub message_sections : Message Part → List DataSection
+message_sections m = map data_section (parts_of m)
 
 -- a data message that can be written
 pub record IsData (lines : List PlannedLine) (parts : List PlacedLine) (m : Message Part) : Type 0 where
   pub at : StandsAt lines parts (parts_of m)
-  pub few : length (parts_of m) ≤ 64
-  pub symbol : m.first.symbol < 14
+  pub few : length (parts_of m) ≤ MESSAGE_SECTIONS
+  pub symbol : m.first.symbol < SLOT_SYMBOLS
   pub prbs : m.first.planned.endpoint.prbs ≤ 273
-  pub fits : MessageFits (carrier_of m.first.planned.endpoint) (data_head m.first) (sections_of m)
+  pub fits : MessageFits (carrier_of m.first.planned.endpoint) (data_head m.first) (message_sections m)

@@ -72,7 +72,7 @@ pub struct Plan {
 impl Plan {
     ghost use Rattle.frame_order.specs.Queues.{first_time};
     ghost use Rattle.plan_table.specs.sent_order.specs.Runs.{turn_of};
-    ghost use Rattle.du_scheduler.specs.Plans.{Checks, Gives, HasToSend, IsLent, IsPlan, Leaves, Writes};
+    ghost use Rattle.du_scheduler.specs.Plans.{Checks, GivesSent, HasToSend, IsLent, IsPlan, LeavesPlan, Writes};
     ghost use Rattle.du_scheduler.specs.After.{LeavesAfter};
     ghost use Rattle.std.specs.Borrow.{sem};
 
@@ -122,7 +122,7 @@ impl Plan {
         requires kept { IsKept F.pre F.post source.now }
         requires plan { IsPlan self.old }
         ensures size { IfSome result (λ w. w.size ≤ length self.new.room.items) }
-        ensures leaves { Leaves self.old self.new result }
+        ensures leaves { LeavesPlan self.old self.new result }
         ensures writes { (c : SpecConfig) (lines : SpecList SpecLine) (left : SpecList SentFrame) → HasToSend c lines left self.old
             → (answer : SpecPlace → SpecWide) → AnswersBy (F.post (closure_of source.now)) answer → Writes c answer left result self.new }
     {
@@ -167,7 +167,7 @@ impl Plan {
         requires kept { IsKept F.pre F.post source.now }
         requires plan { IsPlan self.old }
         ensures gives { (c : SpecConfig) (lines : SpecList SpecLine) (left : SpecList SentFrame) → HasToSend c lines left self.old
-            → (answer : SpecPlace → SpecWide) → AnswersBy (F.post (closure_of source.now)) answer → Gives c answer left result }
+            → (answer : SpecPlace → SpecWide) → AnswersBy (F.post (closure_of source.now)) answer → GivesSent c answer left result }
         ensures* after { sem 𝓛 (LeavesAfter self.entry result) }
     {
         let Some(written) = self.write_next(source) else {

@@ -11,11 +11,12 @@ ghost use Rattle.window_config.specs.declared.plan.PlanLine.{PlanLine as SpecLin
 ghost use Rattle.plan_tests.specs.plan_model.specs.Sent.{SentFrame};
 ghost use Rattle.plan_tests.specs.plan_model.specs.Packs.{Message, frames_for, parts_of};
 ghost use Rattle.plan_tests.specs.plan_model.specs.Streams.{Part};
-ghost use Rattle.sent_frames.specs.Messages.{carrier_of, data_section};
+ghost use Rattle.sent_frames.specs.Messages.{data_section};
 ghost use Rattle.sent_frames.specs.Frames.{sent_bytes};
 ghost use Rattle.sent_frames.specs.Sources.{AreAnswersIn, data_frame, source_of};
 ghost use Rattle.du_scheduler.specs.Frames.{IsFrame, IsFrameOf};
-ghost use Rattle.du_scheduler.specs.Written.{IsData, StandsAt, sections_of};
+ghost use Rattle.du_scheduler.specs.Written.{IsData, StandsAt, message_sections};
+ghost use Rattle.sent_frames.specs.frame_bytes.specs.Headers.{carrier_of};
 
 use bfp_codec::Wide;
 use frame_order::Turn;
@@ -24,9 +25,7 @@ use plan_tests::air_source::{RePlace, Samples};
 use plan_tests::plan_model::PlannedLine;
 use sent_frames::frame_bytes::DataSection;
 use sent_frames::{Fragment, command_frame, data_frame, data_section};
-
-/// The most sections of a message.
-const SECTIONS: usize = 64;
+use window_config::MESSAGE_SECTIONS;
 
 /// Puts the sections of a message's parts into their places.
 fn put_sections(lines: &[PlannedLine], parts: &[PlacedLine], into: &mut [DataSection])
@@ -49,7 +48,7 @@ pub(crate) fn write_data<F: Fn(RePlace) -> Wide>(
     into: &mut [u8],
 ) -> usize
     requires kept { IsKept F.pre F.post samples.now }
-    requires data { (m : Message Part) × IsData lines.now parts.now m × (fragment.sub < frames_for fragment.size (message_size (carrier_of m.first.planned.endpoint) (sections_of m))) }
+    requires data { (m : Message Part) × IsData lines.now parts.now m × (fragment.sub < frames_for fragment.size (message_size (carrier_of m.first.planned.endpoint) (message_sections m))) }
     requires low { 128 ≤ fragment.size }
     requires high { fragment.size ≤ 9000 }
     requires room { 8 + fragment.size ≤ length into.old }
@@ -57,14 +56,14 @@ pub(crate) fn write_data<F: Fn(RePlace) -> Wide>(
     ensures len { length into.new ≡ length into.old }
     ensures bytes { (m : Message Part) → IsData lines.now parts.now m → (answer : SpecPlace → SpecWide) → AnswersBy (F.post (closure_of samples.now)) answer
         → (blocks : ℕ → ℕ → List SpecIq) → AreAnswersIn m.first.planned m.first.symbol (length (parts_of m)) answer blocks
-        → take result into.new ≡ data_frame m.first.planned m.first.symbol (sections_of m) fragment blocks }
+        → take result into.new ≡ data_frame m.first.planned m.first.symbol (message_sections m) fragment blocks }
 {
     let none = DataSection {
         id: 0,
         start_prb: 0,
         num_prb: 0,
     };
-    let mut sections = [none; SECTIONS];
+    let mut sections = [none; MESSAGE_SECTIONS];
     put_sections(lines, parts, &mut sections);
     let first = parts[0];
     data_frame(

@@ -3,3 +3,5 @@ pub mod Pieces
 pub mod Steps
 pub mod Cuts
 pub mod Ends
+pub mod Standing
+pub mod Ids

@@ -25,7 +25,7 @@ moved hold (g ∷ gs) a p h = go (is_within hold g.start a.at) h
     go false h = h
 
 -- a fragment that changes nothing
-refuses : (o : Option Verdict) (w first : Bool) → Rests (answer o w) first → (v : Verdict) × (o ≡ Some v)
+pub refuses : (o : Option Verdict) (w first : Bool) → Rests (answer o w) first → (v : Verdict) × (o ≡ Some v)
 refuses (Some v) w first h = (v, refl)
 refuses None true first h = absurd h
 refuses None false first h = absurd h
@@ -39,7 +39,7 @@ first_only false false true h = h
 first_only false false false h = h
 
 -- the first fragment of a generation changes something
-no_first : (a : Fragment) → Rests (verdict [] a) true → ⊥
+pub no_first : (a : Fragment) → Rests (verdict [] a) true → ⊥
 no_first a h = first_only a.last _ _ h
 
 pub rested : (hold : ℤ) (gs : List Generation) (a : Fragment) (p : Place) → Rests (verdict (standing (held_in hold a.at gs)) a) (begins hold a.at gs) → StandsIn p (with_fragment hold a gs) → StandsIn p gs

@@ -5,6 +5,15 @@ ghost use Rattle.ecpri_frames.specs.Messages.{padding};
 
 use byteorder::{BigEndian, ByteOrder};
 
+/// The message type of IQ data (eCPRI 2.0, section 3.2.4).
+pub const IQ_DATA: u8 = 0;
+
+/// The message type of real-time control data.
+pub const REAL_TIME_CONTROL: u8 = 2;
+
+/// The message type of one-way delay measurement.
+pub const ONE_WAY_DELAY: u8 = 5;
+
 /// What the common header of a message says (eCPRI 2.0, section 3.1.3).
 #[derive(Clone, Copy, Debug, PartialEq, Eq)]
 pub struct Head {

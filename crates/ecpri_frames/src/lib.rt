@@ -18,7 +18,7 @@ mod whole;
 
 pub use bit_fields;
 pub use decoding::Pdu;
-pub use heads::{Head, pad_after, put_head, read_head};
+pub use heads::{Head, IQ_DATA, ONE_WAY_DELAY, REAL_TIME_CONTROL, pad_after, put_head, read_head};
 pub use refusals::{PduRefusal, PduWhy};
 pub use starting::messages;
 pub use steps::{Feed, PduStep};

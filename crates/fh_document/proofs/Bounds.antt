@@ -11,6 +11,7 @@ use Rattle.fh_document.specs.Words.{number_in, word_at}
 use Rattle.fh_document.specs.ConfigLines.{number_at, time_at, counted, ordered}
 use Rattle.fh_document.specs.EndpointLines.{taking}
 use Rattle.fh_document.specs.Proper.{IsFrom}
+use Rattle.window_config.specs.declared.delays.TheConstants.{MOST_DELAY}
 
 pub ok_if : {A : Type 0} (P : A → Type 0) (b : Bool) (x y : Result A DocWhy) → (b ≡ true → IfOk x P) → (b ≡ false → IfOk y P) → IfOk (if b then x else y) P
 ok_if P true x y f g = f refl
@@ -66,7 +67,7 @@ time_at_within low high ws i =
 not_less : (a b : ℤ) → int_lt b a ≡ false → a ≤ℤ b
 not_less a b e = grind (arith, ints)
 
-pub ordered_within : (low : ℕ) (a b : ℤ) → IsFrom low 2000000 a → IsFrom low 2000000 b → IfOk (ordered a b) (IsRange low)
+pub ordered_within : (low : ℕ) (a b : ℤ) → IsFrom low MOST_DELAY a → IsFrom low MOST_DELAY b → IfOk (ordered a b) (IsRange low)
 ordered_within low a b x y =
     ok_if (IsRange low) (int_lt b a) (Err why.MinMax) (Ok (record { min = a; max = b })) (λ t. tt)
     (λ f. record { low = x.low; order = not_less a b f; high = y.high })

@@ -18,16 +18,17 @@ use Rattle.fh_document.specs.DeliverLines.{class_of, least_of, times_of, has_del
 use Rattle.fh_document.specs.MeasureLines.{unit_of, kind_of, measure_of}
 use Rattle.fh_document.specs.Proper.{IsFrom, IsPlanLine, IsDelivery, AreApart, IsMeasure}
 use Rattle.fh_document.proofs.Bounds.{some_if, some_then, some_any, Within, number_within, from_number}
+use Rattle.fh_time.specs.declared.nanoseconds.TheConstants.{LAST_TIME}
+use Rattle.fh_document.specs.declared.config_lines.TheConstants.{MOST_TRANSIT}
+use Rattle.fh_document.specs.declared.deliver_lines.TheConstants.{MOST_NUMBER}
+use Rattle.window_config.specs.declared.plan.TheConstants.{LAST_FRAME}
+use Rattle.fh_time.proofs.Orders.{both as both_true}
 
 with_word : {B : Type 0} (Q : B → Type 0) (low high : ℕ) (w : List ℕ) (next : ℕ → Option B) → ((n : ℕ) → Within low high n → IfSome (next n) Q)
     → IfSome (taking (number_in low high w) next) Q
 with_word Q low high w next f = some_then (Within low high) Q (number_in low high w) next (number_within low high w) f
 
 -- ---- eAxC ids
-
-both_true : (a b : Bool) → (a && b) ≡ true → (a ≡ true) × (b ≡ true)
-both_true true b e = (refl, e)
-both_true false b e = absurd (cc e)
 
 digit_small : (a : ℕ) → nat_lt a 16 ≡ true → a < 16
 digit_small a e = grind (arith, nat_tests)
@@ -59,16 +60,16 @@ id_in w =
 -- ---- lines of a plan
 
 record IsSlot (s : Slot) : Type 0 where
-  frame : IsFrom 1 99999 s.frame
+  frame : IsFrom 1 LAST_FRAME s.frame
   subframe : s.subframe ≤ 9
   slot : s.slot ≤ 63
 
 slot_in : (ws : List (List ℕ)) → IfSome (slot_of ws) IsSlot
 slot_in ws =
-    with_word IsSlot 1 99999 (word_at ws 3) _ (λ frame f.
+    with_word IsSlot 1 LAST_FRAME (word_at ws 3) _ (λ frame f.
     with_word IsSlot 0 9 (word_at ws 4) _ (λ subframe s.
     with_word IsSlot 0 63 (word_at ws 5) _ (λ slot t.
-    record { frame = from_number 1 99999 frame f.0 f.1; subframe = s.1; slot = t.1 })))
+    record { frame = from_number 1 LAST_FRAME frame f.0 f.1; subframe = s.1; slot = t.1 })))
 
 abbrev AreUpTo : ℕ → ℕ → ℕ × ℕ → Type 0
 AreUpTo a b x = (x.0 ≤ a) × (x.1 ≤ b)
@@ -121,20 +122,20 @@ plan_in ws =
 -- ---- deliver lines
 
 abbrev AreTimes : ℕ → ℕ → List ℤ → Type 0
-AreTimes low n times = All (IsFrom low 3000000000) times × (length times ≡ n)
+AreTimes low n times = All (IsFrom low MOST_TRANSIT) times × (length times ≡ n)
 
 times_in : (low : ℕ) (ws : List (List ℕ)) → IfSome (times_of low ws) (AreTimes low (length ws))
-times_in low [] = (All-nil (IsFrom low 3000000000), refl)
+times_in low [] = (All-nil (IsFrom low MOST_TRANSIT), refl)
 times_in low (w ∷ ws) =
-    with_word (AreTimes low (length (w ∷ ws))) low 3000000000 w _ (λ n p.
+    with_word (AreTimes low (length (w ∷ ws))) low MOST_TRANSIT w _ (λ n p.
     some_then (AreTimes low (length ws)) (AreTimes low (length (w ∷ ws))) (times_of low ws) _ (times_in low ws) (λ times q.
-    (All-cons (IsFrom low 3000000000) (pos n) times (from_number low 3000000000 n p.0 p.1) q.0, ap suc q.1)))
+    (All-cons (IsFrom low MOST_TRANSIT) (pos n) times (from_number low MOST_TRANSIT n p.0 p.1) q.0, ap suc q.1)))
 
 pub delivery_in : (ws : List (List ℕ)) → has_deliver_count ws ≡ true → IfSome (delivery_of ws) IsDelivery
 delivery_in ws counted =
     some_then (λ _. Unit {0}) IsDelivery (side_of (word_at ws 1)) _ (some_any (side_of (word_at ws 1))) (λ side u.
     some_then (λ _. Unit {0}) IsDelivery (class_of (word_at ws 2)) _ (some_any (class_of (word_at ws 2))) (λ class v.
-    with_word IsDelivery 1 9999999 (word_at ws 3) _ (λ k p.
+    with_word IsDelivery 1 MOST_NUMBER (word_at ws 3) _ (λ k p.
     some_then (AreTimes (least_of class) (length (drop 4 ws))) IsDelivery (times_of (least_of class) (drop 4 ws)) _ (times_in (least_of class) (drop 4 ws)) (λ copies q.
     record { some = p.0; most = p.1; few = eight (length ws) (length copies) counted (q.1 ∙ length-drop 4 ws); times = q.0 }))))
   where
@@ -181,8 +182,8 @@ measure_in ws =
     some_then (λ _. Unit {0}) IsMeasure (unit_of (word_at ws 1)) _ (some_any (unit_of (word_at ws 1))) (λ side u.
     with_word IsMeasure 0 255 (word_at ws 2) _ (λ id p.
     some_then (λ _. Unit {0}) IsMeasure (kind_of (word_at ws 3)) _ (some_any (kind_of (word_at ws 3))) (λ kind v.
-    with_word IsMeasure 1000000 (10 ^ 12) (word_at ws 4) _ (λ at q.
-    record { id = under id p.1; time = from_number 1000000 (10 ^ 12) at q.0 q.1 }))))
+    with_word IsMeasure 1000000 LAST_TIME (word_at ws 4) _ (λ at q.
+    record { id = under id p.1; time = from_number 1000000 LAST_TIME at q.0 q.1 }))))
   where
     under : (n : ℕ) → n ≤ 255 → n < 256
     under n h = omega arith

@@ -34,7 +34,7 @@ use Rattle.fh_document.specs.declared.keywords.Setting.{Setting}
 use Rattle.fh_document.specs.declared.keywords.Setting.TheVariants as setting
 use Rattle.fh_document.specs.declared.refusals.DocWhy.{DocWhy}
 use Rattle.fh_document.specs.declared.refusals.DocWhy.TheVariants as why
-use Rattle.fh_document.specs.declared.hex.TheConstants.{MOST_BYTES}
+use Rattle.fh_base.specs.declared.source.TheConstants.{FRAME_LIMIT}
 use Rattle.fh_document.specs.Refusals.{or_refuse}
 use Rattle.fh_document.specs.Words.{words_of, word_at, number_in, is_text}
 use Rattle.fh_document.specs.Hex.{is_hex, hex_of, bytes_of, decoded, digits_frame, frame_of}
@@ -52,6 +52,11 @@ use Rattle.fh_document.specs.Document.{finished, after_line, read_from, document
 use Rattle.fh_document.specs.Proper.{IsFrom, IsTone, AreComps, AreTransits, IsPlanLine, IsDelivery, AreApart, IsMeasure, IsInjection, IsDocument}
 use Rattle.fh_document.proofs.LineBounds.{id_in, plan_in, delivery_in, apart_more, measure_in}
 use Rattle.fh_document.proofs.Bounds.{ok_if, ok_then, ok_or, ok_any, ok_weaker, some_if, some_then, some_any, Within, number_within, number_at_within, time_at_within, ordered_within, counted_within, with_number, with_time}
+use Rattle.window_config.specs.declared.delays.TheConstants.{MOST_DELAY}
+use Rattle.fh_time.specs.declared.nanoseconds.TheConstants.{LAST_TIME}
+use Rattle.fh_document.specs.declared.config_lines.TheConstants.{MOST_TRANSIT}
+use Rattle.delay_measure.specs.declared.stamps.TheConstants.{MOST_COMPENSATION}
+use Rattle.window_config.specs.declared.config.TheConstants.{MESSAGE_SECTIONS}
 
 -- ---- the settings
 
@@ -65,21 +70,21 @@ pub record AreSettings (s : Settings) : Type 0 where
   pub comps : AreComps s.comps
   pub transits : AreTransits s.transits
 
-is_time : (ns : ℤ) → IsFrom 0 2000000 ns → IsTime ns
+is_time : (ns : ℤ) → IsFrom 0 MOST_DELAY ns → IsTime ns
 is_time ns h = record { low = h.low; high = h.high }
 
 time_line_in : (ws : List (List ℕ)) → IfOk (time_line ws) IsTime
-time_line_in ws = counted_within IsTime 2 ws (time_at 0 2000000 ws 1) (ok_weaker (IsFrom 0 2000000) IsTime (time_at 0 2000000 ws 1) (time_at_within 0 2000000 ws 1) is_time)
+time_line_in ws = counted_within IsTime 2 ws (time_at 0 MOST_DELAY ws 1) (ok_weaker (IsFrom 0 MOST_DELAY) IsTime (time_at 0 MOST_DELAY ws 1) (time_at_within 0 MOST_DELAY ws 1) is_time)
 
 range_line_in : (ws : List (List ℕ)) → IfOk (range_line ws) (IsRange 0)
 range_line_in ws =
     counted_within (IsRange 0) 3 ws _
-    (with_time (IsRange 0) 0 2000000 ws 1 _ (λ a x. with_time (IsRange 0) 0 2000000 ws 2 _ (λ b y. ordered_within 0 a b x y)))
+    (with_time (IsRange 0) 0 MOST_DELAY ws 1 _ (λ a x. with_time (IsRange 0) 0 MOST_DELAY ws 2 _ (λ b y. ordered_within 0 a b x y)))
 
 abbrev AreRanges : ℕ → Range × Range → Type 0
 AreRanges low x = IsRange low x.0 × IsRange low x.1
 
-both_in : (low : ℕ) (a b c d : ℤ) → IsFrom low 2000000 a → IsFrom low 2000000 b → IsFrom low 2000000 c → IsFrom low 2000000 d → IfOk (both_ordered a b c d) (AreRanges low)
+both_in : (low : ℕ) (a b c d : ℤ) → IsFrom low MOST_DELAY a → IsFrom low MOST_DELAY b → IsFrom low MOST_DELAY c → IsFrom low MOST_DELAY d → IfOk (both_ordered a b c d) (AreRanges low)
 both_in low a b c d x y z w =
     ok_then (IsRange low) (AreRanges low) (ordered a b) _ (ordered_within low a b x y) (λ up p.
     ok_then (IsRange low) (AreRanges low) (ordered c d) _ (ordered_within low c d z w) (λ cp q. (p, q)))
@@ -87,8 +92,8 @@ both_in low a b c d x y z w =
 windows_line_in : (low : ℕ) (ws : List (List ℕ)) → IfOk (windows_line low ws) (AreRanges low)
 windows_line_in low ws =
     counted_within (AreRanges low) 5 ws _
-    (with_time (AreRanges low) low 2000000 ws 1 _ (λ a x. with_time (AreRanges low) low 2000000 ws 2 _ (λ b y.
-    with_time (AreRanges low) low 2000000 ws 3 _ (λ c z. with_time (AreRanges low) low 2000000 ws 4 _ (λ d w.
+    (with_time (AreRanges low) low MOST_DELAY ws 1 _ (λ a x. with_time (AreRanges low) low MOST_DELAY ws 2 _ (λ b y.
+    with_time (AreRanges low) low MOST_DELAY ws 3 _ (λ c z. with_time (AreRanges low) low MOST_DELAY ws 4 _ (λ d w.
     both_in low a b c d x y z w)))))
 
 abbrev AreTimes : ℤ × ℤ → Type 0
@@ -97,7 +102,7 @@ AreTimes x = IsTime x.0 × IsTime x.1
 hold_line_in : (ws : List (List ℕ)) → IfOk (hold_line ws) AreTimes
 hold_line_in ws =
     counted_within AreTimes 3 ws _
-    (with_time AreTimes 0 2000000 ws 1 _ (λ a x. with_time AreTimes 0 2000000 ws 2 _ (λ b y. (is_time a x, is_time b y))))
+    (with_time AreTimes 0 MOST_DELAY ws 1 _ (λ a x. with_time AreTimes 0 MOST_DELAY ws 2 _ (λ b y. (is_time a x, is_time b y))))
 
 fragment_line_in : (ws : List (List ℕ)) → IfOk (fragment_line ws) (Within 128 9000)
 fragment_line_in ws = counted_within (Within 128 9000) 2 ws (number_at 128 9000 ws 1) (number_at_within 128 9000 ws 1)
@@ -110,15 +115,15 @@ tone_line_in ws =
 comp_line_in : (ws : List (List ℕ)) → IfOk (comp_line ws) AreComps
 comp_line_in ws =
     counted_within AreComps 5 ws _
-    (with_time AreComps 0 65536000000 ws 1 _ (λ a x. with_time AreComps 0 65536000000 ws 2 _ (λ b y.
-    with_time AreComps 0 65536000000 ws 3 _ (λ c z. with_time AreComps 0 65536000000 ws 4 _ (λ d w.
+    (with_time AreComps 0 MOST_COMPENSATION ws 1 _ (λ a x. with_time AreComps 0 MOST_COMPENSATION ws 2 _ (λ b y.
+    with_time AreComps 0 MOST_COMPENSATION ws 3 _ (λ c z. with_time AreComps 0 MOST_COMPENSATION ws 4 _ (λ d w.
     record { du_sending = x; du_receiving = y; ru_sending = z; ru_receiving = w })))))
 
-transit_line_in : (low : ℕ) (ws : List (List ℕ)) → IfOk (transit_line low ws) (IsFrom low 3000000000)
-transit_line_in low ws = counted_within (IsFrom low 3000000000) 3 ws (time_at low 3000000000 ws 2) (time_at_within low 3000000000 ws 2)
+transit_line_in : (low : ℕ) (ws : List (List ℕ)) → IfOk (transit_line low ws) (IsFrom low MOST_TRANSIT)
+transit_line_in low ws = counted_within (IsFrom low MOST_TRANSIT) 3 ws (time_at low MOST_TRANSIT ws 2) (time_at_within low MOST_TRANSIT ws 2)
 
 pack_line_in : (ws : List (List ℕ)) → IfOk (pack_line ws) (Within 1 64)
-pack_line_in ws = counted_within (Within 1 64) 2 ws (number_at 1 64 ws 1) (number_at_within 1 64 ws 1)
+pack_line_in ws = counted_within (Within 1 64) 2 ws (number_at 1 MESSAGE_SECTIONS ws 1) (number_at_within 1 64 ws 1)
 
 set_in : (s : Settings) (k : Setting) (ws : List (List ℕ)) → AreSettings s → IfOk (set_of s k ws) AreSettings
 set_in s setting.Widths ws h = ok_then (λ _. Unit {0}) AreSettings (widths_line ws) _ (ok_any (widths_line ws)) (λ x p. assumption (h, p))
@@ -135,9 +140,9 @@ set_in s setting.Fragment ws h = ok_then (Within 128 9000) AreSettings (fragment
 set_in s setting.Source ws h = ok_then IsTone AreSettings (tone_line ws) _ (tone_line_in ws) (λ x p. assumption (h, p))
 set_in s setting.Antenna ws h = ok_then IsTone AreSettings (tone_line ws) _ (tone_line_in ws) (λ x p. assumption (h, p))
 set_in s setting.Comp ws h = ok_then AreComps AreSettings (comp_line ws) _ (comp_line_in ws) (λ x p. assumption (h, p))
-set_in s setting.TransitDl ws h = ok_then (IsFrom 0 3000000000) AreSettings (transit_line 0 ws) _ (transit_line_in 0 ws) (λ x p. assumption (h, p))
-set_in s setting.TransitUl ws h = ok_then (IsFrom 0 3000000000) AreSettings (transit_line 0 ws) _ (transit_line_in 0 ws) (λ x p. assumption (h, p))
-set_in s setting.TransitM ws h = ok_then (IsFrom 1 3000000000) AreSettings (transit_line 1 ws) _ (transit_line_in 1 ws) (λ x p. assumption (h, p))
+set_in s setting.TransitDl ws h = ok_then (IsFrom 0 MOST_TRANSIT) AreSettings (transit_line 0 ws) _ (transit_line_in 0 ws) (λ x p. assumption (h, p))
+set_in s setting.TransitUl ws h = ok_then (IsFrom 0 MOST_TRANSIT) AreSettings (transit_line 0 ws) _ (transit_line_in 0 ws) (λ x p. assumption (h, p))
+set_in s setting.TransitM ws h = ok_then (IsFrom 1 MOST_TRANSIT) AreSettings (transit_line 1 ws) _ (transit_line_in 1 ws) (λ x p. assumption (h, p))
 set_in s setting.Pack ws h = ok_then (Within 1 64) AreSettings (pack_line ws) _ (pack_line_in ws) (λ x p. assumption (h, p))
 
 -- a time of literals
@@ -147,21 +152,21 @@ from_in low high n a b = record { low = omega (arith, ints); high = omega (arith
 defaults_in : AreSettings defaults
 defaults_in = record {
   delays = usual_within;
-  gap = is_time (pos 1000) (from_in 0 2000000 1000 (omega arith) (omega arith));
+  gap = is_time (pos 1000) (from_in 0 MOST_DELAY 1000 (omega arith) (omega arith));
   fragment = (omega arith, omega arith);
   pack = (omega arith, omega arith);
   source = record { low = omega arith; high = omega arith };
   antenna = record { low = omega arith; high = omega arith };
   comps = record {
-    du_sending = from_in 0 65536000000 0 (omega arith) (omega arith);
-    du_receiving = from_in 0 65536000000 0 (omega arith) (omega arith);
-    ru_sending = from_in 0 65536000000 0 (omega arith) (omega arith);
-    ru_receiving = from_in 0 65536000000 0 (omega arith) (omega arith);
+    du_sending = from_in 0 MOST_COMPENSATION 0 (omega arith) (omega arith);
+    du_receiving = from_in 0 MOST_COMPENSATION 0 (omega arith) (omega arith);
+    ru_sending = from_in 0 MOST_COMPENSATION 0 (omega arith) (omega arith);
+    ru_receiving = from_in 0 MOST_COMPENSATION 0 (omega arith) (omega arith);
   };
   transits = record {
-    dl = from_in 0 3000000000 50000 (omega arith) (omega arith);
-    ul = from_in 0 3000000000 50000 (omega arith) (omega arith);
-    m = from_in 1 3000000000 50000 (omega arith) (omega arith);
+    dl = from_in 0 MOST_TRANSIT 50000 (omega arith) (omega arith);
+    ul = from_in 0 MOST_TRANSIT 50000 (omega arith) (omega arith);
+    m = from_in 1 MOST_TRANSIT 50000 (omega arith) (omega arith);
   };
 }
 
@@ -418,7 +423,7 @@ digits_bytes (a ∷ b ∷ rest) hex (suc i) = digits_bytes rest (behind (nat_lt 
 
 record IsFrame (frame : List ℕ) : Type 0 where
   bytes : AreBytes frame
-  short : length frame ≤ MOST_BYTES
+  short : length frame ≤ FRAME_LIMIT
 
 frame_in : (w : List ℕ) → IfSome (frame_of w) IsFrame
 frame_in w =
@@ -427,14 +432,14 @@ frame_in w =
     (λ t. some_if IsFrame (is_hex w) (Some (bytes_of w)) None (λ u. record { bytes = digits_bytes w u; short = omega (arith, bytes_half w, few (length w) _ t) }) (λ v. tt))
     (λ g. tt))
   where
-    few : (n : ℕ) (b : Bool) → (nat_le n (2 * MOST_BYTES) && b) ≡ true → n ≤ 2 * MOST_BYTES
+    few : (n : ℕ) (b : Bool) → (nat_le n (2 * FRAME_LIMIT) && b) ≡ true → n ≤ 2 * FRAME_LIMIT
     few n b e = grind (arith, nat_tests)
 
 inject_line_in : (r : Reading) (ws : List (List ℕ)) → IsReading r → IfOk (inject_line r ws) IsReading
 inject_line_in r ws h =
     counted_within IsReading 4 ws _
     (ok_then (λ _. Unit {0}) IsReading (or_refuse (side_of (word_at ws 1)) why.Number) _ (ok_any (or_refuse (side_of (word_at ws 1)) why.Number)) (λ side u.
-    with_time IsReading 0 (10 ^ 12) ws 2 _ (λ at p.
+    with_time IsReading 0 LAST_TIME ws 2 _ (λ at p.
     ok_then IsFrame IsReading (or_refuse (frame_of (word_at ws 3)) why.Number) _ (ok_or IsFrame (frame_of (word_at ws 3)) why.Number (frame_in (word_at ws 3))) (λ frame q.
     injected_in r (record { side = side; at = at; frame = frame }) h (record { time = p; bytes = q.bytes; short = q.short })))))
 

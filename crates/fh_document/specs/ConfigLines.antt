@@ -13,6 +13,10 @@ use Rattle.fh_document.specs.declared.keywords.Setting.{Setting}
 use Rattle.fh_document.specs.declared.keywords.Setting.TheVariants as setting
 use Rattle.fh_document.specs.Refusals.{or_refuse, ◌>>=◌}
 use Rattle.fh_document.specs.Words.{word_at, number_in}
+use Rattle.window_config.specs.declared.delays.TheConstants.{MOST_DELAY}
+use Rattle.fh_document.specs.declared.config_lines.TheConstants.{MOST_TRANSIT}
+use Rattle.delay_measure.specs.declared.stamps.TheConstants.{MOST_COMPENSATION}
+use Rattle.window_config.specs.declared.config.TheConstants.{MESSAGE_SECTIONS}
 
 -- the number that the i-th word spells, from low to high
 abbrev pub number_at : ℕ → ℕ → List (List ℕ) → ℕ → Result ℕ DocWhy
@@ -57,29 +61,29 @@ widths_line ws = counted 5 ws (do
 -- `t1a MINUP MAXUP MINCPUL MAXCPUL`, `t2a MINUP MAXUP MINCPUL MAXCPUL`: the ranges of data and of uplink commands
 abbrev pub windows_line : ℕ → List (List ℕ) → Result (Range × Range) DocWhy
 windows_line low ws = counted 5 ws (do
-  min_up ← time_at low 2000000 ws 1
-  max_up ← time_at low 2000000 ws 2
-  min_cp_ul ← time_at low 2000000 ws 3
-  max_cp_ul ← time_at low 2000000 ws 4
+  min_up ← time_at low MOST_DELAY ws 1
+  max_up ← time_at low MOST_DELAY ws 2
+  min_cp_ul ← time_at low MOST_DELAY ws 3
+  max_cp_ul ← time_at low MOST_DELAY ws 4
   both_ordered min_up max_up min_cp_ul max_cp_ul)
 
 -- `ta3 MIN MAX`, `ta4 MIN MAX`, `t12 MIN MAX`, `t34 MIN MAX`
 abbrev pub range_line : List (List ℕ) → Result Range DocWhy
 range_line ws = counted 3 ws (do
-  least ← time_at 0 2000000 ws 1
-  most ← time_at 0 2000000 ws 2
+  least ← time_at 0 MOST_DELAY ws 1
+  most ← time_at 0 MOST_DELAY ws 2
   ordered least most)
 
 -- `hold DL UL`
 abbrev pub hold_line : List (List ℕ) → Result (ℤ × ℤ) DocWhy
 hold_line ws = counted 3 ws (do
-  dl ← time_at 0 2000000 ws 1
-  ul ← time_at 0 2000000 ws 2
+  dl ← time_at 0 MOST_DELAY ws 1
+  ul ← time_at 0 MOST_DELAY ws 2
   Ok (dl, ul))
 
 -- `advance NS`, `gap NS`
 abbrev pub time_line : List (List ℕ) → Result ℤ DocWhy
-time_line ws = counted 2 ws (time_at 0 2000000 ws 1)
+time_line ws = counted 2 ws (time_at 0 MOST_DELAY ws 1)
 
 -- `fragment BYTES`
 abbrev pub fragment_line : List (List ℕ) → Result ℕ DocWhy
@@ -95,19 +99,19 @@ tone_line ws = counted 3 ws (do
 -- `comp DUTX DURX RUTX RURX`
 abbrev pub comp_line : List (List ℕ) → Result Comps DocWhy
 comp_line ws = counted 5 ws (do
-  du_sending ← time_at 0 65536000000 ws 1
-  du_receiving ← time_at 0 65536000000 ws 2
-  ru_sending ← time_at 0 65536000000 ws 3
-  ru_receiving ← time_at 0 65536000000 ws 4
+  du_sending ← time_at 0 MOST_COMPENSATION ws 1
+  du_receiving ← time_at 0 MOST_COMPENSATION ws 2
+  ru_sending ← time_at 0 MOST_COMPENSATION ws 3
+  ru_receiving ← time_at 0 MOST_COMPENSATION ws 4
   Ok (record { du_sending = du_sending; du_receiving = du_receiving; ru_sending = ru_sending; ru_receiving = ru_receiving }))
 
 -- `transit dl NS`, `transit ul NS`, `transit m NS`
 abbrev pub transit_line : ℕ → List (List ℕ) → Result ℤ DocWhy
-transit_line low ws = counted 3 ws (time_at low 3000000000 ws 2)
+transit_line low ws = counted 3 ws (time_at low MOST_TRANSIT ws 2)
 
 -- `pack N`, of version 2 alone
 abbrev pub pack_line : List (List ℕ) → Result ℕ DocWhy
-pack_line ws = counted 2 ws (number_at 1 64 ws 1)
+pack_line ws = counted 2 ws (number_at 1 MESSAGE_SECTIONS ws 1)
 
 -- what a line makes of the settings
 abbrev pub set_of : Settings → Setting → List (List ℕ) → Result Settings DocWhy

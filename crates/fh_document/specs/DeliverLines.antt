@@ -12,6 +12,8 @@ use Rattle.fh_document.specs.Words.{word_at, number_in}
 use Rattle.fh_document.specs.Delivered.{has_like}
 use Rattle.fh_document.specs.EndpointLines.{taking}
 use Rattle.fh_document.specs.InjectLines.{side_of}
+use Rattle.fh_document.specs.declared.config_lines.TheConstants.{MOST_TRANSIT}
+use Rattle.fh_document.specs.declared.deliver_lines.TheConstants.{MOST_NUMBER}
 
 -- frames of the C-plane, of the U-plane, and of delay measurement
 abbrev pub class_of : List ℕ → Option Class3
@@ -30,7 +32,7 @@ least_of M = 1
 -- the times that the words spell, from low on, where each spells one
 abbrev pub times_of : ℕ → List (List ℕ) → Option (List ℤ)
 times_of low [] = Some []
-times_of low (w ∷ ws) = taking (number_in low 3000000000 w) (λ n. taking (times_of low ws) (λ times. Some (pos n ∷ times)))
+times_of low (w ∷ ws) = taking (number_in low MOST_TRANSIT w) (λ n. taking (times_of low ws) (λ times. Some (pos n ∷ times)))
 
 -- no copy, or one to eight of them
 abbrev pub has_deliver_count : List (List ℕ) → Bool
@@ -41,7 +43,7 @@ abbrev pub delivery_of : List (List ℕ) → Option Delivery
 delivery_of ws =
     taking (side_of (word_at ws 1)) (λ side.
     taking (class_of (word_at ws 2)) (λ class.
-    taking (number_in 1 9999999 (word_at ws 3)) (λ k.
+    taking (number_in 1 MOST_NUMBER (word_at ws 3)) (λ k.
     taking (times_of (least_of class) (drop 4 ws)) (λ copies.
     Some (record { side = side; class = class; k = k; copies = copies })))))
 

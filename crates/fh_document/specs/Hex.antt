@@ -4,7 +4,7 @@ use Rattle.std.specs.List.{list_all}
 use Rattle.std.specs.Char.{digit_value}
 use Rattle.std.specs.Str.{bytes_eq}
 use Rattle.std.specs.Str.Parse.{digits_value}
-use Rattle.fh_document.specs.declared.hex.TheConstants.{MOST_BYTES}
+use Rattle.fh_base.specs.declared.source.TheConstants.{FRAME_LIMIT}
 
 abbrev pub is_hex : List ℕ → Bool
 is_hex = list_all (λ b. nat_lt (digit_value b) 16)
@@ -33,9 +33,9 @@ bytes_of (a ∷ b ∷ rest) = (16 * digit_value a + digit_value b) ∷ bytes_of 
 abbrev pub decoded : List ℕ → Option (List ℕ)
 decoded w = if is_hex w then Some (bytes_of w) else None
 
--- an even number of digits, for at most MOST_BYTES bytes
+-- an even number of digits, for at most FRAME_LIMIT bytes
 abbrev pub digits_frame : List ℕ → Option (List ℕ)
-digits_frame w = if nat_le (length w) (2 * MOST_BYTES) && (length w % 2 == 0) then decoded w else None
+digits_frame w = if nat_le (length w) (2 * FRAME_LIMIT) && (length w % 2 == 0) then decoded w else None
 
 -- such digits, or a dash for no bytes
 abbrev pub frame_of : List ℕ → Option (List ℕ)

@@ -11,6 +11,7 @@ use Rattle.fh_document.specs.Refusals.{or_refuse, ◌>>=◌}
 use Rattle.fh_document.specs.Words.{word_at}
 use Rattle.fh_document.specs.Hex.{frame_of}
 use Rattle.fh_document.specs.ConfigLines.{counted, time_at}
+use Rattle.fh_time.specs.declared.nanoseconds.TheConstants.{LAST_TIME}
 
 -- downlink frames arrive at the radio unit, uplink frames at the distributed unit
 abbrev pub side_of : List ℕ → Option Side
@@ -26,6 +27,6 @@ injected r i = Ok (record r { injections = r.injections ++ i ∷ [] })
 abbrev pub inject_line : Reading → List (List ℕ) → Result Reading DocWhy
 inject_line r ws = counted 4 ws (do
   side ← or_refuse (side_of (word_at ws 1)) why.Number
-  at ← time_at 0 (10 ^ 12) ws 2
+  at ← time_at 0 LAST_TIME ws 2
   frame ← or_refuse (frame_of (word_at ws 3)) why.Number
   injected r (record { side = side; at = at; frame = frame }))

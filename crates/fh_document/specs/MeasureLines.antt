@@ -14,6 +14,7 @@ use Rattle.fh_document.specs.Refusals.{or_refuse, ◌>>=◌}
 use Rattle.fh_document.specs.Words.{word_at, number_in}
 use Rattle.fh_document.specs.ConfigLines.{counted}
 use Rattle.fh_document.specs.EndpointLines.{taking}
+use Rattle.fh_time.specs.declared.nanoseconds.TheConstants.{LAST_TIME}
 
 -- the unit that begins the measurement
 abbrev pub unit_of : List ℕ → Option Side
@@ -37,7 +38,7 @@ measure_of ws =
     taking (unit_of (word_at ws 1)) (λ side.
     taking (number_in 0 255 (word_at ws 2)) (λ id.
     taking (kind_of (word_at ws 3)) (λ kind.
-    taking (number_in 1000000 (10 ^ 12) (word_at ws 4)) (λ at.
+    taking (number_in 1000000 LAST_TIME (word_at ws 4)) (λ at.
     Some (record { side = side; id = id; kind = kind; at = pos at })))))
 
 -- a measurement has this id, at whichever unit it begins

@@ -14,6 +14,7 @@ use Rattle.fh_document.specs.Words.{word_at, number_in}
 use Rattle.fh_document.specs.Hex.{hex_of}
 use Rattle.fh_document.specs.ConfigLines.{counted}
 use Rattle.fh_document.specs.EndpointLines.{taking}
+use Rattle.window_config.specs.declared.plan.TheConstants.{LAST_FRAME}
 
 -- downlink data, uplink data, or downlink resources that stay idle
 abbrev pub plan_kind_of : List ℕ → Option PlanKind
@@ -26,7 +27,7 @@ plan_kind_of w =
 -- FRAME, SUBFRAME and SLOT
 abbrev pub slot_of : List (List ℕ) → Option Slot
 slot_of ws =
-    taking (number_in 1 99999 (word_at ws 3)) (λ frame.
+    taking (number_in 1 LAST_FRAME (word_at ws 3)) (λ frame.
     taking (number_in 0 9 (word_at ws 4)) (λ subframe.
     taking (number_in 0 63 (word_at ws 5)) (λ slot.
     Some (record { frame = pos frame; subframe = subframe; slot = slot }))))

@@ -12,10 +12,15 @@ use Rattle.fh_document.specs.declared.delivered.Delivery.{Delivery}
 use Rattle.fh_document.specs.declared.document.Injection.{Injection}
 use Rattle.fh_document.specs.declared.document.Measure.{Measure}
 use Rattle.fh_document.specs.declared.document.Document.{Document}
-use Rattle.fh_document.specs.declared.hex.TheConstants.{MOST_BYTES}
+use Rattle.fh_base.specs.declared.source.TheConstants.{FRAME_LIMIT}
 use Rattle.fh_document.specs.declared.plan_lines.TheConstants.{MOST_LINES}
 use Rattle.fh_document.specs.Delivered.{has_like}
 use Rattle.fh_document.specs.DeliverLines.{least_of}
+use Rattle.fh_time.specs.declared.nanoseconds.TheConstants.{LAST_TIME}
+use Rattle.fh_document.specs.declared.config_lines.TheConstants.{MOST_TRANSIT}
+use Rattle.fh_document.specs.declared.deliver_lines.TheConstants.{MOST_NUMBER}
+use Rattle.window_config.specs.declared.plan.TheConstants.{LAST_FRAME}
+use Rattle.delay_measure.specs.declared.stamps.TheConstants.{MOST_COMPENSATION}
 
 -- a time from a least to a greatest
 pub record IsFrom (least most : ℕ) (ns : ℤ) : Type 0 where
@@ -28,20 +33,20 @@ pub record IsTone (t : Tone) : Type 0 where
 
 -- compensations of at most 2^16 times a million
 pub record AreComps (c : Comps) : Type 0 where
-  pub du_sending : IsFrom 0 65536000000 c.du_sending
-  pub du_receiving : IsFrom 0 65536000000 c.du_receiving
-  pub ru_sending : IsFrom 0 65536000000 c.ru_sending
-  pub ru_receiving : IsFrom 0 65536000000 c.ru_receiving
+  pub du_sending : IsFrom 0 MOST_COMPENSATION c.du_sending
+  pub du_receiving : IsFrom 0 MOST_COMPENSATION c.du_receiving
+  pub ru_sending : IsFrom 0 MOST_COMPENSATION c.ru_sending
+  pub ru_receiving : IsFrom 0 MOST_COMPENSATION c.ru_receiving
 
 -- at most three seconds; a measurement takes a nanosecond at least
 pub record AreTransits (t : Transits) : Type 0 where
-  pub dl : IsFrom 0 3000000000 t.dl
-  pub ul : IsFrom 0 3000000000 t.ul
-  pub m : IsFrom 1 3000000000 t.m
+  pub dl : IsFrom 0 MOST_TRANSIT t.dl
+  pub ul : IsFrom 0 MOST_TRANSIT t.ul
+  pub m : IsFrom 1 MOST_TRANSIT t.m
 
 -- the numbers of a line of a plan, as the grammar has them
 pub record IsPlanLine (line : PlanLine) : Type 0 where
-  pub frame : IsFrom 1 99999 line.slot.frame
+  pub frame : IsFrom 1 LAST_FRAME line.slot.frame
   pub subframe : line.slot.subframe ≤ 9
   pub slot : line.slot.slot ≤ 63
   pub symbol : line.symbol ≤ 63
@@ -55,9 +60,9 @@ pub record IsPlanLine (line : PlanLine) : Type 0 where
 -- one frame of its class and way, and at most eight copies of it
 pub record IsDelivery (d : Delivery) : Type 0 where
   pub some : 1 ≤ d.k
-  pub most : d.k ≤ 9999999
+  pub most : d.k ≤ MOST_NUMBER
   pub few : length d.copies ≤ 8
-  pub times : All (IsFrom (least_of d.class) 3000000000) d.copies
+  pub times : All (IsFrom (least_of d.class) MOST_TRANSIT) d.copies
 
 -- none is of the frame of one behind it
 abbrev pub AreApart : List Delivery → Type 0
@@ -67,12 +72,12 @@ AreApart (d ∷ ds) = (has_like d ds ≡ false) × AreApart ds
 -- an id of a byte; late enough that no stamp is below 0
 pub record IsMeasure (m : Measure) : Type 0 where
   pub id : m.id < 256
-  pub time : IsFrom 1000000 (10 ^ 12) m.at
+  pub time : IsFrom 1000000 LAST_TIME m.at
 
 pub record IsInjection (i : Injection) : Type 0 where
-  pub time : IsFrom 0 (10 ^ 12) i.at
+  pub time : IsFrom 0 LAST_TIME i.at
   pub bytes : AreBytes i.frame
-  pub short : length i.frame ≤ MOST_BYTES
+  pub short : length i.frame ≤ FRAME_LIMIT
 
 -- each kind of lines within its limits, and eAxC ids of 16 bits
 pub record IsDocument (d : Document) : Type 0 where

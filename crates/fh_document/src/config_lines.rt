@@ -6,18 +6,13 @@ use crate::document::{Comps, Settings, Transits};
 use crate::keywords::Setting;
 use crate::refusals::DocWhy;
 use crate::words::{Words, number_in};
+use delay_measure::MOST_COMPENSATION;
 use eaxc_map::Widths;
 use tone_source::Tone;
-use window_config::{Delays, Range};
-
-/// The greatest time of a delay profile, in nanoseconds.
-const MOST_DELAY: u64 = 2_000_000;
-
-/// The greatest compensation.
-const MOST_COMP: u64 = 65_536_000_000;
+use window_config::{Delays, MESSAGE_SECTIONS, MOST_DELAY, Range};
 
 /// The greatest time on the way, in nanoseconds.
-const MOST_TRANSIT: u64 = 3_000_000_000;
+pub const MOST_TRANSIT: u64 = 3_000_000_000;
 
 /// The number that a word spells, in a range.
 fn number_at(words: &Words<'_>, i: usize, low: u64, high: u64) -> Result<u64, DocWhy>
@@ -157,10 +152,10 @@ fn comp_line(words: &Words<'_>) -> Result<Comps, DocWhy>
         return Err(DocWhy::Words);
     }
     Ok(Comps {
-        du_sending: time_at(words, 1, 0, MOST_COMP)?,
-        du_receiving: time_at(words, 2, 0, MOST_COMP)?,
-        ru_sending: time_at(words, 3, 0, MOST_COMP)?,
-        ru_receiving: time_at(words, 4, 0, MOST_COMP)?,
+        du_sending: time_at(words, 1, 0, MOST_COMPENSATION)?,
+        du_receiving: time_at(words, 2, 0, MOST_COMPENSATION)?,
+        ru_sending: time_at(words, 3, 0, MOST_COMPENSATION)?,
+        ru_receiving: time_at(words, 4, 0, MOST_COMPENSATION)?,
     })
 }
 
@@ -179,7 +174,7 @@ fn pack_line(words: &Words<'_>) -> Result<usize, DocWhy>
     if words.len() != 2 {
         return Err(DocWhy::Words);
     }
-    let sections = number_at(words, 1, 1, 64)?;
+    let sections = number_at(words, 1, 1, MESSAGE_SECTIONS as u64)?;
     Ok(sections as usize)
 }
 

@@ -3,17 +3,15 @@ ghost use Rattle.std.specs.Prelude.{◌≡◌, ◌≤◌, length, drop};
 ghost use Rattle.fh_document.specs.Answered.{Reads};
 ghost use Rattle.fh_document.specs.DeliverLines.{class_of, least_of, times_of, has_deliver_count, delivery_of, delivered, deliver_line};
 
+use crate::config_lines::MOST_TRANSIT;
 use crate::delivered::{Class3, Copies, Delivery};
 use crate::document::Reading;
 use crate::inject_lines::side_of;
 use crate::refusals::{DocWhy, LineFault};
 use crate::words::{Words, number_in};
 
-/// The longest time on the way, in nanoseconds.
-const MOST_TIME: u64 = 3_000_000_000;
-
 /// The greatest number of a frame of its class.
-const MOST_K: u64 = 9_999_999;
+pub const MOST_NUMBER: u64 = 9_999_999;
 
 fn class_of(word: &[u8]) -> Option<Class3>
     ensures { result ≡ class_of word.now }
@@ -53,7 +51,7 @@ fn times_of(words: &Words<'_>, low: u64) -> Option<Copies>
 {
     let mut copies = Copies::new();
     for i in 4..words.len() {
-        let ns = number_in(words.word(i), low, MOST_TIME)?;
+        let ns = number_in(words.word(i), low, MOST_TRANSIT)?;
         let _ = copies.push(ns as i64);
     }
     Some(copies)
@@ -66,7 +64,7 @@ fn delivery_of(words: &Words<'_>) -> Option<Delivery>
 {
     let side = side_of(words.word(1))?;
     let class = class_of(words.word(2))?;
-    let k = number_in(words.word(3), 1, MOST_K)?;
+    let k = number_in(words.word(3), 1, MOST_NUMBER)?;
     let copies = times_of(words, least_of(class))?;
     Some(Delivery {
         side,

@@ -2,11 +2,8 @@
 ghost use Rattle.std.specs.Prelude.{◌≡◌, ◌+◌, ◌*◌, ◌%◌, ◌<◌, ◌++◌, length, take, drop, map, IfOk};
 ghost use Rattle.fh_document.specs.Hex.{is_hex, hex_of, value_of, joined, decoded, digits_frame, frame_of};
 
-use fh_base::{Bytes, NoMemory};
+use fh_base::{Bytes, FRAME_LIMIT, NoMemory};
 use std::alloc::Global;
-
-/// The most bytes of a frame.
-const MOST_BYTES: usize = 9_216;
 
 /// How many digits are decoded at once.
 const DIGITS: usize = 128;
@@ -128,7 +125,7 @@ fn decoded(alloc: Global, word: &[u8]) -> Result<Option<Bytes>, NoMemory>
 fn digits_frame(alloc: Global, word: &[u8]) -> Result<Option<Bytes>, NoMemory>
     ensures { IfOk result (λ o. o ≡ digits_frame word.now) }
 {
-    if word.len() > 2 * MOST_BYTES || word.len() % 2 != 0 {
+    if word.len() > 2 * FRAME_LIMIT || word.len() % 2 != 0 {
         return Ok(None);
     }
     decoded(alloc, word)

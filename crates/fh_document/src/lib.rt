@@ -23,9 +23,12 @@ mod reading;
 mod refusals;
 mod words;
 
+pub use config_lines::MOST_TRANSIT;
+pub use deliver_lines::MOST_NUMBER;
 pub use delivered::{Class3, Copies, Delivery, ListFull, frame_number};
 pub use document::{Comps, Document, Injection, Measure, Transits};
 pub use generating::write;
+pub use measure_lines::FIRST_MEASURE;
 pub use reading::read;
 pub use refusals::{DocFault, DocWhy};
 pub use report_lines::{Line, cell_line, count_line, delay_line};

@@ -9,13 +9,11 @@ use crate::refusals::{DocWhy, LineFault};
 use crate::words::{Words, byte_in, number_in};
 use delay_measure::Kind;
 use fh_base::List;
+use fh_time::LAST_TIME;
 use tone_source::air_source::Side;
 
 /// The first nanosecond at which a measurement may begin, so that no stamp is below 0.
-const FIRST: u64 = 1_000_000;
-
-/// The last one.
-const LAST: u64 = 1_000_000_000_000;
+pub const FIRST_MEASURE: u64 = 1_000_000;
 
 /// The unit that begins the measurement.
 fn unit_of(word: &[u8]) -> Option<Side>
@@ -55,7 +53,7 @@ fn measure_of(words: &Words<'_>) -> Option<Measure>
     let side = unit_of(words.word(1))?;
     let id = byte_in(words.word(2), 0, 255)?;
     let kind = kind_of(words.word(3))?;
-    let at = number_in(words.word(4), FIRST, LAST)?;
+    let at = number_in(words.word(4), FIRST_MEASURE, LAST_TIME)?;
     Some(Measure {
         side,
         id,

@@ -8,13 +8,10 @@ use crate::hex::{hex3, hex4};
 use crate::refusals::{DocWhy, LineFault};
 use crate::words::{Words, byte_in, number_in, short_in};
 use fh_time::Slot;
-use window_config::{PlanKind, PlanLine};
+use window_config::{LAST_FRAME, PlanKind, PlanLine};
 
 /// The most lines that a plan has.
 const MOST_LINES: usize = 65_536;
-
-/// The last frame that a line may plan.
-const LAST_FRAME: u64 = 99_999;
 
 fn plan_kind_of(word: &[u8]) -> Option<PlanKind>
     ensures { result ≡ plan_kind_of word.now }

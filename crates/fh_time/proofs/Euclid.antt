@@ -4,9 +4,10 @@ use mir.Syntax.{w64}
 use Rattle.std.specs.Int.{int_div_euclid, int_rem_euclid}
 use Rattle.std.proofs.lemmas.Int.{ints}
 use Rattle.fh_time.specs.Frame.{IsFrame}
+use Rattle.fh_time.specs.declared.frames.TheConstants.{FRAME}
 
 -- the frame in which a time lies
-pub frame_floor : (a : ℤ) → ((int_div_euclid a (pos 15360000000) *ℤ pos 15360000000) ≤ℤ a) × (a <ℤ (int_div_euclid a (pos 15360000000) *ℤ pos 15360000000 +ℤ pos 15360000000))
+pub frame_floor : (a : ℤ) → ((int_div_euclid a FRAME *ℤ FRAME) ≤ℤ a) × (a <ℤ (int_div_euclid a FRAME *ℤ FRAME +ℤ FRAME))
 frame_floor (pos n) = (omega (arith, ints), omega (arith, ints))
 frame_floor (negsuc n) = (omega (arith, ints), omega (arith, ints))
 
@@ -19,9 +20,9 @@ pub rest_256 : (z q : ℤ) (r : ℕ) → r < 256 → z ≡ q *ℤ pos 256 +ℤ p
 rest_256 (pos n) q r h e = omega (arith, ints)
 rest_256 (negsuc n) q r h e = omega (arith, ints)
 
-pub resolved : (id : ℕ) (at q r : ℤ) → id < 256 → q ≡ int_div_euclid (at +ℤ pos 15359999999) (pos 15360000000) → r ≡ int_rem_euclid (pos id -ℤ (q -ℤ pos 128)) (pos 256) → IsFrame id at (q -ℤ pos 128 +ℤ r)
+pub resolved : (id : ℕ) (at q r : ℤ) → id < 256 → q ≡ int_div_euclid (at +ℤ (FRAME -ℤ pos 1)) FRAME → r ≡ int_rem_euclid (pos id -ℤ (q -ℤ pos 128)) (pos 256) → IsFrame id at (q -ℤ pos 128 +ℤ r)
 resolved id at q r h q_is r_is =
-    let floor = frame_floor (at +ℤ pos 15359999999) in
+    let floor = frame_floor (at +ℤ (FRAME -ℤ pos 1)) in
     let low = rw (← q_is) at floor.0 in
     let high = rw (← q_is) at floor.1 in
     let parts = parts_256 (pos id -ℤ (q -ℤ pos 128)) in
@@ -44,9 +45,9 @@ one_frame id at a b p q =
     omega (arith, ints, x.3, y.3, p.low, p.high, q.low, q.high)
 
 -- and a number that fits
-pub frame_small : (at q : ℤ) → neg_ℤ (pos 72057594037927936) ≤ℤ at → at ≤ℤ pos 72057594037927936 → q ≡ int_div_euclid (at +ℤ pos 15359999999) (pos 15360000000) → (neg_ℤ (pos 5000000) ≤ℤ q) × (q ≤ℤ pos 5000000)
+pub frame_small : (at q : ℤ) → neg_ℤ (pos 72057594037927936) ≤ℤ at → at ≤ℤ pos 72057594037927936 → q ≡ int_div_euclid (at +ℤ (FRAME -ℤ pos 1)) FRAME → (neg_ℤ (pos 5000000) ≤ℤ q) × (q ≤ℤ pos 5000000)
 frame_small at q low high q_is =
-    let floor = frame_floor (at +ℤ pos 15359999999) in
+    let floor = frame_floor (at +ℤ (FRAME -ℤ pos 1)) in
     let under = rw (← q_is) at floor.0 in
     let over = rw (← q_is) at floor.1 in
     (omega (arith, ints), omega (arith, ints))

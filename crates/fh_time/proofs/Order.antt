@@ -15,6 +15,8 @@ use Rattle.fh_time.specs.Symbols.{ticks_of_ts, longer_before, normal_start, pref
 use Rattle.fh_time.specs.Kinds.{kind_start, kind_slots, kind_symbols, kind_least_slot, kind_span}
 use Rattle.fh_time.specs.Numbering.{slots_of, symbols_of, slot_number, IsSlotOf}
 use Rattle.fh_time.specs.Air.{air_of, least_slot_of, span_of, AreApart}
+use Rattle.fh_time.specs.declared.frames.TheConstants.{FRAME}
+use Rattle.fh_time.specs.declared.symbols.TheConstants.{SLOT_SYMBOLS}
 
 -- a longer symbol that is before a symbol is before each later one
 longer_order : (symbol i j : ℕ) → i ≤ j → longer_before symbol i ≤ longer_before symbol j
@@ -24,8 +26,8 @@ longer_most : (symbol i : ℕ) → longer_before symbol i ≤ 800000
 longer_most symbol i = grind (arith, nat_tests)
 
 -- one slot of a subframe starts so many slots after another, or more
-normal_later : (u s t i j x y p q : ℕ) → u ≤ 4 → s ≤ t → i ≡ 14 * s → j ≡ 14 * t → x ≤ y → p ≤ q
-    → ticks_of_ts (i * 2192) / 2 ^ u + x + p + (t - s) * (ticks_of_ts (14 * 2192) / 2 ^ u) ≤ ticks_of_ts (j * 2192) / 2 ^ u + y + q
+normal_later : (u s t i j x y p q : ℕ) → u ≤ 4 → s ≤ t → i ≡ SLOT_SYMBOLS * s → j ≡ SLOT_SYMBOLS * t → x ≤ y → p ≤ q
+    → ticks_of_ts (i * 2192) / 2 ^ u + x + p + (t - s) * (ticks_of_ts (SLOT_SYMBOLS * 2192) / 2 ^ u) ≤ ticks_of_ts (j * 2192) / 2 ^ u + y + q
 normal_later zero s t i j x y p q h o e f a b = omega arith
 normal_later (suc zero) s t i j x y p q h o e f a b = omega arith
 normal_later (suc (suc zero)) s t i j x y p q h o e f a b = omega arith
@@ -34,8 +36,8 @@ normal_later (suc (suc (suc (suc zero)))) s t i j x y p q h o e f a b = omega ar
 normal_later (suc (suc (suc (suc (suc u))))) s t i j x y p q h o e f a b = absurd (omega arith)
 
 -- and all that are left fit into the subframe
-normal_left : (u s i x p : ℕ) → u ≤ 4 → s < 2 ^ u → i ≡ 14 * s → x ≤ 800000 → p ≤ 800000
-    → ticks_of_ts (i * 2192) / 2 ^ u + x + p + (2 ^ u - s) * (ticks_of_ts (14 * 2192) / 2 ^ u) ≤ 1536000000
+normal_left : (u s i x p : ℕ) → u ≤ 4 → s < 2 ^ u → i ≡ SLOT_SYMBOLS * s → x ≤ 800000 → p ≤ 800000
+    → ticks_of_ts (i * 2192) / 2 ^ u + x + p + (2 ^ u - s) * (ticks_of_ts (SLOT_SYMBOLS * 2192) / 2 ^ u) ≤ 1536000000
 normal_left zero s i x p h o e a b = omega arith
 normal_left (suc zero) s i x p h o e a b = omega arith
 normal_left (suc (suc zero)) s i x p h o e a b = omega arith
@@ -53,14 +55,14 @@ exponent_small Khz1x25 = omega arith
 exponent_small Khz5 = omega arith
 
 -- at every spacing
-spacing_later : (spacing : Spacing) (s t i j : ℕ) → s ≤ t → i ≡ 14 * s → j ≡ 14 * t
-    → normal_start (exponent_of spacing) i + (t - s) * (ticks_of_ts (14 * 2192) / 2 ^ exponent_of spacing) ≤ normal_start (exponent_of spacing) j
+spacing_later : (spacing : Spacing) (s t i j : ℕ) → s ≤ t → i ≡ SLOT_SYMBOLS * s → j ≡ SLOT_SYMBOLS * t
+    → normal_start (exponent_of spacing) i + (t - s) * (ticks_of_ts (SLOT_SYMBOLS * 2192) / 2 ^ exponent_of spacing) ≤ normal_start (exponent_of spacing) j
 spacing_later spacing s t i j o e f =
     normal_later (exponent_of spacing) s t i j _ _ _ _ (exponent_small spacing) o e f
     (longer_order 0 i j (omega arith)) (longer_order (7 * 2 ^ exponent_of spacing) i j (omega arith))
 
-spacing_left : (spacing : Spacing) (s i : ℕ) → s < 2 ^ exponent_of spacing → i ≡ 14 * s
-    → normal_start (exponent_of spacing) i + (2 ^ exponent_of spacing - s) * (ticks_of_ts (14 * 2192) / 2 ^ exponent_of spacing) ≤ 1536000000
+spacing_left : (spacing : Spacing) (s i : ℕ) → s < 2 ^ exponent_of spacing → i ≡ SLOT_SYMBOLS * s
+    → normal_start (exponent_of spacing) i + (2 ^ exponent_of spacing - s) * (ticks_of_ts (SLOT_SYMBOLS * 2192) / 2 ^ exponent_of spacing) ≤ 1536000000
 spacing_left spacing s i o e =
     normal_left (exponent_of spacing) s i _ _ (exponent_small spacing) o e (longer_most 0 i) (longer_most (7 * 2 ^ exponent_of spacing) i)
 
@@ -76,19 +78,19 @@ moved_room a b k m n x h = omega arith
 
 -- the same of the slots of any kind of endpoint
 pub kind_later : (kind : Kind) (s t : ℕ) → s ≤ t → kind_start kind s 0 + (t - s) * kind_least_slot kind ≤ kind_start kind t 0
-kind_later (Ordinary spacing) s t o = spacing_later spacing s t (14 * s + 0) (14 * t + 0) o (omega arith) (omega arith)
+kind_later (Ordinary spacing) s t o = spacing_later spacing s t (SLOT_SYMBOLS * s + 0) (SLOT_SYMBOLS * t + 0) o (omega arith) (omega arith)
 kind_later (Offset spacing time_offset cp_length) s t o =
-    moved _ _ _ _ (prefixed spacing cp_length) (spacing_later spacing s t (14 * s) (14 * t) o refl refl)
+    moved _ _ _ _ (prefixed spacing cp_length) (spacing_later spacing s t (SLOT_SYMBOLS * s) (SLOT_SYMBOLS * t) o refl refl)
 kind_later Extended s t o = omega arith
 
 pub kind_left : (kind : Kind) (s : ℕ) → s < kind_slots kind
     → kind_start kind s 0 + (kind_slots kind - s) * kind_least_slot kind ≤ 1536000000 + kind_start kind 0 0
-kind_left (Ordinary spacing) s o = at_most_more _ (spacing_left spacing s (14 * s + 0) o (omega arith))
+kind_left (Ordinary spacing) s o = at_most_more _ (spacing_left spacing s (SLOT_SYMBOLS * s + 0) o (omega arith))
   where
     at_most_more : {a b : ℕ} (c : ℕ) → a ≤ b → a ≤ b + c
     at_most_more c h = omega arith
 kind_left (Offset spacing time_offset cp_length) s o =
-    moved_room _ (normal_start (exponent_of spacing) (14 * 0)) _ _ _ (prefixed spacing cp_length) (spacing_left spacing s (14 * s) o refl)
+    moved_room _ (normal_start (exponent_of spacing) (SLOT_SYMBOLS * 0)) _ _ _ (prefixed spacing cp_length) (spacing_left spacing s (SLOT_SYMBOLS * s) o refl)
 kind_left Extended s o = omega arith
 
 pub kind_has_slots : (kind : Kind) → 0 < kind_slots kind
@@ -97,7 +99,7 @@ kind_has_slots (Offset spacing time_offset cp_length) = grind arith
 kind_has_slots Extended = omega arith
 
 -- a slot's symbols start within its span
-normal_covers : (u i j m x y p q : ℕ) → u ≤ 4 → m < 14 → j ≡ i + m → x ≤ y + 800000 → p ≤ q + 800000
+normal_covers : (u i j m x y p q : ℕ) → u ≤ 4 → m < SLOT_SYMBOLS → j ≡ i + m → x ≤ y + 800000 → p ≤ q + 800000
     → ticks_of_ts (j * 2192) / 2 ^ u + x + p ≤ ticks_of_ts (i * 2192) / 2 ^ u + y + q + (ticks_of_ts (13 * 2192) / 2 ^ u + ticks_of_ts 32)
 normal_covers zero i j m x y p q h o e a b = omega arith
 normal_covers (suc zero) i j m x y p q h o e a b = omega arith
@@ -109,32 +111,32 @@ normal_covers (suc (suc (suc (suc (suc u))))) i j m x y p q h o e a b = absurd (
 under : (a b c : ℕ) → a ≤ b → a ≤ c + b
 under a b c h = omega arith
 
-times_more : (m x : ℕ) → m < 14 → m * x ≤ 13 * x
+times_more : (m x : ℕ) → m < SLOT_SYMBOLS → m * x ≤ 13 * x
 times_more m x h = grind arith
 
-offset_covers : (a m x : ℕ) → m < 14 → a + m * x ≤ a + 0 * x + 13 * x
+offset_covers : (a m x : ℕ) → m < SLOT_SYMBOLS → a + m * x ≤ a + 0 * x + 13 * x
 offset_covers a m x h = omega (arith, times_more m x h)
 
 pub kind_covers : (kind : Kind) (s m : ℕ) → m < kind_symbols kind → kind_start kind s m ≤ kind_start kind s 0 + kind_span kind
 kind_covers (Ordinary spacing) s m o =
-    normal_covers (exponent_of spacing) (14 * s + 0) (14 * s + m) m _ _ _ _ (exponent_small spacing) o (omega arith)
-    (under _ _ _ (longer_most 0 (14 * s + m))) (under _ _ _ (longer_most (7 * 2 ^ exponent_of spacing) (14 * s + m)))
+    normal_covers (exponent_of spacing) (SLOT_SYMBOLS * s + 0) (SLOT_SYMBOLS * s + m) m _ _ _ _ (exponent_small spacing) o (omega arith)
+    (under _ _ _ (longer_most 0 (SLOT_SYMBOLS * s + m))) (under _ _ _ (longer_most (7 * 2 ^ exponent_of spacing) (SLOT_SYMBOLS * s + m)))
 kind_covers (Offset spacing time_offset cp_length) s m o = offset_covers _ m _ o
 kind_covers Extended s m o = omega arith
 
-air_covers : (f : ℤ) (b x y k : ℕ) → x ≤ y + k → (f *ℤ pos 15360000000 +ℤ pos (b + x)) ≤ℤ (f *ℤ pos 15360000000 +ℤ pos (b + y) +ℤ pos k)
+air_covers : (f : ℤ) (b x y k : ℕ) → x ≤ y + k → (f *ℤ FRAME +ℤ pos (b + x)) ≤ℤ (f *ℤ FRAME +ℤ pos (b + y) +ℤ pos k)
 air_covers f b x y k h = omega (arith, ints)
 
 -- a slot's symbols start within its span
 pub symbol_in_span : (n : Numerology) (slot : Slot) (symbol : ℕ) → symbol < symbols_of n → air_of n slot symbol ≤ℤ (air_of n slot 0 +ℤ pos (span_of n))
 symbol_in_span n slot symbol o = air_covers slot.frame _ _ _ _ (kind_covers n.kind slot.slot symbol o)
 
-next_ℤ : (z : ℤ) → suc_ℤ z ≡ z +ℤ pos 1
+pub next_ℤ : (z : ℤ) → suc_ℤ z ≡ z +ℤ pos 1
 next_ℤ (pos n) = omega (arith, ints)
 next_ℤ (negsuc zero) = refl
 next_ℤ (negsuc (suc n)) = omega (arith, ints)
 
-times_later : (a k : ℤ) (m : ℕ) → (a +ℤ pos m) *ℤ k ≡ a *ℤ k +ℤ pos m *ℤ k
+pub times_later : (a k : ℤ) (m : ℕ) → (a +ℤ pos m) *ℤ k ≡ a *ℤ k +ℤ pos m *ℤ k
 times_later a k zero =
     let here : a +ℤ pos 0 ≡ a = omega (arith, ints) in
     rw here (rw (zero-*ℤ k) (omega (arith, ints)))
@@ -190,7 +192,7 @@ not_back m n s t d h e =
     omega (arith, ints)
 
 in_air : (f g : ℤ) (s t o p m k : ℕ) → g *ℤ pos 10 +ℤ pos t ≡ f *ℤ pos 10 +ℤ pos s +ℤ pos m → o + k ≤ m * 1536000000 + p
-    → (f *ℤ pos 15360000000 +ℤ pos (s * 1536000000 + o) +ℤ pos k) ≤ℤ (g *ℤ pos 15360000000 +ℤ pos (t * 1536000000 + p))
+    → (f *ℤ FRAME +ℤ pos (s * 1536000000 + o) +ℤ pos k) ≤ℤ (g *ℤ FRAME +ℤ pos (t * 1536000000 + p))
 in_air f g s t o p m k e h = omega (arith, ints)
 
 -- a slot that is so many later starts so many shortest slots later, or more
@@ -217,7 +219,7 @@ later_by n a b d is_a is_b e =
 abbrev slot_at : ℤ → ℕ → ℕ → Slot
 slot_at f s t = record { frame = f; subframe = s; slot = t }
 
-same_fields : (a b : Slot) → a.frame ≡ b.frame → a.subframe ≡ b.subframe → a.slot ≡ b.slot → a ≡ b
+pub same_fields : (a b : Slot) → a.frame ≡ b.frame → a.subframe ≡ b.subframe → a.slot ≡ b.slot → a ≡ b
 same_fields a b p q r =
     let same : slot_at a.frame a.subframe a.slot ≡ slot_at b.frame b.subframe b.slot = rw (p, q, r) refl in
     same
@@ -295,7 +297,7 @@ kind_slots_few (Offset spacing time_offset cp_length) =
     (kind_has_slots (Offset spacing time_offset cp_length), power_few (exponent_of spacing) (exponent_small spacing))
 kind_slots_few Extended = (omega arith, omega arith)
 
-kind_symbols_few : (kind : Kind) → (0 < kind_symbols kind) × (kind_symbols kind ≤ 14)
+kind_symbols_few : (kind : Kind) → (0 < kind_symbols kind) × (kind_symbols kind ≤ SLOT_SYMBOLS)
 kind_symbols_few (Ordinary spacing) = (omega arith, omega arith)
 kind_symbols_few (Offset spacing time_offset cp_length) = (omega arith, omega arith)
 kind_symbols_few Extended = (omega arith, omega arith)
@@ -314,20 +316,20 @@ more_times a i j x o = omega (arith, mul-le-mul_right x o)
 
 kind_in_order : (kind : Kind) (s i j : ℕ) → i ≤ j → kind_start kind s i ≤ kind_start kind s j
 kind_in_order (Ordinary spacing) s i j o =
-    let later : 14 * s + i ≤ 14 * s + j = omega arith in
-    normal_in_order (exponent_of spacing) (14 * s + i) (14 * s + j) _ _ _ _ (exponent_small spacing) later
+    let later : SLOT_SYMBOLS * s + i ≤ SLOT_SYMBOLS * s + j = omega arith in
+    normal_in_order (exponent_of spacing) (SLOT_SYMBOLS * s + i) (SLOT_SYMBOLS * s + j) _ _ _ _ (exponent_small spacing) later
     (longer_order 0 _ _ later) (longer_order (7 * 2 ^ exponent_of spacing) _ _ later)
 kind_in_order (Offset spacing time_offset cp_length) s i j o = more_times _ i j _ o
 kind_in_order Extended s i j o = omega arith
 
-air_in_order : (f : ℤ) (b x y : ℕ) → x ≤ y → (f *ℤ pos 15360000000 +ℤ pos (b + x)) ≤ℤ (f *ℤ pos 15360000000 +ℤ pos (b + y))
+air_in_order : (f : ℤ) (b x y : ℕ) → x ≤ y → (f *ℤ FRAME +ℤ pos (b + x)) ≤ℤ (f *ℤ FRAME +ℤ pos (b + y))
 air_in_order f b x y h = omega (arith, ints)
 
 -- what callers know of every numerology
 pub slots_few : (n : Numerology) → (0 < slots_of n) × (slots_of n ≤ 16)
 slots_few n = kind_slots_few n.kind
 
-pub symbols_few : (n : Numerology) → (0 < symbols_of n) × (symbols_of n ≤ 14)
+pub symbols_few : (n : Numerology) → (0 < symbols_of n) × (symbols_of n ≤ SLOT_SYMBOLS)
 symbols_few n = kind_symbols_few n.kind
 
 -- a later symbol of a slot does not start before an earlier one

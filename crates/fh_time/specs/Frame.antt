@@ -1,10 +1,11 @@
 -- The absolute frame that a frameId means at a time.
 use Rattle.std.specs.Prelude.{◌≡◌, ℕ, ℤ, pos, ◌+ℤ◌, ◌-ℤ◌, ◌*ℤ◌, ◌≤ℤ◌, ◌<ℤ◌}
 use Rattle.std.specs.Int.{int_div_euclid, int_rem_euclid}
+use Rattle.fh_time.specs.declared.frames.TheConstants.{FRAME}
 
 -- the start of a frame, in ticks
 abbrev pub frame_start : ℤ → ℤ
-frame_start frame = frame *ℤ pos 15360000000
+frame_start frame = frame *ℤ FRAME
 
 -- the frame has this frameId, the low 8 bits of its number, and starts from 1.28 s before the time to less than 1.28 s after it
 pub record IsFrame (frame_id : ℕ) (at frame : ℤ) : Type 0 where
@@ -14,7 +15,7 @@ pub record IsFrame (frame_id : ℕ) (at frame : ℤ) : Type 0 where
 
 -- the least frame that starts no earlier than 1.28 s before the time
 abbrev pub first_frame : ℤ → ℤ
-first_frame at = int_div_euclid (at +ℤ pos 15359999999) (pos 15360000000) -ℤ pos 128
+first_frame at = int_div_euclid (at +ℤ (FRAME -ℤ pos 1)) FRAME -ℤ pos 128
 
 -- the same frame as a number: `resolve` ensures that it is the one with the fact above
 unfoldable pub absolute_frame : ℕ → ℤ → ℤ

@@ -4,6 +4,7 @@ use Rattle.fh_time.specs.declared.kind.Kind.{Kind}
 use Rattle.fh_time.specs.declared.kind.Kind.TheVariants.{Ordinary, Offset, Extended}
 use Rattle.fh_time.specs.Spacing.{code_of_spacing, exponent_of}
 use Rattle.fh_time.specs.Symbols.{ticks_of_ts, normal_start, prefixed}
+use Rattle.fh_time.specs.declared.symbols.TheConstants.{SLOT_SYMBOLS}
 
 abbrev pub kind_code : Kind → ℕ
 kind_code (Ordinary spacing) = code_of_spacing spacing
@@ -28,8 +29,8 @@ kind_offsets Extended = None
 
 -- the symbols of a slot, and the slots of a subframe (3GPP TS 38.211, 4.3.2)
 abbrev pub kind_symbols : Kind → ℕ
-kind_symbols (Ordinary spacing) = 14
-kind_symbols (Offset spacing time_offset cp_length) = 14
+kind_symbols (Ordinary spacing) = SLOT_SYMBOLS
+kind_symbols (Offset spacing time_offset cp_length) = SLOT_SYMBOLS
 kind_symbols Extended = 12
 
 abbrev pub kind_slots : Kind → ℕ
@@ -39,15 +40,15 @@ kind_slots Extended = 4
 
 -- the start of a symbol of a slot after its subframe's; an offset endpoint's slot starts as an ordinary one's of this u
 abbrev pub kind_start : Kind → ℕ → ℕ → ℕ
-kind_start (Ordinary spacing) slot symbol = normal_start (exponent_of spacing) (14 * slot + symbol)
+kind_start (Ordinary spacing) slot symbol = normal_start (exponent_of spacing) (SLOT_SYMBOLS * slot + symbol)
 kind_start (Offset spacing time_offset cp_length) slot symbol =
-    normal_start (exponent_of spacing) (14 * slot) + ticks_of_ts time_offset + symbol * prefixed spacing cp_length
+    normal_start (exponent_of spacing) (SLOT_SYMBOLS * slot) + ticks_of_ts time_offset + symbol * prefixed spacing cp_length
 kind_start Extended slot symbol = ticks_of_ts ((12 * slot + symbol) * 640)
 
 -- the length of the shortest slot
 abbrev pub kind_least_slot : Kind → ℕ
-kind_least_slot (Ordinary spacing) = ticks_of_ts (14 * 2192) / 2 ^ exponent_of spacing
-kind_least_slot (Offset spacing time_offset cp_length) = ticks_of_ts (14 * 2192) / 2 ^ exponent_of spacing
+kind_least_slot (Ordinary spacing) = ticks_of_ts (SLOT_SYMBOLS * 2192) / 2 ^ exponent_of spacing
+kind_least_slot (Offset spacing time_offset cp_length) = ticks_of_ts (SLOT_SYMBOLS * 2192) / 2 ^ exponent_of spacing
 kind_least_slot Extended = ticks_of_ts 7680
 
 -- from symbol 0 of a slot to its last symbol, or more: thirteen symbols, and both longer ones of a subframe at an ordinary endpoint

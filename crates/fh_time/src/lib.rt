@@ -13,10 +13,10 @@ mod symbols;
 mod values;
 
 pub use carrier::prb_span;
-pub use frames::resolve;
-pub use nanoseconds::of_ns;
+pub use frames::{FRAME, resolve};
+pub use nanoseconds::{END_OF_TIME, LAST_TIME, of_ns};
 pub use numerology::Numerology;
 pub use shapes::{code, offsets, shape};
 pub use slots::{least_slot, slot_after, span};
-pub use symbols::air;
+pub use symbols::{SLOT_SYMBOLS, air};
 pub use values::{Shape, Slot, Ticks};

@@ -5,6 +5,7 @@ ghost use Rattle.fh_time.specs.Numbering.{code_of, offsets_of, shape_of};
 
 use crate::kind::Kind;
 use crate::numerology::Numerology;
+use crate::symbols::SLOT_SYMBOLS;
 use crate::values::Shape;
 
 /// The spacing code of frameStructure: 0 to 4 for `15 * 2^code` kHz, 12 for 1.25 kHz, 14 for 5 kHz.
@@ -39,7 +40,7 @@ pub fn shape(n: &Numerology) -> Shape
 {
     match n.kind {
         Kind::Ordinary(spacing) | Kind::Offset { spacing, .. } => Shape {
-            symbols: 14,
+            symbols: SLOT_SYMBOLS as u8,
             slots: 1 << spacing.exponent(),
         },
         Kind::Extended => Shape {

@@ -6,7 +6,7 @@ ghost use Rattle.fh_time.specs.Numbering.{slots_of, symbols_of, slot_number, IsS
 use crate::kind::Kind;
 use crate::numerology::Numerology;
 use crate::shapes::shape;
-use crate::symbols::{EXTENDED, LONGER, SYMBOL, prefixed};
+use crate::symbols::{EXTENDED, LONGER, SLOT_SYMBOLS, SYMBOL, prefixed};
 use crate::values::{Slot, Ticks};
 
 /// The length of the shortest slot in ticks: no two slots start closer to each other.
@@ -18,7 +18,7 @@ pub fn least_slot(n: &Numerology) -> Ticks
 {
     match n.kind {
         Kind::Ordinary(spacing) | Kind::Offset { spacing, .. } => {
-            Ticks(((14 * SYMBOL) >> spacing.exponent()) as i64)
+            Ticks(((SLOT_SYMBOLS as u64 * SYMBOL) >> spacing.exponent()) as i64)
         }
         Kind::Extended => Ticks((12 * EXTENDED) as i64),
     }

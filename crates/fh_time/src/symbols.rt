@@ -1,5 +1,6 @@
 ghost use Rattle.std.specs.Prelude.{◌≡◌, ℕ, ℤ, pos, neg_ℤ, ◌+◌, ◌*◌, ◌/◌, ◌^◌, ◌<◌, ◌≤◌, ◌≤ℤ◌, ◌<ℤ◌, ◌+ℤ◌};
 ghost use Rattle.fh_time.specs.Air.{air_of};
+ghost use Rattle.fh_time.specs.declared.symbols.TheConstants.{SLOT_SYMBOLS};
 ghost use Rattle.fh_time.specs.Frame.{frame_start};
 ghost use Rattle.fh_time.specs.Kinds.{kind_slots, kind_symbols, kind_start};
 ghost use Rattle.fh_time.specs.Numbering.{slots_of, symbols_of};
@@ -10,6 +11,9 @@ use crate::kind::Kind;
 use crate::numerology::Numerology;
 use crate::spacing::Spacing;
 use crate::values::{Slot, Ticks};
+
+/// The symbols of a slot with the normal cyclic prefix, the most that a slot has (3GPP TS 38.211, 4.3.2).
+pub const SLOT_SYMBOLS: usize = 14;
 
 /// The ticks of one Ts.
 const TS: u64 = 50_000;
@@ -42,7 +46,7 @@ fn longer_between(longer: u32, from: u32, to: u32) -> u64
 fn time_between(u: u8, from: u32, to: u32) -> u64
     requires u { u ≤ 4 }
     requires order { from ≤ to }
-    requires within { to ≤ 14 * 2 ^ u }
+    requires within { to ≤ SLOT_SYMBOLS * 2 ^ u }
     ensures value { normal_start u from + result ≡ normal_start u to }
     ensures small { result ≤ 1536000000 }
 {
@@ -68,7 +72,7 @@ fn start_in_subframe(kind: Kind, slot: u8, symbol: u8) -> u64
     match kind {
         Kind::Ordinary(spacing) => {
             let u = spacing.exponent();
-            let begin = 14 * slot as u32;
+            let begin = SLOT_SYMBOLS as u32 * slot as u32;
             time_between(u, 0, begin) + time_between(u, begin, begin + symbol as u32)
         }
         Kind::Offset {
@@ -76,7 +80,7 @@ fn start_in_subframe(kind: Kind, slot: u8, symbol: u8) -> u64
             time_offset,
             cp_length,
         } => {
-            let begin = time_between(spacing.exponent(), 0, 14 * slot as u32);
+            let begin = time_between(spacing.exponent(), 0, SLOT_SYMBOLS as u32 * slot as u32);
             begin + time_offset as u64 * TS + symbol as u64 * prefixed(spacing, cp_length)
         }
         Kind::Extended => (12 * slot as u64 + symbol as u64) * EXTENDED,

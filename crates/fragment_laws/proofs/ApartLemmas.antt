@@ -1,20 +1,13 @@
 -- A generation holds what came of one message.
-use Rattle.std.proofs.Common.{◌≡◌, ℕ, ℤ, ◌+ℤ◌, ◌≤ℤ◌, ◌<ℤ◌, ◌%◌, ◌≤◌, inl, inr, List, [], ◌∷◌, refl, ap, ap₂, sym, ◌∙◌, subst, arith, true, false, Bool, ◌==◌, ◌&&◌, int_le}
+use Rattle.std.proofs.Common.{◌≡◌, ℕ, ℤ, ◌+ℤ◌, ◌≤ℤ◌, ◌<ℤ◌, ◌%◌, ◌≤◌, inl, inr, List, [], ◌∷◌, refl, ap, ap₂, sym, ◌∙◌, subst, arith, false, ◌==◌, int_le}
 use Rattle.std.proofs.lemmas.Int.{ints}
 use Rattle.std.proofs.lemmas.Bool.{cases_order, cases_Bool, eq-eqb, eqb-true, and_parts, and_from}
 use Rattle.ecpri_fragments.specs.Generations.{Fragment, Generation, is_of, begun, joined, with_fragment, held_in, generations_of, seen}
 use Rattle.fragment_laws.specs.Apart.{IsIn, Numbers, number_of, of_message, AreApart}
-
-le_true : (a b : ℤ) → a ≤ℤ b → int_le a b ≡ true
-le_true a b le = grind (arith, ints)
+use Rattle.fh_time.proofs.Orders.{true_le as le_true, and_false}
 
 lt_false : (a b : ℤ) → b <ℤ a → int_le a b ≡ false
 lt_false a b lt = grind (arith, ints)
-
-and_false : (a b : Bool) → (a ≡ true → b ≡ true → ⊥) → (a && b) ≡ false
-and_false true true h = absurd (h refl refl)
-and_false true false h = refl
-and_false false b h = refl
 
 -- the earlier fragments are apart too
 pub apart_before : (hold fast slow : ℤ) (first : ℕ → ℕ → ℤ) (num : Numbers) (a : Fragment) (earlier : List Fragment) →

@@ -5,9 +5,7 @@ use Rattle.std.proofs.lemmas.Bool.{cases_eq, eq-eqb, ne_eqb, and_from}
 use Rattle.ecpri_fragments.specs.Generations.{Fragment}
 use Rattle.fragment_laws.specs.Apart.{IsIn, number_of, AreApart}
 use Rattle.fragment_laws.specs.Flow.{Flow, Bounds, sent_at, IsSound, search_from, numbers_of, IsCopyOf, IsDelivered}
-
-le_true : (a b : ℤ) → a ≤ℤ b → int_le a b ≡ true
-le_true a b le = grind (arith, ints)
+use Rattle.fh_time.proofs.Orders.{true_le as le_true}
 
 lt_false : (a b : ℤ) → b <ℤ a → int_le a b ≡ false
 lt_false a b lt = grind (arith, ints)

@@ -1,15 +1,12 @@
 -- The bytes of a message from one place to another.
-use Rattle.std.proofs.Common.{◌≡◌, ℕ, ◌+◌, ◌-◌, ◌<◌, ◌≤◌, min, max, List, [], ◌∷◌, ◌++◌, length, take, drop, inl, inr, refl, sym, ap, ◌∙◌, arith, append-nil, length-drop}
+use Rattle.std.proofs.Common.{◌≡◌, ℕ, ◌+◌, ◌-◌, ◌<◌, ◌≤◌, min, max, List, [], ◌++◌, length, take, drop, inl, inr, refl, sym, ap, ◌∙◌, arith, append-nil, length-drop}
 use Rattle.std.proofs.lemmas.List.{length-take, take_all, drop-take, take-append-le, drop-append-le}
 use Rattle.std.proofs.Math.Seq.{take-append-add, drop-append-add, take-append_seam, take-length}
 use Rattle.std.proofs.lemmas.Bool.{cases_lt}
 use Rattle.frame_bytes.specs.declared.pieces.Span.{Span}
 use Rattle.frame_bytes.specs.Cuts.{cut}
 use Rattle.frame_bytes.specs.Written.{Stands}
-
-pub nil_is : (xs : List ℕ) → length xs ≡ 0 → xs ≡ []
-nil_is [] h = refl
-nil_is (x ∷ xs) h = absurd (omega arith)
+use Rattle.uplane_sections.proofs.Runs.{no_bytes as nil_is}
 
 pub length_cut : (from to : ℕ) (xs : List ℕ) → length (cut from to xs) ≡ min to (length xs) - from
 length_cut from to xs = length-drop from (take to xs) ∙ ap (λ n. n - from) (length-take to xs)

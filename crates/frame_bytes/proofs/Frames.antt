@@ -1,21 +1,19 @@
 -- A sent frame is one whole PDU, and is read back.
-use Rattle.std.proofs.Common.{◌≡◌, ℕ, ◌+◌, ◌*◌, ◌≤◌, false, eqb, List, [], ◌++◌, length, take, drop, refl, sym, ap, ◌∙◌, arith, append_assoc, append-nil, length-append, length-drop}
-use Rattle.std.proofs.lemmas.List.{length-take-le, take-append-drop, get_or_append_left, drop_at}
+use Rattle.std.proofs.Common.{◌≡◌, ℕ, ◌+◌, ◌≤◌, false, eqb, List, [], ◌++◌, length, take, drop, refl, sym, ap, ◌∙◌, arith, append_assoc, append-nil, length-append, length-drop}
+use Rattle.std.proofs.lemmas.List.{length-take-le, take-append-drop, drop_at}
 use Rattle.bit_fields.specs.Field.{field}
-use Rattle.bit_fields.proofs.Field.{field_same, field_take, field_drop}
+use Rattle.bit_fields.proofs.Field.{field_take, field_drop}
 use Rattle.ecpri_frames.specs.Headers.{head_of}
 use Rattle.ecpri_fragments.specs.declared.sequence.SeqField.{SeqField}
 use Rattle.frame_bytes.specs.Spelled.{in_bytes}
 use Rattle.frame_bytes.specs.Transport.{transport_fields, frame_of, IsOneMessage, IsTransport}
 use Rattle.frame_bytes.proofs.Fields.{AreAt, AreSmall, at_fields, length-in_bytes, bit_small, bit_back}
+use Rattle.uplane_sections.proofs.Behind.{field_front as field_left}
 
 fields_small : (kind id : ℕ) (seq : SeqField) (size : ℕ) → IsTransport kind id seq size → AreSmall (transport_fields kind id seq size)
 unfolding AreSmall
 fields_small kind id seq size t =
     (omega arith, (omega arith, (omega arith, (t.kind_fits, (t.size_fits, (t.id_fits, (t.seq_fits, (bit_small seq.last, (t.sub_fits, tt)))))))))
-
-pub field_left : (xs ys : List ℕ) (i n : ℕ) → i + n ≤ 8 * length xs → field (xs ++ ys) i n ≡ field xs i n
-field_left xs ys i n fits = field_same (xs ++ ys) xs i n (λ k low high. get_or_append_left xs ys 0 k (omega arith))
 
 pub frame_is_one : (kind id : ℕ) (seq : SeqField) (application : List ℕ) → IsTransport kind id seq (4 + length application)
     → IsOneMessage kind id seq application (frame_of kind id seq application)

@@ -48,7 +48,7 @@ head_written h fits frame =
     let symbol : field bytes 26 6 ≡ h.symbol = at.1.1.1.1.1.1.0 in
     record { len = length-in_bytes 4 (head_fields h) refl; version = at.1.0; reads = rw (down, filter, frame_id, subframe, slot, symbol) refl }
 
-hdr_small : (method : Method) → udCompHdr method < 2 ^ 8
+pub hdr_small : (method : Method) → udCompHdr method < 2 ^ 8
 hdr_small Plain = omega arith
 hdr_small (Bfp w) = omega arith
 

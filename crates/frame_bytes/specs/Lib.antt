@@ -5,3 +5,4 @@ pub mod Messages
 pub mod Cuts
 pub mod Written
 pub mod Reading
+pub mod Headers

@@ -22,7 +22,7 @@ use Rattle.frame_order.specs.Queues.{Held, IsMerged, StandsFor, first_time, heap
 use Rattle.frame_order.specs.TurnLaws.{turn_total}
 use Rattle.frame_order.proofs.TurnOrder.{same_turn, own, up_itself, up_chain, up_both, run_up, frames_up, first_is, later_is}
 
-times-append : (t : Turn) (xs ys : List Turn) → times t (xs ++ ys) ≡ times t xs + times t ys
+pub times-append : (t : Turn) (xs ys : List Turn) → times t (xs ++ ys) ≡ times t xs + times t ys
 times-append t [] ys = omega arith
 times-append t (x ∷ xs) ys = let r = times-append t xs ys in omega arith
 

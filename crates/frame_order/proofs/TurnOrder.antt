@@ -12,6 +12,7 @@ use Rattle.frame_order.specs.declared.turns.Run.{Run}
 use Rattle.frame_order.specs.Turns.{turn_cmp, IsUpTo, is_turn, leaves, turn_at}
 use Rattle.frame_order.specs.Queues.{run_cmp}
 use Rattle.frame_order.specs.TurnLaws.{turn_total}
+use Rattle.fh_time.proofs.Orders.{nat_up}
 
 -- ---- answers of comparisons
 
@@ -47,9 +48,6 @@ nat_same x y h = grind (arith, nat_tests)
 
 int_up : (x y : ℤ) → x ≤ℤ y → is_gt (int_cmp x y) ≡ false
 int_up x y h = grind (arith, ints, nat_tests)
-
-nat_up : (x y : ℕ) → x ≤ y → is_gt (nat_cmp x y) ≡ false
-nat_up x y h = grind (arith, nat_tests)
 
 -- ---- turns
 

@@ -19,20 +19,22 @@ use Rattle.measured_traffic.specs.Replayed.{leaving_flight, leaving_from, leavin
 use Rattle.measured_traffic.specs.replay_events.specs.Moments.{end_of_time}
 use Rattle.ru_buffers.specs.unit_model.specs.Lists.{each_tick}
 use Rattle.ru_buffers.specs.unit_model.specs.Meetings.{Arrival}
-use Rattle.ru_buffers.specs.history_laws.proofs.TickLemmas.{at_most, next_after, next_is_later, next_order}
+use Rattle.ru_buffers.specs.history_laws.proofs.TickLemmas.{next_after, next_is_later}
 use Rattle.frame_ways.specs.Ways.{ComesFrom, LandsAfter}
 use Rattle.frame_ways.proofs.CountLemmas.{measured_within, times_within}
+use Rattle.measured_traffic.specs.fh_document.specs.declared.config_lines.TheConstants.{MOST_TRANSIT}
+use Rattle.fh_time.proofs.Orders.{at_most, next_order}
 
 -- ---- the copies of a frame
 
-at_least : (now at : ℤ) (least : ℕ) (ns : ℤ) → now ≤ℤ (at +ℤ pos least) → IsFrom least 3000000000 ns → now ≤ℤ (at +ℤ (ns *ℤ pos 1536))
+at_least : (now at : ℤ) (least : ℕ) (ns : ℤ) → now ≤ℤ (at +ℤ pos least) → IsFrom least MOST_TRANSIT ns → now ≤ℤ (at +ℤ (ns *ℤ pos 1536))
 at_least now at least ns order h = let low = h.low in omega (arith, ints, low, order)
 
 -- each so many nanoseconds later at least
-copies_come : (f : Leaving) (least : ℕ) (now : ℤ) (delays : List ℤ) → now ≤ℤ (f.at +ℤ pos least) → All (IsFrom least 3000000000) delays → All (λ (a : Arrival). now ≤ℤ a.at) (map (copy_at f) delays)
+copies_come : (f : Leaving) (least : ℕ) (now : ℤ) (delays : List ℤ) → now ≤ℤ (f.at +ℤ pos least) → All (IsFrom least MOST_TRANSIT) delays → All (λ (a : Arrival). now ≤ℤ a.at) (map (copy_at f) delays)
 copies_come f least now [] order times = All-nil _
 copies_come f least now (ns ∷ delays) order times =
-    let P = IsFrom least 3000000000 in
+    let P = IsFrom least MOST_TRANSIT in
     All-cons (λ (a : Arrival). now ≤ℤ a.at) (copy_at f ns) (map (copy_at f) delays) (at_least now f.at least ns order (All-head P ns delays times))
     (copies_come f least now delays order (All-tail P ns delays times))
 

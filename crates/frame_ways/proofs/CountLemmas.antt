@@ -16,11 +16,13 @@ use Rattle.measured_traffic.specs.frame_deliveries.specs.Copies.{copies_of, copi
 use Rattle.measured_traffic.specs.frame_deliveries.proofs.Within.{copies_within}
 use Rattle.frame_ways.specs.declared.tally.Tally.{Tally}
 use Rattle.frame_ways.specs.Counts.{HasCounted, IsTally, held_count}
+use Rattle.measured_traffic.specs.fh_document.specs.declared.config_lines.TheConstants.{MOST_TRANSIT}
+use Rattle.measured_traffic.specs.fh_document.specs.declared.deliver_lines.TheConstants.{MOST_NUMBER}
 
 -- ---- a count may stay at the greatest number
 
 -- no line speaks of a frame beyond it
-not_spoken : (side : Side) (class : Class3) (k : ℕ) (d : Delivery) → IsDelivery d → 9999999 < k → (b : Bool) → speaks_of side class k d ≡ b → b ≡ false
+not_spoken : (side : Side) (class : Class3) (k : ℕ) (d : Delivery) → IsDelivery d → MOST_NUMBER < k → (b : Bool) → speaks_of side class k d ≡ b → b ≡ false
 not_spoken side class k d is far true e =
     let rest = (and_parts (way_number side == way_number d.side) ((class_number class == class_number d.class) && (k == d.k)) e).1 in
     let same = eqb-true k d.k (and_parts (class_number class == class_number d.class) (k == d.k) rest).1 in
@@ -28,7 +30,7 @@ not_spoken side class k d is far true e =
     absurd (omega (arith, same, most, far))
 not_spoken side class k d is far false e = refl
 
-none_speaks : (side : Side) (class : Class3) (k : ℕ) (ds : List Delivery) → All IsDelivery ds → 9999999 < k → line_of ds side class k ≡ None
+none_speaks : (side : Side) (class : Class3) (k : ℕ) (ds : List Delivery) → All IsDelivery ds → MOST_NUMBER < k → line_of ds side class k ≡ None
 none_speaks side class k [] all far = refl
 none_speaks side class k (d ∷ ds) all far =
     let rest = none_speaks side class k ds (All-tail IsDelivery d ds all) far in
@@ -62,18 +64,18 @@ copies_are d e side unit class kind k m doc of_document of_unit of_kind number =
     ∙ ap (copies_of d side class) number
     ∙ held_copies d doc side class (count_of class m)
 
-from_1 : (ns : ℤ) → IsFrom 1 3000000000 ns → IsFrom 0 3000000000 ns
+from_1 : (ns : ℤ) → IsFrom 1 MOST_TRANSIT ns → IsFrom 0 MOST_TRANSIT ns
 from_1 ns h = record { low = (let low = h.low in omega (arith, ints, low)); high = h.high }
 
 -- none comes before it was sent
-pub times_within : (d : Document) → IsDocument d → (side : Side) (class : Class3) (k : ℕ) → All (IsFrom 0 3000000000) (copies_of d side class k)
+pub times_within : (d : Document) → IsDocument d → (side : Side) (class : Class3) (k : ℕ) → All (IsFrom 0 MOST_TRANSIT) (copies_of d side class k)
 times_within d doc side C k = copies_within d doc.transits doc.deliveries side C k
 times_within d doc side U k = copies_within d doc.transits doc.deliveries side U k
 times_within d doc side M k = λ i z lt. from_1 _ (copies_within d doc.transits doc.deliveries side M k i z lt)
 
 -- and of delay measurement at least a nanosecond later
-pub measured_within : (d : Document) → IsDocument d → (side : Side) (class : Class3) (k : ℕ) → class ≡ M → All (IsFrom 1 3000000000) (copies_of d side class k)
-measured_within d doc side class k is = subst (λ (c : Class3). All (IsFrom 1 3000000000) (copies_of d side c k)) (sym is) (copies_within d doc.transits doc.deliveries side M k)
+pub measured_within : (d : Document) → IsDocument d → (side : Side) (class : Class3) (k : ℕ) → class ≡ M → All (IsFrom 1 MOST_TRANSIT) (copies_of d side class k)
+measured_within d doc side class k is = subst (λ (c : Class3). All (IsFrom 1 MOST_TRANSIT) (copies_of d side c k)) (sym is) (copies_within d doc.transits doc.deliveries side M k)
 
 -- ---- the counts
 

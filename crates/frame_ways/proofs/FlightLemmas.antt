@@ -14,9 +14,10 @@ use Rattle.frame_network.proofs.Order.{earlier_place_is_not_after, not_after}
 use Rattle.frame_network.proofs.PutIn.{All-put_in, IsInOrder-put_in, IsLastOf, filter-put_in_last, filter-put_in_other}
 use Rattle.measured_traffic.specs.replay_events.specs.Moments.{landing_at}
 use Rattle.ru_buffers.specs.unit_model.specs.Meetings.{Arrival}
-use Rattle.measured_traffic.specs.sent_order.proofs.KeptLemmas.{nat_less}
 use Rattle.frame_ways.specs.declared.copies.Departure.{Departure}
 use Rattle.frame_ways.specs.Flying.{AreFlyingFrom, IsSentBefore, arrival_at, flying_at, flying_copies, flying_copy, landing_from, put_all}
+use Rattle.measured_traffic.specs.fh_document.specs.declared.config_lines.TheConstants.{MOST_TRANSIT}
+use Rattle.fh_time.proofs.Orders.{nat_less}
 
 -- ---- one copy more
 
@@ -160,8 +161,8 @@ puts_next x frame copy any delays old inside =
     ∙ ap (λ (k : ℕ). put_in (flying_copy x frame k ns) (put_all (flying_copies x frame 0 (take copy delays)) old)) {x = length (take copy delays)} {y = copy} (omega (arith, long))
 
 -- the last one's delay
-pub last_of : (delays others : List ℤ) (last : ℤ) → delays ≡ others ++ last ∷ [] → All (IsFrom 0 3000000000) delays → IsFrom 0 3000000000 last
-last_of delays others last split h = (All-pop (IsFrom 0 3000000000) delays others (Some last) split h).1
+pub last_of : (delays others : List ℤ) (last : ℤ) → delays ≡ others ++ last ∷ [] → All (IsFrom 0 MOST_TRANSIT) delays → IsFrom 0 MOST_TRANSIT last
+last_of delays others last split h = (All-pop (IsFrom 0 MOST_TRANSIT) delays others (Some last) split h).1
 
 -- the copies but the last one, and then the last one
 pub puts_whole : {T E : Type 0} (result : Result T E) (x : Departure) (frame : List ℕ) (others delays : List ℤ) (last : ℤ) (copies : ℕ) (a : Flying) (old before new : List Flying)

@@ -1,5 +1,5 @@
 -- The frames that a document injects to a unit, as they wait for their times.
-use Rattle.std.proofs.Common.{◌≡◌, ℕ, suc, ℤ, pos, ◌*ℤ◌, ◌≤ℤ◌, ◌+◌, ◌^◌, ◌<◌, ◌≤◌, ◌⊎◌, inl, inr, Some, None, Bool, true, false, List, [], ◌∷◌, ◌++◌, length, take, get_or, refl, sym, ap, ap₂, ◌∙◌, subst, arith, append-nil}
+use Rattle.std.proofs.Common.{◌≡◌, ℕ, suc, ℤ, pos, ◌*ℤ◌, ◌≤ℤ◌, ◌+◌, ◌^◌, ◌<◌, Some, Bool, true, false, List, [], ◌∷◌, ◌++◌, length, take, get_or, refl, sym, ap, ap₂, ◌∙◌, subst, arith, append-nil}
 use Rattle.std.specs.Prelude.{All, filter, map, slice_get, if◌then◌else◌}
 use Rattle.std.specs.Borrow.{Bor}
 use Rattle.std.specs.Option.{option_map}
@@ -7,7 +7,7 @@ use Rattle.std.specs.Ordering.{int_eq}
 use Rattle.std.proofs.lemmas.Int.{ints}
 use Rattle.std.proofs.lemmas.List.{length-map, map-append, take_more}
 use Rattle.std.proofs.lemmas.List.Elements.{All-cons, All-head, All-nil, All-tail, All-filter, All-weaker, filter-append}
-use Rattle.std.proofs.lemmas.Option.{get_or_from_slice_get, slice_get-get_or, slice_get-map, slice_get_cases, slice_get_within}
+use Rattle.std.proofs.lemmas.Option.{get_or_from_slice_get, slice_get-get_or, slice_get-map, slice_get_within}
 use Rattle.air_source.specs.declared.events.Side.{Side}
 use Rattle.measured_traffic.specs.document_traffic.specs.Landing.{injected_at, injected_to, is_to}
 use Rattle.measured_traffic.specs.fh_document.specs.Proper.{IsDocument}
@@ -20,7 +20,7 @@ use Rattle.measured_traffic.specs.replay_events.specs.Moments.{landing_at}
 use Rattle.ru_buffers.specs.unit_model.specs.Meetings.{Arrival}
 use Rattle.ru_buffers.specs.unit_model.specs.Radiated.{first_clock}
 use Rattle.frame_ways.specs.Flying.{arrival_at}
-use Rattle.frame_ways.specs.Listed.{AreFrom, HasTime, arrival_of, frame_of, injections_in, injections_to, left_at, time_of}
+use Rattle.frame_ways.specs.Listed.{AreFrom, HasTime, landing_arrival, injected_frame, injections_in, injections_to, landings_left, time_of}
 
 -- ---- those of a unit
 
@@ -51,13 +51,6 @@ one_passed p is k i old found other before =
     ∙ ap (λ (xs : List Injection). filter p (take k is) ++ xs) (sym (only_one p i false other))
     ∙ sym (filter_next p is k i found)
 
-pub not_past : {A : Type 0} (xs : List A) (i : ℕ) → i < length xs → slice_get xs i ≡ None → ⊥
-not_past {A} xs i inside none = either (slice_get_cases xs i).1
-  where
-    either : ((x : A) × (i < length xs) × (slice_get xs i ≡ Some x) × (get_or xs i x ≡ x)) ⊎ ((length xs ≤ i) × (slice_get xs i ≡ None)) → ⊥
-    either (inl found) = let e : None ≡ Some found.0 = sym none ∙ found.2 in absurd (cc e)
-    either (inr past) = omega (arith, inside, past.0)
-
 -- ---- their times
 
 pub times_to : (d : Document) (side : Side) (lent : List (Bor Injection)) → IsDocument d → injections_in lent ≡ injections_to side d → All HasTime (injections_in lent)
@@ -82,9 +75,9 @@ all_within times count q size placed = All-weaker (IsPlaced times) (λ (l : Land
 
 -- these of a list
 abbrev arrivals_from : List Injection → List Landing → List Arrival
-arrivals_from whole ls = map (λ l. arrival_at l.at.0 (frame_of (slice_get whole l.index))) ls
+arrivals_from whole ls = map (λ l. arrival_at l.at.0 (injected_frame (slice_get whole l.index))) ls
 
-kept : (whole : List Injection) (b : Bool) (l : Landing) (a : Arrival) (ls : List Landing) (xs : List Arrival) → arrival_at l.at.0 (frame_of (slice_get whole l.index)) ≡ a
+kept : (whole : List Injection) (b : Bool) (l : Landing) (a : Arrival) (ls : List Landing) (xs : List Arrival) → arrival_at l.at.0 (injected_frame (slice_get whole l.index)) ≡ a
     → arrivals_from whole ls ≡ xs → arrivals_from whole (if b then l ∷ ls else ls) ≡ (if b then a ∷ xs else xs)
 kept whole true l a ls xs here rest = ap₂ (λ x ys. x ∷ ys) here rest
 kept whole false l a ls xs here rest = rest
@@ -95,20 +88,20 @@ left_from whole tick k [] at = refl
 left_from whole tick k (i ∷ is) at =
     let here : slice_get whole k ≡ Some i = subst (λ n. slice_get whole n ≡ Some i) {x = k + 0} {y = k} (omega arith) (at 0 i refl) in
     kept whole (int_eq (i.at *ℤ pos 1536) tick) (place_of (time_of i) k) (injected_at i) (at_time tick (enumerated_from (suc k) (map time_of is))) (landing_at (map injected_at is) tick)
-    (ap (λ o. arrival_at (i.at *ℤ pos 1536) (frame_of o)) here)
+    (ap (λ o. arrival_at (i.at *ℤ pos 1536) (injected_frame o)) here)
     (left_from whole tick (suc k) is (λ j x e. subst (λ n. slice_get whole n ≡ Some x) {x = k + suc j} {y = suc k + j} (omega arith) (at (suc j) x e)))
 
-left_all : (d : Document) (side : Side) (tick : ℤ) → left_at d side tick (enumerated (map time_of (injections_to side d))) ≡ landing_at (injected_to side d) tick
+left_all : (d : Document) (side : Side) (tick : ℤ) → landings_left d side tick (enumerated (map time_of (injections_to side d))) ≡ landing_at (injected_to side d) tick
 left_all d side tick =
     let is = injections_to side d in
     left_from is tick 0 is (λ j i e. subst (λ n. slice_get is n ≡ Some i) {x = j} {y = 0 + j} (omega arith) e)
 
 -- those that wait are all of them
 pub left_listed : (d : Document) (side : Side) (times : List Ticks) (lent : List (Bor Injection)) (q : List Landing) → times ≡ map time_of (injections_in lent) → injections_in lent ≡ injections_to side d
-    → ((t : ℤ) → at_time t q ≡ at_time t (enumerated times)) → (tick : ℤ) → left_at d side tick q ≡ landing_at (injected_to side d) tick
+    → ((t : ℤ) → at_time t q ≡ at_time t (enumerated times)) → (tick : ℤ) → landings_left d side tick q ≡ landing_at (injected_to side d) tick
 left_listed d side times lent q are those same tick =
-    ap (map (arrival_of d side)) (same tick)
-    ∙ ap (λ ts. left_at d side tick (enumerated ts)) (are ∙ ap (map time_of) those)
+    ap (map (landing_arrival d side)) (same tick)
+    ∙ ap (λ ts. landings_left d side tick (enumerated ts)) (are ∙ ap (map time_of) those)
     ∙ left_all d side tick
 
 -- ---- none is before the first tick
@@ -124,7 +117,7 @@ times_from (i ∷ is) h =
 placed_from : (times : List Ticks) (l : Landing) → All (λ t. first_clock ≤ℤ t.0) times → IsPlaced times l → first_clock ≤ℤ l.at.0
 placed_from times l h p = subst (λ (t : Ticks). first_clock ≤ℤ t.0) (get_or_from_slice_get times l.index l.at l.at p.is) (h l.index l.at p.within)
 
-all_from : (times : List Ticks) (q : List Landing) → All (λ t. first_clock ≤ℤ t.0) times → All (IsPlaced times) q → AreFrom first_clock q
+pub all_from : (times : List Ticks) (q : List Landing) → All (λ t. first_clock ≤ℤ t.0) times → All (IsPlaced times) q → AreFrom first_clock q
 all_from times [] h p = tt
 all_from times (l ∷ q) h p = (placed_from times l h (All-head (IsPlaced times) l q p), all_from times q h (All-tail (IsPlaced times) l q p))
 

@@ -18,11 +18,12 @@ use Rattle.measured_traffic.specs.replay_events.specs.Passing.{IsCalm}
 use Rattle.measured_traffic.specs.replay_events.proofs.TickLemmas.{between}
 use Rattle.ru_buffers.specs.unit_model.specs.Meetings.{Arrival}
 use Rattle.ru_buffers.specs.unit_model.specs.Radiated.{first_clock}
-use Rattle.ru_buffers.specs.history_laws.proofs.TickLemmas.{at_most, before_next, next_after, weak, last_before}
+use Rattle.ru_buffers.specs.history_laws.proofs.TickLemmas.{before_next, next_after, last_before}
 use Rattle.frame_ways.specs.Ways.{IsEmptyTo, LandsAfter, Waits}
 use Rattle.frame_ways.specs.declared.way.Way.{Way}
 use Rattle.frame_ways.proofs.ComingLemmas.{leaving_lands_after}
 use Rattle.frame_ways.proofs.WayLemmas.{calm_at, empty_less, waits_until}
+use Rattle.fh_time.proofs.Orders.{weak, at_most}
 
 -- the ways to both units at a tick, and the frames of the classes c and u that are still to be sent: before another tick none of these
 -- leaves, none that is on its way lands, and no measurement begins

@@ -23,8 +23,8 @@ use Rattle.frame_ways.specs.declared.landed.Landed.TheVariants.{Sent, Listed}
 use Rattle.frame_ways.specs.declared.way.Way.{Way}
 use Rattle.frame_ways.specs.Counts.{IsTally}
 use Rattle.frame_ways.specs.Flying.{AreFlyingFrom, IsSentBefore, arrival_at, flying_at, flying_copies, put_all}
-use Rattle.frame_ways.specs.Listed.{AreFrom, frame_at, frame_of, injections_in, injections_to, left_at, time_of}
-use Rattle.frame_ways.specs.Ways.{ComesFrom, IsLanded, IsOver, Waits, sent_at}
+use Rattle.frame_ways.specs.Listed.{AreFrom, frame_at, injected_frame, injections_in, injections_to, landings_left, time_of}
+use Rattle.frame_ways.specs.Ways.{ComesFrom, IsLanded, IsTickOver, Waits, way_sent_at}
 use Rattle.frame_ways.proofs.FlightLemmas.{are_put, copies_from, landing-append, put_later}
 use Rattle.frame_ways.proofs.LandLemmas.{flying_here, flying_later, flying_none, later_from, left_first, left_later, left_none, refused_from, taken_all}
 use Rattle.frame_ways.proofs.ListLemmas.{left_listed, lent_at, listed_from, short_at, times_to}
@@ -38,10 +38,10 @@ pub record IsSameBut (w v : Way) : Type 0 where
 -- ---- nothing was sent
 
 all_come : (d : Document) (side : Side) (t : ℤ) (listed : List Arrival) → listed ≡ landing_at (injected_to side d) t
-    → ([] ++ (sent_at d side t none_sent (all_leaving side d) ++ listed)) ≡ landing_at (landings_for side d) t
+    → ([] ++ (way_sent_at d side t none_sent (all_leaving side d) ++ listed)) ≡ landing_at (landings_for side d) t
 all_come d side t listed is =
     let all = all_leaving side d in
-    ap (λ (xs : List Arrival). sent_at d side t none_sent all ++ xs) is ∙ sym (landing-append (copies_among (delayed_behind d side none_sent all)) (injected_to side d) t)
+    ap (λ (xs : List Arrival). way_sent_at d side t none_sent all ++ xs) is ∙ sym (landing-append (copies_among (delayed_behind d side none_sent all)) (injected_to side d) t)
 
 pub starts : (d : Document) (side : Side) (times : List Ticks) (w : Way) → IsDocument d → w.deliveries ≡ d → w.side ≡ side → injections_in w.injections.items ≡ injections_to side d
     → times ≡ map time_of (injections_in w.injections.items) → ((t : ℤ) → at_time t w.listed ≡ at_time t (enumerated times)) → All (IsPlaced times) w.listed → w.in_flight ≡ []
@@ -53,8 +53,8 @@ starts d side times w doc deliveries unit injections are same placed empty tally
   injections = injections;
   tally = tally;
   lands = λ t low.
-      ap (λ (fs : List Flying). flying_at t fs ++ (sent_at d side t none_sent (all_leaving side d) ++ left_at d side t w.listed)) empty
-      ∙ all_come d side t (left_at d side t w.listed) (left_listed d side times w.injections.items w.listed are injections same t);
+      ap (λ (fs : List Flying). flying_at t fs ++ (way_sent_at d side t none_sent (all_leaving side d) ++ landings_left d side t w.listed)) empty
+      ∙ all_come d side t (landings_left d side t w.listed) (left_listed d side times w.injections.items w.listed are injections same t);
   list = listed_from times w.injections.items w.listed are (times_to d side w.injections.items doc injections) placed;
   flying = subst (AreFlyingFrom first_clock) (sym empty) (All-nil _);
   order = subst IsInOrder (sym empty) tt;
@@ -64,7 +64,7 @@ starts d side times w doc deliveries unit injections are same placed empty tally
 -- ---- a frame is sent
 
 first_lands : (d : Document) (side : Side) (t : ℤ) (n : SentCounts) (f : Leaving) (left : List Leaving)
-    → sent_at d side t n (f ∷ left) ≡ landing_at (copies_in (delayed d side (counted f.class n) f)) t ++ sent_at d side t (counted f.class n) left
+    → way_sent_at d side t n (f ∷ left) ≡ landing_at (copies_in (delayed d side (counted f.class n) f)) t ++ way_sent_at d side t (counted f.class n) left
 unfolding delayed_behind
 first_lands d side t n f left =
     let m = counted f.class n in landing-append (copies_in (delayed d side m f)) (copies_among (delayed_behind d side m left)) t
@@ -113,11 +113,11 @@ goes_out d side now from n f rest w v come h g =
       injections = ap (λ v. injections_in v.items) g.same.injections ∙ h.injections;
       tally = g.tally;
       lands = λ t low.
-          ap₂ (λ (fs : List Flying) q. flying_at t fs ++ (sent_at d side t m rest ++ left_at d side t q)) g.put g.listed
-          ∙ ap (λ (xs : List Arrival). xs ++ (sent_at d side t m rest ++ left_at d side t w.listed)) (puts.flying t)
-          ∙ ap (λ (xs : List Arrival). (flying_at t w.in_flight ++ landing_at xs t) ++ (sent_at d side t m rest ++ left_at d side t w.listed)) (copies_same d side m f w v g)
-          ∙ moved (flying_at t w.in_flight) (landing_at (copies_in (delayed d side m f)) t) (sent_at d side t m rest) (left_at d side t w.listed)
-          ∙ ap (λ (xs : List Arrival). flying_at t w.in_flight ++ (xs ++ left_at d side t w.listed)) (sym (first_lands d side t n f rest))
+          ap₂ (λ (fs : List Flying) q. flying_at t fs ++ (way_sent_at d side t m rest ++ landings_left d side t q)) g.put g.listed
+          ∙ ap (λ (xs : List Arrival). xs ++ (way_sent_at d side t m rest ++ landings_left d side t w.listed)) (puts.flying t)
+          ∙ ap (λ (xs : List Arrival). (flying_at t w.in_flight ++ landing_at xs t) ++ (way_sent_at d side t m rest ++ landings_left d side t w.listed)) (copies_same d side m f w v g)
+          ∙ moved (flying_at t w.in_flight) (landing_at (copies_in (delayed d side m f)) t) (way_sent_at d side t m rest) (landings_left d side t w.listed)
+          ∙ ap (λ (xs : List Arrival). flying_at t w.in_flight ++ (xs ++ landings_left d side t w.listed)) (sym (first_lands d side t n f rest))
           ∙ h.lands t low;
       list = subst (AreFrom now) (sym g.listed) h.list;
       flying = subst (AreFlyingFrom now) (sym g.put) (put_later now x g.frame 0 g.delays w.in_flight later h.flying);
@@ -137,9 +137,9 @@ sent_lands d side tick n left a w v same tally place listed is due h =
     let at : a.at.0 ≡ tick.0 = same_tick a.at.0 tick.0 (All-head (λ (x : Flying). tick.0 ≤ℤ x.at.0) a v.in_flight flying) due in
     record {
       first =
-          ap (λ (fs : List Flying). flying_at tick.0 fs ++ left_at d w.side tick.0 w.listed) is
-          ∙ ap (λ (xs : List Arrival). xs ++ left_at d w.side tick.0 w.listed) (flying_here tick.0 a v.in_flight at)
-          ∙ ap₂ (λ (s : Side) q. arrival_at tick.0 a.frame ∷ (flying_at tick.0 v.in_flight ++ left_at d s tick.0 q)) (sym same.unit) (sym listed);
+          ap (λ (fs : List Flying). flying_at tick.0 fs ++ landings_left d w.side tick.0 w.listed) is
+          ∙ ap (λ (xs : List Arrival). xs ++ landings_left d w.side tick.0 w.listed) (flying_here tick.0 a v.in_flight at)
+          ∙ ap₂ (λ (s : Side) q. arrival_at tick.0 a.frame ∷ (flying_at tick.0 v.in_flight ++ landings_left d s tick.0 q)) (sym same.unit) (sym listed);
       short = (All-head (IsSentBefore side w.place 0) a v.in_flight sent).short;
       waits = record {
         read = h.read;
@@ -148,8 +148,8 @@ sent_lands d side tick n left a w v same tally place listed is due h =
         injections = ap (λ v. injections_in v.items) same.injections ∙ h.injections;
         tally = subst (IsTally n) (sym tally) h.tally;
         lands = λ t low.
-            ap (λ q. flying_at t v.in_flight ++ (sent_at d side t n left ++ left_at d side t q)) listed
-            ∙ ap (λ (xs : List Arrival). xs ++ (sent_at d side t n left ++ left_at d side t w.listed)) (sym (ap (flying_at t) is ∙ flying_later tick.0 t a v.in_flight at low))
+            ap (λ q. flying_at t v.in_flight ++ (way_sent_at d side t n left ++ landings_left d side t q)) listed
+            ∙ ap (λ (xs : List Arrival). xs ++ (way_sent_at d side t n left ++ landings_left d side t w.listed)) (sym (ap (flying_at t) is ∙ flying_later tick.0 t a v.in_flight at low))
             ∙ h.lands t low;
         list = subst (AreFrom tick.0) (sym listed) h.list;
         flying = All-tail (λ (x : Flying). tick.0 ≤ℤ x.at.0) a v.in_flight flying;
@@ -164,15 +164,15 @@ pub listed_lands : (d : Document) (side : Side) (tick : Ticks) (n : SentCounts) 
     → bytes.now ≡ r.now.frame → Waits d side tick.0 (tick.0 +ℤ pos 1) n left w → IsLanded d side tick.0 n left (Listed bytes) w v
 listed_lands d side tick n left index r bytes w v same tally place flying later is found lent h =
     let here = lent_at d side w.injections.items index r h.injections found in
-    let frame : frame_at d w.side index ≡ bytes.now = ap (λ (s : Side). frame_at d s index) h.unit ∙ ap frame_of here ∙ sym lent in
+    let frame : frame_at d w.side index ≡ bytes.now = ap (λ (s : Side). frame_at d s index) h.unit ∙ ap injected_frame here ∙ sym lent in
     let none : flying_at tick.0 w.in_flight ≡ [] = flying_none tick.0 w.in_flight (later_from tick.0 w.in_flight later) in
     record {
       first =
-          ap (λ (xs : List Arrival). xs ++ left_at d w.side tick.0 w.listed) none
+          ap (λ (xs : List Arrival). xs ++ landings_left d w.side tick.0 w.listed) none
           ∙ left_first d w.side tick index w.listed v.listed is
-          ∙ ap (λ (xs : List ℕ). arrival_at tick.0 xs ∷ left_at d w.side tick.0 v.listed) frame
-          ∙ ap (λ (xs : List Arrival). arrival_at tick.0 bytes.now ∷ (xs ++ left_at d w.side tick.0 v.listed)) (sym (ap (flying_at tick.0) flying ∙ none))
-          ∙ ap (λ (s : Side). arrival_at tick.0 bytes.now ∷ (flying_at tick.0 v.in_flight ++ left_at d s tick.0 v.listed)) (sym same.unit);
+          ∙ ap (λ (xs : List ℕ). arrival_at tick.0 xs ∷ landings_left d w.side tick.0 v.listed) frame
+          ∙ ap (λ (xs : List Arrival). arrival_at tick.0 bytes.now ∷ (xs ++ landings_left d w.side tick.0 v.listed)) (sym (ap (flying_at tick.0) flying ∙ none))
+          ∙ ap (λ (s : Side). arrival_at tick.0 bytes.now ∷ (flying_at tick.0 v.in_flight ++ landings_left d s tick.0 v.listed)) (sym same.unit);
       short = subst (λ (xs : List ℕ). length xs < 2 ^ 32) (sym lent) (short_at d side index r.now h.read here);
       waits = record {
         read = h.read;
@@ -181,8 +181,8 @@ listed_lands d side tick n left index r bytes w v same tally place flying later 
         injections = ap (λ v. injections_in v.items) same.injections ∙ h.injections;
         tally = subst (IsTally n) (sym tally) h.tally;
         lands = λ t low.
-            ap (λ (fs : List Flying). flying_at t fs ++ (sent_at d side t n left ++ left_at d side t v.listed)) flying
-            ∙ ap (λ (xs : List Arrival). flying_at t w.in_flight ++ (sent_at d side t n left ++ xs)) (sym (left_later d side t tick index w.listed v.listed is low))
+            ap (λ (fs : List Flying). flying_at t fs ++ (way_sent_at d side t n left ++ landings_left d side t v.listed)) flying
+            ∙ ap (λ (xs : List Arrival). flying_at t w.in_flight ++ (way_sent_at d side t n left ++ xs)) (sym (left_later d side t tick index w.listed v.listed is low))
             ∙ h.lands t low;
         list = taken_all (λ l. tick.0 ≤ℤ l.at.0) (landing_of tick index) w.listed v.listed is h.list;
         flying = subst (AreFlyingFrom tick.0) (sym flying) h.flying;
@@ -194,7 +194,7 @@ listed_lands d side tick n left index r bytes w v same tally place flying later 
 -- none is left
 pub none_lands : (d : Document) (side : Side) (tick : Ticks) (n : SentCounts) (left : List Leaving) (w v : Way) → IsSameBut w v → v.tally ≡ w.tally → v.place ≡ w.place → v.in_flight ≡ w.in_flight
     → All (λ (a : Flying). tick.0 <ℤ a.at.0) w.in_flight → v.listed ≡ w.listed → AreRising v.listed → first_time w.listed ≢ Some tick → Waits d side tick.0 (tick.0 +ℤ pos 1) n left w
-    → IsOver d side tick.0 n left w v
+    → IsTickOver d side tick.0 n left w v
 none_lands d side tick n left w v same tally place flying later listed up other h =
     let empty : AreFlyingFrom (tick.0 +ℤ pos 1) w.in_flight = later_from tick.0 w.in_flight later in
     let wait : AreFrom (tick.0 +ℤ pos 1) w.listed = refused_from tick w.listed h.list (subst AreRising listed up) other in
@@ -206,7 +206,7 @@ none_lands d side tick n left w v same tally place flying later listed up other 
         unit = same.unit ∙ h.unit;
         injections = ap (λ v. injections_in v.items) same.injections ∙ h.injections;
         tally = subst (IsTally n) (sym tally) h.tally;
-        lands = λ t low. ap₂ (λ (fs : List Flying) q. flying_at t fs ++ (sent_at d side t n left ++ left_at d side t q)) flying listed ∙ h.lands t low;
+        lands = λ t low. ap₂ (λ (fs : List Flying) q. flying_at t fs ++ (way_sent_at d side t n left ++ landings_left d side t q)) flying listed ∙ h.lands t low;
         list = subst (AreFrom (tick.0 +ℤ pos 1)) (sym listed) wait;
         flying = subst (AreFlyingFrom (tick.0 +ℤ pos 1)) (sym flying) empty;
         order = subst IsInOrder (sym flying) h.order;

@@ -5,8 +5,7 @@ use Rattle.std.proofs.lemmas.Int.{ints}
 use Rattle.std.proofs.lemmas.List.Elements.{All-head, All-nil}
 use Rattle.std.specs.Int.Signed.{<ℤ-≤ℤ_trans}
 use Rattle.fh_time.specs.declared.values.Ticks.{Ticks}
-use Rattle.ru_buffers.specs.history_laws.specs.window_config.proofs.Timing.{not_under, under}
-use Rattle.ru_buffers.specs.history_laws.proofs.TickLemmas.{next_after, weak}
+use Rattle.ru_buffers.specs.history_laws.proofs.TickLemmas.{next_after}
 use Rattle.frame_network.specs.declared.arrivals.Arrival.{Arrival as Flying}
 use Rattle.frame_network.specs.declared.landings.Landing.{Landing}
 use Rattle.frame_network.specs.Network.{first_time as first_flying}
@@ -15,6 +14,7 @@ use Rattle.ru_buffers.specs.Calls.{IsLeast, IsLeastOf, earlier_time}
 use Rattle.frame_ways.specs.Flying.{AreFlyingFrom}
 use Rattle.frame_ways.specs.Listed.{AreFrom}
 use Rattle.frame_ways.proofs.LandLemmas.{flying_less, from_less}
+use Rattle.fh_time.proofs.Orders.{under, not_under, weak}
 
 -- ---- the earlier of two times
 

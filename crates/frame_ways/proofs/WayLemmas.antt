@@ -15,14 +15,15 @@ use Rattle.measured_traffic.specs.Replayed.{landings_for}
 use Rattle.measured_traffic.specs.replay_events.specs.Moments.{landing_at}
 use Rattle.measured_traffic.specs.replay_events.specs.Passing.{IsCalm}
 use Rattle.ru_buffers.specs.unit_model.specs.Meetings.{Arrival}
-use Rattle.ru_buffers.specs.history_laws.proofs.TickLemmas.{at_most, last_reached, next_is_later, last_before}
+use Rattle.ru_buffers.specs.history_laws.proofs.TickLemmas.{last_reached, next_is_later, last_before}
 use Rattle.frame_ways.specs.declared.way.Way.{Way}
 use Rattle.frame_ways.specs.Flying.{flying_at}
-use Rattle.frame_ways.specs.Listed.{left_at}
-use Rattle.frame_ways.specs.Ways.{IsEmptyTo, LandsAfter, Waits, coming_at, document_of, sent_at, to_come_at}
+use Rattle.frame_ways.specs.Listed.{landings_left}
+use Rattle.frame_ways.specs.Ways.{IsEmptyTo, LandsAfter, Waits, coming_at, document_of, way_sent_at, to_come_at}
 use Rattle.frame_ways.proofs.ComingLemmas.{lands_after}
 use Rattle.frame_ways.proofs.FlightLemmas.{landing-append}
 use Rattle.frame_ways.proofs.LandLemmas.{flying_less, flying_none, from_less, left_none}
+use Rattle.fh_time.proofs.Orders.{at_most, next_order}
 
 -- ---- its document
 
@@ -44,7 +45,7 @@ none_landing t (x ∷ xs) h = go (int_eq x.at t) refl (none_landing t xs (All-ta
     go false e rest = rest
 
 -- of frames that land after a tick nothing lands at it
-none_of_later : (d : Document) → IsDocument d → (side : Side) (t : ℤ) (n : SentCounts) (left : List Leaving) → All (LandsAfter t) left → sent_at d side t n left ≡ []
+none_of_later : (d : Document) → IsDocument d → (side : Side) (t : ℤ) (n : SentCounts) (left : List Leaving) → All (LandsAfter t) left → way_sent_at d side t n left ≡ []
 unfolding delayed_behind
 none_of_later d doc side t n [] later = refl
 none_of_later d doc side t n (f ∷ left) later =
@@ -57,8 +58,8 @@ none_of_later d doc side t n (f ∷ left) later =
 all_sent : (d : Document) (side : Side) (t now from : ℤ) (n : SentCounts) (left : List Leaving) (w : Way) → (h : Waits d side now from n left w) → All (LandsAfter t) left
     → to_come_at d side t n left w ≡ coming_at d t w
 all_sent d side t now from n left w h later =
-    ap (λ (xs : List Arrival). flying_at t w.in_flight ++ (xs ++ left_at d side t w.listed)) (none_of_later d h.read side t n left later)
-    ∙ ap (λ (s : Side). flying_at t w.in_flight ++ left_at d s t w.listed) (sym h.unit)
+    ap (λ (xs : List Arrival). flying_at t w.in_flight ++ (xs ++ landings_left d side t w.listed)) (none_of_later d h.read side t n left later)
+    ∙ ap (λ (s : Side). flying_at t w.in_flight ++ landings_left d s t w.listed) (sym h.unit)
 
 -- ---- the frames of a tick
 
@@ -86,10 +87,7 @@ comes_at d side tick n left w h later = (
 -- what is empty up to a time is so up to each earlier one
 pub empty_less : (a b : ℤ) (w : Way) → a ≤ℤ b → IsEmptyTo w b → IsEmptyTo w a
 empty_less a b w order empty =
-    let next = next_step a b order in (from_less (a +ℤ pos 1) (b +ℤ pos 1) w.listed next empty.0, flying_less (a +ℤ pos 1) (b +ℤ pos 1) w.in_flight next empty.1)
-  where
-    next_step : (a b : ℤ) → a ≤ℤ b → (a +ℤ pos 1) ≤ℤ (b +ℤ pos 1)
-    next_step a b order = omega (arith, ints, order)
+    let next = next_order a b order in (from_less (a +ℤ pos 1) (b +ℤ pos 1) w.listed next empty.0, flying_less (a +ℤ pos 1) (b +ℤ pos 1) w.in_flight next empty.1)
 
 -- where nothing is on its way up to a tick, and all that is still to be sent lands after it, nothing lands at it
 pub calm_at : (d : Document) (side : Side) (now tick : ℤ) (n : SentCounts) (left : List Leaving) (w : Way) → Waits d side now now n left w → now ≤ℤ tick → IsEmptyTo w tick

@@ -12,6 +12,7 @@ use Rattle.frame_network.specs.declared.landings.Landing.{Landing}
 use Rattle.frame_network.specs.Queues.{at_time}
 use Rattle.ru_buffers.specs.unit_model.specs.Meetings.{Arrival}
 use Rattle.frame_ways.specs.Flying.{arrival_at}
+use Rattle.fh_time.specs.declared.nanoseconds.TheConstants.{LAST_TIME}
 
 -- ---- the document's frames to a unit
 
@@ -27,25 +28,25 @@ abbrev pub time_of : Injection → Ticks
 time_of i = record { 0 = i.at *ℤ pos 1536 }
 
 abbrev pub HasTime : Injection → Type 0
-HasTime i = IsFrom 0 (10 ^ 12) i.at
+HasTime i = IsFrom 0 LAST_TIME i.at
 
 -- its bytes
-abbrev pub frame_of : Option Injection → List ℕ
-frame_of None = []
-frame_of (Some i) = i.frame
+abbrev pub injected_frame : Option Injection → List ℕ
+injected_frame None = []
+injected_frame (Some i) = i.frame
 
 -- the bytes of the one that stands at this place among those to the unit
 abbrev pub frame_at : Document → Side → ℕ → List ℕ
-frame_at d side index = frame_of (slice_get (injections_to side d) index)
+frame_at d side index = injected_frame (slice_get (injections_to side d) index)
 
 -- ---- those that wait
 
-abbrev pub arrival_of : Document → Side → Landing → Arrival
-arrival_of d side l = arrival_at l.at.0 (frame_at d side l.index)
+abbrev pub landing_arrival : Document → Side → Landing → Arrival
+landing_arrival d side l = arrival_at l.at.0 (frame_at d side l.index)
 
 -- those that wait for a tick
-abbrev pub left_at : Document → Side → ℤ → List Landing → List Arrival
-left_at d side tick q = map (arrival_of d side) (at_time tick q)
+abbrev pub landings_left : Document → Side → ℤ → List Landing → List Arrival
+landings_left d side tick q = map (landing_arrival d side) (at_time tick q)
 
 -- none waits for an earlier tick
 abbrev pub AreFrom : ℤ → List Landing → Type 0

@@ -17,7 +17,7 @@ use Rattle.frame_ways.specs.declared.way.Way.{Way}
 use Rattle.frame_ways.specs.Counts.{IsTally}
 use Rattle.frame_ways.specs.Flying.{AreFlyingFrom, IsSentBefore, arrival_at, flying_at}
 use Rattle.frame_ways.specs.Landed.{bytes_of}
-use Rattle.frame_ways.specs.Listed.{AreFrom, injections_in, injections_to, left_at}
+use Rattle.frame_ways.specs.Listed.{AreFrom, injections_in, injections_to, landings_left}
 
 -- the document of which it was made
 abbrev pub document_of : Way → Document
@@ -26,24 +26,24 @@ document_of w = w.deliveries
 -- ---- what is to come
 
 -- what lands at a tick of frames that are still to be sent, where so many were sent before them
-abbrev pub sent_at : Document → Side → ℤ → SentCounts → List Leaving → List Arrival
-sent_at d side tick n left = landing_at (copies_among (delayed_behind d side n left)) tick
+abbrev pub way_sent_at : Document → Side → ℤ → SentCounts → List Leaving → List Arrival
+way_sent_at d side tick n left = landing_at (copies_among (delayed_behind d side n left)) tick
 
 -- what lands at a tick once nothing is sent any more that lands then
 abbrev pub coming_at : Document → ℤ → Way → List Arrival
-coming_at d tick w = flying_at tick w.in_flight ++ left_at d w.side tick w.listed
+coming_at d tick w = flying_at tick w.in_flight ++ landings_left d w.side tick w.listed
 
 -- and where these are still to be sent
 abbrev pub to_come_at : Document → Side → ℤ → SentCounts → List Leaving → Way → List Arrival
-to_come_at d side tick n left w = flying_at tick w.in_flight ++ (sent_at d side tick n left ++ left_at d side tick w.listed)
+to_come_at d side tick n left w = flying_at tick w.in_flight ++ (way_sent_at d side tick n left ++ landings_left d side tick w.listed)
 
 -- none that is in flight or waits lands up to a time
 abbrev pub IsEmptyTo : Way → ℤ → Type 0
 IsEmptyTo w to = AreFrom (to +ℤ pos 1) w.listed × AreFlyingFrom (to +ℤ pos 1) w.in_flight
 
 -- how many are in flight or wait
-abbrev pub frames_in : Way → ℕ
-frames_in w = length w.in_flight + length w.listed
+abbrev pub frames_on_way : Way → ℕ
+frames_on_way w = length w.in_flight + length w.listed
 
 -- where so many were sent before it, none of a frame's copies lands before a tick
 abbrev pub ComesFrom : Document → Side → ℤ → SentCounts → Leaving → Type 0
@@ -78,6 +78,6 @@ pub record IsLanded (d : Document) (side : Side) (tick : ℤ) (n : SentCounts) (
   pub waits : Waits d side tick (tick +ℤ pos 1) n left new
 
 -- none of a tick is left
-pub record IsOver (d : Document) (side : Side) (tick : ℤ) (n : SentCounts) (left : List Leaving) (old new : Way) : Type 0 where
+pub record IsTickOver (d : Document) (side : Side) (tick : ℤ) (n : SentCounts) (left : List Leaving) (old new : Way) : Type 0 where
   pub none : coming_at d tick old ≡ []
   pub waits : Waits d side (tick +ℤ pos 1) (tick +ℤ pos 1) n left new

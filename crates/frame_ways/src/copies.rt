@@ -4,6 +4,7 @@ ghost use Rattle.measured_traffic.specs.fh_document.specs.Proper.{IsFrom};
 ghost use Rattle.measured_traffic.specs.replay_events.specs.Moments.{end_of_time};
 ghost use Rattle.ru_buffers.specs.unit_model.specs.Radiated.{first_clock};
 ghost use Rattle.frame_ways.specs.Flying.{flying_copies, flying_copy, put_all};
+ghost use Rattle.measured_traffic.specs.fh_document.specs.declared.config_lines.TheConstants.{MOST_TRANSIT};
 
 use air_source::Side;
 use fh_base::{Bytes, NoMemory};
@@ -24,7 +25,7 @@ impl Departure {
     fn copy(self, copy: u8, ns: &i64, frame: Bytes) -> Arrival
         requires begun { first_clock ≤ℤ self.at.0 }
         requires ended { self.at.0 ≤ℤ end_of_time }
-        requires time { IsFrom 0 3000000000 ns.now }
+        requires time { IsFrom 0 MOST_TRANSIT ns.now }
         ensures { result ≡ flying_copy self frame copy ns.now }
     {
         Arrival {
@@ -51,7 +52,7 @@ pub(crate) fn put_copies(
     requires begun { first_clock ≤ℤ departure.at.0 }
     requires ended { departure.at.0 ≤ℤ end_of_time }
     requires few { length delays.now ≤ 8 }
-    requires times { All (IsFrom 0 3000000000) delays.now }
+    requires times { All (IsFrom 0 MOST_TRANSIT) delays.now }
     ensures { OnOk result (in_flight.new ≡ put_all (flying_copies departure frame 0 delays.now) in_flight.old) }
 {
     let Some((last, others)) = delays.split_last() else {

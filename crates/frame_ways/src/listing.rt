@@ -3,6 +3,7 @@ ghost use Rattle.std.specs.Prelude.{◌≡◌, ◌^◌, All, IfOk, map};
 ghost use Rattle.measured_traffic.specs.document_traffic.specs.Landing.{is_to};
 ghost use Rattle.measured_traffic.specs.fh_document.specs.Proper.{IsDocument, IsFrom};
 ghost use Rattle.frame_ways.specs.Listed.{HasTime, injections_in, injections_to, time_of};
+ghost use Rattle.fh_time.specs.declared.nanoseconds.TheConstants.{LAST_TIME};
 
 use air_source::Side;
 use fh_base::NoMemory;
@@ -38,7 +39,7 @@ pub(crate) fn injections_to<'a>(
 
 /// When a frame lands, in ticks.
 fn tick_of(injection: &Injection) -> Ticks
-    requires { IsFrom 0 (10 ^ 12) injection.now.at }
+    requires { IsFrom 0 LAST_TIME injection.now.at }
     ensures { result ≡ time_of injection.now }
 {
     of_ns(injection.at)

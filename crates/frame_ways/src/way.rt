@@ -44,7 +44,7 @@ impl<'a> Way<'a> {
     ghost use Rattle.measured_traffic.specs.replay_events.specs.Moments.{end_of_time};
     ghost use Rattle.ru_buffers.specs.Calls.{IsLeastOf};
     ghost use Rattle.ru_buffers.specs.unit_model.specs.Radiated.{first_clock};
-    ghost use Rattle.frame_ways.specs.Ways.{ComesFrom, IsEmptyTo, IsLanded, IsOver, Waits, document_of, frames_in};
+    ghost use Rattle.frame_ways.specs.Ways.{ComesFrom, IsEmptyTo, IsLanded, IsTickOver, Waits, document_of, frames_on_way};
 
     /// The way to a unit: nothing was sent, and all frames that the document injects to the unit wait for their times.
     ///
@@ -149,9 +149,9 @@ impl<'a> Way<'a> {
     /// document's, in its order. None where none is left.
     pub fn next_at(&mut self, tick: Ticks) -> Option<Landed<'a>>
         ensures next { (d : SpecDocument) (side : SpecSide) (n : SentCounts) (left : List Leaving) → Waits d side tick.0 (tick.0 +ℤ pos 1) n left self.old
-            → MatchOption result (IsOver d side tick.0 n left self.old self.new) (λ f. IsLanded d side tick.0 n left f self.old self.new) }
+            → MatchOption result (IsTickOver d side tick.0 n left self.old self.new) (λ f. IsLanded d side tick.0 n left f self.old self.new) }
         ensures document { document_of self.new ≡ document_of self.old }
-        ensures fewer { IfSome result (λ f. frames_in self.new < frames_in self.old) }
+        ensures fewer { IfSome result (λ f. frames_on_way self.new < frames_on_way self.old) }
     {
         if let Some(arrival) = self.in_flight.next_until(tick) {
             return Some(Landed::Sent(arrival.frame));

@@ -37,6 +37,8 @@ use Rattle.intake_moments.specs.uplink_turns.specs.Turns.{jobs_until}
 use Rattle.fronthaul_replay.specs.Counting.{told_counts, told_number}
 use Rattle.fronthaul_replay.specs.Replaying.{IsDone, IsInStep, IsIntakeDone, IsRadioDone, StopsInStep, events_of}
 use Rattle.fronthaul_replay.specs.Turns.{AtTurn}
+use Rattle.sum_air.proofs.Whole.{IsCount}
+use Rattle.fronthaul_replay.proofs.Counted.{both, one_count}
 use Rattle.fronthaul_replay.proofs.StepLemmas.{turn_in_step}
 use Rattle.fronthaul_replay.proofs.StopLemmas.{all_events}
 
@@ -102,20 +104,6 @@ counts_same side f g (k ∷ ks) same = ap₂ (λ (n : ℕ) (es : List Event). co
 
 -- ---- they are no arrivals and no cells
 
-abbrev IsCount : Event → Type 0
-IsCount (Cell c) = ⊥
-IsCount (Delay at side id value) = ⊥
-IsCount (Arrival side at frame) = ⊥
-IsCount (Count side counter value) = Unit {0}
-
-one_count : (side : Side) (n : ℕ) (k : Counter) (b : Bool) → AllByRecursion IsCount (let es : List Event = if b then [] else Count side k n ∷ [] in es)
-one_count side n k true = tt
-one_count side n k false = (tt, tt)
-
-both_counts : (xs ys : List Event) → AllByRecursion IsCount xs → AllByRecursion IsCount ys → AllByRecursion IsCount (xs ++ ys)
-both_counts [] ys hx hy = hy
-both_counts (x ∷ xs) ys hx hy = (hx.0, both_counts xs ys hx.1 hy)
-
 front_counts : (xs ys : List Event) → AllByRecursion IsCount (xs ++ ys) → AllByRecursion IsCount xs
 front_counts [] ys h = tt
 front_counts (x ∷ xs) ys h = (h.0, front_counts xs ys h.1)
@@ -123,7 +111,7 @@ front_counts (x ∷ xs) ys h = (h.0, front_counts xs ys h.1)
 all_counts : (side : Side) (number : Counter → ℕ) (ks : List Counter) → AllByRecursion IsCount (counts_by side number ks)
 all_counts side number [] = tt
 all_counts side number (k ∷ ks) =
-    both_counts (count_event side (number k) k) (counts_by side number ks) (one_count side (number k) k (number k == 0)) (all_counts side number ks)
+    both IsCount (count_event side (number k) k) (counts_by side number ks) (one_count side (number k) k (number k == 0)) (all_counts side number ks)
 
 all_told : (side : Side) (counts : List ℕ) (measured : List Counter) → AllByRecursion IsCount (told_counts side counts measured)
 unfolding told_counts

@@ -18,14 +18,14 @@ use Rattle.intake_moments.specs.replay_events.proofs.ToldLemmas.{Results, told_k
 use Rattle.intake_moments.specs.replay_events.specs.Traffic.{Traffic}
 use Rattle.intake_moments.specs.replay_events.specs.declared.results.DelayResult.{DelayResult}
 use Rattle.intake_moments.specs.replay_events.specs.Moments.{end_of_time, landing_at}
-use Rattle.intake_moments.specs.replay_events.specs.Events.{arrivals_at, arrivals_told, cells_at, events_at, events_between, number_of, count_event, count_events, events, result_event}
+use Rattle.intake_moments.specs.replay_events.specs.Events.{arrivals_at, arrivals_told, cells_reported_at, events_at, events_between, number_of, count_event, count_events, events, result_event}
 use Rattle.intake_moments.specs.fh_document.specs.declared.document.Document.{Document}
 use Rattle.intake_moments.specs.measured_traffic.specs.Replayed.{traffic_of}
 use Rattle.fronthaul_replay.specs.Replaying.{events_of}
 use Rattle.sum_air.proofs.Whole.{IsEarlier, IsCount, CountsLast}
 
 -- what holds of two lists holds of both in turn
-both : (P : Event → Type 0) (xs ys : List Event) → AllByRecursion P xs → AllByRecursion P ys → AllByRecursion P (xs ++ ys)
+pub both : (P : Event → Type 0) (xs ys : List Event) → AllByRecursion P xs → AllByRecursion P ys → AllByRecursion P (xs ++ ys)
 both P [] ys h k = k
 both P (x ∷ xs) ys h k = (h.0, both P xs ys h.1 k)
 
@@ -46,10 +46,10 @@ unfolding events_at
 tick_earlier c t tick =
     let came = arrivals_at Ru t tick in
     let taken = arrivals_at Du t tick in
-    let cells = map Cell (cells_at Du c t tick) in
-    both IsEarlier (map Cell (cells_at Ru c t tick)) (came ++ (taken ++ cells)) (cells_earlier (cells_at Ru c t tick))
+    let cells = map Cell (cells_reported_at Du c t tick) in
+    both IsEarlier (map Cell (cells_reported_at Ru c t tick)) (came ++ (taken ++ cells)) (cells_earlier (cells_reported_at Ru c t tick))
     (both IsEarlier came (taken ++ cells) (arrivals_earlier Ru (t.results Ru tick) (landing_at t.at_ru tick))
-    (both IsEarlier taken cells (arrivals_earlier Du (t.results Du tick) (landing_at t.at_du tick)) (cells_earlier (cells_at Du c t tick))))
+    (both IsEarlier taken cells (arrivals_earlier Du (t.results Du tick) (landing_at t.at_du tick)) (cells_earlier (cells_reported_at Du c t tick))))
 
 ticks_earlier : (f : ℤ → List Event) (from : ℤ) (n : ℕ) → ((tick : ℤ) → AllByRecursion IsEarlier (f tick)) → AllByRecursion IsEarlier (each_tick from n f)
 unfolding each_tick
@@ -57,7 +57,7 @@ ticks_earlier f from zero h = tt
 ticks_earlier f from (suc n) h = both IsEarlier (f from) (each_tick (from +ℤ pos 1) n f) (h from) (ticks_earlier f (from +ℤ pos 1) n h)
 
 -- the counters that are not at 0
-one_count : (side : Side) (n : ℕ) (k : Counter) (b : Bool) → AllByRecursion IsCount (cond b [] (Count side k n ∷ []))
+pub one_count : (side : Side) (n : ℕ) (k : Counter) (b : Bool) → AllByRecursion IsCount (cond b [] (Count side k n ∷ []))
 one_count side n k true = tt
 one_count side n k false = (tt, tt)
 

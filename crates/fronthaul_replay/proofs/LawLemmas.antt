@@ -30,7 +30,7 @@ use Rattle.intake_moments.specs.unit_model.specs.declared.allocations.Allocation
 use Rattle.intake_moments.specs.unit_model.specs.declared.cells.Cell.{Cell}
 use Rattle.intake_moments.specs.unit_model.specs.declared.cells.Claim.{Claim}
 use Rattle.intake_moments.specs.plan_model.proofs.ClashLemmas.{both_cover, claimed}
-use Rattle.intake_moments.proofs.TurnLemmas.{lands_in_time}
+use Rattle.intake_moments.specs.radio_moments.proofs.TurnLemmas.{lands_in_time}
 use Rattle.fronthaul_replay.specs.Laws.{IsSound, TellsResults}
 use Rattle.fronthaul_replay.specs.Replaying.{IsReplayable}
 

@@ -11,12 +11,11 @@ use Rattle.capture_air.specs.air_source.specs.declared.places.RePlace.{RePlace}
 use Rattle.bfp_codec.specs.declared.samples.Wide.{Wide}
 use Rattle.sum_air.specs.delay_measure.specs.declared.edge.Edge.{Edge}
 use Rattle.intake_moments.specs.document_traffic.specs.Laws.{IsReplayable}
-use Rattle.intake_moments.specs.du_intake.specs.Calls.{IsDue as IsIntakeDue}
-use Rattle.intake_moments.specs.du_intake.specs.Units.{due_of as intake_due}
+use Rattle.intake_moments.specs.du_intake.specs.Calls.{IsIntakeDue}
+use Rattle.intake_moments.specs.du_intake.specs.Units.{intake_due_of as intake_due}
 use Rattle.intake_moments.specs.du_intake.specs.declared.unit.Intake.{Intake}
 use Rattle.intake_moments.specs.fh_document.specs.declared.document.Document.{Document}
 use Rattle.fh_time.specs.declared.values.Ticks.{Ticks}
-use Rattle.intake_moments.specs.window_config.proofs.Timing.{not_under, under}
 use Rattle.intake_moments.specs.frame_ways.proofs.TimeLemmas.{earlier_of_both}
 use Rattle.intake_moments.specs.Answers.{AreSilentTo}
 use Rattle.intake_moments.specs.Turns.{planned_for}
@@ -39,9 +38,10 @@ use Rattle.intake_moments.specs.ru_buffers.specs.declared.unit.Ru.{Ru}
 use Rattle.intake_moments.specs.unit_model.proofs.SweepLaws.{gap_is}
 use Rattle.intake_moments.specs.unit_model.specs.Radiated.{first_clock}
 use Rattle.intake_moments.specs.unit_model.specs.Standing.{History}
-use Rattle.intake_moments.specs.du_intake.specs.history_laws.proofs.TickLemmas.{before_next, next_most, before_it}
+use Rattle.intake_moments.specs.du_intake.specs.history_laws.proofs.TickLemmas.{before_next}
 use Rattle.fronthaul_replay.specs.declared.coming.Coming.{Coming}
-use Rattle.fronthaul_replay.specs.Turns.{AtMoment, HaveMeasured, IsMoment, IsNext, IsStill, within_end}
+use Rattle.fronthaul_replay.specs.Turns.{AtMoment, HaveMeasured, IsMoment, IsNextTick, IsStill, within_end}
+use Rattle.fh_time.proofs.Orders.{under, not_under, next_later as next_most, before_it}
 
 -- ---- the next moment
 
@@ -70,7 +70,7 @@ module _ {G C D : Type 0} (d : Document) (h k : History) (w : Coming G) (m : Met
   still : (to : ℤ) → AreStill to → IsStill d h k w m to
   still to all = record { quiet = all.0.0.0; taken = all.0.0.1; calm = all.0.1.0; silent = all.0.1.1; begins = all.1 }
 
-  ended_at : (t : Ticks) (b : Bool) → int_lt end_of_time t.0 ≡ b → IsLeast AreStill t.0 → IsNext d h k w m (if b then None else Some t)
+  ended_at : (t : Ticks) (b : Bool) → int_lt end_of_time t.0 ≡ b → IsLeast AreStill t.0 → IsNextTick d h k w m (if b then None else Some t)
   ended_at t true e least = λ to order. still to (least.before to (before_it to order))
     where
       before_it : (to : ℤ) → to ≤ℤ end_of_time → to <ℤ t.0
@@ -81,13 +81,13 @@ module _ {G C D : Type 0} (d : Document) (h k : History) (w : Coming G) (m : Met
     ended = not_under end_of_time t.0 e;
   }
 
-  next_by : (time : Option Ticks) → IsLeastOf AreStill time → IsNext d h k w m (within_end time)
+  next_by : (time : Option Ticks) → IsLeastOf AreStill time → IsNextTick d h k w m (within_end time)
   next_by None least = λ to order. still to (least to)
   next_by (Some t) least = ended_at t (int_lt end_of_time t.0) refl least
 
   pub is_next : (radio_due taken_due sent answered begins : Option Ticks) → IsDue d.config h radio_due → IsIntakeDue d.config (planned_for d) k taken_due
       → IsLeastOf (IsCalmTo w.downlink) sent → IsLeastOf (AreSilentTo w.answers) answered → IsLeastOf (BeginNoneTo m) begins
-      → IsNext d h k w m (within_end (earlier_time (earlier_time (earlier_time radio_due taken_due) (earlier_time sent answered)) begins))
+      → IsNextTick d h k w m (within_end (earlier_time (earlier_time (earlier_time radio_due taken_due) (earlier_time sent answered)) begins))
   is_next radio_due taken_due sent answered begins radio_is taken_is calm silent none =
       let units = earlier_time radio_due taken_due in
       let frames = earlier_time sent answered in
@@ -185,7 +185,7 @@ module _ {G C D : Type 0} {pre : G → RePlace → Type 0} {post : G → RePlace
   moment_comes tick n = comes_to tick (not_before tick n) (next_most tick end_of_time n.ended) n.before
 
   -- or to the end
-  pub end_comes : IsNext d radio_history intake_history w m None → ComesTo pre post cp cq dp dq d now (end_of_time +ℤ pos 1) u i w m
+  pub end_comes : IsNextTick d radio_history intake_history w m None → ComesTo pre post cp cq dp dq d now (end_of_time +ℤ pos 1) u i w m
   end_comes none = comes_to (end_of_time +ℤ pos 1) at.turn.radio.turn.ended (≤ℤ_refl (end_of_time +ℤ pos 1)) (λ to lt. none to (before_next to end_of_time lt))
 
 -- then both meters have measured all of it

@@ -1,10 +1,9 @@
 -- Where an air stopped, and what both units stand for then.
-use Rattle.std.proofs.Common.{◌≡◌, ℤ, pos, ◌+ℤ◌, ◌≤ℤ◌, List, [], ◌++◌, ◌⊎◌, inl, inr, refl, sym, ap, ◌∙◌, append_assoc, append-nil, subst, arith}
-use Rattle.std.proofs.lemmas.Int.{ints}
+use Rattle.std.proofs.Common.{◌≡◌, ℤ, pos, ◌+ℤ◌, ◌≤ℤ◌, List, [], ◌++◌, ◌⊎◌, inl, inr, refl, sym, ap, ◌∙◌, append_assoc, append-nil, subst}
 use Rattle.capture_air.specs.air_source.specs.Stops.{GrewSome, StopsIn}
 use Rattle.capture_air.specs.air_source.specs.declared.events.Event.{Event}
 use Rattle.capture_air.specs.air_source.specs.declared.events.Side.TheVariants.{Ru as AtRu, Du as AtDu}
-use Rattle.intake_moments.specs.du_intake.specs.Calls.{StandsFor as IntakeStandsFor}
+use Rattle.intake_moments.specs.du_intake.specs.Calls.{IntakeStandsFor}
 use Rattle.intake_moments.specs.du_intake.specs.declared.unit.Intake.{Intake}
 use Rattle.intake_moments.specs.fh_document.specs.declared.document.Document.{Document}
 use Rattle.intake_moments.specs.Turns.{AtIntakeTurn, IsIntakeInStep, planned_for}
@@ -22,10 +21,10 @@ use Rattle.intake_moments.specs.ru_buffers.specs.Calls.{StandsFor}
 use Rattle.intake_moments.specs.ru_buffers.specs.declared.unit.Ru.{Ru}
 use Rattle.intake_moments.specs.unit_model.specs.Radiated.{first_clock}
 use Rattle.intake_moments.specs.unit_model.specs.Standing.{nothing_yet}
-use Rattle.intake_moments.specs.du_intake.specs.history_laws.proofs.TickLemmas.{next_most}
 use Rattle.fronthaul_replay.specs.Replaying.{HaltsInStep, RestsInStep, StopsInStep, events_of}
 use Rattle.fronthaul_replay.specs.Turns.{AtTurn}
 use Rattle.fronthaul_replay.proofs.StepLemmas.{InStep, intake_in_step, radio_in_step, turn_in_step}
+use Rattle.fh_time.proofs.Orders.{next_later as next_most, next_order}
 
 -- the events from a tick on
 ticks_after : (d : Document) (tick : ℤ) → first_clock ≤ℤ tick → tick ≤ℤ end_of_time
@@ -35,12 +34,9 @@ ticks_after d tick begun ended =
     let c = d.config in
     let t = traffic_of d in
     let later = events_between c t (tick +ℤ pos 1) (end_of_time +ℤ pos 1) in
-    ticks_append (events_at c t) first_clock (tick +ℤ pos 1) (end_of_time +ℤ pos 1) (next_most first_clock tick begun) (next_less tick end_of_time ended)
+    ticks_append (events_at c t) first_clock (tick +ℤ pos 1) (end_of_time +ℤ pos 1) (next_most first_clock tick begun) (next_order tick end_of_time ended)
     ∙ ap (λ (es : List Event). es ++ later) (events_go_on c t tick begun)
     ∙ append_assoc (events_before d tick) (events_at c t tick) later
-  where
-    next_less : (a b : ℤ) → a ≤ℤ b → (a +ℤ pos 1) ≤ℤ (b +ℤ pos 1)
-    next_less a b h = omega (arith, ints)
 
 -- both units' parts of a tick were heard
 pub heard_both : {A : Type 0} (grew : A → List Event → A → Type 0)
@@ -89,7 +85,7 @@ module _ {A : Type 0} (grew : A → List Event → A → Type 0) (stopped : A �
       let earlier = events_before d tick in
       subst (λ (es : List Event). StopsBehind grew stopped (InStep d u i) earlier es a e) (sym (tick_events d tick))
       (stop.stops_ahead grew stopped (InStep d u i) earlier (radio_events d tick) (intake_events d tick) a e
-      (stop.stops_in_step grew stopped (λ told. IsRadioInStep d told u) (InStep d u i) earlier (radio_events d tick) a e
+      (stop.stops_moved grew stopped (λ told. IsRadioInStep d told u) (InStep d u i) earlier earlier (radio_events d tick) a e
       (λ told rest is step. radio_in_step d tick u i told rest turn is step) s))
 
   pub halts_radio : (d : Document) (tick : ℤ) (u : Ru) (i : Intake) (a e : A) → AtIntakeTurn d tick i
@@ -99,7 +95,7 @@ module _ {A : Type 0} (grew : A → List Event → A → Type 0) (stopped : A �
       let earlier = events_before d tick in
       subst (λ (es : List Event). HaltsBehind grew stopped (InStep d u i) earlier es a e) (sym (tick_events d tick))
       (stop.halts_ahead grew stopped (InStep d u i) earlier (radio_events d tick) (intake_events d tick) a e
-      (stop.halts_in_step grew stopped (λ told. IsRadioInStep d told u) (InStep d u i) earlier (radio_events d tick) a e
+      (stop.halts_moved grew stopped (λ told. IsRadioInStep d told u) (InStep d u i) earlier earlier (radio_events d tick) a e
       (λ told rest is step. radio_in_step d tick u i told rest turn is step) s))
 
   module _ (more : (a b c : A) (first second : List Event) → grew a first b → grew b second c → grew a (first ++ second) c) where
@@ -114,7 +110,7 @@ module _ {A : Type 0} (grew : A → List Event → A → Type 0) (stopped : A �
         let first = radio_events d tick in
         subst (λ (es : List Event). StopsBehind grew stopped (InStep d u i) earlier es a e) (sym (tick_events d tick))
         (stop.stops_behind grew stopped more (InStep d u i) earlier first (intake_events d tick) a b e heard
-        (stop.stops_in_step grew stopped (λ told. IsIntakeInStep d told i) (InStep d u i) (earlier ++ first) (intake_events d tick) b e
+        (stop.stops_moved grew stopped (λ told. IsIntakeInStep d told i) (InStep d u i) (earlier ++ first) (earlier ++ first) (intake_events d tick) b e
         (λ told rest is step. intake_in_step d tick u i told rest radio is step) s))
 
     pub halts_intake : (d : Document) (tick : ℤ) (u : Ru) (i : Intake) (a b e : A) → grew a (radio_events d tick) b
@@ -126,7 +122,7 @@ module _ {A : Type 0} (grew : A → List Event → A → Type 0) (stopped : A �
         let first = radio_events d tick in
         subst (λ (es : List Event). HaltsBehind grew stopped (InStep d u i) earlier es a e) (sym (tick_events d tick))
         (stop.halts_behind grew stopped more (InStep d u i) earlier first (intake_events d tick) a b e heard
-        (stop.halts_in_step grew stopped (λ told. IsIntakeInStep d told i) (InStep d u i) (earlier ++ first) (intake_events d tick) b e
+        (stop.halts_moved grew stopped (λ told. IsIntakeInStep d told i) (InStep d u i) (earlier ++ first) (earlier ++ first) (intake_events d tick) b e
         (λ told rest is step. intake_in_step d tick u i told rest radio is step) s))
 
     -- ---- from a moment to the whole

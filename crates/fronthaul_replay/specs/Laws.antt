@@ -11,7 +11,7 @@ use Rattle.intake_moments.specs.replay_events.specs.Moments.{all_arrivals, end_o
 use Rattle.intake_moments.specs.replay_events.specs.Traffic.{landings_at}
 use Rattle.intake_moments.specs.replay_laws.specs.Delays.{FollowsFrame, IsLanding, IsResult, StandTogether, given_by}
 use Rattle.intake_moments.specs.replay_laws.specs.Gathered.{IsShownGathered}
-use Rattle.intake_moments.specs.replay_laws.specs.Landed.{AllArrive}
+use Rattle.intake_moments.specs.replay_laws.specs.Landed.{AllLand}
 use Rattle.intake_moments.specs.replay_laws.specs.Once.{IsOnce}
 use Rattle.intake_moments.specs.replay_laws.specs.Refused.{RefusedChangesNothing}
 use Rattle.intake_moments.specs.replay_laws.specs.Shown.{IsShownInTime}
@@ -42,7 +42,7 @@ pub record IsSound (d : Document) : Type 0 where
   pub once : IsOnce d.config (traffic_of d)
   pub in_time : (side : Side) → IsShownInTime side d.config (traffic_of d)
   pub sums : AddsUp d.config (traffic_of d)
-  pub arrive : (side : Side) → AllArrive (landings_at side (traffic_of d))
+  pub arrive : (side : Side) → AllLand (landings_at side (traffic_of d))
   pub exactly_once : IsUndisturbed d → RadiatesOnce d (traffic_of d)
   pub taken_in_once : IsUndisturbedBothWays d → IsTakenInOnce d (traffic_of d)
   pub refused : (side : Side) → RefusedChangesNothing side d.config (all_arrivals (landings_at side (traffic_of d)))

@@ -4,8 +4,8 @@ use Rattle.capture_air.specs.air_source.specs.declared.events.Event.{Event}
 use Rattle.capture_air.specs.air_source.specs.declared.events.Side.TheVariants.{Ru as AtRu, Du as AtDu}
 use Rattle.intake_moments.specs.document_traffic.specs.Landing.{jobs_for}
 use Rattle.intake_moments.specs.measured_traffic.specs.Replayed.{landings_for, traffic_of}
-use Rattle.intake_moments.specs.du_intake.specs.Calls.{StandsFor as IntakeStandsFor}
-use Rattle.intake_moments.specs.du_intake.specs.Units.{due_of as intake_due}
+use Rattle.intake_moments.specs.du_intake.specs.Calls.{IntakeStandsFor}
+use Rattle.intake_moments.specs.du_intake.specs.Units.{intake_due_of as intake_due}
 use Rattle.intake_moments.specs.du_intake.specs.declared.unit.Intake.{Intake}
 use Rattle.intake_moments.specs.fh_document.specs.declared.document.Document.{Document}
 use Rattle.intake_moments.specs.Turns.{IsIntakeInStep, planned_for}

@@ -4,7 +4,7 @@ use Rattle.capture_air.specs.air_source.specs.declared.events.Side.TheVariants.{
 use Rattle.capture_air.specs.air_source.specs.declared.places.RePlace.{RePlace}
 use Rattle.bfp_codec.specs.declared.samples.Wide.{Wide}
 use Rattle.sum_air.specs.delay_measure.specs.declared.edge.Edge.{Edge}
-use Rattle.intake_moments.specs.du_intake.specs.Units.{due_of as intake_due}
+use Rattle.intake_moments.specs.du_intake.specs.Units.{intake_due_of as intake_due}
 use Rattle.intake_moments.specs.du_intake.specs.declared.unit.Intake.{Intake}
 use Rattle.intake_moments.specs.fh_document.specs.declared.document.Document.{Document}
 use Rattle.fh_time.specs.declared.values.Ticks.{Ticks}
@@ -28,7 +28,7 @@ pub record AtTurn (d : Document) (now : ℤ) (u : Unit) (i : Intake) : Type 0 wh
   pub intake : AtIntakeTurn d now i
 
 -- what is to come to both
-pub record Waits {G : Type 0} (pre : G → RePlace → Type 0) (post : G → RePlace → Wide → Type 0) (d : Document) (now : ℤ) (w : Coming G) : Type 0 where
+pub record WaitsInTurn {G : Type 0} (pre : G → RePlace → Type 0) (post : G → RePlace → Wide → Type 0) (d : Document) (now : ℤ) (w : Coming G) : Type 0 where
   pub down : WaitsDown d now w.downlink
   pub up : WaitsUp pre post d now w.answers
 
@@ -37,19 +37,19 @@ pub record AtMoment {G C D : Type 0} (pre : G → RePlace → Type 0) (post : G 
     (ru_pre : C → Edge → Type 0) (ru_post : C → Edge → ℤ → Type 0) (du_pre : D → Edge → Type 0) (du_post : D → Edge → ℤ → Type 0)
     (d : Document) (now : ℤ) (u : Unit) (i : Intake) (w : Coming G) (m : Meters C D) : Type 0 where
   pub turn : AtTurn d now u i
-  pub waits : Waits pre post d now w
+  pub waits : WaitsInTurn pre post d now w
   pub measures : MeasuresWait ru_pre ru_post du_pre du_post d now m
 
 -- and once the measurements of a tick have begun
-pub record HasBegun {G C D : Type 0} (pre : G → RePlace → Type 0) (post : G → RePlace → Wide → Type 0)
+pub record TurnHasBegun {G C D : Type 0} (pre : G → RePlace → Type 0) (post : G → RePlace → Wide → Type 0)
     (ru_pre : C → Edge → Type 0) (ru_post : C → Edge → ℤ → Type 0) (du_pre : D → Edge → Type 0) (du_post : D → Edge → ℤ → Type 0)
     (d : Document) (tick : ℤ) (u : Unit) (i : Intake) (w : Coming G) (m : Meters C D) : Type 0 where
   pub turn : AtTurn d tick u i
-  pub waits : Waits pre post d tick w
+  pub waits : WaitsInTurn pre post d tick w
   pub begun : HaveBegun ru_pre ru_post du_pre du_post d tick m
 
 -- all that comes at a tick has landed at both units: the frames of delay measurement that they made in it have still to be sent
-pub record HaveLanded {G C D : Type 0} (pre : G → RePlace → Type 0) (post : G → RePlace → Wide → Type 0)
+pub record TurnHasLanded {G C D : Type 0} (pre : G → RePlace → Type 0) (post : G → RePlace → Wide → Type 0)
     (ru_pre : C → Edge → Type 0) (ru_post : C → Edge → ℤ → Type 0) (du_pre : D → Edge → Type 0) (du_post : D → Edge → ℤ → Type 0)
     (d : Document) (tick : ℤ) (w : Coming G) (m : Meters C D) : Type 0 where
   pub down : HasLandedDown d tick w.downlink
@@ -80,9 +80,9 @@ pub record IsMoment {G C D : Type 0} (d : Document) (h k : History) (w : Coming 
   pub at : IsStill d h k w m tick → ⊥
   pub ended : tick ≤ℤ end_of_time
 
-abbrev pub IsNext : {G C D : Type 0} → Document → History → History → Coming G → Meters C D → Option Ticks → Type 0
-IsNext d h k w m None = (to : ℤ) → to ≤ℤ end_of_time → IsStill d h k w m to
-IsNext d h k w m (Some t) = IsMoment d h k w m t.0
+abbrev pub IsNextTick : {G C D : Type 0} → Document → History → History → Coming G → Meters C D → Option Ticks → Type 0
+IsNextTick d h k w m None = (to : ℤ) → to ≤ℤ end_of_time → IsStill d h k w m to
+IsNextTick d h k w m (Some t) = IsMoment d h k w m t.0
 
 -- a time, if it is not after the end
 abbrev pub within_end : Option Ticks → Option Ticks

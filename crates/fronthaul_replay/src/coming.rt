@@ -7,7 +7,7 @@ ghost use Rattle.intake_moments.specs.document_traffic.specs.Laws.{IsReplayable}
 ghost use Rattle.intake_moments.specs.document_traffic.specs.Sending.{sent_for};
 ghost use Rattle.intake_moments.specs.du_scheduler.specs.Plans.{HasToSend};
 ghost use Rattle.intake_moments.specs.unit_model.specs.Radiated.{first_clock};
-ghost use Rattle.fronthaul_replay.specs.Turns.{Waits};
+ghost use Rattle.fronthaul_replay.specs.Turns.{WaitsInTurn};
 
 use bfp_codec::Wide;
 use capture_air::air_source::{RePlace, Samples};
@@ -36,7 +36,7 @@ pub(crate) fn coming_of<G: Fn(RePlace) -> Wide>(
     requires plan { HasToSend doc.now.config doc.now.plan (sent_for doc.now) plan }
     requires kept { IsKept G.pre G.post antenna }
     requires tone { AnswersBy (G.post (closure_of antenna)) (antenna_for doc.now) }
-    ensures { IfOk result (λ w. Waits G.pre G.post doc.now first_clock w) }
+    ensures { IfOk result (λ w. WaitsInTurn G.pre G.post doc.now first_clock w) }
 {
     let downlink = Downlink::make(alloc, doc, plan)?;
     let answers = Answers::make(alloc, doc, antenna)?;

@@ -5,7 +5,7 @@ ghost use Rattle.capture_air.specs.air_source.specs.Causes.{HasAirCause};
 ghost use Rattle.capture_air.specs.air_source.specs.Kept.{IsKept, closure_of};
 ghost use Rattle.capture_air.specs.air_source.specs.declared.airs.AirFault.TheVariants.{Failed, NoMemory as WantsMemory};
 ghost use Rattle.intake_moments.specs.document_traffic.specs.Laws.{IsReplayable};
-ghost use Rattle.intake_moments.specs.du_intake.specs.Calls.{StandsFor as IntakeStandsFor};
+ghost use Rattle.intake_moments.specs.du_intake.specs.Calls.{IntakeStandsFor};
 ghost use Rattle.intake_moments.specs.du_scheduler.specs.Plans.{IsPlan};
 ghost use Rattle.intake_moments.specs.fh_document.specs.declared.document.Document.{Document as SpecDocument};
 ghost use Rattle.intake_moments.specs.Turns.{planned_for};
@@ -20,7 +20,7 @@ ghost use Rattle.intake_moments.specs.tone_source.specs.Tones.{tone_of};
 ghost use Rattle.intake_moments.specs.unit_model.specs.Radiated.{first_clock};
 ghost use Rattle.intake_moments.specs.unit_model.specs.Standing.{History};
 ghost use Rattle.fronthaul_replay.specs.Replaying.{IsInStep};
-ghost use Rattle.fronthaul_replay.specs.Turns.{AtMoment, AtTurn, HasBegun, HaveLanded, HaveMeasured, IsNext, Waits};
+ghost use Rattle.fronthaul_replay.specs.Turns.{AtMoment, AtTurn, TurnHasBegun, TurnHasLanded, HaveMeasured, IsNextTick, WaitsInTurn};
 
 use crate::coming::Coming;
 use crate::times::{is_up_to, tick_after, up_to_end};
@@ -45,7 +45,7 @@ fn next_moment<G: Fn(RePlace) -> Wide, C: Fn(Edge) -> i64, D: Fn(Edge) -> i64>(
     meters: &Meters<'_, C, D>,
 ) -> Option<Ticks>
     requires { IsPlan coming.now.downlink.plan }
-    ensures { (d : SpecDocument) (h k : History) → StandsFor d.config ru.now h → IntakeStandsFor d.config (planned_for d) intake.now k → IsNext d h k coming.now meters.now result }
+    ensures { (d : SpecDocument) (h k : History) → StandsFor d.config ru.now h → IntakeStandsFor d.config (planned_for d) intake.now k → IsNextTick d h k coming.now meters.now result }
 {
     let units = earlier_of(ru.due(), intake.due());
     let frames = earlier_of(coming.downlink.next_time(), coming.answers.next_time());
@@ -60,9 +60,9 @@ fn send_made<G: Fn(RePlace) -> Wide, C: Fn(Edge) -> i64, D: Fn(Edge) -> i64>(
 ) -> Result<(), NoMemory>
     requires begun { first_clock ≤ℤ tick.0 }
     requires ended { tick.0 ≤ℤ end_of_time }
-    requires some { (d : SpecDocument) × HaveLanded G.pre G.post C.pre C.post D.pre D.post d tick.0 coming.old meters.old }
-    ensures { (d : SpecDocument) → IsReplayable d → HaveLanded G.pre G.post C.pre C.post D.pre D.post d tick.0 coming.old meters.old
-        → OnOk result (Waits G.pre G.post d (tick.0 +ℤ pos 1) coming.new × MeasuresWait C.pre C.post D.pre D.post d (tick.0 +ℤ pos 1) meters.new) }
+    requires some { (d : SpecDocument) × TurnHasLanded G.pre G.post C.pre C.post D.pre D.post d tick.0 coming.old meters.old }
+    ensures { (d : SpecDocument) → IsReplayable d → TurnHasLanded G.pre G.post C.pre C.post D.pre D.post d tick.0 coming.old meters.old
+        → OnOk result (WaitsInTurn G.pre G.post d (tick.0 +ℤ pos 1) coming.new × MeasuresWait C.pre C.post D.pre D.post d (tick.0 +ℤ pos 1) meters.new) }
 {
     coming.downlink.send_made(tick, &mut meters.du)?;
     coming.answers.send_made(tick, &mut meters.ru)
@@ -89,11 +89,11 @@ fn land<
     requires kept { IsKept F.pre F.post du.now }
     requires tone { AnswersBy (F.post (closure_of du.now)) (tone_of doc.now.source) }
     requires document { IsReplayable doc.now }
-    requires begun { HasBegun G.pre G.post C.pre C.post D.pre D.post doc.now tick.0 ru.old intake.old coming.old meters.old }
+    requires begun { TurnHasBegun G.pre G.post C.pre C.post D.pre D.post doc.now tick.0 ru.old intake.old coming.old meters.old }
     requires ended { tick.0 ≤ℤ end_of_time }
     ensures heard { OnOk result (A.grew out.old (events_at doc.now.config (traffic_of doc.now) tick.0) out.new) }
     ensures turn { OnOk result (AtTurn doc.now (tick.0 +ℤ pos 1) ru.new intake.new) }
-    ensures landed { OnOk result (HaveLanded G.pre G.post C.pre C.post D.pre D.post doc.now tick.0 coming.new meters.new) }
+    ensures landed { OnOk result (TurnHasLanded G.pre G.post C.pre C.post D.pre D.post doc.now tick.0 coming.new meters.new) }
     ensures stop { IsErrOf result Failed → StopsBehind A.grew (A.stopped Failed) (λ told. IsInStep doc.now told ru.new intake.new) (events_before doc.now tick.0) (events_at doc.now.config (traffic_of doc.now) tick.0) out.old out.new }
     ensures wants { IsErrOf result WantsMemory → HaltsBehind A.grew (A.stopped WantsMemory) (λ told. IsInStep doc.now told ru.new intake.new) (events_before doc.now tick.0) (events_at doc.now.config (traffic_of doc.now) tick.0) out.old out.new }
     ensures same { A.same out.old out.new }
@@ -141,15 +141,10 @@ fn moment<
     ensures same { A.same out.old out.new }
     ensures cause { HasAirCause (A.faults out.old) (A.faults out.new) result }
 {
-    match meters.begin(tick) {
-        Ok(()) => {}
-        Err(NoMemory) => return Err(AirFault::NoMemory),
-    }
+    meters.begin(tick)?;
     land(doc, tick, du, ru, intake, coming, meters, out)?;
-    match send_made(tick, coming, meters) {
-        Ok(()) => Ok(()),
-        Err(NoMemory) => Err(AirFault::NoMemory),
-    }
+    send_made(tick, coming, meters)?;
+    Ok(())
 }
 
 /// Lets time pass to the end.

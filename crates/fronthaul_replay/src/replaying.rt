@@ -11,7 +11,7 @@ ghost use Rattle.fronthaul_replay.specs.Laws.{IsSound};
 ghost use Rattle.fronthaul_replay.specs.Replaying.{events_of};
 ghost use Rattle.fronthaul_replay.specs.Cut.{CutBy};
 ghost use Rattle.fronthaul_replay.specs.Replaying.{IsReplayable};
-ghost use Rattle.intake_moments.specs.du_intake.specs.Calls.{StandsFor as IntakeStandsFor};
+ghost use Rattle.intake_moments.specs.du_intake.specs.Calls.{IntakeStandsFor};
 ghost use Rattle.intake_moments.specs.Turns.{planned_for};
 ghost use Rattle.intake_moments.specs.unit_model.specs.Standing.{nothing_yet};
 

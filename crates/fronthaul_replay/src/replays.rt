@@ -8,7 +8,7 @@ ghost use Rattle.intake_moments.specs.document_traffic.specs.Landing.{antenna_fo
 ghost use Rattle.intake_moments.specs.document_traffic.specs.Sending.{sent_for};
 ghost use Rattle.sum_air.specs.delay_measure.specs.Kept.{answer_at};
 ghost use Rattle.intake_moments.specs.measured_moments.specs.Begins.{MeasuresWait};
-ghost use Rattle.intake_moments.specs.du_intake.specs.Calls.{StandsFor as IntakeStandsFor};
+ghost use Rattle.intake_moments.specs.du_intake.specs.Calls.{IntakeStandsFor};
 ghost use Rattle.intake_moments.specs.du_scheduler.specs.Plans.{HasToSend};
 ghost use Rattle.fh_base.specs.Causes.{Rose};
 ghost use Rattle.intake_moments.specs.fh_document.specs.Proper.{IsDocument};
@@ -20,7 +20,7 @@ ghost use Rattle.intake_moments.specs.unit_model.specs.Standing.{nothing_yet};
 ghost use Rattle.fronthaul_replay.specs.Faults.{replay_fault};
 ghost use Rattle.fronthaul_replay.specs.Laws.{IsSound};
 ghost use Rattle.fronthaul_replay.specs.Replaying.{HaltsInStep, IsDone, IsReplayable, StopsInStep, events_of};
-ghost use Rattle.fronthaul_replay.specs.Turns.{Waits};
+ghost use Rattle.fronthaul_replay.specs.Turns.{WaitsInTurn};
 ghost use Rattle.fronthaul_replay.specs.declared.replays.ReplayFault.TheVariants.{AirFailed, NoMemory as WantsMemory};
 
 use crate::coming::{Coming, coming_of};
@@ -163,7 +163,7 @@ fn run<
     requires document { IsReplayable doc.now }
     requires unit { StandsFor doc.now.config ru.old nothing_yet }
     requires intake { IntakeStandsFor doc.now.config (planned_for doc.now) intake.old nothing_yet }
-    requires waits { Waits G.pre G.post doc.now first_clock coming.old }
+    requires waits { WaitsInTurn G.pre G.post doc.now first_clock coming.old }
     requires measures { MeasuresWait C.pre C.post D.pre D.post doc.now first_clock meters.old }
     ensures heard { OnOk result (A.grew out.old (events_of doc.now) out.new) }
     ensures done { OnOk result (IsDone doc.now ru.new intake.new) }

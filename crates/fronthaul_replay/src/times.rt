@@ -3,17 +3,14 @@ ghost use Rattle.std.specs.Prelude.{◌≡◌, pos, ◌+ℤ◌, ◌≤ℤ◌, in
 ghost use Rattle.intake_moments.specs.replay_events.specs.Moments.{end_of_time};
 ghost use Rattle.fronthaul_replay.specs.Turns.{within_end};
 
-use fh_time::Ticks;
-
-/// The time up to which cells are reported: 1,100 s.
-const END: Ticks = Ticks(1_689_600_000_000_000);
+use fh_time::{END_OF_TIME, Ticks};
 
 /// A time, if it is not after the end.
 pub(crate) fn up_to_end(time: Option<Ticks>) -> Option<Ticks>
     ensures { result ≡ within_end time }
 {
     match time {
-        Some(t) if t.0 <= END.0 => Some(t),
+        Some(t) if t.0 <= END_OF_TIME as i64 => Some(t),
         _ => None,
     }
 }

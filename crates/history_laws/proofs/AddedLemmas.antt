@@ -20,11 +20,14 @@ use Rattle.uplane_sections.specs.Messages.{told}
 use Rattle.uplane_sections.specs.declared.values.UHead.{UHead}
 use Rattle.uplane_sections.specs.declared.values.URefusal.{URefusal}
 use Rattle.window_config.specs.declared.endpoints.EndpointConfig.{EndpointConfig}
-use Rattle.unit_laws.specs.unit_model.specs.Decoding.{Backwards, Gathering, Part, Sections, data_now, data_sections, data_told, data_with, decode, decoded_from, decoded_now, decoded_with, gathered, has_way, nothing_told, sections_of, whole_of}
+use Rattle.unit_laws.specs.unit_model.specs.Decoding.{Backwards, Gathering, SectionBlocks, Sections, data_now, data_sections, data_told, data_with, decode, decoded_from, decoded_now, decoded_with, gathered, has_way, nothing_told, sections_of, whole_of}
 use Rattle.unit_laws.specs.unit_model.specs.Lists.{joined, onto}
 use Rattle.unit_laws.specs.unit_model.specs.Meetings.{Arrival, Meeting, Ignored, Commands, Piece, application, command, command_read, commands, commands_with, control_met, find_endpoint, fragment_of, fragments, id_of, is_fragmented, meet, meetings, met_by, met_in, sequence_of}
 use Rattle.unit_laws.specs.unit_model.specs.declared.decoded.ControlSection.{ControlSection}
 use Rattle.unit_laws.specs.unit_model.specs.declared.decoded.UserSection.{UserSection}
+use Rattle.ecpri_frames.specs.declared.heads.TheConstants.{ONE_WAY_DELAY}
+use Rattle.ecpri_frames.specs.declared.heads.TheConstants.{REAL_TIME_CONTROL}
+use Rattle.ecpri_frames.specs.declared.heads.TheConstants.{IQ_DATA}
 
 -- ---- lists that grow at the front
 
@@ -99,13 +102,13 @@ control_came Du ep e at payload = tt
 found_came : (side : Side) (kind : ℕ) (at : ℤ) (payload : List ℕ) (o : Option (ℕ × EndpointConfig)) → Came at (met_by side kind at payload o)
 found_came side kind at payload None = tt
 found_came side kind at payload (Some (ep, e)) =
-    choice at (kind == 2) (control_met side ep e at payload) (Piece e (fragment_of ep at payload)) (control_came side ep e at payload) refl
+    choice at (kind == REAL_TIME_CONTROL) (control_met side ep e at payload) (Piece e (fragment_of ep at payload)) (control_came side ep e at payload) refl
 
 meet_came : (side : Side) (es : List EndpointConfig) (at : ℤ) (m : Message) → Came at (meet side es at m)
 unfolding meet
 meet_came side es at m =
-    choice at (m.head.kind == 5) _ _ tt
-    (choice at (not (m.head.kind == 0 || m.head.kind == 2)) _ _ tt
+    choice at (m.head.kind == ONE_WAY_DELAY) _ _ tt
+    (choice at (not (m.head.kind == IQ_DATA || m.head.kind == REAL_TIME_CONTROL)) _ _ tt
     (choice at (nat_lt (length m.payload) 4) _ _ tt (found_came side m.head.kind at m.payload (find_endpoint es (id_of m.payload)))))
 
 all_came : (side : Side) (es : List EndpointConfig) (at : ℤ) (ms : List Message) → All (Came at) (met_in side es at ms)
@@ -135,7 +138,7 @@ commands_added side es a arrivals =
 
 -- ---- data
 
-same_lasts : (ep : ℕ) (e : EndpointConfig) (first last : ℤ) (head : UHead) (ps : List Part) → All (DataCame last) (map (data_with ep e first last head) ps)
+same_lasts : (ep : ℕ) (e : EndpointConfig) (first last : ℤ) (head : UHead) (ps : List SectionBlocks) → All (DataCame last) (map (data_with ep e first last head) ps)
 same_lasts ep e first last head [] = All-nil (DataCame last)
 same_lasts ep e first last head (p ∷ ps) =
     All-cons (DataCame last) (data_with ep e first last head p) (map (data_with ep e first last head) ps) refl (same_lasts ep e first last head ps)
@@ -144,7 +147,7 @@ way_last : (last : ℤ) (ds : List UserSection) (way : Bool) → All (DataCame l
 way_last last ds true h = h
 way_last last ds false h = All-nil (DataCame last)
 
-head_last : (side : Side) (ep : ℕ) (e : EndpointConfig) (first last : ℤ) (parts : List Part) (o : Option UHead)
+head_last : (side : Side) (ep : ℕ) (e : EndpointConfig) (first last : ℤ) (parts : List SectionBlocks) (o : Option UHead)
     → All (DataCame last) (sections_of (decoded_with side ep e first last parts o))
 head_last side ep e first last parts None = All-nil (DataCame last)
 head_last side ep e first last parts (Some head) =

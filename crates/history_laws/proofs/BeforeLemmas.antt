@@ -8,7 +8,7 @@ use Rattle.unit_laws.specs.unit_model.specs.Claims.{same_slot}
 use Rattle.unit_laws.specs.unit_model.specs.Order.{comes_before, slot_before, symbol_before}
 use Rattle.unit_laws.specs.unit_model.specs.declared.symbol_start.SymbolStart.{SymbolStart}
 use Rattle.std.proofs.lemmas.Int.{ints}
-use Rattle.history_laws.proofs.TickLemmas.{is_less, is_same}
+use Rattle.fh_time.proofs.Orders.{under_is as is_less, is_same}
 
 -- slots of which none is before the other
 pub slot_cases : (a b : Slot) → slot_before a b ≡ false → slot_before b a ≡ false → same_slot a b ≡ true
@@ -42,9 +42,6 @@ symbol_comes_before a x y h =
     (lt-ltb x y h))
 
 -- ---- of all endpoints
-
-pub start_before : (a b : SymbolStart) → a.start.0 <ℤ b.start.0 → comes_before a b ≡ true
-start_before a b h = or_left (int_lt a.start.0 b.start.0) _ (is_less a.start.0 b.start.0 h)
 
 pub endpoint_before : (a b : SymbolStart) → a.start.0 ≡ b.start.0 → a.ep < b.ep → comes_before a b ≡ true
 endpoint_before a b start h =

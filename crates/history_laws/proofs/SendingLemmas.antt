@@ -25,13 +25,13 @@ use Rattle.unit_laws.specs.unit_model.specs.declared.verdicts.CommandVerdict.{Co
 use Rattle.unit_laws.specs.unit_model.specs.declared.verdicts.CommandVerdict.TheVariants.{Mismatch, Late, Early, Range, Repeat, Overlap, Full, Accepted}
 use Rattle.unit_laws.specs.unit_model.proofs.VerdictLemmas.{accepted_proper}
 use Rattle.unit_laws.specs.Swept.{IsSwept}
-use Rattle.unit_laws.proofs.CellLemmas.{slots_equal}
 use Rattle.unit_laws.proofs.DifferLemmas.{all_kept}
 use Rattle.unit_laws.proofs.FarLemmas.{endpoints_equal}
 use Rattle.unit_laws.proofs.HistoryLemmas.{commands_are_proper}
 use Rattle.unit_laws.proofs.SweepLemmas.{sweep_related}
 use Rattle.history_laws.specs.Sending.{JobsAreProper}
 use Rattle.history_laws.proofs.TickLemmas.{before_next}
+use Rattle.unit_laws.specs.unit_model.proofs.ClaimLemmas.{same_slot_is as slots_equal}
 
 -- ---- what was accepted
 

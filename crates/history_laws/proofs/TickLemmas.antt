@@ -1,23 +1,11 @@
 -- The order of ticks, and of what stands next to them.
-use Rattle.std.proofs.Common.{◌≡◌, ℤ, pos, ◌+ℤ◌, ◌-ℤ◌, ◌≤ℤ◌, ◌<ℤ◌, true, false, arith}
-use Rattle.std.specs.Prelude.{int_lt}
-use Rattle.std.specs.Ordering.{int_eq}
-use Rattle.std.proofs.lemmas.Bool.Decides.{Decides-int_eq}
+use Rattle.std.proofs.Common.{◌≡◌, ℤ, pos, ◌+ℤ◌, ◌-ℤ◌, ◌≤ℤ◌, ◌<ℤ◌, arith}
 use Rattle.std.proofs.lemmas.Int.{ints}
 use Rattle.unit_laws.specs.unit_model.specs.Radiated.{first_clock}
 use Rattle.unit_laws.specs.unit_model.specs.Times.{end_of_time}
 
-pub at_most : (a b c : ℤ) → a ≤ℤ b → b ≤ℤ c → a ≤ℤ c
-at_most a b c h k = omega (arith, ints)
-
-pub weak : (a b : ℤ) → a <ℤ b → a ≤ℤ b
-weak a b h = omega (arith, ints)
-
 pub next_after : (a b : ℤ) → a <ℤ b → (a +ℤ pos 1) ≤ℤ b
 next_after a b h = omega (arith, ints)
-
-pub next_most : (a b : ℤ) → a ≤ℤ b → a ≤ℤ (b +ℤ pos 1)
-next_most a b h = omega (arith, ints)
 
 pub next_is_later : (a : ℤ) → a ≤ℤ (a +ℤ pos 1)
 next_is_later a = omega (arith, ints)
@@ -37,15 +25,6 @@ last_reached a b h = omega (arith, ints)
 pub before_next : (a b : ℤ) → a <ℤ (b +ℤ pos 1) → a ≤ℤ b
 before_next a b h = omega (arith, ints)
 
-pub after_next : (a b : ℤ) → (a +ℤ pos 1) ≤ℤ b → a <ℤ b
-after_next a b h = omega (arith, ints)
-
-pub within_next : (a b : ℤ) → a ≤ℤ b → a <ℤ (b +ℤ pos 1)
-within_next a b h = omega (arith, ints)
-
-pub next_order : (a b : ℤ) → a ≤ℤ b → (a +ℤ pos 1) ≤ℤ (b +ℤ pos 1)
-next_order a b h = omega (arith, ints)
-
 pub after_all : (a b t : ℤ) → a ≤ℤ b → (b +ℤ pos 1) ≤ℤ t → a <ℤ t
 after_all a b t h k = omega (arith, ints)
 
@@ -57,9 +36,6 @@ last_order a b h = omega (arith, ints)
 
 pub one_before : (a b : ℤ) → a ≤ℤ b → (a -ℤ pos 1) <ℤ b
 one_before a b h = omega (arith, ints)
-
-pub before_it : (a : ℤ) → (a -ℤ pos 1) <ℤ a
-before_it a = omega (arith, ints)
 
 -- a tick that is another's
 pub same_then : (a b c : ℤ) → a ≤ℤ b → c ≡ b → a ≤ℤ c
@@ -73,16 +49,6 @@ same_most a b e = omega (arith, ints)
 
 pub same_tick : (a b : ℤ) → b ≤ℤ a → a ≤ℤ b → a ≡ b
 same_tick a b h k = omega (arith, ints)
-
--- what the tests answer
-pub is_less : (a b : ℤ) → a <ℤ b → int_lt a b ≡ true
-is_less a b h = grind (arith, ints)
-
-pub not_less : (a b : ℤ) → b ≤ℤ a → int_lt a b ≡ false
-not_less a b h = grind (arith, ints)
-
-pub is_same : (a b : ℤ) → a ≡ b → int_eq a b ≡ true
-is_same a b h = (Decides-int_eq a b).1 h
 
 -- time is gone over from its first tick
 pub clock_begins : first_clock ≤ℤ (end_of_time +ℤ pos 1)

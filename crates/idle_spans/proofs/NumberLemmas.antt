@@ -11,6 +11,7 @@ use Rattle.fh_time.specs.Numbering.{slots_of, symbols_of}
 use Rattle.idle_spans.specs.declared.places.Place.{Place}
 use Rattle.idle_spans.specs.Symbols.{frame_symbols, symbol_at, number_in_frame}
 use Rattle.idle_spans.specs.Places.{IsSymbol}
+use Rattle.fh_time.specs.declared.symbols.TheConstants.{SLOT_SYMBOLS}
 
 -- ---- how many symbols a frame has
 
@@ -18,10 +19,10 @@ pub frame_is : (n : Numerology) → frame_symbols n ≡ 10 * slots_of n * symbol
 unfolding frame_symbols
 frame_is n = refl
 
-frame_bounds : (s y : ℕ) → 0 < s → s ≤ 16 → 0 < y → y ≤ 14 → (0 < 10 * s * y) × (10 * s * y ≤ 2240)
+frame_bounds : (s y : ℕ) → 0 < s → s ≤ 16 → 0 < y → y ≤ SLOT_SYMBOLS → (0 < 10 * s * y) × (10 * s * y ≤ 2240)
 frame_bounds s y s_some s_few y_some y_few =
     let low : 1 * 1 ≤ 10 * s * y = mul-le 1 1 (10 * s) y (omega arith) y_some in
-    let high : 10 * s * y ≤ 160 * 14 = mul-le (10 * s) y 160 14 (omega arith) y_few in
+    let high : 10 * s * y ≤ 160 * SLOT_SYMBOLS = mul-le (10 * s) y 160 SLOT_SYMBOLS (omega arith) y_few in
     (omega (arith, low), omega (arith, high))
 
 pub frame_few : (n : Numerology) → (0 < frame_symbols n) × (frame_symbols n ≤ 2240)

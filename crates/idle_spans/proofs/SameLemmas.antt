@@ -3,7 +3,7 @@ use Rattle.std.proofs.Common.{◌≡◌, ℕ, ℤ, pos, ◌+◌, ◌*◌, ◌<�
 use Rattle.std.proofs.lemmas.Bool.{and_parts, eqb-true, eq-eqb, ne_eqb, cases_eq, false_from_ne_true}
 use Rattle.std.proofs.lemmas.Bool.Decides.{Decides-int_eq}
 use Rattle.std.proofs.lemmas.Int.{ints}
-use Rattle.std.specs.Ordering.{int_eq}
+use Rattle.fh_time.proofs.Orders.{int_own}
 use Rattle.fh_time.specs.declared.numerology.Numerology.{Numerology}
 use Rattle.idle_spans.specs.declared.places.Place.{Place}
 use Rattle.idle_spans.specs.Symbols.{frame_symbols, symbol_at, symbol_count, number_in_frame}
@@ -13,9 +13,6 @@ use Rattle.idle_spans.specs.Tables.{RowValue, IsRow, row_symbol}
 use Rattle.idle_spans.proofs.NumberLemmas.{symbol_is, number_is, symbol_proper, frame_at, frames_within, index_below}
 
 -- ---- one symbol or two
-
-int_own : (a : ℤ) → int_eq a a ≡ true
-int_own a = (Decides-int_eq a a).1 refl
 
 same_own : (p : Place) → same_symbol p.slot p.symbol p ≡ true
 same_own p =

@@ -12,6 +12,7 @@ use Rattle.idle_spans.specs.Silence.{is_shown, is_missed}
 use Rattle.idle_spans.specs.Marked.{no_mark}
 use Rattle.idle_spans.specs.declared.places.Mark.{Mark}
 use Rattle.idle_spans.specs.declared.places.Place.{Place}
+use Rattle.window_config.specs.declared.plan.TheConstants.{LAST_FRAME}
 
 -- the table of an endpoint: the marks of its symbols in the frames, in order
 pub record RowValue : Type 0 where
@@ -53,7 +54,7 @@ pub record AreFrames (first last : ℕ) : Type 0 where
   pub low : 1 ≤ first
   pub order : first ≤ last
   pub few : last ≤ first + 9
-  pub high : last ≤ 99999
+  pub high : last ≤ LAST_FRAME
 
 -- what every table is
 pub record IsRow (r : RowValue) : Type 0 where

@@ -1,6 +1,7 @@
 -- The radio unit's messages of one tick are given, and their frames wait.
-use Rattle.std.proofs.Common.{◌≡◌, ℕ, ℤ, pos, ◌+ℤ◌, ◌-ℤ◌, ◌<◌, ◌≤◌, ◌≤ℤ◌, List, [], ◌∷◌, ◌++◌, All, length, drop, refl, sym, ap, ap₂, ◌∙◌, subst, append_assoc, arith}
+use Rattle.std.proofs.Common.{◌≡◌, ℕ, ℤ, pos, ◌+ℤ◌, ◌-ℤ◌, ◌<◌, ◌≤◌, ◌≤ℤ◌, List, [], ◌++◌, All, length, drop, refl, sym, ap, ap₂, ◌∙◌, subst, append_assoc, arith}
 use Rattle.std.specs.Prelude.{Err, Ok, OnOk, Result}
+use Rattle.std.proofs.Math.Seq.{drop-length}
 use Rattle.std.proofs.lemmas.List.Elements.{All-weaker}
 use Rattle.std.specs.Int.Signed.{≤ℤ_refl}
 use Rattle.send_queue.specs.air_source.specs.Answers.{AnswersBy}
@@ -11,9 +12,12 @@ use Rattle.send_queue.specs.air_source.specs.declared.places.RePlace.{RePlace}
 use Rattle.send_queue.specs.air_source.specs.declared.samples.Samples.{Samples}
 use Rattle.bfp_codec.specs.declared.samples.Wide.{Wide}
 use Rattle.radio_moments.specs.document_traffic.specs.Landing.{antenna_for}
+use Rattle.radio_moments.specs.document_traffic.specs.Sending.{Leaving, none_sent}
 use Rattle.radio_moments.specs.fh_document.specs.declared.document.Document.{Document}
-use Rattle.radio_moments.specs.measured_traffic.specs.Replayed.{landings_for}
+use Rattle.radio_moments.specs.measured_traffic.specs.Replayed.{all_leaving, landings_for, leaving_with}
+use Rattle.radio_moments.specs.measured_traffic.proofs.LeaveLemmas.{uplink_alike}
 use Rattle.radio_moments.specs.measured_traffic.proofs.ReplayedLemmas.{landings_are_replayed}
+use Rattle.radio_moments.specs.frame_ways.specs.Ways.{Waits}
 use Rattle.radio_moments.specs.frame_ways.specs.declared.way.Way.{Way}
 use Rattle.send_queue.specs.plan_model.specs.Packs.{Message}
 use Rattle.radio_moments.proofs.StepLemmas.{arrivals_stay, cells_stay, intake_own, next_events}
@@ -21,30 +25,32 @@ use Rattle.radio_moments.specs.Turns.{AtRadioTurn, IsRadioInStep, IsRadioLanded,
 use Rattle.radio_moments.specs.replay_events.specs.Heard.{arrivals_heard, cells_heard}
 use Rattle.radio_moments.specs.replay_events.specs.Moments.{arrivals_before, end_of_time}
 use Rattle.du_intake.specs.ru_buffers.specs.Calls.{StandsFor, given_of}
-use Rattle.du_intake.specs.ru_buffers.specs.Reporting.{due_of}
+use Rattle.du_intake.specs.ru_buffers.specs.radio_laws.specs.Reporting.{due_of}
 use Rattle.du_intake.specs.ru_buffers.specs.declared.unit.Ru.{Ru}
 use Rattle.send_queue.specs.Outboxes.{Handed}
-use Rattle.send_queue.specs.Queues.{AreFrom, WaitsFor}
+use Rattle.send_queue.specs.Queues.{LeaveFrom, WaitsFor}
+use Rattle.send_queue.specs.unit_model.proofs.OntoLemmas.{onto-append, onto_none}
 use Rattle.send_queue.specs.unit_model.specs.Lists.{onto}
 use Rattle.send_queue.specs.unit_model.specs.Radiated.{first_clock}
 use Rattle.send_queue.specs.unit_model.specs.Reports.{accepted_of, ru_reported}
 use Rattle.send_queue.specs.unit_model.specs.Standing.{History}
 use Rattle.send_queue.specs.unit_model.specs.Uplink.{jobs}
 use Rattle.send_queue.specs.unit_model.specs.declared.jobs.UplinkJob.{UplinkJob}
-use Rattle.du_intake.specs.history_laws.proofs.TickLemmas.{last_of_next, next_most, next_order}
+use Rattle.du_intake.specs.history_laws.proofs.TickLemmas.{last_of_next}
+use Rattle.fh_time.proofs.Orders.{before_it, next_later, next_order}
 use Rattle.send_queue.specs.uplink_model.specs.Frames.{frames_behind}
-use Rattle.send_queue.specs.uplink_model.specs.Messages.{messages_of}
+use Rattle.send_queue.specs.uplink_model.specs.Messages.{uplink_messages_of}
 use Rattle.send_queue.specs.uplink_model.specs.SentLaws.{AreOf}
-use Rattle.uplink_path.specs.Emitting.{MaySend, Numbered, SentAll, given_too}
+use Rattle.uplink_path.specs.Emitting.{MaySend, AreNumbered, SentAll, given_too}
 use Rattle.uplink_path.specs.declared.uplink.Uplink.{Uplink}
 use Rattle.radio_moments.specs.uplink_turns.specs.Given.{HasSeen}
-use Rattle.radio_moments.specs.uplink_turns.specs.Turns.{handed_at, handed_until, jobs_at, jobs_until, messages_at, messages_until}
+use Rattle.radio_moments.specs.uplink_turns.specs.Turns.{handed_at, handed_until, jobs_of_tick, jobs_until, messages_of_tick, messages_until}
 use Rattle.radio_moments.specs.uplink_turns.proofs.GivenLemmas.{gives_tick, owes_tick}
-use Rattle.radio_moments.specs.uplink_turns.proofs.HandedLemmas.{handed_behind_are_of, handed_go_on, handed_leave_later}
-use Rattle.radio_moments.specs.uplink_turns.proofs.JobLemmas.{jobs_settled}
+use Rattle.radio_moments.specs.uplink_turns.proofs.HandedLemmas.{handed_behind_are_of, handed_go_on, handed_leave_later, none_handed_before}
+use Rattle.radio_moments.specs.uplink_turns.proofs.JobLemmas.{jobs_settled, no_jobs_before}
 use Rattle.radio_moments.specs.uplink_turns.proofs.MessageLemmas.{messages_go_on}
 use Rattle.intake_moments.specs.Answering.{IsDueAt, MayAnswer, heard_before}
-use Rattle.intake_moments.specs.Answers.{AwaitsFrames, HasHanded}
+use Rattle.intake_moments.specs.Answers.{AwaitsFrames, HasHanded, WaitsUp}
 use Rattle.intake_moments.specs.declared.answers.Answers.{Answers}
 
 -- ---- what two clauses say of a result
@@ -53,40 +59,29 @@ pub ok_both : {T E P Q R : Type 0} (r : Result T E) → (P → Q → R) → OnOk
 ok_both (Ok x) f p q = f p q
 ok_both (Err e) f p q = tt
 
--- ---- lists
-
-onto_both : {A : Type 0} (earlier xs ys : List A) → onto (onto earlier xs) ys ≡ onto earlier (xs ++ ys)
-unfolding onto
-onto_both earlier [] ys = refl
-onto_both earlier (x ∷ xs) ys = onto_both (x ∷ earlier) xs ys
-
-drop_all : {A : Type 0} (xs : List A) → drop (length xs) xs ≡ []
-drop_all [] = refl
-drop_all (x ∷ xs) = drop_all xs
-
 -- ---- the messages that are due
 
 pub has_seen : (d : Document) (tick : ℤ) (h : History) → IsDueAt d tick → IsRadioLanded d tick h → HasSeen d.config (landings_for AtRu d) (tick +ℤ pos 1) h
 has_seen d tick h due landed = record {
   config = due.replayable.document.config;
   landings_are = landings_are_replayed d AtRu due.replayable;
-  begun = next_most first_clock tick due.begun;
+  begun = next_later first_clock tick due.begun;
   ended = next_order tick end_of_time due.ended;
   arrivals = landed.arrivals;
 }
 
 -- they are those of the tick
-pub due_jobs : (d : Document) (tick : ℤ) (h : History) → IsDueAt d tick → IsRadioLanded d tick h → given_of d.config h h.clock ≡ jobs_at d.config (landings_for AtRu d) tick
+pub due_jobs : (d : Document) (tick : ℤ) (h : History) → IsDueAt d tick → IsRadioLanded d tick h → given_of d.config h h.clock ≡ jobs_of_tick d.config (landings_for AtRu d) tick
 due_jobs d tick h due landed =
     ap (λ (t : ℤ). given_of d.config h t) landed.clock
-    ∙ owes_tick d.config (landings_for AtRu d) tick (tick +ℤ pos 1) h (has_seen d tick h due landed) due.begun (next_most tick tick (≤ℤ_refl tick)) landed.given
+    ∙ owes_tick d.config (landings_for AtRu d) tick (tick +ℤ pos 1) h (has_seen d tick h due landed) due.begun (next_later tick tick (≤ℤ_refl tick)) landed.given
 
 -- and with them all up to the tick are given
 pub given_jobs : (d : Document) (tick : ℤ) (h : History) → IsDueAt d tick → IsRadioLanded d tick h
     → h.given ++ given_of d.config h h.clock ≡ jobs_until d.config (landings_for AtRu d) tick
 given_jobs d tick h due landed =
     ap (λ (t : ℤ). h.given ++ given_of d.config h t) landed.clock
-    ∙ gives_tick d.config (landings_for AtRu d) tick (tick +ℤ pos 1) h (has_seen d tick h due landed) due.begun (next_most tick tick (≤ℤ_refl tick)) landed.given
+    ∙ gives_tick d.config (landings_for AtRu d) tick (tick +ℤ pos 1) h (has_seen d tick h due landed) due.begun (next_later tick tick (≤ℤ_refl tick)) landed.given
 
 -- then none is left up to it
 none_left : (d : Document) (tick : ℤ) (k : History) → IsDueAt d tick → k.arrivals ≡ arrivals_before (landings_for AtRu d) (tick +ℤ pos 1)
@@ -96,10 +91,10 @@ none_left d tick k due came given =
     let ls = landings_for AtRu d in
     let all = jobs_until c ls tick in
     let settled : jobs c.endpoints (accepted_of c (arrivals_before ls (tick +ℤ pos 1))) tick ≡ all =
-    jobs_settled c ls tick (tick +ℤ pos 1) due.replayable.document.config (landings_are_replayed d AtRu due.replayable) (next_most first_clock tick due.begun)
-    (next_order tick end_of_time due.ended) (next_most tick tick (≤ℤ_refl tick)) in
+    jobs_settled c ls tick (tick +ℤ pos 1) due.replayable.document.config (landings_are_replayed d AtRu due.replayable) (next_later first_clock tick due.begun)
+    (next_order tick end_of_time due.ended) (next_later tick tick (≤ℤ_refl tick)) in
     ap₂ (λ (gs js : List UplinkJob). drop (length gs) js) given (ap (λ (xs : List _). jobs c.endpoints (accepted_of c xs) tick) came ∙ settled)
-    ∙ drop_all all
+    ∙ drop-length all
 
 -- ---- the radio unit
 
@@ -118,7 +113,7 @@ radio_then d tick h ru due landed stands =
       history = k;
       stands = stands;
       turn = record {
-        begun = next_most first_clock tick due.begun;
+        begun = next_later first_clock tick due.begun;
         ended = next_order tick end_of_time due.ended;
         arrivals = landed.arrivals;
         reported = landed.reported ∙ ap (λ (u : ℤ). ru_reported c (arrivals_before (landings_for AtRu d) (tick +ℤ pos 1)) u) last;
@@ -130,7 +125,7 @@ radio_then d tick h ru due landed stands =
         came = landed.came ∙ sym (arrivals_stay AtRu AtDu (heard_before d tick) (intake_events d tick) refl other) ∙ ap (arrivals_heard AtRu []) (sym events);
         told = landed.told ∙ sym (cells_stay AtRu AtDu (heard_before d tick) (intake_events d tick) refl other) ∙ ap (cells_heard AtRu) (sym events);
       };
-      clock = subst (λ (u : ℤ). u ≤ℤ (tick +ℤ pos 1)) (sym (stands.kept.clock_is ∙ landed.clock)) (next_most tick tick (≤ℤ_refl tick));
+      clock = subst (λ (u : ℤ). u ≤ℤ (tick +ℤ pos 1)) (sym (stands.kept.clock_is ∙ landed.clock)) (next_later tick tick (≤ℤ_refl tick));
     }
 
 -- whatever was given, it is in step with what was heard
@@ -163,68 +158,78 @@ handed_now post d tick h u ru old new due landed sent tone none =
     let antenna = antenna_for d in
     let ms = numbered_before d tick in
     sent.sent antenna tone
-    ∙ ap₂ (λ (xs : List LinkFrame) (js : List UplinkJob). xs ++ frames_behind c antenna ms (messages_of c js)) none (due_jobs d tick h due landed)
+    ∙ ap₂ (λ (xs : List LinkFrame) (js : List UplinkJob). xs ++ frames_behind c antenna ms (uplink_messages_of c js)) none (due_jobs d tick h due landed)
 
 pub handed_then : {G : Type 0} (pre : G → RePlace → Type 0) (post : G → RePlace → Wide → Type 0) (d : Document) (tick : ℤ) (h : History) (old new : Answers G)
     → IsDueAt d tick → IsRadioLanded d tick h → HasHanded pre post d (tick -ℤ pos 1) old → new.uplink.antenna ≡ old.uplink.antenna
-    → Numbered d.config new.uplink (onto (numbered_before d tick) (messages_of d.config (given_of d.config h h.clock))) → new.outbox.frames ≡ []
+    → AreNumbered d.config new.uplink (onto (numbered_before d tick) (uplink_messages_of d.config (given_of d.config h h.clock))) → new.outbox.frames ≡ []
     → HasHanded pre post d tick new
 handed_then pre post d tick h old new due landed handed same numbered none =
     let c = d.config in
     let ls = landings_for AtRu d in
     let before = messages_until c ls (tick -ℤ pos 1) in
-    let all : onto (numbered_before d tick) (messages_of c (given_of c h h.clock)) ≡ onto [] (messages_until c ls tick) =
-    ap (λ (js : List UplinkJob). onto (onto [] before) (messages_of c js)) (due_jobs d tick h due landed)
-    ∙ onto_both [] before (messages_at c ls tick) ∙ ap (onto []) (sym (messages_go_on c ls tick due.begun)) in
+    let all : onto (numbered_before d tick) (uplink_messages_of c (given_of c h h.clock)) ≡ onto [] (messages_until c ls tick) =
+    ap (λ (js : List UplinkJob). onto (onto [] before) (uplink_messages_of c js)) (due_jobs d tick h due landed)
+    ∙ sym (onto-append [] before (messages_of_tick c ls tick)) ∙ ap (onto []) (sym (messages_go_on c ls tick due.begun)) in
     record {
-      kept = subst (λ (s : Samples _). IsKept pre post s) (sym same) handed.kept;
-      tone = subst (λ (s : Samples _). AnswersBy (post (closure_of s)) (antenna_for d)) (sym same) handed.tone;
-      numbered = subst (Numbered c new.uplink) all numbered;
+      kept = rw same handed.kept;
+      tone = rw same handed.tone;
+      numbered = subst (AreNumbered c new.uplink) all numbered;
       none_handed = none;
     }
 
 -- ---- the frames of the tick wait with the others
 
 -- an endpoint's number is below 16
+pub are_of : (d : Document) (tick : ℤ) (fs : List LinkFrame) → fs ≡ handed_at d.config (antenna_for d) (landings_for AtRu d) tick → AreOf (length d.config.endpoints) fs
+are_of d tick fs is =
+    let c = d.config in
+    subst (AreOf (length c.endpoints)) (sym is) (handed_behind_are_of c (antenna_for d) (landings_for AtRu d) tick (messages_of_tick c (landings_for AtRu d) tick))
+
 few_endpoints : (n : ℕ) (fs : List LinkFrame) → n ≤ 16 → AreOf n fs → All (λ f. f.ep < 16) fs
 few_endpoints n fs few are = All-weaker (λ (f : LinkFrame). f.ep < n) (λ (f : LinkFrame). f.ep < 16) (λ f less. omega (arith, less, few)) fs are
 
 pub are_few : (d : Document) (tick : ℤ) (fs : List LinkFrame) → IsDueAt d tick → fs ≡ handed_at d.config (antenna_for d) (landings_for AtRu d) tick → All (λ f. f.ep < 16) fs
-are_few d tick fs due is =
-    let c = d.config in
-    few_endpoints (length c.endpoints) fs due.replayable.document.config.endpoints.few
-    (subst (AreOf (length c.endpoints)) (sym is) (handed_behind_are_of c (antenna_for d) (landings_for AtRu d) tick (messages_at c (landings_for AtRu d) tick)))
+are_few d tick fs due is = few_endpoints (length d.config.endpoints) fs due.replayable.document.config.endpoints.few (are_of d tick fs is)
 
-pub are_of : (d : Document) (tick : ℤ) (fs : List LinkFrame) → fs ≡ handed_at d.config (antenna_for d) (landings_for AtRu d) tick → AreOf (length d.config.endpoints) fs
-are_of d tick fs is =
-    let c = d.config in
-    subst (AreOf (length c.endpoints)) (sym is) (handed_behind_are_of c (antenna_for d) (landings_for AtRu d) tick (messages_at c (landings_for AtRu d) tick))
-
-pub are_later : (d : Document) (tick : ℤ) (fs : List LinkFrame) → IsDueAt d tick → fs ≡ handed_at d.config (antenna_for d) (landings_for AtRu d) tick → AreFrom tick fs
-are_later d tick fs due is = subst (AreFrom tick) (sym is) (handed_leave_later d.config (antenna_for d) (landings_for AtRu d) tick due.replayable.document.config)
-
-pub queue_then : (d : Document) (tick : ℤ) (fs q : List LinkFrame) → IsDueAt d tick → fs ≡ handed_at d.config (antenna_for d) (landings_for AtRu d) tick
-    → WaitsFor (length d.config.endpoints) tick (handed_until d.config (antenna_for d) (landings_for AtRu d) (tick -ℤ pos 1) ++ fs) q
-    → WaitsFor (length d.config.endpoints) tick (handed_until d.config (antenna_for d) (landings_for AtRu d) tick) q
-queue_then d tick fs q due is waits =
-    let c = d.config in
-    let earlier = handed_until c (antenna_for d) (landings_for AtRu d) (tick -ℤ pos 1) in
-    subst (λ (hs : List LinkFrame). WaitsFor (length c.endpoints) tick hs q)
-    (ap (λ (xs : List LinkFrame). earlier ++ xs) is ∙ sym (handed_go_on c (antenna_for d) (landings_for AtRu d) tick due.begun)) waits
-
--- ---- all of it
-
--- what was handed over stays, whatever leaves and lands
-pub handed_same : {G : Type 0} (pre : G → RePlace → Type 0) (post : G → RePlace → Wide → Type 0) (d : Document) (until : ℤ) (old new : Answers G) → HasHanded pre post d until old
-    → new.uplink ≡ old.uplink → new.outbox ≡ old.outbox → HasHanded pre post d until new
-handed_same pre post d until old new h uplink outbox = record {
-  kept = subst (λ (u : Uplink _). IsKept pre post u.antenna) (sym uplink) h.kept;
-  tone = subst (λ (u : Uplink _). AnswersBy (post (closure_of u.antenna)) (antenna_for d)) (sym uplink) h.tone;
-  numbered = subst (λ (u : Uplink _). Numbered d.config u (onto [] (messages_until d.config (landings_for AtRu d) until))) (sym uplink) h.numbered;
-  none_handed = ap (λ (o : Handed). o.frames) outbox ∙ h.none_handed;
-}
+pub are_later : (d : Document) (tick : ℤ) (fs : List LinkFrame) → IsDueAt d tick → fs ≡ handed_at d.config (antenna_for d) (landings_for AtRu d) tick → LeaveFrom tick fs
+are_later d tick fs due is = subst (LeaveFrom tick) (sym is) (handed_leave_later d.config (antenna_for d) (landings_for AtRu d) tick due.replayable.document.config)
 
 pub frames_then : (d : Document) (tick : ℤ) (fs q r : List LinkFrame) (w : Way) → IsDueAt d tick → fs ≡ handed_at d.config (antenna_for d) (landings_for AtRu d) tick
     → AwaitsFrames d (tick -ℤ pos 1) tick q w
     → WaitsFor (length d.config.endpoints) tick (handed_until d.config (antenna_for d) (landings_for AtRu d) (tick -ℤ pos 1) ++ fs) r → AwaitsFrames d tick tick r w
-frames_then d tick fs q r w due is frames waits = record { waiting = queue_then d tick fs r due is waits; counts = frames.counts; on_way = frames.on_way }
+frames_then d tick fs q r w due is frames waits = record {
+  waiting = rw (handed_go_on d.config (antenna_for d) (landings_for AtRu d) tick due.begun, ← is) waits;
+  counts = frames.counts;
+  on_way = frames.on_way;
+}
+
+-- ---- what was handed over
+
+-- it stays, whatever leaves and lands
+pub handed_same : {G : Type 0} (pre : G → RePlace → Type 0) (post : G → RePlace → Wide → Type 0) (d : Document) (until : ℤ) (old new : Answers G) → HasHanded pre post d until old
+    → new.uplink ≡ old.uplink → new.outbox ≡ old.outbox → HasHanded pre post d until new
+handed_same pre post d until old new h uplink outbox =
+    record { kept = rw uplink h.kept; tone = rw uplink h.tone; numbered = rw uplink h.numbered; none_handed = ap (λ (o : Handed). o.frames) outbox ∙ h.none_handed }
+
+-- at the start nothing was
+pub begins : {G : Type 0} (pre : G → RePlace → Type 0) (post : G → RePlace → Wide → Type 0) (d : Document) (antenna : Samples G) (a : Answers G)
+    → IsKept pre post antenna → AnswersBy (post (closure_of antenna)) (antenna_for d) → a.uplink.antenna ≡ antenna → AreNumbered d.config a.uplink []
+    → a.outbox.frames ≡ [] → WaitsFor (length d.config.endpoints) first_clock [] a.queue → Waits d AtDu first_clock first_clock none_sent (all_leaving AtDu d) a.way
+    → WaitsUp pre post d first_clock a
+begins pre post d antenna a kept tone same numbered none queue way =
+    let none_yet : messages_until d.config (landings_for AtRu d) (first_clock -ℤ pos 1) ≡ [] =
+    ap (uplink_messages_of d.config) (no_jobs_before d.config (landings_for AtRu d) (first_clock -ℤ pos 1) (before_it first_clock)) in
+    record {
+      handed = record {
+        kept = rw same kept;
+        tone = rw same tone;
+        numbered = subst (AreNumbered d.config a.uplink) (sym (ap (onto []) none_yet ∙ onto_none [])) numbered;
+        none_handed = none;
+      };
+      frames = record {
+        waiting = rw (none_handed_before d.config (antenna_for d) (landings_for AtRu d) (first_clock -ℤ pos 1) (before_it first_clock)) queue;
+        counts = none_sent;
+        on_way = subst (λ (fs : List Leaving). Waits d AtDu first_clock first_clock none_sent (leaving_with AtDu d fs first_clock) a.way) (uplink_alike d) way;
+      };
+    }

@@ -1,14 +1,7 @@
-pub mod TimeLemmas
-pub mod LeaveLemmas
-pub mod BeginLemmas
-pub mod HeardLemmas
-pub mod ToldLemmas
 pub mod TurnLemmas
 pub mod StopLemmas
-pub mod HearLemmas
 pub mod LandLemmas
 pub mod AnswerLemmas
 pub mod ReleaseLemmas
-pub mod MadeLemmas
 pub mod NextLemmas
 pub mod MomentLemmas

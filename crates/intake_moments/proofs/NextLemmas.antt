@@ -1,8 +1,6 @@
 -- From one tick to the next moment: what callers need of the distributed unit and of what comes to it.
-use Rattle.std.proofs.Common.{◌≡◌, ℤ, pos, ◌+ℤ◌, ◌-ℤ◌, ◌≤ℤ◌, ◌<ℤ◌, Bool, true, false, List, [], ◌∷◌, ◌++◌, length, refl, sym, ap, ◌∙◌, subst, arith}
+use Rattle.std.proofs.Common.{◌≡◌, ℤ, pos, ◌+ℤ◌, ◌-ℤ◌, ◌≤ℤ◌, ◌<ℤ◌, Bool, List, [], ◌∷◌, ◌++◌, length, refl, sym, ap, ◌∙◌, subst, arith}
 use Rattle.std.specs.Prelude.{All, cond, map}
-use Rattle.std.specs.Ordering.{int_eq}
-use Rattle.std.proofs.lemmas.Bool.Decides.{Decides-int_eq}
 use Rattle.std.proofs.lemmas.Int.{ints}
 use Rattle.std.proofs.lemmas.List.Elements.{All-head, All-map, All-tail, All-weaker}
 use Rattle.std.specs.Int.Signed.{≤ℤ_refl, <ℤ-≤ℤ_trans, clash_ℤ}
@@ -15,8 +13,8 @@ use Rattle.bfp_codec.specs.declared.samples.Wide.{Wide}
 use Rattle.radio_moments.specs.document_traffic.specs.Landing.{antenna_for, leaving_answer}
 use Rattle.radio_moments.specs.document_traffic.specs.Laws.{IsReplayable}
 use Rattle.radio_moments.specs.document_traffic.specs.Sending.{Leaving, SentCounts, leaving_of}
-use Rattle.du_intake.specs.Calls.{StandsFor}
-use Rattle.du_intake.specs.Units.{due_of}
+use Rattle.du_intake.specs.Calls.{IntakeStandsFor}
+use Rattle.du_intake.specs.Units.{intake_due_of}
 use Rattle.du_intake.specs.declared.unit.Intake.{Intake}
 use Rattle.radio_moments.specs.fh_document.specs.declared.document.Document.{Document}
 use Rattle.radio_moments.specs.frame_ways.specs.Ways.{IsEmptyTo, Waits}
@@ -49,26 +47,25 @@ use Rattle.send_queue.specs.unit_model.specs.Radiated.{first_clock}
 use Rattle.send_queue.specs.unit_model.specs.Reports.{du_reported}
 use Rattle.send_queue.specs.unit_model.specs.Standing.{History, nothing_yet}
 use Rattle.send_queue.specs.unit_model.specs.declared.jobs.UplinkJob.{UplinkJob}
-use Rattle.du_intake.specs.history_laws.proofs.TickLemmas.{at_most, last_is_earlier, last_of_next, last_reached, next_after, next_is_later, weak, last_before, last_order}
+use Rattle.du_intake.specs.history_laws.proofs.TickLemmas.{last_is_earlier, last_of_next, last_reached, next_after, next_is_later, last_before, last_order}
 use Rattle.send_queue.specs.uplink_model.specs.Frames.{frames_behind}
-use Rattle.send_queue.specs.uplink_model.specs.Messages.{messages_of}
-use Rattle.send_queue.specs.uplink_model.specs.Sent.{leaves_at}
-use Rattle.uplink_path.specs.Emitting.{Numbered}
+use Rattle.send_queue.specs.uplink_model.specs.Messages.{uplink_messages_of}
+use Rattle.uplink_path.specs.Emitting.{AreNumbered}
 use Rattle.radio_moments.specs.uplink_turns.specs.Given.{HasSeen}
 use Rattle.radio_moments.specs.uplink_turns.specs.Turns.{jobs_until, leaving_of_handed}
 use Rattle.radio_moments.specs.uplink_turns.proofs.GivenLemmas.{owes_none}
-use Rattle.radio_moments.specs.uplink_turns.proofs.LeavingLemmas.{left_leave_later, left_waits}
+use Rattle.radio_moments.specs.uplink_turns.proofs.LeavingLemmas.{left_waits}
 use Rattle.intake_moments.specs.Answers.{AreSilentTo, WaitsUp}
 use Rattle.intake_moments.specs.Turns.{AtIntakeTurn, IsIntakeInStep, planned_for}
 use Rattle.intake_moments.specs.declared.answers.Answers.{Answers}
-use Rattle.intake_moments.proofs.LeaveLemmas.{answers_left, handed_by, left_for}
-use Rattle.intake_moments.proofs.ReleaseLemmas.{answers_later}
+use Rattle.intake_moments.proofs.ReleaseLemmas.{answers_later, answers_left, handed_by, left_for}
 use Rattle.intake_moments.proofs.TurnLemmas.{due_less, skip, start, unit_waits}
+use Rattle.fh_time.proofs.Orders.{at_most, more_differ, not_eq, weak}
 
 -- ---- the start
 
 -- an intake that stands for nothing stands at the first tick
-pub intake_begins : (d : Document) (u : Intake) → StandsFor d.config (planned_for d) u nothing_yet → AtIntakeTurn d first_clock u
+pub intake_begins : (d : Document) (u : Intake) → IntakeStandsFor d.config (planned_for d) u nothing_yet → AtIntakeTurn d first_clock u
 intake_begins d u stands = record {
   history = nothing_yet;
   stands = stands;
@@ -79,7 +76,7 @@ intake_begins d u stands = record {
 -- ---- the time before a tick
 
 -- before it nothing is due at the intake
-pub none_due_before : (d : Document) (now to : ℤ) (u : Intake) → (a : AtIntakeTurn d now u) → to <ℤ now → due_of d.config (planned_for d) a.history to ≡ []
+pub none_due_before : (d : Document) (now to : ℤ) (u : Intake) → (a : AtIntakeTurn d now u) → to <ℤ now → intake_due_of d.config (planned_for d) a.history to ≡ []
 none_due_before d now to u a early = due_less d a.history to (now -ℤ pos 1) (last_before to now early) a.turn.quiet
 
 -- and none leaves the radio unit or lands at the distributed unit
@@ -103,24 +100,16 @@ pub record IsStill {G : Type 0} (pre : G → RePlace → Type 0) (post : G → R
   pub down : WaitsDown d now w
   pub calm : IsCalmTo w (tick -ℤ pos 1)
   pub intake : AtIntakeTurn d now u
-  pub none_due : due_of d.config (planned_for d) intake.history (tick -ℤ pos 1) ≡ []
+  pub none_due : intake_due_of d.config (planned_for d) intake.history (tick -ℤ pos 1) ≡ []
   pub waits : WaitsUp pre post d now a
   pub silent : AreSilentTo a (tick -ℤ pos 1)
 
-up_to_last : (t tick at : ℤ) → t <ℤ tick → (tick -ℤ pos 1) <ℤ at → at ≡ t → ⊥
-up_to_last t tick at low high same = omega (arith, ints)
-
-not_then : (t tick at : ℤ) (b : Bool) → t <ℤ tick → (tick -ℤ pos 1) <ℤ at → int_eq at t ≡ b → b ≡ false
-not_then t tick at true low high e = absurd (up_to_last t tick at low high ((Decides-int_eq at t).0 e))
-not_then t tick at false low high e = refl
-
 -- of frames that leave later none leaves at a tick
-none_then : (t tick : ℤ) (q : List LinkFrame) → t <ℤ tick → IsSilentTo q (tick -ℤ pos 1) → waiting_at t q ≡ []
-none_then t tick [] low silent = refl
-none_then t tick (f ∷ q) low silent =
-    let P = λ (g : LinkFrame). (tick -ℤ pos 1) <ℤ g.at.0 in
-    ap (λ (b : Bool). cond b (f ∷ waiting_at t q) (waiting_at t q)) (not_then t tick f.at.0 (leaves_at t f) low (All-head P f q silent) refl)
-    ∙ none_then t tick q low (All-tail P f q silent)
+none_then : (t : ℤ) (q : List LinkFrame) → IsSilentTo q t → waiting_at t q ≡ []
+none_then t [] silent = refl
+none_then t (f ∷ q) silent =
+    let P = λ (g : LinkFrame). t <ℤ g.at.0 in
+    ap (λ (b : Bool). cond b (f ∷ waiting_at t q) (waiting_at t q)) (not_eq f.at.0 t (more_differ f.at.0 t (All-head P f q silent))) ∙ none_then t q (All-tail P f q silent)
 
 earlier : (to tick at : ℤ) → to <ℤ tick → (tick -ℤ pos 1) <ℤ at → to <ℤ at
 earlier to tick at less late = omega (arith, ints)
@@ -151,8 +140,12 @@ module _ {G : Type 0} (pre : G → RePlace → Type 0) (post : G → RePlace →
         owes_none d.config (landings_for AtRu d) now until to s.radio.history seen begun_now from by s.radio.turn.given
         (quiet_less d.config ru s.radio.history until (tick -ℤ pos 1) s.radio.stands early s.quiet).messages
 
+  silent_until : (to : ℤ) → to <ℤ tick → IsSilentTo a.queue to
+  silent_until to less =
+      All-weaker (λ (f : LinkFrame). (tick -ℤ pos 1) <ℤ f.at.0) (λ (f : LinkFrame). to <ℤ f.at.0) (λ f late. earlier to tick f.at.0 less late) a.queue s.silent.0
+
   none_leaves : (t : ℤ) → now ≤ℤ t → t <ℤ tick → leaving_of_handed d.config (antenna_for d) (landings_for AtRu d) (now -ℤ pos 1) t ≡ []
-  none_leaves t low high = sym (s.waits.frames.waiting.at t low) ∙ none_then t tick a.queue high s.silent.0
+  none_leaves t low high = sym (s.waits.frames.waiting.at t low) ∙ none_then t a.queue (silent_until t high)
 
   left_same : (end : ℤ) → now ≤ℤ end → end ≤ℤ tick → jobs_until d.config (landings_for AtRu d) (end -ℤ pos 1) ≡ jobs_until d.config (landings_for AtRu d) (now -ℤ pos 1)
       → left_for d now ≡ left_for d end
@@ -203,7 +196,7 @@ module _ {G : Type 0} (pre : G → RePlace → Type 0) (post : G → RePlace →
         (s.calm.0 d.config d.plan s.down.left s.down.plan))
     both_later AtDu =
         subst (λ (fs : List LinkFrame). All (λ (f : Leaving). next ≤ℤ f.at) (map leaving_answer fs)) (sym answers_wait)
-        (answers_later next (left_for d next) (left_leave_later d.config (antenna_for d) (landings_for AtRu d) next))
+        (answers_later d next)
 
     both_silent : AreSilent d now next counts left ways
     both_silent = record {
@@ -240,10 +233,6 @@ module _ {G : Type 0} (pre : G → RePlace → Type 0) (post : G → RePlace →
     clock = at_most u.clock.0 now tick s.intake.clock s.order;
   }
 
-  silent_until : (to : ℤ) → to <ℤ tick → IsSilentTo a.queue to
-  silent_until to less =
-      All-weaker (λ (f : LinkFrame). (tick -ℤ pos 1) <ℤ f.at.0) (λ (f : LinkFrame). to <ℤ f.at.0) (λ f late. earlier to tick f.at.0 less late) a.queue s.silent.0
-
   none_between : jobs_until d.config (landings_for AtRu d) (tick -ℤ pos 1) ≡ jobs_until d.config (landings_for AtRu d) (now -ℤ pos 1)
   none_between =
       none_starts tick s.order (≤ℤ_refl tick) (still_between.calm AtRu) (tick -ℤ pos 1) (last_reached now tick s.order) (last_is_earlier tick) (≤ℤ_refl (tick -ℤ pos 1))
@@ -252,8 +241,7 @@ module _ {G : Type 0} (pre : G → RePlace → Type 0) (post : G → RePlace →
   left_stays : leaving_with AtDu d (answers_left d now) now ≡ leaving_with AtDu d (answers_left d tick) tick
   left_stays =
       ap (λ (fs : List LinkFrame). leaving_with AtDu d (map leaving_answer fs) now) (left_same tick s.order (≤ℤ_refl tick) none_between)
-      ∙ leaving_waits ((exchanges d).sent AtDu) now tick (answers_left d tick)
-      (answers_later tick (left_for d tick) (left_leave_later d.config (antenna_for d) (landings_for AtRu d) tick)) s.order s.ended
+      ∙ leaving_waits ((exchanges d).sent AtDu) now tick (answers_left d tick) (answers_later d tick) s.order s.ended
       (flights_wait d AtDu now tick s.replayable begun_now s.ended still_between)
 
   -- and the same waits for it
@@ -265,11 +253,11 @@ module _ {G : Type 0} (pre : G → RePlace → Type 0) (post : G → RePlace →
         handed = record {
           kept = s.waits.handed.kept;
           tone = s.waits.handed.tone;
-          numbered = subst (λ (xs : List UplinkJob). Numbered c a.uplink (onto [] (messages_of c xs))) js s.waits.handed.numbered;
+          numbered = subst (λ (xs : List UplinkJob). AreNumbered c a.uplink (onto [] (uplink_messages_of c xs))) js s.waits.handed.numbered;
           none_handed = s.waits.handed.none_handed;
         };
         frames = record {
-          waiting = subst (λ (xs : List UplinkJob). WaitsFor (length c.endpoints) tick (frames_behind c (antenna_for d) [] (messages_of c xs)) a.queue) js
+          waiting = subst (λ (xs : List UplinkJob). WaitsFor (length c.endpoints) tick (frames_behind c (antenna_for d) [] (uplink_messages_of c xs)) a.queue) js
               (queue_waits_on (length c.endpoints) now tick (handed_by d (now -ℤ pos 1)) a.queue s.waits.frames.waiting s.order silent_until);
           counts = s.waits.frames.counts;
           on_way = subst (λ (fs : List Leaving). Waits d AtDu tick tick s.waits.frames.counts fs a.way) left_stays
@@ -303,7 +291,7 @@ intake_turn_step d now u a = record { history = a.history; stands = a.stands; ar
 pub record IsIntakeOver (d : Document) (h : History) : Type 0 where
   pub arrivals : h.arrivals ≡ all_arrivals (landings_for AtDu d)
   pub reported : h.reported ≡ du_reported d.config (planned_for d) (all_arrivals (landings_for AtDu d)) end_of_time
-  pub quiet : (to : ℤ) → to ≤ℤ end_of_time → due_of d.config (planned_for d) h to ≡ []
+  pub quiet : (to : ℤ) → to ≤ℤ end_of_time → intake_due_of d.config (planned_for d) h to ≡ []
 
 pub intake_over : (d : Document) (u : Intake) → (a : AtIntakeTurn d (end_of_time +ℤ pos 1) u) → IsIntakeOver d a.history
 intake_over d u a =
@@ -311,5 +299,5 @@ intake_over d u a =
     record {
       arrivals = a.turn.arrivals;
       reported = a.turn.reported ∙ ap (du_reported d.config (planned_for d) (all_arrivals (landings_for AtDu d))) last;
-      quiet = λ to order. due_less d a.history to end_of_time order (ap (due_of d.config (planned_for d) a.history) (sym last) ∙ a.turn.quiet);
+      quiet = λ to order. due_less d a.history to end_of_time order (ap (intake_due_of d.config (planned_for d) a.history) (sym last) ∙ a.turn.quiet);
     }

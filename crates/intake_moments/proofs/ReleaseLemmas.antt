@@ -1,13 +1,15 @@
--- The frames that leave in one tick are sent one after the other.
-use Rattle.std.proofs.Common.{◌≡◌, ℕ, ℤ, pos, ◌+ℤ◌, ◌<◌, ◌^◌, ◌≤ℤ◌, ◌<ℤ◌, List, [], ◌∷◌, ◌++◌, All, length, sym, ap, ◌∙◌, subst, append_assoc, append-nil}
-use Rattle.std.specs.Prelude.{map}
+-- What leaves the radio unit for a document: its answers of one tick, one after the other, and at its end the frames of delay measurement.
+use Rattle.std.proofs.Common.{◌≡◌, ℕ, ℤ, pos, ◌+ℤ◌, ◌<◌, ◌^◌, ◌≤ℤ◌, ◌<ℤ◌, List, [], ◌∷◌, ◌++◌, All, inl, length, map, refl, sym, ap, ◌∙◌, subst, append_assoc, append-nil}
 use Rattle.std.specs.Int.{int_gap}
-use Rattle.std.proofs.lemmas.List.{append_cancel_left, map-append}
-use Rattle.std.proofs.lemmas.List.Elements.{All-cons, All-head, All-nil, All-tail, All-weaker}
+use Rattle.std.proofs.lemmas.List.{append_cancel_left}
+use Rattle.std.proofs.lemmas.List.Elements.{All-map, All-weaker}
 use Rattle.std.specs.Int.Signed.{≤ℤ_refl}
 use Rattle.send_queue.specs.air_source.specs.declared.events.Side.TheVariants.{Ru, Du}
 use Rattle.send_queue.specs.air_source.specs.declared.links.LinkFrame.{LinkFrame}
+use Rattle.send_queue.specs.air_source.specs.declared.places.RePlace.{RePlace}
+use Rattle.bfp_codec.specs.declared.samples.Wide.{Wide}
 use Rattle.radio_moments.specs.document_traffic.specs.Landing.{antenna_for, leaving_answer, leaving_up}
+use Rattle.radio_moments.specs.document_traffic.specs.Laws.{IsReplayable}
 use Rattle.radio_moments.specs.document_traffic.specs.Sending.{Leaving, SentCounts}
 use Rattle.radio_moments.specs.document_traffic.proofs.ShortLemmas.{are_short}
 use Rattle.radio_moments.specs.fh_document.specs.declared.document.Document.{Document}
@@ -15,67 +17,69 @@ use Rattle.radio_moments.specs.frame_ways.specs.Ways.{Waits}
 use Rattle.radio_moments.specs.frame_ways.specs.declared.way.Way.{Way}
 use Rattle.radio_moments.specs.frame_ways.proofs.ComingLemmas.{leaving_lands_after}
 use Rattle.radio_moments.specs.frame_ways.proofs.WayLemmas.{comes_at}
+use Rattle.radio_moments.specs.measured_moments.specs.Made.{HasStillToSend}
 use Rattle.radio_moments.specs.measured_traffic.specs.Measured.{exchanges}
-use Rattle.radio_moments.specs.measured_traffic.specs.Replayed.{landings_for, leaving_with}
-use Rattle.radio_moments.specs.measured_traffic.proofs.LeaveLemmas.{first_leaves, uplink_alike}
+use Rattle.radio_moments.specs.measured_traffic.specs.Replayed.{landings_for, leaving_made, leaving_with, made_at}
+use Rattle.radio_moments.specs.measured_traffic.proofs.LeaveLemmas.{first_leaves, measured_leave, uplink_alike}
+use Rattle.radio_moments.specs.measured_traffic.proofs.TurnLemmas.{made_leave}
 use Rattle.radio_moments.specs.replay_events.specs.Moments.{end_of_time}
 use Rattle.radio_moments.specs.replay_events.proofs.TickLemmas.{ticks_append}
-use Rattle.send_queue.specs.Queues.{AllHaveLeft, HasLeft, Leaves, waiting_at}
+use Rattle.send_queue.specs.Queues.{AllHaveLeft, HasLeft, Leaves, WaitsFor, waiting_at}
 use Rattle.send_queue.proofs.QueueLemmas.{leaves_at_once}
+use Rattle.send_queue.specs.plan_model.proofs.ListLemmas.{in_left, in_right}
 use Rattle.send_queue.specs.unit_model.specs.Lists.{each_tick}
 use Rattle.send_queue.specs.unit_model.specs.Radiated.{first_clock}
-use Rattle.du_intake.specs.history_laws.proofs.TickLemmas.{next_most, after_next}
-use Rattle.radio_moments.specs.replay_laws.proofs.DelayLemmas.{it_holds}
-use Rattle.radio_moments.specs.uplink_turns.specs.Turns.{leaving_of_handed}
+use Rattle.du_intake.specs.fragment_laws.specs.Apart.{IsIn}
+use Rattle.du_intake.specs.history_laws.proofs.TickLemmas.{last_of_next}
+use Rattle.fh_time.proofs.Orders.{beyond_next, next_later}
+use Rattle.du_intake.specs.schedule_laws.proofs.ListLemmas.{in_all, in_map}
+use Rattle.radio_moments.specs.uplink_turns.specs.Turns.{handed_until, leaving_in_turn, leaving_of_handed, left_from}
 use Rattle.radio_moments.specs.uplink_turns.proofs.LeavingLemmas.{left_goes_on, left_leave_later}
 use Rattle.intake_moments.specs.Answering.{IsDueAt}
-use Rattle.intake_moments.specs.Answers.{AwaitsFrames, HasReleased}
-use Rattle.intake_moments.proofs.LeaveLemmas.{answers_left, handed_by, left_at_end, left_for, sent_in}
+use Rattle.intake_moments.specs.Answers.{AwaitsFrames, HasHanded, HasLandedUp, HasReleased, WaitsUp}
+use Rattle.intake_moments.specs.declared.answers.Answers.{Answers}
+use Rattle.intake_moments.proofs.AnswerLemmas.{handed_same}
 
--- ---- frames that a document sends
+-- ---- its answers
 
-pub answers_later : (from : ℤ) (fs : List LinkFrame) → All (λ f. from ≤ℤ f.at.0) fs → All (λ (f : Leaving). from ≤ℤ f.at) (map leaving_answer fs)
-answers_later from [] all = All-nil (λ (f : Leaving). from ≤ℤ f.at)
-answers_later from (f ∷ fs) all =
-    let P = λ (g : LinkFrame). from ≤ℤ g.at.0 in
-    All-cons (λ (g : Leaving). from ≤ℤ g.at) (leaving_answer f) (map leaving_answer fs) (All-head P f fs all) (answers_later from fs (All-tail P f fs all))
+-- those that leave from a tick on
+abbrev pub left_for : Document → ℤ → List LinkFrame
+left_for d tick = left_from d.config (antenna_for d) (landings_for Ru d) tick
 
-pub answers_after : (tick : ℤ) (fs : List LinkFrame) → All (λ f. (tick +ℤ pos 1) ≤ℤ f.at.0) fs → All (λ (f : Leaving). tick <ℤ f.at) (map leaving_answer fs)
-answers_after tick fs all =
-    All-weaker (λ (f : Leaving). (tick +ℤ pos 1) ≤ℤ f.at) (λ (f : Leaving). tick <ℤ f.at) (λ f late. after_next tick f.at late) (map leaving_answer fs)
-    (answers_later (tick +ℤ pos 1) fs all)
+abbrev pub handed_by : Document → ℤ → List LinkFrame
+handed_by d tick = handed_until d.config (antenna_for d) (landings_for Ru d) tick
 
-abbrev IsShort : Leaving → Type 0
-IsShort f = length f.frame < 2 ^ 32
+abbrev pub sent_in : Document → ℤ → List LinkFrame
+sent_in d tick = leaving_in_turn d.config (antenna_for d) (landings_for Ru d) tick
 
--- all that leave are those before a tick, those of the tick, and those after it
-all_parts : (d : Document) (tick : ℤ) → IsDueAt d tick → (front : List LinkFrame) × (leaving_up d ≡ map leaving_answer (front ++ (sent_in d tick ++ left_for d (tick +ℤ pos 1))))
-all_parts d tick due =
-    let c = d.config in
-    let f = leaving_of_handed c (antenna_for d) (landings_for Ru d) end_of_time in
-    let front = each_tick first_clock (int_gap first_clock tick) f in (
-      front,
-      uplink_alike d
-          ∙ ap (map leaving_answer)
-          (ticks_append f first_clock tick (end_of_time +ℤ pos 1) due.begun (next_most tick end_of_time due.ended)
-          ∙ ap (λ (xs : List LinkFrame). front ++ xs) (left_goes_on c (antenna_for d) (landings_for Ru d) tick due.replayable.document.config due.begun due.ended)),
-    )
+-- as they leave
+abbrev pub answers_left : Document → ℤ → List Leaving
+answers_left d tick = map leaving_answer (left_for d tick)
 
-regroup : {A : Type 0} (a b : List A) (x : A) (c e : List A) → a ++ ((b ++ x ∷ c) ++ e) ≡ (a ++ b) ++ x ∷ (c ++ e)
-regroup a b x c e = ap (λ (xs : List _). a ++ xs) (append_assoc b (x ∷ c) e) ∙ sym (append_assoc a b (x ∷ (c ++ e)))
+pub answers_later : (d : Document) (tick : ℤ) → All (λ (f : Leaving). tick ≤ℤ f.at) (answers_left d tick)
+answers_later d tick = All-map (λ (f : Leaving). tick ≤ℤ f.at) leaving_answer (left_for d tick) (left_leave_later d.config (antenna_for d) (landings_for Ru d) tick)
 
+-- what leaves from a tick on once its answers were sent: all of delay measurement, and the later answers
+abbrev pub left_at_end : Document → ℤ → List Leaving
+left_at_end d tick = leaving_with Du d (answers_left d (tick +ℤ pos 1)) tick
+
+-- all that leave are those before a tick, those of the tick, and those after it; so one of the tick is short as they are
 pub is_short : (d : Document) (tick : ℤ) (gone : List LinkFrame) (f : LinkFrame) (rest : List LinkFrame) → IsDueAt d tick → sent_in d tick ≡ gone ++ f ∷ rest
     → length f.frame < 2 ^ 32
 is_short d tick gone f rest due is =
-    let parts = all_parts d tick due in
-    let front = parts.0 in
+    let c = d.config in
+    let leaves = leaving_of_handed c (antenna_for d) (landings_for Ru d) end_of_time in
+    let front = each_tick first_clock (int_gap first_clock tick) leaves in
     let later = left_for d (tick +ℤ pos 1) in
-    let all : leaving_up d ≡ map leaving_answer (front ++ gone) ++ leaving_answer f ∷ map leaving_answer (rest ++ later) =
-    parts.1 ∙ ap (λ (xs : List LinkFrame). map leaving_answer (front ++ (xs ++ later))) is
-    ∙ ap (map leaving_answer) (regroup front gone f rest later)
-    ∙ map-append leaving_answer (front ++ gone) (f ∷ (rest ++ later)) in
-    it_holds IsShort (map leaving_answer (front ++ gone)) (leaving_answer f) (map leaving_answer (rest ++ later))
-    (subst (All IsShort) all (are_short d Du due.replayable.document due.replayable.valid))
+    let all : leaving_up d ≡ map leaving_answer (front ++ (sent_in d tick ++ later)) =
+    uplink_alike d
+    ∙ ap (map leaving_answer)
+    (ticks_append leaves first_clock tick (end_of_time +ℤ pos 1) due.begun (next_later tick end_of_time due.ended)
+    ∙ ap (λ (xs : List LinkFrame). front ++ xs) (left_goes_on c (antenna_for d) (landings_for Ru d) tick due.replayable.document.config due.begun due.ended)) in
+    let here : IsIn f (sent_in d tick) = subst (IsIn f) (sym is) (in_right f gone (f ∷ rest) (inl refl)) in
+    let there = in_map leaving_answer f (front ++ (sent_in d tick ++ later)) (in_right f front (sent_in d tick ++ later) (in_left f (sent_in d tick) later here)) in
+    in_all (λ (g : Leaving). length g.frame < 2 ^ 32) (leaving_answer f) (leaving_up d) (are_short d Du due.replayable.document due.replayable.valid)
+    (subst (IsIn (leaving_answer f)) (sym all) there)
 
 -- ---- the frames so far
 
@@ -92,13 +96,12 @@ pub record Releases (d : Document) (tick : ℤ) (queue : List LinkFrame) (way : 
 
 pub releases_none : (d : Document) (tick : ℤ) (queue : List LinkFrame) (way : Way) → IsDueAt d tick → AwaitsFrames d tick tick queue way → Releases d tick queue way
 releases_none d tick queue way due h =
-    let c = d.config in
     let waiting : left_for d tick ≡ waiting_at tick queue ++ left_for d (tick +ℤ pos 1) =
-    left_goes_on c (antenna_for d) (landings_for Ru d) tick due.replayable.document.config due.begun due.ended
+    left_goes_on d.config (antenna_for d) (landings_for Ru d) tick due.replayable.document.config due.begun due.ended
     ∙ ap (λ (xs : List LinkFrame). xs ++ left_for d (tick +ℤ pos 1)) (sym (h.waiting.at tick (≤ℤ_refl tick))) in
     record {
       gone = [];
-      leaves = leaves_at_once (length c.endpoints) tick (handed_by d tick) queue h.waiting;
+      leaves = leaves_at_once (length d.config.endpoints) tick (handed_by d tick) queue h.waiting;
       counts = h.counts;
       on_way = subst (λ (xs : List LinkFrame). Waits d Du tick tick h.counts (leaving_with Du d (map leaving_answer xs) tick) way) waiting h.on_way;
     }
@@ -119,21 +122,43 @@ next_way d tick counts f before now w due here is waits =
     subst (λ (fs : List Leaving). Waits d Du tick tick counts fs w)
     (ap (left_behind d tick) is ∙ first_leaves ((exchanges d).sent Du) tick (leaving_answer f) rest here due.ended) waits
 
--- ---- all of them are gone
-
-none_waits : (n : ℕ) (tick : ℤ) (handed gone q : List LinkFrame) → AllHaveLeft n tick handed gone q → waiting_at tick q ≡ []
-none_waits n tick handed gone q all =
-    append_cancel_left gone (waiting_at tick q) [] (sym all.leaves.at_tick ∙ all.all ∙ sym (append-nil gone))
-
--- the frames of delay measurement that leave in the tick land after it, as all that leaves later
+-- all of them are gone: the frames of delay measurement that leave in the tick land after it, as all that leaves later
 pub all_released : (d : Document) (tick : ℤ) (queue : List LinkFrame) (way : Way) → (r : Releases d tick queue way)
     → AllHaveLeft (length d.config.endpoints) tick (handed_by d tick) r.gone queue → HasReleased d tick queue way
 all_released d tick queue way r all =
-    let left = left_for d (tick +ℤ pos 1) in
-    let later : All (λ (f : LinkFrame). (tick +ℤ pos 1) ≤ℤ f.at.0) left = left_leave_later d.config (antenna_for d) (landings_for Ru d) (tick +ℤ pos 1) in
-    let waits : Waits d Du tick tick r.counts (left_at_end d tick) way =
-    subst (λ (xs : List LinkFrame). Waits d Du tick tick r.counts (left_behind d tick xs) way)
-    (none_waits (length d.config.endpoints) tick (handed_by d tick) r.gone queue all) r.on_way in
-    let over = comes_at d Du tick r.counts (left_at_end d tick) way waits
-    (leaving_lands_after ((exchanges d).sent Du) tick (answers_left d (tick +ℤ pos 1)) (answers_after tick left later)) in
+    let none = append_cancel_left r.gone (waiting_at tick queue) [] (sym all.leaves.at_tick ∙ all.all ∙ sym (append-nil r.gone)) in
+    let waits = subst (λ (xs : List LinkFrame). Waits d Du tick tick r.counts (left_behind d tick xs) way) none r.on_way in
+    let next = tick +ℤ pos 1 in
+    let after = All-weaker (λ (f : Leaving). next ≤ℤ f.at) (λ (f : Leaving). tick <ℤ f.at) (λ f late. beyond_next tick f.at late) (answers_left d next) (answers_later d next) in
+    let over = comes_at d Du tick r.counts (left_at_end d tick) way waits (leaving_lands_after ((exchanges d).sent Du) tick (answers_left d next) after) in
     record { waiting = all.waits; counts = r.counts; on_way = over.1; lands = over.0 }
+
+-- ---- the frames of delay measurement
+
+-- what is still to be sent once they were: all that leaves from the next tick on
+abbrev pub left_then : Document → ℤ → List Leaving
+left_then d tick = leaving_with Du d (answers_left d (tick +ℤ pos 1)) (tick +ℤ pos 1)
+
+pub still_to_send : {G : Type 0} (pre : G → RePlace → Type 0) (post : G → RePlace → Wide → Type 0) (d : Document) (tick : ℤ) (a : Answers G) → IsReplayable d
+    → first_clock ≤ℤ tick → tick ≤ℤ end_of_time → HasLandedUp pre post d tick a
+    → HasStillToSend d Du tick (map (leaving_made tick) (made_at d Ru tick).made ++ left_then d tick) a.way
+still_to_send pre post d tick a doc begun ended h =
+    let next = tick +ℤ pos 1 in
+    let first = measured_leave ((exchanges d).sent Du) tick (answers_left d next) (answers_later d next) ended
+    ∙ ap (λ (fs : List Leaving). fs ++ left_then d tick) (made_leave d Ru tick doc begun ended) in
+    record { counts = h.counts; waits = subst (λ (fs : List Leaving). Waits d Du next next h.counts fs a.way) first h.on_way }
+
+-- then the next tick begins
+pub waits_then : {G : Type 0} (pre : G → RePlace → Type 0) (post : G → RePlace → Wide → Type 0) (d : Document) (tick : ℤ) (old new : Answers G) → HasLandedUp pre post d tick old
+    → new.uplink ≡ old.uplink → new.outbox ≡ old.outbox → new.queue ≡ old.queue → HasStillToSend d Du tick (left_then d tick) new.way → WaitsUp pre post d (tick +ℤ pos 1) new
+waits_then pre post d tick old new h uplink outbox queue sent =
+    let last = sym (last_of_next tick) in
+    let n = length d.config.endpoints in
+    record {
+      handed = subst (λ (t : ℤ). HasHanded pre post d t new) last (handed_same pre post d tick old new h.handed uplink outbox);
+      frames = record {
+        waiting = subst (λ (t : ℤ). WaitsFor n (tick +ℤ pos 1) (handed_by d t) new.queue) last (rw queue h.waiting);
+        counts = sent.counts;
+        on_way = sent.waits;
+      };
+    }

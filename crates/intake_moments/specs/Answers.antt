@@ -15,7 +15,7 @@ use Rattle.radio_moments.specs.measured_traffic.specs.Replayed.{landings_for, le
 use Rattle.radio_moments.specs.replay_events.specs.Moments.{landing_at}
 use Rattle.send_queue.specs.Queues.{IsSilentTo, WaitsFor}
 use Rattle.send_queue.specs.unit_model.specs.Lists.{onto}
-use Rattle.uplink_path.specs.Emitting.{Numbered}
+use Rattle.uplink_path.specs.Emitting.{AreNumbered, kept_antenna}
 use Rattle.radio_moments.specs.uplink_turns.specs.Turns.{handed_until, left_from, messages_until}
 use Rattle.intake_moments.specs.declared.answers.Answers.{Answers}
 
@@ -25,9 +25,9 @@ AreSilentTo a to = IsSilentTo a.queue to × IsEmptyTo a.way to
 
 -- the messages whose symbols start by a time were numbered, and their frames were taken on
 pub record HasHanded {G : Type 0} (pre : G → RePlace → Type 0) (post : G → RePlace → Wide → Type 0) (d : Document) (until : ℤ) (a : Answers G) : Type 0 where
-  pub kept : IsKept pre post a.uplink.antenna
-  pub tone : AnswersBy (post (closure_of a.uplink.antenna)) (antenna_for d)
-  pub numbered : Numbered d.config a.uplink (onto [] (messages_until d.config (landings_for Ru d) until))
+  pub kept : IsKept pre post (kept_antenna a.uplink)
+  pub tone : AnswersBy (post (closure_of (kept_antenna a.uplink))) (antenna_for d)
+  pub numbered : AreNumbered d.config a.uplink (onto [] (messages_until d.config (landings_for Ru d) until))
   pub none_handed : a.outbox.frames ≡ []
 
 -- Of the frames that were handed over up to a time those that leave from a tick on wait, in the sent order; and what comes to the

@@ -7,7 +7,7 @@ use Rattle.radio_moments.specs.delay_exchange.specs.declared.unit.UnitMeter.{Uni
 use Rattle.delay_measure.specs.declared.edge.Edge.{Edge}
 use Rattle.radio_moments.specs.document_delays.specs.Settings.{compensation_of}
 use Rattle.radio_moments.specs.document_traffic.specs.Sending.{Leaving, SentCounts}
-use Rattle.du_intake.specs.Calls.{IsReportedBefore, StandsFor}
+use Rattle.du_intake.specs.Calls.{IsReportedBefore, IntakeStandsFor, intake_clock}
 use Rattle.du_intake.specs.declared.unit.Intake.{Intake}
 use Rattle.radio_moments.specs.fh_document.specs.declared.document.Document.{Document}
 use Rattle.radio_moments.specs.frame_ways.specs.Flying.{arrival_at}
@@ -24,15 +24,15 @@ use Rattle.send_queue.specs.window_config.specs.declared.config.Config.{Config}
 use Rattle.intake_moments.specs.Turns.{planned_for}
 
 -- a way to the distributed unit on which nothing more is sent at a tick
-abbrev pub WaitsToLand : Document → ℤ → SentCounts → List Leaving → Way → Type 0
-WaitsToLand d tick n left w = Waits d AtDu tick (tick +ℤ pos 1) n left w
+abbrev pub WaitsToLandUp : Document → ℤ → SentCounts → List Leaving → Way → Type 0
+WaitsToLandUp d tick n left w = Waits d AtDu tick (tick +ℤ pos 1) n left w
 
 -- that of some document, where nothing comes before time 0
 pub record WaitsToLandSome (tick : ℤ) (w : Way) : Type 0 where
   pub document : Document
   pub counts : SentCounts
   pub left : List Leaving
-  pub waits : WaitsToLand document tick counts left w
+  pub waits : WaitsToLandUp document tick counts left w
   pub late : (a : Arrival) (more : List Arrival) → coming_at document tick w ≡ a ∷ more → pos 0 ≤ℤ tick
 
 -- ---- what is told of a frame that lands, and of several, where the unit has this of delay measurement
@@ -46,7 +46,7 @@ frames_told d tick x landings = arrivals_told AtDu (results_of (compensation_of 
 -- the intake is in step with what was heard, and all that is due before a time is reported
 pub record MayHear (d : Document) (told : List Event) (at : ℤ) (u : Intake) : Type 0 where
   pub history : History
-  pub stands : StandsFor d.config (planned_for d) u history
+  pub stands : IntakeStandsFor d.config (planned_for d) u history
   pub arrivals : history.arrivals ≡ arrivals_heard AtDu [] told
   pub reported : history.reported ≡ cells_heard AtDu told
   pub quiet : IsReportedBefore d.config (planned_for d) history at
@@ -54,15 +54,15 @@ pub record MayHear (d : Document) (told : List Event) (at : ℤ) (u : Intake) : 
 -- ---- all have landed
 
 -- a history once these landed too, at a clock
-abbrev pub landed : ℤ → History → List Arrival → History
-landed clock h landings = record { clock = clock; arrivals = onto h.arrivals landings; reported = h.reported; given = h.given }
+abbrev pub du_landed : ℤ → History → List Arrival → History
+du_landed clock h landings = record { clock = clock; arrivals = onto h.arrivals landings; reported = h.reported; given = h.given }
 
 -- all that came at a tick was told, each frame with the delays that it made known, and has arrived, the meter was told it, and what
 -- comes later still waits
-pub record HaveLanded {A C : Type 0} (grew : A → List Event → A → Type 0) (pre : C → Edge → Type 0) (post : C → Edge → ℤ → Type 0) (d : Document) (tick : ℤ)
+pub record IntakeHasTaken {A C : Type 0} (grew : A → List Event → A → Type 0) (pre : C → Edge → Type 0) (post : C → Edge → ℤ → Type 0) (d : Document) (tick : ℤ)
     (n : SentCounts) (left : List Leaving) (x : Doings) (u v : Intake) (meter : UnitMeter C) (old new : Way) (before after : A) : Type 0 where
   pub heard : grew before (frames_told d tick x (coming_at d tick old)) after
-  pub stands : (c : Config) (planned : List Allocation) (h : History) → StandsFor c planned u h → IsReportedBefore c planned h tick
-      → StandsFor c planned v (landed v.clock.0 h (coming_at d tick old))
+  pub stands : (c : Config) (planned : List Allocation) (h : History) → IntakeStandsFor c planned u h → IsReportedBefore c planned h tick
+      → IntakeStandsFor c planned v (du_landed (intake_clock v).0 h (coming_at d tick old))
   pub made : HasDoings pre post d AtDu (with_frames (compensation_of d AtDu) tick x (coming_at d tick old)) meter
   pub waits : Waits d AtDu (tick +ℤ pos 1) (tick +ℤ pos 1) n left new

@@ -3,8 +3,8 @@ use Rattle.std.specs.Prelude.{◌≡◌, ℤ, pos, ◌+ℤ◌, ◌-ℤ◌, ◌�
 use Rattle.send_queue.specs.air_source.specs.declared.events.Event.{Event}
 use Rattle.send_queue.specs.air_source.specs.declared.events.Side.TheVariants.{Du as AtDu}
 use Rattle.radio_moments.specs.measured_traffic.specs.Replayed.{landings_for, traffic_of}
-use Rattle.du_intake.specs.Calls.{StandsFor}
-use Rattle.du_intake.specs.Units.{due_of}
+use Rattle.du_intake.specs.Calls.{IntakeStandsFor, intake_clock}
+use Rattle.du_intake.specs.Units.{intake_due_of}
 use Rattle.du_intake.specs.declared.unit.Intake.{Intake}
 use Rattle.radio_moments.specs.fh_document.specs.declared.document.Document.{Document}
 use Rattle.radio_moments.specs.replay_events.specs.Heard.{arrivals_heard, cells_heard}
@@ -22,7 +22,7 @@ planned_for d = (traffic_of d).planned
 -- the intake stands for the arrivals at the distributed unit that were heard, and has reported those of its cells that were
 pub record IsIntakeInStep (d : Document) (told : List Event) (u : Intake) : Type 0 where
   pub history : History
-  pub stands : StandsFor d.config (planned_for d) u history
+  pub stands : IntakeStandsFor d.config (planned_for d) u history
   pub arrivals : history.arrivals ≡ arrivals_heard AtDu [] told
   pub reported : history.reported ≡ cells_heard AtDu told
 
@@ -32,12 +32,12 @@ pub record IsIntakeTurn (d : Document) (now : ℤ) (h : History) : Type 0 where
   pub ended : now ≤ℤ (end_of_time +ℤ pos 1)
   pub arrivals : h.arrivals ≡ arrivals_before (landings_for AtDu d) now
   pub reported : h.reported ≡ du_reported d.config (planned_for d) (arrivals_before (landings_for AtDu d) now) (now -ℤ pos 1)
-  pub quiet : due_of d.config (planned_for d) h (now -ℤ pos 1) ≡ []
+  pub quiet : intake_due_of d.config (planned_for d) h (now -ℤ pos 1) ≡ []
   pub came : h.arrivals ≡ arrivals_heard AtDu [] (events_before d now)
   pub told : h.reported ≡ cells_heard AtDu (events_before d now)
 
 pub record AtIntakeTurn (d : Document) (now : ℤ) (u : Intake) : Type 0 where
   pub history : History
-  pub stands : StandsFor d.config (planned_for d) u history
+  pub stands : IntakeStandsFor d.config (planned_for d) u history
   pub turn : IsIntakeTurn d now history
-  pub clock : u.clock.0 ≤ℤ now
+  pub clock : (intake_clock u).0 ≤ℤ now

@@ -19,7 +19,6 @@ use bfp_codec::Wide;
 use delay_measure::Edge;
 use du_intake::Intake;
 use du_intake::ru_buffers::Ru;
-use fh_base::NoMemory;
 use fh_time::Ticks;
 use radio_moments::delay_exchange::UnitMeter;
 use radio_moments::fh_document::Document;
@@ -57,19 +56,13 @@ pub fn intake_moment<A: Air, G: Fn(RePlace) -> Wide, C: Fn(Edge) -> i64>(
     ensures same { A.same out.old out.new }
     ensures cause { HasAirCause (A.faults out.old) (A.faults out.new) result }
 {
-    match answer(ru, answers) {
-        Ok(()) => {}
-        Err(NoMemory) => return Err(AirFault::NoMemory),
-    }
-    match release(
+    answer(ru, answers)?;
+    release(
         tick,
         &mut answers.queue,
         &mut answers.pool,
         &mut answers.way,
-    ) {
-        Ok(()) => {}
-        Err(NoMemory) => return Err(AirFault::NoMemory),
-    }
+    )?;
     land(
         tick,
         intake,

@@ -6,8 +6,8 @@ ghost use Rattle.window_config.specs.declared.config.Config.{Config as SpecConfi
 ghost use Rattle.du_intake.specs.unit_model.specs.Proper.{IsTime};
 ghost use Rattle.du_intake.specs.unit_model.specs.Standing.{History};
 ghost use Rattle.du_intake.specs.unit_model.specs.declared.allocations.Allocation.{Allocation};
-ghost use Rattle.du_intake.specs.Calls.{IsReportedBefore, StandsFor};
-ghost use Rattle.du_intake.specs.Closing.{StandsForSome};
+ghost use Rattle.du_intake.specs.Calls.{IsReportedBefore, IntakeStandsFor};
+ghost use Rattle.du_intake.specs.Closing.{IntakeStandsForSome};
 ghost use Rattle.du_intake.specs.Planned.{IsPlanOf};
 
 use air_source::{Air, AirFault};
@@ -24,7 +24,7 @@ use window_config::{Config, PlanLine};
 pub fn made_of(alloc: Global, config: &Config, lines: &[PlannedLine]) -> Result<Intake, NoMemory>
     requires config { IsConfig config.now }
     requires plan { IsPlanOf config.now lines.now }
-    ensures { IfOk result StandsForSome }
+    ensures { IfOk result IntakeStandsForSome }
 {
     match Intake::make(alloc, config, lines) {
         Ok(unit) => Ok(unit),
@@ -36,7 +36,7 @@ pub fn made_of(alloc: Global, config: &Config, lines: &[PlannedLine]) -> Result<
 pub fn made(alloc: Global, config: &Config, lines: &List<PlanLine>) -> Result<Intake, NoMemory>
     requires config { IsConfig config.now }
     requires lines { All IsPlanLine lines.now }
-    ensures { IfOk result StandsForSome }
+    ensures { IfOk result IntakeStandsForSome }
 {
     if tested(alloc, config, lines).is_err() {
         return Err(NoMemory);
@@ -47,14 +47,14 @@ pub fn made(alloc: Global, config: &Config, lines: &List<PlanLine>) -> Result<In
 
 /// Whether a time is not before the clock.
 fn is_later(unit: &Intake, at: Ticks) -> bool
-    ensures { StandsForSome unit.now → result ≡ true → unit.now.clock.0 ≤ℤ at.0 }
+    ensures { IntakeStandsForSome unit.now → result ≡ true → unit.now.clock.0 ≤ℤ at.0 }
 {
     unit.clock().0 <= at.0
 }
 
 /// Whether all cells whose moments come before a time are reported.
 fn has_reported(unit: &Intake, at: Ticks) -> bool
-    ensures { (c : SpecConfig) (planned : SpecList Allocation) (h : History) → StandsFor c planned unit.now h → result ≡ true → IsReportedBefore c planned h at.0 }
+    ensures { (c : SpecConfig) (planned : SpecList Allocation) (h : History) → IntakeStandsFor c planned unit.now h → result ≡ true → IsReportedBefore c planned h at.0 }
 {
     match unit.due() {
         None => true,
@@ -64,9 +64,9 @@ fn has_reported(unit: &Intake, at: Ticks) -> bool
 
 /// What becomes of a frame; None where the time is before the clock, or a cell of an earlier moment is left.
 pub fn step(unit: &mut Intake, at: Ticks, frame: &[u8]) -> Option<Delivered>
-    requires unit { StandsForSome unit.old }
+    requires unit { IntakeStandsForSome unit.old }
     requires time { IsTime at.0 }
-    ensures { StandsForSome unit.new }
+    ensures { IntakeStandsForSome unit.new }
 {
     if !is_later(unit, at) {
         return None;
@@ -79,9 +79,9 @@ pub fn step(unit: &mut Intake, at: Ticks, frame: &[u8]) -> Option<Delivered>
 
 /// Reports the cells up to a time; no memory where the time is before the clock.
 pub fn close<A: Air>(unit: &mut Intake, to: Ticks, air: &mut A) -> Result<(), AirFault>
-    requires unit { StandsForSome unit.old }
+    requires unit { IntakeStandsForSome unit.old }
     requires time { IsTime to.0 }
-    ensures { StandsForSome unit.new }
+    ensures { IntakeStandsForSome unit.new }
 {
     if !is_later(unit, to) {
         return Err(AirFault::NoMemory);
@@ -94,9 +94,9 @@ pub fn close<A: Air>(unit: &mut Intake, to: Ticks, air: &mut A) -> Result<(), Ai
 
 /// Reports the cells whose moments come before a time. No plan has a moment before time 0.
 pub fn close_before<A: Air>(unit: &mut Intake, at: Ticks, air: &mut A) -> Result<(), AirFault>
-    requires unit { StandsForSome unit.old }
+    requires unit { IntakeStandsForSome unit.old }
     requires time { IsTime at.0 }
-    ensures { StandsForSome unit.new }
+    ensures { IntakeStandsForSome unit.new }
 {
     match unit.due() {
         Some(due) if 0 <= due.0 && due.0 < at.0 => close(unit, Ticks(at.0 - 1), air),

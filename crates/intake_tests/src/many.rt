@@ -1,7 +1,7 @@
 // 50 s at 30 kHz, slot by slot: 100,000 slots, of which each hundredth has a line. A slot has 768,000,000 ticks, and frame 1 begins at
 // tick 15360000000; a cell is told 416,256,000 ticks behind the start of its symbol.
 ghost use Rattle.std.specs.Prelude.{◌<◌, ◌≤ℤ◌, pos, All, IfOk};
-ghost use Rattle.intake_samples.specs.du_intake.specs.Closing.{StandsForSome};
+ghost use Rattle.intake_samples.specs.du_intake.specs.Closing.{IntakeStandsForSome};
 ghost use Rattle.plain_units.specs.unit_model.specs.Proper.{IsTime};
 ghost use Rattle.window_config.specs.Plans.{IsPlanLine};
 
@@ -104,9 +104,9 @@ fn cell_of(k: u32) -> Option<AirCell>
 
 /// The data of a slot come 100 us behind its start, where they are not lost. Whether they are read.
 fn data_come(unit: &mut Intake, k: u32) -> bool
-    requires unit { StandsForSome unit.old }
+    requires unit { IntakeStandsForSome unit.old }
     requires slot { k < 100000 }
-    ensures { StandsForSome unit.new }
+    ensures { IntakeStandsForSome unit.new }
 {
     if is_lost(k) {
         return true;
@@ -116,16 +116,16 @@ fn data_come(unit: &mut Intake, k: u32) -> bool
 
 /// The data of a slot come, and its cells are reported. Whether both may be done.
 fn one_slot(unit: &mut Intake, k: u32, air: &mut MemoryAir) -> bool
-    requires unit { StandsForSome unit.old }
+    requires unit { IntakeStandsForSome unit.old }
     requires slot { k < 100000 }
-    ensures { StandsForSome unit.new }
+    ensures { IntakeStandsForSome unit.new }
 {
     data_come(unit, k) && close(unit, behind(k, 416_256_000), air) == Ok(())
 }
 
 /// All slots, one after the other.
 fn all_slots(unit: &mut Intake, air: &mut MemoryAir) -> bool
-    requires { StandsForSome unit.old }
+    requires { IntakeStandsForSome unit.old }
 {
     for k in 0..100_000u32 {
         if !one_slot(unit, k, air) {

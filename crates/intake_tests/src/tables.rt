@@ -2,7 +2,7 @@
 // keeps all that came. The plan has two lines of section 5 at 30 kHz, of symbol 0 of frame 1: some elements of the PRBs 0 and 1, and
 // others of PRB 0. Ta4 is from 50 to 271 us behind its start. What two of the rows give is worked out by hand.
 ghost use Rattle.std.specs.Prelude.{IfOk, IfSome, All};
-ghost use Rattle.intake_samples.specs.du_intake.specs.Closing.{StandsForSome};
+ghost use Rattle.intake_samples.specs.du_intake.specs.Closing.{IntakeStandsForSome};
 ghost use Rattle.plain_units.specs.declared.report.TimedFrame.{TimedFrame as SpecFrame};
 ghost use Rattle.plain_units.specs.unit_model.specs.Proper.{IsProperAllocation, IsTime};
 ghost use Rattle.window_config.specs.Configs.{IsConfig};
@@ -13,7 +13,7 @@ use fault_counters::{Counter, Counters};
 use fh_base::{Bytes, List, NoMemory};
 use fh_time::Ticks;
 use intake_samples::du_intake::Intake;
-use intake_samples::plan_model::{PlannedLine, allocation_of, is_out_of_range};
+use intake_samples::plan_model::{PlannedLine, is_out_of_range, line_allocation};
 use intake_samples::{close, close_before, line, made, step, two};
 use plain_units::air_source::{AirFault, MemoryAir};
 use plain_units::unit_model::Allocation;
@@ -126,7 +126,7 @@ fn named(endpoints: &[EndpointConfig], line: &PlanLine) -> Option<Allocation>
     if is_out_of_range(&endpoint, line) {
         return None;
     }
-    Some(allocation_of(&PlannedLine {
+    Some(line_allocation(&PlannedLine {
         index: 0,
         ep: 0,
         endpoint,
@@ -146,9 +146,9 @@ fn claims(config: &Config) -> Option<[Allocation; 2]>
 
 /// Delivers frames, each when the cells of earlier moments are reported. Whether all of it may be done.
 fn all_frames(unit: &mut Intake, frames: &[TimedFrame], air: &mut MemoryAir) -> bool
-    requires unit { StandsForSome unit.old }
+    requires unit { IntakeStandsForSome unit.old }
     requires times { All (λ (f : SpecFrame). IsTime f.at.0) frames.now }
-    ensures { StandsForSome unit.new }
+    ensures { IntakeStandsForSome unit.new }
 {
     for f in frames {
         if close_before(unit, f.at, air) != Ok(()) {

@@ -19,10 +19,13 @@ use Rattle.fh_document.specs.Steps.{Said, deliveries}
 use Rattle.fh_document.specs.Words.{number_in}
 use Rattle.line_laws.specs.Joined.{is_word, spaced}
 use Rattle.line_laws.specs.Words.{way_word, class_word, deliver_words}
-use Rattle.line_laws.proofs.Tests.{both_true, if_true, took, then_some}
+use Rattle.line_laws.proofs.Tests.{if_true, took, then_some}
 use Rattle.line_laws.proofs.NumberLemmas.{number_is, decimal_word, signed_word, time_is}
 use Rattle.line_laws.proofs.InjectLemmas.{way_is, way_visible}
 use Rattle.line_laws.proofs.LineLemmas.{line_is}
+use Rattle.fh_document.specs.declared.config_lines.TheConstants.{MOST_TRANSIT}
+use Rattle.fh_document.specs.declared.deliver_lines.TheConstants.{MOST_NUMBER}
+use Rattle.fh_time.proofs.Orders.{both_true}
 
 class_is : (class : Class3) → class_of (class_word class) ≡ Some class
 class_is C = refl
@@ -34,16 +37,16 @@ class_visible C = refl
 class_visible U = refl
 class_visible M = refl
 
-times_visible : (low : ℕ) (times : List ℤ) → All (IsFrom low 3000000000) times → list_all is_word (map signed_decimal times) ≡ true
+times_visible : (low : ℕ) (times : List ℤ) → All (IsFrom low MOST_TRANSIT) times → list_all is_word (map signed_decimal times) ≡ true
 times_visible low [] h = refl
 times_visible low (z ∷ times) h =
-    both_true _ _ (signed_word low 3000000000 z (omega arith) (All-head (IsFrom low 3000000000) z times h)) (times_visible low times (All-tail (IsFrom low 3000000000) z times h))
+    both_true _ _ (signed_word low MOST_TRANSIT z (omega arith) (All-head (IsFrom low MOST_TRANSIT) z times h)) (times_visible low times (All-tail (IsFrom low MOST_TRANSIT) z times h))
 
-times_are : (low : ℕ) (times : List ℤ) → All (IsFrom low 3000000000) times → times_of low (map signed_decimal times) ≡ Some times
+times_are : (low : ℕ) (times : List ℤ) → All (IsFrom low MOST_TRANSIT) times → times_of low (map signed_decimal times) ≡ Some times
 times_are low [] h = refl
 times_are low (z ∷ times) h =
-    time_is low 3000000000 z (λ t. taking (times_of low (map signed_decimal times)) (λ ts. Some (t ∷ ts))) (omega arith) (All-head (IsFrom low 3000000000) z times h)
-    ∙ took (times_of low (map signed_decimal times)) times (λ ts. Some (z ∷ ts)) (times_are low times (All-tail (IsFrom low 3000000000) z times h))
+    time_is low MOST_TRANSIT z (λ t. taking (times_of low (map signed_decimal times)) (λ ts. Some (t ∷ ts))) (omega arith) (All-head (IsFrom low MOST_TRANSIT) z times h)
+    ∙ took (times_of low (map signed_decimal times)) times (λ ts. Some (z ∷ ts)) (times_are low times (All-tail (IsFrom low MOST_TRANSIT) z times h))
 
 deliver_visible : (d : Delivery) → IsDelivery d → list_all is_word (deliver_words d) ≡ true
 deliver_visible d h =
@@ -53,7 +56,7 @@ delivery_is : (d : Delivery) → IsDelivery d → delivery_of (deliver_words d) 
 delivery_is d h =
     took (side_of (way_word d.side)) d.side _ (way_is d.side)
     ∙ took (class_of (class_word d.class)) d.class _ (class_is d.class)
-    ∙ took (number_in 1 9999999 (decimal d.k)) d.k _ (number_is 1 9999999 d.k h.some h.most (omega (arith, h.most)))
+    ∙ took (number_in 1 MOST_NUMBER (decimal d.k)) d.k _ (number_is 1 MOST_NUMBER d.k h.some h.most (omega (arith, h.most)))
     ∙ took (times_of (least_of d.class) (map signed_decimal d.copies)) d.copies _ (times_are (least_of d.class) d.copies h.times)
 
 some_words : (n : ℕ) → ((suc (suc (suc (suc n))) == 0) || false) ≡ false

@@ -1,5 +1,5 @@
 -- Numbers and frames in hexadecimal digits.
-use Rattle.std.proofs.Common.{◌≡◌, ℕ, ◌+◌, ◌*◌, ◌<◌, ◌≤◌, ◌^◌, ◌/◌, ◌%◌, List, [], ◌∷◌, length, Bool, true, false, ◌&&◌, nat_lt, nat_le, Some, None, refl, ap, ◌∙◌, arith}
+use Rattle.std.proofs.Common.{◌≡◌, ℕ, ◌+◌, ◌*◌, ◌<◌, ◌≤◌, ◌^◌, ◌/◌, ◌%◌, List, [], ◌∷◌, length, Bool, true, ◌&&◌, nat_lt, nat_le, Some, None, refl, ap, ◌∙◌, arith}
 use Rattle.std.specs.Prelude.{◌==◌, codes}
 use Rattle.std.specs.Char.{digit_char, digit_value}
 use Rattle.std.specs.List.{list_all}
@@ -12,7 +12,9 @@ use Rattle.fh_document.specs.Hex.{hex_of, is_hex, bytes_of, decoded, frame_of}
 use Rattle.line_laws.specs.Joined.{is_word}
 use Rattle.line_laws.specs.Laws.{AreBytes}
 use Rattle.line_laws.specs.Words.{hex_text, frame_word}
-use Rattle.line_laws.proofs.Tests.{both_true, if_true, if_false}
+use Rattle.line_laws.proofs.Tests.{if_true, if_false}
+use Rattle.fh_base.specs.declared.source.TheConstants.{FRAME_LIMIT}
+use Rattle.fh_time.proofs.Orders.{and_false_3 as and_false, both_true}
 
 digit_is : (d : ℕ) → d < 16 → digit_value (digit_char d) ≡ d
 digit_is d small = digit_value-digit_char d (omega arith)
@@ -101,16 +103,12 @@ frame_visible [] = refl
 frame_visible (b ∷ bytes) =
     both_true (nat_lt 0 (length (hex_text (b ∷ bytes)))) _ (some_true (length (hex_text (b ∷ bytes))) (omega (arith, hex_size (b ∷ bytes)))) (hex_visible (b ∷ bytes))
 
-and_false : (b : Bool) → (b && false) ≡ false
-and_false true = refl
-and_false false = refl
-
-fits : (n m : ℕ) → n ≡ 2 * m → m ≤ 9216 → (nat_le n (2 * 9216) && (n % 2 == 0)) ≡ true
+fits : (n m : ℕ) → n ≡ 2 * m → m ≤ FRAME_LIMIT → (nat_le n (2 * FRAME_LIMIT) && (n % 2 == 0)) ≡ true
 fits n m is most =
     let even : n % 2 ≡ 0 = omega arith in
     grind (arith, nat_tests)
 
-pub frame_is : (bytes : List ℕ) → AreBytes bytes → length bytes ≤ 9216 → frame_of (frame_word bytes) ≡ Some bytes
+pub frame_is : (bytes : List ℕ) → AreBytes bytes → length bytes ≤ FRAME_LIMIT → frame_of (frame_word bytes) ≡ Some bytes
 frame_is [] h most = refl
 frame_is (b ∷ bytes) h most =
     let all = b ∷ bytes in

@@ -1,9 +1,8 @@
 -- Documents of injected frames.
-use Rattle.std.proofs.Common.{◌≡◌, ℕ, ◌+◌, ◌<◌, ◌≤◌, ◌≢◌, ◌^◌, List, [], ◌∷◌, ◌++◌, length, map, Bool, true, false, nat_lt, Some, refl, sym, ap, ◌∙◌, arith, append_assoc, append-nil}
+use Rattle.std.proofs.Common.{◌≡◌, ℕ, ◌+◌, ◌≤◌, ◌≢◌, List, [], ◌∷◌, ◌++◌, length, map, Bool, true, false, nat_lt, Some, refl, sym, ap, ◌∙◌, arith, append_assoc, append-nil}
 use Rattle.std.specs.Prelude.{ℤ, pos, negsuc, Ok, Err, All, codes, if◌then◌else◌, ◌==◌}
 use Rattle.std.specs.List.{list_all}
 use Rattle.std.specs.Fmt.{signed_decimal}
-use Rattle.std.proofs.lemmas.Bool.Decides.{nat_tests}
 use Rattle.std.proofs.lemmas.Int.{ints}
 use Rattle.std.proofs.lemmas.List.Elements.{All-head, All-tail}
 use Rattle.air_source.specs.declared.events.Side.{Side}
@@ -23,11 +22,13 @@ use Rattle.line_laws.specs.Joined.{is_word}
 use Rattle.line_laws.specs.Laws.{IsFrame}
 use Rattle.line_laws.specs.Lines.{inject_text, injections_text, document_with}
 use Rattle.line_laws.specs.Words.{way_word, frame_word, inject_words}
-use Rattle.line_laws.proofs.Tests.{both_true, if_false, then_ok, then_some}
+use Rattle.line_laws.proofs.Tests.{if_false, then_ok, then_some}
 use Rattle.line_laws.proofs.JoinLemmas.{words_text, lines_are}
 use Rattle.line_laws.proofs.NumberLemmas.{number_is, signed_word}
 use Rattle.line_laws.proofs.HexLemmas.{frame_is, frame_visible}
 use Rattle.line_laws.proofs.LineLemmas.{line_is}
+use Rattle.fh_time.specs.declared.nanoseconds.TheConstants.{LAST_TIME}
+use Rattle.fh_time.proofs.Orders.{not_none as not_zero, both_true}
 
 pub way_is : (side : Side) → side_of (way_word side) ≡ Some side
 way_is Ru = refl
@@ -39,16 +40,16 @@ way_visible Du = refl
 
 pub inject_visible : (i : Injection) → IsFrame i → list_all is_word (inject_words i) ≡ true
 inject_visible i h =
-    both_true _ _ (way_visible i.side) (both_true _ _ (signed_word 0 (10 ^ 12) i.at (omega arith) h.time) (both_true _ true (frame_visible i.frame) refl))
+    both_true _ _ (way_visible i.side) (both_true _ _ (signed_word 0 LAST_TIME i.at (omega arith) h.time) (both_true _ true (frame_visible i.frame) refl))
 
-time_ok : (z : ℤ) → IsFrom 0 (10 ^ 12) z → (or_refuse (number_in 0 (10 ^ 12) (signed_decimal z)) why.Number >>= (λ n. Ok (pos n))) ≡ Ok z
-time_ok (pos n) h = then_some (number_in 0 (10 ^ 12) (signed_decimal (pos n))) why.Number n (λ m. Ok (pos m)) (number_is 0 (10 ^ 12) n (omega arith) (omega (arith, ints, h.high)) (omega (arith, ints, h.high)))
+time_ok : (z : ℤ) → IsFrom 0 LAST_TIME z → (or_refuse (number_in 0 LAST_TIME (signed_decimal z)) why.Number >>= (λ n. Ok (pos n))) ≡ Ok z
+time_ok (pos n) h = then_some (number_in 0 LAST_TIME (signed_decimal (pos n))) why.Number n (λ m. Ok (pos m)) (number_is 0 LAST_TIME n (omega arith) (omega (arith, ints, h.high)) (omega (arith, ints, h.high)))
 time_ok (negsuc n) h = absurd (omega (arith, ints, h.low))
 
 inject_is : (r : Said) (i : Injection) → IsFrame i → inject_line r (inject_words i) ≡ injected r i
 inject_is r i h =
     then_some (side_of (way_word i.side)) why.Number i.side _ (way_is i.side)
-    ∙ then_ok (time_at 0 (10 ^ 12) (inject_words i) 2) i.at _ (time_ok i.at h.time)
+    ∙ then_ok (time_at 0 LAST_TIME (inject_words i) 2) i.at _ (time_ok i.at h.time)
     ∙ then_some (frame_of (frame_word i.frame)) why.Number i.frame _ (frame_is i.frame h.bytes h.short)
 
 -- where no measurement stands, a frame may be injected
@@ -83,9 +84,6 @@ all_read r so_far n (i ∷ is) later h none =
 inject_texts : (is : List Injection) → All IsFrame is → list_all is_text (map inject_text is) ≡ true
 inject_texts [] h = refl
 inject_texts (i ∷ is) h = both_true _ _ (words_text (inject_words i) (inject_visible i (All-head IsFrame i is h))) (inject_texts is (All-tail IsFrame i is h))
-
-not_zero : (n : ℕ) → 0 < n → (n == 0) ≡ false
-not_zero n h = grind (arith, nat_tests)
 
 first_read : (lines : List (List ℕ)) → read_from 1 start (codes "fronthaul 1" ∷ lines) ≡ read_from 2 start lines
 unfolding line_of

@@ -10,7 +10,8 @@ use Rattle.std.proofs.lemmas.List.Splits.{slice_split_none, slice_split_at}
 use Rattle.std.proofs.Math.Seq.{get_or-append_seam}
 use Rattle.fh_document.specs.Words.{words_of, is_text, without_last_feed}
 use Rattle.line_laws.specs.Joined.{is_word, joined, spaced, fed}
-use Rattle.line_laws.proofs.Tests.{left_true, right_true, both_true, if_true, all_weaker, filter_all}
+use Rattle.line_laws.proofs.Tests.{if_true, all_weaker, filter_all}
+use Rattle.fh_time.proofs.Orders.{left_true, right_true, both_true}
 
 -- no byte of the part is the separator
 abbrev pub is_free : ℕ → List ℕ → Bool

@@ -11,7 +11,8 @@ use Rattle.fh_document.specs.EndpointLines.{taking}
 use Rattle.fh_document.specs.Proper.{IsFrom}
 use Rattle.fh_document.specs.Words.{number_in, is_decimal}
 use Rattle.line_laws.specs.Joined.{is_word}
-use Rattle.line_laws.proofs.Tests.{both_true, if_true, all_weaker, took}
+use Rattle.line_laws.proofs.Tests.{if_true, all_weaker, took}
+use Rattle.fh_time.proofs.Orders.{both_true}
 
 pub decimal_digits : (n : ℕ) → n < 2 ^ 64 → is_decimal (decimal n) ≡ true
 decimal_digits = decimal_by_steps (λ n ds. is_decimal ds ≡ true) one more

@@ -16,10 +16,12 @@ use Rattle.fh_document.specs.Steps.{Said, plans}
 use Rattle.fh_document.specs.Words.{number_in}
 use Rattle.line_laws.specs.Joined.{is_word, spaced}
 use Rattle.line_laws.specs.Words.{plan_kind_word, plan_words}
-use Rattle.line_laws.proofs.Tests.{both_true, took, then_some}
+use Rattle.line_laws.proofs.Tests.{took, then_some}
 use Rattle.line_laws.proofs.NumberLemmas.{number_is, decimal_word, signed_word, time_is}
 use Rattle.line_laws.proofs.HexLemmas.{id_is, mask_is, id_word, mask_word}
 use Rattle.line_laws.proofs.LineLemmas.{line_is}
+use Rattle.window_config.specs.declared.plan.TheConstants.{LAST_FRAME}
+use Rattle.fh_time.proofs.Orders.{both_true}
 
 kind_is : (kind : PlanKind) → plan_kind_of (plan_kind_word kind) ≡ Some kind
 kind_is Down = refl
@@ -36,7 +38,7 @@ small_word n h = decimal_word n (omega arith)
 
 pub plan_visible : (line : PlanLine) → IsPlanLine line → line.num_prb < 2 ^ 8 → list_all is_word (plan_words line) ≡ true
 plan_visible line h few =
-    both_true _ _ (kind_visible line.kind) (both_true _ _ (id_word line.id) (both_true _ _ (signed_word 1 99999 line.slot.frame (omega arith) h.frame)
+    both_true _ _ (kind_visible line.kind) (both_true _ _ (id_word line.id) (both_true _ _ (signed_word 1 LAST_FRAME line.slot.frame (omega arith) h.frame)
     (both_true _ _ (small_word line.slot.subframe (omega (arith, h.subframe))) (both_true _ _ (small_word line.slot.slot (omega (arith, h.slot)))
     (both_true _ _ (small_word line.symbol (omega (arith, h.symbol))) (both_true _ _ (small_word line.count (omega (arith, h.count)))
     (both_true _ _ (small_word line.start_prb (omega (arith, h.start_prb))) (both_true _ _ (small_word line.num_prb (omega arith)) (both_true _ _ (mask_word line.mask)
@@ -59,7 +61,7 @@ two_are a b m n h k fits fit =
 
 slot_is : (line : PlanLine) → IsPlanLine line → slot_of (plan_words line) ≡ Some line.slot
 slot_is line h =
-    time_is 1 99999 line.slot.frame (λ frame. taking (number_in 0 9 (decimal line.slot.subframe)) (λ subframe. taking (number_in 0 63 (decimal line.slot.slot)) (λ slot.
+    time_is 1 LAST_FRAME line.slot.frame (λ frame. taking (number_in 0 9 (decimal line.slot.subframe)) (λ subframe. taking (number_in 0 63 (decimal line.slot.slot)) (λ slot.
     Some (record { frame = frame; subframe = subframe; slot = slot })))) (omega arith) h.frame
     ∙ took (number_in 0 9 (decimal line.slot.subframe)) line.slot.subframe _ (up_to 9 line.slot.subframe h.subframe (omega arith))
     ∙ took (number_in 0 63 (decimal line.slot.slot)) line.slot.slot _ (up_to 63 line.slot.slot h.slot (omega arith))

@@ -1,21 +1,11 @@
 -- What follows from tests, and what a step makes of a value.
-use Rattle.std.proofs.Common.{◌≡◌, List, [], ◌∷◌, Bool, true, false, ◌&&◌, Option, Some, refl, ap, ◌∙◌}
+use Rattle.std.proofs.Common.{◌≡◌, List, [], ◌∷◌, Bool, true, false, Option, Some, refl, ap, ◌∙◌}
 use Rattle.std.specs.Prelude.{Result, Ok, if◌then◌else◌, filter}
 use Rattle.std.specs.List.{list_all}
 use Rattle.fh_document.specs.declared.refusals.DocWhy.{DocWhy}
 use Rattle.fh_document.specs.EndpointLines.{taking}
 use Rattle.fh_document.specs.Refusals.{or_refuse, ◌>>=◌}
-
-pub left_true : (a b : Bool) → (a && b) ≡ true → a ≡ true
-left_true true b e = refl
-left_true false b e = absurd (cc e)
-
-pub right_true : (a b : Bool) → (a && b) ≡ true → b ≡ true
-right_true true b e = e
-right_true false b e = absurd (cc e)
-
-pub both_true : (a b : Bool) → a ≡ true → b ≡ true → (a && b) ≡ true
-both_true a b e f = rw (e, f) refl
+use Rattle.fh_time.proofs.Orders.{left_true, right_true, both_true}
 
 pub if_true : {A : Type 0} (b : Bool) (x y : A) → b ≡ true → (if b then x else y) ≡ x
 if_true true x y e = refl

@@ -16,6 +16,8 @@ use Rattle.fh_document.specs.Words.{is_text, words_of, number_in, without_last_f
 use Rattle.line_laws.specs.Joined.{is_word, spaced, fed}
 use Rattle.line_laws.specs.Words.{frame_word, plan_words, deliver_words}
 use Rattle.line_laws.specs.Lines.{injections_text, document_with}
+use Rattle.fh_time.specs.declared.nanoseconds.TheConstants.{LAST_TIME}
+use Rattle.fh_base.specs.declared.source.TheConstants.{FRAME_LIMIT}
 
 -- words that are joined by single spaces are the words of a line, and the line is text
 abbrev pub WordsAreRead : Type 0
@@ -38,13 +40,13 @@ AreBytes bytes = All (λ b. b < 256) bytes
 
 -- two digits for each byte are read as these bytes, and a dash as none
 abbrev pub FramesAreRead : Type 0
-FramesAreRead = (bytes : List ℕ) → AreBytes bytes → length bytes ≤ 9216 → frame_of (frame_word bytes) ≡ Some bytes
+FramesAreRead = (bytes : List ℕ) → AreBytes bytes → length bytes ≤ FRAME_LIMIT → frame_of (frame_word bytes) ≡ Some bytes
 
 -- a frame that an inject line may have
 pub record IsFrame (i : Injection) : Type 0 where
-  pub time : IsFrom 0 (10 ^ 12) i.at
+  pub time : IsFrom 0 LAST_TIME i.at
   pub bytes : AreBytes i.frame
-  pub short : length i.frame ≤ 9216
+  pub short : length i.frame ≤ FRAME_LIMIT
 
 -- a text of inject lines is read as exactly these frames, in their order
 abbrev pub InjectionsAreRead : Type 0

@@ -4,7 +4,7 @@ use Rattle.std.specs.Prelude.{⊤}
 use Rattle.std.proofs.lemmas.Bool.{cases_Bool}
 use Rattle.std.proofs.lemmas.Int.{ints}
 use Rattle.sent_laws.specs.plan_model.specs.Dense.{dense, dense_from, dense_in, first_near, is_near, lesser, sending_of, sendings, up_distance}
-use Rattle.sent_laws.specs.plan_model.specs.Departures.{departures_of, start_of}
+use Rattle.sent_laws.specs.plan_model.specs.Departures.{departures_of, start_of_part}
 use Rattle.sent_laws.specs.plan_model.specs.Examples.{usual}
 use Rattle.sent_laws.specs.plan_model.specs.Lines.{planned}
 use Rattle.sent_laws.specs.plan_model.specs.Packs.{Message, Numbered, alone, frames_before, numbered, numbered_behind, packs, packs_behind, same_symbol, size_of, with_part}
@@ -17,12 +17,13 @@ use Rattle.sent_laws.specs.plan_model.specs.declared.refusals.PlanWhy.{PlanWhy}
 use Rattle.sent_laws.specs.plan_model.specs.declared.streams.Stream.TheVariants.{DownData, UpData}
 use Rattle.sent_laws.specs.unit_model.specs.Lists.{or_else}
 use Rattle.sent_laws.specs.unit_model.proofs.CountLemmas.{no_time}
-use Rattle.sent_laws.specs.schedule_laws.proofs.FlowLemmas.{le_true}
 use Rattle.sent_laws.proofs.Fragments.{next_place}
 use Rattle.long_plans.specs.Lines.{frame_lines, long_config, LongPlansAreLong, LongPlansAreValid}
 use Rattle.long_plans.proofs.Lines.{line_at, none_refused, planned_is}
 use Rattle.long_plans.proofs.Parts.{air_start, start}
 use Rattle.long_plans.proofs.Ticks.{no_parts_up, parts_are, parts_from}
+use Rattle.window_config.specs.declared.plan.TheConstants.{LAST_FRAME}
+use Rattle.fh_time.proofs.Orders.{le_true}
 
 -- ---- one part a message
 
@@ -65,8 +66,8 @@ timed i frame (suc n) earlier =
     let d = departures_of long_config DownData in
     let m = alone (part_in 0 (line_at i frame)) in
     let before = (frames_before part_fields (frames_in long_config DownData) m earlier + 0) * d.gap in (
-      at_least (start_of (part_in 0 (line_at i frame))) (start frame) d.from.0 (min before d.spread) (air_start frame),
-      at_most (start_of (part_in 0 (line_at i frame))) (start frame) d.from.0 before d.spread (air_start frame) refl,
+      at_least (start_of_part (part_in 0 (line_at i frame))) (start frame) d.from.0 (min before d.spread) (air_start frame),
+      at_most (start_of_part (part_in 0 (line_at i frame))) (start frame) d.from.0 before d.spread (air_start frame) refl,
       timed (i + 1) (frame + 1) n (m ∷ earlier),
     )
 
@@ -104,7 +105,7 @@ none_near number m k (x ∷ xs) (y ∷ ys) h p q =
 abbrev lines_planned : ℕ → List PlannedLine
 lines_planned n = planned long_config.endpoints (frame_lines 1 n)
 
-down_messages : (n : ℕ) → n ≤ 99999 → messages_of long_config (lines_planned n) DownData 0 usual
+down_messages : (n : ℕ) → n ≤ LAST_FRAME → messages_of long_config (lines_planned n) DownData 0 usual
     ≡ numbered part_fields (frames_in long_config DownData) (map alone (parts_from 0 1 n))
 unfolding messages_of
 down_messages n few =
@@ -118,7 +119,7 @@ up_messages n =
     ap (λ (ps : List PlannedLine). numbered part_fields (frames_in long_config UpData) (packs part_fields 1 (parts_in ps UpData 0 usual))) (planned_is 0 1 n)
     ∙ ap (λ (xs : List Part). numbered part_fields (frames_in long_config UpData) (packs part_fields 1 xs)) (no_parts_up n)
 
-in_down : (n : ℕ) → n ≤ 99999 → dense_in (pos 477696000) (sendings long_config (lines_planned n) DownData 0 usual) ≡ None
+in_down : (n : ℕ) → n ≤ LAST_FRAME → dense_in (pos 477696000) (sendings long_config (lines_planned n) DownData 0 usual) ≡ None
 in_down n few =
     let ss = map (sending_of long_config DownData) (numbered part_fields (frames_in long_config DownData) (map alone (parts_from 0 1 n))) in
     let is_timed = timed 0 1 n [] in
@@ -129,7 +130,7 @@ in_up : (n : ℕ) → dense_in (up_distance long_config.delays) (sendings long_c
 unfolding first_near
 in_up n = ap (λ (ms : List (Numbered Part)). dense_in (up_distance long_config.delays) (map (sending_of long_config UpData) ms)) (up_messages n)
 
-not_dense : (n : ℕ) → n ≤ 99999 → dense long_config (lines_planned n) ≡ None
+not_dense : (n : ℕ) → n ≤ LAST_FRAME → dense long_config (lines_planned n) ≡ None
 unfolding dense_from
 not_dense n few = ap₂ (λ (x y : Option Dense). lesser (lesser x None) (lesser y None)) (in_down n few) (in_up n)
 

@@ -8,14 +8,15 @@ use Rattle.fragment_laws.specs.Apart.{IsIn}
 use Rattle.sent_laws.specs.unit_model.specs.Claims.{same_slot, same_way}
 use Rattle.sent_laws.specs.unit_model.specs.Commands.{is_full}
 use Rattle.sent_laws.specs.unit_model.specs.declared.allocations.Allocation.{Allocation}
-use Rattle.sent_laws.specs.unit_laws.proofs.CellLemmas.{slots_equal}
 use Rattle.sent_laws.specs.plan_model.specs.Examples.{usual}
-use Rattle.sent_laws.specs.plan_model.specs.Lines.{allocation_of, planned_from}
+use Rattle.sent_laws.specs.plan_model.specs.Lines.{line_allocation, planned_from}
 use Rattle.sent_laws.specs.plan_model.specs.Validity.{clash, refused_at, refused_from, share_cell}
 use Rattle.sent_laws.specs.plan_model.specs.declared.lines.PlannedLine.{PlannedLine}
 use Rattle.sent_laws.specs.plan_model.specs.declared.refusals.PlanWhy.{PlanWhy}
 use Rattle.sent_laws.specs.plan_model.specs.declared.refusals.PlanWhy.TheVariants.{Overlap, TooManySections}
 use Rattle.long_plans.specs.Lines.{frame_line, frame_lines}
+use Rattle.sent_laws.specs.unit_model.proofs.ClaimLemmas.{same_slot_is as slots_equal}
+use Rattle.fh_time.proofs.Orders.{more_differ as other_frame}
 
 -- the line of a frame at the endpoint
 abbrev pub line_at : ℕ → ℕ → PlannedLine
@@ -36,14 +37,11 @@ pub none_any : {X : Type 0} (p : X → Bool) (xs : List X) → ((x : X) → IsIn
 none_any p [] h = refl
 none_any p (x ∷ xs) h = ap (λ (b : Bool). b || list_any p xs) (h x (inl refl)) ∙ none_any p xs (λ y i. h y (inr i))
 
-other_frame : (a b : ℤ) → b <ℤ a → a ≡ b → ⊥
-other_frame a b h e = omega (arith, ints, e, h)
-
-no_clash : (i frame : ℕ) (a : Allocation) → a.slot.frame <ℤ pos frame → clash (allocation_of (line_at i frame)) a ≡ false
-no_clash i frame a h = elim (cases_Bool (clash (allocation_of (line_at i frame)) a)) [
+no_clash : (i frame : ℕ) (a : Allocation) → a.slot.frame <ℤ pos frame → clash (line_allocation (line_at i frame)) a ≡ false
+no_clash i frame a h = elim (cases_Bool (clash (line_allocation (line_at i frame)) a)) [
   | inr other ↦ other
   | inl is ↦
-      let b = allocation_of (line_at i frame) in
+      let b = line_allocation (line_at i frame) in
       let cell = (and_parts (share_cell b a) _ is).0 in
       let way = (and_parts (b.ep == a.ep) _ cell).1 in
       let slots = (and_parts (same_way b.down a.down) _ way).1 in
@@ -61,7 +59,7 @@ pub none_refused : (earlier : List Allocation) (i frame n : ℕ) → ((a : Alloc
 unfolding refused_from frame_lines
 none_refused earlier i frame zero h = refl
 none_refused earlier i frame (suc n) h =
-    let a = allocation_of (line_at i frame) in
+    let a = line_allocation (line_at i frame) in
     let later = refused_from (usual ∷ []) (a ∷ earlier) (i + 1) (frame_lines (frame + 1) n) in
     ap (λ (b : Bool). let w : Option PlanWhy = if b then Some Overlap else (if is_full earlier a then Some TooManySections else None) in refused_at i w later)
     (none_any (clash a) earlier (λ x m. no_clash i frame x (h x m)))

@@ -12,16 +12,16 @@ use Rattle.fh_time.proofs.Euclid.{frame_floor}
 use Rattle.sent_laws.specs.unit_model.specs.Claims.{is_from, same_slot}
 use Rattle.sent_laws.specs.unit_model.specs.Lists.{each}
 use Rattle.sent_laws.specs.unit_model.specs.Sweeps.{first_swept, of_endpoint, of_frame, of_slot, of_subframe, of_symbol, slot_at}
-use Rattle.sent_laws.specs.unit_laws.proofs.CellLemmas.{slots_equal}
 use Rattle.sent_laws.specs.unit_laws.proofs.SweepLemmas.{none_kept, of_endpoint_related, of_frame_related, of_slot_related, of_subframe_related, of_symbol_related}
 use Rattle.sent_laws.specs.plan_model.specs.Examples.{usual}
-use Rattle.sent_laws.specs.plan_model.specs.Lines.{allocation_of}
+use Rattle.sent_laws.specs.plan_model.specs.Lines.{line_allocation}
 use Rattle.sent_laws.specs.plan_model.specs.Streams.{Part, has_part, part_in, symbol_parts}
 use Rattle.sent_laws.specs.plan_model.specs.declared.lines.PlannedLine.{PlannedLine}
 use Rattle.sent_laws.specs.plan_model.specs.declared.streams.Stream.TheVariants.{DownData}
-use Rattle.sent_laws.specs.plan_model.proofs.RangeLemmas.{from_high}
 use Rattle.sent_laws.specs.schedule_laws.proofs.TimeLemmas.{pos_same}
 use Rattle.long_plans.proofs.Lines.{line_at, lines_from}
+use Rattle.fh_time.specs.declared.frames.TheConstants.{FRAME}
+use Rattle.sent_laws.specs.unit_model.proofs.ClaimLemmas.{same_slot_is as slots_equal, from_within as from_high}
 
 pub each_nothing : {A : Type 0} (from n : ℕ) (f : ℕ → List A) → ((k : ℕ) → from ≤ k → k < from + n → f k ≡ []) → each from n f ≡ []
 unfolding each
@@ -50,7 +50,7 @@ abbrev pub slot_of : ℕ → Slot
 slot_of frame = slot_at (pos frame) 0 0
 
 abbrev is_named : Slot → ℕ → PlannedLine → Bool
-is_named slot symbol p = has_part DownData 0 slot symbol (allocation_of p)
+is_named slot symbol p = has_part DownData 0 slot symbol (line_allocation p)
 
 abbrev test : ℕ → Slot → ℕ → Bool
 test frame slot symbol = same_slot (slot_of frame) slot && is_from 0 1 symbol
@@ -92,7 +92,7 @@ one_named i frame (suc n) j m low high place = elim (cases_eq frame m) [
 -- ---- the parts at a tick
 
 abbrev pub start : ℕ → ℤ
-start frame = pos frame *ℤ pos 15360000000
+start frame = pos frame *ℤ FRAME
 
 pub air_start : (k : ℕ) → air_of usual.numerology (slot_of k) 0 ≡ start k
 air_start k = omega (arith, ints)
@@ -130,7 +130,7 @@ module _ (total : ℕ) where
 
   -- ---- where a line's symbol starts
 
-  in_frame : (z : ℤ) (m : ℕ) → z ≡ start m → int_div_euclid z (pos 15360000000) ≡ pos m
+  in_frame : (z : ℤ) (m : ℕ) → z ≡ start m → int_div_euclid z FRAME ≡ pos m
   in_frame z m h = let f = frame_floor z in omega (arith, ints, h, f.0, f.1)
 
   back : (z : ℤ) (m : ℕ) → z ≡ pos m → (z -ℤ pos 5) +ℤ pos 5 ≡ pos m
@@ -176,8 +176,8 @@ module _ (total : ℕ) where
         let here = in_frame (start m) m refl in
         each_only 0 6 5 (λ k. of_frame told usual (start m) (first_swept (start m) +ℤ pos k)) (omega arith) (omega arith) (λ k a b other.
         of_frame_related (λ xs ys. xs ≡ []) none_kept told told usual (start m) (first_swept (start m) +ℤ pos k) (λ slot symbol frame is_slot h air.
-        elsewhere slot symbol air (λ s z. other (other_place (int_div_euclid (start m) (pos 15360000000)) m k here (sym frame ∙ sym (ap (λ (x : Slot). x.frame) s))))))
-        ∙ ap (of_frame told usual (start m)) (back (int_div_euclid (start m) (pos 15360000000)) m here)
+        elsewhere slot symbol air (λ s z. other (other_place (int_div_euclid (start m) FRAME) m k here (sym frame ∙ sym (ap (λ (x : Slot). x.frame) s))))))
+        ∙ ap (of_frame told usual (start m)) (back (int_div_euclid (start m) FRAME) m here)
         ∙ in_the_frame
 
   pub part_at : (j m : ℕ) → j + 1 ≡ m → 1 ≤ m → m < 1 + total → of_endpoint told usual (start m) ≡ part_in 0 (line_at j m) ∷ []

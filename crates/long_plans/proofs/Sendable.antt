@@ -22,6 +22,7 @@ use Rattle.sent_laws.proofs.RadiatedLemmas.{least_come}
 use Rattle.long_plans.specs.Lines.{frame_line, frame_lines, long_config}
 use Rattle.long_plans.specs.Sent.{LongPlansAreSent, silence, silent}
 use Rattle.long_plans.proofs.Apart.{are_valid}
+use Rattle.window_config.specs.declared.plan.TheConstants.{LAST_FRAME}
 
 none_all : {X : Type 0} (P : X → Type 0) → All P []
 none_all P k d below = absurd (omega (arith, below))
@@ -63,10 +64,10 @@ check_is = record {
 low_frame : (frame : ℕ) → 1 ≤ frame → pos 1 ≤ℤ pos frame
 low_frame frame h = omega (arith, ints, h)
 
-high_frame : (frame : ℕ) → frame ≤ 99999 → pos frame ≤ℤ pos 99999
+high_frame : (frame : ℕ) → frame ≤ LAST_FRAME → pos frame ≤ℤ pos LAST_FRAME
 high_frame frame h = omega (arith, ints, h)
 
-line_is : (frame : ℕ) → 1 ≤ frame → frame ≤ 99999 → IsPlanLine (frame_line frame)
+line_is : (frame : ℕ) → 1 ≤ frame → frame ≤ LAST_FRAME → IsPlanLine (frame_line frame)
 line_is frame low high = record {
   frame_low = low_frame frame low;
   frame_high = high_frame frame high;
@@ -115,10 +116,10 @@ only_one : (ep : ℕ) (e : EndpointConfig) → IsAt (usual ∷ []) ep e → usua
 only_one zero e at = cc
 only_one (suc ep) e at = absurd cc
 
-in_range : (n : ℕ) → n ≤ 99999 → 1 + n ≤ 100000
+in_range : (n : ℕ) → n ≤ LAST_FRAME → 1 + n ≤ 100000
 in_range n h = omega (arith, h)
 
-sendable : (n : ℕ) → n ≤ 99999 → IsSendable long_config (frame_lines 1 n) silence
+sendable : (n : ℕ) → n ≤ LAST_FRAME → IsSendable long_config (frame_lines 1 n) silence
 sendable n few = record {
   config = config_is;
   lines_fit = lines_are 1 n (omega arith) (in_range n few);

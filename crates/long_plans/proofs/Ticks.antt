@@ -12,12 +12,13 @@ use Rattle.sent_laws.specs.unit_model.specs.Times.{end_of_time}
 use Rattle.sent_laws.specs.unit_model.proofs.SweepLaws.{gap_is, gap_parts, ticks_none, ticks_split}
 use Rattle.sent_laws.specs.unit_laws.proofs.SweepLemmas.{none_kept, of_endpoint_related}
 use Rattle.sent_laws.specs.plan_model.specs.Examples.{usual}
-use Rattle.sent_laws.specs.plan_model.specs.Lines.{allocation_of}
+use Rattle.sent_laws.specs.plan_model.specs.Lines.{line_allocation}
 use Rattle.sent_laws.specs.plan_model.specs.Streams.{Part, has_part, line_before, part_in, parts_in, symbol_parts}
 use Rattle.sent_laws.specs.plan_model.specs.declared.lines.PlannedLine.{PlannedLine}
 use Rattle.sent_laws.specs.plan_model.specs.declared.streams.Stream.TheVariants.{DownData, UpData}
 use Rattle.long_plans.proofs.Lines.{line_at, lines_from}
 use Rattle.long_plans.proofs.Parts.{part_at, quiet, start, told}
+use Rattle.window_config.specs.declared.plan.TheConstants.{LAST_FRAME}
 
 unfoldable pub parts_from : ℕ → ℕ → ℕ → List Part
 parts_from i frame zero = []
@@ -64,16 +65,16 @@ module _ (total : ℕ) where
   none_before : (k : ℕ) → 1 ≤ k → k < 1 → start k <ℤ first_clock
   none_before k a b = absurd (omega (arith, a, b))
 
-  in_time : (k : ℕ) → total ≤ 99999 → k < 1 + total → start k <ℤ (end_of_time +ℤ pos 1)
+  in_time : (k : ℕ) → total ≤ LAST_FRAME → k < 1 + total → start k <ℤ (end_of_time +ℤ pos 1)
   in_time k few below = omega (arith, ints, few, below)
 
-  pub parts_are : total ≤ 99999 → parts_in (lines_from 0 1 total) DownData 0 usual ≡ parts_from 0 1 total
+  pub parts_are : total ≤ LAST_FRAME → parts_in (lines_from 0 1 total) DownData 0 usual ≡ parts_from 0 1 total
   unfolding parts_in
   parts_are few = all_parts first_clock (end_of_time +ℤ pos 1) 0 1 total refl refl (omega (arith, ints)) none_before (λ k below. in_time k few below)
 
 -- ---- the uplink
 
-none_sent : (slot : Slot) (symbol i frame n : ℕ) → filter (λ (p : PlannedLine). has_part UpData 0 slot symbol (allocation_of p)) (lines_from i frame n) ≡ []
+none_sent : (slot : Slot) (symbol i frame n : ℕ) → filter (λ (p : PlannedLine). has_part UpData 0 slot symbol (line_allocation p)) (lines_from i frame n) ≡ []
 unfolding lines_from
 none_sent slot symbol i frame zero = refl
 none_sent slot symbol i frame (suc n) = none_sent slot symbol (i + 1) (frame + 1) n

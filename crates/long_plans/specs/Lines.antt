@@ -8,6 +8,7 @@ use Rattle.sent_laws.specs.plan_model.specs.Lines.{planned}
 use Rattle.sent_laws.specs.plan_model.specs.Streams.{messages_of}
 use Rattle.sent_laws.specs.plan_model.specs.Valid.{IsValid}
 use Rattle.sent_laws.specs.plan_model.specs.declared.streams.Stream.TheVariants.{DownData}
+use Rattle.window_config.specs.declared.plan.TheConstants.{LAST_FRAME}
 
 -- one endpoint of 30 kHz, one section a message
 abbrev pub long_config : Config
@@ -35,7 +36,7 @@ frame_lines frame (suc n) = frame_line frame ∷ frame_lines (frame + 1) n
 
 -- such a plan from frame 1 on is valid, and has as many data messages of its one endpoint as it has lines
 abbrev pub LongPlansAreValid : Type 0
-LongPlansAreValid = (n : ℕ) → n ≤ 99999 → IsValid long_config (frame_lines 1 n)
+LongPlansAreValid = (n : ℕ) → n ≤ LAST_FRAME → IsValid long_config (frame_lines 1 n)
 
 abbrev pub LongPlansAreLong : Type 0
-LongPlansAreLong = (n : ℕ) → n ≤ 99999 → length (messages_of long_config (planned long_config.endpoints (frame_lines 1 n)) DownData 0 usual) ≡ n
+LongPlansAreLong = (n : ℕ) → n ≤ LAST_FRAME → length (messages_of long_config (planned long_config.endpoints (frame_lines 1 n)) DownData 0 usual) ≡ n

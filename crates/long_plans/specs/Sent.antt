@@ -9,6 +9,7 @@ use Rattle.sent_laws.specs.sent_frames.specs.Messages.{Source}
 use Rattle.sent_laws.specs.Radiated.{CopiesArrive}
 use Rattle.sent_laws.specs.Sent.{IsSendable}
 use Rattle.long_plans.specs.Lines.{frame_lines, long_config}
+use Rattle.window_config.specs.declared.plan.TheConstants.{LAST_FRAME}
 
 -- n samples of 0
 abbrev pub silent : ℕ → List Iq
@@ -19,10 +20,10 @@ abbrev pub silence : Source
 silence cell = silent 12
 
 -- the premise of the laws of a sent plan is met
-pub record IsSent (n : ℕ) : Type 0 where
+pub record IsLongPlanSent (n : ℕ) : Type 0 where
   pub sendable : IsSendable long_config (frame_lines 1 n) silence
   pub arrive : CopiesArrive long_config (planned long_config.endpoints (frame_lines 1 n)) silence
       (with_least_delay long_config (planned long_config.endpoints (frame_lines 1 n)) (sent_bytes long_config silence))
 
 abbrev pub LongPlansAreSent : Type 0
-LongPlansAreSent = (n : ℕ) → n ≤ 99999 → IsSent n
+LongPlansAreSent = (n : ℕ) → n ≤ LAST_FRAME → IsLongPlanSent n

@@ -1,13 +1,13 @@
 -- Measurements begin, one after the other.
-use Rattle.std.proofs.Common.{◌≡◌, ◌≢◌, ℕ, ℤ, pos, ◌^◌, ◌+ℤ◌, ◌≤ℤ◌, ◌<ℤ◌, inl, Some, None, Option, Bool, true, false, List, [], ◌∷◌, ◌++◌, length, suc, ◌<◌, refl, sym, ap, ap₂, ◌∙◌, subst, arith, append_assoc, append-nil}
-use Rattle.std.specs.Prelude.{All, map, slice_get, if◌then◌else◌}
-use Rattle.std.specs.List.{AllByRecursion, flat_map}
+use Rattle.std.proofs.Common.{◌≡◌, ◌≢◌, ℕ, ℤ, pos, ◌^◌, ◌+ℤ◌, ◌≤ℤ◌, inl, Some, None, Option, Bool, true, List, [], ◌∷◌, ◌++◌, length, suc, ◌<◌, refl, sym, ap, ap₂, ◌∙◌, subst, arith, append_assoc, append-nil}
+use Rattle.std.specs.Prelude.{All, map, slice_get}
+use Rattle.std.specs.List.{flat_map}
 use Rattle.std.specs.Option.{option_to_list}
 use Rattle.std.specs.Ordering.{int_eq}
 use Rattle.std.proofs.lemmas.Int.{ints}
 use Rattle.std.proofs.lemmas.Bool.Decides.{Decides-int_eq}
 use Rattle.std.proofs.lemmas.List.Elements.{filter-append, filter_passes}
-use Rattle.std.specs.Int.Signed.{≤ℤ_refl, <ℤ-≤ℤ_trans}
+use Rattle.std.specs.Int.Signed.{≤ℤ_refl}
 use Rattle.air_source.specs.declared.events.Side.{Side}
 use Rattle.air_source.specs.declared.events.Side.TheVariants.{Ru, Du}
 use Rattle.delay_exchange.specs.Meters.{HasDoings}
@@ -22,15 +22,17 @@ use Rattle.delay_exchange.specs.fh_document.specs.declared.document.Measure.{Mea
 use Rattle.fh_time.specs.declared.values.Ticks.{Ticks}
 use Rattle.delay_exchange.specs.fragment_laws.specs.Apart.{IsIn}
 use Rattle.delay_exchange.specs.plan_model.proofs.ListLemmas.{in_right}
+use Rattle.delay_exchange.specs.plan_model.proofs.TickLemmas.{int_below}
+use Rattle.fh_time.proofs.Orders.{beyond_next, is_same, above_next}
 use Rattle.frame_network.proofs.QueueLemmas.{none_below}
 use Rattle.frame_network.specs.Queues.{AreRising, at_time, first_time, landing_of}
 use Rattle.frame_network.specs.declared.landings.Landing.{Landing}
-use Rattle.frame_ways.proofs.LandLemmas.{refused_from, taken_all}
+use Rattle.frame_ways.proofs.LandLemmas.{below_from, refused_from, taken_all, under_next, with_one}
 use Rattle.frame_ways.specs.Listed.{AreFrom}
 use Rattle.delay_exchange.specs.measured_traffic.specs.Doings.{Doings, told_in, with_begins}
 use Rattle.delay_exchange.specs.measured_traffic.specs.Replayed.{doings_at}
 use Rattle.delay_exchange.specs.schedule_laws.proofs.ListLemmas.{in_all}
-use Rattle.measured_moments.specs.Begins.{HasBegun, HaveBegun, MeasuresWait, begins_among, begins_of, measure_at, waiting_at}
+use Rattle.measured_moments.specs.Begins.{HasBegun, HaveBegun, MeasuresWait, begins_among, begins_of, measure_at, begins_waiting}
 use Rattle.measured_moments.specs.Times.{begin_then}
 use Rattle.measured_moments.specs.declared.meters.Meters.{Meters}
 use Rattle.measured_moments.proofs.TimeLemmas.{measure_is}
@@ -49,28 +51,17 @@ begins_more d side x bs cs =
 
 -- ---- what waits once the first one was taken
 
-equal_at : (x : ℤ) → int_eq x x ≡ true
-equal_at x = (Decides-int_eq x x).1 refl
-
-not_equal : (x t : ℤ) (b : Bool) → (x +ℤ pos 1) ≤ℤ t → int_eq x t ≡ b → b ≡ false
-not_equal x t true low e = let same = (Decides-int_eq x t).0 e in absurd (omega (arith, ints, low, same))
-not_equal x t false low e = refl
-
--- one more in front
-abbrev with_one : Bool → Landing → List Landing → List Landing
-with_one b l q = if b then l ∷ q else q
-
 taken_here : (ms : List Measure) (tick : Ticks) (k : ℕ) (before now : List Landing) → before ≡ landing_of tick k ∷ now
     → begins_among ms before tick.0 ≡ measure_at ms (landing_of tick k) ++ begins_among ms now tick.0
 taken_here ms tick k before now is =
     ap (λ (q : List Landing). begins_among ms q tick.0) is
-    ∙ ap (λ (b : Bool). flat_map (measure_at ms) (with_one b (landing_of tick k) (at_time tick.0 now))) (equal_at tick.0)
+    ∙ ap (λ (b : Bool). flat_map (measure_at ms) (with_one b (landing_of tick k) (at_time tick.0 now))) (is_same tick.0 tick.0 refl)
 
 taken_later : (ms : List Measure) (tick : Ticks) (k : ℕ) (before now : List Landing) (t : ℤ) → before ≡ landing_of tick k ∷ now → (tick.0 +ℤ pos 1) ≤ℤ t
     → begins_among ms now t ≡ begins_among ms before t
 taken_later ms tick k before now t is low =
     sym (ap (λ (q : List Landing). begins_among ms q t) is
-    ∙ ap (λ (b : Bool). flat_map (measure_at ms) (with_one b (landing_of tick k) (at_time t now))) (not_equal tick.0 t (int_eq tick.0 t) low refl))
+    ∙ ap (λ (b : Bool). flat_map (measure_at ms) (with_one b (landing_of tick k) (at_time t now))) (int_below tick.0 t (beyond_next tick.0 t low)))
 
 -- ---- the measurements of a tick so far
 
@@ -79,10 +70,10 @@ pub record IsBeginning {C D : Type 0} (ru_pre : C → Edge → Type 0) (ru_post 
     (d : Document) (tick : ℤ) (m : Meters C D) : Type 0 where
   pub read : IsDocument d
   pub measures : m.measures.now ≡ d.measures
-  pub later : (t : ℤ) → (tick +ℤ pos 1) ≤ℤ t → waiting_at m t ≡ due t (map begin_of d.measures)
+  pub later : (t : ℤ) → (tick +ℤ pos 1) ≤ℤ t → begins_waiting m t ≡ due t (map begin_of d.measures)
   pub list : AreFrom tick m.waiting
   pub gone : List Begin
-  pub parts : due tick (map begin_of d.measures) ≡ gone ++ waiting_at m tick
+  pub parts : due tick (map begin_of d.measures) ≡ gone ++ begins_waiting m tick
   pub ru : HasDoings ru_pre ru_post d Ru (with_begins (compensation_of d Ru) (doings_at d Ru tick) (begins_of Ru gone)) m.ru
   pub du : HasDoings du_pre du_post d Du (with_begins (compensation_of d Du) (doings_at d Du tick) (begins_of Du gone)) m.du
 
@@ -93,16 +84,13 @@ module _ {C D : Type 0} (cp : C → Edge → Type 0) (cq : C → Edge → ℤ �
       record {
         read = w.read;
         measures = w.measures;
-        later = λ t low. w.begins t (at_least tick t low);
+        later = λ t low. w.begins t (above_next tick t low);
         list = w.list;
         gone = [];
         parts = sym (w.begins tick (≤ℤ_refl tick));
         ru = h.ru;
         du = h.du;
       }
-    where
-      at_least : (a b : ℤ) → (a +ℤ pos 1) ≤ℤ b → a ≤ℤ b
-      at_least a b low = omega (arith, ints, low)
 
   module _ (d : Document) (tick : Ticks) (k : ℕ) (old : Meters C D) (rest : List Landing) (so_far : IsBeginning cp cq dp dq d tick.0 old) (took : old.waiting ≡ landing_of tick k ∷ rest) where
     abbrev ms : List Measure
@@ -169,19 +157,12 @@ module _ {C D : Type 0} (cp : C → Edge → Type 0) (cq : C → Edge → ℤ �
           du = subst (HasDoings dp dq d Du (with_begins (compensation_of d Du) (doings_at d Du tick.0) (begins_of Du so_far.gone))) (sym du) so_far.du;
         }
 
-  under_next : (t : ℤ) → t <ℤ (t +ℤ pos 1)
-  under_next t = omega (arith, ints)
-
-  below_from : (t from : ℤ) (q : List Landing) → t <ℤ from → AreFrom from q → AllByRecursion (λ m. t <ℤ m.at.0) q
-  below_from t from [] lt h = tt
-  below_from t from (l ∷ q) lt h = (<ℤ-≤ℤ_trans lt h.0, below_from t from q lt h.1)
-
   -- none of the tick is left
   pub all_begun : (d : Document) (tick : Ticks) (old new : Meters C D) → IsBeginning cp cq dp dq d tick.0 old → new.waiting ≡ old.waiting → new.measures.now ≡ old.measures.now
       → new.ru ≡ old.ru → new.du ≡ old.du → AreRising new.waiting → first_time old.waiting ≢ Some tick → HaveBegun cp cq dp dq d tick.0 new
   all_begun d tick old new so_far waiting measures ru du rising other =
       let from = refused_from tick old.waiting so_far.list (subst AreRising waiting rising) other in
-      let none : waiting_at old tick.0 ≡ [] = ap (flat_map (measure_at old.measures.now)) (none_below tick.0 old.waiting (below_from tick.0 (tick.0 +ℤ pos 1) old.waiting (under_next tick.0) from)) in
+      let none : begins_waiting old tick.0 ≡ [] = ap (flat_map (measure_at old.measures.now)) (none_below tick.0 old.waiting (below_from tick.0 (tick.0 +ℤ pos 1) old.waiting (under_next tick.0) from)) in
       let all : so_far.gone ≡ due tick.0 (map begin_of d.measures) = sym (so_far.parts ∙ ap (λ (bs : List Begin). so_far.gone ++ bs) none ∙ append-nil so_far.gone) in
       record {
         waits = record {

@@ -1,5 +1,5 @@
 -- Nothing lands at either unit before time 0, as a meter asks of what it is told.
-use Rattle.std.proofs.Common.{◌≡◌, ℕ, ℤ, pos, neg_ℤ, ◌+◌, ◌*◌, ◌+ℤ◌, ◌-ℤ◌, ◌≤ℤ◌, ◌<ℤ◌, min, inl, inr, Bool, true, false, List, [], ◌∷◌, ◌++◌, refl, ap, sym, ◌∙◌, subst, arith}
+use Rattle.std.proofs.Common.{◌≡◌, ℕ, ℤ, pos, neg_ℤ, ◌+◌, ◌*◌, ◌+ℤ◌, ◌-ℤ◌, ◌≤ℤ◌, ◌<ℤ◌, min, inl, inr, List, [], ◌∷◌, ◌++◌, refl, ap, sym, ◌∙◌, subst, arith}
 use Rattle.std.specs.Prelude.{All, filter, map}
 use Rattle.std.specs.Int.{int_gap}
 use Rattle.std.specs.List.{flat_map}
@@ -33,7 +33,7 @@ use Rattle.delay_exchange.specs.frame_deliveries.proofs.Within.{copies_within}
 use Rattle.delay_exchange.specs.frame_deliveries.specs.Copies.{copies_of}
 use Rattle.delay_exchange.specs.measured_traffic.specs.Measured.{delay_messages, exchanges, flights_then, others_of, tick_count}
 use Rattle.delay_exchange.specs.measured_traffic.specs.Replayed.{all_leaving, landings_for, leaving_flight, leaving_from, leaving_then}
-use Rattle.delay_exchange.specs.plan_model.specs.Departures.{departures_of, sending_window, sent_at, start_of}
+use Rattle.delay_exchange.specs.plan_model.specs.Departures.{departures_of, sending_window, sent_at, start_of_part}
 use Rattle.delay_exchange.specs.plan_model.specs.Lines.{planned}
 use Rattle.delay_exchange.specs.plan_model.specs.Packs.{Numbered}
 use Rattle.delay_exchange.specs.plan_model.specs.Sent.{SentFrame, sent}
@@ -55,6 +55,7 @@ use Rattle.delay_exchange.specs.uplink_model.specs.Frames.{Antenna, frames_behin
 use Rattle.delay_exchange.specs.uplink_turns.proofs.HandedLemmas.{handed_go_on_from, handed_leave_from}
 use Rattle.delay_exchange.specs.uplink_turns.proofs.JobLemmas.{jobs_of_nothing, jobs_settled}
 use Rattle.delay_exchange.specs.uplink_turns.specs.Turns.{handed_between, jobs_until}
+use Rattle.window_config.proofs.TickLemmas.{positive}
 use Rattle.window_config.specs.Configs.{IsConfig}
 use Rattle.window_config.specs.Plans.{IsPlanLine}
 use Rattle.window_config.specs.Windows.{ticks_of_ns}
@@ -64,11 +65,13 @@ use Rattle.window_config.specs.declared.plan.PlanLine.{PlanLine}
 use Rattle.delay_exchange.specs.plan_model.proofs.ListLemmas.{in_either, of_filter, all_of}
 use Rattle.delay_exchange.specs.document_traffic.proofs.TimeLemmas.{from_is}
 use Rattle.delay_exchange.specs.measured_traffic.proofs.FlightLemmas.{none_at}
+use Rattle.fh_time.specs.declared.frames.TheConstants.{FRAME}
+use Rattle.delay_exchange.specs.fh_document.specs.declared.config_lines.TheConstants.{MOST_TRANSIT}
 
 -- ---- the frames of a plan leave later than time 0
 
 -- a window begins at most 4 ms before its symbol, which starts 10 ms after time 0 at least
-leaves_late : (s most : ℤ) (wait : ℕ) → pos 15360000000 ≤ℤ s → most ≤ℤ pos 4000000 → pos 0 ≤ℤ ((s +ℤ neg_ℤ (ticks_of_ns most)) +ℤ pos wait)
+leaves_late : (s most : ℤ) (wait : ℕ) → FRAME ≤ℤ s → most ≤ℤ pos 4000000 → pos 0 ≤ℤ ((s +ℤ neg_ℤ (ticks_of_ns most)) +ℤ pos wait)
 leaves_late s most wait low few = omega (arith, ints)
 
 module _ (c : Config) (lines : List PlanLine) (config : IsConfig c) (fit : All IsPlanLine lines) (valid : IsValid c lines) where
@@ -83,8 +86,8 @@ module _ (c : Config) (lines : List PlanLine) (config : IsConfig c) (fit : All I
       let window = sending_window c.delays stream in
       let most = most_before c lines config fit valid stream s in
       let d = departures_of c stream in
-      subst (λ (from : ℤ). pos 0 ≤ℤ ((start_of x +ℤ from) +ℤ pos (min ((n.before + sub) * d.gap) d.spread))) (sym (from_is c.delays stream s))
-      (leaves_late (start_of x) window.max (min ((n.before + sub) * d.gap) d.spread) time.0 most.1)
+      subst (λ (from : ℤ). pos 0 ≤ℤ ((start_of_part x +ℤ from) +ℤ pos (min ((n.before + sub) * d.gap) d.spread))) (sym (from_is c.delays stream s))
+      (leaves_late (start_of_part x) window.max (min ((n.before + sub) * d.gap) d.spread) time.0 most.1)
 
   frame_late : (f : SentFrame) → IsIn f (sent c (planned c.endpoints lines)) → pos 0 ≤ℤ f.at
   frame_late f m =
@@ -99,18 +102,11 @@ down_late d doc f m =
 
 -- ---- so do the frames of delay measurement
 
-apart : (a t : ℤ) (b : Bool) → (a ≡ t → ⊥) → int_eq a t ≡ b → b ≡ false
-apart a t true other e = absurd (other ((Decides-int_eq a t).0 e))
-apart a t false other e = refl
-
 not_before : (t at : ℤ) → t <ℤ pos 0 → pos 0 ≤ℤ at → at ≡ t → ⊥
 not_before t at lt low e = omega (arith, ints, lt, low, e)
 
 none_before : (t : ℤ) (arrivals : List Arrival) → t <ℤ pos 0 → ((a : Arrival) → IsIn a arrivals → pos 0 ≤ℤ a.at) → landing_at arrivals t ≡ []
 none_before t arrivals lt late = none_at t arrivals (all_of (λ (a : Arrival). a.at ≡ t → ⊥) arrivals (λ a m. not_before t a.at lt (late a m)))
-
-positive : (ns : ℤ) → pos 0 ≤ℤ ns → pos 0 ≤ℤ ticks_of_ns ns
-positive ns low = omega (arith, ints, low)
 
 weak : (ns : ℤ) (least : ℕ) → pos least ≤ℤ ns → pos 0 ≤ℤ ns
 weak ns least low = omega (arith, ints, low)
@@ -134,7 +130,7 @@ module _ (d : Document) (is : IsDocument d) where
   ways_late : (side : Side) (k : ℕ) → All (λ t. pos 0 ≤ℤ t) (ways_of d side k)
   ways_late side k =
       All-map (λ (t : ℤ). pos 0 ≤ℤ t) ticks_of_ns (copies_of d side M k)
-      (All-weaker (IsFrom 1 3000000000) (λ (ns : ℤ). pos 0 ≤ℤ ticks_of_ns ns) (λ ns time. positive ns (weak ns 1 time.low)) (copies_of d side M k) (copies_within d is.transits is.deliveries side M k))
+      (All-weaker (IsFrom 1 MOST_TRANSIT) (λ (ns : ℤ). pos 0 ≤ℤ ticks_of_ns ns) (λ ns time. positive ns (weak ns 1 time.low)) (copies_of d side M k) (copies_within d is.transits is.deliveries side M k))
 
   none_early : (side : Side) (t : ℤ) → t <ℤ pos 0 → others_of d side t ≡ []
   none_early side t before =
@@ -187,7 +183,7 @@ module _ (d : Document) (is : IsDocument d) where
         let w = delayed_is d side none_sent fs x m in
         let class = x.frame.class in
         let ns = of_map (copy_at x.frame) a x.delays i in
-        let within = in_all (IsFrom (least_of class) 3000000000) ns.0 (copies_of d side class w.number) (copies_within d is.transits is.deliveries side class w.number)
+        let within = in_all (IsFrom (least_of class) MOST_TRANSIT) ns.0 (copies_of d side class w.number) (copies_within d is.transits is.deliveries side class w.number)
         (subst (λ (delays : List ℤ). IsIn ns.0 delays) w.delays_are ns.1) in
         subst (λ (b : Arrival). pos 0 ≤ℤ b.at) (sym ns.2) (sum_late x.frame.at (ticks_of_ns ns.0) (late x.frame w.there) (positive ns.0 (weak ns.0 (least_of class) within.low)))
 

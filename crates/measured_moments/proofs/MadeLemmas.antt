@@ -3,7 +3,7 @@ use Rattle.std.proofs.Common.{◌≡◌, ℕ, ◌<◌, ℤ, List, [], ◌∷◌,
 use Rattle.std.specs.Prelude.{map}
 use Rattle.air_source.specs.declared.events.Side.{Side}
 use Rattle.delay_exchange.specs.Meters.{HasDoings}
-use Rattle.delay_exchange.specs.Outcomes.{frames_of}
+use Rattle.delay_exchange.specs.Outcomes.{made_frames}
 use Rattle.delay_exchange.specs.declared.unit.UnitMeter.{UnitMeter}
 use Rattle.delay_exchange.specs.delay_laws.specs.Nodes.{other}
 use Rattle.delay_measure.specs.declared.edge.Edge.{Edge}
@@ -16,7 +16,7 @@ use Rattle.measured_moments.specs.Made.{HasStillToSend}
 
 -- how many frames a unit made that were not taken
 abbrev pub frames_made : {C : Type 0} → UnitMeter C → ℕ
-frames_made u = length (frames_of u.outcome)
+frames_made u = length (made_frames u.outcome)
 
 -- a unit has this
 pub record HasSome {C : Type 0} (pre : C → Edge → Type 0) (post : C → Edge → ℤ → Type 0) (u : UnitMeter C) : Type 0 where

@@ -1,5 +1,5 @@
 -- The measurements of a document, as they wait for their times.
-use Rattle.std.proofs.Common.{◌≡◌, ℕ, suc, ℤ, ◌≤ℤ◌, ◌+◌, ◌≤◌, Some, Option, Bool, true, false, List, [], ◌∷◌, ◌++◌, take, refl, sym, ap, ap₂, ◌∙◌, subst, arith}
+use Rattle.std.proofs.Common.{◌≡◌, ℕ, suc, ℤ, ◌≤ℤ◌, ◌+◌, Some, Option, Bool, true, false, List, [], ◌∷◌, ◌++◌, take, refl, sym, ap, ap₂, ◌∙◌, subst, arith}
 use Rattle.std.specs.Prelude.{All, map, slice_get, if◌then◌else◌}
 use Rattle.std.specs.List.{flat_map}
 use Rattle.std.specs.Option.{option_to_list}
@@ -15,6 +15,7 @@ use Rattle.delay_exchange.specs.fh_document.specs.declared.document.Measure.{Mea
 use Rattle.fh_time.specs.declared.values.Ticks.{Ticks}
 use Rattle.frame_network.specs.declared.landings.Landing.{Landing}
 use Rattle.frame_network.specs.Queues.{IsPlaced, at_time, enumerated, enumerated_from, landing_of}
+use Rattle.frame_ways.proofs.ListLemmas.{all_from}
 use Rattle.frame_ways.specs.Listed.{AreFrom}
 use Rattle.delay_exchange.specs.unit_model.specs.Radiated.{first_clock}
 use Rattle.measured_moments.specs.Begins.{begins_among, measure_at}
@@ -68,13 +69,6 @@ times_from : (ms : List Measure) → All IsMeasure ms → All (λ (t : Ticks). f
 times_from [] h = All-nil (λ (t : Ticks). first_clock ≤ℤ t.0)
 times_from (m ∷ ms) h =
     All-cons (λ (t : Ticks). first_clock ≤ℤ t.0) (begin_time m) (map begin_time ms) (is_begun m (All-head IsMeasure m ms h)) (times_from ms (All-tail IsMeasure m ms h))
-
-placed_from : (times : List Ticks) (l : Landing) → All (λ (t : Ticks). first_clock ≤ℤ t.0) times → IsPlaced times l → first_clock ≤ℤ l.at.0
-placed_from times l h p = subst (λ (t : Ticks). first_clock ≤ℤ t.0) (get_or_from_slice_get times l.index l.at l.at p.is) (h l.index l.at p.within)
-
-all_from : (times : List Ticks) (q : List Landing) → All (λ (t : Ticks). first_clock ≤ℤ t.0) times → All (IsPlaced times) q → AreFrom first_clock q
-all_from times [] h p = tt
-all_from times (l ∷ q) h p = (placed_from times l h (All-head (IsPlaced times) l q p), all_from times q h (All-tail (IsPlaced times) l q p))
 
 pub waiting_from : (ms : List Measure) (times : List Ticks) (q : List Landing) → times ≡ map begin_time ms → All IsMeasure ms → All (IsPlaced times) q → AreFrom first_clock q
 waiting_from ms times q are in_time placed = all_from times q (subst (All (λ (t : Ticks). first_clock ≤ℤ t.0)) (sym are) (times_from ms in_time)) placed

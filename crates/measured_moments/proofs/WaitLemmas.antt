@@ -18,9 +18,10 @@ use Rattle.delay_exchange.specs.measured_traffic.specs.Doings.{Doings}
 use Rattle.delay_exchange.specs.measured_traffic.specs.Replayed.{begins_at}
 use Rattle.delay_exchange.specs.measured_traffic.specs.Turns.{IsQuietBetween}
 use Rattle.delay_exchange.specs.unit_model.specs.Radiated.{first_clock}
-use Rattle.delay_exchange.specs.replay_events.specs.history_laws.proofs.TickLemmas.{at_most, last_reached}
-use Rattle.measured_moments.specs.Begins.{AwaitBegins, BeginNoneTo, MeasuresWait, measure_at, waiting_at}
+use Rattle.delay_exchange.specs.replay_events.specs.history_laws.proofs.TickLemmas.{last_reached, next_after}
+use Rattle.measured_moments.specs.Begins.{AwaitBegins, BeginNoneTo, MeasuresWait, measure_at, begins_waiting}
 use Rattle.measured_moments.specs.declared.meters.Meters.{Meters}
+use Rattle.fh_time.proofs.Orders.{at_most}
 
 -- ---- before the next measurement
 
@@ -30,15 +31,12 @@ over_last t tick h = omega (arith, ints, h)
 module _ {C D : Type 0} where
   -- before a tick none begins
   pub begin_before : (d : Document) (now to : ℤ) (m : Meters C D) → AwaitBegins d now m → to <ℤ now → BeginNoneTo m to
-  begin_before d now to m waits early = from_less (to +ℤ pos 1) now m.waiting (next to now early) waits.list
-    where
-      next : (a b : ℤ) → a <ℤ b → (a +ℤ pos 1) ≤ℤ b
-      next a b h = omega (arith, ints, h)
+  begin_before d now to m waits early = from_less (to +ℤ pos 1) now m.waiting (next_after to now early) waits.list
 
   -- where none begins before a tick, none of the document does
   pub none_begins : (d : Document) (now tick : ℤ) (m : Meters C D) → AwaitBegins d now m → BeginNoneTo m (tick -ℤ pos 1) → (side : Side) (t : ℤ) → now ≤ℤ t → t <ℤ tick → begins_at d side t ≡ []
   none_begins d now tick m waits none side t low high =
-      let empty : waiting_at m t ≡ [] = ap (flat_map (measure_at m.measures.now)) (none_below t m.waiting (below_from t ((tick -ℤ pos 1) +ℤ pos 1) m.waiting (over_last t tick high) none)) in
+      let empty : begins_waiting m t ≡ [] = ap (flat_map (measure_at m.measures.now)) (none_below t m.waiting (below_from t ((tick -ℤ pos 1) +ℤ pos 1) m.waiting (over_last t tick high) none)) in
       ap (filter (λ (b : Begin). is_side side b.side)) (sym (waits.begins t low) ∙ empty)
 
   -- so they still wait at the tick

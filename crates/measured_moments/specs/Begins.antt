@@ -33,8 +33,8 @@ measure_at measures l = map begin_of (option_to_list (slice_get measures l.index
 abbrev pub begins_among : List Measure → List Landing → ℤ → List Begin
 begins_among measures waiting tick = flat_map (measure_at measures) (at_time tick waiting)
 
-abbrev pub waiting_at : {C D : Type 0} → Meters C D → ℤ → List Begin
-waiting_at m tick = begins_among m.measures.now m.waiting tick
+abbrev pub begins_waiting : {C D : Type 0} → Meters C D → ℤ → List Begin
+begins_waiting m tick = begins_among m.measures.now m.waiting tick
 
 -- none begins up to a time
 abbrev pub BeginNoneTo : {C D : Type 0} → Meters C D → ℤ → Type 0
@@ -44,7 +44,7 @@ BeginNoneTo m to = AreFrom (to +ℤ pos 1) m.waiting
 pub record AwaitBegins {C D : Type 0} (d : Document) (now : ℤ) (m : Meters C D) : Type 0 where
   pub read : IsDocument d
   pub measures : m.measures.now ≡ d.measures
-  pub begins : (tick : ℤ) → now ≤ℤ tick → waiting_at m tick ≡ due tick (map begin_of d.measures)
+  pub begins : (tick : ℤ) → now ≤ℤ tick → begins_waiting m tick ≡ due tick (map begin_of d.measures)
   pub list : AreFrom now m.waiting
 
 -- at the start of a tick

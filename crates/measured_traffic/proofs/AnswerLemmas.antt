@@ -13,8 +13,8 @@ use Rattle.uplink_turns.specs.schedule_laws.proofs.ListLemmas.{at_in, in_all, of
 use Rattle.uplink_turns.specs.unit_model.specs.Proper.{IsAt}
 use Rattle.uplink_turns.specs.unit_model.specs.ProperJobs.{IsProperJob}
 use Rattle.uplink_turns.specs.unit_model.specs.declared.jobs.UplinkJob.{UplinkJob}
-use Rattle.uplink_turns.specs.uplink_model.specs.Frames.{Antenna, frame_of, frames_behind, frames_from, message_frames}
-use Rattle.uplink_turns.specs.uplink_model.specs.Messages.{frame_count, frames_before, job_fields, messages_behind, messages_of, number_behind, takes_job}
+use Rattle.uplink_turns.specs.uplink_model.specs.Frames.{Antenna, uplink_frame_of, frames_behind, uplink_frames_from, uplink_message_frames}
+use Rattle.uplink_turns.specs.uplink_model.specs.Messages.{frame_count, uplink_frames_before, job_fields, messages_behind, uplink_messages_of, number_behind, takes_job}
 use Rattle.document_delays.specs.window_config.specs.Endpoints.{IsEndpoint}
 use Rattle.document_delays.specs.window_config.specs.declared.config.Config.{Config}
 use Rattle.document_delays.specs.window_config.specs.declared.endpoints.EndpointConfig.{EndpointConfig}
@@ -69,13 +69,13 @@ module _ (c : Config) where
       go true is n taken other = taken is n
       go false is n taken other = elim n [ inl e ↦ subst IsShort (sym e) short | inr t ↦ other t ]
 
-  all_short : (js : List UplinkJob) → All (λ (j : UplinkJob). IsShort (alone j)) js → (x : Message UplinkJob) → IsIn x (messages_of c js) → IsShort x
+  all_short : (js : List UplinkJob) → All (λ (j : UplinkJob). IsShort (alone j)) js → (x : Message UplinkJob) → IsIn x (uplink_messages_of c js) → IsShort x
   all_short [] each x i = absurd i
   all_short (j ∷ js) each x i =
       short_behind (alone j) js (All-tail (λ (k : UplinkJob). IsShort (alone k)) j js each) (All-head (λ (k : UplinkJob). IsShort (alone k)) j js each) x i
 
   -- of jobs that are proper
-  pub messages_short : All IsEndpoint c.endpoints → (to : _) (js : List UplinkJob) → All (IsProperJob c.endpoints to) js → (x : Message UplinkJob) → IsIn x (messages_of c js)
+  pub messages_short : All IsEndpoint c.endpoints → (to : _) (js : List UplinkJob) → All (IsProperJob c.endpoints to) js → (x : Message UplinkJob) → IsIn x (uplink_messages_of c js)
       → size_of (job_fields c.endpoints) x ≤ 16384
   messages_short each to js proper = all_short js (λ k j lt. section_short c.endpoints each to _ (proper k j lt))
 
@@ -91,12 +91,12 @@ pub record IsPiece (c : Config) (antenna : Antenna) (ms : List (Message UplinkJo
   pub before : ℕ
   pub sub : ℕ
   pub below : sub < frame_count c message
-  pub is : f ≡ frame_of c antenna endpoint message number before sub
+  pub is : f ≡ uplink_frame_of c antenna endpoint message number before sub
 
 pub piece_is : (c : Config) (antenna : Antenna) (earlier ms : List (Message UplinkJob)) (f : LinkFrame) → IsIn f (frames_behind c antenna earlier ms) → IsPiece c antenna ms f
-unfolding frames_behind message_frames
+unfolding frames_behind uplink_message_frames
 piece_is c antenna earlier [] f m = absurd m
-piece_is c antenna earlier (x ∷ ms) f m = elim (in_either f (message_frames c antenna earlier x) (frames_behind c antenna (x ∷ earlier) ms) m) [
+piece_is c antenna earlier (x ∷ ms) f m = elim (in_either f (uplink_message_frames c antenna earlier x) (frames_behind c antenna (x ∷ earlier) ms) m) [
   | inl here ↦ go (slice_get c.endpoints x.first.ep) refl here
   | inr later ↦
       (let w = piece_is c antenna (x ∷ earlier) ms f later in
@@ -104,13 +104,13 @@ piece_is c antenna earlier (x ∷ ms) f m = elim (in_either f (message_frames c 
 ]
   where
     go : (o : Option EndpointConfig) → slice_get c.endpoints x.first.ep ≡ o
-        → IsIn f (option_map_or (λ e. frames_from c antenna e x (number_behind x.first.ep earlier) (frames_before c x.first earlier) 0 (frame_count c x)) o [])
+        → IsIn f (option_map_or (λ e. uplink_frames_from c antenna e x (number_behind x.first.ep earlier) (uplink_frames_before c x.first earlier) 0 (frame_count c x)) o [])
         → IsPiece c antenna (x ∷ ms) f
     go None at i = absurd i
     go (Some e) at i =
         let number = number_behind x.first.ep earlier in
-        let before = frames_before c x.first earlier in
-        let w = of_each f 0 (frame_count c x) (λ k. frame_of c antenna e x number before k ∷ []) i in
+        let before = uplink_frames_before c x.first earlier in
+        let w = of_each f 0 (frame_count c x) (λ k. uplink_frame_of c antenna e x number before k ∷ []) i in
         record {
           message = x;
           there = inl refl;
@@ -120,5 +120,5 @@ piece_is c antenna earlier (x ∷ ms) f m = elim (in_either f (message_frames c 
           before = before;
           sub = w.0;
           below = small_is w.0 (frame_count c x) w.2;
-          is = the_one f (frame_of c antenna e x number before w.0) w.3;
+          is = the_one f (uplink_frame_of c antenna e x number before w.0) w.3;
         }

@@ -30,7 +30,6 @@ use Rattle.document_traffic.specs.replay_laws.specs.Delays.{IsAmong, IsResult}
 use Rattle.uplink_turns.specs.unit_model.proofs.SweepLaws.{gap_is, gap_parts}
 use Rattle.uplink_turns.specs.unit_model.specs.Meetings.{Arrival}
 use Rattle.uplink_turns.specs.unit_model.specs.Radiated.{first_clock}
-use Rattle.uplink_turns.specs.replay_events.specs.history_laws.proofs.TickLemmas.{within_next}
 use Rattle.uplink_turns.specs.replay_events.specs.history_laws.proofs.AddedLemmas.{in_front}
 use Rattle.measured_traffic.proofs.QuietLemmas as quiet
 use Rattle.measured_traffic.proofs.ReplayedLemmas.{landings_are_replayed}
@@ -42,6 +41,7 @@ use Rattle.measured_traffic.specs.Measured.{delay_messages, exchanges, tick_coun
 use Rattle.measured_traffic.specs.Replayed.{begun, doings_in, landings_for, results_at, traffic_of}
 use Rattle.measured_traffic.specs.Sides.{IsSideOf, known_as}
 use Rattle.measured_traffic.proofs.FlightLemmas.{none_at}
+use Rattle.fh_time.proofs.Orders.{within_next}
 
 -- ---- parts of lists
 

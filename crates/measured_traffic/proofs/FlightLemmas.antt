@@ -1,5 +1,5 @@
 -- When the copies of frames of delay measurement land.
-use Rattle.std.proofs.Common.{◌≡◌, ℕ, ℤ, pos, ◌^◌, ◌+ℤ◌, ◌*ℤ◌, ◌≤ℤ◌, ◌<ℤ◌, inl, inr, true, false, List, [], ◌∷◌, refl, ap, sym, ◌∙◌, subst, arith}
+use Rattle.std.proofs.Common.{◌≡◌, ℕ, ℤ, pos, ◌+ℤ◌, ◌*ℤ◌, ◌≤ℤ◌, ◌<ℤ◌, inl, inr, true, false, List, [], ◌∷◌, refl, ap, sym, ◌∙◌, subst, arith}
 use Rattle.std.specs.Prelude.{All, filter, map}
 use Rattle.std.specs.List.{flat_map}
 use Rattle.std.specs.Ordering.{int_eq}
@@ -31,6 +31,9 @@ use Rattle.document_delays.specs.window_config.specs.Windows.{ticks_of_ns}
 use Rattle.uplink_turns.specs.replay_events.specs.history_laws.proofs.ListLemmas.{front_empty, back_empty}
 use Rattle.uplink_turns.specs.plan_model.proofs.TickLemmas.{int_apart}
 use Rattle.measured_traffic.specs.Measured.{delay_messages, exchanges, others_of, tick_count}
+use Rattle.fh_time.specs.declared.nanoseconds.TheConstants.{LAST_TIME}
+use Rattle.document_delays.specs.fh_document.specs.declared.config_lines.TheConstants.{MOST_TRANSIT}
+use Rattle.fh_time.proofs.Orders.{lasts as later}
 
 -- ---- at a tick at which nothing lands no copy does
 
@@ -72,20 +75,17 @@ none_at t (a ∷ arrivals) differ =
 early : (ns t : ℤ) → pos 0 ≤ℤ ns → t <ℤ first_clock → ns *ℤ pos 1536 ≡ t → ⊥
 early ns t low before e = omega (arith, ints, low, before, e)
 
-late : (ns t : ℤ) → ns ≤ℤ pos (10 ^ 12) → ticks_of_ns (pos 1000000000000) <ℤ t → ns *ℤ pos 1536 ≡ t → ⊥
+late : (ns t : ℤ) → ns ≤ℤ pos LAST_TIME → ticks_of_ns (pos LAST_TIME) <ℤ t → ns *ℤ pos 1536 ≡ t → ⊥
 late ns t high behind e = omega (arith, ints, high, behind, e)
 
 positive : (ns : ℤ) → pos 1 ≤ℤ ns → pos 0 ≤ℤ ticks_of_ns ns
 positive ns low = omega (arith, ints, low)
 
-later : (a b c : ℤ) → a ≤ℤ b → pos 0 ≤ℤ c → a ≤ℤ (b +ℤ c)
-later a b c h k = omega (arith, ints, h, k)
-
 begun : (ns : ℤ) → pos 1000000 ≤ℤ ns → first_clock ≤ℤ ticks_of_ns ns
 begun ns low = omega (arith, ints, low)
 
 module _ (d : Document) (is : IsDocument d) where
-  no_others : (side : Side) (t : ℤ) → ((ns : ℤ) → IsFrom 0 (10 ^ 12) ns → ns *ℤ pos 1536 ≡ t → ⊥) → others_of d side t ≡ []
+  no_others : (side : Side) (t : ℤ) → ((ns : ℤ) → IsFrom 0 LAST_TIME ns → ns *ℤ pos 1536 ≡ t → ⊥) → others_of d side t ≡ []
   no_others side t differ =
       let injections = filter (is_to side) d.injections in
       ap (λ (arrivals : List Arrival). flat_map (λ (a : Arrival). delay_messages a.frame) arrivals)
@@ -104,7 +104,7 @@ module _ (d : Document) (is : IsDocument d) where
   ways_positive : (side : Side) (k : ℕ) → All (λ t. pos 0 ≤ℤ t) (ways_of d side k)
   ways_positive side k =
       All-map (λ (t : ℤ). pos 0 ≤ℤ t) ticks_of_ns (copies_of d side M k)
-      (All-weaker (IsFrom 1 3000000000) (λ (ns : ℤ). pos 0 ≤ℤ ticks_of_ns ns) (λ ns time. positive ns time.low) (copies_of d side M k) (copies_within d is.transits is.deliveries side M k))
+      (All-weaker (IsFrom 1 MOST_TRANSIT) (λ (ns : ℤ). pos 0 ≤ℤ ticks_of_ns ns) (λ ns time. positive ns time.low) (copies_of d side M k) (copies_within d is.transits is.deliveries side M k))
 
   others_begun : (side : Side) (t : ℤ) → All (λ m. IsHeard (came_heard side t m)) (others_of d side t)
   others_begun side t =

@@ -25,13 +25,14 @@ use Rattle.uplink_turns.specs.unit_model.specs.Meetings.{Ignored, meet, meetings
 use Rattle.uplink_turns.specs.unit_model.specs.Lists.{onto}
 use Rattle.measured_traffic.specs.Laws.{FramesAreCounted, FramesAreRead, FramesAreWritten, IsDelayMessage}
 use Rattle.measured_traffic.specs.Measured.{delay_frame, delays_of, has_only_delays, header_fields, payload_fields}
+use Rattle.ecpri_frames.specs.declared.heads.TheConstants.{ONE_WAY_DELAY}
 
 abbrev pub payload_of : DelayMessage → List ℕ
 payload_of m = in_bytes (payload_fields m)
 
 -- the message that the frame is
 abbrev pub told_as : DelayMessage → Message
-told_as m = record { place = 0; head = record { more = false; kind = 5; size = 20 }; payload = payload_of m }
+told_as m = record { place = 0; head = record { more = false; kind = ONE_WAY_DELAY; size = 20 }; payload = payload_of m }
 
 pub payload_long : (m : DelayMessage) → length (payload_of m) ≡ 20
 payload_long m = length-in_bytes 20 (payload_fields m) refl
@@ -48,7 +49,7 @@ spelled m =
     let more : eqb (field header 7 1) 1 ≡ false = ap (λ k. eqb k 1) fields.1.1.0 in
     let kind : field header 8 8 ≡ 5 = fields.1.1.1.0 in
     let size : field header 16 16 ≡ 20 = fields.1.1.1.1.0 in
-    let head : head_of header ≡ record { more = false; kind = 5; size = 20 } = rw (more, kind, size) refl in
+    let head : head_of header ≡ record { more = false; kind = ONE_WAY_DELAY; size = 20 } = rw (more, kind, size) refl in
     record {
       header = header;
       beyond = [];
@@ -114,7 +115,7 @@ twos_signed x h = elim (cases_lt x (2 ^ 63)) [
   | inr ge ↦ let high : ltb x (2 ^ 63) ≡ false = grind (arith, nat_tests) in twos_of (signed 64 x) x (rw high refl) h
 ]
 
-header_is : (header : List ℕ) → AreBytes header → WritesHead (record { more = false; kind = 5; size = 20 }) header → header ≡ in_bytes header_fields
+header_is : (header : List ℕ) → AreBytes header → WritesHead (record { more = false; kind = ONE_WAY_DELAY; size = 20 }) header → header ≡ in_bytes header_fields
 unfolding AreAt
 header_is header bytes w =
     let more : field header 7 1 ≡ 0 = bit_read (field header 7 1) false (field_fits header 7 1) (ap (λ (h : Head). h.more) w.reads) in

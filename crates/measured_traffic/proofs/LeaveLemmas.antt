@@ -35,7 +35,6 @@ use Rattle.document_traffic.specs.uplink_laws.specs.Premise.{frames_of}
 use Rattle.uplink_turns.specs.uplink_model.specs.Sent.{in_sent_order}
 use Rattle.uplink_turns.proofs.LeavingLemmas.{left_is_all}
 use Rattle.document_delays.specs.window_config.specs.Windows.{ticks_of_ns}
-use Rattle.uplink_turns.specs.replay_events.specs.history_laws.proofs.TickLemmas.{next_order, after_next, next_most}
 use Rattle.uplink_turns.specs.plan_model.proofs.ListLemmas.{in_either, of_filter, all_of}
 use Rattle.measured_traffic.proofs.FrameLemmas.{payload_long, payload_of}
 use Rattle.measured_traffic.proofs.ListLemmas.{at_key, none_then}
@@ -44,6 +43,8 @@ use Rattle.measured_traffic.proofs.SentLemmas.{messages_are_owed}
 use Rattle.measured_traffic.specs.Measured.{delay_frame, exchanges, flights_then, header_fields, tick_count}
 use Rattle.measured_traffic.specs.Replayed.{all_leaving, landings_for, leaving_flight, leaving_from, leaving_then}
 use Rattle.measured_traffic.specs.Turns.{AllAreShort, FirstLeaves, LeavingWaits, MeasuredLandLater, MeasuredLeave, UplinkLeavesInTurn}
+use Rattle.document_delays.specs.fh_document.specs.declared.config_lines.TheConstants.{MOST_TRANSIT}
+use Rattle.fh_time.proofs.Orders.{next_later as next_most, beyond_next as after_next, next_order}
 
 -- ---- tick by tick
 
@@ -132,11 +133,11 @@ lands_later at ns low = omega (arith, ints, low)
 pub measured_land_later : MeasuredLandLater
 measured_land_later d side n f is measured =
     let k = count_of f.class n in
-    let within : All (IsFrom (least_of M) 3000000000) (copies_of d side f.class k) =
-    subst (λ (class : Class3). All (IsFrom (least_of class) 3000000000) (copies_of d side f.class k)) measured
+    let within : All (IsFrom (least_of M) MOST_TRANSIT) (copies_of d side f.class k) =
+    subst (λ (class : Class3). All (IsFrom (least_of class) MOST_TRANSIT) (copies_of d side f.class k)) measured
     (copies_within d is.document.transits is.document.deliveries side f.class k) in
     All-map (λ a. (f.at +ℤ pos 1) ≤ℤ a.at) (copy_at f) (copies_of d side f.class k)
-    (All-weaker (IsFrom (least_of M) 3000000000) (λ (ns : ℤ). (f.at +ℤ pos 1) ≤ℤ (copy_at f ns).at) (λ ns time. lands_later f.at ns time.low) (copies_of d side f.class k) within)
+    (All-weaker (IsFrom (least_of M) MOST_TRANSIT) (λ (ns : ℤ). (f.at +ℤ pos 1) ≤ℤ (copy_at f ns).at) (λ ns time. lands_later f.at ns time.low) (copies_of d side f.class k) within)
 
 -- ---- the radio unit's frames
 

@@ -37,11 +37,10 @@ use Rattle.uplink_turns.specs.unit_model.specs.Uplink.{jobs}
 use Rattle.uplink_turns.specs.unit_model.specs.declared.allocations.Allocation.{Allocation}
 use Rattle.uplink_turns.specs.unit_model.specs.declared.decoded.ControlSection.{ControlSection}
 use Rattle.uplink_turns.specs.unit_model.specs.declared.decoded.UserSection.{UserSection}
-use Rattle.document_traffic.specs.uplink_laws.specs.Data.{AreDecodedOnce as AreAnswersDecodedOnce, IsDataSent as IsAnswerSent, blocks_of as answer_blocks_of, said_by}
-use Rattle.document_traffic.specs.uplink_laws.specs.Flows.{bounds_of as answer_bounds_of, flow_of as answer_flow_of, start_at}
+use Rattle.document_traffic.specs.uplink_laws.specs.Data.{AreUplinksDecodedOnce as AreAnswersDecodedOnce, IsUplinkDataSent as IsAnswerSent, antenna_blocks as answer_blocks_of, said_by}
+use Rattle.document_traffic.specs.uplink_laws.specs.Flows.{uplink_bounds_of as answer_bounds_of, uplink_flow_of as answer_flow_of, flow_start_at}
 use Rattle.document_traffic.specs.uplink_laws.specs.Jobs.{AreJobsOfPlan}
-use Rattle.document_traffic.specs.uplink_laws.specs.Lines.{uplink_of}
-use Rattle.document_traffic.specs.uplink_laws.specs.Singles.{event_of as taken_event_of}
+use Rattle.document_traffic.specs.uplink_laws.specs.Singles.{uplink_event_of as taken_event_of}
 use Rattle.document_traffic.specs.uplink_laws.specs.Whole.{AreTakenOnce, IsTakenOnce}
 use Rattle.uplink_turns.specs.uplink_model.specs.Frames.{Antenna}
 use Rattle.document_delays.specs.window_config.specs.declared.config.Config.{Config}
@@ -49,6 +48,7 @@ use Rattle.measured_traffic.proofs.SentLemmas.{measurement_rests}
 use Rattle.measured_traffic.specs.Laws.{LeaveTheSame}
 use Rattle.measured_traffic.specs.Once.{ScheduleRadiatesOnce, UplinkIsTakenInOnce}
 use Rattle.measured_traffic.specs.Replayed.{landings_for, traffic_of}
+use Rattle.uplink_turns.specs.plan_model.specs.Lines.{uplink_allocations}
 
 -- ---- what the radio unit makes of arrivals that leave it the same
 
@@ -73,7 +73,7 @@ module _ (c : Config) (ps : List PlannedLine) (these those : List Arrival) (same
 
   pub jobs_alike : AreJobsOfPlan c ps those → AreJobsOfPlan c ps these
   jobs_alike h = record {
-    accepted = subst (λ (claimed : List Allocation). IsPermutation (uplink_of ps) (filter is_sent_up claimed)) (sym same.accepted) h.accepted;
+    accepted = subst (λ (claimed : List Allocation). IsPermutation (uplink_allocations ps) (filter is_sent_up claimed)) (sym same.accepted) h.accepted;
     jobs_are = λ to. ap (λ (claimed : List Allocation). jobs c.endpoints claimed to) same.accepted ∙ h.jobs_are to;
   }
 
@@ -88,7 +88,7 @@ module _ (c : Config) (antenna : Antenna) (ps : List PlannedLine) (these those :
         apart = subst (λ (fs : List Fragment). AreApart b.hold b.fast b.slow (λ ep j. sent_at (answer_flow_of c antenna ps ep) j 0) num fs) (sym same.fragments) h.apart;
         wholes = subst (λ (fs : List Fragment). AreTheSent b (answer_flow_of c antenna ps) fs) (sym same.fragments) h.wholes;
         each = λ ep j lt.
-            subst (λ (fs : List Fragment). IsTakenOnce c (answer_flow_of c antenna ps ep) j (start_at c ps ep j) (of_message num ep j fs) (answers b.hold num ep j fs))
+            subst (λ (fs : List Fragment). IsTakenOnce c (answer_flow_of c antenna ps ep) j (flow_start_at c ps ep j) (of_message num ep j fs) (answers b.hold num ep j fs))
             (sym same.fragments) (h.each ep j lt);
       }
 
@@ -107,11 +107,11 @@ module _ (c : Config) (antenna : Antenna) (ps : List PlannedLine) (these those :
 told_alike : (side : Side) (d : Document) → told_for side d (traffic_of d) ≡ told_for side d (planned_traffic d)
 told_alike Ru d =
     cells_are_reported Ru d.config (traffic_of d)
-    ∙ (measurement_rests d Ru).reported (uplink_of (lines_of d)) end_of_time
+    ∙ (measurement_rests d Ru).reported (uplink_allocations (lines_of d)) end_of_time
     ∙ sym (cells_are_reported Ru d.config (planned_traffic d))
 told_alike Du d =
     cells_are_reported Du d.config (traffic_of d)
-    ∙ (measurement_rests d Du).reported (uplink_of (lines_of d)) end_of_time
+    ∙ (measurement_rests d Du).reported (uplink_allocations (lines_of d)) end_of_time
     ∙ sym (cells_are_reported Du d.config (planned_traffic d))
 
 once_alike : (side : Side) (d : Document) (event : AirCell) → filter (same_cell event) (told_for side d (planned_traffic d)) ≡ event ∷ []

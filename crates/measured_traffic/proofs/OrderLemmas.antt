@@ -24,6 +24,7 @@ use Rattle.document_delays.specs.window_config.specs.declared.config.Config.{Con
 use Rattle.uplink_turns.specs.plan_model.proofs.ListLemmas.{in_either}
 use Rattle.measured_traffic.proofs.ListLemmas.{ticks_within}
 use Rattle.measured_traffic.specs.Measured.{tick_count}
+use Rattle.fh_time.proofs.Orders.{frame_low_is as begun}
 
 -- ---- when the frames of the classes c and u leave
 
@@ -91,9 +92,6 @@ before_next first n t h = (h.0, (let lt = h.1 in omega (arith, ints, lt)))
 
 up_to_next : (first : ℤ) (n : ℕ) (t : ℤ) → (first ≤ℤ t) × (t ≤ℤ (first +ℤ pos n)) → (first ≤ℤ t) × (t <ℤ (first +ℤ pos (suc n)))
 up_to_next first n t h = (h.0, (let le = h.1 in omega (arith, ints, le)))
-
-begun : (first : ℤ) (n : ℕ) → first ≤ℤ (first +ℤ pos n)
-begun first n = omega (arith, ints)
 
 -- in the order of ticks, and within those that are gone over
 pub record AreInTicks (first : ℤ) (n : ℕ) (fs : List Flight) : Type 0 where

@@ -39,8 +39,8 @@ use Rattle.document_traffic.specs.sent_laws.proofs.Fragments.{piece_short}
 use Rattle.document_traffic.specs.sent_laws.proofs.SentRead.{command_short, in_size, low_byte}
 use Rattle.uplink_turns.specs.unit_model.specs.Proper.{IsAt}
 use Rattle.uplink_turns.specs.unit_model.specs.declared.jobs.UplinkJob.{UplinkJob}
-use Rattle.uplink_turns.specs.uplink_model.specs.Frames.{fragment_bytes as answer_bytes, fragment_field as answer_field, message_bytes as answer_message}
-use Rattle.uplink_turns.specs.uplink_model.specs.Messages.{job_fields, messages_of}
+use Rattle.uplink_turns.specs.uplink_model.specs.Frames.{uplink_fragment_bytes as answer_bytes, uplink_fragment_field as answer_field, uplink_message_bytes as answer_message}
+use Rattle.uplink_turns.specs.uplink_model.specs.Messages.{job_fields, uplink_messages_of}
 use Rattle.document_delays.specs.window_config.specs.declared.config.Config.{Config}
 use Rattle.document_delays.specs.window_config.specs.declared.endpoints.EndpointConfig.{EndpointConfig}
 use Rattle.uplink_turns.specs.plan_model.proofs.SizeLemmas.{few_pieces}
@@ -48,10 +48,11 @@ use Rattle.uplink_turns.specs.plan_model.proofs.ListLemmas.{all_of}
 use Rattle.document_traffic.proofs.ShortLemmas.{short_cut}
 use Rattle.measured_traffic.proofs.AnswerLemmas.{IsPiece, messages_short, piece_is}
 use Rattle.measured_traffic.specs.Measured.{delay_messages, delays_of, read_as}
+use Rattle.ecpri_frames.specs.declared.heads.TheConstants.{ONE_WAY_DELAY}
 
 -- ---- a frame of another type
 
-no_delays : (kind id : ℕ) (seq : SeqField) (application : List ℕ) → (kind == 5) ≡ false → IsTransport kind id seq (4 + length application) → delay_messages (frame_of kind id seq application) ≡ []
+no_delays : (kind id : ℕ) (seq : SeqField) (application : List ℕ) → (kind == ONE_WAY_DELAY) ≡ false → IsTransport kind id seq (4 + length application) → delay_messages (frame_of kind id seq application) ≡ []
 no_delays kind id seq application other t =
     let frame = frame_of kind id seq application in
     let one = frame_is_one kind id seq application t in
@@ -120,7 +121,7 @@ module _ (d : Document) (is : IsDocument d) (valid : IsValid d.config d.plan) (w
         size_fits = in_size (length piece) c.fragment (short_cut (length piece) from c.fragment size (length bytes) (length_cut from to bytes)) is.config.fragment_high;
       })
 
-  handed_plain : (f : LinkFrame) → IsPiece d.config (antenna_for d) (messages_of d.config (jobs_for d)) f → delay_messages f.frame ≡ []
+  handed_plain : (f : LinkFrame) → IsPiece d.config (antenna_for d) (uplink_messages_of d.config (jobs_for d)) f → delay_messages f.frame ≡ []
   handed_plain f p =
       let short = messages_short d.config is.config.endpoints.each last_start (jobs_for d) (jobs_proper d is valid) p.message p.there in
       subst (λ (g : LinkFrame). delay_messages g.frame ≡ []) (sym p.is)
@@ -130,7 +131,7 @@ module _ (d : Document) (is : IsDocument d) (valid : IsValid d.config d.plan) (w
   up_plain : (f : Leaving) → IsIn f (leaving_up d) → delay_messages f.frame ≡ []
   up_plain f m =
       let w = sent_is_handed d is valid f m in
-      subst (λ (g : Leaving). delay_messages g.frame ≡ []) (sym w.2) (handed_plain w.0 (piece_is d.config (antenna_for d) [] (messages_of d.config (jobs_for d)) w.0 w.1))
+      subst (λ (g : Leaving). delay_messages g.frame ≡ []) (sym w.2) (handed_plain w.0 (piece_is d.config (antenna_for d) [] (uplink_messages_of d.config (jobs_for d)) w.0 w.1))
 
   -- ---- of both
 

@@ -18,9 +18,9 @@ use Rattle.ecpri_frames.specs.Gathering.{whole_messages}
 use Rattle.ecpri_frames.specs.Messages.{Message}
 use Rattle.uplink_turns.specs.replay_events.specs.declared.results.DelayResult.{DelayResult}
 use Rattle.uplink_turns.specs.unit_model.specs.Meetings.{Arrival}
-use Rattle.measured_traffic.specs.Doings.{Doings, forgotten, known_by, told_in, with_begins, with_frame, with_frames, with_message, with_messages}
+use Rattle.measured_traffic.specs.Doings.{Doings, forgotten, results_known_by, told_in, with_begins, with_frame, with_frames, with_message, with_messages}
 use Rattle.measured_traffic.specs.Measured.{delay_frame, delay_messages, delays_of, is_delay, read_as}
-use Rattle.measured_traffic.specs.Sides.{FramesAreTold, IsSideOf, OneIsTold, OthersStay, ResultsAreKnown, heard_at, known_as}
+use Rattle.measured_traffic.specs.Sides.{SidesAreTold, IsSideOf, OneIsTold, OthersStay, ResultsAreKnown, heard_at, known_as}
 
 is_self : (side : Side) → is_side side side ≡ true
 is_self Ru = refl
@@ -76,7 +76,7 @@ rests : (w : Setting) (side : Side) (t : ℤ) (h : Hearing) (d e : Doings) → e
 rests w side t h d e told made results s =
     (same_side side h d e told made s, ap (map (known_as side t)) results ∙ sym (append-nil (map (known_as side t) d.results)))
 
-known_one : (side : Side) (id : ℕ) (t : ℤ) (x : Option ℤ) → map (known_as side t) (known_by id x) ≡ map (λ v. known_as side t (record { id = id; value = v })) (option_to_list x)
+known_one : (side : Side) (id : ℕ) (t : ℤ) (x : Option ℤ) → map (known_as side t) (results_known_by id x) ≡ map (λ v. known_as side t (record { id = id; value = v })) (option_to_list x)
 known_one side id t None = refl
 known_one side id t (Some v) = refl
 
@@ -86,7 +86,7 @@ takes w side t h d m s =
     let c = w.comps side in
     let delay : List Told → Option ℤ = λ told. delay_then c (exchange_after c.sending c.receiving told m.id) (comes t m) in (
       one_told w side h d (comes t m) s,
-      events_of side t d.results (known_by m.id (delay d.told))
+      events_of side t d.results (results_known_by m.id (delay d.told))
           ∙ ap (λ (xs : List Event). map (known_as side t) d.results ++ xs)
           (known_one side m.id t (delay d.told)
           ∙ ap (λ (told : List Told). map (λ v. known_as side t (record { id = m.id; value = v })) (option_to_list (delay told))) s.told
@@ -137,7 +137,7 @@ follows_all w side t h d (m ∷ ms) s =
 cleared : (side : Side) (h : Hearing) (d : Doings) → IsSideOf side h d → IsSideOf side h (forgotten d)
 cleared side h d s = record { told = s.told; made = s.made }
 
-pub frames_told : FramesAreTold
+pub frames_told : SidesAreTold
 frames_told w side h d t frame s = (follows_all w side t h (forgotten d) (whole_messages frame) (cleared side h d s)).0
 
 pub results_known : ResultsAreKnown

@@ -23,6 +23,8 @@ use Rattle.document_delays.specs.delay_measure.specs.declared.steps.MeterStep.{M
 use Rattle.document_delays.specs.delay_measure.specs.declared.steps.MeterStep.TheVariants.{Again, Unknown}
 use Rattle.uplink_turns.specs.unit_model.specs.Radiated.{first_clock}
 use Rattle.uplink_turns.specs.unit_model.specs.Times.{end_of_time}
+use Rattle.document_delays.specs.delay_measure.specs.declared.stamps.TheConstants.{MOST_COMPENSATION}
+use Rattle.fh_time.specs.declared.nanoseconds.TheConstants.{END_OF_TIME}
 
 -- ---- stamps
 
@@ -36,15 +38,15 @@ pub record AreStamps (c : Compensation) (t : ℤ) : Type 0 where
   pub sending : IsStamp (sending_stamp t c.sending)
   pub receiving : IsStamp (receiving_stamp t c.receiving)
 
-size_of_time : (t : ℤ) → first_clock ≤ℤ t → t ≤ℤ end_of_time → nat_abs t ≤ 1689600000000000
+size_of_time : (t : ℤ) → first_clock ≤ℤ t → t ≤ℤ end_of_time → nat_abs t ≤ END_OF_TIME
 size_of_time (pos n) low high = omega (arith, ints, high)
 size_of_time (negsuc n) low high = omega (arith, ints, low)
 
-size_of_comp : (c : ℤ) → pos 0 ≤ℤ c → c ≤ℤ pos 65536000000 → nat_abs c ≤ 65536000000
+size_of_comp : (c : ℤ) → pos 0 ≤ℤ c → c ≤ℤ pos MOST_COMPENSATION → nat_abs c ≤ MOST_COMPENSATION
 size_of_comp (pos n) low high = omega (arith, ints, high)
 size_of_comp (negsuc n) low high = absurd (omega (arith, ints, low))
 
-comp_fits : (c : ℤ) → pos 0 ≤ℤ c → c ≤ℤ pos 65536000000 → Within 64 c
+comp_fits : (c : ℤ) → pos 0 ≤ℤ c → c ≤ℤ pos MOST_COMPENSATION → Within 64 c
 comp_fits c low high = record { low = omega (arith, ints, low); high = omega (arith, ints, high) }
 
 few_ns : (units : ℕ) → units ≤ 216466134528000000 → units / 196608 ≤ 1101004000000
@@ -53,19 +55,19 @@ few_ns units few = omega (arith, few)
 few_seconds : (ns : ℕ) → ns ≤ 1101004000000 → ns / 1000000000 < 2 ^ 48
 few_seconds ns few = omega (arith, few)
 
-less_units : (t c : ℕ) → t ≤ 1689600000000000 → t * 128 - c * 3 ≤ 216466134528000000
+less_units : (t c : ℕ) → t ≤ END_OF_TIME → t * 128 - c * 3 ≤ 216466134528000000
 less_units t c few = omega (arith, few)
 
-more_units : (t c : ℕ) → t ≤ 1689600000000000 → c ≤ 65536000000 → t * 128 + c * 3 ≤ 216466134528000000
+more_units : (t c : ℕ) → t ≤ END_OF_TIME → c ≤ MOST_COMPENSATION → t * 128 + c * 3 ≤ 216466134528000000
 more_units t c few small = omega (arith, few, small)
 
-pub sending_fits : (t c : ℤ) → first_clock ≤ℤ t → t ≤ℤ end_of_time → pos 0 ≤ℤ c → c ≤ℤ pos 65536000000 → IsStamp (sending_stamp t c)
+pub sending_fits : (t c : ℤ) → first_clock ≤ℤ t → t ≤ℤ end_of_time → pos 0 ≤ℤ c → c ≤ℤ pos MOST_COMPENSATION → IsStamp (sending_stamp t c)
 sending_fits t c low high least most = record {
   seconds = few_seconds ((nat_abs t * 128 - nat_abs c * 3) / 196608) (few_ns (nat_abs t * 128 - nat_abs c * 3) (less_units (nat_abs t) (nat_abs c) (size_of_time t low high)));
   comp = comp_fits c least most;
 }
 
-pub receiving_fits : (t c : ℤ) → first_clock ≤ℤ t → t ≤ℤ end_of_time → pos 0 ≤ℤ c → c ≤ℤ pos 65536000000 → IsStamp (receiving_stamp t c)
+pub receiving_fits : (t c : ℤ) → first_clock ≤ℤ t → t ≤ℤ end_of_time → pos 0 ≤ℤ c → c ≤ℤ pos MOST_COMPENSATION → IsStamp (receiving_stamp t c)
 receiving_fits t c low high least most = record {
   seconds = few_seconds ((nat_abs t * 128 + nat_abs c * 3) / 196608)
       (few_ns (nat_abs t * 128 + nat_abs c * 3) (more_units (nat_abs t) (nat_abs c) (size_of_time t low high) (size_of_comp c least most)));

@@ -21,16 +21,16 @@ use Rattle.uplink_turns.specs.replay_events.specs.Moments.{end_of_time, landing_
 use Rattle.uplink_turns.specs.unit_model.proofs.SweepLaws.{gap_is, gap_none, gap_parts}
 use Rattle.uplink_turns.specs.unit_model.specs.Meetings.{Arrival}
 use Rattle.uplink_turns.specs.unit_model.specs.Radiated.{first_clock}
-use Rattle.uplink_turns.specs.replay_events.specs.history_laws.proofs.TickLemmas.{at_most}
 use Rattle.measured_traffic.proofs.DistinctLemmas.{documents_are_distinct}
 use Rattle.measured_traffic.proofs.LaunchLemmas.{launched_then}
 use Rattle.measured_traffic.proofs.MessageLemmas.{messages_land}
 use Rattle.measured_traffic.proofs.SideLemmas.{messages_of, tick_told}
 use Rattle.measured_traffic.specs.Doings.{Doings, nothing, taken, with_begins, with_frames}
 use Rattle.measured_traffic.specs.Measured.{delay_frame, exchanges, flights_then, others_of, tick_count}
-use Rattle.measured_traffic.specs.Replayed.{after_tick, begins_at, doings_at, doings_in, landings_for, leaving_flight, leaving_made, made_at, told_of}
+use Rattle.measured_traffic.specs.Replayed.{after_tick, begins_at, doings_at, doings_in, landings_for, leaving_flight, leaving_made, made_at, told_frames}
 use Rattle.measured_traffic.specs.Sides.{IsSideOf}
 use Rattle.measured_traffic.specs.Turns.{DoingsBegin, DoingsGoOn, DoingsWait, FlightsWait, IsQuietBetween, MadeLeave}
+use Rattle.fh_time.proofs.Orders.{at_most}
 
 -- what is known of a document before its ticks
 abbrev pub own : Document → Setting
@@ -46,7 +46,7 @@ pub doings_next : (d : Document) (side : Side) (n : ℕ) → doings_in d side (s
 unfolding doings_in
 doings_next d side n = refl
 
-pub after_is : (d : Document) (side : Side) (t : ℤ) (x : Doings) → after_tick d side t x ≡ taken [] (told_of d side t x (landing_at (landings_for side d) t))
+pub after_is : (d : Document) (side : Side) (t : ℤ) (x : Doings) → after_tick d side t x ≡ taken [] (told_frames d side t x (landing_at (landings_for side d) t))
 unfolding after_tick
 after_is d side t x = refl
 
@@ -69,12 +69,12 @@ doings_go_on d side t begun =
 -- ---- quiet ticks
 
 -- where nothing begins and nothing lands
-told_nothing : (d : Document) (side : Side) (t : ℤ) (x : Doings) (arrivals : List Arrival) → begins_at d side t ≡ [] → arrivals ≡ [] → told_of d side t x arrivals ≡ x
+told_nothing : (d : Document) (side : Side) (t : ℤ) (x : Doings) (arrivals : List Arrival) → begins_at d side t ≡ [] → arrivals ≡ [] → told_frames d side t x arrivals ≡ x
 told_nothing d side t x arrivals none calm =
     ap₂ (λ (bs : List Begin) (xs : List Arrival). with_frames (compensation_of d side) t (with_begins (compensation_of d side) x bs) xs) none calm
 
 quiet_tick : (d : Document) (side : Side) (t : ℤ) (x : Doings) → begins_at d side t ≡ [] → landing_at (landings_for side d) t ≡ [] → x.made ≡ []
-    → taken [] (told_of d side t x (landing_at (landings_for side d) t)) ≡ x
+    → taken [] (told_frames d side t x (landing_at (landings_for side d) t)) ≡ x
 quiet_tick d side t x none calm made =
     ap (taken []) (told_nothing d side t x (landing_at (landings_for side d) t) none calm)
     ∙ ap (λ (ms : List (List ℕ)). taken ms x) (sym made)
@@ -128,7 +128,7 @@ module _ (d : Document) (is : IsReplayable d) (told : ComesAsTold d) where
 
   -- within a tick, and at its start
   side_told : (side : Side) (n m : ℕ) → n + m ≡ tick_count → IsSideOf side (before (state (own d) first_clock n)) (doings_in d side n)
-      → IsSideOf side (hearing (own d) (first_clock +ℤ pos n) (state (own d) first_clock n)) (told_of d side (first_clock +ℤ pos n) (doings_in d side n) (landing_at (landings_for side d) (first_clock +ℤ pos n)))
+      → IsSideOf side (hearing (own d) (first_clock +ℤ pos n) (state (own d) first_clock n)) (told_frames d side (first_clock +ℤ pos n) (doings_in d side n) (landing_at (landings_for side d) (first_clock +ℤ pos n)))
   side_told side n m count here =
       let t : ℤ = first_clock +ℤ pos n in
       tick_told (own d) side t (state (own d) first_clock n) (doings_in d side n) (landing_at (landings_for side d) t) (comes_in side n m count) here
@@ -150,7 +150,7 @@ module _ (d : Document) (is : IsReplayable d) (told : ComesAsTold d) where
 
   leaves_in : (side : Side) (n m : ℕ) → n + suc m ≡ tick_count
       → map leaving_flight (flights_then ((exchanges d).sent (other side)) (first_clock +ℤ pos n))
-      ≡ map (leaving_made (first_clock +ℤ pos n)) (told_of d side (first_clock +ℤ pos n) (doings_in d side n) (landing_at (landings_for side d) (first_clock +ℤ pos n))).made
+      ≡ map (leaving_made (first_clock +ℤ pos n)) (told_frames d side (first_clock +ℤ pos n) (doings_in d side n) (landing_at (landings_for side d) (first_clock +ℤ pos n))).made
   leaves_in side n m count =
       let t : ℤ = first_clock +ℤ pos n in
       let h = hearing (own d) t (state (own d) first_clock n) in
@@ -170,7 +170,7 @@ module _ (d : Document) (is : IsReplayable d) (told : ComesAsTold d) where
   leaves_at side t low high =
       let n = int_gap first_clock t in
       let count = gap_parts first_clock t (end_of_time +ℤ pos 1) low (within_end t high) in
-      subst (λ (s : ℤ). map leaving_flight (flights_then ((exchanges d).sent (other side)) s) ≡ map (leaving_made s) (told_of d side s (doings_in d side n) (landing_at (landings_for side d) s)).made)
+      subst (λ (s : ℤ). map leaving_flight (flights_then ((exchanges d).sent (other side)) s) ≡ map (leaving_made s) (told_frames d side s (doings_in d side n) (landing_at (landings_for side d) s)).made)
       (gap_is first_clock t low) (leaves_in side n (int_gap (t +ℤ pos 1) (end_of_time +ℤ pos 1)) (sym count))
 
   before_end : (t tick : ℤ) → t <ℤ tick → tick ≤ℤ (end_of_time +ℤ pos 1) → t ≤ℤ end_of_time

@@ -23,8 +23,8 @@ abbrev pub delay_of_id : ℕ → ℤ → DelayResult
 delay_of_id id value = record { id = id; value = value }
 
 -- the delay of a measurement id that became known, if one did
-abbrev pub known_by : ℕ → Option ℤ → List DelayResult
-known_by id delay = map (delay_of_id id) (option_to_list delay)
+abbrev pub results_known_by : ℕ → Option ℤ → List DelayResult
+results_known_by id delay = map (delay_of_id id) (option_to_list delay)
 
 -- what is counted of a message by the meter's step: one that came again, whether its Response is sent again or not, one that fits no
 -- exchange, and a delay
@@ -67,7 +67,7 @@ abbrev pub told_in : Compensation → Doings → Told → Doings
 told_in c d one = record {
   told = one ∷ d.told;
   made = d.made ++ map delay_frame (sent_then c (states_of c d (id_of one)) one);
-  results = d.results ++ known_by (id_of one) (delay_then c (states_of c d (id_of one)) one);
+  results = d.results ++ results_known_by (id_of one) (delay_then c (states_of c d (id_of one)) one);
   counted = counted_then c (states_of c d (id_of one)) one ++ d.counted;
 }
 

@@ -24,6 +24,7 @@ use Rattle.document_traffic.specs.uplink_laws.specs.Premise.{jobs_of}
 use Rattle.document_delays.specs.window_config.specs.declared.config.Config.{Config}
 use Rattle.measured_traffic.specs.Measured.{delay_frame, delay_messages, exchanges, has_only_delays, others_of}
 use Rattle.measured_traffic.specs.Replayed.{landings_for}
+use Rattle.ecpri_frames.specs.declared.heads.TheConstants.{ONE_WAY_DELAY}
 
 -- ---- frames
 
@@ -39,7 +40,7 @@ pub record IsDelayMessage (m : DelayMessage) : Type 0 where
 abbrev pub FramesAreWritten : Type 0
 FramesAreWritten =
     (m : DelayMessage) (header payload : List ℕ) → AreBytes header → AreBytes payload
-    → WritesHead (record { more = false; kind = 5; size = 20 }) header → WritesMessage m payload → header ++ payload ≡ delay_frame m
+    → WritesHead (record { more = false; kind = ONE_WAY_DELAY; size = 20 }) header → WritesMessage m payload → header ++ payload ≡ delay_frame m
 
 -- of such a message the frame is read as it, and as nothing else
 abbrev pub FramesAreRead : Type 0

@@ -20,6 +20,7 @@ use Rattle.uplink_turns.specs.frame_bytes.specs.Spelled.{Field, in_bytes}
 use Rattle.uplink_turns.specs.replay_events.specs.Moments.{landing_at}
 use Rattle.uplink_turns.specs.unit_model.specs.Radiated.{first_clock}
 use Rattle.uplink_turns.specs.unit_model.specs.Times.{end_of_time}
+use Rattle.ecpri_frames.specs.declared.heads.TheConstants.{ONE_WAY_DELAY}
 
 -- ---- frames of delay measurement
 
@@ -37,7 +38,7 @@ delay_frame m = in_bytes header_fields ++ in_bytes (payload_fields m)
 
 -- eCPRI's type 5
 abbrev pub is_delay : Message → Bool
-is_delay m = m.head.kind == 5
+is_delay m = m.head.kind == ONE_WAY_DELAY
 
 -- what a payload of type 5 is read as, where it has its 20 bytes
 abbrev pub read_as : List ℕ → Option DelayMessage

@@ -18,9 +18,9 @@ use Rattle.uplink_turns.specs.replay_events.specs.declared.results.DelayResult.{
 use Rattle.uplink_turns.specs.unit_model.specs.Lists.{each_tick}
 use Rattle.uplink_turns.specs.unit_model.specs.Meetings.{Arrival}
 use Rattle.uplink_turns.specs.unit_model.specs.Radiated.{first_clock}
-use Rattle.document_traffic.specs.uplink_laws.specs.Lines.{uplink_of}
 use Rattle.measured_traffic.specs.Doings.{Doings, nothing, results_of, taken, with_begins, with_frames}
 use Rattle.measured_traffic.specs.Measured.{delay_frame, exchanges, flights_then}
+use Rattle.uplink_turns.specs.plan_model.specs.Lines.{uplink_allocations}
 
 -- ---- what leaves
 
@@ -61,12 +61,12 @@ begins_at d side t = filter (λ b. is_side side b.side) (due t (map begin_of d.m
 abbrev pub begun : Document → Side → ℤ → Doings → Doings
 begun d side t x = with_begins (compensation_of d side) x (begins_at d side t)
 
-abbrev pub told_of : Document → Side → ℤ → Doings → List Arrival → Doings
-told_of d side t x arrivals = with_frames (compensation_of d side) t (begun d side t x) arrivals
+abbrev pub told_frames : Document → Side → ℤ → Doings → List Arrival → Doings
+told_frames d side t x arrivals = with_frames (compensation_of d side) t (begun d side t x) arrivals
 
 -- at the end of a tick, when the frames that it made are sent
 unfoldable pub after_tick : Document → Side → ℤ → Doings → Doings
-after_tick d side t x = taken [] (told_of d side t x (landing_at (landings_for side d) t))
+after_tick d side t x = taken [] (told_frames d side t x (landing_at (landings_for side d) t))
 
 -- after so many ticks from the first clock on
 unfoldable pub doings_in : Document → Side → ℕ → Doings
@@ -79,7 +79,7 @@ doings_at d side t = doings_in d side (int_gap first_clock t)
 
 -- when all that lands at a tick has come, with the frames that it made in the tick
 abbrev pub made_at : Document → Side → ℤ → Doings
-made_at d side t = told_of d side t (doings_at d side t) (landing_at (landings_for side d) t)
+made_at d side t = told_frames d side t (doings_at d side t) (landing_at (landings_for side d) t)
 
 -- the results of the frames that land at a unit at a tick, frame by frame
 abbrev pub results_at : Document → Side → ℤ → List (List DelayResult)
@@ -90,7 +90,7 @@ results_at d side t = results_of (compensation_of d side) t (begun d side t (doi
 abbrev pub traffic_of : Document → Traffic
 traffic_of d = record {
   at_ru = landings_for Ru d;
-  planned = uplink_of (lines_of d);
+  planned = uplink_allocations (lines_of d);
   at_du = landings_for Du d;
   results = results_at d;
   counted = λ side. (doings_at d side (end_of_time +ℤ pos 1)).counted;

@@ -34,8 +34,8 @@ OneIsTold =
     → IsSideOf side h d → IsSideOf side (told_one w h (heard_at side one)) (told_in (w.comps side) d one)
 
 -- a unit that is told a frame goes on with its side, which is told each of its messages
-abbrev pub FramesAreTold : Type 0
-FramesAreTold =
+abbrev pub SidesAreTold : Type 0
+SidesAreTold =
     (w : Setting) (side : Side) (h : Hearing) (d : Doings) (t : ℤ) (frame : List ℕ)
     → IsSideOf side h d → IsSideOf side (told_all w h (heard_of side t frame)) (with_frame (w.comps side) t d frame)
 

@@ -7,7 +7,7 @@
 ghost use Rattle.measured_traffic.specs.Delays.{DelaysAreExact, DelaysAreMeasured, EventsAreExact, EventsAreMeasured};
 ghost use Rattle.measured_traffic.specs.Laws.{DocumentsAreDistinct, FramesAreCounted, FramesAreRead, FramesAreWritten, LandingsAreReplayed, MeasurementRests, MessagesAreOwed, MessagesLand, OnlyDelaysRest, UnmeasuredLandsTheSame};
 ghost use Rattle.measured_traffic.specs.Once.{ScheduleRadiatesOnce, UplinkIsTakenInOnce};
-ghost use Rattle.measured_traffic.specs.Sides.{FramesAreTold, OneIsTold, OthersStay, ResultsAreKnown};
+ghost use Rattle.measured_traffic.specs.Sides.{SidesAreTold, OneIsTold, OthersStay, ResultsAreKnown};
 ghost use Rattle.measured_traffic.specs.Turns.{AllAreShort, DoingsBegin, DoingsGoOn, DoingsWait, FirstLeaves, FlightsWait, LeavingWaits, MadeLeave, MeasuredLandLater, MeasuredLeave, UplinkLeavesInTurn};
 
 /// The frame of a message of delay measurement is what `put_head` and `put_delay` write and is read as it, and a unit counts it and makes
@@ -74,7 +74,7 @@ pub fn measured_documents_radiate_once()
 /// unit is told something. The delays of a frame are those that become known while its messages are told, in order.
 pub fn units_are_sides()
     ensures one { OneIsTold }
-    ensures frames { FramesAreTold }
+    ensures frames { SidesAreTold }
     ensures results { ResultsAreKnown }
     ensures others { OthersStay }
 {}

@@ -113,7 +113,7 @@ fn fill(ring: &mut SlotRing, symbol: u8, prb: u16, id: u16) {
 fn report(ring: &mut SlotRing, symbol: u8, count: u16) {
     let e = *ring.endpoint();
     if has(ring, LAST) && symbol < shape(&e.numerology).symbols && count <= e.prbs {
-        ring.mark_used(LAST, symbol, count);
+        ring.set_used_reported(LAST, symbol, count);
     }
 }
 
@@ -226,7 +226,7 @@ fn claims_of_a_slot(rt: HostRuntime) -> Result<(), Fail> {
         let wanted = Use {
             mask,
             section,
-            done: false,
+            reported: false,
         };
         assert_eq!(rt; cell(&ring, slot, symbol, prb), Some(wanted));
     }

@@ -17,6 +17,8 @@ use Rattle.pcap_frames.specs.Frames.{frame_before, frames_in, frames_of}
 use Rattle.pcap_frames.proofs.Steps.{next}
 use Rattle.pcap_export.specs.Packets.{file_head, ethernet_head, nanoseconds_of, ns_of, record_head, packet_bytes}
 use Rattle.pcap_export.specs.ReadBack.{IsUsual, AreUsual, timed_at, start_of, head_of, IsReadBack}
+use Rattle.fh_time.specs.declared.nanoseconds.TheConstants.{LAST_TIME}
+use Rattle.fh_base.specs.declared.source.TheConstants.{FRAME_LIMIT}
 
 -- ---- one record
 
@@ -40,7 +42,7 @@ packet_length a = length-append (ethernet_head a.side) a.frame ∙ ap (λ n. n +
 -- an arrival whose nanosecond and length have a place
 record Fits (a : Arrived) : Type 0 where
   pub time : ns_of a ≤ 10 ^ 12
-  pub short : length a.frame ≤ 9216
+  pub short : length a.frame ≤ FRAME_LIMIT
 
 by_ticks : (ticks : ℕ) → ticks ≤ 1536 * 10 ^ 12 → ticks / 1536 ≤ 10 ^ 12
 by_ticks ticks low = omega (arith, low)
@@ -111,11 +113,11 @@ records_back (a ∷ landed) h =
     ∙ ap (λ rs. Some (seen_from a) ∷ rs) (records_back landed h.1)
 
 -- none has a fault
-no_fault : (start time : ℕ) (frame : List ℕ) → time ≤ 10 ^ 12 → length frame ≤ 9216 → frame_fault start start time frame ≡ None
+no_fault : (start time : ℕ) (frame : List ℕ) → time ≤ 10 ^ 12 → length frame ≤ FRAME_LIMIT → frame_fault start start time frame ≡ None
 no_fault start time frame low short =
-    let long : ltb 9216 (length frame) ≡ false = le-ltb _ _ short in
+    let long : ltb FRAME_LIMIT (length frame) ≡ false = le-ltb _ _ short in
     let first : leb start (start + time) ≡ true = le-leb _ _ (omega arith) in
-    let last : leb (start + time - start) 1000000000000 ≡ true = le-leb _ _ (omega (arith, low)) in
+    let last : leb (start + time - start) LAST_TIME ≡ true = le-leb _ _ (omega (arith, low)) in
     rw (long, first, last) refl
 
 fine_back : (start : ℕ) (a : Arrived) → Fits a → fault_of true start start (seen_from a) ≡ None

@@ -12,8 +12,9 @@ use Rattle.pcap_export.specs.declared.status.Status.{Status}
 use Rattle.pcap_export.specs.declared.status.Status.TheVariants.{Done, BadWords, BadCapture, ReadFault, WriteFault, NoMemory, TooLong}
 use Rattle.pcap_export.specs.declared.ways.Ways.{Ways}
 use Rattle.pcap_export.specs.Answers.{asked, ending_of, exported, of_capture, refused}
-use Rattle.pcap_export.specs.Run.{AnswersExport, AnswersRun, Exports, Outcome, input_limit}
+use Rattle.pcap_export.specs.Run.{AnswersExport, AnswersRun, Exports, Outcome}
 use Rattle.pcap_export.specs.Ways.{ways_of}
+use Rattle.fh_base.specs.declared.source.TheConstants.{INPUT_LIMIT}
 
 -- ---- an export
 
@@ -67,7 +68,7 @@ came_all came bytes left_old (Some rest) taken ended is =
 -- the capture was read to its end
 pub read : (words : List (List ℕ)) (ways : Ways) (bytes came : List ℕ) (left_old left_new : Option (List ℕ)) (s t : ℕ) (old new : Option (List ℕ)) (before now : ℕ) (status : Status)
     → ways_of words ≡ Some ways → bytes ≡ came → Exports (exported ways bytes) old new before now status
-    → left_old ≡ prepend_known came left_new → IsAtEnd left_new → length came ≤ input_limit → s ≤ t
+    → left_old ≡ prepend_known came left_new → IsAtEnd left_new → length came ≤ INPUT_LIMIT → s ≤ t
     → Outcome words left_old left_new s t old new before now status
 read words ways bytes came left_old left_new s t old new before now status is same p taken ended within later =
     let q : Exports (exported ways came) old new before now status = subst (λ (b : List ℕ). Exports (exported ways b) old new before now status) same p in

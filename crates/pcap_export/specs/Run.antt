@@ -7,10 +7,7 @@ use Rattle.pcap_export.specs.declared.status.Status.{Status}
 use Rattle.pcap_export.specs.declared.status.Status.TheVariants.{Done, BadWords, BadCapture, ReadFault, WriteFault, NoMemory, TooLong}
 use Rattle.pcap_export.specs.Answers.{Answer, asked}
 use Rattle.pcap_export.specs.Ways.{ways_of}
-
--- the most bytes of a capture
-abbrev pub input_limit : ℕ
-input_limit = 67108864
+use Rattle.fh_base.specs.declared.source.TheConstants.{INPUT_LIMIT}
 
 -- the whole text was appended, or what is named holds
 abbrev pub WritesWholeOr : Option (List ℕ) → Option (List ℕ) → List ℕ → Type 0 → Type 0
@@ -60,10 +57,10 @@ pub record Outcome (words : List (List ℕ)) (left_old left_new : Option (List �
   -- the others, and words that are no ways
   pub bad_words : (status ≡ BadWords) ↔ IsNone (ways_of words)
   pub unread : (status ≡ ReadFault) ⊎ (status ≡ TooLong) → written_new ≡ written_old
-  pub too_long : (status ≡ TooLong) ↔ input_limit < length came
+  pub too_long : (status ≡ TooLong) ↔ INPUT_LIMIT < length came
   pub source_later : source_before ≤ source_now
   pub out_later : out_before ≤ out_now
   -- a capture that can be read whole is answered as wanted, or for want of memory, where no fault rises; a refusal needs no sink
-  pub complete : (bytes : List ℕ) → IsSome (ways_of words) → (Rose source_before source_now → ⊥) → left_old ≡ Some bytes → length bytes ≤ input_limit
+  pub complete : (bytes : List ℕ) → IsSome (ways_of words) → (Rose source_before source_now → ⊥) → left_old ≡ Some bytes → length bytes ≤ INPUT_LIMIT
       → (Rose out_before out_now → ⊥) ⊎ ((asked (ways_of words) bytes).status ≡ Done → ⊥)
       → (status ≡ (asked (ways_of words) bytes).status) ⊎ (status ≡ NoMemory)

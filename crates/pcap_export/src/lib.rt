@@ -17,7 +17,7 @@ mod writing;
 pub use checking::check;
 pub use messages::write_message;
 pub use refusals::{ExportRefusal, ExportWhy};
-pub use running::{LIMIT, run};
+pub use running::run;
 pub use status::Status;
 pub use ways::Ways;
 pub use writing::put_pcap;

@@ -13,11 +13,8 @@ use crate::status::Status;
 use crate::ways::Ways;
 use crate::words::ways_of;
 use crate::writing::put_pcap;
-use fh_base::{Bytes, List, ReadAllFault, Sink, SinkFault, Source, read_all};
+use fh_base::{Bytes, INPUT_LIMIT, List, ReadAllFault, Sink, SinkFault, Source, read_all};
 use std::alloc::Global;
-
-/// The most bytes of a capture.
-pub const LIMIT: usize = 67_108_864;
 
 /// Writes the frames of a capture as a pcap file: `words` are none, for the frames to both units, or `dl` or `ul`. It reads all of
 /// `source`, writes the file to `out`, and where it is not done one line to `err`.
@@ -53,7 +50,7 @@ fn work<S: Source, K: Sink>(
     let Some(ways) = ways_of(words) else {
         return Status::BadWords;
     };
-    match read_all(alloc, source, LIMIT) {
+    match read_all(alloc, source, INPUT_LIMIT) {
         Ok(bytes) => export(bytes.as_slice(), ways, out),
         Err(fault) => source_status(fault),
     }

@@ -1,5 +1,5 @@
 -- From one eCPRI frame to the next.
-use Rattle.std.proofs.Common.{◌≡◌, ℕ, ◌+◌, ◌-◌, Bool, true, false, ◌&&◌, cond, ltb, List, [], ◌∷◌, length, drop, Some, None, refl, sym, ap, ◌∙◌, arith, subst}
+use Rattle.std.proofs.Common.{◌≡◌, ℕ, ◌+◌, ◌-◌, Bool, true, false, cond, ltb, List, [], ◌∷◌, length, drop, Some, None, refl, sym, ap, ◌∙◌, arith, subst}
 use Rattle.std.specs.Prelude.{is_none}
 use Rattle.pcap_frames.specs.declared.refusals.PcapWhy.TheVariants.{LongFrame, TimeRange}
 use Rattle.pcap_frames.specs.declared.finding.Found.{Found}
@@ -10,14 +10,8 @@ use Rattle.pcap_frames.specs.Frames.{frame_before, frames_in, is_fine, all_fine}
 use Rattle.pcap_frames.specs.Packets.{seen_as}
 use Rattle.pcap_frames.specs.Finding.{GoesOn, IsFirst, Finds}
 use Rattle.pcap_frames.proofs.Steps.{next, last}
-
-and_left : (a b : Bool) → (a && b) ≡ true → a ≡ true
-and_left true b e = refl
-and_left false b e = e
-
-and_right : (a b : Bool) → (a && b) ≡ true → b ≡ true
-and_right true b e = e
-and_right false b e = absurd cc
+use Rattle.fh_base.specs.declared.source.TheConstants.{FRAME_LIMIT}
+use Rattle.fh_time.proofs.Orders.{left_true as and_left, right_true as and_right}
 
 -- at first
 pub goes_on_start : (little : Bool) (bytes : List ℕ) → GoesOn little bytes bytes
@@ -79,4 +73,4 @@ fault_free false false e = absurd cc
 
 -- what has no fault lies in the range
 pub in_time : (first start time : ℕ) (frame : List ℕ) → is_none (frame_fault first start time frame) ≡ true → in_range first start time ≡ true
-in_time first start time frame e = fault_free (ltb 9216 (length frame)) (in_range first start time) e
+in_time first start time frame e = fault_free (ltb FRAME_LIMIT (length frame)) (in_range first start time) e

@@ -1,5 +1,5 @@
 -- What was found so far decides the answer, with the records that are left.
-use Rattle.std.proofs.Common.{◌≡◌, ℕ, ◌+◌, Bool, true, false, List, [], ◌∷◌, ◌&&◌, length, Option, Some, None, Result, Ok, Err, refl, sym, ap, ◌∙◌, arith, subst}
+use Rattle.std.proofs.Common.{◌≡◌, ℕ, ◌+◌, Bool, true, List, [], ◌∷◌, length, Option, Some, None, Result, Ok, Err, refl, sym, ap, ◌∙◌, arith, subst}
 use Rattle.std.specs.Prelude.{is_none, unwrap_or, ◌-◌, ◌<◌, ◌≤◌, take, drop}
 use Rattle.std.proofs.Common.{length-drop}
 use Rattle.std.proofs.lemmas.List.{take_rest, drop-drop}
@@ -15,6 +15,7 @@ use Rattle.pcap_frames.specs.Files.{seen_of, records_from, Seen, record_size, re
 use Rattle.pcap_frames.specs.Checked.{frame_fault, fault_in, fault_of, passed_by, tested, time_or, first_of, one_or_none, count_of, answer, records_checked, checked_behind, checked}
 use Rattle.pcap_frames.specs.Tallies.{first_or, found_or, found_in, found_behind, settled}
 use Rattle.pcap_frames.specs.Frames.{is_fine, all_fine}
+use Rattle.fh_time.proofs.Orders.{both_true as and_both}
 
 -- a head by its parts
 abbrev made : Format → ℕ → ℕ → PcapHead
@@ -137,10 +138,6 @@ pass_end f bytes start place t first ge is so_far =
 fine_fault : (w : Option PcapWhy) (place : ℕ) (x : Result (Unit {0}) PcapRefusal) → passed_by w place x ≡ Ok tt → (is_none w ≡ true) × (x ≡ Ok tt)
 fine_fault None place x e = (refl, e)
 fine_fault (Some w) place x e = absurd cc
-
-and_both : (a b : Bool) → a ≡ true → b ≡ true → (a && b) ≡ true
-and_both true b d e = e
-and_both false b d e = absurd cc
 
 pub tested_fine : (nanos : Bool) (first start place : ℕ) (rs : List (Option Seen)) → tested nanos first start place rs ≡ Ok tt → all_fine nanos first start rs ≡ true
 unfolding tested

@@ -1,5 +1,5 @@
 -- Frames of records that passed lie in the range.
-use Rattle.std.proofs.Common.{◌≡◌, ℕ, ◌+◌, ◌-◌, Bool, true, false, cond, ltb, leb, ◌&&◌, List, [], ◌∷◌, length, Option, Some, None, refl}
+use Rattle.std.proofs.Common.{◌≡◌, ℕ, ◌+◌, ◌-◌, Bool, true, false, cond, ltb, leb, List, [], ◌∷◌, length, Option, Some, None, refl}
 use Rattle.std.specs.Prelude.{is_none}
 use Rattle.std.proofs.lemmas.Bool.{ltb-false, leb-true}
 use Rattle.pcap_frames.specs.declared.refusals.PcapWhy.TheVariants.{LongFrame, TimeRange}
@@ -7,14 +7,9 @@ use Rattle.pcap_frames.specs.Ethernet.{ecpri_in}
 use Rattle.pcap_frames.specs.Files.{Seen, time_of}
 use Rattle.pcap_frames.specs.Checked.{in_range, fault_in}
 use Rattle.pcap_frames.specs.Frames.{Timed, frame_before, frames_in, is_fine, all_fine, AreShown}
-
-and_left : (a b : Bool) → (a && b) ≡ true → a ≡ true
-and_left true b e = refl
-and_left false b e = e
-
-and_right : (a b : Bool) → (a && b) ≡ true → b ≡ true
-and_right true b e = e
-and_right false b e = absurd cc
+use Rattle.fh_time.specs.declared.nanoseconds.TheConstants.{LAST_TIME}
+use Rattle.fh_base.specs.declared.source.TheConstants.{FRAME_LIMIT}
+use Rattle.fh_time.proofs.Orders.{left_true as and_left, right_true as and_right}
 
 tests : (b c : Bool) → is_none (cond b (Some LongFrame) (cond c None (Some TimeRange))) ≡ true → (b ≡ false) × (c ≡ true)
 tests true c e = absurd cc
@@ -25,11 +20,11 @@ one_more : (o : Option (List ℕ)) (first start time : ℕ) (later : List Timed)
     → AreShown (frame_before o (start + time - first) later)
 one_more None first start time later e h = h
 one_more (Some frame) first start time later e h =
-    let t = tests (ltb 9216 (length frame)) (in_range first start time) e in (
+    let t = tests (ltb FRAME_LIMIT (length frame)) (in_range first start time) e in (
       record {
         ns = start + time - first;
         is = refl;
-        low = leb-true _ _ (and_right (leb first (start + time)) (leb (start + time - first) 1000000000000) t.1);
+        low = leb-true _ _ (and_right (leb first (start + time)) (leb (start + time - first) LAST_TIME) t.1);
         short = ltb-false _ _ t.0;
       },
       h,

@@ -7,15 +7,17 @@ use Rattle.pcap_frames.specs.declared.values.Format.{Format}
 use Rattle.pcap_frames.specs.declared.values.PcapHead.{PcapHead}
 use Rattle.pcap_frames.specs.Ethernet.{ecpri_in}
 use Rattle.pcap_frames.specs.Files.{Seen, record_size, records_of, time_of, head_of}
+use Rattle.fh_time.specs.declared.nanoseconds.TheConstants.{LAST_TIME}
+use Rattle.fh_base.specs.declared.source.TheConstants.{FRAME_LIMIT}
 
 -- a time within 0 to 10^12 ns, START counted from the first eCPRI frame
 abbrev pub in_range : ℕ → ℕ → ℕ → Bool
-in_range first start time = nat_le first (start + time) && nat_le (start + time - first) 1000000000000
+in_range first start time = nat_le first (start + time) && nat_le (start + time - first) LAST_TIME
 
 -- the fault of an eCPRI frame that was seen at a time
 abbrev pub frame_fault : ℕ → ℕ → ℕ → List ℕ → Option PcapWhy
 frame_fault first start time frame =
-    if nat_lt 9216 (length frame) then Some LongFrame
+    if nat_lt FRAME_LIMIT (length frame) then Some LongFrame
     else (if in_range first start time then None else Some TimeRange)
 
 -- the fault of what a record may hold of eCPRI; what is none of it has none

@@ -6,6 +6,8 @@ use Rattle.pcap_frames.specs.declared.values.PcapHead.{PcapHead}
 use Rattle.pcap_frames.specs.Ethernet.{ecpri_in}
 use Rattle.pcap_frames.specs.Files.{Seen, records_of, time_of}
 use Rattle.pcap_frames.specs.Checked.{fault_of}
+use Rattle.fh_time.specs.declared.nanoseconds.TheConstants.{LAST_TIME}
+use Rattle.fh_base.specs.declared.source.TheConstants.{FRAME_LIMIT}
 
 -- a frame and when it was seen, in nanoseconds
 pub record Timed : Type 0 where
@@ -43,8 +45,8 @@ all_fine nanos first start rs = list_all (is_fine nanos first start) rs
 pub record IsShown (t : Timed) : Type 0 where
   pub ns : ℕ
   pub is : t.at ≡ pos ns
-  pub low : ns ≤ 1000000000000
-  pub short : length t.frame ≤ 9216
+  pub low : ns ≤ LAST_TIME
+  pub short : length t.frame ≤ FRAME_LIMIT
 
 abbrev pub AreShown : List Timed → Type 0
 AreShown ts = AllByRecursion IsShown ts

@@ -11,15 +11,13 @@ use crate::packets::{RECORD, is_in_range, packet, time};
 use crate::refusals::{PcapRefusal, PcapWhy};
 use crate::tallies::Tally;
 use crate::values::{Format, Packet, PcapHead};
-
-/// How many bytes a frame may have.
-const LONGEST: usize = 9216;
+use fh_base::FRAME_LIMIT;
 
 // The fault of an eCPRI frame that was seen at a time.
 fn fault(first: u64, start: u64, time: u64, frame: &[u8]) -> Option<PcapWhy>
     ensures { result ≡ frame_fault first start time frame.now }
 {
-    if frame.len() > LONGEST {
+    if frame.len() > FRAME_LIMIT {
         Some(PcapWhy::LongFrame)
     } else if is_in_range(first, start, time) {
         None

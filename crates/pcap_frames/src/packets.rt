@@ -3,9 +3,11 @@ ghost use Rattle.std.specs.Prelude.{◌≡◌, ◌≤◌, ◌<◌, ◌^◌, ◌+
 ghost use Rattle.pcap_frames.specs.Checked.{in_range};
 ghost use Rattle.pcap_frames.specs.Files.{seen_of, time_of};
 ghost use Rattle.pcap_frames.specs.Packets.{seen_as, seen_or_none};
+ghost use Rattle.fh_time.specs.declared.nanoseconds.TheConstants.{LAST_TIME};
 
 use crate::files::word;
 use crate::values::Packet;
+use fh_time::LAST_TIME;
 
 /// How many bytes of a record stand before its packet.
 pub const RECORD: usize = 16;
@@ -44,14 +46,14 @@ pub fn is_in_range(first: u64, start: u64, time: u64) -> bool
 {
     let sum = start as u128 + time as u128;
     let first = first as u128;
-    first <= sum && sum - first <= 1_000_000_000_000
+    first <= sum && sum - first <= LAST_TIME as u128
 }
 
 /// This time.
 pub fn time_behind(first: u64, start: u64, time: u64) -> u64
     requires { IsTrue (in_range first start time) }
     ensures at { result ≡ start + time - first }
-    ensures small { result ≤ 1000000000000 }
+    ensures small { result ≤ LAST_TIME }
 {
     (start as u128 + time as u128 - first as u128) as u64
 }

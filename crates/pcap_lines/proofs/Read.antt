@@ -18,6 +18,7 @@ use Rattle.pcap_frames.specs.Files.{Seen, kept_of, seen_of, behind_first, record
 use Rattle.pcap_frames.specs.Frames.{Timed, frame_before, frames_in, IsShown, AreShown}
 use Rattle.pcap_frames.proofs.Steps.{kept_is}
 use Rattle.pcap_lines.specs.Texts.{line_text, lines_of, injection_of}
+use Rattle.fh_time.specs.declared.nanoseconds.TheConstants.{LAST_TIME}
 
 -- ---- the text
 
@@ -95,7 +96,7 @@ is_frame : (side : Side) (t : Timed) → IsShown t → AreBytes t.frame → IsFr
 is_frame side t h bytes = record {
   time = record {
     low = subst (λ (z : ℤ). pos 0 ≤ℤ z) (sym h.is) (omega (arith, ints));
-    high = subst (λ (z : ℤ). z ≤ℤ pos (10 ^ 12)) (sym h.is) (omega (arith, ints, h.low));
+    high = subst (λ (z : ℤ). z ≤ℤ pos LAST_TIME) (sym h.is) (omega (arith, ints, h.low));
   };
   bytes = bytes;
   short = h.short;

@@ -1,7 +1,6 @@
 -- The blocks that sections of data give a cell, one section after the other.
 use Rattle.std.proofs.Common.{◌≡◌, ℕ, ◌+◌, ◌-◌, ◌<◌, ◌≤◌, Bool, true, false, ◌&&◌, List, [], length, get_or, drop, refl, sym, ap, ◌∙◌, arith}
 use Rattle.std.specs.Prelude.{◌==◌, Option, Some, None, if◌then◌else◌, slice_get, is_some}
-use Rattle.std.proofs.lemmas.Bool.Decides.{nat_tests}
 use Rattle.std.proofs.lemmas.List.{at_drop_more, at_drop_all}
 use Rattle.std.proofs.lemmas.Option.{slice_get-get_or, get_or_from_slice_get}
 use Rattle.bfp_codec.specs.declared.samples.Wide.{Wide}
@@ -13,6 +12,7 @@ use Rattle.unit_model.specs.declared.cells.Block.{Block}
 use Rattle.unit_model.specs.declared.cells.Cell.{Cell}
 use Rattle.unit_model.specs.declared.decoded.UserSection.{UserSection}
 use Rattle.plain_units.proofs.TestLemmas.{every_begins}
+use Rattle.unit_model.proofs.ClaimLemmas.{within, starts_before}
 
 last_holds : (a b c e f : Bool) → (a && (b && (c && (e && f)))) ≡ true → f ≡ true
 last_holds true true true true f h = h
@@ -20,12 +20,6 @@ last_holds true true true false f h = absurd cc
 last_holds true true false e f h = absurd cc
 last_holds true false c e f h = absurd cc
 last_holds false b c e f h = absurd cc
-
-within : (first count n : ℕ) → is_from first count n ≡ true → n - first < count
-within first count n h = grind (arith, nat_tests)
-
-pub starts_before : (first count n : ℕ) → is_from first count n ≡ true → first ≤ n
-starts_before first count n h = grind (arith, nat_tests)
 
 prbs_cover : (d : UserSection) (cell : Cell) → data_covers d cell ≡ true → is_from (first_data_prb d) (data_prb_count d) cell.prb ≡ true
 prbs_cover d cell h =

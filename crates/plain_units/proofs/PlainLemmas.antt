@@ -26,7 +26,7 @@ use Rattle.unit_model.specs.Lists.{onto}
 use Rattle.unit_model.specs.Decoding.{Decoded, decode, sections_of, data_told, decoded_now, data_now, whole_now, data_sections}
 use Rattle.unit_model.specs.Meetings.{Arrival, Meeting, met_in, Ignored, Commands, Piece, commands, fragments}
 use Rattle.plain_units.specs.Owned.{owned, IsTaken}
-use Rattle.plain_units.specs.Plain.{Holds, Stands}
+use Rattle.plain_units.specs.Plain.{PlainHolds, PlainStands}
 use Rattle.unit_model.specs.Counts.{counted_of}
 use Rattle.unit_model.specs.Reports.{hold_of}
 use Rattle.plain_units.specs.declared.taking.OwnedMessage.{OwnedMessage}
@@ -44,7 +44,7 @@ use Rattle.unit_model.proofs.CountLemmas.{capped_data, times-append, one_time}
 
 -- the same numbers in another form
 pub counted_as : (u : Plain) (side : Side) (c : Config) (n m : Counter → ℕ) (fs : List Fragment) (cs : List ControlSection) (ds : List UserSection)
-    → ((k : Counter) → n k ≡ m k) → Holds u side c n fs cs ds → Holds u side c m fs cs ds
+    → ((k : Counter) → n k ≡ m k) → PlainHolds u side c n fs cs ds → PlainHolds u side c m fs cs ds
 counted_as u side c n m fs cs ds same h = record {
   fragments = h.fragments;
   came = h.came;
@@ -63,7 +63,7 @@ counted_as u side c n m fs cs ds same h = record {
 
 -- what an assembly that took a fragment stands for
 pub taken_holds : (u : Plain) (a : Assembly) (side : Side) (c : Config) (n : Counter → ℕ) (fs : List Fragment) (cs : List ControlSection) (ds : List UserSection) (f : Fragment)
-    → Took u.assembly a f → IsTime f.at → Holds u side c n fs cs ds → Holds (record u { assembly = a }) side c n (f ∷ fs) cs ds
+    → Took u.assembly a f → IsTime f.at → PlainHolds u side c n fs cs ds → PlainHolds (record u { assembly = a }) side c n (f ∷ fs) cs ds
 taken_holds u a side c n fs cs ds f took time h = record {
   fragments = took.stands fs h.fragments;
   came = All-cons (λ (g : Fragment). IsTime g.at) f fs time h.came;
@@ -98,13 +98,13 @@ module _ (u : Plain) (side : Side) (c : Config) (n : Counter → ℕ) (fs : List
 
   -- it stands for these and a fragment, of which was said so much
   abbrev After : Verdict → Option Decoded → Type 0
-  After v told = Holds u side c (λ k. n k + times (decoded_counted told ++ fragment_counter v ∷ []) k) (f ∷ fs) cs (data_told told ++ ds)
+  After v told = PlainHolds u side c (λ k. n k + times (decoded_counted told ++ fragment_counter v ∷ []) k) (f ∷ fs) cs (data_told told ++ ds)
 
   abbrev pub AfterPiece : Type 0
   AfterPiece = After (verdict_on hold f fs) (data_now side hold e f fs)
 
   -- a fragment that makes no message whole
-  pub piece_none : (v : Verdict) → IsTaken hold f fs v None → Holds u side c (λ k. n k + once (fragment_counter v) k) (f ∷ fs) cs ds → AfterPiece
+  pub piece_none : (v : Verdict) → IsTaken hold f fs v None → PlainHolds u side c (λ k. n k + once (fragment_counter v) k) (f ∷ fs) cs ds → AfterPiece
   piece_none v taken h =
       let base : After v None = counted_as u side c _ _ (f ∷ fs) cs ds (λ k. one_time (n k) (once (fragment_counter v) k)) h in
       let told : data_now side hold e f fs ≡ None = none_whole side e f (whole_now hold f fs) taken.message_is in
@@ -114,7 +114,7 @@ module _ (u : Plain) (side : Side) (c : Config) (n : Counter → ℕ) (fs : List
 
   -- one that does
   pub piece_some : (v : Verdict) (o : OwnedMessage) → IsTaken hold f fs v (Some o)
-      → Holds u side c (λ k. (n k + once (fragment_counter v) k) + times (decoded_counted (Some (decode side f.ep e o.first.0 o.last.0 o.bytes))) k) (f ∷ fs) cs
+      → PlainHolds u side c (λ k. (n k + once (fragment_counter v) k) + times (decoded_counted (Some (decode side f.ep e o.first.0 o.last.0 o.bytes))) k) (f ∷ fs) cs
       (sections_of (decode side f.ep e o.first.0 o.last.0 o.bytes) ++ ds)
       → AfterPiece
   piece_some v o taken h =
@@ -147,20 +147,20 @@ module _ (u : Plain) (side : Side) (c : Config) (arrivals : List Arrival) (ms : 
   abbrev pub met_so_far : Counter → ℕ
   met_so_far k = counted_of side held arrivals ms k + once counter.Messages k
 
-  pub stands_ignored : (x : Counter) → Holds u side c (λ k. met_so_far k + once x k) (fragments ms) (commands ms) (data_sections side held ms) → Stands u side c arrivals (Ignored x ∷ ms)
+  pub stands_ignored : (x : Counter) → PlainHolds u side c (λ k. met_so_far k + once x k) (fragments ms) (commands ms) (data_sections side held ms) → PlainStands u side c arrivals (Ignored x ∷ ms)
   unfolding fragments commands data_sections messages_counted
   stands_ignored x h =
       counted_as u side c _ _ (fragments ms) (commands ms) (data_sections side held ms)
       (λ k. message_number (times (frames_counted arrivals) k) (times (messages_counted side held ms) k) (once counter.Messages k) (once x k)) h
 
-  pub stands_commands : (cs : List ControlSection) → Holds u side c met_so_far (fragments ms) (onto (commands ms) cs) (data_sections side held ms) → Stands u side c arrivals (Commands cs ∷ ms)
+  pub stands_commands : (cs : List ControlSection) → PlainHolds u side c met_so_far (fragments ms) (onto (commands ms) cs) (data_sections side held ms) → PlainStands u side c arrivals (Commands cs ∷ ms)
   unfolding fragments commands data_sections messages_counted
   stands_commands cs h =
       counted_as u side c _ _ (fragments ms) (onto (commands ms) cs) (data_sections side held ms)
       (λ k. command_number (times (frames_counted arrivals) k) (times (messages_counted side held ms) k) (once counter.Messages k)) h
 
   pub stands_piece : (e : EndpointConfig) (f : Fragment) → AfterPiece u side c met_so_far (fragments ms) (commands ms) (data_sections side held ms) e f
-      → Stands u side c arrivals (Piece e f ∷ ms)
+      → PlainStands u side c arrivals (Piece e f ∷ ms)
   unfolding fragments commands data_sections messages_counted
   stands_piece e f h =
       let told = data_now side held e f (fragments ms) in
@@ -173,9 +173,9 @@ frame_number f m o r rs rest k a b h = omega (arith, times-append rs (counter.Fr
 
 -- a frame of which no message was treated
 pub stands_frame : (u : Plain) (side : Side) (c : Config) (arrivals : List Arrival) (ms : List Meeting) (a : Arrival)
-    → Holds u side c (λ k. counted_of side (hold_of side c.delays) arrivals ms k + times (refusal_counted (pdu a.frame).refusal ++ counter.Frames ∷ []) k) (fragments ms) (commands ms)
+    → PlainHolds u side c (λ k. counted_of side (hold_of side c.delays) arrivals ms k + times (refusal_counted (pdu a.frame).refusal ++ counter.Frames ∷ []) k) (fragments ms) (commands ms)
     (data_sections side (hold_of side c.delays) ms)
-    → Stands u side c (a ∷ arrivals) ms
+    → PlainStands u side c (a ∷ arrivals) ms
 unfolding frames_counted
 stands_frame u side c arrivals ms a h =
     counted_as u side c _ _ (fragments ms) (commands ms) (data_sections side (hold_of side c.delays) ms)
@@ -185,7 +185,7 @@ stands_frame u side c arrivals ms a h =
 -- the messages of a frame are treated but for these
 pub record MetSoFar (u : Plain) (side : Side) (c : Config) (at : ℤ) (arrivals : List Arrival) (all : List Meeting) (left : List WholeMessage) : Type 0 where
   pub so_far : List Meeting
-  pub stands : Stands u side c arrivals so_far
+  pub stands : PlainStands u side c arrivals so_far
   pub are : onto so_far (met_in side c.endpoints at left) ≡ all
 
 -- ---- sections of commands

@@ -11,7 +11,7 @@ use Rattle.unit_model.specs.window_config.specs.declared.delays.Delays.{Delays}
 use Rattle.unit_model.specs.window_config.specs.declared.endpoints.EndpointConfig.{EndpointConfig}
 use Rattle.unit_model.specs.Claims.{cell_at, same_slot, same_way, is_from, first_prb, prb_count, in_mask, names, claim_of, claim_at}
 use Rattle.unit_model.specs.Radiated.{Known, known_of, is_down, is_used, used_below, id_or, id_from, report_of, cell_report, symbol_report, reported, first_clock, wait_of}
-use Rattle.plain_units.specs.ClaimedStarts.{is_in, is_claimed_in, claimed_start}
+use Rattle.plain_units.specs.ClaimedStarts.{is_claimed_way, is_claimed_in, claimed_start}
 use Rattle.unit_model.specs.Starts.{start_at, cell_told, cells_at}
 use Rattle.unit_model.specs.Sweeps.{sweep}
 use Rattle.unit_model.specs.declared.allocations.Allocation.{Allocation}
@@ -21,12 +21,10 @@ use Rattle.unit_model.specs.declared.cells.Claim.{Claim}
 use Rattle.unit_model.specs.declared.decoded.UserSection.{UserSection}
 use Rattle.unit_model.specs.declared.symbol_start.SymbolStart.{SymbolStart}
 use Rattle.unit_model.proofs.SweepLaws.{each_none, each_same, sweep_flat}
+use Rattle.fh_time.proofs.Orders.{bit_small}
+use Rattle.unit_model.proofs.ClaimLemmas.{none_used}
 
 -- ---- the mask and the section id of a cell
-
-bit_small : (b : Bool) → (if b then 1 else 0) ≤ 1
-bit_small true = omega arith
-bit_small false = omega arith
 
 one_bit_more : (n x b p : ℕ) → x < p → b ≤ 1 → 2 * x + b < 2 * p
 one_bit_more n x b p h k = omega arith
@@ -82,7 +80,7 @@ not_covers true true false s t u h = refl
 not_covers true false r s t u h = refl
 not_covers false q r s t u h = refl
 
-not_named : (a : Allocation) (ep : ℕ) (down : Bool) (slot : Slot) (symbol prb re : ℕ) → is_in ep down slot symbol a ≡ false → names a (cell_at ep down slot symbol prb) re ≡ false
+not_named : (a : Allocation) (ep : ℕ) (down : Bool) (slot : Slot) (symbol prb re : ℕ) → is_claimed_way ep down slot symbol a ≡ false → names a (cell_at ep down slot symbol prb) re ≡ false
 not_named a ep down slot symbol prb re h =
     not_covers (a.ep == ep) (same_way a.down down) (same_slot a.slot slot) (is_from a.symbol a.num_symbol symbol) (is_from (first_prb a) (prb_count a) prb) (in_mask a.mask re) h
 
@@ -91,16 +89,9 @@ no_claim : (accepted : List Allocation) (ep : ℕ) (down : Bool) (slot : Slot) (
 unfolding claim_at is_claimed_in
 no_claim [] ep down slot symbol prb re h = refl
 no_claim (a ∷ earlier) ep down slot symbol prb re h =
-    let parts = or_parts (is_in ep down slot symbol a) (is_claimed_in earlier ep down slot symbol) h in
+    let parts = or_parts (is_claimed_way ep down slot symbol a) (is_claimed_in earlier ep down slot symbol) h in
     ap (λ (b : Bool). let o : Option Claim = if b then Some (claim_of a) else claim_at earlier (cell_at ep down slot symbol prb) re in o) (not_named a ep down slot symbol prb re parts.0)
     ∙ no_claim earlier ep down slot symbol prb re parts.1
-
-none_used : (claims : ℕ → Option Claim) (n : ℕ) → ((re : ℕ) → claims re ≡ None) → used_below claims n ≡ 0
-unfolding used_below
-none_used claims zero h = refl
-none_used claims (suc n) h =
-    let bit : (let b : ℕ = if is_used (claims n) then 1 else 0 in b) ≡ 0 = ap (λ (o : Option Claim). let b : ℕ = if is_used o then 1 else 0 in b) (h n) in
-    omega (arith, bit, none_used claims n h)
 
 no_report : (side : Side) (e : EndpointConfig) (cell : Cell) (start : ℤ) (claims : ℕ → Option Claim) (block : Option Block) → ((re : ℕ) → claims re ≡ None) → report_of side e cell start claims block ≡ []
 no_report side e cell start claims block h = rw (none_used claims 12 h) refl
@@ -147,17 +138,17 @@ kept_claim a kept cell re rest false is not_in =
     is ∙ sym (ap (λ (b : Bool). let o : Option Claim = if b then Some (claim_of a) else rest in o) (not_in refl))
 
 claim_in : (accepted : List Allocation) (ep : ℕ) (down : Bool) (slot : Slot) (symbol prb re : ℕ)
-    → claim_at (filter (is_in ep down slot symbol) accepted) (cell_at ep down slot symbol prb) re ≡ claim_at accepted (cell_at ep down slot symbol prb) re
+    → claim_at (filter (is_claimed_way ep down slot symbol) accepted) (cell_at ep down slot symbol prb) re ≡ claim_at accepted (cell_at ep down slot symbol prb) re
 unfolding claim_at
 claim_in [] ep down slot symbol prb re = refl
 claim_in (a ∷ earlier) ep down slot symbol prb re =
-    kept_claim a (filter (is_in ep down slot symbol) earlier) (cell_at ep down slot symbol prb) re (claim_at earlier (cell_at ep down slot symbol prb) re) (is_in ep down slot symbol a)
+    kept_claim a (filter (is_claimed_way ep down slot symbol) earlier) (cell_at ep down slot symbol prb) re (claim_at earlier (cell_at ep down slot symbol prb) re) (is_claimed_way ep down slot symbol a)
     (claim_in earlier ep down slot symbol prb re) (not_named a ep down slot symbol prb re)
 
 pub cells_in : (side : Side) (accepted : List Allocation) (timely : List UserSection) (m : SymbolStart)
-    → cells_at side (known_of (filter (is_in m.ep (is_down side) m.slot m.symbol) accepted) timely) m ≡ cells_at side (known_of accepted timely) m
+    → cells_at side (known_of (filter (is_claimed_way m.ep (is_down side) m.slot m.symbol) accepted) timely) m ≡ cells_at side (known_of accepted timely) m
 cells_in side accepted timely m =
-    each_same 0 m.endpoint.prbs (cell_told side (known_of (filter (is_in m.ep (is_down side) m.slot m.symbol) accepted) timely) m) (cell_told side (known_of accepted timely) m) (λ prb.
+    each_same 0 m.endpoint.prbs (cell_told side (known_of (filter (is_claimed_way m.ep (is_down side) m.slot m.symbol) accepted) timely) m) (cell_told side (known_of accepted timely) m) (λ prb.
     ap (λ (claims : ℕ → Option Claim). report_of side m.endpoint (cell_at m.ep (is_down side) m.slot m.symbol prb) m.start.0 claims ((known_of accepted timely).blocks (cell_at m.ep (is_down side) m.slot m.symbol prb)))
     (fun_ext (λ re. claim_in accepted m.ep (is_down side) m.slot m.symbol prb re)))
 

@@ -4,7 +4,6 @@ use Rattle.std.specs.Prelude.{◌&&◌, Option, Some, ◌||◌, ◌==◌, if◌t
 use Rattle.std.specs.List.{slice_get}
 use Rattle.std.specs.Ordering.{int_eq}
 use Rattle.std.proofs.lemmas.Bool.{cases_lt, and_parts, eqb-true, leb-true, ltb-true, false_from_ne_true, or_from, or_parts}
-use Rattle.std.proofs.lemmas.Bool.Decides.{Decides-int_eq}
 use Rattle.std.proofs.lemmas.Int.{ints}
 use Rattle.std.proofs.lemmas.List.{at_drop_more, at_drop_all}
 use Rattle.std.proofs.lemmas.List.Elements.{All-more, All-weaker, All-head, All-tail}
@@ -15,12 +14,13 @@ use Rattle.fh_time.specs.Numbering.{slots_of, symbols_of}
 use Rattle.unit_model.specs.window_config.specs.declared.endpoints.EndpointConfig.{EndpointConfig}
 use Rattle.unit_model.specs.Claims.{same_slot, same_way, is_from}
 use Rattle.unit_model.specs.Proper.{IsAt, IsProperAllocation}
-use Rattle.plain_units.specs.ClaimedStarts.{HasStarts, IsNotMissed, OfEachSymbol, IsQuiet, is_in, is_claimed_in, is_of_frame, names_frame, claimed_start}
+use Rattle.plain_units.specs.ClaimedStarts.{HasStarts, IsNotMissed, OfEachSymbol, IsQuiet, is_claimed_way, is_claimed_in, is_of_frame, names_frame, claimed_start}
 use Rattle.unit_model.specs.Starts.{start_at}
 use Rattle.unit_model.specs.Sweeps.{OfSymbol, slot_at, of_slot, of_subframe, of_frame, of_endpoint, of_endpoints, at_tick, sweep}
 use Rattle.unit_model.specs.declared.allocations.Allocation.{Allocation}
 use Rattle.unit_model.specs.declared.symbol_start.SymbolStart.{SymbolStart}
 use Rattle.unit_model.proofs.SweepLaws.{each_none, endpoints_none, sweep_quiet, sweep_next}
+use Rattle.unit_model.proofs.ClaimLemmas.{same_way_is, same_slot_is}
 
 -- ---- the next start
 
@@ -49,17 +49,17 @@ have_starts es xs proper = All-weaker (IsProperAllocation es) HasStarts (λ x p.
 -- ---- what is claimed in a symbol
 
 pub claimed_here : (xs : List Allocation) (ep : ℕ) (down : Bool) (slot : Slot) (symbol : ℕ) (i : ℕ) (d : Allocation) (b v : Bool) → i < length xs
-    → is_claimed_in (drop i xs) ep down slot symbol ≡ v → b ≡ is_in ep down slot symbol (get_or xs i d) → b ≡ true → true ≡ v
+    → is_claimed_in (drop i xs) ep down slot symbol ≡ v → b ≡ is_claimed_way ep down slot symbol (get_or xs i d) → b ≡ true → true ≡ v
 unfolding is_claimed_in
 claimed_here xs ep down slot symbol i d b v h before is here =
-    let now : is_in ep down slot symbol (get_or xs i d) ≡ true = sym is ∙ here in
+    let now : is_claimed_way ep down slot symbol (get_or xs i d) ≡ true = sym is ∙ here in
     sym (at_drop_more (λ ys. is_claimed_in ys ep down slot symbol) xs i d h ∙ ap (λ t. t || is_claimed_in (drop (i + 1) xs) ep down slot symbol) now) ∙ before
 
 pub claimed_later : (xs : List Allocation) (ep : ℕ) (down : Bool) (slot : Slot) (symbol : ℕ) (i : ℕ) (d : Allocation) (b v : Bool) → i < length xs
-    → is_claimed_in (drop i xs) ep down slot symbol ≡ v → b ≡ is_in ep down slot symbol (get_or xs i d) → b ≡ false → is_claimed_in (drop (i + 1) xs) ep down slot symbol ≡ v
+    → is_claimed_in (drop i xs) ep down slot symbol ≡ v → b ≡ is_claimed_way ep down slot symbol (get_or xs i d) → b ≡ false → is_claimed_in (drop (i + 1) xs) ep down slot symbol ≡ v
 unfolding is_claimed_in
 claimed_later xs ep down slot symbol i d b v h before is here =
-    let now : is_in ep down slot symbol (get_or xs i d) ≡ false = sym is ∙ here in
+    let now : is_claimed_way ep down slot symbol (get_or xs i d) ≡ false = sym is ∙ here in
     sym (at_drop_more (λ ys. is_claimed_in ys ep down slot symbol) xs i d h ∙ ap (λ t. t || is_claimed_in (drop (i + 1) xs) ep down slot symbol) now) ∙ before
 
 pub claimed_nowhere : (xs : List Allocation) (ep : ℕ) (down : Bool) (slot : Slot) (symbol : ℕ) (i : ℕ) (v : Bool) → length xs ≤ i
@@ -98,7 +98,7 @@ unfolding names_frame is_claimed_in
 not_named [] ep down slot symbol h = refl
 not_named (a ∷ earlier) ep down slot symbol h =
     let parts = or_parts (is_of_frame ep slot.frame a) (names_frame earlier ep slot.frame) h in
-    or_from (is_in ep down slot symbol a) (is_claimed_in earlier ep down slot symbol)
+    or_from (is_claimed_way ep down slot symbol a) (is_claimed_in earlier ep down slot symbol)
     (not_of_frame (a.ep == ep) (same_way a.down down) (int_eq a.slot.frame slot.frame) ((a.slot.subframe == slot.subframe) && (a.slot.slot == slot.slot)) (is_from a.symbol a.num_symbol symbol) parts.0)
     (not_named earlier ep down slot symbol parts.1)
 
@@ -117,23 +117,6 @@ unnamed_frame accepted down ep e s frame h =
 
 -- ---- what an allocation is that stands in a symbol
 
-same_way_is : (a b : Bool) → same_way a b ≡ true → a ≡ b
-same_way_is true true h = refl
-same_way_is true false h = sym h
-same_way_is false true h = h
-same_way_is false false h = refl
-
-same_fields : (a b : Slot) → a.frame ≡ b.frame → a.subframe ≡ b.subframe → a.slot ≡ b.slot → a ≡ b
-same_fields a b p q r =
-    let same : (let x : Slot = record { frame = a.frame; subframe = a.subframe; slot = a.slot } in x) ≡ (let y : Slot = record { frame = b.frame; subframe = b.subframe; slot = b.slot } in y) = rw (p, q, r) refl in
-    same
-
-same_slot_is : (a b : Slot) → same_slot a b ≡ true → a ≡ b
-same_slot_is a b h =
-    let p = and_parts (int_eq a.frame b.frame) _ h in
-    let q = and_parts (a.subframe == b.subframe) (a.slot == b.slot) p.1 in
-    same_fields a b ((Decides-int_eq a.frame b.frame).0 p.0) (eqb-true a.subframe b.subframe q.0) (eqb-true a.slot b.slot q.1)
-
 -- what an allocation is that stands in a symbol
 pub record StandsIn (ep : ℕ) (down : Bool) (slot : Slot) (symbol : ℕ) (a : Allocation) : Type 0 where
   pub index : a.ep ≡ ep
@@ -142,7 +125,7 @@ pub record StandsIn (ep : ℕ) (down : Bool) (slot : Slot) (symbol : ℕ) (a : A
   pub first : a.symbol ≤ symbol
   pub last : symbol < a.symbol + a.num_symbol
 
-pub stands_in : (ep : ℕ) (down : Bool) (slot : Slot) (symbol : ℕ) (a : Allocation) → is_in ep down slot symbol a ≡ true → StandsIn ep down slot symbol a
+pub stands_in : (ep : ℕ) (down : Bool) (slot : Slot) (symbol : ℕ) (a : Allocation) → is_claimed_way ep down slot symbol a ≡ true → StandsIn ep down slot symbol a
 stands_in ep down slot symbol a h =
     let p = and_parts (a.ep == ep) _ h in
     let q = and_parts (same_way a.down down) _ p.1 in
@@ -169,8 +152,8 @@ pub unclaimed : (es : List EndpointConfig) (accepted : List Allocation) (down : 
 unfolding is_claimed_in
 unclaimed es [] down from end u ep e slot symbol low high at starts proper quiet = refl
 unclaimed es (a ∷ earlier) down from end u ep e slot symbol low high at starts proper quiet =
-    or_from (is_in ep down slot symbol a) (is_claimed_in earlier ep down slot symbol)
-    (false_from_ne_true (is_in ep down slot symbol a) (λ h. not_here (stands_in ep down slot symbol a h) (All-head (IsProperAllocation es) a earlier proper)))
+    or_from (is_claimed_way ep down slot symbol a) (is_claimed_in earlier ep down slot symbol)
+    (false_from_ne_true (is_claimed_way ep down slot symbol a) (λ h. not_here (stands_in ep down slot symbol a h) (All-head (IsProperAllocation es) a earlier proper)))
     (unclaimed es earlier down from end u ep e slot symbol low high at starts (All-tail (IsProperAllocation es) a earlier proper) (All-tail (IsQuiet from end down) a earlier quiet))
   where
     not_here : StandsIn ep down slot symbol a → IsProperAllocation es a → ⊥

@@ -1,5 +1,5 @@
 -- A walker that is fed all the rest of a message at each step, and what is gathered of its answers.
-use Rattle.std.proofs.Common.{◌≡◌, ℕ, ◌+◌, ◌-◌, List, [], ◌∷◌, ◌++◌, length, take, drop, Some, refl, sym, ap, ◌∙◌, subst, arith, length-drop}
+use Rattle.std.proofs.Common.{◌≡◌, ℕ, ◌+◌, ◌-◌, List, [], ◌++◌, length, take, drop, Some, refl, sym, ap, ◌∙◌, subst, arith, length-drop}
 use Rattle.std.proofs.lemmas.List.{append-nil, take-append-drop, take_all}
 use Rattle.std.proofs.Math.Seq.{take-add}
 use Rattle.fh_time.specs.declared.values.Shape.{Shape}
@@ -10,16 +10,12 @@ use Rattle.unit_model.specs.uplane_sections.specs.declared.steps.UFeed.{UFeed}
 use Rattle.unit_model.specs.uplane_sections.specs.Messages.{Item, Telling, refused, after, told}
 use Rattle.unit_model.specs.uplane_sections.specs.Phases.{feed_told}
 use Rattle.unit_model.specs.uplane_sections.specs.States.{tells, StandsBehind}
-use Rattle.unit_model.specs.Decoding.{Gathering, nothing_told, with_item, gathered}
+use Rattle.unit_model.specs.Decoding.{Gathering, nothing_told, gathered}
+use Rattle.unit_model.proofs.GatheringLemmas.{gathered-append}
 
 pub gathered_none : (g : Gathering) → gathered g [] ≡ g
 unfolding gathered
 gathered_none g = refl
-
-pub gathered-append : (g : Gathering) (xs ys : List Item) → gathered g (xs ++ ys) ≡ gathered (gathered g xs) ys
-unfolding gathered
-gathered-append g [] ys = refl
-gathered-append g (x ∷ xs) ys = gathered-append (with_item g x) xs ys
 
 -- the bytes used before, and those of the rest that are used now
 pub used_together : (bytes : List ℕ) (at used : ℕ) → take at bytes ++ take used (take (length bytes - at) (drop at bytes)) ≡ take (at + used) bytes

@@ -13,14 +13,14 @@ use Rattle.unit_model.specs.declared.symbol_start.SymbolStart.{SymbolStart}
 use Rattle.unit_model.specs.Starts.{start_at}
 
 -- an allocation of this direction stands in a symbol
-abbrev pub is_in : ℕ → Bool → Slot → ℕ → Allocation → Bool
-is_in ep down slot symbol a =
+abbrev pub is_claimed_way : ℕ → Bool → Slot → ℕ → Allocation → Bool
+is_claimed_way ep down slot symbol a =
     (a.ep == ep) && (same_way a.down down && (same_slot a.slot slot && is_from a.symbol a.num_symbol symbol))
 
 -- one of these does
 unfoldable pub is_claimed_in : List Allocation → ℕ → Bool → Slot → ℕ → Bool
 is_claimed_in [] ep down slot symbol = false
-is_claimed_in (a ∷ earlier) ep down slot symbol = is_in ep down slot symbol a || is_claimed_in earlier ep down slot symbol
+is_claimed_in (a ∷ earlier) ep down slot symbol = is_claimed_way ep down slot symbol a || is_claimed_in earlier ep down slot symbol
 
 -- one of these is of an endpoint and a frame, in whichever direction
 abbrev pub is_of_frame : ℕ → ℤ → Allocation → Bool

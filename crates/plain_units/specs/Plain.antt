@@ -21,7 +21,7 @@ use Rattle.unit_model.specs.Counts.{counted_of}
 
 -- It stands for these fragments, sections of commands and sections of data, the newest first, and has counted so much beside
 -- the verdicts on the sections.
-pub record Holds (u : Plain) (side : Side) (c : Config) (counted : Counter → ℕ) (fs : List Fragment) (cs : List ControlSection) (ds : List UserSection) : Type 0 where
+pub record PlainHolds (u : Plain) (side : Side) (c : Config) (counted : Counter → ℕ) (fs : List Fragment) (cs : List ControlSection) (ds : List UserSection) : Type 0 where
   pub fragments : StandsFor u.assembly fs
   pub came : All (λ f. IsTime f.at) fs
   pub endpoints : endpoints_of u.assembly ≡ length c.endpoints
@@ -36,23 +36,23 @@ pub record Holds (u : Plain) (side : Side) (c : Config) (counted : Counter → �
   pub sections : All (IsProperData c.endpoints) u.timely.items
 
 -- it stands for some of them, whatever they are
-pub record HoldsSome (u : Plain) (side : Side) (c : Config) : Type 0 where
+pub record PlainHoldsSome (u : Plain) (side : Side) (c : Config) : Type 0 where
   pub counted : Counter → ℕ
   pub fragments : List Fragment
   pub commands : List ControlSection
   pub sections : List UserSection
-  pub holds : Holds u side c counted fragments commands sections
+  pub holds : PlainHolds u side c counted fragments commands sections
 
 -- it stands for these frames and these of their messages
-abbrev pub Stands : Plain → Side → Config → List Arrival → List Meeting → Type 0
-Stands u side c arrivals ms =
-    Holds u side c (counted_of side (hold_of side c.delays) arrivals ms) (fragments ms) (commands ms) (data_sections side (hold_of side c.delays) ms)
+abbrev pub PlainStands : Plain → Side → Config → List Arrival → List Meeting → Type 0
+PlainStands u side c arrivals ms =
+    PlainHolds u side c (counted_of side (hold_of side c.delays) arrivals ms) (fragments ms) (commands ms) (data_sections side (hold_of side c.delays) ms)
 
 -- it stands for some frames: it was made for this side and this configuration
-pub record StandsForSome (u : Plain) (side : Side) (c : Config) : Type 0 where
+pub record PlainStandsForSome (u : Plain) (side : Side) (c : Config) : Type 0 where
   pub arrivals : List Arrival
   pub meetings : List Meeting
-  pub stands : Stands u side c arrivals meetings
+  pub stands : PlainStands u side c arrivals meetings
 
 -- frames in the order of their times, as arrivals with the newest first
 abbrev pub arrival_of : TimedFrame → Arrival

@@ -13,12 +13,9 @@ use crate::claims::{overlaps, repeats};
 use fh_time::Slot;
 use unit_model::window_config::{Class, Delays};
 use unit_model::{
-    Allocation, CommandVerdict, ControlSection, allocation_of, command_class, is_for, is_uplink,
-    same_slot,
+    Allocation, CommandVerdict, ControlSection, SLOT_SECTIONS, allocation_of, command_class,
+    is_for, is_uplink, same_slot,
 };
-
-/// How many uplink sections a slot of an endpoint takes.
-const MOST_UPLINK: usize = 64;
 
 /// Whether an allocation is an uplink section of this endpoint and slot.
 fn is_uplink_of(a: &Allocation, ep: usize, slot: &Slot) -> bool
@@ -44,7 +41,7 @@ pub(crate) fn uplink_in(ep: usize, slot: &Slot, accepted: &[Allocation]) -> usiz
 pub(crate) fn is_full(accepted: &[Allocation], a: &Allocation) -> bool
     ensures { result ≡ is_full accepted.now a.now }
 {
-    is_uplink(a) && MOST_UPLINK <= uplink_in(a.ep, &a.slot, accepted)
+    is_uplink(a) && SLOT_SECTIONS <= uplink_in(a.ep, &a.slot, accepted)
 }
 
 /// Whether PRBs go past a carrier of so many.

@@ -16,7 +16,7 @@ pub(crate) struct Part {
 }
 
 impl Model for Part {
-    ghost use Rattle.unit_model.specs.Decoding.{Part as PartTold};
+    ghost use Rattle.unit_model.specs.Decoding.{SectionBlocks as PartTold};
 
     ghost Value = { PartTold };
 
@@ -24,11 +24,11 @@ impl Model for Part {
 }
 
 impl Part {
-    ghost use Rattle.unit_model.specs.Decoding.{begun, longer};
+    ghost use Rattle.unit_model.specs.Decoding.{without_blocks, longer};
 
     /// A section of which no PRB came yet.
     fn begin(alloc: Global, section: USection) -> Part
-        ensures { result ≡ begun section }
+        ensures { result ≡ without_blocks section }
     {
         Part {
             section,

@@ -16,7 +16,7 @@ ghost use Rattle.unit_model.specs.Counts.{decoded_counted, refusal_counted, piec
 ghost use Rattle.unit_model.specs.Decoding.{decode as decoded, data_now, data_told, sections_of};
 ghost use Rattle.unit_model.specs.Meetings.{Arrival, Meeting, meetings, commands_with, fragment_with, meet as met_by_definition};
 ghost use Rattle.unit_model.specs.Met.{IsRead};
-ghost use Rattle.plain_units.specs.Plain.{Holds, HoldsSome, Stands, StandsForSome};
+ghost use Rattle.plain_units.specs.Plain.{PlainHolds, PlainHoldsSome, PlainStands, PlainStandsForSome};
 ghost use Rattle.unit_model.specs.Proper.{IsAt, IsProperCommand, IsProperData, IsTime};
 ghost use Rattle.unit_model.specs.Reports.{hold_of};
 ghost use Rattle.unit_model.specs.Sound.{IsSoundCommand};
@@ -93,7 +93,7 @@ impl Plain {
     /// A unit that nothing came to.
     pub(crate) fn make(alloc: Global, side: Side, config: &Config) -> Result<Plain, NoMemory>
         requires { IsConfig config.now }
-        ensures { IfOk result (λ u. Stands u side config.now [] []) }
+        ensures { IfOk result (λ u. PlainStands u side config.now [] []) }
     {
         let endpoints = config.endpoints.as_slice().len();
         let assembly = Assembly::make(alloc, endpoints, hold(side, config))?;
@@ -110,7 +110,7 @@ impl Plain {
     /// Counts what is no section.
     fn count(&mut self, counter: Counter)
         ensures { (side : Side) (c : Config) (n : SpecCounter → ℕ) (fs : Items Fragment) (cs : Items SpecControlSection) (ds : Items SpecUserSection)
-            → Holds self.old side c n fs cs ds → Holds self.new side c (λ k. n k + once counter k) fs cs ds }
+            → PlainHolds self.old side c n fs cs ds → PlainHolds self.new side c (λ k. n k + once counter k) fs cs ds }
     {
         self.counters.add(counter);
     }
@@ -120,7 +120,7 @@ impl Plain {
         requires config { IsConfig config.now }
         requires proper { IsProperCommand config.now.endpoints c.now }
         ensures { (side : Side) (n : SpecCounter → ℕ) (fs : Items Fragment) (cs : Items SpecControlSection) (ds : Items SpecUserSection)
-            → Holds self.old side config.now n fs cs ds → OnOk result (Holds self.new side config.now n fs (c.now ∷ cs) ds) }
+            → PlainHolds self.old side config.now n fs cs ds → OnOk result (PlainHolds self.new side config.now n fs (c.now ∷ cs) ds) }
     {
         let verdict = command_verdict(&config.delays, &self.accepted, c);
         self.command_verdicts.push(verdict)?;
@@ -131,10 +131,10 @@ impl Plain {
     /// Treats a section of data.
     fn data_section(&mut self, side: Side, config: &Config, d: UserSection) -> Result<(), NoMemory>
         requires config { IsConfig config.now }
-        requires unit { HoldsSome self.old side config.now }
+        requires unit { PlainHoldsSome self.old side config.now }
         requires proper { IsProperData config.now.endpoints d }
         ensures { (n : SpecCounter → ℕ) (fs : Items Fragment) (cs : Items SpecControlSection) (ds : Items SpecUserSection)
-            → Holds self.old side config.now n fs cs ds → OnOk result (Holds self.new side config.now n fs cs (d ∷ ds)) }
+            → PlainHolds self.old side config.now n fs cs ds → OnOk result (PlainHolds self.new side config.now n fs cs (d ∷ ds)) }
     {
         let class = data_class(side, &config.delays, &d);
         let verdict = data_verdict(side, &config.delays, &self.timely, &d);
@@ -151,10 +151,10 @@ impl Plain {
         mut sections: Vec<UserSection>,
     ) -> Result<(), NoMemory>
         requires config { IsConfig config.now }
-        requires unit { HoldsSome self.old side config.now }
+        requires unit { PlainHoldsSome self.old side config.now }
         requires proper { All (IsProperData config.now.endpoints) sections.items }
         ensures { (n : SpecCounter → ℕ) (fs : Items Fragment) (cs : Items SpecControlSection) (ds : Items SpecUserSection)
-            → Holds self.old side config.now n fs cs ds → OnOk result (Holds self.new side config.now n fs cs (sections.items ++ ds)) }
+            → PlainHolds self.old side config.now n fs cs ds → OnOk result (PlainHolds self.new side config.now n fs cs (sections.items ++ ds)) }
     {
         while let Some(d) = sections.pop() {
             self.data_section(side, config, d)?;
@@ -178,8 +178,8 @@ impl Plain {
         requires endpoint { IsAt config.now.endpoints ep endpoint.now }
         requires time { IsTime at.0 }
         ensures { (side : Side) (n : SpecCounter → ℕ) (fs : Items Fragment) (cs : Items SpecControlSection) (ds : Items SpecUserSection)
-            → Holds self.old side config.now n fs cs ds
-            → OnOk result (Holds self.new side config.now n fs (onto cs (commands_with ep endpoint.now at.0 head.now (sections_in head.now bytes.now))) ds) }
+            → PlainHolds self.old side config.now n fs cs ds
+            → OnOk result (PlainHolds self.new side config.now n fs (onto cs (commands_with ep endpoint.now at.0 head.now (sections_in head.now bytes.now))) ds) }
     {
         let commands = commands(alloc, at, ep, endpoint, head, bytes)?;
         for c in &commands {
@@ -199,14 +199,14 @@ impl Plain {
         message: &OwnedMessage,
     ) -> Result<(), NoMemory>
         requires config { IsConfig config.now }
-        requires unit { HoldsSome self.old side config.now }
+        requires unit { PlainHoldsSome self.old side config.now }
         requires endpoint { IsAt config.now.endpoints ep endpoint.now }
         requires first { IsTime message.now.first.0 }
         requires last { IsTime message.now.last.0 }
         ensures { (n : SpecCounter → ℕ) (fs : Items Fragment) (cs : Items SpecControlSection) (ds : Items SpecUserSection)
-            → Holds self.old side config.now n fs cs ds
+            → PlainHolds self.old side config.now n fs cs ds
             → let d = decoded side ep endpoint.now message.now.first.0 message.now.last.0 message.now.bytes in
-            OnOk result (Holds self.new side config.now (λ k. n k + times (decoded_counted (Some d)) k) fs cs (sections_of d ++ ds)) }
+            OnOk result (PlainHolds self.new side config.now (λ k. n k + times (decoded_counted (Some d)) k) fs cs (sections_of d ++ ds)) }
     {
         let bytes = message.bytes.as_slice();
         let decoded = decode(
@@ -239,16 +239,16 @@ impl Plain {
         bytes: &[u8],
     ) -> Result<(), NoMemory>
         requires config { IsConfig config.now }
-        requires unit { HoldsSome self.old side config.now }
+        requires unit { PlainHoldsSome self.old side config.now }
         requires endpoint { IsAt config.now.endpoints ep endpoint.now }
         requires time { IsTime at.0 }
         requires sub { seq.sub < 128 }
         ensures { (n : SpecCounter → ℕ) (fs : Items Fragment) (cs : Items SpecControlSection) (ds : Items SpecUserSection)
-            → Holds self.old side config.now n fs cs ds
+            → PlainHolds self.old side config.now n fs cs ds
             → let f = fragment_with ep at.0 seq bytes.now in
             let hold = hold_of side config.now.delays in
             let told = data_now side hold endpoint.now f fs in
-            OnOk result (Holds self.new side config.now (λ k. n k + times (piece_counted hold f fs told) k) (f ∷ fs) cs (data_told told ++ ds)) }
+            OnOk result (PlainHolds self.new side config.now (λ k. n k + times (piece_counted hold f fs told) k) (f ∷ fs) cs (data_told told ++ ds)) }
     {
         let (verdict, whole) = take(alloc, &mut self.assembly, ep, at, seq, bytes)?;
         self.count(fragment_counter(verdict));
@@ -268,11 +268,11 @@ impl Plain {
         message: &WholeMessage<'_>,
     ) -> Result<(), NoMemory>
         requires config { IsConfig config.now }
-        requires unit { StandsForSome self.old side config.now }
+        requires unit { PlainStandsForSome self.old side config.now }
         requires time { IsTime at.0 }
         ensures { (arrivals : Items Arrival) (ms : Items Meeting)
-            → Stands self.old side config.now arrivals ms
-            → OnOk result (Stands self.new side config.now arrivals (met_by_definition side config.now.endpoints at.0 (message_of message.now) ∷ ms)) }
+            → PlainStands self.old side config.now arrivals ms
+            → OnOk result (PlainStands self.new side config.now arrivals (met_by_definition side config.now.endpoints at.0 (message_of message.now) ∷ ms)) }
     {
         self.count(Counter::Messages);
         match meet(side, config.endpoints.as_slice(), message) {
@@ -298,8 +298,8 @@ impl Plain {
     /// Counts a frame, and whether it spells no PDU.
     fn count_frame(&mut self, frame: &[u8])
         ensures { (side : Side) (c : Config) (n : SpecCounter → ℕ) (fs : Items Fragment) (cs : Items SpecControlSection) (ds : Items SpecUserSection)
-            → Holds self.old side c n fs cs ds
-            → Holds self.new side c (λ k. n k + times (refusal_counted (pdu frame.now).refusal ++ SpecCounter.Frames ∷ []) k) fs cs ds }
+            → PlainHolds self.old side c n fs cs ds
+            → PlainHolds self.new side c (λ k. n k + times (refusal_counted (pdu frame.now).refusal ++ SpecCounter.Frames ∷ []) k) fs cs ds }
     {
         self.count(Counter::Frames);
         if messages(frame).refusal().is_some() {
@@ -317,12 +317,12 @@ impl Plain {
         frame: &[u8],
     ) -> Result<(), NoMemory>
         requires config { IsConfig config.now }
-        requires unit { StandsForSome self.old side config.now }
+        requires unit { PlainStandsForSome self.old side config.now }
         requires time { IsTime at.0 }
         ensures { (arrivals : Items Arrival)
             → let a : Arrival = record { at = at.0; frame = frame.now } in
-            Stands self.old side config.now arrivals (meetings side config.now.endpoints arrivals)
-            → OnOk result (Stands self.new side config.now (a ∷ arrivals) (meetings side config.now.endpoints (a ∷ arrivals))) }
+            PlainStands self.old side config.now arrivals (meetings side config.now.endpoints arrivals)
+            → OnOk result (PlainStands self.new side config.now (a ∷ arrivals) (meetings side config.now.endpoints (a ∷ arrivals))) }
     {
         self.count_frame(frame);
         for message in messages(frame) {

@@ -5,15 +5,15 @@ ghost use Rattle.unit_model.specs.Claims.{claim_at};
 ghost use Rattle.unit_model.specs.Proper.{IsProperAllocation, IsProperData};
 ghost use Rattle.unit_model.specs.Radiated.{is_down, is_used, used_mask, cell_id, known_of, wait_of, reported, first_clock};
 ghost use Rattle.unit_model.specs.Sound.{IsSoundData};
-ghost use Rattle.plain_units.specs.ClaimedStarts.{is_in};
+ghost use Rattle.plain_units.specs.ClaimedStarts.{is_claimed_way};
 ghost use Rattle.unit_model.specs.Starts.{cell_told, cells_at};
 ghost use Rattle.unit_model.specs.window_config.specs.Limits.{IsWithinLimits};
 
 use crate::blocks::block_at;
 use crate::claims::claim_at;
-use crate::starts::{FRAME, claimed_starts, is_in};
+use crate::starts::{claimed_starts, is_in};
 use fh_base::{List, NoMemory};
-use fh_time::{Ticks, of_ns};
+use fh_time::{FRAME, Ticks, of_ns};
 use std::alloc::Global;
 use unit_model::air_source::{AirCell, Side};
 use unit_model::window_config::{Delays, EndpointConfig};
@@ -159,7 +159,7 @@ fn push_in(
     down: bool,
     m: &SymbolStart,
 ) -> Result<(), NoMemory>
-    ensures { OnOk result (found.new.items ≡ found.old.items ++ (if is_in m.now.ep down m.now.slot m.now.symbol a.now then a.now ∷ [] else [])) }
+    ensures { OnOk result (found.new.items ≡ found.old.items ++ (if is_claimed_way m.now.ep down m.now.slot m.now.symbol a.now then a.now ∷ [] else [])) }
 {
     if !is_in(a, m.ep, down, m.slot, m.symbol) {
         return Ok(());
@@ -175,7 +175,7 @@ fn in_symbol(
     down: bool,
     m: &SymbolStart,
 ) -> Result<Vec<Allocation>, NoMemory>
-    ensures { IfOk result (λ v. v.items ≡ filter (is_in m.now.ep down m.now.slot m.now.symbol) accepted.now) }
+    ensures { IfOk result (λ v. v.items ≡ filter (is_claimed_way m.now.ep down m.now.slot m.now.symbol) accepted.now) }
 {
     let mut found = Vec::new(alloc);
     for a in accepted {

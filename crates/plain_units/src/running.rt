@@ -6,7 +6,7 @@ ghost use Rattle.fault_counters.specs.Counts.{capped, count_of, times};
 ghost use Rattle.unit_model.specs.window_config.specs.Configs.{IsConfig};
 ghost use Rattle.unit_model.specs.Counts.{block_counter, cells_counted};
 ghost use Rattle.unit_model.specs.Meetings.{meetings};
-ghost use Rattle.plain_units.specs.Plain.{Stands, arrivals_of};
+ghost use Rattle.plain_units.specs.Plain.{PlainStands, arrivals_of};
 ghost use Rattle.unit_model.specs.Proper.{IsProperAllocation, IsTime};
 ghost use Rattle.plain_units.specs.Reports.{IsRuReport, IsDuReport};
 ghost use Rattle.plain_units.specs.declared.report.TimedFrame.{TimedFrame as SpecFrame};
@@ -32,7 +32,7 @@ fn treated(
 ) -> Result<Plain, NoMemory>
     requires config { IsConfig config.now }
     requires times { All (λ (f : SpecFrame). IsTime f.at.0) frames.now }
-    ensures { IfOk result (λ u. Stands u side config.now (arrivals_of frames.now) (meetings side config.now.endpoints (arrivals_of frames.now))) }
+    ensures { IfOk result (λ u. PlainStands u side config.now (arrivals_of frames.now) (meetings side config.now.endpoints (arrivals_of frames.now))) }
 {
     let mut unit = Plain::make(alloc, side, config)?;
     for f in frames {

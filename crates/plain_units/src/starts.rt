@@ -2,27 +2,24 @@
 ghost use Rattle.std.specs.Prelude.{◌≡◌, pos, neg_ℤ, ◌+ℤ◌, ◌+◌, ◌^◌, ◌<◌, ◌≤◌, ◌≤ℤ◌, ◌<ℤ◌, ◌++◌, All, IfOk, OnOk, length};
 ghost use Rattle.fh_time.specs.Numbering.{slots_of, symbols_of};
 ghost use Rattle.unit_model.specs.Proper.{IsProperAllocation, IsSlot};
-ghost use Rattle.plain_units.specs.ClaimedStarts.{is_in, is_claimed_in, is_of_frame, names_frame, claimed_start};
+ghost use Rattle.plain_units.specs.ClaimedStarts.{is_claimed_way, is_claimed_in, is_of_frame, names_frame, claimed_start};
 ghost use Rattle.unit_model.specs.Starts.{start_at};
 ghost use Rattle.unit_model.specs.Sweeps.{slot_at, first_swept, of_symbol, of_slot, of_subframe, of_frame, of_endpoint, at_tick, sweep};
 
 use crate::claims::same_way;
 use crate::moments::next_before;
 use fh_base::NoMemory;
-use fh_time::{Slot, Ticks, air, shape};
+use fh_time::{FRAME, Slot, Ticks, air, shape};
 use std::alloc::Global;
 use unit_model::window_config::EndpointConfig;
 use unit_model::{Allocation, SymbolStart, is_from, same_slot};
-
-/// The ticks of a frame.
-pub(crate) const FRAME: i64 = 15_360_000_000;
 
 /// How many frames a sweep goes over at each tick: that of the tick and those before it.
 const FRAMES: u8 = 6;
 
 /// Whether an allocation of this direction, downlink where `down`, stands in a symbol.
 pub(crate) fn is_in(a: &Allocation, ep: usize, down: bool, slot: Slot, symbol: u8) -> bool
-    ensures { result ≡ is_in ep down slot symbol a.now }
+    ensures { result ≡ is_claimed_way ep down slot symbol a.now }
 {
     a.ep == ep
         && same_way(a.down, down)

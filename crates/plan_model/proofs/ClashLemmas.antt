@@ -9,10 +9,11 @@ use Rattle.unit_model.specs.declared.allocations.Allocation.{Allocation}
 use Rattle.unit_model.specs.declared.cells.Cell.{Cell}
 use Rattle.unit_model.specs.declared.cells.Claim.{Claim}
 use Rattle.fragment_laws.specs.Apart.{IsIn}
-use Rattle.plan_model.specs.Validity.{IsProper, meet, share_cell, share_bit, clash}
-use Rattle.plan_model.proofs.RangeLemmas.{every_at, some_one, some_not, Found, found, is_from_in, meet_from}
-use Rattle.plan_model.proofs.SlotLemmas.{slot_own, slot_is, way_own, way_is, eqb_swap}
-use Rattle.plan_model.proofs.ListLemmas.{some_is}
+use Rattle.plan_model.specs.Validity.{IsProper, ranges_meet, share_cell, share_bit, clash}
+use Rattle.plan_model.proofs.RangeLemmas.{Found, found, meet_from}
+use Rattle.plan_model.proofs.SlotLemmas.{eqb_swap}
+use Rattle.unit_model.proofs.ClaimLemmas.{same_way_is as way_is, same_slot_is as slot_is, is_in as is_from_in, way_self as way_own, slot_self as slot_own, every_at, some_one, some_not}
+use Rattle.fh_time.proofs.Options.{some_is}
 
 -- ---- a cell that both cover
 
@@ -31,8 +32,8 @@ covered a cell h =
     let s = and_parts (is_from a.symbol a.num_symbol cell.symbol) _ r.1 in
     record { ep = eqb-true a.ep cell.ep p.0; way = way_is a.down cell.down q.0; slot = slot_is a.slot cell.slot r.0; symbol = s.0; prb = s.1 }
 
-pub same_from : (a b : Allocation) → a.ep ≡ b.ep → a.down ≡ b.down → a.slot ≡ b.slot → meet a.symbol a.num_symbol b.symbol b.num_symbol ≡ true
-    → meet (first_prb a) (prb_count a) (first_prb b) (prb_count b) ≡ true → share_cell a b ≡ true
+pub same_from : (a b : Allocation) → a.ep ≡ b.ep → a.down ≡ b.down → a.slot ≡ b.slot → ranges_meet a.symbol a.num_symbol b.symbol b.num_symbol ≡ true
+    → ranges_meet (first_prb a) (prb_count a) (first_prb b) (prb_count b) ≡ true → share_cell a b ≡ true
 same_from a b ep way slot symbols prbs =
     and_from (a.ep == b.ep) _ (eq-eqb a.ep b.ep ep) (and_from (same_way a.down b.down) _ (ap (λ t. same_way a.down t) (sym way) ∙ way_own a.down)
     (and_from (same_slot a.slot b.slot) _ (ap (λ t. same_slot a.slot t) (sym slot) ∙ slot_own a.slot) (and_from _ _ symbols prbs)))

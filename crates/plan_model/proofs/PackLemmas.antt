@@ -7,7 +7,7 @@ use Rattle.fh_time.specs.declared.values.Slot.{Slot}
 use Rattle.unit_model.specs.Claims.{same_slot}
 use Rattle.plan_model.specs.Packs.{Message, same_symbol, frames_before}
 use Rattle.plan_model.specs.Streams.{Part, part_fields}
-use Rattle.plan_model.proofs.SlotLemmas.{slot_is}
+use Rattle.unit_model.proofs.ClaimLemmas.{same_slot_is as slot_is}
 
 -- parts of one symbol are so to a third alike
 pub symbol_alike : (p q r : Part) → same_symbol part_fields p q ≡ true → same_symbol part_fields p r ≡ same_symbol part_fields q r

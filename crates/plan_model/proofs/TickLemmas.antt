@@ -5,11 +5,7 @@ use Rattle.std.specs.declared.cmp.Ordering.TheVariants.{Equal}
 use Rattle.std.proofs.lemmas.Bool.Decides.{Decides-int_eq, nat_tests}
 use Rattle.std.proofs.lemmas.Bool.{false_from_ne_true}
 use Rattle.std.proofs.lemmas.Int.{ints}
-use Rattle.std.specs.Prelude.{◌==◌}
 use Rattle.unit_model.specs.Lists.{each_tick}
-
-pub not_zero : (a : ℕ) → (a == 0) ≡ false → 0 < a
-not_zero a h = grind (arith, nat_tests)
 
 pub int_cases : (a b : ℤ) → (a ≡ b) ⊎ (int_eq a b ≡ false)
 int_cases a b = go (int_eq a b) refl

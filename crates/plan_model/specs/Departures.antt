@@ -43,9 +43,9 @@ departures_of c stream = record {
 }
 
 -- when the symbol of a part starts
-abbrev pub start_of : Part → ℤ
-start_of p = air_of p.planned.endpoint.numerology p.planned.line.slot p.symbol
+abbrev pub start_of_part : Part → ℤ
+start_of_part p = air_of p.planned.endpoint.numerology p.planned.line.slot p.symbol
 
 -- when frame `sub` of a message leaves
 abbrev pub sent_at : Config → Stream → Numbered Part → ℕ → ℤ
-sent_at c stream n sub = departure (departures_of c stream) (start_of n.message.first) (n.before + sub)
+sent_at c stream n sub = departure (departures_of c stream) (start_of_part n.message.first) (n.before + sub)

@@ -23,6 +23,7 @@ use Rattle.plan_model.specs.Validity.{first_refused}
 use Rattle.plan_model.specs.declared.refusals.PlanWhy.{PlanWhy}
 use Rattle.plan_model.specs.declared.refusals.PlanWhy.TheVariants.{UnknownEndpoint, Range, Overlap}
 use Rattle.plan_model.specs.declared.streams.Stream.TheVariants.{DownCommands, UpCommands, DownData, UpData}
+use Rattle.fh_time.specs.declared.frames.TheConstants.{FRAME}
 
 abbrev pub endpoint_of : Numerology → ℕ → EndpointConfig
 endpoint_of n prbs = record { id = 0; numerology = n; prbs = prbs; format = record { dynamic = false; method = Plain } }
@@ -45,8 +46,8 @@ abbrev pub slot_0 : Slot
 slot_0 = record { frame = pos 1; subframe = 0; slot = 0 }
 
 -- a line of one symbol, symbol 0 of that slot: its PRBs, mask and section id
-abbrev pub line_of : PlanKind → ℕ → ℕ → ℕ → ℕ → PlanLine
-line_of kind prb num mask section = record {
+abbrev pub worked_line : PlanKind → ℕ → ℕ → ℕ → ℕ → PlanLine
+worked_line kind prb num mask section = record {
   kind = kind;
   id = 0;
   slot = slot_0;
@@ -105,7 +106,7 @@ abbrev pub slow_config : Config
 slow_config = record (config_with 1) { gap = pos 60000 }
 
 abbrev pub frame_1 : ℤ
-frame_1 = pos 15360000000
+frame_1 = FRAME
 
 pub record DeparturesAreAsWorked : Type 0 where
   pub first : departure (departures_of slow_config DownData) frame_1 0 ≡ pos 14830080000
@@ -119,47 +120,47 @@ pub record DeparturesAreAsWorked : Type 0 where
 
 -- ---- tests of lines
 
-abbrev pub refused : List PlanLine → Option (ℕ × PlanWhy)
-refused lines = first_refused (usual ∷ []) lines
+abbrev pub worked_refusal : List PlanLine → Option (ℕ × PlanWhy)
+worked_refusal lines = first_refused (usual ∷ []) lines
 
 pub record RefusalsAreAsWorked : Type 0 where
-  pub twice : refused (line_of Down 0 1 4095 1 ∷ line_of Down 0 1 4095 1 ∷ []) ≡ Some (1, Overlap)
-  pub two_ids : refused (line_of Down 0 1 3840 1 ∷ line_of Down 0 1 15 2 ∷ []) ≡ Some (1, Overlap)
-  pub one_id : refused (line_of Down 0 1 3840 1 ∷ line_of Down 0 1 15 1 ∷ []) ≡ None
+  pub twice : worked_refusal (worked_line Down 0 1 4095 1 ∷ worked_line Down 0 1 4095 1 ∷ []) ≡ Some (1, Overlap)
+  pub two_ids : worked_refusal (worked_line Down 0 1 3840 1 ∷ worked_line Down 0 1 15 2 ∷ []) ≡ Some (1, Overlap)
+  pub one_id : worked_refusal (worked_line Down 0 1 3840 1 ∷ worked_line Down 0 1 15 1 ∷ []) ≡ None
   -- masks ff0 and 0ff have four elements in common
-  pub in_part : refused (line_of Down 0 1 4080 1 ∷ line_of Down 0 1 255 1 ∷ []) ≡ Some (1, Overlap)
-  pub with_idle : refused (line_of Down 0 1 4095 1 ∷ line_of Idle 0 1 4095 1 ∷ []) ≡ Some (1, Overlap)
-  pub both_ways : refused (line_of Down 0 1 4095 1 ∷ line_of Up 0 1 4095 1 ∷ []) ≡ None
+  pub in_part : worked_refusal (worked_line Down 0 1 4080 1 ∷ worked_line Down 0 1 255 1 ∷ []) ≡ Some (1, Overlap)
+  pub with_idle : worked_refusal (worked_line Down 0 1 4095 1 ∷ worked_line Idle 0 1 4095 1 ∷ []) ≡ Some (1, Overlap)
+  pub both_ways : worked_refusal (worked_line Down 0 1 4095 1 ∷ worked_line Up 0 1 4095 1 ∷ []) ≡ None
   -- numPrb 0 means all PRBs, whatever startPrb
-  pub all_prbs : refused (line_of Down 1023 0 4095 1 ∷ line_of Down 105 1 4095 1 ∷ []) ≡ Some (1, Overlap)
-  pub past_carrier : refused (line_of Down 106 1 4095 1 ∷ []) ≡ Some (0, Range)
-  pub no_mask : refused (line_of Down 0 1 0 1 ∷ []) ≡ Some (0, Range)
+  pub all_prbs : worked_refusal (worked_line Down 1023 0 4095 1 ∷ worked_line Down 105 1 4095 1 ∷ []) ≡ Some (1, Overlap)
+  pub past_carrier : worked_refusal (worked_line Down 106 1 4095 1 ∷ []) ≡ Some (0, Range)
+  pub no_mask : worked_refusal (worked_line Down 0 1 0 1 ∷ []) ≡ Some (0, Range)
   -- 30 kHz has the slots 0 and 1
-  pub no_slot : refused (record (line_of Down 0 1 4095 1) { slot = record { frame = pos 1; subframe = 0; slot = 2 } } ∷ []) ≡ Some (0, Range)
-  pub last_symbol : refused (record (line_of Down 0 1 4095 1) { symbol = 13 } ∷ []) ≡ None
-  pub no_symbol : refused (record (line_of Down 0 1 4095 1) { symbol = 13; count = 2 } ∷ []) ≡ Some (0, Range)
-  pub unknown : refused (record (line_of Down 0 1 0 1) { id = 1 } ∷ []) ≡ Some (0, UnknownEndpoint)
+  pub no_slot : worked_refusal (record (worked_line Down 0 1 4095 1) { slot = record { frame = pos 1; subframe = 0; slot = 2 } } ∷ []) ≡ Some (0, Range)
+  pub last_symbol : worked_refusal (record (worked_line Down 0 1 4095 1) { symbol = 13 } ∷ []) ≡ None
+  pub no_symbol : worked_refusal (record (worked_line Down 0 1 4095 1) { symbol = 13; count = 2 } ∷ []) ≡ Some (0, Range)
+  pub unknown : worked_refusal (record (worked_line Down 0 1 0 1) { id = 1 } ∷ []) ≡ Some (0, UnknownEndpoint)
 
 -- ---- the parts of a symbol
 
-abbrev pub sections_in : List Part → List ℕ
-sections_in ps = map (λ p. p.planned.line.section) ps
+abbrev pub worked_sections : List Part → List ℕ
+worked_sections ps = map (λ p. p.planned.line.section) ps
 
 abbrev pub prbs_planned : PlanKind → List PlanLine
-prbs_planned kind = line_of kind 1 1 4095 5 ∷ line_of kind 0 1 4095 6 ∷ []
+prbs_planned kind = worked_line kind 1 1 4095 5 ∷ worked_line kind 0 1 4095 6 ∷ []
 
 pub record PartsAreAsWorked : Type 0 where
   -- downlink data by line, uplink data by startPrb
-  pub by_line : sections_in (symbol_parts DownData (planned (usual ∷ []) (prbs_planned Down)) 0 slot_0 0) ≡ 5 ∷ 6 ∷ []
-  pub by_prb : sections_in (symbol_parts UpData (planned (usual ∷ []) (prbs_planned Up)) 0 slot_0 0) ≡ 6 ∷ 5 ∷ []
-  pub other_symbol : sections_in (symbol_parts DownData (planned (usual ∷ []) (prbs_planned Down)) 0 slot_0 1) ≡ []
-  pub other_way : sections_in (symbol_parts UpCommands (planned (usual ∷ []) (prbs_planned Down)) 0 slot_0 0) ≡ []
+  pub by_line : worked_sections (symbol_parts DownData (planned (usual ∷ []) (prbs_planned Down)) 0 slot_0 0) ≡ 5 ∷ 6 ∷ []
+  pub by_prb : worked_sections (symbol_parts UpData (planned (usual ∷ []) (prbs_planned Up)) 0 slot_0 0) ≡ 6 ∷ 5 ∷ []
+  pub other_symbol : worked_sections (symbol_parts DownData (planned (usual ∷ []) (prbs_planned Down)) 0 slot_0 1) ≡ []
+  pub other_way : worked_sections (symbol_parts UpCommands (planned (usual ∷ []) (prbs_planned Down)) 0 slot_0 0) ≡ []
   -- an idle line has a command and no data
-  pub idle_command : sections_in (symbol_parts DownCommands (planned (usual ∷ []) (prbs_planned Idle)) 0 slot_0 0) ≡ 5 ∷ 6 ∷ []
-  pub idle_data : sections_in (symbol_parts DownData (planned (usual ∷ []) (prbs_planned Idle)) 0 slot_0 0) ≡ []
+  pub idle_command : worked_sections (symbol_parts DownCommands (planned (usual ∷ []) (prbs_planned Idle)) 0 slot_0 0) ≡ 5 ∷ 6 ∷ []
+  pub idle_data : worked_sections (symbol_parts DownData (planned (usual ∷ []) (prbs_planned Idle)) 0 slot_0 0) ≡ []
   -- two lines of one PRB in one symbol: one message where two sections are packed
-  pub one_message : map (λ m. sections_in (parts_of m)) (packs part_fields (most_parts (config_with 2) DownData) (symbol_parts DownData (planned (usual ∷ []) (prbs_planned Down)) 0 slot_0 0)) ≡ (5 ∷ 6 ∷ []) ∷ []
-  pub two_messages : map (λ m. sections_in (parts_of m)) (packs part_fields (most_parts (config_with 1) DownData) (symbol_parts DownData (planned (usual ∷ []) (prbs_planned Down)) 0 slot_0 0)) ≡ (5 ∷ []) ∷ (6 ∷ []) ∷ []
+  pub one_message : map (λ m. worked_sections (parts_of m)) (packs part_fields (most_parts (config_with 2) DownData) (symbol_parts DownData (planned (usual ∷ []) (prbs_planned Down)) 0 slot_0 0)) ≡ (5 ∷ 6 ∷ []) ∷ []
+  pub two_messages : map (λ m. worked_sections (parts_of m)) (packs part_fields (most_parts (config_with 1) DownData) (symbol_parts DownData (planned (usual ∷ []) (prbs_planned Down)) 0 slot_0 0)) ≡ (5 ∷ []) ∷ (6 ∷ []) ∷ []
 
 -- ---- dense messages
 

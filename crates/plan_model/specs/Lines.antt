@@ -1,6 +1,6 @@
 -- A line of a plan at its endpoint, and what it names (the fields are those of O-RAN.WG4.CUS, C-plane sections; the plan is this
 -- project's profile).
-use Rattle.std.specs.Prelude.{ℕ, ◌+◌, Bool, true, false, List, [], ◌∷◌, ◌++◌, Option, Some, None}
+use Rattle.std.specs.Prelude.{ℕ, ◌+◌, Bool, true, false, not, List, filter, map, [], ◌∷◌, ◌++◌, Option, Some, None}
 use Rattle.std.specs.Option.{option_to_list}
 use Rattle.window_config.specs.declared.endpoints.EndpointConfig.{EndpointConfig}
 use Rattle.window_config.specs.declared.plan.PlanKind.{PlanKind}
@@ -11,23 +11,23 @@ use Rattle.unit_model.specs.declared.allocations.Allocation.{Allocation}
 use Rattle.plan_model.specs.declared.lines.PlannedLine.{PlannedLine}
 
 -- a line for the downlink; `idle` lines are for the downlink too (section type 0)
-abbrev pub is_down : PlanKind → Bool
-is_down Down = true
-is_down Up = false
-is_down Idle = true
+abbrev pub is_down_kind : PlanKind → Bool
+is_down_kind Down = true
+is_down_kind Up = false
+is_down_kind Idle = true
 
-abbrev pub is_idle : PlanKind → Bool
-is_idle Down = false
-is_idle Up = false
-is_idle Idle = true
+abbrev pub is_idle_kind : PlanKind → Bool
+is_idle_kind Down = false
+is_idle_kind Up = false
+is_idle_kind Idle = true
 
 -- what a line names, as a section of a command does; filterIndex is 0 in all that a plan sends
-abbrev pub allocation_of : PlannedLine → Allocation
-allocation_of p = record {
+abbrev pub line_allocation : PlannedLine → Allocation
+line_allocation p = record {
   ep = p.ep;
   endpoint = p.endpoint;
-  down = is_down p.line.kind;
-  idle = is_idle p.line.kind;
+  down = is_down_kind p.line.kind;
+  idle = is_idle_kind p.line.kind;
   slot = p.line.slot;
   symbol = p.line.symbol;
   num_symbol = p.line.count;
@@ -37,6 +37,14 @@ allocation_of p = record {
   section = p.line.section;
   filter = 0;
 }
+
+-- a line for the uplink
+abbrev pub is_up_line : PlannedLine → Bool
+is_up_line p = not (is_down_kind p.line.kind)
+
+-- what the uplink lines among these name, in the order of lines
+abbrev pub uplink_allocations : List PlannedLine → List Allocation
+uplink_allocations ps = map line_allocation (filter is_up_line ps)
 
 -- the line with this place in the list, at the endpoint with its eAxC id, where there is one
 abbrev pub planned_with : ℕ → PlanLine → Option (ℕ × EndpointConfig) → Option PlannedLine

@@ -15,7 +15,7 @@ use Rattle.unit_model.specs.Sweeps.{of_endpoint}
 use Rattle.unit_model.specs.Times.{end_of_time}
 use Rattle.unit_model.specs.Uplink.{is_before, sends_in}
 use Rattle.unit_model.specs.declared.allocations.Allocation.{Allocation}
-use Rattle.plan_model.specs.Lines.{allocation_of}
+use Rattle.plan_model.specs.Lines.{line_allocation}
 use Rattle.plan_model.specs.Packs.{PartFields, Message, Numbered, size_of, packs, frames_for, numbered}
 use Rattle.plan_model.specs.declared.lines.PlannedLine.{PlannedLine}
 use Rattle.plan_model.specs.declared.streams.Stream.{Stream}
@@ -34,7 +34,7 @@ abbrev pub part_fields : PartFields Part
 part_fields = record {
   slot = λ p. p.planned.line.slot;
   symbol = λ p. p.symbol;
-  filter = λ p. (allocation_of p.planned).filter;
+  filter = λ p. (line_allocation p.planned).filter;
   size = λ p. section_size p.planned.endpoint p.planned.line.num_prb;
 }
 
@@ -55,7 +55,7 @@ has_part UpData ep slot symbol a = sends_in ep slot symbol a
 
 -- the order in a symbol: that of lines, which uplink data has only where the radio unit's own order does not decide
 abbrev pub line_before : PlannedLine → PlannedLine → Bool
-line_before p q = is_before (allocation_of p) (allocation_of q)
+line_before p q = is_before (line_allocation p) (line_allocation q)
 
 abbrev pub in_stream_order : Stream → List PlannedLine → List PlannedLine
 in_stream_order DownCommands ps = ps
@@ -68,7 +68,7 @@ part_in symbol p = record { planned = p; symbol = symbol }
 
 unfoldable pub symbol_parts : Stream → List PlannedLine → ℕ → Slot → ℕ → List Part
 symbol_parts stream lines ep slot symbol =
-    map (part_in symbol) (in_stream_order stream (filter (λ p. has_part stream ep slot symbol (allocation_of p)) lines))
+    map (part_in symbol) (in_stream_order stream (filter (λ p. has_part stream ep slot symbol (line_allocation p)) lines))
 
 -- ---- the messages
 

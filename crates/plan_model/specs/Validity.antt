@@ -11,7 +11,7 @@ use Rattle.unit_model.specs.Claims.{same_slot, same_way, first_prb, prb_count, i
 use Rattle.unit_model.specs.Commands.{is_full}
 use Rattle.unit_model.specs.Lists.{some}
 use Rattle.unit_model.specs.declared.allocations.Allocation.{Allocation}
-use Rattle.plan_model.specs.Lines.{allocation_of, planned_at}
+use Rattle.plan_model.specs.Lines.{line_allocation, planned_at}
 use Rattle.plan_model.specs.declared.lines.PlannedLine.{PlannedLine}
 use Rattle.plan_model.specs.declared.refusals.PlanWhy.{PlanWhy}
 use Rattle.plan_model.specs.declared.refusals.PlanWhy.TheVariants.{UnknownEndpoint, Range, Overlap, TooManySections}
@@ -28,8 +28,8 @@ is_out_of_range e line =
 -- ---- Overlap, of two lines
 
 -- m numbers from a on and n from b on, neither of them none, have one in common
-abbrev pub meet : ℕ → ℕ → ℕ → ℕ → Bool
-meet a m b n = nat_lt a (b + n) && nat_lt b (a + m)
+abbrev pub ranges_meet : ℕ → ℕ → ℕ → ℕ → Bool
+ranges_meet a m b n = nat_lt a (b + n) && nat_lt b (a + m)
 
 -- it names a resource element
 pub record IsProper (a : Allocation) : Type 0 where
@@ -42,7 +42,7 @@ pub record IsProper (a : Allocation) : Type 0 where
 abbrev pub share_cell : Allocation → Allocation → Bool
 share_cell a b =
     (a.ep == b.ep) && (same_way a.down b.down && (same_slot a.slot b.slot
-    && (meet a.symbol a.num_symbol b.symbol b.num_symbol && meet (first_prb a) (prb_count a) (first_prb b) (prb_count b))))
+    && (ranges_meet a.symbol a.num_symbol b.symbol b.num_symbol && ranges_meet (first_prb a) (prb_count a) (first_prb b) (prb_count b))))
 
 -- both masks have a resource element
 abbrev pub share_bit : ℕ → ℕ → Bool
@@ -59,7 +59,7 @@ why_claimed earlier a =
     if list_any (clash a) earlier then Some Overlap else (if is_full earlier a then Some TooManySections else None)
 
 abbrev pub why_planned : List Allocation → PlannedLine → Option PlanWhy
-why_planned earlier p = if is_out_of_range p.endpoint p.line then Some Range else why_claimed earlier (allocation_of p)
+why_planned earlier p = if is_out_of_range p.endpoint p.line then Some Range else why_claimed earlier (line_allocation p)
 
 abbrev pub why_found : List Allocation → Option PlannedLine → Option PlanWhy
 why_found earlier None = Some UnknownEndpoint
@@ -74,7 +74,7 @@ refused_at k (Some why) later = Some (k, why)
 
 -- what this line and the earlier ones name, the newest first
 abbrev pub with_line : Option PlannedLine → List Allocation → List Allocation
-with_line p earlier = option_to_list (option_map allocation_of p) ++ earlier
+with_line p earlier = option_to_list (option_map line_allocation p) ++ earlier
 
 -- the first of these lines that is refused, and why: the first of them is line k, and the earlier lines name these
 unfoldable pub refused_from : List EndpointConfig → List Allocation → ℕ → List PlanLine → Option (ℕ × PlanWhy)

@@ -1,7 +1,7 @@
 // A line of a plan at its endpoint.
 ghost use Rattle.std.specs.Prelude.{◌≡◌, All, IfSome};
 ghost use Rattle.unit_model.specs.Proper.{IsAt};
-ghost use Rattle.plan_model.specs.Lines.{allocation_of, is_down, is_idle, planned_at};
+ghost use Rattle.plan_model.specs.Lines.{line_allocation, is_down_kind, is_idle_kind, planned_at};
 ghost use Rattle.plan_model.specs.Validity.{is_out_of_range};
 
 use fh_time::shape;
@@ -43,7 +43,7 @@ pub fn planned_line(
 
 /// Whether a line is for the downlink.
 fn is_down(kind: PlanKind) -> bool
-    ensures { result ≡ is_down kind }
+    ensures { result ≡ is_down_kind kind }
 {
     match kind {
         PlanKind::Down | PlanKind::Idle => true,
@@ -53,7 +53,7 @@ fn is_down(kind: PlanKind) -> bool
 
 /// Whether nothing is radiated on what a line names.
 fn is_idle(kind: PlanKind) -> bool
-    ensures { result ≡ is_idle kind }
+    ensures { result ≡ is_idle_kind kind }
 {
     match kind {
         PlanKind::Down | PlanKind::Up => false,
@@ -62,8 +62,8 @@ fn is_idle(kind: PlanKind) -> bool
 }
 
 /// What a line names, as a section of a command does (O-RAN.WG4.CUS, C-plane sections); its filterIndex is 0.
-pub fn allocation_of(p: &PlannedLine) -> Allocation
-    ensures { result ≡ allocation_of p.now }
+pub fn line_allocation(p: &PlannedLine) -> Allocation
+    ensures { result ≡ line_allocation p.now }
 {
     Allocation {
         ep: p.ep,

@@ -11,7 +11,7 @@ use Rattle.plan_model.specs.Streams.{section_size}
 use Rattle.plan_model.specs.Validity.{is_out_of_range}
 use Rattle.plan_model.specs.declared.lines.PlannedLine.{PlannedLine}
 use Rattle.plan_model.proofs.SizeLemmas.{section_few}
-use Rattle.plan_model.proofs.TickLemmas.{not_zero}
+use Rattle.fh_time.proofs.Orders.{not_zero}
 
 pub record Inside (p : PlannedLine) : Type 0 where
   pub slot : p.line.slot.slot < slots_of p.endpoint.numerology

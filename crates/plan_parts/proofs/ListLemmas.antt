@@ -1,6 +1,8 @@
--- Lists: all by place, and a filter by two tests.
+-- Lists: all by place, a filter by two tests, and what a filter leaves.
 use Rattle.std.proofs.Common.{◌≡◌, ℕ, suc, ◌<◌, Bool, true, false, ◌&&◌, if◌then◌else◌, List, [], ◌∷◌, length, filter, get_or, refl, ap, arith}
 use Rattle.std.specs.List.{AllByRecursion}
+use Rattle.plan_model.proofs.ListLemmas.{of_filter, all_in, all_from}
+use Rattle.plan_parts.specs.Parts.{AreRelated}
 
 pub all_index : {X : Type 0} (P : X → Type 0) (xs : List X) → ((k : ℕ) (d : X) → k < length xs → P (get_or xs k d)) → AllByRecursion P xs
 all_index P [] h = tt
@@ -16,3 +18,22 @@ filter_and {X = X} a b (x ∷ xs) = go (a x) (b x) refl refl (filter_and a b xs)
     go true false e f h = h
     go false true e f h = rw e h
     go false false e f h = h
+
+-- what holds of all, and what the test says, holds of those that pass it
+pub filter_has : {X : Type 0} (P Q : X → Type 0) (t : X → Bool) → ((x : X) → P x → t x ≡ true → Q x) → (xs : List X) → AllByRecursion P xs → AllByRecursion Q (filter t xs)
+filter_has P Q t h xs all = all_from Q (filter t xs) (λ x m. let w = of_filter t x xs m in h x (all_in P xs x all w.0) w.1)
+
+-- ---- any two
+
+pub related_filter : {X : Type 0} (R : X → X → Type 0) (t : X → Bool) (xs : List X) → AreRelated R xs → AreRelated R (filter t xs)
+related_filter R t [] h = tt
+related_filter {X = X} R t (x ∷ xs) h = go (t x) (related_filter R t xs h.1)
+  where
+    go : (b : Bool) → AreRelated R (filter t xs) → AreRelated R (let ys : List X = if b then x ∷ filter t xs else filter t xs in ys)
+    go true r = (filter_has (R x) (R x) t (λ y w e. w) xs h.0, r)
+    go false r = r
+
+pub related_map : {X : Type 0} (R S : X → X → Type 0) (P : X → Type 0) → ((x y : X) → P x → P y → R x y → S x y) → (xs : List X)
+    → AllByRecursion P xs → AreRelated R xs → AreRelated S xs
+related_map R S P h [] all r = tt
+related_map R S P h (x ∷ xs) all r = (all_from (S x) xs (λ y m. h x y all.0 (all_in P xs y all.1 m) (all_in (R x) xs y r.0 m)), related_map R S P h xs all.1 r.1)

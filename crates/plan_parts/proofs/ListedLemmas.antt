@@ -1,11 +1,13 @@
 -- The parts of one symbol among those that are listed line by line.
 use Rattle.std.proofs.Common.{◌*◌, ◌≡◌, ℕ, ℤ, zero, suc, ◌+◌, ◌<◌, ◌≤◌, inl, inr, Bool, true, false, ◌&&◌, ◌==◌, if◌then◌else◌, List, [], ◌∷◌, ◌++◌, length, filter, map, get_or, drop, drop-cons, append_assoc, refl, ap, ap₂, sym, ◌∙◌, subst, arith}
 use Rattle.std.specs.Ordering.{int_eq}
-use Rattle.std.proofs.lemmas.Bool.{cases_Bool, cases_eq, eq-eqb, ne_eqb, eqb-true, and_parts}
+use Rattle.std.proofs.lemmas.Bool.{cases_Bool, cases_eq, eq-eqb, ne_eqb, eqb-true, and_parts, and_right}
 use Rattle.std.proofs.lemmas.Bool.Decides.{nat_tests}
+use Rattle.std.proofs.Math.Bool.{and-true, and_assoc}
 use Rattle.std.proofs.lemmas.List.{map-append, append-nil, drop_all, length-append}
 use Rattle.std.proofs.lemmas.List.Elements.{filter-append}
 use Rattle.fh_time.specs.Numbering.{symbols_of}
+use Rattle.fh_time.proofs.Orders.{all_three}
 use Rattle.window_config.specs.Endpoints.{IsEndpoint}
 use Rattle.unit_laws.specs.unit_model.specs.Proper.{IsSlot}
 use Rattle.unit_laws.specs.unit_model.proofs.SweepLaws.{each_split}
@@ -13,27 +15,21 @@ use Rattle.plan_model.specs.declared.streams.Stream.{Stream}
 use Rattle.plan_model.specs.declared.streams.Stream.TheVariants.{DownCommands, UpCommands, DownData, UpData}
 use Rattle.plan_parts.specs.Placing.{ArePlaced}
 use Rattle.plan_parts.proofs.InsideLemmas.{inside_is, slot_inside}
-use Rattle.plan_parts.proofs.InsideLemmas.{slot_inside}
 use Rattle.unit_laws.specs.unit_model.specs.Claims.{is_from}
 use Rattle.unit_laws.specs.unit_model.specs.Lists.{each}
 use Rattle.unit_laws.specs.unit_model.specs.Sweeps.{slot_at}
 use Rattle.plan_model.specs.fragment_laws.specs.Apart.{IsIn}
-use Rattle.plan_model.specs.Lines.{allocation_of}
+use Rattle.plan_model.specs.Lines.{line_allocation}
 use Rattle.plan_model.specs.Streams.{Part, part_in, has_part}
 use Rattle.plan_model.specs.declared.lines.PlannedLine.{PlannedLine}
 use Rattle.plan_model.proofs.ListLemmas.{in_either}
-use Rattle.plan_parts.specs.Parts.{symbols_in, timed, has_stream, is_sent, line_parts, listed}
+use Rattle.plan_parts.specs.Parts.{part_symbols, timed, has_stream, is_sent, line_parts, listed}
 use Rattle.plan_parts.specs.Sweeping.{is_at}
 use Rattle.plan_parts.specs.declared.parts.TimedPart.{TimedPart}
 
 -- the tests of the slot, as one
 slot_test : ℤ → ℕ → ℕ → PlannedLine → Bool
 slot_test f b l p = int_eq p.line.slot.frame f && ((p.line.slot.subframe == b) && (p.line.slot.slot == l))
-
-pub last_apart : (a b c d : Bool) → (a && (b && (c && d))) ≡ ((a && (b && c)) && d)
-last_apart true true c d = refl
-last_apart true false c d = refl
-last_apart false b c d = refl
 
 none_from : (from y : ℕ) → is_from from 0 y ≡ false
 none_from from y = grind (arith, nat_tests)
@@ -57,35 +53,21 @@ one_of t x = if t then x ∷ [] else []
 one_line : (stream : Stream) (p : PlannedLine) (f : ℤ) (b l y from n : ℕ)
     → filter (is_at f b l y) (map (timed stream) (each from n (λ z. part_in z p ∷ []))) ≡ one_of (slot_test f b l p && is_from from n y) (timed stream (part_in y p))
 unfolding each slot_test
-one_line stream p f b l y from zero = ap (λ (t : Bool). one_of t (timed stream (part_in y p))) (no_more (slot_test f b l p) (is_from from 0 y) (none_from from y))
-  where
-    no_more : (s t : Bool) → t ≡ false → false ≡ (s && t)
-    no_more true t e = sym e
-    no_more false t e = refl
+one_line stream p f b l y from zero =
+    ap (λ (t : Bool). one_of t (timed stream (part_in y p))) (sym (and_right (slot_test f b l p) (is_from from 0 y) (none_from from y)))
 one_line stream p f b l y from (suc n) = elim (cases_eq from y) [
-  | inl here ↦ rest_of (slot_test f b l p) (is_at f b l y (timed stream (part_in from p))) (at_here here) (ap (λ z. timed stream (part_in z p)) here)
+  | inl here ↦ rest_of (slot_test f b l p) (is_at f b l y (timed stream (part_in from p)))
+      (at_is ∙ ap (λ (t : Bool). slot_test f b l p && t) (eq-eqb from y here) ∙ and-true (slot_test f b l p)) (ap (λ z. timed stream (part_in z p)) here)
       (one_line stream p f b l y (from + 1) n ∙ ap (λ (t : Bool). one_of (slot_test f b l p && t) (timed stream (part_in y p))) (not_later from n y here)) (here_from from n y here)
-  | inr other ↦ skip (is_at f b l y (timed stream (part_in from p))) (at_other other) (one_line stream p f b l y (from + 1) n) (later_from from n y other)
+  | inr other ↦ skip (is_at f b l y (timed stream (part_in from p))) (at_is ∙ and_right (slot_test f b l p) (from == y) (ne_eqb from y other))
+      (one_line stream p f b l y (from + 1) n) (later_from from n y other)
 ]
   where
     whole : List TimedPart
     whole = filter (is_at f b l y) (map (timed stream) (each (from + 1) n (λ z. part_in z p ∷ [])))
 
-    at_here : from ≡ y → is_at f b l y (timed stream (part_in from p)) ≡ slot_test f b l p
-    at_here e = last_apart (int_eq p.line.slot.frame f) (p.line.slot.subframe == b) (p.line.slot.slot == l) (from == y)
-        ∙ ap (λ (t : Bool). slot_test f b l p && t) (eq-eqb from y e) ∙ and_true (slot_test f b l p)
-      where
-        and_true : (s : Bool) → (s && true) ≡ s
-        and_true true = refl
-        and_true false = refl
-
-    at_other : (from ≡ y → ⊥) → is_at f b l y (timed stream (part_in from p)) ≡ false
-    at_other ne = last_apart (int_eq p.line.slot.frame f) (p.line.slot.subframe == b) (p.line.slot.slot == l) (from == y)
-        ∙ ap (λ (t : Bool). slot_test f b l p && t) (ne_eqb from y ne) ∙ and_false (slot_test f b l p)
-      where
-        and_false : (s : Bool) → (s && false) ≡ false
-        and_false true = refl
-        and_false false = refl
+    at_is : is_at f b l y (timed stream (part_in from p)) ≡ (slot_test f b l p && (from == y))
+    at_is = all_three (int_eq p.line.slot.frame f) (p.line.slot.subframe == b) (p.line.slot.slot == l) (from == y)
 
     rest_of : (s a : Bool) → a ≡ s → timed stream (part_in from p) ≡ timed stream (part_in y p) → whole ≡ one_of (s && false) (timed stream (part_in y p)) → is_from from (suc n) y ≡ true
         → (let xs : List TimedPart = if a then timed stream (part_in from p) ∷ whole else whole in xs) ≡ one_of (s && is_from from (suc n) y) (timed stream (part_in y p))
@@ -102,44 +84,40 @@ one_from from y = elim (cases_eq from y) [
   | inr other ↦ later_from from 0 y other ∙ none_from (from + 1) y ∙ sym (ne_eqb from y other)
 ]
 
-regroup : (a b c : Bool) → ((a && b) && c) ≡ (a && (b && c))
-regroup true b c = refl
-regroup false b c = refl
-
 -- a command has its part in the first symbol
 command_is : (a b s : Bool) (from y : ℕ) → ((a && b) && (s && is_from from 1 y)) ≡ (a && (b && (s && (from == y))))
-command_is a b s from y = ap (λ (t : Bool). (a && b) && (s && t)) (one_from from y) ∙ regroup a b (s && (from == y))
+command_is a b s from y = ap (λ (t : Bool). (a && b) && (s && t)) (one_from from y) ∙ and_assoc a b (s && (from == y))
 
 -- that is what the definition asks of a line
 test_is : (stream : Stream) (ep : ℕ) (p : PlannedLine) (f : ℤ) (b l y : ℕ)
-    → (is_sent stream ep p && (slot_test f b l p && is_from p.line.symbol (symbols_in stream p) y)) ≡ has_part stream ep (slot_at f b l) y (allocation_of p)
+    → (is_sent stream ep p && (slot_test f b l p && is_from p.line.symbol (part_symbols stream p) y)) ≡ has_part stream ep (slot_at f b l) y (line_allocation p)
 unfolding slot_test
-test_is DownCommands ep p f b l y = command_is (has_stream DownCommands (allocation_of p)) (p.ep == ep) _ p.line.symbol y
-test_is UpCommands ep p f b l y = command_is (has_stream UpCommands (allocation_of p)) (p.ep == ep) _ p.line.symbol y
-test_is DownData ep p f b l y = regroup (has_stream DownData (allocation_of p)) (p.ep == ep) _
-test_is UpData ep p f b l y = regroup (has_stream UpData (allocation_of p)) (p.ep == ep) _
+test_is DownCommands ep p f b l y = command_is (has_stream DownCommands (line_allocation p)) (p.ep == ep) _ p.line.symbol y
+test_is UpCommands ep p f b l y = command_is (has_stream UpCommands (line_allocation p)) (p.ep == ep) _ p.line.symbol y
+test_is DownData ep p f b l y = and_assoc (has_stream DownData (line_allocation p)) (p.ep == ep) _
+test_is UpData ep p f b l y = and_assoc (has_stream UpData (line_allocation p)) (p.ep == ep) _
 
 pub listed_at : (stream : Stream) (ep : ℕ) (ps : List PlannedLine) (f : ℤ) (b l y : ℕ)
     → filter (is_at f b l y) (map (timed stream) (listed stream ep ps))
-    ≡ map (λ p. timed stream (part_in y p)) (filter (λ p. has_part stream ep (slot_at f b l) y (allocation_of p)) ps)
+    ≡ map (λ p. timed stream (part_in y p)) (filter (λ p. has_part stream ep (slot_at f b l) y (line_allocation p)) ps)
 unfolding listed
 listed_at stream ep [] f b l y = refl
 listed_at stream ep (p ∷ ps) f b l y =
     ap (filter (is_at f b l y)) (map-append (timed stream) (own (is_sent stream ep p)) (listed stream ep ps))
     ∙ filter-append (is_at f b l y) (map (timed stream) (own (is_sent stream ep p))) (map (timed stream) (listed stream ep ps))
     ∙ ap₂ (λ (xs ys : List TimedPart). xs ++ ys) (first (is_sent stream ep p)) (listed_at stream ep ps f b l y)
-    ∙ joined (is_sent stream ep p && (slot_test f b l p && is_from p.line.symbol (symbols_in stream p) y))
-    (has_part stream ep (slot_at f b l) y (allocation_of p)) (test_is stream ep p f b l y)
+    ∙ joined (is_sent stream ep p && (slot_test f b l p && is_from p.line.symbol (part_symbols stream p) y))
+    (has_part stream ep (slot_at f b l) y (line_allocation p)) (test_is stream ep p f b l y)
   where
     own : Bool → List Part
     own t = if t then line_parts stream p else []
 
     rest : List PlannedLine
-    rest = filter (λ q. has_part stream ep (slot_at f b l) y (allocation_of q)) ps
+    rest = filter (λ q. has_part stream ep (slot_at f b l) y (line_allocation q)) ps
 
     first : (t : Bool) → filter (is_at f b l y) (map (timed stream) (let xs : List Part = if t then line_parts stream p else [] in xs))
-        ≡ one_of (t && (slot_test f b l p && is_from p.line.symbol (symbols_in stream p) y)) (timed stream (part_in y p))
-    first true = one_line stream p f b l y p.line.symbol (symbols_in stream p)
+        ≡ one_of (t && (slot_test f b l p && is_from p.line.symbol (part_symbols stream p) y)) (timed stream (part_in y p))
+    first true = one_line stream p f b l y p.line.symbol (part_symbols stream p)
     first false = refl
 
     joined : (s t : Bool) → s ≡ t → one_of s (timed stream (part_in y p)) ++ map (λ q. timed stream (part_in y q)) rest
@@ -155,7 +133,7 @@ pub record Named (stream : Stream) (ep : ℕ) (ps : List PlannedLine) (x : Timed
   pub ep_is : line.ep ≡ ep
   pub symbol : ℕ
   pub low : line.line.symbol ≤ symbol
-  pub high : symbol < line.line.symbol + symbols_in stream line
+  pub high : symbol < line.line.symbol + part_symbols stream line
   pub is : x ≡ timed stream (part_in symbol line)
 
 in_line : (stream : Stream) (p : PlannedLine) (x : TimedPart) (from n : ℕ) → IsIn x (map (timed stream) (each from n (λ z. part_in z p ∷ [])))
@@ -179,8 +157,8 @@ named_is stream ep (p ∷ ps) x m = go (is_sent stream ep p) refl m (named_is st
         → (IsIn x (map (timed stream) (listed stream ep ps)) → Named stream ep ps x) → Named stream ep (p ∷ ps) x
     go true e n rest = elim (in_either x (map (timed stream) (line_parts stream p)) (map (timed stream) (listed stream ep ps)) (subst (IsIn x) (map-append (timed stream) (line_parts stream p) (listed stream ep ps)) n)) [
       | inl own ↦
-          let r = in_line stream p x p.line.symbol (symbols_in stream p) own in
-          record { line = p; there = inl refl; ep_is = eqb-true p.ep ep (and_parts (has_stream stream (allocation_of p)) (p.ep == ep) e).1; symbol = r.0; low = r.1; high = r.2; is = r.3 }
+          let r = in_line stream p x p.line.symbol (part_symbols stream p) own in
+          record { line = p; there = inl refl; ep_is = eqb-true p.ep ep (and_parts (has_stream stream (line_allocation p)) (p.ep == ep) e).1; symbol = r.0; low = r.1; high = r.2; is = r.3 }
       | inr there ↦ later (rest there)
     ]
     go false e n rest = later (rest n)
@@ -226,7 +204,7 @@ in_at [] i p below is = absurd (omega (arith, below))
 in_at (x ∷ lines) zero p below is = inl is
 in_at (x ∷ lines) (suc i) p below is = inr (in_at lines i p (omega (arith, below)) is)
 
-pub few_symbols : (stream : Stream) (p : PlannedLine) → 0 < p.line.count → symbols_in stream p ≤ p.line.count
+pub few_symbols : (stream : Stream) (p : PlannedLine) → 0 < p.line.count → part_symbols stream p ≤ p.line.count
 few_symbols DownCommands p some = some
 few_symbols UpCommands p some = some
 few_symbols DownData p some = omega arith
@@ -235,7 +213,7 @@ few_symbols UpData p some = omega arith
 pub record Timeable (stream : Stream) (p : PlannedLine) : Type 0 where
   pub endpoint : IsEndpoint p.endpoint
   pub slot : IsSlot p.endpoint.numerology p.line.slot
-  pub symbols : p.line.symbol + symbols_in stream p ≤ symbols_of p.endpoint.numerology
+  pub symbols : p.line.symbol + part_symbols stream p ≤ symbols_of p.endpoint.numerology
 
 pub timeable : (stream : Stream) (lines : List PlannedLine) (i : ℕ) (p : PlannedLine) → ArePlaced lines → i < length lines → p ≡ get_or lines i p → Timeable stream p
 timeable stream lines i p placed below is =
@@ -252,14 +230,14 @@ unfolding each
 one_each p from zero = refl
 one_each p from (suc n) = let e = one_each p (from + 1) n in omega (arith, e)
 
-pub listed_few : (stream : Stream) (ep : ℕ) (ps : List PlannedLine) → ((p : PlannedLine) → IsIn p ps → symbols_in stream p ≤ 15) → length (listed stream ep ps) ≤ 15 * length ps
+pub listed_few : (stream : Stream) (ep : ℕ) (ps : List PlannedLine) → ((p : PlannedLine) → IsIn p ps → part_symbols stream p ≤ 15) → length (listed stream ep ps) ≤ 15 * length ps
 unfolding listed
 listed_few stream ep [] h = omega arith
 listed_few stream ep (p ∷ ps) h = go (is_sent stream ep p) (listed_few stream ep ps (λ q m. h q (inr m)))
   where
     go : (t : Bool) → length (listed stream ep ps) ≤ 15 * length ps → length ((let xs : List Part = if t then line_parts stream p else [] in xs) ++ listed stream ep ps) ≤ 15 * suc (length ps)
     go true r =
-        let own = one_each p p.line.symbol (symbols_in stream p) in
+        let own = one_each p p.line.symbol (part_symbols stream p) in
         let most = h p (inl refl) in
         let e = length-append (line_parts stream p) (listed stream ep ps) in
         omega (arith, own, most, e, r)

@@ -3,7 +3,7 @@ use Rattle.std.proofs.Common.{◌≡◌, ℕ, suc, ◌+◌, inl, inr, Bool, true
 use Rattle.std.specs.List.{AllByRecursion}
 use Rattle.std.specs.List.Sorted.{IsSortedBy, ties}
 use Rattle.std.specs.Cmp.{IsStrictWeakOrder}
-use Rattle.std.proofs.lemmas.Bool.{and_from, and_parts}
+use Rattle.std.proofs.lemmas.Bool.{and_from, and_parts, not-true, not_from_false}
 use Rattle.std.proofs.lemmas.List.Sorted.{sorted_far}
 use Rattle.unit_laws.specs.unit_model.specs.Lists.{put_in, in_order}
 use Rattle.plan_model.specs.fragment_laws.specs.Apart.{IsIn}
@@ -20,27 +20,7 @@ ordered_from lt o (p ∷ ps) h = (
       subst (λ (n : ℕ). lt (get_or (p ∷ ps) n d) (get_or ps k d) ≡ false) e (h (suc k) d (omega arith) (omega (arith, high)))),
 )
 
-filter_keeps : {X : Type 0} (P : X → Type 0) (t : X → Bool) (xs : List X) → AllByRecursion P xs → AllByRecursion P (filter t xs)
-filter_keeps P t xs all = all_from P (filter t xs) (λ x m. all_in P xs x all (of_filter t x xs m).0)
-
-pub ordered_filter : {X : Type 0} (lt : X → X → Bool) (t : X → Bool) (xs : List X) → AreOrderedBy lt xs → AreOrderedBy lt (filter t xs)
-ordered_filter lt t [] h = tt
-ordered_filter {X = X} lt t (x ∷ xs) h = go (t x) (ordered_filter lt t xs h.1)
-  where
-    go : (b : Bool) → AreOrderedBy lt (filter t xs) → AreOrderedBy lt (let ys : List X = if b then x ∷ filter t xs else filter t xs in ys)
-    go true r = (filter_keeps (λ q. lt q x ≡ false) t xs h.0, r)
-    go false r = r
-
--- another test that says no more of its elements
-pub ordered_weaker : {X : Type 0} (a b : X → X → Bool) (P : X → Type 0) → ((x y : X) → P x → P y → a y x ≡ false → b y x ≡ false) → (xs : List X) → AllByRecursion P xs → AreOrderedBy a xs
-    → AreOrderedBy b xs
-ordered_weaker a b P h [] all o = tt
-ordered_weaker a b P h (x ∷ xs) all o = (all_from (λ q. b q x ≡ false) xs (λ q m. h x q all.0 (all_in P xs q all.1 m) (all_in (λ y. a y x ≡ false) xs q o.0 m)), ordered_weaker a b P h xs all.1 o.1)
-
 -- ---- two lists
-
-not_is : (b : Bool) → b ≡ false → not b ≡ true
-not_is b e = ap not e
 
 cons_first : {X : Type 0} (x y : X) (xs ys : List X) → x ∷ xs ≡ y ∷ ys → (x ≡ y) × (xs ≡ ys)
 cons_first x y xs ys h = (cc, cc)
@@ -58,17 +38,14 @@ ordered_same lt o [] [] a b same = refl
 ordered_same lt o [] (y ∷ ys) a b same = (let e = same y ∙ kept_first (ties lt y) y ys (own_tie lt o y) in cc)
 ordered_same lt o (x ∷ xs) [] a b same = (let e = sym (kept_first (ties lt x) x xs (own_tie lt o x)) ∙ same x in cc)
 ordered_same {X = X} lt o (x ∷ xs) (y ∷ ys) a b same =
-    let own = λ (z : X). off (lt z z) (and_parts (not (lt z z)) _ (own_tie lt o z)).0 in
+    let own = λ (z : X). not-true (lt z z) (and_parts (not (lt z z)) _ (own_tie lt o z)).0 in
     let x_in : IsIn x (y ∷ ys) = (of_filter (ties lt x) x (y ∷ ys) (subst (IsIn x) (same x) (in_filter (ties lt x) x (x ∷ xs) (inl refl) (own_tie lt o x)))).0 in
     let y_in : IsIn y (x ∷ xs) = (of_filter (ties lt y) y (x ∷ xs) (subst (IsIn y) (sym (same y)) (in_filter (ties lt y) y (y ∷ ys) (inl refl) (own_tie lt o y)))).0 in
-    let tied : ties lt x y ≡ true = and_from (not (lt x y)) _ (not_is _ (first_behind lt x y ys b.0 (own y) x_in)) (not_is _ (first_behind lt y x xs a.0 (own x) y_in)) in
+    let tied : ties lt x y ≡ true =
+    and_from (not (lt x y)) _ (not_from_false _ (first_behind lt x y ys b.0 (own y) x_in)) (not_from_false _ (first_behind lt y x xs a.0 (own x) y_in)) in
     let heads = cons_first x y (filter (ties lt x) xs) (filter (ties lt x) ys) (sym (kept_first (ties lt x) x xs (own_tie lt o x)) ∙ same x ∙ kept_first (ties lt x) y ys tied) in
     ap₂ (λ (z : X) (zs : List X). z ∷ zs) heads.0 (ordered_same lt o xs ys a.1 b.1 (λ z. tail z (ties lt z x) refl heads.0 (same z)))
   where
-    off : (c : Bool) → not c ≡ true → c ≡ false
-    off true h = cc
-    off false h = refl
-
     tail : (z : X) (t : Bool) → ties lt z x ≡ t → x ≡ y → filter (ties lt z) (x ∷ xs) ≡ filter (ties lt z) (y ∷ ys) → filter (ties lt z) xs ≡ filter (ties lt z) ys
     tail z true e xy h = (cons_first x y (filter (ties lt z) xs) (filter (ties lt z) ys)
         (sym (kept_first (ties lt z) x xs e) ∙ h ∙ kept_first (ties lt z) y ys (ap (ties lt z) (sym xy) ∙ e))).1

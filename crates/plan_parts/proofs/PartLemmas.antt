@@ -4,12 +4,12 @@ use Rattle.std.specs.Int.{int_gap}
 use Rattle.std.specs.List.{AllByRecursion}
 use Rattle.std.specs.List.Sorted.{IsStableBy, ties}
 use Rattle.std.specs.Cmp.{IsTotalOrder, IsStrictWeakOrder, both_ways}
-use Rattle.std.specs.Ordering.{nat_cmp, int_cmp, int_eq, is_lt, ordering_reverse, ordering_then}
+use Rattle.std.specs.Ordering.{MatchOrdering, nat_cmp, int_cmp, int_eq, is_lt, ordering_reverse, ordering_then}
 use Rattle.std.specs.declared.cmp.Ordering.{Ordering}
 use Rattle.std.specs.declared.cmp.Ordering.TheVariants.{Less, Equal, Greater}
-use Rattle.std.proofs.lemmas.Bool.{and_parts, and_from, eqb-true, eq-eqb}
+use Rattle.std.proofs.lemmas.Bool.{and_parts, and_from, eq-eqb}
 use Rattle.std.proofs.lemmas.Bool.Decides.{Decides-int_eq}
-use Rattle.std.proofs.lemmas.Cmp.{by_ranked, ranked, int_ranked, nat_cmp_total, int_cmp_total, on_total, then_total, tied_itself}
+use Rattle.std.proofs.lemmas.Cmp.{ranked, int_ranked, nat_cmp_total, int_cmp_total, on_total, then_total, tied_itself}
 use Rattle.std.proofs.lemmas.Int.{ints}
 use Rattle.std.proofs.lemmas.List.{map-append, length-map}
 use Rattle.std.proofs.lemmas.List.Sorted.{ranks_by}
@@ -25,7 +25,7 @@ use Rattle.unit_laws.specs.unit_model.specs.Times.{end_of_time}
 use Rattle.unit_laws.specs.unit_model.proofs.SweepLaws.{gap_is}
 use Rattle.unit_laws.proofs.FrameLemmas.{frames_of_symbol, symbol_short}
 use Rattle.plan_model.specs.fragment_laws.specs.Apart.{IsIn}
-use Rattle.plan_model.specs.Lines.{allocation_of}
+use Rattle.plan_model.specs.Lines.{line_allocation}
 use Rattle.plan_model.specs.Streams.{part_in, has_part, line_before, symbol_parts, parts_in}
 use Rattle.plan_model.specs.declared.lines.PlannedLine.{PlannedLine}
 use Rattle.plan_model.specs.declared.streams.Stream.{Stream}
@@ -33,15 +33,17 @@ use Rattle.plan_model.specs.declared.streams.Stream.TheVariants.{DownCommands, U
 use Rattle.plan_model.proofs.ListLemmas.{of_filter, in_filter, all_in, all_from, all_map, filter_all, filter_mapped}
 use Rattle.plan_model.proofs.TickLemmas.{nat_same, int_same}
 use Rattle.plan_parts.specs.Placing.{ArePlaced}
-use Rattle.plan_parts.specs.Parts.{is_up_data, symbols_in, if_up, timed, listed, prb_cmp, part_cmp, part_first, AreOrderedBy, HasEndpoint, IsTimed}
-use Rattle.plan_parts.specs.Sweeping.{clock_of, is_at, of_endpoint, IsPart, Precedes, AreOrdered}
+use Rattle.plan_parts.specs.Parts.{is_up_data, part_symbols, timed, listed, prb_cmp, part_cmp, part_first, AreOrderedBy, HasEndpoint, IsTimed}
+use Rattle.plan_parts.specs.Sweeping.{clock_of, is_at, parts_of_endpoint, IsPart, Precedes}
 use Rattle.plan_parts.specs.declared.parts.TimedPart.{TimedPart}
-use Rattle.plan_parts.proofs.ListLemmas.{filter_and}
+use Rattle.plan_parts.proofs.ListLemmas.{filter_and, filter_has, related_filter, related_map}
 use Rattle.plan_parts.proofs.InsideLemmas.{inside_is, size_small}
 use Rattle.plan_parts.proofs.ListedLemmas.{Named, named_is, listed_at, listed_few, few_symbols}
-use Rattle.plan_parts.proofs.OrderedLemmas.{ordered_filter, ordered_weaker, ordered_same, in_order_ordered, in_order_keeps}
+use Rattle.plan_parts.proofs.OrderedLemmas.{ordered_same, in_order_ordered, in_order_keeps}
 use Rattle.plan_parts.proofs.OrderLemmas.{nat_equal, int_equal, then_equal}
-use Rattle.plan_parts.proofs.SymbolLemmas.{filter_alike, sweeps_find_all}
+use Rattle.plan_parts.proofs.SymbolLemmas.{filter_alike, AtSymbol, at_parts, start_at, sweeps_find_all}
+use Rattle.fh_time.specs.declared.frames.TheConstants.{FRAME}
+use Rattle.window_config.specs.declared.plan.TheConstants.{LAST_FRAME}
 
 abbrev pub ticks_in_all : ℕ
 ticks_in_all = int_gap first_clock (end_of_time +ℤ pos 1)
@@ -65,76 +67,50 @@ prb_first p q = is_lt (prb_cmp p q)
 prb_ranks : IsStrictWeakOrder prb_first
 prb_ranks = ranks_by prb_total (λ (p : TimedPart). p)
 
-tie_equal : {K : Type 0} {R : K → K → Ordering} (o : IsTotalOrder R) → (a b : K) → is_lt (R a b) ≡ false → is_lt (R b a) ≡ false → R a b ≡ Equal
-tie_equal {R = R} o a b h g = go (R a b) (R b a) h g (o.antisymm a b)
-  where
-    go : (x y : Ordering) → is_lt x ≡ false → is_lt y ≡ false → x ≡ ordering_reverse y → x ≡ Equal
-    go Less y h g e = cc
-    go Equal y h g e = refl
-    go Greater Less h g e = cc
-    go Greater Equal h g e = cc
-    go Greater Greater h g e = cc
-
-off : (b : Bool) → not b ≡ true → b ≡ false
-off true h = cc
-off false h = refl
-
 tied_equal : {K : Type 0} {R : K → K → Ordering} (o : IsTotalOrder R) → (a b : K) → ties (λ x y. is_lt (R x y)) a b ≡ true → R a b ≡ Equal
-tied_equal {R = R} o a b h = let w = and_parts (not (is_lt (R a b))) _ h in tie_equal o a b (off _ w.0) (off _ w.1)
+tied_equal {R = R} o a b h = go (R a b) (R b a) h (o.antisymm a b)
+  where
+    go : (x y : Ordering) → (not (is_lt x) && not (is_lt y)) ≡ true → x ≡ ordering_reverse y → x ≡ Equal
+    go Less y h e = cc
+    go Equal y h e = refl
+    go Greater Less h e = cc
+    go Greater Equal h e = cc
+    go Greater Greater h e = cc
 
 equal_tied : {K : Type 0} {R : K → K → Ordering} (o : IsTotalOrder R) → (a b : K) → R a b ≡ Equal → ties (λ x y. is_lt (R x y)) a b ≡ true
-equal_tied {R = R} o a b h = go (R a b) (R b a) h (o.antisymm b a)
-  where
-    go : (x y : Ordering) → x ≡ Equal → y ≡ ordering_reverse x → (not (is_lt x) && not (is_lt y)) ≡ true
-    go x y h e = rw (e, h) refl
+equal_tied {R = R} o a b h = let e = o.antisymm b a in rw (e, h) refl
+
+-- what is in a list in a stable order is in the list as it was
+from_stable : (xs ys : List TimedPart) → IsStableBy part_first xs ys → (y : TimedPart) → IsIn y ys → IsIn y xs
+from_stable xs ys stable y m =
+    let there : IsIn y (filter (ties part_first y) ys) = in_filter (ties part_first y) y ys m (equal_tied part_total y y (tied_itself part_total y)) in
+    (of_filter (ties part_first y) y xs (subst (IsIn y) (stable y) there)).0
 
 -- what is not put behind precedes
-step : (o r : Ordering) → is_lt (ordering_then o r) ≡ false → (o ≡ Less → ⊥) × (o ≡ Equal → is_lt r ≡ false)
-step Less r h = absurd (true≢false h)
-step Equal r h = ((λ e. cc), λ e. h)
-step Greater r h = ((λ e. cc), λ e. cc)
+step : (P Q R : Type 0) {G : Type 0} (o r : Ordering) → MatchOrdering o P Q R → is_lt (ordering_then o r) ≡ false → (Q → is_lt r ≡ false → G) → (R → G) → G
+step P Q R Less r m h same later = absurd (true≢false h)
+step P Q R Equal r m h same later = same m h
+step P Q R Greater r m h same later = later m
+
+nat_step : {G : Type 0} (a b : ℕ) (r : Ordering) → is_lt (ordering_then (nat_cmp a b) r) ≡ false → (b ≡ a → is_lt r ≡ false → G) → (b < a → G) → G
+nat_step a b r h same later = step (a < b) (a ≡ b) (b < a) (nat_cmp a b) r (ranked a b _ refl) h (λ e. same (sym e)) later
+
+int_step : {G : Type 0} (a b : ℤ) (r : Ordering) → is_lt (ordering_then (int_cmp a b) r) ≡ false → (b ≡ a → is_lt r ≡ false → G) → (b <ℤ a → G) → G
+int_step a b r h same later = step (a <ℤ b) (a ≡ b) (b <ℤ a) (int_cmp a b) r (int_ranked a b _ refl) h (λ e. same (sym e)) later
 
 precedes : (x y : TimedPart) → part_first y x ≡ false → Precedes x y
 precedes x y h =
-    let r4 : Ordering = ordering_then (nat_cmp y.symbol x.symbol) (prb_cmp y x) in
-    let r3 : Ordering = ordering_then (nat_cmp y.slot x.slot) r4 in
-    let r2 : Ordering = ordering_then (nat_cmp y.subframe x.subframe) r3 in
-    let r1 : Ordering = ordering_then (int_cmp y.frame x.frame) r2 in
-    let s0 = step (int_cmp y.start.0 x.start.0) r1 h in
-    by_ranked (y.start.0 <ℤ x.start.0) (y.start.0 ≡ x.start.0) (x.start.0 <ℤ y.start.0) (int_cmp y.start.0 x.start.0) (int_ranked y.start.0 x.start.0 _ refl)
-    (λ e l. absurd (s0.0 e))
-    (λ e same. inr (
-      sym same,
-      let s1 = step (int_cmp y.frame x.frame) r2 (s0.1 e) in
-          by_ranked (y.frame <ℤ x.frame) (y.frame ≡ x.frame) (x.frame <ℤ y.frame) (int_cmp y.frame x.frame) (int_ranked y.frame x.frame _ refl)
-          (λ e l. absurd (s1.0 e))
-          (λ e same. inr (
-            sym same,
-            let s2 = step (nat_cmp y.subframe x.subframe) r3 (s1.1 e) in
-                by_ranked (y.subframe < x.subframe) (y.subframe ≡ x.subframe) (x.subframe < y.subframe) (nat_cmp y.subframe x.subframe) (ranked y.subframe x.subframe _ refl)
-                (λ e l. absurd (s2.0 e))
-                (λ e same. inr (
-                  sym same,
-                  let s3 = step (nat_cmp y.slot x.slot) r4 (s2.1 e) in
-                      by_ranked (y.slot < x.slot) (y.slot ≡ x.slot) (x.slot < y.slot) (nat_cmp y.slot x.slot) (ranked y.slot x.slot _ refl)
-                      (λ e l. absurd (s3.0 e))
-                      (λ e same. inr (
-                        sym same,
-                        let s4 = step (nat_cmp y.symbol x.symbol) (prb_cmp y x) (s3.1 e) in
-                            by_ranked (y.symbol < x.symbol) (y.symbol ≡ x.symbol) (x.symbol < y.symbol) (nat_cmp y.symbol x.symbol) (ranked y.symbol x.symbol _ refl)
-                            (λ e l. absurd (s4.0 e)) (λ e same. omega (arith, same)) (λ e l. omega (arith, l)),
-                      ))
-                      (λ e l. inl l),
-                ))
-                (λ e l. inl l),
-          ))
-          (λ e l. inl l),
-    ))
-    (λ e l. inl l)
-
-pub all_precede : (ys : List TimedPart) → AreOrderedBy part_first ys → AreOrdered ys
-all_precede [] h = tt
-all_precede (x ∷ ys) h = (all_map (λ y. part_first y x ≡ false) (λ y. Precedes x y) (λ y f. precedes x y f) ys h.0, all_precede ys h.1)
+    int_step y.start.0 x.start.0 _ h (λ e h. inr (
+      e,
+      int_step y.frame x.frame _ h (λ e h. inr (
+        e,
+        nat_step y.subframe x.subframe _ h (λ e h. inr (
+          e,
+          nat_step y.slot x.slot _ h (λ e h. inr (e, nat_step y.symbol x.symbol (prb_cmp y x) h (λ e h. omega (arith, e)) (λ l. omega (arith, l))))
+              inl,
+        )) inl,
+      )) inl,
+    )) inl
 
 -- ---- what is known of each part
 
@@ -142,16 +118,12 @@ pub record Fact (stream : Stream) (e : EndpointConfig) (y : TimedPart) : Type 0 
   pub part : IsPart (clock_of e) first_clock ticks_in_all y
   pub plain : is_up_data stream ≡ false → (y.start_prb ≡ 0) × (y.num_prb ≡ 0) × (y.section ≡ 0)
 
-no_prb : (up : Bool) (n : ℕ) → up ≡ false → if_up up n ≡ 0
-no_prb true n h = cc
-no_prb false n h = refl
-
-in_time : (frame start : ℤ) (offset : ℕ) → pos 1 ≤ℤ frame → frame ≤ℤ pos 99999 → offset < 92160000000 → start ≡ frame *ℤ pos 15360000000 +ℤ pos offset
+in_time : (frame start : ℤ) (offset : ℕ) → pos 1 ≤ℤ frame → frame ≤ℤ pos LAST_FRAME → offset < 92160000000 → start ≡ frame *ℤ FRAME +ℤ pos offset
     → (first_clock ≤ℤ start) × (start <ℤ (end_of_time +ℤ pos 1))
 in_time frame start offset low high few is = (omega (arith, ints), omega (arith, ints))
 
 pub fact_is : (stream : Stream) (ep : ℕ) (ps : List PlannedLine) (e : EndpointConfig) → ArePlaced ps → HasEndpoint ps ep e → (x : TimedPart) → Named stream ep ps x → Fact stream e x
-fact_is stream ep ps e placed ends x n = subst (Fact stream e) (sym n.is) (record { part = part; plain = λ h. (no_prb (is_up_data stream) _ h, no_prb (is_up_data stream) _ h, no_prb (is_up_data stream) _ h) })
+fact_is stream ep ps e placed ends x n = subst (Fact stream e) (sym n.is) (record { part = part; plain = λ h. rw h (refl, refl, refl) })
   where
     same : n.line.endpoint ≡ e
     same = ends n.line n.there n.ep_is
@@ -207,38 +179,15 @@ at_symbol e f b l y x = record {
   line = 0;
 }
 
-pub record AtSymbol (f : ℤ) (b l y : ℕ) (z : TimedPart) : Type 0 where
-  pub frame : z.frame ≡ f
-  pub subframe : z.subframe ≡ b
-  pub slot : z.slot ≡ l
-  pub symbol : z.symbol ≡ y
-
-at_parts : (f : ℤ) (b l y : ℕ) (z : TimedPart) → is_at f b l y z ≡ true → AtSymbol f b l y z
-at_parts f b l y z h =
-    let p = and_parts (int_eq z.frame f) ((z.subframe == b) && ((z.slot == l) && (z.symbol == y))) h in
-    let q = and_parts (z.subframe == b) ((z.slot == l) && (z.symbol == y)) p.1 in
-    let r = and_parts (z.slot == l) (z.symbol == y) q.1 in
-    record { frame = (Decides-int_eq z.frame f).0 p.0; subframe = eqb-true z.subframe b q.0; slot = eqb-true z.slot l r.0; symbol = eqb-true z.symbol y r.1 }
-
 from_parts : (f : ℤ) (b l y : ℕ) (z : TimedPart) → AtSymbol f b l y z → is_at f b l y z ≡ true
 from_parts f b l y z a =
     and_from (int_eq z.frame f) _ ((Decides-int_eq z.frame f).1 a.frame)
     (and_from (z.subframe == b) _ (eq-eqb z.subframe b a.subframe) (and_from (z.slot == l) _ (eq-eqb z.slot l a.slot) (eq-eqb z.symbol y a.symbol)))
 
-start_at : (e : EndpointConfig) (stream : Stream) (f : ℤ) (b l y : ℕ) (z : TimedPart) → Fact stream e z → AtSymbol f b l y z → z.start.0 ≡ air_of e.numerology (slot_at f b l) y
-start_at e stream f b l y z fact a =
-    fact.part.starts ∙ ap (λ (i : ℤ). air_of e.numerology (slot_at i z.subframe z.slot) z.symbol) a.frame
-    ∙ ap (λ (i : ℕ). air_of e.numerology (slot_at f i z.slot) z.symbol) a.subframe
-    ∙ ap (λ (i : ℕ). air_of e.numerology (slot_at f b i) z.symbol) a.slot ∙ ap (λ (i : ℕ). air_of e.numerology (slot_at f b l) i) a.symbol
-
 -- of one symbol the order of PRBs alone decides
 one_symbol : (x z : TimedPart) → x.start.0 ≡ z.start.0 → x.frame ≡ z.frame → x.subframe ≡ z.subframe → x.slot ≡ z.slot → x.symbol ≡ z.symbol → part_cmp x z ≡ prb_cmp x z
 one_symbol x z s f b l y =
-    ap (λ (o : Ordering). ordering_then o (ordering_then (int_cmp x.frame z.frame) (ordering_then (nat_cmp x.subframe z.subframe) (ordering_then (nat_cmp x.slot z.slot) (ordering_then (nat_cmp x.symbol z.symbol) (prb_cmp x z)))))) (int_same x.start.0 z.start.0 s)
-    ∙ ap (λ (o : Ordering). ordering_then o (ordering_then (nat_cmp x.subframe z.subframe) (ordering_then (nat_cmp x.slot z.slot) (ordering_then (nat_cmp x.symbol z.symbol) (prb_cmp x z))))) (int_same x.frame z.frame f)
-    ∙ ap (λ (o : Ordering). ordering_then o (ordering_then (nat_cmp x.slot z.slot) (ordering_then (nat_cmp x.symbol z.symbol) (prb_cmp x z)))) (nat_same x.subframe z.subframe b)
-    ∙ ap (λ (o : Ordering). ordering_then o (ordering_then (nat_cmp x.symbol z.symbol) (prb_cmp x z))) (nat_same x.slot z.slot l)
-    ∙ ap (λ (o : Ordering). ordering_then o (prb_cmp x z)) (nat_same x.symbol z.symbol y)
+    rw (int_same x.start.0 z.start.0 s, int_same x.frame z.frame f, nat_same x.subframe z.subframe b, nat_same x.slot z.slot l, nat_same x.symbol z.symbol y) refl
 
 same_place : (x z : TimedPart) → part_cmp x z ≡ Equal → (x.frame ≡ z.frame) × (x.subframe ≡ z.subframe) × (x.slot ≡ z.slot) × (x.symbol ≡ z.symbol) × (prb_cmp x z ≡ Equal)
 same_place x z h =
@@ -259,7 +208,7 @@ tie_parts stream e f b l y x z fact = both_ways _ _
     (λ h. let w = and_parts (ties prb_first x z) (is_at f b l y z) h in
     let a = at_parts f b l y z w.1 in
     equal_tied part_total (at_symbol e f b l y x) z
-    (one_symbol (at_symbol e f b l y x) z (sym (start_at e stream f b l y z fact a)) (sym a.frame) (sym a.subframe) (sym a.slot) (sym a.symbol) ∙ tied_equal prb_total x z w.0))
+    (one_symbol (at_symbol e f b l y x) z (sym (start_at (clock_of e) first_clock ticks_in_all f b l y z fact.part a)) (cc) (cc) (cc) (cc) ∙ tied_equal prb_total x z w.0))
 
 -- ---- the order of the radio unit
 
@@ -306,37 +255,35 @@ none_first x a b h g =
 
 module _ (stream : Stream) (e : EndpointConfig) (ep : ℕ) (lines : List PlannedLine) (ys : List TimedPart) (stable : IsStableBy part_first (map (timed stream) (listed stream ep lines)) ys)
     (order : AreOrderedBy part_first ys) (placed : ArePlaced lines) (ends : HasEndpoint lines ep e) where
-  xs : List TimedPart
+  abbrev xs : List TimedPart
   xs = map (timed stream) (listed stream ep lines)
 
   x_facts : AllByRecursion (Fact stream e) xs
-  unfolding xs
-  x_facts = all_from (Fact stream e) (map (timed stream) (listed stream ep lines)) (λ x m. fact_is stream ep lines e placed ends x (named_is stream ep lines x m))
+  x_facts = all_from (Fact stream e) xs (λ x m. fact_is stream ep lines e placed ends x (named_is stream ep lines x m))
 
   y_facts : AllByRecursion (Fact stream e) ys
-  unfolding xs
-  y_facts = all_from (Fact stream e) ys (λ y m.
-      let there : IsIn y (filter (ties part_first y) ys) = in_filter (ties part_first y) y ys m (equal_tied part_total y y (tied_itself part_total y)) in
-      all_in (Fact stream e) (map (timed stream) (listed stream ep lines)) y x_facts (of_filter (ties part_first y) y (map (timed stream) (listed stream ep lines)) (subst (IsIn y) (stable y) there)).0)
+  y_facts = all_from (Fact stream e) ys (λ y m. all_in (Fact stream e) xs y x_facts (from_stable xs ys stable y m))
 
   symbol_stable : (f : ℤ) (b l y : ℕ) (x : TimedPart) → filter (ties prb_first x) (filter (is_at f b l y) ys) ≡ filter (ties prb_first x) (filter (is_at f b l y) xs)
-  unfolding xs
   symbol_stable f b l y x =
-      sym (filter_and (ties prb_first x) (is_at f b l y) ys)
-      ∙ sym (filter_alike (Fact stream e) (ties part_first (at_symbol e f b l y x)) (λ z. ties prb_first x z && is_at f b l y z) (λ z fact. tie_parts stream e f b l y x z fact) ys y_facts)
-      ∙ stable (at_symbol e f b l y x)
-      ∙ filter_alike (Fact stream e) (ties part_first (at_symbol e f b l y x)) (λ z. ties prb_first x z && is_at f b l y z) (λ z fact. tie_parts stream e f b l y x z fact) (map (timed stream) (listed stream ep lines)) x_facts
-      ∙ filter_and (ties prb_first x) (is_at f b l y) (map (timed stream) (listed stream ep lines))
+      sym (filter_and (ties prb_first x) (is_at f b l y) ys) ∙ sym (alike ys y_facts) ∙ stable (at_symbol e f b l y x) ∙ alike xs x_facts
+      ∙ filter_and (ties prb_first x) (is_at f b l y) xs
+    where
+      alike : (zs : List TimedPart) → AllByRecursion (Fact stream e) zs
+          → filter (ties part_first (at_symbol e f b l y x)) zs ≡ filter (λ z. ties prb_first x z && is_at f b l y z) zs
+      alike zs facts =
+          filter_alike (Fact stream e) (ties part_first (at_symbol e f b l y x)) (λ z. ties prb_first x z && is_at f b l y z) (λ z fact. tie_parts stream e f b l y x z fact) zs facts
 
   symbol_ordered : (f : ℤ) (b l y : ℕ) → AreOrderedBy prb_first (filter (is_at f b l y) ys)
   symbol_ordered f b l y =
-      ordered_weaker part_first prb_first (λ z. Fact stream e z × (is_at f b l y z ≡ true))
-      (λ z w a c h. let p = at_parts f b l y z a.1 in let q = at_parts f b l y w c.1 in
-      sym (ap (λ (o : Ordering). is_lt o) (one_symbol w z (start_at e stream f b l y w c.0 q ∙ sym (start_at e stream f b l y z a.0 p)) (q.frame ∙ sym p.frame) (q.subframe ∙ sym p.subframe)
-      (q.slot ∙ sym p.slot) (q.symbol ∙ sym p.symbol))) ∙ h)
+      related_map (λ z w. part_first w z ≡ false) (λ z w. prb_first w z ≡ false) (λ z. Fact stream e z × AtSymbol f b l y z)
+      (λ z w a c h. sym (ap (λ (o : Ordering). is_lt o) (one_symbol w z (starts w c ∙ sym (starts z a)) (cc) (cc) (cc) (cc))) ∙ h)
       (filter (is_at f b l y) ys)
-      (all_from (λ z. Fact stream e z × (is_at f b l y z ≡ true)) (filter (is_at f b l y) ys) (λ z m. let r = of_filter (is_at f b l y) z ys m in (all_in (Fact stream e) ys z y_facts r.0, r.1)))
-      (ordered_filter part_first (is_at f b l y) ys order)
+      (filter_has (Fact stream e) (λ z. Fact stream e z × AtSymbol f b l y z) (is_at f b l y) (λ z fact h. (fact, at_parts f b l y z h)) ys y_facts)
+      (related_filter (λ z w. part_first w z ≡ false) (is_at f b l y) ys order)
+    where
+      starts : (z : TimedPart) → Fact stream e z × AtSymbol f b l y z → z.start.0 ≡ air_of e.numerology (slot_at f b l) y
+      starts z w = start_at (clock_of e) first_clock ticks_in_all f b l y z w.0.part w.1
 
 abbrev zero_part : TimedPart
 zero_part = record { start = record { 0 = pos 0 }; frame = pos 0; subframe = 0; slot = 0; symbol = 0; start_prb = 0; num_prb = 0; section = 0; size = 0; line = 0 }
@@ -344,9 +291,7 @@ zero_part = record { start = record { 0 = pos 0 }; frame = pos 0; subframe = 0; 
 zero_tied : (stream : Stream) (e : EndpointConfig) (z : TimedPart) → is_up_data stream ≡ false → Fact stream e z → ties prb_first zero_part z ≡ true
 zero_tied stream e z plain fact =
     let p = fact.plain plain in
-    equal_tied prb_total zero_part z
-    (ap (λ (o : Ordering). ordering_then o (ordering_then (nat_cmp 0 z.num_prb) (nat_cmp 0 z.section))) (nat_same 0 z.start_prb (sym p.0))
-    ∙ ap (λ (o : Ordering). ordering_then o (nat_cmp 0 z.section)) (nat_same 0 z.num_prb (sym p.1)) ∙ nat_same 0 z.section (sym p.2))
+    equal_tied prb_total zero_part z (rw (nat_same 0 z.start_prb (sym p.0), nat_same 0 z.num_prb (sym p.1), nat_same 0 z.section (sym p.2)) refl)
 
 map_twice : (stream : Stream) (y : ℕ) (ps : List PlannedLine) → map (timed stream) (map (part_in y) ps) ≡ map (λ p. timed stream (part_in y p)) ps
 map_twice stream y [] = refl
@@ -355,8 +300,7 @@ map_twice stream y (p ∷ ps) = ap (λ (zs : List TimedPart). timed stream (part
 -- where lines alone order a symbol's parts
 plain_symbol : (stream : Stream) → is_up_data stream ≡ false → (e : EndpointConfig) (ep : ℕ) (lines : List PlannedLine) (ys : List TimedPart) → IsStableBy part_first (map (timed stream) (listed stream ep lines)) ys
     → AreOrderedBy part_first ys → ArePlaced lines → HasEndpoint lines ep e → (f : ℤ) (b l y : ℕ)
-    → filter (is_at f b l y) ys ≡ map (timed stream) (map (part_in y) (filter (λ p. has_part stream ep (slot_at f b l) y (allocation_of p)) lines))
-unfolding xs
+    → filter (is_at f b l y) ys ≡ map (timed stream) (map (part_in y) (filter (λ p. has_part stream ep (slot_at f b l) y (line_allocation p)) lines))
 plain_symbol stream plain e ep lines ys stable order placed ends f b l y =
     let all = λ (zs : List TimedPart) (facts : AllByRecursion (Fact stream e) zs).
     filter_all (ties prb_first zero_part) (filter (is_at f b l y) zs)
@@ -365,17 +309,17 @@ plain_symbol stream plain e ep lines ys stable order placed ends f b l y =
     ∙ symbol_stable stream e ep lines ys stable order placed ends f b l y zero_part
     ∙ all (map (timed stream) (listed stream ep lines)) (x_facts stream e ep lines ys stable order placed ends)
     ∙ listed_at stream ep lines f b l y
-    ∙ sym (map_twice stream y (filter (λ p. has_part stream ep (slot_at f b l) y (allocation_of p)) lines))
+    ∙ sym (map_twice stream y (filter (λ p. has_part stream ep (slot_at f b l) y (line_allocation p)) lines))
 
 pub symbol_is : (stream : Stream) (e : EndpointConfig) (ep : ℕ) (lines : List PlannedLine) (ys : List TimedPart) → IsStableBy part_first (map (timed stream) (listed stream ep lines)) ys
     → AreOrderedBy part_first ys → ArePlaced lines → HasEndpoint lines ep e → (f : ℤ) (b l y : ℕ)
     → filter (is_at f b l y) ys ≡ map (timed stream) (symbol_parts stream lines ep (slot_at f b l) y)
-unfolding symbol_parts xs
+unfolding symbol_parts
 symbol_is DownCommands e ep lines ys stable order placed ends f b l y = plain_symbol DownCommands refl e ep lines ys stable order placed ends f b l y
 symbol_is UpCommands e ep lines ys stable order placed ends f b l y = plain_symbol UpCommands refl e ep lines ys stable order placed ends f b l y
 symbol_is DownData e ep lines ys stable order placed ends f b l y = plain_symbol DownData refl e ep lines ys stable order placed ends f b l y
 symbol_is UpData e ep lines ys stable order placed ends f b l y =
-    let fs : List PlannedLine = filter (λ p. has_part UpData ep (slot_at f b l) y (allocation_of p)) lines in
+    let fs : List PlannedLine = filter (λ p. has_part UpData ep (slot_at f b l) y (line_allocation p)) lines in
     ordered_same prb_first prb_ranks (filter (is_at f b l y) ys) (map (λ p. timed UpData (part_in y p)) (in_order line_before fs))
     (symbol_ordered UpData e ep lines ys stable order placed ends f b l y)
     (ordered_map y (in_order line_before fs) (in_order_ordered line_before (before_ranks y) fs))
@@ -403,17 +347,19 @@ map_ticks t from zero f g h = refl
 map_ticks t from (suc n) f g h =
     ap₂ (λ us vs. us ++ vs) (h from) (map_ticks t (from +ℤ pos 1) n f g h) ∙ sym (map-append t (f from) (each_tick (from +ℤ pos 1) n f))
 
-if_map : {X Y : Type 0} (t : X → Y) (c : Bool) (xs : List X) (ys : List Y) → ys ≡ map t xs → (let zs : List Y = if c then ys else [] in zs) ≡ map t (let us : List X = if c then xs else [] in us)
-if_map t true xs ys h = h
-if_map t false xs ys h = refl
+if_map : {X Y : Type 0} (t : X → Y) (c : Bool) (us : List X) (vs : List Y) → vs ≡ map t us
+    → (let zs : List Y = if c then vs else [] in zs) ≡ map t (let ws : List X = if c then us else [] in ws)
+if_map t true us vs h = h
+if_map t false us vs h = refl
 
 pub parts_are : (stream : Stream) (e : EndpointConfig) (ep : ℕ) (lines : List PlannedLine) (ys : List TimedPart) → IsStableBy part_first (map (timed stream) (listed stream ep lines)) ys
     → AreOrderedBy part_first ys → ArePlaced lines → HasEndpoint lines ep e → ys ≡ map (timed stream) (parts_in lines stream ep e)
 unfolding parts_in swept of_frame of_subframe of_slot
 parts_are stream e ep lines ys stable order placed ends =
-    sym (sweeps_find_all (clock_of e) ys first_clock ticks_in_all (all_precede ys order)
+    sym (sweeps_find_all (clock_of e) ys first_clock ticks_in_all
+    (related_map (λ x y. part_first y x ≡ false) Precedes (Fact stream e) (λ x y u v h. precedes x y h) ys (y_facts stream e ep lines ys stable order placed ends) order)
     (all_map (Fact stream e) (IsPart (clock_of e) first_clock ticks_in_all) (λ y fact. fact.part) ys (y_facts stream e ep lines ys stable order placed ends)))
-    ∙ map_ticks (timed stream) first_clock ticks_in_all _ (of_endpoint (clock_of e) ys) (λ s.
+    ∙ map_ticks (timed stream) first_clock ticks_in_all _ (parts_of_endpoint (clock_of e) ys) (λ s.
     map_each (timed stream) 0 6 _ _ (λ k.
     map_each (timed stream) 0 10 _ _ (λ b.
     map_each (timed stream) 0 (slots_of e.numerology) _ _ (λ l.
@@ -431,8 +377,7 @@ bounded t low high =
 
 pub all_timed : (stream : Stream) (ep : ℕ) (lines : List PlannedLine) (ys : List TimedPart) → IsStableBy part_first (map (timed stream) (listed stream ep lines)) ys → ArePlaced lines → AllByRecursion IsTimed ys
 all_timed stream ep lines ys stable placed = all_from IsTimed ys (λ y m.
-    let there : IsIn y (filter (ties part_first y) ys) = in_filter (ties part_first y) y ys m (equal_tied part_total y y (tied_itself part_total y)) in
-    let n = named_is stream ep lines y (of_filter (ties part_first y) y (map (timed stream) (listed stream ep lines)) (subst (IsIn y) (stable y) there)).0 in
+    let n = named_is stream ep lines y (from_stable (map (timed stream) (listed stream ep lines)) ys stable y m) in
     let fact = fact_is stream ep lines n.line.endpoint placed (λ p k e. placed.same p n.line k n.there (e ∙ sym n.ep_is)) y n in
     let b = bounded y.start.0 fact.part.begun fact.part.ended in
     record {
@@ -448,7 +393,7 @@ few_parts stream ep lines xs ys is same placed =
     let e : length xs ≡ length (listed stream ep lines) = ap length is ∙ length-map (listed stream ep lines) (timed stream) in
     omega (arith, few, e, same)
   where
-    few_of : (p : PlannedLine) → IsIn p lines → symbols_in stream p ≤ 15
+    few_of : (p : PlannedLine) → IsIn p lines → part_symbols stream p ≤ 15
     few_of p m =
         let few = few_symbols stream p (inside_is p (placed.inside p m)).some in
         let most = (placed.ranges p m).count in
@@ -458,6 +403,5 @@ few_parts stream ep lines xs ys is same placed =
 pub lines_below : (stream : Stream) (ep : ℕ) (lines : List PlannedLine) (ys : List TimedPart) → IsStableBy part_first (map (timed stream) (listed stream ep lines)) ys → (most : ℕ)
     → AllByRecursion (λ p. p.index < most) lines → AllByRecursion (λ y. y.line < most) ys
 lines_below stream ep lines ys stable most all = all_from (λ y. y.line < most) ys (λ y m.
-    let there : IsIn y (filter (ties part_first y) ys) = in_filter (ties part_first y) y ys m (equal_tied part_total y y (tied_itself part_total y)) in
-    let n = named_is stream ep lines y (of_filter (ties part_first y) y (map (timed stream) (listed stream ep lines)) (subst (IsIn y) (stable y) there)).0 in
+    let n = named_is stream ep lines y (from_stable (map (timed stream) (listed stream ep lines)) ys stable y m) in
     subst (λ (x : TimedPart). x.line < most) (sym n.is) (all_in (λ p. p.index < most) lines n.line all n.there))

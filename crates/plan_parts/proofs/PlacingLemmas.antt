@@ -8,7 +8,8 @@ use Rattle.window_config.specs.declared.endpoints.EndpointConfig.{EndpointConfig
 use Rattle.plan_model.specs.declared.lines.PlannedLine.{PlannedLine}
 use Rattle.plan_parts.specs.Parts.{HasEndpoint}
 use Rattle.plan_parts.specs.Placing.{IsPlaced, ArePlaced}
-use Rattle.plan_model.proofs.ListLemmas.{all_in, some_is, endpoint_is}
+use Rattle.plan_model.proofs.ListLemmas.{all_in, endpoint_is}
+use Rattle.fh_time.proofs.Options.{some_is}
 
 same_endpoint : (es : List EndpointConfig) (p q : PlannedLine) → IsPlaced es p → IsPlaced es q → p.ep ≡ q.ep → p.endpoint ≡ q.endpoint
 same_endpoint es p q a b e = some_is p.endpoint q.endpoint (sym a.at ∙ ap (slice_get es) e ∙ b.at)

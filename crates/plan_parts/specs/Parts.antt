@@ -8,8 +8,8 @@ use Rattle.unit_laws.specs.unit_model.specs.Commands.{is_uplink}
 use Rattle.unit_laws.specs.unit_model.specs.Lists.{each}
 use Rattle.unit_laws.specs.unit_model.specs.declared.allocations.Allocation.{Allocation}
 use Rattle.plan_model.specs.fragment_laws.specs.Apart.{IsIn}
-use Rattle.plan_model.specs.Departures.{start_of}
-use Rattle.plan_model.specs.Lines.{allocation_of}
+use Rattle.plan_model.specs.Departures.{start_of_part}
+use Rattle.plan_model.specs.Lines.{line_allocation}
 use Rattle.plan_model.specs.Streams.{Part, part_in, section_size}
 use Rattle.plan_model.specs.declared.lines.PlannedLine.{PlannedLine}
 use Rattle.plan_model.specs.declared.streams.Stream.{Stream}
@@ -29,7 +29,7 @@ if_up false n = 0
 
 abbrev pub timed : Stream → Part → TimedPart
 timed stream p = record {
-  start = record { 0 = start_of p };
+  start = record { 0 = start_of_part p };
   frame = p.planned.line.slot.frame;
   subframe = p.planned.line.slot.subframe;
   slot = p.planned.line.slot.slot;
@@ -55,17 +55,17 @@ has_stream DownData a = a.down && not a.idle
 has_stream UpData a = is_uplink a
 
 abbrev pub is_sent : Stream → ℕ → PlannedLine → Bool
-is_sent stream ep p = has_stream stream (allocation_of p) && (p.ep == ep)
+is_sent stream ep p = has_stream stream (line_allocation p) && (p.ep == ep)
 
 -- in how many symbols, from its first one on: a command has one part
-abbrev pub symbols_in : Stream → PlannedLine → ℕ
-symbols_in DownCommands p = 1
-symbols_in UpCommands p = 1
-symbols_in DownData p = p.line.count
-symbols_in UpData p = p.line.count
+abbrev pub part_symbols : Stream → PlannedLine → ℕ
+part_symbols DownCommands p = 1
+part_symbols UpCommands p = 1
+part_symbols DownData p = p.line.count
+part_symbols UpData p = p.line.count
 
 abbrev pub line_parts : Stream → PlannedLine → List Part
-line_parts stream p = each p.line.symbol (symbols_in stream p) (λ symbol. part_in symbol p ∷ [])
+line_parts stream p = each p.line.symbol (part_symbols stream p) (λ symbol. part_in symbol p ∷ [])
 
 -- those of one endpoint and stream, line by line
 unfoldable pub listed : Stream → ℕ → List PlannedLine → List Part
@@ -84,10 +84,14 @@ part_cmp = then_cmp (on (λ p. p.start.0) int_cmp) (then_cmp (on (λ p. p.frame)
 abbrev pub part_first : TimedPart → TimedPart → Bool
 part_first p q = is_lt (part_cmp p q)
 
+-- any two, in their order
+abbrev pub AreRelated : {X : Type 0} → (X → X → Type 0) → List X → Type 0
+AreRelated R [] = ⊤
+AreRelated R (x ∷ xs) = AllByRecursion (R x) xs × AreRelated R xs
+
 -- by a test, none comes behind one that it puts behind
 abbrev pub AreOrderedBy : {X : Type 0} → (X → X → Bool) → List X → Type 0
-AreOrderedBy lt [] = ⊤
-AreOrderedBy lt (p ∷ ps) = AllByRecursion (λ q. lt q p ≡ false) ps × AreOrderedBy lt ps
+AreOrderedBy lt = AreRelated (λ p q. lt q p ≡ false)
 
 -- the endpoint of lines with this index
 abbrev pub HasEndpoint : List PlannedLine → ℕ → EndpointConfig → Type 0

@@ -1,5 +1,5 @@
 -- Sweeps over a list in the order of its keys find all of it (this project's means).
-use Rattle.std.specs.Prelude.{◌≡◌, ⊤, ◌⊎◌, ℕ, ℤ, pos, ◌+◌, ◌<◌, ◌≤◌, ◌+ℤ◌, ◌<ℤ◌, ◌≤ℤ◌, Bool, ◌&&◌, ◌==◌, if◌then◌else◌, List, [], ◌∷◌}
+use Rattle.std.specs.Prelude.{◌≡◌, ◌⊎◌, ℕ, ℤ, pos, ◌+◌, ◌<◌, ◌≤◌, ◌+ℤ◌, ◌<ℤ◌, ◌≤ℤ◌, Bool, ◌&&◌, ◌==◌, if◌then◌else◌, List, []}
 use Rattle.std.specs.List.{filter, AllByRecursion}
 use Rattle.std.specs.Ordering.{int_eq}
 use Rattle.fh_time.specs.Air.{air_of}
@@ -7,23 +7,22 @@ use Rattle.fh_time.specs.Numbering.{slots_of, symbols_of}
 use Rattle.window_config.specs.declared.endpoints.EndpointConfig.{EndpointConfig}
 use Rattle.unit_laws.specs.unit_model.specs.Lists.{each, each_tick}
 use Rattle.unit_laws.specs.unit_model.specs.Sweeps.{first_swept, slot_at}
+use Rattle.plan_parts.specs.Parts.{AreRelated}
 use Rattle.plan_parts.specs.declared.parts.TimedPart.{TimedPart}
 
 -- no key falls along the list
 abbrev pub IsRising : {A : Type 0} → (A → ℕ) → List A → Type 0
-IsRising key [] = ⊤
-IsRising key (x ∷ xs) = AllByRecursion (λ y. key x ≤ key y) xs × IsRising key xs
+IsRising key = AreRelated (λ x y. key x ≤ key y)
 
 abbrev pub IsRisingInt : {A : Type 0} → (A → ℤ) → List A → Type 0
-IsRisingInt key [] = ⊤
-IsRisingInt key (x ∷ xs) = AllByRecursion (λ y. key x ≤ℤ key y) xs × IsRisingInt key xs
+IsRisingInt key = AreRelated (λ x y. key x ≤ℤ key y)
 
 -- all of a key
 abbrev pub of_key : {A : Type 0} → (A → ℕ) → List A → ℕ → List A
 of_key key xs k = filter (λ a. key a == k) xs
 
-abbrev pub at_tick : {A : Type 0} → (A → ℤ) → List A → ℤ → List A
-at_tick key xs t = filter (λ a. int_eq (key a) t) xs
+abbrev pub timed_at : {A : Type 0} → (A → ℤ) → List A → ℤ → List A
+timed_at key xs t = filter (λ a. int_eq (key a) t) xs
 
 -- what a sweep over a list in order says
 abbrev pub EachIsAll : Type 0 → Type 0
@@ -32,7 +31,7 @@ EachIsAll A = (key : A → ℕ) (xs : List A) (from count : ℕ) → IsRising ke
 
 abbrev pub TicksAreAll : Type 0 → Type 0
 TicksAreAll A = (key : A → ℤ) (xs : List A) (from : ℤ) (count : ℕ) → IsRisingInt key xs → AllByRecursion (λ a. (from ≤ℤ key a) × (key a <ℤ (from +ℤ pos count))) xs
-    → each_tick from count (at_tick key xs) ≡ xs
+    → each_tick from count (timed_at key xs) ≡ xs
 
 -- ---- symbols
 
@@ -54,12 +53,12 @@ clock_of e = record {
 abbrev pub is_at : ℤ → ℕ → ℕ → ℕ → TimedPart → Bool
 is_at frame subframe slot symbol p = int_eq p.frame frame && ((p.subframe == subframe) && ((p.slot == slot) && (p.symbol == symbol)))
 
-abbrev pub of_symbol : Clock → List TimedPart → ℤ → ℤ → ℕ → ℕ → ℕ → List TimedPart
-of_symbol c ps s frame subframe slot symbol = if int_eq (c.air frame subframe slot symbol) s then filter (is_at frame subframe slot symbol) ps else []
+abbrev pub parts_of_symbol : Clock → List TimedPart → ℤ → ℤ → ℕ → ℕ → ℕ → List TimedPart
+parts_of_symbol c ps s frame subframe slot symbol = if int_eq (c.air frame subframe slot symbol) s then filter (is_at frame subframe slot symbol) ps else []
 
 -- the symbols that start at a tick, frame by frame, in the order of subframes, slots and symbols
-abbrev pub of_endpoint : Clock → List TimedPart → ℤ → List TimedPart
-of_endpoint c ps s = each 0 6 (λ k. each 0 10 (λ b. each 0 c.slots (λ l. each 0 c.symbols (of_symbol c ps s (c.first s +ℤ pos k) b l))))
+abbrev pub parts_of_endpoint : Clock → List TimedPart → ℤ → List TimedPart
+parts_of_endpoint c ps s = each 0 6 (λ k. each 0 10 (λ b. each 0 c.slots (λ l. each 0 c.symbols (parts_of_symbol c ps s (c.first s +ℤ pos k) b l))))
 
 -- the part is of a symbol of its endpoint, which starts then
 pub record IsPart (c : Clock) (from : ℤ) (count : ℕ) (p : TimedPart) : Type 0 where
@@ -78,8 +77,7 @@ Precedes p q = (p.start.0 <ℤ q.start.0) ⊎ ((p.start.0 ≡ q.start.0) × ((p.
     × ((p.subframe < q.subframe) ⊎ ((p.subframe ≡ q.subframe) × ((p.slot < q.slot) ⊎ ((p.slot ≡ q.slot) × (p.symbol ≤ q.symbol))))))))
 
 abbrev pub AreOrdered : List TimedPart → Type 0
-AreOrdered [] = ⊤
-AreOrdered (p ∷ ps) = AllByRecursion (λ q. Precedes p q) ps × AreOrdered ps
+AreOrdered = AreRelated Precedes
 
 abbrev pub SweepsFindAll : Type 0
-SweepsFindAll = (c : Clock) (ps : List TimedPart) (from : ℤ) (count : ℕ) → AreOrdered ps → AllByRecursion (IsPart c from count) ps → each_tick from count (of_endpoint c ps) ≡ ps
+SweepsFindAll = (c : Clock) (ps : List TimedPart) (from : ℤ) (count : ℕ) → AreOrdered ps → AllByRecursion (IsPart c from count) ps → each_tick from count (parts_of_endpoint c ps) ≡ ps

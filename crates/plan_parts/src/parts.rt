@@ -9,11 +9,11 @@ ghost use Rattle.unit_laws.specs.unit_model.specs.Proper.{IsSlot};
 ghost use Rattle.plan_model.specs.Streams.{part_in, parts_in};
 ghost use Rattle.plan_parts.specs.Placing.{ArePlaced};
 ghost use Rattle.plan_parts.specs.Keys.{key_of};
-ghost use Rattle.plan_parts.specs.Parts.{AreOrderedBy, HasEndpoint, IsTimed, is_sent, is_up_data, line_parts, listed, part_first, symbols_in, timed};
+ghost use Rattle.plan_parts.specs.Parts.{AreOrderedBy, HasEndpoint, IsTimed, is_sent, is_up_data, line_parts, listed, part_first, part_symbols, timed};
 
 use fh_base::NoMemory;
 use fh_time::{Ticks, air};
-use plan_model::{PlannedLine, Stream, allocation_of, section_size};
+use plan_model::{PlannedLine, Stream, line_allocation, section_size};
 use std::alloc::Global;
 use unit_laws::unit_model::is_uplink;
 
@@ -101,7 +101,7 @@ fn timed(stream: Stream, p: &PlannedLine, symbol: u8) -> TimedPart
 fn is_sent(stream: Stream, ep: usize, p: &PlannedLine) -> bool
     ensures { result ≡ is_sent stream ep p.now }
 {
-    let named = allocation_of(p);
+    let named = line_allocation(p);
     let is_named = match stream {
         Stream::DownCommands => named.down,
         Stream::UpCommands => !named.down,
@@ -113,7 +113,7 @@ fn is_sent(stream: Stream, ep: usize, p: &PlannedLine) -> bool
 
 /// In how many symbols a line has a part of this stream, from its first one on: a command has one part.
 fn symbols_in(stream: Stream, p: &PlannedLine) -> u8
-    ensures { result ≡ symbols_in stream p.now }
+    ensures { result ≡ part_symbols stream p.now }
 {
     match stream {
         Stream::DownCommands | Stream::UpCommands => 1,
@@ -125,7 +125,7 @@ fn symbols_in(stream: Stream, p: &PlannedLine) -> u8
 fn put_line(parts: &mut Vec<TimedPart>, stream: Stream, p: &PlannedLine) -> Result<(), NoMemory>
     requires endpoint { IsEndpoint p.now.endpoint }
     requires slot { IsSlot p.now.endpoint.numerology p.now.line.slot }
-    requires symbols { p.now.line.symbol + symbols_in stream p.now ≤ symbols_of p.now.endpoint.numerology }
+    requires symbols { p.now.line.symbol + part_symbols stream p.now ≤ symbols_of p.now.endpoint.numerology }
     ensures { OnOk result (parts.new.items ≡ parts.old.items ++ map (timed stream) (line_parts stream p.now)) }
 {
     for k in 0..symbols_in(stream, p) {
@@ -143,7 +143,7 @@ fn put_sent(
 ) -> Result<(), NoMemory>
     requires endpoint { IsEndpoint p.now.endpoint }
     requires slot { IsSlot p.now.endpoint.numerology p.now.line.slot }
-    requires symbols { p.now.line.symbol + symbols_in stream p.now ≤ symbols_of p.now.endpoint.numerology }
+    requires symbols { p.now.line.symbol + part_symbols stream p.now ≤ symbols_of p.now.endpoint.numerology }
     ensures { OnOk result (parts.new.items ≡ parts.old.items ++ map (timed stream) (if is_sent stream ep p.now then line_parts stream p.now else [])) }
 {
     if !is_sent(stream, ep, p) {

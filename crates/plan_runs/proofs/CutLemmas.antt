@@ -3,24 +3,24 @@ use Rattle.std.proofs.Common.{◌≡◌, ℕ, ℤ, pos, ◌+◌, ◌*◌, ◌+�
 use Rattle.window_config.specs.declared.config.Config.{Config}
 use Rattle.window_config.specs.declared.endpoints.EndpointConfig.{EndpointConfig}
 use Rattle.plan_parts.specs.plan_model.specs.declared.lines.PlannedLine.{PlannedLine}
-use Rattle.plan_parts.specs.plan_model.specs.Departures.{start_of}
+use Rattle.plan_parts.specs.plan_model.specs.Departures.{start_of_part}
 use Rattle.plan_parts.specs.plan_model.specs.Packs.{Message, alone as message_alone, parts_of, with_part, size_of, same_symbol, takes, packs_behind, packs, frames_before, numbered_behind, numbered}
 use Rattle.plan_parts.specs.plan_model.specs.Streams.{Part, frames_in, most_parts, part_fields, messages_of, parts_in}
 use Rattle.plan_parts.specs.plan_model.specs.declared.streams.Stream.{Stream}
 use Rattle.plan_parts.specs.plan_model.specs.declared.streams.Stream.TheVariants.{DownCommands, UpCommands, DownData, UpData}
 use Rattle.sent_order.specs.plan_model.proofs.PackLemmas.{symbol_alike, before_alike, sum_more, length_more, wait_more}
 use Rattle.frame_order.specs.declared.turns.Run.{Run}
-use Rattle.sent_order.specs.Runs.{place_of, run_of}
+use Rattle.sent_order.specs.Runs.{stream_place, run_of}
 use Rattle.plan_parts.specs.Parts.{timed}
-use Rattle.plan_runs.specs.Runs.{PartsMakeRuns, limits_of, begins_of, stream_begins}
-use Rattle.plan_runs.specs.Walks.{first_message, frames_of, grown, next_to, run_from, same_place, takes_more, wait_behind, walk, walked, later_begins, begins}
+use Rattle.plan_runs.specs.Runs.{PartsMakeRuns, limits_of, first_sections, stream_begins}
+use Rattle.plan_runs.specs.Walks.{first_message, frames_needed, run_grown, run_next_to, run_from, same_place, run_takes_more, run_wait, walk, walked, later_begins, begins}
 use Rattle.plan_runs.specs.declared.limits.Limits.{Limits}
 use Rattle.plan_runs.specs.declared.open_messages.OpenMessage.{OpenMessage}
 use Rattle.plan_parts.specs.declared.parts.TimedPart.{TimedPart}
 
 -- ---- times and frames
 
-frames_are : (c : Config) (stream : Stream) (ep : ℕ) (m : Message Part) → frames_in c stream m ≡ frames_of (limits_of c stream ep).fragment (size_of part_fields m)
+frames_are : (c : Config) (stream : Stream) (ep : ℕ) (m : Message Part) → frames_in c stream m ≡ frames_needed (limits_of c stream ep).fragment (size_of part_fields m)
 frames_are c DownCommands ep m = refl
 frames_are c UpCommands ep m = refl
 frames_are c DownData ep m = refl
@@ -43,13 +43,13 @@ module _ (c : Config) (stream : Stream) (ep : ℕ) where
   frames m = frames_in c stream m
 
   takes_is : (o : OpenMessage) (m : Message Part) (earlier : List (Message Part)) (p : Part) → IsOpenOf c stream ep o m earlier
-      → takes_more l.pack o (timed stream p) ≡ takes part_fields (most_parts c stream) m p
+      → run_takes_more l.pack o (timed stream p) ≡ takes part_fields (most_parts c stream) m p
   takes_is o m earlier p i =
       ap₂ (λ (x : TimedPart) (n : ℕ). same_place x (timed stream p) && (nat_lt n l.pack && nat_le (o.bytes + (timed stream p).size) 16384)) i.first i.parts
       ∙ ap (λ (b : ℕ). same_place (timed stream m.first) (timed stream p) && (nat_lt (length (parts_of m)) l.pack && nat_le (b + (timed stream p).size) 16384)) i.bytes
 
   grown_is : (o : OpenMessage) (m : Message Part) (earlier : List (Message Part)) (p : Part) → IsOpenOf c stream ep o m earlier
-      → IsOpenOf c stream ep (grown o (timed stream p)) (with_part m p) earlier
+      → IsOpenOf c stream ep (run_grown o (timed stream p)) (with_part m p) earlier
   grown_is o m earlier p i = record {
     first = i.first;
     parts = (let a = i.parts in let b = length_more m.more p in omega (arith, a, b));
@@ -59,35 +59,35 @@ module _ (c : Config) (stream : Stream) (ep : ℕ) where
   }
 
   next_is : (o : OpenMessage) (m : Message Part) (earlier : List (Message Part)) (p : Part) → IsOpenOf c stream ep o m earlier
-      → IsOpenOf c stream ep (next_to l o (timed stream p)) (message_alone p) (m ∷ earlier)
+      → IsOpenOf c stream ep (run_next_to l o (timed stream p)) (message_alone p) (m ∷ earlier)
   unfolding frames_before
   next_is o m earlier p i = record { first = refl; parts = refl; bytes = omega arith; number = (let n = i.number in omega (arith, n)); wait = wait }
     where
       go : (t : Bool) → same_symbol part_fields p m.first ≡ t
-          → (let w : ℕ = if t then min (o.wait + frames_of l.fragment o.bytes * l.departures.gap) l.departures.spread else 0 in w)
+          → (let w : ℕ = if t then min (o.wait + frames_needed l.fragment o.bytes * l.departures.gap) l.departures.spread else 0 in w)
           ≡ min ((let n : ℕ = if t then frames m + frames_before part_fields frames (message_alone p) earlier else 0 in n) * l.departures.gap) l.departures.spread
       go false e = omega (arith, zero-mul l.departures.gap)
       go true e =
-          ap₂ (λ (w f : ℕ). min (w + f * l.departures.gap) l.departures.spread) i.wait (ap (frames_of l.fragment) i.bytes ∙ sym (frames_are c stream ep m))
+          ap₂ (λ (w f : ℕ). min (w + f * l.departures.gap) l.departures.spread) i.wait (ap (frames_needed l.fragment) i.bytes ∙ sym (frames_are c stream ep m))
           ∙ wait_more (frames_before part_fields frames m earlier) (frames m) l.departures.gap l.departures.spread
           ∙ ap (λ (n : ℕ). min ((frames m + n) * l.departures.gap) l.departures.spread) (before_alike frames m (message_alone p) earlier (λ r. sym (symbol_alike p m.first r e)))
 
-      wait : wait_behind l o (timed stream p) ≡ min (frames_before part_fields frames (message_alone p) (m ∷ earlier) * l.departures.gap) l.departures.spread
-      wait = ap (λ (t : Bool). let w : ℕ = if t then min (o.wait + frames_of l.fragment o.bytes * l.departures.gap) l.departures.spread else 0 in w)
+      wait : run_wait l o (timed stream p) ≡ min (frames_before part_fields frames (message_alone p) (m ∷ earlier) * l.departures.gap) l.departures.spread
+      wait = ap (λ (t : Bool). let w : ℕ = if t then min (o.wait + frames_needed l.fragment o.bytes * l.departures.gap) l.departures.spread else 0 in w)
           (ap (same_place (timed stream p)) i.first) ∙ go (same_symbol part_fields p m.first) refl
 
   run_is : (o : OpenMessage) (m : Message Part) (earlier : List (Message Part)) → IsOpenOf c stream ep o m earlier
       → run_of c stream ep (record { message = m; number = length earlier; before = frames_before part_fields frames m earlier }) ≡ run_from l o
   run_is o m earlier i =
       let none : frames_before part_fields frames m earlier + 0 ≡ frames_before part_fields frames m earlier = omega arith in
-      ap (λ (n : ℕ). made ((start_of m.first +ℤ l.departures.from.0) +ℤ pos (min (n * l.departures.gap) l.departures.spread)) (start_of m.first) (length earlier) (frames m)) none
-      ∙ ap (λ (w : ℕ). made ((start_of m.first +ℤ l.departures.from.0) +ℤ pos w) (start_of m.first) (length earlier) (frames m)) (sym i.wait)
+      ap (λ (n : ℕ). made ((start_of_part m.first +ℤ l.departures.from.0) +ℤ pos (min (n * l.departures.gap) l.departures.spread)) (start_of_part m.first) (length earlier) (frames m)) none
+      ∙ ap (λ (w : ℕ). made ((start_of_part m.first +ℤ l.departures.from.0) +ℤ pos w) (start_of_part m.first) (length earlier) (frames m)) (sym i.wait)
       ∙ ap (λ (x : TimedPart). made ((x.start.0 +ℤ l.departures.from.0) +ℤ pos o.wait) x.start.0 (length earlier) (frames m)) (sym i.first)
-      ∙ ap₂ (λ (k f : ℕ). made ((o.first.start.0 +ℤ l.departures.from.0) +ℤ pos o.wait) o.first.start.0 k f) (sym i.number) (frames_are c stream ep m ∙ ap (frames_of l.fragment) (sym i.bytes))
+      ∙ ap₂ (λ (k f : ℕ). made ((o.first.start.0 +ℤ l.departures.from.0) +ℤ pos o.wait) o.first.start.0 k f) (sym i.number) (frames_are c stream ep m ∙ ap (frames_needed l.fragment) (sym i.bytes))
     where
       made : ℤ → ℤ → ℕ → ℕ → Run
       made at start number left = record {
-        turn = record { at = record { 0 = at }; endpoint = ep; stream = place_of stream; number = number; sub = 0 };
+        turn = record { at = record { 0 = at }; endpoint = ep; stream = stream_place stream; number = number; sub = 0 };
         last = record { 0 = (start +ℤ l.departures.from.0) +ℤ pos l.departures.spread };
         left = left;
       }
@@ -97,17 +97,17 @@ module _ (c : Config) (stream : Stream) (ep : ℕ) where
   unfolding walk numbered_behind packs_behind
   walk_is o m earlier [] i = ap (λ (s : Run). s ∷ []) (run_is o m earlier i)
   walk_is o m earlier (p ∷ ps) i =
-      go (takes part_fields (most_parts c stream) m p) refl (walk_is (grown o (timed stream p)) (with_part m p) earlier ps (grown_is o m earlier p i))
-      (walk_is (next_to l o (timed stream p)) (message_alone p) (m ∷ earlier) ps (next_is o m earlier p i))
+      go (takes part_fields (most_parts c stream) m p) refl (walk_is (run_grown o (timed stream p)) (with_part m p) earlier ps (grown_is o m earlier p i))
+      (walk_is (run_next_to l o (timed stream p)) (message_alone p) (m ∷ earlier) ps (next_is o m earlier p i))
     where
       go : (t : Bool) → takes part_fields (most_parts c stream) m p ≡ t
-          → map (run_of c stream ep) (numbered_behind part_fields frames earlier (packs_behind part_fields (most_parts c stream) (with_part m p) ps)) ≡ walk l (grown o (timed stream p)) (map (timed stream) ps)
+          → map (run_of c stream ep) (numbered_behind part_fields frames earlier (packs_behind part_fields (most_parts c stream) (with_part m p) ps)) ≡ walk l (run_grown o (timed stream p)) (map (timed stream) ps)
           → map (run_of c stream ep) (numbered_behind part_fields frames (m ∷ earlier) (packs_behind part_fields (most_parts c stream) (message_alone p) ps))
-          ≡ walk l (next_to l o (timed stream p)) (map (timed stream) ps)
+          ≡ walk l (run_next_to l o (timed stream p)) (map (timed stream) ps)
           → map (run_of c stream ep) (numbered_behind part_fields frames earlier (let ms : List (Message Part) = if takes part_fields (most_parts c stream) m p then packs_behind part_fields (most_parts c stream) (with_part m p) ps
           else m ∷ packs_behind part_fields (most_parts c stream) (message_alone p) ps in ms))
-          ≡ (let ss : List Run = if takes_more l.pack o (timed stream p) then walk l (grown o (timed stream p)) (map (timed stream) ps)
-          else run_from l o ∷ walk l (next_to l o (timed stream p)) (map (timed stream) ps) in ss)
+          ≡ (let ss : List Run = if run_takes_more l.pack o (timed stream p) then walk l (run_grown o (timed stream p)) (map (timed stream) ps)
+          else run_from l o ∷ walk l (run_next_to l o (timed stream p)) (map (timed stream) ps) in ss)
       go true e taken begun = let f = takes_is o m earlier p i in rw (f, e) taken
       go false e taken begun = let f = takes_is o m earlier p i in rw (f, e) (ap₂ (λ (s : Run) (ss : List Run). s ∷ ss) (run_is o m earlier i) begun)
 
@@ -121,28 +121,28 @@ module _ (c : Config) (stream : Stream) (ep : ℕ) where
   walked_is (p ∷ ps) = walk_is (first_message (timed stream p)) (message_alone p) [] ps (first_is p)
 
   begins_behind : (o : OpenMessage) (m : Message Part) (earlier : List (Message Part)) (ps : List Part) (from place : ℕ) → IsOpenOf c stream ep o m earlier → place ≡ from + length (parts_of m)
-      → begins_of from (packs_behind part_fields (most_parts c stream) m ps) ≡ from ∷ later_begins l o place (map (timed stream) ps)
-  unfolding later_begins packs_behind begins_of
+      → first_sections from (packs_behind part_fields (most_parts c stream) m ps) ≡ from ∷ later_begins l o place (map (timed stream) ps)
+  unfolding later_begins packs_behind first_sections
   begins_behind o m earlier [] from place i e = refl
   begins_behind o m earlier (p ∷ ps) from place i e =
       go (takes part_fields (most_parts c stream) m p) refl
-      (begins_behind (grown o (timed stream p)) (with_part m p) earlier ps from (place + 1) (grown_is o m earlier p i) (let more = length_more m.more p in omega (arith, e, more)))
-      (begins_behind (next_to l o (timed stream p)) (message_alone p) (m ∷ earlier) ps (from + length (parts_of m)) (place + 1) (next_is o m earlier p i) (omega (arith, e)))
+      (begins_behind (run_grown o (timed stream p)) (with_part m p) earlier ps from (place + 1) (grown_is o m earlier p i) (let more = length_more m.more p in omega (arith, e, more)))
+      (begins_behind (run_next_to l o (timed stream p)) (message_alone p) (m ∷ earlier) ps (from + length (parts_of m)) (place + 1) (next_is o m earlier p i) (omega (arith, e)))
     where
       go : (t : Bool) → takes part_fields (most_parts c stream) m p ≡ t
-          → begins_of from (packs_behind part_fields (most_parts c stream) (with_part m p) ps) ≡ from ∷ later_begins l (grown o (timed stream p)) (place + 1) (map (timed stream) ps)
-          → begins_of (from + length (parts_of m)) (packs_behind part_fields (most_parts c stream) (message_alone p) ps)
-          ≡ (from + length (parts_of m)) ∷ later_begins l (next_to l o (timed stream p)) (place + 1) (map (timed stream) ps)
-          → begins_of from (let ms : List (Message Part) = if takes part_fields (most_parts c stream) m p then packs_behind part_fields (most_parts c stream) (with_part m p) ps
+          → first_sections from (packs_behind part_fields (most_parts c stream) (with_part m p) ps) ≡ from ∷ later_begins l (run_grown o (timed stream p)) (place + 1) (map (timed stream) ps)
+          → first_sections (from + length (parts_of m)) (packs_behind part_fields (most_parts c stream) (message_alone p) ps)
+          ≡ (from + length (parts_of m)) ∷ later_begins l (run_next_to l o (timed stream p)) (place + 1) (map (timed stream) ps)
+          → first_sections from (let ms : List (Message Part) = if takes part_fields (most_parts c stream) m p then packs_behind part_fields (most_parts c stream) (with_part m p) ps
           else m ∷ packs_behind part_fields (most_parts c stream) (message_alone p) ps in ms)
-          ≡ from ∷ (let ns : List ℕ = if takes_more l.pack o (timed stream p) then later_begins l (grown o (timed stream p)) (place + 1) (map (timed stream) ps)
-          else place ∷ later_begins l (next_to l o (timed stream p)) (place + 1) (map (timed stream) ps) in ns)
+          ≡ from ∷ (let ns : List ℕ = if run_takes_more l.pack o (timed stream p) then later_begins l (run_grown o (timed stream p)) (place + 1) (map (timed stream) ps)
+          else place ∷ later_begins l (run_next_to l o (timed stream p)) (place + 1) (map (timed stream) ps) in ns)
       go true h taken begun = let f = takes_is o m earlier p i in rw (f, h) taken
       go false h taken begun = let f = takes_is o m earlier p i in rw (f, h)
-          (ap (λ (ns : List ℕ). from ∷ ns) (begun ∙ ap (λ (n : ℕ). n ∷ later_begins l (next_to l o (timed stream p)) (place + 1) (map (timed stream) ps)) (sym e)))
+          (ap (λ (ns : List ℕ). from ∷ ns) (begun ∙ ap (λ (n : ℕ). n ∷ later_begins l (run_next_to l o (timed stream p)) (place + 1) (map (timed stream) ps)) (sym e)))
 
-  pub begins_are : (ps : List Part) → begins_of 0 (packs part_fields (most_parts c stream) ps) ≡ begins l (map (timed stream) ps)
-  unfolding begins_of
+  pub begins_are : (ps : List Part) → first_sections 0 (packs part_fields (most_parts c stream) ps) ≡ begins l (map (timed stream) ps)
+  unfolding first_sections
   begins_are [] = refl
   begins_are (p ∷ ps) = begins_behind (first_message (timed stream p)) (message_alone p) [] ps 0 1 (first_is p) refl
 

@@ -6,7 +6,7 @@ use Rattle.std.proofs.lemmas.List.{append-nil, drop_all}
 use Rattle.frame_order.specs.declared.turns.Run.{Run}
 use Rattle.plan_parts.specs.Parts.{IsTimed}
 use Rattle.plan_runs.specs.Ranges.{IsLimits, IsOpenMessage}
-use Rattle.plan_runs.specs.Walks.{first_message, takes_more, grown, next_to, run_from, same_place, walk, walked, later_begins, begins}
+use Rattle.plan_runs.specs.Walks.{first_message, run_takes_more, run_grown, run_next_to, run_from, same_place, walk, walked, later_begins, begins}
 use Rattle.plan_runs.specs.declared.limits.Limits.{Limits}
 use Rattle.plan_runs.specs.declared.open_messages.OpenMessage.{OpenMessage}
 use Rattle.plan_parts.specs.declared.parts.TimedPart.{TimedPart}
@@ -16,18 +16,18 @@ pub record Short (pack : ℕ) (m : OpenMessage) (p : TimedPart) : Type 0 where
   pub parts : m.parts < pack
   pub bytes : m.bytes + p.size ≤ 16384
 
-pub takes_short : (pack : ℕ) (m : OpenMessage) (p : TimedPart) → takes_more pack m p ≡ true → Short pack m p
+pub takes_short : (pack : ℕ) (m : OpenMessage) (p : TimedPart) → run_takes_more pack m p ≡ true → Short pack m p
 takes_short pack m p h =
     let a = and_parts (same_place m.first p) _ h in
     let b = and_parts (nat_lt m.parts pack) (nat_le (m.bytes + p.size) 16384) a.1 in
     record { parts = ltb-true m.parts pack b.0; bytes = leb-true (m.bytes + p.size) 16384 b.1 }
 
-pub grown_open : (l : Limits) (m : OpenMessage) (p : TimedPart) → IsLimits l → IsOpenMessage l m → takes_more l.pack m p ≡ true → IsOpenMessage l (grown m p)
+pub grown_open : (l : Limits) (m : OpenMessage) (p : TimedPart) → IsLimits l → IsOpenMessage l m → run_takes_more l.pack m p ≡ true → IsOpenMessage l (run_grown m p)
 grown_open l m p limits o h =
     let s = takes_short l.pack m p h in
     record { first = o.first; parts = (let a = s.parts in let b = limits.pack in omega (arith, a, b)); bytes = s.bytes; wait = o.wait }
 
-pub next_open : (l : Limits) (m n : OpenMessage) (p : TimedPart) → IsTimed p → n ≡ next_to l m p → n.wait ≤ l.departures.spread → IsOpenMessage l n
+pub next_open : (l : Limits) (m n : OpenMessage) (p : TimedPart) → IsTimed p → n ≡ run_next_to l m p → n.wait ≤ l.departures.spread → IsOpenMessage l n
 next_open l m n p is e w = record {
   first = subst IsTimed (sym (ap (λ (x : OpenMessage). x.first) e)) is;
   parts = (let a = ap (λ (x : OpenMessage). x.parts) e in omega (arith, a));
@@ -38,32 +38,32 @@ next_open l m n p is e w = record {
 pub first_open : (l : Limits) (p : TimedPart) → IsTimed p → IsOpenMessage l (first_message p)
 first_open l p is = record { first = is; parts = omega arith; bytes = (let b = is.size in omega (arith, b)); wait = omega arith }
 
-pub walk_takes : (l : Limits) (m : OpenMessage) (p : TimedPart) (ps : List TimedPart) → takes_more l.pack m p ≡ true → walk l m (p ∷ ps) ≡ walk l (grown m p) ps
+pub walk_takes : (l : Limits) (m : OpenMessage) (p : TimedPart) (ps : List TimedPart) → run_takes_more l.pack m p ≡ true → walk l m (p ∷ ps) ≡ walk l (run_grown m p) ps
 unfolding walk
 walk_takes l m p ps h = rw h refl
 
-pub walk_next : (l : Limits) (m n : OpenMessage) (p : TimedPart) (ps : List TimedPart) (r : Run) (old new : List Run) → takes_more l.pack m p ≡ false → n ≡ next_to l m p → r ≡ run_from l m
+pub walk_next : (l : Limits) (m n : OpenMessage) (p : TimedPart) (ps : List TimedPart) (r : Run) (old new : List Run) → run_takes_more l.pack m p ≡ false → n ≡ run_next_to l m p → r ≡ run_from l m
     → new ≡ old ++ r ∷ [] → new ++ walk l n ps ≡ old ++ walk l m (p ∷ ps)
 unfolding walk
 walk_next l m n p ps r old new h n_is r_is new_is =
     ap (λ (xs : List Run). xs ++ walk l n ps) new_is ∙ append_assoc old (r ∷ []) (walk l n ps)
     ∙ ap (λ (xs : List Run). old ++ xs)
     (ap₂ (λ (x : Run) (k : OpenMessage). x ∷ walk l k ps) r_is n_is
-    ∙ sym (ap (λ (t : Bool). let xs : List Run = if t then walk l (grown m p) ps else run_from l m ∷ walk l (next_to l m p) ps in xs) h))
+    ∙ sym (ap (λ (t : Bool). let xs : List Run = if t then walk l (run_grown m p) ps else run_from l m ∷ walk l (run_next_to l m p) ps in xs) h))
 
-pub begins_take : (l : Limits) (m : OpenMessage) (p : TimedPart) (place : ℕ) (ps : List TimedPart) → takes_more l.pack m p ≡ true
-    → later_begins l m place (p ∷ ps) ≡ later_begins l (grown m p) (place + 1) ps
+pub begins_take : (l : Limits) (m : OpenMessage) (p : TimedPart) (place : ℕ) (ps : List TimedPart) → run_takes_more l.pack m p ≡ true
+    → later_begins l m place (p ∷ ps) ≡ later_begins l (run_grown m p) (place + 1) ps
 unfolding later_begins
 begins_take l m p place ps h = rw h refl
 
-pub begins_next : (l : Limits) (m n : OpenMessage) (p : TimedPart) (place : ℕ) (ps : List TimedPart) (old new : List ℕ) → takes_more l.pack m p ≡ false → n ≡ next_to l m p
+pub begins_next : (l : Limits) (m n : OpenMessage) (p : TimedPart) (place : ℕ) (ps : List TimedPart) (old new : List ℕ) → run_takes_more l.pack m p ≡ false → n ≡ run_next_to l m p
     → new ≡ old ++ place ∷ [] → new ++ later_begins l n (place + 1) ps ≡ old ++ later_begins l m place (p ∷ ps)
 unfolding later_begins
 begins_next l m n p place ps old new h n_is new_is =
     ap (λ (xs : List ℕ). xs ++ later_begins l n (place + 1) ps) new_is ∙ append_assoc old (place ∷ []) (later_begins l n (place + 1) ps)
     ∙ ap (λ (xs : List ℕ). old ++ xs)
     (ap (λ (k : OpenMessage). place ∷ later_begins l k (place + 1) ps) n_is
-    ∙ sym (ap (λ (t : Bool). let xs : List ℕ = if t then later_begins l (grown m p) (place + 1) ps else place ∷ later_begins l (next_to l m p) (place + 1) ps in xs) h))
+    ∙ sym (ap (λ (t : Bool). let xs : List ℕ = if t then later_begins l (run_grown m p) (place + 1) ps else place ∷ later_begins l (run_next_to l m p) (place + 1) ps in xs) h))
 
 -- ---- so far
 

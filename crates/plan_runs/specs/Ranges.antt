@@ -3,6 +3,7 @@ use Rattle.std.specs.Prelude.{ℕ, pos, neg_ℤ, ⊤, ◌^◌, ◌<◌, ◌≤�
 use Rattle.plan_parts.specs.Parts.{IsTimed}
 use Rattle.plan_runs.specs.declared.limits.Limits.{Limits}
 use Rattle.plan_runs.specs.declared.open_messages.OpenMessage.{OpenMessage}
+use Rattle.window_config.specs.declared.config.TheConstants.{MESSAGE_SECTIONS}
 
 abbrev pub IsFragment : Option ℕ → Type 0
 IsFragment None = ⊤
@@ -10,7 +11,7 @@ IsFragment (Some n) = (128 ≤ n) × (n ≤ 9000)
 
 pub record IsLimits (l : Limits) : Type 0 where
   pub fragment : IsFragment l.fragment
-  pub pack : l.pack ≤ 64
+  pub pack : l.pack ≤ MESSAGE_SECTIONS
   pub from_low : neg_ℤ (pos (2 ^ 33)) ≤ℤ l.departures.from.0
   pub from_high : l.departures.from.0 ≤ℤ pos (2 ^ 33)
   pub gap : l.departures.gap < 2 ^ 33

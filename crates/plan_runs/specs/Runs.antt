@@ -8,24 +8,24 @@ use Rattle.plan_parts.specs.plan_model.specs.Streams.{part_fields, most_parts, p
 use Rattle.plan_parts.specs.plan_model.specs.declared.lines.PlannedLine.{PlannedLine}
 use Rattle.plan_parts.specs.plan_model.specs.declared.streams.Stream.{Stream}
 use Rattle.plan_parts.specs.plan_model.specs.declared.streams.Stream.TheVariants.{DownCommands, UpCommands, DownData, UpData}
-use Rattle.sent_order.specs.Runs.{place_of, stream_runs}
+use Rattle.sent_order.specs.Runs.{stream_place, stream_runs}
 use Rattle.plan_parts.specs.Parts.{timed}
 use Rattle.plan_runs.specs.Walks.{walked}
 use Rattle.plan_runs.specs.declared.limits.Limits.{Limits}
 
 -- a command goes in one frame
-abbrev pub fragment_of : Config → Stream → Option ℕ
-fragment_of c DownCommands = None
-fragment_of c UpCommands = None
-fragment_of c DownData = Some c.fragment
-fragment_of c UpData = Some c.fragment
+abbrev pub fragment_limit : Config → Stream → Option ℕ
+fragment_limit c DownCommands = None
+fragment_limit c UpCommands = None
+fragment_limit c DownData = Some c.fragment
+fragment_limit c UpData = Some c.fragment
 
 abbrev pub limits_of : Config → Stream → ℕ → Limits
 limits_of c stream ep = record {
   endpoint = ep;
-  stream = place_of stream;
+  stream = stream_place stream;
   pack = most_parts c stream;
-  fragment = fragment_of c stream;
+  fragment = fragment_limit c stream;
   departures = departures_of c stream;
 }
 
@@ -36,10 +36,10 @@ PartsMakeRuns =
     → walked (limits_of c stream ep) (map (timed stream) (parts_in lines stream ep e)) ≡ stream_runs c lines stream ep e
 
 -- where messages begin among all their parts, the first of them at this place
-unfoldable pub begins_of : {P : Type 0} → ℕ → List (Message P) → List ℕ
-begins_of place [] = []
-begins_of place (m ∷ ms) = place ∷ begins_of (place + length (parts_of m)) ms
+unfoldable pub first_sections : {P : Type 0} → ℕ → List (Message P) → List ℕ
+first_sections place [] = []
+first_sections place (m ∷ ms) = place ∷ first_sections (place + length (parts_of m)) ms
 
 -- those of a stream
 abbrev pub stream_begins : Config → List PlannedLine → Stream → ℕ → EndpointConfig → List ℕ
-stream_begins c lines stream ep e = begins_of 0 (packs part_fields (most_parts c stream) (parts_in lines stream ep e))
+stream_begins c lines stream ep e = first_sections 0 (packs part_fields (most_parts c stream) (parts_in lines stream ep e))

@@ -11,41 +11,41 @@ use Rattle.plan_parts.specs.declared.parts.TimedPart.{TimedPart}
 abbrev pub same_place : TimedPart → TimedPart → Bool
 same_place a b = same_slot (slot_at a.frame a.subframe a.slot) (slot_at b.frame b.subframe b.slot) && (a.symbol == b.symbol)
 
-abbrev pub alone : TimedPart → ℕ → ℕ → OpenMessage
-alone p number wait = record { first = p; parts = 1; bytes = 4 + p.size; number = number; wait = wait }
+abbrev pub run_alone : TimedPart → ℕ → ℕ → OpenMessage
+run_alone p number wait = record { first = p; parts = 1; bytes = 4 + p.size; number = number; wait = wait }
 
 abbrev pub first_message : TimedPart → OpenMessage
-first_message p = alone p 0 0
+first_message p = run_alone p 0 0
 
-abbrev pub takes_more : ℕ → OpenMessage → TimedPart → Bool
-takes_more pack m p = same_place m.first p && (nat_lt m.parts pack && nat_le (m.bytes + p.size) 16384)
+abbrev pub run_takes_more : ℕ → OpenMessage → TimedPart → Bool
+run_takes_more pack m p = same_place m.first p && (nat_lt m.parts pack && nat_le (m.bytes + p.size) 16384)
 
-abbrev pub grown : OpenMessage → TimedPart → OpenMessage
-grown m p = record { first = m.first; parts = m.parts + 1; bytes = m.bytes + p.size; number = m.number; wait = m.wait }
+abbrev pub run_grown : OpenMessage → TimedPart → OpenMessage
+run_grown m p = record { first = m.first; parts = m.parts + 1; bytes = m.bytes + p.size; number = m.number; wait = m.wait }
 
-abbrev pub frames_of : Option ℕ → ℕ → ℕ
-frames_of None bytes = 1
-frames_of (Some most) bytes = frames_for most bytes
+abbrev pub frames_needed : Option ℕ → ℕ → ℕ
+frames_needed None bytes = 1
+frames_needed (Some most) bytes = frames_for most bytes
 
 -- the next message waits for the frames of this one, where it is of its symbol
-abbrev pub wait_behind : Limits → OpenMessage → TimedPart → ℕ
-wait_behind l m p =
-    if same_place p m.first then min (m.wait + frames_of l.fragment m.bytes * l.departures.gap) l.departures.spread else 0
+abbrev pub run_wait : Limits → OpenMessage → TimedPart → ℕ
+run_wait l m p =
+    if same_place p m.first then min (m.wait + frames_needed l.fragment m.bytes * l.departures.gap) l.departures.spread else 0
 
-abbrev pub next_to : Limits → OpenMessage → TimedPart → OpenMessage
-next_to l m p = alone p (m.number + 1) (wait_behind l m p)
+abbrev pub run_next_to : Limits → OpenMessage → TimedPart → OpenMessage
+run_next_to l m p = run_alone p (m.number + 1) (run_wait l m p)
 
 abbrev pub run_from : Limits → OpenMessage → Run
 run_from l m = record {
   turn = record { at = record { 0 = (m.first.start.0 +ℤ l.departures.from.0) +ℤ pos m.wait }; endpoint = l.endpoint; stream = l.stream; number = m.number; sub = 0 };
   last = record { 0 = (m.first.start.0 +ℤ l.departures.from.0) +ℤ pos l.departures.spread };
-  left = frames_of l.fragment m.bytes;
+  left = frames_needed l.fragment m.bytes;
 }
 
 -- the messages from one on, where these parts follow
 unfoldable pub walk : Limits → OpenMessage → List TimedPart → List Run
 walk l m [] = run_from l m ∷ []
-walk l m (p ∷ ps) = if takes_more l.pack m p then walk l (grown m p) ps else run_from l m ∷ walk l (next_to l m p) ps
+walk l m (p ∷ ps) = if run_takes_more l.pack m p then walk l (run_grown m p) ps else run_from l m ∷ walk l (run_next_to l m p) ps
 
 abbrev pub walked : Limits → List TimedPart → List Run
 walked l [] = []
@@ -55,7 +55,7 @@ walked l (p ∷ ps) = walk l (first_message p) ps
 unfoldable pub later_begins : Limits → OpenMessage → ℕ → List TimedPart → List ℕ
 later_begins l m place [] = []
 later_begins l m place (p ∷ ps) =
-    if takes_more l.pack m p then later_begins l (grown m p) (place + 1) ps else place ∷ later_begins l (next_to l m p) (place + 1) ps
+    if run_takes_more l.pack m p then later_begins l (run_grown m p) (place + 1) ps else place ∷ later_begins l (run_next_to l m p) (place + 1) ps
 
 abbrev pub begins : Limits → List TimedPart → List ℕ
 begins l [] = []

@@ -1,7 +1,7 @@
 //! A message that may take more parts.
 ghost use Rattle.std.specs.Prelude.{◌≡◌, ◌+◌, ◌<◌, ◌≤◌, ◌^◌};
 ghost use Rattle.plan_runs.specs.Ranges.{IsFragment, IsLimits, IsOpenMessage};
-ghost use Rattle.plan_runs.specs.Walks.{first_message, frames_of, grown, next_to, run_from, same_place, takes_more};
+ghost use Rattle.plan_runs.specs.Walks.{first_message, frames_needed, run_grown, run_next_to, run_from, same_place, run_takes_more};
 
 use crate::limits::Limits;
 use frame_order::{Run, Turn};
@@ -54,7 +54,7 @@ pub(crate) fn first_message(part: &TimedPart) -> OpenMessage
 /// Whether a message takes a part more: of its symbol, and where it has room for it.
 pub(crate) fn takes_more(pack: usize, m: &OpenMessage, part: &TimedPart) -> bool
     requires bytes { m.now.bytes ≤ 16384 }
-    ensures { result ≡ takes_more pack m.now part.now }
+    ensures { result ≡ run_takes_more pack m.now part.now }
 {
     same_place(&m.first, part) && m.parts < pack && m.bytes + part.size as usize <= 16_384
 }
@@ -63,7 +63,7 @@ pub(crate) fn takes_more(pack: usize, m: &OpenMessage, part: &TimedPart) -> bool
 pub(crate) fn grown(m: &OpenMessage, part: &TimedPart) -> OpenMessage
     requires bytes { m.now.bytes ≤ 16384 }
     requires parts { m.now.parts < 2 ^ 63 }
-    ensures { result ≡ grown m.now part.now }
+    ensures { result ≡ run_grown m.now part.now }
 {
     OpenMessage {
         parts: m.parts + 1,
@@ -76,7 +76,7 @@ pub(crate) fn grown(m: &OpenMessage, part: &TimedPart) -> OpenMessage
 fn frames_of(fragment: Option<usize>, bytes: usize) -> usize
     requires fragment { IsFragment fragment }
     requires bytes { bytes ≤ 16384 }
-    ensures value { result ≡ frames_of fragment bytes }
+    ensures value { result ≡ frames_needed fragment bytes }
     ensures small { result ≤ 128 }
 {
     match fragment {
@@ -90,7 +90,7 @@ pub(crate) fn next_to(limits: &Limits, m: &OpenMessage, part: &TimedPart) -> Ope
     requires limits { IsLimits limits.now }
     requires message { IsOpenMessage limits.now m.now }
     requires number { m.now.number < 2 ^ 24 }
-    ensures value { result ≡ next_to limits.now m.now part.now }
+    ensures value { result ≡ run_next_to limits.now m.now part.now }
     ensures wait { result.wait ≤ limits.now.departures.spread }
 {
     let wait = if same_place(part, &m.first) {

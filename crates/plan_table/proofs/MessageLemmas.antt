@@ -11,25 +11,25 @@ use Rattle.plan_runs.specs.plan_model.specs.declared.lines.PlannedLine.{PlannedL
 use Rattle.plan_runs.specs.plan_model.specs.declared.streams.Stream.{Stream}
 use Rattle.plan_runs.specs.plan_parts.specs.Parts.{timed}
 use Rattle.plan_runs.specs.plan_parts.specs.declared.parts.TimedPart.{TimedPart}
-use Rattle.plan_runs.specs.Runs.{begins_of, stream_begins}
-use Rattle.plan_table.specs.Kept.{line_of, placed_line, IsStreamParts, message_in, HasMessage}
+use Rattle.plan_runs.specs.Runs.{first_sections, stream_begins}
+use Rattle.plan_table.specs.Kept.{placed_line_of, placed_line, IsStreamParts, message_in, HasMessage}
 use Rattle.plan_table.specs.declared.kept.PlacedLine.{PlacedLine}
 use Rattle.plan_table.specs.declared.kept.StreamParts.{StreamParts}
 
 -- ---- what is kept of parts
 
-pub placed_more : (parts : List TimedPart) (i : ℕ) (p : TimedPart) (x : PlacedLine) (before new : List PlacedLine) → i < length parts → p ≡ get_or parts i p → x ≡ line_of p
-    → before ++ map line_of (drop i parts) ≡ map line_of parts → new ≡ before ++ x ∷ [] → new ++ map line_of (drop (i + 1) parts) ≡ map line_of parts
+pub placed_more : (parts : List TimedPart) (i : ℕ) (p : TimedPart) (x : PlacedLine) (before new : List PlacedLine) → i < length parts → p ≡ get_or parts i p → x ≡ placed_line_of p
+    → before ++ map placed_line_of (drop i parts) ≡ map placed_line_of parts → new ≡ before ++ x ∷ [] → new ++ map placed_line_of (drop (i + 1) parts) ≡ map placed_line_of parts
 placed_more parts i p x before new below is x_is so_far new_is =
     let e : suc i ≡ i + 1 = omega arith in
     let here : drop i parts ≡ p ∷ drop (i + 1) parts = drop-cons parts i p below ∙ ap₂ (λ (y : TimedPart) (n : ℕ). y ∷ drop n parts) (sym is) e in
-    ap (λ (xs : List PlacedLine). xs ++ map line_of (drop (i + 1) parts)) (new_is ∙ ap (λ (y : PlacedLine). before ++ y ∷ []) x_is)
-    ∙ append_assoc before (line_of p ∷ []) (map line_of (drop (i + 1) parts)) ∙ ap (λ (xs : List TimedPart). before ++ map line_of xs) (sym here) ∙ so_far
+    ap (λ (xs : List PlacedLine). xs ++ map placed_line_of (drop (i + 1) parts)) (new_is ∙ ap (λ (y : PlacedLine). before ++ y ∷ []) x_is)
+    ∙ append_assoc before (placed_line_of p ∷ []) (map placed_line_of (drop (i + 1) parts)) ∙ ap (λ (xs : List TimedPart). before ++ map placed_line_of xs) (sym here) ∙ so_far
 
-pub placed_end : (parts : List TimedPart) (i : ℕ) (all : List PlacedLine) → length parts ≤ i → all ++ map line_of (drop i parts) ≡ map line_of parts → all ≡ map line_of parts
-placed_end parts i all end h = sym (append-nil all) ∙ ap (λ (xs : List TimedPart). all ++ map line_of xs) (sym (drop_all i parts end)) ∙ h
+pub placed_end : (parts : List TimedPart) (i : ℕ) (all : List PlacedLine) → length parts ≤ i → all ++ map placed_line_of (drop i parts) ≡ map placed_line_of parts → all ≡ map placed_line_of parts
+placed_end parts i all end h = sym (append-nil all) ∙ ap (λ (xs : List TimedPart). all ++ map placed_line_of xs) (sym (drop_all i parts end)) ∙ h
 
-pub lines_are : (stream : Stream) (ps : List Part) → map line_of (map (timed stream) ps) ≡ map placed_line ps
+pub lines_are : (stream : Stream) (ps : List Part) → map placed_line_of (map (timed stream) ps) ≡ map placed_line ps
 lines_are stream [] = refl
 lines_are stream (p ∷ ps) = ap (λ (xs : List PlacedLine). placed_line p ∷ xs) (lines_are stream ps)
 
@@ -57,11 +57,11 @@ parts_of_packs f most (p ∷ ps) = parts_behind f most (alone p) ps
 -- ---- a message between where it begins and where the next one does
 
 record IsSlice {P : Type 0} (from all : ℕ) (ms : List (Message P)) (n : ℕ) (m : Message P) : Type 0 where
-  begins : n < length (begins_of from ms)
-  low : from ≤ get_or (begins_of from ms) n 0
-  order : get_or (begins_of from ms) n 0 ≤ get_or (begins_of from ms) (n + 1) all
-  within : get_or (begins_of from ms) (n + 1) all ≤ all
-  is : take (get_or (begins_of from ms) (n + 1) all - get_or (begins_of from ms) n 0) (drop (get_or (begins_of from ms) n 0 - from) (all_parts ms)) ≡ parts_of m
+  begins : n < length (first_sections from ms)
+  low : from ≤ get_or (first_sections from ms) n 0
+  order : get_or (first_sections from ms) n 0 ≤ get_or (first_sections from ms) (n + 1) all
+  within : get_or (first_sections from ms) (n + 1) all ≤ all
+  is : take (get_or (first_sections from ms) (n + 1) all - get_or (first_sections from ms) n 0) (drop (get_or (first_sections from ms) n 0 - from) (all_parts ms)) ≡ parts_of m
 
 first_slice : {P : Type 0} (from all b t : ℕ) (own rest : List P) → b ≡ from → t ≡ from + length own → take (t - b) (drop (b - from) (own ++ rest)) ≡ own
 first_slice {P = P} from all b t own rest b_is t_is =
@@ -75,7 +75,7 @@ later_slice from b t own rest low =
     ap (take (t - b)) (ap (λ (i : ℕ). drop i (own ++ rest)) e ∙ drop-append-add own rest (b - (from + length own)))
 
 slice_is : {P : Type 0} (from all : ℕ) (ms : List (Message P)) (n : ℕ) (d : Message P) → n < length ms → all ≡ from + length (all_parts ms) → IsSlice from all ms n (get_or ms n d)
-unfolding begins_of all_parts
+unfolding first_sections all_parts
 slice_is from all [] n d below e = absurd (omega (arith, below))
 slice_is {P = P} from all (m ∷ []) zero d below e =
     let len = length-append (parts_of m) [] in
@@ -101,14 +101,14 @@ slice_is {P = P} from all (m ∷ ms) (suc n) d below e =
     let low = r.low in
     let some = r.begins in
     let next : suc (n + 1) ≡ suc n + 1 = omega arith in
-    let b : ℕ = get_or (begins_of (from + length (parts_of m)) ms) n 0 in
+    let b : ℕ = get_or (first_sections (from + length (parts_of m)) ms) n 0 in
     record {
       begins = omega (arith, some);
       low = omega (arith, low);
-      order = subst (λ (i : ℕ). b ≤ get_or (begins_of from (m ∷ ms)) i all) next r.order;
-      within = subst (λ (i : ℕ). get_or (begins_of from (m ∷ ms)) i all ≤ all) next r.within;
-      is = subst (λ (i : ℕ). take (get_or (begins_of from (m ∷ ms)) i all - b) (drop (b - from) (parts_of m ++ all_parts ms)) ≡ parts_of (get_or ms n d)) next
-          (later_slice from b (get_or (begins_of (from + length (parts_of m)) ms) (n + 1) all) (parts_of m) (all_parts ms) low ∙ r.is);
+      order = subst (λ (i : ℕ). b ≤ get_or (first_sections from (m ∷ ms)) i all) next r.order;
+      within = subst (λ (i : ℕ). get_or (first_sections from (m ∷ ms)) i all ≤ all) next r.within;
+      is = subst (λ (i : ℕ). take (get_or (first_sections from (m ∷ ms)) i all - b) (drop (b - from) (parts_of m ++ all_parts ms)) ≡ parts_of (get_or ms n d)) next
+          (later_slice from b (get_or (first_sections (from + length (parts_of m)) ms) (n + 1) all) (parts_of m) (all_parts ms) low ∙ r.is);
     }
 
 -- ---- numbers

@@ -16,9 +16,9 @@ use Rattle.plan_runs.specs.plan_parts.specs.Parts.{HasEndpoint}
 use Rattle.plan_runs.specs.plan_parts.specs.Placing.{ArePlaced}
 use Rattle.plan_runs.specs.schedule_laws.proofs.LineLemmas.{IsGoodLine, good}
 use Rattle.plan_runs.specs.schedule_laws.proofs.PlanLemmas.{in_range, valid_tested}
-use Rattle.plan_table.specs.Plans.{IsPlanOf}
+use Rattle.plan_table.specs.Plans.{IsTabledPlan}
 
-module _ (c : Config) (ps : List PlannedLine) (config : IsConfig c) (plan : IsPlanOf c ps) where
+module _ (c : Config) (ps : List PlannedLine) (config : IsConfig c) (plan : IsTabledPlan c ps) where
   there : (p : PlannedLine) → IsIn p ps → IsIn p (planned c.endpoints plan.lines)
   there p m = subst (λ (xs : List PlannedLine). IsIn p xs) plan.is m
 
@@ -52,7 +52,7 @@ short_from es k (line ∷ lines) most h = go (find_endpoint es line.id) (short_f
     go None r = record { below = r.below; few = (let f = r.few in omega (arith, f)) }
     go (Some found) r = record { below = (omega (arith, h), r.below); few = (let f = r.few in omega (arith, f)) }
 
-pub short : (c : Config) (ps : List PlannedLine) → IsPlanOf c ps → IsShort (2 ^ 32) 65536 ps
+pub short : (c : Config) (ps : List PlannedLine) → IsTabledPlan c ps → IsShort (2 ^ 32) 65536 ps
 short c ps plan =
     let few = plan.few in
     let s = short_from c.endpoints 0 plan.lines (2 ^ 32) (omega (arith, few)) in

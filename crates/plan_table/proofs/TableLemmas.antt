@@ -19,12 +19,12 @@ use Rattle.frame_order.specs.Turns.{IsRun}
 use Rattle.frame_order.specs.declared.turns.Run.{Run}
 use Rattle.frame_order.specs.declared.turns.Turn.{Turn}
 use Rattle.plan_runs.specs.schedule_laws.proofs.SentLemmas.{IsSentStream, sent_is}
-use Rattle.plan_runs.specs.sent_order.specs.Runs.{IsOrderOf, endpoint_runs, gap_ticks, place_of, rests_of, runs_from, runs_of, turn_of}
+use Rattle.plan_runs.specs.sent_order.specs.Runs.{IsOrderOf, endpoint_runs, gap_ticks, stream_place, rests_of, runs_from, runs_of, turn_of}
 use Rattle.plan_runs.specs.sent_order.proofs.OrderLemmas.{in_order}
 use Rattle.plan_runs.specs.sent_order.proofs.ProperLemmas.{are_runs}
 use Rattle.plan_table.specs.Kept.{placed_line, HasMessage, message_in}
-use Rattle.plan_table.specs.Plans.{IsPlanOf}
-use Rattle.plan_table.specs.Tables.{IsKept, IsTable, AddsEndpoint}
+use Rattle.plan_table.specs.Plans.{IsTabledPlan}
+use Rattle.plan_table.specs.Tables.{IsKeptInTable, IsTable, AddsEndpoint}
 use Rattle.plan_table.specs.declared.kept.StreamParts.{StreamParts}
 use Rattle.plan_table.specs.declared.tables.Table.{Table}
 use Rattle.plan_table.proofs.MessageLemmas.{message_is}
@@ -52,7 +52,7 @@ runs_three {X = X} old a b d x y z one two new one_is two_is new_is a_is b_is d_
 -- the streams of the endpoints before this one are kept, and their messages are those before the others'
 pub record IsFilled (c : Config) (ps : List PlannedLine) (ep : ℕ) (streams : List StreamParts) (runs : List Run) : Type 0 where
   pub count : length streams ≡ 3 * ep
-  pub each : (stream : Stream) (i : ℕ) (e : EndpointConfig) → place_of stream < 3 → IsAt c.endpoints i e → i < ep → IsKept c ps stream i e streams
+  pub each : (stream : Stream) (i : ℕ) (e : EndpointConfig) → stream_place stream < 3 → IsAt c.endpoints i e → i < ep → IsKeptInTable c ps stream i e streams
   pub rest : runs ++ runs_from c ps ep (drop ep c.endpoints) ≡ runs_of c ps
 
 pub filled_start : (c : Config) (ps : List PlannedLine) (streams : List StreamParts) (runs : List Run) → streams ≡ [] → runs ≡ [] → IsFilled c ps 0 streams runs
@@ -69,16 +69,16 @@ module _ (c : Config) (ps : List PlannedLine) (ep : ℕ) (old new : List StreamP
   at_place : (k : ℕ) (x : StreamParts) → slice_get added k ≡ Some x → slice_get new (3 * ep + k) ≡ Some x
   at_place k x h = ap₂ (λ (xs : List StreamParts) (n : ℕ). slice_get xs (n + k)) adds.is (sym count) ∙ get_right old added k ∙ h
 
-  own : (stream : Stream) → place_of stream < 3 → IsKept c ps stream ep e new
+  own : (stream : Stream) → stream_place stream < 3 → IsKeptInTable c ps stream ep e new
   own DownCommands s = record { kept = adds.down_commands; at = at_place 0 adds.down_commands refl; is = adds.are_down_commands }
   own UpCommands s = record { kept = adds.up_commands; at = at_place 1 adds.up_commands refl; is = adds.are_up_commands }
   own DownData s = record { kept = adds.down_data; at = at_place 2 adds.down_data refl; is = adds.are_down_data }
   own UpData s = absurd (omega (arith, s))
 
-  still : (stream : Stream) (i : ℕ) (f : EndpointConfig) → IsKept c ps stream i f old → IsKept c ps stream i f new
+  still : (stream : Stream) (i : ℕ) (f : EndpointConfig) → IsKeptInTable c ps stream i f old → IsKeptInTable c ps stream i f new
   still stream i f k = record {
     kept = k.kept;
-    at = ap (λ (xs : List StreamParts). slice_get xs (3 * i + place_of stream)) adds.is ∙ get_left old added (3 * i + place_of stream) k.kept k.at;
+    at = ap (λ (xs : List StreamParts). slice_get xs (3 * i + stream_place stream)) adds.is ∙ get_left old added (3 * i + stream_place stream) k.kept k.at;
     is = k.is;
   }
 
@@ -100,11 +100,11 @@ filled_more c ps ep old new before runs d f below adds more = record { count = c
     at : IsAt c.endpoints ep (get_or c.endpoints ep d)
     at = slice_get-get_or c.endpoints ep d below
 
-    each : (stream : Stream) (i : ℕ) (e : EndpointConfig) → place_of stream < 3 → IsAt c.endpoints i e → i < ep + 1 → IsKept c ps stream i e new
+    each : (stream : Stream) (i : ℕ) (e : EndpointConfig) → stream_place stream < 3 → IsAt c.endpoints i e → i < ep + 1 → IsKeptInTable c ps stream i e new
     each stream i e s is within = elim (cases_eq i ep) [
       | inl same ↦
           let at_ep : IsAt c.endpoints ep e = ap (slice_get c.endpoints) (sym same) ∙ is in
-          subst (λ (k : ℕ). IsKept c ps stream k e new) (sym same) (own c ps ep old new f.count e (adds e at_ep) stream s)
+          subst (λ (k : ℕ). IsKeptInTable c ps stream k e new) (sym same) (own c ps ep old new f.count e (adds e at_ep) stream s)
       | inr other ↦ still c ps ep old new f.count (get_or c.endpoints ep d) (adds (get_or c.endpoints ep d) at) stream i e (f.each stream i e s is (omega (arith, other, within)))
     ]
 
@@ -117,7 +117,7 @@ filled_more c ps ep old new before runs d f below adds more = record { count = c
         ∙ ap (λ (es : List EndpointConfig). before ++ runs_from c ps ep es) (sym split) ∙ f.rest
 
 pub filled_table : (c : Config) (ps : List PlannedLine) (ep : ℕ) (streams : List StreamParts) (runs : List Run) → IsFilled c ps ep streams runs → length c.endpoints ≤ ep
-    → (stream : Stream) (i : ℕ) (e : EndpointConfig) → place_of stream < 3 → IsAt c.endpoints i e → IsKept c ps stream i e streams
+    → (stream : Stream) (i : ℕ) (e : EndpointConfig) → stream_place stream < 3 → IsAt c.endpoints i e → IsKeptInTable c ps stream i e streams
 filled_table c ps ep streams runs f end stream i e s at = f.each stream i e s at (let w = slice_get_within c.endpoints i e at in omega (arith, w, end))
 
 pub filled_runs : (c : Config) (ps : List PlannedLine) (ep : ℕ) (streams : List StreamParts) (runs : List Run) → IsFilled c ps ep streams runs → length c.endpoints ≤ ep → runs ≡ runs_of c ps
@@ -125,11 +125,11 @@ unfolding runs_from
 filled_runs c ps ep streams runs f end =
     sym (append-nil runs) ∙ ap (λ (es : List EndpointConfig). runs ++ runs_from c ps ep es) (sym (drop_all ep c.endpoints end)) ∙ f.rest
 
-pub runs_fit : (c : Config) (ps : List PlannedLine) (runs : List Run) → IsConfig c → IsPlanOf c ps → runs ≡ runs_of c ps → All IsRun runs
+pub runs_fit : (c : Config) (ps : List PlannedLine) (runs : List Run) → IsConfig c → IsTabledPlan c ps → runs ≡ runs_of c ps → All IsRun runs
 runs_fit c ps runs config plan is =
     subst (All IsRun) (sym is) (subst (λ (xs : List PlannedLine). All IsRun (runs_of c xs)) (sym plan.is) (are_runs c plan.lines config plan.fit plan.valid))
 
-pub runs_ordered : (c : Config) (ps : List PlannedLine) (runs : List Run) (gap : ℕ) → IsConfig c → IsPlanOf c ps → runs ≡ runs_of c ps → gap ≡ gap_ticks c
+pub runs_ordered : (c : Config) (ps : List PlannedLine) (runs : List Run) (gap : ℕ) → IsConfig c → IsTabledPlan c ps → runs ≡ runs_of c ps → gap ≡ gap_ticks c
     → IsOrderOf (rests_of gap runs) (map turn_of (sent c ps))
 runs_ordered c ps runs gap config plan is gap_is =
     subst (λ (g : ℕ). IsOrderOf (rests_of g runs) (map turn_of (sent c ps))) (sym gap_is)
@@ -138,7 +138,7 @@ runs_ordered c ps runs gap config plan is gap_is =
 
 -- ---- the message of a frame
 
-sent_place : (stream : Stream) → IsSentStream stream → place_of stream < 3
+sent_place : (stream : Stream) → IsSentStream stream → stream_place stream < 3
 sent_place DownCommands s = omega arith
 sent_place UpCommands s = omega arith
 sent_place DownData s = omega arith

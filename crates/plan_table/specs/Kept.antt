@@ -14,8 +14,8 @@ use Rattle.plan_table.specs.declared.kept.StreamParts.{StreamParts}
 abbrev pub placed_line : Part → PlacedLine
 placed_line p = record { line = p.planned.index; symbol = p.symbol }
 
-abbrev pub line_of : TimedPart → PlacedLine
-line_of x = record { line = x.line; symbol = x.symbol }
+abbrev pub placed_line_of : TimedPart → PlacedLine
+placed_line_of x = record { line = x.line; symbol = x.symbol }
 
 -- the parts of this stream, and where its messages begin
 pub record IsStreamParts (c : Config) (ps : List PlannedLine) (stream : Stream) (ep : ℕ) (e : EndpointConfig) (k : StreamParts) : Type 0 where

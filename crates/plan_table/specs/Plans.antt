@@ -8,7 +8,7 @@ use Rattle.plan_runs.specs.plan_model.specs.Valid.{IsValid}
 use Rattle.plan_runs.specs.plan_model.specs.declared.lines.PlannedLine.{PlannedLine}
 
 -- these are the lines of a valid plan, at their endpoints; it has no more than a document may have
-pub record IsPlanOf (c : Config) (ps : List PlannedLine) : Type 0 where
+pub record IsTabledPlan (c : Config) (ps : List PlannedLine) : Type 0 where
   pub lines : List PlanLine
   pub fit : All IsPlanLine lines
   pub valid : IsValid c lines

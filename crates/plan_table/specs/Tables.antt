@@ -9,20 +9,20 @@ use Rattle.plan_runs.specs.plan_model.specs.declared.lines.PlannedLine.{PlannedL
 use Rattle.plan_runs.specs.plan_model.specs.declared.streams.Stream.{Stream}
 use Rattle.plan_runs.specs.plan_model.specs.declared.streams.Stream.TheVariants.{DownCommands, UpCommands, DownData}
 use Rattle.frame_order.specs.declared.turns.Turn.{Turn}
-use Rattle.plan_runs.specs.sent_order.specs.Runs.{place_of, turn_of}
+use Rattle.plan_runs.specs.sent_order.specs.Runs.{stream_place, turn_of}
 use Rattle.plan_table.specs.Kept.{IsStreamParts}
 use Rattle.plan_table.specs.declared.kept.StreamParts.{StreamParts}
 use Rattle.plan_table.specs.declared.tables.Table.{Table}
 
 -- a stream of an endpoint among all
-pub record IsKept (c : Config) (ps : List PlannedLine) (stream : Stream) (ep : ℕ) (e : EndpointConfig) (all : List StreamParts) : Type 0 where
+pub record IsKeptInTable (c : Config) (ps : List PlannedLine) (stream : Stream) (ep : ℕ) (e : EndpointConfig) (all : List StreamParts) : Type 0 where
   pub kept : StreamParts
-  pub at : slice_get all (3 * ep + place_of stream) ≡ Some kept
+  pub at : slice_get all (3 * ep + stream_place stream) ≡ Some kept
   pub is : IsStreamParts c ps stream ep e kept
 
 -- each stream that the distributed unit sends is kept
 abbrev pub IsTable : Config → List PlannedLine → Table → Type 0
-IsTable c ps t = (stream : Stream) (ep : ℕ) (e : EndpointConfig) → place_of stream < 3 → IsAt c.endpoints ep e → IsKept c ps stream ep e t.streams.items
+IsTable c ps t = (stream : Stream) (ep : ℕ) (e : EndpointConfig) → stream_place stream < 3 → IsAt c.endpoints ep e → IsKeptInTable c ps stream ep e t.streams.items
 
 -- the frame is one that is sent for the plan of this table
 pub record IsTurnOf (t : Table) (u : Turn) : Type 0 where

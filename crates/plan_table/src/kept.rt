@@ -1,7 +1,7 @@
 //! The parts of a stream's messages.
 ghost use Rattle.std.specs.Prelude.{◌≡◌, ◌<◌, ◌^◌, map, IfOk};
 ghost use Rattle.std.specs.List.{AllByRecursion};
-ghost use Rattle.plan_table.specs.Kept.{line_of};
+ghost use Rattle.plan_table.specs.Kept.{placed_line_of};
 
 use fh_base::NoMemory;
 use plan_runs::plan_parts::TimedPart;
@@ -25,7 +25,7 @@ pub(crate) struct StreamParts {
 /// What is kept of parts.
 pub(crate) fn placed_lines(alloc: Global, parts: &[TimedPart]) -> Result<Vec<PlacedLine>, NoMemory>
     requires { AllByRecursion (λ p. p.line < 2 ^ 32) parts.now }
-    ensures { IfOk result (λ v. v.items ≡ map line_of parts.now) }
+    ensures { IfOk result (λ v. v.items ≡ map placed_line_of parts.now) }
 {
     let mut lines = Vec::with_capacity(alloc, parts.len())?;
     for part in parts {

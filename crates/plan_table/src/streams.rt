@@ -5,7 +5,7 @@ ghost use Rattle.window_config.specs.declared.endpoints.EndpointConfig.{Endpoint
 ghost use Rattle.plan_runs.specs.unit_model.specs.Proper.{IsAt};
 ghost use Rattle.plan_runs.specs.sent_order.specs.Runs.{endpoint_runs, stream_runs};
 ghost use Rattle.plan_table.specs.Kept.{IsStreamParts};
-ghost use Rattle.plan_table.specs.Plans.{IsPlanOf};
+ghost use Rattle.plan_table.specs.Plans.{IsTabledPlan};
 ghost use Rattle.plan_table.specs.Tables.{AddsEndpoint};
 
 use crate::kept::{StreamParts, placed_lines};
@@ -26,7 +26,7 @@ fn kept_stream(
     ep: usize,
 ) -> Result<(StreamParts, Vec<Run>), NoMemory>
     requires config { IsConfig config.now }
-    requires plan { IsPlanOf config.now lines.now }
+    requires plan { IsTabledPlan config.now lines.now }
     requires ep { ep < length config.now.endpoints }
     ensures parts { IfOk result (λ r. (e : SpecEndpoint) → IsAt config.now.endpoints ep e → IsStreamParts config.now lines.now stream ep e r.0) }
     ensures runs { IfOk result (λ r. (e : SpecEndpoint) → IsAt config.now.endpoints ep e → r.1.items ≡ stream_runs config.now lines.now stream ep e) }
@@ -66,7 +66,7 @@ pub(crate) fn add_endpoint(
     runs: &mut Vec<Run>,
 ) -> Result<(), NoMemory>
     requires config { IsConfig config.now }
-    requires plan { IsPlanOf config.now lines.now }
+    requires plan { IsTabledPlan config.now lines.now }
     requires ep { ep < length config.now.endpoints }
     ensures streams { OnOk result ((e : SpecEndpoint) → IsAt config.now.endpoints ep e → AddsEndpoint config.now lines.now ep e streams.old.items streams.new.items) }
     ensures runs { OnOk result ((e : SpecEndpoint) → IsAt config.now.endpoints ep e → runs.new.items ≡ runs.old.items ++ endpoint_runs config.now lines.now ep e) }

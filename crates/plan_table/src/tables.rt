@@ -9,7 +9,7 @@ ghost use Rattle.frame_order.specs.Queues.{IsQueue, StandsFor, gap_of};
 ghost use Rattle.fragment_laws.specs.Apart.{IsIn};
 ghost use Rattle.plan_runs.specs.sent_order.specs.Runs.{gap_ticks, turn_of};
 ghost use Rattle.plan_table.specs.Kept.{placed_line};
-ghost use Rattle.plan_table.specs.Plans.{IsPlanOf};
+ghost use Rattle.plan_table.specs.Plans.{IsTabledPlan};
 
 use crate::kept::{PlacedLine, StreamParts};
 use crate::streams::add_endpoint;
@@ -47,7 +47,7 @@ impl Table {
         lines: &[PlannedLine],
     ) -> Result<(Table, Queue), NoMemory>
         requires config { IsConfig config.now }
-        requires plan { IsPlanOf config.now lines.now }
+        requires plan { IsTabledPlan config.now lines.now }
         ensures table { IfOk result (λ r. IsTable config.now lines.now r.0) }
         ensures queue { IfOk result (λ r. IsQueue r.1) }
         ensures gap { IfOk result (λ r. gap_of r.1 ≡ gap_ticks config.now) }

@@ -9,12 +9,13 @@ use Rattle.slot_rings.specs.unit_model.specs.declared.cells.Cell.{Cell}
 use Rattle.slot_rings.specs.unit_model.specs.declared.cells.Claim.{Claim}
 use Rattle.slot_rings.specs.unit_model.specs.Claims.{same_slot, same_way, first_prb, prb_count, covers, in_mask, names, claim_of, claim_at, cell_of, some_cell, is_under, is_other, is_claimed, is_overlapped, repeats, overlaps}
 use Rattle.plan_parts.specs.fragment_laws.specs.Apart.{IsIn}
-use Rattle.plan_parts.specs.plan_model.specs.Validity.{meet, share_cell, share_bit, clash, IsProper}
+use Rattle.plan_parts.specs.plan_model.specs.Validity.{ranges_meet, share_cell, share_bit, clash, IsProper}
 use Rattle.plan_parts.specs.plan_model.proofs.ListLemmas.{any_in, among}
-use Rattle.plan_parts.specs.plan_model.proofs.RangeLemmas.{every_at, some_one, found, common}
-use Rattle.plan_parts.specs.plan_model.proofs.SlotLemmas.{slot_own, slot_is, way_own, way_is, eqb_swap}
+use Rattle.plan_parts.specs.plan_model.proofs.RangeLemmas.{found, common}
+use Rattle.plan_parts.specs.plan_model.proofs.SlotLemmas.{eqb_swap}
 use Rattle.plan_parts.specs.plan_model.proofs.ClashLemmas.{bit_of, name_one, cell_at_start, overlap_of}
 use Rattle.plan_tests.specs.Slots.{AreProper, AreClear}
+use Rattle.slot_rings.specs.unit_model.proofs.ClaimLemmas.{same_way_is as way_is, same_slot_is as slot_is, way_self as way_own, slot_self as slot_own, every_at, some_one}
 
 -- ---- a cell that both cover
 
@@ -33,7 +34,7 @@ shared a b pa pb h =
     let p = and_parts (a.ep == b.ep) _ h in
     let q = and_parts (same_way a.down b.down) _ p.1 in
     let r = and_parts (same_slot a.slot b.slot) _ q.1 in
-    let s = and_parts (meet a.symbol a.num_symbol b.symbol b.num_symbol) _ r.1 in
+    let s = and_parts (ranges_meet a.symbol a.num_symbol b.symbol b.num_symbol) _ r.1 in
     let y = common a.symbol a.num_symbol b.symbol b.num_symbol pa.symbols pb.symbols s.0 in
     let n = common (first_prb a) (prb_count a) (first_prb b) (prb_count b) pa.prbs pb.prbs s.1 in
     let way = way_is a.down b.down q.0 in

@@ -1,35 +1,37 @@
 -- What the ring knows, and its verdicts.
-use Rattle.std.proofs.Common.{◌≡◌, ℕ, ◌+◌, ◌<◌, ◌≤◌, inl, inr, Bool, true, false, ◌&&◌, ◌||◌, ◌==◌, nat_lt, nat_le, if◌then◌else◌, List, [], ◌∷◌, length, get_or, Option, Some, None, refl, ap, ap₂, sym, ◌∙◌, subst, arith}
+use Rattle.std.proofs.Common.{◌≡◌, ℕ, ◌+◌, ◌<◌, inl, inr, Bool, true, false, ◌&&◌, ◌==◌, nat_le, if◌then◌else◌, List, [], ◌∷◌, length, get_or, Option, Some, None, refl, ap, ap₂, sym, ◌∙◌, subst, arith}
 use Rattle.std.proofs.lemmas.Bool.{cases_Bool, and_from, eq-eqb}
-use Rattle.std.proofs.lemmas.Int.{ints}
+use Rattle.std.proofs.Math.Nat.{lt_of_lt_of_le}
+use Rattle.std.proofs.lemmas.Option.{same_Some}
 use Rattle.fh_time.specs.Carrier.{is_outside}
-use Rattle.fh_time.specs.Numbering.{slots_of, symbols_of}
+use Rattle.fh_time.specs.Numbering.{symbols_of}
 use Rattle.fh_time.specs.declared.values.Slot.{Slot}
 use Rattle.window_config.specs.declared.endpoints.EndpointConfig.{EndpointConfig}
 use Rattle.slot_rings.specs.unit_model.specs.Claims.{same_slot, claim_at, covers, names, repeats, overlaps, claim_of}
-use Rattle.slot_rings.specs.unit_model.specs.Commands.{is_uplink, uplink_in, is_full, most_uplink, timely_verdict}
+use Rattle.slot_rings.specs.unit_model.specs.Commands.{is_uplink, uplink_in, is_full, timely_verdict}
 use Rattle.slot_rings.specs.unit_model.specs.Proper.{IsSlot}
 use Rattle.slot_rings.specs.unit_model.specs.declared.allocations.Allocation.{Allocation}
 use Rattle.slot_rings.specs.unit_model.specs.declared.cells.Cell.{Cell}
 use Rattle.slot_rings.specs.unit_model.specs.declared.cells.Claim.{Claim}
 use Rattle.slot_rings.specs.unit_model.specs.declared.verdicts.CommandVerdict.{CommandVerdict}
 use Rattle.slot_rings.specs.unit_model.specs.declared.verdicts.CommandVerdict.TheVariants as verdict
-use Rattle.plan_parts.specs.unit_laws.proofs.CellLemmas.{covers_is, from_within}
+use Rattle.plan_parts.specs.unit_laws.proofs.CellLemmas.{covers_is}
 use Rattle.plan_parts.specs.unit_laws.proofs.LookupLemmas.{repeats_by_lookup, overlaps_by_lookup}
-use Rattle.slot_rings.specs.Places.{PlaceValue, blank, is_of}
+use Rattle.slot_rings.specs.Places.{PlaceValue, blank, is_place_of}
 use Rattle.slot_rings.specs.Rings.{RingValue, IsRingCell, place_index, place_of, has_slot, ring_claim, ring_uplink, SameClaims, SameUplink, TouchesOnly}
 use Rattle.slot_rings.specs.Verdicts.{repeats_by, overlaps_by, verdict_by, claim_after, uplink_after}
-use Rattle.slot_rings.proofs.PlaceLemmas.{of_is, slot_own}
+use Rattle.slot_rings.proofs.PlaceLemmas.{of_is}
 use Rattle.slot_rings.proofs.RingLemmas.{index_within}
-use Rattle.plan_parts.specs.plan_model.specs.Lines.{allocation_of}
+use Rattle.plan_parts.specs.plan_model.specs.Lines.{line_allocation}
 use Rattle.plan_parts.specs.plan_model.specs.Validity.{is_out_of_range}
 use Rattle.plan_parts.specs.plan_model.specs.declared.lines.PlannedLine.{PlannedLine}
 use Rattle.plan_parts.specs.plan_model.specs.declared.refusals.PlanWhy.{PlanWhy}
 use Rattle.plan_parts.specs.plan_model.specs.declared.refusals.PlanWhy.TheVariants.{Overlap, TooManySections}
-use Rattle.plan_parts.specs.plan_model.proofs.RangeLemmas.{within_carrier}
-use Rattle.plan_parts.proofs.InsideLemmas.{Inside, inside_is, slot_inside}
+use Rattle.plan_parts.proofs.InsideLemmas.{inside_is, slot_inside}
 use Rattle.plan_tests.specs.Judging.{IsLineOf, IsLineAt, Knows, why_in}
 use Rattle.plan_tests.specs.Slots.{why_judged}
+use Rattle.slot_rings.specs.unit_model.specs.declared.uplink.TheConstants.{SLOT_SECTIONS}
+use Rattle.slot_rings.specs.unit_model.proofs.ClaimLemmas.{within_carrier, slot_self as slot_own, from_within}
 
 -- ---- what it is to be in range
 
@@ -38,29 +40,26 @@ slot_of_line e ep p is = slot_inside p is.ranges is.inside
 
 -- ---- verdicts
 
-below_all : (symbol count all y : ℕ) → symbol + count ≤ all → y < symbol + count → y < all
-below_all symbol count all y h k = omega arith
-
 -- the claims of what a line covers are known
 agree : (e : EndpointConfig) (ep : ℕ) (slot : Slot) (r : RingValue) (earlier : List Allocation) (p : PlannedLine) → Knows e ep slot r earlier → IsLineAt e ep slot p
-    → (cell : Cell) (re : ℕ) → covers (allocation_of p) cell ≡ true → re < 12 → ring_claim r cell re ≡ claim_at earlier cell re
+    → (cell : Cell) (re : ℕ) → covers (line_allocation p) cell ≡ true → re < 12 → ring_claim r cell re ≡ claim_at earlier cell re
 agree e ep slot r earlier p knows line cell re covered below =
-    let is = covers_is (allocation_of p) cell covered in
+    let is = covers_is (line_allocation p) cell covered in
     let i = inside_is p line.of_endpoint.inside in
     let same : p.endpoint ≡ r.endpoint = line.of_endpoint.endpoint ∙ sym knows.endpoint in
     knows.claims cell re
     (record {
       slot = subst (λ (x : EndpointConfig). IsSlot x.numerology cell.slot) same (subst (IsSlot p.endpoint.numerology) is.slot (slot_of_line e ep p line.of_endpoint));
       symbol = subst (λ (x : EndpointConfig). cell.symbol < symbols_of x.numerology) same
-          (below_all p.line.symbol p.line.count (symbols_of p.endpoint.numerology) cell.symbol i.within (from_within p.line.symbol p.line.count cell.symbol is.symbol));
+          (lt_of_lt_of_le (from_within p.line.symbol p.line.count cell.symbol is.symbol) i.within);
       prb = subst (λ (x : EndpointConfig). cell.prb < x.prbs) same (within_carrier p.endpoint.prbs p.line.start_prb p.line.num_prb cell.prb i.prbs is.prb);
     })
     (sym is.ep ∙ line.of_endpoint.ep_is) (sym is.slot ∙ line.slot_is) below
 
 pub verdict_known : (e : EndpointConfig) (ep : ℕ) (slot : Slot) (r : RingValue) (earlier : List Allocation) (p : PlannedLine) → Knows e ep slot r earlier → IsLineAt e ep slot p
-    → verdict_by (ring_claim r) (length (ring_uplink r p.line.slot)) (allocation_of p) ≡ timely_verdict earlier (allocation_of p)
+    → verdict_by (ring_claim r) (length (ring_uplink r p.line.slot)) (line_allocation p) ≡ timely_verdict earlier (line_allocation p)
 verdict_known e ep slot r earlier p knows line =
-    let a = allocation_of p in
+    let a = line_allocation p in
     let rep : repeats_by (ring_claim r) a ≡ repeats earlier a = repeats_by_lookup a (ring_claim r) earlier (agree e ep slot r earlier p knows line) in
     let over : overlaps_by (ring_claim r) a ≡ overlaps earlier a = overlaps_by_lookup a (ring_claim r) earlier (agree e ep slot r earlier p knows line) in
     let count : length (ring_uplink r p.line.slot) ≡ uplink_in p.ep p.line.slot earlier =
@@ -70,15 +69,15 @@ verdict_known e ep slot r earlier p knows line =
   where
     go : (r1 r2 o1 o2 : Bool) (n m : ℕ) → r1 ≡ r2 → o1 ≡ o2 → n ≡ m
         → (let v : CommandVerdict = if is_outside p.endpoint.prbs p.line.start_prb p.line.num_prb then verdict.Range else (if r1 then verdict.Repeat else (if o1 then verdict.Overlap
-        else (if is_uplink (allocation_of p) && nat_le most_uplink n then verdict.Full else verdict.Accepted))) in v)
+        else (if is_uplink (line_allocation p) && nat_le SLOT_SECTIONS n then verdict.Full else verdict.Accepted))) in v)
         ≡ (let v : CommandVerdict = if is_outside p.endpoint.prbs p.line.start_prb p.line.num_prb then verdict.Range else (if r2 then verdict.Repeat else (if o2 then verdict.Overlap
-        else (if is_uplink (allocation_of p) && nat_le most_uplink m then verdict.Full else verdict.Accepted))) in v)
+        else (if is_uplink (line_allocation p) && nat_le SLOT_SECTIONS m then verdict.Full else verdict.Accepted))) in v)
     go r1 r2 o1 o2 n m a b c = rw (a, b, c) refl
 
 -- the reason by the verdict
 pub why_known : (earlier : List Allocation) (p : PlannedLine) → is_out_of_range p.endpoint p.line ≡ false
-    → why_judged earlier (allocation_of p) ≡ why_in (timely_verdict earlier (allocation_of p))
-why_known earlier p inside = go (is_outside p.endpoint.prbs p.line.start_prb p.line.num_prb) (repeats earlier (allocation_of p)) (overlaps earlier (allocation_of p)) (is_full earlier (allocation_of p)) (inside_is p inside).prbs
+    → why_judged earlier (line_allocation p) ≡ why_in (timely_verdict earlier (line_allocation p))
+why_known earlier p inside = go (is_outside p.endpoint.prbs p.line.start_prb p.line.num_prb) (repeats earlier (line_allocation p)) (overlaps earlier (line_allocation p)) (is_full earlier (line_allocation p)) (inside_is p inside).prbs
   where
     go : (x r o f : Bool) → x ≡ false
         → (let w : Option PlanWhy = if r then Some Overlap else (if o then Some Overlap else (if f then Some TooManySections else None)) in w)
@@ -93,10 +92,10 @@ why_known earlier p inside = go (is_outside p.endpoint.prbs p.line.start_prb p.l
 
 pub knows_more : (e : EndpointConfig) (ep : ℕ) (slot : Slot) (old new : RingValue) (earlier : List Allocation) (p : PlannedLine) → Knows e ep slot old earlier → IsLineAt e ep slot p
     → ((cell : Cell) (re : ℕ) → IsRingCell old cell → cell.ep ≡ p.ep → cell.slot ≡ p.line.slot → re < 12
-    → ring_claim new cell re ≡ claim_after verdict.Accepted (allocation_of p) cell re (ring_claim old cell re))
-    → ring_uplink new p.line.slot ≡ uplink_after verdict.Accepted (allocation_of p) (ring_uplink old p.line.slot)
+    → ring_claim new cell re ≡ claim_after verdict.Accepted (line_allocation p) cell re (ring_claim old cell re))
+    → ring_uplink new p.line.slot ≡ uplink_after verdict.Accepted (line_allocation p) (ring_uplink old p.line.slot)
     → has_slot new p.line.slot ≡ true → TouchesOnly p.line.slot old new
-    → Knows e ep slot new (allocation_of p ∷ earlier)
+    → Knows e ep slot new (line_allocation p ∷ earlier)
 unfolding claim_at
 knows_more e ep slot old new earlier p knows line claims uplink has touches = record {
   endpoint = touches.endpoint ∙ knows.endpoint;
@@ -109,16 +108,16 @@ knows_more e ep slot old new earlier p knows line claims uplink has touches = re
         prb = subst (λ (x : EndpointConfig). cell.prb < x.prbs) touches.endpoint is.prb;
       } in
       claims cell re was (cell_ep ∙ sym line.of_endpoint.ep_is) (cell_slot ∙ sym line.slot_is) below
-      ∙ ap (λ (o : Option Claim). let x : Option Claim = if names (allocation_of p) cell re then Some (claim_of (allocation_of p)) else o in x) (knows.claims cell re was cell_ep cell_slot below);
+      ∙ ap (λ (o : Option Claim). let x : Option Claim = if names (line_allocation p) cell re then Some (claim_of (line_allocation p)) else o in x) (knows.claims cell re was cell_ep cell_slot below);
   uplink =
       ap (λ (s : Slot). length (ring_uplink new s)) (sym line.slot_is) ∙ ap (λ (xs : List Allocation). length xs) uplink
-      ∙ counted (is_uplink (allocation_of p)) (ring_uplink old p.line.slot)
+      ∙ counted (is_uplink (line_allocation p)) (ring_uplink old p.line.slot)
       (ap (λ (s : Slot). length (ring_uplink old s)) line.slot_is ∙ knows.uplink)
       (and_from (p.ep == ep) _ (eq-eqb p.ep ep line.of_endpoint.ep_is) (ap (λ (s : Slot). same_slot s slot) line.slot_is ∙ slot_own slot));
 }
   where
     counted : (u : Bool) (xs : List Allocation) → length xs ≡ uplink_in ep slot earlier → ((p.ep == ep) && same_slot p.line.slot slot) ≡ true
-        → length (let ys : List Allocation = if u then allocation_of p ∷ xs else xs in ys)
+        → length (let ys : List Allocation = if u then line_allocation p ∷ xs else xs in ys)
         ≡ uplink_in ep slot earlier + (let n : ℕ = if u && ((p.ep == ep) && same_slot p.line.slot slot) then 1 else 0 in n)
     counted true xs h home = rw home (omega (arith, h))
     counted false xs h home = omega (arith, h)
@@ -134,7 +133,7 @@ knows_none e ep slot old new endpoint one free has claims uplink touches = recor
   has = has;
   claims = λ cell re is cell_ep cell_slot below.
       claims cell re cell_slot
-      ∙ (let none : is_of (place_of old cell.slot).slot cell.slot ≡ false = subst (λ (s : Slot). is_of (place_of old s).slot s ≡ false) (sym cell_slot) free in rw none refl);
+      ∙ (let none : is_place_of (place_of old cell.slot).slot cell.slot ≡ false = subst (λ (s : Slot). is_place_of (place_of old s).slot s ≡ false) (sym cell_slot) free in rw none refl);
   uplink = ap (λ (xs : List Allocation). length xs) uplink ∙ (rw free refl);
 }
 
@@ -154,8 +153,5 @@ others_free r slot other one has apart = elim (cases_Bool (has_slot r other)) [
       let b = of_is (place_of r other).slot other too in
       let same : (place_of r slot).slot ≡ (place_of r other).slot = ap (λ (x : PlaceValue). x.slot) (one_place r slot one ∙ sym (one_place r other one)) in
       let both : Some other ≡ Some slot = sym b ∙ sym same ∙ a in
-      absurd (apart (some_same other slot both))
+      absurd (apart (same_Some other slot both))
 ]
-  where
-    some_same : (x y : Slot) → Some x ≡ Some y → x ≡ y
-    some_same x y h = cc

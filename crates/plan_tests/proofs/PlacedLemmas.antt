@@ -7,14 +7,14 @@ use Rattle.window_config.specs.declared.plan.PlanLine.{PlanLine}
 use Rattle.slot_rings.specs.unit_model.specs.Lists.{or_else}
 use Rattle.slot_rings.specs.unit_model.specs.declared.allocations.Allocation.{Allocation}
 use Rattle.slot_rings.specs.unit_model.specs.Meetings.{find_endpoint}
-use Rattle.plan_parts.specs.plan_model.specs.Lines.{allocation_of, planned_with, planned_at, planned_from}
+use Rattle.plan_parts.specs.plan_model.specs.Lines.{line_allocation, planned_with, planned_at, planned_from}
 use Rattle.plan_parts.specs.plan_model.specs.Validity.{is_out_of_range, why_claimed, why_found, refused_at, with_line, refused_from}
 use Rattle.plan_parts.specs.plan_model.specs.declared.lines.PlannedLine.{PlannedLine}
 use Rattle.plan_parts.specs.plan_model.specs.declared.refusals.PlanWhy.{PlanWhy}
 use Rattle.plan_parts.specs.plan_model.specs.declared.refusals.PlanWhy.TheVariants.{Range}
 use Rattle.std.specs.Option.{option_to_list}
 use Rattle.plan_tests.specs.Placed.{why_alone, placing, placed_on, placed_from, stopped_from}
-use Rattle.plan_tests.specs.Slots.{refused_along, numbered, entry_of}
+use Rattle.plan_tests.specs.Slots.{refused_along, numbered_lines, entry_of}
 
 -- a line that is refused by itself is refused whatever stands before it; else it goes by these
 later_of : (k : ℕ) (w : Option PlanWhy) (x y : Option (ℕ × PlanWhy)) → or_else (refused_at k w x) y ≡ refused_at k w (or_else x y)
@@ -22,32 +22,32 @@ later_of k None x y = refl
 later_of k (Some why) x y = refl
 
 pub refused_apart : (es : List EndpointConfig) (earlier : List Allocation) (k : ℕ) (lines : List PlanLine)
-    → refused_from es earlier k lines ≡ or_else (refused_along why_claimed earlier k (map allocation_of (placed_from es k lines))) (stopped_from es k lines)
+    → refused_from es earlier k lines ≡ or_else (refused_along why_claimed earlier k (map line_allocation (placed_from es k lines))) (stopped_from es k lines)
 unfolding refused_from refused_along placed_from stopped_from
 refused_apart es earlier k [] = refl
-refused_apart es earlier k (line ∷ lines) = go (planned_at es k line) (λ p. refused_apart es (allocation_of p ∷ earlier) (k + 1) lines)
+refused_apart es earlier k (line ∷ lines) = go (planned_at es k line) (λ p. refused_apart es (line_allocation p ∷ earlier) (k + 1) lines)
   where
     Later : PlannedLine → Type 0
-    Later p = refused_from es (allocation_of p ∷ earlier) (k + 1) lines
-        ≡ or_else (refused_along why_claimed (allocation_of p ∷ earlier) (k + 1) (map allocation_of (placed_from es (k + 1) lines))) (stopped_from es (k + 1) lines)
+    Later p = refused_from es (line_allocation p ∷ earlier) (k + 1) lines
+        ≡ or_else (refused_along why_claimed (line_allocation p ∷ earlier) (k + 1) (map line_allocation (placed_from es (k + 1) lines))) (stopped_from es (k + 1) lines)
 
     ranged : (p : PlannedLine) (t : Bool) → Later p
-        → refused_at k (let w : Option PlanWhy = if t then Some Range else why_claimed earlier (allocation_of p) in w) (refused_from es (allocation_of p ∷ earlier) (k + 1) lines)
-        ≡ or_else (refused_along why_claimed earlier k (map allocation_of (let ps : List PlannedLine = if t then [] else p ∷ placed_from es (k + 1) lines in ps)))
+        → refused_at k (let w : Option PlanWhy = if t then Some Range else why_claimed earlier (line_allocation p) in w) (refused_from es (line_allocation p ∷ earlier) (k + 1) lines)
+        ≡ or_else (refused_along why_claimed earlier k (map line_allocation (let ps : List PlannedLine = if t then [] else p ∷ placed_from es (k + 1) lines in ps)))
         (refused_at k (let w : Option PlanWhy = if t then Some Range else None in w) (stopped_from es (k + 1) lines))
     ranged p true h = refl
     ranged p false h =
-        ap (refused_at k (why_claimed earlier (allocation_of p))) h
-        ∙ sym (later_of k (why_claimed earlier (allocation_of p)) _ _)
+        ap (refused_at k (why_claimed earlier (line_allocation p))) h
+        ∙ sym (later_of k (why_claimed earlier (line_allocation p)) _ _)
 
     go : (o : Option PlannedLine) → ((p : PlannedLine) → Later p)
         → refused_at k (why_found earlier o) (refused_from es (with_line o earlier) (k + 1) lines)
-        ≡ or_else (refused_along why_claimed earlier k (map allocation_of (placed_on o (placed_from es (k + 1) lines)))) (refused_at k (why_alone o) (stopped_from es (k + 1) lines))
+        ≡ or_else (refused_along why_claimed earlier k (map line_allocation (placed_on o (placed_from es (k + 1) lines)))) (refused_at k (why_alone o) (stopped_from es (k + 1) lines))
     go None h = refl
     go (Some p) h = ranged p (is_out_of_range p.endpoint p.line) (h p)
 
 -- the numbers of placed lines are their places
-abbrev index_or : ℕ → Option PlannedLine → ℕ
+abbrev pub index_or : ℕ → Option PlannedLine → ℕ
 index_or k None = k
 index_or k (Some p) = p.index
 
@@ -56,22 +56,22 @@ index_is k line None = refl
 index_is k line (Some found) = refl
 
 pub placed_numbered : (es : List EndpointConfig) (k : ℕ) (lines : List PlanLine)
-    → map entry_of (placed_from es k lines) ≡ numbered k (map allocation_of (placed_from es k lines))
-unfolding placed_from numbered
+    → map entry_of (placed_from es k lines) ≡ numbered_lines k (map line_allocation (placed_from es k lines))
+unfolding placed_from numbered_lines
 placed_numbered es k [] = refl
 placed_numbered es k (line ∷ lines) = go (planned_at es k line) (index_is k line (find_endpoint es line.id)) (placed_numbered es (k + 1) lines)
   where
     Later : Type 0
-    Later = map entry_of (placed_from es (k + 1) lines) ≡ numbered (k + 1) (map allocation_of (placed_from es (k + 1) lines))
+    Later = map entry_of (placed_from es (k + 1) lines) ≡ numbered_lines (k + 1) (map line_allocation (placed_from es (k + 1) lines))
 
     ranged : (p : PlannedLine) (t : Bool) → p.index ≡ k → Later
         → map entry_of (let ps : List PlannedLine = if t then [] else p ∷ placed_from es (k + 1) lines in ps)
-        ≡ numbered k (map allocation_of (let ps : List PlannedLine = if t then [] else p ∷ placed_from es (k + 1) lines in ps))
+        ≡ numbered_lines k (map line_allocation (let ps : List PlannedLine = if t then [] else p ∷ placed_from es (k + 1) lines in ps))
     ranged p true e h = refl
-    ranged p false e h = ap₂ (λ (i : ℕ) (xs : List (ℕ × Allocation)). (i, allocation_of p) ∷ xs) e h
+    ranged p false e h = ap₂ (λ (i : ℕ) (xs : List (ℕ × Allocation)). (i, line_allocation p) ∷ xs) e h
 
     go : (o : Option PlannedLine) → index_or k o ≡ k → Later
-        → map entry_of (placed_on o (placed_from es (k + 1) lines)) ≡ numbered k (map allocation_of (placed_on o (placed_from es (k + 1) lines)))
+        → map entry_of (placed_on o (placed_from es (k + 1) lines)) ≡ numbered_lines k (map line_allocation (placed_on o (placed_from es (k + 1) lines)))
     go None e h = refl
     go (Some p) e h = ranged p (is_out_of_range p.endpoint p.line) e h
 

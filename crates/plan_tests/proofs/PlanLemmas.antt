@@ -4,7 +4,7 @@ use Rattle.std.specs.Prelude.{All, slice_get, is_some}
 use Rattle.std.specs.List.{AllByRecursion}
 use Rattle.std.proofs.lemmas.Bool.Decides.{nat_tests}
 use Rattle.std.proofs.lemmas.List.{drop_all}
-use Rattle.std.proofs.lemmas.Option.{get_or_from_slice_get}
+use Rattle.std.proofs.lemmas.Option.{same_Some}
 use Rattle.window_config.specs.Plans.{IsPlanLine}
 use Rattle.window_config.specs.declared.config.Config.{Config}
 use Rattle.window_config.specs.declared.endpoints.EndpointConfig.{EndpointConfig}
@@ -13,7 +13,7 @@ use Rattle.slot_rings.specs.unit_model.specs.Lists.{or_else}
 use Rattle.slot_rings.specs.unit_model.specs.Meetings.{find_from, find_endpoint}
 use Rattle.slot_rings.specs.unit_model.specs.Proper.{IsAt}
 use Rattle.plan_parts.specs.plan_model.specs.Dense.{dense, dense_from, dense_in, lesser, sendings}
-use Rattle.plan_parts.specs.plan_model.specs.Lines.{allocation_of, planned, planned_with, planned_at}
+use Rattle.plan_parts.specs.plan_model.specs.Lines.{line_allocation, planned, planned_with, planned_at}
 use Rattle.plan_parts.specs.plan_model.specs.Streams.{messages_of, parts_in, frames_in}
 use Rattle.plan_parts.specs.plan_model.specs.Valid.{dense_refused, plan_refusal}
 use Rattle.plan_parts.specs.plan_model.specs.Validity.{first_refused, is_out_of_range, why_claimed}
@@ -22,8 +22,8 @@ use Rattle.plan_parts.specs.plan_model.specs.declared.lines.PlannedLine.{Planned
 use Rattle.plan_parts.specs.plan_model.specs.declared.refusals.PlanWhy.{PlanWhy}
 use Rattle.plan_tests.specs.Answers.{distance_of}
 use Rattle.plan_parts.specs.Placing.{IsPlaced}
-use Rattle.plan_parts.specs.Parts.{HasEndpoint, timed}
-use Rattle.plan_tests.specs.Walks.{stream_of, limits_of, walked}
+use Rattle.plan_parts.specs.Parts.{timed}
+use Rattle.plan_tests.specs.Walks.{stream_of, dense_limits_of, sendings_walked}
 use Rattle.plan_tests.specs.Placed.{placed_on, placed_from, stopped_from}
 use Rattle.plan_tests.specs.Slots.{refused_along}
 use Rattle.plan_tests.proofs.MessageLemmas.{walked_is}
@@ -33,7 +33,7 @@ use Rattle.plan_parts.proofs.ListLemmas.{all_index}
 -- ---- dense messages
 
 pub sendings_are : (c : Config) (up : Bool) (lines : List PlannedLine) (ep : ℕ) (e : EndpointConfig)
-    → walked (limits_of c up) (map (timed (stream_of up)) (parts_in lines (stream_of up) ep e)) ≡ sendings c lines (stream_of up) ep e
+    → sendings_walked (dense_limits_of c up) (map (timed (stream_of up)) (parts_in lines (stream_of up) ep e)) ≡ sendings c lines (stream_of up) ep e
 unfolding messages_of
 sendings_are c true lines ep e = sym (walked_is c true (frames_in c (stream_of true)) (λ m. refl) (parts_in lines (stream_of true) ep e))
 sendings_are c false lines ep e = sym (walked_is c false (frames_in c (stream_of false)) (λ m. refl) (parts_in lines (stream_of false) ep e))
@@ -44,9 +44,6 @@ lesser_none (Some p) = refl
 
 abbrev pick : Bool → Dense → Dense → Option Dense
 pick t q p = if t then Some q else Some p
-
-lesser_some : (p q : Dense) → lesser (Some p) (Some q) ≡ pick (nat_lt q.number p.number) q p
-lesser_some p q = refl
 
 not_less : (a b c : ℕ) → nat_lt b a ≡ false → nat_lt c b ≡ false → nat_lt c a ≡ false
 not_less a b c h g = grind (arith, nat_tests)
@@ -99,12 +96,9 @@ find_at k (e ∷ es) id found h = go (e.id == id) h (find_at (k + 1) es id found
     go : (t : Bool) → (let o : Option (ℕ × EndpointConfig) = if t then Some (k, e) else find_from (k + 1) es id in o) ≡ Some found
         → (find_from (k + 1) es id ≡ Some found → FoundAt (k + 1) es found) → FoundAt k (e ∷ es) found
     go true g rest =
-        let is : (k, e) ≡ found = pair_is (k, e) found g in
+        let is : (k, e) ≡ found = same_Some (k, e) found g in
         subst (FoundAt k (e ∷ es)) is (record { low = omega arith; at = ap (slice_get (e ∷ es)) (nothing k) })
       where
-        pair_is : (x y : ℕ × EndpointConfig) → Some x ≡ Some y → x ≡ y
-        pair_is x y h = cc
-
         nothing : (n : ℕ) → n - n ≡ 0
         nothing n = omega arith
     go false g rest =
@@ -117,15 +111,12 @@ find_at k (e ∷ es) id found h = go (e.id == id) h (find_at (k + 1) es id found
 planned_is : (es : List EndpointConfig) (k : ℕ) (line : PlanLine) (p : PlannedLine) → planned_at es k line ≡ Some p → IsAt es p.ep p.endpoint × (p.line ≡ line)
 planned_is es k line p h = go (find_endpoint es line.id) refl h
   where
-    some_is : (x y : PlannedLine) → Some x ≡ Some y → x ≡ y
-    some_is x y h = cc
-
     go : (o : Option (ℕ × EndpointConfig)) → find_endpoint es line.id ≡ o → planned_with k line o ≡ Some p → IsAt es p.ep p.endpoint × (p.line ≡ line)
     go None e g = cc
     go (Some found) e g =
         let at = (find_at 0 es line.id found e).at in
         let same : found.0 - 0 ≡ found.0 = omega arith in
-        let is = some_is (record { index = k; ep = found.0; endpoint = found.1; line = line }) p g in
+        let is = same_Some (record { index = k; ep = found.0; endpoint = found.1; line = line }) p g in
         (subst (λ (q : PlannedLine). IsAt es q.ep q.endpoint) is (ap (slice_get es) (sym same) ∙ at), sym (ap (λ (q : PlannedLine). q.line) is))
 
 placed_each : (es : List EndpointConfig) (k : ℕ) (lines : List PlanLine) → AllByRecursion IsPlanLine lines → AllByRecursion (IsPlaced es) (placed_from es k lines)
@@ -150,9 +141,9 @@ placed_lines es lines placed all is =
 -- ---- all tests
 
 pub lines_refused : (c : Config) (lines : List PlanLine) (placed : List PlannedLine) (judged stop : Option (ℕ × PlanWhy)) → placed ≡ placed_from c.endpoints 0 lines → stop ≡ stopped_from c.endpoints 0 lines
-    → judged ≡ refused_along why_claimed [] 0 (map allocation_of placed) → or_else judged stop ≡ first_refused c.endpoints lines
+    → judged ≡ refused_along why_claimed [] 0 (map line_allocation placed) → or_else judged stop ≡ first_refused c.endpoints lines
 lines_refused c lines placed judged stop placed_is stop_is judged_is =
-    ap₂ or_else (judged_is ∙ ap (λ (ps : List PlannedLine). refused_along why_claimed [] 0 (map allocation_of ps)) placed_is) stop_is ∙ sym (refused_apart c.endpoints [] 0 lines)
+    ap₂ or_else (judged_is ∙ ap (λ (ps : List PlannedLine). refused_along why_claimed [] 0 (map line_allocation ps)) placed_is) stop_is ∙ sym (refused_apart c.endpoints [] 0 lines)
 
 pub judged_first : (c : Config) (lines : List PlanLine) (judged stop : Option (ℕ × PlanWhy)) → or_else judged stop ≡ first_refused c.endpoints lines → is_some judged ≡ true
     → judged ≡ plan_refusal c lines
@@ -182,6 +173,6 @@ pub stop_at : (c : Config) (lines : List PlanLine) (es : List EndpointConfig) (s
 stop_at c lines es stop es_is stop_is = stop_is ∙ ap (λ (x : List EndpointConfig). stopped_from x 0 lines) es_is
 
 pub tests_first : (c : Config) (lines : List PlanLine) (es : List EndpointConfig) (items placed : List PlannedLine) (judged stop : Option (ℕ × PlanWhy)) → es ≡ c.endpoints → items ≡ placed_from es 0 lines
-    → placed ≡ items → stop ≡ stopped_from es 0 lines → judged ≡ refused_along why_claimed [] 0 (map allocation_of placed) → or_else judged stop ≡ first_refused c.endpoints lines
+    → placed ≡ items → stop ≡ stopped_from es 0 lines → judged ≡ refused_along why_claimed [] 0 (map line_allocation placed) → or_else judged stop ≡ first_refused c.endpoints lines
 tests_first c lines es items placed judged stop es_is items_is placed_is stop_is judged_is =
     lines_refused c lines placed judged stop (placed_at c lines es items placed es_is items_is placed_is) (stop_at c lines es stop es_is stop_is) judged_is

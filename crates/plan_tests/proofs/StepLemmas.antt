@@ -13,7 +13,7 @@ use Rattle.slot_rings.specs.unit_model.specs.declared.verdicts.CommandVerdict.Th
 use Rattle.slot_rings.specs.unit_model.proofs.OntoLemmas.{onto-append}
 use Rattle.slot_rings.specs.Rings.{RingValue, IsRingCell, has_slot, ring_claim, ring_uplink, SameClaims, SameUplink, TouchesOnly}
 use Rattle.slot_rings.specs.Verdicts.{verdict_by, claim_after, uplink_after}
-use Rattle.plan_parts.specs.plan_model.specs.Lines.{allocation_of}
+use Rattle.plan_parts.specs.plan_model.specs.Lines.{line_allocation}
 use Rattle.plan_parts.specs.plan_model.specs.Validity.{refused_at}
 use Rattle.plan_parts.specs.plan_model.specs.declared.lines.PlannedLine.{PlannedLine}
 use Rattle.plan_parts.specs.plan_model.specs.declared.refusals.PlanWhy.{PlanWhy}
@@ -33,7 +33,7 @@ line_at e ep slot ps i p all below is = subst (IsLineAt e ep slot) (sym is) (all
 
 -- the ring's endpoint has its slot
 pub ring_slot : (e : EndpointConfig) (ep : ℕ) (slot : Slot) (r : RingValue) (earlier : List Allocation) (p : PlannedLine) (a : Allocation) → Knows e ep slot r earlier → IsLineAt e ep slot p
-    → a ≡ allocation_of p → IsSlot r.endpoint.numerology a.slot
+    → a ≡ line_allocation p → IsSlot r.endpoint.numerology a.slot
 ring_slot e ep slot r earlier p a knows line is =
     subst (λ (x : Allocation). IsSlot r.endpoint.numerology x.slot) (sym is)
     (subst (λ (x : EndpointConfig). IsSlot x.numerology p.line.slot) (line.of_endpoint.endpoint ∙ sym knows.endpoint) (slot_of_line e ep p line.of_endpoint))
@@ -41,8 +41,8 @@ ring_slot e ep slot r earlier p a knows line is =
 -- ---- one line
 
 judged_by : (e : EndpointConfig) (ep : ℕ) (slot : Slot) (r : RingValue) (earlier : List Allocation) (p : PlannedLine) (a : Allocation) (v : CommandVerdict)
-    → Knows e ep slot r earlier → IsLineAt e ep slot p → a ≡ allocation_of p → v ≡ verdict_by (ring_claim r) (length (ring_uplink r a.slot)) a
-    → why_judged earlier (allocation_of p) ≡ why_in v
+    → Knows e ep slot r earlier → IsLineAt e ep slot p → a ≡ line_allocation p → v ≡ verdict_by (ring_claim r) (length (ring_uplink r a.slot)) a
+    → why_judged earlier (line_allocation p) ≡ why_in v
 judged_by e ep slot r earlier p a v knows line is v_is =
     why_known earlier p line.of_endpoint.inside
     ∙ ap why_in (sym (verdict_known e ep slot r earlier p knows line) ∙ ap (λ (x : Allocation). verdict_by (ring_claim r) (length (ring_uplink r x.slot)) x) (sym is) ∙ sym v_is)
@@ -58,7 +58,7 @@ why_other verdict.Full h = refl
 why_other verdict.Accepted h = absurd (h refl)
 
 one_more : (earlier : List Allocation) (p : PlannedLine) (ps : List PlannedLine)
-    → refused_of why_judged earlier (map entry_of (p ∷ ps)) ≡ refused_at p.index (why_judged earlier (allocation_of p)) (refused_of why_judged (allocation_of p ∷ earlier) (map entry_of ps))
+    → refused_of why_judged earlier (map entry_of (p ∷ ps)) ≡ refused_at p.index (why_judged earlier (line_allocation p)) (refused_of why_judged (line_allocation p ∷ earlier) (map entry_of ps))
 unfolding refused_of
 one_more earlier p ps = refl
 
@@ -78,11 +78,11 @@ at_start e ep slot old new lines endpoint one free has claims uplink touches = r
 }
 
 behind_more : (earlier : List Allocation) (xs : List PlannedLine) (i : ℕ) (d : PlannedLine) → i < length xs
-    → behind earlier (take (i + 1) xs) ≡ allocation_of (get_or xs i d) ∷ behind earlier (take i xs)
+    → behind earlier (take (i + 1) xs) ≡ line_allocation (get_or xs i d) ∷ behind earlier (take i xs)
 unfolding onto
 behind_more earlier xs i d inside =
-    ap (behind earlier) (take_more xs i d inside) ∙ ap (onto earlier) (map-append allocation_of (take i xs) (get_or xs i d ∷ []))
-    ∙ onto-append earlier (map allocation_of (take i xs)) (allocation_of (get_or xs i d) ∷ [])
+    ap (behind earlier) (take_more xs i d inside) ∙ ap (onto earlier) (map-append line_allocation (take i xs) (get_or xs i d ∷ []))
+    ∙ onto-append earlier (map line_allocation (take i xs)) (line_allocation (get_or xs i d) ∷ [])
 
 rest_from : (lines : List PlannedLine) (i : ℕ) (p : PlannedLine) → i < length lines → p ≡ get_or lines i p → drop i lines ≡ p ∷ drop (i + 1) lines
 rest_from lines i p below is =
@@ -90,7 +90,7 @@ rest_from lines i p below is =
     drop-cons lines i p below ∙ ap₂ (λ (x : PlannedLine) (n : ℕ). x ∷ drop n lines) (sym is) e
 
 pub at_more : (e : EndpointConfig) (ep : ℕ) (slot : Slot) (old new : RingValue) (lines : List PlannedLine) (i : ℕ) (p : PlannedLine) (a : Allocation) (v : CommandVerdict)
-    → At e ep slot old lines i → i < length lines → p ≡ get_or lines i p → IsLineAt e ep slot p → a ≡ allocation_of p
+    → At e ep slot old lines i → i < length lines → p ≡ get_or lines i p → IsLineAt e ep slot p → a ≡ line_allocation p
     → v ≡ verdict_by (ring_claim old) (length (ring_uplink old a.slot)) a → v ≡ verdict.Accepted
     → ((cell : Cell) (re : ℕ) → IsRingCell old cell → cell.ep ≡ a.ep → cell.slot ≡ a.slot → re < 12
     → ring_claim new cell re ≡ claim_after verdict.Accepted a cell re (ring_claim old cell re))
@@ -98,9 +98,9 @@ pub at_more : (e : EndpointConfig) (ep : ℕ) (slot : Slot) (old new : RingValue
     → has_slot new a.slot ≡ true → TouchesOnly a.slot old new
     → At e ep slot new lines (i + 1)
 at_more e ep slot old new lines i p a v at below is line a_is v_is accepted claims uplink has touches =
-    let more : behind [] (take (i + 1) lines) ≡ allocation_of p ∷ behind [] (take i lines) =
-    behind_more [] lines i p below ∙ ap (λ (x : PlannedLine). allocation_of x ∷ behind [] (take i lines)) (sym is) in
-    let why : why_judged (behind [] (take i lines)) (allocation_of p) ≡ None =
+    let more : behind [] (take (i + 1) lines) ≡ line_allocation p ∷ behind [] (take i lines) =
+    behind_more [] lines i p below ∙ ap (λ (x : PlannedLine). line_allocation x ∷ behind [] (take i lines)) (sym is) in
+    let why : why_judged (behind [] (take i lines)) (line_allocation p) ≡ None =
     judged_by e ep slot old (behind [] (take i lines)) p a v at.knows line a_is v_is ∙ ap why_in accepted in
     record {
       knows = subst (Knows e ep slot new) (sym more)
@@ -113,20 +113,20 @@ at_more e ep slot old new lines i p a v at below is line a_is v_is accepted clai
       rest = ap (λ (xs : List Allocation). refused_of why_judged xs (map entry_of (drop (i + 1) lines))) more
           ∙ sym (ap (λ (xs : List PlannedLine). refused_of why_judged (behind [] (take i lines)) (map entry_of xs)) (rest_from lines i p below is)
           ∙ one_more (behind [] (take i lines)) p (drop (i + 1) lines)
-          ∙ ap (λ (w : Option PlanWhy). refused_at p.index w (refused_of why_judged (allocation_of p ∷ behind [] (take i lines)) (map entry_of (drop (i + 1) lines)))) why)
+          ∙ ap (λ (w : Option PlanWhy). refused_at p.index w (refused_of why_judged (line_allocation p ∷ behind [] (take i lines)) (map entry_of (drop (i + 1) lines)))) why)
           ∙ at.rest;
     }
 
 pub at_refused : (e : EndpointConfig) (ep : ℕ) (slot : Slot) (r : RingValue) (lines : List PlannedLine) (i : ℕ) (p : PlannedLine) (a : Allocation) (v : CommandVerdict)
-    → At e ep slot r lines i → i < length lines → p ≡ get_or lines i p → IsLineAt e ep slot p → a ≡ allocation_of p
+    → At e ep slot r lines i → i < length lines → p ≡ get_or lines i p → IsLineAt e ep slot p → a ≡ line_allocation p
     → v ≡ verdict_by (ring_claim r) (length (ring_uplink r a.slot)) a → (v ≡ verdict.Accepted → ⊥)
     → Some (p.index, why_of v) ≡ judged lines
 at_refused e ep slot r lines i p a v at below is line a_is v_is other =
-    let why : why_judged (behind [] (take i lines)) (allocation_of p) ≡ Some (why_of v) =
+    let why : why_judged (behind [] (take i lines)) (line_allocation p) ≡ Some (why_of v) =
     judged_by e ep slot r (behind [] (take i lines)) p a v at.knows line a_is v_is ∙ why_other v other in
     sym (ap (λ (xs : List PlannedLine). refused_of why_judged (behind [] (take i lines)) (map entry_of xs)) (rest_from lines i p below is)
     ∙ one_more (behind [] (take i lines)) p (drop (i + 1) lines)
-    ∙ ap (λ (w : Option PlanWhy). refused_at p.index w (refused_of why_judged (allocation_of p ∷ behind [] (take i lines)) (map entry_of (drop (i + 1) lines)))) why)
+    ∙ ap (λ (w : Option PlanWhy). refused_at p.index w (refused_of why_judged (line_allocation p ∷ behind [] (take i lines)) (map entry_of (drop (i + 1) lines)))) why)
     ∙ at.rest
 
 pub at_end : (e : EndpointConfig) (ep : ℕ) (slot : Slot) (r : RingValue) (lines : List PlannedLine) (i : ℕ) → At e ep slot r lines i → length lines ≤ i → None ≡ judged lines

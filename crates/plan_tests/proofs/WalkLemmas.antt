@@ -2,7 +2,7 @@
 use Rattle.std.proofs.Common.{◌≡◌, ℕ, zero, suc, ◌+◌, ◌<◌, ◌≤◌, inl, inr, true, false, List, [], ◌∷◌, ◌++◌, length, get_or, take, drop, Option, None, refl, ap, sym, ◌∙◌, subst, true≢false, arith}
 use Rattle.std.specs.List.{AllByRecursion}
 use Rattle.std.proofs.lemmas.Bool.{cases_eq}
-use Rattle.std.proofs.lemmas.List.{take-append-drop}
+use Rattle.std.proofs.lemmas.List.{get_or_default, take-append-drop}
 use Rattle.slot_rings.specs.unit_model.specs.Claims.{same_slot}
 use Rattle.std.proofs.Math.Seq.{drop-nil}
 use Rattle.fh_time.specs.declared.values.Slot.{Slot}
@@ -12,11 +12,11 @@ use Rattle.slot_rings.specs.Rings.{RingValue, has_slot}
 use Rattle.plan_parts.specs.plan_model.specs.declared.lines.PlannedLine.{PlannedLine}
 use Rattle.plan_parts.specs.plan_model.specs.declared.refusals.PlanWhy.{PlanWhy}
 use Rattle.plan_parts.specs.plan_model.proofs.ListLemmas.{all_in, all_from, all_map, in_right}
-use Rattle.plan_parts.specs.plan_model.proofs.SlotLemmas.{slot_own, slot_is}
 use Rattle.plan_tests.specs.Judging.{IsFirstRun, IsLineOf, IsLineAt}
-use Rattle.plan_tests.specs.Order.{AreInOrder}
-use Rattle.plan_tests.specs.Slots.{judged, judged_in, of_home, lesser, least_along}
-use Rattle.plan_tests.proofs.RunLemmas.{IsRun, run_is, home_of_run, home_of_others, least_of_run}
+use Rattle.plan_tests.specs.Order.{ArePlannedInOrder}
+use Rattle.plan_tests.specs.Slots.{judged, judged_in, of_home, lesser_refusal, least_along}
+use Rattle.plan_tests.proofs.RunLemmas.{IsRun, run_is, home_of_run, home_of_others, least_of_run, order_behind}
+use Rattle.slot_rings.specs.unit_model.proofs.ClaimLemmas.{same_slot_is as slot_is, slot_self as slot_own}
 
 -- ---- the first slot of what is left
 
@@ -36,12 +36,12 @@ dropped_first n [] z zs h = (let e : [] ≡ z ∷ zs = sym (drop-nil n) ∙ h in
 dropped_first zero (x ∷ xs) z zs h = (omega arith, cc)
 dropped_first (suc n) (x ∷ xs) z zs h = let r = dropped_first n xs z zs h in (let l = r.0 in omega (arith, l), r.1)
 
-pub cut_is : (lines : List PlannedLine) (n : ℕ) (p : PlannedLine) → IsFirstRun lines n → p ≡ get_or lines 0 p → AreInOrder lines → IsCut lines (take n lines) (drop n lines) p
+pub cut_is : (lines : List PlannedLine) (n : ℕ) (p : PlannedLine) → IsFirstRun lines n → p ≡ get_or lines 0 p → ArePlannedInOrder lines → IsCut lines (take n lines) (drop n lines) p
 cut_is [] n p f is order = absurd (let s = f.some in let w = f.within in omega (arith, s, w))
 cut_is (x ∷ xs) zero p f is order = absurd (let s = f.some in omega (arith, s))
 cut_is (x ∷ xs) (suc n) p f is order =
     let whole : take n xs ++ drop n xs ≡ xs = take-append-drop n xs in
-    let in_order : AreInOrder (x ∷ (take n xs ++ drop n xs)) = subst (λ (ys : List PlannedLine). AreInOrder (x ∷ ys)) (sym whole) order in
+    let in_order : ArePlannedInOrder (x ∷ (take n xs ++ drop n xs)) = subst (λ (ys : List PlannedLine). ArePlannedInOrder (x ∷ ys)) (sym whole) order in
     let same : AllByRecursion (λ q. q.line.slot ≡ x.line.slot) (x ∷ take n xs) =
     (refl, all_taken (λ q. q.line.slot ≡ x.line.slot) n xs (λ k d a b. f.same (suc k) d (omega (arith, a)))) in
     let run : IsRun x (x ∷ take n xs) (drop n xs) = run_is x (take n xs) (drop n xs) in_order same
@@ -59,12 +59,12 @@ pub record Left (e : EndpointConfig) (ep : ℕ) (lines rest : List PlannedLine) 
   pub one : length ring.places ≡ 1
   pub free : (q : PlannedLine) → IsIn q rest → has_slot ring q.line.slot ≡ false
   pub homes : (q : PlannedLine) → IsIn q rest → of_home q.ep q.line.slot rest ≡ of_home q.ep q.line.slot lines
-  pub order : AreInOrder rest
+  pub order : ArePlannedInOrder rest
   pub all : AllByRecursion (IsLineOf e ep) rest
   pub least_is : least_along lines least rest ≡ least_along lines None lines
 
 pub left_start : (e : EndpointConfig) (ep : ℕ) (lines : List PlannedLine) (ring : RingValue) → ring.endpoint ≡ e → length ring.places ≡ 1 → ((slot : Slot) → has_slot ring slot ≡ false)
-    → AreInOrder lines → AllByRecursion (IsLineOf e ep) lines → Left e ep lines lines ring None
+    → ArePlannedInOrder lines → AllByRecursion (IsLineOf e ep) lines → Left e ep lines lines ring None
 left_start e ep lines ring endpoint one free order all = record {
   endpoint = endpoint;
   one = one;
@@ -78,10 +78,6 @@ left_start e ep lines ring endpoint one free order all = record {
 all_parts : {X : Type 0} (P : X → Type 0) (xs ys : List X) → AllByRecursion P (xs ++ ys) → AllByRecursion P xs × AllByRecursion P ys
 all_parts P [] ys h = (tt, h)
 all_parts P (x ∷ xs) ys h = let r = all_parts P xs ys h.1 in ((h.0, r.0), r.1)
-
-order_parts : (xs ys : List PlannedLine) → AreInOrder (xs ++ ys) → AreInOrder ys
-order_parts [] ys h = h
-order_parts (x ∷ xs) ys h = order_parts xs ys h.1
 
 module _ (e : EndpointConfig) (ep : ℕ) (lines rest : List PlannedLine) (ring : RingValue) (least : Option (ℕ × PlanWhy)) (l : Left e ep lines rest ring least)
     (run others : List PlannedLine) (p : PlannedLine) (cut : IsCut rest run others p) where
@@ -121,17 +117,17 @@ module _ (e : EndpointConfig) (ep : ℕ) (lines rest : List PlannedLine) (ring :
   run_judged = ap judged (sym (home_of_run p run others cut.run_is eps) ∙ ap (of_home p.ep p.line.slot) cut.whole ∙ l.homes p first_in)
 
   pub left_more : (after : RingValue) (r new : Option (ℕ × PlanWhy)) → after.endpoint ≡ ring.endpoint → length after.places ≡ 1
-      → ((other : Slot) → (other ≡ p.line.slot → ⊥) → has_slot after other ≡ false) → r ≡ judged run → new ≡ lesser least r → Left e ep lines others after new
+      → ((other : Slot) → (other ≡ p.line.slot → ⊥) → has_slot after other ≡ false) → r ≡ judged run → new ≡ lesser_refusal least r → Left e ep lines others after new
   left_more after r new endpoint one free r_is new_is = record {
     endpoint = endpoint ∙ l.endpoint;
     one = one;
     free = λ q m. free q.line.slot (cut.run_is.apart q m);
     homes = λ q m. home_of_others p run others cut.run_is q m ∙ ap (of_home q.ep q.line.slot) cut.whole
         ∙ l.homes q (subst (IsIn q) cut.whole (in_right q run others m));
-    order = order_parts run others (subst AreInOrder (sym cut.whole) l.order);
+    order = order_behind run others (subst ArePlannedInOrder (sym cut.whole) l.order);
     all = parts.1;
     least_is =
-        ap (λ (x : Option (ℕ × PlanWhy)). least_along lines x others) (new_is ∙ ap (lesser least) (r_is ∙ run_judged))
+        ap (λ (x : Option (ℕ × PlanWhy)). least_along lines x others) (new_is ∙ ap (lesser_refusal least) (r_is ∙ run_judged))
         ∙ sym (ap (least_along lines least) (sym cut.whole ∙ ap (λ (xs : List PlannedLine). xs ++ others) cut.first.1)
         ∙ least_of_run lines least p cut.first.0 others (subst (AllByRecursion (λ q. q.ep ≡ p.ep)) cut.first.1 eps) (subst (AllByRecursion (λ q. q.line.slot ≡ p.line.slot)) cut.first.1 cut.run_is.same))
         ∙ l.least_is;
@@ -145,11 +141,6 @@ left_end e ep lines (x ∷ rest) ring least l none = absurd (omega (arith, none)
 
 -- ---- how long the first slot is
 
-pub at_any : {X : Type 0} (xs : List X) (k : ℕ) (d e : X) → k < length xs → get_or xs k d ≡ get_or xs k e
-at_any [] k d e below = absurd (omega (arith, below))
-at_any (x ∷ xs) zero d e below = refl
-at_any (x ∷ xs) (suc k) d e below = at_any xs k d e (omega (arith, below))
-
 abbrev pub SameTo : List PlannedLine → ℕ → Type 0
 SameTo lines n = (j : ℕ) (d : PlannedLine) → j < n → (get_or lines j d).line.slot ≡ (get_or lines 0 d).line.slot
 
@@ -158,7 +149,7 @@ same_first lines zero d below = refl
 same_first lines (suc j) d below = absurd (omega (arith, below))
 
 read_at : (lines : List PlannedLine) (k : ℕ) (d x : PlannedLine) → k < length lines → (get_or lines k x).line.slot ≡ (get_or lines k d).line.slot
-read_at lines k d x below = ap (λ (q : PlannedLine). q.line.slot) (at_any lines k x d below)
+read_at lines k d x below = ap (λ (q : PlannedLine). q.line.slot) (get_or_default lines k x d below)
 
 pub same_more : (lines : List PlannedLine) (k : ℕ) (x y : PlannedLine) → SameTo lines k → 1 ≤ k → k < length lines
     → same_slot (get_or lines k x).line.slot (get_or lines 0 y).line.slot ≡ true → SameTo lines (k + 1)
@@ -188,7 +179,7 @@ run_whole lines k same some one few all = record {
   next = λ d below e. absurd (omega (arith, below));
 }
 
-pub cut_of : (lines run others : List PlannedLine) (n : ℕ) (p : PlannedLine) → IsFirstRun lines n → p ≡ get_or lines 0 p → AreInOrder lines → run ≡ take n lines → others ≡ drop n lines
+pub cut_of : (lines run others : List PlannedLine) (n : ℕ) (p : PlannedLine) → IsFirstRun lines n → p ≡ get_or lines 0 p → ArePlannedInOrder lines → run ≡ take n lines → others ≡ drop n lines
     → IsCut lines run others p
 cut_of lines run others n p f is order front back =
     subst (λ (xs : List PlannedLine). IsCut lines xs others p) (sym front) (subst (λ (ys : List PlannedLine). IsCut lines (take n lines) ys p) (sym back) (cut_is lines n p f is order))

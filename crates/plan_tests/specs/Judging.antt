@@ -14,7 +14,7 @@ use Rattle.slot_rings.specs.unit_model.specs.declared.verdicts.CommandVerdict.{C
 use Rattle.slot_rings.specs.unit_model.specs.declared.verdicts.CommandVerdict.TheVariants as verdict
 use Rattle.plan_parts.specs.fragment_laws.specs.Apart.{IsIn}
 use Rattle.slot_rings.specs.Rings.{RingValue, IsRingCell, has_slot, ring_claim, ring_uplink}
-use Rattle.plan_parts.specs.plan_model.specs.Lines.{allocation_of}
+use Rattle.plan_parts.specs.plan_model.specs.Lines.{line_allocation}
 use Rattle.plan_parts.specs.plan_model.specs.Validity.{is_out_of_range}
 use Rattle.plan_parts.specs.plan_model.specs.declared.lines.PlannedLine.{PlannedLine}
 use Rattle.plan_parts.specs.plan_model.specs.declared.refusals.PlanWhy.{PlanWhy}
@@ -35,7 +35,7 @@ pub record IsLineAt (e : EndpointConfig) (ep : ℕ) (slot : Slot) (p : PlannedLi
 
 -- what lines name, the newest first, behind these
 abbrev pub behind : List Allocation → List PlannedLine → List Allocation
-behind earlier ps = onto earlier (map allocation_of ps)
+behind earlier ps = onto earlier (map line_allocation ps)
 
 -- the ring has one place, which is that of the slot, and claims and uplink sections are those of these lines
 pub record Knows (e : EndpointConfig) (ep : ℕ) (slot : Slot) (r : RingValue) (earlier : List Allocation) : Type 0 where

@@ -15,6 +15,6 @@ abbrev pub comes_first : PlannedLine → PlannedLine → Bool
 comes_first p q = is_lt (slot_cmp p.line.slot q.line.slot)
 
 -- none comes behind one of a later slot
-abbrev pub AreInOrder : List PlannedLine → Type 0
-AreInOrder [] = ⊤
-AreInOrder (p ∷ ps) = AllByRecursion (λ q. comes_first q p ≡ false) ps × AreInOrder ps
+abbrev pub ArePlannedInOrder : List PlannedLine → Type 0
+ArePlannedInOrder [] = ⊤
+ArePlannedInOrder (p ∷ ps) = AllByRecursion (λ q. comes_first q p ≡ false) ps × ArePlannedInOrder ps

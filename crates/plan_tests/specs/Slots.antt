@@ -7,7 +7,7 @@ use Rattle.slot_rings.specs.unit_model.specs.Claims.{same_slot, repeats, overlap
 use Rattle.slot_rings.specs.unit_model.specs.Commands.{is_full}
 use Rattle.slot_rings.specs.unit_model.specs.declared.allocations.Allocation.{Allocation}
 use Rattle.plan_parts.specs.fragment_laws.specs.Apart.{IsIn}
-use Rattle.plan_parts.specs.plan_model.specs.Lines.{allocation_of}
+use Rattle.plan_parts.specs.plan_model.specs.Lines.{line_allocation}
 use Rattle.plan_parts.specs.plan_model.specs.Validity.{clash, why_claimed, refused_at, IsProper}
 use Rattle.plan_parts.specs.plan_model.specs.declared.lines.PlannedLine.{PlannedLine}
 use Rattle.plan_parts.specs.plan_model.specs.declared.refusals.PlanWhy.{PlanWhy}
@@ -35,14 +35,14 @@ refused_along why earlier k (a ∷ ls) = refused_at k (why earlier a) (refused_a
 
 -- ---- slot by slot
 
-abbrev pub is_home : ℕ → Slot → Allocation → Bool
-is_home ep slot a = (a.ep == ep) && same_slot a.slot slot
+abbrev pub is_of_slot : ℕ → Slot → Allocation → Bool
+is_of_slot ep slot a = (a.ep == ep) && same_slot a.slot slot
 
 -- the first refused line of one endpoint and slot, of which only those are looked at
 unfoldable pub refused_in : (List Allocation → Allocation → Option PlanWhy) → ℕ → Slot → List Allocation → ℕ → List Allocation → Option (ℕ × PlanWhy)
 refused_in why ep slot earlier k [] = None
 refused_in why ep slot earlier k (a ∷ ls) =
-    if is_home ep slot a then refused_at k (why earlier a) (refused_in why ep slot (a ∷ earlier) (k + 1) ls) else refused_in why ep slot earlier (k + 1) ls
+    if is_of_slot ep slot a then refused_at k (why earlier a) (refused_in why ep slot (a ∷ earlier) (k + 1) ls) else refused_in why ep slot earlier (k + 1) ls
 
 -- the second is the first one, or of a later line
 abbrev pub IsFrom : Option (ℕ × PlanWhy) → Option (ℕ × PlanWhy) → Type 0
@@ -51,29 +51,29 @@ IsFrom None (Some q) = ⊥
 IsFrom (Some p) (Some q) = (q ≡ p) ⊎ (p.0 < q.0)
 
 -- the first refused line of all is the least of the slots' first ones, each slot judged by itself
-pub record IsLeast (ls : List Allocation) : Type 0 where
+pub record IsLeastSlot (ls : List Allocation) : Type 0 where
   pub none_before : (ep : ℕ) (slot : Slot) → IsFrom (refused_along why_claimed [] 0 ls) (refused_in why_judged ep slot [] 0 ls)
   pub is_one : (refused_along why_claimed [] 0 ls ≡ None)
       ⊎ ((a : Allocation) × IsIn a ls × (refused_in why_judged a.ep a.slot [] 0 ls ≡ refused_along why_claimed [] 0 ls))
 
 -- the one of the lower line
-abbrev pub lesser : Option (ℕ × PlanWhy) → Option (ℕ × PlanWhy) → Option (ℕ × PlanWhy)
-lesser None y = y
-lesser (Some p) None = Some p
-lesser (Some p) (Some q) = if nat_lt q.0 p.0 then Some q else Some p
+abbrev pub lesser_refusal : Option (ℕ × PlanWhy) → Option (ℕ × PlanWhy) → Option (ℕ × PlanWhy)
+lesser_refusal None y = y
+lesser_refusal (Some p) None = Some p
+lesser_refusal (Some p) (Some q) = if nat_lt q.0 p.0 then Some q else Some p
 
 -- ---- a slot's lines as a list of their own, with their numbers
 
-unfoldable pub numbered : ℕ → List Allocation → List (ℕ × Allocation)
-numbered k [] = []
-numbered k (a ∷ ls) = (k, a) ∷ numbered (k + 1) ls
+unfoldable pub numbered_lines : ℕ → List Allocation → List (ℕ × Allocation)
+numbered_lines k [] = []
+numbered_lines k (a ∷ ls) = (k, a) ∷ numbered_lines (k + 1) ls
 
 unfoldable pub refused_of : (List Allocation → Allocation → Option PlanWhy) → List Allocation → List (ℕ × Allocation) → Option (ℕ × PlanWhy)
 refused_of why earlier [] = None
 refused_of why earlier (p ∷ ps) = refused_at p.0 (why earlier p.1) (refused_of why (p.1 ∷ earlier) ps)
 
 abbrev pub entry_of : PlannedLine → ℕ × Allocation
-entry_of p = (p.index, allocation_of p)
+entry_of p = (p.index, line_allocation p)
 
 -- the first refused of these lines, by the radio unit's verdict
 abbrev pub judged : List PlannedLine → Option (ℕ × PlanWhy)
@@ -81,7 +81,7 @@ judged ps = refused_of why_judged [] (map entry_of ps)
 
 -- the same of one slot of an endpoint
 abbrev pub of_home : ℕ → Slot → List PlannedLine → List PlannedLine
-of_home ep slot ps = filter (λ p. is_home ep slot (allocation_of p)) ps
+of_home ep slot ps = filter (λ p. is_of_slot ep slot (line_allocation p)) ps
 
 abbrev pub judged_in : List PlannedLine → PlannedLine → Option (ℕ × PlanWhy)
 judged_in ps p = judged (of_home p.ep p.line.slot ps)
@@ -89,4 +89,4 @@ judged_in ps p = judged (of_home p.ep p.line.slot ps)
 -- the least of one answer and of what the slots of these lines refuse
 unfoldable pub least_along : List PlannedLine → Option (ℕ × PlanWhy) → List PlannedLine → Option (ℕ × PlanWhy)
 least_along ps least [] = least
-least_along ps least (q ∷ qs) = least_along ps (lesser least (judged_in ps q)) qs
+least_along ps least (q ∷ qs) = least_along ps (lesser_refusal least (judged_in ps q)) qs

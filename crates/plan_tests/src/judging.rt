@@ -4,18 +4,18 @@ ghost use Rattle.std.specs.List.{AllByRecursion};
 ghost use Rattle.fh_time.specs.declared.values.Slot.{Slot as SpecSlot};
 ghost use Rattle.window_config.specs.Endpoints.{IsEndpoint};
 ghost use Rattle.slot_rings.specs.Rings.{has_slot};
-ghost use Rattle.plan_parts.specs.plan_model.specs.Lines.{allocation_of};
+ghost use Rattle.plan_parts.specs.plan_model.specs.Lines.{line_allocation};
 ghost use Rattle.plan_parts.specs.plan_model.specs.Validity.{why_claimed};
 ghost use Rattle.plan_parts.specs.plan_model.specs.declared.lines.PlannedLine.{PlannedLine as SpecLine};
 ghost use Rattle.plan_parts.specs.Placing.{ArePlaced, IsPlaced};
 ghost use Rattle.plan_parts.specs.fragment_laws.specs.Apart.{IsIn};
 ghost use Rattle.plan_tests.specs.Judging.{Covers, IsFirstRun, IsLineAt, IsLineOf, ep_of, why_of};
-ghost use Rattle.plan_tests.specs.Order.{AreInOrder};
-ghost use Rattle.plan_tests.specs.Slots.{entry_of, judged, least_along, lesser, numbered, refused_along};
+ghost use Rattle.plan_tests.specs.Order.{ArePlannedInOrder};
+ghost use Rattle.plan_tests.specs.Slots.{entry_of, judged, least_along, lesser_refusal, numbered_lines, refused_along};
 
 use crate::sorting::{lines_of, sort_by_slot};
 use fh_base::NoMemory;
-use plan_parts::plan_model::{PlanWhy, PlannedLine, allocation_of};
+use plan_parts::plan_model::{PlanWhy, PlannedLine, line_allocation};
 use slot_rings::SlotRing;
 use slot_rings::unit_model::{CommandVerdict, same_slot};
 use std::alloc::Global;
@@ -55,7 +55,7 @@ fn judge_slot(
 {
     ring.open(first.line.slot);
     for line in lines {
-        let named = allocation_of(line);
+        let named = line_allocation(line);
         match ring.judge(&named) {
             CommandVerdict::Accepted => ring.claim(&named),
             refused => return Some((line.index, why_of(refused))),
@@ -79,7 +79,7 @@ fn slot_len(lines: &[PlannedLine]) -> usize
 
 /// The refusal of the lower line.
 fn lesser(a: Option<(usize, PlanWhy)>, b: Option<(usize, PlanWhy)>) -> Option<(usize, PlanWhy)>
-    ensures { result ≡ lesser a b }
+    ensures { result ≡ lesser_refusal a b }
 {
     match (a, b) {
         (None, b) => b,
@@ -94,7 +94,7 @@ fn judge_slots(ring: &mut SlotRing, lines: &[PlannedLine]) -> Option<(usize, Pla
     requires one { length ring.old.places ≡ 1 }
     requires free { (slot : SpecSlot) → has_slot ring.old slot ≡ false }
     requires lines { AllByRecursion (IsLineOf ring.old.endpoint (ep_of lines.now)) lines.now }
-    requires order { AreInOrder lines.now }
+    requires order { ArePlannedInOrder lines.now }
     ensures { result ≡ least_along lines.now None lines.now }
 {
     let mut least = None;
@@ -111,7 +111,7 @@ fn judge_slots(ring: &mut SlotRing, lines: &[PlannedLine]) -> Option<(usize, Pla
 fn judge_own(alloc: Global, own: &[PlannedLine]) -> Result<Option<(usize, PlanWhy)>, NoMemory>
     requires endpoint { (p : SpecLine) → IsIn p own.now → IsEndpoint p.endpoint }
     requires lines { (p : SpecLine) → IsIn p own.now → AllByRecursion (IsLineOf p.endpoint (ep_of own.now)) own.now }
-    requires order { AreInOrder own.now }
+    requires order { ArePlannedInOrder own.now }
     ensures { IfOk result (λ least. least ≡ least_along own.now None own.now) }
 {
     if own.is_empty() {
@@ -145,8 +145,8 @@ pub(crate) fn judge_lines(
 ) -> Result<Option<(usize, PlanWhy)>, NoMemory>
     requires endpoints { All IsEndpoint endpoints.now }
     requires lines { AllByRecursion (IsPlaced endpoints.now) lines.now }
-    requires numbers { map entry_of lines.now ≡ numbered 0 (map allocation_of lines.now) }
-    ensures { IfOk result (λ first. first ≡ refused_along why_claimed [] 0 (map allocation_of lines.now)) }
+    requires numbers { map entry_of lines.now ≡ numbered_lines 0 (map line_allocation lines.now) }
+    ensures { IfOk result (λ first. first ≡ refused_along why_claimed [] 0 (map line_allocation lines.now)) }
 {
     let mut least = None;
     for ep in 0..endpoints.len() {

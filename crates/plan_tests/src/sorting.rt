@@ -2,7 +2,7 @@
 ghost use Rattle.std.specs.Prelude.{◌≡◌, ℕ, length, take, get_or, ◌<◌, ◌≤◌, false, filter, ◌==◌, List as SpecList, IfOk, OnOk};
 ghost use Rattle.std.specs.List.{AllByRecursion};
 ghost use Rattle.plan_parts.specs.plan_model.specs.declared.lines.PlannedLine.{PlannedLine as SpecLine};
-ghost use Rattle.plan_tests.specs.Order.{AreInOrder, comes_first, slot_cmp};
+ghost use Rattle.plan_tests.specs.Order.{ArePlannedInOrder, comes_first, slot_cmp};
 ghost use Rattle.plan_tests.specs.Slots.{of_home};
 
 use fh_base::NoMemory;
@@ -49,7 +49,7 @@ pub(crate) fn lines_of(
 
 /// Sorts lines by slot; those of one slot stay in their order.
 pub(crate) fn sort_by_slot(lines: &mut Vec<PlannedLine>) -> Result<(), NoMemory>
-    ensures order { OnOk result (AreInOrder lines.new.items) }
+    ensures order { OnOk result (ArePlannedInOrder lines.new.items) }
     ensures homes { (p : SpecLine) → of_home p.ep p.line.slot lines.new.items ≡ of_home p.ep p.line.slot lines.old.items }
 {
     lines.sort_by_key(slot_key)?;

@@ -10,7 +10,7 @@ ghost use Rattle.plan_parts.specs.plan_model.specs.Valid.{plan_refusal};
 ghost use Rattle.plan_tests.specs.Answers.{Answers, distance_of};
 ghost use Rattle.plan_parts.specs.Placing.{ArePlaced, IsPlaced};
 ghost use Rattle.plan_parts.specs.Parts.{HasEndpoint};
-ghost use Rattle.plan_tests.specs.Walks.{stream_of, IsLimits, limits_of};
+ghost use Rattle.plan_tests.specs.Walks.{stream_of, AreDenseLimits, dense_limits_of};
 
 use crate::judging::judge_lines;
 use crate::placing::place_lines;
@@ -46,8 +46,8 @@ fn stream_of(up: bool) -> Stream
 /// What data messages of one direction are cut by.
 fn limits_of(config: &Config, up: bool) -> Limits
     requires { IsConfig config.now }
-    ensures value { result ≡ limits_of config.now up }
-    ensures limits { IsLimits result }
+    ensures value { result ≡ dense_limits_of config.now up }
+    ensures limits { AreDenseLimits result }
 {
     Limits {
         pack: config.pack,

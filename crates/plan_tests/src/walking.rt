@@ -2,7 +2,7 @@
 ghost use Rattle.std.specs.Prelude.{◌≡◌, All, pos, neg_ℤ, ◌+◌, ◌<◌, ◌≤◌, ◌^◌, ◌≤ℤ◌, ◌∷◌, ◌++◌, IfOk, OnOk, List as SpecParts};
 ghost use Rattle.std.specs.List.{AllByRecursion};
 ghost use Rattle.plan_parts.specs.plan_model.specs.Dense.{IsSending};
-ghost use Rattle.plan_tests.specs.Walks.{IsLimits, IsOpenMessage, alone, grown, next_to, same_place, sending_from, takes_more, walk, walked};
+ghost use Rattle.plan_tests.specs.Walks.{AreDenseLimits, IsOpenSending, sending_alone, sending_grown, sending_next_to, same_symbol_place, open_sending, sending_takes_more, sending_walk, sendings_walked};
 ghost use Rattle.plan_parts.specs.Parts.{IsTimed};
 ghost use Rattle.plan_parts.specs.declared.parts.TimedPart.{TimedPart as SpecPart};
 
@@ -31,14 +31,14 @@ struct OpenMessage {
 
 /// Whether two parts are of one slot and symbol.
 fn same_place(a: &TimedPart, b: &TimedPart) -> bool
-    ensures { result ≡ same_place a.now b.now }
+    ensures { result ≡ same_symbol_place a.now b.now }
 {
     a.frame == b.frame && a.subframe == b.subframe && a.slot == b.slot && a.symbol == b.symbol
 }
 
 /// A message of one part; the header has 4 bytes.
 fn alone(part: &TimedPart, wait: u64) -> OpenMessage
-    ensures { result ≡ alone part.now wait }
+    ensures { result ≡ sending_alone part.now wait }
 {
     OpenMessage {
         first: *part,
@@ -51,7 +51,7 @@ fn alone(part: &TimedPart, wait: u64) -> OpenMessage
 /// Whether a message takes one part more.
 fn takes_more(pack: usize, m: &OpenMessage, part: &TimedPart) -> bool
     requires { m.now.bytes < 2 ^ 17 }
-    ensures { result ≡ takes_more pack m.now part.now }
+    ensures { result ≡ sending_takes_more pack m.now part.now }
 {
     same_place(&m.first, part) && m.parts < pack && m.bytes + part.size as usize <= 16_384
 }
@@ -60,7 +60,7 @@ fn takes_more(pack: usize, m: &OpenMessage, part: &TimedPart) -> bool
 fn grown(m: &OpenMessage, part: &TimedPart) -> OpenMessage
     requires bytes { m.now.bytes < 2 ^ 17 }
     requires parts { m.now.parts < 2 ^ 63 }
-    ensures { result ≡ grown m.now part.now }
+    ensures { result ≡ sending_grown m.now part.now }
 {
     OpenMessage {
         parts: m.parts + 1,
@@ -71,9 +71,9 @@ fn grown(m: &OpenMessage, part: &TimedPart) -> OpenMessage
 
 /// The message of one part behind another.
 fn next_to(limits: &Limits, m: &OpenMessage, part: &TimedPart) -> OpenMessage
-    requires limits { IsLimits limits.now }
-    requires message { IsOpenMessage limits.now m.now }
-    ensures value { result ≡ next_to limits.now m.now part.now }
+    requires limits { AreDenseLimits limits.now }
+    requires message { IsOpenSending limits.now m.now }
+    ensures value { result ≡ sending_next_to limits.now m.now part.now }
     ensures wait { result.wait ≤ limits.now.departures.spread }
 {
     let wait = if same_place(part, &m.first) {
@@ -88,10 +88,10 @@ fn next_to(limits: &Limits, m: &OpenMessage, part: &TimedPart) -> OpenMessage
 
 /// When a message's first frame leaves, and its line.
 fn sending_from(limits: &Limits, m: &OpenMessage) -> Sending
-    requires limits { IsLimits limits.now }
-    requires message { IsOpenMessage limits.now m.now }
+    requires limits { AreDenseLimits limits.now }
+    requires message { IsOpenSending limits.now m.now }
     requires first { IsTimed m.now.first }
-    ensures value { result ≡ sending_from limits.now m.now }
+    ensures value { result ≡ open_sending limits.now m.now }
     ensures small { IsSending result }
 {
     Sending {
@@ -107,12 +107,12 @@ fn step(
     part: &TimedPart,
     sent: &mut Vec<Sending>,
 ) -> Result<OpenMessage, NoMemory>
-    requires limits { IsLimits limits.now }
-    requires message { IsOpenMessage limits.now message.now }
+    requires limits { AreDenseLimits limits.now }
+    requires message { IsOpenSending limits.now message.now }
     requires part { IsTimed part.now }
     requires small { All IsSending sent.old.items }
-    ensures walk { IfOk result (λ m. (rest : SpecParts SpecPart) → sent.new.items ++ walk limits.now m rest ≡ sent.old.items ++ walk limits.now message.now (part.now ∷ rest)) }
-    ensures open { IfOk result (λ m. IsOpenMessage limits.now m) }
+    ensures walk { IfOk result (λ m. (rest : SpecParts SpecPart) → sent.new.items ++ sending_walk limits.now m rest ≡ sent.old.items ++ sending_walk limits.now message.now (part.now ∷ rest)) }
+    ensures open { IfOk result (λ m. IsOpenSending limits.now m) }
     ensures small { OnOk result (All IsSending sent.new.items) }
 {
     if takes_more(limits.pack, message, part) {
@@ -129,9 +129,9 @@ pub(crate) fn sendings(
     limits: &Limits,
     parts: &[TimedPart],
 ) -> Result<Vec<Sending>, NoMemory>
-    requires limits { IsLimits limits.now }
+    requires limits { AreDenseLimits limits.now }
     requires parts { AllByRecursion IsTimed parts.now }
-    ensures value { IfOk result (λ v. v.items ≡ walked limits.now parts.now) }
+    ensures value { IfOk result (λ v. v.items ≡ sendings_walked limits.now parts.now) }
     ensures small { IfOk result (λ v. All IsSending v.items) }
 {
     let mut sent = Vec::new(alloc);

@@ -2,11 +2,9 @@
 use crate::made::{bytes_of, calls, words_of};
 use capture_records::air_source::Side;
 use capture_records::{CaptureWhy, record_head};
-use fh_base::{MemorySink, NoMemory, PlainSink, PlainSource, SinkFault};
+use fh_base::{INPUT_LIMIT, MemorySink, NoMemory, PlainSink, PlainSource, SinkFault};
 use fh_time::Ticks;
-use pcap_export::{
-    ExportRefusal, ExportWhy, LIMIT, Status, Ways, check, put_pcap, run, write_message,
-};
+use pcap_export::{ExportRefusal, ExportWhy, Status, Ways, check, put_pcap, run, write_message};
 use std::alloc::Global;
 use std::test::Fail;
 
@@ -157,7 +155,7 @@ fn a_run_that_is_refused_writes_its_line(rt: HostRuntime) -> Result<(), Fail> {
         err.bytes(),
         b"capture_pcap: capture at 45: Cut\n".as_slice()
     );
-    assert_eq!(rt; LIMIT, 67_108_864);
+    assert_eq!(rt; INPUT_LIMIT, 67_108_864);
     Ok(())
 }
 

@@ -1,9 +1,9 @@
 -- What is to come to the radio unit, from one tick to the next moment, and over it.
-use Rattle.std.proofs.Common.{◌≡◌, ℤ, pos, ◌+ℤ◌, ◌-ℤ◌, ◌≤ℤ◌, ◌<ℤ◌, List, ◌∷◌, ◌++◌, ap, ◌∙◌, subst, sym, arith}
+use Rattle.std.proofs.Common.{◌≡◌, ℤ, pos, ◌+ℤ◌, ◌-ℤ◌, ◌≤ℤ◌, ◌<ℤ◌, List, ◌∷◌, ◌++◌, ap, ◌∙◌, subst, sym}
 use Rattle.std.specs.Prelude.{All, map}
-use Rattle.std.proofs.lemmas.Int.{ints}
 use Rattle.std.proofs.lemmas.List.Elements.{All-map}
 use Rattle.std.specs.Int.Signed.{≤ℤ_refl}
+use Rattle.fh_time.proofs.Orders.{beyond_next}
 use Rattle.air_source.specs.declared.events.Side.TheVariants.{Ru as AtRu, Du as AtDu}
 use Rattle.measured_moments.specs.delay_laws.specs.Ticks.{Flight}
 use Rattle.measured_moments.specs.document_traffic.specs.Laws.{IsReplayable}
@@ -77,10 +77,7 @@ waits_at d now tick w doc waits begun order ended calm quiet =
 -- ---- the moment itself
 
 after_it : (d : Document) (tick : ℤ) (fs : List SentFrame) → AreSentFrom (tick +ℤ pos 1) fs → All (λ (f : Leaving). tick <ℤ f.at) (map (leaving_of d) fs)
-after_it d tick fs later = All-map (λ (f : Leaving). tick <ℤ f.at) (leaving_of d) fs (λ k g lt. above tick _ (later k g lt))
-  where
-    above : (a b : ℤ) → (a +ℤ pos 1) ≤ℤ b → a <ℤ b
-    above a b h = omega (arith, ints)
+after_it d tick fs later = All-map (λ (f : Leaving). tick <ℤ f.at) (leaving_of d) fs (λ k g lt. beyond_next tick _ (later k g lt))
 
 module _ (d : Document) (tick : ℤ) (w : Downlink) (sent : HasSent d tick w) where
   -- what the plan has still to send, and the frames of delay measurement from the tick on

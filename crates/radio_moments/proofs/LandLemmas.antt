@@ -1,6 +1,7 @@
--- Frames that land at the radio unit one after the other.
-use Rattle.std.proofs.Common.{◌≡◌, ℕ, ℤ, pos, ◌≤ℤ◌, List, [], ◌∷◌, ◌++◌, refl, sym, ap, ◌∙◌, subst, append_assoc, append-nil}
+-- Frames that land at a unit one after the other.
+use Rattle.std.proofs.Common.{◌≡◌, ℕ, ℤ, pos, ◌+ℤ◌, ◌≤ℤ◌, List, [], ◌∷◌, ◌++◌, refl, sym, ap, ◌∙◌, subst, append_assoc, append-nil}
 use Rattle.air_source.specs.declared.events.Event.{Event}
+use Rattle.air_source.specs.declared.events.Side.{Side}
 use Rattle.air_source.specs.declared.events.Side.TheVariants.{Ru as AtRu}
 use Rattle.measured_moments.specs.delay_exchange.specs.Meters.{HasDoings}
 use Rattle.measured_moments.specs.delay_exchange.specs.declared.unit.UnitMeter.{UnitMeter}
@@ -9,44 +10,27 @@ use Rattle.delay_measure.specs.declared.edge.Edge.{Edge}
 use Rattle.measured_moments.specs.document_delays.specs.Settings.{compensation_of}
 use Rattle.measured_moments.specs.document_traffic.specs.Sending.{Leaving, SentCounts}
 use Rattle.measured_moments.specs.fh_document.specs.declared.document.Document.{Document}
-use Rattle.fh_time.specs.declared.values.Ticks.{Ticks}
 use Rattle.measured_moments.specs.frame_ways.specs.Flying.{arrival_at}
 use Rattle.measured_moments.specs.frame_ways.specs.Landed.{bytes_of}
-use Rattle.measured_moments.specs.frame_ways.specs.Ways.{IsLanded, IsOver, coming_at}
+use Rattle.measured_moments.specs.frame_ways.specs.Ways.{IsLanded, IsTickOver, Waits, coming_at}
 use Rattle.measured_moments.specs.frame_ways.specs.declared.landed.Landed.{Landed}
 use Rattle.measured_moments.specs.frame_ways.specs.declared.way.Way.{Way}
 use Rattle.measured_moments.specs.measured_traffic.specs.Doings.{Doings, results_of, with_frame, with_frames}
 use Rattle.measured_moments.specs.replay_events.proofs.HeardLemmas.{arrivals-append, arrivals-own}
 use Rattle.measured_moments.specs.replay_events.proofs.ToldLemmas.{none_told, told_next, told_one}
-use Rattle.measured_moments.specs.replay_events.specs.Events.{arrival_told}
+use Rattle.measured_moments.specs.replay_events.specs.Events.{arrival_told, arrivals_told}
 use Rattle.measured_moments.specs.replay_events.specs.Heard.{arrivals_heard}
 use Rattle.measured_moments.specs.ru_buffers.specs.Calls.{StandsFor}
 use Rattle.measured_moments.specs.ru_buffers.specs.declared.unit.Ru.{Ru}
+use Rattle.du_scheduler.specs.unit_model.proofs.OntoLemmas.{onto-append, onto_none}
 use Rattle.du_scheduler.specs.unit_model.specs.Lists.{onto}
 use Rattle.du_scheduler.specs.unit_model.specs.Meetings.{Arrival}
 use Rattle.du_scheduler.specs.unit_model.specs.Standing.{History, arrived}
 use Rattle.du_scheduler.specs.window_config.specs.declared.config.Config.{Config}
-use Rattle.measured_moments.specs.replay_events.proofs.CameLemmas.{onto_none}
-use Rattle.radio_moments.specs.Landing.{HasTaken, HaveLanded, MayLand, WaitsToLand, landed, told_of_frame, told_of_frames}
+use Rattle.radio_moments.specs.Landing.{HasTaken, HaveLanded, ru_landed}
 use Rattle.radio_moments.specs.Stops.{HaltsBehind, StopsBehind}
+use Rattle.radio_moments.proofs.HearLemmas.{with_arrivals}
 use Rattle.radio_moments.proofs.StopLemmas.{halts_ahead, halts_behind, halts_moved, stops_ahead, stops_behind, stops_moved}
-
--- ---- one more
-
-pub onto-append : (earlier xs : List Arrival) (x : Arrival) → onto earlier (xs ++ x ∷ []) ≡ x ∷ onto earlier xs
-unfolding onto
-onto-append earlier [] x = refl
-onto-append earlier (y ∷ xs) x = onto-append (y ∷ earlier) xs x
-
--- a history with these arrivals
-abbrev with_arrivals : History → List Arrival → History
-with_arrivals h xs = record { clock = h.clock; arrivals = xs; reported = h.reported; given = h.given }
-
-landed_none : (h : History) → landed h [] ≡ h
-landed_none h = ap (with_arrivals h) (onto_none h.arrivals)
-
-landed_next : (h : History) (xs : List Arrival) (frame : List ℕ) → arrived (landed h xs) frame ≡ landed h (xs ++ arrival_at h.clock frame ∷ [])
-landed_next h xs frame = ap (with_arrivals h) (sym (onto-append h.arrivals xs (arrival_at h.clock frame)))
 
 -- ---- what a meter has of them, and what is told
 
@@ -54,144 +38,176 @@ pub with_frames-append : (c : Compensation) (t : ℤ) (x : Doings) (xs ys : List
 with_frames-append c t x [] ys = refl
 with_frames-append c t x (a ∷ xs) ys = with_frames-append c t (with_frame c t x a.frame) xs ys
 
--- what a unit's meter has once these frames came
-abbrev pub behind : Document → ℤ → Doings → List Arrival → Doings
-behind d tick x xs = with_frames (compensation_of d AtRu) tick x xs
+-- what a unit's meter has once these frames came, and once one more did
+abbrev pub behind : Side → Document → ℤ → Doings → List Arrival → Doings
+behind side d tick x xs = with_frames (compensation_of d side) tick x xs
 
-told-append : (d : Document) (tick : ℤ) (x : Doings) (xs ys : List Arrival)
-    → told_of_frames d tick x (xs ++ ys) ≡ told_of_frames d tick x xs ++ told_of_frames d tick (behind d tick x xs) ys
-told-append d tick x [] ys = sym (ap (λ (es : List Event). es ++ told_of_frames d tick x ys) (none_told AtRu []))
-told-append d tick x (a ∷ xs) ys =
-    let c = compensation_of d AtRu in
-    let more = with_frame c tick x a.frame in
-    let one = arrival_told AtRu a more.results in
-    told_next AtRu more.results (results_of c tick more (xs ++ ys)) a (xs ++ ys)
-    ∙ ap (λ (es : List Event). one ++ es) (told-append d tick more xs ys)
-    ∙ sym (append_assoc one (told_of_frames d tick more xs) (told_of_frames d tick (behind d tick more xs) ys))
-    ∙ ap (λ (es : List Event). es ++ told_of_frames d tick (behind d tick more xs) ys) (sym (told_next AtRu more.results (results_of c tick more xs) a xs))
+abbrev pub behind_one : Side → Document → ℤ → Doings → List ℕ → Doings
+behind_one side d tick x frame = with_frame (compensation_of d side) tick x frame
 
-told_alone : (d : Document) (tick : ℤ) (x : Doings) (frame : List ℕ) → told_of_frames d tick x (arrival_at tick frame ∷ []) ≡ told_of_frame d tick x frame
-told_alone d tick x frame = told_one AtRu (with_frame (compensation_of d AtRu) tick x frame).results [] (arrival_at tick frame)
+-- what is told of them
+abbrev pub told_of_all : Side → Document → ℤ → Doings → List Arrival → List Event
+told_of_all side d tick x xs = arrivals_told side (results_of (compensation_of d side) tick x xs) xs
 
-told_more : (d : Document) (tick : ℤ) (x : Doings) (xs : List Arrival) (frame : List ℕ)
-    → told_of_frames d tick x (xs ++ arrival_at tick frame ∷ []) ≡ told_of_frames d tick x xs ++ told_of_frame d tick (behind d tick x xs) frame
-told_more d tick x xs frame =
-    told-append d tick x xs (arrival_at tick frame ∷ []) ∙ ap (λ (es : List Event). told_of_frames d tick x xs ++ es) (told_alone d tick (behind d tick x xs) frame)
+abbrev pub told_of_one : Side → Document → ℤ → Doings → List ℕ → List Event
+told_of_one side d tick x frame = arrival_told side (arrival_at tick frame) (behind_one side d tick x frame).results
 
--- about one of them
-told_about : (d : Document) (tick : ℤ) (x : Doings) (xs : List Arrival) (frame : List ℕ) (ys : List Arrival)
-    → told_of_frames d tick x (xs ++ arrival_at tick frame ∷ ys)
-    ≡ told_of_frames d tick x xs ++ (told_of_frame d tick (behind d tick x xs) frame ++ told_of_frames d tick (behind d tick (behind d tick x xs) (arrival_at tick frame ∷ [])) ys)
-told_about d tick x xs frame ys =
-    let now = behind d tick x xs in
-    let one = arrival_at tick frame in
-    told-append d tick x xs (one ∷ ys)
-    ∙ ap (λ (es : List Event). told_of_frames d tick x xs ++ es)
-    (told-append d tick now (one ∷ []) ys ∙ ap (λ (es : List Event). es ++ told_of_frames d tick (behind d tick now (one ∷ [])) ys) (told_alone d tick now frame))
+pub told-append : (side : Side) (d : Document) (tick : ℤ) (x : Doings) (xs ys : List Arrival)
+    → told_of_all side d tick x (xs ++ ys) ≡ told_of_all side d tick x xs ++ told_of_all side d tick (behind side d tick x xs) ys
+told-append side d tick x [] ys = sym (ap (λ (es : List Event). es ++ told_of_all side d tick x ys) (none_told side []))
+told-append side d tick x (a ∷ xs) ys =
+    let more = behind_one side d tick x a.frame in
+    let one = arrival_told side a more.results in
+    let rest = told_of_all side d tick (behind side d tick more xs) ys in
+    told_next side more.results (results_of (compensation_of d side) tick more (xs ++ ys)) a (xs ++ ys)
+    ∙ ap (λ (es : List Event). one ++ es) (told-append side d tick more xs ys)
+    ∙ sym (append_assoc one (told_of_all side d tick more xs) rest)
+    ∙ ap (λ (es : List Event). es ++ rest) (sym (told_next side more.results (results_of (compensation_of d side) tick more xs) a xs))
 
 -- ---- the frames so far
+
+-- some of those that come to a unit at a tick were told, each with its delays, its meter was told them, and the rest is on its way
+pub record AreTold {A C : Type 0} (grew : A → List Event → A → Type 0) (pre : C → Edge → Type 0) (post : C → Edge → ℤ → Type 0) (side : Side) (d : Document) (tick : ℤ) (n : SentCounts)
+    (left : List Leaving) (x : Doings) (m : UnitMeter C) (old now : Way) (before after : A) : Type 0 where
+  pub gone : List Arrival
+  pub parts : coming_at d tick old ≡ gone ++ coming_at d tick now
+  pub waits : Waits d side tick (tick +ℤ pos 1) n left now
+  pub heard : grew before (told_of_all side d tick x gone) after
+  pub made : HasDoings pre post d side (behind side d tick x gone) m
+
+module _ {A C : Type 0} (grew : A → List Event → A → Type 0) (pre : C → Edge → Type 0) (post : C → Edge → ℤ → Type 0) (side : Side) (d : Document) (tick : ℤ) (n : SentCounts)
+    (left : List Leaving) (x : Doings) where
+  abbrev pub none_are_told : (m : UnitMeter C) (w : Way) (a : A) → Waits d side tick (tick +ℤ pos 1) n left w → grew a [] a → HasDoings pre post d side x m
+      → AreTold grew pre post side d tick n left x m w w a a
+  none_are_told m w a waits none made =
+      record { gone = []; parts = refl; waits = waits; heard = subst (λ (es : List Event). grew a es a) (sym (none_told side [])) none; made = made }
+
+  module _ (more : (a b c : A) (first second : List Event) → grew a first b → grew b second c → grew a (first ++ second) c) (f : Landed) (m : UnitMeter C)
+      (old before now : Way) (a b : A) (so_far : AreTold grew pre post side d tick n left x m old before a b) (next : IsLanded d side tick n left f before now) where
+    abbrev first : List Event
+    first = told_of_all side d tick x so_far.gone
+
+    abbrev then_has : Doings
+    then_has = behind side d tick x so_far.gone
+
+    abbrev here : List Event
+    here = told_of_one side d tick then_has (bytes_of f)
+
+    abbrev later : List Event
+    later = told_of_all side d tick (behind_one side d tick then_has (bytes_of f)) (coming_at d tick now)
+
+    -- where it is in the list of all
+    pub all_about : coming_at d tick old ≡ so_far.gone ++ arrival_at tick (bytes_of f) ∷ coming_at d tick now
+    all_about = so_far.parts ∙ ap (λ (xs : List Arrival). so_far.gone ++ xs) next.first
+
+    -- so there is one
+    pub some_comes : ((y : Arrival) (ys : List Arrival) → coming_at d tick old ≡ y ∷ ys → pos 0 ≤ℤ tick) → pos 0 ≤ℤ tick
+    some_comes late = go so_far.gone all_about
+      where
+        go : (gone : List Arrival) → coming_at d tick old ≡ gone ++ arrival_at tick (bytes_of f) ∷ coming_at d tick now → pos 0 ≤ℤ tick
+        go [] is = late _ _ is
+        go (y ∷ ys) is = late y _ is
+
+    -- one more was told
+    abbrev pub one_more_told : (k : UnitMeter C) (e : A) → grew b here e → HasDoings pre post d side (behind_one side d tick then_has (bytes_of f)) k
+        → AreTold grew pre post side d tick n left x k old now a e
+    one_more_told k e heard made =
+        let y = arrival_at tick (bytes_of f) in
+        let told = told-append side d tick x so_far.gone (y ∷ [])
+        ∙ ap (λ (es : List Event). first ++ es) (told_one side (behind_one side d tick then_has (bytes_of f)).results [] y) in
+        record {
+          gone = so_far.gone ++ y ∷ [];
+          parts = all_about ∙ sym (append_assoc so_far.gone (y ∷ []) (coming_at d tick now));
+          waits = next.waits;
+          heard = subst (λ (es : List Event). grew a es e) (sym told) (more a b e first here so_far.heard heard);
+          made = subst (λ (z : Doings). HasDoings pre post d side z k) (sym (with_frames-append (compensation_of d side) tick x so_far.gone (y ∷ []))) made;
+        }
+
+    all_told : first ++ (here ++ later) ≡ told_of_all side d tick x (coming_at d tick old)
+    all_told =
+        let y = arrival_at tick (bytes_of f) in
+        let has = behind_one side d tick then_has (bytes_of f) in
+        sym (ap (told_of_all side d tick x) all_about ∙ told-append side d tick x so_far.gone (y ∷ coming_at d tick now)
+        ∙ ap (λ (es : List Event). first ++ es) (told_next side has.results (results_of (compensation_of d side) tick has (coming_at d tick now)) y (coming_at d tick now)))
+
+    -- the air stopped in the next one, or in a delay of it
+    pub stops_next : (stopped : A → Event → A → Type 0) (step : List Event → Type 0) (earlier : List Event) (e : A)
+        → StopsBehind grew stopped step (earlier ++ first) here b e → StopsBehind grew stopped step earlier (told_of_all side d tick x (coming_at d tick old)) a e
+    stops_next stopped step earlier e s =
+        subst (λ (es : List Event). StopsBehind grew stopped step earlier es a e) all_told
+        (stops_behind grew stopped more step earlier first (here ++ later) a b e so_far.heard (stops_ahead grew stopped step (earlier ++ first) here later b e s))
+
+    pub halts_next : (stopped : A → Event → A → Type 0) (step : List Event → Type 0) (earlier : List Event) (e : A)
+        → HaltsBehind grew stopped step (earlier ++ first) here b e → HaltsBehind grew stopped step earlier (told_of_all side d tick x (coming_at d tick old)) a e
+    halts_next stopped step earlier e s =
+        subst (λ (es : List Event). HaltsBehind grew stopped step earlier es a e) all_told
+        (halts_behind grew stopped more step earlier first (here ++ later) a b e so_far.heard (halts_ahead grew stopped step (earlier ++ first) here later b e s))
+
+  -- none is left
+  pub all_are_gone : (m : UnitMeter C) (old before now : Way) (a b : A) → (so_far : AreTold grew pre post side d tick n left x m old before a b) → IsTickOver d side tick n left before now
+      → so_far.gone ≡ coming_at d tick old
+  all_are_gone m old before now a b so_far over =
+      sym (so_far.parts ∙ ap (λ (xs : List Arrival). so_far.gone ++ xs) over.none ∙ append-nil so_far.gone)
+
+-- ---- the radio unit has taken them
 
 -- some of those that come at a tick have landed, and the rest is on its way
 pub record Lands {A C : Type 0} (grew : A → List Event → A → Type 0) (pre : C → Edge → Type 0) (post : C → Edge → ℤ → Type 0) (d : Document) (tick : ℤ) (n : SentCounts)
     (left : List Leaving) (x : Doings) (u v : Ru) (m : UnitMeter C) (old now : Way) (before after : A) : Type 0 where
-  pub gone : List Arrival
-  pub parts : coming_at d tick old ≡ gone ++ coming_at d tick now
-  pub waits : WaitsToLand d tick n left now
-  pub heard : grew before (told_of_frames d tick x gone) after
-  pub stands : (c : Config) (h : History) → StandsFor c u h → StandsFor c v (landed h gone)
-  pub made : HasDoings pre post d AtRu (with_frames (compensation_of d AtRu) tick x gone) m
+  pub told : AreTold grew pre post AtRu d tick n left x m old now before after
+  pub stands : (c : Config) (h : History) → StandsFor c u h → StandsFor c v (ru_landed h told.gone)
 
-module _ {A C : Type 0} (grew : A → List Event → A → Type 0) (pre : C → Edge → Type 0) (post : C → Edge → ℤ → Type 0) (d : Document) (tick : Ticks) (n : SentCounts) (left : List Leaving) (x : Doings) where
-  pub lands_none : (u : Ru) (w : Way) (m : UnitMeter C) (a : A) → MayLand pre post d tick.0 n left x w m → grew a [] a → Lands grew pre post d tick.0 n left x u u m w w a a
-  lands_none u w m a may none = record {
-    gone = [];
-    parts = refl;
-    waits = may.waits;
-    heard = subst (λ (es : List Event). grew a es a) (sym (none_told AtRu [])) none;
-    stands = λ c h stands. subst (StandsFor c u) (sym (landed_none h)) stands;
-    made = may.doings;
-  }
+pub landed_none : (h : History) → ru_landed h [] ≡ h
+landed_none h = ap (with_arrivals h) (onto_none h.arrivals)
 
-  module _ (more : (a b c : A) (first second : List Event) → grew a first b → grew b second c → grew a (first ++ second) c) (f : Landed) (u v w : Ru) (m k : UnitMeter C)
-      (old before now : Way) (a b e : A) (so_far : Lands grew pre post d tick.0 n left x u v m old before a b) (next : IsLanded d AtRu tick.0 n left f before now) where
-    abbrev then_has : Doings
-    then_has = behind d tick.0 x so_far.gone
+landed_next : (h : History) (xs : List Arrival) (frame : List ℕ) → arrived (ru_landed h xs) frame ≡ ru_landed h (xs ++ arrival_at h.clock frame ∷ [])
+unfolding onto
+landed_next h xs frame = ap (with_arrivals h) (sym (onto-append h.arrivals xs (arrival_at h.clock frame ∷ [])))
 
-    -- where it is in the list of all
-    all_about : coming_at d tick.0 old ≡ so_far.gone ++ arrival_at tick.0 (bytes_of f) ∷ coming_at d tick.0 now
-    all_about = so_far.parts ∙ ap (λ (xs : List Arrival). so_far.gone ++ xs) next.first
+-- one more was taken
+pub one_more_landed : (c : Config) (h : History) (u w : Ru) (tick : ℤ) (gone : List Arrival) (frame : List ℕ) → u.clock.0 ≡ tick → StandsFor c u h
+    → StandsFor c w (arrived (ru_landed h gone) frame) → StandsFor c w (ru_landed h (gone ++ arrival_at tick frame ∷ []))
+one_more_landed c h u w tick gone frame clock stands delivered =
+    let at_clock : h.clock ≡ tick = sym stands.kept.clock_is ∙ clock in
+    subst (StandsFor c w) (landed_next h gone frame ∙ ap (λ (t : ℤ). ru_landed h (gone ++ arrival_at t frame ∷ [])) at_clock) delivered
 
-    -- so there is one
-    pub some_comes : (late : (y : Arrival) (ys : List Arrival) → coming_at d tick.0 old ≡ y ∷ ys → pos 0 ≤ℤ tick.0) → pos 0 ≤ℤ tick.0
-    some_comes late = go so_far.gone all_about
-      where
-        go : (gone : List Arrival) → coming_at d tick.0 old ≡ gone ++ arrival_at tick.0 (bytes_of f) ∷ coming_at d tick.0 now → pos 0 ≤ℤ tick.0
-        go [] is = late _ _ is
-        go (y ∷ ys) is = late y _ is
+module _ {A C : Type 0} (grew : A → List Event → A → Type 0) (pre : C → Edge → Type 0) (post : C → Edge → ℤ → Type 0) (d : Document) (tick : ℤ) (n : SentCounts) (left : List Leaving) (x : Doings) where
+  module _ (more : (a b c : A) (first second : List Event) → grew a first b → grew b second c → grew a (first ++ second) c) (f : Landed) (m : UnitMeter C)
+      (old before now : Way) (a b : A) (so_far : AreTold grew pre post AtRu d tick n left x m old before a b) (next : IsLanded d AtRu tick n left f before now)
+      (c : Config) (h : History) (w : Ru) where
+    abbrev gone_first : List Event
+    gone_first = told_of_all AtRu d tick x so_far.gone
 
-    pub lands_next : u.clock ≡ tick → grew b (told_of_frame d tick.0 then_has (bytes_of f)) e
-        → ((c : Config) (h : History) → StandsFor c v h → StandsFor c w (arrived h (bytes_of f)))
-        → HasDoings pre post d AtRu (with_frame (compensation_of d AtRu) tick.0 then_has (bytes_of f)) k
-        → Lands grew pre post d tick.0 n left x u w k old now a e
-    lands_next clock one delivered made =
-        let y = arrival_at tick.0 (bytes_of f) in
-        record {
-          gone = so_far.gone ++ y ∷ [];
-          parts = all_about ∙ sym (append_assoc so_far.gone (y ∷ []) (coming_at d tick.0 now));
-          waits = next.waits;
-          heard = subst (λ (es : List Event). grew a es e) (sym (told_more d tick.0 x so_far.gone (bytes_of f)))
-              (more a b e (told_of_frames d tick.0 x so_far.gone) (told_of_frame d tick.0 then_has (bytes_of f)) so_far.heard one);
-          stands = λ c h stands.
-              let at_clock : h.clock ≡ tick.0 = sym stands.kept.clock_is ∙ ap (λ (t : Ticks). t.0) clock in
-              subst (StandsFor c w) (landed_next h so_far.gone (bytes_of f) ∙ ap (λ (t : ℤ). landed h (so_far.gone ++ arrival_at t (bytes_of f) ∷ [])) at_clock)
-              (delivered c (landed h so_far.gone) (so_far.stands c h stands));
-          made = subst (λ (z : Doings). HasDoings pre post d AtRu z k) (sym (with_frames-append (compensation_of d AtRu) tick.0 x so_far.gone (y ∷ []))) made;
-        }
+    abbrev gone_then : List Event
+    gone_then = told_of_one AtRu d tick (behind AtRu d tick x so_far.gone) (bytes_of f)
 
     -- what was taken of this frame was taken behind those before it
-    taken_behind : (c : Config) (h : History) (told : List Event) → HasTaken c (landed h so_far.gone) w told → HasTaken c h w (told_of_frames d tick.0 x so_far.gone ++ told)
-    taken_behind c h told taken =
-        let first = told_of_frames d tick.0 x so_far.gone in
+    taken_behind : (told : List Event) → HasTaken c (ru_landed h so_far.gone) w told → HasTaken c h w (gone_first ++ told)
+    taken_behind told taken =
         subst (λ (xs : List Arrival). StandsFor c w (with_arrivals h xs))
-        (ap (λ (earlier : List Arrival). arrivals_heard AtRu earlier told) (sym (arrivals-own AtRu h.arrivals _ so_far.gone)) ∙ sym (arrivals-append AtRu h.arrivals first told)) taken
+        (ap (λ (earlier : List Arrival). arrivals_heard AtRu earlier told) (sym (arrivals-own AtRu h.arrivals _ so_far.gone)) ∙ sym (arrivals-append AtRu h.arrivals gone_first told)) taken
 
-    abbrev later : List Event
-    later = told_of_frames d tick.0 (behind d tick.0 then_has (arrival_at tick.0 (bytes_of f) ∷ [])) (coming_at d tick.0 now)
+    -- the air stopped in it, or in a delay of it
+    pub stops_here : (stopped : A → Event → A → Type 0) (e : A) → StopsBehind grew stopped (HasTaken c (ru_landed h so_far.gone) w) [] gone_then b e
+        → StopsBehind grew stopped (HasTaken c h w) [] (told_of_all AtRu d tick x (coming_at d tick old)) a e
+    stops_here stopped e s =
+        stops_next grew pre post AtRu d tick n left x more f m old before now a b so_far next stopped (HasTaken c h w) [] e
+        (stops_moved grew stopped (HasTaken c (ru_landed h so_far.gone) w) (HasTaken c h w) [] gone_first gone_then b e (λ told rest is taken. taken_behind told taken) s)
 
-    all_told : told_of_frames d tick.0 x so_far.gone ++ (told_of_frame d tick.0 then_has (bytes_of f) ++ later) ≡ told_of_frames d tick.0 x (coming_at d tick.0 old)
-    all_told = sym (ap (told_of_frames d tick.0 x) all_about ∙ told_about d tick.0 x so_far.gone (bytes_of f) (coming_at d tick.0 now))
-
-    -- the air stopped in the next one, or in a delay of it
-    pub stops_here : (stopped : A → Event → A → Type 0) (c : Config) (h : History)
-        → StopsBehind grew stopped (HasTaken c (landed h so_far.gone) w) [] (told_of_frame d tick.0 then_has (bytes_of f)) b e
-        → StopsBehind grew stopped (HasTaken c h w) [] (told_of_frames d tick.0 x (coming_at d tick.0 old)) a e
-    stops_here stopped c h s =
-        let first = told_of_frames d tick.0 x so_far.gone in
-        let here = told_of_frame d tick.0 then_has (bytes_of f) in
-        subst (λ (es : List Event). StopsBehind grew stopped (HasTaken c h w) [] es a e) all_told
-        (stops_behind grew stopped more (HasTaken c h w) [] first (here ++ later) a b e so_far.heard
-        (stops_ahead grew stopped (HasTaken c h w) first here later b e
-        (stops_moved grew stopped (HasTaken c (landed h so_far.gone) w) (HasTaken c h w) [] first here b e (λ told rest is taken. taken_behind c h told taken) s)))
-
-    pub halts_here : (stopped : A → Event → A → Type 0) (c : Config) (h : History)
-        → HaltsBehind grew stopped (HasTaken c (landed h so_far.gone) w) [] (told_of_frame d tick.0 then_has (bytes_of f)) b e
-        → HaltsBehind grew stopped (HasTaken c h w) [] (told_of_frames d tick.0 x (coming_at d tick.0 old)) a e
-    halts_here stopped c h s =
-        let first = told_of_frames d tick.0 x so_far.gone in
-        let here = told_of_frame d tick.0 then_has (bytes_of f) in
-        subst (λ (es : List Event). HaltsBehind grew stopped (HasTaken c h w) [] es a e) all_told
-        (halts_behind grew stopped more (HasTaken c h w) [] first (here ++ later) a b e so_far.heard
-        (halts_ahead grew stopped (HasTaken c h w) first here later b e
-        (halts_moved grew stopped (HasTaken c (landed h so_far.gone) w) (HasTaken c h w) [] first here b e (λ told rest is taken. taken_behind c h told taken) s)))
+    pub halts_here : (stopped : A → Event → A → Type 0) (e : A) → HaltsBehind grew stopped (HasTaken c (ru_landed h so_far.gone) w) [] gone_then b e
+        → HaltsBehind grew stopped (HasTaken c h w) [] (told_of_all AtRu d tick x (coming_at d tick old)) a e
+    halts_here stopped e s =
+        halts_next grew pre post AtRu d tick n left x more f m old before now a b so_far next stopped (HasTaken c h w) [] e
+        (halts_moved grew stopped (HasTaken c (ru_landed h so_far.gone) w) (HasTaken c h w) [] gone_first gone_then b e (λ told rest is taken. taken_behind told taken) s)
 
   -- none is left
-  pub all_landed : (u v : Ru) (m : UnitMeter C) (old before now : Way) (a b : A) → Lands grew pre post d tick.0 n left x u v m old before a b → IsOver d AtRu tick.0 n left before now
-      → HaveLanded grew pre post d tick.0 n left x u v m old now a b
+  pub all_landed : (u v : Ru) (m : UnitMeter C) (old before now : Way) (a b : A) → Lands grew pre post d tick n left x u v m old before a b → IsTickOver d AtRu tick n left before now
+      → HaveLanded grew pre post d tick n left x u v m old now a b
   all_landed u v m old before now a b so_far over =
-      let all = sym (so_far.parts ∙ ap (λ (xs : List Arrival). so_far.gone ++ xs) over.none ∙ append-nil so_far.gone) in
+      let all = all_are_gone grew pre post AtRu d tick n left x m old before now a b so_far.told over in
       record {
-        heard = subst (λ (xs : List Arrival). grew a (told_of_frames d tick.0 x xs) b) all so_far.heard;
-        stands = λ c h stands. subst (λ (xs : List Arrival). StandsFor c v (landed h xs)) all (so_far.stands c h stands);
-        made = subst (λ (xs : List Arrival). HasDoings pre post d AtRu (with_frames (compensation_of d AtRu) tick.0 x xs) m) all so_far.made;
+        heard = subst (λ (xs : List Arrival). grew a (told_of_all AtRu d tick x xs) b) all so_far.told.heard;
+        stands = λ c h stands. subst (λ (xs : List Arrival). StandsFor c v (ru_landed h xs)) all (so_far.stands c h stands);
+        made = subst (λ (xs : List Arrival). HasDoings pre post d AtRu (behind AtRu d tick x xs) m) all so_far.told.made;
         waits = over.waits;
       }

@@ -12,7 +12,7 @@ use Rattle.du_scheduler.specs.frame_order.proofs.TurnOrder.{own, same_turn}
 use Rattle.du_scheduler.specs.plan_model.specs.Sent.{SentFrame}
 use Rattle.du_scheduler.specs.window_config.specs.declared.config.Config.{Config}
 use Rattle.du_scheduler.specs.window_config.specs.declared.plan.PlanLine.{PlanLine}
-use Rattle.du_scheduler.specs.sent_order.proofs.CountLemmas.{times-append}
+use Rattle.du_scheduler.specs.frame_order.proofs.Left.{times-append}
 
 -- a list with one of its frames taken out
 record TakenOut (t : Turn) (whole : List Turn) : Type 0 where

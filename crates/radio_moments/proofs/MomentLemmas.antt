@@ -14,20 +14,21 @@ use Rattle.measured_moments.specs.measured_traffic.specs.Replayed.{begun, doings
 use Rattle.measured_moments.specs.replay_events.specs.Events.{arrivals_told}
 use Rattle.measured_moments.specs.replay_events.specs.Moments.{end_of_time, landing_at}
 use Rattle.measured_moments.specs.replay_events.specs.Passing.{IsCalm, IsNextMoment, IsUnitMoment}
-use Rattle.measured_moments.specs.ru_buffers.proofs.QuietLemmas.{left_less}
+use Rattle.measured_moments.specs.ru_buffers.specs.radio_laws.proofs.QuietLemmas.{left_less}
 use Rattle.measured_moments.specs.ru_buffers.specs.Calls.{HasGivenPast, IsQuietTo, StandsFor}
-use Rattle.measured_moments.specs.ru_buffers.specs.Reporting.{due_of}
+use Rattle.measured_moments.specs.ru_buffers.specs.radio_laws.specs.Reporting.{due_of}
 use Rattle.measured_moments.specs.ru_buffers.specs.declared.unit.Ru.{Ru}
 use Rattle.du_scheduler.specs.unit_model.specs.Lists.{onto}
 use Rattle.du_scheduler.specs.unit_model.specs.Meetings.{Arrival}
 use Rattle.du_scheduler.specs.unit_model.specs.Standing.{History, at_clock, heard}
-use Rattle.measured_moments.specs.replay_events.specs.history_laws.proofs.TickLemmas.{at_most, last_before, last_order}
+use Rattle.measured_moments.specs.replay_events.specs.history_laws.proofs.TickLemmas.{last_before, last_order}
 use Rattle.radio_moments.specs.Downlink.{HasSent}
-use Rattle.radio_moments.specs.Landing.{MayLand, landed, told_of_frames}
+use Rattle.radio_moments.specs.Landing.{MayLand, ru_landed, told_of_frames}
 use Rattle.radio_moments.specs.Turns.{AtRadioTurn, HasRadioLanded, IsRadioTurn, radio_events}
 use Rattle.radio_moments.specs.declared.downlink.Downlink.{Downlink}
 use Rattle.radio_moments.proofs.DownLemmas.{lands_late, left_then, waits_to_land}
 use Rattle.radio_moments.proofs.TurnLemmas.{due_here, has_landed, quiet_less, skip, unit_moment}
+use Rattle.fh_time.proofs.Orders.{at_most}
 
 -- ---- before the next moment
 
@@ -81,10 +82,10 @@ heard_then d tick h xs doc turn ended lands =
     ap₂ (λ (cs : List AirCell) (ys : List Arrival). map Cell cs ++ told_of_frames d tick (begun_at d tick) ys) (due_here d tick h doc turn ended) lands
 
 pub landed_then : (d : Document) (tick : ℤ) (u v : Ru) (xs : List Arrival) → IsReplayable d → (a : AtRadioTurn d tick u) → tick ≤ℤ end_of_time → xs ≡ landing_at (landings_for AtRu d) tick
-    → StandsFor d.config v (landed (reported_then d tick a.history) xs) → HasRadioLanded d tick v
+    → StandsFor d.config v (ru_landed (reported_then d tick a.history) xs) → HasRadioLanded d tick v
 landed_then d tick u v xs doc a ended lands stands =
     let h = a.history in
-    let k = landed (reported_then d tick h) xs in
+    let k = ru_landed (reported_then d tick h) xs in
     record {
       history = k;
       stands = stands;

@@ -2,6 +2,7 @@
 use Rattle.std.proofs.Common.{◌≡◌, ℤ, pos, ◌+ℤ◌, ◌≤ℤ◌, ◌<ℤ◌, List, [], ◌∷◌, Option, Some, None, sym, subst}
 use Rattle.std.specs.Prelude.{map}
 use Rattle.std.proofs.lemmas.List.Elements.{All-cons, All-head, All-nil}
+use Rattle.std.proofs.lemmas.Option.{same_Some}
 use Rattle.fh_time.specs.declared.values.Ticks.{Ticks}
 use Rattle.du_scheduler.specs.Plans.{HasToSend, IsPlan}
 use Rattle.du_scheduler.specs.declared.plans.Plan.{Plan}
@@ -17,9 +18,6 @@ use Rattle.radio_moments.specs.Downlink.{AreSentFrom, SendsNoneTo}
 use Rattle.radio_moments.proofs.OrderLemmas.{first_is_least, sent_less}
 
 -- ---- when a plan sends next
-
-pub some_same : {X : Type 0} {x y : X} → Some x ≡ Some y → x ≡ y
-some_same e = cc e
 
 -- of the frames that a plan has still to send the first one is sent first
 pub first_sends : (p : Plan) (o : Option Ticks) → IsPlan p → ((c : Config) (lines : List PlanLine) (left : List SentFrame) → HasToSend c lines left p → o ≡ first_time (map turn_of left))
@@ -38,11 +36,11 @@ first_sends p (Some t) plan is = record {
         → AreSentFrom (to +ℤ pos 1) left
     later to c lines [] h lt e = All-nil _
     later to c lines (f ∷ left) h lt e =
-        let same : t ≡ record { 0 = f.at } = some_same e in
+        let same : t ≡ record { 0 = f.at } = same_Some _ _ e in
         let order = next_after to f.at (subst (λ (x : Ticks). to <ℤ x.0) same lt) in
         All-cons (λ (g : SentFrame). (to +ℤ pos 1) ≤ℤ g.at) f left order (sent_less (to +ℤ pos 1) f.at left order (first_is_least c lines p f left h))
 
     here : (left : List SentFrame) → Some t ≡ first_time (map turn_of left) → AreSentFrom (t.0 +ℤ pos 1) left → ⊥
     here [] e from = absurd (cc e)
     here (f ∷ left) e from =
-        not_past t.0 (subst (λ (x : Ticks). (t.0 +ℤ pos 1) ≤ℤ x.0) (sym (some_same e)) (All-head (λ (g : SentFrame). (t.0 +ℤ pos 1) ≤ℤ g.at) f left from))
+        not_past t.0 (subst (λ (x : Ticks). (t.0 +ℤ pos 1) ≤ℤ x.0) (sym (same_Some _ _ e)) (All-head (λ (g : SentFrame). (t.0 +ℤ pos 1) ≤ℤ g.at) f left from))

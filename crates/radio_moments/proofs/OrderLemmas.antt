@@ -23,9 +23,9 @@ use Rattle.du_scheduler.specs.unit_model.specs.Times.{end_of_time}
 use Rattle.du_scheduler.specs.unit_model.proofs.SweepLaws.{gap_is}
 use Rattle.du_scheduler.specs.window_config.specs.declared.config.Config.{Config}
 use Rattle.du_scheduler.specs.window_config.specs.declared.plan.PlanLine.{PlanLine}
-use Rattle.measured_moments.specs.replay_events.specs.history_laws.proofs.TickLemmas.{at_most}
 use Rattle.du_scheduler.specs.plan_model.proofs.ListLemmas.{in_right, of_filter, all_of}
 use Rattle.radio_moments.specs.Downlink.{AreSentFrom}
+use Rattle.fh_time.proofs.Orders.{at_most}
 
 -- ---- each is sent at a time that is gone over
 

@@ -3,13 +3,15 @@ use Rattle.std.proofs.Common.{◌≡◌, ◌≢◌, ℕ, ℤ, pos, ◌+ℤ◌, �
 use Rattle.std.specs.Prelude.{map}
 use Rattle.std.proofs.lemmas.List.Elements.{All-cons, All-head, All-nil, All-tail}
 use Rattle.std.specs.Int.Signed.{≤ℤ_refl}
+use Rattle.std.proofs.lemmas.Option.{same_Some}
 use Rattle.air_source.specs.declared.events.Side.TheVariants.{Ru as AtRu}
 use Rattle.air_source.specs.declared.places.RePlace.{RePlace}
 use Rattle.bfp_codec.specs.declared.samples.Wide.{Wide}
 use Rattle.measured_moments.specs.document_traffic.proofs.ShortLemmas.{are_short}
 use Rattle.measured_moments.specs.document_traffic.specs.Landing.{leaving_to}
 use Rattle.measured_moments.specs.document_traffic.specs.Sending.{Leaving, class_of, counted, leaving_of, sent_for}
-use Rattle.du_scheduler.specs.Plans.{Gives, HasToSend, Leaves, plane_of}
+use Rattle.du_scheduler.proofs.PlanLemmas.{same_rest}
+use Rattle.du_scheduler.specs.Plans.{GivesSent, HasToSend, LeavesPlan, plane_of}
 use Rattle.du_scheduler.specs.declared.plans.Plan.{Plan}
 use Rattle.du_scheduler.specs.declared.plans.Sent.{Sent}
 use Rattle.measured_moments.specs.fh_document.specs.Proper.{IsDocument}
@@ -24,6 +26,7 @@ use Rattle.measured_moments.specs.frame_ways.specs.declared.way.Way.{Way}
 use Rattle.measured_moments.specs.measured_traffic.proofs.LeaveLemmas.{first_leaves}
 use Rattle.measured_moments.specs.measured_traffic.specs.Measured.{exchanges}
 use Rattle.measured_moments.specs.measured_traffic.specs.Replayed.{leaving_with}
+use Rattle.du_scheduler.specs.plan_model.proofs.TickLemmas.{next_tick}
 use Rattle.du_scheduler.specs.plan_model.specs.Sent.{SentFrame}
 use Rattle.du_scheduler.specs.plan_model.specs.declared.streams.Stream.{Stream}
 use Rattle.du_scheduler.specs.plan_model.specs.declared.streams.Stream.TheVariants.{DownCommands, DownData, UpCommands, UpData}
@@ -31,12 +34,10 @@ use Rattle.measured_moments.specs.replay_events.specs.Moments.{end_of_time}
 use Rattle.du_scheduler.specs.schedule_laws.proofs.ListLemmas.{in_all, in_map}
 use Rattle.du_scheduler.specs.sent_order.specs.Runs.{turn_of}
 use Rattle.measured_moments.specs.tone_source.specs.Tones.{tone_of}
-use Rattle.measured_moments.specs.frame_ways.proofs.LandLemmas.{not_here}
-use Rattle.radio_moments.specs.Downlink.{AreSentFrom, HasSent, HasSentNext, MaySend, MaySendNext, WaitsDown, class_for}
+use Rattle.radio_moments.specs.Downlink.{AreSentFrom, HasSent, HasSentNext, MaySendDown, MaySendNext, WaitsDown, class_for}
 use Rattle.radio_moments.specs.declared.downlink.Downlink.{Downlink}
 use Rattle.radio_moments.proofs.MeasureLemmas.{frames_left, left_is}
 use Rattle.radio_moments.proofs.OrderLemmas.{IsSentTime, first_is_least, is_sent, sent_less, sent_time}
-use Rattle.radio_moments.proofs.NextLemmas.{some_same}
 
 -- ---- the frame that a plan gave
 
@@ -57,8 +58,8 @@ pub record IsGiven (d : Document) (now : ℤ) (w : Downlink) (s : Sent) (left : 
   pub time : IsSentTime s.at.0
   pub short : length s.bytes.now < 2 ^ 32
 
-pub is_given : {post : RePlace → Wide → Type 0} (d : Document) (now : ℤ) (w : Downlink) (s : Sent) → (m : MaySend post d now w)
-    → Gives d.config (tone_of d.source) m.waits.left (Some s) → IsGiven d now w s m.waits.left
+pub is_given : {post : RePlace → Wide → Type 0} (d : Document) (now : ℤ) (w : Downlink) (s : Sent) → (m : MaySendDown post d now w)
+    → GivesSent d.config (tone_of d.source) m.waits.left (Some s) → IsGiven d now w s m.waits.left
 is_given d now w s m gives =
     let f = gives.0 in
     let plan = m.waits.plan in
@@ -77,14 +78,11 @@ is_given d now w s m gives =
     }
 
 -- the way's document is the one that may be replayed
-pub way_document : {post : RePlace → Wide → Type 0} (d : Document) (now : ℤ) (w : Downlink) → MaySend post d now w → IsDocument (document_of w.way)
+pub way_document : {post : RePlace → Wide → Type 0} (d : Document) (now : ℤ) (w : Downlink) → MaySendDown post d now w → IsDocument (document_of w.way)
 way_document d now w m = subst IsDocument (sym m.waits.way.document) m.document.document
 
-same_rest : {X : Type 0} (x y : X) (xs ys : List X) → x ∷ xs ≡ y ∷ ys → xs ≡ ys
-same_rest x y xs ys e = cc e
-
 first_at : (f : SentFrame) (rest : List SentFrame) (tick : Ticks) → first_time (map turn_of (f ∷ rest)) ≡ Some tick → f.at ≡ tick.0
-first_at f rest tick is = ap (λ (t : Ticks). t.0) (some_same is)
+first_at f rest tick is = ap (λ (t : Ticks). t.0) (same_Some _ _ is)
 
 -- it leaves now, and is the next that leaves for the radio unit
 module _ {post : RePlace → Wide → Type 0} (d : Document) (now : ℤ) (w : Downlink) (s : Sent) (m : MaySendNext post d now w) (g : IsGiven d now w s m.may.waits.left) where
@@ -107,11 +105,11 @@ module _ {post : RePlace → Wide → Type 0} (d : Document) (now : ℤ) (w : Do
       ∙ first_leaves fs now (leaving_of d g.frame) (map (leaving_of d) g.rest) leaves_now ended) waits.way
 
   -- it went out, and its copies are on their way
-  pub has_sent_next : (p : Plan) (r : Option Sent) (way : Way) (pool : Pool) → r ≡ Some s → Leaves w.plan p r
+  pub has_sent_next : (p : Plan) (r : Option Sent) (way : Way) (pool : Pool) → r ≡ Some s → LeavesPlan w.plan p r
       → Waits d AtRu now now (counted (class_of g.frame.stream) m.may.waits.counts) left_behind way → HasSentNext d now w (record { plan = p; way = way; pool = pool })
   has_sent_next p r way pool some leaves gone =
       let waits = m.may.waits in
-      let then = subst (Leaves {X = Sent} w.plan p) some leaves d.config d.plan waits.left waits.plan in
+      let then = subst (LeavesPlan {X = Sent} w.plan p) some leaves d.config d.plan waits.left waits.plan in
       let rest : then.1 ≡ g.rest = same_rest then.0 g.frame then.1 g.rest (sym then.2 ∙ g.is) in
       record {
         waits = record {
@@ -122,16 +120,16 @@ module _ {post : RePlace → Wide → Type 0} (d : Document) (now : ℤ) (w : Do
           way = gone;
         };
         next = λ x xs h.
-            let after = subst (Leaves {X = Sent} w.plan p) some leaves d.config d.plan (x ∷ xs) h in
+            let after = subst (LeavesPlan {X = Sent} w.plan p) some leaves d.config d.plan (x ∷ xs) h in
             subst (λ (ys : List SentFrame). HasToSend d.config d.plan ys p) (sym (same_rest x after.0 xs after.1 after.2)) after.3;
       }
 
 -- there was none
-pub has_none : {post : RePlace → Wide → Type 0} (d : Document) (now : ℤ) (w : Downlink) (p : Plan) (r : Option Sent) → (m : MaySend post d now w) → r ≡ None → Leaves w.plan p r
+pub has_none : {post : RePlace → Wide → Type 0} (d : Document) (now : ℤ) (w : Downlink) (p : Plan) (r : Option Sent) → (m : MaySendDown post d now w) → r ≡ None → LeavesPlan w.plan p r
     → HasSentNext d now w (record { plan = p; way = w.way; pool = w.pool })
 has_none d now w p r m none leaves =
     let waits = m.waits in
-    let over = subst (Leaves {X = Sent} w.plan p) none leaves d.config d.plan waits.left waits.plan in
+    let over = subst (LeavesPlan {X = Sent} w.plan p) none leaves d.config d.plan waits.left waits.plan in
     record {
       waits = record {
         counts = waits.counts;
@@ -140,17 +138,17 @@ has_none d now w p r m none leaves =
         later = waits.later;
         way = waits.way;
       };
-      next = λ x xs h. absurd (cc (subst (Leaves {X = Sent} w.plan p) none leaves d.config d.plan (x ∷ xs) h).0);
+      next = λ x xs h. absurd (cc (subst (LeavesPlan {X = Sent} w.plan p) none leaves d.config d.plan (x ∷ xs) h).0);
     }
 
 -- ---- all of a tick
 
 -- the next frame leaves at the tick
-pub may_send_next : {post : RePlace → Wide → Type 0} (d : Document) (tick : Ticks) (w : Downlink) → MaySend post d tick.0 w
+pub may_send_next : {post : RePlace → Wide → Type 0} (d : Document) (tick : Ticks) (w : Downlink) → MaySendDown post d tick.0 w
     → ((f : SentFrame) (rest : List SentFrame) → HasToSend d.config d.plan (f ∷ rest) w.plan → first_time (map turn_of (f ∷ rest)) ≡ Some tick) → MaySendNext post d tick.0 w
 may_send_next d tick w m leaves = record { may = m; first = λ f rest h. first_at f rest tick (leaves f rest h) }
 
-pub still_may : {post : RePlace → Wide → Type 0} (d : Document) (now : ℤ) (old new : Downlink) → MaySend post d now old → WaitsDown d now new → MaySend post d now new
+pub still_may : {post : RePlace → Wide → Type 0} (d : Document) (now : ℤ) (old new : Downlink) → MaySendDown post d now old → WaitsDown d now new → MaySendDown post d now new
 still_may d now old new m waits = record { document = m.document; tone = m.tone; waits = waits }
 
 -- one frame fewer is left
@@ -176,7 +174,7 @@ none_left_at d tick w waits other = go waits.left refl
     go (f ∷ rest) e =
         let later = All-head (λ (g : SentFrame). tick.0 ≤ℤ g.at) f rest (subst (AreSentFrom tick.0) e waits.later) in
         let differs : f.at ≢ tick.0 = λ same. other (ap (λ (xs : List SentFrame). first_time (map turn_of xs)) e ∙ ap (λ (z : ℤ). Some (let k : Ticks = record { 0 = z } in k)) same) in
-        let first = not_here tick.0 f.at later differs in
+        let first = next_tick tick.0 f.at later differs in
         let plan = subst (λ (xs : List SentFrame). HasToSend d.config d.plan xs w.plan) e waits.plan in
         All-cons (λ (g : SentFrame). (tick.0 +ℤ pos 1) ≤ℤ g.at) f rest first (sent_less (tick.0 +ℤ pos 1) f.at rest first (first_is_least d.config d.plan w.plan f rest plan))
 

@@ -12,14 +12,14 @@ use Rattle.measured_moments.specs.measured_traffic.specs.Replayed.{traffic_of}
 use Rattle.measured_moments.specs.replay_events.proofs.EventLemmas.{events_go_on}
 use Rattle.measured_moments.specs.replay_events.proofs.HeardLemmas.{AreOf, arrivals-append, cells-append, tick_of_side}
 use Rattle.measured_moments.specs.replay_events.proofs.ToldLemmas.{told_all}
-use Rattle.measured_moments.specs.replay_events.specs.Events.{arrivals_at, cells_at, events_at, start_of}
+use Rattle.measured_moments.specs.replay_events.specs.Events.{arrivals_at, cells_reported_at, events_at, start_of}
 use Rattle.measured_moments.specs.replay_events.specs.Heard.{arrivals_heard, cells_heard, is_of}
 use Rattle.measured_moments.specs.replay_events.specs.Moments.{all_arrivals, landing_at}
 use Rattle.measured_moments.specs.replay_events.specs.Traffic.{known_at, landings_at}
 use Rattle.measured_moments.specs.ru_buffers.specs.declared.unit.Ru.{Ru}
 use Rattle.du_scheduler.specs.unit_model.specs.Meetings.{Arrival}
 use Rattle.du_scheduler.specs.unit_model.specs.Radiated.{first_clock}
-use Rattle.radio_moments.specs.Turns.{AtRadioTurn, HasRadioLanded, IsRadioInStep, events_before, intake_events, radio_events}
+use Rattle.radio_moments.specs.Turns.{AtRadioTurn, IsRadioInStep, events_before, intake_events, radio_events}
 
 -- ---- events of one unit
 
@@ -33,12 +33,13 @@ unit_of (event.Count side counter value) = side
 abbrev pub AreEventsOf : Side → List Event → Type 0
 AreEventsOf side es = All (λ e. unit_of e ≡ side) es
 
--- the first of them are of the unit too
+-- what holds of all holds of the first of them
+pub all_front : {X : Type 0} (P : X → Type 0) (xs ys : List X) → All P (xs ++ ys) → All P xs
+all_front P [] ys h = All-nil P
+all_front P (x ∷ xs) ys h = All-cons P x xs (All-head P x (xs ++ ys) h) (all_front P xs ys (All-tail P x (xs ++ ys) h))
+
 pub events_front : (side : Side) (xs ys : List Event) → AreEventsOf side (xs ++ ys) → AreEventsOf side xs
-events_front side [] ys h = All-nil (λ (e : Event). unit_of e ≡ side)
-events_front side (x ∷ xs) ys h =
-    let P = λ (e : Event). unit_of e ≡ side in
-    All-cons P x xs (All-head P x (xs ++ ys) h) (events_front side xs ys (All-tail P x (xs ++ ys) h))
+events_front side xs ys h = all_front (λ (e : Event). unit_of e ≡ side) xs ys h
 
 cells_of : (side : Side) (cs : List AirCell) → AreOf side cs → AreEventsOf side (map event.Cell cs)
 cells_of side [] h = All-nil (λ (e : Event). unit_of e ≡ side)
@@ -51,7 +52,7 @@ arrivals_of side d tick =
     let t = traffic_of d in told_all (λ (e : Event). unit_of e ≡ side) side (λ a. refl) (λ at r. refl) (t.results side tick) (landing_at (landings_at side t) tick)
 
 -- a unit's cells of a tick are its own
-pub cells_own : (side : Side) (d : Document) (tick : ℤ) → AreOf side (cells_at side d.config (traffic_of d) tick)
+pub cells_own : (side : Side) (d : Document) (tick : ℤ) → AreOf side (cells_reported_at side d.config (traffic_of d) tick)
 cells_own side d tick =
     let t = traffic_of d in
     tick_of_side side (known_at side d.config t.planned (all_arrivals (landings_at side t))) d.config.endpoints (start_of side d.config.delays tick)
@@ -59,12 +60,12 @@ cells_own side d tick =
 -- so each of the two parts of a tick's events is one unit's
 pub radio_own : (d : Document) (tick : ℤ) → AreEventsOf AtRu (radio_events d tick)
 radio_own d tick =
-    All-append (λ (e : Event). unit_of e ≡ AtRu) (map event.Cell (cells_at AtRu d.config (traffic_of d) tick)) (arrivals_at AtRu (traffic_of d) tick)
+    All-append (λ (e : Event). unit_of e ≡ AtRu) (map event.Cell (cells_reported_at AtRu d.config (traffic_of d) tick)) (arrivals_at AtRu (traffic_of d) tick)
     (cells_of AtRu _ (cells_own AtRu d tick)) (arrivals_of AtRu d tick)
 
 pub intake_own : (d : Document) (tick : ℤ) → AreEventsOf AtDu (intake_events d tick)
 intake_own d tick =
-    All-append (λ (e : Event). unit_of e ≡ AtDu) (arrivals_at AtDu (traffic_of d) tick) (map event.Cell (cells_at AtDu d.config (traffic_of d) tick))
+    All-append (λ (e : Event). unit_of e ≡ AtDu) (arrivals_at AtDu (traffic_of d) tick) (map event.Cell (cells_reported_at AtDu d.config (traffic_of d) tick))
     (arrivals_of AtDu d tick) (cells_of AtDu _ (cells_own AtDu d tick))
 
 -- ---- what one unit's events leave of what was heard of the other
@@ -124,16 +125,13 @@ step_stays d told more u all step = record {
 pub turn_step : (d : Document) (now : ℤ) (u : Ru) → AtRadioTurn d now u → IsRadioInStep d (events_before d now) u
 turn_step d now u a = record { history = a.history; stands = a.stands; arrivals = a.turn.came; reported = a.turn.told }
 
-pub landed_step : (d : Document) (tick : ℤ) (u : Ru) → HasRadioLanded d tick u → IsRadioInStep d (events_before d tick ++ radio_events d tick) u
-landed_step d tick u a = record { history = a.history; stands = a.stands; arrivals = a.landed.came; reported = a.landed.told }
-
 -- ---- the events of a tick
 
 -- first the radio unit's, and then the distributed unit's
 pub tick_events : (d : Document) (tick : ℤ) → events_at d.config (traffic_of d) tick ≡ radio_events d tick ++ intake_events d tick
 unfolding events_at
 tick_events d tick =
-    sym (append_assoc (map event.Cell (cells_at AtRu d.config (traffic_of d) tick)) (arrivals_at AtRu (traffic_of d) tick) (intake_events d tick))
+    sym (append_assoc (map event.Cell (cells_reported_at AtRu d.config (traffic_of d) tick)) (arrivals_at AtRu (traffic_of d) tick) (intake_events d tick))
 
 -- those before the next tick are those before the tick, and those of the tick
 pub next_events : (d : Document) (tick : ℤ) → first_clock ≤ℤ tick → events_before d (tick +ℤ pos 1) ≡ events_before d tick ++ (radio_events d tick ++ intake_events d tick)

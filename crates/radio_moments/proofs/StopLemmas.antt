@@ -2,7 +2,6 @@
 use Rattle.std.proofs.Common.{◌≡◌, ℤ, ◌≤ℤ◌, List, [], ◌∷◌, ◌++◌, inl, inr, refl, sym, ap, ap₂, ◌∙◌, append_assoc, append-nil, subst}
 use Rattle.std.specs.Prelude.{map}
 use Rattle.std.proofs.lemmas.List.{map-append}
-use Rattle.std.proofs.lemmas.List.Elements.{All-nil, All-cons, All-head, All-tail}
 use Rattle.air_source.specs.declared.events.AirCell.{AirCell}
 use Rattle.air_source.specs.declared.events.Event.{Event}
 use Rattle.air_source.specs.declared.events.Event.TheVariants.{Cell}
@@ -16,7 +15,7 @@ use Rattle.measured_moments.specs.replay_events.specs.Events.{arrivals_told}
 use Rattle.measured_moments.specs.replay_events.specs.Heard.{arrivals_heard, cells_heard}
 use Rattle.measured_moments.specs.replay_events.specs.Moments.{end_of_time, landing_at}
 use Rattle.measured_moments.specs.ru_buffers.specs.Calls.{StandsFor, StopsAtDue}
-use Rattle.measured_moments.specs.ru_buffers.specs.Reporting.{due_of}
+use Rattle.measured_moments.specs.ru_buffers.specs.radio_laws.specs.Reporting.{due_of}
 use Rattle.measured_moments.specs.ru_buffers.specs.declared.unit.Ru.{Ru}
 use Rattle.du_scheduler.specs.unit_model.specs.Meetings.{Arrival}
 use Rattle.du_scheduler.specs.unit_model.specs.Reports.{ru_known}
@@ -25,6 +24,7 @@ use Rattle.measured_moments.specs.replay_events.specs.history_laws.proofs.ListLe
 use Rattle.radio_moments.specs.Landing.{HasTaken, having_heard, told_of_frames}
 use Rattle.radio_moments.specs.Stops.{HaltsBehind, RestsBehind, StopsBehind}
 use Rattle.radio_moments.specs.Turns.{IsRadioInStep, IsRadioTurn, events_before, radio_events}
+use Rattle.radio_moments.proofs.StepLemmas.{all_front}
 use Rattle.radio_moments.proofs.TurnLemmas.{due_here}
 
 -- ---- any events
@@ -123,22 +123,6 @@ module _ {A : Type 0} (grew : A → List Event → A → Type 0) (stopped : A �
   halts_moved step other earlier before events a e also (inl s) = inl (stops_moved step other earlier before events a e also s)
   halts_moved step other earlier before events a e also (inr s) = inr (rests_moved step other earlier before events a e also s)
 
-  -- so where it is told which of the events were
-  pub stops_in_step : (step other : List Event → Type 0) (earlier events : List Event) (a e : A)
-      → ((told rest : List Event) → events ≡ told ++ rest → step (earlier ++ told) → other (earlier ++ told))
-      → StopsBehind grew stopped step earlier events a e → StopsBehind grew stopped other earlier events a e
-  stops_in_step step other earlier events a e also s = stops_moved step other earlier earlier events a e also s
-
-  pub rests_in_step : (step other : List Event → Type 0) (earlier events : List Event) (a e : A)
-      → ((told rest : List Event) → events ≡ told ++ rest → step (earlier ++ told) → other (earlier ++ told))
-      → RestsBehind grew step earlier events a e → RestsBehind grew other earlier events a e
-  rests_in_step step other earlier events a e also s = rests_moved step other earlier earlier events a e also s
-
-  pub halts_in_step : (step other : List Event → Type 0) (earlier events : List Event) (a e : A)
-      → ((told rest : List Event) → events ≡ told ++ rest → step (earlier ++ told) → other (earlier ++ told))
-      → HaltsBehind grew stopped step earlier events a e → HaltsBehind grew stopped other earlier events a e
-  halts_in_step step other earlier events a e also s = halts_moved step other earlier earlier events a e also s
-
 -- ---- the radio unit's cells
 
 -- the unit is in step with the events before a tick and with those of it that were heard
@@ -164,11 +148,6 @@ cells_about before now c rest more is =
 due_own : (d : Document) (tick : ℤ) (h : History) → AreOf AtRu (due_of d.config h tick)
 due_own d tick h = due_of_side AtRu d.config.delays d.config.endpoints (ru_known d.config h.arrivals) h.reported tick
 
-front_own : (xs ys : List AirCell) → AreOf AtRu (xs ++ ys) → AreOf AtRu xs
-front_own [] ys h = All-nil (λ (a : AirCell). a.side ≡ AtRu)
-front_own (x ∷ xs) ys h =
-    let P = λ (a : AirCell). a.side ≡ AtRu in All-cons P x xs (All-head P x (xs ++ ys) h) (front_own xs ys (All-tail P x (xs ++ ys) h))
-
 -- what has arrived and was reported before a tick, with some cells of the tick behind it
 arrived_before : (d : Document) (tick : ℤ) (h : History) (cs : List AirCell) → IsRadioTurn d tick h → h.arrivals ≡ arrivals_heard AtRu [] (events_before d tick ++ map Cell cs)
 arrived_before d tick h cs turn =
@@ -193,6 +172,7 @@ pub stops_due : {A : Type 0} (grew : A → List Event → A → Type 0) (stopped
     → StopsBehind grew stopped (InStep d u) (events_before d tick) (radio_events d tick) a b
 stops_due grew stopped d tick h u a b doc turn ended s =
     let more = told_at d tick in
+    let own = all_front (λ (a : AirCell). a.side ≡ AtRu) s.told (s.cell ∷ s.rest) (subst (AreOf AtRu) s.is (due_own d tick h)) in
     record {
       told = map Cell s.told;
       event = Cell s.cell;
@@ -201,7 +181,7 @@ stops_due grew stopped d tick h u a b doc turn ended s =
       middle = s.middle;
       heard = s.heard_is;
       stop = s.stop;
-      step_is = cells_step d tick h (heard h s.told) s.told u turn (front_own s.told (s.cell ∷ s.rest) (subst (AreOf AtRu) s.is (due_own d tick h))) s.stands refl refl;
+      step_is = cells_step d tick h (heard h s.told) s.told u turn own s.stands refl refl;
     }
 
 -- memory ran out behind the cells

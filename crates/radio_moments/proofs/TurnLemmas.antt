@@ -1,5 +1,5 @@
 -- The radio unit from one tick to the next moment, and over it.
-use Rattle.std.proofs.Common.{◌≡◌, ℤ, pos, ◌+ℤ◌, ◌-ℤ◌, ◌≤ℤ◌, ◌<ℤ◌, List, [], ◌++◌, refl, sym, ap, ap₂, ◌∙◌, subst, arith, append-nil}
+use Rattle.std.proofs.Common.{◌≡◌, ℤ, pos, ◌+ℤ◌, ◌-ℤ◌, ◌≤ℤ◌, ◌<ℤ◌, List, [], ◌++◌, sym, ap, ap₂, ◌∙◌, subst, arith, append-nil}
 use Rattle.std.specs.Prelude.{map}
 use Rattle.std.proofs.lemmas.Int.{ints}
 use Rattle.std.specs.Int.Signed.{≤ℤ_refl}
@@ -11,23 +11,22 @@ use Rattle.measured_moments.specs.document_traffic.specs.Laws.{IsReplayable}
 use Rattle.measured_moments.specs.fh_document.specs.declared.document.Document.{Document}
 use Rattle.measured_moments.specs.measured_traffic.proofs.ReplayedLemmas.{landings_are_replayed}
 use Rattle.measured_moments.specs.measured_traffic.specs.Replayed.{landings_for, results_at, traffic_of}
-use Rattle.measured_moments.specs.replay_events.proofs.AloneLemmas.{idle_without_plan}
 use Rattle.measured_moments.specs.replay_events.proofs.CameLemmas.{arrivals_go_on, calm_adds_nothing, none_yet}
 use Rattle.measured_moments.specs.replay_events.proofs.EventLemmas.{events_wait}
 use Rattle.measured_moments.specs.replay_events.proofs.HeardLemmas.{AreOf, arrivals-append, arrivals-cells, arrivals-none, arrivals-own, cells-append, cells-arrivals, cells-none, cells-own}
 use Rattle.measured_moments.specs.replay_events.proofs.MomentLemmas.{due_at_moment, reported_at_moment, reported_before_moment}
 use Rattle.measured_moments.specs.replay_events.proofs.TickLemmas.{no_ticks}
 use Rattle.measured_moments.specs.replay_events.proofs.ToldLemmas.{Results}
-use Rattle.measured_moments.specs.replay_events.specs.Alone.{IsDuIdle}
-use Rattle.measured_moments.specs.replay_events.specs.Events.{arrivals_told, cells_at, events_at}
+use Rattle.measured_moments.specs.replay_events.specs.Events.{arrivals_told, cells_reported_at, events_at}
 use Rattle.measured_moments.specs.replay_events.specs.Heard.{arrivals_heard, cells_heard}
 use Rattle.measured_moments.specs.replay_events.specs.Moments.{arrivals_before, end_of_time, landing_at}
-use Rattle.measured_moments.specs.replay_events.specs.Passing.{IsCalm, IsNextMoment, IsUnitMoment, due_from}
-use Rattle.measured_moments.specs.replay_events.specs.Traffic.{Traffic}
-use Rattle.measured_moments.specs.ru_buffers.proofs.QuietLemmas.{left_less, sweep_less}
+use Rattle.measured_moments.specs.replay_events.specs.Passing.{AreLandings, IsCalm, IsNextMoment, IsUnitMoment, due_from}
+use Rattle.measured_moments.specs.replay_events.specs.Traffic.{known_at, landings_at}
+use Rattle.measured_moments.specs.replay_events.specs.unit_laws.proofs.DueLemmas.{all_is_due, due_in_pieces}
+use Rattle.measured_moments.specs.ru_buffers.specs.radio_laws.proofs.QuietLemmas.{left_less, sweep_less}
 use Rattle.measured_moments.specs.ru_buffers.specs.Calls.{IsQuietTo, StandsFor}
-use Rattle.measured_moments.specs.ru_buffers.specs.Reporting.{due_of}
-use Rattle.measured_moments.specs.ru_buffers.specs.Units.{left_up_to}
+use Rattle.measured_moments.specs.ru_buffers.specs.radio_laws.specs.Reporting.{due_of}
+use Rattle.measured_moments.specs.ru_buffers.specs.radio_laws.specs.Units.{left_up_to}
 use Rattle.measured_moments.specs.ru_buffers.specs.declared.unit.Ru.{Ru}
 use Rattle.measured_moments.specs.ru_jobs.specs.declared.cursor.JobCursor.{JobCursor}
 use Rattle.measured_moments.specs.unit_cells.specs.Cells.{CellsValue}
@@ -41,26 +40,25 @@ use Rattle.measured_moments.specs.uplink_turns.proofs.GivenLemmas.{owes_none}
 use Rattle.measured_moments.specs.uplink_turns.proofs.JobLemmas.{no_jobs_before}
 use Rattle.measured_moments.specs.uplink_turns.specs.Given.{HasSeen}
 use Rattle.measured_moments.specs.uplink_turns.specs.Turns.{jobs_until}
+use Rattle.du_scheduler.specs.window_config.specs.Configs.{IsConfig}
 use Rattle.du_scheduler.specs.window_config.specs.declared.config.Config.{Config}
 use Rattle.du_scheduler.specs.window_config.specs.declared.delays.Delays.{Delays}
 use Rattle.du_scheduler.specs.window_config.specs.declared.endpoints.EndpointConfig.{EndpointConfig}
-use Rattle.measured_moments.specs.replay_events.specs.history_laws.proofs.TickLemmas.{at_most, last_is_earlier, last_reached, before_it, clock_begins}
+use Rattle.measured_moments.specs.replay_events.specs.history_laws.proofs.TickLemmas.{last_is_earlier, last_reached, clock_begins}
 use Rattle.radio_moments.specs.Turns.{AtRadioTurn, IsRadioLanded, IsRadioTurn, events_before}
 use Rattle.radio_moments.proofs.StepLemmas.{cells_own}
+use Rattle.fh_time.proofs.Orders.{at_most, before_it, up_to}
 
 -- ---- what is quiet up to a time is quiet up to each earlier one
 
-pub waited_less : (a b w : ℤ) → a ≤ℤ b → ((a -ℤ w) +ℤ pos 1) ≤ℤ ((b -ℤ w) +ℤ pos 1)
-waited_less a b w h = omega (arith, ints)
-
-due_less : (d : Delays) (es : List EndpointConfig) (k : Known) (heard : List AirCell) (a b : ℤ) → a ≤ℤ b → due AtRu d es k heard b ≡ [] → due AtRu d es k heard a ≡ []
+pub due_less : (side : Side) (d : Delays) (es : List EndpointConfig) (k : Known) (heard : List AirCell) (a b : ℤ) → a ≤ℤ b → due side d es k heard b ≡ [] → due side d es k heard a ≡ []
 unfolding due
-due_less d es k heard a b order none =
-    sweep_less _ es (first_clock -ℤ wait_of AtRu d) ((a -ℤ wait_of AtRu d) +ℤ pos 1) ((b -ℤ wait_of AtRu d) +ℤ pos 1) (waited_less a b (wait_of AtRu d) order) none
+due_less side d es k heard a b order none =
+    let w = wait_of side d in sweep_less _ es (first_clock -ℤ w) ((a -ℤ w) +ℤ pos 1) ((b -ℤ w) +ℤ pos 1) (up_to a b w order) none
 
 pub quiet_less : (c : Config) (u : Ru) (h : History) (a b : ℤ) → StandsFor c u h → a ≤ℤ b → IsQuietTo c h b → IsQuietTo c h a
 quiet_less c u h a b stands order quiet = record {
-  cells = due_less c.delays c.endpoints (ru_known c h.arrivals) h.reported a b order quiet.cells;
+  cells = due_less AtRu c.delays c.endpoints (ru_known c h.arrivals) h.reported a b order quiet.cells;
   messages = sym (stands.kept.left a) ∙ left_less u.memory.cells u.cursor a b order (stands.kept.left b ∙ quiet.messages);
 }
 
@@ -111,35 +109,34 @@ skip d now tick h doc turn next quiet =
 
 -- ---- the moment itself
 
--- the radio unit's part of what lands, which is all that its cells rest on
-abbrev radio_alone : Document → Traffic
-radio_alone d = record { at_ru = landings_for AtRu d; planned = []; at_du = []; results = λ side tick. []; counted = λ side. [] }
+-- what was reported up to a time is due no more
+told_not_due : (side : Side) (c : Config) (k : Known) (to : ℤ) → IsConfig c → due side c.delays c.endpoints k (reported side c.delays c.endpoints k to) to ≡ []
+told_not_due side c k to config =
+    let told = reported side c.delays c.endpoints k to in
+    due_in_pieces side c.delays c.endpoints k [] told [] to config.endpoints.differ (all_is_due side c.delays c.endpoints k to ∙ sym (append-nil told))
 
-alone_idle : (d : Document) → IsDuIdle d.config (radio_alone d)
-alone_idle d = idle_without_plan d.config (radio_alone d) refl refl refl
+pub lands_in_time : (side : Side) (d : Document) → IsReplayable d → AreLandings (landings_at side (traffic_of d))
+lands_in_time AtRu d doc = landings_are_replayed d AtRu doc
+lands_in_time AtDu d doc = landings_are_replayed d AtDu doc
 
-alone_unit : (d : Document) (tick : ℤ) (h : History) → IsReplayable d → IsRadioTurn d tick h → (side : Side) → IsUnitMoment side d.config (radio_alone d) tick tick
-alone_unit d tick h doc turn AtRu = record {
-  landings_are = landings_are_replayed d AtRu doc;
-  calm = λ t low high. absurd (omega (arith, ints, low, high));
-  quiet = due_same d tick h turn (tick -ℤ pos 1) ∙ turn.quiet.cells;
-}
-alone_unit d tick h doc turn AtDu =
-    let idle = alone_idle d in
-    record { landings_are = idle.landings_are; calm = λ t low high. idle.calm t; quiet = idle.quiet (arrivals_before [] tick) _ (tick -ℤ pos 1) }
+unit_here : (side : Side) (d : Document) (tick : ℤ) → IsReplayable d → IsUnitMoment side d.config (traffic_of d) tick tick
+unit_here side d tick doc =
+    let t = traffic_of d in
+    record {
+      landings_are = lands_in_time side d doc;
+      calm = λ u low high. absurd (omega (arith, ints));
+      quiet = told_not_due side d.config (known_at side d.config t.planned (arrivals_before (landings_at side t) tick)) (tick -ℤ pos 1) doc.document.config;
+    }
 
-here : (d : Document) (tick : ℤ) (h : History) → IsReplayable d → IsRadioTurn d tick h → IsNextMoment d.config (radio_alone d) tick tick
-here d tick h doc turn = record {
-  config = doc.document.config;
-  begun = turn.begun;
-  order = ≤ℤ_refl tick;
-  ended = turn.ended;
-  units = λ side. alone_unit d tick h doc turn side;
-}
+-- a tick is a moment of its own
+pub moment_here : (d : Document) (tick : ℤ) → IsReplayable d → first_clock ≤ℤ tick → tick ≤ℤ (end_of_time +ℤ pos 1) → IsNextMoment d.config (traffic_of d) tick tick
+moment_here d tick doc begun ended =
+    record { config = doc.document.config; begun = begun; order = ≤ℤ_refl tick; ended = ended; units = λ side. unit_here side d tick doc }
 
 -- the cells that are due then are those of the tick
-pub due_here : (d : Document) (tick : ℤ) (h : History) → IsReplayable d → IsRadioTurn d tick h → tick ≤ℤ end_of_time → due_of d.config h tick ≡ cells_at AtRu d.config (traffic_of d) tick
-due_here d tick h doc turn ended = sym (due_same d tick h turn tick) ∙ due_at_moment AtRu d.config (radio_alone d) tick tick (here d tick h doc turn) ended
+pub due_here : (d : Document) (tick : ℤ) (h : History) → IsReplayable d → IsRadioTurn d tick h → tick ≤ℤ end_of_time → due_of d.config h tick ≡ cells_reported_at AtRu d.config (traffic_of d) tick
+due_here d tick h doc turn ended =
+    sym (due_same d tick h turn tick) ∙ due_at_moment AtRu d.config (traffic_of d) tick tick (moment_here d tick doc turn.begun turn.ended) ended
 
 -- ---- what was heard
 
@@ -173,18 +170,18 @@ cells_then d tick h cs rs xs own turn =
 
 -- once the cells of the tick were reported, and its frames have landed
 pub has_landed : (d : Document) (tick : ℤ) (h k : History) → IsReplayable d → IsRadioTurn d tick h → tick ≤ℤ end_of_time → k.clock ≡ tick
-    → k.arrivals ≡ onto h.arrivals (landing_at (landings_for AtRu d) tick) → k.reported ≡ h.reported ++ cells_at AtRu d.config (traffic_of d) tick → k.given ≡ h.given → IsRadioLanded d tick k
+    → k.arrivals ≡ onto h.arrivals (landing_at (landings_for AtRu d) tick) → k.reported ≡ h.reported ++ cells_reported_at AtRu d.config (traffic_of d) tick → k.given ≡ h.given → IsRadioLanded d tick k
 has_landed d tick h k doc turn ended clock came told given =
     let c = d.config in
     let ls = landings_for AtRu d in
-    let cells = cells_at AtRu c (traffic_of d) tick in
+    let cells = cells_reported_at AtRu c (traffic_of d) tick in
     record {
       begun = turn.begun;
       ended = ended;
       clock = clock;
       arrivals = came ∙ ap (λ (e : List Arrival). onto e (landing_at ls tick)) turn.arrivals ∙ sym (arrivals_go_on ls tick turn.begun);
       reported =
-          told ∙ ap (λ (rs : List AirCell). rs ++ cells) turn.reported ∙ reported_at_moment AtRu c (radio_alone d) tick tick (here d tick h doc turn) ended;
+          told ∙ ap (λ (rs : List AirCell). rs ++ cells) turn.reported ∙ reported_at_moment AtRu c (traffic_of d) tick tick (moment_here d tick doc turn.begun turn.ended) ended;
       given = given ∙ turn.given;
       came = came ∙ arrivals_then d tick h cells (results_at d AtRu tick) (landing_at ls tick) turn;
       told = told ∙ cells_then d tick h cells (results_at d AtRu tick) (landing_at ls tick) (cells_own AtRu d tick) turn;
@@ -200,13 +197,13 @@ none_left : (v : CellsValue) (cursor : JobCursor) → left_up_to v cursor (first
 unfolding left_up_to
 none_left v cursor = sweep_quiet _ _ first_clock ((first_clock -ℤ pos 1) +ℤ pos 1) (λ t low high. absurd (omega (arith, ints)))
 
-pub none_waits : (w t : ℤ) → (first_clock -ℤ w) ≤ℤ t → t <ℤ (((first_clock -ℤ pos 1) -ℤ w) +ℤ pos 1) → ⊥
+none_waits : (w t : ℤ) → (first_clock -ℤ w) ≤ℤ t → t <ℤ (((first_clock -ℤ pos 1) -ℤ w) +ℤ pos 1) → ⊥
 none_waits w t low high = omega (arith, ints)
 
-none_reported : (d : Delays) (es : List EndpointConfig) (k : Known) → reported AtRu d es k (first_clock -ℤ pos 1) ≡ []
+pub none_reported : (side : Side) (d : Delays) (es : List EndpointConfig) (k : Known) → reported side d es k (first_clock -ℤ pos 1) ≡ []
 unfolding reported
-none_reported d es k =
-    sweep_quiet _ es (first_clock -ℤ wait_of AtRu d) (((first_clock -ℤ pos 1) -ℤ wait_of AtRu d) +ℤ pos 1) (λ t low high. absurd (none_waits (wait_of AtRu d) t low high))
+none_reported side d es k =
+    let w = wait_of side d in sweep_quiet _ es (first_clock -ℤ w) (((first_clock -ℤ pos 1) -ℤ w) +ℤ pos 1) (λ t low high. absurd (none_waits w t low high))
 
 start : (d : Document) (u : Ru) → StandsFor d.config u nothing_yet → IsRadioTurn d first_clock nothing_yet
 start d u stands =
@@ -216,9 +213,9 @@ start d u stands =
       begun = ≤ℤ_refl first_clock;
       ended = clock_begins;
       arrivals = sym (none_yet ls first_clock (≤ℤ_refl first_clock));
-      reported = sym (none_reported c.delays c.endpoints (ru_known c (arrivals_before ls first_clock)));
+      reported = sym (none_reported AtRu c.delays c.endpoints (ru_known c (arrivals_before ls first_clock)));
       quiet = record {
-        cells = due_less c.delays c.endpoints (ru_known c []) [] (first_clock -ℤ pos 1) first_clock (last_is_earlier first_clock) stands.kept.past;
+        cells = due_less AtRu c.delays c.endpoints (ru_known c []) [] (first_clock -ℤ pos 1) first_clock (last_is_earlier first_clock) stands.kept.past;
         messages = sym (stands.kept.left (first_clock -ℤ pos 1)) ∙ none_left u.memory.cells u.cursor;
       };
       given = sym (no_jobs_before c ls (first_clock -ℤ pos 1) (before_it first_clock));

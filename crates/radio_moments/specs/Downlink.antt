@@ -6,7 +6,7 @@ use Rattle.air_source.specs.declared.places.RePlace.{RePlace}
 use Rattle.bfp_codec.specs.declared.samples.Wide.{Wide}
 use Rattle.measured_moments.specs.document_traffic.specs.Laws.{IsReplayable}
 use Rattle.measured_moments.specs.document_traffic.specs.Sending.{SentCounts, leaving_of}
-use Rattle.du_scheduler.specs.Plans.{HasToSend}
+use Rattle.du_scheduler.specs.Plans.{HasToSend, IsPlan}
 use Rattle.du_scheduler.specs.declared.plans.Plan.{Plan}
 use Rattle.du_scheduler.specs.declared.plans.Plane.{Plane}
 use Rattle.du_scheduler.specs.declared.plans.Plane.TheVariants.{C as OfC, U as OfU}
@@ -22,6 +22,10 @@ use Rattle.du_scheduler.specs.window_config.specs.declared.plan.PlanLine.{PlanLi
 use Rattle.radio_moments.specs.declared.downlink.Downlink.{Downlink}
 
 -- ---- frames that the plan has still to send
+
+-- it sends the frames of a plan
+abbrev pub HasPlan : Downlink → Type 0
+HasPlan w = IsPlan w.plan
 
 -- the class of the frames of a plane
 abbrev pub class_for : Plane → Class3
@@ -53,14 +57,14 @@ pub record WaitsDown (d : Document) (now : ℤ) (w : Downlink) : Type 0 where
 -- ---- the frames of a tick go out
 
 -- the plan may be asked for its frames, where the samples are those of the document's source
-pub record MaySend (post : RePlace → Wide → Type 0) (d : Document) (now : ℤ) (w : Downlink) : Type 0 where
+pub record MaySendDown (post : RePlace → Wide → Type 0) (d : Document) (now : ℤ) (w : Downlink) : Type 0 where
   pub document : IsReplayable d
   pub tone : AnswersBy post (tone_of d.source)
   pub waits : WaitsDown d now w
 
 -- and the next of them, if there is one, leaves then
 pub record MaySendNext (post : RePlace → Wide → Type 0) (d : Document) (now : ℤ) (w : Downlink) : Type 0 where
-  pub may : MaySend post d now w
+  pub may : MaySendDown post d now w
   pub first : (f : SentFrame) (rest : List SentFrame) → HasToSend d.config d.plan (f ∷ rest) w.plan → f.at ≡ now
 
 -- the next frame of the plan went out

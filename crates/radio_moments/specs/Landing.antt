@@ -35,8 +35,8 @@ told_of_frames d tick x xs = arrivals_told AtRu (results_of (compensation_of d A
 -- ---- what the unit stands for
 
 -- a history once these landed too
-abbrev pub landed : History → List Arrival → History
-landed h landings = record { clock = h.clock; arrivals = onto h.arrivals landings; reported = h.reported; given = h.given }
+abbrev pub ru_landed : History → List Arrival → History
+ru_landed h landings = record { clock = h.clock; arrivals = onto h.arrivals landings; reported = h.reported; given = h.given }
 
 -- a history with the frames of which these events tell
 abbrev pub having_heard : History → List Event → History
@@ -64,6 +64,6 @@ pub record MayLand {C : Type 0} (pre : C → Edge → Type 0) (post : C → Edge
 pub record HaveLanded {A C : Type 0} (grew : A → List Event → A → Type 0) (pre : C → Edge → Type 0) (post : C → Edge → ℤ → Type 0) (d : Document) (tick : ℤ) (n : SentCounts)
     (left : List Leaving) (x : Doings) (u v : Ru) (m : UnitMeter C) (old new : Way) (before after : A) : Type 0 where
   pub heard : grew before (told_of_frames d tick x (coming_at d tick old)) after
-  pub stands : (c : Config) (h : History) → StandsFor c u h → StandsFor c v (landed h (coming_at d tick old))
+  pub stands : (c : Config) (h : History) → StandsFor c u h → StandsFor c v (ru_landed h (coming_at d tick old))
   pub made : HasDoings pre post d AtRu (with_frames (compensation_of d AtRu) tick x (coming_at d tick old)) m
   pub waits : Waits d AtRu (tick +ℤ pos 1) (tick +ℤ pos 1) n left new

@@ -5,10 +5,10 @@ use Rattle.air_source.specs.declared.events.Event.TheVariants.{Cell}
 use Rattle.air_source.specs.declared.events.Side.TheVariants.{Ru as AtRu, Du as AtDu}
 use Rattle.measured_moments.specs.measured_traffic.specs.Replayed.{landings_for, traffic_of}
 use Rattle.measured_moments.specs.fh_document.specs.declared.document.Document.{Document}
-use Rattle.measured_moments.specs.replay_events.specs.Events.{arrivals_at, cells_at, events_between}
+use Rattle.measured_moments.specs.replay_events.specs.Events.{arrivals_at, cells_reported_at, events_between}
 use Rattle.measured_moments.specs.replay_events.specs.Heard.{arrivals_heard, cells_heard}
 use Rattle.measured_moments.specs.replay_events.specs.Moments.{arrivals_before, end_of_time}
-use Rattle.measured_moments.specs.ru_buffers.specs.Calls.{IsQuietTo, StandsFor}
+use Rattle.measured_moments.specs.ru_buffers.specs.Calls.{IsQuietTo, StandsFor, radio_clock}
 use Rattle.measured_moments.specs.ru_buffers.specs.declared.unit.Ru.{Ru}
 use Rattle.du_scheduler.specs.unit_model.specs.Radiated.{first_clock}
 use Rattle.du_scheduler.specs.unit_model.specs.Reports.{ru_reported}
@@ -23,11 +23,11 @@ events_before d now = events_between d.config (traffic_of d) first_clock now
 
 -- the radio unit's cells, and the frames that land at it, each with the delays that it makes known
 abbrev pub radio_events : Document → ℤ → List Event
-radio_events d tick = map Cell (cells_at AtRu d.config (traffic_of d) tick) ++ arrivals_at AtRu (traffic_of d) tick
+radio_events d tick = map Cell (cells_reported_at AtRu d.config (traffic_of d) tick) ++ arrivals_at AtRu (traffic_of d) tick
 
 -- the frames that land at the distributed unit, each with the delays that it makes known, and its cells
 abbrev pub intake_events : Document → ℤ → List Event
-intake_events d tick = arrivals_at AtDu (traffic_of d) tick ++ map Cell (cells_at AtDu d.config (traffic_of d) tick)
+intake_events d tick = arrivals_at AtDu (traffic_of d) tick ++ map Cell (cells_reported_at AtDu d.config (traffic_of d) tick)
 
 -- ---- in step with what was heard
 
@@ -55,7 +55,7 @@ pub record AtRadioTurn (d : Document) (now : ℤ) (u : Ru) : Type 0 where
   pub history : History
   pub stands : StandsFor d.config u history
   pub turn : IsRadioTurn d now history
-  pub clock : u.clock.0 ≤ℤ now
+  pub clock : (radio_clock u).0 ≤ℤ now
 
 -- ---- once its cells of a tick were reported and all of the tick has landed: its messages of the tick are not given yet
 

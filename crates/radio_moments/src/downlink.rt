@@ -2,10 +2,10 @@
 ghost use Rattle.std.specs.Prelude.{IfOk};
 ghost use Rattle.measured_moments.specs.document_traffic.specs.Laws.{IsReplayable};
 ghost use Rattle.measured_moments.specs.document_traffic.specs.Sending.{sent_for};
-ghost use Rattle.du_scheduler.specs.Plans.{HasToSend, IsPlan};
+ghost use Rattle.du_scheduler.specs.Plans.{HasToSend};
 ghost use Rattle.measured_moments.specs.ru_buffers.specs.Calls.{IsLeastOf};
 ghost use Rattle.du_scheduler.specs.unit_model.specs.Radiated.{first_clock};
-ghost use Rattle.radio_moments.specs.Downlink.{IsCalmTo, WaitsDown};
+ghost use Rattle.radio_moments.specs.Downlink.{HasPlan, IsCalmTo, WaitsDown};
 
 use air_source::Side;
 use delay_measure::Edge;
@@ -56,7 +56,7 @@ impl<'a> Downlink<'a> {
 
     /// The next time at which a frame is sent or lands. None where none is and none does.
     pub fn next_time(&self) -> Option<Ticks>
-        requires { IsPlan self.now.plan }
+        requires { HasPlan self.now }
         ensures { IsLeastOf (IsCalmTo self.now) result }
     {
         earlier_of(self.plan.next_time(), self.way.next_time())

@@ -20,7 +20,6 @@ ghost use Rattle.radio_moments.specs.Stops.{HaltsBehind, StopsBehind};
 
 use air_source::{Air, AirFault, Side};
 use delay_measure::Edge;
-use fh_base::NoMemory;
 use fh_time::Ticks;
 use frame_network::FramePool;
 use measured_moments::delay_exchange::UnitMeter;
@@ -57,12 +56,11 @@ fn hear<A: Air, C: Fn(Edge) -> i64>(
     ensures same { A.same out.old out.new }
     ensures cause { HasAirCause (A.faults out.old) (A.faults out.new) result }
 {
-    out.arrival(Side::Ru, at, frame.as_slice())?;
-    ru.deliver(frame.as_slice());
-    match meter.tell(at, frame.as_slice()) {
-        Ok(()) => tell_results(Side::Ru, at, meter.results(), out),
-        Err(NoMemory) => Err(AirFault::NoMemory),
-    }
+    let bytes = frame.as_slice();
+    out.arrival(Side::Ru, at, bytes)?;
+    ru.deliver(bytes);
+    meter.tell(at, bytes)?;
+    tell_results(Side::Ru, at, meter.results(), out)
 }
 
 /// Lets all frames land that come at a tick, which is the unit's clock: those that were sent, and behind them the document's.

@@ -20,7 +20,6 @@ use crate::sending::send;
 use air_source::{Air, AirFault, RePlace, Samples};
 use bfp_codec::Wide;
 use delay_measure::Edge;
-use fh_base::NoMemory;
 use fh_time::Ticks;
 use measured_moments::delay_exchange::UnitMeter;
 use measured_moments::fh_document::Document;
@@ -58,9 +57,6 @@ pub fn radio_moment<A: Air, F: Fn(RePlace) -> Wide, C: Fn(Edge) -> i64>(
     ensures cause { HasAirCause (A.faults out.old) (A.faults out.new) result }
 {
     ru.advance(tick, out)?;
-    match send(tick, du, downlink) {
-        Ok(()) => {}
-        Err(NoMemory) => return Err(AirFault::NoMemory),
-    }
+    send(tick, du, downlink)?;
     land(tick, ru, meter, &mut downlink.way, &mut downlink.pool, out)
 }

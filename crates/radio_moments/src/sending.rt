@@ -8,7 +8,7 @@ ghost use Rattle.du_scheduler.specs.plan_model.specs.Sent.{SentFrame};
 ghost use Rattle.du_scheduler.specs.sent_order.specs.Runs.{turn_of};
 ghost use Rattle.du_scheduler.specs.window_config.specs.declared.config.Config.{Config};
 ghost use Rattle.du_scheduler.specs.window_config.specs.declared.plan.PlanLine.{PlanLine};
-ghost use Rattle.radio_moments.specs.Downlink.{HasSent, HasSentNext, MaySend, MaySendNext, class_for};
+ghost use Rattle.radio_moments.specs.Downlink.{HasSent, HasSentNext, MaySendDown, MaySendNext, class_for};
 
 use crate::Downlink;
 use air_source::{RePlace, Samples};
@@ -67,8 +67,8 @@ pub(crate) fn send<F: Fn(RePlace) -> Wide>(
     downlink: &mut Downlink<'_>,
 ) -> Result<(), NoMemory>
     requires kept { IsKept F.pre F.post du.now }
-    requires some { (d : Document) × MaySend (F.post (closure_of du.now)) d tick.0 downlink.old }
-    ensures { (d : Document) → MaySend (F.post (closure_of du.now)) d tick.0 downlink.old → OnOk result (HasSent d tick.0 downlink.new) }
+    requires some { (d : Document) × MaySendDown (F.post (closure_of du.now)) d tick.0 downlink.old }
+    ensures { (d : Document) → MaySendDown (F.post (closure_of du.now)) d tick.0 downlink.old → OnOk result (HasSent d tick.0 downlink.new) }
 {
     while leaves_at(&downlink.plan, tick) {
         send_next(du, downlink)?;

@@ -28,13 +28,14 @@ use Rattle.history_laws.specs.unit_model.specs.declared.cells.Claim.{Claim}
 use Rattle.history_laws.specs.unit_model.proofs.CountLemmas.{nothing_counted}
 use Rattle.history_laws.specs.unit_laws.proofs.AheadLemmas.{unclaimed_reports_nothing}
 use Rattle.history_laws.specs.unit_laws.proofs.DueLemmas.{unheard}
-use Rattle.history_laws.specs.unit_laws.proofs.SweepLemmas.{sweep-nothing, tick-nothing}
+use Rattle.history_laws.specs.unit_laws.proofs.SweepLemmas.{tick-nothing}
 use Rattle.replay_events.specs.Alone.{IdleWithoutPlan, IsDuIdle}
-use Rattle.replay_events.specs.Events.{all_counted, arrivals_at, arrivals_told, cells_at, count_event, count_events, events_at, is_measured, number_of, start_of}
+use Rattle.replay_events.specs.Events.{all_counted, arrivals_at, arrivals_told, cells_reported_at, count_event, count_events, events_at, is_measured, number_of, start_of}
 use Rattle.replay_events.specs.Moments.{all_arrivals, arrivals_in, end_of_time, landing_at}
 use Rattle.replay_events.specs.Passing.{AreLandings}
 use Rattle.replay_events.specs.Traffic.{Traffic}
 use Rattle.replay_events.proofs.ToldLemmas.{none_told}
+use Rattle.history_laws.specs.unit_model.proofs.SweepLaws.{sweep_quiet as sweep-nothing}
 pub use Rattle.replay_events.proofs.ToldLemmas.{told_each}
 
 -- ---- of nothing
@@ -115,10 +116,10 @@ idle_without_plan c x none idle measured = record {
 }
 
 -- then a tick's events are the radio unit's
-pub events_alone : (c : Config) (x : Traffic) (tick : ℤ) → IsDuIdle c x → events_at c x tick ≡ map event.Cell (cells_at Ru c x tick) ++ arrivals_at Ru x tick
+pub events_alone : (c : Config) (x : Traffic) (tick : ℤ) → IsDuIdle c x → events_at c x tick ≡ map event.Cell (cells_reported_at Ru c x tick) ++ arrivals_at Ru x tick
 unfolding events_at
 events_alone c x tick idle =
-    let cells = map event.Cell (cells_at Ru c x tick) in
+    let cells = map event.Cell (cells_reported_at Ru c x tick) in
     let came = arrivals_at Ru x tick in
     ap₂ (λ (xs : List Event) (cs : List AirCell). cells ++ (came ++ (xs ++ map event.Cell cs))) (idle.arrivals tick) (idle.cells tick)
     ∙ ap (λ (xs : List Event). cells ++ xs) (append-nil came)

@@ -13,11 +13,12 @@ use Rattle.history_laws.specs.unit_model.specs.Proper.{IsTime}
 use Rattle.history_laws.specs.unit_model.specs.Radiated.{first_clock}
 use Rattle.history_laws.specs.unit_model.specs.Standing.{AreInTime}
 use Rattle.history_laws.specs.unit_model.proofs.SweepLaws.{gap_is, gap_none}
-use Rattle.history_laws.proofs.TickLemmas.{at_most, last_is_earlier, last_of_next, weak}
-use Rattle.history_laws.proofs.UnitLemmas.{in_time_later}
+use Rattle.history_laws.proofs.TickLemmas.{last_is_earlier, last_of_next}
 use Rattle.replay_events.specs.Moments.{arrivals_before, arrivals_in, landing_at}
 use Rattle.replay_events.specs.Passing.{AreLandings, ArrivalsAreInTime, ArrivalsGoOn, CalmAddsNothing, IsCalm}
 use Rattle.replay_events.proofs.TickLemmas.{between, next_gap}
+use Rattle.fh_time.proofs.Orders.{weak, at_most}
+use Rattle.history_laws.specs.unit_model.proofs.InTimeLemmas.{in_time_later}
 
 -- ---- one tick more
 

@@ -12,8 +12,8 @@ use Rattle.window_config.specs.declared.config.Config.{Config}
 use Rattle.history_laws.specs.unit_model.specs.Meetings.{Arrival}
 use Rattle.history_laws.specs.unit_model.specs.Radiated.{first_clock, symbol_report, wait_of}
 use Rattle.history_laws.specs.unit_model.specs.Sweeps.{at_tick}
-use Rattle.history_laws.proofs.TickLemmas.{at_most, before_next, last_of_next, next_after, next_is_later}
-use Rattle.replay_events.specs.Events.{arrivals_at, arrivals_told, cells_at, events_at, events_between}
+use Rattle.history_laws.proofs.TickLemmas.{before_next, last_of_next, next_after, next_is_later}
+use Rattle.replay_events.specs.Events.{arrivals_at, arrivals_told, cells_reported_at, events_at, events_between}
 use Rattle.replay_events.specs.Moments.{all_arrivals, arrivals_before, end_of_time}
 use Rattle.replay_events.specs.Passing.{AllIsOver, EventsGoOn, EventsWait, IsNextMoment, seen_before}
 use Rattle.replay_events.specs.Traffic.{Traffic, known_at, landings_at, reported_at}
@@ -21,6 +21,7 @@ use Rattle.replay_events.proofs.ToldLemmas.{none_told}
 use Rattle.replay_events.proofs.CameLemmas.{calm_adds_nothing, calm_in_part}
 use Rattle.replay_events.proofs.MomentLemmas.{calm_before, cells_settled, quiet_before, reported_before_moment, seen_by, seen_later}
 use Rattle.replay_events.proofs.TickLemmas.{no_ticks, tick_alone, tick_empty, ticks_append}
+use Rattle.fh_time.proofs.Orders.{at_most}
 
 pub events_go_on : EventsGoOn
 events_go_on c x tick begun =
@@ -35,7 +36,7 @@ waited_less : (a b wait : ℤ) → a <ℤ b → (a -ℤ wait) <ℤ (b -ℤ wait)
 waited_less a b wait h = omega (arith, ints)
 
 -- before the next moment a tick has no cells of a unit
-no_cells : (side : Side) (c : Config) (x : Traffic) (now tick t : ℤ) → IsNextMoment c x now tick → now ≤ℤ t → t <ℤ tick → cells_at side c x t ≡ []
+no_cells : (side : Side) (c : Config) (x : Traffic) (now tick t : ℤ) → IsNextMoment c x now tick → now ≤ℤ t → t <ℤ tick → cells_reported_at side c x t ≡ []
 no_cells side c x now tick t next low high =
     let es = c.endpoints in
     let landings = landings_at side x in
@@ -60,7 +61,7 @@ no_arrivals side c x now tick t next low high = ap (arrivals_told side (x.result
 no_events : (c : Config) (x : Traffic) (now tick t : ℤ) → IsNextMoment c x now tick → now ≤ℤ t → t <ℤ tick → events_at c x t ≡ []
 unfolding events_at
 no_events c x now tick t next low high =
-    ap₂ (λ (cs : List AirCell) (es : List Event). map event.Cell cs ++ (es ++ (arrivals_at Du x t ++ map event.Cell (cells_at Du c x t))))
+    ap₂ (λ (cs : List AirCell) (es : List Event). map event.Cell cs ++ (es ++ (arrivals_at Du x t ++ map event.Cell (cells_reported_at Du c x t))))
     (no_cells Ru c x now tick t next low high) (no_arrivals Ru c x now tick t next low high)
     ∙ ap₂ (λ (es : List Event) (cs : List AirCell). es ++ map event.Cell cs) (no_arrivals Du c x now tick t next low high) (no_cells Du c x now tick t next low high)
 

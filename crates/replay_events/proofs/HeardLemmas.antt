@@ -1,7 +1,7 @@
 -- What an air heard of each unit, among several events.
 use Rattle.std.proofs.Common.{◌≡◌, ℕ, ℤ, pos, ◌+ℤ◌, ◌-ℤ◌, Bool, true, false, List, [], ◌∷◌, ◌++◌, refl, sym, ap, ap₂, ◌∙◌}
 use Rattle.std.specs.Prelude.{All, ◌==◌, if◌then◌else◌, map}
-use Rattle.std.proofs.lemmas.List.Elements.{All-nil, All-cons, All-filter, All-head, All-tail}
+use Rattle.std.proofs.lemmas.List.Elements.{All-filter, All-head, All-tail}
 use Rattle.air_source.specs.declared.events.AirCell.{AirCell}
 use Rattle.air_source.specs.declared.events.Event.{Event}
 use Rattle.air_source.specs.declared.events.Event.TheVariants as event
@@ -18,7 +18,7 @@ use Rattle.history_laws.specs.unit_model.specs.Radiated.{Known, air_cell, cell_r
 use Rattle.history_laws.specs.unit_model.specs.Standing.{due, still_reported}
 use Rattle.history_laws.specs.unit_model.specs.Sweeps.{at_tick}
 use Rattle.history_laws.specs.unit_laws.proofs.DifferLemmas.{all_kept}
-use Rattle.history_laws.specs.unit_laws.proofs.DueLemmas.{unheard}
+use Rattle.history_laws.specs.unit_laws.proofs.DueLemmas.{unheard, one_or_none}
 use Rattle.history_laws.specs.unit_laws.proofs.SweepLemmas.{at_tick_related, each_related, sweep_related}
 use Rattle.replay_events.specs.Events.{arrival_told, arrivals_told, result_event}
 use Rattle.replay_events.specs.Heard.{arrivals_heard, cells_heard, is_of}
@@ -37,10 +37,6 @@ is_own side other same = ap (is_of side) same ∙ own side
 
 abbrev pub AreOf : Side → List AirCell → Type 0
 AreOf side cs = All (λ a. a.side ≡ side) cs
-
-pub one_or_none : (P : AirCell → Type 0) (b : Bool) (a : AirCell) → P a → All P (if b then [] else a ∷ [])
-one_or_none P true a h = All-nil P
-one_or_none P false a h = All-cons P a [] h (All-nil P)
 
 pub report_of_side : (side : Side) (k : Known) (ep : ℕ) (e : EndpointConfig) (slot : Slot) (symbol : ℕ) → AreOf side (symbol_report side k ep e slot symbol)
 unfolding symbol_report

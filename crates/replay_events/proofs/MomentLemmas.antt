@@ -16,14 +16,15 @@ use Rattle.history_laws.specs.unit_model.specs.Standing.{due, past_of}
 use Rattle.history_laws.specs.unit_model.specs.Sweeps.{at_tick, sweep}
 use Rattle.history_laws.specs.unit_laws.proofs.DueLemmas.{all_is_due, due_in_pieces}
 use Rattle.history_laws.specs.unit_laws.proofs.SweepLemmas.{sweep-append}
-use Rattle.history_laws.proofs.TickLemmas.{at_most, last_is_earlier, last_reached, next_is_later, next_most, next_order}
-use Rattle.replay_events.specs.Events.{cells_at}
+use Rattle.history_laws.proofs.TickLemmas.{last_is_earlier, last_reached, next_is_later}
+use Rattle.replay_events.specs.Events.{cells_reported_at}
 use Rattle.replay_events.specs.Moments.{all_arrivals, arrivals_before, end_of_time}
 use Rattle.replay_events.specs.Passing.{AreLandings, DueAtMoment, IsNextMoment, ReportedAtMoment, ReportedBeforeMoment, seen_at, seen_before}
 use Rattle.replay_events.specs.Traffic.{Traffic, known_at, landings_at, reported_at}
 use Rattle.replay_events.proofs.CameLemmas.{calm_adds_nothing}
 use Rattle.replay_events.proofs.SettledLemmas.{reported_settled}
 use Rattle.replay_events.proofs.TickLemmas.{sweep_alone}
+use Rattle.fh_time.proofs.Orders.{next_later as next_most, at_most, next_order}
 
 -- ---- what is reported, in pieces
 
@@ -98,14 +99,14 @@ no_wait t = omega (arith, ints)
 
 -- they go by the starts of their symbols
 pub by_start : (side : Side) (c : Config) (x : Traffic) (tick : ℤ)
-    → cells_at side c x tick
+    → cells_reported_at side c x tick
     ≡ at_tick (symbol_report side (known_at side c x.planned (all_arrivals (landings_at side x)))) c.endpoints (tick -ℤ wait_of side c.delays)
 by_start Ru c x tick = ap (λ (s : ℤ). at_tick (symbol_report Ru (known_at Ru c x.planned (all_arrivals x.at_ru))) c.endpoints s) (no_wait tick)
 by_start Du c x tick = refl
 
 -- they are those by what the unit has seen then
 pub cells_settled : (side : Side) (c : Config) (x : Traffic) (t : ℤ) → IsConfig c → AreLandings (landings_at side x) → first_clock ≤ℤ t → t ≤ℤ end_of_time
-    → cells_at side c x t ≡ at_tick (symbol_report side (known_at side c x.planned (seen_at side (landings_at side x) t))) c.endpoints (t -ℤ wait_of side c.delays)
+    → cells_reported_at side c x t ≡ at_tick (symbol_report side (known_at side c x.planned (seen_at side (landings_at side x) t))) c.endpoints (t -ℤ wait_of side c.delays)
 cells_settled side c x t config are begun ended =
     let landings = landings_at side x in
     let all = known_at side c x.planned (all_arrivals landings) in
@@ -193,14 +194,14 @@ module _ (side : Side) (c : Config) (x : Traffic) (now tick : ℤ) (next : IsNex
       same_parts (reported side d es new (now -ℤ pos 1)) _ (reported side d es new (tick -ℤ pos 1)) _ new_waits
       (sym (reported_parts side d es new now tick next.begun (next_most now tick next.order)) ∙ reported_at_tick side d es new tick tick_begun)
 
-  due_then : tick ≤ℤ end_of_time → due side d es new (reported side d es old (now -ℤ pos 1)) tick ≡ cells_at side c x tick
+  due_then : tick ≤ℤ end_of_time → due side d es new (reported side d es old (now -ℤ pos 1)) tick ≡ cells_reported_at side c x tick
   due_then ended =
       ap (λ (heard : List AirCell). due side d es new heard tick) (sym same_then)
       ∙ due_rest side c new now tick next.config next.begun (next_most now tick next.order)
       ∙ rest_is ∙ sym (cells_settled side c x tick next.config are tick_begun ended)
 
   reported_then : tick ≤ℤ end_of_time
-      → reported side d es old (now -ℤ pos 1) ++ cells_at side c x tick ≡ reported_at side c x.planned (arrivals_before landings (tick +ℤ pos 1)) tick
+      → reported side d es old (now -ℤ pos 1) ++ cells_reported_at side c x tick ≡ reported_at side c x.planned (arrivals_before landings (tick +ℤ pos 1)) tick
   reported_then ended =
       ap₂ ◌++◌ (sym old_waits ∙ sym same_until) (cells_settled side c x tick next.config are tick_begun ended)
       ∙ sym (reported_at_tick side d es new tick tick_begun)

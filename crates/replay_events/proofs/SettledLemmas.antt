@@ -17,13 +17,14 @@ use Rattle.history_laws.specs.unit_model.specs.Standing.{AreInTime, past_of}
 use Rattle.history_laws.specs.unit_model.specs.Uplink.{jobs}
 use Rattle.history_laws.specs.Arriving.{IsNextArrival}
 use Rattle.history_laws.proofs.ArrivingLemmas.{arrival_leaves_reported, arrival_leaves_sent}
-use Rattle.history_laws.proofs.TickLemmas.{at_most, last_is_earlier, later_then}
-use Rattle.history_laws.proofs.UnitLemmas.{in_time_later}
+use Rattle.history_laws.proofs.TickLemmas.{last_is_earlier, later_then}
 use Rattle.replay_events.specs.Moments.{arrivals_before, landing_at}
 use Rattle.replay_events.specs.Traffic.{reported_at}
 use Rattle.replay_events.specs.Passing.{AreLandings, MessagesAreSettled, ReportedIsSettled}
 use Rattle.replay_events.proofs.CameLemmas.{arrivals_go_on, arrivals_in_time, in_time_next, landed_then, landed_times}
 use Rattle.replay_events.proofs.TickLemmas.{between}
+use Rattle.fh_time.proofs.Orders.{at_most}
+use Rattle.history_laws.specs.unit_model.proofs.InTimeLemmas.{in_time_later}
 
 -- what an arrival of this tick leaves as it was
 abbrev Leaves : {X : Type 0} → Config → (List Arrival → X) → ℤ → Type 0

@@ -8,8 +8,9 @@ use Rattle.history_laws.specs.unit_model.specs.Lists.{each_tick}
 use Rattle.history_laws.specs.unit_model.specs.Sweeps.{OfSymbol, at_tick, sweep}
 use Rattle.history_laws.specs.unit_model.proofs.SweepLaws.{gap_is, gap_none, ticks_none, ticks_split}
 use Rattle.history_laws.specs.unit_laws.proofs.SweepLemmas.{sweep-append}
-use Rattle.history_laws.proofs.TickLemmas.{at_most, weak, next_after, next_most, next_is_later}
+use Rattle.history_laws.proofs.TickLemmas.{next_after, next_is_later}
 use Rattle.history_laws.proofs.ListLemmas.{front_empty, back_empty}
+use Rattle.fh_time.proofs.Orders.{weak, same_gap as gap_sum, frame_low_is as step_above, next_later as next_most, at_most}
 
 -- ---- numbers
 
@@ -18,9 +19,6 @@ start_here a = omega (arith, ints)
 
 step_is : (a : ℤ) (n : ℕ) → (a +ℤ pos n) +ℤ pos 1 ≡ a +ℤ pos (suc n)
 step_is a n = omega (arith, ints)
-
-step_above : (a : ℤ) (n : ℕ) → a ≤ℤ (a +ℤ pos n)
-step_above a n = omega (arith, ints)
 
 step_below : (a : ℤ) (n : ℕ) → (a +ℤ pos n) <ℤ (a +ℤ pos (suc n))
 step_below a n = omega (arith, ints)
@@ -49,9 +47,6 @@ between P from to order here step =
     subst P reach (climbs P from (int_gap from to) here (λ t low high. step t low (subst (λ (u : ℤ). t <ℤ u) reach high)))
 
 -- ---- lists of ticks
-
-gap_sum : (from mid end : ℤ) (n m k : ℕ) → from +ℤ pos n ≡ mid → mid +ℤ pos m ≡ end → from +ℤ pos k ≡ end → k ≡ n + m
-gap_sum from mid end n m k a b c = omega (arith, ints)
 
 pub ticks_append : {A : Type 0} (f : ℤ → List A) (from mid end : ℤ) → from ≤ℤ mid → mid ≤ℤ end
     → each_tick from (int_gap from end) f ≡ each_tick from (int_gap from mid) f ++ each_tick mid (int_gap mid end) f

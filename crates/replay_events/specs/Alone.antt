@@ -6,7 +6,7 @@ use Rattle.window_config.specs.declared.config.Config.{Config}
 use Rattle.history_laws.specs.unit_model.specs.Meetings.{Arrival}
 use Rattle.history_laws.specs.unit_model.specs.Reports.{du_known}
 use Rattle.history_laws.specs.unit_model.specs.Standing.{due}
-use Rattle.replay_events.specs.Events.{arrivals_at, cells_at, count_events}
+use Rattle.replay_events.specs.Events.{arrivals_at, cells_reported_at, count_events}
 use Rattle.replay_events.specs.Moments.{landing_at}
 use Rattle.replay_events.specs.Passing.{AreLandings}
 use Rattle.replay_events.specs.Traffic.{Traffic}
@@ -17,7 +17,7 @@ pub record IsDuIdle (c : Config) (t : Traffic) : Type 0 where
   pub calm : (tick : ℤ) → landing_at t.at_du tick ≡ []
   pub quiet : (arrivals : List Arrival) (heard : List AirCell) (to : ℤ) → due Du c.delays c.endpoints (du_known c t.planned arrivals) heard to ≡ []
   pub arrivals : (tick : ℤ) → arrivals_at Du t tick ≡ []
-  pub cells : (tick : ℤ) → cells_at Du c t tick ≡ []
+  pub cells : (tick : ℤ) → cells_reported_at Du c t tick ≡ []
   pub counts : count_events Du c t ≡ []
 
 abbrev pub IdleWithoutPlan : Type 0

@@ -28,8 +28,8 @@ start_of Ru d tick = tick
 start_of Du d tick = tick -ℤ wait_of Du d
 
 -- the cells that it reports then, by all that lands at it
-abbrev pub cells_at : Side → Config → Traffic → ℤ → List AirCell
-cells_at side c t tick = at_tick (symbol_report side (known_at side c t.planned (all_arrivals (landings_at side t)))) c.endpoints (start_of side c.delays tick)
+abbrev pub cells_reported_at : Side → Config → Traffic → ℤ → List AirCell
+cells_reported_at side c t tick = at_tick (symbol_report side (known_at side c t.planned (all_arrivals (landings_at side t)))) c.endpoints (start_of side c.delays tick)
 
 abbrev pub arrival_event : Side → Arrival → Event
 arrival_event side a = event.Arrival side (record { 0 = a.at }) a.frame
@@ -52,7 +52,7 @@ arrivals_at side t tick = arrivals_told side (t.results side tick) (landing_at (
 
 unfoldable pub events_at : Config → Traffic → ℤ → List Event
 events_at c t tick =
-    map event.Cell (cells_at Ru c t tick) ++ (arrivals_at Ru t tick ++ (arrivals_at Du t tick ++ map event.Cell (cells_at Du c t tick)))
+    map event.Cell (cells_reported_at Ru c t tick) ++ (arrivals_at Ru t tick ++ (arrivals_at Du t tick ++ map event.Cell (cells_reported_at Du c t tick)))
 
 -- those from one tick on and before another
 abbrev pub events_between : Config → Traffic → ℤ → ℤ → List Event

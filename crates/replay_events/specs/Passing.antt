@@ -12,7 +12,7 @@ use Rattle.history_laws.specs.unit_model.specs.Radiated.{first_clock}
 use Rattle.history_laws.specs.unit_model.specs.Reports.{accepted_of}
 use Rattle.history_laws.specs.unit_model.specs.Standing.{AreInTime, due, past_of}
 use Rattle.history_laws.specs.unit_model.specs.Uplink.{jobs}
-use Rattle.replay_events.specs.Events.{cells_at, events_at, events_between}
+use Rattle.replay_events.specs.Events.{cells_reported_at, events_at, events_between}
 use Rattle.replay_events.specs.Moments.{all_arrivals, arrivals_before, end_of_time, landing_at}
 use Rattle.replay_events.specs.Traffic.{Traffic, known_at, landings_at, reported_at}
 use Rattle.history_laws.specs.unit_model.specs.declared.allocations.Allocation.{Allocation}
@@ -92,13 +92,13 @@ DueAtMoment =
     (side : Side) (c : Config) (t : Traffic) (now tick : ℤ) → IsNextMoment c t now tick → tick ≤ℤ end_of_time
     → due side c.delays c.endpoints (known_at side c t.planned (seen_at side (landings_at side t) tick))
     (reported_at side c t.planned (arrivals_before (landings_at side t) now) (now -ℤ pos 1)) tick
-    ≡ cells_at side c t tick
+    ≡ cells_reported_at side c t tick
 
 -- then all cells up to the tick are reported
 abbrev pub ReportedAtMoment : Type 0
 ReportedAtMoment =
     (side : Side) (c : Config) (t : Traffic) (now tick : ℤ) → IsNextMoment c t now tick → tick ≤ℤ end_of_time
-    → reported_at side c t.planned (arrivals_before (landings_at side t) now) (now -ℤ pos 1) ++ cells_at side c t tick
+    → reported_at side c t.planned (arrivals_before (landings_at side t) now) (now -ℤ pos 1) ++ cells_reported_at side c t tick
     ≡ reported_at side c t.planned (arrivals_before (landings_at side t) (tick +ℤ pos 1)) tick
 
 -- and up to the tick before it they are

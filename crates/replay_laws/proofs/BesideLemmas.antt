@@ -24,6 +24,9 @@ use Rattle.replay_events.specs.unit_model.proofs.CountLemmas.{times-append}
 use Rattle.replay_events.specs.unit_laws.specs.Totals.{commands_total, data_total}
 use Rattle.replay_events.specs.unit_laws.proofs.OrderLemmas.{All-onto}
 use Rattle.replay_laws.specs.Sums.{cells_total}
+use Rattle.ecpri_frames.specs.declared.heads.TheConstants.{ONE_WAY_DELAY}
+use Rattle.ecpri_frames.specs.declared.heads.TheConstants.{REAL_TIME_CONTROL}
+use Rattle.ecpri_frames.specs.declared.heads.TheConstants.{IQ_DATA}
 
 -- none of these is a verdict's counter, or a cell's
 pub record IsBeside (cs : List Counter) : Type 0 where
@@ -131,13 +134,13 @@ control_beside Du ep e at payload = record { commands = refl; sections = refl; c
 
 by_beside : (side : Side) (kind : ℕ) (at : ℤ) (payload : List ℕ) (found : Option (ℕ × EndpointConfig)) → IsMetBeside (met_by side kind at payload found)
 by_beside side kind at payload None = record { commands = refl; sections = refl; cells = refl }
-by_beside side kind at payload (Some (ep, e)) = either (kind == 2) (control_met side ep e at payload) _ (control_beside side ep e at payload) tt
+by_beside side kind at payload (Some (ep, e)) = either (kind == REAL_TIME_CONTROL) (control_met side ep e at payload) _ (control_beside side ep e at payload) tt
 
 meet_beside : (side : Side) (es : List EndpointConfig) (at : ℤ) (m : Message) → IsMetBeside (meet side es at m)
 unfolding meet
 meet_beside side es at m =
-    either (m.head.kind == 5) (Ignored counter.Delay) _ (record { commands = refl; sections = refl; cells = refl })
-    (either (not (m.head.kind == 0 || m.head.kind == 2)) (Ignored counter.OtherType) _ (record { commands = refl; sections = refl; cells = refl })
+    either (m.head.kind == ONE_WAY_DELAY) (Ignored counter.Delay) _ (record { commands = refl; sections = refl; cells = refl })
+    (either (not (m.head.kind == IQ_DATA || m.head.kind == REAL_TIME_CONTROL)) (Ignored counter.OtherType) _ (record { commands = refl; sections = refl; cells = refl })
     (either (nat_lt (length m.payload) 4) (Ignored counter.Short) _ (record { commands = refl; sections = refl; cells = refl })
     (by_beside side m.head.kind at m.payload (find_endpoint es (id_of m.payload)))))
 

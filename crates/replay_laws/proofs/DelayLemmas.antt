@@ -16,8 +16,8 @@ use Rattle.window_config.specs.declared.config.Config.{Config}
 use Rattle.replay_events.specs.unit_model.specs.Meetings.{Arrival}
 use Rattle.replay_events.specs.unit_model.specs.Radiated.{first_clock}
 use Rattle.replay_events.specs.unit_laws.proofs.SweepLemmas.{IsKept, each_tick_related}
-use Rattle.replay_events.specs.history_laws.proofs.TickLemmas.{at_most, next_is_later, next_order}
-use Rattle.replay_events.specs.Events.{arrival_event, arrival_told, arrivals_at, arrivals_told, cells_at, count_event, count_events, events, events_at, events_between, number_of, result_event}
+use Rattle.replay_events.specs.history_laws.proofs.TickLemmas.{next_is_later}
+use Rattle.replay_events.specs.Events.{arrival_event, arrival_told, arrivals_at, arrivals_told, cells_reported_at, count_event, count_events, events, events_at, events_between, number_of, result_event}
 use Rattle.replay_events.specs.Moments.{end_of_time, landing_at}
 use Rattle.replay_events.specs.Traffic.{Traffic, landings_at}
 use Rattle.replay_events.specs.declared.results.DelayResult.{DelayResult}
@@ -26,6 +26,7 @@ use Rattle.replay_events.proofs.TickLemmas.{tick_alone, ticks_append}
 use Rattle.replay_events.proofs.ToldLemmas.{Results, none_told, told_next, told_next_alone}
 use Rattle.replay_laws.specs.Delays.{DelaysAreResults, DelaysFollowFrames, FollowsFrame, FramesAreTold, IsAmong, IsBehindFrame, IsLanding, IsResult, StandTogether, given_by}
 use Rattle.replay_laws.proofs.GivenLemmas.{first_inside, later_inside}
+use Rattle.fh_time.proofs.Orders.{at_most, next_order}
 
 -- ---- one of several, and those before it
 
@@ -221,12 +222,12 @@ module _ (side : Side) (t : Traffic) (tick : ℤ) where
 tick_follows : (c : Config) (t : Traffic) (tick : ℤ) → AllFollow t (events_at c t tick)
 unfolding events_at
 tick_follows c t tick =
-    let ru = map event.Cell (cells_at Ru c t tick) in
+    let ru = map event.Cell (cells_reported_at Ru c t tick) in
     let came = arrivals_at Ru t tick in
     let taken = arrivals_at Du t tick in
-    let du = map event.Cell (cells_at Du c t tick) in
-    follow-append t ru (came ++ (taken ++ du)) (cells_follow t (cells_at Ru c t tick))
-    (follow-append t came (taken ++ du) (arrivals_follow Ru t tick) (follow-append t taken du (arrivals_follow Du t tick) (cells_follow t (cells_at Du c t tick))))
+    let du = map event.Cell (cells_reported_at Du c t tick) in
+    follow-append t ru (came ++ (taken ++ du)) (cells_follow t (cells_reported_at Ru c t tick))
+    (follow-append t came (taken ++ du) (arrivals_follow Ru t tick) (follow-append t taken du (arrivals_follow Du t tick) (cells_follow t (cells_reported_at Du c t tick))))
 
 follow_kept : (t : Traffic) → IsKept {A = Event} {B = Event} (λ xs ys. AllFollow t xs)
 follow_kept t = record { none = nothing_follows t; more = λ xs xs' ys ys' p q. follow-append t xs xs' p q }
@@ -320,15 +321,15 @@ module _ (c : Config) (t : Traffic) (tick : ℤ) (es : List Event) where
   in_tick : (side : Side) → StandTogether es (arrivals_at side t tick) → StandTogether es (events_at c t tick)
   unfolding events_at
   in_tick Ru h =
-      let ru = map event.Cell (cells_at Ru c t tick) in
+      let ru = map event.Cell (cells_reported_at Ru c t tick) in
       let came = arrivals_at Ru t tick in
-      let rest = arrivals_at Du t tick ++ map event.Cell (cells_at Du c t tick) in
+      let rest = arrivals_at Du t tick ++ map event.Cell (cells_reported_at Du c t tick) in
       together_right es ru (came ++ rest) (together_left es came rest h)
   in_tick Du h =
-      let ru = map event.Cell (cells_at Ru c t tick) in
+      let ru = map event.Cell (cells_reported_at Ru c t tick) in
       let came = arrivals_at Ru t tick in
       let taken = arrivals_at Du t tick in
-      let du = map event.Cell (cells_at Du c t tick) in
+      let du = map event.Cell (cells_reported_at Du c t tick) in
       together_right es ru (came ++ (taken ++ du)) (together_right es came (taken ++ du) (together_left es taken du h))
 
   in_ticks : (from end : ℤ) → from ≤ℤ tick → (tick +ℤ pos 1) ≤ℤ end → StandTogether es (events_at c t tick) → StandTogether es (events_between c t from end)

@@ -16,7 +16,10 @@ use Rattle.window_config.specs.declared.endpoints.EndpointConfig.{EndpointConfig
 use Rattle.replay_events.specs.unit_model.specs.Lists.{onto}
 use Rattle.replay_events.specs.unit_model.specs.Meetings.{Arrival, Meeting, Ignored, Commands, Piece, application, command_read, control_met, find_endpoint, fragment_of, fragments, id_of, is_fragmented, meet, meetings, met_by, met_in, sequence_of}
 use Rattle.replay_events.specs.unit_model.specs.Standing.{AreInTime}
-use Rattle.replay_events.specs.history_laws.proofs.TickLemmas.{at_most}
+use Rattle.ecpri_frames.specs.declared.heads.TheConstants.{ONE_WAY_DELAY}
+use Rattle.ecpri_frames.specs.declared.heads.TheConstants.{REAL_TIME_CONTROL}
+use Rattle.ecpri_frames.specs.declared.heads.TheConstants.{IQ_DATA}
+use Rattle.fh_time.proofs.Orders.{at_most}
 
 -- the newest first, none later than the clock, and none later than a newer one
 abbrev pub AreFalling : ℤ → List Fragment → Type 0
@@ -51,13 +54,13 @@ control_at Du ep e at payload = tt
 found_met_at : (side : Side) (kind : ℕ) (at : ℤ) (payload : List ℕ) (o : Option (ℕ × EndpointConfig)) → IsMetAt at (met_by side kind at payload o)
 found_met_at side kind at payload None = tt
 found_met_at side kind at payload (Some (ep, e)) =
-    choice at (kind == 2) (control_met side ep e at payload) (Piece e (fragment_of ep at payload)) (control_at side ep e at payload) refl
+    choice at (kind == REAL_TIME_CONTROL) (control_met side ep e at payload) (Piece e (fragment_of ep at payload)) (control_at side ep e at payload) refl
 
 meet_at : (side : Side) (es : List EndpointConfig) (at : ℤ) (m : Message) → IsMetAt at (meet side es at m)
 unfolding meet
 meet_at side es at m =
-    choice at (m.head.kind == 5) _ _ tt
-    (choice at (not (m.head.kind == 0 || m.head.kind == 2)) _ _ tt
+    choice at (m.head.kind == ONE_WAY_DELAY) _ _ tt
+    (choice at (not (m.head.kind == IQ_DATA || m.head.kind == REAL_TIME_CONTROL)) _ _ tt
     (choice at (nat_lt (length m.payload) 4) _ _ tt (found_met_at side m.head.kind at m.payload (find_endpoint es (id_of m.payload)))))
 
 all_met_at : (side : Side) (es : List EndpointConfig) (at : ℤ) (ms : List Message) → All (IsMetAt at) (met_in side es at ms)

@@ -23,7 +23,7 @@ use Rattle.replay_events.specs.uplane_sections.specs.Messages.{told}
 use Rattle.window_config.specs.declared.config.Config.{Config}
 use Rattle.window_config.specs.declared.delays.Delays.{Delays}
 use Rattle.window_config.specs.declared.endpoints.EndpointConfig.{EndpointConfig}
-use Rattle.replay_events.specs.unit_model.specs.Decoding.{Backwards, Decoded, Gathering, Part, Refused, Sections, data_now, data_sections, data_told, data_with, decode, decode_message, decoded_from, decoded_now, decoded_with, gathered as all_gathered, has_way, nothing_told, sections_of, whole_now, whole_of}
+use Rattle.replay_events.specs.unit_model.specs.Decoding.{Backwards, Decoded, Gathering, SectionBlocks, Refused, Sections, data_now, data_sections, data_told, data_with, decode, decode_message, decoded_from, decoded_now, decoded_with, gathered as all_gathered, has_way, nothing_told, sections_of, whole_now, whole_of}
 use Rattle.replay_events.specs.unit_model.specs.Lists.{joined}
 use Rattle.replay_events.specs.unit_model.specs.Meetings.{Arrival, Meeting, Ignored, Commands, Piece, fragments}
 use Rattle.replay_events.specs.unit_model.specs.Reports.{hold_of, met}
@@ -34,13 +34,14 @@ use Rattle.replay_events.specs.Heard.{cells_heard}
 use Rattle.replay_events.specs.Moments.{all_arrivals, end_of_time}
 use Rattle.replay_events.specs.Traffic.{landings_at}
 use Rattle.replay_events.proofs.CameLemmas.{arrivals_in_time}
-use Rattle.replay_laws.specs.Gathered.{CameThen, EachIsGathered, GaveGathered, IsGathered, IsPieceInTime, ShownAreGathered, gathered}
+use Rattle.replay_laws.specs.Gathered.{CameThen, EachIsGathered, GaveGathered, IsGathered, IsPieceInTime, ShownAreGathered, fragments_gathered}
 use Rattle.replay_laws.specs.Shown.{IsInTime, IsInWindow}
 use Rattle.replay_laws.proofs.FallingLemmas.{AreFalling, falling_behind, met_falling}
 use Rattle.replay_laws.proofs.GivenLemmas.{first_inside, later_inside}
 use Rattle.replay_laws.proofs.ShownLemmas.{landings_of_side, shown_only_in_time}
-use Rattle.replay_laws.proofs.SilentLemmas.{same_id}
-use Rattle.replay_laws.proofs.StandingLemmas.{EndsWith, all_seen, all_standing, all_up_to, are_of_id, are_pieces, ends_with, first_there, has_fragment, ids_kept, length-pieces, none_after, none_before, piece_of, stood_falls}
+use Rattle.replay_laws.proofs.StandingLemmas.{EndsWith, all_up_to, are_of_id, are_pieces, ends_with, first_there, has_fragment, length-pieces, none_after, none_before, piece_of, stood_falls}
+use Rattle.ecpri_fragments.proofs.Standing.{all_seen, all_standing, ids_kept}
+use Rattle.ecpri_fragments.proofs.Ids.{same_id}
 
 -- ---- what told a section of data
 
@@ -104,7 +105,7 @@ record HasTimes (ep : ℕ) (first last : ℤ) (x : UserSection) : Type 0 where
   last_is : x.last.0 ≡ last
 
 module _ (side : Side) (ep : ℕ) (e : EndpointConfig) (first last : ℤ) where
-  parts_times : (head : UHead) (ps : List Part) → All (HasTimes ep first last) (map (data_with ep e first last head) ps)
+  parts_times : (head : UHead) (ps : List SectionBlocks) → All (HasTimes ep first last) (map (data_with ep e first last head) ps)
   parts_times head [] = All-nil (HasTimes ep first last)
   parts_times head (p ∷ ps) =
       All-cons (HasTimes ep first last) (data_with ep e first last head p) (map (data_with ep e first last head) ps)
@@ -114,7 +115,7 @@ module _ (side : Side) (ep : ℕ) (e : EndpointConfig) (first last : ℤ) where
   way_times ds true h = h
   way_times ds false h = All-nil (HasTimes ep first last)
 
-  head_times : (ps : List Part) (o : Option UHead) → All (HasTimes ep first last) (sections_of (decoded_with side ep e first last ps o))
+  head_times : (ps : List SectionBlocks) (o : Option UHead) → All (HasTimes ep first last) (sections_of (decoded_with side ep e first last ps o))
   head_times ps None = All-nil (HasTimes ep first last)
   head_times ps (Some head) = way_times (map (data_with ep e first last head) ps) (has_way side head) (parts_times head ps)
 
@@ -174,7 +175,7 @@ module _ (side : Side) (c : Config) (arrivals : List Arrival) (clock : ℤ) (cam
   stood = standing_before hold f fs
 
   abbrev its : List Fragment
-  its = gathered hold f fs
+  its = fragments_gathered hold f fs
 
   now_whole : (verdict_on hold f fs ≡ fragment.Whole) × (t.message ≡ message its)
   now_whole = whole_is (verdict_on hold f fs) f stood t.message t.whole

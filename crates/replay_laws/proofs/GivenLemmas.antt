@@ -1,5 +1,5 @@
 -- What gave a cell its block and its claims.
-use Rattle.std.proofs.Common.{◌≡◌, ℕ, suc, ◌<◌, Bool, true, false, not, ◌&&◌, ◌||◌, List, [], ◌∷◌, ◌++◌, inl, inr, refl, sym, ap, ◌∙◌, arith}
+use Rattle.std.proofs.Common.{◌≡◌, ℕ, suc, ◌<◌, Bool, true, false, ◌&&◌, ◌||◌, List, [], ◌∷◌, ◌++◌, inl, inr, refl, sym, ap, ◌∙◌, arith}
 use Rattle.std.specs.Prelude.{◌==◌, if◌then◌else◌, Contains, Option, Some, None, is_some}
 use Rattle.std.proofs.lemmas.Bool.{and_parts, or_parts, eqb-true}
 use Rattle.std.proofs.lemmas.Option.{same_Some}
@@ -21,8 +21,10 @@ use Rattle.replay_events.specs.unit_model.specs.declared.decoded.UserSection.{Us
 use Rattle.replay_events.specs.unit_model.specs.declared.verdicts.CommandVerdict.TheVariants.{Accepted}
 use Rattle.replay_laws.specs.Shown.{HaveOneId}
 use Rattle.replay_events.specs.unit_laws.proofs.AcceptanceLemmas.{accepted_is_acceptable}
-use Rattle.replay_events.specs.unit_laws.proofs.CellLemmas.{covered_cell, covers_is, from_first, from_within, some_false}
+use Rattle.replay_events.specs.unit_laws.proofs.CellLemmas.{covered_cell, covers_is, some_false}
 use Rattle.replay_events.specs.unit_laws.proofs.ChangeLemmas.{accepted_more, block-cons, claim-cons, claim_same, either_way, timely_more}
+use Rattle.fh_time.proofs.Orders.{is_true as not_false}
+use Rattle.replay_events.specs.unit_model.proofs.ClaimLemmas.{starts_before as from_first, from_within}
 
 -- ---- where nothing came
 
@@ -165,10 +167,6 @@ planned_given (a ∷ planned) cell re k there = elim (either_way (names a cell r
 ]
 
 -- ---- all claims of a cell have one id
-
-not_false : (b : Bool) → not b ≡ false → b ≡ true
-not_false true h = refl
-not_false false h = absurd cc
 
 under_not_other : (id : ℕ) (o : Option Claim) (l : Claim) → o ≡ Some l → is_other id o ≡ false → l.id ≡ id
 under_not_other id o l is h =

@@ -1,10 +1,8 @@
 -- The frames that land come to the unit, each as often.
-use Rattle.std.proofs.Common.{◌≡◌, ℕ, ℤ, zero, suc, pos, ◌+◌, ◌+ℤ◌, ◌≤ℤ◌, ◌<ℤ◌, Bool, true, false, ◌&&◌, List, [], ◌∷◌, refl, sym, ap, ap₂, ◌∙◌, arith}
+use Rattle.std.proofs.Common.{◌≡◌, ℕ, ℤ, zero, suc, pos, ◌+◌, ◌+ℤ◌, ◌≤ℤ◌, Bool, true, false, ◌&&◌, List, [], ◌∷◌, refl, sym, ap, ap₂, ◌∙◌, arith}
 use Rattle.std.specs.Prelude.{All, if◌then◌else◌, cond, filter, int_lt}
 use Rattle.std.specs.Int.{int_gap}
 use Rattle.std.specs.Ordering.{int_eq}
-use Rattle.std.proofs.lemmas.Bool.{false_from_ne_true}
-use Rattle.std.proofs.lemmas.Bool.Decides.{Decides-int_eq}
 use Rattle.std.proofs.lemmas.Int.{by_lt_z, ints}
 use Rattle.std.proofs.lemmas.List.Elements.{All-head, All-tail, All-weaker}
 use Rattle.std.proofs.lemmas.List.Recursion.{is_count_by}
@@ -13,10 +11,11 @@ use Rattle.replay_events.specs.unit_model.specs.Meetings.{Arrival}
 use Rattle.replay_events.specs.unit_model.specs.Radiated.{first_clock}
 use Rattle.replay_events.specs.unit_model.proofs.SweepLaws.{gap_is}
 use Rattle.replay_events.specs.unit_model.proofs.CountLemmas.{no_time}
-use Rattle.replay_events.specs.history_laws.proofs.TickLemmas.{is_less, not_less, is_same, within_next, next_after, weak, same_tick, clock_begins}
+use Rattle.replay_events.specs.history_laws.proofs.TickLemmas.{next_after, same_tick, clock_begins}
 use Rattle.replay_events.specs.Moments.{all_arrivals, arrivals_in, end_of_time, landing_at}
 use Rattle.replay_events.proofs.CameLemmas.{none_first, next_first}
 use Rattle.replay_laws.specs.Landed.{EachArrives}
+use Rattle.fh_time.proofs.Orders.{under_is as is_less, not_under_is as not_less, weak, not_later as less_differ, within_next, is_same, not_eq, more_differ}
 
 -- ---- how many have something
 
@@ -70,15 +69,6 @@ many_onto p earlier [] = omega arith
 many_onto p earlier (x ∷ xs) = many_onto p (x ∷ earlier) xs ∙ moved (one_if (p x)) (many p earlier) (many p xs)
 
 -- ---- those before a tick, and those at it
-
-not_eq : (x t : ℤ) → (x ≡ t → ⊥) → int_eq x t ≡ false
-not_eq x t ne = false_from_ne_true (int_eq x t) (λ e. ne ((Decides-int_eq x t).0 e))
-
-less_differ : (x t : ℤ) → x <ℤ t → x ≡ t → ⊥
-less_differ x t h e = omega (arith, ints)
-
-more_differ : (x t : ℤ) → t <ℤ x → x ≡ t → ⊥
-more_differ x t h e = omega (arith, ints)
 
 -- with the three tests known
 three : (w l e w' l' e' b : Bool) → w ≡ w' → l ≡ l' → e ≡ e' → one_if (w' && b) ≡ one_if (l' && b) + one_if (e' && b)

@@ -6,15 +6,12 @@ use Rattle.std.proofs.lemmas.Bool.{not-true}
 use Rattle.replay_events.specs.unit_model.specs.Claims.{in_mask}
 use Rattle.replay_events.specs.unit_model.specs.Radiated.{cell_id, id_from, id_or, is_used, used_below, used_mask}
 use Rattle.replay_events.specs.unit_model.specs.declared.cells.Claim.{Claim}
+use Rattle.fh_time.proofs.Orders.{bit_small}
 
 -- ---- the bits of the mask
 
 abbrev bit_of : (ℕ → Option Claim) → ℕ → ℕ
 bit_of claims re = if is_used (claims re) then 1 else 0
-
-bit_small : (b : Bool) → (if b then 1 else 0) ≤ 1
-bit_small true = omega arith
-bit_small false = omega arith
 
 -- a number is another one, shifted, and some lower bits
 record IsShifted (whole high k : ℕ) : Type 0 where

@@ -21,7 +21,7 @@ use Rattle.replay_events.specs.unit_laws.specs.Due.{AreDifferent}
 use Rattle.replay_events.specs.unit_laws.proofs.DueLemmas.{reported_differ}
 use Rattle.replay_events.specs.unit_laws.proofs.SweepLemmas.{IsKept, each_tick_related}
 use Rattle.replay_events.specs.history_laws.proofs.TickLemmas.{clock_begins}
-use Rattle.replay_events.specs.Events.{arrivals_at, cells_at, count_event, count_events, events, events_at, events_between, number_of, start_of}
+use Rattle.replay_events.specs.Events.{arrivals_at, cells_reported_at, count_event, count_events, events, events_at, events_between, number_of, start_of}
 use Rattle.replay_events.specs.Heard.{cells_heard}
 use Rattle.replay_events.specs.Moments.{all_arrivals, end_of_time, landing_at}
 use Rattle.replay_events.specs.Traffic.{Traffic, known_at, landings_at, reported_at}
@@ -34,9 +34,9 @@ use Rattle.replay_laws.specs.Once.{AtMostOnce}
 abbrev known : Side → Config → Traffic → Known
 known side c t = known_at side c t.planned (all_arrivals (landings_at side t))
 
-own_cells : (side : Side) (c : Config) (t : Traffic) (tick : ℤ) → cells_heard side (map event.Cell (cells_at side c t tick)) ≡ cells_at side c t tick
+own_cells : (side : Side) (c : Config) (t : Traffic) (tick : ℤ) → cells_heard side (map event.Cell (cells_reported_at side c t tick)) ≡ cells_reported_at side c t tick
 own_cells side c t tick =
-    cells-own side (cells_at side c t tick) (tick_of_side side (known side c t) c.endpoints (start_of side c.delays tick))
+    cells-own side (cells_reported_at side c t tick) (tick_of_side side (known side c t) c.endpoints (start_of side c.delays tick))
 
 -- four parts, of which one tells the unit's cells
 four_parts : (side : Side) (a b x d : List Event) (p q r s : List AirCell) → cells_heard side a ≡ p → cells_heard side b ≡ q → cells_heard side x ≡ r → cells_heard side d ≡ s
@@ -45,16 +45,16 @@ four_parts side a b x d p q r s e f g h =
     cells-append side a (b ++ (x ++ d))
     ∙ ap₂ ◌++◌ e (cells-append side b (x ++ d) ∙ ap₂ ◌++◌ f (cells-append side x d ∙ ap₂ ◌++◌ g h))
 
-cells_of_tick : (side : Side) (c : Config) (t : Traffic) (tick : ℤ) → cells_heard side (events_at c t tick) ≡ cells_at side c t tick
+cells_of_tick : (side : Side) (c : Config) (t : Traffic) (tick : ℤ) → cells_heard side (events_at c t tick) ≡ cells_reported_at side c t tick
 unfolding events_at
 cells_of_tick Ru c t tick =
-    four_parts Ru (map event.Cell (cells_at Ru c t tick)) (arrivals_at Ru t tick) (arrivals_at Du t tick) (map event.Cell (cells_at Du c t tick)) (cells_at Ru c t tick) [] [] []
+    four_parts Ru (map event.Cell (cells_reported_at Ru c t tick)) (arrivals_at Ru t tick) (arrivals_at Du t tick) (map event.Cell (cells_reported_at Du c t tick)) (cells_reported_at Ru c t tick) [] [] []
     (own_cells Ru c t tick) (cells-arrivals Ru Ru (t.results Ru tick) (landing_at t.at_ru tick)) (cells-arrivals Ru Du (t.results Du tick) (landing_at t.at_du tick))
-    (cells-other Ru Du (cells_at Du c t tick) refl (tick_of_side Du (known Du c t) c.endpoints (start_of Du c.delays tick)))
-    ∙ append-nil (cells_at Ru c t tick)
+    (cells-other Ru Du (cells_reported_at Du c t tick) refl (tick_of_side Du (known Du c t) c.endpoints (start_of Du c.delays tick)))
+    ∙ append-nil (cells_reported_at Ru c t tick)
 cells_of_tick Du c t tick =
-    four_parts Du (map event.Cell (cells_at Ru c t tick)) (arrivals_at Ru t tick) (arrivals_at Du t tick) (map event.Cell (cells_at Du c t tick)) [] [] [] (cells_at Du c t tick)
-    (cells-other Du Ru (cells_at Ru c t tick) refl (tick_of_side Ru (known Ru c t) c.endpoints (start_of Ru c.delays tick)))
+    four_parts Du (map event.Cell (cells_reported_at Ru c t tick)) (arrivals_at Ru t tick) (arrivals_at Du t tick) (map event.Cell (cells_reported_at Du c t tick)) [] [] [] (cells_reported_at Du c t tick)
+    (cells-other Du Ru (cells_reported_at Ru c t tick) refl (tick_of_side Ru (known Ru c t) c.endpoints (start_of Ru c.delays tick)))
     (cells-arrivals Du Ru (t.results Ru tick) (landing_at t.at_ru tick)) (cells-arrivals Du Du (t.results Du tick) (landing_at t.at_du tick))
     (own_cells Du c t tick)
 
@@ -64,9 +64,9 @@ kept : (side : Side) → IsKept {A = Event} {B = AirCell} (λ xs ys. cells_heard
 kept side = record { none = cells-none side; more = λ xs xs' ys ys' p q. cells-append side xs xs' ∙ ap₂ ◌++◌ p q }
 
 cells_of_ticks : (side : Side) (c : Config) (t : Traffic) (from end : ℤ)
-    → cells_heard side (events_between c t from end) ≡ each_tick from (int_gap from end) (cells_at side c t)
+    → cells_heard side (events_between c t from end) ≡ each_tick from (int_gap from end) (cells_reported_at side c t)
 cells_of_ticks side c t from end =
-    each_tick_related (λ xs ys. cells_heard side xs ≡ ys) (kept side) from (int_gap from end) (events_at c t) (cells_at side c t) (λ tick low high. cells_of_tick side c t tick)
+    each_tick_related (λ xs ys. cells_heard side xs ≡ ys) (kept side) from (int_gap from end) (events_at c t) (cells_reported_at side c t) (λ tick low high. cells_of_tick side c t tick)
 
 -- ticks that are told some time later
 next_less : (from w : ℤ) → (from +ℤ pos 1) -ℤ w ≡ (from -ℤ w) +ℤ pos 1
@@ -94,7 +94,7 @@ end_shifted : (t w : ℤ) → (t +ℤ pos 1) -ℤ w ≡ (t -ℤ w) +ℤ pos 1
 end_shifted t w = omega (arith, ints)
 
 pub swept_is_reported : (side : Side) (c : Config) (t : Traffic)
-    → each_tick first_clock (int_gap first_clock (end_of_time +ℤ pos 1)) (cells_at side c t)
+    → each_tick first_clock (int_gap first_clock (end_of_time +ℤ pos 1)) (cells_reported_at side c t)
     ≡ reported_at side c t.planned (all_arrivals (landings_at side t)) end_of_time
 unfolding reported
 swept_is_reported side c t =
@@ -102,7 +102,7 @@ swept_is_reported side c t =
     let w = wait_of side c.delays in
     let end = end_of_time +ℤ pos 1 in
     let n = int_gap first_clock end in
-    each_tick_related (λ xs ys. xs ≡ ys) (record { none = refl; more = λ xs xs' ys ys' p q. ap₂ ◌++◌ p q }) first_clock n (cells_at side c t) (λ tick. at_tick g c.endpoints (tick -ℤ w))
+    each_tick_related (λ xs ys. xs ≡ ys) (record { none = refl; more = λ xs xs' ys ys' p q. ap₂ ◌++◌ p q }) first_clock n (cells_reported_at side c t) (λ tick. at_tick g c.endpoints (tick -ℤ w))
     (λ tick low high. by_start side c t tick)
     ∙ sweep_shifted g c.endpoints w first_clock end clock_begins
     ∙ ap (λ (s : ℤ). sweep g c.endpoints (first_clock -ℤ w) s) (end_shifted end_of_time w)

@@ -26,9 +26,11 @@ use Rattle.replay_events.specs.unit_model.specs.declared.decoded.UserSection.{Us
 use Rattle.replay_events.specs.unit_model.specs.declared.verdicts.CommandVerdict.TheVariants.{Accepted}
 use Rattle.replay_events.specs.unit_model.specs.declared.verdicts.DataVerdict.TheVariants.{Repeat, Taken}
 use Rattle.replay_events.specs.unit_model.proofs.BlockLemmas.{newer_found}
-use Rattle.replay_events.specs.unit_laws.proofs.CellLemmas.{DataCovers, data_covers_is, from_first, from_within}
+use Rattle.replay_events.specs.unit_laws.proofs.CellLemmas.{DataCovers, data_covers_is}
 use Rattle.replay_events.specs.unit_laws.proofs.ChangeLemmas.{accepted-cons, accepted_more, block-cons, block_same, either_way, timely-cons, timely_more}
 use Rattle.replay_laws.specs.Refused.{EachRefusedChangesNothing, IsRefusedMessage}
+use Rattle.ecpri_fragments.proofs.Steps.{refuses, no_first}
+use Rattle.replay_events.specs.unit_model.proofs.ClaimLemmas.{starts_before as from_first, from_within}
 
 -- ---- a section of a command
 
@@ -150,11 +152,6 @@ alike_standing hold at (g ∷ gs) (h ∷ hs) same =
 
 -- ---- a fragment that rests
 
-refuses : (o : Option Verdict) (w first : Bool) → Rests (answer o w) first → (v : Verdict) × (o ≡ Some v)
-refuses (Some v) w first h = (v, refl)
-refuses None true first h = absurd h
-refuses None false first h = absurd h
-
 first_only : (last z w : Bool)
     → Rests (answer (cond (last && false) (Some fragment.Stray) (cond z (Some fragment.TooLong) None)) w) true → ⊥
 first_only true true w h = absurd cc
@@ -163,10 +160,6 @@ first_only true false false h = h
 first_only false true w h = absurd cc
 first_only false false true h = h
 first_only false false false h = h
-
--- it is not the first of its generation, where nothing stands
-no_first : (a : Fragment) → Rests (verdict [] a) true → ⊥
-no_first a h = first_only a.last _ _ h
 
 -- so it joins the last one, in which the same stands as before
 rest_joins : (hold : ℤ) (a : Fragment) (gs : List Generation) → Rests (verdict (standing (held_in hold a.at gs)) a) (begins hold a.at gs)

@@ -29,7 +29,7 @@ use Rattle.replay_events.specs.unit_model.specs.declared.cells.Claim.{Claim}
 use Rattle.replay_events.specs.unit_model.specs.declared.decoded.UserSection.{UserSection}
 use Rattle.replay_events.specs.unit_laws.specs.Far.{IsHeardData}
 use Rattle.replay_events.specs.unit_laws.proofs.AcceptanceLemmas.{accepted_is_acceptable}
-use Rattle.replay_events.specs.unit_laws.proofs.CellLemmas.{data_covers_is, from_first, from_within}
+use Rattle.replay_events.specs.unit_laws.proofs.CellLemmas.{data_covers_is}
 use Rattle.replay_events.specs.unit_laws.proofs.FarLemmas.{endpoints_equal}
 use Rattle.replay_events.specs.unit_laws.proofs.HistoryLemmas.{data_are_heard, data_are_proper}
 use Rattle.replay_events.specs.unit_laws.proofs.DifferLemmas.{all_kept}
@@ -38,11 +38,12 @@ use Rattle.replay_events.proofs.CameLemmas.{arrivals_in_time}
 use Rattle.replay_events.specs.Moments.{all_arrivals, end_of_time}
 use Rattle.replay_events.specs.Passing.{AreLandings}
 use Rattle.replay_events.specs.Traffic.{Traffic, known_at, landings_at}
-use Rattle.replay_events.proofs.HeardLemmas.{one_or_none}
 use Rattle.replay_laws.specs.Shown.{ElementIsGiven, GaveElement, GaveSamples, HaveOneId, IsInTime, IsInWindow, PlannedElement, ShownOnlyInTime}
 use Rattle.replay_laws.proofs.GivenLemmas.{IsGiven, IsUnder, block_given, claim_given, one_id, planned_given, samples_are_under}
 use Rattle.replay_laws.proofs.MaskLemmas.{cell_id_is, in_use, used_is_busy}
 use Rattle.replay_laws.proofs.OnceLemmas.{cells_are_reported}
+use Rattle.replay_events.specs.unit_model.proofs.ClaimLemmas.{starts_before as from_first, from_within}
+use Rattle.replay_events.specs.unit_laws.proofs.DueLemmas.{one_or_none}
 
 -- ---- PRBs
 

@@ -1,7 +1,7 @@
 -- A message of data that says nothing changes nothing but counters, and its fragments keep their places.
 use Rattle.std.proofs.Common.{◌≡◌, ℕ, ℤ, ◌+◌, ◌≤ℤ◌, Bool, true, false, ◌||◌, List, [], ◌∷◌, ◌++◌, inl, inr, refl, sym, ap, ◌∙◌, subst, arith}
 use Rattle.std.specs.Prelude.{◌==◌, if◌then◌else◌, Option, Some, None, length, nat_lt}
-use Rattle.std.proofs.lemmas.Bool.{and_from, and_parts, eq-eqb, eqb-true}
+use Rattle.std.proofs.lemmas.Bool.{and_parts, eqb-true}
 use Rattle.std.proofs.lemmas.Int.{ints}
 use Rattle.replay_events.specs.air_source.specs.declared.events.Side.{Side}
 use Rattle.ecpri_fragments.specs.Generations.{Fragment, Generation, begun, generations, generations_of, held_in, is_of, is_within, joined, of_id, start_in, with_fragment}
@@ -19,6 +19,7 @@ use Rattle.replay_events.specs.unit_model.specs.declared.decoded.UserSection.{Us
 use Rattle.replay_events.specs.unit_laws.proofs.ChangeLemmas.{either_way}
 use Rattle.replay_laws.specs.Silent.{IsSilent, began}
 use Rattle.replay_laws.proofs.FallingLemmas.{AreFalling}
+use Rattle.ecpri_fragments.proofs.Ids.{same_id}
 
 -- ---- times
 
@@ -69,9 +70,6 @@ kept_repeats hold start g (h ∷ gs) within kept = go (is_within hold h.start g.
     go false is = absurd cc
 
 -- ---- one fragment more, by its endpoint and sequence id
-
-pub same_id : (f : Fragment) → is_of f.ep f.seq f ≡ true
-same_id f = and_from (f.ep == f.ep) (f.seq == f.seq) (eq-eqb f.ep f.ep refl) (eq-eqb f.seq f.seq refl)
 
 pub own_more : (hold : ℤ) (ep seq : ℕ) (h : Fragment) (fs : List Fragment) → is_of ep seq h ≡ true
     → generations_of hold ep seq (h ∷ fs) ≡ with_fragment hold h (generations_of hold ep seq fs)

@@ -5,25 +5,15 @@ use Rattle.std.proofs.Math.ListN.{get_or-append}
 use Rattle.std.proofs.Math.Seq.{get_or-append_seam}
 use Rattle.std.proofs.lemmas.Bool.{and_parts, cases_lt, eq-eqb, eqb-true, ltb-false, or_parts}
 use Rattle.std.proofs.lemmas.Option.{slice_get-get_or}
-use Rattle.std.proofs.lemmas.List.Elements.{All-nil, All-cons, All-head, All-tail, All-weaker}
+use Rattle.std.proofs.lemmas.List.Elements.{All-nil, All-cons, All-head, All-weaker}
 use Rattle.std.specs.Int.Signed.{≤ℤ_refl}
 use Rattle.ecpri_fragments.specs.Generations.{Fragment, Generation, begun, generations, generations_of, held_in, is_of, is_within, joined, of_id, seen, with_fragment}
 use Rattle.ecpri_fragments.specs.Verdicts.{all_stand, end_of, first_of, has_greater, is_whole, piece_at, pieces_below, refused, standing, standing_before, stands, whole_to, with_one}
 use Rattle.ecpri_fragments.specs.declared.verdict.Verdict.{Verdict}
-use Rattle.replay_events.specs.history_laws.proofs.TickLemmas.{at_most}
 use Rattle.replay_laws.specs.Gathered.{CameThen, HasFragment}
 use Rattle.replay_laws.proofs.FallingLemmas.{AreFalling, falling_later}
 use Rattle.replay_laws.proofs.GivenLemmas.{first_inside, later_inside}
-
--- ---- what holds of all that came holds of what stands
-
-pub ids_kept : (P : Fragment → Type 0) (ep seq : ℕ) (fs : List Fragment) → All P fs → All P (of_id ep seq fs)
-ids_kept P ep seq [] h = All-nil P
-ids_kept P ep seq (f ∷ fs) h = go (is_of ep seq f) (ids_kept P ep seq fs (All-tail P f fs h))
-  where
-    go : (b : Bool) → All P (of_id ep seq fs) → All P (if b then f ∷ of_id ep seq fs else of_id ep seq fs)
-    go true rest = All-cons P f (of_id ep seq fs) (All-head P f fs h) rest
-    go false rest = rest
+use Rattle.fh_time.proofs.Orders.{at_most}
 
 pub are_of_id : (ep seq : ℕ) (fs : List Fragment) → All (λ x. is_of ep seq x ≡ true) (of_id ep seq fs)
 are_of_id ep seq [] = All-nil (λ (x : Fragment). is_of ep seq x ≡ true)
@@ -36,42 +26,6 @@ are_of_id ep seq (f ∷ fs) = go (is_of ep seq f) refl (are_of_id ep seq fs)
         → All (λ x. is_of ep seq x ≡ true) (if b then f ∷ of_id ep seq fs else of_id ep seq fs)
     go true is rest = All-cons (λ (x : Fragment). is_of ep seq x ≡ true) f (of_id ep seq fs) is rest
     go false is rest = rest
-
--- in the last generation
-abbrev AllLast : (Fragment → Type 0) → List Generation → Type 0
-AllLast P [] = Unit {0}
-AllLast P (g ∷ gs) = All P g.held
-
-one_more : (P : Fragment → Type 0) (hold : ℤ) (f : Fragment) (gs : List Generation) → P f → AllLast P gs → AllLast P (with_fragment hold f gs)
-one_more P hold f [] p h = All-cons P f [] p (All-nil P)
-one_more P hold f (g ∷ gs) p h = go (is_within hold g.start f.at)
-  where
-    go : (b : Bool) → AllLast P (if b then joined f g ∷ gs else begun f ∷ g ∷ gs)
-    go true = All-cons P f g.held p h
-    go false = All-cons P f [] p (All-nil P)
-
-all_last : (P : Fragment → Type 0) (hold : ℤ) (fs : List Fragment) → All P fs → AllLast P (generations hold fs)
-all_last P hold [] h = tt
-all_last P hold (f ∷ fs) h = one_more P hold f (generations hold fs) (All-head P f fs h) (all_last P hold fs (All-tail P f fs h))
-
-held_now : (P : Fragment → Type 0) (hold at : ℤ) (gs : List Generation) → AllLast P gs → All P (held_in hold at gs)
-held_now P hold at [] h = All-nil P
-held_now P hold at (g ∷ gs) h = go (is_within hold g.start at)
-  where
-    go : (b : Bool) → All P (if b then g.held else [])
-    go true = h
-    go false = All-nil P
-
-pub all_seen : (P : Fragment → Type 0) (hold : ℤ) (f : Fragment) (earlier : List Fragment) → All P (of_id f.ep f.seq earlier) → All P (seen hold f earlier)
-all_seen P hold f earlier h = held_now P hold f.at (generations_of hold f.ep f.seq earlier) (all_last P hold (of_id f.ep f.seq earlier) h)
-
-stand_kept : (P : Fragment → Type 0) (o : Option Verdict) (f : Fragment) (s : List Fragment) → P f → All P s → All P (with_one o f s)
-stand_kept P (Some v) f s p h = h
-stand_kept P None f s p h = All-cons P f s p h
-
-pub all_standing : (P : Fragment → Type 0) (held : List Fragment) → All P held → All P (standing held)
-all_standing P [] h = All-nil P
-all_standing P (f ∷ held) h = stand_kept P (refused (standing held) f) f (standing held) (All-head P f held h) (all_standing P held (All-tail P f held h))
 
 -- ---- in the order of time
 

@@ -32,8 +32,7 @@ use Rattle.replay_events.specs.unit_laws.specs.Totals.{commands_total, data_tota
 use Rattle.replay_events.specs.unit_laws.proofs.DifferLemmas.{all_kept}
 use Rattle.replay_events.specs.unit_laws.proofs.SweepLemmas.{each_tick_related}
 use Rattle.replay_events.specs.unit_laws.proofs.TotalLemmas.{commands_add_up, data_add_up}
-use Rattle.replay_events.specs.history_laws.proofs.UnitLemmas.{not_none}
-use Rattle.replay_events.specs.Events.{additions_of, arrivals_at, arrivals_told, cells_at, count_event, count_events, events, events_at, events_between, number_of}
+use Rattle.replay_events.specs.Events.{additions_of, arrivals_at, arrivals_told, cells_reported_at, count_event, count_events, events, events_at, events_between, number_of}
 use Rattle.replay_events.specs.Moments.{all_arrivals, end_of_time, landing_at}
 use Rattle.replay_events.specs.Traffic.{Traffic, landings_at, reported_at}
 use Rattle.replay_events.specs.declared.results.DelayResult.{DelayResult}
@@ -41,6 +40,7 @@ use Rattle.replay_events.proofs.ToldLemmas.{told_all}
 use Rattle.replay_laws.specs.Sums.{IsNumber, SumsAddUp, TellsNumber, UnitAddsUp, cells_total}
 use Rattle.replay_laws.proofs.BesideLemmas.{IsBeside, cells-append, commands-append, data-append, frames_beside, meetings_beside, messages_beside}
 use Rattle.replay_laws.proofs.OnceLemmas.{cells_are_reported}
+use Rattle.fh_time.proofs.Orders.{not_none}
 
 -- ---- each section has one verdict
 
@@ -194,13 +194,13 @@ module _ (counted : Side → Counter → List Counter) where
   tick_tells : (c : Config) (t : Traffic) (tick : ℤ) → All Tells (events_at c t tick)
   unfolding events_at
   tick_tells c t tick =
-      let ru = map event.Cell (cells_at Ru c t tick) in
+      let ru = map event.Cell (cells_reported_at Ru c t tick) in
       let came = arrivals_at Ru t tick in
       let taken = arrivals_at Du t tick in
-      let du = map event.Cell (cells_at Du c t tick) in
-      All-append Tells ru (came ++ (taken ++ du)) (cells_tell_none (cells_at Ru c t tick))
+      let du = map event.Cell (cells_reported_at Du c t tick) in
+      All-append Tells ru (came ++ (taken ++ du)) (cells_tell_none (cells_reported_at Ru c t tick))
       (All-append Tells came (taken ++ du) (arrivals_tell_none Ru (t.results Ru tick) (landing_at t.at_ru tick))
-      (All-append Tells taken du (arrivals_tell_none Du (t.results Du tick) (landing_at t.at_du tick)) (cells_tell_none (cells_at Du c t tick))))
+      (All-append Tells taken du (arrivals_tell_none Du (t.results Du tick) (landing_at t.at_du tick)) (cells_tell_none (cells_reported_at Du c t tick))))
 
   ticks_tell : (c : Config) (t : Traffic) (from end : ℤ) → All Tells (events_between c t from end)
   ticks_tell c t from end =

@@ -16,13 +16,14 @@ use Rattle.replay_events.specs.unit_model.specs.Standing.{AreInTime}
 use Rattle.replay_events.specs.unit_model.specs.declared.decoded.ControlSection.{ControlSection}
 use Rattle.replay_events.specs.unit_model.specs.declared.decoded.UserSection.{UserSection}
 use Rattle.replay_events.specs.unit_laws.proofs.ChangeLemmas.{either_way}
-use Rattle.replay_events.specs.history_laws.proofs.TickLemmas.{at_most}
 use Rattle.replay_events.specs.Moments.{all_arrivals, end_of_time}
 use Rattle.replay_events.proofs.CameLemmas.{arrivals_in_time}
 use Rattle.replay_laws.specs.Silent.{EachSilentChangesNothing, IsSilent, SilentChangesNothing, began, is_with, without}
 use Rattle.replay_laws.proofs.FallingLemmas.{AreFalling, falling_behind, met_falling}
 use Rattle.replay_laws.proofs.RefusedLemmas.{AreAlike, alike_more, alike_standing}
-use Rattle.replay_laws.proofs.SilentLemmas.{IsKept, commands_skip, counted_skip, is_then_whole, kept_behind, kept_now, kept_on, none_now, other_more, own_more, past_by, repeat_on, same_id}
+use Rattle.replay_laws.proofs.SilentLemmas.{IsKept, commands_skip, counted_skip, is_then_whole, kept_behind, kept_now, kept_on, none_now, other_more, own_more, past_by, repeat_on}
+use Rattle.fh_time.proofs.Orders.{at_most}
+use Rattle.ecpri_fragments.proofs.Ids.{same_id}
 
 -- ---- of one endpoint and sequence id
 

@@ -22,8 +22,8 @@ use Rattle.replay_events.specs.Traffic.{Traffic, landings_at}
 use Rattle.replay_laws.specs.Shown.{GaveSamples, HaveOneId, IsInWindow}
 
 -- the fragments of the message that f makes whole after these, f first
-abbrev pub gathered : ℤ → Fragment → List Fragment → List Fragment
-gathered hold f earlier = f ∷ standing_before hold f earlier
+abbrev pub fragments_gathered : ℤ → Fragment → List Fragment → List Fragment
+fragments_gathered hold f earlier = f ∷ standing_before hold f earlier
 
 -- one of them, where a section of that message is `part` and covers a symbol that starts then
 pub record IsPieceInTime (side : Side) (c : Config) (arrivals : List Arrival) (f : Fragment) (earlier : List Fragment) (part : UserSection) (start : ℤ) (x : Fragment) : Type 0 where
@@ -65,14 +65,14 @@ pub record IsGathered (side : Side) (c : Config) (arrivals : List Arrival) (part
   pub there : Contains sections part
   -- its fragments
   pub end : Fragment
-  pub end_there : Contains (gathered (hold_of side c.delays) fragment (fragments earlier)) end
+  pub end_there : Contains (fragments_gathered (hold_of side c.delays) fragment (fragments earlier)) end
   pub end_is : end.last ≡ true
   pub count : length message.pieces ≡ end.sub + 1
-  pub each_there : (sub : ℕ) → sub ≤ end.sub → HasFragment (gathered (hold_of side c.delays) fragment (fragments earlier)) sub
-  pub pieces_are : All (λ x. slice_get message.pieces x.sub ≡ Some x.bytes) (gathered (hold_of side c.delays) fragment (fragments earlier))
-  pub in_time : All (IsPieceInTime side c arrivals fragment (fragments earlier) part start) (gathered (hold_of side c.delays) fragment (fragments earlier))
+  pub each_there : (sub : ℕ) → sub ≤ end.sub → HasFragment (fragments_gathered (hold_of side c.delays) fragment (fragments earlier)) sub
+  pub pieces_are : All (λ x. slice_get message.pieces x.sub ≡ Some x.bytes) (fragments_gathered (hold_of side c.delays) fragment (fragments earlier))
+  pub in_time : All (IsPieceInTime side c arrivals fragment (fragments earlier) part start) (fragments_gathered (hold_of side c.delays) fragment (fragments earlier))
   -- the first arrival is that of one of them, the last that of the fragment that made it whole
-  pub first_came : CameThen (gathered (hold_of side c.delays) fragment (fragments earlier)) part.first.0
+  pub first_came : CameThen (fragments_gathered (hold_of side c.delays) fragment (fragments earlier)) part.first.0
   pub last_came : fragment.at ≡ part.last.0
 
 -- so was the message of each section that gave a cell samples, at each unit, in every configuration, for all frames that may be replayed

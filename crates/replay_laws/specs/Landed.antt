@@ -5,8 +5,8 @@ use Rattle.replay_events.specs.Moments.{all_arrivals}
 use Rattle.replay_events.specs.Passing.{AreLandings}
 
 -- whatever one asks of a frame and its time, as many of those that arrive as of those that land have it
-abbrev pub AllArrive : List Arrival → Type 0
-AllArrive landings = (test : Arrival → Bool) → count_by test (all_arrivals landings) ≡ count_by test landings
+abbrev pub AllLand : List Arrival → Type 0
+AllLand landings = (test : Arrival → Bool) → count_by test (all_arrivals landings) ≡ count_by test landings
 
 abbrev pub EachArrives : Type 0
-EachArrives = (landings : List Arrival) → AreLandings landings → AllArrive landings
+EachArrives = (landings : List Arrival) → AreLandings landings → AllLand landings

@@ -5,27 +5,27 @@ use Rattle.std.proofs.lemmas.Bool.{cases_Bool}
 use Rattle.std.proofs.lemmas.Int.{ints}
 use Rattle.std.proofs.lemmas.List.Elements.{All-drop, All-head}
 use Rattle.fault_counters.specs.declared.kinds.Counter.{Counter}
-use Rattle.history_laws.specs.air_source.specs.declared.events.Side.TheVariants.{Ru}
-use Rattle.history_laws.specs.window_config.specs.declared.config.Config.{Config}
-use Rattle.history_laws.specs.unit_model.specs.Counts.{cells_counted}
-use Rattle.history_laws.specs.unit_model.specs.Meetings.{Arrival}
-use Rattle.history_laws.specs.unit_model.specs.Radiated.{first_clock}
-use Rattle.history_laws.specs.unit_model.specs.Proper.{IsTime}
-use Rattle.history_laws.specs.unit_model.specs.ProperJobs.{IsProperJob}
-use Rattle.history_laws.specs.unit_model.specs.Reports.{accepted_of}
-use Rattle.history_laws.specs.unit_model.specs.Uplink.{jobs}
-use Rattle.history_laws.specs.unit_model.specs.declared.jobs.UplinkJob.{UplinkJob}
-use Rattle.history_laws.proofs.SendingLemmas.{jobs_are_proper}
-use Rattle.history_laws.specs.unit_model.specs.Standing.{History, arrived, at_clock, handed, nothing_yet}
-use Rattle.history_laws.specs.unit_model.specs.declared.symbol_start.SymbolStart.{SymbolStart}
-use Rattle.history_laws.specs.unit_laws.specs.Runs.{OffsetsFit}
+use Rattle.radio_laws.specs.history_laws.specs.air_source.specs.declared.events.Side.TheVariants.{Ru}
+use Rattle.radio_laws.specs.history_laws.specs.window_config.specs.declared.config.Config.{Config}
+use Rattle.radio_laws.specs.history_laws.specs.unit_model.specs.Counts.{cells_counted}
+use Rattle.radio_laws.specs.history_laws.specs.unit_model.specs.Meetings.{Arrival}
+use Rattle.radio_laws.specs.history_laws.specs.unit_model.specs.Radiated.{first_clock}
+use Rattle.radio_laws.specs.history_laws.specs.unit_model.specs.Proper.{IsTime}
+use Rattle.radio_laws.specs.history_laws.specs.unit_model.specs.ProperJobs.{IsProperJob}
+use Rattle.radio_laws.specs.history_laws.specs.unit_model.specs.Reports.{accepted_of}
+use Rattle.radio_laws.specs.history_laws.specs.unit_model.specs.Uplink.{jobs}
+use Rattle.radio_laws.specs.history_laws.specs.unit_model.specs.declared.jobs.UplinkJob.{UplinkJob}
+use Rattle.radio_laws.specs.history_laws.proofs.SendingLemmas.{jobs_are_proper}
+use Rattle.radio_laws.specs.history_laws.specs.unit_model.specs.Standing.{History, arrived, at_clock, handed, nothing_yet}
+use Rattle.radio_laws.specs.history_laws.specs.unit_model.specs.declared.symbol_start.SymbolStart.{SymbolStart}
+use Rattle.radio_laws.specs.history_laws.specs.unit_laws.specs.Runs.{OffsetsFit}
 use Rattle.fh_time.specs.declared.values.Ticks.{Ticks}
-use Rattle.history_laws.proofs.FirstLemmas.{first_is_first, nothing_is_nothing}
-use Rattle.history_laws.specs.unit_model.specs.Starts.{start_at}
-use Rattle.history_laws.specs.unit_model.specs.declared.cells.Cell.{Cell}
-use Rattle.history_laws.specs.unit_laws.proofs.SweepLemmas.{sweep-nothing, tick-nothing}
-use Rattle.ru_reports.specs.unit_cells.specs.Cells.{CellsValue, cells_done, cells_uplink, endpoints_of}
-use Rattle.ru_reports.specs.unit_cells.specs.Keeping.{SameKnown, SameMarks}
+use Rattle.radio_laws.specs.history_laws.proofs.FirstLemmas.{first_is_first, nothing_is_nothing}
+use Rattle.radio_laws.specs.history_laws.specs.unit_model.specs.Starts.{start_at}
+use Rattle.radio_laws.specs.history_laws.specs.unit_model.specs.declared.cells.Cell.{Cell}
+use Rattle.radio_laws.specs.history_laws.specs.unit_laws.proofs.SweepLemmas.{tick-nothing}
+use Rattle.ru_reports.specs.unit_cells.specs.Cells.{CellsValue, cells_reported, cells_uplink, endpoints_of}
+use Rattle.ru_reports.specs.unit_cells.specs.Keeping.{SameKnown, SameReported}
 use Rattle.ru_jobs.specs.Cursors.{GivenOne, IsFirstJob, Settled, jobs_left}
 use Rattle.ru_jobs.specs.declared.cursor.NextJob.{NextJob}
 use Rattle.ru_reports.specs.Symbols.{is_left}
@@ -35,29 +35,30 @@ use Rattle.unit_memory.specs.Memory.{Holds, HoldsSome, arrival}
 use Rattle.unit_memory.specs.declared.memory.UnitMemory.{UnitMemory}
 use Rattle.unit_memory.proofs.HoldLemmas.{holds_later}
 use Rattle.ru_buffers.specs.Calls.{IsCellMoment, IsDue, IsLeast, IsMessageMoment, earlier_time, given_of}
-use Rattle.ru_buffers.specs.JobLaws.{IsSettled, NothingIsLeft}
-use Rattle.ru_buffers.specs.Reporting.{IsFirstLeft, due_of}
-use Rattle.ru_buffers.specs.Units.{IsReady, Stands, left_up_to}
-use Rattle.ru_buffers.proofs.ArrivalLemmas.{delivered}
-use Rattle.ru_buffers.proofs.HistoryLemmas.{stands}
-use Rattle.ru_buffers.proofs.JobLemmas.{give, later, none_before_first, none_to_give, ready_once_given, settle, some_from_first}
-use Rattle.ru_buffers.proofs.MarkedLemmas.{left_same}
-use Rattle.ru_buffers.proofs.QuietLemmas.{left_less}
-use Rattle.ru_buffers.proofs.ReportLemmas.{nothing_before_first, nothing_is_due, something_at_first}
-use Rattle.ru_buffers.proofs.MadeLemmas.{made, no_messages}
+use Rattle.radio_laws.specs.JobLaws.{IsSettled, NothingIsLeft}
+use Rattle.radio_laws.specs.Reporting.{IsFirstLeft, due_of}
+use Rattle.radio_laws.specs.Units.{IsReady, RadioStands, left_up_to}
+use Rattle.radio_laws.proofs.ArrivalLemmas.{delivered}
+use Rattle.radio_laws.proofs.HistoryLemmas.{stands}
+use Rattle.radio_laws.proofs.JobLemmas.{give, later, none_before_first, none_to_give, ready_once_given, settle, some_from_first}
+use Rattle.radio_laws.proofs.ReportedLemmas.{left_same}
+use Rattle.radio_laws.proofs.QuietLemmas.{left_less}
+use Rattle.radio_laws.proofs.ReportLemmas.{nothing_before_first, nothing_is_due, something_at_first}
+use Rattle.radio_laws.proofs.MadeLemmas.{made, no_messages}
+use Rattle.radio_laws.specs.history_laws.specs.unit_model.proofs.SweepLaws.{sweep_quiet as sweep-nothing}
 
 -- ---- a unit that was made
 
 since_is : (cursor : JobCursor) (t : ℤ) → (let r : JobCursor = record { since = record { 0 = t }; last = None; given = 0 } in cursor ≡ r) → (cursor.since.0 ≡ t)
 since_is cursor t e = ap (λ (x : JobCursor). x.since.0) e
 
-pub stands_made : (c : Config) (m : UnitMemory) (cursor : JobCursor) → ((clock : ℤ) → Holds Ru c clock m [] []) → ((cell : Cell) → cells_done m.cells cell ≡ false)
-    → (let r : JobCursor = record { since = record { 0 = first_clock }; last = None; given = 0 } in cursor ≡ r) → Stands c m first_clock cursor nothing_yet
-stands_made c m cursor holds unmarked is =
-    stands c m first_clock cursor nothing_yet (made c m cursor holds unmarked (since_is cursor first_clock is) (ap (λ (x : JobCursor). x.last) is))
+pub stands_made : (c : Config) (m : UnitMemory) (cursor : JobCursor) → ((clock : ℤ) → Holds Ru c clock m [] []) → ((cell : Cell) → cells_reported m.cells cell ≡ false)
+    → (let r : JobCursor = record { since = record { 0 = first_clock }; last = None; given = 0 } in cursor ≡ r) → RadioStands c m first_clock cursor nothing_yet
+stands_made c m cursor holds unreported is =
+    stands c m first_clock cursor nothing_yet (made c m cursor holds unreported (since_is cursor first_clock is) (ap (λ (x : JobCursor). x.last) is))
 
 -- nothing was to be given before its clock
-pub given_made : (c : Config) (m : UnitMemory) (clock : ℤ) (cursor : JobCursor) → Stands c m clock cursor nothing_yet → IsReady m clock cursor
+pub given_made : (c : Config) (m : UnitMemory) (clock : ℤ) (cursor : JobCursor) → RadioStands c m clock cursor nothing_yet → IsReady m clock cursor
 given_made c m clock cursor all = all.kept.left (clock -ℤ pos 1) ∙ no_messages c (clock -ℤ pos 1) all.kept.holds.config.delays
 
 -- ---- a cursor that is settled
@@ -74,12 +75,12 @@ ready_settled v clock cursor next settled =
     tick-nothing g (endpoints_of v) tick (λ ep e slot symbol swept.
     settled.before (cells_uplink v) (start_at ep e slot symbol) (subst (λ (t : ℤ). t <ℤ clock) (sym swept.starts) (before_clock clock tick high))))
 
-module _ (c : Config) (m : UnitMemory) (clock : ℤ) (cursor next : JobCursor) (h : History) (all : Stands c m clock cursor h) (ready : IsReady m clock cursor)
+module _ (c : Config) (m : UnitMemory) (clock : ℤ) (cursor next : JobCursor) (h : History) (all : RadioStands c m clock cursor h) (ready : IsReady m clock cursor)
     (settled : Settled clock cursor next) where
   pub settled_is : IsSettled c m clock next h
   settled_is = settle holds_later c m clock cursor next h all.kept ready settled
 
-  pub stands_settled : Stands c m clock next h
+  pub stands_settled : RadioStands c m clock next h
   stands_settled = stands c m clock next h settled_is.kept
 
   holds_now : Holds Ru c clock m h.arrivals (cells_counted h.reported)
@@ -90,20 +91,20 @@ module _ (c : Config) (m : UnitMemory) (clock : ℤ) (cursor next : JobCursor) (
 
   pub stands_delivered : (m2 : UnitMemory) (frame : List ℕ)
       → ((arrivals : List Arrival) (beside : List Counter) → Holds Ru c clock m arrivals beside → Holds Ru c clock m2 (arrival clock frame ∷ arrivals) beside)
-      → SameMarks Ru c clock m.cells m2.cells → Stands c m2 clock next (arrived h frame)
-  stands_delivered m2 frame holds marks =
+      → SameReported Ru c clock m.cells m2.cells → RadioStands c m2 clock next (arrived h frame)
+  stands_delivered m2 frame holds reports =
       let beside = cells_counted h.reported in
       let at_clock : Holds Ru c clock m2 (arrival h.clock frame ∷ h.arrivals) beside =
       subst (λ (t : ℤ). Holds Ru c clock m2 (arrival t frame ∷ h.arrivals) beside) settled_is.kept.clock_is (holds h.arrivals beside holds_now) in
       stands c m2 clock next (arrived h frame)
       (delivered c m m2 clock next h frame settled_is.kept (settled_is.since ∙ settled_is.kept.clock_is)
       (subst (λ (t : ℤ). Holds Ru c t m2 (arrival h.clock frame ∷ h.arrivals) beside) (sym settled_is.since) at_clock)
-      (subst (λ (t : ℤ). SameMarks Ru c t m.cells m2.cells) (sym settled_is.since) marks))
+      (subst (λ (t : ℤ). SameReported Ru c t m.cells m2.cells) (sym settled_is.since) reports))
 
 -- ---- as the clock goes on
 
-pub stands_later : (c : Config) (m : UnitMemory) (clock was : ℤ) (cursor : JobCursor) (h : History) (to : ℤ) → Stands c m clock cursor h → clock ≡ was → IsTime to → was ≤ℤ to
-    → due_of c h to ≡ [] → Stands c m to cursor (at_clock h to)
+pub stands_later : (c : Config) (m : UnitMemory) (clock was : ℤ) (cursor : JobCursor) (h : History) (to : ℤ) → RadioStands c m clock cursor h → clock ≡ was → IsTime to → was ≤ℤ to
+    → due_of c h to ≡ [] → RadioStands c m to cursor (at_clock h to)
 stands_later c m clock was cursor h to all same time order none =
     stands c m to cursor (at_clock h to) (later c m clock cursor h to all.kept time (subst (λ (t : ℤ). t ≤ℤ to) (sym same) order) none)
 
@@ -117,7 +118,7 @@ ready_known old new next cursor clock was known endpoints same now ready =
 
 -- ---- messages
 
-module _ (c : Config) (m : UnitMemory) (clock : ℤ) (cursor : JobCursor) (h : History) (all : Stands c m clock cursor h) where
+module _ (c : Config) (m : UnitMemory) (clock : ℤ) (cursor : JobCursor) (h : History) (all : RadioStands c m clock cursor h) where
   pub none_at_clock : NothingIsLeft m cursor → given_of c h h.clock ≡ []
   none_at_clock none = none_to_give c m clock cursor h h.clock all.kept none
 
@@ -141,7 +142,7 @@ module _ (c : Config) (m : UnitMemory) (clock : ℤ) (cursor : JobCursor) (h : H
       last_by a b same = omega (arith, ints)
 
   pub gives : (next : JobCursor) (n : NextJob) → OffsetsFit n.symbol.endpoint.numerology → IsFirstJob m.cells cursor n → n.symbol.start.0 ≤ℤ clock
-      → GivenOne m.cells cursor n next → (given_of c h h.clock ≡ n.job ∷ given_of c (handed h n.job) h.clock) × Stands c m clock next (handed h n.job)
+      → GivenOne m.cells cursor n next → (given_of c h h.clock ≡ n.job ∷ given_of c (handed h n.job) h.clock) × RadioStands c m clock next (handed h n.job)
   gives next n fits first by given =
       let is = give first_is_first c m clock cursor next n h all.kept fits first by given in
       (subst (λ (t : ℤ). given_of c h t ≡ n.job ∷ given_of c (handed h n.job) t) all.kept.clock_is is.first, stands c m clock next (handed h n.job) is.kept)

@@ -3,20 +3,23 @@ use Rattle.std.proofs.Common.{◌≡◌, ℕ, ℤ, Bool, true, false, ◌||◌, 
 use Rattle.std.specs.Prelude.{nat_lt, if◌then◌else◌}
 use Rattle.std.specs.List.{list_any}
 use Rattle.std.proofs.lemmas.Bool.{or_parts}
-use Rattle.history_laws.specs.air_source.specs.declared.events.Side.TheVariants.{Ru}
-use Rattle.history_laws.specs.ecpri_fragments.specs.Generations.{Fragment}
+use Rattle.radio_laws.specs.history_laws.specs.air_source.specs.declared.events.Side.TheVariants.{Ru}
+use Rattle.radio_laws.specs.history_laws.specs.ecpri_fragments.specs.Generations.{Fragment}
 use Rattle.fault_counters.specs.declared.kinds.Counter.{Counter}
 use Rattle.fault_counters.specs.declared.kinds.Counter.TheVariants.{Delay, OtherType, Short, UnknownEndpoint}
 use Rattle.ecpri_frames.specs.Gathering.{whole_messages}
 use Rattle.ecpri_frames.specs.Messages.{Message}
-use Rattle.history_laws.specs.window_config.specs.declared.config.Config.{Config}
-use Rattle.history_laws.specs.window_config.specs.declared.endpoints.EndpointConfig.{EndpointConfig}
-use Rattle.history_laws.specs.unit_model.specs.Commands.{accepted}
-use Rattle.history_laws.specs.unit_model.specs.Lists.{onto}
-use Rattle.history_laws.specs.unit_model.specs.Meetings.{Arrival, Meeting, Ignored, Piece, commands, control_met, find_endpoint, fragment_of, id_of, meet, meetings, met_by}
-use Rattle.history_laws.specs.unit_model.specs.Reports.{accepted_of}
-use Rattle.history_laws.specs.unit_model.specs.declared.decoded.ControlSection.{ControlSection}
+use Rattle.radio_laws.specs.history_laws.specs.window_config.specs.declared.config.Config.{Config}
+use Rattle.radio_laws.specs.history_laws.specs.window_config.specs.declared.endpoints.EndpointConfig.{EndpointConfig}
+use Rattle.radio_laws.specs.history_laws.specs.unit_model.specs.Commands.{accepted}
+use Rattle.radio_laws.specs.history_laws.specs.unit_model.specs.Lists.{onto}
+use Rattle.radio_laws.specs.history_laws.specs.unit_model.specs.Meetings.{Arrival, Meeting, Ignored, Piece, commands, control_met, find_endpoint, fragment_of, id_of, meet, meetings, met_by}
+use Rattle.radio_laws.specs.history_laws.specs.unit_model.specs.Reports.{accepted_of}
+use Rattle.radio_laws.specs.history_laws.specs.unit_model.specs.declared.decoded.ControlSection.{ControlSection}
 use Rattle.unit_memory.specs.Control.{has_control, is_control}
+use Rattle.ecpri_frames.specs.declared.heads.TheConstants.{ONE_WAY_DELAY}
+use Rattle.ecpri_frames.specs.declared.heads.TheConstants.{REAL_TIME_CONTROL}
+use Rattle.ecpri_frames.specs.declared.heads.TheConstants.{IQ_DATA}
 
 abbrev Adds : Meeting → Type 0
 Adds m = (earlier : List Meeting) → commands (m ∷ earlier) ≡ commands earlier
@@ -37,16 +40,16 @@ other : (b : Bool) (x y : Meeting) → b ≡ false → Adds y → Adds (if b the
 other true x y e q = absurd cc
 other false x y e q = q
 
-by_adds : (kind : ℕ) (at : ℤ) (payload : List ℕ) (o : Option (ℕ × EndpointConfig)) → (kind == 2) ≡ false → Adds (met_by Ru kind at payload o)
+by_adds : (kind : ℕ) (at : ℤ) (payload : List ℕ) (o : Option (ℕ × EndpointConfig)) → (kind == REAL_TIME_CONTROL) ≡ false → Adds (met_by Ru kind at payload o)
 by_adds kind at payload None e = ignored_adds UnknownEndpoint
 by_adds kind at payload (Some (ep, endpoint)) e =
-    other (kind == 2) (control_met Ru ep endpoint at payload) (Piece endpoint (fragment_of ep at payload)) e (piece_adds endpoint (fragment_of ep at payload))
+    other (kind == REAL_TIME_CONTROL) (control_met Ru ep endpoint at payload) (Piece endpoint (fragment_of ep at payload)) e (piece_adds endpoint (fragment_of ep at payload))
 
 meets_none : (es : List EndpointConfig) (at : ℤ) (m : Message) → is_control m ≡ false → Adds (meet Ru es at m)
 unfolding meet
 meets_none es at m e =
-    chosen (m.head.kind == 5) _ _ (ignored_adds Delay)
-    (chosen (not (m.head.kind == 0 || m.head.kind == 2)) _ _ (ignored_adds OtherType)
+    chosen (m.head.kind == ONE_WAY_DELAY) _ _ (ignored_adds Delay)
+    (chosen (not (m.head.kind == IQ_DATA || m.head.kind == REAL_TIME_CONTROL)) _ _ (ignored_adds OtherType)
     (chosen (nat_lt (length m.payload) 4) _ _ (ignored_adds Short) (by_adds m.head.kind at m.payload (find_endpoint es (id_of m.payload)) e)))
 
 onto_adds : (es : List EndpointConfig) (at : ℤ) (ms : List Message) (earlier : List Meeting) → list_any is_control ms ≡ false

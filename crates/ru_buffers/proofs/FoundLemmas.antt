@@ -1,9 +1,8 @@
 -- What searches find.
-use Rattle.std.proofs.Common.{◌≡◌, ℤ, ◌<ℤ◌, true, [], arith, Option, None, Some}
+use Rattle.std.proofs.Common.{◌≡◌, ℤ, [], Option, None, Some}
 use Rattle.std.specs.Prelude.{IfNone, IfSome, int_lt}
 use Rattle.std.proofs.lemmas.Bool.{and_from, and_parts}
-use Rattle.std.proofs.lemmas.Int.{ints}
-use Rattle.history_laws.specs.unit_model.specs.declared.symbol_start.SymbolStart.{SymbolStart}
+use Rattle.radio_laws.specs.history_laws.specs.unit_model.specs.declared.symbol_start.SymbolStart.{SymbolStart}
 use Rattle.ru_reports.specs.unit_cells.specs.Cells.{CellsValue, cells_uplink}
 use Rattle.ru_jobs.specs.Cursors.{IsFirstJob, left_in}
 use Rattle.ru_jobs.specs.declared.cursor.JobCursor.{JobCursor}
@@ -11,13 +10,8 @@ use Rattle.ru_jobs.specs.declared.cursor.NextJob.{NextJob}
 use Rattle.ru_reports.specs.Symbols.{is_left_after}
 use Rattle.ru_reports.specs.symbol_search.specs.Symbols.{IsFirst, IsFitting, IsSymbol}
 use Rattle.ru_buffers.specs.Calls.{IsNextMessage, IsNextSymbol}
-use Rattle.ru_buffers.specs.Reporting.{IsLeftAfter}
-
-later : (t s : ℤ) → int_lt t s ≡ true → t <ℤ s
-later t s e = grind (arith, ints)
-
-is_later : (t s : ℤ) → t <ℤ s → int_lt t s ≡ true
-is_later t s h = grind (arith, ints)
+use Rattle.radio_laws.specs.Reporting.{IsLeftAfter}
+use Rattle.fh_time.proofs.Orders.{under as later, under_is as is_later}
 
 fitting : (v : CellsValue) (clock : ℤ) (x : SymbolStart) → IsLeftAfter v clock x → IsFitting v (is_left_after v clock) x
 fitting v clock x is = record { is = is.symbol; fit = and_from (int_lt clock x.start.0) _ (is_later clock x.start.0 is.after) is.left }

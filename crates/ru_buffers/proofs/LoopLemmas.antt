@@ -2,26 +2,26 @@
 use Rattle.std.proofs.Common.{◌≡◌, ℕ, suc, ℤ, pos, ◌-◌, ◌<◌, ◌≤◌, ◌≤ℤ◌, ◌<ℤ◌, ◌^◌, neg_ℤ, true, List, [], ◌∷◌, ◌++◌, length, map, refl, sym, ap, ◌∙◌, subst, arith, append-nil}
 use Rattle.std.specs.Prelude.{Option, Some, None, Result, Ok, Err}
 use Rattle.std.proofs.Math.Nat.{le_refl, le_trans}
-use Rattle.history_laws.specs.air_source.specs.Causes.{HasAirCause}
-use Rattle.history_laws.specs.air_source.specs.declared.airs.AirFault.{AirFault}
-use Rattle.history_laws.specs.air_source.specs.declared.airs.AirFault.TheVariants.{Failed}
+use Rattle.radio_laws.specs.history_laws.specs.air_source.specs.Causes.{HasAirCause}
+use Rattle.radio_laws.specs.history_laws.specs.air_source.specs.declared.airs.AirFault.{AirFault}
+use Rattle.radio_laws.specs.history_laws.specs.air_source.specs.declared.airs.AirFault.TheVariants.{Failed}
 use Rattle.std.proofs.lemmas.Int.{ints}
 use Rattle.std.proofs.lemmas.List.{map-append}
 use Rattle.std.proofs.lemmas.Option.{slice_get_within}
 use Rattle.fh_base.proofs.Causes.{rose_since}
 use Rattle.fh_time.specs.declared.values.Ticks.{Ticks}
 use Rattle.fh_time.proofs.Order.{slots_few, symbols_few}
-use Rattle.history_laws.specs.air_source.specs.declared.events.AirCell.{AirCell}
-use Rattle.history_laws.specs.air_source.specs.declared.events.Event.{Event}
-use Rattle.history_laws.specs.air_source.specs.declared.events.Event.TheVariants.{Cell as Reported}
-use Rattle.history_laws.specs.window_config.specs.declared.config.Config.{Config}
-use Rattle.history_laws.specs.unit_model.specs.Order.{comes_before}
-use Rattle.history_laws.specs.unit_model.specs.Standing.{History, heard}
-use Rattle.history_laws.specs.unit_model.specs.declared.symbol_start.SymbolStart.{SymbolStart}
-use Rattle.history_laws.specs.unit_laws.specs.Runs.{OffsetsFit}
+use Rattle.radio_laws.specs.history_laws.specs.air_source.specs.declared.events.AirCell.{AirCell}
+use Rattle.radio_laws.specs.history_laws.specs.air_source.specs.declared.events.Event.{Event}
+use Rattle.radio_laws.specs.history_laws.specs.air_source.specs.declared.events.Event.TheVariants.{Cell as Reported}
+use Rattle.radio_laws.specs.history_laws.specs.window_config.specs.declared.config.Config.{Config}
+use Rattle.radio_laws.specs.history_laws.specs.unit_model.specs.Order.{comes_before}
+use Rattle.radio_laws.specs.history_laws.specs.unit_model.specs.Standing.{History, heard}
+use Rattle.radio_laws.specs.history_laws.specs.unit_model.specs.declared.symbol_start.SymbolStart.{SymbolStart}
+use Rattle.radio_laws.specs.history_laws.specs.unit_laws.specs.Runs.{OffsetsFit}
 use Rattle.ru_reports.specs.unit_cells.specs.Cells.{CellsValue, endpoints_of}
 use Rattle.ru_reports.specs.unit_cells.specs.Keeping.{SameKnown}
-use Rattle.history_laws.proofs.FirstLemmas.{first_is_first, nothing_is_nothing}
+use Rattle.radio_laws.specs.history_laws.proofs.FirstLemmas.{first_is_first, nothing_is_nothing}
 use Rattle.ru_jobs.specs.Cursors.{IsFirstJob, Settled}
 use Rattle.ru_jobs.specs.declared.cursor.JobCursor.{JobCursor}
 use Rattle.ru_jobs.specs.declared.cursor.NextJob.{NextJob}
@@ -29,14 +29,15 @@ use Rattle.unit_memory.specs.declared.memory.UnitMemory.{UnitMemory}
 use Rattle.ru_reports.specs.Symbols.{StopsAtCell, left_at}
 use Rattle.ru_buffers.specs.Advancing.{AfterReport, GoesOn, InOrder, IsNextReport, IsOver, StartsLater, ToldAll, rank_of, rank_past, ranks_left}
 use Rattle.ru_buffers.specs.Calls.{IsNextMessage, IsNextSymbol, StandsFor, StopsAtDue}
-use Rattle.ru_buffers.specs.JobLaws.{NothingIsLeft}
-use Rattle.ru_buffers.specs.Reporting.{IsFirstLeft, IsFoundLeft, IsLeftAfter, IsMarked, due_of}
-use Rattle.ru_buffers.specs.Units.{IsReady, Stands}
+use Rattle.radio_laws.specs.JobLaws.{NothingIsLeft}
+use Rattle.radio_laws.specs.Reporting.{IsFirstLeft, IsFoundLeft, IsLeftAfter, HasReported, due_of}
+use Rattle.radio_laws.specs.Units.{IsReady, RadioStands}
 use Rattle.ru_buffers.specs.declared.unit.Ru.{Ru}
-use Rattle.ru_buffers.proofs.AdvanceLemmas.{begins_further, goes_further, goes_nowhere, goes_on, nothing_by, nothing_left, stops}
+use Rattle.radio_laws.proofs.AdvanceLemmas.{begins_further, goes_further, goes_nowhere, goes_on, nothing_by, nothing_left, stops}
 use Rattle.ru_buffers.proofs.CallLemmas.{stands_settled}
 use Rattle.ru_buffers.proofs.NextLemmas.{message_known, message_settled}
 use Rattle.ru_buffers.proofs.RankLemmas.{IsRanked, rank_below, rank_rises}
+use Rattle.fh_time.specs.declared.symbols.TheConstants.{SLOT_SYMBOLS}
 
 -- ---- one symbol
 
@@ -49,11 +50,11 @@ abbrev pub with_memory : Ru → UnitMemory → Option SymbolStart → Ru
 with_memory u m o = record { memory = m; clock = u.clock; cursor = u.cursor; symbol = o; message = u.message }
 
 -- what the unit answers by its memory
-pub standing : (c : Config) (u : Ru) (h : History) → StandsFor c u h → Stands c u.memory u.clock.0 u.cursor h
+pub standing : (c : Config) (u : Ru) (h : History) → StandsFor c u h → RadioStands c u.memory u.clock.0 u.cursor h
 standing c u h all = record { answers = all.answers; kept = all.kept }
 
 -- and what comes next
-pub standing_with : (c : Config) (u : Ru) (h : History) → Stands c u.memory u.clock.0 u.cursor h → IsNextSymbol u.memory.cells u.clock.0 u.symbol
+pub standing_with : (c : Config) (u : Ru) (h : History) → RadioStands c u.memory u.clock.0 u.cursor h → IsNextSymbol u.memory.cells u.clock.0 u.symbol
     → IsNextMessage u.memory.cells u.cursor u.message → StandsFor c u h
 standing_with c u h all symbol message = record { answers = all.answers; kept = all.kept; symbol = symbol; message = message }
 
@@ -94,20 +95,20 @@ over_later u air to c h s all is early = record {
   later = later_some to s u.symbol is early;
 }
 
-marked_then : (c : Config) (u : Ru) (m : UnitMemory) (o : Option SymbolStart) (s : SymbolStart) (told : List AirCell) (h : History) → Stands c m u.clock.0 u.cursor h
-    → IsNextSymbol m.cells u.clock.0 o → IsMarked s told u.memory m → IsNextMessage u.memory.cells u.cursor u.message → StandsFor c (with_memory u m o) h
-marked_then c u m o s told h all next marked message =
-    standing_with c (with_memory u m o) h all next (message_known u.memory.cells m.cells u.cursor marked.marks.known marked.marks.endpoints u.message message)
+reported_then : (c : Config) (u : Ru) (m : UnitMemory) (o : Option SymbolStart) (s : SymbolStart) (told : List AirCell) (h : History) → RadioStands c m u.clock.0 u.cursor h
+    → IsNextSymbol m.cells u.clock.0 o → HasReported s told u.memory m → IsNextMessage u.memory.cells u.cursor u.message → StandsFor c (with_memory u m o) h
+reported_then c u m o s told h all next was_reported message =
+    standing_with c (with_memory u m o) h all next (message_known u.memory.cells m.cells u.cursor was_reported.reports.known was_reported.reports.endpoints u.message message)
 
 pub goes_to : {A : Type 0} (grew : A → List Event → A → Type 0) (u : Ru) (m : UnitMemory) (o : Option SymbolStart) (before after : A) (to : ℤ) (c : Config) (h : History)
     (s : SymbolStart) → IsNextSymbol m.cells u.clock.0 o → StandsFor c u h → OffsetsFit s.endpoint.numerology → IsFirstLeft u.memory.cells u.clock.0 s → s.start.0 ≤ℤ to
-    → IsMarked s (left_at u.memory.cells s) u.memory m → grew before (map Reported (left_at u.memory.cells s)) after → GoesOn grew c h to (with_memory u m o) before after
-goes_to grew u m o before after to c h s next all fits first order marked told =
-    let g = goes_on first_is_first nothing_is_nothing c u.memory u.clock.0 u.cursor h (standing c u h all) to m s fits first order marked in
+    → HasReported s (left_at u.memory.cells s) u.memory m → grew before (map Reported (left_at u.memory.cells s)) after → GoesOn grew c h to (with_memory u m o) before after
+goes_to grew u m o before after to c h s next all fits first order was_reported told =
+    let g = goes_on first_is_first nothing_is_nothing c u.memory u.clock.0 u.cursor h (standing c u h all) to m s fits first order was_reported in
     record {
       told = left_at u.memory.cells s;
       is = g.is;
-      stands = marked_then c u m o s (left_at u.memory.cells s) (heard h (left_at u.memory.cells s)) g.stands next marked all.message;
+      stands = reported_then c u m o s (left_at u.memory.cells s) (heard h (left_at u.memory.cells s)) g.stands next was_reported all.message;
       heard_is = told;
     }
 
@@ -116,9 +117,9 @@ pub stops_at : {A : Type 0} (grew : A → List Event → A → Type 0) (stopped 
     → (stop : StopsAtCell grew stopped s u.memory.cells m.cells u.memory.counters m.counters before after) → m.endpoints ≡ u.memory.endpoints → m.assembly ≡ u.memory.assembly
     → StopsAtDue grew stopped c h to (with_memory u m o) before after
 stops_at grew stopped u m o before after to c h s next all fits first order stop endpoints assembly =
-    let marked : IsMarked s stop.told u.memory m = record { more = stop.cell ∷ stop.rest; left = stop.is; marks = stop.marks; counts = stop.counts; endpoints = endpoints; assembly = assembly } in
-    let b = stops first_is_first nothing_is_nothing c u.memory u.clock.0 u.cursor h (standing c u h all) to m s stop.told stop.rest stop.cell fits first order stop.is marked in
-    record { told = stop.told; cell = stop.cell; rest = b.rest; is = b.is; stands = marked_then c u m o s stop.told (heard h stop.told) b.stands next marked all.message; middle = stop.middle; heard_is = stop.heard; stop = stop.stop }
+    let was_reported : HasReported s stop.told u.memory m = record { more = stop.cell ∷ stop.rest; left = stop.is; reports = stop.reports; counts = stop.counts; endpoints = endpoints; assembly = assembly } in
+    let b = stops first_is_first nothing_is_nothing c u.memory u.clock.0 u.cursor h (standing c u h all) to m s stop.told stop.rest stop.cell fits first order stop.is was_reported in
+    record { told = stop.told; cell = stop.cell; rest = b.rest; is = b.is; stands = reported_then c u m o s stop.told (heard h stop.told) b.stands next was_reported all.message; middle = stop.middle; heard_is = stop.heard; stop = stop.stop }
 
 -- at a cursor that is settled
 abbrev pub settled_unit : Ru → JobCursor → Ru
@@ -241,7 +242,7 @@ small_ep ep n h k = omega arith
 small_slot : (x n : ℕ) → x < n → n ≤ 16 → x < 256
 small_slot x n h k = omega arith
 
-small_symbol : (x n : ℕ) → x < n → n ≤ 14 → x < 256
+small_symbol : (x n : ℕ) → x < n → n ≤ SLOT_SYMBOLS → x < 256
 small_symbol x n h k = omega arith
 
 small_subframe : (x : ℕ) → x < 10 → x < 16

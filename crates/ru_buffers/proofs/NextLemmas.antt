@@ -1,5 +1,5 @@
 -- What comes next of a unit is kept: it is what a search finds, as frames come, messages are given and time passes.
-use Rattle.std.proofs.Common.{◌≡◌, ℕ, zero, suc, ℤ, pos, ◌+◌, ◌<◌, ◌≤◌, ◌-ℤ◌, ◌≤ℤ◌, ◌<ℤ◌, Bool, true, not, ◌&&◌, ◌||◌, ◌==◌, List, [], ◌∷◌, length, refl, sym, ap, ap₂, ◌∙◌, subst, inl, inr, arith, Option, None, Some}
+use Rattle.std.proofs.Common.{◌≡◌, ℕ, zero, suc, ℤ, pos, ◌+◌, ◌<◌, ◌≤◌, ◌-ℤ◌, ◌≤ℤ◌, Bool, true, not, ◌&&◌, ◌||◌, ◌==◌, List, [], ◌∷◌, length, refl, sym, ap, ap₂, ◌∙◌, subst, inl, inr, arith, Option, None, Some}
 use Rattle.std.specs.Prelude.{◌^◌}
 use Rattle.std.specs.List.{list_any}
 use Rattle.std.proofs.lemmas.Bool.{cases_Bool, both_ways}
@@ -7,35 +7,34 @@ use Rattle.std.proofs.lemmas.Int.{ints, by_lt_z}
 use Rattle.fh_time.specs.Air.{air_of}
 use Rattle.fh_time.specs.Numbering.{symbols_of}
 use Rattle.fh_time.proofs.Kept.{offsets_short}
-use Rattle.history_laws.specs.air_source.specs.declared.events.Side.TheVariants.{Ru}
-use Rattle.history_laws.specs.window_config.specs.declared.config.Config.{Config}
-use Rattle.history_laws.specs.window_config.specs.declared.endpoints.EndpointConfig.{EndpointConfig}
-use Rattle.history_laws.specs.air_source.specs.declared.events.AirCell.{AirCell}
-use Rattle.history_laws.specs.unit_model.specs.Claims.{claim_at}
-use Rattle.history_laws.specs.unit_model.specs.Counts.{cells_counted}
-use Rattle.history_laws.specs.unit_model.specs.Lists.{some}
-use Rattle.history_laws.specs.unit_model.specs.Proper.{IsAt, IsSlot}
-use Rattle.history_laws.specs.unit_model.specs.Reports.{accepted_of, timely_of}
-use Rattle.history_laws.specs.unit_model.specs.Standing.{History, cell_heard, uplink_of}
-use Rattle.history_laws.specs.unit_model.specs.Starts.{start_at}
-use Rattle.history_laws.specs.unit_model.specs.Uplink.{symbol_jobs}
-use Rattle.history_laws.specs.unit_model.specs.declared.allocations.Allocation.{Allocation}
-use Rattle.history_laws.specs.unit_model.specs.declared.cells.Claim.{Claim}
-use Rattle.history_laws.specs.unit_model.specs.declared.jobs.UplinkJob.{UplinkJob}
-use Rattle.history_laws.specs.unit_model.specs.declared.symbol_start.SymbolStart.{SymbolStart}
-use Rattle.history_laws.specs.unit_laws.specs.Swept.{IsSwept}
-use Rattle.history_laws.specs.unit_laws.specs.Ticks.{IsLiveSlot}
-use Rattle.history_laws.specs.unit_laws.proofs.FrameLemmas.{symbols_are_swept}
+use Rattle.radio_laws.specs.history_laws.specs.air_source.specs.declared.events.Side.TheVariants.{Ru}
+use Rattle.radio_laws.specs.history_laws.specs.window_config.specs.declared.config.Config.{Config}
+use Rattle.radio_laws.specs.history_laws.specs.window_config.specs.declared.endpoints.EndpointConfig.{EndpointConfig}
+use Rattle.radio_laws.specs.history_laws.specs.air_source.specs.declared.events.AirCell.{AirCell}
+use Rattle.radio_laws.specs.history_laws.specs.unit_model.specs.Claims.{claim_at}
+use Rattle.radio_laws.specs.history_laws.specs.unit_model.specs.Counts.{cells_counted}
+use Rattle.radio_laws.specs.history_laws.specs.unit_model.specs.Lists.{some}
+use Rattle.radio_laws.specs.history_laws.specs.unit_model.specs.Proper.{IsAt, IsSlot}
+use Rattle.radio_laws.specs.history_laws.specs.unit_model.specs.Reports.{accepted_of, timely_of}
+use Rattle.radio_laws.specs.history_laws.specs.unit_model.specs.Standing.{History, cell_heard, uplink_of}
+use Rattle.radio_laws.specs.history_laws.specs.unit_model.specs.Starts.{start_at}
+use Rattle.radio_laws.specs.history_laws.specs.unit_model.specs.Uplink.{symbol_jobs}
+use Rattle.radio_laws.specs.history_laws.specs.unit_model.specs.declared.allocations.Allocation.{Allocation}
+use Rattle.radio_laws.specs.history_laws.specs.unit_model.specs.declared.cells.Claim.{Claim}
+use Rattle.radio_laws.specs.history_laws.specs.unit_model.specs.declared.jobs.UplinkJob.{UplinkJob}
+use Rattle.radio_laws.specs.history_laws.specs.unit_model.specs.declared.symbol_start.SymbolStart.{SymbolStart}
+use Rattle.radio_laws.specs.history_laws.specs.unit_laws.specs.Swept.{IsSwept}
+use Rattle.radio_laws.specs.history_laws.specs.unit_laws.specs.Ticks.{IsLiveSlot}
+use Rattle.radio_laws.specs.history_laws.specs.unit_laws.proofs.FrameLemmas.{symbols_are_swept}
 use Rattle.ru_reports.specs.slot_rings.specs.Places.{is_due}
-use Rattle.ru_reports.specs.unit_cells.specs.Cells.{CellsValue, cells_claim, cells_done, cells_has, cells_uplink, endpoints_of, ring_of}
+use Rattle.ru_reports.specs.unit_cells.specs.Cells.{CellsValue, cells_claim, cells_reported, cells_has, cells_uplink, endpoints_of, ring_of}
 use Rattle.ru_reports.specs.unit_cells.specs.Keeping.{SameKnown}
 use Rattle.ru_reports.specs.unit_cells.proofs.KeepLemmas.{at_config, at_rings}
 use Rattle.ru_reports.specs.unit_cells.proofs.TimeLemmas.{far_no_place, live_at, no_uplink_from}
-use Rattle.history_laws.proofs.FirstLemmas.{first_is_first}
+use Rattle.radio_laws.specs.history_laws.proofs.FirstLemmas.{first_is_first}
 use Rattle.ru_jobs.specs.Cursors.{IsFirstJob, Settled, at_start, jobs_left, left_in, left_jobs}
 use Rattle.ru_reports.specs.symbol_search.specs.Symbols.{IsSymbol}
-use Rattle.history_laws.proofs.TickLemmas.{last_before}
-use Rattle.history_laws.proofs.UnitLemmas.{used_same}
+use Rattle.radio_laws.specs.history_laws.proofs.TickLemmas.{last_before}
 use Rattle.ru_jobs.specs.declared.cursor.JobCursor.{JobCursor}
 use Rattle.ru_jobs.specs.declared.cursor.NextJob.{NextJob}
 use Rattle.unit_memory.specs.declared.memory.UnitMemory.{UnitMemory}
@@ -43,13 +42,17 @@ use Rattle.ru_reports.specs.Symbols.{cell_in, is_left}
 use Rattle.ru_reports.proofs.LeftLemmas.{nothing_without_place}
 use Rattle.ru_buffers.specs.Advancing.{StartsLater}
 use Rattle.ru_buffers.specs.Calls.{IsNextMessage, IsNextSymbol}
-use Rattle.ru_buffers.specs.Reporting.{IsLeftAfter}
-use Rattle.ru_buffers.specs.Units.{IsReady, Keeps}
-use Rattle.ru_buffers.proofs.JobLemmas.{some_from_first}
-use Rattle.ru_buffers.proofs.LeftLemmas.{left_of_none, left_since}
-use Rattle.ru_buffers.proofs.LookupLemmas.{left_is, starts_at}
-use Rattle.ru_buffers.proofs.ReportLemmas.{swept_is}
-use Rattle.ru_buffers.proofs.SymbolLemmas.{cell_is, claims_are, found, live_here, no_place_ahead, none_is_left}
+use Rattle.radio_laws.specs.Reporting.{IsLeftAfter}
+use Rattle.radio_laws.specs.Units.{IsReady, RadioKeeps}
+use Rattle.radio_laws.proofs.JobLemmas.{some_from_first}
+use Rattle.radio_laws.proofs.LeftLemmas.{left_of_none, left_since}
+use Rattle.radio_laws.proofs.LookupLemmas.{left_is}
+use Rattle.radio_laws.proofs.ReportLemmas.{swept_is}
+use Rattle.radio_laws.proofs.SymbolLemmas.{cell_is, claims_are, found, live_here, no_place_ahead, none_is_left}
+use Rattle.radio_laws.specs.history_laws.specs.unit_model.specs.declared.uplink.TheConstants.{SLOT_SECTIONS}
+use Rattle.radio_laws.specs.history_laws.specs.unit_laws.proofs.ReportLemmas.{used_same}
+use Rattle.radio_laws.specs.history_laws.specs.unit_laws.proofs.TickLemmas.{starts_at}
+use Rattle.fh_time.proofs.Orders.{later_than}
 
 -- ---- the same is left of a symbol
 
@@ -59,11 +62,11 @@ some_same from zero p q same = refl
 some_same from (suc n) p q same = ap₂ (λ (a b : Bool). a || b) (same from (omega arith)) (some_same (from + 1) n p q (λ k below. same k (omega (arith, below))))
 
 due_same : (f g : ℕ → Option Claim) (a b : Bool) → ((re : ℕ) → re < 12 → f re ≡ g re) → a ≡ b → is_due f a ≡ is_due g b
-due_same f g a b same marks = ap₂ (λ (n : ℕ) (d : Bool). not (n == 0) && not d) (used_same f g 12 same) marks
+due_same f g a b same reports = ap₂ (λ (n : ℕ) (d : Bool). not (n == 0) && not d) (used_same f g 12 same) reports
 
 -- ---- a frame by which no section of a command was accepted
 
-module _ (c : Config) (old new : UnitMemory) (clock : ℤ) (cursor : JobCursor) (h after : History) (was : Keeps c old clock cursor h) (is : Keeps c new clock cursor after)
+module _ (c : Config) (old new : UnitMemory) (clock : ℤ) (cursor : JobCursor) (h after : History) (was : RadioKeeps c old clock cursor h) (is : RadioKeeps c new clock cursor after)
     (accepted : accepted_of c after.arrivals ≡ accepted_of c h.arrivals) (reported : after.reported ≡ h.reported) where
   module _ (x : SymbolStart) (left : IsLeftAfter old.cells clock x) where
     at : IsAt c.endpoints x.ep x.endpoint
@@ -74,19 +77,19 @@ module _ (c : Config) (old new : UnitMemory) (clock : ℤ) (cursor : JobCursor) 
 
     same_left : IsLiveSlot c.delays x.endpoint cursor.since.0 x.slot → is_left new.cells x ≡ is_left old.cells x
     same_left live =
-        some_same 0 x.endpoint.prbs (λ prb. is_due (cells_claim new.cells (cell_in x prb)) (cells_done new.cells (cell_in x prb)))
-        (λ prb. is_due (cells_claim old.cells (cell_in x prb)) (cells_done old.cells (cell_in x prb)))
+        some_same 0 x.endpoint.prbs (λ prb. is_due (cells_claim new.cells (cell_in x prb)) (cells_reported new.cells (cell_in x prb)))
+        (λ prb. is_due (cells_claim old.cells (cell_in x prb)) (cells_reported old.cells (cell_in x prb)))
         (λ prb low.
         let below : prb < x.endpoint.prbs = omega (arith, low) in
-        due_same (cells_claim new.cells (cell_in x prb)) (cells_claim old.cells (cell_in x prb)) (cells_done new.cells (cell_in x prb)) (cells_done old.cells (cell_in x prb))
+        due_same (cells_claim new.cells (cell_in x prb)) (cells_claim old.cells (cell_in x prb)) (cells_reported new.cells (cell_in x prb)) (cells_reported old.cells (cell_in x prb))
         (λ re few.
         claims_are c new clock cursor after is x at left.symbol.slot_is left.symbol.symbol_is live prb re below few
         ∙ ap (λ (acc : List Allocation). claim_at acc (cell_in x prb) re) accepted
         ∙ sym (claims_are c old clock cursor h was x at left.symbol.slot_is left.symbol.symbol_is live prb re below few))
-        (is.marks x.endpoint (cell_in x prb) (cell_is c new clock cursor after is x at left.symbol.slot_is left.symbol.symbol_is live prb below) refl
+        (is.reports x.endpoint (cell_in x prb) (cell_is c new clock cursor after is x at left.symbol.slot_is left.symbol.symbol_is live prb below) refl
         (live_here c new clock cursor after is x at left.symbol.slot_is left.symbol.symbol_is live)
         ∙ ap (λ (heard : List AirCell). list_any (cell_heard x.endpoint (cell_in x prb)) heard) reported
-        ∙ sym (was.marks x.endpoint (cell_in x prb) (cell_is c old clock cursor h was x at left.symbol.slot_is left.symbol.symbol_is live prb below) refl
+        ∙ sym (was.reports x.endpoint (cell_in x prb) (cell_is c old clock cursor h was x at left.symbol.slot_is left.symbol.symbol_is live prb below) refl
         (live_here c old clock cursor h was x at left.symbol.slot_is left.symbol.symbol_is live))))
 
     is_live : IsLiveSlot c.delays x.endpoint cursor.since.0 x.slot
@@ -193,7 +196,7 @@ module _ (c : Config) (old new : UnitMemory) (clock : ℤ) (cursor : JobCursor) 
       symbol = job_symbol;
       rest = first.rest;
       first = job_left;
-      few = subst (λ (xs : List Allocation). length xs ≤ 64) (sym same_uplink) first.few;
+      few = subst (λ (xs : List Allocation). length xs ≤ SLOT_SECTIONS) (sym same_uplink) first.few;
       before = λ s symbol earlier. nothing_at s symbol (λ told. first.before s told earlier);
     }
 
@@ -201,7 +204,7 @@ module _ (c : Config) (old new : UnitMemory) (clock : ℤ) (cursor : JobCursor) 
   message_kept None none = λ s symbol. nothing_at s symbol (none s)
   message_kept (Some n) first = first_still n first
 
-pub symbol_kept : (c : Config) (old new : UnitMemory) (clock : ℤ) (cursor : JobCursor) (h after : History) → Keeps c old clock cursor h → Keeps c new clock cursor after
+pub symbol_kept : (c : Config) (old new : UnitMemory) (clock : ℤ) (cursor : JobCursor) (h after : History) → RadioKeeps c old clock cursor h → RadioKeeps c new clock cursor after
     → accepted_of c after.arrivals ≡ accepted_of c h.arrivals → after.reported ≡ h.reported → (o : Option SymbolStart)
     → IsNextSymbol old.cells clock o → IsNextSymbol new.cells clock o
 symbol_kept c old new clock cursor h after was is accepted reported None none =
@@ -226,7 +229,7 @@ same_first v clock cursor next n settled first order = record {
       (λ later. settled.behind (cells_uplink v) s later ∙ first.before s symbol earlier);
 }
 
-pub message_settled : (c : Config) (m : UnitMemory) (clock : ℤ) (cursor next : JobCursor) (h : History) → Keeps c m clock cursor h → IsReady m clock cursor
+pub message_settled : (c : Config) (m : UnitMemory) (clock : ℤ) (cursor next : JobCursor) (h : History) → RadioKeeps c m clock cursor h → IsReady m clock cursor
     → Settled clock cursor next → (o : Option NextJob) → IsNextMessage m.cells cursor o → IsNextMessage m.cells next o
 message_settled c m clock cursor next h keeps ready settled None none =
     λ s symbol.
@@ -240,7 +243,7 @@ message_settled c m clock cursor next h keeps ready settled (Some n) first =
     (sym (keeps.left (clock -ℤ pos 1)) ∙ ready)))
     (λ later. same_first m.cells clock cursor next n settled first (subst (λ (t : ℤ). clock ≤ℤ t) first.symbol.starts later))
 
--- ---- cells that are marked
+-- ---- cells that are set as reported
 
 same_in : (old new : CellsValue) (cursor : JobCursor) → SameKnown old new → (s : SymbolStart) → left_in (cells_uplink new) cursor s ≡ left_in (cells_uplink old) cursor s
 unfolding jobs_left
@@ -265,15 +268,12 @@ message_known old new cursor known endpoints (Some n) first = record {
   symbol = symbol_of old new (sym endpoints) (λ x. sym (known.places x.ep x.slot)) n.symbol first.symbol;
   rest = first.rest;
   first = same_in old new cursor known n.symbol ∙ first.first;
-  few = subst (λ (xs : List Allocation). length xs ≤ 64) (sym (known.uplink n.symbol.ep n.symbol.slot)) first.few;
+  few = subst (λ (xs : List Allocation). length xs ≤ SLOT_SECTIONS) (sym (known.uplink n.symbol.ep n.symbol.slot)) first.few;
   before = λ s symbol earlier.
       same_in old new cursor known s ∙ first.before s (symbol_of new old endpoints (λ x. known.places x.ep x.slot) s symbol) earlier;
 }
 
 -- ---- as time passes
-
-later_than : (a b x : ℤ) → a ≤ℤ b → b <ℤ x → a <ℤ x
-later_than a b x h k = omega (arith, ints)
 
 earlier_left : (v : CellsValue) (clock to : ℤ) → clock ≤ℤ to → (x : SymbolStart) → IsLeftAfter v to x → IsLeftAfter v clock x
 earlier_left v clock to order x left = record { symbol = left.symbol; after = later_than clock to x.start.0 order left.after; left = left.left }

@@ -6,13 +6,13 @@ use Rattle.std.specs.Ordering.{int_eq}
 use Rattle.std.proofs.lemmas.Int.{ints}
 use Rattle.std.proofs.lemmas.Bool.{ltb-true, eqb-true}
 use Rattle.fh_time.specs.declared.values.Slot.{Slot}
-use Rattle.history_laws.specs.window_config.proofs.Timing.{under}
-use Rattle.history_laws.specs.unit_model.specs.Claims.{same_slot}
-use Rattle.history_laws.specs.unit_model.specs.Order.{comes_before, slot_before, symbol_before}
-use Rattle.history_laws.specs.unit_model.specs.declared.symbol_start.SymbolStart.{SymbolStart}
-use Rattle.history_laws.specs.unit_model.proofs.SweepLaws.{gap_is}
-use Rattle.history_laws.specs.unit_laws.proofs.CellLemmas.{slots_equal}
+use Rattle.radio_laws.specs.history_laws.specs.unit_model.specs.Claims.{same_slot}
+use Rattle.radio_laws.specs.history_laws.specs.unit_model.specs.Order.{comes_before, slot_before, symbol_before}
+use Rattle.radio_laws.specs.history_laws.specs.unit_model.specs.declared.symbol_start.SymbolStart.{SymbolStart}
+use Rattle.radio_laws.specs.history_laws.specs.unit_model.proofs.SweepLaws.{gap_is}
 use Rattle.ru_buffers.specs.Advancing.{rank_of, rank_past}
+use Rattle.fh_time.proofs.Orders.{under, same_z}
+use Rattle.radio_laws.specs.history_laws.specs.unit_model.proofs.ClaimLemmas.{same_slot_is as slots_equal}
 
 -- a symbol whose place has a number
 pub record IsRanked (m : SymbolStart) : Type 0 where
@@ -75,9 +75,6 @@ or_cases : (p q r : Bool) → (p || (q && r)) ≡ true → (p ≡ true) ⊎ ((q 
 or_cases true q r h = inl refl
 or_cases false true r h = inr (refl, h)
 or_cases false false r h = cc
-
-same_z : (x y : ℤ) → int_eq x y ≡ true → x ≡ y
-same_z x y h = grind (arith, ints)
 
 abbrev since_of : SymbolStart → ℕ
 since_of m = int_gap (neg_ℤ (pos (2 ^ 57))) m.start.0

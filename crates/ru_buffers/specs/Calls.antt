@@ -1,22 +1,26 @@
 -- What the calls of a radio unit say of the histories for which it stands (this project's profile).
 use Rattle.std.specs.Prelude.{◌≡◌, ℤ, ◌<ℤ◌, List, [], ◌∷◌, ◌++◌, map, if◌then◌else◌, int_lt, Option, Some, None}
-use Rattle.history_laws.specs.air_source.specs.declared.events.AirCell.{AirCell}
-use Rattle.history_laws.specs.air_source.specs.declared.events.Event.{Event}
-use Rattle.history_laws.specs.air_source.specs.declared.events.Event.TheVariants.{Cell as Reported}
+use Rattle.radio_laws.specs.history_laws.specs.air_source.specs.declared.events.AirCell.{AirCell}
+use Rattle.radio_laws.specs.history_laws.specs.air_source.specs.declared.events.Event.{Event}
+use Rattle.radio_laws.specs.history_laws.specs.air_source.specs.declared.events.Event.TheVariants.{Cell as Reported}
 use Rattle.fh_time.specs.declared.values.Ticks.{Ticks}
-use Rattle.history_laws.specs.window_config.specs.declared.config.Config.{Config}
-use Rattle.history_laws.specs.unit_model.specs.Reports.{accepted_of}
-use Rattle.history_laws.specs.unit_model.specs.Standing.{History, IsLiveAt, StandsBy, handed, heard, still_given}
-use Rattle.history_laws.specs.unit_model.specs.declared.jobs.UplinkJob.{UplinkJob}
-use Rattle.history_laws.specs.unit_model.specs.declared.symbol_start.SymbolStart.{SymbolStart}
+use Rattle.radio_laws.specs.history_laws.specs.window_config.specs.declared.config.Config.{Config}
+use Rattle.radio_laws.specs.history_laws.specs.unit_model.specs.Reports.{accepted_of}
+use Rattle.radio_laws.specs.history_laws.specs.unit_model.specs.Standing.{History, IsLiveAt, StandsBy, handed, heard, still_given}
+use Rattle.radio_laws.specs.history_laws.specs.unit_model.specs.declared.jobs.UplinkJob.{UplinkJob}
+use Rattle.radio_laws.specs.history_laws.specs.unit_model.specs.declared.symbol_start.SymbolStart.{SymbolStart}
 use Rattle.ru_reports.specs.unit_cells.specs.Cells.{CellsValue, cells_uplink}
 use Rattle.ru_jobs.specs.Cursors.{IsFirstJob, left_in}
 use Rattle.ru_reports.specs.symbol_search.specs.Symbols.{IsSymbol}
 use Rattle.ru_jobs.specs.declared.cursor.JobCursor.{JobCursor}
 use Rattle.ru_jobs.specs.declared.cursor.NextJob.{NextJob}
-use Rattle.ru_buffers.specs.Reporting.{IsFoundLeft, IsLeftAfter, due_of}
-use Rattle.ru_buffers.specs.Units.{IsReady, Keeps, view_of}
+use Rattle.radio_laws.specs.Reporting.{IsFoundLeft, IsLeftAfter, due_of}
+use Rattle.radio_laws.specs.Units.{IsReady, RadioKeeps, view_of}
 use Rattle.ru_buffers.specs.declared.unit.Ru.{Ru}
+
+-- the unit's clock
+abbrev pub radio_clock : Ru → Ticks
+radio_clock u = u.clock
 
 -- the first symbol that starts after a clock and of which something is left, as a search finds it; none where there is none
 abbrev pub IsNextSymbol : CellsValue → ℤ → Option SymbolStart → Type 0
@@ -31,7 +35,7 @@ IsNextMessage v cursor (Some n) = IsFirstJob v cursor n
 -- The unit stands for a history of a configuration: what it keeps of the next moment is what a search would find at its clock.
 pub record StandsFor (c : Config) (u : Ru) (h : History) : Type 0 where
   pub answers : StandsBy (IsLiveAt c h.clock) c (view_of u.memory u.clock.0 u.cursor) h
-  pub kept : Keeps c u.memory u.clock.0 u.cursor h
+  pub kept : RadioKeeps c u.memory u.clock.0 u.cursor h
   pub symbol : IsNextSymbol u.memory.cells u.clock.0 u.symbol
   pub message : IsNextMessage u.memory.cells u.cursor u.message
 

@@ -2,7 +2,7 @@
 ghost use Rattle.ru_buffers.specs.Calls.{IsNextMessage, IsNextSymbol};
 
 use fh_time::Ticks;
-use history_laws::unit_model::SymbolStart;
+use radio_laws::history_laws::unit_model::SymbolStart;
 use ru_jobs::{JobCursor, NextJob, next_job};
 use ru_reports::first_left;
 use ru_reports::unit_cells::UnitCells;

@@ -11,7 +11,7 @@ mod messages;
 mod reporting;
 mod unit;
 
-pub use history_laws::unit_model::{Delivered, UplinkJob};
+pub use radio_laws::history_laws::unit_model::{Delivered, UplinkJob};
 pub use ru_reports;
 pub use ru_reports::unit_cells;
 pub use unit::{FIRST_CLOCK, Ru};

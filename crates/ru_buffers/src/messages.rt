@@ -1,15 +1,15 @@
 // The unit's uplink messages, and its next moment.
 ghost use Rattle.std.specs.Prelude.{◌≡◌, [], IfNone, IfSome};
-ghost use Rattle.history_laws.specs.window_config.specs.declared.config.Config.{Config};
-ghost use Rattle.history_laws.specs.unit_model.specs.ProperJobs.{IsProperJob};
-ghost use Rattle.history_laws.specs.unit_model.specs.Standing.{History};
-ghost use Rattle.ru_buffers.specs.Calls.{earlier_time};
+ghost use Rattle.radio_laws.specs.history_laws.specs.window_config.specs.declared.config.Config.{Config};
+ghost use Rattle.radio_laws.specs.history_laws.specs.unit_model.specs.ProperJobs.{IsProperJob};
+ghost use Rattle.radio_laws.specs.history_laws.specs.unit_model.specs.Standing.{History};
+ghost use Rattle.ru_buffers.specs.Calls.{earlier_time, radio_clock};
 
 use crate::finding::find_message;
 use crate::reporting::starts_by;
 use crate::unit::Ru;
 use fh_time::Ticks;
-use history_laws::unit_model::UplinkJob;
+use radio_laws::history_laws::unit_model::UplinkJob;
 
 impl Ru {
     ghost use Rattle.ru_buffers.specs.Calls.{GivesJob, HasGivenPast, IsCellMoment, IsDue, IsMessageMoment, StandsFor, given_of};
@@ -23,7 +23,7 @@ impl Ru {
         ensures proper { (c : Config) (h : History) → StandsFor c self.old h → IfSome result (λ job. IsProperJob c.endpoints h.clock job) }
         ensures ready { (c : Config) (h : History) → StandsFor c self.old h → IfNone result (HasGivenPast self.new) }
         ensures same { IfNone result (self.new ≡ self.old) }
-        ensures clock { self.new.clock ≡ self.old.clock }
+        ensures clock { radio_clock self.new ≡ radio_clock self.old }
         ensures past { (c : Config) (h : History) → StandsFor c self.old h → HasGivenPast self.old → HasGivenPast self.new }
     {
         let next = match self.message {

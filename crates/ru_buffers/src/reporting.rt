@@ -1,16 +1,16 @@
 // The unit's cells, as time passes.
 ghost use Rattle.std.specs.Prelude.{◌≡◌, ◌≤ℤ◌, ◌<ℤ◌, true, false, OnErr, OnOk, map};
-ghost use Rattle.history_laws.specs.air_source.specs.Causes.{HasAirCause};
-ghost use Rattle.history_laws.specs.air_source.specs.declared.events.Event.TheVariants.{Cell as Reported};
-ghost use Rattle.history_laws.specs.window_config.specs.declared.config.Config.{Config};
-ghost use Rattle.history_laws.specs.unit_model.specs.Proper.{IsTime};
-ghost use Rattle.history_laws.specs.unit_model.specs.Standing.{History, at_clock, heard};
+ghost use Rattle.radio_laws.specs.history_laws.specs.air_source.specs.Causes.{HasAirCause};
+ghost use Rattle.radio_laws.specs.history_laws.specs.air_source.specs.declared.events.Event.TheVariants.{Cell as Reported};
+ghost use Rattle.radio_laws.specs.history_laws.specs.window_config.specs.declared.config.Config.{Config};
+ghost use Rattle.radio_laws.specs.history_laws.specs.unit_model.specs.Proper.{IsTime};
+ghost use Rattle.radio_laws.specs.history_laws.specs.unit_model.specs.Standing.{History, at_clock, heard};
 
 use crate::finding::find_symbol;
 use crate::unit::Ru;
 use fh_time::Ticks;
-use history_laws::air_source::{Air, AirFault};
-use history_laws::unit_model::SymbolStart;
+use radio_laws::history_laws::air_source::{Air, AirFault};
+use radio_laws::history_laws::unit_model::SymbolStart;
 use ru_reports::report;
 
 /// Whether a symbol starts by a time.
@@ -22,12 +22,12 @@ pub(crate) fn starts_by(m: &SymbolStart, to: Ticks) -> bool
 }
 
 impl Ru {
-    ghost use Rattle.ru_buffers.specs.Calls.{HasGivenPast, IsNextSymbol, StandsFor, StandsForSome, StopsAtDue, given_of};
+    ghost use Rattle.ru_buffers.specs.Calls.{HasGivenPast, IsNextSymbol, StandsFor, StandsForSome, StopsAtDue, given_of, radio_clock};
     ghost use Rattle.ru_buffers.specs.Advancing.{AfterReport, InOrder, ToldAll};
     ghost use Rattle.ru_reports.specs.unit_cells.specs.Cells.{endpoints_of};
     ghost use Rattle.ru_reports.specs.unit_cells.specs.Keeping.{SameKnown};
     ghost use Rattle.std.specs.Prelude.{IfErr, IfOk, ◌-ℤ◌, ◌^◌, ◌≤◌, pos, neg_ℤ, [], length};
-    ghost use Rattle.ru_buffers.specs.Reporting.{due_of};
+    ghost use Rattle.radio_laws.specs.Reporting.{due_of};
 
     /// Reports the first symbol of which something is left, where it starts by a time.
     fn report_next<A: Air>(
@@ -107,14 +107,14 @@ impl Ru {
     pub fn advance<A: Air>(&mut self, to: Ticks, air: &mut A) -> Result<(), AirFault>
         requires unit { StandsForSome self.old }
         requires given { HasGivenPast self.old }
-        requires order { self.old.clock.0 ≤ℤ to.0 }
+        requires order { (radio_clock self.old).0 ≤ℤ to.0 }
         requires time { IsTime to.0 }
         ensures heard { (c : Config) (h : History) → StandsFor c self.old h → OnOk result (A.grew air.old (map Reported (due_of c h to.0)) air.new) }
         ensures stands { (c : Config) (h : History) → StandsFor c self.old h → OnOk result (StandsFor c self.new (at_clock (heard h (due_of c h to.0)) to.0)) }
-        ensures clock { OnOk result (self.new.clock ≡ to) }
+        ensures clock { OnOk result (radio_clock self.new ≡ to) }
         ensures stop { (c : Config) (h : History) → StandsFor c self.old h → IfErr result (λ f. StopsAtDue A.grew (A.stopped f) c h to.0 self.new air.old air.new) }
         ensures past { (c : Config) (h : History) → StandsFor c self.old h → given_of c h (to.0 -ℤ pos 1) ≡ [] → OnOk result (HasGivenPast self.new) }
-        ensures stays { OnErr result (self.new.clock ≡ self.old.clock) }
+        ensures stays { OnErr result (radio_clock self.new ≡ radio_clock self.old) }
         ensures given { OnErr result (HasGivenPast self.new) }
         ensures same { A.same air.old air.new }
         ensures cause { HasAirCause (A.faults air.old) (A.faults air.new) result }

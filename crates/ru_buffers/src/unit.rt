@@ -2,23 +2,23 @@
 ghost use Rattle.std.specs.Prelude.{◌≡◌, ◌-◌, ◌^◌, List, IfOk, length, min, true, false};
 ghost use Rattle.ecpri_frames.specs.Gathering.{whole_messages};
 ghost use Rattle.ecpri_frames.specs.Messages.{pdu};
-ghost use Rattle.history_laws.specs.window_config.specs.Configs.{IsConfig};
-ghost use Rattle.history_laws.specs.window_config.specs.declared.config.Config.{Config as SpecConfig};
-ghost use Rattle.history_laws.specs.unit_model.specs.Standing.{History, arrived, nothing_yet};
+ghost use Rattle.radio_laws.specs.history_laws.specs.window_config.specs.Configs.{IsConfig};
+ghost use Rattle.radio_laws.specs.history_laws.specs.window_config.specs.declared.config.Config.{Config as SpecConfig};
+ghost use Rattle.radio_laws.specs.history_laws.specs.unit_model.specs.Standing.{History, arrived, nothing_yet};
 
 use crate::finding::{find_message, find_symbol};
 use fault_counters::Counters;
 use fh_base::NoMemory;
-use fh_time::Ticks;
-use history_laws::air_source::Side;
-use history_laws::unit_model::{Delivered, SymbolStart};
-use history_laws::window_config::Config;
+use fh_time::{FRAME, Ticks};
+use radio_laws::history_laws::air_source::Side;
+use radio_laws::history_laws::unit_model::{Delivered, SymbolStart};
+use radio_laws::history_laws::window_config::Config;
 use ru_jobs::{JobCursor, NextJob};
 use std::alloc::Global;
 use unit_memory::UnitMemory;
 
 /// A unit's clock begins one frame before 0.
-pub const FIRST_CLOCK: Ticks = Ticks(-15_360_000_000);
+pub const FIRST_CLOCK: Ticks = Ticks(-FRAME);
 
 /// The radio unit of an open fronthaul, in memory that is taken when it is made.
 ///
@@ -37,11 +37,11 @@ pub struct Ru {
 }
 
 impl Ru {
-    ghost use Rattle.ru_buffers.specs.Calls.{HasGivenPast, IsNextMessage, IsNextSymbol, StandsFor, StandsForSome};
-    ghost use Rattle.history_laws.specs.unit_model.specs.Counts.{StandAt, cells_counted};
-    ghost use Rattle.history_laws.specs.unit_model.specs.Reports.{arrivals_counted};
+    ghost use Rattle.ru_buffers.specs.Calls.{HasGivenPast, IsNextMessage, IsNextSymbol, StandsFor, StandsForSome, radio_clock};
+    ghost use Rattle.radio_laws.specs.history_laws.specs.unit_model.specs.Counts.{StandAt, cells_counted};
+    ghost use Rattle.radio_laws.specs.history_laws.specs.unit_model.specs.Reports.{arrivals_counted};
     ghost use Rattle.std.specs.Prelude.{◌++◌};
-    ghost use Rattle.history_laws.specs.air_source.specs.declared.events.Side.TheVariants.{Ru as AtRu};
+    ghost use Rattle.radio_laws.specs.history_laws.specs.air_source.specs.declared.events.Side.TheVariants.{Ru as AtRu};
 
     /// Takes all memory of the unit. Its clock stands one frame before 0.
     ///
@@ -87,7 +87,7 @@ impl Ru {
         requires given { HasGivenPast self.old }
         ensures stands { (c : SpecConfig) (h : History) → StandsFor c self.old h → StandsFor c self.new (arrived h frame.now) }
         ensures given { HasGivenPast self.new }
-        ensures clock { self.new.clock ≡ self.old.clock }
+        ensures clock { radio_clock self.new ≡ radio_clock self.old }
         ensures messages { result.messages ≡ min (length (whole_messages frame.now)) (2 ^ 32 - 1) }
         ensures refusal { result.refusal ≡ (pdu frame.now).refusal }
     {

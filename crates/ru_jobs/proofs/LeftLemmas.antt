@@ -15,7 +15,7 @@ use Rattle.symbol_search.specs.unit_model.specs.declared.jobs.UplinkJob.{UplinkJ
 use Rattle.symbol_search.specs.unit_model.specs.declared.symbol_start.SymbolStart.{SymbolStart}
 use Rattle.symbol_search.specs.unit_cells.specs.Cells.{CellsValue, cells_uplink}
 use Rattle.symbol_search.specs.Symbols.{HasNone, InSlot, OfEndpoint}
-use Rattle.ru_jobs.specs.Cursors.{is_left, jobs_left, left_behind, left_jobs}
+use Rattle.ru_jobs.specs.Cursors.{is_job_left, jobs_left, left_behind, left_jobs}
 use Rattle.ru_jobs.specs.declared.cursor.JobCursor.{JobCursor}
 use Rattle.ru_jobs.proofs.SortLemmas.{length_jobs}
 
@@ -31,7 +31,7 @@ some_left xs m given count left is counted =
 pub left_told : (v : CellsValue) (cursor : JobCursor) (ep : ℕ) (e : EndpointConfig) (slot : Slot) (symbol : ℕ) (xs : List Allocation) (m : SymbolStart) (left : Bool)
     (told : Option SymbolStart) → reverse xs ≡ cells_uplink v ep slot → m ≡ start_at ep e slot symbol
     → left ≡ nat_lt 0 (length (left_jobs cursor m (jobs_at (reverse xs) m))) → told ≡ then_some left m
-    → told ≡ then_some (is_left v cursor (start_at ep e slot symbol)) (start_at ep e slot symbol)
+    → told ≡ then_some (is_job_left v cursor (start_at ep e slot symbol)) (start_at ep e slot symbol)
 unfolding jobs_left symbol_jobs
 left_told v cursor ep e slot symbol xs m left told uplink is left_is told_is =
     told_is
@@ -41,7 +41,7 @@ left_told v cursor ep e slot symbol xs m left told uplink is left_is told_is =
 
 -- ---- where no section is held
 
-none_of_none : (cursor : JobCursor) (m : SymbolStart) → left_jobs cursor m [] ≡ []
+pub none_of_none : (cursor : JobCursor) (m : SymbolStart) → left_jobs cursor m [] ≡ []
 none_of_none cursor m = outside (int_lt m.start.0 cursor.since.0) _ (behind cursor.last)
   where
     inside : (early late : Bool) (given : ℕ) (jobs : List UplinkJob) → jobs ≡ [] → (if early then [] else (if late then jobs else drop given jobs)) ≡ []
@@ -57,17 +57,17 @@ none_of_none cursor m = outside (int_lt m.start.0 cursor.since.0) _ (behind curs
     outside true jobs h = refl
     outside false jobs h = h
 
-nothing_sends : (v : CellsValue) (cursor : JobCursor) (m : SymbolStart) → cells_uplink v m.ep m.slot ≡ [] → is_left v cursor m ≡ false
+nothing_sends : (v : CellsValue) (cursor : JobCursor) (m : SymbolStart) → cells_uplink v m.ep m.slot ≡ [] → is_job_left v cursor m ≡ false
 unfolding jobs_left symbol_jobs in_order
 nothing_sends v cursor m h =
     let s = start_at m.ep m.endpoint m.slot m.symbol in
     ap (λ xs. nat_lt 0 (length (left_jobs cursor s (jobs_at xs s)))) h ∙ ap (λ js. nat_lt 0 (length js)) (none_of_none cursor s)
 
-pub none_of_endpoint : (v : CellsValue) (cursor : JobCursor) (ep : ℕ) → ((slot : Slot) → cells_uplink v ep slot ≡ []) → HasNone v (is_left v cursor) (OfEndpoint ep)
+pub none_of_endpoint : (v : CellsValue) (cursor : JobCursor) (ep : ℕ) → ((slot : Slot) → cells_uplink v ep slot ≡ []) → HasNone v (is_job_left v cursor) (OfEndpoint ep)
 none_of_endpoint v cursor ep none m is of = nothing_sends v cursor m (ap (λ k. cells_uplink v k m.slot) of ∙ none m.slot)
 
 pub none_in_slot : (v : CellsValue) (cursor : JobCursor) (ep : ℕ) (slot : Slot) (xs : List Allocation) → reverse xs ≡ cells_uplink v ep slot → length xs ≡ 0
-    → HasNone v (is_left v cursor) (InSlot ep slot)
+    → HasNone v (is_job_left v cursor) (InSlot ep slot)
 none_in_slot v cursor ep slot xs uplink h m is o =
     nothing_sends v cursor m
     (ap (λ k. cells_uplink v k m.slot) o.0 ∙ ap (λ s. cells_uplink v ep s) o.1 ∙ sym uplink ∙ ap reverse (nil_from_length xs h))

@@ -16,13 +16,15 @@ use Rattle.symbol_search.specs.unit_model.specs.declared.symbol_start.SymbolStar
 use Rattle.window_config.specs.declared.endpoints.EndpointConfig.{EndpointConfig}
 use Rattle.symbol_search.specs.unit_cells.specs.Cells.{CellsValue, cells_uplink}
 use Rattle.fh_time.specs.declared.values.Ticks.{Ticks}
-use Rattle.ru_jobs.specs.Cursors.{GivenOne, IsFirstJob, Settled, at_start, is_left, is_past, jobs_left, left_behind, left_in, left_jobs, rest_of}
+use Rattle.ru_jobs.specs.Cursors.{GivenOne, IsFirstJob, Settled, at_start, is_job_left, is_past, jobs_left, left_behind, left_in, left_jobs, rest_of}
 use Rattle.symbol_search.specs.Symbols.{IsFirst, IsFirstFitting, IsSymbol}
 use Rattle.ru_jobs.specs.declared.cursor.JobCursor.{JobCursor}
 use Rattle.ru_jobs.specs.declared.cursor.NextJob.{NextJob}
 use Rattle.symbol_search.proofs.OrderLemmas.{before_third, not_after, not_before_itself}
 use Rattle.symbol_search.proofs.SymbolLemmas.{at_its_start}
 use Rattle.ru_jobs.proofs.SortLemmas.{length_jobs}
+use Rattle.symbol_search.specs.unit_model.specs.declared.uplink.TheConstants.{SLOT_SECTIONS}
+use Rattle.symbol_search.specs.unit_model.proofs.ClaimLemmas.{start_before as starts_before}
 
 -- ---- choices
 
@@ -86,15 +88,15 @@ rest_here old n given jobs some rest job h =
     ∙ by_order_same (comes_before n.symbol n.symbol) (comes_before n.symbol n.symbol) given jobs (not_before_itself n.symbol) (not_before_itself n.symbol)
 
 -- one more of those of which so many were given
-one_more_given : (r : Option ℕ) (given most : ℕ) (js rest : List UplinkJob) (job : UplinkJob) → rest_of r js ≡ job ∷ rest → given ≡ min (unwrap_or r 0 + 1) most → 64 ≤ most
-    → length js ≤ 64 → drop given js ≡ rest
+one_more_given : (r : Option ℕ) (given most : ℕ) (js rest : List UplinkJob) (job : UplinkJob) → rest_of r js ≡ job ∷ rest → given ≡ min (unwrap_or r 0 + 1) most → SLOT_SECTIONS ≤ most
+    → length js ≤ SLOT_SECTIONS → drop given js ≡ rest
 one_more_given None given most js rest job h is large few = absurd (cc)
 one_more_given (Some g) given most js rest job h is large few =
     let some : length js - g ≡ length (job ∷ rest) = sym (length-drop g js) ∙ ap length h in
     let next : given ≡ g + 1 = omega arith in
     ap (λ k. drop k js) next ∙ sym (drop-drop 1 g js) ∙ ap (λ xs. drop 1 xs) h
 
-few_jobs : (accepted : List Allocation) (ep : ℕ) (e : EndpointConfig) (slot : Slot) (symbol : ℕ) → length accepted ≤ 64 → length (symbol_jobs accepted ep e slot symbol) ≤ 64
+few_jobs : (accepted : List Allocation) (ep : ℕ) (e : EndpointConfig) (slot : Slot) (symbol : ℕ) → length accepted ≤ SLOT_SECTIONS → length (symbol_jobs accepted ep e slot symbol) ≤ SLOT_SECTIONS
 unfolding symbol_jobs
 few_jobs accepted ep e slot symbol h =
     let xs = reverse accepted in
@@ -113,12 +115,12 @@ left_in_is v cursor m j =
     ap (λ x. left_jobs cursor x (symbol_jobs (cells_uplink v m.ep m.slot) m.ep m.endpoint m.slot m.symbol)) (sym (at_its_start v m j))
 
 pub given_one : (v : CellsValue) (old : JobCursor) (n : NextJob) (r : Option ℕ) (given most : ℕ) → ((jobs : List UplinkJob) → left_jobs old n.symbol jobs ≡ rest_of r jobs)
-    → given ≡ min (unwrap_or r 0 + 1) most → 64 ≤ most → IsFirstJob v old n → GivenOne v old n (record { since = old.since; last = Some n.symbol; given = given })
+    → given ≡ min (unwrap_or r 0 + 1) most → SLOT_SECTIONS ≤ most → IsFirstJob v old n → GivenOne v old n (record { since = old.since; last = Some n.symbol; given = given })
 unfolding jobs_left
 given_one v old n r given most left is large f =
     let m = n.symbol in
     let js = symbol_jobs (cells_uplink v m.ep m.slot) m.ep m.endpoint m.slot m.symbol in
-    let few : length js ≤ 64 = few_jobs (cells_uplink v m.ep m.slot) m.ep m.endpoint m.slot m.symbol f.few in
+    let few : length js ≤ SLOT_SECTIONS = few_jobs (cells_uplink v m.ep m.slot) m.ep m.endpoint m.slot m.symbol f.few in
     let first : left_jobs old m js ≡ n.job ∷ f.rest = sym (left_in_is v old m f.symbol) ∙ f.first in
     record {
       since = refl;
@@ -141,9 +143,6 @@ not_past_max s a clock since is h = grind (arith, ints)
 
 none_before : (cursor : JobCursor) (m : SymbolStart) (jobs : List UplinkJob) → int_lt m.start.0 cursor.since.0 ≡ true → left_jobs cursor m jobs ≡ []
 none_before cursor m jobs h = ap (λ (b : Bool). let ys : List UplinkJob = if b then [] else left_behind cursor.given cursor.last m jobs in ys) h
-
-starts_before : (a b : SymbolStart) → a.start.0 <ℤ b.start.0 → comes_before a b ≡ true
-starts_before a b h = grind (arith, ints)
 
 -- all is left of a symbol that starts later than the last
 all_later : (last : Option SymbolStart) (clock : ℤ) (given : ℕ) (m : SymbolStart) (jobs : List UplinkJob) → is_past clock last ≡ true → clock ≤ℤ m.start.0
@@ -200,8 +199,8 @@ first_of : (js : List UplinkJob) (job : UplinkJob) → Some job ≡ slice_get js
 first_of [] job h = absurd (cc)
 first_of (j ∷ js) job h = cc
 
-pub found_first : (v : CellsValue) (cursor : JobCursor) (m : SymbolStart) (xs : List Allocation) (job : UplinkJob) → reverse xs ≡ cells_uplink v m.ep m.slot → length xs ≤ 64
-    → IsFirstFitting v (is_left v cursor) m → Some job ≡ slice_get (left_jobs cursor m (jobs_at (reverse xs) m)) 0
+pub found_first : (v : CellsValue) (cursor : JobCursor) (m : SymbolStart) (xs : List Allocation) (job : UplinkJob) → reverse xs ≡ cells_uplink v m.ep m.slot → length xs ≤ SLOT_SECTIONS
+    → IsFirstFitting v (is_job_left v cursor) m → Some job ≡ slice_get (left_jobs cursor m (jobs_at (reverse xs) m)) 0
     → IsFirstJob v cursor (record { symbol = m; job = job })
 found_first v cursor m xs job uplink few f is =
     let told = left_at v cursor m xs f.was.is uplink in
@@ -210,12 +209,12 @@ found_first v cursor m xs job uplink few f is =
       rest = drop 1 (left_jobs cursor m (jobs_at (reverse xs) m));
       first = told ∙ first_of _ job is;
       few = let d : length (reverse xs) ≡ length xs = length-reverse xs in let e : length (cells_uplink v m.ep m.slot) ≡ length (reverse xs) = sym (ap length uplink) in omega arith;
-      before = λ n j h. nothing _ (false_from_ne_true (is_left v cursor n) (λ left. let k = f.first n (record { is = j; fit = left }) in cc));
+      before = λ n j h. nothing _ (false_from_ne_true (is_job_left v cursor n) (λ left. let k = f.first n (record { is = j; fit = left }) in cc));
     }
 
 -- something is left
 pub some_found : (v : CellsValue) (cursor : JobCursor) (m : SymbolStart) (xs : List Allocation) → reverse xs ≡ cells_uplink v m.ep m.slot
-    → IsFirstFitting v (is_left v cursor) m → None ≡ slice_get (left_jobs cursor m (jobs_at (reverse xs) m)) 0 → ⊥
+    → IsFirstFitting v (is_job_left v cursor) m → None ≡ slice_get (left_jobs cursor m (jobs_at (reverse xs) m)) 0 → ⊥
 some_found v cursor m xs uplink f is =
     not_none _ (subst (λ (js : List UplinkJob). nat_lt 0 (length js) ≡ true) (left_at v cursor m xs f.was.is uplink) f.was.fit) is
   where
@@ -223,5 +222,5 @@ some_found v cursor m xs uplink f is =
     not_none [] h k = absurd (cc)
     not_none (j ∷ js) h k = absurd (cc)
 
-pub none_found : (v : CellsValue) (cursor : JobCursor) → IsFirst v (is_left v cursor) None → (m : SymbolStart) → IsSymbol v m → left_in (cells_uplink v) cursor m ≡ []
+pub none_found : (v : CellsValue) (cursor : JobCursor) → IsFirst v (is_job_left v cursor) None → (m : SymbolStart) → IsSymbol v m → left_in (cells_uplink v) cursor m ≡ []
 none_found v cursor f m j = nothing _ (f m j)

@@ -13,6 +13,7 @@ use Rattle.symbol_search.specs.unit_cells.specs.Cells.{CellsValue, cells_uplink}
 use Rattle.symbol_search.specs.Symbols.{IsSymbol}
 use Rattle.ru_jobs.specs.declared.cursor.JobCursor.{JobCursor}
 use Rattle.ru_jobs.specs.declared.cursor.NextJob.{NextJob}
+use Rattle.symbol_search.specs.unit_model.specs.declared.uplink.TheConstants.{SLOT_SECTIONS}
 
 -- where so many messages of the symbol `last` were given, and none of a later one, this is left of a symbol's messages
 abbrev pub left_behind : ℕ → Option SymbolStart → SymbolStart → List UplinkJob → List UplinkJob
@@ -47,15 +48,15 @@ abbrev pub left_in : (ℕ → Slot → List Allocation) → JobCursor → Symbol
 left_in uplink cursor m = jobs_left uplink cursor m.ep m.endpoint m.slot m.symbol
 
 -- a message is left of a symbol
-abbrev pub is_left : CellsValue → JobCursor → SymbolStart → Bool
-is_left v cursor m = nat_lt 0 (length (left_in (cells_uplink v) cursor m))
+abbrev pub is_job_left : CellsValue → JobCursor → SymbolStart → Bool
+is_job_left v cursor m = nat_lt 0 (length (left_in (cells_uplink v) cursor m))
 
 -- the first of all that is left
 pub record IsFirstJob (v : CellsValue) (cursor : JobCursor) (n : NextJob) : Type 0 where
   pub symbol : IsSymbol v n.symbol
   pub rest : List UplinkJob
   pub first : left_in (cells_uplink v) cursor n.symbol ≡ n.job ∷ rest
-  pub few : length (cells_uplink v n.symbol.ep n.symbol.slot) ≤ 64
+  pub few : length (cells_uplink v n.symbol.ep n.symbol.slot) ≤ SLOT_SECTIONS
   pub before : (m : SymbolStart) → IsSymbol v m → comes_before m n.symbol ≡ true → left_in (cells_uplink v) cursor m ≡ []
 
 -- what is left once it was given: the rest of its symbol, and the same of all that come after

@@ -5,7 +5,7 @@ ghost use Rattle.fh_time.specs.Numbering.{symbols_of};
 ghost use Rattle.symbol_search.specs.Places.{IsPlace, start_in};
 ghost use Rattle.symbol_search.specs.Symbols.{HasNone, InSlot, OfEndpoint};
 ghost use Rattle.symbol_search.specs.unit_cells.specs.Cells.{cells_uplink, endpoints_of};
-ghost use Rattle.ru_jobs.specs.Cursors.{is_left};
+ghost use Rattle.ru_jobs.specs.Cursors.{is_job_left};
 
 use crate::cursor::JobCursor;
 use crate::left::has_left;
@@ -18,21 +18,21 @@ impl<'c> SymbolTest<'c> for JobCursor {
     /// The accepted uplink sections of the slot, the newest last.
     type Lookup = &'c [Allocation];
 
-    ghost fits = { λ t v m. is_left v t m };
+    ghost fits = { λ t v m. is_job_left v t m };
 
     ghost is_looked_up = { λ _ v p xs. reverse xs.now ≡ cells_uplink v p.ep p.slot };
 
     /// Looks at one number.
     fn may_fit(&self, cells: &UnitCells, ep: usize) -> bool
         requires { ep < length (endpoints_of cells.now) }
-        ensures { result ≡ false → HasNone cells.now (is_left cells.now self.now) (OfEndpoint ep) }
+        ensures { result ≡ false → HasNone cells.now (is_job_left cells.now self.now) (OfEndpoint ep) }
     {
         cells.has_uplink(ep)
     }
 
     fn look_up(&self, cells: &'c UnitCells, place: &SlotPlace<'_>) -> Option<&'c [Allocation]>
         requires { IsPlace cells.now place.now }
-        ensures none { IfNone result (HasNone cells.now (is_left cells.now self.now) (InSlot place.now.ep place.now.slot)) }
+        ensures none { IfNone result (HasNone cells.now (is_job_left cells.now self.now) (InSlot place.now.ep place.now.slot)) }
         ensures some { IfSome result (λ xs. reverse xs.now ≡ cells_uplink cells.now place.now.ep place.now.slot) }
     {
         let uplink = cells.uplink(place.ep, place.slot);
@@ -53,7 +53,7 @@ impl<'c> SymbolTest<'c> for JobCursor {
         requires place { IsPlace cells.now place.now }
         requires lookup { reverse uplink.now ≡ cells_uplink cells.now place.now.ep place.now.slot }
         requires symbol { symbol < symbols_of place.now.endpoint.now.numerology }
-        ensures { result ≡ then_some (is_left cells.now self.now (start_in place.now symbol)) (start_in place.now symbol) }
+        ensures { result ≡ then_some (is_job_left cells.now self.now (start_in place.now symbol)) (start_in place.now symbol) }
     {
         let m = place.start(symbol);
         has_left(self, &m, uplink).then_some(m)

@@ -3,6 +3,7 @@ ghost use Rattle.std.specs.Prelude.{◌≡◌, ◌≤◌, List, filter, length, 
 ghost use Rattle.symbol_search.specs.unit_model.specs.Starts.{jobs_at};
 ghost use Rattle.symbol_search.specs.unit_model.specs.declared.jobs.UplinkJob.{UplinkJob};
 ghost use Rattle.ru_jobs.specs.Cursors.{left_jobs, rest_of};
+ghost use Rattle.symbol_search.specs.unit_model.specs.declared.uplink.TheConstants.{SLOT_SECTIONS};
 
 use crate::cursor::JobCursor;
 use crate::sending::{count_sending, job_at};
@@ -45,7 +46,7 @@ pub(crate) fn first_left(
     m: &SymbolStart,
     uplink: &[Allocation],
 ) -> Option<UplinkJob>
-    requires { length uplink.now ≤ 64 }
+    requires { length uplink.now ≤ SLOT_SECTIONS }
     ensures { result ≡ slice_get (left_jobs cursor.now m.now (jobs_at (reverse uplink.now) m.now)) 0 }
 {
     let given = given_of(cursor, m)?;

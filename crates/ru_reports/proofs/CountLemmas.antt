@@ -6,10 +6,7 @@ use Rattle.fault_counters.specs.declared.kinds.Counter.{Counter}
 use Rattle.fault_counters.specs.Counts.{capped, count_of, once, times}
 use Rattle.symbol_search.specs.unit_model.specs.Counts.{StandAt, block_counter, cells_counted}
 use Rattle.ru_reports.specs.Symbols.{CountsTold}
-
-pub times_more : (xs ys : List Counter) (k : Counter) → times (xs ++ ys) k ≡ times xs k + times ys k
-times_more [] ys k = omega arith
-times_more (x ∷ xs) ys k = let e = times_more xs ys k in omega (arith, e)
+use Rattle.symbol_search.specs.unit_model.proofs.CountLemmas.{times-append as times_more}
 
 cells_more : (first second : List AirCell) (k : Counter) → times (cells_counted (first ++ second)) k ≡ times (cells_counted first) k + times (cells_counted second) k
 cells_more first second k =

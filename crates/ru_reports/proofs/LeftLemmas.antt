@@ -2,35 +2,33 @@
 use Rattle.std.proofs.Common.{◌≡◌, ℕ, ◌<◌, ◌==◌, Bool, true, false, not, ◌&&◌, inl, inr, [], refl, ap, ◌∙◌, arith, Option, None}
 use Rattle.std.proofs.lemmas.Bool.{cases_Bool}
 use Rattle.symbol_search.specs.unit_model.specs.Radiated.{used_below, used_mask}
-use Rattle.symbol_search.specs.unit_model.specs.declared.cells.Cell.{Cell}
 use Rattle.symbol_search.specs.unit_model.specs.declared.cells.Claim.{Claim}
 use Rattle.symbol_search.specs.unit_model.specs.declared.symbol_start.SymbolStart.{SymbolStart}
 use Rattle.symbol_search.specs.unit_model.proofs.SweepLaws.{each_none}
 use Rattle.symbol_search.specs.unit_laws.proofs.ListLemmas.{each_same}
 use Rattle.symbol_search.specs.slot_rings.specs.Places.{is_due}
-use Rattle.symbol_search.specs.slot_rings.specs.Rings.{RingValue}
-use Rattle.symbol_search.specs.slot_rings.proofs.RangeLemmas.{some_at}
-use Rattle.symbol_search.specs.unit_cells.specs.Cells.{CellsValue, cells_claim, cells_done, cells_has, claim_from, has_from, ring_of}
-use Rattle.symbol_search.specs.unit_cells.proofs.TimeLemmas.{no_claim_from}
+use Rattle.symbol_search.specs.unit_cells.specs.Cells.{CellsValue, cells_claim, cells_reported, cells_has, ring_of}
+use Rattle.symbol_search.specs.unit_cells.proofs.TimeLemmas.{no_claim_from as unclaimed}
 use Rattle.ru_reports.specs.Symbols.{cell_in, is_left, left_at, left_told}
+use Rattle.symbol_search.specs.unit_model.proofs.ClaimLemmas.{some_not as some_at}
 
 -- ---- of one cell
 
 left_idle : (v : CellsValue) (m : SymbolStart) (prb : ℕ) → (used_mask (cells_claim v (cell_in m prb)) == 0) ≡ true → left_told v m prb ≡ []
-left_idle v m prb idle = elim (cases_Bool (cells_done v (cell_in m prb))) [ inl done ↦ rw done refl | inr fresh ↦ rw (fresh, idle) refl ]
+left_idle v m prb idle = elim (cases_Bool (cells_reported v (cell_in m prb))) [ inl reported ↦ rw reported refl | inr fresh ↦ rw (fresh, idle) refl ]
 
-left_done : (v : CellsValue) (m : SymbolStart) (prb : ℕ) → cells_done v (cell_in m prb) ≡ true → left_told v m prb ≡ []
-left_done v m prb done = rw done refl
+left_reported : (v : CellsValue) (m : SymbolStart) (prb : ℕ) → cells_reported v (cell_in m prb) ≡ true → left_told v m prb ≡ []
+left_reported v m prb reported = rw reported refl
 
-due_parts : (idle done : Bool) → (not idle && not done) ≡ false → idle ≡ false → done ≡ true
+due_parts : (idle reported : Bool) → (not idle && not reported) ≡ false → idle ≡ false → reported ≡ true
 due_parts idle true e p = refl
 due_parts true false e p = cc
 due_parts false false e p = cc
 
-left_undue : (v : CellsValue) (m : SymbolStart) (prb : ℕ) → is_due (cells_claim v (cell_in m prb)) (cells_done v (cell_in m prb)) ≡ false → left_told v m prb ≡ []
+left_undue : (v : CellsValue) (m : SymbolStart) (prb : ℕ) → is_due (cells_claim v (cell_in m prb)) (cells_reported v (cell_in m prb)) ≡ false → left_told v m prb ≡ []
 left_undue v m prb undue = elim (cases_Bool (used_mask (cells_claim v (cell_in m prb)) == 0)) [
   | inl idle ↦ left_idle v m prb idle
-  | inr used ↦ left_done v m prb (due_parts (used_mask (cells_claim v (cell_in m prb)) == 0) (cells_done v (cell_in m prb)) undue used)
+  | inr used ↦ left_reported v m prb (due_parts (used_mask (cells_claim v (cell_in m prb)) == 0) (cells_reported v (cell_in m prb)) undue used)
 ]
 
 -- ---- of a symbol
@@ -45,15 +43,12 @@ none_left v m none =
 pub nothing_left : (v : CellsValue) (m : SymbolStart) → is_left v m ≡ false → left_at v m ≡ []
 nothing_left v m none =
     none_left v m (λ prb below. left_undue v m prb
-    (some_at 0 m.endpoint.prbs (λ k. is_due (cells_claim v (cell_in m k)) (cells_done v (cell_in m k))) prb none (omega arith) (omega (arith, below))))
+    (some_at 0 m.endpoint.prbs (λ k. is_due (cells_claim v (cell_in m k)) (cells_reported v (cell_in m k))) prb none (omega arith) (omega (arith, below))))
 
 -- nothing is in use where nothing is claimed
 used_none : (claims : ℕ → Option Claim) → ((re : ℕ) → claims re ≡ None) → used_mask claims ≡ 0
 unfolding used_below
 used_none claims none = ap (λ (c : ℕ → Option Claim). used_below c 12) (let e : claims ≡ (λ re. None) = λ i re. none re i in e) ∙ refl
-
-unclaimed : (ring : Option RingValue) (cell : Cell) (re : ℕ) → has_from ring cell.slot ≡ false → claim_from ring cell re ≡ None
-unclaimed ring cell re none = no_claim_from ring cell re none
 
 -- where its slot has no place
 pub nothing_without_place : (v : CellsValue) (m : SymbolStart) → cells_has v m.ep m.slot ≡ false → left_at v m ≡ []

@@ -1,6 +1,6 @@
 pub mod SearchLemmas
 pub mod CountLemmas
-pub mod MarkLemmas
+pub mod ReportedLemmas
 pub mod ReportLemmas
 pub mod LeftLemmas
 pub mod AfterLemmas

@@ -15,8 +15,8 @@ use Rattle.symbol_search.specs.unit_model.proofs.SweepLaws.{each_more, each_spli
 use Rattle.symbol_search.specs.unit_laws.proofs.ListLemmas.{each_same}
 use Rattle.symbol_search.specs.slot_rings.specs.Symbols.{lent_block, lent_claim}
 use Rattle.symbol_search.specs.slot_rings.specs.declared.symbol_cells.SymbolCells.{SymbolCells}
-use Rattle.symbol_search.specs.unit_cells.specs.Cells.{AreCellsOf, CellsValue, cells_claim, cells_done}
-use Rattle.ru_reports.specs.Symbols.{CountsTold, MarksTold, StopsAtCell, cell_in, left_at, left_told}
+use Rattle.symbol_search.specs.unit_cells.specs.Cells.{AreUnitCellsOf, CellsValue, cells_claim, cells_reported}
+use Rattle.ru_reports.specs.Symbols.{CountsTold, ReportsTold, StopsAtCell, cell_in, left_at, left_told}
 use Rattle.ru_reports.specs.Tellings.{StopsAtPrb, StopsInOne, lent_below, lent_told}
 use Rattle.ru_reports.proofs.CountLemmas.{counts_none, counts_then}
 
@@ -63,13 +63,13 @@ pub all_below : (v : CellsValue) (m : SymbolStart) (n : ℕ) → n ≡ m.endpoin
 unfolding left_at
 all_below v m n e = ap (λ (k : ℕ). each 0 k (left_told v m)) e
 
-module _ (v : CellsValue) (m : SymbolStart) (cells : SymbolCells) (are : AreCellsOf v m.ep m.slot m.symbol cells) where
+module _ (v : CellsValue) (m : SymbolStart) (cells : SymbolCells) (are : AreUnitCellsOf v m.ep m.slot m.symbol cells) where
   lent_left : (prb : ℕ) → lent_told cells m prb ≡ left_told v m prb
   lent_left prb =
       let claims : lent_claim cells prb ≡ cells_claim v (cell_in m prb) = λ i re. are.claims prb re i in
-      ap (λ (t : Bool). if t then [] else report_of Ru m.endpoint (cell_in m prb) m.start.0 (lent_claim cells prb) (lent_block cells prb)) (are.done prb)
-      ∙ ap (λ (c : ℕ → Option Claim). if cells_done v (cell_in m prb) then [] else report_of Ru m.endpoint (cell_in m prb) m.start.0 c (lent_block cells prb)) claims
-      ∙ ap (λ (b : Option Block). if cells_done v (cell_in m prb) then [] else report_of Ru m.endpoint (cell_in m prb) m.start.0 (cells_claim v (cell_in m prb)) b) (are.blocks prb)
+      ap (λ (t : Bool). if t then [] else report_of Ru m.endpoint (cell_in m prb) m.start.0 (lent_claim cells prb) (lent_block cells prb)) (are.reported prb)
+      ∙ ap (λ (c : ℕ → Option Claim). if cells_reported v (cell_in m prb) then [] else report_of Ru m.endpoint (cell_in m prb) m.start.0 c (lent_block cells prb)) claims
+      ∙ ap (λ (b : Option Block). if cells_reported v (cell_in m prb) then [] else report_of Ru m.endpoint (cell_in m prb) m.start.0 (cells_claim v (cell_in m prb)) b) (are.blocks prb)
 
   pub below_left : (n : ℕ) → lent_below cells m n ≡ left_below v m n
   below_left n = each_same 0 n (lent_told cells m) (left_told v m) (λ k low high. lent_left k)
@@ -91,16 +91,16 @@ module _ (v : CellsValue) (m : SymbolStart) (cells : SymbolCells) (are : AreCell
       ∙ ap (λ (xs : List AirCell). xs ++ rest) (each_more n (left_told v m) ∙ ap (λ (xs : List AirCell). left_below v m n ++ xs) one)
       ∙ append_assoc (left_below v m n) (cell ∷ []) rest
 
-  -- where the air stopped, those before are marked and counted
+  -- where the air stopped, those before are set as reported and counted
   pub stops_at : {A : Type 0} (grew : A → List Event → A → Type 0) (stopped : A → Event → A → Type 0) (n : ℕ) (new : CellsValue) (co cn : List ℕ) (a c : A)
-      → MarksTold m (left_below v m n) v new → CountsTold (lent_below cells m n) co cn → StopsAtPrb grew stopped cells m n a c
+      → ReportsTold m (left_below v m n) v new → CountsTold (lent_below cells m n) co cn → StopsAtPrb grew stopped cells m n a c
       → StopsAtCell grew stopped m v new co cn a c
-  stops_at grew stopped n new co cn a c marks counts stop = record {
+  stops_at grew stopped n new co cn a c reports counts stop = record {
     told = left_below v m n;
     cell = stop.cell;
     rest = each (n + 1) (m.endpoint.prbs - (n + 1)) (left_told v m);
     is = parted n stop.cell stop.within (sym (lent_left n) ∙ stop.is);
-    marks = marks;
+    reports = reports;
     counts = subst (λ (xs : List AirCell). CountsTold xs co cn) (below_left n) counts;
     middle = stop.middle;
     heard = subst (λ (xs : List AirCell). grew a (map Reported xs) stop.middle) (below_left n) stop.heard;

@@ -15,12 +15,9 @@ use Rattle.symbol_search.specs.unit_cells.specs.Cells.{CellsValue, endpoints_of}
 use Rattle.symbol_search.specs.Symbols.{HasNone, InSlot, OfEndpoint}
 use Rattle.symbol_search.proofs.SymbolLemmas.{endpoint_one, symbol_one}
 use Rattle.ru_reports.specs.Symbols.{is_left, is_left_after}
+use Rattle.fh_time.proofs.Orders.{and_false_2 as second_false}
 
 -- ---- one symbol
-
-second_false : (a b : Bool) → b ≡ false → (a && b) ≡ false
-second_false true b e = e
-second_false false b e = refl
 
 pub told_not_left : (v : CellsValue) (t : ℤ) (s : SymbolStart) → is_left v s ≡ false → None ≡ then_some (is_left_after v t s) s
 told_not_left v t s none = let e : is_left_after v t s ≡ false = second_false (int_lt t s.start.0) (is_left v s) none in rw e refl

@@ -19,7 +19,7 @@ use Rattle.symbol_search.specs.unit_model.specs.declared.decoded.UserSection.{Us
 use Rattle.symbol_search.specs.unit_model.specs.declared.symbol_start.SymbolStart.{SymbolStart}
 use Rattle.symbol_search.specs.slot_rings.specs.Places.{is_due}
 use Rattle.air_source.specs.declared.events.Side.{Side}
-use Rattle.symbol_search.specs.unit_cells.specs.Cells.{CellsValue, IsCellIn, cells_block, cells_claim, cells_done, endpoints_of}
+use Rattle.symbol_search.specs.unit_cells.specs.Cells.{CellsValue, IsCellIn, cells_block, cells_claim, cells_reported, endpoints_of}
 use Rattle.symbol_search.specs.unit_cells.specs.Keeping.{Keeps, SameKnown}
 
 -- the downlink cell of a symbol at a PRB
@@ -28,7 +28,7 @@ cell_in m prb = cell_at m.ep true m.slot m.symbol prb
 
 -- a downlink cell of the symbol is in use and was not reported
 abbrev pub is_left : CellsValue → SymbolStart → Bool
-is_left v m = some 0 m.endpoint.prbs (λ prb. is_due (cells_claim v (cell_in m prb)) (cells_done v (cell_in m prb)))
+is_left v m = some 0 m.endpoint.prbs (λ prb. is_due (cells_claim v (cell_in m prb)) (cells_reported v (cell_in m prb)))
 
 -- and the symbol starts after a time
 abbrev pub is_left_after : CellsValue → ℤ → SymbolStart → Bool
@@ -40,7 +40,7 @@ known_by v = record { claims = cells_claim v; blocks = cells_block v }
 
 -- what is still to be reported of a symbol, in the order of PRBs
 abbrev pub left_told : CellsValue → SymbolStart → ℕ → List AirCell
-left_told v m prb = if cells_done v (cell_in m prb) then [] else cell_told Ru (known_by v) m prb
+left_told v m prb = if cells_reported v (cell_in m prb) then [] else cell_told Ru (known_by v) m prb
 
 unfoldable pub left_at : CellsValue → SymbolStart → List AirCell
 left_at v m = each 0 m.endpoint.prbs (left_told v m)
@@ -50,9 +50,9 @@ abbrev pub is_told : SymbolStart → List AirCell → Cell → Bool
 is_told m told cell =
     (cell.ep == m.ep) && (same_slot cell.slot m.slot && ((cell.symbol == m.symbol) && list_any (λ a. a.prb == cell.prb) told))
 
--- these cells of a symbol were marked as reported, and nothing else changed
-pub record MarksTold (m : SymbolStart) (told : List AirCell) (old new : CellsValue) : Type 0 where
-  pub marks : (cell : Cell) → IsCellIn old cell → cell.down ≡ true → cells_done new cell ≡ (cells_done old cell || is_told m told cell)
+-- these cells of a symbol were set as reported, and nothing else changed
+pub record ReportsTold (m : SymbolStart) (told : List AirCell) (old new : CellsValue) : Type 0 where
+  pub reports : (cell : Cell) → IsCellIn old cell → cell.down ≡ true → cells_reported new cell ≡ (cells_reported old cell || is_told m told cell)
   pub keeps : (side : Side) (c : Config) (clock : ℤ) (acc : List Allocation) (ds : List UserSection) → Keeps side c clock old acc ds → Keeps side c clock new acc ds
   pub known : SameKnown old new
   pub side : new.side ≡ old.side
@@ -63,14 +63,14 @@ pub record MarksTold (m : SymbolStart) (told : List AirCell) (old new : CellsVal
 abbrev pub CountsTold : List AirCell → List ℕ → List ℕ → Type 0
 CountsTold told old new = (k : Counter) → count_of old k < 2 ^ 64 → count_of new k ≡ capped (count_of old k + times (cells_counted told) k)
 
--- an air stopped in one of the cells: those before it are marked and counted
+-- an air stopped in one of the cells: those before it are set as reported and counted
 pub record StopsAtCell {A : Type 0} (grew : A → List Event → A → Type 0) (stopped : A → Event → A → Type 0) (m : SymbolStart)
     (old new : CellsValue) (counts_old counts_new : List ℕ) (before after : A) : Type 0 where
   pub told : List AirCell
   pub cell : AirCell
   pub rest : List AirCell
   pub is : left_at old m ≡ told ++ cell ∷ rest
-  pub marks : MarksTold m told old new
+  pub reports : ReportsTold m told old new
   pub counts : CountsTold told counts_old counts_new
   pub middle : A
   pub heard : grew before (map Reported told) middle

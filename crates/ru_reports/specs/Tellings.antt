@@ -7,14 +7,14 @@ use Rattle.air_source.specs.declared.events.Side.TheVariants.{Ru}
 use Rattle.symbol_search.specs.unit_model.specs.Lists.{each}
 use Rattle.symbol_search.specs.unit_model.specs.Radiated.{report_of}
 use Rattle.symbol_search.specs.unit_model.specs.declared.symbol_start.SymbolStart.{SymbolStart}
-use Rattle.symbol_search.specs.slot_rings.specs.Symbols.{lent_block, lent_claim, lent_done}
+use Rattle.symbol_search.specs.slot_rings.specs.Symbols.{lent_block, lent_claim, lent_reported}
 use Rattle.symbol_search.specs.slot_rings.specs.declared.symbol_cells.SymbolCells.{SymbolCells}
 use Rattle.ru_reports.specs.Symbols.{cell_in}
 
 -- what is still to be reported of a symbol whose cells are lent, at a PRB and at the first so many
 abbrev pub lent_told : SymbolCells → SymbolStart → ℕ → List AirCell
 lent_told cells m prb =
-    if lent_done cells prb then [] else report_of Ru m.endpoint (cell_in m prb) m.start.0 (lent_claim cells prb) (lent_block cells prb)
+    if lent_reported cells prb then [] else report_of Ru m.endpoint (cell_in m prb) m.start.0 (lent_claim cells prb) (lent_block cells prb)
 
 abbrev pub lent_below : SymbolCells → SymbolStart → ℕ → List AirCell
 lent_below cells m count = each 0 count (lent_told cells m)

@@ -2,7 +2,7 @@
 ghost use Rattle.std.specs.Prelude.{◌≡◌, ◌<◌, ◌≤◌, [], ◌∷◌, IfErr, OnOk, map, option_to_list};
 ghost use Rattle.air_source.specs.Causes.{HasAirCause};
 ghost use Rattle.air_source.specs.declared.events.Event.TheVariants.{Cell as Reported};
-ghost use Rattle.ru_reports.specs.Symbols.{CountsTold, MarksTold, StopsAtCell, left_at};
+ghost use Rattle.ru_reports.specs.Symbols.{CountsTold, ReportsTold, StopsAtCell, left_at};
 ghost use Rattle.symbol_search.specs.Symbols.{IsSymbol};
 ghost use Rattle.ru_reports.specs.Tellings.{StopsAtPrb, StopsInOne, lent_below, lent_told};
 
@@ -26,7 +26,7 @@ fn left_cell(cells: &SymbolCells<'_>, m: &SymbolStart, prb: u16) -> Option<AirCe
     ensures { option_to_list result ≡ lent_told cells.now m.now prb }
 {
     let used = cells.cell(prb);
-    if used.done || used.mask == 0 {
+    if used.reported || used.mask == 0 {
         return None;
     }
     let block = cells.block(prb).copied();
@@ -100,8 +100,8 @@ fn tell_cells<A: Air>(
     }
 }
 
-/// Hands an air each cell of a symbol that is in use and was not reported, in the order of PRBs, marks it and counts it. After an
-/// error the cell in which the air stopped, and those after it, are neither marked nor counted.
+/// Hands an air each cell of a symbol that is in use and was not reported, in the order of PRBs, sets it as reported and counts it. After an
+/// error the cell in which the air stopped, and those after it, are neither set as reported nor counted.
 ///
 /// # Errors
 ///
@@ -114,7 +114,7 @@ pub fn report<A: Air>(
 ) -> Result<(), AirFault>
     requires { IsSymbol cells.old m.now }
     ensures heard { OnOk result (A.grew air.old (map Reported (left_at cells.old m.now)) air.new) }
-    ensures marks { OnOk result (MarksTold m.now (left_at cells.old m.now) cells.old cells.new) }
+    ensures reports { OnOk result (ReportsTold m.now (left_at cells.old m.now) cells.old cells.new) }
     ensures counts { OnOk result (CountsTold (left_at cells.old m.now) counters.old counters.new) }
     ensures stop { IfErr result (λ f. StopsAtCell A.grew (A.stopped f) m.now cells.old cells.new counters.old counters.new air.old air.new) }
     ensures same { A.same air.old air.new }
@@ -122,6 +122,6 @@ pub fn report<A: Air>(
 {
     let lent = cells.symbol_cells(m.ep, m.slot, m.symbol);
     let told = tell_cells(&lent, counters, m, air);
-    cells.mark_used(m.ep, m.slot, m.symbol, told.prbs);
+    cells.set_used_reported(m.ep, m.slot, m.symbol, told.prbs);
     told.answer
 }

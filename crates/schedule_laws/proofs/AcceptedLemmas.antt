@@ -17,8 +17,9 @@ use Rattle.unit_laws.specs.unit_model.specs.declared.verdicts.CommandVerdict.{Co
 use Rattle.unit_laws.specs.unit_model.specs.declared.verdicts.CommandVerdict.TheVariants.{Mismatch, Range, Repeat, Overlap, Full, Accepted}
 use Rattle.plan_model.specs.Validity.{clash, IsProper}
 use Rattle.plan_model.proofs.ListLemmas.{any_in, among}
-use Rattle.plan_model.proofs.SlotLemmas.{slot_own}
 use Rattle.schedule_laws.proofs.ClashLemmas.{IsClear, own_clash, is_repeat, no_repeat, no_overlap}
+use Rattle.unit_laws.specs.unit_model.specs.declared.uplink.TheConstants.{SLOT_SECTIONS}
+use Rattle.unit_laws.specs.unit_model.proofs.ClaimLemmas.{slot_self as slot_own}
 
 -- ---- how many uplink sections there are of lists without repeats
 
@@ -83,22 +84,18 @@ timely d xs c fits class =
     ap (λ (t : Bool). let v : CommandVerdict = if t then verdict_in (command_class d c) xs (allocation_of c) else Mismatch in v) fits
     ∙ ap (λ (k : Class). verdict_in k xs (allocation_of c)) class
 
-not_less : (n : ℕ) → n < 64 → nat_le 64 n ≡ false
-not_less n h = elim (cases_Bool (nat_le 64 n)) [
-  | inl is ↦ let l = leb-true 64 n is in absurd (omega (arith, l))
+not_less : (n : ℕ) → n < SLOT_SECTIONS → nat_le SLOT_SECTIONS n ≡ false
+not_less n h = elim (cases_Bool (nat_le SLOT_SECTIONS n)) [
+  | inl is ↦ let l = leb-true SLOT_SECTIONS n is in absurd (omega (arith, l))
   | inr is ↦ is
 ]
-
-and_false : (a b : Bool) → b ≡ false → (a && b) ≡ false
-and_false true b e = e
-and_false false b e = refl
 
 -- allocations that a plan may have: none clashes with another, and no slot has more than 64 uplink sections
 pub record AreAllowed (ls : List Allocation) : Type 0 where
   pub clear : IsClear ls
   pub proper : (a : Allocation) → IsIn a ls → IsProper a
   pub inside : (a : Allocation) → IsIn a ls → is_outside a.endpoint.prbs a.start_prb a.num_prb ≡ false
-  pub few : (ep : ℕ) (slot : Slot) → uplink_in ep slot ls ≤ 64
+  pub few : (ep : ℕ) (slot : Slot) → uplink_in ep slot ls ≤ SLOT_SECTIONS
 
 -- a command that names one of these on time
 pub record IsTimely (d : Delays) (ls : List Allocation) (c : ControlSection) : Type 0 where
@@ -138,7 +135,7 @@ module _ (d : Delays) (ls : List Allocation) (allowed : AreAllowed ls) where
       | inl is ↦ absurd (new (subst (λ (x : Allocation). IsIn x (accepted d cs)) (sym (allowed.clear a b timely_c.named (within b m) is)) m))
     ]
 
-    room_for : (b : Bool) → is_uplink a ≡ b → (IsIn a (accepted d cs) → ⊥) → (b && nat_le 64 (uplink_in a.ep a.slot (accepted d cs))) ≡ false
+    room_for : (b : Bool) → is_uplink a ≡ b → (IsIn a (accepted d cs) → ⊥) → (b && nat_le SLOT_SECTIONS (uplink_in a.ep a.slot (accepted d cs))) ≡ false
     room_for false e new = refl
     room_for true e new =
         let all = fewer a.ep a.slot (a ∷ accepted d cs) ls (new, named.distinct) (λ b m. elim m [

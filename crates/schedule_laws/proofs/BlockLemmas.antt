@@ -18,16 +18,16 @@ use Rattle.unit_laws.specs.unit_model.specs.declared.cells.Block.{Block}
 use Rattle.unit_laws.specs.unit_model.specs.declared.cells.Cell.{Cell}
 use Rattle.unit_laws.specs.unit_model.specs.declared.decoded.UserSection.{UserSection}
 use Rattle.unit_laws.proofs.CellLemmas.{covers_is, data_covers_is}
-use Rattle.plan_model.specs.Lines.{allocation_of, planned}
+use Rattle.plan_model.specs.Lines.{line_allocation, planned}
 use Rattle.plan_model.specs.Streams.{Part, part_in}
 use Rattle.plan_model.specs.Validity.{clash, share_bit, share_cell}
 use Rattle.plan_model.specs.declared.lines.PlannedLine.{PlannedLine}
-use Rattle.plan_model.proofs.SlotLemmas.{slot_own, way_own}
 use Rattle.plan_model.proofs.ClashLemmas.{both_cover}
 use Rattle.schedule_laws.specs.Data.{AreDecodedOnce, AreWritten, Blocks, IsDataFor, planned_block, radiates_in}
 use Rattle.schedule_laws.specs.Premise.{AllArrive, Texts}
 use Rattle.schedule_laws.proofs.LineLemmas.{are_one}
 use Rattle.schedule_laws.proofs.WholeLemmas.{IsTimely, each_timely, ds, line_sent, whole_once}
+use Rattle.unit_laws.specs.unit_model.proofs.ClaimLemmas.{way_self as way_own, slot_self as slot_own}
 
 -- ---- data that are all on time
 
@@ -137,7 +137,7 @@ same_block a b e1 e2 =
 
 module _ (blocks : Blocks) (x : Part) (d : UserSection) (carries : IsDataFor blocks x d) (slot_is : data_slot d ≡ x.planned.line.slot) where
   abbrev a : Allocation
-  a = allocation_of x.planned
+  a = line_allocation x.planned
 
   prbs_same : (n : ℕ) → is_from (first_data_prb d) (data_prb_count d) n ≡ is_from (first_prb a) (prb_count a) n
   prbs_same n = rw (carries.start_prb, carries.num_prb, carries.endpoint) refl
@@ -195,10 +195,10 @@ module _ (c : Config) (lines : List PlanLine) (text : Texts) (blocks : Blocks) (
   one_section cell p q m n a b = elim (cases_Bool (p.line.section == q.line.section)) [
     | inl same ↦ sym (eqb-true p.line.section q.line.section same)
     | inr differ ↦
-        let x = and_parts (not (allocation_of p).idle) (covers (allocation_of p) cell) a in
-        let y = and_parts (not (allocation_of q).idle) (covers (allocation_of q) cell) b in
-        let both : clash (allocation_of p) (allocation_of q) ≡ true =
-        and_from (share_cell (allocation_of p) (allocation_of q)) _ (both_cover (allocation_of p) (allocation_of q) cell x.1 y.1)
+        let x = and_parts (not (line_allocation p).idle) (covers (line_allocation p) cell) a in
+        let y = and_parts (not (line_allocation q).idle) (covers (line_allocation q) cell) b in
+        let both : clash (line_allocation p) (line_allocation q) ≡ true =
+        and_from (share_cell (line_allocation p) (line_allocation q)) _ (both_cover (line_allocation p) (line_allocation q) cell x.1 y.1)
         (or_right (share_bit p.line.mask q.line.mask) _ (ap not differ)) in
         ap (λ (r : PlannedLine). r.line.section) (sym (are_one c lines h.config h.lines_fit h.valid p q m n both))
   ]
@@ -222,9 +222,9 @@ module _ (c : Config) (lines : List PlanLine) (text : Texts) (blocks : Blocks) (
       no : true ≡ false → ⊥
       no q = cc
   block_planned cell down (radiated_by p m is) =
-      let parts = and_parts (not (allocation_of p).idle) (covers (allocation_of p) cell) is in
-      let covered = covers_is (allocation_of p) cell parts.1 in
-      let p_down : (allocation_of p).down ≡ true = covered.down ∙ down in
+      let parts = and_parts (not (line_allocation p).idle) (covers (line_allocation p) cell) is in
+      let covered = covers_is (line_allocation p) cell parts.1 in
+      let p_down : (line_allocation p).down ≡ true = covered.down ∙ down in
       let d = line_sent c lines text blocks arrivals h w p cell.symbol m p_down parts.0 covered.symbol in
       let b = block_of_line blocks cell p.line.section in
       one_block all cell b d.0

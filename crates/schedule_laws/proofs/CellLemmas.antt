@@ -28,7 +28,7 @@ use Rattle.unit_laws.specs.unit_model.specs.declared.cells.Claim.{Claim}
 use Rattle.unit_laws.proofs.ListLemmas.{each_same}
 use Rattle.unit_laws.proofs.ReportLemmas.{report_same}
 use Rattle.unit_laws.proofs.SweepLemmas.{sweep-same}
-use Rattle.plan_model.specs.Lines.{allocation_of, planned}
+use Rattle.plan_model.specs.Lines.{line_allocation, planned}
 use Rattle.plan_model.specs.Valid.{IsValid}
 use Rattle.plan_model.specs.Validity.{clash, share_bit, share_cell}
 use Rattle.plan_model.specs.declared.lines.PlannedLine.{PlannedLine}
@@ -106,18 +106,18 @@ module _ (c : Config) (lines : List PlanLine) (config : IsConfig c) (fit : All I
   all_lines = planned c.endpoints lines
 
   abbrev all_named : List Allocation
-  all_named = map allocation_of all_lines
+  all_named = map line_allocation all_lines
 
   all_allowed : AreAllowed all_named
   all_allowed = allowed c lines config fit valid
 
-  line_named : (cell : Cell) (re : ℕ) (b : Allocation) → IsIn b all_named → names b cell re ≡ true → (p : PlannedLine) × IsIn p all_lines × (names (allocation_of p) cell re ≡ true) × (claim_of b ≡ claim_of (allocation_of p))
+  line_named : (cell : Cell) (re : ℕ) (b : Allocation) → IsIn b all_named → names b cell re ≡ true → (p : PlannedLine) × IsIn p all_lines × (names (line_allocation p) cell re ≡ true) × (claim_of b ≡ claim_of (line_allocation p))
   line_named cell re b m is =
-      let p = of_map allocation_of b all_lines m in
+      let p = of_map line_allocation b all_lines m in
       (p.0, p.1, ap (λ (a : Allocation). names a cell re) (sym p.2) ∙ is, ap (λ (a : Allocation). claim_of a) p.2)
 
-  pub line_claims : (cell : Cell) (re : ℕ) (p : PlannedLine) → re < 12 → IsIn p all_lines → names (allocation_of p) cell re ≡ true → claim_at all_named cell re ≡ Some (claim_of (allocation_of p))
-  line_claims cell re p below m is = own_claim all_named (allocation_of p) cell re all_allowed.clear below (in_map allocation_of p all_lines m) is
+  pub line_claims : (cell : Cell) (re : ℕ) (p : PlannedLine) → re < 12 → IsIn p all_lines → names (line_allocation p) cell re ≡ true → claim_at all_named cell re ≡ Some (claim_of (line_allocation p))
+  line_claims cell re p below m is = own_claim all_named (line_allocation p) cell re all_allowed.clear below (in_map line_allocation p all_lines m) is
 
   used_is : (cell : Cell) (re : ℕ) → re < 12 → is_used (claim_at all_named cell re) ≡ radiates all_lines cell re
   used_is cell re below = both_ways (is_used (claim_at all_named cell re)) (radiates all_lines cell re) (forth (claim_at all_named cell re) refl) back
@@ -127,42 +127,42 @@ module _ (c : Config) (lines : List PlanLine) (config : IsConfig c) (fit : All I
       forth (Some d) e u =
           let k = claimed all_named cell re d e in
           let p = line_named cell re k.b k.there k.names_it in
-          let used : not (allocation_of p.0).idle ≡ true = ap (λ (x : Claim). not x.idle) (sym (k.is ∙ p.3)) ∙ u in
-          any_in (λ (q : PlannedLine). not (allocation_of q).idle && names (allocation_of q) cell re) p.0 all_lines p.1 (and_from _ _ used p.2)
+          let used : not (line_allocation p.0).idle ≡ true = ap (λ (x : Claim). not x.idle) (sym (k.is ∙ p.3)) ∙ u in
+          any_in (λ (q : PlannedLine). not (line_allocation q).idle && names (line_allocation q) cell re) p.0 all_lines p.1 (and_from _ _ used p.2)
 
       back : radiates all_lines cell re ≡ true → is_used (claim_at all_named cell re) ≡ true
       back r =
-          let k = among (λ (q : PlannedLine). not (allocation_of q).idle && names (allocation_of q) cell re) all_lines r in
-          let parts = and_parts (not (allocation_of k.x).idle) (names (allocation_of k.x) cell re) k.is in
+          let k = among (λ (q : PlannedLine). not (line_allocation q).idle && names (line_allocation q) cell re) all_lines r in
+          let parts = and_parts (not (line_allocation k.x).idle) (names (line_allocation k.x) cell re) k.is in
           ap (λ (o : Option Claim). is_used o) (line_claims cell re k.x below k.there parts.1) ∙ parts.0
 
   pub mask_is : (cell : Cell) → used_mask (claim_at all_named cell) ≡ planned_mask all_lines cell
   mask_is cell = mask_same (claim_at all_named cell) (radiates all_lines cell) 12 (used_is cell)
 
   -- all lines in a cell have one section id
-  pub one_section : (cell : Cell) (p q : PlannedLine) → IsIn p all_lines → IsIn q all_lines → covers (allocation_of p) cell ≡ true → covers (allocation_of q) cell ≡ true → q.line.section ≡ p.line.section
+  pub one_section : (cell : Cell) (p q : PlannedLine) → IsIn p all_lines → IsIn q all_lines → covers (line_allocation p) cell ≡ true → covers (line_allocation q) cell ≡ true → q.line.section ≡ p.line.section
   one_section cell p q m n a b = elim (cases_Bool (p.line.section == q.line.section)) [
     | inl same ↦ sym (eqb-true p.line.section q.line.section same)
     | inr differ ↦
-        let both : clash (allocation_of p) (allocation_of q) ≡ true =
-        and_from (share_cell (allocation_of p) (allocation_of q)) _ (both_cover (allocation_of p) (allocation_of q) cell a b) (or_right (share_bit p.line.mask q.line.mask) _ (ap not differ)) in
+        let both : clash (line_allocation p) (line_allocation q) ≡ true =
+        and_from (share_cell (line_allocation p) (line_allocation q)) _ (both_cover (line_allocation p) (line_allocation q) cell a b) (or_right (share_bit p.line.mask q.line.mask) _ (ap not differ)) in
         ap (λ (r : PlannedLine). r.line.section) (sym (are_one c lines config fit valid p q m n both))
   ]
 
-  pub all_under : (cell : Cell) (p : PlannedLine) (re : ℕ) → IsIn p all_lines → covers (allocation_of p) cell ≡ true → (o : Option Claim) → claim_at all_named cell re ≡ o → IsUnder p.line.section o
+  pub all_under : (cell : Cell) (p : PlannedLine) (re : ℕ) → IsIn p all_lines → covers (line_allocation p) cell ≡ true → (o : Option Claim) → claim_at all_named cell re ≡ o → IsUnder p.line.section o
   all_under cell p re m is None e = tt
   all_under cell p re m is (Some d) e =
       let k = claimed all_named cell re d e in
       let q = line_named cell re k.b k.there k.names_it in
-      let parts = and_parts (covers (allocation_of q.0) cell) (in_mask q.0.line.mask re) q.2 in
+      let parts = and_parts (covers (line_allocation q.0) cell) (in_mask q.0.line.mask re) q.2 in
       ap (λ (x : Claim). x.id) (k.is ∙ q.3) ∙ one_section cell p q.0 m q.1 is parts.0
 
   pub section_is : (qs : List PlannedLine) (cell : Cell) (p : PlannedLine) → ((q : PlannedLine) → IsIn q qs → IsIn q all_lines) → IsIn p qs → radiates_in p cell ≡ true → planned_section qs cell ≡ p.line.section
   section_is [] cell p within m is = absurd m
   section_is (q ∷ qs) cell p within m is = elim (cases_Bool (radiates_in q cell)) [
     | inl now ↦
-        let x = and_parts (not (allocation_of p).idle) (covers (allocation_of p) cell) is in
-        let y = and_parts (not (allocation_of q).idle) (covers (allocation_of q) cell) now in
+        let x = and_parts (not (line_allocation p).idle) (covers (line_allocation p) cell) is in
+        let y = and_parts (not (line_allocation q).idle) (covers (line_allocation q) cell) now in
         rw now (one_section cell p q (within p m) (within q (inl refl)) x.1 y.1)
     | inr other ↦ elim m [
       | inl here ↦ absurd (no (sym is ∙ ap (λ (r : PlannedLine). radiates_in r cell) here ∙ other))
@@ -183,7 +183,7 @@ module _ (c : Config) (lines : List PlanLine) (text : Texts) (blocks : Blocks) (
   ps = planned c.endpoints lines
 
   abbrev ls : List Allocation
-  ls = map allocation_of ps
+  ls = map line_allocation ps
 
   planned_is : (qs : List PlannedLine) (cell : Cell) (p : PlannedLine) → IsIn p qs → radiates_in p cell ≡ true → planned_block blocks qs cell ≡ Some (record { id = planned_section qs cell; samples = blocks cell })
   planned_is [] cell p m is = absurd m
@@ -206,14 +206,14 @@ module _ (c : Config) (lines : List PlanLine) (text : Texts) (blocks : Blocks) (
   radiating : (e : EndpointConfig) (cell : Cell) (start : ℤ) (re : ℕ) → re < 12 → radiates ps cell re ≡ true → (planned_mask ps cell == 0) ≡ false
       → plan_report e cell start ≡ planned_event blocks ps e cell start ∷ []
   radiating e cell start re below r some =
-      let k = among (λ (q : PlannedLine). not (allocation_of q).idle && names (allocation_of q) cell re) ps r in
+      let k = among (λ (q : PlannedLine). not (line_allocation q).idle && names (line_allocation q) cell re) ps r in
       let p = k.x in
-      let parts = and_parts (not (allocation_of p).idle) (names (allocation_of p) cell re) k.is in
-      let cover = and_parts (covers (allocation_of p) cell) (in_mask p.line.mask re) parts.1 in
+      let parts = and_parts (not (line_allocation p).idle) (names (line_allocation p) cell re) k.is in
+      let cover = and_parts (covers (line_allocation p) cell) (in_mask p.line.mask re) parts.1 in
       let in_cell : radiates_in p cell ≡ true = and_from _ _ parts.0 cover.0 in
       let section = section_is c lines h.config h.lines_fit h.valid ps cell p (λ q m. m) k.there in_cell in
       let ids : cell_id (claim_at ls cell) ≡ planned_section ps cell =
-      id_is (claim_at ls cell) p.line.section 0 12 re (claim_of (allocation_of p)) (λ i small. all_under c lines h.config h.lines_fit h.valid cell p i k.there cover.0 (claim_at ls cell i) refl) (omega arith) (omega (arith, below))
+      id_is (claim_at ls cell) p.line.section 0 12 re (claim_of (line_allocation p)) (λ i small. all_under c lines h.config h.lines_fit h.valid cell p i k.there cover.0 (claim_at ls cell i) refl) (omega arith) (omega (arith, below))
       (line_claims c lines h.config h.lines_fit h.valid cell re p below k.there parts.1) ∙ sym section in
       let block = planned_is ps cell p k.there in_cell in
       let samples : samples_under (planned_section ps cell) (planned_block blocks ps cell) ≡ Some (blocks cell) =

@@ -6,12 +6,12 @@ use Rattle.unit_laws.specs.unit_model.specs.Claims.{same_slot, same_way, is_from
 use Rattle.unit_laws.specs.unit_model.specs.declared.allocations.Allocation.{Allocation}
 use Rattle.unit_laws.specs.unit_model.specs.declared.cells.Cell.{Cell}
 use Rattle.unit_laws.specs.unit_model.specs.declared.cells.Claim.{Claim}
-use Rattle.unit_laws.proofs.CellLemmas.{slots_equal, ways_equal}
 use Rattle.fragment_laws.specs.Apart.{IsIn}
-use Rattle.plan_model.specs.Validity.{meet, share_cell, share_bit, clash, IsProper}
-use Rattle.plan_model.proofs.RangeLemmas.{every_at, every_one, some_one, found, is_from_in, meet_swap}
+use Rattle.plan_model.specs.Validity.{ranges_meet, share_cell, share_bit, clash, IsProper}
+use Rattle.plan_model.proofs.RangeLemmas.{found, meet_swap}
 use Rattle.plan_model.proofs.SlotLemmas.{eqb_swap}
 use Rattle.plan_model.proofs.ClashLemmas.{same_from, covers_own, bit_of, name_one, cell_at_start, overlap_of}
+use Rattle.unit_laws.specs.unit_model.proofs.ClaimLemmas.{same_way_is as ways_equal, same_slot_is as slots_equal, is_in as is_from_in, every_at, every_one, some_one}
 
 -- ---- tests are symmetric
 
@@ -20,7 +20,7 @@ share_swap a b h =
     let p = and_parts (a.ep == b.ep) _ h in
     let q = and_parts (same_way a.down b.down) _ p.1 in
     let r = and_parts (same_slot a.slot b.slot) _ q.1 in
-    let s = and_parts (meet a.symbol a.num_symbol b.symbol b.num_symbol) _ r.1 in
+    let s = and_parts (ranges_meet a.symbol a.num_symbol b.symbol b.num_symbol) _ r.1 in
     same_from b a (sym (eqb-true a.ep b.ep p.0)) (sym (ways_equal a.down b.down q.0)) (sym (slots_equal a.slot b.slot r.0))
     (meet_swap a.symbol a.num_symbol b.symbol b.num_symbol s.0) (meet_swap (first_prb a) (prb_count a) (first_prb b) (prb_count b) s.1)
 

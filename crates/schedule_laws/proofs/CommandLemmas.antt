@@ -36,8 +36,8 @@ use Rattle.unit_laws.specs.unit_model.specs.declared.decoded.ControlSection.{Con
 use Rattle.unit_laws.specs.unit_model.proofs.ReachLaws.{symbol_soon}
 use Rattle.unit_laws.specs.unit_model.proofs.SweepLaws.{gap_is}
 use Rattle.unit_laws.proofs.FarLemmas.{endpoints_equal}
-use Rattle.plan_model.specs.Departures.{departures_of, sending_window, sent_at, start_of, width_of}
-use Rattle.plan_model.specs.Lines.{allocation_of, is_down, planned}
+use Rattle.plan_model.specs.Departures.{departures_of, sending_window, sent_at, start_of_part, width_of}
+use Rattle.plan_model.specs.Lines.{line_allocation, is_down_kind, planned}
 use Rattle.plan_model.specs.Packs.{Numbered, packs}
 use Rattle.plan_model.specs.Sent.{SentFrame, frame_of, sent}
 use Rattle.plan_model.specs.Streams.{Part, frames_in, has_part, messages_of, part_fields, part_in, parts_in}
@@ -45,7 +45,6 @@ use Rattle.plan_model.specs.Valid.{IsValid}
 use Rattle.plan_model.specs.declared.lines.PlannedLine.{PlannedLine}
 use Rattle.plan_model.specs.declared.streams.Stream.{Stream}
 use Rattle.plan_model.specs.declared.streams.Stream.TheVariants.{DownCommands, UpCommands, DownData, UpData}
-use Rattle.plan_model.proofs.SlotLemmas.{slot_own, same_slot_fields}
 use Rattle.plan_model.proofs.ListLemmas.{in_right}
 use Rattle.schedule_laws.specs.Commands.{AreCommandedOnce, IsAnsweredOnce, IsCommanded}
 use Rattle.schedule_laws.specs.Premise.{AllArrive, IsCommandFor, IsCopyOf, Texts}
@@ -56,7 +55,11 @@ use Rattle.schedule_laws.proofs.ListLemmas.{in_map, of_map, numerology_short}
 use Rattle.schedule_laws.proofs.PackLemmas.{message_from, one_part}
 use Rattle.schedule_laws.proofs.ReadingLemmas.{AreCopies, Heard, IsCommandStream, command_read, heard, told}
 use Rattle.schedule_laws.proofs.SentLemmas.{IsOfMessage, IsSentStream, is_sent, message_part, part_is, part_message, part_there, sent_is}
-use Rattle.schedule_laws.proofs.TimeLemmas.{copy_from, copy_to, first_less, frame_is, in_end, in_time, wait_most, in_ticks}
+use Rattle.schedule_laws.proofs.TimeLemmas.{copy_from, copy_to, first_less, frame_is, in_end, in_time, wait_most}
+use Rattle.fh_time.specs.declared.frames.TheConstants.{FRAME}
+use Rattle.fh_time.proofs.Order.{same_fields as same_slot_fields}
+use Rattle.unit_laws.specs.unit_model.proofs.ClaimLemmas.{slot_self as slot_own}
+use Rattle.unit_laws.specs.window_config.proofs.TickLemmas.{in_ticks}
 
 -- ---- times
 
@@ -85,9 +88,9 @@ on_time sending awaited t12 s at wait room few from to = record {
 }
 
 -- so it comes near to its frame
-pub near_frame : (f s at least most : ℤ) → (f *ℤ pos 15360000000) ≤ℤ s → s <ℤ (f *ℤ pos 15360000000 +ℤ pos 76800000000) → pos 0 ≤ℤ least → most ≤ℤ pos 4000000
+pub near_frame : (f s at least most : ℤ) → (f *ℤ FRAME) ≤ℤ s → s <ℤ (f *ℤ FRAME +ℤ pos 76800000000) → pos 0 ≤ℤ least → most ≤ℤ pos 4000000
     → (least *ℤ pos 1536) ≤ℤ (s -ℤ at) → (s -ℤ at) ≤ℤ (most *ℤ pos 1536)
-    → ((at -ℤ pos 1966080000000) ≤ℤ (f *ℤ pos 15360000000)) × ((f *ℤ pos 15360000000) <ℤ (at +ℤ pos 1966080000000))
+    → ((at -ℤ pos 1966080000000) ≤ℤ (f *ℤ FRAME)) × ((f *ℤ FRAME) <ℤ (at +ℤ pos 1966080000000))
 near_frame f s at least most low high a b soon late = (omega (arith, ints), omega (arith, ints))
 
 -- the room that the check leaves commands
@@ -139,9 +142,9 @@ module _ (p : PlannedLine) (d : ControlSection) (carries : IsCommandFor p d) whe
   slot_named : absolute_frame d.head.frame_id d.at.0 ≡ p.line.slot.frame → command_slot d ≡ p.line.slot
   slot_named f = same_slot_fields (command_slot d) p.line.slot f carries.subframe carries.slot
 
-  names_line : absolute_frame d.head.frame_id d.at.0 ≡ p.line.slot.frame → named_by d ≡ allocation_of p
+  names_line : absolute_frame d.head.frame_id d.at.0 ≡ p.line.slot.frame → named_by d ≡ line_allocation p
   names_line f =
-      same_allocation (named_by d) (allocation_of p) carries.ep carries.endpoint carries.down carries.idle (slot_named f) carries.symbol carries.num_symbol carries.start_prb carries.num_prb carries.mask
+      same_allocation (named_by d) (line_allocation p) carries.ep carries.endpoint carries.down carries.idle (slot_named f) carries.symbol carries.num_symbol carries.start_prb carries.num_prb carries.mask
       carries.id carries.filter
 
   start_named : absolute_frame d.head.frame_id d.at.0 ≡ p.line.slot.frame → command_start d ≡ air_of p.endpoint.numerology p.line.slot p.line.symbol
@@ -152,14 +155,14 @@ module _ (p : PlannedLine) (d : ControlSection) (carries : IsCommandFor p d) whe
 
 -- ---- each stream
 
-first_symbol : (stream : Stream) → IsCommandStream stream → (p : PlannedLine) (ep : ℕ) (slot : Slot) (symbol : ℕ) → has_part stream ep slot symbol (allocation_of p) ≡ true → p.line.symbol ≡ symbol
+first_symbol : (stream : Stream) → IsCommandStream stream → (p : PlannedLine) (ep : ℕ) (slot : Slot) (symbol : ℕ) → has_part stream ep slot symbol (line_allocation p) ≡ true → p.line.symbol ≡ symbol
 first_symbol DownCommands s p ep slot symbol h =
-    let one = and_parts (is_down p.line.kind) _ h in
+    let one = and_parts (is_down_kind p.line.kind) _ h in
     let two = and_parts (p.ep == ep) _ one.1 in
     let three = and_parts (same_slot p.line.slot slot) (p.line.symbol == symbol) two.1 in
     eqb-true p.line.symbol symbol three.1
 first_symbol UpCommands s p ep slot symbol h =
-    let one = and_parts (not (is_down p.line.kind)) _ h in
+    let one = and_parts (not (is_down_kind p.line.kind)) _ h in
     let two = and_parts (p.ep == ep) _ one.1 in
     let three = and_parts (same_slot p.line.slot slot) (p.line.symbol == symbol) two.1 in
     eqb-true p.line.symbol symbol three.1
@@ -168,13 +171,13 @@ first_symbol UpData s p ep slot symbol h = absurd s
 
 -- the window of what the stream carries
 window_of : (stream : Stream) → IsCommandStream stream → (d : Delays) (p : PlannedLine) (ep : ℕ) (slot : Slot) (symbol : ℕ) → IsWithinLimits d → PassesCheck d
-    → has_part stream ep slot symbol (allocation_of p) ≡ true → HasRoom (sending_window d stream) (command_window_of d (is_down p.line.kind)) d.t12
+    → has_part stream ep slot symbol (line_allocation p) ≡ true → HasRoom (sending_window d stream) (command_window_of d (is_down_kind p.line.kind)) d.t12
 window_of DownCommands s d p ep slot symbol l k h =
-    let one = and_parts (is_down p.line.kind) _ h in
+    let one = and_parts (is_down_kind p.line.kind) _ h in
     subst (λ b. HasRoom (sending_window d DownCommands) (command_window_of d b) d.t12) (sym one.0) (room_down d l k)
 window_of UpCommands s d p ep slot symbol l k h =
-    let one = and_parts (not (is_down p.line.kind)) _ h in
-    subst (λ b. HasRoom (sending_window d UpCommands) (command_window_of d b) d.t12) (sym (not-true (is_down p.line.kind) one.0)) (room_up d l k)
+    let one = and_parts (not (is_down_kind p.line.kind)) _ h in
+    subst (λ b. HasRoom (sending_window d UpCommands) (command_window_of d b) d.t12) (sym (not-true (is_down_kind p.line.kind) one.0)) (room_up d l k)
 window_of DownData s d p ep slot symbol l k h = absurd s
 window_of UpData s d p ep slot symbol l k h = absurd s
 
@@ -184,7 +187,7 @@ low_window d false l = (omega (arith, ints, l.t2a_cp_ul.low), omega (arith, ints
 
 -- when its frames leave
 leaves : (stream : Stream) → IsCommandStream stream → (c : Config) (n : Numbered Part) (sub : ℕ)
-    → sent_at c stream n sub ≡ (start_of n.message.first +ℤ neg_ℤ (ticks_of_ns (sending_window c.delays stream).max))
+    → sent_at c stream n sub ≡ (start_of_part n.message.first +ℤ neg_ℤ (ticks_of_ns (sending_window c.delays stream).max))
     +ℤ pos (min ((n.before + sub) * (departures_of c stream).gap) (width_of (sending_window c.delays stream)))
 leaves DownCommands s c n sub = refl
 leaves UpCommands s c n sub = refl
@@ -216,16 +219,16 @@ module _ (c : Config) (lines : List PlanLine) (text : Texts) (arrivals : List Ar
   record Came (line : PlannedLine) (d : ControlSection) : Type 0 where
     there : IsIn line ps
     carries : IsCommandFor line d
-    names : named_by d ≡ allocation_of line
+    names : named_by d ≡ line_allocation line
     class : command_class c.delays d ≡ OnTime
 
   timely_by : (p : PlannedLine) (d : ControlSection) (f : ℤ) → IsIn p ps → IsCommandFor p d → p.line.slot.frame ≡ f
       → (frame_start f ≤ℤ air_of p.endpoint.numerology p.line.slot p.line.symbol)
       → (air_of p.endpoint.numerology p.line.slot p.line.symbol <ℤ (frame_start f +ℤ pos 76800000000))
-      → IsOnTime d.at.0 d.at.0 (air_of p.endpoint.numerology p.line.slot p.line.symbol) (command_window_of c.delays (is_down p.line.kind)) → Came p d
+      → IsOnTime d.at.0 d.at.0 (air_of p.endpoint.numerology p.line.slot p.line.symbol) (command_window_of c.delays (is_down_kind p.line.kind)) → Came p d
   timely_by p d f there carries e low high time =
-      let window = command_window_of c.delays (is_down p.line.kind) in
-      let bound = low_window c.delays (is_down p.line.kind) limits in
+      let window = command_window_of c.delays (is_down_kind p.line.kind) in
+      let bound = low_window c.delays (is_down_kind p.line.kind) limits in
       let s = air_of p.endpoint.numerology p.line.slot p.line.symbol in
       let near = near_frame f s d.at.0 window.min window.max low high bound.0 bound.1 time.soon_enough time.late_enough in
       let id : pos d.head.frame_id ≡ int_rem_euclid f (pos 256) = carries.frame_id ∙ ap (λ (z : ℤ). int_rem_euclid z (pos 256)) e in
@@ -251,17 +254,17 @@ module _ (c : Config) (lines : List PlanLine) (text : Texts) (arrivals : List Ar
       let below : p.line.symbol < symbols_of p.endpoint.numerology = subst (λ (e : EndpointConfig). p.line.symbol < symbols_of e.numerology) (sym endpoint) (subst (λ y. y < symbols_of w.f.endpoint.numerology) (sym symbol) part.is_symbol) in
       let soon = symbol_soon p.endpoint.numerology p.line.slot p.line.symbol (numerology_short p.endpoint.numerology) (record { subframe = g.fits.subframe; slot = g.slot }) below in
       let carries : IsCommandFor p d = subst (λ (f : SentFrame). IsCommandFor f.message.first.planned d) o.is w.carries in
-      let starts : start_of x ≡ air_of p.endpoint.numerology p.line.slot p.line.symbol = ap (λ y. air_of p.endpoint.numerology p.line.slot y) (sym symbol) in
+      let starts : start_of_part x ≡ air_of p.endpoint.numerology p.line.slot p.line.symbol = ap (λ y. air_of p.endpoint.numerology p.line.slot y) (sym symbol) in
       let sends = sending_window c.delays stream in
       let wait = min ((o.n.before + w.f.sub) * (departures_of c stream).gap) (width_of sends) in
       let left : w.f.at ≡ (air_of p.endpoint.numerology p.line.slot p.line.symbol +ℤ neg_ℤ (ticks_of_ns sends.max)) +ℤ pos wait =
       ap (λ (f : SentFrame). f.at) o.is ∙ leaves stream w.stream c o.n w.f.sub ∙ ap (λ s. (s +ℤ neg_ℤ (ticks_of_ns sends.max)) +ℤ pos wait) starts in
       let from = subst (λ t. (t +ℤ ticks_of_ns c.delays.t12.min) ≤ℤ w.a.at) left w.copy.from in
       let to = subst (λ t. w.a.at ≤ℤ (t +ℤ ticks_of_ns c.delays.t12.max)) left w.copy.to in
-      let time = on_time sends (command_window_of c.delays (is_down p.line.kind)) c.delays.t12 (air_of p.endpoint.numerology p.line.slot p.line.symbol) w.a.at wait
+      let time = on_time sends (command_window_of c.delays (is_down_kind p.line.kind)) c.delays.t12 (air_of p.endpoint.numerology p.line.slot p.line.symbol) w.a.at wait
       (window_of stream w.stream c.delays p w.f.ep part.slot x.symbol limits h.check part.has) (wait_most (o.n.before + w.f.sub) (departures_of c stream).gap (width_of sends)) from to in
       timely_by p d p.line.slot.frame part.from carries refl soon.0 soon.1
-      (subst (λ t. IsOnTime t t (air_of p.endpoint.numerology p.line.slot p.line.symbol) (command_window_of c.delays (is_down p.line.kind))) (sym w.at) time)
+      (subst (λ t. IsOnTime t t (air_of p.endpoint.numerology p.line.slot p.line.symbol) (command_window_of c.delays (is_down_kind p.line.kind))) (sym w.at) time)
 
   came_is : (d : ControlSection) → IsIn d cs → (p : PlannedLine) × Came p d
   came_is d m =
@@ -269,17 +272,17 @@ module _ (c : Config) (lines : List PlanLine) (text : Texts) (arrivals : List Ar
       let o = sent_is c ps w.f w.sent_is in
       (o.n.message.first.planned, came_of d w o)
 
-  timely_is : (d : ControlSection) → IsIn d cs → IsTimely c.delays (map allocation_of ps) d
+  timely_is : (d : ControlSection) → IsIn d cs → IsTimely c.delays (map line_allocation ps) d
   timely_is d m =
       let v = came_is d m in
       let w = v.1 in
       record {
         fits = w.carries.fits;
         class = w.class;
-        named = subst (λ (a : Allocation). IsIn a (map allocation_of ps)) (sym w.names) (in_map allocation_of v.0 ps w.there);
+        named = subst (λ (a : Allocation). IsIn a (map line_allocation ps)) (sym w.names) (in_map line_allocation v.0 ps w.there);
       }
 
-  allowed_all : AreAllowed (map allocation_of ps)
+  allowed_all : AreAllowed (map line_allocation ps)
   allowed_all = allowed c lines h.config h.lines_fit h.valid
 
   -- ---- each is answered so
@@ -289,16 +292,16 @@ module _ (c : Config) (lines : List PlanLine) (text : Texts) (arrivals : List Ar
       let v = came_is d m in
       let w = v.1 in
       let before = λ (x : ControlSection) (i : IsIn x earlier). timely_is x (within x i) in
-      let named = named_all c.delays (map allocation_of ps) allowed_all earlier before in
+      let named = named_all c.delays (map line_allocation ps) allowed_all earlier before in
       let timely_d = timely_is d m in
       record {
         line = v.0;
         planned_is = w.there;
         carries = w.carries;
         names = w.names;
-        first = λ none. new_one c.delays (map allocation_of ps) allowed_all d earlier timely_d before named (λ i.
+        first = λ none. new_one c.delays (map line_allocation ps) allowed_all d earlier timely_d before named (λ i.
             (let x = named.from (named_by d) i in none x.0 x.1 (x.2 ∙ w.names)));
-        further = λ x i e. again c.delays (map allocation_of ps) allowed_all d earlier timely_d before named
+        further = λ x i e. again c.delays (map line_allocation ps) allowed_all d earlier timely_d before named
             (subst (λ (a : Allocation). IsIn a (accepted c.delays earlier)) (e ∙ sym w.names) (named.all x i));
       }
 
@@ -312,10 +315,10 @@ module _ (c : Config) (lines : List PlanLine) (text : Texts) (arrivals : List Ar
   own_place : (p : PlannedLine) → ((p.ep == p.ep) && (same_slot p.line.slot p.line.slot && (p.line.symbol == p.line.symbol))) ≡ true
   own_place p = and_from _ _ (eq-eqb p.ep p.ep refl) (and_from _ _ (slot_own p.line.slot) (eq-eqb p.line.symbol p.line.symbol refl))
 
-  has_own : (p : PlannedLine) (k : PlanKind) → p.line.kind ≡ k → has_part (stream_of k) p.ep p.line.slot p.line.symbol (allocation_of p) ≡ true
-  has_own p Down e = and_from _ _ (ap (λ (k : PlanKind). is_down k) e) (own_place p)
-  has_own p Up e = and_from _ _ (ap (λ (k : PlanKind). not (is_down k)) e) (own_place p)
-  has_own p Idle e = and_from _ _ (ap (λ (k : PlanKind). is_down k) e) (own_place p)
+  has_own : (p : PlannedLine) (k : PlanKind) → p.line.kind ≡ k → has_part (stream_of k) p.ep p.line.slot p.line.symbol (line_allocation p) ≡ true
+  has_own p Down e = and_from _ _ (ap (λ (k : PlanKind). is_down_kind k) e) (own_place p)
+  has_own p Up e = and_from _ _ (ap (λ (k : PlanKind). not (is_down_kind k)) e) (own_place p)
+  has_own p Idle e = and_from _ _ (ap (λ (k : PlanKind). is_down_kind k) e) (own_place p)
 
   is_command : (k : PlanKind) → IsCommandStream (stream_of k)
   is_command Down = tt
@@ -374,7 +377,7 @@ module _ (c : Config) (lines : List PlanLine) (text : Texts) (arrivals : List Ar
       let most = most_before stream (is_command k) in
       let wait = min ((n.0.before + 0) * (departures_of c stream).gap) (width_of window) in
       let leaves_is : sent_at c stream n.0 0 ≡ (s +ℤ neg_ℤ (ticks_of_ns window.max)) +ℤ pos wait =
-      leaves stream (is_command k) c n.0 0 ∙ ap (λ (y : Part). (start_of y +ℤ neg_ℤ (ticks_of_ns window.max)) +ℤ pos wait) (sym same) in
+      leaves stream (is_command k) c n.0 0 ∙ ap (λ (y : Part). (start_of_part y +ℤ neg_ℤ (ticks_of_ns window.max)) +ℤ pos wait) (sym same) in
       let clock = in_time s window.min window.max wait (width_of window) time.0 time.1 most.1 most.2 most.0
       (gap_is (ticks_of_ns window.min) (ticks_of_ns window.max) (in_ticks window.min window.max most.0)) (wait_most (n.0.before + 0) (departures_of c stream).gap (width_of window)) in
       record {
@@ -407,15 +410,15 @@ module _ (c : Config) (lines : List PlanLine) (text : Texts) (arrivals : List Ar
       } in
       let came = came_of r.command heard_it o in
       let first : o.n.message.first.planned ≡ p = ap (λ (f : SentFrame). f.message.first.planned) (sym o.is) ∙ w.is in
-      record { command = r.command; came = there; carries = carries; names = came.names ∙ ap (λ (q : PlannedLine). allocation_of q) first }
+      record { command = r.command; came = there; carries = carries; names = came.names ∙ ap (λ (q : PlannedLine). line_allocation q) first }
 
-  claims_are : (cell : Cell) (re : ℕ) → re < 12 → claim_at (accepted c.delays cs) cell re ≡ claim_at (map allocation_of ps) cell re
+  claims_are : (cell : Cell) (re : ℕ) → re < 12 → claim_at (accepted c.delays cs) cell re ≡ claim_at (map line_allocation ps) cell re
   claims_are cell re below =
-      let named = named_all c.delays (map allocation_of ps) allowed_all cs timely_is in
-      claims_same (accepted c.delays cs) (map allocation_of ps) cell re allowed_all.clear below
-      (λ b m. (let w = named.from b m in subst (λ (a : Allocation). IsIn a (map allocation_of ps)) w.2 (timely_is w.0 w.1).named))
+      let named = named_all c.delays (map line_allocation ps) allowed_all cs timely_is in
+      claims_same (accepted c.delays cs) (map line_allocation ps) cell re allowed_all.clear below
+      (λ b m. (let w = named.from b m in subst (λ (a : Allocation). IsIn a (map line_allocation ps)) w.2 (timely_is w.0 w.1).named))
       (λ b m.
-      (let p = of_map allocation_of b ps m in
+      (let p = of_map line_allocation b ps m in
       let w = commanded p.0 p.1 in
       subst (λ (a : Allocation). IsIn a (accepted c.delays cs)) (w.names ∙ sym p.2) (named.all w.command w.came)))
 

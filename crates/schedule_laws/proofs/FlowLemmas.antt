@@ -27,7 +27,7 @@ use Rattle.unit_laws.specs.unit_model.proofs.SweepLaws.{gap_is}
 use Rattle.unit_laws.proofs.SweepLemmas.{of_endpoint_related}
 use Rattle.unit_laws.proofs.FarLemmas.{endpoints_equal}
 use Rattle.plan_model.specs.Dense.{dense_from, dense_in, down_distance, up_distance, first_near, is_near, lesser, sending_of, sendings}
-use Rattle.plan_model.specs.Departures.{departures_of, sent_at, start_of}
+use Rattle.plan_model.specs.Departures.{departures_of, sent_at, start_of_part}
 use Rattle.plan_model.specs.Lines.{planned}
 use Rattle.plan_model.specs.Packs.{Message, Numbered, alone, packs, size_of}
 use Rattle.plan_model.specs.Streams.{Part, frames_in, messages_of, part_fields, parts_in, section_size, symbol_parts}
@@ -46,6 +46,7 @@ use Rattle.schedule_laws.proofs.OrderLemmas.{IsRising, all_short, below_get, get
 use Rattle.schedule_laws.proofs.PackLemmas.{message_from}
 use Rattle.schedule_laws.proofs.PlanLemmas.{valid_apart}
 use Rattle.schedule_laws.proofs.SentLemmas.{part_is, symbol_part}
+use Rattle.fh_time.proofs.Orders.{le_false}
 
 -- ---- none is dense
 
@@ -87,13 +88,6 @@ none_dense c ps stream distance start (suc i) (f ∷ es) e h at =
     let there : start + suc i ≡ start + 1 + i = omega arith in
     ap (λ k. dense_in distance (sendings c ps stream k e)) there
     ∙ none_dense c ps stream distance (start + 1) i es e (no_lesser (dense_in distance (sendings c ps stream start f)) (dense_from c ps stream distance (start + 1) es) h).1 at
-
--- two times that are not near are distant
-pub le_false : (a b : ℤ) → int_le a b ≡ false → b <ℤ a
-le_false a b h = grind (arith, ints)
-
-pub le_true : (a b : ℤ) → int_le a b ≡ true → a ≤ℤ b
-le_true a b h = grind (arith, ints)
 
 beyond : (x y d h fast slow : ℤ) → d ≡ (h +ℤ (slow -ℤ fast)) *ℤ pos 1536 → d <ℤ (y -ℤ x) → (x +ℤ (h *ℤ pos 1536 +ℤ (slow *ℤ pos 1536 -ℤ fast *ℤ pos 1536))) <ℤ y
 beyond x y d h fast slow e l = omega (arith, ints, e, l)
@@ -145,7 +139,7 @@ module _ (c : Config) (lines : List PlanLine) (config : IsConfig c) (fit : All I
 
   -- when a part's symbol starts
   part_start : (ep : ℕ) (e : EndpointConfig) (slot : Slot) (symbol : ℕ) (x : Part) → IsAt c.endpoints ep e → IsIn x (symbol_parts DownData ps ep slot symbol)
-      → start_of x ≡ air_of e.numerology slot symbol
+      → start_of_part x ≡ air_of e.numerology slot symbol
   part_start ep e slot symbol x at m =
       let w = symbol_part ps DownData tt ep e slot symbol x m in
       let place = part_line DownData tt x.planned ep slot symbol w.1 in
@@ -154,18 +148,18 @@ module _ (c : Config) (lines : List PlanLine) (config : IsConfig c) (fit : All I
       ap (λ (f : EndpointConfig). air_of f.numerology x.planned.line.slot x.symbol) same
       ∙ ap₂ (λ (s : Slot) (y : ℕ). air_of e.numerology s y) place.slot_is w.2
 
-  parts_rising : (ep : ℕ) (e : EndpointConfig) → IsAt c.endpoints ep e → IsRising (λ x. start_of x) (parts_in ps DownData ep e)
+  parts_rising : (ep : ℕ) (e : EndpointConfig) → IsAt c.endpoints ep e → IsRising (λ x. start_of_part x) (parts_in ps DownData ep e)
   unfolding parts_in
   parts_rising ep e at =
-      ticks_rising (λ x. start_of x) first_clock (int_gap first_clock (end_of_time +ℤ pos 1)) (of_endpoint (symbol_parts DownData ps ep) e) (λ t.
-      of_endpoint_related (IsAll (λ x. start_of x ≡ t)) (all_kept (λ x. start_of x ≡ t)) (symbol_parts DownData ps ep) (symbol_parts DownData ps ep) e t
+      ticks_rising (λ x. start_of_part x) first_clock (int_gap first_clock (end_of_time +ℤ pos 1)) (of_endpoint (symbol_parts DownData ps ep) e) (λ t.
+      of_endpoint_related (IsAll (λ x. start_of_part x ≡ t)) (all_kept (λ x. start_of_part x ≡ t)) (symbol_parts DownData ps ep) (symbol_parts DownData ps ep) e t
       (λ slot symbol low high is_slot is_symbol starts x m. part_start ep e slot symbol x at m ∙ starts))
 
-  messages_rising : (ep : ℕ) (e : EndpointConfig) → IsAt c.endpoints ep e → IsRising (λ n. start_of n.message.first) (messages_of c ps DownData ep e)
+  messages_rising : (ep : ℕ) (e : EndpointConfig) → IsAt c.endpoints ep e → IsRising (λ n. start_of_part n.message.first) (messages_of c ps DownData ep e)
   unfolding messages_of
   messages_rising ep e at =
-      numbered_rising part_fields (frames_in c DownData) (λ m. start_of m.first) (packs part_fields c.pack (parts_in ps DownData ep e))
-      (packs_rising part_fields c.pack (λ x. start_of x) (parts_in ps DownData ep e) (parts_rising ep e at))
+      numbered_rising part_fields (frames_in c DownData) (λ m. start_of_part m.first) (packs part_fields c.pack (parts_in ps DownData ep e))
+      (packs_rising part_fields c.pack (λ x. start_of_part x) (parts_in ps DownData ep e) (parts_rising ep e at))
 
   message_short : (ep : ℕ) (e : EndpointConfig) (n : Numbered Part) → IsIn n (messages_of c ps DownData ep e) → size_of part_fields n.message ≤ 16384
   unfolding messages_of
@@ -213,8 +207,8 @@ module _ (c : Config) (lines : List PlanLine) (config : IsConfig c) (fit : All I
   pub pieces_at : (ep j : ℕ) (w : Here ep j) → (flow_of c ps text ep).pieces j ≡ frames_in c DownData w.n.message
   pieces_at ep j w = ap (λ (o : Option (Numbered Part)). option_map_or (λ n. frames_in c DownData n.message) o 0) (got_at ep j w)
 
-  low_at : (ep j : ℕ) (w : Here ep j) → (flow_of c ps text ep).low j ≡ start_of w.n.message.first +ℤ (departures_of c DownData).from.0
-  low_at ep j w = ap (λ (o : Option (Numbered Part)). option_map_or (λ n. start_of n.message.first +ℤ (departures_of c DownData).from.0) o (pos 0)) (got_at ep j w)
+  low_at : (ep j : ℕ) (w : Here ep j) → (flow_of c ps text ep).low j ≡ start_of_part w.n.message.first +ℤ (departures_of c DownData).from.0
+  low_at ep j w = ap (λ (o : Option (Numbered Part)). option_map_or (λ n. start_of_part n.message.first +ℤ (departures_of c DownData).from.0) o (pos 0)) (got_at ep j w)
 
   before_at : (ep j : ℕ) (w : Here ep j) → (flow_of c ps text ep).before j ≡ w.n.before
   before_at ep j w = ap (λ (o : Option (Numbered Part)). option_map_or (λ n. n.before) o 0) (got_at ep j w)
@@ -231,9 +225,9 @@ module _ (c : Config) (lines : List PlanLine) (config : IsConfig c) (fit : All I
       let b = here ep k h in
       let same = endpoints_equal c.endpoints ep ep a.e b.e a.at b.at refl in
       let got_b : slice_get (messages_of c ps DownData ep a.e) k ≡ Some b.n = subst (λ (e : EndpointConfig). slice_get (messages_of c ps DownData ep e) k ≡ Some b.n) (sym same) b.got in
-      let r = rising_at (λ (n : Numbered Part). start_of n.message.first) (messages_of c ps DownData ep a.e) j k a.n b.n (messages_rising ep a.e a.at) a.got got_b le in
+      let r = rising_at (λ (n : Numbered Part). start_of_part n.message.first) (messages_of c ps DownData ep a.e) j k a.n b.n (messages_rising ep a.e a.at) a.got got_b le in
       subst (λ x. x ≤ℤ (flow_of c ps text ep).low k) (sym (low_at ep j a))
-      (subst (λ y. (start_of a.n.message.first +ℤ (departures_of c DownData).from.0) ≤ℤ y) (sym (low_at ep k b)) (both (start_of a.n.message.first) (start_of b.n.message.first) (departures_of c DownData).from.0 r))
+      (subst (λ y. (start_of_part a.n.message.first +ℤ (departures_of c DownData).from.0) ≤ℤ y) (sym (low_at ep k b)) (both (start_of_part a.n.message.first) (start_of_part b.n.message.first) (departures_of c DownData).from.0 r))
     where
       both : (x y z : ℤ) → x ≤ℤ y → (x +ℤ z) ≤ℤ (y +ℤ z)
       both x y z h = omega (arith, ints, h)

@@ -21,7 +21,7 @@ use Rattle.plan_model.specs.Sent.{SentFrame, frames_from, sent}
 use Rattle.plan_model.specs.Valid.{IsValid}
 use Rattle.plan_model.specs.declared.lines.PlannedLine.{PlannedLine}
 use Rattle.plan_model.proofs.ListLemmas.{of_filter}
-use Rattle.schedule_laws.specs.Least.{AreReadable, arrival_of, with_least_delay}
+use Rattle.schedule_laws.specs.Least.{AreReadable, least_arrival, with_least_delay}
 use Rattle.schedule_laws.specs.Premise.{AllArrive, AreInOrder, IsCopyOf, Texts}
 use Rattle.schedule_laws.proofs.ListLemmas.{in_map, in_onto, of_map, onto_right}
 use Rattle.schedule_laws.proofs.OrderLemmas.{IsRising, ticks_rising}
@@ -38,10 +38,10 @@ pub later_both : (a b k : ℤ) → a ≤ℤ b → (a +ℤ k) ≤ℤ (b +ℤ k)
 later_both a b k h = omega (arith, ints, h)
 
 map_rising : (bytes : SentFrame → List ℕ) (k : ℤ) (fs : List SentFrame) → IsRising (λ (f : SentFrame). f.at) fs
-    → IsRising (λ (a : Arrival). a.at) (map (λ (f : SentFrame). arrival_of bytes f (f.at +ℤ k)) fs)
+    → IsRising (λ (a : Arrival). a.at) (map (λ (f : SentFrame). least_arrival bytes f (f.at +ℤ k)) fs)
 map_rising bytes k [] h = tt
 map_rising bytes k (f ∷ fs) h = (
-  λ a m. (let w = of_map (λ (g : SentFrame). arrival_of bytes g (g.at +ℤ k)) a fs m in subst (λ (x : Arrival). (f.at +ℤ k) ≤ℤ x.at) (sym w.2) (later_both f.at w.0.at k (h.0 w.0 w.1))),
+  λ a m. (let w = of_map (λ (g : SentFrame). least_arrival bytes g (g.at +ℤ k)) a fs m in subst (λ (x : Arrival). (f.at +ℤ k) ≤ℤ x.at) (sym w.2) (later_both f.at w.0.at k (h.0 w.0 w.1))),
   map_rising bytes k fs h.1,
 )
 
@@ -66,7 +66,7 @@ pub least_arrive : (c : Config) (lines : List PlanLine) (text : Texts) (bytes : 
 least_arrive c lines text bytes config fit valid check readable =
     let ps = planned c.endpoints lines in
     let k = ticks_of_ns c.delays.t12.min in
-    let come = λ (f : SentFrame). arrival_of bytes f (f.at +ℤ k) in
+    let come = λ (f : SentFrame). least_arrival bytes f (f.at +ℤ k) in
     let copied = λ (f : SentFrame) (m : IsIn f (sent c ps)). copy_of c ps text bytes config readable f m in
     record {
       config = config;
@@ -82,7 +82,7 @@ least_arrive c lines text bytes config fit valid check readable =
     }
   where
     copy_of : (c : Config) (ps : List PlannedLine) (text : Texts) (bytes : SentFrame → List ℕ) → IsConfig c → AreReadable c ps text bytes → (f : SentFrame) → IsIn f (sent c ps)
-        → IsCopyOf c text f (arrival_of bytes f (f.at +ℤ ticks_of_ns c.delays.t12.min))
+        → IsCopyOf c text f (least_arrival bytes f (f.at +ℤ ticks_of_ns c.delays.t12.min))
     copy_of c ps text bytes config readable f m = record {
       from = least_is f.at (ticks_of_ns c.delays.t12.min);
       to = least_under f.at c.delays.t12.min c.delays.t12.max config.delays.t12.order;

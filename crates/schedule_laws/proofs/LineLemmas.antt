@@ -19,21 +19,24 @@ use Rattle.unit_laws.specs.unit_model.specs.Commands.{uplink_in}
 use Rattle.unit_laws.specs.unit_model.specs.Proper.{IsAt}
 use Rattle.unit_laws.specs.unit_model.specs.declared.allocations.Allocation.{Allocation}
 use Rattle.unit_laws.specs.unit_model.proofs.ReachLaws.{symbol_soon}
-use Rattle.unit_laws.proofs.CellLemmas.{slots_equal}
-use Rattle.plan_model.specs.Lines.{allocation_of, planned}
+use Rattle.plan_model.specs.Lines.{line_allocation, planned}
 use Rattle.plan_model.specs.Streams.{has_part}
 use Rattle.plan_model.specs.Valid.{IsValid}
 use Rattle.plan_model.specs.Validity.{clash, IsProper}
 use Rattle.plan_model.specs.declared.lines.PlannedLine.{PlannedLine}
 use Rattle.plan_model.specs.declared.streams.Stream.{Stream}
 use Rattle.plan_model.specs.declared.streams.Stream.TheVariants.{DownCommands, UpCommands, DownData, UpData}
-use Rattle.plan_model.proofs.TickLemmas.{not_zero}
 use Rattle.plan_model.proofs.SizeLemmas.{some_prbs}
 use Rattle.schedule_laws.proofs.AcceptedLemmas.{AreAllowed}
 use Rattle.schedule_laws.proofs.ClashLemmas.{own_clash}
 use Rattle.schedule_laws.proofs.ListLemmas.{of_map, in_all, at_in, numerology_short}
 use Rattle.schedule_laws.proofs.PlanLemmas.{few_uplink, in_range, line_of, one_line, valid_tested}
 use Rattle.schedule_laws.proofs.SentLemmas.{IsSentStream}
+use Rattle.fh_time.specs.declared.frames.TheConstants.{FRAME}
+use Rattle.unit_laws.specs.window_config.specs.declared.plan.TheConstants.{LAST_FRAME}
+use Rattle.unit_laws.specs.unit_model.specs.declared.uplink.TheConstants.{SLOT_SECTIONS}
+use Rattle.unit_laws.specs.unit_model.proofs.ClaimLemmas.{same_slot_is as slots_equal}
+use Rattle.fh_time.proofs.Orders.{not_zero}
 
 -- ---- a line
 
@@ -67,7 +70,7 @@ line_good c lines config fit valid p m =
       mask = not_zero p.line.mask four.1;
     }
 
-pub line_proper : (es : List EndpointConfig) (p : PlannedLine) → IsGoodLine es p → IsProper (allocation_of p)
+pub line_proper : (es : List EndpointConfig) (p : PlannedLine) → IsGoodLine es p → IsProper (line_allocation p)
 line_proper es p g = record { symbols = g.some; prbs = some_prbs p.endpoint.prbs p.line.num_prb g.endpoint.some; mask = g.mask; twelve = g.fits.mask }
 
 -- ---- all lines
@@ -79,25 +82,25 @@ module _ (c : Config) (lines : List PlanLine) (config : IsConfig c) (fit : All I
   pub good : (p : PlannedLine) → IsIn p (planned c.endpoints lines) → IsGoodLine c.endpoints p
   good p m = line_good c lines config fit valid p m
 
-  pub are_one : (p q : PlannedLine) → IsIn p (planned c.endpoints lines) → IsIn q (planned c.endpoints lines) → clash (allocation_of p) (allocation_of q) ≡ true → p ≡ q
+  pub are_one : (p q : PlannedLine) → IsIn p (planned c.endpoints lines) → IsIn q (planned c.endpoints lines) → clash (line_allocation p) (line_allocation q) ≡ true → p ≡ q
   are_one p q m n h = one_line [] ps p q (valid_tested c lines valid) m n h
 
-  pub are_same : (p q : PlannedLine) → IsIn p (planned c.endpoints lines) → IsIn q (planned c.endpoints lines) → allocation_of p ≡ allocation_of q → p ≡ q
+  pub are_same : (p q : PlannedLine) → IsIn p (planned c.endpoints lines) → IsIn q (planned c.endpoints lines) → line_allocation p ≡ line_allocation q → p ≡ q
   are_same p q m n e =
-      are_one p q m n (ap (λ (a : Allocation). clash (allocation_of p) a) (sym e) ∙ own_clash (allocation_of p) (line_proper c.endpoints p (good p m)))
+      are_one p q m n (ap (λ (a : Allocation). clash (line_allocation p) a) (sym e) ∙ own_clash (line_allocation p) (line_proper c.endpoints p (good p m)))
 
-  few : (ep : ℕ) (slot : Slot) → uplink_in ep slot (map allocation_of ps) ≤ 64
+  few : (ep : ℕ) (slot : Slot) → uplink_in ep slot (map line_allocation ps) ≤ SLOT_SECTIONS
   few ep slot = let h = few_uplink ep slot [] ps (valid_tested c lines valid) (omega arith) in omega (arith, h)
 
-  pub allowed : AreAllowed (map allocation_of (planned c.endpoints lines))
+  pub allowed : AreAllowed (map line_allocation (planned c.endpoints lines))
   allowed = record {
     clear = λ a b m n h.
-        (let p = of_map allocation_of a ps m in
-        let q = of_map allocation_of b ps n in
-        let both : clash (allocation_of p.0) (allocation_of q.0) ≡ true = ap (λ (x : Allocation). clash x (allocation_of q.0)) (sym p.2) ∙ ap (λ (x : Allocation). clash a x) (sym q.2) ∙ h in
-        p.2 ∙ ap (λ (x : PlannedLine). allocation_of x) (are_one p.0 q.0 p.1 q.1 both) ∙ sym q.2);
-    proper = λ a m. (let p = of_map allocation_of a ps m in subst IsProper (sym p.2) (line_proper c.endpoints p.0 (good p.0 p.1)));
-    inside = λ a m. (let p = of_map allocation_of a ps m in subst (λ (x : Allocation). is_outside x.endpoint.prbs x.start_prb x.num_prb ≡ false) (sym p.2) (good p.0 p.1).prbs);
+        (let p = of_map line_allocation a ps m in
+        let q = of_map line_allocation b ps n in
+        let both : clash (line_allocation p.0) (line_allocation q.0) ≡ true = ap (λ (x : Allocation). clash x (line_allocation q.0)) (sym p.2) ∙ ap (λ (x : Allocation). clash a x) (sym q.2) ∙ h in
+        p.2 ∙ ap (λ (x : PlannedLine). line_allocation x) (are_one p.0 q.0 p.1 q.1 both) ∙ sym q.2);
+    proper = λ a m. (let p = of_map line_allocation a ps m in subst IsProper (sym p.2) (line_proper c.endpoints p.0 (good p.0 p.1)));
+    inside = λ a m. (let p = of_map line_allocation a ps m in subst (λ (x : Allocation). is_outside x.endpoint.prbs x.start_prb x.num_prb ≡ false) (sym p.2) (good p.0 p.1).prbs);
     few = few;
   }
 
@@ -115,21 +118,21 @@ part_by p ep slot a b c h =
     let three = and_parts (same_slot p.line.slot slot) b two.1 in
     record { ep_is = eqb-true p.ep ep two.0; slot_is = slots_equal p.line.slot slot three.0 }
 
-pub part_line : (stream : Stream) → IsSentStream stream → (p : PlannedLine) (ep : ℕ) (slot : Slot) (symbol : ℕ) → has_part stream ep slot symbol (allocation_of p) ≡ true → IsLinePart p ep slot
-part_line DownCommands s p ep slot symbol h = part_by p ep slot (allocation_of p).down (p.line.symbol == symbol) true h
-part_line UpCommands s p ep slot symbol h = part_by p ep slot (not (allocation_of p).down) (p.line.symbol == symbol) true h
-part_line DownData s p ep slot symbol h = part_by p ep slot ((allocation_of p).down && not (allocation_of p).idle) _ true h
+pub part_line : (stream : Stream) → IsSentStream stream → (p : PlannedLine) (ep : ℕ) (slot : Slot) (symbol : ℕ) → has_part stream ep slot symbol (line_allocation p) ≡ true → IsLinePart p ep slot
+part_line DownCommands s p ep slot symbol h = part_by p ep slot (line_allocation p).down (p.line.symbol == symbol) true h
+part_line UpCommands s p ep slot symbol h = part_by p ep slot (not (line_allocation p).down) (p.line.symbol == symbol) true h
+part_line DownData s p ep slot symbol h = part_by p ep slot ((line_allocation p).down && not (line_allocation p).idle) _ true h
 part_line UpData s p ep slot symbol h = absurd s
 
 -- ---- its start
 
-times : (f s : ℤ) → pos 1 ≤ℤ f → f ≤ℤ pos 99999 → (f *ℤ pos 15360000000) ≤ℤ s → s <ℤ (f *ℤ pos 15360000000 +ℤ pos 76800000000)
-    → (pos 15360000000 ≤ℤ s) × (s ≤ℤ pos 1536100000000000)
+times : (f s : ℤ) → pos 1 ≤ℤ f → f ≤ℤ pos LAST_FRAME → (f *ℤ FRAME) ≤ℤ s → s <ℤ (f *ℤ FRAME +ℤ pos 76800000000)
+    → (FRAME ≤ℤ s) × (s ≤ℤ pos 1536100000000000)
 times f s a b low high = (omega (arith, ints, a, low), omega (arith, ints, b, high))
 
 -- a symbol of a line's slot starts in the first 1,001 s, no earlier than frame 1
 pub start_in_time : (es : List EndpointConfig) (p : PlannedLine) (symbol : ℕ) → IsGoodLine es p → symbol < symbols_of p.endpoint.numerology
-    → (pos 15360000000 ≤ℤ air_of p.endpoint.numerology p.line.slot symbol) × (air_of p.endpoint.numerology p.line.slot symbol ≤ℤ pos 1536100000000000)
+    → (FRAME ≤ℤ air_of p.endpoint.numerology p.line.slot symbol) × (air_of p.endpoint.numerology p.line.slot symbol ≤ℤ pos 1536100000000000)
 start_in_time es p symbol g h =
     let soon = symbol_soon p.endpoint.numerology p.line.slot symbol (numerology_short p.endpoint.numerology) (record { subframe = g.fits.subframe; slot = g.slot }) h in
     times p.line.slot.frame (air_of p.endpoint.numerology p.line.slot symbol) g.fits.frame_low g.fits.frame_high soon.0 soon.1

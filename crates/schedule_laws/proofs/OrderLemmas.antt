@@ -3,15 +3,15 @@ use Rattle.std.proofs.Common.{◌≡◌, ℕ, ℤ, pos, zero, suc, ◌+◌, ◌<
 use Rattle.std.specs.Prelude.{⊤}
 use Rattle.std.specs.List.{fold, slice_get}
 use Rattle.std.proofs.lemmas.Bool.{and_parts, and_from, eq-eqb, leb-true}
-use Rattle.std.proofs.lemmas.Int.{ints}
 use Rattle.std.specs.Int.Signed.{≤ℤ_refl}
 use Rattle.fragment_laws.specs.Apart.{IsIn}
 use Rattle.unit_laws.specs.unit_model.specs.Lists.{each_tick}
 use Rattle.plan_model.specs.Packs.{PartFields, Message, Numbered, alone, frames_before, numbered, numbered_behind, packs, packs_behind, parts_of, same_symbol, size_of, takes, with_part}
-use Rattle.plan_model.proofs.SlotLemmas.{slot_own}
 use Rattle.plan_model.proofs.ListLemmas.{in_either}
 use Rattle.schedule_laws.proofs.ListLemmas.{at_in}
 use Rattle.schedule_laws.proofs.PackLemmas.{parts_behind}
+use Rattle.unit_laws.specs.unit_model.proofs.ClaimLemmas.{slot_self as slot_own}
+use Rattle.fh_time.proofs.Orders.{above_next as later_tick}
 
 -- ---- places
 
@@ -62,9 +62,6 @@ rising_same key t (x ∷ xs) h = (
   λ y m. (let a = h x (inl refl) in let b = h y (inr m) in subst (λ z. key x ≤ℤ z) (a ∙ sym b) (≤ℤ_refl (key x))),
   rising_same key t xs (λ y m. h y (inr m)),
 )
-
-later_tick : (from t : ℤ) → (from +ℤ pos 1) ≤ℤ t → from ≤ℤ t
-later_tick from t h = omega (arith, ints, h)
 
 ticks_from : {X : Type 0} (key : X → ℤ) (from : ℤ) (n : ℕ) (f : ℤ → List X) → ((t : ℤ) (x : X) → IsIn x (f t) → key x ≡ t) → (x : X) → IsIn x (each_tick from n f) → from ≤ℤ key x
 unfolding each_tick

@@ -15,9 +15,8 @@ use Rattle.unit_laws.specs.unit_model.specs.Lists.{or_else}
 use Rattle.unit_laws.specs.unit_model.specs.Meetings.{find_endpoint, find_from}
 use Rattle.unit_laws.specs.unit_model.specs.Proper.{IsAt}
 use Rattle.unit_laws.specs.unit_model.specs.declared.allocations.Allocation.{Allocation}
-use Rattle.unit_laws.proofs.CellLemmas.{slots_equal}
 use Rattle.plan_model.specs.Dense.{dense}
-use Rattle.plan_model.specs.Lines.{allocation_of, planned, planned_at, planned_from, planned_with}
+use Rattle.plan_model.specs.Lines.{line_allocation, planned, planned_at, planned_from, planned_with}
 use Rattle.plan_model.specs.Valid.{dense_refused, IsValid}
 use Rattle.plan_model.specs.Validity.{clash, first_refused, is_out_of_range, refused_at, refused_from, why_found, why_planned, with_line}
 use Rattle.plan_model.specs.declared.dense.Dense.{Dense}
@@ -26,6 +25,9 @@ use Rattle.plan_model.specs.declared.refusals.PlanWhy.{PlanWhy}
 use Rattle.plan_model.specs.declared.refusals.PlanWhy.TheVariants.{Range, Overlap, TooManySections}
 use Rattle.plan_model.proofs.ListLemmas.{any_in}
 use Rattle.schedule_laws.proofs.ClashLemmas.{clash_swap}
+use Rattle.unit_laws.specs.unit_model.specs.declared.uplink.TheConstants.{SLOT_SECTIONS}
+use Rattle.unit_laws.specs.unit_model.proofs.ClaimLemmas.{same_slot_is as slots_equal}
+use Rattle.unit_laws.proofs.HistoryLemmas.{found_at}
 
 -- ---- a line at its endpoint
 
@@ -45,12 +47,6 @@ find_at start (f ∷ fs) id ep e h = go (f.id == id) h (find_at (start + 1) fs i
         let here = ap (λ (o : ℕ × EndpointConfig). o.1) same in
         record { place = 0; ep_is = omega (arith, number); at = ap (λ (x : EndpointConfig). Some x) here }
     go false found rest = let r = rest found in record { place = suc r.place; ep_is = omega (arith, r.ep_is); at = r.at }
-
-found_at : (es : List EndpointConfig) (id ep : ℕ) (e : EndpointConfig) → find_endpoint es id ≡ Some (ep, e) → IsAt es ep e
-found_at es id ep e h =
-    let found = find_at 0 es id ep e h in
-    let same : found.place ≡ ep = omega (arith, found.ep_is) in
-    subst (λ (k : ℕ). IsAt es k e) same found.at
 
 pub record IsLineOf (es : List EndpointConfig) (lines : List PlanLine) (p : PlannedLine) : Type 0 where
   pub at : IsAt es p.ep p.endpoint
@@ -82,8 +78,8 @@ line_of es k (line ∷ lines) p m = go (find_endpoint es line.id) refl m (line_o
 abbrev pub AreTested : List Allocation → List PlannedLine → Type 0
 AreTested earlier [] = ⊤
 AreTested earlier (p ∷ ps) =
-    (is_out_of_range p.endpoint p.line ≡ false) × (list_any (clash (allocation_of p)) earlier ≡ false) × (is_full earlier (allocation_of p) ≡ false)
-    × AreTested (allocation_of p ∷ earlier) ps
+    (is_out_of_range p.endpoint p.line ≡ false) × (list_any (clash (line_allocation p)) earlier ≡ false) × (is_full earlier (line_allocation p) ≡ false)
+    × AreTested (line_allocation p ∷ earlier) ps
 
 none_refused : (k : ℕ) (w : Option PlanWhy) (later : Option (ℕ × PlanWhy)) → refused_at k w later ≡ None → (w ≡ None) × (later ≡ None)
 none_refused k None later h = (refl, h)
@@ -99,15 +95,15 @@ none_why false false false h = (refl, refl, refl)
 tested : (es : List EndpointConfig) (earlier : List Allocation) (k : ℕ) (lines : List PlanLine) → refused_from es earlier k lines ≡ None → AreTested earlier (planned_from es k lines)
 unfolding refused_from planned_from
 tested es earlier k [] h = tt
-tested es earlier k (line ∷ lines) h = go (planned_at es k line) h (λ p. tested es (allocation_of p ∷ earlier) (k + 1) lines)
+tested es earlier k (line ∷ lines) h = go (planned_at es k line) h (λ p. tested es (line_allocation p ∷ earlier) (k + 1) lines)
   where
     go : (o : Option PlannedLine) → refused_at k (why_found earlier o) (refused_from es (with_line o earlier) (k + 1) lines) ≡ None
-        → ((p : PlannedLine) → refused_from es (allocation_of p ∷ earlier) (k + 1) lines ≡ None → AreTested (allocation_of p ∷ earlier) (planned_from es (k + 1) lines))
+        → ((p : PlannedLine) → refused_from es (line_allocation p ∷ earlier) (k + 1) lines ≡ None → AreTested (line_allocation p ∷ earlier) (planned_from es (k + 1) lines))
         → AreTested earlier (option_to_list o ++ planned_from es (k + 1) lines)
     go None g rest = absurd cc
     go (Some p) g rest =
-        let n = none_refused k (why_planned earlier p) (refused_from es (allocation_of p ∷ earlier) (k + 1) lines) g in
-        let w = none_why (is_out_of_range p.endpoint p.line) (list_any (clash (allocation_of p)) earlier) (is_full earlier (allocation_of p)) n.0 in
+        let n = none_refused k (why_planned earlier p) (refused_from es (line_allocation p ∷ earlier) (k + 1) lines) g in
+        let w = none_why (is_out_of_range p.endpoint p.line) (list_any (clash (line_allocation p)) earlier) (is_full earlier (line_allocation p)) n.0 in
         (w.0, w.1, w.2, rest p n.1)
 
 -- ---- of all lines
@@ -116,65 +112,65 @@ pub in_range : (earlier : List Allocation) (ps : List PlannedLine) (p : PlannedL
 in_range earlier [] p t m = absurd m
 in_range earlier (q ∷ ps) p t m = elim m [
   | inl here ↦ subst (λ (x : PlannedLine). is_out_of_range x.endpoint x.line ≡ false) (sym here) t.0
-  | inr there ↦ in_range (allocation_of q ∷ earlier) ps p t.3 there
+  | inr there ↦ in_range (line_allocation q ∷ earlier) ps p t.3 there
 ]
 
-pub later_clear : (earlier : List Allocation) (ps : List PlannedLine) (p : PlannedLine) (a : Allocation) → AreTested earlier ps → IsIn p ps → IsIn a earlier → clash (allocation_of p) a ≡ false
+pub later_clear : (earlier : List Allocation) (ps : List PlannedLine) (p : PlannedLine) (a : Allocation) → AreTested earlier ps → IsIn p ps → IsIn a earlier → clash (line_allocation p) a ≡ false
 later_clear earlier [] p a t m n = absurd m
 later_clear earlier (q ∷ ps) p a t m n = elim m [
-  | inr there ↦ later_clear (allocation_of q ∷ earlier) ps p a t.3 there (inr n)
-  | inl here ↦ elim (cases_Bool (clash (allocation_of p) a)) [
+  | inr there ↦ later_clear (line_allocation q ∷ earlier) ps p a t.3 there (inr n)
+  | inl here ↦ elim (cases_Bool (clash (line_allocation p) a)) [
     | inr other ↦ other
     | inl is ↦
-        let q_is : clash (allocation_of q) a ≡ true = ap (λ (x : PlannedLine). clash (allocation_of x) a) (sym here) ∙ is in
-        absurd (true≢false (sym (any_in (clash (allocation_of q)) a earlier n q_is) ∙ t.1))
+        let q_is : clash (line_allocation q) a ≡ true = ap (λ (x : PlannedLine). clash (line_allocation x) a) (sym here) ∙ is in
+        absurd (true≢false (sym (any_in (clash (line_allocation q)) a earlier n q_is) ∙ t.1))
   ]
 ]
 
 -- two lines that clash are one
-pub one_line : (earlier : List Allocation) (ps : List PlannedLine) (p q : PlannedLine) → AreTested earlier ps → IsIn p ps → IsIn q ps → clash (allocation_of p) (allocation_of q) ≡ true → p ≡ q
+pub one_line : (earlier : List Allocation) (ps : List PlannedLine) (p q : PlannedLine) → AreTested earlier ps → IsIn p ps → IsIn q ps → clash (line_allocation p) (line_allocation q) ≡ true → p ≡ q
 one_line earlier [] p q t m n h = absurd m
 one_line earlier (r ∷ ps) p q t m n h = elim m [
   | inl p_here ↦ elim n [
     | inl q_here ↦ p_here ∙ sym q_here
     | inr q_there ↦
-        let none = later_clear (allocation_of r ∷ earlier) ps q (allocation_of r) t.3 q_there (inl refl) in
-        let is : clash (allocation_of q) (allocation_of r) ≡ true = ap (λ (x : PlannedLine). clash (allocation_of q) (allocation_of x)) (sym p_here) ∙ clash_swap (allocation_of p) (allocation_of q) h in
+        let none = later_clear (line_allocation r ∷ earlier) ps q (line_allocation r) t.3 q_there (inl refl) in
+        let is : clash (line_allocation q) (line_allocation r) ≡ true = ap (λ (x : PlannedLine). clash (line_allocation q) (line_allocation x)) (sym p_here) ∙ clash_swap (line_allocation p) (line_allocation q) h in
         absurd (true≢false (sym is ∙ none))
   ]
   | inr p_there ↦ elim n [
     | inl q_here ↦
-        let none = later_clear (allocation_of r ∷ earlier) ps p (allocation_of r) t.3 p_there (inl refl) in
-        absurd (true≢false (sym (ap (λ (x : PlannedLine). clash (allocation_of p) (allocation_of x)) (sym q_here) ∙ h) ∙ none))
-    | inr q_there ↦ one_line (allocation_of r ∷ earlier) ps p q t.3 p_there q_there h
+        let none = later_clear (line_allocation r ∷ earlier) ps p (line_allocation r) t.3 p_there (inl refl) in
+        absurd (true≢false (sym (ap (λ (x : PlannedLine). clash (line_allocation p) (line_allocation x)) (sym q_here) ∙ h) ∙ none))
+    | inr q_there ↦ one_line (line_allocation r ∷ earlier) ps p q t.3 p_there q_there h
   ]
 ]
 
 -- a slot's uplink sections
 
-room : (a : Allocation) (ep : ℕ) (slot : Slot) (earlier : List Allocation) → is_full earlier a ≡ false → uplink_in ep slot earlier ≤ 64
-    → (b : Bool) → (is_uplink a && ((a.ep == ep) && same_slot a.slot slot)) ≡ b → uplink_in ep slot earlier + (let n : ℕ = if b then 1 else 0 in n) ≤ 64
+room : (a : Allocation) (ep : ℕ) (slot : Slot) (earlier : List Allocation) → is_full earlier a ≡ false → uplink_in ep slot earlier ≤ SLOT_SECTIONS
+    → (b : Bool) → (is_uplink a && ((a.ep == ep) && same_slot a.slot slot)) ≡ b → uplink_in ep slot earlier + (let n : ℕ = if b then 1 else 0 in n) ≤ SLOT_SECTIONS
 room a ep slot earlier free few false e = omega (arith, few)
 room a ep slot earlier free few true e =
     let p = and_parts (is_uplink a) _ e in
     let q = and_parts (a.ep == ep) _ p.1 in
     let same : uplink_in a.ep a.slot earlier ≡ uplink_in ep slot earlier = ap₂ (λ i (t : Slot). uplink_in i t earlier) (eqb-true a.ep ep q.0) (slots_equal a.slot slot q.1) in
-    let not_full : nat_le 64 (uplink_in a.ep a.slot earlier) ≡ false = sym (ap (λ t. t && nat_le 64 (uplink_in a.ep a.slot earlier)) p.0) ∙ free in
-    let l = leb-false 64 (uplink_in a.ep a.slot earlier) not_full in
+    let not_full : nat_le SLOT_SECTIONS (uplink_in a.ep a.slot earlier) ≡ false = sym (ap (λ t. t && nat_le SLOT_SECTIONS (uplink_in a.ep a.slot earlier)) p.0) ∙ free in
+    let l = leb-false SLOT_SECTIONS (uplink_in a.ep a.slot earlier) not_full in
     omega (arith, l, same)
 
 in_turn : (a w r m : ℕ) → (a + w) + r ≤ m → a + (r + w) ≤ m
 in_turn a w r m h = omega (arith, h)
 
-none_more : (a : ℕ) → a ≤ 64 → a + 0 ≤ 64
+none_more : (a : ℕ) → a ≤ SLOT_SECTIONS → a + 0 ≤ SLOT_SECTIONS
 none_more a h = omega (arith, h)
 
-pub few_uplink : (ep : ℕ) (slot : Slot) (earlier : List Allocation) (ps : List PlannedLine) → AreTested earlier ps → uplink_in ep slot earlier ≤ 64
-    → uplink_in ep slot earlier + uplink_in ep slot (map allocation_of ps) ≤ 64
+pub few_uplink : (ep : ℕ) (slot : Slot) (earlier : List Allocation) (ps : List PlannedLine) → AreTested earlier ps → uplink_in ep slot earlier ≤ SLOT_SECTIONS
+    → uplink_in ep slot earlier + uplink_in ep slot (map line_allocation ps) ≤ SLOT_SECTIONS
 few_uplink ep slot earlier [] t h = none_more _ h
 few_uplink ep slot earlier (p ∷ ps) t h =
-    let a = allocation_of p in
-    in_turn (uplink_in ep slot earlier) _ (uplink_in ep slot (map allocation_of ps)) 64
+    let a = line_allocation p in
+    in_turn (uplink_in ep slot earlier) _ (uplink_in ep slot (map line_allocation ps)) SLOT_SECTIONS
     (few_uplink ep slot (a ∷ earlier) ps t.3 (room a ep slot earlier t.2 h (is_uplink a && ((a.ep == ep) && same_slot a.slot slot)) refl))
 
 -- ---- a valid plan

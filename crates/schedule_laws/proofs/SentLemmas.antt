@@ -14,7 +14,7 @@ use Rattle.unit_laws.specs.unit_model.specs.Proper.{IsAt}
 use Rattle.unit_laws.specs.unit_model.specs.Radiated.{first_clock}
 use Rattle.unit_laws.specs.unit_model.specs.Times.{end_of_time}
 use Rattle.unit_laws.specs.unit_model.proofs.SweepLaws.{gap_parts, gap_is}
-use Rattle.plan_model.specs.Lines.{allocation_of}
+use Rattle.plan_model.specs.Lines.{line_allocation}
 use Rattle.plan_model.specs.Packs.{Message, Numbered, packs, parts_of}
 use Rattle.plan_model.specs.Sent.{SentFrame, endpoint_frames, frame_of, frames_from, message_frames, sent, stream_frames}
 use Rattle.plan_model.specs.Streams.{Part, frames_in, has_part, in_stream_order, messages_of, most_parts, part_fields, part_in, parts_in, symbol_parts}
@@ -46,20 +46,20 @@ in_lines_order UpData h ps = absurd h
 pub record IsPart (ps : List PlannedLine) (stream : Stream) (ep : ℕ) (e : EndpointConfig) (x : Part) : Type 0 where
   pub slot : Slot
   pub from : IsIn x.planned ps
-  pub has : has_part stream ep slot x.symbol (allocation_of x.planned) ≡ true
+  pub has : has_part stream ep slot x.symbol (line_allocation x.planned) ≡ true
   pub is_slot : IsSlotOf e.numerology slot
   pub is_symbol : x.symbol < symbols_of e.numerology
 
 module _ (ps : List PlannedLine) (stream : Stream) (is_sent : IsSentStream stream) (ep : ℕ) (e : EndpointConfig) where
   pub symbol_part : (slot : Slot) (symbol : ℕ) (x : Part) → IsIn x (symbol_parts stream ps ep slot symbol)
-      → IsIn x.planned ps × (has_part stream ep slot symbol (allocation_of x.planned) ≡ true) × (x.symbol ≡ symbol)
+      → IsIn x.planned ps × (has_part stream ep slot symbol (line_allocation x.planned) ≡ true) × (x.symbol ≡ symbol)
   unfolding symbol_parts
   symbol_part slot symbol x m =
-      let named = filter (λ (p : PlannedLine). has_part stream ep slot symbol (allocation_of p)) ps in
+      let named = filter (λ (p : PlannedLine). has_part stream ep slot symbol (line_allocation p)) ps in
       let w = of_map (part_in symbol) x (in_stream_order stream named) m in
-      let y = of_filter (λ (p : PlannedLine). has_part stream ep slot symbol (allocation_of p)) w.0 ps (subst (λ (qs : List PlannedLine). IsIn w.0 qs) (in_lines_order stream is_sent named) w.1) in (
+      let y = of_filter (λ (p : PlannedLine). has_part stream ep slot symbol (line_allocation p)) w.0 ps (subst (λ (qs : List PlannedLine). IsIn w.0 qs) (in_lines_order stream is_sent named) w.1) in (
         subst (λ (z : Part). IsIn z.planned ps) (sym w.2) y.0,
-        subst (λ (z : Part). has_part stream ep slot symbol (allocation_of z.planned) ≡ true) (sym w.2) y.1,
+        subst (λ (z : Part). has_part stream ep slot symbol (line_allocation z.planned) ≡ true) (sym w.2) y.1,
         ap (λ (z : Part). z.symbol) w.2,
       )
 
@@ -70,7 +70,7 @@ module _ (ps : List PlannedLine) (stream : Stream) (is_sent : IsSentStream strea
       record {
         slot = slot;
         from = w.0;
-        has = subst (λ y. has_part stream ep slot y (allocation_of x.planned) ≡ true) (sym w.2) w.1;
+        has = subst (λ y. has_part stream ep slot y (line_allocation x.planned) ≡ true) (sym w.2) w.1;
         is_slot = is;
         is_symbol = subst (λ y. y < symbols_of e.numerology) (sym w.2) h;
       }
@@ -79,13 +79,13 @@ module _ (ps : List PlannedLine) (stream : Stream) (is_sent : IsSentStream strea
   unfolding parts_in
   part_is x m = of_symbols (IsPart ps stream ep e) (symbol_parts stream ps ep) e part_of_symbol x m
 
-  pub part_there : (p : PlannedLine) (slot : Slot) (symbol : ℕ) → IsIn p ps → has_part stream ep slot symbol (allocation_of p) ≡ true → IsSlotOf e.numerology slot → symbol < symbols_of e.numerology
+  pub part_there : (p : PlannedLine) (slot : Slot) (symbol : ℕ) → IsIn p ps → has_part stream ep slot symbol (line_allocation p) ≡ true → IsSlotOf e.numerology slot → symbol < symbols_of e.numerology
       → first_clock ≤ℤ air_of e.numerology slot symbol → air_of e.numerology slot symbol <ℤ (end_of_time +ℤ pos 1) → IsIn (part_in symbol p) (parts_in ps stream ep e)
   unfolding parts_in symbol_parts
   part_there p slot symbol m has is h low high =
-      let named = filter (λ (q : PlannedLine). has_part stream ep slot symbol (allocation_of q)) ps in
+      let named = filter (λ (q : PlannedLine). has_part stream ep slot symbol (line_allocation q)) ps in
       let there : IsIn p (in_stream_order stream named) =
-      subst (λ (qs : List PlannedLine). IsIn p qs) (sym (in_lines_order stream is_sent named)) (in_filter (λ (q : PlannedLine). has_part stream ep slot symbol (allocation_of q)) p ps m has) in
+      subst (λ (qs : List PlannedLine). IsIn p qs) (sym (in_lines_order stream is_sent named)) (in_filter (λ (q : PlannedLine). has_part stream ep slot symbol (line_allocation q)) p ps m has) in
       in_symbols (symbol_parts stream ps ep) e slot symbol (part_in symbol p) is h low high (in_map (part_in symbol) p (in_stream_order stream named) there)
 
 -- ---- messages

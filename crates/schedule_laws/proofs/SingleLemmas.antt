@@ -1,5 +1,5 @@
 -- Each planned cell radiates exactly once.
-use Rattle.std.proofs.Common.{◌≡◌, ℕ, zero, suc, ℤ, pos, ◌+◌, ◌*◌, ◌<◌, ◌≤◌, ◌+ℤ◌, ◌≤ℤ◌, ◌<ℤ◌, inl, inr, Bool, true, false, not, ◌&&◌, ◌==◌, if◌then◌else◌, List, [], ◌∷◌, refl, ap, sym, ◌∙◌, subst, arith}
+use Rattle.std.proofs.Common.{◌≡◌, ℕ, zero, suc, ℤ, pos, ◌+◌, ◌*◌, ◌<◌, ◌≤◌, ◌+ℤ◌, ◌≤ℤ◌, inl, inr, Bool, true, false, not, ◌&&◌, ◌==◌, if◌then◌else◌, List, [], ◌∷◌, refl, ap, sym, ◌∙◌, subst, arith}
 use Rattle.std.specs.Prelude.{All, filter}
 use Rattle.std.proofs.lemmas.Bool.{cases_Bool, cases_eq, and_parts, and_from, eqb-true}
 use Rattle.std.proofs.lemmas.Int.{ints}
@@ -19,13 +19,12 @@ use Rattle.unit_laws.specs.unit_model.specs.Standing.{same_cell}
 use Rattle.unit_laws.specs.unit_model.specs.declared.cells.Cell.{Cell}
 use Rattle.unit_laws.specs.unit_model.proofs.ReachLaws.{symbol_piece}
 use Rattle.unit_laws.specs.Due.{AreDifferent}
-use Rattle.unit_laws.proofs.CellLemmas.{covers_is, from_within}
+use Rattle.unit_laws.proofs.CellLemmas.{covers_is}
 use Rattle.unit_laws.proofs.DifferLemmas.{IsOther, other_swap, same_self}
 use Rattle.unit_laws.proofs.DueLemmas.{reported_differ}
-use Rattle.plan_model.specs.Lines.{allocation_of, planned}
+use Rattle.plan_model.specs.Lines.{line_allocation, planned}
 use Rattle.plan_model.specs.declared.lines.PlannedLine.{PlannedLine}
 use Rattle.plan_model.proofs.ListLemmas.{any_in}
-use Rattle.plan_model.proofs.RangeLemmas.{within_carrier}
 use Rattle.schedule_laws.specs.Cells.{mask_below, planned_air, planned_cell, planned_event, planned_mask, planned_symbol, radiates}
 use Rattle.schedule_laws.specs.Data.{AreWritten, Blocks}
 use Rattle.schedule_laws.specs.Premise.{AllArrive, Texts}
@@ -33,6 +32,9 @@ use Rattle.schedule_laws.specs.Singles.{event_of}
 use Rattle.schedule_laws.proofs.CellLemmas.{plan_radiates}
 use Rattle.schedule_laws.proofs.LineLemmas.{good, start_in_time}
 use Rattle.schedule_laws.proofs.ListLemmas.{in_each, in_piece, numerology_short}
+use Rattle.fh_time.specs.declared.frames.TheConstants.{FRAME}
+use Rattle.unit_laws.specs.unit_model.proofs.ClaimLemmas.{within_carrier, from_within}
+use Rattle.fh_time.proofs.Orders.{within_next as by_then}
 
 -- ---- one of a list in which all differ
 
@@ -75,21 +77,18 @@ mask_some test (suc n) re h is e = elim (cases_eq re n) [
     half : (m k : ℕ) → 2 * m + k ≡ 0 → m ≡ 0
     half m k e = omega (arith, e)
 
-by_then : (s to : ℤ) → s ≤ℤ to → s <ℤ (to +ℤ pos 1)
-by_then s to h = omega (arith, ints, h)
-
-after_clock : (s : ℤ) → pos 15360000000 ≤ℤ s → first_clock ≤ℤ s
+after_clock : (s : ℤ) → FRAME ≤ℤ s → first_clock ≤ℤ s
 after_clock s h = omega (arith, ints, h)
 
 module _ (c : Config) (lines : List PlanLine) (text : Texts) (blocks : Blocks) (arrivals : List Arrival) (h : AllArrive c lines text arrivals) (w : AreWritten c (planned c.endpoints lines) text blocks) where
   abbrev ps : List PlannedLine
   ps = planned c.endpoints lines
 
-  pub radiates_once : (p : PlannedLine) (symbol prb re : ℕ) (to : ℤ) → IsIn p (planned c.endpoints lines) → (allocation_of p).down ≡ true → (allocation_of p).idle ≡ false → re < 12
-      → names (allocation_of p) (cell_of (allocation_of p) symbol prb) re ≡ true → air_of p.endpoint.numerology p.line.slot symbol ≤ℤ to
+  pub radiates_once : (p : PlannedLine) (symbol prb re : ℕ) (to : ℤ) → IsIn p (planned c.endpoints lines) → (line_allocation p).down ≡ true → (line_allocation p).idle ≡ false → re < 12
+      → names (line_allocation p) (cell_of (line_allocation p) symbol prb) re ≡ true → air_of p.endpoint.numerology p.line.slot symbol ≤ℤ to
       → filter (same_cell (event_of blocks (planned c.endpoints lines) p symbol prb)) (ru_reported c arrivals to) ≡ event_of blocks (planned c.endpoints lines) p symbol prb ∷ []
   radiates_once p symbol prb re to m down idle below named soon =
-      let a = allocation_of p in
+      let a = line_allocation p in
       let cell = cell_of a symbol prb in
       let parts = and_parts (covers a cell) (in_mask a.mask re) named in
       let cover = covers_is a cell parts.0 in
@@ -100,7 +99,7 @@ module _ (c : Config) (lines : List PlanLine) (text : Texts) (blocks : Blocks) (
       let prb_below = within_carrier e.prbs p.line.start_prb p.line.num_prb prb g.prbs cover.prb in
       let time = start_in_time c.endpoints p symbol g symbol_below in
       let event = event_of blocks ps p symbol prb in
-      let it : radiates ps cell re ≡ true = any_in (λ (q : PlannedLine). not (allocation_of q).idle && names (allocation_of q) cell re) p ps m (and_from _ _ (ap not idle) named) in
+      let it : radiates ps cell re ≡ true = any_in (λ (q : PlannedLine). not (line_allocation q).idle && names (line_allocation q) cell re) p ps m (and_from _ _ (ap not idle) named) in
       let same_way_cell : cell_at p.ep true p.line.slot symbol prb ≡ cell = ap (λ (b : Bool). cell_at p.ep b p.line.slot symbol prb) (sym down) in
       let some : (planned_mask ps cell == 0) ≡ false = elim (cases_Bool (planned_mask ps cell == 0)) [
         | inl none ↦ absurd (mask_some (radiates ps cell) 12 re below it (eqb-true (planned_mask ps cell) 0 none))

@@ -7,6 +7,7 @@ use Rattle.std.specs.Int.{int_div_euclid, int_rem_euclid}
 use Rattle.std.proofs.lemmas.Int.{ints}
 use Rattle.fh_time.specs.Frame.{absolute_frame, first_frame, frame_start}
 use Rattle.fh_time.proofs.Euclid.{parts_256, resolved, one_frame}
+use Rattle.fh_time.specs.declared.frames.TheConstants.{FRAME}
 
 pub pos_same : (m n : ℕ) → pos m ≡ pos n → m ≡ n
 pos_same m n e = omega (arith, ints, e)
@@ -23,7 +24,7 @@ pub frame_is : (id : ℕ) (at frame : ℤ) → pos id ≡ int_rem_euclid frame (
     → frame_start frame <ℤ (at +ℤ pos 1966080000000) → absolute_frame id at ≡ frame
 unfolding absolute_frame
 frame_is id at frame e low high =
-    let found = resolved id at (int_div_euclid (at +ℤ pos 15359999999) (pos 15360000000)) (int_rem_euclid (pos id -ℤ first_frame at) (pos 256)) (id_below frame id e) refl refl in
+    let found = resolved id at (int_div_euclid (at +ℤ (FRAME -ℤ pos 1)) FRAME) (int_rem_euclid (pos id -ℤ first_frame at) (pos 256)) (id_below frame id e) refl refl in
     one_frame id at (first_frame at +ℤ int_rem_euclid (pos id -ℤ first_frame at) (pos 256)) frame found (record { id_is = sym e; low = low; high = high })
 
 -- a copy of the i-th frame of a symbol: `most` and `least` before the symbol are the ends of the sending window
@@ -38,19 +39,16 @@ pub wait_most : (i gap spread : ℕ) → min (i * gap) spread ≤ spread
 wait_most i gap spread = omega arith
 
 -- it leaves within the times that are gone over
-pub in_time : (s least most : ℤ) (wait width : ℕ) → pos 15360000000 ≤ℤ s → s ≤ℤ pos 1536100000000000 → most ≤ℤ pos 4000000 → pos 0 ≤ℤ least → least ≤ℤ most
+pub in_time : (s least most : ℤ) (wait width : ℕ) → FRAME ≤ℤ s → s ≤ℤ pos 1536100000000000 → most ≤ℤ pos 4000000 → pos 0 ≤ℤ least → least ≤ℤ most
     → ticks_of_ns least +ℤ pos width ≡ ticks_of_ns most → wait ≤ width
     → (first_clock ≤ℤ ((s +ℤ neg_ℤ (ticks_of_ns most)) +ℤ pos wait)) × (((s +ℤ neg_ℤ (ticks_of_ns most)) +ℤ pos wait) <ℤ (end_of_time +ℤ pos 1))
 in_time s least most wait width a b most_few least_some order e w = (omega (arith, ints), omega (arith, ints))
 
-pub in_end : (s : ℤ) → pos 15360000000 ≤ℤ s → s ≤ℤ pos 1536100000000000 → (first_clock ≤ℤ s) × (s <ℤ (end_of_time +ℤ pos 1))
+pub in_end : (s : ℤ) → FRAME ≤ℤ s → s ≤ℤ pos 1536100000000000 → (first_clock ≤ℤ s) × (s <ℤ (end_of_time +ℤ pos 1))
 in_end s a b = (omega (arith, ints), omega (arith, ints))
 
 pub first_less : (a b c : ℕ) → 0 < b → a + b ≤ c → a < c
 first_less a b c h k = omega (arith, h, k)
-
-pub in_ticks : (a b : ℤ) → a ≤ℤ b → ticks_of_ns a ≤ℤ ticks_of_ns b
-in_ticks a b h = omega (arith, ints, h)
 
 pub by_then : (s wait to : ℤ) → (s +ℤ wait) ≤ℤ to → s <ℤ ((to -ℤ wait) +ℤ pos 1)
 by_then s wait to h = omega (arith, ints, h)

@@ -1,5 +1,5 @@
 -- Each message of a plan is decoded once, on time, as its lines' sections.
-use Rattle.std.proofs.Common.{◌≡◌, ℕ, ℤ, pos, zero, suc, ◌+◌, ◌*◌, ◌%◌, ◌<◌, ◌≤◌, ◌+ℤ◌, ◌-ℤ◌, ◌≤ℤ◌, ◌<ℤ◌, min, inl, inr, true, not, ◌&&◌, ◌==◌, List, [], ◌∷◌, ◌++◌, Some, refl, ap, ap₂, sym, ◌∙◌, subst, arith}
+use Rattle.std.proofs.Common.{◌≡◌, ℕ, ℤ, pos, ◌+◌, ◌*◌, ◌%◌, ◌<◌, ◌≤◌, ◌+ℤ◌, ◌-ℤ◌, ◌≤ℤ◌, ◌<ℤ◌, min, inl, inr, true, not, ◌&&◌, ◌==◌, List, [], ◌∷◌, ◌++◌, Some, refl, ap, ap₂, sym, ◌∙◌, subst, arith}
 use Rattle.std.specs.List.{slice_get}
 use Rattle.std.proofs.lemmas.Bool.{and_parts, and_from, eq-eqb, eqb-true}
 use Rattle.std.proofs.lemmas.Int.{ints}
@@ -34,17 +34,15 @@ use Rattle.unit_laws.specs.unit_model.specs.Times.{end_of_time}
 use Rattle.unit_laws.specs.unit_model.specs.declared.decoded.UserSection.{UserSection}
 use Rattle.unit_laws.specs.unit_model.proofs.ReachLaws.{symbol_soon}
 use Rattle.unit_laws.specs.unit_model.proofs.SweepLaws.{gap_is}
-use Rattle.unit_laws.proofs.CellLemmas.{from_within, slots_equal}
 use Rattle.unit_laws.proofs.FarLemmas.{endpoints_equal}
-use Rattle.plan_model.specs.Departures.{departures_of, sent_at, start_of, width_of}
-use Rattle.plan_model.specs.Lines.{allocation_of, planned}
+use Rattle.plan_model.specs.Departures.{departures_of, sent_at, start_of_part, width_of}
+use Rattle.plan_model.specs.Lines.{line_allocation, planned}
 use Rattle.plan_model.specs.Packs.{Message, Numbered, packs, parts_of, same_symbol}
 use Rattle.plan_model.specs.Sent.{SentFrame, frame_of, sent}
 use Rattle.plan_model.specs.Streams.{Part, frames_in, messages_of, part_fields, part_in, parts_in}
 use Rattle.plan_model.specs.declared.lines.PlannedLine.{PlannedLine}
 use Rattle.plan_model.specs.declared.streams.Stream.{Stream}
 use Rattle.plan_model.specs.declared.streams.Stream.TheVariants.{DownData}
-use Rattle.plan_model.proofs.SlotLemmas.{slot_own, same_slot_fields}
 use Rattle.plan_model.proofs.ListLemmas.{in_right, get_in}
 use Rattle.schedule_laws.specs.Data.{AreSections, AreWritten, Blocks, IsDataFor, IsDecoded}
 use Rattle.schedule_laws.proofs.DataLemmas.{told_in, told_there, told_whole, whole_told}
@@ -59,6 +57,9 @@ use Rattle.schedule_laws.proofs.OrderLemmas.{one_symbol}
 use Rattle.schedule_laws.proofs.PackLemmas.{message_from}
 use Rattle.schedule_laws.proofs.SentLemmas.{is_sent, message_part, part_is, part_message, part_there, sent_is}
 use Rattle.schedule_laws.proofs.TimeLemmas.{frame_is, in_end, in_time, wait_most, last_one}
+use Rattle.unit_laws.specs.window_config.specs.declared.delays.TheConstants.{MOST_DELAY}
+use Rattle.fh_time.proofs.Order.{same_fields as same_slot_fields}
+use Rattle.unit_laws.specs.unit_model.proofs.ClaimLemmas.{same_slot_is as slots_equal, slot_self as slot_own, from_within}
 
 -- ---- the sections of a message
 
@@ -113,8 +114,8 @@ module _ (c : Config) (lines : List PlanLine) (text : Texts) (blocks : Blocks) (
     pub ep_is : x.planned.ep ≡ ep
     pub endpoint : x.planned.endpoint ≡ e
     pub below : x.symbol < symbols_of x.planned.endpoint.numerology
-    pub down : (allocation_of x.planned).down ≡ true
-    pub used : not (allocation_of x.planned).idle ≡ true
+    pub down : (line_allocation x.planned).down ≡ true
+    pub used : not (line_allocation x.planned).idle ≡ true
     pub symbol : is_from x.planned.line.symbol x.planned.line.count x.symbol ≡ true
 
   part_facts : (ep : ℕ) (e : EndpointConfig) (x : Part) → IsAt c.endpoints ep e → IsIn x (parts_in ps DownData ep e) → PartFacts ep e x
@@ -123,8 +124,8 @@ module _ (c : Config) (lines : List PlanLine) (text : Texts) (blocks : Blocks) (
       let g = good c lines h.config h.lines_fit h.valid x.planned p.from in
       let place = part_line DownData tt x.planned ep p.slot x.symbol p.has in
       let same = endpoints_equal c.endpoints x.planned.ep ep x.planned.endpoint e g.at at place.ep_is in
-      let one = and_parts ((allocation_of x.planned).down && not (allocation_of x.planned).idle) _ p.has in
-      let kind = and_parts (allocation_of x.planned).down (not (allocation_of x.planned).idle) one.0 in
+      let one = and_parts ((line_allocation x.planned).down && not (line_allocation x.planned).idle) _ p.has in
+      let kind = and_parts (line_allocation x.planned).down (not (line_allocation x.planned).idle) one.0 in
       let two = and_parts (x.planned.ep == ep) _ one.1 in
       let three = and_parts (same_slot x.planned.line.slot p.slot) (is_from x.planned.line.symbol x.planned.line.count x.symbol) two.1 in
       record {
@@ -198,7 +199,7 @@ module _ (c : Config) (lines : List PlanLine) (text : Texts) (blocks : Blocks) (
       let time = start_in_time c.endpoints x.planned x.symbol facts.line facts.below in
       let window = c.delays.t1a_up in
       let limits = h.config.delays.t1a_up in
-      in_time (start_of x) window.min window.max (min ((a.n.before + sub) * (departures_of c DownData).gap) (width_of window)) (width_of window) time.0 time.1
+      in_time (start_of_part x) window.min window.max (min ((a.n.before + sub) * (departures_of c DownData).gap) (width_of window)) (width_of window) time.0 time.1
       (omega (arith, ints, limits.high)) limits.low limits.order (gap_is (ticks_of_ns window.min) (ticks_of_ns window.max) (in_ns window.min window.max limits.order))
       (wait_most (a.n.before + sub) (departures_of c DownData).gap (width_of window))
     where
@@ -292,10 +293,10 @@ module _ (c : Config) (lines : List PlanLine) (text : Texts) (blocks : Blocks) (
 
   -- a copy of the k-th frame of the message comes on time
   frame_on_time : (ep j k : ℕ) (a : IsHere ep j) (t : ℤ) → (flow_sent_at (flow ep) j k +ℤ b.fast) ≤ℤ t → t ≤ℤ (flow_sent_at (flow ep) j k +ℤ b.slow)
-      → IsOnTime t t (start_of a.n.message.first) c.delays.t2a_up
+      → IsOnTime t t (start_of_part a.n.message.first) c.delays.t2a_up
   frame_on_time ep j k a t from to =
       let leaves = leaves_at c lines h.config h.lines_fit h.valid h.check text ep j k a in
-      on_time c.delays.t1a_up c.delays.t2a_up c.delays.t12 (start_of a.n.message.first) t (min ((a.n.before + k) * (departures_of c DownData).gap) (width_of c.delays.t1a_up)) room
+      on_time c.delays.t1a_up c.delays.t2a_up c.delays.t12 (start_of_part a.n.message.first) t (min ((a.n.before + k) * (departures_of c DownData).gap) (width_of c.delays.t1a_up)) room
       (wait_most (a.n.before + k) (departures_of c DownData).gap (width_of c.delays.t1a_up))
       (subst (λ s. (s +ℤ b.fast) ≤ℤ t) leaves from) (subst (λ s. t ≤ℤ (s +ℤ b.slow)) leaves to)
 
@@ -306,7 +307,7 @@ module _ (c : Config) (lines : List PlanLine) (text : Texts) (blocks : Blocks) (
       one_symbol part_fields c.pack parts n.message (message_from part_fields (frames_in c DownData) (packs part_fields c.pack parts) n there) x m
 
   -- all parts of a message start when its first one does
-  same_start : (ep j : ℕ) (a : IsHere ep j) (x : Part) → IsIn x (parts_of a.n.message) → start_of x ≡ start_of a.n.message.first
+  same_start : (ep j : ℕ) (a : IsHere ep j) (x : Part) → IsIn x (parts_of a.n.message) → start_of_part x ≡ start_of_part a.n.message.first
   same_start ep j a x m =
       let y = a.n.message.first in
       let fx = message_facts ep j a x m in
@@ -328,7 +329,7 @@ module _ (c : Config) (lines : List PlanLine) (text : Texts) (blocks : Blocks) (
   slot_named : (x : Part) (d : UserSection) → IsDataFor blocks x d → absolute_frame d.head.frame_id d.last.0 ≡ x.planned.line.slot.frame → data_slot d ≡ x.planned.line.slot
   slot_named x d carries f = same_slot_fields (data_slot d) x.planned.line.slot f carries.subframe carries.slot
 
-  start_named : (x : Part) (d : UserSection) → IsDataFor blocks x d → data_slot d ≡ x.planned.line.slot → data_start d ≡ start_of x
+  start_named : (x : Part) (d : UserSection) → IsDataFor blocks x d → data_slot d ≡ x.planned.line.slot → data_start d ≡ start_of_part x
   start_named x d carries s =
       ap (λ (e : EndpointConfig). air_of e.numerology (data_slot d) d.section.symbol) carries.endpoint
       ∙ ap₂ (λ (t : Slot) (y : ℕ). air_of x.planned.endpoint.numerology t y) s carries.symbol
@@ -342,18 +343,18 @@ module _ (c : Config) (lines : List PlanLine) (text : Texts) (blocks : Blocks) (
       let k = last_one ((flow x.ep).pieces s.j) ((sounds x.ep).some s.j (below_at c lines h.config h.lines_fit h.valid h.check text x.ep s.j a)) in
       let first_time = frame_on_time x.ep s.j 0 a s.first s.first_from s.first_to in
       let last_time = frame_on_time x.ep s.j k.0 a s.last (s.last_from k.0 k.1) (s.last_to k.0 k.1) in
-      let start_at : start_of part ≡ start_of a.n.message.first = start in
+      let start_at : start_of_part part ≡ start_of_part a.n.message.first = start in
       let soon_enough = subst (λ t. ticks_of_ns c.delays.t2a_up.min ≤ℤ (t -ℤ s.last)) (sym start) last_time.soon_enough in
       let late_last = subst (λ t. (t -ℤ s.last) ≤ℤ ticks_of_ns c.delays.t2a_up.max) (sym start) last_time.late_enough in
       let late_enough = subst (λ t. (t -ℤ s.first) ≤ℤ ticks_of_ns c.delays.t2a_up.max) (sym start) first_time.late_enough in
       let limits = h.config.delays.t2a_up in
       let g = facts.line in
       let soon = symbol_soon part.planned.endpoint.numerology part.planned.line.slot part.symbol (numerology_short part.planned.endpoint.numerology) (record { subframe = g.fits.subframe; slot = g.slot }) facts.below in
-      let near = near_frame part.planned.line.slot.frame (start_of part) s.last c.delays.t2a_up.min c.delays.t2a_up.max soon.0 soon.1
+      let near = near_frame part.planned.line.slot.frame (start_of_part part) s.last c.delays.t2a_up.min c.delays.t2a_up.max soon.0 soon.1
       (at_least c.delays.t2a_up.min limits.low) (at_most c.delays.t2a_up.max limits.high) soon_enough late_last in
       let frame : absolute_frame d.head.frame_id s.last ≡ part.planned.line.slot.frame = frame_is d.head.frame_id s.last part.planned.line.slot.frame carries.frame_id near.0 near.1 in
       let slot = slot_named part d carries (ap (λ t. absolute_frame d.head.frame_id t) last_is ∙ frame) in
-      let time : IsOnTime s.first s.last (start_of part) c.delays.t2a_up = record { soon_enough = soon_enough; late_enough = late_enough } in
+      let time : IsOnTime s.first s.last (start_of_part part) c.delays.t2a_up = record { soon_enough = soon_enough; late_enough = late_enough } in
       record {
         ep = x.ep;
         e = a.e;
@@ -361,14 +362,14 @@ module _ (c : Config) (lines : List PlanLine) (text : Texts) (blocks : Blocks) (
         carries = carries;
         slot_is = slot;
         class = ap (λ t. class_of d.first.0 d.last.0 t c.delays.t2a_up) (start_named part d carries slot)
-            ∙ ap₂ (λ p q. class_of p q (start_of part) c.delays.t2a_up) first_is last_is
-            ∙ (class_on_time s.first s.last (start_of part) c.delays.t2a_up).1 time;
+            ∙ ap₂ (λ p q. class_of p q (start_of_part part) c.delays.t2a_up) first_is last_is
+            ∙ (class_on_time s.first s.last (start_of_part part) c.delays.t2a_up).1 time;
       }
     where
       at_least : (z : ℤ) → pos 1 ≤ℤ z → pos 0 ≤ℤ z
       at_least z k = omega (arith, ints, k)
 
-      at_most : (z : ℤ) → z ≤ℤ pos 2000000 → z ≤ℤ pos 4000000
+      at_most : (z : ℤ) → z ≤ℤ pos MOST_DELAY → z ≤ℤ pos 4000000
       at_most z k = omega (arith, ints, k)
 
   -- ---- each section, and every part
@@ -420,11 +421,11 @@ module _ (c : Config) (lines : List PlanLine) (text : Texts) (blocks : Blocks) (
       some_same m n e = cc
 
   -- each line that radiates has one in each of its symbols
-  line_part : (p : PlannedLine) (symbol : ℕ) → (allocation_of p).down ≡ true → not (allocation_of p).idle ≡ true → is_from p.line.symbol p.line.count symbol ≡ true
-      → (((allocation_of p).down && not (allocation_of p).idle) && ((p.ep == p.ep) && (same_slot p.line.slot p.line.slot && is_from p.line.symbol p.line.count symbol))) ≡ true
+  line_part : (p : PlannedLine) (symbol : ℕ) → (line_allocation p).down ≡ true → not (line_allocation p).idle ≡ true → is_from p.line.symbol p.line.count symbol ≡ true
+      → (((line_allocation p).down && not (line_allocation p).idle) && ((p.ep == p.ep) && (same_slot p.line.slot p.line.slot && is_from p.line.symbol p.line.count symbol))) ≡ true
   line_part p symbol down used within = and_from _ _ (and_from _ _ down used) (and_from _ _ (eq-eqb p.ep p.ep refl) (and_from _ _ (slot_own p.line.slot) within))
 
-  pub line_sent : (p : PlannedLine) (symbol : ℕ) → IsIn p ps → (allocation_of p).down ≡ true → not (allocation_of p).idle ≡ true → is_from p.line.symbol p.line.count symbol ≡ true
+  pub line_sent : (p : PlannedLine) (symbol : ℕ) → IsIn p ps → (line_allocation p).down ≡ true → not (line_allocation p).idle ≡ true → is_from p.line.symbol p.line.count symbol ≡ true
       → (d : UserSection) × IsIn d ds × IsTimely (part_in symbol p) d
   line_sent p symbol m down used within =
       let g = good c lines h.config h.lines_fit h.valid p m in

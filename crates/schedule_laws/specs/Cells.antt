@@ -15,14 +15,14 @@ use Rattle.unit_laws.specs.unit_model.specs.Radiated.{first_clock}
 use Rattle.unit_laws.specs.unit_model.specs.Reports.{ru_reported}
 use Rattle.unit_laws.specs.unit_model.specs.Sweeps.{sweep}
 use Rattle.unit_laws.specs.unit_model.specs.declared.cells.Cell.{Cell}
-use Rattle.plan_model.specs.Lines.{allocation_of, planned}
+use Rattle.plan_model.specs.Lines.{line_allocation, planned}
 use Rattle.plan_model.specs.declared.lines.PlannedLine.{PlannedLine}
 use Rattle.schedule_laws.specs.Data.{AreWritten, Blocks, radiates_in}
 use Rattle.schedule_laws.specs.Premise.{AllArrive, Texts}
 
 -- a line that radiates names this element of a cell
 abbrev pub radiates : List PlannedLine → Cell → ℕ → Bool
-radiates ps cell re = list_any (λ p. not (allocation_of p).idle && names (allocation_of p) cell re) ps
+radiates ps cell re = list_any (λ p. not (line_allocation p).idle && names (line_allocation p) cell re) ps
 
 -- the elements below n that pass a test, as a number of n bits whose most significant is element 0
 unfoldable pub mask_below : (ℕ → Bool) → ℕ → ℕ

@@ -21,7 +21,7 @@ use Rattle.unit_laws.specs.unit_model.specs.Reports.{data_of, met, timely_of}
 use Rattle.unit_laws.specs.unit_model.specs.declared.cells.Block.{Block}
 use Rattle.unit_laws.specs.unit_model.specs.declared.cells.Cell.{Cell}
 use Rattle.unit_laws.specs.unit_model.specs.declared.decoded.UserSection.{UserSection}
-use Rattle.plan_model.specs.Lines.{allocation_of, planned}
+use Rattle.plan_model.specs.Lines.{line_allocation, planned}
 use Rattle.plan_model.specs.Packs.{Numbered, parts_of, size_of}
 use Rattle.plan_model.specs.Streams.{Part, frames_in, messages_of, part_fields, part_in}
 use Rattle.plan_model.specs.declared.lines.PlannedLine.{PlannedLine}
@@ -46,8 +46,8 @@ pub record IsDataFor (blocks : Blocks) (x : Part) (d : UserSection) : Type 0 whe
   pub symbol : d.section.symbol ≡ x.symbol
   pub start_prb : d.section.start_prb ≡ x.planned.line.start_prb
   pub num_prb : d.section.num_prb ≡ x.planned.line.num_prb
-  pub samples : (n : ℕ) → is_from (first_prb (allocation_of x.planned)) (prb_count (allocation_of x.planned)) n ≡ true
-      → slice_index_or d.blocks (n - first_prb (allocation_of x.planned)) [] ≡ blocks (cell_at x.planned.ep true x.planned.line.slot x.symbol n)
+  pub samples : (n : ℕ) → is_from (first_prb (line_allocation x.planned)) (prb_count (line_allocation x.planned)) n ≡ true
+      → slice_index_or d.blocks (n - first_prb (line_allocation x.planned)) [] ≡ blocks (cell_at x.planned.ep true x.planned.line.slot x.symbol n)
 
 -- one section for each part, in this order, of a message whose first and last fragments came then
 abbrev pub AreSections : Blocks → ℤ → ℤ → List Part → List UserSection → Type 0
@@ -73,7 +73,7 @@ pub record AreWritten (c : Config) (ps : List PlannedLine) (text : Texts) (block
 
 -- a line that radiates covers a cell
 abbrev pub radiates_in : PlannedLine → Cell → Bool
-radiates_in p cell = not (allocation_of p).idle && covers (allocation_of p) cell
+radiates_in p cell = not (line_allocation p).idle && covers (line_allocation p) cell
 
 -- the block that a plan gives a downlink cell: the cell's samples, under the section id of the lines that cover it
 abbrev pub planned_block : Blocks → List PlannedLine → Cell → Option Block
@@ -104,7 +104,7 @@ pub record AreDecodedOnce (c : Config) (ps : List PlannedLine) (text : Texts) (b
       → IsOnceWhole (bounds_of c) (flow_of c ps text ep) j (of_message (numbers_of (bounds_of c) (flow_of c ps text)) ep j (fragments (met Ru c arrivals)))
       (answers (bounds_of c).hold (numbers_of (bounds_of c) (flow_of c ps text)) ep j (fragments (met Ru c arrivals)))
   pub each : (d : UserSection) → IsIn d (data_of Ru c arrivals) → IsPlannedData c ps blocks d
-  pub every : (p : PlannedLine) (symbol : ℕ) → IsIn p ps → (allocation_of p).down ≡ true → (allocation_of p).idle ≡ false
+  pub every : (p : PlannedLine) (symbol : ℕ) → IsIn p ps → (line_allocation p).down ≡ true → (line_allocation p).idle ≡ false
       → is_from p.line.symbol p.line.count symbol ≡ true → IsDataSent blocks (part_in symbol p) (data_of Ru c arrivals)
   pub blocks_are : (cell : Cell) → cell.down ≡ true → block_at (timely_of Ru c arrivals) cell ≡ planned_block blocks ps cell
 

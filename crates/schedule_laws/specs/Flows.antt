@@ -5,7 +5,7 @@ use Rattle.std.specs.Option.{option_map_or}
 use Rattle.fragment_laws.specs.Flow.{Bounds, Flow}
 use Rattle.unit_laws.specs.window_config.specs.Windows.{ticks_of_ns}
 use Rattle.unit_laws.specs.window_config.specs.declared.config.Config.{Config}
-use Rattle.plan_model.specs.Departures.{departures_of, start_of}
+use Rattle.plan_model.specs.Departures.{departures_of, start_of_part}
 use Rattle.plan_model.specs.Packs.{Numbered}
 use Rattle.plan_model.specs.Streams.{Part, frames_in, messages_of}
 use Rattle.plan_model.specs.declared.lines.PlannedLine.{PlannedLine}
@@ -20,7 +20,7 @@ abbrev pub flow_of : Config → List PlannedLine → Texts → ℕ → Flow
 flow_of c ps text ep = record {
   count = length (messages_at c ps ep);
   pieces = λ j. option_map_or (λ n. frames_in c DownData n.message) (slice_get (messages_at c ps ep) j) 0;
-  low = λ j. option_map_or (λ n. start_of n.message.first +ℤ (departures_of c DownData).from.0) (slice_get (messages_at c ps ep) j) (pos 0);
+  low = λ j. option_map_or (λ n. start_of_part n.message.first +ℤ (departures_of c DownData).from.0) (slice_get (messages_at c ps ep) j) (pos 0);
   before = λ j. option_map_or (λ n. n.before) (slice_get (messages_at c ps ep) j) 0;
   gap = (departures_of c DownData).gap;
   spread = (departures_of c DownData).spread;

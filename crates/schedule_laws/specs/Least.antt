@@ -19,17 +19,17 @@ use Rattle.plan_model.specs.declared.lines.PlannedLine.{PlannedLine}
 use Rattle.schedule_laws.specs.Premise.{AllArrive, IsReadBy, Texts}
 
 -- the bytes of a frame, as it comes then
-abbrev pub arrival_of : (SentFrame → List ℕ) → SentFrame → ℤ → Arrival
-arrival_of bytes f at = record { at = at; frame = bytes f }
+abbrev pub least_arrival : (SentFrame → List ℕ) → SentFrame → ℤ → Arrival
+least_arrival bytes f at = record { at = at; frame = bytes f }
 
 -- whenever a frame with these bytes comes, it is read as what the plan sends by it
 abbrev pub AreReadable : Config → List PlannedLine → Texts → (SentFrame → List ℕ) → Type 0
 AreReadable c ps text bytes =
-    (f : SentFrame) → IsIn f (sent c ps) → (at : ℤ) → IsReadBy f.stream c text f (arrival_of bytes f at) (met_in Ru c.endpoints at (whole_messages (bytes f)))
+    (f : SentFrame) → IsIn f (sent c ps) → (at : ℤ) → IsReadBy f.stream c text f (least_arrival bytes f at) (met_in Ru c.endpoints at (whole_messages (bytes f)))
 
 -- each frame once, T12's minimum after it left, the newest first
 abbrev pub with_least_delay : Config → List PlannedLine → (SentFrame → List ℕ) → List Arrival
-with_least_delay c ps bytes = onto [] (map (λ f. arrival_of bytes f (f.at +ℤ ticks_of_ns c.delays.t12.min)) (sent c ps))
+with_least_delay c ps bytes = onto [] (map (λ f. least_arrival bytes f (f.at +ℤ ticks_of_ns c.delays.t12.min)) (sent c ps))
 
 abbrev pub LeastDelaysArrive : Type 0
 LeastDelaysArrive =

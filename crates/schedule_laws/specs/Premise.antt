@@ -15,7 +15,7 @@ use Rattle.unit_laws.specs.window_config.specs.declared.plan.PlanLine.{PlanLine}
 use Rattle.unit_laws.specs.unit_model.specs.Commands.{is_for, is_idle}
 use Rattle.unit_laws.specs.unit_model.specs.Meetings.{Arrival, Meeting, Commands, Piece, met_in}
 use Rattle.unit_laws.specs.unit_model.specs.declared.decoded.ControlSection.{ControlSection}
-use Rattle.plan_model.specs.Lines.{is_down, is_idle as is_idle_line, planned}
+use Rattle.plan_model.specs.Lines.{is_down_kind, is_idle_kind as is_idle_line, planned}
 use Rattle.plan_model.specs.Sent.{SentFrame, sent}
 use Rattle.plan_model.specs.Streams.{frames_in}
 use Rattle.plan_model.specs.Valid.{IsValid}
@@ -30,7 +30,7 @@ pub record IsCommandFor (p : PlannedLine) (d : ControlSection) : Type 0 where
   pub endpoint : d.endpoint ≡ p.endpoint
   pub fits : is_for d.head.body d.endpoint.numerology ≡ true
   pub idle : is_idle d.head.body ≡ is_idle_line p.line.kind
-  pub down : d.head.down ≡ is_down p.line.kind
+  pub down : d.head.down ≡ is_down_kind p.line.kind
   pub filter : d.head.filter ≡ 0
   pub frame_id : pos d.head.frame_id ≡ int_rem_euclid p.line.slot.frame (pos 256)
   pub subframe : d.head.subframe ≡ p.line.slot.subframe

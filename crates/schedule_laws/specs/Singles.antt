@@ -9,7 +9,7 @@ use Rattle.unit_laws.specs.unit_model.specs.Meetings.{Arrival}
 use Rattle.unit_laws.specs.unit_model.specs.Reports.{ru_reported}
 use Rattle.unit_laws.specs.unit_model.specs.Standing.{same_cell}
 use Rattle.unit_laws.specs.air_source.specs.declared.events.AirCell.{AirCell}
-use Rattle.plan_model.specs.Lines.{allocation_of, planned}
+use Rattle.plan_model.specs.Lines.{line_allocation, planned}
 use Rattle.plan_model.specs.declared.lines.PlannedLine.{PlannedLine}
 use Rattle.schedule_laws.specs.Cells.{planned_event}
 use Rattle.schedule_laws.specs.Data.{AreWritten, Blocks}
@@ -18,13 +18,13 @@ use Rattle.schedule_laws.specs.Premise.{AllArrive, Texts}
 -- the event of one of a line's cells
 abbrev pub event_of : Blocks → List PlannedLine → PlannedLine → ℕ → ℕ → AirCell
 event_of blocks ps p symbol prb =
-    planned_event blocks ps p.endpoint (cell_of (allocation_of p) symbol prb) (air_of p.endpoint.numerology p.line.slot symbol)
+    planned_event blocks ps p.endpoint (cell_of (line_allocation p) symbol prb) (air_of p.endpoint.numerology p.line.slot symbol)
 
 -- of a cell in which a `dl` line names an element, one event is reported once its symbol has started, and it is the plan's
 abbrev pub EachCellRadiatesOnce : Type 0
 EachCellRadiatesOnce =
     (c : Config) (lines : List PlanLine) (text : Texts) (blocks : Blocks) (arrivals : List Arrival) → AllArrive c lines text arrivals
     → AreWritten c (planned c.endpoints lines) text blocks
-    → (p : PlannedLine) (symbol prb re : ℕ) (to : ℤ) → IsIn p (planned c.endpoints lines) → (allocation_of p).down ≡ true → (allocation_of p).idle ≡ false → re < 12
-    → names (allocation_of p) (cell_of (allocation_of p) symbol prb) re ≡ true → air_of p.endpoint.numerology p.line.slot symbol ≤ℤ to
+    → (p : PlannedLine) (symbol prb re : ℕ) (to : ℤ) → IsIn p (planned c.endpoints lines) → (line_allocation p).down ≡ true → (line_allocation p).idle ≡ false → re < 12
+    → names (line_allocation p) (cell_of (line_allocation p) symbol prb) re ≡ true → air_of p.endpoint.numerology p.line.slot symbol ≤ℤ to
     → filter (same_cell (event_of blocks (planned c.endpoints lines) p symbol prb)) (ru_reported c arrivals to) ≡ event_of blocks (planned c.endpoints lines) p symbol prb ∷ []

@@ -4,7 +4,7 @@ ghost use Rattle.window_config.specs.Plans.{IsPlanLine};
 
 use crate::steps::{endpoint, in_slot, line, of_prbs, of_symbols};
 use du_scheduler::plan_tests::plan_model::{
-    PlannedLine, allocation_of, frame_count, is_near, is_out_of_range, planned_line, section_size,
+    PlannedLine, frame_count, is_near, is_out_of_range, line_allocation, planned_line, section_size,
 };
 use fh_time::{Numerology, Ticks};
 use std::test::Fail;
@@ -36,7 +36,7 @@ fn a_line_is_planned_at_its_endpoint(rt: HostRuntime) -> Result<(), Fail> {
     };
     assert_eq!(rt; planned_line(&[other, e], 3, &last()), Some(planned));
     assert_eq!(rt; planned_line(&[other], 3, &last()), None);
-    let a = allocation_of(&planned);
+    let a = line_allocation(&planned);
     assert_eq!(rt; a.down, true);
     assert_eq!(rt; a.idle, true);
     assert_eq!(rt; a.filter, 0);

@@ -7,19 +7,22 @@ use Rattle.std.proofs.lemmas.Bool.{and_parts, cases_eq, eq-eqb, eqb-true, ne_eqb
 use Rattle.std.proofs.lemmas.Bool.Decides.{Decides-int_eq, nat_tests}
 use Rattle.std.proofs.lemmas.Int.{ints}
 use Rattle.std.proofs.lemmas.List.Elements.{All-from_recursion, All-head, All-nil, All-tail, filter-append, recursion_from_All}
+use Rattle.std.specs.Int.Signed.{<ℤ-≤ℤ_trans}
+use Rattle.fh_time.proofs.Orders.{at_most, before_it, beyond_next, weak}
 use Rattle.air_source.specs.declared.links.LinkFrame.{LinkFrame}
 use Rattle.fh_time.specs.declared.values.Ticks.{Ticks}
 use Rattle.uplink_model.specs.unit_model.specs.Lists.{each}
 use Rattle.uplink_model.specs.unit_model.proofs.SweepLaws.{each_none, each_same}
-use Rattle.uplink_model.specs.plan_model.proofs.TickLemmas.{next_tick}
-use Rattle.uplink_model.specs.Sent.{leaves_at, leaving_at, leaving_of}
+use Rattle.uplink_model.specs.plan_model.proofs.ListLemmas.{all_map}
+use Rattle.uplink_model.specs.plan_model.proofs.TickLemmas.{int_apart, next_tick}
+use Rattle.uplink_model.specs.Sent.{leaves_at, leaving_at, frames_leaving}
 use Rattle.uplink_model.specs.SentLaws.{AreOf}
-use Rattle.send_queue.specs.Queues.{AllHaveLeft, AreFrom, AreInTurn, Gives, HasLeft, IsNextTime, IsSilentTo, Leaves, Took, WaitsFor, all_queued, first_time, leaves_after, queued, waiting_at}
+use Rattle.send_queue.specs.Queues.{AllHaveLeft, LeaveFrom, AreQueuedInTurn, Gives, HasLeft, IsNextTime, IsSilentTo, Leaves, Took, WaitsFor, all_queued, first_time, leaves_after, queued, waiting_at}
 use Rattle.send_queue.specs.QueueLaws.{LeavesAtOnce, WaitsOn}
 
 -- ---- the order of two frames
 
-abbrev after : ℤ → ℕ → ℤ → ℕ → Bool
+abbrev pub after : ℤ → ℕ → ℤ → ℕ → Bool
 after a x b y = int_lt b a || (int_eq b a && nat_lt y x)
 
 -- of one tick, by endpoint
@@ -38,10 +41,6 @@ not_after : (a b c : ℤ) (x y z : ℕ) → after b y a x ≡ true → after b y
 not_after a b c x y z h k = not_both a c x z (after_chain a b c x y z h k)
 
 -- ---- one frame more, where it stands
-
-all_weaker : (P Q : LinkFrame → Type 0) → ((x : LinkFrame) → P x → Q x) → (xs : List LinkFrame) → AllByRecursion P xs → AllByRecursion Q xs
-all_weaker P Q f [] h = tt
-all_weaker P Q f (x ∷ xs) h = (f x h.0, all_weaker P Q f xs h.1)
 
 all_join : (P : LinkFrame → Type 0) (xs ys : List LinkFrame) → AllByRecursion P xs → AllByRecursion P ys → AllByRecursion P (xs ++ ys)
 all_join P [] ys p q = q
@@ -81,18 +80,18 @@ queued_behind f (x ∷ xs) ys h = let e = h.0 in rw e (ap (λ (zs : List LinkFra
 -- where a frame stands before one that leaves after it, all that stand behind leave after it
 later_behind : (f g : LinkFrame) (gs : List LinkFrame) → leaves_after g f ≡ true → AllByRecursion (λ h. leaves_after g h ≡ false) gs → AllByRecursion (λ h. leaves_after h f ≡ true) gs
 later_behind f g gs first rest =
-    all_weaker (λ h. leaves_after g h ≡ false) (λ h. leaves_after h f ≡ true) (λ h e. after_chain f.at.0 g.at.0 h.at.0 f.ep g.ep h.ep first e) gs rest
+    all_map (λ h. leaves_after g h ≡ false) (λ h. leaves_after h f ≡ true) (λ h e. after_chain f.at.0 g.at.0 h.at.0 f.ep g.ep h.ep first e) gs rest
 
 none_behind : (f g : LinkFrame) (gs : List LinkFrame) → leaves_after g f ≡ true → AllByRecursion (λ h. leaves_after g h ≡ false) gs → AllByRecursion (λ h. leaves_after f h ≡ false) gs
 none_behind f g gs first rest =
-    all_weaker (λ h. leaves_after g h ≡ false) (λ h. leaves_after f h ≡ false) (λ h e. not_after f.at.0 g.at.0 h.at.0 f.ep g.ep h.ep first e) gs rest
+    all_map (λ h. leaves_after g h ≡ false) (λ h. leaves_after f h ≡ false) (λ h e. not_after f.at.0 g.at.0 h.at.0 f.ep g.ep h.ep first e) gs rest
 
 -- a queue in turn stays in turn
-in_turn : (f : LinkFrame) (q : List LinkFrame) → AreInTurn q → AreInTurn (queued f q)
+in_turn : (f : LinkFrame) (q : List LinkFrame) → AreQueuedInTurn q → AreQueuedInTurn (queued f q)
 in_turn f [] order = (tt, tt)
 in_turn f (g ∷ gs) order = go (leaves_after g f) refl (in_turn f gs order.1)
   where
-    go : (b : Bool) → leaves_after g f ≡ b → AreInTurn (queued f gs) → AreInTurn (let ys : List LinkFrame = if b then f ∷ g ∷ gs else g ∷ queued f gs in ys)
+    go : (b : Bool) → leaves_after g f ≡ b → AreQueuedInTurn (queued f gs) → AreQueuedInTurn (let ys : List LinkFrame = if b then f ∷ g ∷ gs else g ∷ queued f gs in ys)
     go true e rest = ((not_both f.at.0 g.at.0 f.ep g.ep e, none_behind f g gs e order.0), order)
     go false e rest = (all_queued_one (λ h. leaves_after g h ≡ false) f gs e order.0, rest)
 
@@ -111,7 +110,7 @@ waiting_other t f (g ∷ gs) other = go (leaves_after g f) (waiting_other t f gs
     go false rest = ap (kept (leaves_at t g) g) rest
 
 -- among those of its own tick it stands as it does among all
-waiting_one : (t : ℤ) (f : LinkFrame) (q : List LinkFrame) → leaves_at t f ≡ true → AreInTurn q → waiting_at t (queued f q) ≡ queued f (waiting_at t q)
+waiting_one : (t : ℤ) (f : LinkFrame) (q : List LinkFrame) → leaves_at t f ≡ true → AreQueuedInTurn q → waiting_at t (queued f q) ≡ queued f (waiting_at t q)
 waiting_one t f [] own order = rw own refl
 waiting_one t f (g ∷ gs) own order = go (leaves_after g f) refl (waiting_one t f gs own order.1)
   where
@@ -129,30 +128,30 @@ waiting_one t f (g ∷ gs) own order = go (leaves_after g f) refl (waiting_one t
 -- ---- one frame more that was handed over
 
 -- those of an endpoint, and this one if it is of it
-leaving_more : (frames : List LinkFrame) (f : LinkFrame) (t : ℤ) (ep : ℕ) → leaving_of (frames ++ f ∷ []) t ep ≡ leaving_of frames t ep ++ leaving_of (f ∷ []) t ep
+leaving_more : (frames : List LinkFrame) (f : LinkFrame) (t : ℤ) (ep : ℕ) → frames_leaving (frames ++ f ∷ []) t ep ≡ frames_leaving frames t ep ++ frames_leaving (f ∷ []) t ep
 leaving_more frames f t ep = filter-append (λ g. leaves_at t g && (g.ep == ep)) frames (f ∷ [])
 
 -- which is of no other
-of_other : (f : LinkFrame) (t : ℤ) (ep : ℕ) → (f.ep ≡ ep → ⊥) → leaving_of (f ∷ []) t ep ≡ []
+of_other : (f : LinkFrame) (t : ℤ) (ep : ℕ) → (f.ep ≡ ep → ⊥) → frames_leaving (f ∷ []) t ep ≡ []
 of_other f t ep other = go (leaves_at t f) (f.ep == ep) (ne_eqb f.ep ep other)
   where
     go : (a b : Bool) → b ≡ false → (let ys : List LinkFrame = if a && b then f ∷ [] else [] in ys) ≡ []
     go true b e = rw e refl
     go false b e = refl
 
-same_of_other : (frames : List LinkFrame) (f : LinkFrame) (t : ℤ) (ep : ℕ) → (f.ep ≡ ep → ⊥) → leaving_of (frames ++ f ∷ []) t ep ≡ leaving_of frames t ep
+same_of_other : (frames : List LinkFrame) (f : LinkFrame) (t : ℤ) (ep : ℕ) → (f.ep ≡ ep → ⊥) → frames_leaving (frames ++ f ∷ []) t ep ≡ frames_leaving frames t ep
 same_of_other frames f t ep other =
-    leaving_more frames f t ep ∙ ap (λ (fs : List LinkFrame). leaving_of frames t ep ++ fs) (of_other f t ep other) ∙ append-nil (leaving_of frames t ep)
+    leaving_more frames f t ep ∙ ap (λ (fs : List LinkFrame). frames_leaving frames t ep ++ fs) (of_other f t ep other) ∙ append-nil (frames_leaving frames t ep)
 
 -- and of its own
-of_own : (f : LinkFrame) (t : ℤ) → leaves_at t f ≡ true → leaving_of (f ∷ []) t f.ep ≡ f ∷ []
+of_own : (f : LinkFrame) (t : ℤ) → leaves_at t f ≡ true → frames_leaving (f ∷ []) t f.ep ≡ f ∷ []
 of_own f t own = go (leaves_at t f) (f.ep == f.ep) own (eq-eqb f.ep f.ep refl)
   where
     go : (a b : Bool) → a ≡ true → b ≡ true → (let ys : List LinkFrame = if a && b then f ∷ [] else [] in ys) ≡ f ∷ []
     go a b p q = rw (p, q) refl
 
 -- and of no other tick
-at_other : (f : LinkFrame) (t : ℤ) (ep : ℕ) → leaves_at t f ≡ false → leaving_of (f ∷ []) t ep ≡ []
+at_other : (f : LinkFrame) (t : ℤ) (ep : ℕ) → leaves_at t f ≡ false → frames_leaving (f ∷ []) t ep ≡ []
 at_other f t ep other = go (leaves_at t f) (f.ep == ep) other
   where
     go : (a b : Bool) → a ≡ false → (let ys : List LinkFrame = if a && b then f ∷ [] else [] in ys) ≡ []
@@ -161,11 +160,11 @@ at_other f t ep other = go (leaves_at t f) (f.ep == ep) other
 leaving_other : (n : ℕ) (frames : List LinkFrame) (f : LinkFrame) (t : ℤ) → leaves_at t f ≡ false → leaving_at n (frames ++ f ∷ []) t ≡ leaving_at n frames t
 unfolding leaving_at
 leaving_other n frames f t other =
-    each_same 0 n (leaving_of (frames ++ f ∷ []) t) (leaving_of frames t)
-    (λ ep. leaving_more frames f t ep ∙ ap (λ (fs : List LinkFrame). leaving_of frames t ep ++ fs) (at_other f t ep other) ∙ append-nil (leaving_of frames t ep))
+    each_same 0 n (frames_leaving (frames ++ f ∷ []) t) (frames_leaving frames t)
+    (λ ep. leaving_more frames f t ep ∙ ap (λ (fs : List LinkFrame). frames_leaving frames t ep ++ fs) (at_other f t ep other) ∙ append-nil (frames_leaving frames t ep))
 
 -- those of an endpoint leave after the frame where the endpoint's number is greater
-by_endpoint : (frames : List LinkFrame) (f : LinkFrame) (t : ℤ) (ep : ℕ) → leaves_at t f ≡ true → AllByRecursion (λ g. leaves_after g f ≡ nat_lt f.ep ep) (leaving_of frames t ep)
+by_endpoint : (frames : List LinkFrame) (f : LinkFrame) (t : ℤ) (ep : ℕ) → leaves_at t f ≡ true → AllByRecursion (λ g. leaves_after g f ≡ nat_lt f.ep ep) (frames_leaving frames t ep)
 by_endpoint frames f t ep own =
     all_kept (λ (g : LinkFrame). Unit {0}) (λ g. leaves_after g f ≡ nat_lt f.ep ep) (λ g. leaves_at t g && (g.ep == ep)) (λ g u e.
     (let w = and_parts (leaves_at t g) (g.ep == ep) e in
@@ -178,34 +177,34 @@ less_is a b h = grind (arith, nat_tests)
 
 module _ (frames : List LinkFrame) (f : LinkFrame) (t : ℤ) (own : leaves_at t f ≡ true) where
   -- those of the endpoints behind it
-  all_after : (from n : ℕ) → f.ep < from → AllByRecursion (λ g. leaves_after g f ≡ true) (each from n (leaving_of frames t))
+  all_after : (from n : ℕ) → f.ep < from → AllByRecursion (λ g. leaves_after g f ≡ true) (each from n (frames_leaving frames t))
   unfolding each
   all_after from zero less = tt
   all_after from (suc n) less =
-      all_join (λ g. leaves_after g f ≡ true) (leaving_of frames t from) (each (from + 1) n (leaving_of frames t))
-      (all_weaker (λ g. leaves_after g f ≡ nat_lt f.ep from) (λ g. leaves_after g f ≡ true) (λ g e. e ∙ less_is f.ep from less) (leaving_of frames t from) (by_endpoint frames f t from own))
+      all_join (λ g. leaves_after g f ≡ true) (frames_leaving frames t from) (each (from + 1) n (frames_leaving frames t))
+      (all_map (λ g. leaves_after g f ≡ nat_lt f.ep from) (λ g. leaves_after g f ≡ true) (λ g e. e ∙ less_is f.ep from less) (frames_leaving frames t from) (by_endpoint frames f t from own))
       (all_after (from + 1) n (omega arith))
 
-  all_same : (from n : ℕ) → f.ep < from → each from n (leaving_of (frames ++ f ∷ []) t) ≡ each from n (leaving_of frames t)
+  all_same : (from n : ℕ) → f.ep < from → each from n (frames_leaving (frames ++ f ∷ []) t) ≡ each from n (frames_leaving frames t)
   unfolding each
   all_same from zero less = refl
   all_same from (suc n) less = ap₂ ◌++◌ (same_of_other frames f t from (λ e. omega (arith, e, less))) (all_same (from + 1) n (omega arith))
 
   -- it stands behind those of its endpoint, before those of the next
-  each_queued : (from n : ℕ) → from ≤ f.ep → f.ep < from + n → queued f (each from n (leaving_of frames t)) ≡ each from n (leaving_of (frames ++ f ∷ []) t)
+  each_queued : (from n : ℕ) → from ≤ f.ep → f.ep < from + n → queued f (each from n (frames_leaving frames t)) ≡ each from n (frames_leaving (frames ++ f ∷ []) t)
   unfolding each
   each_queued from zero low high = absurd (omega arith)
   each_queued from (suc n) low high =
-      queued_behind f (leaving_of frames t from) (each (from + 1) n (leaving_of frames t))
-      (all_weaker (λ g. leaves_after g f ≡ nat_lt f.ep from) (λ g. leaves_after g f ≡ false) (λ g e. e ∙ le-ltb f.ep from low) (leaving_of frames t from) (by_endpoint frames f t from own))
+      queued_behind f (frames_leaving frames t from) (each (from + 1) n (frames_leaving frames t))
+      (all_map (λ g. leaves_after g f ≡ nat_lt f.ep from) (λ g. leaves_after g f ≡ false) (λ g e. e ∙ le-ltb f.ep from low) (frames_leaving frames t from) (by_endpoint frames f t from own))
       ∙ elim (cases_eq f.ep from) [
         | inl here ↦
             ap₂ ◌++◌ refl
-            (queued_first f (each (from + 1) n (leaving_of frames t)) (all_after (from + 1) n (omega (arith, here)))
+            (queued_first f (each (from + 1) n (frames_leaving frames t)) (all_after (from + 1) n (omega (arith, here)))
             ∙ ap (λ (fs : List LinkFrame). f ∷ fs) (sym (all_same (from + 1) n (omega (arith, here)))))
-            ∙ sym (append_assoc (leaving_of frames t from) (f ∷ []) (each (from + 1) n (leaving_of (frames ++ f ∷ []) t)))
-            ∙ ap (λ (fs : List LinkFrame). fs ++ each (from + 1) n (leaving_of (frames ++ f ∷ []) t))
-            (sym (leaving_more frames f t from ∙ ap (λ (fs : List LinkFrame). leaving_of frames t from ++ fs) (ap (leaving_of (f ∷ []) t) (sym here) ∙ of_own f t own)))
+            ∙ sym (append_assoc (frames_leaving frames t from) (f ∷ []) (each (from + 1) n (frames_leaving (frames ++ f ∷ []) t)))
+            ∙ ap (λ (fs : List LinkFrame). fs ++ each (from + 1) n (frames_leaving (frames ++ f ∷ []) t))
+            (sym (leaving_more frames f t from ∙ ap (λ (fs : List LinkFrame). frames_leaving frames t from ++ fs) (ap (frames_leaving (f ∷ []) t) (sym here) ∙ of_own f t own)))
         | inr other ↦
             ap₂ ◌++◌ (sym (same_of_other frames f t from other)) (each_queued (from + 1) n (omega (arith, other)) (omega arith))
       ]
@@ -216,7 +215,7 @@ leaving_one n frames f t own few = each_queued frames f t own 0 n (omega arith) 
 
 leaving_none : (n : ℕ) (t : ℤ) → leaving_at n [] t ≡ []
 unfolding leaving_at
-leaving_none n t = each_none 0 n (leaving_of [] t) (λ ep. refl)
+leaving_none n t = each_none 0 n (frames_leaving [] t) (λ ep. refl)
 
 -- ---- what waits
 
@@ -224,7 +223,7 @@ leaving_none n t = each_none 0 n (leaving_of [] t) (λ ep. refl)
 pub waits_for_none : (n : ℕ) (now : ℤ) → WaitsFor n now [] []
 waits_for_none n now = record { from = All-nil (λ (f : LinkFrame). now ≤ℤ f.at.0); at = λ t later. sym (leaving_none n t); order = tt }
 
-from_more : (now : ℤ) (f : LinkFrame) (q : List LinkFrame) → now ≤ℤ f.at.0 → AreFrom now q → AreFrom now (queued f q)
+from_more : (now : ℤ) (f : LinkFrame) (q : List LinkFrame) → now ≤ℤ f.at.0 → LeaveFrom now q → LeaveFrom now (queued f q)
 from_more now f q here from =
     All-from_recursion (λ (g : LinkFrame). now ≤ℤ g.at.0) (queued f q) (all_queued_one (λ (g : LinkFrame). now ≤ℤ g.at.0) f q here (recursion_from_All (λ (g : LinkFrame). now ≤ℤ g.at.0) q from))
 
@@ -242,7 +241,7 @@ waits_for_more n now handed f q w few later = record {
     go t false e same = waiting_other t f q e ∙ same ∙ sym (leaving_other n handed f t e)
 
 -- several frames more
-pub waits_for_all : (n : ℕ) (now : ℤ) (handed frames q : List LinkFrame) → WaitsFor n now handed q → AreOf n frames → AreFrom now frames
+pub waits_for_all : (n : ℕ) (now : ℤ) (handed frames q : List LinkFrame) → WaitsFor n now handed q → AreOf n frames → LeaveFrom now frames
     → WaitsFor n now (handed ++ frames) (all_queued frames q)
 waits_for_all n now handed [] q w few from = subst (λ (fs : List LinkFrame). WaitsFor n now fs q) (sym (append-nil handed)) w
 waits_for_all n now handed (f ∷ fs) q w few from =
@@ -253,21 +252,12 @@ waits_for_all n now handed (f ∷ fs) q w few from =
 
 -- ---- as time passes
 
-at_most : (a b c : ℤ) → a ≤ℤ b → b ≤ℤ c → a ≤ℤ c
-at_most a b c h k = omega (arith, ints)
-
-weak : (a b : ℤ) → a <ℤ b → a ≤ℤ b
-weak a b h = omega (arith, ints)
-
 just_before : (a b : ℤ) → (a -ℤ pos 1) <ℤ b → a ≤ℤ b
 just_before a b h = omega (arith, ints)
 
-is_before : (a : ℤ) → (a -ℤ pos 1) <ℤ a
-is_before a = omega (arith, ints)
-
 -- where none leaves before a tick, all leave from it on
-pub from_silent : (tick : ℤ) (q : List LinkFrame) → ((to : ℤ) → to <ℤ tick → IsSilentTo q to) → AreFrom tick q
-from_silent tick q silent = λ k d lt. just_before tick _ (silent (tick -ℤ pos 1) (is_before tick) k d lt)
+pub from_silent : (tick : ℤ) (q : List LinkFrame) → ((to : ℤ) → to <ℤ tick → IsSilentTo q to) → LeaveFrom tick q
+from_silent tick q silent = λ k d lt. just_before tick _ (silent (tick -ℤ pos 1) (before_it tick) k d lt)
 
 pub waits_on : WaitsOn
 waits_on n now tick handed q w order silent = record { from = from_silent tick q silent; at = λ t later. w.at t (at_most now tick t order later); order = w.order }
@@ -288,17 +278,14 @@ leaves_at_once n tick handed q w = record {
 not_past : (a : ℤ) → a <ℤ a → ⊥
 not_past a h = omega (arith, ints)
 
-below_all : (a b c : ℤ) → a <ℤ b → b ≤ℤ c → a <ℤ c
-below_all a b c h k = omega (arith, ints)
-
 -- the first one's tick, where none leaves before it
-pub next_time_is : (q : List LinkFrame) (time : Option Ticks) → time ≡ first_time q → IfSome time (λ t. AreFrom t.0 q) → IsNextTime q time
+pub next_time_is : (q : List LinkFrame) (time : Option Ticks) → time ≡ first_time q → IfSome time (λ t. LeaveFrom t.0 q) → IsNextTime q time
 next_time_is q None is from = λ to. none to q is
   where
     none : (to : ℤ) (q : List LinkFrame) → None ≡ first_time q → IsSilentTo q to
     none to [] e = All-nil _
     none to (f ∷ fs) e = absurd (cc e)
-next_time_is q (Some t) is from = record { before = λ to lt k d l. below_all to t.0 _ lt (from k d l); at = λ silent. first q is silent }
+next_time_is q (Some t) is from = record { before = λ to lt k d l. <ℤ-≤ℤ_trans lt (from k d l); at = λ silent. first q is silent }
   where
     first : (q : List LinkFrame) → Some t ≡ first_time q → IsSilentTo q t.0 → ⊥
     first [] e silent = absurd (cc e)
@@ -312,15 +299,11 @@ next_time_is q (Some t) is from = record { before = λ to lt k d l. below_all to
 first_own : (t : ℤ) (f : LinkFrame) (q : List LinkFrame) → f.at.0 ≡ t → waiting_at t (f ∷ q) ≡ f ∷ waiting_at t q
 first_own t f q own = let e = (Decides-int_eq f.at.0 t).1 own in rw e refl
 
-not_equal : (a b : ℤ) (e : Bool) → int_eq a b ≡ e → (a ≡ b → ⊥) → e ≡ false
-not_equal a b true e h = absurd (h ((Decides-int_eq a b).0 e))
-not_equal a b false e h = refl
-
 -- and at another
 first_other : (t : ℤ) (f : LinkFrame) (q : List LinkFrame) → (f.at.0 ≡ t → ⊥) → waiting_at t (f ∷ q) ≡ waiting_at t q
-first_other t f q other = let e = not_equal f.at.0 t (int_eq f.at.0 t) refl other in rw e refl
+first_other t f q other = let e = int_apart f.at.0 t other in rw e refl
 
-none_waits : (t : ℤ) (q : List LinkFrame) → AreFrom (t +ℤ pos 1) q → waiting_at t q ≡ []
+none_waits : (t : ℤ) (q : List LinkFrame) → LeaveFrom (t +ℤ pos 1) q → waiting_at t q ≡ []
 none_waits t [] from = refl
 none_waits t (f ∷ fs) from =
     first_other t f fs (λ e. next_is_not t f.at.0 (All-head (λ (g : LinkFrame). (t +ℤ pos 1) ≤ℤ g.at.0) f fs from) e)
@@ -334,12 +317,12 @@ no_earlier : (a b : ℤ) (x y : ℕ) → after a x b y ≡ false → a ≤ℤ b
 no_earlier a b x y h = grind (arith, ints, nat_tests)
 
 -- where the first one leaves at another tick, all leave later
-all_later : (tick : Ticks) (q : List LinkFrame) → AreFrom tick.0 q → AreInTurn q → first_time q ≢ Some tick → AreFrom (tick.0 +ℤ pos 1) q
+all_later : (tick : Ticks) (q : List LinkFrame) → LeaveFrom tick.0 q → AreQueuedInTurn q → first_time q ≢ Some tick → LeaveFrom (tick.0 +ℤ pos 1) q
 all_later tick [] from order other = All-nil (λ (g : LinkFrame). (tick.0 +ℤ pos 1) ≤ℤ g.at.0)
 all_later tick (f ∷ fs) from order other =
     let here = next_tick tick.0 f.at.0 (All-head (λ (g : LinkFrame). tick.0 ≤ℤ g.at.0) f fs from) (λ same. other (ap (λ (z : ℤ). let t : Ticks = record { 0 = z } in Some t) same)) in
     All-from_recursion (λ (g : LinkFrame). (tick.0 +ℤ pos 1) ≤ℤ g.at.0) (f ∷ fs)
-    (here, all_weaker (λ g. leaves_after f g ≡ false) (λ g. (tick.0 +ℤ pos 1) ≤ℤ g.at.0) (λ g e. at_most (tick.0 +ℤ pos 1) f.at.0 g.at.0 here (no_earlier f.at.0 g.at.0 f.ep g.ep e)) fs order.0)
+    (here, all_map (λ g. leaves_after f g ≡ false) (λ g. (tick.0 +ℤ pos 1) ≤ℤ g.at.0) (λ g e. at_most (tick.0 +ℤ pos 1) f.at.0 g.at.0 here (no_earlier f.at.0 g.at.0 f.ep g.ep e)) fs order.0)
 
 -- the first one is gone
 left : (n : ℕ) (tick : ℤ) (handed gone : List LinkFrame) (f : LinkFrame) (q : List LinkFrame) → f.at.0 ≡ tick → Leaves n tick handed gone (f ∷ q) → HasLeft n tick handed gone f q
@@ -366,11 +349,8 @@ all_left n tick handed gone q other l =
     record {
       all = l.at_tick ∙ ap (λ (fs : List LinkFrame). gone ++ fs) (none_waits tick.0 q from) ∙ append-nil gone;
       leaves = l;
-      waits = record { from = from; at = λ t later. l.later t (past tick.0 t later); order = l.order };
+      waits = record { from = from; at = λ t later. l.later t (beyond_next tick.0 t later); order = l.order };
     }
-  where
-    past : (a b : ℤ) → (a +ℤ pos 1) ≤ℤ b → a <ℤ b
-    past a b h = omega (arith, ints)
 
 pub gives : (n : ℕ) (tick : Ticks) (handed gone : List LinkFrame) (o : Option LinkFrame) (before now : List LinkFrame) → Took tick o before now
     → Leaves n tick.0 handed gone before → Gives n tick.0 handed gone o now

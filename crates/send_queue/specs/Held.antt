@@ -5,8 +5,8 @@ use Rattle.air_source.specs.declared.links.LinkFrame.{LinkFrame}
 use Rattle.frame_network.specs.declared.arrivals.Arrival.{Arrival}
 
 -- with its number among all that were handed over
-abbrev pub arrival_of : ℕ → LinkFrame → Arrival
-arrival_of number f = record {
+abbrev pub held_arrival : ℕ → LinkFrame → Arrival
+held_arrival number f = record {
   side = Du;
   at = f.at;
   key = record { injected = false; place = f.ep * 2 ^ 56 + number; copy = 0 };
@@ -14,11 +14,11 @@ arrival_of number f = record {
 }
 
 -- the frame that is held so
-abbrev pub frame_of : Arrival → LinkFrame
-frame_of a = record { at = a.at; ep = a.key.place / 2 ^ 56; frame = a.frame }
+abbrev pub held_frame : Arrival → LinkFrame
+held_frame a = record { at = a.at; ep = a.key.place / 2 ^ 56; frame = a.frame }
 
 -- it is held so, and was handed over among the first of this number
-pub record IsPlaced (number : ℕ) (a : Arrival) : Type 0 where
+pub record IsHeldAt (number : ℕ) (a : Arrival) : Type 0 where
   pub side : a.side ≡ Du
   pub sent : a.key.injected ≡ false
   pub earlier : a.key.place % 2 ^ 56 < number

@@ -24,9 +24,9 @@ all_queued [] q = q
 all_queued (f ∷ fs) q = all_queued fs (queued f q)
 
 -- none stands behind one that leaves after it
-abbrev pub AreInTurn : List LinkFrame → Type 0
-AreInTurn [] = ⊤
-AreInTurn (f ∷ fs) = AllByRecursion (λ g. leaves_after f g ≡ false) fs × AreInTurn fs
+abbrev pub AreQueuedInTurn : List LinkFrame → Type 0
+AreQueuedInTurn [] = ⊤
+AreQueuedInTurn (f ∷ fs) = AllByRecursion (λ g. leaves_after f g ≡ false) fs × AreQueuedInTurn fs
 
 -- the time of the first one, if there is one
 abbrev pub first_time : List LinkFrame → Option Ticks
@@ -45,8 +45,8 @@ abbrev pub waiting_at : ℤ → List LinkFrame → List LinkFrame
 waiting_at t q = filter (leaves_at t) q
 
 -- none leaves before a tick
-abbrev pub AreFrom : ℤ → List LinkFrame → Type 0
-AreFrom now q = All (λ f. now ≤ℤ f.at.0) q
+abbrev pub LeaveFrom : ℤ → List LinkFrame → Type 0
+LeaveFrom now q = All (λ f. now ≤ℤ f.at.0) q
 
 -- none leaves up to a tick
 abbrev pub IsSilentTo : List LinkFrame → ℤ → Type 0
@@ -66,16 +66,16 @@ IsNextTime q (Some t) = LeavesFirstAt q t.0
 
 -- Of all frames that were handed over, those wait that leave at a tick or later, and no others: at each such tick as they are sent.
 pub record WaitsFor (endpoints : ℕ) (now : ℤ) (handed q : List LinkFrame) : Type 0 where
-  pub from : AreFrom now q
+  pub from : LeaveFrom now q
   pub at : (t : ℤ) → now ≤ℤ t → waiting_at t q ≡ leaving_at endpoints handed t
-  pub order : AreInTurn q
+  pub order : AreQueuedInTurn q
 
 -- Of those that leave at a tick these are gone, and the rest waits, as all do that leave later, and no others.
 pub record Leaves (endpoints : ℕ) (tick : ℤ) (handed gone q : List LinkFrame) : Type 0 where
   pub at_tick : leaving_at endpoints handed tick ≡ gone ++ waiting_at tick q
   pub later : (t : ℤ) → tick <ℤ t → waiting_at t q ≡ leaving_at endpoints handed t
-  pub from : AreFrom tick q
-  pub order : AreInTurn q
+  pub from : LeaveFrom tick q
+  pub order : AreQueuedInTurn q
 
 -- after those that are gone this one left, as the next that is sent
 pub record HasLeft (endpoints : ℕ) (tick : ℤ) (handed gone : List LinkFrame) (f : LinkFrame) (q : List LinkFrame) : Type 0 where

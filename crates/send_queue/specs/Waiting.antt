@@ -3,11 +3,11 @@ use Rattle.std.specs.Prelude.{List, map}
 use Rattle.std.specs.List.{AllByRecursion}
 use Rattle.air_source.specs.declared.links.LinkFrame.{LinkFrame}
 use Rattle.send_queue.specs.declared.queue.SendQueue.TheInside.{Inside}
-use Rattle.send_queue.specs.Held.{IsPlaced, frame_of}
+use Rattle.send_queue.specs.Held.{IsHeldAt, held_frame}
 
 -- the frames in their order
-abbrev pub frames_of : Inside → List LinkFrame
-frames_of q = map frame_of q.waiting
+abbrev pub waiting_frames : Inside → List LinkFrame
+waiting_frames q = map held_frame q.waiting
 
 abbrev pub KeepsPlaces : Inside → Type 0
-KeepsPlaces q = AllByRecursion (IsPlaced q.handed) q.waiting
+KeepsPlaces q = AllByRecursion (IsHeldAt q.handed) q.waiting

@@ -2,8 +2,8 @@
 ghost use Rattle.std.specs.Prelude.{◌≡◌, ℕ, ℤ, ◌<◌, ◌^◌, List, [], ◌++◌, All, IfNone, OnErr, OnOk};
 ghost use Rattle.air_source.specs.declared.links.LinkFrame.{LinkFrame as SpecFrame};
 ghost use Rattle.uplink_model.specs.SentLaws.{AreOf};
-ghost use Rattle.send_queue.specs.Held.{arrival_of, frame_of};
-ghost use Rattle.send_queue.specs.Queues.{AreFrom, Gives, IsNextTime, Leaves, Took, WaitsFor, all_queued, first_time, queued};
+ghost use Rattle.send_queue.specs.Held.{held_arrival, held_frame};
+ghost use Rattle.send_queue.specs.Queues.{LeaveFrom, Gives, IsNextTime, Leaves, Took, WaitsFor, all_queued, first_time, queued};
 
 use crate::outbox::Outbox;
 use air_source::{LinkFrame, Side};
@@ -27,11 +27,11 @@ pub struct SendQueue {
 impl Model for SendQueue {
     ghost use Rattle.std.specs.Prelude.{List};
     ghost use Rattle.air_source.specs.declared.links.LinkFrame.{LinkFrame};
-    ghost use Rattle.send_queue.specs.Waiting.{KeepsPlaces, frames_of};
+    ghost use Rattle.send_queue.specs.Waiting.{KeepsPlaces, waiting_frames};
 
     ghost Value = { List LinkFrame };
 
-    ghost view = { frames_of };
+    ghost view = { waiting_frames };
 
     ghost invariant = { KeepsPlaces };
 }
@@ -40,7 +40,7 @@ impl Model for SendQueue {
 fn arrival_of(number: u64, frame: LinkFrame) -> Arrival
     requires ep { frame.ep < 16 }
     requires number { number < 2 ^ 56 }
-    ensures { result ≡ arrival_of number frame }
+    ensures { result ≡ held_arrival number frame }
 {
     Arrival {
         side: Side::Du,
@@ -56,7 +56,7 @@ fn arrival_of(number: u64, frame: LinkFrame) -> Arrival
 
 /// The frame that a network holds so.
 fn frame_of(arrival: Arrival) -> LinkFrame
-    ensures { result ≡ frame_of arrival }
+    ensures { result ≡ held_frame arrival }
 {
     LinkFrame {
         at: arrival.at,
@@ -102,7 +102,7 @@ impl SendQueue {
         ensures emptied { OnOk result (outbox.new.frames ≡ []) }
         ensures pool { outbox.new.pool ≡ outbox.old.pool }
         ensures waits { (endpoints : ℕ) (now : ℤ) (handed : List SpecFrame)
-            → WaitsFor endpoints now handed self.old → AreOf endpoints outbox.old.frames → AreFrom now outbox.old.frames
+            → WaitsFor endpoints now handed self.old → AreOf endpoints outbox.old.frames → LeaveFrom now outbox.old.frames
             → OnOk result (WaitsFor endpoints now (handed ++ outbox.old.frames) self.new) }
     {
         while let Some(frame) = outbox.take_first() {

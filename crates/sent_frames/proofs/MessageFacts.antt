@@ -18,7 +18,6 @@ use Rattle.window_config.specs.declared.endpoints.EndpointConfig.{EndpointConfig
 use Rattle.window_config.specs.declared.plan.PlanLine.{PlanLine}
 use Rattle.schedule_laws.specs.unit_model.specs.Claims.{same_slot}
 use Rattle.schedule_laws.specs.unit_model.specs.Proper.{IsAt}
-use Rattle.schedule_laws.specs.unit_laws.proofs.CellLemmas.{slots_equal}
 use Rattle.schedule_laws.specs.unit_laws.proofs.FarLemmas.{endpoints_equal}
 use Rattle.schedule_laws.specs.plan_model.specs.Lines.{planned}
 use Rattle.schedule_laws.specs.plan_model.specs.Packs.{Message, Numbered, packs, parts_of, size_of}
@@ -36,7 +35,10 @@ use Rattle.schedule_laws.proofs.LineLemmas.{IsGoodLine, line_good, part_line}
 use Rattle.schedule_laws.proofs.OrderLemmas.{all_short, number_is, one_symbol}
 use Rattle.schedule_laws.proofs.PackLemmas.{message_from}
 use Rattle.schedule_laws.proofs.SentLemmas.{IsSentStream, message_part, part_is}
-use Rattle.sent_frames.specs.Messages.{Source, carrier_of, data_head, data_section, message_bytes, message_samples}
+use Rattle.sent_frames.specs.Messages.{Source, data_head, data_section, message_bytes, message_samples}
+use Rattle.fh_time.specs.declared.symbols.TheConstants.{SLOT_SYMBOLS}
+use Rattle.frame_bytes.specs.Headers.{carrier_of}
+use Rattle.schedule_laws.specs.unit_model.proofs.ClaimLemmas.{same_slot_is as slots_equal}
 
 -- a part of a message of an endpoint
 pub record IsGoodPart (c : Config) (ep : ℕ) (e : EndpointConfig) (x : Part) : Type 0 where
@@ -128,7 +130,7 @@ all_map P f (x ∷ xs) h = All-cons P (f x) (map f xs) (h x (inl refl)) (all_map
 pub below_four : (n : ℕ) → n < 10 → n < 2 ^ 4
 below_four n h = omega (arith, h)
 
-below_six : (n k : ℕ) → n < k → k ≤ 14 → n < 2 ^ 6
+below_six : (n k : ℕ) → n < k → k ≤ SLOT_SYMBOLS → n < 2 ^ 6
 below_six n k h l = omega (arith, h, l)
 
 module _ (c : Config) (ep : ℕ) (e : EndpointConfig) (m : Message Part) (g : IsGoodMessage c ep e m) (short : size_of part_fields m ≤ 16384) where

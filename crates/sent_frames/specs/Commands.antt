@@ -12,12 +12,9 @@ use Rattle.uplane_sections.specs.Writes.{udCompHdr}
 use Rattle.window_config.specs.declared.endpoints.EndpointConfig.{EndpointConfig}
 use Rattle.window_config.specs.declared.plan.PlanKind.{PlanKind}
 use Rattle.window_config.specs.declared.plan.PlanKind.TheVariants.{Down, Up, Idle}
-use Rattle.schedule_laws.specs.plan_model.specs.Lines.{is_down}
+use Rattle.schedule_laws.specs.plan_model.specs.Lines.{is_down_kind}
 use Rattle.schedule_laws.specs.plan_model.specs.declared.lines.PlannedLine.{PlannedLine}
-
--- frameId: the frame's low 8 bits
-abbrev pub frame_id_of : ℤ → ℕ
-frame_id_of frame = int_gap (pos 0) (int_rem_euclid frame (pos 256))
+use Rattle.frame_bytes.specs.Headers.{frame_id_of}
 
 -- udCompHdr: the endpoint's in an uplink command where the format is dynamic, else 0
 abbrev pub comp_of : Format → ℕ
@@ -37,7 +34,7 @@ body_for Idle e = body.Idle (time_offset_of e.numerology.kind) (code_of e.numero
 -- the application header: filterIndex 0, startSymbolId the line's symbol, one section
 abbrev pub command_head : PlannedLine → CHead
 command_head p = record {
-  down = is_down p.line.kind;
+  down = is_down_kind p.line.kind;
   filter = 0;
   frame_id = frame_id_of p.line.slot.frame;
   subframe = p.line.slot.subframe;

@@ -11,15 +11,12 @@ use Rattle.schedule_laws.specs.plan_model.specs.Streams.{Part}
 use Rattle.frame_bytes.specs.declared.messages.Carrier.{Carrier}
 use Rattle.frame_bytes.specs.declared.messages.DataSection.{DataSection}
 use Rattle.frame_bytes.specs.Messages.{message_of}
-use Rattle.sent_frames.specs.Commands.{frame_id_of}
+use Rattle.frame_bytes.specs.Headers.{frame_id_of}
+use Rattle.frame_bytes.specs.Headers.{carrier_of}
 
 -- the twelve samples of each cell
 abbrev pub Source : Type 0
 Source = Cell → List Iq
-
--- what an endpoint's messages have in common
-abbrev pub carrier_of : EndpointConfig → Carrier
-carrier_of e = record { format = e.format; prbs = e.prbs }
 
 -- the application header: dataDirection 1, filterIndex 0
 abbrev pub data_head : Part → UHead

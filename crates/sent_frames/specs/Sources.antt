@@ -14,8 +14,9 @@ use Rattle.frame_bytes.specs.Cuts.{piece_frame}
 use Rattle.frame_bytes.specs.Messages.{message_of, message_size}
 use Rattle.frame_bytes.specs.declared.messages.DataSection.{DataSection}
 use Rattle.schedule_laws.specs.plan_model.specs.Streams.{part_in}
-use Rattle.sent_frames.specs.Messages.{Source, carrier_of, data_head}
+use Rattle.sent_frames.specs.Messages.{Source, data_head}
 use Rattle.sent_frames.specs.declared.data.Fragment.{Fragment}
+use Rattle.frame_bytes.specs.Headers.{carrier_of}
 
 -- the eAxC id of the endpoint with this index
 abbrev pub id_at : List EndpointConfig → ℕ → ℕ

@@ -4,9 +4,10 @@ ghost use Rattle.bfp_codec.specs.Layout.{HasWidth};
 ghost use Rattle.cplane_sections.specs.Message.{HeadFits, SectionFits};
 ghost use Rattle.window_config.specs.Endpoints.{IsEndpoint};
 ghost use Rattle.window_config.specs.Plans.{IsPlanLine};
-ghost use Rattle.schedule_laws.specs.plan_model.specs.Lines.{is_down};
+ghost use Rattle.schedule_laws.specs.plan_model.specs.Lines.{is_down_kind};
 ghost use Rattle.frame_bytes.specs.Commands.{command_frame as frame_of_command};
-ghost use Rattle.sent_frames.specs.Commands.{beam_of, body_for, channel_body, command_head, command_section, comp_of, frame_id_of};
+ghost use Rattle.sent_frames.specs.Commands.{beam_of, body_for, channel_body, command_head, command_section, comp_of};
+ghost use Rattle.frame_bytes.specs.Headers.{frame_id_of};
 
 use bfp_codec::{Format, Method};
 use cplane_sections::{CBody, CHead, CSection};
@@ -85,7 +86,7 @@ fn beam_of(kind: PlanKind, beam: u16) -> u16
 
 /// Whether a line is for the downlink.
 fn is_down(kind: PlanKind) -> bool
-    ensures { result ≡ is_down kind }
+    ensures { result ≡ is_down_kind kind }
 {
     match kind {
         PlanKind::Down | PlanKind::Idle => true,

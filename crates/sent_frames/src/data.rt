@@ -11,8 +11,10 @@ ghost use Rattle.window_config.specs.Plans.{IsPlanLine};
 ghost use Rattle.schedule_laws.specs.plan_model.specs.Packs.{frames_for};
 ghost use Rattle.schedule_laws.specs.plan_model.specs.Streams.{part_in};
 ghost use Rattle.frame_bytes.specs.Messages.{MessageFits, message_size};
-ghost use Rattle.sent_frames.specs.Messages.{carrier_of, data_head, data_section};
+ghost use Rattle.sent_frames.specs.Messages.{data_head, data_section};
 ghost use Rattle.sent_frames.specs.Sources.{AreAnswersIn, data_frame, field_of};
+ghost use Rattle.fh_time.specs.declared.symbols.TheConstants.{SLOT_SYMBOLS};
+ghost use Rattle.frame_bytes.specs.Headers.{carrier_of};
 
 use crate::commands::frame_id_of;
 use bfp_codec::{Iq, Wide};
@@ -115,7 +117,7 @@ pub fn data_frame<F: Fn(RePlace) -> Wide>(
     into: &mut [u8],
 ) -> usize
     requires kept { IsKept F.pre F.post samples.now }
-    requires symbol { symbol < 14 }
+    requires symbol { symbol < SLOT_SYMBOLS }
     requires prbs { p.now.endpoint.prbs ≤ 273 }
     requires fits { MessageFits (carrier_of p.now.endpoint) (data_head (part_in symbol p.now)) sections.now }
     requires few { length sections.now ≤ 64 }
@@ -137,7 +139,7 @@ pub fn data_frame<F: Fn(RePlace) -> Wide>(
     let bytes = message_size(&message.carrier, sections);
     let source = |_: usize, prb: u16| -> [Iq; 12]
         requires kept { IsKept F.pre F.post samples.now }
-        requires symbol { symbol < 14 }
+        requires symbol { symbol < SLOT_SYMBOLS }
         requires prb { prb < 273 }
         ensures { (answer : SpecPlace → SpecWide) → AnswersBy (F.post (closure_of samples.entry.now)) answer
             → result ≡ block_of answer p.entry.now.endpoint.id p.entry.now.line.slot symbol prb }

@@ -6,15 +6,15 @@ use Rattle.bfp_codec.specs.Shrunk.{shrunk}
 use Rattle.bfp_codec.specs.declared.methods.Method.{Method}
 use Rattle.bfp_codec.specs.declared.samples.Iq.{Iq}
 use Rattle.bfp_codec.specs.declared.samples.Wide.{Wide}
-use Rattle.sent_frames.specs.uplane_sections.specs.Messages.{Item}
 use Rattle.sent_frames.specs.uplane_sections.specs.declared.values.UHead.{UHead}
-use Rattle.sent_frames.specs.unit_model.specs.Decoding.{Gathering, Part, gathered, with_item}
+use Rattle.sent_frames.specs.unit_model.specs.Decoding.{Gathering, SectionBlocks, gathered}
 use Rattle.sent_frames.specs.unit_model.specs.Lists.{onto}
 use Rattle.sent_frames.specs.unit_model.proofs.CountLemmas.{no_time}
 use Rattle.sent_frames.specs.frame_bytes.specs.Reading.{read_as, section_items, sections_items, shrunk_prbs}
 use Rattle.sent_frames.specs.frame_bytes.specs.declared.messages.Carrier.{Carrier}
 use Rattle.sent_frames.specs.frame_bytes.specs.declared.messages.DataSection.{DataSection}
 use Rattle.sent_laws.proofs.Fragments.{next_place}
+use Rattle.sent_frames.specs.unit_model.proofs.GatheringLemmas.{gathered-append as gathered_append}
 
 -- n shrunk blocks from a PRB on
 abbrev pub shrunk_blocks : Method → (ℕ → List Iq) → ℕ → ℕ → List (List Wide)
@@ -30,44 +30,39 @@ block_in method block prb (suc n) zero h = ap (λ j. shrunk method (block j)) (n
 block_in method block prb (suc n) (suc k) h = block_in method block (prb + 1) n k (one_less k n h) ∙ ap (λ j. shrunk method (block j)) (next_place prb k)
 
 -- a section as it is gathered
-abbrev pub read_part : Carrier → ℕ → (ℕ → List Iq) → DataSection → Part
+abbrev pub read_part : Carrier → ℕ → (ℕ → List Iq) → DataSection → SectionBlocks
 read_part c symbol block s = record { section = read_as c symbol s; blocks = shrunk_blocks c.format.method block (first_of s.start_prb s.num_prb) (count_of c.prbs s.num_prb) }
 
-abbrev pub read_parts : Carrier → ℕ → (ℕ → ℕ → List Iq) → ℕ → List DataSection → List Part
+abbrev pub read_parts : Carrier → ℕ → (ℕ → ℕ → List Iq) → ℕ → List DataSection → List SectionBlocks
 read_parts c symbol source place [] = []
 read_parts c symbol source place (s ∷ ss) = read_part c symbol (source place) s ∷ read_parts c symbol source (place + 1) ss
 
-abbrev gathering : Option UHead → List Part → Gathering
+abbrev gathering : Option UHead → List SectionBlocks → Gathering
 gathering head parts = record { head = head; parts = parts }
 
-gathered_append : (g : Gathering) (xs ys : List Item) → gathered g (xs ++ ys) ≡ gathered (gathered g xs) ys
-unfolding gathered
-gathered_append g [] ys = refl
-gathered_append g (x ∷ xs) ys = gathered_append (with_item g x) xs ys
-
-abbrev with_blocks : Part → List (List Wide) → Part
+abbrev with_blocks : SectionBlocks → List (List Wide) → SectionBlocks
 with_blocks p blocks = record { section = p.section; blocks = p.blocks ++ blocks }
 
-no_blocks : (p : Part) → p ≡ with_blocks p []
-no_blocks p = ap (λ (bs : List (List Wide)). let q : Part = record { section = p.section; blocks = bs } in q) (sym (append-nil p.blocks))
+no_blocks : (p : SectionBlocks) → p ≡ with_blocks p []
+no_blocks p = ap (λ (bs : List (List Wide)). let q : SectionBlocks = record { section = p.section; blocks = bs } in q) (sym (append-nil p.blocks))
 
-prbs_gathered : (head : Option UHead) (parts : List Part) (method : Method) (block : ℕ → List Iq) (prb n : ℕ) (p : Part)
+prbs_gathered : (head : Option UHead) (parts : List SectionBlocks) (method : Method) (block : ℕ → List Iq) (prb n : ℕ) (p : SectionBlocks)
     → gathered (gathering head (p ∷ parts)) (shrunk_prbs method block prb n) ≡ gathering head (with_blocks p (shrunk_blocks method block prb n) ∷ parts)
 unfolding gathered
-prbs_gathered head parts method block prb zero p = ap (λ (q : Part). gathering head (q ∷ parts)) (no_blocks p)
+prbs_gathered head parts method block prb zero p = ap (λ (q : SectionBlocks). gathering head (q ∷ parts)) (no_blocks p)
 prbs_gathered head parts method block prb (suc n) p =
     prbs_gathered head parts method block (prb + 1) n (with_blocks p (shrunk method (block prb) ∷ []))
-    ∙ ap (λ (bs : List (List Wide)). gathering head ((let q : Part = record { section = p.section; blocks = bs } in q) ∷ parts))
+    ∙ ap (λ (bs : List (List Wide)). gathering head ((let q : SectionBlocks = record { section = p.section; blocks = bs } in q) ∷ parts))
     (append_assoc p.blocks (shrunk method (block prb) ∷ []) (shrunk_blocks method block (prb + 1) n))
 
-section_gathered : (head : Option UHead) (parts : List Part) (c : Carrier) (symbol : ℕ) (block : ℕ → List Iq) (s : DataSection)
+section_gathered : (head : Option UHead) (parts : List SectionBlocks) (c : Carrier) (symbol : ℕ) (block : ℕ → List Iq) (s : DataSection)
     → gathered (gathering head parts) (section_items c symbol block s) ≡ gathering head (read_part c symbol block s ∷ parts)
 unfolding gathered
 section_gathered head parts c symbol block s =
     prbs_gathered head parts c.format.method block (first_of s.start_prb s.num_prb) (count_of c.prbs s.num_prb) (record { section = read_as c symbol s; blocks = [] })
 
 -- the newest first
-pub sections_gathered : (head : Option UHead) (parts : List Part) (c : Carrier) (symbol : ℕ) (source : ℕ → ℕ → List Iq) (place : ℕ) (ss : List DataSection)
+pub sections_gathered : (head : Option UHead) (parts : List SectionBlocks) (c : Carrier) (symbol : ℕ) (source : ℕ → ℕ → List Iq) (place : ℕ) (ss : List DataSection)
     → gathered (gathering head parts) (sections_items c symbol source place ss) ≡ gathering head (onto parts (read_parts c symbol source place ss))
 unfolding gathered onto
 sections_gathered head parts c symbol source place [] = refl

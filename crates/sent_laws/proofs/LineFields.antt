@@ -14,8 +14,6 @@ use Rattle.fh_time.specs.declared.spacing.Spacing.{Spacing}
 use Rattle.fh_time.specs.declared.spacing.Spacing.TheVariants.{Khz15, Khz30, Khz60, Khz120, Khz240, Khz1x25, Khz5}
 use Rattle.fh_time.proofs.Euclid.{rest_small}
 use Rattle.bfp_codec.specs.declared.methods.Format.{Format}
-use Rattle.bfp_codec.specs.declared.methods.Method.{Method}
-use Rattle.bfp_codec.specs.declared.methods.Method.TheVariants.{Plain, Bfp}
 use Rattle.cplane_sections.specs.Header.{kind_of}
 use Rattle.cplane_sections.specs.Message.{Admits, AreAdmitted}
 use Rattle.cplane_sections.specs.Words.{BodyFits}
@@ -26,13 +24,15 @@ use Rattle.sent_frames.specs.window_config.specs.declared.plan.PlanKind.TheVaria
 use Rattle.sent_frames.specs.unit_model.specs.Commands.{has_no_offsets, has_offsets, is_for, is_idle}
 use Rattle.sent_frames.specs.unit_model.proofs.SweepLaws.{gap_is}
 use Rattle.sent_frames.specs.unit_model.proofs.CountLemmas.{no_time}
-use Rattle.sent_frames.specs.plan_model.specs.Lines.{is_idle as is_idle_line}
+use Rattle.sent_frames.specs.plan_model.specs.Lines.{is_idle_kind as is_idle_line}
 use Rattle.sent_frames.specs.plan_model.specs.declared.lines.PlannedLine.{PlannedLine}
 use Rattle.sent_frames.specs.schedule_laws.proofs.LineLemmas.{IsGoodLine}
 use Rattle.sent_frames.specs.schedule_laws.proofs.TimeLemmas.{id_below, first_less}
 use Rattle.sent_frames.specs.frame_bytes.specs.Commands.{IsCommand}
-use Rattle.sent_frames.specs.Commands.{beam_of, body_for, channel_body, command_head, command_section, comp_of, frame_id_of}
+use Rattle.sent_frames.specs.Commands.{beam_of, body_for, channel_body, command_head, command_section, comp_of}
 use Rattle.sent_frames.proofs.MessageFacts.{below_four}
+use Rattle.sent_frames.specs.frame_bytes.specs.Headers.{frame_id_of}
+use Rattle.sent_frames.specs.frame_bytes.proofs.ReadBack.{hdr_small as header_small}
 
 -- ---- the frame's low 8 bits
 
@@ -64,10 +64,6 @@ kind_small Extended = omega arith
 
 in_byte : (n : ℕ) → n < 16 → n < 2 ^ 8
 in_byte n h = omega (arith, h)
-
-header_small : (m : Method) → udCompHdr m < 2 ^ 8
-header_small Plain = omega arith
-header_small (Bfp w) = omega arith
 
 comp_small : (f : Format) → comp_of f < 2 ^ 8
 comp_small f = go f.dynamic

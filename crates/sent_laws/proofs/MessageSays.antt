@@ -18,13 +18,12 @@ use Rattle.sent_frames.specs.fragment_laws.specs.Apart.{IsIn}
 use Rattle.sent_frames.specs.window_config.specs.declared.config.Config.{Config}
 use Rattle.sent_frames.specs.window_config.specs.declared.endpoints.EndpointConfig.{EndpointConfig}
 use Rattle.sent_frames.specs.unit_model.specs.Claims.{cell_at, first_prb, is_from, prb_count}
-use Rattle.sent_frames.specs.unit_model.specs.Decoding.{Gathering, Part as ReadPart, Sections, data_with, decode, decoded_from, gathered, nothing_told}
+use Rattle.sent_frames.specs.unit_model.specs.Decoding.{Gathering, SectionBlocks as ReadPart, Sections, data_with, decode, decoded_from, gathered, nothing_told}
 use Rattle.sent_frames.specs.unit_model.specs.Lists.{onto}
 use Rattle.sent_frames.specs.unit_model.specs.declared.decoded.UserSection.{UserSection}
-use Rattle.sent_frames.specs.plan_model.specs.Lines.{allocation_of}
+use Rattle.sent_frames.specs.plan_model.specs.Lines.{line_allocation}
 use Rattle.sent_frames.specs.plan_model.specs.Packs.{Message, parts_of, size_of}
 use Rattle.sent_frames.specs.plan_model.specs.Streams.{Part, part_fields}
-use Rattle.sent_frames.specs.plan_model.proofs.RangeLemmas.{from_high, from_low}
 use Rattle.sent_frames.specs.frame_bytes.specs.Messages.{head_fields, message_of, sections_of}
 use Rattle.sent_frames.specs.frame_bytes.specs.Reading.{IsReadable, sections_items}
 use Rattle.sent_frames.specs.frame_bytes.specs.Spelled.{in_bytes}
@@ -33,12 +32,14 @@ use Rattle.sent_frames.specs.frame_bytes.specs.declared.messages.DataSection.{Da
 use Rattle.sent_frames.specs.frame_bytes.proofs.ReadBack.{head_written, sections_say}
 use Rattle.sent_frames.specs.schedule_laws.specs.Data.{AreSections, Blocks, IsDataFor}
 use Rattle.sent_frames.specs.schedule_laws.proofs.ListLemmas.{at_in}
-use Rattle.sent_frames.specs.Commands.{frame_id_of}
 use Rattle.sent_laws.specs.Frames.{blocks_of}
-use Rattle.sent_frames.specs.Messages.{Source, carrier_of, data_head, data_section, message_bytes, message_samples, part_samples}
+use Rattle.sent_frames.specs.Messages.{Source, data_head, data_section, message_bytes, message_samples, part_samples}
 use Rattle.sent_laws.proofs.Gathered.{block_in, read_part, read_parts, sections_gathered, shrunk_blocks}
 use Rattle.sent_laws.proofs.LineFields.{at_most_nine, frame_id_is, frame_id_small}
 use Rattle.sent_frames.proofs.MessageFacts.{IsGoodMessage, IsGoodPart, all_map, message_fits}
+use Rattle.sent_frames.specs.frame_bytes.specs.Headers.{frame_id_of}
+use Rattle.sent_frames.specs.frame_bytes.specs.Headers.{carrier_of}
+use Rattle.sent_frames.specs.unit_model.proofs.ClaimLemmas.{starts_before as from_low, from_within as from_high}
 
 -- ---- what is told
 
@@ -153,13 +154,13 @@ module _ (c : Config) (ep : ℕ) (e : EndpointConfig) (source : Source) (m : Mes
       ap (λ o. option_map_or (λ (f : EndpointConfig). shrunk f.format.method (source cell)) o []) p.line.at
       ∙ ap (λ (f : EndpointConfig). shrunk f.format.method (source cell)) p.endpoint_is
 
-  samples_are : (k : ℕ) (x : Part) → slice_get (parts_of m) k ≡ Some x → (n : ℕ) → is_from (first_prb (allocation_of x.planned)) (prb_count (allocation_of x.planned)) n ≡ true
-      → slice_index_or (shrunk_blocks e.format.method (message_samples source m k) (first_prb (allocation_of x.planned)) (count_of e.prbs x.planned.line.num_prb)) (n - first_prb (allocation_of x.planned)) []
+  samples_are : (k : ℕ) (x : Part) → slice_get (parts_of m) k ≡ Some x → (n : ℕ) → is_from (first_prb (line_allocation x.planned)) (prb_count (line_allocation x.planned)) n ≡ true
+      → slice_index_or (shrunk_blocks e.format.method (message_samples source m k) (first_prb (line_allocation x.planned)) (count_of e.prbs x.planned.line.num_prb)) (n - first_prb (line_allocation x.planned)) []
       ≡ blocks_of c source (cell_at x.planned.ep true x.planned.line.slot x.symbol n)
   samples_are k x got n h =
       let i = at_in k x (parts_of m) got in
-      let first = first_prb (allocation_of x.planned) in
-      let count = prb_count (allocation_of x.planned) in
+      let first = first_prb (line_allocation x.planned) in
+      let count = prb_count (line_allocation x.planned) in
       let low = from_low first count n h in
       let same : count ≡ count_of e.prbs x.planned.line.num_prb = ap (λ (f : EndpointConfig). count_of f.prbs x.planned.line.num_prb) (g.each x i).endpoint_is in
       let inside = subst (λ j. n - first < j) same (in_count first count n low (from_high first count n h)) in

@@ -9,7 +9,7 @@ use Rattle.sent_frames.specs.window_config.specs.declared.plan.PlanLine.{PlanLin
 use Rattle.sent_frames.specs.unit_model.specs.Meetings.{Arrival, met_in}
 use Rattle.sent_frames.specs.plan_model.specs.Lines.{planned}
 use Rattle.sent_frames.specs.plan_model.specs.Sent.{SentFrame, sent}
-use Rattle.sent_frames.specs.schedule_laws.specs.Least.{arrival_of}
+use Rattle.sent_frames.specs.schedule_laws.specs.Least.{least_arrival}
 use Rattle.sent_frames.specs.schedule_laws.specs.Premise.{AllArrive, IsCopyOf, IsReadBy}
 use Rattle.sent_frames.specs.schedule_laws.proofs.CellLemmas.{plan_radiates}
 use Rattle.sent_frames.specs.schedule_laws.proofs.LeastLemmas.{least_arrive, least_is, least_under}
@@ -26,7 +26,7 @@ module _ (c : Config) (lines : List PlanLine) (source : Source) (s : IsSendable 
   pub copy_is : (f : SentFrame) (a : Arrival) → IsIn f (sent c (planned c.endpoints lines)) → IsSentCopy c source f a → IsCopyOf c (texts_of c (planned c.endpoints lines) source) f a
   copy_is f a m copy =
       let text = texts_of c (planned c.endpoints lines) source in
-      let same : a ≡ arrival_of (sent_bytes c source) f a.at = ap (λ (bytes : List ℕ). let b : Arrival = record { at = a.at; frame = bytes } in b) copy.bytes in
+      let same : a ≡ least_arrival (sent_bytes c source) f a.at = ap (λ (bytes : List ℕ). let b : Arrival = record { at = a.at; frame = bytes } in b) copy.bytes in
       record {
         from = copy.from;
         to = copy.to;
@@ -58,7 +58,7 @@ pub least_come : LeastCopiesArrive
 least_come c lines source s check =
     let ps = planned c.endpoints lines in
     let k = ticks_of_ns c.delays.t12.min in
-    let come = λ (f : SentFrame). arrival_of (sent_bytes c source) f (f.at +ℤ k) in
+    let come = λ (f : SentFrame). least_arrival (sent_bytes c source) f (f.at +ℤ k) in
     let copy = λ (f : SentFrame). (let w : IsSentCopy c source f (come f) = record { from = least_is f.at k; to = least_under f.at c.delays.t12.min c.delays.t12.max s.config.delays.t12.order; bytes = refl } in w) in
     record {
       check = check;

@@ -38,7 +38,7 @@ use Rattle.sent_frames.specs.frame_bytes.proofs.CommandFields.{head_width, secti
 use Rattle.sent_frames.specs.frame_bytes.proofs.Fields.{length-in_bytes}
 use Rattle.sent_frames.specs.schedule_laws.specs.Data.{IsDecoded}
 use Rattle.sent_frames.specs.schedule_laws.specs.Flows.{messages_at}
-use Rattle.sent_frames.specs.schedule_laws.specs.Least.{AreReadable, arrival_of}
+use Rattle.sent_frames.specs.schedule_laws.specs.Least.{AreReadable, least_arrival}
 use Rattle.sent_frames.specs.schedule_laws.specs.Premise.{IsReadAsCommand, IsReadBy, fragment_at}
 use Rattle.sent_frames.specs.schedule_laws.proofs.FoundLemmas.{found}
 use Rattle.sent_frames.specs.schedule_laws.proofs.ListLemmas.{at_in, in_all}
@@ -115,7 +115,7 @@ module _ (c : Config) (lines : List PlanLine) (source : Source) (s : IsSendable 
       (command_back (shape_of p.endpoint.numerology) (command_head p) (command_section p) (line_command c.endpoints p g.line num) (line_admitted c.endpoints p g.line))
 
   command_case : (f : SentFrame) (at : ℤ) → IsAt c.endpoints f.ep f.endpoint → IsGoodPart c f.ep f.endpoint f.message.first → f.message.first.planned.line.num_prb < 2 ^ 8
-      → IsReadAsCommand f (arrival_of (sent_bytes c source) f at) (met_in Ru c.endpoints at (whole_messages (command_bytes f)))
+      → IsReadAsCommand f (least_arrival (sent_bytes c source) f at) (met_in Ru c.endpoints at (whole_messages (command_bytes f)))
   command_case f at here g num =
       let p = f.message.first.planned in
       let h = command_head p in
@@ -182,7 +182,7 @@ module _ (c : Config) (lines : List PlanLine) (source : Source) (s : IsSendable 
       (part_num f.stream w.is_sent f.ep f.endpoint w.n w.n.message.first w.there (inl refl))
 
   read_by : (f : SentFrame) (at : ℤ) (w : IsOfMessage c ps f) (stream : Stream) → f.stream ≡ stream
-      → IsReadBy stream c (texts_of c ps source) f (arrival_of (sent_bytes c source) f at) (met_in Ru c.endpoints at (whole_messages (bytes_in stream c source f)))
+      → IsReadBy stream c (texts_of c ps source) f (least_arrival (sent_bytes c source) f at) (met_in Ru c.endpoints at (whole_messages (bytes_in stream c source f)))
   read_by f at w DownCommands is = command_case f at w.at (first_good f w) (first_num f w)
   read_by f at w UpCommands is = command_case f at w.at (first_good f w) (first_num f w)
   read_by f at w DownData is =

@@ -11,7 +11,7 @@ use Rattle.sent_frames.specs.unit_model.specs.Claims.{cell_of, names}
 use Rattle.sent_frames.specs.unit_model.specs.Meetings.{Arrival}
 use Rattle.sent_frames.specs.unit_model.specs.Reports.{ru_reported}
 use Rattle.sent_frames.specs.unit_model.specs.Standing.{same_cell}
-use Rattle.sent_frames.specs.plan_model.specs.Lines.{allocation_of, planned}
+use Rattle.sent_frames.specs.plan_model.specs.Lines.{line_allocation, planned}
 use Rattle.sent_frames.specs.plan_model.specs.Sent.{SentFrame, sent}
 use Rattle.sent_frames.specs.plan_model.specs.declared.lines.PlannedLine.{PlannedLine}
 use Rattle.sent_frames.specs.schedule_laws.specs.Cells.{planned_air}
@@ -49,8 +49,8 @@ abbrev pub SentCellRadiatesOnce : Type 0
 SentCellRadiatesOnce =
     (c : Config) (lines : List PlanLine) (source : Source) (arrivals : List Arrival) → IsSendable c lines source
     → CopiesArrive c (planned c.endpoints lines) source arrivals
-    → (p : PlannedLine) (symbol prb re : ℕ) (to : ℤ) → IsIn p (planned c.endpoints lines) → (allocation_of p).down ≡ true → (allocation_of p).idle ≡ false → re < 12
-    → names (allocation_of p) (cell_of (allocation_of p) symbol prb) re ≡ true → air_of p.endpoint.numerology p.line.slot symbol ≤ℤ to
+    → (p : PlannedLine) (symbol prb re : ℕ) (to : ℤ) → IsIn p (planned c.endpoints lines) → (line_allocation p).down ≡ true → (line_allocation p).idle ≡ false → re < 12
+    → names (line_allocation p) (cell_of (line_allocation p) symbol prb) re ≡ true → air_of p.endpoint.numerology p.line.slot symbol ≤ℤ to
     → filter (same_cell (event_of (blocks_of c source) (planned c.endpoints lines) p symbol prb)) (ru_reported c arrivals to)
     ≡ event_of (blocks_of c source) (planned c.endpoints lines) p symbol prb ∷ []
 

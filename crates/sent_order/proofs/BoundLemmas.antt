@@ -16,7 +16,7 @@ use Rattle.schedule_laws.specs.unit_model.specs.Radiated.{first_clock}
 use Rattle.schedule_laws.specs.unit_model.specs.Times.{end_of_time}
 use Rattle.schedule_laws.specs.unit_model.proofs.SweepLaws.{gap_is}
 use Rattle.schedule_laws.specs.unit_laws.proofs.FarLemmas.{endpoints_equal}
-use Rattle.schedule_laws.specs.plan_model.specs.Departures.{departures_of, sending_window, sent_at, start_of, width_of}
+use Rattle.schedule_laws.specs.plan_model.specs.Departures.{departures_of, sending_window, sent_at, start_of_part, width_of}
 use Rattle.schedule_laws.specs.plan_model.specs.Lines.{planned}
 use Rattle.schedule_laws.specs.plan_model.specs.Packs.{Numbered}
 use Rattle.schedule_laws.specs.plan_model.specs.Sent.{SentFrame, endpoint_frames, frames_from, stream_frames}
@@ -28,8 +28,10 @@ use Rattle.schedule_laws.specs.plan_model.specs.declared.streams.Stream.TheVaria
 use Rattle.schedule_laws.specs.plan_model.proofs.ListLemmas.{in_either}
 use Rattle.schedule_laws.proofs.LineLemmas.{good, part_line, start_in_time}
 use Rattle.schedule_laws.proofs.SentLemmas.{IsSentStream, message_part, part_is}
-use Rattle.schedule_laws.proofs.TimeLemmas.{in_time, wait_most, in_ticks}
+use Rattle.schedule_laws.proofs.TimeLemmas.{in_time, wait_most}
 use Rattle.sent_order.proofs.KeptLemmas.{of_message, of_messages}
+use Rattle.fh_time.specs.declared.frames.TheConstants.{FRAME}
+use Rattle.window_config.proofs.TickLemmas.{in_ticks}
 
 abbrev pub IsInTime : ℤ → Type 0
 IsInTime t = (first_clock ≤ℤ t) × (t <ℤ (first_clock +ℤ pos (int_gap first_clock (end_of_time +ℤ pos 1))))
@@ -51,7 +53,7 @@ module _ (c : Config) (lines : List PlanLine) (config : IsConfig c) (fit : All I
   most_before UpData s = absurd s
 
   leaves : (stream : Stream) → IsSentStream stream → (n : Numbered Part) (sub : ℕ)
-      → sent_at c stream n sub ≡ (start_of n.message.first +ℤ neg_ℤ (ticks_of_ns (sending_window c.delays stream).max))
+      → sent_at c stream n sub ≡ (start_of_part n.message.first +ℤ neg_ℤ (ticks_of_ns (sending_window c.delays stream).max))
       +ℤ pos (min ((n.before + sub) * (departures_of c stream).gap) (width_of (sending_window c.delays stream)))
   leaves DownCommands s n sub = refl
   leaves UpCommands s n sub = refl
@@ -60,7 +62,7 @@ module _ (c : Config) (lines : List PlanLine) (config : IsConfig c) (fit : All I
 
   -- a part's symbol starts in the first 1,001 s, no earlier than frame 1
   pub part_time : (stream : Stream) → IsSentStream stream → (ep : ℕ) (e : EndpointConfig) → IsAt c.endpoints ep e → (x : Part) → IsIn x (parts_in ps stream ep e)
-      → (pos 15360000000 ≤ℤ start_of x) × (start_of x ≤ℤ pos 1536100000000000)
+      → (FRAME ≤ℤ start_of_part x) × (start_of_part x ≤ℤ pos 1536100000000000)
   part_time stream s ep e at x m =
       let part = part_is ps stream s ep e x m in
       let place = part_line stream s x.planned ep part.slot x.symbol part.has in
@@ -76,9 +78,9 @@ module _ (c : Config) (lines : List PlanLine) (config : IsConfig c) (fit : All I
       let window = sending_window c.delays stream in
       let most = most_before stream s in
       let wait = min ((n.before + sub) * (departures_of c stream).gap) (width_of window) in
-      let clock = in_time (start_of x) window.min window.max wait (width_of window) time.0 time.1 most.1 most.2 most.0
+      let clock = in_time (start_of_part x) window.min window.max wait (width_of window) time.0 time.1 most.1 most.2 most.0
       (gap_is (ticks_of_ns window.min) (ticks_of_ns window.max) (in_ticks window.min window.max most.0)) (wait_most (n.before + sub) (departures_of c stream).gap (width_of window)) in
-      subst IsInTime (sym (leaves stream s n sub)) (to_end ((start_of x +ℤ neg_ℤ (ticks_of_ns window.max)) +ℤ pos wait) clock.0 clock.1)
+      subst IsInTime (sym (leaves stream s n sub)) (to_end ((start_of_part x +ℤ neg_ℤ (ticks_of_ns window.max)) +ℤ pos wait) clock.0 clock.1)
 
   stream_time : (stream : Stream) → IsSentStream stream → (ep : ℕ) (e : EndpointConfig) → IsAt c.endpoints ep e → (f : SentFrame) → IsIn f (stream_frames c ps stream ep e) → IsInTime f.at
   stream_time stream s ep e at f m =

@@ -12,10 +12,7 @@ use Rattle.frame_order.specs.Turns.{is_turn, times}
 use Rattle.frame_order.specs.declared.turns.Turn.{Turn}
 use Rattle.sent_order.specs.Runs.{turn_of}
 use Rattle.sent_order.proofs.KeptLemmas.{at_time}
-
-pub times-append : (t : Turn) (xs ys : List Turn) → times t (xs ++ ys) ≡ times t xs + times t ys
-times-append t [] ys = omega arith
-times-append t (x ∷ xs) ys = let r = times-append t xs ys in omega arith
+use Rattle.frame_order.proofs.Left.{times-append}
 
 ticks_none : (from : ℤ) (count : ℕ) → each_tick from count (at_time []) ≡ []
 unfolding each_tick

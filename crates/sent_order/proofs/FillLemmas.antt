@@ -13,7 +13,7 @@ use Rattle.frame_order.specs.TurnLaws.{turn_total}
 use Rattle.frame_order.proofs.TurnOrder.{up_chain}
 use Rattle.sent_order.specs.Filling.{IsFilled}
 use Rattle.sent_order.specs.Runs.{rests_of}
-use Rattle.sent_order.proofs.CountLemmas.{times-append}
+use Rattle.frame_order.proofs.Left.{times-append}
 
 -- ---- a list in order, of two
 

@@ -5,7 +5,7 @@ use Rattle.std.specs.List.{AllByRecursion}
 use Rattle.std.specs.Ordering.{int_eq, int_cmp, nat_cmp, ordering_then, is_gt}
 use Rattle.std.specs.declared.cmp.Ordering.{Ordering}
 use Rattle.std.specs.declared.cmp.Ordering.TheVariants.{Less, Equal}
-use Rattle.std.proofs.lemmas.Bool.Decides.{nat_tests, Decides-int_eq}
+use Rattle.std.proofs.lemmas.Bool.Decides.{Decides-int_eq}
 use Rattle.std.proofs.lemmas.Int.{ints}
 use Rattle.fragment_laws.specs.Apart.{IsIn}
 use Rattle.window_config.specs.declared.config.Config.{Config}
@@ -21,7 +21,8 @@ use Rattle.schedule_laws.specs.plan_model.proofs.ListLemmas.{in_either, of_filte
 use Rattle.schedule_laws.specs.plan_model.proofs.TickLemmas.{nat_same, int_same}
 use Rattle.frame_order.specs.Turns.{AreRising, IsUpTo}
 use Rattle.schedule_laws.proofs.ListLemmas.{of_each, of_joined, of_map}
-use Rattle.sent_order.specs.Runs.{place_of, turn_of}
+use Rattle.sent_order.specs.Runs.{stream_place, turn_of}
+use Rattle.fh_time.proofs.Orders.{nat_up, nat_less, int_less}
 
 -- ---- lists in which each stands so to all behind it
 
@@ -48,17 +49,8 @@ kept_filter {X = X} R p (x ∷ xs) h = go (p x) (kept_filter R p xs h.1)
 
 -- by endpoint, stream, number and subsequence
 abbrev pub IsBehind : SentFrame → SentFrame → Type 0
-IsBehind f g = (f.ep < g.ep) ⊎ ((f.ep ≡ g.ep) × ((place_of f.stream < place_of g.stream) ⊎ ((place_of f.stream ≡ place_of g.stream)
+IsBehind f g = (f.ep < g.ep) ⊎ ((f.ep ≡ g.ep) × ((stream_place f.stream < stream_place g.stream) ⊎ ((stream_place f.stream ≡ stream_place g.stream)
     × ((f.number < g.number) ⊎ ((f.number ≡ g.number) × (f.sub ≤ g.sub))))))
-
-pub nat_less : (x y : ℕ) → x < y → nat_cmp x y ≡ Less
-nat_less x y h = grind (arith, nat_tests)
-
-nat_up : (x y : ℕ) → x ≤ y → is_gt (nat_cmp x y) ≡ false
-nat_up x y h = grind (arith, nat_tests)
-
-int_less : (x y : ℤ) → x <ℤ y → int_cmp x y ≡ Less
-int_less x y h = grind (arith, ints, nat_tests)
 
 first_less : (o q : Ordering) → o ≡ Less → is_gt (ordering_then o q) ≡ false
 first_less o q e = rw e refl
@@ -80,7 +72,7 @@ up_behind f g e h =
       | inl l ↦ inl l
       | inr r ↦ inr (
         r.0,
-        step (place_of f.stream) (place_of g.stream) _ (elim r.1 [
+        step (stream_place f.stream) (stream_place g.stream) _ (elim r.1 [
           | inl l ↦ inl l
           | inr s ↦ inr (
             s.0,
@@ -170,9 +162,9 @@ module _ (c : Config) (ps : List PlannedLine) where
       let x = of_message c stream ep e w.0 f w.2 in
       record { ep_is = ap (λ (z : SentFrame). z.ep) x.2; stream_is = ap (λ (z : SentFrame). z.stream) x.2 }
 
-  streams_behind : (a b : Stream) (ep : ℕ) (f g : SentFrame) → place_of a < place_of b → IsOfStream a ep f → IsOfStream b ep g → IsBehind f g
+  streams_behind : (a b : Stream) (ep : ℕ) (f g : SentFrame) → stream_place a < stream_place b → IsOfStream a ep f → IsOfStream b ep g → IsBehind f g
   streams_behind a b ep f g h x y =
-      inr (x.ep_is ∙ sym y.ep_is, inl (subst (λ (s : Stream). place_of s < place_of g.stream) (sym x.stream_is) (subst (λ (s : Stream). place_of a < place_of s) (sym y.stream_is) h)))
+      inr (x.ep_is ∙ sym y.ep_is, inl (subst (λ (s : Stream). stream_place s < stream_place g.stream) (sym x.stream_is) (subst (λ (s : Stream). stream_place a < stream_place s) (sym y.stream_is) h)))
 
   endpoint_kept : (ep : ℕ) (e : EndpointConfig) → AreKept IsBehind (endpoint_frames c ps ep e)
   endpoint_kept ep e =

@@ -13,7 +13,7 @@ use Rattle.window_config.specs.declared.endpoints.EndpointConfig.{EndpointConfig
 use Rattle.window_config.specs.declared.plan.PlanLine.{PlanLine}
 use Rattle.schedule_laws.specs.unit_model.specs.Proper.{IsAt}
 use Rattle.schedule_laws.specs.unit_model.proofs.SweepLaws.{gap_is}
-use Rattle.schedule_laws.specs.plan_model.specs.Departures.{departures_of, sending_window, start_of, width_of}
+use Rattle.schedule_laws.specs.plan_model.specs.Departures.{departures_of, sending_window, start_of_part, width_of}
 use Rattle.schedule_laws.specs.plan_model.specs.Lines.{planned}
 use Rattle.schedule_laws.specs.plan_model.specs.Packs.{Numbered, frames_for, packs, size_of}
 use Rattle.schedule_laws.specs.plan_model.specs.Streams.{Part, frames_in, messages_of, part_fields, parts_in}
@@ -28,9 +28,9 @@ use Rattle.schedule_laws.proofs.LineLemmas.{good}
 use Rattle.schedule_laws.proofs.OrderLemmas.{all_short}
 use Rattle.schedule_laws.proofs.PackLemmas.{message_from}
 use Rattle.schedule_laws.proofs.SentLemmas.{IsSentStream, message_part, part_is}
-use Rattle.schedule_laws.proofs.TimeLemmas.{in_ticks}
 use Rattle.sent_order.specs.Runs.{MessagesAreRuns, endpoint_runs, latest, run_of, runs_from, stream_runs}
 use Rattle.sent_order.proofs.BoundLemmas.{most_before, part_time}
+use Rattle.window_config.proofs.TickLemmas.{in_ticks}
 
 few_frames : (fragment size : ℕ) → 128 ≤ fragment → size ≤ 16384 → frames_for fragment size ≤ 128
 few_frames fragment size h k =
@@ -73,7 +73,7 @@ module _ (c : Config) (lines : List PlanLine) (config : IsConfig c) (fit : All I
   few UpData s ep e n m = absurd s
 
   latest_is : (stream : Stream) → IsSentStream stream → (n : Numbered Part)
-      → latest c stream n ≡ (start_of n.message.first +ℤ neg_ℤ (ticks_of_ns (sending_window c.delays stream).max)) +ℤ pos (width_of (sending_window c.delays stream))
+      → latest c stream n ≡ (start_of_part n.message.first +ℤ neg_ℤ (ticks_of_ns (sending_window c.delays stream).max)) +ℤ pos (width_of (sending_window c.delays stream))
   latest_is DownCommands s n = refl
   latest_is UpCommands s n = refl
   latest_is DownData s n = refl
@@ -89,9 +89,9 @@ module _ (c : Config) (lines : List PlanLine) (config : IsConfig c) (fit : All I
       record {
         some = some stream s n;
         subs = few stream s ep e n m;
-        order = time_order (start_of x +ℤ d.from.0) ((n.before + 0) * d.gap) d.spread;
+        order = time_order (start_of_part x +ℤ d.from.0) ((n.before + 0) * d.gap) d.spread;
         bound = subst (λ (t : ℤ). t <ℤ pos (2 ^ 62)) (sym (latest_is stream s n))
-            (time_bound (start_of x) window.min window.max (width_of window) time.1 most.2 most.0 most.1
+            (time_bound (start_of_part x) window.min window.max (width_of window) time.1 most.2 most.0 most.1
             (gap_is (ticks_of_ns window.min) (ticks_of_ns window.max) (in_ticks window.min window.max most.0)));
       }
 

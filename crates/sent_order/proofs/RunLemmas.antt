@@ -4,7 +4,7 @@ use Rattle.std.proofs.lemmas.List.{map-append}
 use Rattle.window_config.specs.declared.config.Config.{Config}
 use Rattle.window_config.specs.declared.endpoints.EndpointConfig.{EndpointConfig}
 use Rattle.schedule_laws.specs.unit_model.specs.Lists.{each, joined}
-use Rattle.schedule_laws.specs.plan_model.specs.Departures.{departures_of, sent_at, start_of}
+use Rattle.schedule_laws.specs.plan_model.specs.Departures.{departures_of, sent_at, start_of_part}
 use Rattle.schedule_laws.specs.plan_model.specs.Packs.{Numbered}
 use Rattle.schedule_laws.specs.plan_model.specs.Sent.{SentFrame, endpoint_frames, frame_of, frames_from, message_frames, stream_frames}
 use Rattle.schedule_laws.specs.plan_model.specs.Streams.{Part, frames_in, messages_of}
@@ -15,7 +15,7 @@ use Rattle.frame_order.specs.Turns.{leaves, rest_of, turn_at, turns}
 use Rattle.frame_order.specs.declared.turns.Turn.{Turn}
 use Rattle.frame_order.specs.declared.turns.Run.{Run}
 use Rattle.frame_order.proofs.TurnOrder.{leaves_in_time}
-use Rattle.sent_order.specs.Runs.{endpoint_runs, gap_ticks, place_of, rests_of, run_of, runs_from, stream_runs, turn_of}
+use Rattle.sent_order.specs.Runs.{endpoint_runs, gap_ticks, stream_place, rests_of, run_of, runs_from, stream_runs, turn_of}
 
 made : ℤ → ℕ → ℕ → ℕ → ℕ → Turn
 made at endpoint stream number sub = record { at = record { 0 = at }; endpoint = endpoint; stream = stream; number = number; sub = sub }
@@ -28,11 +28,11 @@ turn_is : (c : Config) (stream : Stream) (ep : ℕ) (e : EndpointConfig) (n : Nu
 unfolding made
 turn_is c stream ep e n k =
     let d = departures_of c stream in
-    let start = start_of n.message.first +ℤ d.from.0 in
+    let start = start_of_part n.message.first +ℤ d.from.0 in
     let time : leaves (gap_ticks c) (run_of c stream ep n) k ≡ sent_at c stream n k =
     leaves_in_time (gap_ticks c) (run_of c stream ep n) start d.spread n.before k (first_at start n.before d.gap d.spread) refl in
     let sub : 0 + k ≡ k = omega arith in
-    ap₂ (λ at s. made at ep (place_of stream) n.number s) time sub
+    ap₂ (λ at s. made at ep (stream_place stream) n.number s) time sub
 
 turns_are : (c : Config) (stream : Stream) (ep : ℕ) (e : EndpointConfig) (n : Numbered Part) (k count : ℕ)
     → turns (gap_ticks c) (run_of c stream ep n) k count ≡ map turn_of (each k count (λ sub. frame_of c stream ep e n sub ∷ []))

@@ -8,7 +8,7 @@ use Rattle.window_config.specs.declared.config.Config.{Config}
 use Rattle.window_config.specs.declared.endpoints.EndpointConfig.{EndpointConfig}
 use Rattle.window_config.specs.declared.plan.PlanLine.{PlanLine}
 use Rattle.schedule_laws.specs.unit_model.specs.Lists.{joined}
-use Rattle.schedule_laws.specs.plan_model.specs.Departures.{departures_of, sent_at, start_of}
+use Rattle.schedule_laws.specs.plan_model.specs.Departures.{departures_of, sent_at, start_of_part}
 use Rattle.schedule_laws.specs.plan_model.specs.Lines.{planned}
 use Rattle.schedule_laws.specs.plan_model.specs.Packs.{Numbered}
 use Rattle.schedule_laws.specs.plan_model.specs.Sent.{SentFrame, sent}
@@ -22,15 +22,15 @@ use Rattle.frame_order.specs.declared.turns.Run.{Run}
 use Rattle.frame_order.specs.declared.turns.Turn.{Turn}
 
 -- the place of a stream among those of its endpoint
-abbrev pub place_of : Stream → ℕ
-place_of DownCommands = 0
-place_of UpCommands = 1
-place_of DownData = 2
-place_of UpData = 3
+abbrev pub stream_place : Stream → ℕ
+stream_place DownCommands = 0
+stream_place UpCommands = 1
+stream_place DownData = 2
+stream_place UpData = 3
 
 -- a frame, as the order sees it
 abbrev pub turn_of : SentFrame → Turn
-turn_of f = record { at = record { 0 = f.at }; endpoint = f.ep; stream = place_of f.stream; number = f.number; sub = f.sub }
+turn_of f = record { at = record { 0 = f.at }; endpoint = f.ep; stream = stream_place f.stream; number = f.number; sub = f.sub }
 
 -- the gap between the frames of a symbol, in ticks
 abbrev pub gap_ticks : Config → ℕ
@@ -38,12 +38,12 @@ gap_ticks c = int_gap (pos 0) (ticks_of_ns c.gap)
 
 -- when the frames of a message's symbol leave at the latest
 abbrev pub latest : Config → Stream → Numbered Part → ℤ
-latest c stream n = (start_of n.message.first +ℤ (departures_of c stream).from.0) +ℤ pos (departures_of c stream).spread
+latest c stream n = (start_of_part n.message.first +ℤ (departures_of c stream).from.0) +ℤ pos (departures_of c stream).spread
 
 -- a message with all its frames
 abbrev pub run_of : Config → Stream → ℕ → Numbered Part → Run
 run_of c stream ep n = record {
-  turn = record { at = record { 0 = sent_at c stream n 0 }; endpoint = ep; stream = place_of stream; number = n.number; sub = 0 };
+  turn = record { at = record { 0 = sent_at c stream n 0 }; endpoint = ep; stream = stream_place stream; number = n.number; sub = 0 };
   last = record { 0 = latest c stream n };
   left = frames_in c stream n.message;
 }

@@ -1,8 +1,11 @@
 -- One more cell in the list of all that were added.
 use Rattle.std.proofs.Common.{◌≡◌, ℕ, suc, ◌<◌, ◌≤◌, Option, Some, None, Bool, true, false, cond, not, List, [], ◌∷◌, ◌++◌, map, length, get_or, count_by, refl, ap, ap₂, sym, ◌∙◌, arith, subst, All}
-use Rattle.std.specs.List.{filter}
+use Rattle.std.specs.List.{AllPairs, filter}
 use Rattle.std.specs.Option.{option_map}
-use Rattle.std.proofs.lemmas.List.Elements.{All-cons, All-tail, All-head, All-filter, filter-append, filter_passes}
+use Rattle.std.proofs.lemmas.Bool.{not-false, not-true}
+use Rattle.std.proofs.lemmas.List.{append-nil}
+use Rattle.std.proofs.lemmas.List.Kept.{AllPairs-cons, AllPairs-filter}
+use Rattle.std.proofs.lemmas.List.Elements.{All-cons, All-tail, All-head, filter-append, filter_passes}
 use Rattle.std.proofs.lemmas.List.Sums.{length-filter, count_by-le-length}
 use Rattle.air_source.specs.declared.events.AirCell.{AirCell}
 use Rattle.shared_cell.specs.declared.places.CellPlace.{CellPlace}
@@ -58,32 +61,20 @@ firsts-last (d ∷ rest) c = ap (λ ys. d ∷ filter (other_place d) ys) (firsts
         let apart : other_place d c ≡ true = ap not (same_turned (place_of d) (place_of c) ∙ at) in
         ap (λ ys. d ∷ ys) (filter_in (other_place d) c (firsts rest) (λ x h. ap not (at_same (place_of d) c x h) ∙ apart) apart)
 
--- no two are of one place
-abbrev AreApart : List AirCell → Type 0
-AreApart [] = Unit {0}
-AreApart (x ∷ xs) = All (λ y. is_at (place_of x) y ≡ false) xs × AreApart xs
-
-apart-filter : (p : AirCell → Bool) (xs : List AirCell) → AreApart xs → AreApart (filter p xs)
-apart-filter p [] h = tt
-apart-filter p (x ∷ xs) h = go (p x) (apart-filter p xs h.1)
-  where
-    go : (b : Bool) → AreApart (filter p xs) → AreApart (cond b (x ∷ filter p xs) (filter p xs))
-    go true rest = (All-filter p (λ y. is_at (place_of x) y ≡ false) xs h.0, rest)
-    go false rest = rest
-
-not_true : (b : Bool) → not b ≡ true → b ≡ false
-not_true true h = cc
-not_true false h = refl
+-- two that are of two places
+abbrev AreApart : AirCell → AirCell → Type 0
+AreApart x y = is_at (place_of x) y ≡ false
 
 all_not_true : (f : AirCell → Bool) (xs : List AirCell) → All (λ x. not (f x) ≡ true) xs → All (λ x. f x ≡ false) xs
-all_not_true f xs h = λ k d lt. not_true (f (get_or xs k d)) (h k d lt)
+all_not_true f xs h = λ k d lt. not-true (f (get_or xs k d)) (h k d lt)
 
-firsts_apart : (cells : List AirCell) → AreApart (firsts cells)
-firsts_apart [] = tt
-firsts_apart (d ∷ rest) = (
-  all_not_true (is_at (place_of d)) (filter (other_place d) (firsts rest)) (filter_passes (other_place d) (firsts rest)),
-  apart-filter (λ x. not (is_at (place_of d) x)) (firsts rest) (firsts_apart rest),
-)
+-- no two firsts are of one place
+firsts_apart : (cells : List AirCell) → AllPairs AreApart (firsts cells)
+firsts_apart [] = λ i j d low high. absurd (omega (arith, high))
+firsts_apart (d ∷ rest) =
+    AllPairs-cons AreApart d (filter (other_place d) (firsts rest))
+    (all_not_true (is_at (place_of d)) (filter (other_place d) (firsts rest)) (filter_passes (other_place d) (firsts rest)))
+    (AllPairs-filter AreApart (other_place d) (firsts rest) (firsts_apart rest))
 
 -- what holds of those that are kept and of those that are not holds of all
 all_of_both : (P : AirCell → Type 0) (p : AirCell → Bool) (xs : List AirCell) → ((x : AirCell) → p x ≡ false → P x) → All P (filter p xs) → All P xs
@@ -94,10 +85,6 @@ all_of_both P p (x ∷ xs) out kept = go (p x) refl kept (all_of_both P p xs out
     go true e kept rest = All-cons P x xs (All-head P x (filter p xs) kept) (rest (All-tail P x (filter p xs) kept))
     go false e kept rest = All-cons P x xs (out x e) (rest kept)
 
-not_false : (b : Bool) → not b ≡ false → b ≡ true
-not_false true h = refl
-not_false false h = cc
-
 -- a place at which no first is has no cell
 pub none_there : (q : CellPlace) (cells : List AirCell) → All (λ x. is_at q x ≡ false) (firsts cells) → filter (is_at q) cells ≡ []
 none_there q [] h = refl
@@ -105,7 +92,7 @@ none_there q (d ∷ rest) h =
     let P : AirCell → Type 0 = λ x. is_at q x ≡ false in
     let here : is_at q d ≡ false = All-head P d (filter (λ x. not (is_at (place_of d) x)) (firsts rest)) h in
     let behind : All P (firsts rest) = all_of_both P (λ x. not (is_at (place_of d) x)) (firsts rest)
-    (λ x e. at_same q d x (not_false (is_at (place_of d) x) e) ∙ here)
+    (λ x e. at_same q d x (not-false (is_at (place_of d) x) e) ∙ here)
     (All-tail P d (filter (λ x. not (is_at (place_of d) x)) (firsts rest)) h) in
     rw here (none_there q rest behind)
 
@@ -120,15 +107,11 @@ at_place cells c x h =
     ap (mixed_of x) (filter-append (is_at (place_of x)) cells (c ∷ []) ∙ ap (λ (b : Bool). cells_with x cells ++ cond b (c ∷ []) []) (same_turned (place_of x) (place_of c) ∙ h))
     ∙ mixed_of-last x c (cells_with x cells)
 
-append_none : (xs : List AirCell) → xs ++ [] ≡ xs
-append_none [] = refl
-append_none (x ∷ xs) = ap (λ ys. x ∷ ys) (append_none xs)
-
 -- elsewhere all stays
 at_other : (cells : List AirCell) (c x : AirCell) → is_at (place_of c) x ≡ false → of_first (cells ++ c ∷ []) x ≡ of_first cells x
 at_other cells c x h =
     ap (mixed_of x) (filter-append (is_at (place_of x)) cells (c ∷ []) ∙ ap (λ (b : Bool). cells_with x cells ++ cond b (c ∷ []) []) (same_turned (place_of x) (place_of c) ∙ h)
-    ∙ append_none (cells_with x cells))
+    ∙ append-nil (cells_with x cells))
 
 -- the first cell of a place opens its combined cell
 at_first : (cells : List AirCell) (c : AirCell) → All (λ x. is_at (place_of c) x ≡ false) (firsts cells) → of_first (cells ++ c ∷ []) c ≡ joined c (opened c)
@@ -141,18 +124,24 @@ others_stay cells c (x ∷ xs) h =
     let P : AirCell → Type 0 = λ y. is_at (place_of c) y ≡ false in
     ap₂ (λ (m : Mixed) (ms : List Mixed). m ∷ ms) (at_other cells c x (All-head P x xs h)) (others_stay cells c xs (All-tail P x xs h))
 
-added_over : (cells : List AirCell) (c : AirCell) (xs : List AirCell) → AreApart xs
+added_over : (cells : List AirCell) (c : AirCell) (xs : List AirCell) → AllPairs AreApart xs
     → (All (λ x. is_at (place_of c) x ≡ false) xs → of_first (cells ++ c ∷ []) c ≡ joined c (opened c))
     → map (of_first (cells ++ c ∷ [])) (put_first c xs) ≡ added c (map (of_first cells) xs)
 added_over cells c [] apart first = ap (λ (m : Mixed). m ∷ []) (first (λ k d lt. absurd (omega arith)))
-added_over cells c (x ∷ xs) apart first = go (is_at (place_of c) x) refl (added_over cells c xs apart.1)
+added_over cells c (x ∷ xs) apart first = go (is_at (place_of c) x) refl (added_over cells c xs behind)
   where
+    behind : AllPairs AreApart xs
+    behind = λ i j d low high. apart (suc i) (suc j) d (omega (arith, low)) (omega (arith, high))
+
+    from_first : All (λ y. is_at (place_of x) y ≡ false) xs
+    from_first = λ k d lt. apart 0 (suc k) d (omega arith) (omega (arith, lt))
+
     go : (b : Bool) → is_at (place_of c) x ≡ b
         → ((All (λ y. is_at (place_of c) y ≡ false) xs → of_first (cells ++ c ∷ []) c ≡ joined c (opened c))
         → map (of_first (cells ++ c ∷ [])) (put_first c xs) ≡ added c (map (of_first cells) xs))
         → map (of_first (cells ++ c ∷ [])) (cond b (x ∷ xs) (x ∷ put_first c xs)) ≡ cond b (joined c (of_first cells x) ∷ map (of_first cells) xs) (of_first cells x ∷ added c (map (of_first cells) xs))
     go true at rest =
-        let away : All (λ y. is_at (place_of c) y ≡ false) xs = subst (λ (p : CellPlace). All (λ y. is_same p (place_of y) ≡ false) xs) (sym (same_is (place_of c) (place_of x) at)) apart.0 in
+        let away : All (λ y. is_at (place_of c) y ≡ false) xs = subst (λ (p : CellPlace). All (λ y. is_same p (place_of y) ≡ false) xs) (sym (same_is (place_of c) (place_of x) at)) from_first in
         ap₂ (λ (m : Mixed) (ms : List Mixed). m ∷ ms) (at_place cells c x at) (others_stay cells c xs away)
     go false at rest =
         ap₂ (λ (m : Mixed) (ms : List Mixed). m ∷ ms) (at_other cells c x at)

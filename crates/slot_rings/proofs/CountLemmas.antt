@@ -7,10 +7,12 @@ use Rattle.std.proofs.lemmas.List.Elements.{All-from_get_or, All-get_or, All-set
 use Rattle.std.proofs.lemmas.List.Sums.{get_or-le-sum_by, sum_by-cons, sum_by-le, sum_by-set}
 use Rattle.fh_time.specs.declared.values.Slot.{Slot}
 use Rattle.unit_model.specs.declared.allocations.Allocation.{Allocation}
-use Rattle.slot_rings.specs.Counts.{HasSections, as_number, sections_of, set_in, set_of}
-use Rattle.slot_rings.specs.Places.{PlaceValue, blank, is_of}
+use Rattle.slot_rings.specs.Counts.{HasSections, as_number, uplink_sections_in, set_in, set_of}
+use Rattle.slot_rings.specs.Places.{PlaceValue, blank, is_place_of}
 use Rattle.slot_rings.specs.Rings.{IsRing, RingValue, place_index, place_of, ring_uplink}
 use Rattle.slot_rings.proofs.RingLemmas.{index_within, put}
+use Rattle.unit_model.specs.declared.uplink.TheConstants.{SLOT_SECTIONS}
+use Rattle.fh_time.specs.declared.symbols.TheConstants.{SLOT_SYMBOLS}
 
 -- ---- flags
 
@@ -22,40 +24,40 @@ row_most : (row : List Bool) → set_of row ≤ length row
 row_most [] = omega arith
 row_most (x ∷ xs) = omega (arith, sum_by-cons as_number x xs, one_most x, row_most xs)
 
-pub set_most : (flags : List (List Bool)) → All (λ row. length row ≡ 14) flags → set_in flags ≤ length flags * 14
-set_most flags rows = sum_by-le set_of 14 flags (All-weaker (λ row. length row ≡ 14) (λ row. set_of row ≤ 14) (λ row is. omega (arith, row_most row, is)) flags rows)
+pub set_most : (flags : List (List Bool)) → All (λ row. length row ≡ SLOT_SYMBOLS) flags → set_in flags ≤ length flags * SLOT_SYMBOLS
+set_most flags rows = sum_by-le set_of SLOT_SYMBOLS flags (All-weaker (λ row. length row ≡ SLOT_SYMBOLS) (λ row. set_of row ≤ SLOT_SYMBOLS) (λ row is. omega (arith, row_most row, is)) flags rows)
 
 -- ---- uplink sections
 
 -- those of a place are some of all, and all are less than fit a number
-pub place_most : (r : RingValue) (n i : ℕ) (p : PlaceValue) → HasSections r n → i < length r.places → p ≡ get_or r.places i p → sections_of p ≤ n
+pub place_most : (r : RingValue) (n i : ℕ) (p : PlaceValue) → HasSections r n → i < length r.places → p ≡ get_or r.places i p → uplink_sections_in p ≤ n
 place_most r n i p has within read =
-    let one = get_or-le-sum_by sections_of r.places i p within in
-    omega (arith, one, ap sections_of read, has.number)
+    let one = get_or-le-sum_by uplink_sections_in r.places i p within in
+    omega (arith, one, ap uplink_sections_in read, has.number)
 
 pub sections_most : (r : RingValue) (n : ℕ) → HasSections r n → length r.places < 1024 → n < 65536
-sections_most r n has few = omega (arith, sum_by-le sections_of 64 r.places has.few, has.number, few)
+sections_most r n has few = omega (arith, sum_by-le uplink_sections_in SLOT_SECTIONS r.places has.few, has.number, few)
 
 -- another place at an index
-pub sections_put : (r : RingValue) (n m i : ℕ) (p q : PlaceValue) → HasSections r n → i < length r.places → p ≡ get_or r.places i p → sections_of q ≤ 64
-    → m + sections_of p ≡ n + sections_of q → HasSections (put r i q) m
+pub sections_put : (r : RingValue) (n m i : ℕ) (p q : PlaceValue) → HasSections r n → i < length r.places → p ≡ get_or r.places i p → uplink_sections_in q ≤ SLOT_SECTIONS
+    → m + uplink_sections_in p ≡ n + uplink_sections_in q → HasSections (put r i q) m
 sections_put r n m i p q has within read few moved = record {
-  few = All-set (λ x. sections_of x ≤ 64) r.places i q few has.few;
-  number = omega (arith, sum_by-set sections_of r.places i q p within, ap sections_of read, has.number, moved);
+  few = All-set (λ x. uplink_sections_in x ≤ SLOT_SECTIONS) r.places i q few has.few;
+  number = omega (arith, sum_by-set uplink_sections_in r.places i q p within, ap uplink_sections_in read, has.number, moved);
 }
 
 -- one that holds the same
 pub sections_kept : (r : RingValue) (n i : ℕ) (p q : PlaceValue) → HasSections r n → i < length r.places → p ≡ get_or r.places i p → q.uplink ≡ p.uplink
     → HasSections (put r i q) n
 sections_kept r n i p q has within read same =
-    let few = All-get_or (λ x. sections_of x ≤ 64) r.places i p within has.few in
-    let still : sections_of q ≡ sections_of p = ap (λ (l : List Allocation). length l) same in
-    sections_put r n n i p q has within read (omega (arith, few, still, ap sections_of read)) (omega (arith, still))
+    let few = All-get_or (λ x. uplink_sections_in x ≤ SLOT_SECTIONS) r.places i p within has.few in
+    let still : uplink_sections_in q ≡ uplink_sections_in p = ap (λ (l : List Allocation). length l) same in
+    sections_put r n n i p q has within read (omega (arith, few, still, ap uplink_sections_in read)) (omega (arith, still))
 
 -- none at all
-pub no_sections : (r : RingValue) → sum_by sections_of r.places ≡ 0 → HasSections r 0
+pub no_sections : (r : RingValue) → sum_by uplink_sections_in r.places ≡ 0 → HasSections r 0
 no_sections r none = record {
-  few = All-from_get_or (λ x. sections_of x ≤ 64) r.places blank (λ i within. omega (arith, get_or-le-sum_by sections_of r.places i blank within, none));
+  few = All-from_get_or (λ x. uplink_sections_in x ≤ SLOT_SECTIONS) r.places blank (λ i within. omega (arith, get_or-le-sum_by uplink_sections_in r.places i blank within, none));
   number = sym none;
 }
 
@@ -65,9 +67,9 @@ empty_list (x ∷ xs) e = absurd (omega (arith, e))
 
 pub none_held : (r : RingValue) (slot : Slot) → IsRing r → HasSections r 0 → ring_uplink r slot ≡ []
 none_held r slot ring has =
-    let one = get_or-le-sum_by sections_of r.places (place_index r slot) blank (index_within r slot ring.some) in
+    let one = get_or-le-sum_by uplink_sections_in r.places (place_index r slot) blank (index_within r slot ring.some) in
     let none : (place_of r slot).uplink ≡ [] = empty_list (place_of r slot).uplink (omega (arith, one, has.number)) in
-    elim (cases_Bool (is_of (place_of r slot).slot slot)) [
+    elim (cases_Bool (is_place_of (place_of r slot).slot slot)) [
       | inl own ↦ rw own none
       | inr other ↦ rw other refl
     ]

@@ -1,6 +1,6 @@
 -- The cells of an allocation, symbol by symbol and PRB by PRB.
 use Rattle.std.proofs.Common.{◌≡◌, ℕ, ◌+◌, ◌-◌, ◌*◌, ◌<◌, ◌≤◌, inl, inr, Bool, true, false, ◌&&◌, ◌==◌, nat_lt, if◌then◌else◌, List, get_or, refl, ap, sym, ◌∙◌, subst, arith, Option, Some}
-use Rattle.std.proofs.lemmas.Bool.{cases_eq, cases_lt, ltb-false, lt-ltb, le-ltb, le-leb, lt-leb, and_from, and_left, and_right}
+use Rattle.std.proofs.lemmas.Bool.{cases_eq, cases_lt, ltb-false, le-ltb, lt-leb, and_left, and_right}
 use Rattle.std.proofs.lemmas.Nat.{mul-le}
 use Rattle.fh_time.specs.Carrier.{is_outside}
 use Rattle.unit_model.specs.Claims.{first_prb, prb_count, cell_of, every_cell, some_cell, in_mask, is_from, is_claimed, is_overlapped, claim_of}
@@ -8,10 +8,12 @@ use Rattle.unit_model.specs.Lists.{every, some}
 use Rattle.unit_model.specs.declared.allocations.Allocation.{Allocation}
 use Rattle.unit_model.specs.declared.cells.Cell.{Cell}
 use Rattle.unit_model.specs.declared.cells.Claim.{Claim}
-use Rattle.slot_rings.specs.Places.{claim_in, claims_in, no_marks}
+use Rattle.slot_rings.specs.Places.{claim_in, claims_in, no_claims}
 use Rattle.slot_rings.specs.Verdicts.{repeats_by, overlaps_by}
-use Rattle.slot_rings.specs.declared.marks.Marks.{Marks}
-use Rattle.slot_rings.proofs.RangeLemmas.{every_from, every_not, every_same, some_at, some_from, some_one, some_same}
+use Rattle.slot_rings.specs.declared.claims.CellClaims.{CellClaims}
+use Rattle.slot_rings.proofs.RangeLemmas.{every_not, some_from}
+use Rattle.fh_time.specs.declared.symbols.TheConstants.{SLOT_SYMBOLS}
+use Rattle.unit_model.proofs.ClaimLemmas.{is_in as from_in, every_same, some_same, claimed_same, overlapped_same, every_one as every_from, some_one, some_not as some_at}
 
 pub repeats_found : (claims : Cell → ℕ → Option Claim) (a : Allocation)
     → ((y : ℕ) → a.symbol ≤ y → y < a.symbol + a.num_symbol
@@ -50,13 +52,6 @@ free_at claims a y n free low high left right =
     (some_at a.symbol a.num_symbol (λ y. some (first_prb a) (prb_count a) (λ n. is_overlapped a.section a.mask (claims (cell_of a y n)))) y free low high)
     left right
 
--- the same claims give the same answers
-pub claimed_same : (id mask : ℕ) (f g : ℕ → Option Claim) → ((re : ℕ) → re < 12 → f re ≡ g re) → is_claimed id mask f ≡ is_claimed id mask g
-claimed_same id mask f g same = every_same 0 12 _ _ (λ re low high. let e = same re (omega arith) in rw e refl)
-
-pub overlapped_same : (id mask : ℕ) (f g : ℕ → Option Claim) → ((re : ℕ) → re < 12 → f re ≡ g re) → is_overlapped id mask f ≡ is_overlapped id mask g
-overlapped_same id mask f g same = some_same 0 12 _ _ (λ re low high. let e = same re (omega arith) in rw e refl)
-
 pub repeats_same : (f g : Cell → ℕ → Option Claim) (a : Allocation) → ((y n re : ℕ) → f (cell_of a y n) re ≡ g (cell_of a y n) re) → repeats_by f a ≡ repeats_by g a
 unfolding every_cell
 repeats_same f g a same = every_same a.symbol a.num_symbol _ _ (λ y low high. every_same (first_prb a) (prb_count a) _ _
@@ -68,9 +63,6 @@ overlaps_same f g a same = some_same a.symbol a.num_symbol _ _ (λ y low high. s
     (λ n left right. overlapped_same a.section a.mask _ _ (λ re below. same y n re)))
 
 -- ---- numbers of cells
-
-pub from_in : (f c n : ℕ) → f ≤ n → n < f + c → is_from f c n ≡ true
-from_in f c n low high = and_from _ _ (le-leb f n low) (lt-ltb n (f + c) high)
 
 pub from_below : (f c n : ℕ) → n < f → is_from f c n ≡ false
 from_below f c n below = and_left _ _ (lt-leb f n below)
@@ -108,11 +100,11 @@ in_other_row y z p f c n fits below ne = elim (cases_lt z y) [
   | inr more ↦ let rows = mul-le (y + 1) p z p (omega (arith, ne)) (omega arith) in from_above (y * p + f) c (z * p + n) (omega (arith, rows))
 ]
 
-pub row_fits : (y p f c room : ℕ) → y < 14 → f + c ≤ p → 14 * p ≤ room → y * p + f + c ≤ room
-row_fits y p f c room within fits has = let rows = mul-le (y + 1) p 14 p (omega arith) (omega arith) in omega (arith, rows)
+pub row_fits : (y p f c room : ℕ) → y < SLOT_SYMBOLS → f + c ≤ p → SLOT_SYMBOLS * p ≤ room → y * p + f + c ≤ room
+row_fits y p f c room within fits has = let rows = mul-le (y + 1) p SLOT_SYMBOLS p (omega arith) (omega arith) in omega (arith, rows)
 
-pub cell_fits : (y p n room : ℕ) → y < 14 → n < p → 14 * p ≤ room → y * p + n < room
-cell_fits y p n room within fits has = let rows = mul-le (y + 1) p 14 p (omega arith) (omega arith) in omega (arith, rows)
+pub cell_fits : (y p n room : ℕ) → y < SLOT_SYMBOLS → n < p → SLOT_SYMBOLS * p ≤ room → y * p + n < room
+cell_fits y p n room within fits has = let rows = mul-le (y + 1) p SLOT_SYMBOLS p (omega arith) (omega arith) in omega (arith, rows)
 
 pub cell_apart : (y z p m n : ℕ) → m < p → n < p → y * p + m ≡ z * p + n → (y ≡ z) × (m ≡ n)
 cell_apart y z p m n left right e = elim (cases_eq y z) [
@@ -163,20 +155,20 @@ row_claimed s y z p f c n m claim old mid new low fits below new_is mid_is = eli
 ]
 
 -- cell k of the row of symbol y is as it was, and nothing clashes there
-pub row_free : (a : Allocation) (y k : ℕ) (old mid : List Marks)
+pub row_free : (a : Allocation) (y k : ℕ) (old mid : List CellClaims)
     → is_outside a.endpoint.prbs a.start_prb a.num_prb ≡ false
     → overlaps_by (claims_in a.endpoint.prbs old) a ≡ false
     → a.symbol ≤ y → y < a.symbol + a.num_symbol
     → y * a.endpoint.prbs + first_prb a ≤ k → k < y * a.endpoint.prbs + first_prb a + prb_count a
-    → ((z n re : ℕ) → n < a.endpoint.prbs → re < 12 → claim_in (get_or mid (z * a.endpoint.prbs + n) no_marks) re
-    ≡ Chosen ((is_from a.symbol (y - a.symbol) z && is_from (first_prb a) (prb_count a) n) && in_mask a.mask re) (Some (claim_of a)) (claim_in (get_or old (z * a.endpoint.prbs + n) no_marks) re))
-    → is_overlapped a.section a.mask (claim_in (get_or mid k no_marks)) ≡ false
+    → ((z n re : ℕ) → n < a.endpoint.prbs → re < 12 → claim_in (get_or mid (z * a.endpoint.prbs + n) no_claims) re
+    ≡ Chosen ((is_from a.symbol (y - a.symbol) z && is_from (first_prb a) (prb_count a) n) && in_mask a.mask re) (Some (claim_of a)) (claim_in (get_or old (z * a.endpoint.prbs + n) no_claims) re))
+    → is_overlapped a.section a.mask (claim_in (get_or mid k no_claims)) ≡ false
 row_free a y k old mid h free low high left right each =
     let fits = inside a h in
     let at : y * a.endpoint.prbs + (k - y * a.endpoint.prbs) ≡ k = omega (arith, left) in
     let there = not_yet a.symbol y low in
-    let same : is_overlapped a.section a.mask (claim_in (get_or mid (y * a.endpoint.prbs + (k - y * a.endpoint.prbs)) no_marks))
-    ≡ is_overlapped a.section a.mask (claim_in (get_or old (y * a.endpoint.prbs + (k - y * a.endpoint.prbs)) no_marks)) =
+    let same : is_overlapped a.section a.mask (claim_in (get_or mid (y * a.endpoint.prbs + (k - y * a.endpoint.prbs)) no_claims))
+    ≡ is_overlapped a.section a.mask (claim_in (get_or old (y * a.endpoint.prbs + (k - y * a.endpoint.prbs)) no_claims)) =
     overlapped_same a.section a.mask _ _ (λ re below. rw there at (each y (k - y * a.endpoint.prbs) re (omega (arith, fits, left, right)) below)) in
-    subst (λ (j : ℕ). is_overlapped a.section a.mask (claim_in (get_or mid j no_marks)) ≡ false) at
+    subst (λ (j : ℕ). is_overlapped a.section a.mask (claim_in (get_or mid j no_claims)) ≡ false) at
     (same ∙ free_at (claims_in a.endpoint.prbs old) a y (k - y * a.endpoint.prbs) free low high (omega (arith, left)) (omega (arith, left, right)))

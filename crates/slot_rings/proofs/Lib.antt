@@ -8,4 +8,4 @@ pub mod RowLemmas
 pub mod PendingLemmas
 pub mod CountLemmas
 pub mod RunLemmas
-pub mod MarkedLemmas
+pub mod ReportedLemmas

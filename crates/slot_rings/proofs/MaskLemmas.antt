@@ -9,8 +9,10 @@ use Rattle.unit_model.specs.Lists.{every, some}
 use Rattle.unit_model.specs.Radiated.{is_used, used_below, used_mask, id_from, cell_id}
 use Rattle.unit_model.specs.declared.cells.Claim.{Claim}
 use Rattle.slot_rings.specs.Places.{claim_in}
-use Rattle.slot_rings.specs.declared.marks.Marks.{Marks}
-use Rattle.slot_rings.proofs.RangeLemmas.{same_tests, every_at, every_from, every_same, some_same, not_every, some_at}
+use Rattle.slot_rings.specs.declared.claims.CellClaims.{CellClaims}
+use Rattle.slot_rings.proofs.RangeLemmas.{same_tests, not_every}
+use Rattle.unit_model.proofs.ClaimLemmas.{every_same, some_same, every_at, every_one as every_from, some_not as some_at}
+use Rattle.fh_time.proofs.Orders.{or_false}
 
 -- ---- bits
 
@@ -127,16 +129,12 @@ under_none : (b : Bool) (i id : ℕ) (idle : Bool) → (i == id) ≡ false
 under_none true i id idle t = t
 under_none false i id idle t = refl
 
-or_false : (b : Bool) → (b || false) ≡ b
-or_false true = refl
-or_false false = refl
-
-pub has_own : (s : Marks) (id mask : ℕ) → (s.id == id) ≡ true
+pub has_own : (s : CellClaims) (id mask : ℕ) → (s.id == id) ≡ true
     → (bit_and (bit_and s.claimed mask) 4095 == bit_and mask 4095) ≡ is_claimed id mask (claim_in s)
 has_own s id mask t = all_in s.claimed mask
     ∙ every_same 0 12 _ _ (λ re low high. ap (λ b. not (in_mask mask re) || b) (sym (under_own (in_mask s.claimed re) s.id id (in_mask s.idle re) t)))
 
-pub has_none : (s : Marks) (id mask : ℕ) → (s.id == id) ≡ false → (bit_and mask 4095 == 0) ≡ is_claimed id mask (claim_in s)
+pub has_none : (s : CellClaims) (id mask : ℕ) → (s.id == id) ≡ false → (bit_and mask 4095 == 0) ≡ is_claimed id mask (claim_in s)
 has_none s id mask t = none_in mask
     ∙ every_same 0 12 _ _ (λ re low high. sym (ap (λ b. not (in_mask mask re) || b) (under_none (in_mask s.claimed re) s.id id (in_mask s.idle re) t) ∙ or_false _))
 
@@ -156,12 +154,12 @@ clash_other true false i id idle t = refl
 clash_other false true i id idle t = rw t refl
 clash_other false false i id idle t = refl
 
-pub clashes_own : (s : Marks) (id mask : ℕ) → (s.id == id) ≡ true
+pub clashes_own : (s : CellClaims) (id mask : ℕ) → (s.id == id) ≡ true
     → not (bit_and (bit_and s.claimed mask) 4095 == 0) ≡ is_overlapped id mask (claim_in s)
 clashes_own s id mask t = some_in (bit_and s.claimed mask)
     ∙ some_same 0 12 _ _ (λ re low high. in_both s.claimed mask re ∙ clash_own (in_mask mask re) (in_mask s.claimed re) s.id id (in_mask s.idle re) t)
 
-pub clashes_other : (s : Marks) (id mask : ℕ) → (s.id == id) ≡ false
+pub clashes_other : (s : CellClaims) (id mask : ℕ) → (s.id == id) ≡ false
     → not (bit_and s.claimed 4095 == 0) ≡ is_overlapped id mask (claim_in s)
 clashes_other s id mask t = some_in s.claimed
     ∙ some_same 0 12 _ _ (λ re low high. clash_other (in_mask mask re) (in_mask s.claimed re) s.id id (in_mask s.idle re) t)
@@ -187,7 +185,7 @@ further false true d e f i id idle h e_is f_in f_out =
     turned true h = refl
     turned false h = cc
 
-pub with_idle : (s : Marks) (id mask : ℕ) → is_overlapped id mask (claim_in s) ≡ false → (re : ℕ) → re < 12
+pub with_idle : (s : CellClaims) (id mask : ℕ) → is_overlapped id mask (claim_in s) ≡ false → (re : ℕ) → re < 12
     → claim_in (record { id = id; claimed = bit_or s.claimed mask; idle = bit_or s.idle mask }) re
     ≡ (let o : Option Claim = if in_mask mask re then Some (record { id = id; idle = true }) else claim_in s re in o)
 with_idle s id mask free re below = further (in_mask mask re) (in_mask s.claimed re) (in_mask s.idle re) _ _ s.id id true
@@ -199,7 +197,7 @@ with_idle s id mask free re below = further (in_mask mask re) (in_mask s.claimed
     or_true true = refl
     or_true false = refl
 
-pub with_used : (s : Marks) (id mask : ℕ) → mask < 2 ^ 16 → is_overlapped id mask (claim_in s) ≡ false → (re : ℕ) → re < 12
+pub with_used : (s : CellClaims) (id mask : ℕ) → mask < 2 ^ 16 → is_overlapped id mask (claim_in s) ≡ false → (re : ℕ) → re < 12
     → claim_in (record { id = id; claimed = bit_or s.claimed mask; idle = bit_and s.idle (65535 - mask) }) re
     ≡ (let o : Option Claim = if in_mask mask re then Some (record { id = id; idle = false }) else claim_in s re in o)
 with_used s id mask fits free re below = further (in_mask mask re) (in_mask s.claimed re) (in_mask s.idle re) _ _ s.id id false
@@ -222,7 +220,7 @@ one_bit zero h = refl
 one_bit (suc zero) h = refl
 one_bit (suc (suc y)) h = absurd (omega arith)
 
-used_upto : (s : Marks) (y : ℕ) → y < 4096 → ((re : ℕ) → re < 12 → is_used (claim_in s re) ≡ in_mask y re) → (n : ℕ) → n ≤ 12
+used_upto : (s : CellClaims) (y : ℕ) → y < 4096 → ((re : ℕ) → re < 12 → is_used (claim_in s re) ≡ in_mask y re) → (n : ℕ) → n ≤ 12
     → used_below (claim_in s) n ≡ y / 2 ^ (12 - n)
 unfolding used_below
 used_upto s y few is zero within = omega arith
@@ -242,10 +240,10 @@ used_upto s y few is (suc n) within =
 pub without_each : (a b re : ℕ) → b < 2 ^ 16 → in_mask (bit_and (bit_and a (65535 - b)) 4095) re ≡ (in_mask a re && not (in_mask b re))
 without_each a b re fits = in_twelve (bit_and a (65535 - b)) re ∙ in_both a (65535 - b) re ∙ ap (λ c. in_mask a re && c) (in_other b re fits)
 
-pub used_is : (s : Marks) (y : ℕ) → y < 2 ^ 12 → ((re : ℕ) → in_mask y re ≡ (in_mask s.claimed re && not (in_mask s.idle re))) → y ≡ used_mask (claim_in s)
+pub used_is : (s : CellClaims) (y : ℕ) → y < 2 ^ 12 → ((re : ℕ) → in_mask y re ≡ (in_mask s.claimed re && not (in_mask s.idle re))) → y ≡ used_mask (claim_in s)
 used_is s y few each = sym (used_upto s y few (λ re below. used_one (in_mask s.claimed re) (in_mask s.idle re) s.id ∙ sym (each re)) 12 (omega arith) ∙ omega arith)
 
-id_upto : (s : Marks) (from n : ℕ) → id_from (claim_in s) from n ≡ (let i : ℕ = if some from n (λ re. in_mask s.claimed re) then s.id else 0 in i)
+id_upto : (s : CellClaims) (from n : ℕ) → id_from (claim_in s) from n ≡ (let i : ℕ = if some from n (λ re. in_mask s.claimed re) then s.id else 0 in i)
 unfolding id_from some
 id_upto s from zero = refl
 id_upto s from (suc n) = step (in_mask s.claimed from) refl (id_upto s (from + 1) n)
@@ -256,10 +254,10 @@ id_upto s from (suc n) = step (in_mask s.claimed from) refl (id_upto s (from + 1
     step true e rest = rw e refl
     step false e rest = rw e rest
 
-pub section_none : (s : Marks) → (bit_and s.claimed 4095 == 0) ≡ true → 0 ≡ cell_id (claim_in s)
+pub section_none : (s : CellClaims) → (bit_and s.claimed 4095 == 0) ≡ true → 0 ≡ cell_id (claim_in s)
 section_none s none = let e : some 0 12 (λ re. in_mask s.claimed re) ≡ false = sym (some_in s.claimed) ∙ ap not none in
     sym (id_upto s 0 12 ∙ ap (λ (b : Bool). let i : ℕ = if b then s.id else 0 in i) e)
 
-pub section_own : (s : Marks) → (bit_and s.claimed 4095 == 0) ≡ false → s.id ≡ cell_id (claim_in s)
+pub section_own : (s : CellClaims) → (bit_and s.claimed 4095 == 0) ≡ false → s.id ≡ cell_id (claim_in s)
 section_own s none = let e : some 0 12 (λ re. in_mask s.claimed re) ≡ true = sym (some_in s.claimed) ∙ ap not none in
     sym (id_upto s 0 12 ∙ ap (λ (b : Bool). let i : ℕ = if b then s.id else 0 in i) e)

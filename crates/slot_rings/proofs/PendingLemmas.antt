@@ -13,17 +13,17 @@ use Rattle.unit_model.specs.declared.cells.Cell.{Cell}
 use Rattle.unit_model.specs.declared.cells.Claim.{Claim}
 use Rattle.unit_model.specs.declared.verdicts.CommandVerdict.TheVariants.{Accepted}
 use Rattle.slot_rings.specs.Pending.{IsFlagged, due_in, flag_at}
-use Rattle.slot_rings.specs.Places.{PlaceValue, blank, cell_number, claim_in, empty_place, is_due, is_in_use, is_of, done_seen, marks_seen, no_marks, opened, place_claim}
-use Rattle.slot_rings.specs.Rings.{IsRing, RingValue, has_slot, place_index, place_of, ring_claim, ring_done}
+use Rattle.slot_rings.specs.Places.{PlaceValue, blank, cell_number, claim_in, empty_place, is_due, is_in_use, is_place_of, reported_seen, claims_seen, no_claims, opened, place_claim}
+use Rattle.slot_rings.specs.Rings.{IsRing, RingValue, has_slot, place_index, place_of, ring_claim, ring_reported}
 use Rattle.slot_rings.specs.Verdicts.{claim_after}
-use Rattle.slot_rings.specs.declared.marks.Marks.{Marks}
+use Rattle.slot_rings.specs.declared.claims.CellClaims.{CellClaims}
 use Rattle.slot_rings.proofs.PlaceLemmas.{no_claim}
-use Rattle.slot_rings.proofs.RangeLemmas.{some_at, some_from, some_same}
+use Rattle.slot_rings.proofs.RangeLemmas.{some_from}
 use Rattle.slot_rings.proofs.SeenLemmas.{due_seen}
 use Rattle.slot_rings.proofs.RingLemmas.{index_within, put, symbols_are}
-
-pub unequal : (b : Bool) → b ≡ true → b ≡ false → ⊥
-unequal b p q = cc
+use Rattle.fh_time.specs.declared.symbols.TheConstants.{SLOT_SYMBOLS}
+use Rattle.unit_model.proofs.ClaimLemmas.{some_same, some_not as some_at}
+use Rattle.fh_time.proofs.Orders.{both_ways as unequal}
 
 -- ---- cells in use
 
@@ -59,14 +59,14 @@ no_due g d none = due_less (λ re. None) g d (λ re below off. ap is_used (none 
 
 due_empty : (prbs s : ℕ) (p : PlaceValue) → p.down ≡ [] → due_in prbs p s ≡ false
 due_empty prbs s p e = some_from 0 prbs _ (λ n low high.
-    no_due _ _ (λ re. ap (λ (l : List Marks). claim_in (get_or l (cell_number prbs s 0 + n) no_marks) re) e ∙ no_claim re))
+    no_due _ _ (λ re. ap (λ (l : List CellClaims). claim_in (get_or l (cell_number prbs s 0 + n) no_claims) re) e ∙ no_claim re))
 
-pub filled_quiet : (prbs s : ℕ) (p q : PlaceValue) → q.down ≡ p.down → q.done ≡ p.done → due_in prbs p s ≡ false → due_in prbs q s ≡ false
-filled_quiet prbs s p q down done off = some_same 0 prbs _ _ (λ n low high.
-    ap₂ (λ (ms : List Marks) (ds : List Bool). is_due (claim_in (get_or ms (cell_number prbs s 0 + n) no_marks)) (get_or ds (cell_number prbs s 0 + n) false)) down done) ∙ off
+pub filled_quiet : (prbs s : ℕ) (p q : PlaceValue) → q.down ≡ p.down → q.reported ≡ p.reported → due_in prbs p s ≡ false → due_in prbs q s ≡ false
+filled_quiet prbs s p q down reported off = some_same 0 prbs _ _ (λ n low high.
+    ap₂ (λ (ms : List CellClaims) (ds : List Bool). is_due (claim_in (get_or ms (cell_number prbs s 0 + n) no_claims)) (get_or ds (cell_number prbs s 0 + n) false)) down reported) ∙ off
 
 pub opened_quiet : (prbs s : ℕ) (slot : Slot) (p q : PlaceValue) → q ≡ opened slot p → due_in prbs p s ≡ false → due_in prbs q s ≡ false
-opened_quiet prbs s slot p q is off = elim (cases_Bool (is_of p.slot slot)) [
+opened_quiet prbs s slot p q is off = elim (cases_Bool (is_place_of p.slot slot)) [
   | inl own ↦
       let same : q ≡ p = rw own at is in
       ap (λ (x : PlaceValue). due_in prbs x s) same ∙ off
@@ -83,31 +83,31 @@ unused_due g c d off more = parts (is_in_use g) c d off more
     parts true true d off more = let e = more refl in rw e refl
     parts true false d off more = cc
 
--- what is marked stays marked
-pub marked_quiet : (prbs s : ℕ) (p q : PlaceValue) → q.down ≡ p.down → ((i : ℕ) → get_or p.done i false ≡ true → get_or q.done i false ≡ true)
+-- what is reported stays reported
+pub reported_quiet : (prbs s : ℕ) (p q : PlaceValue) → q.down ≡ p.down → ((i : ℕ) → get_or p.reported i false ≡ true → get_or q.reported i false ≡ true)
     → due_in prbs p s ≡ false → due_in prbs q s ≡ false
-marked_quiet prbs s p q down more off = some_from 0 prbs _ (λ n low high.
-    ap (λ (ms : List Marks). is_due (claim_in (get_or ms (cell_number prbs s 0 + n) no_marks)) (get_or q.done (cell_number prbs s 0 + n) false)) down
-    ∙ unused_due (claim_in (get_or p.down (cell_number prbs s 0 + n) no_marks)) (get_or p.done (cell_number prbs s 0 + n) false) (get_or q.done (cell_number prbs s 0 + n) false)
-    (some_at 0 prbs (λ n. is_due (claim_in (get_or p.down (cell_number prbs s 0 + n) no_marks)) (get_or p.done (cell_number prbs s 0 + n) false)) n off low high)
+reported_quiet prbs s p q down more off = some_from 0 prbs _ (λ n low high.
+    ap (λ (ms : List CellClaims). is_due (claim_in (get_or ms (cell_number prbs s 0 + n) no_claims)) (get_or q.reported (cell_number prbs s 0 + n) false)) down
+    ∙ unused_due (claim_in (get_or p.down (cell_number prbs s 0 + n) no_claims)) (get_or p.reported (cell_number prbs s 0 + n) false) (get_or q.reported (cell_number prbs s 0 + n) false)
+    (some_at 0 prbs (λ n. is_due (claim_in (get_or p.down (cell_number prbs s 0 + n) no_claims)) (get_or p.reported (cell_number prbs s 0 + n) false)) n off low high)
     (more (cell_number prbs s 0 + n)))
 
-marked_due : (g : ℕ → Option Claim) (c d : Bool) → d ≡ (c || is_in_use g) → is_due g d ≡ false
-marked_due g c d is = ap (is_due g) is ∙ parts (is_in_use g) c
+reported_due : (g : ℕ → Option Claim) (c d : Bool) → d ≡ (c || is_in_use g) → is_due g d ≡ false
+reported_due g c d is = ap (is_due g) is ∙ parts (is_in_use g) c
   where
     parts : (u c : Bool) → (u && not (c || u)) ≡ false
     parts false c = refl
     parts true true = refl
     parts true false = refl
 
--- all cells in use of a symbol are marked
+-- all cells in use of a symbol are reported
 pub all_quiet : (prbs s : ℕ) (p q : PlaceValue) → q.down ≡ p.down
-    → ((k : ℕ) → k < prbs → get_or q.done (cell_number prbs s 0 + k) false
-    ≡ (get_or p.done (cell_number prbs s 0 + k) false || is_in_use (claim_in (get_or p.down (cell_number prbs s 0 + k) no_marks))))
+    → ((k : ℕ) → k < prbs → get_or q.reported (cell_number prbs s 0 + k) false
+    ≡ (get_or p.reported (cell_number prbs s 0 + k) false || is_in_use (claim_in (get_or p.down (cell_number prbs s 0 + k) no_claims))))
     → due_in prbs q s ≡ false
 all_quiet prbs s p q down here = some_from 0 prbs _ (λ n low high.
-    ap (λ (ms : List Marks). is_due (claim_in (get_or ms (cell_number prbs s 0 + n) no_marks)) (get_or q.done (cell_number prbs s 0 + n) false)) down
-    ∙ marked_due (claim_in (get_or p.down (cell_number prbs s 0 + n) no_marks)) (get_or p.done (cell_number prbs s 0 + n) false) (get_or q.done (cell_number prbs s 0 + n) false)
+    ap (λ (ms : List CellClaims). is_due (claim_in (get_or ms (cell_number prbs s 0 + n) no_claims)) (get_or q.reported (cell_number prbs s 0 + n) false)) down
+    ∙ reported_due (claim_in (get_or p.down (cell_number prbs s 0 + n) no_claims)) (get_or p.reported (cell_number prbs s 0 + n) false) (get_or q.reported (cell_number prbs s 0 + n) false)
     (here n (omega (arith, high))))
 
 -- ---- a claim
@@ -135,32 +135,32 @@ used_after a cell re o down never off = elim (cases_Bool (names a cell re)) [
       ]
 ]
 
-place_marks : (prbs : ℕ) (p : PlaceValue) (ep : ℕ) (slot : Slot) (s n re : ℕ) → is_of p.slot slot ≡ true
-    → place_claim prbs p (cell_at ep true slot s n) re ≡ claim_in (get_or p.down (cell_number prbs s 0 + n) no_marks) re
-place_marks prbs p ep slot s n re own =
+place_claims : (prbs : ℕ) (p : PlaceValue) (ep : ℕ) (slot : Slot) (s n re : ℕ) → is_place_of p.slot slot ≡ true
+    → place_claim prbs p (cell_at ep true slot s n) re ≡ claim_in (get_or p.down (cell_number prbs s 0 + n) no_claims) re
+place_claims prbs p ep slot s n re own =
     let at : cell_number prbs s n ≡ cell_number prbs s 0 + n = omega arith in
-    rw own (ap (λ (k : ℕ). claim_in (get_or p.down k no_marks) re) at)
+    rw own (ap (λ (k : ℕ). claim_in (get_or p.down k no_claims) re) at)
 
-pub claimed_quiet : (prbs m s : ℕ) (p q : PlaceValue) (a : Allocation) → m ≡ prbs → is_of p.slot a.slot ≡ true → q.slot ≡ p.slot → q.done ≡ p.done
+pub claimed_quiet : (prbs m s : ℕ) (p q : PlaceValue) (a : Allocation) → m ≡ prbs → is_place_of p.slot a.slot ≡ true → q.slot ≡ p.slot → q.reported ≡ p.reported
     → ((cell : Cell) (re : ℕ) → cell.ep ≡ a.ep → cell.slot ≡ a.slot → cell.prb < m → re < 12
     → place_claim m q cell re ≡ claim_after Accepted a cell re (place_claim m p cell re))
     → (a.down ≡ true → a.idle ≡ false → is_from a.symbol a.num_symbol s ≡ true → ⊥) → due_in prbs p s ≡ false → due_in prbs q s ≡ false
-claimed_quiet prbs m s p q a same own slot done claims never off =
+claimed_quiet prbs m s p q a same own slot reported claims never off =
     subst (λ (w : ℕ). due_in w q s ≡ false) same (go (subst (λ (w : ℕ). due_in w p s ≡ false) (sym same) off))
   where
-    q_own : is_of q.slot a.slot ≡ true
-    q_own = ap (λ (o : Option Slot). is_of o a.slot) slot ∙ own
+    q_own : is_place_of q.slot a.slot ≡ true
+    q_own = ap (λ (o : Option Slot). is_place_of o a.slot) slot ∙ own
 
     go : due_in m p s ≡ false → due_in m q s ≡ false
     go off = some_from 0 m _ (λ n low high.
-        ap (λ (ds : List Bool). is_due (claim_in (get_or q.down (cell_number m s 0 + n) no_marks)) (get_or ds (cell_number m s 0 + n) false)) done
-        ∙ due_less (claim_in (get_or p.down (cell_number m s 0 + n) no_marks)) (claim_in (get_or q.down (cell_number m s 0 + n) no_marks))
-        (get_or p.done (cell_number m s 0 + n) false)
+        ap (λ (ds : List Bool). is_due (claim_in (get_or q.down (cell_number m s 0 + n) no_claims)) (get_or ds (cell_number m s 0 + n) false)) reported
+        ∙ due_less (claim_in (get_or p.down (cell_number m s 0 + n) no_claims)) (claim_in (get_or q.down (cell_number m s 0 + n) no_claims))
+        (get_or p.reported (cell_number m s 0 + n) false)
         (λ re below unused.
         let cell = cell_at a.ep true a.slot s n in
-        ap is_used (sym (place_marks m q a.ep a.slot s n re q_own) ∙ claims cell re refl refl (omega (arith, high)) below)
-        ∙ used_after a cell re _ refl never (ap is_used (place_marks m p a.ep a.slot s n re own) ∙ unused))
-        (some_at 0 m (λ n. is_due (claim_in (get_or p.down (cell_number m s 0 + n) no_marks)) (get_or p.done (cell_number m s 0 + n) false)) n off low high))
+        ap is_used (sym (place_claims m q a.ep a.slot s n re q_own) ∙ claims cell re refl refl (omega (arith, high)) below)
+        ∙ used_after a cell re _ refl never (ap is_used (place_claims m p a.ep a.slot s n re own) ∙ unused))
+        (some_at 0 m (λ n. is_due (claim_in (get_or p.down (cell_number m s 0 + n) no_claims)) (get_or p.reported (cell_number m s 0 + n) false)) n off low high))
 
 -- ---- the flags of all places
 
@@ -180,10 +180,10 @@ flagged_put r flags new i p q flagged within read size kept changed = record {
   ];
 }
 
--- marks in a place, and the flag of a symbol cleared if all of its cells are reported
+-- cells set as reported in a place, and the flag of a symbol cleared if all of its cells are reported
 pub flagged_told : (r : RingValue) (flags new : List (List Bool)) (i symbol : ℕ) (p q : PlaceValue) (all : Bool) → IsFlagged r flags → i < length r.places
     → p ≡ get_or r.places i p → length new ≡ length flags → ((j s : ℕ) → (all ≡ true → j ≡ i → s ≢ symbol) → flag_at new j s ≡ flag_at flags j s)
-    → q.down ≡ p.down → ((k : ℕ) → get_or p.done k false ≡ true → get_or q.done k false ≡ true) → (all ≡ true → due_in r.endpoint.prbs q symbol ≡ false)
+    → q.down ≡ p.down → ((k : ℕ) → get_or p.reported k false ≡ true → get_or q.reported k false ≡ true) → (all ≡ true → due_in r.endpoint.prbs q symbol ≡ false)
     → IsFlagged (put r i q) new
 flagged_told r flags new i symbol p q all flagged within read size others down more settled = record {
   size = size ∙ flagged.size ∙ sym (length-set r.places i q);
@@ -208,7 +208,7 @@ flagged_told r flags new i symbol p q all flagged within read size others down m
     there = get_or_read r.places i p within read blank
 
     still : (s : ℕ) → flag_at flags i s ≡ false → due_in r.endpoint.prbs q s ≡ false
-    still s off = marked_quiet r.endpoint.prbs s p q down more (ap (λ (x : PlaceValue). due_in r.endpoint.prbs x s) there ∙ flagged.quiet i s off)
+    still s off = reported_quiet r.endpoint.prbs s p q down more (ap (λ (x : PlaceValue). due_in r.endpoint.prbs x s) there ∙ flagged.quiet i s off)
 
 pub flagged_empty : (r : RingValue) (flags : List (List Bool)) → length flags ≡ length r.places → ((i : ℕ) → (get_or r.places i blank).down ≡ []) → IsFlagged r flags
 flagged_empty r flags size empty = record {
@@ -226,7 +226,7 @@ downs_pushed (x ∷ xs) p all is (suc i) = downs_pushed xs p (λ j. all (suc j))
 -- ---- a symbol of a slot
 
 abbrev ring_due : RingValue → ℕ → Slot → ℕ → Bool
-ring_due r ep slot s = some 0 r.endpoint.prbs (λ prb. is_due (ring_claim r (cell_at ep true slot s prb)) (ring_done r (cell_at ep true slot s prb)))
+ring_due r ep slot s = some 0 r.endpoint.prbs (λ prb. is_due (ring_claim r (cell_at ep true slot s prb)) (ring_reported r (cell_at ep true slot s prb)))
 
 due_elsewhere : (r : RingValue) (ep : ℕ) (slot : Slot) (s : ℕ) → has_slot r slot ≡ false → ring_due r ep slot s ≡ false
 due_elsewhere r ep slot s none = some_from 0 r.endpoint.prbs _ (λ n low high. no_due _ _ (λ re. rw none refl))
@@ -241,12 +241,12 @@ unflagged r ep slot s quiet = sym (elim (cases_Bool (has_slot r slot)) [
 -- a symbol of a slot that has its place
 quiet_has : (r : RingValue) (ep : ℕ) (slot : Slot) (s : ℕ) → has_slot r slot ≡ true → due_in r.endpoint.prbs (place_of r slot) s ≡ false → ring_due r ep slot s ≡ false
 quiet_has r ep slot s has off =
-    sym (due_seen r slot s (cell_number r.endpoint.prbs s 0) ep (marks_seen (place_of r slot) slot true) (done_seen (place_of r slot) slot) refl refl refl)
+    sym (due_seen r slot s (cell_number r.endpoint.prbs s 0) ep (claims_seen (place_of r slot) slot true) (reported_seen (place_of r slot) slot) refl refl refl)
     ∙ rw has off
 
 -- a ring without a flag
 pub no_flags : (r v : RingValue) (flags : List (List Bool)) (ep : ℕ) (slot : Slot) (s : ℕ) → r ≡ v → IsRing r → IsFlagged r flags
-    → ((j k : ℕ) → j < length flags → k < 14 → flag_at flags j k ≡ false) → s < symbols_of v.endpoint.numerology → ring_due v ep slot s ≡ false
+    → ((j k : ℕ) → j < length flags → k < SLOT_SYMBOLS → flag_at flags j k ≡ false) → s < symbols_of v.endpoint.numerology → ring_due v ep slot s ≡ false
 no_flags r v flags ep slot s same ring flagged none within =
     subst (λ (x : RingValue). ring_due x ep slot s ≡ false) same (elim (cases_Bool (has_slot r slot)) [
       | inr other ↦ due_elsewhere r ep slot s other

@@ -15,18 +15,20 @@ use Rattle.unit_model.specs.Claims.{cell_at}
 use Rattle.unit_model.specs.Proper.{IsSlot}
 use Rattle.unit_model.specs.declared.allocations.Allocation.{Allocation}
 use Rattle.unit_model.specs.declared.cells.Cell.{Cell}
-use Rattle.slot_rings.specs.Places.{PlaceValue, blank, empty_place, opened, is_in_use, is_of, marks_of, marks_seen, claim_in, no_marks, place_claim, place_block, place_done, place_uplink, cell_number}
-use Rattle.slot_rings.specs.Rings.{RingValue, IsRing, SharePlace, SameClaims, SameBlocks, SameDone, SameUplink, place_index, place_of, with_place, ring_claim, ring_block, ring_done, ring_uplink, has_slot}
-use Rattle.slot_rings.specs.declared.marks.Marks.{Marks}
+use Rattle.slot_rings.specs.Places.{PlaceValue, blank, empty_place, opened, is_in_use, is_place_of, claims_of, claims_seen, claim_in, no_claims, place_claim, place_block, place_reported, place_uplink, cell_number}
+use Rattle.slot_rings.specs.Rings.{RingValue, IsRing, SharePlace, SameClaims, SameBlocks, SameSlotReported, SameUplink, place_index, place_of, with_place, ring_claim, ring_block, ring_reported, ring_uplink, has_slot}
+use Rattle.slot_rings.specs.declared.claims.CellClaims.{CellClaims}
 use Rattle.unit_model.specs.declared.verdicts.CommandVerdict.TheVariants.{Accepted}
 use Rattle.slot_rings.specs.Verdicts.{verdict_by, claim_after}
 use Rattle.slot_rings.proofs.SeenLemmas.{mask_seen, verdict_seen}
-use Rattle.slot_rings.proofs.PlaceLemmas.{of_is, of_own, slot_is, no_claim}
+use Rattle.slot_rings.proofs.PlaceLemmas.{of_is, of_own, no_claim}
+use Rattle.fh_time.specs.declared.symbols.TheConstants.{SLOT_SYMBOLS}
+use Rattle.unit_model.proofs.ClaimLemmas.{same_slot_is as slot_is}
 
-pub symbols_are : (n : Numerology) → symbols_of n ≤ 14
+pub symbols_are : (n : Numerology) → symbols_of n ≤ SLOT_SYMBOLS
 symbols_are n = go n.kind
   where
-    go : (k : Kind) → kind_symbols k ≤ 14
+    go : (k : Kind) → kind_symbols k ≤ SLOT_SYMBOLS
     go (Ordinary spacing) = omega arith
     go (Offset spacing offset cp) = omega arith
     go Extended = omega arith
@@ -103,7 +105,7 @@ some_own s t e = cc
 
 pub put_opened : (r : RingValue) (i : ℕ) (p q : PlaceValue) (slot : Slot) → IsRing r → i < length r.places → p ≡ get_or r.places i p
     → IsSlot r.endpoint.numerology slot → i ≡ place_index r slot → q ≡ opened slot p → IsRing (put r i q)
-put_opened r i p q slot ring within read is i_is q_is = elim (cases_Bool (is_of p.slot slot)) [
+put_opened r i p q slot ring within read is i_is q_is = elim (cases_Bool (is_place_of p.slot slot)) [
   | inl own ↦
       let same : q ≡ p = rw own at q_is in
       put_kept r i p q ring within read (ap (λ (x : PlaceValue). x.slot) same) (ap (λ (x : PlaceValue). x.prbs) same)
@@ -138,7 +140,7 @@ own_at r i p s ring within read is =
     let owner : (get_or r.places i blank).slot ≡ Some s = ap (λ (x : PlaceValue). x.slot) (sym there) ∙ is in
     let home = ring.homes i s within owner in
     let at : (place_of r s).slot ≡ Some s = subst (λ (j : ℕ). (get_or r.places j blank).slot ≡ Some s) (sym home.1) owner in
-    (ap (λ (o : Option Slot). is_of o s) at ∙ of_own s, home.1)
+    (ap (λ (o : Option Slot). is_place_of o s) at ∙ of_own s, home.1)
 
 -- ---- a slot that has its place
 
@@ -146,15 +148,15 @@ own_block : (r : RingValue) (cell : Cell) (slot : Slot) → cell.slot ≡ slot �
     → ring_block r cell ≡ get_or (place_of r slot).blocks (cell_number r.endpoint.prbs cell.symbol cell.prb) None
 own_block r cell slot at own =
     let there : place_of r cell.slot ≡ place_of r slot = ap (λ (s : Slot). place_of r s) at in
-    let owner : is_of (place_of r slot).slot cell.slot ≡ true = ap (λ (s : Slot). is_of (place_of r slot).slot s) at ∙ own in
+    let owner : is_place_of (place_of r slot).slot cell.slot ≡ true = ap (λ (s : Slot). is_place_of (place_of r slot).slot s) at ∙ own in
     ap (λ (p : PlaceValue). place_block r.endpoint.prbs p cell) there ∙ rw owner refl
 
-own_done : (r : RingValue) (cell : Cell) (slot : Slot) → cell.slot ≡ slot → has_slot r slot ≡ true
-    → ring_done r cell ≡ get_or (place_of r slot).done (cell_number r.endpoint.prbs cell.symbol cell.prb) false
-own_done r cell slot at own =
+own_reported : (r : RingValue) (cell : Cell) (slot : Slot) → cell.slot ≡ slot → has_slot r slot ≡ true
+    → ring_reported r cell ≡ get_or (place_of r slot).reported (cell_number r.endpoint.prbs cell.symbol cell.prb) false
+own_reported r cell slot at own =
     let there : place_of r cell.slot ≡ place_of r slot = ap (λ (s : Slot). place_of r s) at in
-    let owner : is_of (place_of r slot).slot cell.slot ≡ true = ap (λ (s : Slot). is_of (place_of r slot).slot s) at ∙ own in
-    ap (λ (p : PlaceValue). place_done r.endpoint.prbs p cell) there ∙ rw owner refl
+    let owner : is_place_of (place_of r slot).slot cell.slot ≡ true = ap (λ (s : Slot). is_place_of (place_of r slot).slot s) at ∙ own in
+    ap (λ (p : PlaceValue). place_reported r.endpoint.prbs p cell) there ∙ rw owner refl
 
 pub block_still : (old new : RingValue) (slot : Slot) (cell : Cell) → new.endpoint ≡ old.endpoint
     → has_slot old slot ≡ true → has_slot new slot ≡ true → cell.slot ≡ slot
@@ -171,77 +173,77 @@ pub block_other : (old new : RingValue) (slot : Slot) (cell : Cell) (k : ℕ) �
     → ring_block new cell ≡ ring_block old cell
 block_other old new slot cell k endpoint was is at apart others = block_still old new slot cell endpoint was is at (others _ apart)
 
-pub done_still : (old new : RingValue) (slot : Slot) (cell : Cell) → new.endpoint ≡ old.endpoint
+pub reported_still : (old new : RingValue) (slot : Slot) (cell : Cell) → new.endpoint ≡ old.endpoint
     → has_slot old slot ≡ true → has_slot new slot ≡ true → cell.slot ≡ slot
-    → get_or (place_of new slot).done (cell_number old.endpoint.prbs cell.symbol cell.prb) false ≡ get_or (place_of old slot).done (cell_number old.endpoint.prbs cell.symbol cell.prb) false
-    → ring_done new cell ≡ ring_done old cell
-done_still old new slot cell endpoint was is at same =
-    own_done new cell slot at is
-    ∙ ap (λ (n : ℕ). get_or (place_of new slot).done (cell_number n cell.symbol cell.prb) false) (ap (λ e. e.prbs) endpoint)
-    ∙ same ∙ sym (own_done old cell slot at was)
+    → get_or (place_of new slot).reported (cell_number old.endpoint.prbs cell.symbol cell.prb) false ≡ get_or (place_of old slot).reported (cell_number old.endpoint.prbs cell.symbol cell.prb) false
+    → ring_reported new cell ≡ ring_reported old cell
+reported_still old new slot cell endpoint was is at same =
+    own_reported new cell slot at is
+    ∙ ap (λ (n : ℕ). get_or (place_of new slot).reported (cell_number n cell.symbol cell.prb) false) (ap (λ e. e.prbs) endpoint)
+    ∙ same ∙ sym (own_reported old cell slot at was)
 
 -- a cell of a row, by the number of its first one
 row_cell : (prbs symbol prb : ℕ) → cell_number prbs symbol prb ≡ cell_number prbs symbol 0 + prb
 row_cell prbs symbol prb = omega arith
 
--- a cell that is marked if it is in use
-pub used_marked : (old new : RingValue) (slot : Slot) (symbol ep prb : ℕ) → new.endpoint ≡ old.endpoint → has_slot old slot ≡ true → has_slot new slot ≡ true
-    → get_or (place_of new slot).done (cell_number old.endpoint.prbs symbol 0 + prb) false
-    ≡ (get_or (place_of old slot).done (cell_number old.endpoint.prbs symbol 0 + prb) false
-    || is_in_use (claim_in (get_or (place_of old slot).down (cell_number old.endpoint.prbs symbol 0 + prb) no_marks)))
-    → ring_done new (cell_at ep true slot symbol prb) ≡ (ring_done old (cell_at ep true slot symbol prb) || is_in_use (ring_claim old (cell_at ep true slot symbol prb)))
-used_marked old new slot symbol ep prb endpoint was is step =
+-- a cell that is set as reported if it is in use
+pub used_reported : (old new : RingValue) (slot : Slot) (symbol ep prb : ℕ) → new.endpoint ≡ old.endpoint → has_slot old slot ≡ true → has_slot new slot ≡ true
+    → get_or (place_of new slot).reported (cell_number old.endpoint.prbs symbol 0 + prb) false
+    ≡ (get_or (place_of old slot).reported (cell_number old.endpoint.prbs symbol 0 + prb) false
+    || is_in_use (claim_in (get_or (place_of old slot).down (cell_number old.endpoint.prbs symbol 0 + prb) no_claims)))
+    → ring_reported new (cell_at ep true slot symbol prb) ≡ (ring_reported old (cell_at ep true slot symbol prb) || is_in_use (ring_claim old (cell_at ep true slot symbol prb)))
+used_reported old new slot symbol ep prb endpoint was is step =
     let cell = cell_at ep true slot symbol prb in
     let at = row_cell old.endpoint.prbs symbol prb in
-    let m_is : get_or (place_of old slot).down (cell_number old.endpoint.prbs symbol 0 + prb) no_marks
-    ≡ get_or (marks_seen (place_of old slot) slot true) (cell_number old.endpoint.prbs symbol prb) no_marks =
-    rw was (ap (λ (k : ℕ). get_or (place_of old slot).down k no_marks) (sym at)) in
-    own_done new cell slot refl is
-    ∙ ap (λ (n : ℕ). get_or (place_of new slot).done (cell_number n symbol prb) false) (ap (λ e. e.prbs) endpoint)
-    ∙ ap (λ (k : ℕ). get_or (place_of new slot).done k false) at
+    let m_is : get_or (place_of old slot).down (cell_number old.endpoint.prbs symbol 0 + prb) no_claims
+    ≡ get_or (claims_seen (place_of old slot) slot true) (cell_number old.endpoint.prbs symbol prb) no_claims =
+    rw was (ap (λ (k : ℕ). get_or (place_of old slot).down k no_claims) (sym at)) in
+    own_reported new cell slot refl is
+    ∙ ap (λ (n : ℕ). get_or (place_of new slot).reported (cell_number n symbol prb) false) (ap (λ e. e.prbs) endpoint)
+    ∙ ap (λ (k : ℕ). get_or (place_of new slot).reported k false) at
     ∙ step
     ∙ ap₂ (λ (d : Bool) (u : ℕ). d || not (u == 0))
-    (ap (λ (k : ℕ). get_or (place_of old slot).done k false) (sym at) ∙ sym (own_done old cell slot refl was))
+    (ap (λ (k : ℕ). get_or (place_of old slot).reported k false) (sym at) ∙ sym (own_reported old cell slot refl was))
     (mask_seen old slot symbol prb ep _ m_is)
 
 -- ---- a slot that is given its place
 
 opened_owner : (slot : Slot) (p : PlaceValue) → (opened slot p).slot ≡ Some slot
-opened_owner slot p = elim (cases_Bool (is_of p.slot slot)) [
+opened_owner slot p = elim (cases_Bool (is_place_of p.slot slot)) [
   | inl own ↦ rw own (of_is p.slot slot own)
   | inr other ↦ rw other refl
 ]
 
-opened_kept : (slot : Slot) (p : PlaceValue) → is_of p.slot slot ≡ true → opened slot p ≡ p
+opened_kept : (slot : Slot) (p : PlaceValue) → is_place_of p.slot slot ≡ true → opened slot p ≡ p
 opened_kept slot p own = rw own refl
 
 opened_claim : (prbs : ℕ) (p : PlaceValue) (cell : Cell) (re : ℕ) → place_claim prbs (opened cell.slot p) cell re ≡ place_claim prbs p cell re
-opened_claim prbs p cell re = elim (cases_Bool (is_of p.slot cell.slot)) [
+opened_claim prbs p cell re = elim (cases_Bool (is_place_of p.slot cell.slot)) [
   | inl own ↦ ap (λ (q : PlaceValue). place_claim prbs q cell re) (opened_kept cell.slot p own)
-  | inr other ↦ let o = of_own cell.slot in rw (other, o) (none (marks_of (empty_place (Some cell.slot) p.prbs) cell.down) (no_marks_yet cell.down))
+  | inr other ↦ let o = of_own cell.slot in rw (other, o) (none (claims_of (empty_place (Some cell.slot) p.prbs) cell.down) (no_claims_yet cell.down))
 ]
   where
-    no_marks_yet : (b : Bool) → marks_of (empty_place (Some cell.slot) p.prbs) b ≡ []
-    no_marks_yet true = refl
-    no_marks_yet false = refl
+    no_claims_yet : (b : Bool) → claims_of (empty_place (Some cell.slot) p.prbs) b ≡ []
+    no_claims_yet true = refl
+    no_claims_yet false = refl
 
-    none : (ms : List Marks) → ms ≡ [] → claim_in (get_or ms (cell_number prbs cell.symbol cell.prb) no_marks) re ≡ None
-    none ms e = ap (λ (l : List Marks). claim_in (get_or l (cell_number prbs cell.symbol cell.prb) no_marks) re) e ∙ no_claim re
+    none : (ms : List CellClaims) → ms ≡ [] → claim_in (get_or ms (cell_number prbs cell.symbol cell.prb) no_claims) re ≡ None
+    none ms e = ap (λ (l : List CellClaims). claim_in (get_or l (cell_number prbs cell.symbol cell.prb) no_claims) re) e ∙ no_claim re
 
 opened_block : (prbs : ℕ) (p : PlaceValue) (cell : Cell) → place_block prbs (opened cell.slot p) cell ≡ place_block prbs p cell
-opened_block prbs p cell = elim (cases_Bool (is_of p.slot cell.slot)) [
+opened_block prbs p cell = elim (cases_Bool (is_place_of p.slot cell.slot)) [
   | inl own ↦ ap (λ (q : PlaceValue). place_block prbs q cell) (opened_kept cell.slot p own)
   | inr other ↦ let o = of_own cell.slot in rw (other, o) refl
 ]
 
-opened_done : (prbs : ℕ) (p : PlaceValue) (cell : Cell) → place_done prbs (opened cell.slot p) cell ≡ place_done prbs p cell
-opened_done prbs p cell = elim (cases_Bool (is_of p.slot cell.slot)) [
-  | inl own ↦ ap (λ (q : PlaceValue). place_done prbs q cell) (opened_kept cell.slot p own)
+opened_reported : (prbs : ℕ) (p : PlaceValue) (cell : Cell) → place_reported prbs (opened cell.slot p) cell ≡ place_reported prbs p cell
+opened_reported prbs p cell = elim (cases_Bool (is_place_of p.slot cell.slot)) [
+  | inl own ↦ ap (λ (q : PlaceValue). place_reported prbs q cell) (opened_kept cell.slot p own)
   | inr other ↦ let o = of_own cell.slot in rw (other, o) refl
 ]
 
 opened_uplink : (p : PlaceValue) (slot : Slot) → place_uplink (opened slot p) slot ≡ place_uplink p slot
-opened_uplink p slot = elim (cases_Bool (is_of p.slot slot)) [
+opened_uplink p slot = elim (cases_Bool (is_place_of p.slot slot)) [
   | inl own ↦ ap (λ (q : PlaceValue). place_uplink q slot) (opened_kept slot p own)
   | inr other ↦ let o = of_own slot in rw (other, o) refl
 ]
@@ -254,7 +256,7 @@ module _ (old new : RingValue) (slot : Slot) (ring : IsRing old) (is : new ≡ w
   place_is s share = ap (λ (r : RingValue). place_of r s) is ∙ put_own old (place_index old slot) (opened slot (place_of old slot)) s ring (sym share)
 
   pub opened_has : has_slot new slot ≡ true
-  opened_has = ap (λ (p : PlaceValue). is_of p.slot slot) (place_is slot refl) ∙ ap (λ (o : Option Slot). is_of o slot) (opened_owner slot (place_of old slot)) ∙ of_own slot
+  opened_has = ap (λ (p : PlaceValue). is_place_of p.slot slot) (place_is slot refl) ∙ ap (λ (o : Option Slot). is_place_of o slot) (opened_owner slot (place_of old slot)) ∙ of_own slot
 
   pub opened_claims : SameClaims slot old new
   opened_claims cell re at =
@@ -272,20 +274,20 @@ module _ (old new : RingValue) (slot : Slot) (ring : IsRing old) (is : new ≡ w
       ∙ ap (λ (n : ℕ). place_block n (opened cell.slot (place_of old cell.slot)) cell) (ap (λ e. e.prbs) endpoint_same)
       ∙ opened_block old.endpoint.prbs (place_of old cell.slot) cell
 
-  pub opened_dones : SameDone slot old new
-  opened_dones cell at =
+  pub opened_all_reported : SameSlotReported slot old new
+  opened_all_reported cell at =
       let there : place_of new cell.slot ≡ opened cell.slot (place_of old cell.slot) =
       subst (λ (s : Slot). place_of new s ≡ opened s (place_of old s)) (sym at) (place_is slot refl) in
-      ap (λ (p : PlaceValue). place_done new.endpoint.prbs p cell) there
-      ∙ ap (λ (n : ℕ). place_done n (opened cell.slot (place_of old cell.slot)) cell) (ap (λ e. e.prbs) endpoint_same)
-      ∙ opened_done old.endpoint.prbs (place_of old cell.slot) cell
+      ap (λ (p : PlaceValue). place_reported new.endpoint.prbs p cell) there
+      ∙ ap (λ (n : ℕ). place_reported n (opened cell.slot (place_of old cell.slot)) cell) (ap (λ e. e.prbs) endpoint_same)
+      ∙ opened_reported old.endpoint.prbs (place_of old cell.slot) cell
 
   pub opened_uplinks : SameUplink slot old new
   opened_uplinks = ap (λ (p : PlaceValue). place_uplink p slot) (place_is slot refl) ∙ opened_uplink (place_of old slot) slot
 
   pub opened_parted : (s : Slot) → SharePlace old s slot → (s ≡ slot → ⊥) → has_slot new s ≡ false
   opened_parted s share ne =
-      ap (λ (p : PlaceValue). is_of p.slot s) (place_is s share) ∙ ap (λ (o : Option Slot). is_of o s) (opened_owner slot (place_of old slot))
+      ap (λ (p : PlaceValue). is_place_of p.slot s) (place_is s share) ∙ ap (λ (o : Option Slot). is_place_of o s) (opened_owner slot (place_of old slot))
       ∙ false_from_ne_true _ (λ same. ne (sym (slot_is slot s same)))
 
 -- ---- a claim in a slot that has its place

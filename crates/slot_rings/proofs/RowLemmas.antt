@@ -1,19 +1,21 @@
--- What is known of the marks of a symbol.
+-- What is known of the claims of a symbol.
 use Rattle.std.proofs.Common.{◌≡◌, ℕ, zero, suc, ◌+◌, ◌-◌, ◌*◌, ◌<◌, ◌≤◌, inl, inr, Bool, true, false, not, ◌&&◌, ◌||◌, ◌==◌, nat_le, nat_lt, min, max, if◌then◌else◌, is_some, List, [], ◌∷◌, length, get_or, set, get_or-set_same, get_or-set_other, refl, ap, ap₂, sym, ◌∙◌, subst, arith, Option, Some, None}
 use Rattle.std.proofs.lemmas.Bool.{and_from, and_parts, cases_Bool, cases_eq, cases_lt, le-leb, le-ltb, leb-true, lt-ltb, ltb-false, ltb-true}
 use Rattle.unit_model.specs.Claims.{claim_of, first_prb, in_mask, is_claimed, is_from, is_other, is_overlapped, is_under, prb_count}
 use Rattle.unit_model.specs.Lists.{every, some}
 use Rattle.unit_model.specs.declared.allocations.Allocation.{Allocation}
 use Rattle.unit_model.specs.declared.cells.Claim.{Claim}
-use Rattle.slot_rings.specs.Places.{cell_number, claim_in, no_marks}
-use Rattle.slot_rings.specs.Rows.{AreRows, Grows, IsRow, IsRun, empty_row, id_of, id_with, marks_in, row_at, run_marks, run_of}
-use Rattle.slot_rings.specs.declared.marks.Marks.{Marks}
+use Rattle.slot_rings.specs.Places.{cell_number, claim_in, no_claims}
+use Rattle.slot_rings.specs.Rows.{AreRows, Grows, IsRow, IsRun, empty_row, claim_id, id_with, row_claims, row_at, run_claims, claimed_run}
+use Rattle.slot_rings.specs.declared.claims.CellClaims.{CellClaims}
 use Rattle.slot_rings.specs.declared.rows.Row.{Row}
 use Rattle.slot_rings.specs.declared.rows.Row.TheVariants.{Known, Mixed}
 use Rattle.slot_rings.specs.declared.rows.Run.{Run}
-use Rattle.slot_rings.proofs.JudgeLemmas.{from_above, from_below, from_in}
+use Rattle.slot_rings.proofs.JudgeLemmas.{from_above, from_below}
 use Rattle.slot_rings.proofs.PlaceLemmas.{no_claim}
-use Rattle.slot_rings.proofs.RangeLemmas.{every_at, every_from, every_not, every_same, some_from, some_one, some_same}
+use Rattle.slot_rings.proofs.RangeLemmas.{every_not, some_from}
+use Rattle.fh_time.specs.declared.symbols.TheConstants.{SLOT_SYMBOLS}
+use Rattle.unit_model.proofs.ClaimLemmas.{is_in as from_in, every_same, some_same, every_at, every_one as every_from, some_one}
 
 -- ---- tests of claims go by their ids alone
 
@@ -29,19 +31,19 @@ abbrev other_id : ℕ → Option ℕ → Bool
 other_id id None = false
 other_id id (Some i) = not (i == id)
 
-under_is : (id : ℕ) (o : Option Claim) → is_under id o ≡ under_id id (id_of o)
+under_is : (id : ℕ) (o : Option Claim) → is_under id o ≡ under_id id (claim_id o)
 under_is id None = refl
 under_is id (Some c) = refl
 
-overlap_is : (id : ℕ) (m : Bool) (o : Option Claim) → ((m && is_some o) || is_other id o) ≡ ((m && has_id (id_of o)) || other_id id (id_of o))
+overlap_is : (id : ℕ) (m : Bool) (o : Option Claim) → ((m && is_some o) || is_other id o) ≡ ((m && has_id (claim_id o)) || other_id id (claim_id o))
 overlap_is id m None = refl
 overlap_is id m (Some c) = refl
 
-pub claimed_ids : (id mask : ℕ) (f g : ℕ → Option Claim) → ((re : ℕ) → re < 12 → id_of (f re) ≡ id_of (g re)) → is_claimed id mask f ≡ is_claimed id mask g
+pub claimed_ids : (id mask : ℕ) (f g : ℕ → Option Claim) → ((re : ℕ) → re < 12 → claim_id (f re) ≡ claim_id (g re)) → is_claimed id mask f ≡ is_claimed id mask g
 claimed_ids id mask f g same = every_same 0 12 _ _ (λ re low high.
     ap (λ b. not (in_mask mask re) || b) (under_is id (f re) ∙ ap (under_id id) (same re (omega arith)) ∙ sym (under_is id (g re))))
 
-pub overlapped_ids : (id mask : ℕ) (f g : ℕ → Option Claim) → ((re : ℕ) → re < 12 → id_of (f re) ≡ id_of (g re)) → is_overlapped id mask f ≡ is_overlapped id mask g
+pub overlapped_ids : (id mask : ℕ) (f g : ℕ → Option Claim) → ((re : ℕ) → re < 12 → claim_id (f re) ≡ claim_id (g re)) → is_overlapped id mask f ≡ is_overlapped id mask g
 overlapped_ids id mask f g same = some_same 0 12 _ _ (λ re low high.
     overlap_is id (in_mask mask re) (f re)
     ∙ ap (λ o. (in_mask mask re && has_id o) || other_id id o) (same re (omega arith))
@@ -49,46 +51,46 @@ overlapped_ids id mask f g same = some_same 0 12 _ _ (λ re low high.
 
 -- ---- a run
 
-in_run : (r : Run) (n : ℕ) → r.first ≤ n → n < r.first + r.count → marks_in r n ≡ run_marks r
+in_run : (r : Run) (n : ℕ) → r.first ≤ n → n < r.first + r.count → row_claims r n ≡ run_claims r
 in_run r n low high = let e = from_in r.first r.count n low high in rw e refl
 
-before_run : (r : Run) (n : ℕ) → n < r.first → marks_in r n ≡ no_marks
+before_run : (r : Run) (n : ℕ) → n < r.first → row_claims r n ≡ no_claims
 before_run r n below = let e = from_below r.first r.count n below in rw e refl
 
-behind_run : (r : Run) (n : ℕ) → r.first + r.count ≤ n → marks_in r n ≡ no_marks
+behind_run : (r : Run) (n : ℕ) → r.first + r.count ≤ n → row_claims r n ≡ no_claims
 behind_run r n above = let e = from_above r.first r.count n above in rw e refl
 
 -- where a cell without claims has what is asked for, every cell has
-unclaimed_all : (id mask : ℕ) (f : ℕ → Option Claim) → is_claimed id mask (claim_in no_marks) ≡ true → is_claimed id mask f ≡ true
+unclaimed_all : (id mask : ℕ) (f : ℕ → Option Claim) → is_claimed id mask (claim_in no_claims) ≡ true → is_claimed id mask f ≡ true
 unclaimed_all id mask f all = every_from 0 12 _ (λ re low high.
-    free (in_mask mask re) _ _ (no_claim re) (every_at 0 12 (λ re. not (in_mask mask re) || is_under id (claim_in no_marks re)) re all low high))
+    free (in_mask mask re) _ _ (no_claim re) (every_at 0 12 (λ re. not (in_mask mask re) || is_under id (claim_in no_claims re)) re all low high))
   where
     free : (m : Bool) (o : Option Claim) (p : Option Claim) → p ≡ None → (not m || is_under id p) ≡ true → (not m || is_under id o) ≡ true
     free true o p e is = cc
     free false o p e is = refl
 
 pub all_in_run : (r : Run) (first count id mask : ℕ) → (nat_le r.first first && nat_le (first + count) (r.first + r.count)) ≡ true → 0 < count
-    → is_claimed id mask (claim_in (run_marks r)) ≡ every first count (λ n. is_claimed id mask (claim_in (marks_in r n)))
+    → is_claimed id mask (claim_in (run_claims r)) ≡ every first count (λ n. is_claimed id mask (claim_in (row_claims r n)))
 all_in_run r first count id mask is any =
     let low : r.first ≤ first = leb-true r.first first (and_parts (nat_le r.first first) (nat_le (first + count) (r.first + r.count)) is).0 in
     let high : first + count ≤ r.first + r.count = leb-true (first + count) (r.first + r.count) (and_parts (nat_le r.first first) (nat_le (first + count) (r.first + r.count)) is).1 in
-    elim (cases_Bool (is_claimed id mask (claim_in (run_marks r)))) [
+    elim (cases_Bool (is_claimed id mask (claim_in (run_claims r)))) [
       | inl is_so ↦ is_so ∙ sym (every_from first count _ (λ n left right. ap (λ m. is_claimed id mask (claim_in m)) (in_run r n (omega (arith, low, left)) (omega (arith, high, right))) ∙ is_so))
-      | inr none ↦ none ∙ sym (every_not first count (λ n. is_claimed id mask (claim_in (marks_in r n))) first (omega arith) (omega (arith, any))
+      | inr none ↦ none ∙ sym (every_not first count (λ n. is_claimed id mask (claim_in (row_claims r n))) first (omega arith) (omega (arith, any))
           (ap (λ m. is_claimed id mask (claim_in m)) (in_run r first low (omega (arith, high, any))) ∙ none))
     ]
 
 -- a cell of the range that the run does not reach
-not_in_run : (r : Run) (first count id mask n : ℕ) → first ≤ n → n < first + count → marks_in r n ≡ no_marks
-    → is_claimed id mask (claim_in no_marks) ≡ every first count (λ n. is_claimed id mask (claim_in (marks_in r n)))
-not_in_run r first count id mask n left right out = elim (cases_Bool (is_claimed id mask (claim_in no_marks))) [
-  | inl is_so ↦ is_so ∙ sym (every_from first count _ (λ k low high. unclaimed_all id mask (claim_in (marks_in r k)) is_so))
-  | inr none ↦ none ∙ sym (every_not first count (λ n. is_claimed id mask (claim_in (marks_in r n))) n left right
+not_in_run : (r : Run) (first count id mask n : ℕ) → first ≤ n → n < first + count → row_claims r n ≡ no_claims
+    → is_claimed id mask (claim_in no_claims) ≡ every first count (λ n. is_claimed id mask (claim_in (row_claims r n)))
+not_in_run r first count id mask n left right out = elim (cases_Bool (is_claimed id mask (claim_in no_claims))) [
+  | inl is_so ↦ is_so ∙ sym (every_from first count _ (λ k low high. unclaimed_all id mask (claim_in (row_claims r k)) is_so))
+  | inr none ↦ none ∙ sym (every_not first count (λ n. is_claimed id mask (claim_in (row_claims r n))) n left right
       (ap (λ m. is_claimed id mask (claim_in m)) out ∙ none))
 ]
 
 pub not_all_in_run : (r : Run) (first count id mask : ℕ) → 0 < count → (nat_le r.first first && nat_le (first + count) (r.first + r.count)) ≡ false
-    → is_claimed id mask (claim_in no_marks) ≡ every first count (λ n. is_claimed id mask (claim_in (marks_in r n)))
+    → is_claimed id mask (claim_in no_claims) ≡ every first count (λ n. is_claimed id mask (claim_in (row_claims r n)))
 not_all_in_run r first count id mask some out = elim (cases_lt first r.first) [
   | inl below ↦ not_in_run r first count id mask first (omega arith) (omega (arith, some)) (before_run r first below)
   | inr low ↦ elim (cases_lt first (r.first + r.count)) [
@@ -104,8 +106,8 @@ not_all_in_run r first count id mask some out = elim (cases_lt first r.first) [
     differ b p q = cc
 
 -- nothing clashes with a cell without claims
-unclaimed_free : (id mask : ℕ) → is_overlapped id mask (claim_in no_marks) ≡ false
-unclaimed_free id mask = some_from 0 12 _ (λ re low high. none (in_mask mask re) (claim_in no_marks re) (no_claim re))
+unclaimed_free : (id mask : ℕ) → is_overlapped id mask (claim_in no_claims) ≡ false
+unclaimed_free id mask = some_from 0 12 _ (λ re low high. none (in_mask mask re) (claim_in no_claims re) (no_claim re))
   where
     none : (m : Bool) (o : Option Claim) → o ≡ None → ((m && is_some o) || is_other id o) ≡ false
     none true None e = refl
@@ -113,23 +115,23 @@ unclaimed_free id mask = some_from 0 12 _ (λ re low high. none (in_mask mask re
     none m (Some c) e = cc
 
 pub meets_run : (r : Run) (first count id mask : ℕ) → nat_lt (max r.first first) (min (r.first + r.count) (first + count)) ≡ true
-    → is_overlapped id mask (claim_in (run_marks r)) ≡ some first count (λ n. is_overlapped id mask (claim_in (marks_in r n)))
+    → is_overlapped id mask (claim_in (run_claims r)) ≡ some first count (λ n. is_overlapped id mask (claim_in (row_claims r n)))
 meets_run r first count id mask is =
     let less = ltb-true _ _ is in
-    elim (cases_Bool (is_overlapped id mask (claim_in (run_marks r)))) [
-      | inl is_so ↦ is_so ∙ sym (some_one first count (λ n. is_overlapped id mask (claim_in (marks_in r n))) (max r.first first) (omega (arith, less)) (omega (arith, less))
+    elim (cases_Bool (is_overlapped id mask (claim_in (run_claims r)))) [
+      | inl is_so ↦ is_so ∙ sym (some_one first count (λ n. is_overlapped id mask (claim_in (row_claims r n))) (max r.first first) (omega (arith, less)) (omega (arith, less))
           (ap (λ m. is_overlapped id mask (claim_in m)) (in_run r (max r.first first) (omega (arith, less)) (omega (arith, less))) ∙ is_so))
       | inr none ↦ none ∙ sym (some_from first count _ (λ k a b. each k none))
     ]
   where
-    each : (k : ℕ) → is_overlapped id mask (claim_in (run_marks r)) ≡ false → is_overlapped id mask (claim_in (marks_in r k)) ≡ false
+    each : (k : ℕ) → is_overlapped id mask (claim_in (run_claims r)) ≡ false → is_overlapped id mask (claim_in (row_claims r k)) ≡ false
     each k none = elim (cases_Bool (is_from r.first r.count k)) [
       | inl own ↦ rw own none
       | inr other ↦ let e = unclaimed_free id mask in rw other e
     ]
 
 pub misses_run : (r : Run) (first count id mask : ℕ) → nat_lt (max r.first first) (min (r.first + r.count) (first + count)) ≡ false
-    → false ≡ some first count (λ n. is_overlapped id mask (claim_in (marks_in r n)))
+    → false ≡ some first count (λ n. is_overlapped id mask (claim_in (row_claims r n)))
 misses_run r first count id mask is =
     let more = ltb-false _ _ is in
     sym (some_from first count _ (λ n left right. elim (cases_lt n r.first) [
@@ -142,7 +144,7 @@ misses_run r first count id mask is =
 
 -- ---- a run that grows
 
-id_in : (r : Run) (n re : ℕ) → id_of (claim_in (marks_in r n) re) ≡ (if is_from r.first r.count n && in_mask r.claimed re then Some r.id else None)
+id_in : (r : Run) (n re : ℕ) → claim_id (claim_in (row_claims r n) re) ≡ (if is_from r.first r.count n && in_mask r.claimed re then Some r.id else None)
 id_in r n re = elim (cases_Bool (is_from r.first r.count n)) [
   | inl own ↦ elim (cases_Bool (in_mask r.claimed re)) [
     | inl named ↦ rw (own, named) refl
@@ -236,67 +238,67 @@ grows_before old more count id claimed sum at = grows_by old more (record more {
 
 -- ---- the rows of a slot
 
-empty_marks : (n : ℕ) → marks_in (record { first = 0; count = 0; id = 0; claimed = 0 }) n ≡ no_marks
-empty_marks n = behind_run (record { first = 0; count = 0; id = 0; claimed = 0 }) n (omega arith)
+empty_claims : (n : ℕ) → row_claims (record { first = 0; count = 0; id = 0; claimed = 0 }) n ≡ no_claims
+empty_claims n = behind_run (record { first = 0; count = 0; id = 0; claimed = 0 }) n (omega arith)
 
 -- no claims, and nothing is noted
-pub rows_empty : (prbs : ℕ) (rows : List Row) → ((s : ℕ) → s < 14 → get_or rows s empty_row ≡ empty_row) → AreRows prbs [] rows
+pub rows_empty : (prbs : ℕ) (rows : List Row) → ((s : ℕ) → s < SLOT_SYMBOLS → get_or rows s empty_row ≡ empty_row) → AreRows prbs [] rows
 rows_empty prbs rows none = record {
-  each = λ s. elim (cases_lt s 14) [
+  each = λ s. elim (cases_lt s SLOT_SYMBOLS) [
     | inl below ↦
-        let l = lt-ltb s 14 below in
+        let l = lt-ltb s SLOT_SYMBOLS below in
         let e = none s below in
-        rw (l, e) (record { each = λ n re a b. ap (λ m. id_of (claim_in m re)) (sym (empty_marks n)) })
-    | inr above ↦ let l = le-ltb s 14 above in rw l tt
+        rw (l, e) (record { each = λ n re a b. ap (λ m. claim_id (claim_in m re)) (sym (empty_claims n)) })
+    | inr above ↦ let l = le-ltb s SLOT_SYMBOLS above in rw l tt
   ];
 }
 
 -- ---- a symbol by its row
 
-pub run_at : (prbs : ℕ) (marks : List Marks) (rows : List Row) (symbol : ℕ) (r : Run) → AreRows prbs marks rows → Known r ≡ row_at rows symbol → IsRun prbs marks symbol r
-run_at prbs marks rows symbol r are is = subst (λ (x : Row). IsRow prbs marks symbol x) (sym is) (are.each symbol)
+pub run_at : (prbs : ℕ) (claims : List CellClaims) (rows : List Row) (symbol : ℕ) (r : Run) → AreRows prbs claims rows → Known r ≡ row_at rows symbol → IsRun prbs claims symbol r
+run_at prbs claims rows symbol r are is = subst (λ (x : Row). IsRow prbs claims symbol x) (sym is) (are.each symbol)
 
-pub every_in_run : (prbs : ℕ) (marks : List Marks) (symbol : ℕ) (r : Run) (first count id mask : ℕ) → IsRun prbs marks symbol r → first + count ≤ prbs
-    → every first count (λ n. is_claimed id mask (claim_in (marks_in r n)))
-    ≡ every first count (λ n. is_claimed id mask (claim_in (get_or marks (cell_number prbs symbol n) no_marks)))
-every_in_run prbs marks symbol r first count id mask is fits = every_same first count _ _ (λ n low high.
+pub every_in_run : (prbs : ℕ) (claims : List CellClaims) (symbol : ℕ) (r : Run) (first count id mask : ℕ) → IsRun prbs claims symbol r → first + count ≤ prbs
+    → every first count (λ n. is_claimed id mask (claim_in (row_claims r n)))
+    ≡ every first count (λ n. is_claimed id mask (claim_in (get_or claims (cell_number prbs symbol n) no_claims)))
+every_in_run prbs claims symbol r first count id mask is fits = every_same first count _ _ (λ n low high.
     claimed_ids id mask _ _ (λ re below. sym (is.each n re (omega (arith, high, fits)) below)))
 
-pub some_in_run : (prbs : ℕ) (marks : List Marks) (symbol : ℕ) (r : Run) (first count id mask : ℕ) → IsRun prbs marks symbol r → first + count ≤ prbs
-    → some first count (λ n. is_overlapped id mask (claim_in (marks_in r n)))
-    ≡ some first count (λ n. is_overlapped id mask (claim_in (get_or marks (cell_number prbs symbol n) no_marks)))
-some_in_run prbs marks symbol r first count id mask is fits = some_same first count _ _ (λ n low high.
+pub some_in_run : (prbs : ℕ) (claims : List CellClaims) (symbol : ℕ) (r : Run) (first count id mask : ℕ) → IsRun prbs claims symbol r → first + count ≤ prbs
+    → some first count (λ n. is_overlapped id mask (claim_in (row_claims r n)))
+    ≡ some first count (λ n. is_overlapped id mask (claim_in (get_or claims (cell_number prbs symbol n) no_claims)))
+some_in_run prbs claims symbol r first count id mask is fits = some_same first count _ _ (λ n low high.
     overlapped_ids id mask _ _ (λ re below. sym (is.each n re (omega (arith, high, fits)) below)))
 
 -- ---- after claims
 
-id_claimed : (a : Allocation) (b : Bool) (o : Option Claim) → id_of (if b then Some (claim_of a) else o) ≡ (if b then Some a.section else id_of o)
+id_claimed : (a : Allocation) (b : Bool) (o : Option Claim) → claim_id (if b then Some (claim_of a) else o) ≡ (if b then Some a.section else claim_id o)
 id_claimed a true o = refl
 id_claimed a false o = refl
 
-row_grown : (prbs : ℕ) (old new : List Marks) (symbol : ℕ) (a : Allocation) (r s : Row) → IsRow prbs old symbol r → Grows (run_of a) r s
-    → ((n re : ℕ) → n < prbs → re < 12 → claim_in (get_or new (cell_number prbs symbol n) no_marks) re
-    ≡ (if is_from (first_prb a) (prb_count a) n && in_mask a.mask re then Some (claim_of a) else claim_in (get_or old (cell_number prbs symbol n) no_marks) re))
+row_grown : (prbs : ℕ) (old new : List CellClaims) (symbol : ℕ) (a : Allocation) (r s : Row) → IsRow prbs old symbol r → Grows (claimed_run a) r s
+    → ((n re : ℕ) → n < prbs → re < 12 → claim_in (get_or new (cell_number prbs symbol n) no_claims) re
+    ≡ (if is_from (first_prb a) (prb_count a) n && in_mask a.mask re then Some (claim_of a) else claim_in (get_or old (cell_number prbs symbol n) no_claims) re))
     → IsRow prbs new symbol s
 row_grown prbs old new symbol a Mixed (Known s) is grows each = absurd grows
 row_grown prbs old new symbol a r Mixed is grows each = tt
 row_grown prbs old new symbol a (Known r) (Known s) is grows each = record {
   each = λ n re low below.
-      ap id_of (each n re low below) ∙ id_claimed a (is_from (first_prb a) (prb_count a) n && in_mask a.mask re) _
-      ∙ ap (id_with (run_of a) n re) (is.each n re low below) ∙ sym (grows n re below);
+      ap claim_id (each n re low below) ∙ id_claimed a (is_from (first_prb a) (prb_count a) n && in_mask a.mask re) _
+      ∙ ap (id_with (claimed_run a) n re) (is.each n re low below) ∙ sym (grows n re below);
 }
 
-row_kept : (prbs : ℕ) (old new : List Marks) (symbol : ℕ) (r : Row) → IsRow prbs old symbol r
-    → ((n re : ℕ) → n < prbs → re < 12 → claim_in (get_or new (cell_number prbs symbol n) no_marks) re ≡ claim_in (get_or old (cell_number prbs symbol n) no_marks) re)
+row_kept : (prbs : ℕ) (old new : List CellClaims) (symbol : ℕ) (r : Row) → IsRow prbs old symbol r
+    → ((n re : ℕ) → n < prbs → re < 12 → claim_in (get_or new (cell_number prbs symbol n) no_claims) re ≡ claim_in (get_or old (cell_number prbs symbol n) no_claims) re)
     → IsRow prbs new symbol r
 row_kept prbs old new symbol Mixed is same = tt
-row_kept prbs old new symbol (Known r) is same = record { each = λ n re low below. ap id_of (same n re low below) ∙ is.each n re low below }
+row_kept prbs old new symbol (Known r) is same = record { each = λ n re low below. ap claim_id (same n re low below) ∙ is.each n re low below }
 
-pub rows_grown : (prbs : ℕ) (old new : List Marks) (rows after : List Row) (a : Allocation) → AreRows prbs old rows
-    → ((s : ℕ) → is_from a.symbol a.num_symbol s ≡ true → Grows (run_of a) (row_at rows s) (row_at after s))
+pub rows_grown : (prbs : ℕ) (old new : List CellClaims) (rows after : List Row) (a : Allocation) → AreRows prbs old rows
+    → ((s : ℕ) → is_from a.symbol a.num_symbol s ≡ true → Grows (claimed_run a) (row_at rows s) (row_at after s))
     → ((s : ℕ) → is_from a.symbol a.num_symbol s ≡ false → row_at after s ≡ row_at rows s)
-    → ((symbol prb re : ℕ) → prb < prbs → re < 12 → claim_in (get_or new (symbol * prbs + prb) no_marks) re
-    ≡ (if (is_from a.symbol a.num_symbol symbol && is_from (first_prb a) (prb_count a) prb) && in_mask a.mask re then Some (claim_of a) else claim_in (get_or old (symbol * prbs + prb) no_marks) re))
+    → ((symbol prb re : ℕ) → prb < prbs → re < 12 → claim_in (get_or new (symbol * prbs + prb) no_claims) re
+    ≡ (if (is_from a.symbol a.num_symbol symbol && is_from (first_prb a) (prb_count a) prb) && in_mask a.mask re then Some (claim_of a) else claim_in (get_or old (symbol * prbs + prb) no_claims) re))
     → AreRows prbs new after
 rows_grown prbs old new rows after a are grown others each = record {
   each = λ s. elim (cases_Bool (is_from a.symbol a.num_symbol s)) [
@@ -313,22 +315,22 @@ any_default [] k d e within = absurd (omega (arith, within))
 any_default (r ∷ rows) zero d e within = refl
 any_default (r ∷ rows) (suc k) d e within = any_default rows k d e (omega (arith, within))
 
-row_set : (rows : List Row) (k : ℕ) (x : Row) → length rows ≡ 14 → k < 14 → row_at (set rows k x) k ≡ x
+row_set : (rows : List Row) (k : ℕ) (x : Row) → length rows ≡ SLOT_SYMBOLS → k < SLOT_SYMBOLS → row_at (set rows k x) k ≡ x
 row_set rows k x len below =
-    let l = lt-ltb k 14 below in
+    let l = lt-ltb k SLOT_SYMBOLS below in
     let e = get_or-set_same rows k x empty_row (omega (arith, len, below)) in
     rw (l, e) refl
 
 row_unset : (rows : List Row) (k s : ℕ) (x : Row) → (s ≡ k → ⊥) → row_at (set rows k x) s ≡ row_at rows s
-row_unset rows k s x ne = ap (λ (r : Row). if nat_lt s 14 then r else Mixed) (get_or-set_other rows k s x empty_row ne)
+row_unset rows k s x ne = ap (λ (r : Row). if nat_lt s SLOT_SYMBOLS then r else Mixed) (get_or-set_other rows k s x empty_row ne)
 
-row_read : (rows : List Row) (k : ℕ) (d : Row) → length rows ≡ 14 → k < 14 → row_at rows k ≡ get_or rows k d
+row_read : (rows : List Row) (k : ℕ) (d : Row) → length rows ≡ SLOT_SYMBOLS → k < SLOT_SYMBOLS → row_at rows k ≡ get_or rows k d
 row_read rows k d len below =
-    let l = lt-ltb k 14 below in
+    let l = lt-ltb k SLOT_SYMBOLS below in
     let e = any_default rows k empty_row d (omega (arith, len, below)) in
     rw (l, e) refl
 
-pub note_grown : (more : Run) (was rows : List Row) (first k : ℕ) (d x : Row) → length rows ≡ 14 → first ≤ k → k < 14
+pub note_grown : (more : Run) (was rows : List Row) (first k : ℕ) (d x : Row) → length rows ≡ SLOT_SYMBOLS → first ≤ k → k < SLOT_SYMBOLS
     → ((s : ℕ) → first ≤ s → s < k → Grows more (row_at was s) (row_at rows s)) → ((s : ℕ) → is_from first (k - first) s ≡ false → row_at rows s ≡ row_at was s)
     → Grows more (get_or rows k d) x → (s : ℕ) → first ≤ s → s < k + 1 → Grows more (row_at was s) (row_at (set rows k x) s)
 note_grown more was rows first k d x len low below grown others is s from to = elim (cases_eq s k) [

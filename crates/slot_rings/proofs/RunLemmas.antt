@@ -11,8 +11,10 @@ use Rattle.bfp_codec.specs.Layout.{length_of, unpacked_of}
 use Rattle.unit_model.specs.Claims.{is_from}
 use Rattle.unit_model.specs.Lists.{or_else}
 use Rattle.unit_model.specs.declared.cells.Block.{Block}
-use Rattle.slot_rings.specs.Runs.{block_in, unpacked_run}
+use Rattle.slot_rings.specs.Runs.{packed_block, unpacked_run}
 use Rattle.slot_rings.proofs.JudgeLemmas.{cell_apart}
+use Rattle.fh_time.specs.declared.symbols.TheConstants.{SLOT_SYMBOLS}
+use Rattle.unit_model.proofs.ClaimLemmas.{starts_before as from_low, is_in as inside_from, from_within as from_high}
 
 -- number k of n PRBs
 pub run_at : (method : Method) (n k : ℕ) (bytes : List ℕ) → k < n
@@ -36,12 +38,6 @@ prb_within k n len size below is = let rows : (k + 1) * len ≤ n * len = mul-le
 
 -- ---- numbers from one on
 
-pub from_low : (f c n : ℕ) → is_from f c n ≡ true → f ≤ n
-from_low f c n h = grind (arith, nat_tests)
-
-pub from_high : (f c n : ℕ) → is_from f c n ≡ true → n < f + c
-from_high f c n h = grind (arith, nat_tests)
-
 pub not_last : (f c n : ℕ) → is_from f (c + 1) n ≡ false → n ≢ f + c
 not_last f c n h = grind (arith, nat_tests)
 
@@ -51,21 +47,18 @@ not_before f c n h = grind (arith, nat_tests)
 pub behind_all : (f c : ℕ) → is_from f c (f + c) ≡ false
 behind_all f c = grind (arith, nat_tests)
 
-inside_from : (f c n : ℕ) → f ≤ n → n < f + c → is_from f c n ≡ true
-inside_from f c n low high = grind (arith, nat_tests)
-
 -- ---- one cell more
 
 module _ (old mid new : List (Option Block)) (from k id : ℕ) (run : List (List Wide))
     (same : (i : ℕ) → is_from from k i ≡ false → get_or mid i None ≡ get_or old i None)
     (others : (i : ℕ) → i ≢ from + k → get_or new i None ≡ get_or mid i None) where
   pub more_here : (samples : List Wide) → samples ≡ get_or run k []
-      → ((j : ℕ) → j < k → get_or mid (from + j) None ≡ or_else (get_or old (from + j) None) (Some (block_in id run j)))
+      → ((j : ℕ) → j < k → get_or mid (from + j) None ≡ or_else (get_or old (from + j) None) (Some (packed_block id run j)))
       → get_or new (from + k) None ≡ or_else (get_or mid (from + k) None) (Some (record { id = id; samples = samples }))
-      → (j : ℕ) → j < k + 1 → get_or new (from + j) None ≡ or_else (get_or old (from + j) None) (Some (block_in id run j))
+      → (j : ℕ) → j < k + 1 → get_or new (from + j) None ≡ or_else (get_or old (from + j) None) (Some (packed_block id run j))
   more_here samples is here step j below = elim (cases_eq j k) [
     | inl e ↦
-        subst (λ (x : ℕ). get_or new (from + x) None ≡ or_else (get_or old (from + x) None) (Some (block_in id run x))) (sym e)
+        subst (λ (x : ℕ). get_or new (from + x) None ≡ or_else (get_or old (from + x) None) (Some (packed_block id run x))) (sym e)
         (step
         ∙ ap (λ (o : Option Block). or_else o (Some (record { id = id; samples = samples }))) (same (from + k) (behind_all from k))
         ∙ ap (λ (s : List Wide). or_else (get_or old (from + k) None) (Some (record { id = id; samples = s }))) is)
@@ -77,8 +70,8 @@ module _ (old mid new : List (Option Block)) (from k id : ℕ) (run : List (List
 
 -- ---- the numbers of some cells of a symbol
 
-pub cells_fit : (y p n count : ℕ) → y < 14 → n + count ≤ p → y * p + n + count ≤ 14 * p
-cells_fit y p n count within fits = let rows = mul-le (y + 1) p 14 p (omega arith) (omega arith) in omega (arith, rows)
+pub cells_fit : (y p n count : ℕ) → y < SLOT_SYMBOLS → n + count ≤ p → y * p + n + count ≤ SLOT_SYMBOLS * p
+cells_fit y p n count within fits = let rows = mul-le (y + 1) p SLOT_SYMBOLS p (omega arith) (omega arith) in omega (arith, rows)
 
 pub cells_outside : (y z p m n count : ℕ) → m < p → n + count ≤ p → (y ≡ z → is_from n count m ≡ false) → is_from (z * p + n) count (y * p + m) ≡ false
 cells_outside y z p m n count left fits apart = false_from_ne_true _ (λ inside.

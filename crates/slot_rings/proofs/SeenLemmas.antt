@@ -10,14 +10,14 @@ use Rattle.unit_model.specs.declared.allocations.Allocation.{Allocation}
 use Rattle.unit_model.specs.declared.cells.Block.{Block}
 use Rattle.unit_model.specs.declared.cells.Cell.{Cell}
 use Rattle.unit_model.specs.declared.cells.Claim.{Claim}
-use Rattle.slot_rings.specs.Places.{PlaceValue, claim_in, no_marks, is_of, is_due, marks_seen, blocks_seen, done_seen, place_claim, place_block, place_done, place_uplink, cell_number}
-use Rattle.slot_rings.specs.Rings.{RingValue, place_of, ring_claim, ring_block, ring_done, ring_uplink}
+use Rattle.slot_rings.specs.Places.{PlaceValue, claim_in, no_claims, is_place_of, is_due, claims_seen, blocks_seen, reported_seen, place_claim, place_block, place_reported, place_uplink, cell_number}
+use Rattle.slot_rings.specs.Rings.{RingValue, place_of, ring_claim, ring_block, ring_reported, ring_uplink}
 use Rattle.slot_rings.specs.Symbols.{AreCellsOf}
 use Rattle.slot_rings.specs.Verdicts.{verdict_by}
-use Rattle.slot_rings.specs.declared.marks.Marks.{Marks}
+use Rattle.slot_rings.specs.declared.claims.CellClaims.{CellClaims}
 use Rattle.slot_rings.specs.declared.symbol_cells.SymbolCells.{SymbolCells}
-use Rattle.slot_rings.proofs.RangeLemmas.{every_same, some_same}
 use Rattle.slot_rings.proofs.PlaceLemmas.{seen, verdict_same}
+use Rattle.unit_model.proofs.ClaimLemmas.{every_same, some_same}
 
 used_same : (f g : ℕ → Option Claim) → ((re : ℕ) → f re ≡ g re) → (n : ℕ) → used_below f n ≡ used_below g n
 unfolding used_below
@@ -25,21 +25,21 @@ used_same f g same zero = refl
 used_same f g same (suc n) = let here = same n in let before = used_same f g same n in rw (here, before) refl
 
 block_seen : (prbs : ℕ) (p : PlaceValue) (cell : Cell) → get_or (blocks_seen p cell.slot) (cell_number prbs cell.symbol cell.prb) None ≡ place_block prbs p cell
-block_seen prbs p cell = elim (cases_Bool (is_of p.slot cell.slot)) [
+block_seen prbs p cell = elim (cases_Bool (is_place_of p.slot cell.slot)) [
   | inl own ↦ rw own refl
   | inr other ↦ rw other refl
 ]
 
-flag_seen : (prbs : ℕ) (p : PlaceValue) (cell : Cell) → get_or (done_seen p cell.slot) (cell_number prbs cell.symbol cell.prb) false ≡ place_done prbs p cell
-flag_seen prbs p cell = elim (cases_Bool (is_of p.slot cell.slot)) [
+flag_seen : (prbs : ℕ) (p : PlaceValue) (cell : Cell) → get_or (reported_seen p cell.slot) (cell_number prbs cell.symbol cell.prb) false ≡ place_reported prbs p cell
+flag_seen prbs p cell = elim (cases_Bool (is_place_of p.slot cell.slot)) [
   | inl own ↦ rw own refl
   | inr other ↦ rw other refl
 ]
 
-module _ (r : RingValue) (slot : Slot) (symbol prb ep : ℕ) (m : Marks)
-    (m_is : m ≡ get_or (marks_seen (place_of r slot) slot true) (cell_number r.endpoint.prbs symbol prb) no_marks) where
+module _ (r : RingValue) (slot : Slot) (symbol prb ep : ℕ) (m : CellClaims)
+    (m_is : m ≡ get_or (claims_seen (place_of r slot) slot true) (cell_number r.endpoint.prbs symbol prb) no_claims) where
   one_seen : (re : ℕ) → claim_in m re ≡ ring_claim r (cell_at ep true slot symbol prb) re
-  one_seen re = ap (λ (x : Marks). claim_in x re) m_is ∙ sym (seen r.endpoint.prbs (place_of r slot) (cell_at ep true slot symbol prb) re)
+  one_seen re = ap (λ (x : CellClaims). claim_in x re) m_is ∙ sym (seen r.endpoint.prbs (place_of r slot) (cell_at ep true slot symbol prb) re)
 
   pub mask_seen : used_mask (claim_in m) ≡ used_mask (ring_claim r (cell_at ep true slot symbol prb))
   mask_seen = used_same _ _ one_seen 12
@@ -48,38 +48,38 @@ row_at : (prbs symbol base n : ℕ) → base ≡ cell_number prbs symbol 0 → b
 row_at prbs symbol base n e = omega (arith, e)
 
 -- the cells of a symbol, lent as what its place's lists have from the first of them on
-pub cells_lent : (r : RingValue) (slot : Slot) (symbol base : ℕ) (cells : SymbolCells) (ms : List Marks) (bs : List (Option Block)) (ds : List Bool)
+pub cells_lent : (r : RingValue) (slot : Slot) (symbol base : ℕ) (cells : SymbolCells) (ms : List CellClaims) (bs : List (Option Block)) (ds : List Bool)
     → base ≡ cell_number r.endpoint.prbs symbol 0
-    → ms ≡ marks_seen (place_of r slot) slot true → bs ≡ blocks_seen (place_of r slot) slot → ds ≡ done_seen (place_of r slot) slot
-    → ((k : ℕ) → get_or cells.marks.now k no_marks ≡ get_or ms (base + k) no_marks)
+    → ms ≡ claims_seen (place_of r slot) slot true → bs ≡ blocks_seen (place_of r slot) slot → ds ≡ reported_seen (place_of r slot) slot
+    → ((k : ℕ) → get_or cells.claims.now k no_claims ≡ get_or ms (base + k) no_claims)
     → ((k : ℕ) → get_or cells.blocks.now k None ≡ get_or bs (base + k) None)
-    → ((k : ℕ) → get_or cells.done.now k false ≡ get_or ds (base + k) false)
+    → ((k : ℕ) → get_or cells.reported.now k false ≡ get_or ds (base + k) false)
     → AreCellsOf r slot symbol cells
-cells_lent r slot symbol base cells ms bs ds base_is ms_is bs_is ds_is marks blocks done = record {
+cells_lent r slot symbol base cells ms bs ds base_is ms_is bs_is ds_is claims blocks reported = record {
   claims = λ ep prb re.
-      one_seen r slot symbol prb ep (get_or cells.marks.now prb no_marks)
-      (marks prb ∙ ap (λ (l : List Marks). get_or l (base + prb) no_marks) ms_is
-      ∙ ap (λ (k : ℕ). get_or (marks_seen (place_of r slot) slot true) k no_marks) (row_at r.endpoint.prbs symbol base prb base_is)) re;
+      one_seen r slot symbol prb ep (get_or cells.claims.now prb no_claims)
+      (claims prb ∙ ap (λ (l : List CellClaims). get_or l (base + prb) no_claims) ms_is
+      ∙ ap (λ (k : ℕ). get_or (claims_seen (place_of r slot) slot true) k no_claims) (row_at r.endpoint.prbs symbol base prb base_is)) re;
   blocks = λ ep prb.
       blocks prb ∙ ap (λ (l : List (Option Block)). get_or l (base + prb) None) bs_is
       ∙ ap (λ (k : ℕ). get_or (blocks_seen (place_of r slot) slot) k None) (row_at r.endpoint.prbs symbol base prb base_is)
       ∙ block_seen r.endpoint.prbs (place_of r slot) (cell_at ep true slot symbol prb);
-  done = λ ep prb.
-      done prb ∙ ap (λ (l : List Bool). get_or l (base + prb) false) ds_is
-      ∙ ap (λ (k : ℕ). get_or (done_seen (place_of r slot) slot) k false) (row_at r.endpoint.prbs symbol base prb base_is)
+  reported = λ ep prb.
+      reported prb ∙ ap (λ (l : List Bool). get_or l (base + prb) false) ds_is
+      ∙ ap (λ (k : ℕ). get_or (reported_seen (place_of r slot) slot) k false) (row_at r.endpoint.prbs symbol base prb base_is)
       ∙ flag_seen r.endpoint.prbs (place_of r slot) (cell_at ep true slot symbol prb);
 }
 
-pub due_seen : (r : RingValue) (slot : Slot) (symbol base ep : ℕ) (ms : List Marks) (ds : List Bool) → base ≡ cell_number r.endpoint.prbs symbol 0
-    → ms ≡ marks_seen (place_of r slot) slot true → ds ≡ done_seen (place_of r slot) slot
-    → some 0 r.endpoint.prbs (λ n. is_due (claim_in (get_or ms (base + n) no_marks)) (get_or ds (base + n) false))
-    ≡ some 0 r.endpoint.prbs (λ prb. is_due (ring_claim r (cell_at ep true slot symbol prb)) (ring_done r (cell_at ep true slot symbol prb)))
+pub due_seen : (r : RingValue) (slot : Slot) (symbol base ep : ℕ) (ms : List CellClaims) (ds : List Bool) → base ≡ cell_number r.endpoint.prbs symbol 0
+    → ms ≡ claims_seen (place_of r slot) slot true → ds ≡ reported_seen (place_of r slot) slot
+    → some 0 r.endpoint.prbs (λ n. is_due (claim_in (get_or ms (base + n) no_claims)) (get_or ds (base + n) false))
+    ≡ some 0 r.endpoint.prbs (λ prb. is_due (ring_claim r (cell_at ep true slot symbol prb)) (ring_reported r (cell_at ep true slot symbol prb)))
 due_seen r slot symbol base ep ms ds base_is ms_is ds_is = some_same 0 r.endpoint.prbs _ _ (λ n low high.
     let at = row_at r.endpoint.prbs symbol base n base_is in
-    let m_is : get_or ms (base + n) no_marks ≡ get_or (marks_seen (place_of r slot) slot true) (cell_number r.endpoint.prbs symbol n) no_marks =
-    ap (λ (l : List Marks). get_or l (base + n) no_marks) ms_is ∙ ap (λ (k : ℕ). get_or (marks_seen (place_of r slot) slot true) k no_marks) at in
-    let d_is : get_or ds (base + n) false ≡ ring_done r (cell_at ep true slot symbol n) =
-    ap (λ (l : List Bool). get_or l (base + n) false) ds_is ∙ ap (λ (k : ℕ). get_or (done_seen (place_of r slot) slot) k false) at
+    let m_is : get_or ms (base + n) no_claims ≡ get_or (claims_seen (place_of r slot) slot true) (cell_number r.endpoint.prbs symbol n) no_claims =
+    ap (λ (l : List CellClaims). get_or l (base + n) no_claims) ms_is ∙ ap (λ (k : ℕ). get_or (claims_seen (place_of r slot) slot true) k no_claims) at in
+    let d_is : get_or ds (base + n) false ≡ ring_reported r (cell_at ep true slot symbol n) =
+    ap (λ (l : List Bool). get_or l (base + n) false) ds_is ∙ ap (λ (k : ℕ). get_or (reported_seen (place_of r slot) slot) k false) at
     ∙ flag_seen r.endpoint.prbs (place_of r slot) (cell_at ep true slot symbol n) in
     ap₂ (λ (u : ℕ) (d : Bool). not (u == 0) && not d) (mask_seen r slot symbol n ep _ m_is) d_is)
 

@@ -3,6 +3,8 @@ use Rattle.std.specs.Prelude.{◌≡◌, ℕ, ◌<◌, ◌≤◌, Bool, if◌the
 use Rattle.std.specs.List.{sum_by}
 use Rattle.slot_rings.specs.Places.{PlaceValue}
 use Rattle.slot_rings.specs.Rings.{RingValue}
+use Rattle.unit_model.specs.declared.uplink.TheConstants.{SLOT_SECTIONS}
+use Rattle.fh_time.specs.declared.symbols.TheConstants.{SLOT_SYMBOLS}
 
 -- ---- the flags of symbols that are set
 
@@ -19,15 +21,15 @@ set_in flags = sum_by set_of flags
 -- these are the flags of the 14 symbols of less than 1024 places, and so many are set
 pub record AreCounted (flags : List (List Bool)) (count : ℕ) : Type 0 where
   pub few : length flags < 1024
-  pub rows : All (λ row. length row ≡ 14) flags
+  pub rows : All (λ row. length row ≡ SLOT_SYMBOLS) flags
   pub number : count ≡ set_in flags
 
 -- ---- the accepted uplink sections
 
-abbrev pub sections_of : PlaceValue → ℕ
-sections_of p = length p.uplink
+abbrev pub uplink_sections_in : PlaceValue → ℕ
+uplink_sections_in p = length p.uplink
 
 -- the places hold so many of them, each place at most 64
 pub record HasSections (r : RingValue) (count : ℕ) : Type 0 where
-  pub few : All (λ p. sections_of p ≤ 64) r.places
-  pub number : count ≡ sum_by sections_of r.places
+  pub few : All (λ p. uplink_sections_in p ≤ SLOT_SECTIONS) r.places
+  pub number : count ≡ sum_by uplink_sections_in r.places

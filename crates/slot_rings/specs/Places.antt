@@ -7,15 +7,15 @@ use Rattle.unit_model.specs.declared.allocations.Allocation.{Allocation}
 use Rattle.unit_model.specs.declared.cells.Block.{Block}
 use Rattle.unit_model.specs.declared.cells.Cell.{Cell}
 use Rattle.unit_model.specs.declared.cells.Claim.{Claim}
-use Rattle.slot_rings.specs.declared.marks.Marks.{Marks}
+use Rattle.slot_rings.specs.declared.claims.CellClaims.{CellClaims}
 
 -- the claims of a cell, as one section id and two masks of its elements: the claimed ones, and of these the idle ones
-abbrev pub claim_in : Marks → ℕ → Option Claim
+abbrev pub claim_in : CellClaims → ℕ → Option Claim
 claim_in m re = if in_mask m.claimed re then Some (record { id = m.id; idle = in_mask m.idle re }) else None
 
 -- a cell of which nothing is claimed
-abbrev pub no_marks : Marks
-no_marks = record { id = 0; claimed = 0; idle = 0 }
+abbrev pub no_claims : CellClaims
+no_claims = record { id = 0; claimed = 0; idle = 0 }
 
 -- What a place of the ring keeps: whose slot it is, and of that slot the claims of both directions, the blocks of the downlink, which
 -- downlink cells were reported, and the accepted uplink sections, the newest first. A list may end early: what it does not
@@ -24,15 +24,15 @@ pub record PlaceValue : Type 0 where
   pub slot : Option Slot
   -- of a symbol: its lists hold the cells of 14 symbols without asking for memory
   pub prbs : ℕ
-  pub down : List Marks
-  pub up : List Marks
+  pub down : List CellClaims
+  pub up : List CellClaims
   pub blocks : List (Option Block)
-  pub done : List Bool
+  pub reported : List Bool
   pub uplink : List Allocation
 
 -- a place that keeps nothing
 abbrev pub empty_place : Option Slot → ℕ → PlaceValue
-empty_place slot prbs = record { slot = slot; prbs = prbs; down = []; up = []; blocks = []; done = []; uplink = [] }
+empty_place slot prbs = record { slot = slot; prbs = prbs; down = []; up = []; blocks = []; reported = []; uplink = [] }
 
 abbrev pub blank : PlaceValue
 blank = empty_place None 0
@@ -41,45 +41,45 @@ blank = empty_place None 0
 abbrev pub cell_number : ℕ → ℕ → ℕ → ℕ
 cell_number prbs symbol prb = symbol * prbs + prb
 
-abbrev pub is_of : Option Slot → Slot → Bool
-is_of None slot = false
-is_of (Some s) slot = same_slot s slot
+abbrev pub is_place_of : Option Slot → Slot → Bool
+is_place_of None slot = false
+is_place_of (Some s) slot = same_slot s slot
 
 -- a place after it was given to a slot: it forgets what it kept of another one
 abbrev pub opened : Slot → PlaceValue → PlaceValue
-opened slot p = if is_of p.slot slot then p else empty_place (Some slot) p.prbs
+opened slot p = if is_place_of p.slot slot then p else empty_place (Some slot) p.prbs
 
-abbrev pub marks_of : PlaceValue → Bool → List Marks
-marks_of p down = if down then p.down else p.up
+abbrev pub claims_of : PlaceValue → Bool → List CellClaims
+claims_of p down = if down then p.down else p.up
 
 -- the same for a slot that has the place or has not
-abbrev pub marks_seen : PlaceValue → Slot → Bool → List Marks
-marks_seen p slot down = if is_of p.slot slot then marks_of p down else []
+abbrev pub claims_seen : PlaceValue → Slot → Bool → List CellClaims
+claims_seen p slot down = if is_place_of p.slot slot then claims_of p down else []
 
 abbrev pub blocks_seen : PlaceValue → Slot → List (Option Block)
-blocks_seen p slot = if is_of p.slot slot then p.blocks else []
+blocks_seen p slot = if is_place_of p.slot slot then p.blocks else []
 
-abbrev pub done_seen : PlaceValue → Slot → List Bool
-done_seen p slot = if is_of p.slot slot then p.done else []
+abbrev pub reported_seen : PlaceValue → Slot → List Bool
+reported_seen p slot = if is_place_of p.slot slot then p.reported else []
 
--- the claims on the cells of one slot and direction, by their marks
-abbrev pub claims_in : ℕ → List Marks → Cell → ℕ → Option Claim
-claims_in prbs marks cell re = claim_in (get_or marks (cell_number prbs cell.symbol cell.prb) no_marks) re
+-- the claims on the cells of one slot and direction, as its place keeps them
+abbrev pub claims_in : ℕ → List CellClaims → Cell → ℕ → Option Claim
+claims_in prbs claims cell re = claim_in (get_or claims (cell_number prbs cell.symbol cell.prb) no_claims) re
 
 abbrev pub place_claim : ℕ → PlaceValue → Cell → ℕ → Option Claim
 place_claim prbs p cell re =
-    if is_of p.slot cell.slot then claim_in (get_or (marks_of p cell.down) (cell_number prbs cell.symbol cell.prb) no_marks) re else None
+    if is_place_of p.slot cell.slot then claim_in (get_or (claims_of p cell.down) (cell_number prbs cell.symbol cell.prb) no_claims) re else None
 
 abbrev pub place_block : ℕ → PlaceValue → Cell → Option Block
 place_block prbs p cell =
-    if is_of p.slot cell.slot then get_or p.blocks (cell_number prbs cell.symbol cell.prb) None else None
+    if is_place_of p.slot cell.slot then get_or p.blocks (cell_number prbs cell.symbol cell.prb) None else None
 
-abbrev pub place_done : ℕ → PlaceValue → Cell → Bool
-place_done prbs p cell =
-    if is_of p.slot cell.slot then get_or p.done (cell_number prbs cell.symbol cell.prb) false else false
+abbrev pub place_reported : ℕ → PlaceValue → Cell → Bool
+place_reported prbs p cell =
+    if is_place_of p.slot cell.slot then get_or p.reported (cell_number prbs cell.symbol cell.prb) false else false
 
 abbrev pub place_uplink : PlaceValue → Slot → List Allocation
-place_uplink p slot = if is_of p.slot slot then p.uplink else []
+place_uplink p slot = if is_place_of p.slot slot then p.uplink else []
 
 -- an element of the cell is in use
 abbrev pub is_in_use : (ℕ → Option Claim) → Bool
@@ -87,4 +87,4 @@ is_in_use claims = not (used_mask claims == 0)
 
 -- and the cell was not reported
 abbrev pub is_due : (ℕ → Option Claim) → Bool → Bool
-is_due claims done = is_in_use claims && not done
+is_due claims reported = is_in_use claims && not reported

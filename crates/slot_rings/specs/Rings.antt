@@ -9,7 +9,7 @@ use Rattle.unit_model.specs.declared.allocations.Allocation.{Allocation}
 use Rattle.unit_model.specs.declared.cells.Block.{Block}
 use Rattle.unit_model.specs.declared.cells.Cell.{Cell}
 use Rattle.unit_model.specs.declared.cells.Claim.{Claim}
-use Rattle.slot_rings.specs.Places.{PlaceValue, blank, is_of, place_claim, place_block, place_done, place_uplink}
+use Rattle.slot_rings.specs.Places.{PlaceValue, blank, is_place_of, place_claim, place_block, place_reported, place_uplink}
 
 pub record RingValue : Type 0 where
   pub endpoint : EndpointConfig
@@ -29,15 +29,15 @@ ring_claim r cell re = place_claim r.endpoint.prbs (place_of r cell.slot) cell r
 abbrev pub ring_block : RingValue → Cell → Option Block
 ring_block r cell = place_block r.endpoint.prbs (place_of r cell.slot) cell
 
-abbrev pub ring_done : RingValue → Cell → Bool
-ring_done r cell = place_done r.endpoint.prbs (place_of r cell.slot) cell
+abbrev pub ring_reported : RingValue → Cell → Bool
+ring_reported r cell = place_reported r.endpoint.prbs (place_of r cell.slot) cell
 
 abbrev pub ring_uplink : RingValue → Slot → List Allocation
 ring_uplink r slot = place_uplink (place_of r slot) slot
 
 -- the slot has its place
 abbrev pub has_slot : RingValue → Slot → Bool
-has_slot r slot = is_of (place_of r slot).slot slot
+has_slot r slot = is_place_of (place_of r slot).slot slot
 
 -- what every ring is
 pub record IsRing (r : RingValue) : Type 0 where
@@ -55,7 +55,7 @@ pub record IsRing (r : RingValue) : Type 0 where
 pub record IsEmpty (r : RingValue) : Type 0 where
   pub claims : (cell : Cell) (re : ℕ) → ring_claim r cell re ≡ None
   pub blocks : (cell : Cell) → ring_block r cell ≡ None
-  pub done : (cell : Cell) → ring_done r cell ≡ false
+  pub reported : (cell : Cell) → ring_reported r cell ≡ false
   pub uplink : (slot : Slot) → ring_uplink r slot ≡ []
   pub slots : (slot : Slot) → has_slot r slot ≡ false
 
@@ -82,8 +82,8 @@ SameClaims slot old new = (cell : Cell) (re : ℕ) → cell.slot ≡ slot → ri
 abbrev pub SameBlocks : Slot → RingValue → RingValue → Type 0
 SameBlocks slot old new = (cell : Cell) → cell.slot ≡ slot → ring_block new cell ≡ ring_block old cell
 
-abbrev pub SameDone : Slot → RingValue → RingValue → Type 0
-SameDone slot old new = (cell : Cell) → cell.slot ≡ slot → ring_done new cell ≡ ring_done old cell
+abbrev pub SameSlotReported : Slot → RingValue → RingValue → Type 0
+SameSlotReported slot old new = (cell : Cell) → cell.slot ≡ slot → ring_reported new cell ≡ ring_reported old cell
 
 abbrev pub SameUplink : Slot → RingValue → RingValue → Type 0
 SameUplink slot old new = ring_uplink new slot ≡ ring_uplink old slot

@@ -12,9 +12,9 @@ unpacked_run method zero bytes = []
 unpacked_run method (suc n) bytes = unpacked_of method (take (length_of method) bytes) ∷ unpacked_run method n (drop (length_of method) bytes)
 
 -- those of a run
-abbrev pub samples_of : PackedRun → List (List Wide)
-samples_of run = unpacked_run run.method run.count run.bytes.now
+abbrev pub packed_samples : PackedRun → List (List Wide)
+packed_samples run = unpacked_run run.method run.count run.bytes.now
 
 -- the block of number k of some PRBs with these samples, of a section with this id
-abbrev pub block_in : ℕ → List (List Wide) → ℕ → Block
-block_in id run k = record { id = id; samples = get_or run k [] }
+abbrev pub packed_block : ℕ → List (List Wide) → ℕ → Block
+packed_block id run k = record { id = id; samples = get_or run k [] }

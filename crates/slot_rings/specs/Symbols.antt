@@ -4,23 +4,23 @@ use Rattle.fh_time.specs.declared.values.Slot.{Slot}
 use Rattle.unit_model.specs.Claims.{cell_at}
 use Rattle.unit_model.specs.declared.cells.Block.{Block}
 use Rattle.unit_model.specs.declared.cells.Claim.{Claim}
-use Rattle.slot_rings.specs.Places.{claim_in, no_marks}
-use Rattle.slot_rings.specs.Rings.{RingValue, ring_block, ring_claim, ring_done}
+use Rattle.slot_rings.specs.Places.{claim_in, no_claims}
+use Rattle.slot_rings.specs.Rings.{RingValue, ring_block, ring_claim, ring_reported}
 use Rattle.slot_rings.specs.declared.symbol_cells.SymbolCells.{SymbolCells}
 
 -- ---- what they answer of the cell at a PRB
 
 abbrev pub lent_claim : SymbolCells → ℕ → ℕ → Option Claim
-lent_claim cells prb re = claim_in (get_or cells.marks.now prb no_marks) re
+lent_claim cells prb re = claim_in (get_or cells.claims.now prb no_claims) re
 
 abbrev pub lent_block : SymbolCells → ℕ → Option Block
 lent_block cells prb = get_or cells.blocks.now prb None
 
-abbrev pub lent_done : SymbolCells → ℕ → Bool
-lent_done cells prb = get_or cells.done.now prb false
+abbrev pub lent_reported : SymbolCells → ℕ → Bool
+lent_reported cells prb = get_or cells.reported.now prb false
 
 -- these are the downlink cells of a symbol
 pub record AreCellsOf (r : RingValue) (slot : Slot) (symbol : ℕ) (cells : SymbolCells) : Type 0 where
   pub claims : (ep prb re : ℕ) → lent_claim cells prb re ≡ ring_claim r (cell_at ep true slot symbol prb) re
   pub blocks : (ep prb : ℕ) → lent_block cells prb ≡ ring_block r (cell_at ep true slot symbol prb)
-  pub done : (ep prb : ℕ) → lent_done cells prb ≡ ring_done r (cell_at ep true slot symbol prb)
+  pub reported : (ep prb : ℕ) → lent_reported cells prb ≡ ring_reported r (cell_at ep true slot symbol prb)

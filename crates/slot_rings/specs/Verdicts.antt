@@ -2,12 +2,13 @@
 use Rattle.std.specs.Prelude.{ℕ, Bool, ◌&&◌, nat_le, if◌then◌else◌, List, ◌∷◌, Option, Some}
 use Rattle.fh_time.specs.Carrier.{is_outside}
 use Rattle.unit_model.specs.Claims.{names, claim_of, every_cell, some_cell, is_claimed, is_overlapped}
-use Rattle.unit_model.specs.Commands.{is_uplink, most_uplink}
+use Rattle.unit_model.specs.Commands.{is_uplink}
 use Rattle.unit_model.specs.declared.allocations.Allocation.{Allocation}
 use Rattle.unit_model.specs.declared.cells.Cell.{Cell}
 use Rattle.unit_model.specs.declared.cells.Claim.{Claim}
 use Rattle.unit_model.specs.declared.verdicts.CommandVerdict.{CommandVerdict}
 use Rattle.unit_model.specs.declared.verdicts.CommandVerdict.TheVariants.{Range, Repeat, Overlap, Full, Accepted}
+use Rattle.unit_model.specs.declared.uplink.TheConstants.{SLOT_SECTIONS}
 
 abbrev pub repeats_by : (Cell → ℕ → Option Claim) → Allocation → Bool
 repeats_by claims a = every_cell a (λ cell. is_claimed a.section a.mask (claims cell))
@@ -21,7 +22,7 @@ verdict_by claims uplinks a =
     if is_outside a.endpoint.prbs a.start_prb a.num_prb then Range
     else (if repeats_by claims a then Repeat
     else (if overlaps_by claims a then Overlap
-    else (if is_uplink a && nat_le most_uplink uplinks then Full
+    else (if is_uplink a && nat_le SLOT_SECTIONS uplinks then Full
     else Accepted)))
 
 -- the claim on an element after an allocation of this verdict

@@ -4,17 +4,16 @@ ghost use Rattle.fh_time.specs.Carrier.{is_outside};
 ghost use Rattle.unit_model.specs.Claims.{first_prb, prb_count, cell_of, in_mask, is_from, is_claimed, is_overlapped, claim_of};
 ghost use Rattle.unit_model.specs.Commands.{is_uplink};
 ghost use Rattle.unit_model.specs.Lists.{every, some};
-ghost use Rattle.slot_rings.specs.Places.{claim_in, claims_in, no_marks};
+ghost use Rattle.slot_rings.specs.Places.{claim_in, claims_in, no_claims};
 ghost use Rattle.slot_rings.specs.Rows.{AreRows};
 ghost use Rattle.slot_rings.specs.Verdicts.{repeats_by, overlaps_by, verdict_by};
+ghost use Rattle.fh_time.specs.declared.symbols.TheConstants.{SLOT_SYMBOLS};
 
+use crate::claims::{CellClaims, NONE};
 use crate::lists::reach;
-use crate::marks::{Marks, NONE};
 use crate::rows::{Row, note, row_at};
-use unit_model::{Allocation, CommandVerdict};
-
-/// How many uplink sections a slot takes.
-pub(crate) const MOST_UPLINK: usize = 64;
+use fh_time::SLOT_SYMBOLS;
+use unit_model::{Allocation, CommandVerdict, SLOT_SECTIONS};
 
 /// The first PRB that an allocation covers.
 pub(crate) fn first_prb(a: &Allocation) -> usize
@@ -52,22 +51,22 @@ pub(crate) fn is_uplink(a: &Allocation) -> bool
     !a.down && !a.idle
 }
 
-/// The marks of one cell.
-pub(crate) fn marks_at(marks: &[Marks], k: usize) -> Marks
-    ensures { result ≡ get_or marks.now k no_marks }
+/// The claims of one cell.
+pub(crate) fn claims_at(claims: &[CellClaims], k: usize) -> CellClaims
+    ensures { result ≡ get_or claims.now k no_claims }
 {
-    if k < marks.len() { marks[k] } else { NONE }
+    if k < claims.len() { claims[k] } else { NONE }
 }
 
 /// Whether each cell of one symbol that an allocation covers has its claims. The symbol's cells begin at number `base`.
-fn row_has(marks: &[Marks], base: usize, a: &Allocation) -> bool
+fn row_has(claims: &[CellClaims], base: usize, a: &Allocation) -> bool
     requires { base < 2 ^ 32 }
     ensures { result ≡ every (first_prb a.now) (prb_count a.now)
-        (λ n. is_claimed a.now.section a.now.mask (claim_in (get_or marks.now (base + n) no_marks))) }
+        (λ n. is_claimed a.now.section a.now.mask (claim_in (get_or claims.now (base + n) no_claims))) }
 {
     let first = first_prb(a);
     for n in first..first + prb_count(a) {
-        if !marks_at(marks, base + n).has(a.section, a.mask) {
+        if !claims_at(claims, base + n).has(a.section, a.mask) {
             return false;
         }
     }
@@ -75,14 +74,14 @@ fn row_has(marks: &[Marks], base: usize, a: &Allocation) -> bool
 }
 
 /// Whether a cell of one symbol that an allocation covers has a claim against it.
-fn row_clashes(marks: &[Marks], base: usize, a: &Allocation) -> bool
+fn row_clashes(claims: &[CellClaims], base: usize, a: &Allocation) -> bool
     requires { base < 2 ^ 32 }
     ensures { result ≡ some (first_prb a.now) (prb_count a.now)
-        (λ n. is_overlapped a.now.section a.now.mask (claim_in (get_or marks.now (base + n) no_marks))) }
+        (λ n. is_overlapped a.now.section a.now.mask (claim_in (get_or claims.now (base + n) no_claims))) }
 {
     let first = first_prb(a);
     for n in first..first + prb_count(a) {
-        if marks_at(marks, base + n).clashes(a.section, a.mask) {
+        if claims_at(claims, base + n).clashes(a.section, a.mask) {
             return true;
         }
     }
@@ -90,44 +89,44 @@ fn row_clashes(marks: &[Marks], base: usize, a: &Allocation) -> bool
 }
 
 /// Whether each cell of a symbol that an allocation covers has its claims.
-fn symbol_has(marks: &[Marks], rows: &[Row], symbol: usize, a: &Allocation) -> bool
-    requires rows { AreRows a.now.endpoint.prbs marks.now rows.now }
+fn symbol_has(claims: &[CellClaims], rows: &[Row], symbol: usize, a: &Allocation) -> bool
+    requires rows { AreRows a.now.endpoint.prbs claims.now rows.now }
     requires inside { is_outside a.now.endpoint.prbs a.now.start_prb a.now.num_prb ≡ false }
     requires some { 0 < a.now.endpoint.prbs }
     requires small { symbol < 2 ^ 16 }
     ensures { result ≡ every (first_prb a.now) (prb_count a.now)
-        (λ n. is_claimed a.now.section a.now.mask (claims_in a.now.endpoint.prbs marks.now (cell_of a.now symbol n))) }
+        (λ n. is_claimed a.now.section a.now.mask (claims_in a.now.endpoint.prbs claims.now (cell_of a.now symbol n))) }
 {
     match row_at(rows, symbol) {
         Row::Known(run) => run.has(first_prb(a), prb_count(a), a.section, a.mask),
-        Row::Mixed => row_has(marks, symbol * a.endpoint.prbs as usize, a),
+        Row::Mixed => row_has(claims, symbol * a.endpoint.prbs as usize, a),
     }
 }
 
 /// Whether a cell of a symbol that an allocation covers has a claim against it.
-fn symbol_clashes(marks: &[Marks], rows: &[Row], symbol: usize, a: &Allocation) -> bool
-    requires rows { AreRows a.now.endpoint.prbs marks.now rows.now }
+fn symbol_clashes(claims: &[CellClaims], rows: &[Row], symbol: usize, a: &Allocation) -> bool
+    requires rows { AreRows a.now.endpoint.prbs claims.now rows.now }
     requires inside { is_outside a.now.endpoint.prbs a.now.start_prb a.now.num_prb ≡ false }
     requires small { symbol < 2 ^ 16 }
     ensures { result ≡ some (first_prb a.now) (prb_count a.now)
-        (λ n. is_overlapped a.now.section a.now.mask (claims_in a.now.endpoint.prbs marks.now (cell_of a.now symbol n))) }
+        (λ n. is_overlapped a.now.section a.now.mask (claims_in a.now.endpoint.prbs claims.now (cell_of a.now symbol n))) }
 {
     match row_at(rows, symbol) {
         Row::Known(run) => run.clashes(first_prb(a), prb_count(a), a.section, a.mask),
-        Row::Mixed => row_clashes(marks, symbol * a.endpoint.prbs as usize, a),
+        Row::Mixed => row_clashes(claims, symbol * a.endpoint.prbs as usize, a),
     }
 }
 
 /// Whether all that an allocation names is claimed under its id.
-fn repeats(marks: &[Marks], rows: &[Row], a: &Allocation) -> bool
-    requires rows { AreRows a.now.endpoint.prbs marks.now rows.now }
+fn repeats(claims: &[CellClaims], rows: &[Row], a: &Allocation) -> bool
+    requires rows { AreRows a.now.endpoint.prbs claims.now rows.now }
     requires inside { is_outside a.now.endpoint.prbs a.now.start_prb a.now.num_prb ≡ false }
     requires some { 0 < a.now.endpoint.prbs }
-    ensures { result ≡ repeats_by (claims_in a.now.endpoint.prbs marks.now) a.now }
+    ensures { result ≡ repeats_by (claims_in a.now.endpoint.prbs claims.now) a.now }
 {
     let first = a.symbol as usize;
     for symbol in first..first + a.num_symbol as usize {
-        if !symbol_has(marks, rows, symbol, a) {
+        if !symbol_has(claims, rows, symbol, a) {
             return false;
         }
     }
@@ -135,39 +134,39 @@ fn repeats(marks: &[Marks], rows: &[Row], a: &Allocation) -> bool
 }
 
 /// Whether a cell that an allocation covers has a claim against it.
-fn overlaps(marks: &[Marks], rows: &[Row], a: &Allocation) -> bool
-    requires rows { AreRows a.now.endpoint.prbs marks.now rows.now }
+fn overlaps(claims: &[CellClaims], rows: &[Row], a: &Allocation) -> bool
+    requires rows { AreRows a.now.endpoint.prbs claims.now rows.now }
     requires inside { is_outside a.now.endpoint.prbs a.now.start_prb a.now.num_prb ≡ false }
-    ensures { result ≡ overlaps_by (claims_in a.now.endpoint.prbs marks.now) a.now }
+    ensures { result ≡ overlaps_by (claims_in a.now.endpoint.prbs claims.now) a.now }
 {
     let first = a.symbol as usize;
     for symbol in first..first + a.num_symbol as usize {
-        if symbol_clashes(marks, rows, symbol, a) {
+        if symbol_clashes(claims, rows, symbol, a) {
             return true;
         }
     }
     false
 }
 
-/// The verdict on an allocation that is on time, over the marks of its slot and direction and the number of its uplink
+/// The verdict on an allocation that is on time, over the claims of its slot and direction and the number of its uplink
 /// sections.
 pub(crate) fn verdict(
-    marks: &[Marks],
+    claims: &[CellClaims],
     rows: &[Row],
     uplinks: usize,
     a: &Allocation,
 ) -> CommandVerdict
-    requires rows { AreRows a.now.endpoint.prbs marks.now rows.now }
+    requires rows { AreRows a.now.endpoint.prbs claims.now rows.now }
     requires some { 0 < a.now.endpoint.prbs }
-    ensures { result ≡ verdict_by (claims_in a.now.endpoint.prbs marks.now) uplinks a.now }
+    ensures { result ≡ verdict_by (claims_in a.now.endpoint.prbs claims.now) uplinks a.now }
 {
     if is_outside(a) {
         CommandVerdict::Range
-    } else if repeats(marks, rows, a) {
+    } else if repeats(claims, rows, a) {
         CommandVerdict::Repeat
-    } else if overlaps(marks, rows, a) {
+    } else if overlaps(claims, rows, a) {
         CommandVerdict::Overlap
-    } else if is_uplink(a) && MOST_UPLINK <= uplinks {
+    } else if is_uplink(a) && SLOT_SECTIONS <= uplinks {
         CommandVerdict::Full
     } else {
         CommandVerdict::Accepted
@@ -175,54 +174,54 @@ pub(crate) fn verdict(
 }
 
 /// Claims the cells from number `from` on.
-fn claim_row(marks: &mut Vec<Marks>, from: usize, count: usize, a: &Allocation)
-    requires room { from + count ≤ vec_capacity marks.old }
+fn claim_row(claims: &mut Vec<CellClaims>, from: usize, count: usize, a: &Allocation)
+    requires room { from + count ≤ vec_capacity claims.old }
     requires small { from + count < 2 ^ 32 }
     requires free { (k : ℕ) → from ≤ k → k < from + count
-        → is_overlapped a.now.section a.now.mask (claim_in (get_or marks.old.items k no_marks)) ≡ false }
-    ensures each { (k re : ℕ) → re < 12 → claim_in (get_or marks.new.items k no_marks) re
-        ≡ (if is_from from count k && in_mask a.now.mask re then Some (claim_of a.now) else claim_in (get_or marks.old.items k no_marks) re) }
-    ensures capacity { vec_capacity marks.old ≤ vec_capacity marks.new }
+        → is_overlapped a.now.section a.now.mask (claim_in (get_or claims.old.items k no_claims)) ≡ false }
+    ensures each { (k re : ℕ) → re < 12 → claim_in (get_or claims.new.items k no_claims) re
+        ≡ (if is_from from count k && in_mask a.now.mask re then Some (claim_of a.now) else claim_in (get_or claims.old.items k no_claims) re) }
+    ensures capacity { vec_capacity claims.old ≤ vec_capacity claims.new }
 {
-    reach(marks, from + count, NONE);
+    reach(claims, from + count, NONE);
     for k in from..from + count {
-        marks[k] = marks[k].with(a.section, a.mask, a.idle);
+        claims[k] = claims[k].with(a.section, a.mask, a.idle);
     }
 }
 
 /// Claims all that an allocation names, where nothing is claimed against it.
-fn claim_cells(marks: &mut Vec<Marks>, a: &Allocation)
-    requires within { a.now.symbol + a.now.num_symbol ≤ 14 }
+fn claim_cells(claims: &mut Vec<CellClaims>, a: &Allocation)
+    requires within { a.now.symbol + a.now.num_symbol ≤ SLOT_SYMBOLS }
     requires inside { is_outside a.now.endpoint.prbs a.now.start_prb a.now.num_prb ≡ false }
-    requires room { 14 * a.now.endpoint.prbs ≤ vec_capacity marks.old }
-    requires free { overlaps_by (claims_in a.now.endpoint.prbs marks.old.items) a.now ≡ false }
+    requires room { SLOT_SYMBOLS * a.now.endpoint.prbs ≤ vec_capacity claims.old }
+    requires free { overlaps_by (claims_in a.now.endpoint.prbs claims.old.items) a.now ≡ false }
     ensures each { (symbol prb re : ℕ) → prb < a.now.endpoint.prbs → re < 12
-        → claim_in (get_or marks.new.items (symbol * a.now.endpoint.prbs + prb) no_marks) re
+        → claim_in (get_or claims.new.items (symbol * a.now.endpoint.prbs + prb) no_claims) re
         ≡ (if (is_from a.now.symbol a.now.num_symbol symbol && is_from (first_prb a.now) (prb_count a.now) prb) && in_mask a.now.mask re then Some (claim_of a.now)
-        else claim_in (get_or marks.old.items (symbol * a.now.endpoint.prbs + prb) no_marks) re) }
-    ensures capacity { vec_capacity marks.old ≤ vec_capacity marks.new }
+        else claim_in (get_or claims.old.items (symbol * a.now.endpoint.prbs + prb) no_claims) re) }
+    ensures capacity { vec_capacity claims.old ≤ vec_capacity claims.new }
 {
     let prbs = a.endpoint.prbs as usize;
     let first = a.symbol as usize;
     for symbol in first..first + a.num_symbol as usize {
-        claim_row(marks, symbol * prbs + first_prb(a), prb_count(a), a);
+        claim_row(claims, symbol * prbs + first_prb(a), prb_count(a), a);
     }
 }
 
 /// The same, and notes what is known of its symbols.
-pub(crate) fn claim(marks: &mut Vec<Marks>, rows: &mut [Row; 14], a: &Allocation)
-    requires rows { AreRows a.now.endpoint.prbs marks.old.items rows.old }
-    requires within { a.now.symbol + a.now.num_symbol ≤ 14 }
+pub(crate) fn claim(claims: &mut Vec<CellClaims>, rows: &mut [Row; SLOT_SYMBOLS], a: &Allocation)
+    requires rows { AreRows a.now.endpoint.prbs claims.old.items rows.old }
+    requires within { a.now.symbol + a.now.num_symbol ≤ SLOT_SYMBOLS }
     requires inside { is_outside a.now.endpoint.prbs a.now.start_prb a.now.num_prb ≡ false }
-    requires room { 14 * a.now.endpoint.prbs ≤ vec_capacity marks.old }
-    requires free { overlaps_by (claims_in a.now.endpoint.prbs marks.old.items) a.now ≡ false }
-    ensures rows { AreRows a.now.endpoint.prbs marks.new.items rows.new }
+    requires room { SLOT_SYMBOLS * a.now.endpoint.prbs ≤ vec_capacity claims.old }
+    requires free { overlaps_by (claims_in a.now.endpoint.prbs claims.old.items) a.now ≡ false }
+    ensures rows { AreRows a.now.endpoint.prbs claims.new.items rows.new }
     ensures each { (symbol prb re : ℕ) → prb < a.now.endpoint.prbs → re < 12
-        → claim_in (get_or marks.new.items (symbol * a.now.endpoint.prbs + prb) no_marks) re
+        → claim_in (get_or claims.new.items (symbol * a.now.endpoint.prbs + prb) no_claims) re
         ≡ (if (is_from a.now.symbol a.now.num_symbol symbol && is_from (first_prb a.now) (prb_count a.now) prb) && in_mask a.now.mask re then Some (claim_of a.now)
-        else claim_in (get_or marks.old.items (symbol * a.now.endpoint.prbs + prb) no_marks) re) }
-    ensures capacity { vec_capacity marks.old ≤ vec_capacity marks.new }
+        else claim_in (get_or claims.old.items (symbol * a.now.endpoint.prbs + prb) no_claims) re) }
+    ensures capacity { vec_capacity claims.old ≤ vec_capacity claims.new }
 {
-    claim_cells(marks, a);
+    claim_cells(claims, a);
     note(rows, a);
 }

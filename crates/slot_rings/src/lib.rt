@@ -10,10 +10,10 @@
 //! O-RAN.WG4.CUS.
 #![tactic(auto)]
 
+mod claims;
 mod index;
 mod judging;
 mod lists;
-mod marks;
 mod packed;
 mod pending;
 mod place;
@@ -22,7 +22,7 @@ mod rows;
 mod scans;
 mod symbol_cells;
 
-pub use marks::Marks;
+pub use claims::CellClaims;
 pub use packed::PackedRun;
 pub use ring::SlotRing;
 pub use symbol_cells::{SymbolCells, Use};

@@ -2,9 +2,10 @@
 ghost use Rattle.std.specs.Prelude.{◌≡◌, ◌≢◌, ℕ, ◌+◌, ◌<◌, ◌≤◌, true, false, length, IfOk};
 ghost use Rattle.unit_model.specs.Claims.{is_from};
 ghost use Rattle.slot_rings.specs.Pending.{flag_at};
+ghost use Rattle.fh_time.specs.declared.symbols.TheConstants.{SLOT_SYMBOLS};
 
-use crate::rows::SYMBOLS;
 use fh_base::NoMemory;
+use fh_time::SLOT_SYMBOLS;
 use std::alloc::Global;
 use std::marker::Model;
 use unit_model::Allocation;
@@ -12,7 +13,7 @@ use unit_model::Allocation;
 /// A flag for each symbol of some places, and how many of all of them are set.
 #[derive(Drop)]
 pub(crate) struct Flags {
-    symbols: Vec<[bool; 14]>,
+    symbols: Vec<[bool; SLOT_SYMBOLS]>,
     count: usize,
 }
 
@@ -35,14 +36,14 @@ impl Flags {
     {
         let mut symbols = Vec::with_capacity(alloc, places)?;
         for _k in 0..places {
-            symbols.push([false; SYMBOLS])?;
+            symbols.push([false; SLOT_SYMBOLS])?;
         }
         Ok(Flags { symbols, count: 0 })
     }
 
     /// Whether a flag is set.
     pub(crate) fn has_any(&self) -> bool
-        ensures { result ≡ false → (i s : ℕ) → i < length self.now → s < 14 → flag_at self.now i s ≡ false }
+        ensures { result ≡ false → (i s : ℕ) → i < length self.now → s < SLOT_SYMBOLS → flag_at self.now i s ≡ false }
     {
         self.count != 0
     }
@@ -53,13 +54,13 @@ impl Flags {
         ensures { result ≡ flag_at self.now index symbol }
     {
         let symbol = symbol as usize;
-        symbol >= SYMBOLS || self.symbols[index][symbol]
+        symbol >= SLOT_SYMBOLS || self.symbols[index][symbol]
     }
 
     /// Sets the flag of a symbol of a place.
     fn set(&mut self, index: usize, symbol: usize)
         requires index { index < length self.old }
-        requires symbol { symbol < 14 }
+        requires symbol { symbol < SLOT_SYMBOLS }
         ensures here { flag_at self.new index symbol ≡ true }
         ensures others { (i s : ℕ) → (i ≡ index → s ≢ symbol) → flag_at self.new i s ≡ flag_at self.old i s }
         ensures size { length self.new ≡ length self.old }
@@ -74,7 +75,7 @@ impl Flags {
     /// Sets the flags of some symbols of a place.
     fn set_symbols(&mut self, index: usize, first: u8, count: u8)
         requires index { index < length self.old }
-        requires within { first + count ≤ 14 }
+        requires within { first + count ≤ SLOT_SYMBOLS }
         ensures set { (s : ℕ) → is_from first count s ≡ true → flag_at self.new index s ≡ true }
         ensures kept { (i s : ℕ) → flag_at self.new i s ≡ false → flag_at self.old i s ≡ false }
         ensures size { length self.new ≡ length self.old }
@@ -87,7 +88,7 @@ impl Flags {
     /// Sets the flags of the symbols of a place where an allocation claims downlink cells for use.
     pub(crate) fn flag(&mut self, index: usize, a: &Allocation)
         requires index { index < length self.old }
-        requires within { a.now.symbol + a.now.num_symbol ≤ 14 }
+        requires within { a.now.symbol + a.now.num_symbol ≤ SLOT_SYMBOLS }
         ensures set { (s : ℕ) → a.now.down ≡ true → a.now.idle ≡ false → is_from a.now.symbol a.now.num_symbol s ≡ true → flag_at self.new index s ≡ true }
         ensures kept { (i s : ℕ) → flag_at self.new i s ≡ false → flag_at self.old i s ≡ false }
         ensures size { length self.new ≡ length self.old }
@@ -100,7 +101,7 @@ impl Flags {
     /// Clears the flag of a symbol of a place.
     fn clear(&mut self, index: usize, symbol: usize)
         requires index { index < length self.old }
-        requires symbol { symbol < 14 }
+        requires symbol { symbol < SLOT_SYMBOLS }
         ensures others { (i s : ℕ) → (i ≡ index → s ≢ symbol) → flag_at self.new i s ≡ flag_at self.old i s }
         ensures size { length self.new ≡ length self.old }
     {
@@ -112,13 +113,13 @@ impl Flags {
     }
 
     /// Clears the flag of a symbol of a place, if all of its cells were reported.
-    pub(crate) fn settle(&mut self, index: usize, symbol: u8, all: bool)
+    pub(crate) fn clear_reported(&mut self, index: usize, symbol: u8, all: bool)
         requires { index < length self.old }
         ensures others { (i s : ℕ) → (all ≡ true → i ≡ index → s ≢ symbol) → flag_at self.new i s ≡ flag_at self.old i s }
         ensures size { length self.new ≡ length self.old }
     {
         let symbol = symbol as usize;
-        if all && symbol < SYMBOLS {
+        if all && symbol < SLOT_SYMBOLS {
             self.clear(index, symbol);
         }
     }

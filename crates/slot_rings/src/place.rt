@@ -8,20 +8,22 @@ ghost use Rattle.unit_model.specs.Lists.{or_else};
 ghost use Rattle.unit_model.specs.declared.cells.Cell.{Cell};
 ghost use Rattle.unit_model.specs.declared.verdicts.CommandVerdict.TheVariants.{Accepted};
 ghost use Rattle.slot_rings.specs.Verdicts.{uplink_after};
-ghost use Rattle.slot_rings.specs.Places.{claim_in, is_in_use, is_of, no_marks};
-ghost use Rattle.slot_rings.specs.Runs.{block_in, samples_of};
+ghost use Rattle.slot_rings.specs.Places.{claim_in, is_in_use, is_place_of, no_claims};
+ghost use Rattle.slot_rings.specs.Runs.{packed_block, packed_samples};
+ghost use Rattle.fh_time.specs.declared.symbols.TheConstants.{SLOT_SYMBOLS};
+ghost use Rattle.unit_model.specs.declared.uplink.TheConstants.{SLOT_SECTIONS};
 
-use crate::judging::{MOST_UPLINK, claim, is_uplink, marks_at, verdict};
+use crate::claims::CellClaims;
+use crate::judging::{claim, claims_at, is_uplink, verdict};
 use crate::lists::reach;
-use crate::marks::Marks;
 use crate::packed::PackedRun;
-use crate::rows::{EMPTY, Row, SYMBOLS};
+use crate::rows::{EMPTY, Row};
 use bfp_codec::{Method, unpack};
 use fh_base::NoMemory;
-use fh_time::Slot;
+use fh_time::{SLOT_SYMBOLS, Slot};
 use std::alloc::Global;
 use std::marker::Model;
-use unit_model::{Allocation, Block, CommandVerdict};
+use unit_model::{Allocation, Block, CommandVerdict, SLOT_SECTIONS};
 
 /// What is kept of one slot of an endpoint. Its memory is taken when it is made, as room in lists that begin empty: so a
 /// place is wiped by ending its lists.
@@ -31,28 +33,30 @@ pub(crate) struct Place {
     slot: Option<Slot>,
     // of a symbol
     prbs: u16,
-    down: Vec<Marks>,
-    up: Vec<Marks>,
-    // what the marks of each symbol are
-    down_rows: [Row; 14],
-    up_rows: [Row; 14],
+    down: Vec<CellClaims>,
+    up: Vec<CellClaims>,
+    // what the claims of each symbol are
+    down_rows: [Row; SLOT_SYMBOLS],
+    up_rows: [Row; SLOT_SYMBOLS],
     blocks: Vec<Option<Block>>,
-    done: Vec<bool>,
+    reported: Vec<bool>,
     // the newest last
     uplink: Vec<Allocation>,
 }
 
 impl Model for Place {
     ghost use Rattle.std.specs.Prelude.{◌*◌, ◌≤◌, length, reverse, vec_capacity};
+    ghost use Rattle.fh_time.specs.declared.symbols.TheConstants.{SLOT_SYMBOLS};
+    ghost use Rattle.unit_model.specs.declared.uplink.TheConstants.{SLOT_SECTIONS};
     ghost use Rattle.slot_rings.specs.Places.{PlaceValue};
     ghost use Rattle.slot_rings.specs.Rows.{AreRows};
 
     ghost Value = { PlaceValue };
 
-    ghost view = { λ p. record { slot = p.slot; prbs = p.prbs; down = p.down.items; up = p.up.items; blocks = p.blocks.items; done = p.done.items; uplink = reverse p.uplink.items } };
+    ghost view = { λ p. record { slot = p.slot; prbs = p.prbs; down = p.down.items; up = p.up.items; blocks = p.blocks.items; reported = p.reported.items; uplink = reverse p.uplink.items } };
 
-    ghost invariant = { λ p. (14 * p.prbs ≤ vec_capacity p.down) × (14 * p.prbs ≤ vec_capacity p.up) × (14 * p.prbs ≤ vec_capacity p.blocks)
-        × (14 * p.prbs ≤ vec_capacity p.done) × (64 ≤ vec_capacity p.uplink) × (length p.uplink.items ≤ 64)
+    ghost invariant = { λ p. (SLOT_SYMBOLS * p.prbs ≤ vec_capacity p.down) × (SLOT_SYMBOLS * p.prbs ≤ vec_capacity p.up) × (SLOT_SYMBOLS * p.prbs ≤ vec_capacity p.blocks)
+        × (SLOT_SYMBOLS * p.prbs ≤ vec_capacity p.reported) × (SLOT_SECTIONS ≤ vec_capacity p.uplink) × (length p.uplink.items ≤ SLOT_SECTIONS)
         × AreRows p.prbs p.down.items p.down_rows × AreRows p.prbs p.up.items p.up_rows };
 }
 
@@ -65,7 +69,7 @@ fn same_slot(a: Slot, b: Slot) -> bool
 
 /// Whether a slot is the owner.
 fn is_of(owner: Option<Slot>, slot: Slot) -> bool
-    ensures { result ≡ is_of owner slot }
+    ensures { result ≡ is_place_of owner slot }
 {
     match owner {
         None => false,
@@ -75,11 +79,11 @@ fn is_of(owner: Option<Slot>, slot: Slot) -> bool
 
 /// Appends an accepted section, where it is one for which the radio unit sends data.
 fn keep(uplink: &mut Vec<Allocation>, a: &Allocation)
-    requires room { 64 ≤ vec_capacity uplink.old }
-    requires few { is_uplink a.now ≡ true → length uplink.old.items < 64 }
-    requires kept { length uplink.old.items ≤ 64 }
+    requires room { SLOT_SECTIONS ≤ vec_capacity uplink.old }
+    requires few { is_uplink a.now ≡ true → length uplink.old.items < SLOT_SECTIONS }
+    requires kept { length uplink.old.items ≤ SLOT_SECTIONS }
     ensures items { reverse uplink.new.items ≡ uplink_after Accepted a.now (reverse uplink.old.items) }
-    ensures most { length uplink.new.items ≤ 64 }
+    ensures most { length uplink.new.items ≤ SLOT_SECTIONS }
     ensures capacity { vec_capacity uplink.old ≤ vec_capacity uplink.new }
 {
     if is_uplink(a) {
@@ -128,7 +132,7 @@ fn fill_run(blocks: &mut Vec<Option<Block>>, from: usize, run: &PackedRun<'_>)
     requires width { HasWidth run.now.method }
     requires room { from + run.now.count ≤ vec_capacity blocks.old }
     ensures here { (k : ℕ) → k < run.now.count → get_or blocks.new.items (from + k) None
-        ≡ or_else (get_or blocks.old.items (from + k) None) (Some (block_in run.now.id (samples_of run.now) k)) }
+        ≡ or_else (get_or blocks.old.items (from + k) None) (Some (packed_block run.now.id (packed_samples run.now) k)) }
     ensures others { (i : ℕ) → is_from from run.now.count i ≡ false → get_or blocks.new.items i None ≡ get_or blocks.old.items i None }
     ensures capacity { vec_capacity blocks.old ≤ vec_capacity blocks.new }
 {
@@ -137,36 +141,36 @@ fn fill_run(blocks: &mut Vec<Option<Block>>, from: usize, run: &PackedRun<'_>)
     }
 }
 
-/// Marks one cell, if it is in use.
-fn mark(done: &mut Vec<bool>, k: usize, used: bool)
-    requires { k < vec_len done.old }
-    ensures here { get_or done.new.items k false ≡ (get_or done.old.items k false || used) }
-    ensures others { (i : ℕ) → i ≢ k → get_or done.new.items i false ≡ get_or done.old.items i false }
-    ensures len { vec_len done.new ≡ vec_len done.old }
-    ensures capacity { vec_capacity done.old ≤ vec_capacity done.new }
+/// Sets one cell as reported, if it is in use.
+fn set_reported(reported: &mut Vec<bool>, k: usize, used: bool)
+    requires { k < vec_len reported.old }
+    ensures here { get_or reported.new.items k false ≡ (get_or reported.old.items k false || used) }
+    ensures others { (i : ℕ) → i ≢ k → get_or reported.new.items i false ≡ get_or reported.old.items i false }
+    ensures len { vec_len reported.new ≡ vec_len reported.old }
+    ensures capacity { vec_capacity reported.old ≤ vec_capacity reported.new }
 {
     if used {
-        done[k] = true;
+        reported[k] = true;
     }
 }
 
-/// Marks those of so many cells, from number `from` on, that are in use.
-fn mark_used(done: &mut Vec<bool>, marks: &[Marks], from: usize, count: usize)
-    requires { from + count ≤ vec_capacity done.old }
-    ensures here { (k : ℕ) → k < count → get_or done.new.items (from + k) false
-        ≡ (get_or done.old.items (from + k) false || is_in_use (claim_in (get_or marks.now (from + k) no_marks))) }
-    ensures others { (i : ℕ) → is_from from count i ≡ false → get_or done.new.items i false ≡ get_or done.old.items i false }
-    ensures capacity { vec_capacity done.old ≤ vec_capacity done.new }
+/// Sets as reported those of so many cells, from number `from` on, that are in use.
+fn set_used_reported(reported: &mut Vec<bool>, claims: &[CellClaims], from: usize, count: usize)
+    requires { from + count ≤ vec_capacity reported.old }
+    ensures here { (k : ℕ) → k < count → get_or reported.new.items (from + k) false
+        ≡ (get_or reported.old.items (from + k) false || is_in_use (claim_in (get_or claims.now (from + k) no_claims))) }
+    ensures others { (i : ℕ) → is_from from count i ≡ false → get_or reported.new.items i false ≡ get_or reported.old.items i false }
+    ensures capacity { vec_capacity reported.old ≤ vec_capacity reported.new }
 {
-    reach(done, from + count, false);
+    reach(reported, from + count, false);
     for k in 0..count {
-        let used = marks_at(marks, from + k).used() != 0;
-        mark(done, from + k, used);
+        let used = claims_at(claims, from + k).used() != 0;
+        set_reported(reported, from + k, used);
     }
 }
 
 impl Place {
-    ghost use Rattle.slot_rings.specs.Places.{empty_place, opened, marks_seen, blocks_seen, done_seen, place_claim, place_uplink};
+    ghost use Rattle.slot_rings.specs.Places.{empty_place, opened, claims_seen, blocks_seen, reported_seen, place_claim, place_uplink};
     ghost use Rattle.slot_rings.specs.Rows.{AreRows};
     ghost use Rattle.slot_rings.specs.Verdicts.{overlaps_by, verdict_by, claim_after};
 
@@ -174,28 +178,28 @@ impl Place {
     pub(crate) fn make(alloc: Global, prbs: u16) -> Result<Place, NoMemory>
         ensures { IfOk result (λ p. p ≡ empty_place None prbs) }
     {
-        let room = SYMBOLS * prbs as usize;
+        let room = SLOT_SYMBOLS * prbs as usize;
         let down = Vec::with_capacity(alloc, room)?;
         let up = Vec::with_capacity(alloc, room)?;
         let blocks = Vec::with_capacity(alloc, room)?;
-        let done = Vec::with_capacity(alloc, room)?;
-        let uplink = Vec::with_capacity(alloc, MOST_UPLINK)?;
+        let reported = Vec::with_capacity(alloc, room)?;
+        let uplink = Vec::with_capacity(alloc, SLOT_SECTIONS)?;
         Ok(Place {
             slot: None,
             prbs,
             down,
             up,
-            down_rows: [EMPTY; SYMBOLS],
-            up_rows: [EMPTY; SYMBOLS],
+            down_rows: [EMPTY; SLOT_SYMBOLS],
+            up_rows: [EMPTY; SLOT_SYMBOLS],
             blocks,
-            done,
+            reported,
             uplink,
         })
     }
 
     /// Whether it is this slot's.
     pub(crate) fn has(&self, slot: Slot) -> bool
-        ensures { result ≡ is_of self.now.slot slot }
+        ensures { result ≡ is_place_of self.now.slot slot }
     {
         is_of(self.slot, slot)
     }
@@ -214,10 +218,10 @@ impl Place {
         self.slot = Some(slot);
         self.down.clear();
         self.up.clear();
-        self.down_rows = [EMPTY; SYMBOLS];
-        self.up_rows = [EMPTY; SYMBOLS];
+        self.down_rows = [EMPTY; SLOT_SYMBOLS];
+        self.up_rows = [EMPTY; SLOT_SYMBOLS];
         self.blocks.clear();
-        self.done.clear();
+        self.reported.clear();
         self.uplink.clear();
     }
 
@@ -231,8 +235,8 @@ impl Place {
     }
 
     /// The claims on the cells of a slot and direction.
-    pub(crate) fn marks(&self, slot: Slot, down: bool) -> &[Marks]
-        ensures { result.now ≡ marks_seen self.now slot down }
+    pub(crate) fn claims(&self, slot: Slot, down: bool) -> &[CellClaims]
+        ensures { result.now ≡ claims_seen self.now slot down }
     {
         if self.has(slot) {
             if down {
@@ -245,9 +249,9 @@ impl Place {
         }
     }
 
-    /// What the marks of each symbol are.
+    /// What the claims of each symbol are.
     fn rows(&self, slot: Slot, down: bool) -> &[Row]
-        ensures { AreRows self.now.prbs (marks_seen self.now slot down) result.now }
+        ensures { AreRows self.now.prbs (claims_seen self.now slot down) result.now }
     {
         if self.has(slot) {
             if down { &self.down_rows } else { &self.up_rows }
@@ -259,7 +263,7 @@ impl Place {
     /// The accepted uplink sections of a slot, the newest last.
     pub(crate) fn uplink(&self, slot: Slot) -> &[Allocation]
         ensures value { reverse result.now ≡ place_uplink self.now slot }
-        ensures few { length result.now ≤ 64 }
+        ensures few { length result.now ≤ SLOT_SECTIONS }
     {
         if self.has(slot) {
             self.uplink.as_slice()
@@ -271,7 +275,7 @@ impl Place {
     /// How many accepted uplink sections it holds.
     pub(crate) fn sections(&self) -> usize
         ensures value { result ≡ length self.now.uplink }
-        ensures few { result ≤ 64 }
+        ensures few { result ≤ SLOT_SECTIONS }
     {
         self.uplink.len()
     }
@@ -284,7 +288,7 @@ impl Place {
     {
         let uplinks = self.uplink(a.slot).len();
         verdict(
-            self.marks(a.slot, a.down),
+            self.claims(a.slot, a.down),
             self.rows(a.slot, a.down),
             uplinks,
             a,
@@ -292,9 +296,9 @@ impl Place {
     }
 
     /// Claims what an accepted allocation names.
-    fn claim_marks(&mut self, a: &Allocation)
-        requires slot { is_of self.old.slot a.now.slot ≡ true }
-        requires within { a.now.symbol + a.now.num_symbol ≤ 14 }
+    fn claim_elements(&mut self, a: &Allocation)
+        requires slot { is_place_of self.old.slot a.now.slot ≡ true }
+        requires within { a.now.symbol + a.now.num_symbol ≤ SLOT_SYMBOLS }
         requires inside { is_outside a.now.endpoint.prbs a.now.start_prb a.now.num_prb ≡ false }
         requires prbs { a.now.endpoint.prbs ≡ self.old.prbs }
         requires free { overlaps_by (place_claim a.now.endpoint.prbs self.old) a.now ≡ false }
@@ -311,7 +315,7 @@ impl Place {
 
     /// Keeps an accepted uplink section.
     fn keep(&mut self, a: &Allocation)
-        requires { is_uplink a.now ≡ true → length self.old.uplink < 64 }
+        requires { is_uplink a.now ≡ true → length self.old.uplink < SLOT_SECTIONS }
         ensures { self.new ≡ record self.old { uplink = uplink_after Accepted a.now self.old.uplink } }
     {
         keep(&mut self.uplink, a);
@@ -319,8 +323,8 @@ impl Place {
 
     /// Claims what an accepted allocation names, and keeps it where it is an uplink section.
     pub(crate) fn claim(&mut self, a: &Allocation)
-        requires slot { is_of self.old.slot a.now.slot ≡ true }
-        requires within { a.now.symbol + a.now.num_symbol ≤ 14 }
+        requires slot { is_place_of self.old.slot a.now.slot ≡ true }
+        requires within { a.now.symbol + a.now.num_symbol ≤ SLOT_SYMBOLS }
         requires prbs { a.now.endpoint.prbs ≡ self.old.prbs }
         requires accepted { verdict_by (place_claim a.now.endpoint.prbs self.old) (length (place_uplink self.old a.now.slot)) a.now ≡ Accepted }
         ensures claims { (cell : Cell) (re : ℕ) → cell.ep ≡ a.now.ep → cell.slot ≡ a.now.slot → cell.prb < a.now.endpoint.prbs → re < 12
@@ -328,7 +332,7 @@ impl Place {
         ensures uplink { self.new.uplink ≡ uplink_after Accepted a.now self.old.uplink }
         ensures kept { self.new ≡ record self.old { down = self.new.down; up = self.new.up; uplink = self.new.uplink } }
     {
-        self.claim_marks(a);
+        self.claim_elements(a);
         self.keep(a);
     }
 
@@ -344,11 +348,11 @@ impl Place {
     }
 
     /// Which downlink cells of a slot were reported.
-    pub(crate) fn done(&self, slot: Slot) -> &[bool]
-        ensures { result.now ≡ done_seen self.now slot }
+    pub(crate) fn reported(&self, slot: Slot) -> &[bool]
+        ensures { result.now ≡ reported_seen self.now slot }
     {
         if self.has(slot) {
-            self.done.as_slice()
+            self.reported.as_slice()
         } else {
             &[]
         }
@@ -356,7 +360,7 @@ impl Place {
 
     /// Gives a downlink cell a block, where it has none.
     pub(crate) fn fill(&mut self, k: usize, block: &Block)
-        requires { k < 14 * self.old.prbs }
+        requires { k < SLOT_SYMBOLS * self.old.prbs }
         ensures here { get_or self.new.blocks k None ≡ or_else (get_or self.old.blocks k None) (Some block.now) }
         ensures others { (i : ℕ) → i ≢ k → get_or self.new.blocks i None ≡ get_or self.old.blocks i None }
         ensures kept { self.new ≡ record self.old { blocks = self.new.blocks } }
@@ -367,23 +371,23 @@ impl Place {
     /// Gives downlink cells from number `from` on the samples of packed PRBs, each where it has no block.
     pub(crate) fn fill_run(&mut self, from: usize, run: &PackedRun<'_>)
         requires width { HasWidth run.now.method }
-        requires room { from + run.now.count ≤ 14 * self.old.prbs }
+        requires room { from + run.now.count ≤ SLOT_SYMBOLS * self.old.prbs }
         ensures here { (k : ℕ) → k < run.now.count → get_or self.new.blocks (from + k) None
-            ≡ or_else (get_or self.old.blocks (from + k) None) (Some (block_in run.now.id (samples_of run.now) k)) }
+            ≡ or_else (get_or self.old.blocks (from + k) None) (Some (packed_block run.now.id (packed_samples run.now) k)) }
         ensures others { (i : ℕ) → is_from from run.now.count i ≡ false → get_or self.new.blocks i None ≡ get_or self.old.blocks i None }
         ensures kept { self.new ≡ record self.old { blocks = self.new.blocks } }
     {
         fill_run(&mut self.blocks, from, run);
     }
 
-    /// Marks as reported those of so many downlink cells, from number `from` on, that are in use.
-    pub(crate) fn mark_used(&mut self, from: usize, count: usize)
-        requires { from + count ≤ 14 * self.old.prbs }
-        ensures here { (k : ℕ) → k < count → get_or self.new.done (from + k) false
-            ≡ (get_or self.old.done (from + k) false || is_in_use (claim_in (get_or self.old.down (from + k) no_marks))) }
-        ensures others { (i : ℕ) → is_from from count i ≡ false → get_or self.new.done i false ≡ get_or self.old.done i false }
-        ensures kept { self.new ≡ record self.old { done = self.new.done } }
+    /// Sets as reported those of so many downlink cells, from number `from` on, that are in use.
+    pub(crate) fn set_used_reported(&mut self, from: usize, count: usize)
+        requires { from + count ≤ SLOT_SYMBOLS * self.old.prbs }
+        ensures here { (k : ℕ) → k < count → get_or self.new.reported (from + k) false
+            ≡ (get_or self.old.reported (from + k) false || is_in_use (claim_in (get_or self.old.down (from + k) no_claims))) }
+        ensures others { (i : ℕ) → is_from from count i ≡ false → get_or self.new.reported i false ≡ get_or self.old.reported i false }
+        ensures kept { self.new ≡ record self.old { reported = self.new.reported } }
     {
-        mark_used(&mut self.done, self.down.as_slice(), from, count);
+        set_used_reported(&mut self.reported, self.down.as_slice(), from, count);
     }
 }

@@ -8,9 +8,11 @@ ghost use Rattle.unit_model.specs.Lists.{every, some, or_else};
 ghost use Rattle.unit_model.specs.Proper.{IsSlot};
 ghost use Rattle.unit_model.specs.declared.cells.Cell.{Cell};
 ghost use Rattle.unit_model.specs.declared.verdicts.CommandVerdict.TheVariants.{Accepted};
-ghost use Rattle.slot_rings.specs.Places.{blank, claim_in, no_marks, is_of, is_due, is_in_use, opened, place_claim, place_uplink, cell_number};
-ghost use Rattle.slot_rings.specs.Runs.{block_in, samples_of};
+ghost use Rattle.slot_rings.specs.Places.{blank, claim_in, no_claims, is_place_of, is_due, is_in_use, opened, place_claim, place_uplink, cell_number};
+ghost use Rattle.slot_rings.specs.Runs.{packed_block, packed_samples};
 ghost use Rattle.slot_rings.specs.Verdicts.{verdict_by, claim_after, uplink_after};
+ghost use Rattle.fh_time.specs.declared.symbols.TheConstants.{SLOT_SYMBOLS};
+ghost use Rattle.unit_model.specs.declared.uplink.TheConstants.{SLOT_SECTIONS};
 
 use crate::index::place_index;
 use crate::lists::items_from;
@@ -55,7 +57,7 @@ impl Model for SlotRing {
 
 impl SlotRing {
     ghost use Rattle.slot_rings.specs.Symbols.{AreCellsOf};
-    ghost use Rattle.slot_rings.specs.Rings.{IsRing, place_index, place_of, ring_claim, ring_block, ring_done, ring_uplink, has_slot, SharePlace, IsRingCell, TouchesOnly, with_place, IsEmpty, SameClaims, SameBlocks, SameDone, SameUplink};
+    ghost use Rattle.slot_rings.specs.Rings.{IsRing, place_index, place_of, ring_claim, ring_block, ring_reported, ring_uplink, has_slot, SharePlace, IsRingCell, TouchesOnly, with_place, IsEmpty, SameClaims, SameBlocks, SameSlotReported, SameUplink};
 
     /// Takes all memory, for so many slots of an endpoint.
     pub fn make(alloc: Global, endpoint: EndpointConfig, slots: usize) -> Result<SlotRing, NoMemory>
@@ -137,7 +139,7 @@ impl SlotRing {
     pub fn uplink(&self, slot: Slot) -> &[Allocation]
         requires { IsSlot self.now.endpoint.numerology slot }
         ensures value { reverse result.now ≡ ring_uplink self.now slot }
-        ensures few { length result.now ≤ 64 }
+        ensures few { length result.now ≤ SLOT_SECTIONS }
     {
         self.place(slot).uplink(slot)
     }
@@ -168,9 +170,9 @@ impl SlotRing {
         let base = self.number(symbol, 0);
         let place = self.place(slot);
         SymbolCells {
-            marks: items_from(place.marks(slot, true), base),
+            claims: items_from(place.claims(slot, true), base),
             blocks: items_from(place.blocks(slot), base),
-            done: items_from(place.done(slot), base),
+            reported: items_from(place.reported(slot), base),
         }
     }
 
@@ -179,7 +181,7 @@ impl SlotRing {
     pub fn is_pending(&self, index: usize, symbol: u8) -> bool
         requires { index < length self.now.places }
         ensures { result ≡ false → (slot : Slot) → place_index self.now slot ≡ index → has_slot self.now slot ≡ true → (ep : ℕ) → some 0 self.now.endpoint.prbs (λ prb.
-            is_due (ring_claim self.now (cell_at ep true slot symbol prb)) (ring_done self.now (cell_at ep true slot symbol prb))) ≡ false }
+            is_due (ring_claim self.now (cell_at ep true slot symbol prb)) (ring_reported self.now (cell_at ep true slot symbol prb))) ≡ false }
     {
         self.pending.has(index, symbol)
     }
@@ -187,7 +189,7 @@ impl SlotRing {
     /// Whether any downlink cell may be in use and not reported, of any slot. It looks at one number.
     pub fn has_pending(&self) -> bool
         ensures { result ≡ false → (slot : Slot) (symbol : ℕ) → symbol < symbols_of self.now.endpoint.numerology → (ep : ℕ) → some 0 self.now.endpoint.prbs (λ prb.
-            is_due (ring_claim self.now (cell_at ep true slot symbol prb)) (ring_done self.now (cell_at ep true slot symbol prb))) ≡ false }
+            is_due (ring_claim self.now (cell_at ep true slot symbol prb)) (ring_reported self.now (cell_at ep true slot symbol prb))) ≡ false }
     {
         self.pending.has_any()
     }
@@ -203,7 +205,7 @@ impl SlotRing {
     pub fn is_used(&self, slot: Slot, symbol: u8) -> bool
         requires { IsSlot self.now.endpoint.numerology slot }
         ensures { (ep : ℕ) → result ≡ some 0 self.now.endpoint.prbs (λ prb.
-            is_due (ring_claim self.now (cell_at ep true slot symbol prb)) (ring_done self.now (cell_at ep true slot symbol prb))) }
+            is_due (ring_claim self.now (cell_at ep true slot symbol prb)) (ring_reported self.now (cell_at ep true slot symbol prb))) }
     {
         let index = self.index(slot);
         if !self.is_pending(index, symbol) {
@@ -216,13 +218,13 @@ impl SlotRing {
     fn has_due(&self, slot: Slot, symbol: u8) -> bool
         requires { IsSlot self.now.endpoint.numerology slot }
         ensures { (ep : ℕ) → result ≡ some 0 self.now.endpoint.prbs (λ prb.
-            is_due (ring_claim self.now (cell_at ep true slot symbol prb)) (ring_done self.now (cell_at ep true slot symbol prb))) }
+            is_due (ring_claim self.now (cell_at ep true slot symbol prb)) (ring_reported self.now (cell_at ep true slot symbol prb))) }
     {
         let base = self.number(symbol, 0);
         let place = self.place(slot);
         any_due(
-            place.marks(slot, true),
-            place.done(slot),
+            place.claims(slot, true),
+            place.reported(slot),
             base,
             self.endpoint.prbs,
         )
@@ -265,8 +267,8 @@ impl SlotRing {
     fn claim_place(&mut self, a: &Allocation)
         requires endpoint { a.now.endpoint ≡ self.old.endpoint }
         requires slot { IsSlot self.old.endpoint.numerology a.now.slot }
-        requires within { a.now.symbol + a.now.num_symbol ≤ 14 }
-        requires has { is_of (place_of self.old a.now.slot).slot a.now.slot ≡ true }
+        requires within { a.now.symbol + a.now.num_symbol ≤ SLOT_SYMBOLS }
+        requires has { is_place_of (place_of self.old a.now.slot).slot a.now.slot ≡ true }
         requires accepted { verdict_by (place_claim a.now.endpoint.prbs (place_of self.old a.now.slot)) (length (place_uplink (place_of self.old a.now.slot) a.now.slot)) a.now ≡ Accepted }
         ensures only { self.new ≡ with_place self.old a.now.slot (place_of self.new a.now.slot) }
         ensures claims { (cell : Cell) (re : ℕ) → cell.ep ≡ a.now.ep → cell.slot ≡ a.now.slot → cell.prb < a.now.endpoint.prbs → re < 12
@@ -275,7 +277,7 @@ impl SlotRing {
         ensures uplink { (place_of self.new a.now.slot).uplink ≡ uplink_after Accepted a.now (place_of self.old a.now.slot).uplink }
         ensures slot { (place_of self.new a.now.slot).slot ≡ (place_of self.old a.now.slot).slot }
         ensures blocks { (place_of self.new a.now.slot).blocks ≡ (place_of self.old a.now.slot).blocks }
-        ensures done { (place_of self.new a.now.slot).done ≡ (place_of self.old a.now.slot).done }
+        ensures reported { (place_of self.new a.now.slot).reported ≡ (place_of self.old a.now.slot).reported }
     {
         let index = self.index(a.slot);
         let place = &mut self.places[index];
@@ -289,7 +291,7 @@ impl SlotRing {
     /// Gives a cell its block in a slot's place.
     fn fill_place(&mut self, slot: Slot, number: usize, block: &Block)
         requires slot { IsSlot self.old.endpoint.numerology slot }
-        requires number { number < 14 * self.old.endpoint.prbs }
+        requires number { number < SLOT_SYMBOLS * self.old.endpoint.prbs }
         ensures only { self.new ≡ with_place self.old slot (place_of self.new slot) }
         ensures here { get_or (place_of self.new slot).blocks number None ≡ or_else (get_or (place_of self.old slot).blocks number None) (Some block.now) }
         ensures others { (i : ℕ) → i ≢ number → get_or (place_of self.new slot).blocks i None ≡ get_or (place_of self.old slot).blocks i None }
@@ -302,11 +304,11 @@ impl SlotRing {
     /// Gives cells of a slot's place, from one number on, the samples of packed PRBs.
     fn fill_run_place(&mut self, slot: Slot, number: usize, run: &PackedRun<'_>)
         requires slot { IsSlot self.old.endpoint.numerology slot }
-        requires number { number + run.now.count ≤ 14 * self.old.endpoint.prbs }
+        requires number { number + run.now.count ≤ SLOT_SYMBOLS * self.old.endpoint.prbs }
         requires width { HasWidth run.now.method }
         ensures only { self.new ≡ with_place self.old slot (place_of self.new slot) }
         ensures here { (k : ℕ) → k < run.now.count → get_or (place_of self.new slot).blocks (number + k) None
-            ≡ or_else (get_or (place_of self.old slot).blocks (number + k) None) (Some (block_in run.now.id (samples_of run.now) k)) }
+            ≡ or_else (get_or (place_of self.old slot).blocks (number + k) None) (Some (packed_block run.now.id (packed_samples run.now) k)) }
         ensures others { (i : ℕ) → is_from number run.now.count i ≡ false → get_or (place_of self.new slot).blocks i None ≡ get_or (place_of self.old slot).blocks i None }
         ensures kept { place_of self.new slot ≡ record (place_of self.old slot) { blocks = (place_of self.new slot).blocks } }
     {
@@ -314,25 +316,25 @@ impl SlotRing {
         self.places[index].fill_run(number, run);
     }
 
-    /// Marks as reported those of the first so many cells of a symbol that are in use, in a slot's place. Where these are all of
+    /// Sets as reported those of the first so many cells of a symbol that are in use, in a slot's place. Where these are all of
     /// the symbol's, its flag goes.
-    fn mark_place(&mut self, slot: Slot, symbol: u8, count: u16)
+    fn report_place(&mut self, slot: Slot, symbol: u8, count: u16)
         requires slot { IsSlot self.old.endpoint.numerology slot }
-        requires symbol { symbol < 14 }
+        requires symbol { symbol < SLOT_SYMBOLS }
         requires count { count ≤ self.old.endpoint.prbs }
         ensures only { self.new ≡ with_place self.old slot (place_of self.new slot) }
-        ensures here { (k : ℕ) → k < count → get_or (place_of self.new slot).done (cell_number self.old.endpoint.prbs symbol 0 + k) false
-            ≡ (get_or (place_of self.old slot).done (cell_number self.old.endpoint.prbs symbol 0 + k) false
-            || is_in_use (claim_in (get_or (place_of self.old slot).down (cell_number self.old.endpoint.prbs symbol 0 + k) no_marks))) }
+        ensures here { (k : ℕ) → k < count → get_or (place_of self.new slot).reported (cell_number self.old.endpoint.prbs symbol 0 + k) false
+            ≡ (get_or (place_of self.old slot).reported (cell_number self.old.endpoint.prbs symbol 0 + k) false
+            || is_in_use (claim_in (get_or (place_of self.old slot).down (cell_number self.old.endpoint.prbs symbol 0 + k) no_claims))) }
         ensures others { (i : ℕ) → is_from (cell_number self.old.endpoint.prbs symbol 0) count i ≡ false
-            → get_or (place_of self.new slot).done i false ≡ get_or (place_of self.old slot).done i false }
-        ensures kept { place_of self.new slot ≡ record (place_of self.old slot) { done = (place_of self.new slot).done } }
+            → get_or (place_of self.new slot).reported i false ≡ get_or (place_of self.old slot).reported i false }
+        ensures kept { place_of self.new slot ≡ record (place_of self.old slot) { reported = (place_of self.new slot).reported } }
     {
         let number = self.number(symbol, 0);
         let index = self.index(slot);
         let all = count == self.endpoint.prbs;
-        self.places[index].mark_used(number, count as usize);
-        self.pending.settle(index, symbol, all);
+        self.places[index].set_used_reported(number, count as usize);
+        self.pending.clear_reported(index, symbol, all);
     }
 
     /// Lets a slot have its place. What was kept of another slot in that place is forgotten; what was kept of this one stays.
@@ -341,7 +343,7 @@ impl SlotRing {
         ensures has { has_slot self.new slot ≡ true }
         ensures claims { SameClaims slot self.old self.new }
         ensures blocks { SameBlocks slot self.old self.new }
-        ensures done { SameDone slot self.old self.new }
+        ensures reported { SameSlotReported slot self.old self.new }
         ensures uplink { SameUplink slot self.old self.new }
         ensures touches { TouchesOnly slot self.old self.new }
         ensures parted { (other : Slot) → SharePlace self.old other slot → other ≢ slot → has_slot self.new other ≡ false }
@@ -361,7 +363,7 @@ impl SlotRing {
         ensures uplink { ring_uplink self.new a.now.slot ≡ uplink_after Accepted a.now (ring_uplink self.old a.now.slot) }
         ensures has { has_slot self.new a.now.slot ≡ true }
         ensures blocks { SameBlocks a.now.slot self.old self.new }
-        ensures done { SameDone a.now.slot self.old self.new }
+        ensures reported { SameSlotReported a.now.slot self.old self.new }
         ensures touches { TouchesOnly a.now.slot self.old self.new }
     {
         self.claim_place(a);
@@ -379,7 +381,7 @@ impl SlotRing {
             → ring_block self.new cell ≡ ring_block self.old cell }
         ensures has { has_slot self.new slot ≡ true }
         ensures claims { SameClaims slot self.old self.new }
-        ensures done { SameDone slot self.old self.new }
+        ensures reported { SameSlotReported slot self.old self.new }
         ensures uplink { SameUplink slot self.old self.new }
         ensures touches { TouchesOnly slot self.old self.new }
     {
@@ -396,12 +398,12 @@ impl SlotRing {
         requires width { HasWidth run.now.method }
         requires has { has_slot self.old slot ≡ true }
         ensures here { (ep k : ℕ) → k < run.now.count → ring_block self.new (cell_at ep true slot symbol (first + k))
-            ≡ or_else (ring_block self.old (cell_at ep true slot symbol (first + k))) (Some (block_in run.now.id (samples_of run.now) k)) }
+            ≡ or_else (ring_block self.old (cell_at ep true slot symbol (first + k))) (Some (packed_block run.now.id (packed_samples run.now) k)) }
         ensures others { (cell : Cell) → IsRingCell self.old cell → cell.slot ≡ slot → (cell.symbol ≡ symbol → is_from first run.now.count cell.prb ≡ false)
             → ring_block self.new cell ≡ ring_block self.old cell }
         ensures has { has_slot self.new slot ≡ true }
         ensures claims { SameClaims slot self.old self.new }
-        ensures done { SameDone slot self.old self.new }
+        ensures reported { SameSlotReported slot self.old self.new }
         ensures uplink { SameUplink slot self.old self.new }
         ensures touches { TouchesOnly slot self.old self.new }
     {
@@ -409,23 +411,23 @@ impl SlotRing {
         self.fill_run_place(slot, number, run);
     }
 
-    /// Marks as reported the downlink cells of a symbol that are in use at the first so many PRBs, in a slot that has its place.
+    /// Sets as reported the downlink cells of a symbol that are in use at the first so many PRBs, in a slot that has its place.
     /// Where these are all PRBs, `is_pending` and `is_used` look at none of its cells until one is claimed.
-    pub fn mark_used(&mut self, slot: Slot, symbol: u8, count: u16)
+    pub fn set_used_reported(&mut self, slot: Slot, symbol: u8, count: u16)
         requires slot { IsSlot self.old.endpoint.numerology slot }
         requires symbol { symbol < symbols_of self.old.endpoint.numerology }
         requires count { count ≤ self.old.endpoint.prbs }
         requires has { has_slot self.old slot ≡ true }
-        ensures here { (ep prb : ℕ) → prb < count → ring_done self.new (cell_at ep true slot symbol prb)
-            ≡ (ring_done self.old (cell_at ep true slot symbol prb) || is_in_use (ring_claim self.old (cell_at ep true slot symbol prb))) }
+        ensures here { (ep prb : ℕ) → prb < count → ring_reported self.new (cell_at ep true slot symbol prb)
+            ≡ (ring_reported self.old (cell_at ep true slot symbol prb) || is_in_use (ring_claim self.old (cell_at ep true slot symbol prb))) }
         ensures others { (cell : Cell) → IsRingCell self.old cell → cell.slot ≡ slot → (cell.symbol ≡ symbol → count ≤ cell.prb)
-            → ring_done self.new cell ≡ ring_done self.old cell }
+            → ring_reported self.new cell ≡ ring_reported self.old cell }
         ensures has { has_slot self.new slot ≡ true }
         ensures claims { SameClaims slot self.old self.new }
         ensures blocks { SameBlocks slot self.old self.new }
         ensures uplink { SameUplink slot self.old self.new }
         ensures touches { TouchesOnly slot self.old self.new }
     {
-        self.mark_place(slot, symbol, count);
+        self.report_place(slot, symbol, count);
     }
 }

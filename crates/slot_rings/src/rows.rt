@@ -1,16 +1,15 @@
-// What is known of the marks of a symbol.
+// What is known of the claims of a symbol.
 ghost use Rattle.std.specs.Prelude.{◌≡◌, ℕ, ◌+◌, ◌^◌, ◌<◌, ◌≤◌, ◌&&◌, nat_le, nat_lt, min, max, true, false};
 ghost use Rattle.unit_model.specs.Claims.{is_from, is_claimed, is_overlapped};
 ghost use Rattle.unit_model.specs.Lists.{every, some};
 ghost use Rattle.slot_rings.specs.Places.{claim_in};
-ghost use Rattle.slot_rings.specs.Rows.{row_at, run_marks, marks_in, run_of, Grows};
+ghost use Rattle.slot_rings.specs.Rows.{row_at, run_claims, row_claims, claimed_run, Grows};
 ghost use Rattle.slot_rings.specs.declared.rows.Row.TheVariants.{Known};
+ghost use Rattle.fh_time.specs.declared.symbols.TheConstants.{SLOT_SYMBOLS};
 
-use crate::marks::{Marks, NONE};
+use crate::claims::{CellClaims, NONE};
+use fh_time::SLOT_SYMBOLS;
 use unit_model::Allocation;
-
-/// A slot has at most 14 symbols.
-pub(crate) const SYMBOLS: usize = 14;
 
 /// Cells of a symbol with claims on the same elements under one section id. No other cell of the symbol has any.
 #[derive(Clone, Copy)]
@@ -21,7 +20,7 @@ pub(crate) struct Run {
     pub claimed: u16,
 }
 
-/// What is known of the marks of a symbol.
+/// What is known of the claims of a symbol.
 #[derive(Clone, Copy)]
 pub(crate) enum Row {
     /// They are those of a run.
@@ -39,11 +38,11 @@ pub(crate) const EMPTY: Row = Row::Known(Run {
 });
 
 impl Run {
-    /// The marks of its cells, idle or not.
-    fn marks(self) -> Marks
-        ensures { result ≡ run_marks self }
+    /// The claims of its cells, idle or not.
+    fn claims(self) -> CellClaims
+        ensures { result ≡ run_claims self }
     {
-        Marks {
+        CellClaims {
             id: self.id,
             claimed: self.claimed,
             idle: 0,
@@ -73,10 +72,10 @@ impl Run {
     pub(crate) fn has(self, first: usize, count: usize, id: u16, mask: u16) -> bool
         requires some { 0 < count }
         requires small { first + count < 2 ^ 32 }
-        ensures { result ≡ every first count (λ n. is_claimed id mask (claim_in (marks_in self n))) }
+        ensures { result ≡ every first count (λ n. is_claimed id mask (claim_in (row_claims self n))) }
     {
         if self.covers(first, count) {
-            self.marks().has(id, mask)
+            self.claims().has(id, mask)
         } else {
             NONE.has(id, mask)
         }
@@ -85,9 +84,9 @@ impl Run {
     /// Whether one of some cells of the symbol has a claim against this id and mask.
     pub(crate) fn clashes(self, first: usize, count: usize, id: u16, mask: u16) -> bool
         requires { first + count < 2 ^ 32 }
-        ensures { result ≡ some first count (λ n. is_overlapped id mask (claim_in (marks_in self n))) }
+        ensures { result ≡ some first count (λ n. is_overlapped id mask (claim_in (row_claims self n))) }
     {
-        self.meets(first, count) && self.marks().clashes(id, mask)
+        self.meets(first, count) && self.claims().clashes(id, mask)
     }
 
     /// One run of two with the same claims, where they stand side by side.
@@ -140,7 +139,7 @@ impl Row {
 pub(crate) fn row_at(rows: &[Row], symbol: usize) -> Row
     ensures { result ≡ row_at rows.now symbol }
 {
-    if symbol >= SYMBOLS {
+    if symbol >= SLOT_SYMBOLS {
         Row::Mixed
     } else if symbol < rows.len() {
         rows[symbol]
@@ -151,7 +150,7 @@ pub(crate) fn row_at(rows: &[Row], symbol: usize) -> Row
 
 /// The run of cells that an allocation claims in each of its symbols.
 fn run_of(a: &Allocation) -> Run
-    ensures { result ≡ run_of a.now }
+    ensures { result ≡ claimed_run a.now }
 {
     let count = if a.num_prb == 0 {
         a.endpoint.prbs
@@ -167,9 +166,9 @@ fn run_of(a: &Allocation) -> Run
 }
 
 /// Notes the claims of an allocation.
-pub(crate) fn note(rows: &mut [Row; 14], a: &Allocation)
-    requires { a.now.symbol + a.now.num_symbol ≤ 14 }
-    ensures grown { (s : ℕ) → is_from a.now.symbol a.now.num_symbol s ≡ true → Grows (run_of a.now) (row_at rows.old s) (row_at rows.new s) }
+pub(crate) fn note(rows: &mut [Row; SLOT_SYMBOLS], a: &Allocation)
+    requires { a.now.symbol + a.now.num_symbol ≤ SLOT_SYMBOLS }
+    ensures grown { (s : ℕ) → is_from a.now.symbol a.now.num_symbol s ≡ true → Grows (claimed_run a.now) (row_at rows.old s) (row_at rows.new s) }
     ensures others { (s : ℕ) → is_from a.now.symbol a.now.num_symbol s ≡ false → row_at rows.new s ≡ row_at rows.old s }
 {
     let more = run_of(a);

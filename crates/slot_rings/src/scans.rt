@@ -1,10 +1,10 @@
 // Tests over the cells of one symbol.
 ghost use Rattle.std.specs.Prelude.{◌≡◌, ◌+◌, ◌^◌, ◌<◌, ◌&&◌, false, get_or, is_some, None, option_copied};
 ghost use Rattle.unit_model.specs.Lists.{every, some};
-ghost use Rattle.slot_rings.specs.Places.{claim_in, no_marks, is_due};
+ghost use Rattle.slot_rings.specs.Places.{claim_in, no_claims, is_due};
 
-use crate::judging::marks_at;
-use crate::marks::Marks;
+use crate::claims::CellClaims;
+use crate::judging::claims_at;
 use unit_model::Block;
 
 /// The block of one cell.
@@ -19,10 +19,10 @@ pub(crate) fn block_at(blocks: &[Option<Block>], k: usize) -> Option<&Block>
 }
 
 /// Whether one cell was reported.
-pub(crate) fn done_at(done: &[bool], k: usize) -> bool
-    ensures { result ≡ get_or done.now k false }
+pub(crate) fn reported_here(reported: &[bool], k: usize) -> bool
+    ensures { result ≡ get_or reported.now k false }
 {
-    k < done.len() && done[k]
+    k < reported.len() && reported[k]
 }
 
 /// Whether each of these cells of a symbol has a block. The symbol's cells begin at number `base`.
@@ -39,12 +39,12 @@ pub(crate) fn all_there(blocks: &[Option<Block>], base: usize, first: u16, count
 }
 
 /// Whether one of these cells is in use and was not reported.
-pub(crate) fn any_due(marks: &[Marks], done: &[bool], base: usize, count: u16) -> bool
+pub(crate) fn any_due(claims: &[CellClaims], reported: &[bool], base: usize, count: u16) -> bool
     requires { base < 2 ^ 32 }
-    ensures { result ≡ some 0 count (λ n. is_due (claim_in (get_or marks.now (base + n) no_marks)) (get_or done.now (base + n) false)) }
+    ensures { result ≡ some 0 count (λ n. is_due (claim_in (get_or claims.now (base + n) no_claims)) (get_or reported.now (base + n) false)) }
 {
     for n in 0..count as usize {
-        if marks_at(marks, base + n).used() != 0 && !done_at(done, base + n) {
+        if claims_at(claims, base + n).used() != 0 && !reported_here(reported, base + n) {
             return true;
         }
     }

@@ -2,9 +2,9 @@
 ghost use Rattle.std.specs.Prelude.{◌≡◌, option_copied};
 ghost use Rattle.unit_model.specs.Radiated.{cell_id, used_mask};
 
-use crate::judging::marks_at;
-use crate::marks::Marks;
-use crate::scans::{block_at, done_at};
+use crate::claims::CellClaims;
+use crate::judging::claims_at;
+use crate::scans::{block_at, reported_here};
 use unit_model::Block;
 
 /// What a report needs of a downlink cell besides its block.
@@ -15,7 +15,7 @@ pub struct Use {
     /// The section id of its claims, 0 where it has none.
     pub section: u16,
     /// Whether it was reported.
-    pub done: bool,
+    pub reported: bool,
 }
 
 /// The downlink cells of a slot from the first one of a symbol on, as its place keeps them. Where a list ends, nothing is known of
@@ -23,28 +23,28 @@ pub struct Use {
 #[derive(Clone, Copy)]
 pub struct SymbolCells<'a> {
     /// What is claimed of them.
-    pub marks: &'a [Marks],
+    pub claims: &'a [CellClaims],
     /// The blocks that came for them.
     pub blocks: &'a [Option<Block>],
     /// Which of them were reported.
-    pub done: &'a [bool],
+    pub reported: &'a [bool],
 }
 
 impl<'a> SymbolCells<'a> {
-    ghost use Rattle.slot_rings.specs.Symbols.{lent_block, lent_claim, lent_done};
+    ghost use Rattle.slot_rings.specs.Symbols.{lent_block, lent_claim, lent_reported};
 
     /// What a report needs of the cell at a PRB besides its block.
     pub fn cell(&self, prb: u16) -> Use
         ensures mask { result.mask ≡ used_mask (lent_claim self.now prb) }
         ensures section { result.section ≡ cell_id (lent_claim self.now prb) }
-        ensures done { result.done ≡ lent_done self.now prb }
+        ensures reported { result.reported ≡ lent_reported self.now prb }
     {
         let prb = prb as usize;
-        let marks = marks_at(self.marks, prb);
+        let claims = claims_at(self.claims, prb);
         Use {
-            mask: marks.used(),
-            section: marks.section(),
-            done: done_at(self.done, prb),
+            mask: claims.used(),
+            section: claims.section(),
+            reported: reported_here(self.reported, prb),
         }
     }
 

@@ -1,5 +1,6 @@
 -- The bounds of what is added up.
-use Rattle.std.proofs.Common.{◌≡◌, ℕ, ◌<◌, ◌≤◌, Bool, true, false, ◌&&◌, refl, arith}
+use Rattle.std.proofs.Common.{◌≡◌, ℕ, ◌<◌, ◌≤◌, true, arith}
+use Rattle.std.specs.Cmp.{first_so}
 use Rattle.std.proofs.lemmas.Bool.{ltb-true}
 use Rattle.std.proofs.lemmas.Int.{ints}
 use Rattle.report_lines.specs.air_source.specs.declared.events.AirCell.{AirCell}
@@ -20,14 +21,6 @@ wider n m t le h = record {
   q_high = omega (arith, ints, h.q_high);
 }
 
-pub left_of : (a b : Bool) → (a && b) ≡ true → a ≡ true
-left_of true b h = refl
-left_of false b h = h
-
-pub right_of : (a b : Bool) → (a && b) ≡ true → b ≡ true
-right_of true b h = h
-right_of false b h = cc
-
 -- a cell that goes on a run has a greater PRB
 pub rises : (r : OpenRun) (c : AirCell) → goes_on_with r c ≡ true → r.prb < c.prb
-rises r c h = ltb-true r.prb c.prb (left_of _ (same_place r.place (place_of c)) h)
+rises r c h = ltb-true r.prb c.prb (first_so _ (same_place r.place (place_of c)) h)

@@ -1,5 +1,6 @@
 -- The lines of cells that come one by one are those of the runs that the whole list is cut into.
 use Rattle.std.proofs.Common.{◌≡◌, ℕ, pos, ◌+◌, ◌+ℤ◌, Bool, true, false, ◌&&◌, cond, nat_lt, List, [], ◌∷◌, ◌++◌, Option, None, Some, refl, sym, ap, subst, ◌∙◌, arith, append_assoc, append-nil}
+use Rattle.std.specs.Cmp.{second_so}
 use Rattle.std.specs.List.{flat_map}
 use Rattle.std.proofs.lemmas.Int.{ints}
 use Rattle.std.proofs.lemmas.List.Concat.{flat_map-cons}
@@ -12,7 +13,6 @@ use Rattle.sum_air.specs.Places.{place_of, same_place}
 use Rattle.sum_air.specs.Totals.{no_totals, cell_totals, plus, run_totals}
 use Rattle.sum_air.specs.Summary.{follows, joined, runs_of, run_text, cells_text}
 use Rattle.sum_air.specs.States.{opened, goes_on_with, with_cell, run_ended, run_after, run_line}
-use Rattle.sum_air.proofs.Bounds.{right_of}
 use Rattle.sum_air.proofs.Same.{same_is}
 
 -- the lines that cells give one by one, and that of the run that is open at the end
@@ -40,7 +40,7 @@ opened_is c = record { place = refl; prb = refl; totals = sym (plus_none (cell_t
 
 grown_is : (r : OpenRun) (before : List AirCell) (l c : AirCell) → IsRunOf r before l → goes_on_with r c ≡ true → IsRunOf (with_cell r c) (before ++ l ∷ []) c
 grown_is r before l c h goes =
-    let same : r.place ≡ place_of c = same_is r.place (place_of c) (right_of (nat_lt r.prb c.prb) (same_place r.place (place_of c)) goes) in
+    let same : r.place ≡ place_of c = same_is r.place (place_of c) (second_so (nat_lt r.prb c.prb) (same_place r.place (place_of c)) goes) in
     let here : place_of l ≡ place_of c = sym h.place ∙ same in
     record {
       place = same;

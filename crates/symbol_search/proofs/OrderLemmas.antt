@@ -5,10 +5,10 @@ use Rattle.std.specs.Ordering.{int_eq}
 use Rattle.std.proofs.lemmas.Int.{ints}
 use Rattle.std.proofs.lemmas.Bool.{eq-eqb, false_from_ne_true, lt-ltb}
 use Rattle.std.proofs.lemmas.Bool.Decides.{nat_tests, Decides-int_eq}
-use Rattle.unit_cells.specs.slot_rings.proofs.PlaceLemmas.{slot_own}
 use Rattle.unit_cells.specs.unit_model.specs.Claims.{same_slot}
 use Rattle.unit_cells.specs.unit_model.specs.Order.{comes_before, slot_before}
 use Rattle.unit_cells.specs.unit_model.specs.declared.symbol_start.SymbolStart.{SymbolStart}
+use Rattle.unit_cells.specs.unit_model.proofs.ClaimLemmas.{slot_self as slot_own}
 
 -- ---- by a signed number, and then by something else
 
@@ -48,14 +48,6 @@ by_slot a b =
 
 abbrev in_turn : SymbolStart → SymbolStart → Bool
 in_turn a b = int_lt a.start.0 b.start.0 || (int_eq a.start.0 b.start.0 && (nat_lt a.ep b.ep || ((a.ep == b.ep) && by_slot a b)))
-
-and_false : (b : Bool) → (b && false) ≡ false
-and_false true = refl
-and_false false = refl
-
-or_false : (b : Bool) → (b || false) ≡ b
-or_false true = refl
-or_false false = refl
 
 last_alone : (x e : Bool) → (x || (e && false)) ≡ x
 last_alone true e = refl

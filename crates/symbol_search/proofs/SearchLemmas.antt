@@ -10,13 +10,14 @@ use Rattle.fh_time.proofs.Order.{symbols_in_order}
 use Rattle.unit_cells.specs.unit_model.specs.Order.{comes_before}
 use Rattle.unit_cells.specs.unit_model.specs.declared.symbol_start.SymbolStart.{SymbolStart}
 use Rattle.unit_cells.specs.Cells.{CellsValue, endpoints_of}
-use Rattle.unit_cells.proofs.ListLemmas.{some_equal}
 use Rattle.symbol_search.specs.Places.{IsPlace, start_in}
 use Rattle.symbol_search.specs.Searches.{IsNotBefore, Searched, earlier_of}
 use Rattle.symbol_search.specs.Symbols.{HasNone, InSlot, IsFirst, IsFitting, IsSymbol}
 use Rattle.symbol_search.specs.declared.places.SlotPlace.{SlotPlace}
 use Rattle.symbol_search.proofs.OrderLemmas.{earlier_symbol, not_before_earlier, not_before_itself, not_before_later}
 use Rattle.symbol_search.proofs.SymbolLemmas.{symbol_one}
+use Rattle.fh_time.proofs.Orders.{both_ways as unfit}
+use Rattle.fh_time.proofs.Options.{some_is as some_equal}
 
 -- ---- over one symbol
 
@@ -36,9 +37,6 @@ earlier_finds (Some f) m = elim (cases_Bool (comes_before m f)) [ inl e ↦ rw e
 later_not_before : (m x : SymbolStart) (found : Option SymbolStart) → comes_before m x ≡ true → IsNotBefore m found → IsNotBefore x found
 later_not_before m x None p n = absurd n
 later_not_before m x (Some f) p n = not_before_later m x f p n
-
-unfit : (b : Bool) → b ≡ true → b ≡ false → ⊥
-unfit b p q = cc
 
 -- ---- over more symbols
 

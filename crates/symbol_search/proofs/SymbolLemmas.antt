@@ -6,8 +6,8 @@ use Rattle.unit_cells.specs.unit_model.specs.Proper.{IsAt}
 use Rattle.unit_cells.specs.unit_model.specs.Starts.{start_at}
 use Rattle.unit_cells.specs.unit_model.specs.declared.symbol_start.SymbolStart.{SymbolStart}
 use Rattle.unit_cells.specs.Cells.{CellsValue, endpoints_of}
-use Rattle.unit_cells.proofs.ListLemmas.{some_equal}
 use Rattle.symbol_search.specs.Symbols.{IsSymbol}
+use Rattle.fh_time.proofs.Options.{some_is as some_equal}
 
 is_at_one : (es : List EndpointConfig) (k : ℕ) (a b : EndpointConfig) → IsAt es k a → IsAt es k b → a ≡ b
 is_at_one es k a b p q = some_equal a b (sym p ∙ q)

@@ -30,7 +30,8 @@ use Rattle.top_call.specs.declared.status.LineWhy.{LineWhy}
 use Rattle.top_call.specs.declared.status.Status.{Status}
 use Rattle.top_call.specs.declared.status.Status.TheVariants.{Done, BadWords, BadDocument, BadCapture, ReadFault, WriteFault, NoMemory, TooLong, CheckFails, BadPcap, NoFit}
 use Rattle.top_call.specs.Answers.{Answer, answer_of, asked, captured, fit_shown, fit_verdict, is_reading, of_capture, of_document, of_pcap, of_plan, of_planned, replayed, summarized, verdict_of, windows_shown}
-use Rattle.top_call.specs.Run.{AnswersRun, IsDecided, IsRefusal, Outcome, input_limit}
+use Rattle.top_call.specs.Run.{AnswersRun, IsDecided, IsRefusal, Outcome}
+use Rattle.fh_base.specs.declared.source.TheConstants.{INPUT_LIMIT}
 
 -- ---- a refusal
 
@@ -134,7 +135,7 @@ bad_document words left_old left_new s t old new before now line why o =
 
 -- one that can be read whole is answered so, or for want of memory, whatever the sink does
 pub refused : (words : List (List ℕ)) (bytes : List ℕ) (left_old left_new : Option (List ℕ)) (s t : ℕ) (old new : Option (List ℕ)) (before now : ℕ) (status : Status) (line : ℕ) (why : LineWhy)
-    → Outcome words left_old left_new s t old new before now status → IsSome (command_of words) → (Rose s t → ⊥) → left_old ≡ Some bytes → length bytes ≤ input_limit
+    → Outcome words left_old left_new s t old new before now status → IsSome (command_of words) → (Rose s t → ⊥) → left_old ≡ Some bytes → length bytes ≤ INPUT_LIMIT
     → (asked (command_of words) bytes).status ≡ BadDocument line why → (status ≡ BadDocument line why) ⊎ (status ≡ NoMemory)
 refused words bytes left_old left_new s t old new before now status line why o some calm left short wanted =
     subst (λ (w : Status). (status ≡ w) ⊎ (status ≡ NoMemory)) wanted (o.complete bytes some (λ _. (calm, left, short)) (inr (subst IsRefusal (sym wanted) tt)))

@@ -19,7 +19,8 @@ use Rattle.top_call.specs.declared.status.Status.{Status}
 use Rattle.top_call.specs.declared.status.Status.TheVariants.{Done, BadWords, BadDocument, BadCapture, ReadFault, WriteFault, NoMemory, TooLong, CheckFails, BadPcap, NoFit}
 use Rattle.top_call.specs.Answers.{Answer, answer_of, asked, is_reading, reads}
 use Rattle.top_call.specs.Endings.{source_status}
-use Rattle.top_call.specs.Run.{AnswersCommand, AnswersRun, IsDecided, IsRefusal, IsSoundPlan, Outcome, Performs, input_limit}
+use Rattle.top_call.specs.Run.{AnswersCommand, AnswersRun, IsDecided, IsRefusal, IsSoundPlan, Outcome, Performs}
+use Rattle.fh_base.specs.declared.source.TheConstants.{INPUT_LIMIT}
 
 -- ---- the laws of a document's events
 
@@ -73,7 +74,7 @@ completes_as a b before now status same h =
 pub performed : (words : List (List ℕ)) (command : Command) (came : List ℕ) (left_old left_new : Option (List ℕ)) (s t : ℕ) (old new : Option (List ℕ)) (before now : ℕ) (status : Status)
     → command_of words ≡ Some command → Performs (answer_of command came) old new before now status
     → left_old ≡ prepend_known came left_new → (reads command ≡ true → IsAtEnd left_new)
-    → length came ≤ input_limit → s ≤ t → IfSome left_old (λ bytes. WritesFront old new (answer_of command bytes).text)
+    → length came ≤ INPUT_LIMIT → s ≤ t → IfSome left_old (λ bytes. WritesFront old new (answer_of command bytes).text)
     → ((bytes : List ℕ) → (reads command ≡ true → left_old ≡ Some bytes) → answer_of command bytes ≡ answer_of command came)
     → Outcome words left_old left_new s t old new before now status
 performed words command came left_old left_new s t old new before now status is p taken ended within later front same =
@@ -144,7 +145,7 @@ came_all came bytes left_old (Some rest) taken ended is =
 
 pub read : (words : List (List ℕ)) (command : Command) (bytes came : List ℕ) (left_old left_new : Option (List ℕ)) (s t : ℕ) (old new : Option (List ℕ)) (before now : ℕ) (status : Status)
     → command_of words ≡ Some command → reads command ≡ true → bytes ≡ came → Performs (answer_of command bytes) old new before now status
-    → left_old ≡ prepend_known came left_new → IsAtEnd left_new → length came ≤ input_limit → s ≤ t
+    → left_old ≡ prepend_known came left_new → IsAtEnd left_new → length came ≤ INPUT_LIMIT → s ≤ t
     → Outcome words left_old left_new s t old new before now status
 read words command bytes came left_old left_new s t old new before now status is does same p taken ended within later =
     let q : Performs (answer_of command came) old new before now status = subst (λ (b : List ℕ). Performs (answer_of command b) old new before now status) same p in
@@ -226,8 +227,8 @@ part_short came bytes left_old (Some rest) taken is =
 
 -- where the source did not fail and what was left is short enough, only memory stops a run
 stop_wants : (wanted : Status) (came bytes : List ℕ) (left_old left_new : Option (List ℕ)) (s t : ℕ) (status : Status) → IsStop status → (status ≡ ReadFault → Rose s t)
-    → ((status ≡ TooLong) ↔ input_limit < length came) → left_old ≡ prepend_known came left_new
-    → (Rose s t → ⊥) × (left_old ≡ Some bytes) × (length bytes ≤ input_limit) → (status ≡ wanted) ⊎ (status ≡ NoMemory)
+    → ((status ≡ TooLong) ↔ INPUT_LIMIT < length came) → left_old ≡ prepend_known came left_new
+    → (Rose s t → ⊥) × (left_old ≡ Some bytes) × (length bytes ≤ INPUT_LIMIT) → (status ≡ wanted) ⊎ (status ≡ NoMemory)
 stop_wants wanted came bytes left_old left_new s t Done stop rose long taken given = absurd stop
 stop_wants wanted came bytes left_old left_new s t BadWords stop rose long taken given = absurd stop
 stop_wants wanted came bytes left_old left_new s t (BadDocument line why) stop rose long taken given = absurd stop
@@ -237,15 +238,15 @@ stop_wants wanted came bytes left_old left_new s t ReadFault stop rose long take
 stop_wants wanted came bytes left_old left_new s t WriteFault stop rose long taken given = absurd stop
 stop_wants wanted came bytes left_old left_new s t NoMemory stop rose long taken given = inr refl
 stop_wants wanted came bytes left_old left_new s t TooLong stop rose long taken given =
-    let past : input_limit < length came = long.0 refl in
+    let past : INPUT_LIMIT < length came = long.0 refl in
     let part = part_short came bytes left_old left_new taken given.1 in
-    let short : length bytes ≤ input_limit = given.2 in
+    let short : length bytes ≤ INPUT_LIMIT = given.2 in
     absurd (omega arith)
 stop_wants wanted came bytes left_old left_new s t (CheckFails failing) stop rose long taken given = absurd stop
 stop_wants wanted came bytes left_old left_new s t (NoFit refusal) stop rose long taken given = absurd stop
 
 stopped : (words : List (List ℕ)) (command : Command) (came : List ℕ) (left_old left_new : Option (List ℕ)) (s t : ℕ) (written : Option (List ℕ)) (o : ℕ) (status : Status)
-    → command_of words ≡ Some command → reads command ≡ true → IsStop status → (status ≡ ReadFault → Rose s t) → ((status ≡ TooLong) ↔ input_limit < length came)
+    → command_of words ≡ Some command → reads command ≡ true → IsStop status → (status ≡ ReadFault → Rose s t) → ((status ≡ TooLong) ↔ INPUT_LIMIT < length came)
     → left_old ≡ prepend_known came left_new → s ≤ t
     → Outcome words left_old left_new s t written written o o status
 stopped words command came left_old left_new s t written o status is does stop rose long taken later =
@@ -268,7 +269,7 @@ stopped words command came left_old left_new s t written o status is does stop r
 
 -- the source was not read to its end
 unread : (words : List (List ℕ)) (command : Command) (came : List ℕ) (left_old left_new : Option (List ℕ)) (s t : ℕ) (written : Option (List ℕ)) (o : ℕ) (fault : ReadAllFault)
-    → command_of words ≡ Some command → reads command ≡ true → (fault ≡ source.ReadFault → Rose s t) → ((fault ≡ source.TooLong) ↔ input_limit < length came)
+    → command_of words ≡ Some command → reads command ≡ true → (fault ≡ source.ReadFault → Rose s t) → ((fault ≡ source.TooLong) ↔ INPUT_LIMIT < length came)
     → left_old ≡ prepend_known came left_new → s ≤ t
     → Outcome words left_old left_new s t written written o o (source_status fault)
 unread words command came left_old left_new s t written o source.ReadFault is does rose long taken later =
@@ -280,7 +281,7 @@ unread words command came left_old left_new s t written o source.NoMemory is doe
 
 pub unread_as : (words : List (List ℕ)) (command : Command) (came : List ℕ) (left_old left_new : Option (List ℕ)) (s t : ℕ) (written : Option (List ℕ)) (o : ℕ) (fault : ReadAllFault) (status : Status)
     → status ≡ source_status fault → command_of words ≡ Some command → reads command ≡ true → (fault ≡ source.ReadFault → Rose s t)
-    → ((fault ≡ source.TooLong) ↔ input_limit < length came) → left_old ≡ prepend_known came left_new → s ≤ t
+    → ((fault ≡ source.TooLong) ↔ INPUT_LIMIT < length came) → left_old ≡ prepend_known came left_new → s ≤ t
     → Outcome words left_old left_new s t written written o o status
 unread_as words command came left_old left_new s t written o fault status status_is is does rose long taken later =
     subst (Outcome words left_old left_new s t written written o o) (sym status_is) (unread words command came left_old left_new s t written o fault is does rose long taken later)

@@ -11,10 +11,7 @@ use Rattle.fronthaul_replay.specs.plan_model.specs.Valid.{IsValid}
 use Rattle.top_call.specs.declared.status.Status.{Status}
 use Rattle.top_call.specs.declared.status.Status.TheVariants.{Done, BadWords, BadDocument, BadCapture, ReadFault, WriteFault, NoMemory, TooLong, CheckFails, BadPcap, NoFit}
 use Rattle.top_call.specs.Answers.{Answer, asked, is_reading}
-
--- the most bytes of an input
-abbrev pub input_limit : ℕ
-input_limit = 67108864
+use Rattle.fh_base.specs.declared.source.TheConstants.{INPUT_LIMIT}
 
 -- the whole text was appended, or what is named holds
 abbrev pub WritesWholeOr : Option (List ℕ) → Option (List ℕ) → List ℕ → Type 0 → Type 0
@@ -86,13 +83,13 @@ pub record Outcome (words : List (List ℕ)) (left_old left_new : Option (List �
   -- the others, and words that are no command
   pub bad_words : (status ≡ BadWords) ↔ IsNone (command_of words)
   pub unread : (status ≡ ReadFault) ⊎ (status ≡ TooLong) → written_new ≡ written_old
-  pub too_long : (status ≡ TooLong) ↔ input_limit < length came
+  pub too_long : (status ≡ TooLong) ↔ INPUT_LIMIT < length came
   pub source_later : source_before ≤ source_now
   pub out_later : out_before ≤ out_now
   -- an input that can be read whole is answered as wanted, or for want of memory, where no fault rises; a refusal needs no sink, and a
   -- command that reads nothing no source
   pub complete : (bytes : List ℕ) → IsSome (command_of words)
-      → (is_reading (command_of words) ≡ true → (Rose source_before source_now → ⊥) × (left_old ≡ Some bytes) × (length bytes ≤ input_limit))
+      → (is_reading (command_of words) ≡ true → (Rose source_before source_now → ⊥) × (left_old ≡ Some bytes) × (length bytes ≤ INPUT_LIMIT))
       → (Rose out_before out_now → ⊥) ⊎ IsRefusal (asked (command_of words) bytes).status
       → (status ≡ (asked (command_of words) bytes).status) ⊎ (status ≡ NoMemory)
   -- of the events of the document that the bytes spell, where its plan is valid: no cell is reported twice, what is shown came and was

@@ -65,15 +65,15 @@ abbrev pub pcap_line : PcapRefusal → List ℕ
 pcap_line r = codes "fronthaul: pcap at " ++ decimal r.place ++ codes ": " ++ pcap_name r.why ++ codes "\n"
 
 -- the line on standard error
-abbrev pub line_of : Status → List ℕ
-line_of Done = []
-line_of BadWords = codes "fronthaul: bad words\n"
-line_of (BadDocument line why) = refusal_line line why
-line_of (BadCapture place why) = capture_line place why
-line_of ReadFault = codes "fronthaul: read fault\n"
-line_of WriteFault = codes "fronthaul: write fault\n"
-line_of NoMemory = codes "fronthaul: no memory\n"
-line_of TooLong = codes "fronthaul: input too long\n"
-line_of (CheckFails failing) = failing_line failing
-line_of (BadPcap refusal) = pcap_line refusal
-line_of (NoFit refusal) = no_fit_line refusal
+abbrev pub status_line : Status → List ℕ
+status_line Done = []
+status_line BadWords = codes "fronthaul: bad words\n"
+status_line (BadDocument line why) = refusal_line line why
+status_line (BadCapture place why) = capture_line place why
+status_line ReadFault = codes "fronthaul: read fault\n"
+status_line WriteFault = codes "fronthaul: write fault\n"
+status_line NoMemory = codes "fronthaul: no memory\n"
+status_line TooLong = codes "fronthaul: input too long\n"
+status_line (CheckFails failing) = failing_line failing
+status_line (BadPcap refusal) = pcap_line refusal
+status_line (NoFit refusal) = no_fit_line refusal

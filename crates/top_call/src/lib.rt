@@ -13,5 +13,5 @@ mod status;
 
 pub use fronthaul_replay::du_scheduler;
 pub use messages::write_message;
-pub use running::{LIMIT, run};
+pub use running::run;
 pub use status::{LineWhy, Status};

@@ -3,7 +3,7 @@ ghost use Rattle.std.specs.Prelude.{◌≡◌, ◌≤◌, length, OnOk};
 ghost use Rattle.std.specs.Io.KnownBytes.{append_known};
 ghost use Rattle.fh_base.specs.Causes.{HasSinkCause};
 ghost use Rattle.fh_base.specs.Told.{WritesFront};
-ghost use Rattle.top_call.specs.Statuses.{capture_line, failing_line, line_of, no_fit_line, pcap_line, plan_name, refusal_line, why_name};
+ghost use Rattle.top_call.specs.Statuses.{capture_line, failing_line, status_line, no_fit_line, pcap_line, plan_name, refusal_line, why_name};
 
 use crate::status::{LineWhy, Status};
 use capture_show::capture_records::CaptureWhy;
@@ -16,8 +16,8 @@ use window_lines::window_plan::NoFit;
 
 /// Writes the status's line, nothing for `Done`.
 pub fn write_message<E: Sink>(status: Status, err: &mut E) -> Result<(), SinkFault>
-    ensures ok { OnOk result (E.written err.new ≡ append_known (E.written err.old) (line_of status)) }
-    ensures front { WritesFront (E.written err.old) (E.written err.new) (line_of status) }
+    ensures ok { OnOk result (E.written err.new ≡ append_known (E.written err.old) (status_line status)) }
+    ensures front { WritesFront (E.written err.old) (E.written err.new) (status_line status) }
     ensures cause { HasSinkCause (E.faults err.old) (E.faults err.new) (E.refusals err.old) (E.refusals err.new) result }
 {
     let line = line_of(status);
@@ -26,7 +26,7 @@ pub fn write_message<E: Sink>(status: Status, err: &mut E) -> Result<(), SinkFau
 
 /// The line of a status.
 fn line_of(status: Status) -> Line
-    ensures { result ≡ line_of status }
+    ensures { result ≡ status_line status }
 {
     match status {
         Status::Done => Line::new(),

@@ -5,18 +5,15 @@ ghost use Rattle.fh_base.specs.Causes.{Rose};
 ghost use Rattle.fh_base.specs.Told.{WritesFront};
 ghost use Rattle.top_call.specs.Answers.{is_reading};
 ghost use Rattle.top_call.specs.Run.{Outcome, WritesWholeOr};
-ghost use Rattle.top_call.specs.Statuses.{line_of};
+ghost use Rattle.top_call.specs.Statuses.{status_line};
 
 use crate::commands::{perform, reads};
 use crate::endings::source_status;
 use crate::messages::write_message;
 use crate::status::Status;
 use command_words::{WordsFault, read_words};
-use fh_base::{Bytes, List, Sink, Source, read_all};
+use fh_base::{Bytes, INPUT_LIMIT, List, Sink, Source, read_all};
 use std::alloc::Global;
-
-/// The most bytes of an input.
-pub const LIMIT: usize = 67_108_864;
 
 /// Does what the words ask for. It reads all of `source` where the command reads, writes the text to `out`, and where it is not done
 /// one line to `err`.
@@ -30,8 +27,8 @@ pub fn run<S: Source, K: Sink, E: Sink>(
     ensures outcome { Outcome words.now (S.left source.old) (S.left source.new) (S.faults source.old) (S.faults source.new) (K.written out.old) (K.written out.new) (K.faults out.old) (K.faults out.new) result }
     // Words that are no command, and a command that reads nothing, leave the source as it was.
     ensures still { is_reading (command_of words.now) ≡ false → source.new ≡ source.old }
-    ensures err_front { WritesFront (E.written err.old) (E.written err.new) (line_of result) }
-    ensures err_whole { WritesWholeOr (E.written err.old) (E.written err.new) (line_of result)
+    ensures err_front { WritesFront (E.written err.old) (E.written err.new) (status_line result) }
+    ensures err_whole { WritesWholeOr (E.written err.old) (E.written err.new) (status_line result)
         (Rose (E.faults err.old) (E.faults err.new) ⊎ Rose (E.refusals err.old) (E.refusals err.new)) }
 {
     let status = work(alloc, words, source, out);
@@ -57,7 +54,7 @@ fn work<S: Source, K: Sink>(
     if !reads(command) {
         return perform(alloc, command, b"", out);
     }
-    match read_all(alloc, source, LIMIT) {
+    match read_all(alloc, source, INPUT_LIMIT) {
         Ok(bytes) => perform(alloc, command, bytes.as_slice(), out),
         Err(fault) => source_status(fault),
     }
@@ -65,8 +62,8 @@ fn work<S: Source, K: Sink>(
 
 /// Writes the status's line, as far as it goes.
 fn tell<E: Sink>(status: Status, err: &mut E)
-    ensures front { WritesFront (E.written err.old) (E.written err.new) (line_of status) }
-    ensures whole { WritesWholeOr (E.written err.old) (E.written err.new) (line_of status)
+    ensures front { WritesFront (E.written err.old) (E.written err.new) (status_line status) }
+    ensures whole { WritesWholeOr (E.written err.old) (E.written err.new) (status_line status)
         (Rose (E.faults err.old) (E.faults err.new) ⊎ Rose (E.refusals err.old) (E.refusals err.new)) }
 {
     let _ = write_message(status, err);

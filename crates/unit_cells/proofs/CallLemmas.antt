@@ -1,9 +1,8 @@
 -- What the calls answer, and what they leave.
-use Rattle.std.proofs.Common.{◌≡◌, ℕ, ℤ, pos, ◌+◌, ◌<◌, ◌≤◌, ◌≤ℤ◌, Bool, true, false, if◌then◌else◌, List, [], ◌∷◌, ◌++◌, length, refl, sym, ap, ◌∙◌, subst, arith, Option, Some, None}
+use Rattle.std.proofs.Common.{◌≡◌, ℕ, ℤ, ◌+◌, ◌<◌, ◌≤◌, ◌≤ℤ◌, Bool, true, false, if◌then◌else◌, List, [], ◌∷◌, ◌++◌, length, refl, sym, ap, ◌∙◌, subst, arith, Option, Some, None}
 use Rattle.std.specs.Prelude.{All, get_or, is_some}
-use Rattle.std.specs.Int.{int_max}
 use Rattle.std.specs.Option.{option_map}
-use Rattle.std.proofs.lemmas.Int.{ints, clamps}
+use Rattle.std.proofs.lemmas.Int.{ints}
 use Rattle.std.proofs.lemmas.Option.{slice_get-map}
 use Rattle.fh_time.specs.Numbering.{symbols_of}
 use Rattle.unit_model.specs.air_source.specs.declared.events.Side.TheVariants.{Ru, Du}
@@ -34,16 +33,18 @@ use Rattle.unit_model.proofs.SoundLemmas.{sound_command}
 use Rattle.unit_model.specs.Sides.{IsLiveOn}
 use Rattle.slot_rings.specs.Rings.{RingValue, ring_block}
 use Rattle.unit_cells.specs.Cells.{AreRings, CellsValue, HoldsLive, IsOf, endpoint_in, endpoints_of, index_from, ring_of}
-use Rattle.unit_cells.specs.Headings.{IsProperHeading, data_of, with_heading}
-use Rattle.unit_cells.specs.Keeping.{Keeps, LiveAreApart, SameMarks}
+use Rattle.unit_cells.specs.Headings.{IsProperHeading, data_under, with_heading}
+use Rattle.unit_cells.specs.Keeping.{Keeps, LiveAreApart, SameReported}
 use Rattle.unit_cells.specs.Steps.{Fills, InRing, Takes}
 use Rattle.unit_cells.specs.Told.{IsTold}
 use Rattle.unit_cells.specs.declared.heading.DataHeading.{DataHeading}
 use Rattle.unit_cells.proofs.ApartLemmas.{one_slot}
 use Rattle.unit_cells.proofs.FillLemmas.{all_there, begun_keeps, fill_keeps, live_is, slot_is, slot_of}
-use Rattle.unit_cells.proofs.KeepLemmas.{IsStep, at_config, at_rings, held_for, marks_still, ring_endpoint}
+use Rattle.unit_cells.proofs.KeepLemmas.{IsStep, at_config, at_rings, held_for, reports_still, ring_endpoint}
 use Rattle.unit_cells.proofs.RingsLemmas.{read_is, rings_with}
 use Rattle.unit_cells.proofs.TakeLemmas.{kept_is, takes_keeps, verdict_is}
+use Rattle.unit_laws.proofs.LiveLemmas.{second_most, third_most}
+use Rattle.fh_time.proofs.Orders.{not_negative}
 
 -- ---- commands
 
@@ -61,17 +62,8 @@ classed d acc c k h is =
     ap (λ (x : Class). verdict_in x acc (allocation_of c)) (sym is)
     ∙ sym (chosen (is_for c.head.body c.endpoint.numerology) true (verdict_in (command_class d c) acc (allocation_of c)) command.Mismatch h)
 
-second_most : (a b c : ℤ) → b ≤ℤ int_max (int_max a b) c
-second_most a b c = omega (arith, ints, clamps)
-
-third_most : (a b c : ℤ) → c ≤ℤ int_max (int_max a b) c
-third_most a b c = omega (arith, ints, clamps)
-
 same_time : (t : ℤ) → t ≤ℤ t
 same_time t = omega (arith, ints)
-
-not_negative : (a b : ℤ) → pos 0 ≤ℤ a → a ≤ℤ b → pos 0 ≤ℤ b
-not_negative a b h k = omega (arith, ints)
 
 -- a command that is on time names a live slot
 pub command_live : (d : Delays) (c : ControlSection) → IsWithinLimits d → c.head.start_symbol < symbols_of c.endpoint.numerology → command_class d c ≡ class.OnTime
@@ -113,9 +105,9 @@ module _ (c : Config) (k : ControlSection) (v : CommandVerdict) (old new : Cells
       ∙ verdict_is Ru c k.at.0 (allocation_of k) taken.before acc kept command_step.at command_step.is_slot proper.within
       ∙ classed c.delays acc k class.OnTime fits on_time
 
-  pub command_marks : SameMarks Ru c k.at.0 old new
-  command_marks =
-      marks_still Ru c k.at.0 k.ep k.endpoint (command_slot k) taken.before taken.after old new command_step (λ cell ep slot. taken.stepped.claims.done cell slot)
+  pub command_reports : SameReported Ru c k.at.0 old new
+  command_reports =
+      reports_still Ru c k.at.0 k.ep k.endpoint (command_slot k) taken.before taken.after old new command_step (λ cell ep slot. taken.stepped.claims.reported cell slot)
 
 -- ---- sections that begin
 
@@ -133,14 +125,14 @@ has_ring v ep e at = go (ring_of v ep) refl
     go (Some r) is = record { ring = r; is = is }
 
 -- the blocks do not matter
-class_same : (side : Side) (d : Delays) (h : DataHeading) (blocks : List (List Wide)) → data_class side d (data_of h blocks) ≡ data_class side d (data_of h [])
+class_same : (side : Side) (d : Delays) (h : DataHeading) (blocks : List (List Wide)) → data_class side d (data_under h blocks) ≡ data_class side d (data_under h [])
 class_same Ru d h blocks = refl
 class_same Du d h blocks = refl
 
-pub data_classed : (side : Side) (d : Delays) (ds : List UserSection) (h : DataHeading) (blocks : List (List Wide)) (k : Class) → data_class side d (data_of h []) ≡ k
-    → data_verdict_in k ds (data_of h blocks) ≡ data_verdict side d ds (data_of h blocks)
+pub data_classed : (side : Side) (d : Delays) (ds : List UserSection) (h : DataHeading) (blocks : List (List Wide)) (k : Class) → data_class side d (data_under h []) ≡ k
+    → data_verdict_in k ds (data_under h blocks) ≡ data_verdict side d ds (data_under h blocks)
 unfolding data_verdict
-data_classed side d ds h blocks k is = ap (λ (x : Class). data_verdict_in x ds (data_of h blocks)) (sym (class_same side d h blocks ∙ is))
+data_classed side d ds h blocks k is = ap (λ (x : Class). data_verdict_in x ds (data_under h blocks)) (sym (class_same side d h blocks ∙ is))
 
 -- of the unit's own direction
 pub heading_of : (side : Side) (c : Config) (h : DataHeading) (v : CellsValue) → IsOf side c v → IsProperHeading v.side (endpoints_of v) h → IsProperHeading side (endpoints_of v) h
@@ -156,28 +148,28 @@ heading_at side c v h of proper = record {
 
 module _ (side : Side) (c : Config) (h : DataHeading) (v : CellsValue) (of : IsOf side c v) (held : AreRings v) (proper : IsProperHeading side (endpoints_of v) h) where
   pub begun : (acc : List Allocation) (ds : List UserSection) → Keeps side c h.last.0 v acc ds → Keeps side c h.last.0 v acc (with_heading side c.delays h [] ds)
-  begun acc ds keeps = begun_keeps side c h v acc ds (data_class side c.delays (data_of h [])) refl (limits_of side c v of held) (heading_at side c v h of proper) keeps
+  begun acc ds keeps = begun_keeps side c h v acc ds (data_class side c.delays (data_under h [])) refl (limits_of side c v of held) (heading_at side c v h of proper) keeps
 
   pub begun_judged : (acc : List Allocation) (ds : List UserSection) (blocks : List (List Wide)) (whole : Bool) → Keeps side c h.last.0 v acc ds → All IsTold ds
-      → data_class side c.delays (data_of h []) ≡ class.OnTime
+      → data_class side c.delays (data_under h []) ≡ class.OnTime
       → ((r : RingValue) → ring_of v h.ep ≡ Some r → whole
-      ≡ every (first_data_prb (data_of h [])) (data_prb_count (data_of h [])) (λ prb. is_some (ring_block r (cell_at h.ep true (slot_of h) h.section.symbol prb))))
-      → (if whole then data_verdict.Repeat else data_verdict.Taken) ≡ data_verdict side c.delays ds (data_of h blocks)
+      ≡ every (first_data_prb (data_under h [])) (data_prb_count (data_under h [])) (λ prb. is_some (ring_block r (cell_at h.ep true (slot_of h) h.section.symbol prb))))
+      → (if whole then data_verdict.Repeat else data_verdict.Taken) ≡ data_verdict side c.delays ds (data_under h blocks)
   begun_judged acc ds blocks whole keeps told on_time is_whole =
       let r = has_ring v h.ep h.endpoint proper.endpoint in
       let at = heading_at side c v h of proper in
-      let all : whole ≡ has_all ds (data_of h blocks) =
+      let all : whole ≡ has_all ds (data_under h blocks) =
       is_whole r.ring r.is ∙ all_there side c h blocks r.ring v acc ds keeps told at (live_is side c.delays h (limits_of side c v of held) proper.sound proper.order on_time) r.is in
       ap (λ (b : Bool). if b then data_verdict.Repeat else data_verdict.Taken) all ∙ data_classed side c.delays ds h blocks class.OnTime on_time
 
 -- ---- blocks
 
-on_time_first : (side : Side) (d : Delays) (h : DataHeading) (blocks : List (List Wide)) (ds : List UserSection) → data_class side d (data_of h []) ≡ class.OnTime
-    → with_heading side d h blocks ds ≡ data_of h blocks ∷ ds
-on_time_first side d h blocks ds on_time = ap (λ (k : Class). with_timely k (data_of h blocks) ds) (class_same side d h blocks ∙ on_time)
+on_time_first : (side : Side) (d : Delays) (h : DataHeading) (blocks : List (List Wide)) (ds : List UserSection) → data_class side d (data_under h []) ≡ class.OnTime
+    → with_heading side d h blocks ds ≡ data_under h blocks ∷ ds
+on_time_first side d h blocks ds on_time = ap (λ (k : Class). with_timely k (data_under h blocks) ds) (class_same side d h blocks ∙ on_time)
 
 module _ (side : Side) (c : Config) (h : DataHeading) (prb : ℕ) (run : List (List Wide)) (old new : CellsValue) (of : IsOf side c old) (held : AreRings old)
-    (proper : IsProperHeading side (endpoints_of old) h) (on_time : data_class side c.delays (data_of h []) ≡ class.OnTime)
+    (proper : IsProperHeading side (endpoints_of old) h) (on_time : data_class side c.delays (data_under h []) ≡ class.OnTime)
     (filled : InRing h.ep (Fills (slot_of h) h.section.symbol prb h.section.id run) old new) where
   fill_step : IsStep side c h.last.0 h.ep h.endpoint (slot_of h) filled.before filled.after old new
   fill_step = record {
@@ -194,16 +186,16 @@ module _ (side : Side) (c : Config) (h : DataHeading) (prb : ℕ) (run : List (L
     has = filled.stepped.has;
   }
 
-  pub filled_keeps : (acc : List Allocation) (ds : List UserSection) (blocks : List (List Wide)) → prb ≡ first_data_prb (data_of h []) + length blocks
-      → length blocks + length run ≤ data_prb_count (data_of h []) → Keeps side c h.last.0 old acc (with_heading side c.delays h blocks ds)
+  pub filled_keeps : (acc : List Allocation) (ds : List UserSection) (blocks : List (List Wide)) → prb ≡ first_data_prb (data_under h []) + length blocks
+      → length blocks + length run ≤ data_prb_count (data_under h []) → Keeps side c h.last.0 old acc (with_heading side c.delays h blocks ds)
       → Keeps side c h.last.0 new acc (with_heading side c.delays h (blocks ++ run) ds)
   filled_keeps acc ds blocks prb_is below keeps =
       subst (Keeps side c h.last.0 new acc) (sym (on_time_first side c.delays h (blocks ++ run) ds on_time))
       (fill_keeps side c h.last.0 h blocks run prb filled.before filled.after old new acc ds fill_step filled.stepped proper.down prb_is below
       (subst (Keeps side c h.last.0 old acc) (on_time_first side c.delays h blocks ds on_time) keeps))
 
-  pub filled_marks : SameMarks side c h.last.0 old new
-  filled_marks = marks_still side c h.last.0 h.ep h.endpoint (slot_of h) filled.before filled.after old new fill_step (λ cell ep slot. filled.stepped.done cell slot)
+  pub filled_reported : SameReported side c h.last.0 old new
+  filled_reported = reports_still side c h.last.0 h.ep h.endpoint (slot_of h) filled.before filled.after old new fill_step (λ cell ep slot. filled.stepped.reported cell slot)
 
 -- the delays that the rings hold are those of the configuration
 pub delays_are : (side : Side) (c : Config) (u : Side) (d : Delays) (rs : List RingValue) (v : CellsValue) → rings_with u d rs ≡ v → IsOf side c v → d ≡ c.delays
@@ -222,10 +214,10 @@ pub side_are : (side : Side) (c : Config) (u : Side) (d : Delays) (rs : List Rin
 side_are side c u d rs v view of = ap (λ (x : CellsValue). x.side) view ∙ of.side_is
 
 -- the class by the configuration's delays
-pub data_class_is : (side : Side) (c : Config) (u : Side) (d : Delays) (k : Class) (h : DataHeading) → k ≡ data_class u d (data_of h []) → u ≡ side → d ≡ c.delays
-    → data_class side c.delays (data_of h []) ≡ k
+pub data_class_is : (side : Side) (c : Config) (u : Side) (d : Delays) (k : Class) (h : DataHeading) → k ≡ data_class u d (data_under h []) → u ≡ side → d ≡ c.delays
+    → data_class side c.delays (data_under h []) ≡ k
 data_class_is side c u d k h is own same =
-    sym (is ∙ ap (λ (s : Side). data_class s d (data_of h [])) own ∙ ap (λ (e : Delays). data_class side e (data_of h [])) same)
+    sym (is ∙ ap (λ (s : Side). data_class s d (data_under h [])) own ∙ ap (λ (e : Delays). data_class side e (data_under h [])) same)
 
 -- two live slots have two places
 pub live_apart : (v : CellsValue) → AreRings v → LiveAreApart v

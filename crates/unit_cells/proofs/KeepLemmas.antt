@@ -23,15 +23,17 @@ use Rattle.unit_model.specs.declared.decoded.UserSection.{UserSection}
 use Rattle.unit_laws.specs.Far.{IsReached, IsReachedData, WasLive}
 use Rattle.unit_model.specs.Sides.{IsLiveFor, IsLiveOn, reach_of}
 use Rattle.unit_laws.proofs.FarLemmas.{endpoints_equal}
-use Rattle.slot_rings.specs.Places.{PlaceValue, blank, is_of, place_block, place_claim, place_done, place_uplink}
-use Rattle.slot_rings.specs.Rings.{IsRingCell, RingValue, TouchesOnly, has_slot, place_index, place_of, ring_block, ring_claim, ring_done, ring_uplink}
-use Rattle.slot_rings.proofs.PlaceLemmas.{of_is, slot_is, slot_own}
-use Rattle.unit_cells.specs.Cells.{AreRings, CellsValue, HoldsLive, IsOf, block_from, cells_block, cells_claim, cells_done, cells_has, cells_uplink, claim_from, done_from, endpoint_in, endpoints_of, has_from, ring_of, uplink_from}
-use Rattle.unit_cells.specs.Keeping.{Keeps, SameMarks}
+use Rattle.slot_rings.specs.Places.{PlaceValue, blank, is_place_of, place_block, place_claim, place_reported, place_uplink}
+use Rattle.slot_rings.specs.Rings.{IsRingCell, RingValue, TouchesOnly, has_slot, place_index, place_of, ring_block, ring_claim, ring_reported, ring_uplink}
+use Rattle.slot_rings.proofs.PlaceLemmas.{of_is}
+use Rattle.unit_cells.specs.Cells.{AreRings, CellsValue, HoldsLive, IsOf, block_from, cells_block, cells_claim, cells_reported, cells_has, cells_uplink, claim_from, reported_from, endpoint_in, endpoints_of, has_from, ring_of, uplink_from}
+use Rattle.unit_cells.specs.Keeping.{Keeps, SameReported}
 use Rattle.unit_cells.specs.Told.{told_block_at}
 use Rattle.unit_cells.proofs.ApartLemmas.{one_slot}
-use Rattle.unit_cells.proofs.ListLemmas.{get_set_other, get_set_same, some_equal}
+use Rattle.unit_cells.proofs.ListLemmas.{get_set_other, get_set_same}
 use Rattle.unit_cells.proofs.StepLemmas.{same_index}
+use Rattle.unit_model.proofs.ClaimLemmas.{same_slot_is as slot_is, slot_self as slot_own}
+use Rattle.fh_time.proofs.Options.{some_is as some_equal}
 
 -- the ring of an endpoint is that endpoint's
 pub ring_endpoint : (v : CellsValue) (k : ℕ) (e : EndpointConfig) (r : RingValue) → IsAt (endpoints_of v) k e → ring_of v k ≡ Some r → r.endpoint ≡ e
@@ -62,7 +64,7 @@ pub parted : (r : RingValue) (slot s : Slot) → has_slot r slot ≡ true → pl
 parted r slot s has share here =
     let owner : (place_of r slot).slot ≡ Some slot = of_is (place_of r slot).slot slot has in
     let same : place_of r s ≡ place_of r slot = ap (λ (i : ℕ). get_or r.places i blank) share in
-    let own : is_of (Some slot) s ≡ true = ap (λ (o : Option Slot). is_of o s) (sym owner) ∙ ap (λ (p : PlaceValue). is_of p.slot s) (sym same) ∙ here in
+    let own : is_place_of (Some slot) s ≡ true = ap (λ (o : Option Slot). is_place_of o s) (sym owner) ∙ ap (λ (p : PlaceValue). is_place_of p.slot s) (sym same) ∙ here in
     sym (slot_is slot s own)
 
 pub was_later : (n : Numerology) (r : Reach) (clock to : ℤ) (slot : Slot) → clock ≤ℤ to → WasLive n r clock slot → WasLive n r to slot
@@ -72,7 +74,7 @@ was_later n r clock to slot order was = record { when = was.when; come = omega (
 pub record SameAt (k : ℕ) (s : Slot) (old new : CellsValue) : Type 0 where
   pub claims : (cell : Cell) (re : ℕ) → cell.ep ≡ k → cell.slot ≡ s → cells_claim new cell re ≡ cells_claim old cell re
   pub blocks : (cell : Cell) → cell.ep ≡ k → cell.slot ≡ s → cells_block new cell ≡ cells_block old cell
-  pub done : (cell : Cell) → cell.ep ≡ k → cell.slot ≡ s → cells_done new cell ≡ cells_done old cell
+  pub reported : (cell : Cell) → cell.ep ≡ k → cell.slot ≡ s → cells_reported new cell ≡ cells_reported old cell
   pub uplink : cells_uplink new k s ≡ cells_uplink old k s
 
 pub same_time : (t : ℤ) → t ≤ℤ t
@@ -82,7 +84,7 @@ same_ring : (k : ℕ) (s : Slot) (old new : CellsValue) → ring_of new k ≡ ri
 same_ring k s old new e = record {
   claims = λ cell re at here. ap (λ (o : Option RingValue). claim_from o cell re) (rings cell.ep at);
   blocks = λ cell at here. ap (λ (o : Option RingValue). block_from o cell) (rings cell.ep at);
-  done = λ cell at here. ap (λ (o : Option RingValue). done_from o cell) (rings cell.ep at);
+  reported = λ cell at here. ap (λ (o : Option RingValue). reported_from o cell) (rings cell.ep at);
   uplink = ap (λ (o : Option RingValue). uplink_from o s) e;
 }
   where
@@ -95,7 +97,7 @@ same_place k s old new before after was is endpoint place = record {
   claims = λ cell re at here.
       now (λ o. claim_from o cell re) cell.ep at ∙ claim cell re here ∙ sym (then_ (λ o. claim_from o cell re) cell.ep at);
   blocks = λ cell at here. now (λ o. block_from o cell) cell.ep at ∙ block cell here ∙ sym (then_ (λ o. block_from o cell) cell.ep at);
-  done = λ cell at here. now (λ o. done_from o cell) cell.ep at ∙ done cell here ∙ sym (then_ (λ o. done_from o cell) cell.ep at);
+  reported = λ cell at here. now (λ o. reported_from o cell) cell.ep at ∙ reported cell here ∙ sym (then_ (λ o. reported_from o cell) cell.ep at);
   uplink =
       ap (λ (o : Option RingValue). uplink_from o s) is ∙ ap (λ (p : PlaceValue). place_uplink p s) place
       ∙ sym (ap (λ (o : Option RingValue). uplink_from o s) was);
@@ -120,10 +122,10 @@ same_place k s old new before after was is endpoint place = record {
         ap (λ (p : PlaceValue). place_block after.endpoint.prbs p cell) (there cell.slot here)
         ∙ ap (λ (e : EndpointConfig). place_block e.prbs (place_of before cell.slot) cell) endpoint
 
-    done : (cell : Cell) → cell.slot ≡ s → ring_done after cell ≡ ring_done before cell
-    done cell here =
-        ap (λ (p : PlaceValue). place_done after.endpoint.prbs p cell) (there cell.slot here)
-        ∙ ap (λ (e : EndpointConfig). place_done e.prbs (place_of before cell.slot) cell) endpoint
+    reported : (cell : Cell) → cell.slot ≡ s → ring_reported after cell ≡ ring_reported before cell
+    reported cell here =
+        ap (λ (p : PlaceValue). place_reported after.endpoint.prbs p cell) (there cell.slot here)
+        ∙ ap (λ (e : EndpointConfig). place_reported e.prbs (place_of before cell.slot) cell) endpoint
 
 -- slots that are live by the rings' own numbers are so by those of the configuration
 pub held_for : (side : Side) (c : Config) (v : CellsValue) (r : RingValue) → IsOf side c v → HoldsLive v.side v.delays r → HoldsLive side c.delays r
@@ -209,18 +211,18 @@ module _ (side : Side) (c : Config) (clock : ℤ) (ep : ℕ) (e : EndpointConfig
               subst (λ (x : EndpointConfig). WasLive x.numerology (reach_of side c.delays) clock s) (sym (endpoints_equal c.endpoints k ep f e at step.at own)) there
           | inr apart ↦
               let place : place_of after s ≡ place_of before s = step.touches.others s apart in
-              let was : has_slot before s ≡ true = ap (λ (p : PlaceValue). is_of p.slot s) (sym place) ∙ has_after in
+              let was : has_slot before s ≡ true = ap (λ (p : PlaceValue). is_place_of p.slot s) (sym place) ∙ has_after in
               reached f k s at (ap (λ (o : Option RingValue). has_from o s) (ap (ring_of old) own ∙ step.was) ∙ was)
         ]
   ]
 
-  -- the marks of cells are the same where those of the slot are
-  pub marks_still : ((cell : Cell) → cell.ep ≡ ep → cell.slot ≡ slot → ring_done after cell ≡ ring_done before cell) → SameMarks side c clock old new
-  marks_still own f cell is live = elim (here_or_not cell.ep cell.slot) [
+  -- the same cells are reported where those of the slot are
+  pub reports_still : ((cell : Cell) → cell.ep ≡ ep → cell.slot ≡ slot → ring_reported after cell ≡ ring_reported before cell) → SameReported side c clock old new
+  reports_still own f cell is live = elim (here_or_not cell.ep cell.slot) [
     | inl here ↦
-        ap (λ (o : Option RingValue). done_from o cell) (ap (ring_of new) here.0 ∙ now_is) ∙ own cell here.0 here.1
-        ∙ sym (ap (λ (o : Option RingValue). done_from o cell) (ap (ring_of old) here.0 ∙ step.was))
-    | inr ne ↦ (same_elsewhere cell.ep cell.slot f is.endpoint is.slot live ne).done cell refl refl
+        ap (λ (o : Option RingValue). reported_from o cell) (ap (ring_of new) here.0 ∙ now_is) ∙ own cell here.0 here.1
+        ∙ sym (ap (λ (o : Option RingValue). reported_from o cell) (ap (ring_of old) here.0 ∙ step.was))
+    | inr ne ↦ (same_elsewhere cell.ep cell.slot f is.endpoint is.slot live ne).reported cell refl refl
   ]
 
   module _ (acc acc' : List Allocation) (ds ds' : List UserSection) (keeps : Keeps side c clock old acc ds) where

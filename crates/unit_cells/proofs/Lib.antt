@@ -10,4 +10,4 @@ pub mod TakeLemmas
 pub mod FillLemmas
 pub mod CallLemmas
 pub mod SectionLemmas
-pub mod MarkLemmas
+pub mod ReportedLemmas

@@ -21,6 +21,3 @@ get_set_other xs i j v ne =
           let beyond : length (set xs i v) ≤ j = subst (λ (n : ℕ). n ≤ j) (sym len) past in
           slice_get_past (set xs i v) j beyond ∙ sym (slice_get_past xs j past)
     ]
-
-pub some_equal : {X : Type 0} (a b : X) → Some a ≡ Some b → a ≡ b
-some_equal a b e = cc

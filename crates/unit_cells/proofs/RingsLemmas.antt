@@ -23,11 +23,12 @@ use Rattle.unit_model.specs.declared.cells.Cell.{Cell}
 use Rattle.unit_laws.specs.Far.{IsReached, IsReachedData}
 use Rattle.unit_model.specs.Sides.{IsLiveOn, reach_of}
 use Rattle.slot_rings.specs.Rings.{IsEmpty, RingValue, TouchesOnly}
-use Rattle.unit_cells.specs.Cells.{AreRings, CellsValue, HoldsLive, IsSlotIn, block_from, cells_block, cells_claim, cells_done, cells_has, cells_uplink, claim_from, done_from, endpoint_in, endpoints_of, has_from, ring_of, uplink_from}
+use Rattle.unit_cells.specs.Cells.{AreRings, CellsValue, HoldsLive, IsSlotIn, block_from, cells_block, cells_claim, cells_reported, cells_has, cells_uplink, claim_from, reported_from, endpoint_in, endpoints_of, has_from, ring_of, uplink_from}
 use Rattle.unit_cells.specs.Keeping.{Keeps}
 use Rattle.unit_cells.specs.Told.{told_block_at}
 use Rattle.unit_cells.specs.Steps.{InRing}
-use Rattle.unit_cells.proofs.ListLemmas.{get_set_other, get_set_same, some_equal}
+use Rattle.unit_cells.proofs.ListLemmas.{get_set_other, get_set_same}
+use Rattle.fh_time.proofs.Options.{some_is as some_equal}
 
 pub at_within : (v : CellsValue) (ep : ℕ) (e : EndpointConfig) → IsAt (endpoints_of v) ep e → ep < length v.rings
 at_within v ep e at = subst (λ (n : ℕ). ep < n) (length-map v.rings endpoint_in) (slice_get_within (endpoints_of v) ep e at)
@@ -162,8 +163,8 @@ module _ (side : Side) (d : Delays) (rs : List RingValue) (all : All (IsFresh si
   pub fresh_blocks : (cell : Cell) → cells_block (rings_with side d rs) cell ≡ None
   fresh_blocks cell = fresh_of side d rs cell.ep (slice_get rs cell.ep) all refl (λ o. block_from o cell ≡ None) refl (λ r is. is.blocks cell)
 
-  pub fresh_done : (cell : Cell) → cells_done (rings_with side d rs) cell ≡ false
-  fresh_done cell = fresh_of side d rs cell.ep (slice_get rs cell.ep) all refl (λ o. done_from o cell ≡ false) refl (λ r is. is.done cell)
+  pub fresh_reported : (cell : Cell) → cells_reported (rings_with side d rs) cell ≡ false
+  fresh_reported cell = fresh_of side d rs cell.ep (slice_get rs cell.ep) all refl (λ o. reported_from o cell ≡ false) refl (λ r is. is.reported cell)
 
   pub fresh_uplink : (ep : ℕ) (slot : Slot) → cells_uplink (rings_with side d rs) ep slot ≡ []
   fresh_uplink ep slot = fresh_of side d rs ep (slice_get rs ep) all refl (λ o. uplink_from o slot ≡ []) refl (λ r is. is.uplink slot)

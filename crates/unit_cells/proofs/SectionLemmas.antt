@@ -2,7 +2,8 @@
 use Rattle.std.proofs.Common.{◌≡◌, ℕ, ◌+◌, ◌<◌, ◌≤◌, false, refl, arith}
 use Rattle.std.proofs.lemmas.Bool.Decides.{nat_tests}
 use Rattle.fh_time.specs.Carrier.{count_of, first_of, is_outside}
-use Rattle.unit_cells.proofs.FillLemmas.{from_is, within_carrier}
+use Rattle.unit_cells.proofs.FillLemmas.{from_is}
+use Rattle.unit_model.proofs.ClaimLemmas.{within_carrier}
 
 pub prb_within : (prbs start num k : ℕ) → is_outside prbs start num ≡ false → k < count_of prbs num → first_of start num + k < prbs
 prb_within prbs start num k inside below =

@@ -14,8 +14,8 @@ use Rattle.unit_model.specs.declared.cells.Block.{Block}
 use Rattle.unit_model.specs.declared.cells.Cell.{Cell}
 use Rattle.unit_model.specs.declared.cells.Claim.{Claim}
 use Rattle.unit_model.specs.declared.verdicts.CommandVerdict.{CommandVerdict}
-use Rattle.slot_rings.specs.Rings.{IsRingCell, RingValue, SameBlocks, SameClaims, SameDone, SameUplink, TouchesOnly, place_index, ring_block, ring_claim, ring_uplink}
-use Rattle.slot_rings.specs.Runs.{block_in}
+use Rattle.slot_rings.specs.Rings.{IsRingCell, RingValue, SameBlocks, SameClaims, SameSlotReported, SameUplink, TouchesOnly, place_index, ring_block, ring_claim, ring_uplink}
+use Rattle.slot_rings.specs.Runs.{packed_block}
 use Rattle.slot_rings.specs.Verdicts.{claim_after, uplink_after, verdict_by}
 use Rattle.slot_rings.proofs.PlaceLemmas.{verdict_same}
 use Rattle.unit_cells.specs.Steps.{Claims, Fills, Takes}
@@ -40,9 +40,9 @@ ring_cell_along old new cell e is = record {
 }
 
 pub taken : (a : Allocation) (v : CommandVerdict) (old mid new : RingValue)
-    → SameClaims a.slot old mid → SameBlocks a.slot old mid → SameDone a.slot old mid → SameUplink a.slot old mid → TouchesOnly a.slot old mid
+    → SameClaims a.slot old mid → SameBlocks a.slot old mid → SameSlotReported a.slot old mid → SameUplink a.slot old mid → TouchesOnly a.slot old mid
     → v ≡ verdict_by (ring_claim mid) (length (ring_uplink mid a.slot)) a → Claims a v mid new → Takes a v old new
-taken a v old mid new claims blocks done uplink touches verdict c = record {
+taken a v old mid new claims blocks reported uplink touches verdict c = record {
   verdict =
       verdict ∙ ap (λ us. verdict_by (ring_claim mid) (length us) a) uplink
       ∙ verdict_same (ring_claim mid) (ring_claim old) (length (ring_uplink old a.slot)) a (λ y n re. claims (cell_of a y n) re refl);
@@ -53,20 +53,20 @@ taken a v old mid new claims blocks done uplink touches verdict c = record {
     uplink = c.uplink ∙ ap (uplink_after v a) uplink;
     has = c.has;
     blocks = λ cell at. c.blocks cell at ∙ blocks cell at;
-    done = λ cell at. c.done cell at ∙ done cell at;
+    reported = λ cell at. c.reported cell at ∙ reported cell at;
     touches = touches_both a.slot old mid new touches c.touches;
   };
 }
 
 pub filled : (slot : Slot) (symbol first id : ℕ) (run : List (List Wide)) (old mid new : RingValue)
-    → SameClaims slot old mid → SameBlocks slot old mid → SameDone slot old mid → SameUplink slot old mid → TouchesOnly slot old mid
+    → SameClaims slot old mid → SameBlocks slot old mid → SameSlotReported slot old mid → SameUplink slot old mid → TouchesOnly slot old mid
     → Fills slot symbol first id run mid new → Fills slot symbol first id run old new
-filled slot symbol first id run old mid new claims blocks done uplink touches f = record {
-  here = λ ep k below. f.here ep k below ∙ ap (λ (o : Option Block). or_else o (Some (block_in id run k))) (blocks (cell_at ep true slot symbol (first + k)) refl);
+filled slot symbol first id run old mid new claims blocks reported uplink touches f = record {
+  here = λ ep k below. f.here ep k below ∙ ap (λ (o : Option Block). or_else o (Some (packed_block id run k))) (blocks (cell_at ep true slot symbol (first + k)) refl);
   others = λ cell is at ne. f.others cell (ring_cell_along old mid cell touches.endpoint is) at ne ∙ blocks cell at;
   has = f.has;
   claims = λ cell re at. f.claims cell re at ∙ claims cell re at;
-  done = λ cell at. f.done cell at ∙ done cell at;
+  reported = λ cell at. f.reported cell at ∙ reported cell at;
   uplink = f.uplink ∙ uplink;
   touches = touches_both slot old mid new touches f.touches;
 }
@@ -75,12 +75,12 @@ filled slot symbol first id run old mid new claims blocks done uplink touches f 
 
 pub one_of : (ep : ℕ) (slot : Slot) (symbol prb k id : ℕ) (samples : List Wide) (old new : RingValue) → k < 1
     → ring_block new (cell_at ep true slot symbol prb) ≡ or_else (ring_block old (cell_at ep true slot symbol prb)) (Some (record { id = id; samples = samples }))
-    → ring_block new (cell_at ep true slot symbol (prb + k)) ≡ or_else (ring_block old (cell_at ep true slot symbol (prb + k))) (Some (block_in id (samples ∷ []) k))
+    → ring_block new (cell_at ep true slot symbol (prb + k)) ≡ or_else (ring_block old (cell_at ep true slot symbol (prb + k))) (Some (packed_block id (samples ∷ []) k))
 one_of ep slot symbol prb k id samples old new below is =
     let first : 0 ≡ k = omega arith in
     let same : prb ≡ prb + 0 = omega arith in
-    subst (λ (j : ℕ). ring_block new (cell_at ep true slot symbol (prb + j)) ≡ or_else (ring_block old (cell_at ep true slot symbol (prb + j))) (Some (block_in id (samples ∷ []) j))) first
-    (subst (λ (n : ℕ). ring_block new (cell_at ep true slot symbol n) ≡ or_else (ring_block old (cell_at ep true slot symbol n)) (Some (block_in id (samples ∷ []) 0))) same is)
+    subst (λ (j : ℕ). ring_block new (cell_at ep true slot symbol (prb + j)) ≡ or_else (ring_block old (cell_at ep true slot symbol (prb + j))) (Some (packed_block id (samples ∷ []) j))) first
+    (subst (λ (n : ℕ). ring_block new (cell_at ep true slot symbol n) ≡ or_else (ring_block old (cell_at ep true slot symbol n)) (Some (packed_block id (samples ∷ []) 0))) same is)
 
 pub not_one : (prb n : ℕ) → is_from prb 1 n ≡ false → n ≢ prb
 not_one prb n h = grind (arith, nat_tests)

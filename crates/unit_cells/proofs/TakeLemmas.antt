@@ -9,7 +9,7 @@ use Rattle.fh_time.specs.Carrier.{is_outside}
 use Rattle.window_config.specs.declared.config.Config.{Config}
 use Rattle.window_config.specs.declared.endpoints.EndpointConfig.{EndpointConfig}
 use Rattle.unit_model.specs.Claims.{claim_at, claim_of, covers, in_mask, names, overlaps, repeats, same_slot}
-use Rattle.unit_model.specs.Commands.{is_full, is_uplink, most_uplink, timely_verdict, uplink_in, with_accepted}
+use Rattle.unit_model.specs.Commands.{is_full, is_uplink, timely_verdict, uplink_in, with_accepted}
 use Rattle.unit_model.specs.air_source.specs.declared.events.Side.{Side}
 use Rattle.unit_model.specs.Proper.{IsAt, IsProperAllocation, IsSlot}
 use Rattle.unit_model.specs.Standing.{IsCell, uplink_of}
@@ -22,18 +22,19 @@ use Rattle.unit_model.specs.declared.verdicts.CommandVerdict.TheVariants.{Mismat
 use Rattle.unit_laws.specs.Far.{IsReached}
 use Rattle.unit_model.specs.Sides.{IsLiveFor, IsLiveOn, reach_of}
 use Rattle.unit_laws.specs.Touched.{is_uplink_of}
-use Rattle.unit_laws.proofs.CellLemmas.{covers_is, slots_equal}
+use Rattle.unit_laws.proofs.CellLemmas.{covers_is}
 use Rattle.unit_laws.proofs.ChangeLemmas.{claim-cons}
 use Rattle.unit_laws.proofs.FarLemmas.{uplink_same}
 use Rattle.unit_laws.proofs.LookupLemmas.{covered_cells, overlaps_by_lookup, repeats_by_lookup, uplink_counted}
 use Rattle.slot_rings.specs.Rings.{IsRingCell, RingValue, ring_claim, ring_uplink}
 use Rattle.slot_rings.specs.Verdicts.{claim_after, overlaps_by, repeats_by, uplink_after, verdict_by}
-use Rattle.slot_rings.proofs.PlaceLemmas.{slot_own}
 use Rattle.unit_cells.specs.Cells.{CellsValue, block_from, claim_from, ring_of, uplink_from}
 use Rattle.unit_cells.specs.Keeping.{Keeps}
 use Rattle.unit_cells.specs.Steps.{Claims}
 use Rattle.unit_cells.proofs.KeepLemmas.{IsStep, cell_in_ring, lifted, ring_is, same_time}
 use Rattle.unit_cells.proofs.TimeLemmas.{live_at}
+use Rattle.unit_model.specs.declared.uplink.TheConstants.{SLOT_SECTIONS}
+use Rattle.unit_model.proofs.ClaimLemmas.{same_slot_is as slots_equal, slot_self as slot_own}
 
 -- ---- what one more allocation changes
 
@@ -156,7 +157,7 @@ verdict_is side c clock a r acc kept at is_slot within = elim (cases_Bool (is_ou
       let count : length (ring_uplink r a.slot) ≡ uplink_in a.ep a.slot acc =
       ap (λ (us : List Allocation). length us) kept.uplink ∙ sym (uplink_counted a.ep a.slot acc) in
       chosen (is_outside a.endpoint.prbs a.start_prb a.num_prb) (repeats_by (ring_claim r) a) (repeats acc a) (overlaps_by (ring_claim r) a) (overlaps acc a)
-      (is_uplink a && nat_le most_uplink (length (ring_uplink r a.slot))) (is_full acc a) again over (ap (λ (n : ℕ). is_uplink a && nat_le most_uplink n) count)
+      (is_uplink a && nat_le SLOT_SECTIONS (length (ring_uplink r a.slot))) (is_full acc a) again over (ap (λ (n : ℕ). is_uplink a && nat_le SLOT_SECTIONS n) count)
 ]
   where
     chosen : (o r1 r2 p1 p2 f1 f2 : Bool) → r1 ≡ r2 → p1 ≡ p2 → f1 ≡ f2

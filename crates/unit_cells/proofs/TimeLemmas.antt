@@ -1,13 +1,9 @@
 -- What the rings keep as time passes.
-use Rattle.std.proofs.Common.{◌≡◌, ℕ, ℤ, ◌-ℤ◌, ◌≤ℤ◌, ◌<ℤ◌, false, List, [], ◌∷◌, refl, sym, ap, ◌∙◌, subst, arith, inl, inr, Option, Some, None}
+use Rattle.std.proofs.Common.{◌≡◌, ℕ, ℤ, ◌≤ℤ◌, false, List, [], ◌∷◌, refl, sym, ap, ◌∙◌, subst, inl, inr, Option, Some, None}
 use Rattle.std.specs.Prelude.{All}
 use Rattle.std.proofs.lemmas.Bool.{cases_Bool}
-use Rattle.std.proofs.lemmas.Int.{ints}
 use Rattle.std.proofs.lemmas.List.Elements.{All-head, All-tail, All-weaker}
-use Rattle.fh_time.specs.Air.{air_of}
-use Rattle.fh_time.specs.declared.numerology.Numerology.{Numerology}
 use Rattle.fh_time.specs.declared.values.Slot.{Slot}
-use Rattle.window_config.specs.Windows.{ticks_of_ns}
 use Rattle.window_config.specs.declared.config.Config.{Config}
 use Rattle.window_config.specs.declared.endpoints.EndpointConfig.{EndpointConfig}
 use Rattle.window_config.specs.declared.rings.Reach.{Reach}
@@ -19,17 +15,18 @@ use Rattle.unit_model.specs.declared.cells.Block.{Block}
 use Rattle.unit_model.specs.declared.cells.Cell.{Cell}
 use Rattle.unit_model.specs.declared.decoded.UserSection.{UserSection}
 use Rattle.unit_model.specs.Lists.{or_else}
-use Rattle.unit_laws.specs.Far.{IsFar, IsReached, IsReachedData, WasLive}
+use Rattle.unit_laws.specs.Far.{IsFar, IsReached, IsReachedData}
 use Rattle.unit_model.specs.Sides.{IsLiveFor, IsLiveOn, reach_of}
 use Rattle.unit_laws.proofs.CellLemmas.{data_covers_is}
-use Rattle.unit_laws.proofs.FarLemmas.{endpoints_equal, far_no_uplink, far_unclaimed}
+use Rattle.unit_laws.proofs.FarLemmas.{endpoints_equal, far_no_uplink, far_unclaimed, not_far, far_other}
 use Rattle.unit_laws.proofs.TickLemmas.{live_later}
 use Rattle.slot_rings.specs.Rings.{RingValue}
-use Rattle.unit_cells.specs.Cells.{block_from, cells_has, claim_from, done_from, has_from, ring_of, uplink_from}
-use Rattle.unit_cells.specs.Keeping.{FarHasNoPlace, FarIsNotMarked, KeepsLater}
+use Rattle.unit_cells.specs.Cells.{block_from, cells_has, claim_from, reported_from, has_from, ring_of, uplink_from}
+use Rattle.unit_cells.specs.Keeping.{FarHasNoPlace, FarIsNotReported, KeepsLater}
 use Rattle.unit_cells.specs.Told.{told_block_at, told_block_in}
 use Rattle.unit_cells.proofs.KeepLemmas.{was_later}
-use Rattle.unit_cells.proofs.ToldLemmas.{or_none, told-cons}
+use Rattle.unit_cells.proofs.ToldLemmas.{told-cons}
+use Rattle.unit_laws.proofs.ChangeLemmas.{or_else_none as or_none}
 
 -- ---- a slot that has no place
 
@@ -41,9 +38,9 @@ pub no_block_from : (o : Option RingValue) (cell : Cell) → has_from o cell.slo
 no_block_from None cell h = refl
 no_block_from (Some r) cell h = rw h refl
 
-pub no_done_from : (o : Option RingValue) (cell : Cell) → has_from o cell.slot ≡ false → done_from o cell ≡ false
-no_done_from None cell h = refl
-no_done_from (Some r) cell h = rw h refl
+pub no_reported_from : (o : Option RingValue) (cell : Cell) → has_from o cell.slot ≡ false → reported_from o cell ≡ false
+no_reported_from None cell h = refl
+no_reported_from (Some r) cell h = rw h refl
 
 pub no_uplink_from : (o : Option RingValue) (slot : Slot) → has_from o slot ≡ false → uplink_from o slot ≡ []
 no_uplink_from None slot h = refl
@@ -51,26 +48,14 @@ no_uplink_from (Some r) slot h = rw h refl
 
 -- ---- a slot that is not live yet
 
-beyond : (x when clock : ℤ) → x ≤ℤ when → when ≤ℤ clock → clock <ℤ x → ⊥
-beyond x when clock a b c = omega (arith, ints)
-
-not_far : (n : Numerology) (r : Reach) (clock : ℤ) (slot : Slot) → WasLive n r clock slot → IsFar n r clock slot → ⊥
-not_far n r clock slot was far = beyond (air_of n slot 0 -ℤ ticks_of_ns r.before) was.when clock was.live.begun was.come far
-
-far_other : (es : List EndpointConfig) (r : Reach) (clock : ℤ) (i j : ℕ) (e f : EndpointConfig) (s t : Slot) → IsAt es i e → IsAt es j f → i ≡ j → s ≡ t
-    → WasLive e.numerology r clock s → IsFar f.numerology r clock t → ⊥
-far_other es r clock i j e f s t at_i at_j same slots was far =
-    let was_f : WasLive f.numerology r clock s = subst (λ (x : EndpointConfig). WasLive x.numerology r clock s) (endpoints_equal es i j e f at_i at_j same) was in
-    not_far f.numerology r clock t (subst (WasLive f.numerology r clock) slots was_f) far
-
 pub far_no_place : FarHasNoPlace
 far_no_place side c clock v acc ds e ep slot keeps at far = elim (cases_Bool (cells_has v ep slot)) [
   | inl has ↦ absurd (not_far e.numerology (reach_of side c.delays) clock slot (keeps.reached e ep slot at has) far)
   | inr none ↦ none
 ]
 
-pub far_not_marked : FarIsNotMarked
-far_not_marked side c clock v acc ds e cell keeps at far = no_done_from (ring_of v cell.ep) cell (far_no_place side c clock v acc ds e cell.ep cell.slot keeps at far)
+pub far_not_reported : FarIsNotReported
+far_not_reported side c clock v acc ds e cell keeps at far = no_reported_from (ring_of v cell.ep) cell (far_no_place side c clock v acc ds e cell.ep cell.slot keeps at far)
 
 far_not_told : (es : List EndpointConfig) (r : Reach) (clock : ℤ) (ds : List UserSection) (e : EndpointConfig) (cell : Cell)
     → All (IsReachedData es r clock) ds → IsAt es cell.ep e → IsFar e.numerology r clock cell.slot → told_block_at ds cell ≡ None

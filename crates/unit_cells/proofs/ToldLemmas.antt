@@ -6,7 +6,7 @@ use Rattle.std.proofs.Math.ListN.{get_or-append}
 use Rattle.std.proofs.lemmas.List.{get_or-append-add}
 use Rattle.std.proofs.lemmas.Bool.Decides.{nat_tests}
 use Rattle.unit_model.specs.Claims.{is_from}
-use Rattle.slot_rings.specs.Runs.{block_in}
+use Rattle.slot_rings.specs.Runs.{packed_block}
 use Rattle.std.proofs.lemmas.List.Elements.{All-head, All-tail}
 use Rattle.bfp_codec.specs.declared.samples.Wide.{Wide}
 use Rattle.unit_model.specs.Blocks.{block_at, block_of, data_covers, data_prb_count, first_data_prb}
@@ -14,18 +14,16 @@ use Rattle.unit_model.specs.Lists.{or_else}
 use Rattle.unit_model.specs.declared.cells.Block.{Block}
 use Rattle.unit_model.specs.declared.cells.Cell.{Cell}
 use Rattle.unit_model.specs.declared.decoded.UserSection.{UserSection}
-use Rattle.unit_laws.proofs.CellLemmas.{data_covers_is, from_first, from_within}
-use Rattle.unit_cells.specs.Headings.{data_of}
+use Rattle.unit_laws.proofs.CellLemmas.{data_covers_is}
+use Rattle.unit_cells.specs.Headings.{data_under}
 use Rattle.unit_cells.specs.Told.{IsTold, ToldWhole, reaches, told_block_at, told_block_in}
 use Rattle.unit_cells.specs.declared.heading.DataHeading.{DataHeading}
+use Rattle.unit_model.proofs.ClaimLemmas.{starts_before as from_first, from_within}
+use Rattle.unit_laws.proofs.ChangeLemmas.{or_else_none as or_none}
 
 pub told-cons : (d : UserSection) (earlier : List UserSection) (cell : Cell) → told_block_at (d ∷ earlier) cell ≡ or_else (told_block_at earlier cell) (told_block_in d cell)
 unfolding told_block_at
 told-cons d earlier cell = refl
-
-pub or_none : (o : Option Block) → or_else o None ≡ o
-or_none None = refl
-or_none (Some b) = refl
 
 -- ---- sections that are told whole
 
@@ -56,9 +54,9 @@ none_in : (b : Bool) (block : Block) → (if b && false then Some block else Non
 none_in true block = refl
 none_in false block = refl
 
-pub told_nothing : (h : DataHeading) (earlier : List UserSection) (cell : Cell) → told_block_at (data_of h [] ∷ earlier) cell ≡ told_block_at earlier cell
+pub told_nothing : (h : DataHeading) (earlier : List UserSection) (cell : Cell) → told_block_at (data_under h [] ∷ earlier) cell ≡ told_block_at earlier cell
 told_nothing h earlier cell =
-    let d = data_of h [] in
+    let d = data_under h [] in
     let past : reaches d cell ≡ false = le-ltb (cell.prb - first_data_prb d) 0 (omega arith) in
     let none : told_block_in d cell ≡ None = rw past (none_in (data_covers d cell) (block_of d cell)) in
     told-cons d earlier cell ∙ ap (λ (o : Option Block). or_else (told_block_at earlier cell) o) none ∙ or_none (told_block_at earlier cell)
@@ -73,58 +71,58 @@ module _ (h : DataHeading) (blocks run : List (List Wide)) (cell : Cell) where
   more = length-append blocks run
 
   reach : ℕ
-  reach = cell.prb - first_data_prb (data_of h blocks)
+  reach = cell.prb - first_data_prb (data_under h blocks)
 
-  told_before : length blocks ≤ reach → told_block_in (data_of h blocks) cell ≡ None
+  told_before : length blocks ≤ reach → told_block_in (data_under h blocks) cell ≡ None
   unfolding reach
   told_before e =
-      let past : reaches (data_of h blocks) cell ≡ false = le-ltb reach (length blocks) e in
-      rw past (none_in (data_covers (data_of h blocks) cell) (block_of (data_of h blocks) cell))
+      let past : reaches (data_under h blocks) cell ≡ false = le-ltb reach (length blocks) e in
+      rw past (none_in (data_covers (data_under h blocks) cell) (block_of (data_under h blocks) cell))
 
-  told_now : (k : ℕ) → data_covers (data_of h blocks) cell ≡ true → reach ≡ length blocks + k → k < length run
-      → told_block_in (data_of h (blocks ++ run)) cell ≡ Some (block_in h.section.id run k)
+  told_now : (k : ℕ) → data_covers (data_under h blocks) cell ≡ true → reach ≡ length blocks + k → k < length run
+      → told_block_in (data_under h (blocks ++ run)) cell ≡ Some (packed_block h.section.id run k)
   unfolding reach
   told_now k covers e below =
-      let here : reaches (data_of h (blocks ++ run)) cell ≡ true = lt-ltb reach (length (blocks ++ run)) (omega (arith, more, e)) in
+      let here : reaches (data_under h (blocks ++ run)) cell ≡ true = lt-ltb reach (length (blocks ++ run)) (omega (arith, more, e)) in
       let at : get_or (blocks ++ run) reach [] ≡ get_or run k [] = ap (λ (n : ℕ). get_or (blocks ++ run) n []) e ∙ get_or-append-add blocks run k [] in
       rw (covers, here) (ap (λ (s : List Wide). Some (record { id = h.section.id; samples = s })) at)
 
   -- the cells at the PRBs that come next
-  pub told_next : (k : ℕ) (earlier : List UserSection) → data_covers (data_of h blocks) cell ≡ true → cell.prb - first_data_prb (data_of h blocks) ≡ length blocks + k → k < length run
-      → told_block_at (data_of h (blocks ++ run) ∷ earlier) cell
-      ≡ or_else (told_block_at (data_of h blocks ∷ earlier) cell) (Some (block_in h.section.id run k))
+  pub told_next : (k : ℕ) (earlier : List UserSection) → data_covers (data_under h blocks) cell ≡ true → cell.prb - first_data_prb (data_under h blocks) ≡ length blocks + k → k < length run
+      → told_block_at (data_under h (blocks ++ run) ∷ earlier) cell
+      ≡ or_else (told_block_at (data_under h blocks ∷ earlier) cell) (Some (packed_block h.section.id run k))
   unfolding reach
   told_next k earlier covers e below =
-      let was : told_block_at (data_of h blocks ∷ earlier) cell ≡ told_block_at earlier cell =
-      told-cons (data_of h blocks) earlier cell ∙ ap (λ (o : Option Block). or_else (told_block_at earlier cell) o) (told_before (omega (arith, e))) ∙ or_none (told_block_at earlier cell) in
-      told-cons (data_of h (blocks ++ run)) earlier cell
+      let was : told_block_at (data_under h blocks ∷ earlier) cell ≡ told_block_at earlier cell =
+      told-cons (data_under h blocks) earlier cell ∙ ap (λ (o : Option Block). or_else (told_block_at earlier cell) o) (told_before (omega (arith, e))) ∙ or_none (told_block_at earlier cell) in
+      told-cons (data_under h (blocks ++ run)) earlier cell
       ∙ ap (λ (o : Option Block). or_else (told_block_at earlier cell) o) (told_now k covers e below)
-      ∙ ap (λ (o : Option Block). or_else o (Some (block_in h.section.id run k))) (sym was)
+      ∙ ap (λ (o : Option Block). or_else o (Some (packed_block h.section.id run k))) (sym was)
 
-  told_below : reach < length blocks → told_block_in (data_of h (blocks ++ run)) cell ≡ told_block_in (data_of h blocks) cell
+  told_below : reach < length blocks → told_block_in (data_under h (blocks ++ run)) cell ≡ told_block_in (data_under h blocks) cell
   unfolding reach
   told_below below =
-      let now : reaches (data_of h (blocks ++ run)) cell ≡ true = lt-ltb reach (length (blocks ++ run)) (omega (arith, more)) in
-      let was : reaches (data_of h blocks) cell ≡ true = lt-ltb reach (length blocks) below in
+      let now : reaches (data_under h (blocks ++ run)) cell ≡ true = lt-ltb reach (length (blocks ++ run)) (omega (arith, more)) in
+      let was : reaches (data_under h blocks) cell ≡ true = lt-ltb reach (length blocks) below in
       let same : get_or (blocks ++ run) reach [] ≡ get_or blocks reach [] = get_or-append blocks run [] reach below in
-      rw (now, was) (ap (λ (s : List Wide). if data_covers (data_of h blocks) cell && true then Some (record { id = h.section.id; samples = s }) else None) same)
+      rw (now, was) (ap (λ (s : List Wide). if data_covers (data_under h blocks) cell && true then Some (record { id = h.section.id; samples = s }) else None) same)
 
-  told_past : length blocks + length run ≤ reach → told_block_in (data_of h (blocks ++ run)) cell ≡ told_block_in (data_of h blocks) cell
+  told_past : length blocks + length run ≤ reach → told_block_in (data_under h (blocks ++ run)) cell ≡ told_block_in (data_under h blocks) cell
   unfolding reach
   told_past above =
-      let now : reaches (data_of h (blocks ++ run)) cell ≡ false = le-ltb reach (length (blocks ++ run)) (omega (arith, more)) in
-      let was : reaches (data_of h blocks) cell ≡ false = le-ltb reach (length blocks) (omega arith) in
-      rw (now, was) (none_in (data_covers (data_of h blocks) cell) (block_of (data_of h (blocks ++ run)) cell)
-      ∙ sym (none_in (data_covers (data_of h blocks) cell) (block_of (data_of h blocks) cell)))
+      let now : reaches (data_under h (blocks ++ run)) cell ≡ false = le-ltb reach (length (blocks ++ run)) (omega (arith, more)) in
+      let was : reaches (data_under h blocks) cell ≡ false = le-ltb reach (length blocks) (omega arith) in
+      rw (now, was) (none_in (data_covers (data_under h blocks) cell) (block_of (data_under h (blocks ++ run)) cell)
+      ∙ sym (none_in (data_covers (data_under h blocks) cell) (block_of (data_under h blocks) cell)))
 
   beyond : (n b c : ℕ) → is_from b c n ≡ false → b ≤ n → b + c ≤ n
   beyond n b c h le = grind (arith, nat_tests)
 
   -- all other cells
-  pub told_other : (earlier : List UserSection) → (data_covers (data_of h blocks) cell ≡ true → is_from (length blocks) (length run) (cell.prb - first_data_prb (data_of h blocks)) ≡ false)
-      → told_block_at (data_of h (blocks ++ run) ∷ earlier) cell ≡ told_block_at (data_of h blocks ∷ earlier) cell
+  pub told_other : (earlier : List UserSection) → (data_covers (data_under h blocks) cell ≡ true → is_from (length blocks) (length run) (cell.prb - first_data_prb (data_under h blocks)) ≡ false)
+      → told_block_at (data_under h (blocks ++ run) ∷ earlier) cell ≡ told_block_at (data_under h blocks ∷ earlier) cell
   unfolding reach
-  told_other earlier ne = told_same (data_of h (blocks ++ run)) (data_of h blocks) earlier cell (elim (cases_Bool (data_covers (data_of h blocks) cell)) [
+  told_other earlier ne = told_same (data_under h (blocks ++ run)) (data_under h blocks) earlier cell (elim (cases_Bool (data_covers (data_under h blocks) cell)) [
     | inr other ↦ rw other refl
     | inl covers ↦ elim (cases_lt reach (length blocks)) [
       | inl below ↦ told_below below

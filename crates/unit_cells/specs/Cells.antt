@@ -14,8 +14,8 @@ use Rattle.unit_model.specs.declared.cells.Block.{Block}
 use Rattle.unit_model.specs.declared.cells.Cell.{Cell}
 use Rattle.unit_model.specs.declared.cells.Claim.{Claim}
 use Rattle.unit_model.specs.Sides.{IsLiveOn}
-use Rattle.slot_rings.specs.Rings.{RingValue, has_slot, place_index, ring_block, ring_claim, ring_done, ring_uplink}
-use Rattle.slot_rings.specs.Symbols.{lent_block, lent_claim, lent_done}
+use Rattle.slot_rings.specs.Rings.{RingValue, has_slot, place_index, ring_block, ring_claim, ring_reported, ring_uplink}
+use Rattle.slot_rings.specs.Symbols.{lent_block, lent_claim, lent_reported}
 use Rattle.slot_rings.specs.declared.symbol_cells.SymbolCells.{SymbolCells}
 
 -- the delays by which arrivals are judged, and the ring of each endpoint, by its index
@@ -49,9 +49,9 @@ abbrev pub block_from : Option RingValue → Cell → Option Block
 block_from None cell = None
 block_from (Some r) cell = ring_block r cell
 
-abbrev pub done_from : Option RingValue → Cell → Bool
-done_from None cell = false
-done_from (Some r) cell = ring_done r cell
+abbrev pub reported_from : Option RingValue → Cell → Bool
+reported_from None cell = false
+reported_from (Some r) cell = ring_reported r cell
 
 abbrev pub uplink_from : Option RingValue → Slot → List Allocation
 uplink_from None slot = []
@@ -74,8 +74,8 @@ abbrev pub cells_block : CellsValue → Cell → Option Block
 cells_block v cell = block_from (ring_of v cell.ep) cell
 
 -- whether a downlink cell was reported
-abbrev pub cells_done : CellsValue → Cell → Bool
-cells_done v cell = done_from (ring_of v cell.ep) cell
+abbrev pub cells_reported : CellsValue → Cell → Bool
+cells_reported v cell = reported_from (ring_of v cell.ep) cell
 
 -- the accepted uplink sections of a slot, the newest first
 abbrev pub cells_uplink : CellsValue → ℕ → Slot → List Allocation
@@ -134,7 +134,7 @@ pub record AreCellsIn (v : CellsValue) (ep : ℕ) (slot : Slot) (symbol first co
   pub prbs : first + count ≤ endpoint.prbs
 
 -- these are the downlink cells of a symbol
-pub record AreCellsOf (v : CellsValue) (ep : ℕ) (slot : Slot) (symbol : ℕ) (cells : SymbolCells) : Type 0 where
+pub record AreUnitCellsOf (v : CellsValue) (ep : ℕ) (slot : Slot) (symbol : ℕ) (cells : SymbolCells) : Type 0 where
   pub claims : (prb re : ℕ) → lent_claim cells prb re ≡ cells_claim v (cell_at ep true slot symbol prb) re
   pub blocks : (prb : ℕ) → lent_block cells prb ≡ cells_block v (cell_at ep true slot symbol prb)
-  pub done : (prb : ℕ) → lent_done cells prb ≡ cells_done v (cell_at ep true slot symbol prb)
+  pub reported : (prb : ℕ) → lent_reported cells prb ≡ cells_reported v (cell_at ep true slot symbol prb)

@@ -13,8 +13,8 @@ use Rattle.unit_model.specs.declared.decoded.UserSection.{UserSection}
 use Rattle.unit_cells.specs.declared.heading.DataHeading.{DataHeading}
 
 -- the section with these blocks
-abbrev pub data_of : DataHeading → List (List Wide) → UserSection
-data_of h blocks = record {
+abbrev pub data_under : DataHeading → List (List Wide) → UserSection
+data_under h blocks = record {
   ep = h.ep;
   endpoint = h.endpoint;
   first = h.first;
@@ -42,4 +42,4 @@ pub record IsProperHeading (side : Side) (es : List EndpointConfig) (h : DataHea
 
 -- the sections of data on time, with this one where it is on time
 abbrev pub with_heading : Side → Delays → DataHeading → List (List Wide) → List UserSection → List UserSection
-with_heading side d h blocks ds = with_timely (data_class side d (data_of h blocks)) (data_of h blocks) ds
+with_heading side d h blocks ds = with_timely (data_class side d (data_under h blocks)) (data_under h blocks) ds

@@ -13,7 +13,7 @@ use Rattle.unit_model.specs.declared.allocations.Allocation.{Allocation}
 use Rattle.unit_model.specs.declared.cells.Cell.{Cell}
 use Rattle.unit_model.specs.declared.decoded.UserSection.{UserSection}
 use Rattle.unit_laws.specs.Far.{IsFar, IsReached, IsReachedData, WasLive}
-use Rattle.unit_cells.specs.Cells.{CellsValue, IsOf, cells_block, cells_claim, cells_done, cells_has, cells_index, cells_uplink}
+use Rattle.unit_cells.specs.Cells.{CellsValue, IsOf, cells_block, cells_claim, cells_reported, cells_has, cells_index, cells_uplink}
 use Rattle.unit_model.specs.Sides.{IsLiveFor, reach_of}
 use Rattle.unit_cells.specs.Told.{told_block_at}
 
@@ -32,12 +32,12 @@ pub record Keeps (side : Side) (c : Config) (clock : ℤ) (v : CellsValue) (acc 
   pub accepted : All (IsReached c.endpoints (reach_of side c.delays) clock) acc
   pub timely : All (IsReachedData c.endpoints (reach_of side c.delays) clock) ds
 
--- of the cells of live slots, the same ones are marked as reported
-abbrev pub SameMarks : Side → Config → ℤ → CellsValue → CellsValue → Type 0
-SameMarks side c clock old new =
-    (e : EndpointConfig) (cell : Cell) → IsCell c e cell → IsLiveFor side c clock cell.ep cell.slot → cells_done new cell ≡ cells_done old cell
+-- of the cells of live slots, the same ones are set as reported
+abbrev pub SameReported : Side → Config → ℤ → CellsValue → CellsValue → Type 0
+SameReported side c clock old new =
+    (e : EndpointConfig) (cell : Cell) → IsCell c e cell → IsLiveFor side c clock cell.ep cell.slot → cells_reported new cell ≡ cells_reported old cell
 
--- the same is known of all cells and slots, marks aside
+-- the same is known of all cells and slots, what is reported aside
 pub record SameKnown (old new : CellsValue) : Type 0 where
   pub claims : (cell : Cell) (re : ℕ) → cells_claim new cell re ≡ cells_claim old cell re
   pub blocks : (cell : Cell) → cells_block new cell ≡ cells_block old cell
@@ -50,16 +50,16 @@ abbrev pub KeepsLater : Type 0
 KeepsLater =
     (side : Side) (c : Config) (clock to : ℤ) (v : CellsValue) (acc : List Allocation) (ds : List UserSection) → clock ≤ℤ to → Keeps side c clock v acc ds → Keeps side c to v acc ds
 
--- a slot that is not live yet has no place, so none of its cells is marked
+-- a slot that is not live yet has no place, so none of its cells is reported
 abbrev pub FarHasNoPlace : Type 0
 FarHasNoPlace =
     (side : Side) (c : Config) (clock : ℤ) (v : CellsValue) (acc : List Allocation) (ds : List UserSection) (e : EndpointConfig) (ep : ℕ) (slot : Slot)
     → Keeps side c clock v acc ds → IsAt c.endpoints ep e → IsFar e.numerology (reach_of side c.delays) clock slot → cells_has v ep slot ≡ false
 
-abbrev pub FarIsNotMarked : Type 0
-FarIsNotMarked =
+abbrev pub FarIsNotReported : Type 0
+FarIsNotReported =
     (side : Side) (c : Config) (clock : ℤ) (v : CellsValue) (acc : List Allocation) (ds : List UserSection) (e : EndpointConfig) (cell : Cell)
-    → Keeps side c clock v acc ds → IsAt c.endpoints cell.ep e → IsFar e.numerology (reach_of side c.delays) clock cell.slot → cells_done v cell ≡ false
+    → Keeps side c clock v acc ds → IsAt c.endpoints cell.ep e → IsFar e.numerology (reach_of side c.delays) clock cell.slot → cells_reported v cell ≡ false
 
 -- ---- places
 

@@ -19,12 +19,13 @@ ghost use Rattle.unit_model.specs.declared.cells.Cell.{Cell};
 ghost use Rattle.unit_model.specs.declared.decoded.UserSection.{UserSection};
 ghost use Rattle.slot_rings.specs.Places.{is_due, is_in_use};
 ghost use Rattle.slot_rings.specs.Rings.{RingValue, ring_block};
-ghost use Rattle.slot_rings.specs.Runs.{samples_of, unpacked_run};
-ghost use Rattle.unit_cells.specs.Headings.{IsProperHeading, data_of, with_heading};
+ghost use Rattle.slot_rings.specs.Runs.{packed_samples, unpacked_run};
+ghost use Rattle.unit_cells.specs.Headings.{IsProperHeading, data_under, with_heading};
 ghost use Rattle.unit_cells.specs.Told.{IsTold};
+ghost use Rattle.unit_model.specs.declared.uplink.TheConstants.{SLOT_SECTIONS};
 
 use crate::heading::DataHeading;
-use crate::rings::{fill, fill_run, make_ring, mark_used, take};
+use crate::rings::{fill, fill_run, make_ring, set_used_reported, take};
 use crate::sections::{data_class, data_slot, first_prb, prb_at, prb_count};
 use bfp_codec::{Method, Wide};
 use fh_base::NoMemory;
@@ -61,16 +62,16 @@ impl Model for UnitCells {
 }
 
 impl UnitCells {
-    ghost use Rattle.unit_cells.specs.Cells.{AreCellsIn, AreCellsOf, AreRings, CellsValue, IsOf, IsSlotIn, IsCellIn, cells_block, cells_claim, cells_done, cells_has, cells_index, cells_places, cells_uplink, endpoints_of, ring_of};
-    ghost use Rattle.unit_cells.specs.Keeping.{Keeps, LiveAreApart, SameKnown, SameMarks};
-    ghost use Rattle.unit_cells.specs.Steps.{Fills, InRing, Marks, Takes};
+    ghost use Rattle.unit_cells.specs.Cells.{AreCellsIn, AreUnitCellsOf, AreRings, CellsValue, IsOf, IsSlotIn, IsCellIn, cells_block, cells_claim, cells_reported, cells_has, cells_index, cells_places, cells_uplink, endpoints_of, ring_of};
+    ghost use Rattle.unit_cells.specs.Keeping.{Keeps, LiveAreApart, SameKnown, SameReported};
+    ghost use Rattle.unit_cells.specs.Steps.{Fills, InRing, SetsReported, Takes};
 
     /// Takes all memory for a configuration. Nothing is known of any slot.
     pub fn make(alloc: Global, side: Side, config: &Config) -> Result<UnitCells, NoMemory>
         requires { IsConfig config.now }
         ensures configured { IfOk result (λ v. IsOf side config.now v) }
         ensures keeps { IfOk result (λ v. (clock : ℤ) → Keeps side config.now clock v [] []) }
-        ensures unmarked { IfOk result (λ v. (cell : Cell) → cells_done v cell ≡ false) }
+        ensures unreported { IfOk result (λ v. (cell : Cell) → cells_reported v cell ≡ false) }
     {
         let endpoints = config.endpoints.as_slice();
         let mut rings = Vec::with_capacity(alloc, endpoints.len())?;
@@ -109,19 +110,19 @@ impl UnitCells {
     fn fill_cells(&mut self, ep: usize, slot: Slot, symbol: u8, first: u16, run: &PackedRun<'_>)
         requires cells { AreCellsIn self.old ep slot symbol first run.now.count }
         requires width { HasWidth run.now.method }
-        ensures filled { InRing ep (Fills slot symbol first run.now.id (samples_of run.now)) self.old self.new }
+        ensures filled { InRing ep (Fills slot symbol first run.now.id (packed_samples run.now)) self.old self.new }
         ensures held { AreRings self.old }
     {
         fill_run(&mut self.rings[ep], slot, symbol, first, run);
     }
 
-    /// Marks as reported the downlink cells of a symbol that are in use at the first so many PRBs.
-    fn mark_cells(&mut self, ep: usize, slot: Slot, symbol: u8, count: u16)
+    /// Sets as reported the downlink cells of a symbol that are in use at the first so many PRBs.
+    fn set_reported(&mut self, ep: usize, slot: Slot, symbol: u8, count: u16)
         requires cells { AreCellsIn self.old ep slot symbol 0 count }
         requires has { cells_has self.old ep slot ≡ true }
-        ensures { InRing ep (Marks slot symbol count) self.old self.new }
+        ensures { InRing ep (SetsReported slot symbol count) self.old self.new }
     {
-        mark_used(&mut self.rings[ep], slot, symbol, count);
+        set_used_reported(&mut self.rings[ep], slot, symbol, count);
     }
 
     /// Judges a section of a command that comes at the clock, and claims what it names where it is accepted (O-RAN.WG4.CUS for
@@ -132,7 +133,7 @@ impl UnitCells {
             → result ≡ command_verdict c.delays acc command.now }
         ensures keeps { (c : Config) (acc : List Allocation) (ds : List UserSection) → IsOf Ru c self.old → Keeps Ru c command.now.at.0 self.old acc ds
             → Keeps Ru c command.now.at.0 self.new (with_accepted result (allocation_of command.now) acc) ds }
-        ensures marks { (c : Config) → IsOf Ru c self.old → SameMarks Ru c command.now.at.0 self.old self.new }
+        ensures reports { (c : Config) → IsOf Ru c self.old → SameReported Ru c command.now.at.0 self.old self.new }
         ensures side { self.new.side ≡ self.old.side }
         ensures delays { self.new.delays ≡ self.old.delays }
         ensures endpoints { endpoints_of self.new ≡ endpoints_of self.old }
@@ -151,7 +152,7 @@ impl UnitCells {
     pub fn begin(&self, heading: &DataHeading) -> DataVerdict
         requires { IsProperHeading self.now.side (endpoints_of self.now) heading.now }
         ensures verdict { (side : SpecSide) (c : Config) (acc : List Allocation) (ds : List UserSection) (blocks : List (List Wide)) → IsOf side c self.now
-            → Keeps side c heading.now.last.0 self.now acc ds → All IsTold ds → result ≡ data_verdict side c.delays ds (data_of heading.now blocks) }
+            → Keeps side c heading.now.last.0 self.now acc ds → All IsTold ds → result ≡ data_verdict side c.delays ds (data_under heading.now blocks) }
         ensures keeps { (side : SpecSide) (c : Config) (acc : List Allocation) (ds : List UserSection) → IsOf side c self.now → Keeps side c heading.now.last.0 self.now acc ds
             → Keeps side c heading.now.last.0 self.now acc (with_heading side c.delays heading.now [] ds) }
     {
@@ -171,8 +172,8 @@ impl UnitCells {
     /// Whether each cell of a section of data has a block.
     fn is_whole(&self, heading: &DataHeading) -> bool
         requires { IsProperHeading self.now.side (endpoints_of self.now) heading.now }
-        ensures { (r : RingValue) → ring_of self.now heading.now.ep ≡ Some r → result ≡ every (first_data_prb (data_of heading.now [])) (data_prb_count (data_of heading.now []))
-            (λ prb. is_some (ring_block r (cell_at heading.now.ep true (data_slot (data_of heading.now [])) heading.now.section.symbol prb))) }
+        ensures { (r : RingValue) → ring_of self.now heading.now.ep ≡ Some r → result ≡ every (first_data_prb (data_under heading.now [])) (data_prb_count (data_under heading.now []))
+            (λ prb. is_some (ring_block r (cell_at heading.now.ep true (data_slot (data_under heading.now [])) heading.now.section.symbol prb))) }
     {
         let slot = data_slot(heading);
         let first = first_prb(heading);
@@ -184,12 +185,12 @@ impl UnitCells {
     /// and the cell has none. The PRBs of a section come in their order, after `begin` and before anything else.
     pub fn fill(&mut self, heading: &DataHeading, k: u16, samples: &[Wide; 12])
         requires heading { IsProperHeading self.old.side (endpoints_of self.old) heading.now }
-        requires within { k < data_prb_count (data_of heading.now []) }
+        requires within { k < data_prb_count (data_under heading.now []) }
         ensures keeps { (side : SpecSide) (c : Config) (acc : List Allocation) (ds : List UserSection) (blocks : List (List Wide)) → IsOf side c self.old → length blocks ≡ k
             → Keeps side c heading.now.last.0 self.old acc (with_heading side c.delays heading.now blocks ds)
             → Keeps side c heading.now.last.0 self.new acc (with_heading side c.delays heading.now (blocks ++ samples.now ∷ []) ds) }
-        ensures same { data_class self.old.side self.old.delays (data_of heading.now []) ≢ OnTime → self.new ≡ self.old }
-        ensures marks { (side : SpecSide) (c : Config) → IsOf side c self.old → SameMarks side c heading.now.last.0 self.old self.new }
+        ensures same { data_class self.old.side self.old.delays (data_under heading.now []) ≢ OnTime → self.new ≡ self.old }
+        ensures reports { (side : SpecSide) (c : Config) → IsOf side c self.old → SameReported side c heading.now.last.0 self.old self.new }
         ensures side { self.new.side ≡ self.old.side }
         ensures delays { self.new.delays ≡ self.old.delays }
         ensures endpoints { endpoints_of self.new ≡ endpoints_of self.old }
@@ -217,14 +218,14 @@ impl UnitCells {
     )
         requires heading { IsProperHeading self.old.side (endpoints_of self.old) heading.now }
         requires some { 0 < count }
-        requires within { k + count ≤ data_prb_count (data_of heading.now []) }
+        requires within { k + count ≤ data_prb_count (data_under heading.now []) }
         requires width { HasWidth method }
         requires len { length packed.now ≡ count * length_of method }
         ensures keeps { (side : SpecSide) (c : Config) (acc : List Allocation) (ds : List UserSection) (blocks : List (List Wide)) → IsOf side c self.old → length blocks ≡ k
             → Keeps side c heading.now.last.0 self.old acc (with_heading side c.delays heading.now blocks ds)
             → Keeps side c heading.now.last.0 self.new acc (with_heading side c.delays heading.now (blocks ++ unpacked_run method count packed.now) ds) }
-        ensures same { data_class self.old.side self.old.delays (data_of heading.now []) ≢ OnTime → self.new ≡ self.old }
-        ensures marks { (side : SpecSide) (c : Config) → IsOf side c self.old → SameMarks side c heading.now.last.0 self.old self.new }
+        ensures same { data_class self.old.side self.old.delays (data_under heading.now []) ≢ OnTime → self.new ≡ self.old }
+        ensures reports { (side : SpecSide) (c : Config) → IsOf side c self.old → SameReported side c heading.now.last.0 self.old self.new }
         ensures side { self.new.side ≡ self.old.side }
         ensures delays { self.new.delays ≡ self.old.delays }
         ensures endpoints { endpoints_of self.new ≡ endpoints_of self.old }
@@ -242,29 +243,29 @@ impl UnitCells {
         }
     }
 
-    /// Marks as reported the downlink cells of a symbol that are in use at the first so many PRBs, in a slot that has its place.
+    /// Sets as reported the downlink cells of a symbol that are in use at the first so many PRBs, in a slot that has its place.
     /// Where these are all PRBs, `is_pending` and `is_used` answer from now on without a look at any of its cells, until one is
     /// claimed. Nothing else changes.
-    pub fn mark_used(&mut self, ep: usize, slot: Slot, symbol: u8, count: u16)
+    pub fn set_used_reported(&mut self, ep: usize, slot: Slot, symbol: u8, count: u16)
         requires cells { AreCellsIn self.old ep slot symbol 0 count }
         requires has { cells_has self.old ep slot ≡ true }
-        ensures here { (prb : ℕ) → prb < count → cells_done self.new (cell_at ep true slot symbol prb)
-            ≡ (cells_done self.old (cell_at ep true slot symbol prb) || is_in_use (cells_claim self.old (cell_at ep true slot symbol prb))) }
+        ensures here { (prb : ℕ) → prb < count → cells_reported self.new (cell_at ep true slot symbol prb)
+            ≡ (cells_reported self.old (cell_at ep true slot symbol prb) || is_in_use (cells_claim self.old (cell_at ep true slot symbol prb))) }
         ensures others { (cell : Cell) → IsCellIn self.old cell → (cell.ep ≡ ep → cell.slot ≡ slot → cell.symbol ≡ symbol → count ≤ cell.prb)
-            → cells_done self.new cell ≡ cells_done self.old cell }
+            → cells_reported self.new cell ≡ cells_reported self.old cell }
         ensures keeps { (side : SpecSide) (c : Config) (clock : ℤ) (acc : List Allocation) (ds : List UserSection) → Keeps side c clock self.old acc ds → Keeps side c clock self.new acc ds }
         ensures known { SameKnown self.old self.new }
         ensures side { self.new.side ≡ self.old.side }
         ensures delays { self.new.delays ≡ self.old.delays }
         ensures endpoints { endpoints_of self.new ≡ endpoints_of self.old }
     {
-        self.mark_cells(ep, slot, symbol, count);
+        self.set_reported(ep, slot, symbol, count);
     }
 
     /// The downlink cells of a symbol: their place is found once for all of them.
     pub fn symbol_cells(&self, ep: usize, slot: Slot, symbol: u8) -> SymbolCells<'_>
         requires { IsSlotIn self.now ep slot }
-        ensures { AreCellsOf self.now ep slot symbol result }
+        ensures { AreUnitCellsOf self.now ep slot symbol result }
     {
         self.rings[ep].symbol_cells(slot, symbol)
     }
@@ -281,7 +282,7 @@ impl UnitCells {
     pub fn is_used(&self, ep: usize, slot: Slot, symbol: u8) -> bool
         requires { IsSlotIn self.now ep slot }
         ensures { (e : EndpointConfig) → IsAt (endpoints_of self.now) ep e → result ≡ some 0 e.prbs (λ prb.
-            is_due (cells_claim self.now (cell_at ep true slot symbol prb)) (cells_done self.now (cell_at ep true slot symbol prb))) }
+            is_due (cells_claim self.now (cell_at ep true slot symbol prb)) (cells_reported self.now (cell_at ep true slot symbol prb))) }
     {
         self.rings[ep].is_used(slot, symbol)
     }
@@ -293,7 +294,7 @@ impl UnitCells {
         requires index { index < cells_places self.now ep }
         ensures { result ≡ false → (slot : Slot) → cells_index self.now ep slot ≡ index → cells_has self.now ep slot ≡ true
             → (e : EndpointConfig) → IsAt (endpoints_of self.now) ep e → some 0 e.prbs (λ prb.
-            is_due (cells_claim self.now (cell_at ep true slot symbol prb)) (cells_done self.now (cell_at ep true slot symbol prb))) ≡ false }
+            is_due (cells_claim self.now (cell_at ep true slot symbol prb)) (cells_reported self.now (cell_at ep true slot symbol prb))) ≡ false }
     {
         self.rings[ep].is_pending(index, symbol)
     }
@@ -302,7 +303,7 @@ impl UnitCells {
     pub fn has_pending(&self, ep: usize) -> bool
         requires { ep < length (endpoints_of self.now) }
         ensures { result ≡ false → (e : EndpointConfig) → IsAt (endpoints_of self.now) ep e → (slot : Slot) (symbol : ℕ) → symbol < symbols_of e.numerology → some 0 e.prbs (λ prb.
-            is_due (cells_claim self.now (cell_at ep true slot symbol prb)) (cells_done self.now (cell_at ep true slot symbol prb))) ≡ false }
+            is_due (cells_claim self.now (cell_at ep true slot symbol prb)) (cells_reported self.now (cell_at ep true slot symbol prb))) ≡ false }
     {
         self.rings[ep].has_pending()
     }
@@ -319,7 +320,7 @@ impl UnitCells {
     pub fn uplink(&self, ep: usize, slot: Slot) -> &[Allocation]
         requires { IsSlotIn self.now ep slot }
         ensures value { reverse result.now ≡ cells_uplink self.now ep slot }
-        ensures few { length result.now ≤ 64 }
+        ensures few { length result.now ≤ SLOT_SECTIONS }
     {
         self.rings[ep].uplink(slot)
     }

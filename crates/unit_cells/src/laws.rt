@@ -1,5 +1,5 @@
 // Laws of the definitions, for those who stand on them.
-ghost use Rattle.unit_cells.specs.Keeping.{FarHasNoPlace, FarIsNotMarked, KeepsLater};
+ghost use Rattle.unit_cells.specs.Keeping.{FarHasNoPlace, FarIsNotReported, KeepsLater};
 ghost use Rattle.unit_cells.specs.Told.{ToldWhole};
 
 /// Where all sections are told whole, the blocks that are told are those that they give.
@@ -12,8 +12,8 @@ pub fn keeps_later()
     ensures { KeepsLater }
 {}
 
-/// A slot that is not live yet has no place, and none of its cells is marked.
+/// A slot that is not live yet has no place, and none of its cells is reported.
 pub fn far_slots_have_no_place()
     ensures place { FarHasNoPlace }
-    ensures marks { FarIsNotMarked }
+    ensures reports { FarIsNotReported }
 {}

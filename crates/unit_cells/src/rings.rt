@@ -6,10 +6,10 @@ ghost use Rattle.unit_model.specs.Proper.{IsSlot};
 ghost use Rattle.window_config.specs.Limits.{IsReach, IsWithinLimits};
 ghost use Rattle.unit_model.specs.Sides.{reach_of};
 ghost use Rattle.slot_rings.specs.Rings.{IsEmpty, has_slot, ring_claim, ring_uplink};
-ghost use Rattle.slot_rings.specs.Runs.{samples_of};
+ghost use Rattle.slot_rings.specs.Runs.{packed_samples};
 ghost use Rattle.slot_rings.specs.Verdicts.{verdict_by};
 ghost use Rattle.unit_cells.specs.Cells.{HoldsLive};
-ghost use Rattle.unit_cells.specs.Steps.{Claims, Takes, Fills, Marks};
+ghost use Rattle.unit_cells.specs.Steps.{Claims, Takes, Fills, SetsReported};
 
 use fh_base::NoMemory;
 use fh_time::Slot;
@@ -94,19 +94,19 @@ pub(crate) fn fill_run(ring: &mut SlotRing, slot: Slot, symbol: u8, first: u16, 
     requires symbol { symbol < symbols_of ring.old.endpoint.numerology }
     requires prbs { first + run.now.count ≤ ring.old.endpoint.prbs }
     requires width { HasWidth run.now.method }
-    ensures { Fills slot symbol first run.now.id (samples_of run.now) ring.old ring.new }
+    ensures { Fills slot symbol first run.now.id (packed_samples run.now) ring.old ring.new }
 {
     ring.open(slot);
     ring.fill_run(slot, symbol, first, run);
 }
 
-/// Marks as reported the downlink cells of a symbol that are in use at the first so many PRBs, in a slot that has its place.
-pub(crate) fn mark_used(ring: &mut SlotRing, slot: Slot, symbol: u8, count: u16)
+/// Sets as reported the downlink cells of a symbol that are in use at the first so many PRBs, in a slot that has its place.
+pub(crate) fn set_used_reported(ring: &mut SlotRing, slot: Slot, symbol: u8, count: u16)
     requires slot { IsSlot ring.old.endpoint.numerology slot }
     requires symbol { symbol < symbols_of ring.old.endpoint.numerology }
     requires count { count ≤ ring.old.endpoint.prbs }
     requires has { has_slot ring.old slot ≡ true }
-    ensures { Marks slot symbol count ring.old ring.new }
+    ensures { SetsReported slot symbol count ring.old ring.new }
 {
-    ring.mark_used(slot, symbol, count);
+    ring.set_used_reported(slot, symbol, count);
 }

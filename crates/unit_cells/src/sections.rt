@@ -3,7 +3,7 @@ ghost use Rattle.std.specs.Prelude.{◌≡◌, pos, neg_ℤ, ◌^◌, ◌≤ℤ�
 ghost use Rattle.window_config.specs.Limits.{IsWithinLimits};
 ghost use Rattle.unit_model.specs.Blocks.{data_slot, data_start, data_class, first_data_prb, data_prb_count};
 ghost use Rattle.unit_model.specs.Proper.{IsSlot};
-ghost use Rattle.unit_cells.specs.Headings.{IsSoundHeading, data_of};
+ghost use Rattle.unit_cells.specs.Headings.{IsSoundHeading, data_under};
 
 use crate::heading::DataHeading;
 use fh_time::{Slot, Ticks, air, resolve};
@@ -12,7 +12,7 @@ use window_config::{Class, Delays, class, class_up, data_window};
 
 /// The first PRB that a section has.
 pub(crate) fn first_prb(h: &DataHeading) -> u16
-    ensures { result ≡ first_data_prb (data_of h.now []) }
+    ensures { result ≡ first_data_prb (data_under h.now []) }
 {
     if h.section.num_prb == 0 {
         0
@@ -23,7 +23,7 @@ pub(crate) fn first_prb(h: &DataHeading) -> u16
 
 /// How many PRBs it has.
 pub(crate) fn prb_count(h: &DataHeading) -> u16
-    ensures { result ≡ data_prb_count (data_of h.now []) }
+    ensures { result ≡ data_prb_count (data_under h.now []) }
 {
     if h.section.num_prb == 0 {
         h.endpoint.prbs
@@ -36,10 +36,10 @@ pub(crate) fn prb_count(h: &DataHeading) -> u16
 #[tactic(auto, using(crate::proofs::SectionLemmas::prb_within, crate::proofs::SectionLemmas::prbs_within))]
 pub(crate) fn prb_at(h: &DataHeading, k: u16) -> u16
     requires sound { IsSoundHeading h.now }
-    requires within { k < data_prb_count (data_of h.now []) }
-    ensures value { result ≡ first_data_prb (data_of h.now []) + k }
+    requires within { k < data_prb_count (data_under h.now []) }
+    ensures value { result ≡ first_data_prb (data_under h.now []) + k }
     ensures inside { result < h.now.endpoint.prbs }
-    ensures rest { (n : ℕ) → k + n ≤ data_prb_count (data_of h.now []) → result + n ≤ h.now.endpoint.prbs }
+    ensures rest { (n : ℕ) → k + n ≤ data_prb_count (data_under h.now []) → result + n ≤ h.now.endpoint.prbs }
 {
     // the proof needs the range of this number
     let _carrier = h.endpoint.prbs;
@@ -50,7 +50,7 @@ pub(crate) fn prb_at(h: &DataHeading, k: u16) -> u16
 #[tactic(auto, using(unit_model::proofs::SlotLemmas::slots))]
 pub(crate) fn data_slot(h: &DataHeading) -> Slot
     requires { IsSoundHeading h.now }
-    ensures value { result ≡ data_slot (data_of h.now []) }
+    ensures value { result ≡ data_slot (data_under h.now []) }
     ensures slot { IsSlot h.now.endpoint.numerology result }
 {
     Slot {
@@ -63,7 +63,7 @@ pub(crate) fn data_slot(h: &DataHeading) -> Slot
 /// When its symbol starts.
 fn data_start(h: &DataHeading) -> Ticks
     requires { IsSoundHeading h.now }
-    ensures value { result.0 ≡ data_start (data_of h.now []) }
+    ensures value { result.0 ≡ data_start (data_under h.now []) }
     ensures low { neg_ℤ (pos (2 ^ 56)) ≤ℤ result.0 }
     ensures high { result.0 ≤ℤ pos (2 ^ 56) }
 {
@@ -74,7 +74,7 @@ fn data_start(h: &DataHeading) -> Ticks
 pub(crate) fn data_class(side: Side, delays: &Delays, h: &DataHeading) -> Class
     requires limits { IsWithinLimits delays.now }
     requires sound { IsSoundHeading h.now }
-    ensures { result ≡ data_class side delays.now (data_of h.now []) }
+    ensures { result ≡ data_class side delays.now (data_under h.now []) }
 {
     let start = data_start(h);
     match side {

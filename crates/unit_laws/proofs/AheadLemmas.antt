@@ -1,6 +1,6 @@
 -- Of slots that are not live yet, the radio unit knows nothing.
-use Rattle.std.proofs.Common.{◌≡◌, ℕ, ℤ, zero, suc, ◌+◌, ◌*◌, List, [], ◌∷◌, ◌++◌, refl, ap, ap₂, ◌∙◌}
-use Rattle.std.specs.Prelude.{All, Option, None, ◌==◌, if◌then◌else◌}
+use Rattle.std.proofs.Common.{◌≡◌, ℕ, ℤ, List, [], ◌∷◌, refl, ap, ◌∙◌}
+use Rattle.std.specs.Prelude.{All, None, ◌==◌, if◌then◌else◌}
 use Rattle.fh_time.specs.Air.{air_of}
 use Rattle.unit_model.specs.air_source.specs.declared.events.Side.{Side}
 use Rattle.unit_model.specs.air_source.specs.declared.events.Side.TheVariants.{Ru}
@@ -10,20 +10,21 @@ use Rattle.window_config.specs.Rings.{ru_reach_of}
 use Rattle.window_config.specs.declared.config.Config.{Config}
 use Rattle.window_config.specs.declared.endpoints.EndpointConfig.{EndpointConfig}
 use Rattle.unit_model.specs.Claims.{cell_at}
-use Rattle.unit_model.specs.Lists.{each, in_order}
+use Rattle.unit_model.specs.Lists.{in_order}
 use Rattle.unit_model.specs.Meetings.{Arrival}
-use Rattle.unit_model.specs.Radiated.{Known, air_cell, cell_report, is_down, is_used, symbol_report, used_below}
+use Rattle.unit_model.specs.Radiated.{Known, air_cell, cell_report, is_down, symbol_report}
 use Rattle.unit_model.specs.Reports.{accepted_of, commands_of, data_of, ru_known, timely_of}
 use Rattle.unit_model.specs.Sides.{reach_of}
 use Rattle.unit_model.specs.Standing.{AreInTime}
 use Rattle.unit_model.specs.Uplink.{symbol_jobs}
 use Rattle.unit_model.specs.declared.allocations.Allocation.{Allocation}
-use Rattle.unit_model.specs.declared.cells.Claim.{Claim}
 use Rattle.unit_laws.specs.Far.{IsReached, IsReachedData}
 use Rattle.unit_laws.specs.Histories.{NoClaimsAhead, NoBlocksAhead, NoUplinkAhead, NoReportsAhead, NoJobsAhead}
 use Rattle.unit_laws.proofs.FarLemmas.{accepted_reached, timely_reached, far_unclaimed, far_no_block, far_no_uplink}
 use Rattle.unit_laws.proofs.HistoryLemmas.{commands_are_heard, data_are_heard}
 use Rattle.unit_laws.proofs.LookupLemmas.{jobs_of_their_slot}
+use Rattle.unit_model.proofs.SweepLaws.{each_none as each_nothing}
+use Rattle.unit_model.proofs.ClaimLemmas.{none_used as unused}
 
 reached : (c : Config) (clock : ℤ) (arrivals : List Arrival) → IsWithinLimits c.delays → AreInTime clock arrivals
     → All (IsReached c.endpoints (ru_reach_of c.delays) clock) (accepted_of c arrivals)
@@ -45,17 +46,6 @@ pub no_uplink_ahead : NoUplinkAhead
 no_uplink_ahead c clock arrivals e ep slot limits h at far =
     far_no_uplink c.endpoints (ru_reach_of c.delays) clock (accepted_of c arrivals) e ep slot (reached c clock arrivals limits h) at far
 
-unused : (claims : ℕ → Option Claim) (n : ℕ) → ((re : ℕ) → claims re ≡ None) → used_below claims n ≡ 0
-unfolding used_below
-unused claims zero none = refl
-unused claims (suc n) none =
-    ap₂ (λ (low : ℕ) (c : Option Claim). 2 * low + (if is_used c then 1 else 0)) (unused claims n none) (none n)
-
-each_nothing : {A : Type 0} (from n : ℕ) (f : ℕ → List A) → ((k : ℕ) → f k ≡ []) → each from n f ≡ []
-unfolding each
-each_nothing from zero f none = refl
-each_nothing from (suc n) f none = ap₂ ◌++◌ (none from) (each_nothing (from + 1) n f none)
-
 -- a symbol of which no element is claimed
 pub unclaimed_reports_nothing : (side : Side) (k : Known) (ep : ℕ) (e : EndpointConfig) (slot : Slot) (symbol : ℕ)
     → ((prb re : ℕ) → k.claims (cell_at ep (is_down side) slot symbol prb) re ≡ None) → symbol_report side k ep e slot symbol ≡ []
@@ -71,7 +61,7 @@ no_reports_ahead side c clock arrivals e ep slot symbol limits h at far =
     unclaimed_reports_nothing side (ru_known c arrivals) ep e slot symbol (λ prb re.
     no_claims_ahead c clock arrivals e (cell_at ep (is_down side) slot symbol prb) re limits h at far)
 
-no_jobs : (ep : ℕ) (e : EndpointConfig) (slot : Slot) (symbol : ℕ) → symbol_jobs [] ep e slot symbol ≡ []
+pub no_jobs : (ep : ℕ) (e : EndpointConfig) (slot : Slot) (symbol : ℕ) → symbol_jobs [] ep e slot symbol ≡ []
 unfolding symbol_jobs in_order
 no_jobs ep e slot symbol = refl
 

@@ -1,6 +1,5 @@
 -- The distributed unit begins with nothing.
-use Rattle.std.proofs.Common.{◌≡◌, ℤ, pos, ◌+ℤ◌, ◌-ℤ◌, ◌≤ℤ◌, List, [], ◌++◌, refl, sym, ap, ◌∙◌, subst, arith}
-use Rattle.std.proofs.lemmas.Int.{ints}
+use Rattle.std.proofs.Common.{◌≡◌, ℤ, pos, ◌+ℤ◌, ◌-ℤ◌, List, [], ◌++◌, refl, sym, ap, ◌∙◌, subst}
 use Rattle.std.proofs.lemmas.List.Elements.{All-nil}
 use Rattle.unit_model.specs.air_source.specs.declared.events.Side.TheVariants.{Du}
 use Rattle.ecpri_fragments.specs.Assemblies.{StandsFor}
@@ -14,10 +13,7 @@ use Rattle.unit_model.specs.Standing.{IsOwed, due, past_of, still_reported}
 use Rattle.unit_model.proofs.CountLemmas.{no_fragments, nothing_counted}
 use Rattle.unit_laws.specs.Begins.{PlanBegins}
 use Rattle.unit_laws.proofs.SweepLemmas.{sweep-none}
-
--- the time before the first one is over
-over : (first wait : ℤ) → (((first -ℤ pos 1) -ℤ wait) +ℤ pos 1) ≤ℤ (first -ℤ wait)
-over first wait = omega (arith, ints)
+use Rattle.fh_time.proofs.Orders.{over}
 
 nothing_past : (c : Config) (k : Known) → due Du c.delays c.endpoints k [] (past_of Du first_clock) ≡ []
 unfolding due

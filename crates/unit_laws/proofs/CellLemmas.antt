@@ -1,9 +1,7 @@
 -- The cells and elements that a section names.
-use Rattle.std.proofs.Common.{◌≡◌, ℕ, ℤ, zero, suc, ◌+◌, ◌<◌, ◌≤◌, Bool, true, false, ◌&&◌, ◌||◌, List, refl, sym, ap, ◌∙◌, arith, inl, inr}
+use Rattle.std.proofs.Common.{◌≡◌, ℕ, zero, suc, ◌+◌, ◌<◌, ◌≤◌, Bool, true, false, ◌&&◌, ◌||◌, List, refl, sym, ap, ◌∙◌, arith, inl, inr}
 use Rattle.std.specs.Prelude.{◌==◌, is_some}
-use Rattle.std.specs.Ordering.{int_eq}
 use Rattle.std.proofs.lemmas.Bool.{and_parts, or_parts, eqb-true, cases_eq}
-use Rattle.std.proofs.lemmas.Bool.Decides.{nat_tests, Decides-int_eq}
 use Rattle.fh_time.specs.declared.values.Slot.{Slot}
 use Rattle.unit_model.specs.Blocks.{data_covers, data_slot, first_data_prb, data_prb_count}
 use Rattle.unit_model.specs.Claims.{same_slot, same_way, is_from, first_prb, prb_count, covers, in_mask, names, cell_at, cell_of, is_other, is_overlapped, overlaps, some_cell, claim_at}
@@ -11,33 +9,7 @@ use Rattle.unit_model.specs.Lists.{some}
 use Rattle.unit_model.specs.declared.allocations.Allocation.{Allocation}
 use Rattle.unit_model.specs.declared.cells.Cell.{Cell}
 use Rattle.unit_model.specs.declared.decoded.UserSection.{UserSection}
-
-pub slots_equal : (a b : Slot) → same_slot a b ≡ true → a ≡ b
-slots_equal a b h =
-    let outer = and_parts (int_eq a.frame b.frame) ((a.subframe == b.subframe) && (a.slot == b.slot)) h in
-    let inner = and_parts (a.subframe == b.subframe) (a.slot == b.slot) outer.1 in
-    let f : a.frame ≡ b.frame = (Decides-int_eq a.frame b.frame).0 outer.0 in
-    let s : a.subframe ≡ b.subframe = eqb-true a.subframe b.subframe inner.0 in
-    let t : a.slot ≡ b.slot = eqb-true a.slot b.slot inner.1 in
-    same_fields a b f s t
-  where
-    same_fields : (a b : Slot) → a.frame ≡ b.frame → a.subframe ≡ b.subframe → a.slot ≡ b.slot → a ≡ b
-    same_fields a b f s t =
-        ap (λ (x : ℤ). let r : Slot = record { frame = x; subframe = a.subframe; slot = a.slot } in r) f
-        ∙ ap (λ (x : ℕ). let r : Slot = record { frame = b.frame; subframe = x; slot = a.slot } in r) s
-        ∙ ap (λ (x : ℕ). let r : Slot = record { frame = b.frame; subframe = b.subframe; slot = x } in r) t
-
-pub ways_equal : (a b : Bool) → same_way a b ≡ true → a ≡ b
-ways_equal true true h = refl
-ways_equal true false h = absurd cc
-ways_equal false true h = absurd cc
-ways_equal false false h = refl
-
-pub from_first : (first count n : ℕ) → is_from first count n ≡ true → first ≤ n
-from_first first count n h = grind (arith, nat_tests)
-
-pub from_within : (first count n : ℕ) → is_from first count n ≡ true → n < first + count
-from_within first count n h = grind (arith, nat_tests)
+use Rattle.unit_model.proofs.ClaimLemmas.{same_way_is as ways_equal, same_slot_is as slots_equal, starts_before as from_first, from_within}
 
 -- what it is to cover a cell
 pub record Covers (a : Allocation) (cell : Cell) : Type 0 where

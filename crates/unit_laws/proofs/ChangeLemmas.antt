@@ -115,7 +115,7 @@ claim_stays d (c ∷ later) earlier cell re claim below there =
 
 -- ---- blocks
 
-or_else_none : (o : Option Block) → or_else o None ≡ o
+pub or_else_none : (o : Option Block) → or_else o None ≡ o
 or_else_none None = refl
 or_else_none (Some b) = refl
 

@@ -1,10 +1,9 @@
 -- No cell is told twice where the symbols are gone over in the order of time.
-use Rattle.std.proofs.Common.{◌≡◌, ℕ, ℤ, pos, zero, suc, ◌+◌, ◌<◌, ◌≤◌, ◌+ℤ◌, ◌≤ℤ◌, ◌<ℤ◌, Bool, true, false, ◌&&◌, List, [], ◌∷◌, ◌++◌, length, refl, sym, ap, ap₂, ◌∙◌, subst, arith}
+use Rattle.std.proofs.Common.{◌≡◌, ℕ, ℤ, pos, zero, suc, ◌+◌, ◌<◌, ◌≤◌, ◌+ℤ◌, ◌≤ℤ◌, ◌<ℤ◌, Bool, true, false, List, [], ◌∷◌, ◌++◌, length, refl, sym, ap, ap₂, ◌∙◌, subst, arith}
 use Rattle.std.specs.Prelude.{All, ◌==◌, if◌then◌else◌, filter, cond, slice_index}
 use Rattle.std.specs.Int.{int_gap}
 use Rattle.std.specs.Ordering.{int_eq}
 use Rattle.std.proofs.lemmas.Bool.{and_parts, and_from, eqb-true, eq-eqb, false_from_ne_true}
-use Rattle.std.proofs.lemmas.Bool.Decides.{Decides-int_eq}
 use Rattle.std.proofs.lemmas.Int.{ints}
 use Rattle.std.proofs.lemmas.List.Elements.{All-nil, All-cons, All-head, All-tail, All-append, All-weaker, All-filter}
 use Rattle.fh_time.specs.Air.{air_of}
@@ -21,9 +20,10 @@ use Rattle.unit_model.specs.Radiated.{is_down}
 use Rattle.unit_model.specs.Standing.{same_cell}
 use Rattle.unit_model.specs.Sweeps.{OfSymbol, at_tick, first_swept, of_endpoint, of_endpoints, of_frame, of_slot, of_subframe, of_symbol, slot_at, sweep}
 use Rattle.unit_laws.specs.Due.{AreDifferent}
-use Rattle.unit_laws.proofs.CellLemmas.{slots_equal, ways_equal}
 use Rattle.unit_laws.proofs.FarLemmas.{endpoints_equal}
 use Rattle.unit_laws.proofs.SweepLemmas.{IsKept, each_related, of_symbol_related, of_slot_related, of_subframe_related, of_frame_related, of_endpoint_related, of_endpoints_related, at_tick_related, each_tick_related}
+use Rattle.unit_model.proofs.ClaimLemmas.{same_way_is as ways_equal, same_slot_is as slots_equal, way_self, slot_self}
+use Rattle.fh_time.proofs.Orders.{both_ways, beyond_next, not_later}
 
 -- ---- two reports of one cell
 
@@ -48,15 +48,6 @@ same_is a b h =
       prb = eqb-true a.prb b.prb three.1;
     }
 
-slot_self : (s : Slot) → same_slot s s ≡ true
-slot_self s =
-    and_from (int_eq s.frame s.frame) ((s.subframe == s.subframe) && (s.slot == s.slot)) ((Decides-int_eq s.frame s.frame).1 refl)
-    (and_from (s.subframe == s.subframe) (s.slot == s.slot) (eq-eqb s.subframe s.subframe refl) (eq-eqb s.slot s.slot refl))
-
-way_self : (a : Bool) → same_way a a ≡ true
-way_self true = refl
-way_self false = refl
-
 pub same_from : (a b : AirCell) → IsSame a b → same_cell a b ≡ true
 same_from a b is =
     and_from (same_way (is_down a.side) (is_down b.side)) _ (subst (λ (w : Bool). same_way (is_down a.side) w ≡ true) is.way (way_self (is_down a.side)))
@@ -72,10 +63,6 @@ IsOther a b = same_cell a b ≡ false
 
 other_from : (a b : AirCell) → (IsSame a b → ⊥) → IsOther a b
 other_from a b never = false_from_ne_true (same_cell a b) (λ t. never (same_is a b t))
-
-both_ways : (b : Bool) → b ≡ true → b ≡ false → ⊥
-both_ways true h k = cc
-both_ways false h k = cc
 
 pub other_swap : (a b : AirCell) → IsOther a b → IsOther b a
 other_swap a b h = other_from b a (λ is. both_ways (same_cell a b) (same_from a b (record { way = sym is.way; id = sym is.id; slot = sym is.slot; symbol = sym is.symbol; prb = sym is.prb })) h)
@@ -135,12 +122,6 @@ pub record LaterTick (Q : ℤ → AirCell → Type 0) (from : ℤ) (b : AirCell)
   pub at : ℤ
   pub after : from ≤ℤ at
   pub is : Q at b
-
-above_next : (from s : ℤ) → (from +ℤ pos 1) ≤ℤ s → from ≤ℤ s
-above_next from s h = omega (arith, ints)
-
-beyond_next : (from s : ℤ) → (from +ℤ pos 1) ≤ℤ s → from <ℤ s
-beyond_next from s h = omega (arith, ints)
 
 ticks_differ : (Q : ℤ → AirCell → Type 0) → ((s t : ℤ) (a b : AirCell) → s <ℤ t → Q s a → Q t b → IsSame a b → ⊥) → (from : ℤ) (n : ℕ) (f : ℤ → List AirCell)
     → ((s : ℤ) → All (Q s) (f s)) → ((s : ℤ) → AreDifferent (f s)) → AreDifferent (each_tick from n f)
@@ -295,9 +276,6 @@ tick_own g tells es s =
       id = is.id;
       starts = ap₂ (λ (x : Slot) (y : ℕ). air_of e.numerology x y) is.slot_is is.symbol_is ∙ swept.starts;
     }) (g ep e slot symbol) (tells.own ep e slot symbol))
-
-not_later : (s t : ℤ) → s <ℤ t → s ≡ t → ⊥
-not_later s t h e = omega (arith, ints)
 
 ticks_apart : (es : List EndpointConfig) → AppearOnce (ids_of es) → (s t : ℤ) (a b : AirCell) → s <ℤ t → IsAtTick es s a → IsAtTick es t b → IsSame a b → ⊥
 ticks_apart es once s t a b less p q is =

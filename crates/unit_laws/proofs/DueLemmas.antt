@@ -1,8 +1,8 @@
 -- What is due falls apart at each time.
-use Rattle.std.proofs.Common.{◌≡◌, ℕ, ℤ, pos, ◌+ℤ◌, ◌-ℤ◌, ◌≤ℤ◌, ◌<ℤ◌, Bool, true, false, not, ◌&&◌, ◌||◌, List, [], ◌∷◌, ◌++◌, refl, sym, ap, ap₂, ◌∙◌, subst, arith, append-nil}
+use Rattle.std.proofs.Common.{◌≡◌, ℕ, ℤ, pos, ◌+ℤ◌, ◌-ℤ◌, ◌≤ℤ◌, Bool, true, false, not, ◌&&◌, ◌||◌, List, [], ◌∷◌, ◌++◌, refl, sym, ap, ap₂, ◌∙◌, subst, append-nil}
 use Rattle.std.specs.Prelude.{All, ◌==◌, if◌then◌else◌, filter, cond}
 use Rattle.std.proofs.lemmas.Bool.{or_left, or_right}
-use Rattle.std.proofs.lemmas.Int.{ints, by_lt_z}
+use Rattle.std.proofs.lemmas.Int.{by_lt_z}
 use Rattle.std.proofs.lemmas.List.Elements.{All-nil, All-cons, All-head, All-tail, All-weaker, All-filter, filter-append}
 use Rattle.std.proofs.lemmas.List.Folds.{list_any-append}
 use Rattle.fh_time.specs.Air.{air_of}
@@ -18,6 +18,7 @@ use Rattle.unit_model.specs.Sweeps.{sweep}
 use Rattle.unit_laws.specs.Due.{AreDifferent, ReportedAreDifferent, DueAreDifferent, AllIsDue, DueInPieces, DueOnce, DueAppends}
 use Rattle.unit_laws.proofs.DifferLemmas.{IsOther, IsOwn, TellsOwn, all_kept, differ-append, differ-filter, differ-parts, each_differ, not_less, other_swap, same_self, sweep_differ}
 use Rattle.unit_laws.proofs.SweepLemmas.{IsKept, each_related, sweep_related, sweep-append, sweep-none, sweep-same}
+use Rattle.fh_time.proofs.Orders.{up_to, weak}
 
 -- ---- filters
 
@@ -89,7 +90,7 @@ left_unheard xs ys differ =
 
 -- ---- the cells of a symbol are its own, and no two are the same
 
-one_or_none : (P : AirCell → Type 0) (b : Bool) (a : AirCell) → P a → All P (if b then [] else a ∷ [])
+pub one_or_none : (P : AirCell → Type 0) (b : Bool) (a : AirCell) → P a → All P (if b then [] else a ∷ [])
 one_or_none P true a h = All-nil P
 one_or_none P false a h = All-cons P a [] h (All-nil P)
 
@@ -159,7 +160,7 @@ still_passes : (side : Side) (k : Known) (heard : List AirCell) (ep : ℕ) (e : 
 unfolding still_reported
 still_passes side k heard ep e slot symbol = all_pass (unheard heard) (symbol_report side k ep e slot symbol)
 
-all_front : (P : AirCell → Type 0) (xs ys : List AirCell) → All P (xs ++ ys) → All P xs
+pub all_front : (P : AirCell → Type 0) (xs ys : List AirCell) → All P (xs ++ ys) → All P xs
 all_front P [] ys h = All-nil P
 all_front P (x ∷ xs) ys h = All-cons P x xs (All-head P x (xs ++ ys) h) (all_front P xs ys (All-tail P x (xs ++ ys) h))
 
@@ -217,12 +218,6 @@ due_in_pieces side d es k heard told rest to once is =
 
 pub due_once : DueOnce
 due_once side d es k heard to once = due_in_pieces side d es k heard (due side d es k heard to) [] to once (sym (append-nil (due side d es k heard to)))
-
-up_to : (t u w : ℤ) → t ≤ℤ u → ((t -ℤ w) +ℤ pos 1) ≤ℤ ((u -ℤ w) +ℤ pos 1)
-up_to t u w h = omega (arith, ints)
-
-weak : (a b : ℤ) → a <ℤ b → a ≤ℤ b
-weak a b h = omega (arith, ints)
 
 -- what is due up to a later time begins with what is due up to an earlier one
 pub due_begins : (side : Side) (d : Delays) (es : List EndpointConfig) (k : Known) (heard : List AirCell) (to later : ℤ) → to ≤ℤ later

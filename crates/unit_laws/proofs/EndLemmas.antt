@@ -19,18 +19,21 @@ use Rattle.unit_laws.specs.Ends.{CellsEnd, JobsEnd, NoCellsLater, NoJobsLater}
 use Rattle.unit_laws.specs.Far.{IsFar}
 use Rattle.unit_laws.specs.Swept.{IsSwept}
 use Rattle.unit_laws.proofs.AheadLemmas.{no_jobs_ahead, no_reports_ahead}
-use Rattle.unit_laws.proofs.SweepLemmas.{sweep-append, sweep-nothing, tick-nothing}
+use Rattle.unit_laws.proofs.SweepLemmas.{sweep-append, tick-nothing}
+use Rattle.fh_time.specs.declared.frames.TheConstants.{FRAME}
+use Rattle.window_config.specs.declared.delays.TheConstants.{MOST_DELAY}
+use Rattle.unit_model.proofs.SweepLaws.{sweep_quiet as sweep-nothing}
 
-most_before : (up advance command : ℤ) → up ≤ℤ pos 2000000 → advance ≤ℤ pos 2000000 → command ≤ℤ pos 2000000
+most_before : (up advance command : ℤ) → up ≤ℤ pos MOST_DELAY → advance ≤ℤ pos MOST_DELAY → command ≤ℤ pos MOST_DELAY
     → int_max (int_max up (up +ℤ advance)) command ≤ℤ pos 4000000
 most_before up advance command a b c = omega (arith, ints, clamps)
 
-reach_small : (d : Delays) → IsWithinLimits d → (ru_reach_of d).before ≤ℤ pos 4000000
+pub reach_small : (d : Delays) → IsWithinLimits d → (ru_reach_of d).before ≤ℤ pos 4000000
 reach_small d limits = most_before d.t2a_up.max d.advance d.t2a_cp_ul.max limits.t2a_up.high limits.advance.high limits.t2a_cp_ul.high
 
 -- a slot of one of the frames that are gone over at a tick begins less than 100 ms before it
-begins_later : (clock tick q frame before : ℤ) (offset : ℕ) → (clock +ℤ pos 1536000000000) ≤ℤ tick → tick <ℤ (q *ℤ pos 15360000000 +ℤ pos 15360000000)
-    → (q -ℤ pos 5) ≤ℤ frame → before ≤ℤ pos 4000000 → clock <ℤ ((frame *ℤ pos 15360000000 +ℤ pos offset) -ℤ (before *ℤ pos 1536))
+begins_later : (clock tick q frame before : ℤ) (offset : ℕ) → (clock +ℤ pos 1536000000000) ≤ℤ tick → tick <ℤ (q *ℤ FRAME +ℤ FRAME)
+    → (q -ℤ pos 5) ≤ℤ frame → before ≤ℤ pos 4000000 → clock <ℤ ((frame *ℤ FRAME +ℤ pos offset) -ℤ (before *ℤ pos 1536))
 begins_later clock tick q frame before offset a b c d = omega (arith, ints)
 
 far_later : (d : Delays) (es : List EndpointConfig) (ep : ℕ) (e : EndpointConfig) (slot : Slot) (symbol : ℕ) (clock tick : ℤ) → IsWithinLimits d

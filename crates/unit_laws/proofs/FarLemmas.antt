@@ -1,8 +1,7 @@
 -- Of a slot that no message can name yet, nothing is known.
-use Rattle.std.proofs.Common.{◌≡◌, ℕ, ℤ, ◌-ℤ◌, ◌≤ℤ◌, ◌<ℤ◌, false, List, [], ◌∷◌, inl, inr, refl, sym, ap, ◌∙◌, subst, arith}
+use Rattle.std.proofs.Common.{◌≡◌, ℕ, ℤ, ◌-ℤ◌, false, List, [], ◌∷◌, inl, inr, refl, sym, ap, ◌∙◌, subst}
 use Rattle.std.specs.Prelude.{All, Some, None, Option, ◌==◌, slice_get, unwrap_or, cond}
 use Rattle.std.proofs.lemmas.Bool.{and_parts, eqb-true}
-use Rattle.std.proofs.lemmas.Int.{ints}
 use Rattle.std.proofs.lemmas.List.Elements.{All-nil, All-cons, All-head, All-tail}
 use Rattle.fh_time.specs.Air.{air_of}
 use Rattle.fh_time.specs.declared.numerology.Numerology.{Numerology}
@@ -20,9 +19,11 @@ use Rattle.unit_model.specs.Standing.{uplink_of}
 use Rattle.unit_model.specs.declared.allocations.Allocation.{Allocation}
 use Rattle.unit_laws.specs.Far.{WasLive, IsFar, IsReached, IsReachedData, IsHeard, IsHeardData, AcceptedAreReached, TimelyAreReached, FarIsUnclaimed, FarHasNoUplink, FarHasNoBlock}
 use Rattle.unit_laws.specs.Touched.{is_uplink_of}
-use Rattle.unit_laws.proofs.CellLemmas.{slots_equal, covers_is, data_covers_is}
+use Rattle.unit_laws.proofs.CellLemmas.{covers_is, data_covers_is}
 use Rattle.unit_laws.proofs.ChangeLemmas.{accepted_more, timely_more, claim_same, block_same, either_way}
 use Rattle.unit_laws.proofs.LiveLemmas.{command_live, data_live}
+use Rattle.unit_model.proofs.ClaimLemmas.{same_slot_is as slots_equal}
+use Rattle.fh_time.proofs.Orders.{beyond}
 
 -- the endpoint with an index
 pub endpoints_equal : (es : List EndpointConfig) (i j : ℕ) (e f : EndpointConfig) → IsAt es i e → IsAt es j f → i ≡ j → e ≡ f
@@ -30,14 +31,11 @@ endpoints_equal es i j e f at_i at_j same =
     let both : Some e ≡ Some f = sym at_i ∙ ap (slice_get es) same ∙ at_j in
     ap (λ (o : Option EndpointConfig). unwrap_or o e) both
 
-beyond : (x when clock : ℤ) → x ≤ℤ when → when ≤ℤ clock → clock <ℤ x → ⊥
-beyond x when clock a b c = omega (arith, ints)
-
 -- a slot that was live is not far
-not_far : (n : Numerology) (r : Reach) (clock : ℤ) (slot : Slot) → WasLive n r clock slot → IsFar n r clock slot → ⊥
+pub not_far : (n : Numerology) (r : Reach) (clock : ℤ) (slot : Slot) → WasLive n r clock slot → IsFar n r clock slot → ⊥
 not_far n r clock slot was far = beyond (air_of n slot 0 -ℤ ticks_of_ns r.before) was.when clock was.live.begun was.come far
 
-far_other : (es : List EndpointConfig) (r : Reach) (clock : ℤ) (i j : ℕ) (e f : EndpointConfig) (s t : Slot) → IsAt es i e → IsAt es j f → i ≡ j → s ≡ t
+pub far_other : (es : List EndpointConfig) (r : Reach) (clock : ℤ) (i j : ℕ) (e f : EndpointConfig) (s t : Slot) → IsAt es i e → IsAt es j f → i ≡ j → s ≡ t
     → WasLive e.numerology r clock s → IsFar f.numerology r clock t → ⊥
 far_other es r clock i j e f s t at_i at_j same slots was far =
     let was_f : WasLive f.numerology r clock s = subst (λ (x : EndpointConfig). WasLive x.numerology r clock s) (endpoints_equal es i j e f at_i at_j same) was in

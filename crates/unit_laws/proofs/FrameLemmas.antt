@@ -1,8 +1,8 @@
 -- Each symbol is gone over at the tick at which it starts.
-use Rattle.std.proofs.Common.{◌≡◌, ℕ, ℤ, pos, negsuc, zero, suc, ◌+◌, ◌-◌, ◌*◌, ◌^◌, ◌<◌, ◌≤◌, ◌+ℤ◌, ◌-ℤ◌, ◌*ℤ◌, ◌≤ℤ◌, ◌<ℤ◌, inl, inr, List, [], refl, ◌∙◌, subst, arith}
+use Rattle.std.proofs.Common.{◌≡◌, ℕ, ℤ, pos, negsuc, ◌+◌, ◌-◌, ◌*◌, ◌^◌, ◌<◌, ◌≤◌, ◌+ℤ◌, ◌-ℤ◌, ◌*ℤ◌, ◌≤ℤ◌, ◌<ℤ◌, inl, inr, List, [], refl, ◌∙◌, subst, arith}
 use Rattle.std.specs.Prelude.{IfSome}
 use Rattle.std.proofs.lemmas.Int.{ints}
-use Rattle.std.proofs.Math.IntN.{suc_ℤ, suc_ℤ-*ℤ, zero-*ℤ, pos-*ℤ-pos}
+use Rattle.std.proofs.Math.IntN.{pos-*ℤ-pos}
 use Rattle.fh_time.specs.Air.{air_of}
 use Rattle.fh_time.specs.Kinds.{kind_least_slot, kind_offsets, kind_slots, kind_span, kind_start}
 use Rattle.fh_time.specs.Numbering.{IsSlotOf, slots_of, symbols_of}
@@ -13,12 +13,14 @@ use Rattle.fh_time.specs.declared.spacing.Spacing.{Spacing}
 use Rattle.fh_time.specs.declared.spacing.Spacing.TheVariants.{Khz15, Khz30, Khz60, Khz120, Khz240, Khz1x25, Khz5}
 use Rattle.fh_time.specs.declared.values.Slot.{Slot}
 use Rattle.fh_time.proofs.Euclid.{frame_floor}
-use Rattle.fh_time.proofs.Order.{kind_covers, kind_left, slots_few}
+use Rattle.fh_time.proofs.Order.{kind_covers, kind_left, slots_few, times_later}
 use Rattle.window_config.specs.declared.endpoints.EndpointConfig.{EndpointConfig}
 use Rattle.unit_model.specs.Sweeps.{first_swept, frame_of_tick, of_endpoint, of_slot, slot_at}
 use Rattle.unit_laws.specs.Runs.{OffsetsFit, SymbolsAreSwept, IsElsewhere, each_slot}
 use Rattle.unit_laws.proofs.RunLemmas.{endpoint_is, rows_same}
 use Rattle.unit_laws.proofs.SweepLemmas.{none_kept, of_slot_related}
+use Rattle.fh_time.specs.declared.frames.TheConstants.{FRAME}
+use Rattle.unit_laws.specs.Runs.{EndpointInARow}
 
 -- ---- how long after its frame a symbol starts
 
@@ -56,8 +58,8 @@ symbol_short n slot symbol short is h =
     six_frames slot.subframe (kind_start n.kind slot.slot symbol) (kind_start n.kind slot.slot 0) (kind_start n.kind 0 0) (kind_span n.kind)
     ((kind_slots n.kind - slot.slot) * kind_least_slot n.kind) is.subframe (kind_covers n.kind slot.slot symbol h) (kind_left n.kind slot.slot is.slot) (kind_short n.kind short)
 
-frames_near : (frame q : ℤ) (offset : ℕ) → offset < 92160000000 → (q *ℤ pos 15360000000) ≤ℤ (frame *ℤ pos 15360000000 +ℤ pos offset)
-    → (frame *ℤ pos 15360000000 +ℤ pos offset) <ℤ (q *ℤ pos 15360000000 +ℤ pos 15360000000)
+frames_near : (frame q : ℤ) (offset : ℕ) → offset < 92160000000 → (q *ℤ FRAME) ≤ℤ (frame *ℤ FRAME +ℤ pos offset)
+    → (frame *ℤ FRAME +ℤ pos offset) <ℤ (q *ℤ FRAME +ℤ FRAME)
     → ((q -ℤ pos 5) ≤ℤ frame) × (frame <ℤ ((q -ℤ pos 5) +ℤ pos 6))
 frames_near frame q offset h low high = (omega (arith, ints), omega (arith, ints))
 
@@ -73,20 +75,6 @@ symbols_are_swept es ep e slot symbol at short is h =
     record { endpoint = at; slot_is = is; symbol_is = h; frame_low = frames.0; frame_high = frames.1; starts = refl }
 
 -- ---- the slots of six frames
-
-next_ℤ : (z : ℤ) → suc_ℤ z ≡ z +ℤ pos 1
-next_ℤ (pos n) = omega (arith, ints)
-next_ℤ (negsuc zero) = refl
-next_ℤ (negsuc (suc n)) = omega (arith, ints)
-
-times_later : (a k : ℤ) (m : ℕ) → (a +ℤ pos m) *ℤ k ≡ a *ℤ k +ℤ pos m *ℤ k
-times_later a k zero =
-    let here : a +ℤ pos 0 ≡ a = omega (arith, ints) in
-    rw here (rw (zero-*ℤ k) (omega (arith, ints)))
-times_later a k (suc m) =
-    let here : a +ℤ pos (suc m) ≡ suc_ℤ (a +ℤ pos m) = rw (next_ℤ (a +ℤ pos m)) (omega (arith, ints)) in
-    let there : pos (suc m) ≡ suc_ℤ (pos m) = rw (next_ℤ (pos m)) (omega (arith, ints)) in
-    rw here (rw there (rw (suc_ℤ-*ℤ (a +ℤ pos m) k) (rw (suc_ℤ-*ℤ (pos m) k) (omega (arith, ints, times_later a k m)))))
 
 times_on : (a b : ℤ) (m s : ℕ) → b ≡ a +ℤ pos m → b *ℤ pos s ≡ a *ℤ pos s +ℤ pos (m * s)
 times_on a b m s e = rw e (rw (times_later a (pos s) m) (rw (pos-*ℤ-pos m s) refl))
@@ -156,3 +144,7 @@ endpoint_in_a_row g e tick start count short is none =
     absurd (among_six n first u is_u (subst (λ (t : ℤ). first_swept t ≤ℤ u.frame) starts frames.0)
     (subst (λ (t : ℤ). u.frame <ℤ (first_swept t +ℤ pos 6)) starts frames.1) elsewhere)))
     (λ u is_u elsewhere. slot_none g e tick u (λ symbol h starts. none u symbol is_u elsewhere h starts))
+
+-- the law, as it is stated
+pub endpoints_in_a_row : {A : Type 0} → EndpointInARow A
+endpoints_in_a_row = endpoint_in_a_row

@@ -10,8 +10,8 @@ use Rattle.cplane_sections.specs.declared.values.CHead.{CHead}
 use Rattle.cplane_sections.specs.declared.values.CRefusal.{CRefusal}
 use Rattle.cplane_sections.specs.Tests.{checked}
 use Rattle.cplane_sections.proofs.Admitted.{admitted, fits}
-use Rattle.ecpri_fragments.specs.Generations.{Fragment, Generation, begun, generations, generations_of, held_in, is_of, is_within, joined, of_id, seen, with_fragment}
-use Rattle.ecpri_fragments.specs.Verdicts.{first_of, message, refused, standing, standing_before, verdict_on, with_one}
+use Rattle.ecpri_fragments.specs.Generations.{Fragment}
+use Rattle.ecpri_fragments.specs.Verdicts.{first_of, message, standing_before, verdict_on}
 use Rattle.ecpri_fragments.specs.declared.verdict.Verdict.{Verdict}
 use Rattle.ecpri_fragments.specs.declared.verdict.Verdict.TheVariants as fragment
 use Rattle.ecpri_frames.specs.Gathering.{whole_messages}
@@ -27,9 +27,11 @@ use Rattle.unit_laws.specs.Far.{IsHeard, IsHeardData}
 use Rattle.unit_laws.specs.Histories.{CommandsAreHeard, DataAreHeard, CommandsAreProper, DataAreProper}
 use Rattle.unit_laws.proofs.OrderLemmas.{All-onto}
 use Rattle.unit_laws.proofs.ReadLemmas.{IsReadCommand, IsReadData, commands_read, decode_read}
-
-at_most : (a b c : ℤ) → a ≤ℤ b → b ≤ℤ c → a ≤ℤ c
-at_most a b c h k = omega (arith, ints)
+use Rattle.ecpri_frames.specs.declared.heads.TheConstants.{ONE_WAY_DELAY}
+use Rattle.ecpri_frames.specs.declared.heads.TheConstants.{REAL_TIME_CONTROL}
+use Rattle.ecpri_frames.specs.declared.heads.TheConstants.{IQ_DATA}
+use Rattle.ecpri_fragments.proofs.Standing.{all_stood}
+use Rattle.fh_time.proofs.Orders.{at_most}
 
 same_most : (a : ℤ) → a ≤ℤ a
 same_most a = omega (arith, ints)
@@ -52,7 +54,7 @@ find_at start (f ∷ fs) id ep e h = go (f.id == id) h (find_at (start + 1) fs i
         record { place = 0; ep_is = omega (arith, number); at = ap (λ (x : EndpointConfig). Some x) same }
     go false found rest = let r = rest found in record { place = suc r.place; ep_is = omega (arith, r.ep_is); at = r.at }
 
-found_at : (es : List EndpointConfig) (id ep : ℕ) (e : EndpointConfig) → find_endpoint es id ≡ Some (ep, e) → IsAt es ep e
+pub found_at : (es : List EndpointConfig) (id ep : ℕ) (e : EndpointConfig) → find_endpoint es id ≡ Some (ep, e) → IsAt es ep e
 found_at es id ep e h =
     let found = find_at 0 es id ep e h in
     let same : found.place ≡ ep = omega (arith, found.ep_is) in
@@ -63,51 +65,6 @@ found_at es id ep e h =
 pub record IsBy (T : ℤ → Type 0) (clock : ℤ) (f : Fragment) : Type 0 where
   pub time : T f.at
   pub by : f.at ≤ℤ clock
-
-ids_kept : (P : Fragment → Type 0) (ep seq : ℕ) (fs : List Fragment) → All P fs → All P (of_id ep seq fs)
-ids_kept P ep seq [] h = All-nil P
-ids_kept P ep seq (f ∷ fs) h = go (is_of ep seq f) (ids_kept P ep seq fs (All-tail P f fs h))
-  where
-    go : (b : Bool) → All P (of_id ep seq fs) → All P (if b then f ∷ of_id ep seq fs else of_id ep seq fs)
-    go true rest = All-cons P f (of_id ep seq fs) (All-head P f fs h) rest
-    go false rest = rest
-
-abbrev AllHeld : (Fragment → Type 0) → List Generation → Type 0
-AllHeld P [] = Unit {0}
-AllHeld P (g ∷ gs) = All P g.held × AllHeld P gs
-
-one_more : (P : Fragment → Type 0) (hold : ℤ) (f : Fragment) (gs : List Generation) → P f → AllHeld P gs → AllHeld P (with_fragment hold f gs)
-one_more P hold f [] p h = (All-cons P f [] p (All-nil P), tt)
-one_more P hold f (g ∷ gs) p h = go (is_within hold g.start f.at)
-  where
-    go : (b : Bool) → AllHeld P (if b then joined f g ∷ gs else begun f ∷ g ∷ gs)
-    go true = (All-cons P f g.held p h.0, h.1)
-    go false = (All-cons P f [] p (All-nil P), h)
-
-all_held : (P : Fragment → Type 0) (hold : ℤ) (fs : List Fragment) → All P fs → AllHeld P (generations hold fs)
-all_held P hold [] h = tt
-all_held P hold (f ∷ fs) h = one_more P hold f (generations hold fs) (All-head P f fs h) (all_held P hold fs (All-tail P f fs h))
-
-held_now : (P : Fragment → Type 0) (hold at : ℤ) (gs : List Generation) → AllHeld P gs → All P (held_in hold at gs)
-held_now P hold at [] h = All-nil P
-held_now P hold at (g ∷ gs) h = go (is_within hold g.start at)
-  where
-    go : (b : Bool) → All P (if b then g.held else [])
-    go true = h.0
-    go false = All-nil P
-
-stand_kept : (P : Fragment → Type 0) (o : Option Verdict) (f : Fragment) (s : List Fragment) → P f → All P s → All P (with_one o f s)
-stand_kept P (Some v) f s p h = h
-stand_kept P None f s p h = All-cons P f s p h
-
-all_stand : (P : Fragment → Type 0) (fs : List Fragment) → All P fs → All P (standing fs)
-all_stand P [] h = All-nil P
-all_stand P (f ∷ fs) h = stand_kept P (refused (standing fs) f) f (standing fs) (All-head P f fs h) (all_stand P fs (All-tail P f fs h))
-
-stood : (P : Fragment → Type 0) (hold : ℤ) (f : Fragment) (earlier : List Fragment) → All P earlier → All P (standing_before hold f earlier)
-stood P hold f earlier h =
-    all_stand P (seen hold f earlier)
-    (held_now P hold f.at (generations_of hold f.ep f.seq earlier) (all_held P hold (of_id f.ep f.seq earlier) (ids_kept P f.ep f.seq earlier h)))
 
 -- the first of them
 first_by : (T : ℤ → Type 0) (clock : ℤ) (f : Fragment) (s : List Fragment) → IsBy T clock f → All (IsBy T clock) s → T (first_of (f ∷ s)) × (first_of (f ∷ s) ≤ℤ clock)
@@ -157,13 +114,13 @@ module _ (es : List EndpointConfig) (T : ℤ → Type 0) where
   found_is side kind at payload None t is = tt
   found_is side kind at payload (Some (ep, e)) t is =
       let i = found_at es (id_of payload) ep e is in
-      choice at (kind == 2) (control_met side ep e at payload) (Piece e (fragment_of ep at payload)) (control_is side ep e at payload i t) (i, t, refl)
+      choice at (kind == REAL_TIME_CONTROL) (control_met side ep e at payload) (Piece e (fragment_of ep at payload)) (control_is side ep e at payload i t) (i, t, refl)
 
   meet_is : (side : Side) (at : ℤ) (m : Message) → T at → MetAt es T at (meet side es at m)
   unfolding meet
   meet_is side at m t =
-      choice at (m.head.kind == 5) _ _ tt
-      (choice at (not (m.head.kind == 0 || m.head.kind == 2)) _ _ tt
+      choice at (m.head.kind == ONE_WAY_DELAY) _ _ tt
+      (choice at (not (m.head.kind == IQ_DATA || m.head.kind == REAL_TIME_CONTROL)) _ _ tt
       (choice at (nat_lt (length m.payload) 4) _ _ tt
       (found_is side m.head.kind at m.payload (find_endpoint es (id_of m.payload)) t refl)))
 
@@ -217,7 +174,7 @@ module _ (es : List EndpointConfig) (T : ℤ → Type 0) where
       let before : h.0 ≤ℤ f.at = subst (λ (z : ℤ). h.0 ≤ℤ z) (sym h.2.2) (same_most h.0) in
       All-append (IsReadData es T) (data_told (data_now side hold e f (fragments earlier))) (data_sections side hold earlier)
       (whole_read side (verdict_on hold f (fragments earlier)) e f (standing_before hold f (fragments earlier)) h.2.0 h.2.1
-      (stood (IsBy T f.at) hold f (fragments earlier) (fragments_by h.0 f.at earlier before h.3)))
+      (all_stood (IsBy T f.at) hold f (fragments earlier) (fragments_by h.0 f.at earlier before h.3)))
       (data_met side hold h.0 earlier h.3)
 
 -- ---- what callers need

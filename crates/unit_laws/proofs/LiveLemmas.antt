@@ -1,5 +1,5 @@
 -- What is on time at a unit is within its reach.
-use Rattle.std.proofs.Common.{◌≡◌, ℤ, pos, ◌<◌, ◌≤ℤ◌, true, false, List, arith}
+use Rattle.std.proofs.Common.{◌≡◌, ℤ, ◌<◌, ◌≤ℤ◌, true, false, List, arith}
 use Rattle.std.specs.Int.{int_max}
 use Rattle.std.proofs.lemmas.Int.{ints, clamps}
 use Rattle.window_config.specs.Limits.{IsWithinLimits}
@@ -20,24 +20,19 @@ use Rattle.unit_model.specs.declared.verdicts.CommandVerdict.TheVariants.{Accept
 use Rattle.window_config.specs.declared.verdicts.Class.TheVariants.{OnTime}
 use Rattle.unit_laws.specs.Live.{AcceptedIsLive, TimelyIsLive}
 use Rattle.unit_laws.proofs.AcceptanceLemmas.{accepted_is_acceptable}
+use Rattle.fh_time.proofs.Orders.{low_one as some_more, not_negative}
 
 first_most : (a b c : ℤ) → a ≤ℤ int_max (int_max a b) c
 first_most a b c = omega (arith, ints, clamps)
 
-second_most : (a b c : ℤ) → b ≤ℤ int_max (int_max a b) c
+pub second_most : (a b c : ℤ) → b ≤ℤ int_max (int_max a b) c
 second_most a b c = omega (arith, ints, clamps)
 
-third_most : (a b c : ℤ) → c ≤ℤ int_max (int_max a b) c
+pub third_most : (a b c : ℤ) → c ≤ℤ int_max (int_max a b) c
 third_most a b c = omega (arith, ints, clamps)
 
 same_time : (t : ℤ) → t ≤ℤ t
 same_time t = omega (arith, ints)
-
-not_negative : (a b : ℤ) → pos 0 ≤ℤ a → a ≤ℤ b → pos 0 ≤ℤ b
-not_negative a b h k = omega (arith, ints)
-
-some_more : (a : ℤ) → pos 1 ≤ℤ a → pos 0 ≤ℤ a
-some_more a h = omega (arith, ints)
 
 -- all that it takes: the symbol is one of the slot's
 pub command_live : (d : Delays) (earlier : List Allocation) (c : ControlSection) → IsWithinLimits d → c.head.start_symbol < symbols_of c.endpoint.numerology

@@ -1,18 +1,14 @@
 -- What a unit has to look up.
-use Rattle.std.proofs.Common.{◌≡◌, ℕ, zero, suc, ◌+◌, ◌<◌, ◌≤◌, Bool, true, false, not, ◌&&◌, ◌||◌, List, [], ◌∷◌, ◌++◌, length, refl, sym, ap, ap₂, ◌∙◌, subst, arith}
-use Rattle.std.specs.Prelude.{Option, ◌==◌, if◌then◌else◌, is_some, filter, reverse, map, cond}
+use Rattle.std.proofs.Common.{◌≡◌, ℕ, ◌+◌, ◌<◌, ◌≤◌, Bool, true, false, ◌&&◌, ◌||◌, List, [], ◌∷◌, ◌++◌, length, refl, sym, ap, ap₂, ◌∙◌, subst, arith}
+use Rattle.std.specs.Prelude.{◌==◌, if◌then◌else◌, is_some, filter, reverse, map, cond}
 use Rattle.std.specs.List.{list_any}
-use Rattle.std.specs.Ordering.{int_eq}
 use Rattle.std.proofs.lemmas.Bool.{and_from, eq-eqb}
-use Rattle.std.proofs.lemmas.Bool.Decides.{nat_tests, Decides-int_eq}
 use Rattle.std.proofs.lemmas.List.{append-nil, reverse-append}
 use Rattle.std.proofs.lemmas.List.Elements.{filter-append}
 use Rattle.fh_time.specs.Air.{air_of}
-use Rattle.fh_time.specs.declared.values.Slot.{Slot}
 use Rattle.unit_model.specs.air_source.specs.declared.events.AirCell.{AirCell}
-use Rattle.fh_time.specs.Carrier.{is_outside, first_of, count_of}
 use Rattle.unit_model.specs.Blocks.{block_at, data_prb_count, data_slot, every_data_cell, first_data_prb, has_all}
-use Rattle.unit_model.specs.Claims.{cell_at, cell_of, claim_at, covers, every_cell, first_prb, in_mask, is_claimed, is_from, is_other, is_overlapped, is_under, overlaps, prb_count, repeats, same_slot, same_way, some_cell}
+use Rattle.unit_model.specs.Claims.{cell_at, cell_of, claim_at, covers, every_cell, first_prb, is_claimed, is_from, is_overlapped, overlaps, prb_count, repeats, same_slot, same_way, some_cell}
 use Rattle.unit_model.specs.Commands.{is_uplink, uplink_in}
 use Rattle.unit_model.specs.Lists.{every, in_order, some}
 use Rattle.unit_model.specs.Proper.{IsAt, IsSlot}
@@ -21,18 +17,15 @@ use Rattle.unit_model.specs.Standing.{cell_heard, same_cell, uplink_of}
 use Rattle.unit_model.specs.Uplink.{is_before, job_of, sends_in, symbol_jobs}
 use Rattle.unit_model.specs.declared.allocations.Allocation.{Allocation}
 use Rattle.unit_model.specs.declared.cells.Cell.{Cell}
-use Rattle.unit_model.specs.declared.cells.Claim.{Claim}
-use Rattle.unit_laws.specs.Lookups.{CoveredAreCells, DataCoverCells, RepeatsByLookup, OverlapsByLookup, HasAllByLookup, UplinkIsCounted, JobsAreOfTheirSlot, ReportedByMark}
-use Rattle.unit_laws.proofs.CellLemmas.{covers_is, data_covers_is, from_within}
+use Rattle.unit_laws.specs.Lookups.{CoveredAreCells, DataCoverCells, RepeatsByLookup, OverlapsByLookup, HasAllByLookup, UplinkIsCounted, JobsAreOfTheirSlot, ReportedByLookup}
+use Rattle.unit_laws.proofs.CellLemmas.{covers_is, data_covers_is}
 use Rattle.unit_laws.proofs.DifferLemmas.{other_swap}
 use Rattle.unit_laws.proofs.DueLemmas.{filter_both}
 use Rattle.unit_laws.specs.Touched.{is_uplink_of}
+use Rattle.unit_model.proofs.ClaimLemmas.{within_carrier, is_in, way_self, slot_self, every_same, some_same, claimed_same, overlapped_same, from_within}
+use Rattle.fh_time.proofs.Orders.{same_below}
 
 -- ---- the cells that are covered
-
--- PRBs that are not outside of a carrier
-within_carrier : (prbs start num n : ℕ) → is_outside prbs start num ≡ false → is_from (first_of start num) (count_of prbs num) n ≡ true → n < prbs
-within_carrier prbs start num n inside here = grind (arith, nat_tests)
 
 below_all : (symbol count all y : ℕ) → symbol + count ≤ all → y < symbol + count → y < all
 below_all symbol count all y h k = omega arith
@@ -47,9 +40,6 @@ covered_cells c a cell proper covered =
       prb = within_carrier a.endpoint.prbs a.start_prb a.num_prb cell.prb proper.prbs is.prb;
     }
 
-same_below : (x y n : ℕ) → x < n → x ≡ y → y < n
-same_below x y n h e = omega arith
-
 pub data_cover_cells : DataCoverCells
 data_cover_cells c x cell proper slot covered =
     let is = data_covers_is x cell covered in
@@ -60,36 +50,12 @@ data_cover_cells c x cell proper slot covered =
       prb = within_carrier x.endpoint.prbs x.section.start_prb x.section.num_prb cell.prb proper.within is.prb;
     }
 
-is_in : (first count n : ℕ) → first ≤ n → n < first + count → is_from first count n ≡ true
-is_in first count n h k = grind (arith, nat_tests)
-
-way_self : (b : Bool) → same_way b b ≡ true
-way_self true = refl
-way_self false = refl
-
-slot_self : (s : Slot) → same_slot s s ≡ true
-slot_self s =
-    and_from (int_eq s.frame s.frame) ((s.subframe == s.subframe) && (s.slot == s.slot)) ((Decides-int_eq s.frame s.frame).1 refl)
-    (and_from (s.subframe == s.subframe) (s.slot == s.slot) (eq-eqb s.subframe s.subframe refl) (eq-eqb s.slot s.slot refl))
-
 covers_own : (a : Allocation) (y n : ℕ) → a.symbol ≤ y → y < a.symbol + a.num_symbol → first_prb a ≤ n → n < first_prb a + prb_count a → covers a (cell_of a y n) ≡ true
 covers_own a y n p q r s =
     and_from (a.ep == a.ep) _ (eq-eqb a.ep a.ep refl)
     (and_from (same_way a.down a.down) _ (way_self a.down)
     (and_from (same_slot a.slot a.slot) _ (slot_self a.slot)
     (and_from (is_from a.symbol a.num_symbol y) (is_from (first_prb a) (prb_count a) n) (is_in a.symbol a.num_symbol y p q) (is_in (first_prb a) (prb_count a) n r s))))
-
-every_same : (from n : ℕ) (p q : ℕ → Bool) → ((k : ℕ) → from ≤ k → k < from + n → p k ≡ q k) → every from n p ≡ every from n q
-unfolding every
-every_same from zero p q same = refl
-every_same from (suc n) p q same =
-    ap₂ ◌&&◌ (same from (omega arith) (omega arith)) (every_same (from + 1) n p q (λ k above below. same k (omega arith) (omega arith)))
-
-some_same : (from n : ℕ) (p q : ℕ → Bool) → ((k : ℕ) → from ≤ k → k < from + n → p k ≡ q k) → some from n p ≡ some from n q
-unfolding some
-some_same from zero p q same = refl
-some_same from (suc n) p q same =
-    ap₂ ◌||◌ (same from (omega arith) (omega arith)) (some_same (from + 1) n p q (λ k above below. same k (omega arith) (omega arith)))
 
 -- a test of all cells rests on those that are covered
 pub every_cell-same : (a : Allocation) (p q : Cell → Bool) → ((cell : Cell) → covers a cell ≡ true → p cell ≡ q cell) → every_cell a p ≡ every_cell a q
@@ -105,16 +71,6 @@ some_cell-same a p q same =
     some_same a.symbol a.num_symbol (λ y. some (first_prb a) (prb_count a) (λ n. p (cell_of a y n))) (λ y. some (first_prb a) (prb_count a) (λ n. q (cell_of a y n)))
     (λ y above below.
     some_same (first_prb a) (prb_count a) (λ n. p (cell_of a y n)) (λ n. q (cell_of a y n)) (λ n over under. same (cell_of a y n) (covers_own a y n above below over under)))
-
-claimed_same : (id mask : ℕ) (f g : ℕ → Option Claim) → ((re : ℕ) → re < 12 → f re ≡ g re) → is_claimed id mask f ≡ is_claimed id mask g
-claimed_same id mask f g same =
-    every_same 0 12 (λ re. not (in_mask mask re) || is_under id (f re)) (λ re. not (in_mask mask re) || is_under id (g re)) (λ re above below.
-    ap (λ (c : Option Claim). not (in_mask mask re) || is_under id c) (same re (omega arith)))
-
-overlapped_same : (id mask : ℕ) (f g : ℕ → Option Claim) → ((re : ℕ) → re < 12 → f re ≡ g re) → is_overlapped id mask f ≡ is_overlapped id mask g
-overlapped_same id mask f g same =
-    some_same 0 12 (λ re. (in_mask mask re && is_some (f re)) || is_other id (f re)) (λ re. (in_mask mask re && is_some (g re)) || is_other id (g re)) (λ re above below.
-    ap (λ (c : Option Claim). (in_mask mask re && is_some c) || is_other id c) (same re (omega arith)))
 
 pub repeats_by_lookup : RepeatsByLookup
 unfolding repeats
@@ -177,7 +133,7 @@ jobs_of_their_slot earlier ep e slot symbol =
     ap (λ (xs : List Allocation). map (job_of ep (air_of e.numerology slot symbol) slot symbol) (in_order is_before xs))
     (both ∙ ap (filter s) (filter-reverse u earlier))
 
--- ---- marks
+-- ---- reports
 
 same_comm : (a b : AirCell) → same_cell a b ≡ same_cell b a
 same_comm a b = go (same_cell a b) (same_cell b a) (other_swap a b) (other_swap b a)
@@ -192,8 +148,8 @@ any_same : (p q : AirCell → Bool) → ((a : AirCell) → p a ≡ q a) → (xs 
 any_same p q same [] = refl
 any_same p q same (x ∷ xs) = ap₂ ◌||◌ (same x) (any_same p q same xs)
 
-pub reported_by_mark : ReportedByMark
-reported_by_mark side e cell start claims block heard down =
+pub reported_by_lookup : ReportedByLookup
+reported_by_lookup side e cell start claims block heard down =
     let r = air_cell side e cell start claims block in
     any_same (same_cell r) (cell_heard e cell) (λ a.
     same_comm r a

@@ -18,6 +18,9 @@ use Rattle.window_config.specs.declared.endpoints.EndpointConfig.{EndpointConfig
 use Rattle.unit_model.specs.Lists.{onto}
 use Rattle.unit_model.specs.Meetings.{Arrival, Meeting, Ignored, Commands, Piece, application, command, command_read, commands, control_met, find_endpoint, id_of, is_fragmented, meet, meetings, met_by, met_in, sequence_of, fragment_of}
 use Rattle.unit_laws.specs.Past.{IsInOrder, CommandsAreInOrder}
+use Rattle.ecpri_frames.specs.declared.heads.TheConstants.{ONE_WAY_DELAY}
+use Rattle.ecpri_frames.specs.declared.heads.TheConstants.{REAL_TIME_CONTROL}
+use Rattle.ecpri_frames.specs.declared.heads.TheConstants.{IQ_DATA}
 
 pub All-onto : {A : Type 0} (P : A → Type 0) (earlier xs : List A) → All P earlier → All P xs → All P (onto earlier xs)
 unfolding onto
@@ -60,13 +63,13 @@ control_ordered Du ep e at payload = tt
 met_ordered : (side : Side) (kind : ℕ) (at : ℤ) (payload : List ℕ) (o : Option (ℕ × EndpointConfig)) → AreOrdered (met_by side kind at payload o)
 met_ordered side kind at payload None = tt
 met_ordered side kind at payload (Some (ep, e)) =
-    choice (kind == 2) (control_met side ep e at payload) (Piece e (fragment_of ep at payload)) (control_ordered side ep e at payload) tt
+    choice (kind == REAL_TIME_CONTROL) (control_met side ep e at payload) (Piece e (fragment_of ep at payload)) (control_ordered side ep e at payload) tt
 
 meet_ordered : (side : Side) (es : List EndpointConfig) (at : ℤ) (m : Message) → AreOrdered (meet side es at m)
 unfolding meet
 meet_ordered side es at m =
-    choice (m.head.kind == 5) _ _ tt
-    (choice (not (m.head.kind == 0 || m.head.kind == 2)) _ _ tt
+    choice (m.head.kind == ONE_WAY_DELAY) _ _ tt
+    (choice (not (m.head.kind == IQ_DATA || m.head.kind == REAL_TIME_CONTROL)) _ _ tt
     (choice (nat_lt (length m.payload) 4) _ _ tt (met_ordered side m.head.kind at m.payload (find_endpoint es (id_of m.payload)))))
 
 all_met : (side : Side) (es : List EndpointConfig) (at : ℤ) (ms : List Message) → All AreOrdered (met_in side es at ms)

@@ -28,10 +28,11 @@ use Rattle.unit_model.specs.declared.decoded.ControlSection.{ControlSection}
 use Rattle.unit_model.specs.declared.decoded.UserSection.{UserSection}
 use Rattle.unit_laws.specs.Past.{IsInOrder, IsPast, CommandLeavesPast, DataLeavePast, CommandLeavesReports, DataLeaveReports, CommandLeavesJobs}
 use Rattle.unit_laws.proofs.AcceptanceLemmas.{accepted_is_acceptable}
-use Rattle.unit_laws.proofs.CellLemmas.{slots_equal, from_first, covers_is, data_covers_is}
+use Rattle.unit_laws.proofs.CellLemmas.{covers_is, data_covers_is}
 use Rattle.unit_laws.proofs.ChangeLemmas.{accepted_more, either_way, only_accepted, only_timely}
 use Rattle.unit_laws.proofs.FarLemmas.{endpoints_equal}
 use Rattle.unit_laws.proofs.ReportLemmas.{report_of_cells}
+use Rattle.unit_model.proofs.ClaimLemmas.{same_slot_is as slots_equal, starts_before as from_first}
 
 later : (least s at : ℤ) → pos 1 ≤ℤ least → (least *ℤ pos 1536) ≤ℤ (s -ℤ at) → at <ℤ s
 later least s at some h = omega (arith, ints)

@@ -14,7 +14,7 @@ use Rattle.unit_model.specs.uplane_sections.specs.declared.values.UHead.{UHead}
 use Rattle.unit_model.specs.uplane_sections.specs.declared.values.URefusal.{URefusal}
 use Rattle.window_config.specs.declared.endpoints.EndpointConfig.{EndpointConfig}
 use Rattle.unit_model.specs.Blocks.{data_prb_count}
-use Rattle.unit_model.specs.Decoding.{Part, Gathering, nothing_told, gathered, has_way, data_with, decoded_from, decode, Sections, Backwards, sections_of}
+use Rattle.unit_model.specs.Decoding.{SectionBlocks, Gathering, nothing_told, gathered, has_way, data_with, decoded_from, decode, Sections, Backwards, sections_of}
 use Rattle.unit_model.specs.Meetings.{command, commands_with}
 use Rattle.unit_model.specs.Proper.{IsAt}
 use Rattle.unit_model.specs.declared.decoded.ControlSection.{ControlSection}
@@ -70,7 +70,7 @@ pub commands_read : (es : List EndpointConfig) (T : ℤ → Type 0) (ep : ℕ) (
 commands_read es T ep e at head bytes admits fits i t =
     sections_read es T ep e at head head.start_symbol (sections_in head bytes) i t admits.subframe admits.slot admits.start_symbol admits.sections fits.sections_fit
 
-data_read : (es : List EndpointConfig) (T : ℤ → Type 0) (ep : ℕ) (e : EndpointConfig) (first last : ℤ) (head : UHead) (ps : List Part) → IsAt es ep e → T first → T last
+data_read : (es : List EndpointConfig) (T : ℤ → Type 0) (ep : ℕ) (e : EndpointConfig) (first last : ℤ) (head : UHead) (ps : List SectionBlocks) → IsAt es ep e → T first → T last
     → first ≤ℤ last → head.subframe < 10 → head.slot < slots_of e.numerology → All (IsWholePart e.prbs (shape_of e.numerology)) ps
     → All (IsReadData es T) (map (data_with ep e first last head) ps)
 data_read es T ep e first last head ps i f l order subframe slot parts =

@@ -13,7 +13,7 @@ use Rattle.unit_model.specs.declared.cells.Claim.{Claim}
 use Rattle.unit_laws.specs.Past.{ReportIsOfItsCells}
 use Rattle.unit_laws.proofs.ListLemmas.{each_same}
 
-used_same : (f g : ℕ → Option Claim) (n : ℕ) → ((re : ℕ) → re < n → f re ≡ g re) → used_below f n ≡ used_below g n
+pub used_same : (f g : ℕ → Option Claim) (n : ℕ) → ((re : ℕ) → re < n → f re ≡ g re) → used_below f n ≡ used_below g n
 unfolding used_below
 used_same f g zero same = refl
 used_same f g (suc n) same =

@@ -11,6 +11,7 @@ use Rattle.window_config.specs.declared.endpoints.EndpointConfig.{EndpointConfig
 use Rattle.unit_model.specs.Lists.{each}
 use Rattle.unit_model.specs.Sweeps.{first_swept, of_endpoint, of_frame, of_slot, of_subframe, slot_at}
 use Rattle.unit_laws.specs.Runs.{next_slot, each_slot, IsNext, NextIsNext, IsElsewhere}
+use Rattle.fh_time.proofs.Orders.{after_by}
 
 -- ---- the next slot
 
@@ -133,9 +134,6 @@ within_a_row n base start d count more f is_base is_start number none =
     ∙ ap₂ ◌++◌ front (ap (λ (x : Slot). each_slot n x (count + more) f) here)
     ∙ each_slot-add n start count more f
     ∙ ap (λ (xs : List _). each_slot n start count f ++ xs) back ∙ append-nil (each_slot n start count f)
-
-after_by : (a b : ℤ) (d : ℕ) → pos d ≡ b -ℤ a → b ≡ a +ℤ pos d
-after_by a b d e = omega (arith, ints)
 
 before_by : (a b : ℤ) (d : ℕ) → negsuc d ≡ b -ℤ a → a ≡ b +ℤ pos (suc d)
 before_by a b d e = omega (arith, ints)

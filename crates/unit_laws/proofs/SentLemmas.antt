@@ -20,21 +20,13 @@ use Rattle.unit_model.specs.Uplink.{jobs, sends_in, symbol_jobs}
 use Rattle.unit_laws.specs.Past.{IsPast}
 use Rattle.unit_laws.specs.Sent.{JobsBegin, JobsAppend, LaterSendsNothing, CommandLeavesSent}
 use Rattle.unit_laws.specs.Told.{CommandLeavesReported, DataLeaveReported, CommandLeavesDue, DataLeaveDue}
-use Rattle.unit_laws.proofs.CellLemmas.{from_first}
 use Rattle.unit_laws.proofs.ChangeLemmas.{either_way}
 use Rattle.unit_laws.proofs.DueLemmas.{unheard}
 use Rattle.unit_laws.proofs.FarLemmas.{endpoints_equal}
 use Rattle.unit_laws.proofs.PastLemmas.{command_leaves_jobs, command_leaves_reports, data_leave_reports, jobs_same, sends_is}
 use Rattle.unit_laws.proofs.SweepLemmas.{sweep-append, sweep-none, sweep-same}
-
-next_order : (t u : ℤ) → t ≤ℤ u → (t +ℤ pos 1) ≤ℤ (u +ℤ pos 1)
-next_order t u h = omega (arith, ints)
-
-next_later : (t u : ℤ) → t ≤ℤ u → t ≤ℤ (u +ℤ pos 1)
-next_later t u h = omega (arith, ints)
-
-weak : (a b : ℤ) → a <ℤ b → a ≤ℤ b
-weak a b h = omega (arith, ints)
+use Rattle.unit_model.proofs.ClaimLemmas.{starts_before as from_first}
+use Rattle.fh_time.proofs.Orders.{weak, next_order, next_later}
 
 pub jobs_append : JobsAppend
 unfolding jobs

@@ -1,5 +1,5 @@
 -- Going over the symbols in the order of time.
-use Rattle.std.proofs.Common.{◌≡◌, ℕ, ℤ, pos, negsuc, zero, suc, ◌+◌, ◌<◌, ◌≤◌, ◌+ℤ◌, ◌≤ℤ◌, ◌<ℤ◌, Bool, true, false, List, [], ◌∷◌, ◌++◌, refl, sym, ap, ap₂, ◌∙◌, subst, arith, append_assoc}
+use Rattle.std.proofs.Common.{◌≡◌, ℕ, ℤ, pos, negsuc, zero, suc, ◌+◌, ◌<◌, ◌≤◌, ◌+ℤ◌, ◌≤ℤ◌, ◌<ℤ◌, Bool, true, false, List, [], ◌∷◌, ◌++◌, refl, sym, ap, ap₂, ◌∙◌, subst, arith}
 use Rattle.std.specs.Prelude.{if◌then◌else◌}
 use Rattle.std.specs.Int.{int_gap}
 use Rattle.std.specs.Ordering.{int_eq}
@@ -13,6 +13,9 @@ use Rattle.unit_model.specs.Lists.{each, each_tick}
 use Rattle.unit_model.specs.Proper.{IsAt}
 use Rattle.unit_model.specs.Sweeps.{OfSymbol, at_tick, first_swept, of_endpoint, of_endpoints, of_frame, of_slot, of_subframe, of_symbol, slot_at, sweep}
 use Rattle.unit_laws.specs.Swept.{IsSwept}
+use Rattle.unit_laws.specs.Swept.{SweepsAppend, SweepsAreSame, SweepsOfNothing, TicksOfNothing}
+use Rattle.unit_model.proofs.SweepLaws.{ticks_split as each_tick-add, gap_is as gap_reaches, gap_none, sweep_quiet as sweep-nothing}
+use Rattle.fh_time.proofs.Orders.{at_most as no_order, same_gap, above_next, frame_low_is}
 
 -- ---- how many ticks there are
 
@@ -22,24 +25,6 @@ gap_below (pos a) (negsuc b) s above below = omega (arith, ints)
 gap_below (negsuc a) (pos b) s above below = omega (arith, ints)
 gap_below (negsuc a) (negsuc b) s above below = omega (arith, ints)
 
-gap_reaches : (from end : ℤ) → from ≤ℤ end → from +ℤ pos (int_gap from end) ≡ end
-gap_reaches (pos a) (pos b) order = omega (arith, ints)
-gap_reaches (pos a) (negsuc b) order = absurd (omega (arith, ints))
-gap_reaches (negsuc a) (pos b) order = omega (arith, ints)
-gap_reaches (negsuc a) (negsuc b) order = omega (arith, ints)
-
-gap_none : (from end : ℤ) → end ≤ℤ from → int_gap from end ≡ 0
-gap_none (pos a) (pos b) order = omega (arith, ints)
-gap_none (pos a) (negsuc b) order = refl
-gap_none (negsuc a) (pos b) order = absurd (omega (arith, ints))
-gap_none (negsuc a) (negsuc b) order = omega (arith, ints)
-
-same_gap : (from mid end : ℤ) (n m k : ℕ) → from +ℤ pos n ≡ mid → mid +ℤ pos m ≡ end → from +ℤ pos k ≡ end → k ≡ n + m
-same_gap from mid end n m k a b c = omega (arith, ints)
-
-no_order : (from mid end : ℤ) → from ≤ℤ mid → mid ≤ℤ end → from ≤ℤ end
-no_order from mid end a b = omega (arith, ints)
-
 start_here : (from : ℤ) → from +ℤ pos 0 ≡ from
 start_here from = omega (arith, ints)
 
@@ -47,17 +32,6 @@ start_next : (from : ℤ) (n : ℕ) → from +ℤ pos (suc n) ≡ (from +ℤ pos
 start_next from n = omega (arith, ints)
 
 -- ---- one after the other
-
-pub each_tick-add : {A : Type 0} (from : ℤ) (n m : ℕ) (f : ℤ → List A) → each_tick from (n + m) f ≡ each_tick from n f ++ each_tick (from +ℤ pos n) m f
-unfolding each_tick
-each_tick-add from zero m f =
-    let size : 0 + m ≡ m = omega arith in
-    ap (λ (k : ℕ). each_tick from k f) size ∙ ap (λ (s : ℤ). each_tick s m f) (sym (start_here from))
-each_tick-add from (suc n) m f =
-    let size : suc n + m ≡ suc (n + m) = omega arith in
-    ap (λ (k : ℕ). each_tick from k f) size
-    ∙ ap (λ (xs : List _). f from ++ xs) (each_tick-add (from +ℤ pos 1) n m f ∙ ap (λ (s : ℤ). each_tick (from +ℤ pos 1) n f ++ each_tick s m f) (sym (start_next from n)))
-    ∙ sym (append_assoc (f from) (each_tick (from +ℤ pos 1) n f) (each_tick (from +ℤ pos (suc n)) m f))
 
 pub sweep-append : {A : Type 0} (g : OfSymbol A) (es : List EndpointConfig) (from mid end : ℤ) → from ≤ℤ mid → mid ≤ℤ end
     → sweep g es from end ≡ sweep g es from mid ++ sweep g es mid end
@@ -75,9 +49,6 @@ pub sweep-none : {A : Type 0} (g : OfSymbol A) (es : List EndpointConfig) (from 
 unfolding sweep each_tick
 sweep-none g es from end order = ap (λ (k : ℕ). each_tick from k (at_tick g es)) (gap_none from end order)
 
-above_next : (from s : ℤ) → (from +ℤ pos 1) ≤ℤ s → from ≤ℤ s
-above_next from s h = omega (arith, ints)
-
 below_next : (from s : ℤ) (n : ℕ) → s <ℤ ((from +ℤ pos 1) +ℤ pos n) → s <ℤ (from +ℤ pos (suc n))
 below_next from s n h = omega (arith, ints)
 
@@ -86,9 +57,6 @@ here_above from = omega (arith, ints)
 
 here_below : (from : ℤ) (n : ℕ) → from <ℤ (from +ℤ pos (suc n))
 here_below from n = omega (arith, ints)
-
-frame_low_is : (first : ℤ) (k : ℕ) → first ≤ℤ (first +ℤ pos k)
-frame_low_is first k = omega (arith, ints)
 
 frame_high_is : (first : ℤ) (k : ℕ) → k < 0 + 6 → (first +ℤ pos k) <ℤ (first +ℤ pos 6)
 frame_high_is first k h = omega (arith, ints)
@@ -210,13 +178,21 @@ pub sweep-same : {A : Type 0} (g h : OfSymbol A) (es : List EndpointConfig) (fro
     → sweep g es from end ≡ sweep h es from end
 sweep-same g h es from end r = sweep_related (λ xs ys. xs ≡ ys) same_kept g h es from end r
 
-pub sweep-nothing : {A : Type 0} (g : OfSymbol A) (es : List EndpointConfig) (from end : ℤ)
-    → ((tick : ℤ) → from ≤ℤ tick → tick <ℤ end → at_tick g es tick ≡ []) → sweep g es from end ≡ []
-unfolding sweep
-sweep-nothing g es from end none =
-    each_tick_related (λ xs ys. xs ≡ []) none_kept from (int_gap from end) (at_tick g es) (at_tick g es) (λ s above below. none s above (gap_below from end s above below))
-
 pub tick-nothing : {A : Type 0} (g : OfSymbol A) (es : List EndpointConfig) (tick : ℤ)
     → ((ep : ℕ) (e : EndpointConfig) (slot : Slot) (symbol : ℕ) → IsSwept es ep e slot symbol tick → g ep e slot symbol ≡ [])
     → at_tick g es tick ≡ []
 tick-nothing g es tick none = at_tick_related (λ xs ys. xs ≡ []) none_kept g g es tick none
+
+-- ---- the laws, as they are stated
+
+pub sweeps_append : {A : Type 0} → SweepsAppend A
+sweeps_append = sweep-append
+
+pub sweeps_are_same : {A : Type 0} → SweepsAreSame A
+sweeps_are_same = sweep-same
+
+pub sweeps_of_nothing : {A : Type 0} → SweepsOfNothing A
+sweeps_of_nothing = sweep-nothing
+
+pub ticks_of_nothing : {A : Type 0} → TicksOfNothing A
+ticks_of_nothing = tick-nothing

@@ -22,14 +22,12 @@ use Rattle.unit_model.specs.Standing.{due, still_reported}
 use Rattle.unit_model.specs.Sweeps.{sweep}
 use Rattle.unit_model.specs.Uplink.{jobs, symbol_jobs}
 use Rattle.unit_laws.specs.Far.{IsFar}
-use Rattle.unit_laws.specs.Ticks.{LiveLater, StartsLater, IsLiveSlot, QuietOfCells, QuietOfJobs, CellsOfLive, JobsOfLive, DueAfterClock, GivenInOrder}
+use Rattle.unit_laws.specs.Ticks.{LiveLater, LaterSymbolsAreAhead, IsLiveSlot, QuietOfCells, QuietOfJobs, CellsOfLive, JobsOfLive, DueAfterClock, GivenInOrder}
 use Rattle.unit_laws.proofs.AheadLemmas.{no_jobs_ahead, no_reports_ahead}
 use Rattle.unit_laws.proofs.DueLemmas.{unheard}
 use Rattle.unit_laws.proofs.FrameLemmas.{endpoint_in_a_row}
 use Rattle.unit_laws.proofs.SweepLemmas.{sweep-append, tick-nothing}
-
-at_most : (a b c : ℤ) → a ≤ℤ b → b ≤ℤ c → a ≤ℤ c
-at_most a b c h k = omega (arith, ints)
+use Rattle.fh_time.proofs.Orders.{not_negative, up_to as to_last, at_most}
 
 live_or_far : (n : Numerology) (r : Reach) (clock : ℤ) (slot : Slot) → clock ≤ℤ (air_of n slot 0 +ℤ pos (span_of n) +ℤ ticks_of_ns r.after)
     → IsLive n r.before r.after clock slot ⊎ IsFar n r clock slot
@@ -43,21 +41,18 @@ live_later n r clock later slot order live =
 in_reach : (clock start end after : ℤ) → clock ≤ℤ start → start ≤ℤ end → pos 0 ≤ℤ after → clock ≤ℤ (end +ℤ ticks_of_ns after)
 in_reach clock start end after a b c = omega (arith, ints)
 
-pub starts_later : StartsLater
+pub starts_later : LaterSymbolsAreAhead
 starts_later n r clock slot symbol after small order =
     live_or_far n r clock slot (in_reach clock (air_of n slot symbol) (air_of n slot 0 +ℤ pos (span_of n)) r.after order (symbol_in_span n slot symbol small) after)
 
-not_negative : (a b : ℤ) → pos 0 ≤ℤ a → a ≤ℤ b → pos 0 ≤ℤ b
-not_negative a b h k = omega (arith, ints)
-
 -- at the radio unit, of a symbol that starts at a tick that does not come before the clock
-starts_at : (d : Delays) (e : EndpointConfig) (clock tick : ℤ) (slot : Slot) (symbol : ℕ) → IsWithinLimits d → clock ≤ℤ tick → symbol < symbols_of e.numerology
+pub starts_at : (d : Delays) (e : EndpointConfig) (clock tick : ℤ) (slot : Slot) (symbol : ℕ) → IsWithinLimits d → clock ≤ℤ tick → symbol < symbols_of e.numerology
     → air_of e.numerology slot symbol ≡ tick → IsLiveSlot d e clock slot ⊎ IsFar e.numerology (ru_reach_of d) clock slot
 starts_at d e clock tick slot symbol limits order small starts =
     starts_later e.numerology (ru_reach_of d) clock slot symbol (not_negative d.ta3.min d.ta3.max limits.ta3.low limits.ta3.order) small
     (subst (λ (t : ℤ). clock ≤ℤ t) (sym starts) order)
 
-still_nothing : (k : Known) (heard : List AirCell) (ep : ℕ) (e : EndpointConfig) (slot : Slot) (symbol : ℕ) → symbol_report Ru k ep e slot symbol ≡ []
+pub still_nothing : (k : Known) (heard : List AirCell) (ep : ℕ) (e : EndpointConfig) (slot : Slot) (symbol : ℕ) → symbol_report Ru k ep e slot symbol ≡ []
     → still_reported Ru k heard ep e slot symbol ≡ []
 unfolding still_reported
 still_nothing k heard ep e slot symbol none = ap (filter (unheard heard)) none
@@ -98,9 +93,6 @@ jobs_of_live c clock arrivals ep e tick start count limits h order at short is a
 
 from_first : (first clock wait : ℤ) → first ≤ℤ clock → (first -ℤ wait) ≤ℤ ((clock -ℤ wait) +ℤ pos 1)
 from_first first clock wait h = omega (arith, ints)
-
-to_last : (clock to wait : ℤ) → clock ≤ℤ to → ((clock -ℤ wait) +ℤ pos 1) ≤ℤ ((to -ℤ wait) +ℤ pos 1)
-to_last clock to wait h = omega (arith, ints)
 
 pub due_after_clock : DueAfterClock
 unfolding due

@@ -1,4 +1,4 @@
--- What a unit has to look up: verdicts, messages and marks rest on the cells that a section covers, and on one slot's sections.
+-- What a unit has to look up: verdicts, messages and reports rest on the cells that a section covers, and on one slot's sections.
 use Rattle.std.specs.Prelude.{◌≡◌, ℕ, ℤ, ◌<◌, true, List, length, Option, is_some}
 use Rattle.std.specs.List.{list_any}
 use Rattle.fh_time.specs.declared.values.Slot.{Slot}
@@ -60,8 +60,8 @@ JobsAreOfTheirSlot =
     (earlier : List Allocation) (ep : ℕ) (e : EndpointConfig) (slot : Slot) (symbol : ℕ)
     → symbol_jobs earlier ep e slot symbol ≡ symbol_jobs (uplink_of ep slot earlier) ep e slot symbol
 
--- a cell of the unit's direction was reported where its mark says so
-abbrev pub ReportedByMark : Type 0
-ReportedByMark =
+-- a cell of the unit's direction was reported where one answer for it says so
+abbrev pub ReportedByLookup : Type 0
+ReportedByLookup =
     (side : Side) (e : EndpointConfig) (cell : Cell) (start : ℤ) (claims : ℕ → Option Claim) (block : Option Block) (heard : List AirCell)
     → cell.down ≡ is_down side → is_reported heard (air_cell side e cell start claims block) ≡ list_any (cell_heard e cell) heard

@@ -33,8 +33,8 @@ LiveLater =
     → IsLive n r.before r.after clock slot ⊎ IsFar n r clock slot
 
 -- and so is the slot of a symbol that starts later
-abbrev pub StartsLater : Type 0
-StartsLater =
+abbrev pub LaterSymbolsAreAhead : Type 0
+LaterSymbolsAreAhead =
     (n : Numerology) (r : Reach) (clock : ℤ) (slot : Slot) (symbol : ℕ) → pos 0 ≤ℤ r.after → symbol < symbols_of n → clock ≤ℤ air_of n slot symbol
     → IsLive n r.before r.after clock slot ⊎ IsFar n r clock slot
 

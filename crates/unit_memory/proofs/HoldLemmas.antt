@@ -1,8 +1,8 @@
 -- What the unit holds of arrivals, and what its parts stand for.
-use Rattle.std.proofs.Common.{◌≡◌, ℕ, suc, ℤ, ◌+◌, ◌-◌, ◌^◌, ◌≤ℤ◌, ◌||◌, Bool, true, false, List, [], ◌∷◌, ◌++◌, All, refl, sym, ap, ◌∙◌, subst, arith}
+use Rattle.std.proofs.Common.{◌≡◌, ℕ, suc, ℤ, ◌+◌, ◌-◌, ◌^◌, ◌||◌, Bool, true, false, List, [], ◌∷◌, ◌++◌, All, refl, sym, ap, ◌∙◌, subst, arith}
 use Rattle.std.specs.Prelude.{length, min, Option}
 use Rattle.std.specs.List.{list_any}
-use Rattle.std.proofs.lemmas.List.Elements.{All-nil, All-cons, All-head, All-tail, All-weaker}
+use Rattle.std.proofs.lemmas.List.Elements.{All-cons, All-weaker}
 use Rattle.unit_cells.specs.air_source.specs.declared.events.Side.{Side}
 use Rattle.ecpri_frames.specs.Gathering.{whole_messages}
 use Rattle.ecpri_frames.specs.declared.refusals.PduRefusal.{PduRefusal}
@@ -11,12 +11,9 @@ use Rattle.fault_counters.specs.declared.kinds.Counter.{Counter}
 use Rattle.fault_counters.specs.declared.kinds.Counter.TheVariants as counter
 use Rattle.fault_counters.specs.Counts.{capped, once, times}
 use Rattle.unit_cells.specs.window_config.specs.declared.config.Config.{Config}
-use Rattle.unit_cells.specs.window_config.specs.declared.delays.Delays.{Delays}
 use Rattle.unit_cells.specs.window_config.specs.declared.endpoints.EndpointConfig.{EndpointConfig}
-use Rattle.unit_cells.specs.window_config.specs.declared.verdicts.Class.{Class}
-use Rattle.unit_cells.specs.window_config.specs.declared.verdicts.Class.TheVariants.{Late, Early, OnTime}
 use Rattle.ecpri_fragments.specs.Generations.{Fragment}
-use Rattle.unit_cells.specs.unit_model.specs.Blocks.{data_class, data_prb_count, data_verdicts, timely, with_timely}
+use Rattle.unit_cells.specs.unit_model.specs.Blocks.{data_prb_count, data_verdicts}
 use Rattle.unit_cells.specs.unit_model.specs.Commands.{command_verdicts}
 use Rattle.unit_cells.specs.unit_model.specs.Counts.{commands_counted, counted_of, data_counted, frames_counted, messages_counted, piece_counted, refusal_counted}
 use Rattle.unit_cells.specs.unit_model.specs.Decoding.{data_now, data_sections, data_told}
@@ -33,22 +30,14 @@ use Rattle.unit_cells.specs.Told.{IsTold}
 use Rattle.unit_cells.proofs.TimeLemmas.{keeps_later}
 use Rattle.unit_memory.specs.Control.{is_control}
 use Rattle.unit_memory.specs.Memory.{Holds, HoldsLater, arrival}
-use Rattle.unit_memory.specs.Parts.{HoldsParts, Stands}
+use Rattle.unit_memory.specs.Parts.{HoldsParts, MemoryStands}
 use Rattle.unit_memory.specs.declared.memory.UnitMemory.{UnitMemory}
 use Rattle.unit_memory.proofs.StepLemmas.{parts_as}
-use Rattle.unit_memory.proofs.Times.{at_most, fragments_by, same_most}
+use Rattle.unit_memory.proofs.Times.{fragments_by, same_most}
+use Rattle.unit_cells.specs.unit_model.proofs.BlockLemmas.{all_timely as timely_all}
+use Rattle.unit_cells.specs.unit_model.proofs.InTimeLemmas.{in_time_later}
 
 -- ---- data on time
-
-kept_all : (P : UserSection → Type 0) (k : Class) (x : UserSection) (ds : List UserSection) → P x → All P ds → All P (with_timely k x ds)
-kept_all P OnTime x ds p all = All-cons P x ds p all
-kept_all P Late x ds p all = all
-kept_all P Early x ds p all = all
-
-timely_all : (P : UserSection → Type 0) (side : Side) (d : Delays) (ds : List UserSection) → All P ds → All P (timely side d ds)
-unfolding timely
-timely_all P side d [] all = All-nil P
-timely_all P side d (x ∷ ds) all = kept_all P (data_class side d x) x (timely side d ds) (All-head P x ds all) (timely_all P side d ds (All-tail P x ds all))
 
 blocks_told : (x : UserSection) → length x.blocks ≡ data_prb_count x → IsTold x
 blocks_told x h = omega (arith, h)
@@ -75,7 +64,7 @@ module _ (side : Side) (c : Config) (clock : ℤ) (m : UnitMemory) (arrivals : L
       (data_counted (data_verdicts side c.delays (data_of side c arrivals))) beside k
 
   -- the parts of a unit that holds some arrivals
-  pub to_parts : Holds side c clock m arrivals beside → Stands side c clock m arrivals ms beside
+  pub to_parts : Holds side c clock m arrivals beside → MemoryStands side c clock m arrivals ms beside
   to_parts h = record {
     config = h.config;
     endpoints = h.endpoints;
@@ -92,7 +81,7 @@ module _ (side : Side) (c : Config) (clock : ℤ) (m : UnitMemory) (arrivals : L
   }
 
   -- and back
-  pub of_parts : AreInTime clock arrivals → All (λ a. IsTime a.at) arrivals → Stands side c clock m arrivals ms beside → Holds side c clock m arrivals beside
+  pub of_parts : AreInTime clock arrivals → All (λ a. IsTime a.at) arrivals → MemoryStands side c clock m arrivals ms beside → Holds side c clock m arrivals beside
   of_parts came times h = record {
     config = h.config;
     endpoints = h.endpoints;
@@ -107,10 +96,6 @@ module _ (side : Side) (c : Config) (clock : ℤ) (m : UnitMemory) (arrivals : L
   }
 
 -- ---- as time passes
-
-in_time_later : (clock to : ℤ) (arrivals : List Arrival) → clock ≤ℤ to → AreInTime clock arrivals → AreInTime to arrivals
-in_time_later clock to [] order h = tt
-in_time_later clock to (a ∷ earlier) order h = (at_most a.at clock to h.0 order, h.1)
 
 pub holds_later : HoldsLater
 holds_later side c clock to m arrivals beside order h = record {
@@ -151,14 +136,14 @@ module _ (side : Side) (c : Config) (clock : ℤ) (m : UnitMemory) (arrivals : L
   met_so_far k = before_message side c arrivals ms beside k + once counter.Messages k
 
   pub stands_ignored : (x : Counter) → HoldsParts side c clock m (λ k. met_so_far k + once x k) (fragments ms) (commands ms) (data_sections side hold ms)
-      → Stands side c clock m arrivals (Ignored x ∷ ms) beside
+      → MemoryStands side c clock m arrivals (Ignored x ∷ ms) beside
   unfolding fragments commands data_sections messages_counted
   stands_ignored x h =
       parts_as side c clock m _ _ (fragments ms) (commands ms) (data_sections side hold ms)
       (λ k. message_number (times (frames_counted arrivals) k) (times beside k) (times (messages_counted side hold ms) k) (once counter.Messages k) (once x k)) h
 
   pub stands_commands : (cs : List ControlSection) → HoldsParts side c clock m met_so_far (fragments ms) (onto (commands ms) cs) (data_sections side hold ms)
-      → Stands side c clock m arrivals (Commands cs ∷ ms) beside
+      → MemoryStands side c clock m arrivals (Commands cs ∷ ms) beside
   unfolding fragments commands data_sections messages_counted
   stands_commands cs h =
       parts_as side c clock m _ _ (fragments ms) (onto (commands ms) cs) (data_sections side hold ms)
@@ -167,7 +152,7 @@ module _ (side : Side) (c : Config) (clock : ℤ) (m : UnitMemory) (arrivals : L
   pub stands_piece : (e : EndpointConfig) (f : Fragment)
       → (let told = data_now side hold e f (fragments ms) in
       HoldsParts side c clock m (λ k. met_so_far k + times (piece_counted hold f (fragments ms) told) k) (f ∷ fragments ms) (commands ms) (data_told told ++ data_sections side hold ms))
-      → Stands side c clock m arrivals (Piece e f ∷ ms) beside
+      → MemoryStands side c clock m arrivals (Piece e f ∷ ms) beside
   unfolding fragments commands data_sections messages_counted
   stands_piece e f h =
       let told = data_now side hold e f (fragments ms) in
@@ -177,7 +162,7 @@ module _ (side : Side) (c : Config) (clock : ℤ) (m : UnitMemory) (arrivals : L
 -- the messages of a frame are treated but for these
 pub record MetSoFar (side : Side) (c : Config) (clock : ℤ) (m : UnitMemory) (arrivals : List Arrival) (all : List Meeting) (left : List WholeMessage) (beside : List Counter) : Type 0 where
   pub so_far : List Meeting
-  pub stands : Stands side c clock m arrivals so_far beside
+  pub stands : MemoryStands side c clock m arrivals so_far beside
   pub are : onto so_far (met_in side c.endpoints clock left) ≡ all
 
 -- of so many messages, those that are left are not counted, and the count stays at the greatest u32
@@ -208,7 +193,7 @@ frame_number f m b o r rs rest k x y z = omega (arith, times-append rs (counter.
 pub stands_frame : (side : Side) (c : Config) (clock : ℤ) (m : UnitMemory) (arrivals : List Arrival) (ms : List Meeting) (beside : List Counter) (a : Arrival)
     → HoldsParts side c clock m (λ k. (counted_of side (hold_of side c.delays) arrivals ms k + times beside k) + times (refusal_counted (pdu a.frame).refusal ++ counter.Frames ∷ []) k)
     (fragments ms) (commands ms) (data_sections side (hold_of side c.delays) ms)
-    → Stands side c clock m (a ∷ arrivals) ms beside
+    → MemoryStands side c clock m (a ∷ arrivals) ms beside
 unfolding frames_counted
 stands_frame side c clock m arrivals ms beside a h =
     parts_as side c clock m _ _ (fragments ms) (commands ms) (data_sections side (hold_of side c.delays) ms)
@@ -226,7 +211,7 @@ module _ (side : Side) (c : Config) (at : ℤ) (old mid new : UnitMemory) (arriv
   -- the frame is counted behind its messages
   pub arrived : (r : Option PduRefusal) → r ≡ (pdu frame).refusal
       → (Parts mid (before_message side c arrivals treated beside) → Parts new (λ k. before_message side c arrivals treated beside k + times (refusal_counted r ++ counter.Frames ∷ []) k))
-      → Holds side c at old arrivals beside → Stands side c at mid arrivals treated beside → IsTime at → Holds side c at new (arrival at frame ∷ arrivals) beside
+      → Holds side c at old arrivals beside → MemoryStands side c at mid arrivals treated beside → IsTime at → Holds side c at new (arrival at frame ∷ arrivals) beside
   unfolding meetings
   arrived r is step h stands time =
       let a = arrival at frame in

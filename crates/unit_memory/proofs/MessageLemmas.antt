@@ -20,7 +20,7 @@ use Rattle.unit_cells.specs.unit_model.specs.uplane_sections.specs.Messages.{Ite
 use Rattle.unit_cells.specs.unit_model.specs.uplane_sections.specs.Writes.{IsHeadAdmitted}
 use Rattle.unit_cells.specs.window_config.specs.declared.config.Config.{Config}
 use Rattle.unit_cells.specs.window_config.specs.declared.endpoints.EndpointConfig.{EndpointConfig}
-use Rattle.unit_cells.specs.unit_model.specs.Decoding.{Backwards, Decoded, Gathering, Part, Refused, Sections, data_with, decode, decoded_from, decoded_with, gathered, has_way, nothing_told, sections_of}
+use Rattle.unit_cells.specs.unit_model.specs.Decoding.{Backwards, Decoded, Gathering, SectionBlocks, Refused, Sections, data_with, decode, decoded_from, decoded_with, gathered, has_way, nothing_told, sections_of}
 use Rattle.unit_cells.specs.unit_model.specs.Proper.{IsAt, IsTime}
 use Rattle.unit_cells.specs.unit_model.specs.Radiated.{is_down}
 use Rattle.unit_cells.specs.unit_model.specs.declared.allocations.Allocation.{Allocation}
@@ -41,12 +41,12 @@ abbrev pub heading_of : ℕ → EndpointConfig → Ticks → Ticks → UHead →
 heading_of ep e first last head s = record { ep = ep; endpoint = e; first = first; last = last; head = head; section = s }
 
 module _ (ep : ℕ) (e : EndpointConfig) (first last : Ticks) (head : UHead) where
-  abbrev pub sections_with : List Part → List UserSection
+  abbrev pub sections_with : List SectionBlocks → List UserSection
   sections_with parts = map (data_with ep e first.0 last.0 head) parts
 
   -- some sections of a message were told, and came
   pub record Treated (items left : List Item) (old new : CellsValue) (before after : List ℕ) : Type 0 where
-    pub parts : List Part
+    pub parts : List SectionBlocks
     pub told : gathered nothing_told items ≡ gathered (gathering head parts) left
     pub behind : AreSections e.prbs (shape_of e.numerology) 0 0 left
     pub holds : (side : Side) (c : Config) (n : Counter → ℕ) (acc : List Allocation) (ds : List UserSection)
@@ -154,7 +154,7 @@ module _ (side : Side) (ep : ℕ) (e : EndpointConfig) (first last : ℤ) (bytes
   abbrev told_by : Shape → Telling
   told_by shape = told e.format e.prbs shape bytes
 
-  abbrev pub parts_told : List Part
+  abbrev pub parts_told : List SectionBlocks
   parts_told = (gathered nothing_told (told_by (shape_of e.numerology)).items).parts
 
   pub says_refused : (shape : Shape) (r : URefusal) → shape ≡ shape_of e.numerology → Some r ≡ (told_by shape).refusal → decode side ep e first last bytes ≡ Refused

@@ -1,5 +1,5 @@
 -- What the parts of a unit stand for, one step further.
-use Rattle.std.proofs.Common.{◌≡◌, ℕ, ℤ, ◌+◌, ◌≤ℤ◌, List, [], ◌∷◌, ◌++◌, refl, sym, ap, ◌∙◌, subst, arith}
+use Rattle.std.proofs.Common.{◌≡◌, ℕ, ℤ, ◌+◌, List, [], ◌∷◌, ◌++◌, refl, sym, ap, ◌∙◌, subst, arith}
 use Rattle.std.specs.Prelude.{Option, Some}
 use Rattle.std.proofs.lemmas.List.Elements.{All-cons}
 use Rattle.unit_cells.specs.air_source.specs.declared.events.Side.{Side}
@@ -28,23 +28,21 @@ use Rattle.unit_cells.specs.unit_model.specs.declared.decoded.UserSection.{UserS
 use Rattle.unit_cells.specs.unit_model.specs.declared.verdicts.CommandVerdict.{CommandVerdict}
 use Rattle.unit_cells.specs.unit_model.proofs.SectionLemmas.{accepted_on}
 use Rattle.unit_cells.specs.unit_model.proofs.CountLemmas.{times-append}
-use Rattle.unit_cells.specs.Cells.{CellsValue, IsOf, endpoints_of}
+use Rattle.unit_cells.specs.Cells.{CellsValue}
 use Rattle.unit_cells.specs.Keeping.{Keeps}
-use Rattle.unit_memory.specs.Parts.{CameBy, HoldsParts, LeavesMarks}
+use Rattle.unit_memory.specs.Parts.{CameBy, HoldsParts, LeavesReported}
 use Rattle.unit_memory.specs.declared.memory.UnitMemory.{UnitMemory}
-use Rattle.unit_memory.proofs.Times.{same_most}
+use Rattle.unit_cells.proofs.KeepLemmas.{of_still as of_later}
+use Rattle.fh_time.proofs.Orders.{first_most as at_clock}
 
--- ---- marks
+-- ---- what is reported
 
-pub of_later : (side : Side) (c : Config) (old new : CellsValue) → new.side ≡ old.side → new.delays ≡ old.delays → endpoints_of new ≡ endpoints_of old → IsOf side c old → IsOf side c new
-of_later side c old new s d e of = record { side_is = s ∙ of.side_is; delays = d ∙ of.delays; endpoints = e ∙ of.endpoints }
+pub reports_none : (clock : ℤ) (v : CellsValue) → LeavesReported clock v v
+reports_none clock v = record { reports = λ side c of e cell is live. refl; side = refl; delays = refl; endpoints = refl }
 
-pub marks_none : (clock : ℤ) (v : CellsValue) → LeavesMarks clock v v
-marks_none clock v = record { marks = λ side c of e cell is live. refl; side = refl; delays = refl; endpoints = refl }
-
-pub marks_more : (clock : ℤ) (u v w : CellsValue) → LeavesMarks clock u v → LeavesMarks clock v w → LeavesMarks clock u w
-marks_more clock u v w a b = record {
-  marks = λ side c of e cell is live. b.marks side c (of_later side c u v a.side a.delays a.endpoints of) e cell is live ∙ a.marks side c of e cell is live;
+pub reports_more : (clock : ℤ) (u v w : CellsValue) → LeavesReported clock u v → LeavesReported clock v w → LeavesReported clock u w
+reports_more clock u v w a b = record {
+  reports = λ side c of e cell is live. b.reports side c (of_later side c u v a.side a.delays a.endpoints of) e cell is live ∙ a.reports side c of e cell is live;
   side = b.side ∙ a.side;
   delays = b.delays ∙ a.delays;
   endpoints = b.endpoints ∙ a.endpoints;
@@ -97,9 +95,6 @@ as_data side c clock m n fs cs ds h = record {
   counts = λ k. data_number _ (n k) (times (commands_counted (command_verdicts c.delays cs)) k) (times (data_counted (data_verdicts side c.delays ds)) k) (h.counts k);
 }
 
-at_clock : (at clock : ℤ) → at ≡ clock → at ≤ℤ clock
-at_clock at clock e = rw e (same_most clock)
-
 piece_number : (x n a p b : ℕ) → x ≡ capped (((n + a) + p) + b) → x ≡ capped ((n + p) + (a + b))
 piece_number x n a p b h = omega arith
 
@@ -150,8 +145,8 @@ whole_data side c clock at n acc ds told d u v p q e t step h =
     let Q : Option Decoded → Type 0 = λ (o : Option Decoded). HoldsData side c clock (λ k. n k + times (decoded_counted o) k) acc (data_told o ++ ds) v q in
     subst Q (sym t) (subst P e step h)
 
-pub marks_after : (clock : ℤ) (u v w : CellsValue) → v ≡ u → LeavesMarks clock v w → LeavesMarks clock u w
-marks_after clock u v w e h = subst (λ (x : CellsValue). LeavesMarks clock x w) e h
+pub reports_after : (clock : ℤ) (u v w : CellsValue) → v ≡ u → LeavesReported clock v w → LeavesReported clock u w
+reports_after clock u v w e h = subst (λ (x : CellsValue). LeavesReported clock x w) e h
 
-pub marks_same : (clock : ℤ) (u v : CellsValue) → v ≡ u → LeavesMarks clock u v
-marks_same clock u v e = subst (λ (x : CellsValue). LeavesMarks clock u x) (sym e) (marks_none clock u)
+pub reports_same : (clock : ℤ) (u v : CellsValue) → v ≡ u → LeavesReported clock u v
+reports_same clock u v e = subst (λ (x : CellsValue). LeavesReported clock u x) (sym e) (reports_none clock u)

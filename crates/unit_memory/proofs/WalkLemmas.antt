@@ -15,7 +15,7 @@ use Rattle.unit_cells.specs.unit_model.specs.uplane_sections.specs.declared.step
 use Rattle.unit_cells.specs.unit_model.specs.uplane_sections.specs.Messages.{Item, Head, Section, Block, blocks}
 use Rattle.uplane_messages.specs.Left.{TellsFirst, NothingLeft}
 use Rattle.uplane_messages.specs.Whole.{AreSections}
-use Rattle.unit_cells.specs.unit_model.specs.Decoding.{Gathering, Part, begun, gathered, nothing_told}
+use Rattle.unit_cells.specs.unit_model.specs.Decoding.{Gathering, SectionBlocks, without_blocks, gathered, nothing_told}
 use Rattle.unit_memory.specs.Sections.{blocks_from}
 
 -- more blocks
@@ -122,11 +122,11 @@ behind_head items rest new head (Some (feed.Refused x)) is t = let one = t.one i
 
 -- ---- what is gathered
 
-abbrev pub gathering : UHead → List Part → Gathering
+abbrev pub gathering : UHead → List SectionBlocks → Gathering
 gathering head parts = record { head = Some head; parts = parts }
 
 -- the newest section gets the blocks that come next
-pub gathered_blocks : (head : UHead) (s : USection) (parts : List Part) (before blocks : List (List Wide)) (prb : ℕ) (rest : List Item)
+pub gathered_blocks : (head : UHead) (s : USection) (parts : List SectionBlocks) (before blocks : List (List Wide)) (prb : ℕ) (rest : List Item)
     → gathered (gathering head (record { section = s; blocks = before } ∷ parts)) (blocks_from prb blocks ++ rest)
     ≡ gathered (gathering head (record { section = s; blocks = before ++ blocks } ∷ parts)) rest
 unfolding gathered
@@ -137,13 +137,13 @@ gathered_blocks head s parts before (b ∷ blocks) prb rest =
     ∙ ap (λ (bs : List (List Wide)). gathered (gathering head (record { section = s; blocks = bs } ∷ parts)) rest) (append_assoc before (b ∷ []) blocks)
 
 -- a section with all its blocks
-pub gathered_section : (head : UHead) (s : USection) (parts : List Part) (blocks : List (List Wide)) (prb : ℕ) (old items rest : List Item)
+pub gathered_section : (head : UHead) (s : USection) (parts : List SectionBlocks) (blocks : List (List Wide)) (prb : ℕ) (old items rest : List Item)
     → old ≡ Section s ∷ items → items ≡ blocks_from prb blocks ++ rest
     → gathered (gathering head parts) old ≡ gathered (gathering head (record { section = s; blocks = blocks } ∷ parts)) rest
 unfolding gathered
 gathered_section head s parts blocks prb old items rest first told =
     ap (gathered (gathering head parts)) first
-    ∙ ap (gathered (gathering head (begun s ∷ parts))) told
+    ∙ ap (gathered (gathering head (without_blocks s ∷ parts))) told
     ∙ gathered_blocks head s parts [] blocks prb rest
 
 pub gathered_all : (g : Gathering) (rest : List Item) → rest ≡ [] → gathered g rest ≡ g

@@ -15,7 +15,7 @@ ghost use Rattle.unit_cells.specs.unit_model.specs.declared.allocations.Allocati
 ghost use Rattle.unit_cells.specs.unit_model.specs.declared.decoded.UserSection.{UserSection};
 ghost use Rattle.unit_cells.specs.Cells.{endpoints_of};
 ghost use Rattle.unit_memory.specs.Holding.{HoldsData};
-ghost use Rattle.unit_memory.specs.Parts.{CameSome, LeavesMarks};
+ghost use Rattle.unit_memory.specs.Parts.{CameSome, LeavesReported};
 
 use crate::taking::take_message;
 use ecpri_fragments::{Assembly, SeqField, Taken, Verdict};
@@ -47,7 +47,7 @@ pub(crate) fn assemble(
         → StandsFor assembly.old fs → HoldsData side c at.0 n acc ds cells.old counters.old
         → let told = data_now side (hold_of assembly.old) endpoint.now (fragment ep at seq bytes.now) fs in
         HoldsData side c at.0 (λ k. n k + times (decoded_counted told) k) acc (data_told told ++ ds) cells.new counters.new }
-    ensures marks { LeavesMarks at.0 cells.old cells.new }
+    ensures reports { LeavesReported at.0 cells.old cells.new }
 {
     match assembly.take(ep, at, seq, bytes) {
         Taken::Stored => Verdict::Stored,

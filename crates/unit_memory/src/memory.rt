@@ -6,8 +6,8 @@ ghost use Rattle.ecpri_frames.specs.Gathering.{whole_messages};
 ghost use Rattle.ecpri_frames.specs.Left.{frame_of, left_of};
 ghost use Rattle.ecpri_frames.specs.Messages.{pdu};
 ghost use Rattle.fault_counters.specs.declared.kinds.Counter.{Counter};
-ghost use Rattle.unit_cells.specs.Cells.{IsOf, cells_done};
-ghost use Rattle.unit_cells.specs.Keeping.{SameMarks};
+ghost use Rattle.unit_cells.specs.Cells.{IsOf, cells_reported};
+ghost use Rattle.unit_cells.specs.Keeping.{SameReported};
 ghost use Rattle.unit_cells.specs.unit_model.specs.Lists.{onto};
 ghost use Rattle.unit_cells.specs.unit_model.specs.Meetings.{Arrival, Meeting, met_in};
 ghost use Rattle.unit_cells.specs.unit_model.specs.Proper.{IsTime};
@@ -18,7 +18,7 @@ ghost use Rattle.unit_cells.specs.window_config.specs.declared.config.Config.{Co
 
 use ecpri_fragments::Assembly;
 use ecpri_fragments::fh_base::NoMemory;
-use ecpri_frames::{Messages, messages};
+use ecpri_frames::{Messages, REAL_TIME_CONTROL, messages};
 use fault_counters::Counters;
 use fh_time::{Ticks, of_ns};
 use std::alloc::Global;
@@ -26,9 +26,6 @@ use unit_cells::UnitCells;
 use unit_cells::air_source::Side;
 use unit_cells::unit_model::Delivered;
 use unit_cells::window_config::{Config, EndpointConfig};
-
-/// The type of messages of real-time control data (eCPRI 2.0, section 3.2.4.3).
-const CONTROL: u8 = 2;
 
 /// What became of a frame that arrived.
 #[derive(Clone, Copy, Debug, PartialEq, Eq)]
@@ -68,13 +65,13 @@ pub struct UnitMemory {
 impl UnitMemory {
     ghost use Rattle.unit_memory.specs.Control.{has_control, is_control};
     ghost use Rattle.unit_memory.specs.Memory.{Holds, HoldsSome, arrival};
-    ghost use Rattle.unit_memory.specs.Parts.{LeavesMarks, Stands, StandsForSome};
+    ghost use Rattle.unit_memory.specs.Parts.{LeavesReported, MemoryStands, MemoryStandsForSome};
 
     /// Takes all memory for a unit and a configuration. Nothing came.
     pub fn make(alloc: Global, side: Side, config: &Config) -> Result<UnitMemory, NoMemory>
         requires { IsConfig config.now }
         ensures holds { IfOk result (λ m. (clock : ℤ) → Holds side config.now clock m [] []) }
-        ensures unmarked { IfOk result (λ m. (cell : Cell) → cells_done m.cells cell ≡ false) }
+        ensures unreported { IfOk result (λ m. (cell : Cell) → cells_reported m.cells cell ≡ false) }
     {
         let endpoints = Vec::from_slice(alloc, config.endpoints.as_slice())?;
         let cells = UnitCells::make(alloc, side, config)?;
@@ -90,12 +87,12 @@ impl UnitMemory {
     /// Treats the whole messages that are left of a frame, in their order. Tells how many they are, or the greatest `u32` where they
     /// are more, and whether one of them has real-time control data.
     fn take_messages(&mut self, at: Ticks, left: &mut Messages<'_>) -> (u32, bool)
-        requires unit { StandsForSome at.0 self.old }
+        requires unit { MemoryStandsForSome at.0 self.old }
         requires time { IsTime at.0 }
         ensures holds { (side : SpecSide) (c : SpecConfig) (arrivals : List Arrival) (ms : List Meeting) (beside : List Counter)
-            → Stands side c at.0 self.old arrivals ms beside
-            → Stands side c at.0 self.new arrivals (onto ms (met_in side c.endpoints at.0 (left_of left.old))) beside }
-        ensures marks { LeavesMarks at.0 self.old.cells self.new.cells }
+            → MemoryStands side c at.0 self.old arrivals ms beside
+            → MemoryStands side c at.0 self.new arrivals (onto ms (met_in side c.endpoints at.0 (left_of left.old))) beside }
+        ensures reports { LeavesReported at.0 self.old.cells self.new.cells }
         ensures count { result.0 ≡ min (length (left_of left.old)) (2 ^ 32 - 1) }
         ensures control { result.1 ≡ list_any is_control (left_of left.old) }
         ensures frame { frame_of left.new ≡ frame_of left.old }
@@ -105,7 +102,7 @@ impl UnitMemory {
         while let Some(message) = left.next() {
             self.message(at, &message);
             count = count.saturating_add(1);
-            control |= message.head.kind == CONTROL;
+            control |= message.head.kind == REAL_TIME_CONTROL;
         }
         (count, control)
     }
@@ -118,7 +115,7 @@ impl UnitMemory {
         requires time { IsTime at.0 }
         ensures holds { (side : SpecSide) (c : SpecConfig) (arrivals : List Arrival) (beside : List Counter) → Holds side c at.0 self.old arrivals beside
             → Holds side c at.0 self.new (arrival at.0 frame.now ∷ arrivals) beside }
-        ensures marks { (side : SpecSide) (c : SpecConfig) → IsOf side c self.old.cells → SameMarks side c at.0 self.old.cells self.new.cells }
+        ensures reports { (side : SpecSide) (c : SpecConfig) → IsOf side c self.old.cells → SameReported side c at.0 self.old.cells self.new.cells }
         ensures messages { result.delivered.messages ≡ min (length (whole_messages frame.now)) (2 ^ 32 - 1) }
         ensures refusal { result.delivered.refusal ≡ (pdu frame.now).refusal }
         ensures control { result.control ≡ has_control frame.now }

@@ -5,9 +5,9 @@ ghost use Rattle.unit_cells.specs.window_config.specs.declared.config.Config.{Co
 ghost use Rattle.uplane_messages.specs.Left.{left_of};
 ghost use Rattle.unit_cells.specs.unit_model.specs.Blocks.{data_prb_count};
 ghost use Rattle.unit_cells.specs.Cells.{IsOf, endpoints_of};
-ghost use Rattle.unit_cells.specs.Headings.{IsProperHeading, data_of};
-ghost use Rattle.unit_cells.specs.Keeping.{SameMarks};
-ghost use Rattle.unit_memory.specs.Sections.{AreBehind, Came, Filled, FillsSome, IsBehind};
+ghost use Rattle.unit_cells.specs.Headings.{IsProperHeading, data_under};
+ghost use Rattle.unit_cells.specs.Keeping.{SameReported};
+ghost use Rattle.unit_memory.specs.Sections.{AreBehind, Came, Filled, FillsSome, AreSectionsBehind};
 
 use fault_counters::Counters;
 use unit_cells::unit_model::data_counter;
@@ -17,7 +17,7 @@ use uplane_messages::DataWalk;
 
 /// How many PRBs a section has.
 fn prb_count(heading: &DataHeading) -> u16
-    ensures { result ≡ data_prb_count (data_of heading.now []) }
+    ensures { result ≡ data_prb_count (data_under heading.now []) }
 {
     match heading.section.num_prb {
         0 => heading.endpoint.prbs,
@@ -28,10 +28,10 @@ fn prb_count(heading: &DataHeading) -> u16
 /// Gives the cell of PRB number `k` of a section its block, which comes next.
 fn fill_one(cells: &mut UnitCells, heading: &DataHeading, k: u16, walk: &mut DataWalk<'_>)
     requires heading { IsProperHeading cells.old.side (endpoints_of cells.old) heading.now }
-    requires within { k < data_prb_count (data_of heading.now []) }
-    requires behind { IsBehind heading.now k (left_of walk.old) }
+    requires within { k < data_prb_count (data_under heading.now []) }
+    requires behind { AreSectionsBehind heading.now k (left_of walk.old) }
     ensures filled { FillsSome heading.now k 1 (left_of walk.old) (left_of walk.new) cells.old cells.new }
-    ensures marks { (side : SpecSide) (c : Config) → IsOf side c cells.old → SameMarks side c heading.now.last.0 cells.old cells.new }
+    ensures reports { (side : SpecSide) (c : Config) → IsOf side c cells.old → SameReported side c heading.now.last.0 cells.old cells.new }
     ensures side { cells.new.side ≡ cells.old.side }
     ensures delays { cells.new.delays ≡ cells.old.delays }
     ensures endpoints { endpoints_of cells.new ≡ endpoints_of cells.old }
@@ -46,10 +46,10 @@ fn fill_one(cells: &mut UnitCells, heading: &DataHeading, k: u16, walk: &mut Dat
 /// packed PRBs, or that of a PRB which the pieces cut.
 fn fill_next(cells: &mut UnitCells, heading: &DataHeading, k: u16, walk: &mut DataWalk<'_>) -> u16
     requires heading { IsProperHeading cells.old.side (endpoints_of cells.old) heading.now }
-    requires within { k < data_prb_count (data_of heading.now []) }
-    requires behind { IsBehind heading.now k (left_of walk.old) }
+    requires within { k < data_prb_count (data_under heading.now []) }
+    requires behind { AreSectionsBehind heading.now k (left_of walk.old) }
     ensures filled { FillsSome heading.now k result (left_of walk.old) (left_of walk.new) cells.old cells.new }
-    ensures marks { (side : SpecSide) (c : Config) → IsOf side c cells.old → SameMarks side c heading.now.last.0 cells.old cells.new }
+    ensures reports { (side : SpecSide) (c : Config) → IsOf side c cells.old → SameReported side c heading.now.last.0 cells.old cells.new }
     ensures side { cells.new.side ≡ cells.old.side }
     ensures delays { cells.new.delays ≡ cells.old.delays }
     ensures endpoints { endpoints_of cells.new ≡ endpoints_of cells.old }
@@ -68,7 +68,7 @@ fn fill_section(cells: &mut UnitCells, heading: &DataHeading, walk: &mut DataWal
     requires heading { IsProperHeading cells.old.side (endpoints_of cells.old) heading.now }
     requires behind { AreBehind heading.now (left_of walk.old) }
     ensures filled { Filled heading.now (left_of walk.old) (left_of walk.new) cells.old cells.new }
-    ensures marks { (side : SpecSide) (c : Config) → IsOf side c cells.old → SameMarks side c heading.now.last.0 cells.old cells.new }
+    ensures reports { (side : SpecSide) (c : Config) → IsOf side c cells.old → SameReported side c heading.now.last.0 cells.old cells.new }
     ensures side { cells.new.side ≡ cells.old.side }
     ensures delays { cells.new.delays ≡ cells.old.delays }
     ensures endpoints { endpoints_of cells.new ≡ endpoints_of cells.old }
@@ -90,7 +90,7 @@ pub(crate) fn take_section(
     requires heading { IsProperHeading cells.old.side (endpoints_of cells.old) heading.now }
     requires behind { AreBehind heading.now (left_of walk.old) }
     ensures taken { Came heading.now (left_of walk.old) (left_of walk.new) cells.old cells.new counters.old counters.new }
-    ensures marks { (side : SpecSide) (c : Config) → IsOf side c cells.old → SameMarks side c heading.now.last.0 cells.old cells.new }
+    ensures reports { (side : SpecSide) (c : Config) → IsOf side c cells.old → SameReported side c heading.now.last.0 cells.old cells.new }
     ensures side { cells.new.side ≡ cells.old.side }
     ensures delays { cells.new.delays ≡ cells.old.delays }
     ensures endpoints { endpoints_of cells.new ≡ endpoints_of cells.old }

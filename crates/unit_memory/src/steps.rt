@@ -31,7 +31,7 @@ use unit_cells::unit_model::{ControlSection, Met, command_counter, fragment_coun
 use unit_cells::window_config::EndpointConfig;
 
 impl UnitMemory {
-    ghost use Rattle.unit_memory.specs.Parts.{HoldsParts, HoldsSomeParts, LeavesMarks, Stands, StandsForSome};
+    ghost use Rattle.unit_memory.specs.Parts.{HoldsParts, HoldsSomeParts, LeavesReported, MemoryStands, MemoryStandsForSome};
 
     /// Counts what is no section.
     pub(crate) fn count(&mut self, counter: Counter)
@@ -61,7 +61,7 @@ impl UnitMemory {
         requires proper { IsProperCommand (endpoints_of self.old.cells) command.now }
         ensures holds { (c : Config) (n : SpecCounter → ℕ) (fs : List Fragment) (cs : List SpecControlSection) (ds : List UserSection)
             → HoldsParts Ru c command.now.at.0 self.old n fs cs ds → HoldsParts Ru c command.now.at.0 self.new n fs (command.now ∷ cs) ds }
-        ensures marks { LeavesMarks command.now.at.0 self.old.cells self.new.cells }
+        ensures reports { LeavesReported command.now.at.0 self.old.cells self.new.cells }
     {
         let verdict = self.cells.command(command);
         self.counters.add(command_counter(verdict));
@@ -83,7 +83,7 @@ impl UnitMemory {
         ensures holds { (c : Config) (n : SpecCounter → ℕ) (fs : List Fragment) (cs : List SpecControlSection) (ds : List UserSection)
             → HoldsParts Ru c at.0 self.old n fs cs ds
             → HoldsParts Ru c at.0 self.new n fs (onto cs (commands_with ep endpoint.now at.0 head.now (sections_in head.now bytes.now))) ds }
-        ensures marks { LeavesMarks at.0 self.old.cells self.new.cells }
+        ensures reports { LeavesReported at.0 self.old.cells self.new.cells }
     {
         for section in sections(bytes, head) {
             let command = ControlSection {
@@ -116,7 +116,7 @@ impl UnitMemory {
             let hold = hold_of side c.delays in
             let told = data_now side hold endpoint.now f fs in
             HoldsParts side c at.0 self.new (λ k. n k + times (piece_counted hold f fs told) k) (f ∷ fs) cs (data_told told ++ ds) }
-        ensures marks { LeavesMarks at.0 self.old.cells self.new.cells }
+        ensures reports { LeavesReported at.0 self.old.cells self.new.cells }
     {
         let verdict = assemble(
             &mut self.assembly,
@@ -133,12 +133,12 @@ impl UnitMemory {
 
     /// Treats a whole message.
     pub(crate) fn message(&mut self, at: Ticks, message: &WholeMessage<'_>)
-        requires unit { StandsForSome at.0 self.old }
+        requires unit { MemoryStandsForSome at.0 self.old }
         requires time { IsTime at.0 }
         ensures holds { (side : SpecSide) (c : Config) (arrivals : List Arrival) (ms : List Meeting) (beside : List SpecCounter)
-            → Stands side c at.0 self.old arrivals ms beside
-            → Stands side c at.0 self.new arrivals (met_by_definition side c.endpoints at.0 (message_of message.now) ∷ ms) beside }
-        ensures marks { LeavesMarks at.0 self.old.cells self.new.cells }
+            → MemoryStands side c at.0 self.old arrivals ms beside
+            → MemoryStands side c at.0 self.new arrivals (met_by_definition side c.endpoints at.0 (message_of message.now) ∷ ms) beside }
+        ensures reports { LeavesReported at.0 self.old.cells self.new.cells }
     {
         self.count(Counter::Messages);
         match meet(self.cells.side(), self.endpoints.as_slice(), message) {

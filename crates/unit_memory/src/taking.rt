@@ -16,7 +16,7 @@ ghost use Rattle.unit_cells.specs.unit_model.specs.Radiated.{is_down};
 ghost use Rattle.unit_cells.specs.unit_model.specs.declared.allocations.Allocation.{Allocation};
 ghost use Rattle.unit_cells.specs.unit_model.specs.declared.decoded.UserSection.{UserSection};
 ghost use Rattle.unit_cells.specs.Cells.{IsOf, endpoints_of};
-ghost use Rattle.unit_cells.specs.Keeping.{SameMarks};
+ghost use Rattle.unit_cells.specs.Keeping.{SameReported};
 ghost use Rattle.unit_memory.specs.Holding.{HoldsData};
 ghost use Rattle.unit_memory.specs.Sections.{items_of};
 
@@ -61,7 +61,7 @@ fn take_sections(
         → HoldsData side c (message_of lease.now).last n acc
         (map (data_with ep endpoint.now (message_of lease.now).first (message_of lease.now).last head) (gathered nothing_told (items_of endpoint.now lease.now)).parts ++ ds)
         cells.new counters.new }
-    ensures marks { (side : SpecSide) (c : Config) → IsOf side c cells.old → SameMarks side c (message_of lease.now).last cells.old cells.new }
+    ensures reports { (side : SpecSide) (c : Config) → IsOf side c cells.old → SameReported side c (message_of lease.now).last cells.old cells.new }
     ensures side { cells.new.side ≡ cells.old.side }
     ensures delays { cells.new.delays ≡ cells.old.delays }
     ensures endpoints { endpoints_of cells.new ≡ endpoints_of cells.old }
@@ -114,7 +114,7 @@ pub fn take_message(
         HoldsData side c (message_of lease.now).last (λ k. n k + times (decoded_counted (Some d)) k) acc (sections_of d ++ ds) cells.new counters.new }
     ensures rests { decoded_counted (Some (decode cells.old.side ep endpoint.now (message_of lease.now).first (message_of lease.now).last (message_bytes lease.now))) ≢ []
         → cells.new ≡ cells.old }
-    ensures marks { (side : SpecSide) (c : Config) → IsOf side c cells.old → SameMarks side c (message_of lease.now).last cells.old cells.new }
+    ensures reports { (side : SpecSide) (c : Config) → IsOf side c cells.old → SameReported side c (message_of lease.now).last cells.old cells.new }
     ensures side { cells.new.side ≡ cells.old.side }
     ensures delays { cells.new.delays ≡ cells.old.delays }
     ensures endpoints { endpoints_of cells.new ≡ endpoints_of cells.old }

@@ -31,7 +31,7 @@ data_up_window d is = record {
 
 pub ruleset windows = (data_up_window)
 
-kept_timely : (P : UserSection → Type 0) (k : Class) (d : UserSection) (ds : List UserSection) → P d → All P ds → All P (with_timely k d ds)
+pub kept_timely : (P : UserSection → Type 0) (k : Class) (d : UserSection) (ds : List UserSection) → P d → All P ds → All P (with_timely k d ds)
 kept_timely P class.OnTime d ds here all = All-cons P d ds here all
 kept_timely P class.Late d ds here all = all
 kept_timely P class.Early d ds here all = all

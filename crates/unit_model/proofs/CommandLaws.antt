@@ -7,6 +7,9 @@ use Rattle.air_source.specs.fault_counters.specs.declared.kinds.Counter.TheVaria
 use Rattle.window_config.specs.declared.endpoints.EndpointConfig.{EndpointConfig}
 use Rattle.unit_model.specs.Meetings.{Meeting, Ignored, Commands, Piece, met_by, meet, find_endpoint, id_of, fragment_of}
 use Rattle.unit_model.specs.declared.decoded.ControlSection.{ControlSection}
+use Rattle.ecpri_frames.specs.declared.heads.TheConstants.{ONE_WAY_DELAY}
+use Rattle.ecpri_frames.specs.declared.heads.TheConstants.{REAL_TIME_CONTROL}
+use Rattle.ecpri_frames.specs.declared.heads.TheConstants.{IQ_DATA}
 
 abbrev pub IsNoCommand : Meeting → Type 0
 IsNoCommand (Ignored c) = Unit {0}
@@ -19,16 +22,16 @@ either_none false x y p q = q
 
 none_by : (kind : ℕ) (at : ℤ) (payload : List ℕ) (found : Option (ℕ × EndpointConfig)) → IsNoCommand (met_by Du kind at payload found)
 none_by kind at payload None = tt
-none_by kind at payload (Some (ep, e)) = either_none (kind == 2) (Ignored WrongWay) (Piece e (fragment_of ep at payload)) tt tt
+none_by kind at payload (Some (ep, e)) = either_none (kind == REAL_TIME_CONTROL) (Ignored WrongWay) (Piece e (fragment_of ep at payload)) tt tt
 
 pub none_met : (es : List EndpointConfig) (at : ℤ) (m : Message) → IsNoCommand (meet Du es at m)
 unfolding meet
 none_met es at m =
     let found = met_by Du m.head.kind at m.payload (find_endpoint es (id_of m.payload)) in
     let long = cond (nat_lt (length m.payload) 4) (Ignored Short) found in
-    let typed = cond (not (m.head.kind == 0 || m.head.kind == 2)) (Ignored OtherType) long in
-    either_none (m.head.kind == 5) (Ignored Delay) typed tt
-    (either_none (not (m.head.kind == 0 || m.head.kind == 2)) (Ignored OtherType) long tt
+    let typed = cond (not (m.head.kind == IQ_DATA || m.head.kind == REAL_TIME_CONTROL)) (Ignored OtherType) long in
+    either_none (m.head.kind == ONE_WAY_DELAY) (Ignored Delay) typed tt
+    (either_none (not (m.head.kind == IQ_DATA || m.head.kind == REAL_TIME_CONTROL)) (Ignored OtherType) long tt
     (either_none (nat_lt (length m.payload) 4) (Ignored Short) found tt (none_by m.head.kind at m.payload (find_endpoint es (id_of m.payload)))))
 
 -- so where a message is a command, the unit is the radio unit

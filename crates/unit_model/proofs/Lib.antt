@@ -11,3 +11,6 @@ pub mod SectionLemmas
 pub mod UplinkLaws
 pub mod ReachLaws
 pub mod VerdictLemmas
+pub mod ClaimLemmas
+pub mod GatheringLemmas
+pub mod InTimeLemmas

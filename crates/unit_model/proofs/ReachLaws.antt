@@ -22,6 +22,7 @@ use Rattle.unit_model.specs.Lists.{each, each_tick}
 use Rattle.unit_model.specs.Proper.{IsAt}
 use Rattle.unit_model.specs.Sweeps.{OfSymbol, slot_at, frame_of_tick, first_swept, frames_swept, of_symbol, of_slot, of_subframe, of_frame, of_endpoint, of_endpoints, at_tick, sweep}
 use Rattle.unit_model.proofs.SweepLaws.{each_split, ticks_split, gap_is, gap_parts}
+use Rattle.fh_time.specs.declared.frames.TheConstants.{FRAME}
 
 -- ---- how late a symbol may start
 
@@ -49,8 +50,8 @@ kind_soon (Offset Khz5 t c) s m short h k = omega (arith, kind_covers (Offset Kh
 kind_soon Extended s m short h k = omega (arith, kind_covers Extended s m k, kind_left Extended s h)
 
 in_air : (f : ℤ) (b x : ℕ) → b < 10 → x < 62976000000
-    → ((f *ℤ pos 15360000000) ≤ℤ (f *ℤ pos 15360000000 +ℤ pos (b * 1536000000 + x)))
-    × ((f *ℤ pos 15360000000 +ℤ pos (b * 1536000000 + x)) <ℤ (f *ℤ pos 15360000000 +ℤ pos 76800000000))
+    → ((f *ℤ FRAME) ≤ℤ (f *ℤ FRAME +ℤ pos (b * 1536000000 + x)))
+    × ((f *ℤ FRAME +ℤ pos (b * 1536000000 + x)) <ℤ (f *ℤ FRAME +ℤ pos 76800000000))
 in_air f b x h k = (omega (arith, ints), omega (arith, ints))
 
 -- a symbol starts less than 50 ms after its frame
@@ -60,7 +61,7 @@ symbol_soon n slot symbol short is h = in_air slot.frame slot.subframe _ is.subf
 
 -- ---- so its frame is one of those that a sweep goes over at its start
 
-near : (f q s : ℤ) → (f *ℤ pos 15360000000) ≤ℤ s → s <ℤ (f *ℤ pos 15360000000 +ℤ pos 76800000000) → (q *ℤ pos 15360000000) ≤ℤ s → s <ℤ (q *ℤ pos 15360000000 +ℤ pos 15360000000)
+near : (f q s : ℤ) → (f *ℤ FRAME) ≤ℤ s → s <ℤ (f *ℤ FRAME +ℤ pos 76800000000) → (q *ℤ FRAME) ≤ℤ s → s <ℤ (q *ℤ FRAME +ℤ FRAME)
     → (z : ℤ) → z ≡ f -ℤ (q -ℤ pos 5) → (k : ℕ) × (k < frames_swept) × (f ≡ (q -ℤ pos 5) +ℤ pos k)
 near f q s low high under over (pos k) is = (k, omega (arith, ints), omega (arith, ints))
 near f q s low high under over (negsuc k) is = absurd (omega (arith, ints))

@@ -10,6 +10,7 @@ use Rattle.unit_model.specs.Proper.{IsTime, IsSlot}
 use Rattle.unit_model.specs.Sound.{IsSoundCommand, IsSoundData}
 use Rattle.unit_model.specs.declared.decoded.ControlSection.{ControlSection}
 use Rattle.unit_model.specs.declared.decoded.UserSection.{UserSection}
+use Rattle.fh_time.specs.declared.frames.TheConstants.{FRAME}
 
 -- the frame nearest to a time that a unit may be given is one whose symbols' times can be told
 pub frame_low : (id : ℕ) (at f : ℤ) → IsTime at → IsFrame id at f → neg_ℤ (pos 1000000) ≤ℤ f
@@ -21,17 +22,17 @@ frame_high id at f time is = (frame_near id at f is time.low time.high).1
 pub ruleset slots = (frame_low, frame_high)
 
 -- the same of the number that is defined
-bounds : (at q r : ℤ) → neg_ℤ (pos 9007199254740992) ≤ℤ at → at ≤ℤ pos 9007199254740992 → (q *ℤ pos 15360000000) ≤ℤ (at +ℤ pos 15359999999)
-    → (at +ℤ pos 15359999999) <ℤ (q *ℤ pos 15360000000 +ℤ pos 15360000000) → pos 0 ≤ℤ r → r <ℤ pos 256
+bounds : (at q r : ℤ) → neg_ℤ (pos 9007199254740992) ≤ℤ at → at ≤ℤ pos 9007199254740992 → (q *ℤ FRAME) ≤ℤ (at +ℤ (FRAME -ℤ pos 1))
+    → (at +ℤ (FRAME -ℤ pos 1)) <ℤ (q *ℤ FRAME +ℤ FRAME) → pos 0 ≤ℤ r → r <ℤ pos 256
     → (neg_ℤ (pos 1000000) ≤ℤ (q -ℤ pos 128 +ℤ r)) × ((q -ℤ pos 128 +ℤ r) ≤ℤ pos 1000000)
 bounds at q r low high under over some few = (omega (arith, ints), omega (arith, ints))
 
 pub absolute_near : (id : ℕ) (at : ℤ) → IsTime at → (neg_ℤ (pos 1000000) ≤ℤ absolute_frame id at) × (absolute_frame id at ≤ℤ pos 1000000)
 unfolding absolute_frame
 absolute_near id at time =
-    let floor = frame_floor (at +ℤ pos 15359999999) in
+    let floor = frame_floor (at +ℤ (FRAME -ℤ pos 1)) in
     let rest = rest_small (pos id -ℤ first_frame at) (int_rem_euclid (pos id -ℤ first_frame at) (pos 256)) refl in
-    bounds at (int_div_euclid (at +ℤ pos 15359999999) (pos 15360000000)) (int_rem_euclid (pos id -ℤ first_frame at) (pos 256)) time.low time.high floor.0 floor.1 rest.0 rest.1
+    bounds at (int_div_euclid (at +ℤ (FRAME -ℤ pos 1)) FRAME) (int_rem_euclid (pos id -ℤ first_frame at) (pos 256)) time.low time.high floor.0 floor.1 rest.0 rest.1
 
 pub command_slot_is : (c : ControlSection) → IsSoundCommand c → IsSlot c.endpoint.numerology (command_slot c)
 command_slot_is c is =

@@ -171,7 +171,7 @@ gap_parts a t b low high =
     let all = gap_is a b (omega (arith, ints)) in
     omega (arith, ints, before, after, all)
 
-no_ticks : {A : Type 0} (from : ℤ) (f : ℤ → List A) → each_tick from 0 f ≡ []
+pub no_ticks : {A : Type 0} (from : ℤ) (f : ℤ → List A) → each_tick from 0 f ≡ []
 unfolding each_tick
 no_ticks from f = refl
 

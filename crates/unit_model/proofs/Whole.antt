@@ -19,12 +19,13 @@ use Rattle.fh_time.specs.Carrier.{is_outside, first_of, count_of}
 use Rattle.uplane_sections.specs.Section.{rb, is_method, startPrbu, numPrbu, symInc, header_size, method_of, section_of, size_of}
 use Rattle.uplane_sections.specs.Messages.{Item, Head, Section, Telling, refused, after, blocks, section_at, sections, told}
 use Rattle.window_config.specs.declared.endpoints.EndpointConfig.{EndpointConfig}
-use Rattle.unit_model.specs.Decoding.{Part, Gathering, nothing_told, begun, longer, gathered, has_way, data_with, decoded_from, decode, Sections, Backwards, sections_of}
+use Rattle.unit_model.specs.Decoding.{SectionBlocks, Gathering, nothing_told, without_blocks, longer, gathered, has_way, data_with, decoded_from, decode, Sections, Backwards, sections_of}
 use Rattle.unit_model.specs.declared.decoded.UserSection.{UserSection}
 use Rattle.unit_model.specs.Proper.{IsAt, IsTime, IsProperData}
+use Rattle.fh_time.proofs.Orders.{not_lt, not_le, neither_le}
 
 -- a section that passed the tests, with all its PRBs
-pub record IsWholePart (prbs : ℕ) (shape : Shape) (p : Part) : Type 0 where
+pub record IsWholePart (prbs : ℕ) (shape : Shape) (p : SectionBlocks) : Type 0 where
   pub symbol : p.section.symbol < shape.symbols
   pub within : is_outside prbs p.section.start_prb p.section.num_prb ≡ false
   pub blocks : length p.blocks ≡ count_of prbs p.section.num_prb
@@ -34,17 +35,17 @@ pub record IsWholeAfter (prbs : ℕ) (shape : Shape) (head : Option UHead) (g : 
   pub same_head : g.head ≡ head
   pub parts : All (IsWholePart prbs shape) g.parts
 
-abbrev with_parts : Option UHead → List Part → Gathering
+abbrev with_parts : Option UHead → List SectionBlocks → Gathering
 with_parts head ps = record { head = head; parts = ps }
 
 -- these items give the newest section n further PRBs
-record Lengthens (n : ℕ) (head : Option UHead) (p : Part) (ps : List Part) (items rest : List Item) : Type 0 where
-  q : Part
+record Lengthens (n : ℕ) (head : Option UHead) (p : SectionBlocks) (ps : List SectionBlocks) (items rest : List Item) : Type 0 where
+  q : SectionBlocks
   section : q.section ≡ p.section
   blocks : length q.blocks ≡ length p.blocks + n
   is : gathered (with_parts head (p ∷ ps)) (items ++ rest) ≡ gathered (with_parts head (q ∷ ps)) rest
 
-lengthens : (method : Method) (prb n : ℕ) (bytes : List ℕ) (head : Option UHead) (p : Part) (ps : List Part) (rest : List Item) → n * length_of method ≤ length bytes →
+lengthens : (method : Method) (prb n : ℕ) (bytes : List ℕ) (head : Option UHead) (p : SectionBlocks) (ps : List SectionBlocks) (rest : List Item) → n * length_of method ≤ length bytes →
     Lengthens n head p ps (blocks method prb n bytes) rest
 unfolding gathered
 lengthens method prb zero bytes head p ps rest h = record { q = p; section = refl; blocks = omega arith; is = refl }
@@ -70,20 +71,10 @@ passes false r x h = record { passed = refl; rest = h }
 abbrev refusal_at : ℕ → UWhy → URefusal
 refusal_at place why = record { place = place; why = why }
 
-not_lt : (m n : ℕ) → nat_lt m n ≡ false → n ≤ m
-not_lt m n h = grind (arith, nat_tests)
-
-not_le : (m n : ℕ) → nat_le m n ≡ false → n < m
-not_le m n h = grind (arith, nat_tests)
-
 neither_lt : (m n : ℕ) (t : Bool) → (nat_lt m n || t) ≡ false → n < suc m
 neither_lt m n t h = grind (arith, nat_tests)
 
-neither_le : (t : Bool) (m n : ℕ) → (t || nat_le m n) ≡ false → n < m
-neither_le true m n h = absurd cc
-neither_le false m n h = not_le m n h
-
-whole_part : (prbs : ℕ) (shape : Shape) (s : USection) (q : Part) → q.section ≡ s → s.symbol < shape.symbols → is_outside prbs s.start_prb s.num_prb ≡ false → length q.blocks ≡ count_of prbs s.num_prb →
+whole_part : (prbs : ℕ) (shape : Shape) (s : USection) (q : SectionBlocks) → q.section ≡ s → s.symbol < shape.symbols → is_outside prbs s.start_prb s.num_prb ≡ false → length q.blocks ≡ count_of prbs s.num_prb →
     IsWholePart prbs shape q
 whole_part prbs shape s q e below within b = record {
   symbol = rw e below;
@@ -128,7 +119,7 @@ module _ (format : Format) (prbs : ℕ) (shape : Shape) where
       let p7 = passes t7 short next p6.rest in
       let size = not_lt (length bytes) (size_of format prbs bytes) p7.passed in
       let room : count * length_of method ≤ length behind = omega (arith, length-drop (header_size format) bytes) in
-      let l = lengthens method (first_of (startPrbu bytes) (numPrbu bytes)) count behind g.head (begun s) g.parts next.items room in
+      let l = lengthens method (first_of (startPrbu bytes) (numPrbu bytes)) count behind g.head (without_blocks s) g.parts next.items room in
       let below = not_le shape.symbols (before + symInc bytes) p3.passed in
       let counted : length l.q.blocks ≡ count = omega (arith, l.blocks) in
       let part : IsWholePart prbs shape l.q = whole_part prbs shape s l.q l.section below p4.passed counted in
@@ -178,7 +169,7 @@ module _ (format : Format) (prbs : ℕ) (shape : Shape) where
       } in
       rw (p1.passed, p2.passed, p3.passed, p4.passed) whole
 
-data_proper : (es : List EndpointConfig) (ep : ℕ) (e : EndpointConfig) (first last : ℤ) (head : UHead) (ps : List Part) → IsAt es ep e → IsTime first → IsTime last →
+data_proper : (es : List EndpointConfig) (ep : ℕ) (e : EndpointConfig) (first last : ℤ) (head : UHead) (ps : List SectionBlocks) → IsAt es ep e → IsTime first → IsTime last →
     head.subframe < 10 → head.slot < slots_of e.numerology → All (IsWholePart e.prbs (shape_of e.numerology)) ps → All (IsProperData es) (map (data_with ep e first last head) ps)
 data_proper es ep e first last head ps i f l subframe slot parts =
     All-map (IsProperData es) (data_with ep e first last head) ps

@@ -20,6 +20,7 @@ use Rattle.unit_model.specs.declared.allocations.Allocation.{Allocation}
 use Rattle.unit_model.specs.declared.decoded.ControlSection.{ControlSection}
 use Rattle.unit_model.specs.declared.verdicts.CommandVerdict.{CommandVerdict}
 use Rattle.unit_model.specs.declared.verdicts.CommandVerdict.TheVariants.{Mismatch, Late, Early, Range, Repeat, Overlap, Full, Accepted}
+use Rattle.unit_model.specs.declared.uplink.TheConstants.{SLOT_SECTIONS}
 
 -- the slot that a command names, by the frame nearest to its arrival
 abbrev pub command_slot : ControlSection → Slot
@@ -78,12 +79,8 @@ uplink_in ep slot [] = 0
 uplink_in ep slot (a ∷ earlier) =
     uplink_in ep slot earlier + (if is_uplink a && ((a.ep == ep) && same_slot a.slot slot) then 1 else 0)
 
--- a slot of an endpoint takes so many uplink sections
-abbrev pub most_uplink : ℕ
-most_uplink = 64
-
 abbrev pub is_full : List Allocation → Allocation → Bool
-is_full accepted a = is_uplink a && nat_le most_uplink (uplink_in a.ep a.slot accepted)
+is_full accepted a = is_uplink a && nat_le SLOT_SECTIONS (uplink_in a.ep a.slot accepted)
 
 -- the verdict on an allocation that is on time, where these were accepted
 abbrev pub timely_verdict : List Allocation → Allocation → CommandVerdict

@@ -18,32 +18,32 @@ use Rattle.unit_model.specs.Meetings.{Meeting, Ignored, Commands, Piece, fragmen
 use Rattle.unit_model.specs.declared.decoded.UserSection.{UserSection}
 
 -- a section with the samples of its PRBs, in their order
-pub record Part : Type 0 where
+pub record SectionBlocks : Type 0 where
   pub section : USection
   pub blocks : List (List Wide)
 
 -- what a message has told so far, the newest section first
 pub record Gathering : Type 0 where
   pub head : Option UHead
-  pub parts : List Part
+  pub parts : List SectionBlocks
 
 abbrev pub nothing_told : Gathering
 nothing_told = record { head = None; parts = [] }
 
-abbrev pub begun : USection → Part
-begun s = record { section = s; blocks = [] }
+abbrev pub without_blocks : USection → SectionBlocks
+without_blocks s = record { section = s; blocks = [] }
 
-abbrev pub longer : List Wide → Part → Part
+abbrev pub longer : List Wide → SectionBlocks → SectionBlocks
 longer samples p = record { section = p.section; blocks = p.blocks ++ samples ∷ [] }
 
 -- a PRB belongs to the last section before it
-abbrev pub with_block : List Wide → List Part → List Part
+abbrev pub with_block : List Wide → List SectionBlocks → List SectionBlocks
 with_block samples [] = []
 with_block samples (p ∷ ps) = longer samples p ∷ ps
 
 abbrev pub with_item : Gathering → Item → Gathering
 with_item g (Head h) = record { head = Some h; parts = g.parts }
-with_item g (Section s) = record { head = g.head; parts = begun s ∷ g.parts }
+with_item g (Section s) = record { head = g.head; parts = without_blocks s ∷ g.parts }
 with_item g (Block prb samples) = record { head = g.head; parts = with_block samples g.parts }
 
 unfoldable pub gathered : Gathering → List Item → Gathering
@@ -63,7 +63,7 @@ abbrev pub has_way : Side → UHead → Bool
 has_way Ru head = head.down
 has_way Du head = not head.down
 
-abbrev pub data_with : ℕ → EndpointConfig → ℤ → ℤ → UHead → Part → UserSection
+abbrev pub data_with : ℕ → EndpointConfig → ℤ → ℤ → UHead → SectionBlocks → UserSection
 data_with ep e first last head p = record {
   ep = ep;
   endpoint = e;
@@ -74,7 +74,7 @@ data_with ep e first last head p = record {
   blocks = p.blocks;
 }
 
-abbrev pub decoded_with : Side → ℕ → EndpointConfig → ℤ → ℤ → List Part → Option UHead → Decoded
+abbrev pub decoded_with : Side → ℕ → EndpointConfig → ℤ → ℤ → List SectionBlocks → Option UHead → Decoded
 decoded_with side ep e first last parts None = Refused
 decoded_with side ep e first last parts (Some head) =
     if has_way side head then Sections (map (data_with ep e first last head) parts) else Backwards

@@ -20,6 +20,9 @@ use Rattle.air_source.specs.fault_counters.specs.declared.kinds.Counter.TheVaria
 use Rattle.window_config.specs.declared.endpoints.EndpointConfig.{EndpointConfig}
 use Rattle.unit_model.specs.Lists.{onto}
 use Rattle.unit_model.specs.declared.decoded.ControlSection.{ControlSection}
+use Rattle.ecpri_frames.specs.declared.heads.TheConstants.{ONE_WAY_DELAY}
+use Rattle.ecpri_frames.specs.declared.heads.TheConstants.{REAL_TIME_CONTROL}
+use Rattle.ecpri_frames.specs.declared.heads.TheConstants.{IQ_DATA}
 
 -- a frame, and when it came, in ticks
 pub record Arrival : Type 0 where
@@ -93,13 +96,13 @@ fragment_of ep at payload = fragment_with ep at (sequence_of payload) (applicati
 abbrev pub met_by : Side → ℕ → ℤ → List ℕ → Option (ℕ × EndpointConfig) → Meeting
 met_by side kind at payload None = Ignored UnknownEndpoint
 met_by side kind at payload (Some (ep, e)) =
-    if kind == 2 then control_met side ep e at payload else Piece e (fragment_of ep at payload)
+    if kind == REAL_TIME_CONTROL then control_met side ep e at payload else Piece e (fragment_of ep at payload)
 
 -- type 5 is one-way delay measurement; the other types are none of this profile
 unfoldable pub meet : Side → List EndpointConfig → ℤ → Message → Meeting
 meet side es at m =
-    if m.head.kind == 5 then Ignored Delay
-    else (if not (m.head.kind == 0 || m.head.kind == 2) then Ignored OtherType
+    if m.head.kind == ONE_WAY_DELAY then Ignored Delay
+    else (if not (m.head.kind == IQ_DATA || m.head.kind == REAL_TIME_CONTROL) then Ignored OtherType
     else (if nat_lt (length m.payload) 4 then Ignored Short
     else met_by side m.head.kind at m.payload (find_endpoint es (id_of m.payload))))
 

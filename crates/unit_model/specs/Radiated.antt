@@ -19,6 +19,7 @@ use Rattle.unit_model.specs.declared.cells.Block.{Block}
 use Rattle.unit_model.specs.declared.cells.Cell.{Cell}
 use Rattle.unit_model.specs.declared.cells.Claim.{Claim}
 use Rattle.unit_model.specs.declared.decoded.UserSection.{UserSection}
+use Rattle.fh_time.specs.declared.frames.TheConstants.{FRAME}
 
 -- the direction of what a unit reports
 abbrev pub is_down : Side → Bool
@@ -92,7 +93,7 @@ symbol_report side k ep e slot symbol = each 0 e.prbs (cell_report side k ep e s
 
 -- a unit's clock begins one frame before 0
 abbrev pub first_clock : ℤ
-first_clock = pos 0 -ℤ pos 15360000000
+first_clock = pos 0 -ℤ FRAME
 
 -- how long after its symbol's start a cell is reported
 abbrev pub wait_of : Side → Delays → ℤ

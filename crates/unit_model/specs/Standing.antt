@@ -92,7 +92,7 @@ pub record View : Type 0 where
   -- the uplink sections of an endpoint's slot that were accepted, the newest first
   pub uplink : ℕ → Slot → List Allocation
   -- whether a downlink cell was reported
-  pub done : Cell → Bool
+  pub reported : Cell → Bool
   -- the jobs up to a time that it has still to give
   pub jobs : ℤ → List UplinkJob
 
@@ -182,7 +182,7 @@ pub record StandsBy (answers : ℕ → Slot → Type 0) (c : Config) (v : View) 
   pub claims : (e : EndpointConfig) (cell : Cell) (re : ℕ) → IsCell c e cell → answers cell.ep cell.slot → re < 12
       → v.kept.known.claims cell re ≡ (ru_known c h.arrivals).claims cell re
   pub uplink : (e : EndpointConfig) (ep : ℕ) (slot : Slot) → IsAt c.endpoints ep e → IsSlot e.numerology slot → answers ep slot → v.uplink ep slot ≡ uplink_of ep slot (accepted_of c h.arrivals)
-  pub done : (e : EndpointConfig) (cell : Cell) → IsCell c e cell → cell.down ≡ true → answers cell.ep cell.slot → v.done cell ≡ list_any (cell_heard e cell) h.reported
+  pub reported : (e : EndpointConfig) (cell : Cell) → IsCell c e cell → cell.down ≡ true → answers cell.ep cell.slot → v.reported cell ≡ list_any (cell_heard e cell) h.reported
   pub jobs : (to : ℤ) → v.jobs to ≡ still_given c (accepted_of c h.arrivals) h.given to
 
 -- The distributed unit stands for a history, where these uplink allocations are planned: beside what both units keep, the claims of

@@ -8,6 +8,7 @@ use Rattle.fh_time.specs.Air.{air_of}
 use Rattle.fh_time.specs.Numbering.{slots_of, symbols_of}
 use Rattle.window_config.specs.declared.endpoints.EndpointConfig.{EndpointConfig}
 use Rattle.unit_model.specs.Lists.{each, each_tick}
+use Rattle.fh_time.specs.declared.frames.TheConstants.{FRAME}
 
 -- what is told of one symbol of an endpoint with this index
 abbrev pub OfSymbol : Type 0 → Type 0
@@ -18,7 +19,7 @@ slot_at frame subframe slot = record { frame = frame; subframe = subframe; slot 
 
 -- the frame that a tick lies in
 abbrev pub frame_of_tick : ℤ → ℤ
-frame_of_tick s = int_div_euclid s (pos 15360000000)
+frame_of_tick s = int_div_euclid s FRAME
 
 -- a symbol starts less than 50 ms after its frame, so a symbol that starts at a tick is one of the frame of the tick or of the five
 -- frames before it

@@ -31,6 +31,6 @@ pub use samples::samples_under;
 pub use slots::{allocation_of, same_slot};
 pub use symbol_start::{SymbolStart, comes_before};
 pub use uplane_sections;
-pub use uplink::{is_from, place_of, sends_in};
+pub use uplink::{SLOT_SECTIONS, is_from, place_of, sends_in};
 pub use verdicts::{CommandVerdict, DataVerdict};
 pub use window_config;

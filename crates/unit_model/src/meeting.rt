@@ -10,7 +10,7 @@ use air_source::Side;
 use air_source::fault_counters::Counter;
 use cplane_sections::{CHead, check};
 use ecpri_fragments::{SeqField, read_seq};
-use ecpri_frames::WholeMessage;
+use ecpri_frames::{IQ_DATA, ONE_WAY_DELAY, REAL_TIME_CONTROL, WholeMessage};
 use fh_time::shape;
 use window_config::EndpointConfig;
 
@@ -109,10 +109,10 @@ pub fn meet<'a>(side: Side, endpoints: &[EndpointConfig], message: &WholeMessage
 {
     let kind = message.head.kind;
     let payload = message.payload;
-    if kind == 5 {
+    if kind == ONE_WAY_DELAY {
         return Met::Ignored(Counter::Delay);
     }
-    if !(kind == 0 || kind == 2) {
+    if !(kind == IQ_DATA || kind == REAL_TIME_CONTROL) {
         return Met::Ignored(Counter::OtherType);
     }
     if payload.len() < 4 {
@@ -122,7 +122,7 @@ pub fn meet<'a>(side: Side, endpoints: &[EndpointConfig], message: &WholeMessage
         Some(found) => found,
         None => return Met::Ignored(Counter::UnknownEndpoint),
     };
-    if kind == 2 {
+    if kind == REAL_TIME_CONTROL {
         return control(side, ep, endpoint, payload);
     }
     Met::Piece {

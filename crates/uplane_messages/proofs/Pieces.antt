@@ -10,7 +10,7 @@ use Rattle.uplane_sections.specs.declared.steps.UFeed.{UFeed}
 use Rattle.uplane_sections.specs.declared.steps.UFeed.TheVariants as feed
 use Rattle.uplane_sections.specs.Phases.{feed_told}
 use Rattle.uplane_sections.specs.States.{tells, Tells, Answers}
-use Rattle.uplane_sections.proofs.Histories.{silent}
+use Rattle.uplane_sections.proofs.Histories.{silent_walker as nothing_more}
 use Rattle.ecpri_fragments.specs.declared.place.Span.{Span}
 use Rattle.ecpri_fragments.specs.declared.assembly.Lease.{Lease}
 use Rattle.ecpri_fragments.specs.Spans.{pieces_in, bytes_of, span_of}
@@ -76,13 +76,6 @@ part_skipped ps k at h =
     sym (part_from ps (k + 1)) ∙ ap (λ (xs : List ℕ). first_of_pieces xs (drop (k + 1) ps)) (sym (drop_of_length-le (piece_of ps k) h))
 
 -- ---- the walker
-
--- nothing is told of no bytes
-pub nothing_more : (w : UWalker) → (tells w []).items ≡ []
-nothing_more w =
-    let part = w.part in
-    let there : length (take w.there w.held ++ []) ≡ min w.there (length w.held) = ap length (append-nil (take w.there w.held)) ∙ length-take w.there w.held in
-    silent w.format w.prbs w.shape w.phase w.start (take w.there w.held ++ []) (omega arith) w.left
 
 -- of the bytes from a place on a walker tells what it tells of the rest of the piece, and then what it tells behind that
 pub fed : (old new : UWalker) (ps : List (List ℕ)) (k at used : ℕ) (items : List Item) →

@@ -1,5 +1,5 @@
 -- The items of a message that is not refused: each test was passed, and each PRB came.
-use Rattle.std.proofs.Common.{◌≡◌, ℕ, zero, suc, ◌+◌, ◌-◌, ◌*◌, ◌<◌, ◌≤◌, Bool, true, false, cond, List, [], ◌∷◌, ◌++◌, length, drop, None, refl, sym, ap, subst, ◌∙◌, arith, length-drop}
+use Rattle.std.proofs.Common.{◌≡◌, ℕ, zero, suc, ◌+◌, ◌-◌, ◌*◌, ◌≤◌, Bool, true, false, cond, List, [], ◌∷◌, ◌++◌, length, drop, None, refl, sym, ap, subst, ◌∙◌, arith, length-drop}
 use Rattle.std.specs.Prelude.{nat_lt, nat_le, not, ◌&&◌, ◌||◌, ◌==◌}
 use Rattle.std.proofs.lemmas.Bool.Decides.{nat_tests}
 use Rattle.fh_time.specs.declared.values.Shape.{Shape}
@@ -18,6 +18,7 @@ use Rattle.fh_time.specs.Carrier.{is_outside, first_of, count_of}
 use Rattle.uplane_sections.specs.Section.{rb, is_method, startPrbu, numPrbu, symInc, header_size, method_of, section_of, size_of}
 use Rattle.uplane_sections.specs.Messages.{Item, Head, Section, Block, Telling, refused, after, blocks, section_at, sections, told}
 use Rattle.uplane_messages.specs.Whole.{AreSections, IsWhole}
+use Rattle.fh_time.proofs.Orders.{not_lt, not_le, neither_le}
 
 -- where no block is to come, the number of the next one says nothing
 any_number : (prbs : ℕ) (shape : Shape) (p q : ℕ) (items : List Item) → AreSections prbs shape p 0 items → AreSections prbs shape q 0 items
@@ -65,18 +66,8 @@ passes false r x h = record { passed = refl; rest = h }
 abbrev refusal_at : ℕ → UWhy → URefusal
 refusal_at place why = record { place = place; why = why }
 
-not_lt : (m n : ℕ) → nat_lt m n ≡ false → n ≤ m
-not_lt m n h = grind (arith, nat_tests)
-
-not_le : (m n : ℕ) → nat_le m n ≡ false → n < m
-not_le m n h = grind (arith, nat_tests)
-
 neither_lt : (m n : ℕ) (t : Bool) → (nat_lt m n || t) ≡ false → n ≤ m
 neither_lt m n t h = grind (arith, nat_tests)
-
-neither_le : (t : Bool) (m n : ℕ) → (t || nat_le m n) ≡ false → n < m
-neither_le true m n h = absurd cc
-neither_le false m n h = not_le m n h
 
 module _ (format : Format) (prbs : ℕ) (shape : Shape) where
   -- where it is not refused it tells sections with all their blocks

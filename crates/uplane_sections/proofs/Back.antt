@@ -21,6 +21,7 @@ use Rattle.uplane_sections.specs.Writes.{flag, WritesHead, WritesSection, Writes
 use Rattle.uplane_sections.proofs.Behind.{behind}
 use Rattle.uplane_sections.proofs.Told.{head_step, section_step, compression_step}
 use Rattle.uplane_sections.proofs.Histories.{after_after}
+use Rattle.uplane_sections.proofs.Runs.{no_bytes as nil_is}
 
 head_passes : (shape : Shape) (h : UHead) (bytes : List ℕ) → WritesHead h bytes → IsHeadAdmitted shape h → head_checked shape bytes ≡ Ok h
 head_passes shape h bytes w a =
@@ -78,10 +79,6 @@ packed_back format prbs shape method symbol at prb n packed rest h =
     let l : length (packed ++ rest) ≡ length packed + length rest = length-append packed rest in
     let b = behind format prbs shape (packed ++ rest) (length packed) 0 at symbol (n * length_of method) (omega arith) (omega arith) in
     rw (blocks_back method prb n packed rest h, b, drop_at packed rest (length packed) refl, le-ltb (length rest) 0 (omega arith)) refl
-
-nil_is : (xs : List ℕ) → length xs ≡ 0 → xs ≡ []
-nil_is [] h = refl
-nil_is (x ∷ xs) h = absurd (omega arith)
 
 -- the headers of a section, with other bytes behind them
 headers_back : (format : Format) (prbs : ℕ) (shape : Shape) (s : USection) (headers rest : List ℕ) (at before : ℕ) → length headers ≡ header_size format → WritesSection format s headers → IsAdmitted prbs shape before s

@@ -48,7 +48,7 @@ mk i j t e = rw e refl
 pub after_after : (xs ys : List Item) (t : Telling) → after (xs ++ ys) t ≡ after xs (after ys t)
 after_after xs ys t = mk _ _ t (append_assoc xs ys t.items)
 
-silent_walker : (w : UWalker) → (tells w []).items ≡ []
+pub silent_walker : (w : UWalker) → (tells w []).items ≡ []
 silent_walker w =
     let part = w.part in
     let there : length (take w.there w.held ++ []) ≡ min w.there (length w.held) = ap length (append-nil (take w.there w.held)) ∙ length-take w.there w.held in

@@ -17,7 +17,7 @@ use Rattle.uplane_sections.specs.States.{tells, Tells, Passes, IsOver}
 use Rattle.uplane_sections.proofs.Behind.{block_step_at}
 use Rattle.uplane_sections.proofs.Histories.{after_after}
 
-no_bytes : (xs : List ℕ) → length xs ≡ 0 → xs ≡ []
+pub no_bytes : (xs : List ℕ) → length xs ≡ 0 → xs ≡ []
 no_bytes [] h = refl
 no_bytes (b ∷ xs) h = absurd (omega arith)
 

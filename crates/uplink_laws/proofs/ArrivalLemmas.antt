@@ -30,11 +30,11 @@ use Rattle.sent_laws.specs.plan_model.proofs.ListLemmas.{in_either, in_filter, o
 use Rattle.sent_laws.specs.schedule_laws.specs.Premise.{AreInOrder}
 use Rattle.sent_laws.specs.schedule_laws.proofs.ListLemmas.{in_each, in_joined, in_map, of_each, of_joined, of_map}
 use Rattle.sent_laws.specs.sent_frames.specs.Messages.{Source}
-use Rattle.uplink_streams.specs.uplink_model.specs.Frames.{Antenna, frame_of, frames_behind, frames_from, message_frames}
-use Rattle.uplink_streams.specs.uplink_model.specs.Messages.{frame_count, frames_before, messages_of as job_messages, number_behind}
+use Rattle.uplink_streams.specs.uplink_model.specs.Frames.{Antenna, uplink_frame_of, frames_behind, uplink_frames_from, uplink_message_frames}
+use Rattle.uplink_streams.specs.uplink_model.specs.Messages.{frame_count, uplink_frames_before, uplink_messages_of as job_messages, number_behind}
 use Rattle.uplink_streams.specs.Streams.{frame_for, message_frames_for, planned_frames, stream_frames_for}
 use Rattle.uplink_streams.proofs.StreamLemmas.{frames_are_the_stream}
-use Rattle.uplink_laws.specs.Flows.{bounds_of, flow_of}
+use Rattle.uplink_laws.specs.Flows.{uplink_bounds_of, uplink_flow_of}
 use Rattle.sent_laws.specs.Sent.{IsSendable}
 use Rattle.uplink_laws.specs.Premise.{BothArrive, CommandsArrive, IsUplinkCopy, frames_of, jobs_of}
 use Rattle.uplink_laws.proofs.FlowLemmas.{Here, below_at, here, leaves_at, pieces_at, sound, text_at}
@@ -45,22 +45,22 @@ use Rattle.uplink_laws.proofs.ReadLemmas.{fragment_at, frame_read, size_is}
 -- ---- each frame is of an endpoint
 
 frame_endpoint : (c : Config) (antenna : Antenna) (earlier ms : List (Message UplinkJob)) (f : LinkFrame) → IsIn f (frames_behind c antenna earlier ms) → (e : EndpointConfig) × IsAt c.endpoints f.ep e
-unfolding frames_behind message_frames
+unfolding frames_behind uplink_message_frames
 frame_endpoint c antenna earlier [] f m = absurd m
-frame_endpoint c antenna earlier (x ∷ ms) f m = elim (in_either f (message_frames c antenna earlier x) (frames_behind c antenna (x ∷ earlier) ms) m) [
+frame_endpoint c antenna earlier (x ∷ ms) f m = elim (in_either f (uplink_message_frames c antenna earlier x) (frames_behind c antenna (x ∷ earlier) ms) m) [
   | inl here ↦ go (slice_get c.endpoints x.first.ep) refl here
   | inr there ↦ frame_endpoint c antenna (x ∷ earlier) ms f there
 ]
   where
     go : (o : Option EndpointConfig) → slice_get c.endpoints x.first.ep ≡ o
-        → IsIn f (option_map_or (λ e. frames_from c antenna e x (number_behind x.first.ep earlier) (frames_before c x.first earlier) 0 (frame_count c x)) o [])
+        → IsIn f (option_map_or (λ e. uplink_frames_from c antenna e x (number_behind x.first.ep earlier) (uplink_frames_before c x.first earlier) 0 (frame_count c x)) o [])
         → (e : EndpointConfig) × IsAt c.endpoints f.ep e
     go None at i = absurd i
     go (Some e) at i =
         let number = number_behind x.first.ep earlier in
-        let before = frames_before c x.first earlier in
-        let w = of_each f 0 (frame_count c x) (λ k. frame_of c antenna e x number before k ∷ []) i in
-        let is = the_one f (frame_of c antenna e x number before w.0) w.3 in
+        let before = uplink_frames_before c x.first earlier in
+        let w = of_each f 0 (frame_count c x) (λ k. uplink_frame_of c antenna e x number before k ∷ []) i in
+        let is = the_one f (uplink_frame_of c antenna e x number before w.0) w.3 in
         (e, subst (λ (g : LinkFrame). IsAt c.endpoints g.ep e) (sym is) at)
 
 -- ---- one arrival more
@@ -225,10 +225,10 @@ module _ (c : Config) (lines : List PlanLine) (source : Source) (antenna : Anten
   -- ---- as a flow
 
   abbrev pub flow : ℕ → Flow
-  flow = flow_of c antenna ps
+  flow = uplink_flow_of c antenna ps
 
   abbrev pub b : Bounds
-  b = bounds_of c
+  b = uplink_bounds_of c
 
   abbrev pub IsHere : ℕ → ℕ → Type 0
   IsHere ep j = Here c lines h.sendable.config h.sendable.lines_fit h.sendable.valid h.check antenna ep j
@@ -243,7 +243,7 @@ module _ (c : Config) (lines : List PlanLine) (source : Source) (antenna : Anten
   unfolding here_of
   here_message ep e n at there = refl
 
-  pub sounds : (ep : ℕ) → IsSound (bounds_of c) (flow_of c antenna (planned c.endpoints lines) ep)
+  pub sounds : (ep : ℕ) → IsSound (uplink_bounds_of c) (uplink_flow_of c antenna (planned c.endpoints lines) ep)
   sounds =
       sound c lines h.sendable.config h.sendable.lines_fit h.sendable.valid h.check antenna (λ ep j w.
       ap (λ (t : ℕ → List ℕ). size_to t (frames_in c UpData w.n.message)) (text_at c lines h.sendable.config h.sendable.lines_fit h.sendable.valid h.check antenna ep j w)
@@ -293,5 +293,5 @@ module _ (c : Config) (lines : List PlanLine) (source : Source) (antenna : Anten
         subst (λ i. IsFragmentCopy b (flow ep) i (fragment ep a.e a.n sub got.0.at)) a.number (copy_of ep a.e a.n sub got.0.at a.at a.there less_n copy.from copy.to),
       )
 
-  pub delivered : IsDelivered (bounds_of c) (flow_of c antenna (planned c.endpoints lines)) (fragments (meetings Du c.endpoints up))
+  pub delivered : IsDelivered (uplink_bounds_of c) (uplink_flow_of c antenna (planned c.endpoints lines)) (fragments (meetings Du c.endpoints up))
   delivered = record { falling = falling up came h.up_arrive.in_order; came = flow_came; every = flow_every }

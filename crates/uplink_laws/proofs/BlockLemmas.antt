@@ -19,20 +19,20 @@ use Rattle.sent_laws.specs.unit_model.specs.declared.cells.Block.{Block}
 use Rattle.sent_laws.specs.unit_model.specs.declared.cells.Cell.{Cell}
 use Rattle.sent_laws.specs.unit_model.specs.declared.decoded.UserSection.{UserSection}
 use Rattle.sent_laws.specs.unit_laws.proofs.CellLemmas.{covers_is, data_covers_is}
-use Rattle.sent_laws.specs.plan_model.specs.Lines.{allocation_of, is_down, is_idle, planned}
+use Rattle.sent_laws.specs.plan_model.specs.Lines.{line_allocation, is_down_kind, is_idle_kind, planned}
 use Rattle.sent_laws.specs.plan_model.specs.Streams.{Part, part_in}
 use Rattle.sent_laws.specs.plan_model.specs.declared.lines.PlannedLine.{PlannedLine}
-use Rattle.sent_laws.specs.plan_model.proofs.SlotLemmas.{slot_own, way_own}
 use Rattle.sent_laws.specs.schedule_laws.specs.Data.{Blocks, planned_block, radiates_in}
 use Rattle.sent_laws.specs.schedule_laws.proofs.BlockLemmas.{Radiating, find_radiating, no_block, one_block, planned_none, planned_one, radiated_by, same_block, same_cell, silent}
 use Rattle.sent_laws.specs.schedule_laws.proofs.CellLemmas.{one_section}
 use Rattle.sent_laws.specs.sent_frames.specs.Messages.{Source}
 use Rattle.uplink_streams.specs.uplink_model.specs.Frames.{Antenna}
-use Rattle.uplink_laws.specs.Data.{AreDecodedOnce, IsDataFor, blocks_of}
-use Rattle.uplink_laws.specs.Lines.{is_uplink}
+use Rattle.uplink_laws.specs.Data.{AreUplinksDecodedOnce, IsUplinkDataFor, antenna_blocks}
 use Rattle.uplink_laws.specs.Premise.{BothArrive}
 use Rattle.uplink_laws.proofs.DecodedLemmas.{IsTimely, ds, each_timely, line_sent, sections_of_wholes}
 use Rattle.uplink_laws.proofs.ReadLemmas.{is_decoded}
+use Rattle.sent_laws.specs.plan_model.specs.Lines.{is_up_line}
+use Rattle.sent_laws.specs.unit_model.proofs.ClaimLemmas.{way_self as way_own, slot_self as slot_own}
 
 -- ---- data that are all on time
 
@@ -44,21 +44,21 @@ all_timely delays (d ∷ xs) h =
 
 -- ---- lines of the uplink
 
-pub not_down : (k : PlanKind) → not (is_down k) ≡ true → (is_down k ≡ false) × (not (is_idle k) ≡ true)
+pub not_down : (k : PlanKind) → not (is_down_kind k) ≡ true → (is_down_kind k ≡ false) × (not (is_idle_kind k) ≡ true)
 not_down Down h = absurd cc
 not_down Up h = (refl, refl)
 not_down Idle h = absurd cc
 
-pub is_up : (k : PlanKind) → is_down k ≡ false → not (is_down k) ≡ true
+pub is_up : (k : PlanKind) → is_down_kind k ≡ false → not (is_down_kind k) ≡ true
 is_up Down h = absurd cc
 is_up Up h = refl
 is_up Idle h = absurd cc
 
 -- ---- a section and its line cover the same cells of the symbol
 
-module _ (blocks : Blocks) (x : Part) (d : UserSection) (carries : IsDataFor blocks x d) (slot_is : data_slot d ≡ x.planned.line.slot) where
+module _ (blocks : Blocks) (x : Part) (d : UserSection) (carries : IsUplinkDataFor blocks x d) (slot_is : data_slot d ≡ x.planned.line.slot) where
   abbrev a : Allocation
-  a = allocation_of x.planned
+  a = line_allocation x.planned
 
   prbs_same : (n : ℕ) → is_from (first_data_prb d) (data_prb_count d) n ≡ is_from (first_prb a) (prb_count a) n
   prbs_same n = rw (carries.start_prb, carries.num_prb, carries.endpoint) refl
@@ -103,7 +103,7 @@ module _ (c : Config) (lines : List PlanLine) (source : Source) (antenna : Anten
   ps = planned c.endpoints lines
 
   abbrev blocks : Blocks
-  blocks = blocks_of c antenna
+  blocks = antenna_blocks c antenna
 
   abbrev all : List UserSection
   all = ds c lines source antenna down up h
@@ -117,8 +117,8 @@ module _ (c : Config) (lines : List PlanLine) (source : Source) (antenna : Anten
   -- two lines that are taken in at a cell have one section id
   same_section : (cell : Cell) (p q : PlannedLine) → IsIn p ps → IsIn q ps → radiates_in p cell ≡ true → radiates_in q cell ≡ true → q.line.section ≡ p.line.section
   same_section cell p q m n is is_q =
-      let x = and_parts (not (allocation_of p).idle) (covers (allocation_of p) cell) is in
-      let y = and_parts (not (allocation_of q).idle) (covers (allocation_of q) cell) is_q in
+      let x = and_parts (not (line_allocation p).idle) (covers (line_allocation p) cell) is in
+      let y = and_parts (not (line_allocation q).idle) (covers (line_allocation q) cell) is_q in
       one_section c lines h.sendable.config h.sendable.lines_fit h.sendable.valid cell p q m n x.1 y.1
 
   abbrev line_block : Cell → ℕ → Block
@@ -139,9 +139,9 @@ module _ (c : Config) (lines : List PlanLine) (source : Source) (antenna : Anten
         | inl is ↦ (let r = section_taken d m cell is in absurd (true≢false (sym r.2 ∙ none r.0 r.1)))
       ]) ∙ sym (planned_none blocks ps cell none)
   block_planned cell way (radiated_by p m is) =
-      let parts = and_parts (not (allocation_of p).idle) (covers (allocation_of p) cell) is in
-      let covered = covers_is (allocation_of p) cell parts.1 in
-      let p_down : (allocation_of p).down ≡ false = covered.down ∙ way in
+      let parts = and_parts (not (line_allocation p).idle) (covers (line_allocation p) cell) is in
+      let covered = covers_is (line_allocation p) cell parts.1 in
+      let p_down : (line_allocation p).down ≡ false = covered.down ∙ way in
       let d = line_sent c lines source antenna down up h p cell.symbol m (is_up p.line.kind p_down) covered.symbol in
       one_block all cell (line_block cell p.line.section) d.0
       (λ e n covers_e. (let r = section_taken e n cell covers_e in r.3 ∙ ap (λ i. line_block cell i) (same_section cell p r.0 m r.1 is r.2)))
@@ -152,14 +152,14 @@ module _ (c : Config) (lines : List PlanLine) (source : Source) (antenna : Anten
   block_is_planned cell way = ap (λ (xs : List UserSection). block_at xs cell) timely_all ∙ block_planned cell way (find_radiating ps cell)
 
   -- that of any line that covers the cell
-  block_of_any : (cell : Cell) (p : PlannedLine) → IsIn p ps → is_uplink p ≡ true → covers (allocation_of p) cell ≡ true → block_at (timely Du c.delays all) cell ≡ Some (line_block cell p.line.section)
+  block_of_any : (cell : Cell) (p : PlannedLine) → IsIn p ps → is_up_line p ≡ true → covers (line_allocation p) cell ≡ true → block_at (timely Du c.delays all) cell ≡ Some (line_block cell p.line.section)
   block_of_any cell p m uplink is =
       let kind = not_down p.line.kind uplink in
       let taken : radiates_in p cell ≡ true = and_from _ _ kind.1 is in
-      block_is_planned cell (sym (covers_is (allocation_of p) cell is).down ∙ kind.0)
+      block_is_planned cell (sym (covers_is (line_allocation p) cell is).down ∙ kind.0)
       ∙ planned_one blocks ps cell p.line.section p (λ q n r. same_section cell p q m n taken r) m taken
 
-  pub decoded_once : AreDecodedOnce c (planned c.endpoints lines) antenna up
+  pub decoded_once : AreUplinksDecodedOnce c (planned c.endpoints lines) antenna up
   decoded_once = record {
     wholes_say = sections_of_wholes c lines source antenna down up h;
     messages = λ ep e n first last at there. is_decoded c lines source h.sendable antenna h.can ep e n at there first last;

@@ -22,7 +22,7 @@ use Rattle.sent_laws.specs.unit_laws.proofs.CellLemmas.{covers_is}
 use Rattle.sent_laws.specs.unit_laws.proofs.ListLemmas.{each_same}
 use Rattle.sent_laws.specs.unit_laws.proofs.ReportLemmas.{report_same}
 use Rattle.sent_laws.specs.unit_laws.proofs.SweepLemmas.{sweep-same}
-use Rattle.sent_laws.specs.plan_model.specs.Lines.{allocation_of, planned}
+use Rattle.sent_laws.specs.plan_model.specs.Lines.{line_allocation, planned}
 use Rattle.sent_laws.specs.plan_model.specs.declared.lines.PlannedLine.{PlannedLine}
 use Rattle.sent_laws.specs.plan_model.proofs.ListLemmas.{among, in_filter}
 use Rattle.sent_laws.specs.schedule_laws.specs.Cells.{planned_mask, planned_section, radiates}
@@ -36,44 +36,45 @@ use Rattle.sent_laws.specs.schedule_laws.proofs.ListLemmas.{in_map, of_map}
 use Rattle.sent_laws.specs.sent_frames.specs.Messages.{Source}
 use Rattle.uplink_streams.specs.uplink_model.specs.Frames.{Antenna}
 use Rattle.uplink_laws.specs.Cells.{taken_air, taken_cell, taken_event, taken_symbol}
-use Rattle.uplink_laws.specs.Data.{blocks_of}
-use Rattle.uplink_laws.specs.Lines.{is_uplink, uplink_of}
+use Rattle.uplink_laws.specs.Data.{antenna_blocks}
 use Rattle.uplink_laws.specs.Premise.{BothArrive}
 use Rattle.uplink_laws.proofs.BlockLemmas.{decoded_once, is_up}
 use Rattle.uplink_laws.proofs.JobLemmas.{of_uplink}
+use Rattle.sent_laws.specs.plan_model.specs.Lines.{uplink_allocations}
+use Rattle.sent_laws.specs.plan_model.specs.Lines.{is_up_line}
 
 module _ (c : Config) (lines : List PlanLine) (source : Source) (antenna : Antenna) (down up : List Arrival) (h : BothArrive c lines source antenna down up) where
   abbrev ps : List PlannedLine
   ps = planned c.endpoints lines
 
   abbrev ls : List Allocation
-  ls = map allocation_of ps
+  ls = map line_allocation ps
 
   abbrev blocks : Blocks
-  blocks = blocks_of c antenna
+  blocks = antenna_blocks c antenna
 
   -- ---- the claims on uplink cells are the uplink lines'
 
   all_allowed : AreAllowed ls
   all_allowed = allowed c lines h.sendable.config h.sendable.lines_fit h.sendable.valid
 
-  into_all : (b : Allocation) → IsIn b (uplink_of ps) → IsIn b ls
-  into_all b m = let p = of_uplink ps b m in subst (λ (a : Allocation). IsIn a ls) (sym p.3) (in_map allocation_of p.0 ps p.1)
+  into_all : (b : Allocation) → IsIn b (uplink_allocations ps) → IsIn b ls
+  into_all b m = let p = of_uplink ps b m in subst (λ (a : Allocation). IsIn a ls) (sym p.3) (in_map line_allocation p.0 ps p.1)
 
-  clear_uplink : IsClear (uplink_of ps)
+  clear_uplink : IsClear (uplink_allocations ps)
   clear_uplink a b m n e = all_allowed.clear a b (into_all a m) (into_all b n) e
 
-  names_uplink : (cell : Cell) (re : ℕ) (b : Allocation) → cell.down ≡ false → IsIn b ls → names b cell re ≡ true → IsIn b (uplink_of ps)
+  names_uplink : (cell : Cell) (re : ℕ) (b : Allocation) → cell.down ≡ false → IsIn b ls → names b cell re ≡ true → IsIn b (uplink_allocations ps)
   names_uplink cell re b way m is =
-      let p = of_map allocation_of b ps m in
+      let p = of_map line_allocation b ps m in
       let cover = covers_is b cell (and_parts (covers b cell) (in_mask b.mask re) is).0 in
-      let b_up : (allocation_of p.0).down ≡ false = ap (λ (a : Allocation). a.down) (sym p.2) ∙ cover.down ∙ way in
-      subst (λ (a : Allocation). IsIn a (uplink_of ps)) (sym p.2) (in_map allocation_of p.0 (filter is_uplink ps) (in_filter is_uplink p.0 ps p.1 (is_up p.0.line.kind b_up)))
+      let b_up : (line_allocation p.0).down ≡ false = ap (λ (a : Allocation). a.down) (sym p.2) ∙ cover.down ∙ way in
+      subst (λ (a : Allocation). IsIn a (uplink_allocations ps)) (sym p.2) (in_map line_allocation p.0 (filter is_up_line ps) (in_filter is_up_line p.0 ps p.1 (is_up p.0.line.kind b_up)))
 
-  up_claims : (cell : Cell) (re : ℕ) → cell.down ≡ false → re < 12 → claim_at (uplink_of ps) cell re ≡ claim_at ls cell re
+  up_claims : (cell : Cell) (re : ℕ) → cell.down ≡ false → re < 12 → claim_at (uplink_allocations ps) cell re ≡ claim_at ls cell re
   up_claims cell re way below = elim (find_named ls cell re) [
-    | named_by b m is ↦ own_claim (uplink_of ps) b cell re clear_uplink below (names_uplink cell re b way m is) is ∙ sym (own_claim ls b cell re all_allowed.clear below m is)
-    | unnamed none ↦ no_claim (uplink_of ps) cell re (λ b m. none b (into_all b m)) ∙ sym (no_claim ls cell re none)
+    | named_by b m is ↦ own_claim (uplink_allocations ps) b cell re clear_uplink below (names_uplink cell re b way m is) is ∙ sym (own_claim ls b cell re all_allowed.clear below m is)
+    | unnamed none ↦ no_claim (uplink_allocations ps) cell re (λ b m. none b (into_all b m)) ∙ sym (no_claim ls cell re none)
   ]
 
   -- ---- one cell
@@ -87,17 +88,17 @@ module _ (c : Config) (lines : List PlanLine) (source : Source) (antenna : Anten
   taken : (e : EndpointConfig) (cell : Cell) (start : ℤ) (re : ℕ) → re < 12 → radiates ps cell re ≡ true → (planned_mask ps cell == 0) ≡ false
       → plan_report e cell start ≡ taken_event blocks ps e cell start ∷ []
   taken e cell start re below r some =
-      let k = among (λ (q : PlannedLine). not (allocation_of q).idle && names (allocation_of q) cell re) ps r in
+      let k = among (λ (q : PlannedLine). not (line_allocation q).idle && names (line_allocation q) cell re) ps r in
       let p = k.x in
-      let parts = and_parts (not (allocation_of p).idle) (names (allocation_of p) cell re) k.is in
-      let cover = and_parts (covers (allocation_of p) cell) (in_mask p.line.mask re) parts.1 in
+      let parts = and_parts (not (line_allocation p).idle) (names (line_allocation p) cell re) k.is in
+      let cover = and_parts (covers (line_allocation p) cell) (in_mask p.line.mask re) parts.1 in
       let in_cell : radiates_in p cell ≡ true = and_from _ _ parts.0 cover.0 in
       let section : planned_section ps cell ≡ p.line.section = section_is c lines h.sendable.config h.sendable.lines_fit h.sendable.valid ps cell p (λ q m. m) k.there in_cell in
       let ids : cell_id (claim_at ls cell) ≡ planned_section ps cell =
-      id_is (claim_at ls cell) p.line.section 0 12 re (claim_of (allocation_of p)) (λ i small. all_under c lines h.sendable.config h.sendable.lines_fit h.sendable.valid cell p i k.there cover.0 (claim_at ls cell i) refl) (omega arith)
+      id_is (claim_at ls cell) p.line.section 0 12 re (claim_of (line_allocation p)) (λ i small. all_under c lines h.sendable.config h.sendable.lines_fit h.sendable.valid cell p i k.there cover.0 (claim_at ls cell i) refl) (omega arith)
       (omega (arith, below)) (line_claims c lines h.sendable.config h.sendable.lines_fit h.sendable.valid cell re p below k.there parts.1) ∙ sym section in
       let same = λ (q : PlannedLine) (m : IsIn q ps) (is : radiates_in q cell ≡ true).
-      one_section c lines h.sendable.config h.sendable.lines_fit h.sendable.valid cell p q k.there m cover.0 (and_parts (not (allocation_of q).idle) (covers (allocation_of q) cell) is).1 in
+      one_section c lines h.sendable.config h.sendable.lines_fit h.sendable.valid cell p q k.there m cover.0 (and_parts (not (line_allocation q).idle) (covers (line_allocation q) cell) is).1 in
       let block : planned_block blocks ps cell ≡ Some (record { id = p.line.section; samples = blocks cell }) = planned_one blocks ps cell p.line.section p same k.there in_cell in
       let samples : samples_under (planned_section ps cell) (planned_block blocks ps cell) ≡ Some (blocks cell) =
       ap (λ (o : Option Block). samples_under (planned_section ps cell) o) block ∙ ap (λ i. samples_under i (Some (record { id = p.line.section; samples = blocks cell }))) section
@@ -116,17 +117,17 @@ module _ (c : Config) (lines : List PlanLine) (source : Source) (antenna : Anten
 
   -- ---- all of them
 
-  symbol_is : (ep : ℕ) (e : EndpointConfig) (slot : Slot) (symbol : ℕ) → symbol_report Du (du_known c (uplink_of ps) up) ep e slot symbol ≡ taken_symbol blocks ps ep e slot symbol
+  symbol_is : (ep : ℕ) (e : EndpointConfig) (slot : Slot) (symbol : ℕ) → symbol_report Du (du_known c (uplink_allocations ps) up) ep e slot symbol ≡ taken_symbol blocks ps ep e slot symbol
   unfolding symbol_report
   symbol_is ep e slot symbol =
-      each_same 0 e.prbs (cell_report Du (du_known c (uplink_of ps) up) ep e slot symbol) (taken_cell blocks ps ep e slot symbol) (λ prb above below.
+      each_same 0 e.prbs (cell_report Du (du_known c (uplink_allocations ps) up) ep e slot symbol) (taken_cell blocks ps ep e slot symbol) (λ prb above below.
       (let cell = cell_at ep false slot symbol prb in
       let block = (decoded_once c lines source antenna down up h).blocks_are cell refl in
-      report_same Du e cell (air_of e.numerology slot symbol) (claim_at (uplink_of ps) cell) (claim_at ls cell) (block_at (timely_of Du c up) cell) (planned_block blocks ps cell) (λ re few. up_claims cell re refl few) block
+      report_same Du e cell (air_of e.numerology slot symbol) (claim_at (uplink_allocations ps) cell) (claim_at ls cell) (block_at (timely_of Du c up) cell) (planned_block blocks ps cell) (λ re few. up_claims cell re refl few) block
       ∙ cell_is e cell (air_of e.numerology slot symbol)))
 
-  pub plan_taken_in : (to : ℤ) → du_reported c (uplink_of (planned c.endpoints lines)) up to ≡ taken_air c (blocks_of c antenna) (planned c.endpoints lines) to
+  pub plan_taken_in : (to : ℤ) → du_reported c (uplink_allocations (planned c.endpoints lines)) up to ≡ taken_air c (antenna_blocks c antenna) (planned c.endpoints lines) to
   unfolding reported
   plan_taken_in to =
-      sweep-same (symbol_report Du (du_known c (uplink_of ps) up)) (taken_symbol blocks ps) c.endpoints (first_clock -ℤ wait_of Du c.delays) ((to -ℤ wait_of Du c.delays) +ℤ pos 1)
+      sweep-same (symbol_report Du (du_known c (uplink_allocations ps) up)) (taken_symbol blocks ps) c.endpoints (first_clock -ℤ wait_of Du c.delays) ((to -ℤ wait_of Du c.delays) +ℤ pos 1)
       (λ ep e slot symbol tick low high swept. symbol_is ep e slot symbol)

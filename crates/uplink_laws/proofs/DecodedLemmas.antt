@@ -30,28 +30,30 @@ use Rattle.sent_laws.specs.unit_model.specs.Proper.{IsAt}
 use Rattle.sent_laws.specs.unit_model.specs.declared.decoded.UserSection.{UserSection}
 use Rattle.sent_laws.specs.unit_model.proofs.ReachLaws.{symbol_soon}
 use Rattle.sent_laws.specs.unit_laws.proofs.FarLemmas.{endpoints_equal}
-use Rattle.sent_laws.specs.plan_model.specs.Departures.{start_of}
+use Rattle.sent_laws.specs.plan_model.specs.Departures.{start_of_part}
 use Rattle.sent_laws.specs.plan_model.specs.Lines.{planned}
 use Rattle.sent_laws.specs.plan_model.specs.Packs.{Numbered, parts_of}
 use Rattle.sent_laws.specs.plan_model.specs.Streams.{Part, frames_in, messages_of, part_in}
 use Rattle.sent_laws.specs.plan_model.specs.declared.lines.PlannedLine.{PlannedLine}
 use Rattle.sent_laws.specs.plan_model.specs.declared.streams.Stream.TheVariants.{UpData}
-use Rattle.sent_laws.specs.plan_model.proofs.SlotLemmas.{same_slot_fields}
 use Rattle.sent_laws.specs.plan_model.proofs.ListLemmas.{in_either, in_left, in_right}
 use Rattle.sent_laws.specs.schedule_laws.proofs.FragmentLemmas.{answers_from, answers_there, the_whole, whole_in}
 use Rattle.sent_laws.specs.schedule_laws.proofs.ListLemmas.{in_onto, numerology_short, onto_right}
 use Rattle.sent_laws.specs.schedule_laws.proofs.TimeLemmas.{frame_is}
 use Rattle.sent_laws.specs.sent_frames.specs.Messages.{Source}
 use Rattle.uplink_streams.specs.uplink_model.specs.Frames.{Antenna}
-use Rattle.uplink_laws.specs.Data.{AreSections, IsDataFor, IsDecoded, blocks_of, said_by}
-use Rattle.uplink_laws.specs.Flows.{bounds_of, flow_of, fragment_text}
-use Rattle.uplink_laws.specs.Lines.{is_uplink}
+use Rattle.uplink_laws.specs.Data.{AreUplinkSections, IsUplinkDataFor, IsUplinkDecoded, antenna_blocks, said_by}
+use Rattle.uplink_laws.specs.Flows.{uplink_bounds_of, uplink_flow_of, fragment_text}
 use Rattle.uplink_laws.specs.Premise.{BothArrive}
 use Rattle.uplink_laws.proofs.ArrivalLemmas.{AllCame, IsHere, came, delivered, fragments_piece, here_message, here_of, read_of, sounds}
 use Rattle.uplink_laws.proofs.FlowLemmas.{below_at, here, pieces_at, starts_at, text_at}
 use Rattle.uplink_laws.proofs.PartLemmas.{PartFacts, line_part, message_facts, same_start}
 use Rattle.uplink_laws.proofs.ReadLemmas.{IsSectionOf, fragment_at, is_decoded, section_for, section_from}
 use Rattle.uplink_laws.proofs.WholeLemmas.{InTime, in_time, whole_once}
+use Rattle.fh_time.specs.declared.frames.TheConstants.{FRAME}
+use Rattle.window_config.specs.declared.delays.TheConstants.{MOST_DELAY}
+use Rattle.sent_laws.specs.plan_model.specs.Lines.{is_up_line}
+use Rattle.fh_time.proofs.Order.{same_fields as same_slot_fields}
 
 -- ---- the sections that a fragment makes
 
@@ -90,8 +92,8 @@ split_of (z ∷ later) earlier all x y e = inr (later, (cons_same y z all (later
 -- ---- times
 
 -- what comes within 2 ms after a symbol's start is near to its frame
-near_frame : (f s at most : ℤ) → (f *ℤ pos 15360000000) ≤ℤ s → s <ℤ (f *ℤ pos 15360000000 +ℤ pos 76800000000) → s ≤ℤ at → (at -ℤ s) ≤ℤ (most *ℤ pos 1536) → most ≤ℤ pos 2000000
-    → ((at -ℤ pos 1966080000000) ≤ℤ (f *ℤ pos 15360000000)) × ((f *ℤ pos 15360000000) <ℤ (at +ℤ pos 1966080000000))
+near_frame : (f s at most : ℤ) → (f *ℤ FRAME) ≤ℤ s → s <ℤ (f *ℤ FRAME +ℤ pos 76800000000) → s ≤ℤ at → (at -ℤ s) ≤ℤ (most *ℤ pos 1536) → most ≤ℤ pos MOST_DELAY
+    → ((at -ℤ pos 1966080000000) ≤ℤ (f *ℤ FRAME)) × ((f *ℤ FRAME) <ℤ (at +ℤ pos 1966080000000))
 near_frame f s at most low high begun soon few = (omega (arith, ints), omega (arith, ints))
 
 module _ (c : Config) (lines : List PlanLine) (source : Source) (antenna : Antenna) (down up : List Arrival) (h : BothArrive c lines source antenna down up) where
@@ -102,10 +104,10 @@ module _ (c : Config) (lines : List PlanLine) (source : Source) (antenna : Anten
   all = fragments (meetings Du c.endpoints up)
 
   abbrev hold : ℤ
-  hold = (bounds_of c).hold
+  hold = (uplink_bounds_of c).hold
 
   abbrev num : Numbers
-  num = numbers_of (bounds_of c) (flow_of c antenna ps)
+  num = numbers_of (uplink_bounds_of c) (uplink_flow_of c antenna ps)
 
   abbrev Is : ℕ → ℕ → Type 0
   Is ep j = IsHere c lines source antenna down up h ep j
@@ -176,7 +178,7 @@ module _ (c : Config) (lines : List PlanLine) (source : Source) (antenna : Anten
       ∙ said_now x (standing_before hold x before) w.e (wholes hold before) (verdict_on hold x before) w.at
       ∙ ap (λ (xs : List Fragment). joined (map (said_by c) (wholes hold xs))) (sym (fragments_piece c a earlier w.e x w.read))
 
-  pub sections_of_wholes : data_sections Du (bounds_of c).hold (meetings Du c.endpoints up) ≡ joined (map (said_by c) (wholes (bounds_of c).hold (fragments (meetings Du c.endpoints up))))
+  pub sections_of_wholes : data_sections Du (uplink_bounds_of c).hold (meetings Du c.endpoints up) ≡ joined (map (said_by c) (wholes (uplink_bounds_of c).hold (fragments (meetings Du c.endpoints up))))
   sections_of_wholes = said up (came c lines source antenna down up h)
 
   -- and all of that is told
@@ -210,12 +212,12 @@ module _ (c : Config) (lines : List PlanLine) (source : Source) (antenna : Anten
     first : ℤ
     last : ℤ
     sections : List UserSection
-    are : AreSections (blocks_of c antenna) first last (onto [] (parts_of is_here.n.message)) sections
+    are : AreUplinkSections (antenna_blocks c antenna) first last (onto [] (parts_of is_here.n.message)) sections
     is : (e : EndpointConfig) → e ≡ is_here.e → sections_of (decode_message Du x.ep e (message (x ∷ standing_before hold x earlier))) ≡ sections
-    time : InTime c lines source antenna down up h (start_of is_here.n.message.first) first last
+    time : InTime c lines source antenna down up h (start_of_part is_here.n.message.first) first last
 
-  decoded_as : (ep j : ℕ) (a : Is ep j) (m : WholeMessage) (e : EndpointConfig) (s : IsDecoded c antenna ep a.e a.n m.first m.last)
-      → m.pieces ≡ texts ((flow_of c antenna ps ep).text j) ((flow_of c antenna ps ep).pieces j) → e ≡ a.e → sections_of (decode_message Du ep e m) ≡ s.sections
+  decoded_as : (ep j : ℕ) (a : Is ep j) (m : WholeMessage) (e : EndpointConfig) (s : IsUplinkDecoded c antenna ep a.e a.n m.first m.last)
+      → m.pieces ≡ texts ((uplink_flow_of c antenna ps ep).text j) ((uplink_flow_of c antenna ps ep).pieces j) → e ≡ a.e → sections_of (decode_message Du ep e m) ≡ s.sections
   decoded_as ep j a m e s pieces same =
       let text = text_at c lines h.sendable.config h.sendable.lines_fit h.sendable.valid h.check antenna ep j a in
       let count = pieces_at c lines h.sendable.config h.sendable.lines_fit h.sendable.valid h.check antenna ep j a in
@@ -228,13 +230,13 @@ module _ (c : Config) (lines : List PlanLine) (source : Source) (antenna : Anten
   says_now later earlier x is v =
       let x_in : IsIn x all = subst (λ (xs : List Fragment). IsIn x xs) (sym is) (in_right x later (x ∷ earlier) (inl refl)) in
       let j = number_of num x in
-      let flow = flow_of c antenna ps in
-      let copied = copy (bounds_of c) flow (sounds c lines source antenna down up h) all (delivered c lines source antenna down up h) x x_in in
+      let flow = uplink_flow_of c antenna ps in
+      let copied = copy (uplink_bounds_of c) flow (sounds c lines source antenna down up h) all (delivered c lines source antenna down up h) x x_in in
       let a = here c lines h.sendable.config h.sendable.lines_fit h.sendable.valid h.check antenna x.ep j copied.below in
       let once = whole_once c lines source antenna down up h x.ep j copied.below in
       let y = answered (standing_before hold x earlier) x in
       let there : IsIn y (answers hold num x.ep j all) = subst (λ (xs : List Fragment). IsIn y (answers hold num x.ep j xs)) (sym is) (answers_there hold num later earlier x) in
-      let same : y ≡ once.whole = the_whole (bounds_of c) (flow x.ep) j (of_message num x.ep j all) (answers hold num x.ep j all) once y there v in
+      let same : y ≡ once.whole = the_whole (uplink_bounds_of c) (flow x.ep) j (of_message num x.ep j all) (answers hold num x.ep j all) once y there v in
       let m = message (x ∷ standing_before hold x earlier) in
       let shows : once.whole.shows ≡ m = sym (ap (λ (z : Answered). z.shows) same) in
       let time = in_time c lines source antenna down up h x.ep j once.whole.shows.first once.whole.shows.last copied.below once.first_from once.last_from once.last_to in
@@ -248,7 +250,7 @@ module _ (c : Config) (lines : List PlanLine) (source : Source) (antenna : Anten
         sections = s.sections;
         are = s.are;
         is = λ e q. decoded_as x.ep j a m e s (ap (λ (z : WholeMessage). z.pieces) (sym shows) ∙ once.pieces) q;
-        time = subst (λ (z : WholeMessage). InTime c lines source antenna down up h (start_of a.n.message.first) z.first z.last) shows
+        time = subst (λ (z : WholeMessage). InTime c lines source antenna down up h (start_of_part a.n.message.first) z.first z.last) shows
             (subst (λ t. InTime c lines source antenna down up h t once.whole.shows.first once.whole.shows.last)
             (starts_at c lines h.sendable.config h.sendable.lines_fit h.sendable.valid h.check antenna x.ep j a) time);
       }
@@ -260,25 +262,25 @@ module _ (c : Config) (lines : List PlanLine) (source : Source) (antenna : Anten
     pub ep : ℕ
     pub e : EndpointConfig
     pub facts : PartFacts c.endpoints (planned c.endpoints lines) ep e x
-    pub carries : IsDataFor (blocks_of c antenna) x d
+    pub carries : IsUplinkDataFor (antenna_blocks c antenna) x d
     pub slot_is : data_slot d ≡ x.planned.line.slot
     pub class : data_class Du c.delays d ≡ OnTime
 
-  slot_named : (x : Part) (d : UserSection) → IsDataFor (blocks_of c antenna) x d → absolute_frame d.head.frame_id d.last.0 ≡ x.planned.line.slot.frame → data_slot d ≡ x.planned.line.slot
+  slot_named : (x : Part) (d : UserSection) → IsUplinkDataFor (antenna_blocks c antenna) x d → absolute_frame d.head.frame_id d.last.0 ≡ x.planned.line.slot.frame → data_slot d ≡ x.planned.line.slot
   slot_named x d carries f = same_slot_fields (data_slot d) x.planned.line.slot f carries.subframe carries.slot
 
-  start_named : (x : Part) (d : UserSection) → IsDataFor (blocks_of c antenna) x d → data_slot d ≡ x.planned.line.slot → data_start d ≡ start_of x
+  start_named : (x : Part) (d : UserSection) → IsUplinkDataFor (antenna_blocks c antenna) x d → data_slot d ≡ x.planned.line.slot → data_start d ≡ start_of_part x
   start_named x d carries s =
       ap (λ (e : EndpointConfig). air_of e.numerology (data_slot d) d.section.symbol) carries.endpoint
       ∙ ap₂ (λ (t : Slot) (y : ℕ). air_of x.planned.endpoint.numerology t y) s carries.symbol
 
   -- a section of a part whose message came in time
-  timely_by : (ep : ℕ) (e : EndpointConfig) (x : Part) (d : UserSection) (first last : ℤ) → PartFacts c.endpoints ps ep e x → IsSectionOf (blocks_of c antenna) first last x d
-      → InTime c lines source antenna down up h (start_of x) first last → IsTimely x d
+  timely_by : (ep : ℕ) (e : EndpointConfig) (x : Part) (d : UserSection) (first last : ℤ) → PartFacts c.endpoints ps ep e x → IsSectionOf (antenna_blocks c antenna) first last x d
+      → InTime c lines source antenna down up h (start_of_part x) first last → IsTimely x d
   timely_by ep e x d first last facts s time =
       let g = facts.line in
       let soon = symbol_soon x.planned.endpoint.numerology x.planned.line.slot x.symbol (numerology_short x.planned.endpoint.numerology) (record { subframe = g.fits.subframe; slot = g.slot }) facts.below in
-      let near = near_frame x.planned.line.slot.frame (start_of x) last c.delays.ta4.max soon.0 soon.1 time.begun time.in_window.soon_enough h.sendable.config.delays.ta4.high in
+      let near = near_frame x.planned.line.slot.frame (start_of_part x) last c.delays.ta4.max soon.0 soon.1 time.begun time.in_window.soon_enough h.sendable.config.delays.ta4.high in
       let frame : absolute_frame d.head.frame_id last ≡ x.planned.line.slot.frame = frame_is d.head.frame_id last x.planned.line.slot.frame s.carries.frame_id near.0 near.1 in
       let slot = slot_named x d s.carries (ap (λ t. absolute_frame d.head.frame_id t) s.last_is ∙ frame) in
       record {
@@ -288,12 +290,12 @@ module _ (c : Config) (lines : List PlanLine) (source : Source) (antenna : Anten
         carries = s.carries;
         slot_is = slot;
         class = ap (λ t. class_up_of d.first.0 d.last.0 t c.delays.ta4) (start_named x d s.carries slot)
-            ∙ ap₂ (λ p q. class_up_of p q (start_of x) c.delays.ta4) s.first_is s.last_is
-            ∙ (class_up_on_time first last (start_of x) c.delays.ta4).1 time.in_window;
+            ∙ ap₂ (λ p q. class_up_of p q (start_of_part x) c.delays.ta4) s.first_is s.last_is
+            ∙ (class_up_on_time first last (start_of_part x) c.delays.ta4).1 time.in_window;
       }
 
   timely_section : (x : Fragment) (earlier : List Fragment) (s : SaysNow x earlier) (part : Part) (d : UserSection) → IsIn part (parts_of s.is_here.n.message)
-      → IsSectionOf (blocks_of c antenna) s.first s.last part d → IsTimely part d
+      → IsSectionOf (antenna_blocks c antenna) s.first s.last part d → IsTimely part d
   timely_section x earlier s part d i section =
       let a = s.is_here in
       timely_by x.ep a.e part d s.first s.last (message_facts c lines h.sendable.config h.sendable.lines_fit h.sendable.valid x.ep a.e a.n part a.at a.there i) section
@@ -303,16 +305,16 @@ module _ (c : Config) (lines : List PlanLine) (source : Source) (antenna : Anten
   -- ---- each section, and every part
 
   abbrev pub ds : List UserSection
-  ds = data_sections Du (bounds_of c).hold (meetings Du c.endpoints up)
+  ds = data_sections Du (uplink_bounds_of c).hold (meetings Du c.endpoints up)
 
-  pub each_timely : (d : UserSection) → IsIn d (data_sections Du (bounds_of c).hold (meetings Du c.endpoints up)) → (x : Part) × IsTimely x d
+  pub each_timely : (d : UserSection) → IsIn d (data_sections Du (uplink_bounds_of c).hold (meetings Du c.endpoints up)) → (x : Part) × IsTimely x d
   each_timely d m =
       let t = told_in up (came c lines source antenna down up h) d m in
       let v = told_whole (verdict_on hold t.x t.earlier) t.e t.x (standing_before hold t.x t.earlier) d t.told in
       let s = says_now t.later t.earlier t.x t.is v.0 in
       let same = endpoints_equal c.endpoints t.x.ep t.x.ep t.e s.is_here.e t.at s.is_here.at refl in
       let parts = parts_of s.is_here.n.message in
-      let got = section_from (blocks_of c antenna) s.first s.last (onto [] parts) s.sections d s.are (subst (λ (xs : List UserSection). IsIn d xs) (s.is t.e same) v.1) in
+      let got = section_from (antenna_blocks c antenna) s.first s.last (onto [] parts) s.sections d s.are (subst (λ (xs : List UserSection). IsIn d xs) (s.is t.e same) v.1) in
       let in_message : IsIn got.0 parts = elim (in_onto got.0 [] parts got.1) [ inl none ↦ absurd none | inr i ↦ i ] in
       (got.0, timely_section t.x t.earlier s got.0 d in_message got.2)
 
@@ -324,7 +326,7 @@ module _ (c : Config) (lines : List PlanLine) (source : Source) (antenna : Anten
   part_sent ep j a x m =
       let below = below_at c lines h.sendable.config h.sendable.lines_fit h.sendable.valid h.check antenna ep j a in
       let once = whole_once c lines source antenna down up h ep j below in
-      let o = answers_from hold num ep j all once.whole (whole_in (bounds_of c) (flow_of c antenna ps ep) j (of_message num ep j all) (answers hold num ep j all) once) in
+      let o = answers_from hold num ep j all once.whole (whole_in (uplink_bounds_of c) (uplink_flow_of c antenna ps ep) j (of_message num ep j all) (answers hold num ep j all) once) in
       let v : verdict_on hold o.x o.earlier ≡ Whole = sym (ap (λ (z : Answered). z.was) o.answer) ∙ once.was in
       let s = says_now o.later o.earlier o.x o.is v in
       let ep_is : ep ≡ o.x.ep = sym o.ep_is in
@@ -336,7 +338,7 @@ module _ (c : Config) (lines : List PlanLine) (source : Source) (antenna : Anten
       (subst (λ k. slice_get (messages_of c ps UpData k a.e) j ≡ Some a.n) ep_is a.got)) in
       let same_n : a.n ≡ s.is_here.n = some_same a.n s.is_here.n (sym got ∙ s.is_here.got) in
       let in_message : IsIn x (parts_of s.is_here.n.message) = subst (λ (n : Numbered Part). IsIn x (parts_of n.message)) same_n m in
-      let d = section_for (blocks_of c antenna) s.first s.last (onto [] (parts_of s.is_here.n.message)) s.sections x s.are (onto_right x [] (parts_of s.is_here.n.message) in_message) in
+      let d = section_for (antenna_blocks c antenna) s.first s.last (onto [] (parts_of s.is_here.n.message)) s.sections x s.are (onto_right x [] (parts_of s.is_here.n.message) in_message) in
       let d_told = whole_told (verdict_on hold o.x o.earlier) s.is_here.e o.x (standing_before hold o.x o.earlier) d.0 v (subst (λ (xs : List UserSection). IsIn d.0 xs) (sym (s.is s.is_here.e refl)) d.1) in (
         d.0,
         told_there up (came c lines source antenna down up h) o.later o.earlier o.x s.is_here.e d.0 s.is_here.at o.is d_told,
@@ -344,8 +346,8 @@ module _ (c : Config) (lines : List PlanLine) (source : Source) (antenna : Anten
       )
 
   -- each uplink line has one in each of its symbols
-  pub line_sent : (p : PlannedLine) (symbol : ℕ) → IsIn p (planned c.endpoints lines) → is_uplink p ≡ true → is_from p.line.symbol p.line.count symbol ≡ true
-      → (d : UserSection) × IsIn d (data_sections Du (bounds_of c).hold (meetings Du c.endpoints up)) × IsTimely (part_in symbol p) d
+  pub line_sent : (p : PlannedLine) (symbol : ℕ) → IsIn p (planned c.endpoints lines) → is_up_line p ≡ true → is_from p.line.symbol p.line.count symbol ≡ true
+      → (d : UserSection) × IsIn d (data_sections Du (uplink_bounds_of c).hold (meetings Du c.endpoints up)) × IsTimely (part_in symbol p) d
   line_sent p symbol m uplink within =
       let w = line_part c lines h.sendable.config h.sendable.lines_fit h.sendable.valid p symbol m uplink within in
       let n = w.1 in

@@ -25,7 +25,7 @@ use Rattle.sent_laws.specs.unit_model.proofs.SweepLaws.{gap_is}
 use Rattle.sent_laws.specs.unit_laws.proofs.SweepLemmas.{of_endpoint_related}
 use Rattle.sent_laws.specs.unit_laws.proofs.FarLemmas.{endpoints_equal}
 use Rattle.sent_laws.specs.plan_model.specs.Dense.{dense_from, dense_in, down_distance, sending_of, sendings, up_distance}
-use Rattle.sent_laws.specs.plan_model.specs.Departures.{departures_of, sent_at, start_of}
+use Rattle.sent_laws.specs.plan_model.specs.Departures.{departures_of, sent_at, start_of_part}
 use Rattle.sent_laws.specs.plan_model.specs.Lines.{planned}
 use Rattle.sent_laws.specs.plan_model.specs.Packs.{Numbered, packs, size_of}
 use Rattle.sent_laws.specs.plan_model.specs.Streams.{Part, frames_in, messages_of, part_fields, parts_in, symbol_parts}
@@ -38,7 +38,7 @@ use Rattle.sent_laws.specs.schedule_laws.proofs.ListLemmas.{IsAll, all_kept, at_
 use Rattle.sent_laws.specs.schedule_laws.proofs.OrderLemmas.{IsRising, below_get, get_below, get_drop, get_map, numbered_rising, packs_rising, rising_at, ticks_rising}
 use Rattle.sent_laws.specs.schedule_laws.proofs.PlanLemmas.{valid_apart}
 use Rattle.uplink_streams.specs.uplink_model.specs.Frames.{Antenna}
-use Rattle.uplink_laws.specs.Flows.{bounds_of, flow_of, fragment_text, messages_at, start_at, text_of}
+use Rattle.uplink_laws.specs.Flows.{uplink_bounds_of, uplink_flow_of, fragment_text, uplink_messages_at, flow_start_at, text_of}
 use Rattle.uplink_laws.proofs.PartLemmas.{message_number, message_short, sent_in, symbol_part}
 
 -- ---- the flows
@@ -49,7 +49,7 @@ module _ (c : Config) (lines : List PlanLine) (config : IsConfig c) (fit : All I
 
   -- when a part's symbol starts
   part_start : (ep : ℕ) (e : EndpointConfig) (slot : Slot) (symbol : ℕ) (x : Part) → IsAt c.endpoints ep e → IsIn x (symbol_parts UpData ps ep slot symbol)
-      → start_of x ≡ air_of e.numerology slot symbol
+      → start_of_part x ≡ air_of e.numerology slot symbol
   part_start ep e slot symbol x at m =
       let w = symbol_part ps ep e slot symbol x m in
       let s = sent_in x.planned ep slot symbol w.1 in
@@ -58,18 +58,18 @@ module _ (c : Config) (lines : List PlanLine) (config : IsConfig c) (fit : All I
       ap (λ (f : EndpointConfig). air_of f.numerology x.planned.line.slot x.symbol) same
       ∙ ap₂ (λ (t : Slot) (y : ℕ). air_of e.numerology t y) s.slot_is w.2
 
-  parts_rising : (ep : ℕ) (e : EndpointConfig) → IsAt c.endpoints ep e → IsRising (λ x. start_of x) (parts_in ps UpData ep e)
+  parts_rising : (ep : ℕ) (e : EndpointConfig) → IsAt c.endpoints ep e → IsRising (λ x. start_of_part x) (parts_in ps UpData ep e)
   unfolding parts_in
   parts_rising ep e at =
-      ticks_rising (λ x. start_of x) first_clock (int_gap first_clock (end_of_time +ℤ pos 1)) (of_endpoint (symbol_parts UpData ps ep) e) (λ t.
-      of_endpoint_related (IsAll (λ x. start_of x ≡ t)) (all_kept (λ x. start_of x ≡ t)) (symbol_parts UpData ps ep) (symbol_parts UpData ps ep) e t
+      ticks_rising (λ x. start_of_part x) first_clock (int_gap first_clock (end_of_time +ℤ pos 1)) (of_endpoint (symbol_parts UpData ps ep) e) (λ t.
+      of_endpoint_related (IsAll (λ x. start_of_part x ≡ t)) (all_kept (λ x. start_of_part x ≡ t)) (symbol_parts UpData ps ep) (symbol_parts UpData ps ep) e t
       (λ slot symbol low high is_slot is_symbol starts x m. part_start ep e slot symbol x at m ∙ starts))
 
-  messages_rising : (ep : ℕ) (e : EndpointConfig) → IsAt c.endpoints ep e → IsRising (λ n. start_of n.message.first) (messages_of c ps UpData ep e)
+  messages_rising : (ep : ℕ) (e : EndpointConfig) → IsAt c.endpoints ep e → IsRising (λ n. start_of_part n.message.first) (messages_of c ps UpData ep e)
   unfolding messages_of
   messages_rising ep e at =
-      numbered_rising part_fields (frames_in c UpData) (λ m. start_of m.first) (packs part_fields c.pack (parts_in ps UpData ep e))
-      (packs_rising part_fields c.pack (λ x. start_of x) (parts_in ps UpData ep e) (parts_rising ep e at))
+      numbered_rising part_fields (frames_in c UpData) (λ m. start_of_part m.first) (packs part_fields c.pack (parts_in ps UpData ep e))
+      (packs_rising part_fields c.pack (λ x. start_of_part x) (parts_in ps UpData ep e) (parts_rising ep e at))
 
   -- ---- one message
 
@@ -81,7 +81,7 @@ module _ (c : Config) (lines : List PlanLine) (config : IsConfig c) (fit : All I
     pub there : IsIn n (messages_of c ps UpData ep e)
     pub number : n.number ≡ j
 
-  at_endpoint : (ep : ℕ) (e : EndpointConfig) → IsAt c.endpoints ep e → messages_at c ps ep ≡ messages_of c ps UpData ep e
+  at_endpoint : (ep : ℕ) (e : EndpointConfig) → IsAt c.endpoints ep e → uplink_messages_at c ps ep ≡ messages_of c ps UpData ep e
   at_endpoint ep e at = ap (λ (o : Option EndpointConfig). option_map_or (λ f. messages_of c ps UpData ep f) o []) at
 
   here_at : (ep j : ℕ) (e : EndpointConfig) → IsAt c.endpoints ep e → j < length (messages_of c ps UpData ep e) → Here ep j
@@ -93,23 +93,23 @@ module _ (c : Config) (lines : List PlanLine) (config : IsConfig c) (fit : All I
   here_by ep j None e h = absurd (omega (arith, h))
   here_by ep j (Some f) e h = here_at ep j f e h
 
-  pub here : (ep j : ℕ) → j < (flow_of c antenna ps ep).count → Here ep j
+  pub here : (ep j : ℕ) → j < (uplink_flow_of c antenna ps ep).count → Here ep j
   here ep j h = here_by ep j (slice_get c.endpoints ep) refl h
 
   -- what the flow tells of it
-  got_at : (ep j : ℕ) (w : Here ep j) → slice_get (messages_at c ps ep) j ≡ Some w.n
+  got_at : (ep j : ℕ) (w : Here ep j) → slice_get (uplink_messages_at c ps ep) j ≡ Some w.n
   got_at ep j w = ap (λ (ns : List (Numbered Part)). slice_get ns j) (at_endpoint ep w.e w.at) ∙ w.got
 
-  pub below_at : (ep j : ℕ) → Here ep j → j < (flow_of c antenna ps ep).count
-  below_at ep j w = below_get j w.n (messages_at c ps ep) (got_at ep j w)
+  pub below_at : (ep j : ℕ) → Here ep j → j < (uplink_flow_of c antenna ps ep).count
+  below_at ep j w = below_get j w.n (uplink_messages_at c ps ep) (got_at ep j w)
 
-  pub pieces_at : (ep j : ℕ) (w : Here ep j) → (flow_of c antenna ps ep).pieces j ≡ frames_in c UpData w.n.message
+  pub pieces_at : (ep j : ℕ) (w : Here ep j) → (uplink_flow_of c antenna ps ep).pieces j ≡ frames_in c UpData w.n.message
   pieces_at ep j w = ap (λ (o : Option (Numbered Part)). option_map_or (λ n. frames_in c UpData n.message) o 0) (got_at ep j w)
 
-  pub starts_at : (ep j : ℕ) (w : Here ep j) → start_at c ps ep j ≡ start_of w.n.message.first
-  starts_at ep j w = ap (λ (o : Option (Numbered Part)). option_map_or (λ n. start_of n.message.first) o (pos 0)) (got_at ep j w)
+  pub starts_at : (ep j : ℕ) (w : Here ep j) → flow_start_at c ps ep j ≡ start_of_part w.n.message.first
+  starts_at ep j w = ap (λ (o : Option (Numbered Part)). option_map_or (λ n. start_of_part n.message.first) o (pos 0)) (got_at ep j w)
 
-  before_at : (ep j : ℕ) (w : Here ep j) → (flow_of c antenna ps ep).before j ≡ w.n.before
+  before_at : (ep j : ℕ) (w : Here ep j) → (uplink_flow_of c antenna ps ep).before j ≡ w.n.before
   before_at ep j w = ap (λ (o : Option (Numbered Part)). option_map_or (λ n. n.before) o 0) (got_at ep j w)
 
   pub text_at : (ep j : ℕ) (w : Here ep j) → text_of c antenna ps ep j ≡ fragment_text c antenna w.e w.n
@@ -117,29 +117,29 @@ module _ (c : Config) (lines : List PlanLine) (config : IsConfig c) (fit : All I
       ap {B = ℕ → List ℕ} (λ (o : Option EndpointConfig) (sub : ℕ). option_map_or (λ e. option_map_or (λ n. fragment_text c antenna e n sub) (slice_get (messages_of c ps UpData ep e) j) []) o []) w.at
       ∙ ap {B = ℕ → List ℕ} (λ (o : Option (Numbered Part)) (sub : ℕ). option_map_or (λ n. fragment_text c antenna w.e n sub) o []) w.got
 
-  pub leaves_at : (ep j sub : ℕ) (w : Here ep j) → flow_sent_at (flow_of c antenna ps ep) j sub ≡ sent_at c UpData w.n sub
+  pub leaves_at : (ep j sub : ℕ) (w : Here ep j) → flow_sent_at (uplink_flow_of c antenna ps ep) j sub ≡ sent_at c UpData w.n sub
   leaves_at ep j sub w =
       ap₂ (λ (s : ℤ) (b : ℕ). (s +ℤ (departures_of c UpData).from.0) +ℤ pos (min ((b + sub) * (departures_of c UpData).gap) (departures_of c UpData).spread)) (starts_at ep j w) (before_at ep j w)
 
   -- ---- soundness
 
-  rising_low : (ep j k : ℕ) → j ≤ k → k < (flow_of c antenna ps ep).count → (flow_of c antenna ps ep).low j ≤ℤ (flow_of c antenna ps ep).low k
+  rising_low : (ep j k : ℕ) → j ≤ k → k < (uplink_flow_of c antenna ps ep).count → (uplink_flow_of c antenna ps ep).low j ≤ℤ (uplink_flow_of c antenna ps ep).low k
   rising_low ep j k le h =
       let a = here ep j (omega (arith, le, h)) in
       let b = here ep k h in
       let same = endpoints_equal c.endpoints ep ep a.e b.e a.at b.at refl in
       let got_b : slice_get (messages_of c ps UpData ep a.e) k ≡ Some b.n = subst (λ (e : EndpointConfig). slice_get (messages_of c ps UpData ep e) k ≡ Some b.n) (sym same) b.got in
-      let r = rising_at (λ (n : Numbered Part). start_of n.message.first) (messages_of c ps UpData ep a.e) j k a.n b.n (messages_rising ep a.e a.at) a.got got_b le in
-      both (start_at c ps ep j) (start_at c ps ep k) (departures_of c UpData).from.0
-      (subst (λ x. x ≤ℤ start_at c ps ep k) (sym (starts_at ep j a)) (subst (λ y. start_of a.n.message.first ≤ℤ y) (sym (starts_at ep k b)) r))
+      let r = rising_at (λ (n : Numbered Part). start_of_part n.message.first) (messages_of c ps UpData ep a.e) j k a.n b.n (messages_rising ep a.e a.at) a.got got_b le in
+      both (flow_start_at c ps ep j) (flow_start_at c ps ep k) (departures_of c UpData).from.0
+      (subst (λ x. x ≤ℤ flow_start_at c ps ep k) (sym (starts_at ep j a)) (subst (λ y. start_of_part a.n.message.first ≤ℤ y) (sym (starts_at ep k b)) r))
     where
       both : (x y z : ℤ) → x ≤ℤ y → (x +ℤ z) ≤ℤ (y +ℤ z)
       both x y z h = omega (arith, ints, h)
 
   abbrev IsFar : ℤ → ℤ → Type 0
-  IsFar s t = ((s +ℤ ((bounds_of c).hold +ℤ ((bounds_of c).slow -ℤ (bounds_of c).fast))) <ℤ t) ⊎ ((t +ℤ ((bounds_of c).hold +ℤ ((bounds_of c).slow -ℤ (bounds_of c).fast))) <ℤ s)
+  IsFar s t = ((s +ℤ ((uplink_bounds_of c).hold +ℤ ((uplink_bounds_of c).slow -ℤ (uplink_bounds_of c).fast))) <ℤ t) ⊎ ((t +ℤ ((uplink_bounds_of c).hold +ℤ ((uplink_bounds_of c).slow -ℤ (uplink_bounds_of c).fast))) <ℤ s)
 
-  apart_at : (ep j : ℕ) → j + 256 < (flow_of c antenna ps ep).count → IsDistant (bounds_of c) (flow_of c antenna ps ep) j (j + 256)
+  apart_at : (ep j : ℕ) → j + 256 < (uplink_flow_of c antenna ps ep).count → IsDistant (uplink_bounds_of c) (uplink_flow_of c antenna ps ep) j (j + 256)
   apart_at ep j h =
       let a = here ep j (omega (arith, h)) in
       let b = here ep (j + 256) h in
@@ -155,7 +155,7 @@ module _ (c : Config) (lines : List PlanLine) (config : IsConfig c) (fit : All I
       let y = get_drop 256 j (j + 256) sent_list (omega arith) ∙ get_map (sending_of c UpData) (j + 256) b.n all got_b in
       let far = not_near (up_distance c.delays) 256 j sent_list (drop 256 sent_list) (sending_of c UpData a.n) (sending_of c UpData b.n) none_here x y in
       let times = distant (sent_at c UpData a.n 0) (sent_at c UpData b.n 0) c.delays.hold_ul c.delays.t34.min c.delays.t34.max far in
-      subst (λ s. IsFar s (flow_sent_at (flow_of c antenna ps ep) (j + 256) 0)) (sym (leaves_at ep j 0 a)) (subst (λ s. IsFar (sent_at c UpData a.n 0) s) (sym (leaves_at ep (j + 256) 0 b)) times)
+      subst (λ s. IsFar s (flow_sent_at (uplink_flow_of c antenna ps ep) (j + 256) 0)) (sym (leaves_at ep j 0 a)) (subst (λ s. IsFar (sent_at c UpData a.n 0) s) (sym (leaves_at ep (j + 256) 0 b)) times)
 
   -- a generation holds as long as a message's frames may be apart
   hold_covers : (least most fast slow hold : ℤ) (spread : ℕ) → least *ℤ pos 1536 +ℤ pos spread ≡ most *ℤ pos 1536 → ((most -ℤ least) +ℤ (slow -ℤ fast)) ≤ℤ hold
@@ -169,14 +169,14 @@ module _ (c : Config) (lines : List PlanLine) (config : IsConfig c) (fit : All I
   abbrev pub AreLong : Type 0
   AreLong = (ep j : ℕ) (w : Here ep j) → size_to (text_of c antenna ps ep j) (frames_in c UpData w.n.message) ≡ size_of part_fields w.n.message
 
-  short_at : AreLong → (ep j : ℕ) → j < (flow_of c antenna ps ep).count → size_to (text_of c antenna ps ep j) ((flow_of c antenna ps ep).pieces j) ≤ 16384
+  short_at : AreLong → (ep j : ℕ) → j < (uplink_flow_of c antenna ps ep).count → size_to (text_of c antenna ps ep j) ((uplink_flow_of c antenna ps ep).pieces j) ≤ 16384
   short_at long ep j h =
       let a = here ep j h in
-      let is : size_to (text_of c antenna ps ep j) ((flow_of c antenna ps ep).pieces j) ≡ size_of part_fields a.n.message =
+      let is : size_to (text_of c antenna ps ep j) ((uplink_flow_of c antenna ps ep).pieces j) ≡ size_of part_fields a.n.message =
       ap (λ m. size_to (text_of c antenna ps ep j) m) (pieces_at ep j a) ∙ long ep j a in
       subst (λ m. m ≤ 16384) (sym is) (message_short c lines config fit valid ep a.e a.n a.at a.there)
 
-  pub sound : AreLong → (ep : ℕ) → IsSound (bounds_of c) (flow_of c antenna ps ep)
+  pub sound : AreLong → (ep : ℕ) → IsSound (uplink_bounds_of c) (uplink_flow_of c antenna ps ep)
   sound long ep = record {
     delays = in_order_ns c.delays.t34.min c.delays.t34.max config.delays.t34.order;
     hold = hold_covers c.delays.ta3.min c.delays.ta3.max c.delays.t34.min c.delays.t34.max c.delays.hold_ul (departures_of c UpData).spread

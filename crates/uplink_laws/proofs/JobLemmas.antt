@@ -23,7 +23,7 @@ use Rattle.sent_laws.specs.unit_model.specs.declared.decoded.ControlSection.{Con
 use Rattle.sent_laws.specs.unit_model.specs.declared.verdicts.CommandVerdict.{CommandVerdict}
 use Rattle.sent_laws.specs.unit_model.specs.declared.verdicts.CommandVerdict.TheVariants.{Accepted, Repeat}
 use Rattle.sent_laws.specs.unit_laws.proofs.SweepLemmas.{sweep-same}
-use Rattle.sent_laws.specs.plan_model.specs.Lines.{allocation_of, is_down, is_idle, planned}
+use Rattle.sent_laws.specs.plan_model.specs.Lines.{line_allocation, is_down_kind, is_idle_kind, planned}
 use Rattle.sent_laws.specs.plan_model.specs.Validity.{clash}
 use Rattle.sent_laws.specs.plan_model.specs.declared.lines.PlannedLine.{PlannedLine}
 use Rattle.sent_laws.specs.plan_model.specs.declared.streams.Stream.{Stream}
@@ -43,49 +43,50 @@ use Rattle.sent_laws.specs.Sent.{IsSendable}
 use Rattle.sent_laws.proofs.RadiatedLemmas.{copy_is}
 use Rattle.uplink_laws.specs.Jobs.{AreJobsOfPlan}
 use Rattle.uplink_laws.specs.Premise.{CommandsArrive}
-use Rattle.uplink_laws.specs.Lines.{is_uplink, uplink_of}
 use Rattle.uplink_laws.proofs.MemberLemmas.{distinct_filter, distinct_reverse, in_reverse, of_reverse, same_members, split}
 use Rattle.uplink_laws.proofs.SortLemmas.{sorted_same}
+use Rattle.sent_laws.specs.plan_model.specs.Lines.{uplink_allocations}
+use Rattle.sent_laws.specs.plan_model.specs.Lines.{is_up_line}
 
 -- ---- no line twice
 
-distinct_lines : (earlier : List Allocation) (ps : List PlannedLine) → AreTested earlier ps → ((p : PlannedLine) → IsIn p ps → clash (allocation_of p) (allocation_of p) ≡ true)
-    → AreDistinct (map allocation_of ps)
+distinct_lines : (earlier : List Allocation) (ps : List PlannedLine) → AreTested earlier ps → ((p : PlannedLine) → IsIn p ps → clash (line_allocation p) (line_allocation p) ≡ true)
+    → AreDistinct (map line_allocation ps)
 distinct_lines earlier [] t own = tt
 distinct_lines earlier (p ∷ ps) t own = (
   λ m.
-      (let w = of_map allocation_of (allocation_of p) ps m in
-      let none = later_clear (allocation_of p ∷ earlier) ps w.0 (allocation_of p) t.3 w.1 (inl refl) in
-      true≢false (sym (own p (inl refl)) ∙ ap (λ (a : Allocation). clash a (allocation_of p)) w.2 ∙ none)),
-  distinct_lines (allocation_of p ∷ earlier) ps t.3 (λ q m. own q (inr m)),
+      (let w = of_map line_allocation (line_allocation p) ps m in
+      let none = later_clear (line_allocation p ∷ earlier) ps w.0 (line_allocation p) t.3 w.1 (inl refl) in
+      true≢false (sym (own p (inl refl)) ∙ ap (λ (a : Allocation). clash a (line_allocation p)) w.2 ∙ none)),
+  distinct_lines (line_allocation p ∷ earlier) ps t.3 (λ q m. own q (inr m)),
 )
 
 -- the uplink lines are some of them
-distinct_some : (p : PlannedLine → Bool) (ps : List PlannedLine) → AreDistinct (map allocation_of ps) → AreDistinct (map allocation_of (filter p ps))
+distinct_some : (p : PlannedLine → Bool) (ps : List PlannedLine) → AreDistinct (map line_allocation ps) → AreDistinct (map line_allocation (filter p ps))
 distinct_some p [] d = tt
 distinct_some p (q ∷ ps) d = go (p q) (distinct_some p ps d.1)
   where
-    go : (b : Bool) → AreDistinct (map allocation_of (filter p ps)) → AreDistinct (map allocation_of (if b then q ∷ filter p ps else filter p ps))
+    go : (b : Bool) → AreDistinct (map line_allocation (filter p ps)) → AreDistinct (map line_allocation (if b then q ∷ filter p ps else filter p ps))
     go true rest = (
-      λ m. (let w = of_map allocation_of (allocation_of q) (filter p ps) m in d.0 (subst (λ (a : Allocation). IsIn a (map allocation_of ps)) (sym w.2) (in_map allocation_of w.0 ps (of_filter p w.0 ps w.1).0))),
+      λ m. (let w = of_map line_allocation (line_allocation q) (filter p ps) m in d.0 (subst (λ (a : Allocation). IsIn a (map line_allocation ps)) (sym w.2) (in_map line_allocation w.0 ps (of_filter p w.0 ps w.1).0))),
       rest,
     )
     go false rest = rest
 
 -- ---- what an uplink line names is sent for
 
-up_sent : (k : PlanKind) → not (is_down k) ≡ true → (not (is_down k) && not (is_idle k)) ≡ true
+up_sent : (k : PlanKind) → not (is_down_kind k) ≡ true → (not (is_down_kind k) && not (is_idle_kind k)) ≡ true
 up_sent Down h = absurd cc
 up_sent Up h = refl
 up_sent Idle h = absurd cc
 
-pub in_uplink : (ps : List PlannedLine) (p : PlannedLine) → IsIn p ps → is_sent_up (allocation_of p) ≡ true → IsIn (allocation_of p) (uplink_of ps)
-in_uplink ps p m is = in_map allocation_of p (filter is_uplink ps) (in_filter is_uplink p ps m (and_parts (not (is_down p.line.kind)) (not (is_idle p.line.kind)) is).0)
+pub in_uplink : (ps : List PlannedLine) (p : PlannedLine) → IsIn p ps → is_sent_up (line_allocation p) ≡ true → IsIn (line_allocation p) (uplink_allocations ps)
+in_uplink ps p m is = in_map line_allocation p (filter is_up_line ps) (in_filter is_up_line p ps m (and_parts (not (is_down_kind p.line.kind)) (not (is_idle_kind p.line.kind)) is).0)
 
-pub of_uplink : (ps : List PlannedLine) (a : Allocation) → IsIn a (uplink_of ps) → (p : PlannedLine) × IsIn p ps × (is_uplink p ≡ true) × (a ≡ allocation_of p)
+pub of_uplink : (ps : List PlannedLine) (a : Allocation) → IsIn a (uplink_allocations ps) → (p : PlannedLine) × IsIn p ps × (is_up_line p ≡ true) × (a ≡ line_allocation p)
 of_uplink ps a m =
-    let w = of_map allocation_of a (filter is_uplink ps) m in
-    let f = of_filter is_uplink w.0 ps w.1 in
+    let w = of_map line_allocation a (filter is_up_line ps) m in
+    let f = of_filter is_up_line w.0 ps w.1 in
     (w.0, f.0, f.1, w.2)
 
 -- ---- what was accepted
@@ -116,10 +117,10 @@ module _ (c : Config) (lines : List PlanLine) (source : Source) (down : List Arr
         every = λ f m stream. (let w = h.every f m (not_data f.stream stream) in (w.0, w.1, copy_is c lines source s f w.0 m w.2));
       })
 
-  own : (p : PlannedLine) → IsIn p ps → clash (allocation_of p) (allocation_of p) ≡ true
-  own p m = own_clash (allocation_of p) (line_proper c.endpoints p (good c lines s.config s.lines_fit s.valid p m))
+  own : (p : PlannedLine) → IsIn p ps → clash (line_allocation p) (line_allocation p) ≡ true
+  own p m = own_clash (line_allocation p) (line_proper c.endpoints p (good c lines s.config s.lines_fit s.valid p m))
 
-  line_for : (d : ControlSection) → IsIn d cs → (p : PlannedLine) × IsIn p ps × (named_by d ≡ allocation_of p)
+  line_for : (d : ControlSection) → IsIn d cs → (p : PlannedLine) × IsIn p ps × (named_by d ≡ line_allocation p)
   line_for d m =
       let w = split d cs m in
       let a = commanded.answers w.before w.after d w.is in
@@ -162,24 +163,24 @@ module _ (c : Config) (lines : List PlanLine) (source : Source) (down : List Arr
       let n = named (later ++ d ∷ []) earlier (e ∙ sym (append_assoc later (d ∷ []) earlier)) in
       let a = commanded.answers later earlier d e in
       let within = λ (x : ControlSection) (m : IsIn x earlier). (let t : IsIn x cs = subst (λ (xs : List ControlSection). IsIn x xs) (sym e) (in_right x later (d ∷ earlier) (inr m)) in t) in
-      go later earlier d n a.line a.planned_is a.names a.first a.further within (cases_Bool (list_any (clash (allocation_of a.line)) (accepted c.delays earlier)))
+      go later earlier d n a.line a.planned_is a.names a.first a.further within (cases_Bool (list_any (clash (line_allocation a.line)) (accepted c.delays earlier)))
     where
-      go : (later earlier : List ControlSection) (d : ControlSection) → AreNamed c.delays earlier → (p : PlannedLine) → IsIn p ps → named_by d ≡ allocation_of p
-          → (((x : ControlSection) → IsIn x earlier → named_by x ≢ allocation_of p) → command_verdict c.delays (accepted c.delays earlier) d ≡ Accepted)
-          → ((x : ControlSection) → IsIn x earlier → named_by x ≡ allocation_of p → command_verdict c.delays (accepted c.delays earlier) d ≡ Repeat)
+      go : (later earlier : List ControlSection) (d : ControlSection) → AreNamed c.delays earlier → (p : PlannedLine) → IsIn p ps → named_by d ≡ line_allocation p
+          → (((x : ControlSection) → IsIn x earlier → named_by x ≢ line_allocation p) → command_verdict c.delays (accepted c.delays earlier) d ≡ Accepted)
+          → ((x : ControlSection) → IsIn x earlier → named_by x ≡ line_allocation p → command_verdict c.delays (accepted c.delays earlier) d ≡ Repeat)
           → ((x : ControlSection) → IsIn x earlier → IsIn x cs)
-          → (list_any (clash (allocation_of p)) (accepted c.delays earlier) ≡ true) ⊎ (list_any (clash (allocation_of p)) (accepted c.delays earlier) ≡ false) → AreNamed c.delays (d ∷ earlier)
+          → (list_any (clash (line_allocation p)) (accepted c.delays earlier) ≡ true) ⊎ (list_any (clash (line_allocation p)) (accepted c.delays earlier) ≡ false) → AreNamed c.delays (d ∷ earlier)
       go later earlier d n p m names first further within (inl is) =
-          let k = among (clash (allocation_of p)) (accepted c.delays earlier) is in
+          let k = among (clash (line_allocation p)) (accepted c.delays earlier) is in
           let x = n.from k.x k.there in
           let q = line_for x.0 (within x.0 x.1) in
-          let one = are_one c lines s.config s.lines_fit s.valid p q.0 m q.1 (ap (λ (b : Allocation). clash (allocation_of p) b) (sym q.2 ∙ x.2) ∙ k.is) in
-          let same : named_by x.0 ≡ allocation_of p = q.2 ∙ ap (λ (l : PlannedLine). allocation_of l) (sym one) in
+          let one = are_one c lines s.config s.lines_fit s.valid p q.0 m q.1 (ap (λ (b : Allocation). clash (line_allocation p) b) (sym q.2 ∙ x.2) ∙ k.is) in
+          let same : named_by x.0 ≡ line_allocation p = q.2 ∙ ap (λ (l : PlannedLine). line_allocation l) (sym one) in
           let there : IsIn (named_by d) (accepted c.delays earlier) = subst (λ (b : Allocation). IsIn b (accepted c.delays earlier)) (sym x.2 ∙ same ∙ sym names) k.there in
           named_from d earlier (subst (Names d earlier) (sym (again d earlier (further x.0 x.1 same))) (names_repeat d earlier n there))
       go later earlier d n p m names first further within (inr other) =
-          let none : (b : Allocation) → IsIn b (accepted c.delays earlier) → b ≡ allocation_of p → ⊥ =
-          λ b i e. true≢false (sym (any_in (clash (allocation_of p)) b (accepted c.delays earlier) i (ap (λ (z : Allocation). clash (allocation_of p) z) e ∙ own p m)) ∙ other) in
+          let none : (b : Allocation) → IsIn b (accepted c.delays earlier) → b ≡ line_allocation p → ⊥ =
+          λ b i e. true≢false (sym (any_in (clash (line_allocation p)) b (accepted c.delays earlier) i (ap (λ (z : Allocation). clash (line_allocation p) z) e ∙ own p m)) ∙ other) in
           named_from d earlier (subst (Names d earlier) (sym (new d earlier (first (λ x i e. none (named_by x) (n.all x i) e)))) (names_new d earlier n (λ i. none (named_by d) i names)))
 
   abbrev up : List Allocation
@@ -190,39 +191,39 @@ module _ (c : Config) (lines : List PlanLine) (source : Source) (down : List Arr
 
   -- ---- the lines
 
-  from_line : (a : Allocation) → IsIn a up → (p : PlannedLine) × IsIn p ps × (a ≡ allocation_of p)
+  from_line : (a : Allocation) → IsIn a up → (p : PlannedLine) × IsIn p ps × (a ≡ line_allocation p)
   from_line a m =
       let x = all_named.from a m in
       let p = line_for x.0 x.1 in
       (p.0, p.1, sym x.2 ∙ p.2)
 
-  line_accepted : (p : PlannedLine) → IsIn p ps → IsIn (allocation_of p) up
+  line_accepted : (p : PlannedLine) → IsIn p ps → IsIn (line_allocation p) up
   line_accepted p m =
       let w = commanded.every p m in
       subst (λ (a : Allocation). IsIn a up) w.names (all_named.all w.command w.came)
 
   abbrev ls : List Allocation
-  ls = map allocation_of ps
+  ls = map line_allocation ps
 
   lines_once : AreDistinct ls
   lines_once = distinct_lines [] ps (valid_tested c lines s.valid) own
 
   into_lines : (a : Allocation) → IsIn a up → IsIn a ls
-  into_lines a m = let p = from_line a m in subst (λ (b : Allocation). IsIn b ls) (sym p.2) (in_map allocation_of p.0 ps p.1)
+  into_lines a m = let p = from_line a m in subst (λ (b : Allocation). IsIn b ls) (sym p.2) (in_map line_allocation p.0 ps p.1)
 
   from_lines : (a : Allocation) → IsIn a ls → IsIn a up
-  from_lines a m = let p = of_map allocation_of a ps m in subst (λ (b : Allocation). IsIn b up) (sym p.2) (line_accepted p.0 p.1)
+  from_lines a m = let p = of_map line_allocation a ps m in subst (λ (b : Allocation). IsIn b up) (sym p.2) (line_accepted p.0 p.1)
 
-  accepted_lines : IsPermutation (uplink_of ps) (filter is_sent_up up)
+  accepted_lines : IsPermutation (uplink_allocations ps) (filter is_sent_up up)
   accepted_lines =
-      same_members (uplink_of ps) (filter is_sent_up up) (distinct_some is_uplink ps lines_once) (distinct_filter is_sent_up up all_named.distinct)
+      same_members (uplink_allocations ps) (filter is_sent_up up) (distinct_some is_up_line ps lines_once) (distinct_filter is_sent_up up all_named.distinct)
       (λ a m.
       (let p = of_uplink ps a m in
       in_filter is_sent_up a up (subst (λ (b : Allocation). IsIn b up) (sym p.3) (line_accepted p.0 p.1)) (ap (λ (b : Allocation). is_sent_up b) p.3 ∙ up_sent p.0.line.kind p.2)))
       (λ a m.
       (let w = of_filter is_sent_up a up m in
       let p = from_line a w.0 in
-      subst (λ (b : Allocation). IsIn b (uplink_of ps)) (sym p.2) (in_uplink ps p.0 p.1 (ap (λ (b : Allocation). is_sent_up b) (sym p.2) ∙ w.1))))
+      subst (λ (b : Allocation). IsIn b (uplink_allocations ps)) (sym p.2) (in_uplink ps p.0 p.1 (ap (λ (b : Allocation). is_sent_up b) (sym p.2) ∙ w.1))))
 
   -- ---- the jobs
 

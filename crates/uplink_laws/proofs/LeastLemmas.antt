@@ -15,7 +15,7 @@ use Rattle.sent_laws.specs.unit_model.specs.Meetings.{Arrival}
 use Rattle.sent_laws.specs.unit_model.specs.Radiated.{first_clock}
 use Rattle.sent_laws.specs.unit_model.specs.Times.{end_of_time}
 use Rattle.sent_laws.specs.unit_model.proofs.SweepLaws.{gap_is, gap_parts}
-use Rattle.sent_laws.specs.plan_model.specs.Departures.{departures_of, start_of}
+use Rattle.sent_laws.specs.plan_model.specs.Departures.{departures_of, start_of_part}
 use Rattle.sent_laws.specs.plan_model.specs.Lines.{planned}
 use Rattle.sent_laws.specs.plan_model.specs.declared.lines.PlannedLine.{PlannedLine}
 use Rattle.sent_laws.specs.plan_model.specs.declared.streams.Stream.TheVariants.{UpData}
@@ -25,16 +25,19 @@ use Rattle.sent_laws.specs.schedule_laws.proofs.LeastLemmas.{onto_order, least_i
 use Rattle.sent_laws.specs.schedule_laws.proofs.LineLemmas.{start_in_time}
 use Rattle.sent_laws.specs.schedule_laws.proofs.ListLemmas.{in_map, in_onto, in_tick, of_map, of_tick, onto_right}
 use Rattle.sent_laws.specs.schedule_laws.proofs.OrderLemmas.{IsRising, ticks_rising}
-use Rattle.sent_laws.specs.schedule_laws.proofs.TimeLemmas.{wait_most, in_ticks, less_gap}
+use Rattle.sent_laws.specs.schedule_laws.proofs.TimeLemmas.{wait_most, less_gap}
 use Rattle.sent_laws.specs.sent_frames.specs.Messages.{Source}
 use Rattle.sent_laws.specs.Radiated.{CopiesArrive}
 use Rattle.sent_laws.specs.Sent.{IsSendable}
 use Rattle.sent_laws.proofs.RadiatedLemmas.{least_come}
 use Rattle.uplink_streams.specs.uplink_model.specs.Frames.{Antenna}
-use Rattle.uplink_laws.specs.Least.{LeastDelaysArrive, by_time, down_least, least_copies, least_copy}
+use Rattle.uplink_laws.specs.Least.{LeastUplinkDelaysArrive, by_time, down_least, least_copies, least_copy}
 use Rattle.uplink_laws.specs.Premise.{AnswersArrive, CommandsArrive, IsUplinkCopy, frames_of, jobs_of}
 use Rattle.uplink_laws.proofs.ArrivalLemmas.{frame_is}
 use Rattle.uplink_laws.proofs.PartLemmas.{message_facts}
+use Rattle.fh_time.specs.declared.frames.TheConstants.{FRAME}
+use Rattle.window_config.specs.declared.delays.TheConstants.{MOST_DELAY}
+use Rattle.window_config.proofs.TickLemmas.{in_ticks}
 
 -- ---- frames by time
 
@@ -75,7 +78,7 @@ copy_is c f order = record { from = least_is f.at.0 (ticks_of_ns c.delays.t34.mi
 -- ---- all of it
 
 -- a frame leaves while time is gone over
-leaves_in_time : (s least most : ℤ) (wait width : ℕ) → pos 15360000000 ≤ℤ s → s ≤ℤ pos 1536100000000000 → pos 0 ≤ℤ least → most ≤ℤ pos 2000000
+leaves_in_time : (s least most : ℤ) (wait width : ℕ) → FRAME ≤ℤ s → s ≤ℤ pos 1536100000000000 → pos 0 ≤ℤ least → most ≤ℤ pos MOST_DELAY
     → least *ℤ pos 1536 +ℤ pos width ≡ most *ℤ pos 1536 → wait ≤ width
     → (first_clock ≤ℤ ((s +ℤ least *ℤ pos 1536) +ℤ pos wait)) × (((s +ℤ least *ℤ pos 1536) +ℤ pos wait) <ℤ (end_of_time +ℤ pos 1))
 leaves_in_time s least most wait width a b l m e w = (omega (arith, ints), omega (arith, ints))
@@ -103,7 +106,7 @@ module _ (c : Config) (lines : List PlanLine) (source : Source) (antenna : Anten
       let d = departures_of c UpData in
       let ta3 = c.delays.ta3 in
       let limits = s.config.delays.ta3 in
-      let both = leaves_in_time (start_of x) ta3.min ta3.max (min ((w.n.before + w.sub) * d.gap) d.spread) d.spread time.0 time.1 limits.low limits.high
+      let both = leaves_in_time (start_of_part x) ta3.min ta3.max (min ((w.n.before + w.sub) * d.gap) d.spread) d.spread time.0 time.1 limits.low limits.high
       (gap_is (ticks_of_ns ta3.min) (ticks_of_ns ta3.max) (in_ticks ta3.min ta3.max limits.order)) (wait_most (w.n.before + w.sub) d.gap d.spread) in
       subst (λ (g : LinkFrame). (first_clock ≤ℤ g.at.0) × (g.at.0 <ℤ (end_of_time +ℤ pos 1))) (sym w.is) both
 
@@ -121,5 +124,5 @@ module _ (c : Config) (lines : List PlanLine) (source : Source) (antenna : Anten
             (least_copy c f, onto_right (least_copy c f) [] (map (least_copy c) (by_time frames)) (in_map (least_copy c) f (by_time frames) (in_time f frames time.0 time.1 m)), copy_is c f order));
       }
 
-pub least_arrive : LeastDelaysArrive
+pub least_arrive : LeastUplinkDelaysArrive
 least_arrive c lines source antenna s can check = record { sendable = s; can = can; check = check; down_arrive = down_arrive c lines source antenna s check; up_arrive = up_arrive c lines source antenna s check }

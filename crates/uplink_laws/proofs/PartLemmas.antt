@@ -20,16 +20,14 @@ use Rattle.sent_laws.specs.unit_model.specs.Proper.{IsAt}
 use Rattle.sent_laws.specs.unit_model.specs.Radiated.{first_clock}
 use Rattle.sent_laws.specs.unit_model.specs.Times.{end_of_time}
 use Rattle.sent_laws.specs.unit_model.specs.Uplink.{sends_in}
-use Rattle.sent_laws.specs.unit_laws.proofs.CellLemmas.{from_within, slots_equal}
 use Rattle.sent_laws.specs.unit_laws.proofs.FarLemmas.{endpoints_equal}
-use Rattle.sent_laws.specs.plan_model.specs.Departures.{start_of}
-use Rattle.sent_laws.specs.plan_model.specs.Lines.{allocation_of, is_down, is_idle, planned}
+use Rattle.sent_laws.specs.plan_model.specs.Departures.{start_of_part}
+use Rattle.sent_laws.specs.plan_model.specs.Lines.{line_allocation, is_down_kind, is_idle_kind, planned}
 use Rattle.sent_laws.specs.plan_model.specs.Packs.{Numbered, packs, parts_of, size_of}
 use Rattle.sent_laws.specs.plan_model.specs.Streams.{Part, frames_in, line_before, messages_of, part_fields, part_in, parts_in, symbol_parts}
 use Rattle.sent_laws.specs.plan_model.specs.Valid.{IsValid}
 use Rattle.sent_laws.specs.plan_model.specs.declared.lines.PlannedLine.{PlannedLine}
 use Rattle.sent_laws.specs.plan_model.specs.declared.streams.Stream.TheVariants.{UpData}
-use Rattle.sent_laws.specs.plan_model.proofs.SlotLemmas.{slot_own}
 use Rattle.sent_laws.specs.plan_model.proofs.ListLemmas.{in_filter, of_filter}
 use Rattle.sent_laws.specs.schedule_laws.proofs.FlowLemmas.{section_short}
 use Rattle.sent_laws.specs.schedule_laws.proofs.LineLemmas.{IsGoodLine, good, start_in_time}
@@ -40,7 +38,8 @@ use Rattle.sent_laws.specs.schedule_laws.proofs.SentLemmas.{message_part, part_m
 use Rattle.sent_laws.specs.schedule_laws.proofs.TimeLemmas.{in_end}
 use Rattle.sent_laws.specs.sent_frames.proofs.MessageFacts.{IsGoodMessage, IsGoodPart}
 use Rattle.uplink_streams.proofs.ListLemmas.{of_order}
-use Rattle.uplink_laws.specs.Lines.{is_uplink}
+use Rattle.sent_laws.specs.plan_model.specs.Lines.{is_up_line}
+use Rattle.sent_laws.specs.unit_model.proofs.ClaimLemmas.{same_slot_is as slots_equal, slot_self as slot_own, from_within}
 
 -- ---- in an order
 
@@ -60,13 +59,13 @@ into_order below z (x ∷ xs) m = in_put below x z (in_order below xs) (elim m [
 
 -- ---- kinds of lines
 
-up_sent : (k : PlanKind) → not (is_down k) ≡ true → (not (is_down k) && not (is_idle k)) ≡ true
+up_sent : (k : PlanKind) → not (is_down_kind k) ≡ true → (not (is_down_kind k) && not (is_idle_kind k)) ≡ true
 up_sent Down h = absurd cc
 up_sent Up h = refl
 up_sent Idle h = absurd cc
 
 -- what an uplink line names is sent for
-pub line_sent : (p : PlannedLine) → is_uplink p ≡ true → is_sent_up (allocation_of p) ≡ true
+pub line_sent : (p : PlannedLine) → is_up_line p ≡ true → is_sent_up (line_allocation p) ≡ true
 line_sent p h = up_sent p.line.kind h
 
 -- ---- parts
@@ -75,7 +74,7 @@ line_sent p h = up_sent p.line.kind h
 record Sends (ps : List PlannedLine) (ep : ℕ) (e : EndpointConfig) (x : Part) : Type 0 where
   slot : Slot
   from : IsIn x.planned ps
-  sends : sends_in ep slot x.symbol (allocation_of x.planned) ≡ true
+  sends : sends_in ep slot x.symbol (line_allocation x.planned) ≡ true
   is_symbol : x.symbol < symbols_of e.numerology
 
 -- the line and the symbol that a part is of
@@ -85,19 +84,19 @@ pub record PartFacts (es : List EndpointConfig) (ps : List PlannedLine) (ep : �
   pub ep_is : x.planned.ep ≡ ep
   pub endpoint : x.planned.endpoint ≡ e
   pub below : x.symbol < symbols_of x.planned.endpoint.numerology
-  pub uplink : is_uplink x.planned ≡ true
+  pub uplink : is_up_line x.planned ≡ true
   pub symbol : is_from x.planned.line.symbol x.planned.line.count x.symbol ≡ true
 
 module _ (ps : List PlannedLine) (ep : ℕ) (e : EndpointConfig) where
   pub symbol_part : (slot : Slot) (symbol : ℕ) (x : Part) → IsIn x (symbol_parts UpData ps ep slot symbol)
-      → IsIn x.planned ps × (sends_in ep slot symbol (allocation_of x.planned) ≡ true) × (x.symbol ≡ symbol)
+      → IsIn x.planned ps × (sends_in ep slot symbol (line_allocation x.planned) ≡ true) × (x.symbol ≡ symbol)
   unfolding symbol_parts
   symbol_part slot symbol x m =
-      let test = λ (p : PlannedLine). sends_in ep slot symbol (allocation_of p) in
+      let test = λ (p : PlannedLine). sends_in ep slot symbol (line_allocation p) in
       let w = of_map (part_in symbol) x (in_order line_before (filter test ps)) m in
       let y = of_filter test w.0 ps (of_order line_before w.0 (filter test ps) w.1) in (
         subst (λ (z : Part). IsIn z.planned ps) (sym w.2) y.0,
-        subst (λ (z : Part). sends_in ep slot symbol (allocation_of z.planned) ≡ true) (sym w.2) y.1,
+        subst (λ (z : Part). sends_in ep slot symbol (line_allocation z.planned) ≡ true) (sym w.2) y.1,
         ap (λ (z : Part). z.symbol) w.2,
       )
 
@@ -107,7 +106,7 @@ module _ (ps : List PlannedLine) (ep : ℕ) (e : EndpointConfig) where
       record {
         slot = slot;
         from = w.0;
-        sends = subst (λ y. sends_in ep slot y (allocation_of x.planned) ≡ true) (sym w.2) w.1;
+        sends = subst (λ y. sends_in ep slot y (line_allocation x.planned) ≡ true) (sym w.2) w.1;
         is_symbol = subst (λ y. y < symbols_of e.numerology) (sym w.2) h;
       }
 
@@ -115,30 +114,30 @@ module _ (ps : List PlannedLine) (ep : ℕ) (e : EndpointConfig) where
   unfolding parts_in
   part_is x m = of_symbols (Sends ps ep e) (symbol_parts UpData ps ep) e part_of_symbol x m
 
-  part_there : (p : PlannedLine) (slot : Slot) (symbol : ℕ) → IsIn p ps → sends_in ep slot symbol (allocation_of p) ≡ true → IsSlotOf e.numerology slot → symbol < symbols_of e.numerology
+  part_there : (p : PlannedLine) (slot : Slot) (symbol : ℕ) → IsIn p ps → sends_in ep slot symbol (line_allocation p) ≡ true → IsSlotOf e.numerology slot → symbol < symbols_of e.numerology
       → first_clock ≤ℤ air_of e.numerology slot symbol → air_of e.numerology slot symbol <ℤ (end_of_time +ℤ pos 1) → IsIn (part_in symbol p) (parts_in ps UpData ep e)
   unfolding parts_in symbol_parts
   part_there p slot symbol m has is h low high =
-      let test = λ (q : PlannedLine). sends_in ep slot symbol (allocation_of q) in
+      let test = λ (q : PlannedLine). sends_in ep slot symbol (line_allocation q) in
       in_symbols (symbol_parts UpData ps ep) e slot symbol (part_in symbol p) is h low high
       (in_map (part_in symbol) p (in_order line_before (filter test ps)) (into_order line_before p (filter test ps) (in_filter test p ps m has)))
 
 -- what a test for a symbol says of a line
 pub record IsSentIn (p : PlannedLine) (ep : ℕ) (slot : Slot) (symbol : ℕ) : Type 0 where
-  pub uplink : is_uplink p ≡ true
+  pub uplink : is_up_line p ≡ true
   pub ep_is : p.ep ≡ ep
   pub slot_is : p.line.slot ≡ slot
   pub within : is_from p.line.symbol p.line.count symbol ≡ true
 
-pub sent_in : (p : PlannedLine) (ep : ℕ) (slot : Slot) (symbol : ℕ) → sends_in ep slot symbol (allocation_of p) ≡ true → IsSentIn p ep slot symbol
+pub sent_in : (p : PlannedLine) (ep : ℕ) (slot : Slot) (symbol : ℕ) → sends_in ep slot symbol (line_allocation p) ≡ true → IsSentIn p ep slot symbol
 sent_in p ep slot symbol h =
-    let one = and_parts (is_sent_up (allocation_of p)) _ h in
-    let kind = and_parts (not (is_down p.line.kind)) (not (is_idle p.line.kind)) one.0 in
+    let one = and_parts (is_sent_up (line_allocation p)) _ h in
+    let kind = and_parts (not (is_down_kind p.line.kind)) (not (is_idle_kind p.line.kind)) one.0 in
     let two = and_parts (p.ep == ep) _ one.1 in
     let three = and_parts (same_slot p.line.slot slot) (is_from p.line.symbol p.line.count symbol) two.1 in
     record { uplink = kind.0; ep_is = eqb-true p.ep ep two.0; slot_is = slots_equal p.line.slot slot three.0; within = three.1 }
 
-own_sends : (p : PlannedLine) (symbol : ℕ) → is_uplink p ≡ true → is_from p.line.symbol p.line.count symbol ≡ true → sends_in p.ep p.line.slot symbol (allocation_of p) ≡ true
+own_sends : (p : PlannedLine) (symbol : ℕ) → is_up_line p ≡ true → is_from p.line.symbol p.line.count symbol ≡ true → sends_in p.ep p.line.slot symbol (line_allocation p) ≡ true
 own_sends p symbol up within = and_from _ _ (line_sent p up) (and_from _ _ (eq-eqb p.ep p.ep refl) (and_from _ _ (slot_own p.line.slot) within))
 
 -- ---- of a valid plan
@@ -191,7 +190,7 @@ module _ (c : Config) (lines : List PlanLine) (config : IsConfig c) (fit : All I
 
   -- all parts of a message start when its first one does
   pub same_start : (ep : ℕ) (e : EndpointConfig) (n : Numbered Part) (x : Part) → IsAt c.endpoints ep e → IsIn n (messages_of c ps UpData ep e) → IsIn x (parts_of n.message)
-      → start_of x ≡ start_of n.message.first
+      → start_of_part x ≡ start_of_part n.message.first
   same_start ep e n x at there m =
       let y = n.message.first in
       let g = good_message ep e n at there in
@@ -206,7 +205,7 @@ module _ (c : Config) (lines : List PlanLine) (config : IsConfig c) (fit : All I
   under s m n k l = omega (arith, k, l)
 
   -- an uplink line is in a message in each of its symbols
-  pub line_part : (p : PlannedLine) (symbol : ℕ) → IsIn p ps → is_uplink p ≡ true → is_from p.line.symbol p.line.count symbol ≡ true
+  pub line_part : (p : PlannedLine) (symbol : ℕ) → IsIn p ps → is_up_line p ≡ true → is_from p.line.symbol p.line.count symbol ≡ true
       → IsAt c.endpoints p.ep p.endpoint × ((n : Numbered Part) × IsIn n (messages_of c ps UpData p.ep p.endpoint) × IsIn (part_in symbol p) (parts_of n.message))
   line_part p symbol m up within =
       let g = good c lines config fit valid p m in

@@ -25,17 +25,16 @@ use Rattle.window_config.specs.declared.config.Config.{Config}
 use Rattle.window_config.specs.declared.endpoints.EndpointConfig.{EndpointConfig}
 use Rattle.window_config.specs.declared.plan.PlanLine.{PlanLine}
 use Rattle.sent_laws.specs.unit_model.specs.Claims.{cell_at, first_prb, is_from, prb_count}
-use Rattle.sent_laws.specs.unit_model.specs.Decoding.{Gathering, Part as ReadPart, Sections, data_with, decode, decoded_from, gathered, nothing_told}
+use Rattle.sent_laws.specs.unit_model.specs.Decoding.{Gathering, SectionBlocks as ReadPart, Sections, data_with, decode, decoded_from, gathered, nothing_told}
 use Rattle.sent_laws.specs.unit_model.specs.Lists.{joined, onto}
 use Rattle.sent_laws.specs.unit_model.specs.Meetings.{Meeting, Piece, find_endpoint, fragment_of, fragment_with, id_of, meet, met_in}
 use Rattle.sent_laws.specs.unit_model.specs.Proper.{IsAt}
 use Rattle.sent_laws.specs.unit_model.specs.declared.decoded.UserSection.{UserSection}
-use Rattle.sent_laws.specs.plan_model.specs.Lines.{allocation_of, planned}
+use Rattle.sent_laws.specs.plan_model.specs.Lines.{line_allocation, planned}
 use Rattle.sent_laws.specs.plan_model.specs.Packs.{Message, Numbered, frames_for, parts_of, size_of}
 use Rattle.sent_laws.specs.plan_model.specs.Streams.{Part, frames_in, messages_of, part_fields, section_size}
 use Rattle.sent_laws.specs.plan_model.specs.declared.lines.PlannedLine.{PlannedLine}
 use Rattle.sent_laws.specs.plan_model.specs.declared.streams.Stream.TheVariants.{UpData}
-use Rattle.sent_laws.specs.plan_model.proofs.RangeLemmas.{from_high, from_low}
 use Rattle.sent_laws.specs.plan_model.proofs.SizeLemmas.{few_pieces}
 use Rattle.sent_laws.specs.schedule_laws.specs.Data.{Blocks}
 use Rattle.sent_laws.specs.schedule_laws.proofs.FoundLemmas.{found}
@@ -58,13 +57,16 @@ use Rattle.sent_laws.proofs.Gathered.{block_in, read_part, read_parts, sections_
 use Rattle.sent_laws.proofs.LineFields.{at_most_nine, frame_id_is, frame_id_small}
 use Rattle.sent_laws.proofs.MessageSays.{message_told, the_place, in_count}
 use Rattle.sent_laws.proofs.SentRead.{some_bytes, in_size}
-use Rattle.uplink_streams.specs.uplink_model.specs.Frames.{Antenna, carrier_of, fragment_bytes, frame_id_of, head_of, message_bytes, samples_of, section_of}
+use Rattle.uplink_streams.specs.uplink_model.specs.Frames.{Antenna, uplink_fragment_bytes, head_of, uplink_message_bytes, samples_of, section_of}
 use Rattle.uplink_streams.specs.uplink_model.specs.Messages.{job_fields}
 use Rattle.uplink_streams.specs.Streams.{job_for, message_for}
-use Rattle.uplink_laws.specs.Data.{AreSections, IsDataFor, IsDecoded, blocks_of}
+use Rattle.uplink_laws.specs.Data.{AreUplinkSections, IsUplinkDataFor, IsUplinkDecoded, antenna_blocks}
 use Rattle.uplink_laws.specs.Flows.{fragment_text}
 use Rattle.uplink_laws.specs.Premise.{CanAnswer}
 use Rattle.uplink_laws.proofs.PartLemmas.{good_message, message_facts, message_short}
+use Rattle.sent_laws.specs.frame_bytes.specs.Headers.{frame_id_of}
+use Rattle.sent_laws.specs.frame_bytes.specs.Headers.{carrier_of}
+use Rattle.sent_laws.specs.unit_model.proofs.ClaimLemmas.{starts_before as from_low, from_within as from_high}
 
 -- ---- a frame at the distributed unit
 
@@ -87,12 +89,12 @@ frame_met es ep e at seq bytes found t =
 
 -- a section carries a part, in a message whose first and last fragments came then
 pub record IsSectionOf (blocks : Blocks) (first last : ℤ) (x : Part) (d : UserSection) : Type 0 where
-  pub carries : IsDataFor blocks x d
+  pub carries : IsUplinkDataFor blocks x d
   pub first_is : d.first.0 ≡ first
   pub last_is : d.last.0 ≡ last
 
 -- each section is of a part
-pub section_from : (blocks : Blocks) (first last : ℤ) (xs : List Part) (ds : List UserSection) (d : UserSection) → AreSections blocks first last xs ds → IsIn d ds → (x : Part) × IsIn x xs × IsSectionOf blocks first last x d
+pub section_from : (blocks : Blocks) (first last : ℤ) (xs : List Part) (ds : List UserSection) (d : UserSection) → AreUplinkSections blocks first last xs ds → IsIn d ds → (x : Part) × IsIn x xs × IsSectionOf blocks first last x d
 section_from blocks first last [] [] d h m = absurd m
 section_from blocks first last [] (y ∷ ds) d h m = absurd h
 section_from blocks first last (x ∷ xs) [] d h m = absurd m
@@ -102,7 +104,7 @@ section_from blocks first last (x ∷ xs) (y ∷ ds) d h m = elim m [
 ]
 
 -- and each part has one
-pub section_for : (blocks : Blocks) (first last : ℤ) (xs : List Part) (ds : List UserSection) (x : Part) → AreSections blocks first last xs ds → IsIn x xs → (d : UserSection) × IsIn d ds × IsSectionOf blocks first last x d
+pub section_for : (blocks : Blocks) (first last : ℤ) (xs : List Part) (ds : List UserSection) (x : Part) → AreUplinkSections blocks first last xs ds → IsIn x xs → (d : UserSection) × IsIn d ds × IsSectionOf blocks first last x d
 section_for blocks first last [] [] x h m = absurd m
 section_for blocks first last [] (y ∷ ds) x h m = absurd h
 section_for blocks first last (y ∷ xs) [] x h m = absurd h
@@ -113,9 +115,9 @@ section_for blocks first last (y ∷ xs) (d ∷ ds) x h m = elim m [
 
 -- sections that are read with the same samples at each place, the newest first
 module _ (blocks : Blocks) (first last : ℤ) (as_data : ReadPart → UserSection) (at_first : (p : ReadPart) → (as_data p).first.0 ≡ first) (at_last : (p : ReadPart) → (as_data p).last.0 ≡ last) where
-  read_sections : (k : Carrier) (symbol : ℕ) (block : ℕ → List Iq) (place : ℕ) (xs : List Part) (ps : List ReadPart) (rest : List Part) → AreSections blocks first last xs (map as_data ps)
-      → ((x : Part) → IsIn x rest → IsDataFor blocks x (as_data (read_part k symbol block (data_section x))))
-      → AreSections blocks first last (onto xs rest) (map as_data (onto ps (read_parts k symbol (λ i. block) place (map data_section rest))))
+  read_sections : (k : Carrier) (symbol : ℕ) (block : ℕ → List Iq) (place : ℕ) (xs : List Part) (ps : List ReadPart) (rest : List Part) → AreUplinkSections blocks first last xs (map as_data ps)
+      → ((x : Part) → IsIn x rest → IsUplinkDataFor blocks x (as_data (read_part k symbol block (data_section x))))
+      → AreUplinkSections blocks first last (onto xs rest) (map as_data (onto ps (read_parts k symbol (λ i. block) place (map data_section rest))))
   unfolding onto
   read_sections k symbol block place xs ps [] before h = before
   read_sections k symbol block place xs ps (x ∷ rest) before h =
@@ -171,7 +173,7 @@ module _ (c : Config) (lines : List PlanLine) (source : Source) (s : IsSendable 
     sections = map data_section (parts_of m)
 
     abbrev bytes : List ℕ
-    bytes = message_bytes antenna e (message_for m)
+    bytes = uplink_message_bytes antenna e (message_for m)
 
     bytes_as : bytes ≡ message_of (carrier_of e) (samples_of antenna e (job_for m.first)) head sections
     bytes_as = ap (λ (ds : List DataSection). message_of (carrier_of e) (samples_of antenna e (job_for m.first)) head ds) (sections_are (parts_of m) good.each)
@@ -193,14 +195,14 @@ module _ (c : Config) (lines : List PlanLine) (source : Source) (s : IsSendable 
     abbrev field : ℕ → ℕ → SeqField
     field count sub = record { seq = n.number % 256; last = sub + 1 == count; sub = sub }
 
-    frame_as : (sub : ℕ) → fragment_bytes c antenna e (message_for m) n.number sub ≡ frame_of 0 e.id (field (frames_in c UpData m) sub) (fragment_text c antenna e n sub)
+    frame_as : (sub : ℕ) → uplink_fragment_bytes c antenna e (message_for m) n.number sub ≡ frame_of 0 e.id (field (frames_in c UpData m) sub) (fragment_text c antenna e n sub)
     frame_as sub =
         ap₂ (λ count size. frame_of 0 e.id (field count sub) (cut (sub * c.fragment) (min (sub * c.fragment + c.fragment) size) bytes))
         (ap (frames_for c.fragment) job_size) (job_size ∙ sym length_is)
 
     -- a frame is read as its fragment, whenever it comes
     pub frame_read : (sub : ℕ) (t : ℤ) → sub < frames_in c UpData m
-        → met_in Du c.endpoints t (whole_messages (fragment_bytes c antenna e (message_for m) n.number sub)) ≡ Piece e (fragment_at ep e n sub t) ∷ []
+        → met_in Du c.endpoints t (whole_messages (uplink_fragment_bytes c antenna e (message_for m) n.number sub)) ≡ Piece e (fragment_at ep e n sub t) ∷ []
     frame_read sub t below =
         ap (λ (f : List ℕ). met_in Du c.endpoints t (whole_messages f)) (frame_as sub)
         ∙ frame_met c.endpoints ep e t (field (frames_in c UpData m) sub) (fragment_text c antenna e n sub)
@@ -271,13 +273,13 @@ module _ (c : Config) (lines : List PlanLine) (source : Source) (s : IsSendable 
         (sections_gathered (Some head) [] (carrier_of e) m.first.symbol (samples_of antenna e (job_for m.first)) 0 sections)
 
     -- the samples of a part's PRB
-    samples_are : (x : Part) → IsIn x (parts_of m) → (k : ℕ) → is_from (first_prb (allocation_of x.planned)) (prb_count (allocation_of x.planned)) k ≡ true
-        → slice_index_or (shrunk_blocks e.format.method block (first_prb (allocation_of x.planned)) (count_of e.prbs x.planned.line.num_prb)) (k - first_prb (allocation_of x.planned)) []
-        ≡ blocks_of c antenna (cell_at x.planned.ep false x.planned.line.slot x.symbol k)
+    samples_are : (x : Part) → IsIn x (parts_of m) → (k : ℕ) → is_from (first_prb (line_allocation x.planned)) (prb_count (line_allocation x.planned)) k ≡ true
+        → slice_index_or (shrunk_blocks e.format.method block (first_prb (line_allocation x.planned)) (count_of e.prbs x.planned.line.num_prb)) (k - first_prb (line_allocation x.planned)) []
+        ≡ antenna_blocks c antenna (cell_at x.planned.ep false x.planned.line.slot x.symbol k)
     samples_are x i k h =
         let p = good.each x i in
-        let first = first_prb (allocation_of x.planned) in
-        let count = prb_count (allocation_of x.planned) in
+        let first = first_prb (line_allocation x.planned) in
+        let count = prb_count (line_allocation x.planned) in
         let low = from_low first count k h in
         let same : count ≡ count_of e.prbs x.planned.line.num_prb = ap (λ (f : EndpointConfig). count_of f.prbs x.planned.line.num_prb) p.endpoint_is in
         let inside = subst (λ j. k - first < j) same (in_count first count k low (from_high first count k h)) in
@@ -288,7 +290,7 @@ module _ (c : Config) (lines : List PlanLine) (source : Source) (s : IsSendable 
         ∙ ap (λ (f : EndpointConfig). shrunk f.format.method (block_of antenna f.id x.planned.line.slot x.symbol k)) (sym p.endpoint_is)
         ∙ sym (ap (λ (o : Option EndpointConfig). option_map_or (λ f. shrunk f.format.method (block_of antenna f.id cell.slot cell.symbol cell.prb)) o []) p.line.at)
 
-    data_for : (first last : ℤ) (x : Part) → IsIn x (parts_of m) → IsDataFor (blocks_of c antenna) x (as_data first last (read_part (carrier_of e) m.first.symbol block (data_section x)))
+    data_for : (first last : ℤ) (x : Part) → IsIn x (parts_of m) → IsUplinkDataFor (antenna_blocks c antenna) x (as_data first last (read_part (carrier_of e) m.first.symbol block (data_section x)))
     data_for first last x i =
         let p = good.each x i in
         record {
@@ -307,9 +309,9 @@ module _ (c : Config) (lines : List PlanLine) (source : Source) (s : IsSendable 
         }
 
     -- its fragments joined are read as a section for each part
-    pub is_decoded : (first last : ℤ) → IsDecoded c antenna ep e n first last
+    pub is_decoded : (first last : ℤ) → IsUplinkDecoded c antenna ep e n first last
     is_decoded first last = record {
       sections = map (as_data first last) (onto [] read);
       is = ap (decode Du ep e first last) all_joined ∙ read_as_sections first last;
-      are = read_sections (blocks_of c antenna) first last (as_data first last) (λ p. refl) (λ p. refl) (carrier_of e) m.first.symbol block 0 [] [] (parts_of m) tt (data_for first last);
+      are = read_sections (antenna_blocks c antenna) first last (as_data first last) (λ p. refl) (λ p. refl) (carrier_of e) m.first.symbol block 0 [] [] (parts_of m) tt (data_for first last);
     }

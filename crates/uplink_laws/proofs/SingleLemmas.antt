@@ -17,12 +17,11 @@ use Rattle.sent_laws.specs.unit_model.specs.Reports.{du_known, du_reported}
 use Rattle.sent_laws.specs.unit_model.specs.Standing.{same_cell}
 use Rattle.sent_laws.specs.unit_model.specs.declared.cells.Cell.{Cell}
 use Rattle.sent_laws.specs.unit_model.proofs.ReachLaws.{symbol_piece}
-use Rattle.sent_laws.specs.unit_laws.proofs.CellLemmas.{covers_is, from_within}
+use Rattle.sent_laws.specs.unit_laws.proofs.CellLemmas.{covers_is}
 use Rattle.sent_laws.specs.unit_laws.proofs.DueLemmas.{reported_differ}
-use Rattle.sent_laws.specs.plan_model.specs.Lines.{allocation_of, planned}
+use Rattle.sent_laws.specs.plan_model.specs.Lines.{line_allocation, planned}
 use Rattle.sent_laws.specs.plan_model.specs.declared.lines.PlannedLine.{PlannedLine}
 use Rattle.sent_laws.specs.plan_model.proofs.ListLemmas.{any_in}
-use Rattle.sent_laws.specs.plan_model.proofs.RangeLemmas.{within_carrier}
 use Rattle.sent_laws.specs.schedule_laws.specs.Cells.{planned_mask, radiates}
 use Rattle.sent_laws.specs.schedule_laws.specs.Data.{Blocks}
 use Rattle.sent_laws.specs.schedule_laws.proofs.LineLemmas.{good, start_in_time}
@@ -32,32 +31,33 @@ use Rattle.sent_laws.specs.schedule_laws.proofs.TimeLemmas.{by_then}
 use Rattle.sent_laws.specs.sent_frames.specs.Messages.{Source}
 use Rattle.uplink_streams.specs.uplink_model.specs.Frames.{Antenna}
 use Rattle.uplink_laws.specs.Cells.{taken_air, taken_cell, taken_event, taken_symbol}
-use Rattle.uplink_laws.specs.Data.{blocks_of}
-use Rattle.uplink_laws.specs.Lines.{is_uplink, uplink_of}
+use Rattle.uplink_laws.specs.Data.{antenna_blocks}
 use Rattle.uplink_laws.specs.Premise.{BothArrive}
-use Rattle.uplink_laws.specs.Singles.{event_of}
+use Rattle.uplink_laws.specs.Singles.{uplink_event_of}
 use Rattle.uplink_laws.proofs.BlockLemmas.{not_down}
 use Rattle.uplink_laws.proofs.CellLemmas.{plan_taken_in}
+use Rattle.fh_time.specs.declared.frames.TheConstants.{FRAME}
+use Rattle.sent_laws.specs.plan_model.specs.Lines.{uplink_allocations}
+use Rattle.sent_laws.specs.plan_model.specs.Lines.{is_up_line}
+use Rattle.sent_laws.specs.unit_model.proofs.ClaimLemmas.{within_carrier, from_within}
+use Rattle.fh_time.proofs.Orders.{not_negative}
 
-after_clock : (s ns : ℤ) → pos 15360000000 ≤ℤ s → pos 0 ≤ℤ ns → (first_clock -ℤ ns *ℤ pos 1536) ≤ℤ s
+after_clock : (s ns : ℤ) → FRAME ≤ℤ s → pos 0 ≤ℤ ns → (first_clock -ℤ ns *ℤ pos 1536) ≤ℤ s
 after_clock s ns h k = omega (arith, ints, h, k)
-
-not_negative : (least most : ℤ) → pos 0 ≤ℤ least → least ≤ℤ most → pos 0 ≤ℤ most
-not_negative least most h k = omega (arith, ints, h, k)
 
 module _ (c : Config) (lines : List PlanLine) (source : Source) (antenna : Antenna) (down up : List Arrival) (h : BothArrive c lines source antenna down up) where
   abbrev ps : List PlannedLine
   ps = planned c.endpoints lines
 
   abbrev blocks : Blocks
-  blocks = blocks_of c antenna
+  blocks = antenna_blocks c antenna
 
-  pub taken_once : (p : PlannedLine) (symbol prb re : ℕ) (to : ℤ) → IsIn p (planned c.endpoints lines) → is_uplink p ≡ true → re < 12
-      → names (allocation_of p) (cell_of (allocation_of p) symbol prb) re ≡ true → (air_of p.endpoint.numerology p.line.slot symbol +ℤ wait_of Du c.delays) ≤ℤ to
-      → filter (same_cell (event_of (blocks_of c antenna) (planned c.endpoints lines) p symbol prb)) (du_reported c (uplink_of (planned c.endpoints lines)) up to)
-      ≡ event_of (blocks_of c antenna) (planned c.endpoints lines) p symbol prb ∷ []
+  pub taken_once : (p : PlannedLine) (symbol prb re : ℕ) (to : ℤ) → IsIn p (planned c.endpoints lines) → is_up_line p ≡ true → re < 12
+      → names (line_allocation p) (cell_of (line_allocation p) symbol prb) re ≡ true → (air_of p.endpoint.numerology p.line.slot symbol +ℤ wait_of Du c.delays) ≤ℤ to
+      → filter (same_cell (uplink_event_of (antenna_blocks c antenna) (planned c.endpoints lines) p symbol prb)) (du_reported c (uplink_allocations (planned c.endpoints lines)) up to)
+      ≡ uplink_event_of (antenna_blocks c antenna) (planned c.endpoints lines) p symbol prb ∷ []
   taken_once p symbol prb re to m uplink below named soon =
-      let a = allocation_of p in
+      let a = line_allocation p in
       let kind = not_down p.line.kind uplink in
       let cell = cell_of a symbol prb in
       let parts = and_parts (covers a cell) (in_mask a.mask re) named in
@@ -68,8 +68,8 @@ module _ (c : Config) (lines : List PlanLine) (source : Source) (antenna : Anten
       let symbol_below = lt_of_lt_of_le (from_within p.line.symbol p.line.count symbol cover.symbol) g.within in
       let prb_below = within_carrier e.prbs p.line.start_prb p.line.num_prb prb g.prbs cover.prb in
       let time = start_in_time c.endpoints p symbol g symbol_below in
-      let event = event_of blocks ps p symbol prb in
-      let it : radiates ps cell re ≡ true = any_in (λ (q : PlannedLine). not (allocation_of q).idle && names (allocation_of q) cell re) p ps m (and_from _ _ kind.1 named) in
+      let event = uplink_event_of blocks ps p symbol prb in
+      let it : radiates ps cell re ≡ true = any_in (λ (q : PlannedLine). not (line_allocation q).idle && names (line_allocation q) cell re) p ps m (and_from _ _ kind.1 named) in
       let same_way_cell : cell_at p.ep false p.line.slot symbol prb ≡ cell = ap (λ (b : Bool). cell_at p.ep b p.line.slot symbol prb) (sym kind.0) in
       let some : (planned_mask ps cell == 0) ≡ false = elim (cases_Bool (planned_mask ps cell == 0)) [
         | inl none ↦ absurd (mask_some (radiates ps cell) 12 re below it (eqb-true (planned_mask ps cell) 0 none))
@@ -85,5 +85,5 @@ module _ (c : Config) (lines : List PlanLine) (source : Source) (antenna : Anten
       (record { subframe = g.fits.subframe; slot = g.slot }) symbol_below (after_clock s c.delays.ta4.max time.0 (not_negative c.delays.ta4.min c.delays.ta4.max limits.low limits.order))
       (by_then s (wait_of Du c.delays) to soon) in
       let there : IsIn event (taken_air c blocks ps to) = in_piece event (taken_symbol blocks ps p.ep e p.line.slot symbol) (taken_air c blocks ps to) piece in_symbol in
-      let reported_there : IsIn event (du_reported c (uplink_of ps) up to) = subst (λ (xs : List AirCell). IsIn event xs) (sym (plan_taken_in c lines source antenna down up h to)) there in
-      only_one event (du_reported c (uplink_of ps) up to) (reported_differ Du c.delays c.endpoints (du_known c (uplink_of ps) up) to h.sendable.config.endpoints.differ) reported_there
+      let reported_there : IsIn event (du_reported c (uplink_allocations ps) up to) = subst (λ (xs : List AirCell). IsIn event xs) (sym (plan_taken_in c lines source antenna down up h to)) there in
+      only_one event (du_reported c (uplink_allocations ps) up to) (reported_differ Du c.delays c.endpoints (du_known c (uplink_allocations ps) up) to h.sendable.config.endpoints.differ) reported_there

@@ -18,12 +18,13 @@ use Rattle.sent_laws.specs.unit_model.proofs.SweepLaws.{gap_is}
 use Rattle.sent_laws.specs.plan_model.specs.Lines.{planned}
 use Rattle.sent_laws.specs.plan_model.specs.declared.lines.PlannedLine.{PlannedLine}
 use Rattle.sent_laws.specs.sent_frames.specs.Messages.{Source}
-use Rattle.sent_laws.specs.schedule_laws.proofs.TimeLemmas.{wait_most, in_ticks, last_one}
+use Rattle.sent_laws.specs.schedule_laws.proofs.TimeLemmas.{wait_most, last_one}
 use Rattle.uplink_streams.specs.uplink_model.specs.Frames.{Antenna}
-use Rattle.uplink_laws.specs.Flows.{bounds_of, flow_of, start_at}
+use Rattle.uplink_laws.specs.Flows.{uplink_bounds_of, uplink_flow_of, flow_start_at}
 use Rattle.uplink_laws.specs.Premise.{BothArrive}
 use Rattle.uplink_laws.specs.Whole.{AreTakenOnce}
 use Rattle.uplink_laws.proofs.ArrivalLemmas.{delivered, sounds}
+use Rattle.window_config.proofs.TickLemmas.{in_ticks}
 
 -- ---- times
 
@@ -56,16 +57,16 @@ module _ (c : Config) (lines : List PlanLine) (source : Source) (antenna : Anten
   ps = planned c.endpoints lines
 
   abbrev num : Numbers
-  num = numbers_of (bounds_of c) (flow_of c antenna ps)
+  num = numbers_of (uplink_bounds_of c) (uplink_flow_of c antenna ps)
 
   abbrev all : List Fragment
   all = fragments (meetings Du c.endpoints up)
 
-  pub whole_once : (ep j : ℕ) → j < (flow_of c antenna (planned c.endpoints lines) ep).count
-      → IsOnceWhole (bounds_of c) (flow_of c antenna (planned c.endpoints lines) ep) j
-      (of_message (numbers_of (bounds_of c) (flow_of c antenna (planned c.endpoints lines))) ep j (fragments (meetings Du c.endpoints up)))
-      (answers (bounds_of c).hold (numbers_of (bounds_of c) (flow_of c antenna (planned c.endpoints lines))) ep j (fragments (meetings Du c.endpoints up)))
-  whole_once ep j below = once_whole (bounds_of c) (flow_of c antenna ps) (sounds c lines source antenna down up h) all (delivered c lines source antenna down up h) ep j below
+  pub whole_once : (ep j : ℕ) → j < (uplink_flow_of c antenna (planned c.endpoints lines) ep).count
+      → IsOnceWhole (uplink_bounds_of c) (uplink_flow_of c antenna (planned c.endpoints lines) ep) j
+      (of_message (numbers_of (uplink_bounds_of c) (uplink_flow_of c antenna (planned c.endpoints lines))) ep j (fragments (meetings Du c.endpoints up)))
+      (answers (uplink_bounds_of c).hold (numbers_of (uplink_bounds_of c) (uplink_flow_of c antenna (planned c.endpoints lines))) ep j (fragments (meetings Du c.endpoints up)))
+  whole_once ep j below = once_whole (uplink_bounds_of c) (uplink_flow_of c antenna ps) (sounds c lines source antenna down up h) all (delivered c lines source antenna down up h) ep j below
 
   -- when a message's pieces came
   pub record InTime (start first last : ℤ) : Type 0 where
@@ -75,15 +76,15 @@ module _ (c : Config) (lines : List PlanLine) (source : Source) (antenna : Anten
     pub held : last ≤ℤ (first +ℤ ticks_of_ns c.delays.hold_ul)
     pub begun : start ≤ℤ last
 
-  pub in_time : (ep j : ℕ) (first last : ℤ) → j < (flow_of c antenna (planned c.endpoints lines) ep).count
-      → (flow_sent_at (flow_of c antenna (planned c.endpoints lines) ep) j 0 +ℤ (bounds_of c).fast) ≤ℤ first
-      → ((k : ℕ) → k + 1 ≡ (flow_of c antenna (planned c.endpoints lines) ep).pieces j → (flow_sent_at (flow_of c antenna (planned c.endpoints lines) ep) j k +ℤ (bounds_of c).fast) ≤ℤ last)
-      → ((k : ℕ) → k + 1 ≡ (flow_of c antenna (planned c.endpoints lines) ep).pieces j → last ≤ℤ (flow_sent_at (flow_of c antenna (planned c.endpoints lines) ep) j k +ℤ (bounds_of c).slow))
-      → InTime (start_at c (planned c.endpoints lines) ep j) first last
+  pub in_time : (ep j : ℕ) (first last : ℤ) → j < (uplink_flow_of c antenna (planned c.endpoints lines) ep).count
+      → (flow_sent_at (uplink_flow_of c antenna (planned c.endpoints lines) ep) j 0 +ℤ (uplink_bounds_of c).fast) ≤ℤ first
+      → ((k : ℕ) → k + 1 ≡ (uplink_flow_of c antenna (planned c.endpoints lines) ep).pieces j → (flow_sent_at (uplink_flow_of c antenna (planned c.endpoints lines) ep) j k +ℤ (uplink_bounds_of c).fast) ≤ℤ last)
+      → ((k : ℕ) → k + 1 ≡ (uplink_flow_of c antenna (planned c.endpoints lines) ep).pieces j → last ≤ℤ (flow_sent_at (uplink_flow_of c antenna (planned c.endpoints lines) ep) j k +ℤ (uplink_bounds_of c).slow))
+      → InTime (flow_start_at c (planned c.endpoints lines) ep j) first last
   in_time ep j first last below from last_from to =
-      let f = flow_of c antenna ps ep in
+      let f = uplink_flow_of c antenna ps ep in
       let d = c.delays in
-      let start = start_at c ps ep j in
+      let start = flow_start_at c ps ep j in
       let k = last_one (f.pieces j) ((sounds c lines source antenna down up h ep).some j below) in
       let check = h.check in
       let order = h.sendable.config.delays.ta3.order in
@@ -104,8 +105,8 @@ module _ (c : Config) (lines : List PlanLine) (source : Source) (antenna : Anten
 
   pub taken_once : AreTakenOnce c antenna (planned c.endpoints lines) up
   taken_once = record {
-    apart = delivered_apart (bounds_of c) (flow_of c antenna ps) (sounds c lines source antenna down up h) all (delivered c lines source antenna down up h);
-    wholes = are_the_sent (bounds_of c) (flow_of c antenna ps) (sounds c lines source antenna down up h) all (delivered c lines source antenna down up h);
+    apart = delivered_apart (uplink_bounds_of c) (uplink_flow_of c antenna ps) (sounds c lines source antenna down up h) all (delivered c lines source antenna down up h);
+    wholes = are_the_sent (uplink_bounds_of c) (uplink_flow_of c antenna ps) (sounds c lines source antenna down up h) all (delivered c lines source antenna down up h);
     each = λ ep j below.
         (let w = whole_once ep j below in
         let t = in_time ep j w.whole.shows.first w.whole.shows.last below w.first_from w.last_from w.last_to in

@@ -20,9 +20,9 @@ use Rattle.sent_laws.specs.schedule_laws.specs.Cells.{planned_mask, planned_sect
 use Rattle.sent_laws.specs.schedule_laws.specs.Data.{Blocks}
 use Rattle.sent_laws.specs.sent_frames.specs.Messages.{Source}
 use Rattle.uplink_streams.specs.uplink_model.specs.Frames.{Antenna}
-use Rattle.uplink_laws.specs.Data.{blocks_of}
-use Rattle.uplink_laws.specs.Lines.{uplink_of}
+use Rattle.uplink_laws.specs.Data.{antenna_blocks}
 use Rattle.uplink_laws.specs.Premise.{BothArrive}
+use Rattle.sent_laws.specs.plan_model.specs.Lines.{uplink_allocations}
 
 -- an uplink cell of a plan, with the union of its lines' masks, their section id, which is one, and its samples: none is missing
 abbrev pub taken_event : Blocks → List PlannedLine → EndpointConfig → Cell → ℤ → AirCell
@@ -57,4 +57,4 @@ taken_air c blocks ps to =
 abbrev pub ThePlanIsTakenIn : Type 0
 ThePlanIsTakenIn =
     (c : Config) (lines : List PlanLine) (source : Source) (antenna : Antenna) (down up : List Arrival) → BothArrive c lines source antenna down up → (to : ℤ)
-    → du_reported c (uplink_of (planned c.endpoints lines)) up to ≡ taken_air c (blocks_of c antenna) (planned c.endpoints lines) to
+    → du_reported c (uplink_allocations (planned c.endpoints lines)) up to ≡ taken_air c (antenna_blocks c antenna) (planned c.endpoints lines) to

@@ -21,7 +21,7 @@ use Rattle.sent_laws.specs.unit_model.specs.Proper.{IsAt}
 use Rattle.sent_laws.specs.unit_model.specs.Reports.{data_of, met, timely_of}
 use Rattle.sent_laws.specs.unit_model.specs.declared.cells.Cell.{Cell}
 use Rattle.sent_laws.specs.unit_model.specs.declared.decoded.UserSection.{UserSection}
-use Rattle.sent_laws.specs.plan_model.specs.Lines.{allocation_of, planned}
+use Rattle.sent_laws.specs.plan_model.specs.Lines.{line_allocation, planned}
 use Rattle.sent_laws.specs.plan_model.specs.Packs.{Numbered, parts_of}
 use Rattle.sent_laws.specs.plan_model.specs.Streams.{Part, frames_in, messages_of, part_in}
 use Rattle.sent_laws.specs.plan_model.specs.declared.lines.PlannedLine.{PlannedLine}
@@ -29,17 +29,17 @@ use Rattle.sent_laws.specs.plan_model.specs.declared.streams.Stream.TheVariants.
 use Rattle.sent_laws.specs.schedule_laws.specs.Data.{Blocks, planned_block}
 use Rattle.sent_laws.specs.sent_frames.specs.Messages.{Source}
 use Rattle.uplink_streams.specs.uplink_model.specs.Frames.{Antenna}
-use Rattle.uplink_laws.specs.Flows.{bounds_of, fragment_text}
-use Rattle.uplink_laws.specs.Lines.{is_uplink}
+use Rattle.uplink_laws.specs.Flows.{uplink_bounds_of, fragment_text}
 use Rattle.uplink_laws.specs.Premise.{BothArrive}
+use Rattle.sent_laws.specs.plan_model.specs.Lines.{is_up_line}
 
 -- what the endpoint's compression leaves of the antenna's block at each cell
-abbrev pub blocks_of : Config → Antenna → Blocks
-blocks_of c antenna cell = option_map_or (λ e. shrunk e.format.method (block_of antenna e.id cell.slot cell.symbol cell.prb)) (slice_get c.endpoints cell.ep) []
+abbrev pub antenna_blocks : Config → Antenna → Blocks
+antenna_blocks c antenna cell = option_map_or (λ e. shrunk e.format.method (block_of antenna e.id cell.slot cell.symbol cell.prb)) (slice_get c.endpoints cell.ep) []
 
 -- a section of data that carries an uplink line in one of its symbols: its header has filterIndex 0 and the frame's low 8 bits, and each
 -- PRB its cell's samples (O-RAN.WG4.CUS, U-plane messages)
-pub record IsDataFor (blocks : Blocks) (x : Part) (d : UserSection) : Type 0 where
+pub record IsUplinkDataFor (blocks : Blocks) (x : Part) (d : UserSection) : Type 0 where
   pub ep : d.ep ≡ x.planned.ep
   pub endpoint : d.endpoint ≡ x.planned.endpoint
   pub down : d.head.down ≡ false
@@ -51,21 +51,21 @@ pub record IsDataFor (blocks : Blocks) (x : Part) (d : UserSection) : Type 0 whe
   pub symbol : d.section.symbol ≡ x.symbol
   pub start_prb : d.section.start_prb ≡ x.planned.line.start_prb
   pub num_prb : d.section.num_prb ≡ x.planned.line.num_prb
-  pub samples : (n : ℕ) → is_from (first_prb (allocation_of x.planned)) (prb_count (allocation_of x.planned)) n ≡ true
-      → slice_index_or d.blocks (n - first_prb (allocation_of x.planned)) [] ≡ blocks (cell_at x.planned.ep false x.planned.line.slot x.symbol n)
+  pub samples : (n : ℕ) → is_from (first_prb (line_allocation x.planned)) (prb_count (line_allocation x.planned)) n ≡ true
+      → slice_index_or d.blocks (n - first_prb (line_allocation x.planned)) [] ≡ blocks (cell_at x.planned.ep false x.planned.line.slot x.symbol n)
 
 -- one section for each part, in this order, of a message whose first and last fragments came then
-abbrev pub AreSections : Blocks → ℤ → ℤ → List Part → List UserSection → Type 0
-AreSections blocks first last [] [] = ⊤
-AreSections blocks first last [] (d ∷ ds) = ⊥
-AreSections blocks first last (x ∷ xs) [] = ⊥
-AreSections blocks first last (x ∷ xs) (d ∷ ds) = IsDataFor blocks x d × (d.first.0 ≡ first) × (d.last.0 ≡ last) × AreSections blocks first last xs ds
+abbrev pub AreUplinkSections : Blocks → ℤ → ℤ → List Part → List UserSection → Type 0
+AreUplinkSections blocks first last [] [] = ⊤
+AreUplinkSections blocks first last [] (d ∷ ds) = ⊥
+AreUplinkSections blocks first last (x ∷ xs) [] = ⊥
+AreUplinkSections blocks first last (x ∷ xs) (d ∷ ds) = IsUplinkDataFor blocks x d × (d.first.0 ≡ first) × (d.last.0 ≡ last) × AreUplinkSections blocks first last xs ds
 
 -- what all the fragments of a message say, joined: its parts, the newest section first
-pub record IsDecoded (c : Config) (antenna : Antenna) (ep : ℕ) (e : EndpointConfig) (n : Numbered Part) (first last : ℤ) : Type 0 where
+pub record IsUplinkDecoded (c : Config) (antenna : Antenna) (ep : ℕ) (e : EndpointConfig) (n : Numbered Part) (first last : ℤ) : Type 0 where
   pub sections : List UserSection
   pub is : decode Du ep e first last (joined (texts (fragment_text c antenna e n) (frames_in c UpData n.message))) ≡ Sections sections
-  pub are : AreSections (blocks_of c antenna) first last (onto [] (parts_of n.message)) sections
+  pub are : AreUplinkSections (antenna_blocks c antenna) first last (onto [] (parts_of n.message)) sections
 
 -- what a message that became whole says
 abbrev pub said_by : Config → Completed → List UserSection
@@ -74,18 +74,18 @@ said_by c w = option_map_or (λ e. sections_of (decode_message Du w.by.ep e w.me
 -- ---- the law
 
 -- a section came for a line in this symbol
-pub record IsDataSent (blocks : Blocks) (x : Part) (ds : List UserSection) : Type 0 where
+pub record IsUplinkDataSent (blocks : Blocks) (x : Part) (ds : List UserSection) : Type 0 where
   pub section : UserSection
   pub came : IsIn section ds
-  pub carries : IsDataFor blocks x section
+  pub carries : IsUplinkDataFor blocks x section
   pub slot : data_slot section ≡ x.planned.line.slot
 
 -- a section carries an uplink line's part, and is on time
-pub record IsPlannedData (c : Config) (ps : List PlannedLine) (blocks : Blocks) (d : UserSection) : Type 0 where
+pub record IsPlannedUplinkData (c : Config) (ps : List PlannedLine) (blocks : Blocks) (d : UserSection) : Type 0 where
   pub part : Part
   pub planned_is : IsIn part.planned ps
-  pub uplink : is_uplink part.planned ≡ true
-  pub carries : IsDataFor blocks part d
+  pub uplink : is_up_line part.planned ≡ true
+  pub carries : IsUplinkDataFor blocks part d
   pub slot : data_slot d ≡ part.planned.line.slot
   pub class : data_class Du c.delays d ≡ OnTime
 
@@ -93,18 +93,18 @@ pub record IsPlannedData (c : Config) (ps : List PlannedLine) (blocks : Blocks) 
 -- other; a message says a section for each of its parts; each section carries an uplink line in one of its symbols, on time; each `ul`
 -- line has one in each of its symbols; and the block of each uplink cell is that of any such line that covers it, none where no such line
 -- does.
-pub record AreDecodedOnce (c : Config) (ps : List PlannedLine) (antenna : Antenna) (up : List Arrival) : Type 0 where
-  pub wholes_say : data_of Du c up ≡ joined (map (said_by c) (wholes (bounds_of c).hold (fragments (met Du c up))))
+pub record AreUplinksDecodedOnce (c : Config) (ps : List PlannedLine) (antenna : Antenna) (up : List Arrival) : Type 0 where
+  pub wholes_say : data_of Du c up ≡ joined (map (said_by c) (wholes (uplink_bounds_of c).hold (fragments (met Du c up))))
   pub messages : (ep : ℕ) (e : EndpointConfig) (n : Numbered Part) (first last : ℤ) → IsAt c.endpoints ep e → IsIn n (messages_of c ps UpData ep e)
-      → IsDecoded c antenna ep e n first last
-  pub each : (d : UserSection) → IsIn d (data_of Du c up) → IsPlannedData c ps (blocks_of c antenna) d
-  pub every : (p : PlannedLine) (symbol : ℕ) → IsIn p ps → is_uplink p ≡ true → is_from p.line.symbol p.line.count symbol ≡ true
-      → IsDataSent (blocks_of c antenna) (part_in symbol p) (data_of Du c up)
-  pub blocks_are : (cell : Cell) → cell.down ≡ false → block_at (timely_of Du c up) cell ≡ planned_block (blocks_of c antenna) ps cell
-  pub any_line : (cell : Cell) (p : PlannedLine) → IsIn p ps → is_uplink p ≡ true → covers (allocation_of p) cell ≡ true
-      → block_at (timely_of Du c up) cell ≡ Some (record { id = p.line.section; samples = blocks_of c antenna cell })
+      → IsUplinkDecoded c antenna ep e n first last
+  pub each : (d : UserSection) → IsIn d (data_of Du c up) → IsPlannedUplinkData c ps (antenna_blocks c antenna) d
+  pub every : (p : PlannedLine) (symbol : ℕ) → IsIn p ps → is_up_line p ≡ true → is_from p.line.symbol p.line.count symbol ≡ true
+      → IsUplinkDataSent (antenna_blocks c antenna) (part_in symbol p) (data_of Du c up)
+  pub blocks_are : (cell : Cell) → cell.down ≡ false → block_at (timely_of Du c up) cell ≡ planned_block (antenna_blocks c antenna) ps cell
+  pub any_line : (cell : Cell) (p : PlannedLine) → IsIn p ps → is_up_line p ≡ true → covers (line_allocation p) cell ≡ true
+      → block_at (timely_of Du c up) cell ≡ Some (record { id = p.line.section; samples = antenna_blocks c antenna cell })
 
-abbrev pub EachIsDecodedOnce : Type 0
-EachIsDecodedOnce =
+abbrev pub EachUplinkIsDecodedOnce : Type 0
+EachUplinkIsDecodedOnce =
     (c : Config) (lines : List PlanLine) (source : Source) (antenna : Antenna) (down up : List Arrival) → BothArrive c lines source antenna down up
-    → AreDecodedOnce c (planned c.endpoints lines) antenna up
+    → AreUplinksDecodedOnce c (planned c.endpoints lines) antenna up

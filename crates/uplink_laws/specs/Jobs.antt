@@ -12,13 +12,13 @@ use Rattle.sent_laws.specs.plan_model.specs.declared.lines.PlannedLine.{PlannedL
 use Rattle.sent_laws.specs.schedule_laws.specs.Commands.{allocations_of}
 use Rattle.sent_laws.specs.sent_frames.specs.Messages.{Source}
 use Rattle.sent_laws.specs.Sent.{IsSendable}
-use Rattle.uplink_laws.specs.Lines.{uplink_of}
 use Rattle.uplink_laws.specs.Premise.{CommandsArrive}
+use Rattle.sent_laws.specs.plan_model.specs.Lines.{uplink_allocations}
 
 -- The uplink sections of types 1 and 3 that were accepted are what the uplink lines name, each once; and the jobs up to any time are
 -- those of the lines, as equal lists, as if their commands had been accepted in the order of lines.
 pub record AreJobsOfPlan (c : Config) (ps : List PlannedLine) (down : List Arrival) : Type 0 where
-  pub accepted : IsPermutation (uplink_of ps) (filter is_sent_up (accepted_of c down))
+  pub accepted : IsPermutation (uplink_allocations ps) (filter is_sent_up (accepted_of c down))
   pub jobs_are : (to : ℤ) → jobs c.endpoints (accepted_of c down) to ≡ jobs c.endpoints (reverse (allocations_of ps)) to
 
 abbrev pub JobsAreOfPlan : Type 0

@@ -40,7 +40,7 @@ down_least c lines source = with_least_delay c (planned c.endpoints lines) (sent
 abbrev pub up_least : Config → List PlanLine → Source → Antenna → List Arrival
 up_least c lines source antenna = least_copies c (frames_of c antenna (jobs_of c (down_least c lines source)))
 
-abbrev pub LeastDelaysArrive : Type 0
-LeastDelaysArrive =
+abbrev pub LeastUplinkDelaysArrive : Type 0
+LeastUplinkDelaysArrive =
     (c : Config) (lines : List PlanLine) (source : Source) (antenna : Antenna) → IsSendable c lines source → CanAnswer c antenna → PassesCheck c.delays
     → BothArrive c lines source antenna (down_least c lines source) (up_least c lines source antenna)

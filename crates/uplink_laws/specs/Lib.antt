@@ -2,7 +2,6 @@ pub use Rattle.sent_laws.specs.frame_bytes
 pub use Rattle.sent_laws.specs.sent_frames
 pub use Rattle.sent_laws
 pub use Rattle.uplink_streams.specs.uplink_model
-pub mod Lines
 pub mod Jobs
 pub mod Premise
 pub mod Flows

@@ -27,7 +27,7 @@ use Rattle.sent_laws.specs.sent_frames.specs.Messages.{Source}
 use Rattle.sent_laws.specs.Radiated.{IsSentCopy}
 use Rattle.sent_laws.specs.Sent.{IsSendable}
 use Rattle.uplink_streams.specs.uplink_model.specs.Frames.{Antenna, frames_behind}
-use Rattle.uplink_streams.specs.uplink_model.specs.Messages.{messages_of}
+use Rattle.uplink_streams.specs.uplink_model.specs.Messages.{uplink_messages_of}
 
 -- What came at the radio unit: each arrival is a copy of a frame that is sent, within T12 of its sending time, and of each command that
 -- is sent a copy came; downlink data may be lost.
@@ -41,7 +41,7 @@ jobs_of c down = jobs c.endpoints (accepted_of c down) end_of_time
 
 -- all frames that the radio unit sends for jobs, as they are handed over
 abbrev pub frames_of : Config → Antenna → List UplinkJob → List LinkFrame
-frames_of c antenna js = frames_behind c antenna [] (messages_of c js)
+frames_of c antenna js = frames_behind c antenna [] (uplink_messages_of c js)
 
 -- a copy of a frame: its very bytes, no sooner than T34's minimum after it left and no later than the maximum
 pub record IsUplinkCopy (c : Config) (f : LinkFrame) (a : Arrival) : Type 0 where

@@ -15,13 +15,13 @@ use Rattle.sent_laws.specs.plan_model.specs.Lines.{planned}
 use Rattle.sent_laws.specs.plan_model.specs.declared.lines.PlannedLine.{PlannedLine}
 use Rattle.sent_laws.specs.sent_frames.specs.Messages.{Source}
 use Rattle.uplink_streams.specs.uplink_model.specs.Frames.{Antenna}
-use Rattle.uplink_laws.specs.Flows.{bounds_of, flow_of, start_at}
+use Rattle.uplink_laws.specs.Flows.{uplink_bounds_of, uplink_flow_of, flow_start_at}
 use Rattle.uplink_laws.specs.Premise.{BothArrive}
 
 -- A message whose symbol starts then becomes whole once, with all its pieces: the first comes no sooner than the minima of Ta3 and T34
 -- after the start, the last no later than their maxima; so both lie in Ta4, and the last comes while the generation of the first holds.
 pub record IsTakenOnce (c : Config) (f : Flow) (j : ℕ) (start : ℤ) (came : List Fragment) (all : List Answered) : Type 0 where
-  pub once : IsOnceWhole (bounds_of c) f j came all
+  pub once : IsOnceWhole (uplink_bounds_of c) f j came all
   pub soon : (start +ℤ ticks_of_ns (c.delays.ta3.min +ℤ c.delays.t34.min)) ≤ℤ once.whole.shows.first
   pub late : once.whole.shows.last ≤ℤ (start +ℤ ticks_of_ns (c.delays.ta3.max +ℤ c.delays.t34.max))
   pub in_window : IsOnTimeUp once.whole.shows.first once.whole.shows.last start c.delays.ta4
@@ -30,12 +30,12 @@ pub record IsTakenOnce (c : Config) (f : Flow) (j : ℕ) (start : ℤ) (came : L
 -- Of what came at the distributed unit: messages with one sequence id are apart; what becomes whole was sent, and of each message that was
 -- sent there is one; and each message is taken in once.
 pub record AreTakenOnce (c : Config) (antenna : Antenna) (ps : List PlannedLine) (up : List Arrival) : Type 0 where
-  pub apart : AreApart (bounds_of c).hold (bounds_of c).fast (bounds_of c).slow (λ ep j. sent_at (flow_of c antenna ps ep) j 0)
-      (numbers_of (bounds_of c) (flow_of c antenna ps)) (fragments (met Du c up))
-  pub wholes : AreTheSent (bounds_of c) (flow_of c antenna ps) (fragments (met Du c up))
-  pub each : (ep j : ℕ) → j < (flow_of c antenna ps ep).count
-      → IsTakenOnce c (flow_of c antenna ps ep) j (start_at c ps ep j) (of_message (numbers_of (bounds_of c) (flow_of c antenna ps)) ep j (fragments (met Du c up)))
-      (answers (bounds_of c).hold (numbers_of (bounds_of c) (flow_of c antenna ps)) ep j (fragments (met Du c up)))
+  pub apart : AreApart (uplink_bounds_of c).hold (uplink_bounds_of c).fast (uplink_bounds_of c).slow (λ ep j. sent_at (uplink_flow_of c antenna ps ep) j 0)
+      (numbers_of (uplink_bounds_of c) (uplink_flow_of c antenna ps)) (fragments (met Du c up))
+  pub wholes : AreTheSent (uplink_bounds_of c) (uplink_flow_of c antenna ps) (fragments (met Du c up))
+  pub each : (ep j : ℕ) → j < (uplink_flow_of c antenna ps ep).count
+      → IsTakenOnce c (uplink_flow_of c antenna ps ep) j (flow_start_at c ps ep j) (of_message (numbers_of (uplink_bounds_of c) (uplink_flow_of c antenna ps)) ep j (fragments (met Du c up)))
+      (answers (uplink_bounds_of c).hold (numbers_of (uplink_bounds_of c) (uplink_flow_of c antenna ps)) ep j (fragments (met Du c up)))
 
 abbrev pub EachIsTakenOnce : Type 0
 EachIsTakenOnce =

@@ -5,9 +5,9 @@
 #![tactic(auto)]
 
 ghost use Rattle.uplink_laws.specs.Cells.{ThePlanIsTakenIn};
-ghost use Rattle.uplink_laws.specs.Data.{EachIsDecodedOnce};
+ghost use Rattle.uplink_laws.specs.Data.{EachUplinkIsDecodedOnce};
 ghost use Rattle.uplink_laws.specs.Jobs.{JobsAreOfPlan};
-ghost use Rattle.uplink_laws.specs.Least.{LeastDelaysArrive};
+ghost use Rattle.uplink_laws.specs.Least.{LeastUplinkDelaysArrive};
 ghost use Rattle.uplink_laws.specs.Singles.{EachCellIsTakenOnce};
 ghost use Rattle.uplink_laws.specs.Whole.{EachIsTakenOnce};
 
@@ -25,8 +25,8 @@ pub fn each_is_taken_once()
 
 /// Each section of uplink data that is decoded carries a `ul` line in one of its symbols, on time, and each `ul` line has one in each;
 /// the block of each uplink cell in the end is what the endpoint's compression leaves of the antenna's samples.
-pub fn each_is_decoded_once()
-    ensures { EachIsDecodedOnce }
+pub fn each_uplink_is_decoded_once()
+    ensures { EachUplinkIsDecodedOnce }
 {}
 
 /// What the distributed unit reports is, cell for cell and in order, what the plan says: each cell in which a `ul` line names an
@@ -42,6 +42,6 @@ pub fn each_cell_is_taken_once()
 
 /// The premise of these laws can be met by every valid plan whose windows pass the check, over however many messages: by each frame
 /// of both ways once, with the least delay.
-pub fn least_delays_arrive()
-    ensures { LeastDelaysArrive }
+pub fn least_uplink_delays_arrive()
+    ensures { LeastUplinkDelaysArrive }
 {}

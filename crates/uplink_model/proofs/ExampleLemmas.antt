@@ -6,9 +6,9 @@ use Rattle.air_source.specs.Answers.{block_of}
 use Rattle.plan_model.specs.unit_model.specs.Lists.{each, in_order, put_in}
 use Rattle.plan_model.specs.unit_model.specs.Uplink.{symbol_jobs}
 use Rattle.frame_bytes.specs.Messages.{message_of, section_of}
-use Rattle.uplink_model.specs.Examples.{AreAsWorked, BytesAreAsWorked, MessagesAreAsWorked, OrderIsAsWorked, SentOrderIsAsWorked, TimesAreAsWorked}
-use Rattle.uplink_model.specs.Frames.{frames_behind, message_frames}
-use Rattle.uplink_model.specs.Messages.{frames_before, messages_behind}
+use Rattle.uplink_model.specs.Examples.{UplinksAreAsWorked, BytesAreAsWorked, MessagesAreAsWorked, OrderIsAsWorked, SentOrderIsAsWorked, TimesAreAsWorked}
+use Rattle.uplink_model.specs.Frames.{frames_behind, uplink_message_frames}
+use Rattle.uplink_model.specs.Messages.{uplink_frames_before, messages_behind}
 use Rattle.uplink_model.specs.Sent.{leaving_at}
 
 order : OrderIsAsWorked
@@ -20,7 +20,7 @@ unfolding messages_behind
 messages = record { each_alone = refl; two_filters = refl; third_is_cut = refl; two_symbols = refl; two_endpoints = refl; numbers = refl }
 
 times : TimesAreAsWorked
-unfolding messages_behind frames_behind message_frames frames_before each
+unfolding messages_behind frames_behind uplink_message_frames uplink_frames_before each
 times = record { capped = refl; together = refl; anew = refl }
 
 bytes : BytesAreAsWorked
@@ -31,5 +31,5 @@ sent : SentOrderIsAsWorked
 unfolding leaving_at each
 sent = record { at_7 = refl; at_8 = refl; at_9 = refl }
 
-pub as_worked : AreAsWorked
+pub as_worked : UplinksAreAsWorked
 as_worked = record { order = order; messages = messages; times = times; bytes = bytes; sent = sent }

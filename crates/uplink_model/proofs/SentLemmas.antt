@@ -17,7 +17,7 @@ use Rattle.plan_model.specs.unit_model.specs.Times.{end_of_time}
 use Rattle.plan_model.specs.unit_model.proofs.SweepLaws.{each_same, gap_is}
 use Rattle.plan_model.proofs.ListLemmas.{filter_all, filter_none, all_map}
 use Rattle.plan_model.proofs.TickLemmas.{int_apart}
-use Rattle.uplink_model.specs.Sent.{in_sent_order, leaves_at, leaving_at, leaving_of}
+use Rattle.uplink_model.specs.Sent.{in_sent_order, leaves_at, leaving_at, frames_leaving}
 use Rattle.uplink_model.specs.SentLaws.{AllAreSent, LaterChangeNothing, LeavingAreByEndpoint, LeavingAreReordered, LeavingAsHandedOver, LeavingLeaveThen, TicksStandTogether, TimesRise}
 
 -- ---- filters
@@ -289,7 +289,7 @@ ticks_permuted from (suc n) a b h =
 -- those of an endpoint, of those of a tick
 leaving_is : (n : ℕ) (frames : List LinkFrame) (t : ℤ) → leaving_at n frames t ≡ each 0 n (of_key (λ f. f.ep) (filter (leaves_at t) frames))
 unfolding leaving_at
-leaving_is n frames t = each_same 0 n (leaving_of frames t) (of_key (λ f. f.ep) (filter (leaves_at t) frames)) (λ ep. filter_both (leaves_at t) (λ f. f.ep == ep) frames)
+leaving_is n frames t = each_same 0 n (frames_leaving frames t) (of_key (λ f. f.ep) (filter (leaves_at t) frames)) (λ ep. filter_both (leaves_at t) (λ f. f.ep == ep) frames)
 
 pub leaving_are_reordered : LeavingAreReordered
 leaving_are_reordered n frames t are =
@@ -299,20 +299,20 @@ leaving_are_reordered n frames t are =
     (recursion_from_All (λ (f : LinkFrame). f.ep < n) frames are)))
 
 -- each is of its endpoint and its tick
-of_own : (frames : List LinkFrame) (t : ℤ) (ep : ℕ) → AllByRecursion (λ f. (f.at.0 ≡ t) × (f.ep ≡ ep)) (leaving_of frames t ep)
+of_own : (frames : List LinkFrame) (t : ℤ) (ep : ℕ) → AllByRecursion (λ f. (f.at.0 ≡ t) × (f.ep ≡ ep)) (frames_leaving frames t ep)
 of_own frames t ep =
     all_kept (λ (f : LinkFrame). Unit {0}) (λ (f : LinkFrame). (f.at.0 ≡ t) × (f.ep ≡ ep)) (λ f. leaves_at t f && (f.ep == ep)) (λ f u e.
     (let w = and_parts (leaves_at t f) (f.ep == ep) e in (at_of t f w.0, eqb-true f.ep ep w.1))) frames (all_unit frames)
 
-own_ep : (frames : List LinkFrame) (t : ℤ) (ep : ℕ) → AllByRecursion (λ f. f.ep ≡ ep) (leaving_of frames t ep)
-own_ep frames t ep = all_map (λ (f : LinkFrame). (f.at.0 ≡ t) × (f.ep ≡ ep)) (λ (f : LinkFrame). f.ep ≡ ep) (λ f h. h.1) (leaving_of frames t ep) (of_own frames t ep)
+own_ep : (frames : List LinkFrame) (t : ℤ) (ep : ℕ) → AllByRecursion (λ f. f.ep ≡ ep) (frames_leaving frames t ep)
+own_ep frames t ep = all_map (λ (f : LinkFrame). (f.at.0 ≡ t) × (f.ep ≡ ep)) (λ (f : LinkFrame). f.ep ≡ ep) (λ f h. h.1) (frames_leaving frames t ep) (of_own frames t ep)
 
-each_then : (frames : List LinkFrame) (t : ℤ) (from n : ℕ) → AllByRecursion (λ f. f.at.0 ≡ t) (each from n (leaving_of frames t))
+each_then : (frames : List LinkFrame) (t : ℤ) (from n : ℕ) → AllByRecursion (λ f. f.at.0 ≡ t) (each from n (frames_leaving frames t))
 unfolding each
 each_then frames t from zero = tt
 each_then frames t from (suc n) =
-    all_join (λ (f : LinkFrame). f.at.0 ≡ t) (leaving_of frames t from) (each (from + 1) n (leaving_of frames t))
-    (all_map (λ (f : LinkFrame). (f.at.0 ≡ t) × (f.ep ≡ from)) (λ (f : LinkFrame). f.at.0 ≡ t) (λ f h. h.0) (leaving_of frames t from) (of_own frames t from))
+    all_join (λ (f : LinkFrame). f.at.0 ≡ t) (frames_leaving frames t from) (each (from + 1) n (frames_leaving frames t))
+    (all_map (λ (f : LinkFrame). (f.at.0 ≡ t) × (f.ep ≡ from)) (λ (f : LinkFrame). f.at.0 ≡ t) (λ f h. h.0) (frames_leaving frames t from) (of_own frames t from))
     (each_then frames t (from + 1) n)
 
 own_tick : (n : ℕ) (frames : List LinkFrame) (t : ℤ) → AllByRecursion (λ f. f.at.0 ≡ t) (leaving_at n frames t)
@@ -325,13 +325,13 @@ leaving_leave_then n frames t = All-from_recursion (λ (f : LinkFrame). f.at.0 �
 pub leaving_are_by_endpoint : LeavingAreByEndpoint
 unfolding leaving_at
 leaving_are_by_endpoint n frames t =
-    all_pairs (λ (f g : LinkFrame). f.ep ≤ g.ep) (leaving_at n frames t) (each_ordered (λ (f : LinkFrame). f.ep) (leaving_of frames t) (own_ep frames t) 0 n)
+    all_pairs (λ (f g : LinkFrame). f.ep ≤ g.ep) (leaving_at n frames t) (each_ordered (λ (f : LinkFrame). f.ep) (frames_leaving frames t) (own_ep frames t) 0 n)
 
 pub leaving_as_handed_over : LeavingAsHandedOver
 unfolding leaving_at
-leaving_as_handed_over n frames t ep h = each_one (λ (f : LinkFrame). f.ep) (leaving_of frames t) (own_ep frames t) 0 n ep (omega arith) (omega (arith, h))
+leaving_as_handed_over n frames t ep h = each_one (λ (f : LinkFrame). f.ep) (frames_leaving frames t) (own_ep frames t) 0 n ep (omega arith) (omega (arith, h))
 
-later_none : (t : ℤ) (ep : ℕ) (later : List LinkFrame) → All (λ f. t <ℤ f.at.0) later → leaving_of later t ep ≡ []
+later_none : (t : ℤ) (ep : ℕ) (later : List LinkFrame) → All (λ f. t <ℤ f.at.0) later → frames_leaving later t ep ≡ []
 later_none t ep later h =
     filter_none (λ f. leaves_at t f && (f.ep == ep)) later
     (all_map (λ (f : LinkFrame). t <ℤ f.at.0) (λ (f : LinkFrame). (leaves_at t f && (f.ep == ep)) ≡ false) (λ f lt.
@@ -340,9 +340,9 @@ later_none t ep later h =
 pub later_change_nothing : LaterChangeNothing
 unfolding leaving_at
 later_change_nothing n frames later t h =
-    each_same 0 n (leaving_of (frames ++ later) t) (leaving_of frames t) (λ ep.
-    filter-append (λ f. leaves_at t f && (f.ep == ep)) frames later ∙ ap (λ (fs : List LinkFrame). leaving_of frames t ep ++ fs) (later_none t ep later h)
-    ∙ append-nil (leaving_of frames t ep))
+    each_same 0 n (frames_leaving (frames ++ later) t) (frames_leaving frames t) (λ ep.
+    filter-append (λ f. leaves_at t f && (f.ep == ep)) frames later ∙ ap (λ (fs : List LinkFrame). frames_leaving frames t ep ++ fs) (later_none t ep later h)
+    ∙ append-nil (frames_leaving frames t ep))
 
 -- the ticks that are gone over
 ends : first_clock +ℤ pos (int_gap first_clock (end_of_time +ℤ pos 1)) ≡ end_of_time +ℤ pos 1

@@ -22,19 +22,13 @@ use Rattle.frame_bytes.specs.Cuts.{piece_frame}
 use Rattle.frame_bytes.specs.Messages.{message_of}
 use Rattle.frame_bytes.specs.declared.messages.Carrier.{Carrier}
 use Rattle.frame_bytes.specs.declared.messages.DataSection.{DataSection}
-use Rattle.uplink_model.specs.Messages.{frame_count, frames_before, job_fields, number_behind}
+use Rattle.uplink_model.specs.Messages.{frame_count, uplink_frames_before, job_fields, number_behind}
+use Rattle.frame_bytes.specs.Headers.{frame_id_of}
+use Rattle.frame_bytes.specs.Headers.{carrier_of}
 
 -- what the antenna answers at each resource element
 abbrev pub Antenna : Type 0
 Antenna = RePlace → Wide
-
--- frameId: the frame's low 8 bits
-abbrev pub frame_id_of : ℤ → ℕ
-frame_id_of frame = int_gap (pos 0) (int_rem_euclid frame (pos 256))
-
--- what an endpoint's messages have in common
-abbrev pub carrier_of : EndpointConfig → Carrier
-carrier_of e = record { format = e.format; prbs = e.prbs }
 
 -- the application header: dataDirection 0, the command's filterIndex in its 4 bits
 abbrev pub head_of : UplinkJob → UHead
@@ -56,38 +50,38 @@ abbrev pub samples_of : Antenna → EndpointConfig → UplinkJob → ℕ → ℕ
 samples_of antenna e j place prb = block_of antenna e.id j.slot j.symbol prb
 
 -- the application bytes: a section for each job
-abbrev pub message_bytes : Antenna → EndpointConfig → Message UplinkJob → List ℕ
-message_bytes antenna e m = message_of (carrier_of e) (samples_of antenna e m.first) (head_of m.first) (map section_of (parts_of m))
+abbrev pub uplink_message_bytes : Antenna → EndpointConfig → Message UplinkJob → List ℕ
+uplink_message_bytes antenna e m = message_of (carrier_of e) (samples_of antenna e m.first) (head_of m.first) (map section_of (parts_of m))
 
 -- the sequence id, the E bit and the subsequence id of a fragment
-abbrev pub fragment_field : Config → Message UplinkJob → ℕ → ℕ → SeqField
-fragment_field c m number sub = record { seq = number % 256; last = sub + 1 == frame_count c m; sub = sub }
+abbrev pub uplink_fragment_field : Config → Message UplinkJob → ℕ → ℕ → SeqField
+uplink_fragment_field c m number sub = record { seq = number % 256; last = sub + 1 == frame_count c m; sub = sub }
 
 -- a fragment: so many bytes of the message, the last the rest
-abbrev pub fragment_bytes : Config → Antenna → EndpointConfig → Message UplinkJob → ℕ → ℕ → List ℕ
-fragment_bytes c antenna e m number sub =
-    piece_frame e.id (fragment_field c m number sub) (sub * c.fragment) (min (sub * c.fragment + c.fragment) (size_of (job_fields c.endpoints) m))
-    (message_bytes antenna e m)
+abbrev pub uplink_fragment_bytes : Config → Antenna → EndpointConfig → Message UplinkJob → ℕ → ℕ → List ℕ
+uplink_fragment_bytes c antenna e m number sub =
+    piece_frame e.id (uplink_fragment_field c m number sub) (sub * c.fragment) (min (sub * c.fragment + c.fragment) (size_of (job_fields c.endpoints) m))
+    (uplink_message_bytes antenna e m)
 
 -- frame `sub` of a message with this number, where so many frames of its symbol leave before the message's first
-abbrev pub frame_of : Config → Antenna → EndpointConfig → Message UplinkJob → ℕ → ℕ → ℕ → LinkFrame
-frame_of c antenna e m number before sub = record {
+abbrev pub uplink_frame_of : Config → Antenna → EndpointConfig → Message UplinkJob → ℕ → ℕ → ℕ → LinkFrame
+uplink_frame_of c antenna e m number before sub = record {
   at = record { 0 = departure (departures_of c UpData) m.first.s.0 (before + sub) };
   ep = m.first.ep;
-  frame = fragment_bytes c antenna e m number sub;
+  frame = uplink_fragment_bytes c antenna e m number sub;
 }
 
 -- n frames of it from `sub` on
-abbrev pub frames_from : Config → Antenna → EndpointConfig → Message UplinkJob → ℕ → ℕ → ℕ → ℕ → List LinkFrame
-frames_from c antenna e m number before sub n = each sub n (λ k. frame_of c antenna e m number before k ∷ [])
+abbrev pub uplink_frames_from : Config → Antenna → EndpointConfig → Message UplinkJob → ℕ → ℕ → ℕ → ℕ → List LinkFrame
+uplink_frames_from c antenna e m number before sub n = each sub n (λ k. uplink_frame_of c antenna e m number before k ∷ [])
 
 -- the frames of a message behind those before it, the newest first
-unfoldable pub message_frames : Config → Antenna → List (Message UplinkJob) → Message UplinkJob → List LinkFrame
-message_frames c antenna earlier m =
-    option_map_or (λ e. frames_from c antenna e m (number_behind m.first.ep earlier) (frames_before c m.first earlier) 0 (frame_count c m))
+unfoldable pub uplink_message_frames : Config → Antenna → List (Message UplinkJob) → Message UplinkJob → List LinkFrame
+uplink_message_frames c antenna earlier m =
+    option_map_or (λ e. uplink_frames_from c antenna e m (number_behind m.first.ep earlier) (uplink_frames_before c m.first earlier) 0 (frame_count c m))
     (slice_get c.endpoints m.first.ep) []
 
 -- the frames of these messages in their order, as they are handed over, behind those before them
 unfoldable pub frames_behind : Config → Antenna → List (Message UplinkJob) → List (Message UplinkJob) → List LinkFrame
 frames_behind c antenna earlier [] = []
-frames_behind c antenna earlier (m ∷ ms) = message_frames c antenna earlier m ++ frames_behind c antenna (m ∷ earlier) ms
+frames_behind c antenna earlier (m ∷ ms) = uplink_message_frames c antenna earlier m ++ frames_behind c antenna (m ∷ earlier) ms

@@ -5,12 +5,12 @@ use Rattle.plan_model.specs.unit_model.specs.Lists.{onto}
 use Rattle.plan_model.specs.unit_model.specs.declared.jobs.UplinkJob.{UplinkJob}
 use Rattle.plan_model.specs.Packs.{Message, packs}
 use Rattle.uplink_model.specs.Frames.{Antenna, frames_behind}
-use Rattle.uplink_model.specs.Messages.{job_fields, messages_of}
+use Rattle.uplink_model.specs.Messages.{job_fields, uplink_messages_of}
 
 -- the jobs of one endpoint make the messages that `plan_model` makes of parts
 abbrev pub MessagesArePacks : Type 0
 MessagesArePacks =
-    (c : Config) (ep : ℕ) (js : List UplinkJob) → All (λ j. j.ep ≡ ep) js → messages_of c js ≡ packs (job_fields c.endpoints) c.pack js
+    (c : Config) (ep : ℕ) (js : List UplinkJob) → All (λ j. j.ep ≡ ep) js → uplink_messages_of c js ≡ packs (job_fields c.endpoints) c.pack js
 
 -- the frames of these messages are those of the first of them, and then those of the rest
 abbrev pub FramesAppend : Type 0

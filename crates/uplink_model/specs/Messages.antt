@@ -31,9 +31,9 @@ messages_behind c m (j ∷ js) =
     if takes_job c m j then messages_behind c (with_part m j) js else m ∷ messages_behind c (alone j) js
 
 -- the messages of these jobs, in their order
-abbrev pub messages_of : Config → List UplinkJob → List (Message UplinkJob)
-messages_of c [] = []
-messages_of c (j ∷ js) = messages_behind c (alone j) js
+abbrev pub uplink_messages_of : Config → List UplinkJob → List (Message UplinkJob)
+uplink_messages_of c [] = []
+uplink_messages_of c (j ∷ js) = messages_behind c (alone j) js
 
 -- the frames of a message
 abbrev pub frame_count : Config → Message UplinkJob → ℕ
@@ -47,10 +47,10 @@ number_behind ep [] = 0
 number_behind ep (m ∷ earlier) = (if m.first.ep == ep then 1 else 0) + number_behind ep earlier
 
 -- both are of one symbol of one endpoint
-abbrev pub same_symbol : UplinkJob → UplinkJob → Bool
-same_symbol a b = (a.ep == b.ep) && (same_slot a.slot b.slot && (a.symbol == b.symbol))
+abbrev pub same_job_symbol : UplinkJob → UplinkJob → Bool
+same_job_symbol a b = (a.ep == b.ep) && (same_slot a.slot b.slot && (a.symbol == b.symbol))
 
 -- how many frames of a job's symbol leave before those of its message: the messages of one symbol stand together
-unfoldable pub frames_before : Config → UplinkJob → List (Message UplinkJob) → ℕ
-frames_before c j [] = 0
-frames_before c j (m ∷ earlier) = if same_symbol m.first j then frame_count c m + frames_before c j earlier else 0
+unfoldable pub uplink_frames_before : Config → UplinkJob → List (Message UplinkJob) → ℕ
+uplink_frames_before c j [] = 0
+uplink_frames_before c j (m ∷ earlier) = if same_job_symbol m.first j then frame_count c m + uplink_frames_before c j earlier else 0

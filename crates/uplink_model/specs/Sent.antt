@@ -13,12 +13,12 @@ abbrev pub leaves_at : ℤ → LinkFrame → Bool
 leaves_at t f = int_eq f.at.0 t
 
 -- those of these that leave at a tick and are of one endpoint, as they were handed over
-abbrev pub leaving_of : List LinkFrame → ℤ → ℕ → List LinkFrame
-leaving_of frames t ep = filter (λ f. leaves_at t f && (f.ep == ep)) frames
+abbrev pub frames_leaving : List LinkFrame → ℤ → ℕ → List LinkFrame
+frames_leaving frames t ep = filter (λ f. leaves_at t f && (f.ep == ep)) frames
 
 -- those that leave at a tick, of so many endpoints, endpoint by endpoint
 unfoldable pub leaving_at : ℕ → List LinkFrame → ℤ → List LinkFrame
-leaving_at endpoints frames t = each 0 endpoints (leaving_of frames t)
+leaving_at endpoints frames t = each 0 endpoints (frames_leaving frames t)
 
 -- all of them, tick by tick
 unfoldable pub in_sent_order : ℕ → List LinkFrame → List LinkFrame

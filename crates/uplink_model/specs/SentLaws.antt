@@ -4,7 +4,7 @@ use Rattle.std.specs.List.{AllPairs}
 use Rattle.air_source.specs.declared.links.LinkFrame.{LinkFrame}
 use Rattle.plan_model.specs.unit_model.specs.Radiated.{first_clock}
 use Rattle.plan_model.specs.unit_model.specs.Times.{end_of_time}
-use Rattle.uplink_model.specs.Sent.{in_sent_order, leaves_at, leaving_at, leaving_of}
+use Rattle.uplink_model.specs.Sent.{in_sent_order, leaves_at, leaving_at, frames_leaving}
 
 -- each is of one of so many endpoints
 abbrev pub AreOf : ℕ → List LinkFrame → Type 0
@@ -28,7 +28,7 @@ LeavingAreByEndpoint = (endpoints : ℕ) (frames : List LinkFrame) (t : ℤ) →
 -- and those of an endpoint as they were handed over
 abbrev pub LeavingAsHandedOver : Type 0
 LeavingAsHandedOver =
-    (endpoints : ℕ) (frames : List LinkFrame) (t : ℤ) (ep : ℕ) → ep < endpoints → filter (λ f. f.ep == ep) (leaving_at endpoints frames t) ≡ leaving_of frames t ep
+    (endpoints : ℕ) (frames : List LinkFrame) (t : ℤ) (ep : ℕ) → ep < endpoints → filter (λ f. f.ep == ep) (leaving_at endpoints frames t) ≡ frames_leaving frames t ep
 
 -- what is handed over later, to leave later, changes nothing
 abbrev pub LaterChangeNothing : Type 0

@@ -1,11 +1,11 @@
 -- The message that is open when no job is left.
-use Rattle.std.proofs.Common.{◌≡◌, List, [], ◌∷◌, ◌++◌, refl, sym, ap, subst, ◌∙◌, append-nil, Option, Some, None, Result, Ok, Err, OnOk, OnErr}
+use Rattle.std.proofs.Common.{◌≡◌, List, [], ◌∷◌, ◌++◌, refl, sym, ap, subst, ◌∙◌, append-nil, Option, Some, None}
 use Rattle.window_config.specs.declared.config.Config.{Config}
 use Rattle.uplink_model.specs.air_source.specs.declared.links.LinkFrame.{LinkFrame}
 use Rattle.uplink_model.specs.unit_model.specs.Lists.{onto}
 use Rattle.uplink_model.specs.unit_model.specs.declared.jobs.UplinkJob.{UplinkJob}
 use Rattle.uplink_model.specs.plan_model.specs.Packs.{Message}
-use Rattle.uplink_model.specs.Frames.{Antenna, frames_behind, message_frames}
+use Rattle.uplink_model.specs.Frames.{Antenna, frames_behind, uplink_message_frames}
 use Rattle.uplink_model.specs.Messages.{messages_behind}
 use Rattle.uplink_path.specs.Opened.{IsOpen, IsProperMessage, messages_from}
 use Rattle.uplink_path.specs.Packing.{IsPacked}
@@ -26,24 +26,16 @@ pub open_is : (c : Config) (opened : Option Pending) (p : Pending) (om : Option 
 open_is c opened p om same is = by_case c p om (subst (λ (o : Option Pending). IsOpen c o om) same is)
 
 pub last_frames : (c : Config) (antenna : Antenna) (ms : List (Message UplinkJob)) (m : Message UplinkJob)
-    → message_frames c antenna ms m ≡ frames_behind c antenna ms (messages_from c (Some m) [])
+    → uplink_message_frames c antenna ms m ≡ frames_behind c antenna ms (messages_from c (Some m) [])
 unfolding frames_behind messages_behind
-last_frames c antenna ms m = sym (append-nil (message_frames c antenna ms m))
+last_frames c antenna ms m = sym (append-nil (uplink_message_frames c antenna ms m))
 
 pub last_numbered : (c : Config) (ms : List (Message UplinkJob)) (m : Message UplinkJob) → m ∷ ms ≡ onto ms (messages_from c (Some m) [])
 unfolding onto messages_behind
 last_numbered c ms m = refl
 
-pub ok_with : {A B : Type 0} (r : Result A B) (P Q : Type 0) → (P → Q) → OnOk r P → OnOk r Q
-ok_with (Ok x) P Q f p = f p
-ok_with (Err e) P Q f p = tt
-
-pub err_with : {A B : Type 0} (r : Result A B) (P Q : Type 0) → (P → Q) → OnErr r P → OnErr r Q
-err_with (Ok x) P Q f p = tt
-err_with (Err e) P Q f p = f p
-
 pub all_closed : (c : Config) (antenna : Antenna) (ms : List (Message UplinkJob)) (p : Pending) (om : Option (Message UplinkJob)) (o : OpenIs c p om)
-    → message_frames c antenna ms o.message ≡ frames_behind c antenna ms (messages_from c om [])
+    → uplink_message_frames c antenna ms o.message ≡ frames_behind c antenna ms (messages_from c om [])
 all_closed c antenna ms p om o =
     last_frames c antenna ms o.message ∙ ap (λ (x : Option (Message UplinkJob)). frames_behind c antenna ms (messages_from c x [])) (sym o.is)
 

@@ -12,16 +12,17 @@ use Rattle.uplink_model.specs.unit_model.specs.declared.jobs.UplinkJob.{UplinkJo
 use Rattle.uplink_model.specs.unit_model.proofs.OntoLemmas.{onto-append, onto_none}
 use Rattle.uplink_model.specs.plan_model.specs.Packs.{Message}
 use Rattle.ru_buffers.specs.Calls.{GivesJob, StandsFor, given_of}
-use Rattle.ru_buffers.specs.Units.{left_up_to}
+use Rattle.ru_buffers.specs.radio_laws.specs.Units.{left_up_to}
 use Rattle.ru_buffers.specs.declared.unit.Ru.{Ru}
 use Rattle.uplink_model.specs.Frames.{Antenna, frames_behind}
-use Rattle.uplink_model.specs.Messages.{messages_behind, messages_of}
+use Rattle.uplink_model.specs.Messages.{messages_behind, uplink_messages_of}
 use Rattle.uplink_model.proofs.MessageLemmas.{frames_both}
-use Rattle.uplink_path.specs.Emitting.{Numbered, SentAll, SentFirst, given_too}
+use Rattle.uplink_path.specs.Emitting.{AreNumbered, SentAll, SentFirst, given_too}
 use Rattle.uplink_path.specs.Opened.{CanPack, CanTake, IsOpen, StoppedAtJob, TookJob, messages_from}
 use Rattle.uplink_path.specs.Sending.{SentSome}
 use Rattle.uplink_path.specs.declared.pending.Pending.{Pending}
 use Rattle.uplink_path.specs.declared.uplink.Uplink.{Uplink}
+use Rattle.uplink_path.proofs.TakeLemmas.{none_more}
 
 -- these jobs were taken: the messages that they closed were sent, and the unit stands for the jobs as given
 pub record Taken {F : Type 0} (post : RePlace → Wide → Type 0) (c : Config) (h : History) (ms : List (Message UplinkJob)) (u : Uplink F) (ru : Ru) (opened : Option Pending)
@@ -30,10 +31,10 @@ pub record Taken {F : Type 0} (post : RePlace → Wide → Type 0) (c : Config) 
   pub jobs : given_of c h h.clock ≡ given ++ given_of c (given_too h given) h.clock
   pub closed : List (Message UplinkJob)
   pub message : Option (Message UplinkJob)
-  pub is : (js : List UplinkJob) → messages_of c (given ++ js) ≡ closed ++ messages_from c message js
+  pub is : (js : List UplinkJob) → uplink_messages_of c (given ++ js) ≡ closed ++ messages_from c message js
   pub is_open : IsOpen c opened message
   pub sent : (antenna : Antenna) → AnswersBy post antenna → new ≡ old ++ frames_behind c antenna ms closed
-  pub numbered : Numbered c u (onto ms closed)
+  pub numbered : AreNumbered c u (onto ms closed)
   pub stands : StandsFor c ru (given_too h given)
 
 -- ---- histories
@@ -47,12 +48,8 @@ one_too h given job =
 
 -- ---- before any
 
-none_messages : (c : Config) (antenna : Antenna) (ms : List (Message UplinkJob)) (old : List LinkFrame) → old ≡ old ++ frames_behind c antenna ms []
-unfolding frames_behind
-none_messages c antenna ms old = sym (append-nil old)
-
 pub none_taken : {F : Type 0} (post : RePlace → Wide → Type 0) (c : Config) (h : History) (ms : List (Message UplinkJob)) (u : Uplink F) (ru : Ru) (opened : Option Pending) (old : List LinkFrame)
-    → opened ≡ None → Numbered c u ms → StandsFor c ru h → Taken post c h ms u ru opened old old
+    → opened ≡ None → AreNumbered c u ms → StandsFor c ru h → Taken post c h ms u ru opened old old
 none_taken post c h ms u ru opened old is n stands = record {
   given = [];
   jobs = ap (λ (k : History). given_of c k h.clock) (sym (none_too h));
@@ -60,8 +57,8 @@ none_taken post c h ms u ru opened old is n stands = record {
   message = None;
   is = λ js. refl;
   is_open = subst (λ (o : Option Pending). IsOpen c o None) (sym is) tt;
-  sent = λ antenna said. none_messages c antenna ms old;
-  numbered = subst (λ (l : List (Message UplinkJob)). Numbered c u l) (sym (onto_none ms)) n;
+  sent = λ antenna said. none_more c antenna ms old;
+  numbered = subst (λ (l : List (Message UplinkJob)). AreNumbered c u l) (sym (onto_none ms)) n;
   stands = subst (λ (k : History). StandsFor c ru k) (sym (none_too h)) stands;
 }
 
@@ -76,11 +73,11 @@ more_given c h given job jobs first =
     ∙ sym (append_assoc given (job ∷ []) (given_of c (given_too h (given ++ job ∷ [])) h.clock))
 
 more_messages : (c : Config) (given : List UplinkJob) (job : UplinkJob) (closed more : List (Message UplinkJob)) (message : Option (Message UplinkJob)) (rest : List UplinkJob → List (Message UplinkJob))
-    → ((js : List UplinkJob) → messages_of c (given ++ js) ≡ closed ++ messages_from c message js)
+    → ((js : List UplinkJob) → uplink_messages_of c (given ++ js) ≡ closed ++ messages_from c message js)
     → ((js : List UplinkJob) → messages_from c message (job ∷ js) ≡ more ++ rest js)
-    → (js : List UplinkJob) → messages_of c ((given ++ job ∷ []) ++ js) ≡ (closed ++ more) ++ rest js
+    → (js : List UplinkJob) → uplink_messages_of c ((given ++ job ∷ []) ++ js) ≡ (closed ++ more) ++ rest js
 more_messages c given job closed more message rest is next js =
-    ap (messages_of c) (append_assoc given (job ∷ []) js) ∙ is (job ∷ js) ∙ ap (λ (l : List (Message UplinkJob)). closed ++ l) (next js)
+    ap (uplink_messages_of c) (append_assoc given (job ∷ []) js) ∙ is (job ∷ js) ∙ ap (λ (l : List (Message UplinkJob)). closed ++ l) (next js)
     ∙ sym (append_assoc closed more (rest js))
 
 more_sent : (c : Config) (antenna : Antenna) (ms closed more : List (Message UplinkJob)) (old now after : List LinkFrame) → now ≡ old ++ frames_behind c antenna ms closed
@@ -105,7 +102,7 @@ one_taken post now_post c h ms u v ru next opened p job old now after t gives to
   is = more_messages c t.given job t.closed took.closed t.message (λ js. messages_behind c took.message js) t.is took.is;
   is_open = (took.packed, took.proper);
   sent = λ antenna said. more_sent c antenna ms t.closed took.closed old now after (t.sent antenna said) (took.sent antenna (as_said antenna said));
-  numbered = subst (λ (l : List (Message UplinkJob)). Numbered c v l) (sym (onto-append ms t.closed took.closed)) took.numbered;
+  numbered = subst (λ (l : List (Message UplinkJob)). AreNumbered c v l) (sym (onto-append ms t.closed took.closed)) took.numbered;
   stands = more_stands c h t.given job next gives.stands;
 }
 
@@ -164,8 +161,8 @@ stopped_at post c h ms u ru next opened job old now after t gives stop =
     record {
       sent = λ antenna said.
           let s = stop antenna said in
-          some_more c antenna ms (messages_of c (given_of c h h.clock)) t.closed s.closed (s.rest left) old now after
-          (ap (messages_of c) jobs ∙ more_messages c t.given job t.closed s.closed t.message s.rest t.is s.is left) (t.sent antenna said) s.some;
+          some_more c antenna ms (uplink_messages_of c (given_of c h h.clock)) t.closed s.closed (s.rest left) old now after
+          (ap (uplink_messages_of c) jobs ∙ more_messages c t.given job t.closed s.closed t.message s.rest t.is s.is left) (t.sent antenna said) s.some;
       given = t.given ++ job ∷ [];
       left = left;
       jobs = jobs;
@@ -180,14 +177,14 @@ all_given c h given jobs none = jobs ∙ ap (λ (l : List UplinkJob). given ++ l
 
 -- all messages are those that were closed, and the one that is open
 all_messages : (c : Config) (given owed : List UplinkJob) (closed : List (Message UplinkJob)) (message : Option (Message UplinkJob)) → owed ≡ given
-    → ((js : List UplinkJob) → messages_of c (given ++ js) ≡ closed ++ messages_from c message js) → messages_of c owed ≡ closed ++ messages_from c message []
-all_messages c given owed closed message owed_is is = ap (messages_of c) (owed_is ∙ sym (append-nil given)) ∙ is []
+    → ((js : List UplinkJob) → uplink_messages_of c (given ++ js) ≡ closed ++ messages_from c message js) → uplink_messages_of c owed ≡ closed ++ messages_from c message []
+all_messages c given owed closed message owed_is is = ap (uplink_messages_of c) (owed_is ∙ sym (append-nil given)) ∙ is []
 
 pub all_taken : {F A B : Type 0} (r : Result A B) (post : RePlace → Wide → Type 0) (c : Config) (h : History) (ms : List (Message UplinkJob)) (u v : Uplink F) (ru next : Ru) (opened : Option Pending)
     (old now after : List LinkFrame)
     → (t : Taken post c h ms u ru opened old now) → given_of c (given_too h t.given) h.clock ≡ [] → next ≡ ru
     → ((antenna : Antenna) → AnswersBy post antenna → OnOk r (after ≡ now ++ frames_behind c antenna (onto ms t.closed) (messages_from c t.message [])))
-    → OnOk r (Numbered c v (onto (onto ms t.closed) (messages_from c t.message []))) → OnOk r (SentAll post c h ms v next old after)
+    → OnOk r (AreNumbered c v (onto (onto ms t.closed) (messages_from c t.message []))) → OnOk r (SentAll post c h ms v next old after)
 all_taken (Err e) post c h ms u v ru next opened old now after t none same sent n = tt
 all_taken (Ok x) post c h ms u v ru next opened old now after t none same sent n =
     let given = all_given c h t.given t.jobs none in
@@ -196,7 +193,7 @@ all_taken (Ok x) post c h ms u v ru next opened old now after t none same sent n
       sent = λ antenna said.
           more_sent c antenna ms t.closed (messages_from c t.message []) old now after (t.sent antenna said) (sent antenna said)
           ∙ ap (λ (l : List (Message UplinkJob)). old ++ frames_behind c antenna ms l) (sym all);
-      numbered = subst (λ (l : List (Message UplinkJob)). Numbered c v l) (sym (onto-append ms t.closed (messages_from c t.message [])) ∙ ap (onto ms) (sym all)) n;
+      numbered = subst (λ (l : List (Message UplinkJob)). AreNumbered c v l) (sym (onto-append ms t.closed (messages_from c t.message [])) ∙ ap (onto ms) (sym all)) n;
       stands = subst (λ (js : List UplinkJob). StandsFor c next (given_too h js)) (sym given)
           (subst (λ (x : Ru). StandsFor c x (given_too h t.given)) (sym same) t.stands);
     }
@@ -213,7 +210,7 @@ stopped_last (Err e) post c h ms u ru next opened old now after t none same stop
     let all = all_messages c t.given (given_of c h h.clock) t.closed t.message given t.is in
     record {
       sent = λ antenna said.
-          some_more c antenna ms (messages_of c (given_of c h h.clock)) t.closed (messages_from c t.message []) [] old now after
+          some_more c antenna ms (uplink_messages_of c (given_of c h h.clock)) t.closed (messages_from c t.message []) [] old now after
           (all ∙ sym (append-nil (t.closed ++ messages_from c t.message []))) (t.sent antenna said) (stop antenna said);
       given = t.given;
       left = [];

@@ -4,18 +4,20 @@ use Rattle.std.proofs.Math.Nat.{le-div_iff_mul-le}
 use Rattle.window_config.specs.declared.config.Config.{Config}
 use Rattle.window_config.specs.declared.endpoints.EndpointConfig.{EndpointConfig}
 use Rattle.uplink_model.specs.air_source.specs.declared.links.LinkFrame.{LinkFrame}
+use Rattle.uplink_model.specs.unit_model.proofs.SweepLaws.{each_zero}
 use Rattle.uplink_model.specs.unit_model.specs.Lists.{each}
 use Rattle.uplink_model.specs.unit_model.specs.declared.jobs.UplinkJob.{UplinkJob}
 use Rattle.uplink_model.specs.plan_model.specs.Departures.{departure}
 use Rattle.uplink_model.specs.plan_model.specs.Packs.{Message, frames_for, size_of}
 use Rattle.uplink_model.specs.frame_bytes.specs.Cuts.{piece_frame}
 use Rattle.uplink_model.specs.frame_bytes.specs.Messages.{message_of}
-use Rattle.uplink_model.specs.Frames.{Antenna, carrier_of, frame_of, head_of, samples_of}
+use Rattle.uplink_model.specs.Frames.{Antenna, uplink_frame_of, head_of, samples_of}
 use Rattle.uplink_model.specs.Messages.{frame_count, job_fields}
 use Rattle.uplink_path.specs.Packing.{sections_in}
 use Rattle.uplink_path.specs.Sending.{IsBehind, SentSome, wait_behind}
 use Rattle.uplink_path.specs.declared.pending.Pending.{Pending}
 use Rattle.uplink_path.specs.declared.rules.Rules.{Rules}
+use Rattle.uplink_model.specs.frame_bytes.specs.Headers.{carrier_of}
 
 -- ---- numbers
 
@@ -39,7 +41,7 @@ frame_is :
     → IsBehind c r p number wait m n before → count ≡ frames_for r.fragment p.size → at ≡ departure r.departures p.first.s.0 (before + sub)
     → bytes ≡ piece_frame e.id (record { seq = number; last = sub + 1 == count; sub = sub }) (sub * r.fragment) (min (sub * r.fragment + r.fragment) p.size)
     (message_of (carrier_of e) (samples_of answer e p.first) (head_of p.first) (sections_in p))
-    → (let f : LinkFrame = record { at = record { 0 = at }; ep = p.first.ep; frame = bytes } in f) ≡ frame_of c answer e m n before sub
+    → (let f : LinkFrame = record { at = record { 0 = at }; ep = p.first.ep; frame = bytes } in f) ≡ uplink_frame_of c answer e m n before sub
 frame_is c answer e r p number wait m n before sub count at bytes b count_is at_is bytes_is =
     rw (at_is, bytes_is, count_is, b.number_is, b.rules, b.packed.size, b.packed.sections, b.packed.first) refl
 
@@ -65,10 +67,6 @@ each_next : (f : ℕ → List LinkFrame) (sub left : ℕ) → each sub (suc left
 unfolding each
 each_next f sub left = refl
 
-each_none : (f : ℕ → List LinkFrame) (sub : ℕ) → each sub 0 f ≡ []
-unfolding each
-each_none f sub = refl
-
 pub one_handed : (f : ℕ → List LinkFrame) (sub count : ℕ) (old now after : List LinkFrame) → sub < count → after ≡ now ++ f sub → HandedUpTo f sub count old now
     → HandedUpTo f (sub + 1) count old after
 one_handed f sub count old now after below more h =
@@ -84,7 +82,7 @@ pub all_handed : (f : ℕ → List LinkFrame) (sub count : ℕ) (old new : List 
 all_handed f sub count old new over h =
     let none : count - sub ≡ 0 = omega (arith, over) in
     h.sent ∙ ap (λ (l : List LinkFrame). old ++ l)
-    (sym (append-nil h.front) ∙ ap (λ (l : List LinkFrame). h.front ++ l) (sym (each_none f sub)) ∙ ap (λ (n : ℕ). h.front ++ each sub n f) (sym none) ∙ sym h.is)
+    (sym (append-nil h.front) ∙ ap (λ (l : List LinkFrame). h.front ++ l) (sym (each_zero sub f)) ∙ ap (λ (n : ℕ). h.front ++ each sub n f) (sym none) ∙ sym h.is)
 
 pub some_handed : (f : ℕ → List LinkFrame) (sub count : ℕ) (old new : List LinkFrame) → HandedUpTo f sub count old new → SentSome (each 0 count f) old new
 some_handed f sub count old new h = record { front = h.front; rest = each sub (count - sub) f; is = h.is; sent = h.sent }
@@ -97,9 +95,9 @@ pub frame_handed :
     → bytes ≡ piece_frame e.id (record { seq = number; last = sub + 1 == count; sub = sub }) (sub * r.fragment) (min (sub * r.fragment + r.fragment) p.size)
     (message_of (carrier_of e) (samples_of answer e p.first) (head_of p.first) (sections_in p))
     → sub < count → after ≡ now ++ (let f : LinkFrame = record { at = record { 0 = at }; ep = p.first.ep; frame = bytes } in f) ∷ []
-    → HandedUpTo (λ k. frame_of c answer e m n before k ∷ []) sub count old now → HandedUpTo (λ k. frame_of c answer e m n before k ∷ []) (sub + 1) count old after
+    → HandedUpTo (λ k. uplink_frame_of c answer e m n before k ∷ []) sub count old now → HandedUpTo (λ k. uplink_frame_of c answer e m n before k ∷ []) (sub + 1) count old after
 frame_handed c answer e r p number wait m n before sub count at bytes old now after b count_is at_is bytes_is below more h =
-    one_handed (λ k. frame_of c answer e m n before k ∷ []) sub count old now after below
+    one_handed (λ k. uplink_frame_of c answer e m n before k ∷ []) sub count old now after below
     (more ∙ ap (λ (f : LinkFrame). now ++ f ∷ []) (frame_is c answer e r p number wait m n before sub count at bytes b count_is at_is bytes_is)) h
 
 pub count_as : (c : Config) (r : Rules) (p : Pending) (number wait : ℕ) (m : Message UplinkJob) (n before count : ℕ) → IsBehind c r p number wait m n before

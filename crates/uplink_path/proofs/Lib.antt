@@ -4,3 +4,4 @@ pub mod SendableLemmas
 pub mod CloseLemmas
 pub mod TakeLemmas
 pub mod EmitLemmas
+pub mod StepLemmas

@@ -10,9 +10,9 @@ use Rattle.uplink_model.specs.plan_model.specs.Departures.{departures_of}
 use Rattle.uplink_model.specs.plan_model.specs.declared.streams.Stream.TheVariants.{UpData}
 use Rattle.fh_time.specs.declared.values.Slot.{Slot}
 use Rattle.uplink_model.specs.unit_model.specs.Claims.{same_slot}
-use Rattle.ru_buffers.specs.unit_laws.proofs.CellLemmas.{slots_equal}
-use Rattle.uplink_model.specs.Messages.{frame_count, frames_before, number_behind, same_symbol}
+use Rattle.uplink_model.specs.Messages.{frame_count, uplink_frames_before, number_behind, same_job_symbol}
 use Rattle.uplink_path.specs.Sending.{wait_behind, wait_in}
+use Rattle.uplink_model.specs.unit_model.proofs.ClaimLemmas.{same_slot_is as slots_equal}
 
 abbrev pub zeros : ℕ → List ℕ
 zeros zero = []
@@ -26,8 +26,8 @@ zero_at (suc n) (suc ep) = zero_at n ep
 pub none_numbered : (ep : ℕ) → slice_index_or (zeros 16) ep 0 ≡ number_behind ep [] % 256
 none_numbered ep = zero_at 16 ep
 
-pub none_waits : (c : Config) (j : UplinkJob) → 0 ≡ wait_behind c (frames_before c j [])
-unfolding frames_before
+pub none_waits : (c : Config) (j : UplinkJob) → 0 ≡ wait_behind c (uplink_frames_before c j [])
+unfolding uplink_frames_before
 none_waits c j = omega arith
 
 -- ---- after one more message
@@ -57,7 +57,7 @@ numbers_next numbers m ms at next at_is size is within next_is ep below = elim (
       ∙ count_other (number_behind ep ms) (m.first.ep == ep) (ne_eqb m.first.ep ep (λ e. other (at_is ∙ e)))
 ]
 
-alike : (a b : UplinkJob) → same_symbol a b ≡ true → (k : UplinkJob) → same_symbol k b ≡ same_symbol k a
+alike : (a b : UplinkJob) → same_job_symbol a b ≡ true → (k : UplinkJob) → same_job_symbol k b ≡ same_job_symbol k a
 alike a b is k =
     let (ep, rest) = and_parts (a.ep == b.ep) (same_slot a.slot b.slot && (a.symbol == b.symbol)) is in
     let (slot, symbol) = and_parts (same_slot a.slot b.slot) (a.symbol == b.symbol) rest in
@@ -66,32 +66,32 @@ alike a b is k =
     ∙ ap (λ (x : ℕ). (k.ep == a.ep) && (same_slot k.slot a.slot && (k.symbol == x))) (sym (eqb-true a.symbol b.symbol symbol))
 
 -- the frames before two jobs of one symbol are as many
-same_before : (c : Config) (a b : UplinkJob) (ms : List (Message UplinkJob)) → same_symbol a b ≡ true → frames_before c b ms ≡ frames_before c a ms
-unfolding frames_before
+same_before : (c : Config) (a b : UplinkJob) (ms : List (Message UplinkJob)) → same_job_symbol a b ≡ true → uplink_frames_before c b ms ≡ uplink_frames_before c a ms
+unfolding uplink_frames_before
 same_before c a b [] is = refl
 same_before c a b (m ∷ ms) is =
     ap₂ (λ (t : Bool) (n : ℕ). if t then frame_count c m + n else 0) (alike a b is m.first) (same_before c a b ms is)
 
-more_before : (c : Config) (m : Message UplinkJob) (j : UplinkJob) (ms : List (Message UplinkJob)) → same_symbol m.first j ≡ true
-    → frames_before c j (m ∷ ms) ≡ frames_before c m.first ms + frame_count c m
-unfolding frames_before
+more_before : (c : Config) (m : Message UplinkJob) (j : UplinkJob) (ms : List (Message UplinkJob)) → same_job_symbol m.first j ≡ true
+    → uplink_frames_before c j (m ∷ ms) ≡ uplink_frames_before c m.first ms + frame_count c m
+unfolding uplink_frames_before
 more_before c m j ms same =
-    ap (λ (t : Bool). if t then frame_count c m + frames_before c j ms else 0) same
+    ap (λ (t : Bool). if t then frame_count c m + uplink_frames_before c j ms else 0) same
     ∙ ap (λ (n : ℕ). frame_count c m + n) (same_before c m.first j ms same) ∙ omega arith
 
-fresh_before : (c : Config) (m : Message UplinkJob) (j : UplinkJob) (ms : List (Message UplinkJob)) → same_symbol m.first j ≡ false → frames_before c j (m ∷ ms) ≡ 0
-unfolding frames_before
-fresh_before c m j ms other = ap (λ (t : Bool). if t then frame_count c m + frames_before c j ms else 0) other
+fresh_before : (c : Config) (m : Message UplinkJob) (j : UplinkJob) (ms : List (Message UplinkJob)) → same_job_symbol m.first j ≡ false → uplink_frames_before c j (m ∷ ms) ≡ 0
+unfolding uplink_frames_before
+fresh_before c m j ms other = ap (λ (t : Bool). if t then frame_count c m + uplink_frames_before c j ms else 0) other
 
 zero_waits : (c : Config) → 0 ≡ wait_behind c 0
 zero_waits c = omega arith
 
 pub waits_next : (c : Config) (m : Message UplinkJob) (ms : List (Message UplinkJob)) (first : UplinkJob) (wait : ℕ) → first ≡ m.first
-    → wait ≡ wait_behind c (frames_before c m.first ms + frame_count c m)
-    → (j : UplinkJob) → wait_in (Some (record { ep = first.ep; slot = first.slot; symbol = first.symbol; wait = wait })) j ≡ wait_behind c (frames_before c j (m ∷ ms))
+    → wait ≡ wait_behind c (uplink_frames_before c m.first ms + frame_count c m)
+    → (j : UplinkJob) → wait_in (Some (record { ep = first.ep; slot = first.slot; symbol = first.symbol; wait = wait })) j ≡ wait_behind c (uplink_frames_before c j (m ∷ ms))
 waits_next c m ms first wait first_is is j =
-    ap (λ (f : UplinkJob). if same_symbol f j then wait else 0) first_is
-    ∙ elim (cases_Bool (same_symbol m.first j)) [
+    ap (λ (f : UplinkJob). if same_job_symbol f j then wait else 0) first_is
+    ∙ elim (cases_Bool (same_job_symbol m.first j)) [
       | inl same ↦ ap (λ (t : Bool). if t then wait else 0) same ∙ is ∙ ap (wait_behind c) (sym (more_before c m j ms same))
       | inr other ↦ ap (λ (t : Bool). if t then wait else 0) other ∙ zero_waits c ∙ ap (wait_behind c) (sym (fresh_before c m j ms other))
     ]

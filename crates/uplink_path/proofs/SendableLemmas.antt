@@ -7,7 +7,7 @@ use Rattle.std.proofs.lemmas.List.Elements.{All-head, All-map, All-tail}
 use Rattle.std.proofs.lemmas.List.Sums.{sum_by-cons}
 use Rattle.std.proofs.lemmas.Option.{get_or_from_slice_get, slice_get_within}
 use Rattle.std.proofs.Common.{get_or}
-use Rattle.uplink_path.specs.Emitting.{Numbered}
+use Rattle.uplink_path.specs.Emitting.{AreNumbered}
 use Rattle.uplink_path.specs.Opened.{IsProperMessage}
 use Rattle.uplink_path.specs.Packing.{IsPacked, sections_in}
 use Rattle.uplink_path.specs.Sending.{CanBeSent}
@@ -25,9 +25,12 @@ use Rattle.uplink_model.specs.plan_model.specs.Packs.{Message, parts_of}
 use Rattle.uplink_model.specs.plan_model.specs.Streams.{section_size}
 use Rattle.uplink_model.specs.plan_model.proofs.ListLemmas.{endpoint_is}
 use Rattle.uplink_model.specs.frame_bytes.specs.Messages.{SectionFits, message_size, sections_size}
-use Rattle.uplink_model.specs.Frames.{carrier_of, section_of}
+use Rattle.uplink_model.specs.Frames.{section_of}
 use Rattle.uplink_model.specs.Messages.{job_fields}
 use Rattle.uplink_path.specs.Opened.{IsPartOf}
+use Rattle.fh_time.specs.declared.symbols.TheConstants.{SLOT_SYMBOLS}
+use Rattle.fh_time.specs.declared.frames.TheConstants.{FRAME}
+use Rattle.uplink_model.specs.frame_bytes.specs.Headers.{carrier_of}
 
 -- the size of one section
 one_size : (es : List EndpointConfig) (e : EndpointConfig) (ep : ℕ) (j : UplinkJob) → IsAt es ep e → j.ep ≡ ep → (job_fields es).size j ≡ section_size e j.num_prb
@@ -63,19 +66,19 @@ size_is c p m proper packed =
     packed.size ∙ ap (λ (n : ℕ). 4 + n) (sizes c.endpoints proper.first.endpoint m.first.ep (parts_of m) proper.first.endpoint_is proper.parts)
     ∙ ap (λ (ss : List DataSection). message_size (carrier_of proper.first.endpoint) ss) (sym packed.sections)
 
-low_56 : (a : ℤ) → neg_ℤ (pos 15360000000) ≤ℤ a → neg_ℤ (pos (2 ^ 56)) ≤ℤ a
+low_56 : (a : ℤ) → neg_ℤ FRAME ≤ℤ a → neg_ℤ (pos (2 ^ 56)) ≤ℤ a
 low_56 a is = omega (arith, ints, is)
 
 high_56 : (a to : ℤ) → a ≤ℤ to → to ≤ℤ pos (2 ^ 53) → a ≤ℤ pos (2 ^ 56)
 high_56 a to is high = omega (arith, ints, is, high)
 
 pub can_be_sent : {F : Type 0} (c : Config) (u : Uplink F) (ms : List (Message UplinkJob)) (p : Pending) (m : Message UplinkJob) (e : EndpointConfig)
-    → Numbered c u ms → IsPacked c p m → (proper : IsProperMessage c m) → e ≡ proper.first.endpoint → IsEndpoint e → CanBeSent u.rules e p
+    → AreNumbered c u ms → IsPacked c p m → (proper : IsProperMessage c m) → e ≡ proper.first.endpoint → IsEndpoint e → CanBeSent u.rules e p
 can_be_sent c u ms p m e n packed proper is good =
     let first = proper.first in
     let n14 = (symbols_few first.endpoint.numerology).1 in
     let n16 = (slots_few first.endpoint.numerology).1 in
-    let symbol : p.first.symbol < 14 = rw packed.first (omega (arith, first.symbol, n14)) in
+    let symbol : p.first.symbol < SLOT_SYMBOLS = rw packed.first (omega (arith, first.symbol, n14)) in
     let size : p.size ≡ message_size (carrier_of e) (sections_in p) = rw is (size_is c p m proper packed) in
     record {
       rules = n.kept;

@@ -18,9 +18,9 @@ use Rattle.uplink_model.specs.unit_model.specs.Proper.{IsAt}
 use Rattle.uplink_model.specs.unit_model.specs.declared.jobs.UplinkJob.{UplinkJob}
 use Rattle.uplink_model.specs.unit_model.proofs.OntoLemmas.{onto_none, onto_one}
 use Rattle.uplink_model.specs.plan_model.specs.Packs.{Message, alone, parts_of, size_of, takes, with_part}
-use Rattle.uplink_model.specs.Frames.{Antenna, frames_behind, message_frames}
+use Rattle.uplink_model.specs.Frames.{Antenna, frames_behind, uplink_message_frames}
 use Rattle.uplink_model.specs.Messages.{job_fields, messages_behind, takes_job}
-use Rattle.uplink_path.specs.Emitting.{Numbered}
+use Rattle.uplink_path.specs.Emitting.{AreNumbered}
 use Rattle.uplink_path.specs.Opened.{CanTake, IsPartOf, IsProperMessage, StoppedAtJob, TookJob, messages_from}
 use Rattle.uplink_path.specs.Packing.{IsPacked}
 use Rattle.uplink_path.specs.Sending.{SentSome}
@@ -101,7 +101,7 @@ proper_with c m j good proper can is =
 
 -- ---- the job's endpoint as it is read
 
-pub job_endpoint : {F : Type 0} (c : Config) (u : Uplink F) (ms : List (Message UplinkJob)) (j : UplinkJob) (x : EndpointConfig) → Numbered c u ms → (can : CanTake c j)
+pub job_endpoint : {F : Type 0} (c : Config) (u : Uplink F) (ms : List (Message UplinkJob)) (j : UplinkJob) (x : EndpointConfig) → AreNumbered c u ms → (can : CanTake c j)
     → x ≡ get_or u.endpoints.items j.ep x → IsAt c.endpoints j.ep x
 job_endpoint c u ms j x n can is =
     let same = endpoint_read c.endpoints j.ep j.ep can.proper.endpoint x can.proper.endpoint_is refl (is ∙ ap (λ (l : List EndpointConfig). get_or l j.ep x) n.endpoints) in
@@ -109,13 +109,13 @@ job_endpoint c u ms j x n can is =
 
 -- ---- a job was taken
 
-none_more : (c : Config) (antenna : Antenna) (ms : List (Message UplinkJob)) (old : List LinkFrame) → old ≡ old ++ frames_behind c antenna ms []
+pub none_more : (c : Config) (antenna : Antenna) (ms : List (Message UplinkJob)) (old : List LinkFrame) → old ≡ old ++ frames_behind c antenna ms []
 unfolding frames_behind
 none_more c antenna ms old = sym (append-nil old)
 
-one_more : (c : Config) (antenna : Antenna) (ms : List (Message UplinkJob)) (m : Message UplinkJob) → message_frames c antenna ms m ≡ frames_behind c antenna ms (m ∷ [])
+one_more : (c : Config) (antenna : Antenna) (ms : List (Message UplinkJob)) (m : Message UplinkJob) → uplink_message_frames c antenna ms m ≡ frames_behind c antenna ms (m ∷ [])
 unfolding frames_behind
-one_more c antenna ms m = sym (append-nil (message_frames c antenna ms m))
+one_more c antenna ms m = sym (append-nil (uplink_message_frames c antenna ms m))
 
 goes_on : (c : Config) (m : Message UplinkJob) (j : UplinkJob) → takes_job c m j ≡ true → (js : List UplinkJob)
     → messages_behind c m (j ∷ js) ≡ messages_behind c (with_part m j) js
@@ -129,7 +129,7 @@ begins c m j is js = ap (λ (b : Bool). if b then messages_behind c (with_part m
 
 -- into the message that is open
 pub took_with : {F : Type 0} (post : RePlace → Wide → Type 0) (c : Config) (ms : List (Message UplinkJob)) (p q : Pending) (om : Option (Message UplinkJob)) (j : UplinkJob) (u : Uplink F) (old : List LinkFrame)
-    → Numbered c u ms → (o : OpenIs c p om) → CanTake c j → takes_job c o.message j ≡ true → IsPacked c q (with_part o.message j)
+    → AreNumbered c u ms → (o : OpenIs c p om) → CanTake c j → takes_job c o.message j ≡ true → IsPacked c q (with_part o.message j)
     → TookJob post c ms om j u q old old
 took_with post c ms p q om j u old n o can is packed = record {
   closed = [];
@@ -138,13 +138,13 @@ took_with post c ms p q om j u old n o can is packed = record {
   packed = packed;
   proper = proper_with c o.message j n.config o.proper can is;
   sent = λ antenna said. none_more c antenna ms old;
-  numbered = subst (λ (l : List (Message UplinkJob)). Numbered c u l) (sym (onto_none ms)) n;
+  numbered = subst (λ (l : List (Message UplinkJob)). AreNumbered c u l) (sym (onto_none ms)) n;
 }
 
 -- the one that is open was closed
 pub took_anew : {F : Type 0} (post : RePlace → Wide → Type 0) (c : Config) (ms : List (Message UplinkJob)) (p q : Pending) (om : Option (Message UplinkJob)) (j : UplinkJob) (u : Uplink F) (old new : List LinkFrame)
     → (o : OpenIs c p om) → CanTake c j → takes_job c o.message j ≡ false → IsPacked c q (alone j) → q.size ≤ 16384
-    → ((antenna : Antenna) → AnswersBy post antenna → new ≡ old ++ message_frames c antenna ms o.message) → Numbered c u (o.message ∷ ms)
+    → ((antenna : Antenna) → AnswersBy post antenna → new ≡ old ++ uplink_message_frames c antenna ms o.message) → AreNumbered c u (o.message ∷ ms)
     → TookJob post c ms om j u q old new
 took_anew post c ms p q om j u old new o can is packed short sent n = record {
   closed = o.message ∷ [];
@@ -153,12 +153,12 @@ took_anew post c ms p q om j u old new o can is packed short sent n = record {
   packed = packed;
   proper = proper_alone c q j can packed short;
   sent = λ antenna said. sent antenna said ∙ ap (λ (l : List LinkFrame). old ++ l) (one_more c antenna ms o.message);
-  numbered = subst (λ (l : List (Message UplinkJob)). Numbered c u l) (sym (onto_one ms o.message [] ∙ onto_none (o.message ∷ ms))) n;
+  numbered = subst (λ (l : List (Message UplinkJob)). AreNumbered c u l) (sym (onto_one ms o.message [] ∙ onto_none (o.message ∷ ms))) n;
 }
 
 -- none was open
 pub took_first : {F : Type 0} (post : RePlace → Wide → Type 0) (c : Config) (ms : List (Message UplinkJob)) (q : Pending) (om : Option (Message UplinkJob)) (j : UplinkJob) (u : Uplink F) (old : List LinkFrame)
-    → om ≡ None → CanTake c j → IsPacked c q (alone j) → q.size ≤ 16384 → Numbered c u ms → TookJob post c ms om j u q old old
+    → om ≡ None → CanTake c j → IsPacked c q (alone j) → q.size ≤ 16384 → AreNumbered c u ms → TookJob post c ms om j u q old old
 took_first post c ms q om j u old none can packed short n = record {
   closed = [];
   message = alone j;
@@ -166,11 +166,11 @@ took_first post c ms q om j u old none can packed short n = record {
   packed = packed;
   proper = proper_alone c q j can packed short;
   sent = λ antenna said. none_more c antenna ms old;
-  numbered = subst (λ (l : List (Message UplinkJob)). Numbered c u l) (sym (onto_none ms)) n;
+  numbered = subst (λ (l : List (Message UplinkJob)). AreNumbered c u l) (sym (onto_none ms)) n;
 }
 
 pub stopped : (c : Config) (ms : List (Message UplinkJob)) (antenna : Antenna) (p : Pending) (om : Option (Message UplinkJob)) (j : UplinkJob) (old new : List LinkFrame) (o : OpenIs c p om)
-    → takes_job c o.message j ≡ false → SentSome (message_frames c antenna ms o.message) old new → StoppedAtJob c ms antenna om j old new
+    → takes_job c o.message j ≡ false → SentSome (uplink_message_frames c antenna ms o.message) old new → StoppedAtJob c ms antenna om j old new
 stopped c ms antenna p om j old new o is some = record {
   closed = o.message ∷ [];
   rest = λ js. messages_behind c (alone j) js;

@@ -6,10 +6,10 @@ use Rattle.window_config.specs.declared.endpoints.EndpointConfig.{EndpointConfig
 use Rattle.uplink_model.specs.unit_model.specs.ProperJobs.{IsProperJob}
 use Rattle.uplink_model.specs.unit_model.specs.declared.jobs.UplinkJob.{UplinkJob}
 use Rattle.uplink_model.specs.plan_model.specs.Packs.{Message, parts_of, size_of}
-use Rattle.uplink_model.specs.Messages.{job_fields, messages_behind, messages_of}
+use Rattle.uplink_model.specs.Messages.{job_fields, messages_behind, uplink_messages_of}
 use Rattle.uplink_path.specs.Packing.{IsPacked}
 use Rattle.uplink_path.specs.Sending.{SentSome}
-use Rattle.uplink_path.specs.Emitting.{Numbered}
+use Rattle.uplink_path.specs.Emitting.{AreNumbered}
 use Rattle.uplink_path.specs.declared.pending.Pending.{Pending}
 use Rattle.uplink_path.specs.declared.uplink.Uplink.{Uplink}
 use Rattle.uplink_model.specs.air_source.specs.Answers.{AnswersBy}
@@ -19,6 +19,7 @@ use Rattle.bfp_codec.specs.declared.samples.Wide.{Wide}
 use Rattle.std.specs.Prelude.{ℤ, pos, ◌^◌, ◌≤ℤ◌, ◌++◌, ◌∷◌}
 use Rattle.uplink_model.specs.unit_model.specs.Lists.{onto}
 use Rattle.uplink_model.specs.Frames.{Antenna, frames_behind}
+use Rattle.window_config.specs.declared.config.TheConstants.{MESSAGE_SECTIONS}
 
 -- a job of a message of an endpoint
 pub record IsPartOf (e : EndpointConfig) (ep : ℕ) (j : UplinkJob) : Type 0 where
@@ -33,7 +34,7 @@ pub record IsProperMessage (c : Config) (m : Message UplinkJob) : Type 0 where
   pub high : to ≤ℤ pos (2 ^ 53)
   pub parts : All (IsPartOf first.endpoint m.first.ep) (parts_of m)
   pub size : size_of (job_fields c.endpoints) m ≤ 16384
-  pub few : length (parts_of m) ≤ 64
+  pub few : length (parts_of m) ≤ MESSAGE_SECTIONS
 
 -- a job that may be sent
 pub record CanTake (c : Config) (j : UplinkJob) : Type 0 where
@@ -53,13 +54,13 @@ pub record CanPack {F : Type 0} (u : Uplink F) (opened : Option Pending) (j : Up
   pub config : Config
   pub messages : List (Message UplinkJob)
   pub message : Option (Message UplinkJob)
-  pub numbered : Numbered config u messages
+  pub numbered : AreNumbered config u messages
   pub is_open : IsOpen config opened message
   pub can : CanTake config j
 
 -- the messages that these jobs make behind the one that is open
 abbrev pub messages_from : Config → Option (Message UplinkJob) → List UplinkJob → List (Message UplinkJob)
-messages_from c None js = messages_of c js
+messages_from c None js = uplink_messages_of c js
 messages_from c (Some m) js = messages_behind c m js
 
 -- a job was taken: the messages that were closed by it were sent, and one is open
@@ -71,7 +72,7 @@ pub record TookJob {F : Type 0} (post : RePlace → Wide → Type 0) (c : Config
   pub packed : IsPacked c p message
   pub proper : IsProperMessage c message
   pub sent : (antenna : Antenna) → AnswersBy post antenna → new ≡ old ++ frames_behind c antenna ms closed
-  pub numbered : Numbered c u (onto ms closed)
+  pub numbered : AreNumbered c u (onto ms closed)
 
 -- the first frames of the message that the job closes were sent
 pub record StoppedAtJob (c : Config) (ms : List (Message UplinkJob)) (antenna : Antenna) (opened : Option (Message UplinkJob)) (j : UplinkJob) (old new : List LinkFrame) : Type 0 where

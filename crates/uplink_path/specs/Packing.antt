@@ -7,6 +7,7 @@ use Rattle.uplink_model.specs.frame_bytes.specs.declared.messages.DataSection.{D
 use Rattle.uplink_model.specs.Frames.{section_of}
 use Rattle.uplink_model.specs.Messages.{job_fields}
 use Rattle.uplink_path.specs.declared.pending.Pending.{Pending}
+use Rattle.window_config.specs.declared.config.TheConstants.{MESSAGE_SECTIONS}
 
 -- its sections
 abbrev pub sections_in : Pending → List DataSection
@@ -15,7 +16,7 @@ sections_in p = take p.count p.sections
 -- it is this message
 pub record IsPacked (c : Config) (p : Pending) (m : Message UplinkJob) : Type 0 where
   pub first : p.first ≡ m.first
-  pub room : length p.sections ≡ 64
+  pub room : length p.sections ≡ MESSAGE_SECTIONS
   pub count : p.count ≡ length (parts_of m)
   pub sections : sections_in p ≡ map section_of (parts_of m)
   pub size : p.size ≡ size_of (job_fields c.endpoints) m

@@ -10,11 +10,14 @@ use Rattle.uplink_model.specs.plan_model.specs.Departures.{departures_of}
 use Rattle.uplink_model.specs.plan_model.specs.Packs.{Message}
 use Rattle.uplink_model.specs.plan_model.specs.declared.streams.Stream.TheVariants.{UpData}
 use Rattle.uplink_model.specs.frame_bytes.specs.Messages.{MessageFits, message_size}
-use Rattle.uplink_model.specs.Frames.{carrier_of, head_of}
+use Rattle.uplink_model.specs.Frames.{head_of}
 use Rattle.uplink_path.specs.Packing.{IsPacked, sections_in}
 use Rattle.uplink_path.specs.declared.pending.Pending.{Pending}
 use Rattle.uplink_path.specs.declared.rules.Rules.{Rules}
 use Rattle.uplink_path.specs.declared.rules.Run.{Run}
+use Rattle.fh_time.specs.declared.symbols.TheConstants.{SLOT_SYMBOLS}
+use Rattle.window_config.specs.declared.config.TheConstants.{MESSAGE_SECTIONS}
+use Rattle.uplink_model.specs.frame_bytes.specs.Headers.{carrier_of}
 
 abbrev pub rules_of : Config → Rules
 rules_of c = record { fragment = c.fragment; pack = c.pack; departures = departures_of c UpData }
@@ -43,8 +46,8 @@ pub record CanBeSent (r : Rules) (e : EndpointConfig) (p : Pending) : Type 0 whe
   pub endpoint : IsEndpoint e
   pub low : neg_ℤ (pos (2 ^ 56)) ≤ℤ p.first.s.0
   pub high : p.first.s.0 ≤ℤ pos (2 ^ 56)
-  pub symbol : p.first.symbol < 14
-  pub count : p.count ≤ 64
+  pub symbol : p.first.symbol < SLOT_SYMBOLS
+  pub count : p.count ≤ MESSAGE_SECTIONS
   pub fits : MessageFits (carrier_of e) (head_of p.first) (sections_in p)
   pub size : p.size ≡ message_size (carrier_of e) (sections_in p)
 

@@ -11,10 +11,7 @@ use uplane_sections::UHead;
 use uplink_model::frame_bytes::DataSection;
 use uplink_model::plan_model::section_size;
 use uplink_model::unit_model::UplinkJob;
-use window_config::EndpointConfig;
-
-/// The most sections of a message.
-pub(crate) const MOST_SECTIONS: usize = 64;
+use window_config::{EndpointConfig, MESSAGE_SECTIONS};
 
 /// The most application bytes of a message.
 const MOST_BYTES: usize = 16_384;
@@ -23,7 +20,7 @@ const MOST_BYTES: usize = 16_384;
 #[derive(Clone, Copy, Debug)]
 pub(crate) struct Pending {
     pub(crate) first: UplinkJob,
-    pub(crate) sections: [DataSection; 64],
+    pub(crate) sections: [DataSection; MESSAGE_SECTIONS],
     pub(crate) count: usize,
     /// Its application bytes.
     pub(crate) size: usize,
@@ -69,7 +66,7 @@ impl Pending {
             id: 0,
             start_prb: 0,
             num_prb: 0,
-        }; MOST_SECTIONS];
+        }; MESSAGE_SECTIONS];
         sections[0] = section_of(job);
         Pending {
             first: *job,

@@ -6,11 +6,14 @@ ghost use Rattle.uplink_model.specs.frame_bytes.specs.Cuts.{piece_frame};
 ghost use Rattle.uplink_model.specs.frame_bytes.specs.Messages.{MessageFits, message_of, message_size};
 ghost use Rattle.uplink_model.specs.plan_model.specs.Packs.{Message};
 ghost use Rattle.uplink_model.specs.unit_model.specs.declared.jobs.UplinkJob.{UplinkJob as SpecJob};
-ghost use Rattle.uplink_model.specs.Frames.{Antenna, carrier_of, frames_from, head_of, samples_of};
+ghost use Rattle.uplink_model.specs.Frames.{Antenna, uplink_frames_from, head_of, samples_of};
 ghost use Rattle.uplink_model.specs.Messages.{frame_count};
 ghost use Rattle.uplink_path.specs.Packing.{sections_in};
 ghost use Rattle.uplink_path.specs.Sending.{CanBeSent, IsBehind, SentSome, wait_behind};
 ghost use Rattle.window_config.specs.declared.config.Config.{Config as SpecConfig};
+ghost use Rattle.fh_time.specs.declared.symbols.TheConstants.{SLOT_SYMBOLS};
+ghost use Rattle.window_config.specs.declared.config.TheConstants.{MESSAGE_SECTIONS};
+ghost use Rattle.uplink_model.specs.frame_bytes.specs.Headers.{carrier_of};
 
 use crate::pending::{Pending, head_of};
 use crate::rules::Rules;
@@ -32,9 +35,9 @@ fn write_piece<F: Fn(RePlace) -> Wide>(
     into: &mut [u8],
 ) -> usize
     requires kept { IsKept F.pre F.post antenna.now }
-    requires symbol { message.now.first.symbol < 14 }
+    requires symbol { message.now.first.symbol < SLOT_SYMBOLS }
     requires prbs { endpoint.now.prbs ≤ 273 }
-    requires count { message.now.count ≤ 64 }
+    requires count { message.now.count ≤ MESSAGE_SECTIONS }
     requires fits { MessageFits (carrier_of endpoint.now) (head_of message.now.first) (sections_in message.now) }
     requires sub { seq.sub < 128 }
     requires order { span.from ≤ span.to }
@@ -58,7 +61,7 @@ fn write_piece<F: Fn(RePlace) -> Wide>(
     let (slot, symbol) = (first.slot, first.symbol);
     let source = |_place: usize, prb: u16| -> [Iq; 12]
         requires kept { IsKept F.pre F.post antenna.now }
-        requires symbol { symbol < 14 }
+        requires symbol { symbol < SLOT_SYMBOLS }
         requires prb { prb < 273 }
         ensures { (answer : Antenna) → AnswersBy (F.post (closure_of antenna.entry.now)) answer → result ≡ block_of answer id slot symbol prb }
     { antenna.block(id, slot, symbol, prb) };
@@ -83,12 +86,12 @@ pub(crate) fn send_message<F: Fn(RePlace) -> Wide, L: Link>(
     ensures len { length buffer.new ≡ length buffer.old }
     ensures sent { (c : SpecConfig) (answer : Antenna) (m : Message SpecJob) (n before : ℕ) → AnswersBy (F.post (closure_of antenna.now)) answer
         → IsBehind c rules.now message.now number wait m n before
-        → OnOk result (L.sent link.new ≡ L.sent link.old ++ frames_from c answer endpoint.now m n before 0 (frame_count c m)) }
+        → OnOk result (L.sent link.new ≡ L.sent link.old ++ uplink_frames_from c answer endpoint.now m n before 0 (frame_count c m)) }
     ensures wait { (c : SpecConfig) (m : Message SpecJob) (n before : ℕ) → IsBehind c rules.now message.now number wait m n before
         → IfOk result (λ w. w ≡ wait_behind c (before + frame_count c m)) }
     ensures err { (c : SpecConfig) (answer : Antenna) (m : Message SpecJob) (n before : ℕ) → AnswersBy (F.post (closure_of antenna.now)) answer
         → IsBehind c rules.now message.now number wait m n before
-        → OnErr result (SentSome (frames_from c answer endpoint.now m n before 0 (frame_count c m)) (L.sent link.old) (L.sent link.new)) }
+        → OnErr result (SentSome (uplink_frames_from c answer endpoint.now m n before 0 (frame_count c m)) (L.sent link.old) (L.sent link.new)) }
 {
     let count = frame_count(rules.fragment, message.size);
     let mut next = wait;

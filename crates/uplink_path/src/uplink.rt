@@ -6,7 +6,7 @@ ghost use Rattle.uplink_model.specs.plan_model.specs.Packs.{Message};
 ghost use Rattle.uplink_model.specs.unit_model.specs.ProperJobs.{IsProperJob};
 ghost use Rattle.uplink_model.specs.unit_model.specs.Standing.{History};
 ghost use Rattle.uplink_model.specs.unit_model.specs.declared.jobs.UplinkJob.{UplinkJob as SpecJob};
-ghost use Rattle.uplink_model.specs.Frames.{Antenna, frames_behind, message_frames};
+ghost use Rattle.uplink_model.specs.Frames.{Antenna, frames_behind, uplink_message_frames};
 ghost use Rattle.uplink_model.specs.unit_model.specs.Lists.{onto};
 ghost use Rattle.uplink_path.specs.Packing.{IsPacked};
 ghost use Rattle.uplink_path.specs.Sending.{SentSome};
@@ -41,7 +41,7 @@ pub struct Uplink<F: Fn(RePlace) -> Wide> {
 }
 
 impl<F: Fn(RePlace) -> Wide> Uplink<F> {
-    ghost use Rattle.uplink_path.specs.Emitting.{HasFailed, MaySend, Numbered, SentAll, SentFirst};
+    ghost use Rattle.uplink_path.specs.Emitting.{HasFailed, MaySend, AreNumbered, SentAll, SentFirst, HasNotFailed, kept_antenna};
     ghost use Rattle.uplink_path.specs.Opened.{CanPack, CanTake, IsOpen, IsProperMessage, StoppedAtJob, TookJob, messages_from};
 
     /// What sends the frames of a unit of this configuration, with the samples of this antenna.
@@ -51,8 +51,8 @@ impl<F: Fn(RePlace) -> Wide> Uplink<F> {
     /// [`NoMemory`] where memory runs out.
     pub fn make(alloc: Global, config: &Config, antenna: Samples<F>) -> Result<Uplink<F>, NoMemory>
         requires config { IsConfig config.now }
-        ensures numbered { IfOk result (λ u. Numbered config.now u []) }
-        ensures antenna { IfOk result (λ u. u.antenna ≡ antenna) }
+        ensures numbered { IfOk result (λ u. AreNumbered config.now u []) }
+        ensures antenna { IfOk result (λ u. kept_antenna u ≡ antenna) }
     {
         let endpoints = Vec::from_slice(alloc, config.endpoints.as_slice())?;
         let buffer = Vec::from_elem(alloc, 0u8, 8 + config.fragment)?;
@@ -70,14 +70,14 @@ impl<F: Fn(RePlace) -> Wide> Uplink<F> {
     /// Hands over the frames of one message.
     fn send<L: Link>(&mut self, message: &Pending, link: &mut L) -> Result<(), NoMemory>
         requires kept { IsKept F.pre F.post self.old.antenna }
-        requires some { (c : SpecConfig) × (ms : List (Message SpecJob)) × (m : Message SpecJob) × Numbered c self.old ms × IsPacked c message.now m × IsProperMessage c m }
+        requires some { (c : SpecConfig) × (ms : List (Message SpecJob)) × (m : Message SpecJob) × AreNumbered c self.old ms × IsPacked c message.now m × IsProperMessage c m }
         ensures antenna { self.new.antenna ≡ self.old.antenna }
         ensures sent { (c : SpecConfig) (answer : Antenna) (ms : List (Message SpecJob)) (m : Message SpecJob) → AnswersBy (F.post (closure_of self.old.antenna)) answer
-            → Numbered c self.old ms → IsPacked c message.now m → IsProperMessage c m → OnOk result (L.sent link.new ≡ L.sent link.old ++ message_frames c answer ms m) }
+            → AreNumbered c self.old ms → IsPacked c message.now m → IsProperMessage c m → OnOk result (L.sent link.new ≡ L.sent link.old ++ uplink_message_frames c answer ms m) }
         ensures numbered { (c : SpecConfig) (ms : List (Message SpecJob)) (m : Message SpecJob)
-            → Numbered c self.old ms → IsPacked c message.now m → IsProperMessage c m → OnOk result (Numbered c self.new (m ∷ ms)) }
+            → AreNumbered c self.old ms → IsPacked c message.now m → IsProperMessage c m → OnOk result (AreNumbered c self.new (m ∷ ms)) }
         ensures err { (c : SpecConfig) (answer : Antenna) (ms : List (Message SpecJob)) (m : Message SpecJob) → AnswersBy (F.post (closure_of self.old.antenna)) answer
-            → Numbered c self.old ms → IsPacked c message.now m → IsProperMessage c m → OnErr result (SentSome (message_frames c answer ms m) (L.sent link.old) (L.sent link.new)) }
+            → AreNumbered c self.old ms → IsPacked c message.now m → IsProperMessage c m → OnErr result (SentSome (uplink_message_frames c answer ms m) (L.sent link.old) (L.sent link.new)) }
     {
         let first = message.first;
         let endpoint = self.endpoints[first.ep];
@@ -113,10 +113,10 @@ impl<F: Fn(RePlace) -> Wide> Uplink<F> {
         requires kept { IsKept F.pre F.post self.old.antenna }
         requires some { CanPack self.old opened job.now }
         ensures antenna { self.new.antenna ≡ self.old.antenna }
-        ensures took { (c : SpecConfig) (ms : List (Message SpecJob)) (m : Option (Message SpecJob)) → Numbered c self.old ms → IsOpen c opened m → CanTake c job.now
+        ensures took { (c : SpecConfig) (ms : List (Message SpecJob)) (m : Option (Message SpecJob)) → AreNumbered c self.old ms → IsOpen c opened m → CanTake c job.now
             → IfOk result (λ p. TookJob (F.post (closure_of self.old.antenna)) c ms m job.now self.new p (L.sent link.old) (L.sent link.new)) }
         ensures err { (c : SpecConfig) (answer : Antenna) (ms : List (Message SpecJob)) (m : Option (Message SpecJob)) → AnswersBy (F.post (closure_of self.old.antenna)) answer
-            → Numbered c self.old ms → IsOpen c opened m → CanTake c job.now → OnErr result (StoppedAtJob c ms answer m job.now (L.sent link.old) (L.sent link.new)) }
+            → AreNumbered c self.old ms → IsOpen c opened m → CanTake c job.now → OnErr result (StoppedAtJob c ms answer m job.now (L.sent link.old) (L.sent link.new)) }
     {
         let endpoint = self.endpoints[job.ep];
         if let Some(mut message) = opened {
@@ -132,14 +132,14 @@ impl<F: Fn(RePlace) -> Wide> Uplink<F> {
     /// Sends the message that is open, if there is one.
     fn close<L: Link>(&mut self, opened: Option<Pending>, link: &mut L) -> Result<(), NoMemory>
         requires kept { IsKept F.pre F.post self.old.antenna }
-        requires some { (c : SpecConfig) × (ms : List (Message SpecJob)) × (m : Option (Message SpecJob)) × Numbered c self.old ms × IsOpen c opened m }
+        requires some { (c : SpecConfig) × (ms : List (Message SpecJob)) × (m : Option (Message SpecJob)) × AreNumbered c self.old ms × IsOpen c opened m }
         ensures antenna { self.new.antenna ≡ self.old.antenna }
         ensures sent { (c : SpecConfig) (answer : Antenna) (ms : List (Message SpecJob)) (m : Option (Message SpecJob)) → AnswersBy (F.post (closure_of self.old.antenna)) answer
-            → Numbered c self.old ms → IsOpen c opened m → OnOk result (L.sent link.new ≡ L.sent link.old ++ frames_behind c answer ms (messages_from c m [])) }
+            → AreNumbered c self.old ms → IsOpen c opened m → OnOk result (L.sent link.new ≡ L.sent link.old ++ frames_behind c answer ms (messages_from c m [])) }
         ensures numbered { (c : SpecConfig) (ms : List (Message SpecJob)) (m : Option (Message SpecJob))
-            → Numbered c self.old ms → IsOpen c opened m → OnOk result (Numbered c self.new (onto ms (messages_from c m []))) }
+            → AreNumbered c self.old ms → IsOpen c opened m → OnOk result (AreNumbered c self.new (onto ms (messages_from c m []))) }
         ensures err { (c : SpecConfig) (answer : Antenna) (ms : List (Message SpecJob)) (m : Option (Message SpecJob)) → AnswersBy (F.post (closure_of self.old.antenna)) answer
-            → Numbered c self.old ms → IsOpen c opened m → OnErr result (SentSome (frames_behind c answer ms (messages_from c m [])) (L.sent link.old) (L.sent link.new)) }
+            → AreNumbered c self.old ms → IsOpen c opened m → OnErr result (SentSome (frames_behind c answer ms (messages_from c m [])) (L.sent link.old) (L.sent link.new)) }
     {
         match opened {
             Some(message) => self.send(&message, link),
@@ -151,10 +151,10 @@ impl<F: Fn(RePlace) -> Wide> Uplink<F> {
     fn emit_all<L: Link>(&mut self, ru: &mut Ru, link: &mut L) -> Result<(), NoMemory>
         requires { MaySend F.pre F.post self.old ru.old }
         ensures antenna { self.new.antenna ≡ self.old.antenna }
-        ensures sent { (c : SpecConfig) (h : History) (ms : List (Message SpecJob)) → Numbered c self.old ms → StandsFor c ru.old h
+        ensures sent { (c : SpecConfig) (h : History) (ms : List (Message SpecJob)) → AreNumbered c self.old ms → StandsFor c ru.old h
             → OnOk result (SentAll (F.post (closure_of self.old.antenna)) c h ms self.new ru.new (L.sent link.old) (L.sent link.new)) }
         ensures given { OnOk result (HasGivenPast ru.new) }
-        ensures err { (c : SpecConfig) (h : History) (ms : List (Message SpecJob)) → Numbered c self.old ms → StandsFor c ru.old h
+        ensures err { (c : SpecConfig) (h : History) (ms : List (Message SpecJob)) → AreNumbered c self.old ms → StandsFor c ru.old h
             → OnErr result (SentFirst (F.post (closure_of self.old.antenna)) c h ms ru.new (L.sent link.old) (L.sent link.new)) }
     {
         let mut opened = None;
@@ -171,13 +171,13 @@ impl<F: Fn(RePlace) -> Wide> Uplink<F> {
     ///
     /// [`NoMemory`] where the link has no room for a frame.
     pub fn emit<L: Link>(&mut self, ru: &mut Ru, link: &mut L) -> Result<(), NoMemory>
-        requires { self.old.failed ≡ false → MaySend F.pre F.post self.old ru.old }
-        ensures antenna { self.new.antenna ≡ self.old.antenna }
-        ensures sent { (c : SpecConfig) (h : History) (ms : List (Message SpecJob)) → Numbered c self.old ms → StandsFor c ru.old h
-            → OnOk result (SentAll (F.post (closure_of self.old.antenna)) c h ms self.new ru.new (L.sent link.old) (L.sent link.new)) }
+        requires { HasNotFailed self.old → MaySend F.pre F.post self.old ru.old }
+        ensures antenna { kept_antenna self.new ≡ kept_antenna self.old }
+        ensures sent { (c : SpecConfig) (h : History) (ms : List (Message SpecJob)) → AreNumbered c self.old ms → StandsFor c ru.old h
+            → OnOk result (SentAll (F.post (closure_of (kept_antenna self.old))) c h ms self.new ru.new (L.sent link.old) (L.sent link.new)) }
         ensures given { OnOk result (HasGivenPast ru.new) }
-        ensures err { (c : SpecConfig) (h : History) (ms : List (Message SpecJob)) → Numbered c self.old ms → StandsFor c ru.old h
-            → OnErr result (SentFirst (F.post (closure_of self.old.antenna)) c h ms ru.new (L.sent link.old) (L.sent link.new)) }
+        ensures err { (c : SpecConfig) (h : History) (ms : List (Message SpecJob)) → AreNumbered c self.old ms → StandsFor c ru.old h
+            → OnErr result (SentFirst (F.post (closure_of (kept_antenna self.old))) c h ms ru.new (L.sent link.old) (L.sent link.new)) }
         ensures failed { OnErr result (HasFailed self.new) }
         ensures stays { HasFailed self.old → IsErr result }
         ensures idle { HasFailed self.old → ru.new ≡ ru.old }

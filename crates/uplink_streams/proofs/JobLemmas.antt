@@ -21,10 +21,9 @@ use Rattle.uplink_model.specs.unit_model.specs.Times.{end_of_time}
 use Rattle.uplink_model.specs.unit_model.specs.Uplink.{is_before, job_of, jobs, sends_in, symbol_jobs}
 use Rattle.uplink_model.specs.unit_model.specs.declared.allocations.Allocation.{Allocation}
 use Rattle.uplink_model.specs.unit_model.specs.declared.jobs.UplinkJob.{UplinkJob}
-use Rattle.schedule_laws.specs.unit_laws.proofs.CellLemmas.{slots_equal}
 use Rattle.schedule_laws.specs.unit_laws.proofs.FarLemmas.{endpoints_equal}
 use Rattle.schedule_laws.specs.unit_laws.proofs.SweepLemmas.{IsKept, at_tick_related, each_tick_related, of_endpoint_related, sweep_related}
-use Rattle.uplink_model.specs.plan_model.specs.Lines.{allocation_of}
+use Rattle.uplink_model.specs.plan_model.specs.Lines.{line_allocation}
 use Rattle.uplink_model.specs.plan_model.specs.Streams.{Part, line_before, part_in, parts_in, symbol_parts}
 use Rattle.uplink_model.specs.plan_model.specs.declared.lines.PlannedLine.{PlannedLine}
 use Rattle.uplink_model.specs.plan_model.specs.declared.streams.Stream.TheVariants.{UpData}
@@ -32,6 +31,7 @@ use Rattle.schedule_laws.specs.plan_model.proofs.ListLemmas.{in_either, of_filte
 use Rattle.schedule_laws.proofs.ListLemmas.{IsAll, all_kept, of_map, of_symbols}
 use Rattle.uplink_streams.specs.Streams.{job_for, planned_allocations}
 use Rattle.uplink_streams.proofs.ListLemmas.{InOrder, filter_all, filter_none, map_map, map_same, of_order, order_all, order_join, order_mapped}
+use Rattle.uplink_model.specs.unit_model.proofs.ClaimLemmas.{same_slot_is as slots_equal}
 
 -- ---- what each job is of
 
@@ -104,18 +104,18 @@ module _ (g : OfSymbol UplinkJob) (own : (ep : ℕ) (e : EndpointConfig) (slot :
 
 module _ (es : List EndpointConfig) (ps : List PlannedLine) (stand : (p : PlannedLine) → IsIn p ps → IsAt es p.ep p.endpoint) where
   -- a line that sends in a symbol is there the part's job
-  one_job : (ep : ℕ) (e : EndpointConfig) (slot : Slot) (symbol : ℕ) (p : PlannedLine) → IsAt es ep e → IsAt es p.ep p.endpoint → sends_in ep slot symbol (allocation_of p) ≡ true
-      → job_of ep (air_of e.numerology slot symbol) slot symbol (allocation_of p) ≡ job_for (part_in symbol p)
+  one_job : (ep : ℕ) (e : EndpointConfig) (slot : Slot) (symbol : ℕ) (p : PlannedLine) → IsAt es ep e → IsAt es p.ep p.endpoint → sends_in ep slot symbol (line_allocation p) ≡ true
+      → job_of ep (air_of e.numerology slot symbol) slot symbol (line_allocation p) ≡ job_for (part_in symbol p)
   one_job ep e slot symbol p at place sends =
-      let one = and_parts (is_uplink (allocation_of p)) _ sends in
+      let one = and_parts (is_uplink (line_allocation p)) _ sends in
       let two = and_parts (p.ep == ep) _ one.1 in
       let three = and_parts (same_slot p.line.slot slot) (is_from p.line.symbol p.line.count symbol) two.1 in
       let ep_is : p.ep ≡ ep = eqb-true p.ep ep two.0 in
       let endpoint_is : p.endpoint ≡ e = endpoints_equal es p.ep ep p.endpoint e place at ep_is in
       let slot_is : p.line.slot ≡ slot = slots_equal p.line.slot slot three.0 in
-      ap (λ (k : ℕ). job_of k (air_of e.numerology slot symbol) slot symbol (allocation_of p)) (sym ep_is)
-      ∙ ap (λ (f : EndpointConfig). job_of p.ep (air_of f.numerology slot symbol) slot symbol (allocation_of p)) (sym endpoint_is)
-      ∙ ap (λ (s : Slot). job_of p.ep (air_of p.endpoint.numerology s symbol) s symbol (allocation_of p)) (sym slot_is)
+      ap (λ (k : ℕ). job_of k (air_of e.numerology slot symbol) slot symbol (line_allocation p)) (sym ep_is)
+      ∙ ap (λ (f : EndpointConfig). job_of p.ep (air_of f.numerology slot symbol) slot symbol (line_allocation p)) (sym endpoint_is)
+      ∙ ap (λ (s : Slot). job_of p.ep (air_of p.endpoint.numerology s symbol) s symbol (line_allocation p)) (sym slot_is)
 
   symbol_is : (ep : ℕ) (e : EndpointConfig) (slot : Slot) (symbol : ℕ) → IsAt es ep e
       → symbol_jobs (planned_allocations ps) ep e slot symbol ≡ map job_for (symbol_parts UpData ps ep slot symbol)
@@ -123,13 +123,13 @@ module _ (es : List EndpointConfig) (ps : List PlannedLine) (stand : (p : Planne
   symbol_is ep e slot symbol at =
       let make : Allocation → UplinkJob = job_of ep (air_of e.numerology slot symbol) slot symbol in
       let test : Allocation → Bool = sends_in ep slot symbol in
-      let sent : List PlannedLine = filter (λ (p : PlannedLine). test (allocation_of p)) ps in
-      ap (λ (xs : List Allocation). map make (in_order is_before (filter test xs))) (reverse-reverse (map allocation_of ps))
-      ∙ ap (λ (xs : List Allocation). map make (in_order is_before xs)) (filter_mapped allocation_of test ps)
-      ∙ ap (λ (xs : List Allocation). map make xs) (order_mapped allocation_of is_before sent)
-      ∙ map_map allocation_of make (in_order line_before sent)
-      ∙ map_same (λ (p : PlannedLine). make (allocation_of p)) (λ (p : PlannedLine). job_for (part_in symbol p)) (in_order line_before sent) (λ p m.
-      (let w = of_filter (λ (q : PlannedLine). test (allocation_of q)) p ps (of_order line_before p sent m) in
+      let sent : List PlannedLine = filter (λ (p : PlannedLine). test (line_allocation p)) ps in
+      ap (λ (xs : List Allocation). map make (in_order is_before (filter test xs))) (reverse-reverse (map line_allocation ps))
+      ∙ ap (λ (xs : List Allocation). map make (in_order is_before xs)) (filter_mapped line_allocation test ps)
+      ∙ ap (λ (xs : List Allocation). map make xs) (order_mapped line_allocation is_before sent)
+      ∙ map_map line_allocation make (in_order line_before sent)
+      ∙ map_same (λ (p : PlannedLine). make (line_allocation p)) (λ (p : PlannedLine). job_for (part_in symbol p)) (in_order line_before sent) (λ p m.
+      (let w = of_filter (λ (q : PlannedLine). test (line_allocation q)) p ps (of_order line_before p sent m) in
       one_job ep e slot symbol p at (stand p w.0) w.1))
       ∙ sym (map_map (part_in symbol) job_for (in_order line_before sent))
 
@@ -168,10 +168,10 @@ module _ (ps : List PlannedLine) (ep : ℕ) (e : EndpointConfig) where
   symbol_part : (slot : Slot) (symbol : ℕ) (x : Part) → IsIn x (symbol_parts UpData ps ep slot symbol) → IsOwnPart x
   unfolding symbol_parts
   symbol_part slot symbol x m =
-      let sent : List PlannedLine = filter (λ (p : PlannedLine). sends_in ep slot symbol (allocation_of p)) ps in
+      let sent : List PlannedLine = filter (λ (p : PlannedLine). sends_in ep slot symbol (line_allocation p)) ps in
       let w = of_map (part_in symbol) x (in_order line_before sent) m in
-      let v = of_filter (λ (p : PlannedLine). sends_in ep slot symbol (allocation_of p)) w.0 ps (of_order line_before w.0 sent w.1) in
-      let one = and_parts (is_uplink (allocation_of w.0)) _ v.1 in
+      let v = of_filter (λ (p : PlannedLine). sends_in ep slot symbol (line_allocation p)) w.0 ps (of_order line_before w.0 sent w.1) in
+      let one = and_parts (is_uplink (line_allocation w.0)) _ v.1 in
       let two = and_parts (w.0.ep == ep) _ one.1 in
       subst IsOwnPart (sym w.2) (v.0, eqb-true w.0.ep ep two.0)
 

@@ -10,13 +10,13 @@ use Rattle.window_config.specs.declared.config.Config.{Config}
 use Rattle.window_config.specs.declared.endpoints.EndpointConfig.{EndpointConfig}
 use Rattle.uplink_model.specs.unit_model.specs.Claims.{same_slot}
 use Rattle.uplink_model.specs.unit_model.specs.declared.jobs.UplinkJob.{UplinkJob}
-use Rattle.schedule_laws.specs.unit_laws.proofs.CellLemmas.{slots_equal}
 use Rattle.schedule_laws.specs.unit_laws.proofs.FarLemmas.{endpoints_equal}
 use Rattle.uplink_model.specs.plan_model.specs.Packs.{Message, PartFields, alone, packs, packs_behind, parts_of, same_symbol, size_of, takes, with_part}
 use Rattle.schedule_laws.specs.plan_model.proofs.ListLemmas.{of_filter}
-use Rattle.uplink_model.specs.Messages.{job_fields, messages_behind, messages_of, takes_job}
+use Rattle.uplink_model.specs.Messages.{job_fields, messages_behind, uplink_messages_of, takes_job}
 use Rattle.uplink_streams.proofs.JobLemmas.{IsTimed, MayPrecede}
 use Rattle.uplink_streams.proofs.ListLemmas.{InOrder}
+use Rattle.uplink_model.specs.unit_model.proofs.ClaimLemmas.{same_slot_is as slots_equal}
 
 -- ---- two jobs of an endpoint that start apart are of two symbols
 
@@ -157,7 +157,7 @@ module _ (c : Config) (ep : ℕ) where
       go false k joined next = taken (takes_job c m j) joined (next false k)
 
   pub messages_found : (js : List UplinkJob) → ((j : UplinkJob) → IsIn j js → IsTimed c.endpoints j) → InOrder MayPrecede js
-      → filter is_own (messages_of c js) ≡ packs f c.pack (filter own js)
+      → filter is_own (uplink_messages_of c js) ≡ packs f c.pack (filter own js)
   messages_found [] timed order = refl
   messages_found (j ∷ js) timed order = go (j.ep == ep) (finds (alone j) js (j.ep == ep) refl (timed j (inl refl)) (λ x i. timed x (inr i)) order.0 order.1)
     where
@@ -187,7 +187,7 @@ module _ (c : Config) where
         | inr t ↦ elim (next t) [ inl e ↦ inr (inl e) | inr u ↦ inr (inr u) ]
       ]
 
-  pub message_first : (js : List UplinkJob) (n : Message UplinkJob) → IsIn n (messages_of c js) → IsIn n.first js
+  pub message_first : (js : List UplinkJob) (n : Message UplinkJob) → IsIn n (uplink_messages_of c js) → IsIn n.first js
   message_first [] n i = absurd i
   message_first (j ∷ js) n i = elim (first_from (alone j) js n i) [ inl e ↦ inl e | inr t ↦ inr t ]
 
@@ -205,6 +205,6 @@ module _ (c : Config) where
         next,
       )
 
-  pub messages_order : (js : List UplinkJob) → InOrder MayPrecede js → InOrder MayLead (messages_of c js)
+  pub messages_order : (js : List UplinkJob) → InOrder MayPrecede js → InOrder MayLead (uplink_messages_of c js)
   messages_order [] order = tt
   messages_order (j ∷ js) order = behind_order (alone j) js order.0 order.1

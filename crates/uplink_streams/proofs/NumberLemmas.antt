@@ -8,15 +8,15 @@ use Rattle.fragment_laws.specs.Apart.{IsIn}
 use Rattle.window_config.specs.declared.config.Config.{Config}
 use Rattle.uplink_model.specs.unit_model.specs.Claims.{same_slot}
 use Rattle.uplink_model.specs.unit_model.specs.declared.jobs.UplinkJob.{UplinkJob}
-use Rattle.schedule_laws.specs.unit_laws.proofs.CellLemmas.{slots_equal}
 use Rattle.uplink_model.specs.plan_model.specs.Packs.{Message, Numbered, PartFields, numbered_behind as packs_numbered, frames_before as packs_before, same_symbol as same_part}
-use Rattle.schedule_laws.specs.plan_model.proofs.SlotLemmas.{slot_own, eqb_swap}
+use Rattle.schedule_laws.specs.plan_model.proofs.SlotLemmas.{eqb_swap}
 use Rattle.schedule_laws.specs.plan_model.proofs.ListLemmas.{of_filter}
-use Rattle.uplink_model.specs.Messages.{frame_count, frames_before, job_fields, number_behind, same_symbol}
-use Rattle.uplink_streams.specs.Streams.{is_of, numbered_behind}
+use Rattle.uplink_model.specs.Messages.{frame_count, uplink_frames_before, job_fields, number_behind, same_job_symbol}
+use Rattle.uplink_streams.specs.Streams.{is_message_of, jobs_numbered_behind}
 use Rattle.uplink_streams.proofs.JobLemmas.{IsTimed, MayPrecede}
 use Rattle.uplink_streams.proofs.ListLemmas.{InOrder}
 use Rattle.uplink_streams.proofs.MessageLemmas.{MayLead, passes, symbols_differ}
+use Rattle.uplink_model.specs.unit_model.proofs.ClaimLemmas.{same_slot_is as slots_equal, slot_self as slot_own}
 
 slot_swap : (a b : Slot) → same_slot a b ≡ same_slot b a
 slot_swap a b =
@@ -32,13 +32,13 @@ module _ (c : Config) (ep : ℕ) where
   is_own m = m.first.ep == ep
 
   -- of one endpoint, they are of one symbol by either word
-  same_own : (m n : Message UplinkJob) → (m.first.ep == ep) ≡ true → (n.first.ep == ep) ≡ true → same_symbol n.first m.first ≡ same_part f m.first n.first
+  same_own : (m n : Message UplinkJob) → (m.first.ep == ep) ≡ true → (n.first.ep == ep) ≡ true → same_job_symbol n.first m.first ≡ same_part f m.first n.first
   same_own m n p q =
       ap (λ (b : Bool). b && (same_slot n.first.slot m.first.slot && (n.first.symbol == m.first.symbol)))
       (eq-eqb n.first.ep m.first.ep (eqb-true n.first.ep ep q ∙ sym (eqb-true m.first.ep ep p)))
       ∙ ap₂ ◌&&◌ (slot_swap n.first.slot m.first.slot) (eqb_swap n.first.symbol m.first.symbol)
 
-  same_other : (m n : Message UplinkJob) → (m.first.ep == ep) ≡ true → (n.first.ep == ep) ≡ false → same_symbol n.first m.first ≡ false
+  same_other : (m n : Message UplinkJob) → (m.first.ep == ep) ≡ true → (n.first.ep == ep) ≡ false → same_job_symbol n.first m.first ≡ false
   same_other m n p q = go (n.first.ep == m.first.ep) refl
     where
       go : (b : Bool) → (n.first.ep == m.first.ep) ≡ b → (b && (same_slot n.first.slot m.first.slot && (n.first.symbol == m.first.symbol))) ≡ false
@@ -66,8 +66,8 @@ module _ (c : Config) (ep : ℕ) where
   no_frames m (n ∷ ns) h = ap (λ (b : Bool). let k : ℕ = if b then frame_count c n + packs_before f (frame_count c) m ns else 0 in k) (h n (inl refl))
 
   frames_are : (m : Message UplinkJob) (earlier : List (Message UplinkJob)) → (m.first.ep == ep) ≡ true → IsTimed c.endpoints m.first → AreBefore m earlier
-      → frames_before c m.first earlier ≡ packs_before f (frame_count c) m (filter is_own earlier)
-  unfolding frames_before packs_before
+      → uplink_frames_before c m.first earlier ≡ packs_before f (frame_count c) m (filter is_own earlier)
+  unfolding uplink_frames_before packs_before
   frames_are m [] e timed h = refl
   frames_are m (n ∷ earlier) e timed h =
       go (n.first.ep == ep) refl
@@ -85,21 +85,21 @@ module _ (c : Config) (ep : ℕ) where
           (passes x.first n.first m.first (h.order.0 x w.0) (h.before n (inl refl)) same (λ s.
           true≢false (sym (eq-eqb n.first.ep ep (s ∙ eqb-true x.first.ep ep w.1)) ∙ q))))
 
-      go : (b : Bool) → (n.first.ep == ep) ≡ b → frames_before c m.first earlier ≡ packs_before f (frame_count c) m (filter is_own earlier)
-          → (let k : ℕ = if same_symbol n.first m.first then frame_count c n + frames_before c m.first earlier else 0 in k)
+      go : (b : Bool) → (n.first.ep == ep) ≡ b → uplink_frames_before c m.first earlier ≡ packs_before f (frame_count c) m (filter is_own earlier)
+          → (let k : ℕ = if same_job_symbol n.first m.first then frame_count c n + uplink_frames_before c m.first earlier else 0 in k)
           ≡ packs_before f (frame_count c) m (let ms : List (Message UplinkJob) = if b then n ∷ filter is_own earlier else filter is_own earlier in ms)
       go true q rest =
           ap₂ (λ (b : Bool) (r : ℕ). let k : ℕ = if b then frame_count c n + r else 0 in k) (same_own m n e q) rest
       go false q rest =
-          ap (λ (b : Bool). let k : ℕ = if b then frame_count c n + frames_before c m.first earlier else 0 in k) (same_other m n e q)
+          ap (λ (b : Bool). let k : ℕ = if b then frame_count c n + uplink_frames_before c m.first earlier else 0 in k) (same_other m n e q)
           ∙ sym (no_frames m (filter is_own earlier) (apart q))
 
   -- ---- all of them
 
   numbered_found : (earlier ms : List (Message UplinkJob)) → ((n : Message UplinkJob) → IsIn n ms → IsTimed c.endpoints n.first)
       → ((n : Message UplinkJob) → IsIn n ms → AreBefore n earlier) → InOrder MayLead ms
-      → filter (is_of ep) (numbered_behind c earlier ms) ≡ packs_numbered f (frame_count c) (filter is_own earlier) (filter is_own ms)
-  unfolding numbered_behind packs_numbered
+      → filter (is_message_of ep) (jobs_numbered_behind c earlier ms) ≡ packs_numbered f (frame_count c) (filter is_own earlier) (filter is_own ms)
+  unfolding jobs_numbered_behind packs_numbered
   numbered_found earlier [] timed before order = refl
   numbered_found earlier (m ∷ ms) timed before order = go (m.first.ep == ep) refl (numbered_found (m ∷ earlier) ms (λ n i. timed n (inr i)) later order.1)
     where
@@ -114,11 +114,11 @@ module _ (c : Config) (ep : ℕ) where
           }
 
       go : (b : Bool) → (m.first.ep == ep) ≡ b
-          → filter (is_of ep) (numbered_behind c (m ∷ earlier) ms)
+          → filter (is_message_of ep) (jobs_numbered_behind c (m ∷ earlier) ms)
           ≡ packs_numbered f (frame_count c) (let xs : List (Message UplinkJob) = if b then m ∷ filter is_own earlier else filter is_own earlier in xs) (filter is_own ms)
           → (let ns : List (Numbered UplinkJob) =
-          if b then record { message = m; number = number_behind m.first.ep earlier; before = frames_before c m.first earlier } ∷ filter (is_of ep) (numbered_behind c (m ∷ earlier) ms)
-          else filter (is_of ep) (numbered_behind c (m ∷ earlier) ms) in ns)
+          if b then record { message = m; number = number_behind m.first.ep earlier; before = uplink_frames_before c m.first earlier } ∷ filter (is_message_of ep) (jobs_numbered_behind c (m ∷ earlier) ms)
+          else filter (is_message_of ep) (jobs_numbered_behind c (m ∷ earlier) ms) in ns)
           ≡ packs_numbered f (frame_count c) (filter is_own earlier) (let xs : List (Message UplinkJob) = if b then m ∷ filter is_own ms else filter is_own ms in xs)
       go false e rest = rest
       go true e rest =
@@ -132,5 +132,5 @@ module _ (c : Config) (ep : ℕ) where
   none_before m = record { timed = λ n i. absurd i; before = λ n i. absurd i; order = tt }
 
   pub numbered_own : (ms : List (Message UplinkJob)) → ((n : Message UplinkJob) → IsIn n ms → IsTimed c.endpoints n.first) → InOrder MayLead ms
-      → filter (is_of ep) (numbered_behind c [] ms) ≡ packs_numbered f (frame_count c) [] (filter is_own ms)
+      → filter (is_message_of ep) (jobs_numbered_behind c [] ms) ≡ packs_numbered f (frame_count c) [] (filter is_own ms)
   numbered_own ms timed order = numbered_found [] ms timed (λ n i. none_before n) order

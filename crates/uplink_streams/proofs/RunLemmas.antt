@@ -20,14 +20,14 @@ use Rattle.uplink_model.specs.unit_model.specs.declared.allocations.Allocation.{
 use Rattle.uplink_model.specs.unit_model.specs.declared.jobs.UplinkJob.{UplinkJob}
 use Rattle.uplink_model.specs.unit_model.proofs.ReachLaws.{frame_swept}
 use Rattle.uplink_model.specs.unit_model.proofs.SweepLaws.{each_split, gap_is, gap_parts, ticks_split}
-use Rattle.schedule_laws.specs.unit_laws.proofs.CellLemmas.{slots_equal}
 use Rattle.schedule_laws.specs.unit_laws.proofs.FarLemmas.{endpoints_equal}
 use Rattle.schedule_laws.specs.unit_laws.proofs.SweepLemmas.{of_endpoint_related, of_frame_related, of_slot_related, of_subframe_related}
 use Rattle.schedule_laws.specs.plan_model.proofs.ListLemmas.{in_either, all_of}
 use Rattle.schedule_laws.proofs.ListLemmas.{IsAll, all_kept, numerology_short, of_each}
-use Rattle.uplink_streams.specs.Runs.{JobsStandTogether, is_in}
+use Rattle.uplink_streams.specs.Runs.{JobsStandTogether, is_job_in}
 use Rattle.uplink_streams.proofs.JobLemmas.{at_starts, symbol_job, timed_at}
 use Rattle.uplink_streams.proofs.ListLemmas.{tick_within}
+use Rattle.uplink_model.specs.unit_model.proofs.ClaimLemmas.{same_slot_is as slots_equal}
 
 -- ---- a run, and no other that passes a test
 
@@ -74,7 +74,7 @@ module _ (accepted : List Allocation) (ep : ℕ) (e : EndpointConfig) (slot : Sl
   told = symbol_jobs accepted ep e
 
   abbrev test : UplinkJob → Bool
-  test = is_in ep slot symbol
+  test = is_job_in ep slot symbol
 
   not_test : (j : UplinkJob) → (j.slot ≡ slot → j.symbol ≡ symbol → ⊥) → test j ≡ false
   not_test j other = elim (cases_Bool (test j)) [
@@ -138,7 +138,7 @@ module _ (accepted : List Allocation) (es : List EndpointConfig) (ep : ℕ) (e :
   all_told = symbol_jobs accepted
 
   abbrev passes : UplinkJob → Bool
-  passes = is_in ep slot symbol
+  passes = is_job_in ep slot symbol
 
   other_endpoint : (j : UplinkJob) → (j.ep ≡ ep → ⊥) → passes j ≡ false
   other_endpoint j other = elim (cases_Bool (passes j)) [
@@ -223,8 +223,8 @@ jobs_stand_together es accepted to ep e slot symbol at is h low high =
       before = r.before;
       after = r.after;
       is = r.is;
-      none_before = all_of (λ (j : UplinkJob). is_in ep slot symbol j ≡ false) r.before r.none_before;
-      none_after = all_of (λ (j : UplinkJob). is_in ep slot symbol j ≡ false) r.after r.none_after;
+      none_before = all_of (λ (j : UplinkJob). is_job_in ep slot symbol j ≡ false) r.before r.none_before;
+      none_after = all_of (λ (j : UplinkJob). is_job_in ep slot symbol j ≡ false) r.after r.none_after;
     }
   where
     by_end : (a b : ℤ) → a ≤ℤ b → a <ℤ (b +ℤ pos 1)

@@ -23,10 +23,10 @@ use Rattle.schedule_laws.specs.plan_model.proofs.ListLemmas.{in_either}
 use Rattle.schedule_laws.proofs.ListLemmas.{of_each}
 use Rattle.schedule_laws.proofs.PackLemmas.{message_from, part_from}
 use Rattle.schedule_laws.proofs.PlanLemmas.{line_of}
-use Rattle.uplink_model.specs.Frames.{Antenna, frame_of, frames_behind, frames_from, message_frames}
-use Rattle.uplink_model.specs.Messages.{frame_count, job_fields, messages_of}
+use Rattle.uplink_model.specs.Frames.{Antenna, uplink_frame_of, frames_behind, uplink_frames_from, uplink_message_frames}
+use Rattle.uplink_model.specs.Messages.{frame_count, job_fields, uplink_messages_of}
 use Rattle.uplink_streams.specs.Laws.{FramesAreTheStream, JobsAreParts, MessagesAreTheStream, TestReadsFirstFrames, first_leaves}
-use Rattle.uplink_streams.specs.Streams.{is_of, job_for, message_for, message_frames_for, numbered_behind, numbered_for, planned_allocations, planned_frames, planned_jobs, planned_messages, stream_frames_for}
+use Rattle.uplink_streams.specs.Streams.{is_message_of, job_for, message_for, message_frames_for, jobs_numbered_behind, numbered_for, planned_allocations, planned_frames, planned_jobs, planned_messages, stream_frames_for}
 use Rattle.uplink_streams.proofs.JobLemmas.{jobs_in_order, jobs_of_parts, jobs_timed, up_part}
 use Rattle.uplink_streams.proofs.ListLemmas.{filter_joined, map_map, map_same}
 use Rattle.uplink_streams.proofs.MessageLemmas.{message_first, messages_found, messages_order}
@@ -142,13 +142,13 @@ module _ (c : Config) (lines : List PlanLine) (ep : ℕ) (e : EndpointConfig) (a
   messages_stand : (m : Message Part) → IsIn m (packs part_fields c.pack (parts_in ps UpData ep e)) → (x : Part) → IsIn x (parts_of m) → IsAt c.endpoints x.planned.ep x.planned.endpoint
   messages_stand m i x k = parts_stand x (part_from part_fields c.pack (parts_in ps UpData ep e) m x i k)
 
-  pub messages_are : filter (is_of ep) (planned_messages c ps) ≡ map numbered_for (stream_messages c ps UpData ep e)
+  pub messages_are : filter (is_message_of ep) (planned_messages c ps) ≡ map numbered_for (stream_messages c ps UpData ep e)
   unfolding stream_messages
   messages_are =
       let order = jobs_in_order (planned_allocations ps) c.endpoints end_of_time in
       let timed = jobs_timed (planned_allocations ps) c.endpoints end_of_time in
       let parts = parts_in ps UpData ep e in
-      numbered_own c ep (messages_of c js) (λ n i. timed n.first (message_first c js n i)) (messages_order c js order)
+      numbered_own c ep (uplink_messages_of c js) (λ n i. timed n.first (message_first c js n i)) (messages_order c js order)
       ∙ ap (packs_numbered (job_fields c.endpoints) (frame_count c) [])
       (messages_found c ep js timed order
       ∙ ap (packs (job_fields c.endpoints) c.pack) (jobs_are_parts c lines ep e at)
@@ -163,21 +163,21 @@ messages_are_the_stream c lines ep e at = messages_are c lines ep e at
 -- the frames of a numbered message
 abbrev numbered_frames : Config → Antenna → Numbered UplinkJob → List LinkFrame
 numbered_frames c antenna n =
-    option_map_or (λ e. frames_from c antenna e n.message n.number n.before 0 (frame_count c n.message)) (slice_get c.endpoints n.message.first.ep) []
+    option_map_or (λ e. uplink_frames_from c antenna e n.message n.number n.before 0 (frame_count c n.message)) (slice_get c.endpoints n.message.first.ep) []
 
 frames_numbered : (c : Config) (antenna : Antenna) (earlier ms : List (Message UplinkJob))
-    → frames_behind c antenna earlier ms ≡ joined (map (numbered_frames c antenna) (numbered_behind c earlier ms))
-unfolding frames_behind message_frames numbered_behind
+    → frames_behind c antenna earlier ms ≡ joined (map (numbered_frames c antenna) (jobs_numbered_behind c earlier ms))
+unfolding frames_behind uplink_message_frames jobs_numbered_behind
 frames_numbered c antenna earlier [] = refl
-frames_numbered c antenna earlier (m ∷ ms) = ap (λ (fs : List LinkFrame). message_frames c antenna earlier m ++ fs) (frames_numbered c antenna (m ∷ earlier) ms)
+frames_numbered c antenna earlier (m ∷ ms) = ap (λ (fs : List LinkFrame). uplink_message_frames c antenna earlier m ++ fs) (frames_numbered c antenna (m ∷ earlier) ms)
 
 frame_ep : (c : Config) (antenna : Antenna) (n : Numbered UplinkJob) (x : LinkFrame) → IsIn x (numbered_frames c antenna n) → x.ep ≡ n.message.first.ep
 frame_ep c antenna n x m = go (slice_get c.endpoints n.message.first.ep) m
   where
-    go : (o : Option EndpointConfig) → IsIn x (option_map_or (λ e. frames_from c antenna e n.message n.number n.before 0 (frame_count c n.message)) o []) → x.ep ≡ n.message.first.ep
+    go : (o : Option EndpointConfig) → IsIn x (option_map_or (λ e. uplink_frames_from c antenna e n.message n.number n.before 0 (frame_count c n.message)) o []) → x.ep ≡ n.message.first.ep
     go None i = absurd i
     go (Some e) i =
-        let w = of_each x 0 (frame_count c n.message) (λ k. frame_of c antenna e n.message n.number n.before k ∷ []) i in
+        let w = of_each x 0 (frame_count c n.message) (λ k. uplink_frame_of c antenna e n.message n.number n.before k ∷ []) i in
         elim w.3 [ inl e ↦ ap (λ (y : LinkFrame). y.ep) e | inr t ↦ absurd t ]
 
 module _ (c : Config) (antenna : Antenna) (lines : List PlanLine) (ep : ℕ) (e : EndpointConfig) (at : IsAt c.endpoints ep e) where
@@ -202,8 +202,8 @@ module _ (c : Config) (antenna : Antenna) (lines : List PlanLine) (ep : ℕ) (e 
   one_message : (n : Numbered Part) → IsIn n (stream_messages c lines_at UpData ep e) → numbered_frames c antenna (numbered_for n) ≡ message_frames_for c antenna ep e n
   one_message n m =
       let same = own_ep n m in
-      let make = λ (k : ℕ). frame_of c antenna e (message_for n.message) n.number n.before k in
-      ap (λ (o : Option EndpointConfig). option_map_or (λ d. frames_from c antenna d (message_for n.message) n.number n.before 0 (frame_count c (message_for n.message))) o [])
+      let make = λ (k : ℕ). uplink_frame_of c antenna e (message_for n.message) n.number n.before k in
+      ap (λ (o : Option EndpointConfig). option_map_or (λ d. uplink_frames_from c antenna d (message_for n.message) n.number n.before 0 (frame_count c (message_for n.message))) o [])
       (ap (slice_get c.endpoints) same ∙ at)
       ∙ ap (λ (k : ℕ). each 0 k (λ sub. make sub ∷ [])) (own_count n m)
       ∙ each_same 0 (frames_in c UpData n.message) (λ sub. make sub ∷ []) _ (λ sub.
@@ -213,8 +213,8 @@ module _ (c : Config) (antenna : Antenna) (lines : List PlanLine) (ep : ℕ) (e 
   frames_are_stream =
       let numbered = planned_messages c lines_at in
       let stream = stream_messages c lines_at UpData ep e in
-      ap (filter (λ (x : LinkFrame). x.ep == ep)) (frames_numbered c antenna [] (messages_of c (planned_jobs c lines_at)))
-      ∙ filter_joined (numbered_frames c antenna) (is_of ep) (λ (x : LinkFrame). x.ep == ep) numbered (λ n x m. ap (λ (k : ℕ). k == ep) (frame_ep c antenna n x m))
+      ap (filter (λ (x : LinkFrame). x.ep == ep)) (frames_numbered c antenna [] (uplink_messages_of c (planned_jobs c lines_at)))
+      ∙ filter_joined (numbered_frames c antenna) (is_message_of ep) (λ (x : LinkFrame). x.ep == ep) numbered (λ n x m. ap (λ (k : ℕ). k == ep) (frame_ep c antenna n x m))
       ∙ ap (λ (ns : List (Numbered UplinkJob)). joined (map (numbered_frames c antenna) ns)) (messages_are c lines ep e at)
       ∙ ap joined (map_map numbered_for (numbered_frames c antenna) stream
       ∙ map_same (λ (n : Numbered Part). numbered_frames c antenna (numbered_for n)) (message_frames_for c antenna ep e) stream one_message)

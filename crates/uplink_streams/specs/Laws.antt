@@ -12,7 +12,7 @@ use Rattle.uplink_model.specs.plan_model.specs.Streams.{parts_in, messages_of as
 use Rattle.uplink_model.specs.plan_model.specs.declared.streams.Stream.TheVariants.{UpData}
 use Rattle.uplink_model.specs.unit_model.specs.declared.jobs.UplinkJob.{UplinkJob}
 use Rattle.uplink_model.specs.Frames.{Antenna}
-use Rattle.uplink_streams.specs.Streams.{is_of, job_for, numbered_for, planned_frames, planned_jobs, planned_messages, stream_frames_for}
+use Rattle.uplink_streams.specs.Streams.{is_message_of, job_for, numbered_for, planned_frames, planned_jobs, planned_messages, stream_frames_for}
 
 -- an endpoint's jobs are the parts of its uplink stream, in their order
 abbrev pub JobsAreParts : Type 0
@@ -24,7 +24,7 @@ JobsAreParts =
 abbrev pub MessagesAreTheStream : Type 0
 MessagesAreTheStream =
     (c : Config) (lines : List PlanLine) (ep : ℕ) (e : EndpointConfig) → IsAt c.endpoints ep e
-    → filter (is_of ep) (planned_messages c (planned c.endpoints lines)) ≡ map numbered_for (stream_messages c (planned c.endpoints lines) UpData ep e)
+    → filter (is_message_of ep) (planned_messages c (planned c.endpoints lines)) ≡ map numbered_for (stream_messages c (planned c.endpoints lines) UpData ep e)
 
 -- an endpoint's frames are those of its stream, at the times of the plan's test
 abbrev pub FramesAreTheStream : Type 0
@@ -41,4 +41,4 @@ abbrev pub TestReadsFirstFrames : Type 0
 TestReadsFirstFrames =
     (c : Config) (lines : List PlanLine) (ep : ℕ) (e : EndpointConfig) → IsAt c.endpoints ep e
     → map (λ s. s.at.0) (sendings c (planned c.endpoints lines) UpData ep e)
-    ≡ map (first_leaves c) (filter (is_of ep) (planned_messages c (planned c.endpoints lines)))
+    ≡ map (first_leaves c) (filter (is_message_of ep) (planned_messages c (planned c.endpoints lines)))

@@ -17,29 +17,29 @@ use Rattle.uplink_model.specs.unit_model.specs.Uplink.{jobs, symbol_jobs}
 use Rattle.uplink_model.specs.unit_model.specs.declared.allocations.Allocation.{Allocation}
 use Rattle.uplink_model.specs.unit_model.specs.declared.jobs.UplinkJob.{UplinkJob}
 use Rattle.uplink_model.specs.plan_model.specs.Packs.{Message}
-use Rattle.uplink_model.specs.Frames.{Antenna, message_frames}
-use Rattle.uplink_model.specs.Messages.{messages_of, same_symbol}
+use Rattle.uplink_model.specs.Frames.{Antenna, uplink_message_frames}
+use Rattle.uplink_model.specs.Messages.{uplink_messages_of, same_job_symbol}
 
 -- ---- jobs
 
 -- a job of this symbol of an endpoint
-abbrev pub is_in : ℕ → Slot → ℕ → UplinkJob → Bool
-is_in ep slot symbol j = (j.ep == ep) && (same_slot j.slot slot && (j.symbol == symbol))
+abbrev pub is_job_in : ℕ → Slot → ℕ → UplinkJob → Bool
+is_job_in ep slot symbol j = (j.ep == ep) && (same_slot j.slot slot && (j.symbol == symbol))
 
 -- these stand in one run among all, and no other job is of the symbol
-pub record StandTogether (ep : ℕ) (slot : Slot) (symbol : ℕ) (run all : List UplinkJob) : Type 0 where
+pub record StandInOneRun (ep : ℕ) (slot : Slot) (symbol : ℕ) (run all : List UplinkJob) : Type 0 where
   pub before : List UplinkJob
   pub after : List UplinkJob
   pub is : all ≡ before ++ (run ++ after)
-  pub none_before : All (λ j. is_in ep slot symbol j ≡ false) before
-  pub none_after : All (λ j. is_in ep slot symbol j ≡ false) after
+  pub none_before : All (λ j. is_job_in ep slot symbol j ≡ false) before
+  pub none_after : All (λ j. is_job_in ep slot symbol j ≡ false) after
 
 -- the jobs of a symbol that starts by a time stand in one run among those up to it
 abbrev pub JobsStandTogether : Type 0
 JobsStandTogether =
     (es : List EndpointConfig) (accepted : List Allocation) (to : ℤ) (ep : ℕ) (e : EndpointConfig) (slot : Slot) (symbol : ℕ) → IsAt es ep e
     → IsSlotOf e.numerology slot → symbol < symbols_of e.numerology → first_clock ≤ℤ air_of e.numerology slot symbol → air_of e.numerology slot symbol ≤ℤ to
-    → StandTogether ep slot symbol (symbol_jobs accepted ep e slot symbol) (jobs es accepted to)
+    → StandInOneRun ep slot symbol (symbol_jobs accepted ep e slot symbol) (jobs es accepted to)
 
 -- ---- messages
 
@@ -47,8 +47,8 @@ JobsStandTogether =
 abbrev pub MessagesEndInTime : Type 0
 MessagesEndInTime =
     (c : Config) (accepted : List Allocation) (to later : ℤ) → first_clock ≤ℤ to → to ≤ℤ later
-    → messages_of c (jobs c.endpoints accepted later)
-    ≡ messages_of c (jobs c.endpoints accepted to) ++ messages_of c (sweep (symbol_jobs accepted) c.endpoints (to +ℤ pos 1) (later +ℤ pos 1))
+    → uplink_messages_of c (jobs c.endpoints accepted later)
+    ≡ uplink_messages_of c (jobs c.endpoints accepted to) ++ uplink_messages_of c (sweep (symbol_jobs accepted) c.endpoints (to +ℤ pos 1) (later +ℤ pos 1))
 
 -- ---- frames
 
@@ -56,16 +56,16 @@ MessagesEndInTime =
 abbrev pub FramesLeaveInTa3 : Type 0
 FramesLeaveInTa3 =
     (c : Config) (antenna : Antenna) (earlier : List (Message UplinkJob)) (m : Message UplinkJob) → IsWithinLimits c.delays
-    → All (λ f. ((m.first.s.0 +ℤ ticks_of_ns c.delays.ta3.min) ≤ℤ f.at.0) × (f.at.0 ≤ℤ (m.first.s.0 +ℤ ticks_of_ns c.delays.ta3.max))) (message_frames c antenna earlier m)
+    → All (λ f. ((m.first.s.0 +ℤ ticks_of_ns c.delays.ta3.min) ≤ℤ f.at.0) × (f.at.0 ≤ℤ (m.first.s.0 +ℤ ticks_of_ns c.delays.ta3.max))) (uplink_message_frames c antenna earlier m)
 
 -- and none before one that stands before it
 abbrev pub FramesLeaveInTurn : Type 0
 FramesLeaveInTurn =
-    (c : Config) (antenna : Antenna) (earlier : List (Message UplinkJob)) (m : Message UplinkJob) → AllPairs (λ f g. f.at.0 ≤ℤ g.at.0) (message_frames c antenna earlier m)
+    (c : Config) (antenna : Antenna) (earlier : List (Message UplinkJob)) (m : Message UplinkJob) → AllPairs (λ f g. f.at.0 ≤ℤ g.at.0) (uplink_message_frames c antenna earlier m)
 
 -- of two messages of one symbol, the later one's frames leave no earlier
 abbrev pub NoneOvertakes : Type 0
 NoneOvertakes =
     (c : Config) (antenna : Antenna) (accepted : List Allocation) (to : ℤ) (before between after : List (Message UplinkJob)) (m n : Message UplinkJob)
-    → messages_of c (jobs c.endpoints accepted to) ≡ before ++ (m ∷ (between ++ (n ∷ after))) → same_symbol m.first n.first ≡ true
-    → All (λ f. All (λ g. f.at.0 ≤ℤ g.at.0) (message_frames c antenna (onto (m ∷ onto [] before) between) n)) (message_frames c antenna (onto [] before) m)
+    → uplink_messages_of c (jobs c.endpoints accepted to) ≡ before ++ (m ∷ (between ++ (n ∷ after))) → same_job_symbol m.first n.first ≡ true
+    → All (λ f. All (λ g. f.at.0 ≤ℤ g.at.0) (uplink_message_frames c antenna (onto (m ∷ onto [] before) between) n)) (uplink_message_frames c antenna (onto [] before) m)

@@ -1,6 +1,6 @@
 // 308 messages of one endpoint: 22 in each symbol of a slot. The bytes and the times are worked out by hand.
 ghost use Rattle.std.specs.Prelude.{◌≡◌, ◌<◌, pos, neg_ℤ};
-ghost use Rattle.uplink_tests.specs.Steps.{IsSenderOf, IsUnitOf};
+ghost use Rattle.uplink_path.specs.Steps.{IsSenderOf, IsUnitOf};
 ghost use Rattle.window_config.specs.Configs.{IsConfig};
 
 use crate::frames::{FIRST, START, is_sent};

@@ -13,8 +13,9 @@ use Rattle.replay_events.specs.history_laws.proofs.TickLemmas.{last_is_earlier, 
 use Rattle.replay_events.specs.history_laws.proofs.ListLemmas.{front_empty}
 use Rattle.replay_events.proofs.CameLemmas.{none_yet}
 use Rattle.uplink_turns.specs.Given.{GivenAndOwed, GivenBefore, GivenIsAll, GivesTick, HasSeen, OwesNone, OwesTick, owed_until}
-use Rattle.uplink_turns.specs.Turns.{jobs_at, jobs_between, jobs_until}
+use Rattle.uplink_turns.specs.Turns.{jobs_of_tick, jobs_between, jobs_until}
 use Rattle.uplink_turns.proofs.JobLemmas.{jobs_go_on, jobs_go_on_from, jobs_of_nothing, jobs_settled, no_jobs_before}
+use Rattle.fh_time.proofs.Orders.{first_most}
 
 drop_front : (xs ys : List UplinkJob) → drop (length xs) (xs ++ ys) ≡ ys
 drop_front xs ys = drop_at xs ys (length xs) refl
@@ -36,12 +37,12 @@ owes_rest c landings to seen h front rest see past given is =
 
 pub owes_tick : OwesTick
 owes_tick c landings tick seen h see begun past given =
-    owes_rest c landings tick seen h (jobs_until c landings (tick -ℤ pos 1)) (jobs_at c landings tick) see past given (jobs_go_on c landings tick begun)
+    owes_rest c landings tick seen h (jobs_until c landings (tick -ℤ pos 1)) (jobs_of_tick c landings tick) see past given (jobs_go_on c landings tick begun)
 
 pub gives_tick : GivesTick
 gives_tick c landings tick seen h see begun past given =
     ap (λ (js : List UplinkJob). h.given ++ js) (owes_tick c landings tick seen h see begun past given)
-    ∙ ap (λ (js : List UplinkJob). js ++ jobs_at c landings tick) given
+    ∙ ap (λ (js : List UplinkJob). js ++ jobs_of_tick c landings tick) given
     ∙ sym (jobs_go_on c landings tick begun)
 
 pub owes_none : OwesNone
@@ -68,9 +69,6 @@ given_and_owed c landings to seen h k see past late history =
 pub given_is_all : GivenIsAll
 given_is_all c landings to seen h k see past late history none =
     sym (append-nil h.given) ∙ ap (λ (js : List UplinkJob). h.given ++ js) (sym none) ∙ given_and_owed c landings to seen h k see past late history
-
-first_most : (now first : ℤ) → now ≡ first → now ≤ℤ first
-first_most now first e = omega (arith, ints)
 
 last_early : (now first : ℤ) → now ≡ first → (now -ℤ pos 1) <ℤ first
 last_early now first e = omega (arith, ints)

@@ -17,14 +17,14 @@ use Rattle.replay_events.specs.history_laws.proofs.TickLemmas.{same_most}
 use Rattle.uplink_streams.specs.plan_model.specs.Packs.{Message}
 use Rattle.uplink_streams.specs.plan_model.proofs.ListLemmas.{all_of}
 use Rattle.uplink_streams.specs.schedule_laws.proofs.ListLemmas.{in_all, of_each}
-use Rattle.uplink_streams.specs.uplink_model.specs.Frames.{Antenna, frame_of, frames_behind, frames_from, message_frames}
-use Rattle.uplink_streams.specs.uplink_model.specs.Messages.{frame_count, frames_before, messages_of, number_behind}
+use Rattle.uplink_streams.specs.uplink_model.specs.Frames.{Antenna, uplink_frame_of, frames_behind, uplink_frames_from, uplink_message_frames}
+use Rattle.uplink_streams.specs.uplink_model.specs.Messages.{frame_count, uplink_frames_before, uplink_messages_of, number_behind}
 use Rattle.uplink_streams.specs.uplink_model.specs.SentLaws.{AreOf}
 use Rattle.uplink_streams.specs.uplink_model.proofs.MessageLemmas.{frames_both}
 use Rattle.uplink_streams.proofs.MessageLemmas.{message_first}
 use Rattle.uplink_streams.proofs.TurnLemmas.{frames_leave_in_ta3}
 use Rattle.uplink_turns.specs.TurnLaws.{HandedAreOf, HandedBehindAreOf, HandedGoOn, HandedGoOnFrom, HandedLeaveFrom, HandedLeaveLater, NoneHandedBefore}
-use Rattle.uplink_turns.specs.Turns.{jobs_at, jobs_between, messages_at, messages_between, messages_until}
+use Rattle.uplink_turns.specs.Turns.{jobs_of_tick, jobs_between, messages_of_tick, messages_between, messages_until}
 use Rattle.uplink_turns.proofs.JobLemmas.{jobs_start_between, jobs_start_then, no_jobs_before}
 use Rattle.uplink_turns.proofs.MessageLemmas.{messages_go_on, messages_go_on_from}
 
@@ -38,7 +38,7 @@ handed_go_on_from c antenna landings now tick begun order =
 pub handed_go_on : HandedGoOn
 handed_go_on c antenna landings tick begun =
     ap (frames_behind c antenna []) (messages_go_on c landings tick begun)
-    ∙ frames_both c antenna [] (messages_until c landings (tick -ℤ pos 1)) (messages_at c landings tick)
+    ∙ frames_both c antenna [] (messages_until c landings (tick -ℤ pos 1)) (messages_of_tick c landings tick)
 
 none_behind : (c : Config) (antenna : Antenna) (earlier : List (Message UplinkJob)) → frames_behind c antenna earlier [] ≡ []
 unfolding frames_behind
@@ -46,19 +46,19 @@ none_behind c antenna earlier = refl
 
 pub none_handed_before : NoneHandedBefore
 none_handed_before c antenna landings to early =
-    ap (λ (js : List UplinkJob). frames_behind c antenna [] (messages_of c js)) (no_jobs_before c landings to early) ∙ none_behind c antenna []
+    ap (λ (js : List UplinkJob). frames_behind c antenna [] (uplink_messages_of c js)) (no_jobs_before c landings to early) ∙ none_behind c antenna []
 
 -- ---- of which endpoint
 
-one_is_of : (c : Config) (antenna : Antenna) (earlier : List (Message UplinkJob)) (m : Message UplinkJob) → AreOf (length c.endpoints) (message_frames c antenna earlier m)
-unfolding message_frames
+one_is_of : (c : Config) (antenna : Antenna) (earlier : List (Message UplinkJob)) (m : Message UplinkJob) → AreOf (length c.endpoints) (uplink_message_frames c antenna earlier m)
+unfolding uplink_message_frames
 one_is_of c antenna earlier m = go (slice_get c.endpoints m.first.ep) refl
   where
     go : (o : Option EndpointConfig) → slice_get c.endpoints m.first.ep ≡ o
-        → All (λ f. f.ep < length c.endpoints) (option_map_or (λ e. frames_from c antenna e m (number_behind m.first.ep earlier) (frames_before c m.first earlier) 0 (frame_count c m)) o [])
+        → All (λ f. f.ep < length c.endpoints) (option_map_or (λ e. uplink_frames_from c antenna e m (number_behind m.first.ep earlier) (uplink_frames_before c m.first earlier) 0 (frame_count c m)) o [])
     go None is = All-nil (λ (f : LinkFrame). f.ep < length c.endpoints)
     go (Some e) is =
-        let make : ℕ → LinkFrame = frame_of c antenna e m (number_behind m.first.ep earlier) (frames_before c m.first earlier) in
+        let make : ℕ → LinkFrame = uplink_frame_of c antenna e m (number_behind m.first.ep earlier) (uplink_frames_before c m.first earlier) in
         let within = slice_get_within c.endpoints m.first.ep e is in
         all_of (λ (f : LinkFrame). f.ep < length c.endpoints) (each 0 (frame_count c m) (λ k. make k ∷ [])) (λ f i.
         (let w = of_each f 0 (frame_count c m) (λ k. make k ∷ []) i in
@@ -68,7 +68,7 @@ all_are_of : (c : Config) (antenna : Antenna) (earlier ms : List (Message Uplink
 unfolding frames_behind
 all_are_of c antenna earlier [] = All-nil (λ (f : LinkFrame). f.ep < length c.endpoints)
 all_are_of c antenna earlier (m ∷ ms) =
-    All-append (λ (f : LinkFrame). f.ep < length c.endpoints) (message_frames c antenna earlier m) (frames_behind c antenna (m ∷ earlier) ms)
+    All-append (λ (f : LinkFrame). f.ep < length c.endpoints) (uplink_message_frames c antenna earlier m) (frames_behind c antenna (m ∷ earlier) ms)
     (one_is_of c antenna earlier m) (all_are_of c antenna (m ∷ earlier) ms)
 
 pub handed_are_of : HandedAreOf
@@ -92,23 +92,23 @@ leave_from c antenna from earlier (m ∷ ms) limits start =
     let s = m.first.s.0 in
     let least = c.delays.ta3.min in
     let most = c.delays.ta3.max in
-    All-append (λ (f : LinkFrame). from ≤ℤ f.at.0) (message_frames c antenna earlier m) (frames_behind c antenna (m ∷ earlier) ms)
+    All-append (λ (f : LinkFrame). from ≤ℤ f.at.0) (uplink_message_frames c antenna earlier m) (frames_behind c antenna (m ∷ earlier) ms)
     (All-weaker (λ (f : LinkFrame). ((s +ℤ ticks_of_ns least) ≤ℤ f.at.0) × (f.at.0 ≤ℤ (s +ℤ ticks_of_ns most))) (λ (f : LinkFrame). from ≤ℤ f.at.0)
     (λ f h. after_start from s least f.at.0 limits.ta3.low (All-head S m ms start) h.0)
-    (message_frames c antenna earlier m) (frames_leave_in_ta3 c antenna earlier m limits))
+    (uplink_message_frames c antenna earlier m) (frames_leave_in_ta3 c antenna earlier m limits))
     (leave_from c antenna from (m ∷ earlier) ms limits (All-tail S m ms start))
 
 -- the messages of jobs that start from a tick on do
-start_from : (c : Config) (from : ℤ) (js : List UplinkJob) → All (λ j. from ≤ℤ j.s.0) js → All (λ m. from ≤ℤ m.first.s.0) (messages_of c js)
+start_from : (c : Config) (from : ℤ) (js : List UplinkJob) → All (λ j. from ≤ℤ j.s.0) js → All (λ m. from ≤ℤ m.first.s.0) (uplink_messages_of c js)
 start_from c from js all =
-    all_of (λ (m : Message UplinkJob). from ≤ℤ m.first.s.0) (messages_of c js) (λ m i.
+    all_of (λ (m : Message UplinkJob). from ≤ℤ m.first.s.0) (uplink_messages_of c js) (λ m i.
     in_all (λ (j : UplinkJob). from ≤ℤ j.s.0) m.first js all (message_first c js m i))
 
 pub handed_leave_later : HandedLeaveLater
 handed_leave_later c antenna landings tick config =
-    leave_from c antenna tick (onto [] (messages_until c landings (tick -ℤ pos 1))) (messages_at c landings tick) config.delays
-    (start_from c tick (jobs_at c landings tick)
-    (All-weaker (λ (j : UplinkJob). j.s.0 ≡ tick) (λ (j : UplinkJob). tick ≤ℤ j.s.0) (λ j e. same_most j.s.0 tick e) (jobs_at c landings tick) (jobs_start_then c landings tick)))
+    leave_from c antenna tick (onto [] (messages_until c landings (tick -ℤ pos 1))) (messages_of_tick c landings tick) config.delays
+    (start_from c tick (jobs_of_tick c landings tick)
+    (All-weaker (λ (j : UplinkJob). j.s.0 ≡ tick) (λ (j : UplinkJob). tick ≤ℤ j.s.0) (λ j e. same_most j.s.0 tick e) (jobs_of_tick c landings tick) (jobs_start_then c landings tick)))
 
 pub handed_leave_from : HandedLeaveFrom
 handed_leave_from c antenna landings from end config =

@@ -13,9 +13,8 @@ use Rattle.replay_events.specs.unit_model.specs.Times.{end_of_time}
 use Rattle.replay_events.specs.unit_model.specs.Uplink.{jobs, symbol_jobs}
 use Rattle.replay_events.specs.unit_model.specs.declared.allocations.Allocation.{Allocation}
 use Rattle.replay_events.specs.unit_model.specs.declared.jobs.UplinkJob.{UplinkJob}
-use Rattle.replay_events.specs.unit_laws.proofs.SweepLemmas.{sweep-append, sweep-none, sweep-nothing, tick-nothing}
+use Rattle.replay_events.specs.unit_laws.proofs.SweepLemmas.{sweep-append, sweep-none, tick-nothing}
 use Rattle.replay_events.specs.history_laws.proofs.TickLemmas.{next_after, next_is_later, next_of_last}
-use Rattle.replay_events.specs.history_laws.proofs.UnitLemmas.{no_jobs}
 use Rattle.replay_events.specs.Moments.{arrivals_before}
 use Rattle.replay_events.proofs.CameLemmas.{none_yet}
 use Rattle.replay_events.proofs.SettledLemmas.{messages_settled}
@@ -23,7 +22,9 @@ use Rattle.replay_events.proofs.TickLemmas.{sweep_alone}
 use Rattle.uplink_streams.specs.plan_model.proofs.ListLemmas.{all_of}
 use Rattle.uplink_streams.proofs.JobLemmas.{at_starts, swept_jobs}
 use Rattle.uplink_turns.specs.TurnLaws.{JobsAreSettled, JobsGoOn, JobsGoOnFrom, JobsStartBetween, JobsStartThen, NoJobsBefore, NoJobsYet}
-use Rattle.uplink_turns.specs.Turns.{all_accepted, jobs_at, jobs_between, jobs_until}
+use Rattle.uplink_turns.specs.Turns.{all_accepted, jobs_of_tick, jobs_between, jobs_until}
+use Rattle.replay_events.specs.unit_model.proofs.SweepLaws.{sweep_quiet as sweep-nothing}
+use Rattle.replay_events.specs.unit_laws.proofs.AheadLemmas.{no_jobs}
 
 -- ---- up to a time
 
@@ -80,7 +81,7 @@ no_jobs_yet c landings to config are early =
 
 pub jobs_start_then : JobsStartThen
 jobs_start_then c landings tick =
-    all_of (λ (j : UplinkJob). j.s.0 ≡ tick) (jobs_at c landings tick) (λ j i. (at_starts (all_accepted c landings) c.endpoints 0 c.endpoints tick j i).0)
+    all_of (λ (j : UplinkJob). j.s.0 ≡ tick) (jobs_of_tick c landings tick) (λ j i. (at_starts (all_accepted c landings) c.endpoints 0 c.endpoints tick j i).0)
 
 pub jobs_start_between : JobsStartBetween
 jobs_start_between c landings from end =

@@ -9,19 +9,20 @@ use Rattle.replay_events.specs.unit_model.specs.Lists.{each_tick}
 use Rattle.replay_events.specs.unit_model.specs.Radiated.{first_clock}
 use Rattle.replay_events.specs.unit_model.specs.Times.{end_of_time}
 use Rattle.replay_events.specs.unit_model.specs.declared.jobs.UplinkJob.{UplinkJob}
-use Rattle.replay_events.specs.unit_model.proofs.SweepLaws.{gap_none}
-use Rattle.replay_events.specs.history_laws.proofs.TickLemmas.{at_most, last_of_next, next_after, next_is_later, next_order, last_before, after_all, same_then}
+use Rattle.replay_events.specs.unit_model.proofs.SweepLaws.{gap_none, no_ticks as none_of_ticks}
+use Rattle.replay_events.specs.history_laws.proofs.TickLemmas.{last_of_next, next_after, next_is_later, last_before, after_all, same_then}
 use Rattle.replay_events.proofs.TickLemmas.{no_ticks, tick_alone, ticks_append}
 use Rattle.uplink_streams.specs.plan_model.proofs.ListLemmas.{all_of}
 use Rattle.uplink_streams.specs.schedule_laws.proofs.ListLemmas.{in_all}
 use Rattle.uplink_streams.specs.uplink_model.specs.Frames.{frames_behind}
-use Rattle.uplink_streams.specs.uplink_model.specs.Messages.{messages_of}
+use Rattle.uplink_streams.specs.uplink_model.specs.Messages.{uplink_messages_of}
 use Rattle.uplink_streams.specs.uplink_model.specs.Sent.{in_sent_order, leaving_at}
 use Rattle.uplink_streams.specs.uplink_model.proofs.SentLemmas.{later_change_nothing, leaving_leave_then}
 use Rattle.uplink_streams.proofs.ListLemmas.{tick_within}
 use Rattle.uplink_turns.specs.TurnLaws.{LeavingIsSettled, LeftEnds, LeftGoesOn, LeftIsAll, LeftLeaveLater, LeftWaits}
 use Rattle.uplink_turns.specs.Turns.{handed_between, handed_until, leaving_of_handed, left_from}
 use Rattle.uplink_turns.proofs.HandedLemmas.{handed_go_on_from, handed_leave_from}
+use Rattle.fh_time.proofs.Orders.{at_most, next_order}
 
 -- ---- at a tick
 
@@ -61,16 +62,12 @@ left_waits c antenna landings now tick config begun order ended silent =
     (no_ticks f now tick order (λ t low high.
     leaving_settled c antenna landings t last end_of_time config (at_most first_clock t last (at_most first_clock now t begun low) (last_before t tick high)) (last_before t tick high)
     (last_by tick end_of_time ended)
-    ∙ ap (λ (js : List UplinkJob). leaving_at n (frames_behind c antenna [] (messages_of c js)) t) silent.none_starts
+    ∙ ap (λ (js : List UplinkJob). leaving_at n (frames_behind c antenna [] (uplink_messages_of c js)) t) silent.none_starts
     ∙ silent.none_leaves t low high))
 
 pub left_is_all : LeftIsAll
 unfolding in_sent_order
 left_is_all c antenna landings = refl
-
-none_of_ticks : {A : Type 0} (from : ℤ) (f : ℤ → List A) → each_tick from 0 f ≡ []
-unfolding each_tick
-none_of_ticks from f = refl
 
 pub left_ends : LeftEnds
 left_ends c antenna landings now over =

@@ -9,7 +9,7 @@ use Rattle.replay_events.specs.unit_model.specs.Uplink.{symbol_jobs}
 use Rattle.replay_events.specs.unit_model.specs.declared.jobs.UplinkJob.{UplinkJob}
 use Rattle.replay_events.specs.history_laws.proofs.TickLemmas.{next_is_later, next_of_last}
 use Rattle.replay_events.proofs.TickLemmas.{sweep_alone}
-use Rattle.uplink_streams.specs.uplink_model.specs.Messages.{messages_of}
+use Rattle.uplink_streams.specs.uplink_model.specs.Messages.{uplink_messages_of}
 use Rattle.uplink_streams.proofs.TurnLemmas.{messages_end_in_time}
 use Rattle.uplink_turns.specs.TurnLaws.{MessagesGoOn, MessagesGoOnFrom}
 use Rattle.uplink_turns.specs.Turns.{all_accepted, jobs_between, messages_between, messages_until}
@@ -24,8 +24,8 @@ from_none : (c : Config) (landings : List Arrival) (now tick : ℤ) → first_cl
 from_none c landings now tick begun order early =
     let none = no_jobs_before c landings (now -ℤ pos 1) early in
     let rest = jobs_between c landings now (tick +ℤ pos 1) in
-    ap (messages_of c) (jobs_go_on_from c landings now tick begun order ∙ ap (λ (js : List UplinkJob). js ++ rest) none)
-    ∙ sym (ap (λ (js : List UplinkJob). messages_of c js ++ messages_of c rest) none)
+    ap (uplink_messages_of c) (jobs_go_on_from c landings now tick begun order ∙ ap (λ (js : List UplinkJob). js ++ rest) none)
+    ∙ sym (ap (λ (js : List UplinkJob). uplink_messages_of c js ++ uplink_messages_of c rest) none)
 
 -- and those of later ones
 from_some : (c : Config) (landings : List Arrival) (now tick : ℤ) → now ≤ℤ (tick +ℤ pos 1) → first_clock ≤ℤ (now -ℤ pos 1)
@@ -34,7 +34,7 @@ from_some c landings now tick order begun =
     let g = symbol_jobs (all_accepted c landings) in
     let earlier = messages_until c landings (now -ℤ pos 1) in
     messages_end_in_time c (all_accepted c landings) (now -ℤ pos 1) tick begun (last_before now tick order)
-    ∙ ap (λ (t : ℤ). earlier ++ messages_of c (sweep g c.endpoints t (tick +ℤ pos 1))) (next_of_last now)
+    ∙ ap (λ (t : ℤ). earlier ++ uplink_messages_of c (sweep g c.endpoints t (tick +ℤ pos 1))) (next_of_last now)
 
 pub messages_go_on_from : MessagesGoOnFrom
 messages_go_on_from c landings now tick begun order =
@@ -44,4 +44,4 @@ pub messages_go_on : MessagesGoOn
 messages_go_on c landings tick begun =
     let earlier = messages_until c landings (tick -ℤ pos 1) in
     messages_go_on_from c landings tick tick begun (next_is_later tick)
-    ∙ ap (λ (js : List UplinkJob). earlier ++ messages_of c js) (sweep_alone (symbol_jobs (all_accepted c landings)) c.endpoints tick)
+    ∙ ap (λ (js : List UplinkJob). earlier ++ uplink_messages_of c js) (sweep_alone (symbol_jobs (all_accepted c landings)) c.endpoints tick)

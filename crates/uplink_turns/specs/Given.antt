@@ -11,7 +11,7 @@ use Rattle.replay_events.specs.unit_model.specs.Times.{end_of_time}
 use Rattle.replay_events.specs.unit_model.specs.declared.jobs.UplinkJob.{UplinkJob}
 use Rattle.replay_events.specs.Moments.{arrivals_before}
 use Rattle.replay_events.specs.Passing.{AreLandings}
-use Rattle.uplink_turns.specs.Turns.{jobs_at, jobs_until}
+use Rattle.uplink_turns.specs.Turns.{jobs_of_tick, jobs_until}
 
 -- the jobs up to a time that a history has still to give
 abbrev pub owed_until : Config → History → ℤ → List UplinkJob
@@ -29,7 +29,7 @@ pub record HasSeen (c : Config) (landings : List Arrival) (seen : ℤ) (h : Hist
 abbrev pub OwesTick : Type 0
 OwesTick =
     (c : Config) (landings : List Arrival) (tick seen : ℤ) (h : History) → HasSeen c landings seen h → first_clock ≤ℤ tick → tick ≤ℤ seen
-    → h.given ≡ jobs_until c landings (tick -ℤ pos 1) → owed_until c h tick ≡ jobs_at c landings tick
+    → h.given ≡ jobs_until c landings (tick -ℤ pos 1) → owed_until c h tick ≡ jobs_of_tick c landings tick
 
 -- and once it gave them, all up to the tick are given
 abbrev pub GivesTick : Type 0

@@ -14,7 +14,7 @@ use Rattle.replay_events.specs.Passing.{AreLandings}
 use Rattle.uplink_streams.specs.uplink_model.specs.Frames.{Antenna}
 use Rattle.uplink_streams.specs.uplink_model.specs.Sent.{in_sent_order}
 use Rattle.uplink_streams.specs.uplink_model.specs.SentLaws.{AreOf}
-use Rattle.uplink_turns.specs.Turns.{handed_at, handed_behind, handed_between, handed_until, jobs_at, jobs_between, jobs_until, leaving_of_handed, left_from, messages_at, messages_between, messages_until, leaving_in_turn}
+use Rattle.uplink_turns.specs.Turns.{handed_at, handed_behind, handed_between, handed_until, jobs_of_tick, jobs_between, jobs_until, leaving_of_handed, left_from, messages_of_tick, messages_between, messages_until, leaving_in_turn}
 
 -- ---- jobs
 
@@ -28,7 +28,7 @@ JobsAreSettled =
 abbrev pub JobsGoOn : Type 0
 JobsGoOn =
     (c : Config) (landings : List Arrival) (tick : ℤ) → first_clock ≤ℤ tick
-    → jobs_until c landings tick ≡ jobs_until c landings (tick -ℤ pos 1) ++ jobs_at c landings tick
+    → jobs_until c landings tick ≡ jobs_until c landings (tick -ℤ pos 1) ++ jobs_of_tick c landings tick
 
 -- and those before an earlier tick, and those from it on
 abbrev pub JobsGoOnFrom : Type 0
@@ -46,7 +46,7 @@ NoJobsYet = (c : Config) (landings : List Arrival) (to : ℤ) → IsConfig c →
 
 -- each starts when it is said to
 abbrev pub JobsStartThen : Type 0
-JobsStartThen = (c : Config) (landings : List Arrival) (tick : ℤ) → All (λ j. j.s.0 ≡ tick) (jobs_at c landings tick)
+JobsStartThen = (c : Config) (landings : List Arrival) (tick : ℤ) → All (λ j. j.s.0 ≡ tick) (jobs_of_tick c landings tick)
 
 abbrev pub JobsStartBetween : Type 0
 JobsStartBetween =
@@ -57,7 +57,7 @@ JobsStartBetween =
 abbrev pub MessagesGoOn : Type 0
 MessagesGoOn =
     (c : Config) (landings : List Arrival) (tick : ℤ) → first_clock ≤ℤ tick
-    → messages_until c landings tick ≡ messages_until c landings (tick -ℤ pos 1) ++ messages_at c landings tick
+    → messages_until c landings tick ≡ messages_until c landings (tick -ℤ pos 1) ++ messages_of_tick c landings tick
 
 abbrev pub MessagesGoOnFrom : Type 0
 MessagesGoOnFrom =
@@ -113,7 +113,7 @@ LeftGoesOn =
     → left_from c antenna landings now ≡ leaving_in_turn c antenna landings now ++ left_from c antenna landings (now +ℤ pos 1)
 
 -- nothing starts from one tick on and before another, and of what was handed over before nothing leaves
-pub record IsSilent (c : Config) (antenna : Antenna) (landings : List Arrival) (now tick : ℤ) : Type 0 where
+pub record IsSilentTurn (c : Config) (antenna : Antenna) (landings : List Arrival) (now tick : ℤ) : Type 0 where
   pub none_starts : jobs_until c landings (tick -ℤ pos 1) ≡ jobs_until c landings (now -ℤ pos 1)
   pub none_leaves : (t : ℤ) → now ≤ℤ t → t <ℤ tick → leaving_of_handed c antenna landings (now -ℤ pos 1) t ≡ []
 
@@ -121,7 +121,7 @@ pub record IsSilent (c : Config) (antenna : Antenna) (landings : List Arrival) (
 abbrev pub LeftWaits : Type 0
 LeftWaits =
     (c : Config) (antenna : Antenna) (landings : List Arrival) (now tick : ℤ) → IsConfig c → first_clock ≤ℤ now → now ≤ℤ tick → tick ≤ℤ (end_of_time +ℤ pos 1)
-    → IsSilent c antenna landings now tick → left_from c antenna landings now ≡ left_from c antenna landings tick
+    → IsSilentTurn c antenna landings now tick → left_from c antenna landings now ≡ left_from c antenna landings tick
 
 -- from the beginning they are all, in the sent order
 abbrev pub LeftIsAll : Type 0

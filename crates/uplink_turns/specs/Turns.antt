@@ -15,7 +15,7 @@ use Rattle.replay_events.specs.unit_model.specs.declared.jobs.UplinkJob.{UplinkJ
 use Rattle.uplink_streams.specs.plan_model.specs.Packs.{Message}
 use Rattle.replay_events.specs.Moments.{all_arrivals}
 use Rattle.uplink_streams.specs.uplink_model.specs.Frames.{Antenna, frames_behind}
-use Rattle.uplink_streams.specs.uplink_model.specs.Messages.{messages_of}
+use Rattle.uplink_streams.specs.uplink_model.specs.Messages.{uplink_messages_of}
 use Rattle.uplink_streams.specs.uplink_model.specs.Sent.{leaving_at}
 
 -- what the unit accepts of all that lands at it
@@ -33,19 +33,19 @@ abbrev pub jobs_between : Config → List Arrival → ℤ → ℤ → List Uplin
 jobs_between c landings from end = sweep (symbol_jobs (all_accepted c landings)) c.endpoints from end
 
 -- those whose symbols start at a tick
-abbrev pub jobs_at : Config → List Arrival → ℤ → List UplinkJob
-jobs_at c landings tick = at_tick (symbol_jobs (all_accepted c landings)) c.endpoints tick
+abbrev pub jobs_of_tick : Config → List Arrival → ℤ → List UplinkJob
+jobs_of_tick c landings tick = at_tick (symbol_jobs (all_accepted c landings)) c.endpoints tick
 
 -- ---- messages
 
 abbrev pub messages_until : Config → List Arrival → ℤ → List (Message UplinkJob)
-messages_until c landings t = messages_of c (jobs_until c landings t)
+messages_until c landings t = uplink_messages_of c (jobs_until c landings t)
 
 abbrev pub messages_between : Config → List Arrival → ℤ → ℤ → List (Message UplinkJob)
-messages_between c landings from end = messages_of c (jobs_between c landings from end)
+messages_between c landings from end = uplink_messages_of c (jobs_between c landings from end)
 
-abbrev pub messages_at : Config → List Arrival → ℤ → List (Message UplinkJob)
-messages_at c landings tick = messages_of c (jobs_at c landings tick)
+abbrev pub messages_of_tick : Config → List Arrival → ℤ → List (Message UplinkJob)
+messages_of_tick c landings tick = uplink_messages_of c (jobs_of_tick c landings tick)
 
 -- ---- frames, as they are handed over
 
@@ -63,7 +63,7 @@ handed_between c antenna landings from end = handed_behind c antenna landings fr
 
 -- those of a tick
 abbrev pub handed_at : Config → Antenna → List Arrival → ℤ → List LinkFrame
-handed_at c antenna landings tick = handed_behind c antenna landings tick (messages_at c landings tick)
+handed_at c antenna landings tick = handed_behind c antenna landings tick (messages_of_tick c landings tick)
 
 -- ---- frames, as they are sent
 

@@ -1,19 +1,13 @@
 -- What the check of a delay profile means.
-use Rattle.std.proofs.Common.{◌≡◌, ℕ, ℤ, zero, suc, ◌<◌, ◌≤ℤ◌, ◌↔◌, Bool, true, false, List, [], ◌∷◌, Result, Err, IsOk, IfErr, refl, sym, ap, ◌∙◌, arith, inl, inr}
-use Rattle.std.specs.Prelude.{int_le, if◌then◌else◌}
-use Rattle.std.proofs.lemmas.Int.{ints}
+use Rattle.std.proofs.Common.{◌≡◌, ℕ, zero, suc, ◌<◌, ◌↔◌, Bool, true, false, List, [], ◌∷◌, Result, Err, IsOk, IfErr, refl, sym, ap, ◌∙◌, arith, inl, inr}
+use Rattle.std.specs.Prelude.{if◌then◌else◌}
 use Rattle.std.proofs.lemmas.Bool.{cases_lt}
 use Rattle.window_config.specs.declared.delays.Delays.{Delays}
 use Rattle.window_config.specs.declared.relations.Failing.{Failing}
 use Rattle.window_config.specs.declared.relations.Relation.{Relation}
 use Rattle.window_config.specs.declared.relations.Relation.TheVariants.{UpMax, UpMin, CpUlMax, CpUlMin, Ta4Min, Ta4Max, HoldDl, HoldUl}
 use Rattle.window_config.specs.Relations.{relations, number_of, holds, failing_of, first_failing, checked, PassesCheck, IsFirstFailing}
-
-le_true : (x y : ℤ) → int_le x y ≡ true → x ≤ℤ y
-le_true x y e = grind (arith, ints)
-
-true_le : (x y : ℤ) → x ≤ℤ y → int_le x y ≡ true
-true_le x y h = grind (arith, ints)
+use Rattle.fh_time.proofs.Orders.{le_true, true_le}
 
 abbrev AllHold : List Relation → Delays → Type 0
 AllHold [] d = Unit {0}

@@ -2,3 +2,4 @@ pub mod Timing
 pub mod Live
 pub mod Checking
 pub mod Usual
+pub mod TickLemmas

@@ -18,7 +18,8 @@ use Rattle.window_config.specs.Limits.{IsWithinLimits}
 use Rattle.window_config.specs.Windows.{ticks_of_ns, command_window_of}
 use Rattle.window_config.specs.Classes.{class_of, class_up_of, IsOnTime, IsOnTimeUp}
 use Rattle.window_config.specs.Rings.{IsLive}
-use Rattle.window_config.proofs.Timing.{under, not_under, class_on_time, class_up_on_time}
+use Rattle.window_config.proofs.Timing.{class_on_time, class_up_on_time}
+use Rattle.fh_time.proofs.Orders.{after_by, low_one, under, not_under}
 
 begun_before : (start s first clock most before : ℤ) → start ≤ℤ s → (s -ℤ first) ≤ℤ (most *ℤ pos 1536) → first ≤ℤ clock → most ≤ℤ before
     → (start -ℤ before *ℤ pos 1536) ≤ℤ clock
@@ -99,9 +100,6 @@ near_after a b d places e h = omega (arith, ints)
 near_before : (a b : ℤ) (d places : ℕ) → negsuc d ≡ b -ℤ a → b <ℤ (a +ℤ pos places)
 near_before a b d places e = omega (arith, ints)
 
-after_by : (a b : ℤ) (d : ℕ) → pos d ≡ b -ℤ a → b ≡ a +ℤ pos d
-after_by a b d e = omega (arith, ints)
-
 by_number : (n : Numerology) (before after clock z : ℤ) (a b : Slot) (most : ℕ) → z ≡ slot_number n b -ℤ slot_number n a → 0 < least_slot_of n
     → pos most ≡ ticks_of_ns before +ℤ pos (span_of n) +ℤ ticks_of_ns after → IsSlotOf n a → IsSlotOf n b → IsLive n before after clock a → IsLive n before after clock b
     → slot_number n b <ℤ (slot_number n a +ℤ pos (most / least_slot_of n + 1))
@@ -139,9 +137,6 @@ live_is n slot before after clock soon true none soon_is late_is =
 
 low_sum : (a b : ℤ) → pos 1 ≤ℤ a → pos 0 ≤ℤ b → pos 0 ≤ℤ (a +ℤ b)
 low_sum a b h k = omega (arith, ints)
-
-low_one : (a : ℤ) → pos 1 ≤ℤ a → pos 0 ≤ℤ a
-low_one a h = omega (arith, ints)
 
 -- a command that is on time at the RU names a live slot, whichever its direction
 pub live_on_command : (d : Delays) (n : Numerology) (slot : Slot) (symbol : ℕ) (first clock before after : ℤ) (down : Bool) → IsWithinLimits d

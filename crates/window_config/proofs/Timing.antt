@@ -1,11 +1,11 @@
 -- What the classes mean.
-use Rattle.std.proofs.Common.{◌≡◌, ℤ, ◌-ℤ◌, ◌≤ℤ◌, ◌<ℤ◌, ◌↔◌, Bool, true, false, refl, arith}
+use Rattle.std.proofs.Common.{◌≡◌, ℤ, ◌-ℤ◌, ◌<ℤ◌, ◌↔◌, Bool, true, false, refl}
 use Rattle.std.specs.Prelude.{int_lt}
-use Rattle.std.proofs.lemmas.Int.{ints}
 use Rattle.window_config.specs.declared.delays.Range.{Range}
 use Rattle.window_config.specs.declared.verdicts.Class.TheVariants.{OnTime, Late}
 use Rattle.window_config.specs.Windows.{ticks_of_ns}
 use Rattle.window_config.specs.Classes.{classified, class_of, class_up_of, IsOnTime, IsOnTimeUp}
+use Rattle.fh_time.proofs.Orders.{under, under_is, not_under, not_under_is}
 
 late_first : (a b : Bool) → (classified a b ≡ Late) ↔ (a ≡ true)
 late_first true b = (λ _. refl, λ _. refl)
@@ -21,18 +21,6 @@ on_time : (a b : Bool) → a ≡ false → b ≡ false → classified a b ≡ On
 on_time true b p q = cc
 on_time false true p q = cc
 on_time false false p q = refl
-
-pub under : (x y : ℤ) → int_lt x y ≡ true → x <ℤ y
-under x y e = grind (arith, ints)
-
-under_is : (x y : ℤ) → x <ℤ y → int_lt x y ≡ true
-under_is x y h = grind (arith, ints)
-
-pub not_under : (x y : ℤ) → int_lt x y ≡ false → y ≤ℤ x
-not_under x y e = grind (arith, ints)
-
-not_under_is : (x y : ℤ) → y ≤ℤ x → int_lt x y ≡ false
-not_under_is x y h = grind (arith, ints)
 
 pub class_late : (first last s : ℤ) (w : Range) → (class_of first last s w ≡ Late) ↔ ((s -ℤ last) <ℤ ticks_of_ns w.min)
 class_late first last s w =

@@ -3,11 +3,12 @@ use Rattle.std.proofs.Common.{ℕ, pos, ◌≤◌, arith}
 use Rattle.std.proofs.lemmas.Int.{ints}
 use Rattle.window_config.specs.Limits.{IsTime, IsRange, IsWithinLimits}
 use Rattle.window_config.specs.Usual.{span, usual_delays}
+use Rattle.window_config.specs.declared.delays.TheConstants.{MOST_DELAY}
 
-span_in : (low least most : ℕ) → low ≤ least → least ≤ most → most ≤ 2000000 → IsRange low (span least most)
+span_in : (low least most : ℕ) → low ≤ least → least ≤ most → most ≤ MOST_DELAY → IsRange low (span least most)
 span_in low least most a b c = record { low = omega (arith, ints); order = omega (arith, ints); high = omega (arith, ints) }
 
-time_in : (n : ℕ) → n ≤ 2000000 → IsTime (pos n)
+time_in : (n : ℕ) → n ≤ MOST_DELAY → IsTime (pos n)
 time_in n a = record { low = omega (arith, ints); high = omega (arith, ints) }
 
 pub usual_within : IsWithinLimits usual_delays

@@ -3,6 +3,7 @@ use Rattle.std.specs.Prelude.{◌≤◌}
 use Rattle.window_config.specs.declared.config.Config.{Config}
 use Rattle.window_config.specs.Limits.{IsTime, IsWithinLimits}
 use Rattle.window_config.specs.Endpoints.{AreEndpoints}
+use Rattle.window_config.specs.declared.config.TheConstants.{MESSAGE_SECTIONS}
 
 pub record IsConfig (c : Config) : Type 0 where
   pub delays : IsWithinLimits c.delays
@@ -10,5 +11,5 @@ pub record IsConfig (c : Config) : Type 0 where
   pub fragment_low : 128 ≤ c.fragment
   pub fragment_high : c.fragment ≤ 9000
   pub pack_low : 1 ≤ c.pack
-  pub pack_high : c.pack ≤ 64
+  pub pack_high : c.pack ≤ MESSAGE_SECTIONS
   pub endpoints : AreEndpoints c.endpoints

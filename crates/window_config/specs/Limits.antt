@@ -3,17 +3,18 @@ use Rattle.std.specs.Prelude.{ℕ, ℤ, pos, ◌≤ℤ◌}
 use Rattle.window_config.specs.declared.delays.Range.{Range}
 use Rattle.window_config.specs.declared.delays.Delays.{Delays}
 use Rattle.window_config.specs.declared.rings.Reach.{Reach}
+use Rattle.window_config.specs.declared.delays.TheConstants.{MOST_DELAY}
 
 -- one configured time: 0 to 2 ms
 pub record IsTime (ns : ℤ) : Type 0 where
   pub low : pos 0 ≤ℤ ns
-  pub high : ns ≤ℤ pos 2000000
+  pub high : ns ≤ℤ pos MOST_DELAY
 
 -- a configured range, whose minimum has a least value
 pub record IsRange (least : ℕ) (r : Range) : Type 0 where
   pub low : pos least ≤ℤ r.min
   pub order : r.min ≤ℤ r.max
-  pub high : r.max ≤ℤ pos 2000000
+  pub high : r.max ≤ℤ pos MOST_DELAY
 
 -- a delay profile within the limits
 pub record IsWithinLimits (d : Delays) : Type 0 where

@@ -4,6 +4,9 @@ use crate::delays::Delays;
 use crate::endpoints::EndpointList;
 use eaxc_map::Widths;
 
+/// The most sections of a U-plane message where it is sent.
+pub const MESSAGE_SECTIONS: usize = 64;
+
 /// The configuration of both units.
 ///
 /// Within the limits the delays are, the gap lies from 0 to 2,000,000 ns, `fragment` from 128 to 9,000, `pack` from 1 to 64, and

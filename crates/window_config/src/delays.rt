@@ -1,6 +1,9 @@
 // The times that both units and the network between them are configured with.
 ghost use Rattle.std.specs.Prelude.{◌≡◌};
 
+/// The greatest of each time of a delay profile, 2 ms, in nanoseconds.
+pub const MOST_DELAY: u64 = 2_000_000;
+
 /// The least and the greatest of a time in whole nanoseconds, both inclusive.
 #[derive(Clone, Copy, Debug, PartialEq, Eq)]
 pub struct Range {

@@ -2,6 +2,9 @@
 
 use fh_time::Slot;
 
+/// The last frame that a line names.
+pub const LAST_FRAME: u64 = 99_999;
+
 /// What a line plans.
 #[derive(Clone, Copy, Debug, PartialEq, Eq)]
 pub enum PlanKind {

@@ -1,6 +1,6 @@
 -- Tests on signed numbers, and the cases of a fit.
 use Rattle.std.proofs.Common.{◌≡◌, ℤ, ◌≤ℤ◌, ◌<ℤ◌, Bool, true, false, Result, Ok, Err, refl, sym, ap, ◌∙◌, arith}
-use Rattle.std.specs.Prelude.{int_lt, int_le, if◌then◌else◌}
+use Rattle.std.specs.Prelude.{int_lt, if◌then◌else◌}
 use Rattle.std.proofs.lemmas.Int.{ints, clamps}
 use Rattle.window_config.specs.declared.delays.Range.{Range}
 use Rattle.window_config.specs.declared.delays.Delays.{Delays}
@@ -8,24 +8,7 @@ use Rattle.window_config.specs.Limits.{IsWithinLimits}
 use Rattle.window_plan.specs.declared.refusals.NoFit.{NoFit}
 use Rattle.window_plan.specs.declared.refusals.Window.TheVariants.{Up, CpUl, Ta4}
 use Rattle.window_plan.specs.Fitting.{longest, planned, no_fit, hold_for, sent_within, heard_within, fitted}
-
-pub under : (x y : ℤ) → int_lt x y ≡ true → x <ℤ y
-under x y e = grind (arith, ints)
-
-pub not_under : (x y : ℤ) → int_lt x y ≡ false → y ≤ℤ x
-not_under x y e = grind (arith, ints)
-
-pub under_is : (x y : ℤ) → x <ℤ y → int_lt x y ≡ true
-under_is x y h = grind (arith, ints)
-
-pub not_under_is : (x y : ℤ) → y ≤ℤ x → int_lt x y ≡ false
-not_under_is x y h = grind (arith, ints)
-
-pub at_most : (x y : ℤ) → int_le x y ≡ true → x ≤ℤ y
-at_most x y e = grind (arith, ints)
-
-pub not_at_most : (x y : ℤ) → int_le x y ≡ false → y <ℤ x
-not_at_most x y e = grind (arith, ints)
+use Rattle.fh_time.proofs.Orders.{under, not_under, not_under_is}
 
 -- what holds of both is what holds of the choice
 by_test : {R : Type 0} (P : R → Type 0) (b : Bool) (x y : R) → (b ≡ true → P x) → (b ≡ false → P y) → P (if b then x else y)

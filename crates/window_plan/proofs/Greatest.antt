@@ -8,7 +8,8 @@ use Rattle.window_config.specs.Limits.{IsRange, IsWithinLimits}
 use Rattle.window_plan.specs.declared.refusals.Window.TheVariants.{Up, CpUl, Ta4}
 use Rattle.window_plan.specs.Fitting.{longest, planned, fitted}
 use Rattle.window_plan.specs.Ranges.{IsInside, Meets}
-use Rattle.window_plan.proofs.Cases.{at_most, fitted_cases}
+use Rattle.window_plan.proofs.Cases.{fitted_cases}
+use Rattle.fh_time.proofs.Orders.{le_true as at_most}
 
 least_of : (a b x : ℤ) → x ≤ℤ a → x ≤ℤ b → x ≤ℤ int_min a b
 least_of a b x h k = omega (arith, ints, clamps)

@@ -10,7 +10,7 @@ use Rattle.window_config.specs.Windows.{ticks_of_ns}
 use Rattle.window_config.specs.Classes.{classified, class_of, class_up_of}
 use Rattle.window_config.specs.Relations.{holds}
 use Rattle.window_plan.specs.Breaches.{before, arrival, IsIn, MissesWindow}
-use Rattle.window_plan.proofs.Cases.{under_is, not_under_is, not_at_most}
+use Rattle.fh_time.proofs.Orders.{under_is, not_under_is, weak as weaker, le_false as not_at_most, later_than as least_first, below as least_last}
 
 is_late : (late early : Bool) → late ≡ true → classified late early ≡ Late
 is_late true early e = refl
@@ -34,15 +34,6 @@ gap_after s ns sent delay h = omega (arith, ints)
 
 gap_short : (s ns sent delay : ℤ) → (sent +ℤ delay) <ℤ ns → (arrival s sent delay -ℤ s) <ℤ ticks_of_ns ns
 gap_short s ns sent delay h = omega (arith, ints)
-
-weaker : (a b : ℤ) → a <ℤ b → a ≤ℤ b
-weaker a b h = omega (arith, ints)
-
-least_first : (a b c : ℤ) → a ≤ℤ b → b <ℤ c → a <ℤ c
-least_first a b c h k = omega (arith, ints)
-
-least_last : (a b c : ℤ) → a <ℤ b → b ≤ℤ c → a <ℤ c
-least_last a b c h k = omega (arith, ints)
 
 -- at the RU: early where it comes more than the maximum before the symbol, late where it comes less than the minimum before it
 early_before : (w : Range) (s sent delay : ℤ) → w.min ≤ℤ w.max → w.max <ℤ (neg_ℤ sent -ℤ delay) → class_of (arrival s sent delay) (arrival s sent delay) s w ≡ Early

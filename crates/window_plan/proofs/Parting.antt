@@ -2,7 +2,6 @@
 use Rattle.std.proofs.Common.{◌≡◌, ℕ, ℤ, pos, ◌+ℤ◌, ◌-ℤ◌, ◌≤ℤ◌, ◌<ℤ◌, neg_ℤ, Bool, true, false, List, [], ◌∷◌, Some, None, IsTrue, IsNone, IfSome, ◌↔◌, refl, sym, ap, ap₂, subst, ◌∙◌, arith}
 use Rattle.std.specs.Prelude.{⊤, if◌then◌else◌}
 use Rattle.std.proofs.lemmas.Int.{ints}
-use Rattle.std.proofs.lemmas.Grind.{common_steps}
 use Rattle.window_config.specs.declared.delays.Delays.{Delays}
 use Rattle.window_config.specs.declared.relations.Relation.{Relation}
 use Rattle.window_config.specs.declared.relations.Relation.TheVariants.{UpMax, UpMin, CpUlMax, CpUlMin, Ta4Min, Ta4Max, HoldDl, HoldUl}
@@ -12,8 +11,10 @@ use Rattle.window_config.specs.Relations.{holds}
 use Rattle.ecpri_fragments.specs.Generations.{Fragment, Generation, is_of, of_id, is_within, with_fragment, generations, generations_of, begins, start_in, is_first, begun, joined}
 use Rattle.window_plan.specs.declared.breaches.Breach.{Breach}
 use Rattle.window_plan.specs.Breaches.{before, sent_in, delayed_by, hold_of, arrival, IsIn, NoneAfter, Parts, extreme_of, breach_of, Breaks}
-use Rattle.window_plan.proofs.Cases.{not_at_most}
 use Rattle.window_plan.proofs.Missing.{at_min, at_max, turned, up_max_misses, up_min_misses, cp_ul_max_misses, cp_ul_min_misses, ta4_min_misses, ta4_max_misses}
+use Rattle.fh_time.proofs.Orders.{le_false as not_at_most}
+use Rattle.ecpri_fragments.proofs.Ids.{same_id as own_id}
+use Rattle.window_config.proofs.TickLemmas.{positive as some_ticks}
 
 -- a generation that had begun by one time is over more than the hold after it
 over : (hold start at later : ℤ) → start ≤ℤ at → (at +ℤ hold) <ℤ later → is_within hold start later ≡ false
@@ -68,9 +69,6 @@ begins_over : (hold at later : ℤ) (gs : List Generation) → LastBegun at gs �
 begins_over hold at later [] h apart = refl
 begins_over hold at later (g ∷ gs) h apart = ap (λ b. if b then false else true) (over hold g.start at later h apart)
 
-own_id : (a : Fragment) → is_of a.ep a.seq a ≡ true
-own_id a = grind (arith, common_steps)
-
 id_of : (a b : Fragment) → b.ep ≡ a.ep → b.seq ≡ a.seq → is_of b.ep b.seq a ≡ true
 id_of a b e f = ap₂ (λ ep seq. is_of ep seq a) e f ∙ own_id a
 
@@ -85,9 +83,6 @@ first_behind hold a b earlier apart ep seq none =
 farther : (s hold sent delay later later_delay : ℤ) → hold <ℤ ((later -ℤ sent) +ℤ (later_delay -ℤ delay))
     → (arrival s sent delay +ℤ ticks_of_ns hold) <ℤ arrival s later later_delay
 farther s hold sent delay later later_delay h = omega (arith, ints)
-
-some_ticks : (hold : ℤ) → pos 0 ≤ℤ hold → pos 0 ≤ℤ ticks_of_ns hold
-some_ticks hold h = omega (arith, ints)
 
 parts : (r : Relation) (d : Delays) (hold sent delay later later_delay : ℤ) → hold_of r d ≡ hold → pos 0 ≤ℤ hold → IsIn (sent_in r d) sent → IsIn (delayed_by r d) delay
     → IsIn (sent_in r d) later → IsIn (delayed_by r d) later_delay → hold <ℤ ((later -ℤ sent) +ℤ (later_delay -ℤ delay)) → Parts r d sent delay later later_delay

@@ -7,10 +7,11 @@ use Rattle.window_config.specs.declared.delays.Delays.{Delays}
 use Rattle.window_plan.specs.declared.refusals.NoFit.{NoFit}
 use Rattle.window_plan.specs.declared.refusals.Window.{Window}
 use Rattle.window_plan.specs.declared.refusals.Window.TheVariants.{Up, CpUl, Ta4, HoldDl, HoldUl}
+use Rattle.window_config.specs.declared.delays.TheConstants.{MOST_DELAY}
 
 -- the greatest configured time
 abbrev pub longest : ℤ
-longest = pos 2000000
+longest = pos MOST_DELAY
 
 -- T1a for T2a and T12: what is sent last is in time at the greatest delay, and what is sent first is not early at the least
 abbrev pub t1a_for : Range → Range → Range

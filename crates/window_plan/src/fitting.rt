@@ -7,10 +7,7 @@ ghost use Rattle.window_plan.specs.Fitting.{t1a_for, ta4_for, hold_for, sent_wit
 ghost use Rattle.window_plan.specs.Ranges.{IsInside, Meets, KeepsRest};
 
 use crate::refusals::{NoFit, Window};
-use window_config::{Delays, Range};
-
-/// The greatest time that a profile may have.
-const LONGEST: i64 = 2_000_000;
+use window_config::{Delays, MOST_DELAY, Range};
 
 // how long two frames of one message can arrive apart
 pub(crate) fn hold_for(sent: Range, delay: Range) -> i64
@@ -29,7 +26,7 @@ fn t1a_for(t2a: Range, t12: Range) -> Range
 {
     Range {
         min: t2a.min + t12.max,
-        max: (t2a.max + t12.min).min(LONGEST),
+        max: (t2a.max + t12.min).min(MOST_DELAY as i64),
     }
 }
 
@@ -60,11 +57,11 @@ fn heard_within(ta3: Range, t34: Range) -> Result<Range, NoFit>
 {
     let min = ta3.min + t34.min;
     let max = ta3.max + t34.max;
-    if LONGEST < max {
+    if (MOST_DELAY as i64) < max {
         Err(NoFit {
             window: Window::Ta4,
             left: max,
-            right: LONGEST,
+            right: MOST_DELAY as i64,
         })
     } else {
         Ok(Range { min, max })

@@ -1,4 +1,4 @@
-use Rattle.bench_uplink.specs.Steps.{IsSenderOf, IsUnitOf}
+use Rattle.uplink_path.specs.Steps.{IsSenderOf, IsUnitOf}
 use Rattle.bench_uplink.proofs.running.send_slots.Given as goal
 
 abbrev pub invariant-loop-slot : goal.invariant-loop-slot

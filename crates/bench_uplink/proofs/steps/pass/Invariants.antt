@@ -1,4 +1,4 @@
-use Rattle.bench_uplink.specs.Steps.{IsSenderOf, IsUnitOf}
+use Rattle.uplink_path.specs.Steps.{IsSenderOf, IsUnitOf}
 use Rattle.bench_uplink.proofs.steps.pass.Given as goal
 
 abbrev pub invariant-loop : goal.invariant-loop

@@ -1,4 +1,4 @@
-use Rattle.bench_uplink.proofs.StepLemmas.{sender_sent, unit_sent}
+use Rattle.uplink_path.proofs.StepLemmas.{sender_sent, unit_sent}
 use Rattle.bench_uplink.proofs.steps.send.Goals as goal
 
 pub returns-clause-unit : goal.returns-clause-unit

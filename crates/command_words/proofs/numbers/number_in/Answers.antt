@@ -2,8 +2,9 @@ use Rattle.std.proofs.Common.{rules, tests, ◌≡◌, ◌≤◌, ◌^◌, ◌+�
 use Rattle.std.specs.Char.{digit_value}
 use Rattle.std.proofs.Math.Nat.{pow-le-pow_right}
 use Rattle.std.proofs.lemmas.Str.{digit_value_digit}
-use Rattle.command_words.proofs.Digits.{push_fits, all_more, value_more}
+use Rattle.command_words.proofs.Digits.{all_more, value_more}
 use Rattle.command_words.proofs.numbers.number_in.Goals as goal
+use Rattle.fh_time.proofs.Orders.{push_fits}
 
 pub overflow_mul-n : goal.overflow_mul-n
 overflow_mul-n c =

@@ -1,13 +1,14 @@
 use Rattle.std.proofs.Common.{ℕ, List, ◌++◌, length, take, refl, rules, sym, ap, ap₂, ◌∙◌}
 use Rattle.std.specs.Prelude.{replicate}
+use Rattle.std.proofs.lemmas.List.{drop_at}
 use Rattle.measured_traffic.proofs.FrameLemmas.{frames_are_written}
-use Rattle.delay_exchange.proofs.Framed.{behind_four, put_behind}
+use Rattle.delay_exchange.proofs.Framed.{put_behind}
 use Rattle.delay_exchange.proofs.framing.frame_of.Goals as goal
 
 pub copy_from_slice-requires-2 : goal.copy_from_slice-requires-2
 copy_from_slice-requires-2 c =
     let four = ap length c.copy_from_slice.ensures.after ∙ c.put_head-header.ensures.len in
-    ap (λ xs. length (take 20 xs)) (behind_four c.copy_from_slice.new.self _ four) ∙ sym c.put_delay-payload.ensures.len
+    ap (λ xs. length (take 20 xs)) (drop_at c.copy_from_slice.new.self _ 4 four) ∙ sym c.put_delay-payload.ensures.len
 
 pub returns : goal.returns
 returns c =

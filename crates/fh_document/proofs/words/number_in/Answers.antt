@@ -3,8 +3,9 @@ use Rattle.std.specs.Char.{digit_value}
 use Rattle.std.proofs.Math.Nat.{pow-le-pow_right}
 use Rattle.std.proofs.lemmas.Str.{digit_value_digit}
 use Rattle.fh_document.specs.declared.words.TheConstants.{MOST_DIGITS}
-use Rattle.fh_document.proofs.DigitSteps.{push_fits, all_more, value_more}
+use Rattle.fh_document.proofs.DigitSteps.{all_more, value_more}
 use Rattle.fh_document.proofs.words.number_in.Goals as goal
+use Rattle.fh_time.proofs.Orders.{push_fits}
 
 pub overflow_mul-n : goal.overflow_mul-n
 overflow_mul-n c =

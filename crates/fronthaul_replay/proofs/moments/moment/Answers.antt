@@ -6,17 +6,17 @@ use Rattle.fronthaul_replay.proofs.moments.moment.Goals as goal
 pub begin-requires : goal.begin-requires
 begin-requires g c = (c.args.doc.now, c.requires.moment.measures)
 
-pub returns-in-Err-clause-wants : goal.returns-in-Err-clause-wants
-returns-in-Err-clause-wants g c wants =
+pub returns-in_err-begin-clause-wants : goal.returns-in_err-begin-clause-wants
+returns-in_err-begin-clause-wants g c wants =
     rests_before g.A.Air.grew (g.A.Air.stopped NoMemory) c.args.doc.now c.args.tick.0 c.args.ru.now c.args.intake.now c.args.out.now
     (g.met.A.Air.grew_none c.args.out.now) c.requires.moment.turn
 
 pub returns-in_err-land-clause-wants : goal.returns-in_err-land-clause-wants
 returns-in_err-land-clause-wants g c wants =
-    let same : c.land.result ≡ c.from_residual.result = search rules in
+    let same : c.land.result ≡ c.from_residual-in_err-land.result = search rules in
     c.land.ensures.wants (same ∙ wants)
 
-pub returns-in-Err-send_made-clause-wants : goal.returns-in-Err-send_made-clause-wants
-returns-in-Err-send_made-clause-wants g c wants =
+pub returns-in_err-send_made-clause-wants : goal.returns-in_err-send_made-clause-wants
+returns-in_err-send_made-clause-wants g c wants =
     rests_after g.A.Air.grew (g.A.Air.stopped NoMemory) c.args.doc.now c.args.tick.0 c.land.new.ru c.land.new.intake c.args.out.now c.land.new.out
     c.requires.moment.turn.radio.turn.begun c.in_ok-land.ensures.heard c.in_ok-land.ensures.turn

@@ -9,8 +9,7 @@ use Rattle.radio_moments.specs.fh_document.specs.declared.delivered.Class3.TheVa
 use Rattle.fh_time.specs.declared.values.Ticks.{Ticks}
 use Rattle.send_queue.specs.Queues.{AllHaveLeft, waiting_at}
 use Rattle.intake_moments.specs.Answers.{HasReleased}
-use Rattle.intake_moments.proofs.LeaveLemmas.{handed_by}
-use Rattle.intake_moments.proofs.ReleaseLemmas.{all_released, is_short, left_behind, next_waits, next_way, releases_none}
+use Rattle.intake_moments.proofs.ReleaseLemmas.{all_released, handed_by, is_short, left_behind, next_waits, next_way, releases_none}
 use Rattle.intake_moments.proofs.answering.release.Goals as goal
 
 pub loop-frame-init : goal.loop-frame-init

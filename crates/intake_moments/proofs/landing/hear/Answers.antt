@@ -1,99 +1,72 @@
-use Rattle.std.proofs.Common.{rules, ◌≡◌, ℕ, List, [], ◌∷◌, IfErr, inl, inr, map, ◌∙◌, subst}
+use Rattle.std.proofs.Common.{rules, ◌≡◌, [], ◌∷◌, inl, inr, map, ◌∙◌}
 use Rattle.std.proofs.lemmas.Result.{IfErr-at_err, on_ok_weaker}
-use Rattle.send_queue.specs.air_source.specs.Stops.{StopsIn}
 use Rattle.send_queue.specs.air_source.specs.declared.airs.AirFault.TheVariants.{Failed, NoMemory}
 use Rattle.send_queue.specs.air_source.specs.declared.events.Side.TheVariants.{Du as AtDu}
-use Rattle.radio_moments.specs.delay_exchange.specs.Meters.{HasDoings}
 use Rattle.radio_moments.specs.document_delays.specs.Settings.{compensation_of}
-use Rattle.du_intake.specs.Calls.{StandsFor}
 use Rattle.radio_moments.specs.frame_ways.specs.Flying.{arrival_at}
-use Rattle.radio_moments.specs.frame_ways.specs.Landed.{bytes_of}
-use Rattle.radio_moments.specs.measured_traffic.specs.Doings.{with_frame}
 use Rattle.radio_moments.specs.replay_events.specs.Events.{arrival_event, result_event}
-use Rattle.radio_moments.specs.replay_events.specs.declared.results.DelayResult.{DelayResult}
-use Rattle.send_queue.specs.unit_model.specs.Standing.{arrived, at_clock}
-use Rattle.intake_moments.specs.Turns.{planned_for}
-use Rattle.intake_moments.proofs.HearLemmas.{rests_at_meter, stops_at_arrival, stops_at_result}
+use Rattle.radio_moments.proofs.HearLemmas.{rests_arrived, stops_arriving, stops_telling}
+use Rattle.radio_moments.proofs.LandLemmas.{behind_one}
+use Rattle.intake_moments.specs.Turns.{IsIntakeInStep, planned_for}
+use Rattle.intake_moments.proofs.StopLemmas.{step_before, step_behind}
 use Rattle.intake_moments.proofs.landing.hear.Goals as goal
 
 pub returns-in_err-arrival-clause-stop : goal.returns-in_err-arrival-clause-stop
 returns-in_err-arrival-clause-stop g c d x told has ready failed =
     let same : c.arrival.result ≡ c.from_residual.result = search rules in
     let at = c.args.at.0 in
-    let bytes = bytes_of c.args.frame.now in
-    let stops = subst (λ (bs : List ℕ). IfErr c.arrival.result (λ f. g.A.Air.stopped f c.args.out.now (arrival_event AtDu (arrival_at at bs)) c.arrival.new.self)) c.as_slice.ensures c.arrival.ensures.stop in
-    stops_at_arrival g.A.Air.grew d told at bytes (with_frame (compensation_of d AtDu) at x bytes).results c.args.intake.now c.args.intake.now c.args.out.now c.args.out.now c.arrival.new.self ready
-    (g.A.Air.stopped Failed) (g.met.A.Air.grew_none c.args.out.now) (IfErr-at_err _ (same ∙ failed) stops)
+    let bytes = c.as_slice-bytes.result.now in
+    rw (← c.as_slice-bytes.ensures)
+    (stops_arriving g.A.Air.grew AtDu (arrival_at at bytes) (behind_one AtDu d at x bytes).results (λ all. IsIntakeInStep d all c.args.intake.now) told (g.A.Air.stopped Failed) c.args.out.now c.arrival.new.self
+    (g.met.A.Air.grew_none c.args.out.now) (step_before d told at c.args.intake.now ready) (IfErr-at_err _ (same ∙ failed) c.arrival.ensures.stop))
 
 pub returns-in_err-arrival-clause-wants : goal.returns-in_err-arrival-clause-wants
 returns-in_err-arrival-clause-wants g c d x told has ready wants =
     let same : c.arrival.result ≡ c.from_residual.result = search rules in
     let at = c.args.at.0 in
-    let bytes = bytes_of c.args.frame.now in
-    let stops = subst (λ (bs : List ℕ). IfErr c.arrival.result (λ f. g.A.Air.stopped f c.args.out.now (arrival_event AtDu (arrival_at at bs)) c.arrival.new.self)) c.as_slice.ensures c.arrival.ensures.stop in
-    inl (stops_at_arrival g.A.Air.grew d told at bytes (with_frame (compensation_of d AtDu) at x bytes).results c.args.intake.now c.args.intake.now c.args.out.now c.args.out.now c.arrival.new.self ready
-    (g.A.Air.stopped NoMemory) (g.met.A.Air.grew_none c.args.out.now) (IfErr-at_err _ (same ∙ wants) stops))
-
-pub returns-in-Ok-clause-heard : goal.returns-in-Ok-clause-heard
-returns-in-Ok-clause-heard g c d x has =
-    let at = c.args.at.0 in
-    let bytes = bytes_of c.args.frame.now in
-    let mid = c.arrival.new.self in
-    let end = c.tell_results.new.out in
-    let y = with_frame (compensation_of d AtDu) at x bytes in
-    let one = subst (λ (bs : List ℕ). g.A.Air.grew c.args.out.now (arrival_event AtDu (arrival_at at bs) ∷ []) mid) c.as_slice.ensures c.in_ok-arrival.ensures.heard in
-    let made = subst (λ (bs : List ℕ). HasDoings (goal.C-pre g) (goal.C-post g) d AtDu (with_frame (compensation_of d AtDu) at x bs) c.tell.new.self) c.as_slice-3.ensures
-    (c.in-Ok.ensures.doings d AtDu x has) in
-    on_ok_weaker c.tell_results.result
-    (λ results. g.met.A.Air.grew_more c.args.out.now mid end (arrival_event AtDu (arrival_at at bytes) ∷ []) (map (result_event AtDu at) y.results) one
-    (subst (λ (rs : List DelayResult). g.A.Air.grew mid (map (result_event AtDu at) rs) end) (c.results.ensures.has (compensation_of d AtDu) y made.has) results))
-    c.tell_results.ensures.heard
-
-pub returns-in-Ok-clause-made : goal.returns-in-Ok-clause-made
-returns-in-Ok-clause-made g c d x has =
-    let made = subst (λ (bs : List ℕ). HasDoings (goal.C-pre g) (goal.C-post g) d AtDu (with_frame (compensation_of d AtDu) c.args.at.0 x bs) c.tell.new.self) c.as_slice-3.ensures
-    (c.in-Ok.ensures.doings d AtDu x has) in
-    on_ok_weaker c.tell_results.result (λ results. made) c.tell_results.ensures.heard
-
-pub returns-in-Ok-clause-stop : goal.returns-in-Ok-clause-stop
-returns-in-Ok-clause-stop g c d x told has ready failed =
-    let at = c.args.at.0 in
-    let bytes = bytes_of c.args.frame.now in
-    let mid = c.arrival.new.self in
-    let end = c.tell_results.new.out in
-    let y = with_frame (compensation_of d AtDu) at x bytes in
-    let one = subst (λ (bs : List ℕ). g.A.Air.grew c.args.out.now (arrival_event AtDu (arrival_at at bs) ∷ []) mid) c.as_slice.ensures c.in_ok-arrival.ensures.heard in
-    let made = subst (λ (bs : List ℕ). HasDoings (goal.C-pre g) (goal.C-post g) d AtDu (with_frame (compensation_of d AtDu) at x bs) c.tell.new.self) c.as_slice-3.ensures
-    (c.in-Ok.ensures.doings d AtDu x has) in
-    let stands = subst (λ (bs : List ℕ). StandsFor d.config (planned_for d) c.deliver.new.self (arrived (at_clock ready.history at) bs)) c.as_slice-2.ensures
-    (c.deliver.ensures.stands d.config (planned_for d) ready.history ready.stands ready.quiet) in
-    stops_at_result g.A.Air.grew d told at bytes y.results c.args.intake.now c.deliver.new.self c.args.out.now mid end ready (g.A.Air.stopped Failed) g.met.A.Air.grew_more one stands
-    (subst (λ (rs : List DelayResult). StopsIn g.A.Air.grew (g.A.Air.stopped Failed) (map (result_event AtDu at) rs) mid end) (c.results.ensures.has (compensation_of d AtDu) y made.has)
-    (IfErr-at_err _ failed c.tell_results.ensures.stop))
-
-pub returns-in-Ok-clause-wants : goal.returns-in-Ok-clause-wants
-returns-in-Ok-clause-wants g c d x told has ready wants =
-    let at = c.args.at.0 in
-    let bytes = bytes_of c.args.frame.now in
-    let mid = c.arrival.new.self in
-    let end = c.tell_results.new.out in
-    let y = with_frame (compensation_of d AtDu) at x bytes in
-    let one = subst (λ (bs : List ℕ). g.A.Air.grew c.args.out.now (arrival_event AtDu (arrival_at at bs) ∷ []) mid) c.as_slice.ensures c.in_ok-arrival.ensures.heard in
-    let made = subst (λ (bs : List ℕ). HasDoings (goal.C-pre g) (goal.C-post g) d AtDu (with_frame (compensation_of d AtDu) at x bs) c.tell.new.self) c.as_slice-3.ensures
-    (c.in-Ok.ensures.doings d AtDu x has) in
-    let stands = subst (λ (bs : List ℕ). StandsFor d.config (planned_for d) c.deliver.new.self (arrived (at_clock ready.history at) bs)) c.as_slice-2.ensures
-    (c.deliver.ensures.stands d.config (planned_for d) ready.history ready.stands ready.quiet) in
-    inl (stops_at_result g.A.Air.grew d told at bytes y.results c.args.intake.now c.deliver.new.self c.args.out.now mid end ready (g.A.Air.stopped NoMemory) g.met.A.Air.grew_more one stands
-    (subst (λ (rs : List DelayResult). StopsIn g.A.Air.grew (g.A.Air.stopped NoMemory) (map (result_event AtDu at) rs) mid end) (c.results.ensures.has (compensation_of d AtDu) y made.has)
-    (IfErr-at_err _ wants c.tell_results.ensures.stop)))
+    let bytes = c.as_slice-bytes.result.now in
+    rw (← c.as_slice-bytes.ensures)
+    (inl (stops_arriving g.A.Air.grew AtDu (arrival_at at bytes) (behind_one AtDu d at x bytes).results (λ all. IsIntakeInStep d all c.args.intake.now) told (g.A.Air.stopped NoMemory) c.args.out.now c.arrival.new.self
+    (g.met.A.Air.grew_none c.args.out.now) (step_before d told at c.args.intake.now ready) (IfErr-at_err _ (same ∙ wants) c.arrival.ensures.stop)))
 
 -- the frame was heard and taken, and memory ran out in the meter
-pub returns-in-Err-clause-wants : goal.returns-in-Err-clause-wants
-returns-in-Err-clause-wants g c d x told has ready wants =
+pub returns-in_err-tell-clause-wants : goal.returns-in_err-tell-clause-wants
+returns-in_err-tell-clause-wants g c d x told has ready wants =
     let at = c.args.at.0 in
-    let bytes = bytes_of c.args.frame.now in
-    let mid = c.arrival.new.self in
-    let one = subst (λ (bs : List ℕ). g.A.Air.grew c.args.out.now (arrival_event AtDu (arrival_at at bs) ∷ []) mid) c.as_slice.ensures c.in_ok-arrival.ensures.heard in
-    let stands = subst (λ (bs : List ℕ). StandsFor d.config (planned_for d) c.deliver.new.self (arrived (at_clock ready.history at) bs)) c.as_slice-2.ensures
-    (c.deliver.ensures.stands d.config (planned_for d) ready.history ready.stands ready.quiet) in
-    inr (rests_at_meter g.A.Air.grew d told at bytes (with_frame (compensation_of d AtDu) at x bytes).results c.args.intake.now c.deliver.new.self c.args.out.now mid mid ready one stands)
+    let bytes = c.as_slice-bytes.result.now in
+    let taken = c.deliver.ensures.stands d.config (planned_for d) ready.history ready.stands ready.quiet in
+    rw (← c.as_slice-bytes.ensures)
+    (inr (rests_arrived g.A.Air.grew AtDu (arrival_at at bytes) (behind_one AtDu d at x bytes).results (λ all. IsIntakeInStep d all c.deliver.new.self) told c.args.out.now c.arrival.new.self
+    c.in_ok-arrival.ensures.heard (step_behind d told at bytes c.args.intake.now c.deliver.new.self ready taken)))
+
+pub returns-clause-heard : goal.returns-clause-heard
+returns-clause-heard g c d x has =
+    let made = c.in_ok-tell.ensures.doings d AtDu x has in
+    rw (← c.as_slice-bytes.ensures, ← c.results.ensures.has (compensation_of d AtDu) _ made.has)
+    (on_ok_weaker c.tell_results.result
+    (λ more. g.met.A.Air.grew_more c.args.out.now c.arrival.new.self c.tell_results.new.out (arrival_event AtDu (arrival_at c.args.at.0 c.as_slice-bytes.result.now) ∷ [])
+    (map (result_event AtDu c.args.at.0) c.results.result.now) c.in_ok-arrival.ensures.heard more) c.tell_results.ensures.heard)
+
+pub returns-clause-made : goal.returns-clause-made
+returns-clause-made g c d x has =
+    rw (← c.as_slice-bytes.ensures) (on_ok_weaker c.tell_results.result (λ more. c.in_ok-tell.ensures.doings d AtDu x has) c.tell_results.ensures.heard)
+
+pub returns-clause-stop : goal.returns-clause-stop
+returns-clause-stop g c d x told has ready failed =
+    let at = c.args.at.0 in
+    let bytes = c.as_slice-bytes.result.now in
+    let made = c.in_ok-tell.ensures.doings d AtDu x has in
+    let taken = c.deliver.ensures.stands d.config (planned_for d) ready.history ready.stands ready.quiet in
+    rw (← c.as_slice-bytes.ensures, ← c.results.ensures.has (compensation_of d AtDu) _ made.has)
+    (stops_telling g.A.Air.grew AtDu (arrival_at at bytes) c.results.result.now (λ all. IsIntakeInStep d all c.deliver.new.self) told (g.A.Air.stopped Failed) g.met.A.Air.grew_more c.args.out.now c.arrival.new.self
+    c.tell_results.new.out c.in_ok-arrival.ensures.heard (step_behind d told at bytes c.args.intake.now c.deliver.new.self ready taken) (IfErr-at_err _ failed c.tell_results.ensures.stop))
+
+pub returns-clause-wants : goal.returns-clause-wants
+returns-clause-wants g c d x told has ready wants =
+    let at = c.args.at.0 in
+    let bytes = c.as_slice-bytes.result.now in
+    let made = c.in_ok-tell.ensures.doings d AtDu x has in
+    let taken = c.deliver.ensures.stands d.config (planned_for d) ready.history ready.stands ready.quiet in
+    rw (← c.as_slice-bytes.ensures, ← c.results.ensures.has (compensation_of d AtDu) _ made.has)
+    (inl (stops_telling g.A.Air.grew AtDu (arrival_at at bytes) c.results.result.now (λ all. IsIntakeInStep d all c.deliver.new.self) told (g.A.Air.stopped NoMemory) g.met.A.Air.grew_more c.args.out.now c.arrival.new.self
+    c.tell_results.new.out c.in_ok-arrival.ensures.heard (step_behind d told at bytes c.args.intake.now c.deliver.new.self ready taken) (IfErr-at_err _ wants c.tell_results.ensures.stop)))

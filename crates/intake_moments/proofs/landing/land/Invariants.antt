@@ -6,15 +6,15 @@ use Rattle.delay_measure.specs.Kept.{IsKept}
 use Rattle.radio_moments.specs.document_traffic.specs.Sending.{Leaving, SentCounts}
 use Rattle.du_intake.specs.Calls.{MayTakeAt}
 use Rattle.radio_moments.specs.fh_document.specs.declared.document.Document.{Document}
-use Rattle.radio_moments.specs.frame_ways.specs.Ways.{frames_in}
+use Rattle.radio_moments.specs.frame_ways.specs.Ways.{frames_on_way}
 use Rattle.radio_moments.specs.measured_traffic.specs.Doings.{Doings}
-use Rattle.intake_moments.specs.Landing.{WaitsToLand, WaitsToLandSome}
+use Rattle.intake_moments.specs.Landing.{WaitsToLandUp, WaitsToLandSome}
 use Rattle.intake_moments.proofs.LandLemmas.{Lands}
 use Rattle.intake_moments.proofs.landing.land.Given as goal
 
 abbrev pub invariant-loop-frame : goal.invariant-loop-frame
 invariant-loop-frame g l = record {
-  lands : (d : Document) (n : SentCounts) (left : List Leaving) (x : Doings) → WaitsToLand d l.tick.0 n left l.initial.way
+  lands : (d : Document) (n : SentCounts) (left : List Leaving) (x : Doings) → WaitsToLandUp d l.tick.0 n left l.initial.way
       → HasDoings (goal.C-pre g) (goal.C-post g) d AtDu x l.initial.meter
       → Lands g.A.Air.grew (goal.C-pre g) (goal.C-post g) d l.tick.0 n left x l.initial.intake l.intake l.meter l.initial.way l.way l.initial.out l.out;
   some : WaitsToLandSome l.tick.0 l.way;
@@ -26,4 +26,4 @@ invariant-loop-frame g l = record {
 }
 
 abbrev pub decreases-loop-frame : goal.decreases-loop-frame
-decreases-loop-frame g l = frames_in l.way
+decreases-loop-frame g l = frames_on_way l.way

@@ -1,5 +1,5 @@
 use Rattle.du_intake.specs.unit_model.specs.Standing.{at_clock, heard}
-use Rattle.du_intake.specs.Units.{due_of}
+use Rattle.du_intake.specs.Units.{intake_due_of}
 use Rattle.intake_samples.proofs.steps.close.Goals as goal
 
 pub returns-in-Ok : goal.returns-in-Ok
@@ -8,7 +8,7 @@ returns-in-Ok g c =
     record {
       config = s.config;
       planned = s.planned;
-      history = at_clock (heard s.history (due_of s.config s.planned s.history c.args.to.0)) c.args.to.0;
+      history = at_clock (heard s.history (intake_due_of s.config s.planned s.history c.args.to.0)) c.args.to.0;
       stands = c.in-Ok.ensures.stands s.config s.planned s.history s.stands;
     }
 

@@ -2,12 +2,12 @@ use Rattle.std.proofs.Common.{rules}
 use Rattle.std.proofs.Common.{◌≤ℤ◌, Some, subst}
 use Rattle.std.specs.Prelude.{Option}
 use Rattle.fh_time.specs.declared.values.Ticks.{Ticks}
-use Rattle.du_intake.specs.Calls.{IsDue}
+use Rattle.du_intake.specs.Calls.{IsIntakeDue}
 use Rattle.intake_samples.proofs.StepLemmas.{all_before}
 use Rattle.intake_samples.proofs.steps.has_reported.Goals as goal
 
 pub returns-in-Some : goal.returns-in-Some
 returns-in-Some c k planned h all before =
-    let due : IsDue k planned h (Some c.in-Some.due) = subst (λ (o : Option Ticks). IsDue k planned h o) c.in-Some.is (c.due.ensures k planned h all) in
+    let due : IsIntakeDue k planned h (Some c.in-Some.due) = subst (λ (o : Option Ticks). IsIntakeDue k planned h o) c.in-Some.is (c.due.ensures k planned h all) in
     let order : c.args.at.0 ≤ℤ c.in-Some.due.0 = search rules in
     all_before k planned h c.args.at.0 c.in-Some.due due order

@@ -1,5 +1,5 @@
-use Rattle.intake_samples.specs.du_intake.specs.Closing.{StandsForSome}
+use Rattle.intake_samples.specs.du_intake.specs.Closing.{IntakeStandsForSome}
 use Rattle.intake_tests.proofs.closes.an_air_stops_in_each_cell.Given as goal
 
 abbrev pub invariant-loop-k-2 : goal.invariant-loop-k-2
-invariant-loop-k-2 g l = StandsForSome l.unit
+invariant-loop-k-2 g l = IntakeStandsForSome l.unit

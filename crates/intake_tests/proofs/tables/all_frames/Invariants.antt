@@ -1,5 +1,5 @@
-use Rattle.intake_samples.specs.du_intake.specs.Closing.{StandsForSome}
+use Rattle.intake_samples.specs.du_intake.specs.Closing.{IntakeStandsForSome}
 use Rattle.intake_tests.proofs.tables.all_frames.Given as goal
 
 abbrev pub invariant-loop-f : goal.invariant-loop-f
-invariant-loop-f l = StandsForSome l.unit
+invariant-loop-f l = IntakeStandsForSome l.unit

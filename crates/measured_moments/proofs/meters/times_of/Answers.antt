@@ -1,5 +1,5 @@
 use Rattle.std.proofs.Common.{rules, ◌<◌, ◌∙◌, length, sym, ap, arith}
-use Rattle.frame_ways.proofs.ListLemmas.{not_past}
+use Rattle.delay_exchange.specs.frame_deliveries.proofs.RowLemmas.{none_past}
 use Rattle.measured_moments.proofs.TimeLemmas.{measure_is, times_next}
 use Rattle.measured_moments.proofs.meters.times_of.Goals as goal
 use Rattle.measured_moments.proofs.meters.times_of.Goals.{in-Some+in_ok-push, in_default}
@@ -15,5 +15,5 @@ loop-k-preserved c =
       | in-Some+in_ok-push w ↦
           ap (λ v. v.items) w.times-is
           ∙ times_next ms c.loop-k.k w.in-Some.measure.now w.time_of.result c.loop-k.times.items w.push.new.self.items (sym w.in-Some.ensures) w.time_of.ensures c.loop-k.invariant (search rules)
-      | in_default w ↦ absurd (not_past ms c.loop-k.k inside (sym w.in_default.ensures))
+      | in_default w ↦ absurd (none_past ms c.loop-k.k inside w.in_default.ensures)
     ]

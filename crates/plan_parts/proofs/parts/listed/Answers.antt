@@ -2,14 +2,10 @@
 use Rattle.plan_parts.proofs.ListedLemmas.{listed_more, listed_end, timeable}
 use Rattle.plan_parts.proofs.parts.listed.Goals as goal
 
-pub put_sent-requires-clause-endpoint : goal.put_sent-requires-clause-endpoint
-put_sent-requires-clause-endpoint c = (timeable c.args.stream c.args.lines.now c.loop-line.line-index c.line-item.result c.requires c.loop-line-test.true c.line-item.is).endpoint
-
-pub put_sent-requires-clause-slot : goal.put_sent-requires-clause-slot
-put_sent-requires-clause-slot c = (timeable c.args.stream c.args.lines.now c.loop-line.line-index c.line-item.result c.requires c.loop-line-test.true c.line-item.is).slot
-
-pub put_sent-requires-clause-symbols : goal.put_sent-requires-clause-symbols
-put_sent-requires-clause-symbols c = (timeable c.args.stream c.args.lines.now c.loop-line.line-index c.line-item.result c.requires c.loop-line-test.true c.line-item.is).symbols
+pub put_sent-requires : goal.put_sent-requires
+put_sent-requires c =
+    let t = timeable c.args.stream c.args.lines.now c.loop-line.line-index c.line-item.result c.requires c.loop-line-test.true c.line-item.is in
+    record { endpoint = t.endpoint; slot = t.slot; symbols = t.symbols }
 
 pub loop-line-preserved : goal.loop-line-preserved
 loop-line-preserved c =

@@ -3,7 +3,7 @@ use Rattle.std.proofs.Common.{◌≤◌, ◌<◌, ◌^◌, List, length, map, ap
 use Rattle.std.specs.List.{AllByRecursion}
 use Rattle.plan_runs.specs.plan_model.specs.Streams.{parts_in}
 use Rattle.plan_runs.specs.plan_parts.specs.declared.parts.TimedPart.{TimedPart}
-use Rattle.plan_table.specs.Kept.{line_of}
+use Rattle.plan_table.specs.Kept.{placed_line_of}
 use Rattle.plan_table.proofs.PlanLemmas.{placed, has_endpoint, short, few_of}
 use Rattle.plan_table.proofs.MessageLemmas.{lines_are}
 use Rattle.plan_table.proofs.streams.kept_stream.Goals as goal
@@ -25,7 +25,7 @@ pub returns-clause-parts : goal.returns-clause-parts
 returns-clause-parts c = λ e at.
     let ends = has_endpoint c.args.config.now c.args.lines.now c.requires.config c.requires.plan c.args.ep e at in
     record {
-      parts = c.in_ok-placed_lines.ensures ∙ ap (map line_of) (c.deref-2.ensures.value ∙ c.in_ok-parts.ensures.value e ends)
+      parts = c.in_ok-placed_lines.ensures ∙ ap (map placed_line_of) (c.deref-2.ensures.value ∙ c.in_ok-parts.ensures.value e ends)
           ∙ lines_are c.args.stream (parts_in c.args.lines.now c.args.stream c.args.ep e);
       begins = c.in_ok-runs.ensures.begins c.args.config.now c.args.lines.now c.args.stream c.args.ep e c.of-limits.ensures.value
           (c.deref.ensures.value ∙ c.in_ok-parts.ensures.value e ends);

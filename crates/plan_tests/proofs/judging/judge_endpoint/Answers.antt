@@ -1,7 +1,7 @@
 -- Its own lines, sorted.
 use Rattle.std.proofs.Common.{sym, subst, List}
 use Rattle.plan_parts.specs.plan_model.specs.declared.lines.PlannedLine.{PlannedLine}
-use Rattle.plan_tests.specs.Order.{AreInOrder}
+use Rattle.plan_tests.specs.Order.{ArePlannedInOrder}
 use Rattle.plan_tests.proofs.EndpointLemmas.{Own, own_is, own_lines, own_endpoint, covers_own}
 use Rattle.plan_tests.proofs.judging.judge_endpoint.Goals as goal
 
@@ -12,7 +12,7 @@ judge_own-requires c =
     record {
       endpoint = own_endpoint c.args.lines.now c.args.ep c.deref.result.now own c.requires.lines;
       lines = own_lines c.args.lines.now c.args.ep c.deref.result.now own c.requires.lines;
-      order = subst AreInOrder (sym c.deref.ensures.value) c.in_ok-sort_by_slot.ensures.order;
+      order = subst ArePlannedInOrder (sym c.deref.ensures.value) c.in_ok-sort_by_slot.ensures.order;
     }
 
 pub returns : goal.returns

@@ -12,20 +12,20 @@ loop-line-init c =
 
 pub judge-requires-clause-slot : goal.judge-requires-clause-slot
 judge-requires-clause-slot c =
-    ring_slot _ _ _ c.loop-line.ring _ c.line-item.result c.allocation_of-named.result c.loop-line.invariant.knows
-    (line_at _ _ _ c.args.lines.now c.loop-line.line-index c.line-item.result c.requires.lines c.loop-line-test.true c.line-item.is) c.allocation_of-named.ensures
+    ring_slot _ _ _ c.loop-line.ring _ c.line-item.result c.line_allocation-named.result c.loop-line.invariant.knows
+    (line_at _ _ _ c.args.lines.now c.loop-line.line-index c.line-item.result c.requires.lines c.loop-line-test.true c.line-item.is) c.line_allocation-named.ensures
 
 pub claim-requires-clause-slot : goal.claim-requires-clause-slot
 claim-requires-clause-slot c =
-    ring_slot _ _ _ c.loop-line.ring _ c.line-item.result c.allocation_of-named.result c.loop-line.invariant.knows
-    (line_at _ _ _ c.args.lines.now c.loop-line.line-index c.line-item.result c.requires.lines c.loop-line-test.true c.line-item.is) c.allocation_of-named.ensures
+    ring_slot _ _ _ c.loop-line.ring _ c.line-item.result c.line_allocation-named.result c.loop-line.invariant.knows
+    (line_at _ _ _ c.args.lines.now c.loop-line.line-index c.line-item.result c.requires.lines c.loop-line-test.true c.line-item.is) c.line_allocation-named.ensures
 
 pub returns-in_default : goal.returns-in_default
 returns-in_default c = record {
   value = ap (λ (w : PlanWhy). Some (c.line-item.result.index, w)) c.why_of.ensures
-      ∙ at_refused _ _ _ c.loop-line.ring c.args.lines.now c.loop-line.line-index c.line-item.result c.allocation_of-named.result c.judge.result
+      ∙ at_refused _ _ _ c.loop-line.ring c.args.lines.now c.loop-line.line-index c.line-item.result c.line_allocation-named.result c.judge.result
       c.loop-line.invariant c.loop-line-test.true c.line-item.is
-      (line_at _ _ _ c.args.lines.now c.loop-line.line-index c.line-item.result c.requires.lines c.loop-line-test.true c.line-item.is) c.allocation_of-named.ensures
+      (line_at _ _ _ c.args.lines.now c.loop-line.line-index c.line-item.result c.requires.lines c.loop-line-test.true c.line-item.is) c.line_allocation-named.ensures
       c.judge.ensures c.in_default.not-Accepted;
   endpoint = c.loop-line.invariant.knows.endpoint;
   one = c.loop-line.invariant.knows.one;
@@ -34,9 +34,9 @@ returns-in_default c = record {
 
 pub loop-line-preserved : goal.loop-line-preserved
 loop-line-preserved c =
-    at_more _ _ _ c.loop-line.ring c.claim.new.self c.args.lines.now c.loop-line.line-index c.line-item.result c.allocation_of-named.result c.judge.result
+    at_more _ _ _ c.loop-line.ring c.claim.new.self c.args.lines.now c.loop-line.line-index c.line-item.result c.line_allocation-named.result c.judge.result
     c.loop-line.invariant c.loop-line-test.true c.line-item.is
-    (line_at _ _ _ c.args.lines.now c.loop-line.line-index c.line-item.result c.requires.lines c.loop-line-test.true c.line-item.is) c.allocation_of-named.ensures
+    (line_at _ _ _ c.args.lines.now c.loop-line.line-index c.line-item.result c.requires.lines c.loop-line-test.true c.line-item.is) c.line_allocation-named.ensures
     c.judge.ensures c.in-Accepted.is c.claim.ensures.claims c.claim.ensures.uplink c.claim.ensures.has c.claim.ensures.touches
 
 pub returns-clause-value : goal.returns-clause-value

@@ -3,10 +3,10 @@ use Rattle.std.proofs.Common.{◌≡◌, List, map, ap, sym, ◌∙◌, subst}
 use Rattle.std.specs.Prelude.{All}
 use Rattle.window_config.specs.Endpoints.{IsEndpoint}
 use Rattle.window_config.specs.declared.endpoints.EndpointConfig.{EndpointConfig}
-use Rattle.plan_parts.specs.plan_model.specs.Lines.{allocation_of}
+use Rattle.plan_parts.specs.plan_model.specs.Lines.{line_allocation}
 use Rattle.plan_parts.specs.plan_model.specs.Valid.{dense_refused}
 use Rattle.plan_parts.specs.plan_model.specs.declared.lines.PlannedLine.{PlannedLine}
-use Rattle.plan_tests.specs.Slots.{entry_of, numbered}
+use Rattle.plan_tests.specs.Slots.{entry_of, numbered_lines}
 use Rattle.plan_tests.proofs.PlacedLemmas.{placed_numbered}
 use Rattle.plan_tests.proofs.PlanLemmas.{placed_lines, placed_at, stop_at, tests_first, judged_first, stop_first, dense_last}
 use Rattle.plan_tests.proofs.testing.refusal.Goals as goal
@@ -15,7 +15,7 @@ pub judge_lines-requires : goal.judge_lines-requires
 judge_lines-requires c = record {
   endpoints = subst (λ (es : List EndpointConfig). All IsEndpoint es) (sym c.as_slice-endpoints.ensures.items) c.requires.config.endpoints.each;
   lines = placed_lines c.as_slice-endpoints.result.now c.args.lines.now c.deref.result.now c.requires.lines (c.deref.ensures.value ∙ c.in_ok-placed.ensures.lines);
-  numbers = subst (λ (ps : List PlannedLine). map entry_of ps ≡ numbered 0 (map allocation_of ps)) (sym (c.deref.ensures.value ∙ c.in_ok-placed.ensures.lines))
+  numbers = subst (λ (ps : List PlannedLine). map entry_of ps ≡ numbered_lines 0 (map line_allocation ps)) (sym (c.deref.ensures.value ∙ c.in_ok-placed.ensures.lines))
       (placed_numbered c.as_slice-endpoints.result.now 0 c.args.lines.now);
 }
 

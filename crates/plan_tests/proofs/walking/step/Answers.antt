@@ -1,7 +1,7 @@
 -- A part more, or another message.
 use Rattle.std.proofs.Common.{List, ◌++◌, ap, sym, ◌∙◌}
 use Rattle.plan_parts.specs.plan_model.specs.declared.dense.Sending.{Sending}
-use Rattle.plan_tests.specs.Walks.{walk}
+use Rattle.plan_tests.specs.Walks.{sending_walk}
 use Rattle.plan_tests.specs.declared.walking.OpenMessage.{OpenMessage}
 use Rattle.plan_tests.proofs.WalkingLemmas.{walk_takes, walk_next}
 use Rattle.plan_tests.proofs.walking.step.Goals as goal
@@ -9,7 +9,7 @@ use Rattle.plan_tests.proofs.walking.step.Goals as goal
 pub returns-then-takes_more-clause-walk : goal.returns-then-takes_more-clause-walk
 returns-then-takes_more-clause-walk c = λ rest.
     ap (λ (xs : List Sending). c.args.sent.now.items ++ xs)
-    (ap (λ (m : OpenMessage). walk c.args.limits.now m rest) c.grown.ensures
+    (ap (λ (m : OpenMessage). sending_walk c.args.limits.now m rest) c.grown.ensures
     ∙ sym (walk_takes c.args.limits.now c.args.message.now c.args.part.now rest (sym c.takes_more.ensures ∙ c.if-takes_more.true)))
 
 pub returns-clause-walk : goal.returns-clause-walk

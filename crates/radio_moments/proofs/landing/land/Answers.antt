@@ -1,16 +1,21 @@
-use Rattle.std.proofs.Common.{rules, ◌≡◌, ◌∙◌, refl, arith}
+use Rattle.std.proofs.Common.{rules, ◌≡◌, ◌∙◌, refl, sym, ap, subst, arith}
 use Rattle.std.proofs.lemmas.Int.{ints}
 use Rattle.air_source.specs.declared.airs.AirFault.TheVariants.{Failed, NoMemory}
 use Rattle.air_source.specs.declared.events.Side.TheVariants.{Ru as AtRu}
 use Rattle.measured_moments.specs.frame_ways.specs.Landed.{bytes_of}
+use Rattle.measured_moments.specs.ru_buffers.specs.Calls.{StandsFor}
+use Rattle.fh_time.specs.declared.values.Ticks.{Ticks}
 use Rattle.du_scheduler.specs.unit_model.specs.Standing.{arrived}
-use Rattle.radio_moments.specs.Landing.{landed}
-use Rattle.radio_moments.proofs.LandLemmas.{all_landed, behind, halts_here, lands_next, lands_none, some_comes, stops_here}
+use Rattle.radio_moments.specs.Landing.{ru_landed}
+use Rattle.radio_moments.proofs.LandLemmas.{all_landed, behind, halts_here, landed_none, none_are_told, one_more_landed, one_more_told, some_comes, stops_here}
 use Rattle.radio_moments.proofs.landing.land.Goals as goal
 
 pub loop-frame-init : goal.loop-frame-init
 loop-frame-init g c = record {
-  lands = λ d n left x may. lands_none g.A.Air.grew (goal.C-pre g) (goal.C-post g) d c.args.tick n left x c.args.ru.now c.args.way.now c.args.meter.now c.args.out.now may (g.met.A.Air.grew_none c.args.out.now);
+  lands = λ d n left x may. record {
+    told = none_are_told g.A.Air.grew (goal.C-pre g) (goal.C-post g) AtRu d c.args.tick.0 n left x c.args.meter.now c.args.way.now c.args.out.now may.waits (g.met.A.Air.grew_none c.args.out.now) may.doings;
+    stands = λ k h stands. subst (StandsFor k c.args.ru.now) (sym (landed_none h)) stands;
+  };
   unit = c.requires.unit;
   given = c.requires.given;
   clock = refl;
@@ -22,39 +27,44 @@ pub hear-requires-clause-short : goal.hear-requires-clause-short
 hear-requires-clause-short g c =
     let some = c.requires.some in
     let so_far = c.loop-frame.invariant.lands some.0 some.1 some.2 some.3 some.4 in
-    (c.in-Some.ensures.next some.0 AtRu some.1 some.2 so_far.waits).short
+    (c.in-Some.ensures.next some.0 AtRu some.1 some.2 so_far.told.waits).short
 
 pub hear-requires-clause-meter : goal.hear-requires-clause-meter
 hear-requires-clause-meter g c =
     let some = c.requires.some in
-    (c.loop-frame.invariant.lands some.0 some.1 some.2 some.3 some.4).made.kept
+    (c.loop-frame.invariant.lands some.0 some.1 some.2 some.3 some.4).told.made.kept
 
 pub hear-requires-clause-low : goal.hear-requires-clause-low
 hear-requires-clause-low g c =
     let some = c.requires.some in
-    let so_far = c.loop-frame.invariant.lands some.0 some.1 some.2 some.3 some.4 in
+    let so_far = (c.loop-frame.invariant.lands some.0 some.1 some.2 some.3 some.4).told in
     let one = c.loop-frame in
-    some_comes g.A.Air.grew (goal.C-pre g) (goal.C-post g) some.0 c.args.tick some.1 some.2 some.3 g.met.A.Air.grew_more c.in-Some.frame c.args.ru.now one.ru one.ru one.meter one.meter
-    c.args.way.now one.way c.next_at.new.self c.args.out.now one.out one.out so_far (c.in-Some.ensures.next some.0 AtRu some.1 some.2 so_far.waits) some.4.late
+    some_comes g.A.Air.grew (goal.C-pre g) (goal.C-post g) AtRu some.0 c.args.tick.0 some.1 some.2 some.3 g.met.A.Air.grew_more c.in-Some.frame one.meter
+    c.args.way.now one.way c.next_at.new.self c.args.out.now one.out so_far (c.in-Some.ensures.next some.0 AtRu some.1 some.2 so_far.waits) some.4.late
 
 pub hear-requires-clause-high : goal.hear-requires-clause-high
 hear-requires-clause-high g c = let ended = c.requires.some.4.ended in omega (arith, ints, ended)
 
 pub loop-frame-preserved : goal.loop-frame-preserved
 loop-frame-preserved g c =
-    let tick = c.args.tick in
+    let tick = c.args.tick.0 in
     let f = c.in-Some.frame in
-    let old = c.loop-frame.invariant in
+    let one = c.loop-frame in
+    let old = one.invariant in
     let told = c.in_ok-hear.ensures in
     let first = old.later in
     let more = c.hear.ensures.cause.later in
     record {
       lands = λ d n left x may.
           let so_far = old.lands d n left x may in
-          let x_then = behind d tick.0 x so_far.gone in
-          lands_next g.A.Air.grew (goal.C-pre g) (goal.C-post g) d tick n left x g.met.A.Air.grew_more f c.args.ru.now c.loop-frame.ru c.hear.new.ru c.loop-frame.meter c.hear.new.meter
-          c.args.way.now c.loop-frame.way c.next_at.new.self c.args.out.now c.loop-frame.out c.hear.new.out so_far (c.in-Some.ensures.next d AtRu n left so_far.waits) c.requires.clock
-          (told.heard d x_then so_far.made) told.stands (told.made d x_then so_far.made);
+          let gone = so_far.told.gone in
+          let x_then = behind AtRu d tick x gone in
+          record {
+            told = one_more_told g.A.Air.grew (goal.C-pre g) (goal.C-post g) AtRu d tick n left x g.met.A.Air.grew_more f one.meter c.args.way.now one.way c.next_at.new.self c.args.out.now one.out
+                so_far.told (c.in-Some.ensures.next d AtRu n left so_far.told.waits) c.hear.new.meter c.hear.new.out (told.heard d x_then so_far.told.made) (told.made d x_then so_far.told.made);
+            stands = λ k h stands.
+                one_more_landed k h c.args.ru.now c.hear.new.ru tick gone (bytes_of f) (ap (λ (t : Ticks). t.0) c.requires.clock) stands (told.stands k (ru_landed h gone) (so_far.stands k h stands));
+          };
       unit = record {
         config = old.unit.config;
         history = arrived old.unit.history (bytes_of f);
@@ -69,25 +79,28 @@ loop-frame-preserved g c =
 pub returns-in_err-hear-clause-stop : goal.returns-in_err-hear-clause-stop
 returns-in_err-hear-clause-stop g c d n left x k h may stands failed =
     let same : c.hear.result ≡ c.from_residual.result = search rules in
-    let tick = c.args.tick in
-    let so_far = c.loop-frame.invariant.lands d n left x may in
-    let gone = so_far.gone in
-    stops_here g.A.Air.grew (goal.C-pre g) (goal.C-post g) d tick n left x g.met.A.Air.grew_more c.in-Some.frame c.args.ru.now c.loop-frame.ru c.hear.new.ru c.loop-frame.meter c.hear.new.meter
-    c.args.way.now c.loop-frame.way c.next_at.new.self c.args.out.now c.loop-frame.out c.hear.new.out so_far (c.in-Some.ensures.next d AtRu n left so_far.waits) (g.A.Air.stopped Failed) k h
-    (c.hear.ensures.stop d (behind d tick.0 x gone) k (landed h gone) so_far.made (so_far.stands k h stands) (same ∙ failed))
+    let tick = c.args.tick.0 in
+    let one = c.loop-frame in
+    let so_far = one.invariant.lands d n left x may in
+    let gone = so_far.told.gone in
+    stops_here g.A.Air.grew (goal.C-pre g) (goal.C-post g) d tick n left x g.met.A.Air.grew_more c.in-Some.frame one.meter c.args.way.now one.way c.next_at.new.self c.args.out.now one.out
+    so_far.told (c.in-Some.ensures.next d AtRu n left so_far.told.waits) k h c.hear.new.ru (g.A.Air.stopped Failed) c.hear.new.out
+    (c.hear.ensures.stop d (behind AtRu d tick x gone) k (ru_landed h gone) so_far.told.made (so_far.stands k h stands) (same ∙ failed))
 
 pub returns-in_err-hear-clause-wants : goal.returns-in_err-hear-clause-wants
 returns-in_err-hear-clause-wants g c d n left x k h may stands wants =
     let same : c.hear.result ≡ c.from_residual.result = search rules in
-    let tick = c.args.tick in
-    let so_far = c.loop-frame.invariant.lands d n left x may in
-    let gone = so_far.gone in
-    halts_here g.A.Air.grew (goal.C-pre g) (goal.C-post g) d tick n left x g.met.A.Air.grew_more c.in-Some.frame c.args.ru.now c.loop-frame.ru c.hear.new.ru c.loop-frame.meter c.hear.new.meter
-    c.args.way.now c.loop-frame.way c.next_at.new.self c.args.out.now c.loop-frame.out c.hear.new.out so_far (c.in-Some.ensures.next d AtRu n left so_far.waits) (g.A.Air.stopped NoMemory) k h
-    (c.hear.ensures.wants d (behind d tick.0 x gone) k (landed h gone) so_far.made (so_far.stands k h stands) (same ∙ wants))
+    let tick = c.args.tick.0 in
+    let one = c.loop-frame in
+    let so_far = one.invariant.lands d n left x may in
+    let gone = so_far.told.gone in
+    halts_here g.A.Air.grew (goal.C-pre g) (goal.C-post g) d tick n left x g.met.A.Air.grew_more c.in-Some.frame one.meter c.args.way.now one.way c.next_at.new.self c.args.out.now one.out
+    so_far.told (c.in-Some.ensures.next d AtRu n left so_far.told.waits) k h c.hear.new.ru (g.A.Air.stopped NoMemory) c.hear.new.out
+    (c.hear.ensures.wants d (behind AtRu d tick x gone) k (ru_landed h gone) so_far.told.made (so_far.stands k h stands) (same ∙ wants))
 
 pub returns-clause-landed : goal.returns-clause-landed
 returns-clause-landed g c d n left x may =
-    let so_far = c.loop-frame.invariant.lands d n left x may in
-    all_landed g.A.Air.grew (goal.C-pre g) (goal.C-post g) d c.args.tick n left x c.args.ru.now c.loop-frame.ru c.loop-frame.meter c.args.way.now c.loop-frame.way c.next_at.new.self
-    c.args.out.now c.loop-frame.out so_far (c.in_default.ensures.next d AtRu n left so_far.waits)
+    let one = c.loop-frame in
+    let so_far = one.invariant.lands d n left x may in
+    all_landed g.A.Air.grew (goal.C-pre g) (goal.C-post g) d c.args.tick.0 n left x c.args.ru.now one.ru one.meter c.args.way.now one.way c.next_at.new.self
+    c.args.out.now one.out so_far (c.in_default.ensures.next d AtRu n left so_far.told.waits)

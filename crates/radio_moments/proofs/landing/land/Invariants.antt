@@ -1,7 +1,7 @@
 use Rattle.std.proofs.Common.{◌≡◌, ◌≤◌, List}
 use Rattle.measured_moments.specs.document_traffic.specs.Sending.{Leaving, SentCounts}
 use Rattle.measured_moments.specs.fh_document.specs.declared.document.Document.{Document}
-use Rattle.measured_moments.specs.frame_ways.specs.Ways.{frames_in}
+use Rattle.measured_moments.specs.frame_ways.specs.Ways.{frames_on_way}
 use Rattle.measured_moments.specs.measured_traffic.specs.Doings.{Doings}
 use Rattle.measured_moments.specs.ru_buffers.specs.Calls.{HasGivenPast, StandsForSome}
 use Rattle.radio_moments.specs.Landing.{MayLand}
@@ -20,4 +20,4 @@ invariant-loop-frame g l = record {
 }
 
 abbrev pub decreases-loop-frame : goal.decreases-loop-frame
-decreases-loop-frame g l = frames_in l.way
+decreases-loop-frame g l = frames_on_way l.way

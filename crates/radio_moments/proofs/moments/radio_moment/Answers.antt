@@ -8,7 +8,7 @@ use Rattle.measured_moments.specs.delay_exchange.specs.Meters.{HasDoings}
 use Rattle.measured_moments.specs.document_delays.specs.Settings.{compensation_of}
 use Rattle.measured_moments.specs.frame_ways.specs.Ways.{coming_at}
 use Rattle.measured_moments.specs.measured_traffic.specs.Doings.{with_frames}
-use Rattle.measured_moments.specs.ru_buffers.specs.Reporting.{due_of}
+use Rattle.measured_moments.specs.ru_buffers.specs.radio_laws.specs.Reporting.{due_of}
 use Rattle.du_scheduler.specs.unit_model.specs.Meetings.{Arrival}
 use Rattle.radio_moments.specs.Landing.{told_of_frames}
 use Rattle.radio_moments.proofs.DownLemmas.{landed_down, lands_now, left_then}
@@ -39,8 +39,8 @@ pub send-requires-clause-some : goal.send-requires-clause-some
 send-requires-clause-some g c =
     (c.args.doc.now, record { document = c.requires.document; tone = c.requires.tone; waits = c.requires.waits })
 
-pub returns-in-Err-clause-wants : goal.returns-in-Err-clause-wants
-returns-in-Err-clause-wants g c wants =
+pub returns-in_err-send-clause-wants : goal.returns-in_err-send-clause-wants
+returns-in_err-send-clause-wants g c wants =
     let d = c.args.doc.now in
     let a = c.requires.turn in
     inr (rests_due g.A.Air.grew d c.args.tick.0 a.history c.advance.new.self c.args.out.now c.advance.new.air c.requires.document a.turn c.requires.ended
@@ -57,7 +57,7 @@ land-requires-clause-some g c =
     let d = c.args.doc.now in
     let tick = c.args.tick.0 in
     let w = c.send.new.downlink in
-    let sent = c.in-Ok.ensures d (record { document = c.requires.document; tone = c.requires.tone; waits = c.requires.waits }) in
+    let sent = c.in_ok-send.ensures d (record { document = c.requires.document; tone = c.requires.tone; waits = c.requires.waits }) in
     let may = may_land (goal.C-pre g) (goal.C-post g) d tick w c.args.meter.now c.requires.document sent c.requires.begun c.requires.ended in
     (d, sent.waits.counts, left_then d tick w sent, begun_at d tick, may)
 
@@ -67,7 +67,7 @@ returns-clause-heard g c =
     let tick = c.args.tick.0 in
     let a = c.requires.turn in
     let w = c.send.new.downlink in
-    let sent = c.in-Ok.ensures d (record { document = c.requires.document; tone = c.requires.tone; waits = c.requires.waits }) in
+    let sent = c.in_ok-send.ensures d (record { document = c.requires.document; tone = c.requires.tone; waits = c.requires.waits }) in
     let may = may_land (goal.C-pre g) (goal.C-post g) d tick w c.args.meter.now c.requires.document sent c.requires.begun c.requires.ended in
     let flying = coming_at d tick w.way in
     on_ok_weaker c.land.result
@@ -82,7 +82,7 @@ returns-clause-landed g c =
     let tick = c.args.tick.0 in
     let a = c.requires.turn in
     let w = c.send.new.downlink in
-    let sent = c.in-Ok.ensures d (record { document = c.requires.document; tone = c.requires.tone; waits = c.requires.waits }) in
+    let sent = c.in_ok-send.ensures d (record { document = c.requires.document; tone = c.requires.tone; waits = c.requires.waits }) in
     let may = may_land (goal.C-pre g) (goal.C-post g) d tick w c.args.meter.now c.requires.document sent c.requires.begun c.requires.ended in
     on_ok_weaker c.land.result
     (λ l. landed_then d tick c.args.ru.now c.land.new.ru (coming_at d tick w.way) c.requires.document a c.requires.ended (lands_now d tick w sent)
@@ -94,7 +94,7 @@ returns-clause-waits g c =
     let d = c.args.doc.now in
     let tick = c.args.tick.0 in
     let w = c.send.new.downlink in
-    let sent = c.in-Ok.ensures d (record { document = c.requires.document; tone = c.requires.tone; waits = c.requires.waits }) in
+    let sent = c.in_ok-send.ensures d (record { document = c.requires.document; tone = c.requires.tone; waits = c.requires.waits }) in
     let may = may_land (goal.C-pre g) (goal.C-post g) d tick w c.args.meter.now c.requires.document sent c.requires.begun c.requires.ended in
     on_ok_weaker c.land.result (λ l. landed_down d tick w sent c.land.new.way c.land.new.pool l.waits) (c.land.ensures.landed d sent.waits.counts (left_then d tick w sent) (begun_at d tick) may)
 
@@ -103,7 +103,7 @@ returns-clause-made g c =
     let d = c.args.doc.now in
     let tick = c.args.tick.0 in
     let w = c.send.new.downlink in
-    let sent = c.in-Ok.ensures d (record { document = c.requires.document; tone = c.requires.tone; waits = c.requires.waits }) in
+    let sent = c.in_ok-send.ensures d (record { document = c.requires.document; tone = c.requires.tone; waits = c.requires.waits }) in
     let may = may_land (goal.C-pre g) (goal.C-post g) d tick w c.args.meter.now c.requires.document sent c.requires.begun c.requires.ended in
     on_ok_weaker c.land.result
     (λ l. subst (λ (xs : List Arrival). HasDoings (goal.C-pre g) (goal.C-post g) d AtRu (with_frames (compensation_of d AtRu) tick (begun_at d tick) xs) c.land.new.meter) (lands_now d tick w sent) l.made)
@@ -115,7 +115,7 @@ returns-clause-stop g c failed =
     let tick = c.args.tick.0 in
     let a = c.requires.turn in
     let w = c.send.new.downlink in
-    let sent = c.in-Ok.ensures d (record { document = c.requires.document; tone = c.requires.tone; waits = c.requires.waits }) in
+    let sent = c.in_ok-send.ensures d (record { document = c.requires.document; tone = c.requires.tone; waits = c.requires.waits }) in
     let may = may_land (goal.C-pre g) (goal.C-post g) d tick w c.args.meter.now c.requires.document sent c.requires.begun c.requires.ended in
     let flying = coming_at d tick w.way in
     stops_landing g.A.Air.grew (g.A.Air.stopped Failed) g.met.A.Air.grew_more d tick (begun_at d tick) a.history flying c.land.new.ru c.args.out.now c.advance.new.air c.land.new.out
@@ -129,10 +129,13 @@ returns-clause-wants g c wants =
     let tick = c.args.tick.0 in
     let a = c.requires.turn in
     let w = c.send.new.downlink in
-    let sent = c.in-Ok.ensures d (record { document = c.requires.document; tone = c.requires.tone; waits = c.requires.waits }) in
+    let sent = c.in_ok-send.ensures d (record { document = c.requires.document; tone = c.requires.tone; waits = c.requires.waits }) in
     let may = may_land (goal.C-pre g) (goal.C-post g) d tick w c.args.meter.now c.requires.document sent c.requires.begun c.requires.ended in
     let flying = coming_at d tick w.way in
     halts_landing g.A.Air.grew (g.A.Air.stopped NoMemory) g.met.A.Air.grew_more d tick (begun_at d tick) a.history flying c.land.new.ru c.args.out.now c.advance.new.air c.land.new.out
     c.requires.document a.turn c.requires.ended (told_then d tick flying (lands_now d tick w sent)) (c.in_ok-advance.ensures.heard d.config a.history a.stands)
     (c.land.ensures.wants d sent.waits.counts (left_then d tick w sent) (begun_at d tick) d.config (reported_then d tick a.history) may
     (c.in_ok-advance.ensures.stands d.config a.history a.stands) wants)
+
+pub returns-clause-same : goal.returns-clause-same
+returns-clause-same g c = g.met.A.Air.same_more c.args.out.now c.advance.new.air c.land.new.out c.advance.ensures.same c.land.ensures.same

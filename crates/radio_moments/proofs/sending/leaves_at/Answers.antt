@@ -2,7 +2,7 @@ use Rattle.std.proofs.Common.{◌≡◌, ◌∙◌, ℤ, Some, None, true, false
 use Rattle.std.specs.Ordering.{int_eq}
 use Rattle.std.proofs.lemmas.Bool.Decides.{Decides-int_eq}
 use Rattle.fh_time.specs.declared.values.Ticks.{Ticks}
-use Rattle.radio_moments.proofs.NextLemmas.{some_same}
+use Rattle.std.proofs.lemmas.Option.{same_Some}
 use Rattle.radio_moments.proofs.sending.leaves_at.Goals as goal
 
 pub returns-in-Some-clause-yes : goal.returns-in-Some-clause-yes
@@ -12,7 +12,7 @@ returns-in-Some-clause-yes c test e lines left h =
 
 pub returns-in-Some-clause-no : goal.returns-in-Some-clause-no
 returns-in-Some-clause-no c test e lines left h first =
-    let same = some_same (sym c.in-Some.is ∙ c.next_time.ensures e lines left h ∙ first) in
+    let same = same_Some _ _ (sym c.in-Some.is ∙ c.next_time.ensures e lines left h ∙ first) in
     let equal : int_eq c.in-Some.at.0 c.args.tick.0 ≡ true = (Decides-int_eq c.in-Some.at.0 c.args.tick.0).1 (ap (λ (t : Ticks). t.0) same) in
     let other : true ≡ false = sym equal ∙ sym c.eq.ensures ∙ test in
     absurd (cc other)

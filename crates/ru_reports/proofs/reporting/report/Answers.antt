@@ -2,15 +2,15 @@ use Rattle.std.proofs.Common.{List, map, subst, arith}
 use Rattle.std.proofs.lemmas.Result.{IfErr-weaker, on_ok_weaker}
 use Rattle.air_source.specs.declared.events.AirCell.{AirCell}
 use Rattle.air_source.specs.declared.events.Event.TheVariants.{Cell as Reported}
-use Rattle.ru_reports.specs.Symbols.{CountsTold, MarksTold}
-use Rattle.ru_reports.proofs.MarkLemmas.{used_marked}
+use Rattle.ru_reports.specs.Symbols.{CountsTold, ReportsTold}
+use Rattle.ru_reports.proofs.ReportedLemmas.{used_reported}
 use Rattle.ru_reports.proofs.ReportLemmas.{all_below, all_left, left_below, ok_then, stops_at}
 use Rattle.ru_reports.proofs.reporting.report.Goals as goal
 use Rattle.ru_reports.proofs.reporting.report.Given.{Over}
-use Rattle.ru_reports.proofs.reporting.report.Goals.{After-mark_used}
+use Rattle.ru_reports.proofs.reporting.report.Goals.{After-set_used_reported}
 
-pub mark_used-requires-clause-cells : goal.mark_used-requires-clause-cells
-mark_used-requires-clause-cells g c = record {
+pub set_used_reported-requires-clause-cells : goal.set_used_reported-requires-clause-cells
+set_used_reported-requires-clause-cells g c = record {
   endpoint = c.args.m.now.endpoint;
   at = c.requires.at;
   slot_is = c.requires.slot_is;
@@ -18,15 +18,15 @@ mark_used-requires-clause-cells g c = record {
   prbs = omega (arith, c.tell_cells-told.ensures.within);
 }
 
--- those that the air heard are marked
-marked : (g : Over) (c : After-mark_used g) → MarksTold c.args.m.now (left_below c.args.cells.now c.args.m.now c.tell_cells-told.result.prbs) c.args.cells.now c.mark_used.new.self
-marked g c = record {
-  marks = used_marked c.args.m.now c.tell_cells-told.result.prbs c.args.cells.now c.mark_used.new.self c.mark_used.ensures.here c.mark_used.ensures.others;
-  keeps = c.mark_used.ensures.keeps;
-  known = c.mark_used.ensures.known;
-  side = c.mark_used.ensures.side;
-  delays = c.mark_used.ensures.delays;
-  endpoints = c.mark_used.ensures.endpoints;
+-- those that the air heard are set as reported
+was_reported : (g : Over) (c : After-set_used_reported g) → ReportsTold c.args.m.now (left_below c.args.cells.now c.args.m.now c.tell_cells-told.result.prbs) c.args.cells.now c.set_used_reported.new.self
+was_reported g c = record {
+  reports = used_reported c.args.m.now c.tell_cells-told.result.prbs c.args.cells.now c.set_used_reported.new.self c.set_used_reported.ensures.here c.set_used_reported.ensures.others;
+  keeps = c.set_used_reported.ensures.keeps;
+  known = c.set_used_reported.ensures.known;
+  side = c.set_used_reported.ensures.side;
+  delays = c.set_used_reported.ensures.delays;
+  endpoints = c.set_used_reported.ensures.endpoints;
 }
 
 pub returns-clause-heard : goal.returns-clause-heard
@@ -35,11 +35,11 @@ returns-clause-heard g c =
     subst (λ (told : List AirCell). g.A.Air.grew c.args.air.now (map Reported told) c.tell_cells-told.new.air)
     (all_left c.args.cells.now c.args.m.now c.symbol_cells-lent.result c.symbol_cells-lent.ensures c.tell_cells-told.result.prbs all) heard)
 
-pub returns-clause-marks : goal.returns-clause-marks
-returns-clause-marks g c =
+pub returns-clause-reports : goal.returns-clause-reports
+returns-clause-reports g c =
     on_ok_weaker c.tell_cells-told.result.answer (λ all.
-    subst (λ (told : List AirCell). MarksTold c.args.m.now told c.args.cells.now c.mark_used.new.self)
-    (all_below c.args.cells.now c.args.m.now c.tell_cells-told.result.prbs all) (marked g c)) c.tell_cells-told.ensures.all
+    subst (λ (told : List AirCell). ReportsTold c.args.m.now told c.args.cells.now c.set_used_reported.new.self)
+    (all_below c.args.cells.now c.args.m.now c.tell_cells-told.result.prbs all) (was_reported g c)) c.tell_cells-told.ensures.all
 
 pub returns-clause-counts : goal.returns-clause-counts
 returns-clause-counts g c =
@@ -52,5 +52,5 @@ pub returns-clause-stop : goal.returns-clause-stop
 returns-clause-stop g c =
     IfErr-weaker c.tell_cells-told.result.answer _ _ (λ f stop.
     stops_at c.args.cells.now c.args.m.now c.symbol_cells-lent.result c.symbol_cells-lent.ensures g.A.Air.grew (g.A.Air.stopped f) c.tell_cells-told.result.prbs
-    c.mark_used.new.self c.args.counters.now c.tell_cells-told.new.counters c.args.air.now c.tell_cells-told.new.air (marked g c) c.tell_cells-told.ensures.counts stop)
+    c.set_used_reported.new.self c.args.counters.now c.tell_cells-told.new.counters c.args.air.now c.tell_cells-told.new.air (was_reported g c) c.tell_cells-told.ensures.counts stop)
     c.tell_cells-told.ensures.stop

@@ -4,9 +4,10 @@ use Rattle.frame_bytes.specs.Cuts.{piece_frame}
 use Rattle.frame_bytes.specs.Messages.{message_of, message_size}
 use Rattle.frame_bytes.specs.declared.messages.Carrier.{Carrier}
 use Rattle.frame_bytes.proofs.Sections.{length_message}
-use Rattle.sent_frames.specs.Messages.{carrier_of, data_head}
+use Rattle.sent_frames.specs.Messages.{data_head}
 use Rattle.sent_frames.proofs.Written.{fragment_written}
 use Rattle.sent_frames.proofs.data.data_frame.Goals as goal
+use Rattle.frame_bytes.specs.Headers.{carrier_of}
 
 pub returns-clause-bytes : goal.returns-clause-bytes
 returns-clause-bytes g c answer by blocks are =

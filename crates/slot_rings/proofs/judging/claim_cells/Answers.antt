@@ -14,7 +14,7 @@ pub claim_row-requires-clause-free : goal.claim_row-requires-clause-free
 claim_row-requires-clause-free c k left right =
     let f = c.first_prb.ensures in
     let n = c.prb_count.ensures in
-    row_free c.args.a.now c.loop-symbol.symbol k c.args.marks.now.items c.loop-symbol.marks.items c.requires.inside c.requires.free
+    row_free c.args.a.now c.loop-symbol.symbol k c.args.claims.now.items c.loop-symbol.claims.items c.requires.inside c.requires.free
     c.loop-symbol.auto.symbol c.loop-symbol-test.true (rw f at left) (rw (f, n) at right) c.loop-symbol.invariant.each
 
 pub loop-symbol-preserved : goal.loop-symbol-preserved

@@ -1,13 +1,13 @@
 use Rattle.std.proofs.Common.{◌≡◌, ℕ, ◌+◌, ◌-◌, ◌*◌, ◌<◌, ◌≤◌, get_or, vec_capacity, if◌then◌else◌, ◌&&◌, Some}
 use Rattle.unit_model.specs.Claims.{in_mask, is_from, claim_of, first_prb, prb_count}
-use Rattle.slot_rings.specs.Places.{claim_in, no_marks}
+use Rattle.slot_rings.specs.Places.{claim_in, no_claims}
 use Rattle.slot_rings.proofs.judging.claim_cells.Given as goal
 
 abbrev pub invariant-loop-symbol : goal.invariant-loop-symbol
 invariant-loop-symbol l = record {
-  capacity : vec_capacity l.fn.marks ≤ vec_capacity l.marks;
+  capacity : vec_capacity l.fn.claims ≤ vec_capacity l.claims;
   each : (symbol prb re : ℕ) → prb < l.a.endpoint.prbs → re < 12
-      → claim_in (get_or l.marks.items (symbol * l.a.endpoint.prbs + prb) no_marks) re
+      → claim_in (get_or l.claims.items (symbol * l.a.endpoint.prbs + prb) no_claims) re
       ≡ (if (is_from l.a.symbol (l.symbol - l.first) symbol && is_from (first_prb l.a) (prb_count l.a) prb) && in_mask l.a.mask re then Some (claim_of l.a)
-      else claim_in (get_or l.fn.marks.items (symbol * l.a.endpoint.prbs + prb) no_marks) re);
+      else claim_in (get_or l.fn.claims.items (symbol * l.a.endpoint.prbs + prb) no_claims) re);
 }

@@ -7,5 +7,5 @@ use Rattle.slot_rings.proofs.judging.overlaps.Given as goal
 abbrev pub invariant-loop-symbol : goal.invariant-loop-symbol
 invariant-loop-symbol l = record {
   all : (y : ℕ) → l.first ≤ y → y < l.symbol → some (first_prb l.a) (prb_count l.a)
-      (λ n. is_overlapped l.a.section l.a.mask (claims_in l.a.endpoint.prbs l.marks (cell_of l.a y n))) ≡ false;
+      (λ n. is_overlapped l.a.section l.a.mask (claims_in l.a.endpoint.prbs l.claims (cell_of l.a y n))) ≡ false;
 }

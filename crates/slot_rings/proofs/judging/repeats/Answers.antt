@@ -7,19 +7,19 @@ use Rattle.slot_rings.proofs.JudgeLemmas.{repeats_found, repeats_not}
 use Rattle.slot_rings.proofs.judging.repeats.Goals as goal
 
 pub returns-then-not-symbol_has : goal.returns-then-not-symbol_has
-returns-then-not-symbol_has c = repeats_not (claims_in c.args.a.now.endpoint.prbs c.args.marks.now) c.args.a.now c.loop-symbol.symbol
+returns-then-not-symbol_has c = repeats_not (claims_in c.args.a.now.endpoint.prbs c.args.claims.now) c.args.a.now c.loop-symbol.symbol
     c.loop-symbol.auto.symbol c.loop-symbol-test.true (sym c.symbol_has.ensures ∙ c.if-not-symbol_has.true)
 
 pub loop-symbol-preserved : goal.loop-symbol-preserved
 loop-symbol-preserved c = record {
   all = λ y low high. elim (cases_eq y c.loop-symbol.symbol) [
     | inl e ↦ subst (λ (z : ℕ). every (first_prb c.args.a.now) (prb_count c.args.a.now)
-        (λ n. is_claimed c.args.a.now.section c.args.a.now.mask (claims_in c.args.a.now.endpoint.prbs c.args.marks.now (cell_of c.args.a.now z n))) ≡ true)
+        (λ n. is_claimed c.args.a.now.section c.args.a.now.mask (claims_in c.args.a.now.endpoint.prbs c.args.claims.now (cell_of c.args.a.now z n))) ≡ true)
         (sym e) (sym c.symbol_has.ensures ∙ c.if-not-symbol_has.false)
     | inr ne ↦ c.loop-symbol.invariant.all y low (omega (arith, ne, high))
   ];
 }
 
 pub returns : goal.returns
-returns c = repeats_found (claims_in c.args.a.now.endpoint.prbs c.args.marks.now) c.args.a.now
+returns c = repeats_found (claims_in c.args.a.now.endpoint.prbs c.args.claims.now) c.args.a.now
     (λ y low high. c.loop-symbol.invariant.all y low (omega (arith, high, c.loop-symbol-test.false)))

@@ -7,5 +7,5 @@ use Rattle.slot_rings.proofs.judging.repeats.Given as goal
 abbrev pub invariant-loop-symbol : goal.invariant-loop-symbol
 invariant-loop-symbol l = record {
   all : (y : ℕ) → l.first ≤ y → y < l.symbol → every (first_prb l.a) (prb_count l.a)
-      (λ n. is_claimed l.a.section l.a.mask (claims_in l.a.endpoint.prbs l.marks (cell_of l.a y n))) ≡ true;
+      (λ n. is_claimed l.a.section l.a.mask (claims_in l.a.endpoint.prbs l.claims (cell_of l.a y n))) ≡ true;
 }

@@ -1,9 +1,9 @@
 use Rattle.std.proofs.Common.{◌≡◌, ℕ, ◌+◌, ◌<◌, ◌≤◌, false, get_or}
 use Rattle.unit_model.specs.Claims.{is_overlapped}
-use Rattle.slot_rings.specs.Places.{claim_in, no_marks}
+use Rattle.slot_rings.specs.Places.{claim_in, no_claims}
 use Rattle.slot_rings.proofs.judging.row_clashes.Given as goal
 
 abbrev pub invariant-loop-n : goal.invariant-loop-n
 invariant-loop-n l = record {
-  all : (k : ℕ) → l.first ≤ k → k < l.n → is_overlapped l.a.section l.a.mask (claim_in (get_or l.marks (l.base + k) no_marks)) ≡ false;
+  all : (k : ℕ) → l.first ≤ k → k < l.n → is_overlapped l.a.section l.a.mask (claim_in (get_or l.claims (l.base + k) no_claims)) ≡ false;
 }

@@ -1,14 +1,15 @@
 use Rattle.std.proofs.Common.{◌+◌, arith, sym, get_or}
 use Rattle.unit_model.specs.Claims.{first_prb, prb_count, is_claimed}
-use Rattle.slot_rings.specs.Places.{claim_in, no_marks}
-use Rattle.slot_rings.proofs.RangeLemmas.{every_from, every_not}
+use Rattle.slot_rings.specs.Places.{claim_in, no_claims}
+use Rattle.slot_rings.proofs.RangeLemmas.{every_not}
 use Rattle.slot_rings.proofs.judging.row_has.Goals as goal
+use Rattle.unit_model.proofs.ClaimLemmas.{every_one as every_from}
 
 pub returns-then-not-has : goal.returns-then-not-has
 returns-then-not-has c = sym (every_not (first_prb c.args.a.now) (prb_count c.args.a.now)
-    (λ n. is_claimed c.args.a.now.section c.args.a.now.mask (claim_in (get_or c.args.marks.now (c.args.base + n) no_marks))) c.loop-n.n
+    (λ n. is_claimed c.args.a.now.section c.args.a.now.mask (claim_in (get_or c.args.claims.now (c.args.base + n) no_claims))) c.loop-n.n
     (grind (arith, c.first_prb-first.ensures, c.loop-n.auto.n)) (grind (arith, c.first_prb-first.ensures, c.prb_count.ensures, c.loop-n-test.true))
-    (grind (arith, c.marks_at.ensures, c.has.ensures, c.if-not-has.true)))
+    (grind (arith, c.claims_at.ensures, c.has.ensures, c.if-not-has.true)))
 
 pub returns : goal.returns
 returns c = sym (every_from (first_prb c.args.a.now) (prb_count c.args.a.now) _

@@ -1,4 +1,4 @@
-use Rattle.slot_rings.proofs.MarkedLemmas.{items_behind}
+use Rattle.slot_rings.proofs.ReportedLemmas.{items_behind}
 use Rattle.slot_rings.proofs.lists.items_from.Goals as goal
 
 pub returns : goal.returns

@@ -1,6 +1,7 @@
 use Rattle.std.proofs.Common.{◌+◌, arith, sym, get_or, is_some, None}
-use Rattle.slot_rings.proofs.RangeLemmas.{every_from, every_not}
+use Rattle.slot_rings.proofs.RangeLemmas.{every_not}
 use Rattle.slot_rings.proofs.scans.all_there.Goals as goal
+use Rattle.unit_model.proofs.ClaimLemmas.{every_one as every_from}
 
 pub returns-then-is_none : goal.returns-then-is_none
 returns-then-is_none c = sym (every_not c.args.first c.args.count (λ n. is_some (get_or c.args.blocks.now (c.args.base + n) None)) c.loop-n.n

@@ -2,7 +2,7 @@ use Rattle.std.proofs.Common.{◌≡◌, ℤ, ap, subst}
 use Rattle.ecpri_fragments.specs.Assemblies.{hold_of, message_of}
 use Rattle.ecpri_fragments.specs.Generations.{fragment}
 use Rattle.ecpri_fragments.specs.Verdicts.{Message}
-use Rattle.unit_cells.specs.Keeping.{SameMarks}
+use Rattle.unit_cells.specs.Keeping.{SameReported}
 use Rattle.unit_memory.proofs.StepLemmas.{told_whole, whole_data}
 use Rattle.unit_memory.proofs.Times.{message_timely}
 use Rattle.unit_memory.proofs.assembling.assemble.Goals as goal
@@ -31,8 +31,8 @@ returns-in-Whole-clause-holds c side conf n acc fs ds stands h =
     whole_data side conf a.at.0 m.last n acc ds _ _ a.cells.now c.take_message.new.cells a.counters.now c.take_message.new.counters last
     (told_whole side (hold_of a.assembly.now) a.endpoint.now f fs m answer.0 answer.1) (c.take_message.ensures.holds side conf n acc ds) h
 
-pub returns-in-Whole-clause-marks : goal.returns-in-Whole-clause-marks
-returns-in-Whole-clause-marks c =
+pub returns-in-Whole-clause-reports : goal.returns-in-Whole-clause-reports
+returns-in-Whole-clause-reports c =
     let a = c.args in
     let r = c.requires.fragments in
     let m = message_of c.in-Whole.lease in
@@ -40,7 +40,7 @@ returns-in-Whole-clause-marks c =
     let last : m.last ≡ a.at.0 = ap (λ (x : Message). x.last) answer.1 in
     let does = c.take_message.ensures in
     record {
-      marks = λ side conf of. subst (λ (t : ℤ). SameMarks side conf t a.cells.now c.take_message.new.cells) last (does.marks side conf of);
+      reports = λ side conf of. subst (λ (t : ℤ). SameReported side conf t a.cells.now c.take_message.new.cells) last (does.reports side conf of);
       side = does.side;
       delays = does.delays;
       endpoints = does.endpoints;

@@ -5,7 +5,7 @@ use Rattle.ecpri_fragments.specs.Assemblies.{message_of}
 use Rattle.unit_cells.specs.unit_model.specs.uplane_sections.specs.Messages.{Item, told}
 use Rattle.unit_cells.specs.unit_model.specs.uplane_sections.specs.declared.steps.UFeed.{UFeed}
 use Rattle.unit_cells.specs.unit_model.specs.Decoding.{data_with, gathered, nothing_told}
-use Rattle.unit_cells.specs.Keeping.{SameMarks}
+use Rattle.unit_cells.specs.Keeping.{SameReported}
 use Rattle.uplane_messages.specs.Joined.{message_bytes}
 use Rattle.uplane_messages.specs.Left.{left_of, NothingLeft, TellsFirst}
 use Rattle.unit_memory.specs.Holding.{HoldsData}
@@ -35,7 +35,7 @@ loop-what-preserved c =
     one_treated a.ep e c.first-first.result c.last-last.result a.head (items_of e a.lease.now) left next (left_of t.new.walk) c.in-Section.section
     a.cells.now c.loop-what.cells t.new.cells a.counters.now c.loop-what.counters t.new.counters c.loop-what.invariant
     (subst (λ (w : UFeed). TellsFirst left next w) c.in-Section.is c.in-Some.ensures.steps.0)
-    t.ensures.taken (record { marks = t.ensures.marks; side = t.ensures.side; delays = t.ensures.delays; endpoints = t.ensures.endpoints })
+    t.ensures.taken (record { reports = t.ensures.reports; side = t.ensures.side; delays = t.ensures.delays; endpoints = t.ensures.endpoints })
 
 pub returns-clause-holds : goal.returns-clause-holds
 returns-clause-holds c side conf n acc ds holds =
@@ -50,6 +50,6 @@ returns-clause-holds c side conf n acc ds holds =
     c.loop-what.invariant (c.in_default.ensures.steps.0).before side conf n acc ds in
     subst (λ (l : ℤ). H (message_of a.lease.now).first l) c.last-last.ensures (subst (λ (f : ℤ). H f c.last-last.result.0) c.first-first.ensures here) holds
 
-pub returns-clause-marks : goal.returns-clause-marks
-returns-clause-marks c side conf of =
-    subst (λ (l : ℤ). SameMarks side conf l c.args.cells.now c.loop-what.cells) c.last-last.ensures (c.loop-what.invariant.stays.marks side conf of)
+pub returns-clause-reports : goal.returns-clause-reports
+returns-clause-reports c side conf of =
+    subst (λ (l : ℤ). SameReported side conf l c.args.cells.now c.loop-what.cells) c.last-last.ensures (c.loop-what.invariant.stays.reports side conf of)

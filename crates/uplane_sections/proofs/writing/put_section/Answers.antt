@@ -1,4 +1,4 @@
-use Rattle.std.proofs.Common.{◌≡◌, Bool, true, false, not, inl, refl, ◌∙◌, arith}
+use Rattle.std.proofs.Common.{◌≡◌, true, false, inl, refl, ◌∙◌, arith}
 use Rattle.std.proofs.lemmas.List.{get_or-drop}
 use Rattle.bit_fields.proofs.Field.{field_same}
 use Rattle.bfp_codec.specs.declared.methods.Format.{Format}
@@ -6,14 +6,7 @@ use Rattle.uplane_sections.specs.Section.{header_size}
 use Rattle.uplane_sections.proofs.Words.{word_written, compression_written, static_written, dynamic_written}
 use Rattle.uplane_sections.proofs.Back.{section_back}
 use Rattle.uplane_sections.proofs.writing.put_section.Goals as goal
-
-is_false : (b : Bool) → not b ≡ true → b ≡ false
-is_false true e = absurd cc
-is_false false e = refl
-
-is_true : (b : Bool) → not b ≡ false → b ≡ true
-is_true true e = refl
-is_true false e = absurd cc
+use Rattle.fh_time.proofs.Orders.{is_false, is_true}
 
 static_size : (format : Format) → format.dynamic ≡ false → 4 ≡ header_size format
 static_size format is = rw is refl

@@ -1,7 +1,7 @@
 use Rattle.std.proofs.Common.{◌≡◌, ℕ, ◌+◌, ◌∙◌, ap, sym, subst, arith, rules, List, ◌++◌, ◌∷◌, []}
 use Rattle.uplink_model.specs.air_source.specs.declared.links.LinkFrame.{LinkFrame}
 use Rattle.uplink_model.specs.unit_model.specs.Lists.{each}
-use Rattle.uplink_model.specs.Frames.{frame_of}
+use Rattle.uplink_model.specs.Frames.{uplink_frame_of}
 use Rattle.uplink_path.specs.Sending.{SentSome, wait_behind}
 use Rattle.uplink_path.proofs.FrameLemmas.{HandedUpTo, all_handed, at_start, count_as, ends_at, frame_handed, none_handed, on_err, some_handed, wait_next, wait_now}
 use Rattle.uplink_path.proofs.sending.send_message.Goals as goal
@@ -11,7 +11,7 @@ loop-sub-init g c = record {
   capped = c.requires.wait;
   room = search rules;
   wait = λ k m n before b. at_start k before c.args.wait b.wait_is;
-  sent = λ k answer m n before said b. none_handed (λ i. frame_of k answer c.args.endpoint.now m n before i ∷ []) c.frame_count-count.result (g.L.Link.sent c.args.link.now);
+  sent = λ k answer m n before said b. none_handed (λ i. uplink_frame_of k answer c.args.endpoint.now m n before i ∷ []) c.frame_count-count.result (g.L.Link.sent c.args.link.now);
 }
 
 pub loop-sub-preserved : goal.loop-sub-preserved
@@ -37,7 +37,7 @@ loop-sub-preserved g c =
 
 pub returns-in_err-send-clause-err : goal.returns-in_err-send-clause-err
 returns-in_err-send-clause-err g c k answer m n before said b =
-    let f = λ (i : ℕ). frame_of k answer c.args.endpoint.now m n before i ∷ [] in
+    let f = λ (i : ℕ). uplink_frame_of k answer c.args.endpoint.now m n before i ∷ [] in
     let count = c.frame_count-count.result in
     let some = some_handed f c.loop-sub.sub count (g.L.Link.sent c.args.link.now) (g.L.Link.sent c.send.new.self)
     (subst (λ (now : List LinkFrame). HandedUpTo f c.loop-sub.sub count (g.L.Link.sent c.args.link.now) now) (sym c.in_err-send.ensures.err) (c.loop-sub.invariant.sent k answer m n before said b)) in
@@ -47,7 +47,7 @@ returns-in_err-send-clause-err g c k answer m n before said b =
 
 pub returns-clause-sent : goal.returns-clause-sent
 returns-clause-sent g c k answer m n before said b =
-    let f = λ (i : ℕ). frame_of k answer c.args.endpoint.now m n before i ∷ [] in
+    let f = λ (i : ℕ). uplink_frame_of k answer c.args.endpoint.now m n before i ∷ [] in
     let count = c.frame_count-count.result in
     let over : c.loop-sub.sub ≡ count = omega (arith, c.loop-sub-test.false, c.loop-sub.auto.sub-end) in
     all_handed f c.loop-sub.sub count (g.L.Link.sent c.args.link.now) (g.L.Link.sent c.loop-sub.link) over (c.loop-sub.invariant.sent k answer m n before said b)

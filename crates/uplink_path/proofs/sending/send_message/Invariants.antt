@@ -3,7 +3,7 @@ use Rattle.uplink_model.specs.air_source.specs.Answers.{AnswersBy}
 use Rattle.uplink_model.specs.air_source.specs.Kept.{closure_of}
 use Rattle.uplink_model.specs.plan_model.specs.Packs.{Message}
 use Rattle.uplink_model.specs.unit_model.specs.declared.jobs.UplinkJob.{UplinkJob}
-use Rattle.uplink_model.specs.Frames.{Antenna, frame_of}
+use Rattle.uplink_model.specs.Frames.{Antenna, uplink_frame_of}
 use Rattle.uplink_path.specs.Sending.{IsBehind, wait_behind}
 use Rattle.uplink_path.proofs.FrameLemmas.{HandedUpTo}
 use Rattle.window_config.specs.declared.config.Config.{Config}
@@ -16,5 +16,5 @@ invariant-loop-sub g l = record {
   wait : (c : Config) (m : Message UplinkJob) (n before : ℕ) → IsBehind c l.rules l.message l.number l.wait m n before → l.next ≡ wait_behind c (before + l.sub);
   sent : (c : Config) (answer : Antenna) (m : Message UplinkJob) (n before : ℕ) → AnswersBy (λ p w. goal.F-post g (closure_of l.antenna) p w) answer
       → IsBehind c l.rules l.message l.number l.wait m n before
-      → HandedUpTo (λ k. frame_of c answer l.endpoint m n before k ∷ []) l.sub l.count (g.L.Link.sent l.fn.link) (g.L.Link.sent l.link);
+      → HandedUpTo (λ k. uplink_frame_of c answer l.endpoint m n before k ∷ []) l.sub l.count (g.L.Link.sent l.fn.link) (g.L.Link.sent l.link);
 }

@@ -1,4 +1,4 @@
-use Rattle.uplink_tests.specs.Steps.{IsSenderOf, IsUnitOf}
+use Rattle.uplink_path.specs.Steps.{IsSenderOf, IsUnitOf}
 use Rattle.uplink_tests.proofs.numbers.send_in_turn.Given as goal
 
 abbrev pub invariant-loop-turn : goal.invariant-loop-turn

@@ -1,4 +1,4 @@
-use Rattle.uplink_tests.proofs.StepLemmas.{unit_at_first}
+use Rattle.uplink_path.proofs.StepLemmas.{unit_at_first}
 use Rattle.uplink_tests.proofs.steps.made.Goals as goal
 
 pub returns : goal.returns

@@ -1,5 +1,5 @@
 use Rattle.std.proofs.Common.{refl}
-use Rattle.uplink_tests.proofs.StepLemmas.{unit_passed}
+use Rattle.uplink_path.proofs.StepLemmas.{unit_passed}
 use Rattle.uplink_tests.proofs.steps.step.Goals as goal
 
 pub advance-requires-clause-unit : goal.advance-requires-clause-unit

@@ -28,7 +28,7 @@ loop-message-preserved g c =
     record {
       same = before.invariant.same;
       going = λ comp d h.
-          goes_by _ comp c.args.at.0 before.self (message_of c.in-Some.message) (left_of c.next.new.self) (left_of before.message-iterator) _ c.in-Some.ensures.steps.0 c.if-message-eq-DELAY.false
+          goes_by _ comp c.args.at.0 before.self (message_of c.in-Some.message) (left_of c.next.new.self) (left_of before.message-iterator) _ c.in-Some.ensures.steps.0 c.if-message-eq-ONE_WAY_DELAY.false
           (before.invariant.going comp d h);
     }
 

@@ -1,31 +1,31 @@
 use Rattle.std.proofs.Common.{arith}
 use Rattle.schedule_laws.specs.unit_model.specs.Standing.{heard}
 use Rattle.du_intake.specs.Closing.{at_prb}
-use Rattle.du_intake.proofs.CloseLemmas.{closes_marked}
+use Rattle.du_intake.proofs.CloseLemmas.{closes_claimed}
 use Rattle.du_intake.proofs.NextLemmas.{symbol_below}
-use Rattle.du_intake.proofs.LoopLemmas.{marked_next, marked_some, marked_wait, reporting_goes, reporting_starts, same_wait, stops_then, symbol_goes}
+use Rattle.du_intake.proofs.LoopLemmas.{claimed_next, claimed_some, claimed_wait, reporting_goes, reporting_starts, same_wait, stops_then, symbol_goes}
 use Rattle.du_intake.proofs.unit.Intake.close_symbol.Goals as goal
 
 pub loop-prb-init : goal.loop-prb-init
 loop-prb-init g c =
     let u = c.args.self.now in
-    let start = c.mark.new.self in
+    let start = c.claim.new.self in
     reporting_starts g.A.Air.grew g.A.Air.same g.A.Air.faults c.args.m.now start c.args.air.now g.met.A.Air.grew_none g.met.A.Air.same_none
-    (marked_some u start c.mark.ensures.stays c.mark.ensures.room c.requires.unit) (marked_next u start c.args.m.now c.mark.ensures.stays c.requires.next) c.mark.ensures.marks
+    (claimed_some u start c.claim.ensures.stays c.claim.ensures.room c.requires.unit) (claimed_next u start c.args.m.now c.claim.ensures.stays c.requires.next) c.claim.ensures.claims
 
 pub returns-in-Err-clause-stop : goal.returns-in-Err-clause-stop
 returns-in-Err-clause-stop g c k planned h to all order =
     let u = c.args.self.now in
-    let start = c.mark.new.self in
+    let start = c.claim.new.self in
     let now = c.loop-prb.self in
-    let wait = marked_wait u start c.args.m.now to c.mark.ensures.stays order in
-    let one = c.loop-prb.invariant.goes k planned h to (closes_marked k planned u start h c.mark.ensures.stays c.mark.ensures.room all) wait in
+    let wait = claimed_wait u start c.args.m.now to c.claim.ensures.stays order in
+    let one = c.loop-prb.invariant.goes k planned h to (closes_claimed k planned u start h c.claim.ensures.stays c.claim.ensures.room all) wait in
     stops_then g.A.Air.grew (g.A.Air.stopped c.in-Err.fault) g.met.A.Air.grew_more to (at_prb now c.loop-prb.prb) c.close_cell.new.self c.args.air.now c.loop-prb.air c.close_cell.new.air
     k planned h one (c.in-Err.ensures.stop k planned (heard h one.told) to one.closes (same_wait start now c.loop-prb.invariant.stays c.args.m.now to wait))
 
 pub loop-prb-preserved : goal.loop-prb-preserved
 loop-prb-preserved g c =
-    reporting_goes g.A.Air.grew g.A.Air.same g.A.Air.faults c.args.m.now c.mark.new.self c.loop-prb.self c.close_cell.new.self c.loop-prb.prb c.args.air.now c.loop-prb.air
+    reporting_goes g.A.Air.grew g.A.Air.same g.A.Air.faults c.args.m.now c.claim.new.self c.loop-prb.self c.close_cell.new.self c.loop-prb.prb c.args.air.now c.loop-prb.air
     c.close_cell.new.air g.met.A.Air.grew_more g.met.A.Air.same_more c.loop-prb.invariant c.in-Ok.ensures.told c.in-Ok.ensures.stays c.in-Ok.ensures.same c.in-Ok.ensures.cause.later
 
 pub overflow_add-self : goal.overflow_add-self
@@ -40,6 +40,6 @@ overflow_add-self g c =
 pub returns-clause-told : goal.returns-clause-told
 returns-clause-told g c k planned h to all order =
     let u = c.args.self.now in
-    let start = c.mark.new.self in
+    let start = c.claim.new.self in
     symbol_goes g.A.Air.grew g.A.Air.same g.A.Air.faults c.args.m.now start c.loop-prb.self c.loop-prb.prb c.args.air.now c.loop-prb.air c.loop-prb.invariant c.loop-prb-test.false
-    k planned h to (closes_marked k planned u start h c.mark.ensures.stays c.mark.ensures.room all) (marked_wait u start c.args.m.now to c.mark.ensures.stays order)
+    k planned h to (closes_claimed k planned u start h c.claim.ensures.stays c.claim.ensures.room all) (claimed_wait u start c.args.m.now to c.claim.ensures.stays order)

@@ -1,5 +1,5 @@
 use Rattle.send_queue.specs.unit_model.specs.Radiated.{first_clock}
-use Rattle.intake_moments.proofs.BeginLemmas.{begins}
+use Rattle.intake_moments.proofs.AnswerLemmas.{begins}
 use Rattle.intake_moments.proofs.answers.Answers.make.Goals as goal
 
 pub returns : goal.returns

@@ -1,11 +1,16 @@
-use Rattle.std.proofs.Common.{sym, subst}
+use Rattle.std.proofs.Common.{List, Option, Some, None, sym, subst}
+use Rattle.fh_time.specs.declared.values.Ticks.{Ticks}
+use Rattle.send_queue.specs.air_source.specs.declared.links.LinkFrame.{LinkFrame}
 use Rattle.radio_moments.specs.frame_ways.specs.Ways.{IsEmptyTo}
 use Rattle.du_intake.specs.ru_buffers.specs.Calls.{IsLeastOf}
-use Rattle.send_queue.specs.Queues.{IsSilentTo}
+use Rattle.send_queue.specs.Queues.{IsNextTime, IsSilentTo}
 use Rattle.intake_moments.specs.Answers.{AreSilentTo}
-use Rattle.intake_moments.proofs.TimeLemmas.{least_silent}
 use Rattle.radio_moments.specs.frame_ways.proofs.TimeLemmas.{earlier_of_both}
 use Rattle.intake_moments.proofs.answers.Answers.next_time.Goals as goal
+
+least_silent : (q : List LinkFrame) (o : Option Ticks) → IsNextTime q o → IsLeastOf (IsSilentTo q) o
+least_silent q None next = next
+least_silent q (Some t) next = record { before = next.before; at = next.at }
 
 pub returns : goal.returns
 returns g c =

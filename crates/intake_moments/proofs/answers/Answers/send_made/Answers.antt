@@ -5,7 +5,8 @@ use Rattle.radio_moments.specs.delay_exchange.specs.Meters.{HasDoings}
 use Rattle.radio_moments.specs.frame_ways.proofs.WayLemmas.{is_read}
 use Rattle.radio_moments.specs.measured_traffic.specs.Doings.{Doings}
 use Rattle.radio_moments.specs.measured_traffic.specs.Replayed.{made_at}
-use Rattle.intake_moments.proofs.MadeLemmas.{doings_next, left_then, still_to_send, waits_then}
+use Rattle.radio_moments.specs.measured_traffic.proofs.TurnLemmas.{doings_go_on}
+use Rattle.intake_moments.proofs.ReleaseLemmas.{left_then, still_to_send, waits_then}
 use Rattle.intake_moments.proofs.answers.Answers.send_made.Goals as goal
 
 pub send_made-requires : goal.send_made-requires
@@ -26,6 +27,6 @@ returns g c d doc landed made =
     on_ok_weaker c.send_made.result
     (λ both. (
       waits_then _ _ d tick c.args.self.now _ landed refl refl refl both.1,
-      subst (λ (x : Doings). HasDoings (goal.C-pre g) (goal.C-post g) d Ru x c.send_made.new.meter) (sym (doings_next d Ru tick c.requires.begun)) both.0,
+      subst (λ (x : Doings). HasDoings (goal.C-pre g) (goal.C-post g) d Ru x c.send_made.new.meter) (sym (doings_go_on d Ru tick c.requires.begun)) both.0,
     ))
     sent

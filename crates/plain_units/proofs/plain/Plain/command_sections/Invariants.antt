@@ -3,11 +3,11 @@ use Rattle.unit_model.specs.air_source.specs.declared.events.Side.{Side}
 use Rattle.ecpri_fragments.specs.Generations.{Fragment}
 use Rattle.fault_counters.specs.declared.kinds.Counter.{Counter}
 use Rattle.unit_model.specs.Lists.{onto}
-use Rattle.plain_units.specs.Plain.{Holds}
+use Rattle.plain_units.specs.Plain.{PlainHolds}
 use Rattle.unit_model.specs.declared.decoded.ControlSection.{ControlSection}
 use Rattle.unit_model.specs.declared.decoded.UserSection.{UserSection}
 use Rattle.plain_units.proofs.plain.Plain.command_sections.Given as goal
 
 abbrev pub invariant-loop-c : goal.invariant-loop-c
 invariant-loop-c l = (side : Side) (n : Counter → ℕ) (fs : List Fragment) (cs : List ControlSection) (ds : List UserSection)
-    → Holds l.fn.self side l.config n fs cs ds → Holds l.self side l.config n fs (onto cs (take l.c-index l.c-items)) ds
+    → PlainHolds l.fn.self side l.config n fs cs ds → PlainHolds l.self side l.config n fs (onto cs (take l.c-index l.c-items)) ds

@@ -2,7 +2,7 @@ use Rattle.std.proofs.Common.{◌≡◌, ◌<◌, ◌↔◌, ℕ, refl, arith, l
 use Rattle.std.proofs.lemmas.Bool.{false≢true}
 use Rattle.std.proofs.lemmas.List.{append-nil}
 use Rattle.std.proofs.lemmas.List.Elements.{All-pop}
-use Rattle.plain_units.specs.Plain.{Holds}
+use Rattle.plain_units.specs.Plain.{PlainHolds}
 use Rattle.unit_model.specs.Proper.{IsProperData}
 use Rattle.unit_model.specs.declared.decoded.UserSection.{UserSection}
 use Rattle.plain_units.proofs.plain.Plain.data_sections.Goals as goal
@@ -47,5 +47,5 @@ returns c n fs cs ds h =
     let i = c.loop-d.invariant in
     let none : c.loop-d.sections.items ≡ [] = popped_all c.loop-d.sections.items (vec_len c.loop-d.sections) c.pop.result (omega (arith, c.loop-d.sections.ok.0)) c.in_default.not-Some c.pop.ensures.variant in
     let all : c.args.sections.items ≡ i.treated = i.are ∙ ap (λ xs. xs ++ i.treated) none in
-    let P : List UserSection → Type 0 = λ (xs : List UserSection). Holds c.loop-d.self c.args.side c.args.config.now n fs cs (xs ++ ds) in
+    let P : List UserSection → Type 0 = λ (xs : List UserSection). PlainHolds c.loop-d.self c.args.side c.args.config.now n fs cs (xs ++ ds) in
     subst P (sym all) (i.holds n fs cs ds h)

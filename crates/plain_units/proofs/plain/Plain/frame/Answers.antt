@@ -4,7 +4,7 @@ use Rattle.ecpri_frames.specs.Gathering.{whole_messages}
 use Rattle.unit_model.specs.Decoding.{data_sections}
 use Rattle.unit_model.specs.Lists.{onto}
 use Rattle.unit_model.specs.Meetings.{Arrival, Meeting, meet, meetings, met_in, commands, fragments}
-use Rattle.plain_units.specs.Plain.{Stands}
+use Rattle.plain_units.specs.Plain.{PlainStands}
 use Rattle.unit_model.specs.Counts.{counted_of}
 use Rattle.unit_model.specs.Reports.{hold_of}
 use Rattle.unit_model.proofs.OntoLemmas.{onto_none, onto_one}
@@ -19,7 +19,7 @@ message-requires-clause-unit c =
     let u = c.requires.unit in
     let a : Arrival = record { at = c.args.at.0; frame = c.args.frame.now } in
     let first = c.count_frame.ensures side conf (counted_of side hold u.arrivals u.meetings) (fragments u.meetings) (commands u.meetings) (data_sections side hold u.meetings) u.stands in
-    let begun : Stands c.count_frame.new.self side conf (a ∷ u.arrivals) u.meetings = stands_frame c.count_frame.new.self side conf u.arrivals u.meetings a first in
+    let begun : PlainStands c.count_frame.new.self side conf (a ∷ u.arrivals) u.meetings = stands_frame c.count_frame.new.self side conf u.arrivals u.meetings a first in
     let i = c.loop-message.invariant (a ∷ u.arrivals) u.meetings begun in
     record { arrivals = a ∷ u.arrivals; meetings = i.so_far; stands = i.stands }
 
@@ -49,10 +49,10 @@ returns c arrivals h =
     let ms = meetings side es arrivals in
     let a : Arrival = record { at = at; frame = c.args.frame.now } in
     let first = c.count_frame.ensures side conf (counted_of side hold arrivals ms) (fragments ms) (commands ms) (data_sections side hold ms) h in
-    let begun : Stands c.count_frame.new.self side conf (a ∷ arrivals) ms = stands_frame c.count_frame.new.self side conf arrivals ms a first in
+    let begun : PlainStands c.count_frame.new.self side conf (a ∷ arrivals) ms = stands_frame c.count_frame.new.self side conf arrivals ms a first in
     let i = c.loop-message.invariant (a ∷ arrivals) ms begun in
     let none : left_of c.loop-message.message-iterator ≡ [] = c.in-None.ensures.steps.0.0 in
     let all : i.so_far ≡ onto ms (met_in side es at (whole_messages c.args.frame.now)) =
     sym (onto_none i.so_far) ∙ ap (λ xs. onto i.so_far (met_in side es at xs)) (sym none) ∙ i.are in
-    let P : List Meeting → Type 0 = λ (xs : List Meeting). Stands c.loop-message.self side conf (a ∷ arrivals) xs in
+    let P : List Meeting → Type 0 = λ (xs : List Meeting). PlainStands c.loop-message.self side conf (a ∷ arrivals) xs in
     subst P all i.stands

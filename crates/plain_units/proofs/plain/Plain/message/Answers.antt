@@ -5,7 +5,7 @@ use Rattle.ecpri_frames.specs.Left.{message_of}
 use Rattle.unit_model.specs.Decoding.{data_sections}
 use Rattle.unit_model.specs.Lists.{onto}
 use Rattle.unit_model.specs.Meetings.{Meeting, Ignored, Commands, Piece, meet, commands_with, fragment_with, commands, fragments}
-use Rattle.plain_units.specs.Plain.{Holds, Stands}
+use Rattle.plain_units.specs.Plain.{PlainHolds, PlainStands}
 use Rattle.unit_model.specs.Counts.{counted_of}
 use Rattle.unit_model.specs.Reports.{hold_of}
 use Rattle.plain_units.proofs.PlainLemmas.{AfterPiece, met_so_far, stands_ignored, stands_commands, stands_piece}
@@ -37,7 +37,7 @@ returns-in-Ignored c arrivals ms h =
     let second = c.count-in-Ignored.ensures side conf (met_so_far c.count.new.self side conf arrivals ms) (fragments ms) (commands ms) (data_sections side hold ms) first in
     let is : Ignored x ≡ meet side conf.endpoints at (message_of c.args.message.now) =
     c.in-Ignored.ensures.value at ∙ ap (λ es. meet side es at (message_of c.args.message.now)) c.as_slice.ensures.items in
-    let P : Meeting → Type 0 = λ (m : Meeting). Stands c.count-in-Ignored.new.self side conf arrivals (m ∷ ms) in
+    let P : Meeting → Type 0 = λ (m : Meeting). PlainStands c.count-in-Ignored.new.self side conf arrivals (m ∷ ms) in
     subst P is (stands_ignored c.count-in-Ignored.new.self side conf arrivals ms x second)
 
 pub returns-in-Command : goal.returns-in-Command
@@ -52,8 +52,8 @@ returns-in-Command c arrivals ms h =
     let first = c.count.ensures side conf (counted_of side hold arrivals ms) (fragments ms) (commands ms) (data_sections side hold ms) h in
     let is : Commands cs ≡ meet side conf.endpoints at (message_of c.args.message.now) =
     w.ensures.value at ∙ ap (λ es. meet side es at (message_of c.args.message.now)) c.as_slice.ensures.items in
-    let P : Meeting → Type 0 = λ (m : Meeting). Stands u side conf arrivals (m ∷ ms) in
-    on_ok_weaker c.command_sections.result (λ (e : Holds u side conf (met_so_far u side conf arrivals ms) (fragments ms) (onto (commands ms) cs) (data_sections side hold ms)).
+    let P : Meeting → Type 0 = λ (m : Meeting). PlainStands u side conf arrivals (m ∷ ms) in
+    on_ok_weaker c.command_sections.result (λ (e : PlainHolds u side conf (met_so_far u side conf arrivals ms) (fragments ms) (onto (commands ms) cs) (data_sections side hold ms)).
     subst P is (stands_commands u side conf arrivals ms cs e))
     (c.command_sections.ensures side (met_so_far u side conf arrivals ms) (fragments ms) (commands ms) (data_sections side hold ms) first)
 
@@ -70,7 +70,7 @@ returns-in-Piece c arrivals ms h =
     let first = c.count.ensures side conf (counted_of side hold arrivals ms) (fragments ms) (commands ms) (data_sections side hold ms) h in
     let is : Piece w.endpoint f ≡ meet side conf.endpoints at (message_of c.args.message.now) =
     w.ensures.value at ∙ ap (λ es. meet side es at (message_of c.args.message.now)) c.as_slice.ensures.items in
-    let P : Meeting → Type 0 = λ (m : Meeting). Stands u side conf arrivals (m ∷ ms) in
+    let P : Meeting → Type 0 = λ (m : Meeting). PlainStands u side conf arrivals (m ∷ ms) in
     on_ok_weaker c.piece.result (λ (e : AfterPiece u side conf n (fragments ms) (commands ms) (data_sections side hold ms) w.endpoint f).
     subst P is (stands_piece u side conf arrivals ms w.endpoint f e))
     (c.piece.ensures n (fragments ms) (commands ms) (data_sections side hold ms) first)

@@ -6,7 +6,7 @@ use Rattle.fault_counters.specs.declared.kinds.Counter.{Counter}
 use Rattle.fault_counters.specs.Counts.{once}
 use Rattle.unit_model.specs.Counts.{fragment_counter}
 use Rattle.plain_units.specs.Owned.{IsTaken}
-use Rattle.plain_units.specs.Plain.{Holds}
+use Rattle.plain_units.specs.Plain.{PlainHolds}
 use Rattle.unit_model.specs.Reports.{hold_of}
 use Rattle.plain_units.specs.declared.taking.OwnedMessage.{OwnedMessage}
 use Rattle.plain_units.proofs.PlainLemmas.{taken_holds, piece_none, piece_some}
@@ -51,7 +51,7 @@ returns-in-Some c n fs cs ds h =
     let v = c.in_ok-verdict.verdict in
     let held = taken_holds a.self.now c.take.new.assembly a.side conf n fs cs ds f c.take.ensures.took c.requires.time h in
     let counted = c.count.ensures a.side conf n (f ∷ fs) cs ds held in
-    let P : Counter → Type 0 = λ (x : Counter). Holds c.count.new.self a.side conf (λ k. n k + once x k) (f ∷ fs) cs ds in
+    let P : Counter → Type 0 = λ (x : Counter). PlainHolds c.count.new.self a.side conf (λ k. n k + once x k) (f ∷ fs) cs ds in
     let told = c.whole.ensures (λ k. n k + once (fragment_counter v) k) (f ∷ fs) cs ds (subst P c.fragment_counter.ensures counted) in
     let T : ℤ → Type 0 = λ (z : ℤ). IsTaken z f fs v c.in_ok-verdict.whole in
     let Q : Option OwnedMessage → Type 0 = λ (m : Option OwnedMessage). IsTaken (hold_of a.side conf.delays) f fs v m in
@@ -66,7 +66,7 @@ returns-in-None c n fs cs ds h =
     let v = c.in_ok-verdict.verdict in
     let held = taken_holds a.self.now c.take.new.assembly a.side conf n fs cs ds f c.take.ensures.took c.requires.time h in
     let counted = c.count.ensures a.side conf n (f ∷ fs) cs ds held in
-    let P : Counter → Type 0 = λ (x : Counter). Holds c.count.new.self a.side conf (λ k. n k + once x k) (f ∷ fs) cs ds in
+    let P : Counter → Type 0 = λ (x : Counter). PlainHolds c.count.new.self a.side conf (λ k. n k + once x k) (f ∷ fs) cs ds in
     let T : ℤ → Type 0 = λ (z : ℤ). IsTaken z f fs v c.in_ok-verdict.whole in
     let Q : Option OwnedMessage → Type 0 = λ (m : Option OwnedMessage). IsTaken (hold_of a.side conf.delays) f fs v m in
     let taken = subst Q c.in-None.is (subst T h.hold (c.in_ok-verdict.ensures.answer fs h.fragments)) in

@@ -1,4 +1,4 @@
-use Rattle.history_laws.specs.air_source.specs.declared.events.Side.TheVariants.{Ru as AtRu}
+use Rattle.radio_laws.specs.history_laws.specs.air_source.specs.declared.events.Side.TheVariants.{Ru as AtRu}
 use Rattle.ru_buffers.proofs.CallLemmas.{holds_some, ready_settled, settled_is, stands_delivered}
 use Rattle.ru_buffers.proofs.DeliverLemmas.{message_then, symbol_then}
 use Rattle.ru_buffers.proofs.LoopLemmas.{standing, standing_with}
@@ -18,7 +18,7 @@ returns-clause-stands c k h all =
     let m = c.arrive-arrival.new.self in
     let frame = c.args.frame.now in
     let then = stands_delivered k u.memory u.clock.0 u.cursor next h own c.requires.given c.settled-self.ensures m frame
-    (c.arrive-arrival.ensures.holds AtRu k) (c.arrive-arrival.ensures.marks AtRu k all.kept.holds.of) in
+    (c.arrive-arrival.ensures.holds AtRu k) (c.arrive-arrival.ensures.reports AtRu k all.kept.holds.of) in
     let was = (settled_is k u.memory u.clock.0 u.cursor next h own c.requires.given c.settled-self.ensures).kept in
     standing_with k _ _ then
     (symbol_then k u.memory m u.clock.0 next h frame was then.kept c.arrive-arrival.result.control c.arrive-arrival.ensures.control u.symbol c.next_symbol-self.result all.symbol

@@ -2,7 +2,7 @@ use Rattle.std.proofs.Common.{[], refl, sym, append-nil}
 use Rattle.fh_time.proofs.Kept.{offsets_short}
 use Rattle.unit_memory.specs.declared.memory.UnitMemory.{UnitMemory}
 use Rattle.ru_buffers.proofs.LoopLemmas.{first_next, first_of, goes_to, over_later, over_none, stops_at}
-use Rattle.ru_buffers.proofs.OrderLemmas.{rest_after}
+use Rattle.radio_laws.proofs.OrderLemmas.{rest_after}
 use Rattle.ru_buffers.proofs.unit.Ru.report_next.Goals as goal
 
 pub returns-in-None-clause-told : goal.returns-in-None-clause-told
@@ -23,7 +23,7 @@ returns-in-Ok-clause-told g c k h all =
     let m : UnitMemory = record { endpoints = u.memory.endpoints; cells = c.report-told.new.cells; assembly = u.memory.assembly; counters = c.report-told.new.counters } in
     goes_to g.A.Air.grew u m c.find_symbol-self.result c.args.air.now c.report-told.new.air c.args.to.0 k h s c.find_symbol-self.ensures all (offsets_short s.endpoint.numerology)
     (first_next u.memory.cells u.clock.0 s (first_of u s c.requires.next c.in-Some.is)) (c.if-not-starts_by.ensures.by refl)
-    (record { more = []; left = sym (append-nil _); marks = told.marks; counts = told.counts; endpoints = refl; assembly = refl }) told.heard
+    (record { more = []; left = sym (append-nil _); reports = told.reports; counts = told.counts; endpoints = refl; assembly = refl }) told.heard
 
 pub returns-in-Ok-clause-order : goal.returns-in-Ok-clause-order
 returns-in-Ok-clause-order g c =
@@ -33,7 +33,7 @@ returns-in-Ok-clause-order g c =
     record {
       was = found.was;
       by = c.if-not-starts_by.ensures.by refl;
-      rest = rest_after u.clock.0 s u.memory.cells c.report-told.new.cells (first_next u.memory.cells u.clock.0 s found) c.in-Ok.ensures.marks;
+      rest = rest_after u.clock.0 s u.memory.cells c.report-told.new.cells (first_next u.memory.cells u.clock.0 s found) c.in-Ok.ensures.reports;
     }
 
 pub returns-in-Err-clause-stop : goal.returns-in-Err-clause-stop

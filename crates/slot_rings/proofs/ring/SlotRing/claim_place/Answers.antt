@@ -1,12 +1,13 @@
 use Rattle.std.proofs.Common.{◌+◌, ◌-◌, ◌<◌, arith, ◌∙◌, ap, sym, subst, length}
 use Rattle.window_config.specs.declared.endpoints.EndpointConfig.{EndpointConfig}
 use Rattle.slot_rings.specs.Pending.{flag_at}
-use Rattle.slot_rings.specs.Places.{PlaceValue, is_of}
+use Rattle.slot_rings.specs.Places.{PlaceValue, is_place_of}
 use Rattle.slot_rings.specs.Rings.{RingValue, place_index}
 use Rattle.slot_rings.proofs.RingLemmas.{put_kept, put_own, read_is, claims_moved}
-use Rattle.slot_rings.proofs.PendingLemmas.{flagged_put, claimed_quiet, unequal}
+use Rattle.slot_rings.proofs.PendingLemmas.{flagged_put, claimed_quiet}
 use Rattle.slot_rings.proofs.CountLemmas.{sections_put, sections_most, place_most}
 use Rattle.slot_rings.proofs.ring.SlotRing.claim_place.Goals as goal
+use Rattle.fh_time.proofs.Orders.{both_ways as unequal}
 
 pub overflow_sub-self : goal.overflow_sub-self
 overflow_sub-self c =
@@ -34,8 +35,8 @@ invariant_of-self c =
           c.flag.ensures.size c.flag.ensures.kept
           (λ s off. claimed_quiet r.endpoint.prbs c.args.a.now.endpoint.prbs s c.index_mut-place.result.now c.claim.new.self c.args.a.now
           (ap (λ (e : EndpointConfig). e.prbs) c.requires.endpoint ∙ ap (λ (x : RingValue). x.endpoint.prbs) (sym c.self.view_is))
-          (ap (λ (p : PlaceValue). is_of p.slot c.args.a.now.slot) (read_is r c.args.self.now c.index-index.result c.index_mut-place.result.now c.args.a.now.slot c.self.invariant.0 c.self.view_is c.index-index.ensures.value c.index_mut-place.ensures.value) ∙ c.requires.has)
-          (ap (λ (p : PlaceValue). p.slot) c.claim.ensures.kept) (ap (λ (p : PlaceValue). p.done) c.claim.ensures.kept) c.claim.ensures.claims
+          (ap (λ (p : PlaceValue). is_place_of p.slot c.args.a.now.slot) (read_is r c.args.self.now c.index-index.result c.index_mut-place.result.now c.args.a.now.slot c.self.invariant.0 c.self.view_is c.index-index.ensures.value c.index_mut-place.ensures.value) ∙ c.requires.has)
+          (ap (λ (p : PlaceValue). p.slot) c.claim.ensures.kept) (ap (λ (p : PlaceValue). p.reported) c.claim.ensures.kept) c.claim.ensures.claims
           (λ down radiates is. unequal (flag_at c.flag.new.self c.index-index.result s) (c.flag.ensures.set s down radiates is) off)),
       sections_put r c.self.inside.sections (c.self.inside.sections - c.sections-before.result + c.sections-after.result) c.index-index.result c.index_mut-place.result.now
           c.claim.new.self c.self.invariant.2 within c.index_mut-place.ensures.value

@@ -1,7 +1,7 @@
 use Rattle.std.proofs.Common.{◌≡◌, ◌∙◌, ℕ, ap, sym, subst, arith, false, Option}
 use Rattle.fh_time.specs.declared.values.Slot.{Slot}
 use Rattle.unit_model.specs.Claims.{is_from}
-use Rattle.slot_rings.specs.Places.{PlaceValue, cell_number, is_of}
+use Rattle.slot_rings.specs.Places.{PlaceValue, cell_number, is_place_of}
 use Rattle.slot_rings.specs.Rings.{RingValue}
 use Rattle.slot_rings.proofs.RunLemmas.{cells_fit, cells_outside}
 use Rattle.slot_rings.proofs.RingLemmas.{symbols_are, block_still}
@@ -22,5 +22,5 @@ returns-clause-others c cell is at ne =
     subst (λ (n : ℕ). is_from n count (cell_number prbs cell.symbol cell.prb) ≡ false) (sym c.number-number.ensures.value) outside in
     block_still c.args.self.now c.fill_run_place.new.self c.args.slot cell
     (ap (λ (r : RingValue). r.endpoint) c.fill_run_place.ensures.only) c.requires.has
-    (ap (λ (o : Option Slot). is_of o c.args.slot) (ap (λ (p : PlaceValue). p.slot) c.fill_run_place.ensures.kept) ∙ c.requires.has) at
+    (ap (λ (o : Option Slot). is_place_of o c.args.slot) (ap (λ (p : PlaceValue). p.slot) c.fill_run_place.ensures.kept) ∙ c.requires.has) at
     (c.fill_run_place.ensures.others (cell_number prbs cell.symbol cell.prb) apart)

@@ -1,7 +1,7 @@
 use Rattle.std.proofs.Common.{◌≡◌, ap, sym, subst, arith, length, vec_len, get_or, List, [], None, ◌∙◌}
 use Rattle.std.specs.List.{sum_by}
 use Rattle.std.proofs.lemmas.List.Sums.{sum_by_push}
-use Rattle.slot_rings.specs.Counts.{sections_of}
+use Rattle.slot_rings.specs.Counts.{uplink_sections_in}
 use Rattle.slot_rings.specs.Places.{PlaceValue, blank}
 use Rattle.slot_rings.specs.Rings.{RingValue}
 use Rattle.slot_rings.proofs.RingLemmas.{slots_pushed, prbs_pushed}
@@ -20,8 +20,8 @@ loop-k-preserved c =
           (slots_pushed c.loop-k.places.items c.in_ok-place.place c.loop-k.invariant.slots (ap (λ (p : PlaceValue). p.slot) place) i);
       downs = λ i. subst (λ (xs : List PlaceValue). (get_or xs i blank).down ≡ []) (sym items)
           (downs_pushed c.loop-k.places.items c.in_ok-place.place c.loop-k.invariant.downs (ap (λ (p : PlaceValue). p.down) place) i);
-      uplinks = ap (λ (xs : List PlaceValue). sum_by sections_of xs) items ∙ sum_by_push sections_of c.loop-k.places.items c.in_ok-place.place
-          ∙ omega (arith, c.loop-k.invariant.uplinks, ap sections_of place);
+      uplinks = ap (λ (xs : List PlaceValue). sum_by uplink_sections_in xs) items ∙ sum_by_push uplink_sections_in c.loop-k.places.items c.in_ok-place.place
+          ∙ omega (arith, c.loop-k.invariant.uplinks, ap uplink_sections_in place);
       prbs = λ i below. subst (λ (xs : List PlaceValue). (get_or xs i blank).prbs ≡ c.args.endpoint.prbs) (sym items)
           (prbs_pushed c.loop-k.places.items c.in_ok-place.place c.args.endpoint.prbs (λ j b. c.loop-k.invariant.prbs j (omega (arith, b, len)))
           (ap (λ (p : PlaceValue). p.prbs) place) i (omega (arith, below, c.in_ok-push.ensures.len, len)));

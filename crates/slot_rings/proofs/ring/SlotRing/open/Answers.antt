@@ -1,4 +1,4 @@
-use Rattle.slot_rings.proofs.RingLemmas.{opened_has, opened_claims, opened_blocks, opened_dones, opened_uplinks, opened_parted}
+use Rattle.slot_rings.proofs.RingLemmas.{opened_has, opened_claims, opened_blocks, opened_all_reported, opened_uplinks, opened_parted}
 use Rattle.slot_rings.proofs.ring.SlotRing.open.Goals as goal
 
 pub returns-clause-has : goal.returns-clause-has
@@ -10,8 +10,8 @@ returns-clause-claims c = opened_claims c.args.self.now c.open_place.new.self c.
 pub returns-clause-blocks : goal.returns-clause-blocks
 returns-clause-blocks c = opened_blocks c.args.self.now c.open_place.new.self c.args.slot c.open_place.ensures.ring c.open_place.ensures.only
 
-pub returns-clause-done : goal.returns-clause-done
-returns-clause-done c = opened_dones c.args.self.now c.open_place.new.self c.args.slot c.open_place.ensures.ring c.open_place.ensures.only
+pub returns-clause-reported : goal.returns-clause-reported
+returns-clause-reported c = opened_all_reported c.args.self.now c.open_place.new.self c.args.slot c.open_place.ensures.ring c.open_place.ensures.only
 
 pub returns-clause-uplink : goal.returns-clause-uplink
 returns-clause-uplink c = opened_uplinks c.args.self.now c.open_place.new.self c.args.slot c.open_place.ensures.ring c.open_place.ensures.only

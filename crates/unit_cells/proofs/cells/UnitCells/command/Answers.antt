@@ -9,7 +9,7 @@ use Rattle.unit_model.specs.declared.allocations.Allocation.{Allocation}
 use Rattle.unit_model.specs.declared.decoded.ControlSection.{ControlSection}
 use Rattle.unit_cells.specs.Cells.{IsOf}
 use Rattle.unit_cells.specs.Steps.{InRing, Takes}
-use Rattle.unit_cells.proofs.CallLemmas.{classed, command_judged, command_keeps, command_marks, delays_are, mismatched}
+use Rattle.unit_cells.proofs.CallLemmas.{classed, command_judged, command_keeps, command_reports, delays_are, mismatched}
 use Rattle.unit_cells.proofs.RingsLemmas.{endpoints_still}
 use Rattle.unit_cells.proofs.cells.UnitCells.command.Goals as goal
 use Rattle.unit_cells.proofs.cells.UnitCells.command.Goals.{After-take}
@@ -47,9 +47,9 @@ pub returns-in-OnTime-clause-keeps : goal.returns-in-OnTime-clause-keeps
 returns-in-OnTime-clause-keeps c k acc ds of keeps =
     command_keeps k c.args.command.now c.take.result c.args.self.now c.take.new.self of c.take.ensures.held c.requires (on_time c k of) (taken_is c) acc ds keeps
 
-pub returns-in-OnTime-clause-marks : goal.returns-in-OnTime-clause-marks
-returns-in-OnTime-clause-marks c k of =
-    command_marks k c.args.command.now c.take.result c.args.self.now c.take.new.self of c.take.ensures.held c.requires (on_time c k of) (taken_is c)
+pub returns-in-OnTime-clause-reports : goal.returns-in-OnTime-clause-reports
+returns-in-OnTime-clause-reports c k of =
+    command_reports k c.args.command.now c.take.result c.args.self.now c.take.new.self of c.take.ensures.held c.requires (on_time c k of) (taken_is c)
 
 pub returns-in-OnTime-clause-endpoints : goal.returns-in-OnTime-clause-endpoints
 returns-in-OnTime-clause-endpoints c =

@@ -1,4 +1,4 @@
-use Rattle.slot_rings.specs.Runs.{samples_of}
+use Rattle.slot_rings.specs.Runs.{packed_samples}
 use Rattle.unit_cells.specs.Steps.{Fills}
 use Rattle.unit_cells.proofs.RingsLemmas.{in_ring, still_rings}
 use Rattle.unit_cells.proofs.cells.UnitCells.fill_cells.Goals as goal
@@ -10,5 +10,5 @@ invariant_of-self c =
 
 pub returns-clause-filled : goal.returns-clause-filled
 returns-clause-filled c =
-    in_ring (Fills c.args.slot c.args.symbol c.args.first c.args.run.now.id (samples_of c.args.run.now)) c.self.inside.side c.self.inside.delays c.self.inside.rings.items c.args.self.now c.args.ep c.requires.cells.endpoint
+    in_ring (Fills c.args.slot c.args.symbol c.args.first c.args.run.now.id (packed_samples c.args.run.now)) c.self.inside.side c.self.inside.delays c.self.inside.rings.items c.args.self.now c.args.ep c.requires.cells.endpoint
     c.index_mut.result.now c.fill_run.new.ring c.self.view_is c.requires.cells.at c.index_mut.ensures.value c.fill_run.ensures

@@ -8,9 +8,9 @@ use Rattle.window_config.specs.declared.config.Config.{Config}
 use Rattle.window_config.specs.declared.verdicts.Class.TheVariants as class
 use Rattle.unit_model.specs.Blocks.{data_class, first_data_prb}
 use Rattle.unit_cells.specs.Cells.{IsOf}
-use Rattle.unit_cells.specs.Headings.{data_of}
+use Rattle.unit_cells.specs.Headings.{data_under}
 use Rattle.unit_cells.specs.Steps.{Fills, InRing}
-use Rattle.unit_cells.proofs.CallLemmas.{data_class_is, delays_are, heading_of, filled_keeps, filled_marks, side_are}
+use Rattle.unit_cells.proofs.CallLemmas.{data_class_is, delays_are, heading_of, filled_keeps, filled_reported, side_are}
 use Rattle.unit_cells.proofs.FillLemmas.{slot_of}
 use Rattle.unit_cells.proofs.RingsLemmas.{endpoints_still}
 use Rattle.unit_cells.proofs.cells.UnitCells.fill_run.Goals as goal
@@ -26,7 +26,7 @@ filled c =
     subst (λ (s : Slot). InRing c.args.heading.now.ep (Fills s c.args.heading.now.section.symbol c.prb_at-first.result c.args.heading.now.section.id (samples c))
     c.args.self.now c.fill_cells.new.self) c.data_slot-slot.ensures.value c.fill_cells.ensures.filled
 
-on_time : (c : After-fill_cells) (side : Side) (k : Config) → IsOf side k c.args.self.now → data_class side k.delays (data_of c.args.heading.now []) ≡ class.OnTime
+on_time : (c : After-fill_cells) (side : Side) (k : Config) → IsOf side k c.args.self.now → data_class side k.delays (data_under c.args.heading.now []) ≡ class.OnTime
 on_time c side k of =
     data_class_is side k c.self.inside.side c.self.inside.delays class.OnTime c.args.heading.now c.in-OnTime.ensures
     (side_are side k c.self.inside.side c.self.inside.delays c.self.inside.rings.items c.args.self.now c.self.view_is of)
@@ -37,12 +37,12 @@ returns-in-OnTime-clause-keeps c side k acc ds blocks of long keeps =
     filled_keeps side k c.args.heading.now c.prb_at-first.result (samples c) c.args.self.now c.fill_cells.new.self of c.fill_cells.ensures.held
     (heading_of side k c.args.heading.now c.args.self.now of c.requires.heading)
     (on_time c side k of) (filled c) acc ds blocks
-    (c.prb_at-first.ensures.value ∙ ap (λ (n : ℕ). first_data_prb (data_of c.args.heading.now []) + n) (sym long))
+    (c.prb_at-first.ensures.value ∙ ap (λ (n : ℕ). first_data_prb (data_under c.args.heading.now []) + n) (sym long))
     (omega (arith, long, c.requires.within, run_length c.args.method c.args.count c.args.packed.now)) keeps
 
-pub returns-in-OnTime-clause-marks : goal.returns-in-OnTime-clause-marks
-returns-in-OnTime-clause-marks c side k of =
-    filled_marks side k c.args.heading.now c.prb_at-first.result (samples c) c.args.self.now c.fill_cells.new.self of c.fill_cells.ensures.held
+pub returns-in-OnTime-clause-reports : goal.returns-in-OnTime-clause-reports
+returns-in-OnTime-clause-reports c side k of =
+    filled_reported side k c.args.heading.now c.prb_at-first.result (samples c) c.args.self.now c.fill_cells.new.self of c.fill_cells.ensures.held
     (heading_of side k c.args.heading.now c.args.self.now of c.requires.heading)
     (on_time c side k of) (filled c)
 

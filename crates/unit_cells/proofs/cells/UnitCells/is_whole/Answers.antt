@@ -5,10 +5,10 @@ use Rattle.unit_model.specs.Blocks.{data_prb_count, data_slot, first_data_prb}
 use Rattle.unit_model.specs.Claims.{cell_at}
 use Rattle.unit_model.specs.Lists.{every}
 use Rattle.slot_rings.specs.Rings.{RingValue, ring_block}
-use Rattle.unit_cells.specs.Headings.{data_of}
+use Rattle.unit_cells.specs.Headings.{data_under}
 use Rattle.unit_cells.proofs.CallLemmas.{ring_read}
-use Rattle.unit_cells.proofs.ListLemmas.{some_equal}
 use Rattle.unit_cells.proofs.cells.UnitCells.is_whole.Goals as goal
+use Rattle.fh_time.proofs.Options.{some_is as some_equal}
 
 pub returns : goal.returns
 returns c r is =
@@ -18,6 +18,6 @@ returns c r is =
     let same : read ≡ r = some_equal read r (sym there ∙ is) in
     c.has_all.ensures h.ep
     ∙ ap (λ (n : ℕ). every n c.prb_count-count.result (λ prb. is_some (ring_block read (cell_at h.ep true c.data_slot-slot.result h.section.symbol prb)))) c.first_prb-first.ensures
-    ∙ ap (λ (n : ℕ). every (first_data_prb (data_of h [])) n (λ prb. is_some (ring_block read (cell_at h.ep true c.data_slot-slot.result h.section.symbol prb)))) c.prb_count-count.ensures
-    ∙ ap (λ (s : Slot). every (first_data_prb (data_of h [])) (data_prb_count (data_of h [])) (λ prb. is_some (ring_block read (cell_at h.ep true s h.section.symbol prb)))) c.data_slot-slot.ensures.value
-    ∙ ap (λ (x : RingValue). every (first_data_prb (data_of h [])) (data_prb_count (data_of h [])) (λ prb. is_some (ring_block x (cell_at h.ep true (data_slot (data_of h [])) h.section.symbol prb)))) same
+    ∙ ap (λ (n : ℕ). every (first_data_prb (data_under h [])) n (λ prb. is_some (ring_block read (cell_at h.ep true c.data_slot-slot.result h.section.symbol prb)))) c.prb_count-count.ensures
+    ∙ ap (λ (s : Slot). every (first_data_prb (data_under h [])) (data_prb_count (data_under h [])) (λ prb. is_some (ring_block read (cell_at h.ep true s h.section.symbol prb)))) c.data_slot-slot.ensures.value
+    ∙ ap (λ (x : RingValue). every (first_data_prb (data_under h [])) (data_prb_count (data_under h [])) (λ prb. is_some (ring_block x (cell_at h.ep true (data_slot (data_under h [])) h.section.symbol prb)))) same

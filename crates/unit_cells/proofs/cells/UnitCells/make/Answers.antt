@@ -3,7 +3,7 @@ use Rattle.std.specs.Prelude.{All}
 use Rattle.std.proofs.lemmas.List.Elements.{All-push}
 use Rattle.slot_rings.specs.Rings.{RingValue}
 use Rattle.unit_cells.specs.Cells.{endpoint_in}
-use Rattle.unit_cells.proofs.RingsLemmas.{IsFresh, fresh_done, fresh_keeps, fresh_rings, pushed_rings}
+use Rattle.unit_cells.proofs.RingsLemmas.{IsFresh, fresh_reported, fresh_keeps, fresh_rings, pushed_rings}
 use Rattle.unit_cells.proofs.cells.UnitCells.make.Goals as goal
 
 pub loop-endpoint-preserved : goal.loop-endpoint-preserved
@@ -26,5 +26,5 @@ invariant_of-result c = fresh_rings c.args.side c.args.config.now.delays c.loop-
 pub returns-clause-keeps : goal.returns-clause-keeps
 returns-clause-keeps c clock = fresh_keeps c.args.side c.args.config.now.delays c.loop-endpoint.rings.items c.loop-endpoint.invariant.fresh c.args.config.now clock
 
-pub returns-clause-unmarked : goal.returns-clause-unmarked
-returns-clause-unmarked c = fresh_done c.args.side c.args.config.now.delays c.loop-endpoint.rings.items c.loop-endpoint.invariant.fresh
+pub returns-clause-unreported : goal.returns-clause-unreported
+returns-clause-unreported c = fresh_reported c.args.side c.args.config.now.delays c.loop-endpoint.rings.items c.loop-endpoint.invariant.fresh

@@ -2,7 +2,7 @@ use Rattle.std.proofs.Common.{◌≡◌, ◌∙◌, ℕ, true, sym, ap, Option, 
 use Rattle.unit_model.specs.Claims.{cell_at}
 use Rattle.unit_model.specs.declared.cells.Cell.{Cell}
 use Rattle.slot_rings.specs.Rings.{RingValue}
-use Rattle.unit_cells.specs.Cells.{block_from, claim_from, done_from, ring_of}
+use Rattle.unit_cells.specs.Cells.{block_from, claim_from, reported_from, ring_of}
 use Rattle.unit_cells.proofs.CallLemmas.{ring_read}
 use Rattle.unit_cells.proofs.cells.UnitCells.symbol_cells.Goals as goal
 
@@ -14,5 +14,5 @@ returns c =
     record {
       claims = λ prb re. c.symbol_cells.ensures.claims c.args.ep prb re ∙ sym (ap (λ (o : Option RingValue). claim_from o (cell prb) re) there);
       blocks = λ prb. c.symbol_cells.ensures.blocks c.args.ep prb ∙ sym (ap (λ (o : Option RingValue). block_from o (cell prb)) there);
-      done = λ prb. c.symbol_cells.ensures.done c.args.ep prb ∙ sym (ap (λ (o : Option RingValue). done_from o (cell prb)) there);
+      reported = λ prb. c.symbol_cells.ensures.reported c.args.ep prb ∙ sym (ap (λ (o : Option RingValue). reported_from o (cell prb)) there);
     }

@@ -4,8 +4,8 @@ use Rattle.unit_cells.specs.unit_model.specs.Lists.{onto}
 use Rattle.unit_cells.specs.unit_model.specs.Meetings.{met_in}
 use Rattle.unit_cells.specs.unit_model.specs.Reports.{met}
 use Rattle.unit_cells.specs.Cells.{CellsValue}
-use Rattle.unit_cells.specs.Keeping.{SameMarks}
-use Rattle.unit_memory.specs.Parts.{Stands}
+use Rattle.unit_cells.specs.Keeping.{SameReported}
+use Rattle.unit_memory.specs.Parts.{MemoryStands}
 use Rattle.unit_memory.proofs.HoldLemmas.{arrived, to_parts}
 use Rattle.unit_memory.proofs.memory.UnitMemory.arrive.Goals as goal
 
@@ -28,12 +28,12 @@ returns-clause-holds c side conf arrivals beside h =
     let t = c.take_messages-messages in
     let r = c.refusal-refusal in
     let same = r.ensures ∙ ap (λ xs. (pdu xs).refusal) (t.ensures.frame ∙ c.messages-left.ensures.frame) in
-    let Treated : List Message → Type 0 = λ (ms : List Message). Stands side conf at t.new.self arrivals (onto (met side conf arrivals) (met_in side conf.endpoints at ms)) beside in
+    let Treated : List Message → Type 0 = λ (ms : List Message). MemoryStands side conf at t.new.self arrivals (onto (met side conf arrivals) (met_in side conf.endpoints at ms)) beside in
     arrived side conf at first t.new.self c.count_frame.new.self arrivals beside c.args.frame.now r.result same (c.count_frame.ensures.holds side conf at _ _ _ _) h
     (subst Treated c.messages-left.ensures.messages (t.ensures.holds side conf arrivals (met side conf arrivals) beside (to_parts side conf at first arrivals beside h)))
     c.requires.time
 
-pub returns-clause-marks : goal.returns-clause-marks
-returns-clause-marks c side conf of =
+pub returns-clause-reports : goal.returns-clause-reports
+returns-clause-reports c side conf of =
     let t = c.take_messages-messages in
-    subst (λ (v : CellsValue). SameMarks side conf c.args.at.0 c.args.self.now.cells v) (sym c.count_frame.ensures.cells) (t.ensures.marks.marks side conf of)
+    subst (λ (v : CellsValue). SameReported side conf c.args.at.0 c.args.self.now.cells v) (sym c.count_frame.ensures.cells) (t.ensures.reports.reports side conf of)

@@ -13,7 +13,7 @@ use Rattle.unit_cells.specs.unit_model.proofs.OntoLemmas.{onto_none, onto_one}
 use Rattle.unit_cells.specs.unit_model.proofs.Read.{commands_proper}
 use Rattle.unit_cells.specs.Cells.{endpoints_of}
 use Rattle.unit_memory.specs.Parts.{HoldsParts}
-use Rattle.unit_memory.proofs.StepLemmas.{marks_more, marks_none}
+use Rattle.unit_memory.proofs.StepLemmas.{reports_more, reports_none}
 use Rattle.unit_memory.proofs.memory.UnitMemory.command.Goals as goal
 
 pub loop-section-init : goal.loop-section-init
@@ -24,13 +24,13 @@ loop-section-init c =
     let left : left_of c.into_iter-section-iterator.result ≡ sections_in a.head.now a.bytes.now = ap left_of c.into_iter-section-iterator.ensures.into_iter_gives ∙ c.sections-section-items.ensures in
     let P : List CSection → Type 0 = λ (ss : List CSection). All (IsProperCommand es) (of ss) in
     record {
-      marks = marks_none a.at.0 a.self.now.cells;
+      reports = reports_none a.at.0 a.self.now.cells;
       proper = subst P (sym left) (commands_proper es a.ep a.endpoint.now a.at.0 a.head.now a.bytes.now c.requires.read c.requires.endpoint c.requires.time);
       holds = λ conf n fs cs ds h. record { so_far = cs; holds = h; are = ap (λ ss. onto cs (of ss)) left };
     }
 
 pub section-requires-clause-side : goal.section-requires-clause-side
-section-requires-clause-side c = c.loop-section.invariant.marks.side ∙ c.requires.side
+section-requires-clause-side c = c.loop-section.invariant.reports.side ∙ c.requires.side
 
 pub section-requires-clause-proper : goal.section-requires-clause-proper
 section-requires-clause-proper c =
@@ -42,7 +42,7 @@ section-requires-clause-proper c =
     let left : left_of c.loop-section.section-iterator ≡ s ∷ rest = c.in-Some.ensures.steps in
     let all = subst (λ (ss : List CSection). All P (commands_with a.ep a.endpoint.now a.at.0 a.head.now ss)) left i.proper in
     let one = All-head P (command a.ep a.endpoint.now a.at.0 a.head.now s) (commands_with a.ep a.endpoint.now a.at.0 a.head.now rest) all in
-    subst (λ (es : List EndpointConfig). IsProperCommand es (command a.ep a.endpoint.now a.at.0 a.head.now s)) (sym i.marks.endpoints) one
+    subst (λ (es : List EndpointConfig). IsProperCommand es (command a.ep a.endpoint.now a.at.0 a.head.now s)) (sym i.reports.endpoints) one
 
 pub loop-section-preserved : goal.loop-section-preserved
 loop-section-preserved c =
@@ -56,7 +56,7 @@ loop-section-preserved c =
     let left : left_of c.loop-section.section-iterator ≡ s ∷ rest = c.in-Some.ensures.steps in
     let all = subst (λ (ss : List CSection). All P (of ss)) left i.proper in
     record {
-      marks = marks_more a.at.0 a.self.now.cells c.loop-section.self.cells c.section.new.self.cells i.marks c.section.ensures.marks;
+      reports = reports_more a.at.0 a.self.now.cells c.loop-section.self.cells c.section.new.self.cells i.reports c.section.ensures.reports;
       proper = All-tail P x (of rest) all;
       holds = λ conf n fs cs ds h.
           let y = i.holds conf n fs cs ds h in

@@ -11,13 +11,13 @@ use Rattle.unit_cells.specs.unit_model.specs.Proper.{IsProperCommand}
 use Rattle.unit_cells.specs.unit_model.specs.declared.decoded.ControlSection.{ControlSection}
 use Rattle.unit_cells.specs.unit_model.specs.declared.decoded.UserSection.{UserSection}
 use Rattle.unit_cells.specs.Cells.{endpoints_of}
-use Rattle.unit_memory.specs.Parts.{HoldsParts, LeavesMarks}
+use Rattle.unit_memory.specs.Parts.{HoldsParts, LeavesReported}
 use Rattle.unit_memory.proofs.StepLemmas.{CommandsSoFar}
 use Rattle.unit_memory.proofs.memory.UnitMemory.command.Given as goal
 
 abbrev pub invariant-loop-section : goal.invariant-loop-section
 invariant-loop-section l = record {
-  marks : LeavesMarks l.at.0 l.fn.self.cells l.self.cells;
+  reports : LeavesReported l.at.0 l.fn.self.cells l.self.cells;
   proper : All (IsProperCommand (endpoints_of l.fn.self.cells)) (commands_with l.ep l.endpoint l.at.0 l.head (left_of l.section-iterator));
   holds : (c : Config) (n : Counter → ℕ) (fs : List Fragment) (cs : List ControlSection) (ds : List UserSection) → HoldsParts Ru c l.at.0 l.fn.self n fs cs ds
       → CommandsSoFar c l.at.0 l.self n fs (onto cs (commands_with l.ep l.endpoint l.at.0 l.head (sections_in l.head l.fn.bytes)))

@@ -8,7 +8,7 @@ use Rattle.unit_cells.specs.unit_model.specs.Decoding.{data_sections}
 use Rattle.unit_cells.specs.unit_model.specs.Meetings.{Meeting, Ignored, Commands, Piece, meet, commands_with, fragment_with, commands, fragments}
 use Rattle.unit_cells.specs.unit_model.specs.Proper.{IsAt}
 use Rattle.unit_cells.specs.unit_model.specs.Reports.{hold_of}
-use Rattle.unit_memory.specs.Parts.{Stands}
+use Rattle.unit_memory.specs.Parts.{MemoryStands}
 use Rattle.unit_cells.specs.unit_model.proofs.CommandLaws.{for_ru, told_at_ru}
 use Rattle.unit_memory.proofs.HoldLemmas.{before_message, met_so_far, stands_ignored, stands_commands, stands_piece}
 use Rattle.unit_memory.proofs.memory.UnitMemory.message.Goals as goal
@@ -56,7 +56,7 @@ returns-in-Ignored-clause-holds c side conf arrivals ms beside h =
     let second = c.count-in-Ignored.ensures.holds side conf at (met_so_far side conf at c.count.new.self arrivals ms beside) (fragments ms) (commands ms) (data_sections side hold ms) first in
     let is : Ignored x ≡ meet side conf.endpoints at m = c.in-Ignored.ensures.value at ∙ ap (λ es. meet c.side.result es at m) (c.as_slice.ensures.value ∙ first.endpoints)
     ∙ ap (λ (s : Side). meet s conf.endpoints at m) (c.side.ensures ∙ first.of.side_is) in
-    let P : Meeting → Type 0 = λ (y : Meeting). Stands side conf at c.count-in-Ignored.new.self arrivals (y ∷ ms) beside in
+    let P : Meeting → Type 0 = λ (y : Meeting). MemoryStands side conf at c.count-in-Ignored.new.self arrivals (y ∷ ms) beside in
     subst P is (stands_ignored side conf at c.count-in-Ignored.new.self arrivals ms beside x second)
 
 pub command-requires-clause-side : goal.command-requires-clause-side
@@ -77,12 +77,12 @@ returns-in-Command-clause-holds c side conf arrivals ms beside h =
     let is : Commands cs ≡ meet side conf.endpoints at m = w.ensures.value at ∙ ap (λ es. meet c.side.result es at m) (c.as_slice.ensures.value ∙ first.endpoints)
     ∙ ap (λ (s : Side). meet s conf.endpoints at m) (c.side.ensures ∙ first.of.side_is) in
     let all =
-    for_ru side conf.endpoints at m cs (λ (s : Side). Stands s conf at c.args.self.now arrivals ms beside → Stands s conf at u arrivals (Commands cs ∷ ms) beside) is
+    for_ru side conf.endpoints at m cs (λ (s : Side). MemoryStands s conf at c.args.self.now arrivals ms beside → MemoryStands s conf at u arrivals (Commands cs ∷ ms) beside) is
     (λ before.
     let hold = hold_of Ru conf.delays in
     let first = c.count.ensures.holds Ru conf at (before_message Ru conf arrivals ms beside) (fragments ms) (commands ms) (data_sections Ru hold ms) before in
     stands_commands Ru conf at u arrivals ms beside cs (c.command.ensures.holds conf (met_so_far Ru conf at u arrivals ms beside) (fragments ms) (commands ms) (data_sections Ru hold ms) first)) h in
-    subst (λ (y : Meeting). Stands side conf at u arrivals (y ∷ ms) beside) is all
+    subst (λ (y : Meeting). MemoryStands side conf at u arrivals (y ∷ ms) beside) is all
 
 pub returns-in-Piece-clause-holds : goal.returns-in-Piece-clause-holds
 returns-in-Piece-clause-holds c side conf arrivals ms beside h =
@@ -96,5 +96,5 @@ returns-in-Piece-clause-holds c side conf arrivals ms beside h =
     let second = c.piece.ensures.holds side conf (met_so_far side conf at u arrivals ms beside) (fragments ms) (commands ms) (data_sections side hold ms) first in
     let is : Piece w.endpoint f ≡ meet side conf.endpoints at m = w.ensures.value at ∙ ap (λ es. meet c.side.result es at m) (c.as_slice.ensures.value ∙ first.endpoints)
     ∙ ap (λ (s : Side). meet s conf.endpoints at m) (c.side.ensures ∙ first.of.side_is) in
-    let P : Meeting → Type 0 = λ (y : Meeting). Stands side conf at u arrivals (y ∷ ms) beside in
+    let P : Meeting → Type 0 = λ (y : Meeting). MemoryStands side conf at u arrivals (y ∷ ms) beside in
     subst P is (stands_piece side conf at u arrivals ms beside w.endpoint f second)

@@ -1,13 +1,14 @@
 use Rattle.unit_cells.specs.air_source.specs.declared.events.Side.{Side}
 use Rattle.unit_cells.specs.air_source.specs.declared.events.Side.TheVariants.{Ru}
 use Rattle.unit_cells.specs.Cells.{IsOf}
-use Rattle.unit_cells.specs.Keeping.{SameMarks}
+use Rattle.unit_cells.specs.Keeping.{SameReported}
 use Rattle.std.proofs.Common.{◌≡◌, refl, sym, subst, ◌∙◌}
 use Rattle.unit_cells.specs.unit_model.specs.Commands.{accepted, command_verdict}
 use Rattle.unit_cells.specs.unit_model.proofs.CountLemmas.{added_as}
 use Rattle.unit_cells.specs.unit_model.proofs.SectionLemmas.{command_count}
-use Rattle.unit_memory.proofs.StepLemmas.{of_later, keeps_command}
+use Rattle.unit_memory.proofs.StepLemmas.{keeps_command}
 use Rattle.unit_memory.proofs.memory.UnitMemory.section.Goals as goal
+use Rattle.unit_cells.proofs.KeepLemmas.{of_still as of_later}
 
 pub returns-clause-holds : goal.returns-clause-holds
 returns-clause-holds c conf n fs cs ds h =
@@ -29,10 +30,10 @@ returns-clause-holds c conf n fs cs ds h =
       counts = λ k. command_count d s cs (accepted d cs) v _ _ _ _ k refl verdict (h.counts k) (added_as _ _ _ _ k c.command_counter.ensures (c.add.ensures.each k));
     }
 
-pub returns-clause-marks : goal.returns-clause-marks
-returns-clause-marks c = record {
-  marks = λ side conf of. subst (λ (s : Side). SameMarks s conf c.args.command.now.at.0 c.args.self.now.cells c.command-verdict.new.self) (sym c.requires.side ∙ of.side_is)
-      (c.command-verdict.ensures.marks conf (subst (λ (s : Side). IsOf s conf c.args.self.now.cells) (sym of.side_is ∙ c.requires.side) of));
+pub returns-clause-reports : goal.returns-clause-reports
+returns-clause-reports c = record {
+  reports = λ side conf of. subst (λ (s : Side). SameReported s conf c.args.command.now.at.0 c.args.self.now.cells c.command-verdict.new.self) (sym c.requires.side ∙ of.side_is)
+      (c.command-verdict.ensures.reports conf (subst (λ (s : Side). IsOf s conf c.args.self.now.cells) (sym of.side_is ∙ c.requires.side) of));
   side = c.command-verdict.ensures.side;
   delays = c.command-verdict.ensures.delays;
   endpoints = c.command-verdict.ensures.endpoints;

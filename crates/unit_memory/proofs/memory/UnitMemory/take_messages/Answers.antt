@@ -4,15 +4,15 @@ use Rattle.ecpri_frames.specs.Messages.{Message}
 use Rattle.unit_cells.specs.unit_model.specs.Lists.{onto}
 use Rattle.unit_cells.specs.unit_model.specs.Meetings.{Meeting, meet, met_in}
 use Rattle.unit_cells.specs.unit_model.proofs.OntoLemmas.{onto_none, onto_one}
-use Rattle.unit_memory.specs.Parts.{Stands}
+use Rattle.unit_memory.specs.Parts.{MemoryStands}
 use Rattle.unit_memory.proofs.HoldLemmas.{CountSoFar, any_one, count_none, count_one}
-use Rattle.unit_memory.proofs.StepLemmas.{marks_more, marks_none}
+use Rattle.unit_memory.proofs.StepLemmas.{reports_more, reports_none}
 use Rattle.unit_memory.proofs.memory.UnitMemory.take_messages.Goals as goal
 
 pub loop-message-init : goal.loop-message-init
 loop-message-init c = record {
   frame = refl;
-  marks = marks_none c.args.at.0 c.args.self.now.cells;
+  reports = reports_none c.args.at.0 c.args.self.now.cells;
   counted = count_none _;
   control = refl;
   holds = λ side conf arrivals ms beside h. record { so_far = ms; stands = h; are = refl };
@@ -36,7 +36,7 @@ loop-message-preserved c =
     let C : List Message → Type 0 = λ (xs : List Message). CountSoFar c.loop-message.count (length xs) all in
     record {
       frame = c.in-Some.ensures.steps.1 ∙ i.frame;
-      marks = marks_more at a.self.now.cells c.loop-message.self.cells c.message.new.self.cells i.marks c.message.ensures.marks;
+      reports = reports_more at a.self.now.cells c.loop-message.self.cells c.message.new.self.cells i.reports c.message.ensures.reports;
       counted = count_one c.loop-message.count _ (length rest) all (subst C left i.counted) c.saturating_add-count.ensures;
       control = sym (any_one c.loop-message.control m rest (left_of c.loop-message.left) left) ∙ i.control;
       holds = λ side conf arrivals ms beside h.
@@ -57,5 +57,5 @@ returns-clause-holds c side conf arrivals ms beside h =
     let y = c.loop-message.invariant.holds side conf arrivals ms beside h in
     let none : left_of c.loop-message.left ≡ [] = c.in_default.ensures.steps.0.0 in
     let all : y.so_far ≡ onto ms (met_in side es at (left_of a.left.now)) = sym (onto_none y.so_far) ∙ ap (λ xs. onto y.so_far (met_in side es at xs)) (sym none) ∙ y.are in
-    let P : List Meeting → Type 0 = λ (xs : List Meeting). Stands side conf at c.loop-message.self arrivals xs beside in
+    let P : List Meeting → Type 0 = λ (xs : List Meeting). MemoryStands side conf at c.loop-message.self arrivals xs beside in
     subst P all y.stands

@@ -7,17 +7,17 @@ use Rattle.unit_cells.specs.window_config.specs.declared.config.Config.{Config}
 use Rattle.unit_cells.specs.unit_model.specs.Lists.{onto}
 use Rattle.unit_cells.specs.unit_model.specs.Meetings.{Arrival, Meeting, met_in}
 use Rattle.unit_memory.specs.Control.{is_control}
-use Rattle.unit_memory.specs.Parts.{LeavesMarks, Stands}
+use Rattle.unit_memory.specs.Parts.{LeavesReported, MemoryStands}
 use Rattle.unit_memory.proofs.HoldLemmas.{CountSoFar, MetSoFar}
 use Rattle.unit_memory.proofs.memory.UnitMemory.take_messages.Given as goal
 
 abbrev pub invariant-loop-message : goal.invariant-loop-message
 invariant-loop-message l = record {
   frame : frame_of l.left ≡ frame_of l.fn.left;
-  marks : LeavesMarks l.at.0 l.fn.self.cells l.self.cells;
+  reports : LeavesReported l.at.0 l.fn.self.cells l.self.cells;
   counted : CountSoFar l.count (length (left_of l.left)) (length (left_of l.fn.left));
   control : (l.control || list_any is_control (left_of l.left)) ≡ list_any is_control (left_of l.fn.left);
-  holds : (side : Side) (c : Config) (arrivals : List Arrival) (ms : List Meeting) (beside : List Counter) → Stands side c l.at.0 l.fn.self arrivals ms beside
+  holds : (side : Side) (c : Config) (arrivals : List Arrival) (ms : List Meeting) (beside : List Counter) → MemoryStands side c l.at.0 l.fn.self arrivals ms beside
       → MetSoFar side c l.at.0 l.self arrivals (onto ms (met_in side c.endpoints l.at.0 (left_of l.fn.left))) (left_of l.left) beside;
 }
 

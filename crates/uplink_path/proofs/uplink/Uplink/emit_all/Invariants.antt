@@ -2,10 +2,10 @@ use Rattle.std.proofs.Common.{◌≡◌, List, length}
 use Rattle.uplink_model.specs.air_source.specs.Kept.{closure_of}
 use Rattle.uplink_model.specs.plan_model.specs.Packs.{Message}
 use Rattle.ru_buffers.specs.Calls.{StandsFor}
-use Rattle.ru_buffers.specs.Units.{left_up_to}
+use Rattle.ru_buffers.specs.radio_laws.specs.Units.{left_up_to}
 use Rattle.uplink_model.specs.unit_model.specs.Standing.{History}
 use Rattle.uplink_model.specs.unit_model.specs.declared.jobs.UplinkJob.{UplinkJob}
-use Rattle.uplink_path.specs.Emitting.{Numbered}
+use Rattle.uplink_path.specs.Emitting.{AreNumbered}
 use Rattle.uplink_path.proofs.EmitLemmas.{Taken}
 use Rattle.window_config.specs.declared.config.Config.{Config}
 use Rattle.uplink_path.proofs.uplink.Uplink.emit_all.Given as goal
@@ -13,7 +13,7 @@ use Rattle.uplink_path.proofs.uplink.Uplink.emit_all.Given as goal
 abbrev pub invariant-loop-job : goal.invariant-loop-job
 invariant-loop-job g l = record {
   antenna : l.self.antenna ≡ l.initial.self.antenna;
-  taken : (c : Config) (h : History) (ms : List (Message UplinkJob)) → Numbered c l.initial.self ms → StandsFor c l.initial.ru h
+  taken : (c : Config) (h : History) (ms : List (Message UplinkJob)) → AreNumbered c l.initial.self ms → StandsFor c l.initial.ru h
       → Taken (λ p w. goal.F-post g (closure_of l.initial.self.antenna) p w) c h ms l.self l.ru l.opened (g.L.Link.sent l.initial.link) (g.L.Link.sent l.link);
 }
 

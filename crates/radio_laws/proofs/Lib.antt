@@ -1,0 +1,15 @@
+pub mod SlotLemmas
+pub mod QuietLemmas
+pub mod LookupLemmas
+pub mod HistoryLemmas
+pub mod ArrivalLemmas
+pub mod MadeLemmas
+pub mod SweptLemmas
+pub mod PlaceLemmas
+pub mod LeftLemmas
+pub mod JobLemmas
+pub mod SymbolLemmas
+pub mod ReportLemmas
+pub mod ReportedLemmas
+pub mod OrderLemmas
+pub mod AdvanceLemmas

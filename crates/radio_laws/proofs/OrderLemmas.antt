@@ -1,0 +1,179 @@
+-- The order in which symbols are told, and what is left once the first of them was reported.
+use Rattle.std.proofs.Common.{◌≡◌, ℕ, zero, suc, ℤ, ◌+◌, ◌<◌, ◌≤◌, Bool, true, false, not, ◌&&◌, ◌||◌, ◌==◌, List, [], ◌∷◌, refl, sym, ap, ◌∙◌, subst, arith, inl, inr}
+use Rattle.std.specs.Prelude.{int_lt, nat_lt, if◌then◌else◌}
+use Rattle.std.specs.List.{list_any}
+use Rattle.std.specs.Ordering.{int_eq}
+use Rattle.std.proofs.lemmas.Bool.{cases_Bool, eq-eqb, both_ways}
+use Rattle.std.proofs.lemmas.Bool.Decides.{nat_tests}
+use Rattle.std.proofs.lemmas.Int.{ints}
+use Rattle.history_laws.specs.unit_model.specs.Claims.{cell_at}
+use Rattle.history_laws.specs.unit_model.specs.Proper.{IsAt}
+use Rattle.fh_time.specs.declared.values.Slot.{Slot}
+use Rattle.history_laws.specs.air_source.specs.declared.events.AirCell.{AirCell}
+use Rattle.history_laws.specs.air_source.specs.declared.events.Side.TheVariants.{Ru}
+use Rattle.history_laws.specs.window_config.specs.declared.endpoints.EndpointConfig.{EndpointConfig}
+use Rattle.history_laws.specs.unit_model.specs.Claims.{same_slot}
+use Rattle.history_laws.specs.unit_model.specs.Lists.{some}
+use Rattle.history_laws.specs.unit_model.specs.Order.{comes_before, slot_before, symbol_before}
+use Rattle.history_laws.specs.unit_model.specs.Radiated.{air_cell, used_mask}
+use Rattle.history_laws.specs.unit_model.specs.declared.cells.Cell.{Cell}
+use Rattle.history_laws.specs.unit_model.specs.declared.symbol_start.SymbolStart.{SymbolStart}
+use Rattle.history_laws.specs.unit_laws.proofs.FarLemmas.{endpoints_equal}
+use Rattle.history_laws.proofs.UnitLemmas.{small_is}
+use Rattle.history_laws.proofs.BeforeLemmas.{slot_cases}
+use Rattle.ru_reports.specs.slot_rings.specs.Places.{is_due}
+use Rattle.ru_reports.specs.unit_cells.specs.Cells.{CellsValue, cells_block, cells_claim, cells_reported, endpoints_of}
+use Rattle.ru_reports.specs.Symbols.{ReportsTold, cell_in, is_left, is_told, left_at, left_told}
+use Rattle.ru_reports.specs.symbol_search.specs.Symbols.{IsSymbol}
+use Rattle.ru_reports.proofs.AfterLemmas.{left_after, any_each as any_in_each}
+use Rattle.ru_reports.proofs.ReportedLemmas.{symbol_cell}
+use Rattle.radio_laws.specs.Reporting.{IsFirstLeft, IsLeftAfter}
+use Rattle.history_laws.specs.unit_model.proofs.ClaimLemmas.{same_slot_is as slots_equal, slot_self as slot_own}
+use Rattle.history_laws.specs.unit_laws.proofs.ReportLemmas.{used_same}
+
+-- ---- three cases
+
+symbol_cases : (a b : Slot) (x y : ℕ) → symbol_before a x b y ≡ false → symbol_before b y a x ≡ false → (same_slot a b ≡ true) × (x ≡ y)
+symbol_cases a b x y h k =
+    let same = slot_cases a b (first_of_two (slot_before a b) _ h) (first_of_two (slot_before b a) _ k) in
+    let back = slot_cases b a (first_of_two (slot_before b a) _ k) (first_of_two (slot_before a b) _ h) in
+    (same, no_other x y (second_of_two (slot_before a b) (same_slot a b) (nat_lt x y) h same) (second_of_two (slot_before b a) (same_slot b a) (nat_lt y x) k back))
+  where
+    first_of_two : (p q : Bool) → (p || q) ≡ false → p ≡ false
+    first_of_two false q e = refl
+    first_of_two true q e = e
+
+    second_of_two : (p q r : Bool) → (p || (q && r)) ≡ false → q ≡ true → r ≡ false
+    second_of_two false true r e f = e
+    second_of_two false false r e f = cc
+    second_of_two true q r e f = cc
+
+    no_other : (m n : ℕ) → nat_lt m n ≡ false → nat_lt n m ≡ false → m ≡ n
+    no_other m n e f = grind (arith, nat_tests)
+
+-- two symbols of which neither comes before the other
+pub record IsSamePlace (a b : SymbolStart) : Type 0 where
+  pub ep : a.ep ≡ b.ep
+  pub slot_is : a.slot ≡ b.slot
+  pub symbol : a.symbol ≡ b.symbol
+
+start_cases : (s t : ℤ) (p q : Bool) → (int_lt s t || (int_eq s t && p)) ≡ false → (int_lt t s || (int_eq t s && q)) ≡ false → (p ≡ false) × (q ≡ false)
+start_cases s t true q h k = grind (arith, ints)
+start_cases s t false true h k = grind (arith, ints)
+start_cases s t false false h k = (refl, refl)
+
+ep_cases : (i j : ℕ) (p q : Bool) → (nat_lt i j || ((i == j) && p)) ≡ false → (nat_lt j i || ((j == i) && q)) ≡ false → (i ≡ j) × ((p ≡ false) × (q ≡ false))
+ep_cases i j true q h k = grind (arith, nat_tests)
+ep_cases i j false true h k = grind (arith, nat_tests)
+ep_cases i j false false h k = (grind (arith, nat_tests), (refl, refl))
+
+pub same_place : (a b : SymbolStart) → comes_before a b ≡ false → comes_before b a ≡ false → IsSamePlace a b
+same_place a b h k =
+    let one = start_cases a.start.0 b.start.0 _ _ h k in
+    let two = ep_cases a.ep b.ep _ _ one.0 one.1 in
+    let three = symbol_cases a.slot b.slot a.symbol b.symbol two.1.0 two.1.1 in
+    record { ep = two.0; slot_is = slots_equal a.slot b.slot three.0; symbol = three.1 }
+
+-- ---- what is left
+
+some_weaker : (from n : ℕ) (p q : ℕ → Bool) → ((k : ℕ) → from ≤ k → k < from + n → p k ≡ true → q k ≡ true) → some from n p ≡ true → some from n q ≡ true
+unfolding some
+some_weaker from zero p q f h = h
+some_weaker from (suc n) p q f h =
+    either (p from) (some (from + 1) n p) (q from) (some (from + 1) n q) (f from (omega arith) (omega arith))
+    (some_weaker (from + 1) n p q (λ k above below. f k (omega arith) (omega arith))) h
+  where
+    either : (a b x y : Bool) → (a ≡ true → x ≡ true) → (b ≡ true → y ≡ true) → (a || b) ≡ true → (x || y) ≡ true
+    either true b true y f g h = refl
+    either true b false y f g h = absurd (no (f refl))
+      where
+        no : false ≡ true → ⊥
+        no e = cc
+    either false true true y f g h = refl
+    either false true false y f g h = g refl
+    either false false x y f g h = cc
+
+due_mono : (used old told new : Bool) → new ≡ (old || told) → (not used && not new) ≡ true → (not used && not old) ≡ true
+due_mono true old told new e h = h
+due_mono false true told new e h = absurd (no new told e h)
+  where
+    no : (n t : Bool) → n ≡ (true || t) → (not false && not n) ≡ true → ⊥
+    no true t e h = cc
+    no false t e h = cc
+due_mono false false told new e h = refl
+
+due_over : (none old told new : Bool) → new ≡ (old || told) → (none ≡ false → old ≡ false → told ≡ true) → (not none && not new) ≡ false
+due_over true old told new e h = refl
+due_over false true told new e h = rw e refl
+due_over false false told new e h = rw e (rw (h refl refl) refl)
+
+used_is : (old new : CellsValue) (cell : Cell) → ((re : ℕ) → cells_claim new cell re ≡ cells_claim old cell re) → used_mask (cells_claim new cell) ≡ used_mask (cells_claim old cell)
+used_is old new cell same = used_same (cells_claim new cell) (cells_claim old cell) 12 (λ re below. same re)
+
+module _ (m : SymbolStart) (told : List AirCell) (old new : CellsValue) (reports : ReportsTold m told old new) where
+  -- a symbol of which something is left now had something left before
+  pub left_before : (x : SymbolStart) → IsSymbol new x → is_left new x ≡ true → (IsSymbol old x) × (is_left old x ≡ true)
+  left_before x is h =
+      let was : IsSymbol old x = record {
+        at = subst (λ (es : List EndpointConfig). IsAt es x.ep x.endpoint) reports.endpoints is.at;
+        slot_is = is.slot_is;
+        symbol_is = is.symbol_is;
+        starts = is.starts;
+        has = sym (reports.known.places x.ep x.slot) ∙ is.has;
+      } in (
+        was,
+        some_weaker 0 x.endpoint.prbs (λ prb. is_due (cells_claim new (cell_in x prb)) (cells_reported new (cell_in x prb)))
+            (λ prb. is_due (cells_claim old (cell_in x prb)) (cells_reported old (cell_in x prb)))
+            (λ prb above below due.
+            due_mono (used_mask (cells_claim old (cell_in x prb)) == 0) (cells_reported old (cell_in x prb)) (is_told m told (cell_in x prb)) (cells_reported new (cell_in x prb))
+            (reports.reports (cell_in x prb) (symbol_cell old x prb was (small_is prb x.endpoint.prbs below)) refl)
+            (ap (λ (u : ℕ). not (u == 0) && not (cells_reported new (cell_in x prb))) (sym (used_is old new (cell_in x prb) (reports.known.claims (cell_in x prb)))) ∙ due)) h,
+      )
+
+-- nothing is left of a symbol that was reported
+own_told : (m : SymbolStart) (told : List AirCell) (prb : ℕ) → list_any (λ a. a.prb == prb) told ≡ true → is_told m told (cell_in m prb) ≡ true
+own_told m told prb h = rw (eq-eqb m.ep m.ep refl) (rw (slot_own m.slot) (rw (eq-eqb m.symbol m.symbol refl) h))
+
+one_told : (none reported_so : Bool) (a : AirCell) (prb : ℕ) → none ≡ false → reported_so ≡ false → a.prb ≡ prb
+    → list_any (λ x. x.prb == prb) (if reported_so then [] else (if none then [] else a ∷ [])) ≡ true
+one_told true reported_so a prb h k e = absurd cc
+one_told false true a prb h k e = absurd cc
+one_told false false a prb h k e = rw (eq-eqb a.prb prb e) refl
+
+told_at : (v : CellsValue) (m : SymbolStart) (prb : ℕ) → prb < m.endpoint.prbs → (used_mask (cells_claim v (cell_in m prb)) == 0) ≡ false
+    → cells_reported v (cell_in m prb) ≡ false → list_any (λ a. a.prb == prb) (left_at v m) ≡ true
+unfolding left_at
+told_at v m prb below used unreported_so =
+    any_in_each (λ a. a.prb == prb) 0 m.endpoint.prbs (left_told v m) prb (omega arith) (omega arith)
+    (one_told (used_mask (cells_claim v (cell_in m prb)) == 0) (cells_reported v (cell_in m prb))
+    (air_cell Ru m.endpoint (cell_in m prb) m.start.0 (cells_claim v (cell_in m prb)) (cells_block v (cell_in m prb))) prb used unreported_so refl)
+
+-- the same symbol, by its place
+abbrev due_at : CellsValue → SymbolStart → ℕ → Slot → ℕ → Bool
+due_at v m ep slot symbol = some 0 m.endpoint.prbs (λ prb. is_due (cells_claim v (cell_at ep true slot symbol prb)) (cells_reported v (cell_at ep true slot symbol prb)))
+
+as_same : (v : CellsValue) (m x : SymbolStart) → IsSymbol v m → IsSymbol v x → IsSamePlace x m → is_left v x ≡ is_left v m
+as_same v m x is_m is_x same =
+    let endpoint : x.endpoint ≡ m.endpoint = endpoints_equal (endpoints_of v) x.ep m.ep x.endpoint m.endpoint is_x.at is_m.at same.ep in
+    ap (λ (e : EndpointConfig). some 0 e.prbs (λ prb. is_due (cells_claim v (cell_in x prb)) (cells_reported v (cell_in x prb)))) endpoint
+    ∙ ap (λ (i : ℕ). due_at v m i x.slot x.symbol) same.ep ∙ ap (λ (s : Slot). due_at v m m.ep s x.symbol) same.slot_is
+    ∙ ap (λ (y : ℕ). due_at v m m.ep m.slot y) same.symbol
+
+-- what is left after the first symbol was reported is of symbols that come after it
+pub rest_after : (clock : ℤ) (m : SymbolStart) (old new : CellsValue) → IsFirstLeft old clock m → ReportsTold m (left_at old m) old new
+    → (x : SymbolStart) → IsLeftAfter new clock x → comes_before m x ≡ true
+rest_after clock m old new first reports x left =
+    let was = left_before m (left_at old m) old new reports x left.symbol left.left in
+    elim (cases_Bool (comes_before m x)) [
+      | inl after ↦ after
+      | inr not_after ↦
+          let now : IsSymbol new m = record {
+            at = subst (λ (es : List EndpointConfig). IsAt es m.ep m.endpoint) (sym reports.endpoints) first.symbol.at;
+            slot_is = first.symbol.slot_is;
+            symbol_is = first.symbol.symbol_is;
+            starts = first.symbol.starts;
+            has = reports.known.places m.ep m.slot ∙ first.symbol.has;
+          } in
+          let same = same_place x m (first.first x (record { symbol = was.0; after = left.after; left = was.1 })) not_after in
+          absurd (both_ways (is_left new x) (as_same new m x now left.symbol same ∙ left_after m old new first.symbol reports) left.left)
+    ]

@@ -1,0 +1,36 @@
+-- Slots that are live, at times that a unit may be given.
+use Rattle.std.proofs.Common.{ℕ, ℤ, pos, ◌+◌, ◌*◌, ◌≤ℤ◌, ◌+ℤ◌, ◌-ℤ◌, ◌*ℤ◌, ◌^◌, ◌<ℤ◌, neg_ℤ, List, arith}
+use Rattle.std.proofs.lemmas.Int.{ints}
+use Rattle.fh_time.specs.Kinds.{kind_start}
+use Rattle.fh_time.specs.declared.values.Slot.{Slot}
+use Rattle.history_laws.specs.window_config.specs.Limits.{IsWithinLimits}
+use Rattle.history_laws.specs.window_config.specs.Rings.{ru_reach_of}
+use Rattle.history_laws.specs.window_config.specs.declared.delays.Delays.{Delays}
+use Rattle.history_laws.specs.window_config.specs.declared.endpoints.EndpointConfig.{EndpointConfig}
+use Rattle.history_laws.specs.unit_model.specs.Proper.{IsSlot}
+use Rattle.history_laws.specs.unit_model.specs.Radiated.{first_clock}
+use Rattle.history_laws.specs.unit_model.specs.Sweeps.{frame_of_tick}
+use Rattle.history_laws.specs.unit_laws.specs.Swept.{IsSwept}
+use Rattle.history_laws.specs.unit_laws.specs.Ticks.{IsLiveSlot}
+use Rattle.fh_time.proofs.Euclid.{frame_floor}
+use Rattle.fh_time.specs.declared.frames.TheConstants.{FRAME}
+use Rattle.history_laws.specs.unit_laws.proofs.EndLemmas.{reach_small}
+
+pub frame_most : (frame clock before : ℤ) (offset : ℕ) → (frame *ℤ FRAME +ℤ pos offset -ℤ (before *ℤ pos 1536)) ≤ℤ clock → before ≤ℤ pos 4000000
+    → clock ≤ℤ pos (2 ^ 53) → frame ≤ℤ pos 1000000
+frame_most frame clock before offset a b c = omega (arith, ints)
+
+pub frame_least : (frame q tick : ℤ) → (neg_ℤ FRAME) ≤ℤ tick → tick <ℤ (q *ℤ FRAME +ℤ FRAME) → (q -ℤ pos 5) ≤ℤ frame
+    → neg_ℤ (pos 1000000) ≤ℤ frame
+frame_least frame q tick a b c = omega (arith, ints)
+
+-- a live slot of a symbol that starts after the first clock is one whose times can be told
+pub swept_slot : (d : Delays) (es : List EndpointConfig) (ep : ℕ) (e : EndpointConfig) (slot : Slot) (symbol : ℕ) (tick clock : ℤ)
+    → IsWithinLimits d → IsSwept es ep e slot symbol tick → first_clock ≤ℤ tick → clock ≤ℤ pos (2 ^ 53) → IsLiveSlot d e clock slot
+    → IsSlot e.numerology slot
+swept_slot d es ep e slot symbol tick clock limits swept begun small live = record {
+  low = frame_least slot.frame (frame_of_tick tick) tick begun (frame_floor tick).1 swept.frame_low;
+  high = frame_most slot.frame clock (ru_reach_of d).before (slot.subframe * 1536000000 + kind_start e.numerology.kind slot.slot 0) live.begun (reach_small d limits) small;
+  subframe = swept.slot_is.subframe;
+  slot_is = swept.slot_is.slot;
+}

@@ -1,0 +1,58 @@
+-- The cells of a symbol in their place's lists, and those in use set as reported.
+use Rattle.std.proofs.Common.{◌≡◌, ◌≢◌, ℕ, ◌+◌, ◌-◌, ◌<◌, ◌≤◌, inl, inr, Bool, true, false, List, length, take, drop, min, get_or, refl, ap, sym, subst, ◌∙◌, arith}
+use Rattle.std.specs.Prelude.{◌||◌}
+use Rattle.std.proofs.lemmas.Bool.{cases_Bool, cases_eq, cases_lt}
+use Rattle.std.proofs.lemmas.Bool.Decides.{nat_tests}
+use Rattle.std.proofs.lemmas.List.{get_or-drop, get_or_past, take_rest}
+use Rattle.unit_model.specs.Claims.{is_from}
+use Rattle.slot_rings.proofs.RunLemmas.{behind_all, not_before, not_last}
+use Rattle.unit_model.proofs.ClaimLemmas.{starts_before as from_low, from_within as from_high}
+
+-- what a list has from one number on
+pub items_behind : {A : Type 0} (xs : List A) (from start k : ℕ) (blank : A) → start ≡ min from (length xs)
+    → get_or (take (length xs - start) (drop start xs)) k blank ≡ get_or xs (from + k) blank
+items_behind xs from start k blank is = ap (λ l. get_or l k blank) (take_rest xs start) ∙ get_or-drop start xs k blank ∙ elim (cases_lt (length xs) from) [
+  | inl past ↦ get_or_past xs (start + k) blank (omega (arith, is, past)) ∙ sym (get_or_past xs (from + k) blank (omega (arith, past)))
+  | inr within ↦ let at : start + k ≡ from + k = omega (arith, is, within) in ap (λ (j : ℕ). get_or xs j blank) at
+]
+
+true_or : (a b : Bool) → a ≡ true → (a || b) ≡ true
+true_or a b e = rw e refl
+
+-- ---- one cell more
+
+module _ (old mid new : List Bool) (uses : ℕ → Bool) (from k : ℕ)
+    (same : (i : ℕ) → is_from from k i ≡ false → get_or mid i false ≡ get_or old i false)
+    (others : (i : ℕ) → i ≢ from + k → get_or new i false ≡ get_or mid i false) where
+  pub reported_just : ((j : ℕ) → j < k → get_or mid (from + j) false ≡ (get_or old (from + j) false || uses (from + j)))
+      → get_or new (from + k) false ≡ (get_or mid (from + k) false || uses (from + k))
+      → (j : ℕ) → j < k + 1 → get_or new (from + j) false ≡ (get_or old (from + j) false || uses (from + j))
+  reported_just here step j below = elim (cases_eq j k) [
+    | inl e ↦
+        subst (λ (x : ℕ). get_or new (from + x) false ≡ (get_or old (from + x) false || uses (from + x))) (sym e)
+        (step ∙ ap (λ (b : Bool). b || uses (from + k)) (same (from + k) (behind_all from k)))
+    | inr ne ↦ others (from + j) (λ e. ne (omega (arith, e))) ∙ here j (omega (arith, ne))
+  ]
+
+  pub reported_others : (i : ℕ) → is_from from (k + 1) i ≡ false → get_or new i false ≡ get_or old i false
+  reported_others i h = others i (not_last from k i h) ∙ same i (not_before from k i h)
+
+-- ---- what is reported stays reported
+
+pub still_reported : (old new : List Bool) (uses : ℕ → Bool) (from count : ℕ)
+    → ((k : ℕ) → k < count → get_or new (from + k) false ≡ (get_or old (from + k) false || uses (from + k)))
+    → ((i : ℕ) → is_from from count i ≡ false → get_or new i false ≡ get_or old i false)
+    → (i : ℕ) → get_or old i false ≡ true → get_or new i false ≡ true
+still_reported old new uses from count here others i was = elim (cases_Bool (is_from from count i)) [
+  | inr outside ↦ others i outside ∙ was
+  | inl inside ↦
+      let low = from_low from count i inside in
+      let high = from_high from count i inside in
+      let at : from + (i - from) ≡ i = omega (arith, low) in
+      subst (λ (j : ℕ). get_or old j false ≡ true → get_or new j false ≡ true) at
+      (λ was. here (i - from) (omega (arith, low, high)) ∙ true_or (get_or old (from + (i - from)) false) (uses (from + (i - from))) was) was
+]
+
+-- a PRB behind the first so many is none of them
+pub prb_behind : (count n : ℕ) → count ≤ n → is_from 0 count n ≡ false
+prb_behind count n h = grind (arith, nat_tests)

@@ -1,5 +1,0 @@
-use Rattle.slot_rings.proofs.MaskLemmas.{used_is}
-use Rattle.slot_rings.proofs.marks.Marks.used.Goals as goal
-
-pub returns : goal.returns
-returns c = used_is c.args.self _ c.without.ensures.small c.without.ensures.each
