@@ -7,6 +7,7 @@ use Rattle.bfp_codec.specs.declared.samples.Wide.{Wide}
 use Rattle.fh_time.specs.declared.values.Slot.{Slot}
 use Rattle.air_source.specs.declared.places.RePlace.{RePlace}
 use Rattle.fh_time.specs.declared.symbols.TheConstants.{SLOT_SYMBOLS}
+use Rattle.fh_time.specs.declared.carrier.TheConstants.{CARRIER_PRBS}
 
 -- a resource element of a carrier: symbol 0 to 13, PRB 0 to 272, element 0 to 11, and any id and slot
 pub record InRange (p : RePlace) : Type 0 where
@@ -16,7 +17,7 @@ pub record InRange (p : RePlace) : Type 0 where
   pub subframe : p.slot.subframe < 2 ^ 8
   pub slot : p.slot.slot < 2 ^ 8
   pub symbol : p.symbol < SLOT_SYMBOLS
-  pub prb : p.prb < 273
+  pub prb : p.prb < CARRIER_PRBS
   pub re : p.re < 12
 
 -- both numbers fit 16 bits: they lie from -32,768 to 32,767

@@ -8,3 +8,4 @@ pub mod Moves
 pub mod MovesLaws
 pub mod Stops
 pub mod Tellings
+pub mod Units

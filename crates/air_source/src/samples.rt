@@ -5,6 +5,7 @@ ghost use Rattle.air_source.specs.Kept.{IsKept, closure_of};
 ghost use Rattle.air_source.specs.declared.places.RePlace.{RePlace};
 ghost use Rattle.bfp_codec.specs.declared.samples.Wide.{Wide};
 ghost use Rattle.fh_time.specs.declared.symbols.TheConstants.{SLOT_SYMBOLS};
+ghost use Rattle.fh_time.specs.declared.carrier.TheConstants.{CARRIER_PRBS};
 
 use crate::RePlace;
 use bfp_codec::{Iq, Wide};
@@ -47,7 +48,7 @@ impl<F: Fn(RePlace) -> Wide> Samples<F> {
     pub fn block(&self, id: u16, slot: Slot, symbol: u8, prb: u16) -> [Iq; 12]
         requires kept { IsKept F.pre F.post self.now }
         requires symbol { symbol < SLOT_SYMBOLS }
-        requires prb { prb < 273 }
+        requires prb { prb < CARRIER_PRBS }
         ensures answers { IsBlock (F.post (closure_of self.now)) id slot symbol prb result }
         ensures block { (answer : RePlace → Wide) → AnswersBy (F.post (closure_of self.now)) answer → result ≡ block_of answer id slot symbol prb }
     {

@@ -1,5 +1,5 @@
 // Each kind of word, and a line that is full.
-use text_lines::Line;
+use text_lines::{Line, number_in};
 
 #[test]
 fn decimal_numbers(rt: HostRuntime) {
@@ -53,4 +53,31 @@ fn a_line_of_exactly_512_bytes(rt: HostRuntime) {
     let bytes = line.as_slice();
     assert_eq!(rt; bytes.len(), 512);
     assert_eq!(rt; &bytes[506..], b"xx1234".as_slice());
+}
+
+/// Words of three digits at most, of a number from 1 to 400.
+const NUMBERS: [(&[u8], Option<u64>); 12] = [
+    (b"1", Some(1)),
+    (b"400", Some(400)),
+    (b"007", Some(7)),
+    (b"0", None),
+    (b"401", None),
+    (b"0001", None),
+    (b"", None),
+    (b"+7", None),
+    (b"7 ", None),
+    (b"2a", None),
+    (b"/", None),
+    (b":", None),
+];
+
+#[test]
+fn numbers_in_a_range(rt: HostRuntime) {
+    for (word, n) in NUMBERS {
+        assert_eq!(rt; number_in(word, 3, 1, 400), n);
+    }
+    assert_eq!(rt;
+        number_in(b"999999999999999999", 18, 0, u64::MAX),
+        Some(999_999_999_999_999_999)
+    );
 }

@@ -9,9 +9,7 @@ use Rattle.shared_cell.specs.Places.{place_of, is_same, is_at}
 use Rattle.shared_cell.specs.Combined.{Stands, AgreeIn, MayAdd, combined}
 use Rattle.shared_cell.proofs.Same.{same_is}
 use Rattle.bench_cells.specs.Cells.{cell_of, first_cells, units_of}
-
-pos_one : (a b : ℕ) → pos a ≡ pos b → a ≡ b
-pos_one a b h = cc
+use Rattle.fh_time.proofs.Orders.{pos_same}
 
 -- a place is that of one cell
 pub one_place : (i k : ℕ) → IsTrue (is_same (place_of (cell_of i)) (place_of (cell_of k))) → i ≡ k
@@ -21,7 +19,7 @@ one_place i k same =
     let symbol : i / 106 % 14 ≡ k / 106 % 14 = ap (λ (p : CellPlace). p.symbol) is in
     let slot : i / 1484 % 2 ≡ k / 1484 % 2 = ap (λ (p : CellPlace). p.slot) is in
     let subframe : i / 2968 % 10 ≡ k / 2968 % 10 = ap (λ (p : CellPlace). p.subframe) is in
-    let frame : i / 29680 ≡ k / 29680 = pos_one (i / 29680) (k / 29680) (ap (λ (p : CellPlace). p.frame) is) in
+    let frame : i / 29680 ≡ k / 29680 = pos_same (i / 29680) (k / 29680) (ap (λ (p : CellPlace). p.frame) is) in
     omega (arith, prb, symbol, slot, subframe, frame)
 
 -- how many of some cells have the place of cell k

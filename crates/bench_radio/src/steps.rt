@@ -1,9 +1,9 @@
 // The calls of a radio unit, from moment to moment.
 ghost use Rattle.std.specs.Prelude.{◌≡◌, ◌≤ℤ◌, ◌-ℤ◌, ◌^◌, pos, true, [], OnSome};
 ghost use Rattle.window_config.specs.declared.config.Config.{Config};
-ghost use Rattle.ru_buffers.specs.unit_model.specs.Standing.{History};
+ghost use Rattle.ru_buffers.specs.unit_model.specs.Standing.{History, owed_until};
 ghost use Rattle.ru_buffers.specs.unit_model.specs.Proper.{IsTime};
-ghost use Rattle.ru_buffers.specs.Calls.{HasGivenPast, StandsFor, StandsForSome, given_of};
+ghost use Rattle.ru_buffers.specs.Calls.{HasGivenPast, StandsFor, StandsForSome};
 
 use air_source::Air;
 use fh_time::Ticks;
@@ -57,7 +57,7 @@ fn earlier(a: Ticks, b: Ticks) -> Ticks
 /// The next moment of a unit, but at most a time.
 fn next_moment(ru: &Ru, to: Ticks) -> Ticks
     ensures most { result.0 ≤ℤ to.0 }
-    ensures given { (c : Config) (h : History) → StandsFor c ru.now h → given_of c h (result.0 -ℤ pos 1) ≡ [] }
+    ensures given { (c : Config) (h : History) → StandsFor c ru.now h → owed_until c h (result.0 -ℤ pos 1) ≡ [] }
 {
     match ru.due() {
         Some(due) => earlier(due, to),
@@ -78,7 +78,7 @@ fn go<A: Air>(ru: &mut Ru, next: Ticks, air: &mut A) -> bool
     requires unit { StandsForSome ru.old }
     requires given { HasGivenPast ru.old }
     requires time { IsTime next.0 }
-    requires none { (c : Config) (h : History) → StandsFor c ru.old h → given_of c h (next.0 -ℤ pos 1) ≡ [] }
+    requires none { (c : Config) (h : History) → StandsFor c ru.old h → owed_until c h (next.0 -ℤ pos 1) ≡ [] }
     ensures unit { result ≡ true → StandsForSome ru.new }
     ensures given { result ≡ true → HasGivenPast ru.new }
 {

@@ -2,8 +2,8 @@
 ghost use Rattle.std.specs.Prelude.{◌≡◌, ◌-ℤ◌, ◌≤ℤ◌, true, pos, [], OnErr, OnOk, IfSome};
 ghost use Rattle.air_source.specs.Kept.{IsKept};
 ghost use Rattle.uplink_path.specs.unit_model.specs.Proper.{IsTime};
-ghost use Rattle.uplink_path.specs.unit_model.specs.Standing.{History};
-ghost use Rattle.uplink_path.specs.ru_buffers.specs.Calls.{StandsFor, given_of};
+ghost use Rattle.uplink_path.specs.unit_model.specs.Standing.{History, owed_until};
+ghost use Rattle.uplink_path.specs.ru_buffers.specs.Calls.{StandsFor};
 ghost use Rattle.uplink_path.specs.Emitting.{HasFailed};
 ghost use Rattle.uplink_path.specs.Steps.{IsSenderOf, IsUnitOf};
 ghost use Rattle.window_config.specs.Configs.{IsConfig};
@@ -88,7 +88,7 @@ fn is_by(a: Ticks, b: Ticks) -> bool
 
 /// Whether nothing is due before a time.
 fn is_quiet_before(unit: &Ru, to: Ticks) -> bool
-    ensures { (c : SpecConfig) (h : History) → StandsFor c unit.now h → result ≡ true → given_of c h (to.0 -ℤ pos 1) ≡ [] }
+    ensures { (c : SpecConfig) (h : History) → StandsFor c unit.now h → result ≡ true → owed_until c h (to.0 -ℤ pos 1) ≡ [] }
 {
     match unit.due() {
         Some(moment) => is_by(to, moment),

@@ -2,8 +2,6 @@
 -- a number or a word.
 use Rattle.std.specs.Prelude.{ℕ, ℤ, Bool, true, false, List, codes, decimal, if◌then◌else◌}
 use Rattle.std.specs.Fmt.{signed_decimal}
-use Rattle.capture_records.specs.air_source.specs.declared.events.Side.{Side}
-use Rattle.capture_records.specs.air_source.specs.declared.events.Side.TheVariants.{Ru, Du}
 use Rattle.cplane_sections.specs.Names.{name_of as command_why}
 use Rattle.ecpri_frames.specs.Refusals.{name_of as frame_why}
 use Rattle.text_lines.specs.Words.{hex4_text, hex3_text, hex2_text}
@@ -16,6 +14,7 @@ use Rattle.capture_show.specs.declared.values.Word.TheVariants as word
 use Rattle.capture_show.specs.declared.values.Field.{Field}
 use Rattle.capture_show.specs.declared.values.Field.TheVariants as field
 use Rattle.capture_show.specs.declared.values.Member.{Member}
+use Rattle.capture_records.specs.air_source.specs.Units.{way_text}
 
 pub record ShownLine : Type 0 where
   pub kind : Kind
@@ -85,11 +84,6 @@ name_text name.Symbols = codes "symbols"
 name_text name.Ticks = codes "ticks"
 name_text name.Way = codes "way"
 name_text name.Why = codes "why"
-
--- the way of a frame, by the unit that it arrived at
-abbrev pub way_text : Side → List ℕ
-way_text Ru = codes "dl"
-way_text Du = codes "ul"
 
 abbrev pub word_text : Word → List ℕ
 word_text (word.Hex2 n) = hex2_text n

@@ -1,13 +1,12 @@
 -- What is shown of a capture (this project's profile): the messages of each frame by the layouts of eCPRI 2.0 and O-RAN.WG4.CUS.
-use Rattle.std.specs.Prelude.{ℕ, ◌+◌, ◌==◌, ◌&&◌, not, nat_lt, nat_le, if◌then◌else◌, Bool, List, [], ◌∷◌, ◌++◌, length, drop, take, map, Option, Some, None, Result, Ok, Err}
+use Rattle.std.specs.Prelude.{ℕ, ◌+◌, ◌==◌, ◌&&◌, nat_lt, nat_le, if◌then◌else◌, Bool, List, [], ◌∷◌, ◌++◌, length, take, map, Option, Some, None, Result, Ok, Err}
 use Rattle.std.specs.List.{flat_map}
-use Rattle.ecpri_frames.specs.bit_fields.specs.Field.{field}
 use Rattle.cplane_sections.specs.fh_time.specs.declared.values.Shape.{Shape}
 use Rattle.ecpri_frames.specs.declared.refusals.PduRefusal.{PduRefusal}
 use Rattle.ecpri_frames.specs.Messages.{Message, pdu}
 use Rattle.ecpri_frames.specs.Gathering.{whole_messages}
 use Rattle.ecpri_fragments.specs.declared.sequence.SeqField.{SeqField}
-use Rattle.ecpri_fragments.specs.Sequence.{seq_field_of}
+use Rattle.ecpri_fragments.specs.Sequence.{id_of, sequence_of, application, is_fragmented}
 use Rattle.cplane_sections.specs.declared.values.CBody.{CBody}
 use Rattle.cplane_sections.specs.declared.values.CBody.TheVariants.{Idle, Normal, Offset}
 use Rattle.cplane_sections.specs.declared.values.CHead.{CHead}
@@ -35,17 +34,6 @@ use Rattle.ecpri_frames.specs.declared.heads.TheConstants.{ONE_WAY_DELAY}
 
 abbrev pub line : Kind → List Member → ShownLine
 line kind members = record { kind = kind; members = members }
-
--- ---- the payload of the types 0 and 2: the eAxC id, the sequence field, and the application's bytes
-
-abbrev pub id_of : List ℕ → ℕ
-id_of payload = field payload 0 16
-
-abbrev pub sequence_of : List ℕ → SeqField
-sequence_of payload = seq_field_of (take 2 (drop 2 payload))
-
-abbrev pub application : List ℕ → List ℕ
-application payload = drop 4 payload
 
 -- place, id and sequence field
 unfoldable pub address_members : ℕ → ℕ → SeqField → List Member
@@ -89,10 +77,6 @@ section_line type s = line kind.Section
 -- a command that is refused, at a place of its application message
 unfoldable pub refused_line : ℕ → ℕ → Word → ShownLine
 refused_line place at why = line kind.Refused (count name.Place place ∷ count name.At at ∷ said name.Why why ∷ [])
-
--- it is not one whole message: E is 0, or the subsequence id is not 0
-abbrev pub is_fragmented : SeqField → Bool
-is_fragmented seq = not (seq.last && (seq.sub == 0))
 
 -- the sections of a command, in its order
 abbrev pub section_lines : CHead → List ℕ → List ShownLine

@@ -8,7 +8,8 @@ ghost use Rattle.capture_records.specs.Records.{arrived_of};
 ghost use Rattle.capture_records.specs.Reading.{checked, records_of};
 ghost use Rattle.capture_show.specs.Faults.{HasWriteCause};
 ghost use Rattle.capture_show.specs.Printing.{Told, Stopped, state_of};
-ghost use Rattle.capture_show.specs.Messages.{application, command_lines, command_read, widest, section_lines, shown_as, message_lines, messages_lines, broken_lines, record_lines, capture_lines};
+ghost use Rattle.capture_show.specs.Messages.{command_lines, command_read, widest, section_lines, shown_as, message_lines, messages_lines, broken_lines, record_lines, capture_lines};
+ghost use Rattle.ecpri_fragments.specs.Sequence.{application};
 
 use crate::command_lines::{
     application, command_line, data_line, id_at, is_fragmented, refused_line, section_line,

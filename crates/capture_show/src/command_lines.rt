@@ -2,7 +2,8 @@
 ghost use Rattle.std.specs.Prelude.{◌≡◌, ◌≤◌, ◌++◌, ◌∷◌, [], length};
 ghost use Rattle.cplane_sections.specs.Header.{kind_of};
 ghost use Rattle.capture_show.specs.Lines.{ShownLine};
-ghost use Rattle.capture_show.specs.Messages.{id_of, sequence_of, application, is_fragmented, address_members, moment_members, body_members, command_line, freq_members, section_line, refused_line, header_of, moment_of, header_members, data_line};
+ghost use Rattle.capture_show.specs.Messages.{address_members, moment_members, body_members, command_line, freq_members, section_line, refused_line, header_of, moment_of, header_members, data_line};
+ghost use Rattle.ecpri_fragments.specs.Sequence.{id_of, sequence_of, application, is_fragmented};
 
 use crate::line::{Shown, count, flag, said, signed};
 use crate::values::{Kind, Member, Name, Word};

@@ -1,6 +1,7 @@
 // The texts of words and numbers.
 ghost use Rattle.std.specs.Prelude.{◌≡◌, ◌+◌, ◌≤◌, ◌++◌, length};
-ghost use Rattle.capture_show.specs.Lines.{way_text, word_text, field_text};
+ghost use Rattle.capture_show.specs.Lines.{word_text, field_text};
+ghost use Rattle.capture_records.specs.air_source.specs.Units.{way_text};
 
 use crate::values::{Field, Word};
 use capture_records::air_source::Side;

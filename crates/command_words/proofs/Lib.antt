@@ -1,4 +1,3 @@
-pub mod Digits
 pub mod Walks
 pub mod Parses
 pub mod Plain

@@ -9,8 +9,8 @@ use Rattle.std.proofs.lemmas.Str.Ascii.{IsAscii-nil, IsAscii-cons}
 use Rattle.std.proofs.lemmas.Bool.Decides.{nat_tests}
 use Rattle.air_source.specs.declared.events.Side.{Side}
 use Rattle.air_source.specs.declared.events.Side.TheVariants.{Ru, Du}
-use Rattle.command_words.specs.Numbers.{number_in, is_decimal}
-use Rattle.command_words.specs.Words.{bare_command, command_with_one, command_with_two, command_of, with_both, seed_in, slots_in, start_in, way_in, word_at}
+use Rattle.text_lines.specs.Numbers.{number_in, is_decimal, word_at}
+use Rattle.command_words.specs.Words.{bare_command, command_with_one, command_with_two, command_of, with_both, seed_in, slots_in, start_in, way_in}
 use Rattle.command_words.specs.declared.commands.Command.{Command}
 use Rattle.command_words.specs.declared.commands.Command.TheVariants.{Replay, Summary, Capture, Show, Windows, Fit, Generate, Pcap, PcapCapture}
 use Rattle.command_words.proofs.Walks.{IsPlainWord, plain_word_is}

@@ -8,13 +8,14 @@ use Rattle.std.proofs.lemmas.Str.{IsUtf8-from_ascii}
 use Rattle.clap.specs.Words.{Text}
 use Rattle.command_words.specs.Answered.{AnswersWords}
 use Rattle.command_words.specs.Parsed.{spelled}
-use Rattle.command_words.specs.Words.{command_of, command_with_one, word_at}
+use Rattle.command_words.specs.Words.{command_of, command_with_one}
 use Rattle.command_words.specs.declared.commands.Command.{Command}
 use Rattle.command_words.specs.declared.faults.WordsFault.{WordsFault}
 use Rattle.command_words.specs.declared.faults.WordsFault.TheVariants.{BadWords}
 use Rattle.command_words.proofs.Parses.{Gives, flag_gives, plain_gives}
 use Rattle.command_words.proofs.Walks.{ArePlain}
 use Rattle.command_words.proofs.Plain.{ascii_of, bare_plain, one_is, plain_word, two_plain, word_ascii}
+use Rattle.text_lines.specs.Numbers.{word_at}
 
 pub some_of : {X : Type 0} (o : Option X) → is_some o ≡ true → (x : X) × (o ≡ Some x)
 some_of None e = cc

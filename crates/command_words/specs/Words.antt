@@ -1,17 +1,12 @@
 -- The words of the command line (this project's profile).
 use Rattle.std.specs.Prelude.{ℕ, ◌≤◌, List, [], ◌∷◌, true, false, ◌&&◌, Option, None, Some, if◌then◌else◌, codes}
-use Rattle.std.specs.List.{slice_index_or}
 use Rattle.std.specs.Str.{bytes_eq}
 use Rattle.air_source.specs.declared.events.Side.{Side}
 use Rattle.air_source.specs.declared.events.Side.TheVariants.{Ru, Du}
-use Rattle.command_words.specs.Numbers.{number_in}
+use Rattle.text_lines.specs.Numbers.{number_in}
 use Rattle.command_words.specs.declared.commands.Command.{Command}
 use Rattle.command_words.specs.declared.commands.Command.TheVariants.{Replay, Summary, Capture, Show, Windows, Fit, Generate, Pcap, PcapCapture}
 use Rattle.fh_time.specs.declared.nanoseconds.TheConstants.{LAST_TIME}
-
--- the i-th word, or the empty one
-abbrev pub word_at : List (List ℕ) → ℕ → List ℕ
-word_at ws i = slice_index_or ws i []
 
 -- the command that one word is
 abbrev pub bare_command : List ℕ → Option Command

@@ -5,9 +5,9 @@ ghost use Rattle.command_words.specs.Parsed.{spelled};
 ghost use Rattle.fh_time.specs.declared.nanoseconds.TheConstants.{LAST_TIME};
 
 use crate::commands::Command;
-use crate::numbers::number_in;
 use air_source::Side;
 use fh_time::LAST_TIME;
+use text_lines::number_in;
 
 /// The command that one word is.
 fn bare_command(word: &str) -> Option<Command>

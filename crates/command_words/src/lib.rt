@@ -8,7 +8,6 @@
 mod commands;
 mod faults;
 mod forms;
-mod numbers;
 mod parsing;
 mod reading;
 

@@ -4,14 +4,14 @@ use Rattle.std.specs.Prelude.{All}
 use Rattle.std.proofs.lemmas.Bool.Decides.{nat_tests}
 use Rattle.std.proofs.lemmas.Int.{ints}
 use Rattle.std.proofs.lemmas.List.Elements.{All-cons, All-nil}
-use Rattle.bit_fields.specs.Field.{field, signed}
+use Rattle.bit_fields.specs.Field.{field, signed, flag}
 use Rattle.bit_fields.proofs.Field.{field_fits}
 use Rattle.fh_time.specs.declared.values.Shape.{Shape}
 use Rattle.cplane_sections.specs.declared.values.CHead.{CHead}
 use Rattle.cplane_sections.specs.Header.{head_of, kind_of, size_of_head}
 use Rattle.cplane_sections.specs.Section.{section_of, offset_of, beam_of, size_of_section}
 use Rattle.cplane_sections.specs.Tests.{head_checked, walked, checked}
-use Rattle.cplane_sections.specs.Message.{sections_of, sections_in, flag, HeadFits, SectionFits, IsAdmitted, AreAdmitted, Admits, MessageFits}
+use Rattle.cplane_sections.specs.Message.{sections_of, sections_in, HeadFits, SectionFits, IsAdmitted, AreAdmitted, Admits, MessageFits}
 use Rattle.cplane_sections.proofs.Onward.{Says, steps_on, some_section, passed}
 
 bit_is : (n : ℕ) → n < 2 → n ≡ flag (eqb n 1)

@@ -2,7 +2,7 @@
 use Rattle.std.proofs.Common.{◌≡◌, ℕ, ◌+◌, ◌<◌, ◌≤◌, ◌⊎◌, inl, inr, eqb, ltb, cond, List, [], ◌∷◌, ◌++◌, length, take, drop, false, Ok, refl, sym, ap, ◌∙◌, arith}
 use Rattle.std.proofs.lemmas.Bool.Decides.{nat_tests}
 use Rattle.std.proofs.lemmas.Bool.{le-ltb}
-use Rattle.bit_fields.specs.Field.{field}
+use Rattle.bit_fields.specs.Field.{field, flag}
 use Rattle.fh_time.specs.declared.values.Shape.{Shape}
 use Rattle.cplane_sections.specs.declared.values.CBody.{CBody}
 use Rattle.cplane_sections.specs.declared.values.CBody.TheVariants.{Idle, Normal, Offset}
@@ -11,7 +11,7 @@ use Rattle.cplane_sections.specs.declared.values.CSection.{CSection}
 use Rattle.cplane_sections.specs.Header.{head_of, kind_of, size_of_head}
 use Rattle.cplane_sections.specs.Section.{section_of, size_of_section}
 use Rattle.cplane_sections.specs.Tests.{◌>>=◌, head_checked, symbol_checked, walked, checked}
-use Rattle.cplane_sections.specs.Message.{sections_of, flag, IsAdmitted, AreAdmitted, Admits}
+use Rattle.cplane_sections.specs.Message.{sections_of, IsAdmitted, AreAdmitted, Admits}
 use Rattle.cplane_sections.specs.Writes.{carried, WritesHead, WritesSection, StandsAt, AreWritten, WritesMessage, IsReadAs}
 use Rattle.cplane_sections.proofs.Front.{message_put}
 

@@ -1,15 +1,15 @@
 -- What the words of a header say of its fields.
 use Rattle.std.proofs.Common.{◌≡◌, ℕ, ◌+◌, ◌*◌, ◌^◌, ◌<◌, eqb, List, refl, ap, ◌∙◌, arith}
-use Rattle.bit_fields.specs.Field.{field}
+use Rattle.bit_fields.specs.Field.{field, flag}
 use Rattle.bit_fields.proofs.Field.{field_of_word}
 use Rattle.cplane_sections.specs.declared.values.CBody.{CBody}
 use Rattle.cplane_sections.specs.declared.values.CBody.TheVariants.{Idle, Normal, Offset}
 use Rattle.cplane_sections.specs.declared.values.CHead.{CHead}
 use Rattle.cplane_sections.specs.Header.{body_of, kind_of}
 use Rattle.cplane_sections.specs.Words.{body_words, BodyFits}
-use Rattle.cplane_sections.specs.Message.{flag, HeadFits}
+use Rattle.cplane_sections.specs.Message.{HeadFits}
 use Rattle.cplane_sections.specs.Writes.{WritesHead}
-use Rattle.cplane_sections.proofs.SectionWords.{flag_test, flag_fits}
+use Rattle.fh_time.proofs.Orders.{bit_test, bit_small}
 
 pub record ReadsBody (count : ℕ) (body : CBody) (bytes : List ℕ) : Type 0 where
   pub count_is : field bytes 32 8 ≡ count
@@ -59,9 +59,9 @@ pub head_written : (h : CHead) (bytes : List ℕ) → HeadFits h → h.frame_id 
     → field bytes 0 32 ≡ ((((flag h.down * 2 ^ 3 + 1) * 2 ^ 4 + h.filter) * 2 ^ 8 + h.frame_id) * 2 ^ 4 + h.subframe) * 2 ^ 12 + h.slot * 2 ^ 6 + h.start_symbol
     → ReadsBody h.count h.body bytes → WritesHead h bytes
 head_written h bytes fits frame_fits first body =
-    let f = flag_fits h.down in
+    let f = bit_small h.down in
     let down : field bytes 0 1 ≡ flag h.down = field_of_word bytes 0 1 (omega arith) ∙ omega arith in
-    let down_is : eqb (field bytes 0 1) 1 ≡ h.down = rw down (flag_test h.down) in
+    let down_is : eqb (field bytes 0 1) 1 ≡ h.down = rw down (bit_test h.down) in
     let version : field bytes 1 3 ≡ 1 = field_of_word bytes 1 3 (omega arith) ∙ omega arith in
     let filter : field bytes 4 4 ≡ h.filter = field_of_word bytes 4 4 (omega arith) ∙ omega arith in
     let frame : field bytes 8 8 ≡ h.frame_id = field_of_word bytes 8 8 (omega arith) ∙ omega arith in

@@ -3,20 +3,13 @@ use Rattle.std.proofs.Common.{◌≡◌, ℕ, ℤ, pos, negsuc, ◌+◌, ◌*◌
 use Rattle.std.proofs.lemmas.Int.{ints}
 use Rattle.std.proofs.lemmas.Bool.Decides.{nat_tests}
 use mir.Syntax.{w32}
-use Rattle.bit_fields.specs.Field.{field, signed}
+use Rattle.bit_fields.specs.Field.{field, signed, flag}
 use Rattle.bit_fields.proofs.Field.{field_of_word}
 use Rattle.cplane_sections.specs.declared.values.CSection.{CSection}
 use Rattle.cplane_sections.specs.Section.{offset_of}
-use Rattle.cplane_sections.specs.Message.{flag, SectionFits}
+use Rattle.cplane_sections.specs.Message.{SectionFits}
 use Rattle.cplane_sections.specs.Writes.{WritesSection}
-
-pub flag_test : (b : Bool) → eqb (flag b) 1 ≡ b
-flag_test true = refl
-flag_test false = refl
-
-pub flag_fits : (b : Bool) → flag b ≤ 1
-flag_fits true = omega arith
-flag_fits false = omega arith
+use Rattle.fh_time.proofs.Orders.{bit_test, bit_small}
 
 beam_fits : (kind beam : ℕ) → beam < 2 ^ 15 → cond (eqb kind 0) 0 beam < 2 ^ 15
 beam_fits kind beam h = grind (arith, nat_tests)
@@ -33,7 +26,7 @@ pub written_of_words : (kind : ℕ) (s : CSection) (bytes : List ℕ) → Sectio
     → field bytes 32 32 ≡ (s.mask * 2 ^ 4 + s.num_symbol) * 2 ^ 16 + cond (eqb kind 0) 0 s.beam
     → offset_of kind bytes ≡ cond (eqb kind 3) s.freq_offset (pos 0) → (kind ≡ 3 → field bytes 88 8 ≡ 0) → WritesSection kind s bytes
 written_of_words kind s bytes fits num_fits first second offset last =
-    let f = flag_fits s.sym_inc in
+    let f = bit_small s.sym_inc in
     let small = beam_fits kind s.beam fits.beam in
     let id : field bytes 0 12 ≡ s.id = field_of_word bytes 0 12 (omega arith) ∙ omega arith in
     let rb : field bytes 12 1 ≡ 0 = field_of_word bytes 12 1 (omega arith) ∙ omega arith in
@@ -45,7 +38,7 @@ written_of_words kind s bytes fits num_fits first second offset last =
     let ef : field bytes 48 1 ≡ 0 = field_of_word bytes 48 1 (omega arith) ∙ omega arith in
     let beam : field bytes 49 15 ≡ cond (eqb kind 0) 0 s.beam = field_of_word bytes 49 15 (omega arith) ∙ omega arith in
     let beam_is = beam_read kind s.beam (field bytes 49 15) beam in
-    let inc_is : eqb (field bytes 13 1) 1 ≡ s.sym_inc = rw inc (flag_test s.sym_inc) in
+    let inc_is : eqb (field bytes 13 1) 1 ≡ s.sym_inc = rw inc (bit_test s.sym_inc) in
     record {
       reads = λ before. rw (id, inc_is, inc, prb, num, mask, symbols, beam_is, offset) refl;
       each_rb = rb;

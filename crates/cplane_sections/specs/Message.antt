@@ -6,6 +6,7 @@ use Rattle.cplane_sections.specs.declared.values.CSection.{CSection}
 use Rattle.cplane_sections.specs.Header.{size_of_head, kind_of}
 use Rattle.cplane_sections.specs.Section.{symInc, size_of_section, section_of}
 use Rattle.cplane_sections.specs.Tests.{sections_pass}
+use Rattle.bit_fields.specs.Field.{flag}
 
 -- n sections from a place on, where the maintained symbol number was `before`
 unfoldable pub sections_of : ℕ → ℕ → List ℕ → ℕ → ℕ → List CSection
@@ -23,9 +24,6 @@ pub record PassesOn (n kind : ℕ) (bytes : List ℕ) (place before : ℕ) : Typ
   pub below : before + symInc (drop place bytes) < 255
   pub rest : IsTrue (sections_pass (n - 1) (size_of_section kind) bytes (place + size_of_section kind) (before + symInc (drop place bytes)))
   pub first : sections_of n kind bytes place before ≡ section_of kind before (drop place bytes) ∷ sections_of (n - 1) kind bytes (place + size_of_section kind) (before + symInc (drop place bytes))
-
-abbrev pub flag : Bool → ℕ
-flag b = if b then 1 else 0
 
 -- each field of the header in its width
 pub record HeadFits (head : CHead) : Type 0 where

@@ -6,7 +6,8 @@ use Rattle.cplane_sections.specs.declared.values.CSection.{CSection}
 use Rattle.cplane_sections.specs.Header.{payloadVersion, sectionType, idle_reserved, normal_reserved, size_of_head, head_of, kind_of}
 use Rattle.cplane_sections.specs.Section.{rb, ef, beamId, offset_reserved, size_of_section, section_of}
 use Rattle.cplane_sections.specs.Tests.{checked}
-use Rattle.cplane_sections.specs.Message.{sections_in, flag}
+use Rattle.cplane_sections.specs.Message.{sections_in}
+use Rattle.bit_fields.specs.Field.{flag}
 
 -- the bytes begin with this header
 pub record WritesHead (head : CHead) (bytes : List ℕ) : Type 0 where

@@ -1,11 +1,11 @@
 // One section, written.
 ghost use Rattle.std.specs.Prelude.{◌≡◌, ℕ, ◌+◌, ◌-◌, ◌*◌, ◌≤◌, ◌<◌, ◌^◌, ◌⊎◌, List, [], ◌∷◌, ◌++◌, length, take, slice_index, if◌then◌else◌, ◌==◌};
-ghost use Rattle.bit_fields.specs.Field.{field};
+ghost use Rattle.bit_fields.specs.Field.{field, flag};
 ghost use Rattle.fh_time.specs.declared.values.Shape.{Shape};
 ghost use Rattle.cplane_sections.specs.declared.values.CSection.{CSection};
 ghost use Rattle.cplane_sections.specs.Header.{kind_of};
 ghost use Rattle.cplane_sections.specs.Section.{size_of_section};
-ghost use Rattle.cplane_sections.specs.Message.{flag, SectionFits, Admits};
+ghost use Rattle.cplane_sections.specs.Message.{SectionFits, Admits};
 ghost use Rattle.cplane_sections.specs.Writes.{WritesSection, WritesMessage, IsReadAs};
 
 use crate::values::{CBody, CHead, CSection};

@@ -6,6 +6,7 @@ use Rattle.delay_measure.specs.declared.stamps.Stamp.{Stamp}
 use Rattle.delay_measure.specs.Stamps.{sending_ns, receiving_ns, delay_between, stamped}
 use Rattle.delay_laws.specs.Delays.{IsNear, IsWholeTime, IsWholeCompensation}
 use Rattle.delay_measure.specs.declared.stamps.TheConstants.{MOST_COMPENSATION}
+use Rattle.fh_time.specs.declared.nanoseconds.TheConstants.{NANOSECOND}
 
 pub value_stamped : (id action : ℕ) (stamp : Stamp) → value_of (stamped id action stamp) ≡ stamp.nanoseconds
 value_stamped id action stamp = omega arith
@@ -35,27 +36,27 @@ near_is (pos a) (pos b) (negsuc c) d late after low high least = absurd (omega (
 near_is (pos a) (pos b) (pos c) (negsuc d) late after low high least = absurd (omega (arith, ints))
 
 exact_floors : (a b c d s r : ℕ) → s ≡ a - c → r ≡ b + d → c ≤ a
-    → (pos 1536 *ℤ (delay_between s (pos (65536 * c)) r (pos (65536 * d)))) ≡ (pos 65536 *ℤ (pos (1536 * b) -ℤ pos (1536 * a)))
+    → (pos NANOSECOND *ℤ (delay_between s (pos (65536 * c)) r (pos (65536 * d)))) ≡ (pos 65536 *ℤ (pos (NANOSECOND * b) -ℤ pos (NANOSECOND * a)))
 exact_floors a b c d s r is ir le = omega (arith, ints)
 
-whole_sent : (a c : ℕ) → sending_ns (pos (1536 * a)) (pos (65536 * c)) ≡ a - c
+whole_sent : (a c : ℕ) → sending_ns (pos (NANOSECOND * a)) (pos (65536 * c)) ≡ a - c
 whole_sent a c = omega arith
 
-whole_came : (b d : ℕ) → receiving_ns (pos (1536 * b)) (pos (65536 * d)) ≡ b + d
+whole_came : (b d : ℕ) → receiving_ns (pos (NANOSECOND * b)) (pos (65536 * d)) ≡ b + d
 whole_came b d = omega arith
 
 exact_natural : (a b c d : ℕ) → c ≤ a
-    → (pos 1536 *ℤ delay_between (sending_ns (pos (1536 * a)) (pos (65536 * c))) (pos (65536 * c)) (receiving_ns (pos (1536 * b)) (pos (65536 * d))) (pos (65536 * d))) ≡ (pos 65536 *ℤ (pos (1536 * b) -ℤ pos (1536 * a)))
+    → (pos NANOSECOND *ℤ delay_between (sending_ns (pos (NANOSECOND * a)) (pos (65536 * c))) (pos (65536 * c)) (receiving_ns (pos (NANOSECOND * b)) (pos (65536 * d))) (pos (65536 * d))) ≡ (pos 65536 *ℤ (pos (NANOSECOND * b) -ℤ pos (NANOSECOND * a)))
 exact_natural a b c d le = exact_floors a b c d _ _ (whole_sent a c) (whole_came b d) le
 
 product : (m n : ℕ) → (pos m *ℤ pos n) ≡ pos (m * n)
 product m n = refl
 
 pub exact_is : (a b c d : ℤ) → pos 1536000000 ≤ℤ a → c ≤ℤ pos MOST_COMPENSATION → IsWholeTime a → IsWholeTime b → IsWholeCompensation c → IsWholeCompensation d
-    → (pos 1536 *ℤ delay_between (sending_ns a c) c (receiving_ns b d) d) ≡ (pos 65536 *ℤ (b -ℤ a))
+    → (pos NANOSECOND *ℤ delay_between (sending_ns a c) c (receiving_ns b d) d) ≡ (pos 65536 *ℤ (b -ℤ a))
 exact_is a b c d late high wa wb wc wd =
-    let ea = wa.1 ∙ product 1536 wa.0 in
-    let eb = wb.1 ∙ product 1536 wb.0 in
+    let ea = wa.1 ∙ product NANOSECOND wa.0 in
+    let eb = wb.1 ∙ product NANOSECOND wb.0 in
     let ec = wc.1 ∙ product 65536 wc.0 in
     let ed = wd.1 ∙ product 65536 wd.0 in
     rw (ea, eb, ec, ed) (exact_natural wa.0 wb.0 wc.0 wd.0 (omega (arith, ints)))

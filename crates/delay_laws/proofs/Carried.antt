@@ -9,13 +9,14 @@ use Rattle.air_source.specs.declared.events.Side.{Side}
 use Rattle.air_source.specs.declared.events.Side.TheVariants.{Ru, Du}
 use Rattle.delay_measure.specs.declared.message.DelayMessage.{DelayMessage}
 use Rattle.delay_measure.specs.After.{Told, begins, comes, forgets, id_of}
-use Rattle.delay_laws.specs.Nodes.{Compensation, Heard, Measurement, Node, Timed, came_with, fresh, is_request, measured, node_of, other, sent_then, time_of, timed, told_node, with_node}
+use Rattle.delay_laws.specs.Nodes.{Compensation, Heard, Measurement, Node, Timed, came_with, fresh, is_request, measured, node_of, sent_then, time_of, timed, told_node, with_node}
 use Rattle.delay_laws.specs.Ticks.{Begin, Flight, Hearing, IsPure, Setting, State, after_tick, arriving, begin_heard, came_heard, copies_at, due, flight, hearing, landing, launched, state, told_all, told_one}
 use Rattle.delay_laws.specs.Laws.{TickDelaysAreOfRequests}
 use Rattle.delay_laws.proofs.Lists.{the_first, the_request}
 use Rattle.delay_laws.proofs.Sending.{sent_named}
 use Rattle.delay_laws.proofs.Standing.{tick_has}
 use Rattle.delay_laws.proofs.Ticking.{IsKnown, WasSent, state_ready}
+use Rattle.air_source.specs.Units.{other}
 
 -- a message that comes at this time is a copy of one of these frames
 pub record IsCopyOf (sent : List Flight) (t : ℤ) (m : DelayMessage) : Type 0 where

@@ -10,9 +10,10 @@ use Rattle.air_source.specs.declared.events.Side.TheVariants.{Ru, Du}
 use Rattle.delay_measure.specs.declared.message.DelayMessage.{DelayMessage}
 use Rattle.delay_measure.specs.declared.states.Exchange.{Exchange}
 use Rattle.delay_measure.specs.After.{id_of}
-use Rattle.delay_laws.specs.Nodes.{Heard, is_side, other, sent_then, time_of}
+use Rattle.delay_laws.specs.Nodes.{Heard, sent_then, time_of}
 use Rattle.delay_laws.specs.Ticks.{Begin, Flight, Hearing, Setting, State, after_tick, answers, arriving, begin_heard, came_heard, copies_at, due, exchange_of, flight, hearing, landing, launched, state, told_all, told_one}
 use Rattle.delay_laws.proofs.Ticking.{due_now}
+use Rattle.air_source.specs.Units.{other, same_side}
 
 -- P of a message and the time at which it is sent, Q of what is told: each follows where the other held before
 pub record Keeps (w : Setting) (P : ℤ → DelayMessage → Type 0) (Q : Heard → Type 0) : Type 0 where
@@ -35,7 +36,7 @@ record Kept (P : ℤ → DelayMessage → Type 0) (Q : Heard → Type 0) (t : �
   pub heard : All Q h.heard
   pub made : (side : Side) → All (P t) (h.made side)
 
-if_made : (P : DelayMessage → Type 0) (side s : Side) (ms : List DelayMessage) → All P ms → All P (if is_side side s then ms else [])
+if_made : (P : DelayMessage → Type 0) (side s : Side) (ms : List DelayMessage) → All P ms → All P (if same_side side s then ms else [])
 if_made P Ru Ru ms all = all
 if_made P Ru Du ms all = All-nil P
 if_made P Du Ru ms all = All-nil P
@@ -44,7 +45,7 @@ if_made P Du Du ms all = all
 one_kept : (w : Setting) (P : ℤ → DelayMessage → Type 0) (Q : Heard → Type 0) → Keeps w P Q → (t : ℤ) (h : Hearing) (one : Heard) → Q one → time_of one.told ≡ t → Kept P Q t h → Kept P Q t (told_one w h one)
 one_kept w P Q keeps t h one holds now kept = record {
   heard = All-cons Q one h.heard holds kept.heard;
-  made = λ side. All-append (P t) (h.made side) (if is_side side one.side then answers w h.heard one else []) (kept.made side)
+  made = λ side. All-append (P t) (h.made side) (if same_side side one.side then answers w h.heard one else []) (kept.made side)
       (if_made (P t) side one.side (answers w h.heard one) (subst (λ (u : ℤ). All (P u) (answers w h.heard one)) now (keeps.answers one (exchange_of w h.heard one.side (id_of one.told)) holds)));
 }
 

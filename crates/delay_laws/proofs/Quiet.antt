@@ -4,9 +4,10 @@ use Rattle.std.specs.Prelude.{map}
 use Rattle.air_source.specs.declared.events.Side.{Side}
 use Rattle.air_source.specs.declared.events.Side.TheVariants.{Ru, Du}
 use Rattle.delay_measure.specs.declared.message.DelayMessage.{DelayMessage}
-use Rattle.delay_laws.specs.Nodes.{Heard, other}
+use Rattle.delay_laws.specs.Nodes.{Heard}
 use Rattle.delay_laws.specs.Ticks.{Hearing, IsQuiet, Setting, State, after_tick, arriving, begin_heard, came_heard, hearing, launched, state, told_all}
 use Rattle.delay_laws.specs.Laws.{QuietTicksChangeNothing}
+use Rattle.air_source.specs.Units.{other}
 
 abbrev pub before : State → Hearing
 before s = record { heard = s.heard; made = λ side. [] }

@@ -23,6 +23,7 @@ use Rattle.delay_laws.proofs.Lists.{no_requests, none_in}
 use Rattle.delay_laws.proofs.Answering.{answer_is, arrived, no_delay, still_requested}
 use Rattle.delay_laws.proofs.Asking.{of_remote, of_remote_two, still_asking, taken}
 use Rattle.delay_laws.proofs.Phases.{Asked, IsOfCopy, IsNotWaiting, IsPart, IsRemote, IsReply, KnowsPeer, Phase, Requested}
+use Rattle.fh_time.specs.declared.nanoseconds.TheConstants.{NANOSECOND}
 
 -- ---- a delay between the stamps of the request and of a copy
 
@@ -40,7 +41,7 @@ has_delay c1 c2 asking answering request is1 is2 late alone silent stamp copy v 
       later = copy.later;
       value = value;
       near = subst (λ (w : ℤ). IsNear request.at copy.copy.at w) (sym value) (near_is request.at copy.copy.at c1.sending c2.receiving late copy.later is1.sending_low is1.sending_high is2.receiving_low);
-      exact = λ wt wu wc wd. ap (λ (w : ℤ). pos 1536 *ℤ w) value ∙ exact_is request.at copy.copy.at c1.sending c2.receiving late is1.sending_high wt wu wc wd;
+      exact = λ wt wu wc wd. ap (λ (w : ℤ). pos NANOSECOND *ℤ w) value ∙ exact_is request.at copy.copy.at c1.sending c2.receiving late is1.sending_high wt wu wc wd;
     }
 
 -- ---- a begin

@@ -5,13 +5,14 @@ use Rattle.air_source.specs.declared.events.Side.{Side}
 use Rattle.air_source.specs.declared.events.Side.TheVariants.{Ru, Du}
 use Rattle.delay_measure.specs.declared.steps.Kind.{Kind}
 use Rattle.delay_measure.specs.After.{Told, begins, comes, forgets, id_of}
-use Rattle.delay_laws.specs.Nodes.{Compensation, Heard, Measurement, delay_then, measured, node_of, other, told_node, with_node}
+use Rattle.delay_laws.specs.Nodes.{Compensation, Heard, Measurement, delay_then, measured, node_of, told_node, with_node}
 use Rattle.delay_laws.specs.Delays.{HasDelay, IsCompensation}
 use Rattle.delay_laws.specs.Runs.{IsNext, IsRun, has_begun, is_begin}
 use Rattle.delay_laws.specs.Laws.{DelaysAreOfRequests}
 use Rattle.delay_laws.proofs.Answering.{no_delay}
 use Rattle.delay_laws.proofs.Phases.{Phase, swapped}
 use Rattle.delay_laws.proofs.Running.{Delayed, begin_step, comes_step}
+use Rattle.air_source.specs.Units.{other}
 
 abbrev pub heard : Side → Told → Heard
 heard side told = record { side = side; told = told }

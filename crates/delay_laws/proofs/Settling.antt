@@ -8,9 +8,9 @@ use Rattle.std.proofs.lemmas.Bool.Decides.{Decides-int_eq}
 use Rattle.std.proofs.lemmas.List.Elements.{All-head, All-tail}
 use Rattle.air_source.specs.declared.events.Side.{Side}
 use Rattle.delay_measure.specs.declared.message.DelayMessage.{DelayMessage}
-use Rattle.delay_laws.specs.Nodes.{other}
 use Rattle.delay_laws.specs.Ticks.{Flight, Setting, after_tick, copies_at, flight, hearing, landing, launched, state}
 use Rattle.delay_laws.specs.Laws.{LandingIsSettled}
+use Rattle.air_source.specs.Units.{other}
 
 none_lands : (ds : List ℤ) (at : ℤ) (m : DelayMessage) (t : ℤ) → t ≤ℤ at → All (λ d. pos 0 <ℤ d) ds → copies_at ds at m t ≡ []
 none_lands [] at m t later takes = refl

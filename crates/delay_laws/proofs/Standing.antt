@@ -7,7 +7,7 @@ use Rattle.air_source.specs.declared.events.Side.{Side}
 use Rattle.air_source.specs.declared.events.Side.TheVariants.{Ru, Du}
 use Rattle.delay_measure.specs.declared.states.Exchange.{Exchange}
 use Rattle.delay_measure.specs.After.{Told, id_of}
-use Rattle.delay_laws.specs.Nodes.{Compensation, Heard, Measurement, Node, Timed, came_with, delay_then, is_request, measured, node_of, other, requests, told_node, with_node}
+use Rattle.delay_laws.specs.Nodes.{Compensation, Heard, Measurement, Node, Timed, came_with, delay_then, is_request, measured, node_of, requests, told_node, with_node}
 use Rattle.delay_laws.specs.Delays.{IsCompensation}
 use Rattle.delay_laws.specs.Runs.{IsRun, has_begun}
 use Rattle.delay_laws.specs.Ticks.{IsPure, Setting, exchange_of, state}
@@ -17,6 +17,7 @@ use Rattle.delay_laws.proofs.Phases.{IsRemote, Phase, swapped}
 use Rattle.delay_laws.proofs.Running.{remote_not}
 use Rattle.delay_laws.proofs.Runs.{DelayIn, PhaseIn, delays_of_requests, phase_of}
 use Rattle.delay_laws.proofs.Ticking.{sent_stays, ticks_run}
+use Rattle.air_source.specs.Units.{other}
 
 -- ---- what came stays too
 

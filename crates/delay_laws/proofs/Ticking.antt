@@ -13,13 +13,14 @@ use Rattle.air_source.specs.declared.events.Side.TheVariants.{Ru, Du}
 use Rattle.delay_measure.specs.declared.message.DelayMessage.{DelayMessage}
 use Rattle.delay_measure.specs.declared.states.Exchange.{Exchange}
 use Rattle.delay_measure.specs.After.{Told, id_of}
-use Rattle.delay_laws.specs.Nodes.{Compensation, Heard, Node, Timed, is_side, measured, node_of, other, sent_then, time_of, timed, told_node, with_node}
+use Rattle.delay_laws.specs.Nodes.{Compensation, Heard, Node, Timed, measured, node_of, sent_then, time_of, timed, told_node, with_node}
 use Rattle.delay_laws.specs.Runs.{IsNext, IsRun, has_begun}
 use Rattle.delay_laws.specs.Ticks.{Begin, Flight, Hearing, IsPure, Setting, State, after_tick, answers, arriving, begin_heard, came_heard, copies_at, due, exchange_of, flight, hearing, landing, launched, state, told_all, told_one}
 use Rattle.delay_laws.specs.Laws.{TicksAreRuns}
 use Rattle.delay_laws.proofs.Exchanges.{exchanges_told}
 use Rattle.delay_laws.proofs.Sending.{sent_named}
 use Rattle.delay_laws.proofs.Runs.{measured_about}
+use Rattle.air_source.specs.Units.{other, same_side}
 
 -- ---- what was sent stays sent
 
@@ -101,7 +102,7 @@ answers_made w heard one t late now k d lt =
     let was = answer_made w heard one (get_or (answers w heard one) k d) (Contains-get_or (answers w heard one) k d lt) named in
     record { late = late; was = subst (λ (u : ℤ). WasSent w.comps (one ∷ heard) one.side u (get_or (answers w heard one) k d)) now was }
 
-new_made : (P : Side → DelayMessage → Type 0) (side s : Side) (ms : List DelayMessage) → All (P s) ms → All (P side) (if is_side side s then ms else [])
+new_made : (P : Side → DelayMessage → Type 0) (side s : Side) (ms : List DelayMessage) → All (P s) ms → All (P side) (if same_side side s then ms else [])
 new_made P Ru Ru ms all = all
 new_made P Ru Du ms all = All-nil (P Ru)
 new_made P Du Ru ms all = All-nil (P Du)
@@ -111,7 +112,7 @@ tell : (w : Setting) (t : ℤ) (sent : Side → List Flight) (h : Hearing) (one 
 tell w t sent h one now next good = record {
   run = (next, good.run);
   flights = λ side. All-weaker (IsKnown w.comps h.heard side t) (IsKnown w.comps (one ∷ h.heard) side t) (known_stays w.comps one h.heard side t) (sent side) (good.flights side);
-  made = λ side. All-append (IsMade w.comps (one ∷ h.heard) side t) (h.made side) (if is_side side one.side then answers w h.heard one else [])
+  made = λ side. All-append (IsMade w.comps (one ∷ h.heard) side t) (h.made side) (if same_side side one.side then answers w h.heard one else [])
       (All-weaker (IsMade w.comps h.heard side t) (IsMade w.comps (one ∷ h.heard) side t) (made_stays w.comps one h.heard side t) (h.made side) (good.made side))
       (new_made (λ s. IsMade w.comps (one ∷ h.heard) s t) side one.side (answers w h.heard one) (answers_made w h.heard one t (subst (λ (u : ℤ). pos 1536000000 ≤ℤ u) now next.late) now));
 }

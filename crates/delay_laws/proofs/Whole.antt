@@ -8,7 +8,7 @@ use Rattle.air_source.specs.declared.events.Side.{Side}
 use Rattle.air_source.specs.declared.events.Side.TheVariants.{Ru, Du}
 use Rattle.delay_measure.specs.declared.message.DelayMessage.{DelayMessage}
 use Rattle.delay_measure.specs.After.{Told, begins, comes, forgets, id_of}
-use Rattle.delay_laws.specs.Nodes.{Compensation, Heard, Measurement, Node, Timed, came_with, fresh, measured, node_of, other, sent_then, time_of, timed, told_node, with_node}
+use Rattle.delay_laws.specs.Nodes.{Compensation, Heard, Measurement, Node, Timed, came_with, fresh, measured, node_of, sent_then, time_of, timed, told_node, with_node}
 use Rattle.delay_laws.specs.Delays.{IsWholeTime}
 use Rattle.delay_laws.specs.Ticks.{Setting, came_heard, state}
 use Rattle.delay_laws.specs.Ends.{HasWholeTimes}
@@ -16,11 +16,13 @@ use Rattle.delay_laws.specs.Laws.{TickDelaysAreExact}
 use Rattle.delay_laws.proofs.Keeping.{Keeps, all_kept}
 use Rattle.delay_laws.proofs.Lists.{the_first}
 use Rattle.delay_laws.proofs.Carried.{tick_delays}
+use Rattle.air_source.specs.Units.{other}
+use Rattle.fh_time.specs.declared.nanoseconds.TheConstants.{NANOSECOND}
 
 whole_sum : (a b : ℤ) → IsWholeTime a → IsWholeTime b → IsWholeTime (a +ℤ b)
 whole_sum a b wa wb =
-    let ea : a ≡ pos 1536 *ℤ pos wa.0 = wa.1 in
-    let eb : b ≡ pos 1536 *ℤ pos wb.0 = wb.1 in
+    let ea : a ≡ pos NANOSECOND *ℤ pos wa.0 = wa.1 in
+    let eb : b ≡ pos NANOSECOND *ℤ pos wb.0 = wb.1 in
     (wa.0 + wb.0, omega (arith, ints))
 
 abbrev pub IsWholeHeard : Heard → Type 0

@@ -3,6 +3,7 @@ use Rattle.std.specs.Prelude.{◌≡◌, ℕ, ℤ, pos, ◌*ℤ◌, ◌+ℤ◌, 
 use Rattle.delay_measure.specs.Stamps.{sending_ns, receiving_ns, delay_between}
 use Rattle.delay_laws.specs.Nodes.{Compensation, Node, Timed, requests}
 use Rattle.delay_measure.specs.declared.stamps.TheConstants.{MOST_COMPENSATION}
+use Rattle.fh_time.specs.declared.nanoseconds.TheConstants.{NANOSECOND}
 
 -- from 0 to a millisecond, in units of 2^-16 ns
 pub record IsCompensation (c : Compensation) : Type 0 where
@@ -13,12 +14,12 @@ pub record IsCompensation (c : Compensation) : Type 0 where
 
 -- a delay, in units of 2^-16 ns, is the time between two others, in ticks of 1/1536 ns, but for less than a nanosecond
 pub record IsNear (from to delay : ℤ) : Type 0 where
-  pub above : (pos 65536 *ℤ (to -ℤ from)) <ℤ ((pos 1536 *ℤ delay) +ℤ pos 100663296)
-  pub below : (pos 1536 *ℤ delay) <ℤ ((pos 65536 *ℤ (to -ℤ from)) +ℤ pos 100663296)
+  pub above : (pos 65536 *ℤ (to -ℤ from)) <ℤ ((pos NANOSECOND *ℤ delay) +ℤ pos 100663296)
+  pub below : (pos NANOSECOND *ℤ delay) <ℤ ((pos 65536 *ℤ (to -ℤ from)) +ℤ pos 100663296)
 
 -- a whole number of nanoseconds: of a time, in ticks, and of a compensation, in units of 2^-16 ns
 abbrev pub IsWholeTime : ℤ → Type 0
-IsWholeTime t = (n : ℕ) × (t ≡ pos 1536 *ℤ pos n)
+IsWholeTime t = (n : ℕ) × (t ≡ pos NANOSECOND *ℤ pos n)
 
 abbrev pub IsWholeCompensation : ℤ → Type 0
 IsWholeCompensation c = (n : ℕ) × (c ≡ pos 65536 *ℤ pos n)
@@ -37,4 +38,4 @@ pub record HasDelay (requester responder : Compensation) (asking answering : Nod
   pub value : delay ≡ delay_between (sending_ns request.at requester.sending) requester.sending (receiving_ns copy.at responder.receiving) responder.receiving
   pub near : IsNear request.at copy.at delay
   pub exact : IsWholeTime request.at → IsWholeTime copy.at → IsWholeCompensation requester.sending → IsWholeCompensation responder.receiving
-      → (pos 1536 *ℤ delay) ≡ (pos 65536 *ℤ (copy.at -ℤ request.at))
+      → (pos NANOSECOND *ℤ delay) ≡ (pos 65536 *ℤ (copy.at -ℤ request.at))

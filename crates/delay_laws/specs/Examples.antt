@@ -8,13 +8,15 @@ use Rattle.delay_measure.specs.declared.message.DelayMessage.{DelayMessage}
 use Rattle.delay_measure.specs.declared.steps.Kind.{Kind}
 use Rattle.delay_measure.specs.declared.steps.Kind.TheVariants.{One, Two, RemoteTwo}
 use Rattle.delay_measure.specs.After.{begins, comes, id_of}
-use Rattle.delay_laws.specs.Nodes.{Compensation, Heard, Timed, delay_then, is_side, measured, node_of}
+use Rattle.delay_laws.specs.Nodes.{Compensation, Heard, Timed, delay_then, measured, node_of}
 use Rattle.delay_laws.specs.Runs.{IsRun}
 use Rattle.delay_laws.specs.Ticks.{Flight, IsPure, Setting, state}
+use Rattle.air_source.specs.Units.{same_side}
+use Rattle.fh_time.specs.declared.nanoseconds.TheConstants.{NANOSECOND}
 
 -- so many nanoseconds, in ticks
 abbrev pub ns : ℕ → ℤ
-ns n = pos (1536 * n)
+ns n = pos (NANOSECOND * n)
 
 abbrev pub message : ℕ → ℕ → ℕ → DelayMessage
 message action nanoseconds comp = record { id = 7; action = action; seconds = 0; nanoseconds = nanoseconds; comp = pos comp }
@@ -94,7 +96,7 @@ meeting = record {
   comps = plain;
   begins = (record { side = Du; id = 7; kind = One; at = ns 1000000 }) ∷ [];
   delays = λ side k. pos 2 ∷ [];
-  others = λ side t. if is_side side Du && int_eq t (ns 1000000) then message 3 0 0 ∷ [] else [];
+  others = λ side t. if same_side side Du && int_eq t (ns 1000000) then message 3 0 0 ∷ [] else [];
 }
 
 abbrev pub at_tick : Side → ℕ → DelayMessage → Heard

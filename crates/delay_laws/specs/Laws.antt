@@ -2,13 +2,14 @@
 use Rattle.std.specs.Prelude.{◌≡◌, ℕ, ◌+◌, ◌<◌, ℤ, pos, ◌+ℤ◌, ◌≤ℤ◌, ◌<ℤ◌, List, [], ◌∷◌, ◌++◌, All, Some}
 use Rattle.air_source.specs.declared.events.Side.{Side}
 use Rattle.delay_measure.specs.After.{id_of, exchange_after}
-use Rattle.delay_laws.specs.Nodes.{Compensation, Heard, delay_then, measured, node_of, other, time_of, told_to}
+use Rattle.delay_laws.specs.Nodes.{Compensation, Heard, delay_then, measured, node_of, time_of, told_to}
 use Rattle.delay_laws.specs.Runs.{IsRun}
 use Rattle.delay_laws.specs.Ticks.{Hearing, IsPure, IsQuiet, Setting, exchange_of, landing, state, told_all}
 use Rattle.delay_laws.specs.Ends.{EndsBy, HasWholeTimes}
 use Rattle.delay_laws.specs.Delays.{HasDelay, IsCompensation}
 use Rattle.delay_laws.specs.Measured.{IsMeasured, IsMeasuredExactly}
 use Rattle.delay_laws.specs.Known.{IsMeasuredEvent, known, known_while}
+use Rattle.air_source.specs.Units.{other}
 
 -- the exchange that each unit's meter has is that of what it was told
 abbrev pub ExchangesAreTold : Type 0

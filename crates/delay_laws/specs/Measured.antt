@@ -2,8 +2,10 @@
 use Rattle.std.specs.Prelude.{◌≡◌, ℕ, ℤ, pos, ◌+ℤ◌, ◌*ℤ◌, Contains}
 use Rattle.air_source.specs.declared.events.Side.{Side}
 use Rattle.delay_laws.specs.Delays.{HasDelay, IsWholeCompensation}
-use Rattle.delay_laws.specs.Nodes.{measured, node_of, other, timed}
+use Rattle.delay_laws.specs.Nodes.{measured, node_of, timed}
 use Rattle.delay_laws.specs.Ticks.{Flight, Setting, State}
+use Rattle.air_source.specs.Units.{other}
+use Rattle.fh_time.specs.declared.nanoseconds.TheConstants.{NANOSECOND}
 
 -- The delay of an id is that of the one request, which a unit sent in a frame: it is measured from the time at which this was sent to
 -- that at which a copy of it came to the other unit, which is the copy's time on the way later.
@@ -22,4 +24,4 @@ pub record IsMeasured (w : Setting) (s : State) (id : ℕ) (delay : ℤ) : Type 
 pub record IsMeasuredExactly (w : Setting) (s : State) (id : ℕ) (delay : ℤ) : Type 0 where
   pub of_request : IsMeasured w s id delay
   pub exact : IsWholeCompensation (w.comps of_request.side).sending → IsWholeCompensation (w.comps (other of_request.side)).receiving
-      → (pos 1536 *ℤ delay) ≡ (pos 65536 *ℤ of_request.way)
+      → (pos NANOSECOND *ℤ delay) ≡ (pos 65536 *ℤ of_request.way)

@@ -1,5 +1,5 @@
 -- Both ends of one-way delay measurement (eCPRI 2.0, section 3.2.4.6): what each of the two units did about one measurement id.
-use Rattle.std.specs.Prelude.{ℕ, ℤ, pos, ◌==◌, ◌||◌, Bool, true, false, if◌then◌else◌, List, [], ◌∷◌, ◌++◌, map, Option, Some, None}
+use Rattle.std.specs.Prelude.{ℕ, ℤ, pos, ◌==◌, ◌||◌, Bool, if◌then◌else◌, List, [], ◌∷◌, ◌++◌, map, Option, Some, None}
 use Rattle.std.specs.List.{filter}
 use Rattle.air_source.specs.declared.events.Side.{Side}
 use Rattle.air_source.specs.declared.events.Side.TheVariants.{Ru, Du}
@@ -10,6 +10,7 @@ use Rattle.delay_measure.specs.declared.steps.MeterStep.TheVariants.{Send, SendT
 use Rattle.delay_measure.specs.Stamps.{sending_stamp, receiving_stamp}
 use Rattle.delay_measure.specs.Table.{unused, after_begin, after_message, sent_at_begin, sent_at_step}
 use Rattle.delay_measure.specs.After.{Told, begins, comes, forgets, id_of, exchange_next}
+use Rattle.air_source.specs.Units.{same_side}
 
 -- the compensations of a unit, in units of 2^-16 ns
 pub record Compensation : Type 0 where
@@ -81,10 +82,6 @@ pub record Measurement : Type 0 where
   pub ru : Node
   pub du : Node
 
-abbrev pub other : Side → Side
-other Ru = Du
-other Du = Ru
-
 abbrev pub node_of : Side → Measurement → Node
 node_of Ru m = m.ru
 node_of Du m = m.du
@@ -106,16 +103,9 @@ measured comps id (one ∷ earlier) =
     then with_node one.side (told_node (comps one.side) (node_of one.side (measured comps id earlier)) one.told) (measured comps id earlier)
     else measured comps id earlier
 
--- what one unit was told
-abbrev pub is_side : Side → Side → Bool
-is_side Ru Ru = true
-is_side Ru Du = false
-is_side Du Ru = false
-is_side Du Du = true
-
 abbrev pub told_to : Side → List Heard → List Told
 told_to side [] = []
-told_to side (one ∷ earlier) = if is_side side one.side then one.told ∷ told_to side earlier else told_to side earlier
+told_to side (one ∷ earlier) = if same_side side one.side then one.told ∷ told_to side earlier else told_to side earlier
 
 -- Request, and Request with Follow_Up
 abbrev pub is_request : Timed → Bool

@@ -11,7 +11,8 @@ use Rattle.delay_measure.specs.declared.message.DelayMessage.{DelayMessage}
 use Rattle.delay_measure.specs.declared.states.Exchange.{Exchange}
 use Rattle.delay_measure.specs.declared.steps.Kind.{Kind}
 use Rattle.delay_measure.specs.After.{begins, comes, exchange_after, id_of}
-use Rattle.delay_laws.specs.Nodes.{Compensation, Heard, is_side, other, sent_then, told_to}
+use Rattle.delay_laws.specs.Nodes.{Compensation, Heard, sent_then, told_to}
+use Rattle.air_source.specs.Units.{other, same_side}
 
 -- a measurement that a unit begins, and when, in ticks
 pub record Begin : Type 0 where
@@ -71,7 +72,7 @@ pub record Hearing : Type 0 where
   pub made : Side → List DelayMessage
 
 abbrev pub told_one : Setting → Hearing → Heard → Hearing
-told_one w h one = record { heard = one ∷ h.heard; made = λ side. h.made side ++ (if is_side side one.side then answers w h.heard one else []) }
+told_one w h one = record { heard = one ∷ h.heard; made = λ side. h.made side ++ (if same_side side one.side then answers w h.heard one else []) }
 
 abbrev pub told_all : Setting → Hearing → List Heard → Hearing
 told_all w h [] = h

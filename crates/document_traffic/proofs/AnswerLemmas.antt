@@ -52,6 +52,7 @@ use Rattle.document_traffic.proofs.TimeLemmas.{IsBy, frame_leaves, last_sent, lo
 use Rattle.document_traffic.proofs.WithinLemmas.{each_lands}
 use Rattle.frame_deliveries.specs.window_config.specs.declared.delays.TheConstants.{MOST_DELAY}
 use Rattle.frame_deliveries.specs.window_config.proofs.TickLemmas.{in_ticks}
+use Rattle.replay_laws.specs.history_laws.proofs.UnitLemmas.{small_is}
 
 -- ---- frames that are handed over for messages
 
@@ -64,6 +65,7 @@ pub record IsHanded (c : Config) (antenna : Antenna) (ms : List (Message UplinkJ
   pub number : ℕ
   pub before : ℕ
   pub sub : ℕ
+  pub below : sub < frame_count c message
   pub is : f ≡ uplink_frame_of c antenna endpoint message number before sub
 
 pub handed_is : (c : Config) (antenna : Antenna) (earlier ms : List (Message UplinkJob)) (f : LinkFrame) → IsIn f (frames_behind c antenna earlier ms) → IsHanded c antenna ms f
@@ -73,7 +75,7 @@ handed_is c antenna earlier (x ∷ ms) f m = elim (in_either f (uplink_message_f
   | inl here ↦ go (slice_get c.endpoints x.first.ep) refl here
   | inr later ↦
       (let w = handed_is c antenna (x ∷ earlier) ms f later in
-      record { message = w.message; there = inr w.there; endpoint = w.endpoint; at = w.at; number = w.number; before = w.before; sub = w.sub; is = w.is })
+      record { message = w.message; there = inr w.there; endpoint = w.endpoint; at = w.at; number = w.number; before = w.before; sub = w.sub; below = w.below; is = w.is })
 ]
   where
     go : (o : Option EndpointConfig) → slice_get c.endpoints x.first.ep ≡ o
@@ -84,7 +86,17 @@ handed_is c antenna earlier (x ∷ ms) f m = elim (in_either f (uplink_message_f
         let number = number_behind x.first.ep earlier in
         let before = uplink_frames_before c x.first earlier in
         let w = of_each f 0 (frame_count c x) (λ k. uplink_frame_of c antenna e x number before k ∷ []) i in
-        record { message = x; there = inl refl; endpoint = e; at = at; number = number; before = before; sub = w.0; is = the_one f (uplink_frame_of c antenna e x number before w.0) w.3 }
+        record {
+          message = x;
+          there = inl refl;
+          endpoint = e;
+          at = at;
+          number = number;
+          before = before;
+          sub = w.0;
+          below = small_is w.0 (frame_count c x) w.2;
+          is = the_one f (uplink_frame_of c antenna e x number before w.0) w.3;
+        }
 
 -- what holds of each job holds of the first of each message
 module _ (P : UplinkJob → Type 0) (c : Config) where

@@ -33,7 +33,6 @@ use Rattle.uplink_laws.specs.sent_laws.proofs.SentRead.{messages_say}
 use Rattle.uplink_laws.specs.sent_laws.specs.Frames.{texts_of}
 use Rattle.uplink_laws.specs.sent_laws.specs.Radiated.{CopiesArrive, IsSentCopy}
 use Rattle.uplink_laws.specs.sent_laws.specs.Sent.{IsSendable}
-use Rattle.replay_laws.specs.unit_laws.proofs.CellLemmas.{covers_is}
 use Rattle.replay_laws.specs.unit_model.specs.Claims.{cell_at, cell_of, covers, in_mask, names}
 use Rattle.replay_laws.specs.unit_model.specs.Meetings.{Arrival}
 use Rattle.replay_laws.specs.unit_model.specs.Proper.{IsAt}
@@ -51,7 +50,7 @@ use Rattle.document_traffic.proofs.GenerationLemmas.{each_holds_one}
 use Rattle.document_traffic.proofs.LandingLemmas.{are_replayed}
 use Rattle.document_traffic.proofs.LineLemmas.{lines_fit}
 use Rattle.document_traffic.proofs.ToneLemmas.{tone_fits}
-use Rattle.replay_laws.specs.unit_model.proofs.ClaimLemmas.{from_within}
+use Rattle.replay_laws.specs.unit_model.proofs.ClaimLemmas.{from_within, covers_is}
 
 by_the_end : (s : ℤ) → s ≤ℤ pos 1536100000000000 → s ≤ℤ end_of_time
 by_the_end s h = omega (arith, ints, h)

@@ -35,6 +35,7 @@ use Rattle.document_traffic.specs.Landing.{antenna_for, leaving_up}
 use Rattle.document_traffic.specs.Laws.{LeavingAreShort}
 use Rattle.document_traffic.specs.Sending.{Leaving, leaving_down, leaving_of, sent_for, source_for}
 use Rattle.document_traffic.proofs.AnswerLemmas.{handed_frame, sent_is_handed}
+use Rattle.frame_deliveries.specs.window_config.specs.declared.config.TheConstants.{MOST_FRAGMENT}
 
 -- a frame has eight bytes of headers before its application bytes
 length_frame : (kind id : ℕ) (seq : SeqField) (application : List ℕ) → length (transport_frame kind id seq application) ≡ 8 + length application
@@ -45,14 +46,14 @@ length_frame kind id seq application =
 short_command : (n k : ℕ) → n ≡ 8 + k → 4 + k < 2 ^ 16 → n < 2 ^ 32
 short_command n k h few = omega (arith, h, few)
 
-short_piece : (n k fragment : ℕ) → n ≡ 8 + k → k ≤ fragment → fragment ≤ 9000 → n < 2 ^ 32
+short_piece : (n k fragment : ℕ) → n ≡ 8 + k → k ≤ fragment → fragment ≤ MOST_FRAGMENT → n < 2 ^ 32
 short_piece n k fragment h few most = omega (arith, h, few, most)
 
 command_is_short : (id number : ℕ) (h : CHead) (s : CSection) → length (command_frame id number h s) < 2 ^ 32
 command_is_short id number h s =
     short_command (length (command_frame id number h s)) (length (command_of h s)) (length_frame 2 id (whole_seq number) (command_of h s)) (command_short h s)
 
-piece_is_short : (id : ℕ) (seq : SeqField) (sub fragment : ℕ) (message : List ℕ) → fragment ≤ 9000
+piece_is_short : (id : ℕ) (seq : SeqField) (sub fragment : ℕ) (message : List ℕ) → fragment ≤ MOST_FRAGMENT
     → length (piece_frame id seq (sub * fragment) (min (sub * fragment + fragment) (length message)) message) < 2 ^ 32
 piece_is_short id seq sub fragment message most =
     let piece = piece_at fragment message sub in
@@ -60,7 +61,7 @@ piece_is_short id seq sub fragment message most =
 
 -- ---- what the distributed unit sends
 
-short_in : (stream : Stream) (c : Config) (source : Source) (f : SentFrame) → c.fragment ≤ 9000 → length (bytes_in stream c source f) < 2 ^ 32
+short_in : (stream : Stream) (c : Config) (source : Source) (f : SentFrame) → c.fragment ≤ MOST_FRAGMENT → length (bytes_in stream c source f) < 2 ^ 32
 short_in DownCommands c source f most = command_is_short f.endpoint.id (f.number % 256) (command_head f.message.first.planned) (command_section f.message.first.planned)
 short_in UpCommands c source f most = command_is_short f.endpoint.id (f.number % 256) (command_head f.message.first.planned) (command_section f.message.first.planned)
 short_in DownData c source f most = piece_is_short f.endpoint.id (fragment_field c f) f.sub c.fragment (message_bytes source f.message) most
@@ -76,7 +77,7 @@ down_short d is f m =
 pub short_cut : (n from fragment size len : ℕ) → n ≡ min (min (from + fragment) size) len - from → n ≤ fragment
 short_cut n from fragment size len h = omega (arith, h)
 
-handed_short : (c : Config) (antenna : Antenna) (e : EndpointConfig) (m : Message UplinkJob) (number before sub : ℕ) → c.fragment ≤ 9000
+handed_short : (c : Config) (antenna : Antenna) (e : EndpointConfig) (m : Message UplinkJob) (number before sub : ℕ) → c.fragment ≤ MOST_FRAGMENT
     → length (uplink_frame_of c antenna e m number before sub).frame < 2 ^ 32
 handed_short c antenna e m number before sub most =
     let bytes = answer_bytes antenna e m in

@@ -30,7 +30,7 @@ use Rattle.frame_deliveries.specs.window_config.specs.declared.endpoints.Endpoin
 use Rattle.frame_deliveries.specs.window_config.specs.declared.plan.PlanLine.{PlanLine}
 use Rattle.sent_order.specs.plan_model.proofs.ListLemmas.{all_of}
 use Rattle.fh_time.specs.declared.frames.TheConstants.{FRAME}
-use Rattle.fh_time.specs.declared.nanoseconds.TheConstants.{LAST_TIME}
+use Rattle.fh_time.specs.declared.nanoseconds.TheConstants.{LAST_TIME, NANOSECOND}
 use Rattle.frame_deliveries.specs.fh_document.specs.declared.config_lines.TheConstants.{MOST_TRANSIT}
 use Rattle.frame_deliveries.specs.window_config.proofs.TickLemmas.{in_ticks}
 
@@ -91,7 +91,7 @@ pub copy_lands : (last at ns : ℤ) (least : ℕ) → IsBy last at → pos least
 copy_lands last at ns least leaves low high = record { low = omega (arith, ints); high = omega (arith, ints) }
 
 -- an injected frame lands in the first 1,000 s
-pub injected_lands : (last ns : ℤ) → pos 1536000000000000 ≤ℤ last → pos 0 ≤ℤ ns → ns ≤ℤ pos LAST_TIME → IsBy (last +ℤ longest) (ns *ℤ pos 1536)
+pub injected_lands : (last ns : ℤ) → pos 1536000000000000 ≤ℤ last → pos 0 ≤ℤ ns → ns ≤ℤ pos LAST_TIME → IsBy (last +ℤ longest) (ns *ℤ pos NANOSECOND)
 injected_lands last ns late low high = record { low = omega (arith, ints); high = omega (arith, ints) }
 
 -- such a time may be given to a unit

@@ -21,6 +21,7 @@ use Rattle.uplink_laws.specs.uplink_model.specs.Sent.{in_sent_order}
 use Rattle.frame_deliveries.specs.window_config.specs.Windows.{ticks_of_ns}
 use Rattle.document_traffic.specs.Sending.{Delayed, Leaving, delayed_behind, leaving_down, lines_of, none_sent}
 use Rattle.sent_order.specs.plan_model.specs.Lines.{uplink_allocations}
+use Rattle.fh_time.specs.declared.nanoseconds.TheConstants.{NANOSECOND}
 
 -- ---- copies, and injected frames
 
@@ -36,7 +37,7 @@ copies_among xs = flat_map copies_in xs
 
 -- an injected frame
 abbrev pub injected_at : Injection → Arrival
-injected_at i = record { at = i.at *ℤ pos 1536; frame = i.frame }
+injected_at i = record { at = i.at *ℤ pos NANOSECOND; frame = i.frame }
 
 -- it arrives at this unit
 abbrev pub is_to : Side → Injection → Bool

@@ -23,7 +23,7 @@ use Rattle.schedule_laws.specs.unit_model.specs.Counts.{cells_counted}
 use Rattle.schedule_laws.specs.unit_model.specs.Lists.{each}
 use Rattle.schedule_laws.specs.unit_model.specs.Order.{comes_before}
 use Rattle.schedule_laws.specs.unit_model.specs.Proper.{IsAt, IsSlot}
-use Rattle.schedule_laws.specs.unit_model.specs.Radiated.{Known, air_cell, first_clock, is_down, used_mask, wait_of}
+use Rattle.schedule_laws.specs.unit_model.specs.Radiated.{Known, air_cell, first_clock, used_mask, wait_of}
 use Rattle.schedule_laws.specs.unit_model.specs.Reports.{arrivals_counted, du_known, timely_of}
 use Rattle.schedule_laws.specs.unit_model.specs.Standing.{History, IsCell, IsOwed, cell_heard, due, heard, past_of, still_reported}
 use Rattle.schedule_laws.specs.unit_model.specs.Starts.{start_at}
@@ -57,6 +57,8 @@ use Rattle.du_intake.proofs.DueLemmas.{begun_late, by_cells, cells_left, each_no
 use Rattle.du_intake.proofs.UnitLemmas.{all_told}
 use Rattle.schedule_laws.specs.unit_model.proofs.ClaimLemmas.{same_slot_is as slots_equal, slot_self as slot_own}
 use Rattle.fh_time.proofs.Orders.{not_none, not_zero, at_most}
+use Rattle.air_source.specs.Units.{is_down}
+use Rattle.fh_time.specs.declared.symbols.TheConstants.{SUBFRAME}
 
 -- ---- tests
 
@@ -331,7 +333,7 @@ module _ (c : Config) (planned : List Allocation) (m : UnitMemory) (clock : ℤ)
             let a = k.named.by in
             let p = k.plan k.named.k a k.named.at in
             let frame : next.slot.frame ≡ a.slot.frame = ap (λ (x : SymbolStart). x.slot.frame) k.named.names.is in
-            begun_late next.slot.frame next.start.0 (next.slot.subframe * 1536000000 + kind_start next.endpoint.numerology.kind next.slot.slot next.symbol) wait
+            begun_late next.slot.frame next.start.0 (next.slot.subframe * SUBFRAME + kind_start next.endpoint.numerology.kind next.slot.slot next.symbol) wait
             (subst (λ (f : ℤ). pos 1 ≤ℤ f) (sym frame) p.begun) (sym swept.starts) wait_low
 
     pub due_goes : (to : ℤ) → (next.start.0 +ℤ wait) ≤ℤ to → intake_due_of c planned h to ≡ told_cell ∷ intake_due_of c planned (heard h (told_cell ∷ [])) to

@@ -53,6 +53,7 @@ use Rattle.window_config.specs.declared.delays.TheConstants.{MOST_DELAY}
 use Rattle.window_config.specs.declared.plan.TheConstants.{LAST_FRAME}
 use Rattle.fh_time.proofs.Orders.{not_none, not_zero, at_most}
 use Rattle.schedule_laws.specs.unit_model.proofs.ClaimLemmas.{start_before}
+use Rattle.fh_time.specs.declared.symbols.TheConstants.{SUBFRAME}
 
 -- ---- what is told of one cell
 
@@ -243,7 +244,7 @@ module _ (c : Config) (planned : List Allocation) (m : UnitMemory) (clock : ℤ)
             let a = named.by in
             let p = k.plan named.k a named.at in
             let frame : next.slot.frame ≡ a.slot.frame = ap (λ (x : SymbolStart). x.slot.frame) named.names.is in
-            begun_late next.slot.frame next.start.0 (next.slot.subframe * 1536000000 + kind_start next.endpoint.numerology.kind next.slot.slot next.symbol) wait
+            begun_late next.slot.frame next.start.0 (next.slot.subframe * SUBFRAME + kind_start next.endpoint.numerology.kind next.slot.slot next.symbol) wait
             (subst (λ (f : ℤ). pos 1 ≤ℤ f) (sym frame) p.begun) (sym next_swept.starts) positive
 
 -- ---- the moment that the call answers
@@ -259,7 +260,7 @@ start_bounds c planned m clock cursor h k next named is =
     let p = k.plan named.k a named.at in
     let swept = next_swept c planned m clock cursor h k next is named in
     let frame : next.slot.frame ≡ a.slot.frame = ap (λ (x : SymbolStart). x.slot.frame) named.names.is in
-    bounds next.slot.frame next.start.0 (next.slot.subframe * 1536000000 + kind_start next.endpoint.numerology.kind next.slot.slot next.symbol)
+    bounds next.slot.frame next.start.0 (next.slot.subframe * SUBFRAME + kind_start next.endpoint.numerology.kind next.slot.slot next.symbol)
     (subst (λ (f : ℤ). pos 1 ≤ℤ f) (sym frame) p.begun) (subst (λ (f : ℤ). f ≤ℤ pos LAST_FRAME) (sym frame) p.ended)
     (symbol_short next.endpoint.numerology next.slot next.symbol (offsets_short next.endpoint.numerology) swept.slot_is swept.symbol_is) (sym swept.starts)
 

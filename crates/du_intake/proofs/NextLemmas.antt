@@ -26,6 +26,7 @@ use Rattle.du_intake.specs.declared.claims.PlannedClaim.{PlannedClaim}
 use Rattle.du_intake.specs.declared.plan.UplinkPlan.{UplinkPlan}
 use Rattle.du_intake.specs.declared.symbols.PlannedSymbol.{PlannedSymbol}
 use Rattle.ru_buffers.specs.symbol_search.specs.Searches.{IsNotBefore}
+use Rattle.fh_time.specs.declared.carrier.TheConstants.{CARRIER_PRBS}
 
 -- ---- a symbol at its place
 
@@ -158,5 +159,5 @@ own_line es p s k l lines at =
     let m = in_drop s.first l p.lines.items (of_take (s.last - s.first) k l (drop s.first p.lines.items) at) in
     let w = get_in l p.lines.items m in lines w.0 l w.1
 
-pub ends_inside : (a b most room : ℕ) → a + b ≤ most → most ≤ 273 → 273 ≤ room → a + b ≤ room
+pub ends_inside : (a b most room : ℕ) → a + b ≤ most → most ≤ CARRIER_PRBS → CARRIER_PRBS ≤ room → a + b ≤ room
 ends_inside a b most room h k l = omega arith

@@ -47,6 +47,7 @@ use Rattle.du_intake.proofs.NextLemmas.{symbol_some}
 use Rattle.window_config.specs.declared.plan.TheConstants.{LAST_FRAME}
 use Rattle.schedule_laws.specs.plan_model.specs.Lines.{uplink_allocations}
 use Rattle.schedule_laws.specs.plan_model.specs.Lines.{is_up_line}
+use Rattle.fh_time.proofs.Orders.{nat_own}
 
 within_carrier : (prbs start num : ℕ) → is_outside prbs start num ≡ false → first_of start num + count_of prbs num ≤ prbs
 within_carrier prbs start num h = go (num == 0) refl
@@ -71,15 +72,12 @@ either_bit true c h e = refl
 either_bit false true h e = cc
 either_bit false false h e = cc
 
-own_section : (n : ℕ) → (n == n) ≡ true
-own_section n = grind (arith, nat_tests)
-
 line_planned : (c : Config) (p : PlannedLine) → IsGoodLine c.endpoints p → is_up_line p ≡ true → IsPlanned c (line_allocation p)
 line_planned c p g up =
     let kind = not_idle p.line.kind up in
     let proper = line_proper c.endpoints p g in
     let one = and_parts (share_cell (line_allocation p) (line_allocation p)) _ (own_clash (line_allocation p) proper) in
-    let bit = either_bit (share_bit p.line.mask p.line.mask) (p.line.section == p.line.section) one.1 (own_section p.line.section) in
+    let bit = either_bit (share_bit p.line.mask p.line.mask) (p.line.section == p.line.section) one.1 (nat_own p.line.section) in
     let f = found 0 12 (λ re. in_mask p.line.mask re && in_mask p.line.mask re) bit in
     record {
       at = g.at;

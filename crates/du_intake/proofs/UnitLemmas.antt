@@ -1,8 +1,7 @@
 -- The intake stands for its history when it is made, and after each arrival.
-use Rattle.std.proofs.Common.{◌≡◌, ℕ, ℤ, pos, ◌≤◌, ◌+ℤ◌, ◌-ℤ◌, ◌≤ℤ◌, List, [], ◌∷◌, ◌++◌, refl, sym, ap, ◌∙◌, subst, arith}
+use Rattle.std.proofs.Common.{◌≡◌, ℕ, ℤ, pos, ◌≤◌, ◌-ℤ◌, ◌≤ℤ◌, List, [], ◌∷◌, ◌++◌, refl, sym, ap, ◌∙◌, subst, arith}
 use Rattle.std.specs.Prelude.{All, false, not, nat_lt, IfSome, Option, Some, None}
 use Rattle.std.proofs.lemmas.Bool.Decides.{nat_tests}
-use Rattle.std.proofs.lemmas.Int.{ints}
 use Rattle.std.proofs.lemmas.List.Elements.{All-nil, All-cons, All-weaker}
 use Rattle.std.specs.Int.Signed.{≤ℤ_refl}
 use Rattle.air_source.specs.declared.events.Side.TheVariants.{Du}
@@ -11,19 +10,17 @@ use Rattle.fault_counters.specs.declared.kinds.Counter.{Counter}
 use Rattle.schedule_laws.specs.unit_model.specs.Counts.{cells_counted}
 use Rattle.schedule_laws.specs.unit_model.specs.Meetings.{Arrival}
 use Rattle.schedule_laws.specs.unit_model.specs.Proper.{IsProperData, IsTime}
-use Rattle.schedule_laws.specs.unit_model.specs.Radiated.{Known, first_clock, wait_of}
+use Rattle.schedule_laws.specs.unit_model.specs.Radiated.{first_clock, wait_of}
 use Rattle.schedule_laws.specs.unit_model.specs.Reports.{data_of, du_known, timely_of}
-use Rattle.schedule_laws.specs.unit_model.specs.Standing.{History, IsOwed, arrived, at_clock, due, nothing_yet, past_of, still_reported}
+use Rattle.schedule_laws.specs.unit_model.specs.Standing.{History, IsOwed, arrived, at_clock, nothing_yet}
 use Rattle.schedule_laws.specs.unit_model.specs.declared.allocations.Allocation.{Allocation}
-use Rattle.schedule_laws.specs.unit_model.specs.declared.decoded.UserSection.{UserSection}
 use Rattle.schedule_laws.specs.unit_model.proofs.BlockLemmas.{all_timely}
 use Rattle.schedule_laws.specs.unit_laws.proofs.HistoryLemmas.{data_are_proper}
-use Rattle.schedule_laws.specs.unit_laws.proofs.SweepLemmas.{sweep-none}
 use Rattle.ru_buffers.specs.unit_cells.specs.Told.{IsTold}
 use Rattle.ru_buffers.specs.unit_cells.proofs.ToldLemmas.{told_whole}
 use Rattle.ru_buffers.specs.history_laws.specs.Arriving.{IsNextArrival}
 use Rattle.ru_buffers.specs.history_laws.proofs.ArrivingLemmas.{arrival_leaves_due}
-use Rattle.ru_buffers.specs.unit_memory.specs.Memory.{Holds, HoldsSome, arrival}
+use Rattle.ru_buffers.specs.unit_memory.specs.Memory.{Holds, HoldsSome, arrival_at}
 use Rattle.ru_buffers.specs.unit_memory.specs.declared.memory.UnitMemory.{UnitMemory}
 use Rattle.ru_buffers.specs.unit_memory.proofs.HoldLemmas.{holds_later}
 use Rattle.schedule_laws.specs.unit_model.specs.Order.{comes_before}
@@ -39,20 +36,21 @@ use Rattle.du_intake.proofs.DueLemmas.{own_not_behind}
 use Rattle.du_intake.proofs.NextLemmas.{first_symbol}
 use Rattle.du_intake.proofs.UsedLemmas.{named_left, used_named}
 use Rattle.ru_buffers.specs.symbol_search.specs.Searches.{IsNotBefore}
-use Rattle.fh_time.proofs.Orders.{at_most, over}
-
-whole_data : (c : Config) (d : UserSection) → IsProperData c.endpoints d → IsTold d
-whole_data c d is = omega (arith, is.blocks)
+use Rattle.fh_time.proofs.Orders.{at_most}
+use Rattle.schedule_laws.specs.unit_laws.proofs.BeginLemmas.{nothing_past}
+use Rattle.schedule_laws.specs.unit_model.proofs.SlotLemmas.{first_time}
+use Rattle.fh_time.specs.declared.carrier.TheConstants.{CARRIER_PRBS}
+use Rattle.ru_buffers.specs.radio_laws.proofs.HistoryLemmas.{whole_data}
 
 -- ---- what it answers
 
 module _ (c : Config) (planned : List Allocation) (m : UnitMemory) (clock : ℤ) (cursor : CellCursor) (h : History) (k : IntakeKeeps c planned m clock cursor h) where
   pub all_told : All IsTold (timely_of Du c h.arrivals)
   all_told =
-      All-weaker (IsProperData c.endpoints) IsTold (whole_data c) (timely_of Du c h.arrivals)
+      All-weaker (IsProperData c.endpoints) IsTold (whole_data c.endpoints) (timely_of Du c h.arrivals)
       (all_timely (IsProperData c.endpoints) Du c.delays (data_of Du c h.arrivals) (data_are_proper Du c h.clock h.arrivals k.holds.came k.holds.times))
 
-  pub stands : (plan : UplinkPlan) (room : ℕ) (wait : ℤ) → IsListed c planned plan → 273 ≤ room → wait ≡ wait_of Du c.delays → IfSome cursor.next (HasStillLeft planned cursor.prb)
+  pub stands : (plan : UplinkPlan) (room : ℕ) (wait : ℤ) → IsListed c planned plan → CARRIER_PRBS ≤ room → wait ≡ wait_of Du c.delays → IfSome cursor.next (HasStillLeft planned cursor.prb)
       → IntakeStands c planned m clock wait plan room cursor h
   stands plan room wait listed most waits left = record {
     answers = record {
@@ -78,15 +76,6 @@ module _ (c : Config) (planned : List Allocation) (m : UnitMemory) (clock : ℤ)
 
 -- ---- a unit that was made
 
-nothing_past : (c : Config) (k : Known) → due Du c.delays c.endpoints k [] (past_of Du first_clock) ≡ []
-unfolding due
-nothing_past c k =
-    sweep-none (still_reported Du k []) c.endpoints (first_clock -ℤ wait_of Du c.delays) (((first_clock -ℤ pos 1) -ℤ wait_of Du c.delays) +ℤ pos 1)
-    (over first_clock (wait_of Du c.delays))
-
-first_time : IsTime first_clock
-first_time = record { low = omega (arith, ints); high = omega (arith, ints) }
-
 pub found_behind : (x : SymbolStart) (prb : ℕ) (next : Option SymbolStart) → IsNotBefore x next → is_behind next 0 x prb ≡ false
 found_behind x prb None h = absurd h
 found_behind x prb (Some f) h = own_not_behind (comes_before x f) (not (comes_before f x)) (nat_lt prb 0) h (grind (arith, nat_tests))
@@ -96,7 +85,7 @@ left_made c planned None plan named = tt
 left_made c planned (Some m) plan named = named_left c planned m plan named
 
 pub stands_made : (c : Config) (planned : List Allocation) (plan : UplinkPlan) (room : ℕ) (m : UnitMemory) (wait : ℤ) → ArePlanned c planned
-    → ((clock : ℤ) → Holds Du c clock m [] []) → IsListed c planned plan → 273 ≤ room → wait ≡ wait_of Du c.delays
+    → ((clock : ℤ) → Holds Du c clock m [] []) → IsListed c planned plan → CARRIER_PRBS ≤ room → wait ≡ wait_of Du c.delays
     → IntakeStands c planned m first_clock wait plan room (cursor_by m plan (record { symbol = 0; prb = 0 })) nothing_yet
 stands_made c planned plan room m wait plans holds listed most waits =
     let next : Option SymbolStart = symbol_at m.endpoints.items plan 0 in
@@ -138,15 +127,15 @@ module _ (c : Config) (planned : List Allocation) (m : UnitMemory) (clock wait a
   pub holds_some : HoldsSome at m
   holds_some = record { side = Du; config = c; arrivals = h.arrivals; beside = cells_counted h.reported; holds = holds_at }
 
-  is_next : (frame : List ℕ) → IsNextArrival c (arrival at frame) h.arrivals
+  is_next : (frame : List ℕ) → IsNextArrival c (arrival_at at frame) h.arrivals
   is_next frame = record {
     limits = k.holds.config.delays;
     came = holds_at.came;
-    times = All-cons (λ (x : Arrival). IsTime x.at) (arrival at frame) h.arrivals time k.holds.times;
+    times = All-cons (λ (x : Arrival). IsTime x.at) (arrival_at at frame) h.arrivals time k.holds.times;
   }
 
   pub stands_delivered : (m2 : UnitMemory) (frame : List ℕ)
-      → ((arrivals : List Arrival) (beside : List Counter) → Holds Du c at m arrivals beside → Holds Du c at m2 (arrival at frame ∷ arrivals) beside)
+      → ((arrivals : List Arrival) (beside : List Counter) → Holds Du c at m arrivals beside → Holds Du c at m2 (arrival_at at frame ∷ arrivals) beside)
       → IntakeStands c planned m2 at wait plan room (cursor_by m2 plan place) (arrived (at_clock h at) frame)
   stands_delivered m2 frame holds =
       let same : cursor ≡ cursor_by m2 plan place =
@@ -159,10 +148,10 @@ module _ (c : Config) (planned : List Allocation) (m : UnitMemory) (clock wait a
         time = time;
         begun = at_most first_clock h.clock at k.begun after;
         past =
-            arrival_leaves_due Du c planned (arrival at frame) h.arrivals h.reported (at -ℤ pos 1) (is_next frame) (≤ℤ_refl (at -ℤ pos 1)) ∙ none;
+            arrival_leaves_due Du c planned (arrival_at at frame) h.arrivals h.reported (at -ℤ pos 1) (is_next frame) (≤ℤ_refl (at -ℤ pos 1)) ∙ none;
         told = k.told;
         differ = k.differ;
-        owed = All-weaker (IsOwed Du c (du_known c planned h.arrivals)) (IsOwed Du c (du_known c planned (arrival at frame ∷ h.arrivals)))
+        owed = All-weaker (IsOwed Du c (du_known c planned h.arrivals)) (IsOwed Du c (du_known c planned (arrival_at at frame ∷ h.arrivals)))
             (λ x o. record {
               endpoint = o.endpoint;
               cell = o.cell;

@@ -16,6 +16,7 @@ use Rattle.du_intake.specs.Symbols.{IsListed, lines_in}
 use Rattle.du_intake.specs.Units.{IntakeKeeps, intake_due_of}
 use Rattle.du_intake.specs.declared.symbols.PlannedSymbol.{PlannedSymbol}
 use Rattle.du_intake.specs.declared.unit.Intake.{Intake}
+use Rattle.fh_time.specs.declared.carrier.TheConstants.{CARRIER_PRBS}
 
 -- it stands for some history
 pub record IntakeStandsForSome (u : Intake) : Type 0 where
@@ -43,7 +44,7 @@ pub record Closes (c : Config) (planned : List Allocation) (u : Intake) (h : His
   pub kept : IntakeKeeps c planned u.memory u.clock.0 (cursor_in u) h
   pub wait_is : u.wait.0 ≡ wait_of Du c.delays
   pub plan_is : IsListed c planned u.plan
-  pub room_is : 273 ≤ length u.row.items
+  pub room_is : CARRIER_PRBS ≤ length u.row.items
 
 pub record ClosesSome (u : Intake) : Type 0 where
   pub config : Config

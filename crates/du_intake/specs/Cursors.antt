@@ -10,9 +10,9 @@ use Rattle.schedule_laws.specs.unit_model.specs.Proper.{IsAt, IsSlot}
 use Rattle.schedule_laws.specs.unit_model.specs.Starts.{start_at}
 use Rattle.schedule_laws.specs.unit_model.specs.declared.allocations.Allocation.{Allocation}
 use Rattle.schedule_laws.specs.unit_model.specs.declared.symbol_start.SymbolStart.{SymbolStart}
-use Rattle.ru_buffers.specs.symbol_search.specs.Symbols.{IsFound}
 use Rattle.window_config.specs.declared.plan.TheConstants.{LAST_FRAME}
 use Rattle.ru_buffers.specs.symbol_search.specs.Searches.{IsNotBefore}
+use Rattle.fh_time.specs.declared.carrier.TheConstants.{CARRIER_PRBS}
 
 -- the times of an allocation's symbols can be told
 pub record IsTimedAllocation (a : Allocation) : Type 0 where
@@ -67,7 +67,7 @@ pub record IsPlanned (c : Config) (a : Allocation) : Type 0 where
   pub down : a.down ≡ false
   pub idle : a.idle ≡ false
   pub twelve : a.mask < 2 ^ 12
-  pub most : a.endpoint.prbs ≤ 273
+  pub most : a.endpoint.prbs ≤ CARRIER_PRBS
   pub prbs : 0 < prb_count a
   pub inside : first_prb a + prb_count a ≤ a.endpoint.prbs
   -- an element that it names

@@ -1,9 +1,9 @@
 -- What a plan claims of the uplink (the fields are those of O-RAN.WG4.CUS, C-plane sections; the plan is this project's profile).
-use Rattle.std.specs.Prelude.{◌≡◌, Bool, not, All, List, filter, map}
+use Rattle.std.specs.Prelude.{◌≡◌, All, List}
 use Rattle.window_config.specs.declared.config.Config.{Config}
 use Rattle.window_config.specs.declared.plan.PlanLine.{PlanLine}
 use Rattle.schedule_laws.specs.unit_model.specs.declared.allocations.Allocation.{Allocation}
-use Rattle.schedule_laws.specs.plan_model.specs.Lines.{line_allocation, is_down_kind, planned}
+use Rattle.schedule_laws.specs.plan_model.specs.Lines.{planned}
 use Rattle.schedule_laws.specs.plan_model.specs.Valid.{IsValid}
 use Rattle.schedule_laws.specs.plan_model.specs.declared.lines.PlannedLine.{PlannedLine}
 use Rattle.window_config.specs.Plans.{IsPlanLine}

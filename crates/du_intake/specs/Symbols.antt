@@ -19,6 +19,7 @@ use Rattle.du_intake.specs.Lines.{claim_by, has_symbol, lines_at}
 use Rattle.du_intake.specs.declared.lines.UplinkLine.{UplinkLine}
 use Rattle.du_intake.specs.declared.plan.UplinkPlan.{UplinkPlan}
 use Rattle.du_intake.specs.declared.symbols.PlannedSymbol.{PlannedSymbol}
+use Rattle.fh_time.specs.declared.carrier.TheConstants.{CARRIER_PRBS}
 
 -- ---- a symbol
 
@@ -68,7 +69,7 @@ pub record IsLine (es : List EndpointConfig) (l : UplinkLine) : Type 0 where
   pub slot_is : IsSlot endpoint.numerology l.slot
   pub within : l.symbol + l.num_symbol ≤ symbols_of endpoint.numerology
   pub inside : l.first_prb + l.prbs ≤ endpoint.prbs
-  pub few : endpoint.prbs ≤ 273
+  pub few : endpoint.prbs ≤ CARRIER_PRBS
   pub mask : l.mask < 2 ^ 12
 
 abbrev pub AreLines : List EndpointConfig → List UplinkLine → Type 0

@@ -26,6 +26,7 @@ use Rattle.du_intake.specs.Symbols.{IsListed, symbol_at}
 use Rattle.du_intake.specs.declared.lines.UplinkLine.{UplinkLine}
 use Rattle.du_intake.specs.declared.plan.Place.{Place}
 use Rattle.du_intake.specs.declared.plan.UplinkPlan.{UplinkPlan}
+use Rattle.fh_time.specs.declared.carrier.TheConstants.{CARRIER_PRBS}
 
 -- what is due up to a time, over all that came
 abbrev pub intake_due_of : Config → List Allocation → History → ℤ → List AirCell
@@ -76,4 +77,4 @@ pub record IntakeStands (c : Config) (planned : List Allocation) (m : UnitMemory
   pub left : IfSome cursor.next (HasStillLeft planned cursor.prb)
   pub plan_is : IsListed c planned plan
   -- the row of claims has room for the PRBs of every carrier
-  pub room_is : 273 ≤ room
+  pub room_is : CARRIER_PRBS ≤ room

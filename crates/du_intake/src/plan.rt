@@ -2,6 +2,7 @@
 ghost use Rattle.std.specs.Prelude.{◌≡◌, ◌-◌, ◌≤◌, IfOk, Some, drop, length, slice_get, take};
 ghost use Rattle.window_config.specs.Configs.{IsConfig};
 ghost use Rattle.du_intake.specs.Planned.{IsPlanOf};
+ghost use Rattle.fh_time.specs.declared.carrier.TheConstants.{CARRIER_PRBS};
 
 use crate::claims::{PlannedClaim, claim_symbol};
 use crate::lines::{UplinkLine, sort_by_home, uplink_lines};
@@ -72,7 +73,7 @@ impl UplinkPlan {
     /// Fills the row with what the lines claim of the symbol at an index, if there is one.
     pub(crate) fn claim(&self, index: usize, row: &mut [PlannedClaim])
         requires plan { IsListedSome self.now }
-        requires room { 273 ≤ length row.old }
+        requires room { CARRIER_PRBS ≤ length row.old }
         ensures len { length row.new ≡ length row.old }
         ensures claims { (s : SpecSymbol) → slice_get self.now.symbols.items index ≡ Some s → IsRowOf (lines_in self.now.lines.items s) s.symbol row.new }
     {

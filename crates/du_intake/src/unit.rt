@@ -12,13 +12,14 @@ ghost use Rattle.schedule_laws.specs.unit_model.specs.Reports.{arrivals_counted}
 ghost use Rattle.schedule_laws.specs.unit_model.specs.Standing.{History, arrived, at_clock, nothing_yet};
 ghost use Rattle.schedule_laws.specs.unit_model.specs.declared.allocations.Allocation.{Allocation as SpecAllocation};
 ghost use Rattle.du_intake.specs.Planned.{IsPlanOf};
+ghost use Rattle.fh_time.specs.declared.carrier.TheConstants.{CARRIER_PRBS};
 
 use crate::claims::{NO_CLAIM, PlannedClaim};
 use crate::plan::{Place, UplinkPlan};
 use air_source::Side;
 use fault_counters::Counters;
 use fh_base::NoMemory;
-use fh_time::{Ticks, of_ns};
+use fh_time::{CARRIER_PRBS, Ticks, of_ns};
 use ru_buffers::FIRST_CLOCK;
 use ru_buffers::unit_memory::UnitMemory;
 use schedule_laws::plan_model::PlannedLine;
@@ -41,14 +42,11 @@ pub(crate) fn moment_of(start: Ticks, wait: Ticks) -> Ticks
     Ticks(start.0.saturating_add(wait.0))
 }
 
-/// The most PRBs of a carrier.
-const MOST_PRBS: usize = 273;
-
 /// A row of claims for the PRBs of any carrier.
 fn empty_row(alloc: Global) -> Result<Vec<PlannedClaim>, NoMemory>
-    ensures { IfOk result (λ row. length row.items ≡ 273) }
+    ensures { IfOk result (λ row. length row.items ≡ CARRIER_PRBS) }
 {
-    Ok(vec![in alloc; NO_CLAIM; MOST_PRBS]?)
+    Ok(vec![in alloc; NO_CLAIM; CARRIER_PRBS as usize]?)
 }
 
 /// The distributed unit's intake, in memory that is taken when it is made.

@@ -3,13 +3,14 @@ use Rattle.std.proofs.Common.{refl, ◌≡◌, ℕ, ◌+◌, ◌≤◌, inl, inr
 use Rattle.std.proofs.lemmas.Bool.{and_parts, ltb-true}
 use Rattle.sent_frames.specs.fragment_laws.specs.Apart.{IsIn}
 use Rattle.plan_tests.specs.plan_model.specs.Packs.{Message, PartFields, alone, packs, packs_behind, parts_of, same_symbol, size_of, takes, with_part}
+use Rattle.plan_tests.specs.unit_model.specs.Terms.{MESSAGE_BYTES}
 
 module _ {P : Type 0} (f : PartFields P) (most : ℕ) where
   takes_fewer : (m : Message P) (p : P) → takes f most m p ≡ true → length (parts_of (with_part m p)) ≤ most
   takes_fewer m p h =
       let one = and_parts (same_symbol f m.first p) _ h in
       let two = and_parts (f.filter m.first == f.filter p) _ one.1 in
-      let three = and_parts (nat_lt (length (parts_of m)) most) (nat_le (size_of f m + f.size p) 16384) two.1 in
+      let three = and_parts (nat_lt (length (parts_of m)) most) (nat_le (size_of f m + f.size p) MESSAGE_BYTES) two.1 in
       let lt = ltb-true (length (parts_of m)) most three.0 in
       let more = length-append m.more (p ∷ []) in
       omega (arith, lt, more)

@@ -18,7 +18,7 @@ use Rattle.window_config.specs.declared.endpoints.EndpointConfig.{EndpointConfig
 use Rattle.window_config.specs.declared.plan.PlanLine.{PlanLine}
 use Rattle.plan_tests.specs.unit_model.specs.Proper.{IsAt}
 use Rattle.plan_tests.specs.plan_model.specs.Lines.{planned}
-use Rattle.plan_tests.specs.plan_model.specs.Packs.{Message, Numbered, frames_for, packs, parts_of, size_of}
+use Rattle.plan_tests.specs.plan_model.specs.Packs.{Message, Numbered, packs, parts_of, size_of}
 use Rattle.plan_tests.specs.plan_model.specs.Sent.{SentFrame, sent}
 use Rattle.plan_tests.specs.plan_model.specs.Streams.{Part, frames_in, messages_of, part_fields, parts_in}
 use Rattle.plan_tests.specs.plan_model.specs.Valid.{IsValid}
@@ -49,6 +49,7 @@ use Rattle.du_scheduler.proofs.PlaceLemmas.{line_place}
 use Rattle.window_config.specs.declared.config.TheConstants.{MESSAGE_SECTIONS}
 use Rattle.fh_time.specs.declared.symbols.TheConstants.{SLOT_SYMBOLS}
 use Rattle.sent_frames.specs.frame_bytes.specs.Headers.{carrier_of}
+use Rattle.plan_tests.specs.unit_model.specs.Terms.{piece_count}
 
 stand_in : (ps : List PlannedLine) (xs : List Part) → ((x : Part) → IsIn x xs → slice_get ps x.planned.index ≡ Some x.planned) → StandIn ps xs
 stand_in ps [] h = tt
@@ -119,8 +120,8 @@ module _ (c : Config) (lines : List PlanLine) (config : IsConfig c) (fit : All I
   fragment_is source f g is_data =
       let m = f.message in
       let message = message_bytes source m in
-      let frames : frames_for c.fragment (message_size (carrier_of m.first.planned.endpoint) (message_sections m)) ≡ frames_in c f.stream m =
-      ap (frames_for c.fragment) (size_here f.ep f.endpoint m g) ∙ ap (λ (s : Stream). frames_in c s m) (sym is_data) in
+      let frames : piece_count c.fragment (message_size (carrier_of m.first.planned.endpoint) (message_sections m)) ≡ frames_in c f.stream m =
+      ap (piece_count c.fragment) (size_here f.ep f.endpoint m g) ∙ ap (λ (s : Stream). frames_in c s m) (sym is_data) in
       ap₂ (λ (id : ℕ) (n : ℕ). piece_frame id (record { seq = f.number % 256; last = f.sub + 1 == n; sub = f.sub }) (f.sub * c.fragment) (min (f.sub * c.fragment + c.fragment) (length message)) message)
       (ap (λ (d : EndpointConfig). d.id) (g.each m.first (inl refl)).endpoint_is) frames
 
@@ -135,7 +136,7 @@ module _ (c : Config) (lines : List PlanLine) (config : IsConfig c) (fit : All I
   pub record IsDataFrame (f : SentFrame) (parts : List PlacedLine) : Type 0 where
     pub good : IsGoodMessage c f.ep f.endpoint f.message
     pub writable : IsData ps parts f.message
-    pub few : f.sub < frames_for c.fragment (message_size (carrier_of f.message.first.planned.endpoint) (message_sections f.message))
+    pub few : f.sub < piece_count c.fragment (message_size (carrier_of f.message.first.planned.endpoint) (message_sections f.message))
     pub stream : f.stream ≡ DownData
 
   pub frame_data : (f : SentFrame) (parts : List PlacedLine) → IsIn f (sent c ps) → parts ≡ map placed_line (parts_of f.message) → f.stream ≡ DownData → IsDataFrame f parts
@@ -146,7 +147,7 @@ module _ (c : Config) (lines : List PlanLine) (config : IsConfig c) (fit : All I
       let good = subst (λ (x : Message Part). IsGoodMessage c f.ep f.endpoint x) (sym same) (good_message c lines config fit valid f.ep f.endpoint w.n w.at m) in
       let stands = frame_stands f parts there are in
       let below = subst (λ (x : Message Part). f.sub < frames_in c f.stream x) (sym same) w.below in
-      let frames = ap (λ (s : Stream). frames_in c s f.message) is_data ∙ sym (ap (frames_for c.fragment) (size_here f.ep f.endpoint f.message good)) in
+      let frames = ap (λ (s : Stream). frames_in c s f.message) is_data ∙ sym (ap (piece_count c.fragment) (size_here f.ep f.endpoint f.message good)) in
       record {
         good = good;
         writable = subst (λ (x : Message Part). IsData ps parts x) (sym same)
@@ -202,10 +203,10 @@ module _ (c : Config) (plan : List PlanLine) (f : SentFrame) (lines : List Plann
   pub data_here : 2 ≤ turn.stream → IsData lines parts f.message
   data_here high = subst (λ (ls : List PlannedLine). IsData ls parts f.message) (sym h.lines_are) (is_data high).writable
 
-  pub few_here : 2 ≤ turn.stream → turn.sub < frames_for fragment (message_size (carrier_of f.message.first.planned.endpoint) (message_sections f.message))
+  pub few_here : 2 ≤ turn.stream → turn.sub < piece_count fragment (message_size (carrier_of f.message.first.planned.endpoint) (message_sections f.message))
   few_here high =
-      subst (λ k. turn.sub < frames_for k (message_size (carrier_of f.message.first.planned.endpoint) (message_sections f.message))) (sym h.fragment_is)
-      (subst (λ k. k < frames_for c.fragment (message_size (carrier_of f.message.first.planned.endpoint) (message_sections f.message))) (sym (ap (λ (t : Turn). t.sub) h.turn_is)) (is_data high).few)
+      subst (λ k. turn.sub < piece_count k (message_size (carrier_of f.message.first.planned.endpoint) (message_sections f.message))) (sym h.fragment_is)
+      (subst (λ k. k < piece_count c.fragment (message_size (carrier_of f.message.first.planned.endpoint) (message_sections f.message))) (sym (ap (λ (t : Turn). t.sub) h.turn_is)) (is_data high).few)
 
   pub data_is : (answer : RePlace → Wide) (frame : List ℕ) → 2 ≤ turn.stream
       → (AreAnswersIn f.message.first.planned f.message.first.symbol (length (parts_of f.message)) answer (message_samples (source_of c.endpoints answer) f.message)

@@ -10,7 +10,7 @@ use Rattle.sent_frames.specs.declared.data.Fragment.{Fragment}
 use Rattle.plan_tests.specs.air_source.specs.declared.places.RePlace.{RePlace}
 use Rattle.bfp_codec.specs.declared.samples.Iq.{Iq}
 use Rattle.bfp_codec.specs.declared.samples.Wide.{Wide}
-use Rattle.plan_tests.specs.plan_model.specs.Packs.{Message, frames_for, parts_of}
+use Rattle.plan_tests.specs.plan_model.specs.Packs.{Message, parts_of}
 use Rattle.plan_tests.specs.plan_model.specs.Streams.{Part, part_in}
 use Rattle.sent_frames.specs.frame_bytes.specs.Messages.{MessageFits, message_size}
 use Rattle.plan_tests.specs.plan_model.specs.declared.lines.PlannedLine.{PlannedLine}
@@ -18,6 +18,7 @@ use Rattle.plan_table.specs.Kept.{placed_line}
 use Rattle.plan_table.specs.declared.kept.PlacedLine.{PlacedLine}
 use Rattle.du_scheduler.specs.Written.{StandIn, StandsAt, message_sections}
 use Rattle.sent_frames.specs.frame_bytes.specs.Headers.{carrier_of}
+use Rattle.plan_tests.specs.unit_model.specs.Terms.{piece_count}
 
 -- part k and its line
 pub record IsPartAt (lines : List PlannedLine) (part : PlacedLine) (xs : List Part) (k : ℕ) : Type 0 where
@@ -97,7 +98,7 @@ pub read_fits : (m : Message Part) (p : PlannedLine) (symbol : ℕ) (ss : List D
 read_fits m p symbol ss r h = let line = r.line in let symbol_is = r.symbol_is in let sections = r.sections in rw (line, symbol_is, sections) h
 
 pub read_few : (m : Message Part) (p : PlannedLine) (symbol : ℕ) (ss : List DataSection) (sub size : ℕ) → IsRead m p symbol ss
-    → sub < frames_for size (message_size (carrier_of m.first.planned.endpoint) (message_sections m)) → sub < frames_for size (message_size (carrier_of p.endpoint) ss)
+    → sub < piece_count size (message_size (carrier_of m.first.planned.endpoint) (message_sections m)) → sub < piece_count size (message_size (carrier_of p.endpoint) ss)
 read_few m p symbol ss sub size r h = let line = r.line in let sections = r.sections in rw (line, sections) h
 
 pub read_frame : (m : Message Part) (p : PlannedLine) (symbol : ℕ) (ss : List DataSection) (f : Fragment) (answer : RePlace → Wide) (blocks : ℕ → ℕ → List Iq) (frame : List ℕ) → IsRead m p symbol ss

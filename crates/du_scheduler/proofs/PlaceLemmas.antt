@@ -1,5 +1,5 @@
 -- The lines of a plan of which none is refused stand at their places.
-use Rattle.std.proofs.Common.{◌≡◌, ℕ, suc, ◌+◌, ◌≤◌, List, [], ◌∷◌, ◌++◌, length, map, inl, inr, Option, Some, None, refl, ap, ap₂, sym, ◌∙◌, arith}
+use Rattle.std.proofs.Common.{◌≡◌, ℕ, suc, ◌+◌, ◌≤◌, List, [], ◌∷◌, ◌++◌, length, map, inl, inr, Option, Some, None, refl, ap, ap₂, sym, ◌∙◌, arith, zero-add}
 use Rattle.std.specs.List.{slice_get}
 use Rattle.std.specs.Option.{option_map, option_to_list}
 use Rattle.std.proofs.lemmas.Option.{slice_get-map, slice_get_past}
@@ -41,9 +41,6 @@ pub record IsPlaceOf (p : PlannedLine) (k : ℕ) (ps : List PlannedLine) : Type 
 next_place : (k i : ℕ) → k + 1 + i ≡ k + suc i
 next_place k i = omega arith
 
-from_none : (i : ℕ) → 0 + i ≡ i
-from_none i = omega arith
-
 places : (es : List EndpointConfig) (earlier : List Allocation) (k : ℕ) (lines : List PlanLine) → refused_from es earlier k lines ≡ None → (p : PlannedLine) → IsIn p (planned_from es k lines)
     → IsPlaceOf p k (planned_from es k lines)
 unfolding refused_from planned_from
@@ -82,7 +79,7 @@ none_first c lines valid = no_else (first_refused c.endpoints lines) (dense c (p
 pub line_place : (c : Config) (lines : List PlanLine) → IsValid c lines → (p : PlannedLine) → IsIn p (planned c.endpoints lines) → slice_get (planned c.endpoints lines) p.index ≡ Some p
 line_place c lines valid p m =
     let r = places c.endpoints [] 0 lines (none_first c lines valid) p m in
-    let here : p.index ≡ r.i = r.index ∙ from_none r.i in
+    let here : p.index ≡ r.i = r.index ∙ zero-add r.i in
     ap (λ i. slice_get (planned c.endpoints lines) i) here ∙ r.at
 
 pub lines_kept : (c : Config) (lines : List PlanLine) → IsValid c lines → map (λ p. p.line) (planned c.endpoints lines) ≡ lines

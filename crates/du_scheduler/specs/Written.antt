@@ -12,6 +12,7 @@ use Rattle.plan_table.specs.declared.kept.PlacedLine.{PlacedLine}
 use Rattle.fh_time.specs.declared.symbols.TheConstants.{SLOT_SYMBOLS}
 use Rattle.window_config.specs.declared.config.TheConstants.{MESSAGE_SECTIONS}
 use Rattle.sent_frames.specs.frame_bytes.specs.Headers.{carrier_of}
+use Rattle.fh_time.specs.declared.carrier.TheConstants.{CARRIER_PRBS}
 
 -- each part's line stands at its place
 abbrev pub StandIn : List PlannedLine → List Part → Type 0
@@ -31,5 +32,5 @@ pub record IsData (lines : List PlannedLine) (parts : List PlacedLine) (m : Mess
   pub at : StandsAt lines parts (parts_of m)
   pub few : length (parts_of m) ≤ MESSAGE_SECTIONS
   pub symbol : m.first.symbol < SLOT_SYMBOLS
-  pub prbs : m.first.planned.endpoint.prbs ≤ 273
+  pub prbs : m.first.planned.endpoint.prbs ≤ CARRIER_PRBS
   pub fits : MessageFits (carrier_of m.first.planned.endpoint) (data_head m.first) (message_sections m)

@@ -11,6 +11,7 @@ ghost use Rattle.window_config.specs.declared.plan.PlanLine.{PlanLine as SpecLin
 ghost use Rattle.plan_tests.specs.plan_model.specs.Lines.{planned};
 ghost use Rattle.plan_tests.specs.plan_model.specs.Sent.{SentFrame, sent};
 ghost use Rattle.plan_tests.specs.plan_model.specs.Valid.{IsValid};
+ghost use Rattle.window_config.specs.declared.plan.TheConstants.{PLAN_LINES};
 
 use crate::keeping::planned_lines;
 use crate::writing::write_frame;
@@ -81,7 +82,7 @@ impl Plan {
         requires config { IsConfig config.now }
         requires fit { All IsPlanLine lines.now }
         requires valid { IsValid config.now lines.now }
-        requires few { length lines.now ≤ 65536 }
+        requires few { length lines.now ≤ PLAN_LINES }
         ensures { IfOk result (HasToSend config.now lines.now (sent config.now (planned config.now.endpoints lines.now))) }
     {
         let planned = planned_lines(alloc, config.endpoints.as_slice(), lines)?;
@@ -105,7 +106,7 @@ impl Plan {
     ) -> Result<Plan, PlanRefusal>
         requires config { IsConfig config.now }
         requires fit { All IsPlanLine lines.now }
-        requires few { length lines.now ≤ 65536 }
+        requires few { length lines.now ≤ PLAN_LINES }
         ensures { Checks config.now lines.now result }
     {
         match tested(alloc, config, lines) {

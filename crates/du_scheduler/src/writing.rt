@@ -9,7 +9,8 @@ ghost use Rattle.sent_frames.specs.frame_bytes.specs.Messages.{message_size};
 ghost use Rattle.window_config.specs.declared.config.Config.{Config as SpecConfig};
 ghost use Rattle.window_config.specs.declared.plan.PlanLine.{PlanLine as SpecLine};
 ghost use Rattle.plan_tests.specs.plan_model.specs.Sent.{SentFrame};
-ghost use Rattle.plan_tests.specs.plan_model.specs.Packs.{Message, frames_for, parts_of};
+ghost use Rattle.plan_tests.specs.plan_model.specs.Packs.{Message, parts_of};
+ghost use Rattle.plan_tests.specs.unit_model.specs.Terms.{piece_count};
 ghost use Rattle.plan_tests.specs.plan_model.specs.Streams.{Part};
 ghost use Rattle.sent_frames.specs.Messages.{data_section};
 ghost use Rattle.sent_frames.specs.Frames.{sent_bytes};
@@ -17,6 +18,8 @@ ghost use Rattle.sent_frames.specs.Sources.{AreAnswersIn, data_frame, source_of}
 ghost use Rattle.du_scheduler.specs.Frames.{IsFrame, IsFrameOf};
 ghost use Rattle.du_scheduler.specs.Written.{IsData, StandsAt, message_sections};
 ghost use Rattle.sent_frames.specs.frame_bytes.specs.Headers.{carrier_of};
+ghost use Rattle.window_config.specs.declared.config.TheConstants.{MOST_FRAGMENT};
+ghost use Rattle.window_config.specs.declared.config.TheConstants.{LEAST_FRAGMENT};
 
 use bfp_codec::Wide;
 use frame_order::Turn;
@@ -48,9 +51,9 @@ pub(crate) fn write_data<F: Fn(RePlace) -> Wide>(
     into: &mut [u8],
 ) -> usize
     requires kept { IsKept F.pre F.post samples.now }
-    requires data { (m : Message Part) × IsData lines.now parts.now m × (fragment.sub < frames_for fragment.size (message_size (carrier_of m.first.planned.endpoint) (message_sections m))) }
-    requires low { 128 ≤ fragment.size }
-    requires high { fragment.size ≤ 9000 }
+    requires data { (m : Message Part) × IsData lines.now parts.now m × (fragment.sub < piece_count fragment.size (message_size (carrier_of m.first.planned.endpoint) (message_sections m))) }
+    requires low { LEAST_FRAGMENT ≤ fragment.size }
+    requires high { fragment.size ≤ MOST_FRAGMENT }
     requires room { 8 + fragment.size ≤ length into.old }
     ensures size { result ≤ 8 + fragment.size }
     ensures len { length into.new ≡ length into.old }

@@ -10,9 +10,6 @@ use Rattle.eaxc_map.specs.Ids.{number_of, parts_of, FitWidths, AreParts}
 grown : (n k w part : ℕ) → n < 2 ^ k → part < 2 ^ w → n * 2 ^ w + part < 2 ^ (k + w)
 grown n k w part below fits = omega (arith, pow-add 2 k w, mul-add-lt n (2 ^ w) part (2 ^ k) below fits)
 
-power_within : (k m : ℕ) → k ≤ m → 2 ^ k ≤ 2 ^ m
-power_within k m h = pow-le-pow_right {n = 2} (omega arith) {i = k} {j = m} h
-
 -- the first two digits, the first three, and all of them
 pub two_fit : (w : Widths) (p : Parts) → FitWidths w p → p.du * 2 ^ w.band + p.band < 2 ^ (w.du + w.band)
 two_fit w p fit = grown p.du w.du w.band p.band fit.du fit.band
@@ -25,7 +22,7 @@ number_fits w p fit = grown ((p.du * 2 ^ w.band + p.band) * 2 ^ w.carrier + p.ca
 
 -- below 2 to some width of at most 16
 pub within_16 : (n k : ℕ) → k ≤ 16 → n < 2 ^ k → n < 65536
-within_16 n k small below = omega (arith, below, power_within k 16 small)
+within_16 n k small below = omega (arith, below, pow-le-pow_right {n = 2} (omega arith) {i = k} {j = 16} small)
 
 make : ℕ → ℕ → ℕ → ℕ → Parts
 make du band carrier port = record { du = du; band = band; carrier = carrier; port = port }

@@ -2,19 +2,21 @@
 use Rattle.std.proofs.Common.{◌≡◌, Bool, true, false, cond, List, [], ◌∷◌, ◌++◌, reverse, refl, sym, ap, ◌∙◌, subst, ℤ, append_assoc, append-nil}
 use Rattle.std.proofs.lemmas.Grind.{reverse_onto}
 use Rattle.ecpri_fragments.specs.Generations.{Fragment, Generation, is_within, with_fragment, generations, begun, joined}
-use Rattle.ecpri_fragments.specs.Cut.{AllWithin, IsGeneration, BeginsAfter, AreGenerations, joined_up, IsCut, oldest_first, IsStart, StartsWithFirst}
+use Rattle.ecpri_fragments.specs.Cut.{AllWithin, IsGeneration, BeginsAfter, AreGenerations, IsCut, oldest_first, IsStart, StartsWithFirst}
+use Rattle.ecpri_fragments.specs.Pieces.{joined as joined_up}
 
 reverse_cons : (a : Fragment) (xs : List Fragment) → reverse (a ∷ xs) ≡ reverse xs ++ a ∷ []
 reverse_cons a xs = reverse_onto xs a []
 
--- all fragments are there, in their order
-joined_append : (xs ys : List (List Fragment)) → joined_up (xs ++ ys) ≡ joined_up xs ++ joined_up ys
+-- pieces behind others, and one behind them
+joined_append : {X : Type 0} (xs ys : List (List X)) → joined_up (xs ++ ys) ≡ joined_up xs ++ joined_up ys
 joined_append [] ys = refl
 joined_append (x ∷ xs) ys = rw (joined_append xs ys) (sym (append_assoc x (joined_up xs) (joined_up ys)))
 
-joined_one : (xs : List (List Fragment)) (y : List Fragment) → joined_up (xs ++ y ∷ []) ≡ joined_up xs ++ y
-joined_one xs y = joined_append xs (y ∷ []) ∙ ap (λ (z : List Fragment). joined_up xs ++ z) (append-nil y)
+pub joined_one : {X : Type 0} (xs : List (List X)) (y : List X) → joined_up (xs ++ y ∷ []) ≡ joined_up xs ++ y
+joined_one {X = X} xs y = joined_append xs (y ∷ []) ∙ ap (λ (z : List X). joined_up xs ++ z) (append-nil y)
 
+-- all fragments are there, in their order
 one_more : (hold : ℤ) (a : Fragment) (gs : List Generation) → joined_up (oldest_first (with_fragment hold a gs)) ≡ joined_up (oldest_first gs) ++ a ∷ []
 one_more hold a [] = refl
 one_more hold a (g ∷ gs) = go (is_within hold g.start a.at)

@@ -3,14 +3,9 @@ use Rattle.std.proofs.Common.{◌≡◌, ℕ, ◌≤◌, Bool, true, false, cond
 use Rattle.std.proofs.lemmas.Bool.{ltb-false, le-ltb, or_parts, or_from}
 use Rattle.std.proofs.lemmas.Option.{same_Some}
 use Rattle.ecpri_fragments.specs.declared.verdict.Verdict.{Verdict}
-use Rattle.ecpri_fragments.specs.declared.verdict.Verdict.TheVariants.{Repeat, Stray, TooLong}
 use Rattle.ecpri_fragments.specs.Generations.{Fragment}
 use Rattle.ecpri_fragments.specs.Verdicts.{end_of, is_past_end, has_greater, is_stray, refused, with_one, standing}
-
-strayless : (x y z : Bool) → cond x (Some Repeat) (cond y (Some Stray) (cond z (Some TooLong) None)) ≡ None → y ≡ false
-strayless true y z e = absurd (cc)
-strayless false true z e = absurd (cc)
-strayless false false z e = refl
+use Rattle.ecpri_fragments.proofs.Tables.{passed}
 
 not_past : (s : List Fragment) (e k : ℕ) → end_of s ≡ Some e → is_past_end s k ≡ false → k ≤ e
 not_past [] e k h p = absurd (cc)
@@ -36,4 +31,4 @@ none_beyond (a ∷ held) e h = go (refused (standing held) a) refl (none_beyond 
   where
     go : (o : Option Verdict) → refused (standing held) a ≡ o → ((n : ℕ) → end_of (standing held) ≡ Some n → has_greater (standing held) n ≡ false) → end_of (with_one o a (standing held)) ≡ Some e → has_greater (with_one o a (standing held)) e ≡ false
     go (Some v) r i h = i e h
-    go None r i h = one_more (standing held) a e i (strayless _ (is_stray (standing held) a) _ r) h
+    go None r i h = one_more (standing held) a e i (passed _ (is_stray (standing held) a) _ r) h

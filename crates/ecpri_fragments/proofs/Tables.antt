@@ -86,7 +86,7 @@ refused_same t s a h low =
     rw (← h.whole, x, past_same t.ending s a.sub h.ends h.ending, greater_same s a.sub, ← h.top, ← h.used) refl
 
 -- what is known of a fragment that stands
-passed : (x y z : Bool) → cond x (Some Repeat) (cond y (Some Stray) (cond z (Some TooLong) None)) ≡ None → y ≡ false
+pub passed : (x y z : Bool) → cond x (Some Repeat) (cond y (Some Stray) (cond z (Some TooLong) None)) ≡ None → y ≡ false
 passed true y z e = absurd (cc)
 passed false true z e = absurd (cc)
 passed false false z e = refl

@@ -1,6 +1,7 @@
 -- The generations as one reads them off the arrivals of one endpoint and one sequence id, from the oldest on.
 use Rattle.std.specs.Prelude.{◌≡◌, ⊤, true, false, List, [], ◌∷◌, ◌++◌, reverse, ℤ}
 use Rattle.ecpri_fragments.specs.Generations.{Fragment, Generation, is_within}
+use Rattle.ecpri_fragments.specs.Pieces.{joined as joined_up}
 
 -- each of these arrives in the generation that began then
 abbrev pub AllWithin : ℤ → ℤ → List Fragment → Type 0
@@ -22,10 +23,6 @@ abbrev pub AreGenerations : ℤ → List (List Fragment) → Type 0
 AreGenerations hold [] = ⊤
 AreGenerations hold (g ∷ []) = IsGeneration hold g
 AreGenerations hold (g ∷ next ∷ gs) = (IsGeneration hold g × BeginsAfter hold g next) × AreGenerations hold (next ∷ gs)
-
-abbrev pub joined_up : List (List Fragment) → List Fragment
-joined_up [] = []
-joined_up (g ∷ gs) = g ++ joined_up gs
 
 -- The arrivals are cut into these generations: all of them, in their order.
 pub record IsCut (hold : ℤ) (arrivals : List Fragment) (gs : List (List Fragment)) : Type 0 where

@@ -1,3 +1,4 @@
+pub mod Pieces
 pub mod Sequence
 pub mod Generations
 pub mod Verdicts

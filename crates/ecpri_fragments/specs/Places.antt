@@ -8,6 +8,7 @@ use Rattle.ecpri_fragments.specs.declared.verdict.Verdict.TheVariants.{Repeat, S
 use Rattle.ecpri_fragments.specs.Generations.{Fragment, Generation, with_fragment, held_in}
 use Rattle.ecpri_fragments.specs.Verdicts.{piece_at, end_of, size, first_of, last_of, is_whole, verdict, placed, standing}
 use Rattle.ecpri_fragments.specs.Spans.{span_of, shown}
+use Rattle.ecpri_fragments.specs.declared.place.TheConstants.{MESSAGE_BYTES}
 
 -- one more than the greatest subsequence of these
 abbrev pub top_of : List Fragment → ℕ
@@ -45,7 +46,7 @@ abbrev pub refused_in : Table → ℕ → Bool → ℕ → Option Verdict
 refused_in t sub last len =
     if t.whole || is_some (span_of t.spans sub) then Some Repeat
     else if is_past t.ending sub || (last && nat_lt (sub + 1) t.top) then Some Stray
-    else if nat_lt 16384 (length t.bytes + len) then Some TooLong
+    else if nat_lt MESSAGE_BYTES (length t.bytes + len) then Some TooLong
     else None
 
 -- The table holds these fragments.

@@ -3,6 +3,7 @@ use Rattle.std.specs.Prelude.{◌≡◌, ⊤, ℕ, zero, suc, ◌+◌, ◌==◌,
 use Rattle.ecpri_fragments.specs.declared.verdict.Verdict.{Verdict}
 use Rattle.ecpri_fragments.specs.declared.verdict.Verdict.TheVariants.{Stored, Whole, Repeat, Stray, TooLong}
 use Rattle.ecpri_fragments.specs.Generations.{Fragment, seen}
+use Rattle.ecpri_fragments.specs.declared.place.TheConstants.{MESSAGE_BYTES}
 
 -- the bytes of the fragment that stands at this subsequence
 abbrev pub piece_at : List Fragment → ℕ → Option (List ℕ)
@@ -52,7 +53,7 @@ abbrev pub refused : List Fragment → Fragment → Option Verdict
 refused s a =
     if is_whole s || stands s a.sub then Some Repeat
     else if is_stray s a then Some Stray
-    else if nat_lt 16384 (size s + length a.bytes) then Some TooLong
+    else if nat_lt MESSAGE_BYTES (size s + length a.bytes) then Some TooLong
     else None
 
 abbrev pub answer : Option Verdict → Bool → Verdict
@@ -118,3 +119,14 @@ pieces_to s (Some e) = pieces_below s (e + 1)
 -- the message that these fragments make whole
 abbrev pub message : List Fragment → Message
 message s = record { pieces = pieces_to s (end_of s); first = first_of s; last = last_of s }
+
+-- the message that a fragment makes whole, where it does
+abbrev pub whole_of : Verdict → Fragment → List Fragment → Option Message
+whole_of Stored f stood = None
+whole_of Whole f stood = Some (message (f ∷ stood))
+whole_of Repeat f stood = None
+whole_of Stray f stood = None
+whole_of TooLong f stood = None
+
+abbrev pub whole_now : ℤ → Fragment → List Fragment → Option Message
+whole_now hold f earlier = whole_of (verdict_on hold f earlier) f (standing_before hold f earlier)

@@ -13,5 +13,6 @@ mod verdict;
 
 pub use assembly::{Assembly, Lease, Taken};
 pub use fh_base;
+pub use place::MESSAGE_BYTES;
 pub use sequence::{SeqField, put_seq, read_seq};
 pub use verdict::Verdict;

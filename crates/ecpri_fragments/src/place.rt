@@ -2,6 +2,7 @@
 ghost use Rattle.std.specs.Prelude.{◌≡◌, ℕ, ◌+◌, ◌<◌, ◌≤◌, vec_len, vec_capacity, pos, ◌≤ℤ◌, neg_ℤ, ◌^◌};
 ghost use Rattle.std.specs.Option.{ForSome};
 ghost use Rattle.ecpri_fragments.specs.Spans.{Inside, EmptyFrom};
+ghost use Rattle.ecpri_fragments.specs.declared.place.TheConstants.{MESSAGE_BYTES};
 
 use crate::parts::{append, clear, end_after, first_after, is_whole, is_within, no_spans};
 use crate::{SeqField, Verdict};
@@ -9,8 +10,8 @@ use fh_base::NoMemory;
 use fh_time::Ticks;
 use std::alloc::Global;
 
-/// The application bytes of a message at most.
-pub(crate) const SIZE: usize = 16_384;
+/// The most application bytes of a message.
+pub const MESSAGE_BYTES: usize = 16_384;
 
 /// How many subsequence ids there are.
 pub(crate) const SUBSEQUENCES: usize = 128;
@@ -33,8 +34,8 @@ pub(crate) struct Place {
     spans: Vec<Option<Span>>,
     bytes: Vec<u8>,
     ghost table: { vec_len spans ≡ 128 },
-    ghost room: { 16384 ≤ vec_capacity bytes },
-    ghost filled: { vec_len bytes ≤ 16384 },
+    ghost room: { MESSAGE_BYTES ≤ vec_capacity bytes },
+    ghost filled: { vec_len bytes ≤ MESSAGE_BYTES },
     ghost inside: { Inside spans.items (vec_len bytes) },
     ghost beyond: { EmptyFrom spans.items top },
     ghost tops: { top ≤ 128 },
@@ -54,7 +55,7 @@ impl Place {
         ensures { IfOk result (λ p. StandsIn p []) }
     {
         let spans = no_spans(alloc)?;
-        let bytes = Vec::with_capacity(alloc, SIZE)?;
+        let bytes = Vec::with_capacity(alloc, MESSAGE_BYTES)?;
         Ok(Place {
             begun: None,
             first: Ticks(0),
@@ -98,7 +99,7 @@ impl Place {
     /// Why a fragment of this length does not join those that stand.
     fn refusal(&self, seq: SeqField, len: usize) -> Option<Verdict>
         requires sub { seq.sub < 128 }
-        ensures room { result ≡ None → vec_len self.now.bytes + len ≤ 16384 }
+        ensures room { result ≡ None → vec_len self.now.bytes + len ≤ MESSAGE_BYTES }
         ensures refused { result ≡ refused_in (table_of self.now) seq.sub seq.last len }
     {
         if self.whole || self.spans[seq.sub as usize].is_some() {
@@ -112,7 +113,7 @@ impl Place {
         if seq.last && seq.sub + 1 < self.top {
             return Some(Verdict::Stray);
         }
-        if len > SIZE - self.bytes.len() {
+        if len > MESSAGE_BYTES - self.bytes.len() {
             return Some(Verdict::TooLong);
         }
         None
@@ -121,7 +122,7 @@ impl Place {
     /// Lets a fragment stand.
     fn store(&mut self, at: Ticks, seq: SeqField, bytes: &[u8])
         requires sub { seq.sub < 128 }
-        requires fits { vec_len self.old.bytes + length bytes.now ≤ 16384 }
+        requires fits { vec_len self.old.bytes + length bytes.now ≤ MESSAGE_BYTES }
         ensures holds { (ep : ℕ) (s : List Fragment) → Holds (table_of self.old) s → refused s (fragment ep at seq bytes.now) ≡ None → Holds (table_of self.new) (fragment ep at seq bytes.now ∷ s) }
         ensures same_begun { self.new.begun ≡ self.old.begun }
     {

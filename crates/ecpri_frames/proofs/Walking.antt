@@ -1,6 +1,6 @@
 -- A walk over the whole messages of a frame.
 use Rattle.std.proofs.Common.{◌≡◌, ℕ, zero, suc, ◌+◌, ◌-◌, ◌*◌, ◌≤◌, ◌==◌, ◌≢◌, Bool, true, false, cond, ltb, ◌⊎◌, inl, inr, List, [], ◌∷◌, ◌++◌, length, take, drop, Option, Some, None, refl, sym, ap, subst, ◌∙◌, arith, length-drop}
-use Rattle.std.proofs.lemmas.List.{take_all, drop-drop, drop_all, length-take}
+use Rattle.std.proofs.lemmas.List.{drop-drop, drop_all, length-take, take_rest}
 use Rattle.std.proofs.lemmas.Bool.{eqb-true, eq-eqb}
 use Rattle.std.specs.Prelude.{filter}
 use Rattle.ecpri_frames.specs.declared.heads.Head.{Head}
@@ -141,9 +141,6 @@ few_whole bytes = omega (arith, few_read 0 0 bytes, few_filtered (pdu bytes).mes
 
 -- ---- one answer to all the rest of a frame
 
-fed : (frame : List ℕ) (at : ℕ) → take (length frame - at) (drop at frame) ≡ drop at frame
-fed frame at = take_all (length frame - at) (drop at frame) (omega (arith, length-drop at frame))
-
 -- what was left before an answer to all the rest of a frame: the messages that it completes, and those that come behind it
 pub record Fed (left : List Message) (held : Option Message) (new : Pdu) (frame : List ℕ) (at used : ℕ) (what : Feed) : Type 0 where
   pub left_is : left ≡ completed (at + used) what (drop at frame) held ++ gathered (held_after (at + used) what (drop at frame) held) (tells new (drop (at + used) frame)).items
@@ -155,7 +152,7 @@ pub fed_whole : (old new : Pdu) (frame : List ℕ) (at used : ℕ) (what : Feed)
 fed_whole old new frame at used what held left u so_far t = record {
   left_is = so_far
       ∙ subst (λ n. gathered held (tells old (drop at frame)).items ≡ completed n what (drop at frame) held ++ gathered (held_after n what (drop at frame) held) (tells new (drop (at + used) frame)).items) u
-      (walked old new frame at used what held (rw (fed frame at) at t));
+      (walked old new frame at used what held (rw (take_rest frame at) at t));
 }
 
 -- behind the header of a message with no payload
@@ -194,7 +191,7 @@ unfinished here from to last piece (Some m) l = rw l refl
 -- the frame ended, or the PDU is over or refused
 pub frame_ends : (new : Pdu) (frame : List ℕ) (at used : ℕ) → used ≡ length (take (length frame - at) (drop at frame)) → (tells new (drop (at + used) frame)).items ≡ []
 frame_ends new frame at used h =
-    let l : used ≡ length frame - at = h ∙ ap length (fed frame at) ∙ length-drop at frame in
+    let l : used ≡ length frame - at = h ∙ ap length (take_rest frame at) ∙ length-drop at frame in
     let d : drop (at + used) frame ≡ [] = drop_all (at + used) frame (omega arith) in
     rw d (nothing_more new)
 
@@ -221,7 +218,7 @@ pub fed_refusal : (old new : Pdu) (frame : List ℕ) (at used : ℕ) (what : Fee
     Tells old new (take used (take (length frame - at) (drop at frame))) (feed_told (used_by new) what (take (length frame - at) (drop at frame))) →
     (tells new (drop (at + used) frame)).refusal ≡ (pdu frame).refusal
 fed_refusal old new frame at used what so_far t =
-    let q = rw (fed frame at) at t in
+    let q = rw (take_rest frame at) at t in
     sym (ap (λ (x : Telling). x.refusal) (q (drop (at + used) frame))) ∙ ap (λ (xs : List ℕ). (tells old xs).refusal) (joined frame at used) ∙ so_far
 
 -- a refusal is the fault of all that comes

@@ -1,9 +1,9 @@
 -- A text that is cut at each separator.
-use Rattle.std.proofs.Common.{◌≡◌, ℕ, ◌+◌, ◌<◌, ◌≤◌, ◌-◌, List, [], ◌∷◌, ◌++◌, length, take, drop, get_or, Bool, true, false, sym, ap, ◌∙◌, subst, arith, length-take, length-drop, nat_lt}
+use Rattle.std.proofs.Common.{◌≡◌, ℕ, ◌+◌, ◌<◌, ◌≤◌, ◌-◌, List, [], ◌∷◌, ◌++◌, length, take, drop, get_or, Bool, true, false, sym, ap, ◌∙◌, subst, arith, length-take, nat_lt}
 use Rattle.std.specs.Prelude.{All, filter, if◌then◌else◌, Option, Some, None, IfSome}
 use Rattle.std.specs.Borrow.{Bor}
 use Rattle.std.specs.List.{slice_split}
-use Rattle.std.proofs.lemmas.List.{get_or-take, take-append-drop, drop_more, take_all}
+use Rattle.std.proofs.lemmas.List.{get_or-take, take-append-drop, drop_more}
 use Rattle.std.proofs.lemmas.List.Elements.{All-from_get_or}
 use Rattle.std.proofs.lemmas.List.Splits.{slice_split_none, slice_split_at}
 use Rattle.std.proofs.lemmas.Bool.Decides.{nat_tests}
@@ -26,10 +26,6 @@ cut_first p xs k h passes =
     let parts : xs ≡ take k xs ++ get_or xs k 0 ∷ drop (k + 1) xs =
     sym (take-append-drop k xs) ∙ ap (λ zs. take k xs ++ zs) (drop_more xs k 0 h.high) in
     ap (slice_split p) parts ∙ slice_split_at p (take k xs) (get_or xs k 0) (drop (k + 1) xs) (fails_before p xs k h.before) passes
-
--- the value of `&xs[n..]`
-pub drop_whole : (xs : List ℕ) (n : ℕ) → take (length xs - n) (drop n xs) ≡ drop n xs
-drop_whole xs n = take_all (length xs - n) (drop n xs) (omega (arith, length-drop n xs))
 
 -- ---- words
 

@@ -1,4 +1,3 @@
-pub mod DigitSteps
 pub mod HexSteps
 pub mod Cuts
 pub mod WordSteps

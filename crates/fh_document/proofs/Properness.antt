@@ -3,7 +3,6 @@ use Rattle.std.proofs.Common.{◌≡◌, ℕ, zero, suc, map, ◌+◌, ◌*◌, 
 use Rattle.std.specs.Prelude.{ℤ, pos, Result, Ok, Err, IfOk, IfSome, if◌then◌else◌, ◌==◌, All, slice_index, codes}
 use Rattle.std.proofs.lemmas.Bool.{cases_lt}
 use Rattle.std.proofs.lemmas.Bool.Decides.{nat_tests}
-use Rattle.std.proofs.lemmas.Int.{ints}
 use Rattle.std.proofs.lemmas.List.{get_or_append_left, map-append, length_push}
 use Rattle.std.proofs.lemmas.List.Elements.{All-push, All-nil}
 use Rattle.std.proofs.lemmas.List.Folds.{list_any_at}
@@ -27,7 +26,7 @@ use Rattle.fh_document.specs.declared.document.Measure.{Measure}
 use Rattle.fh_document.specs.declared.document.Version.{Version}
 use Rattle.fh_document.specs.declared.delivered.Delivery.{Delivery}
 use Rattle.window_config.specs.declared.plan.PlanLine.{PlanLine}
-use Rattle.fh_document.specs.declared.plan_lines.TheConstants.{MOST_LINES}
+use Rattle.window_config.specs.declared.plan.TheConstants.{PLAN_LINES}
 use Rattle.fh_document.specs.declared.keywords.Keyword.{Keyword}
 use Rattle.fh_document.specs.declared.keywords.Keyword.TheVariants as keyword
 use Rattle.fh_document.specs.declared.keywords.Setting.{Setting}
@@ -36,7 +35,7 @@ use Rattle.fh_document.specs.declared.refusals.DocWhy.{DocWhy}
 use Rattle.fh_document.specs.declared.refusals.DocWhy.TheVariants as why
 use Rattle.fh_base.specs.declared.source.TheConstants.{FRAME_LIMIT}
 use Rattle.fh_document.specs.Refusals.{or_refuse}
-use Rattle.fh_document.specs.Words.{words_of, word_at, number_in, is_text}
+use Rattle.fh_document.specs.Words.{words_of, number_in, is_text}
 use Rattle.fh_document.specs.Hex.{is_hex, hex_of, bytes_of, decoded, digits_frame, frame_of}
 use Rattle.fh_document.specs.Keywords.{keyword_of}
 use Rattle.window_config.proofs.Usual.{usual_within}
@@ -51,19 +50,21 @@ use Rattle.fh_document.specs.Lines.{start, is_seen, configured, setting_line, co
 use Rattle.fh_document.specs.Document.{finished, after_line, read_from, document_of}
 use Rattle.fh_document.specs.Proper.{IsFrom, IsTone, AreComps, AreTransits, IsPlanLine, IsDelivery, AreApart, IsMeasure, IsInjection, IsDocument}
 use Rattle.fh_document.proofs.LineBounds.{id_in, plan_in, delivery_in, apart_more, measure_in}
-use Rattle.fh_document.proofs.Bounds.{ok_if, ok_then, ok_or, ok_any, ok_weaker, some_if, some_then, some_any, Within, number_within, number_at_within, time_at_within, ordered_within, counted_within, with_number, with_time}
+use Rattle.fh_document.proofs.Bounds.{ok_if, ok_then, ok_or, ok_any, ok_weaker, some_if, some_then, some_any, Within, number_within, number_at_within, time_at_within, ordered_within, counted_within, with_number, with_time, from_number}
 use Rattle.window_config.specs.declared.delays.TheConstants.{MOST_DELAY}
 use Rattle.fh_time.specs.declared.nanoseconds.TheConstants.{LAST_TIME}
 use Rattle.fh_document.specs.declared.config_lines.TheConstants.{MOST_TRANSIT}
 use Rattle.delay_measure.specs.declared.stamps.TheConstants.{MOST_COMPENSATION}
-use Rattle.window_config.specs.declared.config.TheConstants.{MESSAGE_SECTIONS}
+use Rattle.window_config.specs.declared.config.TheConstants.{MESSAGE_SECTIONS, MOST_FRAGMENT, LEAST_FRAGMENT}
+use Rattle.text_lines.specs.Numbers.{word_at}
+use Rattle.fh_time.specs.declared.carrier.TheConstants.{CARRIER_PRBS}
 
 -- ---- the settings
 
 pub record AreSettings (s : Settings) : Type 0 where
   pub delays : IsWithinLimits s.delays
   pub gap : IsTime s.gap
-  pub fragment : Within 128 9000 s.fragment
+  pub fragment : Within LEAST_FRAGMENT MOST_FRAGMENT s.fragment
   pub pack : Within 1 64 s.pack
   pub source : IsTone s.source
   pub antenna : IsTone s.antenna
@@ -104,8 +105,8 @@ hold_line_in ws =
     counted_within AreTimes 3 ws _
     (with_time AreTimes 0 MOST_DELAY ws 1 _ (λ a x. with_time AreTimes 0 MOST_DELAY ws 2 _ (λ b y. (is_time a x, is_time b y))))
 
-fragment_line_in : (ws : List (List ℕ)) → IfOk (fragment_line ws) (Within 128 9000)
-fragment_line_in ws = counted_within (Within 128 9000) 2 ws (number_at 128 9000 ws 1) (number_at_within 128 9000 ws 1)
+fragment_line_in : (ws : List (List ℕ)) → IfOk (fragment_line ws) (Within LEAST_FRAGMENT MOST_FRAGMENT)
+fragment_line_in ws = counted_within (Within LEAST_FRAGMENT MOST_FRAGMENT) 2 ws (number_at LEAST_FRAGMENT MOST_FRAGMENT ws 1) (number_at_within LEAST_FRAGMENT MOST_FRAGMENT ws 1)
 
 tone_line_in : (ws : List (List ℕ)) → IfOk (tone_line ws) IsTone
 tone_line_in ws =
@@ -136,7 +137,7 @@ set_in s setting.T12 ws h = ok_then (IsRange 0) AreSettings (range_line ws) _ (r
 set_in s setting.T34 ws h = ok_then (IsRange 0) AreSettings (range_line ws) _ (range_line_in ws) (λ x p. assumption (h, p))
 set_in s setting.Hold ws h = ok_then AreTimes AreSettings (hold_line ws) _ (hold_line_in ws) (λ x p. assumption (h, p))
 set_in s setting.Gap ws h = ok_then IsTime AreSettings (time_line ws) _ (time_line_in ws) (λ x p. assumption (h, p))
-set_in s setting.Fragment ws h = ok_then (Within 128 9000) AreSettings (fragment_line ws) _ (fragment_line_in ws) (λ x p. assumption (h, p))
+set_in s setting.Fragment ws h = ok_then (Within LEAST_FRAGMENT MOST_FRAGMENT) AreSettings (fragment_line ws) _ (fragment_line_in ws) (λ x p. assumption (h, p))
 set_in s setting.Source ws h = ok_then IsTone AreSettings (tone_line ws) _ (tone_line_in ws) (λ x p. assumption (h, p))
 set_in s setting.Antenna ws h = ok_then IsTone AreSettings (tone_line ws) _ (tone_line_in ws) (λ x p. assumption (h, p))
 set_in s setting.Comp ws h = ok_then AreComps AreSettings (comp_line ws) _ (comp_line_in ws) (λ x p. assumption (h, p))
@@ -145,28 +146,24 @@ set_in s setting.TransitUl ws h = ok_then (IsFrom 0 MOST_TRANSIT) AreSettings (t
 set_in s setting.TransitM ws h = ok_then (IsFrom 1 MOST_TRANSIT) AreSettings (transit_line 1 ws) _ (transit_line_in 1 ws) (λ x p. assumption (h, p))
 set_in s setting.Pack ws h = ok_then (Within 1 64) AreSettings (pack_line ws) _ (pack_line_in ws) (λ x p. assumption (h, p))
 
--- a time of literals
-from_in : (low high n : ℕ) → low ≤ n → n ≤ high → IsFrom low high (pos n)
-from_in low high n a b = record { low = omega (arith, ints); high = omega (arith, ints) }
-
 defaults_in : AreSettings defaults
 defaults_in = record {
   delays = usual_within;
-  gap = is_time (pos 1000) (from_in 0 MOST_DELAY 1000 (omega arith) (omega arith));
+  gap = is_time (pos 1000) (from_number 0 MOST_DELAY 1000 (omega arith) (omega arith));
   fragment = (omega arith, omega arith);
   pack = (omega arith, omega arith);
   source = record { low = omega arith; high = omega arith };
   antenna = record { low = omega arith; high = omega arith };
   comps = record {
-    du_sending = from_in 0 MOST_COMPENSATION 0 (omega arith) (omega arith);
-    du_receiving = from_in 0 MOST_COMPENSATION 0 (omega arith) (omega arith);
-    ru_sending = from_in 0 MOST_COMPENSATION 0 (omega arith) (omega arith);
-    ru_receiving = from_in 0 MOST_COMPENSATION 0 (omega arith) (omega arith);
+    du_sending = from_number 0 MOST_COMPENSATION 0 (omega arith) (omega arith);
+    du_receiving = from_number 0 MOST_COMPENSATION 0 (omega arith) (omega arith);
+    ru_sending = from_number 0 MOST_COMPENSATION 0 (omega arith) (omega arith);
+    ru_receiving = from_number 0 MOST_COMPENSATION 0 (omega arith) (omega arith);
   };
   transits = record {
-    dl = from_in 0 MOST_TRANSIT 50000 (omega arith) (omega arith);
-    ul = from_in 0 MOST_TRANSIT 50000 (omega arith) (omega arith);
-    m = from_in 1 MOST_TRANSIT 50000 (omega arith) (omega arith);
+    dl = from_number 0 MOST_TRANSIT 50000 (omega arith) (omega arith);
+    ul = from_number 0 MOST_TRANSIT 50000 (omega arith) (omega arith);
+    m = from_number 1 MOST_TRANSIT 50000 (omega arith) (omega arith);
   };
 }
 
@@ -196,7 +193,7 @@ endpoint_of_in : (version : Version) (ws : List (List ℕ)) → IfSome (endpoint
 endpoint_of_in version ws =
     some_then (λ n. n < 2 ^ 16) IsGiven (hex_of 4 (word_at ws 1)) _ (id_in (word_at ws 1)) (λ id i.
     some_then (λ _. Unit {0}) IsGiven (numerology_of version ws) _ (some_any (numerology_of version ws)) (λ numerology v.
-    some_then (Within 1 273) IsGiven (number_in 1 273 (word_at ws 4)) _ (number_within 1 273 (word_at ws 4)) (λ prbs p.
+    some_then (Within 1 CARRIER_PRBS) IsGiven (number_in 1 CARRIER_PRBS (word_at ws 4)) _ (number_within 1 CARRIER_PRBS (word_at ws 4)) (λ prbs p.
     some_then (λ _. Unit {0}) IsGiven (dynamic_of (word_at ws 5)) _ (some_any (dynamic_of (word_at ws 5))) (λ dynamic x.
     some_then HasWidth IsGiven (method_of (word_at ws 6)) _ (method_in (word_at ws 6)) (λ method m.
     record { id = i; fits = record { some = p.0; most = p.1; width = m } })))))
@@ -260,7 +257,7 @@ pub record IsReading (r : Reading) : Type 0 where
   pub endpoints : AreEndpoints r.endpoints
   pub ids : All HasId r.endpoints
   pub plan : All IsPlanLine r.plan
-  pub few : length r.plan ≤ MOST_LINES
+  pub few : length r.plan ≤ PLAN_LINES
   pub numbered : length r.plan_lines ≡ length r.plan
   pub deliveries : All IsDelivery r.deliveries
   pub frames : AreApart r.deliveries
@@ -312,7 +309,7 @@ endpoint_line_in r ws h =
 
 planned_in : (r : Reading) (n : ℕ) (line : PlanLine) → IsReading r → IsPlanLine line → IfOk (planned r n line) IsReading
 planned_in r n line h p =
-    ok_if IsReading (length r.plan == MOST_LINES) (Err why.TooMany) _ (λ t. tt)
+    ok_if IsReading (length r.plan == PLAN_LINES) (Err why.TooMany) _ (λ t. tt)
     (λ f. record {
       settings = h.settings;
       endpoints = h.endpoints;
@@ -327,7 +324,7 @@ planned_in r n line h p =
       differ = h.differ;
     })
   where
-    one_more : {m : ℕ} (n : ℕ) → n ≤ MOST_LINES → (n == MOST_LINES) ≡ false → m ≡ n + 1 → m ≤ MOST_LINES
+    one_more : {m : ℕ} (n : ℕ) → n ≤ PLAN_LINES → (n == PLAN_LINES) ≡ false → m ≡ n + 1 → m ≤ PLAN_LINES
     one_more n le other is = grind (arith, nat_tests)
 
 plan_line_in : (r : Reading) (n : ℕ) (ws : List (List ℕ)) → IsReading r → IfOk (plan_line r n ws) IsReading

@@ -12,11 +12,12 @@ use Rattle.fh_document.specs.declared.refusals.DocWhy.TheVariants as why
 use Rattle.fh_document.specs.declared.keywords.Setting.{Setting}
 use Rattle.fh_document.specs.declared.keywords.Setting.TheVariants as setting
 use Rattle.fh_document.specs.Refusals.{or_refuse, ◌>>=◌}
-use Rattle.fh_document.specs.Words.{word_at, number_in}
+use Rattle.fh_document.specs.Words.{number_in}
 use Rattle.window_config.specs.declared.delays.TheConstants.{MOST_DELAY}
 use Rattle.fh_document.specs.declared.config_lines.TheConstants.{MOST_TRANSIT}
 use Rattle.delay_measure.specs.declared.stamps.TheConstants.{MOST_COMPENSATION}
-use Rattle.window_config.specs.declared.config.TheConstants.{MESSAGE_SECTIONS}
+use Rattle.window_config.specs.declared.config.TheConstants.{MESSAGE_SECTIONS, MOST_FRAGMENT, LEAST_FRAGMENT}
+use Rattle.text_lines.specs.Numbers.{word_at}
 
 -- the number that the i-th word spells, from low to high
 abbrev pub number_at : ℕ → ℕ → List (List ℕ) → ℕ → Result ℕ DocWhy
@@ -87,7 +88,7 @@ time_line ws = counted 2 ws (time_at 0 MOST_DELAY ws 1)
 
 -- `fragment BYTES`
 abbrev pub fragment_line : List (List ℕ) → Result ℕ DocWhy
-fragment_line ws = counted 2 ws (number_at 128 9000 ws 1)
+fragment_line ws = counted 2 ws (number_at LEAST_FRAGMENT MOST_FRAGMENT ws 1)
 
 -- `source SEED AMPLITUDE`, `antenna SEED AMPLITUDE`
 abbrev pub tone_line : List (List ℕ) → Result Tone DocWhy

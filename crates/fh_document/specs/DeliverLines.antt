@@ -8,12 +8,13 @@ use Rattle.fh_document.specs.declared.document.Reading.{Reading}
 use Rattle.fh_document.specs.declared.refusals.DocWhy.{DocWhy}
 use Rattle.fh_document.specs.declared.refusals.DocWhy.TheVariants as why
 use Rattle.fh_document.specs.Refusals.{or_refuse, ◌>>=◌}
-use Rattle.fh_document.specs.Words.{word_at, number_in}
+use Rattle.fh_document.specs.Words.{number_in}
 use Rattle.fh_document.specs.Delivered.{has_like}
 use Rattle.fh_document.specs.EndpointLines.{taking}
 use Rattle.fh_document.specs.InjectLines.{side_of}
 use Rattle.fh_document.specs.declared.config_lines.TheConstants.{MOST_TRANSIT}
 use Rattle.fh_document.specs.declared.deliver_lines.TheConstants.{MOST_NUMBER}
+use Rattle.text_lines.specs.Numbers.{word_at}
 
 -- frames of the C-plane, of the U-plane, and of delay measurement
 abbrev pub class_of : List ℕ → Option Class3

@@ -14,9 +14,11 @@ use Rattle.fh_document.specs.declared.document.Version.{Version}
 use Rattle.fh_document.specs.declared.refusals.DocWhy.{DocWhy}
 use Rattle.fh_document.specs.declared.refusals.DocWhy.TheVariants as why
 use Rattle.fh_document.specs.Refusals.{or_refuse, ◌>>=◌}
-use Rattle.fh_document.specs.Words.{word_at, number_in}
+use Rattle.fh_document.specs.Words.{number_in}
 use Rattle.fh_document.specs.Hex.{hex_of}
 use Rattle.fh_document.specs.Keywords.{is_two}
+use Rattle.text_lines.specs.Numbers.{word_at}
+use Rattle.fh_time.specs.declared.carrier.TheConstants.{CARRIER_PRBS}
 
 -- what follows on a value, and nothing where there is none
 abbrev pub taking : {A B : Type 0} → Option A → (A → Option B) → Option B
@@ -102,7 +104,7 @@ abbrev pub endpoint_of : Version → List (List ℕ) → Option EndpointConfig
 endpoint_of version ws =
     taking (hex_of 4 (word_at ws 1)) (λ id.
     taking (numerology_of version ws) (λ numerology.
-    taking (number_in 1 273 (word_at ws 4)) (λ prbs.
+    taking (number_in 1 CARRIER_PRBS (word_at ws 4)) (λ prbs.
     taking (dynamic_of (word_at ws 5)) (λ dynamic.
     taking (method_of (word_at ws 6)) (λ method.
     Some (record { id = id; numerology = numerology; prbs = prbs; format = record { dynamic = dynamic; method = method } }))))))

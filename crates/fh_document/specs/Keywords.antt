@@ -2,13 +2,13 @@
 use Rattle.std.specs.Prelude.{ℕ, List, Bool, true, false, Option, Some, None, if◌then◌else◌, codes}
 use Rattle.std.specs.Option.{option_map}
 use Rattle.std.specs.Str.{bytes_eq}
-use Rattle.fh_document.specs.Words.{word_at}
 use Rattle.fh_document.specs.declared.document.Version.{Version}
 use Rattle.fh_document.specs.declared.document.Version.TheVariants.{One, Two}
 use Rattle.fh_document.specs.declared.keywords.Setting.{Setting}
 use Rattle.fh_document.specs.declared.keywords.Setting.TheVariants.{Widths, T1a, T2a, Advance, Ta3, Ta4, T12, T34, Hold, Gap, Fragment, Source, Antenna, Comp, TransitDl, TransitUl, TransitM, Pack}
 use Rattle.fh_document.specs.declared.keywords.Keyword.{Keyword}
 use Rattle.fh_document.specs.declared.keywords.Keyword.TheVariants as keyword
+use Rattle.text_lines.specs.Numbers.{word_at}
 
 -- the grammar is that of `fronthaul 2`
 abbrev pub is_two : Version → Bool

@@ -12,7 +12,7 @@ use Rattle.fh_document.specs.declared.keywords.Keyword.TheVariants as keyword
 use Rattle.fh_document.specs.declared.refusals.DocWhy.{DocWhy}
 use Rattle.fh_document.specs.declared.refusals.DocWhy.TheVariants as why
 use Rattle.fh_document.specs.Refusals.{or_refuse, ◌>>=◌}
-use Rattle.fh_document.specs.Words.{is_text, words_of, word_at}
+use Rattle.fh_document.specs.Words.{is_text, words_of}
 use Rattle.fh_document.specs.Keywords.{keyword_of, rank_of, number_of}
 use Rattle.fh_document.specs.ConfigLines.{set_of, defaults}
 use Rattle.fh_document.specs.EndpointLines.{endpoint_line}
@@ -20,6 +20,7 @@ use Rattle.fh_document.specs.PlanLines.{plan_line}
 use Rattle.fh_document.specs.DeliverLines.{deliver_line}
 use Rattle.fh_document.specs.InjectLines.{inject_line}
 use Rattle.fh_document.specs.MeasureLines.{measure_line}
+use Rattle.text_lines.specs.Numbers.{word_at}
 
 -- before any line but the first
 abbrev pub start : Reading

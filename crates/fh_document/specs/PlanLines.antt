@@ -8,13 +8,14 @@ use Rattle.window_config.specs.declared.plan.PlanLine.{PlanLine}
 use Rattle.fh_document.specs.declared.document.Reading.{Reading}
 use Rattle.fh_document.specs.declared.refusals.DocWhy.{DocWhy}
 use Rattle.fh_document.specs.declared.refusals.DocWhy.TheVariants as why
-use Rattle.fh_document.specs.declared.plan_lines.TheConstants.{MOST_LINES}
+use Rattle.window_config.specs.declared.plan.TheConstants.{PLAN_LINES}
 use Rattle.fh_document.specs.Refusals.{or_refuse, ◌>>=◌}
-use Rattle.fh_document.specs.Words.{word_at, number_in}
+use Rattle.fh_document.specs.Words.{number_in}
 use Rattle.fh_document.specs.Hex.{hex_of}
 use Rattle.fh_document.specs.ConfigLines.{counted}
 use Rattle.fh_document.specs.EndpointLines.{taking}
 use Rattle.window_config.specs.declared.plan.TheConstants.{LAST_FRAME}
+use Rattle.text_lines.specs.Numbers.{word_at}
 
 -- downlink data, uplink data, or downlink resources that stay idle
 abbrev pub plan_kind_of : List ℕ → Option PlanKind
@@ -67,10 +68,10 @@ plan_of ws =
       beam = section.1;
     }))))))))
 
--- one line more, with its number in the document, where there are fewer than MOST_LINES
+-- one line more, with its number in the document, where there are fewer than PLAN_LINES
 abbrev pub planned : Reading → ℕ → PlanLine → Result Reading DocWhy
 planned r n line =
-    if length r.plan == MOST_LINES then Err why.TooMany
+    if length r.plan == PLAN_LINES then Err why.TooMany
     else Ok (record r { plan = r.plan ++ line ∷ []; plan_lines = r.plan_lines ++ n ∷ [] })
 
 abbrev pub plan_line : Reading → ℕ → List (List ℕ) → Result Reading DocWhy

@@ -13,7 +13,7 @@ use Rattle.fh_document.specs.declared.document.Injection.{Injection}
 use Rattle.fh_document.specs.declared.document.Measure.{Measure}
 use Rattle.fh_document.specs.declared.document.Document.{Document}
 use Rattle.fh_base.specs.declared.source.TheConstants.{FRAME_LIMIT}
-use Rattle.fh_document.specs.declared.plan_lines.TheConstants.{MOST_LINES}
+use Rattle.window_config.specs.declared.plan.TheConstants.{PLAN_LINES}
 use Rattle.fh_document.specs.Delivered.{has_like}
 use Rattle.fh_document.specs.DeliverLines.{least_of}
 use Rattle.fh_time.specs.declared.nanoseconds.TheConstants.{LAST_TIME}
@@ -84,7 +84,7 @@ pub record IsDocument (d : Document) : Type 0 where
   pub config : IsConfig d.config
   pub ids : All (λ (e : EndpointConfig). e.id < 2 ^ 16) d.config.endpoints
   pub plan : All IsPlanLine d.plan
-  pub few : length d.plan ≤ MOST_LINES
+  pub few : length d.plan ≤ PLAN_LINES
   pub numbered : length d.plan_lines ≡ length d.plan
   pub source : IsTone d.source
   pub antenna : IsTone d.antenna

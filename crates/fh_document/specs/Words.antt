@@ -1,10 +1,10 @@
 -- Lines, words and decimal numbers of a text.
-use Rattle.std.specs.Prelude.{ℕ, ◌-◌, List, [], length, take, Bool, ◌&&◌, nat_lt, nat_le, ◌==◌, Option, Some, None, if◌then◌else◌, filter, slice_index, ◌+◌}
+use Rattle.std.specs.Prelude.{ℕ, ◌-◌, List, [], length, take, Bool, ◌&&◌, nat_lt, nat_le, ◌==◌, Option, if◌then◌else◌, filter, slice_index, ◌+◌}
 use Rattle.std.specs.Borrow.{Bor}
 use Rattle.std.specs.Option.{option_map_or}
-use Rattle.std.specs.List.{slice_split, slice_index_or, list_all}
-use Rattle.std.specs.Str.Parse.{digits_value}
+use Rattle.std.specs.List.{slice_split, list_all}
 use Rattle.fh_document.specs.declared.words.TheConstants.{MOST_DIGITS}
+use Rattle.text_lines.specs.Numbers.{number_in as number_within}
 
 -- the text without a last line feed
 abbrev pub without_last_feed : List ℕ → List ℕ
@@ -14,23 +14,13 @@ without_last_feed text = if slice_index text (length text - 1) == 10 then take (
 abbrev pub words_of : List ℕ → List (List ℕ)
 words_of line = filter (λ w. nat_lt 0 (length w)) (slice_split (λ b. b == 32) line)
 
--- the i-th word, or the empty one
-abbrev pub word_at : List (List ℕ) → ℕ → List ℕ
-word_at ws i = slice_index_or ws i []
-
 -- printable ASCII
 abbrev pub is_text : List ℕ → Bool
 is_text = list_all (λ b. nat_le 32 b && nat_le b 126)
 
-abbrev pub is_decimal : List ℕ → Bool
-is_decimal = list_all (λ b. nat_le 48 b && nat_le b 57)
-
 -- a number of 1 to MOST_DIGITS decimal digits, from low to high
 abbrev pub number_in : ℕ → ℕ → List ℕ → Option ℕ
-number_in low high w =
-    if nat_lt 0 (length w) && (nat_le (length w) MOST_DIGITS && (is_decimal w
-    && (nat_le low (digits_value 10 w) && nat_le (digits_value 10 w) high)))
-    then Some (digits_value 10 w) else None
+number_in low high w = number_within MOST_DIGITS low high w
 
 -- what is left of a text, cut at a separator; nothing where nothing is left
 abbrev pub parts_left : ℕ → Option (Bor (List ℕ)) → List (List ℕ)

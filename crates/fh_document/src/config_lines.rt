@@ -9,7 +9,7 @@ use crate::words::{Words, number_in};
 use delay_measure::MOST_COMPENSATION;
 use eaxc_map::Widths;
 use tone_source::Tone;
-use window_config::{Delays, MESSAGE_SECTIONS, MOST_DELAY, Range};
+use window_config::{Delays, LEAST_FRAGMENT, MESSAGE_SECTIONS, MOST_DELAY, MOST_FRAGMENT, Range};
 
 /// The greatest time on the way, in nanoseconds.
 pub const MOST_TRANSIT: u64 = 3_000_000_000;
@@ -127,7 +127,7 @@ fn fragment_line(words: &Words<'_>) -> Result<usize, DocWhy>
     if words.len() != 2 {
         return Err(DocWhy::Words);
     }
-    let bytes = number_at(words, 1, 128, 9_000)?;
+    let bytes = number_at(words, 1, LEAST_FRAGMENT as u64, MOST_FRAGMENT as u64)?;
     Ok(bytes as usize)
 }
 

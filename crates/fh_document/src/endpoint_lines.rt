@@ -9,7 +9,7 @@ use crate::hex::hex4;
 use crate::keywords::is_two;
 use crate::refusals::DocWhy;
 use crate::words::{Words, number_in, short_in};
-use fh_time::Numerology;
+use fh_time::{CARRIER_PRBS, Numerology};
 use window_config::EndpointConfig;
 use window_config::bfp_codec::{Format, Method};
 
@@ -163,7 +163,7 @@ fn endpoint_of(version: Version, words: &Words<'_>) -> Option<EndpointConfig>
 {
     let id = hex4(words.word(1))?;
     let numerology = numerology_of(version, words)?;
-    let prbs = number_in(words.word(4), 1, 273)?;
+    let prbs = number_in(words.word(4), 1, u64::from(CARRIER_PRBS))?;
     let dynamic = dynamic_of(words.word(5))?;
     let method = method_of(words.word(6))?;
     Some(EndpointConfig {

@@ -8,10 +8,7 @@ use crate::hex::{hex3, hex4};
 use crate::refusals::{DocWhy, LineFault};
 use crate::words::{Words, byte_in, number_in, short_in};
 use fh_time::Slot;
-use window_config::{LAST_FRAME, PlanKind, PlanLine};
-
-/// The most lines that a plan has.
-const MOST_LINES: usize = 65_536;
+use window_config::{LAST_FRAME, PLAN_LINES, PlanKind, PlanLine};
 
 fn plan_kind_of(word: &[u8]) -> Option<PlanKind>
     ensures { result ≡ plan_kind_of word.now }
@@ -97,7 +94,7 @@ fn plan_of(words: &Words<'_>) -> Option<PlanLine>
 fn add(reading: &mut Reading, n: usize, line: PlanLine) -> Result<(), LineFault>
     ensures { Reads (planned reading.old n line) result reading.new }
 {
-    if reading.plan.len() == MOST_LINES {
+    if reading.plan.len() == PLAN_LINES {
         return Err(LineFault::Why(DocWhy::TooMany));
     }
     match (reading.plan.push(line), reading.plan_lines.push(n)) {

@@ -1,7 +1,8 @@
 // The words of a line, and the numbers that they spell.
 ghost use Rattle.std.specs.Prelude.{◌≡◌, ◌==◌, ℕ, ◌^◌, ◌<◌, ◌≤◌, ◌∷◌, length, IfSome, List};
 ghost use Rattle.std.specs.List.{slice_split};
-ghost use Rattle.fh_document.specs.Words.{words_of, word_at, number_in, is_text, without_last_feed, parts_left};
+ghost use Rattle.fh_document.specs.Words.{words_of, number_in, is_text, without_last_feed, parts_left};
+ghost use Rattle.text_lines.specs.Numbers.{word_at};
 
 use arrayvec::ArrayVec;
 use memchr::memchr;
@@ -51,20 +52,7 @@ pub(crate) fn number_in(word: &[u8], low: u64, high: u64) -> Option<u64>
     ensures value { result ≡ number_in low high word.now }
     ensures within { IfSome result (λ n. (low ≤ n) × (n ≤ high) × (n < 10 ^ MOST_DIGITS)) }
 {
-    if word.is_empty() || word.len() > MOST_DIGITS {
-        return None;
-    }
-    let mut n: u64 = 0;
-    for b in word {
-        if *b < b'0' || *b > b'9' {
-            return None;
-        }
-        n = n * 10 + u64::from(*b - b'0');
-    }
-    if n < low || n > high {
-        return None;
-    }
-    Some(n)
+    text_lines::number_in(word, MOST_DIGITS, low, high)
 }
 
 /// The same as a number of 8 bits.

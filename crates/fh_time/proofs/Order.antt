@@ -16,7 +16,7 @@ use Rattle.fh_time.specs.Kinds.{kind_start, kind_slots, kind_symbols, kind_least
 use Rattle.fh_time.specs.Numbering.{slots_of, symbols_of, slot_number, IsSlotOf}
 use Rattle.fh_time.specs.Air.{air_of, least_slot_of, span_of, AreApart}
 use Rattle.fh_time.specs.declared.frames.TheConstants.{FRAME}
-use Rattle.fh_time.specs.declared.symbols.TheConstants.{SLOT_SYMBOLS}
+use Rattle.fh_time.specs.declared.symbols.TheConstants.{SLOT_SYMBOLS, SUBFRAME}
 
 -- a longer symbol that is before a symbol is before each later one
 longer_order : (symbol i j : ℕ) → i ≤ j → longer_before symbol i ≤ longer_before symbol j
@@ -37,7 +37,7 @@ normal_later (suc (suc (suc (suc (suc u))))) s t i j x y p q h o e f a b = absur
 
 -- and all that are left fit into the subframe
 normal_left : (u s i x p : ℕ) → u ≤ 4 → s < 2 ^ u → i ≡ SLOT_SYMBOLS * s → x ≤ 800000 → p ≤ 800000
-    → ticks_of_ts (i * 2192) / 2 ^ u + x + p + (2 ^ u - s) * (ticks_of_ts (SLOT_SYMBOLS * 2192) / 2 ^ u) ≤ 1536000000
+    → ticks_of_ts (i * 2192) / 2 ^ u + x + p + (2 ^ u - s) * (ticks_of_ts (SLOT_SYMBOLS * 2192) / 2 ^ u) ≤ SUBFRAME
 normal_left zero s i x p h o e a b = omega arith
 normal_left (suc zero) s i x p h o e a b = omega arith
 normal_left (suc (suc zero)) s i x p h o e a b = omega arith
@@ -62,7 +62,7 @@ spacing_later spacing s t i j o e f =
     (longer_order 0 i j (omega arith)) (longer_order (7 * 2 ^ exponent_of spacing) i j (omega arith))
 
 spacing_left : (spacing : Spacing) (s i : ℕ) → s < 2 ^ exponent_of spacing → i ≡ SLOT_SYMBOLS * s
-    → normal_start (exponent_of spacing) i + (2 ^ exponent_of spacing - s) * (ticks_of_ts (SLOT_SYMBOLS * 2192) / 2 ^ exponent_of spacing) ≤ 1536000000
+    → normal_start (exponent_of spacing) i + (2 ^ exponent_of spacing - s) * (ticks_of_ts (SLOT_SYMBOLS * 2192) / 2 ^ exponent_of spacing) ≤ SUBFRAME
 spacing_left spacing s i o e =
     normal_left (exponent_of spacing) s i _ _ (exponent_small spacing) o e (longer_most 0 i) (longer_most (7 * 2 ^ exponent_of spacing) i)
 
@@ -84,7 +84,7 @@ kind_later (Offset spacing time_offset cp_length) s t o =
 kind_later Extended s t o = omega arith
 
 pub kind_left : (kind : Kind) (s : ℕ) → s < kind_slots kind
-    → kind_start kind s 0 + (kind_slots kind - s) * kind_least_slot kind ≤ 1536000000 + kind_start kind 0 0
+    → kind_start kind s 0 + (kind_slots kind - s) * kind_least_slot kind ≤ SUBFRAME + kind_start kind 0 0
 kind_left (Ordinary spacing) s o = at_most_more _ (spacing_left spacing s (SLOT_SYMBOLS * s + 0) o (omega arith))
   where
     at_most_more : {a b : ℕ} (c : ℕ) → a ≤ b → a ≤ b + c
@@ -154,8 +154,8 @@ three_parts : (m n k t l : ℕ) → (m * n + k + t) * l ≡ m * (n * l) + k * l 
 three_parts m n k t l = grind arith
 
 -- so many slots later, in the same subframe or in the m-th after it
-steps : (m n l s t o p r d : ℕ) → s < n → (s ≤ t → o + (t - s) * l ≤ p) → o + (n - s) * l ≤ 1536000000 + r → r + t * l ≤ p
-    → n * l ≤ 1536000000 → m * n + t ≡ s + d → o + d * l ≤ m * 1536000000 + p
+steps : (m n l s t o p r d : ℕ) → s < n → (s ≤ t → o + (t - s) * l ≤ p) → o + (n - s) * l ≤ SUBFRAME + r → r + t * l ≤ p
+    → n * l ≤ SUBFRAME → m * n + t ≡ s + d → o + d * l ≤ m * SUBFRAME + p
 steps zero n l s t o p r d below same left first whole e =
     let later : s ≤ t = omega arith in
     let d_is : d ≡ t - s = omega arith in
@@ -163,7 +163,7 @@ steps zero n l s t o p r d below same left first whole e =
 steps (suc m) n l s t o p r d below same left first whole e =
     let more : suc m * n ≡ m * n + n = grind arith in
     let d_is : d ≡ m * n + (n - s) + t = omega arith in
-    let grow : m * (n * l) ≤ m * 1536000000 = mul-le-mul_left m whole in
+    let grow : m * (n * l) ≤ m * SUBFRAME = mul-le-mul_left m whole in
     rw d_is (rw (three_parts m n (n - s) t l) (omega arith))
 
 from_first : (a n l b : ℕ) → a + (n - 0) * l ≤ b → a + n * l ≤ b
@@ -171,7 +171,7 @@ from_first a n l b h =
     let all : n - 0 ≡ n = omega arith in
     rw all at h
 
-whole_subframe : (kind : Kind) → kind_slots kind * kind_least_slot kind ≤ 1536000000
+whole_subframe : (kind : Kind) → kind_slots kind * kind_least_slot kind ≤ SUBFRAME
 whole_subframe kind =
     let left = from_first _ _ _ _ (kind_left kind 0 (kind_has_slots kind)) in
     grind arith
@@ -191,8 +191,8 @@ not_back m n s t d h e =
     let more : suc m * n ≡ m * n + n = grind arith in
     omega (arith, ints)
 
-in_air : (f g : ℤ) (s t o p m k : ℕ) → g *ℤ pos 10 +ℤ pos t ≡ f *ℤ pos 10 +ℤ pos s +ℤ pos m → o + k ≤ m * 1536000000 + p
-    → (f *ℤ FRAME +ℤ pos (s * 1536000000 + o) +ℤ pos k) ≤ℤ (g *ℤ FRAME +ℤ pos (t * 1536000000 + p))
+in_air : (f g : ℤ) (s t o p m k : ℕ) → g *ℤ pos 10 +ℤ pos t ≡ f *ℤ pos 10 +ℤ pos s +ℤ pos m → o + k ≤ m * SUBFRAME + p
+    → (f *ℤ FRAME +ℤ pos (s * SUBFRAME + o) +ℤ pos k) ≤ℤ (g *ℤ FRAME +ℤ pos (t * SUBFRAME + p))
 in_air f g s t o p m k e h = omega (arith, ints)
 
 -- a slot that is so many later starts so many shortest slots later, or more

@@ -1,13 +1,11 @@
 -- Orders of numbers, and the tests of them.
-use Rattle.std.proofs.Common.{◌≡◌, Bool, true, false, not, refl, ℕ, ◌≤◌, arith, ◌<◌, ℤ, pos, ◌+◌, ◌+ℤ◌, ◌-ℤ◌, ◌≤ℤ◌, ◌<ℤ◌, ◌==◌, ◌&&◌, int_le, ◌||◌, ◌*◌, ◌^◌, add-one}
-use Rattle.std.specs.Prelude.{nat_lt, nat_le, ◌||◌, int_lt, int_le, if◌then◌else◌, ◌==◌, ◌&&◌}
+use Rattle.std.proofs.Common.{◌≡◌, Bool, true, false, not, refl, ℕ, ◌≤◌, arith, ◌<◌, ℤ, pos, ◌+◌, ◌+ℤ◌, ◌-ℤ◌, ◌≤ℤ◌, ◌<ℤ◌, ◌==◌, ◌&&◌, int_le, ◌||◌}
+use Rattle.std.specs.Prelude.{nat_lt, nat_le, ◌||◌, int_lt, int_le, if◌then◌else◌, ◌==◌, ◌&&◌, eqb}
 use Rattle.std.proofs.lemmas.Bool.Decides.{nat_tests, Decides-int_eq}
 use Rattle.std.proofs.lemmas.Int.{ints}
 use Rattle.std.specs.Ordering.{int_eq, nat_cmp, is_gt, int_cmp}
 use Rattle.std.proofs.lemmas.Bool.{false_from_ne_true}
 use Rattle.std.specs.declared.cmp.Ordering.TheVariants.{Less}
-use Rattle.std.proofs.lemmas.Nat.{mul-add-lt}
-use Rattle.std.proofs.Math.Nat.{pow-succ'}
 
 pub is_false : (b : Bool) → not b ≡ true → b ≡ false
 is_false true e = absurd cc
@@ -190,9 +188,6 @@ nat_less x y h = grind (arith, nat_tests)
 pub int_less : (x y : ℤ) → x <ℤ y → int_cmp x y ≡ Less
 int_less x y h = grind (arith, ints, nat_tests)
 
-pub push_fits : (radix i n d : ℕ) → n < radix ^ i → d < radix → n * radix + d < radix ^ (i + 1)
-push_fits radix i n d small digit = rw (add-one, pow-succ' radix i) (omega (arith, mul-add-lt n radix d (radix ^ i) small digit))
-
 pub left_true : (a b : Bool) → (a && b) ≡ true → a ≡ true
 left_true true b e = refl
 left_true false b e = absurd (cc e)
@@ -206,3 +201,20 @@ both_true a b e f = rw (e, f) refl
 
 pub below : (x y z : ℤ) → x <ℤ y → y ≤ℤ z → x <ℤ z
 below x y z h g = omega (arith, ints)
+
+pub pos_same : (m n : ℕ) → pos m ≡ pos n → m ≡ n
+pos_same m n e = omega (arith, ints, e)
+
+pub nat_own : (n : ℕ) → (n == n) ≡ true
+nat_own n = grind (arith, nat_tests)
+
+pub and_none : (a : ℤ) → (a +ℤ pos 0) ≡ a
+and_none a = omega (arith, ints)
+
+pub bit_test : (b : Bool) → eqb (if b then 1 else 0) 1 ≡ b
+bit_test true = refl
+bit_test false = refl
+
+pub if_not : {A : Type 0} (b : Bool) (x y : A) → b ≡ false → (if b then x else y) ≡ y
+if_not true x y e = absurd (cc e)
+if_not false x y e = refl

@@ -4,10 +4,11 @@ use Rattle.fh_time.specs.declared.numerology.Numerology.{Numerology}
 use Rattle.fh_time.specs.declared.values.Slot.{Slot}
 use Rattle.fh_time.specs.Kinds.{kind_start, kind_least_slot, kind_span}
 use Rattle.fh_time.specs.declared.frames.TheConstants.{FRAME}
+use Rattle.fh_time.specs.declared.symbols.TheConstants.{SUBFRAME}
 
 -- the air time of a symbol: a frame is 10 ms, a subframe 1 ms (3GPP TS 38.211, 4.3.1)
 abbrev pub air_of : Numerology → Slot → ℕ → ℤ
-air_of n slot symbol = slot.frame *ℤ FRAME +ℤ pos (slot.subframe * 1536000000 + kind_start n.kind slot.slot symbol)
+air_of n slot symbol = slot.frame *ℤ FRAME +ℤ pos (slot.subframe * SUBFRAME + kind_start n.kind slot.slot symbol)
 
 -- the least time from one slot's start to another's, and a time after a slot's symbol 0 at which its last symbol has started
 abbrev pub least_slot_of : Numerology → ℕ

@@ -6,6 +6,9 @@ use crate::values::Ticks;
 /// The ticks of a frame, which is 10 ms.
 pub const FRAME: i64 = 15_360_000_000;
 
+/// Half of the time in which each frameId comes once, which is 1.28 s.
+pub const HALF_CYCLE: i64 = 1_966_080_000_000;
+
 /// The absolute frame that a frameId means at a time: the one frame with these low 8 bits whose start lies from 1.28 s
 /// before the time to less than 1.28 s after it. It may be negative.
 pub fn resolve(frame_id: u8, at: Ticks) -> i64

@@ -12,11 +12,11 @@ mod spacing;
 mod symbols;
 mod values;
 
-pub use carrier::prb_span;
-pub use frames::{FRAME, resolve};
-pub use nanoseconds::{END_OF_TIME, LAST_TIME, of_ns};
+pub use carrier::{CARRIER_PRBS, prb_span};
+pub use frames::{FRAME, HALF_CYCLE, resolve};
+pub use nanoseconds::{END_OF_TIME, LAST_TIME, NANOSECOND, of_ns};
 pub use numerology::Numerology;
 pub use shapes::{code, offsets, shape};
 pub use slots::{least_slot, slot_after, span};
-pub use symbols::{SLOT_SYMBOLS, air};
+pub use symbols::{SLOT_SYMBOLS, SUBFRAME, air};
 pub use values::{Shape, Slot, Ticks};

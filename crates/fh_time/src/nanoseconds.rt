@@ -1,6 +1,10 @@
 ghost use Rattle.std.specs.Prelude.{◌≡◌, pos, neg_ℤ, ◌^◌, ◌≤ℤ◌, ◌*ℤ◌};
+ghost use Rattle.fh_time.specs.declared.nanoseconds.TheConstants.{NANOSECOND};
 
 use crate::values::Ticks;
+
+/// The ticks of a nanosecond.
+pub const NANOSECOND: u64 = 1_536;
 
 /// The latest time that a document or a capture names, 1,000 s, in nanoseconds.
 pub const LAST_TIME: u64 = 1_000_000_000_000;
@@ -12,7 +16,7 @@ pub const END_OF_TIME: u64 = 1_689_600_000_000_000;
 pub fn of_ns(ns: i64) -> Ticks
     requires low { neg_ℤ (pos (2 ^ 50)) ≤ℤ ns }
     requires high { ns ≤ℤ pos (2 ^ 50) }
-    ensures { result.0 ≡ ns *ℤ pos 1536 }
+    ensures { result.0 ≡ ns *ℤ pos NANOSECOND }
 {
-    Ticks(ns * 1536)
+    Ticks(ns * NANOSECOND as i64)
 }

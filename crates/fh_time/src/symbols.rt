@@ -5,6 +5,7 @@ ghost use Rattle.fh_time.specs.Frame.{frame_start};
 ghost use Rattle.fh_time.specs.Kinds.{kind_slots, kind_symbols, kind_start};
 ghost use Rattle.fh_time.specs.Numbering.{slots_of, symbols_of};
 ghost use Rattle.fh_time.specs.Symbols.{longer_before, normal_start, prefixed, ticks_of_ts};
+ghost use Rattle.fh_time.specs.declared.symbols.TheConstants.{SUBFRAME};
 
 use crate::frames::FRAME;
 use crate::kind::Kind;
@@ -19,7 +20,7 @@ pub const SLOT_SYMBOLS: usize = 14;
 const TS: u64 = 50_000;
 
 /// The ticks of a subframe, which is 1 ms.
-const SUBFRAME: u64 = 1_536_000_000;
+pub const SUBFRAME: u64 = 1_536_000_000;
 
 /// The ticks of a symbol at 15 kHz, and what the first of each half of a subframe has more at every spacing.
 pub(crate) const SYMBOL: u64 = 2_192 * 50_000;
@@ -48,7 +49,7 @@ fn time_between(u: u8, from: u32, to: u32) -> u64
     requires order { from ≤ to }
     requires within { to ≤ SLOT_SYMBOLS * 2 ^ u }
     ensures value { normal_start u from + result ≡ normal_start u to }
-    ensures small { result ≤ 1536000000 }
+    ensures small { result ≤ SUBFRAME }
 {
     let each = SYMBOL >> u;
     (to - from) as u64 * each + longer_between(0, from, to) + longer_between(7 << u, from, to)

@@ -6,7 +6,7 @@ use Rattle.ecpri_fragments.specs.Generations.{Fragment, Generation, is_of, begun
 use Rattle.fragment_laws.specs.Apart.{IsIn, Numbers, number_of, of_message, AreApart}
 use Rattle.fh_time.proofs.Orders.{true_le as le_true, and_false}
 
-lt_false : (a b : ℤ) → b <ℤ a → int_le a b ≡ false
+pub lt_false : (a b : ℤ) → b <ℤ a → int_le a b ≡ false
 lt_false a b lt = grind (arith, ints)
 
 -- the earlier fragments are apart too

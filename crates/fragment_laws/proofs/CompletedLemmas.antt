@@ -3,11 +3,11 @@ use Rattle.std.proofs.Common.{◌≡◌, ℕ, ℤ, ◌⊎◌, inl, inr, List, []
 use Rattle.std.proofs.lemmas.Bool.{cases_Bool}
 use Rattle.ecpri_fragments.specs.Generations.{Fragment}
 use Rattle.ecpri_fragments.specs.declared.verdict.Verdict.{Verdict}
-use Rattle.ecpri_fragments.specs.Verdicts.{Message, message, standing_before, verdict_on}
+use Rattle.ecpri_fragments.specs.Verdicts.{Message, message, standing_before, verdict_on, whole_of, whole_now}
 use Rattle.ecpri_fragments.specs.declared.verdict.Verdict.TheVariants.{Stored, Whole, Repeat, Stray, TooLong}
 use Rattle.fragment_laws.specs.Apart.{IsIn, Numbers, number_of}
 use Rattle.fragment_laws.specs.Flow.{Flow, Bounds, IsSound, numbers_of, IsDelivered}
-use Rattle.fragment_laws.specs.Once.{Answered, answers, Completed, whole_of, whole_now, with_whole, wholes, numbered, AreTheSent}
+use Rattle.fragment_laws.specs.Once.{Answered, answers, Completed, with_whole, wholes, numbered, AreTheSent}
 use Rattle.fragment_laws.proofs.FlowLemmas.{copy}
 use Rattle.fragment_laws.proofs.OnceLemmas.{once_whole}
 

@@ -6,9 +6,7 @@ use Rattle.ecpri_fragments.specs.Generations.{Fragment}
 use Rattle.fragment_laws.specs.Apart.{IsIn, number_of, AreApart}
 use Rattle.fragment_laws.specs.Flow.{Flow, Bounds, sent_at, IsSound, search_from, numbers_of, IsCopyOf, IsDelivered}
 use Rattle.fh_time.proofs.Orders.{true_le as le_true}
-
-lt_false : (a b : ℤ) → b <ℤ a → int_le a b ≡ false
-lt_false a b lt = grind (arith, ints)
+use Rattle.fragment_laws.proofs.ApartLemmas.{lt_false}
 
 module _ (b : Bounds) (t : Flow) (v : IsSound b t) where
   pub sent_from : (j sub : ℕ) → t.low j ≤ℤ sent_at t j sub

@@ -11,6 +11,7 @@ use Rattle.fragment_laws.specs.Apart.{IsIn, IsFalling}
 use Rattle.fragment_laws.specs.Flow.{size_to}
 use Rattle.fragment_laws.specs.Once.{Answered, answered, texts}
 use Rattle.fragment_laws.proofs.SumLemmas.{sum_to, sum_to-same, sum_to-add, sum_to-one, sum_to-zero}
+use Rattle.ecpri_fragments.specs.declared.place.TheConstants.{MESSAGE_BYTES}
 
 -- a copy of a fragment of a message with n of them, whose bytes are these
 pub record IsPiece (n : ℕ) (text : ℕ → List ℕ) (a : Fragment) : Type 0 where
@@ -205,7 +206,7 @@ module _ (n : ℕ) (text : ℕ → List ℕ) where
     pub sum : size st ≡ sizes st
     pub like : Like st held
 
-  module _ (m : ℕ) (some : n ≡ suc m) (short : size_to text n ≤ 16384) where
+  module _ (m : ℕ) (some : n ≡ suc m) (short : size_to text n ≤ MESSAGE_BYTES) where
     repeat_one : (x y z : Bool) → x ≡ true → cond x (Some Repeat) (cond y (Some Stray) (cond z (Some TooLong) None)) ≡ Some Repeat
     repeat_one x y z e = rw e refl
 
@@ -216,7 +217,7 @@ module _ (n : ℕ) (text : ℕ → List ℕ) where
     or_right true b e = refl
     or_right false b e = e
 
-    fits : (a : Fragment) (s : List Fragment) → IsPiece n text a → size s ≡ sizes s → stands s a.sub ≡ false → nat_lt 16384 (size s + length a.bytes) ≡ false
+    fits : (a : Fragment) (s : List Fragment) → IsPiece n text a → size s ≡ sizes s → stands s a.sub ≡ false → nat_lt MESSAGE_BYTES (size s + length a.bytes) ≡ false
     fits a s p sum new =
         let more = sizes-more a s p new in
         let most = sizes-most (a ∷ s) n in
@@ -227,14 +228,14 @@ module _ (n : ℕ) (text : ℕ → List ℕ) where
     refused_is a held st p ps s =
         let of : ArePieces n text st = λ b w. ps b (s.within b w) in
         elim (cases_Bool (stands held a.sub)) [
-          | inl stood ↦ rw stood (repeat_one _ (is_stray st a) (nat_lt 16384 (size st + length a.bytes)) (or_right (is_whole st) (stands st a.sub) (s.same a.sub ∙ stood)))
+          | inl stood ↦ rw stood (repeat_one _ (is_stray st a) (nat_lt MESSAGE_BYTES (size st + length a.bytes)) (or_right (is_whole st) (stands st a.sub) (s.same a.sub ∙ stood)))
           | inr new ↦
               let fresh : stands st a.sub ≡ false = s.same a.sub ∙ new in
               let open_yet : is_whole st ≡ false = elim (cases_Bool (is_whole st)) [
                 | inr not ↦ not
                 | inl whole ↦ (let there = all_stand-at n a.sub st (sym (is_whole-all m st of some) ∙ whole) p.sub in absurd (let x = sym there ∙ fresh in cc))
               ] in
-              rw new (none_one (is_whole st || stands st a.sub) (is_stray st a) (nat_lt 16384 (size st + length a.bytes)) (or_from _ _ open_yet fresh) (never_stray a st p of) (fits a st p s.sum fresh))
+              rw new (none_one (is_whole st || stands st a.sub) (is_stray st a) (nat_lt MESSAGE_BYTES (size st + length a.bytes)) (or_from _ _ open_yet fresh) (never_stray a st p of) (fits a st p s.sum fresh))
         ]
 
     stands_again : (a : Fragment) (held st : List Fragment) → IsStanding held st → stands held a.sub ≡ true → IsStanding (a ∷ held) st
@@ -325,7 +326,7 @@ oldest (a ∷ c ∷ s) h b m =
       | inr there ↦ before b there
     ]
 
-module _ (n : ℕ) (text : ℕ → List ℕ) (m : ℕ) (some : n ≡ suc m) (short : size_to text n ≤ 16384) where
+module _ (n : ℕ) (text : ℕ → List ℕ) (m : ℕ) (some : n ≡ suc m) (short : size_to text n ≤ MESSAGE_BYTES) where
   was : (a : Fragment) (held : List Fragment) (v : Verdict) → verdict (standing held) a ≡ v → (x : Answered) → x ≡ answered (standing held) a → x.was ≡ v
   was a held v e x f = ap (λ (y : Answered). y.was) f ∙ e
 

@@ -2,6 +2,7 @@
 use Rattle.std.specs.Prelude.{◌≡◌, ◌==◌, ◌&&◌, ◌⊎◌, ℕ, zero, suc, ℤ, pos, ◌+ℤ◌, ◌-ℤ◌, ◌≤ℤ◌, ◌<ℤ◌, ◌+◌, ◌*◌, ◌%◌, ◌<◌, ◌≤◌, min, int_le, if◌then◌else◌, List, length}
 use Rattle.ecpri_fragments.specs.Generations.{Fragment}
 use Rattle.fragment_laws.specs.Apart.{IsIn, Numbers, number_of, IsFalling, AreApart}
+use Rattle.ecpri_fragments.specs.declared.place.TheConstants.{MESSAGE_BYTES}
 
 pub record Flow : Type 0 where
   -- how many messages there are, and how many fragments each has
@@ -40,7 +41,7 @@ pub record IsSound (b : Bounds) (f : Flow) : Type 0 where
   pub rising : (j k : ℕ) → j ≤ k → k < f.count → f.low j ≤ℤ f.low k
   pub not_dense : (j : ℕ) → j + 256 < f.count → IsDistant b f j (j + 256)
   pub some : (j : ℕ) → j < f.count → 0 < f.pieces j
-  pub short : (j : ℕ) → j < f.count → size_to (f.text j) (f.pieces j) ≤ 16384
+  pub short : (j : ℕ) → j < f.count → size_to (f.text j) (f.pieces j) ≤ MESSAGE_BYTES
 
 -- of n messages from number `from` on, the first of this id whose fragments may still come at this time
 unfoldable pub search_from : Bounds → Flow → ℕ → ℤ → ℕ → ℕ → ℕ

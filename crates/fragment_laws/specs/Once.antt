@@ -2,8 +2,8 @@
 use Rattle.std.specs.Prelude.{◌≡◌, ◌==◌, ◌&&◌, ◌⊎◌, ℕ, zero, suc, ℤ, ◌+ℤ◌, ◌≤ℤ◌, ◌+◌, ◌<◌, if◌then◌else◌, List, [], ◌∷◌, ◌++◌, Option, Some, None}
 use Rattle.ecpri_fragments.specs.Generations.{Fragment}
 use Rattle.ecpri_fragments.specs.declared.verdict.Verdict.{Verdict}
-use Rattle.ecpri_fragments.specs.Verdicts.{stands, all_stand, Message, verdict, verdict_on, message, standing_before, first_of}
-use Rattle.ecpri_fragments.specs.declared.verdict.Verdict.TheVariants.{Stored, Whole, Repeat, Stray, TooLong}
+use Rattle.ecpri_fragments.specs.Verdicts.{stands, all_stand, Message, verdict, verdict_on, message, standing_before, first_of, whole_now}
+use Rattle.ecpri_fragments.specs.declared.verdict.Verdict.TheVariants.{Stored, Whole, Repeat}
 use Rattle.fragment_laws.specs.Apart.{IsIn, Numbers, number_of, of_message}
 use Rattle.fragment_laws.specs.Flow.{Flow, Bounds, sent_at, IsSound, numbers_of, IsDelivered}
 
@@ -63,17 +63,6 @@ EachIsTold = (b : Bounds) (flow : ℕ → Flow) → ((ep : ℕ) → IsSound b (f
 pub record Completed : Type 0 where
   pub by : Fragment
   pub message : Message
-
--- the message that a fragment makes whole, where it does, as `unit_model` has it
-abbrev pub whole_of : Verdict → Fragment → List Fragment → Option Message
-whole_of Stored f stood = None
-whole_of Whole f stood = Some (message (f ∷ stood))
-whole_of Repeat f stood = None
-whole_of Stray f stood = None
-whole_of TooLong f stood = None
-
-abbrev pub whole_now : ℤ → Fragment → List Fragment → Option Message
-whole_now hold f earlier = whole_of (verdict_on hold f earlier) f (standing_before hold f earlier)
 
 abbrev pub with_whole : Fragment → Option Message → List Completed → List Completed
 with_whole a None ms = ms

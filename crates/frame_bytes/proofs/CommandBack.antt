@@ -3,7 +3,7 @@ use Rattle.std.proofs.Common.{◌≡◌, ℕ, pos, ◌^◌, ◌<◌, inl, inr, f
 use Rattle.std.proofs.lemmas.Bool.{cases_eq}
 use Rattle.std.proofs.lemmas.Bool.Decides.{nat_tests}
 use Rattle.std.proofs.lemmas.List.{take_all}
-use Rattle.bit_fields.specs.Field.{field, signed}
+use Rattle.bit_fields.specs.Field.{field, signed, flag}
 use Rattle.fh_time.specs.declared.values.Shape.{Shape}
 use Rattle.bfp_codec.specs.Layout.{twos}
 use Rattle.bfp_codec.specs.Exponent.{Within}
@@ -14,7 +14,7 @@ use Rattle.cplane_sections.specs.declared.values.CHead.{CHead}
 use Rattle.cplane_sections.specs.declared.values.CSection.{CSection}
 use Rattle.cplane_sections.specs.Header.{body_of, kind_of, size_of_head}
 use Rattle.cplane_sections.specs.Section.{beam_of, offset_of, size_of_section}
-use Rattle.cplane_sections.specs.Message.{flag, SectionFits, Admits}
+use Rattle.cplane_sections.specs.Message.{SectionFits, Admits}
 use Rattle.cplane_sections.specs.Words.{BodyFits}
 use Rattle.cplane_sections.specs.Writes.{WritesHead, WritesSection, WritesMessage, IsReadAs}
 use Rattle.cplane_sections.proofs.Front.{message_head, message_more}

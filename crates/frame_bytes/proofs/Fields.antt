@@ -1,15 +1,15 @@
 -- Bytes and the fields that they spell.
-use Rattle.std.proofs.Common.{◌≡◌, ℕ, ◌+◌, ◌*◌, ◌/◌, ◌%◌, ◌^◌, ◌<◌, ◌≤◌, Bool, true, false, eqb, List, [], ◌∷◌, length, take, inl, inr, refl, sym, ap, ◌∙◌, arith, add-zero, add_assoc}
+use Rattle.std.proofs.Common.{◌≡◌, ℕ, ◌+◌, ◌*◌, ◌/◌, ◌%◌, ◌^◌, ◌<◌, ◌≤◌, Bool, true, false, eqb, List, [], ◌∷◌, length, take, inl, inr, refl, sym, ap, ◌∙◌, arith, add-zero, add_assoc, zero-add}
 use Rattle.std.proofs.lemmas.Nat.{shr_high, mod_low, pow-add, mul-add-lt}
 use Rattle.std.proofs.Math.Nat.{mul_comm, mod-eq_of_lt}
 use Rattle.std.proofs.lemmas.List.{get_or-take, get_or_past, length-take, length-take-le}
 use Rattle.std.proofs.lemmas.Bool.{cases_lt}
 use Rattle.std.proofs.lemmas.Bool.Decides.{nat_tests}
-use Rattle.bit_fields.specs.Field.{field}
+use Rattle.bit_fields.specs.Field.{field, flag}
 use Rattle.bit_fields.proofs.Field.{field_split, field_fits, field_take}
 use Rattle.bfp_codec.specs.Layout.{AreBytes, be_bytes}
 use Rattle.bfp_codec.proofs.Spelled.{bytes_are, field_be_bytes, length-be_bytes, be_bytes_small}
-use Rattle.frame_bytes.specs.Spelled.{Field, bit, width_of, spelled_behind, in_bytes}
+use Rattle.frame_bytes.specs.Spelled.{Field, width_of, spelled_behind, in_bytes}
 
 -- the fields stand one after the other from bit i on
 unfoldable pub AreAt : List ℕ → ℕ → List Field → Type 0
@@ -21,14 +21,11 @@ unfoldable pub AreSmall : List Field → Type 0
 AreSmall [] = Unit {0}
 AreSmall ((w, x) ∷ fields) = (x < 2 ^ w) × AreSmall fields
 
-none_before : (i : ℕ) → 0 + i ≡ i
-none_before i = omega arith
-
 spelled_is : (bytes : List ℕ) (i : ℕ) (fields : List Field) → AreAt bytes i fields → field bytes 0 (i + width_of fields) ≡ spelled_behind (field bytes 0 i) fields
 unfolding AreAt
 spelled_is bytes i [] h = ap (field bytes 0) (add-zero i)
 spelled_is bytes i ((w, x) ∷ fields) (e, h) =
-    let there : field bytes (0 + i) w ≡ x = ap (λ k. field bytes k w) (none_before i) ∙ e in
+    let there : field bytes (0 + i) w ≡ x = ap (λ k. field bytes k w) (zero-add i) ∙ e in
     let next : field bytes 0 (i + w) ≡ field bytes 0 i * 2 ^ w + x = field_split bytes 0 i w ∙ ap (λ n. field bytes 0 i * 2 ^ w + n) there in
     ap (field bytes 0) (sym (add_assoc i w (width_of fields))) ∙ spelled_is bytes (i + w) fields h ∙ ap (λ n. spelled_behind n fields) next
 
@@ -38,7 +35,7 @@ unfolding field
 fields_are n bytes fields len small whole h =
     let count : width_of fields / 8 ≡ n = omega arith in
     let is = spelled_is bytes 0 fields h in
-    bytes_are n (spelled_behind 0 fields) bytes len small (ap (field bytes 0) (sym whole ∙ sym (none_before (width_of fields))) ∙ is) ∙ ap (λ k. be_bytes k (spelled_behind 0 fields)) (sym count)
+    bytes_are n (spelled_behind 0 fields) bytes len small (ap (field bytes 0) (sym whole ∙ sym (zero-add (width_of fields))) ∙ is) ∙ ap (λ k. be_bytes k (spelled_behind 0 fields)) (sym count)
 
 -- the same number behind more fields
 digits_split : (a b w x y : ℕ) → x < 2 ^ w → y < 2 ^ w → a * 2 ^ w + x ≡ b * 2 ^ w + y → (a ≡ b) × (x ≡ y)
@@ -51,7 +48,7 @@ stands_at bytes i n [] h e = (ap (field bytes 0) (sym (add-zero i)) ∙ e, tt)
 stands_at bytes i n ((w, x) ∷ fields) (small, h) e =
     let rest = stands_at bytes (i + w) (n * 2 ^ w + x) fields h (ap (field bytes 0) (add_assoc i w (width_of fields)) ∙ e) in
     let here = digits_split (field bytes 0 i) n w (field bytes (0 + i) w) x (field_fits bytes (0 + i) w) small (sym (field_split bytes 0 i w) ∙ rest.0) in
-    (here.0, (ap (λ k. field bytes k w) (sym (none_before i)) ∙ here.1, rest.1))
+    (here.0, (ap (λ k. field bytes k w) (sym (zero-add i)) ∙ here.1, rest.1))
 
 spelled_small : (i n : ℕ) (fields : List Field) → n < 2 ^ i → AreSmall fields → spelled_behind n fields < 2 ^ (i + width_of fields)
 unfolding AreSmall
@@ -66,7 +63,7 @@ pub at_fields : (n : ℕ) (fields : List Field) → width_of fields ≡ 8 * n �
 at_fields n fields whole a =
     let count : width_of fields / 8 ≡ n = omega arith in
     let x = spelled_behind 0 fields in
-    let bits : 0 + width_of fields ≡ 8 * n = none_before (width_of fields) ∙ whole in
+    let bits : 0 + width_of fields ≡ 8 * n = zero-add (width_of fields) ∙ whole in
     let fits : x < 2 ^ (8 * n) = rw bits at (spelled_small 0 0 fields (omega arith) a) in
     let is : field (in_bytes fields) 0 (0 + width_of fields) ≡ x = rw (count, bits) (field_be_bytes n x ∙ mod-eq_of_lt fits) in
     (stands_at (in_bytes fields) 0 0 fields a is).1
@@ -80,15 +77,15 @@ pub are_bytes : (fields : List Field) → AreBytes (in_bytes fields)
 are_bytes fields = λ i. be_bytes_small (width_of fields / 8) (spelled_behind 0 fields) i
 
 -- flags
-pub bit_read : (n : ℕ) (b : Bool) → n < 2 → eqb n 1 ≡ b → n ≡ bit b
+pub bit_read : (n : ℕ) (b : Bool) → n < 2 → eqb n 1 ≡ b → n ≡ flag b
 bit_read n true h e = grind (arith, nat_tests)
 bit_read n false h e = grind (arith, nat_tests)
 
-pub bit_small : (b : Bool) → bit b < 2
+pub bit_small : (b : Bool) → flag b < 2
 bit_small true = omega arith
 bit_small false = omega arith
 
-pub bit_back : (b : Bool) → eqb (bit b) 1 ≡ b
+pub bit_back : (b : Bool) → eqb (flag b) 1 ≡ b
 bit_back true = refl
 bit_back false = refl
 

@@ -4,8 +4,9 @@ use Rattle.std.proofs.lemmas.List.{take_all, drop-take, drop-drop}
 use Rattle.std.proofs.Math.Seq.{take-add}
 use Rattle.std.proofs.Math.Nat.{div-mul-le_self, mod-eq-sub-div-mul}
 use Rattle.std.proofs.lemmas.Nat.{mod_below}
-use Rattle.frame_bytes.specs.Cuts.{pieces_of, piece_at, joined_from, pieces_joined}
+use Rattle.frame_bytes.specs.Cuts.{piece_at, joined_from, pieces_joined}
 use Rattle.frame_bytes.proofs.CutBytes.{take_same}
+use Rattle.ecpri_fragments.specs.Pieces.{piece_count}
 
 piece_is : (fragment : ℕ) (message : List ℕ) (k : ℕ) → piece_at fragment message k ≡ take fragment (drop (k * fragment) message)
 piece_is fragment message k =
@@ -25,13 +26,13 @@ joined_is fragment message k (suc n) =
     let here = piece_is fragment message k in
     rw (here, more) (sym (take-add fragment (n * fragment) rest)) ∙ ap (λ j. take j rest) size
 
-enough : (fragment size : ℕ) → 0 < fragment → size ≤ pieces_of fragment size * fragment
+enough : (fragment size : ℕ) → 0 < fragment → size ≤ piece_count fragment size * fragment
 enough fragment size some =
     let n = size + (fragment - 1) in
     omega (arith, div-mul-le_self n fragment, mod-eq-sub-div-mul n fragment, mod_below n fragment some)
 
 pub joined_all : (fragment : ℕ) (message : List ℕ) → 0 < fragment → pieces_joined fragment message ≡ message
 joined_all fragment message some =
-    joined_is fragment message 0 (pieces_of fragment (length message))
-    ∙ ap (λ k. take (pieces_of fragment (length message) * fragment) (drop k message)) (sym (none_of fragment))
-    ∙ take_all (pieces_of fragment (length message) * fragment) message (enough fragment (length message) some)
+    joined_is fragment message 0 (piece_count fragment (length message))
+    ∙ ap (λ k. take (piece_count fragment (length message) * fragment) (drop k message)) (sym (none_of fragment))
+    ∙ take_all (piece_count fragment (length message) * fragment) message (enough fragment (length message) some)

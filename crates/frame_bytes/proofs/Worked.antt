@@ -8,7 +8,8 @@ use Rattle.cplane_sections.specs.declared.values.CBody.TheVariants.{Normal, Offs
 use Rattle.cplane_sections.specs.declared.values.CSection.{CSection}
 use Rattle.frame_bytes.specs.Commands.{command_frame}
 use Rattle.frame_bytes.specs.Messages.{message_of, message_size, section_of}
-use Rattle.frame_bytes.specs.Cuts.{piece_frame, pieces_of}
+use Rattle.frame_bytes.specs.Cuts.{piece_frame}
+use Rattle.ecpri_fragments.specs.Pieces.{piece_count}
 
 one_prb : CSection
 one_prb = record { id = 1; sym_inc = false; symbol = 0; start_prb = 0; num_prb = 1; mask = 4095; num_symbol = 1; beam = 0; freq_offset = pos 0 }
@@ -48,5 +49,5 @@ usual_data = refl
 largest_size : message_size (record { format = record { dynamic = false; method = Plain }; prbs = 273 }) (record { id = 1; start_prb = 0; num_prb = 0 } ∷ []) ≡ 13112
 largest_size = refl
 
-largest_pieces : pieces_of 1492 13112 ≡ 9
+largest_pieces : piece_count 1492 13112 ≡ 9
 largest_pieces = refl

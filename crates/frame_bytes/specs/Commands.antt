@@ -11,8 +11,9 @@ use Rattle.cplane_sections.specs.Message.{HeadFits, SectionFits, Admits}
 use Rattle.cplane_sections.specs.Words.{BodyFits}
 use Rattle.cplane_sections.specs.Writes.{IsReadAs}
 use Rattle.fh_time.specs.declared.values.Shape.{Shape}
-use Rattle.frame_bytes.specs.Spelled.{Field, bit, in_bytes}
+use Rattle.frame_bytes.specs.Spelled.{Field, in_bytes}
 use Rattle.frame_bytes.specs.Transport.{frame_of}
+use Rattle.bit_fields.specs.Field.{flag}
 
 -- timeOffset, frameStructure, cpLength and 8 reserved bits in type 0; udCompHdr and 8 reserved bits in type 1; in type 3
 -- udCompHdr stands in the place of the reserved bits
@@ -24,7 +25,7 @@ body_fields (Offset time structure cp comp) = (16, time) ∷ (8, structure) ∷ 
 -- dataDirection, payloadVersion 1, filterIndex, frameId, subframeId, slotId, startSymbolId, numberOfSections, sectionType
 abbrev pub head_fields : CHead → List Field
 head_fields h =
-    (1, bit h.down) ∷ (3, 1) ∷ (4, h.filter) ∷ (8, h.frame_id) ∷ (4, h.subframe) ∷ (6, h.slot) ∷ (6, h.start_symbol)
+    (1, flag h.down) ∷ (3, 1) ∷ (4, h.filter) ∷ (8, h.frame_id) ∷ (4, h.subframe) ∷ (6, h.slot) ∷ (6, h.start_symbol)
     ∷ (8, h.count) ∷ (8, kind_of h.body) ∷ body_fields h.body
 
 -- beamId, which type 0 has not
@@ -38,7 +39,7 @@ offset_fields kind freq = if kind == 3 then (24, twos 24 freq) ∷ (8, 0) ∷ []
 -- sectionId, rb 0, symInc, startPrbc, numPrbc, reMask, numSymbol, ef 0, beamId
 abbrev pub section_fields : ℕ → CSection → List Field
 section_fields kind s =
-    (12, s.id) ∷ (1, 0) ∷ (1, bit s.sym_inc) ∷ (10, s.start_prb) ∷ (8, s.num_prb) ∷ (12, s.mask) ∷ (4, s.num_symbol)
+    (12, s.id) ∷ (1, 0) ∷ (1, flag s.sym_inc) ∷ (10, s.start_prb) ∷ (8, s.num_prb) ∷ (12, s.mask) ∷ (4, s.num_symbol)
     ∷ (1, 0) ∷ (15, beam_in kind s.beam) ∷ offset_fields kind s.freq_offset
 
 -- the application bytes

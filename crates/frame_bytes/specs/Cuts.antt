@@ -1,7 +1,8 @@
 -- Messages of type 0 that are sent in pieces (O-RAN.WG4.CUS, eCPRI application layer fragmentation).
-use Rattle.std.specs.Prelude.{ℕ, zero, suc, ◌+◌, ◌-◌, ◌*◌, ◌/◌, List, [], ◌++◌, length, take, drop, min}
+use Rattle.std.specs.Prelude.{ℕ, zero, suc, ◌+◌, ◌*◌, List, [], ◌++◌, length, take, drop, min}
 use Rattle.ecpri_fragments.specs.declared.sequence.SeqField.{SeqField}
 use Rattle.frame_bytes.specs.Transport.{frame_of}
+use Rattle.ecpri_fragments.specs.Pieces.{piece_count}
 
 -- the bytes from one place to another
 abbrev pub cut : ℕ → ℕ → List ℕ → List ℕ
@@ -10,10 +11,6 @@ cut from to bytes = drop from (take to bytes)
 -- the frame of a piece of a message: eCPRI type 0
 abbrev pub piece_frame : ℕ → SeqField → ℕ → ℕ → List ℕ → List ℕ
 piece_frame id seq from to message = frame_of 0 id seq (cut from to message)
-
--- how many pieces of `fragment` bytes a message of so many bytes has, the last with the rest
-abbrev pub pieces_of : ℕ → ℕ → ℕ
-pieces_of fragment size = (size + (fragment - 1)) / fragment
 
 -- piece number k
 abbrev pub piece_at : ℕ → List ℕ → ℕ → List ℕ
@@ -26,4 +23,4 @@ joined_from fragment message k (suc n) = piece_at fragment message k ++ joined_f
 
 -- all pieces of the message, joined
 abbrev pub pieces_joined : ℕ → List ℕ → List ℕ
-pieces_joined fragment message = joined_from fragment message 0 (pieces_of fragment (length message))
+pieces_joined fragment message = joined_from fragment message 0 (piece_count fragment (length message))

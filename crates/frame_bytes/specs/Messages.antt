@@ -10,11 +10,13 @@ use Rattle.uplane_sections.specs.Section.{header_size}
 use Rattle.uplane_sections.specs.Writes.{HeadFits, udCompHdr}
 use Rattle.frame_bytes.specs.declared.messages.DataSection.{DataSection}
 use Rattle.frame_bytes.specs.declared.messages.Carrier.{Carrier}
-use Rattle.frame_bytes.specs.Spelled.{Field, bit, in_bytes}
+use Rattle.frame_bytes.specs.Spelled.{Field, in_bytes}
+use Rattle.bit_fields.specs.Field.{flag}
+use Rattle.ecpri_fragments.specs.declared.place.TheConstants.{MESSAGE_BYTES}
 
 -- dataDirection, payloadVersion 1, filterIndex, frameId, subframeId, slotId, symbolId
 abbrev pub head_fields : UHead → List Field
-head_fields h = (1, bit h.down) ∷ (3, 1) ∷ (4, h.filter) ∷ (8, h.frame_id) ∷ (4, h.subframe) ∷ (6, h.slot) ∷ (6, h.symbol) ∷ []
+head_fields h = (1, flag h.down) ∷ (3, 1) ∷ (4, h.filter) ∷ (8, h.frame_id) ∷ (4, h.subframe) ∷ (6, h.slot) ∷ (6, h.symbol) ∷ []
 
 -- udCompHdr and 8 reserved bits, in a dynamic format
 abbrev pub compression_fields : Format → List Field
@@ -65,7 +67,7 @@ pub record MessageFits (c : Carrier) (h : UHead) (ss : List DataSection) : Type 
   pub head : HeadFits h
   pub width : HasWidth c.format.method
   pub sections : All (SectionFits c) ss
-  pub size : message_size c ss ≤ 16384
+  pub size : message_size c ss ≤ MESSAGE_BYTES
 
 -- at each section and PRB of the message the source may be called, where `pre` says so
 abbrev pub MayBeAsked : ℕ → ℕ → (ℕ → ℕ → Type 0) → Type 0

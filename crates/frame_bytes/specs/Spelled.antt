@@ -6,10 +6,6 @@ use Rattle.bfp_codec.specs.Layout.{be_bytes}
 abbrev pub Field : Type 0
 Field = ℕ × ℕ
 
--- a flag as a field's value
-abbrev pub bit : Bool → ℕ
-bit b = if b then 1 else 0
-
 -- how many bits these have
 abbrev pub width_of : List Field → ℕ
 width_of [] = 0

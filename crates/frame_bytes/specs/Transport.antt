@@ -1,16 +1,16 @@
 -- A sent frame: one eCPRI message with its transport header (eCPRI 2.0, sections 3.1.3 and 3.2.4; O-RAN.WG4.CUS, eCPRI transport header).
 use Rattle.std.specs.Prelude.{◌≡◌, ℕ, ◌+◌, ◌<◌, ◌^◌, List, [], ◌∷◌, ◌++◌, length, take, drop, false}
-use Rattle.bit_fields.specs.Field.{field}
+use Rattle.bit_fields.specs.Field.{field, flag}
 use Rattle.ecpri_frames.specs.Spelling.{Spells}
 use Rattle.ecpri_fragments.specs.declared.sequence.SeqField.{SeqField}
 use Rattle.ecpri_fragments.specs.Sequence.{seq_field_of}
-use Rattle.frame_bytes.specs.Spelled.{Field, bit, in_bytes}
+use Rattle.frame_bytes.specs.Spelled.{Field, in_bytes}
 
 -- ecpriVersion 1, 3 reserved bits, ecpriConcatenation 0, ecpriMessage, ecpriPayload; then ecpriPcid or ecpriRtcid, and
 -- ecpriSeqid: the sequence id, the E bit and the subsequence id
 abbrev pub transport_fields : ℕ → ℕ → SeqField → ℕ → List Field
 transport_fields kind id seq size =
-    (4, 1) ∷ (3, 0) ∷ (1, 0) ∷ (8, kind) ∷ (16, size) ∷ (16, id) ∷ (8, seq.seq) ∷ (1, bit seq.last) ∷ (7, seq.sub) ∷ []
+    (4, 1) ∷ (3, 0) ∷ (1, 0) ∷ (8, kind) ∷ (16, size) ∷ (16, id) ∷ (8, seq.seq) ∷ (1, flag seq.last) ∷ (7, seq.sub) ∷ []
 
 -- the frame of these application bytes; the payload's size counts the id and the sequence field
 abbrev pub frame_of : ℕ → ℕ → SeqField → List ℕ → List ℕ

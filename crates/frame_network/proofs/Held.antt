@@ -15,6 +15,7 @@ use Rattle.frame_network.specs.Network.{arrival_cmp, is_after, put_in, next_of, 
 use Rattle.frame_network.specs.Places.{place_of, place_cmp, turn_cmp}
 use Rattle.frame_network.specs.Held.{AreHeld}
 use Rattle.frame_network.proofs.Order.{after_turned, first_le, int_le}
+use Rattle.fh_time.proofs.Orders.{below}
 
 later_is_greater : (n m : ℕ) → m < n → nat_cmp n m ≡ Greater
 later_is_greater n m h = grind (arith, nat_tests)
@@ -77,9 +78,6 @@ AreHeld-insert_entry n a (e ∷ es) h = held_step n a e es h (AreHeld-insert_ent
 -- a turn that is not after another has a time that is not after its time
 time_first : (s t : Turn) → is_gt (turn_cmp s t) ≡ false → s.place.at.0 ≤ℤ t.place.at.0
 time_first s t h = int_le s.place.at.0 t.place.at.0 (first_le _ _ (first_le (place_cmp s.place t.place) (nat_cmp s.serial t.serial) h))
-
-below : (x y z : ℤ) → x <ℤ y → y ≤ℤ z → x <ℤ z
-below x y z h g = omega (arith, ints)
 
 int_due : (x to : ℤ) (a : Arrival) → is_le (int_cmp x to) ≡ is_some (if int_lt to x then None else Some a)
 int_due x to a = grind (arith, ints, nat_tests)

@@ -8,6 +8,7 @@ use Rattle.std.proofs.lemmas.Bool.Decides.{nat_tests}
 use Rattle.std.proofs.lemmas.Int.{ints}
 use Rattle.frame_network.specs.declared.arrivals.Arrival.{Arrival}
 use Rattle.frame_network.specs.Network.{is_to_du, key_cmp, arrival_cmp, is_after}
+use Rattle.fh_time.proofs.Orders.{nat_less, int_less}
 
 key_total : IsTotalOrder key_cmp
 key_total = then_total (on_total (λ k. k.injected) bool_cmp_total) (then_total (on_total (λ k. k.place) nat_cmp_total) (on_total (λ k. k.copy) nat_cmp_total))
@@ -56,14 +57,8 @@ after_not_after_chain a b c h k = go (is_after c a) refl
 
 -- ---- times and places
 
-int_less : (x y : ℤ) → x <ℤ y → int_cmp x y ≡ Less
-int_less x y h = grind (arith, ints, nat_tests)
-
 pub int_le : (x y : ℤ) → is_gt (int_cmp x y) ≡ false → x ≤ℤ y
 int_le x y h = grind (arith, ints, nat_tests)
-
-nat_less : (x y : ℕ) → x < y → nat_cmp x y ≡ Less
-nat_less x y h = grind (arith, nat_tests)
 
 -- what is not after by both is not after by the first
 pub first_le : (o q : Ordering) → is_gt (ordering_then o q) ≡ false → is_gt o ≡ false

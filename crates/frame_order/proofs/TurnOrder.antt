@@ -51,7 +51,7 @@ int_up x y h = grind (arith, ints, nat_tests)
 
 -- ---- turns
 
-made : ℤ → ℕ → ℕ → ℕ → ℕ → Turn
+unfoldable pub made : ℤ → ℕ → ℕ → ℕ → ℕ → Turn
 made at endpoint stream number sub = record { at = record { 0 = at }; endpoint = endpoint; stream = stream; number = number; sub = sub }
 
 pub same_turn : (a b : Turn) → is_turn a b ≡ true → a ≡ b

@@ -24,10 +24,11 @@ use Rattle.frame_ways.specs.Ways.{ComesFrom, LandsAfter}
 use Rattle.frame_ways.proofs.CountLemmas.{measured_within, times_within}
 use Rattle.measured_traffic.specs.fh_document.specs.declared.config_lines.TheConstants.{MOST_TRANSIT}
 use Rattle.fh_time.proofs.Orders.{at_most, next_order}
+use Rattle.fh_time.specs.declared.nanoseconds.TheConstants.{NANOSECOND}
 
 -- ---- the copies of a frame
 
-at_least : (now at : ℤ) (least : ℕ) (ns : ℤ) → now ≤ℤ (at +ℤ pos least) → IsFrom least MOST_TRANSIT ns → now ≤ℤ (at +ℤ (ns *ℤ pos 1536))
+at_least : (now at : ℤ) (least : ℕ) (ns : ℤ) → now ≤ℤ (at +ℤ pos least) → IsFrom least MOST_TRANSIT ns → now ≤ℤ (at +ℤ (ns *ℤ pos NANOSECOND))
 at_least now at least ns order h = let low = h.low in omega (arith, ints, low, order)
 
 -- each so many nanoseconds later at least

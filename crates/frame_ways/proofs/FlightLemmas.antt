@@ -15,9 +15,11 @@ use Rattle.frame_network.proofs.PutIn.{All-put_in, IsInOrder-put_in, IsLastOf, f
 use Rattle.measured_traffic.specs.replay_events.specs.Moments.{landing_at}
 use Rattle.ru_buffers.specs.unit_model.specs.Meetings.{Arrival}
 use Rattle.frame_ways.specs.declared.copies.Departure.{Departure}
-use Rattle.frame_ways.specs.Flying.{AreFlyingFrom, IsSentBefore, arrival_at, flying_at, flying_copies, flying_copy, landing_from, put_all}
+use Rattle.frame_ways.specs.Flying.{AreFlyingFrom, IsSentBefore, flying_at, flying_copies, flying_copy, landing_from, put_all}
 use Rattle.measured_traffic.specs.fh_document.specs.declared.config_lines.TheConstants.{MOST_TRANSIT}
 use Rattle.fh_time.proofs.Orders.{nat_less}
+use Rattle.ru_buffers.specs.unit_memory.specs.Memory.{arrival_at}
+use Rattle.fh_time.specs.declared.nanoseconds.TheConstants.{NANOSECOND}
 
 -- ---- one copy more
 
@@ -36,19 +38,19 @@ not_behind x frame copy ns y h same =
       | inr both ↦ not_after y a (later_copy y a same h.to h.sent both.0 both.1)
     ]
 
-last_there : (t : ℤ) (x : Departure) (frame : List ℕ) (copy : ℕ) (ns : ℤ) (y : Flying) → int_eq (x.at.0 +ℤ (ns *ℤ pos 1536)) t ≡ true → IsSentBefore x.side x.place copy y
+last_there : (t : ℤ) (x : Departure) (frame : List ℕ) (copy : ℕ) (ns : ℤ) (y : Flying) → int_eq (x.at.0 +ℤ (ns *ℤ pos NANOSECOND)) t ≡ true → IsSentBefore x.side x.place copy y
     → IsLastOf (λ (z : Flying). int_eq z.at.0 t) (flying_copy x frame copy ns) y
 last_there t x frame copy ns y here h there =
-    let one = (Decides-int_eq (x.at.0 +ℤ (ns *ℤ pos 1536)) t).0 here in
+    let one = (Decides-int_eq (x.at.0 +ℤ (ns *ℤ pos NANOSECOND)) t).0 here in
     let two = (Decides-int_eq y.at.0 t).0 there in
     not_behind x frame copy ns y h (ap (λ (z : ℤ). let k : Ticks = record { 0 = z } in k) (two ∙ sym one))
 
 flying_more : (t : ℤ) (x : Departure) (frame : List ℕ) (copy : ℕ) (ns : ℤ) (fs : List Flying) → IsInOrder fs → All (IsSentBefore x.side x.place copy) fs
-    → flying_at t (put_in (flying_copy x frame copy ns) fs) ≡ flying_at t fs ++ landing_at (arrival_at (x.at.0 +ℤ (ns *ℤ pos 1536)) frame ∷ []) t
-flying_more t x frame copy ns fs order before = go (int_eq (x.at.0 +ℤ (ns *ℤ pos 1536)) t) refl
+    → flying_at t (put_in (flying_copy x frame copy ns) fs) ≡ flying_at t fs ++ landing_at (arrival_at (x.at.0 +ℤ (ns *ℤ pos NANOSECOND)) frame ∷ []) t
+flying_more t x frame copy ns fs order before = go (int_eq (x.at.0 +ℤ (ns *ℤ pos NANOSECOND)) t) refl
   where
-    go : (b : Bool) → int_eq (x.at.0 +ℤ (ns *ℤ pos 1536)) t ≡ b
-        → flying_at t (put_in (flying_copy x frame copy ns) fs) ≡ flying_at t fs ++ landing_at (arrival_at (x.at.0 +ℤ (ns *ℤ pos 1536)) frame ∷ []) t
+    go : (b : Bool) → int_eq (x.at.0 +ℤ (ns *ℤ pos NANOSECOND)) t ≡ b
+        → flying_at t (put_in (flying_copy x frame copy ns) fs) ≡ flying_at t fs ++ landing_at (arrival_at (x.at.0 +ℤ (ns *ℤ pos NANOSECOND)) frame ∷ []) t
     go true e =
         let p = λ (y : Flying). int_eq y.at.0 t in
         let last : All (IsLastOf p (flying_copy x frame copy ns)) fs = λ k d lt. last_there t x frame copy ns _ e (before k d lt) in
@@ -85,7 +87,7 @@ landing-append xs ys t = filter-append (λ (a : Arrival). int_eq a.at t) xs ys
 
 -- the copies once they land
 abbrev pub copies_from : Departure → List ℕ → List ℤ → List Arrival
-copies_from x frame delays = map (λ ns. arrival_at (x.at.0 +ℤ (ns *ℤ pos 1536)) frame) delays
+copies_from x frame delays = map (λ ns. arrival_at (x.at.0 +ℤ (ns *ℤ pos NANOSECOND)) frame) delays
 
 -- what stands once they are all in flight
 pub record ArePut (x : Departure) (frame : List ℕ) (delays : List ℤ) (old new : List Flying) : Type 0 where
@@ -102,7 +104,7 @@ are_put x frame copy [] fs short order before = record {
 }
 are_put x frame copy (ns ∷ delays) fs short order before =
     let a = flying_copy x frame copy ns in
-    let here = arrival_at (x.at.0 +ℤ (ns *ℤ pos 1536)) frame in
+    let here = arrival_at (x.at.0 +ℤ (ns *ℤ pos NANOSECOND)) frame in
     let more = All-put_in (IsSentBefore x.side x.place (suc copy)) a fs (this_copy x frame copy ns short) (λ k d lt. next_copy x copy _ (before k d lt)) in
     let rest = are_put x frame (suc copy) delays (put_in a fs) short (IsInOrder-put_in a fs order) more in
     record {
@@ -122,7 +124,7 @@ put_later now x frame copy [] fs come from = from
 put_later now x frame copy (ns ∷ delays) fs come from =
     let P : Arrival → Type 0 = λ b. now ≤ℤ b.at in
     let a = flying_copy x frame copy ns in
-    let here = arrival_at (x.at.0 +ℤ (ns *ℤ pos 1536)) frame in
+    let here = arrival_at (x.at.0 +ℤ (ns *ℤ pos NANOSECOND)) frame in
     let rest = copies_from x frame delays in
     put_later now x frame (suc copy) delays (put_in a fs) (All-tail P here rest come) (All-put_in (λ (y : Flying). now ≤ℤ y.at.0) a fs (All-head P here rest come) from)
 

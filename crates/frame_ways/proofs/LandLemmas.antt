@@ -16,9 +16,10 @@ use Rattle.frame_network.specs.Queues.{AreRising, at_time, Took, first_time, lan
 use Rattle.frame_network.proofs.QueueLemmas.{none_below, taken_all as all_left}
 use Rattle.ru_buffers.specs.unit_model.specs.Meetings.{Arrival}
 use Rattle.ru_buffers.specs.history_laws.proofs.TickLemmas.{next_after}
-use Rattle.frame_ways.specs.Flying.{AreFlyingFrom, arrival_at, flying_at, landing_from}
+use Rattle.frame_ways.specs.Flying.{AreFlyingFrom, flying_at, landing_from}
 use Rattle.frame_ways.specs.Listed.{AreFrom, landing_arrival, frame_at, landings_left}
 use Rattle.fh_time.proofs.Orders.{beyond_next as after_next, is_same, at_most}
+use Rattle.ru_buffers.specs.unit_memory.specs.Memory.{arrival_at}
 
 -- ---- times
 

@@ -19,8 +19,9 @@ use Rattle.frame_network.specs.Queues.{IsPlaced, at_time, enumerated, enumerated
 use Rattle.measured_traffic.specs.replay_events.specs.Moments.{landing_at}
 use Rattle.ru_buffers.specs.unit_model.specs.Meetings.{Arrival}
 use Rattle.ru_buffers.specs.unit_model.specs.Radiated.{first_clock}
-use Rattle.frame_ways.specs.Flying.{arrival_at}
 use Rattle.frame_ways.specs.Listed.{AreFrom, HasTime, landing_arrival, injected_frame, injections_in, injections_to, landings_left, time_of}
+use Rattle.ru_buffers.specs.unit_memory.specs.Memory.{arrival_at}
+use Rattle.fh_time.specs.declared.nanoseconds.TheConstants.{NANOSECOND}
 
 -- ---- those of a unit
 
@@ -87,8 +88,8 @@ left_from : (whole : List Injection) (tick : ℤ) (k : ℕ) (is : List Injection
 left_from whole tick k [] at = refl
 left_from whole tick k (i ∷ is) at =
     let here : slice_get whole k ≡ Some i = subst (λ n. slice_get whole n ≡ Some i) {x = k + 0} {y = k} (omega arith) (at 0 i refl) in
-    kept whole (int_eq (i.at *ℤ pos 1536) tick) (place_of (time_of i) k) (injected_at i) (at_time tick (enumerated_from (suc k) (map time_of is))) (landing_at (map injected_at is) tick)
-    (ap (λ o. arrival_at (i.at *ℤ pos 1536) (injected_frame o)) here)
+    kept whole (int_eq (i.at *ℤ pos NANOSECOND) tick) (place_of (time_of i) k) (injected_at i) (at_time tick (enumerated_from (suc k) (map time_of is))) (landing_at (map injected_at is) tick)
+    (ap (λ o. arrival_at (i.at *ℤ pos NANOSECOND) (injected_frame o)) here)
     (left_from whole tick (suc k) is (λ j x e. subst (λ n. slice_get whole n ≡ Some x) {x = k + suc j} {y = suc k + j} (omega arith) (at (suc j) x e)))
 
 left_all : (d : Document) (side : Side) (tick : ℤ) → landings_left d side tick (enumerated (map time_of (injections_to side d))) ≡ landing_at (injected_to side d) tick
@@ -106,7 +107,7 @@ left_listed d side times lent q are those same tick =
 
 -- ---- none is before the first tick
 
-is_begun : (i : Injection) → HasTime i → first_clock ≤ℤ (i.at *ℤ pos 1536)
+is_begun : (i : Injection) → HasTime i → first_clock ≤ℤ (i.at *ℤ pos NANOSECOND)
 is_begun i h = let low = h.low in omega (arith, ints, low)
 
 times_from : (is : List Injection) → All HasTime is → All (λ t. first_clock ≤ℤ t.0) (map time_of is)

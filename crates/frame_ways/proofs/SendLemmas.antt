@@ -22,12 +22,14 @@ use Rattle.frame_ways.specs.declared.copies.Departure.{Departure}
 use Rattle.frame_ways.specs.declared.landed.Landed.TheVariants.{Sent, Listed}
 use Rattle.frame_ways.specs.declared.way.Way.{Way}
 use Rattle.frame_ways.specs.Counts.{IsTally}
-use Rattle.frame_ways.specs.Flying.{AreFlyingFrom, IsSentBefore, arrival_at, flying_at, flying_copies, put_all}
+use Rattle.frame_ways.specs.Flying.{AreFlyingFrom, IsSentBefore, flying_at, flying_copies, put_all}
 use Rattle.frame_ways.specs.Listed.{AreFrom, frame_at, injected_frame, injections_in, injections_to, landings_left, time_of}
 use Rattle.frame_ways.specs.Ways.{ComesFrom, IsLanded, IsTickOver, Waits, way_sent_at}
 use Rattle.frame_ways.proofs.FlightLemmas.{are_put, copies_from, landing-append, put_later}
 use Rattle.frame_ways.proofs.LandLemmas.{flying_here, flying_later, flying_none, later_from, left_first, left_later, left_none, refused_from, taken_all}
 use Rattle.frame_ways.proofs.ListLemmas.{left_listed, lent_at, listed_from, short_at, times_to}
+use Rattle.ru_buffers.specs.unit_memory.specs.Memory.{arrival_at}
+use Rattle.fh_time.specs.declared.nanoseconds.TheConstants.{NANOSECOND}
 
 -- all but what is on its way, and how many were sent, is as it was
 pub record IsSameBut (w v : Way) : Type 0 where
@@ -91,8 +93,8 @@ pub record HasLeft (d : Document) (side : Side) (m : SentCounts) (f : Leaving) (
 
 copies_same : (d : Document) (side : Side) (m : SentCounts) (f : Leaving) (w v : Way) (g : HasLeft d side m f w v) → copies_from g.departure g.frame g.delays ≡ copies_in (delayed d side m f)
 copies_same d side m f w v g =
-    ap₂ (λ (at : ℤ) (bytes : List ℕ). map (λ (ns : ℤ). arrival_at (at +ℤ (ns *ℤ pos 1536)) bytes) g.delays) g.at g.bytes
-    ∙ ap (λ (ns : List ℤ). map (λ (n : ℤ). arrival_at (f.at +ℤ (n *ℤ pos 1536)) f.frame) ns) g.times
+    ap₂ (λ (at : ℤ) (bytes : List ℕ). map (λ (ns : ℤ). arrival_at (at +ℤ (ns *ℤ pos NANOSECOND)) bytes) g.delays) g.at g.bytes
+    ∙ ap (λ (ns : List ℤ). map (λ (n : ℤ). arrival_at (f.at +ℤ (n *ℤ pos NANOSECOND)) f.frame) ns) g.times
 
 pub goes_out : (d : Document) (side : Side) (now from : ℤ) (n : SentCounts) (f : Leaving) (rest : List Leaving) (w v : Way) → ComesFrom d side now n f → Waits d side now from n (f ∷ rest) w
     → HasLeft d side (counted f.class n) f w v → Waits d side now from (counted f.class n) rest v

@@ -6,6 +6,8 @@ use Rattle.frame_network.specs.declared.arrivals.Arrival.{Arrival as Flying}
 use Rattle.frame_network.specs.Network.{put_in}
 use Rattle.ru_buffers.specs.unit_model.specs.Meetings.{Arrival}
 use Rattle.frame_ways.specs.declared.copies.Departure.{Departure}
+use Rattle.ru_buffers.specs.unit_memory.specs.Memory.{arrival_at}
+use Rattle.fh_time.specs.declared.nanoseconds.TheConstants.{NANOSECOND}
 
 -- ---- copies that are put in flight
 
@@ -13,7 +15,7 @@ use Rattle.frame_ways.specs.declared.copies.Departure.{Departure}
 abbrev pub flying_copy : Departure → List ℕ → ℕ → ℤ → Flying
 flying_copy x frame copy ns = record {
   side = x.side;
-  at = record { 0 = x.at.0 +ℤ (ns *ℤ pos 1536) };
+  at = record { 0 = x.at.0 +ℤ (ns *ℤ pos NANOSECOND) };
   key = record { injected = false; place = x.place; copy = copy };
   frame = frame;
 }
@@ -29,9 +31,6 @@ put_all [] fs = fs
 put_all (a ∷ others) fs = put_all others (put_in a fs)
 
 -- ---- what is in flight
-
-abbrev pub arrival_at : ℤ → List ℕ → Arrival
-arrival_at at frame = record { at = at; frame = frame }
 
 -- what it is once it lands
 abbrev pub landing_from : Flying → Arrival

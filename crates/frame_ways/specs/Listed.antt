@@ -1,5 +1,5 @@
 -- The frames that a document injects to a unit, as they wait for their times (this project's profile).
-use Rattle.std.specs.Prelude.{ℕ, ℤ, pos, ◌*ℤ◌, ◌^◌, ◌≤ℤ◌, List, [], filter, map, Option, Some, None, slice_get}
+use Rattle.std.specs.Prelude.{ℕ, ℤ, pos, ◌*ℤ◌, ◌≤ℤ◌, List, [], filter, map, Option, Some, None, slice_get}
 use Rattle.std.specs.Borrow.{Bor}
 use Rattle.std.specs.List.{AllByRecursion}
 use Rattle.air_source.specs.declared.events.Side.{Side}
@@ -11,8 +11,8 @@ use Rattle.fh_time.specs.declared.values.Ticks.{Ticks}
 use Rattle.frame_network.specs.declared.landings.Landing.{Landing}
 use Rattle.frame_network.specs.Queues.{at_time}
 use Rattle.ru_buffers.specs.unit_model.specs.Meetings.{Arrival}
-use Rattle.frame_ways.specs.Flying.{arrival_at}
-use Rattle.fh_time.specs.declared.nanoseconds.TheConstants.{LAST_TIME}
+use Rattle.fh_time.specs.declared.nanoseconds.TheConstants.{LAST_TIME, NANOSECOND}
+use Rattle.ru_buffers.specs.unit_memory.specs.Memory.{arrival_at}
 
 -- ---- the document's frames to a unit
 
@@ -25,7 +25,7 @@ injections_in lent = map (λ i. i.now) lent
 
 -- its time, which is within those of a document
 abbrev pub time_of : Injection → Ticks
-time_of i = record { 0 = i.at *ℤ pos 1536 }
+time_of i = record { 0 = i.at *ℤ pos NANOSECOND }
 
 abbrev pub HasTime : Injection → Type 0
 HasTime i = IsFrom 0 LAST_TIME i.at

@@ -15,9 +15,10 @@ use Rattle.ru_buffers.specs.unit_model.specs.Meetings.{Arrival}
 use Rattle.frame_ways.specs.declared.landed.Landed.{Landed}
 use Rattle.frame_ways.specs.declared.way.Way.{Way}
 use Rattle.frame_ways.specs.Counts.{IsTally}
-use Rattle.frame_ways.specs.Flying.{AreFlyingFrom, IsSentBefore, arrival_at, flying_at}
+use Rattle.frame_ways.specs.Flying.{AreFlyingFrom, IsSentBefore, flying_at}
 use Rattle.frame_ways.specs.Landed.{bytes_of}
 use Rattle.frame_ways.specs.Listed.{AreFrom, injections_in, injections_to, landings_left}
+use Rattle.ru_buffers.specs.unit_memory.specs.Memory.{arrival_at}
 
 -- the document of which it was made
 abbrev pub document_of : Way → Document

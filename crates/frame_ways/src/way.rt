@@ -58,7 +58,7 @@ impl<'a> Way<'a> {
         let deliveries = FrameDeliveries::make(alloc, doc)?;
         let times = times_to(alloc, doc, side)?;
         let listed = LandingQueue::make(alloc, times.as_slice())?;
-        // so that a long list of times and that of the frames are never held at once
+        // before the list of frames is made: only inside of `times_to` both are held
         drop(times);
         let injections = injections_to(alloc, doc, side)?;
         Ok(Way {

@@ -38,9 +38,10 @@ use Rattle.fronthaul_replay.specs.Counting.{told_counts, told_number}
 use Rattle.fronthaul_replay.specs.Replaying.{IsDone, IsInStep, IsIntakeDone, IsRadioDone, StopsInStep, events_of}
 use Rattle.fronthaul_replay.specs.Turns.{AtTurn}
 use Rattle.sum_air.proofs.Whole.{IsCount}
-use Rattle.fronthaul_replay.proofs.Counted.{both, one_count}
+use Rattle.fronthaul_replay.proofs.Counted.{one_count}
 use Rattle.fronthaul_replay.proofs.StepLemmas.{turn_in_step}
 use Rattle.fronthaul_replay.proofs.StopLemmas.{all_events}
+use Rattle.intake_moments.specs.plan_model.proofs.ListLemmas.{all_join}
 
 -- ---- their events, one after the other
 
@@ -111,7 +112,7 @@ front_counts (x ∷ xs) ys h = (h.0, front_counts xs ys h.1)
 all_counts : (side : Side) (number : Counter → ℕ) (ks : List Counter) → AllByRecursion IsCount (counts_by side number ks)
 all_counts side number [] = tt
 all_counts side number (k ∷ ks) =
-    both IsCount (count_event side (number k) k) (counts_by side number ks) (one_count side (number k) k (number k == 0)) (all_counts side number ks)
+    all_join IsCount (count_event side (number k) k) (counts_by side number ks) (one_count side (number k) k (number k == 0)) (all_counts side number ks)
 
 all_told : (side : Side) (counts : List ℕ) (measured : List Counter) → AllByRecursion IsCount (told_counts side counts measured)
 unfolding told_counts

@@ -3,7 +3,6 @@ use Rattle.std.proofs.Common.{◌≡◌, ℕ, zero, suc, ℤ, pos, ◌+ℤ◌, B
 use Rattle.std.specs.List.{flat_map, AllByRecursion}
 use Rattle.std.specs.Int.{int_gap}
 use Rattle.std.proofs.lemmas.List.Concat.{flat_map-cons}
-use Rattle.capture_air.specs.air_source.specs.declared.events.AirCell.{AirCell}
 use Rattle.capture_air.specs.air_source.specs.declared.events.Event.{Event}
 use Rattle.capture_air.specs.air_source.specs.declared.events.Event.TheVariants.{Cell, Count}
 use Rattle.capture_air.specs.air_source.specs.declared.events.Side.{Side}
@@ -22,24 +21,15 @@ use Rattle.intake_moments.specs.replay_events.specs.Events.{arrivals_at, arrival
 use Rattle.intake_moments.specs.fh_document.specs.declared.document.Document.{Document}
 use Rattle.intake_moments.specs.measured_traffic.specs.Replayed.{traffic_of}
 use Rattle.fronthaul_replay.specs.Replaying.{events_of}
-use Rattle.sum_air.proofs.Whole.{IsEarlier, IsCount, CountsLast}
-
--- what holds of two lists holds of both in turn
-pub both : (P : Event → Type 0) (xs ys : List Event) → AllByRecursion P xs → AllByRecursion P ys → AllByRecursion P (xs ++ ys)
-both P [] ys h k = k
-both P (x ∷ xs) ys h k = (h.0, both P xs ys h.1 k)
-
--- cells, arrivals and delays are no counters
-cells_earlier : (cells : List AirCell) → AllByRecursion IsEarlier (map Cell cells)
-cells_earlier [] = tt
-cells_earlier (c ∷ cells) = (tt, cells_earlier cells)
+use Rattle.sum_air.proofs.Whole.{IsEarlier, IsCount, CountsLast, cells_earlier}
+use Rattle.intake_moments.specs.plan_model.proofs.ListLemmas.{all_join}
 
 results_earlier : (side : Side) (at : ℤ) (results : List DelayResult) → AllByRecursion IsEarlier (map (result_event side at) results)
 results_earlier side at [] = tt
 results_earlier side at (r ∷ results) = (tt, results_earlier side at results)
 
 arrivals_earlier : (side : Side) (results : Results) (landed : List Arrival) → AllByRecursion IsEarlier (arrivals_told side results landed)
-arrivals_earlier side = told_kept (AllByRecursion IsEarlier) tt (both IsEarlier) side (λ a results. (tt, results_earlier side a.at results))
+arrivals_earlier side = told_kept (AllByRecursion IsEarlier) tt (all_join IsEarlier) side (λ a results. (tt, results_earlier side a.at results))
 
 tick_earlier : (c : Config) (t : Traffic) (tick : ℤ) → AllByRecursion IsEarlier (events_at c t tick)
 unfolding events_at
@@ -47,14 +37,14 @@ tick_earlier c t tick =
     let came = arrivals_at Ru t tick in
     let taken = arrivals_at Du t tick in
     let cells = map Cell (cells_reported_at Du c t tick) in
-    both IsEarlier (map Cell (cells_reported_at Ru c t tick)) (came ++ (taken ++ cells)) (cells_earlier (cells_reported_at Ru c t tick))
-    (both IsEarlier came (taken ++ cells) (arrivals_earlier Ru (t.results Ru tick) (landing_at t.at_ru tick))
-    (both IsEarlier taken cells (arrivals_earlier Du (t.results Du tick) (landing_at t.at_du tick)) (cells_earlier (cells_reported_at Du c t tick))))
+    all_join IsEarlier (map Cell (cells_reported_at Ru c t tick)) (came ++ (taken ++ cells)) (cells_earlier (cells_reported_at Ru c t tick))
+    (all_join IsEarlier came (taken ++ cells) (arrivals_earlier Ru (t.results Ru tick) (landing_at t.at_ru tick))
+    (all_join IsEarlier taken cells (arrivals_earlier Du (t.results Du tick) (landing_at t.at_du tick)) (cells_earlier (cells_reported_at Du c t tick))))
 
 ticks_earlier : (f : ℤ → List Event) (from : ℤ) (n : ℕ) → ((tick : ℤ) → AllByRecursion IsEarlier (f tick)) → AllByRecursion IsEarlier (each_tick from n f)
 unfolding each_tick
 ticks_earlier f from zero h = tt
-ticks_earlier f from (suc n) h = both IsEarlier (f from) (each_tick (from +ℤ pos 1) n f) (h from) (ticks_earlier f (from +ℤ pos 1) n h)
+ticks_earlier f from (suc n) h = all_join IsEarlier (f from) (each_tick (from +ℤ pos 1) n f) (h from) (ticks_earlier f (from +ℤ pos 1) n h)
 
 -- the counters that are not at 0
 pub one_count : (side : Side) (n : ℕ) (k : Counter) (b : Bool) → AllByRecursion IsCount (cond b [] (Count side k n ∷ []))
@@ -63,7 +53,7 @@ one_count side n k false = (tt, tt)
 
 each_count : (f : Counter → List Event) (ks : List Counter) → ((k : Counter) → AllByRecursion IsCount (f k)) → AllByRecursion IsCount (flat_map f ks)
 each_count f [] h = tt
-each_count f (k ∷ ks) h = subst (λ (es : List Event). AllByRecursion IsCount es) (sym (flat_map-cons f k ks)) (both IsCount (f k) (flat_map f ks) (h k) (each_count f ks h))
+each_count f (k ∷ ks) h = subst (λ (es : List Event). AllByRecursion IsCount es) (sym (flat_map-cons f k ks)) (all_join IsCount (f k) (flat_map f ks) (h k) (each_count f ks h))
 
 unit_last : (side : Side) (c : Config) (t : Traffic) → AllByRecursion IsCount (count_events side c t)
 unfolding count_events
@@ -74,7 +64,7 @@ abbrev both_counts : Config → Traffic → List Event
 both_counts c t = count_events Ru c t ++ count_events Du c t
 
 counts_last : (c : Config) (t : Traffic) → AllByRecursion IsCount (both_counts c t)
-counts_last c t = both IsCount (count_events Ru c t) (count_events Du c t) (unit_last Ru c t) (unit_last Du c t)
+counts_last c t = all_join IsCount (count_events Ru c t) (count_events Du c t) (unit_last Ru c t) (unit_last Du c t)
 
 -- the events are those of the ticks and then the counters
 parted : (c : Config) (t : Traffic) (n : ℕ) (first counts : List Event) → first ≡ each_tick first_clock n (events_at c t) → counts ≡ both_counts c t → events c t ≡ first ++ counts

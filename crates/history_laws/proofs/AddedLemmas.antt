@@ -11,7 +11,7 @@ use Rattle.cplane_sections.specs.declared.values.CSection.{CSection}
 use Rattle.cplane_sections.specs.Message.{sections_in}
 use Rattle.cplane_sections.specs.Tests.{checked}
 use Rattle.ecpri_fragments.specs.Generations.{Fragment}
-use Rattle.ecpri_fragments.specs.Verdicts.{first_of, message, standing_before, verdict_on}
+use Rattle.ecpri_fragments.specs.Verdicts.{first_of, message, standing_before, verdict_on, whole_of}
 use Rattle.ecpri_fragments.specs.declared.verdict.Verdict.{Verdict}
 use Rattle.ecpri_fragments.specs.declared.verdict.Verdict.TheVariants as fragment
 use Rattle.ecpri_frames.specs.Gathering.{whole_messages}
@@ -20,14 +20,16 @@ use Rattle.uplane_sections.specs.Messages.{told}
 use Rattle.uplane_sections.specs.declared.values.UHead.{UHead}
 use Rattle.uplane_sections.specs.declared.values.URefusal.{URefusal}
 use Rattle.window_config.specs.declared.endpoints.EndpointConfig.{EndpointConfig}
-use Rattle.unit_laws.specs.unit_model.specs.Decoding.{Backwards, Gathering, SectionBlocks, Sections, data_now, data_sections, data_told, data_with, decode, decoded_from, decoded_now, decoded_with, gathered, has_way, nothing_told, sections_of, whole_of}
-use Rattle.unit_laws.specs.unit_model.specs.Lists.{joined, onto}
-use Rattle.unit_laws.specs.unit_model.specs.Meetings.{Arrival, Meeting, Ignored, Commands, Piece, application, command, command_read, commands, commands_with, control_met, find_endpoint, fragment_of, fragments, id_of, is_fragmented, meet, meetings, met_by, met_in, sequence_of}
+use Rattle.unit_laws.specs.unit_model.specs.Decoding.{Backwards, Gathering, SectionBlocks, Sections, data_now, data_sections, data_told, data_with, decode, decoded_from, decoded_now, decoded_with, gathered, has_way, nothing_told, sections_of}
+use Rattle.unit_laws.specs.unit_model.specs.Lists.{onto}
+use Rattle.unit_laws.specs.unit_model.specs.Meetings.{Arrival, Meeting, Ignored, Commands, Piece, command, command_read, commands, commands_with, control_met, find_endpoint, fragment_of, fragments, meet, meetings, met_by, met_in}
 use Rattle.unit_laws.specs.unit_model.specs.declared.decoded.ControlSection.{ControlSection}
 use Rattle.unit_laws.specs.unit_model.specs.declared.decoded.UserSection.{UserSection}
 use Rattle.ecpri_frames.specs.declared.heads.TheConstants.{ONE_WAY_DELAY}
 use Rattle.ecpri_frames.specs.declared.heads.TheConstants.{REAL_TIME_CONTROL}
 use Rattle.ecpri_frames.specs.declared.heads.TheConstants.{IQ_DATA}
+use Rattle.ecpri_fragments.specs.Sequence.{id_of, sequence_of, application, is_fragmented}
+use Rattle.ecpri_fragments.specs.Pieces.{joined}
 
 -- ---- lists that grow at the front
 
@@ -76,7 +78,7 @@ CommandCame at c = c.at.0 ≡ at
 abbrev pub DataCame : ℤ → UserSection → Type 0
 DataCame at d = d.last.0 ≡ at
 
-abbrev Came : ℤ → Meeting → Type 0
+abbrev pub Came : ℤ → Meeting → Type 0
 Came at (Ignored c) = Unit {0}
 Came at (Commands cs) = All (CommandCame at) cs
 Came at (Piece e f) = f.at ≡ at
@@ -111,7 +113,7 @@ meet_came side es at m =
     (choice at (not (m.head.kind == IQ_DATA || m.head.kind == REAL_TIME_CONTROL)) _ _ tt
     (choice at (nat_lt (length m.payload) 4) _ _ tt (found_came side m.head.kind at m.payload (find_endpoint es (id_of m.payload)))))
 
-all_came : (side : Side) (es : List EndpointConfig) (at : ℤ) (ms : List Message) → All (Came at) (met_in side es at ms)
+pub all_came : (side : Side) (es : List EndpointConfig) (at : ℤ) (ms : List Message) → All (Came at) (met_in side es at ms)
 all_came side es at [] = All-nil (Came at)
 all_came side es at (m ∷ ms) = All-cons (Came at) (meet side es at m) (met_in side es at ms) (meet_came side es at m) (all_came side es at ms)
 

@@ -2,9 +2,8 @@
 use Rattle.std.proofs.Common.{◌≡◌, ℕ, ◌<◌, ◌≤◌, List, length, get_or, slice_index, sym, ◌∙◌, arith}
 use Rattle.std.proofs.lemmas.List.{get_or-map, length-map}
 use Rattle.std.proofs.lemmas.List.Elements.{All-from_get_or}
-use Rattle.window_config.specs.Endpoints.{IsEndpoint, AreEndpoints, ids_of}
+use Rattle.window_config.specs.Endpoints.{IsEndpoint, AreEndpoints, ids_of, no_endpoint}
 use Rattle.window_config.specs.declared.endpoints.EndpointConfig.{EndpointConfig}
-use Rattle.idle_spans.specs.Tables.{no_endpoint}
 
 pub record IsNumbered (i : ℕ) (e : EndpointConfig) : Type 0 where
   pub endpoint : IsEndpoint e

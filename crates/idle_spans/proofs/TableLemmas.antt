@@ -8,7 +8,7 @@ use Rattle.std.proofs.Math.Seq.{map-set_same}
 use Rattle.std.proofs.lemmas.Bool.{and_left, and_right, cases_eq, ne_eqb}
 use Rattle.std.proofs.lemmas.List.Folds.{list_any-append}
 use Rattle.window_config.specs.Configs.{IsConfig}
-use Rattle.window_config.specs.Endpoints.{ids_of}
+use Rattle.window_config.specs.Endpoints.{ids_of, no_endpoint}
 use Rattle.window_config.specs.declared.config.Config.{Config}
 use Rattle.window_config.specs.declared.endpoints.EndpointConfig.{EndpointConfig}
 use Rattle.air_source.specs.declared.events.AirCell.{AirCell}
@@ -16,13 +16,14 @@ use Rattle.idle_spans.specs.declared.places.Place.{Place}
 use Rattle.idle_spans.specs.declared.places.Span.{Span}
 use Rattle.idle_spans.specs.declared.places.Mark.{Mark}
 use Rattle.idle_spans.specs.Symbols.{frame_symbols, symbol_at, symbol_count, IsAfter}
-use Rattle.idle_spans.specs.Silence.{is_radio, is_of_symbol, is_shown, is_missed, is_silent, has_missing}
+use Rattle.idle_spans.specs.Silence.{is_of_symbol, is_shown, is_missed, is_silent, has_missing}
 use Rattle.idle_spans.specs.Marked.{no_mark}
 use Rattle.idle_spans.specs.Runs.{IsLongRun, IsNext, IsNextSpan, count_from, span_of}
 use Rattle.idle_spans.specs.Scans.{IsFirstRun, IsRowSpan, IsRowNext, row_silent, row_missing, row_span}
-use Rattle.idle_spans.specs.Tables.{RowValue, SpansValue, IsRow, AreApart, MarksRow, Marks, RowStands, Stands, mark_at, row_at, no_row, no_endpoint, endpoints_of, endpoint_at, row_symbol}
+use Rattle.idle_spans.specs.Tables.{RowValue, SpansValue, IsRow, AreApart, MarksRow, Marks, RowStands, Stands, mark_at, row_at, no_row, endpoints_of, endpoint_at, row_symbol}
 use Rattle.idle_spans.proofs.NumberLemmas.{frame_few}
 use Rattle.idle_spans.proofs.RunLemmas.{run_same, count_same}
+use Rattle.air_source.specs.Units.{is_down}
 
 count_few : (first last e : ℕ) → last ≤ first + 9 → e ≤ 2240 → (last + 1 - first) * e ≤ 22400
 count_few first last e few small = omega (arith, mul-le (last + 1 - first) e 10 2240 (omega arith) small)
@@ -189,7 +190,7 @@ rows_apart rows config is same i j i_below j_below ids =
 
 -- where one table is marked, the others stay, which are of other ids
 other_id : (e : EndpointConfig) (p : Place) (c : AirCell) (b : Bool) → (c.id ≡ e.id → ⊥) → (is_of_symbol e p c && b) ≡ false
-other_id e p c b other = and_left _ b (and_right (is_radio c.side) _ (and_left _ _ (ne_eqb c.id e.id other)))
+other_id e p c b other = and_left _ b (and_right (is_down c.side) _ (and_left _ _ (ne_eqb c.id e.id other)))
 
 or_nothing : (a t : Bool) → t ≡ false → a ≡ (a || (t || false))
 or_nothing true t e = refl

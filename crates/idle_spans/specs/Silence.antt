@@ -1,25 +1,20 @@
 -- What marked cells say of a symbol.
-use Rattle.std.specs.Prelude.{ℕ, Bool, true, false, not, ◌==◌, ◌&&◌, is_some, List}
+use Rattle.std.specs.Prelude.{ℕ, Bool, not, ◌==◌, ◌&&◌, is_some, List}
 use Rattle.std.specs.List.{list_any}
 use Rattle.std.specs.Ordering.{int_eq}
 use Rattle.fh_time.specs.declared.values.Slot.{Slot}
 use Rattle.window_config.specs.declared.endpoints.EndpointConfig.{EndpointConfig}
 use Rattle.air_source.specs.declared.events.AirCell.{AirCell}
-use Rattle.air_source.specs.declared.events.Side.{Side}
-use Rattle.air_source.specs.declared.events.Side.TheVariants.{Ru, Du}
 use Rattle.idle_spans.specs.Symbols.{symbol_at}
 use Rattle.idle_spans.specs.declared.places.Place.{Place}
-
-abbrev pub is_radio : Side → Bool
-is_radio Ru = true
-is_radio Du = false
+use Rattle.air_source.specs.Units.{is_down}
 
 abbrev pub same_symbol : Slot → ℕ → Place → Bool
 same_symbol slot symbol p = int_eq slot.frame p.slot.frame && ((slot.subframe == p.slot.subframe) && ((slot.slot == p.slot.slot) && (symbol == p.symbol)))
 
 -- the cell is one that the radio unit reports of this symbol of the endpoint
 abbrev pub is_of_symbol : EndpointConfig → Place → AirCell → Bool
-is_of_symbol e p c = is_radio c.side && ((c.id == e.id) && same_symbol c.slot c.symbol p)
+is_of_symbol e p c = is_down c.side && ((c.id == e.id) && same_symbol c.slot c.symbol p)
 
 -- one of the cells is of the symbol and has samples
 abbrev pub is_shown : EndpointConfig → Place → List AirCell → Bool

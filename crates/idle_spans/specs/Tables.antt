@@ -1,7 +1,5 @@
 -- What the tables of the endpoints keep, and which cells they stand for.
-use Rattle.std.specs.Prelude.{◌≡◌, ℕ, ◌+◌, ◌<◌, ◌≤◌, false, ◌||◌, List, [], ◌∷◌, length, get_or, map}
-use Rattle.fh_time.specs.Numbering.{extended_of}
-use Rattle.bfp_codec.specs.declared.methods.Method.TheVariants.{Plain}
+use Rattle.std.specs.Prelude.{◌≡◌, ℕ, ◌+◌, ◌<◌, ◌≤◌, ◌||◌, List, [], ◌∷◌, length, get_or, map}
 use Rattle.window_config.specs.declared.endpoints.EndpointConfig.{EndpointConfig}
 use Rattle.window_config.specs.declared.config.Config.{Config}
 use Rattle.air_source.specs.declared.events.AirCell.{AirCell}
@@ -13,6 +11,7 @@ use Rattle.idle_spans.specs.Marked.{no_mark}
 use Rattle.idle_spans.specs.declared.places.Mark.{Mark}
 use Rattle.idle_spans.specs.declared.places.Place.{Place}
 use Rattle.window_config.specs.declared.plan.TheConstants.{LAST_FRAME}
+use Rattle.window_config.specs.Endpoints.{no_endpoint}
 
 -- the table of an endpoint: the marks of its symbols in the frames, in order
 pub record RowValue : Type 0 where
@@ -24,10 +23,6 @@ pub record RowValue : Type 0 where
 -- the tables of all endpoints
 pub record SpansValue : Type 0 where
   pub rows : List RowValue
-
--- what stands behind the ends of a list
-abbrev pub no_endpoint : EndpointConfig
-no_endpoint = record { id = 0; numerology = extended_of; prbs = 1; format = record { dynamic = false; method = Plain } }
 
 abbrev pub no_row : RowValue
 no_row = record { endpoint = no_endpoint; first = 1; last = 1; marks = [] }

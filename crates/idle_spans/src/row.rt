@@ -1,7 +1,8 @@
 // The table of one endpoint.
 ghost use Rattle.std.specs.Prelude.{◌≡◌, ℕ, pos, ◌+◌, ◌-◌, ◌^◌, ◌<◌, ◌≤◌, ◌≤ℤ◌, ◌<ℤ◌, ◌↔◌, true, false, not, IsTrue, [], ◌∷◌, length, IfOk, IfSome, IsNone, get_or};
 ghost use Rattle.idle_spans.specs.Symbols.{IsAfter, ComesAfter, symbol_count};
-ghost use Rattle.idle_spans.specs.Silence.{is_radio, same_symbol, is_of_symbol};
+ghost use Rattle.idle_spans.specs.Silence.{same_symbol, is_of_symbol};
+ghost use Rattle.air_source.specs.Units.{is_down};
 ghost use Rattle.idle_spans.specs.Places.{is_index};
 ghost use Rattle.idle_spans.specs.Marked.{no_mark};
 ghost use Rattle.idle_spans.specs.Runs.{count_from, IsLongRun};
@@ -49,7 +50,7 @@ fn blank_marks(alloc: Global, count: usize) -> Result<Vec<Mark>, NoMemory>
 
 /// Whether it is the radio unit.
 fn is_radio(side: Side) -> bool
-    ensures { result ≡ is_radio side }
+    ensures { result ≡ is_down side }
 {
     match side {
         Side::Ru => true,

@@ -24,7 +24,7 @@ use Rattle.radio_moments.proofs.StepLemmas.{arrivals_stay, cells_stay, intake_ow
 use Rattle.radio_moments.specs.Turns.{AtRadioTurn, IsRadioInStep, IsRadioLanded, events_before, intake_events, radio_events}
 use Rattle.radio_moments.specs.replay_events.specs.Heard.{arrivals_heard, cells_heard}
 use Rattle.radio_moments.specs.replay_events.specs.Moments.{arrivals_before, end_of_time}
-use Rattle.du_intake.specs.ru_buffers.specs.Calls.{StandsFor, given_of}
+use Rattle.du_intake.specs.ru_buffers.specs.Calls.{StandsFor}
 use Rattle.du_intake.specs.ru_buffers.specs.radio_laws.specs.Reporting.{due_of}
 use Rattle.du_intake.specs.ru_buffers.specs.declared.unit.Ru.{Ru}
 use Rattle.send_queue.specs.Outboxes.{Handed}
@@ -33,7 +33,7 @@ use Rattle.send_queue.specs.unit_model.proofs.OntoLemmas.{onto-append, onto_none
 use Rattle.send_queue.specs.unit_model.specs.Lists.{onto}
 use Rattle.send_queue.specs.unit_model.specs.Radiated.{first_clock}
 use Rattle.send_queue.specs.unit_model.specs.Reports.{accepted_of, ru_reported}
-use Rattle.send_queue.specs.unit_model.specs.Standing.{History}
+use Rattle.send_queue.specs.unit_model.specs.Standing.{History, owed_until}
 use Rattle.send_queue.specs.unit_model.specs.Uplink.{jobs}
 use Rattle.send_queue.specs.unit_model.specs.declared.jobs.UplinkJob.{UplinkJob}
 use Rattle.du_intake.specs.history_laws.proofs.TickLemmas.{last_of_next}
@@ -71,21 +71,21 @@ has_seen d tick h due landed = record {
 }
 
 -- they are those of the tick
-pub due_jobs : (d : Document) (tick : ℤ) (h : History) → IsDueAt d tick → IsRadioLanded d tick h → given_of d.config h h.clock ≡ jobs_of_tick d.config (landings_for AtRu d) tick
+pub due_jobs : (d : Document) (tick : ℤ) (h : History) → IsDueAt d tick → IsRadioLanded d tick h → owed_until d.config h h.clock ≡ jobs_of_tick d.config (landings_for AtRu d) tick
 due_jobs d tick h due landed =
-    ap (λ (t : ℤ). given_of d.config h t) landed.clock
+    ap (λ (t : ℤ). owed_until d.config h t) landed.clock
     ∙ owes_tick d.config (landings_for AtRu d) tick (tick +ℤ pos 1) h (has_seen d tick h due landed) due.begun (next_later tick tick (≤ℤ_refl tick)) landed.given
 
 -- and with them all up to the tick are given
 pub given_jobs : (d : Document) (tick : ℤ) (h : History) → IsDueAt d tick → IsRadioLanded d tick h
-    → h.given ++ given_of d.config h h.clock ≡ jobs_until d.config (landings_for AtRu d) tick
+    → h.given ++ owed_until d.config h h.clock ≡ jobs_until d.config (landings_for AtRu d) tick
 given_jobs d tick h due landed =
-    ap (λ (t : ℤ). h.given ++ given_of d.config h t) landed.clock
+    ap (λ (t : ℤ). h.given ++ owed_until d.config h t) landed.clock
     ∙ gives_tick d.config (landings_for AtRu d) tick (tick +ℤ pos 1) h (has_seen d tick h due landed) due.begun (next_later tick tick (≤ℤ_refl tick)) landed.given
 
 -- then none is left up to it
 none_left : (d : Document) (tick : ℤ) (k : History) → IsDueAt d tick → k.arrivals ≡ arrivals_before (landings_for AtRu d) (tick +ℤ pos 1)
-    → k.given ≡ jobs_until d.config (landings_for AtRu d) tick → given_of d.config k tick ≡ []
+    → k.given ≡ jobs_until d.config (landings_for AtRu d) tick → owed_until d.config k tick ≡ []
 none_left d tick k due came given =
     let c = d.config in
     let ls = landings_for AtRu d in
@@ -100,10 +100,10 @@ none_left d tick k due came given =
 
 -- it stands at the start of the next tick
 pub radio_then : (d : Document) (tick : ℤ) (h : History) (ru : Ru) → IsDueAt d tick → IsRadioLanded d tick h
-    → StandsFor d.config ru (given_too h (given_of d.config h h.clock)) → AtRadioTurn d (tick +ℤ pos 1) ru
+    → StandsFor d.config ru (given_too h (owed_until d.config h h.clock)) → AtRadioTurn d (tick +ℤ pos 1) ru
 radio_then d tick h ru due landed stands =
     let c = d.config in
-    let k = given_too h (given_of c h h.clock) in
+    let k = given_too h (owed_until c h h.clock) in
     let given : k.given ≡ jobs_until c (landings_for AtRu d) tick = given_jobs d tick h due landed in
     let last = sym (last_of_next tick) in
     let other = intake_own d tick in
@@ -119,7 +119,7 @@ radio_then d tick h ru due landed stands =
         reported = landed.reported ∙ ap (λ (u : ℤ). ru_reported c (arrivals_before (landings_for AtRu d) (tick +ℤ pos 1)) u) last;
         quiet = record {
           cells = ap (λ (u : ℤ). due_of c k u) (sym last ∙ sym landed.clock) ∙ stands.kept.past;
-          messages = ap (λ (u : ℤ). given_of c k u) (sym last) ∙ none_left d tick k due landed.arrivals given;
+          messages = ap (λ (u : ℤ). owed_until c k u) (sym last) ∙ none_left d tick k due landed.arrivals given;
         };
         given = given ∙ ap (λ (u : ℤ). jobs_until c (landings_for AtRu d) u) last;
         came = landed.came ∙ sym (arrivals_stay AtRu AtDu (heard_before d tick) (intake_events d tick) refl other) ∙ ap (arrivals_heard AtRu []) (sym events);
@@ -162,13 +162,13 @@ handed_now post d tick h u ru old new due landed sent tone none =
 
 pub handed_then : {G : Type 0} (pre : G → RePlace → Type 0) (post : G → RePlace → Wide → Type 0) (d : Document) (tick : ℤ) (h : History) (old new : Answers G)
     → IsDueAt d tick → IsRadioLanded d tick h → HasHanded pre post d (tick -ℤ pos 1) old → new.uplink.antenna ≡ old.uplink.antenna
-    → AreNumbered d.config new.uplink (onto (numbered_before d tick) (uplink_messages_of d.config (given_of d.config h h.clock))) → new.outbox.frames ≡ []
+    → AreNumbered d.config new.uplink (onto (numbered_before d tick) (uplink_messages_of d.config (owed_until d.config h h.clock))) → new.outbox.frames ≡ []
     → HasHanded pre post d tick new
 handed_then pre post d tick h old new due landed handed same numbered none =
     let c = d.config in
     let ls = landings_for AtRu d in
     let before = messages_until c ls (tick -ℤ pos 1) in
-    let all : onto (numbered_before d tick) (uplink_messages_of c (given_of c h h.clock)) ≡ onto [] (messages_until c ls tick) =
+    let all : onto (numbered_before d tick) (uplink_messages_of c (owed_until c h h.clock)) ≡ onto [] (messages_until c ls tick) =
     ap (λ (js : List UplinkJob). onto (onto [] before) (uplink_messages_of c js)) (due_jobs d tick h due landed)
     ∙ sym (onto-append [] before (messages_of_tick c ls tick)) ∙ ap (onto []) (sym (messages_go_on c ls tick due.begun)) in
     record {

@@ -13,7 +13,6 @@ use Rattle.du_intake.specs.history_laws.specs.Arriving.{IsNextArrival}
 use Rattle.du_intake.specs.history_laws.proofs.ArrivingLemmas.{arrival_leaves_due}
 use Rattle.radio_moments.specs.document_traffic.specs.Sending.{Leaving, SentCounts}
 use Rattle.radio_moments.specs.fh_document.specs.declared.document.Document.{Document}
-use Rattle.radio_moments.specs.frame_ways.specs.Flying.{arrival_at}
 use Rattle.radio_moments.specs.frame_ways.specs.Landed.{bytes_of}
 use Rattle.radio_moments.specs.frame_ways.specs.Ways.{IsLanded, IsTickOver, coming_at}
 use Rattle.radio_moments.specs.frame_ways.specs.declared.landed.Landed.{Landed}
@@ -31,6 +30,7 @@ use Rattle.send_queue.specs.unit_model.specs.Standing.{History, arrived, at_cloc
 use Rattle.send_queue.specs.unit_model.specs.declared.allocations.Allocation.{Allocation}
 use Rattle.send_queue.specs.window_config.specs.declared.config.Config.{Config}
 use Rattle.intake_moments.specs.Landing.{IntakeHasTaken, MayHear, frames_told, du_landed}
+use Rattle.du_intake.specs.ru_buffers.specs.unit_memory.specs.Memory.{arrival_at}
 
 -- ---- a frame of a tick
 

@@ -13,8 +13,7 @@ use Rattle.du_intake.specs.Units.{intake_due_of}
 use Rattle.du_intake.specs.declared.unit.Intake.{Intake}
 use Rattle.radio_moments.specs.fh_document.specs.declared.document.Document.{Document}
 use Rattle.radio_moments.specs.document_traffic.specs.Laws.{IsReplayable}
-use Rattle.radio_moments.specs.frame_ways.specs.Flying.{arrival_at}
-use Rattle.radio_moments.proofs.StepLemmas.{all_front, arrivals_stay, cells_stay, radio_own}
+use Rattle.radio_moments.proofs.StepLemmas.{arrivals_stay, cells_stay, radio_own}
 use Rattle.radio_moments.proofs.StopLemmas.{halts_ahead, stops_ahead}
 use Rattle.radio_moments.specs.Stops.{HaltsBehind, RestsBehind, StopsBehind}
 use Rattle.radio_moments.specs.Turns.{events_before, intake_events, radio_events}
@@ -31,6 +30,8 @@ use Rattle.intake_moments.specs.Answering.{heard_before}
 use Rattle.intake_moments.specs.Landing.{MayHear, frames_told}
 use Rattle.intake_moments.specs.Turns.{AtIntakeTurn, IsIntakeInStep, IsIntakeTurn, planned_for}
 use Rattle.intake_moments.proofs.TurnLemmas.{arrivals_closed, begun_at, cells_closed, due_here}
+use Rattle.du_intake.specs.history_laws.proofs.AddedLemmas.{in_front}
+use Rattle.du_intake.specs.ru_buffers.specs.unit_memory.specs.Memory.{arrival_at}
 
 -- ---- in step with what was heard
 
@@ -124,7 +125,7 @@ stops_closing grew stopped more d tick h k u a b e l first s =
     let results = results_at d AtDu tick in
     let front = arrivals_at AtDu t tick in
     let other = radio_own d tick in
-    let own = all_front (λ (x : AirCell). x.side ≡ AtDu) s.told (s.cell ∷ s.rest)
+    let own = in_front (λ (x : AirCell). x.side ≡ AtDu) s.told (s.cell ∷ s.rest)
     (subst (AreOf AtDu) s.is (due_of_side AtDu c.delays c.endpoints (du_known c (planned_for d) k.arrivals) k.reported tick)) in
     record {
       told = front ++ map Cell s.told;

@@ -10,7 +10,6 @@ use Rattle.radio_moments.specs.document_traffic.specs.Sending.{Leaving, SentCoun
 use Rattle.du_intake.specs.Calls.{IsReportedBefore, IntakeStandsFor, intake_clock}
 use Rattle.du_intake.specs.declared.unit.Intake.{Intake}
 use Rattle.radio_moments.specs.fh_document.specs.declared.document.Document.{Document}
-use Rattle.radio_moments.specs.frame_ways.specs.Flying.{arrival_at}
 use Rattle.radio_moments.specs.frame_ways.specs.Ways.{Waits, coming_at}
 use Rattle.radio_moments.specs.frame_ways.specs.declared.way.Way.{Way}
 use Rattle.radio_moments.specs.measured_traffic.specs.Doings.{Doings, results_of, with_frame, with_frames}
@@ -22,6 +21,7 @@ use Rattle.send_queue.specs.unit_model.specs.Standing.{History}
 use Rattle.send_queue.specs.unit_model.specs.declared.allocations.Allocation.{Allocation}
 use Rattle.send_queue.specs.window_config.specs.declared.config.Config.{Config}
 use Rattle.intake_moments.specs.Turns.{planned_for}
+use Rattle.du_intake.specs.ru_buffers.specs.unit_memory.specs.Memory.{arrival_at}
 
 -- a way to the distributed unit on which nothing more is sent at a tick
 abbrev pub WaitsToLandUp : Document → ℤ → SentCounts → List Leaving → Way → Type 0

@@ -18,7 +18,7 @@ use Rattle.fh_document.specs.Proper.{IsFrom, IsDelivery}
 use Rattle.fh_document.specs.Steps.{Said, deliveries}
 use Rattle.fh_document.specs.Words.{number_in}
 use Rattle.line_laws.specs.Joined.{is_word, spaced}
-use Rattle.line_laws.specs.Words.{way_word, class_word, deliver_words}
+use Rattle.line_laws.specs.Words.{class_word, deliver_words}
 use Rattle.line_laws.proofs.Tests.{if_true, took, then_some}
 use Rattle.line_laws.proofs.NumberLemmas.{number_is, decimal_word, signed_word, time_is}
 use Rattle.line_laws.proofs.InjectLemmas.{way_is, way_visible}
@@ -26,6 +26,7 @@ use Rattle.line_laws.proofs.LineLemmas.{line_is}
 use Rattle.fh_document.specs.declared.config_lines.TheConstants.{MOST_TRANSIT}
 use Rattle.fh_document.specs.declared.deliver_lines.TheConstants.{MOST_NUMBER}
 use Rattle.fh_time.proofs.Orders.{both_true}
+use Rattle.air_source.specs.Units.{way_text}
 
 class_is : (class : Class3) → class_of (class_word class) ≡ Some class
 class_is C = refl
@@ -54,7 +55,7 @@ deliver_visible d h =
 
 delivery_is : (d : Delivery) → IsDelivery d → delivery_of (deliver_words d) ≡ Some d
 delivery_is d h =
-    took (side_of (way_word d.side)) d.side _ (way_is d.side)
+    took (side_of (way_text d.side)) d.side _ (way_is d.side)
     ∙ took (class_of (class_word d.class)) d.class _ (class_is d.class)
     ∙ took (number_in 1 MOST_NUMBER (decimal d.k)) d.k _ (number_is 1 MOST_NUMBER d.k h.some h.most (omega (arith, h.most)))
     ∙ took (times_of (least_of d.class) (map signed_decimal d.copies)) d.copies _ (times_are (least_of d.class) d.copies h.times)

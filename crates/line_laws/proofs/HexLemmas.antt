@@ -12,9 +12,9 @@ use Rattle.fh_document.specs.Hex.{hex_of, is_hex, bytes_of, decoded, frame_of}
 use Rattle.line_laws.specs.Joined.{is_word}
 use Rattle.line_laws.specs.Laws.{AreBytes}
 use Rattle.line_laws.specs.Words.{hex_text, frame_word}
-use Rattle.line_laws.proofs.Tests.{if_true, if_false}
+use Rattle.line_laws.proofs.Tests.{if_true}
 use Rattle.fh_base.specs.declared.source.TheConstants.{FRAME_LIMIT}
-use Rattle.fh_time.proofs.Orders.{and_false_3 as and_false, both_true}
+use Rattle.fh_time.proofs.Orders.{and_false_3 as and_false, both_true, if_not}
 
 digit_is : (d : ℕ) → d < 16 → digit_value (digit_char d) ≡ d
 digit_is d small = digit_value-digit_char d (omega arith)
@@ -112,7 +112,7 @@ pub frame_is : (bytes : List ℕ) → AreBytes bytes → length bytes ≤ FRAME_
 frame_is [] h most = refl
 frame_is (b ∷ bytes) h most =
     let all = b ∷ bytes in
-    if_false (bytes_eq (hex_text all) (codes "-")) (Some []) _ (and_false _)
+    if_not (bytes_eq (hex_text all) (codes "-")) (Some []) _ (and_false _)
     ∙ if_true _ (decoded (hex_text all)) None (fits (length (hex_text all)) (length all) (hex_size all) most)
     ∙ if_true (is_hex (hex_text all)) (Some (bytes_of (hex_text all))) None (all_hex all)
     ∙ ap Some (bytes_are all h)

@@ -21,20 +21,21 @@ use Rattle.fh_document.specs.Words.{is_text, number_in}
 use Rattle.line_laws.specs.Joined.{is_word}
 use Rattle.line_laws.specs.Laws.{IsFrame}
 use Rattle.line_laws.specs.Lines.{inject_text, injections_text, document_with}
-use Rattle.line_laws.specs.Words.{way_word, frame_word, inject_words}
-use Rattle.line_laws.proofs.Tests.{if_false, then_ok, then_some}
+use Rattle.line_laws.specs.Words.{frame_word, inject_words}
+use Rattle.line_laws.proofs.Tests.{then_ok, then_some}
 use Rattle.line_laws.proofs.JoinLemmas.{words_text, lines_are}
 use Rattle.line_laws.proofs.NumberLemmas.{number_is, signed_word}
 use Rattle.line_laws.proofs.HexLemmas.{frame_is, frame_visible}
 use Rattle.line_laws.proofs.LineLemmas.{line_is}
 use Rattle.fh_time.specs.declared.nanoseconds.TheConstants.{LAST_TIME}
-use Rattle.fh_time.proofs.Orders.{not_none as not_zero, both_true}
+use Rattle.fh_time.proofs.Orders.{not_none as not_zero, both_true, if_not}
+use Rattle.air_source.specs.Units.{way_text}
 
-pub way_is : (side : Side) → side_of (way_word side) ≡ Some side
+pub way_is : (side : Side) → side_of (way_text side) ≡ Some side
 way_is Ru = refl
 way_is Du = refl
 
-pub way_visible : (side : Side) → is_word (way_word side) ≡ true
+pub way_visible : (side : Side) → is_word (way_text side) ≡ true
 way_visible Ru = refl
 way_visible Du = refl
 
@@ -48,7 +49,7 @@ time_ok (negsuc n) h = absurd (omega (arith, ints, h.low))
 
 inject_is : (r : Said) (i : Injection) → IsFrame i → inject_line r (inject_words i) ≡ injected r i
 inject_is r i h =
-    then_some (side_of (way_word i.side)) why.Number i.side _ (way_is i.side)
+    then_some (side_of (way_text i.side)) why.Number i.side _ (way_is i.side)
     ∙ then_ok (time_at 0 LAST_TIME (inject_words i) 2) i.at _ (time_ok i.at h.time)
     ∙ then_some (frame_of (frame_word i.frame)) why.Number i.frame _ (frame_is i.frame h.bytes h.short)
 
@@ -92,7 +93,7 @@ first_read lines = refl
 pub document_is : (is : List Injection) → All IsFrame is → document_of (injections_text is) ≡ Ok (document_with is)
 document_is is h =
     let all = codes "fronthaul 1" ∷ map inject_text is in
-    if_false (length (injections_text is) == 0) (Err (1, why.FirstLine)) _ (not_zero (length (injections_text is)) (omega arith))
+    if_not (length (injections_text is) == 0) (Err (1, why.FirstLine)) _ (not_zero (length (injections_text is)) (omega arith))
     ∙ ap (read_from 1 start) (lines_are all (omega arith) (inject_texts is h))
     ∙ first_read (map inject_text is)
     ∙ all_read start [] 2 is (omega arith) h refl

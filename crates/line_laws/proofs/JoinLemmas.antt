@@ -11,7 +11,7 @@ use Rattle.std.proofs.Math.Seq.{get_or-append_seam}
 use Rattle.fh_document.specs.Words.{words_of, is_text, without_last_feed}
 use Rattle.line_laws.specs.Joined.{is_word, joined, spaced, fed}
 use Rattle.line_laws.proofs.Tests.{if_true, all_weaker, filter_all}
-use Rattle.fh_time.proofs.Orders.{left_true, right_true, both_true}
+use Rattle.fh_time.proofs.Orders.{left_true, right_true, both_true, nat_own}
 
 -- no byte of the part is the separator
 abbrev pub is_free : ℕ → List ℕ → Bool
@@ -27,14 +27,11 @@ free_all separator (b ∷ part) h =
     other true e = absurd (cc e)
     other false e = refl
 
-same_true : (n : ℕ) → (n == n) ≡ true
-same_true n = grind (arith, nat_tests)
-
 pub split_joined : (separator : ℕ) (part : List ℕ) (parts : List (List ℕ)) → list_all (is_free separator) (part ∷ parts) ≡ true
     → slice_split (λ b. b == separator) (joined separator (part ∷ parts)) ≡ part ∷ parts
 split_joined separator part [] h = slice_split_none (λ b. b == separator) part (free_all separator part (left_true (is_free separator part) true h))
 split_joined separator part (next ∷ parts) h =
-    slice_split_at (λ b. b == separator) part separator (joined separator (next ∷ parts)) (free_all separator part (left_true (is_free separator part) _ h)) (same_true separator)
+    slice_split_at (λ b. b == separator) part separator (joined separator (next ∷ parts)) (free_all separator part (left_true (is_free separator part) _ h)) (nat_own separator)
     ∙ ap (λ ps. part ∷ ps) (split_joined separator next parts (right_true (is_free separator part) _ h))
 
 -- ---- words

@@ -9,8 +9,9 @@ use Rattle.fh_document.specs.Lines.{reached, comes_late, is_skipped, keyword_lin
 use Rattle.fh_document.specs.Steps.{Said, Kind}
 use Rattle.fh_document.specs.Words.{is_text}
 use Rattle.line_laws.specs.Joined.{is_word, spaced}
-use Rattle.line_laws.proofs.Tests.{if_true, if_false, then_some}
+use Rattle.line_laws.proofs.Tests.{if_true, then_some}
 use Rattle.line_laws.proofs.JoinLemmas.{words_are, words_text}
+use Rattle.fh_time.proofs.Orders.{if_not}
 
 other : (n : ℕ) → n ≢ 1 → (n == 1) ≡ false
 other n h = grind (arith, nat_tests)
@@ -25,7 +26,7 @@ unfolding line_of
 line_is r n k ws later words some keyword order =
     if_true (is_text (spaced ws)) _ _ (words_text ws words)
     ∙ ap (words_line r n) (words_are ws words)
-    ∙ if_false (n == 1) _ (later_line r n ws) (other n later)
-    ∙ if_false (is_skipped ws) _ _ some
+    ∙ if_not (n == 1) _ (later_line r n ws) (other n later)
+    ∙ if_not (is_skipped ws) _ _ some
     ∙ then_some (keyword_of r.version ws) why.UnknownWord k (λ x. ordered_line r n x ws) keyword
-    ∙ if_false (comes_late r k) _ _ (in_time (rank_of k) (reached r) order)
+    ∙ if_not (comes_late r k) _ _ (in_time (rank_of k) (reached r) order)

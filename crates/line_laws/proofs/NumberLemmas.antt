@@ -9,10 +9,11 @@ use Rattle.std.proofs.lemmas.Fmt.{decimal_by_steps, decimal_is_IsNumeral, decima
 use Rattle.std.proofs.lemmas.List.Folds.{list_all-append}
 use Rattle.fh_document.specs.EndpointLines.{taking}
 use Rattle.fh_document.specs.Proper.{IsFrom}
-use Rattle.fh_document.specs.Words.{number_in, is_decimal}
+use Rattle.fh_document.specs.Words.{number_in}
 use Rattle.line_laws.specs.Joined.{is_word}
 use Rattle.line_laws.proofs.Tests.{if_true, all_weaker, took}
 use Rattle.fh_time.proofs.Orders.{both_true}
+use Rattle.text_lines.specs.Numbers.{is_decimal}
 
 pub decimal_digits : (n : ℕ) → n < 2 ^ 64 → is_decimal (decimal n) ≡ true
 decimal_digits = decimal_by_steps (λ n ds. is_decimal ds ≡ true) one more

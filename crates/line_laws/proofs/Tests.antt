@@ -11,10 +11,6 @@ pub if_true : {A : Type 0} (b : Bool) (x y : A) → b ≡ true → (if b then x 
 if_true true x y e = refl
 if_true false x y e = absurd (cc e)
 
-pub if_false : {A : Type 0} (b : Bool) (x y : A) → b ≡ false → (if b then x else y) ≡ y
-if_false true x y e = absurd (cc e)
-if_false false x y e = refl
-
 pub took : {A B : Type 0} (o : Option A) (x : A) (next : A → Option B) → o ≡ Some x → taking o next ≡ next x
 took o x next e = ap (λ y. taking y next) e
 

@@ -2,8 +2,6 @@
 use Rattle.std.specs.Prelude.{ℕ, List, [], ◌∷◌, ◌++◌, map, codes, decimal}
 use Rattle.std.specs.Fmt.{signed_decimal}
 use Rattle.text_lines.specs.Words.{hex4_text, hex3_text, hex2_text}
-use Rattle.air_source.specs.declared.events.Side.{Side}
-use Rattle.air_source.specs.declared.events.Side.TheVariants.{Ru, Du}
 use Rattle.window_config.specs.declared.plan.PlanKind.{PlanKind}
 use Rattle.window_config.specs.declared.plan.PlanKind.TheVariants.{Down, Up, Idle}
 use Rattle.window_config.specs.declared.plan.PlanLine.{PlanLine}
@@ -11,11 +9,7 @@ use Rattle.fh_document.specs.declared.delivered.Class3.{Class3}
 use Rattle.fh_document.specs.declared.delivered.Class3.TheVariants.{C, U, M}
 use Rattle.fh_document.specs.declared.delivered.Delivery.{Delivery}
 use Rattle.fh_document.specs.declared.document.Injection.{Injection}
-
--- the way to a unit
-abbrev pub way_word : Side → List ℕ
-way_word Ru = codes "dl"
-way_word Du = codes "ul"
+use Rattle.air_source.specs.Units.{way_text}
 
 -- two lower-case digits for each byte
 abbrev pub hex_text : List ℕ → List ℕ
@@ -29,7 +23,7 @@ frame_word (b ∷ bytes) = hex_text (b ∷ bytes)
 
 -- `inject WAY NS HEX`
 abbrev pub inject_words : Injection → List (List ℕ)
-inject_words i = codes "inject" ∷ way_word i.side ∷ signed_decimal i.at ∷ frame_word i.frame ∷ []
+inject_words i = codes "inject" ∷ way_text i.side ∷ signed_decimal i.at ∷ frame_word i.frame ∷ []
 
 abbrev pub plan_kind_word : PlanKind → List ℕ
 plan_kind_word Down = codes "dl"
@@ -49,4 +43,4 @@ class_word M = codes "m"
 
 -- `deliver WAY CLASS K NS ..`
 abbrev pub deliver_words : Delivery → List (List ℕ)
-deliver_words d = codes "deliver" ∷ way_word d.side ∷ class_word d.class ∷ decimal d.k ∷ map signed_decimal d.copies
+deliver_words d = codes "deliver" ∷ way_text d.side ∷ class_word d.class ∷ decimal d.k ∷ map signed_decimal d.copies

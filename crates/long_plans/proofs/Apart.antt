@@ -24,6 +24,7 @@ use Rattle.long_plans.proofs.Parts.{air_start, start}
 use Rattle.long_plans.proofs.Ticks.{no_parts_up, parts_are, parts_from}
 use Rattle.window_config.specs.declared.plan.TheConstants.{LAST_FRAME}
 use Rattle.fh_time.proofs.Orders.{le_true}
+use Rattle.sent_laws.specs.unit_model.specs.Terms.{MESSAGE_BYTES}
 
 -- ---- one part a message
 
@@ -36,7 +37,7 @@ unfolding packs_behind
 alone_behind p [] = refl
 alone_behind p (q ∷ ps) =
     ap (λ (b : Bool). let ms : List (Message Part) = if b then packs_behind part_fields 1 (with_part (alone p) q) ps else alone p ∷ packs_behind part_fields 1 (alone q) ps in ms)
-    (and_false (same_symbol part_fields p q) (nat_le (size_of part_fields (alone p) + part_fields.size q) 16384))
+    (and_false (same_symbol part_fields p q) (nat_le (size_of part_fields (alone p) + part_fields.size q) MESSAGE_BYTES))
     ∙ ap (λ (ms : List (Message Part)). alone p ∷ ms) (alone_behind q ps)
 
 all_alone : (ps : List Part) → packs part_fields 1 ps ≡ map alone ps

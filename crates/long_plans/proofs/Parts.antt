@@ -18,10 +18,10 @@ use Rattle.sent_laws.specs.plan_model.specs.Lines.{line_allocation}
 use Rattle.sent_laws.specs.plan_model.specs.Streams.{Part, has_part, part_in, symbol_parts}
 use Rattle.sent_laws.specs.plan_model.specs.declared.lines.PlannedLine.{PlannedLine}
 use Rattle.sent_laws.specs.plan_model.specs.declared.streams.Stream.TheVariants.{DownData}
-use Rattle.sent_laws.specs.schedule_laws.proofs.TimeLemmas.{pos_same}
 use Rattle.long_plans.proofs.Lines.{line_at, lines_from}
 use Rattle.fh_time.specs.declared.frames.TheConstants.{FRAME}
 use Rattle.sent_laws.specs.unit_model.proofs.ClaimLemmas.{same_slot_is as slots_equal, from_within as from_high}
+use Rattle.fh_time.proofs.Orders.{pos_same}
 
 pub each_nothing : {A : Type 0} (from n : ℕ) (f : ℕ → List A) → ((k : ℕ) → from ≤ k → k < from + n → f k ≡ []) → each from n f ≡ []
 unfolding each

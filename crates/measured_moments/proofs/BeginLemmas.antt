@@ -11,7 +11,7 @@ use Rattle.std.specs.Int.Signed.{≤ℤ_refl}
 use Rattle.air_source.specs.declared.events.Side.{Side}
 use Rattle.air_source.specs.declared.events.Side.TheVariants.{Ru, Du}
 use Rattle.delay_exchange.specs.Meters.{HasDoings}
-use Rattle.delay_exchange.specs.delay_laws.specs.Nodes.{Compensation, is_side}
+use Rattle.delay_exchange.specs.delay_laws.specs.Nodes.{Compensation}
 use Rattle.delay_exchange.specs.delay_laws.specs.Ticks.{Begin, due}
 use Rattle.delay_measure.specs.After.{begins}
 use Rattle.delay_measure.specs.declared.edge.Edge.{Edge}
@@ -36,6 +36,7 @@ use Rattle.measured_moments.specs.Begins.{HasBegun, HaveBegun, MeasuresWait, beg
 use Rattle.measured_moments.specs.Times.{begin_then}
 use Rattle.measured_moments.specs.declared.meters.Meters.{Meters}
 use Rattle.measured_moments.proofs.TimeLemmas.{measure_is}
+use Rattle.air_source.specs.Units.{same_side}
 
 -- ---- begins in two parts
 
@@ -46,7 +47,7 @@ with_begins-append c x (b ∷ bs) cs = with_begins-append c (told_in c x (begins
 begins_more : (d : Document) (side : Side) (x : Doings) (bs cs : List Begin)
     → with_begins (compensation_of d side) (with_begins (compensation_of d side) x (begins_of side bs)) (begins_of side cs) ≡ with_begins (compensation_of d side) x (begins_of side (bs ++ cs))
 begins_more d side x bs cs =
-    sym (ap (with_begins (compensation_of d side) x) (filter-append (λ (b : Begin). is_side side b.side) bs cs)
+    sym (ap (with_begins (compensation_of d side) x) (filter-append (λ (b : Begin). same_side side b.side) bs cs)
     ∙ with_begins-append (compensation_of d side) x (begins_of side bs) (begins_of side cs))
 
 -- ---- what waits once the first one was taken

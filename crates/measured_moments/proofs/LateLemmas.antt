@@ -31,7 +31,7 @@ use Rattle.delay_exchange.specs.fh_document.specs.declared.document.Measure.{Mea
 use Rattle.delay_exchange.specs.fragment_laws.specs.Apart.{IsIn}
 use Rattle.delay_exchange.specs.frame_deliveries.proofs.Within.{copies_within}
 use Rattle.delay_exchange.specs.frame_deliveries.specs.Copies.{copies_of}
-use Rattle.delay_exchange.specs.measured_traffic.specs.Measured.{delay_messages, exchanges, flights_then, others_of, tick_count}
+use Rattle.delay_exchange.specs.measured_traffic.specs.Measured.{delay_messages, exchanges, flights_then, others_of}
 use Rattle.delay_exchange.specs.measured_traffic.specs.Replayed.{all_leaving, landings_for, leaving_flight, leaving_from, leaving_then}
 use Rattle.delay_exchange.specs.plan_model.specs.Departures.{departures_of, sending_window, sent_at, start_of_part}
 use Rattle.delay_exchange.specs.plan_model.specs.Lines.{planned}
@@ -67,6 +67,7 @@ use Rattle.delay_exchange.specs.document_traffic.proofs.TimeLemmas.{from_is}
 use Rattle.delay_exchange.specs.measured_traffic.proofs.FlightLemmas.{none_at}
 use Rattle.fh_time.specs.declared.frames.TheConstants.{FRAME}
 use Rattle.delay_exchange.specs.fh_document.specs.declared.config_lines.TheConstants.{MOST_TRANSIT}
+use Rattle.delay_exchange.specs.unit_model.specs.Times.{tick_count}
 
 -- ---- the frames of a plan leave later than time 0
 

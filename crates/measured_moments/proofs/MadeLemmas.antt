@@ -5,7 +5,6 @@ use Rattle.air_source.specs.declared.events.Side.{Side}
 use Rattle.delay_exchange.specs.Meters.{HasDoings}
 use Rattle.delay_exchange.specs.Outcomes.{made_frames}
 use Rattle.delay_exchange.specs.declared.unit.UnitMeter.{UnitMeter}
-use Rattle.delay_exchange.specs.delay_laws.specs.Nodes.{other}
 use Rattle.delay_measure.specs.declared.edge.Edge.{Edge}
 use Rattle.delay_exchange.specs.document_traffic.specs.Sending.{Leaving}
 use Rattle.delay_exchange.specs.fh_document.specs.declared.document.Document.{Document}
@@ -13,6 +12,7 @@ use Rattle.frame_ways.specs.declared.way.Way.{Way}
 use Rattle.delay_exchange.specs.measured_traffic.specs.Doings.{Doings, taken}
 use Rattle.delay_exchange.specs.measured_traffic.specs.Replayed.{leaving_made}
 use Rattle.measured_moments.specs.Made.{HasStillToSend}
+use Rattle.air_source.specs.Units.{other}
 
 -- how many frames a unit made that were not taken
 abbrev pub frames_made : {C : Type 0} → UnitMeter C → ℕ

@@ -7,7 +7,6 @@ use Rattle.std.specs.Int.Signed.{≤ℤ_refl}
 use Rattle.air_source.specs.declared.events.Side.{Side}
 use Rattle.air_source.specs.declared.events.Side.TheVariants.{Ru, Du}
 use Rattle.delay_exchange.specs.Meters.{HasDoings}
-use Rattle.delay_exchange.specs.delay_laws.specs.Nodes.{is_side}
 use Rattle.delay_exchange.specs.delay_laws.specs.Ticks.{Begin}
 use Rattle.delay_measure.specs.declared.edge.Edge.{Edge}
 use Rattle.delay_exchange.specs.fh_document.specs.declared.document.Document.{Document}
@@ -22,6 +21,7 @@ use Rattle.delay_exchange.specs.replay_events.specs.history_laws.proofs.TickLemm
 use Rattle.measured_moments.specs.Begins.{AwaitBegins, BeginNoneTo, MeasuresWait, measure_at, begins_waiting}
 use Rattle.measured_moments.specs.declared.meters.Meters.{Meters}
 use Rattle.fh_time.proofs.Orders.{at_most}
+use Rattle.air_source.specs.Units.{same_side}
 
 -- ---- before the next measurement
 
@@ -37,7 +37,7 @@ module _ {C D : Type 0} where
   pub none_begins : (d : Document) (now tick : ℤ) (m : Meters C D) → AwaitBegins d now m → BeginNoneTo m (tick -ℤ pos 1) → (side : Side) (t : ℤ) → now ≤ℤ t → t <ℤ tick → begins_at d side t ≡ []
   none_begins d now tick m waits none side t low high =
       let empty : begins_waiting m t ≡ [] = ap (flat_map (measure_at m.measures.now)) (none_below t m.waiting (below_from t ((tick -ℤ pos 1) +ℤ pos 1) m.waiting (over_last t tick high) none)) in
-      ap (filter (λ (b : Begin). is_side side b.side)) (sym (waits.begins t low) ∙ empty)
+      ap (filter (λ (b : Begin). same_side side b.side)) (sym (waits.begins t low) ∙ empty)
 
   -- so they still wait at the tick
   pub begins_wait : (d : Document) (now tick : ℤ) (m : Meters C D) → AwaitBegins d now m → now ≤ℤ tick → BeginNoneTo m (tick -ℤ pos 1) → AwaitBegins d tick m

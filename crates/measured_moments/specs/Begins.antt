@@ -5,7 +5,6 @@ use Rattle.std.specs.Option.{option_to_list}
 use Rattle.air_source.specs.declared.events.Side.{Side}
 use Rattle.air_source.specs.declared.events.Side.TheVariants.{Ru, Du}
 use Rattle.delay_exchange.specs.Meters.{HasDoings}
-use Rattle.delay_exchange.specs.delay_laws.specs.Nodes.{is_side}
 use Rattle.delay_exchange.specs.delay_laws.specs.Ticks.{Begin, due}
 use Rattle.delay_measure.specs.declared.edge.Edge.{Edge}
 use Rattle.delay_measure.specs.declared.edge.Edge.TheVariants.{Sending, Receiving}
@@ -20,6 +19,7 @@ use Rattle.delay_exchange.specs.measured_traffic.specs.Doings.{Doings, with_begi
 use Rattle.delay_exchange.specs.measured_traffic.specs.Replayed.{begun, doings_at}
 use Rattle.measured_moments.specs.Times.{begin_then}
 use Rattle.measured_moments.specs.declared.meters.Meters.{Meters}
+use Rattle.air_source.specs.Units.{same_side}
 
 -- a closure has these two answers
 abbrev pub AnswersAs : {C : Type 0} → (C → Edge → ℤ → Type 0) → C → ℤ → ℤ → Type 0
@@ -65,7 +65,7 @@ pub record HaveBegun {C D : Type 0} (ru_pre : C → Edge → Type 0) (ru_post : 
 
 -- of these, those of a unit
 abbrev pub begins_of : Side → List Begin → List Begin
-begins_of side bs = filter (λ b. is_side side b.side) bs
+begins_of side bs = filter (λ b. same_side side b.side) bs
 
 -- one measurement has begun at a tick, where the units had these doings, and all others wait as before
 pub record HasBegun {C D : Type 0} (ru_pre : C → Edge → Type 0) (ru_post : C → Edge → ℤ → Type 0) (du_pre : D → Edge → Type 0) (du_post : D → Edge → ℤ → Type 0)

@@ -2,7 +2,7 @@
 ghost use Rattle.std.specs.Prelude.{◌≡◌, ◌≤ℤ◌, ◌++◌, List, [], OnOk, map};
 ghost use Rattle.air_source.specs.declared.events.Side.{Side};
 ghost use Rattle.delay_exchange.specs.Meters.{HasDoings};
-ghost use Rattle.delay_exchange.specs.delay_laws.specs.Nodes.{other};
+ghost use Rattle.air_source.specs.Units.{other};
 ghost use Rattle.delay_exchange.specs.document_traffic.specs.Sending.{Leaving};
 ghost use Rattle.delay_exchange.specs.fh_document.specs.Proper.{IsDocument};
 ghost use Rattle.delay_exchange.specs.fh_document.specs.declared.document.Document.{Document};

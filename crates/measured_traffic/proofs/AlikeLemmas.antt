@@ -8,7 +8,6 @@ use Rattle.std.proofs.lemmas.Int.{by_lt_z, ints}
 use Rattle.std.proofs.lemmas.List.Concat.{flat_map-append}
 use Rattle.document_delays.specs.air_source.specs.declared.events.Side.{Side}
 use Rattle.document_delays.specs.air_source.specs.declared.events.Side.TheVariants.{Ru, Du}
-use Rattle.document_delays.specs.delay_laws.specs.Nodes.{other}
 use Rattle.document_delays.specs.delay_laws.specs.Ticks.{Flight, after_tick, flight, hearing, launched, state}
 use Rattle.document_delays.specs.delay_measure.specs.declared.message.DelayMessage.{DelayMessage}
 use Rattle.document_delays.specs.Settings.{setting_of, ways_of}
@@ -32,8 +31,10 @@ use Rattle.measured_traffic.proofs.ListLemmas.{at_key, ticks_flat, without}
 use Rattle.measured_traffic.proofs.MergeLemmas.{AreFrom, first_merged, later_from, merged, none_from, none_merged, rest_from, second_merged}
 use Rattle.measured_traffic.proofs.Apart.{all_sent, copies_flown, delayed_then, landings_apart, sent_then}
 use Rattle.measured_traffic.proofs.OrderLemmas.{flights_in_ticks, leaves_within}
-use Rattle.measured_traffic.specs.Measured.{exchanges, flights_then, others_of, tick_count}
+use Rattle.measured_traffic.specs.Measured.{exchanges, flights_then, others_of}
 use Rattle.measured_traffic.specs.Replayed.{all_leaving, landings_for, leaving_flight, leaving_from}
+use Rattle.document_delays.specs.air_source.specs.Units.{other}
+use Rattle.uplink_turns.specs.unit_model.specs.Times.{tick_count}
 
 -- ---- a frame of any class, and how many ticks each of its copies takes
 

@@ -11,7 +11,8 @@ use Rattle.document_delays.specs.fh_document.specs.declared.document.Document.{D
 use Rattle.uplink_turns.specs.unit_model.specs.Lists.{each_tick}
 use Rattle.uplink_turns.specs.unit_model.specs.Meetings.{Arrival}
 use Rattle.uplink_turns.specs.unit_model.specs.Radiated.{first_clock}
-use Rattle.measured_traffic.specs.Measured.{delay_frame, exchanges, flights_then, tick_count}
+use Rattle.measured_traffic.specs.Measured.{delay_frame, exchanges, flights_then}
+use Rattle.uplink_turns.specs.unit_model.specs.Times.{tick_count}
 
 -- a copy of a frame of delay measurement, so many ticks after it left
 abbrev pub flight_copy : Flight → ℤ → Arrival

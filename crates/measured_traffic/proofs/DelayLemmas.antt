@@ -14,7 +14,7 @@ use Rattle.document_delays.specs.delay_laws.proofs.Knowing.{known_grows}
 use Rattle.document_delays.specs.delay_laws.proofs.Quiet.{before}
 use Rattle.document_delays.specs.delay_laws.specs.Known.{delay_event, known, known_then, known_while}
 use Rattle.document_delays.specs.delay_laws.specs.Measured.{IsMeasured, IsMeasuredExactly}
-use Rattle.document_delays.specs.delay_laws.specs.Nodes.{Heard, delay_then, is_side, time_of}
+use Rattle.document_delays.specs.delay_laws.specs.Nodes.{Heard, delay_then, time_of}
 use Rattle.document_delays.specs.delay_laws.specs.Ticks.{Hearing, Setting, State, arriving, begin_heard, came_heard, due, exchange_of, hearing, landing, state, told_all}
 use Rattle.document_delays.specs.delay_measure.specs.After.{id_of}
 use Rattle.document_delays.specs.delay_measure.specs.declared.message.DelayMessage.{DelayMessage}
@@ -37,11 +37,13 @@ use Rattle.measured_traffic.proofs.SideLemmas.{all_told, begins_told, messages_o
 use Rattle.measured_traffic.proofs.TurnLemmas.{comes_as_told, comes_in, heard_next, own, side_in}
 use Rattle.measured_traffic.specs.Delays.{DelayIs, DelaysAreExact, DelaysAreMeasured, EventsAreExact, EventsAreMeasured, InjectsNone, IsOfRequest, IsTimeOfWay, ResultsAre}
 use Rattle.measured_traffic.specs.Doings.{Doings, results_of, with_begins, with_frame}
-use Rattle.measured_traffic.specs.Measured.{delay_messages, exchanges, tick_count}
+use Rattle.measured_traffic.specs.Measured.{delay_messages, exchanges}
 use Rattle.measured_traffic.specs.Replayed.{begun, doings_in, landings_for, results_at, traffic_of}
 use Rattle.measured_traffic.specs.Sides.{IsSideOf, known_as}
 use Rattle.measured_traffic.proofs.FlightLemmas.{none_at}
 use Rattle.fh_time.proofs.Orders.{within_next}
+use Rattle.document_delays.specs.air_source.specs.Units.{same_side}
+use Rattle.uplink_turns.specs.unit_model.specs.Times.{tick_count}
 
 -- ---- parts of lists
 
@@ -119,7 +121,7 @@ module _ (w : Setting) (P : ℕ → ℤ → Type 0) where
       (results_hold side t later next more (frames_told w side h x t a.frame s) whole)
 
   tick_results : (side : Side) (t : ℤ) (s : State) (x : Doings) (arrivals : List Arrival) → messages_of arrivals ≡ landing (s.sent side) t ++ w.others side t → IsSideOf side (before s) x → AreKnown (hearing w t s)
-      → ResultsAre P (results_of (w.comps side) t (with_begins (w.comps side) x (filter (λ b. is_side side b.side) (due t w.begins))) arrivals)
+      → ResultsAre P (results_of (w.comps side) t (with_begins (w.comps side) x (filter (λ b. same_side side b.side) (due t w.begins))) arrivals)
   unfolding hearing
   tick_results Ru t s x arrivals come is all =
       let begun = told_all w (before s) (map begin_heard (due t w.begins)) in

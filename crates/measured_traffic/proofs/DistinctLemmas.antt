@@ -23,13 +23,13 @@ use Rattle.uplink_turns.specs.replay_events.specs.Moments.{landing_at}
 use Rattle.uplink_turns.specs.unit_model.proofs.SweepLaws.{gap_is}
 use Rattle.uplink_turns.specs.unit_model.specs.Meetings.{Arrival}
 use Rattle.uplink_turns.specs.unit_model.specs.Radiated.{first_clock}
-use Rattle.uplink_turns.specs.unit_model.specs.Times.{end_of_time}
+use Rattle.uplink_turns.specs.unit_model.specs.Times.{end_of_time, tick_count}
 use Rattle.uplink_turns.specs.replay_events.specs.history_laws.proofs.TickLemmas.{clock_begins}
 use Rattle.measured_traffic.proofs.MadeLemmas.{IsIdHeard, IsIdSent, ids_kept, sent_fits}
 use Rattle.measured_traffic.proofs.PlainLemmas.{delayed_plain}
 use Rattle.measured_traffic.proofs.StampLemmas.{AreStamps, receiving_fits, sending_fits}
 use Rattle.measured_traffic.specs.Laws.{DocumentsAreDistinct}
-use Rattle.measured_traffic.specs.Measured.{delay_messages, delays_of, is_delay, others_of, read_as, tick_count}
+use Rattle.measured_traffic.specs.Measured.{delay_messages, delays_of, is_delay, others_of, read_as}
 
 -- ---- ids that are read
 

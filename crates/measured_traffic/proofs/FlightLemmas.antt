@@ -29,11 +29,11 @@ use Rattle.uplink_turns.specs.unit_model.specs.Meetings.{Arrival}
 use Rattle.uplink_turns.specs.unit_model.specs.Radiated.{first_clock}
 use Rattle.document_delays.specs.window_config.specs.Windows.{ticks_of_ns}
 use Rattle.uplink_turns.specs.replay_events.specs.history_laws.proofs.ListLemmas.{front_empty, back_empty}
-use Rattle.uplink_turns.specs.plan_model.proofs.TickLemmas.{int_apart}
-use Rattle.measured_traffic.specs.Measured.{delay_messages, exchanges, others_of, tick_count}
-use Rattle.fh_time.specs.declared.nanoseconds.TheConstants.{LAST_TIME}
+use Rattle.measured_traffic.specs.Measured.{delay_messages, exchanges, others_of}
+use Rattle.fh_time.specs.declared.nanoseconds.TheConstants.{LAST_TIME, NANOSECOND}
 use Rattle.document_delays.specs.fh_document.specs.declared.config_lines.TheConstants.{MOST_TRANSIT}
-use Rattle.fh_time.proofs.Orders.{lasts as later}
+use Rattle.fh_time.proofs.Orders.{lasts as later, not_eq}
+use Rattle.uplink_turns.specs.unit_model.specs.Times.{tick_count}
 
 -- ---- at a tick at which nothing lands no copy does
 
@@ -69,13 +69,13 @@ flown_lands (g ∷ fs) f ticks m i none =
 pub none_at : (t : ℤ) (arrivals : List Arrival) → All (λ a. a.at ≡ t → ⊥) arrivals → landing_at arrivals t ≡ []
 none_at t [] differ = refl
 none_at t (a ∷ arrivals) differ =
-    let other = int_apart a.at t (All-head (λ (b : Arrival). b.at ≡ t → ⊥) a arrivals differ) in
+    let other = not_eq a.at t (All-head (λ (b : Arrival). b.at ≡ t → ⊥) a arrivals differ) in
     rw other (none_at t arrivals (All-tail (λ (b : Arrival). b.at ≡ t → ⊥) a arrivals differ))
 
-early : (ns t : ℤ) → pos 0 ≤ℤ ns → t <ℤ first_clock → ns *ℤ pos 1536 ≡ t → ⊥
+early : (ns t : ℤ) → pos 0 ≤ℤ ns → t <ℤ first_clock → ns *ℤ pos NANOSECOND ≡ t → ⊥
 early ns t low before e = omega (arith, ints, low, before, e)
 
-late : (ns t : ℤ) → ns ≤ℤ pos LAST_TIME → ticks_of_ns (pos LAST_TIME) <ℤ t → ns *ℤ pos 1536 ≡ t → ⊥
+late : (ns t : ℤ) → ns ≤ℤ pos LAST_TIME → ticks_of_ns (pos LAST_TIME) <ℤ t → ns *ℤ pos NANOSECOND ≡ t → ⊥
 late ns t high behind e = omega (arith, ints, high, behind, e)
 
 positive : (ns : ℤ) → pos 1 ≤ℤ ns → pos 0 ≤ℤ ticks_of_ns ns
@@ -85,7 +85,7 @@ begun : (ns : ℤ) → pos 1000000 ≤ℤ ns → first_clock ≤ℤ ticks_of_ns 
 begun ns low = omega (arith, ints, low)
 
 module _ (d : Document) (is : IsDocument d) where
-  no_others : (side : Side) (t : ℤ) → ((ns : ℤ) → IsFrom 0 LAST_TIME ns → ns *ℤ pos 1536 ≡ t → ⊥) → others_of d side t ≡ []
+  no_others : (side : Side) (t : ℤ) → ((ns : ℤ) → IsFrom 0 LAST_TIME ns → ns *ℤ pos NANOSECOND ≡ t → ⊥) → others_of d side t ≡ []
   no_others side t differ =
       let injections = filter (is_to side) d.injections in
       ap (λ (arrivals : List Arrival). flat_map (λ (a : Arrival). delay_messages a.frame) arrivals)

@@ -29,7 +29,7 @@ use Rattle.uplink_turns.specs.schedule_laws.proofs.ListLemmas.{in_all, of_map, o
 use Rattle.uplink_turns.specs.unit_model.proofs.SweepLaws.{gap_is}
 use Rattle.uplink_turns.specs.unit_model.specs.Lists.{each_tick}
 use Rattle.uplink_turns.specs.unit_model.specs.Radiated.{first_clock}
-use Rattle.uplink_turns.specs.unit_model.specs.Times.{end_of_time}
+use Rattle.uplink_turns.specs.unit_model.specs.Times.{end_of_time, tick_count}
 use Rattle.uplink_turns.specs.unit_model.specs.declared.jobs.UplinkJob.{UplinkJob}
 use Rattle.document_traffic.specs.uplink_laws.specs.Premise.{frames_of}
 use Rattle.uplink_turns.specs.uplink_model.specs.Sent.{in_sent_order}
@@ -40,7 +40,7 @@ use Rattle.measured_traffic.proofs.FrameLemmas.{payload_long, payload_of}
 use Rattle.measured_traffic.proofs.ListLemmas.{at_key, none_then}
 use Rattle.measured_traffic.proofs.MergeLemmas.{first_merged}
 use Rattle.measured_traffic.proofs.SentLemmas.{messages_are_owed}
-use Rattle.measured_traffic.specs.Measured.{delay_frame, exchanges, flights_then, header_fields, tick_count}
+use Rattle.measured_traffic.specs.Measured.{delay_frame, exchanges, flights_then, header_fields}
 use Rattle.measured_traffic.specs.Replayed.{all_leaving, landings_for, leaving_flight, leaving_from, leaving_then}
 use Rattle.measured_traffic.specs.Turns.{AllAreShort, FirstLeaves, LeavingWaits, MeasuredLandLater, MeasuredLeave, UplinkLeavesInTurn}
 use Rattle.document_delays.specs.fh_document.specs.declared.config_lines.TheConstants.{MOST_TRANSIT}

@@ -12,7 +12,8 @@ use Rattle.uplink_turns.specs.fragment_laws.specs.Apart.{IsIn}
 use Rattle.uplink_turns.specs.schedule_laws.proofs.OrderLemmas.{IsRising}
 use Rattle.uplink_turns.specs.unit_model.specs.Lists.{each_tick, onto}
 use Rattle.uplink_turns.specs.plan_model.proofs.ListLemmas.{in_either}
-use Rattle.uplink_turns.specs.plan_model.proofs.TickLemmas.{int_apart, next_tick}
+use Rattle.uplink_turns.specs.plan_model.proofs.TickLemmas.{next_tick}
+use Rattle.fh_time.proofs.Orders.{not_eq}
 
 -- ---- filters
 
@@ -64,7 +65,7 @@ ticks_none key from zero = refl
 ticks_none key from (suc n) = ticks_none key (from +ℤ pos 1) n
 
 pub without : {X : Type 0} (key : X → ℤ) (t : ℤ) (x : X) (xs : List X) → (key x ≡ t → ⊥) → at_key key (x ∷ xs) t ≡ at_key key xs t
-without key t x xs differ = let other = int_apart (key x) t differ in rw other refl
+without key t x xs differ = let other = not_eq (key x) t differ in rw other refl
 
 pub with_first : {X : Type 0} (key : X → ℤ) (t : ℤ) (x : X) (xs : List X) → int_eq (key x) t ≡ true → at_key key (x ∷ xs) t ≡ x ∷ at_key key xs t
 with_first key t x xs same = rw same refl

@@ -7,11 +7,12 @@ use Rattle.document_delays.specs.air_source.specs.declared.events.Side.TheVarian
 use Rattle.document_delays.specs.delay_laws.proofs.Keeping.{Keeps}
 use Rattle.document_delays.specs.delay_laws.proofs.Sending.{sent_named}
 use Rattle.document_delays.specs.delay_laws.proofs.Ticking.{due_now}
-use Rattle.document_delays.specs.delay_laws.specs.Nodes.{Heard, is_side, other, sent_then, time_of, told_to}
+use Rattle.document_delays.specs.delay_laws.specs.Nodes.{Heard, sent_then, time_of, told_to}
 use Rattle.document_delays.specs.delay_laws.specs.Ticks.{Begin, Flight, Hearing, Setting, State, after_tick, answers, arriving, begin_heard, came_heard, due, exchange_of, flight, hearing, landing, launched, state, told_all, told_one}
 use Rattle.document_delays.specs.delay_measure.specs.After.{Told, id_of}
 use Rattle.document_delays.specs.delay_measure.specs.declared.message.DelayMessage.{DelayMessage}
 use Rattle.measured_traffic.proofs.StampLemmas.{AreStamps, FitsBesides, has_stamps, told_sends}
+use Rattle.document_delays.specs.air_source.specs.Units.{other, same_side}
 
 -- ---- ids
 
@@ -45,7 +46,7 @@ module _ (w : Setting) where
     made : (side : Side) → All FitsBesides (h.made side)
 
   told_side : (side s : Side) (told : Told) (earlier : List Told) → AreStamps (w.comps s) (time_of told) → All (λ (x : Told). AreStamps (w.comps side) (time_of x)) earlier
-      → All (λ (x : Told). AreStamps (w.comps side) (time_of x)) (if is_side side s then told ∷ earlier else earlier)
+      → All (λ (x : Told). AreStamps (w.comps side) (time_of x)) (if same_side side s then told ∷ earlier else earlier)
   told_side Ru Ru told earlier are all = All-cons (λ (x : Told). AreStamps (w.comps Ru) (time_of x)) told earlier are all
   told_side Ru Du told earlier are all = all
   told_side Du Ru told earlier are all = all
@@ -61,7 +62,7 @@ module _ (w : Setting) where
       told_sends (w.comps one.side) (exchange_of w heard one.side (id_of one.told)) one.told is
       (has_stamps (w.comps one.side) (told_to one.side heard) (told_stamped one.side heard all) (id_of one.told))
 
-  if_made : (side s : Side) (ms : List DelayMessage) → All FitsBesides ms → All FitsBesides (if is_side side s then ms else [])
+  if_made : (side s : Side) (ms : List DelayMessage) → All FitsBesides ms → All FitsBesides (if same_side side s then ms else [])
   if_made Ru Ru ms all = all
   if_made Ru Du ms all = All-nil FitsBesides
   if_made Du Ru ms all = All-nil FitsBesides
@@ -70,7 +71,7 @@ module _ (w : Setting) where
   one_made : (h : Hearing) (one : Heard) → IsStamped one → IsMade h → IsMade (told_one w h one)
   one_made h one is before = record {
     heard = All-cons IsStamped one h.heard is before.heard;
-    made = λ side. All-append FitsBesides (h.made side) (if is_side side one.side then answers w h.heard one else []) (before.made side)
+    made = λ side. All-append FitsBesides (h.made side) (if same_side side one.side then answers w h.heard one else []) (before.made side)
         (if_made side one.side (answers w h.heard one) (answers_fit h.heard one before.heard is));
   }
 

@@ -21,7 +21,8 @@ use Rattle.measured_traffic.specs.Laws.{IsDelayMessage, MessagesLand}
 use Rattle.measured_traffic.proofs.AlikeLemmas.{lands_alike}
 use Rattle.measured_traffic.proofs.Apart.{all_sent, copies_flown, delayed_then, flight_copy, sent_then}
 use Rattle.measured_traffic.proofs.OrderLemmas.{AreInTicks, flights_in_ticks}
-use Rattle.measured_traffic.specs.Measured.{delay_frame, delay_messages, exchanges, flights_then, others_of, tick_count}
+use Rattle.measured_traffic.specs.Measured.{delay_frame, delay_messages, exchanges, flights_then, others_of}
+use Rattle.uplink_turns.specs.unit_model.specs.Times.{tick_count}
 
 -- ---- the messages of what lands at a tick
 

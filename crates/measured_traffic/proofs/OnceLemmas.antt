@@ -30,7 +30,6 @@ use Rattle.document_traffic.specs.sent_laws.specs.Frames.{texts_of}
 use Rattle.uplink_turns.specs.unit_model.specs.Blocks.{block_at}
 use Rattle.uplink_turns.specs.unit_model.specs.Claims.{claim_at}
 use Rattle.uplink_turns.specs.unit_model.specs.Commands.{is_uplink as is_sent_up}
-use Rattle.uplink_turns.specs.unit_model.specs.Lists.{joined}
 use Rattle.uplink_turns.specs.unit_model.specs.Meetings.{Arrival}
 use Rattle.uplink_turns.specs.unit_model.specs.Standing.{same_cell}
 use Rattle.uplink_turns.specs.unit_model.specs.Uplink.{jobs}
@@ -49,6 +48,7 @@ use Rattle.measured_traffic.specs.Laws.{LeaveTheSame}
 use Rattle.measured_traffic.specs.Once.{ScheduleRadiatesOnce, UplinkIsTakenInOnce}
 use Rattle.measured_traffic.specs.Replayed.{landings_for, traffic_of}
 use Rattle.uplink_turns.specs.plan_model.specs.Lines.{uplink_allocations}
+use Rattle.uplink_turns.specs.ecpri_fragments.specs.Pieces.{joined}
 
 -- ---- what the radio unit makes of arrivals that leave it the same
 

@@ -5,7 +5,6 @@ use Rattle.std.specs.Int.Signed.{≤ℤ_refl}
 use Rattle.document_delays.specs.air_source.specs.declared.events.Side.{Side}
 use Rattle.document_delays.specs.air_source.specs.declared.events.Side.TheVariants.{Ru, Du}
 use Rattle.document_delays.specs.air_source.specs.declared.links.LinkFrame.{LinkFrame}
-use Rattle.document_delays.specs.delay_laws.specs.Nodes.{other}
 use Rattle.document_delays.specs.delay_laws.specs.Ticks.{Flight, Setting, after_tick, flight, hearing, launched, state}
 use Rattle.document_delays.specs.delay_measure.specs.declared.message.DelayMessage.{DelayMessage}
 use Rattle.document_traffic.specs.Landing.{handed_for, leaving_answer, leaving_to}
@@ -23,8 +22,9 @@ use Rattle.uplink_turns.specs.uplink_model.specs.Sent.{in_sent_order, leaving_at
 use Rattle.document_delays.specs.window_config.specs.declared.config.Config.{Config}
 use Rattle.uplink_turns.specs.plan_model.proofs.ListLemmas.{in_either}
 use Rattle.measured_traffic.proofs.ListLemmas.{ticks_within}
-use Rattle.measured_traffic.specs.Measured.{tick_count}
 use Rattle.fh_time.proofs.Orders.{frame_low_is as begun}
+use Rattle.document_delays.specs.air_source.specs.Units.{other}
+use Rattle.uplink_turns.specs.unit_model.specs.Times.{tick_count}
 
 -- ---- when the frames of the classes c and u leave
 

@@ -6,7 +6,7 @@ use Rattle.std.specs.Option.{option_to_list}
 use Rattle.document_delays.specs.air_source.specs.declared.events.Side.{Side}
 use Rattle.document_delays.specs.air_source.specs.declared.events.Side.TheVariants.{Ru, Du}
 use Rattle.document_delays.specs.air_source.specs.declared.links.LinkFrame.{LinkFrame}
-use Rattle.document_traffic.proofs.AnswerLemmas.{jobs_proper, last_start, sent_is_handed}
+use Rattle.document_traffic.proofs.AnswerLemmas.{jobs_proper, last_start, sent_is_handed, IsHanded, handed_is}
 use Rattle.document_traffic.proofs.CopyLemmas.{delayed_is}
 use Rattle.document_traffic.proofs.LineLemmas.{lines_fit}
 use Rattle.document_traffic.specs.Landing.{all_delayed, antenna_for, jobs_for, leaving_to, leaving_up}
@@ -46,7 +46,7 @@ use Rattle.document_delays.specs.window_config.specs.declared.endpoints.Endpoint
 use Rattle.uplink_turns.specs.plan_model.proofs.SizeLemmas.{few_pieces}
 use Rattle.uplink_turns.specs.plan_model.proofs.ListLemmas.{all_of}
 use Rattle.document_traffic.proofs.ShortLemmas.{short_cut}
-use Rattle.measured_traffic.proofs.AnswerLemmas.{IsPiece, messages_short, piece_is}
+use Rattle.measured_traffic.proofs.AnswerLemmas.{messages_short}
 use Rattle.measured_traffic.specs.Measured.{delay_messages, delays_of, read_as}
 use Rattle.ecpri_frames.specs.declared.heads.TheConstants.{ONE_WAY_DELAY}
 
@@ -121,7 +121,7 @@ module _ (d : Document) (is : IsDocument d) (valid : IsValid d.config d.plan) (w
         size_fits = in_size (length piece) c.fragment (short_cut (length piece) from c.fragment size (length bytes) (length_cut from to bytes)) is.config.fragment_high;
       })
 
-  handed_plain : (f : LinkFrame) → IsPiece d.config (antenna_for d) (uplink_messages_of d.config (jobs_for d)) f → delay_messages f.frame ≡ []
+  handed_plain : (f : LinkFrame) → IsHanded d.config (antenna_for d) (uplink_messages_of d.config (jobs_for d)) f → delay_messages f.frame ≡ []
   handed_plain f p =
       let short = messages_short d.config is.config.endpoints.each last_start (jobs_for d) (jobs_proper d is valid) p.message p.there in
       subst (λ (g : LinkFrame). delay_messages g.frame ≡ []) (sym p.is)
@@ -131,7 +131,7 @@ module _ (d : Document) (is : IsDocument d) (valid : IsValid d.config d.plan) (w
   up_plain : (f : Leaving) → IsIn f (leaving_up d) → delay_messages f.frame ≡ []
   up_plain f m =
       let w = sent_is_handed d is valid f m in
-      subst (λ (g : Leaving). delay_messages g.frame ≡ []) (sym w.2) (handed_plain w.0 (piece_is d.config (antenna_for d) [] (uplink_messages_of d.config (jobs_for d)) w.0 w.1))
+      subst (λ (g : Leaving). delay_messages g.frame ≡ []) (sym w.2) (handed_plain w.0 (handed_is d.config (antenna_for d) [] (uplink_messages_of d.config (jobs_for d)) w.0 w.1))
 
   -- ---- of both
 

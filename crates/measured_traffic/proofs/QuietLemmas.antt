@@ -18,7 +18,8 @@ use Rattle.uplink_turns.specs.unit_model.specs.Meetings.{Arrival}
 use Rattle.uplink_turns.specs.unit_model.specs.Radiated.{first_clock}
 use Rattle.measured_traffic.proofs.SentLemmas.{none_measured}
 use Rattle.measured_traffic.specs.Laws.{UnmeasuredLandsTheSame}
-use Rattle.measured_traffic.specs.Measured.{delay_messages, others_of, tick_count}
+use Rattle.measured_traffic.specs.Measured.{delay_messages, others_of}
+use Rattle.uplink_turns.specs.unit_model.specs.Times.{tick_count}
 
 -- ---- no message of delay measurement comes in an injected frame
 

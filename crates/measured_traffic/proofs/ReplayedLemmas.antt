@@ -18,14 +18,14 @@ use Rattle.uplink_turns.specs.plan_model.specs.Valid.{IsValid}
 use Rattle.uplink_turns.specs.schedule_laws.proofs.ListLemmas.{of_map, of_tick}
 use Rattle.uplink_turns.specs.unit_model.specs.Meetings.{Arrival}
 use Rattle.uplink_turns.specs.unit_model.specs.Radiated.{first_clock}
-use Rattle.uplink_turns.specs.unit_model.specs.Times.{end_of_time}
+use Rattle.uplink_turns.specs.unit_model.specs.Times.{end_of_time, tick_count}
 use Rattle.document_delays.specs.window_config.specs.Windows.{ticks_of_ns}
 use Rattle.uplink_turns.specs.plan_model.proofs.ListLemmas.{in_either, of_filter}
 use Rattle.measured_traffic.proofs.FlightLemmas.{flown_after, flown_before}
 use Rattle.measured_traffic.specs.Laws.{LandingsAreReplayed}
 use Rattle.measured_traffic.proofs.AlikeLemmas.{lands_alike}
 use Rattle.measured_traffic.proofs.Apart.{all_sent, copies_flown, delayed_then, flight_copy, landings_apart, sent_then}
-use Rattle.measured_traffic.specs.Measured.{exchanges, flights_then, tick_count}
+use Rattle.measured_traffic.specs.Measured.{exchanges, flights_then}
 use Rattle.measured_traffic.specs.Replayed.{landings_for}
 
 of_flown : (fs : List Flight) (a : Arrival) → IsIn a (flat_map copies_flown fs) → (f : Flight) × IsIn f fs × IsIn a (copies_flown f)

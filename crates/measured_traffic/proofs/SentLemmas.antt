@@ -16,7 +16,7 @@ use Rattle.uplink_turns.specs.schedule_laws.proofs.OrderLemmas.{IsRising}
 use Rattle.uplink_turns.specs.unit_model.specs.Lists.{each_tick}
 use Rattle.uplink_turns.specs.unit_model.specs.Meetings.{Arrival}
 use Rattle.uplink_turns.specs.unit_model.specs.Radiated.{first_clock}
-use Rattle.uplink_turns.specs.unit_model.specs.Times.{end_of_time}
+use Rattle.uplink_turns.specs.unit_model.specs.Times.{end_of_time, tick_count}
 use Rattle.uplink_turns.specs.unit_model.specs.Uplink.{jobs}
 use Rattle.uplink_turns.specs.unit_model.specs.declared.allocations.Allocation.{Allocation}
 use Rattle.uplink_turns.specs.plan_model.proofs.TickLemmas.{ticks_same}
@@ -27,7 +27,7 @@ use Rattle.measured_traffic.specs.Laws.{MeasurementRests, MessagesAreOwed}
 use Rattle.measured_traffic.proofs.Apart.{all_sent, copies_flown, delayed_then, flight_copy, landings_apart, sent_then}
 use Rattle.measured_traffic.proofs.AlikeLemmas.{lands_alike}
 use Rattle.measured_traffic.proofs.OrderLemmas.{leaves_within}
-use Rattle.measured_traffic.specs.Measured.{exchanges, flights_then, has_only_delays, tick_count}
+use Rattle.measured_traffic.specs.Measured.{exchanges, flights_then, has_only_delays}
 use Rattle.measured_traffic.specs.Replayed.{landings_for}
 
 -- ---- without the frames of class m

@@ -9,7 +9,7 @@ use Rattle.document_delays.specs.air_source.specs.declared.events.Side.{Side}
 use Rattle.document_delays.specs.air_source.specs.declared.events.Side.TheVariants.{Ru, Du}
 use Rattle.document_delays.specs.delay_laws.specs.Known.{known_then, known_while}
 use Rattle.document_delays.specs.delay_laws.proofs.Quiet.{before}
-use Rattle.document_delays.specs.delay_laws.specs.Nodes.{delay_then, is_side, other, sent_then, told_to}
+use Rattle.document_delays.specs.delay_laws.specs.Nodes.{delay_then, sent_then, told_to}
 use Rattle.document_delays.specs.delay_laws.specs.Ticks.{Begin, Hearing, Setting, State, arriving, begin_heard, came_heard, due, hearing, landing, told_all, told_one}
 use Rattle.document_delays.specs.delay_measure.specs.After.{Told, begins, comes, exchange_after, id_of}
 use Rattle.document_delays.specs.delay_measure.specs.Payload.{message_of}
@@ -21,12 +21,13 @@ use Rattle.uplink_turns.specs.unit_model.specs.Meetings.{Arrival}
 use Rattle.measured_traffic.specs.Doings.{Doings, forgotten, results_known_by, told_in, with_begins, with_frame, with_frames, with_message, with_messages}
 use Rattle.measured_traffic.specs.Measured.{delay_frame, delay_messages, delays_of, is_delay, read_as}
 use Rattle.measured_traffic.specs.Sides.{SidesAreTold, IsSideOf, OneIsTold, OthersStay, ResultsAreKnown, heard_at, known_as}
+use Rattle.document_delays.specs.air_source.specs.Units.{other, same_side}
 
-is_self : (side : Side) → is_side side side ≡ true
+is_self : (side : Side) → same_side side side ≡ true
 is_self Ru = refl
 is_self Du = refl
 
-is_not : (side : Side) → is_side (other side) side ≡ false
+is_not : (side : Side) → same_side (other side) side ≡ false
 is_not Ru = refl
 is_not Du = refl
 
@@ -69,12 +70,12 @@ Follows w side t h d ms e =
     × (map (known_as side t) e.results ≡ map (known_as side t) d.results ++ known_while w h (map (came_heard side t) ms))
 
 -- those that change neither what was told nor what was made
-same_side : (side : Side) (h : Hearing) (d e : Doings) → e.told ≡ d.told → e.made ≡ d.made → IsSideOf side h d → IsSideOf side h e
-same_side side h d e told made s = record { told = told ∙ s.told; made = made ∙ s.made }
+side_stays : (side : Side) (h : Hearing) (d e : Doings) → e.told ≡ d.told → e.made ≡ d.made → IsSideOf side h d → IsSideOf side h e
+side_stays side h d e told made s = record { told = told ∙ s.told; made = made ∙ s.made }
 
 rests : (w : Setting) (side : Side) (t : ℤ) (h : Hearing) (d e : Doings) → e.told ≡ d.told → e.made ≡ d.made → e.results ≡ d.results → IsSideOf side h d → Follows w side t h d [] e
 rests w side t h d e told made results s =
-    (same_side side h d e told made s, ap (map (known_as side t)) results ∙ sym (append-nil (map (known_as side t) d.results)))
+    (side_stays side h d e told made s, ap (map (known_as side t)) results ∙ sym (append-nil (map (known_as side t) d.results)))
 
 known_one : (side : Side) (id : ℕ) (t : ℤ) (x : Option ℤ) → map (known_as side t) (results_known_by id x) ≡ map (λ v. known_as side t (record { id = id; value = v })) (option_to_list x)
 known_one side id t None = refl
@@ -146,21 +147,21 @@ results_known w side h d t frame s = (follows_all w side t h (forgotten d) (whol
 -- ---- the measurements that begin at it
 
 -- it goes on with its side, whichever unit is told something
-either_told : (w : Setting) (side to : Side) (h : Hearing) (d : Doings) (one : Told) → IsSideOf side h d → IsSideOf side (told_one w h (heard_at to one)) (if is_side side to then told_in (w.comps side) d one else d)
+either_told : (w : Setting) (side to : Side) (h : Hearing) (d : Doings) (one : Told) → IsSideOf side h d → IsSideOf side (told_one w h (heard_at to one)) (if same_side side to then told_in (w.comps side) d one else d)
 either_told w Ru Ru h d one s = one_told w Ru h d one s
 either_told w Ru Du h d one s = stays w Du h d one s
 either_told w Du Ru h d one s = stays w Ru h d one s
 either_told w Du Du h d one s = one_told w Du h d one s
 
 pub begins_told : (w : Setting) (side : Side) (h : Hearing) (d : Doings) (bs : List Begin) → IsSideOf side h d
-    → IsSideOf side (told_all w h (map begin_heard bs)) (with_begins (w.comps side) d (filter (λ b. is_side side b.side) bs))
+    → IsSideOf side (told_all w h (map begin_heard bs)) (with_begins (w.comps side) d (filter (λ b. same_side side b.side) bs))
 begins_told w side h d [] s = s
 begins_told w side h d (b ∷ bs) s =
     let next = told_in (w.comps side) d (begins b.at b.id b.kind) in
     let later = told_one w h (begin_heard b) in
     let one = either_told w side b.side h d (begins b.at b.id b.kind) s in
     let now : Bool → Type 0 = λ to. IsSideOf side later (if to then next else d) in
-    elim (cases_Bool (is_side side b.side)) [
+    elim (cases_Bool (same_side side b.side)) [
       | inl its ↦ rw its (begins_told w side later next bs (subst now its one))
       | inr others ↦ rw others (begins_told w side later d bs (subst now others one))
     ]
@@ -188,7 +189,7 @@ others_pass w side t h d (m ∷ ms) s = others_pass w side t (told_one w h (came
 
 -- what a unit has once all that begins at it has begun, and these frames came
 abbrev pub ticked : Setting → Side → ℤ → Doings → List Arrival → Doings
-ticked w side t d arrivals = with_frames (w.comps side) t (with_begins (w.comps side) d (filter (λ b. is_side side b.side) (due t w.begins))) arrivals
+ticked w side t d arrivals = with_frames (w.comps side) t (with_begins (w.comps side) d (filter (λ b. same_side side b.side) (due t w.begins))) arrivals
 
 -- where the frames have all messages that come to it, it goes on with its side of what both hear
 pub tick_told : (w : Setting) (side : Side) (t : ℤ) (s : State) (d : Doings) (arrivals : List Arrival) → messages_of arrivals ≡ landing (s.sent side) t ++ w.others side t → IsSideOf side (before s) d

@@ -8,7 +8,7 @@ use Rattle.std.specs.Int.Signed.{≤ℤ_refl}
 use Rattle.document_delays.specs.air_source.specs.declared.events.Side.{Side}
 use Rattle.document_delays.specs.air_source.specs.declared.events.Side.TheVariants.{Ru, Du}
 use Rattle.document_delays.specs.delay_laws.proofs.Quiet.{before}
-use Rattle.document_delays.specs.delay_laws.specs.Nodes.{other, told_to}
+use Rattle.document_delays.specs.delay_laws.specs.Nodes.{told_to}
 use Rattle.document_delays.specs.delay_laws.specs.Ticks.{Begin, Flight, Setting, after_tick as both_after, hearing, landing, state}
 use Rattle.document_delays.specs.delay_measure.specs.declared.message.DelayMessage.{DelayMessage}
 use Rattle.document_delays.proofs.Documents.{document_settled}
@@ -26,11 +26,13 @@ use Rattle.measured_traffic.proofs.LaunchLemmas.{launched_then}
 use Rattle.measured_traffic.proofs.MessageLemmas.{messages_land}
 use Rattle.measured_traffic.proofs.SideLemmas.{messages_of, tick_told}
 use Rattle.measured_traffic.specs.Doings.{Doings, nothing, taken, with_begins, with_frames}
-use Rattle.measured_traffic.specs.Measured.{delay_frame, exchanges, flights_then, others_of, tick_count}
+use Rattle.measured_traffic.specs.Measured.{delay_frame, exchanges, flights_then, others_of}
 use Rattle.measured_traffic.specs.Replayed.{after_tick, begins_at, doings_at, doings_in, landings_for, leaving_flight, leaving_made, made_at, told_frames}
 use Rattle.measured_traffic.specs.Sides.{IsSideOf}
 use Rattle.measured_traffic.specs.Turns.{DoingsBegin, DoingsGoOn, DoingsWait, FlightsWait, IsQuietBetween, MadeLeave}
 use Rattle.fh_time.proofs.Orders.{at_most}
+use Rattle.document_delays.specs.air_source.specs.Units.{other}
+use Rattle.uplink_turns.specs.unit_model.specs.Times.{tick_count}
 
 -- what is known of a document before its ticks
 abbrev pub own : Document → Setting

@@ -1,8 +1,7 @@
 -- The frames of delay measurement, and what both units measure in a document's replay (eCPRI 2.0, section 3.2.4.6; this project's
 -- profile). Times are ticks. What is sent of the classes c and u does not rest on delay measurement, and class m rests on what came
 -- before, so it is told tick by tick.
-use Rattle.std.specs.Prelude.{ℕ, ℤ, pos, ◌+ℤ◌, ◌==◌, nat_lt, Bool, if◌then◌else◌, List, [], ◌∷◌, ◌++◌, filter, length, Option, Some, None}
-use Rattle.std.specs.Int.{int_gap}
+use Rattle.std.specs.Prelude.{ℕ, ℤ, ◌==◌, nat_lt, Bool, if◌then◌else◌, List, [], ◌∷◌, ◌++◌, filter, length, Option, Some, None}
 use Rattle.std.specs.List.{flat_map, list_all}
 use Rattle.std.specs.Option.{option_to_list}
 use Rattle.std.specs.Ordering.{int_eq}
@@ -19,7 +18,7 @@ use Rattle.document_delays.specs.fh_document.specs.declared.document.Document.{D
 use Rattle.uplink_turns.specs.frame_bytes.specs.Spelled.{Field, in_bytes}
 use Rattle.uplink_turns.specs.replay_events.specs.Moments.{landing_at}
 use Rattle.uplink_turns.specs.unit_model.specs.Radiated.{first_clock}
-use Rattle.uplink_turns.specs.unit_model.specs.Times.{end_of_time}
+use Rattle.uplink_turns.specs.unit_model.specs.Times.{tick_count}
 use Rattle.ecpri_frames.specs.declared.heads.TheConstants.{ONE_WAY_DELAY}
 
 -- ---- frames of delay measurement
@@ -60,10 +59,6 @@ has_only_delays frame = list_all is_delay (whole_messages frame)
 -- the messages of delay measurement in the frames that the document injects to a unit at a tick
 abbrev pub others_of : Document → Side → ℤ → List DelayMessage
 others_of d side t = flat_map (λ a. delay_messages a.frame) (landing_at (injected_to side d) t)
-
--- how many ticks are gone over, from the first clock on
-abbrev pub tick_count : ℕ
-tick_count = int_gap first_clock (end_of_time +ℤ pos 1)
 
 -- all that both units were told of delay measurement, and all that was sent to each
 abbrev pub exchanges : Document → State

@@ -5,7 +5,6 @@ use Rattle.std.specs.Int.{int_gap}
 use Rattle.std.specs.Ordering.{int_eq}
 use Rattle.document_delays.specs.air_source.specs.declared.events.Side.{Side}
 use Rattle.document_delays.specs.air_source.specs.declared.events.Side.TheVariants.{Ru, Du}
-use Rattle.document_delays.specs.delay_laws.specs.Nodes.{is_side}
 use Rattle.document_delays.specs.delay_laws.specs.Ticks.{Begin, Flight, due}
 use Rattle.document_delays.specs.Settings.{begin_of, compensation_of}
 use Rattle.document_traffic.specs.Landing.{landing_with, leaving_to}
@@ -21,6 +20,7 @@ use Rattle.uplink_turns.specs.unit_model.specs.Radiated.{first_clock}
 use Rattle.measured_traffic.specs.Doings.{Doings, nothing, results_of, taken, with_begins, with_frames}
 use Rattle.measured_traffic.specs.Measured.{delay_frame, exchanges, flights_then}
 use Rattle.uplink_turns.specs.plan_model.specs.Lines.{uplink_allocations}
+use Rattle.document_delays.specs.air_source.specs.Units.{same_side}
 
 -- ---- what leaves
 
@@ -55,7 +55,7 @@ landings_for side d = landing_with d side (all_leaving side d)
 
 -- the measurements that begin at a unit at a tick, in the order of the document
 abbrev pub begins_at : Document → Side → ℤ → List Begin
-begins_at d side t = filter (λ b. is_side side b.side) (due t (map begin_of d.measures))
+begins_at d side t = filter (λ b. same_side side b.side) (due t (map begin_of d.measures))
 
 -- what a unit has of it once they have begun, and once these frames came too
 abbrev pub begun : Document → Side → ℤ → Doings → Doings

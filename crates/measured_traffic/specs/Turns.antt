@@ -2,7 +2,6 @@
 use Rattle.std.specs.Prelude.{◌≡◌, ℤ, pos, ◌+ℤ◌, ◌≤ℤ◌, ◌<ℤ◌, ◌<◌, ◌^◌, List, [], ◌∷◌, ◌++◌, All, length, map}
 use Rattle.document_delays.specs.air_source.specs.declared.events.Side.{Side}
 use Rattle.document_delays.specs.air_source.specs.declared.events.Side.TheVariants.{Ru}
-use Rattle.document_delays.specs.delay_laws.specs.Nodes.{other}
 use Rattle.document_delays.specs.delay_laws.specs.Ticks.{Flight}
 use Rattle.document_traffic.specs.Laws.{IsReplayable}
 use Rattle.document_traffic.specs.Landing.{antenna_for, copies_in, leaving_answer, leaving_up}
@@ -16,6 +15,7 @@ use Rattle.uplink_turns.specs.Turns.{left_from}
 use Rattle.measured_traffic.specs.Doings.{nothing, taken}
 use Rattle.measured_traffic.specs.Measured.{exchanges, flights_then}
 use Rattle.measured_traffic.specs.Replayed.{all_leaving, begins_at, doings_at, landings_for, leaving_flight, leaving_from, leaving_made, made_at}
+use Rattle.document_delays.specs.air_source.specs.Units.{other}
 
 -- ---- what leaves
 

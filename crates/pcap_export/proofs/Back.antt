@@ -17,7 +17,7 @@ use Rattle.pcap_frames.specs.Frames.{frame_before, frames_in, frames_of}
 use Rattle.pcap_frames.proofs.Steps.{next}
 use Rattle.pcap_export.specs.Packets.{file_head, ethernet_head, nanoseconds_of, ns_of, record_head, packet_bytes}
 use Rattle.pcap_export.specs.ReadBack.{IsUsual, AreUsual, timed_at, start_of, head_of, IsReadBack}
-use Rattle.fh_time.specs.declared.nanoseconds.TheConstants.{LAST_TIME}
+use Rattle.fh_time.specs.declared.nanoseconds.TheConstants.{LAST_TIME, NANOSECOND}
 use Rattle.fh_base.specs.declared.source.TheConstants.{FRAME_LIMIT}
 
 -- ---- one record
@@ -44,12 +44,12 @@ record Fits (a : Arrived) : Type 0 where
   pub time : ns_of a ≤ 10 ^ 12
   pub short : length a.frame ≤ FRAME_LIMIT
 
-by_ticks : (ticks : ℕ) → ticks ≤ 1536 * 10 ^ 12 → ticks / 1536 ≤ 10 ^ 12
+by_ticks : (ticks : ℕ) → ticks ≤ NANOSECOND * 10 ^ 12 → ticks / NANOSECOND ≤ 10 ^ 12
 by_ticks ticks low = omega (arith, low)
 
 fits : (a : Arrived) → IsUsual a → Fits a
 fits a h =
-    let is : ns_of a ≡ h.ticks / 1536 = ap (λ z. unwrap_or (nanoseconds_of z) 0) h.is in
+    let is : ns_of a ≡ h.ticks / NANOSECOND = ap (λ z. unwrap_or (nanoseconds_of z) 0) h.is in
     record { time = omega (arith, is, by_ticks h.ticks h.low); short = h.short }
 
 kept_back : (a : Arrived) (rest : List ℕ) → Fits a → kept_of false (packet_bytes a ++ rest) ≡ 14 + length a.frame

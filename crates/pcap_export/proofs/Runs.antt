@@ -1,11 +1,11 @@
 -- A run, from what an export did over a whole capture, or from why it did nothing.
-use Rattle.std.proofs.Common.{◌≡◌, ◌⊎◌, ◌↔◌, inl, inr, ℕ, ◌<◌, ◌≤◌, List, [], length, Option, None, Some, IsNone, is_some, refl, sym, ap, subst, ◌∙◌, ◌++◌, append-nil, arith, Result, Ok, Err, IsErrOf, OnOk}
+use Rattle.std.proofs.Common.{◌≡◌, ◌⊎◌, inl, inr, ℕ, ◌≤◌, List, [], length, Option, None, Some, IsNone, is_some, refl, sym, ap, subst, arith, Result, Ok, Err, OnOk}
 use Rattle.std.specs.Io.KnownBytes.{prepend_known, append_known, IsAtEnd}
 use Rattle.fh_base.specs.Causes.{Rose, HasSinkCause}
 use Rattle.fh_base.specs.Told.{WritesFront}
 use Rattle.fh_base.specs.declared.fault.SinkFault.{SinkFault}
 use Rattle.fh_base.specs.declared.fault.SinkFault.TheVariants as sink
-use Rattle.fh_base.proofs.Known.{prepend_nothing, append_nothing}
+use Rattle.fh_base.proofs.Known.{prepend_nothing, append_nothing, came_all}
 use Rattle.fh_base.proofs.Progress.{front_none}
 use Rattle.pcap_export.specs.declared.refusals.ExportRefusal.{ExportRefusal}
 use Rattle.pcap_export.specs.declared.status.Status.{Status}
@@ -58,13 +58,6 @@ completes wanted before now WriteFault h (inr refused) = absurd (refused h.1)
 completes wanted before now NoMemory h p = inr refl
 completes wanted before now TooLong h p = absurd h
 
-came_all : (came bytes : List ℕ) (left_old left_new : Option (List ℕ)) → left_old ≡ prepend_known came left_new → IsAtEnd left_new → left_old ≡ Some bytes → bytes ≡ came
-came_all came bytes left_old None taken ended is = cc
-came_all came bytes left_old (Some rest) taken ended is =
-    let both : Some bytes ≡ Some (came ++ rest) = sym is ∙ taken in
-    let same : bytes ≡ came ++ rest = cc both in
-    same ∙ ap (λ r. came ++ r) ended ∙ append-nil came
-
 -- the capture was read to its end
 pub read : (words : List (List ℕ)) (ways : Ways) (bytes came : List ℕ) (left_old left_new : Option (List ℕ)) (s t : ℕ) (old new : Option (List ℕ)) (before now : ℕ) (status : Status)
     → ways_of words ≡ Some ways → bytes ≡ came → Exports (exported ways bytes) old new before now status
@@ -90,9 +83,6 @@ read words ways bytes came left_old left_new s t old new before now status is sa
           (subst (λ (b : List ℕ). ((Rose before now → ⊥) ⊎ ((exported ways b).status ≡ Done → ⊥)) → (status ≡ (exported ways b).status) ⊎ (status ≡ NoMemory))
           (sym (came_all came all left_old left_new taken ended left)) (completes (exported ways came).status before now status q.answers));
     }
-
-pub not_long : {T E : Type 0} (limit : ℕ) (came : List ℕ) (x : T) (e : E) → (IsErrOf (let r : Result T E = Ok x in r) e ↔ limit < length came) → length came ≤ limit
-not_long limit came x e h = grind (arith, h)
 
 -- ---- a run that does nothing
 

@@ -7,6 +7,8 @@ use Rattle.air_source.specs.declared.events.Side.TheVariants.{Ru, Du}
 use Rattle.capture_records.specs.Records.{Arrived}
 use Rattle.pcap_export.specs.declared.ways.Ways.{Ways}
 use Rattle.pcap_export.specs.Ways.{is_wanted}
+use Rattle.air_source.specs.Units.{other}
+use Rattle.fh_time.specs.declared.nanoseconds.TheConstants.{NANOSECOND}
 
 -- the head of the file: the magic of nanoseconds, version 2.4, two numbers that are 0, records of at most 262,144 bytes, Ethernet
 abbrev pub file_head : List ℕ
@@ -18,18 +20,13 @@ abbrev pub address_of : Side → List ℕ
 address_of Ru = 2 ∷ 0 ∷ 0 ∷ 0 ∷ 0 ∷ 1 ∷ []
 address_of Du = 2 ∷ 0 ∷ 0 ∷ 0 ∷ 0 ∷ 2 ∷ []
 
--- the unit that sends to a unit
-abbrev pub sender_to : Side → Side
-sender_to Ru = Du
-sender_to Du = Ru
-
 -- the Ethernet header of a frame to a unit: destination, source, and the EtherType of eCPRI (IEEE 802.3)
 abbrev pub ethernet_head : Side → List ℕ
-ethernet_head side = address_of side ++ (address_of (sender_to side) ++ 0xae ∷ 0xfe ∷ [])
+ethernet_head side = address_of side ++ (address_of (other side) ++ 0xae ∷ 0xfe ∷ [])
 
 -- a time in whole nanoseconds, rounded down, where it is not before 0; a tick is 1/1536 ns
 abbrev pub nanoseconds_of : ℤ → Option ℕ
-nanoseconds_of (pos ticks) = Some (ticks / 1536)
+nanoseconds_of (pos ticks) = Some (ticks / NANOSECOND)
 nanoseconds_of (negsuc n) = None
 
 -- the nanosecond of an arrival

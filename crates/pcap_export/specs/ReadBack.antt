@@ -7,12 +7,13 @@ use Rattle.pcap_frames.specs.Checked.{checked}
 use Rattle.pcap_frames.specs.Frames.{Timed, frames_of}
 use Rattle.pcap_export.specs.Packets.{ns_of}
 use Rattle.fh_base.specs.declared.source.TheConstants.{FRAME_LIMIT}
+use Rattle.fh_time.specs.declared.nanoseconds.TheConstants.{NANOSECOND}
 
 -- an arrival from 0 to 1,000 s with a frame of at most 9,216 bytes
 pub record IsUsual (a : Arrived) : Type 0 where
   pub ticks : ℕ
   pub is : a.at.0 ≡ pos ticks
-  pub low : ticks ≤ 1536 * 10 ^ 12
+  pub low : ticks ≤ NANOSECOND * 10 ^ 12
   pub short : length a.frame ≤ FRAME_LIMIT
 
 abbrev pub AreUsual : List Arrived → Type 0

@@ -2,16 +2,12 @@
 use Rattle.std.specs.Prelude.{◌≡◌, ◌<◌, ◌≤◌, ◌⊎◌, ◌↔◌, ℕ, List, length, Option, Some, IsSome, IsNone}
 use Rattle.std.specs.Io.KnownBytes.{prepend_known, append_known, IsAtEnd}
 use Rattle.fh_base.specs.Causes.{Rose}
-use Rattle.fh_base.specs.Told.{WritesFront}
+use Rattle.fh_base.specs.Told.{WritesFront, WritesWholeOr}
 use Rattle.pcap_export.specs.declared.status.Status.{Status}
 use Rattle.pcap_export.specs.declared.status.Status.TheVariants.{Done, BadWords, BadCapture, ReadFault, WriteFault, NoMemory, TooLong}
 use Rattle.pcap_export.specs.Answers.{Answer, asked}
 use Rattle.pcap_export.specs.Ways.{ways_of}
 use Rattle.fh_base.specs.declared.source.TheConstants.{INPUT_LIMIT}
-
--- the whole text was appended, or what is named holds
-abbrev pub WritesWholeOr : Option (List ℕ) → Option (List ℕ) → List ℕ → Type 0 → Type 0
-WritesWholeOr old new text P = (new ≡ append_known old text) ⊎ P
 
 -- the statuses that words and capture decide; the others have a cause beside them
 abbrev pub IsDecided : Status → Type 0

@@ -3,7 +3,7 @@ ghost use Rattle.std.specs.Prelude.{◌≡◌, ◌≤◌, ◌<◌, ◌^◌, ◌*
 ghost use Rattle.pcap_export.specs.Packets.{ethernet_head, nanoseconds_of, record_head};
 
 use air_source::Side;
-use fh_time::Ticks;
+use fh_time::{NANOSECOND, Ticks};
 
 /// The head of a file of nanoseconds, highest byte first: the magic, version 2.4, records of at most 262,144 bytes, and Ethernet.
 pub const HEAD: [u8; 24] = [
@@ -15,9 +15,6 @@ pub const HEAD: [u8; 24] = [
 pub const ETHERNET: usize = 14;
 /// The most bytes of a frame: those of a record less the Ethernet header.
 pub const LONGEST: usize = 262_144 - ETHERNET;
-
-/// How many ticks a nanosecond has.
-const TICKS: i64 = 1_536;
 
 /// The Ethernet header of a frame to the radio unit: its address, that of the distributed unit, and the EtherType of eCPRI.
 const TO_RU: [u8; ETHERNET] = [2, 0, 0, 0, 0, 1, 2, 0, 0, 0, 0, 2, 0xae, 0xfe];
@@ -33,7 +30,7 @@ pub fn nanoseconds(at: Ticks) -> Option<u64>
     if at.0 < 0 {
         return None;
     }
-    Some((at.0 / TICKS) as u64)
+    Some((at.0 / NANOSECOND as i64) as u64)
 }
 
 /// The Ethernet header of a frame to a unit.

@@ -1,9 +1,9 @@
 // A run.
 ghost use Rattle.std.specs.Prelude.{◌≡◌, ◌⊎◌, IsNone};
 ghost use Rattle.fh_base.specs.Causes.{Rose};
-ghost use Rattle.fh_base.specs.Told.{WritesFront};
+ghost use Rattle.fh_base.specs.Told.{WritesFront, WritesWholeOr};
 ghost use Rattle.pcap_export.specs.Answers.{ending_of, exported, source_status};
-ghost use Rattle.pcap_export.specs.Run.{Exports, Outcome, WritesWholeOr};
+ghost use Rattle.pcap_export.specs.Run.{Exports, Outcome};
 ghost use Rattle.pcap_export.specs.Statuses.{line_of};
 ghost use Rattle.pcap_export.specs.Ways.{ways_of};
 

@@ -9,7 +9,7 @@ use Rattle.std.proofs.lemmas.List.Elements.{All-nil, All-cons, All-tail, All-tak
 use Rattle.air_source.specs.declared.events.Side.{Side}
 use Rattle.line_laws.specs.fh_document.specs.Document.{document_of}
 use Rattle.line_laws.specs.Joined.{fed}
-use Rattle.line_laws.specs.Words.{way_word, frame_word}
+use Rattle.line_laws.specs.Words.{frame_word}
 use Rattle.line_laws.specs.Lines.{inject_text, document_with}
 use Rattle.line_laws.specs.Laws.{AreBytes, IsFrame}
 use Rattle.line_laws.proofs.InjectLemmas.{document_is}
@@ -19,6 +19,7 @@ use Rattle.pcap_frames.specs.Frames.{Timed, frame_before, frames_in, IsShown, Ar
 use Rattle.pcap_frames.proofs.Steps.{kept_is}
 use Rattle.pcap_lines.specs.Texts.{line_text, lines_of, injection_of}
 use Rattle.fh_time.specs.declared.nanoseconds.TheConstants.{LAST_TIME}
+use Rattle.air_source.specs.Units.{way_text}
 
 -- ---- the text
 
@@ -31,12 +32,12 @@ regrouped w d f x =
 
 -- a line with its line feed, as it is joined of its words
 line_is : (side : Side) (t : Timed) (x : List ℕ) → line_text side t ++ x ≡ inject_text (injection_of side t) ++ 10 ∷ x
-line_is side t x = ap (λ r. codes "inject " ++ r) (grouped ∙ regrouped (way_word side) (signed_decimal t.at) (frame_word t.frame) x)
+line_is side t x = ap (λ r. codes "inject " ++ r) (grouped ∙ regrouped (way_text side) (signed_decimal t.at) (frame_word t.frame) x)
   where
-    grouped : ((((way_word side ++ codes " ") ++ signed_decimal t.at) ++ codes " ") ++ (frame_word t.frame ++ codes "\n")) ++ x
-        ≡ ((way_word side ++ 32 ∷ (signed_decimal t.at ++ 32 ∷ [])) ++ (frame_word t.frame ++ 10 ∷ [])) ++ x
+    grouped : ((((way_text side ++ codes " ") ++ signed_decimal t.at) ++ codes " ") ++ (frame_word t.frame ++ codes "\n")) ++ x
+        ≡ ((way_text side ++ 32 ∷ (signed_decimal t.at ++ 32 ∷ [])) ++ (frame_word t.frame ++ 10 ∷ [])) ++ x
     grouped = ap (λ r. (r ++ (frame_word t.frame ++ 10 ∷ [])) ++ x)
-        (append_assoc (way_word side ++ codes " ") (signed_decimal t.at) (codes " ") ∙ append_assoc (way_word side) (codes " ") (signed_decimal t.at ++ 32 ∷ []))
+        (append_assoc (way_text side ++ codes " ") (signed_decimal t.at) (codes " ") ∙ append_assoc (way_text side) (codes " ") (signed_decimal t.at ++ 32 ∷ []))
 
 lines_are : (side : Side) (ts : List Timed) → lines_of side ts ≡ fed (map inject_text (map (injection_of side) ts))
 lines_are side [] = refl

@@ -1,11 +1,11 @@
 -- Texts that are told in a row.
-use Rattle.std.proofs.Common.{◌≡◌, ℕ, List, [], ◌++◌, Option, Result, Ok, Err, OnErr, sym, ap, subst, append_assoc, append-nil, ◌∙◌}
-use Rattle.std.specs.Io.KnownBytes.{append_known}
+use Rattle.std.proofs.Common.{◌≡◌, ℕ, List, [], ◌++◌, Option, sym, ap, subst, append_assoc, append-nil, ◌∙◌}
 use Rattle.fh_base.specs.Told.{WritesFront}
 use Rattle.fh_base.proofs.Progress.{front_first}
 use Rattle.owed_bytes.specs.Owed.{Carried}
 use Rattle.owed_bytes.specs.CarriedLaws.{carried_none, carried_more}
-use Rattle.owed_bytes.proofs.Carrying.{carried_known, front_pushed, front_behind}
+use Rattle.owed_bytes.proofs.Carrying.{front_behind}
+use Rattle.owed_bytes.proofs.Telling.{front_before}
 
 -- of a text a front was told, and the rest is left
 pub record SoFar (w : Option (List ℕ)) (o : List ℕ) (v : Option (List ℕ)) (p all rest : List ℕ) : Type 0 where
@@ -33,10 +33,6 @@ so_far_stopped w v u o p all left next rest is h front =
     subst (λ (t : List ℕ). WritesFront w u t)
     (append_assoc o (h.done ++ next) rest ∙ ap (λ t. o ++ t) (append_assoc h.done next rest ∙ ap (λ r. h.done ++ r) (sym is) ∙ h.are)) told
 
--- a front of what is owed and a text is one of these and more
-pub front_before : (w v : Option (List ℕ)) (o first rest : List ℕ) → WritesFront w v (o ++ first) → WritesFront w v (o ++ (first ++ rest))
-front_before w v o first rest front = subst (λ (t : List ℕ). WritesFront w v t) (append_assoc o first rest) (front_first w v (o ++ first) rest front)
-
 -- two texts, by what they are
 pub carried_pair : (w v u : Option (List ℕ)) (o p q a first second : List ℕ) → a ≡ first → Carried w o a v p → Carried v p second u q → Carried w o (first ++ second) u q
 carried_pair w v u o p q a first second e h k = subst (λ (t : List ℕ). Carried w o (t ++ second) u q) e (carried_more w v u o p q a second h k)
@@ -47,17 +43,6 @@ front_pair w v u o p a first second e h front = subst (λ (t : List ℕ). Writes
 -- from nothing that is owed
 pub first_front : (w v : Option (List ℕ)) (o all : List ℕ) → o ≡ [] → WritesFront w v (o ++ all) → WritesFront w v all
 first_front w v o all none front = subst (λ (t : List ℕ). WritesFront w v (t ++ all)) none front
-
-pub last_front : (w v u : Option (List ℕ)) (o told p : List ℕ) → o ≡ [] → Carried w o told v p → WritesFront v u p → WritesFront w u told
-last_front w v u o told p none h front = subst (λ (t : List ℕ). WritesFront w u (t ++ told)) none (front_pushed w o told v p u h front)
-
-pub all_written : (w v u : Option (List ℕ)) (o told p : List ℕ) → o ≡ [] → Carried w o told v p → u ≡ append_known v p → u ≡ append_known w told
-all_written w v u o told p none h is = is ∙ carried_known w o told v p h ∙ ap (λ t. append_known w (t ++ told)) none
-
--- what holds anyhow holds at an error
-pub anyhow : {T E P : Type 0} (r : Result T E) → P → OnErr r P
-anyhow (Ok x) p = tt
-anyhow (Err e) p = p
 
 -- a front of the second of three
 pub front_middle : (w v u : Option (List ℕ)) (o p a first second third : List ℕ) → a ≡ first → Carried w o a v p → WritesFront v u (p ++ second) → WritesFront w u (o ++ (first ++ (second ++ third)))

@@ -4,13 +4,15 @@ use Rattle.std.specs.List.{flat_map}
 use Rattle.std.specs.Fmt.{signed_decimal}
 use Rattle.air_source.specs.declared.events.Side.{Side}
 use Rattle.line_laws.specs.fh_document.specs.declared.document.Injection.{Injection}
-use Rattle.line_laws.specs.Words.{way_word, frame_word}
+use Rattle.line_laws.specs.Words.{frame_word}
 use Rattle.capture_records.specs.Records.{Arrived}
 use Rattle.pcap_frames.specs.Frames.{Timed}
+use Rattle.air_source.specs.Units.{way_text}
+use Rattle.fh_time.specs.declared.nanoseconds.TheConstants.{NANOSECOND}
 
 -- what stands before a frame's word
 abbrev pub opening_text : Side → ℤ → List ℕ
-opening_text side at = codes "inject " ++ way_word side ++ codes " " ++ signed_decimal at ++ codes " "
+opening_text side at = codes "inject " ++ way_text side ++ codes " " ++ signed_decimal at ++ codes " "
 
 -- the line of a frame
 abbrev pub line_text : Side → Timed → List ℕ
@@ -26,4 +28,4 @@ injection_of side t = record { side = side; at = t.at; frame = t.frame }
 
 -- the frame as an arrival at a unit: 1,536 ticks to the nanosecond
 abbrev pub arrived_as : Side → Timed → Arrived
-arrived_as side t = record { side = side; at = record { 0 = t.at *ℤ pos 1536 }; frame = t.frame }
+arrived_as side t = record { side = side; at = record { 0 = t.at *ℤ pos NANOSECOND }; frame = t.frame }

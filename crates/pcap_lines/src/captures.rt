@@ -8,6 +8,7 @@ ghost use Rattle.capture_records.specs.Records.{head_bytes, record_bytes, record
 ghost use Rattle.pcap_frames.specs.Checked.{checked};
 ghost use Rattle.pcap_frames.specs.Frames.{timed_of, frames_of, IsShown};
 ghost use Rattle.pcap_lines.specs.Texts.{arrived_as};
+ghost use Rattle.fh_time.specs.declared.nanoseconds.TheConstants.{NANOSECOND};
 
 use air_source::Side;
 use capture_records::{MAGIC, record_head};
@@ -19,7 +20,7 @@ use pcap_frames::{PcapFrame, PcapHead, frames};
 // What stands before a frame in its record.
 fn head_of(f: &PcapFrame<'_>, side: Side) -> [u8; 13]
     requires { IsShown (timed_of f.now) }
-    ensures { result ≡ head_bytes side (f.now.at *ℤ pos 1536) (length f.now.frame.now) }
+    ensures { result ≡ head_bytes side (f.now.at *ℤ pos NANOSECOND) (length f.now.frame.now) }
 {
     record_head(side, of_ns(f.at), f.frame.len() as u32)
 }

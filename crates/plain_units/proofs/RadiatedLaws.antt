@@ -6,11 +6,9 @@ use Rattle.std.proofs.lemmas.Bool.{or_parts}
 use Rattle.std.proofs.Math.Nat.{pow-le-pow_right}
 use Rattle.std.proofs.Math.Path.{fun_ext}
 use Rattle.fh_time.specs.declared.values.Slot.{Slot}
-use Rattle.unit_model.specs.air_source.specs.declared.events.Side.{Side}
-use Rattle.unit_model.specs.window_config.specs.declared.delays.Delays.{Delays}
-use Rattle.unit_model.specs.window_config.specs.declared.endpoints.EndpointConfig.{EndpointConfig}
+use Rattle.unit_model.specs.Terms.{Side, Delays, EndpointConfig, is_down}
 use Rattle.unit_model.specs.Claims.{cell_at, same_slot, same_way, is_from, first_prb, prb_count, in_mask, names, claim_of, claim_at}
-use Rattle.unit_model.specs.Radiated.{Known, known_of, is_down, is_used, used_below, id_or, id_from, report_of, cell_report, symbol_report, reported, first_clock, wait_of}
+use Rattle.unit_model.specs.Radiated.{Known, known_of, is_used, used_below, id_or, id_from, report_of, cell_report, symbol_report, reported, first_clock, wait_of}
 use Rattle.plain_units.specs.ClaimedStarts.{is_claimed_way, is_claimed_in, claimed_start}
 use Rattle.unit_model.specs.Starts.{start_at, cell_told, cells_at}
 use Rattle.unit_model.specs.Sweeps.{sweep}

@@ -1,21 +1,16 @@
 -- What units make of whole lists of frames.
-use Rattle.std.proofs.Common.{◌≡◌, ℕ, ℤ, ◌+◌, ◌<◌, ◌==◌, Bool, true, false, cond, not, ◌||◌, nat_lt, List, [], ◌∷◌, ◌++◌, length, take, get_or, Option, Some, None, refl, sym, ap, ◌∙◌, arith}
+use Rattle.std.proofs.Common.{◌≡◌, ℕ, ℤ, ◌+◌, ◌<◌, List, [], ◌∷◌, ◌++◌, length, take, get_or, refl, sym, ap, ◌∙◌, arith}
 use Rattle.std.proofs.lemmas.List.{take_more, map-append}
-use Rattle.unit_model.specs.air_source.specs.declared.events.AirCell.{AirCell}
-use Rattle.unit_model.specs.air_source.specs.declared.events.Side.{Side}
-use Rattle.unit_model.specs.air_source.specs.declared.events.Side.TheVariants.{Du}
+use Rattle.unit_model.specs.Terms.{AirCell, Side, Du, Config, EndpointConfig}
 use Rattle.ecpri_frames.specs.Gathering.{whole_messages}
 use Rattle.ecpri_frames.specs.Messages.{Message}
 use Rattle.fault_counters.specs.declared.kinds.Counter.{Counter}
-use Rattle.fault_counters.specs.declared.kinds.Counter.TheVariants.{OtherType, Delay, Short, WrongWay}
 use Rattle.fault_counters.specs.Counts.{capped, count_of, once, times}
-use Rattle.unit_model.specs.window_config.specs.declared.config.Config.{Config}
-use Rattle.unit_model.specs.window_config.specs.declared.endpoints.EndpointConfig.{EndpointConfig}
 use Rattle.unit_model.specs.Blocks.{data_verdicts}
 use Rattle.unit_model.specs.Commands.{command_verdicts}
 use Rattle.unit_model.specs.Counts.{StandAt, block_counter, cells_counted, commands_counted, data_counted, frames_counted, messages_counted}
 use Rattle.unit_model.specs.Lists.{onto}
-use Rattle.unit_model.specs.Meetings.{Arrival, Meeting, Ignored, Commands, Piece, met_by, meet, met_in, meetings, commands, find_endpoint, id_of, fragment_of}
+use Rattle.unit_model.specs.Meetings.{Arrival, Meeting, Ignored, Commands, Piece, meet, met_in, meetings, commands}
 use Rattle.unit_model.specs.Counts.{counted_of}
 use Rattle.plain_units.specs.Plain.{arrival_of, arrivals_after, arrivals_of}
 use Rattle.unit_model.specs.Reports.{hold_of, met, commands_of, data_of, arrivals_counted}

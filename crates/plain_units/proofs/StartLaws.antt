@@ -11,7 +11,7 @@ use Rattle.fh_time.specs.declared.values.Slot.{Slot}
 use Rattle.fh_time.specs.declared.values.Ticks.{Ticks}
 use Rattle.fh_time.specs.Air.{air_of}
 use Rattle.fh_time.specs.Numbering.{slots_of, symbols_of}
-use Rattle.unit_model.specs.window_config.specs.declared.endpoints.EndpointConfig.{EndpointConfig}
+use Rattle.unit_model.specs.Terms.{EndpointConfig}
 use Rattle.unit_model.specs.Claims.{same_slot, same_way, is_from}
 use Rattle.unit_model.specs.Proper.{IsAt, IsProperAllocation}
 use Rattle.plain_units.specs.ClaimedStarts.{HasStarts, IsNotMissed, OfEachSymbol, IsQuiet, is_claimed_way, is_claimed_in, is_of_frame, names_frame, claimed_start}

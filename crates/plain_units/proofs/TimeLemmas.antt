@@ -1,12 +1,10 @@
 -- When the pieces of a whole message came: each at the time of a fragment.
-use Rattle.std.proofs.Common.{◌≡◌, ℕ, ℤ, Bool, true, false, cond, List, [], ◌∷◌, All, Option, Some, None}
+use Rattle.std.proofs.Common.{◌≡◌, ℤ, List, ◌∷◌, All, Some}
 use Rattle.std.specs.Option.{option_map}
-use Rattle.std.proofs.lemmas.List.Elements.{All-nil, All-cons, All-head, All-tail}
 use Rattle.ecpri_fragments.specs.declared.verdict.Verdict.{Verdict}
 use Rattle.ecpri_fragments.specs.declared.verdict.Verdict.TheVariants.{Stored, Whole, Repeat, Stray, TooLong}
-use Rattle.ecpri_fragments.specs.Generations.{Fragment, Generation, is_of, of_id, begun, joined, is_within, with_fragment, generations, generations_of, held_in}
-use Rattle.ecpri_fragments.specs.Verdicts.{Message, refused, with_one, standing, standing_before, verdict_on, first_of, last_of}
-use Rattle.unit_model.specs.Decoding.{whole_of, whole_now}
+use Rattle.ecpri_fragments.specs.Generations.{Fragment}
+use Rattle.ecpri_fragments.specs.Verdicts.{standing_before, verdict_on, first_of, whole_of, whole_now}
 use Rattle.plain_units.specs.Owned.{owned}
 use Rattle.unit_model.specs.Proper.{IsTime}
 use Rattle.plain_units.specs.declared.taking.OwnedMessage.{OwnedMessage}

@@ -3,10 +3,9 @@ use Rattle.std.specs.Prelude.{◌≡◌, ℤ, List, Option}
 use Rattle.std.specs.Option.{option_map}
 use Rattle.ecpri_fragments.specs.declared.verdict.Verdict.{Verdict}
 use Rattle.ecpri_fragments.specs.Generations.{Fragment}
-use Rattle.ecpri_fragments.specs.Verdicts.{Message, verdict_on}
-use Rattle.unit_model.specs.Decoding.{whole_now}
-use Rattle.unit_model.specs.Lists.{joined}
+use Rattle.ecpri_fragments.specs.Verdicts.{Message, verdict_on, whole_now}
 use Rattle.plain_units.specs.declared.taking.OwnedMessage.{OwnedMessage}
+use Rattle.ecpri_fragments.specs.Pieces.{joined}
 
 -- with its pieces joined
 abbrev pub owned : Message → OwnedMessage

@@ -1,11 +1,10 @@
 -- What the plain program keeps, and the arrivals that it stands for.
 use Rattle.std.specs.Prelude.{◌≡◌, ℕ, ◌+◌, List, [], ◌∷◌, All, reverse, length}
-use Rattle.unit_model.specs.air_source.specs.declared.events.Side.{Side}
+use Rattle.unit_model.specs.Terms.{Side, Config}
 use Rattle.ecpri_fragments.specs.Assemblies.{StandsFor, endpoints_of, hold_of as assembly_hold}
 use Rattle.ecpri_fragments.specs.Generations.{Fragment}
 use Rattle.fault_counters.specs.declared.kinds.Counter.{Counter}
 use Rattle.fault_counters.specs.Counts.{capped, times, count_of}
-use Rattle.unit_model.specs.window_config.specs.declared.config.Config.{Config}
 use Rattle.unit_model.specs.Blocks.{timely, data_verdicts}
 use Rattle.unit_model.specs.Commands.{accepted, command_verdicts}
 use Rattle.unit_model.specs.Counts.{commands_counted, data_counted}

@@ -1,7 +1,6 @@
 -- All that a unit answers to a list of arrivals, the newest first, up to a time (this project's profile).
 use Rattle.std.specs.Prelude.{◌≡◌, ℤ, List, [], ◌++◌, reverse}
-use Rattle.unit_model.specs.air_source.specs.declared.events.Side.TheVariants.{Ru, Du}
-use Rattle.unit_model.specs.window_config.specs.declared.config.Config.{Config}
+use Rattle.unit_model.specs.Terms.{Ru, Du, Config}
 use Rattle.unit_model.specs.Blocks.{data_verdicts}
 use Rattle.unit_model.specs.Commands.{command_verdicts}
 use Rattle.unit_model.specs.Counts.{StandAt, cells_counted}

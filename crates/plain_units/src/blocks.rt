@@ -1,6 +1,6 @@
 // The verdicts on sections of data, and what they give a cell.
 ghost use Rattle.std.specs.Prelude.{◌≡◌, All};
-ghost use Rattle.unit_model.specs.window_config.specs.Limits.{IsWithinLimits};
+ghost use Rattle.unit_model.specs.Terms.{IsWithinLimits};
 ghost use Rattle.unit_model.specs.Blocks.{data_slot, data_class, first_data_prb, data_prb_count, data_covers, block_in, block_at, has_all, data_verdict};
 ghost use Rattle.unit_model.specs.Claims.{cell_at};
 ghost use Rattle.unit_model.specs.Sound.{IsSoundData};

@@ -2,8 +2,7 @@
 ghost use Rattle.std.specs.Prelude.{◌≡◌, ◌+◌, ◌≤◌, ◌==◌, ◌&&◌, List};
 ghost use Rattle.fh_time.specs.Numbering.{symbols_of};
 ghost use Rattle.fh_time.specs.Carrier.{is_outside};
-ghost use Rattle.unit_model.specs.window_config.specs.Limits.{IsWithinLimits};
-ghost use Rattle.unit_model.specs.window_config.specs.declared.endpoints.EndpointConfig.{EndpointConfig};
+ghost use Rattle.unit_model.specs.Terms.{IsWithinLimits, EndpointConfig};
 ghost use Rattle.unit_model.specs.Claims.{same_slot};
 ghost use Rattle.unit_model.specs.Commands.{is_uplink, uplink_in, is_full, timely_verdict, command_verdict, allocation_of};
 ghost use Rattle.unit_model.specs.Proper.{IsProperCommand, IsProperAllocation};

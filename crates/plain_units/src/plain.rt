@@ -6,7 +6,7 @@ ghost use Rattle.ecpri_frames.specs.Left.{message_of};
 ghost use Rattle.ecpri_frames.specs.Messages.{pdu};
 ghost use Rattle.fault_counters.specs.declared.kinds.Counter.{Counter as SpecCounter};
 ghost use Rattle.fault_counters.specs.Counts.{once, times};
-ghost use Rattle.unit_model.specs.window_config.specs.Configs.{IsConfig};
+ghost use Rattle.unit_model.specs.Terms.{IsConfig};
 ghost use Rattle.unit_model.specs.declared.decoded.ControlSection.{ControlSection as SpecControlSection};
 ghost use Rattle.unit_model.specs.declared.decoded.UserSection.{UserSection as SpecUserSection};
 ghost use Rattle.unit_model.specs.Blocks.{with_timely};

@@ -3,11 +3,11 @@ ghost use Rattle.std.specs.Prelude.{◌≡◌, pos, neg_ℤ, ◌+ℤ◌, ◌-ℤ
 ghost use Rattle.std.specs.List.{flat_map};
 ghost use Rattle.unit_model.specs.Claims.{claim_at};
 ghost use Rattle.unit_model.specs.Proper.{IsProperAllocation, IsProperData};
-ghost use Rattle.unit_model.specs.Radiated.{is_down, is_used, used_mask, cell_id, known_of, wait_of, reported, first_clock};
+ghost use Rattle.unit_model.specs.Radiated.{is_used, used_mask, cell_id, known_of, wait_of, reported, first_clock};
+ghost use Rattle.unit_model.specs.Terms.{is_down, IsWithinLimits};
 ghost use Rattle.unit_model.specs.Sound.{IsSoundData};
 ghost use Rattle.plain_units.specs.ClaimedStarts.{is_claimed_way};
 ghost use Rattle.unit_model.specs.Starts.{cell_told, cells_at};
-ghost use Rattle.unit_model.specs.window_config.specs.Limits.{IsWithinLimits};
 
 use crate::blocks::block_at;
 use crate::claims::claim_at;

@@ -4,7 +4,7 @@ ghost use Rattle.cplane_sections.specs.Message.{sections_in};
 ghost use Rattle.unit_model.specs.Meetings.{commands_with};
 ghost use Rattle.unit_model.specs.Met.{IsRead};
 ghost use Rattle.unit_model.specs.Proper.{IsAt, IsTime, IsProperCommand};
-ghost use Rattle.unit_model.specs.window_config.specs.declared.endpoints.EndpointConfig.{EndpointConfig as SpecEndpoint};
+ghost use Rattle.unit_model.specs.Terms.{EndpointConfig as SpecEndpoint};
 
 use cplane_sections::{CHead, sections};
 use fh_base::NoMemory;

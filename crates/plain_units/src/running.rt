@@ -1,9 +1,8 @@
 // Units that keep whole lists, over whole lists of frames.
 ghost use Rattle.std.specs.Prelude.{◌≡◌, ℕ, ◌+◌, ◌<◌, List as Items, All, IfOk, length, slice_index_or};
-ghost use Rattle.unit_model.specs.air_source.specs.declared.events.AirCell.{AirCell as SpecCell};
+ghost use Rattle.unit_model.specs.Terms.{AirCell as SpecCell, IsConfig};
 ghost use Rattle.fault_counters.specs.declared.kinds.Counter.{Counter as SpecCounter};
 ghost use Rattle.fault_counters.specs.Counts.{capped, count_of, times};
-ghost use Rattle.unit_model.specs.window_config.specs.Configs.{IsConfig};
 ghost use Rattle.unit_model.specs.Counts.{block_counter, cells_counted};
 ghost use Rattle.unit_model.specs.Meetings.{meetings};
 ghost use Rattle.plain_units.specs.Plain.{PlainStands, arrivals_of};

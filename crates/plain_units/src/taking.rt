@@ -2,7 +2,7 @@
 ghost use Rattle.std.specs.Prelude.{◌≡◌, ◌<◌, ◌≤◌, ◌≤ℤ◌, ◌^◌, pos, neg_ℤ, List, IfOk};
 ghost use Rattle.ecpri_fragments.specs.Generations.{Fragment, fragment};
 ghost use Rattle.ecpri_fragments.specs.Assemblies.{StandsFor, Took, endpoints_of, hold_of, message_of};
-ghost use Rattle.unit_model.specs.Lists.{joined};
+ghost use Rattle.ecpri_fragments.specs.Pieces.{joined};
 ghost use Rattle.plain_units.specs.Owned.{owned, IsTaken};
 
 use ecpri_fragments::{Assembly, Lease, SeqField, Taken, Verdict};

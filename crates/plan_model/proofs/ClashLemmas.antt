@@ -1,7 +1,7 @@
 -- What two allocations share, and of which the claim of an element is.
 use Rattle.std.proofs.Common.{◌≡◌, ℕ, zero, suc, ◌-◌, ◌<◌, ◌^◌, inl, inr, Bool, true, false, not, ◌&&◌, ◌||◌, ◌==◌, is_some, if◌then◌else◌, List, [], ◌∷◌, Option, Some, None, refl, ap, sym, ◌∙◌, subst, true≢false, arith}
 use Rattle.std.specs.Int.{bit_at}
-use Rattle.std.proofs.lemmas.Bool.{cases_Bool, or_cases, and_parts, and_from, or_left, or_right, eq-eqb, eqb-true}
+use Rattle.std.proofs.lemmas.Bool.{cases_Bool, or_cases, and_parts, and_from, or_left, or_right, eq-eqb}
 use Rattle.std.proofs.lemmas.Nat.Bits.{bit_at-lt, bit_at-zero, same_from_bits_below}
 use Rattle.unit_model.specs.Lists.{every, some}
 use Rattle.unit_model.specs.Claims.{same_slot, same_way, is_from, first_prb, prb_count, covers, in_mask, names, claim_of, claim_at, cell_of, every_cell, some_cell, is_other, is_overlapped, overlaps}
@@ -12,25 +12,10 @@ use Rattle.fragment_laws.specs.Apart.{IsIn}
 use Rattle.plan_model.specs.Validity.{IsProper, ranges_meet, share_cell, share_bit, clash}
 use Rattle.plan_model.proofs.RangeLemmas.{Found, found, meet_from}
 use Rattle.plan_model.proofs.SlotLemmas.{eqb_swap}
-use Rattle.unit_model.proofs.ClaimLemmas.{same_way_is as way_is, same_slot_is as slot_is, is_in as is_from_in, way_self as way_own, slot_self as slot_own, every_at, some_one, some_not}
+use Rattle.unit_model.proofs.ClaimLemmas.{is_in as is_from_in, way_self as way_own, slot_self as slot_own, every_at, some_one, some_not, covers_is}
 use Rattle.fh_time.proofs.Options.{some_is}
 
 -- ---- a cell that both cover
-
-pub record Covered (a : Allocation) (cell : Cell) : Type 0 where
-  pub ep : a.ep ≡ cell.ep
-  pub way : a.down ≡ cell.down
-  pub slot : a.slot ≡ cell.slot
-  pub symbol : is_from a.symbol a.num_symbol cell.symbol ≡ true
-  pub prb : is_from (first_prb a) (prb_count a) cell.prb ≡ true
-
-pub covered : (a : Allocation) (cell : Cell) → covers a cell ≡ true → Covered a cell
-covered a cell h =
-    let p = and_parts (a.ep == cell.ep) _ h in
-    let q = and_parts (same_way a.down cell.down) _ p.1 in
-    let r = and_parts (same_slot a.slot cell.slot) _ q.1 in
-    let s = and_parts (is_from a.symbol a.num_symbol cell.symbol) _ r.1 in
-    record { ep = eqb-true a.ep cell.ep p.0; way = way_is a.down cell.down q.0; slot = slot_is a.slot cell.slot r.0; symbol = s.0; prb = s.1 }
 
 pub same_from : (a b : Allocation) → a.ep ≡ b.ep → a.down ≡ b.down → a.slot ≡ b.slot → ranges_meet a.symbol a.num_symbol b.symbol b.num_symbol ≡ true
     → ranges_meet (first_prb a) (prb_count a) (first_prb b) (prb_count b) ≡ true → share_cell a b ≡ true
@@ -40,9 +25,9 @@ same_from a b ep way slot symbols prbs =
 
 pub both_cover : (a b : Allocation) (cell : Cell) → covers a cell ≡ true → covers b cell ≡ true → share_cell a b ≡ true
 both_cover a b cell p q =
-    let x = covered a cell p in
-    let y = covered b cell q in
-    same_from a b (x.ep ∙ sym y.ep) (x.way ∙ sym y.way) (x.slot ∙ sym y.slot)
+    let x = covers_is a cell p in
+    let y = covers_is b cell q in
+    same_from a b (x.ep ∙ sym y.ep) (x.down ∙ sym y.down) (x.slot ∙ sym y.slot)
     (meet_from a.symbol a.num_symbol b.symbol b.num_symbol cell.symbol x.symbol y.symbol)
     (meet_from (first_prb a) (prb_count a) (first_prb b) (prb_count b) cell.prb x.prb y.prb)
 

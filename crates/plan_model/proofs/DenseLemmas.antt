@@ -1,5 +1,5 @@
 -- Looking for messages that leave too near, place by place.
-use Rattle.std.proofs.Common.{◌≡◌, ℕ, zero, suc, ℤ, ◌+◌, ◌-◌, ◌<◌, ◌≤◌, Bool, true, false, if◌then◌else◌, List, [], ◌∷◌, length, get_or, drop, drop-cons, length-drop, Option, Some, None, refl, ap₂, sym, ◌∙◌, arith}
+use Rattle.std.proofs.Common.{◌≡◌, ℕ, suc, ℤ, ◌+◌, ◌-◌, ◌<◌, ◌≤◌, true, false, if◌then◌else◌, List, [], ◌∷◌, length, get_or, drop, drop-cons, length-drop, Option, Some, None, refl, ap₂, ◌∙◌, arith}
 use Rattle.plan_model.specs.Dense.{is_near, first_near}
 use Rattle.plan_model.specs.declared.dense.Dense.{Dense}
 use Rattle.plan_model.specs.declared.dense.Sending.{Sending}

@@ -1,6 +1,6 @@
 -- What is in a list, what is so of all of it, and what a filter leaves.
 use Rattle.std.proofs.Common.{◌≡◌, ℕ, suc, ◌⊎◌, inl, inr, Bool, true, false, not, if◌then◌else◌, List, [], ◌∷◌, ◌++◌, map, filter, Some, refl, ap, ap₂, sym, ◌∙◌, subst}
-use Rattle.std.specs.Prelude.{All}
+use Rattle.std.specs.Prelude.{All, ⊤}
 use Rattle.std.specs.Cmp.{IsStrictWeakOrder}
 use Rattle.std.specs.List.{AllByRecursion, list_any, slice_get}
 use Rattle.std.specs.List.Sorted.{ties}
@@ -130,3 +130,36 @@ own_tie lt o x = elim (cases_Bool (lt x x)) [
 
 pub endpoint_is : (es : List EndpointConfig) (ep : ℕ) (e : EndpointConfig) → All IsEndpoint es → IsAt es ep e → IsEndpoint e
 endpoint_is es ep e all at = subst IsEndpoint (get_or_from_slice_get es ep e e at) (all ep e (slice_get_within es ep e at))
+
+-- what holds of all, and what the test says, holds of those that pass it
+pub filter_has : {X : Type 0} (P Q : X → Type 0) (t : X → Bool) → ((x : X) → P x → t x ≡ true → Q x) → (xs : List X) → AllByRecursion P xs → AllByRecursion Q (filter t xs)
+filter_has P Q t h xs all = all_from Q (filter t xs) (λ x m. let w = of_filter t x xs m in h x (all_in P xs x all w.0) w.1)
+
+-- ---- lists of which each element may stand before those behind it
+
+abbrev pub InOrder : {X : Type 0} → (X → X → Type 0) → List X → Type 0
+InOrder R [] = ⊤
+InOrder R (x ∷ xs) = ((y : _) → IsIn y xs → R x y) × InOrder R xs
+
+pub order_join : {X : Type 0} (R : X → X → Type 0) (xs ys : List X) → InOrder R xs → InOrder R ys → ((x y : X) → IsIn x xs → IsIn y ys → R x y) → InOrder R (xs ++ ys)
+order_join R [] ys p q h = q
+order_join R (x ∷ xs) ys p q h = (
+  λ y m. elim (in_either y xs ys m) [ inl l ↦ p.0 y l | inr r ↦ h x y (inl refl) r ],
+  order_join R xs ys p.1 q (λ a b m n. h a b (inr m) n),
+)
+
+pub order_filter : {X : Type 0} (R : X → X → Type 0) (p : X → Bool) (xs : List X) → InOrder R xs → InOrder R (filter p xs)
+order_filter R p [] h = tt
+order_filter {X = X} R p (x ∷ xs) h = go (p x) (order_filter R p xs h.1)
+  where
+    go : (b : Bool) → InOrder R (filter p xs) → InOrder R (let zs : List X = if b then x ∷ filter p xs else filter p xs in zs)
+    go true k = (λ y m. h.0 y (of_filter p y xs m).0, k)
+    go false k = k
+
+pub all_join : {X : Type 0} (P : X → Type 0) (xs ys : List X) → AllByRecursion P xs → AllByRecursion P ys → AllByRecursion P (xs ++ ys)
+all_join P [] ys p q = q
+all_join P (x ∷ xs) ys p q = (p.0, all_join P xs ys p.1 q)
+
+pub all_unit : {X : Type 0} (xs : List X) → AllByRecursion (λ x. Unit {0}) xs
+all_unit [] = tt
+all_unit (x ∷ xs) = (tt, all_unit xs)

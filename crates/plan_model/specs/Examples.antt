@@ -17,13 +17,14 @@ use Rattle.plan_model.specs.Dense.{down_distance, up_distance, dense_in, lesser}
 use Rattle.plan_model.specs.declared.dense.Sending.{Sending}
 use Rattle.plan_model.specs.Departures.{departure, departures_of}
 use Rattle.plan_model.specs.Lines.{planned}
-use Rattle.plan_model.specs.Packs.{PartFields, Message, Numbered, packs, frames_for, numbered, parts_of}
+use Rattle.plan_model.specs.Packs.{PartFields, Message, Numbered, packs, numbered, parts_of}
 use Rattle.plan_model.specs.Streams.{Part, section_size, part_fields, most_parts, symbol_parts}
 use Rattle.plan_model.specs.Validity.{first_refused}
 use Rattle.plan_model.specs.declared.refusals.PlanWhy.{PlanWhy}
 use Rattle.plan_model.specs.declared.refusals.PlanWhy.TheVariants.{UnknownEndpoint, Range, Overlap}
 use Rattle.plan_model.specs.declared.streams.Stream.TheVariants.{DownCommands, UpCommands, DownData, UpData}
 use Rattle.fh_time.specs.declared.frames.TheConstants.{FRAME}
+use Rattle.unit_model.specs.Terms.{piece_count}
 
 abbrev pub endpoint_of : Numerology → ℕ → EndpointConfig
 endpoint_of n prbs = record { id = 0; numerology = n; prbs = prbs; format = record { dynamic = false; method = Plain } }
@@ -74,9 +75,9 @@ part filter size = (0, filter, size)
 pub record PacksAreAsWorked : Type 0 where
   -- 273 PRBs without compression: 13,112 bytes in nine frames, the last of 1,176
   pub greatest_section : section_size (endpoint_of (ordinary_at Khz30) 273) 0 ≡ 13108
-  pub nine_frames : frames_for 1492 (4 + 13108) ≡ 9
-  pub one_frame : frames_for 1492 (4 + section_size usual 1) ≡ 1
-  pub whole_frames : frames_for 128 256 ≡ 2
+  pub nine_frames : piece_count 1492 (4 + 13108) ≡ 9
+  pub one_frame : piece_count 1492 (4 + section_size usual 1) ≡ 1
+  pub whole_frames : piece_count 128 256 ≡ 2
   pub in_pairs : lists_of (packs simple_fields 2 (part 0 52 ∷ part 0 52 ∷ part 0 52 ∷ [])) ≡ (part 0 52 ∷ part 0 52 ∷ []) ∷ (part 0 52 ∷ []) ∷ []
   pub alone : lists_of (packs simple_fields 1 (part 0 52 ∷ part 0 52 ∷ [])) ≡ (part 0 52 ∷ []) ∷ (part 0 52 ∷ []) ∷ []
   -- a section of another filterIndex ends a message, also where one of the first follows

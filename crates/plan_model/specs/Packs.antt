@@ -1,9 +1,10 @@
 -- Messages of several parts: how the sections of a symbol are cut into U-plane messages, how these are numbered, and how many
 -- frames leave before a message's own (O-RAN.WG4.CUS, U-plane messages and sequence identifiers; the cut is this project's
 -- profile). A part is anything that has a slot, a symbol, a filterIndex and a length.
-use Rattle.std.specs.Prelude.{ℕ, ◌+◌, ◌-◌, ◌/◌, Bool, ◌&&◌, ◌==◌, nat_lt, nat_le, if◌then◌else◌, List, [], ◌∷◌, ◌++◌, length, map, sum}
+use Rattle.std.specs.Prelude.{ℕ, ◌+◌, Bool, ◌&&◌, ◌==◌, nat_lt, nat_le, if◌then◌else◌, List, [], ◌∷◌, ◌++◌, length, map, sum}
 use Rattle.fh_time.specs.declared.values.Slot.{Slot}
 use Rattle.unit_model.specs.Claims.{same_slot}
+use Rattle.unit_model.specs.Terms.{MESSAGE_BYTES}
 
 -- what is asked of a part: its slot, symbol and filterIndex, and the bytes of its section with its headers
 pub record PartFields (P : Type 0) : Type 0 where
@@ -39,7 +40,7 @@ same_symbol f p q = same_slot (f.slot p) (f.slot q) && (f.symbol p == f.symbol q
 abbrev pub takes : {P : Type 0} → PartFields P → ℕ → Message P → P → Bool
 takes f most m p =
     same_symbol f m.first p && ((f.filter m.first == f.filter p)
-    && (nat_lt (length (parts_of m)) most && nat_le (size_of f m + f.size p) 16384))
+    && (nat_lt (length (parts_of m)) most && nat_le (size_of f m + f.size p) MESSAGE_BYTES))
 
 -- the messages that these parts make behind one that may take more
 unfoldable pub packs_behind : {P : Type 0} → PartFields P → ℕ → Message P → List P → List (Message P)
@@ -51,10 +52,6 @@ packs_behind f most m (p ∷ ps) =
 abbrev pub packs : {P : Type 0} → PartFields P → ℕ → List P → List (Message P)
 packs f most [] = []
 packs f most (p ∷ ps) = packs_behind f most (alone p) ps
-
--- the frames of so many application bytes, each with so many but the last, which has the rest
-abbrev pub frames_for : ℕ → ℕ → ℕ
-frames_for fragment bytes = (bytes + (fragment - 1)) / fragment
 
 -- ---- numbers
 

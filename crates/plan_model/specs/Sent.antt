@@ -5,7 +5,7 @@ use Rattle.std.specs.Int.{int_gap}
 use Rattle.std.specs.Ordering.{int_eq}
 use Rattle.window_config.specs.declared.config.Config.{Config}
 use Rattle.window_config.specs.declared.endpoints.EndpointConfig.{EndpointConfig}
-use Rattle.unit_model.specs.Lists.{each, each_tick, joined}
+use Rattle.unit_model.specs.Lists.{each, each_tick}
 use Rattle.unit_model.specs.Radiated.{first_clock}
 use Rattle.unit_model.specs.Times.{end_of_time}
 use Rattle.plan_model.specs.Departures.{sent_at}
@@ -14,6 +14,7 @@ use Rattle.plan_model.specs.Streams.{Part, frames_in, messages_of}
 use Rattle.plan_model.specs.declared.lines.PlannedLine.{PlannedLine}
 use Rattle.plan_model.specs.declared.streams.Stream.{Stream}
 use Rattle.plan_model.specs.declared.streams.Stream.TheVariants.{DownCommands, UpCommands, DownData}
+use Rattle.unit_model.specs.Terms.{joined}
 
 -- a frame: when it leaves, its message, that message's number, and which of the message's frames it is
 pub record SentFrame : Type 0 where

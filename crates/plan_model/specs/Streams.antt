@@ -16,10 +16,11 @@ use Rattle.unit_model.specs.Times.{end_of_time}
 use Rattle.unit_model.specs.Uplink.{is_before, sends_in}
 use Rattle.unit_model.specs.declared.allocations.Allocation.{Allocation}
 use Rattle.plan_model.specs.Lines.{line_allocation}
-use Rattle.plan_model.specs.Packs.{PartFields, Message, Numbered, size_of, packs, frames_for, numbered}
+use Rattle.plan_model.specs.Packs.{PartFields, Message, Numbered, size_of, packs, numbered}
 use Rattle.plan_model.specs.declared.lines.PlannedLine.{PlannedLine}
 use Rattle.plan_model.specs.declared.streams.Stream.{Stream}
 use Rattle.plan_model.specs.declared.streams.Stream.TheVariants.{DownCommands, UpCommands, DownData, UpData}
+use Rattle.unit_model.specs.Terms.{piece_count}
 
 -- a line in one of its symbols
 pub record Part : Type 0 where
@@ -83,8 +84,8 @@ most_parts c UpData = c.pack
 abbrev pub frames_in : Config → Stream → Message Part → ℕ
 frames_in c DownCommands m = 1
 frames_in c UpCommands m = 1
-frames_in c DownData m = frames_for c.fragment (size_of part_fields m)
-frames_in c UpData m = frames_for c.fragment (size_of part_fields m)
+frames_in c DownData m = piece_count c.fragment (size_of part_fields m)
+frames_in c UpData m = piece_count c.fragment (size_of part_fields m)
 
 -- something of each symbol of an endpoint, in the order of starts, and at one start of slots and symbols
 abbrev pub over_symbols : {A : Type 0} → (Slot → ℕ → List A) → EndpointConfig → List A

@@ -21,3 +21,4 @@ pub use refusals::PlanWhy;
 pub use sizes::{frame_count, section_size};
 pub use streams::Stream;
 pub use unit_model;
+pub use unit_model::MESSAGE_BYTES;

@@ -1,7 +1,7 @@
 // How long data messages are.
 ghost use Rattle.std.specs.Prelude.{◌≡◌, ◌≤◌, ◌<◌, ◌^◌};
 ghost use Rattle.window_config.specs.Endpoints.{IsEndpoint};
-ghost use Rattle.plan_model.specs.Packs.{frames_for};
+ghost use Rattle.unit_model.specs.Terms.{piece_count};
 ghost use Rattle.plan_model.specs.Streams.{section_size};
 
 use bfp_codec::block_len;
@@ -27,7 +27,7 @@ pub fn frame_count(fragment: usize, bytes: usize) -> usize
     requires some { 1 ≤ fragment }
     requires fragment { fragment < 2 ^ 32 }
     requires bytes { bytes < 2 ^ 32 }
-    ensures value { result ≡ frames_for fragment bytes }
+    ensures value { result ≡ piece_count fragment bytes }
     ensures small { result ≤ bytes }
 {
     (bytes + (fragment - 1)) / fragment

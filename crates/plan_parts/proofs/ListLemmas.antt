@@ -1,8 +1,8 @@
 -- Lists: all by place, a filter by two tests, and what a filter leaves.
 use Rattle.std.proofs.Common.{◌≡◌, ℕ, suc, ◌<◌, Bool, true, false, ◌&&◌, if◌then◌else◌, List, [], ◌∷◌, length, filter, get_or, refl, ap, arith}
 use Rattle.std.specs.List.{AllByRecursion}
-use Rattle.plan_model.proofs.ListLemmas.{of_filter, all_in, all_from}
-use Rattle.plan_parts.specs.Parts.{AreRelated}
+use Rattle.plan_model.proofs.ListLemmas.{all_in, all_from, filter_has}
+use Rattle.unit_laws.specs.unit_model.specs.Lists.{AreRelated}
 
 pub all_index : {X : Type 0} (P : X → Type 0) (xs : List X) → ((k : ℕ) (d : X) → k < length xs → P (get_or xs k d)) → AllByRecursion P xs
 all_index P [] h = tt
@@ -18,10 +18,6 @@ filter_and {X = X} a b (x ∷ xs) = go (a x) (b x) refl refl (filter_and a b xs)
     go true false e f h = h
     go false true e f h = rw e h
     go false false e f h = h
-
--- what holds of all, and what the test says, holds of those that pass it
-pub filter_has : {X : Type 0} (P Q : X → Type 0) (t : X → Bool) → ((x : X) → P x → t x ≡ true → Q x) → (xs : List X) → AllByRecursion P xs → AllByRecursion Q (filter t xs)
-filter_has P Q t h xs all = all_from Q (filter t xs) (λ x m. let w = of_filter t x xs m in h x (all_in P xs x all w.0) w.1)
 
 -- ---- any two
 

@@ -1,6 +1,5 @@
 -- The parts in their order are those of the definition.
 use Rattle.std.proofs.Common.{◌≤◌, length, ◌≡◌, ℕ, ℤ, pos, neg_ℤ, zero, suc, ◌+◌, ◌*◌, ◌^◌, ◌<◌, ◌+ℤ◌, ◌*ℤ◌, ◌<ℤ◌, ◌≤ℤ◌, inl, inr, Bool, true, false, not, ◌&&◌, ◌||◌, ◌==◌, nat_lt, cond, if◌then◌else◌, List, [], ◌∷◌, ◌++◌, filter, map, refl, ap, ap₂, sym, ◌∙◌, subst, true≢false, arith}
-use Rattle.std.specs.Int.{int_gap}
 use Rattle.std.specs.List.{AllByRecursion}
 use Rattle.std.specs.List.Sorted.{IsStableBy, ties}
 use Rattle.std.specs.Cmp.{IsTotalOrder, IsStrictWeakOrder, both_ways}
@@ -21,7 +20,7 @@ use Rattle.window_config.specs.declared.endpoints.EndpointConfig.{EndpointConfig
 use Rattle.unit_laws.specs.unit_model.specs.Lists.{each, each_tick, in_order}
 use Rattle.unit_laws.specs.unit_model.specs.Radiated.{first_clock}
 use Rattle.unit_laws.specs.unit_model.specs.Sweeps.{slot_at, first_swept, of_slot, of_subframe, of_frame, of_endpoint as swept}
-use Rattle.unit_laws.specs.unit_model.specs.Times.{end_of_time}
+use Rattle.unit_laws.specs.unit_model.specs.Times.{end_of_time, tick_count}
 use Rattle.unit_laws.specs.unit_model.proofs.SweepLaws.{gap_is}
 use Rattle.unit_laws.proofs.FrameLemmas.{frames_of_symbol, symbol_short}
 use Rattle.plan_model.specs.fragment_laws.specs.Apart.{IsIn}
@@ -30,13 +29,13 @@ use Rattle.plan_model.specs.Streams.{part_in, has_part, line_before, symbol_part
 use Rattle.plan_model.specs.declared.lines.PlannedLine.{PlannedLine}
 use Rattle.plan_model.specs.declared.streams.Stream.{Stream}
 use Rattle.plan_model.specs.declared.streams.Stream.TheVariants.{DownCommands, UpCommands, DownData, UpData}
-use Rattle.plan_model.proofs.ListLemmas.{of_filter, in_filter, all_in, all_from, all_map, filter_all, filter_mapped}
+use Rattle.plan_model.proofs.ListLemmas.{of_filter, in_filter, all_in, all_from, all_map, filter_all, filter_mapped, filter_has}
 use Rattle.plan_model.proofs.TickLemmas.{nat_same, int_same}
 use Rattle.plan_parts.specs.Placing.{ArePlaced}
 use Rattle.plan_parts.specs.Parts.{is_up_data, part_symbols, timed, listed, prb_cmp, part_cmp, part_first, AreOrderedBy, HasEndpoint, IsTimed}
 use Rattle.plan_parts.specs.Sweeping.{clock_of, is_at, parts_of_endpoint, IsPart, Precedes}
 use Rattle.plan_parts.specs.declared.parts.TimedPart.{TimedPart}
-use Rattle.plan_parts.proofs.ListLemmas.{filter_and, filter_has, related_filter, related_map}
+use Rattle.plan_parts.proofs.ListLemmas.{filter_and, related_filter, related_map}
 use Rattle.plan_parts.proofs.InsideLemmas.{inside_is, size_small}
 use Rattle.plan_parts.proofs.ListedLemmas.{Named, named_is, listed_at, listed_few, few_symbols}
 use Rattle.plan_parts.proofs.OrderedLemmas.{ordered_same, in_order_ordered, in_order_keeps}
@@ -44,9 +43,7 @@ use Rattle.plan_parts.proofs.OrderLemmas.{nat_equal, int_equal, then_equal}
 use Rattle.plan_parts.proofs.SymbolLemmas.{filter_alike, AtSymbol, at_parts, start_at, sweeps_find_all}
 use Rattle.fh_time.specs.declared.frames.TheConstants.{FRAME}
 use Rattle.window_config.specs.declared.plan.TheConstants.{LAST_FRAME}
-
-abbrev pub ticks_in_all : ℕ
-ticks_in_all = int_gap first_clock (end_of_time +ℤ pos 1)
+use Rattle.fh_time.specs.declared.symbols.TheConstants.{SUBFRAME}
 
 -- ---- the order
 
@@ -115,7 +112,7 @@ precedes x y h =
 -- ---- what is known of each part
 
 pub record Fact (stream : Stream) (e : EndpointConfig) (y : TimedPart) : Type 0 where
-  pub part : IsPart (clock_of e) first_clock ticks_in_all y
+  pub part : IsPart (clock_of e) first_clock tick_count y
   pub plain : is_up_data stream ≡ false → (y.start_prb ≡ 0) × (y.num_prb ≡ 0) × (y.section ≡ 0)
 
 in_time : (frame start : ℤ) (offset : ℕ) → pos 1 ≤ℤ frame → frame ≤ℤ pos LAST_FRAME → offset < 92160000000 → start ≡ frame *ℤ FRAME +ℤ pos offset
@@ -146,11 +143,11 @@ fact_is stream ep ps e placed ends x n = subst (Fact stream e) (sym n.is) (recor
     near = frames_of_symbol n.line.endpoint.numerology n.line.line.slot n.symbol (offsets_short n.line.endpoint.numerology) slot_ok symbol_ok
 
     times : (first_clock ≤ℤ at n.line.endpoint) × (at n.line.endpoint <ℤ (end_of_time +ℤ pos 1))
-    times = in_time n.line.line.slot.frame (at n.line.endpoint) (n.line.line.slot.subframe * 1536000000 + kind_start n.line.endpoint.numerology.kind n.line.line.slot.slot n.symbol)
+    times = in_time n.line.line.slot.frame (at n.line.endpoint) (n.line.line.slot.subframe * SUBFRAME + kind_start n.line.endpoint.numerology.kind n.line.line.slot.slot n.symbol)
         (placed.ranges n.line n.there).frame_low (placed.ranges n.line n.there).frame_high
         (symbol_short n.line.endpoint.numerology n.line.line.slot n.symbol (offsets_short n.line.endpoint.numerology) slot_ok symbol_ok) refl
 
-    part : IsPart (clock_of e) first_clock ticks_in_all (timed stream (part_in n.symbol n.line))
+    part : IsPart (clock_of e) first_clock tick_count (timed stream (part_in n.symbol n.line))
     part = record {
       starts = ap at same;
       low = near.0;
@@ -208,7 +205,7 @@ tie_parts stream e f b l y x z fact = both_ways _ _
     (λ h. let w = and_parts (ties prb_first x z) (is_at f b l y z) h in
     let a = at_parts f b l y z w.1 in
     equal_tied part_total (at_symbol e f b l y x) z
-    (one_symbol (at_symbol e f b l y x) z (sym (start_at (clock_of e) first_clock ticks_in_all f b l y z fact.part a)) (cc) (cc) (cc) (cc) ∙ tied_equal prb_total x z w.0))
+    (one_symbol (at_symbol e f b l y x) z (sym (start_at (clock_of e) first_clock tick_count f b l y z fact.part a)) (cc) (cc) (cc) (cc) ∙ tied_equal prb_total x z w.0))
 
 -- ---- the order of the radio unit
 
@@ -283,7 +280,7 @@ module _ (stream : Stream) (e : EndpointConfig) (ep : ℕ) (lines : List Planned
       (related_filter (λ z w. part_first w z ≡ false) (is_at f b l y) ys order)
     where
       starts : (z : TimedPart) → Fact stream e z × AtSymbol f b l y z → z.start.0 ≡ air_of e.numerology (slot_at f b l) y
-      starts z w = start_at (clock_of e) first_clock ticks_in_all f b l y z w.0.part w.1
+      starts z w = start_at (clock_of e) first_clock tick_count f b l y z w.0.part w.1
 
 abbrev zero_part : TimedPart
 zero_part = record { start = record { 0 = pos 0 }; frame = pos 0; subframe = 0; slot = 0; symbol = 0; start_prb = 0; num_prb = 0; section = 0; size = 0; line = 0 }
@@ -356,10 +353,10 @@ pub parts_are : (stream : Stream) (e : EndpointConfig) (ep : ℕ) (lines : List 
     → AreOrderedBy part_first ys → ArePlaced lines → HasEndpoint lines ep e → ys ≡ map (timed stream) (parts_in lines stream ep e)
 unfolding parts_in swept of_frame of_subframe of_slot
 parts_are stream e ep lines ys stable order placed ends =
-    sym (sweeps_find_all (clock_of e) ys first_clock ticks_in_all
+    sym (sweeps_find_all (clock_of e) ys first_clock tick_count
     (related_map (λ x y. part_first y x ≡ false) Precedes (Fact stream e) (λ x y u v h. precedes x y h) ys (y_facts stream e ep lines ys stable order placed ends) order)
-    (all_map (Fact stream e) (IsPart (clock_of e) first_clock ticks_in_all) (λ y fact. fact.part) ys (y_facts stream e ep lines ys stable order placed ends)))
-    ∙ map_ticks (timed stream) first_clock ticks_in_all _ (parts_of_endpoint (clock_of e) ys) (λ s.
+    (all_map (Fact stream e) (IsPart (clock_of e) first_clock tick_count) (λ y fact. fact.part) ys (y_facts stream e ep lines ys stable order placed ends)))
+    ∙ map_ticks (timed stream) first_clock tick_count _ (parts_of_endpoint (clock_of e) ys) (λ s.
     map_each (timed stream) 0 6 _ _ (λ k.
     map_each (timed stream) 0 10 _ _ (λ b.
     map_each (timed stream) 0 (slots_of e.numerology) _ _ (λ l.
@@ -369,7 +366,7 @@ parts_are stream e ep lines ys stable order placed ends =
 
 -- ---- times that can be told
 
-bounded : (t : ℤ) → first_clock ≤ℤ t → t <ℤ (first_clock +ℤ pos ticks_in_all) → (neg_ℤ (pos (2 ^ 56)) ≤ℤ t) × (t ≤ℤ pos (2 ^ 56))
+bounded : (t : ℤ) → first_clock ≤ℤ t → t <ℤ (first_clock +ℤ pos tick_count) → (neg_ℤ (pos (2 ^ 56)) ≤ℤ t) × (t ≤ℤ pos (2 ^ 56))
 bounded t low high =
     let g = gap_is first_clock (end_of_time +ℤ pos 1) (omega (arith, ints)) in
     let h : t <ℤ (end_of_time +ℤ pos 1) = subst (λ (x : ℤ). t <ℤ x) g high in

@@ -7,14 +7,14 @@ use Rattle.std.proofs.lemmas.Int.{ints}
 use Rattle.std.proofs.lemmas.Bool.{cases_eq, eq-eqb, ne_eqb, eqb-true, and_parts, and_right}
 use Rattle.std.proofs.lemmas.Bool.Decides.{Decides-int_eq}
 use Rattle.std.proofs.Math.Bool.{and_comm}
-use Rattle.fh_time.proofs.Orders.{same_z}
+use Rattle.fh_time.proofs.Orders.{same_z, not_eq}
 use Rattle.unit_laws.specs.unit_model.specs.Lists.{each}
 use Rattle.unit_laws.specs.unit_model.proofs.SweepLaws.{each_same, gap_is}
-use Rattle.plan_model.proofs.ListLemmas.{all_from, all_map, filter_none, filter_same}
-use Rattle.plan_model.proofs.TickLemmas.{int_apart, ticks_same}
+use Rattle.plan_model.proofs.ListLemmas.{all_from, all_map, filter_none, filter_same, filter_has}
+use Rattle.plan_model.proofs.TickLemmas.{ticks_same}
 use Rattle.plan_parts.specs.Sweeping.{of_key, timed_at, Clock, is_at, parts_of_symbol, parts_of_endpoint, IsPart, Precedes, AreOrdered, SweepsFindAll}
 use Rattle.plan_parts.specs.declared.parts.TimedPart.{TimedPart}
-use Rattle.plan_parts.proofs.ListLemmas.{filter_and, filter_has, related_filter, related_map}
+use Rattle.plan_parts.proofs.ListLemmas.{filter_and, related_filter, related_map}
 use Rattle.plan_parts.proofs.SweepLemmas.{each_is_all, ticks_are_all}
 
 -- ---- filters
@@ -153,7 +153,7 @@ module _ (c : Clock) (from : ℤ) (count : ℕ) (ps : List TimedPart) (up : AreO
       same : (x : TimedPart) → IsNow x → int_eq x.frame (c.first t +ℤ pos k) ≡ (frame_number x == k)
       same x h = elim (cases_eq (frame_number x) k) [
         | inl e ↦ (let g = gap_is (c.first t) x.frame (low x h) in (Decides-int_eq x.frame (c.first t +ℤ pos k)).1 (sym g ∙ ap (λ n. c.first t +ℤ pos n) e) ∙ sym (eq-eqb _ _ e))
-        | inr ne ↦ (let g = gap_is (c.first t) x.frame (low x h) in int_apart x.frame (c.first t +ℤ pos k) (λ q. ne (omega (arith, ints))) ∙ sym (ne_eqb _ _ ne))
+        | inr ne ↦ (let g = gap_is (c.first t) x.frame (low x h) in not_eq x.frame (c.first t +ℤ pos k) (λ q. ne (omega (arith, ints))) ∙ sym (ne_eqb _ _ ne))
       ]
 
   in_frames : each 0 6 (of_key frame_number now) ≡ now

@@ -1,11 +1,10 @@
 -- The parts of an endpoint's messages, as they are listed and in their order (this project's means).
-use Rattle.std.specs.Prelude.{◌≡◌, ⊤, ℕ, pos, neg_ℤ, ◌^◌, ◌≤◌, ◌≤ℤ◌, Bool, true, false, not, ◌&&◌, ◌==◌, if◌then◌else◌, List, [], ◌∷◌, ◌++◌}
-use Rattle.std.specs.List.{AllByRecursion}
+use Rattle.std.specs.Prelude.{◌≡◌, ℕ, pos, neg_ℤ, ◌^◌, ◌≤◌, ◌≤ℤ◌, Bool, true, false, not, ◌&&◌, ◌==◌, if◌then◌else◌, List, [], ◌∷◌, ◌++◌}
 use Rattle.std.specs.Ordering.{nat_cmp, int_cmp, on, then_cmp, is_lt}
 use Rattle.std.specs.declared.cmp.Ordering.{Ordering}
 use Rattle.window_config.specs.declared.endpoints.EndpointConfig.{EndpointConfig}
 use Rattle.unit_laws.specs.unit_model.specs.Commands.{is_uplink}
-use Rattle.unit_laws.specs.unit_model.specs.Lists.{each}
+use Rattle.unit_laws.specs.unit_model.specs.Lists.{each, AreRelated}
 use Rattle.unit_laws.specs.unit_model.specs.declared.allocations.Allocation.{Allocation}
 use Rattle.plan_model.specs.fragment_laws.specs.Apart.{IsIn}
 use Rattle.plan_model.specs.Departures.{start_of_part}
@@ -83,11 +82,6 @@ part_cmp = then_cmp (on (λ p. p.start.0) int_cmp) (then_cmp (on (λ p. p.frame)
 
 abbrev pub part_first : TimedPart → TimedPart → Bool
 part_first p q = is_lt (part_cmp p q)
-
--- any two, in their order
-abbrev pub AreRelated : {X : Type 0} → (X → X → Type 0) → List X → Type 0
-AreRelated R [] = ⊤
-AreRelated R (x ∷ xs) = AllByRecursion (R x) xs × AreRelated R xs
 
 -- by a test, none comes behind one that it puts behind
 abbrev pub AreOrderedBy : {X : Type 0} → (X → X → Bool) → List X → Type 0

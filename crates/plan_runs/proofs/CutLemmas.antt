@@ -17,6 +17,7 @@ use Rattle.plan_runs.specs.Walks.{first_message, frames_needed, run_grown, run_n
 use Rattle.plan_runs.specs.declared.limits.Limits.{Limits}
 use Rattle.plan_runs.specs.declared.open_messages.OpenMessage.{OpenMessage}
 use Rattle.plan_parts.specs.declared.parts.TimedPart.{TimedPart}
+use Rattle.plan_parts.specs.unit_model.specs.Terms.{MESSAGE_BYTES}
 
 -- ---- times and frames
 
@@ -45,8 +46,8 @@ module _ (c : Config) (stream : Stream) (ep : ℕ) where
   takes_is : (o : OpenMessage) (m : Message Part) (earlier : List (Message Part)) (p : Part) → IsOpenOf c stream ep o m earlier
       → run_takes_more l.pack o (timed stream p) ≡ takes part_fields (most_parts c stream) m p
   takes_is o m earlier p i =
-      ap₂ (λ (x : TimedPart) (n : ℕ). same_place x (timed stream p) && (nat_lt n l.pack && nat_le (o.bytes + (timed stream p).size) 16384)) i.first i.parts
-      ∙ ap (λ (b : ℕ). same_place (timed stream m.first) (timed stream p) && (nat_lt (length (parts_of m)) l.pack && nat_le (b + (timed stream p).size) 16384)) i.bytes
+      ap₂ (λ (x : TimedPart) (n : ℕ). same_place x (timed stream p) && (nat_lt n l.pack && nat_le (o.bytes + (timed stream p).size) MESSAGE_BYTES)) i.first i.parts
+      ∙ ap (λ (b : ℕ). same_place (timed stream m.first) (timed stream p) && (nat_lt (length (parts_of m)) l.pack && nat_le (b + (timed stream p).size) MESSAGE_BYTES)) i.bytes
 
   grown_is : (o : OpenMessage) (m : Message Part) (earlier : List (Message Part)) (p : Part) → IsOpenOf c stream ep o m earlier
       → IsOpenOf c stream ep (run_grown o (timed stream p)) (with_part m p) earlier

@@ -10,17 +10,18 @@ use Rattle.plan_runs.specs.Walks.{first_message, run_takes_more, run_grown, run_
 use Rattle.plan_runs.specs.declared.limits.Limits.{Limits}
 use Rattle.plan_runs.specs.declared.open_messages.OpenMessage.{OpenMessage}
 use Rattle.plan_parts.specs.declared.parts.TimedPart.{TimedPart}
+use Rattle.plan_parts.specs.unit_model.specs.Terms.{MESSAGE_BYTES}
 
 -- where a message takes a part more, it is short
 pub record Short (pack : ℕ) (m : OpenMessage) (p : TimedPart) : Type 0 where
   pub parts : m.parts < pack
-  pub bytes : m.bytes + p.size ≤ 16384
+  pub bytes : m.bytes + p.size ≤ MESSAGE_BYTES
 
 pub takes_short : (pack : ℕ) (m : OpenMessage) (p : TimedPart) → run_takes_more pack m p ≡ true → Short pack m p
 takes_short pack m p h =
     let a = and_parts (same_place m.first p) _ h in
-    let b = and_parts (nat_lt m.parts pack) (nat_le (m.bytes + p.size) 16384) a.1 in
-    record { parts = ltb-true m.parts pack b.0; bytes = leb-true (m.bytes + p.size) 16384 b.1 }
+    let b = and_parts (nat_lt m.parts pack) (nat_le (m.bytes + p.size) MESSAGE_BYTES) a.1 in
+    record { parts = ltb-true m.parts pack b.0; bytes = leb-true (m.bytes + p.size) MESSAGE_BYTES b.1 }
 
 pub grown_open : (l : Limits) (m : OpenMessage) (p : TimedPart) → IsLimits l → IsOpenMessage l m → run_takes_more l.pack m p ≡ true → IsOpenMessage l (run_grown m p)
 grown_open l m p limits o h =

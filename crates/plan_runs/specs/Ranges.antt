@@ -3,11 +3,12 @@ use Rattle.std.specs.Prelude.{ℕ, pos, neg_ℤ, ⊤, ◌^◌, ◌<◌, ◌≤�
 use Rattle.plan_parts.specs.Parts.{IsTimed}
 use Rattle.plan_runs.specs.declared.limits.Limits.{Limits}
 use Rattle.plan_runs.specs.declared.open_messages.OpenMessage.{OpenMessage}
-use Rattle.window_config.specs.declared.config.TheConstants.{MESSAGE_SECTIONS}
+use Rattle.window_config.specs.declared.config.TheConstants.{MESSAGE_SECTIONS, MOST_FRAGMENT, LEAST_FRAGMENT}
+use Rattle.plan_parts.specs.unit_model.specs.Terms.{MESSAGE_BYTES}
 
 abbrev pub IsFragment : Option ℕ → Type 0
 IsFragment None = ⊤
-IsFragment (Some n) = (128 ≤ n) × (n ≤ 9000)
+IsFragment (Some n) = (LEAST_FRAGMENT ≤ n) × (n ≤ MOST_FRAGMENT)
 
 pub record IsLimits (l : Limits) : Type 0 where
   pub fragment : IsFragment l.fragment
@@ -20,5 +21,5 @@ pub record IsLimits (l : Limits) : Type 0 where
 pub record IsOpenMessage (l : Limits) (m : OpenMessage) : Type 0 where
   pub first : IsTimed m.first
   pub parts : m.parts ≤ 65
-  pub bytes : m.bytes ≤ 16384
+  pub bytes : m.bytes ≤ MESSAGE_BYTES
   pub wait : m.wait ≤ l.departures.spread

@@ -2,11 +2,11 @@
 use Rattle.std.specs.Prelude.{ℕ, pos, ◌+◌, ◌*◌, ◌+ℤ◌, Bool, ◌&&◌, ◌==◌, nat_lt, nat_le, min, if◌then◌else◌, List, [], ◌∷◌, Option, Some, None}
 use Rattle.plan_parts.specs.unit_model.specs.Claims.{same_slot}
 use Rattle.plan_parts.specs.unit_model.specs.Sweeps.{slot_at}
-use Rattle.plan_parts.specs.plan_model.specs.Packs.{frames_for}
 use Rattle.frame_order.specs.declared.turns.Run.{Run}
 use Rattle.plan_runs.specs.declared.limits.Limits.{Limits}
 use Rattle.plan_runs.specs.declared.open_messages.OpenMessage.{OpenMessage}
 use Rattle.plan_parts.specs.declared.parts.TimedPart.{TimedPart}
+use Rattle.plan_parts.specs.unit_model.specs.Terms.{piece_count, MESSAGE_BYTES}
 
 abbrev pub same_place : TimedPart → TimedPart → Bool
 same_place a b = same_slot (slot_at a.frame a.subframe a.slot) (slot_at b.frame b.subframe b.slot) && (a.symbol == b.symbol)
@@ -18,14 +18,14 @@ abbrev pub first_message : TimedPart → OpenMessage
 first_message p = run_alone p 0 0
 
 abbrev pub run_takes_more : ℕ → OpenMessage → TimedPart → Bool
-run_takes_more pack m p = same_place m.first p && (nat_lt m.parts pack && nat_le (m.bytes + p.size) 16384)
+run_takes_more pack m p = same_place m.first p && (nat_lt m.parts pack && nat_le (m.bytes + p.size) MESSAGE_BYTES)
 
 abbrev pub run_grown : OpenMessage → TimedPart → OpenMessage
 run_grown m p = record { first = m.first; parts = m.parts + 1; bytes = m.bytes + p.size; number = m.number; wait = m.wait }
 
 abbrev pub frames_needed : Option ℕ → ℕ → ℕ
 frames_needed None bytes = 1
-frames_needed (Some most) bytes = frames_for most bytes
+frames_needed (Some most) bytes = piece_count most bytes
 
 -- the next message waits for the frames of this one, where it is of its symbol
 abbrev pub run_wait : Limits → OpenMessage → TimedPart → ℕ

@@ -2,11 +2,12 @@
 ghost use Rattle.std.specs.Prelude.{◌≡◌, ◌+◌, ◌<◌, ◌≤◌, ◌^◌};
 ghost use Rattle.plan_runs.specs.Ranges.{IsFragment, IsLimits, IsOpenMessage};
 ghost use Rattle.plan_runs.specs.Walks.{first_message, frames_needed, run_grown, run_next_to, run_from, same_place, run_takes_more};
+ghost use Rattle.plan_parts.specs.unit_model.specs.Terms.{MESSAGE_BYTES};
 
 use crate::limits::Limits;
 use frame_order::{Run, Turn};
 use plan_parts::TimedPart;
-use plan_parts::plan_model::frame_count;
+use plan_parts::plan_model::{MESSAGE_BYTES, frame_count};
 
 /// A message that may take more parts: its first part, how many parts and application bytes it has, its number, and how long behind
 /// the first frame of its symbol its own first one leaves.
@@ -53,15 +54,15 @@ pub(crate) fn first_message(part: &TimedPart) -> OpenMessage
 
 /// Whether a message takes a part more: of its symbol, and where it has room for it.
 pub(crate) fn takes_more(pack: usize, m: &OpenMessage, part: &TimedPart) -> bool
-    requires bytes { m.now.bytes ≤ 16384 }
+    requires bytes { m.now.bytes ≤ MESSAGE_BYTES }
     ensures { result ≡ run_takes_more pack m.now part.now }
 {
-    same_place(&m.first, part) && m.parts < pack && m.bytes + part.size as usize <= 16_384
+    same_place(&m.first, part) && m.parts < pack && m.bytes + part.size as usize <= MESSAGE_BYTES
 }
 
 /// The message with one part more.
 pub(crate) fn grown(m: &OpenMessage, part: &TimedPart) -> OpenMessage
-    requires bytes { m.now.bytes ≤ 16384 }
+    requires bytes { m.now.bytes ≤ MESSAGE_BYTES }
     requires parts { m.now.parts < 2 ^ 63 }
     ensures { result ≡ run_grown m.now part.now }
 {
@@ -75,7 +76,7 @@ pub(crate) fn grown(m: &OpenMessage, part: &TimedPart) -> OpenMessage
 /// How many frames carry a message of so many application bytes.
 fn frames_of(fragment: Option<usize>, bytes: usize) -> usize
     requires fragment { IsFragment fragment }
-    requires bytes { bytes ≤ 16384 }
+    requires bytes { bytes ≤ MESSAGE_BYTES }
     ensures value { result ≡ frames_needed fragment bytes }
     ensures small { result ≤ 128 }
 {

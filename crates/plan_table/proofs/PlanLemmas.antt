@@ -17,6 +17,7 @@ use Rattle.plan_runs.specs.plan_parts.specs.Placing.{ArePlaced}
 use Rattle.plan_runs.specs.schedule_laws.proofs.LineLemmas.{IsGoodLine, good}
 use Rattle.plan_runs.specs.schedule_laws.proofs.PlanLemmas.{in_range, valid_tested}
 use Rattle.plan_table.specs.Plans.{IsTabledPlan}
+use Rattle.window_config.specs.declared.plan.TheConstants.{PLAN_LINES}
 
 module _ (c : Config) (ps : List PlannedLine) (config : IsConfig c) (plan : IsTabledPlan c ps) where
   there : (p : PlannedLine) → IsIn p ps → IsIn p (planned c.endpoints plan.lines)
@@ -52,12 +53,12 @@ short_from es k (line ∷ lines) most h = go (find_endpoint es line.id) (short_f
     go None r = record { below = r.below; few = (let f = r.few in omega (arith, f)) }
     go (Some found) r = record { below = (omega (arith, h), r.below); few = (let f = r.few in omega (arith, f)) }
 
-pub short : (c : Config) (ps : List PlannedLine) → IsTabledPlan c ps → IsShort (2 ^ 32) 65536 ps
+pub short : (c : Config) (ps : List PlannedLine) → IsTabledPlan c ps → IsShort (2 ^ 32) PLAN_LINES ps
 short c ps plan =
     let few = plan.few in
     let s = short_from c.endpoints 0 plan.lines (2 ^ 32) (omega (arith, few)) in
     let f = s.few in
-    subst (IsShort (2 ^ 32) 65536) (sym plan.is) (record { below = s.below; few = omega (arith, f, few) })
+    subst (IsShort (2 ^ 32) PLAN_LINES) (sym plan.is) (record { below = s.below; few = omega (arith, f, few) })
 
-pub few_of : (n lines : ℕ) → n ≤ 15 * lines → lines ≤ 65536 → n ≤ 2 ^ 24
+pub few_of : (n lines : ℕ) → n ≤ 15 * lines → lines ≤ PLAN_LINES → n ≤ 2 ^ 24
 few_of n lines h few = omega (arith, h, few)

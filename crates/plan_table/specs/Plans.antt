@@ -6,11 +6,12 @@ use Rattle.window_config.specs.declared.plan.PlanLine.{PlanLine}
 use Rattle.plan_runs.specs.plan_model.specs.Lines.{planned}
 use Rattle.plan_runs.specs.plan_model.specs.Valid.{IsValid}
 use Rattle.plan_runs.specs.plan_model.specs.declared.lines.PlannedLine.{PlannedLine}
+use Rattle.window_config.specs.declared.plan.TheConstants.{PLAN_LINES}
 
 -- these are the lines of a valid plan, at their endpoints; it has no more than a document may have
 pub record IsTabledPlan (c : Config) (ps : List PlannedLine) : Type 0 where
   pub lines : List PlanLine
   pub fit : All IsPlanLine lines
   pub valid : IsValid c lines
-  pub few : length lines ≤ 65536
+  pub few : length lines ≤ PLAN_LINES
   pub is : ps ≡ planned c.endpoints lines

@@ -15,7 +15,6 @@ use Rattle.slot_rings.specs.unit_model.specs.declared.cells.Cell.{Cell}
 use Rattle.slot_rings.specs.unit_model.specs.declared.cells.Claim.{Claim}
 use Rattle.slot_rings.specs.unit_model.specs.declared.verdicts.CommandVerdict.{CommandVerdict}
 use Rattle.slot_rings.specs.unit_model.specs.declared.verdicts.CommandVerdict.TheVariants as verdict
-use Rattle.plan_parts.specs.unit_laws.proofs.CellLemmas.{covers_is}
 use Rattle.plan_parts.specs.unit_laws.proofs.LookupLemmas.{repeats_by_lookup, overlaps_by_lookup}
 use Rattle.slot_rings.specs.Places.{PlaceValue, blank, is_place_of}
 use Rattle.slot_rings.specs.Rings.{RingValue, IsRingCell, place_index, place_of, has_slot, ring_claim, ring_uplink, SameClaims, SameUplink, TouchesOnly}
@@ -31,7 +30,7 @@ use Rattle.plan_parts.proofs.InsideLemmas.{inside_is, slot_inside}
 use Rattle.plan_tests.specs.Judging.{IsLineOf, IsLineAt, Knows, why_in}
 use Rattle.plan_tests.specs.Slots.{why_judged}
 use Rattle.slot_rings.specs.unit_model.specs.declared.uplink.TheConstants.{SLOT_SECTIONS}
-use Rattle.slot_rings.specs.unit_model.proofs.ClaimLemmas.{within_carrier, slot_self as slot_own, from_within}
+use Rattle.slot_rings.specs.unit_model.proofs.ClaimLemmas.{within_carrier, slot_self as slot_own, from_within, covers_is}
 
 -- ---- what it is to be in range
 

@@ -4,7 +4,7 @@ use Rattle.std.specs.Ordering.{int_eq}
 use Rattle.window_config.specs.declared.config.Config.{Config}
 use Rattle.plan_parts.specs.plan_model.specs.Dense.{sending_of}
 use Rattle.plan_parts.specs.plan_model.specs.Departures.{start_of_part}
-use Rattle.plan_parts.specs.plan_model.specs.Packs.{Message, alone as message_alone, parts_of, with_part, size_of, same_symbol, takes, packs_behind, packs, frames_for, frames_before, numbered_behind, numbered}
+use Rattle.plan_parts.specs.plan_model.specs.Packs.{Message, alone as message_alone, parts_of, with_part, size_of, same_symbol, takes, packs_behind, packs, frames_before, numbered_behind, numbered}
 use Rattle.plan_parts.specs.plan_model.specs.Streams.{Part, part_fields}
 use Rattle.plan_parts.specs.plan_model.specs.declared.dense.Sending.{Sending}
 use Rattle.plan_parts.specs.plan_model.proofs.PackLemmas.{symbol_alike, before_alike, sum_more, length_more, wait_more}
@@ -14,6 +14,7 @@ use Rattle.plan_parts.specs.declared.parts.TimedPart.{TimedPart}
 use Rattle.fh_time.proofs.Orders.{all_three}
 use Rattle.plan_tests.specs.declared.walking.Limits.{Limits}
 use Rattle.plan_tests.specs.declared.walking.OpenMessage.{OpenMessage}
+use Rattle.slot_rings.specs.unit_model.specs.Terms.{piece_count}
 
 -- ---- symbols
 
@@ -29,7 +30,7 @@ pub record IsOpenOf (c : Config) (up : Bool) (frames : Message Part → ℕ) (o 
   pub bytes : o.bytes ≡ size_of part_fields m
   pub wait : o.wait ≡ min (frames_before part_fields frames m earlier * (dense_limits_of c up).departures.gap) (dense_limits_of c up).departures.spread
 
-module _ (c : Config) (up : Bool) (frames : Message Part → ℕ) (frames_are : (m : Message Part) → frames m ≡ frames_for c.fragment (size_of part_fields m)) where
+module _ (c : Config) (up : Bool) (frames : Message Part → ℕ) (frames_are : (m : Message Part) → frames m ≡ piece_count c.fragment (size_of part_fields m)) where
   abbrev l : Limits
   l = dense_limits_of c up
 
@@ -54,16 +55,16 @@ module _ (c : Config) (up : Bool) (frames : Message Part → ℕ) (frames_are : 
   next_is o m earlier p i = record { first = refl; parts = refl; bytes = omega arith; wait = wait }
     where
       go : (t : Bool) → same_symbol part_fields p m.first ≡ t
-          → (let w : ℕ = if t then min (o.wait + frames_for c.fragment o.bytes * l.departures.gap) l.departures.spread else 0 in w)
+          → (let w : ℕ = if t then min (o.wait + piece_count c.fragment o.bytes * l.departures.gap) l.departures.spread else 0 in w)
           ≡ min ((let n : ℕ = if t then frames m + frames_before part_fields frames (message_alone p) earlier else 0 in n) * l.departures.gap) l.departures.spread
       go false e = omega (arith, zero-mul l.departures.gap)
       go true e =
-          ap₂ (λ (w f : ℕ). min (w + f * l.departures.gap) l.departures.spread) i.wait (ap (frames_for c.fragment) i.bytes ∙ sym (frames_are m))
+          ap₂ (λ (w f : ℕ). min (w + f * l.departures.gap) l.departures.spread) i.wait (ap (piece_count c.fragment) i.bytes ∙ sym (frames_are m))
           ∙ wait_more (frames_before part_fields frames m earlier) (frames m) l.departures.gap l.departures.spread
           ∙ ap (λ (n : ℕ). min ((frames m + n) * l.departures.gap) l.departures.spread) (before_alike frames m (message_alone p) earlier (λ r. sym (symbol_alike p m.first r e)))
 
       wait : sending_wait l o (timed (stream_of up) p) ≡ min (frames_before part_fields frames (message_alone p) (m ∷ earlier) * l.departures.gap) l.departures.spread
-      wait = ap (λ (t : Bool). let w : ℕ = if t then min (o.wait + frames_for c.fragment o.bytes * l.departures.gap) l.departures.spread else 0 in w)
+      wait = ap (λ (t : Bool). let w : ℕ = if t then min (o.wait + piece_count c.fragment o.bytes * l.departures.gap) l.departures.spread else 0 in w)
           (ap (same_symbol_place (timed (stream_of up) p)) i.first ∙ place_is up p m.first) ∙ go (same_symbol part_fields p m.first) refl
 
   sending_is : (o : OpenMessage) (m : Message Part) (earlier : List (Message Part)) (number : ℕ) → IsOpenOf c up frames o m earlier

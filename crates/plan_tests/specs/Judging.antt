@@ -1,13 +1,11 @@
 -- What a ring of one place knows of the slot that is judged (this project's means).
 use Rattle.std.specs.Prelude.{◌≡◌, ℕ, ◌<◌, ◌≤◌, false, true, List, [], ◌∷◌, map, length, slice_index_or, Option, Some, None}
 use Rattle.fh_time.specs.declared.values.Slot.{Slot}
-use Rattle.window_config.specs.Endpoints.{IsEndpoint}
 use Rattle.window_config.specs.Plans.{IsPlanLine}
 use Rattle.window_config.specs.declared.endpoints.EndpointConfig.{EndpointConfig}
 use Rattle.slot_rings.specs.unit_model.specs.Claims.{claim_at}
 use Rattle.slot_rings.specs.unit_model.specs.Commands.{uplink_in}
 use Rattle.slot_rings.specs.unit_model.specs.Lists.{onto}
-use Rattle.slot_rings.specs.unit_model.specs.Proper.{IsAt}
 use Rattle.slot_rings.specs.unit_model.specs.declared.allocations.Allocation.{Allocation}
 use Rattle.slot_rings.specs.unit_model.specs.declared.cells.Cell.{Cell}
 use Rattle.slot_rings.specs.unit_model.specs.declared.verdicts.CommandVerdict.{CommandVerdict}

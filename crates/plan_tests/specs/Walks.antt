@@ -3,7 +3,6 @@ use Rattle.std.specs.Prelude.{ℕ, pos, neg_ℤ, ◌+◌, ◌*◌, ◌<◌, ◌�
 use Rattle.std.specs.Ordering.{int_eq}
 use Rattle.window_config.specs.declared.config.Config.{Config}
 use Rattle.plan_parts.specs.plan_model.specs.Departures.{departures_of}
-use Rattle.plan_parts.specs.plan_model.specs.Packs.{frames_for}
 use Rattle.plan_parts.specs.plan_model.specs.declared.dense.Sending.{Sending}
 use Rattle.plan_parts.specs.plan_model.specs.declared.streams.Stream.{Stream}
 use Rattle.plan_parts.specs.plan_model.specs.declared.streams.Stream.TheVariants.{DownData, UpData}
@@ -11,6 +10,7 @@ use Rattle.plan_parts.specs.declared.parts.TimedPart.{TimedPart}
 use Rattle.plan_tests.specs.declared.walking.Limits.{Limits}
 use Rattle.plan_tests.specs.declared.walking.OpenMessage.{OpenMessage}
 use Rattle.window_config.specs.declared.config.TheConstants.{MESSAGE_SECTIONS}
+use Rattle.slot_rings.specs.unit_model.specs.Terms.{piece_count}
 
 abbrev pub stream_of : Bool → Stream
 stream_of true = UpData
@@ -49,7 +49,7 @@ sending_grown m p = record { first = m.first; parts = m.parts + 1; bytes = m.byt
 -- the next message waits for the frames of this one, where it is of its symbol
 abbrev pub sending_wait : Limits → OpenMessage → TimedPart → ℕ
 sending_wait l m p =
-    if same_symbol_place p m.first then min (m.wait + frames_for l.fragment m.bytes * l.departures.gap) l.departures.spread else 0
+    if same_symbol_place p m.first then min (m.wait + piece_count l.fragment m.bytes * l.departures.gap) l.departures.spread else 0
 
 abbrev pub sending_next_to : Limits → OpenMessage → TimedPart → OpenMessage
 sending_next_to l m p = sending_alone p (sending_wait l m p)

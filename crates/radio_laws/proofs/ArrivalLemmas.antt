@@ -31,7 +31,7 @@ use Rattle.history_laws.proofs.ArrivingLemmas.{arrival_leaves_due, arrival_leave
 use Rattle.history_laws.proofs.TickLemmas.{before_next, after_all}
 use Rattle.ru_jobs.specs.Cursors.{left_behind, left_jobs}
 use Rattle.ru_jobs.specs.declared.cursor.JobCursor.{JobCursor}
-use Rattle.unit_memory.specs.Memory.{Holds, arrival}
+use Rattle.unit_memory.specs.Memory.{Holds, arrival_at}
 use Rattle.unit_memory.specs.declared.memory.UnitMemory.{UnitMemory}
 use Rattle.radio_laws.specs.Units.{IsWithin, RadioKeeps}
 use Rattle.radio_laws.proofs.HistoryLemmas.{since_small}
@@ -69,10 +69,10 @@ front_length : {A : Type 0} (xs ys all : List A) → xs ++ ys ≡ all → length
 front_length xs ys all e = omega (arith, length-append xs ys, ap length e)
 
 module _ (c : Config) (m m2 : UnitMemory) (clock : ℤ) (cursor : JobCursor) (h : History) (frame : List ℕ) (k : RadioKeeps c m clock cursor h)
-    (settled : cursor.since.0 ≡ h.clock) (holds : Holds Ru c cursor.since.0 m2 (arrival h.clock frame ∷ h.arrivals) (cells_counted h.reported))
+    (settled : cursor.since.0 ≡ h.clock) (holds : Holds Ru c cursor.since.0 m2 (arrival_at h.clock frame ∷ h.arrivals) (cells_counted h.reported))
     (reports : SameReported Ru c cursor.since.0 m.cells m2.cells) where
   abbrev a : Arrival
-  a = arrival h.clock frame
+  a = arrival_at h.clock frame
 
   abbrev acc : List Allocation
   acc = accepted_of c h.arrivals

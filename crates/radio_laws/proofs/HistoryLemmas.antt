@@ -34,7 +34,7 @@ use Rattle.history_laws.specs.unit_model.proofs.InTimeLemmas.{in_time_later}
 
 -- ---- what a unit answers
 
-whole_data : (es : List EndpointConfig) (d : UserSection) → IsProperData es d → IsTold d
+pub whole_data : (es : List EndpointConfig) (d : UserSection) → IsProperData es d → IsTold d
 whole_data es d is = omega (arith, is.blocks)
 
 module _ (c : Config) (m : UnitMemory) (clock : ℤ) (cursor : JobCursor) (h : History) (k : RadioKeeps c m clock cursor h) where

@@ -12,7 +12,7 @@ use Rattle.history_laws.specs.window_config.specs.Rings.{ru_reach_of}
 use Rattle.history_laws.specs.window_config.specs.Windows.{ticks_of_ns}
 use Rattle.history_laws.specs.window_config.specs.declared.config.Config.{Config}
 use Rattle.history_laws.specs.window_config.specs.declared.endpoints.EndpointConfig.{EndpointConfig}
-use Rattle.history_laws.specs.unit_model.specs.Proper.{IsAt, IsTime}
+use Rattle.history_laws.specs.unit_model.specs.Proper.{IsAt}
 use Rattle.history_laws.specs.unit_model.specs.Radiated.{first_clock, symbol_report}
 use Rattle.history_laws.specs.unit_model.specs.Reports.{accepted_of, ru_known}
 use Rattle.history_laws.specs.unit_model.specs.Standing.{IsOwed, due, nothing_yet, still_reported}
@@ -36,6 +36,7 @@ use Rattle.radio_laws.specs.Units.{RadioKeeps}
 use Rattle.radio_laws.proofs.LookupLemmas.{left_by_definition, left_of}
 use Rattle.history_laws.specs.unit_model.proofs.SweepLaws.{sweep_quiet as sweep-nothing}
 use Rattle.fh_time.proofs.Orders.{before_it}
+use Rattle.history_laws.specs.unit_model.proofs.SlotLemmas.{first_time}
 
 -- a time before a slot is live
 before : Config → EndpointConfig → Slot → ℤ
@@ -86,9 +87,6 @@ nothing_of c cursor to limits e =
     sweep-nothing g c.endpoints first_clock (to +ℤ pos 1) (λ tick low high.
     tick-nothing g c.endpoints tick (λ ep e2 slot symbol swept.
     ap (left_jobs cursor (start_at ep e2 slot symbol)) (no_message c ep e2 slot symbol limits swept.endpoint) ∙ nothing_left cursor (start_at ep e2 slot symbol) e))
-
-first_time : IsTime first_clock
-first_time = record { low = omega (arith, ints); high = omega (arith, ints) }
 
 small_first : (a : ℤ) → a ≡ first_clock → a ≤ℤ pos (2 ^ 53)
 small_first a e = omega (arith, ints)

@@ -26,10 +26,12 @@ use Rattle.radio_laws.proofs.LeftLemmas.{left_of_none}
 use Rattle.radio_laws.proofs.SlotLemmas.{frame_least}
 use Rattle.fh_time.specs.declared.frames.TheConstants.{FRAME}
 use Rattle.history_laws.specs.unit_laws.proofs.EndLemmas.{reach_small}
+use Rattle.fh_time.specs.declared.nanoseconds.TheConstants.{NANOSECOND}
+use Rattle.fh_time.specs.declared.symbols.TheConstants.{SUBFRAME}
 
 -- ---- frames whose symbols' times can be told
 
-frame_high : (frame before when since clock : ℤ) (offset : ℕ) → ((frame *ℤ FRAME +ℤ pos offset) -ℤ before *ℤ pos 1536) ≤ℤ when → when ≤ℤ since
+frame_high : (frame before when since clock : ℤ) (offset : ℕ) → ((frame *ℤ FRAME +ℤ pos offset) -ℤ before *ℤ pos NANOSECOND) ≤ℤ when → when ≤ℤ since
     → since ≤ℤ clock → clock ≤ℤ pos 9007199254740992 → before ≤ℤ pos 4000000 → frame ≤ℤ pos 1000000
 frame_high frame before when since clock offset a b c d e = omega (arith, ints)
 
@@ -50,7 +52,7 @@ module _ (c : Config) (m : UnitMemory) (arrivals : List Arrival) (beside : List 
         slot_is = record {
           low = frame_low s.start.0 s.slot.frame is.low swept.frame_low;
           high = frame_high s.slot.frame (ru_reach_of c.delays).before was.when since clock
-              (s.slot.subframe * 1536000000 + kind_start s.endpoint.numerology.kind s.slot.slot 0)
+              (s.slot.subframe * SUBFRAME + kind_start s.endpoint.numerology.kind s.slot.slot 0)
               was.live.begun was.come order time.high (reach_small c.delays holds.config.delays);
           subframe = swept.slot_is.subframe;
           slot_is = swept.slot_is.slot;

@@ -23,7 +23,7 @@ use Rattle.history_laws.specs.unit_model.specs.Claims.{same_slot, same_way}
 use Rattle.history_laws.specs.unit_model.specs.Counts.{StandAt, block_counter, cells_counted}
 use Rattle.history_laws.specs.unit_model.specs.Meetings.{fragments}
 use Rattle.history_laws.specs.unit_model.specs.Proper.{IsAt}
-use Rattle.history_laws.specs.unit_model.specs.Radiated.{air_cell, first_clock, is_down, used_mask}
+use Rattle.history_laws.specs.unit_model.specs.Radiated.{air_cell, first_clock, used_mask}
 use Rattle.history_laws.specs.unit_model.specs.Reports.{accepted_of, arrivals_counted, met, ru_known, timely_of}
 use Rattle.history_laws.specs.unit_model.specs.Standing.{AreDifferent, History, IsCell, IsLiveAt, IsOwed, cell_heard, heard}
 use Rattle.history_laws.specs.unit_model.specs.Starts.{start_at}
@@ -55,6 +55,7 @@ use Rattle.ru_reports.specs.unit_cells.proofs.TimeLemmas.{far_no_place}
 use Rattle.history_laws.specs.unit_model.proofs.ClaimLemmas.{same_slot_is as slots_equal, slot_self as slot_own}
 use Rattle.history_laws.specs.unit_laws.proofs.ReportLemmas.{used_same}
 use Rattle.fh_time.proofs.Orders.{weak, not_zero as some_used, at_most}
+use Rattle.history_laws.specs.air_source.specs.Units.{is_down}
 
 -- ---- tests
 

@@ -15,8 +15,10 @@ use Rattle.history_laws.specs.unit_laws.specs.Ticks.{IsLiveSlot}
 use Rattle.fh_time.proofs.Euclid.{frame_floor}
 use Rattle.fh_time.specs.declared.frames.TheConstants.{FRAME}
 use Rattle.history_laws.specs.unit_laws.proofs.EndLemmas.{reach_small}
+use Rattle.fh_time.specs.declared.nanoseconds.TheConstants.{NANOSECOND}
+use Rattle.fh_time.specs.declared.symbols.TheConstants.{SUBFRAME}
 
-pub frame_most : (frame clock before : ℤ) (offset : ℕ) → (frame *ℤ FRAME +ℤ pos offset -ℤ (before *ℤ pos 1536)) ≤ℤ clock → before ≤ℤ pos 4000000
+pub frame_most : (frame clock before : ℤ) (offset : ℕ) → (frame *ℤ FRAME +ℤ pos offset -ℤ (before *ℤ pos NANOSECOND)) ≤ℤ clock → before ≤ℤ pos 4000000
     → clock ≤ℤ pos (2 ^ 53) → frame ≤ℤ pos 1000000
 frame_most frame clock before offset a b c = omega (arith, ints)
 
@@ -30,7 +32,7 @@ pub swept_slot : (d : Delays) (es : List EndpointConfig) (ep : ℕ) (e : Endpoin
     → IsSlot e.numerology slot
 swept_slot d es ep e slot symbol tick clock limits swept begun small live = record {
   low = frame_least slot.frame (frame_of_tick tick) tick begun (frame_floor tick).1 swept.frame_low;
-  high = frame_most slot.frame clock (ru_reach_of d).before (slot.subframe * 1536000000 + kind_start e.numerology.kind slot.slot 0) live.begun (reach_small d limits) small;
+  high = frame_most slot.frame clock (ru_reach_of d).before (slot.subframe * SUBFRAME + kind_start e.numerology.kind slot.slot 0) live.begun (reach_small d limits) small;
   subframe = swept.slot_is.subframe;
   slot_is = swept.slot_is.slot;
 }

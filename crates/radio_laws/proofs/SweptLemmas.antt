@@ -12,14 +12,13 @@ use Rattle.history_laws.specs.unit_model.specs.declared.symbol_start.SymbolStart
 use Rattle.history_laws.specs.unit_laws.specs.Runs.{OffsetsFit}
 use Rattle.history_laws.specs.unit_laws.specs.Swept.{IsSwept}
 use Rattle.history_laws.specs.unit_laws.proofs.FrameLemmas.{symbols_are_swept}
-use Rattle.history_laws.specs.unit_laws.proofs.SweepLemmas.{sweep-append, sweep-none, sweep-same, tick-nothing}
+use Rattle.history_laws.specs.unit_laws.proofs.SweepLemmas.{sweep-append, sweep-same, tick-nothing}
 use Rattle.ru_reports.specs.unit_cells.specs.Cells.{CellsValue, cells_uplink, endpoints_of}
 use Rattle.ru_reports.specs.unit_cells.proofs.ApartLemmas.{is_slot_of}
 use Rattle.history_laws.specs.First.{FirstIsFirst, IsQuietBefore, IsSweptIn, told_of}
 use Rattle.ru_jobs.specs.Cursors.{GivenOne, IsFirstJob, Settled, jobs_left}
 use Rattle.ru_reports.specs.symbol_search.specs.Symbols.{IsSymbol}
 use Rattle.history_laws.proofs.TickLemmas.{next_of_last, later_then, same_then}
-use Rattle.history_laws.proofs.ListLemmas.{front_empty}
 use Rattle.ru_jobs.specs.declared.cursor.JobCursor.{JobCursor}
 use Rattle.ru_jobs.specs.declared.cursor.NextJob.{NextJob}
 use Rattle.radio_laws.specs.Units.{left_up_to}
@@ -27,6 +26,7 @@ use Rattle.radio_laws.proofs.LeftLemmas.{left_since, start_before, start_behind}
 use Rattle.history_laws.specs.unit_model.proofs.SweepLaws.{sweep_quiet as sweep-nothing}
 use Rattle.fh_time.proofs.Orders.{weak, within_next}
 use Rattle.history_laws.specs.unit_model.proofs.ClaimLemmas.{start_before as earlier_comes}
+use Rattle.radio_laws.proofs.QuietLemmas.{sweep_less}
 
 -- ---- nothing of any symbol
 
@@ -50,12 +50,6 @@ nothing_left v cursor to none = nothing_swept (jobs_left (cells_uplink v) cursor
 moved_below : (start tick clock : ℤ) → start ≡ tick → tick <ℤ clock → start <ℤ clock
 moved_below start tick clock e h = omega (arith, ints)
 
--- what tells nothing up to a time tells nothing up to an earlier one
-begins_with_nothing : {A : Type 0} (g : OfSymbol A) (es : List EndpointConfig) (from mid end : ℤ) → mid ≤ℤ end → sweep g es from end ≡ [] → sweep g es from mid ≡ []
-begins_with_nothing g es from mid end order none =
-    by_lt_z mid from (λ before. sweep-none g es from mid (weak mid from before))
-    (λ after. front_empty (sweep g es from mid) (sweep g es mid end) (sym (sweep-append g es from mid end after order) ∙ none))
-
 module _ (v : CellsValue) (clock : ℤ) (cursor next : JobCursor) (settled : Settled clock cursor next) where
   settled_before : (end : ℤ) → end ≤ℤ clock → sweep (jobs_left (cells_uplink v) next) (endpoints_of v) first_clock end ≡ []
   settled_before end order =
@@ -78,7 +72,7 @@ module _ (v : CellsValue) (clock : ℤ) (cursor next : JobCursor) (settled : Set
       sweep-append g' es first_clock clock end begun (weak clock end after)
       ∙ ap₂ ◌++◌ (settled_before clock (same_time clock) ∙ sym none) (settled_behind end)
       ∙ sym (sweep-append g es first_clock clock end begun (weak clock end after)))
-      (λ before. settled_before end before ∙ sym (begins_with_nothing g es first_clock end clock before none))
+      (λ before. settled_before end before ∙ sym (sweep_less g es first_clock end clock before none))
     where
       same_time : (t : ℤ) → t ≤ℤ t
       same_time t = omega (arith, ints)

@@ -5,7 +5,6 @@ use Rattle.air_source.specs.Stops.{StopsIn}
 use Rattle.air_source.specs.declared.events.Event.{Event}
 use Rattle.air_source.specs.declared.events.Side.{Side}
 use Rattle.air_source.specs.declared.events.Side.TheVariants.{Ru as AtRu}
-use Rattle.measured_moments.specs.frame_ways.specs.Flying.{arrival_at}
 use Rattle.measured_moments.specs.replay_events.proofs.HeardLemmas.{arrival-own, arrivals-none}
 use Rattle.measured_moments.specs.replay_events.specs.Events.{arrival_event, arrival_told, result_event}
 use Rattle.measured_moments.specs.replay_events.specs.declared.results.DelayResult.{DelayResult}
@@ -16,6 +15,7 @@ use Rattle.du_scheduler.specs.unit_model.specs.Standing.{History, arrived}
 use Rattle.du_scheduler.specs.window_config.specs.declared.config.Config.{Config}
 use Rattle.radio_moments.specs.Landing.{HasTaken}
 use Rattle.radio_moments.specs.Stops.{RestsBehind, StopsBehind}
+use Rattle.measured_moments.specs.ru_buffers.specs.unit_memory.specs.Memory.{arrival_at}
 
 -- ---- where it was told only in part
 

@@ -10,7 +10,6 @@ use Rattle.delay_measure.specs.declared.edge.Edge.{Edge}
 use Rattle.measured_moments.specs.document_delays.specs.Settings.{compensation_of}
 use Rattle.measured_moments.specs.document_traffic.specs.Sending.{Leaving, SentCounts}
 use Rattle.measured_moments.specs.fh_document.specs.declared.document.Document.{Document}
-use Rattle.measured_moments.specs.frame_ways.specs.Flying.{arrival_at}
 use Rattle.measured_moments.specs.frame_ways.specs.Landed.{bytes_of}
 use Rattle.measured_moments.specs.frame_ways.specs.Ways.{IsLanded, IsTickOver, Waits, coming_at}
 use Rattle.measured_moments.specs.frame_ways.specs.declared.landed.Landed.{Landed}
@@ -31,6 +30,7 @@ use Rattle.radio_moments.specs.Landing.{HasTaken, HaveLanded, ru_landed}
 use Rattle.radio_moments.specs.Stops.{HaltsBehind, StopsBehind}
 use Rattle.radio_moments.proofs.HearLemmas.{with_arrivals}
 use Rattle.radio_moments.proofs.StopLemmas.{halts_ahead, halts_behind, halts_moved, stops_ahead, stops_behind, stops_moved}
+use Rattle.measured_moments.specs.ru_buffers.specs.unit_memory.specs.Memory.{arrival_at}
 
 -- ---- what a meter has of them, and what is told
 

@@ -20,6 +20,7 @@ use Rattle.measured_moments.specs.ru_buffers.specs.declared.unit.Ru.{Ru}
 use Rattle.du_scheduler.specs.unit_model.specs.Meetings.{Arrival}
 use Rattle.du_scheduler.specs.unit_model.specs.Radiated.{first_clock}
 use Rattle.radio_moments.specs.Turns.{AtRadioTurn, IsRadioInStep, events_before, intake_events, radio_events}
+use Rattle.measured_moments.specs.ru_buffers.specs.history_laws.proofs.AddedLemmas.{in_front}
 
 -- ---- events of one unit
 
@@ -33,13 +34,8 @@ unit_of (event.Count side counter value) = side
 abbrev pub AreEventsOf : Side → List Event → Type 0
 AreEventsOf side es = All (λ e. unit_of e ≡ side) es
 
--- what holds of all holds of the first of them
-pub all_front : {X : Type 0} (P : X → Type 0) (xs ys : List X) → All P (xs ++ ys) → All P xs
-all_front P [] ys h = All-nil P
-all_front P (x ∷ xs) ys h = All-cons P x xs (All-head P x (xs ++ ys) h) (all_front P xs ys (All-tail P x (xs ++ ys) h))
-
 pub events_front : (side : Side) (xs ys : List Event) → AreEventsOf side (xs ++ ys) → AreEventsOf side xs
-events_front side xs ys h = all_front (λ (e : Event). unit_of e ≡ side) xs ys h
+events_front side xs ys h = in_front (λ (e : Event). unit_of e ≡ side) xs ys h
 
 cells_of : (side : Side) (cs : List AirCell) → AreOf side cs → AreEventsOf side (map event.Cell cs)
 cells_of side [] h = All-nil (λ (e : Event). unit_of e ≡ side)

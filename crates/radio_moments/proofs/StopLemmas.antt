@@ -24,8 +24,8 @@ use Rattle.measured_moments.specs.replay_events.specs.history_laws.proofs.ListLe
 use Rattle.radio_moments.specs.Landing.{HasTaken, having_heard, told_of_frames}
 use Rattle.radio_moments.specs.Stops.{HaltsBehind, RestsBehind, StopsBehind}
 use Rattle.radio_moments.specs.Turns.{IsRadioInStep, IsRadioTurn, events_before, radio_events}
-use Rattle.radio_moments.proofs.StepLemmas.{all_front}
 use Rattle.radio_moments.proofs.TurnLemmas.{due_here}
+use Rattle.measured_moments.specs.ru_buffers.specs.history_laws.proofs.AddedLemmas.{in_front}
 
 -- ---- any events
 
@@ -172,7 +172,7 @@ pub stops_due : {A : Type 0} (grew : A → List Event → A → Type 0) (stopped
     → StopsBehind grew stopped (InStep d u) (events_before d tick) (radio_events d tick) a b
 stops_due grew stopped d tick h u a b doc turn ended s =
     let more = told_at d tick in
-    let own = all_front (λ (a : AirCell). a.side ≡ AtRu) s.told (s.cell ∷ s.rest) (subst (AreOf AtRu) s.is (due_own d tick h)) in
+    let own = in_front (λ (a : AirCell). a.side ≡ AtRu) s.told (s.cell ∷ s.rest) (subst (AreOf AtRu) s.is (due_own d tick h)) in
     record {
       told = map Cell s.told;
       event = Cell s.cell;

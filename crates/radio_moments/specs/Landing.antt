@@ -8,7 +8,6 @@ use Rattle.delay_measure.specs.declared.edge.Edge.{Edge}
 use Rattle.measured_moments.specs.document_delays.specs.Settings.{compensation_of}
 use Rattle.measured_moments.specs.document_traffic.specs.Sending.{Leaving, SentCounts}
 use Rattle.measured_moments.specs.fh_document.specs.declared.document.Document.{Document}
-use Rattle.measured_moments.specs.frame_ways.specs.Flying.{arrival_at}
 use Rattle.measured_moments.specs.frame_ways.specs.Ways.{Waits, coming_at}
 use Rattle.measured_moments.specs.frame_ways.specs.declared.way.Way.{Way}
 use Rattle.measured_moments.specs.measured_traffic.specs.Doings.{Doings, results_of, with_frame, with_frames}
@@ -21,6 +20,7 @@ use Rattle.du_scheduler.specs.unit_model.specs.Lists.{onto}
 use Rattle.du_scheduler.specs.unit_model.specs.Meetings.{Arrival}
 use Rattle.du_scheduler.specs.unit_model.specs.Standing.{History}
 use Rattle.du_scheduler.specs.window_config.specs.declared.config.Config.{Config}
+use Rattle.measured_moments.specs.ru_buffers.specs.unit_memory.specs.Memory.{arrival_at}
 
 -- ---- what is told
 

@@ -14,7 +14,7 @@ use Rattle.window_config.specs.declared.endpoints.EndpointConfig.{EndpointConfig
 use Rattle.history_laws.specs.unit_model.specs.Claims.{cell_at}
 use Rattle.history_laws.specs.unit_model.specs.Lists.{onto}
 use Rattle.history_laws.specs.unit_model.specs.Meetings.{Arrival}
-use Rattle.history_laws.specs.unit_model.specs.Radiated.{Known, air_cell, cell_report, first_clock, is_down, symbol_report, used_mask, wait_of}
+use Rattle.history_laws.specs.unit_model.specs.Radiated.{Known, air_cell, cell_report, first_clock, symbol_report, used_mask, wait_of}
 use Rattle.history_laws.specs.unit_model.specs.Standing.{due, still_reported}
 use Rattle.history_laws.specs.unit_model.specs.Sweeps.{at_tick}
 use Rattle.history_laws.specs.unit_laws.proofs.DifferLemmas.{all_kept}
@@ -25,6 +25,7 @@ use Rattle.replay_events.specs.Heard.{arrivals_heard, cells_heard, is_of}
 use Rattle.replay_events.specs.Traffic.{DelayResult}
 use Rattle.replay_events.proofs.ToldLemmas.{none_told, told_kept, told_next, told_next_alone}
 use Rattle.replay_events.proofs.CameLemmas.{onto_none}
+use Rattle.air_source.specs.Units.{is_down}
 
 -- ---- which unit's
 

@@ -10,12 +10,9 @@ use Rattle.history_laws.specs.unit_model.proofs.SweepLaws.{gap_is, gap_none, tic
 use Rattle.history_laws.specs.unit_laws.proofs.SweepLemmas.{sweep-append}
 use Rattle.history_laws.proofs.TickLemmas.{next_after, next_is_later}
 use Rattle.history_laws.proofs.ListLemmas.{front_empty, back_empty}
-use Rattle.fh_time.proofs.Orders.{weak, same_gap as gap_sum, frame_low_is as step_above, next_later as next_most, at_most}
+use Rattle.fh_time.proofs.Orders.{weak, same_gap as gap_sum, frame_low_is as step_above, next_later as next_most, at_most, and_none}
 
 -- ---- numbers
-
-start_here : (a : ℤ) → a +ℤ pos 0 ≡ a
-start_here a = omega (arith, ints)
 
 step_is : (a : ℤ) (n : ℕ) → (a +ℤ pos n) +ℤ pos 1 ≡ a +ℤ pos (suc n)
 step_is a n = omega (arith, ints)
@@ -35,7 +32,7 @@ next_gap a b h =
 -- ---- what each tick hands on
 
 climbs : (P : ℤ → Type 0) (from : ℤ) (n : ℕ) → P from → ((t : ℤ) → from ≤ℤ t → t <ℤ (from +ℤ pos n) → P t → P (t +ℤ pos 1)) → P (from +ℤ pos n)
-climbs P from zero here step = subst P (sym (start_here from)) here
+climbs P from zero here step = subst P (sym (and_none from)) here
 climbs P from (suc n) here step =
     subst P (step_is from n)
     (step (from +ℤ pos n) (step_above from n) (step_below from n) (climbs P from n here (λ t low high. step t low (step_later from t n high))))

@@ -6,7 +6,7 @@ use Rattle.air_source.specs.declared.events.Event.TheVariants as event
 use Rattle.air_source.specs.declared.events.Side.{Side}
 use Rattle.history_laws.specs.unit_model.specs.Claims.{same_way}
 use Rattle.history_laws.specs.unit_model.specs.Meetings.{Arrival}
-use Rattle.history_laws.specs.unit_model.specs.Radiated.{is_down}
+use Rattle.air_source.specs.Units.{is_down}
 
 -- the event is of this unit
 abbrev pub is_of : Side → Side → Bool

@@ -19,7 +19,7 @@ use Rattle.fault_counters.specs.declared.kinds.Counter.TheVariants as counter
 use Rattle.window_config.specs.declared.endpoints.EndpointConfig.{EndpointConfig}
 use Rattle.replay_events.specs.unit_model.specs.Counts.{decoded_counted, fragment_counter, frames_counted, meeting_counted, messages_counted, refusal_counted}
 use Rattle.replay_events.specs.unit_model.specs.Decoding.{Decoded, Refused, Backwards, Sections, data_now}
-use Rattle.replay_events.specs.unit_model.specs.Meetings.{Arrival, Meeting, Ignored, Commands, Piece, application, command_read, control_met, find_endpoint, fragments, id_of, is_fragmented, meet, meetings, met_by, met_in, sequence_of}
+use Rattle.replay_events.specs.unit_model.specs.Meetings.{Arrival, Meeting, Ignored, Commands, Piece, command_read, control_met, find_endpoint, fragments, meet, meetings, met_by, met_in}
 use Rattle.replay_events.specs.unit_model.proofs.CountLemmas.{times-append}
 use Rattle.replay_events.specs.unit_laws.specs.Totals.{commands_total, data_total}
 use Rattle.replay_events.specs.unit_laws.proofs.OrderLemmas.{All-onto}
@@ -27,6 +27,7 @@ use Rattle.replay_laws.specs.Sums.{cells_total}
 use Rattle.ecpri_frames.specs.declared.heads.TheConstants.{ONE_WAY_DELAY}
 use Rattle.ecpri_frames.specs.declared.heads.TheConstants.{REAL_TIME_CONTROL}
 use Rattle.ecpri_frames.specs.declared.heads.TheConstants.{IQ_DATA}
+use Rattle.ecpri_fragments.specs.Sequence.{id_of, sequence_of, application, is_fragmented}
 
 -- none of these is a verdict's counter, or a cell's
 pub record IsBeside (cs : List Counter) : Type 0 where

@@ -12,7 +12,7 @@ use Rattle.bfp_codec.specs.declared.samples.Wide.{Wide}
 use Rattle.replay_events.specs.air_source.specs.declared.events.Side.{Side}
 use Rattle.replay_events.specs.air_source.specs.declared.events.Side.TheVariants.{Ru, Du}
 use Rattle.ecpri_fragments.specs.Generations.{Fragment, is_of, seen}
-use Rattle.ecpri_fragments.specs.Verdicts.{Message, end_of, first_of, has_greater, is_whole, message, piece_at, pieces_below, pieces_to, placed, standing, standing_before, verdict_on}
+use Rattle.ecpri_fragments.specs.Verdicts.{Message, end_of, first_of, has_greater, is_whole, message, piece_at, pieces_below, pieces_to, placed, standing, standing_before, verdict_on, whole_of, whole_now}
 use Rattle.ecpri_fragments.specs.declared.verdict.Verdict.{Verdict}
 use Rattle.ecpri_fragments.specs.declared.verdict.Verdict.TheVariants as fragment
 use Rattle.ecpri_fragments.proofs.Ends.{none_beyond}
@@ -23,8 +23,7 @@ use Rattle.replay_events.specs.uplane_sections.specs.Messages.{told}
 use Rattle.window_config.specs.declared.config.Config.{Config}
 use Rattle.window_config.specs.declared.delays.Delays.{Delays}
 use Rattle.window_config.specs.declared.endpoints.EndpointConfig.{EndpointConfig}
-use Rattle.replay_events.specs.unit_model.specs.Decoding.{Backwards, Decoded, Gathering, SectionBlocks, Refused, Sections, data_now, data_sections, data_told, data_with, decode, decode_message, decoded_from, decoded_now, decoded_with, gathered as all_gathered, has_way, nothing_told, sections_of, whole_now, whole_of}
-use Rattle.replay_events.specs.unit_model.specs.Lists.{joined}
+use Rattle.replay_events.specs.unit_model.specs.Decoding.{Backwards, Decoded, Gathering, SectionBlocks, Refused, Sections, data_now, data_sections, data_told, data_with, decode, decode_message, decoded_from, decoded_now, decoded_with, gathered as all_gathered, has_way, nothing_told, sections_of}
 use Rattle.replay_events.specs.unit_model.specs.Meetings.{Arrival, Meeting, Ignored, Commands, Piece, fragments}
 use Rattle.replay_events.specs.unit_model.specs.Reports.{hold_of, met}
 use Rattle.replay_events.specs.unit_model.specs.Standing.{AreInTime}
@@ -42,6 +41,7 @@ use Rattle.replay_laws.proofs.ShownLemmas.{landings_of_side, shown_only_in_time}
 use Rattle.replay_laws.proofs.StandingLemmas.{EndsWith, all_up_to, are_of_id, are_pieces, ends_with, first_there, has_fragment, length-pieces, none_after, none_before, piece_of, stood_falls}
 use Rattle.ecpri_fragments.proofs.Standing.{all_seen, all_standing, ids_kept}
 use Rattle.ecpri_fragments.proofs.Ids.{same_id}
+use Rattle.ecpri_fragments.specs.Pieces.{joined}
 
 -- ---- what told a section of data
 

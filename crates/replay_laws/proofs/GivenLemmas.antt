@@ -21,10 +21,10 @@ use Rattle.replay_events.specs.unit_model.specs.declared.decoded.UserSection.{Us
 use Rattle.replay_events.specs.unit_model.specs.declared.verdicts.CommandVerdict.TheVariants.{Accepted}
 use Rattle.replay_laws.specs.Shown.{HaveOneId}
 use Rattle.replay_events.specs.unit_laws.proofs.AcceptanceLemmas.{accepted_is_acceptable}
-use Rattle.replay_events.specs.unit_laws.proofs.CellLemmas.{covered_cell, covers_is, some_false}
+use Rattle.replay_events.specs.unit_laws.proofs.CellLemmas.{covered_cell, some_false}
 use Rattle.replay_events.specs.unit_laws.proofs.ChangeLemmas.{accepted_more, block-cons, claim-cons, claim_same, either_way, timely_more}
 use Rattle.fh_time.proofs.Orders.{is_true as not_false}
-use Rattle.replay_events.specs.unit_model.proofs.ClaimLemmas.{starts_before as from_first, from_within}
+use Rattle.replay_events.specs.unit_model.proofs.ClaimLemmas.{starts_before as from_first, from_within, covers_is}
 
 -- ---- where nothing came
 

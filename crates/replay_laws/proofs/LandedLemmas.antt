@@ -1,5 +1,5 @@
 -- The frames that land come to the unit, each as often.
-use Rattle.std.proofs.Common.{◌≡◌, ℕ, ℤ, zero, suc, pos, ◌+◌, ◌+ℤ◌, ◌≤ℤ◌, Bool, true, false, ◌&&◌, List, [], ◌∷◌, refl, sym, ap, ap₂, ◌∙◌, arith}
+use Rattle.std.proofs.Common.{◌≡◌, ℕ, ℤ, zero, suc, pos, ◌+◌, ◌+ℤ◌, ◌≤ℤ◌, Bool, true, false, ◌&&◌, List, [], ◌∷◌, refl, sym, ap, ap₂, ◌∙◌, arith, zero-add}
 use Rattle.std.specs.Prelude.{All, if◌then◌else◌, cond, filter, int_lt}
 use Rattle.std.specs.Int.{int_gap}
 use Rattle.std.specs.Ordering.{int_eq}
@@ -15,7 +15,7 @@ use Rattle.replay_events.specs.history_laws.proofs.TickLemmas.{next_after, same_
 use Rattle.replay_events.specs.Moments.{all_arrivals, arrivals_in, end_of_time, landing_at}
 use Rattle.replay_events.proofs.CameLemmas.{none_first, next_first}
 use Rattle.replay_laws.specs.Landed.{EachArrives}
-use Rattle.fh_time.proofs.Orders.{under_is as is_less, not_under_is as not_less, weak, not_later as less_differ, within_next, is_same, not_eq, more_differ}
+use Rattle.fh_time.proofs.Orders.{under_is as is_less, not_under_is as not_less, weak, not_later as less_differ, within_next, is_same, not_eq, more_differ, and_none}
 
 -- ---- how many have something
 
@@ -48,9 +48,6 @@ many_sum p q r sum [] = refl
 many_sum p q r sum (x ∷ xs) =
     four (one_if (r x)) (one_if (p x)) (one_if (q x)) (many r xs) (many p xs) (many q xs) (sum x) (many_sum p q r sum xs)
 
-none_plus : (n : ℕ) → n ≡ 0 + n
-none_plus n = omega arith
-
 many_filter : (p q : Arrival → Bool) (xs : List Arrival) → many p (filter q xs) ≡ many (λ a. q a && p a) xs
 many_filter p q [] = refl
 many_filter p q (x ∷ xs) = go (q x) (many_filter p q xs)
@@ -58,7 +55,7 @@ many_filter p q (x ∷ xs) = go (q x) (many_filter p q xs)
     go : (b : Bool) → many p (filter q xs) ≡ many (λ a. q a && p a) xs
         → many p (cond b (x ∷ filter q xs) (filter q xs)) ≡ one_if (b && p x) + many (λ a. q a && p a) xs
     go true rest = ap (λ (n : ℕ). one_if (p x) + n) rest
-    go false rest = rest ∙ none_plus (many (λ a. q a && p a) xs)
+    go false rest = rest ∙ sym (zero-add (many (λ a. q a && p a) xs))
 
 moved : (b n m : ℕ) → (b + n) + m ≡ n + (b + m)
 moved b n m = omega arith
@@ -85,22 +82,19 @@ one_tick_more x t b =
     (λ more. three (int_lt x (t +ℤ pos 1)) (int_lt x t) (int_eq x t) false false false b (not_less x (t +ℤ pos 1) (next_after t x more)) (not_less x t reached)
     (not_eq x t (more_differ x t more)) refl)
     (λ low. three (int_lt x (t +ℤ pos 1)) (int_lt x t) (int_eq x t) true false true b (is_less x (t +ℤ pos 1) (within_next x t low)) (not_less x t reached)
-    (is_same x t (same_tick x t reached low)) (none_plus (one_if b))))
+    (is_same x t (same_tick x t reached low)) (sym (zero-add (one_if b)))))
 
 -- ---- those of the first ticks
 
 abbrev came : (Arrival → Bool) → ℕ → Arrival → Bool
 came p n a = int_lt a.at (first_clock +ℤ pos n) && p a
 
-start_here : (t : ℤ) → t ≡ t +ℤ pos 0
-start_here t = omega (arith, ints)
-
 next_tick : (t : ℤ) (n : ℕ) → t +ℤ pos (suc n) ≡ (t +ℤ pos n) +ℤ pos 1
 next_tick t n = omega (arith, ints)
 
 not_begun : (p : Arrival → Bool) (a : Arrival) → first_clock ≤ℤ a.at → came p 0 a ≡ false
 not_begun p a begun =
-    ap (λ (t : ℤ). int_lt a.at t && p a) (sym (start_here first_clock)) ∙ ap (λ (b : Bool). b && p a) (not_less a.at first_clock begun)
+    ap (λ (t : ℤ). int_lt a.at t && p a) (and_none first_clock) ∙ ap (λ (b : Bool). b && p a) (not_less a.at first_clock begun)
 
 came_in : (p : Arrival → Bool) (landings : List Arrival) (n : ℕ) → All (λ a. first_clock ≤ℤ a.at) landings → many p (arrivals_in landings n) ≡ many (came p n) landings
 came_in p landings zero begun =

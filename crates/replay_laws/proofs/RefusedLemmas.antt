@@ -5,7 +5,7 @@ use Rattle.std.proofs.lemmas.Bool.{and_parts, cases_eq, eqb-true}
 use Rattle.fh_time.specs.declared.values.Slot.{Slot}
 use Rattle.replay_events.specs.air_source.specs.declared.events.Side.{Side}
 use Rattle.ecpri_fragments.specs.Generations.{Fragment, Generation, begins, begun, generations, generations_of, held_in, is_first, is_of, is_within, joined, of_id, with_fragment}
-use Rattle.ecpri_fragments.specs.Verdicts.{Message, Rests, answer, is_whole, placed, refused, standing, standing_before, verdict, verdict_on, with_one}
+use Rattle.ecpri_fragments.specs.Verdicts.{Message, Rests, answer, is_whole, placed, refused, standing, standing_before, verdict, verdict_on, with_one, whole_of}
 use Rattle.ecpri_fragments.specs.declared.verdict.Verdict.{Verdict}
 use Rattle.ecpri_fragments.specs.declared.verdict.Verdict.TheVariants as fragment
 use Rattle.window_config.specs.declared.delays.Delays.{Delays}
@@ -14,7 +14,7 @@ use Rattle.window_config.specs.declared.verdicts.Class.TheVariants as class
 use Rattle.replay_events.specs.unit_model.specs.Blocks.{block_at, block_in, data_class, data_covers, data_prb_count, data_slot, data_verdict, data_verdict_in, every_data_cell, first_data_prb, has_all, timely, with_timely}
 use Rattle.replay_events.specs.unit_model.specs.Claims.{cell_at}
 use Rattle.replay_events.specs.unit_model.specs.Commands.{accepted, allocation_of, command_verdict, with_accepted}
-use Rattle.replay_events.specs.unit_model.specs.Decoding.{data_sections, data_told, decoded_now, whole_of}
+use Rattle.replay_events.specs.unit_model.specs.Decoding.{data_sections, data_told, decoded_now}
 use Rattle.replay_events.specs.unit_model.specs.Lists.{every, onto, or_else}
 use Rattle.replay_events.specs.unit_model.specs.Meetings.{Meeting, Ignored, Commands, Piece, commands, fragments}
 use Rattle.replay_events.specs.unit_model.specs.Reports.{hold_of}

@@ -19,7 +19,7 @@ use Rattle.replay_events.specs.unit_model.specs.Blocks.{block_at, data_class, da
 use Rattle.replay_events.specs.unit_model.specs.Claims.{cell_at, claim_at, in_mask, is_from}
 use Rattle.replay_events.specs.unit_model.specs.Meetings.{Arrival}
 use Rattle.replay_events.specs.unit_model.specs.Proper.{IsAt, IsProperData, IsTime}
-use Rattle.replay_events.specs.unit_model.specs.Radiated.{Known, air_cell, cell_id, cell_report, first_clock, is_down, reported, samples_under, symbol_report, used_mask, wait_of}
+use Rattle.replay_events.specs.unit_model.specs.Radiated.{Known, air_cell, cell_id, cell_report, first_clock, reported, samples_under, symbol_report, used_mask, wait_of}
 use Rattle.replay_events.specs.unit_model.specs.Reports.{accepted_of, commands_of, data_of, timely_of}
 use Rattle.replay_events.specs.unit_model.specs.Standing.{AreInTime}
 use Rattle.replay_events.specs.unit_model.specs.declared.allocations.Allocation.{Allocation}
@@ -44,6 +44,7 @@ use Rattle.replay_laws.proofs.MaskLemmas.{cell_id_is, in_use, used_is_busy}
 use Rattle.replay_laws.proofs.OnceLemmas.{cells_are_reported}
 use Rattle.replay_events.specs.unit_model.proofs.ClaimLemmas.{starts_before as from_first, from_within}
 use Rattle.replay_events.specs.unit_laws.proofs.DueLemmas.{one_or_none}
+use Rattle.replay_events.specs.air_source.specs.Units.{is_down}
 
 -- ---- PRBs
 

@@ -5,13 +5,13 @@ use Rattle.std.proofs.lemmas.Bool.{and_parts, eqb-true}
 use Rattle.std.proofs.lemmas.Int.{ints}
 use Rattle.replay_events.specs.air_source.specs.declared.events.Side.{Side}
 use Rattle.ecpri_fragments.specs.Generations.{Fragment, Generation, begun, generations, generations_of, held_in, is_of, is_within, joined, of_id, start_in, with_fragment}
-use Rattle.ecpri_fragments.specs.Verdicts.{answer, is_stray, is_whole, refused, size, standing, standing_before, stands, verdict, verdict_on, with_one}
+use Rattle.ecpri_fragments.specs.Verdicts.{answer, is_stray, is_whole, refused, size, standing, standing_before, stands, verdict, verdict_on, with_one, whole_of}
 use Rattle.ecpri_fragments.specs.declared.verdict.Verdict.{Verdict}
 use Rattle.ecpri_fragments.specs.declared.verdict.Verdict.TheVariants as fragment
 use Rattle.ecpri_fragments.proofs.Steps.{whole_placed}
 use Rattle.fault_counters.specs.declared.kinds.Counter.{Counter}
 use Rattle.window_config.specs.declared.endpoints.EndpointConfig.{EndpointConfig}
-use Rattle.replay_events.specs.unit_model.specs.Decoding.{Backwards, Decoded, Refused, Sections, data_now, data_sections, data_told, decoded_now, whole_of}
+use Rattle.replay_events.specs.unit_model.specs.Decoding.{Backwards, Decoded, Refused, Sections, data_now, data_sections, data_told, decoded_now}
 use Rattle.replay_events.specs.unit_model.specs.Meetings.{Meeting, Ignored, Commands, Piece, commands, fragments}
 use Rattle.replay_events.specs.unit_model.specs.Lists.{onto}
 use Rattle.replay_events.specs.unit_model.specs.declared.decoded.ControlSection.{ControlSection}
@@ -20,6 +20,7 @@ use Rattle.replay_events.specs.unit_laws.proofs.ChangeLemmas.{either_way}
 use Rattle.replay_laws.specs.Silent.{IsSilent, began}
 use Rattle.replay_laws.proofs.FallingLemmas.{AreFalling}
 use Rattle.ecpri_fragments.proofs.Ids.{same_id}
+use Rattle.ecpri_fragments.specs.declared.place.TheConstants.{MESSAGE_BYTES}
 
 -- ---- times
 
@@ -40,7 +41,7 @@ IsKept start (g ∷ gs) = (g.start ≡ start) × (is_whole (standing g.held) ≡
 repeats : (s : List Fragment) (a : Fragment) → is_whole s ≡ true → refused s a ≡ Some fragment.Repeat
 repeats s a whole =
     ap (λ (w : Bool). if w || stands s a.sub then Some fragment.Repeat else if is_stray s a then Some fragment.Stray
-    else if nat_lt 16384 (size s + length a.bytes) then Some fragment.TooLong else None) whole
+    else if nat_lt MESSAGE_BYTES (size s + length a.bytes) then Some fragment.TooLong else None) whole
 
 kept_begins : (hold : ℤ) (f : Fragment) (gs : List Generation) → verdict (standing (held_in hold f.at gs)) f ≡ fragment.Whole
     → IsKept (start_in hold f.at gs) (with_fragment hold f gs)

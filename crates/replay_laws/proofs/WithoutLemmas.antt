@@ -4,11 +4,11 @@ use Rattle.std.specs.Prelude.{◌==◌, if◌then◌else◌}
 use Rattle.std.proofs.lemmas.Bool.{and_parts, eqb-true}
 use Rattle.replay_events.specs.air_source.specs.declared.events.Side.{Side}
 use Rattle.ecpri_fragments.specs.Generations.{Fragment, Generation, begins, begun, generations_of, held_in, is_of, is_within, joined, start_in, with_fragment}
-use Rattle.ecpri_fragments.specs.Verdicts.{standing, standing_before, verdict}
+use Rattle.ecpri_fragments.specs.Verdicts.{standing, standing_before, verdict, whole_of}
 use Rattle.ecpri_fragments.specs.declared.verdict.Verdict.{Verdict}
 use Rattle.window_config.specs.declared.config.Config.{Config}
 use Rattle.window_config.specs.declared.endpoints.EndpointConfig.{EndpointConfig}
-use Rattle.replay_events.specs.unit_model.specs.Decoding.{data_now, data_sections, data_told, decoded_now, whole_of}
+use Rattle.replay_events.specs.unit_model.specs.Decoding.{data_now, data_sections, data_told, decoded_now}
 use Rattle.replay_events.specs.unit_model.specs.Lists.{onto}
 use Rattle.replay_events.specs.unit_model.specs.Meetings.{Arrival, Meeting, Ignored, Commands, Piece, commands, fragments}
 use Rattle.replay_events.specs.unit_model.specs.Reports.{hold_of, met}

@@ -6,10 +6,10 @@ use Rattle.bfp_codec.specs.declared.samples.Wide.{Wide}
 use Rattle.replay_events.specs.air_source.specs.declared.events.AirCell.{AirCell}
 use Rattle.replay_events.specs.air_source.specs.declared.events.Side.{Side}
 use Rattle.ecpri_fragments.specs.Generations.{Fragment, seen}
-use Rattle.ecpri_fragments.specs.Verdicts.{Message, standing_before}
+use Rattle.ecpri_fragments.specs.Verdicts.{Message, standing_before, whole_now}
 use Rattle.window_config.specs.declared.config.Config.{Config}
 use Rattle.window_config.specs.declared.endpoints.EndpointConfig.{EndpointConfig}
-use Rattle.replay_events.specs.unit_model.specs.Decoding.{Sections, decode_message, whole_now}
+use Rattle.replay_events.specs.unit_model.specs.Decoding.{Sections, decode_message}
 use Rattle.replay_events.specs.unit_model.specs.Meetings.{Arrival, Meeting, Piece, fragments}
 use Rattle.replay_events.specs.unit_model.specs.Reports.{hold_of, met}
 use Rattle.replay_events.specs.unit_model.specs.declared.cells.Cell.{Cell}

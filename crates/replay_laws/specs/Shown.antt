@@ -22,7 +22,6 @@ use Rattle.replay_events.specs.unit_model.specs.Claims.{cell_at, claim_at, in_ma
 use Rattle.replay_events.specs.unit_model.specs.Commands.{accepted, allocation_of, command_class, command_verdict}
 use Rattle.replay_events.specs.unit_model.specs.Meetings.{Arrival}
 use Rattle.replay_events.specs.unit_model.specs.Proper.{IsAt}
-use Rattle.replay_events.specs.unit_model.specs.Radiated.{is_down}
 use Rattle.replay_events.specs.unit_model.specs.Reports.{commands_of, data_of}
 use Rattle.replay_events.specs.unit_model.specs.declared.allocations.Allocation.{Allocation}
 use Rattle.replay_events.specs.unit_model.specs.declared.cells.Cell.{Cell}
@@ -35,6 +34,7 @@ use Rattle.replay_events.specs.Heard.{cells_heard}
 use Rattle.replay_events.specs.Moments.{all_arrivals}
 use Rattle.replay_events.specs.Passing.{AreLandings}
 use Rattle.replay_events.specs.Traffic.{Traffic, landings_at}
+use Rattle.replay_events.specs.air_source.specs.Units.{is_down}
 
 -- the cell that a unit reported, of the endpoint with this index
 abbrev pub cell_shown : Side → ℕ → AirCell → Cell

@@ -3,17 +3,11 @@ use Rattle.std.specs.Prelude.{ℕ, zero, suc, ◌-◌, ◌/◌, ◌%◌, ◌^◌
 use Rattle.std.specs.List.{slice_index_or}
 use Rattle.std.specs.Fmt.{signed_decimal}
 use Rattle.air_source.specs.declared.events.AirCell.{AirCell}
-use Rattle.air_source.specs.declared.events.Side.{Side}
-use Rattle.air_source.specs.declared.events.Side.TheVariants.{Ru, Du}
 use Rattle.bfp_codec.specs.Samples.{no_wide}
 use Rattle.bfp_codec.specs.declared.samples.Wide.{Wide}
 use Rattle.fh_time.specs.declared.values.Slot.{Slot}
 use Rattle.text_lines.specs.Words.{spaced_text, spaced_signed_text, hex4_text, hex3_text}
-
--- the radio unit reports downlink cells, the distributed unit uplink ones
-abbrev pub way_text : Side → List ℕ
-way_text Ru = codes "dl"
-way_text Du = codes "ul"
+use Rattle.air_source.specs.Units.{way_text}
 
 -- frame, subframe and slot
 abbrev pub slot_text : Slot → List ℕ

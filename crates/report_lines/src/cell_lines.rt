@@ -1,6 +1,7 @@
 // The line of a cell.
 ghost use Rattle.std.specs.Prelude.{◌≡◌, ◌+◌, ◌<◌, ◌≤◌, ◌++◌, length, []};
-ghost use Rattle.report_lines.specs.Cells.{way_text, slot_text, head_text, sample_text, items_text, item_text, cell_text};
+ghost use Rattle.report_lines.specs.Cells.{slot_text, head_text, sample_text, items_text, item_text, cell_text};
+ghost use Rattle.air_source.specs.Units.{way_text};
 
 use crate::Line;
 use air_source::{AirCell, Side};

@@ -16,7 +16,7 @@ use Rattle.radio_laws.specs.history_laws.specs.unit_model.specs.Reports.{accepte
 use Rattle.radio_laws.specs.history_laws.specs.unit_model.specs.Uplink.{jobs}
 use Rattle.radio_laws.specs.history_laws.specs.unit_model.specs.declared.jobs.UplinkJob.{UplinkJob}
 use Rattle.radio_laws.specs.history_laws.proofs.SendingLemmas.{jobs_are_proper}
-use Rattle.radio_laws.specs.history_laws.specs.unit_model.specs.Standing.{History, arrived, at_clock, handed, nothing_yet}
+use Rattle.radio_laws.specs.history_laws.specs.unit_model.specs.Standing.{History, arrived, at_clock, handed, nothing_yet, owed_until}
 use Rattle.radio_laws.specs.history_laws.specs.unit_model.specs.declared.symbol_start.SymbolStart.{SymbolStart}
 use Rattle.radio_laws.specs.history_laws.specs.unit_laws.specs.Runs.{OffsetsFit}
 use Rattle.fh_time.specs.declared.values.Ticks.{Ticks}
@@ -31,10 +31,10 @@ use Rattle.ru_jobs.specs.declared.cursor.NextJob.{NextJob}
 use Rattle.ru_reports.specs.Symbols.{is_left}
 use Rattle.ru_reports.specs.symbol_search.specs.Symbols.{IsSymbol}
 use Rattle.ru_jobs.specs.declared.cursor.JobCursor.{JobCursor}
-use Rattle.unit_memory.specs.Memory.{Holds, HoldsSome, arrival}
+use Rattle.unit_memory.specs.Memory.{Holds, HoldsSome, arrival_at}
 use Rattle.unit_memory.specs.declared.memory.UnitMemory.{UnitMemory}
 use Rattle.unit_memory.proofs.HoldLemmas.{holds_later}
-use Rattle.ru_buffers.specs.Calls.{IsCellMoment, IsDue, IsLeast, IsMessageMoment, earlier_time, given_of}
+use Rattle.ru_buffers.specs.Calls.{IsCellMoment, IsDue, IsLeast, IsMessageMoment, earlier_time}
 use Rattle.radio_laws.specs.JobLaws.{IsSettled, NothingIsLeft}
 use Rattle.radio_laws.specs.Reporting.{IsFirstLeft, due_of}
 use Rattle.radio_laws.specs.Units.{IsReady, RadioStands, left_up_to}
@@ -90,15 +90,15 @@ module _ (c : Config) (m : UnitMemory) (clock : ℤ) (cursor next : JobCursor) (
   holds_some = record { side = Ru; config = c; arrivals = h.arrivals; beside = cells_counted h.reported; holds = holds_now }
 
   pub stands_delivered : (m2 : UnitMemory) (frame : List ℕ)
-      → ((arrivals : List Arrival) (beside : List Counter) → Holds Ru c clock m arrivals beside → Holds Ru c clock m2 (arrival clock frame ∷ arrivals) beside)
+      → ((arrivals : List Arrival) (beside : List Counter) → Holds Ru c clock m arrivals beside → Holds Ru c clock m2 (arrival_at clock frame ∷ arrivals) beside)
       → SameReported Ru c clock m.cells m2.cells → RadioStands c m2 clock next (arrived h frame)
   stands_delivered m2 frame holds reports =
       let beside = cells_counted h.reported in
-      let at_clock : Holds Ru c clock m2 (arrival h.clock frame ∷ h.arrivals) beside =
-      subst (λ (t : ℤ). Holds Ru c clock m2 (arrival t frame ∷ h.arrivals) beside) settled_is.kept.clock_is (holds h.arrivals beside holds_now) in
+      let at_clock : Holds Ru c clock m2 (arrival_at h.clock frame ∷ h.arrivals) beside =
+      subst (λ (t : ℤ). Holds Ru c clock m2 (arrival_at t frame ∷ h.arrivals) beside) settled_is.kept.clock_is (holds h.arrivals beside holds_now) in
       stands c m2 clock next (arrived h frame)
       (delivered c m m2 clock next h frame settled_is.kept (settled_is.since ∙ settled_is.kept.clock_is)
-      (subst (λ (t : ℤ). Holds Ru c t m2 (arrival h.clock frame ∷ h.arrivals) beside) (sym settled_is.since) at_clock)
+      (subst (λ (t : ℤ). Holds Ru c t m2 (arrival_at h.clock frame ∷ h.arrivals) beside) (sym settled_is.since) at_clock)
       (subst (λ (t : ℤ). SameReported Ru c t m.cells m2.cells) (sym settled_is.since) reports))
 
 -- ---- as the clock goes on
@@ -119,14 +119,14 @@ ready_known old new next cursor clock was known endpoints same now ready =
 -- ---- messages
 
 module _ (c : Config) (m : UnitMemory) (clock : ℤ) (cursor : JobCursor) (h : History) (all : RadioStands c m clock cursor h) where
-  pub none_at_clock : NothingIsLeft m cursor → given_of c h h.clock ≡ []
+  pub none_at_clock : NothingIsLeft m cursor → owed_until c h h.clock ≡ []
   none_at_clock none = none_to_give c m clock cursor h h.clock all.kept none
 
-  pub none_by_clock : (n : NextJob) → IsFirstJob m.cells cursor n → clock <ℤ n.symbol.start.0 → given_of c h h.clock ≡ []
+  pub none_by_clock : (n : NextJob) → IsFirstJob m.cells cursor n → clock <ℤ n.symbol.start.0 → owed_until c h h.clock ≡ []
   none_by_clock n first early =
       none_before_first c m clock cursor n h h.clock all.kept first (subst (λ (t : ℤ). t <ℤ n.symbol.start.0) all.kept.clock_is early)
 
-  pub gives_proper : (job : UplinkJob) (rest : List UplinkJob) → given_of c h h.clock ≡ job ∷ rest → IsProperJob c.endpoints h.clock job
+  pub gives_proper : (job : UplinkJob) (rest : List UplinkJob) → owed_until c h h.clock ≡ job ∷ rest → IsProperJob c.endpoints h.clock job
   gives_proper job rest is =
       let P = IsProperJob c.endpoints h.clock in
       All-head P job rest
@@ -135,17 +135,17 @@ module _ (c : Config) (m : UnitMemory) (clock : ℤ) (cursor : JobCursor) (h : H
       (jobs_are_proper c cursor.since.0 h.arrivals h.clock all.kept.holds.came all.kept.holds.times)))
 
   -- where none is to be given by the clock, none was to be given before it
-  pub ready_where_quiet : given_of c h h.clock ≡ [] → IsReady m clock cursor
+  pub ready_where_quiet : owed_until c h h.clock ≡ [] → IsReady m clock cursor
   ready_where_quiet none = left_less m.cells cursor (clock -ℤ pos 1) h.clock (last_by clock h.clock all.kept.clock_is) (all.kept.left h.clock ∙ none)
     where
       last_by : (a b : ℤ) → a ≡ b → (a -ℤ pos 1) ≤ℤ b
       last_by a b same = omega (arith, ints)
 
   pub gives : (next : JobCursor) (n : NextJob) → OffsetsFit n.symbol.endpoint.numerology → IsFirstJob m.cells cursor n → n.symbol.start.0 ≤ℤ clock
-      → GivenOne m.cells cursor n next → (given_of c h h.clock ≡ n.job ∷ given_of c (handed h n.job) h.clock) × RadioStands c m clock next (handed h n.job)
+      → GivenOne m.cells cursor n next → (owed_until c h h.clock ≡ n.job ∷ owed_until c (handed h n.job) h.clock) × RadioStands c m clock next (handed h n.job)
   gives next n fits first by given =
       let is = give first_is_first c m clock cursor next n h all.kept fits first by given in
-      (subst (λ (t : ℤ). given_of c h t ≡ n.job ∷ given_of c (handed h n.job) t) all.kept.clock_is is.first, stands c m clock next (handed h n.job) is.kept)
+      (subst (λ (t : ℤ). owed_until c h t ≡ n.job ∷ owed_until c (handed h n.job) t) all.kept.clock_is is.first, stands c m clock next (handed h n.job) is.kept)
 
   pub still_ready : (next : JobCursor) (n : NextJob) (to : ℤ) → OffsetsFit n.symbol.endpoint.numerology → IsFirstJob m.cells cursor n → GivenOne m.cells cursor n next
       → IsReady m to cursor → IsReady m to next
@@ -153,7 +153,7 @@ module _ (c : Config) (m : UnitMemory) (clock : ℤ) (cursor : JobCursor) (h : H
 
   -- ---- moments
 
-  pub message_moment : (n : NextJob) → OffsetsFit n.symbol.endpoint.numerology → IsFirstJob m.cells cursor n → IsLeast (λ to. given_of c h to ≡ []) n.symbol.start.0
+  pub message_moment : (n : NextJob) → OffsetsFit n.symbol.endpoint.numerology → IsFirstJob m.cells cursor n → IsLeast (λ to. owed_until c h to ≡ []) n.symbol.start.0
   message_moment n fits first = record {
     before = λ to early. none_before_first c m clock cursor n h to all.kept first early;
     at = some_from_first first_is_first c m clock cursor n h n.symbol.start.0 all.kept fits first (same_most n.symbol.start.0);
@@ -162,7 +162,7 @@ module _ (c : Config) (m : UnitMemory) (clock : ℤ) (cursor : JobCursor) (h : H
       same_most : (a : ℤ) → a ≤ℤ a
       same_most a = omega (arith, ints)
 
-  pub no_message : NothingIsLeft m cursor → (to : ℤ) → given_of c h to ≡ []
+  pub no_message : NothingIsLeft m cursor → (to : ℤ) → owed_until c h to ≡ []
   no_message none to = none_to_give c m clock cursor h to all.kept none
 
   pub cell_moment : (s : SymbolStart) → OffsetsFit s.endpoint.numerology → IsFirstLeft m.cells clock s → is_left m.cells s ≡ true → IsLeast (λ to. due_of c h to ≡ []) s.start.0

@@ -13,13 +13,14 @@ use Rattle.radio_laws.specs.history_laws.specs.window_config.specs.declared.conf
 use Rattle.radio_laws.specs.history_laws.specs.window_config.specs.declared.endpoints.EndpointConfig.{EndpointConfig}
 use Rattle.radio_laws.specs.history_laws.specs.unit_model.specs.Commands.{accepted}
 use Rattle.radio_laws.specs.history_laws.specs.unit_model.specs.Lists.{onto}
-use Rattle.radio_laws.specs.history_laws.specs.unit_model.specs.Meetings.{Arrival, Meeting, Ignored, Piece, commands, control_met, find_endpoint, fragment_of, id_of, meet, meetings, met_by}
+use Rattle.radio_laws.specs.history_laws.specs.unit_model.specs.Meetings.{Arrival, Meeting, Ignored, Piece, commands, control_met, find_endpoint, fragment_of, meet, meetings, met_by}
 use Rattle.radio_laws.specs.history_laws.specs.unit_model.specs.Reports.{accepted_of}
 use Rattle.radio_laws.specs.history_laws.specs.unit_model.specs.declared.decoded.ControlSection.{ControlSection}
 use Rattle.unit_memory.specs.Control.{has_control, is_control}
 use Rattle.ecpri_frames.specs.declared.heads.TheConstants.{ONE_WAY_DELAY}
 use Rattle.ecpri_frames.specs.declared.heads.TheConstants.{REAL_TIME_CONTROL}
 use Rattle.ecpri_frames.specs.declared.heads.TheConstants.{IQ_DATA}
+use Rattle.radio_laws.specs.history_laws.specs.ecpri_fragments.specs.Sequence.{id_of}
 
 abbrev Adds : Meeting → Type 0
 Adds m = (earlier : List Meeting) → commands (m ∷ earlier) ≡ commands earlier

@@ -9,7 +9,7 @@ use Rattle.ru_jobs.specs.declared.cursor.JobCursor.{JobCursor}
 use Rattle.ru_jobs.specs.declared.cursor.NextJob.{NextJob}
 use Rattle.unit_memory.specs.declared.memory.UnitMemory.{UnitMemory}
 use Rattle.unit_memory.specs.Control.{has_control}
-use Rattle.unit_memory.specs.Memory.{arrival}
+use Rattle.unit_memory.specs.Memory.{arrival_at}
 use Rattle.ru_buffers.specs.Calls.{IsNextMessage, IsNextSymbol}
 use Rattle.radio_laws.specs.Units.{IsReady, RadioKeeps}
 use Rattle.ru_buffers.proofs.ControlLemmas.{none_accepted}
@@ -22,7 +22,7 @@ symbol_then c old new clock next h frame before after anew control was now first
   | inl given ↦ found given
   | inr not_any ↦
       subst (IsNextSymbol new.cells clock) (sym (kept not_any))
-      (symbol_kept c old new clock next h (arrived h frame) before after (none_accepted c (arrival h.clock frame) h.arrivals (sym control ∙ not_any)) refl was first)
+      (symbol_kept c old new clock next h (arrived h frame) before after (none_accepted c (arrival_at h.clock frame) h.arrivals (sym control ∙ not_any)) refl was first)
 ]
 
 pub message_then : (c : Config) (old new : UnitMemory) (clock : ℤ) (cursor next : JobCursor) (h : History) (frame : List ℕ) → RadioKeeps c old clock cursor h
@@ -33,6 +33,6 @@ message_then c old new clock cursor next h frame keeps ready settled before afte
   | inl given ↦ found given
   | inr not_any ↦
       subst (IsNextMessage new.cells next) (sym (kept not_any))
-      (message_kept c old new clock next h (arrived h frame) before after (none_accepted c (arrival h.clock frame) h.arrivals (sym control ∙ not_any)) refl was
+      (message_kept c old new clock next h (arrived h frame) before after (none_accepted c (arrival_at h.clock frame) h.arrivals (sym control ∙ not_any)) refl was
       (message_settled c old clock cursor next h keeps ready settled was first))
 ]

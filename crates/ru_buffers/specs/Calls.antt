@@ -5,8 +5,7 @@ use Rattle.radio_laws.specs.history_laws.specs.air_source.specs.declared.events.
 use Rattle.radio_laws.specs.history_laws.specs.air_source.specs.declared.events.Event.TheVariants.{Cell as Reported}
 use Rattle.fh_time.specs.declared.values.Ticks.{Ticks}
 use Rattle.radio_laws.specs.history_laws.specs.window_config.specs.declared.config.Config.{Config}
-use Rattle.radio_laws.specs.history_laws.specs.unit_model.specs.Reports.{accepted_of}
-use Rattle.radio_laws.specs.history_laws.specs.unit_model.specs.Standing.{History, IsLiveAt, StandsBy, handed, heard, still_given}
+use Rattle.radio_laws.specs.history_laws.specs.unit_model.specs.Standing.{History, IsLiveAt, StandsBy, handed, heard, owed_until}
 use Rattle.radio_laws.specs.history_laws.specs.unit_model.specs.declared.jobs.UplinkJob.{UplinkJob}
 use Rattle.radio_laws.specs.history_laws.specs.unit_model.specs.declared.symbol_start.SymbolStart.{SymbolStart}
 use Rattle.ru_reports.specs.unit_cells.specs.Cells.{CellsValue, cells_uplink}
@@ -49,10 +48,6 @@ pub record StandsForSome (u : Ru) : Type 0 where
 abbrev pub HasGivenPast : Ru → Type 0
 HasGivenPast u = IsReady u.memory u.clock.0 u.cursor
 
--- the messages up to a time that were not given
-abbrev pub given_of : Config → History → ℤ → List UplinkJob
-given_of c h to = still_given c (accepted_of c h.arrivals) h.given to
-
 -- an air stopped in a cell: the unit stands for those before it as reported, and the cell is the next to be reported
 pub record StopsAtDue {A : Type 0} (grew : A → List Event → A → Type 0) (stopped : A → Event → A → Type 0) (c : Config) (h : History) (to : ℤ)
     (new : Ru) (before after : A) : Type 0 where
@@ -67,13 +62,13 @@ pub record StopsAtDue {A : Type 0} (grew : A → List Event → A → Type 0) (s
 
 -- the first message that is to be given by the clock, or none where there is none
 pub record GivesJob (c : Config) (h : History) (job : UplinkJob) (new : Ru) : Type 0 where
-  pub first : given_of c h h.clock ≡ job ∷ given_of c (handed h job) h.clock
+  pub first : owed_until c h h.clock ≡ job ∷ owed_until c (handed h job) h.clock
   pub stands : StandsFor c new (handed h job)
 
 -- nothing is to be reported, and no message to be given, up to a time
 pub record IsQuietTo (c : Config) (h : History) (to : ℤ) : Type 0 where
   pub cells : due_of c h to ≡ []
-  pub messages : given_of c h to ≡ []
+  pub messages : owed_until c h to ≡ []
 
 -- the least moment of a cell or a message that is still to come
 pub record IsLeastMoment (c : Config) (h : History) (t : ℤ) : Type 0 where
@@ -97,7 +92,7 @@ abbrev pub IsCellMoment : Config → History → Option Ticks → Type 0
 IsCellMoment c h t = IsLeastOf (λ to. due_of c h to ≡ []) t
 
 abbrev pub IsMessageMoment : Config → History → Option Ticks → Type 0
-IsMessageMoment c h t = IsLeastOf (λ to. given_of c h to ≡ []) t
+IsMessageMoment c h t = IsLeastOf (λ to. owed_until c h to ≡ []) t
 
 abbrev pub earlier_time : Option Ticks → Option Ticks → Option Ticks
 earlier_time None b = b

@@ -12,14 +12,15 @@ use fh_time::Ticks;
 use radio_laws::history_laws::unit_model::UplinkJob;
 
 impl Ru {
-    ghost use Rattle.ru_buffers.specs.Calls.{GivesJob, HasGivenPast, IsCellMoment, IsDue, IsMessageMoment, StandsFor, given_of};
+    ghost use Rattle.ru_buffers.specs.Calls.{GivesJob, HasGivenPast, IsCellMoment, IsDue, IsMessageMoment, StandsFor};
+    ghost use Rattle.radio_laws.specs.history_laws.specs.unit_model.specs.Standing.{owed_until};
 
     /// The next uplink message whose symbol starts at the clock or before it and that was not given: in the order of starts,
     /// endpoints, slots, symbols, startPrbc, numPrbc, sectionId, filterIndex and acceptance. It is one of a symbol of an endpoint of
     /// the configuration, and its PRBs are the carrier's. None where there is none, and then nothing changes, and the clock may go on.
     pub fn next_uplink(&mut self) -> Option<UplinkJob>
         ensures given { (c : Config) (h : History) → StandsFor c self.old h → IfSome result (λ job. GivesJob c h job self.new) }
-        ensures none { (c : Config) (h : History) → StandsFor c self.old h → IfNone result (given_of c h h.clock ≡ []) }
+        ensures none { (c : Config) (h : History) → StandsFor c self.old h → IfNone result (owed_until c h h.clock ≡ []) }
         ensures proper { (c : Config) (h : History) → StandsFor c self.old h → IfSome result (λ job. IsProperJob c.endpoints h.clock job) }
         ensures ready { (c : Config) (h : History) → StandsFor c self.old h → IfNone result (HasGivenPast self.new) }
         ensures same { IfNone result (self.new ≡ self.old) }

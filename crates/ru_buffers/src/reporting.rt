@@ -22,7 +22,8 @@ pub(crate) fn starts_by(m: &SymbolStart, to: Ticks) -> bool
 }
 
 impl Ru {
-    ghost use Rattle.ru_buffers.specs.Calls.{HasGivenPast, IsNextSymbol, StandsFor, StandsForSome, StopsAtDue, given_of, radio_clock};
+    ghost use Rattle.ru_buffers.specs.Calls.{HasGivenPast, IsNextSymbol, StandsFor, StandsForSome, StopsAtDue, radio_clock};
+    ghost use Rattle.radio_laws.specs.history_laws.specs.unit_model.specs.Standing.{owed_until};
     ghost use Rattle.ru_buffers.specs.Advancing.{AfterReport, InOrder, ToldAll};
     ghost use Rattle.ru_reports.specs.unit_cells.specs.Cells.{endpoints_of};
     ghost use Rattle.ru_reports.specs.unit_cells.specs.Keeping.{SameKnown};
@@ -113,7 +114,7 @@ impl Ru {
         ensures stands { (c : Config) (h : History) → StandsFor c self.old h → OnOk result (StandsFor c self.new (at_clock (heard h (due_of c h to.0)) to.0)) }
         ensures clock { OnOk result (radio_clock self.new ≡ to) }
         ensures stop { (c : Config) (h : History) → StandsFor c self.old h → IfErr result (λ f. StopsAtDue A.grew (A.stopped f) c h to.0 self.new air.old air.new) }
-        ensures past { (c : Config) (h : History) → StandsFor c self.old h → given_of c h (to.0 -ℤ pos 1) ≡ [] → OnOk result (HasGivenPast self.new) }
+        ensures past { (c : Config) (h : History) → StandsFor c self.old h → owed_until c h (to.0 -ℤ pos 1) ≡ [] → OnOk result (HasGivenPast self.new) }
         ensures stays { OnErr result (radio_clock self.new ≡ radio_clock self.old) }
         ensures given { OnErr result (HasGivenPast self.new) }
         ensures same { A.same air.old air.new }

@@ -1,5 +1,5 @@
 -- For callers: what is left after cells of a symbol were reported.
-use Rattle.std.proofs.Common.{◌≡◌, ℕ, zero, suc, ◌+◌, ◌<◌, ◌≤◌, ◌==◌, Bool, true, false, not, ◌&&◌, inl, inr, List, [], ◌∷◌, refl, sym, ap, ap₂, ◌∙◌, arith, Option}
+use Rattle.std.proofs.Common.{◌≡◌, ℕ, zero, suc, ◌+◌, ◌<◌, ◌≤◌, ◌==◌, Bool, true, false, not, ◌&&◌, inl, inr, List, [], refl, sym, ap, ap₂, ◌∙◌, arith, Option}
 use Rattle.std.specs.Prelude.{◌||◌}
 use Rattle.std.specs.List.{list_any}
 use Rattle.std.proofs.lemmas.Bool.{and_from, and_parts, cases_Bool, cases_eq, eq-eqb, eqb-true, false_from_ne_true}
@@ -18,7 +18,7 @@ use Rattle.symbol_search.specs.unit_cells.specs.Cells.{CellsValue, cells_block, 
 use Rattle.symbol_search.specs.unit_cells.specs.Keeping.{SameKnown}
 use Rattle.ru_reports.specs.Symbols.{ReportsTold, cell_in, is_left, is_told, left_at, left_told}
 use Rattle.symbol_search.specs.Symbols.{IsSymbol}
-use Rattle.ru_reports.proofs.ReportedLemmas.{left_same, symbol_cell}
+use Rattle.ru_reports.proofs.ReportedLemmas.{left_same, symbol_cell, told_alone}
 use Rattle.symbol_search.specs.unit_model.proofs.ClaimLemmas.{same_slot_is as slot_is, slot_self as slot_own, some_same}
 
 same_claims : (old new : CellsValue) (m : SymbolStart) (prb : ℕ) → SameKnown old new → cells_claim new (cell_in m prb) ≡ cells_claim old (cell_in m prb)
@@ -72,13 +72,10 @@ any_each p from (suc n) f k low high any = list_any-append p (f from) (each (fro
   | inr ne ↦ or_second (list_any p (f from)) _ (any_each p (from + 1) n f k (omega (arith, ne)) (omega arith) any)
 ]
 
-only_told : (a : AirCell) (k : ℕ) → a.prb ≡ k → list_any (λ (x : AirCell). x.prb == k) (a ∷ []) ≡ true
-only_told a k e = let f : (a.prb == k) ≡ true = eq-eqb a.prb k e in rw f refl
-
 left_here : (v : CellsValue) (m : SymbolStart) (k : ℕ) → cells_reported v (cell_in m k) ≡ false → (used_mask (cells_claim v (cell_in m k)) == 0) ≡ false
     → list_any (λ (x : AirCell). x.prb == k) (left_told v m k) ≡ true
 left_here v m k fresh used =
-    rw (fresh, used) (only_told (air_cell Ru m.endpoint (cell_in m k) m.start.0 (cells_claim v (cell_in m k)) (cells_block v (cell_in m k))) k refl)
+    rw (fresh, used) (told_alone (air_cell Ru m.endpoint (cell_in m k) m.start.0 (cells_claim v (cell_in m k)) (cells_block v (cell_in m k))) k refl)
 
 told_here : (v : CellsValue) (m : SymbolStart) (k : ℕ) → k < m.endpoint.prbs → list_any (λ (x : AirCell). x.prb == k) (left_told v m k) ≡ true
     → is_told m (left_at v m) (cell_in m k) ≡ true

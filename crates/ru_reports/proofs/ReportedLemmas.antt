@@ -2,7 +2,7 @@
 use Rattle.std.proofs.Common.{◌≡◌, ◌≢◌, ℕ, zero, suc, ◌+◌, ◌<◌, ◌≤◌, ◌==◌, Bool, true, false, not, ◌&&◌, inl, inr, List, [], ◌∷◌, refl, sym, ap, ap₂, ◌∙◌, arith}
 use Rattle.std.specs.Prelude.{◌||◌, if◌then◌else◌}
 use Rattle.std.specs.List.{list_any}
-use Rattle.std.proofs.lemmas.Bool.{and_from, and_parts, cases_Bool, cases_eq, cases_lt, eq-eqb, eqb-true, ne_eqb}
+use Rattle.std.proofs.lemmas.Bool.{and_from, and_parts, cases_Bool, cases_eq, cases_lt, eq-eqb, eqb-true, ne_eqb, and_left}
 use Rattle.std.proofs.lemmas.List.Folds.{list_any-append}
 use Rattle.fh_time.specs.declared.values.Slot.{Slot}
 use Rattle.air_source.specs.declared.events.AirCell.{AirCell}
@@ -36,10 +36,6 @@ first_true : (a b : Bool) → a ≡ true → (a && b) ≡ b
 first_true true b e = refl
 first_true false b e = cc
 
-first_false : (a b : Bool) → a ≡ false → (a && b) ≡ false
-first_false true b e = cc
-first_false false b e = refl
-
 -- ---- a test of one PRB among the reports of many
 
 any_none : (p : AirCell → Bool) (from n : ℕ) (f : ℕ → List AirCell) → ((j : ℕ) → from ≤ j → j < from + n → list_any p (f j) ≡ false) → list_any p (each from n f) ≡ false
@@ -63,7 +59,7 @@ any_one p from (suc n) f k low high others = list_any-append p (f from) (each (f
 
 -- ---- what is told of a cell
 
-told_alone : (a : AirCell) (k : ℕ) → a.prb ≡ k → list_any (λ (x : AirCell). x.prb == k) (a ∷ []) ≡ true
+pub told_alone : (a : AirCell) (k : ℕ) → a.prb ≡ k → list_any (λ (x : AirCell). x.prb == k) (a ∷ []) ≡ true
 told_alone a k e = let f : (a.prb == k) ≡ true = eq-eqb a.prb k e in rw f refl
 
 told_other : (a : AirCell) (prb k : ℕ) → k ≢ prb → a.prb ≡ prb → list_any (λ (x : AirCell). x.prb == k) (a ∷ []) ≡ false
@@ -137,7 +133,7 @@ pub used_reported : (m : SymbolStart) (n : ℕ) (old new : CellsValue)
 used_reported m n old new here others cell is down = elim (cases_Bool (of_symbol m cell)) [
   | inr other ↦
       others cell is (λ p q r. absurd (unequal (of_symbol m cell) other (of_own m cell p q r)))
-      ∙ or_none (cells_reported old cell) _ (parts ∙ first_false (of_symbol m cell) any other)
+      ∙ or_none (cells_reported old cell) _ (parts ∙ and_left (of_symbol m cell) any other)
   | inl own ↦ elim (cases_lt cell.prb n) [
     | inr behind ↦
         others cell is (λ p q r. behind)

@@ -1,5 +1,5 @@
 -- Symbols of which nothing is to be reported after a time.
-use Rattle.std.proofs.Common.{◌≡◌, ℕ, ℤ, ◌-◌, ◌<◌, ◌≤ℤ◌, Bool, true, false, ◌&&◌, int_le, refl, sym, ap, subst, arith, None}
+use Rattle.std.proofs.Common.{◌≡◌, ℕ, ℤ, ◌-◌, ◌<◌, ◌≤ℤ◌, true, false, int_le, refl, sym, ap, subst, arith, None}
 use Rattle.std.specs.Prelude.{int_lt}
 use Rattle.std.specs.Bool.{then_some}
 use Rattle.std.proofs.lemmas.Int.{ints}
@@ -16,6 +16,7 @@ use Rattle.symbol_search.specs.Symbols.{HasNone, InSlot, OfEndpoint}
 use Rattle.symbol_search.proofs.SymbolLemmas.{endpoint_one, symbol_one}
 use Rattle.ru_reports.specs.Symbols.{is_left, is_left_after}
 use Rattle.fh_time.proofs.Orders.{and_false_2 as second_false}
+use Rattle.std.proofs.lemmas.Bool.{and_left}
 
 -- ---- one symbol
 
@@ -36,16 +37,12 @@ none_pending v t ep quiet m is of =
 not_after_last : (t s a b : ℤ) → s ≡ a → a ≤ℤ b → int_le b t ≡ true → int_lt t s ≡ false
 not_after_last t s a b p q r = grind (arith, ints)
 
-first_false : (a b : Bool) → a ≡ false → (a && b) ≡ false
-first_false true b e = absurd (cc)
-first_false false b e = refl
-
 -- where the last symbol of a slot does not start after a time, none of its symbols does
 pub none_past : (v : CellsValue) (t : ℤ) (ep : ℕ) (e : EndpointConfig) (slot : Slot) → IsAt (endpoints_of v) ep e
     → int_le (air_of e.numerology slot (symbols_of e.numerology - 1)) t ≡ true → HasNone v (is_left_after v t) (InSlot ep slot)
 none_past v t ep e slot at past m is o =
     let below : m.symbol < symbols_of e.numerology = subst (λ (x : EndpointConfig). m.symbol < symbols_of x.numerology) (endpoint_one v ep e m at is o.0) is.symbol_is in
-    first_false (int_lt t m.start.0) (is_left v m)
+    and_left (int_lt t m.start.0) (is_left v m)
     (not_after_last t m.start.0 (air_of e.numerology slot m.symbol) (air_of e.numerology slot (symbols_of e.numerology - 1))
     (ap (λ (x : SymbolStart). x.start.0) (symbol_one v ep e slot m.symbol m at is o.0 o.1 refl))
     (symbols_in_order e.numerology slot m.symbol (symbols_of e.numerology - 1) (omega (arith, below))) past)

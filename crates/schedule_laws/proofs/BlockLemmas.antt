@@ -17,7 +17,7 @@ use Rattle.unit_laws.specs.unit_model.specs.declared.allocations.Allocation.{All
 use Rattle.unit_laws.specs.unit_model.specs.declared.cells.Block.{Block}
 use Rattle.unit_laws.specs.unit_model.specs.declared.cells.Cell.{Cell}
 use Rattle.unit_laws.specs.unit_model.specs.declared.decoded.UserSection.{UserSection}
-use Rattle.unit_laws.proofs.CellLemmas.{covers_is, data_covers_is}
+use Rattle.unit_laws.proofs.CellLemmas.{data_covers_is}
 use Rattle.plan_model.specs.Lines.{line_allocation, planned}
 use Rattle.plan_model.specs.Streams.{Part, part_in}
 use Rattle.plan_model.specs.Validity.{clash, share_bit, share_cell}
@@ -27,7 +27,7 @@ use Rattle.schedule_laws.specs.Data.{AreDecodedOnce, AreWritten, Blocks, IsDataF
 use Rattle.schedule_laws.specs.Premise.{AllArrive, Texts}
 use Rattle.schedule_laws.proofs.LineLemmas.{are_one}
 use Rattle.schedule_laws.proofs.WholeLemmas.{IsTimely, each_timely, ds, line_sent, whole_once}
-use Rattle.unit_laws.specs.unit_model.proofs.ClaimLemmas.{way_self as way_own, slot_self as slot_own}
+use Rattle.unit_laws.specs.unit_model.proofs.ClaimLemmas.{way_self as way_own, slot_self as slot_own, covers_is}
 
 -- ---- data that are all on time
 

@@ -56,10 +56,11 @@ use Rattle.schedule_laws.proofs.PackLemmas.{message_from, one_part}
 use Rattle.schedule_laws.proofs.ReadingLemmas.{AreCopies, Heard, IsCommandStream, command_read, heard, told}
 use Rattle.schedule_laws.proofs.SentLemmas.{IsOfMessage, IsSentStream, is_sent, message_part, part_is, part_message, part_there, sent_is}
 use Rattle.schedule_laws.proofs.TimeLemmas.{copy_from, copy_to, first_less, frame_is, in_end, in_time, wait_most}
-use Rattle.fh_time.specs.declared.frames.TheConstants.{FRAME}
+use Rattle.fh_time.specs.declared.frames.TheConstants.{FRAME, HALF_CYCLE}
 use Rattle.fh_time.proofs.Order.{same_fields as same_slot_fields}
 use Rattle.unit_laws.specs.unit_model.proofs.ClaimLemmas.{slot_self as slot_own}
 use Rattle.unit_laws.specs.window_config.proofs.TickLemmas.{in_ticks}
+use Rattle.fh_time.specs.declared.nanoseconds.TheConstants.{NANOSECOND}
 
 -- ---- times
 
@@ -89,8 +90,8 @@ on_time sending awaited t12 s at wait room few from to = record {
 
 -- so it comes near to its frame
 pub near_frame : (f s at least most : ℤ) → (f *ℤ FRAME) ≤ℤ s → s <ℤ (f *ℤ FRAME +ℤ pos 76800000000) → pos 0 ≤ℤ least → most ≤ℤ pos 4000000
-    → (least *ℤ pos 1536) ≤ℤ (s -ℤ at) → (s -ℤ at) ≤ℤ (most *ℤ pos 1536)
-    → ((at -ℤ pos 1966080000000) ≤ℤ (f *ℤ FRAME)) × ((f *ℤ FRAME) <ℤ (at +ℤ pos 1966080000000))
+    → (least *ℤ pos NANOSECOND) ≤ℤ (s -ℤ at) → (s -ℤ at) ≤ℤ (most *ℤ pos NANOSECOND)
+    → ((at -ℤ HALF_CYCLE) ≤ℤ (f *ℤ FRAME)) × ((f *ℤ FRAME) <ℤ (at +ℤ HALF_CYCLE))
 near_frame f s at least most low high a b soon late = (omega (arith, ints), omega (arith, ints))
 
 -- the room that the check leaves commands

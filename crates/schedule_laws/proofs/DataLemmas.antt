@@ -2,13 +2,13 @@
 use Rattle.std.proofs.Common.{◌≡◌, ℤ, ◌⊎◌, inl, inr, List, [], ◌∷◌, ◌++◌, refl, ap, sym, ◌∙◌, subst}
 use Rattle.unit_laws.specs.air_source.specs.declared.events.Side.TheVariants.{Ru}
 use Rattle.ecpri_fragments.specs.Generations.{Fragment}
-use Rattle.ecpri_fragments.specs.Verdicts.{message}
+use Rattle.ecpri_fragments.specs.Verdicts.{message, whole_of}
 use Rattle.ecpri_fragments.specs.declared.verdict.Verdict.{Verdict}
 use Rattle.ecpri_fragments.specs.declared.verdict.Verdict.TheVariants.{Stored, Whole, Repeat, Stray, TooLong}
 use Rattle.fragment_laws.specs.Apart.{IsIn}
 use Rattle.unit_laws.specs.window_config.specs.declared.config.Config.{Config}
 use Rattle.unit_laws.specs.window_config.specs.declared.endpoints.EndpointConfig.{EndpointConfig}
-use Rattle.unit_laws.specs.unit_model.specs.Decoding.{data_now, data_sections, data_told, decode_message, decoded_now, sections_of, whole_of}
+use Rattle.unit_laws.specs.unit_model.specs.Decoding.{data_now, data_sections, data_told, decode_message, decoded_now, sections_of}
 use Rattle.unit_laws.specs.unit_model.specs.Lists.{onto}
 use Rattle.unit_laws.specs.unit_model.specs.Meetings.{Arrival, Commands, Meeting, Piece, fragments, meetings}
 use Rattle.unit_laws.specs.unit_model.specs.Proper.{IsAt}
@@ -21,24 +21,25 @@ use Rattle.schedule_laws.specs.Premise.{Texts, fragment_at}
 use Rattle.schedule_laws.proofs.FlowLemmas.{here}
 use Rattle.schedule_laws.proofs.FragmentLemmas.{fragments_command, fragments_piece}
 use Rattle.schedule_laws.proofs.ReadingLemmas.{AreCopies, a_command, a_piece, read_of, reading}
+use Rattle.unit_laws.specs.air_source.specs.declared.events.Side.{Side}
 
 -- ---- the sections that a fragment makes
 
-pub told_whole : (v : Verdict) (e : EndpointConfig) (x : Fragment) (s : List Fragment) (d : UserSection) → IsIn d (data_told (decoded_now Ru e x (whole_of v x s)))
-    → (v ≡ Whole) × IsIn d (sections_of (decode_message Ru x.ep e (message (x ∷ s))))
-told_whole Stored e x s d m = absurd m
-told_whole Whole e x s d m = (refl, m)
-told_whole Repeat e x s d m = absurd m
-told_whole Stray e x s d m = absurd m
-told_whole TooLong e x s d m = absurd m
+pub told_whole : (side : Side) (v : Verdict) (e : EndpointConfig) (x : Fragment) (s : List Fragment) (d : UserSection) → IsIn d (data_told (decoded_now side e x (whole_of v x s)))
+    → (v ≡ Whole) × IsIn d (sections_of (decode_message side x.ep e (message (x ∷ s))))
+told_whole side Stored e x s d m = absurd m
+told_whole side Whole e x s d m = (refl, m)
+told_whole side Repeat e x s d m = absurd m
+told_whole side Stray e x s d m = absurd m
+told_whole side TooLong e x s d m = absurd m
 
-pub whole_told : (v : Verdict) (e : EndpointConfig) (x : Fragment) (s : List Fragment) (d : UserSection) → v ≡ Whole → IsIn d (sections_of (decode_message Ru x.ep e (message (x ∷ s))))
-    → IsIn d (data_told (decoded_now Ru e x (whole_of v x s)))
-whole_told Whole e x s d h m = m
-whole_told Stored e x s d h m = absurd cc
-whole_told Repeat e x s d h m = absurd cc
-whole_told Stray e x s d h m = absurd cc
-whole_told TooLong e x s d h m = absurd cc
+pub whole_told : (side : Side) (v : Verdict) (e : EndpointConfig) (x : Fragment) (s : List Fragment) (d : UserSection) → v ≡ Whole → IsIn d (sections_of (decode_message side x.ep e (message (x ∷ s))))
+    → IsIn d (data_told (decoded_now side e x (whole_of v x s)))
+whole_told side Whole e x s d h m = m
+whole_told side Stored e x s d h m = absurd cc
+whole_told side Repeat e x s d h m = absurd cc
+whole_told side Stray e x s d h m = absurd cc
+whole_told side TooLong e x s d h m = absurd cc
 
 sections_command : (c : Config) (hold : ℤ) (a : Arrival) (earlier : List Arrival) (d : ControlSection) → read_of c a ≡ Commands (d ∷ []) ∷ []
     → data_sections Ru hold (meetings Ru c.endpoints (a ∷ earlier)) ≡ data_sections Ru hold (meetings Ru c.endpoints earlier)

@@ -47,6 +47,9 @@ use Rattle.schedule_laws.proofs.PackLemmas.{message_from}
 use Rattle.schedule_laws.proofs.PlanLemmas.{valid_apart}
 use Rattle.schedule_laws.proofs.SentLemmas.{part_is, symbol_part}
 use Rattle.fh_time.proofs.Orders.{le_false}
+use Rattle.fh_time.specs.declared.nanoseconds.TheConstants.{NANOSECOND}
+use Rattle.unit_laws.specs.window_config.specs.declared.config.TheConstants.{LEAST_FRAGMENT}
+use Rattle.ecpri_fragments.specs.declared.place.TheConstants.{MESSAGE_BYTES}
 
 -- ---- none is dense
 
@@ -89,28 +92,28 @@ none_dense c ps stream distance start (suc i) (f ∷ es) e h at =
     ap (λ k. dense_in distance (sendings c ps stream k e)) there
     ∙ none_dense c ps stream distance (start + 1) i es e (no_lesser (dense_in distance (sendings c ps stream start f)) (dense_from c ps stream distance (start + 1) es) h).1 at
 
-beyond : (x y d h fast slow : ℤ) → d ≡ (h +ℤ (slow -ℤ fast)) *ℤ pos 1536 → d <ℤ (y -ℤ x) → (x +ℤ (h *ℤ pos 1536 +ℤ (slow *ℤ pos 1536 -ℤ fast *ℤ pos 1536))) <ℤ y
+beyond : (x y d h fast slow : ℤ) → d ≡ (h +ℤ (slow -ℤ fast)) *ℤ pos NANOSECOND → d <ℤ (y -ℤ x) → (x +ℤ (h *ℤ pos NANOSECOND +ℤ (slow *ℤ pos NANOSECOND -ℤ fast *ℤ pos NANOSECOND))) <ℤ y
 beyond x y d h fast slow e l = omega (arith, ints, e, l)
 
-pub distant : (x y h fast slow : ℤ) → is_near ((h +ℤ (slow -ℤ fast)) *ℤ pos 1536) x y ≡ false
-    → ((x +ℤ (h *ℤ pos 1536 +ℤ (slow *ℤ pos 1536 -ℤ fast *ℤ pos 1536))) <ℤ y) ⊎ ((y +ℤ (h *ℤ pos 1536 +ℤ (slow *ℤ pos 1536 -ℤ fast *ℤ pos 1536))) <ℤ x)
-distant x y h fast slow e = elim (cases_Bool (int_le (x -ℤ y) ((h +ℤ (slow -ℤ fast)) *ℤ pos 1536))) [
-  | inr far ↦ inr (beyond y x ((h +ℤ (slow -ℤ fast)) *ℤ pos 1536) h fast slow refl (le_false (x -ℤ y) ((h +ℤ (slow -ℤ fast)) *ℤ pos 1536) far))
+pub distant : (x y h fast slow : ℤ) → is_near ((h +ℤ (slow -ℤ fast)) *ℤ pos NANOSECOND) x y ≡ false
+    → ((x +ℤ (h *ℤ pos NANOSECOND +ℤ (slow *ℤ pos NANOSECOND -ℤ fast *ℤ pos NANOSECOND))) <ℤ y) ⊎ ((y +ℤ (h *ℤ pos NANOSECOND +ℤ (slow *ℤ pos NANOSECOND -ℤ fast *ℤ pos NANOSECOND))) <ℤ x)
+distant x y h fast slow e = elim (cases_Bool (int_le (x -ℤ y) ((h +ℤ (slow -ℤ fast)) *ℤ pos NANOSECOND))) [
+  | inr far ↦ inr (beyond y x ((h +ℤ (slow -ℤ fast)) *ℤ pos NANOSECOND) h fast slow refl (le_false (x -ℤ y) ((h +ℤ (slow -ℤ fast)) *ℤ pos NANOSECOND) far))
   | inl near ↦
-      let other : int_le (y -ℤ x) ((h +ℤ (slow -ℤ fast)) *ℤ pos 1536) ≡ false = sym (ap (λ b. b && int_le (y -ℤ x) ((h +ℤ (slow -ℤ fast)) *ℤ pos 1536)) near) ∙ e in
-      inl (beyond x y ((h +ℤ (slow -ℤ fast)) *ℤ pos 1536) h fast slow refl (le_false (y -ℤ x) ((h +ℤ (slow -ℤ fast)) *ℤ pos 1536) other))
+      let other : int_le (y -ℤ x) ((h +ℤ (slow -ℤ fast)) *ℤ pos NANOSECOND) ≡ false = sym (ap (λ b. b && int_le (y -ℤ x) ((h +ℤ (slow -ℤ fast)) *ℤ pos NANOSECOND)) near) ∙ e in
+      inl (beyond x y ((h +ℤ (slow -ℤ fast)) *ℤ pos NANOSECOND) h fast slow refl (le_false (y -ℤ x) ((h +ℤ (slow -ℤ fast)) *ℤ pos NANOSECOND) other))
 ]
 
 -- ---- sizes
 
 -- a line's section alone is short enough
-pub section_short : (es : List EndpointConfig) (x : Part) → IsGoodLine es x.planned → size_of part_fields (alone x) ≤ 16384
+pub section_short : (es : List EndpointConfig) (x : Part) → IsGoodLine es x.planned → size_of part_fields (alone x) ≤ MESSAGE_BYTES
 section_short es x g =
     let e = x.planned.endpoint in
     alone_few (section_size e x.planned.line.num_prb) (section_few e x.planned.line.start_prb x.planned.line.num_prb g.endpoint.width g.endpoint.most g.prbs)
 
 -- and has a frame at least
-pub some_frames : (c : Config) (m : Message Part) → 128 ≤ c.fragment → 0 < frames_in c DownData m
+pub some_frames : (c : Config) (m : Message Part) → LEAST_FRAGMENT ≤ c.fragment → 0 < frames_in c DownData m
 some_frames c m h = some_quotient (size_of part_fields m) c.fragment h (size_some m)
   where
     at_least : (n : ℕ) → 4 ≤ 4 + n
@@ -119,7 +122,7 @@ some_frames c m h = some_quotient (size_of part_fields m) c.fragment h (size_som
     size_some : (m : Message Part) → 4 ≤ size_of part_fields m
     size_some m = at_least _
 
-    some_quotient : (s f : ℕ) → 128 ≤ f → 4 ≤ s → 0 < (s + (f - 1)) / f
+    some_quotient : (s f : ℕ) → LEAST_FRAGMENT ≤ f → 4 ≤ s → 0 < (s + (f - 1)) / f
     some_quotient s f h k = elim (cases_eq ((s + (f - 1)) / f) 0) [
       | inl e ↦
           let less : (s + (f - 1)) / f < 1 = omega (arith, e) in
@@ -161,7 +164,7 @@ module _ (c : Config) (lines : List PlanLine) (config : IsConfig c) (fit : All I
       numbered_rising part_fields (frames_in c DownData) (λ m. start_of_part m.first) (packs part_fields c.pack (parts_in ps DownData ep e))
       (packs_rising part_fields c.pack (λ x. start_of_part x) (parts_in ps DownData ep e) (parts_rising ep e at))
 
-  message_short : (ep : ℕ) (e : EndpointConfig) (n : Numbered Part) → IsIn n (messages_of c ps DownData ep e) → size_of part_fields n.message ≤ 16384
+  message_short : (ep : ℕ) (e : EndpointConfig) (n : Numbered Part) → IsIn n (messages_of c ps DownData ep e) → size_of part_fields n.message ≤ MESSAGE_BYTES
   unfolding messages_of
   message_short ep e n m =
       let parts = parts_in ps DownData ep e in
@@ -254,11 +257,11 @@ module _ (c : Config) (lines : List PlanLine) (config : IsConfig c) (fit : All I
       subst (λ s. IsApart s (flow_sent_at (flow_of c ps text ep) (j + 256) 0)) (sym (leaves_at ep j 0 a)) (subst (λ s. IsApart (sent_at c DownData a.n 0) s) (sym (leaves_at ep (j + 256) 0 b)) times)
 
   -- a generation holds as long as a message's frames may be apart
-  hold_covers : (least most fast slow hold : ℤ) (spread : ℕ) → least *ℤ pos 1536 +ℤ pos spread ≡ most *ℤ pos 1536 → ((most -ℤ least) +ℤ (slow -ℤ fast)) ≤ℤ hold
-      → (pos spread +ℤ (slow *ℤ pos 1536 -ℤ fast *ℤ pos 1536)) ≤ℤ (hold *ℤ pos 1536)
+  hold_covers : (least most fast slow hold : ℤ) (spread : ℕ) → least *ℤ pos NANOSECOND +ℤ pos spread ≡ most *ℤ pos NANOSECOND → ((most -ℤ least) +ℤ (slow -ℤ fast)) ≤ℤ hold
+      → (pos spread +ℤ (slow *ℤ pos NANOSECOND -ℤ fast *ℤ pos NANOSECOND)) ≤ℤ (hold *ℤ pos NANOSECOND)
   hold_covers least most fast slow hold spread e h = omega (arith, ints, e, h)
 
-  in_order_ns : (a b : ℤ) → a ≤ℤ b → (a *ℤ pos 1536) ≤ℤ (b *ℤ pos 1536)
+  in_order_ns : (a b : ℤ) → a ≤ℤ b → (a *ℤ pos NANOSECOND) ≤ℤ (b *ℤ pos NANOSECOND)
   in_order_ns a b h = omega (arith, ints, h)
 
   -- the bytes of a message are as many as its fragments have
@@ -266,13 +269,13 @@ module _ (c : Config) (lines : List PlanLine) (config : IsConfig c) (fit : All I
   AreLong = (ep : ℕ) (e : EndpointConfig) (n : Numbered Part) → IsAt c.endpoints ep e → IsIn n (messages_of c ps DownData ep e)
       → size_to (text ep n.number) (frames_in c DownData n.message) ≡ size_of part_fields n.message
 
-  short_at : AreLong → (ep j : ℕ) → j < (flow_of c ps text ep).count → size_to (text ep j) ((flow_of c ps text ep).pieces j) ≤ 16384
+  short_at : AreLong → (ep j : ℕ) → j < (flow_of c ps text ep).count → size_to (text ep j) ((flow_of c ps text ep).pieces j) ≤ MESSAGE_BYTES
   short_at long ep j h =
       let a = here ep j h in
       let size = long ep a.e a.n a.at a.there in
       let is : size_to (text ep j) ((flow_of c ps text ep).pieces j) ≡ size_of part_fields a.n.message =
       ap₂ (λ (k m : ℕ). size_to (text ep k) m) (sym a.number) (pieces_at ep j a) ∙ size in
-      subst (λ m. m ≤ 16384) (sym is) (message_short ep a.e a.n a.there)
+      subst (λ m. m ≤ MESSAGE_BYTES) (sym is) (message_short ep a.e a.n a.there)
 
   pub sound : AreLong → (ep : ℕ) → IsSound (bounds_of c) (flow_of c ps text ep)
   sound long ep = record {

@@ -25,6 +25,7 @@ use Rattle.schedule_laws.specs.Least.{AreReadable, least_arrival, with_least_del
 use Rattle.schedule_laws.specs.Premise.{AllArrive, AreInOrder, IsCopyOf, Texts}
 use Rattle.schedule_laws.proofs.ListLemmas.{in_map, in_onto, of_map, onto_right}
 use Rattle.schedule_laws.proofs.OrderLemmas.{IsRising, ticks_rising}
+use Rattle.fh_time.specs.declared.nanoseconds.TheConstants.{NANOSECOND}
 
 -- what is sent is in the order of time
 sent_rising : (c : Config) (ps : List PlannedLine) → IsRising (λ (f : SentFrame). f.at) (sent c ps)
@@ -58,7 +59,7 @@ onto_order earlier (x ∷ xs) o r h =
 pub least_is : (a k : ℤ) → (a +ℤ k) ≤ℤ (a +ℤ k)
 least_is a k = omega (arith, ints)
 
-pub least_under : (a least most : ℤ) → least ≤ℤ most → (a +ℤ least *ℤ pos 1536) ≤ℤ (a +ℤ most *ℤ pos 1536)
+pub least_under : (a least most : ℤ) → least ≤ℤ most → (a +ℤ least *ℤ pos NANOSECOND) ≤ℤ (a +ℤ most *ℤ pos NANOSECOND)
 least_under a least most h = omega (arith, ints, h)
 
 pub least_arrive : (c : Config) (lines : List PlanLine) (text : Texts) (bytes : SentFrame → List ℕ) → IsConfig c → All IsPlanLine lines → IsValid c lines → PassesCheck c.delays

@@ -15,7 +15,7 @@ use Rattle.fh_time.specs.declared.values.Slot.{Slot}
 use Rattle.fh_time.specs.Kinds.{time_offset_of, cp_length_of}
 use Rattle.fragment_laws.specs.Apart.{IsIn}
 use Rattle.unit_laws.specs.window_config.specs.declared.endpoints.EndpointConfig.{EndpointConfig}
-use Rattle.unit_laws.specs.unit_model.specs.Lists.{each, each_tick, joined, onto}
+use Rattle.unit_laws.specs.unit_model.specs.Lists.{each, each_tick, onto}
 use Rattle.unit_laws.specs.unit_model.specs.Radiated.{first_clock}
 use Rattle.unit_laws.specs.unit_model.specs.Sweeps.{of_endpoint, of_endpoints, at_tick, sweep}
 use Rattle.unit_laws.specs.unit_model.specs.Times.{end_of_time}
@@ -23,6 +23,7 @@ use Rattle.unit_laws.specs.unit_model.proofs.ReachLaws.{IsShort, IsPiece, symbol
 use Rattle.unit_laws.proofs.SweepLemmas.{IsKept, each_tick_related, of_endpoint_related}
 use Rattle.plan_model.specs.Streams.{over_symbols}
 use Rattle.plan_model.proofs.ListLemmas.{in_left, in_right, in_either}
+use Rattle.ecpri_fragments.specs.Pieces.{joined}
 
 pub in_map : {X Y : Type 0} (f : X → Y) (x : X) (xs : List X) → IsIn x xs → IsIn (f x) (map f xs)
 in_map f x [] m = absurd m

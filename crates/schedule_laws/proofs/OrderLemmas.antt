@@ -12,6 +12,7 @@ use Rattle.schedule_laws.proofs.ListLemmas.{at_in}
 use Rattle.schedule_laws.proofs.PackLemmas.{parts_behind}
 use Rattle.unit_laws.specs.unit_model.proofs.ClaimLemmas.{slot_self as slot_own}
 use Rattle.fh_time.proofs.Orders.{above_next as later_tick}
+use Rattle.ecpri_fragments.specs.declared.place.TheConstants.{MESSAGE_BYTES}
 
 -- ---- places
 
@@ -152,27 +153,27 @@ module _ {P : Type 0} (f : PartFields P) (most : ℕ) where
   longer : (m : Message P) (p : P) → size_of f (with_part m p) ≡ size_of f m + f.size p
   longer m p = head_sum (sum (map f.size (parts_of (with_part m p)))) (sum (map f.size (parts_of m))) (f.size p) (fold_more f.size 0 (parts_of m) p)
 
-  takes_few : (m : Message P) (p : P) → takes f most m p ≡ true → size_of f (with_part m p) ≤ 16384
+  takes_few : (m : Message P) (p : P) → takes f most m p ≡ true → size_of f (with_part m p) ≤ MESSAGE_BYTES
   takes_few m p h =
       let one = and_parts (same_symbol f m.first p) _ h in
       let two = and_parts (f.filter m.first == f.filter p) _ one.1 in
-      let three = and_parts (nat_lt (length (parts_of m)) most) (nat_le (size_of f m + f.size p) 16384) two.1 in
-      let l = leb-true (size_of f m + f.size p) 16384 three.1 in
+      let three = and_parts (nat_lt (length (parts_of m)) most) (nat_le (size_of f m + f.size p) MESSAGE_BYTES) two.1 in
+      let l = leb-true (size_of f m + f.size p) MESSAGE_BYTES three.1 in
       let e = longer m p in
-      subst (λ k. k ≤ 16384) (sym e) l
+      subst (λ k. k ≤ MESSAGE_BYTES) (sym e) l
 
-  behind_short : (m : Message P) (ps : List P) (n : Message P) → ((q : P) → IsIn q ps → size_of f (alone q) ≤ 16384) → size_of f m ≤ 16384 → IsIn n (packs_behind f most m ps) → size_of f n ≤ 16384
+  behind_short : (m : Message P) (ps : List P) (n : Message P) → ((q : P) → IsIn q ps → size_of f (alone q) ≤ MESSAGE_BYTES) → size_of f m ≤ MESSAGE_BYTES → IsIn n (packs_behind f most m ps) → size_of f n ≤ MESSAGE_BYTES
   unfolding packs_behind
-  behind_short m [] n each h i = elim i [ inl e ↦ subst (λ (x : Message P). size_of f x ≤ 16384) (sym e) h | inr t ↦ absurd t ]
+  behind_short m [] n each h i = elim i [ inl e ↦ subst (λ (x : Message P). size_of f x ≤ MESSAGE_BYTES) (sym e) h | inr t ↦ absurd t ]
   behind_short m (p ∷ ps) n each h i =
       go (takes f most m p) refl i (λ t. behind_short (with_part m p) ps n (λ q k. each q (inr k)) (takes_few m p t)) (behind_short (alone p) ps n (λ q k. each q (inr k)) (each p (inl refl)))
     where
       go : (b : Bool) → takes f most m p ≡ b → IsIn n (if b then packs_behind f most (with_part m p) ps else m ∷ packs_behind f most (alone p) ps)
-          → (takes f most m p ≡ true → IsIn n (packs_behind f most (with_part m p) ps) → size_of f n ≤ 16384) → (IsIn n (packs_behind f most (alone p) ps) → size_of f n ≤ 16384) → size_of f n ≤ 16384
+          → (takes f most m p ≡ true → IsIn n (packs_behind f most (with_part m p) ps) → size_of f n ≤ MESSAGE_BYTES) → (IsIn n (packs_behind f most (alone p) ps) → size_of f n ≤ MESSAGE_BYTES) → size_of f n ≤ MESSAGE_BYTES
       go true e k joined next = joined e k
-      go false e k joined next = elim k [ inl x ↦ subst (λ (y : Message P). size_of f y ≤ 16384) (sym x) h | inr t ↦ next t ]
+      go false e k joined next = elim k [ inl x ↦ subst (λ (y : Message P). size_of f y ≤ MESSAGE_BYTES) (sym x) h | inr t ↦ next t ]
 
-  pub all_short : (ps : List P) (n : Message P) → ((q : P) → IsIn q ps → size_of f (alone q) ≤ 16384) → IsIn n (packs f most ps) → size_of f n ≤ 16384
+  pub all_short : (ps : List P) (n : Message P) → ((q : P) → IsIn q ps → size_of f (alone q) ≤ MESSAGE_BYTES) → IsIn n (packs f most ps) → size_of f n ≤ MESSAGE_BYTES
   all_short [] n each i = absurd i
   all_short (p ∷ ps) n each i = behind_short (alone p) ps n (λ q k. each q (inr k)) (each p (inl refl)) i
 

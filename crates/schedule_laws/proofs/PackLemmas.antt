@@ -4,6 +4,7 @@ use Rattle.std.proofs.lemmas.Bool.{cases_Bool, ltb-true}
 use Rattle.fragment_laws.specs.Apart.{IsIn}
 use Rattle.plan_model.specs.Packs.{PartFields, Message, Numbered, alone, frames_before, numbered, numbered_behind, packs, packs_behind, parts_of, same_symbol, size_of, takes, with_part}
 use Rattle.plan_model.proofs.ListLemmas.{in_left, in_right, in_either}
+use Rattle.ecpri_fragments.specs.declared.place.TheConstants.{MESSAGE_BYTES}
 
 module _ {P : Type 0} (f : PartFields P) (most : ℕ) where
   -- each part of a message is one of the parts
@@ -68,8 +69,8 @@ module _ {P : Type 0} (f : PartFields P) where
 
   takes_none : (m : Message P) (q : P) → takes f 1 m q ≡ false
   takes_none m q =
-      ap (λ t. same_symbol f m.first q && ((f.filter m.first == f.filter q) && (t && nat_le (size_of f m + f.size q) 16384))) (not_below (length m.more))
-      ∙ full (same_symbol f m.first q) (f.filter m.first == f.filter q) (nat_le (size_of f m + f.size q) 16384)
+      ap (λ t. same_symbol f m.first q && ((f.filter m.first == f.filter q) && (t && nat_le (size_of f m + f.size q) MESSAGE_BYTES))) (not_below (length m.more))
+      ∙ full (same_symbol f m.first q) (f.filter m.first == f.filter q) (nat_le (size_of f m + f.size q) MESSAGE_BYTES)
 
   one_behind : (m : Message P) (ps : List P) (n : Message P) → m.more ≡ [] → IsIn n (packs_behind f 1 m ps) → n.more ≡ []
   unfolding packs_behind

@@ -19,7 +19,6 @@ use Rattle.unit_laws.specs.unit_model.specs.Standing.{same_cell}
 use Rattle.unit_laws.specs.unit_model.specs.declared.cells.Cell.{Cell}
 use Rattle.unit_laws.specs.unit_model.proofs.ReachLaws.{symbol_piece}
 use Rattle.unit_laws.specs.Due.{AreDifferent}
-use Rattle.unit_laws.proofs.CellLemmas.{covers_is}
 use Rattle.unit_laws.proofs.DifferLemmas.{IsOther, other_swap, same_self}
 use Rattle.unit_laws.proofs.DueLemmas.{reported_differ}
 use Rattle.plan_model.specs.Lines.{line_allocation, planned}
@@ -33,7 +32,7 @@ use Rattle.schedule_laws.proofs.CellLemmas.{plan_radiates}
 use Rattle.schedule_laws.proofs.LineLemmas.{good, start_in_time}
 use Rattle.schedule_laws.proofs.ListLemmas.{in_each, in_piece, numerology_short}
 use Rattle.fh_time.specs.declared.frames.TheConstants.{FRAME}
-use Rattle.unit_laws.specs.unit_model.proofs.ClaimLemmas.{within_carrier, from_within}
+use Rattle.unit_laws.specs.unit_model.proofs.ClaimLemmas.{within_carrier, from_within, covers_is}
 use Rattle.fh_time.proofs.Orders.{within_next as by_then}
 
 -- ---- one of a list in which all differ

@@ -7,10 +7,8 @@ use Rattle.std.specs.Int.{int_div_euclid, int_rem_euclid}
 use Rattle.std.proofs.lemmas.Int.{ints}
 use Rattle.fh_time.specs.Frame.{absolute_frame, first_frame, frame_start}
 use Rattle.fh_time.proofs.Euclid.{parts_256, resolved, one_frame}
-use Rattle.fh_time.specs.declared.frames.TheConstants.{FRAME}
-
-pub pos_same : (m n : ℕ) → pos m ≡ pos n → m ≡ n
-pos_same m n e = omega (arith, ints, e)
+use Rattle.fh_time.specs.declared.frames.TheConstants.{FRAME, HALF_CYCLE}
+use Rattle.fh_time.proofs.Orders.{pos_same}
 
 -- a frame's low 8 bits are below 256
 pub id_below : (frame : ℤ) (id : ℕ) → pos id ≡ int_rem_euclid frame (pos 256) → id < 256
@@ -20,8 +18,8 @@ id_below frame id e =
     omega (arith, same, parts.1)
 
 -- near to its start a frame is the one that its low 8 bits mean
-pub frame_is : (id : ℕ) (at frame : ℤ) → pos id ≡ int_rem_euclid frame (pos 256) → (at -ℤ pos 1966080000000) ≤ℤ frame_start frame
-    → frame_start frame <ℤ (at +ℤ pos 1966080000000) → absolute_frame id at ≡ frame
+pub frame_is : (id : ℕ) (at frame : ℤ) → pos id ≡ int_rem_euclid frame (pos 256) → (at -ℤ HALF_CYCLE) ≤ℤ frame_start frame
+    → frame_start frame <ℤ (at +ℤ HALF_CYCLE) → absolute_frame id at ≡ frame
 unfolding absolute_frame
 frame_is id at frame e low high =
     let found = resolved id at (int_div_euclid (at +ℤ (FRAME -ℤ pos 1)) FRAME) (int_rem_euclid (pos id -ℤ first_frame at) (pos 256)) (id_below frame id e) refl refl in

@@ -26,7 +26,7 @@ use Rattle.unit_laws.specs.window_config.proofs.Timing.{class_on_time}
 use Rattle.unit_laws.specs.unit_model.specs.Blocks.{data_class, data_slot, data_start}
 use Rattle.unit_laws.specs.unit_model.specs.Claims.{is_from, same_slot}
 use Rattle.unit_laws.specs.unit_model.specs.Decoding.{Decoded, data_sections, decode, decode_message, sections_of}
-use Rattle.unit_laws.specs.unit_model.specs.Lists.{joined, onto}
+use Rattle.unit_laws.specs.unit_model.specs.Lists.{onto}
 use Rattle.unit_laws.specs.unit_model.specs.Meetings.{Arrival, fragments, meetings}
 use Rattle.unit_laws.specs.unit_model.specs.Proper.{IsAt}
 use Rattle.unit_laws.specs.unit_model.specs.Radiated.{first_clock}
@@ -60,6 +60,7 @@ use Rattle.schedule_laws.proofs.TimeLemmas.{frame_is, in_end, in_time, wait_most
 use Rattle.unit_laws.specs.window_config.specs.declared.delays.TheConstants.{MOST_DELAY}
 use Rattle.fh_time.proofs.Order.{same_fields as same_slot_fields}
 use Rattle.unit_laws.specs.unit_model.proofs.ClaimLemmas.{same_slot_is as slots_equal, slot_self as slot_own, from_within}
+use Rattle.ecpri_fragments.specs.Pieces.{joined}
 
 -- ---- the sections of a message
 
@@ -383,7 +384,7 @@ module _ (c : Config) (lines : List PlanLine) (text : Texts) (blocks : Blocks) (
   pub each_timely : (d : UserSection) → IsIn d ds → (x : Part) × IsTimely x d
   each_timely d m =
       let t = told_in c text (sent c ps) b.hold arrivals h.came d m in
-      let v = told_whole (verdict_on b.hold t.x t.earlier) t.f.endpoint t.x (standing_before b.hold t.x t.earlier) d t.told in
+      let v = told_whole Ru (verdict_on b.hold t.x t.earlier) t.f.endpoint t.x (standing_before b.hold t.x t.earlier) d t.told in
       let s = says t.later t.earlier t.x t.is v.0 in
       let same = endpoints_equal c.endpoints t.f.ep t.x.ep t.f.endpoint s.is_here.e (endpoint_at t.f t.sent_is) s.is_here.at (sym t.ep_is) in
       let parts = parts_of s.is_here.n.message in
@@ -414,7 +415,7 @@ module _ (c : Config) (lines : List PlanLine) (text : Texts) (blocks : Blocks) (
       let in_message : IsIn x (parts_of s.is_here.n.message) = subst (λ (n : Numbered Part). IsIn x (parts_of n.message)) same_n m in
       let x_there : IsIn x (onto [] (parts_of s.is_here.n.message)) = onto_right x [] (parts_of s.is_here.n.message) in_message in
       let d = part_section blocks s.first s.last (onto [] (parts_of s.is_here.n.message)) s.sections x s.are x_there in
-      let d_told = whole_told (verdict_on b.hold o.x o.earlier) s.is_here.e o.x (standing_before b.hold o.x o.earlier) d.0 v (subst (λ (xs : List UserSection). IsIn d.0 xs) (sym (s.is s.is_here.e refl)) d.1) in
+      let d_told = whole_told Ru (verdict_on b.hold o.x o.earlier) s.is_here.e o.x (standing_before b.hold o.x o.earlier) d.0 v (subst (λ (xs : List UserSection). IsIn d.0 xs) (sym (s.is s.is_here.e refl)) d.1) in
       (d.0, told_there c text (sent c ps) b.hold endpoint_at arrivals h.came o.later o.earlier o.x s.is_here.e d.0 s.is_here.at o.is d_told, timely_section o.x o.earlier s x d.0 in_message d.2 d.3 d.4)
     where
       some_same : (m n : Numbered Part) → Some m ≡ Some n → m ≡ n

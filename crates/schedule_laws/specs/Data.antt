@@ -14,7 +14,7 @@ use Rattle.unit_laws.specs.window_config.specs.declared.verdicts.Class.TheVarian
 use Rattle.unit_laws.specs.unit_model.specs.Blocks.{block_at, data_class, data_slot}
 use Rattle.unit_laws.specs.unit_model.specs.Claims.{cell_at, covers, first_prb, is_from, prb_count}
 use Rattle.unit_laws.specs.unit_model.specs.Decoding.{Sections, decode}
-use Rattle.unit_laws.specs.unit_model.specs.Lists.{joined, onto}
+use Rattle.unit_laws.specs.unit_model.specs.Lists.{onto}
 use Rattle.unit_laws.specs.unit_model.specs.Meetings.{Arrival, fragments}
 use Rattle.unit_laws.specs.unit_model.specs.Proper.{IsAt}
 use Rattle.unit_laws.specs.unit_model.specs.Reports.{data_of, met, timely_of}
@@ -28,6 +28,7 @@ use Rattle.plan_model.specs.declared.lines.PlannedLine.{PlannedLine}
 use Rattle.plan_model.specs.declared.streams.Stream.TheVariants.{DownData}
 use Rattle.schedule_laws.specs.Flows.{bounds_of, flow_of}
 use Rattle.schedule_laws.specs.Premise.{AllArrive, Texts}
+use Rattle.ecpri_fragments.specs.Pieces.{joined}
 
 -- the samples of each cell as they are read back: the source's block, shrunk by the endpoint's compression
 abbrev pub Blocks : Type 0

@@ -1,6 +1,6 @@
 -- What a frame more, and a frame less, make of a queue, for callers.
 use Rattle.std.proofs.Common.{◌≡◌, ◌≢◌, ℕ, ℤ, pos, zero, suc, ◌+◌, ◌<◌, ◌≤◌, ◌+ℤ◌, ◌≤ℤ◌, ◌<ℤ◌, inl, inr, Bool, true, false, ◌&&◌, ◌||◌, ◌==◌, if◌then◌else◌, List, [], ◌∷◌, ◌++◌, length, Option, Some, None, int_lt, ◌-ℤ◌, IfSome, refl, ap, ap₂, sym, ◌∙◌, subst, arith, append-nil, append_assoc}
-use Rattle.std.specs.Prelude.{filter, nat_lt}
+use Rattle.std.specs.Prelude.{nat_lt}
 use Rattle.std.specs.List.{AllByRecursion}
 use Rattle.std.specs.Ordering.{int_eq}
 use Rattle.std.proofs.lemmas.Bool.{and_parts, cases_eq, eq-eqb, eqb-true, ne_eqb, le-ltb}
@@ -8,13 +8,13 @@ use Rattle.std.proofs.lemmas.Bool.Decides.{Decides-int_eq, nat_tests}
 use Rattle.std.proofs.lemmas.Int.{ints}
 use Rattle.std.proofs.lemmas.List.Elements.{All-from_recursion, All-head, All-nil, All-tail, filter-append, recursion_from_All}
 use Rattle.std.specs.Int.Signed.{<ℤ-≤ℤ_trans}
-use Rattle.fh_time.proofs.Orders.{at_most, before_it, beyond_next, weak}
+use Rattle.fh_time.proofs.Orders.{at_most, before_it, beyond_next, weak, not_eq}
 use Rattle.air_source.specs.declared.links.LinkFrame.{LinkFrame}
 use Rattle.fh_time.specs.declared.values.Ticks.{Ticks}
 use Rattle.uplink_model.specs.unit_model.specs.Lists.{each}
 use Rattle.uplink_model.specs.unit_model.proofs.SweepLaws.{each_none, each_same}
-use Rattle.uplink_model.specs.plan_model.proofs.ListLemmas.{all_map}
-use Rattle.uplink_model.specs.plan_model.proofs.TickLemmas.{int_apart, next_tick}
+use Rattle.uplink_model.specs.plan_model.proofs.ListLemmas.{all_map, all_join, filter_has, all_unit}
+use Rattle.uplink_model.specs.plan_model.proofs.TickLemmas.{next_tick}
 use Rattle.uplink_model.specs.Sent.{leaves_at, leaving_at, frames_leaving}
 use Rattle.uplink_model.specs.SentLaws.{AreOf}
 use Rattle.send_queue.specs.Queues.{AllHaveLeft, LeaveFrom, AreQueuedInTurn, Gives, HasLeft, IsNextTime, IsSilentTo, Leaves, Took, WaitsFor, all_queued, first_time, leaves_after, queued, waiting_at}
@@ -41,22 +41,6 @@ not_after : (a b c : ℤ) (x y z : ℕ) → after b y a x ≡ true → after b y
 not_after a b c x y z h k = not_both a c x z (after_chain a b c x y z h k)
 
 -- ---- one frame more, where it stands
-
-all_join : (P : LinkFrame → Type 0) (xs ys : List LinkFrame) → AllByRecursion P xs → AllByRecursion P ys → AllByRecursion P (xs ++ ys)
-all_join P [] ys p q = q
-all_join P (x ∷ xs) ys p q = (p.0, all_join P xs ys p.1 q)
-
-all_kept : (P Q : LinkFrame → Type 0) (t : LinkFrame → Bool) → ((x : LinkFrame) → P x → t x ≡ true → Q x) → (xs : List LinkFrame) → AllByRecursion P xs → AllByRecursion Q (filter t xs)
-all_kept P Q t f [] h = tt
-all_kept P Q t f (x ∷ xs) h = go (t x) refl (all_kept P Q t f xs h.1)
-  where
-    go : (b : Bool) → t x ≡ b → AllByRecursion Q (filter t xs) → AllByRecursion Q (let ys : List LinkFrame = if b then x ∷ filter t xs else filter t xs in ys)
-    go true e r = (f x h.0 e, r)
-    go false e r = r
-
-all_unit : (xs : List LinkFrame) → AllByRecursion (λ x. Unit {0}) xs
-all_unit [] = tt
-all_unit (x ∷ xs) = (tt, all_unit xs)
 
 -- what holds of it and of all that wait holds of all
 all_queued_one : (P : LinkFrame → Type 0) (f : LinkFrame) (q : List LinkFrame) → P f → AllByRecursion P q → AllByRecursion P (queued f q)
@@ -122,7 +106,7 @@ waiting_one t f (g ∷ gs) own order = go (leaves_after g f) refl (waiting_one t
         → waiting_at t (let ys : List LinkFrame = if b then f ∷ g ∷ gs else g ∷ queued f gs in ys) ≡ queued f (waiting_at t (g ∷ gs))
     go true e rest =
         rw own (sym (queued_first f (waiting_at t (g ∷ gs))
-        (all_kept (λ h. leaves_after h f ≡ true) (λ h. leaves_after h f ≡ true) (leaves_at t) (λ h k own. k) (g ∷ gs) (e, later_behind f g gs e order.0))))
+        (filter_has (λ h. leaves_after h f ≡ true) (λ h. leaves_after h f ≡ true) (leaves_at t) (λ h k own. k) (g ∷ gs) (e, later_behind f g gs e order.0))))
     go false e rest = ap (kept (leaves_at t g) g) rest ∙ among (leaves_at t g) e
 
 -- ---- one frame more that was handed over
@@ -166,7 +150,7 @@ leaving_other n frames f t other =
 -- those of an endpoint leave after the frame where the endpoint's number is greater
 by_endpoint : (frames : List LinkFrame) (f : LinkFrame) (t : ℤ) (ep : ℕ) → leaves_at t f ≡ true → AllByRecursion (λ g. leaves_after g f ≡ nat_lt f.ep ep) (frames_leaving frames t ep)
 by_endpoint frames f t ep own =
-    all_kept (λ (g : LinkFrame). Unit {0}) (λ g. leaves_after g f ≡ nat_lt f.ep ep) (λ g. leaves_at t g && (g.ep == ep)) (λ g u e.
+    filter_has (λ (g : LinkFrame). Unit {0}) (λ g. leaves_after g f ≡ nat_lt f.ep ep) (λ g. leaves_at t g && (g.ep == ep)) (λ g u e.
     (let w = and_parts (leaves_at t g) (g.ep == ep) e in
     let one = (Decides-int_eq g.at.0 t).0 w.0 in
     let two = (Decides-int_eq f.at.0 t).0 own in
@@ -301,7 +285,7 @@ first_own t f q own = let e = (Decides-int_eq f.at.0 t).1 own in rw e refl
 
 -- and at another
 first_other : (t : ℤ) (f : LinkFrame) (q : List LinkFrame) → (f.at.0 ≡ t → ⊥) → waiting_at t (f ∷ q) ≡ waiting_at t q
-first_other t f q other = let e = int_apart f.at.0 t other in rw e refl
+first_other t f q other = let e = not_eq f.at.0 t other in rw e refl
 
 none_waits : (t : ℤ) (q : List LinkFrame) → LeaveFrom (t +ℤ pos 1) q → waiting_at t q ≡ []
 none_waits t [] from = refl

@@ -39,6 +39,7 @@ use Rattle.sent_frames.specs.Messages.{Source, data_head, data_section, message_
 use Rattle.fh_time.specs.declared.symbols.TheConstants.{SLOT_SYMBOLS}
 use Rattle.frame_bytes.specs.Headers.{carrier_of}
 use Rattle.schedule_laws.specs.unit_model.proofs.ClaimLemmas.{same_slot_is as slots_equal}
+use Rattle.ecpri_fragments.specs.declared.place.TheConstants.{MESSAGE_BYTES}
 
 -- a part of a message of an endpoint
 pub record IsGoodPart (c : Config) (ep : ℕ) (e : EndpointConfig) (x : Part) : Type 0 where
@@ -84,7 +85,7 @@ module _ (c : Config) (lines : List PlanLine) (config : IsConfig c) (fit : All I
         symbol = λ x i. eqb-true n.message.first.symbol x.symbol (one x i).1;
       }
 
-  pub message_short : (ep : ℕ) (e : EndpointConfig) (n : Numbered Part) → IsAt c.endpoints ep e → IsIn n (messages_of c ps DownData ep e) → size_of part_fields n.message ≤ 16384
+  pub message_short : (ep : ℕ) (e : EndpointConfig) (n : Numbered Part) → IsAt c.endpoints ep e → IsIn n (messages_of c ps DownData ep e) → size_of part_fields n.message ≤ MESSAGE_BYTES
   message_short ep e n at m =
       all_short part_fields c.pack (parts_in ps DownData ep e) n.message
       (λ x i. section_short c.endpoints x (line_good c lines config fit valid x.planned (part_is ps DownData tt ep e x i).from))
@@ -133,7 +134,7 @@ below_four n h = omega (arith, h)
 below_six : (n k : ℕ) → n < k → k ≤ SLOT_SYMBOLS → n < 2 ^ 6
 below_six n k h l = omega (arith, h, l)
 
-module _ (c : Config) (ep : ℕ) (e : EndpointConfig) (m : Message Part) (g : IsGoodMessage c ep e m) (short : size_of part_fields m ≤ 16384) where
+module _ (c : Config) (ep : ℕ) (e : EndpointConfig) (m : Message Part) (g : IsGoodMessage c ep e m) (short : size_of part_fields m ≤ MESSAGE_BYTES) where
   one : IsGoodPart c ep e m.first
   one = g.each m.first (inl refl)
 
@@ -156,5 +157,5 @@ module _ (c : Config) (ep : ℕ) (e : EndpointConfig) (m : Message Part) (g : Is
     };
     width = subst (λ (f : EndpointConfig). HasWidth f.format.method) one.endpoint_is one.line.endpoint.width;
     sections = all_map (SectionFits (carrier_of e)) data_section (parts_of m) section_fits;
-    size = subst (λ n. n ≤ 16384) (sym (message_size_is c ep e m g)) short;
+    size = subst (λ n. n ≤ MESSAGE_BYTES) (sym (message_size_is c ep e m g)) short;
   }

@@ -3,12 +3,10 @@ use Rattle.std.specs.Prelude.{ℕ, true, List, map}
 use Rattle.std.specs.List.{slice_index_or}
 use Rattle.bfp_codec.specs.declared.samples.Iq.{Iq}
 use Rattle.uplane_sections.specs.declared.values.UHead.{UHead}
-use Rattle.window_config.specs.declared.endpoints.EndpointConfig.{EndpointConfig}
 use Rattle.schedule_laws.specs.unit_model.specs.Claims.{cell_at}
 use Rattle.schedule_laws.specs.unit_model.specs.declared.cells.Cell.{Cell}
 use Rattle.schedule_laws.specs.plan_model.specs.Packs.{Message, parts_of}
 use Rattle.schedule_laws.specs.plan_model.specs.Streams.{Part}
-use Rattle.frame_bytes.specs.declared.messages.Carrier.{Carrier}
 use Rattle.frame_bytes.specs.declared.messages.DataSection.{DataSection}
 use Rattle.frame_bytes.specs.Messages.{message_of}
 use Rattle.frame_bytes.specs.Headers.{frame_id_of}

@@ -8,7 +8,6 @@ use Rattle.bfp_codec.specs.declared.samples.Iq.{Iq}
 use Rattle.bfp_codec.specs.declared.samples.Wide.{Wide}
 use Rattle.ecpri_fragments.specs.declared.sequence.SeqField.{SeqField}
 use Rattle.window_config.specs.declared.endpoints.EndpointConfig.{EndpointConfig}
-use Rattle.schedule_laws.specs.plan_model.specs.Packs.{frames_for}
 use Rattle.schedule_laws.specs.plan_model.specs.declared.lines.PlannedLine.{PlannedLine}
 use Rattle.frame_bytes.specs.Cuts.{piece_frame}
 use Rattle.frame_bytes.specs.Messages.{message_of, message_size}
@@ -17,6 +16,7 @@ use Rattle.schedule_laws.specs.plan_model.specs.Streams.{part_in}
 use Rattle.sent_frames.specs.Messages.{Source, data_head}
 use Rattle.sent_frames.specs.declared.data.Fragment.{Fragment}
 use Rattle.frame_bytes.specs.Headers.{carrier_of}
+use Rattle.ecpri_fragments.specs.Pieces.{piece_count}
 
 -- the eAxC id of the endpoint with this index
 abbrev pub id_at : List EndpointConfig → ℕ → ℕ
@@ -33,7 +33,7 @@ AreAnswersIn line symbol sections answer blocks =
 
 -- a fragment's sequence field, where the message has so many bytes
 abbrev pub field_of : Fragment → ℕ → SeqField
-field_of f bytes = record { seq = f.seq; last = f.sub + 1 == frames_for f.size bytes; sub = f.sub }
+field_of f bytes = record { seq = f.seq; last = f.sub + 1 == piece_count f.size bytes; sub = f.sub }
 
 -- the frame of a fragment of a message
 abbrev pub fragment_frame : ℕ → Fragment → ℕ → List ℕ → List ℕ

@@ -8,13 +8,17 @@ ghost use Rattle.schedule_laws.specs.air_source.specs.declared.places.RePlace.{R
 ghost use Rattle.uplane_sections.specs.Writes.{HeadFits};
 ghost use Rattle.window_config.specs.Endpoints.{IsEndpoint};
 ghost use Rattle.window_config.specs.Plans.{IsPlanLine};
-ghost use Rattle.schedule_laws.specs.plan_model.specs.Packs.{frames_for};
+ghost use Rattle.ecpri_fragments.specs.Pieces.{piece_count};
 ghost use Rattle.schedule_laws.specs.plan_model.specs.Streams.{part_in};
 ghost use Rattle.frame_bytes.specs.Messages.{MessageFits, message_size};
 ghost use Rattle.sent_frames.specs.Messages.{data_head, data_section};
 ghost use Rattle.sent_frames.specs.Sources.{AreAnswersIn, data_frame, field_of};
 ghost use Rattle.fh_time.specs.declared.symbols.TheConstants.{SLOT_SYMBOLS};
 ghost use Rattle.frame_bytes.specs.Headers.{carrier_of};
+ghost use Rattle.fh_time.specs.declared.carrier.TheConstants.{CARRIER_PRBS};
+ghost use Rattle.window_config.specs.declared.config.TheConstants.{MOST_FRAGMENT};
+ghost use Rattle.window_config.specs.declared.config.TheConstants.{LEAST_FRAGMENT};
+ghost use Rattle.ecpri_fragments.specs.declared.place.TheConstants.{MESSAGE_BYTES};
 
 use crate::commands::frame_id_of;
 use bfp_codec::{Iq, Wide};
@@ -73,10 +77,10 @@ pub fn data_section(p: &PlannedLine) -> DataSection
 
 /// The bytes of a message that a fragment has, where the message has so many.
 fn span_of(fragment: Fragment, bytes: usize) -> Span
-    requires low { 128 ≤ fragment.size }
-    requires high { fragment.size ≤ 9000 }
-    requires bytes { bytes ≤ 16384 }
-    requires sub { fragment.sub < frames_for fragment.size bytes }
+    requires low { LEAST_FRAGMENT ≤ fragment.size }
+    requires high { fragment.size ≤ MOST_FRAGMENT }
+    requires bytes { bytes ≤ MESSAGE_BYTES }
+    requires sub { fragment.sub < piece_count fragment.size bytes }
     ensures from { result.from ≡ fragment.sub * fragment.size }
     ensures to { result.to ≡ min (fragment.sub * fragment.size + fragment.size) bytes }
     ensures order { result.from ≤ result.to }
@@ -92,9 +96,9 @@ fn span_of(fragment: Fragment, bytes: usize) -> Span
 
 /// The sequence field of a fragment.
 fn field_of(fragment: Fragment, bytes: usize) -> SeqField
-    requires low { 128 ≤ fragment.size }
-    requires high { fragment.size ≤ 9000 }
-    requires bytes { bytes ≤ 16384 }
+    requires low { LEAST_FRAGMENT ≤ fragment.size }
+    requires high { fragment.size ≤ MOST_FRAGMENT }
+    requires bytes { bytes ≤ MESSAGE_BYTES }
     ensures { result ≡ field_of fragment bytes }
 {
     SeqField {
@@ -118,12 +122,12 @@ pub fn data_frame<F: Fn(RePlace) -> Wide>(
 ) -> usize
     requires kept { IsKept F.pre F.post samples.now }
     requires symbol { symbol < SLOT_SYMBOLS }
-    requires prbs { p.now.endpoint.prbs ≤ 273 }
+    requires prbs { p.now.endpoint.prbs ≤ CARRIER_PRBS }
     requires fits { MessageFits (carrier_of p.now.endpoint) (data_head (part_in symbol p.now)) sections.now }
     requires few { length sections.now ≤ 64 }
-    requires low { 128 ≤ fragment.size }
-    requires high { fragment.size ≤ 9000 }
-    requires sub { fragment.sub < frames_for fragment.size (message_size (carrier_of p.now.endpoint) sections.now) }
+    requires low { LEAST_FRAGMENT ≤ fragment.size }
+    requires high { fragment.size ≤ MOST_FRAGMENT }
+    requires sub { fragment.sub < piece_count fragment.size (message_size (carrier_of p.now.endpoint) sections.now) }
     requires room { 8 + fragment.size ≤ length into.old }
     ensures size { result ≤ 8 + fragment.size }
     ensures len { length into.new ≡ length into.old }
@@ -140,7 +144,7 @@ pub fn data_frame<F: Fn(RePlace) -> Wide>(
     let source = |_: usize, prb: u16| -> [Iq; 12]
         requires kept { IsKept F.pre F.post samples.now }
         requires symbol { symbol < SLOT_SYMBOLS }
-        requires prb { prb < 273 }
+        requires prb { prb < CARRIER_PRBS }
         ensures { (answer : SpecPlace → SpecWide) → AnswersBy (F.post (closure_of samples.entry.now)) answer
             → result ≡ block_of answer p.entry.now.endpoint.id p.entry.now.line.slot symbol prb }
     { samples.block(p.endpoint.id, p.line.slot, symbol, prb) };

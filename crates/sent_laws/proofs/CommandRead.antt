@@ -14,10 +14,11 @@ use Rattle.ecpri_frames.specs.Messages.{Message, Reading}
 use Rattle.ecpri_frames.proofs.Spelled.{read_spelled}
 use Rattle.fault_counters.specs.declared.kinds.Counter.TheVariants.{CRefused}
 use Rattle.sent_frames.specs.window_config.specs.declared.endpoints.EndpointConfig.{EndpointConfig}
-use Rattle.sent_frames.specs.unit_model.specs.Meetings.{Commands, Ignored, Meeting, Piece, application, command, command_met, command_read, commands_with, find_endpoint, fragment_of, fragment_with, id_of, is_fragmented, meet, met_in, sequence_of}
+use Rattle.sent_frames.specs.unit_model.specs.Meetings.{Commands, Ignored, Meeting, Piece, command, command_met, command_read, commands_with, find_endpoint, fragment_of, fragment_with, meet, met_in}
 use Rattle.sent_frames.specs.frame_bytes.specs.Commands.{whole_seq}
 use Rattle.sent_frames.specs.frame_bytes.specs.Transport.{IsOneMessage, IsTransport, frame_of}
 use Rattle.sent_frames.specs.frame_bytes.proofs.Frames.{frame_is_one}
+use Rattle.ecpri_fragments.specs.Sequence.{id_of, sequence_of, application, is_fragmented}
 
 -- the message of a frame
 abbrev pub message_of : ℕ → ℕ → List ℕ → Message

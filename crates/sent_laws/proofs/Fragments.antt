@@ -1,12 +1,13 @@
 -- The fragments of a message: their sizes, and that joined they are the message.
-use Rattle.std.proofs.Common.{◌≡◌, ℕ, zero, suc, ◌+◌, ◌-◌, ◌*◌, ◌<◌, ◌≤◌, min, List, [], ◌∷◌, ◌++◌, length, refl, ap, sym, ◌∙◌, arith, append-nil, append_assoc, length-append}
+use Rattle.std.proofs.Common.{◌≡◌, ℕ, zero, suc, ◌+◌, ◌-◌, ◌*◌, ◌<◌, ◌≤◌, min, List, ◌++◌, length, refl, ap, sym, ◌∙◌, arith, append-nil, append_assoc, length-append, zero-add}
 use Rattle.sent_frames.specs.fragment_laws.specs.Flow.{size_to}
 use Rattle.sent_frames.specs.fragment_laws.specs.Once.{texts}
-use Rattle.sent_frames.specs.unit_model.specs.Lists.{joined}
 use Rattle.sent_frames.specs.unit_model.proofs.CountLemmas.{no_time}
-use Rattle.sent_frames.specs.frame_bytes.specs.Cuts.{joined_from, piece_at, pieces_of}
+use Rattle.sent_frames.specs.frame_bytes.specs.Cuts.{joined_from, piece_at}
 use Rattle.sent_frames.specs.frame_bytes.proofs.CutBytes.{length_cut}
 use Rattle.sent_frames.specs.frame_bytes.proofs.Joining.{joined_all}
+use Rattle.ecpri_fragments.specs.Pieces.{joined, piece_count}
+use Rattle.ecpri_fragments.proofs.Cuts.{joined_one}
 
 -- ---- sizes
 
@@ -19,10 +20,6 @@ piece_short fragment bytes k =
 
 -- ---- all of them
 
-joined_last : (xss : List (List ℕ)) (ys : List ℕ) → joined (xss ++ ys ∷ []) ≡ joined xss ++ ys
-joined_last [] ys = append-nil ys
-joined_last (xs ∷ xss) ys = ap (λ zs. xs ++ zs) (joined_last xss ys) ∙ sym (append_assoc xs (joined xss) ys)
-
 pub next_place : (k n : ℕ) → (k + 1) + n ≡ k + suc n
 next_place k n = omega arith
 
@@ -33,22 +30,19 @@ from_last fragment bytes k (suc n) =
     ∙ sym (append_assoc (piece_at fragment bytes k) (joined_from fragment bytes (k + 1) n) (piece_at fragment bytes ((k + 1) + n)))
     ∙ ap (λ j. (piece_at fragment bytes k ++ joined_from fragment bytes (k + 1) n) ++ piece_at fragment bytes j) (next_place k n)
 
-from_none : (n : ℕ) → n ≡ 0 + n
-from_none n = omega arith
-
 texts_joined : (fragment : ℕ) (bytes : List ℕ) (n : ℕ) → joined (texts (piece_at fragment bytes) n) ≡ joined_from fragment bytes 0 n
 texts_joined fragment bytes zero = refl
 texts_joined fragment bytes (suc n) =
-    joined_last (texts (piece_at fragment bytes) n) (piece_at fragment bytes n)
+    joined_one (texts (piece_at fragment bytes) n) (piece_at fragment bytes n)
     ∙ ap (λ zs. zs ++ piece_at fragment bytes n) (texts_joined fragment bytes n)
-    ∙ ap (λ j. joined_from fragment bytes 0 n ++ piece_at fragment bytes j) (from_none n)
+    ∙ ap (λ j. joined_from fragment bytes 0 n ++ piece_at fragment bytes j) (sym (zero-add n))
     ∙ sym (from_last fragment bytes 0 n)
 
 -- all fragments joined are the message
-pub fragments_joined : (fragment : ℕ) (bytes : List ℕ) → 0 < fragment → joined (texts (piece_at fragment bytes) (pieces_of fragment (length bytes))) ≡ bytes
-fragments_joined fragment bytes some = texts_joined fragment bytes (pieces_of fragment (length bytes)) ∙ joined_all fragment bytes some
+pub fragments_joined : (fragment : ℕ) (bytes : List ℕ) → 0 < fragment → joined (texts (piece_at fragment bytes) (piece_count fragment (length bytes))) ≡ bytes
+fragments_joined fragment bytes some = texts_joined fragment bytes (piece_count fragment (length bytes)) ∙ joined_all fragment bytes some
 
 pub size_joined : (text : ℕ → List ℕ) (n : ℕ) → size_to text n ≡ length (joined (texts text n))
 size_joined text zero = refl
 size_joined text (suc n) =
-    ap (λ k. k + length (text n)) (size_joined text n) ∙ sym (length-append (joined (texts text n)) (text n)) ∙ ap length (sym (joined_last (texts text n) (text n)))
+    ap (λ k. k + length (text n)) (size_joined text n) ∙ sym (length-append (joined (texts text n)) (text n)) ∙ ap length (sym (joined_one (texts text n) (text n)))

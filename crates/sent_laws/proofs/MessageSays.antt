@@ -40,6 +40,7 @@ use Rattle.sent_frames.proofs.MessageFacts.{IsGoodMessage, IsGoodPart, all_map, 
 use Rattle.sent_frames.specs.frame_bytes.specs.Headers.{frame_id_of}
 use Rattle.sent_frames.specs.frame_bytes.specs.Headers.{carrier_of}
 use Rattle.sent_frames.specs.unit_model.proofs.ClaimLemmas.{starts_before as from_low, from_within as from_high}
+use Rattle.ecpri_fragments.specs.declared.place.TheConstants.{MESSAGE_BYTES}
 
 -- ---- what is told
 
@@ -95,7 +96,7 @@ module _ (blocks : Blocks) (first last : ℤ) (as_data : ReadPart → UserSectio
 
 -- ---- a message of an endpoint
 
-module _ (c : Config) (ep : ℕ) (e : EndpointConfig) (source : Source) (m : Message Part) (g : IsGoodMessage c ep e m) (nums : (x : Part) → IsIn x (parts_of m) → x.planned.line.num_prb < 2 ^ 8) (short : size_of part_fields m ≤ 16384) (can : (slot : Slot) (symbol prb : ℕ) → CanPack e.format.method (source (cell_at ep true slot symbol prb))) where
+module _ (c : Config) (ep : ℕ) (e : EndpointConfig) (source : Source) (m : Message Part) (g : IsGoodMessage c ep e m) (nums : (x : Part) → IsIn x (parts_of m) → x.planned.line.num_prb < 2 ^ 8) (short : size_of part_fields m ≤ MESSAGE_BYTES) (can : (slot : Slot) (symbol prb : ℕ) → CanPack e.format.method (source (cell_at ep true slot symbol prb))) where
   one : IsGoodPart c ep e m.first
   one = g.each m.first (inl refl)
 

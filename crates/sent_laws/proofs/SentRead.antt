@@ -19,7 +19,6 @@ use Rattle.sent_frames.specs.window_config.specs.declared.endpoints.EndpointConf
 use Rattle.sent_frames.specs.window_config.specs.declared.plan.PlanLine.{PlanLine}
 use Rattle.sent_frames.specs.unit_model.specs.Commands.{is_for}
 use Rattle.sent_frames.specs.unit_model.specs.Decoding.{decode}
-use Rattle.sent_frames.specs.unit_model.specs.Lists.{joined}
 use Rattle.sent_frames.specs.unit_model.specs.Meetings.{Piece, command, met_in}
 use Rattle.sent_frames.specs.unit_model.specs.Proper.{IsAt}
 use Rattle.sent_frames.specs.plan_model.specs.Lines.{planned}
@@ -31,7 +30,7 @@ use Rattle.sent_frames.specs.plan_model.specs.declared.streams.Stream.{Stream}
 use Rattle.sent_frames.specs.plan_model.specs.declared.streams.Stream.TheVariants.{DownCommands, UpCommands, DownData, UpData}
 use Rattle.sent_frames.specs.plan_model.proofs.SizeLemmas.{few_pieces}
 use Rattle.sent_frames.specs.frame_bytes.specs.Commands.{command_of, head_fields, section_fields}
-use Rattle.sent_frames.specs.frame_bytes.specs.Cuts.{piece_at, pieces_of}
+use Rattle.sent_frames.specs.frame_bytes.specs.Cuts.{piece_at}
 use Rattle.sent_frames.specs.frame_bytes.specs.Spelled.{in_bytes}
 use Rattle.sent_frames.specs.frame_bytes.proofs.CommandBack.{command_back}
 use Rattle.sent_frames.specs.frame_bytes.proofs.CommandFields.{head_width, section_width}
@@ -54,6 +53,8 @@ use Rattle.sent_laws.proofs.Fragments.{fragments_joined, piece_short, size_joine
 use Rattle.sent_laws.proofs.LineFields.{body_idle, body_is_for, frame_id_is, line_admitted, line_command}
 use Rattle.sent_laws.proofs.MessageSays.{are_sections, is_decoded, sections_read}
 use Rattle.sent_frames.proofs.MessageFacts.{IsGoodPart, good_message, good_part, got_message, length_bytes, message_short}
+use Rattle.ecpri_fragments.specs.Pieces.{joined, piece_count}
+use Rattle.sent_frames.specs.window_config.specs.declared.config.TheConstants.{MOST_FRAGMENT, LEAST_FRAGMENT}
 
 -- ---- sizes
 
@@ -82,10 +83,10 @@ command_short h s =
     (length-in_bytes (size_of_section (kind_of h.body)) (section_fields (kind_of h.body) s) (section_width (kind_of h.body) s))
     (head_short (kind_of h.body)) (section_short (kind_of h.body))
 
-pub in_size : (n f : ℕ) → n ≤ f → f ≤ 9000 → 4 + n < 2 ^ 16
+pub in_size : (n f : ℕ) → n ≤ f → f ≤ MOST_FRAGMENT → 4 + n < 2 ^ 16
 in_size n f h k = omega (arith, h, k)
 
-pub some_bytes : (f : ℕ) → 128 ≤ f → 0 < f
+pub some_bytes : (f : ℕ) → LEAST_FRAGMENT ≤ f → 0 < f
 some_bytes f h = omega (arith, h)
 
 pub low_byte : (n : ℕ) → n % 256 < 2 ^ 8
@@ -199,10 +200,10 @@ module _ (c : Config) (lines : List PlanLine) (source : Source) (s : IsSendable 
   bytes_of n = message_bytes source n.message
 
   as_pieces : (ep : ℕ) (e : EndpointConfig) (n : Numbered Part) → IsAt c.endpoints ep e → IsIn n (messages_of c ps DownData ep e)
-      → texts (texts_of c ps source ep n.number) (frames_in c DownData n.message) ≡ texts (piece_at c.fragment (bytes_of n)) (pieces_of c.fragment (length (bytes_of n)))
+      → texts (texts_of c ps source ep n.number) (frames_in c DownData n.message) ≡ texts (piece_at c.fragment (bytes_of n)) (piece_count c.fragment (length (bytes_of n)))
   as_pieces ep e n at m =
       ap (λ (o : Option (Numbered Part)). texts (λ sub. option_map_or (λ k. piece_at c.fragment (message_bytes source k.message) sub) o []) (frames_in c DownData n.message)) (got_message c lines s.config s.lines_fit s.valid ep e n at m)
-      ∙ ap (λ size. texts (piece_at c.fragment (bytes_of n)) (pieces_of c.fragment size)) (sym (length_bytes c ep e source n.message (good_message c lines s.config s.lines_fit s.valid ep e n at m)))
+      ∙ ap (λ size. texts (piece_at c.fragment (bytes_of n)) (piece_count c.fragment size)) (sym (length_bytes c ep e source n.message (good_message c lines s.config s.lines_fit s.valid ep e n at m)))
 
   all_joined : (ep : ℕ) (e : EndpointConfig) (n : Numbered Part) → IsAt c.endpoints ep e → IsIn n (messages_of c ps DownData ep e)
       → joined (texts (texts_of c ps source ep n.number) (frames_in c DownData n.message)) ≡ bytes_of n

@@ -1,5 +1,5 @@
 -- The frames of one time stand in their order.
-use Rattle.std.proofs.Common.{◌≡◌, ℕ, ℤ, pos, zero, suc, ◌+◌, ◌<◌, ◌≤◌, ◌+ℤ◌, ◌≤ℤ◌, ◌<ℤ◌, ◌⊎◌, inl, inr, Bool, true, false, if◌then◌else◌, List, [], ◌∷◌, ◌++◌, map, length, refl, ap, sym, ◌∙◌, subst, arith}
+use Rattle.std.proofs.Common.{◌≡◌, ℕ, ℤ, pos, zero, suc, ◌+◌, ◌<◌, ◌≤◌, ◌+ℤ◌, ◌≤ℤ◌, ◌<ℤ◌, ◌⊎◌, inl, inr, false, List, [], ◌∷◌, ◌++◌, map, length, refl, ap, sym, ◌∙◌, subst, arith}
 use Rattle.std.specs.Prelude.{filter}
 use Rattle.std.specs.List.{AllByRecursion}
 use Rattle.std.specs.Ordering.{int_eq, int_cmp, nat_cmp, ordering_then, is_gt}
@@ -10,40 +10,22 @@ use Rattle.std.proofs.lemmas.Int.{ints}
 use Rattle.fragment_laws.specs.Apart.{IsIn}
 use Rattle.window_config.specs.declared.config.Config.{Config}
 use Rattle.window_config.specs.declared.endpoints.EndpointConfig.{EndpointConfig}
-use Rattle.schedule_laws.specs.unit_model.specs.Lists.{each, each_tick, joined}
+use Rattle.schedule_laws.specs.unit_model.specs.Lists.{each, each_tick}
 use Rattle.schedule_laws.specs.plan_model.specs.Packs.{Message, Numbered, PartFields, numbered_behind, packs}
 use Rattle.schedule_laws.specs.plan_model.specs.Sent.{SentFrame, endpoint_frames, frame_of, frames_from, message_frames, stream_frames}
 use Rattle.schedule_laws.specs.plan_model.specs.Streams.{Part, frames_in, messages_of, most_parts, part_fields, parts_in}
 use Rattle.schedule_laws.specs.plan_model.specs.declared.lines.PlannedLine.{PlannedLine}
 use Rattle.schedule_laws.specs.plan_model.specs.declared.streams.Stream.{Stream}
 use Rattle.schedule_laws.specs.plan_model.specs.declared.streams.Stream.TheVariants.{DownCommands, UpCommands, DownData}
-use Rattle.schedule_laws.specs.plan_model.proofs.ListLemmas.{in_either, of_filter}
+use Rattle.schedule_laws.specs.plan_model.proofs.ListLemmas.{in_either, of_filter, InOrder, order_join, order_filter}
 use Rattle.schedule_laws.specs.plan_model.proofs.TickLemmas.{nat_same, int_same}
 use Rattle.frame_order.specs.Turns.{AreRising, IsUpTo}
 use Rattle.schedule_laws.proofs.ListLemmas.{of_each, of_joined, of_map}
 use Rattle.sent_order.specs.Runs.{stream_place, turn_of}
 use Rattle.fh_time.proofs.Orders.{nat_up, nat_less, int_less}
+use Rattle.schedule_laws.specs.unit_model.specs.Terms.{joined}
 
 -- ---- lists in which each stands so to all behind it
-
-abbrev pub AreKept : {X : Type 0} → (X → X → Type 0) → List X → Type 0
-AreKept R [] = Unit {0}
-AreKept R (x ∷ xs) = ((y : _) → IsIn y xs → R x y) × AreKept R xs
-
-pub kept_append : {X : Type 0} (R : X → X → Type 0) (xs ys : List X) → AreKept R xs → AreKept R ys → ((x y : X) → IsIn x xs → IsIn y ys → R x y) → AreKept R (xs ++ ys)
-kept_append R [] ys h k both = k
-kept_append R (x ∷ xs) ys h k both = (
-  λ y m. elim (in_either y xs ys m) [ inl l ↦ h.0 y l | inr r ↦ both x y (inl refl) r ],
-  kept_append R xs ys h.1 k (λ z y m n. both z y (inr m) n),
-)
-
-pub kept_filter : {X : Type 0} (R : X → X → Type 0) (p : X → Bool) (xs : List X) → AreKept R xs → AreKept R (filter p xs)
-kept_filter R p [] h = tt
-kept_filter {X = X} R p (x ∷ xs) h = go (p x) (kept_filter R p xs h.1)
-  where
-    go : (b : Bool) → AreKept R (filter p xs) → AreKept R (let zs : List X = if b then x ∷ filter p xs else filter p xs in zs)
-    go true k = (λ y m. h.0 y (of_filter p y xs m).0, k)
-    go false k = k
 
 -- ---- which of two frames comes first
 
@@ -95,7 +77,7 @@ of_message c stream ep e n f m =
     (k.0, (let h = k.2 in omega (arith, h)), elim k.3 [ inl x ↦ x | inr t ↦ absurd t ])
 
 subs_kept : (c : Config) (stream : Stream) (ep : ℕ) (e : EndpointConfig) (n : Numbered Part) (from count : ℕ)
-    → AreKept IsBehind (each from count (λ sub. frame_of c stream ep e n sub ∷ []))
+    → InOrder IsBehind (each from count (λ sub. frame_of c stream ep e n sub ∷ []))
 unfolding each
 subs_kept c stream ep e n from zero = tt
 subs_kept c stream ep e n from (suc count) = (
@@ -140,10 +122,10 @@ module _ (c : Config) (ps : List PlannedLine) where
       let n = of_map (message_frames c stream ep e) w.0 ns w.1 in
       (n.0, n.1, subst (λ (xs : List SentFrame). IsIn f xs) n.2 w.2)
 
-  messages_kept : (stream : Stream) (ep : ℕ) (e : EndpointConfig) (k : ℕ) (ns : List (Numbered Part)) → AreNumbered k ns → AreKept IsBehind (joined (map (message_frames c stream ep e) ns))
+  messages_kept : (stream : Stream) (ep : ℕ) (e : EndpointConfig) (k : ℕ) (ns : List (Numbered Part)) → AreNumbered k ns → InOrder IsBehind (joined (map (message_frames c stream ep e) ns))
   messages_kept stream ep e k [] h = tt
   messages_kept stream ep e k (n ∷ ns) h =
-      kept_append IsBehind (message_frames c stream ep e n) (joined (map (message_frames c stream ep e) ns)) (subs_kept c stream ep e n 0 (frames_in c stream n.message))
+      order_join IsBehind (message_frames c stream ep e n) (joined (map (message_frames c stream ep e) ns)) (subs_kept c stream ep e n 0 (frames_in c stream n.message))
       (messages_kept stream ep e (k + 1) ns h.1) (λ f g m i.
       (let x = of_message c stream ep e n f m in
       let w = of_messages stream ep e ns g i in
@@ -153,7 +135,7 @@ module _ (c : Config) (ps : List PlannedLine) where
       let less : n.number < w.0.number = omega (arith, low, here) in
       subst (λ (z : SentFrame). IsBehind z g) (sym x.2) (subst (IsBehind (frame_of c stream ep e n x.0)) (sym y.2) (inr (refl, inr (refl, inl less))))))
 
-  stream_kept : (stream : Stream) (ep : ℕ) (e : EndpointConfig) → AreKept IsBehind (stream_frames c ps stream ep e)
+  stream_kept : (stream : Stream) (ep : ℕ) (e : EndpointConfig) → InOrder IsBehind (stream_frames c ps stream ep e)
   stream_kept stream ep e = messages_kept stream ep e 0 (messages_of c ps stream ep e) (are_numbered c ps stream ep e)
 
   of_stream : (stream : Stream) (ep : ℕ) (e : EndpointConfig) (f : SentFrame) → IsIn f (stream_frames c ps stream ep e) → IsOfStream stream ep f
@@ -166,13 +148,13 @@ module _ (c : Config) (ps : List PlannedLine) where
   streams_behind a b ep f g h x y =
       inr (x.ep_is ∙ sym y.ep_is, inl (subst (λ (s : Stream). stream_place s < stream_place g.stream) (sym x.stream_is) (subst (λ (s : Stream). stream_place a < stream_place s) (sym y.stream_is) h)))
 
-  endpoint_kept : (ep : ℕ) (e : EndpointConfig) → AreKept IsBehind (endpoint_frames c ps ep e)
+  endpoint_kept : (ep : ℕ) (e : EndpointConfig) → InOrder IsBehind (endpoint_frames c ps ep e)
   endpoint_kept ep e =
       let down = stream_frames c ps DownCommands ep e in
       let up = stream_frames c ps UpCommands ep e in
       let data_ = stream_frames c ps DownData ep e in
-      kept_append IsBehind down (up ++ data_) (stream_kept DownCommands ep e)
-      (kept_append IsBehind up data_ (stream_kept UpCommands ep e) (stream_kept DownData ep e) (λ f g m n.
+      order_join IsBehind down (up ++ data_) (stream_kept DownCommands ep e)
+      (order_join IsBehind up data_ (stream_kept UpCommands ep e) (stream_kept DownData ep e) (λ f g m n.
       streams_behind UpCommands DownData ep f g (omega arith) (of_stream UpCommands ep e f m) (of_stream DownData ep e g n)))
       (λ f g m n. elim (in_either g up data_ n) [
         | inl l ↦ streams_behind DownCommands UpCommands ep f g (omega arith) (of_stream DownCommands ep e f m) (of_stream UpCommands ep e g l)
@@ -196,11 +178,11 @@ module _ (c : Config) (ps : List PlannedLine) where
     | inr r ↦ (let x = ep_from (ep + 1) es f r in omega (arith, x))
   ]
 
-  pub frames_kept : (ep : ℕ) (es : List EndpointConfig) → AreKept IsBehind (frames_from c ps ep es)
+  pub frames_kept : (ep : ℕ) (es : List EndpointConfig) → InOrder IsBehind (frames_from c ps ep es)
   unfolding frames_from
   frames_kept ep [] = tt
   frames_kept ep (e ∷ es) =
-      kept_append IsBehind (endpoint_frames c ps ep e) (frames_from c ps (ep + 1) es) (endpoint_kept ep e) (frames_kept (ep + 1) es) (λ f g m n.
+      order_join IsBehind (endpoint_frames c ps ep e) (frames_from c ps (ep + 1) es) (endpoint_kept ep e) (frames_kept (ep + 1) es) (λ f g m n.
       (let x = ep_of ep e f m in let y = ep_from (ep + 1) es g n in inl (omega (arith, x, y))))
 
 -- ---- tick by tick
@@ -214,7 +196,7 @@ at_time xs t = filter (λ (f : SentFrame). int_eq f.at t) xs
 pub time_is : (xs : List SentFrame) (t : ℤ) (f : SentFrame) → IsIn f (at_time xs t) → f.at ≡ t
 time_is xs t f m = (Decides-int_eq f.at t).0 (of_filter (λ (g : SentFrame). int_eq g.at t) f xs m).1
 
-kept_at : (t : ℤ) (xs : List SentFrame) → AreKept IsBehind xs → ((f : SentFrame) → IsIn f xs → f.at ≡ t) → AreKept IsNotAfter xs
+kept_at : (t : ℤ) (xs : List SentFrame) → InOrder IsBehind xs → ((f : SentFrame) → IsIn f xs → f.at ≡ t) → InOrder IsNotAfter xs
 kept_at t [] h at = tt
 kept_at t (f ∷ xs) h at = (
   λ g m. up_behind f g (at f (inl refl) ∙ sym (at g (inr m))) (h.0 g m),
@@ -229,12 +211,12 @@ later_than xs from (suc n) f m = elim (in_either f (at_time xs from) (each_tick 
   | inr r ↦ (let h = later_than xs (from +ℤ pos 1) n f r in omega (arith, ints, h))
 ]
 
-pub ticks_kept : (xs : List SentFrame) (from : ℤ) (count : ℕ) → AreKept IsBehind xs → AreKept IsNotAfter (each_tick from count (at_time xs))
+pub ticks_kept : (xs : List SentFrame) (from : ℤ) (count : ℕ) → InOrder IsBehind xs → InOrder IsNotAfter (each_tick from count (at_time xs))
 unfolding each_tick
 ticks_kept xs from zero h = tt
 ticks_kept xs from (suc n) h =
-    kept_append IsNotAfter (at_time xs from) (each_tick (from +ℤ pos 1) n (at_time xs))
-    (kept_at from (at_time xs from) (kept_filter IsBehind (λ (f : SentFrame). int_eq f.at from) xs h) (time_is xs from)) (ticks_kept xs (from +ℤ pos 1) n h) (λ f g m i.
+    order_join IsNotAfter (at_time xs from) (each_tick (from +ℤ pos 1) n (at_time xs))
+    (kept_at from (at_time xs from) (order_filter IsBehind (λ (f : SentFrame). int_eq f.at from) xs h) (time_is xs from)) (ticks_kept xs (from +ℤ pos 1) n h) (λ f g m i.
     (let x = time_is xs from f m in
     let y = later_than xs (from +ℤ pos 1) n g i in
     up_later f g (omega (arith, ints, x, y))))
@@ -243,6 +225,6 @@ all_up : (f : SentFrame) (xs : List SentFrame) → ((g : SentFrame) → IsIn g x
 all_up f [] h = tt
 all_up f (g ∷ xs) h = (h g (inl refl), all_up f xs (λ y m. h y (inr m)))
 
-pub rising_of : (xs : List SentFrame) → AreKept IsNotAfter xs → AreRising (map turn_of xs)
+pub rising_of : (xs : List SentFrame) → InOrder IsNotAfter xs → AreRising (map turn_of xs)
 rising_of [] h = tt
 rising_of (f ∷ xs) h = (all_up f xs h.0, rising_of xs h.1)

@@ -15,7 +15,7 @@ use Rattle.schedule_laws.specs.unit_model.specs.Proper.{IsAt}
 use Rattle.schedule_laws.specs.unit_model.proofs.SweepLaws.{gap_is}
 use Rattle.schedule_laws.specs.plan_model.specs.Departures.{departures_of, sending_window, start_of_part, width_of}
 use Rattle.schedule_laws.specs.plan_model.specs.Lines.{planned}
-use Rattle.schedule_laws.specs.plan_model.specs.Packs.{Numbered, frames_for, packs, size_of}
+use Rattle.schedule_laws.specs.plan_model.specs.Packs.{Numbered, packs, size_of}
 use Rattle.schedule_laws.specs.plan_model.specs.Streams.{Part, frames_in, messages_of, part_fields, parts_in}
 use Rattle.schedule_laws.specs.plan_model.specs.Valid.{IsValid}
 use Rattle.schedule_laws.specs.plan_model.specs.declared.lines.PlannedLine.{PlannedLine}
@@ -31,8 +31,10 @@ use Rattle.schedule_laws.proofs.SentLemmas.{IsSentStream, message_part, part_is}
 use Rattle.sent_order.specs.Runs.{MessagesAreRuns, endpoint_runs, latest, run_of, runs_from, stream_runs}
 use Rattle.sent_order.proofs.BoundLemmas.{most_before, part_time}
 use Rattle.window_config.proofs.TickLemmas.{in_ticks}
+use Rattle.schedule_laws.specs.unit_model.specs.Terms.{piece_count, MESSAGE_BYTES}
+use Rattle.window_config.specs.declared.config.TheConstants.{LEAST_FRAGMENT}
 
-few_frames : (fragment size : ℕ) → 128 ≤ fragment → size ≤ 16384 → frames_for fragment size ≤ 128
+few_frames : (fragment size : ℕ) → LEAST_FRAGMENT ≤ fragment → size ≤ MESSAGE_BYTES → piece_count fragment size ≤ 128
 few_frames fragment size h k =
     let under : size + (fragment - 1) < 129 * fragment = omega (arith, h, k) in
     let some : 0 < fragment = omega (arith, h) in
@@ -53,7 +55,7 @@ module _ (c : Config) (lines : List PlanLine) (config : IsConfig c) (fit : All I
   abbrev ps : List PlannedLine
   ps = planned c.endpoints lines
 
-  data_short : (ep : ℕ) (e : EndpointConfig) (n : Numbered Part) → IsIn n (messages_of c ps DownData ep e) → size_of part_fields n.message ≤ 16384
+  data_short : (ep : ℕ) (e : EndpointConfig) (n : Numbered Part) → IsIn n (messages_of c ps DownData ep e) → size_of part_fields n.message ≤ MESSAGE_BYTES
   unfolding messages_of
   data_short ep e n m =
       let parts = parts_in ps DownData ep e in
@@ -69,7 +71,7 @@ module _ (c : Config) (lines : List PlanLine) (config : IsConfig c) (fit : All I
   few : (stream : Stream) → IsSentStream stream → (ep : ℕ) (e : EndpointConfig) (n : Numbered Part) → IsIn n (messages_of c ps stream ep e) → 0 + frames_in c stream n.message ≤ 128
   few DownCommands s ep e n m = omega arith
   few UpCommands s ep e n m = omega arith
-  few DownData s ep e n m = from_none (frames_for c.fragment (size_of part_fields n.message)) (few_frames c.fragment (size_of part_fields n.message) config.fragment_low (data_short ep e n m))
+  few DownData s ep e n m = from_none (piece_count c.fragment (size_of part_fields n.message)) (few_frames c.fragment (size_of part_fields n.message) config.fragment_low (data_short ep e n m))
   few UpData s ep e n m = absurd s
 
   latest_is : (stream : Stream) → IsSentStream stream → (n : Numbered Part)

@@ -7,7 +7,6 @@ use Rattle.window_config.specs.Windows.{ticks_of_ns}
 use Rattle.window_config.specs.declared.config.Config.{Config}
 use Rattle.window_config.specs.declared.endpoints.EndpointConfig.{EndpointConfig}
 use Rattle.window_config.specs.declared.plan.PlanLine.{PlanLine}
-use Rattle.schedule_laws.specs.unit_model.specs.Lists.{joined}
 use Rattle.schedule_laws.specs.plan_model.specs.Departures.{departures_of, sent_at, start_of_part}
 use Rattle.schedule_laws.specs.plan_model.specs.Lines.{planned}
 use Rattle.schedule_laws.specs.plan_model.specs.Packs.{Numbered}
@@ -20,6 +19,7 @@ use Rattle.schedule_laws.specs.plan_model.specs.declared.streams.Stream.TheVaria
 use Rattle.frame_order.specs.Turns.{AreRising, IsRun, rest_of, times}
 use Rattle.frame_order.specs.declared.turns.Run.{Run}
 use Rattle.frame_order.specs.declared.turns.Turn.{Turn}
+use Rattle.schedule_laws.specs.unit_model.specs.Terms.{joined}
 
 -- the place of a stream among those of its endpoint
 abbrev pub stream_place : Stream → ℕ

@@ -24,6 +24,7 @@ use Rattle.slot_rings.proofs.RingLemmas.{index_within, put, symbols_are}
 use Rattle.fh_time.specs.declared.symbols.TheConstants.{SLOT_SYMBOLS}
 use Rattle.unit_model.proofs.ClaimLemmas.{some_same, some_not as some_at}
 use Rattle.fh_time.proofs.Orders.{both_ways as unequal}
+use Rattle.fh_time.specs.declared.carrier.TheConstants.{CARRIER_PRBS}
 
 -- ---- cells in use
 
@@ -261,7 +262,7 @@ no_flags r v flags ep slot s same ring flagged none within =
 
 -- ---- a ring of places that are no slot's
 
-pub fresh_ring : (r : RingValue) (slots : ℕ) → length r.places ≡ slots → 1 ≤ slots → slots < 1024 → 1 ≤ r.endpoint.prbs → r.endpoint.prbs ≤ 273
+pub fresh_ring : (r : RingValue) (slots : ℕ) → length r.places ≡ slots → 1 ≤ slots → slots < 1024 → 1 ≤ r.endpoint.prbs → r.endpoint.prbs ≤ CARRIER_PRBS
     → ((i : ℕ) → (get_or r.places i blank).slot ≡ None) → ((i : ℕ) → i < length r.places → (get_or r.places i blank).prbs ≡ r.endpoint.prbs) → IsRing r
 fresh_ring r slots len one few prbs_some prbs_few none prbs = record {
   some = omega (arith, len, one);

@@ -10,6 +10,7 @@ use Rattle.unit_model.specs.declared.cells.Block.{Block}
 use Rattle.unit_model.specs.declared.cells.Cell.{Cell}
 use Rattle.unit_model.specs.declared.cells.Claim.{Claim}
 use Rattle.slot_rings.specs.Places.{PlaceValue, blank, is_place_of, place_claim, place_block, place_reported, place_uplink}
+use Rattle.fh_time.specs.declared.carrier.TheConstants.{CARRIER_PRBS}
 
 pub record RingValue : Type 0 where
   pub endpoint : EndpointConfig
@@ -44,7 +45,7 @@ pub record IsRing (r : RingValue) : Type 0 where
   pub some : 0 < length r.places
   pub few : length r.places < 1024
   pub prbs_some : 0 < r.endpoint.prbs
-  pub prbs_few : r.endpoint.prbs ≤ 273
+  pub prbs_few : r.endpoint.prbs ≤ CARRIER_PRBS
   -- each place has room for all cells of a slot
   pub widths : (i : ℕ) → i < length r.places → (get_or r.places i blank).prbs ≡ r.endpoint.prbs
   -- and is that of its slot

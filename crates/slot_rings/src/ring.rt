@@ -13,6 +13,7 @@ ghost use Rattle.slot_rings.specs.Runs.{packed_block, packed_samples};
 ghost use Rattle.slot_rings.specs.Verdicts.{verdict_by, claim_after, uplink_after};
 ghost use Rattle.fh_time.specs.declared.symbols.TheConstants.{SLOT_SYMBOLS};
 ghost use Rattle.unit_model.specs.declared.uplink.TheConstants.{SLOT_SECTIONS};
+ghost use Rattle.fh_time.specs.declared.carrier.TheConstants.{CARRIER_PRBS};
 
 use crate::index::place_index;
 use crate::lists::items_from;
@@ -64,7 +65,7 @@ impl SlotRing {
         requires some { 1 ≤ slots }
         requires few { slots < 1024 }
         requires prbs_some { 1 ≤ endpoint.prbs }
-        requires prbs_few { endpoint.prbs ≤ 273 }
+        requires prbs_few { endpoint.prbs ≤ CARRIER_PRBS }
         ensures endpoint { IfOk result (λ r. r.endpoint ≡ endpoint) }
         ensures size { IfOk result (λ r. length r.places ≡ slots) }
         ensures empty { IfOk result (λ r. IsEmpty r) }

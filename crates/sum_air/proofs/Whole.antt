@@ -1,5 +1,5 @@
 -- The summary by a state is that of the whole list of events, where counters stand last.
-use Rattle.std.proofs.Common.{◌≡◌, ℕ, ℤ, Bool, false, cond, List, [], ◌∷◌, ◌++◌, refl, sym, ap, ◌∙◌, append_assoc, append-nil}
+use Rattle.std.proofs.Common.{◌≡◌, ℕ, ℤ, Bool, false, cond, List, [], ◌∷◌, ◌++◌, refl, sym, ap, ◌∙◌, append_assoc, append-nil, map}
 use Rattle.std.specs.List.{fold, AllByRecursion}
 use Rattle.std.proofs.lemmas.Grind.{flat_map-append}
 use Rattle.std.proofs.lemmas.List.Concat.{flat_map-cons}
@@ -17,6 +17,7 @@ use Rattle.sum_air.specs.SumStates.{SumState}
 use Rattle.sum_air.specs.States.{sum_start, sum_next, sum_gives, sum_ends, closing_text, delay_lines, after_closing, run_line, ended_by, after_cell, one_more}
 use Rattle.sum_air.proofs.Cut.{lines_by, lines_are}
 use Rattle.sum_air.proofs.Kept.{kept}
+use Rattle.report_lines.specs.air_source.specs.declared.events.AirCell.{AirCell}
 
 -- an event before the counters, and a counter
 abbrev pub IsEarlier : Event → Type 0
@@ -191,3 +192,8 @@ summary_is events l =
     ∙ by_state l.before l.counts l.earlier l.last
     ∙ sym (parts l.before l.counts l.earlier l.last)
     ∙ ap whole_summary (sym l.is)
+
+-- cells tell no counter
+pub cells_earlier : (cells : List AirCell) → AllByRecursion IsEarlier (map Cell cells)
+cells_earlier [] = tt
+cells_earlier (c ∷ cells) = (tt, cells_earlier cells)

@@ -1,10 +1,11 @@
 -- The line of a run of cells (this project's profile).
 use Rattle.std.specs.Prelude.{ℕ, List, ◌++◌, codes}
-use Rattle.report_lines.specs.Cells.{way_text, slot_text}
+use Rattle.report_lines.specs.Cells.{slot_text}
 use Rattle.text_lines.specs.Words.{spaced_text, spaced_signed_text, hex4_text}
 use Rattle.sum_air.specs.OpenRuns.{OpenRun}
 use Rattle.sum_air.specs.declared.places.SymbolPlace.{SymbolPlace}
 use Rattle.sum_air.specs.declared.totals.Totals.{Totals}
+use Rattle.report_lines.specs.air_source.specs.Units.{way_text}
 
 -- the direction, the symbol's start in ticks, the endpoint, and frame, subframe, slot and symbol
 abbrev pub place_text : SymbolPlace → List ℕ

@@ -1,20 +1,13 @@
 -- The symbol of an endpoint that a line of a summary speaks of (this project's profile).
-use Rattle.std.specs.Prelude.{◌==◌, ◌&&◌, Bool, true, false}
+use Rattle.std.specs.Prelude.{◌==◌, ◌&&◌, Bool}
 use Rattle.std.specs.Ordering.{int_eq}
 use Rattle.report_lines.specs.air_source.specs.declared.events.AirCell.{AirCell}
-use Rattle.report_lines.specs.air_source.specs.declared.events.Side.{Side}
-use Rattle.report_lines.specs.air_source.specs.declared.events.Side.TheVariants.{Ru, Du}
 use Rattle.sum_air.specs.declared.places.SymbolPlace.{SymbolPlace}
+use Rattle.report_lines.specs.air_source.specs.Units.{same_side}
 
 -- the symbol of a cell
 abbrev pub place_of : AirCell → SymbolPlace
 place_of c = record { side = c.side; at = c.at; id = c.id; slot = c.slot; symbol = c.symbol }
-
-abbrev pub same_side : Side → Side → Bool
-same_side Ru Ru = true
-same_side Ru Du = false
-same_side Du Ru = false
-same_side Du Du = true
 
 -- the same unit, time, endpoint, slot and symbol
 abbrev pub same_place : SymbolPlace → SymbolPlace → Bool

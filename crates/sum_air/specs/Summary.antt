@@ -9,9 +9,10 @@ use Rattle.report_lines.specs.air_source.specs.declared.events.Side.{Side}
 use Rattle.report_lines.specs.air_source.specs.declared.events.Side.TheVariants.{Ru, Du}
 use Rattle.report_lines.specs.Units.{count_text}
 use Rattle.sum_air.specs.Lines.{sum_line}
-use Rattle.sum_air.specs.Places.{place_of, same_place, same_side}
+use Rattle.sum_air.specs.Places.{place_of, same_place}
 use Rattle.sum_air.specs.Results.{delays_text}
 use Rattle.sum_air.specs.Totals.{run_totals}
+use Rattle.report_lines.specs.air_source.specs.Units.{same_side}
 
 -- ---- the cells, and the runs that they are cut into
 

@@ -1,6 +1,7 @@
 // The symbol of an endpoint that a line speaks of.
 ghost use Rattle.std.specs.Prelude.{◌≡◌};
-ghost use Rattle.sum_air.specs.Places.{place_of, same_side, same_place};
+ghost use Rattle.sum_air.specs.Places.{place_of, same_place};
+ghost use Rattle.report_lines.specs.air_source.specs.Units.{same_side};
 
 use fh_time::{Slot, Ticks};
 use report_lines::air_source::{AirCell, Side};

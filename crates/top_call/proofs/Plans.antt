@@ -1,6 +1,6 @@
 -- A command over a document whose plan was tested.
-use Rattle.std.proofs.Common.{◌≡◌, ℕ, zero, suc, List, [], ◌∷◌, Option, None, Result, Err, refl, sym, subst, arith}
-use Rattle.std.specs.Prelude.{slice_get, slice_index, All}
+use Rattle.std.proofs.Common.{◌≡◌, ℕ, zero, suc, List, [], ◌∷◌, Option, None, Result, Err, refl, sym, subst}
+use Rattle.std.specs.Prelude.{slice_get, slice_index}
 use Rattle.fronthaul_replay.specs.du_scheduler.specs.Plans.{Checks, HasToSend}
 use Rattle.fronthaul_replay.specs.du_scheduler.specs.declared.plans.Plan.{Plan as Schedule}
 use Rattle.pcap_lines.specs.fh_document.specs.declared.document.Document.{Document}

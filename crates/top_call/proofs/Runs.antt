@@ -1,5 +1,5 @@
 -- A run, from what a command did over a whole input, or from why it did nothing.
-use Rattle.std.proofs.Common.{◌≡◌, ◌⊎◌, ◌↔◌, inl, inr, ℕ, ◌+◌, ◌<◌, ◌≤◌, List, [], length, length-append, true, false, Option, None, Some, IfSome, IsSome, IsNone, refl, sym, ap, subst, ◌∙◌, ◌++◌, append-nil, is_some, arith, Result, Ok, Err, IfOk, IsErrOf}
+use Rattle.std.proofs.Common.{◌≡◌, ◌⊎◌, ◌↔◌, inl, inr, ℕ, ◌+◌, ◌<◌, ◌≤◌, List, [], length, length-append, true, false, Option, None, Some, IfSome, IsSome, IsNone, refl, sym, ap, subst, ◌∙◌, ◌++◌, append-nil, is_some, arith, Result, Ok, Err, IfOk}
 use Rattle.std.specs.Io.KnownBytes.{prepend_known, append_known, IsAtEnd}
 use Rattle.command_words.specs.Words.{command_of}
 use Rattle.command_words.specs.declared.commands.Command.{Command}
@@ -8,7 +8,7 @@ use Rattle.fh_base.specs.Causes.{Rose}
 use Rattle.fh_base.specs.Told.{WritesFront}
 use Rattle.fh_base.specs.declared.fault.ReadAllFault.{ReadAllFault}
 use Rattle.fh_base.specs.declared.fault.ReadAllFault.TheVariants as source
-use Rattle.fh_base.proofs.Known.{prepend_nothing, append_nothing}
+use Rattle.fh_base.proofs.Known.{prepend_nothing, append_nothing, came_all}
 use Rattle.fh_base.proofs.Progress.{front_none}
 use Rattle.pcap_lines.specs.fh_document.specs.Document.{document_of}
 use Rattle.pcap_lines.specs.fh_document.specs.declared.document.Document.{Document}
@@ -136,13 +136,6 @@ front_read came left_old left_new old new command taken ended front =
     go None h = tt
     go (Some rest) h = subst (λ (bytes : List ℕ). WritesFront old new (answer_of command bytes).text) (sym (ap (λ r. came ++ r) h ∙ append-nil came)) front
 
-came_all : (came bytes : List ℕ) (left_old left_new : Option (List ℕ)) → left_old ≡ prepend_known came left_new → IsAtEnd left_new → left_old ≡ Some bytes → bytes ≡ came
-came_all came bytes left_old None taken ended is = cc
-came_all came bytes left_old (Some rest) taken ended is =
-    let both : Some bytes ≡ Some (came ++ rest) = sym is ∙ taken in
-    let same : bytes ≡ came ++ rest = cc both in
-    same ∙ ap (λ r. came ++ r) ended ∙ append-nil came
-
 pub read : (words : List (List ℕ)) (command : Command) (bytes came : List ℕ) (left_old left_new : Option (List ℕ)) (s t : ℕ) (old new : Option (List ℕ)) (before now : ℕ) (status : Status)
     → command_of words ≡ Some command → reads command ≡ true → bytes ≡ came → Performs (answer_of command bytes) old new before now status
     → left_old ≡ prepend_known came left_new → IsAtEnd left_new → length came ≤ INPUT_LIMIT → s ≤ t
@@ -152,9 +145,6 @@ read words command bytes came left_old left_new s t old new before now status is
     performed words command came left_old left_new s t old new before now status is q taken (λ _. ended) within later
     (front_read came left_old left_new old new command taken ended q.front)
     (λ all given. ap (answer_of command) (came_all came all left_old left_new taken ended (given does)))
-
-pub not_long : {T E : Type 0} (limit : ℕ) (came : List ℕ) (x : T) (e : E) → (IsErrOf (let r : Result T E = Ok x in r) e ↔ limit < length came) → length came ≤ limit
-not_long limit came x e h = grind (arith, h)
 
 -- ---- a run that does nothing
 

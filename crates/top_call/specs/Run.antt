@@ -13,10 +13,6 @@ use Rattle.top_call.specs.declared.status.Status.TheVariants.{Done, BadWords, Ba
 use Rattle.top_call.specs.Answers.{Answer, asked, is_reading}
 use Rattle.fh_base.specs.declared.source.TheConstants.{INPUT_LIMIT}
 
--- the whole text was appended, or what is named holds
-abbrev pub WritesWholeOr : Option (List ℕ) → Option (List ℕ) → List ℕ → Type 0 → Type 0
-WritesWholeOr old new text P = (new ≡ append_known old text) ⊎ P
-
 -- the statuses that words and input decide; the others have a cause beside them
 abbrev pub IsDecided : Status → Type 0
 IsDecided ReadFault = ⊥

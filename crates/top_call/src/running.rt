@@ -2,9 +2,9 @@
 ghost use Rattle.std.specs.Prelude.{◌≡◌, ◌⊎◌, false};
 ghost use Rattle.command_words.specs.Words.{command_of};
 ghost use Rattle.fh_base.specs.Causes.{Rose};
-ghost use Rattle.fh_base.specs.Told.{WritesFront};
+ghost use Rattle.fh_base.specs.Told.{WritesFront, WritesWholeOr};
 ghost use Rattle.top_call.specs.Answers.{is_reading};
-ghost use Rattle.top_call.specs.Run.{Outcome, WritesWholeOr};
+ghost use Rattle.top_call.specs.Run.{Outcome};
 ghost use Rattle.top_call.specs.Statuses.{status_line};
 
 use crate::commands::{perform, reads};

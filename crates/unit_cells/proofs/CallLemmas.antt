@@ -1,11 +1,10 @@
 -- What the calls answer, and what they leave.
-use Rattle.std.proofs.Common.{◌≡◌, ℕ, ℤ, ◌+◌, ◌<◌, ◌≤◌, ◌≤ℤ◌, Bool, true, false, if◌then◌else◌, List, [], ◌∷◌, ◌++◌, length, refl, sym, ap, ◌∙◌, subst, arith, Option, Some, None}
+use Rattle.std.proofs.Common.{◌≡◌, ℕ, ◌+◌, ◌<◌, ◌≤◌, ◌≤ℤ◌, Bool, true, false, if◌then◌else◌, List, [], ◌∷◌, ◌++◌, length, refl, sym, ap, ◌∙◌, subst, Option, Some, None}
 use Rattle.std.specs.Prelude.{All, get_or, is_some}
 use Rattle.std.specs.Option.{option_map}
-use Rattle.std.proofs.lemmas.Int.{ints}
 use Rattle.std.proofs.lemmas.Option.{slice_get-map}
 use Rattle.fh_time.specs.Numbering.{symbols_of}
-use Rattle.unit_model.specs.air_source.specs.declared.events.Side.TheVariants.{Ru, Du}
+use Rattle.unit_model.specs.Terms.{Ru, Du, Side}
 use Rattle.bfp_codec.specs.declared.samples.Wide.{Wide}
 use Rattle.window_config.specs.Limits.{IsWithinLimits}
 use Rattle.window_config.specs.Rings.{ru_reach_of}
@@ -20,7 +19,6 @@ use Rattle.unit_model.specs.Blocks.{data_class, data_prb_count, data_verdict, da
 use Rattle.unit_model.specs.Claims.{cell_at}
 use Rattle.unit_model.specs.Commands.{allocation_of, command_class, command_slot, command_verdict, is_for, verdict_in, with_accepted}
 use Rattle.unit_model.specs.Lists.{every}
-use Rattle.unit_model.specs.air_source.specs.declared.events.Side.{Side}
 use Rattle.unit_model.specs.Proper.{IsAt, IsProperCommand, IsSlot}
 use Rattle.unit_model.specs.declared.allocations.Allocation.{Allocation}
 use Rattle.unit_model.specs.declared.decoded.ControlSection.{ControlSection}
@@ -45,6 +43,7 @@ use Rattle.unit_cells.proofs.RingsLemmas.{read_is, rings_with}
 use Rattle.unit_cells.proofs.TakeLemmas.{kept_is, takes_keeps, verdict_is}
 use Rattle.unit_laws.proofs.LiveLemmas.{second_most, third_most}
 use Rattle.fh_time.proofs.Orders.{not_negative}
+use Rattle.std.specs.Int.Signed.{≤ℤ_refl}
 
 -- ---- commands
 
@@ -62,9 +61,6 @@ classed d acc c k h is =
     ap (λ (x : Class). verdict_in x acc (allocation_of c)) (sym is)
     ∙ sym (chosen (is_for c.head.body c.endpoint.numerology) true (verdict_in (command_class d c) acc (allocation_of c)) command.Mismatch h)
 
-same_time : (t : ℤ) → t ≤ℤ t
-same_time t = omega (arith, ints)
-
 -- a command that is on time names a live slot
 pub command_live : (d : Delays) (c : ControlSection) → IsWithinLimits d → c.head.start_symbol < symbols_of c.endpoint.numerology → command_class d c ≡ class.OnTime
     → IsLiveOn Ru d c.endpoint c.at.0 (command_slot c)
@@ -72,7 +68,7 @@ command_live d c limits symbol on_time =
     live_on_command d c.endpoint.numerology (command_slot c) c.head.start_symbol c.at.0 c.at.0 (ru_reach_of d).before (ru_reach_of d).after c.head.down limits
     (second_most (data_window_of d).max (command_window_of d true).max (command_window_of d false).max)
     (third_most (data_window_of d).max (command_window_of d true).max (command_window_of d false).max)
-    (not_negative d.ta3.min d.ta3.max limits.ta3.low limits.ta3.order) symbol (same_time c.at.0) on_time
+    (not_negative d.ta3.min d.ta3.max limits.ta3.low limits.ta3.order) symbol (≤ℤ_refl c.at.0) on_time
 
 limits_of : (side : Side) (c : Config) (v : CellsValue) → IsOf side c v → AreRings v → IsWithinLimits c.delays
 limits_of side c v of held = subst IsWithinLimits of.delays held.limits

@@ -15,8 +15,7 @@ use Rattle.window_config.specs.declared.verdicts.Class.TheVariants as class
 use Rattle.unit_model.specs.Blocks.{block_at, data_class, data_covers, data_prb_count, data_slot, every_data_cell, first_data_prb, has_all, with_timely}
 use Rattle.unit_model.specs.Claims.{cell_at, claim_at, is_from, same_slot, same_way}
 use Rattle.unit_model.specs.Lists.{every, or_else}
-use Rattle.unit_model.specs.air_source.specs.declared.events.Side.{Side}
-use Rattle.unit_model.specs.Radiated.{is_down}
+use Rattle.unit_model.specs.Terms.{Side, is_down}
 use Rattle.unit_model.specs.Proper.{IsAt, IsSlot}
 use Rattle.unit_model.specs.Standing.{IsCell, uplink_of}
 use Rattle.unit_model.specs.declared.allocations.Allocation.{Allocation}
@@ -37,11 +36,12 @@ use Rattle.unit_cells.specs.Keeping.{Keeps}
 use Rattle.unit_cells.specs.Steps.{Fills, SetsReported}
 use Rattle.unit_cells.specs.Told.{IsTold, told_block_at}
 use Rattle.unit_cells.specs.declared.heading.DataHeading.{DataHeading}
-use Rattle.unit_cells.proofs.KeepLemmas.{IsStep, cell_in_ring, lifted, ring_is, same_time}
+use Rattle.unit_cells.proofs.KeepLemmas.{IsStep, cell_in_ring, lifted, ring_is}
 use Rattle.unit_cells.proofs.TimeLemmas.{live_at}
 use Rattle.unit_cells.proofs.ToldLemmas.{told_next, told_nothing, told_other, told_whole}
 use Rattle.unit_model.proofs.ClaimLemmas.{within as run_below, starts_before as from_first, within_carrier, way_self as same_as_itself, slot_self as slot_own}
 use Rattle.fh_time.proofs.Orders.{same_below}
+use Rattle.std.specs.Int.Signed.{≤ℤ_refl}
 
 -- ---- a step that leaves claims and uplink sections as they are
 
@@ -218,6 +218,6 @@ begun_keeps side c h v acc ds class.OnTime is limits proper keeps = record {
   accepted = keeps.accepted;
   timely = All-cons (IsReachedData c.endpoints (reach_of side c.delays) h.last.0) (data_under h []) ds (record {
     endpoint = proper.endpoint;
-    live = record { when = h.last.0; come = same_time h.last.0; live = live_is side c.delays h limits proper.sound proper.order is };
+    live = record { when = h.last.0; come = ≤ℤ_refl h.last.0; live = live_is side c.delays h limits proper.sound proper.order is };
   }) keeps.timely;
 }

@@ -13,8 +13,7 @@ use Rattle.window_config.specs.declared.delays.Delays.{Delays}
 use Rattle.window_config.specs.declared.endpoints.EndpointConfig.{EndpointConfig}
 use Rattle.window_config.specs.declared.rings.Reach.{Reach}
 use Rattle.unit_model.specs.Claims.{claim_at, same_slot}
-use Rattle.unit_model.specs.air_source.specs.declared.events.Side.{Side}
-use Rattle.unit_model.specs.Radiated.{is_down}
+use Rattle.unit_model.specs.Terms.{Side, is_down}
 use Rattle.unit_model.specs.Proper.{IsAt, IsSlot}
 use Rattle.unit_model.specs.Standing.{IsCell, uplink_of}
 use Rattle.unit_model.specs.declared.allocations.Allocation.{Allocation}
@@ -34,6 +33,7 @@ use Rattle.unit_cells.proofs.ListLemmas.{get_set_other, get_set_same}
 use Rattle.unit_cells.proofs.StepLemmas.{same_index}
 use Rattle.unit_model.proofs.ClaimLemmas.{same_slot_is as slot_is, slot_self as slot_own}
 use Rattle.fh_time.proofs.Options.{some_is as some_equal}
+use Rattle.std.specs.Int.Signed.{≤ℤ_refl}
 
 -- the ring of an endpoint is that endpoint's
 pub ring_endpoint : (v : CellsValue) (k : ℕ) (e : EndpointConfig) (r : RingValue) → IsAt (endpoints_of v) k e → ring_of v k ≡ Some r → r.endpoint ≡ e
@@ -76,9 +76,6 @@ pub record SameAt (k : ℕ) (s : Slot) (old new : CellsValue) : Type 0 where
   pub blocks : (cell : Cell) → cell.ep ≡ k → cell.slot ≡ s → cells_block new cell ≡ cells_block old cell
   pub reported : (cell : Cell) → cell.ep ≡ k → cell.slot ≡ s → cells_reported new cell ≡ cells_reported old cell
   pub uplink : cells_uplink new k s ≡ cells_uplink old k s
-
-pub same_time : (t : ℤ) → t ≤ℤ t
-same_time t = omega (arith, ints)
 
 same_ring : (k : ℕ) (s : Slot) (old new : CellsValue) → ring_of new k ≡ ring_of old k → SameAt k s old new
 same_ring k s old new e = record {
@@ -206,7 +203,7 @@ module _ (side : Side) (c : Config) (clock : ℤ) (ep : ℕ) (e : EndpointConfig
           | inl share ↦
               let shared : place_index after s ≡ place_index after slot = same_index slot s before after step.touches ∙ share ∙ sym (same_index slot slot before after step.touches) in
               let same : s ≡ slot = parted after slot s step.has shared has_after in
-              let here : WasLive e.numerology (reach_of side c.delays) clock slot = record { when = clock; come = same_time clock; live = step.live } in
+              let here : WasLive e.numerology (reach_of side c.delays) clock slot = record { when = clock; come = ≤ℤ_refl clock; live = step.live } in
               let there : WasLive e.numerology (reach_of side c.delays) clock s = subst (WasLive e.numerology (reach_of side c.delays) clock) (sym same) here in
               subst (λ (x : EndpointConfig). WasLive x.numerology (reach_of side c.delays) clock s) (sym (endpoints_equal c.endpoints k ep f e at step.at own)) there
           | inr apart ↦

@@ -10,7 +10,7 @@ use Rattle.window_config.specs.declared.config.Config.{Config}
 use Rattle.window_config.specs.declared.endpoints.EndpointConfig.{EndpointConfig}
 use Rattle.unit_model.specs.Claims.{claim_at, claim_of, covers, in_mask, names, overlaps, repeats, same_slot}
 use Rattle.unit_model.specs.Commands.{is_full, is_uplink, timely_verdict, uplink_in, with_accepted}
-use Rattle.unit_model.specs.air_source.specs.declared.events.Side.{Side}
+use Rattle.unit_model.specs.Terms.{Side}
 use Rattle.unit_model.specs.Proper.{IsAt, IsProperAllocation, IsSlot}
 use Rattle.unit_model.specs.Standing.{IsCell, uplink_of}
 use Rattle.unit_model.specs.declared.allocations.Allocation.{Allocation}
@@ -22,7 +22,6 @@ use Rattle.unit_model.specs.declared.verdicts.CommandVerdict.TheVariants.{Mismat
 use Rattle.unit_laws.specs.Far.{IsReached}
 use Rattle.unit_model.specs.Sides.{IsLiveFor, IsLiveOn, reach_of}
 use Rattle.unit_laws.specs.Touched.{is_uplink_of}
-use Rattle.unit_laws.proofs.CellLemmas.{covers_is}
 use Rattle.unit_laws.proofs.ChangeLemmas.{claim-cons}
 use Rattle.unit_laws.proofs.FarLemmas.{uplink_same}
 use Rattle.unit_laws.proofs.LookupLemmas.{covered_cells, overlaps_by_lookup, repeats_by_lookup, uplink_counted}
@@ -31,10 +30,11 @@ use Rattle.slot_rings.specs.Verdicts.{claim_after, overlaps_by, repeats_by, upli
 use Rattle.unit_cells.specs.Cells.{CellsValue, block_from, claim_from, ring_of, uplink_from}
 use Rattle.unit_cells.specs.Keeping.{Keeps}
 use Rattle.unit_cells.specs.Steps.{Claims}
-use Rattle.unit_cells.proofs.KeepLemmas.{IsStep, cell_in_ring, lifted, ring_is, same_time}
+use Rattle.unit_cells.proofs.KeepLemmas.{IsStep, cell_in_ring, lifted, ring_is}
 use Rattle.unit_cells.proofs.TimeLemmas.{live_at}
 use Rattle.unit_model.specs.declared.uplink.TheConstants.{SLOT_SECTIONS}
-use Rattle.unit_model.proofs.ClaimLemmas.{same_slot_is as slots_equal, slot_self as slot_own}
+use Rattle.unit_model.proofs.ClaimLemmas.{same_slot_is as slots_equal, slot_self as slot_own, covers_is}
+use Rattle.std.specs.Int.Signed.{≤ℤ_refl}
 
 -- ---- what one more allocation changes
 
@@ -182,7 +182,7 @@ takes_keeps side c clock a v before after old new acc ds step claims keeps =
     (claims.uplink ∙ ap (uplink_after v a) kept.uplink ∙ sym (uplink_more v a acc))
     (λ k s ne. uplink_elsewhere v a acc k s ne)
     (reached_more c.endpoints v a acc (IsReached c.endpoints (reach_of side c.delays) clock)
-    (record { endpoint = step.at; live = record { when = clock; come = same_time clock; live = step.live } }) keeps.accepted)
+    (record { endpoint = step.at; live = record { when = clock; come = ≤ℤ_refl clock; live = step.live } }) keeps.accepted)
     keeps.timely
   where
     ring_cell : (cell : Cell) → IsCell c a.endpoint cell → IsRingCell before cell

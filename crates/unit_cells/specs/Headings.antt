@@ -4,11 +4,10 @@ use Rattle.fh_time.specs.Numbering.{slots_of, symbols_of}
 use Rattle.bfp_codec.specs.declared.samples.Wide.{Wide}
 use Rattle.fh_time.specs.Carrier.{is_outside}
 use Rattle.window_config.specs.declared.endpoints.EndpointConfig.{EndpointConfig}
-use Rattle.unit_model.specs.air_source.specs.declared.events.Side.{Side}
+use Rattle.unit_model.specs.Terms.{Side, is_down}
 use Rattle.window_config.specs.declared.delays.Delays.{Delays}
 use Rattle.unit_model.specs.Blocks.{data_class, with_timely}
 use Rattle.unit_model.specs.Proper.{IsAt, IsTime}
-use Rattle.unit_model.specs.Radiated.{is_down}
 use Rattle.unit_model.specs.declared.decoded.UserSection.{UserSection}
 use Rattle.unit_cells.specs.declared.heading.DataHeading.{DataHeading}
 

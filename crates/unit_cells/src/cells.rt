@@ -2,8 +2,7 @@
 ghost use Rattle.std.specs.Prelude.{◌≡◌, ◌≢◌, ℕ, ℤ, ◌+◌, ◌*◌, ◌<◌, ◌≤◌, ◌||◌, true, false, List, [], ◌∷◌, ◌++◌, All, length, reverse, is_some, IfOk, IfSome, Some, option_copied};
 ghost use Rattle.fh_time.specs.Numbering.{symbols_of};
 ghost use Rattle.fh_time.specs.declared.values.Slot.{Slot};
-ghost use Rattle.unit_model.specs.air_source.specs.declared.events.Side.{Side as SpecSide};
-ghost use Rattle.unit_model.specs.air_source.specs.declared.events.Side.TheVariants.{Ru};
+ghost use Rattle.unit_model.specs.Terms.{Side as SpecSide, Ru};
 ghost use Rattle.bfp_codec.specs.Layout.{HasWidth, length_of};
 ghost use Rattle.bfp_codec.specs.declared.samples.Wide.{Wide};
 ghost use Rattle.window_config.specs.Configs.{IsConfig};

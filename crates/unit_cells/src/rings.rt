@@ -10,6 +10,7 @@ ghost use Rattle.slot_rings.specs.Runs.{packed_samples};
 ghost use Rattle.slot_rings.specs.Verdicts.{verdict_by};
 ghost use Rattle.unit_cells.specs.Cells.{HoldsLive};
 ghost use Rattle.unit_cells.specs.Steps.{Claims, Takes, Fills, SetsReported};
+ghost use Rattle.fh_time.specs.declared.carrier.TheConstants.{CARRIER_PRBS};
 
 use fh_base::NoMemory;
 use fh_time::Slot;
@@ -40,7 +41,7 @@ pub(crate) fn make_ring(
 ) -> Result<SlotRing, NoMemory>
     requires limits { IsWithinLimits delays.now }
     requires some { 1 ≤ endpoint.prbs }
-    requires few { endpoint.prbs ≤ 273 }
+    requires few { endpoint.prbs ≤ CARRIER_PRBS }
     ensures endpoint { IfOk result (λ r. r.endpoint ≡ endpoint) }
     ensures wide { IfOk result (λ r. HoldsLive side delays.now r) }
     ensures empty { IfOk result (λ r. IsEmpty r) }

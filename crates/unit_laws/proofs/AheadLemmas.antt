@@ -2,8 +2,7 @@
 use Rattle.std.proofs.Common.{◌≡◌, ℕ, ℤ, List, [], ◌∷◌, refl, ap, ◌∙◌}
 use Rattle.std.specs.Prelude.{All, None, ◌==◌, if◌then◌else◌}
 use Rattle.fh_time.specs.Air.{air_of}
-use Rattle.unit_model.specs.air_source.specs.declared.events.Side.{Side}
-use Rattle.unit_model.specs.air_source.specs.declared.events.Side.TheVariants.{Ru}
+use Rattle.unit_model.specs.Terms.{Side, Ru, is_down}
 use Rattle.fh_time.specs.declared.values.Slot.{Slot}
 use Rattle.window_config.specs.Limits.{IsWithinLimits}
 use Rattle.window_config.specs.Rings.{ru_reach_of}
@@ -12,7 +11,7 @@ use Rattle.window_config.specs.declared.endpoints.EndpointConfig.{EndpointConfig
 use Rattle.unit_model.specs.Claims.{cell_at}
 use Rattle.unit_model.specs.Lists.{in_order}
 use Rattle.unit_model.specs.Meetings.{Arrival}
-use Rattle.unit_model.specs.Radiated.{Known, air_cell, cell_report, is_down, symbol_report}
+use Rattle.unit_model.specs.Radiated.{Known, air_cell, cell_report, symbol_report}
 use Rattle.unit_model.specs.Reports.{accepted_of, commands_of, data_of, ru_known, timely_of}
 use Rattle.unit_model.specs.Sides.{reach_of}
 use Rattle.unit_model.specs.Standing.{AreInTime}

@@ -1,7 +1,7 @@
 -- The distributed unit begins with nothing.
 use Rattle.std.proofs.Common.{◌≡◌, ℤ, pos, ◌+ℤ◌, ◌-ℤ◌, List, [], ◌++◌, refl, sym, ap, ◌∙◌, subst}
 use Rattle.std.proofs.lemmas.List.Elements.{All-nil}
-use Rattle.unit_model.specs.air_source.specs.declared.events.Side.TheVariants.{Du}
+use Rattle.unit_model.specs.Terms.{Du}
 use Rattle.ecpri_fragments.specs.Assemblies.{StandsFor}
 use Rattle.ecpri_fragments.specs.Generations.{Fragment}
 use Rattle.fault_counters.specs.Counts.{capped, times}
@@ -15,7 +15,7 @@ use Rattle.unit_laws.specs.Begins.{PlanBegins}
 use Rattle.unit_laws.proofs.SweepLemmas.{sweep-none}
 use Rattle.fh_time.proofs.Orders.{over}
 
-nothing_past : (c : Config) (k : Known) → due Du c.delays c.endpoints k [] (past_of Du first_clock) ≡ []
+pub nothing_past : (c : Config) (k : Known) → due Du c.delays c.endpoints k [] (past_of Du first_clock) ≡ []
 unfolding due
 nothing_past c k =
     sweep-none (still_reported Du k []) c.endpoints (first_clock -ℤ wait_of Du c.delays) (((first_clock -ℤ pos 1) -ℤ wait_of Du c.delays) +ℤ pos 1)

@@ -9,29 +9,7 @@ use Rattle.unit_model.specs.Lists.{some}
 use Rattle.unit_model.specs.declared.allocations.Allocation.{Allocation}
 use Rattle.unit_model.specs.declared.cells.Cell.{Cell}
 use Rattle.unit_model.specs.declared.decoded.UserSection.{UserSection}
-use Rattle.unit_model.proofs.ClaimLemmas.{same_way_is as ways_equal, same_slot_is as slots_equal, starts_before as from_first, from_within}
-
--- what it is to cover a cell
-pub record Covers (a : Allocation) (cell : Cell) : Type 0 where
-  pub ep : a.ep ≡ cell.ep
-  pub down : a.down ≡ cell.down
-  pub slot : a.slot ≡ cell.slot
-  pub symbol : is_from a.symbol a.num_symbol cell.symbol ≡ true
-  pub prb : is_from (first_prb a) (prb_count a) cell.prb ≡ true
-
-pub covers_is : (a : Allocation) (cell : Cell) → covers a cell ≡ true → Covers a cell
-covers_is a cell h =
-    let one = and_parts (a.ep == cell.ep) _ h in
-    let two = and_parts (same_way a.down cell.down) _ one.1 in
-    let three = and_parts (same_slot a.slot cell.slot) _ two.1 in
-    let four = and_parts (is_from a.symbol a.num_symbol cell.symbol) (is_from (first_prb a) (prb_count a) cell.prb) three.1 in
-    record {
-      ep = eqb-true a.ep cell.ep one.0;
-      down = ways_equal a.down cell.down two.0;
-      slot = slots_equal a.slot cell.slot three.0;
-      symbol = four.0;
-      prb = four.1;
-    }
+use Rattle.unit_model.proofs.ClaimLemmas.{same_way_is as ways_equal, same_slot_is as slots_equal, starts_before as from_first, from_within, Covers, covers_is}
 
 pub record DataCovers (d : UserSection) (cell : Cell) : Type 0 where
   pub ep : d.ep ≡ cell.ep

@@ -9,14 +9,13 @@ use Rattle.std.proofs.lemmas.List.Elements.{All-nil, All-cons, All-head, All-tai
 use Rattle.fh_time.specs.Air.{air_of}
 use Rattle.fh_time.specs.Numbering.{slots_of, symbols_of}
 use Rattle.fh_time.specs.declared.values.Slot.{Slot}
-use Rattle.unit_model.specs.air_source.specs.declared.events.AirCell.{AirCell}
+use Rattle.unit_model.specs.Terms.{AirCell, is_down}
 use Rattle.eaxc_map.specs.Endpoints.{AppearOnce}
 use Rattle.window_config.specs.Endpoints.{ids_of}
 use Rattle.window_config.specs.declared.endpoints.EndpointConfig.{EndpointConfig}
 use Rattle.unit_model.specs.Claims.{same_slot, same_way}
 use Rattle.unit_model.specs.Lists.{each, each_tick}
 use Rattle.unit_model.specs.Proper.{IsAt}
-use Rattle.unit_model.specs.Radiated.{is_down}
 use Rattle.unit_model.specs.Standing.{same_cell}
 use Rattle.unit_model.specs.Sweeps.{OfSymbol, at_tick, first_swept, of_endpoint, of_endpoints, of_frame, of_slot, of_subframe, of_symbol, slot_at, sweep}
 use Rattle.unit_laws.specs.Due.{AreDifferent}

@@ -7,12 +7,11 @@ use Rattle.std.proofs.lemmas.List.Elements.{All-nil, All-cons, All-head, All-tai
 use Rattle.std.proofs.lemmas.List.Folds.{list_any-append}
 use Rattle.fh_time.specs.Air.{air_of}
 use Rattle.fh_time.specs.declared.values.Slot.{Slot}
-use Rattle.unit_model.specs.air_source.specs.declared.events.AirCell.{AirCell}
-use Rattle.unit_model.specs.air_source.specs.declared.events.Side.{Side}
+use Rattle.unit_model.specs.Terms.{AirCell, Side, is_down}
 use Rattle.window_config.specs.declared.delays.Delays.{Delays}
 use Rattle.window_config.specs.declared.endpoints.EndpointConfig.{EndpointConfig}
 use Rattle.unit_model.specs.Claims.{cell_at}
-use Rattle.unit_model.specs.Radiated.{Known, air_cell, cell_report, first_clock, is_down, reported, symbol_report, used_mask, wait_of}
+use Rattle.unit_model.specs.Radiated.{Known, air_cell, cell_report, first_clock, reported, symbol_report, used_mask, wait_of}
 use Rattle.unit_model.specs.Standing.{due, is_reported, same_cell, still_reported}
 use Rattle.unit_model.specs.Sweeps.{sweep}
 use Rattle.unit_laws.specs.Due.{AreDifferent, ReportedAreDifferent, DueAreDifferent, AllIsDue, DueInPieces, DueOnce, DueAppends}

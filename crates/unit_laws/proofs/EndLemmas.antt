@@ -5,7 +5,7 @@ use Rattle.std.proofs.lemmas.Int.{clamps, ints}
 use Rattle.fh_time.specs.Kinds.{kind_start}
 use Rattle.fh_time.specs.declared.values.Slot.{Slot}
 use Rattle.fh_time.proofs.Euclid.{frame_floor}
-use Rattle.unit_model.specs.air_source.specs.declared.events.Side.TheVariants.{Ru}
+use Rattle.unit_model.specs.Terms.{Ru}
 use Rattle.window_config.specs.Limits.{IsWithinLimits}
 use Rattle.window_config.specs.Rings.{ru_reach_of}
 use Rattle.window_config.specs.declared.delays.Delays.{Delays}
@@ -23,6 +23,8 @@ use Rattle.unit_laws.proofs.SweepLemmas.{sweep-append, tick-nothing}
 use Rattle.fh_time.specs.declared.frames.TheConstants.{FRAME}
 use Rattle.window_config.specs.declared.delays.TheConstants.{MOST_DELAY}
 use Rattle.unit_model.proofs.SweepLaws.{sweep_quiet as sweep-nothing}
+use Rattle.fh_time.specs.declared.nanoseconds.TheConstants.{NANOSECOND}
+use Rattle.fh_time.specs.declared.symbols.TheConstants.{SUBFRAME}
 
 most_before : (up advance command : ℤ) → up ≤ℤ pos MOST_DELAY → advance ≤ℤ pos MOST_DELAY → command ≤ℤ pos MOST_DELAY
     → int_max (int_max up (up +ℤ advance)) command ≤ℤ pos 4000000
@@ -33,13 +35,13 @@ reach_small d limits = most_before d.t2a_up.max d.advance d.t2a_cp_ul.max limits
 
 -- a slot of one of the frames that are gone over at a tick begins less than 100 ms before it
 begins_later : (clock tick q frame before : ℤ) (offset : ℕ) → (clock +ℤ pos 1536000000000) ≤ℤ tick → tick <ℤ (q *ℤ FRAME +ℤ FRAME)
-    → (q -ℤ pos 5) ≤ℤ frame → before ≤ℤ pos 4000000 → clock <ℤ ((frame *ℤ FRAME +ℤ pos offset) -ℤ (before *ℤ pos 1536))
+    → (q -ℤ pos 5) ≤ℤ frame → before ≤ℤ pos 4000000 → clock <ℤ ((frame *ℤ FRAME +ℤ pos offset) -ℤ (before *ℤ pos NANOSECOND))
 begins_later clock tick q frame before offset a b c d = omega (arith, ints)
 
 far_later : (d : Delays) (es : List EndpointConfig) (ep : ℕ) (e : EndpointConfig) (slot : Slot) (symbol : ℕ) (clock tick : ℤ) → IsWithinLimits d
     → (clock +ℤ pos 1536000000000) ≤ℤ tick → IsSwept es ep e slot symbol tick → IsFar e.numerology (ru_reach_of d) clock slot
 far_later d es ep e slot symbol clock tick limits later swept =
-    begins_later clock tick (frame_of_tick tick) slot.frame (ru_reach_of d).before (slot.subframe * 1536000000 + kind_start e.numerology.kind slot.slot 0) later
+    begins_later clock tick (frame_of_tick tick) slot.frame (ru_reach_of d).before (slot.subframe * SUBFRAME + kind_start e.numerology.kind slot.slot 0) later
     (frame_floor tick).1 swept.frame_low (reach_small d limits)
 
 pub no_cells_later : NoCellsLater

@@ -19,10 +19,10 @@ use Rattle.unit_model.specs.Standing.{uplink_of}
 use Rattle.unit_model.specs.declared.allocations.Allocation.{Allocation}
 use Rattle.unit_laws.specs.Far.{WasLive, IsFar, IsReached, IsReachedData, IsHeard, IsHeardData, AcceptedAreReached, TimelyAreReached, FarIsUnclaimed, FarHasNoUplink, FarHasNoBlock}
 use Rattle.unit_laws.specs.Touched.{is_uplink_of}
-use Rattle.unit_laws.proofs.CellLemmas.{covers_is, data_covers_is}
+use Rattle.unit_laws.proofs.CellLemmas.{data_covers_is}
 use Rattle.unit_laws.proofs.ChangeLemmas.{accepted_more, timely_more, claim_same, block_same, either_way}
 use Rattle.unit_laws.proofs.LiveLemmas.{command_live, data_live}
-use Rattle.unit_model.proofs.ClaimLemmas.{same_slot_is as slots_equal}
+use Rattle.unit_model.proofs.ClaimLemmas.{same_slot_is as slots_equal, covers_is}
 use Rattle.fh_time.proofs.Orders.{beyond}
 
 -- the endpoint with an index

@@ -21,6 +21,7 @@ use Rattle.unit_laws.proofs.RunLemmas.{endpoint_is, rows_same}
 use Rattle.unit_laws.proofs.SweepLemmas.{none_kept, of_slot_related}
 use Rattle.fh_time.specs.declared.frames.TheConstants.{FRAME}
 use Rattle.unit_laws.specs.Runs.{EndpointInARow}
+use Rattle.fh_time.specs.declared.symbols.TheConstants.{SUBFRAME}
 
 -- ---- how long after its frame a symbol starts
 
@@ -48,12 +49,12 @@ kind_short (Ordinary spacing) h = ordinary_short spacing
 kind_short (Offset spacing time_offset cp_length) h = offset_short spacing time_offset cp_length h.0 h.1
 kind_short Extended h = omega arith
 
-six_frames : (subframe start slot first span left : ℕ) → subframe < 10 → start ≤ slot + span → slot + left ≤ 1536000000 + first → first + span ≤ 76000000000
-    → subframe * 1536000000 + start < 92160000000
+six_frames : (subframe start slot first span left : ℕ) → subframe < 10 → start ≤ slot + span → slot + left ≤ SUBFRAME + first → first + span ≤ 76000000000
+    → subframe * SUBFRAME + start < 92160000000
 six_frames subframe start slot first span left a b c d = omega arith
 
 pub symbol_short : (n : Numerology) (slot : Slot) (symbol : ℕ) → OffsetsFit n → IsSlotOf n slot → symbol < symbols_of n
-    → slot.subframe * 1536000000 + kind_start n.kind slot.slot symbol < 92160000000
+    → slot.subframe * SUBFRAME + kind_start n.kind slot.slot symbol < 92160000000
 symbol_short n slot symbol short is h =
     six_frames slot.subframe (kind_start n.kind slot.slot symbol) (kind_start n.kind slot.slot 0) (kind_start n.kind 0 0) (kind_span n.kind)
     ((kind_slots n.kind - slot.slot) * kind_least_slot n.kind) is.subframe (kind_covers n.kind slot.slot symbol h) (kind_left n.kind slot.slot is.slot) (kind_short n.kind short)
@@ -67,7 +68,7 @@ pub frames_of_symbol : (n : Numerology) (slot : Slot) (symbol : ℕ) → Offsets
     → (first_swept (air_of n slot symbol) ≤ℤ slot.frame) × (slot.frame <ℤ (first_swept (air_of n slot symbol) +ℤ pos 6))
 frames_of_symbol n slot symbol short is h =
     let floor = frame_floor (air_of n slot symbol) in
-    frames_near slot.frame (frame_of_tick (air_of n slot symbol)) (slot.subframe * 1536000000 + kind_start n.kind slot.slot symbol) (symbol_short n slot symbol short is h) floor.0 floor.1
+    frames_near slot.frame (frame_of_tick (air_of n slot symbol)) (slot.subframe * SUBFRAME + kind_start n.kind slot.slot symbol) (symbol_short n slot symbol short is h) floor.0 floor.1
 
 pub symbols_are_swept : SymbolsAreSwept
 symbols_are_swept es ep e slot symbol at short is h =

@@ -1,25 +1,24 @@
 -- What is known of all that was read of some arrivals.
 use Rattle.std.proofs.Common.{◌≡◌, ℕ, ℤ, suc, ◌+◌, ◌≤ℤ◌, Bool, true, false, List, [], ◌∷◌, Option, Some, None, Result, Ok, Err, refl, sym, ap, subst, arith}
 use Rattle.std.specs.Prelude.{All, ◌==◌, ◌||◌, not, nat_lt, length, if◌then◌else◌, unwrap_or}
-use Rattle.std.proofs.lemmas.Int.{ints}
 use Rattle.std.proofs.lemmas.List.Elements.{All-nil, All-cons, All-head, All-tail, All-append, All-weaker}
 use Rattle.fh_time.specs.Numbering.{shape_of}
-use Rattle.unit_model.specs.air_source.specs.declared.events.Side.{Side}
-use Rattle.unit_model.specs.air_source.specs.declared.events.Side.TheVariants.{Ru, Du}
+use Rattle.unit_model.specs.Terms.{Side, Ru, Du}
 use Rattle.cplane_sections.specs.declared.values.CHead.{CHead}
 use Rattle.cplane_sections.specs.declared.values.CRefusal.{CRefusal}
 use Rattle.cplane_sections.specs.Tests.{checked}
 use Rattle.cplane_sections.proofs.Admitted.{admitted, fits}
 use Rattle.ecpri_fragments.specs.Generations.{Fragment}
-use Rattle.ecpri_fragments.specs.Verdicts.{first_of, message, standing_before, verdict_on}
+use Rattle.ecpri_fragments.specs.Verdicts.{first_of, message, standing_before, verdict_on, whole_of}
 use Rattle.ecpri_fragments.specs.declared.verdict.Verdict.{Verdict}
 use Rattle.ecpri_fragments.specs.declared.verdict.Verdict.TheVariants as fragment
 use Rattle.ecpri_frames.specs.Gathering.{whole_messages}
 use Rattle.ecpri_frames.specs.Messages.{Message}
 use Rattle.window_config.specs.declared.endpoints.EndpointConfig.{EndpointConfig}
-use Rattle.unit_model.specs.Decoding.{data_now, data_sections, data_told, decoded_now, whole_of}
-use Rattle.unit_model.specs.Lists.{joined as all_joined, onto}
-use Rattle.unit_model.specs.Meetings.{Arrival, Meeting, Ignored, Commands, Piece, application, command_read, commands, control_met, find_endpoint, find_from, fragment_of, fragments, id_of, is_fragmented, meet, meetings, met_by, met_in, sequence_of}
+use Rattle.unit_model.specs.Decoding.{data_now, data_sections, data_told, decoded_now}
+use Rattle.unit_model.specs.Lists.{onto}
+use Rattle.ecpri_fragments.specs.Pieces.{joined}
+use Rattle.unit_model.specs.Meetings.{Arrival, Meeting, Ignored, Commands, Piece, command_read, commands, control_met, find_endpoint, find_from, fragment_of, fragments, meet, meetings, met_by, met_in}
 use Rattle.unit_model.specs.Proper.{IsAt, IsTime, IsProperCommand, IsProperData}
 use Rattle.unit_model.specs.Reports.{hold_of}
 use Rattle.unit_model.specs.Standing.{AreInTime}
@@ -32,9 +31,8 @@ use Rattle.ecpri_frames.specs.declared.heads.TheConstants.{REAL_TIME_CONTROL}
 use Rattle.ecpri_frames.specs.declared.heads.TheConstants.{IQ_DATA}
 use Rattle.ecpri_fragments.proofs.Standing.{all_stood}
 use Rattle.fh_time.proofs.Orders.{at_most}
-
-same_most : (a : ℤ) → a ≤ℤ a
-same_most a = omega (arith, ints)
+use Rattle.std.specs.Int.Signed.{≤ℤ_refl}
+use Rattle.ecpri_fragments.specs.Sequence.{id_of, sequence_of, application, is_fragmented}
 
 -- the endpoint that was found
 record Found (es : List EndpointConfig) (start ep : ℕ) (e : EndpointConfig) : Type 0 where
@@ -91,7 +89,7 @@ module _ (es : List EndpointConfig) (T : ℤ → Type 0) where
   met_onto : (t : ℤ) (earlier xs : List Meeting) → AreMet es T t earlier → All (MetAt es T t) xs → AreMet es T t (onto earlier xs)
   unfolding onto
   met_onto t earlier [] h all = h
-  met_onto t earlier (x ∷ xs) h all = met_onto t (x ∷ earlier) xs (t, same_most t, All-head (MetAt es T t) x xs all, h) (All-tail (MetAt es T t) x xs all)
+  met_onto t earlier (x ∷ xs) h all = met_onto t (x ∷ earlier) xs (t, ≤ℤ_refl t, All-head (MetAt es T t) x xs all, h) (All-tail (MetAt es T t) x xs all)
 
   choice : (t : ℤ) (b : Bool) (x y : Meeting) → MetAt es T t x → MetAt es T t y → MetAt es T t (if b then x else y)
   choice t true x y h k = h
@@ -162,8 +160,8 @@ module _ (es : List EndpointConfig) (T : ℤ → Type 0) where
   whole_read side fragment.Stray e f s i t h = All-nil (IsReadData es T)
   whole_read side fragment.TooLong e f s i t h = All-nil (IsReadData es T)
   whole_read side fragment.Whole e f s i t h =
-      let first = first_by T f.at f s (record { time = t; by = same_most f.at }) h in
-      decode_read es T side f.ep e (first_of (f ∷ s)) f.at (all_joined (message (f ∷ s)).pieces) i first.0 t first.1
+      let first = first_by T f.at f s (record { time = t; by = ≤ℤ_refl f.at }) h in
+      decode_read es T side f.ep e (first_of (f ∷ s)) f.at (joined (message (f ∷ s)).pieces) i first.0 t first.1
 
   data_met : (side : Side) (hold clock : ℤ) (ms : List Meeting) → AreMet es T clock ms → All (IsReadData es T) (data_sections side hold ms)
   unfolding data_sections
@@ -171,7 +169,7 @@ module _ (es : List EndpointConfig) (T : ℤ → Type 0) where
   data_met side hold clock (Ignored c ∷ earlier) h = data_met side hold h.0 earlier h.3
   data_met side hold clock (Commands cs ∷ earlier) h = data_met side hold h.0 earlier h.3
   data_met side hold clock (Piece e f ∷ earlier) h =
-      let before : h.0 ≤ℤ f.at = subst (λ (z : ℤ). h.0 ≤ℤ z) (sym h.2.2) (same_most h.0) in
+      let before : h.0 ≤ℤ f.at = subst (λ (z : ℤ). h.0 ≤ℤ z) (sym h.2.2) (≤ℤ_refl h.0) in
       All-append (IsReadData es T) (data_told (data_now side hold e f (fragments earlier))) (data_sections side hold earlier)
       (whole_read side (verdict_on hold f (fragments earlier)) e f (standing_before hold f (fragments earlier)) h.2.0 h.2.1
       (all_stood (IsBy T f.at) hold f (fragments earlier) (fragments_by h.0 f.at earlier before h.3)))
@@ -190,7 +188,7 @@ commands_are_heard side c clock arrivals h =
     let T : ℤ → Type 0 = λ t. t ≤ℤ clock in
     let es = c.endpoints in
     All-weaker (IsReadCommand es T) (IsHeard es clock) (λ x is. record { endpoint = is.endpoint; start_symbol = is.start_symbol; come = is.at }) (commands (meetings side es arrivals))
-    (commands_met es T clock (meetings side es arrivals) (meetings_met es T side clock arrivals h (all_come clock clock arrivals (same_most clock) h)))
+    (commands_met es T clock (meetings side es arrivals) (meetings_met es T side clock arrivals h (all_come clock clock arrivals (≤ℤ_refl clock) h)))
 
 pub data_are_heard : DataAreHeard
 data_are_heard side c clock arrivals h =
@@ -199,7 +197,7 @@ data_are_heard side c clock arrivals h =
     let hold = hold_of side c.delays in
     All-weaker (IsReadData es T) (IsHeardData es clock) (λ x is. record { endpoint = is.endpoint; symbol = is.symbol; order = is.order; come = is.last })
     (data_sections side hold (meetings side es arrivals))
-    (data_met es T side hold clock (meetings side es arrivals) (meetings_met es T side clock arrivals h (all_come clock clock arrivals (same_most clock) h)))
+    (data_met es T side hold clock (meetings side es arrivals) (meetings_met es T side clock arrivals h (all_come clock clock arrivals (≤ℤ_refl clock) h)))
 
 pub commands_are_proper : CommandsAreProper
 commands_are_proper side c clock arrivals h times =

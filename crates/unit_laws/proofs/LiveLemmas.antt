@@ -7,8 +7,7 @@ use Rattle.window_config.specs.Rings.{IsLive, ru_reach_of}
 use Rattle.window_config.specs.Windows.{data_window_of, command_window_of}
 use Rattle.window_config.specs.declared.delays.Delays.{Delays}
 use Rattle.window_config.proofs.Live.{live_on_time, live_on_time_up, live_on_command}
-use Rattle.unit_model.specs.air_source.specs.declared.events.Side.{Side}
-use Rattle.unit_model.specs.air_source.specs.declared.events.Side.TheVariants.{Ru, Du}
+use Rattle.unit_model.specs.Terms.{Side, Ru, Du}
 use Rattle.fh_time.specs.Numbering.{symbols_of}
 use Rattle.unit_model.specs.Blocks.{data_class, data_slot}
 use Rattle.unit_model.specs.Commands.{command_slot, command_verdict}
@@ -21,6 +20,7 @@ use Rattle.window_config.specs.declared.verdicts.Class.TheVariants.{OnTime}
 use Rattle.unit_laws.specs.Live.{AcceptedIsLive, TimelyIsLive}
 use Rattle.unit_laws.proofs.AcceptanceLemmas.{accepted_is_acceptable}
 use Rattle.fh_time.proofs.Orders.{low_one as some_more, not_negative}
+use Rattle.std.specs.Int.Signed.{≤ℤ_refl}
 
 first_most : (a b c : ℤ) → a ≤ℤ int_max (int_max a b) c
 first_most a b c = omega (arith, ints, clamps)
@@ -31,9 +31,6 @@ second_most a b c = omega (arith, ints, clamps)
 pub third_most : (a b c : ℤ) → c ≤ℤ int_max (int_max a b) c
 third_most a b c = omega (arith, ints, clamps)
 
-same_time : (t : ℤ) → t ≤ℤ t
-same_time t = omega (arith, ints)
-
 -- all that it takes: the symbol is one of the slot's
 pub command_live : (d : Delays) (earlier : List Allocation) (c : ControlSection) → IsWithinLimits d → c.head.start_symbol < symbols_of c.endpoint.numerology
     → command_verdict d earlier c ≡ Accepted → IsLive c.endpoint.numerology (ru_reach_of d).before (ru_reach_of d).after c.at.0 (command_slot c)
@@ -42,7 +39,7 @@ command_live d earlier c limits symbol h =
     live_on_command d c.endpoint.numerology (command_slot c) c.head.start_symbol c.at.0 c.at.0 (ru_reach_of d).before (ru_reach_of d).after c.head.down limits
     (second_most (data_window_of d).max (command_window_of d true).max (command_window_of d false).max)
     (third_most (data_window_of d).max (command_window_of d true).max (command_window_of d false).max)
-    (not_negative d.ta3.min d.ta3.max limits.ta3.low limits.ta3.order) symbol (same_time c.at.0) is.on_time
+    (not_negative d.ta3.min d.ta3.max limits.ta3.low limits.ta3.order) symbol (≤ℤ_refl c.at.0) is.on_time
 
 pub data_live : (side : Side) (d : Delays) (x : UserSection) → IsWithinLimits d → x.section.symbol < symbols_of x.endpoint.numerology → x.first.0 ≤ℤ x.last.0
     → data_class side d x ≡ OnTime → IsLiveOn side d x.endpoint x.last.0 (data_slot x)
@@ -51,7 +48,7 @@ data_live Ru d x limits symbol order h =
     (some_more d.t2a_up.min limits.t2a_up.low) (first_most (data_window_of d).max (command_window_of d true).max (command_window_of d false).max)
     (not_negative d.ta3.min d.ta3.max limits.ta3.low limits.ta3.order) h
 data_live Du d x limits symbol order h =
-    live_on_time_up x.endpoint.numerology (data_slot x) x.section.symbol x.first.0 x.last.0 d.ta4 d.ta4.max symbol order limits.ta4.low (same_time d.ta4.max) h
+    live_on_time_up x.endpoint.numerology (data_slot x) x.section.symbol x.first.0 x.last.0 d.ta4 d.ta4.max symbol order limits.ta4.low (≤ℤ_refl d.ta4.max) h
 
 pub accepted_live : AcceptedIsLive
 accepted_live es d earlier c limits proper h = command_live d earlier c limits proper.start_symbol h

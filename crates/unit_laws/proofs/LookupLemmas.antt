@@ -6,23 +6,23 @@ use Rattle.std.proofs.lemmas.Bool.{and_from, eq-eqb}
 use Rattle.std.proofs.lemmas.List.{append-nil, reverse-append}
 use Rattle.std.proofs.lemmas.List.Elements.{filter-append}
 use Rattle.fh_time.specs.Air.{air_of}
-use Rattle.unit_model.specs.air_source.specs.declared.events.AirCell.{AirCell}
+use Rattle.unit_model.specs.Terms.{AirCell, is_down}
 use Rattle.unit_model.specs.Blocks.{block_at, data_prb_count, data_slot, every_data_cell, first_data_prb, has_all}
 use Rattle.unit_model.specs.Claims.{cell_at, cell_of, claim_at, covers, every_cell, first_prb, is_claimed, is_from, is_overlapped, overlaps, prb_count, repeats, same_slot, same_way, some_cell}
 use Rattle.unit_model.specs.Commands.{is_uplink, uplink_in}
 use Rattle.unit_model.specs.Lists.{every, in_order, some}
 use Rattle.unit_model.specs.Proper.{IsAt, IsSlot}
-use Rattle.unit_model.specs.Radiated.{air_cell, is_down}
+use Rattle.unit_model.specs.Radiated.{air_cell}
 use Rattle.unit_model.specs.Standing.{cell_heard, same_cell, uplink_of}
 use Rattle.unit_model.specs.Uplink.{is_before, job_of, sends_in, symbol_jobs}
 use Rattle.unit_model.specs.declared.allocations.Allocation.{Allocation}
 use Rattle.unit_model.specs.declared.cells.Cell.{Cell}
 use Rattle.unit_laws.specs.Lookups.{CoveredAreCells, DataCoverCells, RepeatsByLookup, OverlapsByLookup, HasAllByLookup, UplinkIsCounted, JobsAreOfTheirSlot, ReportedByLookup}
-use Rattle.unit_laws.proofs.CellLemmas.{covers_is, data_covers_is}
+use Rattle.unit_laws.proofs.CellLemmas.{data_covers_is}
 use Rattle.unit_laws.proofs.DifferLemmas.{other_swap}
 use Rattle.unit_laws.proofs.DueLemmas.{filter_both}
 use Rattle.unit_laws.specs.Touched.{is_uplink_of}
-use Rattle.unit_model.proofs.ClaimLemmas.{within_carrier, is_in, way_self, slot_self, every_same, some_same, claimed_same, overlapped_same, from_within}
+use Rattle.unit_model.proofs.ClaimLemmas.{within_carrier, is_in, way_self, slot_self, every_same, some_same, claimed_same, overlapped_same, from_within, covers_is}
 use Rattle.fh_time.proofs.Orders.{same_below}
 
 -- ---- the cells that are covered

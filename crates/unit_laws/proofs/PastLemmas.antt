@@ -8,8 +8,7 @@ use Rattle.std.proofs.lemmas.List.Elements.{filter-append}
 use Rattle.fh_time.specs.Air.{air_of}
 use Rattle.fh_time.specs.declared.values.Slot.{Slot}
 use Rattle.fh_time.proofs.Order.{symbols_in_order}
-use Rattle.unit_model.specs.air_source.specs.declared.events.Side.{Side}
-use Rattle.unit_model.specs.air_source.specs.declared.events.Side.TheVariants.{Ru, Du}
+use Rattle.unit_model.specs.Terms.{Side, Ru, Du, is_down}
 use Rattle.window_config.specs.Limits.{IsWithinLimits}
 use Rattle.window_config.specs.Windows.{command_window_of, data_window_of}
 use Rattle.window_config.specs.declared.delays.Delays.{Delays}
@@ -21,20 +20,21 @@ use Rattle.unit_model.specs.Claims.{cell_at, covers, in_mask, is_from, same_slot
 use Rattle.unit_model.specs.Commands.{accepted, allocation_of, command_class, command_slot, command_start, is_uplink}
 use Rattle.unit_model.specs.Lists.{in_order}
 use Rattle.unit_model.specs.Proper.{IsAt}
-use Rattle.unit_model.specs.Radiated.{is_down, wait_of}
+use Rattle.unit_model.specs.Radiated.{wait_of}
 use Rattle.unit_model.specs.Uplink.{is_before, job_of, sends_in, symbol_jobs}
 use Rattle.unit_model.specs.declared.allocations.Allocation.{Allocation}
 use Rattle.unit_model.specs.declared.decoded.ControlSection.{ControlSection}
 use Rattle.unit_model.specs.declared.decoded.UserSection.{UserSection}
 use Rattle.unit_laws.specs.Past.{IsInOrder, IsPast, CommandLeavesPast, DataLeavePast, CommandLeavesReports, DataLeaveReports, CommandLeavesJobs}
 use Rattle.unit_laws.proofs.AcceptanceLemmas.{accepted_is_acceptable}
-use Rattle.unit_laws.proofs.CellLemmas.{covers_is, data_covers_is}
+use Rattle.unit_laws.proofs.CellLemmas.{data_covers_is}
 use Rattle.unit_laws.proofs.ChangeLemmas.{accepted_more, either_way, only_accepted, only_timely}
 use Rattle.unit_laws.proofs.FarLemmas.{endpoints_equal}
 use Rattle.unit_laws.proofs.ReportLemmas.{report_of_cells}
-use Rattle.unit_model.proofs.ClaimLemmas.{same_slot_is as slots_equal, starts_before as from_first}
+use Rattle.unit_model.proofs.ClaimLemmas.{same_slot_is as slots_equal, starts_before as from_first, covers_is}
+use Rattle.fh_time.specs.declared.nanoseconds.TheConstants.{NANOSECOND}
 
-later : (least s at : ℤ) → pos 1 ≤ℤ least → (least *ℤ pos 1536) ≤ℤ (s -ℤ at) → at <ℤ s
+later : (least s at : ℤ) → pos 1 ≤ℤ least → (least *ℤ pos NANOSECOND) ≤ℤ (s -ℤ at) → at <ℤ s
 later least s at some h = omega (arith, ints)
 
 sum_some : (a b : ℤ) → pos 1 ≤ℤ a → pos 0 ≤ℤ b → pos 1 ≤ℤ (a +ℤ b)

@@ -11,7 +11,9 @@ use Rattle.window_config.specs.declared.endpoints.EndpointConfig.{EndpointConfig
 use Rattle.unit_model.specs.Lists.{each}
 use Rattle.unit_model.specs.Sweeps.{first_swept, of_endpoint, of_frame, of_slot, of_subframe, slot_at}
 use Rattle.unit_laws.specs.Runs.{next_slot, each_slot, IsNext, NextIsNext, IsElsewhere}
-use Rattle.fh_time.proofs.Orders.{after_by}
+use Rattle.fh_time.proofs.Orders.{after_by, and_none}
+use Rattle.std.specs.Int.Signed.{≤ℤ_refl}
+use Rattle.unit_laws.proofs.SweepLemmas.{here_below}
 
 -- ---- the next slot
 
@@ -53,16 +55,13 @@ advanced n s (suc k) = advanced n (next_slot n s) k
 step_on : (a b : ℤ) (k : ℕ) → b ≡ a +ℤ pos 1 → b +ℤ pos k ≡ a +ℤ pos (suc k)
 step_on a b k e = omega (arith, ints)
 
-none_on : (a : ℤ) → a ≡ a +ℤ pos 0
-none_on a = omega (arith, ints)
-
 record IsOn (n : Numerology) (s : Slot) (k : ℕ) (t : Slot) : Type 0 where
   slot_is : IsSlotOf n t
   number : slot_number n t ≡ slot_number n s +ℤ pos k
 
 advanced_is : (n : Numerology) (s : Slot) (k : ℕ) → IsSlotOf n s → IsOn n s k (advanced n s k)
 unfolding advanced
-advanced_is n s zero is = record { slot_is = is; number = none_on (slot_number n s) }
+advanced_is n s zero is = record { slot_is = is; number = sym (and_none (slot_number n s)) }
 advanced_is n s (suc k) is =
     let one = next_is_next n s is in
     let rest = advanced_is n (next_slot n s) k one.slot_is in
@@ -84,12 +83,6 @@ each_slot-add n s (suc a) b f =
     ∙ ap (λ (xs : List _). f s ++ xs) (each_slot-add n (next_slot n s) a b f)
     ∙ sym (append_assoc (f s) (each_slot n (next_slot n s) a f) (each_slot n (advanced n (next_slot n s) a) b f))
 
-first_low : (x : ℤ) → x ≤ℤ x
-first_low x = omega (arith, ints)
-
-first_high : (x : ℤ) (k : ℕ) → x <ℤ (x +ℤ pos (suc k))
-first_high x k = omega (arith, ints)
-
 next_low : (x y z : ℤ) → y ≡ x +ℤ pos 1 → y ≤ℤ z → x ≤ℤ z
 next_low x y z e h = omega (arith, ints)
 
@@ -104,7 +97,7 @@ each_slot-none n s (suc count) f is none =
     let one = next_is_next n s is in
     let x = slot_number n s in
     let y = slot_number n (next_slot n s) in
-    ap₂ ◌++◌ (none s is (first_low x) (first_high x count))
+    ap₂ ◌++◌ (none s is (≤ℤ_refl x) (here_below x count))
     (each_slot-none n (next_slot n s) count f one.slot_is (λ t is_t low high.
     none t is_t (next_low x y (slot_number n t) one.number low) (next_high x y (slot_number n t) count one.number high)))
 
@@ -149,7 +142,7 @@ rows_same n s t j k f is_s is_t none_s none_t = by_distance (slot_number n t -�
         → ((u : Slot) → IsSlotOf n u → IsElsewhere n t k u → f u ≡ []) → slot_number n t ≡ slot_number n s +ℤ pos d → each_slot n s j f ≡ each_slot n t k f
     ordered s t j k d is_s is_t none_s none_t number =
         let size : 0 + (j + (d + k)) ≡ d + (k + j) = omega arith in
-        sym (within_a_row n s s 0 j (d + k) f is_s is_s (none_on (slot_number n s)) none_s)
+        sym (within_a_row n s s 0 j (d + k) f is_s is_s (sym (and_none (slot_number n s))) none_s)
         ∙ ap (λ (m : ℕ). each_slot n s m f) size
         ∙ within_a_row n s t d k j f is_s is_t number none_t
 
@@ -265,13 +258,10 @@ frames_in_a_row n first from (suc m) f =
     ∙ whole_frame n (first +ℤ pos from) size f
     ∙ ap (λ (k : ℕ). each_slot n (slot_at (first +ℤ pos from) 0 0) k f) (more_frames m (10 * slots_of n))
 
-at_first : (first : ℤ) → first +ℤ pos 0 ≡ first
-at_first first = omega (arith, ints)
-
 -- what is told of an endpoint at a tick is told over the slots of the six frames
 pub endpoint_is : {A : Type 0} (g : Slot → ℕ → List A) (e : EndpointConfig) (s : ℤ)
     → of_endpoint g e s ≡ each_slot e.numerology (slot_at (first_swept s) 0 0) (6 * (10 * slots_of e.numerology)) (of_slot g e s)
 unfolding of_endpoint of_frame of_subframe
 endpoint_is g e s =
     frames_in_a_row e.numerology (first_swept s) 0 6 (of_slot g e s)
-    ∙ ap (λ (z : ℤ). each_slot e.numerology (slot_at z 0 0) (6 * (10 * slots_of e.numerology)) (of_slot g e s)) (at_first (first_swept s))
+    ∙ ap (λ (z : ℤ). each_slot e.numerology (slot_at z 0 0) (6 * (10 * slots_of e.numerology)) (of_slot g e s)) (and_none (first_swept s))

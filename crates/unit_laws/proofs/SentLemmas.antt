@@ -5,9 +5,7 @@ use Rattle.std.proofs.lemmas.Int.{ints, by_lt_z}
 use Rattle.fh_time.specs.Air.{air_of}
 use Rattle.fh_time.specs.declared.values.Slot.{Slot}
 use Rattle.fh_time.proofs.Order.{symbols_in_order}
-use Rattle.unit_model.specs.air_source.specs.declared.events.AirCell.{AirCell}
-use Rattle.unit_model.specs.air_source.specs.declared.events.Side.{Side}
-use Rattle.unit_model.specs.air_source.specs.declared.events.Side.TheVariants.{Ru, Du}
+use Rattle.unit_model.specs.Terms.{AirCell, Side, Ru, Du}
 use Rattle.window_config.specs.declared.delays.Delays.{Delays}
 use Rattle.window_config.specs.declared.endpoints.EndpointConfig.{EndpointConfig}
 use Rattle.unit_model.specs.Blocks.{timely}

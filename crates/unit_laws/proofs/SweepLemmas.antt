@@ -16,6 +16,7 @@ use Rattle.unit_laws.specs.Swept.{IsSwept}
 use Rattle.unit_laws.specs.Swept.{SweepsAppend, SweepsAreSame, SweepsOfNothing, TicksOfNothing}
 use Rattle.unit_model.proofs.SweepLaws.{ticks_split as each_tick-add, gap_is as gap_reaches, gap_none, sweep_quiet as sweep-nothing}
 use Rattle.fh_time.proofs.Orders.{at_most as no_order, same_gap, above_next, frame_low_is}
+use Rattle.std.specs.Int.Signed.{≤ℤ_refl}
 
 -- ---- how many ticks there are
 
@@ -24,9 +25,6 @@ gap_below (pos a) (pos b) s above below = omega (arith, ints)
 gap_below (pos a) (negsuc b) s above below = omega (arith, ints)
 gap_below (negsuc a) (pos b) s above below = omega (arith, ints)
 gap_below (negsuc a) (negsuc b) s above below = omega (arith, ints)
-
-start_here : (from : ℤ) → from +ℤ pos 0 ≡ from
-start_here from = omega (arith, ints)
 
 start_next : (from : ℤ) (n : ℕ) → from +ℤ pos (suc n) ≡ (from +ℤ pos 1) +ℤ pos n
 start_next from n = omega (arith, ints)
@@ -52,10 +50,7 @@ sweep-none g es from end order = ap (λ (k : ℕ). each_tick from k (at_tick g e
 below_next : (from s : ℤ) (n : ℕ) → s <ℤ ((from +ℤ pos 1) +ℤ pos n) → s <ℤ (from +ℤ pos (suc n))
 below_next from s n h = omega (arith, ints)
 
-here_above : (from : ℤ) → from ≤ℤ from
-here_above from = omega (arith, ints)
-
-here_below : (from : ℤ) (n : ℕ) → from <ℤ (from +ℤ pos (suc n))
+pub here_below : (from : ℤ) (n : ℕ) → from <ℤ (from +ℤ pos (suc n))
 here_below from n = omega (arith, ints)
 
 frame_high_is : (first : ℤ) (k : ℕ) → k < 0 + 6 → (first +ℤ pos k) <ℤ (first +ℤ pos 6)
@@ -80,7 +75,7 @@ module _ {A B : Type 0} (R : List A → List B → Type 0) (kept : IsKept R) whe
   unfolding each_tick
   each_tick_related from zero f g h = kept.none
   each_tick_related from (suc n) f g h =
-      kept.more (f from) (each_tick (from +ℤ pos 1) n f) (g from) (each_tick (from +ℤ pos 1) n g) (h from (here_above from) (here_below from n))
+      kept.more (f from) (each_tick (from +ℤ pos 1) n f) (g from) (each_tick (from +ℤ pos 1) n g) (h from (≤ℤ_refl from) (here_below from n))
       (each_tick_related (from +ℤ pos 1) n f g (λ s above below. h s (above_next from s above) (below_next from s n below)))
 
   chosen : (b : Bool) (xs : List A) (ys : List B) → (b ≡ true → R xs ys) → R (if b then xs else []) (if b then ys else [])

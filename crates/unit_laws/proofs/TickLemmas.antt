@@ -8,8 +8,7 @@ use Rattle.fh_time.specs.Numbering.{symbols_of}
 use Rattle.fh_time.specs.declared.numerology.Numerology.{Numerology}
 use Rattle.fh_time.specs.declared.values.Slot.{Slot}
 use Rattle.fh_time.proofs.Order.{symbol_in_span}
-use Rattle.unit_model.specs.air_source.specs.declared.events.AirCell.{AirCell}
-use Rattle.unit_model.specs.air_source.specs.declared.events.Side.TheVariants.{Ru}
+use Rattle.unit_model.specs.Terms.{AirCell, Ru}
 use Rattle.window_config.specs.Limits.{IsWithinLimits}
 use Rattle.window_config.specs.Rings.{IsLive, ru_reach_of}
 use Rattle.window_config.specs.Windows.{ticks_of_ns}

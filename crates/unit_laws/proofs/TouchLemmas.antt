@@ -3,8 +3,7 @@ use Rattle.std.proofs.Common.{◌≡◌, ℕ, ℤ, true, List, ◌∷◌, inl, i
 use Rattle.std.specs.Prelude.{◌==◌, cond}
 use Rattle.std.proofs.lemmas.Bool.{and_parts, eqb-true}
 use Rattle.fh_time.specs.declared.values.Slot.{Slot}
-use Rattle.unit_model.specs.air_source.specs.declared.events.Side.{Side}
-use Rattle.unit_model.specs.air_source.specs.declared.events.Side.TheVariants.{Ru}
+use Rattle.unit_model.specs.Terms.{Side, Ru}
 use Rattle.window_config.specs.declared.delays.Delays.{Delays}
 use Rattle.window_config.specs.declared.endpoints.EndpointConfig.{EndpointConfig}
 use Rattle.unit_model.specs.Blocks.{data_slot}
@@ -15,11 +14,11 @@ use Rattle.unit_model.specs.Sides.{IsLiveOn}
 use Rattle.unit_model.specs.Standing.{uplink_of}
 use Rattle.unit_model.specs.declared.allocations.Allocation.{Allocation}
 use Rattle.unit_laws.specs.Touched.{ClaimsChangeInLive, BlocksChangeInLive, UplinkGrows, UplinkChangesInLive, is_uplink_of}
-use Rattle.unit_laws.proofs.CellLemmas.{covers_is, data_covers_is}
+use Rattle.unit_laws.proofs.CellLemmas.{data_covers_is}
 use Rattle.unit_laws.proofs.ChangeLemmas.{accepted_more, either_way, only_accepted, only_timely}
 use Rattle.unit_laws.proofs.FarLemmas.{endpoints_equal, uplink_same}
 use Rattle.unit_laws.proofs.LiveLemmas.{accepted_live, timely_live}
-use Rattle.unit_model.proofs.ClaimLemmas.{same_slot_is as slots_equal}
+use Rattle.unit_model.proofs.ClaimLemmas.{same_slot_is as slots_equal, covers_is}
 
 -- the same slot of the same endpoint
 live_there : (side : Side) (es : List EndpointConfig) (d : Delays) (i j : ℕ) (e f : EndpointConfig) (s t : Slot) (clock : ℤ) → IsAt es i e → IsAt es j f → i ≡ j → s ≡ t

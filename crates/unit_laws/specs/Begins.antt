@@ -1,6 +1,6 @@
 -- The distributed unit begins with nothing, whatever is planned.
 use Rattle.std.specs.Prelude.{◌≡◌, ℕ, List, []}
-use Rattle.unit_model.specs.air_source.specs.declared.events.Side.TheVariants.{Du}
+use Rattle.unit_model.specs.Terms.{Du}
 use Rattle.fault_counters.specs.Counts.{count_of}
 use Rattle.fault_counters.specs.declared.kinds.Counter.{Counter}
 use Rattle.ecpri_fragments.specs.Assemblies.{StandsFor, hold_of as assembly_hold}

@@ -9,7 +9,7 @@ use Rattle.unit_model.specs.Standing.{AreInTime}
 use Rattle.unit_model.specs.Sweeps.{at_tick}
 use Rattle.unit_model.specs.Times.{end_of_time, last_landing}
 use Rattle.unit_model.specs.Uplink.{jobs, symbol_jobs}
-use Rattle.unit_model.specs.air_source.specs.declared.events.Side.TheVariants.{Ru}
+use Rattle.unit_model.specs.Terms.{Ru}
 
 -- where all arrivals came by a time, no cell and no uplink message is told of a tick that is a second later
 abbrev pub NoCellsLater : Type 0

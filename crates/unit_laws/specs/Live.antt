@@ -1,6 +1,6 @@
 -- What is on time names a slot that is live when it comes.
 use Rattle.std.specs.Prelude.{◌≡◌, ◌≤ℤ◌, List}
-use Rattle.unit_model.specs.air_source.specs.declared.events.Side.{Side}
+use Rattle.unit_model.specs.Terms.{Side}
 use Rattle.window_config.specs.Limits.{IsWithinLimits}
 use Rattle.window_config.specs.Rings.{IsLive, ru_reach_of}
 use Rattle.window_config.specs.declared.delays.Delays.{Delays}

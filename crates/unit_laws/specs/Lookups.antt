@@ -2,15 +2,14 @@
 use Rattle.std.specs.Prelude.{◌≡◌, ℕ, ℤ, ◌<◌, true, List, length, Option, is_some}
 use Rattle.std.specs.List.{list_any}
 use Rattle.fh_time.specs.declared.values.Slot.{Slot}
-use Rattle.unit_model.specs.air_source.specs.declared.events.AirCell.{AirCell}
-use Rattle.unit_model.specs.air_source.specs.declared.events.Side.{Side}
+use Rattle.unit_model.specs.Terms.{AirCell, Side, is_down}
 use Rattle.window_config.specs.declared.config.Config.{Config}
 use Rattle.window_config.specs.declared.endpoints.EndpointConfig.{EndpointConfig}
 use Rattle.unit_model.specs.Blocks.{block_at, data_covers, every_data_cell, has_all}
 use Rattle.unit_model.specs.Claims.{claim_at, covers, every_cell, is_claimed, is_overlapped, overlaps, repeats, some_cell}
 use Rattle.unit_model.specs.Commands.{uplink_in}
 use Rattle.unit_model.specs.Proper.{IsProperAllocation, IsProperData, IsSlot}
-use Rattle.unit_model.specs.Radiated.{air_cell, is_down}
+use Rattle.unit_model.specs.Radiated.{air_cell}
 use Rattle.unit_model.specs.Standing.{IsCell, cell_heard, is_reported, uplink_of}
 use Rattle.unit_model.specs.Uplink.{symbol_jobs}
 use Rattle.unit_model.specs.declared.allocations.Allocation.{Allocation}

@@ -3,8 +3,7 @@
 use Rattle.std.specs.Prelude.{◌≡◌, ℕ, ℤ, ◌<◌, ◌≤◌, ◌+ℤ◌, ◌≤ℤ◌, ◌<ℤ◌, List, ◌∷◌, All}
 use Rattle.fh_time.specs.Air.{air_of}
 use Rattle.fh_time.specs.declared.values.Slot.{Slot}
-use Rattle.unit_model.specs.air_source.specs.declared.events.Side.{Side}
-use Rattle.unit_model.specs.air_source.specs.declared.events.Side.TheVariants.{Ru, Du}
+use Rattle.unit_model.specs.Terms.{Side, Ru, Du, is_down}
 use Rattle.window_config.specs.Limits.{IsWithinLimits}
 use Rattle.window_config.specs.declared.delays.Delays.{Delays}
 use Rattle.window_config.specs.declared.endpoints.EndpointConfig.{EndpointConfig}
@@ -13,7 +12,7 @@ use Rattle.unit_model.specs.Claims.{cell_at, claim_at}
 use Rattle.unit_model.specs.Commands.{accepted}
 use Rattle.unit_model.specs.Meetings.{Arrival, commands, meetings}
 use Rattle.unit_model.specs.Proper.{IsAt, IsProperCommand, IsProperData}
-use Rattle.unit_model.specs.Radiated.{Known, is_down, known_of, symbol_report, wait_of}
+use Rattle.unit_model.specs.Radiated.{Known, known_of, symbol_report, wait_of}
 use Rattle.unit_model.specs.Uplink.{symbol_jobs}
 use Rattle.unit_model.specs.declared.allocations.Allocation.{Allocation}
 use Rattle.unit_model.specs.declared.cells.Cell.{Cell}

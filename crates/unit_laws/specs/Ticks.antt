@@ -4,9 +4,7 @@ use Rattle.fh_time.specs.Air.{air_of}
 use Rattle.fh_time.specs.Numbering.{IsSlotOf, symbols_of}
 use Rattle.fh_time.specs.declared.numerology.Numerology.{Numerology}
 use Rattle.fh_time.specs.declared.values.Slot.{Slot}
-use Rattle.unit_model.specs.air_source.specs.declared.events.AirCell.{AirCell}
-use Rattle.unit_model.specs.air_source.specs.declared.events.Side.{Side}
-use Rattle.unit_model.specs.air_source.specs.declared.events.Side.TheVariants.{Ru}
+use Rattle.unit_model.specs.Terms.{AirCell, Side, Ru}
 use Rattle.window_config.specs.Limits.{IsWithinLimits}
 use Rattle.window_config.specs.Rings.{IsLive, ru_reach_of}
 use Rattle.window_config.specs.declared.config.Config.{Config}

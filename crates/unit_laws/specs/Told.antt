@@ -1,9 +1,7 @@
 -- An arrival changes nothing of what is past: at the radio unit what is reported up to it, at the distributed unit what is reported before
 -- it.
 use Rattle.std.specs.Prelude.{◌≡◌, ℤ, ◌≤ℤ◌, List, ◌∷◌}
-use Rattle.unit_model.specs.air_source.specs.declared.events.AirCell.{AirCell}
-use Rattle.unit_model.specs.air_source.specs.declared.events.Side.{Side}
-use Rattle.unit_model.specs.air_source.specs.declared.events.Side.TheVariants.{Ru}
+use Rattle.unit_model.specs.Terms.{AirCell, Side, Ru}
 use Rattle.window_config.specs.Limits.{IsWithinLimits}
 use Rattle.window_config.specs.declared.delays.Delays.{Delays}
 use Rattle.window_config.specs.declared.endpoints.EndpointConfig.{EndpointConfig}

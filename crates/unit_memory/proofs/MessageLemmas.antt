@@ -6,15 +6,12 @@ use Rattle.unit_cells.specs.air_source.specs.declared.events.Side.{Side}
 use Rattle.unit_cells.specs.air_source.specs.declared.events.Side.TheVariants.{Ru, Du}
 use Rattle.fault_counters.specs.declared.kinds.Counter.TheVariants.{URefused, WrongWay}
 use Rattle.fault_counters.specs.Counts.{capped, count_of, once, times}
-use Rattle.unit_cells.specs.unit_model.specs.uplane_sections.specs.declared.values.URefusal.{URefusal}
+use Rattle.unit_cells.specs.unit_model.specs.Terms.{URefusal, UHead, USection, UFeed}
 use Rattle.unit_cells.specs.unit_model.specs.Counts.{decoded_counted}
 use Rattle.fault_counters.specs.declared.kinds.Counter.{Counter}
 use Rattle.fh_time.specs.Numbering.{shape_of}
 use Rattle.fh_time.specs.declared.values.Shape.{Shape}
 use Rattle.fh_time.specs.declared.values.Ticks.{Ticks}
-use Rattle.unit_cells.specs.unit_model.specs.uplane_sections.specs.declared.values.UHead.{UHead}
-use Rattle.unit_cells.specs.unit_model.specs.uplane_sections.specs.declared.values.USection.{USection}
-use Rattle.unit_cells.specs.unit_model.specs.uplane_sections.specs.declared.steps.UFeed.{UFeed}
 use Rattle.unit_cells.specs.unit_model.specs.uplane_sections.specs.declared.steps.UFeed.TheVariants as feed
 use Rattle.unit_cells.specs.unit_model.specs.uplane_sections.specs.Messages.{Item, Telling, told}
 use Rattle.unit_cells.specs.unit_model.specs.uplane_sections.specs.Writes.{IsHeadAdmitted}
@@ -22,7 +19,6 @@ use Rattle.unit_cells.specs.window_config.specs.declared.config.Config.{Config}
 use Rattle.unit_cells.specs.window_config.specs.declared.endpoints.EndpointConfig.{EndpointConfig}
 use Rattle.unit_cells.specs.unit_model.specs.Decoding.{Backwards, Decoded, Gathering, SectionBlocks, Refused, Sections, data_with, decode, decoded_from, decoded_with, gathered, has_way, nothing_told, sections_of}
 use Rattle.unit_cells.specs.unit_model.specs.Proper.{IsAt, IsTime}
-use Rattle.unit_cells.specs.unit_model.specs.Radiated.{is_down}
 use Rattle.unit_cells.specs.unit_model.specs.declared.allocations.Allocation.{Allocation}
 use Rattle.unit_cells.specs.unit_model.specs.declared.decoded.UserSection.{UserSection}
 use Rattle.unit_cells.specs.Cells.{CellsValue}
@@ -35,6 +31,7 @@ use Rattle.unit_memory.specs.Holding.{HoldsData}
 use Rattle.unit_memory.specs.Sections.{AreBehind, Came}
 use Rattle.unit_memory.proofs.DataHoldLemmas.{Stays, stays_none, stays_on}
 use Rattle.unit_memory.proofs.WalkLemmas.{behind_head, gathered_all, gathered_head, gathered_section, gathering, same_head}
+use Rattle.unit_cells.specs.air_source.specs.Units.{is_down}
 
 -- the section of a message whose fragments came then
 abbrev pub heading_of : ℕ → EndpointConfig → Ticks → Ticks → UHead → USection → DataHeading

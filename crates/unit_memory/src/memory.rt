@@ -64,7 +64,7 @@ pub struct UnitMemory {
 
 impl UnitMemory {
     ghost use Rattle.unit_memory.specs.Control.{has_control, is_control};
-    ghost use Rattle.unit_memory.specs.Memory.{Holds, HoldsSome, arrival};
+    ghost use Rattle.unit_memory.specs.Memory.{Holds, HoldsSome, arrival_at};
     ghost use Rattle.unit_memory.specs.Parts.{LeavesReported, MemoryStands, MemoryStandsForSome};
 
     /// Takes all memory for a unit and a configuration. Nothing came.
@@ -114,7 +114,7 @@ impl UnitMemory {
         requires unit { HoldsSome at.0 self.old }
         requires time { IsTime at.0 }
         ensures holds { (side : SpecSide) (c : SpecConfig) (arrivals : List Arrival) (beside : List Counter) → Holds side c at.0 self.old arrivals beside
-            → Holds side c at.0 self.new (arrival at.0 frame.now ∷ arrivals) beside }
+            → Holds side c at.0 self.new (arrival_at at.0 frame.now ∷ arrivals) beside }
         ensures reports { (side : SpecSide) (c : SpecConfig) → IsOf side c self.old.cells → SameReported side c at.0 self.old.cells self.new.cells }
         ensures messages { result.delivered.messages ≡ min (length (whole_messages frame.now)) (2 ^ 32 - 1) }
         ensures refusal { result.delivered.refusal ≡ (pdu frame.now).refusal }

@@ -12,7 +12,7 @@ ghost use Rattle.uplane_messages.specs.Whole.{IsWhole};
 ghost use Rattle.unit_cells.specs.unit_model.specs.Counts.{decoded_counted};
 ghost use Rattle.unit_cells.specs.unit_model.specs.Decoding.{data_with, decode, gathered, has_way, nothing_told, sections_of};
 ghost use Rattle.unit_cells.specs.unit_model.specs.Proper.{IsAt, IsTime};
-ghost use Rattle.unit_cells.specs.unit_model.specs.Radiated.{is_down};
+ghost use Rattle.unit_cells.specs.air_source.specs.Units.{is_down};
 ghost use Rattle.unit_cells.specs.unit_model.specs.declared.allocations.Allocation.{Allocation};
 ghost use Rattle.unit_cells.specs.unit_model.specs.declared.decoded.UserSection.{UserSection};
 ghost use Rattle.unit_cells.specs.Cells.{IsOf, endpoints_of};

@@ -1,6 +1,6 @@
 -- Claims, slots and ranges by their tests.
 use Rattle.std.proofs.Common.{◌≡◌, Bool, true, false, refl, sym, ℕ, ◌-◌, ◌<◌, arith, ◌≤◌, zero, suc, ap, ◌+◌, ◌&&◌, ap₂, ◌||◌, not, ◌<ℤ◌, inl, inr, ◌∙◌, true≢false}
-use Rattle.unit_model.specs.Claims.{same_way, same_slot, is_from, in_mask, is_claimed, is_under, is_other, is_overlapped}
+use Rattle.unit_model.specs.Claims.{same_way, same_slot, is_from, in_mask, is_claimed, is_under, is_other, is_overlapped, covers, first_prb, prb_count}
 use Rattle.std.specs.Prelude.{◌==◌, Option, None, if◌then◌else◌, is_some, int_lt}
 use Rattle.std.specs.Ordering.{int_eq}
 use Rattle.std.proofs.lemmas.Bool.{and_parts, eqb-true, and_from, eq-eqb, or_left, cases_eq, or_right, cases_Bool}
@@ -14,6 +14,8 @@ use Rattle.unit_model.specs.Lists.{every, some}
 use Rattle.unit_model.specs.Order.{comes_before}
 use Rattle.unit_model.specs.declared.symbol_start.SymbolStart.{SymbolStart}
 use Rattle.fh_time.proofs.Orders.{under_is as is_less}
+use Rattle.unit_model.specs.declared.allocations.Allocation.{Allocation}
+use Rattle.unit_model.specs.declared.cells.Cell.{Cell}
 
 pub same_way_is : (a b : Bool) → same_way a b ≡ true → a ≡ b
 same_way_is true true h = refl
@@ -109,3 +111,25 @@ some_not from n p k h low high = elim (cases_Bool (p k)) [
   | inl is ↦ absurd (true≢false (sym (some_one from n p k low high is) ∙ h))
   | inr not_is ↦ not_is
 ]
+
+-- what it is to cover a cell
+pub record Covers (a : Allocation) (cell : Cell) : Type 0 where
+  pub ep : a.ep ≡ cell.ep
+  pub down : a.down ≡ cell.down
+  pub slot : a.slot ≡ cell.slot
+  pub symbol : is_from a.symbol a.num_symbol cell.symbol ≡ true
+  pub prb : is_from (first_prb a) (prb_count a) cell.prb ≡ true
+
+pub covers_is : (a : Allocation) (cell : Cell) → covers a cell ≡ true → Covers a cell
+covers_is a cell h =
+    let one = and_parts (a.ep == cell.ep) _ h in
+    let two = and_parts (same_way a.down cell.down) _ one.1 in
+    let three = and_parts (same_slot a.slot cell.slot) _ two.1 in
+    let four = and_parts (is_from a.symbol a.num_symbol cell.symbol) (is_from (first_prb a) (prb_count a) cell.prb) three.1 in
+    record {
+      ep = eqb-true a.ep cell.ep one.0;
+      down = same_way_is a.down cell.down two.0;
+      slot = same_slot_is a.slot cell.slot three.0;
+      symbol = four.0;
+      prb = four.1;
+    }

@@ -23,6 +23,7 @@ use Rattle.unit_model.specs.Proper.{IsAt}
 use Rattle.unit_model.specs.Sweeps.{OfSymbol, slot_at, frame_of_tick, first_swept, frames_swept, of_symbol, of_slot, of_subframe, of_frame, of_endpoint, of_endpoints, at_tick, sweep}
 use Rattle.unit_model.proofs.SweepLaws.{each_split, ticks_split, gap_is, gap_parts}
 use Rattle.fh_time.specs.declared.frames.TheConstants.{FRAME}
+use Rattle.fh_time.specs.declared.symbols.TheConstants.{SUBFRAME}
 
 -- ---- how late a symbol may start
 
@@ -50,8 +51,8 @@ kind_soon (Offset Khz5 t c) s m short h k = omega (arith, kind_covers (Offset Kh
 kind_soon Extended s m short h k = omega (arith, kind_covers Extended s m k, kind_left Extended s h)
 
 in_air : (f : ℤ) (b x : ℕ) → b < 10 → x < 62976000000
-    → ((f *ℤ FRAME) ≤ℤ (f *ℤ FRAME +ℤ pos (b * 1536000000 + x)))
-    × ((f *ℤ FRAME +ℤ pos (b * 1536000000 + x)) <ℤ (f *ℤ FRAME +ℤ pos 76800000000))
+    → ((f *ℤ FRAME) ≤ℤ (f *ℤ FRAME +ℤ pos (b * SUBFRAME + x)))
+    × ((f *ℤ FRAME +ℤ pos (b * SUBFRAME + x)) <ℤ (f *ℤ FRAME +ℤ pos 76800000000))
 in_air f b x h k = (omega (arith, ints), omega (arith, ints))
 
 -- a symbol starts less than 50 ms after its frame

@@ -11,6 +11,7 @@ use Rattle.unit_model.specs.Sound.{IsSoundCommand, IsSoundData}
 use Rattle.unit_model.specs.declared.decoded.ControlSection.{ControlSection}
 use Rattle.unit_model.specs.declared.decoded.UserSection.{UserSection}
 use Rattle.fh_time.specs.declared.frames.TheConstants.{FRAME}
+use Rattle.unit_model.specs.Radiated.{first_clock}
 
 -- the frame nearest to a time that a unit may be given is one whose symbols' times can be told
 pub frame_low : (id : ℕ) (at f : ℤ) → IsTime at → IsFrame id at f → neg_ℤ (pos 1000000) ≤ℤ f
@@ -41,3 +42,7 @@ command_slot_is c is =
 pub data_slot_is : (d : UserSection) → IsSoundData d → IsSlot d.endpoint.numerology (data_slot d)
 data_slot_is d is =
     let frame = absolute_near d.head.frame_id d.last.0 is.last in record { low = frame.0; high = frame.1; subframe = is.subframe; slot_is = is.slot }
+
+-- the first clock is a time
+pub first_time : IsTime first_clock
+first_time = record { low = omega (arith, ints); high = omega (arith, ints) }

@@ -12,7 +12,6 @@ use Rattle.uplane_sections.specs.bfp_codec.specs.Layout.{length_of, unpacked_of}
 use Rattle.uplane_sections.specs.declared.values.UHead.{UHead}
 use Rattle.uplane_sections.specs.declared.values.URefusal.{URefusal}
 use Rattle.uplane_sections.specs.declared.values.USection.{USection}
-use Rattle.uplane_sections.specs.declared.values.UWhy.{UWhy}
 use Rattle.uplane_sections.specs.declared.values.UWhy.TheVariants.{Truncated, Version, SlotRange, SymbolRange, EveryOtherRb, PrbRange, Method as UnknownMethod}
 use Rattle.uplane_sections.specs.Header.{symbolId, subframeId, slotId, payloadVersion, head_of}
 use Rattle.fh_time.specs.Carrier.{is_outside, first_of, count_of}
@@ -23,6 +22,7 @@ use Rattle.unit_model.specs.Decoding.{SectionBlocks, Gathering, nothing_told, wi
 use Rattle.unit_model.specs.declared.decoded.UserSection.{UserSection}
 use Rattle.unit_model.specs.Proper.{IsAt, IsTime, IsProperData}
 use Rattle.fh_time.proofs.Orders.{not_lt, not_le, neither_le}
+use Rattle.uplane_sections.proofs.Refusing.{passes, refusal_at}
 
 -- a section that passed the tests, with all its PRBs
 pub record IsWholePart (prbs : ℕ) (shape : Shape) (p : SectionBlocks) : Type 0 where
@@ -58,18 +58,6 @@ lengthens method prb (suc n) bytes head p ps rest h =
     let one : length (p.blocks ++ samples ∷ []) ≡ length p.blocks + 1 = length-append p.blocks (samples ∷ []) in
     let b : length more.q.blocks ≡ length p.blocks + suc n = omega (arith, more.blocks, one) in
     record { q = more.q; section = more.section; blocks = b; is = rw there more.is }
-
--- a test that refuses nothing is false
-pub record Passes (t : Bool) (x : Telling) : Type 0 where
-  pub passed : t ≡ false
-  pub rest : x.refusal ≡ None
-
-passes : (t : Bool) (r : URefusal) (x : Telling) → (cond t (refused r) x).refusal ≡ None → Passes t x
-passes true r x h = absurd cc
-passes false r x h = record { passed = refl; rest = h }
-
-abbrev refusal_at : ℕ → UWhy → URefusal
-refusal_at place why = record { place = place; why = why }
 
 neither_lt : (m n : ℕ) (t : Bool) → (nat_lt m n || t) ≡ false → n < suc m
 neither_lt m n t h = grind (arith, nat_tests)

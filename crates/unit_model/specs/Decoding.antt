@@ -4,18 +4,16 @@ use Rattle.fh_time.specs.Numbering.{shape_of}
 use Rattle.air_source.specs.declared.events.Side.{Side}
 use Rattle.air_source.specs.declared.events.Side.TheVariants.{Ru, Du}
 use Rattle.uplane_sections.specs.bfp_codec.specs.declared.samples.Wide.{Wide}
-use Rattle.ecpri_fragments.specs.declared.verdict.Verdict.{Verdict}
-use Rattle.ecpri_fragments.specs.declared.verdict.Verdict.TheVariants.{Stored, Whole, Repeat, Stray, TooLong}
 use Rattle.ecpri_fragments.specs.Generations.{Fragment}
-use Rattle.ecpri_fragments.specs.Verdicts.{Message, message, standing_before, verdict_on}
+use Rattle.ecpri_fragments.specs.Verdicts.{Message, whole_now}
 use Rattle.uplane_sections.specs.declared.values.UHead.{UHead}
 use Rattle.uplane_sections.specs.declared.values.URefusal.{URefusal}
 use Rattle.uplane_sections.specs.declared.values.USection.{USection}
 use Rattle.uplane_sections.specs.Messages.{Item, Head, Section, Block, told}
 use Rattle.window_config.specs.declared.endpoints.EndpointConfig.{EndpointConfig}
-use Rattle.unit_model.specs.Lists.{joined}
 use Rattle.unit_model.specs.Meetings.{Meeting, Ignored, Commands, Piece, fragments}
 use Rattle.unit_model.specs.declared.decoded.UserSection.{UserSection}
+use Rattle.ecpri_fragments.specs.Pieces.{joined}
 
 -- a section with the samples of its PRBs, in their order
 pub record SectionBlocks : Type 0 where
@@ -91,17 +89,6 @@ decode side ep e first last bytes =
 
 abbrev pub decode_message : Side → ℕ → EndpointConfig → Message → Decoded
 decode_message side ep e m = decode side ep e m.first m.last (joined m.pieces)
-
--- the message that a fragment makes whole, where it does
-abbrev pub whole_of : Verdict → Fragment → List Fragment → Option Message
-whole_of Stored f stood = None
-whole_of Whole f stood = Some (message (f ∷ stood))
-whole_of Repeat f stood = None
-whole_of Stray f stood = None
-whole_of TooLong f stood = None
-
-abbrev pub whole_now : ℤ → Fragment → List Fragment → Option Message
-whole_now hold f earlier = whole_of (verdict_on hold f earlier) f (standing_before hold f earlier)
 
 abbrev pub sections_of : Decoded → List UserSection
 sections_of Refused = []

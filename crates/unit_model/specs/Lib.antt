@@ -1,4 +1,5 @@
 pub use Rattle.air_source
+pub use Rattle.ecpri_fragments
 pub use Rattle.uplane_sections
 pub use Rattle.window_config
 pub mod Lists
@@ -21,3 +22,4 @@ pub mod ProperJobs
 pub mod Standing
 pub mod Met
 pub mod Starts
+pub mod Terms

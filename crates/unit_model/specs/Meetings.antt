@@ -1,7 +1,6 @@
 -- What a unit makes of each whole message of a frame, in the order of the tests that it meets (eCPRI 2.0, sections 3.1.3 and
 -- 3.2.4; O-RAN.WG4.CUS, the eCPRI transport header; the order of the tests is this project's profile).
-use Rattle.std.specs.Prelude.{ℕ, ℤ, ◌+◌, ◌==◌, ◌||◌, ◌&&◌, not, nat_lt, if◌then◌else◌, Bool, List, [], ◌∷◌, length, take, drop, map, Option, Some, None, Result, Ok, Err}
-use Rattle.bit_fields.specs.Field.{field}
+use Rattle.std.specs.Prelude.{ℕ, ℤ, ◌+◌, ◌==◌, ◌||◌, not, nat_lt, if◌then◌else◌, List, [], ◌∷◌, length, map, Option, Some, None, Result, Ok, Err}
 use Rattle.fh_time.specs.Numbering.{shape_of}
 use Rattle.air_source.specs.declared.events.Side.{Side}
 use Rattle.air_source.specs.declared.events.Side.TheVariants.{Ru, Du}
@@ -12,7 +11,7 @@ use Rattle.cplane_sections.specs.Message.{sections_in}
 use Rattle.cplane_sections.specs.Tests.{checked}
 use Rattle.ecpri_fragments.specs.declared.sequence.SeqField.{SeqField}
 use Rattle.ecpri_fragments.specs.Generations.{Fragment}
-use Rattle.ecpri_fragments.specs.Sequence.{seq_field_of}
+use Rattle.ecpri_fragments.specs.Sequence.{id_of, sequence_of, application, is_fragmented}
 use Rattle.ecpri_frames.specs.Gathering.{whole_messages}
 use Rattle.ecpri_frames.specs.Messages.{Message}
 use Rattle.air_source.specs.fault_counters.specs.declared.kinds.Counter.{Counter}
@@ -36,17 +35,6 @@ pub data Meeting : Type 0 where
   Commands : List ControlSection → Meeting
   Piece : EndpointConfig → Fragment → Meeting
 
--- ---- the payload of the types 0 and 2: the eAxC id, the sequence field, and the application's bytes
-
-abbrev pub id_of : List ℕ → ℕ
-id_of payload = field payload 0 16
-
-abbrev pub sequence_of : List ℕ → SeqField
-sequence_of payload = seq_field_of (take 2 (drop 2 payload))
-
-abbrev pub application : List ℕ → List ℕ
-application payload = drop 4 payload
-
 -- the endpoint with an id, and its index, where the first of these has the index `ep`
 abbrev pub find_from : ℕ → List EndpointConfig → ℕ → Option (ℕ × EndpointConfig)
 find_from ep [] id = None
@@ -56,10 +44,6 @@ abbrev pub find_endpoint : List EndpointConfig → ℕ → Option (ℕ × Endpoi
 find_endpoint es id = find_from 0 es id
 
 -- ---- a command
-
--- it is not one whole message: E is 0, or the subsequence id is not 0
-abbrev pub is_fragmented : SeqField → Bool
-is_fragmented seq = not (seq.last && (seq.sub == 0))
 
 abbrev pub command : ℕ → EndpointConfig → ℤ → CHead → CSection → ControlSection
 command ep e at head s = record { ep = ep; endpoint = e; at = record { 0 = at }; head = head; section = s }

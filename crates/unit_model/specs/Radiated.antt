@@ -1,6 +1,6 @@
 -- What a unit reports of a cell at its moment: at the radio unit what radiates, at the distributed unit what was taken in (this
 -- project's profile).
-use Rattle.std.specs.Prelude.{ℕ, zero, suc, ℤ, pos, ◌+◌, ◌*◌, ◌-ℤ◌, ◌+ℤ◌, ◌==◌, Bool, true, false, not, if◌then◌else◌, List, [], ◌∷◌, Option, Some, None}
+use Rattle.std.specs.Prelude.{ℕ, zero, suc, ℤ, pos, ◌+◌, ◌*◌, ◌-ℤ◌, ◌+ℤ◌, ◌==◌, Bool, false, not, if◌then◌else◌, List, [], ◌∷◌, Option, Some, None}
 use Rattle.fh_time.specs.declared.values.Slot.{Slot}
 use Rattle.fh_time.specs.Air.{air_of}
 use Rattle.air_source.specs.declared.events.AirCell.{AirCell}
@@ -20,11 +20,7 @@ use Rattle.unit_model.specs.declared.cells.Cell.{Cell}
 use Rattle.unit_model.specs.declared.cells.Claim.{Claim}
 use Rattle.unit_model.specs.declared.decoded.UserSection.{UserSection}
 use Rattle.fh_time.specs.declared.frames.TheConstants.{FRAME}
-
--- the direction of what a unit reports
-abbrev pub is_down : Side → Bool
-is_down Ru = true
-is_down Du = false
+use Rattle.air_source.specs.Units.{is_down}
 
 -- an element is in use: it is claimed, and not as idle
 abbrev pub is_used : Option Claim → Bool

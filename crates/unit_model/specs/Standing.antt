@@ -18,7 +18,7 @@ use Rattle.unit_model.specs.Commands.{is_uplink}
 use Rattle.unit_model.specs.Counts.{StandAt, cells_counted}
 use Rattle.unit_model.specs.Meetings.{Arrival, fragments}
 use Rattle.unit_model.specs.Proper.{IsAt, IsSlot}
-use Rattle.unit_model.specs.Radiated.{Known, symbol_report, first_clock, is_down, wait_of, used_mask}
+use Rattle.unit_model.specs.Radiated.{Known, symbol_report, first_clock, wait_of, used_mask}
 use Rattle.unit_model.specs.Reports.{met, accepted_of, hold_of, ru_known, du_known, arrivals_counted}
 use Rattle.unit_model.specs.Sides.{IsLiveFor}
 use Rattle.unit_model.specs.Sweeps.{sweep}
@@ -26,6 +26,7 @@ use Rattle.unit_model.specs.Uplink.{jobs}
 use Rattle.unit_model.specs.declared.allocations.Allocation.{Allocation}
 use Rattle.unit_model.specs.declared.cells.Cell.{Cell}
 use Rattle.unit_model.specs.declared.jobs.UplinkJob.{UplinkJob}
+use Rattle.air_source.specs.Units.{is_down}
 
 -- a clock; what arrived, the newest first; the cells that an air heard, and the jobs that were given, in order
 pub record History : Type 0 where
@@ -57,6 +58,10 @@ due side d es k heard to = sweep (still_reported side k heard) es (first_clock -
 -- the jobs up to a time that were not given: they are given in their order
 abbrev pub still_given : Config → List Allocation → List UplinkJob → ℤ → List UplinkJob
 still_given c accepted given to = drop (length given) (jobs c.endpoints accepted to)
+
+-- those that a history has still to give
+abbrev pub owed_until : Config → History → ℤ → List UplinkJob
+owed_until c h to = still_given c (accepted_of c h.arrivals) h.given to
 
 -- ---- a history after a call
 

@@ -7,11 +7,12 @@ use Rattle.air_source.specs.declared.events.Side.{Side}
 use Rattle.window_config.specs.declared.endpoints.EndpointConfig.{EndpointConfig}
 use Rattle.unit_model.specs.Claims.{cell_at}
 use Rattle.unit_model.specs.Lists.{each, in_order}
-use Rattle.unit_model.specs.Radiated.{Known, is_down, report_of}
+use Rattle.unit_model.specs.Radiated.{Known, report_of}
 use Rattle.unit_model.specs.Uplink.{is_before, job_of, sends_in}
 use Rattle.unit_model.specs.declared.allocations.Allocation.{Allocation}
 use Rattle.unit_model.specs.declared.jobs.UplinkJob.{UplinkJob}
 use Rattle.unit_model.specs.declared.symbol_start.SymbolStart.{SymbolStart}
+use Rattle.air_source.specs.Units.{is_down}
 
 abbrev pub start_at : ℕ → EndpointConfig → Slot → ℕ → SymbolStart
 start_at ep e slot symbol = record {

@@ -25,6 +25,7 @@ pub use cells::{Block, Cell, Claim};
 pub use commands::{command_class, is_for, is_uplink};
 pub use counting::{block_counter, command_counter, data_counter, fragment_counter};
 pub use decoded::{ControlSection, UserSection};
+pub use ecpri_fragments::MESSAGE_BYTES;
 pub use jobs::{Delivered, UplinkJob};
 pub use meeting::{Met, meet};
 pub use samples::samples_under;

@@ -1,7 +1,8 @@
 // What a unit makes of a whole message, by the tests that it meets.
 ghost use Rattle.std.specs.Prelude.{◌≡◌, ℤ, ◌<◌, ◌≤◌, length, IfSome, List};
 ghost use Rattle.ecpri_frames.specs.Left.{message_of};
-ghost use Rattle.unit_model.specs.Meetings.{id_of, sequence_of, find_endpoint as endpoint_found, command_met, control_met, meet as met_by_definition};
+ghost use Rattle.unit_model.specs.Meetings.{find_endpoint as endpoint_found, command_met, control_met, meet as met_by_definition};
+ghost use Rattle.ecpri_fragments.specs.Sequence.{id_of, sequence_of};
 ghost use Rattle.unit_model.specs.Met.{meeting_of, IsTested};
 ghost use Rattle.unit_model.specs.Proper.{IsAt};
 ghost use Rattle.window_config.specs.declared.endpoints.EndpointConfig.{EndpointConfig as SpecEndpoint};

@@ -3,8 +3,8 @@ ghost use Rattle.std.specs.Prelude.{◌≡◌, [], true, IfOk, OnErr, pos, ◌�
 ghost use Rattle.plain_units.specs.window_config.specs.Configs.{IsConfig};
 ghost use Rattle.plain_units.specs.window_config.specs.declared.config.Config.{Config as SpecConfig};
 ghost use Rattle.plain_units.specs.unit_model.specs.Proper.{IsTime};
-ghost use Rattle.plain_units.specs.unit_model.specs.Standing.{History};
-ghost use Rattle.ru_buffers.specs.Calls.{HasGivenPast, StandsFor, StandsForSome, given_of};
+ghost use Rattle.plain_units.specs.unit_model.specs.Standing.{History, owed_until};
+ghost use Rattle.ru_buffers.specs.Calls.{HasGivenPast, StandsFor, StandsForSome};
 
 use fault_counters::{Counter, Counters};
 use fh_base::NoMemory;
@@ -95,7 +95,7 @@ fn is_by(a: Ticks, b: Ticks) -> bool
 
 /// Whether nothing is due before a time.
 fn is_quiet_before(unit: &Ru, to: Ticks) -> bool
-    ensures { (c : SpecConfig) (h : History) → StandsFor c unit.now h → result ≡ true → given_of c h (to.0 -ℤ pos 1) ≡ [] }
+    ensures { (c : SpecConfig) (h : History) → StandsFor c unit.now h → result ≡ true → owed_until c h (to.0 -ℤ pos 1) ≡ [] }
 {
     match unit.due() {
         Some(moment) => is_by(to, moment),

@@ -1,6 +1,6 @@
 -- The bytes of a message that stands in pieces, from a place on, and a walker that is fed the rest of a piece.
-use Rattle.std.proofs.Common.{◌≡◌, ◌≢◌, subst, ℕ, zero, suc, ◌+◌, ◌-◌, ◌*◌, ◌<◌, ◌≤◌, ◌⊎◌, inl, inr, List, [], ◌∷◌, ◌++◌, length, take, drop, min, refl, sym, ap, ◌∙◌, arith, add-one, append_assoc, length-append, length-drop}
-use Rattle.std.proofs.lemmas.List.{append-nil, take-append-drop, take_all, drop-drop, length-take, get_or_past}
+use Rattle.std.proofs.Common.{◌≡◌, ◌≢◌, subst, ℕ, zero, suc, ◌+◌, ◌-◌, ◌*◌, ◌<◌, ◌≤◌, ◌⊎◌, inl, inr, List, [], ◌++◌, length, take, drop, min, refl, sym, ap, ◌∙◌, arith, add-one, append_assoc, length-append, length-drop}
+use Rattle.std.proofs.lemmas.List.{take-append-drop, take_all, drop-drop, length-take, get_or_past}
 use Rattle.std.proofs.Math.Seq.{drop-cons}
 use Rattle.std.proofs.Math.ListN.{drop_of_length-le}
 use Rattle.uplane_sections.specs.declared.walking.UWalker.{UWalker}
@@ -14,10 +14,13 @@ use Rattle.uplane_sections.proofs.Histories.{silent_walker as nothing_more}
 use Rattle.ecpri_fragments.specs.declared.place.Span.{Span}
 use Rattle.ecpri_fragments.specs.declared.assembly.Lease.{Lease}
 use Rattle.ecpri_fragments.specs.Spans.{pieces_in, bytes_of, span_of}
-use Rattle.uplane_messages.specs.Joined.{joined, piece_of, message_bytes, bytes_from}
+use Rattle.uplane_messages.specs.Joined.{piece_of, message_bytes, bytes_from}
 use Rattle.uplane_messages.specs.Left.{NothingLeft, first_of_pieces}
 use Rattle.std.specs.Prelude.{Option, Some, None}
 use Rattle.std.proofs.Math.Nat.{mul-le-mul_right}
+use Rattle.ecpri_fragments.specs.Pieces.{joined}
+use Rattle.ecpri_fragments.proofs.Cuts.{joined_one}
+use Rattle.ecpri_fragments.specs.declared.place.TheConstants.{MESSAGE_BYTES}
 
 or_beyond : (ps : List (List ℕ)) (k : ℕ) → (k < length ps) ⊎ (length ps ≤ k)
 or_beyond ps k = grind arith
@@ -158,21 +161,17 @@ bytes_short : (span : Option Span) (bytes : List ℕ) → length (bytes_of span 
 bytes_short None bytes = omega arith
 bytes_short (Some s) bytes = omega (arith, length-take s.len (drop s.from bytes), length-drop s.from bytes)
 
-joined-append : (ps : List (List ℕ)) (p : List ℕ) → joined (ps ++ p ∷ []) ≡ joined ps ++ p
-joined-append [] p = append-nil p
-joined-append (q ∷ ps) p = ap (λ (xs : List ℕ). q ++ xs) (joined-append ps p) ∙ sym (append_assoc q (joined ps) p)
-
 pieces_short : (spans : List (Option Span)) (bytes : List ℕ) (n : ℕ) → length (joined (pieces_in spans bytes n)) ≤ n * length bytes
 pieces_short spans bytes zero = omega arith
 pieces_short spans bytes (suc n) =
     let p = bytes_of (span_of spans n) bytes in
-    let e = ap length (joined-append (pieces_in spans bytes n) p) in
+    let e = ap length (joined_one (pieces_in spans bytes n) p) in
     let here = pieces_short spans bytes n in
     omega (arith, e, here, length-append (joined (pieces_in spans bytes n)) p, bytes_short (span_of spans n) bytes)
 
-pub message_short : (l : Lease) → length (message_bytes l) ≤ 128 * 16384
+pub message_short : (l : Lease) → length (message_bytes l) ≤ 128 * MESSAGE_BYTES
 message_short l =
     let short = pieces_short l.place.now.spans.items l.place.now.bytes.items l.count in
-    let used : length l.place.now.bytes.items ≤ 16384 = omega (arith, l.place.now.filled, l.place.now.bytes.ok.0) in
+    let used : length l.place.now.bytes.items ≤ MESSAGE_BYTES = omega (arith, l.place.now.filled, l.place.now.bytes.ok.0) in
     let few : l.count * length l.place.now.bytes.items ≤ 128 * length l.place.now.bytes.items = mul-le-mul_right (length l.place.now.bytes.items) l.within in
     omega (arith, short, used, few)

@@ -11,7 +11,7 @@ use Rattle.uplane_messages.specs.Whole.{AreSections, IsSectionAdmitted, IsWhole}
 use Rattle.uplane_messages.proofs.Whole.{head_in}
 
 -- the items without the first
-tail_of : List Item → List Item
+unfoldable pub tail_of : List Item → List Item
 tail_of [] = []
 tail_of (i ∷ items) = items
 

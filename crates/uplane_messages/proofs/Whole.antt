@@ -1,5 +1,5 @@
 -- The items of a message that is not refused: each test was passed, and each PRB came.
-use Rattle.std.proofs.Common.{◌≡◌, ℕ, zero, suc, ◌+◌, ◌-◌, ◌*◌, ◌≤◌, Bool, true, false, cond, List, [], ◌∷◌, ◌++◌, length, drop, None, refl, sym, ap, subst, ◌∙◌, arith, length-drop}
+use Rattle.std.proofs.Common.{◌≡◌, ℕ, zero, suc, ◌+◌, ◌-◌, ◌*◌, ◌≤◌, Bool, false, cond, List, [], ◌∷◌, ◌++◌, length, drop, None, refl, sym, ap, subst, ◌∙◌, arith, length-drop}
 use Rattle.std.specs.Prelude.{nat_lt, nat_le, not, ◌&&◌, ◌||◌, ◌==◌}
 use Rattle.std.proofs.lemmas.Bool.Decides.{nat_tests}
 use Rattle.fh_time.specs.declared.values.Shape.{Shape}
@@ -7,8 +7,6 @@ use Rattle.bfp_codec.specs.declared.methods.Format.{Format}
 use Rattle.bfp_codec.specs.declared.methods.Method.{Method}
 use Rattle.bfp_codec.specs.Layout.{length_of}
 use Rattle.uplane_sections.specs.declared.values.UHead.{UHead}
-use Rattle.uplane_sections.specs.declared.values.URefusal.{URefusal}
-use Rattle.uplane_sections.specs.declared.values.UWhy.{UWhy}
 use Rattle.uplane_sections.specs.declared.values.UWhy.TheVariants.{Truncated, Version, SlotRange, SymbolRange, EveryOtherRb, PrbRange, Method as UnknownMethod}
 use Rattle.uplane_sections.specs.declared.steps.UFeed.{UFeed}
 use Rattle.uplane_sections.specs.declared.steps.UFeed.TheVariants as feed
@@ -19,6 +17,7 @@ use Rattle.uplane_sections.specs.Section.{rb, is_method, startPrbu, numPrbu, sym
 use Rattle.uplane_sections.specs.Messages.{Item, Head, Section, Block, Telling, refused, after, blocks, section_at, sections, told}
 use Rattle.uplane_messages.specs.Whole.{AreSections, IsWhole}
 use Rattle.fh_time.proofs.Orders.{not_lt, not_le, neither_le}
+use Rattle.uplane_sections.proofs.Refusing.{passes, refusal_at}
 
 -- where no block is to come, the number of the next one says nothing
 any_number : (prbs : ℕ) (shape : Shape) (p q : ℕ) (items : List Item) → AreSections prbs shape p 0 items → AreSections prbs shape q 0 items
@@ -53,18 +52,6 @@ its_head prbs shape head given items left what w f whole =
     let first : items ≡ Head given ∷ left = f ∙ ap (λ (x : UFeed). feed_told x ++ left) w in
     let same : head ≡ given = ap (head_in head) (sym whole.first ∙ first) in
     subst (λ (h : UHead). IsWhole prbs shape h items) same whole
-
--- a test that refuses nothing is false
-record Passes (t : Bool) (x : Telling) : Type 0 where
-  passed : t ≡ false
-  rest : x.refusal ≡ None
-
-passes : (t : Bool) (r : URefusal) (x : Telling) → (cond t (refused r) x).refusal ≡ None → Passes t x
-passes true r x h = absurd cc
-passes false r x h = record { passed = refl; rest = h }
-
-abbrev refusal_at : ℕ → UWhy → URefusal
-refusal_at place why = record { place = place; why = why }
 
 neither_lt : (m n : ℕ) (t : Bool) → (nat_lt m n || t) ≡ false → n ≤ m
 neither_lt m n t h = grind (arith, nat_tests)

@@ -1,12 +1,8 @@
 -- The bytes of a message that stands in pieces.
-use Rattle.std.specs.Prelude.{ℕ, ◌+◌, List, [], ◌∷◌, ◌++◌, drop, slice_index_or}
+use Rattle.std.specs.Prelude.{ℕ, ◌+◌, List, [], ◌++◌, drop, slice_index_or}
 use Rattle.ecpri_fragments.specs.declared.assembly.Lease.{Lease}
 use Rattle.ecpri_fragments.specs.Assemblies.{message_of}
-
--- the pieces as one
-abbrev pub joined : {A : Type 0} → List (List A) → List A
-joined [] = []
-joined (p ∷ ps) = p ++ joined ps
+use Rattle.ecpri_fragments.specs.Pieces.{joined}
 
 abbrev pub pieces_of : Lease → List (List ℕ)
 pieces_of lease = (message_of lease).pieces

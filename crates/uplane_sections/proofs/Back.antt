@@ -3,7 +3,7 @@ use Rattle.std.proofs.Common.{◌≡◌, ℕ, zero, suc, ◌+◌, ◌-◌, ◌*�
 use Rattle.std.proofs.lemmas.List.{drop_at, length-take-le, take-append-le, take-append-drop, drop-append-le}
 use Rattle.std.proofs.lemmas.Bool.{le-ltb, cases_Bool}
 use Rattle.std.proofs.lemmas.Bool.Decides.{nat_tests}
-use Rattle.bit_fields.specs.Field.{field}
+use Rattle.bit_fields.specs.Field.{field, flag}
 use Rattle.bit_fields.proofs.Field.{field_take, field_drop}
 use Rattle.fh_time.specs.declared.values.Shape.{Shape}
 use Rattle.bfp_codec.specs.declared.methods.Method.{Method}
@@ -17,7 +17,7 @@ use Rattle.fh_time.specs.Carrier.{first_of, count_of, is_outside}
 use Rattle.uplane_sections.specs.Section.{startPrbu, numPrbu, section_with, section_of, method_of, header_size, method_in}
 use Rattle.uplane_sections.specs.Messages.{Head, Section, Telling, fault, after, blocks, sections, told}
 use Rattle.uplane_sections.specs.Phases.{checked, head_checked, symbol_checked, with_method, in_blocks, in_section, behind_first}
-use Rattle.uplane_sections.specs.Writes.{flag, WritesHead, WritesSection, WritesCompression, IsHeadAdmitted, IsAdmitted, carried, SaysSoFar, AddsSection}
+use Rattle.uplane_sections.specs.Writes.{WritesHead, WritesSection, WritesCompression, IsHeadAdmitted, IsAdmitted, carried, SaysSoFar, AddsSection}
 use Rattle.uplane_sections.proofs.Behind.{behind}
 use Rattle.uplane_sections.proofs.Told.{head_step, section_step, compression_step}
 use Rattle.uplane_sections.proofs.Histories.{after_after}

@@ -1,7 +1,7 @@
 -- What the definition makes of a unit and of what stands behind it.
-use Rattle.std.proofs.Common.{◌≡◌, ℕ, zero, suc, ◌+◌, ◌-◌, ◌*◌, ◌<◌, ◌≤◌, ◌⊎◌, inl, inr, true, false, cond, ltb, List, [], ◌∷◌, ◌++◌, length, drop, refl, ap, arith, length-append, length-drop, zero-add, add-zero}
+use Rattle.std.proofs.Common.{◌≡◌, ℕ, zero, suc, ◌+◌, ◌-◌, ◌*◌, ◌<◌, ◌≤◌, inl, inr, cond, ltb, List, [], ◌∷◌, ◌++◌, length, drop, refl, ap, arith, length-append, length-drop, zero-add, add-zero}
 use Rattle.std.proofs.lemmas.List.{take_at, drop_at, get_or_append_left}
-use Rattle.std.proofs.lemmas.Bool.{lt-ltb, le-ltb}
+use Rattle.std.proofs.lemmas.Bool.{lt-ltb, le-ltb, cases_lt}
 use Rattle.std.proofs.lemmas.Bool.Decides.{nat_tests}
 use Rattle.bit_fields.specs.Field.{field}
 use Rattle.bit_fields.proofs.Field.{field_same}
@@ -13,9 +13,6 @@ use Rattle.uplane_sections.specs.declared.values.UWhy.TheVariants.{Truncated}
 use Rattle.uplane_sections.specs.Section.{symInc, size_of, header_size}
 use Rattle.uplane_sections.specs.Messages.{Block, fault, after, section_at, sections}
 use Rattle.uplane_sections.specs.Phases.{in_blocks}
-
-pub lt_tells : (m n : ℕ) → ((ltb m n ≡ true) × (m < n)) ⊎ ((ltb m n ≡ false) × (n ≤ m))
-lt_tells m n = grind (arith, nat_tests)
 
 -- the fields of bytes are those of the bytes before others
 pub field_front : (xs rest : List ℕ) (i n : ℕ) → i + n ≤ 8 * length xs → field (xs ++ rest) i n ≡ field xs i n
@@ -38,9 +35,9 @@ module _ (format : Format) (prbs : ℕ) (shape : Shape) where
   behind bytes k n at symbol all is h =
       let l : length (drop k bytes) ≡ length bytes - k = length-drop k bytes in
       let place : at + length bytes ≡ at + k + length (drop k bytes) = omega arith in
-      elim (lt_tells (length (drop k bytes)) n) [
-        | inl p ↦ rw (lt-ltb (length bytes) all (omega arith), p.0, place) refl
-        | inr p ↦ rw (le-ltb (length bytes) all (omega arith), p.0, is, skip k n at symbol bytes h) refl
+      elim (cases_lt (length (drop k bytes)) n) [
+        | inl p ↦ rw (lt-ltb (length bytes) all (omega arith), lt-ltb (length (drop k bytes)) n p, place) refl
+        | inr p ↦ rw (le-ltb (length bytes) all (omega arith), le-ltb (length (drop k bytes)) n p, is, skip k n at symbol bytes h) refl
       ]
 
   next_is : (at symbol size b : ℕ) (bytes : List ℕ) → 0 < size → sections format prbs shape (at + 1) symbol (size - 1) bytes ≡ sections format prbs shape at symbol size (b ∷ bytes)

@@ -6,3 +6,4 @@ pub mod Runs
 pub mod Words
 pub mod Back
 pub mod Worked
+pub mod Refusing

@@ -2,7 +2,7 @@
 use Rattle.std.proofs.Common.{◌≡◌, ℕ, ◌+◌, ◌-◌, ◌*◌, ◌≤◌, inl, inr, Bool, true, false, not, ◌&&◌, cond, ltb, List, [], ◌∷◌, ◌++◌, length, drop, refl, ap, ◌∙◌, arith, length-append, Ok, Err}
 use Rattle.std.proofs.Math.Seq.{drop-append-add}
 use Rattle.std.proofs.lemmas.List.{drop_at}
-use Rattle.std.proofs.lemmas.Bool.{lt-ltb, le-ltb}
+use Rattle.std.proofs.lemmas.Bool.{lt-ltb, le-ltb, cases_lt}
 use Rattle.fh_time.specs.declared.values.Shape.{Shape}
 use Rattle.bfp_codec.specs.declared.methods.Method.{Method}
 use Rattle.bfp_codec.specs.declared.methods.Format.{Format}
@@ -16,7 +16,7 @@ use Rattle.fh_time.specs.Carrier.{first_of, count_of}
 use Rattle.uplane_sections.specs.Section.{symInc, startPrbu, numPrbu, is_method, method_in, section_with, size_of}
 use Rattle.uplane_sections.specs.Messages.{Head, Section, Telling, fault, after, blocks, section_at, sections, message_from}
 use Rattle.uplane_sections.specs.Phases.{checked, head_checked, symbol_checked, with_method, in_section, behind_first}
-use Rattle.uplane_sections.proofs.Behind.{lt_tells, field_front, behind, sections_start}
+use Rattle.uplane_sections.proofs.Behind.{field_front, behind, sections_start}
 
 -- three tests, one after the other
 three : {A : Type 0} (a b c : Bool) (at : ℕ) (u v w : UWhy) (x : A) (f : A → Telling) (t : Telling) → t ≡ f x →
@@ -75,11 +75,11 @@ module _ (format : Format) (prbs : ℕ) (shape : Shape) where
       let place : at + length (xs ++ rest) ≡ at + 4 + length rest = omega arith in
       let back : at + 4 - 4 ≡ at = omega arith in
       let on : at + 6 ≡ at + 4 + 2 = omega arith in
-      elim (lt_tells (length rest) 2) [
-        | inl p ↦ rw (lt-ltb (length (xs ++ rest)) 6 (omega arith), p.0, place) refl
+      elim (cases_lt (length rest) 2) [
+        | inl p ↦ rw (lt-ltb (length (xs ++ rest)) 6 (omega arith), lt-ltb (length rest) 2 p, place) refl
         | inr p ↦
             let w = whole_section at 6 t (xs ++ rest) _ _ refl refl (omega arith) in
-            rw (le-ltb (length (xs ++ rest)) 6 (omega arith), p.0, back, w, drop_at xs rest 4 h, six xs rest h, on, is) refl
+            rw (le-ltb (length (xs ++ rest)) 6 (omega arith), le-ltb (length rest) 2 p, back, w, drop_at xs rest 4 h, six xs rest h, on, is) refl
       ]
 
   -- what is told of a section that passes the tests of its first four bytes

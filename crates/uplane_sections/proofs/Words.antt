@@ -1,7 +1,7 @@
 -- What written words say of their fields.
 use Rattle.std.proofs.Common.{◌≡◌, ℕ, ◌+◌, ◌*◌, ◌/◌, ◌%◌, ◌^◌, ◌<◌, ◌≤◌, Bool, true, false, cond, eqb, List, length, drop, get_or, refl, sym, ◌∙◌, arith}
 use Rattle.std.proofs.lemmas.Bool.Decides.{nat_tests}
-use Rattle.bit_fields.specs.Field.{field}
+use Rattle.bit_fields.specs.Field.{field, flag}
 use Rattle.bit_fields.proofs.Field.{field_of_word, field_in_byte, field_byte}
 use Rattle.bfp_codec.specs.declared.methods.Method.{Method}
 use Rattle.bfp_codec.specs.declared.methods.Method.TheVariants.{Plain, Bfp}
@@ -10,23 +10,16 @@ use Rattle.bfp_codec.specs.Layout.{HasWidth}
 use Rattle.uplane_sections.specs.declared.values.UHead.{UHead}
 use Rattle.uplane_sections.specs.declared.values.USection.{USection}
 use Rattle.uplane_sections.specs.Section.{width_in, section_with}
-use Rattle.uplane_sections.specs.Writes.{flag, HeadFits, WritesHead, WritesCompression, WritesSection, udCompHdr, carried}
-
-pub flag_test : (b : Bool) → eqb (flag b) 1 ≡ b
-flag_test true = refl
-flag_test false = refl
-
-pub flag_fits : (b : Bool) → flag b ≤ 1
-flag_fits true = omega arith
-flag_fits false = omega arith
+use Rattle.uplane_sections.specs.Writes.{HeadFits, WritesHead, WritesCompression, WritesSection, udCompHdr, carried}
+use Rattle.fh_time.proofs.Orders.{bit_test, bit_small}
 
 pub head_written : (h : UHead) (bytes : List ℕ) → length bytes ≡ 4 → HeadFits h → h.frame_id < 2 ^ 8
     → field bytes 0 32 ≡ ((((flag h.down * 2 ^ 3 + 1) * 2 ^ 4 + h.filter) * 2 ^ 8 + h.frame_id) * 2 ^ 4 + h.subframe) * 2 ^ 12 + h.slot * 2 ^ 6 + h.symbol
     → WritesHead h bytes
 head_written h bytes len fits frame_fits first =
-    let f = flag_fits h.down in
+    let f = bit_small h.down in
     let down : field bytes 0 1 ≡ flag h.down = field_of_word bytes 0 1 (omega arith) ∙ omega arith in
-    let down_is : eqb (field bytes 0 1) 1 ≡ h.down = rw down (flag_test h.down) in
+    let down_is : eqb (field bytes 0 1) 1 ≡ h.down = rw down (bit_test h.down) in
     let version : field bytes 1 3 ≡ 1 = field_of_word bytes 1 3 (omega arith) ∙ omega arith in
     let filter : field bytes 4 4 ≡ h.filter = field_of_word bytes 4 4 (omega arith) ∙ omega arith in
     let frame : field bytes 8 8 ≡ h.frame_id = field_of_word bytes 8 8 (omega arith) ∙ omega arith in
@@ -47,13 +40,13 @@ pub record WritesWord (s : USection) (bytes : List ℕ) : Type 0 where
 pub word_written : (s : USection) (bytes : List ℕ) → s.id < 2 ^ 12 → s.start_prb < 2 ^ 10 → s.num_prb < 2 ^ 8
     → field bytes 0 32 ≡ ((s.id * 4 + flag s.sym_inc) * 2 ^ 10 + s.start_prb) * 2 ^ 8 + s.num_prb → WritesWord s bytes
 word_written s bytes id_fits start_fits num_fits first =
-    let f = flag_fits s.sym_inc in
+    let f = bit_small s.sym_inc in
     let id : field bytes 0 12 ≡ s.id = field_of_word bytes 0 12 (omega arith) ∙ omega arith in
     let rb : field bytes 12 1 ≡ 0 = field_of_word bytes 12 1 (omega arith) ∙ omega arith in
     let inc : field bytes 13 1 ≡ flag s.sym_inc = field_of_word bytes 13 1 (omega arith) ∙ omega arith in
     let prb : field bytes 14 10 ≡ s.start_prb = field_of_word bytes 14 10 (omega arith) ∙ omega arith in
     let num : field bytes 24 8 ≡ s.num_prb = field_of_word bytes 24 8 (omega arith) ∙ omega arith in
-    let inc_is : eqb (field bytes 13 1) 1 ≡ s.sym_inc = rw inc (flag_test s.sym_inc) in
+    let inc_is : eqb (field bytes 13 1) 1 ≡ s.sym_inc = rw inc (bit_test s.sym_inc) in
     record {
       reads = λ before method. rw (id, inc_is, inc, prb, num) refl;
       each_rb = rb;

@@ -1,6 +1,6 @@
 -- Written headers: each reserved bit is 0. What a message made of them says.
 use Rattle.std.specs.Prelude.{◌≡◌, ℕ, ◌+◌, ◌*◌, ◌%◌, ◌<◌, ◌≤◌, ◌^◌, Bool, true, false, if◌then◌else◌, List, ◌∷◌, ◌++◌, length, drop}
-use Rattle.bit_fields.specs.Field.{field}
+use Rattle.bit_fields.specs.Field.{field, flag}
 use Rattle.fh_time.specs.declared.values.Shape.{Shape}
 use Rattle.bfp_codec.specs.declared.methods.Method.{Method}
 use Rattle.bfp_codec.specs.declared.methods.Method.TheVariants.{Plain, Bfp}
@@ -12,9 +12,6 @@ use Rattle.uplane_sections.specs.Header.{payloadVersion, head_of}
 use Rattle.fh_time.specs.Carrier.{is_outside, first_of, count_of}
 use Rattle.uplane_sections.specs.Section.{rb, comp_reserved, method_in, is_method, method_of, section_of, header_size}
 use Rattle.uplane_sections.specs.Messages.{Item, Section, after, blocks, sections, told}
-
-abbrev pub flag : Bool → ℕ
-flag b = if b then 1 else 0
 
 -- each field of the header in its width
 pub record HeadFits (head : UHead) : Type 0 where

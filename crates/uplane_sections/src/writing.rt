@@ -1,12 +1,12 @@
 //! The headers, written.
 ghost use Rattle.std.specs.Prelude.{◌≡◌, ℕ, ◌+◌, ◌-◌, ◌*◌, ◌≤◌, ◌<◌, ◌^◌, ◌⊎◌, List, [], ◌∷◌, length, take, slice_index};
-ghost use Rattle.bit_fields.specs.Field.{field};
+ghost use Rattle.bit_fields.specs.Field.{field, flag};
 ghost use Rattle.fh_time.specs.declared.values.Shape.{Shape};
 ghost use Rattle.bfp_codec.specs.declared.methods.Format.{Format as SpecFormat};
 ghost use Rattle.bfp_codec.specs.Layout.{HasWidth};
 ghost use Rattle.uplane_sections.specs.Section.{header_size};
 ghost use Rattle.uplane_sections.specs.Messages.{Head};
-ghost use Rattle.uplane_sections.specs.Writes.{flag, HeadFits, SectionFits, IsHeadAdmitted, WritesHead, WritesSection, SaysSoFar, AddsSection, udCompHdr};
+ghost use Rattle.uplane_sections.specs.Writes.{HeadFits, SectionFits, IsHeadAdmitted, WritesHead, WritesSection, SaysSoFar, AddsSection, udCompHdr};
 
 use crate::values::{UHead, USection};
 use bfp_codec::{Format, Method};

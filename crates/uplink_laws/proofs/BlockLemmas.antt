@@ -18,7 +18,7 @@ use Rattle.sent_laws.specs.unit_model.specs.declared.allocations.Allocation.{All
 use Rattle.sent_laws.specs.unit_model.specs.declared.cells.Block.{Block}
 use Rattle.sent_laws.specs.unit_model.specs.declared.cells.Cell.{Cell}
 use Rattle.sent_laws.specs.unit_model.specs.declared.decoded.UserSection.{UserSection}
-use Rattle.sent_laws.specs.unit_laws.proofs.CellLemmas.{covers_is, data_covers_is}
+use Rattle.sent_laws.specs.unit_laws.proofs.CellLemmas.{data_covers_is}
 use Rattle.sent_laws.specs.plan_model.specs.Lines.{line_allocation, is_down_kind, is_idle_kind, planned}
 use Rattle.sent_laws.specs.plan_model.specs.Streams.{Part, part_in}
 use Rattle.sent_laws.specs.plan_model.specs.declared.lines.PlannedLine.{PlannedLine}
@@ -32,7 +32,7 @@ use Rattle.uplink_laws.specs.Premise.{BothArrive}
 use Rattle.uplink_laws.proofs.DecodedLemmas.{IsTimely, ds, each_timely, line_sent, sections_of_wholes}
 use Rattle.uplink_laws.proofs.ReadLemmas.{is_decoded}
 use Rattle.sent_laws.specs.plan_model.specs.Lines.{is_up_line}
-use Rattle.sent_laws.specs.unit_model.proofs.ClaimLemmas.{way_self as way_own, slot_self as slot_own}
+use Rattle.sent_laws.specs.unit_model.proofs.ClaimLemmas.{way_self as way_own, slot_self as slot_own, covers_is}
 
 -- ---- data that are all on time
 

@@ -18,7 +18,6 @@ use Rattle.sent_laws.specs.unit_model.specs.Reports.{du_known, du_reported, time
 use Rattle.sent_laws.specs.unit_model.specs.declared.allocations.Allocation.{Allocation}
 use Rattle.sent_laws.specs.unit_model.specs.declared.cells.Block.{Block}
 use Rattle.sent_laws.specs.unit_model.specs.declared.cells.Cell.{Cell}
-use Rattle.sent_laws.specs.unit_laws.proofs.CellLemmas.{covers_is}
 use Rattle.sent_laws.specs.unit_laws.proofs.ListLemmas.{each_same}
 use Rattle.sent_laws.specs.unit_laws.proofs.ReportLemmas.{report_same}
 use Rattle.sent_laws.specs.unit_laws.proofs.SweepLemmas.{sweep-same}
@@ -42,6 +41,7 @@ use Rattle.uplink_laws.proofs.BlockLemmas.{decoded_once, is_up}
 use Rattle.uplink_laws.proofs.JobLemmas.{of_uplink}
 use Rattle.sent_laws.specs.plan_model.specs.Lines.{uplink_allocations}
 use Rattle.sent_laws.specs.plan_model.specs.Lines.{is_up_line}
+use Rattle.sent_laws.specs.unit_model.proofs.ClaimLemmas.{covers_is}
 
 module _ (c : Config) (lines : List PlanLine) (source : Source) (antenna : Antenna) (down up : List Arrival) (h : BothArrive c lines source antenna down up) where
   abbrev ps : List PlannedLine

@@ -8,12 +8,12 @@ use Rattle.fh_time.specs.Frame.{absolute_frame}
 use Rattle.fh_time.specs.declared.values.Slot.{Slot}
 use Rattle.sent_laws.specs.air_source.specs.declared.events.Side.TheVariants.{Du}
 use Rattle.ecpri_fragments.specs.Generations.{Fragment}
-use Rattle.ecpri_fragments.specs.Verdicts.{Message as WholeMessage, message, standing_before, verdict_on}
+use Rattle.ecpri_fragments.specs.Verdicts.{Message as WholeMessage, message, standing_before, verdict_on, whole_of}
 use Rattle.ecpri_fragments.specs.declared.verdict.Verdict.{Verdict}
 use Rattle.ecpri_fragments.specs.declared.verdict.Verdict.TheVariants.{Stored, Whole, Repeat, Stray, TooLong}
 use Rattle.fragment_laws.specs.Apart.{IsIn, Numbers, number_of, of_message}
 use Rattle.fragment_laws.specs.Flow.{numbers_of}
-use Rattle.fragment_laws.specs.Once.{Answered, Completed, answered, answers, texts, whole_of as completed_of, wholes, with_whole}
+use Rattle.fragment_laws.specs.Once.{Answered, Completed, answered, answers, texts, wholes, with_whole}
 use Rattle.fragment_laws.proofs.FlowLemmas.{copy}
 use Rattle.window_config.specs.Classes.{class_up_of}
 use Rattle.window_config.specs.declared.config.Config.{Config}
@@ -23,8 +23,8 @@ use Rattle.window_config.specs.declared.verdicts.Class.TheVariants.{OnTime}
 use Rattle.window_config.proofs.Timing.{class_up_on_time}
 use Rattle.sent_laws.specs.unit_model.specs.Blocks.{data_class, data_slot, data_start}
 use Rattle.sent_laws.specs.unit_model.specs.Claims.{is_from}
-use Rattle.sent_laws.specs.unit_model.specs.Decoding.{Decoded, data_now, data_sections, data_told, decode, decode_message, decoded_now, sections_of, whole_of}
-use Rattle.sent_laws.specs.unit_model.specs.Lists.{joined, onto}
+use Rattle.sent_laws.specs.unit_model.specs.Decoding.{Decoded, data_now, data_sections, data_told, decode, decode_message, decoded_now, sections_of}
+use Rattle.sent_laws.specs.unit_model.specs.Lists.{onto}
 use Rattle.sent_laws.specs.unit_model.specs.Meetings.{Arrival, Meeting, Piece, fragments, meetings}
 use Rattle.sent_laws.specs.unit_model.specs.Proper.{IsAt}
 use Rattle.sent_laws.specs.unit_model.specs.declared.decoded.UserSection.{UserSection}
@@ -50,28 +50,15 @@ use Rattle.uplink_laws.proofs.FlowLemmas.{below_at, here, pieces_at, starts_at, 
 use Rattle.uplink_laws.proofs.PartLemmas.{PartFacts, line_part, message_facts, same_start}
 use Rattle.uplink_laws.proofs.ReadLemmas.{IsSectionOf, fragment_at, is_decoded, section_for, section_from}
 use Rattle.uplink_laws.proofs.WholeLemmas.{InTime, in_time, whole_once}
-use Rattle.fh_time.specs.declared.frames.TheConstants.{FRAME}
+use Rattle.fh_time.specs.declared.frames.TheConstants.{FRAME, HALF_CYCLE}
 use Rattle.window_config.specs.declared.delays.TheConstants.{MOST_DELAY}
 use Rattle.sent_laws.specs.plan_model.specs.Lines.{is_up_line}
 use Rattle.fh_time.proofs.Order.{same_fields as same_slot_fields}
+use Rattle.ecpri_fragments.specs.Pieces.{joined}
+use Rattle.fh_time.specs.declared.nanoseconds.TheConstants.{NANOSECOND}
+use Rattle.sent_laws.specs.schedule_laws.proofs.DataLemmas.{told_whole, whole_told}
 
 -- ---- the sections that a fragment makes
-
-told_whole : (v : Verdict) (e : EndpointConfig) (x : Fragment) (s : List Fragment) (d : UserSection) → IsIn d (data_told (decoded_now Du e x (whole_of v x s)))
-    → (v ≡ Whole) × IsIn d (sections_of (decode_message Du x.ep e (message (x ∷ s))))
-told_whole Stored e x s d m = absurd m
-told_whole Whole e x s d m = (refl, m)
-told_whole Repeat e x s d m = absurd m
-told_whole Stray e x s d m = absurd m
-told_whole TooLong e x s d m = absurd m
-
-whole_told : (v : Verdict) (e : EndpointConfig) (x : Fragment) (s : List Fragment) (d : UserSection) → v ≡ Whole → IsIn d (sections_of (decode_message Du x.ep e (message (x ∷ s))))
-    → IsIn d (data_told (decoded_now Du e x (whole_of v x s)))
-whole_told Whole e x s d h m = m
-whole_told Stored e x s d h m = absurd cc
-whole_told Repeat e x s d h m = absurd cc
-whole_told Stray e x s d h m = absurd cc
-whole_told TooLong e x s d h m = absurd cc
 
 sections_piece : (c : Config) (hold : ℤ) (a : Arrival) (earlier : List Arrival) (e : EndpointConfig) (x : Fragment) → read_of c a ≡ Piece e x ∷ []
     → data_sections Du hold (meetings Du c.endpoints (a ∷ earlier)) ≡ data_told (data_now Du hold e x (fragments (meetings Du c.endpoints earlier))) ++ data_sections Du hold (meetings Du c.endpoints earlier)
@@ -92,8 +79,8 @@ split_of (z ∷ later) earlier all x y e = inr (later, (cons_same y z all (later
 -- ---- times
 
 -- what comes within 2 ms after a symbol's start is near to its frame
-near_frame : (f s at most : ℤ) → (f *ℤ FRAME) ≤ℤ s → s <ℤ (f *ℤ FRAME +ℤ pos 76800000000) → s ≤ℤ at → (at -ℤ s) ≤ℤ (most *ℤ pos 1536) → most ≤ℤ pos MOST_DELAY
-    → ((at -ℤ pos 1966080000000) ≤ℤ (f *ℤ FRAME)) × ((f *ℤ FRAME) <ℤ (at +ℤ pos 1966080000000))
+near_frame : (f s at most : ℤ) → (f *ℤ FRAME) ≤ℤ s → s <ℤ (f *ℤ FRAME +ℤ pos 76800000000) → s ≤ℤ at → (at -ℤ s) ≤ℤ (most *ℤ pos NANOSECOND) → most ≤ℤ pos MOST_DELAY
+    → ((at -ℤ HALF_CYCLE) ≤ℤ (f *ℤ FRAME)) × ((f *ℤ FRAME) <ℤ (at +ℤ HALF_CYCLE))
 near_frame f s at most low high begun soon few = (omega (arith, ints), omega (arith, ints))
 
 module _ (c : Config) (lines : List PlanLine) (source : Source) (antenna : Antenna) (down up : List Arrival) (h : BothArrive c lines source antenna down up) where
@@ -158,7 +145,7 @@ module _ (c : Config) (lines : List PlanLine) (source : Source) (antenna : Anten
 
   -- so all of them are what the whole messages say
   said_now : (x : Fragment) (s : List Fragment) (e : EndpointConfig) (ws : List Completed) (v : Verdict) → IsAt c.endpoints x.ep e
-      → data_told (decoded_now Du e x (whole_of v x s)) ++ joined (map (said_by c) ws) ≡ joined (map (said_by c) (with_whole x (completed_of v x s) ws))
+      → data_told (decoded_now Du e x (whole_of v x s)) ++ joined (map (said_by c) ws) ≡ joined (map (said_by c) (with_whole x (whole_of v x s) ws))
   said_now x s e ws Stored at = refl
   said_now x s e ws Whole at =
       ap (λ (o : Option EndpointConfig). option_map_or (λ f. sections_of (decode_message Du x.ep f (message (x ∷ s)))) o [] ++ joined (map (said_by c) ws)) (sym at)
@@ -310,7 +297,7 @@ module _ (c : Config) (lines : List PlanLine) (source : Source) (antenna : Anten
   pub each_timely : (d : UserSection) → IsIn d (data_sections Du (uplink_bounds_of c).hold (meetings Du c.endpoints up)) → (x : Part) × IsTimely x d
   each_timely d m =
       let t = told_in up (came c lines source antenna down up h) d m in
-      let v = told_whole (verdict_on hold t.x t.earlier) t.e t.x (standing_before hold t.x t.earlier) d t.told in
+      let v = told_whole Du (verdict_on hold t.x t.earlier) t.e t.x (standing_before hold t.x t.earlier) d t.told in
       let s = says_now t.later t.earlier t.x t.is v.0 in
       let same = endpoints_equal c.endpoints t.x.ep t.x.ep t.e s.is_here.e t.at s.is_here.at refl in
       let parts = parts_of s.is_here.n.message in
@@ -339,7 +326,7 @@ module _ (c : Config) (lines : List PlanLine) (source : Source) (antenna : Anten
       let same_n : a.n ≡ s.is_here.n = some_same a.n s.is_here.n (sym got ∙ s.is_here.got) in
       let in_message : IsIn x (parts_of s.is_here.n.message) = subst (λ (n : Numbered Part). IsIn x (parts_of n.message)) same_n m in
       let d = section_for (antenna_blocks c antenna) s.first s.last (onto [] (parts_of s.is_here.n.message)) s.sections x s.are (onto_right x [] (parts_of s.is_here.n.message) in_message) in
-      let d_told = whole_told (verdict_on hold o.x o.earlier) s.is_here.e o.x (standing_before hold o.x o.earlier) d.0 v (subst (λ (xs : List UserSection). IsIn d.0 xs) (sym (s.is s.is_here.e refl)) d.1) in (
+      let d_told = whole_told Du (verdict_on hold o.x o.earlier) s.is_here.e o.x (standing_before hold o.x o.earlier) d.0 v (subst (λ (xs : List UserSection). IsIn d.0 xs) (sym (s.is s.is_here.e refl)) d.1) in (
         d.0,
         told_there up (came c lines source antenna down up h) o.later o.earlier o.x s.is_here.e d.0 s.is_here.at o.is d_told,
         timely_section o.x o.earlier s x d.0 in_message d.2,

@@ -40,6 +40,8 @@ use Rattle.sent_laws.specs.schedule_laws.proofs.PlanLemmas.{valid_apart}
 use Rattle.uplink_streams.specs.uplink_model.specs.Frames.{Antenna}
 use Rattle.uplink_laws.specs.Flows.{uplink_bounds_of, uplink_flow_of, fragment_text, uplink_messages_at, flow_start_at, text_of}
 use Rattle.uplink_laws.proofs.PartLemmas.{message_number, message_short, sent_in, symbol_part}
+use Rattle.fh_time.specs.declared.nanoseconds.TheConstants.{NANOSECOND}
+use Rattle.ecpri_fragments.specs.declared.place.TheConstants.{MESSAGE_BYTES}
 
 -- ---- the flows
 
@@ -158,23 +160,23 @@ module _ (c : Config) (lines : List PlanLine) (config : IsConfig c) (fit : All I
       subst (λ s. IsFar s (flow_sent_at (uplink_flow_of c antenna ps ep) (j + 256) 0)) (sym (leaves_at ep j 0 a)) (subst (λ s. IsFar (sent_at c UpData a.n 0) s) (sym (leaves_at ep (j + 256) 0 b)) times)
 
   -- a generation holds as long as a message's frames may be apart
-  hold_covers : (least most fast slow hold : ℤ) (spread : ℕ) → least *ℤ pos 1536 +ℤ pos spread ≡ most *ℤ pos 1536 → ((most -ℤ least) +ℤ (slow -ℤ fast)) ≤ℤ hold
-      → (pos spread +ℤ (slow *ℤ pos 1536 -ℤ fast *ℤ pos 1536)) ≤ℤ (hold *ℤ pos 1536)
+  hold_covers : (least most fast slow hold : ℤ) (spread : ℕ) → least *ℤ pos NANOSECOND +ℤ pos spread ≡ most *ℤ pos NANOSECOND → ((most -ℤ least) +ℤ (slow -ℤ fast)) ≤ℤ hold
+      → (pos spread +ℤ (slow *ℤ pos NANOSECOND -ℤ fast *ℤ pos NANOSECOND)) ≤ℤ (hold *ℤ pos NANOSECOND)
   hold_covers least most fast slow hold spread e h = omega (arith, ints, e, h)
 
-  pub in_order_ns : (a b : ℤ) → a ≤ℤ b → (a *ℤ pos 1536) ≤ℤ (b *ℤ pos 1536)
+  pub in_order_ns : (a b : ℤ) → a ≤ℤ b → (a *ℤ pos NANOSECOND) ≤ℤ (b *ℤ pos NANOSECOND)
   in_order_ns a b h = omega (arith, ints, h)
 
   -- the bytes of a message are as many as its fragments have
   abbrev pub AreLong : Type 0
   AreLong = (ep j : ℕ) (w : Here ep j) → size_to (text_of c antenna ps ep j) (frames_in c UpData w.n.message) ≡ size_of part_fields w.n.message
 
-  short_at : AreLong → (ep j : ℕ) → j < (uplink_flow_of c antenna ps ep).count → size_to (text_of c antenna ps ep j) ((uplink_flow_of c antenna ps ep).pieces j) ≤ 16384
+  short_at : AreLong → (ep j : ℕ) → j < (uplink_flow_of c antenna ps ep).count → size_to (text_of c antenna ps ep j) ((uplink_flow_of c antenna ps ep).pieces j) ≤ MESSAGE_BYTES
   short_at long ep j h =
       let a = here ep j h in
       let is : size_to (text_of c antenna ps ep j) ((uplink_flow_of c antenna ps ep).pieces j) ≡ size_of part_fields a.n.message =
       ap (λ m. size_to (text_of c antenna ps ep j) m) (pieces_at ep j a) ∙ long ep j a in
-      subst (λ m. m ≤ 16384) (sym is) (message_short c lines config fit valid ep a.e a.n a.at a.there)
+      subst (λ m. m ≤ MESSAGE_BYTES) (sym is) (message_short c lines config fit valid ep a.e a.n a.at a.there)
 
   pub sound : AreLong → (ep : ℕ) → IsSound (uplink_bounds_of c) (uplink_flow_of c antenna ps ep)
   sound long ep = record {

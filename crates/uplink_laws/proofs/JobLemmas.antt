@@ -75,7 +75,7 @@ distinct_some p (q ∷ ps) d = go (p q) (distinct_some p ps d.1)
 
 -- ---- what an uplink line names is sent for
 
-up_sent : (k : PlanKind) → not (is_down_kind k) ≡ true → (not (is_down_kind k) && not (is_idle_kind k)) ≡ true
+pub up_sent : (k : PlanKind) → not (is_down_kind k) ≡ true → (not (is_down_kind k) && not (is_idle_kind k)) ≡ true
 up_sent Down h = absurd cc
 up_sent Up h = refl
 up_sent Idle h = absurd cc

@@ -38,6 +38,7 @@ use Rattle.uplink_laws.proofs.PartLemmas.{message_facts}
 use Rattle.fh_time.specs.declared.frames.TheConstants.{FRAME}
 use Rattle.window_config.specs.declared.delays.TheConstants.{MOST_DELAY}
 use Rattle.window_config.proofs.TickLemmas.{in_ticks}
+use Rattle.fh_time.specs.declared.nanoseconds.TheConstants.{NANOSECOND}
 
 -- ---- frames by time
 
@@ -79,8 +80,8 @@ copy_is c f order = record { from = least_is f.at.0 (ticks_of_ns c.delays.t34.mi
 
 -- a frame leaves while time is gone over
 leaves_in_time : (s least most : ℤ) (wait width : ℕ) → FRAME ≤ℤ s → s ≤ℤ pos 1536100000000000 → pos 0 ≤ℤ least → most ≤ℤ pos MOST_DELAY
-    → least *ℤ pos 1536 +ℤ pos width ≡ most *ℤ pos 1536 → wait ≤ width
-    → (first_clock ≤ℤ ((s +ℤ least *ℤ pos 1536) +ℤ pos wait)) × (((s +ℤ least *ℤ pos 1536) +ℤ pos wait) <ℤ (end_of_time +ℤ pos 1))
+    → least *ℤ pos NANOSECOND +ℤ pos width ≡ most *ℤ pos NANOSECOND → wait ≤ width
+    → (first_clock ≤ℤ ((s +ℤ least *ℤ pos NANOSECOND) +ℤ pos wait)) × (((s +ℤ least *ℤ pos NANOSECOND) +ℤ pos wait) <ℤ (end_of_time +ℤ pos 1))
 leaves_in_time s least most wait width a b l m e w = (omega (arith, ints), omega (arith, ints))
 
 -- what the downlink's laws ask for is enough

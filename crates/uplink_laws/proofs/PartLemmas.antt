@@ -1,5 +1,5 @@
 -- The parts and messages of a plan's uplink stream.
-use Rattle.std.proofs.Common.{◌≡◌, ℕ, pos, ◌+◌, ◌<◌, ◌≤◌, ◌+ℤ◌, ◌≤ℤ◌, ◌<ℤ◌, ◌⊎◌, inl, inr, Bool, true, false, not, ◌&&◌, ◌==◌, if◌then◌else◌, List, [], ◌∷◌, Some, refl, ap, ap₂, sym, ◌∙◌, subst, arith}
+use Rattle.std.proofs.Common.{◌≡◌, ℕ, pos, ◌+◌, ◌<◌, ◌≤◌, ◌+ℤ◌, ◌≤ℤ◌, ◌<ℤ◌, ◌⊎◌, inl, inr, Bool, true, false, not, ◌==◌, if◌then◌else◌, List, [], ◌∷◌, Some, refl, ap, ap₂, sym, ◌∙◌, subst, arith}
 use Rattle.std.specs.Prelude.{All, filter, slice_get}
 use Rattle.std.proofs.lemmas.Bool.{and_from, and_parts, eq-eqb, eqb-true}
 use Rattle.fh_time.specs.Air.{air_of}
@@ -10,8 +10,6 @@ use Rattle.window_config.specs.Configs.{IsConfig}
 use Rattle.window_config.specs.Plans.{IsPlanLine}
 use Rattle.window_config.specs.declared.config.Config.{Config}
 use Rattle.window_config.specs.declared.endpoints.EndpointConfig.{EndpointConfig}
-use Rattle.window_config.specs.declared.plan.PlanKind.{PlanKind}
-use Rattle.window_config.specs.declared.plan.PlanKind.TheVariants.{Down, Up, Idle}
 use Rattle.window_config.specs.declared.plan.PlanLine.{PlanLine}
 use Rattle.sent_laws.specs.unit_model.specs.Claims.{is_from, same_slot}
 use Rattle.sent_laws.specs.unit_model.specs.Commands.{is_uplink as is_sent_up}
@@ -40,6 +38,8 @@ use Rattle.sent_laws.specs.sent_frames.proofs.MessageFacts.{IsGoodMessage, IsGoo
 use Rattle.uplink_streams.proofs.ListLemmas.{of_order}
 use Rattle.sent_laws.specs.plan_model.specs.Lines.{is_up_line}
 use Rattle.sent_laws.specs.unit_model.proofs.ClaimLemmas.{same_slot_is as slots_equal, slot_self as slot_own, from_within}
+use Rattle.ecpri_fragments.specs.declared.place.TheConstants.{MESSAGE_BYTES}
+use Rattle.uplink_laws.proofs.JobLemmas.{up_sent}
 
 -- ---- in an order
 
@@ -58,11 +58,6 @@ into_order below z [] m = m
 into_order below z (x ∷ xs) m = in_put below x z (in_order below xs) (elim m [ inl e ↦ inl e | inr t ↦ inr (into_order below z xs t) ])
 
 -- ---- kinds of lines
-
-up_sent : (k : PlanKind) → not (is_down_kind k) ≡ true → (not (is_down_kind k) && not (is_idle_kind k)) ≡ true
-up_sent Down h = absurd cc
-up_sent Up h = refl
-up_sent Idle h = absurd cc
 
 -- what an uplink line names is sent for
 pub line_sent : (p : PlannedLine) → is_up_line p ≡ true → is_sent_up (line_allocation p) ≡ true
@@ -184,7 +179,7 @@ module _ (c : Config) (lines : List PlanLine) (config : IsConfig c) (fit : All I
         symbol = λ x i. eqb-true n.message.first.symbol x.symbol (one x i).1;
       }
 
-  pub message_short : (ep : ℕ) (e : EndpointConfig) (n : Numbered Part) → IsAt c.endpoints ep e → IsIn n (messages_of c ps UpData ep e) → size_of part_fields n.message ≤ 16384
+  pub message_short : (ep : ℕ) (e : EndpointConfig) (n : Numbered Part) → IsAt c.endpoints ep e → IsIn n (messages_of c ps UpData ep e) → size_of part_fields n.message ≤ MESSAGE_BYTES
   message_short ep e n at m =
       all_short part_fields c.pack (parts_in ps UpData ep e) n.message (λ x i. section_short c.endpoints x (part_facts ep e x at i).line) (is_of ep e n m)
 

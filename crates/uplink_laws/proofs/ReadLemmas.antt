@@ -26,12 +26,12 @@ use Rattle.window_config.specs.declared.endpoints.EndpointConfig.{EndpointConfig
 use Rattle.window_config.specs.declared.plan.PlanLine.{PlanLine}
 use Rattle.sent_laws.specs.unit_model.specs.Claims.{cell_at, first_prb, is_from, prb_count}
 use Rattle.sent_laws.specs.unit_model.specs.Decoding.{Gathering, SectionBlocks as ReadPart, Sections, data_with, decode, decoded_from, gathered, nothing_told}
-use Rattle.sent_laws.specs.unit_model.specs.Lists.{joined, onto}
-use Rattle.sent_laws.specs.unit_model.specs.Meetings.{Meeting, Piece, find_endpoint, fragment_of, fragment_with, id_of, meet, met_in}
+use Rattle.sent_laws.specs.unit_model.specs.Lists.{onto}
+use Rattle.sent_laws.specs.unit_model.specs.Meetings.{Meeting, Piece, find_endpoint, fragment_of, fragment_with, meet, met_in}
 use Rattle.sent_laws.specs.unit_model.specs.Proper.{IsAt}
 use Rattle.sent_laws.specs.unit_model.specs.declared.decoded.UserSection.{UserSection}
 use Rattle.sent_laws.specs.plan_model.specs.Lines.{line_allocation, planned}
-use Rattle.sent_laws.specs.plan_model.specs.Packs.{Message, Numbered, frames_for, parts_of, size_of}
+use Rattle.sent_laws.specs.plan_model.specs.Packs.{Message, Numbered, parts_of, size_of}
 use Rattle.sent_laws.specs.plan_model.specs.Streams.{Part, frames_in, messages_of, part_fields, section_size}
 use Rattle.sent_laws.specs.plan_model.specs.declared.lines.PlannedLine.{PlannedLine}
 use Rattle.sent_laws.specs.plan_model.specs.declared.streams.Stream.TheVariants.{UpData}
@@ -40,7 +40,7 @@ use Rattle.sent_laws.specs.schedule_laws.specs.Data.{Blocks}
 use Rattle.sent_laws.specs.schedule_laws.proofs.FoundLemmas.{found}
 use Rattle.sent_laws.specs.schedule_laws.proofs.ListLemmas.{at_in, in_all}
 use Rattle.sent_laws.specs.schedule_laws.proofs.PlanLemmas.{line_of}
-use Rattle.sent_laws.specs.frame_bytes.specs.Cuts.{cut, piece_at, pieces_of}
+use Rattle.sent_laws.specs.frame_bytes.specs.Cuts.{cut, piece_at}
 use Rattle.sent_laws.specs.frame_bytes.specs.Messages.{message_of}
 use Rattle.sent_laws.specs.frame_bytes.specs.Reading.{IsReadable, sections_items}
 use Rattle.sent_laws.specs.frame_bytes.specs.Transport.{IsTransport, frame_of}
@@ -67,6 +67,9 @@ use Rattle.uplink_laws.proofs.PartLemmas.{good_message, message_facts, message_s
 use Rattle.sent_laws.specs.frame_bytes.specs.Headers.{frame_id_of}
 use Rattle.sent_laws.specs.frame_bytes.specs.Headers.{carrier_of}
 use Rattle.sent_laws.specs.unit_model.proofs.ClaimLemmas.{starts_before as from_low, from_within as from_high}
+use Rattle.ecpri_fragments.specs.Sequence.{id_of}
+use Rattle.ecpri_fragments.specs.Pieces.{joined, piece_count}
+use Rattle.ecpri_fragments.specs.declared.place.TheConstants.{MESSAGE_BYTES}
 
 -- ---- a frame at the distributed unit
 
@@ -148,7 +151,7 @@ module _ (c : Config) (lines : List PlanLine) (source : Source) (s : IsSendable 
     good : IsGoodMessage c ep e n.message
     good = good_message c lines s.config s.lines_fit s.valid ep e n at there
 
-    short : size_of part_fields n.message ≤ 16384
+    short : size_of part_fields n.message ≤ MESSAGE_BYTES
     short = message_short c lines s.config s.lines_fit s.valid ep e n at there
 
     one : IsGoodPart c ep e m.first
@@ -198,7 +201,7 @@ module _ (c : Config) (lines : List PlanLine) (source : Source) (s : IsSendable 
     frame_as : (sub : ℕ) → uplink_fragment_bytes c antenna e (message_for m) n.number sub ≡ frame_of 0 e.id (field (frames_in c UpData m) sub) (fragment_text c antenna e n sub)
     frame_as sub =
         ap₂ (λ count size. frame_of 0 e.id (field count sub) (cut (sub * c.fragment) (min (sub * c.fragment + c.fragment) size) bytes))
-        (ap (frames_for c.fragment) job_size) (job_size ∙ sym length_is)
+        (ap (piece_count c.fragment) job_size) (job_size ∙ sym length_is)
 
     -- a frame is read as its fragment, whenever it comes
     pub frame_read : (sub : ℕ) (t : ℤ) → sub < frames_in c UpData m
@@ -218,7 +221,7 @@ module _ (c : Config) (lines : List PlanLine) (source : Source) (s : IsSendable 
     -- all its fragments joined are the message
     all_joined : joined (texts (fragment_text c antenna e n) (frames_in c UpData m)) ≡ bytes
     all_joined =
-        ap (λ size. joined (texts (piece_at c.fragment bytes) (pieces_of c.fragment size))) (sym length_is)
+        ap (λ size. joined (texts (piece_at c.fragment bytes) (piece_count c.fragment size))) (sym length_is)
         ∙ fragments_joined c.fragment bytes (some_bytes c.fragment s.config.fragment_low)
 
     pub size_is : size_to (fragment_text c antenna e n) (frames_in c UpData m) ≡ size_of part_fields m

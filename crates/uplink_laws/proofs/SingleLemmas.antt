@@ -17,7 +17,6 @@ use Rattle.sent_laws.specs.unit_model.specs.Reports.{du_known, du_reported}
 use Rattle.sent_laws.specs.unit_model.specs.Standing.{same_cell}
 use Rattle.sent_laws.specs.unit_model.specs.declared.cells.Cell.{Cell}
 use Rattle.sent_laws.specs.unit_model.proofs.ReachLaws.{symbol_piece}
-use Rattle.sent_laws.specs.unit_laws.proofs.CellLemmas.{covers_is}
 use Rattle.sent_laws.specs.unit_laws.proofs.DueLemmas.{reported_differ}
 use Rattle.sent_laws.specs.plan_model.specs.Lines.{line_allocation, planned}
 use Rattle.sent_laws.specs.plan_model.specs.declared.lines.PlannedLine.{PlannedLine}
@@ -39,10 +38,11 @@ use Rattle.uplink_laws.proofs.CellLemmas.{plan_taken_in}
 use Rattle.fh_time.specs.declared.frames.TheConstants.{FRAME}
 use Rattle.sent_laws.specs.plan_model.specs.Lines.{uplink_allocations}
 use Rattle.sent_laws.specs.plan_model.specs.Lines.{is_up_line}
-use Rattle.sent_laws.specs.unit_model.proofs.ClaimLemmas.{within_carrier, from_within}
+use Rattle.sent_laws.specs.unit_model.proofs.ClaimLemmas.{within_carrier, from_within, covers_is}
 use Rattle.fh_time.proofs.Orders.{not_negative}
+use Rattle.fh_time.specs.declared.nanoseconds.TheConstants.{NANOSECOND}
 
-after_clock : (s ns : ℤ) → FRAME ≤ℤ s → pos 0 ≤ℤ ns → (first_clock -ℤ ns *ℤ pos 1536) ≤ℤ s
+after_clock : (s ns : ℤ) → FRAME ≤ℤ s → pos 0 ≤ℤ ns → (first_clock -ℤ ns *ℤ pos NANOSECOND) ≤ℤ s
 after_clock s ns h k = omega (arith, ints, h, k)
 
 module _ (c : Config) (lines : List PlanLine) (source : Source) (antenna : Antenna) (down up : List Arrival) (h : BothArrive c lines source antenna down up) where

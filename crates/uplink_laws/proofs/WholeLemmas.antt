@@ -25,29 +25,30 @@ use Rattle.uplink_laws.specs.Premise.{BothArrive}
 use Rattle.uplink_laws.specs.Whole.{AreTakenOnce}
 use Rattle.uplink_laws.proofs.ArrivalLemmas.{delivered, sounds}
 use Rattle.window_config.proofs.TickLemmas.{in_ticks}
+use Rattle.fh_time.specs.declared.nanoseconds.TheConstants.{NANOSECOND}
 
 -- ---- times
 
 -- a frame that left from Ta3's minimum on comes no sooner than T34's minimum later
-comes_from : (s least fast first : ℤ) (wait : ℕ) → (((s +ℤ least *ℤ pos 1536) +ℤ pos wait) +ℤ fast *ℤ pos 1536) ≤ℤ first → (s +ℤ (least +ℤ fast) *ℤ pos 1536) ≤ℤ first
+comes_from : (s least fast first : ℤ) (wait : ℕ) → (((s +ℤ least *ℤ pos NANOSECOND) +ℤ pos wait) +ℤ fast *ℤ pos NANOSECOND) ≤ℤ first → (s +ℤ (least +ℤ fast) *ℤ pos NANOSECOND) ≤ℤ first
 comes_from s least fast first wait h = omega (arith, ints, h)
 
 -- and one that left by its maximum no later than T34's maximum later
-comes_to : (s least most slow last : ℤ) (wait spread : ℕ) → least *ℤ pos 1536 +ℤ pos spread ≡ most *ℤ pos 1536 → wait ≤ spread
-    → last ≤ℤ (((s +ℤ least *ℤ pos 1536) +ℤ pos wait) +ℤ slow *ℤ pos 1536) → last ≤ℤ (s +ℤ (most +ℤ slow) *ℤ pos 1536)
+comes_to : (s least most slow last : ℤ) (wait spread : ℕ) → least *ℤ pos NANOSECOND +ℤ pos spread ≡ most *ℤ pos NANOSECOND → wait ≤ spread
+    → last ≤ℤ (((s +ℤ least *ℤ pos NANOSECOND) +ℤ pos wait) +ℤ slow *ℤ pos NANOSECOND) → last ≤ℤ (s +ℤ (most +ℤ slow) *ℤ pos NANOSECOND)
 comes_to s least most slow last wait spread e w h = omega (arith, ints, e, w, h)
 
-not_late : (s sum most last : ℤ) → last ≤ℤ (s +ℤ sum *ℤ pos 1536) → sum ≤ℤ most → (last -ℤ s) ≤ℤ (most *ℤ pos 1536)
+not_late : (s sum most last : ℤ) → last ≤ℤ (s +ℤ sum *ℤ pos NANOSECOND) → sum ≤ℤ most → (last -ℤ s) ≤ℤ (most *ℤ pos NANOSECOND)
 not_late s sum most last h k = omega (arith, ints, h, k)
 
-not_early : (s sum least first : ℤ) → (s +ℤ sum *ℤ pos 1536) ≤ℤ first → least ≤ℤ sum → (least *ℤ pos 1536) ≤ℤ (first -ℤ s)
+not_early : (s sum least first : ℤ) → (s +ℤ sum *ℤ pos NANOSECOND) ≤ℤ first → least ≤ℤ sum → (least *ℤ pos NANOSECOND) ≤ℤ (first -ℤ s)
 not_early s sum least first h k = omega (arith, ints, h, k)
 
-still_held : (s least most fast slow hold first last : ℤ) → (s +ℤ (least +ℤ fast) *ℤ pos 1536) ≤ℤ first → last ≤ℤ (s +ℤ (most +ℤ slow) *ℤ pos 1536)
-    → ((most -ℤ least) +ℤ (slow -ℤ fast)) ≤ℤ hold → last ≤ℤ (first +ℤ hold *ℤ pos 1536)
+still_held : (s least most fast slow hold first last : ℤ) → (s +ℤ (least +ℤ fast) *ℤ pos NANOSECOND) ≤ℤ first → last ≤ℤ (s +ℤ (most +ℤ slow) *ℤ pos NANOSECOND)
+    → ((most -ℤ least) +ℤ (slow -ℤ fast)) ≤ℤ hold → last ≤ℤ (first +ℤ hold *ℤ pos NANOSECOND)
 still_held s least most fast slow hold first last f l h = omega (arith, ints, f, l, h)
 
-after_start : (s least fast last : ℤ) → pos 0 ≤ℤ least → pos 0 ≤ℤ fast → (s +ℤ (least +ℤ fast) *ℤ pos 1536) ≤ℤ last → s ≤ℤ last
+after_start : (s least fast last : ℤ) → pos 0 ≤ℤ least → pos 0 ≤ℤ fast → (s +ℤ (least +ℤ fast) *ℤ pos NANOSECOND) ≤ℤ last → s ≤ℤ last
 after_start s least fast last a b h = omega (arith, ints, a, b, h)
 
 -- ---- of the messages of a plan

@@ -15,7 +15,7 @@ use Rattle.window_config.specs.declared.verdicts.Class.TheVariants.{OnTime}
 use Rattle.sent_laws.specs.unit_model.specs.Blocks.{block_at, data_class, data_slot}
 use Rattle.sent_laws.specs.unit_model.specs.Claims.{cell_at, covers, first_prb, is_from, prb_count}
 use Rattle.sent_laws.specs.unit_model.specs.Decoding.{Sections, decode, decode_message, sections_of}
-use Rattle.sent_laws.specs.unit_model.specs.Lists.{joined, onto}
+use Rattle.sent_laws.specs.unit_model.specs.Lists.{onto}
 use Rattle.sent_laws.specs.unit_model.specs.Meetings.{Arrival, fragments}
 use Rattle.sent_laws.specs.unit_model.specs.Proper.{IsAt}
 use Rattle.sent_laws.specs.unit_model.specs.Reports.{data_of, met, timely_of}
@@ -32,6 +32,7 @@ use Rattle.uplink_streams.specs.uplink_model.specs.Frames.{Antenna}
 use Rattle.uplink_laws.specs.Flows.{uplink_bounds_of, fragment_text}
 use Rattle.uplink_laws.specs.Premise.{BothArrive}
 use Rattle.sent_laws.specs.plan_model.specs.Lines.{is_up_line}
+use Rattle.ecpri_fragments.specs.Pieces.{joined}
 
 -- what the endpoint's compression leaves of the antenna's block at each cell
 abbrev pub antenna_blocks : Config → Antenna → Blocks

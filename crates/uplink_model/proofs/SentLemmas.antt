@@ -1,6 +1,6 @@
 -- Lists that are told key by key: each element once, in the order of keys, and those of a key as they were.
 use Rattle.std.proofs.Common.{◌≡◌, ℕ, ℤ, pos, zero, suc, ◌+◌, ◌<◌, ◌≤◌, ◌+ℤ◌, ◌≤ℤ◌, ◌<ℤ◌, ◌⊎◌, inl, inr, Bool, true, false, not, ◌&&◌, ◌==◌, if◌then◌else◌, List, [], ◌∷◌, ◌++◌, refl, ap, ap₂, sym, ◌∙◌, subst, arith, append-nil, true≢false}
-use Rattle.std.specs.Prelude.{⊤, All, filter, IsPermutation}
+use Rattle.std.specs.Prelude.{All, filter, IsPermutation}
 use Rattle.std.specs.Int.{int_gap}
 use Rattle.std.specs.List.{AllByRecursion, AllPairs}
 use Rattle.std.specs.Ordering.{int_eq}
@@ -11,14 +11,14 @@ use Rattle.std.proofs.lemmas.List.Elements.{All-from_recursion, filter-append, r
 use Rattle.std.proofs.lemmas.List.Kept.{AllPairs-cons}
 use Rattle.std.proofs.lemmas.List.Sorted.{IsPermutation-append, IsPermutation-append_right, IsPermutation-filter_both, IsPermutation-refl, IsPermutation-trans}
 use Rattle.air_source.specs.declared.links.LinkFrame.{LinkFrame}
-use Rattle.plan_model.specs.unit_model.specs.Lists.{each, each_tick}
+use Rattle.plan_model.specs.unit_model.specs.Lists.{each, each_tick, AreRelated}
 use Rattle.plan_model.specs.unit_model.specs.Radiated.{first_clock}
 use Rattle.plan_model.specs.unit_model.specs.Times.{end_of_time}
 use Rattle.plan_model.specs.unit_model.proofs.SweepLaws.{each_same, gap_is}
-use Rattle.plan_model.proofs.ListLemmas.{filter_all, filter_none, all_map}
-use Rattle.plan_model.proofs.TickLemmas.{int_apart}
+use Rattle.plan_model.proofs.ListLemmas.{filter_all, filter_none, all_map, filter_has, all_join, all_unit}
 use Rattle.uplink_model.specs.Sent.{in_sent_order, leaves_at, leaving_at, frames_leaving}
 use Rattle.uplink_model.specs.SentLaws.{AllAreSent, LaterChangeNothing, LeavingAreByEndpoint, LeavingAreReordered, LeavingAsHandedOver, LeavingLeaveThen, TicksStandTogether, TimesRise}
+use Rattle.fh_time.proofs.Orders.{is_same, not_eq}
 
 -- ---- filters
 
@@ -42,39 +42,18 @@ filter_within {X = X} a b h (x ∷ xs) = go (b x) refl (a x) refl (filter_within
     go false p true q r = absurd (true≢false (sym (h x q) ∙ p))
     go false p false q r = r
 
-all_join : {X : Type 0} (P : X → Type 0) (xs ys : List X) → AllByRecursion P xs → AllByRecursion P ys → AllByRecursion P (xs ++ ys)
-all_join P [] ys p q = q
-all_join P (x ∷ xs) ys p q = (p.0, all_join P xs ys p.1 q)
-
--- what is kept passes the test, and has what all have
-all_kept : {X : Type 0} (P Q : X → Type 0) (t : X → Bool) → ((x : X) → P x → t x ≡ true → Q x) → (xs : List X) → AllByRecursion P xs → AllByRecursion Q (filter t xs)
-all_kept P Q t f [] h = tt
-all_kept {X = X} P Q t f (x ∷ xs) h = go (t x) refl (all_kept P Q t f xs h.1)
-  where
-    go : (b : Bool) → t x ≡ b → AllByRecursion Q (filter t xs) → AllByRecursion Q (let ys : List X = if b then x ∷ filter t xs else filter t xs in ys)
-    go true e r = (f x h.0 e, r)
-    go false e r = r
-
-all_unit : {X : Type 0} (xs : List X) → AllByRecursion (λ x. Unit {0}) xs
-all_unit [] = tt
-all_unit (x ∷ xs) = (tt, all_unit xs)
-
 -- ---- pairs
 
-abbrev Ordered : {X : Type 0} → (X → X → Type 0) → List X → Type 0
-Ordered R [] = ⊤
-Ordered R (x ∷ xs) = AllByRecursion (R x) xs × Ordered R xs
-
-all_pairs : {X : Type 0} (R : X → X → Type 0) (xs : List X) → Ordered R xs → AllPairs R xs
+all_pairs : {X : Type 0} (R : X → X → Type 0) (xs : List X) → AreRelated R xs → AllPairs R xs
 all_pairs R [] h = λ i j d low high. absurd (omega arith)
 all_pairs R (x ∷ xs) h = AllPairs-cons R x xs (All-from_recursion (R x) xs h.0) (all_pairs R xs h.1)
 
-ordered_join : {X : Type 0} (R : X → X → Type 0) (xs ys : List X) → Ordered R xs → Ordered R ys → AllByRecursion (λ x. AllByRecursion (R x) ys) xs → Ordered R (xs ++ ys)
+ordered_join : {X : Type 0} (R : X → X → Type 0) (xs ys : List X) → AreRelated R xs → AreRelated R ys → AllByRecursion (λ x. AllByRecursion (R x) ys) xs → AreRelated R (xs ++ ys)
 ordered_join R [] ys p q h = q
 ordered_join R (x ∷ xs) ys p q h = (all_join (R x) xs ys p.0 h.0, ordered_join R xs ys p.1 q h.1)
 
 -- where each may stand before each
-ordered_all : {X : Type 0} (R : X → X → Type 0) (P : X → Type 0) → ((x y : X) → P x → P y → R x y) → (xs : List X) → AllByRecursion P xs → Ordered R xs
+ordered_all : {X : Type 0} (R : X → X → Type 0) (P : X → Type 0) → ((x y : X) → P x → P y → R x y) → (xs : List X) → AllByRecursion P xs → AreRelated R xs
 ordered_all R P f [] h = tt
 ordered_all R P f (x ∷ xs) h = (all_map P (R x) (λ y q. f x y h.0 q) xs h.1, ordered_all R P f xs h.1)
 
@@ -119,7 +98,7 @@ module _ {X : Type 0} (key : X → ℕ) where
       (IsPermutation-filter_both p q (λ x. refl) xs)
       (IsPermutation-append_right (filter p xs) rest (each (from + 1) n (of_key xs))
       (subst (λ (ys : List X). IsPermutation rest ys) (each_rest (from + 1) n from xs (omega arith))
-      (each_reordered (from + 1) n rest (all_kept (IsFrom from (suc n)) (IsFrom (from + 1) n) q (first_out from n) xs h))))
+      (each_reordered (from + 1) n rest (filter_has (IsFrom from (suc n)) (IsFrom (from + 1) n) q (first_out from n) xs h))))
 
   -- ---- what is told of numbers, each of its own
 
@@ -132,7 +111,7 @@ module _ {X : Type 0} (key : X → ℕ) where
         (all_map (λ x. key x ≡ from) (λ x. from ≤ key x) (λ x e. omega (arith, e)) (f from) (own from))
         (all_map (λ x. from + 1 ≤ key x) (λ x. from ≤ key x) (λ x h. omega (arith, h)) (each (from + 1) n f) (each_from (from + 1) n))
 
-    each_ordered : (from n : ℕ) → Ordered (λ x y. key x ≤ key y) (each from n f)
+    each_ordered : (from n : ℕ) → AreRelated (λ x y. key x ≤ key y) (each from n f)
     unfolding each
     each_ordered from zero = tt
     each_ordered from (suc n) =
@@ -167,15 +146,12 @@ module _ {X : Type 0} (key : X → ℕ) where
 
 -- ---- by ticks
 
-same_tick : (a b : ℤ) → a ≡ b → int_eq a b ≡ true
-same_tick a b e = (Decides-int_eq a b).1 e
-
 tick_cases : (a b : ℤ) → (a ≡ b) ⊎ (a ≡ b → ⊥)
 tick_cases a b = go (int_eq a b) refl
   where
     go : (r : Bool) → int_eq a b ≡ r → (a ≡ b) ⊎ (a ≡ b → ⊥)
     go true e = inl ((Decides-int_eq a b).0 e)
-    go false e = inr (λ s. true≢false (sym (same_tick a b s) ∙ e))
+    go false e = inr (λ s. true≢false (sym (is_same a b s) ∙ e))
 
 at_of : (t : ℤ) (f : LinkFrame) → leaves_at t f ≡ true → f.at.0 ≡ t
 at_of t f h = (Decides-int_eq f.at.0 t).0 h
@@ -189,7 +165,7 @@ module _ (told : ℤ → List LinkFrame) (own : (t : ℤ) → AllByRecursion (λ
       (all_map (λ f. f.at.0 ≡ from) (λ f. from ≤ℤ f.at.0) (λ f e. omega (arith, ints, e)) (told from) (own from))
       (all_map (λ f. (from +ℤ pos 1) ≤ℤ f.at.0) (λ f. from ≤ℤ f.at.0) (λ f h. omega (arith, ints, h)) (each_tick (from +ℤ pos 1) n told) (ticks_from (from +ℤ pos 1) n))
 
-  ticks_ordered : (from : ℤ) (n : ℕ) → Ordered (λ f g. f.at.0 ≤ℤ g.at.0) (each_tick from n told)
+  ticks_ordered : (from : ℤ) (n : ℕ) → AreRelated (λ f g. f.at.0 ≤ℤ g.at.0) (each_tick from n told)
   unfolding each_tick
   ticks_ordered from zero = tt
   ticks_ordered from (suc n) =
@@ -203,7 +179,7 @@ module _ (told : ℤ → List LinkFrame) (own : (t : ℤ) → AllByRecursion (λ
   ticks_none : (from : ℤ) (n : ℕ) (t : ℤ) → t <ℤ from → filter (leaves_at t) (each_tick from n told) ≡ []
   ticks_none from n t h =
       filter_none (leaves_at t) (each_tick from n told)
-      (all_map (λ f. from ≤ℤ f.at.0) (λ f. leaves_at t f ≡ false) (λ f low. int_apart f.at.0 t (λ e. omega (arith, ints, e, low, h))) (each_tick from n told) (ticks_from from n))
+      (all_map (λ f. from ≤ℤ f.at.0) (λ f. leaves_at t f ≡ false) (λ f low. not_eq f.at.0 t (λ e. omega (arith, ints, e, low, h))) (each_tick from n told) (ticks_from from n))
 
   ticks_one : (from : ℤ) (n : ℕ) (t : ℤ) → from ≤ℤ t → t <ℤ (from +ℤ pos n) → filter (leaves_at t) (each_tick from n told) ≡ told t
   unfolding each_tick
@@ -212,14 +188,14 @@ module _ (told : ℤ → List LinkFrame) (own : (t : ℤ) → AllByRecursion (λ
     | inl e ↦
         filter-append (leaves_at t) (told from) (each_tick (from +ℤ pos 1) n told)
         ∙ ap₂ ◌++◌
-        (filter_all (leaves_at t) (told from) (all_map (λ f. f.at.0 ≡ from) (λ f. leaves_at t f ≡ true) (λ f o. same_tick f.at.0 t (o ∙ e)) (told from) (own from)))
+        (filter_all (leaves_at t) (told from) (all_map (λ f. f.at.0 ≡ from) (λ f. leaves_at t f ≡ true) (λ f o. is_same f.at.0 t (o ∙ e)) (told from) (own from)))
         (ticks_none (from +ℤ pos 1) n t (omega (arith, ints, e)))
         ∙ append-nil (told from) ∙ ap told e
     | inr other ↦
         filter-append (leaves_at t) (told from) (each_tick (from +ℤ pos 1) n told)
         ∙ ap₂ ◌++◌
         (filter_none (leaves_at t) (told from)
-        (all_map (λ f. f.at.0 ≡ from) (λ f. leaves_at t f ≡ false) (λ f o. int_apart f.at.0 t (λ s. other (sym o ∙ s))) (told from) (own from)))
+        (all_map (λ f. f.at.0 ≡ from) (λ f. leaves_at t f ≡ false) (λ f o. not_eq f.at.0 t (λ s. other (sym o ∙ s))) (told from) (own from)))
         (ticks_one (from +ℤ pos 1) n t (above from t low other) (below from n t high))
   ]
     where
@@ -245,7 +221,7 @@ ticks_rest from (suc n) t fs h =
     (ticks_rest (from +ℤ pos 1) n t fs (omega (arith, ints)))
   where
     other : (f : LinkFrame) → f.at.0 ≡ from → not (leaves_at t f) ≡ true
-    other f e = ap not (int_apart f.at.0 t (λ same. omega (arith, ints, e, same, h)))
+    other f e = ap not (not_eq f.at.0 t (λ same. omega (arith, ints, e, same, h)))
 
 no_ticks : (from : ℤ) (fs : List LinkFrame) → AllByRecursion (IsIn from 0) fs → [] ≡ fs
 no_ticks from [] h = refl
@@ -261,14 +237,14 @@ ticks_reordered from (suc n) fs h =
     (IsPermutation-filter_both (leaves_at from) q (λ f. refl) fs)
     (IsPermutation-append_right (at_tick fs from) rest (each_tick (from +ℤ pos 1) n (at_tick fs))
     (subst (λ (gs : List LinkFrame). IsPermutation rest gs) (ticks_rest (from +ℤ pos 1) n from fs (after from))
-    (ticks_reordered (from +ℤ pos 1) n rest (all_kept (IsIn from (suc n)) (IsIn (from +ℤ pos 1) n) q out fs h))))
+    (ticks_reordered (from +ℤ pos 1) n rest (filter_has (IsIn from (suc n)) (IsIn (from +ℤ pos 1) n) q out fs h))))
   where
     after : (a : ℤ) → a <ℤ (a +ℤ pos 1)
     after a = omega (arith, ints)
 
     out : (f : LinkFrame) → IsIn from (suc n) f → not (leaves_at from f) ≡ true → IsIn (from +ℤ pos 1) n f
     out f h e = elim (tick_cases f.at.0 from) [
-      | inl same ↦ absurd (true≢false (sym e ∙ ap not (same_tick f.at.0 from same)))
+      | inl same ↦ absurd (true≢false (sym e ∙ ap not (is_same f.at.0 from same)))
       | inr other ↦ (above f.at.0 from h.0 other, below f.at.0 from h.1)
     ]
       where
@@ -295,13 +271,13 @@ pub leaving_are_reordered : LeavingAreReordered
 leaving_are_reordered n frames t are =
     let now = filter (leaves_at t) frames in
     subst (λ (fs : List LinkFrame). IsPermutation now fs) (sym (leaving_is n frames t))
-    (each_reordered (λ f. f.ep) 0 n now (all_kept (λ f. f.ep < n) (IsFrom (λ (f : LinkFrame). f.ep) 0 n) (leaves_at t) (λ f h e. (omega arith, omega (arith, h))) frames
+    (each_reordered (λ f. f.ep) 0 n now (filter_has (λ f. f.ep < n) (IsFrom (λ (f : LinkFrame). f.ep) 0 n) (leaves_at t) (λ f h e. (omega arith, omega (arith, h))) frames
     (recursion_from_All (λ (f : LinkFrame). f.ep < n) frames are)))
 
 -- each is of its endpoint and its tick
 of_own : (frames : List LinkFrame) (t : ℤ) (ep : ℕ) → AllByRecursion (λ f. (f.at.0 ≡ t) × (f.ep ≡ ep)) (frames_leaving frames t ep)
 of_own frames t ep =
-    all_kept (λ (f : LinkFrame). Unit {0}) (λ (f : LinkFrame). (f.at.0 ≡ t) × (f.ep ≡ ep)) (λ f. leaves_at t f && (f.ep == ep)) (λ f u e.
+    filter_has (λ (f : LinkFrame). Unit {0}) (λ (f : LinkFrame). (f.at.0 ≡ t) × (f.ep ≡ ep)) (λ f. leaves_at t f && (f.ep == ep)) (λ f u e.
     (let w = and_parts (leaves_at t f) (f.ep == ep) e in (at_of t f w.0, eqb-true f.ep ep w.1))) frames (all_unit frames)
 
 own_ep : (frames : List LinkFrame) (t : ℤ) (ep : ℕ) → AllByRecursion (λ f. f.ep ≡ ep) (frames_leaving frames t ep)
@@ -335,7 +311,7 @@ later_none : (t : ℤ) (ep : ℕ) (later : List LinkFrame) → All (λ f. t <ℤ
 later_none t ep later h =
     filter_none (λ f. leaves_at t f && (f.ep == ep)) later
     (all_map (λ (f : LinkFrame). t <ℤ f.at.0) (λ (f : LinkFrame). (leaves_at t f && (f.ep == ep)) ≡ false) (λ f lt.
-    ap (λ (b : Bool). b && (f.ep == ep)) (int_apart f.at.0 t (λ e. omega (arith, ints, e, lt)))) later (recursion_from_All (λ (f : LinkFrame). t <ℤ f.at.0) later h))
+    ap (λ (b : Bool). b && (f.ep == ep)) (not_eq f.at.0 t (λ e. omega (arith, ints, e, lt)))) later (recursion_from_All (λ (f : LinkFrame). t <ℤ f.at.0) later h))
 
 pub later_change_nothing : LaterChangeNothing
 unfolding leaving_at

@@ -1,13 +1,12 @@
 -- The frames of the radio unit's U-plane messages (eCPRI 2.0, section 3.2.4; O-RAN.WG4.CUS, U-plane messages, eCPRI transport header and
 -- the window Ta3; the gap between frames is this project's profile).
-use Rattle.std.specs.Prelude.{ℕ, ℤ, pos, ◌+◌, ◌*◌, ◌%◌, ◌^◌, ◌==◌, false, min, List, [], ◌∷◌, ◌++◌, map}
-use Rattle.std.specs.Int.{int_gap, int_rem_euclid}
+use Rattle.std.specs.Prelude.{ℕ, ◌+◌, ◌*◌, ◌%◌, ◌^◌, ◌==◌, false, min, List, [], ◌∷◌, ◌++◌, map}
 use Rattle.std.specs.List.{slice_get}
 use Rattle.std.specs.Option.{option_map_or}
 use Rattle.bfp_codec.specs.declared.samples.Iq.{Iq}
 use Rattle.bfp_codec.specs.declared.samples.Wide.{Wide}
 use Rattle.ecpri_fragments.specs.declared.sequence.SeqField.{SeqField}
-use Rattle.uplane_sections.specs.declared.values.UHead.{UHead}
+use Rattle.plan_model.specs.unit_model.specs.Terms.{UHead}
 use Rattle.window_config.specs.declared.config.Config.{Config}
 use Rattle.window_config.specs.declared.endpoints.EndpointConfig.{EndpointConfig}
 use Rattle.air_source.specs.Answers.{block_of}
@@ -20,7 +19,6 @@ use Rattle.plan_model.specs.Packs.{Message, parts_of, size_of}
 use Rattle.plan_model.specs.declared.streams.Stream.TheVariants.{UpData}
 use Rattle.frame_bytes.specs.Cuts.{piece_frame}
 use Rattle.frame_bytes.specs.Messages.{message_of}
-use Rattle.frame_bytes.specs.declared.messages.Carrier.{Carrier}
 use Rattle.frame_bytes.specs.declared.messages.DataSection.{DataSection}
 use Rattle.uplink_model.specs.Messages.{frame_count, uplink_frames_before, job_fields, number_behind}
 use Rattle.frame_bytes.specs.Headers.{frame_id_of}

@@ -8,8 +8,9 @@ use Rattle.window_config.specs.declared.config.Config.{Config}
 use Rattle.window_config.specs.declared.endpoints.EndpointConfig.{EndpointConfig}
 use Rattle.plan_model.specs.unit_model.specs.Claims.{same_slot}
 use Rattle.plan_model.specs.unit_model.specs.declared.jobs.UplinkJob.{UplinkJob}
-use Rattle.plan_model.specs.Packs.{Message, PartFields, alone, frames_for, size_of, takes, with_part}
+use Rattle.plan_model.specs.Packs.{Message, PartFields, alone, size_of, takes, with_part}
 use Rattle.plan_model.specs.Streams.{section_size}
+use Rattle.ecpri_fragments.specs.Pieces.{piece_count}
 
 -- what `plan_model` asks of a part of a message: the bytes of a section are those of its endpoint
 abbrev pub job_fields : List EndpointConfig → PartFields UplinkJob
@@ -37,7 +38,7 @@ uplink_messages_of c (j ∷ js) = messages_behind c (alone j) js
 
 -- the frames of a message
 abbrev pub frame_count : Config → Message UplinkJob → ℕ
-frame_count c m = frames_for c.fragment (size_of (job_fields c.endpoints) m)
+frame_count c m = piece_count c.fragment (size_of (job_fields c.endpoints) m)
 
 -- ---- where a message stands behind others, the newest of these first
 

@@ -7,11 +7,11 @@ use Rattle.bfp_codec.specs.declared.samples.Wide.{Wide}
 use Rattle.window_config.specs.declared.config.Config.{Config}
 use Rattle.uplink_model.specs.unit_model.specs.Lists.{onto}
 use Rattle.uplink_model.specs.unit_model.specs.ProperJobs.{IsProperJob}
-use Rattle.uplink_model.specs.unit_model.specs.Standing.{History, handed}
+use Rattle.uplink_model.specs.unit_model.specs.Standing.{History, handed, owed_until}
 use Rattle.uplink_model.specs.unit_model.specs.declared.jobs.UplinkJob.{UplinkJob}
 use Rattle.uplink_model.specs.unit_model.proofs.OntoLemmas.{onto-append, onto_none}
 use Rattle.uplink_model.specs.plan_model.specs.Packs.{Message}
-use Rattle.ru_buffers.specs.Calls.{GivesJob, StandsFor, given_of}
+use Rattle.ru_buffers.specs.Calls.{GivesJob, StandsFor}
 use Rattle.ru_buffers.specs.radio_laws.specs.Units.{left_up_to}
 use Rattle.ru_buffers.specs.declared.unit.Ru.{Ru}
 use Rattle.uplink_model.specs.Frames.{Antenna, frames_behind}
@@ -28,7 +28,7 @@ use Rattle.uplink_path.proofs.TakeLemmas.{none_more}
 pub record Taken {F : Type 0} (post : RePlace → Wide → Type 0) (c : Config) (h : History) (ms : List (Message UplinkJob)) (u : Uplink F) (ru : Ru) (opened : Option Pending)
     (old new : List LinkFrame) : Type 0 where
   pub given : List UplinkJob
-  pub jobs : given_of c h h.clock ≡ given ++ given_of c (given_too h given) h.clock
+  pub jobs : owed_until c h h.clock ≡ given ++ owed_until c (given_too h given) h.clock
   pub closed : List (Message UplinkJob)
   pub message : Option (Message UplinkJob)
   pub is : (js : List UplinkJob) → uplink_messages_of c (given ++ js) ≡ closed ++ messages_from c message js
@@ -52,7 +52,7 @@ pub none_taken : {F : Type 0} (post : RePlace → Wide → Type 0) (c : Config) 
     → opened ≡ None → AreNumbered c u ms → StandsFor c ru h → Taken post c h ms u ru opened old old
 none_taken post c h ms u ru opened old is n stands = record {
   given = [];
-  jobs = ap (λ (k : History). given_of c k h.clock) (sym (none_too h));
+  jobs = ap (λ (k : History). owed_until c k h.clock) (sym (none_too h));
   closed = [];
   message = None;
   is = λ js. refl;
@@ -65,12 +65,12 @@ none_taken post c h ms u ru opened old is n stands = record {
 -- ---- one more
 
 -- what is left once a job was given too
-more_given : (c : Config) (h : History) (given : List UplinkJob) (job : UplinkJob) → given_of c h h.clock ≡ given ++ given_of c (given_too h given) h.clock
-    → given_of c (given_too h given) h.clock ≡ job ∷ given_of c (handed (given_too h given) job) h.clock
-    → given_of c h h.clock ≡ (given ++ job ∷ []) ++ given_of c (given_too h (given ++ job ∷ [])) h.clock
+more_given : (c : Config) (h : History) (given : List UplinkJob) (job : UplinkJob) → owed_until c h h.clock ≡ given ++ owed_until c (given_too h given) h.clock
+    → owed_until c (given_too h given) h.clock ≡ job ∷ owed_until c (handed (given_too h given) job) h.clock
+    → owed_until c h h.clock ≡ (given ++ job ∷ []) ++ owed_until c (given_too h (given ++ job ∷ [])) h.clock
 more_given c h given job jobs first =
-    jobs ∙ ap (λ (l : List UplinkJob). given ++ l) (first ∙ ap (λ (k : History). job ∷ given_of c k h.clock) (one_too h given job))
-    ∙ sym (append_assoc given (job ∷ []) (given_of c (given_too h (given ++ job ∷ [])) h.clock))
+    jobs ∙ ap (λ (l : List UplinkJob). given ++ l) (first ∙ ap (λ (k : History). job ∷ owed_until c k h.clock) (one_too h given job))
+    ∙ sym (append_assoc given (job ∷ []) (owed_until c (given_too h (given ++ job ∷ [])) h.clock))
 
 more_messages : (c : Config) (given : List UplinkJob) (job : UplinkJob) (closed more : List (Message UplinkJob)) (message : Option (Message UplinkJob)) (rest : List UplinkJob → List (Message UplinkJob))
     → ((js : List UplinkJob) → uplink_messages_of c (given ++ js) ≡ closed ++ messages_from c message js)
@@ -123,14 +123,14 @@ can_pack post c h ms u ru opened job old now t proper = record {
 
 -- ---- how many are left
 
-left_as : (c : Config) (h : History) (ru : Ru) → StandsFor c ru h → left_up_to ru.memory.cells ru.cursor ru.clock.0 ≡ given_of c h h.clock
-left_as c h ru stands = stands.kept.left ru.clock.0 ∙ ap (given_of c h) stands.kept.clock_is
+left_as : (c : Config) (h : History) (ru : Ru) → StandsFor c ru h → left_up_to ru.memory.cells ru.cursor ru.clock.0 ≡ owed_until c h h.clock
+left_as c h ru stands = stands.kept.left ru.clock.0 ∙ ap (owed_until c h) stands.kept.clock_is
 
 pub fewer : (c : Config) (h : History) (ru next : Ru) (job : UplinkJob) → StandsFor c ru h → GivesJob c h job next
     → length (left_up_to next.memory.cells next.cursor next.clock.0) < length (left_up_to ru.memory.cells ru.cursor ru.clock.0)
 fewer c h ru next job stands gives =
-    let before : length (left_up_to ru.memory.cells ru.cursor ru.clock.0) ≡ suc (length (given_of c (handed h job) h.clock)) = ap length (left_as c h ru stands ∙ gives.first) in
-    let after : length (left_up_to next.memory.cells next.cursor next.clock.0) ≡ length (given_of c (handed h job) h.clock) = ap length (left_as c (handed h job) next gives.stands) in
+    let before : length (left_up_to ru.memory.cells ru.cursor ru.clock.0) ≡ suc (length (owed_until c (handed h job) h.clock)) = ap length (left_as c h ru stands ∙ gives.first) in
+    let after : length (left_up_to next.memory.cells next.cursor next.clock.0) ≡ length (owed_until c (handed h job) h.clock) = ap length (left_as c (handed h job) next gives.stands) in
     omega (arith, before, after)
 
 -- ---- a link that had no room
@@ -156,12 +156,12 @@ pub stopped_at : {F : Type 0} (post : RePlace → Wide → Type 0) (c : Config) 
     → (t : Taken post c h ms u ru opened old now) → GivesJob c (given_too h t.given) job next
     → ((antenna : Antenna) → AnswersBy post antenna → StoppedAtJob c (onto ms t.closed) antenna t.message job now after) → SentFirst post c h ms next old after
 stopped_at post c h ms u ru next opened job old now after t gives stop =
-    let left = given_of c (given_too h (t.given ++ job ∷ [])) h.clock in
+    let left = owed_until c (given_too h (t.given ++ job ∷ [])) h.clock in
     let jobs = more_given c h t.given job t.jobs gives.first in
     record {
       sent = λ antenna said.
           let s = stop antenna said in
-          some_more c antenna ms (uplink_messages_of c (given_of c h h.clock)) t.closed s.closed (s.rest left) old now after
+          some_more c antenna ms (uplink_messages_of c (owed_until c h h.clock)) t.closed s.closed (s.rest left) old now after
           (ap (uplink_messages_of c) jobs ∙ more_messages c t.given job t.closed s.closed t.message s.rest t.is s.is left) (t.sent antenna said) s.some;
       given = t.given ++ job ∷ [];
       left = left;
@@ -171,8 +171,8 @@ stopped_at post c h ms u ru next opened job old now after t gives stop =
 
 -- ---- no job is left
 
-all_given : (c : Config) (h : History) (given : List UplinkJob) → given_of c h h.clock ≡ given ++ given_of c (given_too h given) h.clock → given_of c (given_too h given) h.clock ≡ []
-    → given_of c h h.clock ≡ given
+all_given : (c : Config) (h : History) (given : List UplinkJob) → owed_until c h h.clock ≡ given ++ owed_until c (given_too h given) h.clock → owed_until c (given_too h given) h.clock ≡ []
+    → owed_until c h h.clock ≡ given
 all_given c h given jobs none = jobs ∙ ap (λ (l : List UplinkJob). given ++ l) none ∙ append-nil given
 
 -- all messages are those that were closed, and the one that is open
@@ -182,13 +182,13 @@ all_messages c given owed closed message owed_is is = ap (uplink_messages_of c) 
 
 pub all_taken : {F A B : Type 0} (r : Result A B) (post : RePlace → Wide → Type 0) (c : Config) (h : History) (ms : List (Message UplinkJob)) (u v : Uplink F) (ru next : Ru) (opened : Option Pending)
     (old now after : List LinkFrame)
-    → (t : Taken post c h ms u ru opened old now) → given_of c (given_too h t.given) h.clock ≡ [] → next ≡ ru
+    → (t : Taken post c h ms u ru opened old now) → owed_until c (given_too h t.given) h.clock ≡ [] → next ≡ ru
     → ((antenna : Antenna) → AnswersBy post antenna → OnOk r (after ≡ now ++ frames_behind c antenna (onto ms t.closed) (messages_from c t.message [])))
     → OnOk r (AreNumbered c v (onto (onto ms t.closed) (messages_from c t.message []))) → OnOk r (SentAll post c h ms v next old after)
 all_taken (Err e) post c h ms u v ru next opened old now after t none same sent n = tt
 all_taken (Ok x) post c h ms u v ru next opened old now after t none same sent n =
     let given = all_given c h t.given t.jobs none in
-    let all = all_messages c t.given (given_of c h h.clock) t.closed t.message given t.is in
+    let all = all_messages c t.given (owed_until c h h.clock) t.closed t.message given t.is in
     record {
       sent = λ antenna said.
           more_sent c antenna ms t.closed (messages_from c t.message []) old now after (t.sent antenna said) (sent antenna said)
@@ -201,16 +201,16 @@ all_taken (Ok x) post c h ms u v ru next opened old now after t none same sent n
 -- ... of the last message
 pub stopped_last : {F A B : Type 0} (r : Result A B) (post : RePlace → Wide → Type 0) (c : Config) (h : History) (ms : List (Message UplinkJob)) (u : Uplink F) (ru next : Ru) (opened : Option Pending)
     (old now after : List LinkFrame)
-    → (t : Taken post c h ms u ru opened old now) → given_of c (given_too h t.given) h.clock ≡ [] → next ≡ ru
+    → (t : Taken post c h ms u ru opened old now) → owed_until c (given_too h t.given) h.clock ≡ [] → next ≡ ru
     → ((antenna : Antenna) → AnswersBy post antenna → OnErr r (SentSome (frames_behind c antenna (onto ms t.closed) (messages_from c t.message [])) now after))
     → OnErr r (SentFirst post c h ms next old after)
 stopped_last (Ok x) post c h ms u ru next opened old now after t none same stop = tt
 stopped_last (Err e) post c h ms u ru next opened old now after t none same stop =
     let given = all_given c h t.given t.jobs none in
-    let all = all_messages c t.given (given_of c h h.clock) t.closed t.message given t.is in
+    let all = all_messages c t.given (owed_until c h h.clock) t.closed t.message given t.is in
     record {
       sent = λ antenna said.
-          some_more c antenna ms (uplink_messages_of c (given_of c h h.clock)) t.closed (messages_from c t.message []) [] old now after
+          some_more c antenna ms (uplink_messages_of c (owed_until c h h.clock)) t.closed (messages_from c t.message []) [] old now after
           (all ∙ sym (append-nil (t.closed ++ messages_from c t.message []))) (t.sent antenna said) (stop antenna said);
       given = t.given;
       left = [];

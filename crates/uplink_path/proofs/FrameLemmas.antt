@@ -8,7 +8,7 @@ use Rattle.uplink_model.specs.unit_model.proofs.SweepLaws.{each_zero}
 use Rattle.uplink_model.specs.unit_model.specs.Lists.{each}
 use Rattle.uplink_model.specs.unit_model.specs.declared.jobs.UplinkJob.{UplinkJob}
 use Rattle.uplink_model.specs.plan_model.specs.Departures.{departure}
-use Rattle.uplink_model.specs.plan_model.specs.Packs.{Message, frames_for, size_of}
+use Rattle.uplink_model.specs.plan_model.specs.Packs.{Message, size_of}
 use Rattle.uplink_model.specs.frame_bytes.specs.Cuts.{piece_frame}
 use Rattle.uplink_model.specs.frame_bytes.specs.Messages.{message_of}
 use Rattle.uplink_model.specs.Frames.{Antenna, uplink_frame_of, head_of, samples_of}
@@ -18,6 +18,7 @@ use Rattle.uplink_path.specs.Sending.{IsBehind, SentSome, wait_behind}
 use Rattle.uplink_path.specs.declared.pending.Pending.{Pending}
 use Rattle.uplink_path.specs.declared.rules.Rules.{Rules}
 use Rattle.uplink_model.specs.frame_bytes.specs.Headers.{carrier_of}
+use Rattle.ecpri_fragments.specs.Pieces.{piece_count}
 
 -- ---- numbers
 
@@ -38,7 +39,7 @@ begins_within f size sub some below =
 
 frame_is :
     (c : Config) (answer : Antenna) (e : EndpointConfig) (r : Rules) (p : Pending) (number wait : ℕ) (m : Message UplinkJob) (n before sub count : ℕ) (at : ℤ) (bytes : List ℕ)
-    → IsBehind c r p number wait m n before → count ≡ frames_for r.fragment p.size → at ≡ departure r.departures p.first.s.0 (before + sub)
+    → IsBehind c r p number wait m n before → count ≡ piece_count r.fragment p.size → at ≡ departure r.departures p.first.s.0 (before + sub)
     → bytes ≡ piece_frame e.id (record { seq = number; last = sub + 1 == count; sub = sub }) (sub * r.fragment) (min (sub * r.fragment + r.fragment) p.size)
     (message_of (carrier_of e) (samples_of answer e p.first) (head_of p.first) (sections_in p))
     → (let f : LinkFrame = record { at = record { 0 = at }; ep = p.first.ep; frame = bytes } in f) ≡ uplink_frame_of c answer e m n before sub
@@ -91,7 +92,7 @@ some_handed f sub count old new h = record { front = h.front; rest = each sub (c
 pub frame_handed :
     (c : Config) (answer : Antenna) (e : EndpointConfig) (r : Rules) (p : Pending) (number wait : ℕ) (m : Message UplinkJob) (n before sub count : ℕ) (at : ℤ) (bytes : List ℕ)
     (old now after : List LinkFrame)
-    → IsBehind c r p number wait m n before → count ≡ frames_for r.fragment p.size → at ≡ departure r.departures p.first.s.0 (before + sub)
+    → IsBehind c r p number wait m n before → count ≡ piece_count r.fragment p.size → at ≡ departure r.departures p.first.s.0 (before + sub)
     → bytes ≡ piece_frame e.id (record { seq = number; last = sub + 1 == count; sub = sub }) (sub * r.fragment) (min (sub * r.fragment + r.fragment) p.size)
     (message_of (carrier_of e) (samples_of answer e p.first) (head_of p.first) (sections_in p))
     → sub < count → after ≡ now ++ (let f : LinkFrame = record { at = record { 0 = at }; ep = p.first.ep; frame = bytes } in f) ∷ []
@@ -101,8 +102,8 @@ frame_handed c answer e r p number wait m n before sub count at bytes old now af
     (more ∙ ap (λ (f : LinkFrame). now ++ f ∷ []) (frame_is c answer e r p number wait m n before sub count at bytes b count_is at_is bytes_is)) h
 
 pub count_as : (c : Config) (r : Rules) (p : Pending) (number wait : ℕ) (m : Message UplinkJob) (n before count : ℕ) → IsBehind c r p number wait m n before
-    → count ≡ frames_for r.fragment p.size → count ≡ frame_count c m
-count_as c r p number wait m n before count b is = is ∙ ap (λ (x : ℕ). frames_for r.fragment x) b.packed.size ∙ ap (λ (x : Rules). frames_for x.fragment (size_of (job_fields c.endpoints) m)) b.rules
+    → count ≡ piece_count r.fragment p.size → count ≡ frame_count c m
+count_as c r p number wait m n before count b is = is ∙ ap (λ (x : ℕ). piece_count r.fragment x) b.packed.size ∙ ap (λ (x : Rules). piece_count x.fragment (size_of (job_fields c.endpoints) m)) b.rules
 
 -- ---- how long frames wait
 

@@ -2,9 +2,9 @@
 use Rattle.std.proofs.Common.{◌≡◌, ℤ, List, sym, subst, Result, Ok, Err, OnOk, OnErr, IfErr, IfOk}
 use Rattle.uplink_model.specs.air_source.specs.declared.airs.AirFault.{AirFault}
 use Rattle.uplink_model.specs.air_source.specs.declared.events.Event.{Event}
-use Rattle.uplink_model.specs.unit_model.specs.Standing.{History, at_clock, heard, nothing_yet}
+use Rattle.uplink_model.specs.unit_model.specs.Standing.{History, at_clock, heard, nothing_yet, owed_until}
 use Rattle.window_config.specs.declared.config.Config.{Config}
-use Rattle.ru_buffers.specs.Calls.{HasGivenPast, StandsFor, StopsAtDue, given_of}
+use Rattle.ru_buffers.specs.Calls.{HasGivenPast, StandsFor, StopsAtDue}
 use Rattle.ru_buffers.specs.radio_laws.specs.Reporting.{due_of}
 use Rattle.ru_buffers.specs.declared.unit.Ru.{Ru}
 use Rattle.uplink_path.specs.Steps.{IsSenderOf, IsUnitOf}
@@ -32,7 +32,7 @@ unit_passed grew stopped c h to u before after (Err e) told past stop given = re
 
 pub unit_sent : {F A B : Type 0} (r : Result A B) (post : RePlace → Wide → Type 0) (c : Config) (h : History) (ms : List (Message UplinkJob)) (u : Uplink F) (ru : Ru) (old new : List LinkFrame)
     → OnOk r (SentAll post c h ms u ru old new) → OnOk r (HasGivenPast ru) → OnOk r (IsUnitOf c ru)
-unit_sent (Ok x) post c h ms u ru old new all given = record { history = given_too h (given_of c h h.clock); stands = all.stands; given = given }
+unit_sent (Ok x) post c h ms u ru old new all given = record { history = given_too h (owed_until c h h.clock); stands = all.stands; given = given }
 unit_sent (Err e) post c h ms u ru old new all given = tt
 
 pub sender_sent : {F A B : Type 0} (r : Result A B) (pre : F → RePlace → Type 0) (all_post : F → RePlace → Wide → Type 0) (post : RePlace → Wide → Type 0) (c : Config) (h : History)
@@ -40,7 +40,7 @@ pub sender_sent : {F A B : Type 0} (r : Result A B) (pre : F → RePlace → Typ
     → OnOk r (SentAll post c h ms v ru old new) → v.antenna ≡ u.antenna → IsKept pre all_post u.antenna → OnOk r (IsSenderOf pre all_post c v)
 sender_sent (Err e) pre all_post post c h ms u v ru old new all same kept = tt
 sender_sent (Ok x) pre all_post post c h ms u v ru old new all same kept = record {
-  messages = onto ms (uplink_messages_of c (given_of c h h.clock));
+  messages = onto ms (uplink_messages_of c (owed_until c h h.clock));
   numbered = all.numbered;
   kept = subst (λ (a : Samples _). IsKept pre all_post a) (sym same) kept;
 }

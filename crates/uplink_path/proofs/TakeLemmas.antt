@@ -28,6 +28,7 @@ use Rattle.uplink_path.specs.declared.pending.Pending.{Pending}
 use Rattle.uplink_path.specs.declared.uplink.Uplink.{Uplink}
 use Rattle.uplink_path.proofs.CloseLemmas.{OpenIs}
 use Rattle.uplink_path.proofs.SendableLemmas.{endpoint_read}
+use Rattle.ecpri_fragments.specs.declared.place.TheConstants.{MESSAGE_BYTES}
 
 -- ---- what a message takes
 
@@ -35,20 +36,20 @@ use Rattle.uplink_path.proofs.SendableLemmas.{endpoint_read}
 pub record Taking (c : Config) (m : Message UplinkJob) (j : UplinkJob) : Type 0 where
   pub ep : j.ep ≡ m.first.ep
   pub few : length (parts_of m) < c.pack
-  pub size : size_of (job_fields c.endpoints) m + (job_fields c.endpoints).size j ≤ 16384
+  pub size : size_of (job_fields c.endpoints) m + (job_fields c.endpoints).size j ≤ MESSAGE_BYTES
 
 pub taking : (c : Config) (m : Message UplinkJob) (j : UplinkJob) → takes_job c m j ≡ true → Taking c m j
 taking c m j is =
     let f = job_fields c.endpoints in
     let (ep, as_part) = and_parts (m.first.ep == j.ep) (takes f c.pack m j) is in
     let (symbol, rest) = and_parts (same_slot m.first.slot j.slot && (m.first.symbol == j.symbol))
-    ((m.first.filter == j.filter) && (nat_lt (length (parts_of m)) c.pack && nat_le (size_of f m + f.size j) 16384)) as_part in
-    let (filter, sizes) = and_parts (m.first.filter == j.filter) (nat_lt (length (parts_of m)) c.pack && nat_le (size_of f m + f.size j) 16384) rest in
-    let (few, size) = and_parts (nat_lt (length (parts_of m)) c.pack) (nat_le (size_of f m + f.size j) 16384) sizes in
+    ((m.first.filter == j.filter) && (nat_lt (length (parts_of m)) c.pack && nat_le (size_of f m + f.size j) MESSAGE_BYTES)) as_part in
+    let (filter, sizes) = and_parts (m.first.filter == j.filter) (nat_lt (length (parts_of m)) c.pack && nat_le (size_of f m + f.size j) MESSAGE_BYTES) rest in
+    let (few, size) = and_parts (nat_lt (length (parts_of m)) c.pack) (nat_le (size_of f m + f.size j) MESSAGE_BYTES) sizes in
     record {
       ep = sym (eqb-true m.first.ep j.ep ep);
       few = ltb-true (length (parts_of m)) c.pack few;
-      size = leb-true (size_of f m + f.size j) 16384 size;
+      size = leb-true (size_of f m + f.size j) MESSAGE_BYTES size;
     }
 
 size_with : (f : UplinkJob → ℕ) (js : List UplinkJob) (j : UplinkJob) → sum (map f (js ++ j ∷ [])) ≡ sum (map f js) + f j
@@ -60,7 +61,7 @@ size_with f js j =
 one_part : (c : Config) (j : UplinkJob) (can : CanTake c j) → IsPartOf can.proper.endpoint j.ep j
 one_part c j can = record { ep_is = refl; start_prb = can.proper.start_prb; prbs = can.proper.prbs }
 
-pub proper_alone : (c : Config) (p : Pending) (j : UplinkJob) → CanTake c j → IsPacked c p (alone j) → p.size ≤ 16384 → IsProperMessage c (alone j)
+pub proper_alone : (c : Config) (p : Pending) (j : UplinkJob) → CanTake c j → IsPacked c p (alone j) → p.size ≤ MESSAGE_BYTES → IsProperMessage c (alone j)
 proper_alone c p j can packed short = record {
   to = can.to;
   first = can.proper;
@@ -143,7 +144,7 @@ took_with post c ms p q om j u old n o can is packed = record {
 
 -- the one that is open was closed
 pub took_anew : {F : Type 0} (post : RePlace → Wide → Type 0) (c : Config) (ms : List (Message UplinkJob)) (p q : Pending) (om : Option (Message UplinkJob)) (j : UplinkJob) (u : Uplink F) (old new : List LinkFrame)
-    → (o : OpenIs c p om) → CanTake c j → takes_job c o.message j ≡ false → IsPacked c q (alone j) → q.size ≤ 16384
+    → (o : OpenIs c p om) → CanTake c j → takes_job c o.message j ≡ false → IsPacked c q (alone j) → q.size ≤ MESSAGE_BYTES
     → ((antenna : Antenna) → AnswersBy post antenna → new ≡ old ++ uplink_message_frames c antenna ms o.message) → AreNumbered c u (o.message ∷ ms)
     → TookJob post c ms om j u q old new
 took_anew post c ms p q om j u old new o can is packed short sent n = record {
@@ -158,7 +159,7 @@ took_anew post c ms p q om j u old new o can is packed short sent n = record {
 
 -- none was open
 pub took_first : {F : Type 0} (post : RePlace → Wide → Type 0) (c : Config) (ms : List (Message UplinkJob)) (q : Pending) (om : Option (Message UplinkJob)) (j : UplinkJob) (u : Uplink F) (old : List LinkFrame)
-    → om ≡ None → CanTake c j → IsPacked c q (alone j) → q.size ≤ 16384 → AreNumbered c u ms → TookJob post c ms om j u q old old
+    → om ≡ None → CanTake c j → IsPacked c q (alone j) → q.size ≤ MESSAGE_BYTES → AreNumbered c u ms → TookJob post c ms om j u q old old
 took_first post c ms q om j u old none can packed short n = record {
   closed = [];
   message = alone j;

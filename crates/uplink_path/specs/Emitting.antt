@@ -8,10 +8,10 @@ use Rattle.uplink_model.specs.air_source.specs.declared.places.RePlace.{RePlace}
 use Rattle.uplink_model.specs.air_source.specs.declared.samples.Samples.{Samples}
 use Rattle.bfp_codec.specs.declared.samples.Wide.{Wide}
 use Rattle.uplink_model.specs.unit_model.specs.Lists.{onto}
-use Rattle.uplink_model.specs.unit_model.specs.Standing.{History}
+use Rattle.uplink_model.specs.unit_model.specs.Standing.{History, owed_until}
 use Rattle.uplink_model.specs.unit_model.specs.declared.jobs.UplinkJob.{UplinkJob}
 use Rattle.uplink_model.specs.plan_model.specs.Packs.{Message}
-use Rattle.ru_buffers.specs.Calls.{StandsFor, given_of}
+use Rattle.ru_buffers.specs.Calls.{StandsFor}
 use Rattle.ru_buffers.specs.declared.unit.Ru.{Ru}
 use Rattle.uplink_model.specs.Frames.{Antenna, frames_behind}
 use Rattle.uplink_model.specs.Messages.{uplink_frames_before, uplink_messages_of, number_behind}
@@ -49,16 +49,16 @@ given_too h js = record { clock = h.clock; arrivals = h.arrivals; reported = h.r
 -- The radio unit's jobs up to its clock were sent, with the samples of each antenna by which the closure answers, and it stands for
 -- them as given.
 pub record SentAll {F : Type 0} (post : RePlace → Wide → Type 0) (c : Config) (h : History) (ms : List (Message UplinkJob)) (u : Uplink F) (ru : Ru) (old new : List LinkFrame) : Type 0 where
-  pub sent : (antenna : Antenna) → AnswersBy post antenna → new ≡ old ++ frames_behind c antenna ms (uplink_messages_of c (given_of c h h.clock))
-  pub numbered : AreNumbered c u (onto ms (uplink_messages_of c (given_of c h h.clock)))
-  pub stands : StandsFor c ru (given_too h (given_of c h h.clock))
+  pub sent : (antenna : Antenna) → AnswersBy post antenna → new ≡ old ++ frames_behind c antenna ms (uplink_messages_of c (owed_until c h h.clock))
+  pub numbered : AreNumbered c u (onto ms (uplink_messages_of c (owed_until c h h.clock)))
+  pub stands : StandsFor c ru (given_too h (owed_until c h h.clock))
 
 -- the first of their frames were sent, and it stands for the first of the jobs as given
 pub record SentFirst (post : RePlace → Wide → Type 0) (c : Config) (h : History) (ms : List (Message UplinkJob)) (ru : Ru) (old new : List LinkFrame) : Type 0 where
-  pub sent : (antenna : Antenna) → AnswersBy post antenna → SentSome (frames_behind c antenna ms (uplink_messages_of c (given_of c h h.clock))) old new
+  pub sent : (antenna : Antenna) → AnswersBy post antenna → SentSome (frames_behind c antenna ms (uplink_messages_of c (owed_until c h h.clock))) old new
   pub given : List UplinkJob
   pub left : List UplinkJob
-  pub jobs : given_of c h h.clock ≡ given ++ left
+  pub jobs : owed_until c h h.clock ≡ given ++ left
   pub stands : StandsFor c ru (given_too h given)
 
 -- it may be asked to send what this unit has to give

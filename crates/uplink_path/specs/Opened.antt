@@ -20,6 +20,7 @@ use Rattle.std.specs.Prelude.{ℤ, pos, ◌^◌, ◌≤ℤ◌, ◌++◌, ◌∷�
 use Rattle.uplink_model.specs.unit_model.specs.Lists.{onto}
 use Rattle.uplink_model.specs.Frames.{Antenna, frames_behind}
 use Rattle.window_config.specs.declared.config.TheConstants.{MESSAGE_SECTIONS}
+use Rattle.ecpri_fragments.specs.declared.place.TheConstants.{MESSAGE_BYTES}
 
 -- a job of a message of an endpoint
 pub record IsPartOf (e : EndpointConfig) (ep : ℕ) (j : UplinkJob) : Type 0 where
@@ -33,7 +34,7 @@ pub record IsProperMessage (c : Config) (m : Message UplinkJob) : Type 0 where
   pub first : IsProperJob c.endpoints to m.first
   pub high : to ≤ℤ pos (2 ^ 53)
   pub parts : All (IsPartOf first.endpoint m.first.ep) (parts_of m)
-  pub size : size_of (job_fields c.endpoints) m ≤ 16384
+  pub size : size_of (job_fields c.endpoints) m ≤ MESSAGE_BYTES
   pub few : length (parts_of m) ≤ MESSAGE_SECTIONS
 
 -- a job that may be sent

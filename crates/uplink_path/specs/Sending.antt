@@ -16,7 +16,7 @@ use Rattle.uplink_path.specs.declared.pending.Pending.{Pending}
 use Rattle.uplink_path.specs.declared.rules.Rules.{Rules}
 use Rattle.uplink_path.specs.declared.rules.Run.{Run}
 use Rattle.fh_time.specs.declared.symbols.TheConstants.{SLOT_SYMBOLS}
-use Rattle.window_config.specs.declared.config.TheConstants.{MESSAGE_SECTIONS}
+use Rattle.window_config.specs.declared.config.TheConstants.{MESSAGE_SECTIONS, MOST_FRAGMENT, LEAST_FRAGMENT}
 use Rattle.uplink_model.specs.frame_bytes.specs.Headers.{carrier_of}
 
 abbrev pub rules_of : Config → Rules
@@ -37,8 +37,8 @@ pub record AreRules (r : Rules) : Type 0 where
   pub from_high : r.departures.from.0 ≤ℤ pos (2 ^ 33)
   pub gap : r.departures.gap < 2 ^ 33
   pub spread : r.departures.spread < 2 ^ 33
-  pub fragment_low : 128 ≤ r.fragment
-  pub fragment_high : r.fragment ≤ 9000
+  pub fragment_low : LEAST_FRAGMENT ≤ r.fragment
+  pub fragment_high : r.fragment ≤ MOST_FRAGMENT
 
 -- a message that can be sent by these rules
 pub record CanBeSent (r : Rules) (e : EndpointConfig) (p : Pending) : Type 0 where

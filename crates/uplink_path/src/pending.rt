@@ -6,15 +6,14 @@ ghost use Rattle.uplink_model.specs.unit_model.specs.Proper.{IsAt};
 ghost use Rattle.uplink_model.specs.unit_model.specs.declared.jobs.UplinkJob.{UplinkJob as SpecJob};
 ghost use Rattle.uplink_model.specs.Frames.{head_of, section_of};
 ghost use Rattle.uplink_model.specs.plan_model.specs.Streams.{section_size};
+ghost use Rattle.ecpri_fragments.specs.declared.place.TheConstants.{MESSAGE_BYTES};
 
+use ecpri_fragments::MESSAGE_BYTES;
 use uplane_sections::UHead;
 use uplink_model::frame_bytes::DataSection;
 use uplink_model::plan_model::section_size;
 use uplink_model::unit_model::UplinkJob;
 use window_config::{EndpointConfig, MESSAGE_SECTIONS};
-
-/// The most application bytes of a message.
-const MOST_BYTES: usize = 16_384;
 
 /// A message that may take more sections.
 #[derive(Clone, Copy, Debug)]
@@ -60,7 +59,7 @@ impl Pending {
     pub(crate) fn alone(endpoint: &EndpointConfig, job: &UplinkJob) -> Pending
         requires { IsEndpoint endpoint.now }
         ensures packed { (c : SpecConfig) → IsAt c.endpoints job.now.ep endpoint.now → IsPacked c result (alone job.now) }
-        ensures small { result.size ≤ 16384 }
+        ensures small { result.size ≤ MESSAGE_BYTES }
     {
         let mut sections = [DataSection {
             id: 0,
@@ -88,7 +87,7 @@ impl Pending {
             && self.first.symbol == job.symbol
             && self.first.filter == job.filter
             && self.count < pack
-            && self.size + section_size(endpoint, job.num_prb) <= MOST_BYTES
+            && self.size + section_size(endpoint, job.num_prb) <= MESSAGE_BYTES
     }
 
     /// Takes a job.

@@ -14,6 +14,7 @@ ghost use Rattle.window_config.specs.declared.config.Config.{Config as SpecConfi
 ghost use Rattle.fh_time.specs.declared.symbols.TheConstants.{SLOT_SYMBOLS};
 ghost use Rattle.window_config.specs.declared.config.TheConstants.{MESSAGE_SECTIONS};
 ghost use Rattle.uplink_model.specs.frame_bytes.specs.Headers.{carrier_of};
+ghost use Rattle.fh_time.specs.declared.carrier.TheConstants.{CARRIER_PRBS};
 
 use crate::pending::{Pending, head_of};
 use crate::rules::Rules;
@@ -36,7 +37,7 @@ fn write_piece<F: Fn(RePlace) -> Wide>(
 ) -> usize
     requires kept { IsKept F.pre F.post antenna.now }
     requires symbol { message.now.first.symbol < SLOT_SYMBOLS }
-    requires prbs { endpoint.now.prbs ≤ 273 }
+    requires prbs { endpoint.now.prbs ≤ CARRIER_PRBS }
     requires count { message.now.count ≤ MESSAGE_SECTIONS }
     requires fits { MessageFits (carrier_of endpoint.now) (head_of message.now.first) (sections_in message.now) }
     requires sub { seq.sub < 128 }
@@ -62,7 +63,7 @@ fn write_piece<F: Fn(RePlace) -> Wide>(
     let source = |_place: usize, prb: u16| -> [Iq; 12]
         requires kept { IsKept F.pre F.post antenna.now }
         requires symbol { symbol < SLOT_SYMBOLS }
-        requires prb { prb < 273 }
+        requires prb { prb < CARRIER_PRBS }
         ensures { (answer : Antenna) → AnswersBy (F.post (closure_of antenna.entry.now)) answer → result ≡ block_of answer id slot symbol prb }
     { antenna.block(id, slot, symbol, prb) };
     piece(id, seq, &data, &source, span, into)

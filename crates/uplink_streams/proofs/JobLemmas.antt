@@ -30,8 +30,9 @@ use Rattle.uplink_model.specs.plan_model.specs.declared.streams.Stream.TheVarian
 use Rattle.schedule_laws.specs.plan_model.proofs.ListLemmas.{in_either, of_filter, filter_mapped}
 use Rattle.schedule_laws.proofs.ListLemmas.{IsAll, all_kept, of_map, of_symbols}
 use Rattle.uplink_streams.specs.Streams.{job_for, planned_allocations}
-use Rattle.uplink_streams.proofs.ListLemmas.{InOrder, filter_all, filter_none, map_map, map_same, of_order, order_all, order_join, order_mapped}
+use Rattle.uplink_streams.proofs.ListLemmas.{filter_all, filter_none, map_map, map_same, of_order, order_all, order_mapped}
 use Rattle.uplink_model.specs.unit_model.proofs.ClaimLemmas.{same_slot_is as slots_equal}
+use Rattle.uplink_model.specs.plan_model.proofs.ListLemmas.{InOrder, order_join}
 
 -- ---- what each job is of
 

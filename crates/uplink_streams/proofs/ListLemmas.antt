@@ -1,13 +1,15 @@
 -- What filters leave of lists that are made of others, and lists in an order.
 use Rattle.std.proofs.Common.{◌≡◌, ◌⊎◌, inl, inr, Bool, true, false, if◌then◌else◌, List, [], ◌∷◌, ◌++◌, map, refl, ap, ap₂, ◌∙◌, ℕ, ℤ, pos, zero, suc, ◌+ℤ◌, ◌≤ℤ◌, ◌<ℤ◌, arith, subst, sym}
-use Rattle.std.specs.Prelude.{⊤, filter}
+use Rattle.std.specs.Prelude.{filter}
 use Rattle.std.specs.List.{AllPairs}
 use Rattle.std.proofs.lemmas.Int.{ints}
 use Rattle.std.proofs.lemmas.List.Elements.{filter-append}
 use Rattle.std.proofs.lemmas.List.Kept.{AllPairs-cons}
 use Rattle.fragment_laws.specs.Apart.{IsIn}
-use Rattle.uplink_model.specs.unit_model.specs.Lists.{each_tick, in_order, joined, put_in}
+use Rattle.uplink_model.specs.unit_model.specs.Lists.{each_tick, in_order, put_in}
 use Rattle.schedule_laws.specs.plan_model.proofs.ListLemmas.{in_either, in_right, all_of}
+use Rattle.uplink_model.specs.unit_model.specs.Terms.{joined}
+use Rattle.uplink_model.specs.plan_model.proofs.ListLemmas.{InOrder}
 
 -- ---- filters
 
@@ -74,17 +76,6 @@ of_order below z [] m = m
 of_order below z (x ∷ xs) m = elim (of_put below x z (in_order below xs) m) [ inl e ↦ inl e | inr t ↦ inr (of_order below z xs t) ]
 
 -- ---- lists of which each element may stand before those behind it
-
-abbrev pub InOrder : {X : Type 0} → (X → X → Type 0) → List X → Type 0
-InOrder R [] = ⊤
-InOrder R (x ∷ xs) = ((y : _) → IsIn y xs → R x y) × InOrder R xs
-
-pub order_join : {X : Type 0} (R : X → X → Type 0) (xs ys : List X) → InOrder R xs → InOrder R ys → ((x y : X) → IsIn x xs → IsIn y ys → R x y) → InOrder R (xs ++ ys)
-order_join R [] ys p q h = q
-order_join R (x ∷ xs) ys p q h = (
-  λ y m. elim (in_either y xs ys m) [ inl l ↦ p.0 y l | inr r ↦ h x y (inl refl) r ],
-  order_join R xs ys p.1 q (λ a b m n. h a b (inr m) n),
-)
 
 pub order_all : {X : Type 0} (R : X → X → Type 0) (xs : List X) → ((x y : X) → IsIn x xs → IsIn y xs → R x y) → InOrder R xs
 order_all R [] h = tt

@@ -15,8 +15,9 @@ use Rattle.uplink_model.specs.plan_model.specs.Packs.{Message, PartFields, alone
 use Rattle.schedule_laws.specs.plan_model.proofs.ListLemmas.{of_filter}
 use Rattle.uplink_model.specs.Messages.{job_fields, messages_behind, uplink_messages_of, takes_job}
 use Rattle.uplink_streams.proofs.JobLemmas.{IsTimed, MayPrecede}
-use Rattle.uplink_streams.proofs.ListLemmas.{InOrder}
 use Rattle.uplink_model.specs.unit_model.proofs.ClaimLemmas.{same_slot_is as slots_equal}
+use Rattle.uplink_model.specs.plan_model.proofs.ListLemmas.{InOrder}
+use Rattle.uplink_model.specs.unit_model.specs.Terms.{MESSAGE_BYTES}
 
 -- ---- two jobs of an endpoint that start apart are of two symbols
 
@@ -77,7 +78,7 @@ module _ (c : Config) (ep : ℕ) where
   unfolding packs_behind
   cut m [] h = refl
   cut m (j ∷ js) h =
-      ap (λ (b : Bool). if b && ((m.first.filter == j.filter) && (nat_lt (length (parts_of m)) c.pack && nat_le (size_of f m + f.size j) 16384))
+      ap (λ (b : Bool). if b && ((m.first.filter == j.filter) && (nat_lt (length (parts_of m)) c.pack && nat_le (size_of f m + f.size j) MESSAGE_BYTES))
       then packs_behind f c.pack (with_part m j) js else m ∷ packs_behind f c.pack (alone j) js) (h j (inl refl))
 
   -- what is found of an endpoint behind a message, where that is its own and where it is not

@@ -14,9 +14,9 @@ use Rattle.schedule_laws.specs.plan_model.proofs.ListLemmas.{of_filter}
 use Rattle.uplink_model.specs.Messages.{frame_count, uplink_frames_before, job_fields, number_behind, same_job_symbol}
 use Rattle.uplink_streams.specs.Streams.{is_message_of, jobs_numbered_behind}
 use Rattle.uplink_streams.proofs.JobLemmas.{IsTimed, MayPrecede}
-use Rattle.uplink_streams.proofs.ListLemmas.{InOrder}
 use Rattle.uplink_streams.proofs.MessageLemmas.{MayLead, passes, symbols_differ}
 use Rattle.uplink_model.specs.unit_model.proofs.ClaimLemmas.{same_slot_is as slots_equal, slot_self as slot_own}
+use Rattle.uplink_model.specs.plan_model.proofs.ListLemmas.{InOrder}
 
 slot_swap : (a b : Slot) → same_slot a b ≡ same_slot b a
 slot_swap a b =

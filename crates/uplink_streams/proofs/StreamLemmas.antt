@@ -9,13 +9,13 @@ use Rattle.window_config.specs.declared.config.Config.{Config}
 use Rattle.window_config.specs.declared.endpoints.EndpointConfig.{EndpointConfig}
 use Rattle.window_config.specs.declared.plan.PlanLine.{PlanLine}
 use Rattle.air_source.specs.declared.links.LinkFrame.{LinkFrame}
-use Rattle.uplink_model.specs.unit_model.specs.Lists.{each, joined}
+use Rattle.uplink_model.specs.unit_model.specs.Lists.{each}
 use Rattle.uplink_model.specs.unit_model.specs.Proper.{IsAt}
 use Rattle.uplink_model.specs.unit_model.specs.Times.{end_of_time}
 use Rattle.uplink_model.specs.unit_model.specs.declared.jobs.UplinkJob.{UplinkJob}
 use Rattle.uplink_model.specs.unit_model.proofs.SweepLaws.{each_same}
 use Rattle.uplink_model.specs.plan_model.specs.Lines.{planned}
-use Rattle.uplink_model.specs.plan_model.specs.Packs.{Message, Numbered, PartFields, alone, frames_for, numbered_behind as packs_numbered, frames_before as packs_before, packs, packs_behind, parts_of, same_symbol, size_of, takes, with_part}
+use Rattle.uplink_model.specs.plan_model.specs.Packs.{Message, Numbered, PartFields, alone, numbered_behind as packs_numbered, frames_before as packs_before, packs, packs_behind, parts_of, same_symbol, size_of, takes, with_part}
 use Rattle.uplink_model.specs.plan_model.specs.Streams.{Part, frames_in, messages_of as stream_messages, part_fields, parts_in, section_size}
 use Rattle.uplink_model.specs.plan_model.specs.declared.lines.PlannedLine.{PlannedLine}
 use Rattle.uplink_model.specs.plan_model.specs.declared.streams.Stream.TheVariants.{UpData}
@@ -31,6 +31,7 @@ use Rattle.uplink_streams.proofs.JobLemmas.{jobs_in_order, jobs_of_parts, jobs_t
 use Rattle.uplink_streams.proofs.ListLemmas.{filter_joined, map_map, map_same}
 use Rattle.uplink_streams.proofs.MessageLemmas.{message_first, messages_found, messages_order}
 use Rattle.uplink_streams.proofs.NumberLemmas.{numbered_own}
+use Rattle.uplink_model.specs.unit_model.specs.Terms.{joined, piece_count, MESSAGE_BYTES}
 
 pub jobs_are_parts : JobsAreParts
 jobs_are_parts c lines ep e at =
@@ -59,12 +60,12 @@ module _ (c : Config) where
   message_size m h = ap (λ (ns : List ℕ). 4 + sum ns) (sizes_are (parts_of m) h)
 
   pub frames_are : (m : Message Part) → AllStand (parts_of m) → frame_count c (message_for m) ≡ frames_in c UpData m
-  frames_are m h = ap (frames_for c.fragment) (message_size m h)
+  frames_are m h = ap (piece_count c.fragment) (message_size m h)
 
   takes_is : (m : Message Part) (x : Part) → AllStand (parts_of m) → Stands x → takes f c.pack (message_for m) (job_for x) ≡ takes part_fields c.pack m x
   takes_is m x h k =
       let same = same_symbol part_fields m.first x in
-      ap₂ (λ (n size : ℕ). same && ((part_fields.filter m.first == part_fields.filter x) && (nat_lt (suc n) c.pack && nat_le size 16384)))
+      ap₂ (λ (n size : ℕ). same && ((part_fields.filter m.first == part_fields.filter x) && (nat_lt (suc n) c.pack && nat_le size MESSAGE_BYTES)))
       (length-map m.more job_for) (ap₂ (λ (a b : ℕ). a + b) (message_size m h) (size_is x k))
 
   with_is : (m : Message Part) (x : Part) → message_for (with_part m x) ≡ with_part (message_for m) (job_for x)

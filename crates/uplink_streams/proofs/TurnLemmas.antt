@@ -32,10 +32,11 @@ use Rattle.uplink_model.specs.Frames.{Antenna, uplink_frame_of, uplink_frames_fr
 use Rattle.uplink_model.specs.Messages.{frame_count, uplink_frames_before, job_fields, messages_behind, uplink_messages_of, number_behind, same_job_symbol, takes_job}
 use Rattle.uplink_streams.specs.Runs.{FramesLeaveInTa3, FramesLeaveInTurn, MessagesEndInTime, NoneOvertakes, is_job_in}
 use Rattle.uplink_streams.proofs.JobLemmas.{IsSweptJob, IsTimed, job_swept, swept_jobs, symbol_job, timed_job}
-use Rattle.uplink_streams.proofs.ListLemmas.{InOrder, order_all, order_before, order_join, order_rest, pairs_of}
+use Rattle.uplink_streams.proofs.ListLemmas.{order_all, order_before, order_rest, pairs_of}
 use Rattle.uplink_streams.proofs.MessageLemmas.{message_first, symbols_differ}
 use Rattle.uplink_streams.proofs.RunLemmas.{jobs_stand_together}
 use Rattle.uplink_model.specs.unit_model.proofs.ClaimLemmas.{same_slot_is as slots_equal, slot_self as slot_own}
+use Rattle.uplink_model.specs.plan_model.proofs.ListLemmas.{InOrder, order_join}
 
 -- ---- messages that end where the symbol does
 

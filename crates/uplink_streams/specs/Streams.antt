@@ -4,7 +4,7 @@ use Rattle.std.specs.Prelude.{ℕ, ◌==◌, List, [], ◌∷◌, Bool, map, rev
 use Rattle.window_config.specs.declared.config.Config.{Config}
 use Rattle.window_config.specs.declared.endpoints.EndpointConfig.{EndpointConfig}
 use Rattle.air_source.specs.declared.links.LinkFrame.{LinkFrame}
-use Rattle.uplink_model.specs.unit_model.specs.Lists.{each, joined}
+use Rattle.uplink_model.specs.unit_model.specs.Lists.{each}
 use Rattle.uplink_model.specs.unit_model.specs.Times.{end_of_time}
 use Rattle.uplink_model.specs.unit_model.specs.Uplink.{job_of, jobs}
 use Rattle.uplink_model.specs.unit_model.specs.declared.allocations.Allocation.{Allocation}
@@ -17,6 +17,7 @@ use Rattle.uplink_model.specs.plan_model.specs.declared.lines.PlannedLine.{Plann
 use Rattle.uplink_model.specs.plan_model.specs.declared.streams.Stream.TheVariants.{UpData}
 use Rattle.uplink_model.specs.Frames.{Antenna, uplink_fragment_bytes, frames_behind}
 use Rattle.uplink_model.specs.Messages.{uplink_frames_before, uplink_messages_of, number_behind}
+use Rattle.uplink_model.specs.unit_model.specs.Terms.{joined}
 
 -- ---- the radio unit's messages with their numbers
 

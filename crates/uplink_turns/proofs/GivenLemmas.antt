@@ -5,14 +5,14 @@ use Rattle.window_config.specs.declared.config.Config.{Config}
 use Rattle.replay_events.specs.unit_model.specs.Meetings.{Arrival}
 use Rattle.replay_events.specs.unit_model.specs.Radiated.{first_clock}
 use Rattle.replay_events.specs.unit_model.specs.Reports.{accepted_of}
-use Rattle.replay_events.specs.unit_model.specs.Standing.{History}
+use Rattle.replay_events.specs.unit_model.specs.Standing.{History, owed_until}
 use Rattle.replay_events.specs.unit_model.specs.Uplink.{jobs}
 use Rattle.replay_events.specs.unit_model.specs.declared.jobs.UplinkJob.{UplinkJob}
 use Rattle.replay_events.specs.unit_laws.proofs.SentLemmas.{jobs_begin}
 use Rattle.replay_events.specs.history_laws.proofs.TickLemmas.{last_is_earlier, last_before}
 use Rattle.replay_events.specs.history_laws.proofs.ListLemmas.{front_empty}
 use Rattle.replay_events.proofs.CameLemmas.{none_yet}
-use Rattle.uplink_turns.specs.Given.{GivenAndOwed, GivenBefore, GivenIsAll, GivesTick, HasSeen, OwesNone, OwesTick, owed_until}
+use Rattle.uplink_turns.specs.Given.{GivenAndOwed, GivenBefore, GivenIsAll, GivesTick, HasSeen, OwesNone, OwesTick}
 use Rattle.uplink_turns.specs.Turns.{jobs_of_tick, jobs_between, jobs_until}
 use Rattle.uplink_turns.proofs.JobLemmas.{jobs_go_on, jobs_go_on_from, jobs_of_nothing, jobs_settled, no_jobs_before}
 use Rattle.fh_time.proofs.Orders.{first_most}

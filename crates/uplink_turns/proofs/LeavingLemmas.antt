@@ -1,7 +1,6 @@
 -- The frames that leave at a tick, and from one on.
-use Rattle.std.proofs.Common.{◌≡◌, ℕ, ℤ, pos, ◌+ℤ◌, ◌-ℤ◌, ◌≤ℤ◌, ◌<ℤ◌, List, [], ◌++◌, length, refl, ap, ◌∙◌, arith}
+use Rattle.std.proofs.Common.{◌≡◌, ℕ, ℤ, pos, ◌+ℤ◌, ◌-ℤ◌, ◌≤ℤ◌, ◌<ℤ◌, List, [], ◌++◌, length, refl, ap, ◌∙◌}
 use Rattle.std.specs.Int.{int_gap}
-use Rattle.std.proofs.lemmas.Int.{ints}
 use Rattle.std.proofs.lemmas.List.Elements.{All-weaker}
 use Rattle.std.specs.Int.Signed.{≤ℤ_refl}
 use Rattle.air_source.specs.declared.links.LinkFrame.{LinkFrame}
@@ -23,6 +22,7 @@ use Rattle.uplink_turns.specs.TurnLaws.{LeavingIsSettled, LeftEnds, LeftGoesOn, 
 use Rattle.uplink_turns.specs.Turns.{handed_between, handed_until, leaving_of_handed, left_from}
 use Rattle.uplink_turns.proofs.HandedLemmas.{handed_go_on_from, handed_leave_from}
 use Rattle.fh_time.proofs.Orders.{at_most, next_order}
+use Rattle.uplink_turns.proofs.MessageLemmas.{last_by}
 
 -- ---- at a tick
 
@@ -48,9 +48,6 @@ left_goes_on c antenna landings now config begun ended =
     ticks_append f now next (end_of_time +ℤ pos 1) (next_is_later now) (next_order now end_of_time ended)
     ∙ ap (λ (fs : List LinkFrame). fs ++ left_from c antenna landings next)
     (tick_alone f now ∙ leaving_settled c antenna landings now now end_of_time config begun (≤ℤ_refl now) ended)
-
-last_by : (tick end : ℤ) → tick ≤ℤ (end +ℤ pos 1) → (tick -ℤ pos 1) ≤ℤ end
-last_by tick end h = omega (arith, ints)
 
 pub left_waits : LeftWaits
 left_waits c antenna landings now tick config begun order ended silent =

@@ -15,8 +15,8 @@ use Rattle.uplink_turns.specs.TurnLaws.{MessagesGoOn, MessagesGoOnFrom}
 use Rattle.uplink_turns.specs.Turns.{all_accepted, jobs_between, messages_between, messages_until}
 use Rattle.uplink_turns.proofs.JobLemmas.{jobs_go_on_from, no_jobs_before}
 
-last_before : (now tick : ℤ) → now ≤ℤ (tick +ℤ pos 1) → (now -ℤ pos 1) ≤ℤ tick
-last_before now tick h = omega (arith, ints)
+pub last_by : (tick end : ℤ) → tick ≤ℤ (end +ℤ pos 1) → (tick -ℤ pos 1) ≤ℤ end
+last_by tick end h = omega (arith, ints)
 
 -- those of the first ticks, before which there are none
 from_none : (c : Config) (landings : List Arrival) (now tick : ℤ) → first_clock ≤ℤ now → now ≤ℤ (tick +ℤ pos 1) → (now -ℤ pos 1) <ℤ first_clock
@@ -33,7 +33,7 @@ from_some : (c : Config) (landings : List Arrival) (now tick : ℤ) → now ≤�
 from_some c landings now tick order begun =
     let g = symbol_jobs (all_accepted c landings) in
     let earlier = messages_until c landings (now -ℤ pos 1) in
-    messages_end_in_time c (all_accepted c landings) (now -ℤ pos 1) tick begun (last_before now tick order)
+    messages_end_in_time c (all_accepted c landings) (now -ℤ pos 1) tick begun (last_by now tick order)
     ∙ ap (λ (t : ℤ). earlier ++ uplink_messages_of c (sweep g c.endpoints t (tick +ℤ pos 1))) (next_of_last now)
 
 pub messages_go_on_from : MessagesGoOnFrom

@@ -5,17 +5,11 @@ use Rattle.window_config.specs.Configs.{IsConfig}
 use Rattle.window_config.specs.declared.config.Config.{Config}
 use Rattle.replay_events.specs.unit_model.specs.Meetings.{Arrival}
 use Rattle.replay_events.specs.unit_model.specs.Radiated.{Known, first_clock}
-use Rattle.replay_events.specs.unit_model.specs.Reports.{accepted_of}
-use Rattle.replay_events.specs.unit_model.specs.Standing.{History, IsHistory, still_given}
+use Rattle.replay_events.specs.unit_model.specs.Standing.{History, IsHistory, owed_until}
 use Rattle.replay_events.specs.unit_model.specs.Times.{end_of_time}
-use Rattle.replay_events.specs.unit_model.specs.declared.jobs.UplinkJob.{UplinkJob}
 use Rattle.replay_events.specs.Moments.{arrivals_before}
 use Rattle.replay_events.specs.Passing.{AreLandings}
 use Rattle.uplink_turns.specs.Turns.{jobs_of_tick, jobs_until}
-
--- the jobs up to a time that a history has still to give
-abbrev pub owed_until : Config → History → ℤ → List UplinkJob
-owed_until c h to = still_given c (accepted_of c h.arrivals) h.given to
 
 -- all that landed before a tick arrived in it, and no more
 pub record HasSeen (c : Config) (landings : List Arrival) (seen : ℤ) (h : History) : Type 0 where

@@ -20,13 +20,14 @@ use Rattle.window_config.specs.Classes.{class_of, class_up_of, IsOnTime, IsOnTim
 use Rattle.window_config.specs.Rings.{IsLive}
 use Rattle.window_config.proofs.Timing.{class_on_time, class_up_on_time}
 use Rattle.fh_time.proofs.Orders.{after_by, low_one, under, not_under}
+use Rattle.fh_time.specs.declared.nanoseconds.TheConstants.{NANOSECOND}
 
-begun_before : (start s first clock most before : ℤ) → start ≤ℤ s → (s -ℤ first) ≤ℤ (most *ℤ pos 1536) → first ≤ℤ clock → most ≤ℤ before
-    → (start -ℤ before *ℤ pos 1536) ≤ℤ clock
+begun_before : (start s first clock most before : ℤ) → start ≤ℤ s → (s -ℤ first) ≤ℤ (most *ℤ pos NANOSECOND) → first ≤ℤ clock → most ≤ℤ before
+    → (start -ℤ before *ℤ pos NANOSECOND) ≤ℤ clock
 begun_before start s first clock most before a b c d = omega (arith, ints)
 
-over_after : (start s span clock least after : ℤ) → s ≤ℤ (start +ℤ span) → (least *ℤ pos 1536) ≤ℤ (s -ℤ clock) → pos 0 ≤ℤ least → pos 0 ≤ℤ after
-    → clock ≤ℤ (start +ℤ span +ℤ after *ℤ pos 1536)
+over_after : (start s span clock least after : ℤ) → s ≤ℤ (start +ℤ span) → (least *ℤ pos NANOSECOND) ≤ℤ (s -ℤ clock) → pos 0 ≤ℤ least → pos 0 ≤ℤ after
+    → clock ≤ℤ (start +ℤ span +ℤ after *ℤ pos NANOSECOND)
 over_after start s span clock least after a b c d = omega (arith, ints)
 
 begun_is : (start before clock : ℤ) → (start -ℤ clock) ≤ℤ before → (start -ℤ before) ≤ℤ clock
@@ -49,12 +50,12 @@ live_on_time n slot symbol first clock w before after below order some most late
       lasting = over_after (air_of n slot 0) (air_of n slot symbol) (pos (span_of n)) clock w.min after (symbol_in_span n slot symbol below) is.soon_enough some later;
     }
 
-begun_up : (start s first clock least : ℤ) → start ≤ℤ s → (least *ℤ pos 1536) ≤ℤ (first -ℤ s) → first ≤ℤ clock → pos 0 ≤ℤ least
-    → (start -ℤ pos 0 *ℤ pos 1536) ≤ℤ clock
+begun_up : (start s first clock least : ℤ) → start ≤ℤ s → (least *ℤ pos NANOSECOND) ≤ℤ (first -ℤ s) → first ≤ℤ clock → pos 0 ≤ℤ least
+    → (start -ℤ pos 0 *ℤ pos NANOSECOND) ≤ℤ clock
 begun_up start s first clock least a b c d = omega (arith, ints)
 
-over_up : (start s span clock most after : ℤ) → s ≤ℤ (start +ℤ span) → (clock -ℤ s) ≤ℤ (most *ℤ pos 1536) → most ≤ℤ after
-    → clock ≤ℤ (start +ℤ span +ℤ after *ℤ pos 1536)
+over_up : (start s span clock most after : ℤ) → s ≤ℤ (start +ℤ span) → (clock -ℤ s) ≤ℤ (most *ℤ pos NANOSECOND) → most ≤ℤ after
+    → clock ≤ℤ (start +ℤ span +ℤ after *ℤ pos NANOSECOND)
 over_up start s span clock most after a b c = omega (arith, ints)
 
 -- and at the DU

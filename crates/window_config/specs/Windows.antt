@@ -2,10 +2,11 @@
 use Rattle.std.specs.Prelude.{ℤ, pos, ◌+ℤ◌, ◌*ℤ◌, Bool, if◌then◌else◌}
 use Rattle.window_config.specs.declared.delays.Range.{Range}
 use Rattle.window_config.specs.declared.delays.Delays.{Delays}
+use Rattle.fh_time.specs.declared.nanoseconds.TheConstants.{NANOSECOND}
 
 -- a nanosecond is 1536 ticks
 abbrev pub ticks_of_ns : ℤ → ℤ
-ticks_of_ns ns = ns *ℤ pos 1536
+ticks_of_ns ns = ns *ℤ pos NANOSECOND
 
 -- a downlink command is due earlier than its data by the advance (Tcp_adv_dl)
 abbrev pub cp_dl_of : Range → ℤ → Range

@@ -7,6 +7,11 @@ use eaxc_map::Widths;
 /// The most sections of a U-plane message where it is sent.
 pub const MESSAGE_SECTIONS: usize = 64;
 
+/// The least and the most application bytes of a frame that carries a part of a U-plane message.
+pub const LEAST_FRAGMENT: usize = 128;
+
+pub const MOST_FRAGMENT: usize = 9_000;
+
 /// The configuration of both units.
 ///
 /// Within the limits the delays are, the gap lies from 0 to 2,000,000 ns, `fragment` from 128 to 9,000, `pack` from 1 to 64, and

@@ -18,10 +18,10 @@ mod windows;
 
 pub use arrivals::{class, class_up};
 pub use bfp_codec;
-pub use config::{Config, MESSAGE_SECTIONS};
+pub use config::{Config, LEAST_FRAGMENT, MESSAGE_SECTIONS, MOST_FRAGMENT};
 pub use delays::{Delays, MOST_DELAY, Range};
 pub use endpoints::{EndpointConfig, EndpointList, ListFull};
-pub use plan::{LAST_FRAME, PlanKind, PlanLine};
+pub use plan::{LAST_FRAME, PLAN_LINES, PlanKind, PlanLine};
 pub use relations::{Failing, Relation, check};
 pub use rings::{Reach, du_reach, is_live, ring_slots, ru_reach};
 pub use verdicts::Class;

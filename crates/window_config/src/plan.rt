@@ -5,6 +5,9 @@ use fh_time::Slot;
 /// The last frame that a line names.
 pub const LAST_FRAME: u64 = 99_999;
 
+/// The most lines of a plan.
+pub const PLAN_LINES: usize = 65_536;
+
 /// What a line plans.
 #[derive(Clone, Copy, Debug, PartialEq, Eq)]
 pub enum PlanKind {

@@ -1,14 +1,9 @@
 -- Endpoints whose ids follow one another, as the tests make them.
-use Rattle.std.proofs.Common.{◌≡◌, ℕ, ◌+◌, ◌<◌, ◌≤◌, List, false, length, get_or, slice_index, sym, ◌∙◌, arith}
+use Rattle.std.proofs.Common.{◌≡◌, ℕ, ◌+◌, ◌<◌, ◌≤◌, List, length, get_or, slice_index, sym, ◌∙◌, arith}
 use Rattle.std.proofs.lemmas.List.{get_or-map, length-map}
 use Rattle.std.proofs.lemmas.List.Elements.{All-from_get_or}
-use Rattle.bfp_codec.specs.declared.methods.Method.TheVariants.{Plain}
-use Rattle.fh_time.specs.Numbering.{extended_of}
-use Rattle.window_config.specs.Endpoints.{IsEndpoint, AreEndpoints, ids_of}
+use Rattle.window_config.specs.Endpoints.{IsEndpoint, AreEndpoints, ids_of, no_endpoint}
 use Rattle.window_config.specs.declared.endpoints.EndpointConfig.{EndpointConfig}
-
-abbrev pub no_endpoint : EndpointConfig
-no_endpoint = record { id = 0; numerology = extended_of; prbs = 1; format = record { dynamic = false; method = Plain } }
 
 pub record IsNumbered (id : ℕ) (e : EndpointConfig) : Type 0 where
   pub endpoint : IsEndpoint e

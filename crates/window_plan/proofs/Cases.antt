@@ -8,7 +8,7 @@ use Rattle.window_config.specs.Limits.{IsWithinLimits}
 use Rattle.window_plan.specs.declared.refusals.NoFit.{NoFit}
 use Rattle.window_plan.specs.declared.refusals.Window.TheVariants.{Up, CpUl, Ta4}
 use Rattle.window_plan.specs.Fitting.{longest, planned, no_fit, hold_for, sent_within, heard_within, fitted}
-use Rattle.fh_time.proofs.Orders.{under, not_under, not_under_is}
+use Rattle.fh_time.proofs.Orders.{under, not_under, not_under_is, if_not}
 
 -- what holds of both is what holds of the choice
 by_test : {R : Type 0} (P : R → Type 0) (b : Bool) (x y : R) → (b ≡ true → P x) → (b ≡ false → P y) → P (if b then x else y)
@@ -42,19 +42,15 @@ pub chosen_ok : {R E : Type 0} (b : Bool) (e : E) (x y : R) → (if b then Err e
 chosen_ok true e x y h = cc
 chosen_ok false e x y h = (cc, refl)
 
-passed_over : {R : Type 0} (b : Bool) (x y : R) → b ≡ false → (if b then x else y) ≡ y
-passed_over true x y h = cc
-passed_over false x y h = refl
-
 -- where nothing is refused the fit is the planned profile
 pub fitted_is : (d : Delays) → IsWithinLimits d → int_lt (planned d).t1a_up.max (planned d).t1a_up.min ≡ false → int_lt (planned d).t1a_cp_ul.max (planned d).t1a_cp_ul.min ≡ false
     → int_lt longest (planned d).ta4.max ≡ false → fitted d ≡ Ok (planned d)
 fitted_is d is up cp_ul ta4 =
-    passed_over _ _ _ up
-    ∙ passed_over _ _ _ cp_ul
-    ∙ passed_over _ _ _ ta4
-    ∙ passed_over _ _ _ (not_under_is longest (planned d).hold_dl (hold_dl_fits d is))
-    ∙ passed_over _ _ _ (not_under_is longest (planned d).hold_ul (hold_ul_fits d is (not_under _ _ ta4)))
+    if_not _ _ _ up
+    ∙ if_not _ _ _ cp_ul
+    ∙ if_not _ _ _ ta4
+    ∙ if_not _ _ _ (not_under_is longest (planned d).hold_dl (hold_dl_fits d is))
+    ∙ if_not _ _ _ (not_under_is longest (planned d).hold_ul (hold_ul_fits d is (not_under _ _ ta4)))
 
 -- a profile made of the parts that came out
 same_parts : (d : Delays) (up up' cp cp' ta4 ta4' : Range) (advance dl dl' ul ul' : ℤ) → up ≡ up' → cp ≡ cp' → ta4 ≡ ta4' → advance ≡ d.advance → dl ≡ dl' → ul ≡ ul'

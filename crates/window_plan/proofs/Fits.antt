@@ -10,6 +10,7 @@ use Rattle.window_plan.specs.declared.refusals.Window.TheVariants.{HoldDl, HoldU
 use Rattle.window_plan.specs.Fitting.{longest, t1a_for, ta4_for, hold_for, planned, fitted}
 use Rattle.window_plan.specs.Ranges.{KeepsRest}
 use Rattle.window_plan.proofs.Cases.{fitted_cases}
+use Rattle.std.specs.Int.Signed.{≤ℤ_refl}
 
 pub t1a_range : (t2a t12 : Range) → IsRange 1 t2a → IsRange 0 t12 → (t1a_for t2a t12).min ≤ℤ (t1a_for t2a t12).max → IsRange 0 (t1a_for t2a t12)
 t1a_range t2a t12 a b fits = record {
@@ -56,19 +57,16 @@ planned_limits d is up cp_ul ta4 = record {
 cut : (a b : ℤ) → int_min a b ≤ℤ a
 cut a b = omega (arith, ints, clamps)
 
-same : (a : ℤ) → a ≤ℤ a
-same a = omega (arith, ints)
-
 planned_passes : (d : Delays) → PassesCheck (planned d)
 planned_passes d = record {
   up_max = cut (d.t2a_up.max +ℤ d.t12.min) longest;
-  up_min = same (d.t2a_up.min +ℤ d.t12.max);
+  up_min = ≤ℤ_refl (d.t2a_up.min +ℤ d.t12.max);
   cp_ul_max = cut (d.t2a_cp_ul.max +ℤ d.t12.min) longest;
-  cp_ul_min = same (d.t2a_cp_ul.min +ℤ d.t12.max);
-  ta4_min = same (d.ta3.min +ℤ d.t34.min);
-  ta4_max = same (d.ta3.max +ℤ d.t34.max);
-  hold_dl = same (hold_for (t1a_for d.t2a_up d.t12) d.t12);
-  hold_ul = same (hold_for d.ta3 d.t34);
+  cp_ul_min = ≤ℤ_refl (d.t2a_cp_ul.min +ℤ d.t12.max);
+  ta4_min = ≤ℤ_refl (d.ta3.min +ℤ d.t34.min);
+  ta4_max = ≤ℤ_refl (d.ta3.max +ℤ d.t34.max);
+  hold_dl = ≤ℤ_refl (hold_for (t1a_for d.t2a_up d.t12) d.t12);
+  hold_ul = ≤ℤ_refl (hold_for d.ta3 d.t34);
 }
 
 pub fit_keeps : (d : Delays) → IsWithinLimits d → IfOk (fitted d) (KeepsRest d)

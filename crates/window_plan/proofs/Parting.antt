@@ -15,6 +15,7 @@ use Rattle.window_plan.proofs.Missing.{at_min, at_max, turned, up_max_misses, up
 use Rattle.fh_time.proofs.Orders.{le_false as not_at_most}
 use Rattle.ecpri_fragments.proofs.Ids.{same_id as own_id}
 use Rattle.window_config.proofs.TickLemmas.{positive as some_ticks}
+use Rattle.std.specs.Int.Signed.{≤ℤ_refl}
 
 -- a generation that had begun by one time is over more than the hold after it
 over : (hold start at later : ℤ) → start ≤ℤ at → (at +ℤ hold) <ℤ later → is_within hold start later ≡ false
@@ -62,9 +63,6 @@ none_of_id at ep seq (a ∷ earlier) h = kept_of (is_of ep seq a) at a (of_id ep
     kept_of true at a rest h k = (h, k)
     kept_of false at a rest h k = k
 
-at_itself : (a : ℤ) → a ≤ℤ a
-at_itself a = omega (arith, ints)
-
 begins_over : (hold at later : ℤ) (gs : List Generation) → LastBegun at gs → (at +ℤ hold) <ℤ later → begins hold later gs ≡ true
 begins_over hold at later [] h apart = refl
 begins_over hold at later (g ∷ gs) h apart = ap (λ b. if b then false else true) (over hold g.start at later h apart)
@@ -78,7 +76,7 @@ first_behind : (hold : ℤ) (a b : Fragment) (earlier : List Fragment) → (a.at
 first_behind hold a b earlier apart ep seq none =
     ap (λ x. begins hold b.at (generations hold (if x then a ∷ of_id b.ep b.seq earlier else of_id b.ep b.seq earlier))) (id_of a b ep seq)
     ∙ begins_over hold a.at b.at (generations hold (a ∷ of_id b.ep b.seq earlier))
-    (last_begun hold a.at (a ∷ of_id b.ep b.seq earlier) (at_itself a.at, none_of_id a.at b.ep b.seq earlier none)) apart
+    (last_begun hold a.at (a ∷ of_id b.ep b.seq earlier) (≤ℤ_refl a.at, none_of_id a.at b.ep b.seq earlier none)) apart
 
 farther : (s hold sent delay later later_delay : ℤ) → hold <ℤ ((later -ℤ sent) +ℤ (later_delay -ℤ delay))
     → (arrival s sent delay +ℤ ticks_of_ns hold) <ℤ arrival s later later_delay

@@ -1,4 +1,4 @@
-use Rattle.std.proofs.Common.{rules, ℕ, Bool, List, ◌++◌, map, subst, Result, Ok, Err, OnErr}
+use Rattle.std.proofs.Common.{rules, ℕ, Bool, List, ◌++◌, map, subst}
 use Rattle.std.proofs.lemmas.Result.{err_from_is_err_and}
 use Rattle.owed_bytes.specs.fh_base.specs.Told.{WritesFront}
 use Rattle.report_lines.specs.air_source.specs.Moves.{text_of}
@@ -6,10 +6,7 @@ use Rattle.report_lines.specs.air_source.specs.Tellings.{line_next, line_gives, 
 use Rattle.report_lines.specs.air_source.specs.declared.events.Event.TheVariants.{Cell}
 use Rattle.report_lines.specs.air_source.proofs.Texts.{stops_front, finish_front}
 use Rattle.air_tests.proofs.line_air.write_lines.Goals as goal
-
-on_err_of : {T E P : Type 0} (r : Result T E) → P → OnErr r P
-on_err_of (Ok x) p = tt
-on_err_of (Err e) p = p
+use Rattle.owed_bytes.proofs.Telling.{anyhow}
 
 pub returns-in_err-tell_cells-clause-front : goal.returns-in_err-tell_cells-clause-front
 returns-in_err-tell_cells-clause-front g c =
@@ -32,4 +29,4 @@ returns-clause-front g c =
     let front = finish_front line_next line_gives line_ends a.odd (bytes_owed a.full a.line) (w a.sink.now) es b.odd (bytes_owed b.full b.line) (w b.sink.now) (w end.sink.now) c.in_ok-tell_cells.ensures.heard c.finish.ensures.front in
     let begun = subst (λ (o : List ℕ). WritesFront (w a.sink.now) (w end.sink.now) (o ++ text_of line_next line_gives line_ends a.odd es)) c.new-air.ensures.owes front in
     let all = subst (λ (odd : Bool). WritesFront (w a.sink.now) (w end.sink.now) (text_of line_next line_gives line_ends odd es)) c.new-air.ensures.begins begun in
-    on_err_of c.finish.result (search (rules, all))
+    anyhow c.finish.result (search (rules, all))

@@ -1,19 +1,14 @@
-use Rattle.std.proofs.Common.{rules, List, [], ◌∷◌, map, sym, append-nil}
-use Rattle.std.specs.List.{AllByRecursion}
+use Rattle.std.proofs.Common.{rules, List, [], map, sym, append-nil}
 use Rattle.std.proofs.lemmas.Result.{on_ok_weaker}
 use Rattle.report_lines.specs.air_source.specs.declared.events.AirCell.{AirCell}
 use Rattle.report_lines.specs.air_source.specs.declared.events.Event.TheVariants.{Cell}
 use Rattle.sum_air.specs.Airs.{sink_of, owed_of, sums_of}
-use Rattle.sum_air.proofs.Whole.{CountsLast, IsEarlier}
+use Rattle.sum_air.proofs.Whole.{CountsLast, cells_earlier}
 use Rattle.sum_air.proofs.Written.{finished, finish_front, stopped_front}
 use Rattle.air_tests.proofs.sums.tell_all.Goals as goal
 
-earlier : (cells : List AirCell) → AllByRecursion IsEarlier (map Cell cells)
-earlier [] = tt
-earlier (c ∷ cells) = (tt, earlier cells)
-
 cells_only : (cells : List AirCell) → CountsLast (map Cell cells)
-cells_only cells = record { before = map Cell cells; counts = []; is = sym (append-nil (map Cell cells)); earlier = earlier cells; last = tt }
+cells_only cells = record { before = map Cell cells; counts = []; is = sym (append-nil (map Cell cells)); earlier = cells_earlier cells; last = tt }
 
 pub returns-in_err-tell_cells-clause-front : goal.returns-in_err-tell_cells-clause-front
 returns-in_err-tell_cells-clause-front g c =

@@ -1,7 +1,7 @@
 use Rattle.std.proofs.Common.{◌≡◌, ℕ, ◌<◌, length, get_or}
-use Rattle.idle_spans.specs.Tables.{no_endpoint}
 use Rattle.idle_spans.proofs.NumberedLemmas.{IsNumbered}
 use Rattle.bench_cells.proofs.marking.endpoints.Given as goal
+use Rattle.window_config.specs.Endpoints.{no_endpoint}
 
 abbrev pub invariant-loop-id : goal.invariant-loop-id
 invariant-loop-id l = record {

@@ -1,9 +1,9 @@
 use Rattle.std.proofs.Common.{◌≡◌, ◌++◌, ap, ◌∙◌, arith}
 use Rattle.ecpri_frames.specs.Left.{left_of, message_of}
 use Rattle.capture_show.specs.Messages.{message_lines, messages_lines}
-use Rattle.capture_show.proofs.Members.{anyhow}
 use Rattle.capture_show.proofs.Telling.{so_far_none, so_far_more, so_far_stopped}
 use Rattle.capture_show.proofs.capture_lines.tell_messages.Goals as goal
+use Rattle.owed_bytes.proofs.Telling.{anyhow}
 
 pub loop-m-init : goal.loop-m-init
 loop-m-init g c =

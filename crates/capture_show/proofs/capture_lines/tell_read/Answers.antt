@@ -1,11 +1,12 @@
 use Rattle.std.proofs.Common.{◌≡◌, ◌++◌, ◌∷◌, [], Ok, ap, ap₂, sym, ◌∙◌}
 use Rattle.std.proofs.lemmas.Result.{on_ok_weaker, on_err_weaker}
 use Rattle.cplane_sections.specs.Tests.{checked}
-use Rattle.capture_show.specs.Messages.{application, id_of, sequence_of, widest, command_line, command_read, section_lines}
+use Rattle.capture_show.specs.Messages.{widest, command_line, command_read, section_lines}
 use Rattle.capture_show.specs.Printing.{state_of}
-use Rattle.capture_show.proofs.Members.{anyhow}
 use Rattle.capture_show.proofs.Telling.{told_more, told_as, stopped_behind, stopped_before, stopped_as}
 use Rattle.capture_show.proofs.capture_lines.tell_read.Goals as goal
+use Rattle.owed_bytes.proofs.Telling.{anyhow}
+use Rattle.ecpri_fragments.specs.Sequence.{id_of, sequence_of, application}
 
 pub returns-in_err-tell-clause-front : goal.returns-in_err-tell-clause-front
 returns-in_err-tell-clause-front g c =

@@ -5,9 +5,9 @@ use Rattle.ecpri_frames.specs.Messages.{pdu}
 use Rattle.capture_records.specs.Records.{arrived_of}
 use Rattle.capture_show.specs.Messages.{messages_lines, broken_lines, record_lines}
 use Rattle.capture_show.specs.Printing.{state_of}
-use Rattle.capture_show.proofs.Members.{anyhow}
 use Rattle.capture_show.proofs.Telling.{told_more, told_as, stopped_behind, stopped_before, stopped_as}
 use Rattle.capture_show.proofs.capture_lines.tell_record.Goals as goal
+use Rattle.owed_bytes.proofs.Telling.{anyhow}
 
 pub returns-in_err-tell-clause-front : goal.returns-in_err-tell-clause-front
 returns-in_err-tell-clause-front g c =

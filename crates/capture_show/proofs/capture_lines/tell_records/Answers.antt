@@ -2,10 +2,10 @@ use Rattle.std.proofs.Common.{◌+◌, length, ap, ◌∙◌, arith}
 use Rattle.capture_records.specs.Left.{left_of}
 use Rattle.capture_records.specs.Records.{arrived_of}
 use Rattle.capture_show.specs.Messages.{records_lines}
-use Rattle.capture_show.proofs.Members.{anyhow}
 use Rattle.capture_show.proofs.Pieces.{records_step, records_none}
 use Rattle.capture_show.proofs.Telling.{so_far_none, so_far_more, so_far_all, so_far_stopped}
 use Rattle.capture_show.proofs.capture_lines.tell_records.Goals as goal
+use Rattle.owed_bytes.proofs.Telling.{anyhow}
 
 pub loop-entry-init : goal.loop-entry-init
 loop-entry-init g c =

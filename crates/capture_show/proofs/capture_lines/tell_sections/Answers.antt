@@ -2,9 +2,9 @@ use Rattle.std.proofs.Common.{◌≡◌, ◌∷◌, ◌++◌, [], map, ap, sym, 
 use Rattle.cplane_sections.specs.Header.{kind_of}
 use Rattle.cplane_sections.specs.Left.{left_of}
 use Rattle.capture_show.specs.Messages.{section_line}
-use Rattle.capture_show.proofs.Members.{anyhow}
 use Rattle.capture_show.proofs.Telling.{so_far_none, so_far_more, so_far_stopped}
 use Rattle.capture_show.proofs.capture_lines.tell_sections.Goals as goal
+use Rattle.owed_bytes.proofs.Telling.{anyhow}
 
 pub loop-section-init : goal.loop-section-init
 loop-section-init g c =

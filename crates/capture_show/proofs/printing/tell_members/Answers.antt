@@ -1,7 +1,7 @@
 use Rattle.std.proofs.Common.{refl, arith}
 use Rattle.capture_show.specs.Texts.{member_text}
-use Rattle.capture_show.proofs.Members.{carried_one_more, cut_at, anyhow}
 use Rattle.capture_show.proofs.printing.tell_members.Goals as goal
+use Rattle.owed_bytes.proofs.Telling.{carried_one_more, cut_at, anyhow}
 
 pub returns-in_err-tell_member-clause-front : goal.returns-in_err-tell_member-clause-front
 returns-in_err-tell_member-clause-front g c =

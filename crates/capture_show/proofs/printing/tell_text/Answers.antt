@@ -6,8 +6,9 @@ use Rattle.owed_bytes.specs.CarriedLaws.{carried_more}
 use Rattle.owed_bytes.proofs.Carrying.{front_behind}
 use Rattle.capture_show.specs.Lines.{kind_text, is_bare}
 use Rattle.capture_show.specs.Texts.{member_text, line_text}
-use Rattle.capture_show.proofs.Members.{carried_pair, front_pair, front_before, anyhow}
+use Rattle.capture_show.proofs.Members.{carried_pair, front_pair}
 use Rattle.capture_show.proofs.printing.tell_text.Goals as goal
+use Rattle.owed_bytes.proofs.Telling.{front_before, anyhow}
 
 pub returns-in_err-tell_members-clause-front : goal.returns-in_err-tell_members-clause-front
 unfolding line_text

@@ -1,8 +1,8 @@
 use Rattle.std.proofs.Common.{◌∙◌}
-use Rattle.du_intake.specs.ru_buffers.specs.Calls.{given_of}
 use Rattle.intake_moments.specs.declared.answers.Answers.{Answers}
 use Rattle.intake_moments.proofs.AnswerLemmas.{are_few, are_later, are_of, frames_then, handed_now, handed_then, may_send, numbered_before, ok_both, radio_stays, radio_then}
 use Rattle.intake_moments.proofs.answering.answer.Goals as goal
+use Rattle.send_queue.specs.unit_model.specs.Standing.{owed_until}
 
 pub emit-requires : goal.emit-requires
 emit-requires g c ready = may_send _ _ c.args.ru.now c.args.answers.now c.requires
@@ -43,7 +43,7 @@ pub returns-clause-stays : goal.returns-clause-stays
 returns-clause-stays g c d tick due landed waits =
     let h = landed.history in
     let sent = c.in_ok-emit.ensures.sent d.config h (numbered_before d tick) waits.handed.numbered landed.stands in
-    radio_stays d tick h c.emit.new.ru (given_of d.config h h.clock) landed.landed sent.stands
+    radio_stays d tick h c.emit.new.ru (owed_until d.config h h.clock) landed.landed sent.stands
 
 pub returns-in_err-emit-clause-stays : goal.returns-in_err-emit-clause-stays
 returns-in_err-emit-clause-stays g c d tick due landed waits =

@@ -3,13 +3,13 @@ use Rattle.std.proofs.lemmas.Result.{IfErr-at_err, on_ok_weaker}
 use Rattle.send_queue.specs.air_source.specs.declared.airs.AirFault.TheVariants.{Failed, NoMemory}
 use Rattle.send_queue.specs.air_source.specs.declared.events.Side.TheVariants.{Du as AtDu}
 use Rattle.radio_moments.specs.document_delays.specs.Settings.{compensation_of}
-use Rattle.radio_moments.specs.frame_ways.specs.Flying.{arrival_at}
 use Rattle.radio_moments.specs.replay_events.specs.Events.{arrival_event, result_event}
 use Rattle.radio_moments.proofs.HearLemmas.{rests_arrived, stops_arriving, stops_telling}
 use Rattle.radio_moments.proofs.LandLemmas.{behind_one}
 use Rattle.intake_moments.specs.Turns.{IsIntakeInStep, planned_for}
 use Rattle.intake_moments.proofs.StopLemmas.{step_before, step_behind}
 use Rattle.intake_moments.proofs.landing.hear.Goals as goal
+use Rattle.du_intake.specs.ru_buffers.specs.unit_memory.specs.Memory.{arrival_at}
 
 pub returns-in_err-arrival-clause-stop : goal.returns-in_err-arrival-clause-stop
 returns-in_err-arrival-clause-stop g c d x told has ready failed =

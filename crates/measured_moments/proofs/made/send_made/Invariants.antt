@@ -2,7 +2,6 @@ use Rattle.std.proofs.Common.{◌≡◌, List, ◌++◌}
 use Rattle.std.specs.Prelude.{map}
 use Rattle.air_source.specs.declared.events.Side.{Side}
 use Rattle.delay_exchange.specs.Meters.{HasDoings}
-use Rattle.delay_exchange.specs.delay_laws.specs.Nodes.{other}
 use Rattle.delay_exchange.specs.document_traffic.specs.Sending.{Leaving}
 use Rattle.delay_exchange.specs.fh_document.specs.declared.document.Document.{Document}
 use Rattle.frame_ways.specs.Ways.{document_of}
@@ -11,6 +10,7 @@ use Rattle.delay_exchange.specs.measured_traffic.specs.Replayed.{leaving_made}
 use Rattle.measured_moments.specs.Made.{HasStillToSend}
 use Rattle.measured_moments.proofs.MadeLemmas.{HasSome, IsSending, frames_made}
 use Rattle.measured_moments.proofs.made.send_made.Given as goal
+use Rattle.air_source.specs.Units.{other}
 
 abbrev pub invariant-loop-frame : goal.invariant-loop-frame
 invariant-loop-frame g l = record {

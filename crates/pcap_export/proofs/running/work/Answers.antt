@@ -1,6 +1,7 @@
 use Rattle.std.proofs.Common.{◌∙◌, sym}
-use Rattle.pcap_export.proofs.Runs.{no_ways, not_long, read}
+use Rattle.pcap_export.proofs.Runs.{no_ways, read}
 use Rattle.pcap_export.proofs.running.work.Goals as goal
+use Rattle.fh_base.proofs.Known.{not_long}
 
 pub returns-in_default-clause-outcome : goal.returns-in_default-clause-outcome
 returns-in_default-clause-outcome g c = no_ways _ _ _ _ _ (sym c.ways_of.ensures ∙ c.in_default.is)

@@ -1,10 +1,10 @@
 use Rattle.std.proofs.lemmas.Result.{on_ok_weaker}
 use Rattle.owed_bytes.specs.CarriedLaws.{carried_more}
 use Rattle.capture_records.specs.Reading.{records_of}
-use Rattle.pcap_lines.proofs.Telling.{all_written, last_front}
 use Rattle.pcap_export.specs.Packets.{file_head, packets_bytes, wanted}
 use Rattle.pcap_export.proofs.Back.{read_back}
 use Rattle.pcap_export.proofs.writing.put_pcap.Goals as goal
+use Rattle.owed_bytes.proofs.Telling.{last_front, all_written}
 
 pub returns-in_err-tell_packets-clause-read : goal.returns-in_err-tell_packets-clause-read
 returns-in_err-tell_packets-clause-read g c = λ usual. read_back (wanted c.args.ways (records_of c.args.bytes.now)) usual

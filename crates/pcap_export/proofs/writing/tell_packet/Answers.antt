@@ -2,10 +2,11 @@ use Rattle.std.proofs.Common.{◌≡◌, ◌+◌, ◌++◌, length, ap, ◌∙�
 use Rattle.std.specs.Prelude.{unwrap_or}
 use Rattle.std.proofs.lemmas.Result.{on_ok_weaker, on_err_weaker}
 use Rattle.capture_records.specs.Records.{arrived_of}
-use Rattle.pcap_lines.proofs.Telling.{anyhow, front_named}
+use Rattle.pcap_lines.proofs.Telling.{front_named}
 use Rattle.pcap_export.specs.Packets.{ethernet_head, ns_of, record_head}
 use Rattle.pcap_export.proofs.Packed.{three_carried, three_front, two_front}
 use Rattle.pcap_export.proofs.writing.tell_packet.Goals as goal
+use Rattle.owed_bytes.proofs.Telling.{anyhow}
 
 pub returns-in_err-tell-clause-front : goal.returns-in_err-tell-clause-front
 returns-in_err-tell-clause-front g c =

@@ -2,11 +2,12 @@ use Rattle.std.proofs.Common.{◌≡◌, ◌++◌, List, ap, sym, subst, ◌∙�
 use Rattle.capture_records.specs.Left.{left_of}
 use Rattle.capture_records.specs.Reading.{records_of}
 use Rattle.capture_records.specs.Records.{Arrived, arrived_of}
-use Rattle.pcap_lines.proofs.Telling.{so_far_none, so_far_more, so_far_stopped, anyhow}
+use Rattle.pcap_lines.proofs.Telling.{so_far_none, so_far_more, so_far_stopped}
 use Rattle.pcap_export.specs.Packets.{packets_bytes, wanted_bytes}
 use Rattle.pcap_export.proofs.Packed.{packets_more}
 use Rattle.pcap_export.proofs.Placed.{ArePlaced, all_placed}
 use Rattle.pcap_export.proofs.writing.tell_packets.Goals as goal
+use Rattle.owed_bytes.proofs.Telling.{anyhow}
 
 pub loop-record-init : goal.loop-record-init
 loop-record-init g c =

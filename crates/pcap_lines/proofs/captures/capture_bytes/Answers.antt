@@ -4,8 +4,8 @@ use Rattle.capture_records.specs.declared.layout.TheConstants.{MAGIC}
 use Rattle.capture_records.specs.Records.{records_bytes}
 use Rattle.pcap_frames.specs.Frames.{frames_of}
 use Rattle.pcap_lines.specs.Texts.{arrived_as}
-use Rattle.pcap_lines.proofs.Telling.{last_front}
 use Rattle.pcap_lines.proofs.captures.capture_bytes.Goals as goal
+use Rattle.owed_bytes.proofs.Telling.{last_front}
 
 pub returns-clause-front : goal.returns-clause-front
 returns-clause-front g c =

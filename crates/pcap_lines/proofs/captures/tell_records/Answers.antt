@@ -4,8 +4,9 @@ use Rattle.capture_records.specs.Records.{record_bytes, records_bytes}
 use Rattle.pcap_frames.specs.Frames.{Timed, timed_of, AreShown}
 use Rattle.pcap_frames.specs.Left.{left_of}
 use Rattle.pcap_lines.specs.Texts.{arrived_as}
-use Rattle.pcap_lines.proofs.Telling.{so_far_none, so_far_more, so_far_all, so_far_stopped, anyhow}
+use Rattle.pcap_lines.proofs.Telling.{so_far_none, so_far_more, so_far_all, so_far_stopped}
 use Rattle.pcap_lines.proofs.captures.tell_records.Goals as goal
+use Rattle.owed_bytes.proofs.Telling.{anyhow}
 
 pub loop-f-init : goal.loop-f-init
 loop-f-init g c =

@@ -3,9 +3,9 @@ use Rattle.std.proofs.lemmas.Result.{on_ok_weaker}
 use Rattle.std.proofs.lemmas.List.Elements.{All-drop}
 use Rattle.pcap_frames.proofs.Settled.{checked_fine}
 use Rattle.pcap_frames.proofs.Shown.{are_shown}
-use Rattle.pcap_lines.proofs.Telling.{last_front, all_written}
 use Rattle.pcap_lines.proofs.Read.{are_bytes, read_back}
 use Rattle.pcap_lines.proofs.injections.inject_text.Goals as goal
+use Rattle.owed_bytes.proofs.Telling.{last_front, all_written}
 
 pub returns-clause-front : goal.returns-clause-front
 returns-clause-front g c = last_front _ _ _ c.new-owed.result _ _ c.new-owed.ensures c.in_ok-tell_lines.ensures.carried c.push_out.ensures.front

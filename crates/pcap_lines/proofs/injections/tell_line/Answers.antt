@@ -5,8 +5,9 @@ use Rattle.owed_bytes.specs.CarriedLaws.{carried_more}
 use Rattle.owed_bytes.proofs.Carrying.{front_behind}
 use Rattle.line_laws.specs.Words.{frame_word}
 use Rattle.pcap_lines.specs.Texts.{opening_text}
-use Rattle.pcap_lines.proofs.Telling.{front_named, front_middle, front_pair, carried_pair, anyhow}
+use Rattle.pcap_lines.proofs.Telling.{front_named, front_middle, front_pair, carried_pair}
 use Rattle.pcap_lines.proofs.injections.tell_line.Goals as goal
+use Rattle.owed_bytes.proofs.Telling.{anyhow}
 
 pub returns-in_err-tell-clause-front : goal.returns-in_err-tell-clause-front
 returns-in_err-tell-clause-front g c =

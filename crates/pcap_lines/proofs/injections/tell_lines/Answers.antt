@@ -3,8 +3,9 @@ use Rattle.std.proofs.lemmas.List.Concat.{flat_map-cons}
 use Rattle.pcap_frames.specs.Frames.{timed_of}
 use Rattle.pcap_frames.specs.Left.{left_of}
 use Rattle.pcap_lines.specs.Texts.{line_text, lines_of}
-use Rattle.pcap_lines.proofs.Telling.{so_far_none, so_far_more, so_far_all, so_far_stopped, anyhow}
+use Rattle.pcap_lines.proofs.Telling.{so_far_none, so_far_more, so_far_all, so_far_stopped}
 use Rattle.pcap_lines.proofs.injections.tell_lines.Goals as goal
+use Rattle.owed_bytes.proofs.Telling.{anyhow}
 
 pub loop-f-init : goal.loop-f-init
 loop-f-init g c =

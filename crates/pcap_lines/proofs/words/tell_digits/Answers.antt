@@ -1,8 +1,9 @@
 use Rattle.std.proofs.Common.{◌+◌, drop, arith, rules}
 use Rattle.line_laws.specs.Words.{hex_text}
 use Rattle.pcap_lines.proofs.Hex.{hex_slice}
-use Rattle.pcap_lines.proofs.Telling.{so_far_more, so_far_stopped, anyhow}
+use Rattle.pcap_lines.proofs.Telling.{so_far_more, so_far_stopped}
 use Rattle.pcap_lines.proofs.words.tell_digits.Goals as goal
+use Rattle.owed_bytes.proofs.Telling.{anyhow}
 
 pub returns-in_err-tell_piece-clause-front : goal.returns-in_err-tell_piece-clause-front
 returns-in_err-tell_piece-clause-front g c =

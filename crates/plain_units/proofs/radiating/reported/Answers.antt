@@ -1,6 +1,6 @@
 use Rattle.std.proofs.Common.{◌≡◌, List, ◌∙◌, subst}
 use Rattle.std.specs.Prelude.{IfOk}
-use Rattle.unit_model.specs.air_source.specs.declared.events.AirCell.{AirCell}
+use Rattle.unit_model.specs.Terms.{AirCell}
 use Rattle.plain_units.proofs.RadiatedLaws.{reported_by}
 use Rattle.plain_units.proofs.radiating.reported.Goals as goal
 

@@ -1,5 +1,5 @@
 use Rattle.std.proofs.Common.{◌≡◌, reverse, ap, ◌∙◌}
-use Rattle.unit_model.specs.air_source.specs.declared.events.Side.TheVariants.{Du}
+use Rattle.unit_model.specs.Terms.{Du}
 use Rattle.unit_model.specs.Commands.{command_verdicts}
 use Rattle.plain_units.specs.Plain.{arrivals_of}
 use Rattle.unit_model.specs.Radiated.{known_of, reported}

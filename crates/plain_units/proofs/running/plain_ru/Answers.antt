@@ -1,5 +1,5 @@
 use Rattle.std.proofs.Common.{◌≡◌, ap, ◌∙◌}
-use Rattle.unit_model.specs.air_source.specs.declared.events.Side.TheVariants.{Ru}
+use Rattle.unit_model.specs.Terms.{Ru}
 use Rattle.plain_units.specs.Plain.{arrivals_of}
 use Rattle.unit_model.specs.Radiated.{known_of, reported}
 use Rattle.unit_model.specs.Reports.{accepted_of, ru_reported}

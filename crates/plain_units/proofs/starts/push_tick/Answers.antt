@@ -1,5 +1,5 @@
 use Rattle.std.proofs.Common.{◌≡◌, ◌++◌, subst}
-use Rattle.unit_model.specs.window_config.specs.declared.endpoints.EndpointConfig.{EndpointConfig}
+use Rattle.unit_model.specs.Terms.{EndpointConfig}
 use Rattle.plain_units.specs.ClaimedStarts.{claimed_start}
 use Rattle.unit_model.specs.Sweeps.{of_endpoint}
 use Rattle.plain_units.proofs.StartLaws.{tick_more, tick_end}

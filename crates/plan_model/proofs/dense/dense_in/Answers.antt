@@ -1,5 +1,5 @@
 -- Place by place.
-use Rattle.std.proofs.Common.{pos, sym, ◌∙◌, ap}
+use Rattle.std.proofs.Common.{pos, sym, ◌∙◌}
 use Rattle.plan_model.proofs.DenseLemmas.{found, passed, ended}
 use Rattle.plan_model.specs.declared.dense.Sending.{Sending}
 use Rattle.plan_model.proofs.dense.dense_in.Goals as goal

@@ -4,12 +4,12 @@ use Rattle.air_source.specs.declared.airs.AirFault.TheVariants.{Failed, NoMemory
 use Rattle.air_source.specs.declared.events.Side.TheVariants.{Ru as AtRu}
 use Rattle.measured_moments.specs.document_delays.specs.Settings.{compensation_of}
 use Rattle.fh_time.specs.declared.values.Ticks.{Ticks}
-use Rattle.measured_moments.specs.frame_ways.specs.Flying.{arrival_at}
 use Rattle.measured_moments.specs.replay_events.specs.Events.{arrival_event, result_event}
 use Rattle.radio_moments.specs.Landing.{HasTaken}
 use Rattle.radio_moments.proofs.HearLemmas.{rests_arrived, stops_arriving, stops_telling, taken_frame, taken_none}
 use Rattle.radio_moments.proofs.LandLemmas.{behind_one}
 use Rattle.radio_moments.proofs.landing.hear.Goals as goal
+use Rattle.measured_moments.specs.ru_buffers.specs.unit_memory.specs.Memory.{arrival_at}
 
 pub returns-in_err-arrival-clause-stop : goal.returns-in_err-arrival-clause-stop
 returns-in_err-arrival-clause-stop g c d x k h has stands failed =

@@ -2,8 +2,9 @@ use Rattle.std.proofs.Common.{rules, ◌≡◌, ◌∙◌, true, false, Err, ap,
 use Rattle.command_words.specs.Answered.{AnswersWords}
 use Rattle.command_words.specs.Words.{command_of}
 use Rattle.top_call.specs.Answers.{reads}
-use Rattle.top_call.proofs.Runs.{made, no_command, not_long, read, unread_as, wordless}
+use Rattle.top_call.proofs.Runs.{made, no_command, read, unread_as, wordless}
 use Rattle.top_call.proofs.running.work.Goals as goal
+use Rattle.fh_base.proofs.Known.{not_long}
 
 pub returns-in-Err-BadWords-clause-outcome : goal.returns-in-Err-BadWords-clause-outcome
 returns-in-Err-BadWords-clause-outcome g c =

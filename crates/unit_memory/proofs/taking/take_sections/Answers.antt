@@ -3,7 +3,7 @@ use Rattle.std.specs.Prelude.{MatchOption}
 use Rattle.fh_time.specs.declared.values.Shape.{Shape}
 use Rattle.ecpri_fragments.specs.Assemblies.{message_of}
 use Rattle.unit_cells.specs.unit_model.specs.uplane_sections.specs.Messages.{Item, told}
-use Rattle.unit_cells.specs.unit_model.specs.uplane_sections.specs.declared.steps.UFeed.{UFeed}
+use Rattle.unit_cells.specs.unit_model.specs.Terms.{UFeed}
 use Rattle.unit_cells.specs.unit_model.specs.Decoding.{data_with, gathered, nothing_told}
 use Rattle.unit_cells.specs.Keeping.{SameReported}
 use Rattle.uplane_messages.specs.Joined.{message_bytes}

@@ -4,8 +4,9 @@ use Rattle.owed_bytes.specs.CarriedLaws.{carried_more}
 use Rattle.window_config.specs.Relations.{relations}
 use Rattle.window_plan.specs.Fitting.{fitted}
 use Rattle.window_lines.specs.Fit.{breach_text, fitted_or_none, fit_text}
-use Rattle.window_lines.proofs.Telling.{first_front, next_front, last_front, all_written}
+use Rattle.window_lines.proofs.Telling.{first_front, next_front}
 use Rattle.window_lines.proofs.fit_texts.put_fit.Goals as goal
+use Rattle.owed_bytes.proofs.Telling.{last_front, all_written}
 
 pub returns-in_err-tell_breaches-clause-front : goal.returns-in_err-tell_breaches-clause-front
 unfolding fit_text

@@ -4,8 +4,9 @@ use Rattle.fh_base.proofs.Progress.{front_first}
 use Rattle.owed_bytes.specs.CarriedLaws.{carried_more}
 use Rattle.window_config.specs.Relations.{checked}
 use Rattle.window_lines.specs.Windows.{profile_text, rings_text, check_text, windows_text}
-use Rattle.window_lines.proofs.Telling.{first_front, next_front, last_front, all_written}
+use Rattle.window_lines.proofs.Telling.{first_front, next_front}
 use Rattle.window_lines.proofs.window_texts.put_windows.Goals as goal
+use Rattle.owed_bytes.proofs.Telling.{last_front, all_written}
 
 pub returns-in_err-tell_profile-clause-front : goal.returns-in_err-tell_profile-clause-front
 unfolding windows_text

@@ -1,7 +1,8 @@
 use Rattle.std.proofs.Common.{ap, ◌∙◌, map}
-use Rattle.fh_document.specs.Words.{words_of, word_at}
+use Rattle.fh_document.specs.Words.{words_of}
 use Rattle.fh_document.proofs.WordSteps.{kept_word, no_word}
 use Rattle.fh_document.proofs.words.Words.word.Goals as goal
+use Rattle.text_lines.specs.Numbers.{word_at}
 
 pub returns-then-i-kept : goal.returns-then-i-kept
 returns-then-i-kept c =

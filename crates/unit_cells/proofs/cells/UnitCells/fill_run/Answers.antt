@@ -3,7 +3,7 @@ use Rattle.bfp_codec.specs.declared.samples.Wide.{Wide}
 use Rattle.slot_rings.specs.Runs.{unpacked_run}
 use Rattle.slot_rings.proofs.RunLemmas.{run_length}
 use Rattle.fh_time.specs.declared.values.Slot.{Slot}
-use Rattle.unit_model.specs.air_source.specs.declared.events.Side.{Side}
+use Rattle.unit_model.specs.Terms.{Side}
 use Rattle.window_config.specs.declared.config.Config.{Config}
 use Rattle.window_config.specs.declared.verdicts.Class.TheVariants as class
 use Rattle.unit_model.specs.Blocks.{data_class, first_data_prb}

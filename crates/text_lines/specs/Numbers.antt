@@ -1,7 +1,11 @@
--- Numbers among the words of the command line.
-use Rattle.std.specs.Prelude.{ℕ, List, length, Bool, ◌&&◌, nat_lt, nat_le, Option, Some, None, if◌then◌else◌}
-use Rattle.std.specs.List.{list_all}
+-- Numbers among words.
+use Rattle.std.specs.Prelude.{ℕ, List, [], length, Bool, ◌&&◌, nat_lt, nat_le, Option, Some, None, if◌then◌else◌}
+use Rattle.std.specs.List.{list_all, slice_index_or}
 use Rattle.std.specs.Str.Parse.{digits_value}
+
+-- the i-th word, or the empty one
+abbrev pub word_at : List (List ℕ) → ℕ → List ℕ
+word_at ws i = slice_index_or ws i []
 
 abbrev pub is_decimal : List ℕ → Bool
 is_decimal = list_all (λ b. nat_le 48 b && nat_le b 57)

@@ -1,12 +1,12 @@
-// Numbers among the words.
-ghost use Rattle.std.specs.Prelude.{◌≡◌, ◌≤◌, IfSome};
-ghost use Rattle.command_words.specs.Numbers.{number_in};
+// Numbers among words.
+ghost use Rattle.std.specs.Prelude.{◌≡◌, ◌≤◌, ◌<◌, ◌^◌, IfSome};
+ghost use Rattle.text_lines.specs.Numbers.{number_in};
 
 /// The number that 1 to `most` decimal digits spell, where it lies from `low` to `high`. Leading zeros count as digits.
-pub(crate) fn number_in(word: &[u8], most: usize, low: u64, high: u64) -> Option<u64>
+pub fn number_in(word: &[u8], most: usize, low: u64, high: u64) -> Option<u64>
     requires { most ≤ 18 }
     ensures value { result ≡ number_in most low high word.now }
-    ensures within { IfSome result (λ n. (low ≤ n) × (n ≤ high)) }
+    ensures within { IfSome result (λ n. (low ≤ n) × (n ≤ high) × (n < 10 ^ most)) }
 {
     if word.is_empty() || word.len() > most {
         return None;

@@ -2,9 +2,8 @@ use Rattle.std.proofs.Common.{rules, tests, ◌≡◌, ◌≤◌, ◌^◌, ◌+�
 use Rattle.std.specs.Char.{digit_value}
 use Rattle.std.proofs.Math.Nat.{pow-le-pow_right}
 use Rattle.std.proofs.lemmas.Str.{digit_value_digit}
-use Rattle.command_words.proofs.Digits.{all_more, value_more}
-use Rattle.command_words.proofs.numbers.number_in.Goals as goal
-use Rattle.fh_time.proofs.Orders.{push_fits}
+use Rattle.text_lines.proofs.DigitSteps.{all_more, value_more, push_fits}
+use Rattle.text_lines.proofs.numbers.number_in.Goals as goal
 
 pub overflow_mul-n : goal.overflow_mul-n
 overflow_mul-n c =
@@ -26,3 +25,8 @@ loop-b-preserved c =
       push_fits 10 c.loop-b.b-index c.loop-b.n c.from.result c.loop-b.invariant.1 (omega arith),
       all_more (λ b. nat_le 48 b && nat_le b 57) c.args.word.now c.loop-b.b-index (omega arith) c.loop-b.invariant.2 passes,
     )
+
+pub returns-clause-within : goal.returns-clause-within
+returns-clause-within c =
+    let most : 10 ^ c.loop-b.b-index ≤ 10 ^ c.args.most = pow-le-pow_right (omega arith) {i = c.loop-b.b-index} {j = c.args.most} (omega arith) in
+    (omega arith, omega arith, omega (arith, most, c.loop-b.invariant.1))
