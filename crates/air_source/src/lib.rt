@@ -17,7 +17,6 @@ mod samples;
 
 pub use airs::{Air, AirFault};
 pub use events::{AirCell, Event, Side};
-pub use fault_counters;
 pub use links::{Link, LinkFrame};
 pub use memory_air::MemoryAir;
 pub use memory_link::MemoryLink;

@@ -4,10 +4,10 @@ ghost use Rattle.report_lines.specs.air_source.specs.Tellings.{corner_at};
 
 use crate::built::SLOT;
 use crate::telling::tell_samples;
+use air_source::{AirCell, Event, MemoryAir, RePlace, Samples};
+use bfp_codec::{Iq, Wide};
+use fh_base::List;
 use fh_time::Slot;
-use owed_bytes::fh_base::List;
-use report_lines::air_source::{AirCell, Event, MemoryAir, RePlace, Samples};
-use report_lines::bfp_codec::{Iq, Wide};
 use std::test::Fail;
 
 /// Answers of the whole range: I by the PRB and the element, Q by the id.

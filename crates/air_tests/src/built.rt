@@ -1,8 +1,8 @@
 // What the tests build: cells, samples, and lists of calls.
+use air_source::{AirCell, Side};
+use bfp_codec::Wide;
+use fh_base::{List, NoMemory};
 use fh_time::{Slot, Ticks};
-use owed_bytes::fh_base::{List, NoMemory};
-use report_lines::air_source::{AirCell, Side};
-use report_lines::bfp_codec::Wide;
 use std::alloc::Global;
 
 /// The first slot of frame 1.

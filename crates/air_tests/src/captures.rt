@@ -7,11 +7,11 @@ ghost use Rattle.capture_air.specs.air_source.specs.declared.events.Event.TheVar
 ghost use Rattle.capture_air.specs.Capture.{whole_capture};
 
 use crate::built::{calls, missing};
+use air_source::{Air, AirFault, Side};
 use capture_air::CaptureAir;
-use capture_air::air_source::fault_counters::Counter;
-use capture_air::air_source::{Air, AirFault, Side};
+use fault_counters::Counter;
+use fh_base::{MemorySink, PlainSink, Sink};
 use fh_time::Ticks;
-use owed_bytes::fh_base::{MemorySink, PlainSink, Sink};
 use std::test::Fail;
 
 /// Writes the capture of one frame that arrived, which shows how a caller makes, tells and finishes the air.

@@ -1,10 +1,10 @@
 // Events that an air in memory hears, frames that a link takes, and the faults that a caller meets.
 use crate::built::{calls, level};
 use crate::telling::tell_cells;
+use air_source::{Air, AirCell, AirFault, Event, Link, MemoryAir, MemoryLink, Side};
+use fault_counters::Counter;
+use fh_base::List;
 use fh_time::Ticks;
-use owed_bytes::fh_base::List;
-use report_lines::air_source::fault_counters::Counter;
-use report_lines::air_source::{Air, AirCell, AirFault, Event, Link, MemoryAir, MemoryLink, Side};
 use std::test::Fail;
 
 fn is_cell(event: Option<&Event>, wanted: &AirCell) -> bool {

@@ -12,10 +12,10 @@ ghost use Rattle.report_lines.specs.air_source.specs.declared.events.Event.TheVa
 
 use crate::built::{calls, level};
 use crate::telling::tell_cells;
+use air_source::{Air, AirCell, AirFault, Side};
+use fault_counters::Counter;
+use fh_base::{List, MemorySink, Sink, SinkFault, write_all_to};
 use fh_time::Ticks;
-use owed_bytes::fh_base::{List, MemorySink, Sink, SinkFault, write_all_to};
-use report_lines::air_source::fault_counters::Counter;
-use report_lines::air_source::{Air, AirCell, AirFault, Side};
 use std::test::Fail;
 
 /// Keeps the last line, and whether the number of events is odd.

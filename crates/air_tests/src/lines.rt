@@ -1,9 +1,9 @@
 // Lines that were written down by hand: each kind, and those of the greatest values.
 use crate::built::{missing, ramp};
+use air_source::{AirCell, Side};
+use bfp_codec::Wide;
+use fault_counters::Counter;
 use fh_time::{Slot, Ticks};
-use report_lines::air_source::fault_counters::Counter;
-use report_lines::air_source::{AirCell, Side};
-use report_lines::bfp_codec::Wide;
 use report_lines::{Line, cell_line, count_line, delay_line, put_cell, put_count, put_delay};
 
 /// A cell whose every field has its greatest or least value.

@@ -1,9 +1,9 @@
 // What is owed to a sink, and a sink that fails.
 use crate::built::calls;
 use air_sinks::{push_out, tell};
+use air_source::AirFault;
+use fh_base::{MemorySink, PlainSink};
 use owed_bytes::OwedBytes;
-use owed_bytes::fh_base::{MemorySink, PlainSink};
-use report_lines::air_source::AirFault;
 use std::test::Fail;
 
 #[test]

@@ -10,10 +10,10 @@ ghost use Rattle.sum_air.specs.Summary.{whole_summary};
 
 use crate::built::{calls, missing, ramp};
 use crate::telling::tell_cells;
+use air_source::{Air, AirCell, AirFault, Side};
+use fault_counters::Counter;
+use fh_base::{MemorySink, PlainSink, Sink};
 use fh_time::{Slot, Ticks};
-use owed_bytes::fh_base::{MemorySink, PlainSink, Sink};
-use report_lines::air_source::fault_counters::Counter;
-use report_lines::air_source::{Air, AirCell, AirFault, Side};
 use std::test::Fail;
 use sum_air::{SumAir, Sums};
 

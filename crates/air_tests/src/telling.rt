@@ -10,9 +10,9 @@ ghost use Rattle.report_lines.specs.air_source.specs.declared.places.RePlace.{Re
 ghost use Rattle.report_lines.specs.bfp_codec.specs.declared.samples.Wide.{Wide};
 ghost use Rattle.report_lines.specs.air_source.specs.declared.events.Event.TheVariants.{Cell};
 
+use air_source::{Air, AirCell, AirFault, RePlace, Samples, Side};
+use bfp_codec::{Iq, Wide};
 use fh_time::{Slot, Ticks};
-use report_lines::air_source::{Air, AirCell, AirFault, RePlace, Samples, Side};
-use report_lines::bfp_codec::{Iq, Wide};
 
 /// Tells the air each cell, in order.
 pub(crate) fn tell_cells<A: Air>(cells: &[AirCell], air: &mut A) -> Result<(), AirFault>

@@ -8,10 +8,10 @@ ghost use Rattle.text_air.specs.Text.{whole_text};
 
 use crate::built::{calls, level, missing};
 use crate::telling::tell_cells;
+use air_source::{Air, AirCell, AirFault, Side};
+use fault_counters::Counter;
+use fh_base::{MemorySink, PlainSink, Sink};
 use fh_time::Ticks;
-use owed_bytes::fh_base::{MemorySink, PlainSink, Sink};
-use report_lines::air_source::fault_counters::Counter;
-use report_lines::air_source::{Air, AirCell, AirFault, Side};
 use std::test::Fail;
 use text_air::TextAir;
 

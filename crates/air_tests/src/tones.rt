@@ -5,9 +5,9 @@ ghost use Rattle.tone_source.specs.air_source.specs.Kept.{IsKept, closure_of};
 ghost use Rattle.tone_source.specs.Tones.{tone_of};
 ghost use Rattle.tone_source.specs.declared.values.Tone.{Tone};
 
+use air_source::{RePlace, Samples};
+use bfp_codec::{Iq, Wide};
 use fh_time::Slot;
-use report_lines::bfp_codec::{Iq, Wide};
-use tone_source::air_source::{RePlace, Samples};
 use tone_source::{Tone, ToneSteps, tone};
 
 /// The first slot of a frame.

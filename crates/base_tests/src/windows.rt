@@ -2,10 +2,10 @@
 ghost use Rattle.std.specs.Prelude.{pos, ◌≤ℤ◌, ◌≡◌};
 ghost use Rattle.window_config.specs.Limits.{IsWithinLimits};
 
+use bfp_codec::{Format, Method};
 use eaxc_map::Widths;
 use fh_time::{Numerology, Slot, Ticks, of_ns};
 use std::test::Fail;
-use window_config::bfp_codec::{Format, Method};
 use window_config::{
     Class, Config, Delays, EndpointConfig, EndpointList, Failing, ListFull, Range, Reach, Relation,
     check, class, class_up, command_window, cp_dl, data_window, du_reach, is_live, ring_slots,

@@ -7,12 +7,12 @@ ghost use Rattle.intake_samples.specs.unit_model.specs.Proper.{IsTime};
 use crate::frames::{TimedFrame, all_to_next_slot, frames_of};
 use crate::plans::lines;
 use crate::tally::Tally;
+use du_intake::Intake;
 use fh_base::{INPUT_LIMIT, Source, read_all};
 use fh_document::{Document, read};
 use fh_time::{Ticks, of_ns};
-use intake_samples::du_intake::Intake;
-use intake_samples::plan_tests::tested;
 use intake_samples::{close_before, made, step};
+use plan_tests::tested;
 use std::alloc::Global;
 
 /// A slot of 30 kHz, in nanoseconds.

@@ -13,10 +13,10 @@ use crate::tally::{Tally, hand_on, tally_of};
 use air_source::{MemoryAir, MemoryLink, RePlace, Samples};
 use bfp_codec::Wide;
 use fh_base::List;
+use ru_buffers::Ru;
 use std::alloc::Global;
 use tone_source::{Tone, ToneSteps};
 use uplink_path::Uplink;
-use uplink_path::ru_buffers::Ru;
 use window_config::Config;
 
 /// What the words of the program say.

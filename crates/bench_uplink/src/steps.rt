@@ -13,9 +13,9 @@ use air_source::{AirFault, Link, MemoryAir, MemoryLink, RePlace, Samples};
 use bfp_codec::Wide;
 use fh_base::NoMemory;
 use fh_time::Ticks;
+use ru_buffers::{Delivered, Ru};
 use std::alloc::Global;
 use uplink_path::Uplink;
-use uplink_path::ru_buffers::{Delivered, Ru};
 use window_config::Config;
 
 /// No time is further from 0.

@@ -7,5 +7,4 @@
 
 mod capture_air;
 
-pub use air_source;
 pub use capture_air::CaptureAir;

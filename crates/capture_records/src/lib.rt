@@ -17,7 +17,6 @@ mod refusals;
 mod starting;
 mod values;
 
-pub use air_source;
 pub use checking::check;
 pub use heads::record_head;
 pub use iterating::Records;

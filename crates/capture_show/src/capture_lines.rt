@@ -19,11 +19,11 @@ use crate::message_lines::{broken_line, delay_line, frame_line, sized_line};
 use crate::printing::Printer;
 use crate::values::{Kind, Word};
 use capture_records::{Record, records};
-use cplane_sections::fh_time::Shape;
 use cplane_sections::{CHead, check, sections};
 use delay_measure::read_delay;
 use ecpri_frames::{IQ_DATA, ONE_WAY_DELAY, PduRefusal, REAL_TIME_CONTROL, WholeMessage, messages};
-use owed_bytes::fh_base::{Sink, SinkFault};
+use fh_base::{Sink, SinkFault};
+use fh_time::Shape;
 
 /// The most symbols of a slot and slots of a subframe that a command may name.
 const WIDEST: Shape = Shape {

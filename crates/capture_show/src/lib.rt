@@ -18,5 +18,4 @@ mod showing;
 mod values;
 mod words;
 
-pub use capture_records;
 pub use showing::{ShowFault, show};

@@ -14,8 +14,8 @@ use crate::objects::object_text;
 use crate::opening::{ending, opening};
 use crate::values::Member;
 use crate::words::put_field;
+use fh_base::{Sink, SinkFault};
 use owed_bytes::OwedBytes;
-use owed_bytes::fh_base::{Sink, SinkFault};
 use std::alloc::Global;
 use text_lines::Line;
 

@@ -12,7 +12,7 @@ ghost use Rattle.capture_show.specs.Texts.{lines_text};
 use crate::capture_lines::tell_records;
 use crate::printing::Printer;
 use capture_records::{CaptureWhy, check};
-use owed_bytes::fh_base::{Sink, SinkFault};
+use fh_base::{Sink, SinkFault};
 use std::alloc::Global;
 use thiserror::Error;
 

@@ -1,6 +1,6 @@
 // What a line is made of.
 
-use capture_records::air_source::Side;
+use air_source::Side;
 use cplane_sections::CWhy;
 use ecpri_frames::PduWhy;
 

@@ -4,7 +4,7 @@ ghost use Rattle.capture_show.specs.Lines.{word_text, field_text};
 ghost use Rattle.capture_records.specs.air_source.specs.Units.{way_text};
 
 use crate::values::{Field, Word};
-use capture_records::air_source::Side;
+use air_source::Side;
 use text_lines::Line;
 
 fn way_text(side: Side) -> &'static [u8]

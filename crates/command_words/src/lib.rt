@@ -11,7 +11,6 @@ mod forms;
 mod parsing;
 mod reading;
 
-pub use air_source;
 pub use commands::Command;
 pub use faults::WordsFault;
 pub use reading::read_words;

@@ -15,7 +15,6 @@ mod write_header;
 mod write_section;
 
 pub use checking::check;
-pub use fh_time;
 pub use iterating::Sections;
 pub use starting::sections;
 pub use values::{CBody, CHead, CRefusal, CSection, CWhy};

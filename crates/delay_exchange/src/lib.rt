@@ -10,6 +10,5 @@ mod framing;
 mod outcome;
 mod unit;
 
-pub use measured_traffic::replay_events::DelayResult;
-pub use measured_traffic::{fh_document, tone_source};
+pub use replay_events::DelayResult;
 pub use unit::UnitMeter;

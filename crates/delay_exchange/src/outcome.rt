@@ -5,7 +5,7 @@ use crate::framing::frame_of;
 use delay_measure::{Begun, DelayMessage, MeterStep};
 use fault_counters::{Counter, Counters};
 use fh_base::NoMemory;
-use measured_traffic::replay_events::DelayResult;
+use replay_events::DelayResult;
 use std::alloc::Global;
 use std::collections::VecDeque;
 

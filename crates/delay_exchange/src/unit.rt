@@ -7,7 +7,7 @@ use ecpri_frames::{ONE_WAY_DELAY, messages};
 use fault_counters::Counter;
 use fh_base::NoMemory;
 use fh_time::Ticks;
-use measured_traffic::replay_events::DelayResult;
+use replay_events::DelayResult;
 use std::alloc::Global;
 
 /// A unit's delay measurement: its meter, the frames that it made and that were not taken yet, the delays of the frame that it was told

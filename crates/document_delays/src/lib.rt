@@ -22,6 +22,3 @@ pub fn landing_is_settled()
 pub fn all_ends()
     ensures { AllEnds }
 {}
-
-pub use frame_deliveries;
-pub use frame_deliveries::{fh_document, tone_source};

@@ -6,7 +6,7 @@ ghost use Rattle.du_intake.specs.Rows.{AreInside, HaveTwelve, IsRowOf, no_claim,
 ghost use Rattle.du_intake.specs.Symbols.{AreOneSection};
 
 use crate::lines::UplinkLine;
-use schedule_laws::unit_model::is_from;
+use unit_model::is_from;
 
 /// The elements of a cell that are claimed, all under one section id.
 #[derive(Clone, Copy, Debug, PartialEq, Eq)]

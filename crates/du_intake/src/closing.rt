@@ -21,8 +21,8 @@ use crate::unit::{Intake, moment_of};
 use air_source::{Air, AirCell, AirFault, Side};
 use fault_counters::Counters;
 use fh_time::Ticks;
-use ru_buffers::unit_cells::UnitCells;
-use schedule_laws::unit_model::{SymbolStart, block_counter, samples_under};
+use unit_cells::UnitCells;
+use unit_model::{SymbolStart, block_counter, samples_under};
 
 /// Whether a time comes before another one.
 fn is_before(a: Ticks, b: Ticks) -> bool

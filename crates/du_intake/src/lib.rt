@@ -12,7 +12,5 @@ mod plan;
 mod symbols;
 mod unit;
 
-pub use ru_buffers;
-pub use schedule_laws::plan_model;
-pub use schedule_laws::unit_model::Delivered;
 pub use unit::Intake;
+pub use unit_model::Delivered;

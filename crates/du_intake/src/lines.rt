@@ -8,9 +8,9 @@ ghost use Rattle.schedule_laws.specs.plan_model.specs.Lines.{is_up_line};
 
 use fh_base::NoMemory;
 use fh_time::Slot;
-use schedule_laws::plan_model::PlannedLine;
-use schedule_laws::unit_model::same_slot;
+use plan_model::PlannedLine;
 use std::alloc::Global;
+use unit_model::same_slot;
 use window_config::PlanKind;
 
 /// What an uplink line of a plan names.

@@ -8,9 +8,9 @@ use crate::claims::{PlannedClaim, claim_symbol};
 use crate::lines::{UplinkLine, sort_by_home, uplink_lines};
 use crate::symbols::{PlannedSymbol, planned_symbols};
 use fh_base::NoMemory;
-use schedule_laws::plan_model::PlannedLine;
-use schedule_laws::unit_model::SymbolStart;
+use plan_model::PlannedLine;
 use std::alloc::Global;
+use unit_model::SymbolStart;
 use window_config::{Config, EndpointConfig};
 
 /// What the uplink lines of a plan name.

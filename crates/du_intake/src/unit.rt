@@ -20,11 +20,11 @@ use air_source::Side;
 use fault_counters::Counters;
 use fh_base::NoMemory;
 use fh_time::{CARRIER_PRBS, Ticks, of_ns};
+use plan_model::PlannedLine;
 use ru_buffers::FIRST_CLOCK;
-use ru_buffers::unit_memory::UnitMemory;
-use schedule_laws::plan_model::PlannedLine;
-use schedule_laws::unit_model::Delivered;
 use std::alloc::Global;
+use unit_memory::UnitMemory;
+use unit_model::Delivered;
 use window_config::Config;
 
 /// How long after the start of its symbol a cell is reported.

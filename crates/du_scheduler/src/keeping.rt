@@ -4,7 +4,7 @@ ghost use Rattle.std.specs.Option.{option_to_list};
 ghost use Rattle.plan_tests.specs.plan_model.specs.Lines.{planned};
 
 use fh_base::{List, NoMemory};
-use plan_tests::plan_model::{PlannedLine, planned_line};
+use plan_model::{PlannedLine, planned_line};
 use std::alloc::Global;
 use window_config::{EndpointConfig, PlanLine};
 

@@ -10,7 +10,6 @@ mod plans;
 mod writing;
 
 pub use keeping::planned_lines;
-pub use plan_tests;
+pub use plan_model::PlanWhy;
 pub use plan_tests::PlanRefusal;
-pub use plan_tests::plan_model::PlanWhy;
 pub use plans::{Plan, Plane, Sent};

@@ -15,13 +15,13 @@ ghost use Rattle.window_config.specs.declared.plan.TheConstants.{PLAN_LINES};
 
 use crate::keeping::planned_lines;
 use crate::writing::write_frame;
+use air_source::{RePlace, Samples};
 use bfp_codec::Wide;
 use fh_base::{List, NoMemory};
 use fh_time::Ticks;
 use frame_order::Queue;
+use plan_model::PlannedLine;
 use plan_table::Table;
-use plan_tests::air_source::{RePlace, Samples};
-use plan_tests::plan_model::PlannedLine;
 use plan_tests::{PlanRefusal, tested};
 use std::alloc::Global;
 use window_config::{Config, PlanLine};

@@ -12,7 +12,6 @@ mod sequence;
 mod verdict;
 
 pub use assembly::{Assembly, Lease, Taken};
-pub use fh_base;
 pub use place::MESSAGE_BYTES;
 pub use sequence::{SeqField, put_seq, read_seq};
 pub use verdict::Verdict;

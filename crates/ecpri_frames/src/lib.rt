@@ -16,7 +16,6 @@ mod steps;
 mod turns;
 mod whole;
 
-pub use bit_fields;
 pub use decoding::Pdu;
 pub use heads::{Head, IQ_DATA, ONE_WAY_DELAY, REAL_TIME_CONTROL, pad_after, put_head, read_head};
 pub use refusals::{PduRefusal, PduWhy};

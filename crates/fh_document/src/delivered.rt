@@ -2,13 +2,13 @@
 ghost use Rattle.std.specs.Prelude.{◌≡◌, ◌<◌};
 ghost use Rattle.fh_document.specs.Delivered.{way_number, class_number, number_of};
 
+use air_source::Side;
 use arrayvec::ArrayVec;
 use fh_base::{List, NoMemory};
 use std::alloc::Global;
 use std::collections::BTreeSet;
 use std::marker::Model;
 use thiserror::Error;
-use tone_source::air_source::Side;
 
 /// The classes of frames, each counted for itself on each way.
 #[derive(Clone, Copy, Debug, PartialEq, Eq)]

@@ -1,11 +1,11 @@
 // What a document says, and what is known of it while its lines are read.
 
 use crate::delivered::{Deliveries, Delivery};
+use air_source::Side;
 use delay_measure::Kind;
 use eaxc_map::Widths;
 use fh_base::{Bytes, List};
 use tone_source::Tone;
-use tone_source::air_source::Side;
 use window_config::{Config, Delays, EndpointList, PlanLine};
 
 /// The delays between an antenna's connector and the edges that delay measurement stamps, as a unit's compensation: each from 0 to

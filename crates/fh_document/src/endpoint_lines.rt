@@ -9,9 +9,9 @@ use crate::hex::hex4;
 use crate::keywords::is_two;
 use crate::refusals::DocWhy;
 use crate::words::{Words, number_in, short_in};
+use bfp_codec::{Format, Method};
 use fh_time::{CARRIER_PRBS, Numerology};
 use window_config::EndpointConfig;
-use window_config::bfp_codec::{Format, Method};
 
 fn is_ordinary(words: &Words<'_>) -> bool
     ensures { result ≡ is_ordinary words.now }

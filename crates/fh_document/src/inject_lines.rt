@@ -8,8 +8,8 @@ use crate::document::{Injection, Reading};
 use crate::hex::frame_of;
 use crate::refusals::{DocWhy, LineFault};
 use crate::words::Words;
+use air_source::Side;
 use std::alloc::Global;
-use tone_source::air_source::Side;
 
 /// The last nanosecond at which a frame may arrive.
 const LAST: u64 = 1_000_000_000_000;

@@ -32,5 +32,4 @@ pub use measure_lines::FIRST_MEASURE;
 pub use reading::read;
 pub use refusals::{DocFault, DocWhy};
 pub use report_lines::{Line, cell_line, count_line, delay_line};
-pub use tone_source;
 pub use tone_source::{Tone, ToneSteps, tone};

@@ -7,8 +7,8 @@ ghost use Rattle.fh_time.specs.declared.nanoseconds.TheConstants.{LAST_TIME};
 
 use air_source::Side;
 use fh_base::NoMemory;
+use fh_document::{Document, Injection};
 use fh_time::{Ticks, of_ns};
-use measured_traffic::fh_document::{Document, Injection};
 use std::alloc::Global;
 
 /// Whether a frame arrives at a unit.

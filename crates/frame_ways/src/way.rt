@@ -9,10 +9,10 @@ use crate::tally::Tally;
 use crate::times::earlier_of;
 use air_source::Side;
 use fh_base::{Bytes, NoMemory};
+use fh_document::{Class3, Document, Injection};
 use fh_time::Ticks;
+use frame_deliveries::FrameDeliveries;
 use frame_network::{FramePool, LandingQueue, Network};
-use measured_traffic::fh_document::{Class3, Document, Injection};
-use measured_traffic::frame_deliveries::FrameDeliveries;
 use std::alloc::Global;
 
 /// One direction of the fronthaul: what is on its way to a unit.

@@ -12,9 +12,9 @@ ghost use Rattle.fronthaul_replay.specs.Reports.{capture_of};
 use crate::replaying::replay_to;
 use crate::report::TextFault;
 use capture_air::CaptureAir;
+use du_scheduler::Plan;
 use fh_base::Sink;
-use intake_moments::du_scheduler::Plan;
-use intake_moments::fh_document::Document;
+use fh_document::Document;
 use std::alloc::Global;
 
 /// Writes the capture of a document: the magic and a record for each frame that arrives.

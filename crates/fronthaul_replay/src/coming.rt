@@ -9,13 +9,13 @@ ghost use Rattle.intake_moments.specs.du_scheduler.specs.Plans.{HasToSend};
 ghost use Rattle.intake_moments.specs.unit_model.specs.Radiated.{first_clock};
 ghost use Rattle.fronthaul_replay.specs.Turns.{WaitsInTurn};
 
+use air_source::{RePlace, Samples};
 use bfp_codec::Wide;
-use capture_air::air_source::{RePlace, Samples};
+use du_scheduler::Plan;
 use fh_base::NoMemory;
+use fh_document::Document;
 use intake_moments::Answers;
-use intake_moments::du_scheduler::Plan;
-use intake_moments::fh_document::Document;
-use intake_moments::radio_moments::Downlink;
+use radio_moments::Downlink;
 use std::alloc::Global;
 
 /// What is to come: to the radio unit, and from it to the distributed unit.

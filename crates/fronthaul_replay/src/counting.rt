@@ -8,10 +8,10 @@ ghost use Rattle.intake_moments.specs.measured_traffic.specs.Doings.{Doings};
 ghost use Rattle.intake_moments.specs.replay_events.specs.Events.{count_event};
 ghost use Rattle.fronthaul_replay.specs.Counting.{told_counts, told_number};
 
-use capture_air::air_source::{Air, AirFault, Side};
+use air_source::{Air, AirFault, Side};
+use delay_exchange::UnitMeter;
+use delay_measure::Edge;
 use fault_counters::{Counter, Counters};
-use intake_moments::delay_exchange::UnitMeter;
-use sum_air::delay_measure::Edge;
 
 /// A counter's number in the end: those of delay measurement are the meter's, all others the unit's.
 fn number_of<C: Fn(Edge) -> i64>(counters: &Counters, meter: &UnitMeter<C>, counter: Counter) -> u64

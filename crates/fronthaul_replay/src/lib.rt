@@ -19,7 +19,6 @@ mod summary;
 mod times;
 
 pub use capture::capture_document;
-pub use intake_moments::{du_scheduler, fh_document, ru_buffers};
 pub use planning::check_plan;
 pub use replaying::intake_of;
 pub use replays::{ReplayFault, replay};

@@ -24,17 +24,17 @@ ghost use Rattle.fronthaul_replay.specs.Turns.{AtMoment, AtTurn, TurnHasBegun, T
 
 use crate::coming::Coming;
 use crate::times::{is_up_to, tick_after, up_to_end};
+use air_source::{Air, AirFault, RePlace, Samples};
 use bfp_codec::Wide;
-use capture_air::air_source::{Air, AirFault, RePlace, Samples};
+use delay_measure::Edge;
+use du_intake::Intake;
 use fh_base::NoMemory;
+use fh_document::Document;
 use fh_time::Ticks;
-use intake_moments::du_intake::Intake;
-use intake_moments::fh_document::Document;
 use intake_moments::intake_moment;
-use intake_moments::measured_moments::Meters;
-use intake_moments::radio_moments::{earlier_of, radio_moment};
-use intake_moments::ru_buffers::{FIRST_CLOCK, Ru};
-use sum_air::delay_measure::Edge;
+use measured_moments::Meters;
+use radio_moments::{earlier_of, radio_moment};
+use ru_buffers::{FIRST_CLOCK, Ru};
 
 /// The next time at which a cell or a message is due at a unit, a frame leaves or lands, or a measurement begins. None where there is none
 /// up to the end.

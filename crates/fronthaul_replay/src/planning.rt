@@ -2,8 +2,8 @@
 ghost use Rattle.intake_moments.specs.du_scheduler.specs.Plans.{Checks};
 ghost use Rattle.intake_moments.specs.fh_document.specs.Proper.{IsDocument};
 
-use intake_moments::du_scheduler::{Plan, PlanRefusal};
-use intake_moments::fh_document::Document;
+use du_scheduler::{Plan, PlanRefusal};
+use fh_document::Document;
 use std::alloc::Global;
 
 /// Tests the plan of a document, and takes all memory for its frames: what a replay of the document sends.

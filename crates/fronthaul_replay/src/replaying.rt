@@ -17,15 +17,15 @@ ghost use Rattle.intake_moments.specs.unit_model.specs.Standing.{nothing_yet};
 
 use crate::replays::replay;
 use crate::report::TextFault;
+use air_source::{Air, RePlace, Samples};
 use bfp_codec::Wide;
-use capture_air::air_source::{Air, RePlace, Samples};
+use du_intake::Intake;
+use du_scheduler::{Plan, planned_lines};
 use fh_base::NoMemory;
-use intake_moments::du_intake::Intake;
-use intake_moments::du_scheduler::{Plan, planned_lines};
-use intake_moments::fh_document::Document;
-use intake_moments::ru_buffers::Ru;
-use intake_moments::tone_source::ToneSteps;
+use fh_document::Document;
+use ru_buffers::Ru;
 use std::alloc::Global;
+use tone_source::ToneSteps;
 
 /// Makes both units of a document and tells an air the document's events; the samples that are sent are those of its `source`, those
 /// that the radio unit takes in those of its `antenna`.

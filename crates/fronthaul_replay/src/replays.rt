@@ -26,16 +26,16 @@ ghost use Rattle.fronthaul_replay.specs.declared.replays.ReplayFault.TheVariants
 use crate::coming::{Coming, coming_of};
 use crate::counting::tell_counts;
 use crate::moments::pass;
+use air_source::{Air, AirFault, RePlace, Samples, Side};
 use bfp_codec::Wide;
-use capture_air::air_source::{Air, AirFault, RePlace, Samples, Side};
+use delay_measure::Edge;
+use du_intake::Intake;
+use du_scheduler::Plan;
 use fh_base::NoMemory;
-use intake_moments::du_intake::Intake;
-use intake_moments::du_scheduler::Plan;
-use intake_moments::fh_document::Document;
-use intake_moments::measured_moments::Meters;
-use intake_moments::ru_buffers::Ru;
+use fh_document::Document;
+use measured_moments::Meters;
+use ru_buffers::Ru;
 use std::alloc::Global;
-use sum_air::delay_measure::Edge;
 use thiserror::Error;
 
 /// Why a replay did not come to its end.

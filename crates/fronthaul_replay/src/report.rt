@@ -13,10 +13,10 @@ ghost use Rattle.fronthaul_replay.specs.declared.report.TextFault.TheVariants.{N
 
 use crate::replaying::replay_to;
 use crate::replays::ReplayFault;
-use capture_air::air_source::AirFault;
+use air_source::AirFault;
+use du_scheduler::Plan;
 use fh_base::{NoMemory, Sink};
-use intake_moments::du_scheduler::Plan;
-use intake_moments::fh_document::Document;
+use fh_document::Document;
 use std::alloc::Global;
 use text_air::TextAir;
 use thiserror::Error;

@@ -13,9 +13,9 @@ ghost use Rattle.fronthaul_replay.specs.Reports.{summary_of};
 
 use crate::replaying::replay_to;
 use crate::report::TextFault;
+use du_scheduler::Plan;
 use fh_base::Sink;
-use intake_moments::du_scheduler::Plan;
-use intake_moments::fh_document::Document;
+use fh_document::Document;
 use std::alloc::Global;
 use sum_air::{SumAir, Sums};
 

@@ -4,7 +4,3 @@
 //! There are no functions: a law is stated in `specs/` and proved as a lemma in `proofs/`. All rest on this project's profile of
 //! O-RAN.WG4.CUS.
 #![tactic(auto)]
-
-pub use air_source;
-pub use unit_laws::unit_model;
-pub use window_config;

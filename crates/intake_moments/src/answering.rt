@@ -6,15 +6,15 @@ ghost use Rattle.intake_moments.specs.Answering.{Answered, IsDueAt, MayAnswer, M
 ghost use Rattle.intake_moments.specs.Answers.{AwaitsFrames, HasReleased, WaitsUp};
 
 use crate::Answers;
+use air_source::RePlace;
 use bfp_codec::Wide;
-use du_intake::ru_buffers::Ru;
 use fh_base::NoMemory;
+use fh_document::Class3;
 use fh_time::Ticks;
-use radio_moments::fh_document::Class3;
-use radio_moments::frame_ways::Way;
+use frame_network::FramePool;
+use frame_ways::Way;
+use ru_buffers::Ru;
 use send_queue::SendQueue;
-use send_queue::air_source::RePlace;
-use send_queue::frame_network::FramePool;
 
 /// Takes all messages that are due from the unit; their frames wait for the times at which they leave.
 pub(crate) fn answer<G: Fn(RePlace) -> Wide>(

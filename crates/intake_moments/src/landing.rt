@@ -22,14 +22,14 @@ ghost use Rattle.send_queue.specs.window_config.specs.declared.config.Config.{Co
 ghost use Rattle.intake_moments.specs.Landing.{IntakeHasTaken, MayHear, WaitsToLandUp, WaitsToLandSome, frame_told, frames_told};
 ghost use Rattle.intake_moments.specs.Turns.{IsIntakeInStep};
 
+use air_source::{Air, AirFault, Side};
+use delay_exchange::UnitMeter;
 use delay_measure::Edge;
 use du_intake::Intake;
 use fh_time::Ticks;
-use radio_moments::delay_exchange::UnitMeter;
-use radio_moments::frame_ways::{Landed, Way};
-use radio_moments::measured_moments::tell_results;
-use send_queue::air_source::{Air, AirFault, Side};
-use send_queue::frame_network::FramePool;
+use frame_network::FramePool;
+use frame_ways::{Landed, Way};
+use measured_moments::tell_results;
 
 /// Tells the air of a frame that arrives, and then delivers it to the intake and to the unit's meter; the delays that it makes known are
 /// told behind it.

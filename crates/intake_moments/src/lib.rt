@@ -8,8 +8,4 @@ mod landing;
 mod moments;
 
 pub use answers::Answers;
-pub use du_intake;
-pub use du_intake::ru_buffers;
 pub use moments::intake_moment;
-pub use radio_moments;
-pub use radio_moments::{delay_exchange, du_scheduler, fh_document, measured_moments, tone_source};

@@ -15,14 +15,14 @@ ghost use Rattle.intake_moments.specs.Turns.{AtIntakeTurn, IsIntakeInStep};
 use crate::Answers;
 use crate::answering::{answer, release};
 use crate::landing::land;
+use air_source::{Air, AirFault, RePlace};
 use bfp_codec::Wide;
+use delay_exchange::UnitMeter;
 use delay_measure::Edge;
 use du_intake::Intake;
-use du_intake::ru_buffers::Ru;
+use fh_document::Document;
 use fh_time::Ticks;
-use radio_moments::delay_exchange::UnitMeter;
-use radio_moments::fh_document::Document;
-use send_queue::air_source::{Air, AirFault, RePlace};
+use ru_buffers::Ru;
 
 /// What comes behind the radio unit's part of a moment: its messages of this time are handed over, the frames that leave then are in
 /// flight, all that lands at the distributed unit is delivered, and this unit's cells are told.

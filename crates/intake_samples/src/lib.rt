@@ -5,8 +5,5 @@
 mod plans;
 mod steps;
 
-pub use du_intake;
-pub use du_intake::plan_model;
-pub use du_scheduler::plan_tests;
 pub use plans::{config, endpoint, line, one, two};
 pub use steps::{close, close_before, made, made_of, step};

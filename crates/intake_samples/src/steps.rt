@@ -11,12 +11,12 @@ ghost use Rattle.du_intake.specs.Closing.{IntakeStandsForSome};
 ghost use Rattle.du_intake.specs.Planned.{IsPlanOf};
 
 use air_source::{Air, AirFault};
-use du_intake::plan_model::PlannedLine;
 use du_intake::{Delivered, Intake};
-use du_scheduler::plan_tests::tested;
 use du_scheduler::planned_lines;
 use fh_base::{List, NoMemory};
 use fh_time::Ticks;
+use plan_model::PlannedLine;
+use plan_tests::tested;
 use std::alloc::Global;
 use window_config::{Config, PlanLine};
 

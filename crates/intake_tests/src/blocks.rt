@@ -3,10 +3,10 @@ ghost use Rattle.std.specs.Prelude.{◌<◌, ◌^◌};
 ghost use Rattle.window_config.specs.Plans.{IsPlanLine};
 
 use crate::samples::{DATA, Data, FIRST, LAST, READ, at_30_khz, block, cell, has_counted, heard};
+use air_source::MemoryAir;
 use fault_counters::Counter;
 use fh_base::List;
 use intake_samples::{close, line, made, one, step, two};
-use plain_units::air_source::MemoryAir;
 use std::test::Fail;
 use window_config::{Delays, PlanLine};
 

@@ -5,11 +5,11 @@ ghost use Rattle.window_config.specs.Plans.{IsPlanLine};
 use crate::samples::{
     COMMAND, DATA, Data, FIRST, LAST, READ, at_30_khz, block, cell, has_counted, heard,
 };
+use air_source::{AirCell, AirFault, MemoryAir};
 use fault_counters::Counter;
 use fh_base::List;
 use fh_time::Ticks;
 use intake_samples::{close, line, made, one, step};
-use plain_units::air_source::{AirCell, AirFault, MemoryAir};
 use std::test::Fail;
 use window_config::{Delays, PlanLine};
 

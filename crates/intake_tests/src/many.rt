@@ -6,12 +6,12 @@ ghost use Rattle.plain_units.specs.unit_model.specs.Proper.{IsTime};
 ghost use Rattle.window_config.specs.Plans.{IsPlanLine};
 
 use crate::samples::{DATA, Data, READ, at_30_khz, block, cell, has_counted, heard};
+use air_source::{AirCell, MemoryAir};
+use du_intake::Intake;
 use fault_counters::Counter;
 use fh_base::{List, NoMemory};
 use fh_time::{Slot, Ticks};
-use intake_samples::du_intake::Intake;
 use intake_samples::{close, line, made, step};
-use plain_units::air_source::{AirCell, MemoryAir};
 use std::alloc::Global;
 use std::test::Fail;
 use window_config::{Delays, PlanLine};

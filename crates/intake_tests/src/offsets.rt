@@ -5,13 +5,13 @@ ghost use Rattle.window_config.specs.Configs.{IsConfig};
 ghost use Rattle.window_config.specs.Plans.{IsPlanLine};
 
 use crate::samples::{DATA, Data, READ, block, has_counted, heard};
+use air_source::{AirCell, MemoryAir, Side};
 use bfp_codec::Wide;
 use eaxc_map::Widths;
 use fault_counters::Counter;
 use fh_base::List;
 use fh_time::{Numerology, Slot, Ticks};
 use intake_samples::{close, config, endpoint, line, made, one, step, two};
-use plain_units::air_source::{AirCell, MemoryAir, Side};
 use std::test::Fail;
 use window_config::{Config, Delays, PlanLine};
 

@@ -4,10 +4,10 @@ ghost use Rattle.std.specs.Prelude.{◌<◌, ◌^◌};
 ghost use Rattle.window_config.specs.Plans.{IsPlanLine};
 
 use crate::samples::{at_30_khz, heard};
+use air_source::MemoryAir;
 use fh_base::List;
 use fh_time::{Slot, Ticks};
 use intake_samples::{close, line, made, two};
-use plain_units::air_source::MemoryAir;
 use std::test::Fail;
 use window_config::{Delays, PlanLine};
 

@@ -9,17 +9,17 @@ ghost use Rattle.window_config.specs.Configs.{IsConfig};
 ghost use Rattle.window_config.specs.Plans.{IsPlanLine};
 
 use crate::samples::{COMMAND, DATA, Data, EARLY, FIRST, LAST, at_30_khz, heard};
+use air_source::{AirFault, MemoryAir};
+use du_intake::Intake;
 use fault_counters::{Counter, Counters};
 use fh_base::{Bytes, List, NoMemory};
 use fh_time::Ticks;
-use intake_samples::du_intake::Intake;
-use intake_samples::plan_model::{PlannedLine, is_out_of_range, line_allocation};
 use intake_samples::{close, close_before, line, made, step, two};
-use plain_units::air_source::{AirFault, MemoryAir};
-use plain_units::unit_model::Allocation;
 use plain_units::{Report, TimedFrame, plain_du};
+use plan_model::{PlannedLine, is_out_of_range, line_allocation};
 use std::alloc::Global;
 use std::test::Fail;
+use unit_model::Allocation;
 use window_config::{Config, Delays, EndpointConfig, PlanLine};
 
 /// Some elements of the PRBs 0 and 1.

@@ -44,5 +44,3 @@ pub fn plans_are_read()
 pub fn deliveries_are_read()
     ensures { DeliveriesAreRead }
 {}
-
-pub use fh_document;

@@ -6,10 +6,6 @@ mod made;
 mod meters;
 mod results;
 
-pub use delay_exchange;
-pub use delay_exchange::{fh_document, tone_source};
-pub use frame_ways;
-pub use frame_ways::ru_buffers;
 pub use made::send_made;
 pub use meters::Meters;
 pub use results::tell_results;

@@ -14,9 +14,9 @@ ghost use Rattle.delay_exchange.specs.unit_model.specs.Radiated.{first_clock};
 ghost use Rattle.measured_moments.specs.Made.{HasStillToSend};
 
 use delay_exchange::UnitMeter;
-use delay_exchange::fh_document::Class3;
 use delay_measure::Edge;
 use fh_base::NoMemory;
+use fh_document::Class3;
 use fh_time::Ticks;
 use frame_network::FramePool;
 use frame_ways::Way;

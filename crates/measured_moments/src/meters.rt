@@ -5,9 +5,9 @@ ghost use Rattle.measured_moments.specs.Times.{begin_time};
 
 use air_source::Side;
 use delay_exchange::UnitMeter;
-use delay_exchange::fh_document::{Document, Measure};
 use delay_measure::Edge;
 use fh_base::{List, NoMemory};
+use fh_document::{Document, Measure};
 use fh_time::{Ticks, of_ns};
 use frame_network::LandingQueue;
 use std::alloc::Global;

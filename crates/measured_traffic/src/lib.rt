@@ -98,6 +98,3 @@ pub fn delays_are_measured()
     ensures events { EventsAreMeasured }
     ensures events_exact { EventsAreExact }
 {}
-
-pub use document_delays::{fh_document, frame_deliveries, tone_source};
-pub use uplink_turns::replay_events;

@@ -10,19 +10,19 @@ ghost use Rattle.unit_memory.specs.unit_cells.specs.Cells.{endpoints_of};
 ghost use Rattle.unit_memory.specs.Memory.{Holds};
 
 use crate::samples::{block_at, config, endpoint};
+use air_source::Side;
 use bfp_codec::{Method, Wide};
 use eaxc_map::Widths;
 use ecpri_frames::{PduRefusal, PduWhy};
+use fault_counters::{Counter, Counters};
+use fh_base::NoMemory;
 use fh_time::{Numerology, Ticks, shape};
 use std::alloc::Global;
 use std::test::Fail;
-use unit_memory::air_source::Side;
-use unit_memory::air_source::fault_counters::{Counter, Counters};
-use unit_memory::ecpri_fragments::fh_base::NoMemory;
-use unit_memory::unit_cells::UnitCells;
-use unit_memory::unit_model::Delivered;
-use unit_memory::window_config::{Config, EndpointConfig};
+use unit_cells::UnitCells;
 use unit_memory::{UnitMemory, holds_later};
+use unit_model::Delivered;
+use window_config::{Config, EndpointConfig};
 
 /// A downlink command: symbol 0 of frame 1, section 1, all elements of PRB 0.
 const COMMAND: [u8; 24] = [

@@ -6,15 +6,15 @@ ghost use Rattle.unit_memory.specs.unit_cells.specs.Cells.{endpoints_of};
 
 use crate::receiving::{counted, field, receive};
 use crate::samples::{block_at, config, endpoint};
+use air_source::Side;
 use bfp_codec::Method;
 use eaxc_map::Widths;
+use ecpri_fragments::Assembly;
+use fault_counters::Counters;
 use fh_time::{Numerology, of_ns, shape};
 use std::test::Fail;
-use unit_memory::air_source::Side;
-use unit_memory::air_source::fault_counters::Counters;
-use unit_memory::ecpri_fragments::Assembly;
-use unit_memory::unit_cells::UnitCells;
-use unit_memory::window_config::EndpointConfig;
+use unit_cells::UnitCells;
+use window_config::EndpointConfig;
 
 /// Two sections, each of one PRB with the samples (k, -k): section 1 on PRB 0 of symbol 0, and
 /// section 2 with symInc on PRB 0.

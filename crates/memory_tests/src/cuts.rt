@@ -8,20 +8,20 @@ ghost use Rattle.unit_memory.specs.unit_cells.specs.Cells.{endpoints_of};
 
 use crate::receiving::{counted, field, receive};
 use crate::samples::{accept, block_at, claim_at, config, endpoint, section};
+use air_source::Side;
 use bfp_codec::{Method, Wide};
 use cplane_sections::CSection;
 use eaxc_map::Widths;
+use ecpri_fragments::Assembly;
+use fault_counters::Counters;
+use fh_base::NoMemory;
 use fh_time::{Numerology, of_ns, shape};
 use std::alloc::Global;
 use std::process::Abort;
 use std::test::Fail;
-use unit_memory::air_source::Side;
-use unit_memory::air_source::fault_counters::Counters;
-use unit_memory::ecpri_fragments::Assembly;
-use unit_memory::ecpri_fragments::fh_base::NoMemory;
-use unit_memory::unit_cells::UnitCells;
-use unit_memory::unit_model::Block;
-use unit_memory::window_config::{Config, EndpointConfig};
+use unit_cells::UnitCells;
+use unit_model::Block;
+use window_config::{Config, EndpointConfig};
 
 /// Section 1 on PRBs 0 and 1 of symbol 0, and section 2 with symInc on PRBs 2 and 3. Each PRB has its exponent, and then pairs of an I,
 /// which goes on from the PRB before, and the Q that is -1 less it.

@@ -1,14 +1,14 @@
 // One endpoint of 4 PRBs at 30 kHz, whose frame 1 begins at 10 ms, which is tick 15360000000. Its symbol 0 is 71168 Tc long, of
 // 781.25 ticks each, so symbol 1 begins 55600000 ticks later. An uplink command is on time from 470 to 125 us before its symbol.
 use crate::samples::{SLOT, accept, config, endpoint, section};
+use air_source::Side;
 use bfp_codec::Method;
 use eaxc_map::Widths;
 use fh_time::{Numerology, Ticks, shape};
 use ru_jobs::{JobCursor, next_job};
 use std::test::Fail;
-use unit_memory::air_source::Side;
-use unit_memory::unit_cells::UnitCells;
-use unit_memory::unit_model::UplinkJob;
+use unit_cells::UnitCells;
+use unit_model::UplinkJob;
 
 fn job(symbol: u8, section: u16, start_prb: u16) -> UplinkJob {
     UplinkJob {

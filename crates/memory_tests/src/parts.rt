@@ -1,18 +1,18 @@
 // The parts of which units are made, each called once.
 use crate::samples::endpoint;
+use air_source::Side;
 use bfp_codec::{Method, Wide};
+use ecpri_fragments::Verdict;
 use ecpri_frames::messages;
+use fault_counters::Counter;
 use fh_time::{Numerology, Slot, Ticks};
 use std::test::Fail;
-use unit_memory::air_source::Side;
-use unit_memory::air_source::fault_counters::Counter;
-use unit_memory::ecpri_fragments::Verdict;
-use unit_memory::unit_model::{
+use unit_model::{
     Allocation, Block, CommandVerdict, DataVerdict, Met, SymbolStart, block_counter, comes_before,
     command_counter, data_counter, fragment_counter, is_uplink, meet, place_of, same_slot,
     samples_under, sends_in,
 };
-use unit_memory::window_config::EndpointConfig;
+use window_config::EndpointConfig;
 
 /// A measurement message, data with 3 bytes, and data to the id 7: sequence 5, the last piece, with one byte.
 const FRAME: [u8; 25] = [

@@ -4,12 +4,12 @@ ghost use Rattle.bfp_codec.specs.Layout.{HasWidth};
 ghost use Rattle.unit_memory.specs.ecpri_fragments.specs.Assemblies.{endpoints_of as assembly_endpoints};
 ghost use Rattle.unit_memory.specs.unit_cells.specs.Cells.{endpoints_of};
 
+use ecpri_fragments::{Assembly, Lease, SeqField, Taken};
+use fault_counters::{Counter, Counters};
 use fh_time::of_ns;
-use unit_memory::air_source::fault_counters::{Counter, Counters};
-use unit_memory::ecpri_fragments::{Assembly, Lease, SeqField, Taken};
+use unit_cells::UnitCells;
 use unit_memory::take_message;
-use unit_memory::unit_cells::UnitCells;
-use unit_memory::window_config::EndpointConfig;
+use window_config::EndpointConfig;
 
 /// Treats a message whose fragments came at times that a unit may be given.
 fn treat(cells: &mut UnitCells, counters: &mut Counters, e: &EndpointConfig, lease: &Lease<'_>)

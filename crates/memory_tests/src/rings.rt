@@ -7,10 +7,10 @@ ghost use Rattle.unit_memory.specs.unit_cells.specs.slot_rings.specs.Rings.{has_
 use crate::samples::endpoint;
 use bfp_codec::{Method, Wide};
 use fh_time::{Numerology, Slot, shape};
+use slot_rings::{SlotRing, Use};
 use std::test::Fail;
-use unit_memory::unit_cells::slot_rings::{SlotRing, Use};
-use unit_memory::unit_model::{Allocation, Block, CommandVerdict};
-use unit_memory::window_config::EndpointConfig;
+use unit_model::{Allocation, Block, CommandVerdict};
+use window_config::EndpointConfig;
 
 // the slot before frame 0, and the first two of frame 0: the first and the third share a place
 const LAST: Slot = Slot {

@@ -10,9 +10,9 @@ use bfp_codec::{Format, Method};
 use cplane_sections::{CBody, CHead, CSection};
 use eaxc_map::Widths;
 use fh_time::{Numerology, Slot, Ticks};
-use unit_memory::unit_cells::UnitCells;
-use unit_memory::unit_model::{Block, CommandVerdict, ControlSection};
-use unit_memory::window_config::{Config, Delays, EndpointConfig, EndpointList};
+use unit_cells::UnitCells;
+use unit_model::{Block, CommandVerdict, ControlSection};
+use window_config::{Config, Delays, EndpointConfig, EndpointList};
 
 /// The first slot of frame 1, which begins at 10 ms.
 pub(crate) const SLOT: Slot = Slot {

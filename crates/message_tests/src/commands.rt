@@ -2,10 +2,10 @@
 ghost use Rattle.std.specs.Prelude.{◌≤◌, length};
 ghost use Rattle.cplane_sections.specs.Message.{HeadFits, SectionFits};
 
-use cplane_sections::fh_time::Shape;
 use cplane_sections::{
     CBody, CHead, CRefusal, CSection, CWhy, check, put_head, put_section, sections,
 };
+use fh_time::Shape;
 use std::process::Abort;
 
 /// 14 symbols a slot, four slots a subframe.

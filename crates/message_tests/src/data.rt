@@ -3,7 +3,7 @@ ghost use Rattle.std.specs.Prelude.{◌<◌, ◌≤◌, length};
 ghost use Rattle.bfp_codec.specs.Layout.{HasWidth};
 
 use bfp_codec::{Format, Method, Wide};
-use cplane_sections::fh_time::Shape;
+use fh_time::Shape;
 use std::process::Abort;
 use uplane_sections::{
     UFeed, UHead, URefusal, URun, USection, UWalker, UWhy, put_head, put_section, read_head,

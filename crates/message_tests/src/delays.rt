@@ -1,11 +1,11 @@
 ghost use Rattle.std.specs.Prelude.{◌≡◌, pos, ◌≤◌, ◌≤ℤ◌, length};
 ghost use Rattle.delay_measure.specs.Kept.{IsKept, comp_of, answer_at};
 
-use cplane_sections::fh_time::Ticks;
 use delay_measure::{
     Begun, DelayMessage, Edge, History, Kind, Meter, MeterStep, put_delay, read_delay,
 };
-use ecpri_fragments::fh_base::NoMemory;
+use fh_base::NoMemory;
+use fh_time::Ticks;
 
 /// The compensations of a unit, in units of 2^-16 ns.
 fn answer(edge: Edge, sending: i64, receiving: i64) -> i64

@@ -5,9 +5,9 @@ ghost use Rattle.ecpri_fragments.specs.Generations.{Fragment, fragment};
 ghost use Rattle.ecpri_fragments.specs.Verdicts.{verdict_on};
 ghost use Rattle.ecpri_fragments.specs.Assemblies.{StandsFor, Took, endpoints_of, hold_of};
 
-use cplane_sections::fh_time::Ticks;
-use ecpri_fragments::fh_base::NoMemory;
 use ecpri_fragments::{Assembly, Lease, SeqField, Taken, Verdict, put_seq, read_seq};
+use fh_base::NoMemory;
+use fh_time::Ticks;
 use std::alloc::Global;
 use std::test::Fail;
 

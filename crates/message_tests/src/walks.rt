@@ -4,8 +4,8 @@ ghost use Rattle.bfp_codec.specs.Layout.{HasWidth};
 ghost use Rattle.ecpri_fragments.specs.Assemblies.{endpoints_of};
 
 use bfp_codec::{Format, Method, Wide};
-use cplane_sections::fh_time::{Shape, Ticks};
 use ecpri_fragments::{Assembly, Lease, SeqField, Taken};
+use fh_time::{Shape, Ticks};
 use std::test::Fail;
 use uplane_messages::{DataWalk, tested};
 use uplane_sections::{UFeed, UHead, URefusal, USection, UWhy};

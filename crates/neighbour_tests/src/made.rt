@@ -7,7 +7,7 @@ ghost use Rattle.window_lines.specs.window_config.specs.Limits.{IsWithinLimits};
 use bfp_codec::{Format, Method};
 use eaxc_map::Widths;
 use fh_time::Numerology;
-use window_lines::window_config::{Config, Delays, EndpointConfig, EndpointList, Range};
+use window_config::{Config, Delays, EndpointConfig, EndpointList, Range};
 
 pub(crate) fn range(min: i64, max: i64) -> Range
     ensures min { result.min ≡ min }

@@ -2,8 +2,8 @@
 ghost use Rattle.window_lines.specs.window_config.specs.Limits.{IsWithinLimits};
 
 use crate::made::range;
-use window_lines::window_config::{Delays, Relation};
-use window_lines::window_plan::{Breach, NoFit, Window, breach, fit};
+use window_config::{Delays, Relation};
+use window_plan::{Breach, NoFit, Window, breach, fit};
 
 const RELATIONS: [Relation; 8] = [
     Relation::UpMax,

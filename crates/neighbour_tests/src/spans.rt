@@ -5,17 +5,17 @@ ghost use Rattle.air_source.specs.declared.events.Event.TheVariants.{Cell};
 ghost use Rattle.idle_spans.specs.Tables.{AreFrames, endpoints_of};
 
 use crate::made::config;
-use air_source::fault_counters::Counter;
 use air_source::{Air, AirCell, AirFault, Side};
 use bfp_codec::Wide;
 use eaxc_map::Widths;
+use fault_counters::Counter;
 use fh_base::NoMemory;
 use fh_time::{Numerology, Slot, Ticks};
 use idle_spans::{Place, Span, Spans};
 use std::alloc::Global;
 use std::process::Abort;
 use std::test::Fail;
-use window_lines::window_config::Delays;
+use window_config::Delays;
 
 /// The spans of endpoints of these numerologies, with the ids 0, 1 and so on.
 fn spans_of(

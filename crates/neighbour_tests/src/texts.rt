@@ -9,7 +9,7 @@ use fh_time::Numerology;
 use std::alloc::Global;
 use std::process::Abort;
 use std::test::Fail;
-use window_lines::window_config::{Config, Delays};
+use window_config::{Config, Delays};
 use window_lines::{put_fit, put_windows};
 
 fn assert_windows(rt: &impl Abort, alloc: Global, config: &Config, wanted: &[u8])

@@ -8,4 +8,3 @@
 mod bytes;
 
 pub use bytes::{OwedBytes, ROOM};
-pub use fh_base;

@@ -10,4 +10,3 @@ mod words;
 
 pub use captures::capture_bytes;
 pub use injections::inject_text;
-pub use line_laws::fh_document;

@@ -7,9 +7,9 @@ ghost use Rattle.unit_model.specs.Sound.{IsSoundData};
 
 use crate::claims::same_way;
 use crate::slots::{data_slot, data_start};
-use unit_model::air_source::Side;
-use unit_model::window_config::{Class, Delays, class, class_up, data_window};
+use air_source::Side;
 use unit_model::{Block, Cell, DataVerdict, UserSection, is_from, same_slot};
+use window_config::{Class, Delays, class, class_up, data_window};
 
 /// The first PRB that a section of data has.
 pub(crate) fn first_data_prb(d: &UserSection) -> u16

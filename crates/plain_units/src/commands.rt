@@ -10,11 +10,11 @@ ghost use Rattle.unit_model.specs.Sound.{IsSoundCommand};
 
 use crate::claims::{overlaps, repeats};
 use fh_time::Slot;
-use unit_model::window_config::{Class, Delays};
 use unit_model::{
     Allocation, CommandVerdict, ControlSection, SLOT_SECTIONS, allocation_of, command_class,
     is_for, is_uplink, same_slot,
 };
+use window_config::{Class, Delays};
 
 /// Whether an allocation is an uplink section of this endpoint and slot.
 fn is_uplink_of(a: &Allocation, ep: usize, slot: &Slot) -> bool

@@ -9,13 +9,13 @@ ghost use Rattle.plain_units.specs.DecodedWords.{decoded_of};
 ghost use Rattle.unit_model.specs.Proper.{IsAt, IsTime, IsProperData};
 
 use crate::gathering::{Gathered, Part};
+use air_source::Side;
 use fh_base::NoMemory;
 use fh_time::{Ticks, shape};
 use std::alloc::Global;
 use unit_model::UserSection;
-use unit_model::air_source::Side;
-use unit_model::uplane_sections::{UFeed, UHead, URefusal, UWalker};
-use unit_model::window_config::EndpointConfig;
+use uplane_sections::{UFeed, UHead, URefusal, UWalker};
+use window_config::EndpointConfig;
 
 /// What a whole message to an endpoint says.
 #[derive(Drop)]

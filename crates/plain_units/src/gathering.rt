@@ -6,7 +6,7 @@ use bfp_codec::Wide;
 use fh_base::{List, NoMemory};
 use std::alloc::Global;
 use std::marker::Model;
-use unit_model::uplane_sections::{UFeed, UHead, USection};
+use uplane_sections::{UFeed, UHead, USection};
 
 /// A section with the samples of its PRBs, in their order.
 #[derive(Drop)]

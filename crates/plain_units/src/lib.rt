@@ -23,5 +23,3 @@ mod uplink;
 
 pub use report::{Report, TimedFrame};
 pub use running::{plain_du, plain_ru};
-pub use unit_model;
-pub use unit_model::{air_source, uplane_sections, window_config};

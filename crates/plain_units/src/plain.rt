@@ -26,6 +26,7 @@ use crate::commands::command_verdict;
 use crate::decoding::{DecodedMessage, decode};
 use crate::reading::commands;
 use crate::taking::{OwnedMessage, take};
+use air_source::Side;
 use cplane_sections::CHead;
 use ecpri_fragments::{Assembly, SeqField};
 use ecpri_frames::{WholeMessage, messages};
@@ -33,12 +34,11 @@ use fault_counters::{Counter, Counters};
 use fh_base::{List, NoMemory};
 use fh_time::{Ticks, of_ns};
 use std::alloc::Global;
-use unit_model::air_source::Side;
-use unit_model::window_config::{Class, Config, EndpointConfig};
 use unit_model::{
     Allocation, CommandVerdict, ControlSection, DataVerdict, Met, UserSection, allocation_of,
     command_counter, data_counter, fragment_counter, meet,
 };
+use window_config::{Class, Config, EndpointConfig};
 
 /// How long a generation of fragments holds at this side.
 fn hold(side: Side, config: &Config) -> Ticks

@@ -12,12 +12,12 @@ ghost use Rattle.unit_model.specs.Starts.{cell_told, cells_at};
 use crate::blocks::block_at;
 use crate::claims::claim_at;
 use crate::starts::{claimed_starts, is_in};
+use air_source::{AirCell, Side};
 use fh_base::{List, NoMemory};
 use fh_time::{FRAME, Ticks, of_ns};
 use std::alloc::Global;
-use unit_model::air_source::{AirCell, Side};
-use unit_model::window_config::{Delays, EndpointConfig};
 use unit_model::{Allocation, Cell, Claim, SymbolStart, UserSection, samples_under};
+use window_config::{Delays, EndpointConfig};
 
 /// Whether what a unit reports is of the downlink.
 fn is_down(side: Side) -> bool

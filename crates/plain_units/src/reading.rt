@@ -11,7 +11,7 @@ use fh_base::NoMemory;
 use fh_time::Ticks;
 use std::alloc::Global;
 use unit_model::ControlSection;
-use unit_model::window_config::EndpointConfig;
+use window_config::EndpointConfig;
 
 /// The sections of a command that was read, in its order.
 pub(crate) fn commands(

@@ -1,8 +1,8 @@
 // What a unit answers to frames.
+use air_source::AirCell;
 use fault_counters::Counters;
 use fh_base::{Bytes, List};
 use fh_time::Ticks;
-use unit_model::air_source::AirCell;
 use unit_model::{CommandVerdict, DataVerdict, UplinkJob};
 
 /// A frame, one eCPRI PDU, and when it arrives.

@@ -14,13 +14,13 @@ use crate::plain::Plain;
 use crate::radiating::reported;
 use crate::uplink::jobs;
 use crate::{Report, TimedFrame};
+use air_source::{AirCell, Side};
 use fault_counters::{Counter, Counters};
 use fh_base::{List, NoMemory};
 use fh_time::Ticks;
 use std::alloc::Global;
-use unit_model::air_source::{AirCell, Side};
-use unit_model::window_config::Config;
 use unit_model::{Allocation, block_counter};
+use window_config::Config;
 
 /// A unit that frames came to, in this order.
 fn treated(

@@ -11,8 +11,8 @@ use crate::moments::next_before;
 use fh_base::NoMemory;
 use fh_time::{FRAME, Slot, Ticks, air, shape};
 use std::alloc::Global;
-use unit_model::window_config::EndpointConfig;
 use unit_model::{Allocation, SymbolStart, is_from, same_slot};
+use window_config::EndpointConfig;
 
 /// How many frames a sweep goes over at each tick: that of the tick and those before it.
 const FRAMES: u8 = 6;

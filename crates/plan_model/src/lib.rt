@@ -20,5 +20,4 @@ pub use lines::{PlannedLine, is_out_of_range, line_allocation, planned_line};
 pub use refusals::PlanWhy;
 pub use sizes::{frame_count, section_size};
 pub use streams::Stream;
-pub use unit_model;
 pub use unit_model::MESSAGE_BYTES;

@@ -4,4 +4,3 @@
 mod parts;
 
 pub use parts::{TimedPart, parts_of};
-pub use plan_model;

@@ -15,7 +15,7 @@ use fh_base::NoMemory;
 use fh_time::{Ticks, air};
 use plan_model::{PlannedLine, Stream, line_allocation, section_size};
 use std::alloc::Global;
-use unit_laws::unit_model::is_uplink;
+use unit_model::is_uplink;
 
 /// What parts are sorted by: the start of their symbol, slot and symbol, and in an uplink symbol the order of the radio unit.
 #[derive(Clone, Copy, Debug, PartialEq, Eq, PartialOrd, Ord)]

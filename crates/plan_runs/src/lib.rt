@@ -9,6 +9,3 @@ mod open_messages;
 pub use cutting::{Messages, stream_messages};
 pub use laws::parts_make_runs;
 pub use limits::Limits;
-pub use plan_parts;
-pub use plan_parts::plan_model;
-pub use sent_order;

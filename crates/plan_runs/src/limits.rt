@@ -1,7 +1,7 @@
 //! What the messages of an endpoint's stream are cut by.
 ghost use Rattle.std.specs.Prelude.{◌≡◌, ◌≤◌};
 
-use plan_parts::plan_model::{Departures, Stream};
+use plan_model::{Departures, Stream};
 use window_config::Config;
 
 /// What the messages of an endpoint's stream are cut by.

@@ -6,8 +6,8 @@ ghost use Rattle.plan_parts.specs.unit_model.specs.Terms.{MESSAGE_BYTES};
 
 use crate::limits::Limits;
 use frame_order::{Run, Turn};
+use plan_model::{MESSAGE_BYTES, frame_count};
 use plan_parts::TimedPart;
-use plan_parts::plan_model::{MESSAGE_BYTES, frame_count};
 
 /// A message that may take more parts: its first part, how many parts and application bytes it has, its number, and how long behind
 /// the first frame of its symbol its own first one leaves.

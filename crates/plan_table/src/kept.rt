@@ -4,7 +4,7 @@ ghost use Rattle.std.specs.List.{AllByRecursion};
 ghost use Rattle.plan_table.specs.Kept.{placed_line_of};
 
 use fh_base::NoMemory;
-use plan_runs::plan_parts::TimedPart;
+use plan_parts::TimedPart;
 use std::alloc::Global;
 
 /// A part of a message: a line in one of its symbols.

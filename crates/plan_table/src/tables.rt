@@ -15,8 +15,8 @@ use crate::kept::{PlacedLine, StreamParts};
 use crate::streams::add_endpoint;
 use fh_base::NoMemory;
 use frame_order::{Queue, Turn};
-use plan_runs::plan_model::{Departures, PlannedLine, Stream};
-use plan_runs::sent_order::queue_of;
+use plan_model::{Departures, PlannedLine, Stream};
+use sent_order::queue_of;
 use std::alloc::Global;
 use window_config::Config;
 

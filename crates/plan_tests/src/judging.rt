@@ -15,10 +15,10 @@ ghost use Rattle.plan_tests.specs.Slots.{entry_of, judged, least_along, lesser_r
 
 use crate::sorting::{lines_of, sort_by_slot};
 use fh_base::NoMemory;
-use plan_parts::plan_model::{PlanWhy, PlannedLine, line_allocation};
+use plan_model::{PlanWhy, PlannedLine, line_allocation};
 use slot_rings::SlotRing;
-use slot_rings::unit_model::{CommandVerdict, same_slot};
 use std::alloc::Global;
+use unit_model::{CommandVerdict, same_slot};
 use window_config::EndpointConfig;
 
 /// The reason that a verdict other than Accepted is.

@@ -11,6 +11,4 @@ mod sorting;
 mod testing;
 mod walking;
 
-pub use plan_parts::plan_model;
-pub use slot_rings::air_source;
 pub use testing::{PlanRefusal, tested};

@@ -4,7 +4,7 @@ ghost use Rattle.plan_tests.specs.Placed.{placed_from, placing, stopped_from};
 ghost use Rattle.plan_parts.specs.plan_model.specs.Lines.{planned_at};
 
 use fh_base::{List, NoMemory};
-use plan_parts::plan_model::{PlanWhy, PlannedLine, is_out_of_range, planned_line};
+use plan_model::{PlanWhy, PlannedLine, is_out_of_range, planned_line};
 use std::alloc::Global;
 use window_config::{EndpointConfig, PlanLine};
 

@@ -6,7 +6,7 @@ ghost use Rattle.plan_tests.specs.Order.{ArePlannedInOrder, comes_first, slot_cm
 ghost use Rattle.plan_tests.specs.Slots.{of_home};
 
 use fh_base::NoMemory;
-use plan_parts::plan_model::PlannedLine;
+use plan_model::PlannedLine;
 use std::alloc::Global;
 
 /// A slot in the order of slots.

@@ -17,10 +17,10 @@ use crate::placing::place_lines;
 use crate::walking::{Limits, sendings};
 use fh_base::{List, NoMemory};
 use fh_time::Ticks;
-use plan_parts::parts_of;
-use plan_parts::plan_model::{
+use plan_model::{
     Dense, Departures, PlanWhy, PlannedLine, Stream, dense_in, down_distance, up_distance,
 };
+use plan_parts::parts_of;
 use std::alloc::Global;
 use thiserror::Error;
 use window_config::{Config, Delays, PlanLine};

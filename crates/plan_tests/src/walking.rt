@@ -7,8 +7,8 @@ ghost use Rattle.plan_parts.specs.Parts.{IsTimed};
 ghost use Rattle.plan_parts.specs.declared.parts.TimedPart.{TimedPart as SpecPart};
 
 use fh_base::NoMemory;
+use plan_model::{Departures, Sending, frame_count};
 use plan_parts::TimedPart;
-use plan_parts::plan_model::{Departures, Sending, frame_count};
 use std::alloc::Global;
 
 /// What messages are cut by: how many parts one may have, how many application bytes a frame carries, and when frames leave.

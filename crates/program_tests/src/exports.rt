@@ -1,6 +1,6 @@
 // Captures written out by hand, and the files that they become.
 use crate::made::{bytes_of, calls, words_of};
-use capture_records::air_source::Side;
+use air_source::Side;
 use capture_records::{CaptureWhy, record_head};
 use fh_base::{INPUT_LIMIT, MemorySink, NoMemory, PlainSink, PlainSource, SinkFault};
 use fh_time::Ticks;

@@ -1,6 +1,6 @@
 // Files written out by hand, and what becomes of their frames.
 use crate::made::{LITTLE, calls, head_of};
-use capture_records::air_source::Side;
+use air_source::Side;
 use fh_base::{MemorySink, PlainSink, SinkFault};
 use pcap_lines::{capture_bytes, inject_text};
 use std::alloc::Global;

@@ -1,6 +1,6 @@
 // Words that are commands, and words that are none.
 use crate::made::words_of;
-use command_words::air_source::Side;
+use air_source::Side;
 use command_words::{Command, WordsFault, read_words};
 use fh_base::NoMemory;
 use std::alloc::Global;

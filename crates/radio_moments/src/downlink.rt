@@ -8,14 +8,14 @@ ghost use Rattle.du_scheduler.specs.unit_model.specs.Radiated.{first_clock};
 ghost use Rattle.radio_moments.specs.Downlink.{HasPlan, IsCalmTo, WaitsDown};
 
 use air_source::Side;
+use delay_exchange::UnitMeter;
 use delay_measure::Edge;
 use du_scheduler::Plan;
 use fh_base::NoMemory;
+use fh_document::Document;
 use fh_time::Ticks;
 use frame_network::FramePool;
-use measured_moments::delay_exchange::UnitMeter;
-use measured_moments::fh_document::Document;
-use measured_moments::frame_ways::{Way, earlier_of};
+use frame_ways::{Way, earlier_of};
 use measured_moments::send_made;
 use std::alloc::Global;
 

@@ -19,13 +19,13 @@ ghost use Rattle.radio_moments.specs.Landing.{HasTaken, HaveLanded, MayLand, tol
 ghost use Rattle.radio_moments.specs.Stops.{HaltsBehind, StopsBehind};
 
 use air_source::{Air, AirFault, Side};
+use delay_exchange::UnitMeter;
 use delay_measure::Edge;
 use fh_time::Ticks;
 use frame_network::FramePool;
-use measured_moments::delay_exchange::UnitMeter;
-use measured_moments::frame_ways::{Landed, Way};
-use measured_moments::ru_buffers::Ru;
+use frame_ways::{Landed, Way};
 use measured_moments::tell_results;
+use ru_buffers::Ru;
 
 /// Tells the air of a frame that arrives at the unit's clock, and then delivers it to the unit and to its meter; the delays that it makes
 /// known are told behind it.

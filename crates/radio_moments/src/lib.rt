@@ -8,8 +8,5 @@ mod moments;
 mod sending;
 
 pub use downlink::Downlink;
-pub use du_scheduler;
-pub use measured_moments;
-pub use measured_moments::frame_ways::earlier_of;
-pub use measured_moments::{delay_exchange, fh_document, frame_ways, tone_source};
+pub use frame_ways::earlier_of;
 pub use moments::radio_moment;

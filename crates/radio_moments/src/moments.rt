@@ -19,11 +19,11 @@ use crate::landing::land;
 use crate::sending::send;
 use air_source::{Air, AirFault, RePlace, Samples};
 use bfp_codec::Wide;
+use delay_exchange::UnitMeter;
 use delay_measure::Edge;
+use fh_document::Document;
 use fh_time::Ticks;
-use measured_moments::delay_exchange::UnitMeter;
-use measured_moments::fh_document::Document;
-use measured_moments::ru_buffers::Ru;
+use ru_buffers::Ru;
 
 /// What comes at the radio unit at one time, once its measurements of the time have begun: its cells, then the frames that land, also
 /// those that leave then, each with the delays that it makes known.

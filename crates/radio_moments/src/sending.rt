@@ -15,8 +15,8 @@ use air_source::{RePlace, Samples};
 use bfp_codec::Wide;
 use du_scheduler::{Plan, Plane};
 use fh_base::NoMemory;
+use fh_document::Class3;
 use fh_time::Ticks;
-use measured_moments::fh_document::Class3;
 
 /// The class of the frames of a plane.
 fn class_of(plane: Plane) -> Class3

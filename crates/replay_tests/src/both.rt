@@ -2,7 +2,7 @@
 // the tone, counters by hand.
 use crate::cases::{Case, agrees};
 use fh_base::PlainSink;
-use fronthaul_replay::fh_document::read;
+use fh_document::read;
 use fronthaul_replay::{check_plan, report_document};
 use std::alloc::Global;
 use std::test::Fail;

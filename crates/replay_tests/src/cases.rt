@@ -1,6 +1,6 @@
 // A document beside its report.
 use fh_base::PlainSink;
-use fronthaul_replay::fh_document::read;
+use fh_document::read;
 use fronthaul_replay::{check_plan, report_document};
 use std::alloc::Global;
 

@@ -1,7 +1,7 @@
 // Documents and their reports, all of them known from outside: by the standard's fields, and by hand.
 use crate::cases::{Case, agrees};
 use fh_base::{List, MemorySink, PlainSink};
-use fronthaul_replay::fh_document::read;
+use fh_document::read;
 use fronthaul_replay::{TextFault, check_plan, report_document};
 use std::test::Fail;
 

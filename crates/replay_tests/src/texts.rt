@@ -1,6 +1,6 @@
 // The summary and the capture of documents, known from outside: by the standard's fields, and by hand.
 use fh_base::{List, MemorySink, PlainSink};
-use fronthaul_replay::fh_document::read;
+use fh_document::read;
 use fronthaul_replay::{TextFault, capture_document, check_plan, summarize_document};
 use std::test::Fail;
 

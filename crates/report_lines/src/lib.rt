@@ -9,8 +9,6 @@
 mod cell_lines;
 mod unit_lines;
 
-pub use air_source;
-pub use bfp_codec;
 pub use cell_lines::{cell_line, put_cell};
 pub use text_lines::Line;
 pub use unit_lines::{count_line, delay_line, put_count, put_delay};

@@ -2,10 +2,10 @@
 ghost use Rattle.ru_buffers.specs.Calls.{IsNextMessage, IsNextSymbol};
 
 use fh_time::Ticks;
-use radio_laws::history_laws::unit_model::SymbolStart;
 use ru_jobs::{JobCursor, NextJob, next_job};
 use ru_reports::first_left;
-use ru_reports::unit_cells::UnitCells;
+use unit_cells::UnitCells;
+use unit_model::SymbolStart;
 
 /// The first symbol that starts after a time and of which something is left to be reported.
 pub(crate) fn find_symbol(cells: &UnitCells, after: Ticks) -> Option<SymbolStart>

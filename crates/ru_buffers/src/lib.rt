@@ -11,8 +11,5 @@ mod messages;
 mod reporting;
 mod unit;
 
-pub use radio_laws::history_laws::unit_model::{Delivered, UplinkJob};
-pub use ru_reports;
-pub use ru_reports::unit_cells;
 pub use unit::{FIRST_CLOCK, Ru};
-pub use unit_memory;
+pub use unit_model::{Delivered, UplinkJob};

@@ -9,7 +9,7 @@ use crate::finding::find_message;
 use crate::reporting::starts_by;
 use crate::unit::Ru;
 use fh_time::Ticks;
-use radio_laws::history_laws::unit_model::UplinkJob;
+use unit_model::UplinkJob;
 
 impl Ru {
     ghost use Rattle.ru_buffers.specs.Calls.{GivesJob, HasGivenPast, IsCellMoment, IsDue, IsMessageMoment, StandsFor};

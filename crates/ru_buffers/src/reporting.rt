@@ -8,10 +8,10 @@ ghost use Rattle.radio_laws.specs.history_laws.specs.unit_model.specs.Standing.{
 
 use crate::finding::find_symbol;
 use crate::unit::Ru;
+use air_source::{Air, AirFault};
 use fh_time::Ticks;
-use radio_laws::history_laws::air_source::{Air, AirFault};
-use radio_laws::history_laws::unit_model::SymbolStart;
 use ru_reports::report;
+use unit_model::SymbolStart;
 
 /// Whether a symbol starts by a time.
 pub(crate) fn starts_by(m: &SymbolStart, to: Ticks) -> bool

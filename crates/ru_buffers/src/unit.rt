@@ -7,15 +7,15 @@ ghost use Rattle.radio_laws.specs.history_laws.specs.window_config.specs.declare
 ghost use Rattle.radio_laws.specs.history_laws.specs.unit_model.specs.Standing.{History, arrived, nothing_yet};
 
 use crate::finding::{find_message, find_symbol};
+use air_source::Side;
 use fault_counters::Counters;
 use fh_base::NoMemory;
 use fh_time::{FRAME, Ticks};
-use radio_laws::history_laws::air_source::Side;
-use radio_laws::history_laws::unit_model::{Delivered, SymbolStart};
-use radio_laws::history_laws::window_config::Config;
 use ru_jobs::{JobCursor, NextJob};
 use std::alloc::Global;
 use unit_memory::UnitMemory;
+use unit_model::{Delivered, SymbolStart};
+use window_config::Config;
 
 /// A unit's clock begins one frame before 0.
 pub const FIRST_CLOCK: Ticks = Ticks(-FRAME);

@@ -1,6 +1,6 @@
 // How far the messages of a radio unit were given.
 use fh_time::Ticks;
-use symbol_search::unit_cells::unit_model::{SymbolStart, UplinkJob};
+use unit_model::{SymbolStart, UplinkJob};
 
 /// How far the uplink messages that a radio unit is to send were given: all of symbols that start before `since`, all of the
 /// symbols that come before `last`, and `given` of `last`.

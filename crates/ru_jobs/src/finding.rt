@@ -9,9 +9,9 @@ ghost use Rattle.ru_jobs.specs.Cursors.{is_job_left};
 
 use crate::cursor::JobCursor;
 use crate::left::has_left;
-use symbol_search::unit_cells::UnitCells;
-use symbol_search::unit_cells::unit_model::{Allocation, SymbolStart};
 use symbol_search::{SlotPlace, SymbolTest};
+use unit_cells::UnitCells;
+use unit_model::{Allocation, SymbolStart};
 
 /// A cursor looks for symbols of which it leaves a message.
 impl<'c> SymbolTest<'c> for JobCursor {

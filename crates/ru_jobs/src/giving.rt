@@ -10,7 +10,7 @@ use crate::cursor::{JobCursor, NextJob};
 use crate::left::{first_left, given_of};
 use fh_time::Ticks;
 use symbol_search::first_symbol;
-use symbol_search::unit_cells::UnitCells;
+use unit_cells::UnitCells;
 
 /// The first message that was not given: by the start of its symbol, at one tick by endpoint, slot and symbol, and in one symbol
 /// by startPrbc, numPrbc, sectionId and filterIndex and in the order of acceptance (this project's profile).

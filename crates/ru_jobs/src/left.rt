@@ -7,7 +7,7 @@ ghost use Rattle.symbol_search.specs.unit_model.specs.declared.uplink.TheConstan
 
 use crate::cursor::JobCursor;
 use crate::sending::{count_sending, job_at};
-use symbol_search::unit_cells::unit_model::{Allocation, SymbolStart, UplinkJob, comes_before};
+use unit_model::{Allocation, SymbolStart, UplinkJob, comes_before};
 
 /// How many of a symbol's messages were given, or none where all were, however many they are.
 pub(crate) fn given_of(cursor: &JobCursor, m: &SymbolStart) -> Option<usize>

@@ -10,9 +10,9 @@ ghost use Rattle.symbol_search.specs.unit_model.specs.Proper.{IsSlot};
 ghost use Rattle.ru_reports.specs.Symbols.{is_left_after};
 
 use fh_time::{Slot, Ticks, air, shape};
-use symbol_search::unit_cells::UnitCells;
-use symbol_search::unit_cells::unit_model::SymbolStart;
 use symbol_search::{SlotPlace, SymbolTest, first_symbol};
+use unit_cells::UnitCells;
+use unit_model::SymbolStart;
 use window_config::EndpointConfig;
 
 /// Symbols that start after a time, in ticks, and of which a downlink cell is in use and was not reported.

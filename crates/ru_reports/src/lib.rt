@@ -9,4 +9,3 @@ mod reporting;
 
 pub use finding::first_left;
 pub use reporting::report;
-pub use symbol_search::unit_cells;

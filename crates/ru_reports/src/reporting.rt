@@ -8,9 +8,9 @@ ghost use Rattle.ru_reports.specs.Tellings.{StopsAtPrb, StopsInOne, lent_below, 
 
 use air_source::{Air, AirCell, AirFault, Side};
 use fault_counters::Counters;
-use symbol_search::unit_cells::UnitCells;
-use symbol_search::unit_cells::slot_rings::SymbolCells;
-use symbol_search::unit_cells::unit_model::{SymbolStart, block_counter, samples_under};
+use slot_rings::SymbolCells;
+use unit_cells::UnitCells;
+use unit_model::{SymbolStart, block_counter, samples_under};
 
 /// How far the cells of a symbol were told to an air.
 #[derive(Drop)]

@@ -1,9 +1,9 @@
 // Documents whose plan is refused: the line of the document is told, behind the whole grammar, by the commands that replay.
 use crate::runs::run_words;
+use du_scheduler::PlanWhy;
 use fh_base::{Bytes, NoMemory};
 use std::alloc::Global;
 use std::test::Fail;
-use top_call::du_scheduler::PlanWhy;
 use top_call::{LineWhy, Status};
 
 // The commands that replay a document.

@@ -44,6 +44,3 @@ pub fn least_delays_arrive()
 pub fn endpoints_are_found()
     ensures { EndpointsAreFound }
 {}
-
-pub use plan_model;
-pub use unit_laws::{air_source, unit_model};

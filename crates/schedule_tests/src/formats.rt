@@ -6,12 +6,12 @@ use crate::steps::{
     Wanted, all_given, checked, command, config, data, endpoint, line, long_command, of_format,
     of_prbs, put, with_beam,
 };
+use bfp_codec::Method;
 use eaxc_map::Widths;
 use fh_base::List;
 use fh_time::Numerology;
 use std::test::Fail;
 use window_config::PlanKind;
-use window_config::bfp_codec::Method;
 
 /// Section type 0 of an `idle` line, which has no beamId; nothing else is sent for it.
 #[test]

@@ -3,10 +3,10 @@ ghost use Rattle.window_config.specs.Endpoints.{IsEndpoint};
 ghost use Rattle.window_config.specs.Plans.{IsPlanLine};
 
 use crate::steps::{endpoint, in_slot, line, of_prbs, of_symbols};
-use du_scheduler::plan_tests::plan_model::{
+use fh_time::{Numerology, Ticks};
+use plan_model::{
     PlannedLine, frame_count, is_near, is_out_of_range, line_allocation, planned_line, section_size,
 };
-use fh_time::{Numerology, Ticks};
 use std::test::Fail;
 use window_config::{EndpointConfig, PlanKind, PlanLine};
 

@@ -9,11 +9,11 @@ use crate::steps::{
     at_id, config, endpoint, in_slot, line, of_prbs, of_symbols, of_two, put, with_delays,
     with_mask,
 };
-use du_scheduler::plan_tests::tested;
 use du_scheduler::{PlanRefusal, PlanWhy};
 use eaxc_map::Widths;
 use fh_base::{List, NoMemory};
 use fh_time::Numerology;
+use plan_tests::tested;
 use std::alloc::Global;
 use std::test::Fail;
 use window_config::{Config, Delays, EndpointConfig, PlanKind, PlanLine, Range};

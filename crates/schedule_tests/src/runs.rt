@@ -5,10 +5,10 @@ ghost use Rattle.plan_runs.specs.plan_parts.specs.Parts.{IsTimed};
 use fh_base::NoMemory;
 use fh_time::Ticks;
 use frame_order::{Queue, Run, Turn, frames_leave_in_time};
-use plan_runs::plan_model::Departures;
-use plan_runs::plan_parts::TimedPart;
-use plan_runs::sent_order::{messages_are_runs, queue_of, sent_is_in_order};
+use plan_model::Departures;
+use plan_parts::TimedPart;
 use plan_runs::{Limits, parts_make_runs, stream_messages};
+use sent_order::{messages_are_runs, queue_of, sent_is_in_order};
 
 /// A frame that leaves at this time.
 fn turn(at: Ticks, endpoint: u8, stream: u8, number: u32, sub: u8) -> Turn

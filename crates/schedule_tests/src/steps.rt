@@ -7,13 +7,13 @@ ghost use Rattle.window_config.specs.Limits.{IsTime, IsWithinLimits};
 ghost use Rattle.window_config.specs.Plans.{IsPlanLine};
 ghost use Rattle.du_scheduler.specs.Plans.{IsPlan};
 
-use du_scheduler::plan_tests::air_source::{RePlace, Samples};
+use air_source::{RePlace, Samples};
+use bfp_codec::{Format, Method, Wide};
 use du_scheduler::{Plan, PlanRefusal, Plane};
 use eaxc_map::Widths;
 use fh_base::{List, NoMemory};
 use fh_time::{Numerology, Slot, Ticks};
 use std::alloc::Global;
-use window_config::bfp_codec::{Format, Method, Wide};
 use window_config::{Config, Delays, EndpointConfig, EndpointList, PlanKind, PlanLine};
 
 /// An endpoint of id 0 with 106 PRBs, without compression.

@@ -5,13 +5,13 @@ ghost use Rattle.window_config.specs.Endpoints.{IsEndpoint};
 ghost use Rattle.window_config.specs.Plans.{IsPlanLine};
 
 use crate::steps::{at_id, endpoint, in_frame, in_slot, in_subframe, line, of_format, with_beam};
-use du_scheduler::plan_tests::air_source::{RePlace, Samples};
-use du_scheduler::plan_tests::plan_model::PlannedLine;
+use air_source::{RePlace, Samples};
+use bfp_codec::{Format, Method, Wide};
 use fh_time::{Numerology, Slot};
-use sent_frames::frame_bytes::DataSection;
+use frame_bytes::DataSection;
+use plan_model::PlannedLine;
 use sent_frames::{Fragment, command_frame, data_frame, data_section};
 use std::test::Fail;
-use window_config::bfp_codec::{Format, Method, Wide};
 use window_config::{EndpointConfig, PlanKind, PlanLine};
 
 /// A line of one PRB and one symbol in frame 1, at an endpoint of id 0x1234.

@@ -9,8 +9,6 @@ mod laws;
 mod outbox;
 mod queue;
 
-pub use air_source;
-pub use frame_network;
 pub use laws::queue_goes_on;
 pub use outbox::Outbox;
 pub use queue::SendQueue;

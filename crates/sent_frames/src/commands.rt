@@ -13,7 +13,7 @@ use bfp_codec::{Format, Method};
 use cplane_sections::{CBody, CHead, CSection};
 use fh_time::{code, offsets};
 use frame_bytes::command;
-use schedule_laws::plan_model::PlannedLine;
+use plan_model::PlannedLine;
 use window_config::{EndpointConfig, PlanKind};
 
 /// frameId: the low 8 bits of a frame's number.

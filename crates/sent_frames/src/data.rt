@@ -21,11 +21,11 @@ ghost use Rattle.window_config.specs.declared.config.TheConstants.{LEAST_FRAGMEN
 ghost use Rattle.ecpri_fragments.specs.declared.place.TheConstants.{MESSAGE_BYTES};
 
 use crate::commands::frame_id_of;
+use air_source::{RePlace, Samples};
 use bfp_codec::{Iq, Wide};
 use ecpri_fragments::SeqField;
 use frame_bytes::{Carrier, DataMessage, DataSection, Span, message_size, piece};
-use schedule_laws::air_source::{RePlace, Samples};
-use schedule_laws::plan_model::{PlannedLine, frame_count};
+use plan_model::{PlannedLine, frame_count};
 use uplane_sections::UHead;
 use window_config::EndpointConfig;
 

@@ -11,4 +11,3 @@ mod data;
 
 pub use commands::command_frame;
 pub use data::{Fragment, data_frame, data_section};
-pub use frame_bytes;

@@ -26,5 +26,3 @@ pub use claims::CellClaims;
 pub use packed::PackedRun;
 pub use ring::SlotRing;
 pub use symbol_cells::{SymbolCells, Use};
-pub use unit_model;
-pub use unit_model::air_source;

@@ -3,8 +3,8 @@ ghost use Rattle.std.specs.Prelude.{◌≡◌, ◌+◌, ◌≤◌, ◌++◌, len
 ghost use Rattle.report_lines.specs.Units.{side_text};
 ghost use Rattle.sum_air.specs.Results.{range_line, delays_text};
 
+use air_source::Side;
 use delay_measure::History;
-use report_lines::air_source::Side;
 use text_lines::Line;
 
 fn side_name(side: Side) -> &'static [u8]

@@ -14,6 +14,5 @@ mod sum_air;
 mod sums;
 mod totals;
 
-pub use delay_measure;
 pub use sum_air::SumAir;
 pub use sums::Sums;

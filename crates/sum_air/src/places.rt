@@ -3,8 +3,8 @@ ghost use Rattle.std.specs.Prelude.{◌≡◌};
 ghost use Rattle.sum_air.specs.Places.{place_of, same_place};
 ghost use Rattle.report_lines.specs.air_source.specs.Units.{same_side};
 
+use air_source::{AirCell, Side};
 use fh_time::{Slot, Ticks};
-use report_lines::air_source::{AirCell, Side};
 
 /// A symbol of an endpoint, on the air at one time, that a unit reports.
 #[derive(Clone, Copy)]

@@ -7,8 +7,8 @@ ghost use Rattle.sum_air.specs.Lines.{place_text, totals_text, line_text};
 use crate::places::SymbolPlace;
 use crate::runs::Run;
 use crate::totals::Totals;
+use air_source::Side;
 use fh_time::Slot;
-use report_lines::air_source::Side;
 use text_lines::Line;
 
 fn way(side: Side) -> &'static [u8]

@@ -5,7 +5,7 @@ ghost use Rattle.sum_air.specs.States.{opened, goes_on_with, grown, with_cell};
 
 use crate::places::{SymbolPlace, place_of, same_place};
 use crate::totals::{Totals, cell_totals, plus};
-use report_lines::air_source::AirCell;
+use air_source::AirCell;
 use std::marker::Model;
 
 /// A run of cells of one symbol whose PRBs rise, so that there are at most 65,536 of them and no sum overflows.

@@ -5,9 +5,9 @@ ghost use Rattle.sum_air.specs.States.{sum_start, ended_by, after_cell, after_de
 use crate::delay_lines::append_delays;
 use crate::run_lines::put_run;
 use crate::runs::Run;
+use air_source::{AirCell, Side};
 use delay_measure::History;
 use fh_base::NoMemory;
-use report_lines::air_source::{AirCell, Side};
 use std::alloc::Global;
 use std::marker::Model;
 use text_lines::Line;

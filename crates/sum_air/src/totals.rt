@@ -2,8 +2,8 @@
 ghost use Rattle.std.specs.Prelude.{◌≡◌, ℕ, ◌+◌, ◌*◌, ◌<◌, ◌≤◌, ◌^◌};
 ghost use Rattle.sum_air.specs.Totals.{no_totals, with_sample, with_element, samples_totals, cell_totals, plus, IsWithin};
 
-use report_lines::air_source::AirCell;
-use report_lines::bfp_codec::Wide;
+use air_source::AirCell;
+use bfp_codec::Wide;
 
 /// Sums over cells.
 #[derive(Clone, Copy)]

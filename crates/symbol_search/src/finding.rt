@@ -9,7 +9,7 @@ ghost use Rattle.symbol_search.specs.Symbols.{InSlot, IsFirst, OfEndpoint};
 use crate::{SlotPlace, SymbolTest};
 use fh_time::shape;
 use unit_cells::UnitCells;
-use unit_cells::unit_model::{SymbolStart, comes_before};
+use unit_model::{SymbolStart, comes_before};
 use window_config::EndpointConfig;
 
 /// The one that comes first of what was found and one more symbol.

@@ -11,4 +11,3 @@ mod symbol_test;
 pub use finding::first_symbol;
 pub use places::SlotPlace;
 pub use symbol_test::SymbolTest;
-pub use unit_cells;

@@ -5,7 +5,7 @@ ghost use Rattle.unit_cells.specs.unit_model.specs.Proper.{IsSlot};
 ghost use Rattle.unit_cells.specs.unit_model.specs.Starts.{start_at};
 
 use fh_time::{Slot, air};
-use unit_cells::unit_model::SymbolStart;
+use unit_model::SymbolStart;
 use window_config::EndpointConfig;
 
 /// A slot of an endpoint that has its place, and the index of that place.

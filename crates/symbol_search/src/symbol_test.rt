@@ -10,7 +10,7 @@ ghost use Rattle.symbol_search.specs.declared.places.SlotPlace.{SlotPlace as Spe
 
 use crate::SlotPlace;
 use unit_cells::UnitCells;
-use unit_cells::unit_model::SymbolStart;
+use unit_model::SymbolStart;
 
 /// What is looked for among the symbols of cells.
 ///

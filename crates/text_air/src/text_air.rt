@@ -11,11 +11,11 @@ ghost use Rattle.text_air.specs.Text.{event_text, events_text, end_text};
 ghost use Rattle.text_air.specs.OwedLaws.{grew_none, grew_more};
 
 use air_sinks::{push_out, tell};
+use air_source::{Air, AirCell, AirFault, Side};
 use fault_counters::Counter;
 use fh_base::Sink;
 use fh_time::Ticks;
 use owed_bytes::OwedBytes;
-use report_lines::air_source::{Air, AirCell, AirFault, Side};
 use report_lines::{put_cell, put_count, put_delay};
 use text_lines::Line;
 

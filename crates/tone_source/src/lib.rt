@@ -12,7 +12,6 @@ mod steps;
 mod turns;
 mod values;
 
-pub use air_source;
 pub use plain::tone;
 pub use steps::ToneSteps;
 pub use values::Tone;

@@ -3,10 +3,10 @@ ghost use Rattle.std.specs.Prelude.{◌≡◌, slice_index};
 ghost use Rattle.top_call.specs.Endings.{ending_of, text_status, source_status, unplanned_status, unread_status};
 
 use crate::status::{LineWhy, Status};
+use du_scheduler::PlanRefusal;
 use fh_base::{List, ReadAllFault, SinkFault};
+use fh_document::{DocFault, Document};
 use fronthaul_replay::TextFault;
-use fronthaul_replay::du_scheduler::PlanRefusal;
-use pcap_lines::fh_document::{DocFault, Document};
 
 /// How a run ends whose whole text was to be written, and which then ends with `status`.
 pub(crate) fn ending_of(written: Result<(), SinkFault>, status: Status) -> Status

@@ -11,7 +11,6 @@ mod messages;
 mod running;
 mod status;
 
-pub use fronthaul_replay::du_scheduler;
 pub use messages::write_message;
 pub use running::run;
 pub use status::{LineWhy, Status};

@@ -6,13 +6,13 @@ ghost use Rattle.fh_base.specs.Told.{WritesFront};
 ghost use Rattle.top_call.specs.Statuses.{capture_line, failing_line, status_line, no_fit_line, pcap_line, plan_name, refusal_line, why_name};
 
 use crate::status::{LineWhy, Status};
-use capture_show::capture_records::CaptureWhy;
+use capture_records::CaptureWhy;
+use du_scheduler::PlanWhy;
 use fh_base::{Sink, SinkFault, write_all_to};
-use fronthaul_replay::du_scheduler::PlanWhy;
 use pcap_frames::PcapRefusal;
 use text_lines::Line;
-use window_lines::window_config::Failing;
-use window_lines::window_plan::NoFit;
+use window_config::Failing;
+use window_plan::NoFit;
 
 /// Writes the status's line, nothing for `Done`.
 pub fn write_message<E: Sink>(status: Status, err: &mut E) -> Result<(), SinkFault>

@@ -1,13 +1,13 @@
 // What a run answers.
 ghost use Rattle.std.specs.Prelude.{◌≡◌};
 
-use capture_show::capture_records::CaptureWhy;
-use fronthaul_replay::du_scheduler::PlanWhy;
+use capture_records::CaptureWhy;
+use du_scheduler::PlanWhy;
+use fh_document::DocWhy;
 use pcap_frames::PcapRefusal;
-use pcap_lines::fh_document::DocWhy;
 use thiserror::Error;
-use window_lines::window_config::Failing;
-use window_lines::window_plan::NoFit;
+use window_config::Failing;
+use window_plan::NoFit;
 
 /// Why a line of the document is refused.
 #[derive(Clone, Copy, Debug, PartialEq, Eq, Error)]

@@ -26,13 +26,13 @@ ghost use Rattle.unit_model.specs.declared.uplink.TheConstants.{SLOT_SECTIONS};
 use crate::heading::DataHeading;
 use crate::rings::{fill, fill_run, make_ring, set_used_reported, take};
 use crate::sections::{data_class, data_slot, first_prb, prb_at, prb_count};
+use air_source::Side;
 use bfp_codec::{Method, Wide};
 use fh_base::NoMemory;
 use fh_time::Slot;
 use slot_rings::{PackedRun, SlotRing, SymbolCells};
 use std::alloc::Global;
 use std::marker::Model;
-use unit_model::air_source::Side;
 use unit_model::{
     Allocation, Block, CommandVerdict, ControlSection, DataVerdict, allocation_of, command_class,
     is_for,

@@ -23,7 +23,3 @@ mod sections;
 pub use cells::UnitCells;
 pub use heading::DataHeading;
 pub use laws::{far_slots_have_no_place, keeps_later, told_whole};
-pub use slot_rings;
-pub use unit_model;
-pub use unit_model::air_source;
-pub use window_config;

@@ -12,11 +12,11 @@ ghost use Rattle.unit_cells.specs.Cells.{HoldsLive};
 ghost use Rattle.unit_cells.specs.Steps.{Claims, Takes, Fills, SetsReported};
 ghost use Rattle.fh_time.specs.declared.carrier.TheConstants.{CARRIER_PRBS};
 
+use air_source::Side;
 use fh_base::NoMemory;
 use fh_time::Slot;
 use slot_rings::{PackedRun, SlotRing};
 use std::alloc::Global;
-use unit_model::air_source::Side;
 use unit_model::{Allocation, Block, CommandVerdict};
 use window_config::{Delays, EndpointConfig, Reach, du_reach, ring_slots, ru_reach};
 

@@ -6,8 +6,8 @@ ghost use Rattle.unit_model.specs.Proper.{IsSlot};
 ghost use Rattle.unit_cells.specs.Headings.{IsSoundHeading, data_under};
 
 use crate::heading::DataHeading;
+use air_source::Side;
 use fh_time::{Slot, Ticks, air, resolve};
-use unit_model::air_source::Side;
 use window_config::{Class, Delays, class, class_up, data_window};
 
 /// The first PRB that a section has.

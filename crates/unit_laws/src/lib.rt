@@ -4,6 +4,3 @@
 //! There are no functions: a law is stated in `specs/` and proved as a lemma in `proofs/`. All rest on this project's profile of
 //! O-RAN.WG4.CUS.
 #![tactic(auto)]
-
-pub use unit_model;
-pub use unit_model::air_source;

@@ -22,7 +22,7 @@ use ecpri_fragments::{Assembly, SeqField, Taken, Verdict};
 use fault_counters::Counters;
 use fh_time::Ticks;
 use unit_cells::UnitCells;
-use unit_cells::window_config::EndpointConfig;
+use window_config::EndpointConfig;
 
 /// Takes a fragment to an endpoint, and treats the message that it makes whole, if it does.
 pub(crate) fn assemble(

@@ -18,9 +18,6 @@ mod section;
 mod steps;
 mod taking;
 
-pub use ecpri_fragments;
 pub use laws::holds_later;
 pub use memory::{Arrived, UnitMemory};
 pub use taking::take_message;
-pub use unit_cells;
-pub use unit_cells::{air_source, unit_model, window_config};

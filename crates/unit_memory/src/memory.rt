@@ -16,16 +16,16 @@ ghost use Rattle.unit_cells.specs.unit_model.specs.declared.cells.Cell.{Cell};
 ghost use Rattle.unit_cells.specs.window_config.specs.Configs.{IsConfig};
 ghost use Rattle.unit_cells.specs.window_config.specs.declared.config.Config.{Config as SpecConfig};
 
+use air_source::Side;
 use ecpri_fragments::Assembly;
-use ecpri_fragments::fh_base::NoMemory;
 use ecpri_frames::{Messages, REAL_TIME_CONTROL, messages};
 use fault_counters::Counters;
+use fh_base::NoMemory;
 use fh_time::{Ticks, of_ns};
 use std::alloc::Global;
 use unit_cells::UnitCells;
-use unit_cells::air_source::Side;
-use unit_cells::unit_model::Delivered;
-use unit_cells::window_config::{Config, EndpointConfig};
+use unit_model::Delivered;
+use window_config::{Config, EndpointConfig};
 
 /// What became of a frame that arrived.
 #[derive(Clone, Copy, Debug, PartialEq, Eq)]

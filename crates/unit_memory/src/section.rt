@@ -10,10 +10,10 @@ ghost use Rattle.unit_cells.specs.Keeping.{SameReported};
 ghost use Rattle.unit_memory.specs.Sections.{AreBehind, Came, Filled, FillsSome, AreSectionsBehind};
 
 use fault_counters::Counters;
-use unit_cells::unit_model::data_counter;
-use unit_cells::unit_model::uplane_sections::UFeed;
 use unit_cells::{DataHeading, UnitCells};
+use unit_model::data_counter;
 use uplane_messages::DataWalk;
+use uplane_sections::UFeed;
 
 /// How many PRBs a section has.
 fn prb_count(heading: &DataHeading) -> u16

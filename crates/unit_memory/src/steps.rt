@@ -21,14 +21,14 @@ ghost use Rattle.unit_cells.specs.Cells.{endpoints_of};
 
 use crate::UnitMemory;
 use crate::assembling::assemble;
+use air_source::Side;
 use cplane_sections::{CHead, sections};
 use ecpri_fragments::SeqField;
 use ecpri_frames::{PduRefusal, WholeMessage};
 use fault_counters::Counter;
 use fh_time::Ticks;
-use unit_cells::air_source::Side;
-use unit_cells::unit_model::{ControlSection, Met, command_counter, fragment_counter, meet};
-use unit_cells::window_config::EndpointConfig;
+use unit_model::{ControlSection, Met, command_counter, fragment_counter, meet};
+use window_config::EndpointConfig;
 
 impl UnitMemory {
     ghost use Rattle.unit_memory.specs.Parts.{HoldsParts, HoldsSomeParts, LeavesReported, MemoryStands, MemoryStandsForSome};

@@ -21,14 +21,14 @@ ghost use Rattle.unit_memory.specs.Holding.{HoldsData};
 ghost use Rattle.unit_memory.specs.Sections.{items_of};
 
 use crate::section::take_section;
+use air_source::Side;
 use ecpri_fragments::Lease;
 use fault_counters::{Counter, Counters};
 use fh_time::shape;
-use unit_cells::air_source::Side;
-use unit_cells::unit_model::uplane_sections::{UFeed, UHead};
-use unit_cells::window_config::EndpointConfig;
 use unit_cells::{DataHeading, UnitCells};
 use uplane_messages::{DataWalk, tested};
+use uplane_sections::{UFeed, UHead};
+use window_config::EndpointConfig;
 
 /// Whether a message of this direction comes to the unit.
 fn has_way(side: Side, head: &UHead) -> bool

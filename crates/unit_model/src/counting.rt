@@ -3,9 +3,9 @@ ghost use Rattle.std.specs.Prelude.{◌≡◌};
 ghost use Rattle.unit_model.specs.Counts.{command_counter, data_counter, fragment_counter, block_counter};
 
 use crate::{CommandVerdict, DataVerdict};
-use air_source::fault_counters::Counter;
+use bfp_codec::Wide;
 use ecpri_fragments::Verdict;
-use uplane_sections::bfp_codec::Wide;
+use fault_counters::Counter;
 
 /// The counter of a verdict on a section of a command.
 pub fn command_counter(verdict: CommandVerdict) -> Counter

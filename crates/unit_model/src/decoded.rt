@@ -1,8 +1,8 @@
 // The sections of messages that were read.
+use bfp_codec::Wide;
 use cplane_sections::{CHead, CSection};
-use ecpri_fragments::fh_base::List;
+use fh_base::List;
 use fh_time::Ticks;
-use uplane_sections::bfp_codec::Wide;
 use uplane_sections::{UHead, USection};
 use window_config::EndpointConfig;
 

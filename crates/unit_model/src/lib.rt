@@ -19,7 +19,6 @@ mod symbol_start;
 mod uplink;
 mod verdicts;
 
-pub use air_source;
 pub use allocations::Allocation;
 pub use cells::{Block, Cell, Claim};
 pub use commands::{command_class, is_for, is_uplink};
@@ -31,7 +30,5 @@ pub use meeting::{Met, meet};
 pub use samples::samples_under;
 pub use slots::{allocation_of, same_slot};
 pub use symbol_start::{SymbolStart, comes_before};
-pub use uplane_sections;
 pub use uplink::{SLOT_SECTIONS, is_from, place_of, sends_in};
 pub use verdicts::{CommandVerdict, DataVerdict};
-pub use window_config;

@@ -8,10 +8,10 @@ ghost use Rattle.unit_model.specs.Proper.{IsAt};
 ghost use Rattle.window_config.specs.declared.endpoints.EndpointConfig.{EndpointConfig as SpecEndpoint};
 
 use air_source::Side;
-use air_source::fault_counters::Counter;
 use cplane_sections::{CHead, check};
 use ecpri_fragments::{SeqField, read_seq};
 use ecpri_frames::{IQ_DATA, ONE_WAY_DELAY, REAL_TIME_CONTROL, WholeMessage};
+use fault_counters::Counter;
 use fh_time::shape;
 use window_config::EndpointConfig;
 

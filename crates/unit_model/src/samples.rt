@@ -3,7 +3,7 @@ ghost use Rattle.std.specs.Prelude.{◌≡◌};
 ghost use Rattle.unit_model.specs.Radiated.{samples_under};
 
 use crate::cells::Block;
-use uplane_sections::bfp_codec::Wide;
+use bfp_codec::Wide;
 
 /// The samples of a block, if it came under a section id.
 pub fn samples_under(id: u16, block: Option<Block>) -> Option<[Wide; 12]>

@@ -3,14 +3,14 @@
 // 345 to 134 us, and an uplink command from 470 to 125 us. The bytes, the moments and the counters are worked out by hand.
 use crate::samples::{COMMAND, DATA, cell, config, endpoint, samples};
 use crate::steps::{READ, cell_heard, hand, has_counted, made, pass, step, stops, take};
+use air_source::MemoryAir;
 use eaxc_map::Widths;
 use fault_counters::Counter;
 use fh_base::List;
 use fh_time::{Numerology, Slot, Ticks};
-use plain_units::air_source::MemoryAir;
-use plain_units::window_config::Delays;
 use ru_buffers::UplinkJob;
 use std::test::Fail;
+use window_config::Delays;
 
 /// The same command for the symbols 0 and 1.
 const TWO_SYMBOLS: [u8; 24] = [

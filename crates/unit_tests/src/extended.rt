@@ -4,13 +4,13 @@
 // symbol, and data from 345 to 134 us; a nanosecond has 1536 ticks. The bytes, the moments and the counters are worked out by hand.
 use crate::samples::{cell, config, endpoint, samples};
 use crate::steps::{READ, cell_heard, hand, has_counted, made, step};
+use air_source::{AirCell, MemoryAir};
 use eaxc_map::Widths;
 use fault_counters::Counter;
 use fh_base::List;
 use fh_time::{Numerology, Slot, Ticks};
-use plain_units::air_source::{AirCell, MemoryAir};
-use plain_units::window_config::Delays;
 use std::test::Fail;
+use window_config::Delays;
 
 /// A downlink command of section type 1: frame 1, subframe 0, slot 1, symbol 11, section 1, all elements of PRB 0.
 const COMMAND: [u8; 24] = [

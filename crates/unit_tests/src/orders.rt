@@ -8,16 +8,16 @@ ghost use Rattle.ru_buffers.specs.Calls.{HasGivenPast, StandsForSome};
 
 use crate::samples::{COMMAND, DATA, config, endpoint};
 use crate::steps::{cell_heard, hand, made, pass, step};
+use air_source::{AirFault, MemoryAir};
 use eaxc_map::Widths;
 use fault_counters::{Counter, Counters};
 use fh_base::{Bytes, List, NoMemory};
 use fh_time::{Numerology, Ticks};
-use plain_units::air_source::{AirFault, MemoryAir};
-use plain_units::window_config::{Config, Delays};
 use plain_units::{Report, TimedFrame, plain_ru};
 use ru_buffers::{Ru, UplinkJob};
 use std::alloc::Global;
 use std::test::Fail;
+use window_config::{Config, Delays};
 
 /// A time after all symbols that the frames name.
 const END: Ticks = Ticks(15_460_000_000);

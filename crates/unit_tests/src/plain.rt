@@ -6,17 +6,17 @@ ghost use Rattle.plain_units.specs.window_config.specs.Endpoints.{IsEndpoint};
 ghost use Rattle.plain_units.specs.unit_model.specs.Proper.{IsProperAllocation, IsTime};
 ghost use Rattle.plain_units.specs.declared.report.TimedFrame.{TimedFrame as SpecFrame};
 
+use air_source::{AirCell, Side};
 use bfp_codec::{Format, Method, Wide};
 use eaxc_map::Widths;
 use fault_counters::{Counter, Counters};
 use fh_base::{Bytes, NoMemory};
 use fh_time::{Numerology, Slot, Ticks, of_ns, shape};
-use plain_units::air_source::{AirCell, Side};
-use plain_units::unit_model::{Allocation, CommandVerdict, DataVerdict, UplinkJob};
-use plain_units::window_config::{Config, Delays, EndpointConfig, EndpointList};
 use plain_units::{TimedFrame, plain_du, plain_ru};
 use std::alloc::Global;
 use std::test::Fail;
+use unit_model::{Allocation, CommandVerdict, DataVerdict, UplinkJob};
+use window_config::{Config, Delays, EndpointConfig, EndpointList};
 
 /// A downlink command: symbol 0 of frame 1, section 1, all elements of PRB 0.
 const COMMAND: [u8; 24] = [

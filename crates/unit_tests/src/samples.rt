@@ -4,11 +4,11 @@ ghost use Rattle.plain_units.specs.window_config.specs.Configs.{IsConfig};
 ghost use Rattle.plain_units.specs.window_config.specs.Endpoints.{IsEndpoint};
 ghost use Rattle.plain_units.specs.window_config.specs.Limits.{IsWithinLimits};
 
+use air_source::{AirCell, Side};
 use bfp_codec::{Format, Method, Wide};
 use eaxc_map::Widths;
 use fh_time::{Numerology, Slot, Ticks};
-use plain_units::air_source::{AirCell, Side};
-use plain_units::window_config::{Config, Delays, EndpointConfig, EndpointList};
+use window_config::{Config, Delays, EndpointConfig, EndpointList};
 
 /// A downlink command: symbol 0 of frame 1, section 1, all elements of PRB 0.
 pub(crate) const COMMAND: [u8; 24] = [

@@ -6,14 +6,14 @@ ghost use Rattle.ru_buffers.specs.Calls.{HasGivenPast, StandsForSome};
 
 use crate::samples::{COMMAND, DATA, cell, config, endpoint, samples};
 use crate::steps::{cell_heard, hand, has_counted, made, step};
+use air_source::{AirFault, MemoryAir};
 use eaxc_map::Widths;
 use fault_counters::Counter;
 use fh_base::List;
 use fh_time::{Numerology, Slot, Ticks};
-use plain_units::air_source::{AirFault, MemoryAir};
-use plain_units::window_config::{Delays, Range, ring_slots, ru_reach};
 use ru_buffers::Ru;
 use std::test::Fail;
+use window_config::{Delays, Range, ring_slots, ru_reach};
 
 const START: i64 = 15_360_000_000;
 

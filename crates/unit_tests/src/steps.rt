@@ -6,13 +6,13 @@ ghost use Rattle.plain_units.specs.unit_model.specs.Proper.{IsTime};
 ghost use Rattle.plain_units.specs.unit_model.specs.Standing.{History, owed_until};
 ghost use Rattle.ru_buffers.specs.Calls.{HasGivenPast, StandsFor, StandsForSome};
 
+use air_source::{AirCell, AirFault, Event, MemoryAir};
 use fault_counters::{Counter, Counters};
 use fh_base::NoMemory;
 use fh_time::Ticks;
-use plain_units::air_source::{AirCell, AirFault, Event, MemoryAir};
-use plain_units::window_config::Config;
 use ru_buffers::{Delivered, Ru, UplinkJob};
 use std::alloc::Global;
+use window_config::Config;
 
 /// No time is further from 0.
 const MOST: i64 = 9_007_199_254_740_992;

@@ -7,19 +7,19 @@ ghost use Rattle.ru_buffers.specs.unit_cells.specs.Cells.{endpoints_of};
 
 use crate::samples::{config, endpoint};
 use crate::steps::cell_heard;
+use air_source::{AirCell, AirFault, MemoryAir, Side};
 use bfp_codec::{Method, Wide};
 use cplane_sections::{CBody, CHead, CSection};
 use eaxc_map::Widths;
 use fault_counters::{Counter, Counters};
 use fh_base::List;
 use fh_time::{Numerology, Slot, Ticks, of_ns, shape};
-use plain_units::air_source::{AirCell, AirFault, MemoryAir, Side};
-use plain_units::unit_model::{CommandVerdict, ControlSection, SymbolStart};
-use plain_units::uplane_sections::{UHead, USection};
-use plain_units::window_config::{Delays, EndpointConfig};
-use ru_buffers::ru_reports::{first_left, report};
-use ru_buffers::unit_cells::{DataHeading, UnitCells};
+use ru_reports::{first_left, report};
 use std::test::Fail;
+use unit_cells::{DataHeading, UnitCells};
+use unit_model::{CommandVerdict, ControlSection, SymbolStart};
+use uplane_sections::{UHead, USection};
+use window_config::{Delays, EndpointConfig};
 
 /// A downlink command for PRBs 0 and 1 in one symbol of frame 1, under section 5, that comes at 9.65 ms.
 fn command(e: EndpointConfig, symbol: u8, mask: u16) -> ControlSection

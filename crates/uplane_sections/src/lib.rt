@@ -16,7 +16,6 @@ mod values;
 mod walking;
 mod writing;
 
-pub use bfp_codec;
 pub use read_header::read_head;
 pub use steps::{UFeed, URun, UStep};
 pub use values::{UHead, URefusal, USection, UWhy};

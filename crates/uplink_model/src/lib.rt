@@ -7,9 +7,5 @@
 mod examples;
 mod laws;
 
-pub use air_source;
 pub use examples::uplink_examples_hold;
-pub use frame_bytes;
 pub use laws::{frames_append, leaving_is_handed_over, messages_are_packs, sent_order_is_whole};
-pub use plan_model;
-pub use plan_model::unit_model;

@@ -9,5 +9,4 @@ mod rules;
 mod sending;
 mod uplink;
 
-pub use ru_buffers;
 pub use uplink::Uplink;

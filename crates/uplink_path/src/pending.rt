@@ -9,10 +9,10 @@ ghost use Rattle.uplink_model.specs.plan_model.specs.Streams.{section_size};
 ghost use Rattle.ecpri_fragments.specs.declared.place.TheConstants.{MESSAGE_BYTES};
 
 use ecpri_fragments::MESSAGE_BYTES;
+use frame_bytes::DataSection;
+use plan_model::section_size;
+use unit_model::UplinkJob;
 use uplane_sections::UHead;
-use uplink_model::frame_bytes::DataSection;
-use uplink_model::plan_model::section_size;
-use uplink_model::unit_model::UplinkJob;
 use window_config::{EndpointConfig, MESSAGE_SECTIONS};
 
 /// A message that may take more sections.

@@ -4,8 +4,8 @@ ghost use Rattle.window_config.specs.Configs.{IsConfig};
 ghost use Rattle.uplink_path.specs.Sending.{AreRules, rules_of, wait_in};
 
 use fh_time::Slot;
-use uplink_model::plan_model::{Departures, Stream};
-use uplink_model::unit_model::UplinkJob;
+use plan_model::{Departures, Stream};
+use unit_model::UplinkJob;
 use window_config::Config;
 
 /// What all messages are sent by.

@@ -18,12 +18,12 @@ ghost use Rattle.fh_time.specs.declared.carrier.TheConstants.{CARRIER_PRBS};
 
 use crate::pending::{Pending, head_of};
 use crate::rules::Rules;
+use air_source::{Link, RePlace, Samples};
 use bfp_codec::{Iq, Wide};
 use ecpri_fragments::SeqField;
 use fh_base::NoMemory;
-use uplink_model::air_source::{Link, RePlace, Samples};
-use uplink_model::frame_bytes::{Carrier, DataMessage, Span, piece};
-use uplink_model::plan_model::frame_count;
+use frame_bytes::{Carrier, DataMessage, Span, piece};
+use plan_model::frame_count;
 use window_config::EndpointConfig;
 
 /// Writes a piece of a message's bytes as a frame, and answers how long it is.

@@ -17,12 +17,12 @@ ghost use Rattle.ru_buffers.specs.Calls.{HasGivenPast, StandsFor};
 use crate::pending::Pending;
 use crate::rules::{Rules, Run, rules_of, wait_in};
 use crate::sending::send_message;
+use air_source::{Link, RePlace, Samples};
 use bfp_codec::Wide;
 use fh_base::NoMemory;
 use ru_buffers::Ru;
 use std::alloc::Global;
-use uplink_model::air_source::{Link, RePlace, Samples};
-use uplink_model::unit_model::UplinkJob;
+use unit_model::UplinkJob;
 use window_config::{Config, EndpointConfig};
 
 /// What sends a radio unit's uplink frames (O-RAN.WG4.CUS, U-plane messages of the uplink and the window Ta3; how sections are packed

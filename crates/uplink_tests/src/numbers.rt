@@ -11,10 +11,10 @@ use bfp_codec::Wide;
 use eaxc_map::Widths;
 use fh_base::{List, NoMemory};
 use fh_time::Numerology;
+use ru_buffers::Ru;
 use std::alloc::Global;
 use std::test::Fail;
 use uplink_path::Uplink;
-use uplink_path::ru_buffers::Ru;
 use window_config::Config;
 
 /// An uplink command for the 14 symbols of frame 1's first slot: section k of PRB k, for k up to 21.

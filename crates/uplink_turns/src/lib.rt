@@ -10,4 +10,3 @@ pub use laws::{
     given_in_turn, handed_over_in_turn, jobs_go_on, leaving_is_settled, messages_go_on,
     sent_in_turn,
 };
-pub use replay_events;

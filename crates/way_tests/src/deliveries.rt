@@ -1,7 +1,7 @@
 // The copies of frames of documents, worked out by hand.
 use air_source::Side;
+use fh_document::{Class3, read};
 use frame_deliveries::FrameDeliveries;
-use frame_deliveries::fh_document::{Class3, read};
 use std::test::Fail;
 
 #[test]

@@ -3,7 +3,7 @@ use crate::built::{mark_of, marked};
 use air_source::Side;
 use fh_base::NoMemory;
 use fh_time::Ticks;
-use send_queue::frame_network::{Arrival, ArrivalKey, Network};
+use frame_network::{Arrival, ArrivalKey, Network};
 use std::alloc::Global;
 use std::test::Fail;
 

@@ -1,6 +1,6 @@
 // Frames in no order of their times, two of them of one time.
 use fh_time::Ticks;
-use send_queue::frame_network::LandingQueue;
+use frame_network::LandingQueue;
 use std::test::Fail;
 
 #[test]

@@ -4,11 +4,11 @@ ghost use Rattle.std.specs.Prelude.{◌≡◌, pos};
 ghost use Rattle.delay_measure.specs.Kept.{answer_at};
 
 use crate::built::answer;
+use delay_exchange::{DelayResult, UnitMeter};
 use delay_measure::{Edge, Kind};
 use fault_counters::Counter;
 use fh_base::NoMemory;
 use fh_time::Ticks;
-use measured_moments::delay_exchange::{DelayResult, UnitMeter};
 
 /// The Request of id 7, sent at 999,900 ns with 100 ns of compensation: header, id and action, seconds, nanoseconds, compensation.
 const REQUEST: [u8; 24] = [

@@ -5,11 +5,11 @@ ghost use Rattle.delay_measure.specs.Kept.{answer_at};
 use crate::built::answer;
 use air_source::Side;
 use delay_measure::{Edge, Kind};
+use fh_document::read;
 use fh_time::{Ticks, of_ns};
-use measured_moments::fh_document::read;
-use measured_moments::frame_ways::Way;
+use frame_network::FramePool;
+use frame_ways::Way;
 use measured_moments::{Meters, send_made};
-use send_queue::frame_network::FramePool;
 use std::test::Fail;
 
 /// The distributed unit's measurement begins first, though its line is the second.

@@ -1,6 +1,6 @@
 // Frames in memory that was given back.
 use fh_base::NoMemory;
-use send_queue::frame_network::FramePool;
+use frame_network::FramePool;
 
 #[test]
 fn a_frame_has_its_own_bytes(rt: HostRuntime) -> Result<(), NoMemory> {

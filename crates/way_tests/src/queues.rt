@@ -5,7 +5,7 @@ use crate::built::mark_of;
 use air_source::Link;
 use fh_base::NoMemory;
 use fh_time::Ticks;
-use send_queue::frame_network::FramePool;
+use frame_network::FramePool;
 use send_queue::{Outbox, SendQueue};
 use std::test::Fail;
 

@@ -6,10 +6,10 @@ ghost use Rattle.measured_moments.specs.frame_ways.specs.Ways.{document_of};
 use crate::built::{mark_of, marked};
 use air_source::Side;
 use fh_base::NoMemory;
+use fh_document::{Class3, Document, read};
 use fh_time::{Ticks, of_ns};
-use measured_moments::fh_document::{Class3, Document, read};
-use measured_moments::frame_ways::{Way, earlier_of};
-use send_queue::frame_network::FramePool;
+use frame_network::FramePool;
+use frame_ways::{Way, earlier_of};
 use std::alloc::Global;
 use std::test::Fail;
 

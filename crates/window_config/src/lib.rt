@@ -17,7 +17,6 @@ mod verdicts;
 mod windows;
 
 pub use arrivals::{class, class_up};
-pub use bfp_codec;
 pub use config::{Config, LEAST_FRAGMENT, MESSAGE_SECTIONS, MOST_FRAGMENT};
 pub use delays::{Delays, MOST_DELAY, Range};
 pub use endpoints::{EndpointConfig, EndpointList, ListFull};

@@ -9,6 +9,4 @@ mod fit_texts;
 mod window_texts;
 
 pub use fit_texts::put_fit;
-pub use window_config;
-pub use window_plan;
 pub use window_texts::put_windows;

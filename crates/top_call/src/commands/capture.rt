@@ -10,10 +10,10 @@ ghost use Rattle.top_call.specs.Run.{Performs};
 
 use crate::endings::{text_status, unplanned_status, unread_status};
 use crate::status::Status;
+use du_scheduler::Plan;
 use fh_base::Sink;
-use fronthaul_replay::du_scheduler::Plan;
+use fh_document::{Document, read};
 use fronthaul_replay::{capture_document, check_plan};
-use pcap_lines::fh_document::{Document, read};
 use std::alloc::Global;
 
 /// Reads a document and writes its capture.

@@ -8,11 +8,11 @@ ghost use Rattle.top_call.specs.Run.{Performs};
 use crate::endings::{ending_of, unread_status};
 use crate::status::Status;
 use fh_base::Sink;
-use pcap_lines::fh_document::read;
+use fh_document::read;
 use std::alloc::Global;
+use window_config::Delays;
 use window_lines::put_fit;
-use window_lines::window_config::Delays;
-use window_lines::window_plan::fit;
+use window_plan::fit;
 
 /// Reads a document and writes what breaks its windows, and the greatest that fit.
 pub(crate) fn write_fit<K: Sink>(alloc: Global, bytes: &[u8], out: &mut K) -> Status

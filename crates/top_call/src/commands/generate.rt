@@ -6,7 +6,7 @@ ghost use Rattle.top_call.specs.Run.{Performs};
 use crate::endings::ending_of;
 use crate::status::Status;
 use fh_base::{NoMemory, Sink, write_all_to};
-use pcap_lines::fh_document::write;
+use fh_document::write;
 use std::alloc::Global;
 
 /// Writes the document that is generated of a seed and a number of slots. Nothing is read.

@@ -5,7 +5,7 @@ ghost use Rattle.top_call.specs.Run.{Performs};
 
 use crate::endings::ending_of;
 use crate::status::Status;
-use command_words::air_source::Side;
+use air_source::Side;
 use fh_base::Sink;
 use pcap_frames::check;
 use pcap_lines::{capture_bytes, inject_text};

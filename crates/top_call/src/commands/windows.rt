@@ -9,10 +9,10 @@ ghost use Rattle.top_call.specs.Run.{Performs};
 use crate::endings::{ending_of, unread_status};
 use crate::status::Status;
 use fh_base::Sink;
-use pcap_lines::fh_document::read;
+use fh_document::read;
 use std::alloc::Global;
+use window_config::{Config, Delays, check};
 use window_lines::put_windows;
-use window_lines::window_config::{Config, Delays, check};
 
 /// Reads a document and writes its windows, its rings and its check.
 pub(crate) fn write_windows<K: Sink>(alloc: Global, bytes: &[u8], out: &mut K) -> Status
