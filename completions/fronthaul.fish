@@ -10,4 +10,5 @@ complete -c fronthaul -n __fish_use_subcommand -a fit -d 'what breaks the window
 complete -c fronthaul -n __fish_use_subcommand -a generate -d 'a document of its own, of a seed and a number of slots'
 complete -c fronthaul -n __fish_use_subcommand -a pcap -d 'the eCPRI frames of a pcap file as lines of a document'
 complete -c fronthaul -n __fish_use_subcommand -a pcap-capture -d 'the eCPRI frames of a pcap file as a capture'
+complete -c fronthaul -n __fish_use_subcommand -a prove -d 'prove and build the program (the launcher)'
 complete -c fronthaul -n '__fish_seen_subcommand_from pcap pcap-capture' -a 'dl ul'
