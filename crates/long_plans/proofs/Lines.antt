@@ -1,21 +1,21 @@
 -- The lines of a long plan, none of which is refused.
-use Rattle.std.proofs.Common.{◌≡◌, ℕ, ℤ, pos, zero, suc, ◌+◌, ◌<ℤ◌, inl, inr, Bool, false, ◌||◌, ◌==◌, if◌then◌else◌, List, [], ◌∷◌, Option, Some, None, refl, ap, sym, ◌∙◌, subst, arith}
-use Rattle.std.specs.List.{list_any}
+use Rattle.std.proofs.Common.{◌≡◌, ℕ, ℤ, pos, zero, suc, ◌+◌, ◌<ℤ◌, inl, inr, Bool, false, ◌==◌, if◌then◌else◌, List, [], ◌∷◌, Option, Some, None, refl, ap, sym, ◌∙◌, subst, arith}
 use Rattle.std.proofs.lemmas.Bool.{cases_Bool, and_parts}
 use Rattle.std.proofs.lemmas.Int.{ints}
 use Rattle.fh_time.specs.declared.values.Slot.{Slot}
 use Rattle.fragment_laws.specs.Apart.{IsIn}
-use Rattle.sent_laws.specs.unit_model.specs.Claims.{same_slot, same_way}
-use Rattle.sent_laws.specs.unit_model.specs.Commands.{is_full}
-use Rattle.sent_laws.specs.unit_model.specs.declared.allocations.Allocation.{Allocation}
-use Rattle.sent_laws.specs.plan_model.specs.Examples.{usual}
-use Rattle.sent_laws.specs.plan_model.specs.Lines.{line_allocation, planned_from}
-use Rattle.sent_laws.specs.plan_model.specs.Validity.{clash, refused_at, refused_from, share_cell}
-use Rattle.sent_laws.specs.plan_model.specs.declared.lines.PlannedLine.{PlannedLine}
-use Rattle.sent_laws.specs.plan_model.specs.declared.refusals.PlanWhy.{PlanWhy}
-use Rattle.sent_laws.specs.plan_model.specs.declared.refusals.PlanWhy.TheVariants.{Overlap, TooManySections}
+use Rattle.unit_model.specs.Claims.{same_slot, same_way}
+use Rattle.unit_model.specs.Commands.{is_full}
+use Rattle.unit_model.specs.declared.allocations.Allocation.{Allocation}
+use Rattle.plan_model.specs.Examples.{usual}
+use Rattle.plan_model.specs.Lines.{line_allocation, planned_from}
+use Rattle.plan_model.specs.Validity.{clash, refused_at, refused_from, share_cell}
+use Rattle.plan_model.specs.declared.lines.PlannedLine.{PlannedLine}
+use Rattle.plan_model.specs.declared.refusals.PlanWhy.{PlanWhy}
+use Rattle.plan_model.specs.declared.refusals.PlanWhy.TheVariants.{Overlap, TooManySections}
+use Rattle.generated_plans.proofs.Lines.{none_any}
 use Rattle.long_plans.specs.Lines.{frame_line, frame_lines}
-use Rattle.sent_laws.specs.unit_model.proofs.ClaimLemmas.{same_slot_is as slots_equal}
+use Rattle.unit_model.proofs.ClaimLemmas.{same_slot_is as slots_equal}
 use Rattle.fh_time.proofs.Orders.{more_differ as other_frame}
 
 -- the line of a frame at the endpoint
@@ -32,10 +32,6 @@ planned_is i frame zero = refl
 planned_is i frame (suc n) = ap (λ (ps : List PlannedLine). line_at i frame ∷ ps) (planned_is (i + 1) (frame + 1) n)
 
 -- ---- none is refused
-
-pub none_any : {X : Type 0} (p : X → Bool) (xs : List X) → ((x : X) → IsIn x xs → p x ≡ false) → list_any p xs ≡ false
-none_any p [] h = refl
-none_any p (x ∷ xs) h = ap (λ (b : Bool). b || list_any p xs) (h x (inl refl)) ∙ none_any p xs (λ y i. h y (inr i))
 
 no_clash : (i frame : ℕ) (a : Allocation) → a.slot.frame <ℤ pos frame → clash (line_allocation (line_at i frame)) a ≡ false
 no_clash i frame a h = elim (cases_Bool (clash (line_allocation (line_at i frame)) a)) [

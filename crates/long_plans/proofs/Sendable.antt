@@ -15,8 +15,8 @@ use Rattle.window_config.specs.Relations.{PassesCheck}
 use Rattle.window_config.specs.declared.endpoints.EndpointConfig.{EndpointConfig}
 use Rattle.window_config.specs.declared.plan.PlanLine.{PlanLine}
 use Rattle.window_config.proofs.Usual.{usual_within}
-use Rattle.sent_laws.specs.unit_model.specs.Proper.{IsAt}
-use Rattle.sent_laws.specs.plan_model.specs.Examples.{usual}
+use Rattle.unit_model.specs.Proper.{IsAt}
+use Rattle.plan_model.specs.Examples.{usual}
 use Rattle.sent_laws.specs.Sent.{IsSendable}
 use Rattle.sent_laws.proofs.RadiatedLemmas.{least_come}
 use Rattle.long_plans.specs.Lines.{frame_line, frame_lines, long_config}

@@ -1,21 +1,16 @@
--- All parts of a long plan, in their order, and none for the uplink.
-use Rattle.std.proofs.Common.{◌≡◌, ℕ, ℤ, pos, zero, suc, ◌+◌, ◌<◌, ◌≤◌, ◌+ℤ◌, ◌≤ℤ◌, ◌<ℤ◌, inl, inr, List, [], ◌∷◌, ◌++◌, map, refl, ap, ap₂, ◌∙◌, arith}
-use Rattle.std.specs.Prelude.{filter}
+-- All parts of a long plan, in their order.
+use Rattle.std.proofs.Common.{◌≡◌, ℕ, ℤ, pos, zero, suc, ◌+◌, ◌<◌, ◌≤◌, ◌+ℤ◌, ◌≤ℤ◌, ◌<ℤ◌, inl, inr, List, [], ◌∷◌, ◌++◌, refl, ap, ap₂, ◌∙◌, arith}
 use Rattle.std.specs.Int.{int_gap}
 use Rattle.std.proofs.lemmas.Bool.{cases_lt}
 use Rattle.std.proofs.lemmas.Int.{ints}
-use Rattle.fh_time.specs.declared.values.Slot.{Slot}
-use Rattle.sent_laws.specs.unit_model.specs.Lists.{each_tick, in_order}
-use Rattle.sent_laws.specs.unit_model.specs.Radiated.{first_clock}
-use Rattle.sent_laws.specs.unit_model.specs.Sweeps.{of_endpoint}
-use Rattle.sent_laws.specs.unit_model.specs.Times.{end_of_time}
-use Rattle.sent_laws.specs.unit_model.proofs.SweepLaws.{gap_is, gap_parts, ticks_none, ticks_split}
-use Rattle.sent_laws.specs.unit_laws.proofs.SweepLemmas.{none_kept, of_endpoint_related}
-use Rattle.sent_laws.specs.plan_model.specs.Examples.{usual}
-use Rattle.sent_laws.specs.plan_model.specs.Lines.{line_allocation}
-use Rattle.sent_laws.specs.plan_model.specs.Streams.{Part, has_part, line_before, part_in, parts_in, symbol_parts}
-use Rattle.sent_laws.specs.plan_model.specs.declared.lines.PlannedLine.{PlannedLine}
-use Rattle.sent_laws.specs.plan_model.specs.declared.streams.Stream.TheVariants.{DownData, UpData}
+use Rattle.unit_model.specs.Lists.{each_tick}
+use Rattle.unit_model.specs.Radiated.{first_clock}
+use Rattle.unit_model.specs.Sweeps.{of_endpoint}
+use Rattle.unit_model.specs.Times.{end_of_time}
+use Rattle.unit_model.proofs.SweepLaws.{gap_is, gap_parts, ticks_none, ticks_split}
+use Rattle.plan_model.specs.Examples.{usual}
+use Rattle.plan_model.specs.Streams.{Part, part_in, parts_in}
+use Rattle.plan_model.specs.declared.streams.Stream.TheVariants.{DownData}
 use Rattle.long_plans.proofs.Lines.{line_at, lines_from}
 use Rattle.long_plans.proofs.Parts.{part_at, quiet, start, told}
 use Rattle.window_config.specs.declared.plan.TheConstants.{LAST_FRAME}
@@ -71,21 +66,3 @@ module _ (total : ℕ) where
   pub parts_are : total ≤ LAST_FRAME → parts_in (lines_from 0 1 total) DownData 0 usual ≡ parts_from 0 1 total
   unfolding parts_in
   parts_are few = all_parts first_clock (end_of_time +ℤ pos 1) 0 1 total refl refl (omega (arith, ints)) none_before (λ k below. in_time k few below)
-
--- ---- the uplink
-
-none_sent : (slot : Slot) (symbol i frame n : ℕ) → filter (λ (p : PlannedLine). has_part UpData 0 slot symbol (line_allocation p)) (lines_from i frame n) ≡ []
-unfolding lines_from
-none_sent slot symbol i frame zero = refl
-none_sent slot symbol i frame (suc n) = none_sent slot symbol (i + 1) (frame + 1) n
-
-none_up : (total : ℕ) (slot : Slot) (symbol : ℕ) → symbol_parts UpData (lines_from 0 1 total) 0 slot symbol ≡ []
-unfolding symbol_parts in_order
-none_up total slot symbol = ap (λ (ps : List PlannedLine). map (part_in symbol) (in_order line_before ps)) (none_sent slot symbol 0 1 total)
-
-pub no_parts_up : (total : ℕ) → parts_in (lines_from 0 1 total) UpData 0 usual ≡ []
-unfolding parts_in
-no_parts_up total =
-    ticks_none first_clock (int_gap first_clock (end_of_time +ℤ pos 1)) (of_endpoint (symbol_parts UpData (lines_from 0 1 total) 0) usual) (λ t a b.
-    of_endpoint_related (λ xs ys. xs ≡ []) none_kept (symbol_parts UpData (lines_from 0 1 total) 0) (symbol_parts UpData (lines_from 0 1 total) 0) usual t (λ slot symbol low high is_slot is_symbol air.
-    none_up total slot symbol))

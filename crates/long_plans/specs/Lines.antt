@@ -3,11 +3,11 @@ use Rattle.std.specs.Prelude.{◌≡◌, ℕ, zero, suc, pos, ◌+◌, ◌≤◌
 use Rattle.window_config.specs.declared.config.Config.{Config}
 use Rattle.window_config.specs.declared.plan.PlanKind.TheVariants.{Down}
 use Rattle.window_config.specs.declared.plan.PlanLine.{PlanLine}
-use Rattle.sent_laws.specs.plan_model.specs.Examples.{config_with, usual}
-use Rattle.sent_laws.specs.plan_model.specs.Lines.{planned}
-use Rattle.sent_laws.specs.plan_model.specs.Streams.{messages_of}
-use Rattle.sent_laws.specs.plan_model.specs.Valid.{IsValid}
-use Rattle.sent_laws.specs.plan_model.specs.declared.streams.Stream.TheVariants.{DownData}
+use Rattle.plan_model.specs.Examples.{config_with, usual}
+use Rattle.plan_model.specs.Lines.{planned}
+use Rattle.plan_model.specs.Streams.{messages_of}
+use Rattle.plan_model.specs.Valid.{IsValid}
+use Rattle.plan_model.specs.declared.streams.Stream.TheVariants.{DownData}
 use Rattle.window_config.specs.declared.plan.TheConstants.{LAST_FRAME}
 
 -- one endpoint of 30 kHz, one section a message

@@ -2,10 +2,10 @@
 use Rattle.std.specs.Prelude.{ℕ, zero, suc, ◌≤◌, List, [], ◌∷◌}
 use Rattle.bfp_codec.specs.Samples.{no_iq}
 use Rattle.bfp_codec.specs.declared.samples.Iq.{Iq}
-use Rattle.sent_laws.specs.plan_model.specs.Lines.{planned}
-use Rattle.sent_laws.specs.schedule_laws.specs.Least.{with_least_delay}
-use Rattle.sent_laws.specs.sent_frames.specs.Frames.{sent_bytes}
-use Rattle.sent_laws.specs.sent_frames.specs.Messages.{Source}
+use Rattle.plan_model.specs.Lines.{planned}
+use Rattle.schedule_laws.specs.Least.{with_least_delay}
+use Rattle.sent_frames.specs.Frames.{sent_bytes}
+use Rattle.sent_frames.specs.Messages.{Source}
 use Rattle.sent_laws.specs.Radiated.{CopiesArrive}
 use Rattle.sent_laws.specs.Sent.{IsSendable}
 use Rattle.long_plans.specs.Lines.{frame_lines, long_config}
