@@ -1,4 +1,4 @@
-// Reports: exact texts, and fronts of them.
+// Reports and their count lines: exact texts, and fronts of them.
 ghost use Rattle.std.specs.Prelude.{◌≡◌, OnOk, map};
 ghost use Rattle.std.specs.Io.KnownBytes.{append_known};
 ghost use Rattle.owed_bytes.specs.fh_base.specs.Told.{WritesFront};
@@ -13,7 +13,7 @@ use fault_counters::Counter;
 use fh_base::{MemorySink, PlainSink, Sink};
 use fh_time::Ticks;
 use std::test::Fail;
-use text_air::TextAir;
+use text_air::{CountAir, TextAir};
 
 /// Writes the report of some cells, which shows how a caller makes, tells and finishes the air.
 fn write_cells<K: Sink>(cells: &[AirCell], out: &mut K) -> Result<(), AirFault>
@@ -45,6 +45,8 @@ count du unknown_endpoint 0
 end
 ";
 
+const COUNTS: &[u8] = b"count ru frames 2\ncount du unknown_endpoint 0\nend\n";
+
 #[test]
 fn each_kind_of_event_has_its_line(rt: HostRuntime) -> Result<(), Fail> {
     let mut sink = PlainSink::new(rt.alloc());
@@ -52,6 +54,27 @@ fn each_kind_of_event_has_its_line(rt: HostRuntime) -> Result<(), Fail> {
     assert_eq!(rt; tell_some(&mut air), Ok(()));
     assert_eq!(rt; air.finish(), Ok(()));
     assert_eq!(rt; sink.bytes(), SOME);
+    Ok(())
+}
+
+/// Of the same events the count lines alone.
+#[test]
+fn counters_alone_have_count_lines(rt: HostRuntime) -> Result<(), Fail> {
+    let mut sink = PlainSink::new(rt.alloc());
+    let mut air = CountAir::new(&mut sink);
+    assert_eq!(rt; tell_some(&mut air), Ok(()));
+    assert_eq!(rt; air.finish(), Ok(()));
+    assert_eq!(rt; sink.bytes(), COUNTS);
+    Ok(())
+}
+
+#[test]
+fn a_failing_sink_holds_a_front_of_the_count_lines(rt: HostRuntime) -> Result<(), Fail> {
+    let mut sink = MemorySink::new(rt.alloc(), 1, calls(rt.alloc(), &[9])?);
+    let mut air = CountAir::new(&mut sink);
+    assert_eq!(rt; tell_some(&mut air), Ok(()));
+    assert_eq!(rt; air.finish(), Err(AirFault::Failed));
+    assert_eq!(rt; sink.bytes(), &COUNTS[..8]);
     Ok(())
 }
 

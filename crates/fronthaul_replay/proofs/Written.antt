@@ -1,5 +1,6 @@
--- What an air over text wrote of a document's report.
-use Rattle.std.proofs.Common.{◌≡◌, ℕ, List, [], ◌++◌, Option}
+-- What an air over text wrote of a document's events.
+use Rattle.std.proofs.Common.{◌≡◌, ◌∙◌, ℕ, List, [], ◌++◌, Option, refl, sym, ap, subst}
+use Rattle.std.specs.List.{flat_map}
 use Rattle.std.specs.Io.KnownBytes.{append_known}
 use Rattle.fh_base.specs.Told.{WritesFront}
 use Rattle.capture_air.specs.air_source.specs.declared.airs.AirFault.{AirFault}
@@ -8,36 +9,53 @@ use Rattle.capture_air.specs.air_source.specs.declared.events.Event.{Event}
 use Rattle.intake_moments.specs.fh_document.specs.declared.document.Document.{Document}
 use Rattle.capture_air.specs.owed_bytes.specs.Owed.{Carried}
 use Rattle.capture_air.specs.air_sinks.specs.Stopping.{Halted}
-use Rattle.text_air.specs.Text.{event_text, events_text, end_text}
+use Rattle.text_air.specs.Counts.{counter_text}
+use Rattle.text_air.specs.Text.{end_text, event_text}
 use Rattle.text_air.proofs.Texts.{cut_front, finish_front, finished, front_of_whole, stops_front}
 use Rattle.fronthaul_replay.specs.declared.report.TextFault.{TextFault}
 use Rattle.fronthaul_replay.specs.declared.report.TextFault.TheVariants.{WriteFault, NoMemory}
 use Rattle.fronthaul_replay.specs.Cut.{CutBy}
 use Rattle.fronthaul_replay.specs.Replaying.{events_of}
-use Rattle.fronthaul_replay.specs.Reports.{document_report}
+use Rattle.fronthaul_replay.specs.Reports.{document_counts, document_report}
 
--- where a fresh air heard the events, and then wrote what it owed and the last line, it wrote the report
-pub whole_report : (d : Document) (written : Option (List ℕ)) (owed : List ℕ) (middle : Option (List ℕ)) (owed_now : List ℕ) (now : Option (List ℕ))
-    → owed ≡ [] → Carried written owed (events_text (events_of d)) middle owed_now → now ≡ append_known middle (owed_now ++ end_text) → now ≡ append_known written (document_report d)
+-- a text of a document, by the text of each event
+abbrev IsText : (Event → List ℕ) → (Document → List ℕ) → Type 0
+IsText text_of text = (d : Document) → text d ≡ flat_map text_of (events_of d) ++ end_text
+
+pub report_is : IsText event_text document_report
 unfolding document_report
-whole_report d written owed middle owed_now now fresh h whole = finished written owed (events_of d) middle owed_now now fresh h whole
+report_is d = refl
 
--- where it wrote a front of what it owed and of the last line, it wrote a front of the report
-pub heard_front : (d : Document) (written : Option (List ℕ)) (owed : List ℕ) (middle : Option (List ℕ)) (owed_now : List ℕ) (now : Option (List ℕ))
-    → owed ≡ [] → Carried written owed (events_text (events_of d)) middle owed_now → WritesFront middle now (owed_now ++ end_text) → WritesFront written now (document_report d)
-unfolding document_report
-heard_front d written owed middle owed_now now fresh h front = finish_front written owed (events_of d) middle owed_now now fresh h front
+pub counts_are : IsText counter_text document_counts
+unfolding document_counts
+counts_are d = refl
 
-module _ {A : Type 0} (written : A → Option (List ℕ)) (faults refusals : A → ℕ) (owed : A → List ℕ) (d : Document) (old new : A) where
-  -- what an air over text heard, and how it stopped
-  abbrev ReportGrew : A → List Event → A → Type 0
-  ReportGrew a es b = Carried (written a) (owed a) (events_text es) (written b) (owed b)
+module _ (text_of : Event → List ℕ) (text : Document → List ℕ) (text_is : IsText text_of text) (d : Document) where
+  -- where a fresh air heard the events, and then wrote what it owed and the last line, it wrote the text
+  pub heard_whole : (written : Option (List ℕ)) (owed : List ℕ) (middle : Option (List ℕ)) (owed_now : List ℕ) (now : Option (List ℕ))
+      → owed ≡ [] → Carried written owed (flat_map text_of (events_of d)) middle owed_now → now ≡ append_known middle (owed_now ++ end_text) → now ≡ append_known written (text d)
+  heard_whole written owed middle owed_now now fresh h whole = finished text_of written owed (events_of d) middle owed_now now fresh h whole ∙ ap (append_known written) (sym (text_is d))
 
-  abbrev ReportStopped : AirFault → A → Event → A → Type 0
-  ReportStopped fault a e b = Halted fault (written a) (faults a) (refusals a) (owed a) (event_text e) (written b) (faults b) (refusals b)
+  -- where it wrote a front of what it owed and of the last line, it wrote a front of the text
+  pub heard_front : (written : Option (List ℕ)) (owed : List ℕ) (middle : Option (List ℕ)) (owed_now : List ℕ) (now : Option (List ℕ))
+      → owed ≡ [] → Carried written owed (flat_map text_of (events_of d)) middle owed_now → WritesFront middle now (owed_now ++ end_text) → WritesFront written now (text d)
+  heard_front written owed middle owed_now now fresh h front =
+      subst (λ (t : List ℕ). WritesFront written now t) (sym (text_is d)) (finish_front text_of written owed (events_of d) middle owed_now now fresh h front)
 
-  -- where it owed nothing, it wrote a front of the report
-  pub report_cut : (f : TextFault) → owed old ≡ [] → CutBy f ReportGrew ReportStopped (events_of d) old new → WritesFront (written old) (written new) (document_report d)
-  unfolding document_report
-  report_cut WriteFault fresh cut = front_of_whole (written old) (written new) (events_of d) (stops_front Failed written faults refusals owed (events_of d) old new fresh cut)
-  report_cut NoMemory fresh cut = front_of_whole (written old) (written new) (events_of d) (cut_front WantsMemory written faults refusals owed (events_of d) old new fresh cut)
+  module _ {A : Type 0} (written : A → Option (List ℕ)) (faults refusals : A → ℕ) (owed : A → List ℕ) (old new : A) where
+    -- what an air over text heard, and how it stopped
+    abbrev TextGrew : A → List Event → A → Type 0
+    TextGrew a es b = Carried (written a) (owed a) (flat_map text_of es) (written b) (owed b)
+
+    abbrev TextStopped : AirFault → A → Event → A → Type 0
+    TextStopped fault a e b = Halted fault (written a) (faults a) (refusals a) (owed a) (text_of e) (written b) (faults b) (refusals b)
+
+    abbrev OfWhole : List ℕ → Type 0
+    OfWhole t = WritesFront (written old) (written new) t
+
+    -- where it owed nothing, it wrote a front of the text
+    pub cut_text : (f : TextFault) → owed old ≡ [] → CutBy f TextGrew TextStopped (events_of d) old new → WritesFront (written old) (written new) (text d)
+    cut_text WriteFault fresh cut =
+        subst OfWhole (sym (text_is d)) (front_of_whole text_of (written old) (written new) (events_of d) (stops_front text_of Failed written faults refusals owed (events_of d) old new fresh cut))
+    cut_text NoMemory fresh cut =
+        subst OfWhole (sym (text_is d)) (front_of_whole text_of (written old) (written new) (events_of d) (cut_front text_of WantsMemory written faults refusals owed (events_of d) old new fresh cut))

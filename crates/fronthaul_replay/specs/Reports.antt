@@ -4,11 +4,16 @@ use Rattle.intake_moments.specs.fh_document.specs.declared.document.Document.{Do
 use Rattle.fronthaul_replay.specs.Replaying.{events_of}
 use Rattle.capture_air.specs.Capture.{whole_capture}
 use Rattle.sum_air.specs.Summary.{whole_summary}
+use Rattle.text_air.specs.Counts.{whole_counts}
 use Rattle.text_air.specs.Text.{whole_text}
 
 -- the report of a document: the lines of its events, and `end`
 unfoldable pub document_report : Document → List ℕ
 document_report d = whole_text (events_of d)
+
+-- the count lines of that report, and `end`
+unfoldable pub document_counts : Document → List ℕ
+document_counts d = whole_counts (events_of d)
 
 -- the summary of a document: a line for each run of cells, the delays, the counters, and `end`
 unfoldable pub summary_of : Document → List ℕ

@@ -3,7 +3,7 @@
 //!
 //! The events are defined over complete lists of arrivals (`replay_events`); [`replay`] lets the radio unit of `ru_buffers` and the
 //! intake of `du_intake` come to them moment by moment (`radio_moments`, `intake_moments`), and keeps no list of what arrived.
-//! [`report_document`], [`summarize_document`] and [`capture_document`] make the units, and an air writes as the events come. So the
+//! [`report_document`], [`count_document`], [`summarize_document`] and [`capture_document`] make the units, and an air writes as the events come. So the
 //! memory is that of the units, of the frames on their way and of the document, whatever the units make of the frames.
 #![tactic(auto)]
 
@@ -22,6 +22,6 @@ pub use capture::capture_document;
 pub use planning::check_plan;
 pub use replaying::intake_of;
 pub use replays::{ReplayFault, replay};
-pub use report::{TextFault, report_document};
+pub use report::{TextFault, count_document, report_document};
 pub use summary::summarize_document;
 pub use text_air::TextAir;

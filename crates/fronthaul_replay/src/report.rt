@@ -1,4 +1,4 @@
-// The report of a document, written.
+// The report of a document, written, and its count lines alone.
 ghost use Rattle.std.specs.Prelude.{◌≡◌, ◌≤◌, OnOk};
 ghost use Rattle.std.specs.Io.KnownBytes.{append_known};
 ghost use Rattle.fh_base.specs.Told.{WritesFront};
@@ -8,7 +8,7 @@ ghost use Rattle.intake_moments.specs.fh_document.specs.Proper.{IsDocument};
 ghost use Rattle.fronthaul_replay.specs.Faults.{replay_fault, text_fault};
 ghost use Rattle.fronthaul_replay.specs.Laws.{IsSound};
 ghost use Rattle.fronthaul_replay.specs.Replay.{HasWriteCause};
-ghost use Rattle.fronthaul_replay.specs.Reports.{document_report};
+ghost use Rattle.fronthaul_replay.specs.Reports.{document_counts, document_report};
 ghost use Rattle.fronthaul_replay.specs.declared.report.TextFault.TheVariants.{NoMemory as TextNoMemory};
 
 use crate::replaying::replay_to;
@@ -18,7 +18,7 @@ use du_scheduler::Plan;
 use fh_base::{NoMemory, Sink};
 use fh_document::Document;
 use std::alloc::Global;
-use text_air::TextAir;
+use text_air::{CountAir, TextAir};
 use thiserror::Error;
 
 /// Why the text of a document was not written whole.
@@ -82,6 +82,32 @@ pub fn report_document<K: Sink>(
     ensures sound { OnOk result (IsSound document.now) }
 {
     let mut air = TextAir::new(out);
+    replay_to(alloc, document, plan, &mut air)?;
+    air.finish().map_err(TextFault::from)
+}
+
+/// Writes the count lines of a document's report, the counters of both units that are not at 0, and `end`.
+///
+/// At Ok exactly these were appended to what `out` holds; whatever the answer, a front part of them was.
+///
+/// # Errors
+///
+/// As those of [`report_document`].
+pub fn count_document<K: Sink>(
+    alloc: Global,
+    document: &Document,
+    plan: Plan,
+    out: &mut K,
+) -> Result<(), TextFault>
+    requires document { IsDocument document.now }
+    requires plan { HasToSend document.now.config document.now.plan (sent_for document.now) plan }
+    ensures front { WritesFront (K.written out.old) (K.written out.new) (document_counts document.now) }
+    ensures done { OnOk result (K.written out.new ≡ append_known (K.written out.old) (document_counts document.now)) }
+    ensures cause { HasWriteCause (K.faults out.old) (K.faults out.new) result }
+    ensures later { K.faults out.old ≤ K.faults out.new }
+    ensures sound { OnOk result (IsSound document.now) }
+{
+    let mut air = CountAir::new(out);
     replay_to(alloc, document, plan, &mut air)?;
     air.finish().map_err(TextFault::from)
 }

@@ -1,7 +1,9 @@
-// The summary and the capture of documents, known from outside: by the standard's fields, and by hand.
+// The summary, the count lines and the capture of documents, known from outside: by the standard's fields, and by hand.
 use fh_base::{List, MemorySink, PlainSink};
 use fh_document::read;
-use fronthaul_replay::{TextFault, capture_document, check_plan, summarize_document};
+use fronthaul_replay::{
+    TextFault, capture_document, check_plan, count_document, summarize_document,
+};
 use std::test::Fail;
 
 /// A command and its data, both on time.
@@ -10,6 +12,15 @@ const ORDINARY: &[u8] =
 
 const SUMMARY: &[u8] = b"sum dl 15360000000 0000 1 0 0 0 12 66 -66 0
 count ru frames 2
+count ru messages 2
+count ru c_accepted 1
+count ru f_whole 1
+count ru u_taken 1
+count ru cells 1
+end
+";
+
+const COUNTS: &[u8] = b"count ru frames 2
 count ru messages 2
 count ru c_accepted 1
 count ru f_whole 1
@@ -40,6 +51,19 @@ fn a_summary_is_written(rt: HostRuntime) -> Result<(), Fail> {
         Ok(())
     );
     assert_eq!(rt; out.bytes(), SUMMARY);
+    Ok(())
+}
+
+#[test]
+fn count_lines_are_written(rt: HostRuntime) -> Result<(), Fail> {
+    let alloc = rt.alloc();
+    let document = read(alloc, ORDINARY)?;
+    let mut out = PlainSink::new(alloc);
+    assert_eq!(rt;
+        count_document(alloc, &document, check_plan(alloc, &document)?, &mut out),
+        Ok(())
+    );
+    assert_eq!(rt; out.bytes(), COUNTS);
     Ok(())
 }
 

@@ -1,18 +1,19 @@
--- The laws of an air that carries text to a sink.
+-- The laws of an air that carries text to a sink, whatever the text of an event.
 use Rattle.std.specs.Prelude.{ℕ, List, [], ◌++◌, Option}
+use Rattle.std.specs.List.{flat_map}
 use Rattle.std.proofs.Common.{sym, subst}
 use Rattle.std.proofs.lemmas.Grind.{flat_map-append}
-use Rattle.report_lines.specs.air_source.specs.declared.events.Event.{Event}
+use Rattle.air_source.specs.declared.events.Event.{Event}
 use Rattle.owed_bytes.specs.Owed.{Carried}
 use Rattle.owed_bytes.specs.CarriedLaws.{carried_none, carried_more}
-use Rattle.text_air.specs.Text.{event_text, events_text}
 
--- the lines of no events are carried by an unchanged air
-pub grew_none : (written : Option (List ℕ)) (owed : List ℕ) → Carried written owed (events_text []) written owed
-grew_none written owed = carried_none written owed
+module _ (text_of : Event → List ℕ) where
+  -- the text of no events is carried by an unchanged air
+  pub grew_none : (written : Option (List ℕ)) (owed : List ℕ) → Carried written owed (flat_map text_of []) written owed
+  grew_none written owed = carried_none written owed
 
--- carrying the lines of one list and then those of another is carrying those of both
-pub grew_more : (a b c : Option (List ℕ)) (o p q : List ℕ) (first second : List Event)
-    → Carried a o (events_text first) b p → Carried b p (events_text second) c q → Carried a o (events_text (first ++ second)) c q
-grew_more a b c o p q first second h k =
-    subst (λ (text : List ℕ). Carried a o text c q) (sym (flat_map-append event_text first second)) (carried_more a b c o p q (events_text first) (events_text second) h k)
+  -- carrying the text of one list and then that of another is carrying that of both
+  pub grew_more : (a b c : Option (List ℕ)) (o p q : List ℕ) (first second : List Event)
+      → Carried a o (flat_map text_of first) b p → Carried b p (flat_map text_of second) c q → Carried a o (flat_map text_of (first ++ second)) c q
+  grew_more a b c o p q first second h k =
+      subst (λ (text : List ℕ). Carried a o text c q) (sym (flat_map-append text_of first second)) (carried_more a b c o p q (flat_map text_of first) (flat_map text_of second) h k)

@@ -102,9 +102,9 @@ impl<'a, K: Sink> Air for TextAir<'a, K> {
 
     ghost same = { λ a b. sink_name b ≡ sink_name a };
 
-    ghost grew_none = { λ a. grew_none (K.written (sink_of a)) (owed_of a) };
+    ghost grew_none = { λ a. grew_none event_text (K.written (sink_of a)) (owed_of a) };
 
-    ghost grew_more = { λ a b c first second. grew_more (K.written (sink_of a)) (K.written (sink_of b)) (K.written (sink_of c)) (owed_of a) (owed_of b) (owed_of c) first second };
+    ghost grew_more = { λ a b c first second. grew_more event_text (K.written (sink_of a)) (K.written (sink_of b)) (K.written (sink_of c)) (owed_of a) (owed_of b) (owed_of c) first second };
 
     ghost same_none = { λ a. refl };
 

@@ -2,6 +2,7 @@ use Rattle.std.proofs.Common.{rules, map}
 use Rattle.std.proofs.lemmas.Result.{on_ok_weaker}
 use Rattle.report_lines.specs.air_source.specs.declared.events.Event.TheVariants.{Cell}
 use Rattle.text_air.specs.Airs.{sink_of, owed_of}
+use Rattle.text_air.specs.Text.{event_text}
 use Rattle.text_air.proofs.Texts.{stops_front, front_of_whole, finish_front, finished}
 use Rattle.air_tests.proofs.texts.write_cells.Goals as goal
 
@@ -11,7 +12,7 @@ returns-in_err-tell_cells-clause-front g c =
     let es = map Cell c.args.cells.now in
     let a = c.new-air.result in
     let b = c.tell_cells.new.air in
-    let front = front_of_whole (w (sink_of a)) (w (sink_of b)) es (stops_front _ (λ a. w (sink_of a)) (λ a. g.K.Sink.faults (sink_of a)) (λ a. g.K.Sink.refusals (sink_of a)) owed_of es a b c.new-air.ensures.owed c.in_err-tell_cells.ensures.stop) in
+    let front = front_of_whole event_text (w (sink_of a)) (w (sink_of b)) es (stops_front event_text _ (λ a. w (sink_of a)) (λ a. g.K.Sink.faults (sink_of a)) (λ a. g.K.Sink.refusals (sink_of a)) owed_of es a b c.new-air.ensures.owed c.in_err-tell_cells.ensures.stop) in
     search (rules, front)
 
 pub returns-clause-all : goal.returns-clause-all
@@ -20,7 +21,7 @@ returns-clause-all g c =
     let es = map Cell c.args.cells.now in
     let a = c.new-air.result in
     let b = c.tell_cells.new.air in
-    let all = on_ok_weaker c.finish.result (λ all. finished (w (sink_of a)) (owed_of a) es (w (sink_of b)) (owed_of b) (w (sink_of c.finish.new.self)) c.new-air.ensures.owed c.in_ok-tell_cells.ensures.heard all) c.finish.ensures.all in
+    let all = on_ok_weaker c.finish.result (λ all. finished event_text (w (sink_of a)) (owed_of a) es (w (sink_of b)) (owed_of b) (w (sink_of c.finish.new.self)) c.new-air.ensures.owed c.in_ok-tell_cells.ensures.heard all) c.finish.ensures.all in
     search (rules, all)
 
 pub returns-clause-front : goal.returns-clause-front
@@ -29,5 +30,5 @@ returns-clause-front g c =
     let es = map Cell c.args.cells.now in
     let a = c.new-air.result in
     let b = c.tell_cells.new.air in
-    let front = finish_front (w (sink_of a)) (owed_of a) es (w (sink_of b)) (owed_of b) (w (sink_of c.finish.new.self)) c.new-air.ensures.owed c.in_ok-tell_cells.ensures.heard c.finish.ensures.front in
+    let front = finish_front event_text (w (sink_of a)) (owed_of a) es (w (sink_of b)) (owed_of b) (w (sink_of c.finish.new.self)) c.new-air.ensures.owed c.in_ok-tell_cells.ensures.heard c.finish.ensures.front in
     search (rules, front)
