@@ -1,4 +1,5 @@
 pub mod Walks
 pub mod Parses
 pub mod Plain
+pub mod Limits
 pub mod Readings

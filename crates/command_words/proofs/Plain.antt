@@ -12,7 +12,7 @@ use Rattle.air_source.specs.declared.events.Side.TheVariants.{Ru, Du}
 use Rattle.text_lines.specs.Numbers.{number_in, is_decimal, word_at}
 use Rattle.command_words.specs.Words.{bare_command, command_with_one, command_with_two, command_of, with_both, seed_in, slots_in, start_in, way_in}
 use Rattle.command_words.specs.declared.commands.Command.{Command}
-use Rattle.command_words.specs.declared.commands.Command.TheVariants.{Replay, Summary, Capture, Show, Windows, Fit, Generate, Pcap, PcapCapture}
+use Rattle.command_words.specs.declared.commands.Command.TheVariants.{Replay, Summary, Capture, Show, Windows, Fit, Generate, Trial, Pcap, PcapCapture}
 use Rattle.command_words.proofs.Walks.{IsPlainWord, plain_word_is}
 use Rattle.fh_time.specs.declared.nanoseconds.TheConstants.{LAST_TIME}
 use Rattle.fh_time.proofs.Orders.{is_false as not_true, both as both_true}
@@ -99,9 +99,9 @@ both_there make (Some x) (Some y) c e = ((x, refl), (y, refl))
 abbrev ArePlainTwo : List ℕ → List ℕ → Type 0
 ArePlainTwo first second = (is_plain first ≡ true) × (is_plain second ≡ true)
 
-numbers_plain : (first second : List ℕ) (c : Command) → with_both Generate (seed_in first) (slots_in second) ≡ Some c → ArePlainTwo first second
-numbers_plain first second c e =
-    let both = both_there Generate (seed_in first) (slots_in second) c e in
+numbers_plain : (make : ℕ → ℕ → Command) (first second : List ℕ) (c : Command) → with_both make (seed_in first) (slots_in second) ≡ Some c → ArePlainTwo first second
+numbers_plain make first second c e =
+    let both = both_there make (seed_in first) (slots_in second) c e in
     (number_plain 10 0 4294967295 both.0.0 first both.0.1, number_plain 3 1 400 both.1.0 second both.1.1)
 
 frames_plain : (make : Side → ℕ → Command) (first second : List ℕ) (c : Command) → with_both make (way_in first) (start_in second) ≡ Some c → ArePlainTwo first second
@@ -110,21 +110,23 @@ frames_plain make first second c e =
     (way_plain first both.0.0 both.0.1, number_plain 13 0 LAST_TIME both.1.0 second both.1.1)
 
 -- where the word is a literal, what that gives is wanted; or else the rest
-either : {X P : Type 0} (t : Bool) (o rest : Option X) (x : X) → (if t then o else rest) ≡ Some x → (o ≡ Some x → P) → (rest ≡ Some x → P) → P
+pub either : {X P : Type 0} (t : Bool) (o rest : Option X) (x : X) → (if t then o else rest) ≡ Some x → (o ≡ Some x → P) → (rest ≡ Some x → P) → P
 either true o rest x e f g = f e
 either false o rest x e f g = g e
 
 pub two_plain : (w first second : List ℕ) (c : Command) → command_with_two w first second ≡ Some c → (is_plain w ≡ true) × (is_plain first ≡ true) × (is_plain second ≡ true)
 two_plain w first second c e =
     let numbers =
-    either (bytes_eq w (codes "generate")) _ _ c e (numbers_plain first second c) (λ e.
+    either (bytes_eq w (codes "generate")) _ _ c e (numbers_plain Generate first second c) (λ e.
+    either (bytes_eq w (codes "trial")) _ _ c e (numbers_plain Trial first second c) (λ e.
     either (bytes_eq w (codes "pcap")) _ _ c e (frames_plain Pcap first second c) (λ e.
-    either (bytes_eq w (codes "pcap-capture")) _ None c e (frames_plain PcapCapture first second c) (λ e. cc)))
+    either (bytes_eq w (codes "pcap-capture")) _ None c e (frames_plain PcapCapture first second c) (λ e. cc))))
     in
     let word : is_plain w ≡ true =
     literal_or (codes "generate") w _ _ c refl e (λ e.
+    literal_or (codes "trial") w _ _ c refl e (λ e.
     literal_or (codes "pcap") w _ _ c refl e (λ e.
-    literal_or (codes "pcap-capture") w _ None c refl e (λ e. cc)))
+    literal_or (codes "pcap-capture") w _ None c refl e (λ e. cc))))
     in
     (word, numbers.0, numbers.1)
 

@@ -5,7 +5,7 @@ use Rattle.air_source.specs.declared.events.Side.{Side}
 use Rattle.air_source.specs.declared.events.Side.TheVariants.{Ru, Du}
 use Rattle.text_lines.specs.Numbers.{number_in}
 use Rattle.command_words.specs.declared.commands.Command.{Command}
-use Rattle.command_words.specs.declared.commands.Command.TheVariants.{Replay, Summary, Capture, Show, Windows, Fit, Generate, Pcap, PcapCapture}
+use Rattle.command_words.specs.declared.commands.Command.TheVariants.{Replay, Summary, Capture, Show, Windows, Fit, Generate, Trial, Pcap, PcapCapture}
 use Rattle.fh_time.specs.declared.nanoseconds.TheConstants.{LAST_TIME}
 
 -- the command that one word is
@@ -50,9 +50,10 @@ with_both make (Some first) (Some second) = Some (make first second)
 abbrev pub command_with_two : List ℕ → List ℕ → List ℕ → Option Command
 command_with_two word first second =
     if bytes_eq word (codes "generate") then with_both Generate (seed_in first) (slots_in second)
+    else (if bytes_eq word (codes "trial") then with_both Trial (seed_in first) (slots_in second)
     else (if bytes_eq word (codes "pcap") then with_both Pcap (way_in first) (start_in second)
     else (if bytes_eq word (codes "pcap-capture") then with_both PcapCapture (way_in first) (start_in second)
-    else None))
+    else None)))
 
 -- the command that the words are
 abbrev pub command_of : List (List ℕ) → Option Command
@@ -64,6 +65,7 @@ command_of words = None
 -- the numbers of a command are within their limits
 abbrev pub IsProper : Command → Type 0
 IsProper (Generate seed slots) = (1 ≤ slots) × (slots ≤ 400)
+IsProper (Trial seed slots) = (1 ≤ slots) × (slots ≤ 400)
 IsProper (Pcap side start) = start ≤ LAST_TIME
 IsProper (PcapCapture side start) = start ≤ LAST_TIME
 IsProper command = Unit {0}

@@ -24,6 +24,12 @@ pub enum Command {
         /// From 1 to 400.
         slots: u32,
     },
+    /// `trial SEED SLOTS`: the counters of that document's replay. Nothing is read.
+    Trial {
+        seed: u32,
+        /// From 1 to 400.
+        slots: u32,
+    },
     /// `pcap WAY START`: the eCPRI frames of a pcap file as lines of a document.
     Pcap {
         /// The unit that the frames go to.

@@ -1,6 +1,6 @@
 // The commands by their words: of a list of words, and of what a parse found.
 ghost use Rattle.std.specs.Prelude.{◌≡◌, ◌≤◌, IfSome, map, option_map};
-ghost use Rattle.command_words.specs.Words.{IsProper, bare_command, command_of, command_with_one, command_with_two, start_in, way_in};
+ghost use Rattle.command_words.specs.Words.{IsProper, bare_command, command_of, command_with_one, command_with_two, seed_in, slots_in, start_in, way_in};
 ghost use Rattle.command_words.specs.Parsed.{spelled};
 ghost use Rattle.fh_time.specs.declared.nanoseconds.TheConstants.{LAST_TIME};
 
@@ -46,6 +46,23 @@ fn command_with_one(word: &str, flag: &str) -> Option<Command>
     None
 }
 
+/// The seed that a word is.
+fn seed_in(word: &str) -> Option<u32>
+    ensures { result ≡ seed_in word.now }
+{
+    let seed = number_in(word.as_bytes(), 10, 0, 4_294_967_295)?;
+    Some(seed as u32)
+}
+
+/// The number of slots that a word is.
+fn slots_in(word: &str) -> Option<u32>
+    ensures slots { result ≡ slots_in word.now }
+    ensures within { IfSome result (λ slots. (1 ≤ slots) × (slots ≤ 400)) }
+{
+    let slots = number_in(word.as_bytes(), 3, 1, 400)?;
+    Some(slots as u32)
+}
+
 /// The way of frames that a word is, by the unit that they go to.
 fn way_in(way: &str) -> Option<Side>
     ensures { result ≡ way_in way.now }
@@ -73,12 +90,14 @@ fn command_with_two(word: &str, first: &str, second: &str) -> Option<Command>
     ensures proper { IfSome result IsProper }
 {
     if word == "generate" {
-        let seed = number_in(first.as_bytes(), 10, 0, 4_294_967_295)?;
-        let slots = number_in(second.as_bytes(), 3, 1, 400)?;
-        return Some(Command::Generate {
-            seed: seed as u32,
-            slots: slots as u32,
-        });
+        let seed = seed_in(first)?;
+        let slots = slots_in(second)?;
+        return Some(Command::Generate { seed, slots });
+    }
+    if word == "trial" {
+        let seed = seed_in(first)?;
+        let slots = slots_in(second)?;
+        return Some(Command::Trial { seed, slots });
     }
     if word == "pcap" {
         let side = way_in(first)?;

@@ -23,13 +23,17 @@ fn generate(seed: u32, slots: u32) -> Command {
     Command::Generate { seed, slots }
 }
 
+fn trial(seed: u32, slots: u32) -> Command {
+    Command::Trial { seed, slots }
+}
+
 #[test]
 fn words_are_commands(rt: HostRuntime) -> Result<(), Fail> {
     let (side, start) = (Side::Ru, 9_600_000);
     let down = Command::Pcap { side, start };
     let (side, start) = (Side::Du, 1_000_000_000_000);
     let up = Command::PcapCapture { side, start };
-    let cases: [(&[&[u8]], Command); 14] = [
+    let cases: [(&[&[u8]], Command); 17] = [
         (&[b"replay"], Command::Replay),
         (&[b"summary"], Command::Summary),
         (&[b"capture"], Command::Capture),
@@ -44,6 +48,12 @@ fn words_are_commands(rt: HostRuntime) -> Result<(), Fail> {
             generate(4_294_967_295, 1),
         ),
         (&[b"generate", b"0", b"400"], generate(0, 400)),
+        (&[b"trial", b"7", b"20"], trial(7, 20)),
+        (&[b"trial", b"0000000007", b"020"], trial(7, 20)),
+        (
+            &[b"trial", b"4294967295", b"400"],
+            trial(4_294_967_295, 400),
+        ),
         (&[b"pcap", b"dl", b"9600000"], down),
         (&[b"pcap", b"dl", b"0000009600000"], down),
         (&[b"pcap-capture", b"ul", b"1000000000000"], up),
@@ -55,7 +65,7 @@ fn words_are_commands(rt: HostRuntime) -> Result<(), Fail> {
 }
 
 /// Numbers that are no seed or no number of slots.
-const NUMBERS: [&[&[u8]]; 13] = [
+const NUMBERS: [&[&[u8]]; 17] = [
     &[b"generate", b"4294967296", b"1"],
     &[b"generate", b"00000000007", b"1"],
     &[b"generate", b"7", b"0"],
@@ -68,6 +78,10 @@ const NUMBERS: [&[&[u8]]; 13] = [
     &[b"generate", b"-7", b"20"],
     &[b"generate", b"7 ", b"20"],
     &[b"generate", b"7", b"2a"],
+    &[b"trial", b"+7", b"20"],
+    &[b"trial", b"4294967296", b"1"],
+    &[b"trial", b"7", b"0"],
+    &[b"trial", b"7", b"401"],
     // full-width digits
     &[b"generate", b"\xef\xbc\x97", b"1"],
 ];
@@ -111,7 +125,7 @@ const ONE: [&[&[u8]]; 16] = [
 ];
 
 /// Words that are too many or too few.
-const MANY: [&[&[u8]]; 16] = [
+const MANY: [&[&[u8]]; 19] = [
     &[],
     &[b"replay", b"now"],
     &[b"replay", b""],
@@ -126,6 +140,9 @@ const MANY: [&[&[u8]]; 16] = [
     &[b"show", b"--json="],
     &[b"generate", b"7"],
     &[b"generate", b"7", b"20", b"1"],
+    &[b"trial"],
+    &[b"trial", b"7"],
+    &[b"trial", b"7", b"20", b"1"],
     &[b"generate", b"--", b"7", b"20"],
     &[b"fit", b"fit", b"fit", b"fit", b"fit"],
 ];

@@ -1,5 +1,5 @@
 //! Tests of whole runs, by the top call with ends in memory: worked documents of every command (`replays`, `delays`, `captures`,
-//! `windows`, `pcaps`), plans that are refused (`plans`), the words (`words`), ends that fail (`faults`), and captures that go to a pcap file and back (`round_trips`).
+//! `windows`, `pcaps`), plans that are refused (`plans`), the words (`words`), trials (`trials`), ends that fail (`faults`), and captures that go to a pcap file and back (`round_trips`).
 //!
 //! They stand beside `top_call`, so that it is proved without them.
 #![tactic(auto)]
@@ -20,6 +20,8 @@ mod replays;
 mod round_trips;
 #[cfg(test)]
 mod runs;
+#[cfg(test)]
+mod trials;
 #[cfg(test)]
 mod windows;
 #[cfg(test)]

@@ -2,5 +2,6 @@ pub mod Written
 pub mod Documents
 pub mod Plans
 pub mod Captures
+pub mod Trials
 pub mod Runs
 pub mod Follows

@@ -3,7 +3,7 @@ use Rattle.std.proofs.Common.{◌≡◌, ◌⊎◌, ◌↔◌, inl, inr, ℕ, �
 use Rattle.std.specs.Io.KnownBytes.{prepend_known, append_known, IsAtEnd}
 use Rattle.command_words.specs.Words.{command_of}
 use Rattle.command_words.specs.declared.commands.Command.{Command}
-use Rattle.command_words.specs.declared.commands.Command.TheVariants.{Replay, Summary, Capture, Show, Windows, Fit, Generate, Pcap, PcapCapture}
+use Rattle.command_words.specs.declared.commands.Command.TheVariants.{Replay, Summary, Capture, Show, Windows, Fit, Generate, Trial, Pcap, PcapCapture}
 use Rattle.fh_base.specs.Causes.{Rose}
 use Rattle.fh_base.specs.Told.{WritesFront}
 use Rattle.fh_base.specs.declared.fault.ReadAllFault.{ReadAllFault}
@@ -21,6 +21,7 @@ use Rattle.top_call.specs.Answers.{Answer, answer_of, asked, is_reading, reads}
 use Rattle.top_call.specs.Endings.{source_status}
 use Rattle.top_call.specs.Run.{AnswersCommand, AnswersRun, IsDecided, IsRefusal, IsSoundPlan, Outcome, Performs}
 use Rattle.fh_base.specs.declared.source.TheConstants.{INPUT_LIMIT}
+use Rattle.top_call.proofs.Trials.{trial_of}
 
 -- ---- the laws of a document's events
 
@@ -96,6 +97,7 @@ performed words command came left_old left_new s t old new before now status is 
           subst (λ (o : Option Command). ((Rose before now → ⊥) ⊎ IsRefusal (asked o bytes).status) → (status ≡ (asked o bytes).status) ⊎ (status ≡ NoMemory)) e
           (completes_as (answer_of command bytes) (answer_of command came) before now status (same bytes (λ r. (given (ap is_reading is ∙ r)).1)) p.answers);
       sound = sound_of came;
+      trial = trial_of words;
     }
 
 -- ---- a command that reads nothing
@@ -110,6 +112,7 @@ same_answer (Show json) bytes h = cc
 same_answer Windows bytes h = cc
 same_answer Fit bytes h = cc
 same_answer (Generate seed slots) bytes h = refl
+same_answer (Trial seed slots) bytes h = refl
 same_answer (Pcap side start) bytes h = cc
 same_answer (PcapCapture side start) bytes h = cc
 
@@ -171,6 +174,7 @@ no_command words left s written o none =
       out_later = omega arith;
       complete = λ bytes some. absurd (cc (ap is_some none, some));
       sound = sound_of [];
+      trial = trial_of words;
     }
 
 -- the statuses of a run that stops before its command does anything
@@ -255,6 +259,7 @@ stopped words command came left_old left_new s t written o status is does stop r
       out_later = omega arith;
       complete = λ bytes some given ok. stop_wants (asked (command_of words) bytes).status came bytes left_old left_new s t status stop rose long taken (given (ap is_reading is ∙ does));
       sound = sound_of came;
+      trial = trial_of words;
     }
 
 -- the source was not read to its end
@@ -295,4 +300,5 @@ wordless words left s written o some =
       out_later = omega arith;
       complete = λ bytes some given ok. inr refl;
       sound = sound_of [];
+      trial = trial_of words;
     }

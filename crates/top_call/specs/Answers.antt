@@ -7,12 +7,13 @@ use Rattle.capture_show.specs.capture_records.specs.Records.{capture_bytes}
 use Rattle.capture_show.specs.Messages.{capture_lines}
 use Rattle.capture_show.specs.Texts.{lines_text}
 use Rattle.command_words.specs.declared.commands.Command.{Command}
-use Rattle.command_words.specs.declared.commands.Command.TheVariants.{Replay, Summary, Capture, Show, Windows, Fit, Generate, Pcap, PcapCapture}
+use Rattle.command_words.specs.declared.commands.Command.TheVariants.{Replay, Summary, Capture, Show, Windows, Fit, Generate, Trial, Pcap, PcapCapture}
 use Rattle.pcap_lines.specs.fh_document.specs.declared.document.Document.{Document}
 use Rattle.pcap_lines.specs.fh_document.specs.declared.refusals.DocWhy.{DocWhy}
 use Rattle.pcap_lines.specs.fh_document.specs.Document.{document_of}
 use Rattle.pcap_lines.specs.fh_document.specs.Generated.{generated}
-use Rattle.fronthaul_replay.specs.Reports.{capture_of, document_report, summary_of}
+use Rattle.generated_documents.specs.Documents.{document}
+use Rattle.fronthaul_replay.specs.Reports.{capture_of, document_counts, document_report, summary_of}
 use Rattle.pcap_frames.specs.declared.refusals.PcapRefusal.{PcapRefusal}
 use Rattle.pcap_frames.specs.declared.values.PcapHead.{PcapHead}
 use Rattle.pcap_frames.specs.Checked.{checked as pcap_checked}
@@ -125,6 +126,14 @@ frames_captured side start bytes = of_pcap (λ ts. capture_bytes (map (arrived_a
 abbrev pub generated_document : ℕ → ℕ → Answer
 generated_document seed slots = record { text = generated seed slots; status = Done }
 
+-- the count lines of a document's report
+abbrev pub counted : Document → Answer
+counted d = record { text = document_counts d; status = Done }
+
+-- `trial`: those of the document that `generate` writes, which is read as this one (`TrialsAreGenerated`)
+abbrev pub tried : ℕ → ℕ → Answer
+tried seed slots = counted (document seed slots)
+
 -- ---- all commands
 
 -- whether a command reads its input
@@ -136,6 +145,7 @@ reads (Show json) = true
 reads Windows = true
 reads Fit = true
 reads (Generate seed slots) = false
+reads (Trial seed slots) = false
 reads (Pcap side start) = true
 reads (PcapCapture side start) = true
 
@@ -148,6 +158,7 @@ answer_of (Show json) bytes = shown json bytes
 answer_of Windows bytes = of_document (λ d. windows_shown d.config) (document_of bytes)
 answer_of Fit bytes = of_document (λ d. fit_shown d.config.delays) (document_of bytes)
 answer_of (Generate seed slots) bytes = generated_document seed slots
+answer_of (Trial seed slots) bytes = tried seed slots
 answer_of (Pcap side start) bytes = frames_injected side start bytes
 answer_of (PcapCapture side start) bytes = frames_captured side start bytes
 

@@ -1,4 +1,5 @@
 pub mod Statuses
 pub mod Endings
 pub mod Answers
+pub mod Trials
 pub mod Run

@@ -2,6 +2,7 @@
 use Rattle.std.specs.Prelude.{◌≡◌, ◌<◌, ◌≤◌, ◌⊎◌, ◌↔◌, ℕ, List, length, true, Option, Some, IfSome, IfOk, IsSome, IsNone}
 use Rattle.std.specs.Io.KnownBytes.{prepend_known, append_known, IsAtEnd}
 use Rattle.command_words.specs.Words.{command_of}
+use Rattle.command_words.specs.declared.commands.Command.TheVariants.{Trial}
 use Rattle.fh_base.specs.Causes.{Rose}
 use Rattle.fh_base.specs.Told.{WritesFront}
 use Rattle.pcap_lines.specs.fh_document.specs.Document.{document_of}
@@ -11,6 +12,7 @@ use Rattle.fronthaul_replay.specs.plan_model.specs.Valid.{IsValid}
 use Rattle.top_call.specs.declared.status.Status.{Status}
 use Rattle.top_call.specs.declared.status.Status.TheVariants.{Done, BadWords, BadDocument, BadCapture, ReadFault, WriteFault, NoMemory, TooLong, CheckFails, BadPcap, NoFit}
 use Rattle.top_call.specs.Answers.{Answer, asked, is_reading}
+use Rattle.top_call.specs.Trials.{IsTrial}
 use Rattle.fh_base.specs.declared.source.TheConstants.{INPUT_LIMIT}
 
 -- the statuses that words and input decide; the others have a cause beside them
@@ -93,3 +95,6 @@ pub record Outcome (words : List (List ℕ)) (left_old left_new : Option (List �
   -- counters; each delay stands behind the frame that gave it, and is that of the one request of its id where no injected frame has a
   -- message of delay measurement; and where nothing disturbs its schedule, each scheduled element radiates once
   pub sound : IfOk (document_of came) IsSoundPlan
+  -- where the words are `trial`: what is replayed is what `generate` writes of the same words, and of it each planned element radiates once
+  -- or is taken in once
+  pub trial : (seed slots : ℕ) → command_of words ≡ Some (Trial seed slots) → IsTrial seed slots

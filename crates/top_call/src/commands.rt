@@ -11,6 +11,7 @@ mod pcap;
 mod replay;
 mod show;
 mod summary;
+mod trial;
 mod windows;
 
 use crate::status::Status;
@@ -24,6 +25,7 @@ use replay::write_report;
 use show::show_capture;
 use std::alloc::Global;
 use summary::write_summary;
+use trial::write_trial;
 use windows::write_windows;
 
 /// Whether a command reads its input.
@@ -39,7 +41,7 @@ pub(crate) fn reads(command: Command) -> bool
         | Command::Fit
         | Command::Pcap { .. }
         | Command::PcapCapture { .. } => true,
-        Command::Generate { .. } => false,
+        Command::Generate { .. } | Command::Trial { .. } => false,
     }
 }
 
@@ -57,6 +59,7 @@ pub(crate) fn perform<K: Sink>(alloc: Global, command: Command, bytes: &[u8], ou
         Command::Windows => write_windows(alloc, bytes, out),
         Command::Fit => write_fit(alloc, bytes, out),
         Command::Generate { seed, slots } => write_document(alloc, seed, slots, out),
+        Command::Trial { seed, slots } => write_trial(alloc, seed, slots, out),
         Command::Pcap { side, start } => inject_frames(side, start, bytes, out),
         Command::PcapCapture { side, start } => capture_frames(side, start, bytes, out),
     }

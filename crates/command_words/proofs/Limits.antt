@@ -1,0 +1,83 @@
+-- The numbers of a command are within their limits.
+use Rattle.std.proofs.Common.{◌≡◌, ℕ, ◌≤◌, ◌<◌, ◌^◌, List, [], ◌∷◌, codes, refl, true, false, Bool, ◌&&◌, length, nat_le, nat_lt, subst, arith}
+use Rattle.std.specs.Prelude.{Some, None, Option, if◌then◌else◌}
+use Rattle.std.specs.Str.{bytes_eq}
+use Rattle.std.specs.Str.Parse.{digits_value}
+use Rattle.std.proofs.lemmas.Bool.Decides.{nat_tests}
+use Rattle.text_lines.specs.Numbers.{is_decimal, number_in}
+use Rattle.command_words.specs.Words.{bare_command, command_of, command_with_one, command_with_two, seed_in, slots_in, start_in, way_in, with_both}
+use Rattle.command_words.specs.declared.commands.Command.{Command}
+use Rattle.command_words.specs.declared.commands.Command.TheVariants.{Replay, Summary, Capture, Show, Windows, Fit, Generate, Trial, Pcap, PcapCapture}
+use Rattle.command_words.proofs.Plain.{either}
+
+-- a seed of 32 bits, and from 1 to 400 slots
+abbrev pub AreNumbers : ℕ → ℕ → Type 0
+AreNumbers seed slots = (seed < 2 ^ 32) × (1 ≤ slots) × (slots ≤ 400)
+
+abbrev pub HasLimits : Command → Type 0
+HasLimits (Generate seed slots) = AreNumbers seed slots
+HasLimits (Trial seed slots) = AreNumbers seed slots
+HasLimits command = Unit {0}
+
+-- ---- a number
+
+at_least : (m n : ℕ) → nat_le m n ≡ true → m ≤ n
+at_least m n e = grind (arith, nat_tests)
+
+number_within : (most low high n : ℕ) (w : List ℕ) → number_in most low high w ≡ Some n → (low ≤ n) × (n ≤ high)
+number_within most low high n w e =
+    go (nat_lt 0 (length w)) (nat_le (length w) most) (is_decimal w) (nat_le low (digits_value 10 w)) (nat_le (digits_value 10 w) high) refl refl e
+  where
+    go : (a b d l h : Bool) → nat_le low (digits_value 10 w) ≡ l → nat_le (digits_value 10 w) high ≡ h
+        → (if a && (b && (d && (l && h))) then Some (digits_value 10 w) else None) ≡ Some n → (low ≤ n) × (n ≤ high)
+    go true true true true true is_low is_high e =
+        let same : digits_value 10 w ≡ n = cc e in
+        subst (λ (k : ℕ). (low ≤ k) × (k ≤ high)) same (at_least low (digits_value 10 w) is_low, at_least (digits_value 10 w) high is_high)
+    go true true true true false is_low is_high e = cc
+    go true true true false h is_low is_high e = cc
+    go true true false l h is_low is_high e = cc
+    go true false d l h is_low is_high e = cc
+    go false b d l h is_low is_high e = cc
+
+numbers_are : (first second : List ℕ) (seed slots : ℕ) → seed_in first ≡ Some seed → slots_in second ≡ Some slots → AreNumbers seed slots
+numbers_are first second seed slots a b =
+    let s = number_within 10 0 4294967295 seed first a in
+    let t = number_within 3 1 400 slots second b in
+    let most = s.1 in (omega (arith, most), t.0, t.1)
+
+-- ---- the commands
+
+of_some : (x c : Command) → HasLimits x → Some x ≡ Some c → HasLimits c
+of_some x c h e = let same : x ≡ c = cc e in subst HasLimits same h
+
+bare_limits : (w : List ℕ) (c : Command) → bare_command w ≡ Some c → HasLimits c
+bare_limits w c e =
+    either (bytes_eq w (codes "replay")) _ _ c e (of_some Replay c tt) (λ e.
+    either (bytes_eq w (codes "summary")) _ _ c e (of_some Summary c tt) (λ e.
+    either (bytes_eq w (codes "capture")) _ _ c e (of_some Capture c tt) (λ e.
+    either (bytes_eq w (codes "show")) _ _ c e (of_some (Show false) c tt) (λ e.
+    either (bytes_eq w (codes "windows")) _ _ c e (of_some Windows c tt) (λ e.
+    either (bytes_eq w (codes "fit")) _ None c e (of_some Fit c tt) (λ e. cc))))))
+
+one_limits : (w flag : List ℕ) (c : Command) → command_with_one w flag ≡ Some c → HasLimits c
+one_limits w flag c e = either (bytes_eq w (codes "show") && bytes_eq flag (codes "--json")) _ None c e (of_some (Show true) c tt) (λ e. cc)
+
+both_limits : {A B : Type 0} (make : A → B → Command) (a : Option A) (b : Option B) (c : Command) → ((x : A) (y : B) → a ≡ Some x → b ≡ Some y → HasLimits (make x y))
+    → with_both make a b ≡ Some c → HasLimits c
+both_limits make None b c h e = cc
+both_limits make (Some x) None c h e = cc
+both_limits make (Some x) (Some y) c h e = of_some (make x y) c (h x y refl refl) e
+
+two_limits : (w first second : List ℕ) (c : Command) → command_with_two w first second ≡ Some c → HasLimits c
+two_limits w first second c e =
+    either (bytes_eq w (codes "generate")) _ _ c e (both_limits Generate (seed_in first) (slots_in second) c (numbers_are first second)) (λ e.
+    either (bytes_eq w (codes "trial")) _ _ c e (both_limits Trial (seed_in first) (slots_in second) c (numbers_are first second)) (λ e.
+    either (bytes_eq w (codes "pcap")) _ _ c e (both_limits Pcap (way_in first) (start_in second) c (λ side start a b. tt)) (λ e.
+    either (bytes_eq w (codes "pcap-capture")) _ None c e (both_limits PcapCapture (way_in first) (start_in second) c (λ side start a b. tt)) (λ e. cc))))
+
+pub limits_are : (ws : List (List ℕ)) (c : Command) → command_of ws ≡ Some c → HasLimits c
+limits_are [] c e = cc
+limits_are (a ∷ []) c e = bare_limits a c e
+limits_are (a ∷ b ∷ []) c e = one_limits a b c e
+limits_are (a ∷ b ∷ d ∷ []) c e = two_limits a b d c e
+limits_are (a ∷ b ∷ d ∷ f ∷ ws) c e = cc
