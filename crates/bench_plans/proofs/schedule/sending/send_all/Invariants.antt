@@ -1,5 +1,5 @@
 use Rattle.du_scheduler.specs.Plans.{IsPlan}
-use Rattle.bench_schedule.proofs.sending.send_all.Given as goal
+use Rattle.bench_plans.proofs.schedule.sending.send_all.Given as goal
 
 abbrev pub invariant-loop : goal.invariant-loop
 invariant-loop l = IsPlan l.plan

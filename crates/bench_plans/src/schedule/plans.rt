@@ -1,15 +1,14 @@
 // Plans of many downlink lines.
-ghost use Rattle.std.specs.Prelude.{◌≡◌, ◌<◌, ◌≤◌, ◌≤ℤ◌, ◌^◌, ◌∷◌, [], pos, All, IfOk, IfSome};
+ghost use Rattle.std.specs.Prelude.{◌≡◌, ◌<◌, ◌≤◌, ◌∷◌, [], All, IfOk, IfSome};
 ghost use Rattle.window_config.specs.Configs.{IsConfig};
-ghost use Rattle.window_config.specs.Endpoints.{AreEndpoints, IsEndpoint};
+ghost use Rattle.window_config.specs.Endpoints.{AreEndpoints};
 ghost use Rattle.window_config.specs.Plans.{IsPlanLine};
 
-use bfp_codec::{Format, Method};
-use eaxc_map::Widths;
+use crate::configs::{self, endpoint, listed, whole};
 use fh_base::{List, NoMemory};
 use fh_time::{Numerology, Slot};
 use std::alloc::Global;
-use window_config::{Config, Delays, EndpointConfig, EndpointList, PlanKind, PlanLine};
+use window_config::{Config, EndpointConfig, EndpointList, PlanLine};
 
 /// What the lines of a plan are.
 #[derive(Clone, Copy, Debug, PartialEq, Eq)]
@@ -22,6 +21,18 @@ pub enum Kind {
     Backwards,
 }
 
+impl Kind {
+    /// The kind that a word names.
+    pub fn of(word: &str) -> Option<Kind> {
+        match word {
+            "usual" => Some(Kind::Usual),
+            "whole" => Some(Kind::Whole),
+            "backwards" => Some(Kind::Backwards),
+            _ => None,
+        }
+    }
+}
+
 /// How many PRBs endpoints have, and how many application bytes a frame.
 #[derive(Clone, Copy, Debug, PartialEq, Eq)]
 pub struct Sizes {
@@ -31,29 +42,6 @@ pub struct Sizes {
     ghost few: { prbs ≤ 273 },
     ghost least: { 128 ≤ fragment },
     ghost most: { fragment ≤ 9000 },
-}
-
-fn endpoint(id: u16, numerology: Numerology, sizes: &Sizes) -> EndpointConfig
-    ensures endpoint { IsEndpoint result }
-    ensures id { result.id ≡ id }
-{
-    EndpointConfig {
-        id,
-        numerology,
-        prbs: sizes.prbs,
-        format: Format {
-            dynamic: false,
-            method: Method::Bfp(9),
-        },
-    }
-}
-
-fn listed(a: EndpointConfig) -> EndpointList
-    ensures { result ≡ a ∷ [] }
-{
-    let mut endpoints = EndpointList::new();
-    let _room = endpoints.push(a);
-    endpoints
 }
 
 fn four_listed(
@@ -72,16 +60,18 @@ fn four_listed(
 }
 
 /// The endpoints of such plans; their ids count from 0.
-fn endpoints(kind: Kind, numerology: Numerology, sizes: &Sizes) -> EndpointList
+fn endpoints(kind: Kind, numerology: Numerology, prbs: u16) -> EndpointList
+    requires some { 1 ≤ prbs }
+    requires few { prbs ≤ 273 }
     ensures { AreEndpoints result }
 {
-    let first = endpoint(0, numerology, sizes);
+    let first = endpoint(0, numerology, prbs);
     match kind {
         Kind::Usual => four_listed(
             first,
-            endpoint(1, numerology, sizes),
-            endpoint(2, numerology, sizes),
-            endpoint(3, numerology, sizes),
+            endpoint(1, numerology, prbs),
+            endpoint(2, numerology, prbs),
+            endpoint(3, numerology, prbs),
         ),
         Kind::Whole | Kind::Backwards => listed(first),
     }
@@ -95,42 +85,8 @@ pub fn config(kind: Kind, sizes: &Sizes) -> Option<Config>
         Kind::Usual => 1,
         Kind::Whole | Kind::Backwards => 4,
     };
-    let numerology = Numerology::ordinary(code)?;
-    let widths = match Widths::new(4, 4, 4, 4) {
-        Ok(widths) => widths,
-        Err(_) => return None,
-    };
-    Some(Config {
-        widths,
-        delays: Delays::usual(),
-        gap: 1_000,
-        fragment: sizes.fragment,
-        pack: 1,
-        endpoints: endpoints(kind, numerology, sizes),
-    })
-}
-
-/// A line of all symbols and PRBs in a slot.
-fn line(id: u16, slot: Slot, section: u16) -> PlanLine
-    requires frame_low { pos 1 ≤ℤ slot.frame }
-    requires frame_high { slot.frame ≤ℤ pos 99999 }
-    requires subframe { slot.subframe < 10 }
-    requires slot { slot.slot < 2 ^ 6 }
-    requires section { section < 2 ^ 12 }
-    ensures { IsPlanLine result }
-{
-    PlanLine {
-        kind: PlanKind::Down,
-        id,
-        slot,
-        symbol: 0,
-        count: 14,
-        start_prb: 0,
-        num_prb: 0,
-        mask: 0xfff,
-        section,
-        beam: 0,
-    }
+    let endpoints = endpoints(kind, Numerology::ordinary(code)?, sizes.prbs);
+    configs::config(endpoints, sizes.fragment)
 }
 
 /// Appends a line.
@@ -160,10 +116,10 @@ fn put_slot(plan: &mut List<PlanLine>, kind: Kind, n: u32) -> Result<(), NoMemor
                 subframe: (n / 2 % 10) as u8,
                 slot: (n % 2) as u8,
             };
-            put(plan, line(0, slot, section))?;
-            put(plan, line(1, slot, section))?;
-            put(plan, line(2, slot, section))?;
-            put(plan, line(3, slot, section))?;
+            put(plan, whole(0, slot, section))?;
+            put(plan, whole(1, slot, section))?;
+            put(plan, whole(2, slot, section))?;
+            put(plan, whole(3, slot, section))?;
         }
         Kind::Whole | Kind::Backwards => {
             let slot = Slot {
@@ -171,7 +127,7 @@ fn put_slot(plan: &mut List<PlanLine>, kind: Kind, n: u32) -> Result<(), NoMemor
                 subframe: (n / 16 % 10) as u8,
                 slot: (n % 16) as u8,
             };
-            put(plan, line(0, slot, section))?;
+            put(plan, whole(0, slot, section))?;
         }
     }
     Ok(())

@@ -1,8 +1,8 @@
 // What is done with a plan.
 ghost use Rattle.std.specs.Prelude.{◌≤◌};
 
-use crate::plans::{Kind, Sizes, config, lines};
-use crate::sending::{Sums, send_all};
+use crate::schedule::plans::{Kind, Sizes, config, lines};
+use crate::schedule::sending::{Sums, send_all};
 use du_scheduler::{Plan, PlanRefusal};
 use std::alloc::Global;
 
@@ -15,6 +15,18 @@ pub enum Work {
     Check,
     /// All its frames are taken.
     Frames,
+}
+
+impl Work {
+    /// What a word names.
+    pub fn of(word: &str) -> Option<Work> {
+        match word {
+            "lines" => Some(Work::Lines),
+            "check" => Some(Work::Check),
+            "frames" => Some(Work::Frames),
+            _ => None,
+        }
+    }
 }
 
 /// How many lines a plan had, and what was sent.
