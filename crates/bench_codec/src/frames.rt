@@ -1,41 +1,15 @@
+// Messages of data, written as frames.
 ghost use Rattle.std.specs.Prelude.{◌≡◌, ◌≤◌, ◌<◌, length};
 ghost use Rattle.bfp_codec.specs.Layout.{HasWidth};
 ghost use Rattle.frame_bytes.specs.Messages.{MessageFits, message_size};
 
+use crate::blocks::{BLOCKS, blocks, method_of};
+use crate::words::Ending;
 use bfp_codec::{Format, Iq, Method};
 use ecpri_fragments::SeqField;
 use frame_bytes::{Carrier, DataMessage, DataSection, Span, message_size, piece};
+use std::io;
 use uplane_sections::UHead;
-
-/// How many blocks take turns.
-const BLOCKS: usize = 64;
-
-/// The next of a row of numbers from -1,000 to 1,000.
-fn next(state: &mut u32) -> i16 {
-    *state = state.wrapping_mul(1664525).wrapping_add(1013904223);
-    ((*state >> 16) % 2001) as i16 - 1000
-}
-
-/// The next block.
-fn block(state: &mut u32) -> [Iq; 12] {
-    let mut block = [Iq { i: 0, q: 0 }; 12];
-    for k in 0..12 {
-        let i = next(state);
-        let q = next(state);
-        block[k] = Iq { i, q };
-    }
-    block
-}
-
-/// The blocks that take turns.
-fn blocks() -> [[Iq; 12]; BLOCKS] {
-    let mut state: u32 = 1;
-    let mut blocks = [[Iq { i: 0, q: 0 }; 12]; BLOCKS];
-    for k in 0..BLOCKS {
-        blocks[k] = block(&mut state);
-    }
-    blocks
-}
 
 /// Writes the frames of a message, and adds up a byte of each.
 fn write_all(
@@ -106,13 +80,38 @@ fn messages(method: Method, fragment: u16, count: u64) -> u64
     sum
 }
 
-/// A checksum of the frames of this many messages, and 0 for a width that there is not.
-pub fn run(width: u8, fragment: u16, count: u64) -> u64 {
-    if width > 16 {
-        0
-    } else if width == 0 {
-        messages(Method::Plain, fragment, count)
-    } else {
-        messages(Method::Bfp(width), fragment, count)
+/// How many messages are sent, with mantissas of so many bits (0: not compressed), cut at so many bytes.
+#[derive(Clone, Copy)]
+struct Load {
+    width: u8,
+    fragment: u16,
+    count: u64,
+    ghost few: { width ≤ 16 },
+}
+
+impl Load {
+    fn of(words: &[&str]) -> Option<Load> {
+        let [width, fragment, count] = *words else {
+            return None;
+        };
+        let width = width.parse::<u8>().ok()?;
+        if width > 16 {
+            return None;
+        }
+        Some(Load {
+            width,
+            fragment: fragment.parse::<u16>().ok()?,
+            count: count.parse::<u64>().ok()?,
+        })
     }
+}
+
+/// `WIDTH FRAGMENT COUNT`: writes the frames of COUNT messages of 106 PRBs, and prints a checksum of their last bytes.
+pub fn run(rt: &impl Print, words: &[&str]) -> io::Result<Ending> {
+    let Some(load) = Load::of(words) else {
+        return Ok(Ending::BadWords);
+    };
+    let sum = messages(method_of(load.width), load.fragment, load.count);
+    println!(rt; "{} {} {} {sum}", load.width, load.fragment, load.count)?;
+    Ok(Ending::Done)
 }

@@ -1,4 +1,8 @@
-use bfp_codec::Iq;
+// The blocks that are packed, and the compressions.
+ghost use Rattle.std.specs.Prelude.{◌≤◌};
+ghost use Rattle.bfp_codec.specs.Layout.{HasWidth};
+
+use bfp_codec::{Iq, Method};
 
 /// How many blocks take turns.
 pub const BLOCKS: usize = 64;
@@ -28,4 +32,16 @@ pub fn blocks() -> [[Iq; 12]; BLOCKS] {
         blocks[k] = block(&mut state);
     }
     blocks
+}
+
+/// The compression with mantissas of so many bits, none for 0.
+pub fn method_of(width: u8) -> Method
+    requires { width ≤ 16 }
+    ensures { HasWidth result }
+{
+    if width == 0 {
+        Method::Plain
+    } else {
+        Method::Bfp(width)
+    }
 }

@@ -1,12 +1,15 @@
+// Blocks of a tone, and lines of cells.
 ghost use Rattle.std.specs.Prelude.{◌≡◌, ◌<◌, ◌≤◌};
 ghost use Rattle.air_source.specs.Answers.{Fits16};
 ghost use Rattle.air_source.specs.Kept.{IsKept};
 ghost use Rattle.tone_source.specs.Tones.{tone_of};
 
+use crate::words::Ending;
 use air_source::{AirCell, RePlace, Samples, Side};
 use bfp_codec::Wide;
 use fh_time::{FRAME, Slot, Ticks};
 use report_lines::put_cell;
+use std::io;
 use text_lines::Line;
 use tone_source::{Tone, ToneSteps};
 
@@ -114,19 +117,81 @@ fn lines(tone: Tone, count: u64) -> u64
     sum
 }
 
-/// The checksum of a run with a tone of this amplitude, and 0 for any other word or an amplitude that a
-/// tone has not.
-pub fn run(what: &str, count: u64, amplitude: u32) -> u64 {
-    let tone = Tone { seed: 7, amplitude };
-    if amplitude < 1 || amplitude > 32_768 {
-        0
-    } else if what == "tone" {
-        tones(tone, count)
-    } else if what == "kept" {
-        kept(tone, count)
-    } else if what == "line" {
-        lines(tone, count)
-    } else {
-        0
+/// What is made so many times.
+#[derive(Clone, Copy)]
+enum Work {
+    /// A block of the tone.
+    Tone,
+    /// The same, through a closure that is kept.
+    Kept,
+    /// A cell's line.
+    Line,
+}
+
+impl Work {
+    fn of(word: &str) -> Option<Work> {
+        match word {
+            "tone" => Some(Work::Tone),
+            "kept" => Some(Work::Kept),
+            "line" => Some(Work::Line),
+            _ => None,
+        }
     }
+
+    fn name(self) -> &'static str {
+        match self {
+            Work::Tone => "tone",
+            Work::Kept => "kept",
+            Work::Line => "line",
+        }
+    }
+}
+
+/// What is made how many times, with a tone of this amplitude.
+#[derive(Clone, Copy)]
+struct Load {
+    work: Work,
+    count: u64,
+    amplitude: u32,
+    ghost low: { 1 ≤ amplitude },
+    ghost high: { amplitude ≤ 32768 },
+}
+
+impl Load {
+    fn of(words: &[&str]) -> Option<Load> {
+        let [work, count, amplitude] = *words else {
+            return None;
+        };
+        let amplitude = amplitude.parse::<u32>().ok()?;
+        if amplitude < 1 || amplitude > 32_768 {
+            return None;
+        }
+        Some(Load {
+            work: Work::of(work)?,
+            count: count.parse::<u64>().ok()?,
+            amplitude,
+        })
+    }
+
+    fn sum(&self) -> u64 {
+        let tone = Tone {
+            seed: 7,
+            amplitude: self.amplitude,
+        };
+        match self.work {
+            Work::Tone => tones(tone, self.count),
+            Work::Kept => kept(tone, self.count),
+            Work::Line => lines(tone, self.count),
+        }
+    }
+}
+
+/// `tone|kept|line COUNT AMPLITUDE`: makes COUNT blocks of a tone, or COUNT lines of cells with its samples, and prints a checksum.
+pub fn run(rt: &impl Print, words: &[&str]) -> io::Result<Ending> {
+    let Some(load) = Load::of(words) else {
+        return Ok(Ending::BadWords);
+    };
+    let sum = load.sum();
+    println!(rt; "{} {} {sum}", load.work.name(), load.count)?;
+    Ok(Ending::Done)
 }
