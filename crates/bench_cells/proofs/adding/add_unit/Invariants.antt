@@ -1,7 +1,0 @@
-use Rattle.std.proofs.Common.{◌++◌}
-use Rattle.shared_cell.specs.Combined.{Stands}
-use Rattle.bench_cells.specs.Cells.{first_cells, units_of}
-use Rattle.bench_cells.proofs.adding.add_unit.Given as goal
-
-abbrev pub invariant-loop-k : goal.invariant-loop-k
-invariant-loop-k l = Stands l.mixer (units_of l.unit l.count ++ first_cells l.k)

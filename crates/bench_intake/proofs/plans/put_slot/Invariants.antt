@@ -1,6 +1,0 @@
-use Rattle.std.specs.Prelude.{All}
-use Rattle.window_config.specs.Plans.{IsPlanLine}
-use Rattle.bench_intake.proofs.plans.put_slot.Given as goal
-
-abbrev pub invariant-loop-endpoint : goal.invariant-loop-endpoint
-invariant-loop-endpoint l = All IsPlanLine l.lines

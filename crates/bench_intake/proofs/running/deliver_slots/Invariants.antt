@@ -1,5 +1,0 @@
-use Rattle.intake_samples.specs.du_intake.specs.Closing.{IntakeStandsForSome}
-use Rattle.bench_intake.proofs.running.deliver_slots.Given as goal
-
-abbrev pub invariant-loop-k : goal.invariant-loop-k
-invariant-loop-k l = IntakeStandsForSome l.unit

@@ -1,5 +1,0 @@
-use Rattle.ru_buffers.specs.Calls.{HasGivenPast, StandsForSome}
-use Rattle.bench_radio.proofs.running.deliver_slot.Given as goal
-
-abbrev pub invariant-loop-k : goal.invariant-loop-k
-invariant-loop-k l = StandsForSome l.ru × HasGivenPast l.ru

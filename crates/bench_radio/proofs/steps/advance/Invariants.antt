@@ -1,5 +1,0 @@
-use Rattle.ru_buffers.specs.Calls.{HasGivenPast, StandsForSome}
-use Rattle.bench_radio.proofs.steps.advance.Given as goal
-
-abbrev pub invariant-loop : goal.invariant-loop
-invariant-loop g l = StandsForSome l.ru × HasGivenPast l.ru

@@ -1,0 +1,5 @@
+use Rattle.du_intake.specs.Closing.{IntakeStandsForSome}
+use Rattle.bench_units.proofs.intake.running.deliver_slots.Given as goal
+
+abbrev pub invariant-loop-k : goal.invariant-loop-k
+invariant-loop-k l = IntakeStandsForSome l.unit
