@@ -49,12 +49,57 @@ def symbols():
     note("In other subframes and frames.")
     for frame, subframe, slot, i in ((1, 0, 1, 11), (0, 9, 3, 11), (-1, 9, 3, 11), (99_999, 4, 2, 6)):
         entry("symbol extended %d %d %d %d" % (frame, subframe, slot, i), str(frame * FRAME + subframe * (FRAME // 10) + starts[12 * slot + i]))
+    note("The first slot of the second half of a subframe: its first symbol is 16 Ts longer.")
+    for u in range(1, 5):
+        lengths = [(2048 + 144) * TS // 2**u + (16 * TS if i in (0, 7 * 2**u) else 0) for i in range(14 * 2**u)]
+        for i in (0, 1, 13):
+            entry("symbol %d 0 0 %d %d" % (u, 2**u // 2, i), str(sum(lengths[: 14 * 2**u // 2 + i])))
+    note("By hand, from the lengths of the symbols: 30 kHz in frame 1 and before frame 0, 15 kHz in frame 1,000,000.")
+    for name, ticks in (("1 1 0 0 1", 15_415_600_000), ("1 -1 9 1 13", -54_800_000), ("0 1000000 9 0 0", 15_360_013_824_000_000)):
+        entry("symbol " + name, str(ticks))
+    note("By hand: symbols of offset endpoints start by their own length, behind their timeOffset.")
+    for name, ticks in (("12:0:3168 1 4 0 0", 21_504_000_000), ("12:0:3168 1 4 0 1", 22_891_200_000), ("4:100:3 0 0 8 2", 785_818_750)):
+        entry("symbol " + name, str(ticks))
     note("There is no such symbol.")
     for name in ("extended 0 0 0 12", "extended 0 0 4 0", "extended 0 10 0 0", "2 0 0 0 14", "2 0 0 4 0", "0 0 0 1 0"):
         entry("symbol " + name, "none")
 
 
+def numerologies():
+    note("Spacing codes: 0 to 4 for 15 kHz to 240 kHz, and for an offset endpoint 12 and 14 for 1.25 kHz and 5 kHz besides.")
+    for code in range(256):
+        entry("numerology %d" % code, "code %d" % code if code < 5 else "none")
+        entry("numerology %d:1:2" % code, "code %d offset 1 prefix 2" % code if code in (0, 1, 2, 3, 4, 12, 14) else "none")
+    entry("numerology extended", "code 2")
+    note("By hand: 14 symbols of 2192 Ts over 2^u, or 12 of 640 Ts, are the shortest slot; 13 of them and twice 16 Ts, or 11 of")
+    note("640 Ts, or the timeOffset and 13 symbols of an offset endpoint, go up to the last symbol.")
+    for name, symbols, slots, shortest, span in (
+        ("extended", 12, 4, 7_680 * TS, 7_040 * TS),
+        ("1", 14, 2, 767_200_000, 714_000_000),
+        ("12:0:3168", 14, 1, 1_534_400_000, 18_033_600_000),
+        ("4:100:3", 14, 16, 95_900_000, 83_321_875),
+    ):
+        entry("slots " + name, "symbols %d slots %d shortest %d span %d" % (symbols, slots, shortest, span))
+    note("Slots follow each other through subframes and frames, also before frame 0.")
+    for before, after in (
+        ("1 0 0 0", "0 0 1"),
+        ("1 0 0 1", "0 1 0"),
+        ("1 0 9 1", "1 0 0"),
+        ("1 255 9 1", "256 0 0"),
+        ("1 -1 9 1", "0 0 0"),
+        ("1 -2 9 1", "-1 0 0"),
+        ("12:0:3168 3 4 0", "3 5 0"),
+    ):
+        entry("after " + before, after)
+    note("The PRBs of a section: numPrb 0 names all, and none may go past the carrier's.")
+    for section, named in (("1023 0 106", "0 106"), ("100 6 106", "100 6"), ("100 7 106", "none")):
+        entry("prbs " + section, named)
+
+
 def frames():
+    note("By hand: just the nearest frame, at 0 and 1 ns, at 2.55 s, a nanosecond before 2.56 s and at 2.56 s.")
+    for frame_id, at, frame in ((128, 0, -128), (128, 1, 128), (0, 0, 0), (255, 0, -1), (255, 2_560_000_000, 255), (0, 2_550_000_000, 256), (1, 2_559_999_999, 257)):
+        entry("frame %d %d" % (frame_id, at * 1536), str(frame))
     note("The frame that a frameId means at a time: the only one with these low eight bits that starts from 128 frames before")
     note("that time to less than 128 frames after it.")
     for frame_id in (0, 1, 127, 128, 129, 254, 255):
@@ -88,6 +133,43 @@ PDUS = [
         ("11030015 0102030405060708090a0b0c0d0e0f101112131415 20ffff 10050014 2122232425262728292a2b2c2d2e2f3031323334",
          "11030015 0102030405060708090a0b0c0d0e0f101112131415 ff 10050014 2122232425262728292a2b2c2d2e2f3031323334 ff", None)]),
 ]
+
+
+# The payloads of the last frame.
+FIRST = "0102030405060708090a0b0c0d0e0f101112131415"
+SECOND = "333435363738393a3b3c3d3e3f40414243444546"
+PADDED = "11030015" + FIRST + "aabbcc" + "10050014" + SECOND
+
+# Headers by hand: the bytes, the fields, the padding behind the payload, and the bytes that are written.
+HEADERS = [
+    ("11030015", (1, 3, 21), 3, "11030015"),
+    ("1f030015", (1, 3, 21), 3, "11030015"),
+    ("1005abcd", (0, 5, 0xABCD), 3, "1005abcd"),
+    ("10030014", (0, 3, 20), 0, "10030014"),
+]
+
+# Frames by hand: its messages, each with its place, its header and its payload, and its fault.
+WHOLE = [
+    (PADDED, [(0, (1, 3, 21), FIRST), (28, (0, 5, 20), SECOND)], None),
+    (PADDED[: 2 * 28], [(0, (1, 3, 21), FIRST)], "Truncated 28"),
+    (PADDED[: 2 * 26], [(0, (1, 3, 21), FIRST)], "NoPadding 26"),
+    ("20020014", [], "Revision 0"),
+    ("", [], "Truncated 0"),
+    ("11030000", [(0, (1, 3, 0), "")], "Truncated 4"),
+    ("11030001aa", [(0, (1, 3, 1), "aa")], "NoPadding 5"),
+]
+
+
+def headers():
+    note("Headers, read and written: the revision, the reserved bits and C, the type and the size.")
+    for text, fields, padding, written in HEADERS:
+        entry("header " + text, "more %d type %d size %d padding %d written %s" % (*fields, padding, written))
+    note("Frames that are held whole, and the faults behind whole messages.")
+    for frame, told, fault in WHOLE:
+        answer = fault or "whole"
+        for place, fields, payload in told:
+            answer += "\n  at %d more %d type %d size %d payload %s" % (place, *fields, payload or "-")
+        entry("messages " + (frame or "-"), answer)
 
 
 def joined(text):
@@ -251,8 +333,7 @@ def header_answer(kind, head, count):
     return fields
 
 
-def message(kind, shape, head, sections, reserved=0):
-    """A message that is read and written again; it is written with reserved bits 0."""
+def message_answer(kind, head, sections):
     answer = header_answer(kind, head, len(sections))
     symbol = (HEAD | head)["start_symbol"]
     for section in sections:
@@ -260,8 +341,73 @@ def message(kind, shape, head, sections, reserved=0):
         symbol += s["sym_inc"]
         answer += "\n  section %d step %d symbol %d symbols %d prb %d prbs %d mask %03x beam %d frequency %d" % (
             s["id"], s["sym_inc"], symbol, s["num_symbol"], s["start_prb"], s["num_prb"], s["mask"], s["beam"], s["freq_offset"])
-    answer += "\n  written " + message_text(kind, head, sections)
+    return answer + "\n  written " + message_text(kind, head, sections)
+
+
+def message(kind, shape, head, sections, reserved=0):
+    """A message that is read and written again; it is written with reserved bits 0."""
+    answer = message_answer(kind, head, sections)
     entry("control %d %d %s" % (*shape, message_text(kind, head, sections, reserved)), answer)
+
+
+# Messages and their fields, both written out by hand from the layout tables.
+BY_HAND = [
+    ("type 0", "92a570c501001234c105670 0abc1556af0f40000", 0, (14, 4),
+     dict(filter=2, frame_id=0xA5, subframe=7, slot=3, start_symbol=5, time_offset=0x1234, structure=0xC1, cp_length=0x0567),
+     [dict(id=0xABC, start_prb=0x155, num_prb=0x6A, mask=0xF0F, num_symbol=4)]),
+    ("type 1 with symInc", "193c40420101910 01236c355a5c74321", 1, (14, 4),
+     dict(down=0, filter=9, frame_id=0x3C, subframe=4, slot=1, start_symbol=2, comp=0x91),
+     [dict(id=0x123, sym_inc=1, start_prb=0x2C3, num_prb=0x55, mask=0xA5C, num_symbol=7, beam=0x4321)]),
+    ("one PRB of symbol 0", "9001000001010000 00100001fff10000", 1, (14, 4), {}, [{}]),
+    ("type 3, freqOffset below 0", "13fe908101030bcdbc0c6041 fed0f70c7fec5a5aed297900", 3, (14, 4),
+     dict(down=0, filter=3, frame_id=0xFE, subframe=9, slot=2, start_symbol=1, time_offset=0x0BCD, structure=0xBC, cp_length=0x0C60, comp=0x41),
+     [dict(id=0xFED, start_prb=0x0F7, num_prb=0x0C, mask=0x7FE, num_symbol=12, beam=0x5A5A, freq_offset=-1_234_567)]),
+    ("three sections, symInc in the second", "9001000203010000 00100001fff10000 00240101fff20000 00300201fff30000", 1, (14, 4),
+     dict(start_symbol=2), [{}, dict(id=2, sym_inc=1, start_prb=1, num_symbol=2), dict(id=3, start_prb=2, num_symbol=3)]),
+]
+
+# The message of one PRB with a byte changed: which byte, to what, and the refusal.
+CHANGED = [
+    (0, 0xA0, "Version 0"),
+    (5, 0x02, "SectionType 0"),
+    (2, 0xA0, "SlotRange 0"),
+    (2, 0x01, "SlotRange 0"),
+    (3, 0x0E, "SymbolRange 0"),
+    (4, 0x00, "NoSections 0"),
+    (4, 0x02, "Truncated 16"),
+    (9, 0x18, "EveryOtherRb 8"),
+    (14, 0x80, "Extension 8"),
+    (13, 0xF0, "SymbolRange 8"),
+    (13, 0xFF, "SymbolRange 8"),
+]
+
+
+def changed(text, at, byte):
+    return text[: 2 * at] + "%02x" % byte + text[2 * at + 2 :]
+
+
+def control_by_hand():
+    for name, text, kind, shape, head, sections in BY_HAND:
+        note("By hand: " + name + ".")
+        assert joined(text) == message_text(kind, head, sections)
+        message(kind, shape, head, sections)
+    type_0, one_prb, three = (joined(BY_HAND[k][1]) for k in (0, 2, 4))
+    note("By hand: in type 0 the 15 bits behind ef may hold anything, and ef is refused.")
+    name, text, kind, shape, head, sections = BY_HAND[0]
+    entry("control 14 4 " + changed(type_0, 18, 0x7F), message_answer(kind, head, sections))
+    entry("control 14 4 " + changed(type_0, 18, 0x80), "refused Extension 12")
+    note("By hand: the message of one PRB, cut, and with one byte changed.")
+    for size in (0, 5, 7, 12, 15):
+        entry("control 14 4 " + (one_prb[: 2 * size] or "-"), "refused Truncated %d" % size)
+    for at, byte, refusal in CHANGED:
+        entry("control 14 4 " + changed(one_prb, at, byte), "refused " + refusal)
+    note("By hand: places are counted from the message, and the first fault is told.")
+    two_of = changed(three, 4, 2)
+    entry("control 14 4 " + two_of, "refused Trailing 24")
+    entry("control 14 4 " + changed(two_of, 17, 0x2C), "refused EveryOtherRb 16")
+    note("255 sections, each with a number of its own.")
+    message(3, (14, 4), dict(down=0, filter=1, frame_id=0, time_offset=1, structure=2, cp_length=3),
+            [dict(id=k, start_prb=k, num_symbol=14, beam=k, freq_offset=-1) for k in range(255)])
 
 
 def control():
@@ -327,6 +473,24 @@ def arrive(hold, arrivals):
     for (time, ep, seq, last, sub, length), answer in zip(arrivals, told):
         entry("fragment %d %d %02x%02x %d" % (time, ep, seq, 128 * last + sub, length), answer)
     return told
+
+
+def fragments_by_hand():
+    note("By hand: sequence fields.")
+    for text, seq, last, sub in (("0000", 0, 0, 0), ("0785", 7, 1, 5), ("ff7f", 255, 0, 127), ("8080", 128, 1, 0)):
+        entry("sequence " + text, "seq %d e %d sub %d written %s" % (seq, last, sub, text))
+    note("By hand: a message in another order, what goes beyond its end, and what comes again.")
+    ns = 1536
+    entry("hold %d" % (211_000 * ns), "%d" % (211_000 * ns))
+    for text, answer in (
+        ("0 0 0982 2", "Stored"),
+        ("1536 0 0900 1", "Stored"),
+        ("1536 0 0903 1", "Stray"),
+        ("3072 0 0901 3", "Whole 0 3072 1x0 3x1 2x2"),
+        ("4608 0 0901 3", "Repeat"),
+        ("4608 0 0903 1", "Repeat"),
+    ):
+        entry("fragment " + text, answer)
 
 
 def fragments():
@@ -405,6 +569,36 @@ BLOCKS = [
 ]
 
 
+# A block that uses the whole range, and one that does not.
+STEEP = [1, 32767, -2701, 26810, 5401, 20853, -8101, 14896, 10801, 8939, -13501, 2982,
+         16201, -2975, -18901, -8932, 21601, -14889, -24301, -20846, 27001, -26803, -29701, -32760]
+SHALLOW = [-600, 13, -500, 6, -400, -15, -300, -50, -200, -99, -100, -162,
+           0, -239, 100, -330, 200, -435, 300, -554, 400, -687, 500, -834]
+
+# Blocks packed by hand: the width, the numbers, the bytes, and the numbers that they are unpacked to.
+PACKED = [
+    (8, SHALLOW, "03b501c100cefedaf9e7f3f3eb00e20cd619c925ba32aa3e97",
+     [-600, 8, -504, 0, -400, -16, -304, -56, -200, -104, -104, -168,
+      0, -240, 96, -336, 200, -440, 296, -560, 400, -688, 496, -840]),
+    (9, STEEP, "07003ffd4d11528b80742a1172c173f7a2d9ba5462e855d694ba2f00",
+     [0, 32640, -2816, 26752, 5376, 20736, -8192, 14848, 10752, 8832, -13568, 2944,
+      16128, -3072, -18944, -8960, 21504, -14976, -24320, -20864, 26880, -26880, -29824, -32768]),
+    (14, STEEP, "020001ffff571a2e151945de058e8c2a308bacb402e93f4bd18b62b747546317 5a112ba4697a5d38bfa002",
+     [0, 32764, -2704, 26808, 5400, 20852, -8104, 14896, 10800, 8936, -13504, 2980,
+      16200, -2976, -18904, -8932, 21600, -14892, -24304, -20848, 27000, -26804, -29704, -32760]),
+    (None, STEEP, "00017ffff57368ba15195175e05b3a302a3122ebcb430ba63f49f461b62bdd1c 5461c5d7a113ae926979974d8bfb8008", STEEP),
+]
+
+
+def blocks_by_hand():
+    note("By hand: blocks at 8, 9 and 14 bits, and not compressed; mantissas are rounded down.")
+    for width, numbers, text, values in PACKED:
+        entry("block %s %s" % (method(width), " ".join(map(str, numbers))), joined(text) + nonzero(values))
+    note("By hand: 255 and -256 have the exponent 0 at 9 bits, and 256 has 1.")
+    for number, exponent in ((255, 0), (-256, 0), (256, 1)):
+        entry("exponent 9 %d" % number, " ".join([str(exponent)] * 24))
+
+
 def blocks():
     for numbers in BLOCKS:
         note("A block at every width.")
@@ -441,14 +635,14 @@ def limits(top):
 def others():
     note("No entries.")
     for line in ("nothing", "symbol 5 0 0 0 0", "symbol 0 0 0 0", "symbol 0 0 0 0 0 0", "frame 256 0", "pdu 1", "pdu 0g", "pdu", "control 14 2",
-                 "hold -1", "fragment 0 16 0000 1", "fragment 0 0 000 1", "block 17 1", "single 9 24 1", "unpack 1 53", "exponent 0 1", "exponent 9 32768"):
+                 "hold -1", "fragment 0 16 0000 1", "fragment 0 0 000 1", "sequence 000", "header 100300", "numerology 1:2", "slots", "after 5 0 0 0", "prbs 1 256 1", "messages 0", "block 17 1", "single 9 24 1", "unpack 1 53", "exponent 0 1", "exponent 9 32768"):
         entry(line, None)
     ENTRIES.append("")
     ANSWERS.append("")
 
 
 if __name__ == "__main__":
-    for table in (symbols, frames, pdus, control, fragments, blocks, others):
+    for table in (symbols, numerologies, frames, headers, pdus, control_by_hand, control, fragments_by_hand, fragments, blocks_by_hand, blocks, others):
         table()
     here = os.path.dirname(os.path.abspath(__file__))
     for name, lines in (("stdin", ENTRIES), ("stdout", ANSWERS)):

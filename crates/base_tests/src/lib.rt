@@ -1,5 +1,5 @@
-//! Tests of bytes, lists, times and tables, by the public calls of `bit_fields`, `fh_base`, `fh_time`, `text_lines`, `owed_bytes`,
-//! `eaxc_map`, `fault_counters` and `window_config`, which are proved without them.
+//! Tests of bytes, lists and tables, by the public calls of `bit_fields`, `fh_base`, `text_lines`, `owed_bytes`, `eaxc_map`,
+//! `fault_counters` and `window_config`, which are proved without them.
 #![tactic(auto)]
 
 #[cfg(test)]
@@ -14,7 +14,5 @@ mod lines;
 mod lists;
 #[cfg(test)]
 mod owed;
-#[cfg(test)]
-mod times;
 #[cfg(test)]
 mod windows;

@@ -3,10 +3,11 @@ use crate::blocks::{
     block_text, exponents_text, read_block, read_exponent, read_method, read_single, unpacked_text,
 };
 use crate::control::{message_text, read_shape};
-use crate::fragments::{Fragments, read_fragment, read_hold};
-use crate::frames::frame_text;
+use crate::fragments::{Fragments, read_fragment, read_hold, read_sequence, sequence_text};
+use crate::frames::{frame_text, header_text, messages_text};
 use crate::hexadecimal::bytes_of;
-use crate::times::{read_frame, read_symbol, start};
+use crate::numerologies::{numerology_text, read_spelled, slots_text};
+use crate::times::{following, read_frame, read_prbs, read_slot, read_symbol, start};
 use std::alloc::{AllocError, Global};
 use std::str::SplitWhitespace;
 
@@ -25,9 +26,16 @@ pub fn answer(
     }
     match keyword {
         "symbol" => symbol_answer(alloc, &mut words),
+        "numerology" => numerology_answer(alloc, &mut words),
+        "slots" => slots_answer(alloc, &mut words),
+        "after" => after_answer(alloc, &mut words),
         "frame" => frame_answer(alloc, &mut words),
+        "prbs" => prbs_answer(alloc, &mut words),
+        "header" => header_answer(alloc, &mut words),
+        "messages" => messages_answer(alloc, &mut words),
         "pdu" => pdu_answer(alloc, &mut words),
         "control" => control_answer(alloc, &mut words),
+        "sequence" => sequence_answer(alloc, &mut words),
         "hold" => hold_answer(alloc, fragments, &mut words),
         "fragment" => fragment_answer(alloc, fragments, &mut words),
         "block" => block_answer(alloc, &mut words),
@@ -51,11 +59,47 @@ fn symbol_answer(alloc: Global, words: &mut SplitWhitespace<'_>) -> Answer {
     Ok(Some(text))
 }
 
+fn numerology_answer(alloc: Global, words: &mut SplitWhitespace<'_>) -> Answer {
+    let Some(spelled) = read_spelled(words) else {
+        return Ok(None);
+    };
+    let text = numerology_text(alloc, spelled)?;
+    Ok(Some(format!(in alloc; "numerology {text}")?))
+}
+
+fn slots_answer(alloc: Global, words: &mut SplitWhitespace<'_>) -> Answer {
+    let Some(spelled) = read_spelled(words) else {
+        return Ok(None);
+    };
+    let text = slots_text(alloc, spelled)?;
+    Ok(Some(format!(in alloc; "slots {text}")?))
+}
+
+fn after_answer(alloc: Global, words: &mut SplitWhitespace<'_>) -> Answer {
+    let Some(named) = read_slot(words) else {
+        return Ok(None);
+    };
+    let text = match following(&named) {
+        Some(next) => { format!(in alloc; "after {} {} {}", next.frame, next.subframe, next.slot)? }
+        None => String::from_str(alloc, "after none")?,
+    };
+    Ok(Some(text))
+}
+
 fn frame_answer(alloc: Global, words: &mut SplitWhitespace<'_>) -> Answer {
     match read_frame(words) {
         Some(number) => Ok(Some(format!(in alloc; "frame {number}")?)),
         None => Ok(None),
     }
+}
+
+fn prbs_answer(alloc: Global, words: &mut SplitWhitespace<'_>) -> Answer {
+    let text = match read_prbs(words) {
+        Some(Some((first, count))) => format!(in alloc; "prbs {first} {count}")?,
+        Some(None) => String::from_str(alloc, "prbs none")?,
+        None => return Ok(None),
+    };
+    Ok(Some(text))
 }
 
 /// The bytes that the last word spells.
@@ -70,6 +114,24 @@ fn last_bytes(
         return Ok(None);
     }
     bytes_of(alloc, word)
+}
+
+fn header_answer(alloc: Global, words: &mut SplitWhitespace<'_>) -> Answer {
+    let Some(bytes) = last_bytes(alloc, words)? else {
+        return Ok(None);
+    };
+    match header_text(alloc, bytes.as_slice())? {
+        Some(text) => Ok(Some(format!(in alloc; "header {text}")?)),
+        None => Ok(None),
+    }
+}
+
+fn messages_answer(alloc: Global, words: &mut SplitWhitespace<'_>) -> Answer {
+    let Some(bytes) = last_bytes(alloc, words)? else {
+        return Ok(None);
+    };
+    let text = messages_text(alloc, bytes.as_slice())?;
+    Ok(Some(format!(in alloc; "messages {text}")?))
 }
 
 fn pdu_answer(alloc: Global, words: &mut SplitWhitespace<'_>) -> Answer {
@@ -89,6 +151,14 @@ fn control_answer(alloc: Global, words: &mut SplitWhitespace<'_>) -> Answer {
     };
     let text = message_text(alloc, shape, bytes.as_slice())?;
     Ok(Some(format!(in alloc; "control {text}")?))
+}
+
+fn sequence_answer(alloc: Global, words: &mut SplitWhitespace<'_>) -> Answer {
+    let Some(field) = read_sequence(words) else {
+        return Ok(None);
+    };
+    let text = sequence_text(alloc, field)?;
+    Ok(Some(format!(in alloc; "sequence {text}")?))
 }
 
 fn hold_answer(

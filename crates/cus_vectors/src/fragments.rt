@@ -2,9 +2,9 @@
 ghost use Rattle.std.specs.Prelude.{◌≡◌, ◌<◌, ◌≤ℤ◌, IfSome, pos, neg_ℤ, ◌^◌};
 ghost use Rattle.ecpri_fragments.specs.Assemblies.{endpoints_of};
 
-use crate::hexadecimal::octet;
+use crate::hexadecimal::{octet, text_of};
 use crate::words::{byte, long, over};
-use ecpri_fragments::{Assembly, Lease, SeqField, Taken, read_seq};
+use ecpri_fragments::{Assembly, Lease, SeqField, Taken, put_seq, read_seq};
 use fh_time::Ticks;
 use std::alloc::{AllocError, Global};
 use std::str::SplitWhitespace;
@@ -83,6 +83,26 @@ fn sequence(word: &str) -> Option<SeqField>
     let id = octet(digits[0], digits[1])?;
     let rest = octet(digits[2], digits[3])?;
     Some(read_seq([id, rest]))
+}
+
+/// The sequence field of `SEQUENCE`.
+pub fn read_sequence(words: &mut SplitWhitespace<'_>) -> Option<SeqField>
+    ensures { IfSome result (λ f. f.sub < 128) }
+{
+    let field = sequence(words.next()?)?;
+    over(words)?;
+    Some(field)
+}
+
+/// A sequence field's sequence number, E and subsequence number, and the bytes to which it is written.
+pub fn sequence_text(alloc: Global, field: SeqField) -> Result<String, AllocError>
+    requires { field.sub < 128 }
+{
+    let written = text_of(alloc, &put_seq(field))?;
+    format!(in alloc;
+        "seq {} e {} sub {} written {written}",
+        field.seq, field.last as u8, field.sub
+    )
 }
 
 /// The hold of `TICKS`.

@@ -1,8 +1,8 @@
-// What an eCPRI frame tells, in any pieces.
+// What an eCPRI frame tells in any pieces, and the messages of a frame that is held whole.
 ghost use Rattle.std.specs.Prelude.{◌<◌};
 
 use crate::hexadecimal::text_of;
-use ecpri_frames::{Feed, Pdu, PduRefusal, put_head};
+use ecpri_frames::{Feed, Head, Pdu, PduRefusal, messages, pad_after, put_head, read_head};
 use std::alloc::{AllocError, Global};
 
 /// What a frame tells: the four bytes of each header, then its payload, and `ff` behind a payload of at least one byte;
@@ -85,4 +85,45 @@ pub fn frame_text(alloc: Global, frame: &[u8]) -> Result<String, AllocError> {
         }
         None => format!(in alloc; "{bytes} whole, {pieces}"),
     }
+}
+
+/// The flag, the type and the size of a header.
+fn head_text(alloc: Global, head: Head) -> Result<String, AllocError> {
+    format!(in alloc;
+        "more {} type {} size {}",
+        head.more as u8, head.kind, head.size
+    )
+}
+
+/// The fields of a header, the padding that follows its payload where another message does, and the bytes to which it is
+/// written. None where it has not four bytes.
+pub fn header_text(alloc: Global, bytes: &[u8]) -> Result<Option<String>, AllocError> {
+    let &[a, b, c, d] = bytes else {
+        return Ok(None);
+    };
+    let head = read_head([a, b, c, d]);
+    let fields = head_text(alloc, head)?;
+    let written = text_of(alloc, &put_head(head))?;
+    Ok(Some(format!(in alloc;
+        "{fields} padding {} written {written}",
+        pad_after(head.size)
+    )?))
+}
+
+/// The messages of a frame, a line each: its place, its header and its payload; and the frame's fault.
+pub fn messages_text(alloc: Global, frame: &[u8]) -> Result<String, AllocError> {
+    let walk = messages(frame);
+    let mut text = match walk.refusal() {
+        Some(refusal) => format!(in alloc; "{} {}", refusal.why.name(), refusal.place)?,
+        None => String::from_str(alloc, "whole")?,
+    };
+    for message in walk {
+        let head = head_text(alloc, message.head)?;
+        let payload = text_of(alloc, message.payload)?;
+        text.push_str(format!(in alloc;
+            "\n  at {} {head} payload {payload}",
+            message.place
+        )?.as_str())?;
+    }
+    Ok(text)
 }

@@ -10,6 +10,7 @@ mod control;
 mod fragments;
 mod frames;
 mod hexadecimal;
+mod numerologies;
 mod section_texts;
 mod times;
 mod words;

@@ -6,6 +6,11 @@ pub fn byte(words: &mut SplitWhitespace<'_>) -> Option<u8> {
     words.next()?.parse::<u8>().ok()
 }
 
+/// The next word, if it is a number of 16 bits.
+pub fn number(words: &mut SplitWhitespace<'_>) -> Option<u16> {
+    words.next()?.parse::<u16>().ok()
+}
+
 /// The next word, if it is a number of 16 bits with its sign.
 pub fn short(words: &mut SplitWhitespace<'_>) -> Option<i16> {
     words.next()?.parse::<i16>().ok()
