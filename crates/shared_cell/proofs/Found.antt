@@ -7,7 +7,7 @@ use Rattle.air_source.specs.declared.events.AirCell.{AirCell}
 use Rattle.shared_cell.specs.declared.places.CellPlace.{CellPlace}
 use Rattle.shared_cell.specs.declared.values.Mixed.{Mixed}
 use Rattle.shared_cell.specs.Places.{is_same, is_mixed_at, place_in, place_of, place_cmp}
-use Rattle.shared_cell.specs.Joined.{joined, joined_block, opened, added, HasRoom}
+use Rattle.shared_cell.specs.Joined.{joined, joined_at, joined_block, joined_or_left, may_join, opened}
 use Rattle.shared_cell.specs.Held.{index_of}
 use Rattle.shared_cell.proofs.Same.{is_eq-place_cmp, same_is, same_turned}
 
@@ -65,6 +65,13 @@ index_of-set q (x ∷ xs) (suc k) m d h = ap (λ (o : Option ℕ). cond (is_mixe
 pub place_in-joined : (c : AirCell) (m : Mixed) → place_in (joined c m) ≡ place_in m
 place_in-joined c m = elim (c.block) as (λ b. place_in (joined_block b m) ≡ place_in m) [ None ↦ refl | Some block ↦ refl ]
 
+pub place_in-joined_or_left : (c : AirCell) (m : Mixed) → place_in (joined_or_left c m) ≡ place_in m
+place_in-joined_or_left c m = go (may_join c m)
+  where
+    go : (b : Bool) → place_in (cond b (joined c m) m) ≡ place_in m
+    go true = place_in-joined c m
+    go false = refl
+
 -- ---- where the place is found
 
 pub index_of-within : (q : CellPlace) (ms : List Mixed) (k : ℕ) → index_of q ms ≡ Some k → k < length ms
@@ -76,44 +83,29 @@ index_of-within q (x ∷ xs) k h = go (is_mixed_at q x) (index_of q xs) h (λ j.
     go false None h rest = cc
     go false (Some j) h rest = let is : suc j ≡ k = cc in let less = rest j refl in omega (arith, is, less)
 
-pub index_of-room : (c : AirCell) (ms : List Mixed) (k : ℕ) (d : Mixed) → All (HasRoom c) ms → index_of (place_of c) ms ≡ Some k → (get_or ms k d).units < 8
-index_of-room c [] k d room h = cc
-index_of-room c (x ∷ xs) k d room h =
-    go (is_mixed_at (place_of c) x) (index_of (place_of c) xs) refl h (λ j. index_of-room c xs j d (All-tail (HasRoom c) x xs room))
-  where
-    go : (b : Bool) (o : Option ℕ) → is_mixed_at (place_of c) x ≡ b → cond b (Some 0) (option_map suc o) ≡ Some k
-        → ((j : ℕ) → o ≡ Some j → (get_or xs j d).units < 8) → (get_or (x ∷ xs) k d).units < 8
-    go true o at h rest =
-        let is : 0 ≡ k = cc in
-        subst (λ j. (get_or (x ∷ xs) j d).units < 8) is (All-head (HasRoom c) x xs room at)
-    go false None at h rest = cc
-    go false (Some j) at h rest =
-        let is : suc j ≡ k = cc in
-        subst (λ i. (get_or (x ∷ xs) i d).units < 8) is (rest j refl)
-
--- the cell is joined to the one that is found
-pub added-found : (c : AirCell) (ms : List Mixed) (k : ℕ) (d : Mixed) → index_of (place_of c) ms ≡ Some k → set ms k (joined c (get_or ms k d)) ≡ added c ms
-added-found c [] k d h = cc
-added-found c (x ∷ xs) k d h = go (is_mixed_at (place_of c) x) (index_of (place_of c) xs) h (λ j. added-found c xs j d)
+-- the cell is joined to the one that is found, or that is left
+pub joined_at-found : (c : AirCell) (ms : List Mixed) (k : ℕ) (d : Mixed) → index_of (place_of c) ms ≡ Some k → set ms k (joined_or_left c (get_or ms k d)) ≡ joined_at c ms
+joined_at-found c [] k d h = cc
+joined_at-found c (x ∷ xs) k d h = go (is_mixed_at (place_of c) x) (index_of (place_of c) xs) h (λ j. joined_at-found c xs j d)
   where
     go : (b : Bool) (o : Option ℕ) → cond b (Some 0) (option_map suc o) ≡ Some k
-        → ((j : ℕ) → o ≡ Some j → set xs j (joined c (get_or xs j d)) ≡ added c xs)
-        → set (x ∷ xs) k (joined c (get_or (x ∷ xs) k d)) ≡ cond b (joined c x ∷ xs) (x ∷ added c xs)
+        → ((j : ℕ) → o ≡ Some j → set xs j (joined_or_left c (get_or xs j d)) ≡ joined_at c xs)
+        → set (x ∷ xs) k (joined_or_left c (get_or (x ∷ xs) k d)) ≡ cond b (joined_or_left c x ∷ xs) (x ∷ joined_at c xs)
     go true o h rest =
         let is : 0 ≡ k = cc in
-        subst (λ j. set (x ∷ xs) j (joined c (get_or (x ∷ xs) j d)) ≡ joined c x ∷ xs) is refl
+        subst (λ j. set (x ∷ xs) j (joined_or_left c (get_or (x ∷ xs) j d)) ≡ joined_or_left c x ∷ xs) is refl
     go false None h rest = cc
     go false (Some j) h rest =
         let is : suc j ≡ k = cc in
-        subst (λ i. set (x ∷ xs) i (joined c (get_or (x ∷ xs) i d)) ≡ x ∷ added c xs) is (ap (λ ys. x ∷ ys) (rest j refl))
+        subst (λ i. set (x ∷ xs) i (joined_or_left c (get_or (x ∷ xs) i d)) ≡ x ∷ joined_at c xs) is (ap (λ ys. x ∷ ys) (rest j refl))
 
 -- where none is found, it is the last
-pub added-first : (c : AirCell) (ms : List Mixed) → index_of (place_of c) ms ≡ None → ms ++ joined c (opened c) ∷ [] ≡ added c ms
-added-first c [] h = refl
-added-first c (x ∷ xs) h = go (is_mixed_at (place_of c) x) (index_of (place_of c) xs) h (added-first c xs)
+pub joined_at-first : (c : AirCell) (ms : List Mixed) → index_of (place_of c) ms ≡ None → ms ++ joined c (opened c) ∷ [] ≡ joined_at c ms
+joined_at-first c [] h = refl
+joined_at-first c (x ∷ xs) h = go (is_mixed_at (place_of c) x) (index_of (place_of c) xs) h (joined_at-first c xs)
   where
-    go : (b : Bool) (o : Option ℕ) → cond b (Some 0) (option_map suc o) ≡ None → (o ≡ None → xs ++ joined c (opened c) ∷ [] ≡ added c xs)
-        → x ∷ (xs ++ joined c (opened c) ∷ []) ≡ cond b (joined c x ∷ xs) (x ∷ added c xs)
+    go : (b : Bool) (o : Option ℕ) → cond b (Some 0) (option_map suc o) ≡ None → (o ≡ None → xs ++ joined c (opened c) ∷ [] ≡ joined_at c xs)
+        → x ∷ (xs ++ joined c (opened c) ∷ []) ≡ cond b (joined_or_left c x ∷ xs) (x ∷ joined_at c xs)
     go true o h rest = cc
     go false None h rest = ap (λ ys. x ∷ ys) (rest refl)
     go false (Some j) h rest = cc

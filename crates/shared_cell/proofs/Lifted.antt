@@ -1,8 +1,12 @@
 -- One more cell in the list of all that were added.
-use Rattle.std.proofs.Common.{◌≡◌, ℕ, suc, ◌<◌, ◌≤◌, Option, Some, None, Bool, true, false, cond, not, List, [], ◌∷◌, ◌++◌, map, length, get_or, count_by, refl, ap, ap₂, sym, ◌∙◌, arith, subst, All}
+use Rattle.std.proofs.Common.{◌≡◌, ◌==◌, ◌&&◌, nat_lt, IsTrue, ℕ, suc, ◌<◌, ◌≤◌, Option, Some, None, Bool, true, false, cond, not, List, [], ◌∷◌, ◌++◌, map, length, get_or, count_by, refl, ap, ap₂, sym, ◌∙◌, arith, subst, All}
 use Rattle.std.specs.List.{AllPairs, filter}
 use Rattle.std.specs.Option.{option_map}
-use Rattle.std.proofs.lemmas.Bool.{not-false, not-true}
+use Rattle.std.specs.Ordering.{int_eq}
+use Rattle.std.proofs.lemmas.Bool.Decides.{nat_tests}
+use Rattle.std.proofs.lemmas.Bool.{eq-eqb, not-false, not-true}
+use Rattle.fh_time.proofs.Orders.{int_own}
+use Rattle.fh_time.specs.declared.values.Ticks.{Ticks}
 use Rattle.std.proofs.lemmas.List.{append-nil}
 use Rattle.std.proofs.lemmas.List.Kept.{AllPairs-cons, AllPairs-filter}
 use Rattle.std.proofs.lemmas.List.Elements.{All-cons, All-tail, All-head, filter-append, filter_passes}
@@ -10,9 +14,9 @@ use Rattle.std.proofs.lemmas.List.Sums.{length-filter, count_by-le-length}
 use Rattle.air_source.specs.declared.events.AirCell.{AirCell}
 use Rattle.shared_cell.specs.declared.places.CellPlace.{CellPlace}
 use Rattle.shared_cell.specs.declared.values.Mixed.{Mixed}
-use Rattle.shared_cell.specs.Places.{is_same, is_at, place_of}
-use Rattle.shared_cell.specs.Joined.{joined, opened, added, HasRoom}
-use Rattle.shared_cell.specs.Combined.{firsts, cells_with, has_samples, mixed_of, combined, Stands, Follows}
+use Rattle.shared_cell.specs.Places.{is_same, is_at, is_mixed_at, place_of}
+use Rattle.shared_cell.specs.Joined.{joined, joined_at, may_join, opened, added, MayJoin}
+use Rattle.shared_cell.specs.Combined.{firsts, cells_with, has_samples, mixed_of, combined, AgreeIn, Stands, Follows}
 use Rattle.shared_cell.specs.Held.{index_of}
 use Rattle.shared_cell.proofs.Same.{same_is, same_itself, same_turned}
 use Rattle.shared_cell.proofs.Sums.{mixed_of-last, mixed_of-none}
@@ -154,21 +158,65 @@ combined-last cells c =
 
 -- ---- room for one more
 
-room_at : (cells : List AirCell) (c x : AirCell) → Follows cells c → HasRoom c (of_first cells x)
-room_at cells c x f = λ at.
+room_at : (cells : List AirCell) (c x : AirCell) → Follows cells c → is_at (place_of c) x ≡ true → (of_first cells x).units < 8
+room_at cells c x f at =
     let own = cells_with x cells in
     let most : count_by has_samples own ≤ length own = count_by-le-length has_samples own in
     let so_many : length own ≡ count_by (is_at (place_of x)) cells = length-filter (is_at (place_of x)) cells in
     let few : count_by (is_at (place_of x)) cells < 8 = subst (λ (p : CellPlace). count_by (is_at p) cells < 8) (same_is (place_of c) (place_of x) at) f.room in
     omega (arith, most, so_many, few)
 
-room_over : (cells : List AirCell) (c : AirCell) (xs : List AirCell) → Follows cells c → All (HasRoom c) (map (of_first cells) xs)
-room_over cells c [] f = λ k d lt. absurd (omega arith)
-room_over cells c (x ∷ xs) f = All-cons (HasRoom c) (of_first cells x) (map (of_first cells) xs) (room_at cells c x f) (room_over cells c xs f)
+all_true : (a b c d : Bool) → a ≡ true → b ≡ true → c ≡ true → d ≡ true → IsTrue (a && (b && (c && d)))
+all_true a b c d e f g h = rw (e, f, g, h) refl
 
--- the place of a cell that may follow has room
-pub room_left : (ms : List Mixed) (cells : List AirCell) (c : AirCell) → Stands ms cells → Follows cells c → All (HasRoom c) ms
-room_left ms cells c stands f = subst (λ (xs : List Mixed). All (HasRoom c) xs) (sym stands) (room_over cells c (firsts cells) f)
+joins : (cells : List AirCell) (c x : AirCell) → Follows cells c → (IsTrue (is_at (place_of c) x) → AgreeIn c x) → MayJoin c (of_first cells x)
+joins cells c x f agrees = λ at.
+    let same = agrees at in
+    all_true (nat_lt (of_first cells x).units 8) (int_eq c.at.0 x.at.0) (c.section == x.section) (c.mask == x.mask)
+    (less (of_first cells x).units (room_at cells c x f at)) (ap (λ (t : Ticks). int_eq c.at.0 t.0) (sym same.at) ∙ int_own c.at.0) (eq-eqb c.section x.section same.section) (eq-eqb c.mask x.mask same.mask)
+  where
+    less : (n : ℕ) → n < 8 → nat_lt n 8 ≡ true
+    less n h = grind (arith, nat_tests, h)
+
+joins_over : (cells : List AirCell) (c : AirCell) (xs : List AirCell) → Follows cells c → All (λ x. IsTrue (is_at (place_of c) x) → AgreeIn c x) xs → All (MayJoin c) (map (of_first cells) xs)
+joins_over cells c [] f h = λ k d lt. absurd (omega arith)
+joins_over cells c (x ∷ xs) f h =
+    let P : AirCell → Type 0 = λ y. IsTrue (is_at (place_of c) y) → AgreeIn c y in
+    All-cons (MayJoin c) (of_first cells x) (map (of_first cells) xs) (joins cells c x f (All-head P x xs h)) (joins_over cells c xs f (All-tail P x xs h))
+
+-- what holds of all holds of those that are kept
+all_kept : (P : AirCell → Type 0) (p : AirCell → Bool) (xs : List AirCell) → All P xs → All P (filter p xs)
+all_kept P p [] h = h
+all_kept P p (x ∷ xs) h = go (p x) (all_kept P p xs (All-tail P x xs h))
+  where
+    go : (b : Bool) → All P (filter p xs) → All P (cond b (x ∷ filter p xs) (filter p xs))
+    go true rest = All-cons P x (filter p xs) (All-head P x xs h) rest
+    go false rest = rest
+
+-- and of the firsts
+all_firsts : (P : AirCell → Type 0) (cells : List AirCell) → All P cells → All P (firsts cells)
+all_firsts P [] h = h
+all_firsts P (d ∷ rest) h = All-cons P d _ (All-head P d rest h) (all_kept P (other_place d) (firsts rest) (all_firsts P rest (All-tail P d rest h)))
+
+-- a cell that may follow may be joined
+pub may_joins : (ms : List Mixed) (cells : List AirCell) (c : AirCell) → Stands ms cells → Follows cells c → All (MayJoin c) ms
+may_joins ms cells c stands f =
+    subst (λ (xs : List Mixed). All (MayJoin c) xs) (sym stands)
+    (joins_over cells c (firsts cells) f (all_firsts (λ x. IsTrue (is_at (place_of c) x) → AgreeIn c x) cells f.agrees))
+
+pub joined_all : (c : AirCell) (ms : List Mixed) → All (MayJoin c) ms → joined_at c ms ≡ added c ms
+joined_all c [] h = refl
+joined_all c (m ∷ ms) h = go (is_mixed_at (place_of c) m) (may_join c m) (All-head (MayJoin c) m ms h) (joined_all c ms (All-tail (MayJoin c) m ms h))
+  where
+    go : (b may : Bool) → (b ≡ true → may ≡ true) → joined_at c ms ≡ added c ms
+        → cond b (cond may (joined c m) m ∷ ms) (m ∷ joined_at c ms) ≡ cond b (joined c m ∷ ms) (m ∷ added c ms)
+    go true true h rest = refl
+    go true false h rest = let bad = h refl in cc
+    go false may h rest = ap (λ (xs : List Mixed). m ∷ xs) rest
+
+-- so one more cell that may follow is one more in the definition
+pub joined_at-same : (ms : List Mixed) (cells others : List AirCell) (c : AirCell) → Stands ms cells → Follows cells c → Stands ms others → Stands (joined_at c ms) (others ++ c ∷ [])
+joined_at-same ms cells others c stands f same = joined_all c ms (may_joins ms cells c stands f) ∙ ap (added c) same ∙ sym (combined-last others c)
 
 -- ---- a place that no combined cell has
 

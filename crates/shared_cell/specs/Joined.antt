@@ -1,9 +1,11 @@
 -- One more cell in the combined cell of its place, and the bounds of its sums.
-use Rattle.std.specs.Prelude.{IsTrue, ℕ, pos, neg_ℤ, ◌+ℤ◌, ◌≤ℤ◌, ◌+◌, ◌-◌, ◌*◌, ◌/◌, ◌%◌, ◌^◌, ◌<◌, ◌≤◌, ◌==◌, Bool, if◌then◌else◌, List, [], ◌∷◌, map, slice_index_or, Option, Some, None}
+use Rattle.std.specs.Prelude.{IsTrue, ℕ, ◌&&◌, nat_lt, not, pos, neg_ℤ, ◌+ℤ◌, ◌≤ℤ◌, ◌+◌, ◌-◌, ◌*◌, ◌/◌, ◌%◌, ◌^◌, ◌<◌, ◌≤◌, ◌==◌, Bool, if◌then◌else◌, List, [], ◌∷◌, map, slice_index_or, Option, Some, None}
 use Rattle.std.specs.List.{range_with_len}
+use Rattle.std.specs.Ordering.{int_eq}
 use Rattle.bfp_codec.specs.declared.samples.Wide.{Wide}
 use Rattle.bfp_codec.specs.Samples.{no_wide}
 use Rattle.air_source.specs.declared.events.AirCell.{AirCell}
+use Rattle.air_source.specs.Units.{is_down}
 use Rattle.shared_cell.specs.declared.values.Mixed.{Mixed}
 use Rattle.shared_cell.specs.declared.values.Sum.{Sum}
 use Rattle.shared_cell.specs.Places.{is_mixed_at, place_of}
@@ -30,6 +32,10 @@ summed mask block sums = map (λ k. if in_mask mask k then plus (slice_index_or 
 -- the combined cell of a cell's place before any samples
 abbrev pub opened : AirCell → Mixed
 opened c = record { at = c.at; id = c.id; slot = c.slot; symbol = c.symbol; prb = c.prb; section = c.section; mask = c.mask; units = 0; sums = map (λ k. no_sum) (range_with_len 0 12) }
+
+-- the distributed unit's
+abbrev pub is_uplink : AirCell → Bool
+is_uplink c = not (is_down c.side)
 
 -- a missing cell changes nothing; samples count as a unit's, and are summed
 abbrev pub joined_block : Option (List Wide) → Mixed → Mixed
@@ -59,6 +65,23 @@ pub record IsBounded (m : Mixed) : Type 0 where
   pub units : m.units ≤ 8
   pub sums : AreWithin m.units m.sums
 
--- fewer than 8 units have samples at the cell's place
-abbrev pub HasRoom : AirCell → Mixed → Type 0
-HasRoom c m = IsTrue (is_mixed_at (place_of c) m) → m.units < 8
+-- the cell may be joined to the combined cell: fewer than 8 units have samples there, and it has the place's time, section and mask
+abbrev pub may_join : AirCell → Mixed → Bool
+may_join c m = nat_lt m.units 8 && (int_eq c.at.0 m.at.0 && ((c.section == m.section) && (c.mask == m.mask)))
+
+-- the combined cell with the cell, or as it is where the cell may not be joined
+abbrev pub joined_or_left : AirCell → Mixed → Mixed
+joined_or_left c m = if may_join c m then joined c m else m
+
+-- the combined cells with one more cell of the distributed unit, or as they are where it may not be joined to that of its place
+abbrev pub joined_at : AirCell → List Mixed → List Mixed
+joined_at c [] = joined c (opened c) ∷ []
+joined_at c (m ∷ ms) = if is_mixed_at (place_of c) m then joined_or_left c m ∷ ms else m ∷ joined_at c ms
+
+-- a cell of the radio unit changes nothing
+abbrev pub taken : AirCell → List Mixed → List Mixed
+taken c ms = if is_uplink c then joined_at c ms else ms
+
+-- where the combined cell is that of the cell's place, the cell may be joined to it
+abbrev pub MayJoin : AirCell → Mixed → Type 0
+MayJoin c m = IsTrue (is_mixed_at (place_of c) m) → IsTrue (may_join c m)

@@ -1,7 +1,7 @@
 // One more cell in the combined cell of its place.
 ghost use Rattle.std.specs.Prelude.{◌≡◌, ℕ, ◌<◌, ◌+◌};
 ghost use Rattle.bfp_codec.specs.declared.samples.Wide.{Wide};
-ghost use Rattle.shared_cell.specs.Joined.{opened, joined, summed, plus, IsWithin, AreWithin, IsBounded};
+ghost use Rattle.shared_cell.specs.Joined.{opened, joined, joined_or_left, may_join, summed, plus, IsWithin, AreWithin, IsBounded};
 
 use crate::{Mixed, Sum};
 use air_source::AirCell;
@@ -60,5 +60,23 @@ pub fn join(mixed: &mut Mixed, c: &AirCell)
     if let Some(block) = &c.block {
         mixed.units += 1;
         add_samples(mixed.mask, block, &mut mixed.sums);
+    }
+}
+
+// Whether a cell may be joined to a combined cell: fewer than 8 units have samples there, and time, section and mask agree.
+fn may_join(mixed: &Mixed, c: &AirCell) -> bool
+    ensures { result ≡ may_join c.now mixed.now }
+{
+    mixed.units < 8 && c.at == mixed.at && c.section == mixed.section && c.mask == mixed.mask
+}
+
+/// Joins a cell to the combined cell of its place where it may be joined, and changes nothing else.
+pub fn join_or_leave(mixed: &mut Mixed, c: &AirCell)
+    requires { IsBounded mixed.old }
+    ensures value { mixed.new ≡ joined_or_left c.now mixed.old }
+    ensures bounded { IsBounded mixed.new }
+{
+    if may_join(mixed, c) {
+        join(mixed, c);
     }
 }

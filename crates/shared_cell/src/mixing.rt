@@ -1,14 +1,14 @@
 // The mixer of cells.
-ghost use Rattle.std.specs.Prelude.{◌≡◌, ◌<◌, ◌↔◌, ◌≤◌, [], ◌∷◌, ◌++◌, length, slice_get, All, OnOk, OnErr, IsNone, List, None};
+ghost use Rattle.std.specs.Prelude.{◌≡◌, ◌<◌, ◌↔◌, ◌≤◌, [], ◌∷◌, ◌++◌, length, slice_get, OnOk, OnErr, IsNone, List, None};
 ghost use Rattle.air_source.specs.declared.events.AirCell.{AirCell};
 ghost use Rattle.shared_cell.specs.Places.{place_of};
-ghost use Rattle.shared_cell.specs.Joined.{added, HasRoom};
-ghost use Rattle.shared_cell.specs.Combined.{combined, firsts, cells_with, Stands, MayAdd};
+ghost use Rattle.shared_cell.specs.Joined.{joined_at, taken};
+ghost use Rattle.shared_cell.specs.Combined.{combined, firsts, cells_with, Follows, Stands, MayAdd};
 
 use crate::Mixed;
-use crate::joining::{join, opened};
+use crate::joining::{join, join_or_leave, opened};
 use crate::places::{CellPlace, find_or_insert, place_of};
-use air_source::AirCell;
+use air_source::{AirCell, Side};
 use fh_base::NoMemory;
 use std::alloc::Global;
 use std::collections::BTreeMap;
@@ -61,6 +61,29 @@ impl Mixer {
         self.put(c)
     }
 
+    /// Adds a cell where [`add`](Mixer::add) may be called, and changes nothing where it is the radio unit's, where 8 units have samples
+    /// at its place, or where its time, section or mask is not that of its place.
+    ///
+    /// After `NoMemory` all is as before. It comes only at the first cell of a place.
+    pub fn try_add(&mut self, c: &AirCell) -> Result<(), NoMemory>
+        ensures ok { OnOk result (self.new ≡ taken c.now self.old) }
+        ensures follows { (cells : List AirCell) → Stands self.old cells → Follows cells c.now → OnOk result (Stands self.new (cells ++ c.now ∷ [])) }
+        ensures err { OnErr result (self.new ≡ self.old) }
+        ensures refused { (cells : List AirCell) → Stands self.old cells → OnErr result (cells_with c.now cells ≡ []) }
+    {
+        match c.side {
+            Side::Ru => Ok(()),
+            Side::Du => self.put(c),
+        }
+    }
+
+    /// The combined cells, in the order in which their places were first added.
+    pub fn as_slice(&self) -> &[Mixed]
+        ensures { result.now ≡ self.now }
+    {
+        self.mixed.as_slice()
+    }
+
     /// The `k`-th combined cell, counted from 0, in the order in which their places were first added. None exactly where
     /// there are no more than `k`.
     pub fn mixed(&self, k: usize) -> Option<Mixed>
@@ -70,10 +93,9 @@ impl Mixer {
         self.mixed.get(k).copied()
     }
 
-    // Joins the cell to the combined cell of its place, or opens one.
+    // Joins the cell to the combined cell of its place where it may be joined, or opens one.
     fn put(&mut self, c: &AirCell) -> Result<(), NoMemory>
-        requires { All (HasRoom c.now) self.old }
-        ensures ok { OnOk result (self.new ≡ added c.now self.old) }
+        ensures ok { OnOk result (self.new ≡ joined_at c.now self.old) }
         ensures err { OnErr result (self.new ≡ self.old) }
         ensures refused { OnErr result (index_of (place_of c.now) self.old ≡ None) }
     {
@@ -81,7 +103,7 @@ impl Mixer {
         let next = self.mixed.len();
         let index = find_or_insert(&mut self.places, place, next)?;
         if index < next {
-            join(&mut self.mixed[index], c);
+            join_or_leave(&mut self.mixed[index], c);
             return Ok(());
         }
         let mut mixed = opened(c);
