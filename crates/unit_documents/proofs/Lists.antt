@@ -1,0 +1,42 @@
+-- A list that is made of another, one item after the other.
+use Rattle.std.proofs.Common.{◌≡◌, ℕ, suc, ◌+◌, ◌<◌, ◌≤◌, List, [], ◌∷◌, ◌++◌, length, get_or, map, take, take-suc, Some, None, inl, inr, refl, ap, sym, ◌∙◌, subst, arith}
+use Rattle.std.specs.Prelude.{slice_get, ◌⊎◌}
+use Rattle.std.proofs.lemmas.List.{map-append}
+use Rattle.std.proofs.lemmas.Option.{slice_get_cases}
+
+-- what a list answers at an index
+at_place : {A : Type 0} (xs : List A) (i : ℕ) (x : A) → slice_get xs i ≡ Some x → (i < length xs) × (get_or xs i x ≡ x)
+at_place {A} xs i x is = either (slice_get_cases xs i).1
+  where
+    either : ((y : A) × (i < length xs) × (slice_get xs i ≡ Some y) × (get_or xs i y ≡ y)) ⊎ ((length xs ≤ i) × (slice_get xs i ≡ None)) → (i < length xs) × (get_or xs i x ≡ x)
+    either (inl found) = let same : found.0 ≡ x = (let here = found.2 in cc) in (found.1, subst (λ (y : A). get_or xs i y ≡ y) same found.3)
+    either (inr past) = let none = past.1 in cc
+
+-- one item more is copied
+pub next_copied : {A : Type 0} (xs : List A) (i : ℕ) (d : A) (items now : List A) → i < length xs → items ≡ take i xs → now ≡ items ++ get_or xs i d ∷ [] → now ≡ take (i + 1) xs
+next_copied xs i d items now lt before is =
+    let next : suc i ≡ i + 1 = omega arith in
+    is ∙ ap (λ ys. ys ++ get_or xs i d ∷ []) before ∙ sym (take-suc xs i d lt) ∙ ap (λ n. take n xs) next
+
+pub next_listed : {A : Type 0} (xs : List A) (i : ℕ) (x : A) (items now : List A) → slice_get xs i ≡ Some x → items ≡ take i xs → now ≡ items ++ x ∷ [] → now ≡ take (i + 1) xs
+next_listed xs i x items now got before is =
+    let here = at_place xs i x got in
+    next_copied xs i x items now here.0 before (is ∙ ap (λ y. items ++ y ∷ []) (sym here.1))
+
+-- one item more is made of one
+pub next_made : {A B : Type 0} (f : A → B) (xs : List A) (i : ℕ) (d : A) (items now : List B) → i < length xs → items ≡ map f (take i xs) → now ≡ items ++ f (get_or xs i d) ∷ [] → now ≡ map f (take (i + 1) xs)
+next_made f xs i d items now lt before is =
+    let next : suc i ≡ i + 1 = omega arith in
+    is ∙ ap (λ ys. ys ++ f (get_or xs i d) ∷ []) before ∙ sym (map-append f (take i xs) (get_or xs i d ∷ [])) ∙ ap (map f) (sym (take-suc xs i d lt) ∙ ap (λ n. take n xs) next)
+
+pub next_made_of : {A B : Type 0} (f : A → B) (xs : List A) (i : ℕ) (x : A) (items now : List B) → slice_get xs i ≡ Some x → items ≡ map f (take i xs) → now ≡ items ++ f x ∷ [] → now ≡ map f (take (i + 1) xs)
+next_made_of f xs i x items now got before is =
+    let here = at_place xs i x got in
+    next_made f xs i x items now here.0 before (is ∙ ap (λ y. items ++ f y ∷ []) (sym here.1))
+
+pub none_past : {A : Type 0} (xs : List A) (i : ℕ) → i < length xs → None ≡ slice_get xs i → ⊥
+none_past {A} xs i lt is = either (slice_get_cases xs i).1
+  where
+    either : ((x : A) × (i < length xs) × (slice_get xs i ≡ Some x) × (get_or xs i x ≡ x)) ⊎ ((length xs ≤ i) × (slice_get xs i ≡ None)) → ⊥
+    either (inl found) = let here = found.2 in cc
+    either (inr past) = let le = past.0 in omega arith
