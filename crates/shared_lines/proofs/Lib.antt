@@ -1,0 +1,3 @@
+pub mod Halves
+mod Told
+mod Whole
