@@ -1,0 +1,4 @@
+pub mod Airs
+pub mod Laws
+pub mod Stopping
+pub mod Text
