@@ -20,7 +20,7 @@ mod times;
 
 pub use capture::capture_document;
 pub use planning::check_plan;
-pub use replaying::intake_of;
+pub use replaying::{intake_of, replay_to};
 pub use replays::{ReplayFault, replay};
 pub use report::{TextFault, count_document, report_document};
 pub use summary::summarize_document;

@@ -14,7 +14,7 @@ use Rattle.layered_cells.specs.Layers.{AreAlike, AreDistinct, AreShown, EachUnit
 
 -- ---- cell after cell
 
-pub added_all : List AirCell → List Mixed → List Mixed
+unfoldable pub added_all : List AirCell → List Mixed → List Mixed
 added_all [] ms = ms
 added_all (c ∷ cells) ms = added_all cells (added c ms)
 

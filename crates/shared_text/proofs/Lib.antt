@@ -1,0 +1,5 @@
+mod Alike
+mod Heard
+mod Mixing
+pub mod Summing
+mod Writing

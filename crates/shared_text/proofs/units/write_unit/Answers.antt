@@ -1,0 +1,52 @@
+use Rattle.std.proofs.Common.{rules, ap, ◌∙◌}
+use Rattle.std.proofs.lemmas.Result.{on_ok_weaker}
+use Rattle.owed_bytes.proofs.Telling.{anyhow}
+use Rattle.fronthaul_replay.specs.Replaying.{events_of}
+use Rattle.unit_air.specs.Airs.{mixer_of, owed_of, sink_of}
+use Rattle.unit_air.specs.Text.{all_taken}
+use Rattle.shared_text.proofs.Writing.{begin_cut, replay_cut, unit_done, unit_front}
+use Rattle.shared_text.proofs.units.write_unit.Goals as goal
+
+pub returns-clause-front : goal.returns-clause-front
+returns-clause-front g c =
+    let w = g.K.Sink.written in
+    let a = c.new-air.result in
+    let b = c.begin.new.self in
+    let x = c.replay_to.new.air in
+    let front = unit_front c.args.unit (events_of c.args.document.now) (w (sink_of a)) (w (sink_of b)) (w (sink_of x)) (w (sink_of c.finish.new.self)) (owed_of a) (owed_of b) (owed_of x) (mixer_of b) (mixer_of x)
+    c.new-air.ensures.owed c.in_ok-begin.ensures.carried c.in_ok-replay_to.ensures.heard c.finish.ensures.front in
+    search (rules, front)
+
+pub returns-clause-done : goal.returns-clause-done
+returns-clause-done g c =
+    let w = g.K.Sink.written in
+    let a = c.new-air.result in
+    let b = c.begin.new.self in
+    let x = c.replay_to.new.air in
+    let done = on_ok_weaker c.finish.result (λ all.
+    unit_done c.args.unit (events_of c.args.document.now) (w (sink_of a)) (w (sink_of b)) (w (sink_of x)) (w (sink_of c.finish.new.self)) (owed_of a) (owed_of b) (owed_of x) (mixer_of b) (mixer_of x)
+    c.new-air.ensures.owed c.in_ok-begin.ensures.carried c.in_ok-replay_to.ensures.heard all) c.finish.ensures.all in
+    search (rules, done)
+
+pub returns-clause-mixed : goal.returns-clause-mixed
+returns-clause-mixed g c =
+    let taken = c.finish.ensures.mixer ∙ c.in_ok-replay_to.ensures.heard.taken ∙ ap (all_taken (events_of c.args.document.now)) (c.begin.ensures.mixer ∙ c.new-air.ensures.mixer) in
+    let mixed = anyhow c.finish.result taken in
+    search (rules, mixed)
+
+pub returns-in_err-begin-clause-front : goal.returns-in_err-begin-clause-front
+returns-in_err-begin-clause-front g c =
+    let w = g.K.Sink.written in
+    let a = c.new-air.result in
+    let front = begin_cut c.args.unit (events_of c.args.document.now) (w (sink_of a)) (w (sink_of c.begin.new.self)) (owed_of a) c.new-air.ensures.owed c.in_err-begin.ensures.front in
+    search (rules, front)
+
+pub returns-in_err-replay_to-clause-front : goal.returns-in_err-replay_to-clause-front
+returns-in_err-replay_to-clause-front g c =
+    let w = g.K.Sink.written in
+    let a = c.new-air.result in
+    let b = c.begin.new.self in
+    let x = c.replay_to.new.air in
+    let front = replay_cut (λ a. w (sink_of a)) (λ a. g.K.Sink.faults (sink_of a)) owed_of mixer_of c.args.unit (events_of c.args.document.now) c.in_err-replay_to.field-0.0 (w (sink_of a)) (owed_of a) b x
+    c.new-air.ensures.owed c.in_ok-begin.ensures.carried c.in_err-replay_to.ensures.cut in
+    search (rules, front)

@@ -1,0 +1,30 @@
+-- Under which names the faults below are passed on, and when a fault of writing may come (this project's profile).
+use Rattle.std.specs.Prelude.{ℕ, Result, IsErrOf}
+use Rattle.fh_base.specs.Causes.{Rose}
+use Rattle.air_source.specs.declared.airs.AirFault.{AirFault}
+use Rattle.air_source.specs.declared.airs.AirFault.TheVariants as air
+use Rattle.fh_base.specs.declared.fault.SinkFault.{SinkFault}
+use Rattle.fh_base.specs.declared.fault.SinkFault.TheVariants as sink
+use Rattle.fronthaul_replay.specs.declared.report.TextFault.{TextFault}
+use Rattle.fronthaul_replay.specs.declared.report.TextFault.TheVariants as text
+use Rattle.shared_text.specs.declared.faults.ShareFault.{ShareFault}
+use Rattle.shared_text.specs.declared.faults.ShareFault.TheVariants.{WriteFault, NoMemory}
+
+-- of an air
+abbrev pub of_air : AirFault → ShareFault
+of_air air.Failed = WriteFault
+of_air air.NoMemory = NoMemory
+
+-- of a text's writer
+abbrev pub of_text : TextFault → ShareFault
+of_text text.WriteFault = WriteFault
+of_text text.NoMemory = NoMemory
+
+-- of a sink
+abbrev pub of_sink : SinkFault → ShareFault
+of_sink sink.Failed = WriteFault
+of_sink sink.NoMemory = NoMemory
+
+-- a fault of writing comes only where the sink's count of faults rose; want of memory has no cause
+abbrev pub HasShareCause : {T : Type 0} → ℕ → ℕ → Result T ShareFault → Type 0
+HasShareCause before now result = IsErrOf result WriteFault → Rose before now
