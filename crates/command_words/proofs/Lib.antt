@@ -3,3 +3,4 @@ pub mod Parses
 pub mod Plain
 pub mod Limits
 pub mod Readings
+mod Capped

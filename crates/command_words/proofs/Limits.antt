@@ -5,9 +5,9 @@ use Rattle.std.specs.Str.{bytes_eq}
 use Rattle.std.specs.Str.Parse.{digits_value}
 use Rattle.std.proofs.lemmas.Bool.Decides.{nat_tests}
 use Rattle.text_lines.specs.Numbers.{is_decimal, number_in}
-use Rattle.command_words.specs.Words.{bare_command, command_of, command_with_one, command_with_two, seed_in, slots_in, start_in, way_in, with_both}
+use Rattle.command_words.specs.Words.{bare_command, command_of, command_with_one, command_with_two, count_in, seed_in, slots_in, start_in, step_in, way_in, with_both}
 use Rattle.command_words.specs.declared.commands.Command.{Command}
-use Rattle.command_words.specs.declared.commands.Command.TheVariants.{Replay, Summary, Capture, Show, Windows, Fit, Generate, Trial, Pcap, PcapCapture}
+use Rattle.command_words.specs.declared.commands.Command.TheVariants.{Replay, Summary, Capture, Show, Windows, Fit, Generate, Trial, Shared, Pcap, PcapCapture}
 use Rattle.command_words.proofs.Plain.{either}
 
 -- a seed of 32 bits, and from 1 to 400 slots
@@ -72,8 +72,9 @@ two_limits : (w first second : List ℕ) (c : Command) → command_with_two w fi
 two_limits w first second c e =
     either (bytes_eq w (codes "generate")) _ _ c e (both_limits Generate (seed_in first) (slots_in second) c (numbers_are first second)) (λ e.
     either (bytes_eq w (codes "trial")) _ _ c e (both_limits Trial (seed_in first) (slots_in second) c (numbers_are first second)) (λ e.
+    either (bytes_eq w (codes "shared")) _ _ c e (both_limits Shared (count_in first) (step_in second) c (λ count step a b. tt)) (λ e.
     either (bytes_eq w (codes "pcap")) _ _ c e (both_limits Pcap (way_in first) (start_in second) c (λ side start a b. tt)) (λ e.
-    either (bytes_eq w (codes "pcap-capture")) _ None c e (both_limits PcapCapture (way_in first) (start_in second) c (λ side start a b. tt)) (λ e. cc))))
+    either (bytes_eq w (codes "pcap-capture")) _ None c e (both_limits PcapCapture (way_in first) (start_in second) c (λ side start a b. tt)) (λ e. cc)))))
 
 pub limits_are : (ws : List (List ℕ)) (c : Command) → command_of ws ≡ Some c → HasLimits c
 limits_are [] c e = cc

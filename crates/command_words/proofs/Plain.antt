@@ -10,9 +10,9 @@ use Rattle.std.proofs.lemmas.Bool.Decides.{nat_tests}
 use Rattle.air_source.specs.declared.events.Side.{Side}
 use Rattle.air_source.specs.declared.events.Side.TheVariants.{Ru, Du}
 use Rattle.text_lines.specs.Numbers.{number_in, is_decimal, word_at}
-use Rattle.command_words.specs.Words.{bare_command, command_with_one, command_with_two, command_of, with_both, seed_in, slots_in, start_in, way_in}
+use Rattle.command_words.specs.Words.{bare_command, command_of, command_with_one, command_with_two, count_in, seed_in, slots_in, start_in, step_in, way_in, with_both}
 use Rattle.command_words.specs.declared.commands.Command.{Command}
-use Rattle.command_words.specs.declared.commands.Command.TheVariants.{Replay, Summary, Capture, Show, Windows, Fit, Generate, Trial, Pcap, PcapCapture}
+use Rattle.command_words.specs.declared.commands.Command.TheVariants.{Replay, Summary, Capture, Show, Windows, Fit, Generate, Trial, Shared, Pcap, PcapCapture}
 use Rattle.command_words.proofs.Walks.{IsPlainWord, plain_word_is}
 use Rattle.fh_time.specs.declared.nanoseconds.TheConstants.{LAST_TIME}
 use Rattle.fh_time.proofs.Orders.{is_false as not_true, both as both_true}
@@ -104,6 +104,11 @@ numbers_plain make first second c e =
     let both = both_there make (seed_in first) (slots_in second) c e in
     (number_plain 10 0 4294967295 both.0.0 first both.0.1, number_plain 3 1 400 both.1.0 second both.1.1)
 
+units_plain : (first second : List ℕ) (c : Command) → with_both Shared (count_in first) (step_in second) ≡ Some c → ArePlainTwo first second
+units_plain first second c e =
+    let both = both_there Shared (count_in first) (step_in second) c e in
+    (number_plain (length first) 2 8 both.0.0 first both.0.1, number_plain (length second) 0 1000000 both.1.0 second both.1.1)
+
 frames_plain : (make : Side → ℕ → Command) (first second : List ℕ) (c : Command) → with_both make (way_in first) (start_in second) ≡ Some c → ArePlainTwo first second
 frames_plain make first second c e =
     let both = both_there make (way_in first) (start_in second) c e in
@@ -119,14 +124,16 @@ two_plain w first second c e =
     let numbers =
     either (bytes_eq w (codes "generate")) _ _ c e (numbers_plain Generate first second c) (λ e.
     either (bytes_eq w (codes "trial")) _ _ c e (numbers_plain Trial first second c) (λ e.
+    either (bytes_eq w (codes "shared")) _ _ c e (units_plain first second c) (λ e.
     either (bytes_eq w (codes "pcap")) _ _ c e (frames_plain Pcap first second c) (λ e.
-    either (bytes_eq w (codes "pcap-capture")) _ None c e (frames_plain PcapCapture first second c) (λ e. cc))))
+    either (bytes_eq w (codes "pcap-capture")) _ None c e (frames_plain PcapCapture first second c) (λ e. cc)))))
     in
     let word : is_plain w ≡ true =
     literal_or (codes "generate") w _ _ c refl e (λ e.
     literal_or (codes "trial") w _ _ c refl e (λ e.
+    literal_or (codes "shared") w _ _ c refl e (λ e.
     literal_or (codes "pcap") w _ _ c refl e (λ e.
-    literal_or (codes "pcap-capture") w _ None c refl e (λ e. cc))))
+    literal_or (codes "pcap-capture") w _ None c refl e (λ e. cc)))))
     in
     (word, numbers.0, numbers.1)
 

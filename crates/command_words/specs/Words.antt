@@ -1,11 +1,11 @@
 -- The words of the command line (this project's profile).
-use Rattle.std.specs.Prelude.{ℕ, ◌≤◌, List, [], ◌∷◌, true, false, ◌&&◌, Option, None, Some, if◌then◌else◌, codes}
+use Rattle.std.specs.Prelude.{ℕ, ◌≤◌, List, [], ◌∷◌, length, true, false, ◌&&◌, Option, None, Some, if◌then◌else◌, codes}
 use Rattle.std.specs.Str.{bytes_eq}
 use Rattle.air_source.specs.declared.events.Side.{Side}
 use Rattle.air_source.specs.declared.events.Side.TheVariants.{Ru, Du}
 use Rattle.text_lines.specs.Numbers.{number_in}
 use Rattle.command_words.specs.declared.commands.Command.{Command}
-use Rattle.command_words.specs.declared.commands.Command.TheVariants.{Replay, Summary, Capture, Show, Windows, Fit, Generate, Trial, Pcap, PcapCapture}
+use Rattle.command_words.specs.declared.commands.Command.TheVariants.{Replay, Summary, Capture, Show, Windows, Fit, Generate, Trial, Shared, Pcap, PcapCapture}
 use Rattle.fh_time.specs.declared.nanoseconds.TheConstants.{LAST_TIME}
 
 -- the command that one word is
@@ -32,6 +32,18 @@ seed_in word = number_in 10 0 4294967295 word
 abbrev pub slots_in : List ℕ → Option ℕ
 slots_in word = number_in 3 1 400 word
 
+-- a number of decimal digits, however many, from low to high
+abbrev pub plain_in : ℕ → ℕ → List ℕ → Option ℕ
+plain_in low high word = number_in (length word) low high word
+
+-- how many units share a cell
+abbrev pub count_in : List ℕ → Option ℕ
+count_in word = plain_in 2 8 word
+
+-- how much further away each unit stands than the one before it, in nanoseconds
+abbrev pub step_in : List ℕ → Option ℕ
+step_in word = plain_in 0 1000000 word
+
 -- the way of frames, by the unit that they go to
 abbrev pub way_in : List ℕ → Option Side
 way_in word = if bytes_eq word (codes "dl") then Some Ru else (if bytes_eq word (codes "ul") then Some Du else None)
@@ -51,9 +63,10 @@ abbrev pub command_with_two : List ℕ → List ℕ → List ℕ → Option Comm
 command_with_two word first second =
     if bytes_eq word (codes "generate") then with_both Generate (seed_in first) (slots_in second)
     else (if bytes_eq word (codes "trial") then with_both Trial (seed_in first) (slots_in second)
+    else (if bytes_eq word (codes "shared") then with_both Shared (count_in first) (step_in second)
     else (if bytes_eq word (codes "pcap") then with_both Pcap (way_in first) (start_in second)
     else (if bytes_eq word (codes "pcap-capture") then with_both PcapCapture (way_in first) (start_in second)
-    else None)))
+    else None))))
 
 -- the command that the words are
 abbrev pub command_of : List (List ℕ) → Option Command
@@ -66,6 +79,7 @@ command_of words = None
 abbrev pub IsProper : Command → Type 0
 IsProper (Generate seed slots) = (1 ≤ slots) × (slots ≤ 400)
 IsProper (Trial seed slots) = (1 ≤ slots) × (slots ≤ 400)
+IsProper (Shared count step) = (2 ≤ count) × (count ≤ 8) × (step ≤ 1000000)
 IsProper (Pcap side start) = start ≤ LAST_TIME
 IsProper (PcapCapture side start) = start ≤ LAST_TIME
 IsProper command = Unit {0}

@@ -30,6 +30,13 @@ pub enum Command {
         /// From 1 to 400.
         slots: u32,
     },
+    /// `shared COUNT STEP`: what the radio units of a shared cell do with a document.
+    Shared {
+        /// How many units share the cell, from 2 to 8.
+        count: u8,
+        /// How much further away each unit stands than the one before it, from 0 to 1,000,000 ns.
+        step: u32,
+    },
     /// `pcap WAY START`: the eCPRI frames of a pcap file as lines of a document.
     Pcap {
         /// The unit that the frames go to.

@@ -5,6 +5,7 @@ ghost use Rattle.command_words.specs.Parsed.{spelled};
 ghost use Rattle.fh_time.specs.declared.nanoseconds.TheConstants.{LAST_TIME};
 
 use crate::commands::Command;
+use crate::numbers::plain_in;
 use air_source::Side;
 use fh_time::LAST_TIME;
 use text_lines::number_in;
@@ -98,6 +99,14 @@ fn command_with_two(word: &str, first: &str, second: &str) -> Option<Command>
         let seed = seed_in(first)?;
         let slots = slots_in(second)?;
         return Some(Command::Trial { seed, slots });
+    }
+    if word == "shared" {
+        let count = plain_in(first.as_bytes(), 2, 8)?;
+        let step = plain_in(second.as_bytes(), 0, 1_000_000)?;
+        return Some(Command::Shared {
+            count: count as u8,
+            step: step as u32,
+        });
     }
     if word == "pcap" {
         let side = way_in(first)?;

@@ -8,6 +8,7 @@
 mod commands;
 mod faults;
 mod forms;
+mod numbers;
 mod parsing;
 mod reading;
 
