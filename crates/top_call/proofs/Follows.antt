@@ -8,7 +8,7 @@ use Rattle.capture_show.specs.Messages.{capture_lines}
 use Rattle.capture_show.specs.Texts.{lines_text}
 use Rattle.command_words.specs.Words.{command_of}
 use Rattle.command_words.specs.declared.commands.Command.{Command}
-use Rattle.command_words.specs.declared.commands.Command.TheVariants.{Replay, Summary, Capture, Show, Windows, Fit, Generate, Trial, Pcap, PcapCapture}
+use Rattle.command_words.specs.declared.commands.Command.TheVariants.{Replay, Summary, Capture, Show, Windows, Fit, Generate, Trial, Shared, Pcap, PcapCapture}
 use Rattle.fh_base.specs.Causes.{Rose}
 use Rattle.fh_base.proofs.Known.{append_nothing}
 use Rattle.pcap_lines.specs.fh_document.specs.declared.document.Document.{Document}
@@ -29,7 +29,7 @@ use Rattle.window_lines.specs.window_plan.specs.Fitting.{fitted}
 use Rattle.top_call.specs.declared.status.LineWhy.{LineWhy}
 use Rattle.top_call.specs.declared.status.Status.{Status}
 use Rattle.top_call.specs.declared.status.Status.TheVariants.{Done, BadWords, BadDocument, BadCapture, ReadFault, WriteFault, NoMemory, TooLong, CheckFails, BadPcap, NoFit}
-use Rattle.top_call.specs.Answers.{Answer, answer_of, asked, captured, fit_shown, fit_verdict, is_reading, of_capture, of_document, of_pcap, of_plan, of_planned, replayed, summarized, verdict_of, windows_shown}
+use Rattle.top_call.specs.Answers.{Answer, answer_of, asked, captured, fit_shown, fit_verdict, is_reading, of_capture, of_document, of_pcap, of_plan, of_planned, replayed, shared, summarized, verdict_of, windows_shown}
 use Rattle.top_call.specs.Run.{AnswersRun, IsDecided, IsRefusal, Outcome}
 use Rattle.fh_base.specs.declared.source.TheConstants.{INPUT_LIMIT}
 
@@ -75,6 +75,7 @@ refusal_text (Some Windows) bytes refusal = document_text (λ d. windows_shown d
 refusal_text (Some Fit) bytes refusal = document_text (λ d. fit_shown d.config.delays) (document_of bytes) (λ d r. absurd (fit_refuses_nothing (fitted d.config.delays) r)) refusal
 refusal_text (Some (Generate seed slots)) bytes refusal = absurd refusal
 refusal_text (Some (Trial seed slots)) bytes refusal = absurd refusal
+refusal_text (Some (Shared count step)) bytes refusal = document_text (of_planned (shared count step)) (document_of bytes) (λ d. planned_text (shared count step) d (λ r. r)) refusal
 refusal_text (Some (Pcap side start)) bytes refusal = pcap_text (lines_of side) start bytes (pcap_checked bytes start) refusal
 refusal_text (Some (PcapCapture side start)) bytes refusal = pcap_text (λ ts. capture_bytes (map (arrived_as side) ts)) start bytes (pcap_checked bytes start) refusal
 
@@ -126,6 +127,7 @@ only_readers_refuse (Some Windows) bytes line why e = refl
 only_readers_refuse (Some Fit) bytes line why e = refl
 only_readers_refuse (Some (Generate seed slots)) bytes line why e = cc
 only_readers_refuse (Some (Trial seed slots)) bytes line why e = cc
+only_readers_refuse (Some (Shared count step)) bytes line why e = refl
 only_readers_refuse (Some (Pcap side start)) bytes line why e = refl
 only_readers_refuse (Some (PcapCapture side start)) bytes line why e = refl
 

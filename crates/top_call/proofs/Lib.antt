@@ -5,3 +5,4 @@ pub mod Captures
 pub mod Trials
 pub mod Runs
 pub mod Follows
+mod Sharing

@@ -3,7 +3,7 @@ use Rattle.std.proofs.Common.{◌≡◌, ◌⊎◌, ◌↔◌, inl, inr, ℕ, �
 use Rattle.std.specs.Io.KnownBytes.{prepend_known, append_known, IsAtEnd}
 use Rattle.command_words.specs.Words.{command_of}
 use Rattle.command_words.specs.declared.commands.Command.{Command}
-use Rattle.command_words.specs.declared.commands.Command.TheVariants.{Replay, Summary, Capture, Show, Windows, Fit, Generate, Trial, Pcap, PcapCapture}
+use Rattle.command_words.specs.declared.commands.Command.TheVariants.{Replay, Summary, Capture, Show, Windows, Fit, Generate, Trial, Shared, Pcap, PcapCapture}
 use Rattle.fh_base.specs.Causes.{Rose}
 use Rattle.fh_base.specs.Told.{WritesFront}
 use Rattle.fh_base.specs.declared.fault.ReadAllFault.{ReadAllFault}
@@ -15,11 +15,12 @@ use Rattle.pcap_lines.specs.fh_document.specs.declared.document.Document.{Docume
 use Rattle.pcap_lines.specs.fh_document.specs.Proper.{IsDocument}
 use Rattle.pcap_lines.specs.fh_document.proofs.Properness.{document_of_in}
 use Rattle.fronthaul_replay.proofs.LawLemmas.{is_sound}
+use Rattle.shared_text.proofs.Summing.{summed, unit_sound}
 use Rattle.top_call.specs.declared.status.Status.{Status}
 use Rattle.top_call.specs.declared.status.Status.TheVariants.{Done, BadWords, BadDocument, BadCapture, ReadFault, WriteFault, NoMemory, TooLong, CheckFails, BadPcap, NoFit}
 use Rattle.top_call.specs.Answers.{Answer, answer_of, asked, is_reading, reads}
 use Rattle.top_call.specs.Endings.{source_status}
-use Rattle.top_call.specs.Run.{AnswersCommand, AnswersRun, IsDecided, IsRefusal, IsSoundPlan, Outcome, Performs}
+use Rattle.top_call.specs.Run.{AnswersCommand, AnswersRun, IsDecided, IsRefusal, IsSharedPlan, IsSoundPlan, Outcome, Performs}
 use Rattle.fh_base.specs.declared.source.TheConstants.{INPUT_LIMIT}
 use Rattle.top_call.proofs.Trials.{trial_of}
 
@@ -30,6 +31,13 @@ sound_of bytes = each (document_of bytes) (document_of_in bytes)
   where
     each : {E : Type 0} (x : Result Document E) → IfOk x IsDocument → IfOk x IsSoundPlan
     each (Ok d) is = λ valid. is_sound d (record { document = is; valid = valid })
+    each (Err why) is = tt
+
+shared_of : (bytes : List ℕ) → (count step : ℕ) → 1 ≤ count → IfOk (document_of bytes) (IsSharedPlan count step)
+shared_of bytes count step some = each (document_of bytes) (document_of_in bytes)
+  where
+    each : {E : Type 0} (x : Result Document E) → IfOk x IsDocument → IfOk x (IsSharedPlan count step)
+    each (Ok d) is = λ valid. (λ unit below. unit_sound d is valid step unit, summed d is valid step count some)
     each (Err why) is = tt
 
 -- ---- what a command answers, a run answers
@@ -98,6 +106,7 @@ performed words command came left_old left_new s t old new before now status is 
           (completes_as (answer_of command bytes) (answer_of command came) before now status (same bytes (λ r. (given (ap is_reading is ∙ r)).1)) p.answers);
       sound = sound_of came;
       trial = trial_of words;
+      shared = shared_of came;
     }
 
 -- ---- a command that reads nothing
@@ -113,6 +122,7 @@ same_answer Windows bytes h = cc
 same_answer Fit bytes h = cc
 same_answer (Generate seed slots) bytes h = refl
 same_answer (Trial seed slots) bytes h = refl
+same_answer (Shared count step) bytes h = cc
 same_answer (Pcap side start) bytes h = cc
 same_answer (PcapCapture side start) bytes h = cc
 
@@ -175,6 +185,7 @@ no_command words left s written o none =
       complete = λ bytes some. absurd (cc (ap is_some none, some));
       sound = sound_of [];
       trial = trial_of words;
+      shared = shared_of [];
     }
 
 -- the statuses of a run that stops before its command does anything
@@ -260,6 +271,7 @@ stopped words command came left_old left_new s t written o status is does stop r
       complete = λ bytes some given ok. stop_wants (asked (command_of words) bytes).status came bytes left_old left_new s t status stop rose long taken (given (ap is_reading is ∙ does));
       sound = sound_of came;
       trial = trial_of words;
+      shared = shared_of came;
     }
 
 -- the source was not read to its end
@@ -301,4 +313,5 @@ wordless words left s written o some =
       complete = λ bytes some given ok. inr refl;
       sound = sound_of [];
       trial = trial_of words;
+      shared = shared_of [];
     }

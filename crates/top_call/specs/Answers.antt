@@ -7,7 +7,7 @@ use Rattle.capture_show.specs.capture_records.specs.Records.{capture_bytes}
 use Rattle.capture_show.specs.Messages.{capture_lines}
 use Rattle.capture_show.specs.Texts.{lines_text}
 use Rattle.command_words.specs.declared.commands.Command.{Command}
-use Rattle.command_words.specs.declared.commands.Command.TheVariants.{Replay, Summary, Capture, Show, Windows, Fit, Generate, Trial, Pcap, PcapCapture}
+use Rattle.command_words.specs.declared.commands.Command.TheVariants.{Replay, Summary, Capture, Show, Windows, Fit, Generate, Trial, Shared, Pcap, PcapCapture}
 use Rattle.pcap_lines.specs.fh_document.specs.declared.document.Document.{Document}
 use Rattle.pcap_lines.specs.fh_document.specs.declared.refusals.DocWhy.{DocWhy}
 use Rattle.pcap_lines.specs.fh_document.specs.Document.{document_of}
@@ -29,6 +29,7 @@ use Rattle.window_lines.specs.Fit.{fit_text}
 use Rattle.window_lines.specs.Windows.{windows_text}
 use Rattle.window_lines.specs.window_plan.specs.declared.refusals.NoFit.{NoFit as Refusal}
 use Rattle.window_lines.specs.window_plan.specs.Fitting.{fitted}
+use Rattle.shared_text.specs.Shared.{shared_text}
 use Rattle.top_call.specs.declared.status.LineWhy.TheVariants.{Doc, Plan}
 use Rattle.top_call.specs.declared.status.Status.{Status}
 use Rattle.top_call.specs.declared.status.Status.TheVariants.{Done, BadWords, BadDocument, BadCapture, CheckFails, BadPcap, NoFit}
@@ -69,6 +70,10 @@ summarized d = record { text = summary_of d; status = Done }
 -- `capture`: the frames among them, as records
 abbrev pub captured : Document → Answer
 captured d = record { text = capture_of d; status = Done }
+
+-- `shared`: what the units of a shared cell do with the document
+abbrev pub shared : ℕ → ℕ → Document → Answer
+shared count step d = record { text = shared_text d count step; status = Done }
 
 -- the verdict of the check: the first relation that fails
 abbrev pub verdict_of : Result (Unit {0}) Failing → Status
@@ -146,6 +151,7 @@ reads Windows = true
 reads Fit = true
 reads (Generate seed slots) = false
 reads (Trial seed slots) = false
+reads (Shared count step) = true
 reads (Pcap side start) = true
 reads (PcapCapture side start) = true
 
@@ -159,6 +165,7 @@ answer_of Windows bytes = of_document (λ d. windows_shown d.config) (document_o
 answer_of Fit bytes = of_document (λ d. fit_shown d.config.delays) (document_of bytes)
 answer_of (Generate seed slots) bytes = generated_document seed slots
 answer_of (Trial seed slots) bytes = tried seed slots
+answer_of (Shared count step) bytes = of_document (of_planned (shared count step)) (document_of bytes)
 answer_of (Pcap side start) bytes = frames_injected side start bytes
 answer_of (PcapCapture side start) bytes = frames_captured side start bytes
 

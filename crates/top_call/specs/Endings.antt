@@ -13,6 +13,8 @@ use Rattle.fronthaul_replay.specs.declared.report.TextFault.{TextFault}
 use Rattle.fronthaul_replay.specs.declared.report.TextFault.TheVariants as text
 use Rattle.fronthaul_replay.specs.plan_tests.specs.declared.testing.PlanRefusal.{PlanRefusal}
 use Rattle.fronthaul_replay.specs.plan_tests.specs.declared.testing.PlanRefusal.TheVariants as plan
+use Rattle.shared_text.specs.declared.faults.ShareFault.{ShareFault}
+use Rattle.shared_text.specs.declared.faults.ShareFault.TheVariants as share
 use Rattle.top_call.specs.declared.status.LineWhy.TheVariants.{Doc, Plan}
 use Rattle.top_call.specs.declared.status.Status.{Status}
 use Rattle.top_call.specs.declared.status.Status.TheVariants.{Done, BadDocument, BadCapture, ReadFault, WriteFault, NoMemory, TooLong}
@@ -28,6 +30,12 @@ abbrev pub text_status : Result (Unit {0}) TextFault → Status
 text_status (Ok _) = Done
 text_status (Err text.WriteFault) = WriteFault
 text_status (Err text.NoMemory) = NoMemory
+
+-- what the units of a shared cell do was written, or was not
+abbrev pub share_status : Result (Unit {0}) ShareFault → Status
+share_status (Ok _) = Done
+share_status (Err share.WriteFault) = WriteFault
+share_status (Err share.NoMemory) = NoMemory
 
 -- a document was not read
 abbrev pub unread_status : DocFault → Status

@@ -9,6 +9,8 @@ use Rattle.pcap_lines.specs.fh_document.specs.Document.{document_of}
 use Rattle.pcap_lines.specs.fh_document.specs.declared.document.Document.{Document}
 use Rattle.fronthaul_replay.specs.Laws.{IsSound}
 use Rattle.fronthaul_replay.specs.plan_model.specs.Valid.{IsValid}
+use Rattle.shared_text.specs.Summed.{IsSummed}
+use Rattle.unit_documents.specs.Units.{unit_of}
 use Rattle.top_call.specs.declared.status.Status.{Status}
 use Rattle.top_call.specs.declared.status.Status.TheVariants.{Done, BadWords, BadDocument, BadCapture, ReadFault, WriteFault, NoMemory, TooLong, CheckFails, BadPcap, NoFit}
 use Rattle.top_call.specs.Answers.{Answer, asked, is_reading}
@@ -66,6 +68,11 @@ AnswersRun wanted source_before source_now out_before out_now status = wanted �
 abbrev pub IsSoundPlan : Document → Type 0
 IsSoundPlan d = IsValid d.config d.plan → IsSound d
 
+-- the laws of the units of a shared cell hold where the plan is valid: no element of any unit radiates twice, and the combined cells are
+-- the sums of what the units take in
+abbrev pub IsSharedPlan : ℕ → ℕ → Document → Type 0
+IsSharedPlan count step d = IsValid d.config d.plan → ((unit : ℕ) → unit < count → IsSound (unit_of d unit step)) × IsSummed d count step
+
 -- what a run did, but for its line on standard error
 pub record Outcome (words : List (List ℕ)) (left_old left_new : Option (List ℕ)) (source_before source_now : ℕ) (written_old written_new : Option (List ℕ)) (out_before out_now : ℕ) (status : Status) : Type 0 where
   -- the bytes that came
@@ -95,6 +102,8 @@ pub record Outcome (words : List (List ℕ)) (left_old left_new : Option (List �
   -- counters; each delay stands behind the frame that gave it, and is that of the one request of its id where no injected frame has a
   -- message of delay measurement; and where nothing disturbs its schedule, each scheduled element radiates once
   pub sound : IfOk (document_of came) IsSoundPlan
+  -- and of the units of a cell that such a document's frames are shared by
+  pub shared : (count step : ℕ) → 1 ≤ count → IfOk (document_of came) (IsSharedPlan count step)
   -- where the words are `trial`: what is replayed is what `generate` writes of the same words, and of it each planned element radiates once
   -- or is taken in once
   pub trial : (seed slots : ℕ) → command_of words ≡ Some (Trial seed slots) → IsTrial seed slots

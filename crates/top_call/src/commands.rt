@@ -9,6 +9,7 @@ mod fit;
 mod generate;
 mod pcap;
 mod replay;
+mod shared;
 mod show;
 mod summary;
 mod trial;
@@ -22,6 +23,7 @@ use fit::write_fit;
 use generate::write_document;
 use pcap::{capture_frames, inject_frames};
 use replay::write_report;
+use shared::write_shared;
 use show::show_capture;
 use std::alloc::Global;
 use summary::write_summary;
@@ -39,6 +41,7 @@ pub(crate) fn reads(command: Command) -> bool
         | Command::Show { .. }
         | Command::Windows
         | Command::Fit
+        | Command::Shared { .. }
         | Command::Pcap { .. }
         | Command::PcapCapture { .. } => true,
         Command::Generate { .. } | Command::Trial { .. } => false,
@@ -60,6 +63,7 @@ pub(crate) fn perform<K: Sink>(alloc: Global, command: Command, bytes: &[u8], ou
         Command::Fit => write_fit(alloc, bytes, out),
         Command::Generate { seed, slots } => write_document(alloc, seed, slots, out),
         Command::Trial { seed, slots } => write_trial(alloc, seed, slots, out),
+        Command::Shared { count, step } => write_shared(alloc, count, step, bytes, out),
         Command::Pcap { side, start } => inject_frames(side, start, bytes, out),
         Command::PcapCapture { side, start } => capture_frames(side, start, bytes, out),
     }

@@ -1,12 +1,13 @@
 // How a run ends, by what its last step answered.
 ghost use Rattle.std.specs.Prelude.{◌≡◌, slice_index};
-ghost use Rattle.top_call.specs.Endings.{ending_of, text_status, source_status, unplanned_status, unread_status};
+ghost use Rattle.top_call.specs.Endings.{ending_of, share_status, text_status, source_status, unplanned_status, unread_status};
 
 use crate::status::{LineWhy, Status};
 use du_scheduler::PlanRefusal;
 use fh_base::{List, ReadAllFault, SinkFault};
 use fh_document::{DocFault, Document};
 use fronthaul_replay::TextFault;
+use shared_text::ShareFault;
 
 /// How a run ends whose whole text was to be written, and which then ends with `status`.
 pub(crate) fn ending_of(written: Result<(), SinkFault>, status: Status) -> Status
@@ -27,6 +28,17 @@ pub(crate) fn text_status(written: Result<(), TextFault>) -> Status
         Ok(()) => Status::Done,
         Err(TextFault::WriteFault) => Status::WriteFault,
         Err(TextFault::NoMemory) => Status::NoMemory,
+    }
+}
+
+/// How a run ends that was to write what the units of a shared cell do.
+pub(crate) fn share_status(written: Result<(), ShareFault>) -> Status
+    ensures { result ≡ share_status written }
+{
+    match written {
+        Ok(()) => Status::Done,
+        Err(ShareFault::WriteFault) => Status::WriteFault,
+        Err(ShareFault::NoMemory) => Status::NoMemory,
     }
 }
 
