@@ -69,9 +69,10 @@ fn a_trial_is_the_replay_of_what_is_generated(rt: HostRuntime) -> Result<(), Fai
             let tried = run_words(alloc, &[b"trial", seed, count], b"")?;
             assert_eq!(rt; tried.status(), Status::Done);
             assert!(rt; tried.text().starts_with(b"count ru frames "));
-            assert!(rt; replayed.text().ends_with(tried.text()));
-            let cells = &replayed.text()[..replayed.text().len() - tried.text().len()];
-            assert!(rt; !cells.windows(7).any(|word| word == b"\ncount "));
+            // what stands before the counts has none
+            let cells = replayed.text().strip_suffix(tried.text());
+            let cells = cells.unwrap_or(b"\ncount ".as_slice());
+            assert!(rt; !cells.windows(7).any(|word| word == b"\ncount ".as_slice()));
         }
     }
     Ok(())
