@@ -1,19 +1,10 @@
-//! Tests of [`fh_document`] over its public calls. They stand beside it, so that the library is proved without them.
+//! Tests of what [`fh_document`] says of the documents that it reads. They stand beside it, so that the library is proved
+//! without them. What it refuses stands in the table of `run_vectors`.
 #![tactic(auto)]
 
 #[cfg(test)]
-mod accepted;
-#[cfg(test)]
-mod frames;
-#[cfg(test)]
 mod generated;
 #[cfg(test)]
-mod kinds;
+mod lines;
 #[cfg(test)]
-mod outcomes;
-#[cfg(test)]
-mod plans;
-#[cfg(test)]
-mod tests;
-#[cfg(test)]
-mod versions;
+mod settings;

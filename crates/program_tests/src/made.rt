@@ -1,4 +1,4 @@
-// What the tests make: bytes and words, a file of one command, and the head of a file that is accepted.
+// What the tests make: words, a file of one command, and the head of a file that is accepted.
 ghost use Rattle.std.specs.Prelude.{◌≡◌, Ok};
 ghost use Rattle.pcap_frames.specs.Checked.{checked};
 
@@ -26,19 +26,12 @@ pub(crate) fn head_of(rt: &impl Abort, file: &[u8], start: u64) -> PcapHead
     }
 }
 
-/// The bytes of some parts, one behind the other.
-pub(crate) fn bytes_of(alloc: Global, parts: &[&[u8]]) -> Result<Bytes, NoMemory> {
-    let mut bytes = Bytes::new(alloc);
-    for part in parts {
-        bytes.push_all(part)?;
-    }
-    Ok(bytes)
-}
-
 pub(crate) fn words_of(alloc: Global, words: &[&[u8]]) -> Result<List<Bytes>, NoMemory> {
     let mut list = List::new(alloc);
     for word in words {
-        list.push(bytes_of(alloc, &[word])?)?;
+        let mut bytes = Bytes::new(alloc);
+        bytes.push_all(word)?;
+        list.push(bytes)?;
     }
     Ok(list)
 }

@@ -12,7 +12,7 @@ const DOCUMENT: &[u8] =
 const REPORT: &[u8] =
     b"dl 15360000000 0000 1 0 0 0 0 1 fff 0,0 1,-1 2,-2 3,-3 4,-4 5,-5 6,-6 7,-7 8,-8 9,-9 10,-10 11,-11\ncount ru frames 2\ncount ru messages 2\ncount ru c_accepted 1\ncount ru f_whole 1\ncount ru u_taken 1\ncount ru cells 1\nend\n";
 
-fn calls(alloc: Global, number: u64) -> Result<List<u64>, NoMemory> {
+pub(crate) fn calls(alloc: Global, number: u64) -> Result<List<u64>, NoMemory> {
     let mut list = List::new(alloc);
     list.push(number)?;
     Ok(list)

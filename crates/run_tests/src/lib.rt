@@ -1,5 +1,5 @@
-//! Tests of whole runs, by the top call with ends in memory: worked documents of every command (`replays`, `delays`, `captures`,
-//! `windows`, `pcaps`), plans that are refused (`plans`), the words (`words`), trials (`trials`), ends that fail (`faults`), and captures that go to a pcap file and back (`round_trips`).
+//! Tests of whole runs with ends in memory that fail: sources and sinks (`faults`, `captures`), and words that read nothing
+//! (`words`). Worked runs of every command stand in the table of `run_vectors`.
 //!
 //! They stand beside `top_call`, so that it is proved without them.
 #![tactic(auto)]
@@ -7,22 +7,8 @@
 #[cfg(test)]
 mod captures;
 #[cfg(test)]
-mod delays;
-#[cfg(test)]
 mod faults;
 #[cfg(test)]
-mod pcaps;
-#[cfg(test)]
-mod plans;
-#[cfg(test)]
-mod replays;
-#[cfg(test)]
-mod round_trips;
-#[cfg(test)]
 mod runs;
-#[cfg(test)]
-mod trials;
-#[cfg(test)]
-mod windows;
 #[cfg(test)]
 mod words;

@@ -1,8 +1,8 @@
-// The summary, the count lines and the capture of documents, known from outside: by the standard's fields, and by hand.
+// Reports, summaries and captures in sinks that fail, and behind what stands there.
 use fh_base::{List, MemorySink, PlainSink};
 use fh_document::read;
 use fronthaul_replay::{
-    TextFault, capture_document, check_plan, count_document, summarize_document,
+    TextFault, capture_document, check_plan, report_document, summarize_document,
 };
 use std::test::Fail;
 
@@ -10,17 +10,11 @@ use std::test::Fail;
 const ORDINARY: &[u8] =
     b"fronthaul 1\nendpoint 0000 ordinary 30 106 static none\ninject dl 9600000 1002001400000080900100000101000000100001fff10000\ninject dl 9700000 1000003c000000809001000000100001000000000001ffff0002fffe0003fffd0004fffc0005fffb0006fffa0007fff90008fff80009fff7000afff6000bfff5\n";
 
+const REPORT: &[u8] =
+    b"dl 15360000000 0000 1 0 0 0 0 1 fff 0,0 1,-1 2,-2 3,-3 4,-4 5,-5 6,-6 7,-7 8,-8 9,-9 10,-10 11,-11\ncount ru frames 2\ncount ru messages 2\ncount ru c_accepted 1\ncount ru f_whole 1\ncount ru u_taken 1\ncount ru cells 1\nend\n";
+
 const SUMMARY: &[u8] = b"sum dl 15360000000 0000 1 0 0 0 12 66 -66 0
 count ru frames 2
-count ru messages 2
-count ru c_accepted 1
-count ru f_whole 1
-count ru u_taken 1
-count ru cells 1
-end
-";
-
-const COUNTS: &[u8] = b"count ru frames 2
 count ru messages 2
 count ru c_accepted 1
 count ru f_whole 1
@@ -42,58 +36,52 @@ const CAPTURE: [u8; 122] = [
 ];
 
 #[test]
-fn a_summary_is_written(rt: HostRuntime) -> Result<(), Fail> {
-    let alloc = rt.alloc();
-    let document = read(alloc, ORDINARY)?;
-    let mut out = PlainSink::new(alloc);
-    assert_eq!(rt;
-        summarize_document(alloc, &document, check_plan(alloc, &document)?, &mut out),
-        Ok(())
-    );
-    assert_eq!(rt; out.bytes(), SUMMARY);
-    Ok(())
-}
-
-#[test]
-fn count_lines_are_written(rt: HostRuntime) -> Result<(), Fail> {
-    let alloc = rt.alloc();
-    let document = read(alloc, ORDINARY)?;
-    let mut out = PlainSink::new(alloc);
-    assert_eq!(rt;
-        count_document(alloc, &document, check_plan(alloc, &document)?, &mut out),
-        Ok(())
-    );
-    assert_eq!(rt; out.bytes(), COUNTS);
-    Ok(())
-}
-
-#[test]
-fn a_capture_is_written(rt: HostRuntime) -> Result<(), Fail> {
-    let alloc = rt.alloc();
-    let document = read(alloc, ORDINARY)?;
-    let mut out = PlainSink::new(alloc);
-    assert_eq!(rt;
-        capture_document(alloc, &document, check_plan(alloc, &document)?, &mut out),
-        Ok(())
-    );
-    assert_eq!(rt; out.bytes(), CAPTURE.as_slice());
-    Ok(())
-}
-
-#[test]
-fn nothing_is_the_magic_and_the_last_line(rt: HostRuntime) -> Result<(), Fail> {
+fn a_report_stands_behind_what_was_there(rt: HostRuntime) -> Result<(), Fail> {
     let alloc = rt.alloc();
     let document = read(alloc, b"fronthaul 1\n")?;
     let mut out = PlainSink::new(alloc);
     assert_eq!(rt;
-        capture_document(alloc, &document, check_plan(alloc, &document)?, &mut out),
+        report_document(alloc, &document, check_plan(alloc, &document)?, &mut out),
         Ok(())
     );
     assert_eq!(rt;
-        summarize_document(alloc, &document, check_plan(alloc, &document)?, &mut out),
+        report_document(alloc, &document, check_plan(alloc, &document)?, &mut out),
         Ok(())
     );
-    assert_eq!(rt; out.bytes(), b"FHCAP001end\n".as_slice());
+    assert_eq!(rt; out.bytes(), b"end\nend\n".as_slice());
+    Ok(())
+}
+
+// One byte a call: the call after those of so many bytes fails.
+#[test]
+fn a_sink_that_fails_keeps_a_front_part_of_a_report(rt: HostRuntime) -> Result<(), Fail> {
+    let alloc = rt.alloc();
+    let document = read(alloc, ORDINARY)?;
+    let mut call: u64 = 0;
+    for bytes in 0..REPORT.len() {
+        call = call.saturating_add(1);
+        let mut fails = List::new(alloc);
+        fails.push(call)?;
+        let mut out = MemorySink::new(alloc, 1, fails);
+        let answer = report_document(alloc, &document, check_plan(alloc, &document)?, &mut out);
+        assert_eq!(rt; answer, Err(TextFault::WriteFault), "call {}", call);
+        assert_eq!(rt; out.bytes(), &REPORT[..bytes], "call {}", call);
+    }
+    Ok(())
+}
+
+#[test]
+fn a_sink_that_would_fail_later_has_it_all(rt: HostRuntime) -> Result<(), Fail> {
+    let alloc = rt.alloc();
+    let document = read(alloc, ORDINARY)?;
+    let mut fails = List::new(alloc);
+    fails.push(REPORT.len() as u64 + 1)?;
+    let mut out = MemorySink::new(alloc, 1, fails);
+    assert_eq!(rt;
+        report_document(alloc, &document, check_plan(alloc, &document)?, &mut out),
+        Ok(())
+    );
+    assert_eq!(rt; out.bytes(), REPORT);
     Ok(())
 }
 
