@@ -14,3 +14,8 @@ pub record IsSymbol (n : Numerology) (p : Place) : Type 0 where
 abbrev pub is_index : Option ℕ → ℕ → Bool
 is_index None k = false
 is_index (Some i) k = i == k
+
+-- the place is none, or one of an endpoint's symbols
+abbrev pub IsNoneOrSymbol : Numerology → Option Place → Type 0
+IsNoneOrSymbol n None = Unit {0}
+IsNoneOrSymbol n (Some p) = IsSymbol n p

@@ -37,12 +37,20 @@ row_at s ep = get_or s.rows ep no_row
 abbrev pub endpoints_of : SpansValue → List EndpointConfig
 endpoints_of s = map (λ r. r.endpoint) s.rows
 
+-- the endpoint with this index
+abbrev pub endpoint_in : SpansValue → ℕ → EndpointConfig
+endpoint_in s ep = get_or (endpoints_of s) ep no_endpoint
+
 abbrev pub endpoint_at : Config → ℕ → EndpointConfig
 endpoint_at config ep = get_or config.endpoints ep no_endpoint
 
 -- the place of a symbol of the table
 abbrev pub row_symbol : RowValue → ℕ → Place
 row_symbol r k = symbol_at r.endpoint.numerology r.first k
+
+-- how many symbols an endpoint's table has
+abbrev pub symbols_in : SpansValue → ℕ → ℕ
+symbols_in s ep = length (row_at s ep).marks
 
 -- some frames: ten at most, from 1 to 99,999
 pub record AreFrames (first last : ℕ) : Type 0 where

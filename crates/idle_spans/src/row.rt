@@ -92,6 +92,14 @@ impl Row {
         self.endpoint.id
     }
 
+    /// How many symbols it has.
+    pub(crate) fn symbols(&self) -> usize
+        ensures count { result ≡ length self.now.marks }
+        ensures few { result ≤ 22400 }
+    {
+        self.marks.len()
+    }
+
     /// Whether a place lies before the frames.
     fn is_before(&self, place: Place) -> bool
         ensures { IsTrue result ↔ (place.slot.frame <ℤ pos self.now.first) }
@@ -114,7 +122,7 @@ impl Row {
     }
 
     /// The number of a symbol in the table. None exactly where the table has no such symbol.
-    fn index(&self, place: Place) -> Option<usize>
+    pub(crate) fn index(&self, place: Place) -> Option<usize>
         ensures within { IfSome result (λ i. i < length self.now.marks) }
         ensures place { (k : ℕ) → k < length self.now.marks → same_symbol place.slot place.symbol (row_symbol self.now k) ≡ is_index result k }
     {
@@ -253,7 +261,7 @@ impl Row {
     }
 
     /// The symbol with a number.
-    fn symbol(&self, k: usize) -> Place
+    pub(crate) fn symbol(&self, k: usize) -> Place
         requires { k < length self.now.marks }
         ensures value { result ≡ row_symbol self.now k }
         ensures few { length self.now.marks ≤ 22400 }

@@ -34,7 +34,10 @@ impl Model for Spans {
 
 impl Spans {
     ghost use Rattle.idle_spans.specs.Scans.{IsRowNext};
-    ghost use Rattle.idle_spans.specs.Tables.{SpansValue, AreFrames, AreApart, Marks, Stands, endpoints_of, endpoint_at, row_at};
+    ghost use Rattle.idle_spans.specs.Places.{IsNoneOrSymbol, is_index};
+    ghost use Rattle.idle_spans.specs.Silence.{same_symbol};
+    ghost use Rattle.idle_spans.specs.Symbols.{symbol_at, symbol_count};
+    ghost use Rattle.idle_spans.specs.Tables.{SpansValue, AreFrames, AreApart, Marks, Stands, endpoints_of, endpoint_at, endpoint_in, row_at, symbols_in};
 
     /// The symbols of a configuration's endpoints in the frames `first` to `last`, no cell of them marked. This takes all
     /// memory: two bytes for each symbol.
@@ -96,6 +99,34 @@ impl Spans {
         self.mark_row(c);
     }
 
+    /// How many symbols the frames have at an endpoint: at most 22,400.
+    pub fn symbols(&self, ep: usize) -> usize
+        requires { ep < length (endpoints_of self.now) }
+        ensures count { result ≡ symbols_in self.now ep }
+        ensures few { result ≤ 22400 }
+        ensures stands { (config : Config) (first last : ℕ) (cells : List AirCell) → Stands self.now config first last cells → result ≡ symbol_count (endpoint_at config ep).numerology first last }
+    {
+        self.rows[ep].symbols()
+    }
+
+    /// The symbol with this number, in the order of slot and symbol, 0 for the first symbol of the first frame.
+    pub fn symbol(&self, ep: usize, k: usize) -> Place
+        requires ep { ep < length (endpoints_of self.now) }
+        requires k { k < symbols_in self.now ep }
+        ensures { (config : Config) (first last : ℕ) (cells : List AirCell) → Stands self.now config first last cells → result ≡ symbol_at (endpoint_at config ep).numerology first k }
+    {
+        self.rows[ep].symbol(k)
+    }
+
+    /// The number of a symbol. None exactly where the frames have no such symbol.
+    pub fn number(&self, ep: usize, place: Place) -> Option<usize>
+        requires { ep < length (endpoints_of self.now) }
+        ensures within { IfSome result (λ k. k < symbols_in self.now ep) }
+        ensures place { (config : Config) (first last : ℕ) (cells : List AirCell) → Stands self.now config first last cells → (k : ℕ) → k < symbols_in self.now ep → same_symbol place.slot place.symbol (symbol_at (endpoint_at config ep).numerology first k) ≡ is_index result k }
+    {
+        self.rows[ep].index(place)
+    }
+
     /// The first span by an endpoint's table.
     fn row_next(&self, ep: usize, after: Option<Place>, min: u32) -> Option<Span>
         requires { ep < length self.now.rows }
@@ -105,10 +136,11 @@ impl Spans {
     }
 
     /// The first listed span of an endpoint that begins after a place, or of all where no place is given: a run of at least
-    /// `min` silent symbols that no symbol before or behind it extends within the frames. None exactly where there is none. A
-    /// place that the endpoint has not counts by its frame, and then by the number that its symbol would have in the frame.
+    /// `min` silent symbols that no symbol before or behind it extends within the frames. None exactly where there is none. The
+    /// place is a symbol of the endpoint, of any frame.
     pub fn next(&self, ep: usize, after: Option<Place>, min: u32) -> Option<Span>
         requires ep { ep < length (endpoints_of self.now) }
+        requires place { IsNoneOrSymbol (endpoint_in self.now ep).numerology after }
         requires min { 1 ≤ min }
         ensures { (config : Config) (first last : ℕ) (cells : List AirCell) → Stands self.now config first last cells → IsNext (endpoint_at config ep) first last cells after min result }
     {

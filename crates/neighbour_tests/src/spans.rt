@@ -1,7 +1,9 @@
 // Spans of marked cells, by hand. At 30 kHz a frame has 10 subframes of 2 slots of 14 symbols, so 280 symbols; subframe b, slot s
 // and symbol y of its first frame is symbol (2b + s) * 14 + y.
-ghost use Rattle.std.specs.Prelude.{◌≡◌, ◌≤◌, [], ◌∷◌, length, IfOk, OnOk};
+ghost use Rattle.std.specs.Prelude.{◌≡◌, ◌<◌, ◌≤◌, [], ◌∷◌, length, IfOk, OnOk};
 ghost use Rattle.air_source.specs.declared.events.Event.TheVariants.{Cell};
+ghost use Rattle.fh_time.specs.declared.numerology.Numerology.{Numerology as SpecNumerology};
+ghost use Rattle.idle_spans.specs.Places.{IsSymbol};
 ghost use Rattle.idle_spans.specs.Tables.{AreFrames, endpoints_of};
 
 use crate::made::config;
@@ -42,7 +44,11 @@ fn usual_spans(rt: &impl Abort, alloc: Global) -> Result<Spans, NoMemory>
     spans_of(rt, alloc, &[n], 1, 1)
 }
 
-fn place(frame: i64, subframe: u8, slot: u8, symbol: u8) -> Place {
+fn place(frame: i64, subframe: u8, slot: u8, symbol: u8) -> Place
+    ensures subframe { result.slot.subframe ≡ subframe }
+    ensures slot { result.slot.slot ≡ slot }
+    ensures symbol { result.symbol ≡ symbol }
+{
     Place {
         slot: Slot {
             frame,
@@ -51,6 +57,22 @@ fn place(frame: i64, subframe: u8, slot: u8, symbol: u8) -> Place {
         },
         symbol,
     }
+}
+
+/// The first symbol of a subframe, which every endpoint has.
+fn start_of(frame: i64, subframe: u8) -> Place
+    requires { subframe < 10 }
+    ensures { (n : SpecNumerology) → IsSymbol n result }
+{
+    place(frame, subframe, 0, 0)
+}
+
+/// The first span of endpoint 0 that begins after the first symbol of a subframe.
+fn next_after(spans: &Spans, frame: i64, subframe: u8) -> Option<Span>
+    requires ep { 0 < length (endpoints_of spans.now) }
+    requires subframe { subframe < 10 }
+{
+    spans.next(0, Some(start_of(frame, subframe)), 1)
 }
 
 fn cell(id: u16, place: Place, block: Option<[Wide; 12]>) -> AirCell {
@@ -109,10 +131,10 @@ fn without_a_mark_all_symbols_are_one_span(rt: HostRuntime) -> Result<(), Fail> 
     assert_eq!(rt; one.next(0, None, 1), whole);
     assert_eq!(rt; one.next(0, None, 280), whole);
     assert_eq!(rt; one.next(0, None, 281), None);
-    assert_eq!(rt; one.next(0, Some(place(1, 0, 0, 0)), 1), None);
+    assert_eq!(rt; next_after(&one, 1, 0), None);
     // places of frames before and behind
-    assert_eq!(rt; one.next(0, Some(place(0, 9, 1, 13)), 1), whole);
-    assert_eq!(rt; one.next(0, Some(place(2, 0, 0, 0)), 1), None);
+    assert_eq!(rt; next_after(&one, 0, 9), whole);
+    assert_eq!(rt; next_after(&one, 2, 0), None);
     let n = Numerology::ordinary(1).expect(&rt, "30 kHz");
     let two = spans_of(&rt, rt.alloc(), &[n], 1, 2)?;
     assert_eq!(rt;
@@ -140,9 +162,9 @@ fn marks_cut_spans(rt: HostRuntime) -> Result<(), Fail> {
     );
     assert_eq!(rt; spans.next(0, None, 139), second);
     // a place inside the first span, one before the second, and its first symbol
-    assert_eq!(rt; spans.next(0, Some(place(1, 2, 0, 0)), 1), second);
-    assert_eq!(rt; spans.next(0, Some(place(1, 4, 1, 13)), 1), second);
-    assert_eq!(rt; spans.next(0, Some(place(1, 5, 0, 0)), 1), None);
+    assert_eq!(rt; next_after(&spans, 1, 2), second);
+    assert_eq!(rt; next_after(&spans, 1, 4), second);
+    assert_eq!(rt; next_after(&spans, 1, 5), None);
     Ok(())
 }
 
