@@ -1,6 +1,6 @@
 -- Idle lines behind a plan: none is refused, and no data message changes.
-use Rattle.std.proofs.Common.{◌≡◌, ℕ, ℤ, suc, ◌+◌, inl, inr, Bool, true, false, not, ◌&&◌, ◌||◌, ◌==◌, if◌then◌else◌, List, [], ◌∷◌, ◌++◌, length, map, filter, Option, Some, None, refl, ap, ap₂, sym, ◌∙◌, subst, true≢false, arith}
-use Rattle.std.specs.List.{AllByRecursion, list_any}
+use Rattle.std.proofs.Common.{◌≡◌, ℕ, ℤ, suc, ◌+◌, inl, inr, Bool, true, false, not, ◌&&◌, ◌==◌, if◌then◌else◌, List, [], ◌∷◌, ◌++◌, length, map, filter, Option, Some, None, refl, ap, ap₂, sym, ◌∙◌, subst, true≢false, arith}
+use Rattle.std.specs.List.{AllByRecursion}
 use Rattle.std.specs.Option.{option_to_list}
 use Rattle.std.proofs.lemmas.Bool.{and_parts, cases_Bool, eqb-true}
 use Rattle.fh_time.specs.declared.values.Slot.{Slot}
@@ -28,13 +28,10 @@ use Rattle.plan_model.specs.declared.refusals.PlanWhy.TheVariants.{Overlap, Rang
 use Rattle.plan_model.specs.declared.streams.Stream.{Stream}
 use Rattle.plan_model.specs.declared.streams.Stream.TheVariants.{DownCommands, UpCommands, DownData, UpData}
 use Rattle.plan_model.proofs.ListLemmas.{all_map, filter_none}
+use Rattle.generated_plans.proofs.Lines.{none_any}
 use Rattle.idle_plans.specs.Enlarged.{AreFree, IdleLinesAreValid, with_lines}
 
 -- ---- none is refused
-
-none_any : {X : Type 0} (p : X → Bool) (xs : List X) → ((x : X) → IsIn x xs → p x ≡ false) → list_any p xs ≡ false
-none_any p [] h = refl
-none_any p (x ∷ xs) h = ap (λ (b : Bool). b || list_any p xs) (h x (inl refl)) ∙ none_any p xs (λ y i. h y (inr i))
 
 no_clash : (a b : Allocation) → a.down ≡ true → (b.down ≡ true → b.ep ≡ a.ep → b.slot ≡ a.slot → ⊥) → clash a b ≡ false
 no_clash a b down h = elim (cases_Bool (clash a b)) [
