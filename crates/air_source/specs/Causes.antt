@@ -1,13 +1,18 @@
--- When an air may answer that it failed.
-use Rattle.std.specs.Prelude.{◌≡◌, ◌≤◌, ℕ, Result, IsErrOf, MatchResult}
-use Rattle.fh_base.specs.Causes.{Rose, one_more}
+-- When an air answers that it failed.
+use Rattle.std.specs.Prelude.{◌≡◌, ℕ, Bool, true, false, Result, Ok, Err, MatchResult}
+use Rattle.fh_base.specs.Causes.{Counts, one_more}
 use Rattle.air_source.specs.declared.airs.AirFault.{AirFault}
 use Rattle.air_source.specs.declared.airs.AirFault.TheVariants.{Failed, NoMemory}
 
--- the count of faults does not fall, and `Failed` comes only where it rose
-pub record HasAirCause {T : Type 0} (before now : ℕ) (result : Result T AirFault) : Type 0 where
-  pub later : before ≤ now
-  pub failed : IsErrOf result Failed → Rose before now
+-- an air failed, or heard what it was told, or wanted memory
+abbrev pub has_failed : {T : Type 0} → Result T AirFault → Bool
+has_failed (Ok value) = false
+has_failed (Err Failed) = true
+has_failed (Err NoMemory) = false
+
+-- the count of faults rose exactly at `Failed`
+abbrev pub HasAirCause : {T : Type 0} → ℕ → ℕ → Result T AirFault → Type 0
+HasAirCause before now result = Counts (has_failed result) before now
 
 -- the count of faults after an air's error
 abbrev pub faults_after : AirFault → ℕ → ℕ

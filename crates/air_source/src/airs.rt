@@ -33,11 +33,11 @@ impl From<NoMemory> for AirFault {
 
 /// What hears events, one at a call.
 ///
-/// At `Ok` the air heard the event; after an error it stopped in it. `Failed` comes only where the
-/// count of faults rose. Code over any air knows what it heard by these ghost members and their laws
+/// At `Ok` the air heard the event; after an error it stopped in it. The count of faults rises
+/// exactly at `Failed`. Code over any air knows what it heard by these ghost members and their laws
 /// alone.
 pub trait Air {
-    /// How often the air failed, a number that does not fall and stays at the greatest `u64`.
+    /// How often the air failed, a number that does not fall and may stay at the greatest `u64`.
     ghost faults: { Self → ℕ };
 
     /// From the first air to the second, it heard these events, in order.
