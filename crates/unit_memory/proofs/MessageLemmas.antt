@@ -2,25 +2,25 @@
 use Rattle.std.proofs.Common.{◌≡◌, ℕ, ℤ, ◌+◌, ◌≤ℤ◌, Bool, true, false, List, [], ◌∷◌, ◌++◌, map, sym, ap, ◌∙◌, subst, arith}
 use Rattle.std.proofs.lemmas.Bool.{not-true}
 use Rattle.std.specs.Prelude.{Option, Some, None, MatchOption, if◌then◌else◌}
-use Rattle.unit_cells.specs.air_source.specs.declared.events.Side.{Side}
-use Rattle.unit_cells.specs.air_source.specs.declared.events.Side.TheVariants.{Ru, Du}
+use Rattle.air_source.specs.declared.events.Side.{Side}
+use Rattle.air_source.specs.declared.events.Side.TheVariants.{Ru, Du}
 use Rattle.fault_counters.specs.declared.kinds.Counter.TheVariants.{URefused, WrongWay}
 use Rattle.fault_counters.specs.Counts.{capped, count_of, once, times}
-use Rattle.unit_cells.specs.unit_model.specs.Terms.{URefusal, UHead, USection, UFeed}
-use Rattle.unit_cells.specs.unit_model.specs.Counts.{decoded_counted}
+use Rattle.unit_model.specs.Terms.{URefusal, UHead, USection, UFeed}
+use Rattle.unit_model.specs.Counts.{decoded_counted}
 use Rattle.fault_counters.specs.declared.kinds.Counter.{Counter}
 use Rattle.fh_time.specs.Numbering.{shape_of}
 use Rattle.fh_time.specs.declared.values.Shape.{Shape}
 use Rattle.fh_time.specs.declared.values.Ticks.{Ticks}
-use Rattle.unit_cells.specs.unit_model.specs.uplane_sections.specs.declared.steps.UFeed.TheVariants as feed
-use Rattle.unit_cells.specs.unit_model.specs.uplane_sections.specs.Messages.{Item, Telling, told}
-use Rattle.unit_cells.specs.unit_model.specs.uplane_sections.specs.Writes.{IsHeadAdmitted}
-use Rattle.unit_cells.specs.window_config.specs.declared.config.Config.{Config}
-use Rattle.unit_cells.specs.window_config.specs.declared.endpoints.EndpointConfig.{EndpointConfig}
-use Rattle.unit_cells.specs.unit_model.specs.Decoding.{Backwards, Decoded, Gathering, SectionBlocks, Refused, Sections, data_with, decode, decoded_from, decoded_with, gathered, has_way, nothing_told, sections_of}
-use Rattle.unit_cells.specs.unit_model.specs.Proper.{IsAt, IsTime}
-use Rattle.unit_cells.specs.unit_model.specs.declared.allocations.Allocation.{Allocation}
-use Rattle.unit_cells.specs.unit_model.specs.declared.decoded.UserSection.{UserSection}
+use Rattle.uplane_sections.specs.declared.steps.UFeed.TheVariants as feed
+use Rattle.uplane_sections.specs.Messages.{Item, Telling, told}
+use Rattle.uplane_sections.specs.Writes.{IsHeadAdmitted}
+use Rattle.window_config.specs.declared.config.Config.{Config}
+use Rattle.window_config.specs.declared.endpoints.EndpointConfig.{EndpointConfig}
+use Rattle.unit_model.specs.Decoding.{Backwards, Decoded, Gathering, SectionBlocks, Refused, Sections, data_with, decode, decoded_from, decoded_with, gathered, has_way, nothing_told, sections_of}
+use Rattle.unit_model.specs.Proper.{IsAt, IsTime}
+use Rattle.unit_model.specs.declared.allocations.Allocation.{Allocation}
+use Rattle.unit_model.specs.declared.decoded.UserSection.{UserSection}
 use Rattle.unit_cells.specs.Cells.{CellsValue}
 use Rattle.unit_cells.specs.Headings.{IsProperHeading}
 use Rattle.unit_cells.specs.declared.heading.DataHeading.{DataHeading}
@@ -31,7 +31,7 @@ use Rattle.unit_memory.specs.Holding.{HoldsData}
 use Rattle.unit_memory.specs.Sections.{AreBehind, Came}
 use Rattle.unit_memory.proofs.DataHoldLemmas.{Stays, stays_none, stays_on}
 use Rattle.unit_memory.proofs.WalkLemmas.{behind_head, gathered_all, gathered_head, gathered_section, gathering, same_head}
-use Rattle.unit_cells.specs.air_source.specs.Units.{is_down}
+use Rattle.air_source.specs.Units.{is_down}
 
 -- the section of a message whose fragments came then
 abbrev pub heading_of : ℕ → EndpointConfig → Ticks → Ticks → UHead → USection → DataHeading
@@ -50,7 +50,7 @@ module _ (ep : ℕ) (e : EndpointConfig) (first last : Ticks) (head : UHead) whe
         → HoldsData side c last.0 n acc ds old before → HoldsData side c last.0 n acc (sections_with parts ++ ds) new after
     pub stays : Stays last.0 old new
 
-  pub none_treated : (items left : List Item) (v : CellsValue) (numbers : List ℕ) (first_told : Option UFeed) → IsWhole e.prbs (shape_of e.numerology) head items
+  unfoldable pub none_treated : (items left : List Item) (v : CellsValue) (numbers : List ℕ) (first_told : Option UFeed) → IsWhole e.prbs (shape_of e.numerology) head items
       → MatchOption first_told (NothingLeft items left) (TellsFirst items left) → Treated items left v v numbers numbers
   none_treated items left v numbers r whole t =
       let rest : left ≡ whole.rest = behind_head items whole.rest left head r whole.first t in
@@ -68,7 +68,7 @@ module _ (ep : ℕ) (e : EndpointConfig) (first last : Ticks) (head : UHead) whe
       let step = section_next e.prbs (shape_of e.numerology) 0 0 s left next f t.behind in
       (step.1, step.2)
 
-  pub one_treated : (items left next rest : List Item) (s : USection) (old mid new : CellsValue) (before between after : List ℕ) → Treated items left old mid before between
+  unfoldable pub one_treated : (items left next rest : List Item) (s : USection) (old mid new : CellsValue) (before between after : List ℕ) → Treated items left old mid before between
       → TellsFirst left next (feed.Section s) → Came (heading_of ep e first last head s) next rest mid new between after → Stays last.0 mid new
       → Treated items rest old new before after
   one_treated items left next rest s old mid new before between after t f taken stays = record {

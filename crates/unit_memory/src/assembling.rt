@@ -1,23 +1,25 @@
 // A fragment, and the message that it makes whole.
 ghost use Rattle.std.specs.Prelude.{◌≡◌, ℕ, ◌+◌, ◌<◌, ◌++◌, List};
-ghost use Rattle.unit_cells.specs.air_source.specs.declared.events.Side.{Side as SpecSide};
+ghost use Rattle.air_source.specs.declared.events.Side.{Side as SpecSide};
 ghost use Rattle.bfp_codec.specs.Layout.{HasWidth};
 ghost use Rattle.ecpri_fragments.specs.Assemblies.{StandsFor, Took, endpoints_of as places_of, hold_of};
 ghost use Rattle.ecpri_fragments.specs.Generations.{Fragment, fragment};
 ghost use Rattle.ecpri_fragments.specs.Verdicts.{verdict_on};
 ghost use Rattle.fault_counters.specs.declared.kinds.Counter.{Counter as SpecCounter};
 ghost use Rattle.fault_counters.specs.Counts.{times};
-ghost use Rattle.unit_cells.specs.window_config.specs.declared.config.Config.{Config};
-ghost use Rattle.unit_cells.specs.unit_model.specs.Counts.{decoded_counted};
-ghost use Rattle.unit_cells.specs.unit_model.specs.Decoding.{data_now, data_told};
-ghost use Rattle.unit_cells.specs.unit_model.specs.Proper.{IsAt, IsTime};
-ghost use Rattle.unit_cells.specs.unit_model.specs.declared.allocations.Allocation.{Allocation};
-ghost use Rattle.unit_cells.specs.unit_model.specs.declared.decoded.UserSection.{UserSection};
+ghost use Rattle.window_config.specs.declared.config.Config.{Config};
+ghost use Rattle.unit_model.specs.Counts.{decoded_counted};
+ghost use Rattle.unit_model.specs.Decoding.{data_now, data_told};
+ghost use Rattle.unit_model.specs.Proper.{IsAt, IsTime};
+ghost use Rattle.unit_model.specs.declared.allocations.Allocation.{Allocation};
+ghost use Rattle.unit_model.specs.declared.decoded.UserSection.{UserSection};
 ghost use Rattle.unit_cells.specs.Cells.{endpoints_of};
 ghost use Rattle.unit_memory.specs.Holding.{HoldsData};
+ghost use Rattle.unit_memory.specs.Judgements.{judged_piece};
 ghost use Rattle.unit_memory.specs.Parts.{CameSome, LeavesReported};
 
-use crate::taking::take_message;
+use crate::Listener;
+use crate::taking::take_message_told;
 use ecpri_fragments::{Assembly, SeqField, Taken, Verdict};
 use fault_counters::Counters;
 use fh_time::Ticks;
@@ -25,10 +27,11 @@ use unit_cells::UnitCells;
 use window_config::EndpointConfig;
 
 /// Takes a fragment to an endpoint, and treats the message that it makes whole, if it does.
-pub(crate) fn assemble(
+pub(crate) fn assemble<L: Listener>(
     assembly: &mut Assembly,
     cells: &mut UnitCells,
     counters: &mut Counters,
+    listener: &mut L,
     at: Ticks,
     ep: usize,
     endpoint: &EndpointConfig,
@@ -47,16 +50,32 @@ pub(crate) fn assemble(
         → StandsFor assembly.old fs → HoldsData side c at.0 n acc ds cells.old counters.old
         → let told = data_now side (hold_of assembly.old) endpoint.now (fragment ep at seq bytes.now) fs in
         HoldsData side c at.0 (λ k. n k + times (decoded_counted told) k) acc (data_told told ++ ds) cells.new counters.new }
+    ensures told { (side : SpecSide) (c : Config) (n : SpecCounter → ℕ) (acc : List Allocation) (fs : List Fragment) (ds : List UserSection)
+        → StandsFor assembly.old fs → HoldsData side c at.0 n acc ds cells.old counters.old
+        → L.heard listener.old (judged_piece side c.delays (hold_of assembly.old) endpoint.now (fragment ep at seq bytes.now) fs ds) listener.new }
     ensures reports { LeavesReported at.0 cells.old cells.new }
 {
     match assembly.take(ep, at, seq, bytes) {
-        Taken::Stored => Verdict::Stored,
+        Taken::Stored => {
+            listener.fragment(at, ep, endpoint, seq, bytes, Verdict::Stored);
+            Verdict::Stored
+        }
         Taken::Whole(lease) => {
-            take_message(cells, counters, ep, endpoint, &lease);
+            listener.fragment(at, ep, endpoint, seq, bytes, Verdict::Whole);
+            take_message_told(cells, counters, listener, ep, endpoint, &lease);
             Verdict::Whole
         }
-        Taken::Repeat => Verdict::Repeat,
-        Taken::Stray => Verdict::Stray,
-        Taken::TooLong => Verdict::TooLong,
+        Taken::Repeat => {
+            listener.fragment(at, ep, endpoint, seq, bytes, Verdict::Repeat);
+            Verdict::Repeat
+        }
+        Taken::Stray => {
+            listener.fragment(at, ep, endpoint, seq, bytes, Verdict::Stray);
+            Verdict::Stray
+        }
+        Taken::TooLong => {
+            listener.fragment(at, ep, endpoint, seq, bytes, Verdict::TooLong);
+            Verdict::TooLong
+        }
     }
 }

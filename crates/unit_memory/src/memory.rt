@@ -1,24 +1,25 @@
 // What a unit keeps of the frames that came.
 ghost use Rattle.std.specs.Prelude.{◌≡◌, ℤ, ◌-◌, ◌^◌, ◌≤ℤ◌, pos, List, [], ◌∷◌, IfOk, length, min, false};
 ghost use Rattle.std.specs.List.{list_any};
-ghost use Rattle.unit_cells.specs.air_source.specs.declared.events.Side.{Side as SpecSide};
+ghost use Rattle.air_source.specs.declared.events.Side.{Side as SpecSide};
 ghost use Rattle.ecpri_frames.specs.Gathering.{whole_messages};
 ghost use Rattle.ecpri_frames.specs.Left.{frame_of, left_of};
 ghost use Rattle.ecpri_frames.specs.Messages.{pdu};
 ghost use Rattle.fault_counters.specs.declared.kinds.Counter.{Counter};
 ghost use Rattle.unit_cells.specs.Cells.{IsOf, cells_reported};
 ghost use Rattle.unit_cells.specs.Keeping.{SameReported};
-ghost use Rattle.unit_cells.specs.unit_model.specs.Lists.{onto};
-ghost use Rattle.unit_cells.specs.unit_model.specs.Meetings.{Arrival, Meeting, met_in};
-ghost use Rattle.unit_cells.specs.unit_model.specs.Proper.{IsTime};
-ghost use Rattle.unit_cells.specs.unit_model.specs.Reports.{hold_of};
-ghost use Rattle.unit_cells.specs.unit_model.specs.declared.cells.Cell.{Cell};
-ghost use Rattle.unit_cells.specs.window_config.specs.Configs.{IsConfig};
-ghost use Rattle.unit_cells.specs.window_config.specs.declared.config.Config.{Config as SpecConfig};
+ghost use Rattle.unit_model.specs.Lists.{onto};
+ghost use Rattle.unit_model.specs.Meetings.{Arrival, Meeting, met_in};
+ghost use Rattle.unit_model.specs.Proper.{IsTime};
+ghost use Rattle.unit_model.specs.Reports.{hold_of};
+ghost use Rattle.unit_model.specs.declared.cells.Cell.{Cell};
+ghost use Rattle.window_config.specs.Configs.{IsConfig};
+ghost use Rattle.window_config.specs.declared.config.Config.{Config as SpecConfig};
 
+use crate::{Deaf, Listener};
 use air_source::Side;
 use ecpri_fragments::Assembly;
-use ecpri_frames::{Messages, REAL_TIME_CONTROL, messages};
+use ecpri_frames::{Messages, ONE_WAY_DELAY, REAL_TIME_CONTROL, messages};
 use fault_counters::Counters;
 use fh_base::NoMemory;
 use fh_time::{Ticks, of_ns};
@@ -34,6 +35,8 @@ pub struct Arrived {
     pub delivered: Delivered,
     /// Whether one of its whole messages has real-time control data: without them no section of a command is accepted.
     pub control: bool,
+    /// Whether one of its whole messages is of one-way delay measurement: without them a meter has nothing to hear.
+    pub delay: bool,
 }
 
 /// How long a generation of fragments holds at this side.
@@ -63,7 +66,8 @@ pub struct UnitMemory {
 }
 
 impl UnitMemory {
-    ghost use Rattle.unit_memory.specs.Control.{has_control, is_control};
+    ghost use Rattle.unit_memory.specs.Control.{has_control, has_delay, is_control, is_delay};
+    ghost use Rattle.unit_memory.specs.Judgements.{judged_in, judgements};
     ghost use Rattle.unit_memory.specs.Memory.{Holds, HoldsSome, arrival_at};
     ghost use Rattle.unit_memory.specs.Parts.{LeavesReported, MemoryStands, MemoryStandsForSome};
 
@@ -85,26 +89,64 @@ impl UnitMemory {
     }
 
     /// Treats the whole messages that are left of a frame, in their order. Tells how many they are, or the greatest `u32` where they
-    /// are more, and whether one of them has real-time control data.
-    fn take_messages(&mut self, at: Ticks, left: &mut Messages<'_>) -> (u32, bool)
+    /// are more, and whether one of them has real-time control data, and whether one is of delay measurement.
+    fn take_messages<L: Listener>(
+        &mut self,
+        listener: &mut L,
+        at: Ticks,
+        left: &mut Messages<'_>,
+    ) -> (u32, bool, bool)
         requires unit { MemoryStandsForSome at.0 self.old }
         requires time { IsTime at.0 }
         ensures holds { (side : SpecSide) (c : SpecConfig) (arrivals : List Arrival) (ms : List Meeting) (beside : List Counter)
             → MemoryStands side c at.0 self.old arrivals ms beside
             → MemoryStands side c at.0 self.new arrivals (onto ms (met_in side c.endpoints at.0 (left_of left.old))) beside }
+        ensures told { (side : SpecSide) (c : SpecConfig) (arrivals : List Arrival) (ms : List Meeting) (beside : List Counter)
+            → MemoryStands side c at.0 self.old arrivals ms beside
+            → L.heard listener.old (judged_in side c at.0 ms (left_of left.old)) listener.new }
         ensures reports { LeavesReported at.0 self.old.cells self.new.cells }
         ensures count { result.0 ≡ min (length (left_of left.old)) (2 ^ 32 - 1) }
         ensures control { result.1 ≡ list_any is_control (left_of left.old) }
+        ensures delay { result.2 ≡ list_any is_delay (left_of left.old) }
         ensures frame { frame_of left.new ≡ frame_of left.old }
     {
         let mut count = 0u32;
         let mut control = false;
+        let mut delay = false;
         while let Some(message) = left.next() {
-            self.message(at, &message);
+            self.message(listener, at, &message);
             count = count.saturating_add(1);
             control |= message.head.kind == REAL_TIME_CONTROL;
+            delay |= message.head.kind == ONE_WAY_DELAY;
         }
-        (count, control)
+        (count, control, delay)
+    }
+
+    /// Treats a frame that arrives at a time, in ticks (eCPRI 2.0; O-RAN.WG4.CUS for the messages; what a unit makes of them is this
+    /// project's profile). The frame is gone over once: its whole messages are treated in their order; the frame and its refusal, if
+    /// it has one, which stands at the end of the walk, are counted behind them. A listener hears what is judged.
+    pub fn arrive_told<L: Listener>(&mut self, listener: &mut L, at: Ticks, frame: &[u8]) -> Arrived
+        requires unit { HoldsSome at.0 self.old }
+        requires time { IsTime at.0 }
+        ensures holds { (side : SpecSide) (c : SpecConfig) (arrivals : List Arrival) (beside : List Counter) → Holds side c at.0 self.old arrivals beside
+            → Holds side c at.0 self.new (arrival_at at.0 frame.now ∷ arrivals) beside }
+        ensures reports { (side : SpecSide) (c : SpecConfig) → IsOf side c self.old.cells → SameReported side c at.0 self.old.cells self.new.cells }
+        ensures told { (side : SpecSide) (c : SpecConfig) (arrivals : List Arrival) (beside : List Counter) → Holds side c at.0 self.old arrivals beside
+            → L.heard listener.old (judgements side c arrivals (arrival_at at.0 frame.now)) listener.new }
+        ensures messages { result.delivered.messages ≡ min (length (whole_messages frame.now)) (2 ^ 32 - 1) }
+        ensures refusal { result.delivered.refusal ≡ (pdu frame.now).refusal }
+        ensures control { result.control ≡ has_control frame.now }
+        ensures delay { result.delay ≡ has_delay frame.now }
+    {
+        let mut left = messages(frame);
+        let (messages, control, delay) = self.take_messages(listener, at, &mut left);
+        let refusal = left.refusal();
+        self.count_frame(refusal);
+        Arrived {
+            delivered: Delivered { messages, refusal },
+            control,
+            delay,
+        }
     }
 
     /// Treats a frame that arrives at a time, in ticks (eCPRI 2.0; O-RAN.WG4.CUS for the messages; what a unit makes of them is this
@@ -119,14 +161,8 @@ impl UnitMemory {
         ensures messages { result.delivered.messages ≡ min (length (whole_messages frame.now)) (2 ^ 32 - 1) }
         ensures refusal { result.delivered.refusal ≡ (pdu frame.now).refusal }
         ensures control { result.control ≡ has_control frame.now }
+        ensures delay { result.delay ≡ has_delay frame.now }
     {
-        let mut left = messages(frame);
-        let (messages, control) = self.take_messages(at, &mut left);
-        let refusal = left.refusal();
-        self.count_frame(refusal);
-        Arrived {
-            delivered: Delivered { messages, refusal },
-            control,
-        }
+        self.arrive_told(&mut Deaf {}, at, frame)
     }
 }

@@ -1,14 +1,22 @@
 // One section of a message: its verdict, and its blocks, which the walk tells behind its header.
-ghost use Rattle.std.specs.Prelude.{◌≡◌, ◌<◌, []};
-ghost use Rattle.unit_cells.specs.air_source.specs.declared.events.Side.{Side as SpecSide};
-ghost use Rattle.unit_cells.specs.window_config.specs.declared.config.Config.{Config};
+ghost use Rattle.std.specs.Prelude.{◌≡◌, ℕ, ◌<◌, List, [], ◌∷◌};
+ghost use Rattle.air_source.specs.declared.events.Side.{Side as SpecSide};
+ghost use Rattle.window_config.specs.declared.config.Config.{Config};
 ghost use Rattle.uplane_messages.specs.Left.{left_of};
-ghost use Rattle.unit_cells.specs.unit_model.specs.Blocks.{data_prb_count};
+ghost use Rattle.unit_model.specs.Blocks.{data_prb_count};
 ghost use Rattle.unit_cells.specs.Cells.{IsOf, endpoints_of};
 ghost use Rattle.unit_cells.specs.Headings.{IsProperHeading, data_under};
 ghost use Rattle.unit_cells.specs.Keeping.{SameReported};
+ghost use Rattle.bfp_codec.specs.declared.samples.Wide.{Wide};
+ghost use Rattle.fault_counters.specs.declared.kinds.Counter.{Counter as SpecCounter};
+ghost use Rattle.unit_model.specs.Blocks.{data_verdict, timely};
+ghost use Rattle.unit_model.specs.declared.allocations.Allocation.{Allocation};
+ghost use Rattle.unit_model.specs.declared.decoded.UserSection.{UserSection};
+ghost use Rattle.unit_memory.specs.Holding.{HoldsData};
+ghost use Rattle.unit_memory.specs.Judgements.{Given};
 ghost use Rattle.unit_memory.specs.Sections.{AreBehind, Came, Filled, FillsSome, AreSectionsBehind};
 
+use crate::Listener;
 use fault_counters::Counters;
 use unit_cells::{DataHeading, UnitCells};
 use unit_model::data_counter;
@@ -80,15 +88,19 @@ fn fill_section(cells: &mut UnitCells, heading: &DataHeading, walk: &mut DataWal
     }
 }
 
-/// Treats a section: its verdict is counted, and its cells get its blocks, which the walk tells next.
-pub(crate) fn take_section(
+/// Treats a section: its verdict is told and counted, and its cells get its blocks, which the walk tells next.
+pub(crate) fn take_section<L: Listener>(
     cells: &mut UnitCells,
     counters: &mut Counters,
+    listener: &mut L,
     heading: &DataHeading,
     walk: &mut DataWalk<'_>,
 )
     requires heading { IsProperHeading cells.old.side (endpoints_of cells.old) heading.now }
     requires behind { AreBehind heading.now (left_of walk.old) }
+    ensures told { (side : SpecSide) (c : Config) (n : SpecCounter → ℕ) (acc : List Allocation) (ds : List UserSection) (blocks : List (List Wide))
+        → HoldsData side c heading.now.last.0 n acc ds cells.old counters.old
+        → L.heard listener.old (Given heading.now (data_verdict side c.delays (timely side c.delays ds) (data_under heading.now blocks)) ∷ []) listener.new }
     ensures taken { Came heading.now (left_of walk.old) (left_of walk.new) cells.old cells.new counters.old counters.new }
     ensures reports { (side : SpecSide) (c : Config) → IsOf side c cells.old → SameReported side c heading.now.last.0 cells.old cells.new }
     ensures side { cells.new.side ≡ cells.old.side }
@@ -96,6 +108,7 @@ pub(crate) fn take_section(
     ensures endpoints { endpoints_of cells.new ≡ endpoints_of cells.old }
 {
     let verdict = cells.begin(heading);
+    listener.section(heading, verdict);
     counters.add(data_counter(verdict));
     fill_section(cells, heading, walk);
 }

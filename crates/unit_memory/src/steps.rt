@@ -1,26 +1,28 @@
 // One step of a unit at a clock: something that is counted, a section, a fragment, a message.
 ghost use Rattle.std.specs.Prelude.{◌≡◌, ℕ, ℤ, ◌+◌, ◌<◌, ◌∷◌, [], ◌++◌, List};
-ghost use Rattle.unit_cells.specs.air_source.specs.declared.events.Side.{Side as SpecSide};
-ghost use Rattle.unit_cells.specs.air_source.specs.declared.events.Side.TheVariants.{Ru};
+ghost use Rattle.air_source.specs.declared.events.Side.{Side as SpecSide};
+ghost use Rattle.air_source.specs.declared.events.Side.TheVariants.{Ru};
 ghost use Rattle.cplane_sections.specs.Message.{sections_in};
 ghost use Rattle.ecpri_fragments.specs.Generations.{Fragment};
 ghost use Rattle.ecpri_frames.specs.Left.{message_of};
 ghost use Rattle.fault_counters.specs.declared.kinds.Counter.{Counter as SpecCounter};
 ghost use Rattle.fault_counters.specs.Counts.{once, times};
-ghost use Rattle.unit_cells.specs.window_config.specs.declared.config.Config.{Config};
-ghost use Rattle.unit_cells.specs.unit_model.specs.Counts.{piece_counted, refusal_counted};
-ghost use Rattle.unit_cells.specs.unit_model.specs.Decoding.{data_now, data_told};
-ghost use Rattle.unit_cells.specs.unit_model.specs.Lists.{onto};
-ghost use Rattle.unit_cells.specs.unit_model.specs.Meetings.{Arrival, Meeting, commands_with, fragment_with, meet as met_by_definition};
-ghost use Rattle.unit_cells.specs.unit_model.specs.Met.{IsRead};
-ghost use Rattle.unit_cells.specs.unit_model.specs.Proper.{IsAt, IsProperCommand, IsTime};
-ghost use Rattle.unit_cells.specs.unit_model.specs.Reports.{hold_of};
-ghost use Rattle.unit_cells.specs.unit_model.specs.declared.decoded.ControlSection.{ControlSection as SpecControlSection};
-ghost use Rattle.unit_cells.specs.unit_model.specs.declared.decoded.UserSection.{UserSection};
+ghost use Rattle.window_config.specs.declared.config.Config.{Config};
+ghost use Rattle.unit_model.specs.Counts.{piece_counted, refusal_counted};
+ghost use Rattle.unit_model.specs.Decoding.{data_now, data_told};
+ghost use Rattle.unit_model.specs.Lists.{onto};
+ghost use Rattle.unit_model.specs.Meetings.{Arrival, Meeting, commands_with, fragment_with, meet as met_by_definition};
+ghost use Rattle.unit_model.specs.Met.{IsRead};
+ghost use Rattle.unit_model.specs.Proper.{IsAt, IsProperCommand, IsTime};
+ghost use Rattle.unit_model.specs.Reports.{hold_of};
+ghost use Rattle.unit_model.specs.declared.decoded.ControlSection.{ControlSection as SpecControlSection};
+ghost use Rattle.unit_model.specs.declared.decoded.UserSection.{UserSection};
 ghost use Rattle.unit_cells.specs.Cells.{endpoints_of};
+ghost use Rattle.unit_model.specs.Commands.{accepted, command_verdict};
+ghost use Rattle.unit_memory.specs.Judgements.{Commanded, judged_commands, judged_message, judged_piece};
 
-use crate::UnitMemory;
 use crate::assembling::assemble;
+use crate::{Listener, UnitMemory};
 use air_source::Side;
 use cplane_sections::{CHead, sections};
 use ecpri_fragments::SeqField;
@@ -56,20 +58,25 @@ impl UnitMemory {
     }
 
     /// Treats a section of a command that comes at the clock.
-    fn section(&mut self, command: &ControlSection)
+    fn section<L: Listener>(&mut self, listener: &mut L, command: &ControlSection)
         requires side { self.old.cells.side ≡ Ru }
         requires proper { IsProperCommand (endpoints_of self.old.cells) command.now }
         ensures holds { (c : Config) (n : SpecCounter → ℕ) (fs : List Fragment) (cs : List SpecControlSection) (ds : List UserSection)
             → HoldsParts Ru c command.now.at.0 self.old n fs cs ds → HoldsParts Ru c command.now.at.0 self.new n fs (command.now ∷ cs) ds }
+        ensures told { (c : Config) (n : SpecCounter → ℕ) (fs : List Fragment) (cs : List SpecControlSection) (ds : List UserSection)
+            → HoldsParts Ru c command.now.at.0 self.old n fs cs ds
+            → L.heard listener.old (Commanded command.now (command_verdict c.delays (accepted c.delays cs) command.now) ∷ []) listener.new }
         ensures reports { LeavesReported command.now.at.0 self.old.cells self.new.cells }
     {
         let verdict = self.cells.command(command);
+        listener.command(command, verdict);
         self.counters.add(command_counter(verdict));
     }
 
     /// Treats the sections of a command message, in their order.
-    fn command(
+    fn command<L: Listener>(
         &mut self,
+        listener: &mut L,
         at: Ticks,
         ep: usize,
         endpoint: &EndpointConfig,
@@ -83,6 +90,9 @@ impl UnitMemory {
         ensures holds { (c : Config) (n : SpecCounter → ℕ) (fs : List Fragment) (cs : List SpecControlSection) (ds : List UserSection)
             → HoldsParts Ru c at.0 self.old n fs cs ds
             → HoldsParts Ru c at.0 self.new n fs (onto cs (commands_with ep endpoint.now at.0 head.now (sections_in head.now bytes.now))) ds }
+        ensures told { (c : Config) (n : SpecCounter → ℕ) (fs : List Fragment) (cs : List SpecControlSection) (ds : List UserSection)
+            → HoldsParts Ru c at.0 self.old n fs cs ds
+            → L.heard listener.old (judged_commands c.delays cs (commands_with ep endpoint.now at.0 head.now (sections_in head.now bytes.now))) listener.new }
         ensures reports { LeavesReported at.0 self.old.cells self.new.cells }
     {
         for section in sections(bytes, head) {
@@ -93,13 +103,14 @@ impl UnitMemory {
                 head: *head,
                 section,
             };
-            self.section(&command);
+            self.section(listener, &command);
         }
     }
 
     /// Treats a fragment.
-    fn piece(
+    fn piece<L: Listener>(
         &mut self,
+        listener: &mut L,
         at: Ticks,
         ep: usize,
         endpoint: &EndpointConfig,
@@ -116,12 +127,16 @@ impl UnitMemory {
             let hold = hold_of side c.delays in
             let told = data_now side hold endpoint.now f fs in
             HoldsParts side c at.0 self.new (λ k. n k + times (piece_counted hold f fs told) k) (f ∷ fs) cs (data_told told ++ ds) }
+        ensures told { (side : SpecSide) (c : Config) (n : SpecCounter → ℕ) (fs : List Fragment) (cs : List SpecControlSection) (ds : List UserSection)
+            → HoldsParts side c at.0 self.old n fs cs ds
+            → L.heard listener.old (judged_piece side c.delays (hold_of side c.delays) endpoint.now (fragment_with ep at.0 seq bytes.now) fs ds) listener.new }
         ensures reports { LeavesReported at.0 self.old.cells self.new.cells }
     {
         let verdict = assemble(
             &mut self.assembly,
             &mut self.cells,
             &mut self.counters,
+            listener,
             at,
             ep,
             endpoint,
@@ -132,14 +147,23 @@ impl UnitMemory {
     }
 
     /// Treats a whole message.
-    pub(crate) fn message(&mut self, at: Ticks, message: &WholeMessage<'_>)
+    pub(crate) fn message<L: Listener>(
+        &mut self,
+        listener: &mut L,
+        at: Ticks,
+        message: &WholeMessage<'_>,
+    )
         requires unit { MemoryStandsForSome at.0 self.old }
         requires time { IsTime at.0 }
         ensures holds { (side : SpecSide) (c : Config) (arrivals : List Arrival) (ms : List Meeting) (beside : List SpecCounter)
             → MemoryStands side c at.0 self.old arrivals ms beside
             → MemoryStands side c at.0 self.new arrivals (met_by_definition side c.endpoints at.0 (message_of message.now) ∷ ms) beside }
+        ensures told { (side : SpecSide) (c : Config) (arrivals : List Arrival) (ms : List Meeting) (beside : List SpecCounter)
+            → MemoryStands side c at.0 self.old arrivals ms beside
+            → L.heard listener.old (judged_message side c at.0 ms (message_of message.now)) listener.new }
         ensures reports { LeavesReported at.0 self.old.cells self.new.cells }
     {
+        listener.message(message);
         self.count(Counter::Messages);
         match meet(self.cells.side(), self.endpoints.as_slice(), message) {
             Met::Ignored(counter) => self.count(counter),
@@ -148,13 +172,13 @@ impl UnitMemory {
                 endpoint,
                 head,
                 bytes,
-            } => self.command(at, ep, &endpoint, &head, bytes),
+            } => self.command(listener, at, ep, &endpoint, &head, bytes),
             Met::Piece {
                 ep,
                 endpoint,
                 seq,
                 bytes,
-            } => self.piece(at, ep, &endpoint, seq, bytes),
+            } => self.piece(listener, at, ep, &endpoint, seq, bytes),
         }
     }
 }

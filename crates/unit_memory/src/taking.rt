@@ -2,25 +2,27 @@
 ghost use Rattle.std.specs.Prelude.{◌≡◌, ◌≢◌, ℕ, ◌+◌, [], ◌++◌, ◌≤ℤ◌, true, List, map, Some};
 ghost use Rattle.fh_time.specs.Numbering.{shape_of};
 ghost use Rattle.bfp_codec.specs.Layout.{HasWidth};
-ghost use Rattle.unit_cells.specs.air_source.specs.declared.events.Side.{Side as SpecSide};
+ghost use Rattle.air_source.specs.declared.events.Side.{Side as SpecSide};
 ghost use Rattle.ecpri_fragments.specs.Assemblies.{message_of};
 ghost use Rattle.fault_counters.specs.declared.kinds.Counter.{Counter as SpecCounter};
 ghost use Rattle.fault_counters.specs.Counts.{times};
-ghost use Rattle.unit_cells.specs.window_config.specs.declared.config.Config.{Config};
+ghost use Rattle.window_config.specs.declared.config.Config.{Config};
 ghost use Rattle.uplane_messages.specs.Joined.{message_bytes};
 ghost use Rattle.uplane_messages.specs.Whole.{IsWhole};
-ghost use Rattle.unit_cells.specs.unit_model.specs.Counts.{decoded_counted};
-ghost use Rattle.unit_cells.specs.unit_model.specs.Decoding.{data_with, decode, gathered, has_way, nothing_told, sections_of};
-ghost use Rattle.unit_cells.specs.unit_model.specs.Proper.{IsAt, IsTime};
-ghost use Rattle.unit_cells.specs.air_source.specs.Units.{is_down};
-ghost use Rattle.unit_cells.specs.unit_model.specs.declared.allocations.Allocation.{Allocation};
-ghost use Rattle.unit_cells.specs.unit_model.specs.declared.decoded.UserSection.{UserSection};
+ghost use Rattle.unit_model.specs.Counts.{decoded_counted};
+ghost use Rattle.unit_model.specs.Decoding.{data_with, decode, gathered, has_way, nothing_told, sections_of};
+ghost use Rattle.unit_model.specs.Proper.{IsAt, IsTime};
+ghost use Rattle.air_source.specs.Units.{is_down};
+ghost use Rattle.unit_model.specs.declared.allocations.Allocation.{Allocation};
+ghost use Rattle.unit_model.specs.declared.decoded.UserSection.{UserSection};
 ghost use Rattle.unit_cells.specs.Cells.{IsOf, endpoints_of};
 ghost use Rattle.unit_cells.specs.Keeping.{SameReported};
 ghost use Rattle.unit_memory.specs.Holding.{HoldsData};
+ghost use Rattle.unit_memory.specs.Judgements.{judged_data, judged_whole};
 ghost use Rattle.unit_memory.specs.Sections.{items_of};
 
 use crate::section::take_section;
+use crate::{Deaf, Listener};
 use air_source::Side;
 use ecpri_fragments::Lease;
 use fault_counters::{Counter, Counters};
@@ -41,9 +43,10 @@ fn has_way(side: Side, head: &UHead) -> bool
 }
 
 /// Treats the sections of a message with this header, which no test refuses.
-fn take_sections(
+fn take_sections<L: Listener>(
     cells: &mut UnitCells,
     counters: &mut Counters,
+    listener: &mut L,
     ep: usize,
     endpoint: &EndpointConfig,
     lease: &Lease<'_>,
@@ -61,6 +64,10 @@ fn take_sections(
         → HoldsData side c (message_of lease.now).last n acc
         (map (data_with ep endpoint.now (message_of lease.now).first (message_of lease.now).last head) (gathered nothing_told (items_of endpoint.now lease.now)).parts ++ ds)
         cells.new counters.new }
+    ensures told { (side : SpecSide) (c : Config) (n : SpecCounter → ℕ) (acc : List Allocation) (ds : List UserSection)
+        → HoldsData side c (message_of lease.now).last n acc ds cells.old counters.old
+        → L.heard listener.old (judged_data side c.delays ds
+        (map (data_with ep endpoint.now (message_of lease.now).first (message_of lease.now).last head) (gathered nothing_told (items_of endpoint.now lease.now)).parts)) listener.new }
     ensures reports { (side : SpecSide) (c : Config) → IsOf side c cells.old → SameReported side c (message_of lease.now).last cells.old cells.new }
     ensures side { cells.new.side ≡ cells.old.side }
     ensures delays { cells.new.delays ≡ cells.old.delays }
@@ -89,7 +96,55 @@ fn take_sections(
             head,
             section,
         };
-        take_section(cells, counters, &heading, &mut walk);
+        take_section(cells, counters, listener, &heading, &mut walk);
+    }
+}
+
+/// Treats a U-plane message to an endpoint, the one with index `ep`, that became whole at the clock (O-RAN.WG4.CUS, U-plane
+/// messages; the verdicts are this project's profile). A message that the layout refuses counts `u_refused`, one of the other
+/// way `wrong_way`, and neither changes anything else; each section of another one has one verdict. A listener hears all of it.
+pub fn take_message_told<L: Listener>(
+    cells: &mut UnitCells,
+    counters: &mut Counters,
+    listener: &mut L,
+    ep: usize,
+    endpoint: &EndpointConfig,
+    lease: &Lease<'_>,
+)
+    requires endpoint { IsAt (endpoints_of cells.old) ep endpoint.now }
+    requires width { HasWidth endpoint.now.format.method }
+    requires first { IsTime (message_of lease.now).first }
+    requires last { IsTime (message_of lease.now).last }
+    requires order { (message_of lease.now).first ≤ℤ (message_of lease.now).last }
+    ensures holds { (side : SpecSide) (c : Config) (n : SpecCounter → ℕ) (acc : List Allocation) (ds : List UserSection)
+        → HoldsData side c (message_of lease.now).last n acc ds cells.old counters.old
+        → let d = decode side ep endpoint.now (message_of lease.now).first (message_of lease.now).last (message_bytes lease.now) in
+        HoldsData side c (message_of lease.now).last (λ k. n k + times (decoded_counted (Some d)) k) acc (sections_of d ++ ds) cells.new counters.new }
+    ensures told { (side : SpecSide) (c : Config) (n : SpecCounter → ℕ) (acc : List Allocation) (ds : List UserSection)
+        → HoldsData side c (message_of lease.now).last n acc ds cells.old counters.old
+        → L.heard listener.old (judged_whole side c.delays ep endpoint.now (message_of lease.now) ds) listener.new }
+    ensures rests { decoded_counted (Some (decode cells.old.side ep endpoint.now (message_of lease.now).first (message_of lease.now).last (message_bytes lease.now))) ≢ []
+        → cells.new ≡ cells.old }
+    ensures reports { (side : SpecSide) (c : Config) → IsOf side c cells.old → SameReported side c (message_of lease.now).last cells.old cells.new }
+    ensures side { cells.new.side ≡ cells.old.side }
+    ensures delays { cells.new.delays ≡ cells.old.delays }
+    ensures endpoints { endpoints_of cells.new ≡ endpoints_of cells.old }
+{
+    match tested(
+        lease,
+        endpoint.format,
+        endpoint.prbs,
+        shape(&endpoint.numerology),
+    ) {
+        Err(why) => {
+            listener.unread(ep, endpoint, lease, why);
+            counters.add(Counter::URefused)
+        }
+        Ok(head) if !has_way(cells.side(), &head) => {
+            listener.turned(ep, endpoint, lease);
+            counters.add(Counter::WrongWay)
+        }
+        Ok(head) => take_sections(cells, counters, listener, ep, endpoint, lease, head),
     }
 }
 
@@ -119,14 +174,5 @@ pub fn take_message(
     ensures delays { cells.new.delays ≡ cells.old.delays }
     ensures endpoints { endpoints_of cells.new ≡ endpoints_of cells.old }
 {
-    match tested(
-        lease,
-        endpoint.format,
-        endpoint.prbs,
-        shape(&endpoint.numerology),
-    ) {
-        Err(_) => counters.add(Counter::URefused),
-        Ok(head) if !has_way(cells.side(), &head) => counters.add(Counter::WrongWay),
-        Ok(head) => take_sections(cells, counters, ep, endpoint, lease, head),
-    }
+    take_message_told(cells, counters, &mut Deaf {}, ep, endpoint, lease);
 }

@@ -3,15 +3,16 @@ use Rattle.ecpri_fragments.specs.Assemblies.{hold_of as assembly_hold}
 use Rattle.ecpri_fragments.specs.Generations.{fragment}
 use Rattle.ecpri_fragments.specs.Verdicts.{verdict_on}
 use Rattle.fault_counters.specs.Counts.{times}
-use Rattle.unit_cells.specs.unit_model.specs.Commands.{accepted}
-use Rattle.unit_cells.specs.unit_model.specs.Counts.{decoded_counted, fragment_counter, piece_counted}
-use Rattle.unit_cells.specs.unit_model.specs.Decoding.{data_now, data_told}
+use Rattle.unit_model.specs.Commands.{accepted}
+use Rattle.unit_model.specs.Counts.{decoded_counted, fragment_counter, piece_counted}
+use Rattle.unit_model.specs.Decoding.{data_now, data_told}
 use Rattle.unit_memory.specs.Parts.{HoldsParts}
 use Rattle.unit_memory.proofs.StepLemmas.{as_data, counted_piece, of_data, parts_as}
+use Rattle.unit_memory.specs.Judgements.{judged_piece}
 use Rattle.unit_memory.proofs.memory.UnitMemory.piece.Goals as goal
 
 pub returns-clause-holds : goal.returns-clause-holds
-returns-clause-holds c side conf n fs cs ds h =
+returns-clause-holds g c side conf n fs cs ds h =
     let a = c.args in
     let at = a.at.0 in
     let e = a.endpoint.now in
@@ -27,3 +28,12 @@ returns-clause-holds c side conf n fs cs ds h =
     let all = parts_as side conf at c.count.new.self _ _ (f ∷ fs) cs (data_told told ++ ds) (λ k. counted_piece n told c.fragment_counter.result _ k counter) counted in
     let P : ℤ → Type 0 = λ (z : ℤ). HoldsParts side conf at c.count.new.self (λ k. n k + times (piece_counted z f fs (data_now side z e f fs)) k) (f ∷ fs) cs (data_told (data_now side z e f fs) ++ ds) in
     subst P h.hold all
+
+pub returns-clause-told : goal.returns-clause-told
+returns-clause-told g c side conf n fs cs ds h =
+    let a = c.args in
+    let at = a.at.0 in
+    let e = a.endpoint.now in
+    let f = fragment a.ep a.at a.seq a.bytes.now in
+    let told = c.assemble-verdict.ensures.told side conf _ (accepted conf.delays cs) fs ds h.fragments (as_data side conf at a.self.now n fs cs ds h) in
+    subst (λ (hold : ℤ). g.L.Listener.heard a.listener.now (judged_piece side conf.delays hold e f fs ds) c.assemble-verdict.new.listener) h.hold told
