@@ -1,3 +1,4 @@
 pub mod Carrying
+pub mod Parts
 pub mod Passing
 pub mod Telling

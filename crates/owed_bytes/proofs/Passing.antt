@@ -1,10 +1,11 @@
 -- Two writes in a row: what is owed, and a text behind it.
 use Rattle.std.proofs.Common.{◌≡◌, ℕ, List, [], ◌++◌, Option, Result, Ok, Err, OnErr, ◌∙◌, ap, append-nil}
 use Rattle.std.specs.Io.KnownBytes.{append_known}
-use Rattle.fh_base.specs.Told.{WritesFront}
+use Rattle.fh_base.specs.Told.{WritesFront, WritesPart}
 use Rattle.fh_base.proofs.Known.{append_twice}
 use Rattle.fh_base.proofs.Progress.{front_second}
 use Rattle.owed_bytes.specs.Owed.{Carried}
+use Rattle.owed_bytes.proofs.Parts.{part_second}
 
 -- behind what was owed the text was written
 pub passed : (old middle new : Option (List ℕ)) (owed text owed_now : List ℕ) → owed_now ≡ [] → middle ≡ append_known old owed → new ≡ append_known middle text
@@ -20,3 +21,9 @@ pub cut : {T E : Type 0} (old middle new : Option (List ℕ)) (owed text : List 
     → OnErr r (WritesFront old new (owed ++ text))
 cut old middle new owed text (Ok x) first front = tt
 cut old middle new owed text (Err e) first front = front_second old middle new owed text first front
+
+-- behind what was owed a part of the text was written
+pub cut_part : {T E : Type 0} (old middle new : Option (List ℕ)) (owed text : List ℕ) (r : Result T E) → middle ≡ append_known old owed → WritesPart middle new text
+    → OnErr r (WritesPart old new (owed ++ text))
+cut_part old middle new owed text (Ok x) first part = tt
+cut_part old middle new owed text (Err e) first part = part_second old middle new owed text first part

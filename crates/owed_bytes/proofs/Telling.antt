@@ -19,7 +19,7 @@ texts_more f xs i x d below is =
     ∙ ap (flat_map f) (sym (take_more xs i d below))
 
 -- the texts of all items about one of them
-texts_parted : {X : Type 0} (f : X → List ℕ) (xs : List X) (i : ℕ) (x d : X) → i < length xs → x ≡ get_or xs i d
+pub texts_parted : {X : Type 0} (f : X → List ℕ) (xs : List X) (i : ℕ) (x d : X) → i < length xs → x ≡ get_or xs i d
     → (flat_map f (take i xs) ++ f x) ++ flat_map f (drop (suc i) xs) ≡ flat_map f xs
 texts_parted f xs i x d below is =
     append_assoc (flat_map f (take i xs)) (f x) (flat_map f (drop (suc i) xs))

@@ -2,7 +2,7 @@
 ghost use Rattle.std.specs.Prelude.{◌≡◌, [], ◌++◌, ◌+◌, ◌≤◌, ◌<◌, Ok, length, OnOk, OnErr};
 ghost use Rattle.std.specs.Io.KnownBytes.{append_known};
 ghost use Rattle.fh_base.specs.Causes.{HasSinkCause};
-ghost use Rattle.fh_base.specs.Told.{WritesFront};
+ghost use Rattle.fh_base.specs.Told.{WritesFront, WritesPart};
 ghost use Rattle.owed_bytes.specs.Owed.{Carried};
 
 use arrayvec::ArrayVec;
@@ -16,7 +16,7 @@ pub const ROOM: usize = 8192;
 /// list.
 ///
 /// After an error they are as they were before the call, and the sink took a front part of them and
-/// of the text behind them: whoever goes on after an error writes that part again.
+/// of the text after them, and not all: whoever goes on after an error writes that part again.
 #[derive(Drop)]
 pub struct OwedBytes {
     bytes: ArrayVec<u8, ROOM>,
@@ -44,6 +44,7 @@ impl OwedBytes {
     fn write<K: Sink>(&self, sink: &mut K) -> Result<(), SinkFault>
         ensures all { OnOk result (K.written sink.new ≡ append_known (K.written sink.old) self.now) }
         ensures front { WritesFront (K.written sink.old) (K.written sink.new) self.now }
+        ensures part { OnErr result (WritesPart (K.written sink.old) (K.written sink.new) self.now) }
         ensures cause { HasSinkCause (K.faults sink.old) (K.faults sink.new) (K.refusals sink.old) (K.refusals sink.new) result }
     {
         write_all_to(sink, self.bytes.as_slice())
@@ -53,12 +54,14 @@ impl OwedBytes {
     ///
     /// # Errors
     ///
-    /// `Failed` only where the sink's count of faults rose, and `NoMemory` only where its count of
-    /// refusals rose. A front part of what is owed was written, and all of it stays owed.
+    /// `Failed` exactly where the sink's count of faults rose, and `NoMemory` exactly where its count
+    /// of refusals rose. A front part of what is owed was written and not all, and all of it stays
+    /// owed.
     pub fn push_out<K: Sink>(&mut self, sink: &mut K) -> Result<(), SinkFault>
         ensures all { OnOk result (K.written sink.new ≡ append_known (K.written sink.old) self.old) }
         ensures owed { OnOk result (self.new ≡ []) }
         ensures front { WritesFront (K.written sink.old) (K.written sink.new) self.old }
+        ensures part { OnErr result (WritesPart (K.written sink.old) (K.written sink.new) self.old) }
         ensures kept { OnErr result (self.new ≡ self.old) }
         ensures cause { HasSinkCause (K.faults sink.old) (K.faults sink.new) (K.refusals sink.old) (K.refusals sink.new) result }
     {
@@ -73,6 +76,7 @@ impl OwedBytes {
         ensures carried { OnOk result (Carried (K.written sink.old) self.old text.now (K.written sink.new) self.new) }
         ensures owed { OnOk result (self.new ≡ text.now) }
         ensures front { OnErr result (WritesFront (K.written sink.old) (K.written sink.new) (self.old ++ text.now)) }
+        ensures part { OnErr result (WritesPart (K.written sink.old) (K.written sink.new) (self.old ++ text.now)) }
         ensures kept { OnErr result (self.new ≡ self.old) }
         ensures cause { HasSinkCause (K.faults sink.old) (K.faults sink.new) (K.refusals sink.old) (K.refusals sink.new) result }
     {
@@ -86,6 +90,7 @@ impl OwedBytes {
         ensures carried { OnOk result (Carried (K.written sink.old) self.old text.now (K.written sink.new) self.new) }
         ensures owed { OnOk result (self.new ≡ []) }
         ensures front { OnErr result (WritesFront (K.written sink.old) (K.written sink.new) (self.old ++ text.now)) }
+        ensures part { OnErr result (WritesPart (K.written sink.old) (K.written sink.new) (self.old ++ text.now)) }
         ensures kept { OnErr result (self.new ≡ self.old) }
         ensures cause { HasSinkCause (K.faults sink.old) (K.faults sink.new) (K.refusals sink.old) (K.refusals sink.new) result }
     {
@@ -102,9 +107,9 @@ impl OwedBytes {
     ///
     /// # Errors
     ///
-    /// `Failed` only where the sink's count of faults rose, and `NoMemory` only where its count of
-    /// refusals rose. A front part of what is owed and of the text was written, and what was owed
-    /// before stays owed.
+    /// `Failed` exactly where the sink's count of faults rose, and `NoMemory` exactly where its count
+    /// of refusals rose. A front part of what is owed and of the text was written and not all, and
+    /// what was owed before stays owed.
     pub fn tell<K: Sink>(&mut self, text: &[u8], sink: &mut K) -> Result<(), SinkFault>
         ensures carried { OnOk result (Carried (K.written sink.old) self.old text.now (K.written sink.new) self.new) }
         ensures fits { length self.old + length text.now ≤ ROOM → (result ≡ Ok tt) × (self.new ≡ self.old ++ text.now) × (sink.new ≡ sink.old) }
@@ -112,6 +117,7 @@ impl OwedBytes {
         ensures long { ROOM < length text.now → OnOk result (self.new ≡ []) }
 
         ensures front { OnErr result (WritesFront (K.written sink.old) (K.written sink.new) (self.old ++ text.now)) }
+        ensures part { OnErr result (WritesPart (K.written sink.old) (K.written sink.new) (self.old ++ text.now)) }
         ensures kept { OnErr result (self.new ≡ self.old) }
         ensures cause { HasSinkCause (K.faults sink.old) (K.faults sink.new) (K.refusals sink.old) (K.refusals sink.new) result }
     {
