@@ -6,6 +6,7 @@ use Rattle.air_source.specs.declared.airs.AirFault.{AirFault}
 use Rattle.air_source.specs.declared.airs.AirFault.TheVariants.{Failed, NoMemory}
 use Rattle.owed_bytes.specs.Owed.{Carried}
 use Rattle.owed_bytes.proofs.Carrying.{front_behind}
+use Rattle.owed_bytes.proofs.Parts.{part_before, part_behind}
 use Rattle.air_sinks.specs.Stopping.{Halted, Why}
 
 -- the air stopped in the first text, so in both
@@ -13,6 +14,7 @@ pub halted_first : (f : AirFault) (written : Option (List ℕ)) (faults refusals
     → Halted f written faults refusals owed first now faults_now refusals_now → Halted f written faults refusals owed (first ++ second) now faults_now refusals_now
 halted_first f written faults refusals owed first second now faults_now refusals_now h = record {
   front = subst (λ (t : List ℕ). WritesFront written now t) (append_assoc owed first second) (front_first written now (owed ++ first) second h.front);
+  part = part_before written now owed first second h.part;
   why = h.why;
 }
 
@@ -29,5 +31,6 @@ pub halted_second : (f : AirFault) (written : Option (List ℕ)) (faults refusal
     → Halted f written faults refusals owed (first ++ second) now faults_now refusals_now
 halted_second f written faults refusals owed first second middle faults_then refusals_then owed_then now faults_now refusals_now carried h k halted = record {
   front = front_behind written owed first middle owed_then second now carried halted.front;
+  part = part_behind written owed first middle owed_then second now carried halted.part;
   why = since f faults refusals faults_then refusals_then faults_now refusals_now h k halted.why;
 }

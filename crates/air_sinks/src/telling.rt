@@ -1,7 +1,7 @@
 // Bytes that are owed to a sink, told as an air tells them.
-ghost use Rattle.std.specs.Prelude.{◌≡◌, [], OnOk, IfErr};
+ghost use Rattle.std.specs.Prelude.{◌≡◌, [], OnOk, OnErr, IfErr};
 ghost use Rattle.std.specs.Io.KnownBytes.{append_known};
-ghost use Rattle.fh_base.specs.Told.{WritesFront};
+ghost use Rattle.fh_base.specs.Told.{WritesFront, WritesPart};
 ghost use Rattle.air_source.specs.Causes.{HasAirCause};
 ghost use Rattle.owed_bytes.specs.Owed.{Carried};
 ghost use Rattle.air_sinks.specs.Causes.{HasRefusal};
@@ -25,8 +25,8 @@ fn air_fault(fault: SinkFault) -> AirFault
 ///
 /// # Errors
 ///
-/// `Failed` only where the sink's count of faults rose, and `NoMemory` only where its count of refusals rose. A front part
-/// of what was owed and of the text was written.
+/// `Failed` exactly where the sink's count of faults rose, and `NoMemory` exactly where its count of refusals rose. A front
+/// part of what was owed and of the text was written and not all.
 pub fn tell<K: Sink>(owed: &mut OwedBytes, text: &[u8], sink: &mut K) -> Result<(), AirFault>
     ensures carried { OnOk result (Carried (K.written sink.old) owed.old text.now (K.written sink.new) owed.new) }
     ensures stop { IfErr result (λ f. Halted f (K.written sink.old) (K.faults sink.old) (K.refusals sink.old) owed.old text.now (K.written sink.new) (K.faults sink.new) (K.refusals sink.new)) }
@@ -39,15 +39,16 @@ pub fn tell<K: Sink>(owed: &mut OwedBytes, text: &[u8], sink: &mut K) -> Result<
     }
 }
 
-/// Writes what is owed, and then owes nothing. After an error a front part of it was written.
+/// Writes what is owed, and then owes nothing. After an error a front part of it was written and not all.
 ///
 /// # Errors
 ///
-/// `Failed` only where the sink's count of faults rose, and `NoMemory` only where its count of refusals rose.
+/// `Failed` exactly where the sink's count of faults rose, and `NoMemory` exactly where its count of refusals rose.
 pub fn push_out<K: Sink>(owed: &mut OwedBytes, sink: &mut K) -> Result<(), AirFault>
     ensures all { OnOk result (K.written sink.new ≡ append_known (K.written sink.old) owed.old) }
     ensures owed { OnOk result (owed.new ≡ []) }
     ensures front { WritesFront (K.written sink.old) (K.written sink.new) owed.old }
+    ensures part { OnErr result (WritesPart (K.written sink.old) (K.written sink.new) owed.old) }
     ensures cause { HasAirCause (K.faults sink.old) (K.faults sink.new) result }
     ensures refusal { HasRefusal (K.refusals sink.old) (K.refusals sink.new) result }
 {
