@@ -6,3 +6,4 @@ pub mod ToldLemmas
 pub mod AloneLemmas
 pub mod HeardLemmas
 pub mod EventLemmas
+pub mod EndLemmas

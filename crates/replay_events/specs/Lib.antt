@@ -10,3 +10,4 @@ pub mod Events
 pub mod Heard
 pub mod Passing
 pub mod Alone
+pub mod Ending

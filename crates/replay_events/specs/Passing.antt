@@ -11,17 +11,18 @@ use Rattle.history_laws.specs.unit_model.specs.Proper.{IsTime}
 use Rattle.history_laws.specs.unit_model.specs.Radiated.{first_clock}
 use Rattle.history_laws.specs.unit_model.specs.Reports.{accepted_of}
 use Rattle.history_laws.specs.unit_model.specs.Standing.{AreInTime, due, past_of}
+use Rattle.history_laws.specs.unit_model.specs.Times.{last_landing}
 use Rattle.history_laws.specs.unit_model.specs.Uplink.{jobs}
 use Rattle.replay_events.specs.Events.{cells_reported_at, events_at, events_between}
 use Rattle.replay_events.specs.Moments.{all_arrivals, arrivals_before, end_of_time, landing_at}
 use Rattle.replay_events.specs.Traffic.{Traffic, known_at, landings_at, reported_at}
 use Rattle.history_laws.specs.unit_model.specs.declared.allocations.Allocation.{Allocation}
 
--- frames that may be replayed
+-- frames that may be replayed: what is told of them is told by the end of time
 pub record AreLandings (landings : List Arrival) : Type 0 where
   pub times : All (λ a. IsTime a.at) landings
   pub begun : All (λ a. first_clock ≤ℤ a.at) landings
-  pub ended : All (λ a. a.at ≤ℤ end_of_time) landings
+  pub ended : All (λ a. a.at ≤ℤ last_landing) landings
 
 -- nothing lands from one tick on and before another
 abbrev pub IsCalm : List Arrival → ℤ → ℤ → Type 0

@@ -7,6 +7,8 @@
 mod results;
 
 ghost use Rattle.replay_events.specs.Alone.{IdleWithoutPlan};
+ghost use Rattle.history_laws.specs.unit_laws.specs.Ends.{CellsEnd, JobsEnd};
+ghost use Rattle.replay_events.specs.Ending.{NoCellIsLeft, NoMessageIsLeft, PlannedCellsEnd};
 ghost use Rattle.replay_events.specs.Passing.{AllIsOver, ArrivalsAreInTime, ArrivalsGoOn, CalmAddsNothing, DueAtMoment, EventsGoOn, EventsWait, MessagesAreSettled, ReportedAtMoment, ReportedBeforeMoment, ReportedIsSettled};
 
 pub use results::DelayResult;
@@ -32,6 +34,15 @@ pub fn moments_follow()
     ensures wait { EventsWait }
     ensures more { EventsGoOn }
     ensures over { AllIsOver }
+{}
+
+/// Of what lands by 1,099 s all is told by the end of time, 1,100 s: no cell is due at either unit after it, and no message is left.
+pub fn all_is_told_by_the_end()
+    ensures cells { CellsEnd }
+    ensures jobs { JobsEnd }
+    ensures planned { PlannedCellsEnd }
+    ensures due { NoCellIsLeft }
+    ensures given { NoMessageIsLeft }
 {}
 
 /// Where nothing is planned, and nothing lands and is measured at the distributed unit, nothing is told of it.
