@@ -1,8 +1,8 @@
 // The air that writes a capture.
-ghost use Rattle.std.specs.Prelude.{◌≡◌, [], ◌++◌, ◌<◌, ◌^◌, refl, length, OnOk, IfErr};
+ghost use Rattle.std.specs.Prelude.{◌≡◌, [], ◌++◌, ◌<◌, ◌^◌, refl, length, OnOk, OnErr, IfErr};
 ghost use Rattle.std.proofs.Common.{◌∙◌};
 ghost use Rattle.std.specs.Io.KnownBytes.{append_known};
-ghost use Rattle.fh_base.specs.Told.{WritesFront};
+ghost use Rattle.fh_base.specs.Told.{WritesFront, WritesPart};
 ghost use Rattle.air_source.specs.Causes.{HasAirCause};
 ghost use Rattle.owed_bytes.specs.Owed.{Carried};
 ghost use Rattle.air_sinks.specs.Causes.{HasRefusal};
@@ -67,16 +67,17 @@ impl<'a, K: Sink> CaptureAir<'a, K> {
         self.owe(frame)
     }
 
-    /// Writes what is owed, and then owes nothing. After an error a front part of it was written.
+    /// Writes what is owed, and then owes nothing. After an error a front part of it was written and not all.
     ///
     /// # Errors
     ///
-    /// `Failed` only where the sink's count of faults rose, and `NoMemory` only where its count of refusals rose.
+    /// `Failed` exactly where the sink's count of faults rose, and `NoMemory` exactly where its count of refusals rose.
     pub fn finish(&mut self) -> Result<(), AirFault>
         ensures reference { sink_name self.new ≡ sink_name self.old }
         ensures all { OnOk result (K.written (sink_of self.new) ≡ append_known (K.written (sink_of self.old)) (owed_of self.old)) }
         ensures owed { OnOk result (owed_of self.new ≡ []) }
         ensures front { WritesFront (K.written (sink_of self.old)) (K.written (sink_of self.new)) (owed_of self.old) }
+        ensures part { OnErr result (WritesPart (K.written (sink_of self.old)) (K.written (sink_of self.new)) (owed_of self.old)) }
         ensures cause { HasAirCause (K.faults (sink_of self.old)) (K.faults (sink_of self.new)) result }
         ensures refusal { HasRefusal (K.refusals (sink_of self.old)) (K.refusals (sink_of self.new)) result }
     {

@@ -1,5 +1,6 @@
 use Rattle.std.proofs.Common.{rules, ◌≡◌, ◌++◌, ◌≤◌, List, ℕ, Option, subst, sym, length}
 use Rattle.std.proofs.lemmas.Result.{IfErr-weaker, on_ok_weaker}
+use Rattle.fh_base.proofs.Causes.{counts_later}
 use Rattle.air_source.specs.declared.airs.AirFault.{AirFault}
 use Rattle.owed_bytes.specs.Owed.{Carried}
 use Rattle.owed_bytes.specs.CarriedLaws.{carried_more}
@@ -38,4 +39,4 @@ pub returns-clause-stop : goal.returns-clause-stop
 returns-clause-stop g c =
     IfErr-weaker c.owe-2.result _ _ (λ f stop.
     in_frame c.record_head.result (head_bytes c.args.side c.args.at.0 (length c.args.frame.now)) c.args.frame.now f _ _ _ _ _ _ _ _ _ _ _ c.record_head.ensures c.in_ok-owe.ensures.carried
-    c.owe.ensures.cause.later c.owe.ensures.refusal.later stop) c.owe-2.ensures.stop
+    (counts_later _ _ _ c.owe.ensures.cause) (counts_later _ _ _ c.owe.ensures.refusal) stop) c.owe-2.ensures.stop
