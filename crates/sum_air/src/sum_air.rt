@@ -1,8 +1,8 @@
 // The air that writes a summary.
-ghost use Rattle.std.specs.Prelude.{◌≡◌, [], ◌∷◌, ◌++◌, refl, OnOk, IfOk, IfErr};
+ghost use Rattle.std.specs.Prelude.{◌≡◌, [], ◌∷◌, ◌++◌, refl, OnOk, OnErr, IfOk, IfErr};
 ghost use Rattle.std.proofs.Common.{◌∙◌};
 ghost use Rattle.std.specs.Io.KnownBytes.{append_known};
-ghost use Rattle.fh_base.specs.Told.{WritesFront};
+ghost use Rattle.fh_base.specs.Told.{WritesFront, WritesPart};
 ghost use Rattle.report_lines.specs.air_source.specs.Causes.{HasAirCause};
 ghost use Rattle.owed_bytes.specs.Owed.{Carried};
 ghost use Rattle.air_sinks.specs.Causes.{HasRefusal};
@@ -111,15 +111,16 @@ impl<'a, K: Sink> SumAir<'a, K> {
     }
 
     /// Writes what is owed, what stands behind the last event and the line `end`, and then owes nothing. After an error a front
-    /// part of these was written.
+    /// part of these was written and not all.
     ///
     /// # Errors
     ///
-    /// `Failed` only where the sink's count of faults rose, and `NoMemory` only where its count of refusals rose.
+    /// `Failed` exactly where the sink's count of faults rose, and `NoMemory` exactly where its count of refusals rose.
     pub fn finish(&mut self) -> Result<(), AirFault>
         ensures reference { sink_name self.new ≡ sink_name self.old }
         ensures all { OnOk result (K.written (sink_of self.new) ≡ append_known (K.written (sink_of self.old)) (owed_of self.old ++ sum_ends (sums_of self.old))) }
         ensures front { WritesFront (K.written (sink_of self.old)) (K.written (sink_of self.new)) (owed_of self.old ++ sum_ends (sums_of self.old)) }
+        ensures part { OnErr result (WritesPart (K.written (sink_of self.old)) (K.written (sink_of self.new)) (owed_of self.old ++ sum_ends (sums_of self.old))) }
         ensures cause { HasAirCause (K.faults (sink_of self.old)) (K.faults (sink_of self.new)) result }
         ensures refusal { HasRefusal (K.refusals (sink_of self.old)) (K.refusals (sink_of self.new)) result }
         ensures owed { OnOk result (owed_of self.new ≡ []) }

@@ -1,5 +1,6 @@
 use Rattle.std.proofs.Common.{rules, ◌≡◌, ◌++◌, ◌≤◌, List, ℕ, Option, subst, sym}
 use Rattle.std.proofs.lemmas.Result.{IfErr-weaker, on_ok_weaker}
+use Rattle.fh_base.proofs.Causes.{counts_later}
 use Rattle.report_lines.specs.air_source.specs.declared.airs.AirFault.{AirFault}
 use Rattle.owed_bytes.specs.Owed.{Carried}
 use Rattle.owed_bytes.specs.CarriedLaws.{carried_more}
@@ -35,4 +36,4 @@ pub returns-clause-stop : goal.returns-clause-stop
 returns-clause-stop g c =
     IfErr-weaker c.owe.result _ _ (λ f stop.
     in_line (closing_text (sums_of c.args.self.now)) _ (count_text c.args.side c.args.counter c.args.value) f _ _ _ _ _ _ _ _ _ _ _ c.put_count.ensures c.in_ok-close.ensures.carried
-    c.close.ensures.cause.later c.close.ensures.refusal.later stop) c.owe.ensures.stop
+    (counts_later _ _ _ c.close.ensures.cause) (counts_later _ _ _ c.close.ensures.refusal) stop) c.owe.ensures.stop
