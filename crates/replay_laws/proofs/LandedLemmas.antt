@@ -14,6 +14,7 @@ use Rattle.replay_events.specs.unit_model.proofs.CountLemmas.{no_time}
 use Rattle.replay_events.specs.history_laws.proofs.TickLemmas.{next_after, same_tick, clock_begins}
 use Rattle.replay_events.specs.Moments.{all_arrivals, arrivals_in, end_of_time, landing_at}
 use Rattle.replay_events.proofs.CameLemmas.{none_first, next_first}
+use Rattle.replay_events.proofs.EndLemmas.{lands_by_end}
 use Rattle.replay_laws.specs.Landed.{EachArrives}
 use Rattle.fh_time.proofs.Orders.{under_is as is_less, not_under_is as not_less, weak, not_later as less_differ, within_next, is_same, not_eq, more_differ, and_none}
 
@@ -120,5 +121,5 @@ each_arrives landings are p =
     sym (counts (all_arrivals landings))
     ∙ came_in p landings n are.begun
     ∙ many_same (came p n) p landings
-    (All-weaker (λ (a : Arrival). a.at ≤ℤ end_of_time) (λ (a : Arrival). came p n a ≡ p a) (all_came p n (gap_is first_clock (end_of_time +ℤ pos 1) clock_begins)) landings are.ended)
+    (All-weaker (λ (a : Arrival). a.at ≤ℤ end_of_time) (λ (a : Arrival). came p n a ≡ p a) (all_came p n (gap_is first_clock (end_of_time +ℤ pos 1) clock_begins)) landings (lands_by_end landings are))
     ∙ counts landings
