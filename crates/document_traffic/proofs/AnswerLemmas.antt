@@ -30,7 +30,7 @@ use Rattle.replay_laws.specs.unit_model.specs.ProperJobs.{IsProperJob}
 use Rattle.replay_laws.specs.unit_model.specs.Radiated.{first_clock}
 use Rattle.replay_laws.specs.unit_model.specs.Reports.{accepted_of}
 use Rattle.replay_laws.specs.unit_model.specs.Standing.{AreInTime}
-use Rattle.replay_laws.specs.unit_model.specs.Times.{end_of_time}
+use Rattle.replay_laws.specs.unit_model.specs.Times.{end_of_time, last_landing}
 use Rattle.replay_laws.specs.unit_model.specs.Uplink.{jobs, symbol_jobs}
 use Rattle.replay_laws.specs.unit_model.specs.declared.allocations.Allocation.{Allocation}
 use Rattle.replay_laws.specs.unit_model.specs.declared.jobs.UplinkJob.{UplinkJob}
@@ -134,7 +134,7 @@ last_start = pos 1542243999999999
 abbrev pub last_answered : ℤ
 last_answered = pos 1543000000000000
 
-heard_in_time : last_heard ≤ℤ end_of_time
+heard_in_time : last_heard ≤ℤ last_landing
 heard_in_time = omega (arith, ints)
 
 sent_late : pos 1536000000000000 ≤ℤ last_sent

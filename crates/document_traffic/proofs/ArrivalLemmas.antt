@@ -8,6 +8,7 @@ use Rattle.std.proofs.lemmas.Int.{ints}
 use Rattle.sent_order.specs.fragment_laws.specs.Apart.{IsIn}
 use Rattle.replay_laws.specs.replay_events.proofs.CameLemmas.{arrivals_in_time}
 use Rattle.replay_laws.specs.replay_events.specs.Moments.{all_arrivals, arrivals_in, landing_at}
+use Rattle.replay_laws.specs.replay_events.proofs.EndLemmas.{lands_by_end}
 use Rattle.replay_laws.specs.replay_events.specs.Passing.{AreLandings}
 use Rattle.sent_order.specs.schedule_laws.proofs.ListLemmas.{in_all, in_onto, onto_left, onto_right}
 use Rattle.sent_order.specs.schedule_laws.specs.Premise.{AreInOrder}
@@ -53,7 +54,7 @@ below_gap from t end k n here there order = omega (arith, ints, here, there, ord
 pub in_arrivals : (landings : List Arrival) (a : Arrival) → AreLandings landings → IsIn a landings → IsIn a (all_arrivals landings)
 in_arrivals landings a are m =
     let begun = in_all (λ (b : Arrival). first_clock ≤ℤ b.at) a landings are.begun m in
-    let ended = in_all (λ (b : Arrival). b.at ≤ℤ end_of_time) a landings are.ended m in
+    let ended = in_all (λ (b : Arrival). b.at ≤ℤ end_of_time) a landings (lands_by_end landings are) m in
     let k = int_gap first_clock a.at in
     let here = gap_is first_clock a.at begun in
     in_ticks landings (int_gap first_clock (end_of_time +ℤ pos 1)) k a m (sym here)

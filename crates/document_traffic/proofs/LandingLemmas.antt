@@ -1,4 +1,4 @@
--- All that lands for a document lands while it is replayed.
+-- All that lands for a document lands a second before the end of time.
 use Rattle.std.proofs.Common.{ℤ, pos, ◌+ℤ◌, ◌≤ℤ◌, arith}
 use Rattle.std.proofs.lemmas.Int.{ints}
 use Rattle.frame_deliveries.specs.air_source.specs.declared.events.Side.{Side}
@@ -7,7 +7,7 @@ use Rattle.frame_deliveries.specs.fh_document.specs.Proper.{IsDocument}
 use Rattle.frame_deliveries.specs.fh_document.specs.declared.document.Document.{Document}
 use Rattle.sent_order.specs.fragment_laws.specs.Apart.{IsIn}
 use Rattle.sent_order.specs.plan_model.specs.Valid.{IsValid}
-use Rattle.replay_laws.specs.unit_model.specs.Times.{end_of_time}
+use Rattle.replay_laws.specs.unit_model.specs.Times.{last_landing}
 use Rattle.document_traffic.specs.Landing.{landing_with, leaving_to}
 use Rattle.document_traffic.specs.Laws.{PlannedLandingsAreReplayed}
 use Rattle.document_traffic.specs.Sending.{Leaving}
@@ -28,7 +28,7 @@ pub leaving_late : (side : Side) → pos 1536000000000000 ≤ℤ last_leaving si
 leaving_late Ru = omega (arith, ints)
 leaving_late Du = omega (arith, ints)
 
-pub landing_in_time : (side : Side) → (last_leaving side +ℤ longest) ≤ℤ end_of_time
+pub landing_in_time : (side : Side) → (last_leaving side +ℤ longest) ≤ℤ last_landing
 landing_in_time Ru = omega (arith, ints)
 landing_in_time Du = omega (arith, ints)
 

@@ -20,7 +20,7 @@ use Rattle.replay_laws.specs.unit_model.proofs.SweepLaws.{gap_is}
 use Rattle.replay_laws.specs.unit_model.specs.Meetings.{Arrival}
 use Rattle.replay_laws.specs.unit_model.specs.Proper.{IsAt, IsTime}
 use Rattle.replay_laws.specs.unit_model.specs.Radiated.{first_clock}
-use Rattle.replay_laws.specs.unit_model.specs.Times.{end_of_time}
+use Rattle.replay_laws.specs.unit_model.specs.Times.{last_landing}
 use Rattle.frame_deliveries.specs.window_config.specs.Configs.{IsConfig}
 use Rattle.frame_deliveries.specs.window_config.specs.Plans.{IsPlanLine}
 use Rattle.frame_deliveries.specs.window_config.specs.Windows.{ticks_of_ns}
@@ -95,16 +95,16 @@ pub injected_lands : (last ns : ℤ) → pos 1536000000000000 ≤ℤ last → po
 injected_lands last ns late low high = record { low = omega (arith, ints); high = omega (arith, ints) }
 
 -- such a time may be given to a unit
-by_is_time : (last t : ℤ) → last ≤ℤ end_of_time → IsBy last t → IsTime t
+by_is_time : (last t : ℤ) → last ≤ℤ last_landing → IsBy last t → IsTime t
 by_is_time last t order by = record { low = omega (arith, ints); high = omega (arith, ints) }
 
-by_the_end : (last t : ℤ) → last ≤ℤ end_of_time → IsBy last t → t ≤ℤ end_of_time
-by_the_end last t order by = omega (arith, ints)
+by_last : (last t : ℤ) → last ≤ℤ last_landing → IsBy last t → t ≤ℤ last_landing
+by_last last t order by = omega (arith, ints)
 
 -- frames that land by a last time may be replayed
-pub replayed_by : (last : ℤ) (landings : List Arrival) → last ≤ℤ end_of_time → ((a : Arrival) → IsIn a landings → IsBy last a.at) → AreLandings landings
+pub replayed_by : (last : ℤ) (landings : List Arrival) → last ≤ℤ last_landing → ((a : Arrival) → IsIn a landings → IsBy last a.at) → AreLandings landings
 replayed_by last landings order by = record {
   times = all_of (λ (a : Arrival). IsTime a.at) landings (λ a m. by_is_time last a.at order (by a m));
   begun = all_of (λ (a : Arrival). first_clock ≤ℤ a.at) landings (λ a m. (by a m).low);
-  ended = all_of (λ (a : Arrival). a.at ≤ℤ end_of_time) landings (λ a m. by_the_end last a.at order (by a m));
+  ended = all_of (λ (a : Arrival). a.at ≤ℤ last_landing) landings (λ a m. by_last last a.at order (by a m));
 }

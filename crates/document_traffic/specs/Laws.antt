@@ -18,7 +18,7 @@ pub record HasWidths (d : Document) : Type 0 where
   pub ids : All (λ (e : EndpointConfig). e.id < 2 ^ 16) d.config.endpoints
   pub num_prbs : All (λ (l : PlanLine). l.num_prb < 2 ^ 8) d.plan
 
--- all that lands at a unit has its time between the first clock and the end of time
+-- all that lands at a unit has its time between the first clock and 1,099 s
 abbrev pub PlannedLandingsAreReplayed : Type 0
 PlannedLandingsAreReplayed = (d : Document) (side : Side) → IsDocument d → IsValid d.config d.plan → AreLandings (landings_at side (planned_traffic d))
 

@@ -7,7 +7,7 @@
 
 ghost use Rattle.document_traffic.specs.Laws.{AnswersAllLeave, PlannedLandingsAreReplayed, LeavingAreInOrder, LeavingAreShort, PlannedScheduleRadiatesOnce, PlannedUplinkIsTakenInOnce};
 
-/// All that lands at either unit for a document with a valid plan has its time between the first clock and the end of time. Frames leave
+/// All that lands at either unit for a document with a valid plan has its time between the first clock and 1,099 s. Frames leave
 /// for a unit in the order of time, and each is short enough for an air; all that the radio unit hands over leave.
 pub fn planned_landings_are_replayed()
     ensures times { PlannedLandingsAreReplayed }
