@@ -1,13 +1,13 @@
 -- The numbers of a command are within their limits.
-use Rattle.std.proofs.Common.{◌≡◌, ℕ, ◌≤◌, ◌<◌, ◌^◌, List, [], ◌∷◌, codes, refl, true, false, Bool, ◌&&◌, length, nat_le, nat_lt, subst, arith}
+use Rattle.std.proofs.Common.{◌≡◌, ℕ, ◌+◌, ◌≤◌, ◌<◌, ◌^◌, List, [], ◌∷◌, codes, refl, true, false, Bool, ◌&&◌, length, nat_le, nat_lt, subst, arith}
 use Rattle.std.specs.Prelude.{Some, None, Option, if◌then◌else◌}
 use Rattle.std.specs.Str.{bytes_eq}
 use Rattle.std.specs.Str.Parse.{digits_value}
 use Rattle.std.proofs.lemmas.Bool.Decides.{nat_tests}
 use Rattle.text_lines.specs.Numbers.{is_decimal, number_in}
-use Rattle.command_words.specs.Words.{bare_command, command_of, command_with_one, command_with_two, count_in, seed_in, slots_in, start_in, step_in, way_in, with_both}
+use Rattle.command_words.specs.Words.{bare_command, command_of, command_with_one, command_with_three, command_with_two, count_in, frame_in, least_in, seed_in, slots_in, start_in, step_in, way_in, with_both, with_frames}
 use Rattle.command_words.specs.declared.commands.Command.{Command}
-use Rattle.command_words.specs.declared.commands.Command.TheVariants.{Replay, Summary, Capture, Show, Windows, Fit, Generate, Trial, Shared, Pcap, PcapCapture}
+use Rattle.command_words.specs.declared.commands.Command.TheVariants.{Replay, Summary, Capture, Show, Windows, Fit, Generate, Trial, Shared, Idle, Pcap, PcapCapture}
 use Rattle.command_words.proofs.Plain.{either}
 
 -- a seed of 32 bits, and from 1 to 400 slots
@@ -76,9 +76,20 @@ two_limits w first second c e =
     either (bytes_eq w (codes "pcap")) _ _ c e (both_limits Pcap (way_in first) (start_in second) c (λ side start a b. tt)) (λ e.
     either (bytes_eq w (codes "pcap-capture")) _ None c e (both_limits PcapCapture (way_in first) (start_in second) c (λ side start a b. tt)) (λ e. cc)))))
 
+frames_limits : (a b m : Option ℕ) (c : Command) → with_frames a b m ≡ Some c → HasLimits c
+frames_limits None b m c e = cc
+frames_limits (Some first) None m c e = cc
+frames_limits (Some first) (Some last) None c e = cc
+frames_limits (Some first) (Some last) (Some min) c e = either (nat_le first last && nat_le last (first + 9)) _ None c e (of_some (Idle first last min) c tt) (λ e. cc)
+
+three_limits : (w first second third : List ℕ) (c : Command) → command_with_three w first second third ≡ Some c → HasLimits c
+three_limits w first second third c e =
+    either (bytes_eq w (codes "idle")) _ None c e (frames_limits (frame_in first) (frame_in second) (least_in third) c) (λ e. cc)
+
 pub limits_are : (ws : List (List ℕ)) (c : Command) → command_of ws ≡ Some c → HasLimits c
 limits_are [] c e = cc
 limits_are (a ∷ []) c e = bare_limits a c e
 limits_are (a ∷ b ∷ []) c e = one_limits a b c e
 limits_are (a ∷ b ∷ d ∷ []) c e = two_limits a b d c e
-limits_are (a ∷ b ∷ d ∷ f ∷ ws) c e = cc
+limits_are (a ∷ b ∷ d ∷ f ∷ []) c e = three_limits a b d f c e
+limits_are (a ∷ b ∷ d ∷ f ∷ g ∷ ws) c e = cc

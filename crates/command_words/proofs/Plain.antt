@@ -1,5 +1,5 @@
 -- The words of a command are few, of ASCII, and begin with no hyphen.
-use Rattle.std.proofs.Common.{◌≡◌, ℕ, zero, suc, ◌<◌, List, [], ◌∷◌, codes, refl, false, true, Bool, ◌&&◌, not, sym, subst, length, nat_le, nat_lt, arith}
+use Rattle.std.proofs.Common.{◌≡◌, ℕ, zero, suc, ◌+◌, ◌<◌, List, [], ◌∷◌, codes, refl, false, true, Bool, ◌&&◌, not, sym, subst, length, nat_le, nat_lt, arith}
 use Rattle.std.specs.Prelude.{Some, None, Option, ◌==◌, if◌then◌else◌, slice_index}
 use Rattle.std.specs.Str.{bytes_eq, IsAscii}
 use Rattle.std.specs.List.{list_all}
@@ -10,9 +10,9 @@ use Rattle.std.proofs.lemmas.Bool.Decides.{nat_tests}
 use Rattle.air_source.specs.declared.events.Side.{Side}
 use Rattle.air_source.specs.declared.events.Side.TheVariants.{Ru, Du}
 use Rattle.text_lines.specs.Numbers.{number_in, is_decimal, word_at}
-use Rattle.command_words.specs.Words.{bare_command, command_of, command_with_one, command_with_two, count_in, seed_in, slots_in, start_in, step_in, way_in, with_both}
+use Rattle.command_words.specs.Words.{bare_command, command_of, command_with_one, command_with_three, command_with_two, count_in, frame_in, least_in, seed_in, slots_in, start_in, step_in, way_in, with_both, with_frames}
 use Rattle.command_words.specs.declared.commands.Command.{Command}
-use Rattle.command_words.specs.declared.commands.Command.TheVariants.{Replay, Summary, Capture, Show, Windows, Fit, Generate, Trial, Shared, Pcap, PcapCapture}
+use Rattle.command_words.specs.declared.commands.Command.TheVariants.{Replay, Summary, Capture, Show, Windows, Fit, Generate, Trial, Shared, Idle, Pcap, PcapCapture}
 use Rattle.command_words.proofs.Walks.{IsPlainWord, plain_word_is}
 use Rattle.fh_time.specs.declared.nanoseconds.TheConstants.{LAST_TIME}
 use Rattle.fh_time.proofs.Orders.{is_false as not_true, both as both_true}
@@ -137,6 +137,21 @@ two_plain w first second c e =
     in
     (word, numbers.0, numbers.1)
 
+-- all three are there of which something was made
+all_there : (a b m : Option ℕ) (c : Command) → with_frames a b m ≡ Some c → ((x : ℕ) × (a ≡ Some x)) × ((y : ℕ) × (b ≡ Some y)) × ((z : ℕ) × (m ≡ Some z))
+all_there None b m c e = cc
+all_there (Some x) None m c e = cc
+all_there (Some x) (Some y) None c e = cc
+all_there (Some x) (Some y) (Some z) c e = ((x, refl), (y, refl), (z, refl))
+
+pub three_plain : (w first second third : List ℕ) (c : Command) → command_with_three w first second third ≡ Some c
+    → (is_plain w ≡ true) × (is_plain first ≡ true) × (is_plain second ≡ true) × (is_plain third ≡ true)
+three_plain w first second third c e =
+    let made = either (bytes_eq w (codes "idle")) (with_frames (frame_in first) (frame_in second) (least_in third)) None c e (λ e. e) (λ e. cc) in
+    let all = all_there (frame_in first) (frame_in second) (least_in third) c made in
+    let word : is_plain w ≡ true = literal_or (codes "idle") w _ _ c refl e (λ e. cc) in
+    (word, number_plain (length first) 1 99999 all.0.0 first all.0.1, number_plain (length second) 1 99999 all.1.0 second all.1.1, number_plain (length third) 1 9999 all.2.0 third all.2.1)
+
 -- two words are the word and the flag
 pub one_is : (w flag : List ℕ) (c : Command) → command_with_one w flag ≡ Some c → (w ≡ codes "show") × (flag ≡ codes "--json")
 one_is w flag c e = go (bytes_eq w (codes "show")) (bytes_eq flag (codes "--json")) refl refl e
@@ -164,7 +179,10 @@ ascii_of (a ∷ b ∷ []) c e =
 ascii_of (a ∷ b ∷ d ∷ []) c e =
     let p = two_plain a b d c e in
     rw (plain_ascii a p.0, plain_ascii b p.1, plain_ascii d p.2) refl
-ascii_of (a ∷ b ∷ d ∷ f ∷ ws) c e = cc
+ascii_of (a ∷ b ∷ d ∷ f ∷ []) c e =
+    let p = three_plain a b d f c e in
+    rw (plain_ascii a p.0, plain_ascii b p.1, plain_ascii d p.2, plain_ascii f p.3) refl
+ascii_of (a ∷ b ∷ d ∷ f ∷ g ∷ ws) c e = cc
 
 -- ---- what plain words are
 

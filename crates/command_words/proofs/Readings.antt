@@ -14,7 +14,7 @@ use Rattle.command_words.specs.declared.faults.WordsFault.{WordsFault}
 use Rattle.command_words.specs.declared.faults.WordsFault.TheVariants.{BadWords}
 use Rattle.command_words.proofs.Parses.{Gives, flag_gives, plain_gives}
 use Rattle.command_words.proofs.Walks.{ArePlain}
-use Rattle.command_words.proofs.Plain.{ascii_of, bare_plain, one_is, plain_word, two_plain, word_ascii}
+use Rattle.command_words.proofs.Plain.{ascii_of, bare_plain, one_is, plain_word, three_plain, two_plain, word_ascii}
 use Rattle.text_lines.specs.Numbers.{word_at}
 
 pub some_of : {X : Type 0} (o : Option X) → is_some o ≡ true → (x : X) × (o ≡ Some x)
@@ -32,7 +32,8 @@ too_many [] more = refl
 too_many (a ∷ []) more = absurd (omega arith)
 too_many (a ∷ b ∷ []) more = absurd (omega arith)
 too_many (a ∷ b ∷ c ∷ []) more = absurd (omega arith)
-too_many (a ∷ b ∷ c ∷ d ∷ ws) more = refl
+too_many (a ∷ b ∷ c ∷ d ∷ []) more = absurd (omega arith)
+too_many (a ∷ b ∷ c ∷ d ∷ e ∷ ws) more = refl
 
 -- a word that is no text is no word of a command
 pub no_text : (ws : List Text) (i : ℕ) → i < length ws → (IsUtf8 (word_at ws i) → ⊥) → command_of ws ≡ None
@@ -92,7 +93,10 @@ spells (a ∷ b ∷ []) c e =
 spells (a ∷ b ∷ d ∷ []) c e =
     let p = two_plain a b d c e in
     spells_plain (a ∷ b ∷ d ∷ []) c (plain_word a p.0, (plain_word b p.1, (plain_word d p.2, tt))) (omega arith) e
-spells (a ∷ b ∷ d ∷ f ∷ ws) c e = cc
+spells (a ∷ b ∷ d ∷ f ∷ []) c e =
+    let p = three_plain a b d f c e in
+    spells_plain (a ∷ b ∷ d ∷ f ∷ []) c (plain_word a p.0, (plain_word b p.1, (plain_word d p.2, (plain_word f p.3, tt)))) (omega arith) e
+spells (a ∷ b ∷ d ∷ f ∷ g ∷ ws) c e = cc
 
 -- ---- what the calls give
 

@@ -2,7 +2,7 @@
 use Rattle.std.specs.Prelude.{ℕ, List, Bool, true, false, Option, Some, None, codes}
 use Rattle.clap.specs.Words.{App, Rule, new_app, new_rule, with_rule}
 use Rattle.clap.specs.declared.builder.ArgAction.TheVariants.{SetTrue}
-use Rattle.command_words.specs.Words.{bare_command, command_with_one, command_with_two}
+use Rattle.command_words.specs.Words.{bare_command, command_with_one, command_with_three, command_with_two}
 use Rattle.command_words.specs.declared.commands.Command.{Command}
 
 -- the program's own name is no word, and there is no help and no version
@@ -23,4 +23,5 @@ abbrev pub spelled : Bool → Option (List ℕ) → Option (List ℕ) → Option
 spelled false (Some word) None None None = bare_command word
 spelled true (Some word) None None None = command_with_one word (codes "--json")
 spelled false (Some word) (Some first) (Some second) None = command_with_two word first second
+spelled false (Some word) (Some first) (Some second) (Some third) = command_with_three word first second third
 spelled json word first second third = None

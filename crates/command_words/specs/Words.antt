@@ -1,11 +1,11 @@
 -- The words of the command line (this project's profile).
-use Rattle.std.specs.Prelude.{ℕ, ◌≤◌, List, [], ◌∷◌, length, true, false, ◌&&◌, Option, None, Some, if◌then◌else◌, codes}
+use Rattle.std.specs.Prelude.{ℕ, ◌+◌, ◌≤◌, nat_le, List, [], ◌∷◌, length, true, false, ◌&&◌, Option, None, Some, if◌then◌else◌, codes}
 use Rattle.std.specs.Str.{bytes_eq}
 use Rattle.air_source.specs.declared.events.Side.{Side}
 use Rattle.air_source.specs.declared.events.Side.TheVariants.{Ru, Du}
 use Rattle.text_lines.specs.Numbers.{number_in}
 use Rattle.command_words.specs.declared.commands.Command.{Command}
-use Rattle.command_words.specs.declared.commands.Command.TheVariants.{Replay, Summary, Capture, Show, Windows, Fit, Generate, Trial, Shared, Pcap, PcapCapture}
+use Rattle.command_words.specs.declared.commands.Command.TheVariants.{Replay, Summary, Capture, Show, Windows, Fit, Generate, Trial, Shared, Idle, Pcap, PcapCapture}
 use Rattle.fh_time.specs.declared.nanoseconds.TheConstants.{LAST_TIME}
 
 -- the command that one word is
@@ -44,6 +44,14 @@ count_in word = plain_in 2 8 word
 abbrev pub step_in : List ℕ → Option ℕ
 step_in word = plain_in 0 1000000 word
 
+-- a frame
+abbrev pub frame_in : List ℕ → Option ℕ
+frame_in word = plain_in 1 99999 word
+
+-- how many symbols a span has at least
+abbrev pub least_in : List ℕ → Option ℕ
+least_in word = plain_in 1 9999 word
+
 -- the way of frames, by the unit that they go to
 abbrev pub way_in : List ℕ → Option Side
 way_in word = if bytes_eq word (codes "dl") then Some Ru else (if bytes_eq word (codes "ul") then Some Du else None)
@@ -68,11 +76,22 @@ command_with_two word first second =
     else (if bytes_eq word (codes "pcap-capture") then with_both PcapCapture (way_in first) (start_in second)
     else None))))
 
+-- what is asked of the frames from one to another, ten at most
+abbrev pub with_frames : Option ℕ → Option ℕ → Option ℕ → Option Command
+with_frames (Some first) (Some last) (Some min) = if nat_le first last && nat_le last (first + 9) then Some (Idle first last min) else None
+with_frames first last min = None
+
+-- the command that four words are
+abbrev pub command_with_three : List ℕ → List ℕ → List ℕ → List ℕ → Option Command
+command_with_three word first second third =
+    if bytes_eq word (codes "idle") then with_frames (frame_in first) (frame_in second) (least_in third) else None
+
 -- the command that the words are
 abbrev pub command_of : List (List ℕ) → Option Command
 command_of (word ∷ []) = bare_command word
 command_of (word ∷ flag ∷ []) = command_with_one word flag
 command_of (word ∷ first ∷ second ∷ []) = command_with_two word first second
+command_of (word ∷ first ∷ second ∷ third ∷ []) = command_with_three word first second third
 command_of words = None
 
 -- the numbers of a command are within their limits
@@ -80,6 +99,7 @@ abbrev pub IsProper : Command → Type 0
 IsProper (Generate seed slots) = (1 ≤ slots) × (slots ≤ 400)
 IsProper (Trial seed slots) = (1 ≤ slots) × (slots ≤ 400)
 IsProper (Shared count step) = (2 ≤ count) × (count ≤ 8) × (step ≤ 1000000)
+IsProper (Idle first last min) = (1 ≤ first) × (first ≤ last) × (last ≤ first + 9) × (last ≤ 99999) × (1 ≤ min) × (min ≤ 9999)
 IsProper (Pcap side start) = start ≤ LAST_TIME
 IsProper (PcapCapture side start) = start ≤ LAST_TIME
 IsProper command = Unit {0}

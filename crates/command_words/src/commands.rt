@@ -37,6 +37,15 @@ pub enum Command {
         /// How much further away each unit stands than the one before it, from 0 to 1,000,000 ns.
         step: u32,
     },
+    /// `idle FIRST LAST MIN`: when a document's radio unit radiates nothing, and plan lines for slots that nobody touches.
+    Idle {
+        /// The first frame, from 1.
+        first: u32,
+        /// The last frame, at most 9 after the first, and at most 99,999.
+        last: u32,
+        /// How many symbols a span has at least, from 1 to 9,999.
+        min: u32,
+    },
     /// `pcap WAY START`: the eCPRI frames of a pcap file as lines of a document.
     Pcap {
         /// The unit that the frames go to.

@@ -1,6 +1,6 @@
 // The commands by their words: of a list of words, and of what a parse found.
 ghost use Rattle.std.specs.Prelude.{◌≡◌, ◌≤◌, IfSome, map, option_map};
-ghost use Rattle.command_words.specs.Words.{IsProper, bare_command, command_of, command_with_one, command_with_two, seed_in, slots_in, start_in, way_in};
+ghost use Rattle.command_words.specs.Words.{IsProper, bare_command, command_of, command_with_one, command_with_three, command_with_two, frame_in, least_in, seed_in, slots_in, start_in, way_in};
 ghost use Rattle.command_words.specs.Parsed.{spelled};
 ghost use Rattle.fh_time.specs.declared.nanoseconds.TheConstants.{LAST_TIME};
 
@@ -121,6 +121,40 @@ fn command_with_two(word: &str, first: &str, second: &str) -> Option<Command>
     None
 }
 
+/// The frame that a word is.
+fn frame_in(word: &str) -> Option<u32>
+    ensures frame { result ≡ frame_in word.now }
+    ensures within { IfSome result (λ frame. (1 ≤ frame) × (frame ≤ 99999)) }
+{
+    let frame = plain_in(word.as_bytes(), 1, 99_999)?;
+    Some(frame as u32)
+}
+
+/// The least number of symbols that a word is.
+fn least_in(word: &str) -> Option<u32>
+    ensures least { result ≡ least_in word.now }
+    ensures within { IfSome result (λ min. (1 ≤ min) × (min ≤ 9999)) }
+{
+    let min = plain_in(word.as_bytes(), 1, 9_999)?;
+    Some(min as u32)
+}
+
+/// The command that four words are.
+fn command_with_three(word: &str, first: &str, second: &str, third: &str) -> Option<Command>
+    ensures command { result ≡ command_with_three word.now first.now second.now third.now }
+    ensures proper { IfSome result IsProper }
+{
+    if word == "idle" {
+        let first = frame_in(first)?;
+        let last = frame_in(second)?;
+        let min = least_in(third)?;
+        if first <= last && last <= first + 9 {
+            return Some(Command::Idle { first, last, min });
+        }
+    }
+    None
+}
+
 /// The command that the words are.
 pub(crate) fn command_in(words: &[&str]) -> Option<Command>
     ensures { result ≡ command_of (map (λ w. w.now) words.now) }
@@ -129,6 +163,7 @@ pub(crate) fn command_in(words: &[&str]) -> Option<Command>
         [word] => bare_command(word),
         [word, flag] => command_with_one(word, flag),
         [word, first, second] => command_with_two(word, first, second),
+        [word, first, second, third] => command_with_three(word, first, second, third),
         _ => None,
     }
 }
@@ -149,6 +184,9 @@ pub(crate) fn spelled(
         (true, Some(word), None, None, None) => command_with_one(word, "--json"),
         (false, Some(word), Some(first), Some(second), None) => {
             command_with_two(word, first, second)
+        }
+        (false, Some(word), Some(first), Some(second), Some(third)) => {
+            command_with_three(word, first, second, third)
         }
         _ => None,
     }
