@@ -39,7 +39,7 @@ use Rattle.fh_document.specs.Words.{words_of, number_in, is_text}
 use Rattle.fh_document.specs.Hex.{is_hex, hex_of, bytes_of, decoded, digits_frame, frame_of}
 use Rattle.fh_document.specs.Keywords.{keyword_of}
 use Rattle.window_config.proofs.Usual.{usual_within}
-use Rattle.fh_document.specs.ConfigLines.{number_at, time_at, ordered, both_ordered, widths_line, windows_line, range_line, hold_line, time_line, fragment_line, tone_line, comp_line, transit_line, pack_line, set_of, defaults}
+use Rattle.fh_document.specs.ConfigLines.{number_at, time_at, ordered, both_ordered, widths_line, windows_line, range_line, hold_line, time_line, fragment_line, tone_line, comp_line, is_lost, way_of, way_line, transit_line, pack_line, set_of, defaults}
 use Rattle.fh_document.specs.EndpointLines.{has_endpoint_count, numerology_of, dynamic_of, width_of, method_of, endpoint_of, has_id, added, endpoint_line}
 use Rattle.fh_document.specs.Delivered.{has_like}
 use Rattle.fh_document.specs.PlanLines.{plan_of, planned, plan_line}
@@ -120,31 +120,40 @@ comp_line_in ws =
     with_time AreComps 0 MOST_COMPENSATION ws 3 _ (λ c z. with_time AreComps 0 MOST_COMPENSATION ws 4 _ (λ d w.
     record { du_sending = x; du_receiving = y; ru_sending = z; ru_receiving = w })))))
 
-transit_line_in : (low : ℕ) (ws : List (List ℕ)) → IfOk (transit_line low ws) (IsFrom low MOST_TRANSIT)
-transit_line_in low ws = counted_within (IsFrom low MOST_TRANSIT) 3 ws (time_at low MOST_TRANSIT ws 2) (time_at_within low MOST_TRANSIT ws 2)
+-- nothing, or a time of the way
+abbrev IsWay : Option ℤ → Type 0
+IsWay o = IfSome o (IsFrom 0 MOST_TRANSIT)
+
+way_line_in : (version : Version) (ws : List (List ℕ)) → IfOk (way_line version ws) IsWay
+way_line_in version ws =
+    counted_within IsWay 3 ws (way_of version ws)
+    (ok_if IsWay (is_lost version ws) (Ok None) _ (λ t. tt) (λ f. with_time IsWay 0 MOST_TRANSIT ws 2 (λ ns. Ok (Some ns)) (λ ns h. h)))
+
+transit_line_in : (ws : List (List ℕ)) → IfOk (transit_line ws) (IsFrom 1 MOST_TRANSIT)
+transit_line_in ws = counted_within (IsFrom 1 MOST_TRANSIT) 3 ws (time_at 1 MOST_TRANSIT ws 2) (time_at_within 1 MOST_TRANSIT ws 2)
 
 pack_line_in : (ws : List (List ℕ)) → IfOk (pack_line ws) (Within 1 64)
 pack_line_in ws = counted_within (Within 1 64) 2 ws (number_at 1 MESSAGE_SECTIONS ws 1) (number_at_within 1 64 ws 1)
 
-set_in : (s : Settings) (k : Setting) (ws : List (List ℕ)) → AreSettings s → IfOk (set_of s k ws) AreSettings
-set_in s setting.Widths ws h = ok_then (λ _. Unit {0}) AreSettings (widths_line ws) _ (ok_any (widths_line ws)) (λ x p. assumption (h, p))
-set_in s setting.T1a ws h = ok_then (AreRanges 0) AreSettings (windows_line 0 ws) _ (windows_line_in 0 ws) (λ x p. assumption (h, p))
-set_in s setting.T2a ws h = ok_then (AreRanges 1) AreSettings (windows_line 1 ws) _ (windows_line_in 1 ws) (λ x p. assumption (h, p))
-set_in s setting.Advance ws h = ok_then IsTime AreSettings (time_line ws) _ (time_line_in ws) (λ x p. assumption (h, p))
-set_in s setting.Ta3 ws h = ok_then (IsRange 0) AreSettings (range_line ws) _ (range_line_in ws) (λ x p. assumption (h, p))
-set_in s setting.Ta4 ws h = ok_then (IsRange 0) AreSettings (range_line ws) _ (range_line_in ws) (λ x p. assumption (h, p))
-set_in s setting.T12 ws h = ok_then (IsRange 0) AreSettings (range_line ws) _ (range_line_in ws) (λ x p. assumption (h, p))
-set_in s setting.T34 ws h = ok_then (IsRange 0) AreSettings (range_line ws) _ (range_line_in ws) (λ x p. assumption (h, p))
-set_in s setting.Hold ws h = ok_then AreTimes AreSettings (hold_line ws) _ (hold_line_in ws) (λ x p. assumption (h, p))
-set_in s setting.Gap ws h = ok_then IsTime AreSettings (time_line ws) _ (time_line_in ws) (λ x p. assumption (h, p))
-set_in s setting.Fragment ws h = ok_then (Within LEAST_FRAGMENT MOST_FRAGMENT) AreSettings (fragment_line ws) _ (fragment_line_in ws) (λ x p. assumption (h, p))
-set_in s setting.Source ws h = ok_then IsTone AreSettings (tone_line ws) _ (tone_line_in ws) (λ x p. assumption (h, p))
-set_in s setting.Antenna ws h = ok_then IsTone AreSettings (tone_line ws) _ (tone_line_in ws) (λ x p. assumption (h, p))
-set_in s setting.Comp ws h = ok_then AreComps AreSettings (comp_line ws) _ (comp_line_in ws) (λ x p. assumption (h, p))
-set_in s setting.TransitDl ws h = ok_then (IsFrom 0 MOST_TRANSIT) AreSettings (transit_line 0 ws) _ (transit_line_in 0 ws) (λ x p. assumption (h, p))
-set_in s setting.TransitUl ws h = ok_then (IsFrom 0 MOST_TRANSIT) AreSettings (transit_line 0 ws) _ (transit_line_in 0 ws) (λ x p. assumption (h, p))
-set_in s setting.TransitM ws h = ok_then (IsFrom 1 MOST_TRANSIT) AreSettings (transit_line 1 ws) _ (transit_line_in 1 ws) (λ x p. assumption (h, p))
-set_in s setting.Pack ws h = ok_then (Within 1 64) AreSettings (pack_line ws) _ (pack_line_in ws) (λ x p. assumption (h, p))
+set_in : (version : Version) (s : Settings) (k : Setting) (ws : List (List ℕ)) → AreSettings s → IfOk (set_of version s k ws) AreSettings
+set_in version s setting.Widths ws h = ok_then (λ _. Unit {0}) AreSettings (widths_line ws) _ (ok_any (widths_line ws)) (λ x p. assumption (h, p))
+set_in version s setting.T1a ws h = ok_then (AreRanges 0) AreSettings (windows_line 0 ws) _ (windows_line_in 0 ws) (λ x p. assumption (h, p))
+set_in version s setting.T2a ws h = ok_then (AreRanges 1) AreSettings (windows_line 1 ws) _ (windows_line_in 1 ws) (λ x p. assumption (h, p))
+set_in version s setting.Advance ws h = ok_then IsTime AreSettings (time_line ws) _ (time_line_in ws) (λ x p. assumption (h, p))
+set_in version s setting.Ta3 ws h = ok_then (IsRange 0) AreSettings (range_line ws) _ (range_line_in ws) (λ x p. assumption (h, p))
+set_in version s setting.Ta4 ws h = ok_then (IsRange 0) AreSettings (range_line ws) _ (range_line_in ws) (λ x p. assumption (h, p))
+set_in version s setting.T12 ws h = ok_then (IsRange 0) AreSettings (range_line ws) _ (range_line_in ws) (λ x p. assumption (h, p))
+set_in version s setting.T34 ws h = ok_then (IsRange 0) AreSettings (range_line ws) _ (range_line_in ws) (λ x p. assumption (h, p))
+set_in version s setting.Hold ws h = ok_then AreTimes AreSettings (hold_line ws) _ (hold_line_in ws) (λ x p. assumption (h, p))
+set_in version s setting.Gap ws h = ok_then IsTime AreSettings (time_line ws) _ (time_line_in ws) (λ x p. assumption (h, p))
+set_in version s setting.Fragment ws h = ok_then (Within LEAST_FRAGMENT MOST_FRAGMENT) AreSettings (fragment_line ws) _ (fragment_line_in ws) (λ x p. assumption (h, p))
+set_in version s setting.Source ws h = ok_then IsTone AreSettings (tone_line ws) _ (tone_line_in ws) (λ x p. assumption (h, p))
+set_in version s setting.Antenna ws h = ok_then IsTone AreSettings (tone_line ws) _ (tone_line_in ws) (λ x p. assumption (h, p))
+set_in version s setting.Comp ws h = ok_then AreComps AreSettings (comp_line ws) _ (comp_line_in ws) (λ x p. assumption (h, p))
+set_in version s setting.TransitDl ws h = ok_then IsWay AreSettings (way_line version ws) _ (way_line_in version ws) (λ x p. assumption (h, p))
+set_in version s setting.TransitUl ws h = ok_then IsWay AreSettings (way_line version ws) _ (way_line_in version ws) (λ x p. assumption (h, p))
+set_in version s setting.TransitM ws h = ok_then (IsFrom 1 MOST_TRANSIT) AreSettings (transit_line ws) _ (transit_line_in ws) (λ x p. assumption (h, p))
+set_in version s setting.Pack ws h = ok_then (Within 1 64) AreSettings (pack_line ws) _ (pack_line_in ws) (λ x p. assumption (h, p))
 
 defaults_in : AreSettings defaults
 defaults_in = record {
@@ -458,7 +467,7 @@ with_settings r s settings h p = record {
 setting_line_in : (r : Reading) (s : Setting) (ws : List (List ℕ)) → IsReading r → IfOk (setting_line r s ws) IsReading
 setting_line_in r s ws h =
     ok_if IsReading (is_seen r s) (Err why.Twice) _ (λ t. tt)
-    (λ f. ok_then AreSettings IsReading (set_of r.settings s ws) _ (set_in r.settings s ws h.settings)
+    (λ f. ok_then AreSettings IsReading (set_of r.version r.settings s ws) _ (set_in r.version r.settings s ws h.settings)
     (λ settings p. with_settings r s settings h p))
 
 keyword_line_in : (r : Reading) (n : ℕ) (k : Keyword) (ws : List (List ℕ)) → IsReading r → IfOk (keyword_line r n k ws) IsReading

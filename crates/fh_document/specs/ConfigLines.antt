@@ -1,5 +1,6 @@
 -- Configuration lines: what each makes of the settings, and the settings where none stands.
-use Rattle.std.specs.Prelude.{◌≡◌, ℕ, ℤ, pos, ◌+◌, List, length, Bool, true, false, ◌==◌, if◌then◌else◌, Result, Ok, Err, int_lt, refl}
+use Rattle.std.specs.Prelude.{◌≡◌, ℕ, ℤ, pos, ◌+◌, List, length, Bool, true, false, ◌&&◌, ◌==◌, if◌then◌else◌, Option, Some, None, Result, Ok, Err, codes, int_lt, refl}
+use Rattle.std.specs.Str.{bytes_eq}
 use Rattle.std.proofs.lemmas.Bool.{eqb-true}
 use Rattle.eaxc_map.specs.declared.widths.Widths.{Widths}
 use Rattle.tone_source.specs.declared.values.Tone.{Tone}
@@ -7,12 +8,14 @@ use Rattle.window_config.specs.declared.delays.Range.{Range}
 use Rattle.window_config.specs.Usual.{usual_delays}
 use Rattle.fh_document.specs.declared.document.Comps.{Comps}
 use Rattle.fh_document.specs.declared.document.Settings.{Settings}
+use Rattle.fh_document.specs.declared.document.Version.{Version}
 use Rattle.fh_document.specs.declared.refusals.DocWhy.{DocWhy}
 use Rattle.fh_document.specs.declared.refusals.DocWhy.TheVariants as why
 use Rattle.fh_document.specs.declared.keywords.Setting.{Setting}
 use Rattle.fh_document.specs.declared.keywords.Setting.TheVariants as setting
 use Rattle.fh_document.specs.Refusals.{or_refuse, ◌>>=◌}
 use Rattle.fh_document.specs.Words.{number_in}
+use Rattle.fh_document.specs.Keywords.{is_three}
 use Rattle.window_config.specs.declared.delays.TheConstants.{MOST_DELAY}
 use Rattle.fh_document.specs.declared.config_lines.TheConstants.{MOST_TRANSIT}
 use Rattle.delay_measure.specs.declared.stamps.TheConstants.{MOST_COMPENSATION}
@@ -106,34 +109,46 @@ comp_line ws = counted 5 ws (do
   ru_receiving ← time_at 0 MOST_COMPENSATION ws 4
   Ok (record { du_sending = du_sending; du_receiving = du_receiving; ru_sending = ru_sending; ru_receiving = ru_receiving }))
 
--- `transit dl NS`, `transit ul NS`, `transit m NS`
-abbrev pub transit_line : ℕ → List (List ℕ) → Result ℤ DocWhy
-transit_line low ws = counted 3 ws (time_at low MOST_TRANSIT ws 2)
+-- `transit dl lost`, `transit ul lost`, of version 3
+abbrev pub is_lost : Version → List (List ℕ) → Bool
+is_lost version ws = is_three version && bytes_eq (word_at ws 2) (codes "lost")
 
--- `pack N`, of version 2 alone
+-- the time on a way, or nothing where its frames are lost
+abbrev pub way_of : Version → List (List ℕ) → Result (Option ℤ) DocWhy
+way_of version ws = if is_lost version ws then Ok None else time_at 0 MOST_TRANSIT ws 2 >>= (λ ns. Ok (Some ns))
+
+-- `transit dl NS`, `transit ul NS`, and the same with `lost` in place of NS
+abbrev pub way_line : Version → List (List ℕ) → Result (Option ℤ) DocWhy
+way_line version ws = counted 3 ws (way_of version ws)
+
+-- `transit m NS`
+abbrev pub transit_line : List (List ℕ) → Result ℤ DocWhy
+transit_line ws = counted 3 ws (time_at 1 MOST_TRANSIT ws 2)
+
+-- `pack N`, of version 2 and later
 abbrev pub pack_line : List (List ℕ) → Result ℕ DocWhy
 pack_line ws = counted 2 ws (number_at 1 MESSAGE_SECTIONS ws 1)
 
 -- what a line makes of the settings
-abbrev pub set_of : Settings → Setting → List (List ℕ) → Result Settings DocWhy
-set_of s setting.Widths ws = widths_line ws >>= (λ x. Ok (record s { widths = x }))
-set_of s setting.T1a ws = windows_line 0 ws >>= (λ x. Ok (record s { delays = record s.delays { t1a_up = x.0; t1a_cp_ul = x.1 } }))
-set_of s setting.T2a ws = windows_line 1 ws >>= (λ x. Ok (record s { delays = record s.delays { t2a_up = x.0; t2a_cp_ul = x.1 } }))
-set_of s setting.Advance ws = time_line ws >>= (λ x. Ok (record s { delays = record s.delays { advance = x } }))
-set_of s setting.Ta3 ws = range_line ws >>= (λ x. Ok (record s { delays = record s.delays { ta3 = x } }))
-set_of s setting.Ta4 ws = range_line ws >>= (λ x. Ok (record s { delays = record s.delays { ta4 = x } }))
-set_of s setting.T12 ws = range_line ws >>= (λ x. Ok (record s { delays = record s.delays { t12 = x } }))
-set_of s setting.T34 ws = range_line ws >>= (λ x. Ok (record s { delays = record s.delays { t34 = x } }))
-set_of s setting.Hold ws = hold_line ws >>= (λ x. Ok (record s { delays = record s.delays { hold_dl = x.0; hold_ul = x.1 } }))
-set_of s setting.Gap ws = time_line ws >>= (λ x. Ok (record s { gap = x }))
-set_of s setting.Fragment ws = fragment_line ws >>= (λ x. Ok (record s { fragment = x }))
-set_of s setting.Source ws = tone_line ws >>= (λ x. Ok (record s { source = x }))
-set_of s setting.Antenna ws = tone_line ws >>= (λ x. Ok (record s { antenna = x }))
-set_of s setting.Comp ws = comp_line ws >>= (λ x. Ok (record s { comps = x }))
-set_of s setting.TransitDl ws = transit_line 0 ws >>= (λ x. Ok (record s { transits = record s.transits { dl = x } }))
-set_of s setting.TransitUl ws = transit_line 0 ws >>= (λ x. Ok (record s { transits = record s.transits { ul = x } }))
-set_of s setting.TransitM ws = transit_line 1 ws >>= (λ x. Ok (record s { transits = record s.transits { m = x } }))
-set_of s setting.Pack ws = pack_line ws >>= (λ x. Ok (record s { pack = x }))
+abbrev pub set_of : Version → Settings → Setting → List (List ℕ) → Result Settings DocWhy
+set_of version s setting.Widths ws = widths_line ws >>= (λ x. Ok (record s { widths = x }))
+set_of version s setting.T1a ws = windows_line 0 ws >>= (λ x. Ok (record s { delays = record s.delays { t1a_up = x.0; t1a_cp_ul = x.1 } }))
+set_of version s setting.T2a ws = windows_line 1 ws >>= (λ x. Ok (record s { delays = record s.delays { t2a_up = x.0; t2a_cp_ul = x.1 } }))
+set_of version s setting.Advance ws = time_line ws >>= (λ x. Ok (record s { delays = record s.delays { advance = x } }))
+set_of version s setting.Ta3 ws = range_line ws >>= (λ x. Ok (record s { delays = record s.delays { ta3 = x } }))
+set_of version s setting.Ta4 ws = range_line ws >>= (λ x. Ok (record s { delays = record s.delays { ta4 = x } }))
+set_of version s setting.T12 ws = range_line ws >>= (λ x. Ok (record s { delays = record s.delays { t12 = x } }))
+set_of version s setting.T34 ws = range_line ws >>= (λ x. Ok (record s { delays = record s.delays { t34 = x } }))
+set_of version s setting.Hold ws = hold_line ws >>= (λ x. Ok (record s { delays = record s.delays { hold_dl = x.0; hold_ul = x.1 } }))
+set_of version s setting.Gap ws = time_line ws >>= (λ x. Ok (record s { gap = x }))
+set_of version s setting.Fragment ws = fragment_line ws >>= (λ x. Ok (record s { fragment = x }))
+set_of version s setting.Source ws = tone_line ws >>= (λ x. Ok (record s { source = x }))
+set_of version s setting.Antenna ws = tone_line ws >>= (λ x. Ok (record s { antenna = x }))
+set_of version s setting.Comp ws = comp_line ws >>= (λ x. Ok (record s { comps = x }))
+set_of version s setting.TransitDl ws = way_line version ws >>= (λ x. Ok (record s { transits = record s.transits { dl = x } }))
+set_of version s setting.TransitUl ws = way_line version ws >>= (λ x. Ok (record s { transits = record s.transits { ul = x } }))
+set_of version s setting.TransitM ws = transit_line ws >>= (λ x. Ok (record s { transits = record s.transits { m = x } }))
+set_of version s setting.Pack ws = pack_line ws >>= (λ x. Ok (record s { pack = x }))
 
 -- what holds where no line configures it
 abbrev pub defaults : Settings
@@ -146,5 +161,5 @@ defaults = record {
   source = record { seed = 1; amplitude = 1000 };
   antenna = record { seed = 2; amplitude = 1000 };
   comps = record { du_sending = pos 0; du_receiving = pos 0; ru_sending = pos 0; ru_receiving = pos 0 };
-  transits = record { dl = pos 50000; ul = pos 50000; m = pos 50000 };
+  transits = record { dl = Some (pos 50000); ul = Some (pos 50000); m = pos 50000 };
 }

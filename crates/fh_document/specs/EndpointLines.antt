@@ -1,5 +1,5 @@
--- `endpoint ID ordinary SCS PRBS MODE METHOD`, `endpoint ID offset SCS PRBS MODE METHOD TIMEOFFSET CPLENGTH`, and of version 2
--- `endpoint ID extended 60 PRBS MODE METHOD`
+-- `endpoint ID ordinary SCS PRBS MODE METHOD`, `endpoint ID offset SCS PRBS MODE METHOD TIMEOFFSET CPLENGTH`, and from
+-- version 2 on `endpoint ID extended 60 PRBS MODE METHOD`
 use Rattle.std.specs.Prelude.{ℕ, List, [], ◌∷◌, ◌++◌, length, take, drop, Bool, true, false, ◌&&◌, ◌||◌, ◌==◌, if◌then◌else◌, Option, Some, None, Result, Ok, Err, codes, slice_index}
 use Rattle.std.specs.Option.{option_map}
 use Rattle.std.specs.List.{list_any}
@@ -16,7 +16,7 @@ use Rattle.fh_document.specs.declared.refusals.DocWhy.TheVariants as why
 use Rattle.fh_document.specs.Refusals.{or_refuse, ◌>>=◌}
 use Rattle.fh_document.specs.Words.{number_in}
 use Rattle.fh_document.specs.Hex.{hex_of}
-use Rattle.fh_document.specs.Keywords.{is_two}
+use Rattle.fh_document.specs.Keywords.{is_after_one}
 use Rattle.text_lines.specs.Numbers.{word_at}
 use Rattle.fh_time.specs.declared.carrier.TheConstants.{CARRIER_PRBS}
 
@@ -31,9 +31,9 @@ is_ordinary ws = bytes_eq (word_at ws 2) (codes "ordinary")
 abbrev pub is_offset : List (List ℕ) → Bool
 is_offset ws = bytes_eq (word_at ws 2) (codes "offset")
 
--- a kind of version 2
+-- a kind that version 1 has not
 abbrev pub is_extended : Version → List (List ℕ) → Bool
-is_extended version ws = is_two version && bytes_eq (word_at ws 2) (codes "extended")
+is_extended version ws = is_after_one version && bytes_eq (word_at ws 2) (codes "extended")
 
 -- 9 words for an offset endpoint, 7 for the other kinds, and one of these where the third word is no kind
 abbrev pub has_endpoint_count : Version → List (List ℕ) → Bool

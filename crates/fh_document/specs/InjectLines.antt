@@ -1,5 +1,5 @@
 -- `inject WAY NS HEX`
-use Rattle.std.specs.Prelude.{ℕ, ◌^◌, List, [], ◌∷◌, ◌++◌, if◌then◌else◌, Option, Some, None, Result, Ok, codes}
+use Rattle.std.specs.Prelude.{ℕ, List, [], ◌∷◌, ◌++◌, if◌then◌else◌, Option, Some, None, Result, Ok, codes}
 use Rattle.std.specs.Str.{bytes_eq}
 use Rattle.tone_source.specs.air_source.specs.declared.events.Side.{Side}
 use Rattle.tone_source.specs.air_source.specs.declared.events.Side.TheVariants.{Ru, Du}

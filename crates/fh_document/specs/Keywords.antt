@@ -3,19 +3,26 @@ use Rattle.std.specs.Prelude.{ℕ, List, Bool, true, false, Option, Some, None, 
 use Rattle.std.specs.Option.{option_map}
 use Rattle.std.specs.Str.{bytes_eq}
 use Rattle.fh_document.specs.declared.document.Version.{Version}
-use Rattle.fh_document.specs.declared.document.Version.TheVariants.{One, Two}
+use Rattle.fh_document.specs.declared.document.Version.TheVariants.{One, Two, Three}
 use Rattle.fh_document.specs.declared.keywords.Setting.{Setting}
 use Rattle.fh_document.specs.declared.keywords.Setting.TheVariants.{Widths, T1a, T2a, Advance, Ta3, Ta4, T12, T34, Hold, Gap, Fragment, Source, Antenna, Comp, TransitDl, TransitUl, TransitM, Pack}
 use Rattle.fh_document.specs.declared.keywords.Keyword.{Keyword}
 use Rattle.fh_document.specs.declared.keywords.Keyword.TheVariants as keyword
 use Rattle.text_lines.specs.Numbers.{word_at}
 
--- the grammar is that of `fronthaul 2`
-abbrev pub is_two : Version → Bool
-is_two One = false
-is_two Two = true
+-- the grammar has `pack` and extended endpoints: version 2 and every later one
+abbrev pub is_after_one : Version → Bool
+is_after_one One = false
+is_after_one Two = true
+is_after_one Three = true
 
--- what a first word configures in either version
+-- the grammar has `lost`: version 3
+abbrev pub is_three : Version → Bool
+is_three One = false
+is_three Two = false
+is_three Three = true
+
+-- what a first word configures in every version
 abbrev pub common_setting_of : List ℕ → Option Setting
 common_setting_of w =
     if bytes_eq w (codes "widths") then Some Widths
@@ -37,7 +44,7 @@ common_setting_of w =
 -- what a first word configures
 abbrev pub setting_of : Version → List ℕ → Option Setting
 setting_of version w =
-    if bytes_eq w (codes "pack") then (if is_two version then Some Pack else None)
+    if bytes_eq w (codes "pack") then (if is_after_one version then Some Pack else None)
     else common_setting_of w
 
 -- what the second word of `transit` configures

@@ -5,7 +5,7 @@ use Rattle.std.specs.Str.{bytes_eq}
 use Rattle.fh_document.specs.declared.document.Reading.{Reading}
 use Rattle.fh_document.specs.declared.document.Settings.{Settings}
 use Rattle.fh_document.specs.declared.document.Version.{Version}
-use Rattle.fh_document.specs.declared.document.Version.TheVariants.{One, Two}
+use Rattle.fh_document.specs.declared.document.Version.TheVariants.{One, Two, Three}
 use Rattle.fh_document.specs.declared.keywords.Setting.{Setting}
 use Rattle.fh_document.specs.declared.keywords.Keyword.{Keyword}
 use Rattle.fh_document.specs.declared.keywords.Keyword.TheVariants as keyword
@@ -47,7 +47,7 @@ configured r s settings = record r { settings = settings; seen = slice_set r.see
 abbrev pub setting_line : Reading → Setting → List (List ℕ) → Result Reading DocWhy
 setting_line r s ws =
     if is_seen r s then Err why.Twice
-    else set_of r.settings s ws >>= (λ settings. Ok (configured r s settings))
+    else set_of r.version r.settings s ws >>= (λ settings. Ok (configured r s settings))
 
 -- the latest kind of the lines that stand
 abbrev pub reached : Reading → ℕ
@@ -86,9 +86,10 @@ abbrev pub version_at : List ℕ → Option Version
 version_at w =
     if bytes_eq w (codes "1") then Some One
     else (if bytes_eq w (codes "2") then Some Two
-    else None)
+    else (if bytes_eq w (codes "3") then Some Three
+    else None))
 
--- the words are `fronthaul 1` or `fronthaul 2`
+-- the words are `fronthaul` and a version
 abbrev pub version_of : List (List ℕ) → Option Version
 version_of ws =
     if length ws == 2 then (if bytes_eq (word_at ws 0) (codes "fronthaul") then version_at (word_at ws 1) else None)

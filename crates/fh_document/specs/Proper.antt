@@ -1,5 +1,5 @@
 -- What a document that was read may be (this project's profile).
-use Rattle.std.specs.Prelude.{ℕ, ℤ, pos, ◌^◌, ◌<◌, ◌≤◌, ◌≤ℤ◌, ◌≡◌, List, [], ◌∷◌, All, false, length, map}
+use Rattle.std.specs.Prelude.{ℕ, ℤ, pos, ◌^◌, ◌<◌, ◌≤◌, ◌≤ℤ◌, ◌≡◌, List, [], ◌∷◌, All, false, length, map, IfSome}
 use Rattle.window_config.specs.bfp_codec.specs.Layout.{AreBytes}
 use Rattle.eaxc_map.specs.Endpoints.{AppearOnce}
 use Rattle.tone_source.specs.declared.values.Tone.{Tone}
@@ -38,10 +38,10 @@ pub record AreComps (c : Comps) : Type 0 where
   pub ru_sending : IsFrom 0 MOST_COMPENSATION c.ru_sending
   pub ru_receiving : IsFrom 0 MOST_COMPENSATION c.ru_receiving
 
--- at most three seconds; a measurement takes a nanosecond at least
+-- at most three seconds, where frames of the way are not lost; a measurement takes a nanosecond at least
 pub record AreTransits (t : Transits) : Type 0 where
-  pub dl : IsFrom 0 MOST_TRANSIT t.dl
-  pub ul : IsFrom 0 MOST_TRANSIT t.ul
+  pub dl : IfSome t.dl (IsFrom 0 MOST_TRANSIT)
+  pub ul : IfSome t.ul (IsFrom 0 MOST_TRANSIT)
   pub m : IsFrom 1 MOST_TRANSIT t.m
 
 -- the numbers of a line of a plan, as the grammar has them

@@ -1,9 +1,9 @@
 // Configuration lines.
 ghost use Rattle.std.specs.Prelude.{◌≡◌, ◌≤◌, ◌<◌, ◌^◌, IfOk};
-ghost use Rattle.fh_document.specs.ConfigLines.{number_at, time_at, ordered, both_ordered, widths_of, widths_line, windows_line, range_line, hold_line, time_line, fragment_line, tone_line, comp_line, transit_line, pack_line, set_of, defaults};
+ghost use Rattle.fh_document.specs.ConfigLines.{number_at, time_at, ordered, both_ordered, widths_of, widths_line, windows_line, range_line, hold_line, time_line, fragment_line, tone_line, comp_line, is_lost, way_of, way_line, transit_line, pack_line, set_of, defaults};
 
-use crate::document::{Comps, Settings, Transits};
-use crate::keywords::Setting;
+use crate::document::{Comps, Settings, Transits, Version};
+use crate::keywords::{Setting, is_three};
 use crate::refusals::DocWhy;
 use crate::words::{Words, number_in};
 use delay_measure::MOST_COMPENSATION;
@@ -159,13 +159,39 @@ fn comp_line(words: &Words<'_>) -> Result<Comps, DocWhy>
     })
 }
 
-fn transit_line(words: &Words<'_>, low: u64) -> Result<i64, DocWhy>
-    ensures { result ≡ transit_line low words.now }
+fn is_lost(version: Version, words: &Words<'_>) -> bool
+    ensures { result ≡ is_lost version words.now }
+{
+    is_three(version) && words.word(2) == b"lost".as_slice()
+}
+
+/// The time on a way. None where its frames are lost.
+fn way_of(version: Version, words: &Words<'_>) -> Result<Option<i64>, DocWhy>
+    ensures { result ≡ way_of version words.now }
+{
+    if is_lost(version, words) {
+        return Ok(None);
+    }
+    let ns = time_at(words, 2, 0, MOST_TRANSIT)?;
+    Ok(Some(ns))
+}
+
+fn way_line(version: Version, words: &Words<'_>) -> Result<Option<i64>, DocWhy>
+    ensures { result ≡ way_line version words.now }
 {
     if words.len() != 3 {
         return Err(DocWhy::Words);
     }
-    time_at(words, 2, low, MOST_TRANSIT)
+    way_of(version, words)
+}
+
+fn transit_line(words: &Words<'_>) -> Result<i64, DocWhy>
+    ensures { result ≡ transit_line words.now }
+{
+    if words.len() != 3 {
+        return Err(DocWhy::Words);
+    }
+    time_at(words, 2, 1, MOST_TRANSIT)
 }
 
 fn pack_line(words: &Words<'_>) -> Result<usize, DocWhy>
@@ -180,11 +206,12 @@ fn pack_line(words: &Words<'_>) -> Result<usize, DocWhy>
 
 /// What a configuration line makes of the settings.
 pub(crate) fn set(
+    version: Version,
     settings: Settings,
     setting: Setting,
     words: &Words<'_>,
 ) -> Result<Settings, DocWhy>
-    ensures { result ≡ set_of settings setting words.now }
+    ensures { result ≡ set_of version settings setting words.now }
 {
     let mut next = settings;
     match setting {
@@ -214,9 +241,9 @@ pub(crate) fn set(
         Setting::Source => next.source = tone_line(words)?,
         Setting::Antenna => next.antenna = tone_line(words)?,
         Setting::Comp => next.comps = comp_line(words)?,
-        Setting::TransitDl => next.transits.dl = transit_line(words, 0)?,
-        Setting::TransitUl => next.transits.ul = transit_line(words, 0)?,
-        Setting::TransitM => next.transits.m = transit_line(words, 1)?,
+        Setting::TransitDl => next.transits.dl = way_line(version, words)?,
+        Setting::TransitUl => next.transits.ul = way_line(version, words)?,
+        Setting::TransitM => next.transits.m = transit_line(words)?,
         Setting::Pack => next.pack = pack_line(words)?,
     }
     Ok(next)
@@ -258,8 +285,8 @@ pub(crate) fn defaults() -> Settings
             ru_receiving: 0,
         },
         transits: Transits {
-            dl: 50_000,
-            ul: 50_000,
+            dl: Some(50_000),
+            ul: Some(50_000),
             m: 50_000,
         },
     }

@@ -18,13 +18,14 @@ pub struct Comps {
     pub ru_receiving: i64,
 }
 
-/// How long frames take on their way where no line says it of one frame: at most 3,000,000,000 ns.
+/// How long frames take on their way where no `deliver` line says it of one frame: at most 3,000,000,000 ns. None where such frames
+/// are lost.
 #[derive(Clone, Copy, Debug, PartialEq, Eq)]
 pub struct Transits {
     /// Frames of the C-plane and the U-plane to the radio unit.
-    pub dl: i64,
+    pub dl: Option<i64>,
     /// Frames of the C-plane and the U-plane to the distributed unit.
-    pub ul: i64,
+    pub ul: Option<i64>,
     /// Frames of delay measurement, both ways; at least 1 ns.
     pub m: i64,
 }
@@ -94,6 +95,7 @@ pub(crate) struct Settings {
 pub(crate) enum Version {
     One,
     Two,
+    Three,
 }
 
 /// What the lines said so far.

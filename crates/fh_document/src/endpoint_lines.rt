@@ -6,7 +6,7 @@ ghost use Rattle.fh_document.specs.EndpointLines.{is_ordinary, is_offset, is_ext
 
 use crate::document::{Reading, Version};
 use crate::hex::hex4;
-use crate::keywords::is_two;
+use crate::keywords::is_after_one;
 use crate::refusals::DocWhy;
 use crate::words::{Words, number_in, short_in};
 use bfp_codec::{Format, Method};
@@ -28,7 +28,7 @@ fn is_offset(words: &Words<'_>) -> bool
 fn is_extended(version: Version, words: &Words<'_>) -> bool
     ensures { result ≡ is_extended version words.now }
 {
-    is_two(version) && words.word(2) == b"extended".as_slice()
+    is_after_one(version) && words.word(2) == b"extended".as_slice()
 }
 
 fn has_endpoint_count(version: Version, words: &Words<'_>) -> bool

@@ -1,6 +1,6 @@
 // The keywords of lines, and the order of their kinds.
 ghost use Rattle.std.specs.Prelude.{◌≡◌, ◌<◌};
-ghost use Rattle.fh_document.specs.Keywords.{is_two, common_setting_of, setting_of, transit_of, keyword_of, rank_of, number_of};
+ghost use Rattle.fh_document.specs.Keywords.{is_after_one, is_three, common_setting_of, setting_of, transit_of, keyword_of, rank_of, number_of};
 
 use crate::document::Version;
 use crate::words::Words;
@@ -39,13 +39,23 @@ pub(crate) enum Keyword {
     Measure,
 }
 
-/// Whether the grammar is that of `fronthaul 2`.
-pub(crate) fn is_two(version: Version) -> bool
-    ensures { result ≡ is_two version }
+/// Whether the grammar has `pack` and extended endpoints: that of `fronthaul 2` and every later one.
+pub(crate) fn is_after_one(version: Version) -> bool
+    ensures { result ≡ is_after_one version }
 {
     match version {
         Version::One => false,
-        Version::Two => true,
+        Version::Two | Version::Three => true,
+    }
+}
+
+/// Whether the grammar has `lost`: that of `fronthaul 3`.
+pub(crate) fn is_three(version: Version) -> bool
+    ensures { result ≡ is_three version }
+{
+    match version {
+        Version::One | Version::Two => false,
+        Version::Three => true,
     }
 }
 
@@ -102,7 +112,7 @@ fn setting_of(version: Version, word: &[u8]) -> Option<Setting>
     ensures { result ≡ setting_of version word.now }
 {
     if word == b"pack".as_slice() {
-        return if is_two(version) {
+        return if is_after_one(version) {
             Some(Setting::Pack)
         } else {
             None

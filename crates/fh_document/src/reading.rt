@@ -48,7 +48,7 @@ fn setting_line(reading: &mut Reading, setting: Setting, words: &Words<'_>) -> R
     if is_seen(reading, setting) {
         return Err(DocWhy::Twice);
     }
-    match set(reading.settings, setting, words) {
+    match set(reading.version, reading.settings, setting, words) {
         Err(why) => Err(why),
         Ok(settings) => {
             reading.settings = settings;
@@ -147,6 +147,9 @@ fn version_at(word: &[u8]) -> Option<Version>
     if word == b"2".as_slice() {
         return Some(Version::Two);
     }
+    if word == b"3".as_slice() {
+        return Some(Version::Three);
+    }
     None
 }
 
@@ -240,7 +243,7 @@ fn finished(reading: Reading) -> Document
     }
 }
 
-/// Reads a document, in the grammar of `fronthaul 1` or `fronthaul 2` as its first line says.
+/// Reads a document, in the grammar of `fronthaul 1`, `fronthaul 2` or `fronthaul 3`, as its first line says.
 ///
 /// The answer is what the lines say, or the first line that is refused with its first reason, or want of memory. A document that
 /// is read is within its limits: the configuration is, no id stands twice, and each number is within its range.

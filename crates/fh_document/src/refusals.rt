@@ -10,7 +10,7 @@ pub enum DocWhy {
     /// A byte is not one of printable ASCII (20 to 7e in hexadecimal).
     #[error("NotText")]
     NotText,
-    /// Line 1 is missing, or its words are neither `fronthaul 1` nor `fronthaul 2`.
+    /// Line 1 is missing, or its words are none of `fronthaul 1`, `fronthaul 2` and `fronthaul 3`.
     #[error("FirstLine")]
     FirstLine,
     /// The first word is no keyword, or the second word of `transit` names none.
