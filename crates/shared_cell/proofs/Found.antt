@@ -1,8 +1,7 @@
 -- The index at which the combined cell of a place stands, through each change of the list.
-use Rattle.std.proofs.Common.{◌≡◌, ℕ, suc, zero, ◌<◌, Bool, true, false, cond, List, [], ◌∷◌, ◌++◌, length, take, get_or, set, Option, Some, None, refl, ap, sym, ◌∙◌, arith, subst, All}
+use Rattle.std.proofs.Common.{◌≡◌, ℕ, suc, zero, ◌<◌, Bool, true, false, cond, List, [], ◌∷◌, ◌++◌, length, take, get_or, set, Option, Some, None, refl, ap, sym, ◌∙◌, arith, subst}
 use Rattle.std.specs.Option.{option_map, unwrap_or}
 use Rattle.std.specs.Ordering.{is_eq}
-use Rattle.std.proofs.lemmas.List.Elements.{All-tail, All-head}
 use Rattle.air_source.specs.declared.events.AirCell.{AirCell}
 use Rattle.shared_cell.specs.declared.places.CellPlace.{CellPlace}
 use Rattle.shared_cell.specs.declared.values.Mixed.{Mixed}

@@ -1,5 +1,6 @@
 pub mod Same
 mod Found
+mod Apart
 mod Bounds
 mod Sums
 pub mod Lifted

@@ -7,7 +7,7 @@ ghost use Rattle.shared_cell.specs.Combined.{combined, firsts, cells_with, Follo
 
 use crate::Mixed;
 use crate::joining::{join, join_or_leave, opened};
-use crate::places::{CellPlace, find_or_insert, place_of};
+use crate::places::{CellPlace, find_or_insert, is_at, place_of};
 use air_source::{AirCell, Side};
 use fh_base::NoMemory;
 use std::alloc::Global;
@@ -20,6 +20,8 @@ use std::marker::Model;
 pub struct Mixer {
     places: BTreeMap<CellPlace, usize>,
     mixed: Vec<Mixed>,
+    // the index after that of the last cell's place: units report their cells in the same order, so it is likely the next cell's
+    turn: usize,
 }
 
 impl Model for Mixer {
@@ -45,6 +47,7 @@ impl Mixer {
         Mixer {
             places: BTreeMap::new(alloc),
             mixed: Vec::new(alloc),
+            turn: 0,
         }
     }
 
@@ -99,11 +102,26 @@ impl Mixer {
         ensures err { OnErr result (self.new ≡ self.old) }
         ensures refused { OnErr result (index_of (place_of c.now) self.old ≡ None) }
     {
+        if self.turn < self.mixed.len() && is_at(&self.mixed[self.turn], c) {
+            join_or_leave(&mut self.mixed[self.turn], c);
+            self.turn += 1;
+            return Ok(());
+        }
+        self.put_by_map(c)
+    }
+
+    // The same, where the map says which combined cell it is.
+    fn put_by_map(&mut self, c: &AirCell) -> Result<(), NoMemory>
+        ensures ok { OnOk result (self.new ≡ joined_at c.now self.old) }
+        ensures err { OnErr result (self.new ≡ self.old) }
+        ensures refused { OnErr result (index_of (place_of c.now) self.old ≡ None) }
+    {
         let place = place_of(c);
         let next = self.mixed.len();
         let index = find_or_insert(&mut self.places, place, next)?;
         if index < next {
             join_or_leave(&mut self.mixed[index], c);
+            self.turn = index + 1;
             return Ok(());
         }
         let mut mixed = opened(c);
@@ -112,6 +130,7 @@ impl Mixer {
             self.places.remove(&place);
             return Err(NoMemory);
         }
+        self.turn = self.mixed.len();
         Ok(())
     }
 }

@@ -2,8 +2,9 @@
 ghost use Rattle.std.specs.Prelude.{◌≡◌, IfOk, OnErr, None, Some};
 ghost use Rattle.std.specs.Option.{unwrap_or};
 ghost use Rattle.std.specs.BTreeMap.{get, IsUnchanged, Updates};
-ghost use Rattle.shared_cell.specs.Places.{place_of};
+ghost use Rattle.shared_cell.specs.Places.{is_mixed_at, place_of};
 
+use crate::Mixed;
 use air_source::AirCell;
 use fh_base::NoMemory;
 use std::collections::BTreeMap;
@@ -31,6 +32,18 @@ pub fn place_of(c: &AirCell) -> CellPlace
         frame: c.slot.frame,
         id: c.id,
     }
+}
+
+/// Whether a combined cell stands at the place of a cell.
+pub fn is_at(mixed: &Mixed, c: &AirCell) -> bool
+    ensures { result ≡ is_mixed_at (place_of c.now) mixed.now }
+{
+    c.prb == mixed.prb
+        && c.symbol == mixed.symbol
+        && c.slot.slot == mixed.slot.slot
+        && c.slot.subframe == mixed.slot.subframe
+        && c.slot.frame == mixed.slot.frame
+        && c.id == mixed.id
 }
 
 /// The value that a map has at a key. A key that is not there is put there with `next`, by one search for both.
