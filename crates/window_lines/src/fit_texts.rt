@@ -3,7 +3,7 @@ ghost use Rattle.std.specs.Prelude.{◌≡◌, ◌+◌, ◌≤◌, ◌++◌, [],
 ghost use Rattle.std.specs.List.{flat_map};
 ghost use Rattle.std.specs.Io.KnownBytes.{append_known};
 ghost use Rattle.fh_base.specs.Causes.{HasSinkCause};
-ghost use Rattle.fh_base.specs.Told.{WritesFront};
+ghost use Rattle.fh_base.specs.Told.{WritesFront, WritesPart};
 ghost use Rattle.owed_bytes.specs.Owed.{Carried};
 ghost use Rattle.window_config.specs.Limits.{IsWithinLimits};
 ghost use Rattle.window_plan.specs.Fitting.{fitted};
@@ -118,7 +118,7 @@ fn tell_breach<K: Sink>(
 ) -> Result<(), SinkFault>
     requires { IsWithinLimits d.now }
     ensures carried { OnOk result (Carried (K.written out.old) owed.old (breach_text d.now r) (K.written out.new) owed.new) }
-    ensures front { OnErr result (WritesFront (K.written out.old) (K.written out.new) (owed.old ++ breach_text d.now r)) }
+    ensures part { OnErr result (WritesPart (K.written out.old) (K.written out.new) (owed.old ++ breach_text d.now r)) }
     ensures cause { HasSinkCause (K.faults out.old) (K.faults out.new) (K.refusals out.old) (K.refusals out.new) result }
 {
     let mut line = Line::new();
@@ -135,7 +135,7 @@ fn tell_breaches<K: Sink>(
 ) -> Result<(), SinkFault>
     requires { IsWithinLimits d.now }
     ensures carried { OnOk result (Carried (K.written out.old) owed.old (flat_map (breach_text d.now) relations.now) (K.written out.new) owed.new) }
-    ensures front { OnErr result (WritesFront (K.written out.old) (K.written out.new) (owed.old ++ flat_map (breach_text d.now) relations.now)) }
+    ensures part { OnErr result (WritesPart (K.written out.old) (K.written out.new) (owed.old ++ flat_map (breach_text d.now) relations.now)) }
     ensures cause { HasSinkCause (K.faults out.old) (K.faults out.new) (K.refusals out.old) (K.refusals out.new) result }
 {
     for r in relations {
@@ -148,7 +148,7 @@ fn tell_breaches<K: Sink>(
 fn tell_fit<K: Sink>(d: &Delays, owed: &mut OwedBytes, out: &mut K) -> Result<(), SinkFault>
     requires { IsWithinLimits d.now }
     ensures carried { OnOk result (Carried (K.written out.old) owed.old (fitted_or_none (fitted d.now)) (K.written out.new) owed.new) }
-    ensures front { OnErr result (WritesFront (K.written out.old) (K.written out.new) (owed.old ++ fitted_or_none (fitted d.now))) }
+    ensures part { OnErr result (WritesPart (K.written out.old) (K.written out.new) (owed.old ++ fitted_or_none (fitted d.now))) }
     ensures cause { HasSinkCause (K.faults out.old) (K.faults out.new) (K.refusals out.old) (K.refusals out.new) result }
 {
     let mut line = Line::new();
@@ -162,12 +162,13 @@ fn tell_fit<K: Sink>(d: &Delays, owed: &mut OwedBytes, out: &mut K) -> Result<()
 ///
 /// # Errors
 ///
-/// `Failed` only where the sink's count of faults rose, and `NoMemory` only where its count of refusals rose. A front part of the
-/// text was written.
+/// `Failed` exactly where the sink's count of faults rose, and `NoMemory` exactly where its count of refusals rose. A front part of the
+/// text was written and not all.
 pub fn put_fit<K: Sink>(delays: &Delays, out: &mut K) -> Result<(), SinkFault>
     requires { IsWithinLimits delays.now }
     ensures ok { OnOk result (K.written out.new ≡ append_known (K.written out.old) (fit_text delays.now)) }
     ensures front { WritesFront (K.written out.old) (K.written out.new) (fit_text delays.now) }
+    ensures part { OnErr result (WritesPart (K.written out.old) (K.written out.new) (fit_text delays.now)) }
     ensures cause { HasSinkCause (K.faults out.old) (K.faults out.new) (K.refusals out.old) (K.refusals out.new) result }
 {
     let mut owed = OwedBytes::new();

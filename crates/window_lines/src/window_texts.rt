@@ -2,7 +2,7 @@
 ghost use Rattle.std.specs.Prelude.{◌≡◌, ◌+◌, ◌≤◌, ◌++◌, [], length, OnOk, OnErr};
 ghost use Rattle.std.specs.Io.KnownBytes.{append_known};
 ghost use Rattle.fh_base.specs.Causes.{HasSinkCause};
-ghost use Rattle.fh_base.specs.Told.{WritesFront};
+ghost use Rattle.fh_base.specs.Told.{WritesFront, WritesPart};
 ghost use Rattle.owed_bytes.specs.Owed.{Carried};
 ghost use Rattle.window_config.specs.Configs.{IsConfig};
 ghost use Rattle.window_config.specs.Limits.{IsReach, IsWithinLimits};
@@ -105,7 +105,7 @@ fn verdict(line: &mut Line, checked: Result<(), Failing>)
 fn tell_profile<K: Sink>(d: &Delays, owed: &mut OwedBytes, out: &mut K) -> Result<(), SinkFault>
     requires { IsWithinLimits d.now }
     ensures carried { OnOk result (Carried (K.written out.old) owed.old (profile_text d.now) (K.written out.new) owed.new) }
-    ensures front { OnErr result (WritesFront (K.written out.old) (K.written out.new) (owed.old ++ profile_text d.now)) }
+    ensures part { OnErr result (WritesPart (K.written out.old) (K.written out.new) (owed.old ++ profile_text d.now)) }
     ensures cause { HasSinkCause (K.faults out.old) (K.faults out.new) (K.refusals out.old) (K.refusals out.new) result }
 {
     let mut line = Line::new();
@@ -124,7 +124,7 @@ fn tell_ring<K: Sink>(
     requires ru { IsReach ru }
     requires du { IsReach du }
     ensures carried { OnOk result (Carried (K.written out.old) owed.old (ring_text ru du e.now) (K.written out.new) owed.new) }
-    ensures front { OnErr result (WritesFront (K.written out.old) (K.written out.new) (owed.old ++ ring_text ru du e.now)) }
+    ensures part { OnErr result (WritesPart (K.written out.old) (K.written out.new) (owed.old ++ ring_text ru du e.now)) }
     ensures cause { HasSinkCause (K.faults out.old) (K.faults out.new) (K.refusals out.old) (K.refusals out.new) result }
 {
     let mut line = Line::new();
@@ -141,7 +141,7 @@ fn tell_rings<K: Sink>(
 ) -> Result<(), SinkFault>
     requires { IsWithinLimits d.now }
     ensures carried { OnOk result (Carried (K.written out.old) owed.old (rings_text d.now endpoints.now) (K.written out.new) owed.new) }
-    ensures front { OnErr result (WritesFront (K.written out.old) (K.written out.new) (owed.old ++ rings_text d.now endpoints.now)) }
+    ensures part { OnErr result (WritesPart (K.written out.old) (K.written out.new) (owed.old ++ rings_text d.now endpoints.now)) }
     ensures cause { HasSinkCause (K.faults out.old) (K.faults out.new) (K.refusals out.old) (K.refusals out.new) result }
 {
     let ru = ru_reach(d);
@@ -156,7 +156,7 @@ fn tell_rings<K: Sink>(
 fn tell_check<K: Sink>(d: &Delays, owed: &mut OwedBytes, out: &mut K) -> Result<(), SinkFault>
     requires { IsWithinLimits d.now }
     ensures carried { OnOk result (Carried (K.written out.old) owed.old (check_text (checked d.now)) (K.written out.new) owed.new) }
-    ensures front { OnErr result (WritesFront (K.written out.old) (K.written out.new) (owed.old ++ check_text (checked d.now))) }
+    ensures part { OnErr result (WritesPart (K.written out.old) (K.written out.new) (owed.old ++ check_text (checked d.now))) }
     ensures cause { HasSinkCause (K.faults out.old) (K.faults out.new) (K.refusals out.old) (K.refusals out.new) result }
 {
     let mut line = Line::new();
@@ -169,12 +169,13 @@ fn tell_check<K: Sink>(d: &Delays, owed: &mut OwedBytes, out: &mut K) -> Result<
 ///
 /// # Errors
 ///
-/// `Failed` only where the sink's count of faults rose, and `NoMemory` only where its count of refusals rose. A front part of the
-/// text was written.
+/// `Failed` exactly where the sink's count of faults rose, and `NoMemory` exactly where its count of refusals rose. A front part of the
+/// text was written and not all.
 pub fn put_windows<K: Sink>(config: &Config, out: &mut K) -> Result<(), SinkFault>
     requires { IsConfig config.now }
     ensures ok { OnOk result (K.written out.new ≡ append_known (K.written out.old) (windows_text config.now)) }
     ensures front { WritesFront (K.written out.old) (K.written out.new) (windows_text config.now) }
+    ensures part { OnErr result (WritesPart (K.written out.old) (K.written out.new) (windows_text config.now)) }
     ensures cause { HasSinkCause (K.faults out.old) (K.faults out.new) (K.refusals out.old) (K.refusals out.new) result }
 {
     let mut owed = OwedBytes::new();
