@@ -1,5 +1,5 @@
 -- A combined cell's line is its two halves.
-use Rattle.std.proofs.Common.{◌≡◌, ◌==◌, ℕ, zero, suc, ◌+◌, Bool, true, false, cond, List, [], ◌++◌, codes, refl, ap, ap₂, sym, ◌∙◌, append_assoc, append-nil, arith, subst}
+use Rattle.std.proofs.Common.{◌≡◌, ◌==◌, ℕ, zero, suc, ◌+◌, Bool, true, false, cond, List, [], ◌++◌, codes, ap, ap₂, sym, ◌∙◌, append_assoc, append-nil, arith, subst}
 use Rattle.shared_cell.specs.declared.values.Mixed.{Mixed}
 use Rattle.shared_lines.specs.Lines.{element_text, elements_text, mix_back_text, mix_front_text, mix_head_text, mixed_text}
 

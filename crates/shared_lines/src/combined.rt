@@ -3,7 +3,7 @@ ghost use Rattle.std.specs.Prelude.{◌≡◌, ◌++◌, OnOk, OnErr};
 ghost use Rattle.std.specs.List.{flat_map};
 ghost use Rattle.std.specs.Io.KnownBytes.{append_known};
 ghost use Rattle.fh_base.specs.Causes.{HasSinkCause};
-ghost use Rattle.fh_base.specs.Told.{WritesFront};
+ghost use Rattle.fh_base.specs.Told.{WritesFront, WritesPart};
 ghost use Rattle.owed_bytes.specs.Owed.{Carried};
 ghost use Rattle.shared_lines.specs.Lines.{mixed_text, mixes_text};
 
@@ -21,7 +21,7 @@ fn tell_cell<K: Sink>(
     out: &mut K,
 ) -> Result<(), SinkFault>
     ensures carried { OnOk result (Carried (K.written out.old) owed.old (mixed_text m.now) (K.written out.new) owed.new) }
-    ensures front { OnErr result (WritesFront (K.written out.old) (K.written out.new) (owed.old ++ mixed_text m.now)) }
+    ensures part { OnErr result (WritesPart (K.written out.old) (K.written out.new) (owed.old ++ mixed_text m.now)) }
     ensures cause { HasSinkCause (K.faults out.old) (K.faults out.new) (K.refusals out.old) (K.refusals out.new) result }
 {
     put_mix_front(m, line);
@@ -33,7 +33,7 @@ fn tell_cell<K: Sink>(
 // Tells the lines of combined cells.
 fn tell_cells<K: Sink>(cells: &[Mixed], owed: &mut OwedBytes, out: &mut K) -> Result<(), SinkFault>
     ensures carried { OnOk result (Carried (K.written out.old) owed.old (flat_map mixed_text cells.now) (K.written out.new) owed.new) }
-    ensures front { OnErr result (WritesFront (K.written out.old) (K.written out.new) (owed.old ++ flat_map mixed_text cells.now)) }
+    ensures part { OnErr result (WritesPart (K.written out.old) (K.written out.new) (owed.old ++ flat_map mixed_text cells.now)) }
     ensures cause { HasSinkCause (K.faults out.old) (K.faults out.new) (K.refusals out.old) (K.refusals out.new) result }
 {
     let mut line = Line::new();
@@ -47,11 +47,12 @@ fn tell_cells<K: Sink>(cells: &[Mixed], owed: &mut OwedBytes, out: &mut K) -> Re
 ///
 /// # Errors
 ///
-/// `Failed` only where the sink's count of faults rose, and `NoMemory` only where its count of refusals rose. A front part of the text
-/// was written.
+/// `Failed` exactly where the sink's count of faults rose, and `NoMemory` exactly where its count of refusals rose. A front part of the text
+/// was written and not all.
 pub fn put_combined<K: Sink>(mixer: &Mixer, out: &mut K) -> Result<(), SinkFault>
     ensures ok { OnOk result (K.written out.new ≡ append_known (K.written out.old) (mixes_text mixer.now)) }
     ensures front { WritesFront (K.written out.old) (K.written out.new) (mixes_text mixer.now) }
+    ensures part { OnErr result (WritesPart (K.written out.old) (K.written out.new) (mixes_text mixer.now)) }
     ensures cause { HasSinkCause (K.faults out.old) (K.faults out.new) (K.refusals out.old) (K.refusals out.new) result }
 {
     let mut owed = OwedBytes::new();

@@ -1,4 +1,4 @@
-use Rattle.std.proofs.Common.{take, ◌≤◌}
+use Rattle.std.proofs.Common.{take, ◌≡◌}
 use Rattle.std.specs.List.{flat_map}
 use Rattle.owed_bytes.specs.Owed.{Carried}
 use Rattle.shared_lines.specs.Lines.{mixed_text}
@@ -7,6 +7,6 @@ use Rattle.shared_lines.proofs.combined.tell_cells.Given as goal
 abbrev pub invariant-loop-m : goal.invariant-loop-m
 invariant-loop-m g l = record {
   carried : Carried (g.K.Sink.written l.initial.out) l.initial.owed (flat_map mixed_text (take l.m-index l.cells)) (g.K.Sink.written l.out) l.owed;
-  later : g.K.Sink.faults l.initial.out ≤ g.K.Sink.faults l.out;
-  refused_later : g.K.Sink.refusals l.initial.out ≤ g.K.Sink.refusals l.out;
+  still : g.K.Sink.faults l.out ≡ g.K.Sink.faults l.initial.out;
+  refused_still : g.K.Sink.refusals l.out ≡ g.K.Sink.refusals l.initial.out;
 }
