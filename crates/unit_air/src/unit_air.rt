@@ -2,7 +2,7 @@
 ghost use Rattle.std.specs.Prelude.{◌≡◌, [], ◌∷◌, ◌++◌, refl, OnOk, OnErr, IfErr};
 ghost use Rattle.std.proofs.Common.{◌∙◌};
 ghost use Rattle.std.specs.Io.KnownBytes.{append_known};
-ghost use Rattle.fh_base.specs.Told.{WritesFront};
+ghost use Rattle.fh_base.specs.Told.{WritesFront, WritesPart};
 ghost use Rattle.air_source.specs.Causes.{HasAirCause};
 ghost use Rattle.air_source.specs.declared.airs.AirFault.TheVariants.{NoMemory as WantsMemory};
 ghost use Rattle.owed_bytes.specs.Owed.{Carried};
@@ -63,6 +63,7 @@ impl<'a, K: Sink> UnitAir<'a, K> {
         ensures mixer { mixer_of self.new ≡ mixer_of self.old }
         ensures carried { OnOk result (Carried (K.written (sink_of self.old)) (owed_of self.old) (line_of self.old) (K.written (sink_of self.new)) (owed_of self.new)) }
         ensures stop { IfErr result (λ f. Ceased f (K.written (sink_of self.old)) (K.faults (sink_of self.old)) (owed_of self.old) (line_of self.old) (K.written (sink_of self.new)) (K.faults (sink_of self.new))) }
+        ensures part { OnErr result (WritesPart (K.written (sink_of self.old)) (K.written (sink_of self.new)) (owed_of self.old ++ line_of self.old)) }
         ensures cause { HasAirCause (K.faults (sink_of self.old)) (K.faults (sink_of self.new)) result }
     {
         tell(&mut self.owed, self.line.as_slice(), self.sink)
@@ -76,6 +77,7 @@ impl<'a, K: Sink> UnitAir<'a, K> {
         ensures owed { owed_of self.new ≡ owed_of self.old }
         ensures mixer { OnOk result (mixer_of self.new ≡ taken c.now (mixer_of self.old)) }
         ensures wants { IfErr result (λ f. f ≡ WantsMemory) }
+        ensures cause { HasAirCause (K.faults (sink_of self.old)) (K.faults (sink_of self.new)) result }
     {
         self.mixer.try_add(c)?;
         Ok(())
@@ -85,30 +87,32 @@ impl<'a, K: Sink> UnitAir<'a, K> {
     ///
     /// # Errors
     ///
-    /// `Failed` only where the sink's count of faults rose. A front part of what was owed and of the line was written.
+    /// `Failed` exactly where the sink's count of faults rose. A front part of what was owed and of the line was written and not all.
     pub fn begin(&mut self, unit: u8) -> Result<(), AirFault>
         ensures sink_reference { sink_name self.new ≡ sink_name self.old }
         ensures mixer_reference { mixer_name self.new ≡ mixer_name self.old }
         ensures mixer { mixer_of self.new ≡ mixer_of self.old }
         ensures carried { OnOk result (Carried (K.written (sink_of self.old)) (owed_of self.old) (unit_text unit) (K.written (sink_of self.new)) (owed_of self.new)) }
         ensures front { OnErr result (WritesFront (K.written (sink_of self.old)) (K.written (sink_of self.new)) (owed_of self.old ++ unit_text unit)) }
+        ensures part { OnErr result (WritesPart (K.written (sink_of self.old)) (K.written (sink_of self.new)) (owed_of self.old ++ unit_text unit)) }
         ensures cause { HasAirCause (K.faults (sink_of self.old)) (K.faults (sink_of self.new)) result }
     {
         put_unit(unit, &mut self.line);
         self.tell()
     }
 
-    /// Writes what is owed, and then owes nothing. After an error a front part of it was written.
+    /// Writes what is owed, and then owes nothing. After an error a front part of it was written and not all.
     ///
     /// # Errors
     ///
-    /// `Failed` only where the sink's count of faults rose.
+    /// `Failed` exactly where the sink's count of faults rose.
     pub fn finish(&mut self) -> Result<(), AirFault>
         ensures sink_reference { sink_name self.new ≡ sink_name self.old }
         ensures mixer_reference { mixer_name self.new ≡ mixer_name self.old }
         ensures mixer { mixer_of self.new ≡ mixer_of self.old }
         ensures all { OnOk result (K.written (sink_of self.new) ≡ append_known (K.written (sink_of self.old)) (owed_of self.old)) }
         ensures front { WritesFront (K.written (sink_of self.old)) (K.written (sink_of self.new)) (owed_of self.old) }
+        ensures part { OnErr result (WritesPart (K.written (sink_of self.old)) (K.written (sink_of self.new)) (owed_of self.old)) }
         ensures owed { OnOk result (owed_of self.new ≡ []) }
         ensures cause { HasAirCause (K.faults (sink_of self.old)) (K.faults (sink_of self.new)) result }
     {
