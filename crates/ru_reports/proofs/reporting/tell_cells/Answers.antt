@@ -1,4 +1,4 @@
-use Rattle.std.proofs.Common.{rules, ℕ, List, subst, sym, arith}
+use Rattle.std.proofs.Common.{ℕ, List, refl, subst, sym, ◌∙◌}
 use Rattle.ru_reports.specs.Symbols.{CountsTold}
 use Rattle.ru_reports.specs.Tellings.{lent_below}
 use Rattle.ru_reports.proofs.ReportLemmas.{counts_more, counts_zero, heard_more, heard_none, stops_there}
@@ -9,7 +9,7 @@ loop-prb-init g c = record {
   heard = heard_none g.A.Air.grew c.args.cells.now c.args.m.now c.args.air.now (g.met.A.Air.grew_none c.args.air.now);
   counts = counts_zero c.args.cells.now c.args.m.now c.args.counters.now;
   same = g.met.A.Air.same_none c.args.air.now;
-  later = omega arith;
+  still = refl;
 }
 
 pub loop-prb-preserved : goal.loop-prb-preserved
@@ -19,7 +19,7 @@ loop-prb-preserved g c = record {
   counts = counts_more c.args.cells.now c.args.m.now c.loop-prb.prb c.args.counters.now c.loop-prb.counters c.tell_cell.new.counters
       c.loop-prb.invariant.counts c.in-Ok.ensures.counts;
   same = g.met.A.Air.same_more c.args.air.now c.loop-prb.air c.tell_cell.new.air c.loop-prb.invariant.same c.tell_cell.ensures.same;
-  later = search rules;
+  still = c.in-Ok.ensures.cause ∙ c.loop-prb.invariant.still;
 }
 
 pub returns-in-Err-clause-counts : goal.returns-in-Err-clause-counts

@@ -1,4 +1,4 @@
-use Rattle.std.proofs.Common.{◌≤◌, map}
+use Rattle.std.proofs.Common.{◌≡◌, map}
 use Rattle.air_source.specs.declared.events.Event.TheVariants.{Cell as Reported}
 use Rattle.ru_reports.specs.Symbols.{CountsTold}
 use Rattle.ru_reports.specs.Tellings.{lent_below}
@@ -9,5 +9,5 @@ invariant-loop-prb g l = record {
   heard : g.A.Air.grew l.initial.air (map Reported (lent_below l.cells l.m l.prb)) l.air;
   counts : CountsTold (lent_below l.cells l.m l.prb) l.initial.counters l.counters;
   same : g.A.Air.same l.initial.air l.air;
-  later : g.A.Air.faults l.initial.air ≤ g.A.Air.faults l.air;
+  still : g.A.Air.faults l.air ≡ g.A.Air.faults l.initial.air;
 }
