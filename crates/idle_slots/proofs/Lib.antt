@@ -1,0 +1,4 @@
+pub mod SlotLemmas
+pub mod FlagLemmas
+pub mod RunLemmas
+pub mod NextLemmas
