@@ -1,18 +1,17 @@
 -- A document of the grammar stays one at every unit.
-use Rattle.std.proofs.Common.{◌≡◌, ℕ, ℤ, pos, ◌+ℤ◌, ◌≤ℤ◌, ◌≤◌, ◌<◌, ◌*◌, ◌%◌, ◌||◌, Bool, true, false, cond, List, [], ◌∷◌, map, length, All, refl, ap, ap₂, sym, ◌∙◌, subst, arith}
+use Rattle.std.proofs.Common.{◌≡◌, ℕ, ℤ, pos, ◌+ℤ◌, ◌≤ℤ◌, ◌≤◌, ◌*◌, ◌||◌, Bool, true, false, cond, List, [], ◌∷◌, map, length, All, refl, ap, sym, ◌∙◌, subst, arith, Option, Some, None}
+use Rattle.std.specs.Prelude.{IfSome}
 use Rattle.std.specs.Int.{int_min}
-use Rattle.std.specs.List.{list_any}
+use Rattle.std.specs.Option.{option_map}
 use Rattle.std.proofs.lemmas.Int.{clamps, ints}
 use Rattle.std.proofs.lemmas.List.{length-map}
 use Rattle.std.proofs.lemmas.List.Elements.{All-map}
 use Rattle.fh_document.specs.Delivered.{has_like, is_like}
 use Rattle.fh_document.specs.DeliverLines.{least_of}
-use Rattle.fh_document.specs.Proper.{AreApart, IsDelivery, IsDocument, IsFrom}
+use Rattle.fh_document.specs.Proper.{AreApart, IsDelivery, IsFrom}
 use Rattle.fh_document.specs.declared.config_lines.TheConstants.{MOST_TRANSIT}
-use Rattle.fh_document.specs.declared.delivered.Class3.{Class3}
-use Rattle.fh_document.specs.declared.delivered.Class3.TheVariants.{C, U, M}
 use Rattle.fh_document.specs.declared.delivered.Delivery.{Delivery}
-use Rattle.unit_documents.specs.Units.{UnitsAreDocuments, moved, moved_delivery, moves, unit_of}
+use Rattle.unit_documents.specs.Units.{UnitsAreDocuments, moved, moved_delivery, moves}
 
 at_most : (a b : ℤ) → int_min a b ≤ℤ b
 at_most a b = omega (arith, ints, clamps)
@@ -32,6 +31,10 @@ moved_from more least ns h = record {
   low = at_least (ns +ℤ pos more) (pos MOST_TRANSIT) (pos least) (further more least ns h.low) (over (pos least) ns (pos MOST_TRANSIT) h.low h.high);
   high = at_most (ns +ℤ pos more) (pos MOST_TRANSIT);
 }
+
+moved_way : (more : ℕ) (time : Option ℤ) → IfSome time (IsFrom 0 MOST_TRANSIT) → IfSome (option_map (moved more) time) (IsFrom 0 MOST_TRANSIT)
+moved_way more None h = tt
+moved_way more (Some ns) h = moved_from more 0 ns h
 
 moved_times : (more least : ℕ) (b : Bool) (times : List ℤ) → All (IsFrom least MOST_TRANSIT) times → All (IsFrom least MOST_TRANSIT) (cond b (map (moved more) times) times)
 moved_times more least true times h = All-map (IsFrom least MOST_TRANSIT) (moved more) times (λ k d lt. moved_from more least _ (h k d lt))
@@ -68,7 +71,7 @@ are_documents d unit step h = record {
   source = h.source;
   antenna = record { low = h.antenna.low; high = h.antenna.high };
   comps = h.comps;
-  transits = record { dl = moved_from (unit * step) 0 d.transits.dl h.transits.dl; ul = h.transits.ul; m = h.transits.m };
+  transits = record { dl = moved_way (unit * step) d.transits.dl h.transits.dl; ul = h.transits.ul; m = h.transits.m };
   deliveries = All-map IsDelivery (moved_delivery (unit * step)) d.deliveries (λ k x lt. moved_is (unit * step) _ (h.deliveries k x lt));
   frames = apart_moved (unit * step) d.deliveries h.frames;
   injections = h.injections;

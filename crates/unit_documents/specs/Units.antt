@@ -1,6 +1,7 @@
 -- The documents of the units of a shared cell (this project's profile).
-use Rattle.std.specs.Prelude.{◌≡◌, ℕ, ℤ, pos, ◌+ℤ◌, ◌+◌, ◌*◌, ◌%◌, ◌^◌, Bool, true, false, if◌then◌else◌, List, map}
+use Rattle.std.specs.Prelude.{ℕ, ℤ, pos, ◌+ℤ◌, ◌+◌, ◌*◌, ◌%◌, ◌^◌, Bool, true, false, if◌then◌else◌, map}
 use Rattle.std.specs.Int.{int_min}
+use Rattle.std.specs.Option.{option_map}
 use Rattle.air_source.specs.declared.events.Side.{Side}
 use Rattle.air_source.specs.declared.events.Side.TheVariants.{Ru, Du}
 use Rattle.fh_document.specs.Proper.{IsDocument}
@@ -27,9 +28,9 @@ moves Du class = false
 abbrev pub moved_delivery : ℕ → Delivery → Delivery
 moved_delivery more d = record { side = d.side; class = d.class; k = d.k; copies = if moves d.side d.class then map (moved more) d.copies else d.copies }
 
--- how long frames are on their way where no line says it of one frame
+-- how long frames are on their way where no line says it of one frame: those that are lost are lost at each unit
 abbrev pub unit_transits : ℕ → Transits → Transits
-unit_transits more t = record { dl = moved more t.dl; ul = t.ul; m = t.m }
+unit_transits more t = record { dl = option_map (moved more) t.dl; ul = t.ul; m = t.m }
 
 -- the samples that a unit's antenna takes in
 abbrev pub unit_tone : ℕ → Tone → Tone

@@ -1,7 +1,9 @@
 // The document of a unit.
-ghost use Rattle.std.specs.Prelude.{◌≡◌, ◌<◌, ◌^◌, IfOk};
-ghost use Rattle.fh_document.specs.Proper.{AreTransits, IsDocument};
-ghost use Rattle.unit_documents.specs.Units.{unit_of, unit_tone, unit_transits, UnitsAreDocuments};
+ghost use Rattle.std.specs.Prelude.{◌≡◌, ◌<◌, ◌^◌, IfOk, IfSome};
+ghost use Rattle.std.specs.Option.{option_map};
+ghost use Rattle.fh_document.specs.Proper.{AreTransits, IsDocument, IsFrom};
+ghost use Rattle.fh_document.specs.declared.config_lines.TheConstants.{MOST_TRANSIT};
+ghost use Rattle.unit_documents.specs.Units.{moved, unit_of, unit_tone, unit_transits, UnitsAreDocuments};
 
 use crate::copying::{copy_config, copy_injections, copy_list};
 use crate::moving::{moved, moved_deliveries};
@@ -19,6 +21,18 @@ fn unit_tone(antenna: Tone, unit: u8) -> Tone
     }
 }
 
+/// How long frames of a way that is longer are on it, where they are not lost.
+fn moved_way(time: Option<i64>, more: u64) -> Option<i64>
+    requires time { IfSome time (IsFrom 0 MOST_TRANSIT) }
+    requires more { more < 2 ^ 48 }
+    ensures { result ≡ option_map (moved more) time }
+{
+    match time {
+        Some(ns) => Some(moved(ns, more)),
+        None => None,
+    }
+}
+
 /// How long frames are on their way to a unit, and from it.
 fn unit_transits(transits: Transits, more: u64) -> Transits
     requires transits { AreTransits transits }
@@ -26,7 +40,7 @@ fn unit_transits(transits: Transits, more: u64) -> Transits
     ensures { result ≡ unit_transits more transits }
 {
     Transits {
-        dl: moved(transits.dl, more),
+        dl: moved_way(transits.dl, more),
         ul: transits.ul,
         m: transits.m,
     }
@@ -35,7 +49,7 @@ fn unit_transits(transits: Transits, more: u64) -> Transits
 /// The document of unit `unit`, counted from 0, of a shared cell whose units are `step` nanoseconds apart.
 ///
 /// Its downlink frames of the C-plane and the U-plane are `unit * step` nanoseconds longer on their way than those of `doc`, three
-/// seconds at most; a frame that is lost is lost. The seed of its antenna is that of `doc` and `unit` more, modulo 2^32. All else is the
+/// seconds at most; a frame that is lost there is lost here. The seed of its antenna is that of `doc` and `unit` more, modulo 2^32. All else is the
 /// document's, frames of delay measurement too.
 ///
 /// # Errors

@@ -1,4 +1,4 @@
-use Rattle.std.proofs.Common.{◌≡◌, ◌≤◌, length, map, take}
+use Rattle.std.proofs.Common.{◌≡◌, take}
 use Rattle.unit_documents.proofs.copying.copy_list.Given as goal
 
 abbrev pub invariant-loop-k : goal.invariant-loop-k

@@ -1,4 +1,4 @@
-use Rattle.std.proofs.Common.{◌≡◌, ◌≤◌, length, map, take}
+use Rattle.std.proofs.Common.{◌≡◌, map, take}
 use Rattle.unit_documents.specs.Units.{moved_delivery}
 use Rattle.unit_documents.proofs.moving.moved_deliveries.Given as goal
 
