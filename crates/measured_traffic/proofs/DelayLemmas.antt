@@ -22,6 +22,7 @@ use Rattle.document_delays.proofs.Documents.{document_delays, document_exact}
 use Rattle.document_delays.specs.Settings.{no_others, setting_of}
 use Rattle.document_traffic.specs.Laws.{IsReplayable}
 use Rattle.document_delays.specs.fh_document.specs.declared.document.Document.{Document}
+use Rattle.uplink_turns.specs.replay_events.proofs.EndLemmas.{lands_by_end}
 use Rattle.uplink_turns.specs.replay_events.specs.Events.{events}
 use Rattle.uplink_turns.specs.replay_events.specs.Moments.{end_of_time, landing_at}
 use Rattle.uplink_turns.specs.replay_events.specs.declared.results.DelayResult.{DelayResult}
@@ -177,7 +178,7 @@ module _ (d : Document) (is : IsReplayable d) (P : ℕ → ℤ → Type 0) (know
       (λ early. results_none side t (none_at t (landings_for side d) (All-weaker (λ (a : Arrival). first_clock ≤ℤ a.at) (λ (a : Arrival). a.at ≡ t → ⊥) (λ a. too_early first_clock t a.at early) (landings_for side d) landings.begun)))
       (λ low.
       by_lt_z end_of_time t
-      (λ late. results_none side t (none_at t (landings_for side d) (All-weaker (λ (a : Arrival). a.at ≤ℤ end_of_time) (λ (a : Arrival). a.at ≡ t → ⊥) (λ a. too_late end_of_time t a.at late) (landings_for side d) landings.ended)))
+      (λ late. results_none side t (none_at t (landings_for side d) (All-weaker (λ (a : Arrival). a.at ≤ℤ end_of_time) (λ (a : Arrival). a.at ≡ t → ⊥) (λ a. too_late end_of_time t a.at late) (landings_for side d) (lands_by_end (landings_for side d) landings))))
       (λ high.
       let n = int_gap first_clock t in
       let m = int_gap (t +ℤ pos 1) (end_of_time +ℤ pos 1) in

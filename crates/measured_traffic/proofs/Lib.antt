@@ -21,3 +21,6 @@ pub mod SideLemmas
 pub mod LaunchLemmas
 pub mod TurnLemmas
 pub mod DelayLemmas
+pub mod OverLemmas
+pub mod ExchangedLemmas
+pub mod CountedLemmas

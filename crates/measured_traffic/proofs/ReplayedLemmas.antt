@@ -1,4 +1,4 @@
--- All that lands with the frames of delay measurement lands while it is replayed.
+-- All that lands with the frames of delay measurement lands a second before the end of time.
 use Rattle.std.proofs.Common.{ℤ, pos, ◌+ℤ◌, ◌≤ℤ◌, inl, inr, ◌⊎◌, List, [], ◌∷◌, refl, sym, subst, arith}
 use Rattle.std.specs.List.{flat_map}
 use Rattle.std.specs.Ordering.{int_eq}
@@ -18,7 +18,7 @@ use Rattle.uplink_turns.specs.plan_model.specs.Valid.{IsValid}
 use Rattle.uplink_turns.specs.schedule_laws.proofs.ListLemmas.{of_map, of_tick}
 use Rattle.uplink_turns.specs.unit_model.specs.Meetings.{Arrival}
 use Rattle.uplink_turns.specs.unit_model.specs.Radiated.{first_clock}
-use Rattle.uplink_turns.specs.unit_model.specs.Times.{end_of_time, tick_count}
+use Rattle.uplink_turns.specs.unit_model.specs.Times.{last_landing, tick_count}
 use Rattle.document_delays.specs.window_config.specs.Windows.{ticks_of_ns}
 use Rattle.uplink_turns.specs.plan_model.proofs.ListLemmas.{in_either, of_filter}
 use Rattle.measured_traffic.proofs.FlightLemmas.{flown_after, flown_before}
@@ -49,31 +49,31 @@ of_sent xs fs a m =
       | inr r ↦ (let f = of_flown (flights_then fs t) a r in inr (f.0, (of_filter (λ (g : Flight). int_eq g.at t) f.0 fs f.1).0, f.2))
     ]
 
-by_the_end : (last t : ℤ) → last ≤ℤ end_of_time → IsBy last t → IsBy end_of_time t
-by_the_end last t order by = record { low = by.low; high = (let h = by.high in omega (arith, ints, order, h)) }
+by_last : (last t : ℤ) → last ≤ℤ last_landing → IsBy last t → IsBy last_landing t
+by_last last t order by = record { low = by.low; high = (let h = by.high in omega (arith, ints, order, h)) }
 
-seconds_in_time : ticks_of_ns (pos 1009000000000) ≤ℤ end_of_time
+seconds_in_time : ticks_of_ns (pos 1009000000000) ≤ℤ last_landing
 seconds_in_time = omega (arith, ints)
 
-end_is_end : end_of_time ≤ℤ end_of_time
-end_is_end = omega (arith, ints)
+last_is_last : last_landing ≤ℤ last_landing
+last_is_last = omega (arith, ints)
 
 module _ (d : Document) (side : Side) (is : IsDocument d) (valid : IsValid d.config d.plan) where
-  copy_in_time : (a : Arrival) → IsCopy (all_delayed side d) ((exchanges d).sent side) a → IsBy end_of_time a.at
+  copy_in_time : (a : Arrival) → IsCopy (all_delayed side d) ((exchanges d).sent side) a → IsBy last_landing a.at
   copy_in_time a (inl x) =
-      by_the_end (last_leaving side +ℤ longest) a.at (landing_in_time side) (copy_of_each d is side (leaving_to side d) (last_leaving side) (leaving_late side) (each_leaves side d is valid) x.0 a x.1 x.2)
+      by_last (last_leaving side +ℤ longest) a.at (landing_in_time side) (copy_of_each d is side (leaving_to side d) (last_leaving side) (leaving_late side) (each_leaves side d is valid) x.0 a x.1 x.2)
   copy_in_time a (inr f) =
       let w = of_map (flight_copy f.0) a f.0.delays f.2 in
-      subst (λ (b : Arrival). IsBy end_of_time b.at) (sym w.2)
-      (by_the_end (ticks_of_ns (pos 1009000000000)) (f.0.at +ℤ w.0) seconds_in_time (record { low = flown_after d is side f.0 w.0 f.1 w.1; high = flown_before d is side f.0 w.0 f.1 w.1 }))
+      subst (λ (b : Arrival). IsBy last_landing b.at) (sym w.2)
+      (by_last (ticks_of_ns (pos 1009000000000)) (f.0.at +ℤ w.0) seconds_in_time (record { low = flown_after d is side f.0 w.0 f.1 w.1; high = flown_before d is side f.0 w.0 f.1 w.1 }))
 
-  each_in_time : (a : Arrival) → IsIn a (landings_apart side d) → IsBy end_of_time a.at
+  each_in_time : (a : Arrival) → IsIn a (landings_apart side d) → IsBy last_landing a.at
   each_in_time a m = elim (in_either a (all_sent (all_delayed side d) ((exchanges d).sent side)) (injected_to side d) m) [
     | inl sent ↦ copy_in_time a (of_sent (all_delayed side d) ((exchanges d).sent side) a sent)
-    | inr injected ↦ by_the_end (last_leaving side +ℤ longest) a.at (landing_in_time side) (injected_of_each d is side (leaving_to side d) (last_leaving side) (leaving_late side) (each_leaves side d is valid) a injected)
+    | inr injected ↦ by_last (last_leaving side +ℤ longest) a.at (landing_in_time side) (injected_of_each d is side (leaving_to side d) (last_leaving side) (leaving_late side) (each_leaves side d is valid) a injected)
   ]
 
 pub landings_are_replayed : LandingsAreReplayed
 landings_are_replayed d side is =
-    replayed_by end_of_time (landings_for side d) end_is_end
+    replayed_by last_landing (landings_for side d) last_is_last
     (λ a m. each_in_time d side is.document is.valid a (subst (λ (landings : List Arrival). IsIn a landings) (lands_alike side d) m))

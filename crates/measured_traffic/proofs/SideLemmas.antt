@@ -94,7 +94,7 @@ takes w side t h d m s =
           ∙ sym (append-nil (known_then w h.heard (came_heard side t m)))),
     )
 
-follows_one : (w : Setting) (side : Side) (t : ℤ) (h : Hearing) (d : Doings) (m : Message) → IsSideOf side h d → Follows w side t h d (delays_of m) (with_message (w.comps side) t d m)
+pub follows_one : (w : Setting) (side : Side) (t : ℤ) (h : Hearing) (d : Doings) (m : Message) → IsSideOf side h d → Follows w side t h d (delays_of m) (with_message (w.comps side) t d m)
 follows_one w side t h d m s = elim (cases_Bool (is_delay m)) [
   | inl is ↦
       let long : Follows w side t h d (option_to_list (read_as m.payload)) (if ltb (length m.payload) 20 then _ else _) = elim (cases_Bool (ltb (length m.payload) 20)) [
@@ -110,7 +110,7 @@ pub all_told : (w : Setting) (side : Side) (t : ℤ) (h : Hearing) (xs ys : List
 all_told w side t h [] ys = refl
 all_told w side t h (x ∷ xs) ys = all_told w side t (told_one w h (came_heard side t x)) xs ys
 
-all_known : (w : Setting) (side : Side) (t : ℤ) (h : Hearing) (xs ys : List DelayMessage)
+pub all_known : (w : Setting) (side : Side) (t : ℤ) (h : Hearing) (xs ys : List DelayMessage)
     → known_while w h (map (came_heard side t) (xs ++ ys)) ≡ known_while w h (map (came_heard side t) xs) ++ known_while w (told_all w h (map (came_heard side t) xs)) (map (came_heard side t) ys)
 all_known w side t h [] ys = refl
 all_known w side t h (x ∷ xs) ys =
@@ -135,7 +135,7 @@ follows_all w side t h d (m ∷ ms) s =
           ∙ ap (λ (es : List Event). events d.results ++ es) (sym (all_known w side t h xs ys)),
     )
 
-cleared : (side : Side) (h : Hearing) (d : Doings) → IsSideOf side h d → IsSideOf side h (forgotten d)
+pub cleared : (side : Side) (h : Hearing) (d : Doings) → IsSideOf side h d → IsSideOf side h (forgotten d)
 cleared side h d s = record { told = s.told; made = s.made }
 
 pub frames_told : SidesAreTold
@@ -147,7 +147,7 @@ results_known w side h d t frame s = (follows_all w side t h (forgotten d) (whol
 -- ---- the measurements that begin at it
 
 -- it goes on with its side, whichever unit is told something
-either_told : (w : Setting) (side to : Side) (h : Hearing) (d : Doings) (one : Told) → IsSideOf side h d → IsSideOf side (told_one w h (heard_at to one)) (if same_side side to then told_in (w.comps side) d one else d)
+pub either_told : (w : Setting) (side to : Side) (h : Hearing) (d : Doings) (one : Told) → IsSideOf side h d → IsSideOf side (told_one w h (heard_at to one)) (if same_side side to then told_in (w.comps side) d one else d)
 either_told w Ru Ru h d one s = one_told w Ru h d one s
 either_told w Ru Du h d one s = stays w Du h d one s
 either_told w Du Ru h d one s = stays w Ru h d one s

@@ -90,7 +90,7 @@ doings_wait d side now tick begun order quiet =
 
 -- ---- each unit is its side of what both hear
 
-nothing_heard : (w : Setting) (first : ℤ) → (state w first zero).heard ≡ []
+pub nothing_heard : (w : Setting) (first : ℤ) → (state w first zero).heard ≡ []
 unfolding state
 nothing_heard w first = refl
 

@@ -101,6 +101,6 @@ UnmeasuredLandsTheSame =
     (d : Document) (side : Side) → d.measures ≡ [] → All (λ i. delay_messages i.frame ≡ []) d.injections
     → landings_for side d ≡ landings_at side (planned_traffic d)
 
--- all that lands at a unit has its time between the first clock and the end of time
+-- all that lands at a unit has its time between the first clock and 1,099 s
 abbrev pub LandingsAreReplayed : Type 0
 LandingsAreReplayed = (d : Document) (side : Side) → IsReplayable d → AreLandings (landings_for side d)

@@ -22,3 +22,5 @@ pub mod Laws
 pub mod Turns
 pub mod Once
 pub mod Delays
+pub mod Exchanged
+pub mod Ends

@@ -5,6 +5,8 @@
 #![tactic(auto)]
 
 ghost use Rattle.measured_traffic.specs.Delays.{DelaysAreExact, DelaysAreMeasured, EventsAreExact, EventsAreMeasured};
+ghost use Rattle.measured_traffic.specs.Ends.{DocumentsAreOver};
+ghost use Rattle.measured_traffic.specs.Exchanged.{DelaysAreTold};
 ghost use Rattle.measured_traffic.specs.Laws.{DocumentsAreDistinct, FramesAreCounted, FramesAreRead, FramesAreWritten, LandingsAreReplayed, MeasurementRests, MessagesAreOwed, MessagesLand, OnlyDelaysRest, UnmeasuredLandsTheSame};
 ghost use Rattle.measured_traffic.specs.Once.{ScheduleRadiatesOnce, UplinkIsTakenInOnce};
 ghost use Rattle.measured_traffic.specs.Sides.{SidesAreTold, OneIsTold, OthersStay, ResultsAreKnown};
@@ -46,9 +48,14 @@ pub fn leaving_goes_on()
     ensures uplink { UplinkLeavesInTurn }
 {}
 
-/// All that lands at either unit for a document with a valid plan has its time between the first clock and the end of time.
+/// All that lands at either unit for a document with a valid plan has its time between the first clock and 1,099 s.
 pub fn landings_are_replayed()
     ensures { LandingsAreReplayed }
+{}
+
+/// Once all up to the end of time is reported and given for such a document, no cell is due at either unit, and no message, up to any time.
+pub fn documents_are_over()
+    ensures { DocumentsAreOver }
 {}
 
 /// Of delay measurement comes at each tick, in order, what both units were said to be told then, where the frames of the classes c and u
@@ -97,4 +104,10 @@ pub fn delays_are_measured()
     ensures results_exact { DelaysAreExact }
     ensures events { EventsAreMeasured }
     ensures events_exact { EventsAreExact }
+{}
+
+/// The events of delays of a document's replay are the delays that became known to both units by what they were told and sent, in that
+/// order, and each unit's four counters of delay measurement count what it was told so, and the messages that are too short.
+pub fn delays_are_told()
+    ensures { DelaysAreTold }
 {}
