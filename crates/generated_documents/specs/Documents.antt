@@ -1,5 +1,5 @@
 -- The document that a generated text says.
-use Rattle.std.specs.Prelude.{◌≡◌, ℕ, zero, suc, pos, ◌+◌, ◌*◌, ◌%◌, ◌^◌, ◌<◌, ◌≤◌, List, [], ◌∷◌, Ok}
+use Rattle.std.specs.Prelude.{◌≡◌, ℕ, zero, suc, pos, ◌+◌, ◌*◌, ◌%◌, ◌^◌, ◌<◌, ◌≤◌, List, [], ◌∷◌, Some, Ok}
 use Rattle.fh_document.specs.declared.delivered.Class3.TheVariants.{U}
 use Rattle.fh_document.specs.declared.delivered.Delivery.{Delivery}
 use Rattle.fh_document.specs.declared.document.Document.{Document}
@@ -31,7 +31,7 @@ document seed slots = record {
   source = record { seed = seed; amplitude = 1000 };
   antenna = record { seed = seed; amplitude = 1000 };
   comps = record { du_sending = pos 0; du_receiving = pos 0; ru_sending = pos 0; ru_receiving = pos 0 };
-  transits = record { dl = pos 50000; ul = pos 50000; m = pos 50000 };
+  transits = record { dl = Some (pos 50000); ul = Some (pos 50000); m = pos 50000 };
   deliveries = deliveries_from seed 0 slots;
   injections = [];
   measures = [];
