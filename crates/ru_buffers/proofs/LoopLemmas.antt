@@ -1,14 +1,12 @@
 -- The loop that reports symbol by symbol, and the calls above it.
 use Rattle.std.proofs.Common.{◌≡◌, ℕ, suc, ℤ, pos, ◌-◌, ◌<◌, ◌≤◌, ◌≤ℤ◌, ◌<ℤ◌, ◌^◌, neg_ℤ, true, List, [], ◌∷◌, ◌++◌, length, map, refl, sym, ap, ◌∙◌, subst, arith, append-nil}
-use Rattle.std.specs.Prelude.{Option, Some, None, Result, Ok, Err}
-use Rattle.std.proofs.Math.Nat.{le_refl, le_trans}
+use Rattle.std.specs.Prelude.{Option, Some, None, Result, Err}
 use Rattle.radio_laws.specs.history_laws.specs.air_source.specs.Causes.{HasAirCause}
 use Rattle.radio_laws.specs.history_laws.specs.air_source.specs.declared.airs.AirFault.{AirFault}
-use Rattle.radio_laws.specs.history_laws.specs.air_source.specs.declared.airs.AirFault.TheVariants.{Failed}
 use Rattle.std.proofs.lemmas.Int.{ints}
 use Rattle.std.proofs.lemmas.List.{map-append}
 use Rattle.std.proofs.lemmas.Option.{slice_get_within}
-use Rattle.fh_base.proofs.Causes.{rose_since}
+use Rattle.radio_laws.specs.history_laws.specs.air_source.proofs.Causes.{air_cause_since}
 use Rattle.fh_time.specs.declared.values.Ticks.{Ticks}
 use Rattle.fh_time.proofs.Order.{slots_few, symbols_few}
 use Rattle.radio_laws.specs.history_laws.specs.air_source.specs.declared.events.AirCell.{AirCell}
@@ -149,7 +147,7 @@ pub record IsReporting {A : Type 0} (grew : A → List Event → A → Type 0) (
   pub known : SameKnown start.memory.cells now.memory.cells
   pub endpoints : endpoints_of now.memory.cells ≡ endpoints_of start.memory.cells
   pub same_air : same before air
-  pub later : faults before ≤ faults air
+  pub still : faults air ≡ faults before
 
 none_yet : {A : Type 0} (grew : A → List Event → A → Type 0) → ((a : A) → grew a [] a) → (u : Ru) (air : A) (to : ℤ) (c : Config) (h : History) → StandsFor c u h
     → GoesOn grew c h to u air air
@@ -174,7 +172,7 @@ reporting_starts grew same faults to u air empty unchanged next = record {
   known = same_known u.memory.cells;
   endpoints = refl;
   same_air = unchanged air;
-  later = le_refl (faults air);
+  still = refl;
 }
 
 at_clock : (to_clock clock : Ticks) (to : ℤ) (m : SymbolStart) (old new : CellsValue) → to_clock ≡ clock → IsNextReport to_clock.0 to m old new → IsNextReport clock.0 to m old new
@@ -295,8 +293,8 @@ pub reporting_goes : {A : Type 0} (grew : A → List Event → A → Type 0) (sa
     → IsReporting grew same faults to start now before air last
     → ((c : Config) (h : History) → StandsFor c now h → GoesOn grew c h to new air after) → IsNextReport now.clock.0 to m now.memory.cells new.memory.cells
     → new.clock ≡ now.clock → new.cursor ≡ now.cursor → IsNextSymbol new.memory.cells new.clock.0 new.symbol → SameKnown now.memory.cells new.memory.cells → endpoints_of new.memory.cells ≡ endpoints_of now.memory.cells
-    → same air after → faults air ≤ faults after → IsReporting grew same faults to start new before after (Some m)
-reporting_goes grew same faults to start now new before air after last m more same_more few low r told next clock cursor first known endpoints same_then later =
+    → same air after → faults after ≡ faults air → IsReporting grew same faults to start new before after (Some m)
+reporting_goes grew same faults to start now new before air after last m more same_more few low r told next clock cursor first known endpoints same_then still =
     let next_at = at_clock now.clock start.clock to m now.memory.cells new.memory.cells r.clock next in
     record {
       goes = λ c h all. goes_then grew more to now new before air after c h (r.goes c h all) (told c (heard h (r.goes c h all).told) (r.goes c h all).stands);
@@ -311,7 +309,7 @@ reporting_goes grew same faults to start now new before air after last m more sa
       known = known_then start.memory.cells now.memory.cells new.memory.cells r.known known;
       endpoints = endpoints ∙ r.endpoints;
       same_air = same_more before air after r.same_air same_then;
-      later = le_trans r.later later;
+      still = still ∙ r.still;
     }
 
 pub loop_falls : {A : Type 0} (grew : A → List Event → A → Type 0) (same : A → A → Type 0) (faults : A → ℕ) (to : ℤ) (start now new : Ru) (before air : A)
@@ -349,21 +347,7 @@ over_at_none grew c h to old new before after o e is = subst (AfterReport grew c
 
 -- ---- causes
 
-same_fault : {U : Type 0} (a b : AirFault) → (let r : Result U AirFault = Err a in r ≡ Err b) → a ≡ b
-same_fault a b e = cc
-
-as_err : {T : Type 0} (a b : AirFault) → a ≡ b → (let r : Result T AirFault = Err a in r ≡ Err b)
-as_err a b e = ap (λ (x : AirFault). Err x) e
-
-pub cause_then : {T U : Type 0} (first before now : ℕ) (fault : AirFault) → first ≤ before
-    → (let one : Result T AirFault = Err fault in HasAirCause before now one) → (let two : Result U AirFault = Err fault in HasAirCause first now two)
-cause_then first before now fault order cause = record {
-  later = le_trans order cause.later;
-  failed = λ e. rose_since first before now order (cause.failed (as_err fault Failed (same_fault fault Failed e)));
-}
-
-no_error : {U : Type 0} (value : U) → (let r : Result U AirFault = Ok value in r ≡ Err Failed) → ⊥
-no_error value e = cc
-
-pub cause_ok : {U : Type 0} (first before now : ℕ) (value : U) → first ≤ before → before ≤ now → (let two : Result U AirFault = Ok value in HasAirCause first now two)
-cause_ok first before now value order later = record { later = le_trans order later; failed = λ e. absurd (no_error value e) }
+-- of an error before which the count stood still
+pub cause_then : (first before now : ℕ) (fault : AirFault) → before ≡ first
+    → (let one : Result (Unit {0}) AirFault = Err fault in HasAirCause before now one) → (let one : Result (Unit {0}) AirFault = Err fault in HasAirCause first now one)
+cause_then first before now fault still cause = air_cause_since {T = Unit {0}} first before now (Err fault) still cause

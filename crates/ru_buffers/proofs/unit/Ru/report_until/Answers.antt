@@ -1,6 +1,6 @@
 use Rattle.std.proofs.Common.{◌∙◌}
 use Rattle.radio_laws.specs.history_laws.specs.unit_model.specs.Standing.{heard}
-use Rattle.ru_buffers.proofs.LoopLemmas.{cause_ok, cause_then, goes_some, known_then, loop_falls, next_some, over_at_none, reporting_goes, reporting_starts, stops_then, told_over}
+use Rattle.ru_buffers.proofs.LoopLemmas.{cause_then, goes_some, known_then, loop_falls, next_some, over_at_none, reporting_goes, reporting_starts, stops_then, told_over}
 use Rattle.ru_buffers.proofs.unit.Ru.report_until.Goals as goal
 
 pub loop-reported-init : goal.loop-reported-init
@@ -21,7 +21,7 @@ loop-reported-preserved g c =
     (λ k h all. goes_some g.A.Air.grew k h c.args.to.0 c.loop-reported.self c.report_next.new.self c.loop-reported.air c.report_next.new.air c.in-Ok-Some.field-0 c.in-Ok-Some.reported
     c.in-Ok-Some.field-0-is (next.told k h all))
     (next_some c.loop-reported.self.clock.0 c.args.to.0 c.loop-reported.self.memory.cells c.report_next.new.self.memory.cells c.in-Ok-Some.field-0 c.in-Ok-Some.reported c.in-Ok-Some.field-0-is
-    next.order) next.clock next.cursor next.next next.known next.endpoints next.same next.cause.later
+    next.order) next.clock next.cursor next.next next.known next.endpoints next.same next.cause
 
 pub returns-in-Ok-None-clause-told : goal.returns-in-Ok-None-clause-told
 returns-in-Ok-None-clause-told g c k h all =
@@ -63,14 +63,12 @@ pub returns-in-Err-clause-same : goal.returns-in-Err-clause-same
 returns-in-Err-clause-same g c = g.met.A.Air.same_more c.args.air.now c.loop-reported.air c.report_next.new.air c.loop-reported.invariant.same_air c.report_next.ensures.same
 
 pub returns-in-Ok-None-clause-cause : goal.returns-in-Ok-None-clause-cause
-returns-in-Ok-None-clause-cause g c =
-    cause_ok (g.A.Air.faults c.args.air.now) (g.A.Air.faults c.loop-reported.air) (g.A.Air.faults c.report_next.new.air) c.loop-reported.last
-    c.loop-reported.invariant.later c.report_next.ensures.cause.later
+returns-in-Ok-None-clause-cause g c = c.in-Ok-None.ensures.cause ∙ c.loop-reported.invariant.still
 
 pub returns-in-Err-clause-cause : goal.returns-in-Err-clause-cause
 returns-in-Err-clause-cause g c =
     cause_then (g.A.Air.faults c.args.air.now) (g.A.Air.faults c.loop-reported.air) (g.A.Air.faults c.report_next.new.air) c.in-Err.fault
-    c.loop-reported.invariant.later c.in-Err.ensures.cause
+    c.loop-reported.invariant.still c.in-Err.ensures.cause
 
 pub returns-in-Err-clause-stop : goal.returns-in-Err-clause-stop
 returns-in-Err-clause-stop g c k h all =
