@@ -4,7 +4,6 @@ use Rattle.std.specs.Prelude.{IfSome}
 use Rattle.std.proofs.lemmas.List.{map-append}
 use Rattle.std.proofs.lemmas.Option.{MatchOption-at_some}
 use Rattle.std.specs.Int.Signed.{≤ℤ_refl}
-use Rattle.std.proofs.Math.Nat.{le_refl, le_trans}
 use Rattle.air_source.specs.declared.events.AirCell.{AirCell}
 use Rattle.air_source.specs.declared.events.Event.{Event}
 use Rattle.air_source.specs.declared.events.Event.TheVariants.{Cell as Reported}
@@ -65,7 +64,7 @@ pub record IsClosing {A : Type 0} (grew : A → List Event → A → Type 0) (sa
   pub some : ClosesSome now
   pub clock : now.clock ≡ start.clock
   pub same_air : same before air
-  pub later : faults before ≤ faults air
+  pub still : faults air ≡ faults before
 
 pub closing_starts : {A : Type 0} (grew : A → List Event → A → Type 0) (same : A → A → Type 0) (faults : A → ℕ) (to : ℤ) (u : Intake) (air : A)
     → ((a : A) → grew a [] a) → ((a : A) → same a a) → IntakeStandsForSome u → IsClosing grew same faults to u u air air
@@ -80,7 +79,7 @@ closing_starts grew same faults to u air empty unchanged some = record {
   some = closing_some u some;
   clock = refl;
   same_air = unchanged air;
-  later = le_refl (faults air);
+  still = refl;
 }
 
 pub goes_then : {A : Type 0} (grew : A → List Event → A → Type 0) → ((a b d : A) (xs ys : List Event) → grew a xs b → grew b ys d → grew a (xs ++ ys) d)
@@ -119,8 +118,8 @@ pub closing_goes : {A : Type 0} (grew : A → List Event → A → Type 0) (same
     → ((a b d : A) (xs ys : List Event) → grew a xs b → grew b ys d → grew a (xs ++ ys) d) → ((a b d : A) → same a b → same b d → same a d)
     → IsClosing grew same faults to start now before air → IsNextDue now to m
     → ((c : Config) (planned : List Allocation) (h : History) (t : ℤ) → Closes c planned now h → (m.start.0 +ℤ now.wait.0) ≤ℤ t → IntakeGoesOn grew c planned h t new air after)
-    → new.clock ≡ now.clock → same air after → faults air ≤ faults after → IsClosing grew same faults to start new before after
-closing_goes grew same faults to start now new before air after m more same_more r next told clock same_then later = record {
+    → new.clock ≡ now.clock → same air after → faults after ≡ faults air → IsClosing grew same faults to start new before after
+closing_goes grew same faults to start now new before air after m more same_more r next told clock same_then still = record {
   goes = λ c planned h all.
       let one = r.goes c planned h all in
       goes_then grew more to now new before air after c planned h one (told c planned (heard h one.told) to one.closes next.by);
@@ -130,7 +129,7 @@ closing_goes grew same faults to start now new before air after m more same_more
       record { config = s.config; planned = s.planned; history = heard s.history g.told; closes = g.closes };
   clock = clock ∙ r.clock;
   same_air = same_more before air after r.same_air same_then;
-  later = le_trans r.later later;
+  still = still ∙ r.still;
 }
 
 -- ---- nothing more is due
@@ -202,7 +201,7 @@ pub record IsReporting {A : Type 0} (grew : A → List Event → A → Type 0) (
   pub stays : StaysAt start now
   pub reports : HasClaimed now
   pub same_air : same before air
-  pub later : faults before ≤ faults air
+  pub still : faults air ≡ faults before
 
 pub reporting_starts : {A : Type 0} (grew : A → List Event → A → Type 0) (same : A → A → Type 0) (faults : A → ℕ) (m : SymbolStart) (u : Intake) (air : A)
     → ((a : A) → grew a [] a) → ((a : A) → same a a) → ClosesSome u → (next_in u) ≡ Some m → HasClaimed u → IsReporting grew same faults m u u u.place.prb air air
@@ -219,7 +218,7 @@ reporting_starts grew same faults m u air empty unchanged some next was_claimed 
   stays = record { endpoints = refl; clock = refl; plan = refl; row = refl; symbol = refl; wait = refl };
   reports = was_claimed;
   same_air = unchanged air;
-  later = le_refl (faults air);
+  still = refl;
 }
 
 pub same_wait : (old new : Intake) → StaysAt old new → (m : SymbolStart) (to : ℤ) → (m.start.0 +ℤ old.wait.0) ≤ℤ to → (m.start.0 +ℤ new.wait.0) ≤ℤ to
@@ -230,8 +229,8 @@ pub reporting_goes : {A : Type 0} (grew : A → List Event → A → Type 0) (sa
     → IsReporting grew same faults m start now prb before air
     → ((c : Config) (planned : List Allocation) (h : History) (t : ℤ) → Closes c planned (at_prb now prb) h → (m.start.0 +ℤ now.wait.0) ≤ℤ t
     → IntakeGoesOn grew c planned h t (at_prb new (prb + 1)) air after)
-    → StaysAt now new → same air after → faults air ≤ faults after → IsReporting grew same faults m start new (prb + 1) before after
-reporting_goes grew same faults m start now new prb before air after more same_more r told stays same_then later = record {
+    → StaysAt now new → same air after → faults after ≡ faults air → IsReporting grew same faults m start new (prb + 1) before after
+reporting_goes grew same faults m start now new prb before air after more same_more r told stays same_then still = record {
   goes = λ c planned h to all order.
       let one = r.goes c planned h to all order in
       goes_then grew more to (at_prb now prb) (at_prb new (prb + 1)) before air after c planned h one
@@ -244,7 +243,7 @@ reporting_goes grew same faults m start now new prb before air after more same_m
   stays = stays_both start now new r.stays stays;
   reports = stays_claimed now new stays r.reports;
   same_air = same_more before air after r.same_air same_then;
-  later = le_trans r.later later;
+  still = still ∙ r.still;
 }
 
 -- and the symbol is done

@@ -3,6 +3,7 @@ use Rattle.schedule_laws.specs.unit_model.specs.Standing.{heard}
 use Rattle.du_intake.specs.Closing.{at_prb}
 use Rattle.du_intake.proofs.CloseLemmas.{closes_claimed}
 use Rattle.du_intake.proofs.NextLemmas.{symbol_below}
+use Rattle.ru_buffers.proofs.LoopLemmas.{cause_then}
 use Rattle.du_intake.proofs.LoopLemmas.{claimed_next, claimed_some, claimed_wait, reporting_goes, reporting_starts, same_wait, stops_then, symbol_goes}
 use Rattle.du_intake.proofs.unit.Intake.close_symbol.Goals as goal
 
@@ -26,7 +27,7 @@ returns-in-Err-clause-stop g c k planned h to all order =
 pub loop-prb-preserved : goal.loop-prb-preserved
 loop-prb-preserved g c =
     reporting_goes g.A.Air.grew g.A.Air.same g.A.Air.faults c.args.m.now c.claim.new.self c.loop-prb.self c.close_cell.new.self c.loop-prb.prb c.args.air.now c.loop-prb.air
-    c.close_cell.new.air g.met.A.Air.grew_more g.met.A.Air.same_more c.loop-prb.invariant c.in-Ok.ensures.told c.in-Ok.ensures.stays c.in-Ok.ensures.same c.in-Ok.ensures.cause.later
+    c.close_cell.new.air g.met.A.Air.grew_more g.met.A.Air.same_more c.loop-prb.invariant c.in-Ok.ensures.told c.in-Ok.ensures.stays c.in-Ok.ensures.same c.in-Ok.ensures.cause
 
 pub overflow_add-self : goal.overflow_add-self
 overflow_add-self g c =
@@ -43,3 +44,8 @@ returns-clause-told g c k planned h to all order =
     let start = c.claim.new.self in
     symbol_goes g.A.Air.grew g.A.Air.same g.A.Air.faults c.args.m.now start c.loop-prb.self c.loop-prb.prb c.args.air.now c.loop-prb.air c.loop-prb.invariant c.loop-prb-test.false
     k planned h to (closes_claimed k planned u start h c.claim.ensures.stays c.claim.ensures.room all) (claimed_wait u start c.args.m.now to c.claim.ensures.stays order)
+
+pub returns-in-Err-clause-cause : goal.returns-in-Err-clause-cause
+returns-in-Err-clause-cause g c =
+    cause_then (g.A.Air.faults c.args.air.now) (g.A.Air.faults c.loop-prb.air) (g.A.Air.faults c.close_cell.new.air) c.in-Err.fault
+    c.loop-prb.invariant.still c.in-Err.ensures.cause
