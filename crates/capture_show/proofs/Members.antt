@@ -1,9 +1,9 @@
 -- The texts of members that are told one after the other.
 use Rattle.std.proofs.Common.{◌≡◌, ℕ, ◌+◌, List, ◌++◌, Option, ap₂, subst}
-use Rattle.owed_bytes.specs.fh_base.specs.Told.{WritesFront}
+use Rattle.owed_bytes.specs.fh_base.specs.Told.{WritesPart}
 use Rattle.owed_bytes.specs.Owed.{Carried}
 use Rattle.owed_bytes.specs.CarriedLaws.{carried_more}
-use Rattle.owed_bytes.proofs.Carrying.{front_behind}
+use Rattle.owed_bytes.proofs.Parts.{part_behind}
 
 -- one text and then another, by what they are
 pub carried_pair : (w v u : Option (List ℕ)) (o p q a b first second : List ℕ) → a ≡ first → b ≡ second → Carried w o a v p → Carried v p b u q
@@ -11,7 +11,7 @@ pub carried_pair : (w v u : Option (List ℕ)) (o p q a b first second : List �
 carried_pair w v u o p q a b first second e f h k =
     subst (λ (t : List ℕ). Carried w o t u q) (ap₂ (λ x y. x ++ y) e f) (carried_more w v u o p q a b h k)
 
-pub front_pair : (w v u : Option (List ℕ)) (o p a b first second : List ℕ) → a ≡ first → b ≡ second → Carried w o a v p → WritesFront v u (p ++ b)
-    → WritesFront w u (o ++ (first ++ second))
-front_pair w v u o p a b first second e f h front =
-    subst (λ (t : List ℕ). WritesFront w u (o ++ t)) (ap₂ (λ x y. x ++ y) e f) (front_behind w o a v p b u h front)
+pub part_pair : (w v u : Option (List ℕ)) (o p a b first second : List ℕ) → a ≡ first → b ≡ second → Carried w o a v p → WritesPart v u (p ++ b)
+    → WritesPart w u (o ++ (first ++ second))
+part_pair w v u o p a b first second e f h part =
+    subst (λ (t : List ℕ). WritesPart w u (o ++ t)) (ap₂ (λ x y. x ++ y) e f) (part_behind w o a v p b u h part)

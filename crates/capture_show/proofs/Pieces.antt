@@ -1,9 +1,11 @@
 -- The pieces of lines that follow one another, and the whole text.
-use Rattle.std.proofs.Common.{◌≡◌, ℕ, ◌+◌, Bool, true, false, List, [], ◌∷◌, ◌++◌, map, refl, sym, ap, append_assoc, append-nil, ◌∙◌}
+use Rattle.std.proofs.Common.{◌≡◌, ℕ, ◌+◌, Bool, true, false, List, [], ◌∷◌, ◌++◌, map, refl, sym, ap, append_assoc, append-nil, ◌∙◌, Option, arith, length-append}
 use Rattle.std.specs.Prelude.{codes}
 use Rattle.std.specs.List.{flat_map}
 use Rattle.serde_json.specs.View.{items_of}
 use Rattle.serde_json.specs.Written.{compact_text, items_text, comma_if}
+use Rattle.owed_bytes.specs.fh_base.specs.Told.{WritesPart}
+use Rattle.owed_bytes.specs.fh_base.proofs.Known.{append_nothing}
 use Rattle.capture_show.specs.Lines.{ShownLine}
 use Rattle.capture_show.specs.Texts.{line_text, object_of, piece, pieces, lines_text, front_text, end_text}
 use Rattle.capture_records.specs.Records.{Arrived}
@@ -61,3 +63,12 @@ records_step n a more left e = ap (records_lines n) e
 pub records_none : (n : ℕ) (left : List Arrived) → left ≡ [] → records_lines n left ≡ []
 unfolding records_lines
 records_none n left e = ap (records_lines n) e
+
+-- an object has bytes, so where nothing was written a part of it and of what stands before it was
+pub object_left : (w : Option (List ℕ)) (o before : List ℕ) (l : ShownLine) → WritesPart w w (o ++ (before ++ compact_text (object_of l)))
+unfolding object_of
+object_left w o before l = record {
+  count = 0;
+  within = omega (arith, length-append o (before ++ compact_text (object_of l)), length-append before (compact_text (object_of l)));
+  is = sym (append_nothing w);
+}

@@ -1,10 +1,9 @@
 -- Lines that are told one after the other.
 use Rattle.std.proofs.Common.{◌≡◌, ℕ, Bool, true, List, [], ◌∷◌, ◌++◌, Option, refl, sym, ap, ap₂, subst, append_assoc, append-nil, ◌∙◌}
-use Rattle.owed_bytes.specs.fh_base.specs.Told.{WritesFront}
-use Rattle.owed_bytes.specs.fh_base.proofs.Progress.{front_first}
+use Rattle.owed_bytes.specs.fh_base.specs.Told.{WritesPart}
 use Rattle.owed_bytes.specs.Owed.{Carried}
 use Rattle.owed_bytes.specs.CarriedLaws.{carried_none, carried_more}
-use Rattle.owed_bytes.proofs.Carrying.{front_behind}
+use Rattle.owed_bytes.proofs.Parts.{part_first, part_behind}
 use Rattle.capture_show.specs.Lines.{ShownLine}
 use Rattle.capture_show.specs.Texts.{piece, pieces}
 use Rattle.capture_show.specs.Printing.{State, Told, Stopped, later_behind}
@@ -27,9 +26,9 @@ told_one json later json_now later_now w v o p l carried same now_true = record 
   later = now_true;
 }
 
-pub stopped_one : (json later : Bool) (w v : Option (List ℕ)) (o : List ℕ) (l : ShownLine) → WritesFront w v (o ++ piece json later l)
+pub stopped_one : (json later : Bool) (w v : Option (List ℕ)) (o : List ℕ) (l : ShownLine) → WritesPart w v (o ++ piece json later l)
     → Stopped (record { json = json; later = later; written = w; owed = o }) v (l ∷ [])
-stopped_one json later w v o l front = subst (λ (t : List ℕ). WritesFront w v (o ++ t)) (sym (piece_alone json later l)) front
+stopped_one json later w v o l part = subst (λ (t : List ℕ). WritesPart w v (o ++ t)) (sym (piece_alone json later l)) part
 
 -- the pieces of more lines, told from a state behind some
 pieces_behind : (s t : State) (xs ys : List ShownLine) → Told s t xs → pieces s.json s.later xs ++ pieces t.json t.later ys ≡ pieces s.json s.later (xs ++ ys)
@@ -46,18 +45,18 @@ told_more s t u xs ys h k = record {
   later = k.later ∙ ap (λ b. later_behind b ys) h.later ∙ sym (later_append s.later xs ys);
 }
 
--- some lines were told, and a front of more
+-- some lines were told, and a part of more
 pub stopped_behind : (s t : State) (v : Option (List ℕ)) (xs ys : List ShownLine) → Told s t xs → Stopped t v ys → Stopped s v (xs ++ ys)
-stopped_behind s t v xs ys h front =
-    subst (λ (p : List ℕ). WritesFront s.written v (s.owed ++ p)) (pieces_behind s t xs ys h)
-    (front_behind s.written s.owed (pieces s.json s.later xs) t.written t.owed (pieces t.json t.later ys) v h.carried front)
+stopped_behind s t v xs ys h part =
+    subst (λ (p : List ℕ). WritesPart s.written v (s.owed ++ p)) (pieces_behind s t xs ys h)
+    (part_behind s.written s.owed (pieces s.json s.later xs) t.written t.owed (pieces t.json t.later ys) v h.carried part)
 
--- a front of some lines is one of these and more
+-- a part of some lines is one of these and more
 pub stopped_before : (s : State) (v : Option (List ℕ)) (xs ys : List ShownLine) → Stopped s v xs → Stopped s v (xs ++ ys)
-stopped_before s v xs ys front =
-    subst (λ (p : List ℕ). WritesFront s.written v p)
+stopped_before s v xs ys part =
+    subst (λ (p : List ℕ). WritesPart s.written v p)
     (append_assoc s.owed (pieces s.json s.later xs) (pieces s.json (later_behind s.later xs) ys) ∙ ap (λ p. s.owed ++ p) (sym (pieces_append s.json s.later xs ys)))
-    (front_first s.written v (s.owed ++ pieces s.json s.later xs) (pieces s.json (later_behind s.later xs) ys) front)
+    (part_first s.written v (s.owed ++ pieces s.json s.later xs) (pieces s.json (later_behind s.later xs) ys) part)
 
 -- ---- in a loop: of all lines some were told, and the rest is left
 pub record SoFar (s t : State) (all rest : List ShownLine) : Type 0 where
@@ -80,9 +79,9 @@ so_far_all s t all left none h =
     subst (λ (xs : List ShownLine). Told s t xs) (sym (append-nil h.done) ∙ ap (λ r. h.done ++ r) (sym none) ∙ h.are) h.told
 
 pub so_far_stopped : (s t : State) (v : Option (List ℕ)) (all xs rest left : List ShownLine) → left ≡ xs ++ rest → SoFar s t all left → Stopped t v xs → Stopped s v all
-so_far_stopped s t v all xs rest left is h front =
+so_far_stopped s t v all xs rest left is h part =
     subst (λ (ls : List ShownLine). Stopped s v ls) (append_assoc h.done xs rest ∙ ap (λ r. h.done ++ r) (sym is) ∙ h.are)
-    (stopped_before s v (h.done ++ xs) rest (stopped_behind s t v h.done xs h.told front))
+    (stopped_before s v (h.done ++ xs) rest (stopped_behind s t v h.done xs h.told part))
 
 -- the same lines, as they are spelled elsewhere
 pub told_as : (s t : State) (xs ys : List ShownLine) → xs ≡ ys → Told s t xs → Told s t ys

@@ -1,7 +1,7 @@
 -- How far lines were printed (this project's profile).
 use Rattle.std.specs.Prelude.{◌≡◌, ℕ, Bool, true, List, [], ◌∷◌, ◌++◌, Option}
 use Rattle.owed_bytes.specs.Owed.{Carried}
-use Rattle.owed_bytes.specs.fh_base.specs.Told.{WritesFront}
+use Rattle.owed_bytes.specs.fh_base.specs.Told.{WritesPart}
 use Rattle.capture_show.specs.declared.printing.Printer.{Printer}
 use Rattle.capture_show.specs.Lines.{ShownLine}
 use Rattle.capture_show.specs.Texts.{pieces}
@@ -27,6 +27,6 @@ pub record Told (s t : State) (lines : List ShownLine) : Type 0 where
   pub json : t.json ≡ s.json
   pub later : t.later ≡ later_behind s.later lines
 
--- a front of what is owed and of these lines was written
+-- a part of what is owed and of these lines was written, not all of it
 abbrev pub Stopped : State → Option (List ℕ) → List ShownLine → Type 0
-Stopped s written lines = WritesFront s.written written (s.owed ++ pieces s.json s.later lines)
+Stopped s written lines = WritesPart s.written written (s.owed ++ pieces s.json s.later lines)

@@ -40,7 +40,7 @@ fn tell_sections<K: Sink>(
 ) -> Result<(), SinkFault>
     requires { IsHeadOf head.now bytes.now }
     ensures told { OnOk result (Told (state_of printer.old (K.written out.old)) (state_of printer.new (K.written out.new)) (section_lines head.now bytes.now)) }
-    ensures front { OnErr result (Stopped (state_of printer.old (K.written out.old)) (K.written out.new) (section_lines head.now bytes.now)) }
+    ensures part { OnErr result (Stopped (state_of printer.old (K.written out.old)) (K.written out.new) (section_lines head.now bytes.now)) }
     ensures cause { HasWriteCause (K.faults out.old) (K.faults out.new) result }
 {
     for section in sections(bytes, head) {
@@ -58,7 +58,7 @@ fn tell_read<K: Sink>(
 ) -> Result<(), SinkFault>
     requires { 4 ≤ length payload.now }
     ensures told { OnOk result (Told (state_of printer.old (K.written out.old)) (state_of printer.new (K.written out.new)) (command_read place payload.now (command_checked widest (application payload.now)))) }
-    ensures front { OnErr result (Stopped (state_of printer.old (K.written out.old)) (K.written out.new) (command_read place payload.now (command_checked widest (application payload.now)))) }
+    ensures part { OnErr result (Stopped (state_of printer.old (K.written out.old)) (K.written out.new) (command_read place payload.now (command_checked widest (application payload.now)))) }
     ensures cause { HasWriteCause (K.faults out.old) (K.faults out.new) result }
 {
     let bytes = application(payload);
@@ -83,7 +83,7 @@ fn tell_command<K: Sink>(
 ) -> Result<(), SinkFault>
     requires { 4 ≤ length payload.now }
     ensures told { OnOk result (Told (state_of printer.old (K.written out.old)) (state_of printer.new (K.written out.new)) (command_lines place payload.now)) }
-    ensures front { OnErr result (Stopped (state_of printer.old (K.written out.old)) (K.written out.new) (command_lines place payload.now)) }
+    ensures part { OnErr result (Stopped (state_of printer.old (K.written out.old)) (K.written out.new) (command_lines place payload.now)) }
     ensures cause { HasWriteCause (K.faults out.old) (K.faults out.new) result }
 {
     if is_fragmented(sequence_at(payload)) {
@@ -100,7 +100,7 @@ fn tell_message<K: Sink>(
     out: &mut K,
 ) -> Result<(), SinkFault>
     ensures told { OnOk result (Told (state_of printer.old (K.written out.old)) (state_of printer.new (K.written out.new)) (message_lines (message_of m.now))) }
-    ensures front { OnErr result (Stopped (state_of printer.old (K.written out.old)) (K.written out.new) (message_lines (message_of m.now))) }
+    ensures part { OnErr result (Stopped (state_of printer.old (K.written out.old)) (K.written out.new) (message_lines (message_of m.now))) }
     ensures cause { HasWriteCause (K.faults out.old) (K.faults out.new) result }
 {
     let size = m.payload.len();
@@ -122,7 +122,7 @@ fn tell_message<K: Sink>(
 // Tells the whole messages of a frame.
 fn tell_messages<K: Sink>(frame: &[u8], printer: &mut Printer, out: &mut K) -> Result<(), SinkFault>
     ensures told { OnOk result (Told (state_of printer.old (K.written out.old)) (state_of printer.new (K.written out.new)) (messages_lines (whole_messages frame.now))) }
-    ensures front { OnErr result (Stopped (state_of printer.old (K.written out.old)) (K.written out.new) (messages_lines (whole_messages frame.now))) }
+    ensures part { OnErr result (Stopped (state_of printer.old (K.written out.old)) (K.written out.new) (messages_lines (whole_messages frame.now))) }
     ensures cause { HasWriteCause (K.faults out.old) (K.faults out.new) result }
 {
     for m in messages(frame) {
@@ -138,7 +138,7 @@ fn tell_fault<K: Sink>(
     out: &mut K,
 ) -> Result<(), SinkFault>
     ensures told { OnOk result (Told (state_of printer.old (K.written out.old)) (state_of printer.new (K.written out.new)) (broken_lines refusal)) }
-    ensures front { OnErr result (Stopped (state_of printer.old (K.written out.old)) (K.written out.new) (broken_lines refusal)) }
+    ensures part { OnErr result (Stopped (state_of printer.old (K.written out.old)) (K.written out.new) (broken_lines refusal)) }
     ensures cause { HasWriteCause (K.faults out.old) (K.faults out.new) result }
 {
     match refusal {
@@ -155,7 +155,7 @@ fn tell_record<K: Sink>(
     out: &mut K,
 ) -> Result<(), SinkFault>
     ensures told { OnOk result (Told (state_of printer.old (K.written out.old)) (state_of printer.new (K.written out.new)) (record_lines number (arrived_of entry.now))) }
-    ensures front { OnErr result (Stopped (state_of printer.old (K.written out.old)) (K.written out.new) (record_lines number (arrived_of entry.now))) }
+    ensures part { OnErr result (Stopped (state_of printer.old (K.written out.old)) (K.written out.new) (record_lines number (arrived_of entry.now))) }
     ensures cause { HasWriteCause (K.faults out.old) (K.faults out.new) result }
 {
     printer.tell(&frame_line(number, entry), out)?;
@@ -171,7 +171,7 @@ pub fn tell_records<K: Sink>(
 ) -> Result<(), SinkFault>
     requires { checked bytes.now ≡ Ok tt }
     ensures told { OnOk result (Told (state_of printer.old (K.written out.old)) (state_of printer.new (K.written out.new)) (capture_lines bytes.now)) }
-    ensures front { OnErr result (Stopped (state_of printer.old (K.written out.old)) (K.written out.new) (capture_lines bytes.now)) }
+    ensures part { OnErr result (Stopped (state_of printer.old (K.written out.old)) (K.written out.new) (capture_lines bytes.now)) }
     ensures cause { HasWriteCause (K.faults out.old) (K.faults out.new) result }
 {
     let mut number = 0;

@@ -1,6 +1,6 @@
 // Lines on their way to a sink, as text or as JSON.
 ghost use Rattle.std.specs.Prelude.{◌≡◌, ◌≤◌, ◌++◌, [], ◌∷◌, length, OnOk, OnErr};
-ghost use Rattle.owed_bytes.specs.fh_base.specs.Told.{WritesFront};
+ghost use Rattle.owed_bytes.specs.fh_base.specs.Told.{WritesFront, WritesPart};
 ghost use Rattle.owed_bytes.specs.Owed.{Carried};
 ghost use Rattle.serde_json.specs.Written.{comma_if, compact_text};
 ghost use Rattle.capture_show.specs.Faults.{HasWriteCause};
@@ -51,7 +51,7 @@ fn tell_member<K: Sink>(
     out: &mut K,
 ) -> Result<(), SinkFault>
     ensures carried { OnOk result (Carried (K.written out.old) owed.old (member_text bare m) (K.written out.new) owed.new) }
-    ensures front { OnErr result (WritesFront (K.written out.old) (K.written out.new) (owed.old ++ member_text bare m)) }
+    ensures part { OnErr result (WritesPart (K.written out.old) (K.written out.new) (owed.old ++ member_text bare m)) }
     ensures cause { HasWriteCause (K.faults out.old) (K.faults out.new) result }
 {
     line.clear();
@@ -67,7 +67,7 @@ fn tell_members<K: Sink>(
     out: &mut K,
 ) -> Result<(), SinkFault>
     ensures carried { OnOk result (Carried (K.written out.old) owed.old (flat_map (member_text bare) members.now) (K.written out.new) owed.new) }
-    ensures front { OnErr result (WritesFront (K.written out.old) (K.written out.new) (owed.old ++ flat_map (member_text bare) members.now)) }
+    ensures part { OnErr result (WritesPart (K.written out.old) (K.written out.new) (owed.old ++ flat_map (member_text bare) members.now)) }
     ensures cause { HasWriteCause (K.faults out.old) (K.faults out.new) result }
 {
     let mut line = Line::new();
@@ -81,7 +81,7 @@ fn tell_members<K: Sink>(
 #[tactic(auto, unfolding(crate::specs::Texts::line_text))]
 fn tell_text<K: Sink>(shown: &Shown, owed: &mut OwedBytes, out: &mut K) -> Result<(), SinkFault>
     ensures carried { OnOk result (Carried (K.written out.old) owed.old (line_text shown.now) (K.written out.new) owed.new) }
-    ensures front { OnErr result (WritesFront (K.written out.old) (K.written out.new) (owed.old ++ line_text shown.now)) }
+    ensures part { OnErr result (WritesPart (K.written out.old) (K.written out.new) (owed.old ++ line_text shown.now)) }
     ensures cause { HasWriteCause (K.faults out.old) (K.faults out.new) result }
 {
     owed.tell(kind_text(shown.kind()).as_bytes(), out)?;
@@ -105,7 +105,7 @@ fn tell_object<K: Sink>(
     out: &mut K,
 ) -> Result<(), SinkFault>
     ensures carried { OnOk result (Carried (K.written out.old) owed.old (comma_if later ++ compact_text (object_of shown.now)) (K.written out.new) owed.new) }
-    ensures front { OnErr result (WritesFront (K.written out.old) (K.written out.new) (owed.old ++ (comma_if later ++ compact_text (object_of shown.now)))) }
+    ensures part { OnErr result (WritesPart (K.written out.old) (K.written out.new) (owed.old ++ (comma_if later ++ compact_text (object_of shown.now)))) }
     ensures cause { HasWriteCause (K.faults out.old) (K.faults out.new) result }
 {
     let Ok(text) = object_text(alloc, shown) else {
@@ -139,7 +139,7 @@ impl Printer {
     // Tells the piece of a line.
     fn tell_piece<K: Sink>(&mut self, shown: &Shown, out: &mut K) -> Result<(), SinkFault>
         ensures carried { OnOk result (Carried (K.written out.old) self.old.owed (piece self.old.json self.old.later shown.now) (K.written out.new) self.new.owed) }
-        ensures front { OnErr result (WritesFront (K.written out.old) (K.written out.new) (self.old.owed ++ piece self.old.json self.old.later shown.now)) }
+        ensures part { OnErr result (WritesPart (K.written out.old) (K.written out.new) (self.old.owed ++ piece self.old.json self.old.later shown.now)) }
         ensures cause { HasWriteCause (K.faults out.old) (K.faults out.new) result }
         ensures json { self.new.json ≡ self.old.json }
     {
@@ -153,7 +153,7 @@ impl Printer {
     /// Tells a line.
     pub fn tell<K: Sink>(&mut self, shown: &Shown, out: &mut K) -> Result<(), SinkFault>
         ensures told { OnOk result (Told (state_of self.old (K.written out.old)) (state_of self.new (K.written out.new)) (shown.now ∷ [])) }
-        ensures front { OnErr result (Stopped (state_of self.old (K.written out.old)) (K.written out.new) (shown.now ∷ [])) }
+        ensures part { OnErr result (Stopped (state_of self.old (K.written out.old)) (K.written out.new) (shown.now ∷ [])) }
         ensures cause { HasWriteCause (K.faults out.old) (K.faults out.new) result }
     {
         self.tell_piece(shown, out)?;
@@ -164,7 +164,7 @@ impl Printer {
     /// Tells what stands before the lines.
     pub fn open<K: Sink>(&mut self, out: &mut K) -> Result<(), SinkFault>
         ensures carried { OnOk result (Carried (K.written out.old) self.old.owed (front_text self.old.json) (K.written out.new) self.new.owed) }
-        ensures front { OnErr result (WritesFront (K.written out.old) (K.written out.new) (self.old.owed ++ front_text self.old.json)) }
+        ensures part { OnErr result (WritesPart (K.written out.old) (K.written out.new) (self.old.owed ++ front_text self.old.json)) }
         ensures cause { HasWriteCause (K.faults out.old) (K.faults out.new) result }
         ensures same { (self.new.json ≡ self.old.json) × (self.new.later ≡ self.old.later) }
     {
@@ -175,6 +175,7 @@ impl Printer {
     pub fn close<K: Sink>(&mut self, out: &mut K) -> Result<(), SinkFault>
         ensures all { OnOk result (K.written out.new ≡ append_known (K.written out.old) (self.old.owed ++ end_text self.old.json)) }
         ensures front { WritesFront (K.written out.old) (K.written out.new) (self.old.owed ++ end_text self.old.json) }
+        ensures part { OnErr result (WritesPart (K.written out.old) (K.written out.new) (self.old.owed ++ end_text self.old.json)) }
         ensures cause { HasWriteCause (K.faults out.old) (K.faults out.new) result }
     {
         self.owed.tell(ending(self.json), out)?;

@@ -1,11 +1,11 @@
 // A capture, shown.
-ghost use Rattle.std.specs.Prelude.{◌≡◌, ◌≤◌, ℕ, Ok, Err, OnOk, IfErr};
+ghost use Rattle.std.specs.Prelude.{◌≡◌, ℕ, Ok, Err, OnOk, OnErr, IfErr};
 ghost use Rattle.std.specs.Io.KnownBytes.{append_known};
-ghost use Rattle.owed_bytes.specs.fh_base.specs.Causes.{Rose};
-ghost use Rattle.owed_bytes.specs.fh_base.specs.Told.{WritesFront};
+ghost use Rattle.owed_bytes.specs.fh_base.specs.Causes.{Counts};
+ghost use Rattle.owed_bytes.specs.fh_base.specs.Told.{WritesFront, WritesPart};
 ghost use Rattle.capture_records.specs.declared.refusals.CaptureWhy.{CaptureWhy};
 ghost use Rattle.capture_records.specs.Reading.{checked};
-ghost use Rattle.capture_show.specs.Faults.{show_fault};
+ghost use Rattle.capture_show.specs.Faults.{has_write_fault, show_fault};
 ghost use Rattle.capture_show.specs.Messages.{capture_lines};
 ghost use Rattle.capture_show.specs.Texts.{lines_text};
 
@@ -54,15 +54,16 @@ impl From<SinkFault> for ShowFault {
 /// # Errors
 ///
 /// `BadCapture` exactly where a record is malformed, at its place: all records are tested first, and nothing is written then. After
-/// `WriteFault`, which comes only where the sink's count of faults rose, and after `NoMemory` a front part of the text was written.
+/// `WriteFault`, which comes exactly where the sink's count of faults rose, and after `NoMemory` a front part of the text was written
+/// and not all.
 pub fn show<K: Sink>(alloc: Global, bytes: &[u8], json: bool, out: &mut K) -> Result<(), ShowFault>
     ensures ok { OnOk result (K.written out.new ≡ append_known (K.written out.old) (lines_text json (capture_lines bytes.now))) }
     ensures front { WritesFront (K.written out.old) (K.written out.new) (lines_text json (capture_lines bytes.now)) }
+    ensures part { checked bytes.now ≡ Ok tt → OnErr result (WritesPart (K.written out.old) (K.written out.new) (lines_text json (capture_lines bytes.now))) }
     // a capture is refused at its first malformed record, and then nothing is written
     ensures malformed { IfErr (checked bytes.now) (λ r. (result ≡ Err (ShowFault.BadCapture r.place r.why)) × (out.new ≡ out.old)) }
     ensures refused { (place : ℕ) (why : CaptureWhy) → result ≡ Err (ShowFault.BadCapture place why) → checked bytes.now ≡ Err (record { place = place; why = why }) }
-    ensures later { K.faults out.old ≤ K.faults out.new }
-    ensures failed { result ≡ Err ShowFault.WriteFault → Rose (K.faults out.old) (K.faults out.new) }
+    ensures failed { Counts (has_write_fault result) (K.faults out.old) (K.faults out.new) }
 {
     if let Err(refusal) = check(bytes) {
         return Err(ShowFault::BadCapture {

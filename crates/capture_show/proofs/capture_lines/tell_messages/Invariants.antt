@@ -1,4 +1,4 @@
-use Rattle.std.proofs.Common.{◌≤◌}
+use Rattle.std.proofs.Common.{◌≡◌}
 use Rattle.ecpri_frames.specs.Gathering.{whole_messages}
 use Rattle.ecpri_frames.specs.Left.{left_of}
 use Rattle.capture_show.specs.Messages.{messages_lines}
@@ -10,5 +10,5 @@ abbrev pub invariant-loop-m : goal.invariant-loop-m
 invariant-loop-m g l = record {
   so_far : SoFar (state_of l.initial.printer (g.K.Sink.written l.initial.out)) (state_of l.printer (g.K.Sink.written l.out)) (messages_lines (whole_messages l.fn.frame))
       (messages_lines (left_of l.m-iterator));
-  later : g.K.Sink.faults l.initial.out ≤ g.K.Sink.faults l.out;
+  still : g.K.Sink.faults l.out ≡ g.K.Sink.faults l.initial.out;
 }

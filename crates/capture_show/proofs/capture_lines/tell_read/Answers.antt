@@ -8,8 +8,8 @@ use Rattle.capture_show.proofs.capture_lines.tell_read.Goals as goal
 use Rattle.owed_bytes.proofs.Telling.{anyhow}
 use Rattle.ecpri_fragments.specs.Sequence.{id_of, sequence_of, application}
 
-pub returns-in_err-tell-clause-front : goal.returns-in_err-tell-clause-front
-returns-in_err-tell-clause-front g c =
+pub returns-in_err-tell-clause-part : goal.returns-in_err-tell-clause-part
+returns-in_err-tell-clause-part g c =
     let w = g.K.Sink.written in
     let s = state_of c.args.printer.now (w c.args.out.now) in
     let payload = c.args.payload.now in
@@ -22,7 +22,7 @@ returns-in_err-tell-clause-front g c =
     let all : first ++ ss ≡ command_read c.args.place payload (checked widest (application payload))
     = ap₂ (λ l b. l ∷ section_lines head b) line c.application-bytes.ensures ∙ ap (command_read c.args.place payload) (sym ok) in
     let v = w c.tell-2.new.out in
-    anyhow c.from_residual.result (stopped_as s v (first ++ ss) _ all (stopped_before s v first ss c.in_err-tell.ensures.front))
+    anyhow c.from_residual.result (stopped_as s v (first ++ ss) _ all (stopped_before s v first ss c.in_err-tell.ensures.part))
 
 pub returns-clause-told : goal.returns-clause-told
 returns-clause-told g c =
@@ -41,8 +41,8 @@ returns-clause-told g c =
     let u = state_of c.tell_sections.new.printer (w c.tell_sections.new.out) in
     on_ok_weaker c.tell_sections.result (λ h. told_as s u (first ++ ss) _ all (told_more s t u first ss c.in_ok-tell.ensures.told h)) c.tell_sections.ensures.told
 
-pub returns-clause-front : goal.returns-clause-front
-returns-clause-front g c =
+pub returns-clause-part : goal.returns-clause-part
+returns-clause-part g c =
     let w = g.K.Sink.written in
     let s = state_of c.args.printer.now (w c.args.out.now) in
     let payload = c.args.payload.now in
@@ -56,4 +56,4 @@ returns-clause-front g c =
     = ap₂ (λ l b. l ∷ section_lines head b) line c.application-bytes.ensures ∙ ap (command_read c.args.place payload) (sym ok) in
     let t = state_of c.tell-2.new.self (w c.tell-2.new.out) in
     let v = w c.tell_sections.new.out in
-    on_err_weaker c.tell_sections.result (λ h. stopped_as s v (first ++ ss) _ all (stopped_behind s t v first ss c.in_ok-tell.ensures.told h)) c.tell_sections.ensures.front
+    on_err_weaker c.tell_sections.result (λ h. stopped_as s v (first ++ ss) _ all (stopped_behind s t v first ss c.in_ok-tell.ensures.told h)) c.tell_sections.ensures.part

@@ -1,4 +1,4 @@
-use Rattle.std.proofs.Common.{◌+◌, length, ap, ◌∙◌, arith}
+use Rattle.std.proofs.Common.{◌+◌, length, ap, ◌∙◌, arith, refl}
 use Rattle.capture_records.specs.Left.{left_of}
 use Rattle.capture_records.specs.Records.{arrived_of}
 use Rattle.capture_show.specs.Messages.{records_lines}
@@ -14,7 +14,7 @@ loop-entry-init g c =
     record {
       so_far = so_far_none _ _ _ (ap (records_lines 1) left);
       few = omega (arith, same, c.records-entry-items.ensures.few);
-      later = omega arith;
+      still = refl;
     }
 
 pub loop-entry-preserved : goal.loop-entry-preserved
@@ -26,16 +26,16 @@ loop-entry-preserved g c =
     record {
       so_far = so_far_more _ _ _ _ _ (records_lines (n + 1 + 1) rest) _ left c.loop-entry.invariant.so_far c.in_ok-tell_record.ensures.told;
       few = omega (arith, longer, c.loop-entry.invariant.few);
-      later = omega (arith, c.loop-entry.invariant.later, c.in_ok-tell_record.ensures.cause.later);
+      still = c.in_ok-tell_record.ensures.cause ∙ c.loop-entry.invariant.still;
     }
 
-pub returns-in_err-tell_record-clause-front : goal.returns-in_err-tell_record-clause-front
-returns-in_err-tell_record-clause-front g c =
+pub returns-in_err-tell_record-clause-part : goal.returns-in_err-tell_record-clause-part
+returns-in_err-tell_record-clause-part g c =
     let n = c.loop-entry.number in
     let rest = left_of c.next.new.self in
     let left = records_step (n + 1) (arrived_of c.in-Some.entry) rest (left_of c.loop-entry.entry-iterator) c.in-Some.ensures.steps in
     anyhow c.from_residual.result
-    (so_far_stopped _ _ _ _ _ (records_lines (n + 1 + 1) rest) _ left c.loop-entry.invariant.so_far c.in_err-tell_record.ensures.front)
+    (so_far_stopped _ _ _ _ _ (records_lines (n + 1 + 1) rest) _ left c.loop-entry.invariant.so_far c.in_err-tell_record.ensures.part)
 
 pub returns-clause-told : goal.returns-clause-told
 returns-clause-told g c =

@@ -1,4 +1,4 @@
-use Rattle.std.proofs.Common.{◌≤◌, ◌+◌, ◌*◌, length}
+use Rattle.std.proofs.Common.{◌≤◌, ◌≡◌, ◌+◌, ◌*◌, length}
 use Rattle.capture_records.specs.Left.{left_of}
 use Rattle.capture_show.specs.Messages.{records_lines, capture_lines}
 use Rattle.capture_show.specs.Printing.{state_of}
@@ -10,5 +10,5 @@ invariant-loop-entry g l = record {
   so_far : SoFar (state_of l.initial.printer (g.K.Sink.written l.initial.out)) (state_of l.printer (g.K.Sink.written l.out)) (capture_lines l.fn.bytes)
       (records_lines (l.number + 1) (left_of l.entry-iterator));
   few : (l.number + length (left_of l.entry-iterator)) * 13 ≤ length l.fn.bytes;
-  later : g.K.Sink.faults l.initial.out ≤ g.K.Sink.faults l.out;
+  still : g.K.Sink.faults l.out ≡ g.K.Sink.faults l.initial.out;
 }

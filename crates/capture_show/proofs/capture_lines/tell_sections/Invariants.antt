@@ -1,4 +1,4 @@
-use Rattle.std.proofs.Common.{map, ◌≤◌}
+use Rattle.std.proofs.Common.{map, ◌≡◌}
 use Rattle.cplane_sections.specs.Header.{kind_of}
 use Rattle.cplane_sections.specs.Left.{left_of}
 use Rattle.capture_show.specs.Messages.{section_line, section_lines}
@@ -10,5 +10,5 @@ abbrev pub invariant-loop-section : goal.invariant-loop-section
 invariant-loop-section g l = record {
   so_far : SoFar (state_of l.initial.printer (g.K.Sink.written l.initial.out)) (state_of l.printer (g.K.Sink.written l.out)) (section_lines l.head l.fn.bytes)
       (map (section_line (kind_of l.head.body)) (left_of l.section-iterator));
-  later : g.K.Sink.faults l.initial.out ≤ g.K.Sink.faults l.out;
+  still : g.K.Sink.faults l.out ≡ g.K.Sink.faults l.initial.out;
 }

@@ -1,4 +1,4 @@
-use Rattle.std.proofs.Common.{take, ◌≤◌}
+use Rattle.std.proofs.Common.{take, ◌≡◌}
 use Rattle.std.specs.List.{flat_map}
 use Rattle.owed_bytes.specs.Owed.{Carried}
 use Rattle.capture_show.specs.Texts.{member_text}
@@ -7,5 +7,5 @@ use Rattle.capture_show.proofs.printing.tell_members.Given as goal
 abbrev pub invariant-loop-m : goal.invariant-loop-m
 invariant-loop-m g l = record {
   carried : Carried (g.K.Sink.written l.initial.out) l.initial.owed (flat_map (member_text l.bare) (take l.m-index l.members)) (g.K.Sink.written l.out) l.owed;
-  later : g.K.Sink.faults l.initial.out ≤ g.K.Sink.faults l.out;
+  still : g.K.Sink.faults l.out ≡ g.K.Sink.faults l.initial.out;
 }
