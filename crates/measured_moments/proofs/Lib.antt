@@ -1,3 +1,4 @@
+pub mod CauseLemmas
 pub mod TimeLemmas
 pub mod BeginLemmas
 pub mod MadeLemmas
