@@ -1,6 +1,6 @@
 -- Each frame of a plain document has a copy, and each copy comes within the transport.
-use Rattle.std.proofs.Common.{◌≡◌, ◌≢◌, ℕ, ℤ, ◌≤ℤ◌, inl, inr, true, ◌&&◌, ◌==◌, List, [], ◌∷◌, refl, sym, subst, arith}
-use Rattle.std.specs.Prelude.{All}
+use Rattle.std.proofs.Common.{◌≡◌, ◌≢◌, ℕ, ℤ, ◌≤ℤ◌, inl, inr, true, ◌&&◌, ◌==◌, List, [], ◌∷◌, Option, Some, None, refl, sym, subst, arith}
+use Rattle.std.specs.Prelude.{All, IsSomeAnd}
 use Rattle.std.proofs.lemmas.Bool.{and_parts, cases_Bool, eqb-true}
 use Rattle.std.proofs.lemmas.List.Elements.{All-head, All-tail}
 use Rattle.air_source.specs.declared.events.Side.{Side}
@@ -17,7 +17,7 @@ use Rattle.plan_model.specs.declared.streams.Stream.{Stream}
 use Rattle.plan_model.specs.declared.streams.Stream.TheVariants.{DownCommands, UpCommands, DownData, UpData}
 use Rattle.plan_model.proofs.ListLemmas.{all_of}
 use Rattle.schedule_laws.proofs.ListLemmas.{in_all, of_map}
-use Rattle.frame_deliveries.specs.Copies.{copies_or, line_of, speaks_of, transit_of}
+use Rattle.frame_deliveries.specs.Copies.{copies_or, line_of, once_after, speaks_of, transit_of}
 use Rattle.document_traffic.specs.Landing.{all_delayed, leaving_answer, leaving_to}
 use Rattle.document_traffic.specs.Sending.{Delayed, Leaving, class_of, leaving_of, none_sent, sent_for}
 use Rattle.document_traffic.specs.Undisturbed.{AreCarried, IsCarried, transport_of}
@@ -34,8 +34,9 @@ pub record AreWithin (bounds : Range) (copies : List ℤ) : Type 0 where
 none_left : (ns : ℤ) → ns ∷ [] ≢ []
 none_left ns e = cc
 
-once : (bounds : Range) (ns : ℤ) → IsWithin bounds ns → AreWithin bounds (ns ∷ [])
-once bounds ns h = record {
+once : (bounds : Range) (time : Option ℤ) → IsSomeAnd time (IsWithin bounds) → AreWithin bounds (once_after time)
+once bounds None h = absurd h
+once bounds (Some ns) h = record {
   some = none_left ns;
   within = all_of (IsWithin bounds) (ns ∷ []) (λ x m. elim m [ inl e ↦ subst (IsWithin bounds) (sym e) h | inr none ↦ absurd none ]);
 }
@@ -67,17 +68,17 @@ spoken t side class k x other plain said =
     let not_measured : x.class ≢ M = subst (λ (c : Class3). c ≢ M) class_is other in
     subst (λ (s : Side). AreWithin (transport_of s t) x.copies) (sym side_is) (record { some = plain.some not_measured; within = plain.within not_measured })
 
-lines_within : (t : Delays) (ns : ℤ) (xs : List Delivery) (side : Side) (class : Class3) (k : ℕ) → class ≢ M → All (IsPlainLine t) xs → IsWithin (transport_of side t) ns
-    → AreWithin (transport_of side t) (copies_or ns (line_of xs side class k))
-lines_within t ns [] side class k other plain transit = once (transport_of side t) ns transit
-lines_within t ns (x ∷ xs) side class k other plain transit = elim (cases_Bool (speaks_of side class k x)) [
+lines_within : (t : Delays) (time : Option ℤ) (xs : List Delivery) (side : Side) (class : Class3) (k : ℕ) → class ≢ M → All (IsPlainLine t) xs → IsSomeAnd time (IsWithin (transport_of side t))
+    → AreWithin (transport_of side t) (copies_or time (line_of xs side class k))
+lines_within t time [] side class k other plain transit = once (transport_of side t) time transit
+lines_within t time (x ∷ xs) side class k other plain transit = elim (cases_Bool (speaks_of side class k x)) [
   | inl said ↦ (let this = spoken t side class k x other (All-head (IsPlainLine t) x xs plain) said in rw said this)
-  | inr silent ↦ (let rest = lines_within t ns xs side class k other (All-tail (IsPlainLine t) x xs plain) transit in rw silent rest)
+  | inr silent ↦ (let rest = lines_within t time xs side class k other (All-tail (IsPlainLine t) x xs plain) transit in rw silent rest)
 ]
 
 -- ---- each frame that is sent
 
-transit_within : (d : Document) → IsPlain d → (side : Side) (class : Class3) → class ≢ M → IsWithin (transport_of side d.config.delays) (transit_of d.transits side class)
+transit_within : (d : Document) → IsPlain d → (side : Side) (class : Class3) → class ≢ M → IsSomeAnd (transit_of d.transits side class) (IsWithin (transport_of side d.config.delays))
 transit_within d plain Ru C other = plain.down
 transit_within d plain Ru U other = plain.down
 transit_within d plain Ru M other = absurd (other refl)

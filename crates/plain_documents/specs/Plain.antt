@@ -1,5 +1,5 @@
 -- Documents of which one reads in the text that nothing disturbs their schedule (O-RAN.WG4.CUS, delay management; this project's profile).
-use Rattle.std.specs.Prelude.{◌≡◌, ◌≢◌, ℕ, ℤ, ◌≤ℤ◌, [], All}
+use Rattle.std.specs.Prelude.{◌≡◌, ◌≢◌, ℕ, ℤ, ◌≤ℤ◌, [], All, IsSomeAnd}
 use Rattle.air_source.specs.declared.events.Side.TheVariants.{Ru, Du}
 use Rattle.window_config.specs.Relations.{PassesCheck}
 use Rattle.window_config.specs.declared.delays.Delays.{Delays}
@@ -25,8 +25,8 @@ pub record IsPlainLine (t : Delays) (x : Delivery) : Type 0 where
 pub record IsPlain (d : Document) : Type 0 where
   pub check : PassesCheck d.config.delays
   pub alone : d.injections ≡ []
-  pub down : IsWithin (transport_of Ru d.config.delays) d.transits.dl
-  pub up : IsWithin (transport_of Du d.config.delays) d.transits.ul
+  pub down : IsSomeAnd d.transits.dl (IsWithin (transport_of Ru d.config.delays))
+  pub up : IsSomeAnd d.transits.ul (IsWithin (transport_of Du d.config.delays))
   pub lines : All (IsPlainLine d.config.delays) d.deliveries
 
 -- then nothing disturbs its schedule, either way
