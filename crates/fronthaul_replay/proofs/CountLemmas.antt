@@ -11,6 +11,7 @@ use Rattle.capture_air.specs.air_source.specs.declared.events.Event.TheVariants.
 use Rattle.capture_air.specs.air_source.specs.declared.events.Side.{Side}
 use Rattle.capture_air.specs.air_source.specs.declared.events.Side.TheVariants.{Ru as AtRu, Du as AtDu}
 use Rattle.capture_air.specs.air_source.proofs.Stops.{parted, stops_early, stops_later}
+use Rattle.intake_moments.specs.du_intake.specs.Units.{intake_due_of as intake_due}
 use Rattle.intake_moments.specs.du_intake.specs.declared.unit.Intake.{Intake}
 use Rattle.fault_counters.specs.Counts.{capped, count_of, times}
 use Rattle.fault_counters.specs.Names.{all_counters}
@@ -20,18 +21,23 @@ use Rattle.intake_moments.specs.Turns.{AtIntakeTurn, planned_for}
 use Rattle.intake_moments.proofs.NextLemmas.{intake_over}
 use Rattle.intake_moments.specs.measured_traffic.specs.Replayed.{doings_at, landings_for, traffic_of}
 use Rattle.intake_moments.specs.measured_traffic.specs.Doings.{Doings}
+use Rattle.intake_moments.specs.document_traffic.specs.Landing.{jobs_for}
+use Rattle.intake_moments.specs.document_traffic.specs.Laws.{IsReplayable}
+use Rattle.intake_moments.specs.measured_traffic.proofs.OverLemmas.{documents_are_over}
 use Rattle.intake_moments.specs.measured_traffic.proofs.SentLemmas.{messages_are_owed}
 use Rattle.intake_moments.specs.radio_moments.specs.Turns.{AtRadioTurn, events_before}
-use Rattle.intake_moments.specs.radio_moments.proofs.TurnLemmas.{quiet_less}
 use Rattle.intake_moments.specs.replay_events.specs.Events.{all_counted, count_event, count_events, is_measured, number_of}
 use Rattle.intake_moments.specs.replay_events.specs.Heard.{arrivals_heard, cells_heard}
 use Rattle.intake_moments.specs.replay_events.specs.Moments.{all_arrivals, end_of_time}
 use Rattle.intake_moments.specs.replay_events.specs.Traffic.{landings_at, reported_at}
 use Rattle.intake_moments.specs.replay_events.proofs.HeardLemmas.{arrivals-append, cells-append}
+use Rattle.intake_moments.specs.ru_buffers.specs.Calls.{IsQuietTo}
 use Rattle.intake_moments.specs.ru_buffers.specs.declared.unit.Ru.{Ru}
 use Rattle.intake_moments.specs.unit_model.specs.Counts.{StandAt, cells_counted}
 use Rattle.intake_moments.specs.unit_model.specs.Meetings.{Arrival as Landing}
-use Rattle.intake_moments.specs.unit_model.specs.Reports.{arrivals_counted, ru_reported}
+use Rattle.intake_moments.specs.unit_model.specs.Reports.{accepted_of, arrivals_counted, du_known, du_reported, ru_known, ru_reported}
+use Rattle.intake_moments.specs.unit_model.specs.Standing.{History, due, still_given}
+use Rattle.intake_moments.specs.unit_model.specs.declared.jobs.UplinkJob.{UplinkJob}
 use Rattle.intake_moments.specs.du_intake.specs.history_laws.proofs.TickLemmas.{last_of_next}
 use Rattle.intake_moments.specs.uplink_turns.specs.Turns.{jobs_until}
 use Rattle.fronthaul_replay.specs.Counting.{told_counts, told_number}
@@ -163,22 +169,49 @@ counts_in_step d told more u i none step = record {
 last_tick : (end_of_time +ℤ pos 1) -ℤ pos 1 ≡ end_of_time
 last_tick = last_of_next end_of_time
 
-radio_done : (d : Document) (u : Ru) → AtRadioTurn d (end_of_time +ℤ pos 1) u → IsRadioDone d u
-radio_done d u a = record {
-  history = a.history;
-  stands = a.stands;
-  arrivals = a.turn.arrivals;
-  reported = a.turn.reported ∙ ap (λ (t : ℤ). ru_reported d.config (all_arrivals (landings_for AtRu d)) t) last_tick;
-  given = a.turn.given ∙ ap (λ (t : ℤ). jobs_until d.config (landings_for AtRu d) t) last_tick ∙ messages_are_owed d;
-  quiet = λ to before. quiet_less d.config u a.history to ((end_of_time +ℤ pos 1) -ℤ pos 1) a.stands (subst (λ (t : ℤ). to ≤ℤ t) (sym last_tick) before) a.turn.quiet;
-}
+-- where a unit reported and gave all up to it, nothing is due at it, however late
+radio_quiet : (d : Document) (h : History) (to : ℤ) → IsReplayable d → h.arrivals ≡ all_arrivals (landings_for AtRu d)
+    → h.reported ≡ ru_reported d.config (all_arrivals (landings_for AtRu d)) end_of_time → h.given ≡ jobs_for d → IsQuietTo d.config h to
+radio_quiet d h to doc arrivals reported given =
+    let c = d.config in
+    let all = documents_are_over d doc in
+    record {
+      cells = ap₂ (λ (xs : List Landing) (told : List AirCell). due AtRu c.delays c.endpoints (ru_known c xs) told to) arrivals reported ∙ all.cells AtRu to;
+      messages = ap₂ (λ (xs : List Landing) (js : List UplinkJob). still_given c (accepted_of c xs) js to) arrivals given ∙ all.messages to;
+    }
 
-intake_done : (d : Document) (i : Intake) → AtIntakeTurn d (end_of_time +ℤ pos 1) i → IsIntakeDone d i
-intake_done d i a =
-    let all = intake_over d i a in record { history = a.history; stands = a.stands; arrivals = all.arrivals; reported = all.reported; quiet = all.quiet }
+intake_quiet : (d : Document) (h : History) (to : ℤ) → IsReplayable d → h.arrivals ≡ all_arrivals (landings_for AtDu d)
+    → h.reported ≡ du_reported d.config (planned_for d) (all_arrivals (landings_for AtDu d)) end_of_time → intake_due d.config (planned_for d) h to ≡ []
+intake_quiet d h to doc arrivals reported =
+    let c = d.config in
+    ap₂ (λ (xs : List Landing) (told : List AirCell). due AtDu c.delays c.endpoints (du_known c (planned_for d) xs) told to) arrivals reported ∙ (documents_are_over d doc).cells AtDu to
 
-pub over : (d : Document) (u : Ru) (i : Intake) → AtTurn d (end_of_time +ℤ pos 1) u i → IsDone d u i
-over d u i a = record { radio = radio_done d u a.radio; intake = intake_done d i a.intake }
+radio_done : (d : Document) (u : Ru) → IsReplayable d → AtRadioTurn d (end_of_time +ℤ pos 1) u → IsRadioDone d u
+radio_done d u doc a =
+    let reported = a.turn.reported ∙ ap (λ (t : ℤ). ru_reported d.config (all_arrivals (landings_for AtRu d)) t) last_tick in
+    let given = a.turn.given ∙ ap (λ (t : ℤ). jobs_until d.config (landings_for AtRu d) t) last_tick ∙ messages_are_owed d in
+    record {
+      history = a.history;
+      stands = a.stands;
+      arrivals = a.turn.arrivals;
+      reported = reported;
+      given = given;
+      quiet = λ to. radio_quiet d a.history to doc a.turn.arrivals reported given;
+    }
+
+intake_done : (d : Document) (i : Intake) → IsReplayable d → AtIntakeTurn d (end_of_time +ℤ pos 1) i → IsIntakeDone d i
+intake_done d i doc a =
+    let all = intake_over d i a in
+    record {
+      history = a.history;
+      stands = a.stands;
+      arrivals = all.arrivals;
+      reported = all.reported;
+      quiet = λ to. intake_quiet d a.history to doc all.arrivals all.reported;
+    }
+
+pub over : (d : Document) (u : Ru) (i : Intake) → IsReplayable d → AtTurn d (end_of_time +ℤ pos 1) u i → IsDone d u i
+over d u i doc a = record { radio = radio_done d u doc a.radio; intake = intake_done d i doc a.intake }
 
 -- ---- the numbers
 

@@ -10,7 +10,9 @@ use Rattle.intake_moments.specs.fh_document.specs.declared.document.Document.{Do
 use Rattle.intake_moments.specs.fragment_laws.specs.Apart.{IsIn}
 use Rattle.intake_moments.specs.Turns.{planned_for}
 use Rattle.intake_moments.specs.measured_traffic.specs.Replayed.{traffic_of}
+use Rattle.intake_moments.specs.measured_traffic.proofs.CountedLemmas.{counters_have_counted}
 use Rattle.intake_moments.specs.measured_traffic.proofs.DelayLemmas.{events_are_exact, events_are_measured}
+use Rattle.intake_moments.specs.measured_traffic.proofs.ExchangedLemmas.{delay_events_are_known}
 use Rattle.intake_moments.specs.measured_traffic.proofs.OnceLemmas.{schedule_radiates, uplink_is_taken_in}
 use Rattle.intake_moments.specs.plan_model.specs.Validity.{share_bit, share_cell}
 use Rattle.intake_moments.specs.replay_events.specs.Moments.{all_arrivals}
@@ -81,6 +83,7 @@ is_sound d doc =
       silent = λ side. each_silent_changes_nothing side d.config (landings_at side (traffic_of d)) (lands_in_time side d doc);
       gathered = shown_are_gathered d.config (traffic_of d) (lands_in_time Ru d doc) (lands_in_time Du d doc) (planned_once d doc);
       results = tells_results d;
+      exchanges = record { delays = delay_events_are_known d doc; counts = counters_have_counted d doc };
       delays = events_are_measured d doc;
       exact_delays = events_are_exact d doc;
     }

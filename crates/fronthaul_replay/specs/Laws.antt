@@ -5,6 +5,7 @@ use Rattle.capture_air.specs.air_source.specs.declared.events.Side.{Side}
 use Rattle.intake_moments.specs.document_traffic.specs.Undisturbed.{IsTakenInOnce, IsUndisturbed, IsUndisturbedBothWays, RadiatesOnce}
 use Rattle.intake_moments.specs.fh_document.specs.declared.document.Document.{Document}
 use Rattle.intake_moments.specs.measured_traffic.specs.Delays.{DelayIs, InjectsNone, IsOfRequest, IsTimeOfWay}
+use Rattle.intake_moments.specs.measured_traffic.specs.Exchanged.{TellsExchanges}
 use Rattle.intake_moments.specs.measured_traffic.specs.Replayed.{traffic_of}
 use Rattle.intake_moments.specs.replay_events.specs.Events.{arrival_event, result_event}
 use Rattle.intake_moments.specs.replay_events.specs.Moments.{all_arrivals, end_of_time}
@@ -35,9 +36,10 @@ pub record TellsResults (d : Document) : Type 0 where
 -- each planned element radiates or is taken in exactly once, and each generation holds fragments of one message only; a message that is
 -- refused as it comes, a fragment that does not stand and a section that is refused change nothing but counters; nor does a message of data
 -- that is whole and says nothing, but that its fragments keep their places; each fragment of the message that gave a shown cell its samples
--- came within the cell's window; the delays are told behind the frames that give them; and where no injected frame has a message of delay
--- measurement, each delay is that of the one request of its id and of a copy of its frame, and exactly the copy's time on its way where the
--- two compensations that enter it are whole nanoseconds
+-- came within the cell's window; the delays are told behind the frames that give them; the delays and the counters of delay measurement are
+-- those of what both units are told of it and send; and where no injected frame has a message of delay measurement, each delay is that of
+-- the one request of its id and of a copy of its frame, and exactly the copy's time on its way where the two compensations that enter it
+-- are whole nanoseconds
 pub record IsSound (d : Document) : Type 0 where
   pub once : IsOnce d.config (traffic_of d)
   pub in_time : (side : Side) → IsShownInTime side d.config (traffic_of d)
@@ -49,5 +51,6 @@ pub record IsSound (d : Document) : Type 0 where
   pub silent : (side : Side) → SilentChangesNothing side d.config (all_arrivals (landings_at side (traffic_of d)))
   pub gathered : (side : Side) → IsShownGathered side d.config (traffic_of d)
   pub results : TellsResults d
+  pub exchanges : TellsExchanges d
   pub delays : InjectsNone d → All (DelayIs (IsOfRequest d)) (events_of d)
   pub exact_delays : InjectsNone d → All (DelayIs (IsTimeOfWay d)) (events_of d)

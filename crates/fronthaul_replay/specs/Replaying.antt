@@ -31,22 +31,22 @@ pub record IsInStep (d : Document) (told : List Event) (u : Ru) (i : Intake) : T
 
 -- ---- at the end
 
--- the radio unit stands for all that landed at it, with every cell up to the end of time reported and every message given
+-- the radio unit stands for all that landed at it, with every cell reported and every message given: none is due up to any time
 pub record IsRadioDone (d : Document) (u : Ru) : Type 0 where
   pub history : History
   pub stands : StandsFor d.config u history
   pub arrivals : history.arrivals ≡ all_arrivals (landings_for AtRu d)
   pub reported : history.reported ≡ ru_reported d.config (all_arrivals (landings_for AtRu d)) end_of_time
   pub given : history.given ≡ jobs_for d
-  pub quiet : (to : ℤ) → to ≤ℤ end_of_time → IsQuietTo d.config history to
+  pub quiet : (to : ℤ) → IsQuietTo d.config history to
 
--- the intake stands for all that landed at the distributed unit, with every planned cell up to the end of time reported
+-- the intake stands for all that landed at the distributed unit, with every planned cell reported: none is due up to any time
 pub record IsIntakeDone (d : Document) (u : Intake) : Type 0 where
   pub history : History
   pub stands : IntakeStandsFor d.config (planned_for d) u history
   pub arrivals : history.arrivals ≡ all_arrivals (landings_for AtDu d)
   pub reported : history.reported ≡ du_reported d.config (planned_for d) (all_arrivals (landings_for AtDu d)) end_of_time
-  pub quiet : (to : ℤ) → to ≤ℤ end_of_time → intake_due d.config (planned_for d) history to ≡ []
+  pub quiet : (to : ℤ) → intake_due d.config (planned_for d) history to ≡ []
 
 pub record IsDone (d : Document) (u : Ru) (i : Intake) : Type 0 where
   pub radio : IsRadioDone d u

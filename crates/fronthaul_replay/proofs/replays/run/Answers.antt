@@ -39,7 +39,7 @@ returns-in_err-tell_counts-clause-stop g c failed =
     let same : c.tell_counts.result ≡ c.from_residual-in_err-tell_counts.result = search rules in
     let d = c.args.doc.now in
     let at = c.in_ok-pass.ensures.over in
-    let done = over d c.pass.new.ru c.pass.new.intake at in
+    let done = over d c.pass.new.ru c.pass.new.intake c.requires.document at in
     let radio = c.counters.result.now in
     let ru = c.in_ok-pass.ensures.measured.ru.has in
     stops_radio_count g.A.Air.grew g.met.A.Air.grew_more d (g.A.Air.stopped Failed) c.pass.new.ru c.pass.new.intake radio c.args.out.now c.pass.new.out c.tell_counts.new.out at
@@ -51,7 +51,7 @@ returns-in_err-tell_counts-clause-wants g c wants =
     let same : c.tell_counts.result ≡ c.from_residual-in_err-tell_counts.result = search rules in
     let d = c.args.doc.now in
     let at = c.in_ok-pass.ensures.over in
-    let done = over d c.pass.new.ru c.pass.new.intake at in
+    let done = over d c.pass.new.ru c.pass.new.intake c.requires.document at in
     let radio = c.counters.result.now in
     let ru = c.in_ok-pass.ensures.measured.ru.has in
     inl (stops_radio_count g.A.Air.grew g.met.A.Air.grew_more d (g.A.Air.stopped NoMemory) c.pass.new.ru c.pass.new.intake radio c.args.out.now c.pass.new.out c.tell_counts.new.out at
@@ -70,7 +70,7 @@ pub returns-clause-heard : goal.returns-clause-heard
 returns-clause-heard g c =
     let d = c.args.doc.now in
     let at = c.in_ok-pass.ensures.over in
-    let done = over d c.pass.new.ru c.pass.new.intake at in
+    let done = over d c.pass.new.ru c.pass.new.intake c.requires.document at in
     let radio = c.counters.result.now in
     let ru = c.in_ok-pass.ensures.measured.ru.has in
     let taken = c.counters-2.result.now in
@@ -86,14 +86,14 @@ returns-clause-heard g c =
 pub returns-clause-done : goal.returns-clause-done
 returns-clause-done g c =
     let d = c.args.doc.now in
-    on_ok_weaker c.tell_counts-2.result (λ last. over d c.pass.new.ru c.pass.new.intake c.in_ok-pass.ensures.over)
+    on_ok_weaker c.tell_counts-2.result (λ last. over d c.pass.new.ru c.pass.new.intake c.requires.document c.in_ok-pass.ensures.over)
     (c.tell_counts-2.ensures.heard (compensation_of d Du) (all_doings d Du) c.in_ok-pass.ensures.measured.du.has)
 
 pub returns-clause-stop : goal.returns-clause-stop
 returns-clause-stop g c failed =
     let d = c.args.doc.now in
     let at = c.in_ok-pass.ensures.over in
-    let done = over d c.pass.new.ru c.pass.new.intake at in
+    let done = over d c.pass.new.ru c.pass.new.intake c.requires.document at in
     let radio = c.counters.result.now in
     let ru = c.in_ok-pass.ensures.measured.ru.has in
     let taken = c.counters-2.result.now in
@@ -108,7 +108,7 @@ pub returns-clause-wants : goal.returns-clause-wants
 returns-clause-wants g c wants =
     let d = c.args.doc.now in
     let at = c.in_ok-pass.ensures.over in
-    let done = over d c.pass.new.ru c.pass.new.intake at in
+    let done = over d c.pass.new.ru c.pass.new.intake c.requires.document at in
     let radio = c.counters.result.now in
     let ru = c.in_ok-pass.ensures.measured.ru.has in
     let taken = c.counters-2.result.now in
