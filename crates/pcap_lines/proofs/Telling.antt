@@ -1,11 +1,9 @@
 -- Texts that are told in a row.
 use Rattle.std.proofs.Common.{◌≡◌, ℕ, List, [], ◌++◌, Option, sym, ap, subst, append_assoc, append-nil, ◌∙◌}
-use Rattle.fh_base.specs.Told.{WritesFront}
-use Rattle.fh_base.proofs.Progress.{front_first}
+use Rattle.fh_base.specs.Told.{WritesPart}
 use Rattle.owed_bytes.specs.Owed.{Carried}
 use Rattle.owed_bytes.specs.CarriedLaws.{carried_none, carried_more}
-use Rattle.owed_bytes.proofs.Carrying.{front_behind}
-use Rattle.owed_bytes.proofs.Telling.{front_before}
+use Rattle.owed_bytes.proofs.Parts.{part_first, part_before, part_behind}
 
 -- of a text a front was told, and the rest is left
 pub record SoFar (w : Option (List ℕ)) (o : List ℕ) (v : Option (List ℕ)) (p all rest : List ℕ) : Type 0 where
@@ -27,27 +25,27 @@ pub so_far_all : (w v : Option (List ℕ)) (o p all left : List ℕ) → left �
 so_far_all w v o p all left none h =
     subst (λ (t : List ℕ). Carried w o t v p) (sym (append-nil h.done) ∙ ap (λ r. h.done ++ r) (sym none) ∙ h.are) h.carried
 
-pub so_far_stopped : (w v u : Option (List ℕ)) (o p all left next rest : List ℕ) → left ≡ next ++ rest → SoFar w o v p all left → WritesFront v u (p ++ next) → WritesFront w u (o ++ all)
-so_far_stopped w v u o p all left next rest is h front =
-    let told = front_first w u (o ++ (h.done ++ next)) rest (front_behind w o h.done v p next u h.carried front) in
-    subst (λ (t : List ℕ). WritesFront w u t)
+pub so_far_stopped : (w v u : Option (List ℕ)) (o p all left next rest : List ℕ) → left ≡ next ++ rest → SoFar w o v p all left → WritesPart v u (p ++ next) → WritesPart w u (o ++ all)
+so_far_stopped w v u o p all left next rest is h part =
+    let told = part_first w u (o ++ (h.done ++ next)) rest (part_behind w o h.done v p next u h.carried part) in
+    subst (λ (t : List ℕ). WritesPart w u t)
     (append_assoc o (h.done ++ next) rest ∙ ap (λ t. o ++ t) (append_assoc h.done next rest ∙ ap (λ r. h.done ++ r) (sym is) ∙ h.are)) told
 
 -- two texts, by what they are
 pub carried_pair : (w v u : Option (List ℕ)) (o p q a first second : List ℕ) → a ≡ first → Carried w o a v p → Carried v p second u q → Carried w o (first ++ second) u q
 carried_pair w v u o p q a first second e h k = subst (λ (t : List ℕ). Carried w o (t ++ second) u q) e (carried_more w v u o p q a second h k)
 
-pub front_pair : (w v u : Option (List ℕ)) (o p a first second : List ℕ) → a ≡ first → Carried w o a v p → WritesFront v u (p ++ second) → WritesFront w u (o ++ (first ++ second))
-front_pair w v u o p a first second e h front = subst (λ (t : List ℕ). WritesFront w u (o ++ (t ++ second))) e (front_behind w o a v p second u h front)
+pub part_pair : (w v u : Option (List ℕ)) (o p a first second : List ℕ) → a ≡ first → Carried w o a v p → WritesPart v u (p ++ second) → WritesPart w u (o ++ (first ++ second))
+part_pair w v u o p a first second e h part = subst (λ (t : List ℕ). WritesPart w u (o ++ (t ++ second))) e (part_behind w o a v p second u h part)
 
 -- from nothing that is owed
-pub first_front : (w v : Option (List ℕ)) (o all : List ℕ) → o ≡ [] → WritesFront w v (o ++ all) → WritesFront w v all
-first_front w v o all none front = subst (λ (t : List ℕ). WritesFront w v (t ++ all)) none front
+pub first_part : (w v : Option (List ℕ)) (o all : List ℕ) → o ≡ [] → WritesPart w v (o ++ all) → WritesPart w v all
+first_part w v o all none part = subst (λ (t : List ℕ). WritesPart w v (t ++ all)) none part
 
--- a front of the second of three
-pub front_middle : (w v u : Option (List ℕ)) (o p a first second third : List ℕ) → a ≡ first → Carried w o a v p → WritesFront v u (p ++ second) → WritesFront w u (o ++ (first ++ (second ++ third)))
-front_middle w v u o p a first second third e h front = front_pair w v u o p a first (second ++ third) e h (front_before v u p second third front)
+-- a part of the second of three
+pub part_middle : (w v u : Option (List ℕ)) (o p a first second third : List ℕ) → a ≡ first → Carried w o a v p → WritesPart v u (p ++ second) → WritesPart w u (o ++ (first ++ (second ++ third)))
+part_middle w v u o p a first second third e h part = part_pair w v u o p a first (second ++ third) e h (part_before v u p second third part)
 
 -- the first of two, by what it is
-pub front_named : (w v : Option (List ℕ)) (o a first rest : List ℕ) → a ≡ first → WritesFront w v (o ++ a) → WritesFront w v (o ++ (first ++ rest))
-front_named w v o a first rest e front = front_before w v o first rest (subst (λ (t : List ℕ). WritesFront w v (o ++ t)) e front)
+pub part_named : (w v : Option (List ℕ)) (o a first rest : List ℕ) → a ≡ first → WritesPart w v (o ++ a) → WritesPart w v (o ++ (first ++ rest))
+part_named w v o a first rest e part = part_before w v o first rest (subst (λ (t : List ℕ). WritesPart w v (o ++ t)) e part)

@@ -2,7 +2,7 @@
 ghost use Rattle.std.specs.Prelude.{◌≡◌, ◌≤◌, ◌++◌, Ok, map, pos, length, OnOk, OnErr, ◌≤ℤ◌, ◌*ℤ◌};
 ghost use Rattle.std.specs.Io.KnownBytes.{append_known};
 ghost use Rattle.fh_base.specs.Causes.{HasSinkCause};
-ghost use Rattle.fh_base.specs.Told.{WritesFront};
+ghost use Rattle.fh_base.specs.Told.{WritesFront, WritesPart};
 ghost use Rattle.owed_bytes.specs.Owed.{Carried};
 ghost use Rattle.capture_records.specs.Records.{head_bytes, record_bytes, records_bytes, capture_bytes, HaveRecords};
 ghost use Rattle.pcap_frames.specs.Checked.{checked};
@@ -34,7 +34,7 @@ fn tell_record<K: Sink>(
 ) -> Result<(), SinkFault>
     requires { IsShown (timed_of f.now) }
     ensures carried { OnOk result (Carried (K.written out.old) owed.old (record_bytes (arrived_as side (timed_of f.now))) (K.written out.new) owed.new) }
-    ensures front { OnErr result (WritesFront (K.written out.old) (K.written out.new) (owed.old ++ record_bytes (arrived_as side (timed_of f.now)))) }
+    ensures part { OnErr result (WritesPart (K.written out.old) (K.written out.new) (owed.old ++ record_bytes (arrived_as side (timed_of f.now)))) }
     ensures cause { HasSinkCause (K.faults out.old) (K.faults out.new) (K.refusals out.old) (K.refusals out.new) result }
 {
     let head = head_of(f, side);
@@ -53,7 +53,7 @@ fn tell_records<K: Sink>(
 ) -> Result<(), SinkFault>
     requires { checked bytes.now start ≡ Ok head.now }
     ensures carried { OnOk result (Carried (K.written out.old) owed.old (records_bytes (map (arrived_as side) (frames_of bytes.now head.now start))) (K.written out.new) owed.new) }
-    ensures front { OnErr result (WritesFront (K.written out.old) (K.written out.new) (owed.old ++ records_bytes (map (arrived_as side) (frames_of bytes.now head.now start)))) }
+    ensures part { OnErr result (WritesPart (K.written out.old) (K.written out.new) (owed.old ++ records_bytes (map (arrived_as side) (frames_of bytes.now head.now start)))) }
     ensures cause { HasSinkCause (K.faults out.old) (K.faults out.new) (K.refusals out.old) (K.refusals out.new) result }
 {
     for f in frames(bytes, head, start) {
@@ -67,8 +67,8 @@ fn tell_records<K: Sink>(
 ///
 /// # Errors
 ///
-/// `Failed` only where the sink's count of faults rose, and `NoMemory` only where its count of refusals rose. A front part of the
-/// capture was written.
+/// `Failed` exactly where the sink's count of faults rose, and `NoMemory` exactly where its count of refusals rose. A front part of the
+/// capture was written and not all.
 pub fn capture_bytes<K: Sink>(
     bytes: &[u8],
     head: &PcapHead,
@@ -79,6 +79,7 @@ pub fn capture_bytes<K: Sink>(
     requires { checked bytes.now start ≡ Ok head.now }
     ensures ok { OnOk result (K.written out.new ≡ append_known (K.written out.old) (capture_bytes (map (arrived_as side) (frames_of bytes.now head.now start)))) }
     ensures front { WritesFront (K.written out.old) (K.written out.new) (capture_bytes (map (arrived_as side) (frames_of bytes.now head.now start))) }
+    ensures part { OnErr result (WritesPart (K.written out.old) (K.written out.new) (capture_bytes (map (arrived_as side) (frames_of bytes.now head.now start)))) }
     ensures cause { HasSinkCause (K.faults out.old) (K.faults out.new) (K.refusals out.old) (K.refusals out.new) result }
 {
     let mut owed = OwedBytes::new();

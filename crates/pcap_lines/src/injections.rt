@@ -2,7 +2,7 @@
 ghost use Rattle.std.specs.Prelude.{◌≡◌, ◌++◌, Ok, codes, map, OnOk, OnErr};
 ghost use Rattle.std.specs.Io.KnownBytes.{append_known};
 ghost use Rattle.fh_base.specs.Causes.{HasSinkCause};
-ghost use Rattle.fh_base.specs.Told.{WritesFront};
+ghost use Rattle.fh_base.specs.Told.{WritesFront, WritesPart};
 ghost use Rattle.owed_bytes.specs.Owed.{Carried};
 ghost use Rattle.line_laws.specs.fh_document.specs.Document.{document_of};
 ghost use Rattle.line_laws.specs.Lines.{document_with};
@@ -25,7 +25,7 @@ fn tell_line<K: Sink>(
     out: &mut K,
 ) -> Result<(), SinkFault>
     ensures carried { OnOk result (Carried (K.written out.old) owed.old (line_text side (timed_of f.now)) (K.written out.new) owed.new) }
-    ensures front { OnErr result (WritesFront (K.written out.old) (K.written out.new) (owed.old ++ line_text side (timed_of f.now))) }
+    ensures part { OnErr result (WritesPart (K.written out.old) (K.written out.new) (owed.old ++ line_text side (timed_of f.now))) }
     ensures cause { HasSinkCause (K.faults out.old) (K.faults out.new) (K.refusals out.old) (K.refusals out.new) result }
 {
     let mut line = Line::new();
@@ -46,7 +46,7 @@ fn tell_lines<K: Sink>(
 ) -> Result<(), SinkFault>
     requires { checked bytes.now start ≡ Ok head.now }
     ensures carried { OnOk result (Carried (K.written out.old) owed.old (lines_of side (frames_of bytes.now head.now start)) (K.written out.new) owed.new) }
-    ensures front { OnErr result (WritesFront (K.written out.old) (K.written out.new) (owed.old ++ lines_of side (frames_of bytes.now head.now start))) }
+    ensures part { OnErr result (WritesPart (K.written out.old) (K.written out.new) (owed.old ++ lines_of side (frames_of bytes.now head.now start))) }
     ensures cause { HasSinkCause (K.faults out.old) (K.faults out.new) (K.refusals out.old) (K.refusals out.new) result }
 {
     for f in frames(bytes, head, start) {
@@ -60,8 +60,8 @@ fn tell_lines<K: Sink>(
 ///
 /// # Errors
 ///
-/// `Failed` only where the sink's count of faults rose, and `NoMemory` only where its count of refusals rose. A front part of the
-/// text was written.
+/// `Failed` exactly where the sink's count of faults rose, and `NoMemory` exactly where its count of refusals rose. A front part of the
+/// text was written and not all.
 pub fn inject_text<K: Sink>(
     bytes: &[u8],
     head: &PcapHead,
@@ -72,6 +72,7 @@ pub fn inject_text<K: Sink>(
     requires { checked bytes.now start ≡ Ok head.now }
     ensures ok { OnOk result (K.written out.new ≡ append_known (K.written out.old) (lines_of side (frames_of bytes.now head.now start))) }
     ensures front { WritesFront (K.written out.old) (K.written out.new) (lines_of side (frames_of bytes.now head.now start)) }
+    ensures part { OnErr result (WritesPart (K.written out.old) (K.written out.new) (lines_of side (frames_of bytes.now head.now start))) }
     // behind line 1 of a document this text is read as exactly these frames, in their order
     ensures read { document_of (codes "fronthaul 1\n" ++ lines_of side (frames_of bytes.now head.now start)) ≡ Ok (document_with (map (injection_of side) (frames_of bytes.now head.now start))) }
     ensures cause { HasSinkCause (K.faults out.old) (K.faults out.new) (K.refusals out.old) (K.refusals out.new) result }

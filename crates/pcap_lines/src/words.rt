@@ -1,7 +1,7 @@
 // The words of a line.
 ghost use Rattle.std.specs.Prelude.{◌≡◌, ◌+◌, ◌≤◌, ◌++◌, [], length, OnOk, OnErr};
 ghost use Rattle.fh_base.specs.Causes.{HasSinkCause};
-ghost use Rattle.fh_base.specs.Told.{WritesFront};
+ghost use Rattle.fh_base.specs.Told.{WritesPart};
 ghost use Rattle.owed_bytes.specs.Owed.{Carried};
 ghost use Rattle.line_laws.specs.Words.{hex_text, frame_word};
 ghost use Rattle.pcap_lines.specs.Texts.{opening_text};
@@ -43,7 +43,7 @@ fn digits(line: &mut Line, bytes: &[u8])
 fn tell_piece<K: Sink>(bytes: &[u8], owed: &mut OwedBytes, out: &mut K) -> Result<(), SinkFault>
     requires { length bytes.now ≤ PIECE }
     ensures carried { OnOk result (Carried (K.written out.old) owed.old (hex_text bytes.now) (K.written out.new) owed.new) }
-    ensures front { OnErr result (WritesFront (K.written out.old) (K.written out.new) (owed.old ++ hex_text bytes.now)) }
+    ensures part { OnErr result (WritesPart (K.written out.old) (K.written out.new) (owed.old ++ hex_text bytes.now)) }
     ensures cause { HasSinkCause (K.faults out.old) (K.faults out.new) (K.refusals out.old) (K.refusals out.new) result }
 {
     let mut line = Line::new();
@@ -54,7 +54,7 @@ fn tell_piece<K: Sink>(bytes: &[u8], owed: &mut OwedBytes, out: &mut K) -> Resul
 // Tells two digits for each byte.
 fn tell_digits<K: Sink>(bytes: &[u8], owed: &mut OwedBytes, out: &mut K) -> Result<(), SinkFault>
     ensures carried { OnOk result (Carried (K.written out.old) owed.old (hex_text bytes.now) (K.written out.new) owed.new) }
-    ensures front { OnErr result (WritesFront (K.written out.old) (K.written out.new) (owed.old ++ hex_text bytes.now)) }
+    ensures part { OnErr result (WritesPart (K.written out.old) (K.written out.new) (owed.old ++ hex_text bytes.now)) }
     ensures cause { HasSinkCause (K.faults out.old) (K.faults out.new) (K.refusals out.old) (K.refusals out.new) result }
 {
     let mut place = 0;
@@ -69,7 +69,7 @@ fn tell_digits<K: Sink>(bytes: &[u8], owed: &mut OwedBytes, out: &mut K) -> Resu
 /// Tells a frame's word.
 pub fn tell_frame<K: Sink>(frame: &[u8], owed: &mut OwedBytes, out: &mut K) -> Result<(), SinkFault>
     ensures carried { OnOk result (Carried (K.written out.old) owed.old (frame_word frame.now) (K.written out.new) owed.new) }
-    ensures front { OnErr result (WritesFront (K.written out.old) (K.written out.new) (owed.old ++ frame_word frame.now)) }
+    ensures part { OnErr result (WritesPart (K.written out.old) (K.written out.new) (owed.old ++ frame_word frame.now)) }
     ensures cause { HasSinkCause (K.faults out.old) (K.faults out.new) (K.refusals out.old) (K.refusals out.new) result }
 {
     if frame.is_empty() {

@@ -1,19 +1,20 @@
 use Rattle.std.proofs.Common.{◌≡◌, ◌++◌, List, ℕ, length, subst, pos, ◌*ℤ◌}
 use Rattle.std.proofs.lemmas.Result.{on_ok_weaker, on_err_weaker}
-use Rattle.fh_base.specs.Told.{WritesFront}
+use Rattle.fh_base.specs.Told.{WritesPart}
 use Rattle.capture_records.specs.Records.{head_bytes}
-use Rattle.pcap_lines.proofs.Telling.{carried_pair, front_pair}
+use Rattle.pcap_lines.proofs.Telling.{carried_pair, part_pair}
 use Rattle.pcap_lines.proofs.captures.tell_record.Goals as goal
-use Rattle.owed_bytes.proofs.Telling.{front_before, anyhow}
+use Rattle.owed_bytes.proofs.Telling.{anyhow}
+use Rattle.owed_bytes.proofs.Parts.{part_before}
 use Rattle.fh_time.specs.declared.nanoseconds.TheConstants.{NANOSECOND}
 
-pub returns-in_err-tell-clause-front : goal.returns-in_err-tell-clause-front
-returns-in_err-tell-clause-front g c =
+pub returns-in_err-tell-clause-part : goal.returns-in_err-tell-clause-part
+returns-in_err-tell-clause-part g c =
     let f = c.args.f.now in
     let is : c.head_of-head.result ≡ head_bytes c.args.side (f.at *ℤ pos NANOSECOND) (length f.frame.now) = c.head_of-head.ensures in
     anyhow c.from_residual.result
-    (front_before _ _ _ (head_bytes c.args.side (f.at *ℤ pos NANOSECOND) (length f.frame.now)) f.frame.now
-    (subst (λ (t : List ℕ). WritesFront (g.K.Sink.written c.args.out.now) (g.K.Sink.written c.tell.new.sink) (c.args.owed.now ++ t)) is c.in_err-tell.ensures.front))
+    (part_before _ _ _ (head_bytes c.args.side (f.at *ℤ pos NANOSECOND) (length f.frame.now)) f.frame.now
+    (subst (λ (t : List ℕ). WritesPart (g.K.Sink.written c.args.out.now) (g.K.Sink.written c.tell.new.sink) (c.args.owed.now ++ t)) is c.in_err-tell.ensures.part))
 
 pub returns-clause-carried : goal.returns-clause-carried
 returns-clause-carried g c =
@@ -21,8 +22,8 @@ returns-clause-carried g c =
     let is : c.head_of-head.result ≡ head_bytes c.args.side (f.at *ℤ pos NANOSECOND) (length f.frame.now) = c.head_of-head.ensures in
     on_ok_weaker c.tell-2.result (λ h. carried_pair _ _ _ _ _ _ _ _ f.frame.now is c.in_ok-tell.ensures.carried h) c.tell-2.ensures.carried
 
-pub returns-clause-front : goal.returns-clause-front
-returns-clause-front g c =
+pub returns-clause-part : goal.returns-clause-part
+returns-clause-part g c =
     let f = c.args.f.now in
     let is : c.head_of-head.result ≡ head_bytes c.args.side (f.at *ℤ pos NANOSECOND) (length f.frame.now) = c.head_of-head.ensures in
-    on_err_weaker c.tell-2.result (λ h. front_pair _ _ _ _ _ _ _ f.frame.now is c.in_ok-tell.ensures.carried h) c.tell-2.ensures.front
+    on_err_weaker c.tell-2.result (λ h. part_pair _ _ _ _ _ _ _ f.frame.now is c.in_ok-tell.ensures.carried h) c.tell-2.ensures.part

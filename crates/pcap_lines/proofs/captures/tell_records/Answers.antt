@@ -1,4 +1,4 @@
-use Rattle.std.proofs.Common.{◌≡◌, ◌++◌, List, map, ap, sym, subst, ◌∙◌, arith}
+use Rattle.std.proofs.Common.{◌≡◌, ◌++◌, List, map, ap, sym, subst, ◌∙◌, refl}
 use Rattle.std.proofs.lemmas.List.Concat.{flat_map-cons}
 use Rattle.capture_records.specs.Records.{record_bytes, records_bytes}
 use Rattle.pcap_frames.specs.Frames.{Timed, timed_of, AreShown}
@@ -14,8 +14,8 @@ loop-f-init g c =
     record {
       so_far = so_far_none _ _ _ _ (ap (λ ts. records_bytes (map (arrived_as c.args.side) ts)) (same ∙ c.frames-f-items.ensures.frames));
       shown = subst (λ (ts : List Timed). AreShown ts) (sym same) c.frames-f-items.ensures.shown;
-      later = omega arith;
-      refused_later = omega arith;
+      still = refl;
+      refused_still = refl;
     }
 
 pub tell_record-requires : goal.tell_record-requires
@@ -30,17 +30,17 @@ loop-f-preserved g c =
     record {
       so_far = so_far_more _ _ _ _ _ _ _ _ _ (records_bytes (map (arrived_as side) rest)) left c.loop-f.invariant.so_far c.in_ok-tell_record.ensures.carried;
       shown = (subst (λ (ts : List Timed). AreShown ts) c.in-Some.ensures.steps c.loop-f.invariant.shown).1;
-      later = omega (arith, c.loop-f.invariant.later, c.in_ok-tell_record.ensures.cause.later);
-      refused_later = omega (arith, c.loop-f.invariant.refused_later, c.in_ok-tell_record.ensures.cause.refused_later);
+      still = c.in_ok-tell_record.ensures.cause.faults ∙ c.loop-f.invariant.still;
+      refused_still = c.in_ok-tell_record.ensures.cause.refusals ∙ c.loop-f.invariant.refused_still;
     }
 
-pub returns-in_err-tell_record-clause-front : goal.returns-in_err-tell_record-clause-front
-returns-in_err-tell_record-clause-front g c =
+pub returns-in_err-tell_record-clause-part : goal.returns-in_err-tell_record-clause-part
+returns-in_err-tell_record-clause-part g c =
     let side = c.args.side in
     let rest = left_of c.next.new.self in
     let left : records_bytes (map (arrived_as side) (left_of c.loop-f.f-iterator)) ≡ record_bytes (arrived_as side (timed_of c.in-Some.f)) ++ records_bytes (map (arrived_as side) rest)
     = ap (λ ts. records_bytes (map (arrived_as side) ts)) c.in-Some.ensures.steps ∙ flat_map-cons record_bytes (arrived_as side (timed_of c.in-Some.f)) (map (arrived_as side) rest) in
-    anyhow c.from_residual.result (so_far_stopped _ _ _ _ _ _ _ _ (records_bytes (map (arrived_as side) rest)) left c.loop-f.invariant.so_far c.in_err-tell_record.ensures.front)
+    anyhow c.from_residual.result (so_far_stopped _ _ _ _ _ _ _ _ (records_bytes (map (arrived_as side) rest)) left c.loop-f.invariant.so_far c.in_err-tell_record.ensures.part)
 
 pub returns-clause-carried : goal.returns-clause-carried
 returns-clause-carried g c =

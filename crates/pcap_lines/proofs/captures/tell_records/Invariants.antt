@@ -1,4 +1,4 @@
-use Rattle.std.proofs.Common.{map, ◌≤◌}
+use Rattle.std.proofs.Common.{map, ◌≡◌}
 use Rattle.capture_records.specs.Records.{records_bytes}
 use Rattle.pcap_frames.specs.Frames.{frames_of, AreShown}
 use Rattle.pcap_frames.specs.Left.{left_of}
@@ -11,6 +11,6 @@ invariant-loop-f g l = record {
   so_far : SoFar (g.K.Sink.written l.initial.out) l.initial.owed (g.K.Sink.written l.out) l.owed (records_bytes (map (arrived_as l.side) (frames_of l.fn.bytes l.fn.head l.fn.start)))
       (records_bytes (map (arrived_as l.side) (left_of l.f-iterator)));
   shown : AreShown (left_of l.f-iterator);
-  later : g.K.Sink.faults l.initial.out ≤ g.K.Sink.faults l.out;
-  refused_later : g.K.Sink.refusals l.initial.out ≤ g.K.Sink.refusals l.out;
+  still : g.K.Sink.faults l.out ≡ g.K.Sink.faults l.initial.out;
+  refused_still : g.K.Sink.refusals l.out ≡ g.K.Sink.refusals l.initial.out;
 }

@@ -1,14 +1,22 @@
 use Rattle.std.proofs.Common.{◌<◌, drop}
-use Rattle.std.proofs.lemmas.Result.{on_ok_weaker}
+use Rattle.std.proofs.lemmas.Result.{on_ok_weaker, on_err_weaker}
 use Rattle.std.proofs.lemmas.List.Elements.{All-drop}
 use Rattle.pcap_frames.proofs.Settled.{checked_fine}
 use Rattle.pcap_frames.proofs.Shown.{are_shown}
 use Rattle.pcap_lines.proofs.Read.{are_bytes, read_back}
 use Rattle.pcap_lines.proofs.injections.inject_text.Goals as goal
-use Rattle.owed_bytes.proofs.Telling.{last_front, all_written}
+use Rattle.owed_bytes.proofs.Telling.{last_front, all_written, anyhow}
+use Rattle.owed_bytes.proofs.Parts.{part_front, last_part}
+use Rattle.pcap_lines.proofs.Telling.{first_part}
 
 pub returns-clause-front : goal.returns-clause-front
-returns-clause-front g c = last_front _ _ _ c.new-owed.result _ _ c.new-owed.ensures c.in_ok-tell_lines.ensures.carried c.push_out.ensures.front
+returns-clause-front g c =
+    last_front _ _ _ c.new-owed.result _ _ c.new-owed.ensures c.in_ok-tell_lines.ensures.carried c.push_out.ensures.front
+
+pub returns-clause-part : goal.returns-clause-part
+returns-clause-part g c =
+    on_err_weaker c.push_out.result (λ h.
+    last_part _ _ _ c.new-owed.result _ _ c.new-owed.ensures c.in_ok-tell_lines.ensures.carried h) c.push_out.ensures.part
 
 pub returns-clause-ok : goal.returns-clause-ok
 returns-clause-ok g c =
@@ -27,3 +35,9 @@ returns-clause-read g c =
     let head = c.args.head.now in
     read_back c.args.side head.little head.nanos head.first c.args.start (drop 24 bytes) (All-drop (λ b. b < 256) 24 bytes (are_bytes bytes (λ k. (c.type_inv.bytes k).fits)))
     (are_shown head.nanos head.first c.args.start _ (checked_fine bytes c.args.start head c.requires))
+
+pub returns-in_err-tell_lines-clause-front : goal.returns-in_err-tell_lines-clause-front
+returns-in_err-tell_lines-clause-front g c = part_front _ _ _ (first_part _ _ _ _ c.new-owed.ensures c.in_err-tell_lines.ensures.part)
+
+pub returns-in_err-tell_lines-clause-part : goal.returns-in_err-tell_lines-clause-part
+returns-in_err-tell_lines-clause-part g c = anyhow c.from_residual.result (first_part _ _ _ _ c.new-owed.ensures c.in_err-tell_lines.ensures.part)

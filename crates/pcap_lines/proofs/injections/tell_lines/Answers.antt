@@ -1,4 +1,4 @@
-use Rattle.std.proofs.Common.{◌≡◌, ◌++◌, ap, ◌∙◌, arith}
+use Rattle.std.proofs.Common.{◌≡◌, ◌++◌, ap, ◌∙◌, refl}
 use Rattle.std.proofs.lemmas.List.Concat.{flat_map-cons}
 use Rattle.pcap_frames.specs.Frames.{timed_of}
 use Rattle.pcap_frames.specs.Left.{left_of}
@@ -12,8 +12,8 @@ loop-f-init g c =
     let same = ap left_of c.into_iter-f-iterator.ensures.into_iter_gives in
     record {
       so_far = so_far_none _ _ _ _ (ap (lines_of c.args.side) (same ∙ c.frames-f-items.ensures.frames));
-      later = omega arith;
-      refused_later = omega arith;
+      still = refl;
+      refused_still = refl;
     }
 
 pub loop-f-preserved : goal.loop-f-preserved
@@ -24,17 +24,17 @@ loop-f-preserved g c =
     = ap (lines_of side) c.in-Some.ensures.steps ∙ flat_map-cons (line_text side) (timed_of c.in-Some.f) rest in
     record {
       so_far = so_far_more _ _ _ _ _ _ _ _ _ (lines_of side rest) left c.loop-f.invariant.so_far c.in_ok-tell_line.ensures.carried;
-      later = omega (arith, c.loop-f.invariant.later, c.in_ok-tell_line.ensures.cause.later);
-      refused_later = omega (arith, c.loop-f.invariant.refused_later, c.in_ok-tell_line.ensures.cause.refused_later);
+      still = c.in_ok-tell_line.ensures.cause.faults ∙ c.loop-f.invariant.still;
+      refused_still = c.in_ok-tell_line.ensures.cause.refusals ∙ c.loop-f.invariant.refused_still;
     }
 
-pub returns-in_err-tell_line-clause-front : goal.returns-in_err-tell_line-clause-front
-returns-in_err-tell_line-clause-front g c =
+pub returns-in_err-tell_line-clause-part : goal.returns-in_err-tell_line-clause-part
+returns-in_err-tell_line-clause-part g c =
     let side = c.args.side in
     let rest = left_of c.next.new.self in
     let left : lines_of side (left_of c.loop-f.f-iterator) ≡ line_text side (timed_of c.in-Some.f) ++ lines_of side rest
     = ap (lines_of side) c.in-Some.ensures.steps ∙ flat_map-cons (line_text side) (timed_of c.in-Some.f) rest in
-    anyhow c.from_residual.result (so_far_stopped _ _ _ _ _ _ _ _ (lines_of side rest) left c.loop-f.invariant.so_far c.in_err-tell_line.ensures.front)
+    anyhow c.from_residual.result (so_far_stopped _ _ _ _ _ _ _ _ (lines_of side rest) left c.loop-f.invariant.so_far c.in_err-tell_line.ensures.part)
 
 pub returns-clause-carried : goal.returns-clause-carried
 returns-clause-carried g c = so_far_all _ _ _ _ _ _ (ap (lines_of c.args.side) c.in-None.ensures.steps.0) c.loop-f.invariant.so_far

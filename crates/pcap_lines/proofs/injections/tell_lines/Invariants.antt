@@ -1,4 +1,4 @@
-use Rattle.std.proofs.Common.{◌≤◌}
+use Rattle.std.proofs.Common.{◌≡◌}
 use Rattle.pcap_frames.specs.Frames.{frames_of}
 use Rattle.pcap_frames.specs.Left.{left_of}
 use Rattle.pcap_lines.specs.Texts.{lines_of}
@@ -9,6 +9,6 @@ abbrev pub invariant-loop-f : goal.invariant-loop-f
 invariant-loop-f g l = record {
   so_far : SoFar (g.K.Sink.written l.initial.out) l.initial.owed (g.K.Sink.written l.out) l.owed (lines_of l.side (frames_of l.fn.bytes l.fn.head l.fn.start))
       (lines_of l.side (left_of l.f-iterator));
-  later : g.K.Sink.faults l.initial.out ≤ g.K.Sink.faults l.out;
-  refused_later : g.K.Sink.refusals l.initial.out ≤ g.K.Sink.refusals l.out;
+  still : g.K.Sink.faults l.out ≡ g.K.Sink.faults l.initial.out;
+  refused_still : g.K.Sink.refusals l.out ≡ g.K.Sink.refusals l.initial.out;
 }
