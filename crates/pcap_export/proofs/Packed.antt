@@ -3,9 +3,9 @@ use Rattle.std.proofs.Common.{◌≡◌, Bool, true, false, cond, ℕ, List, [],
 use Rattle.std.specs.List.{flat_map}
 use Rattle.std.proofs.lemmas.List.Concat.{flat_map-cons}
 use Rattle.capture_records.specs.Records.{Arrived}
-use Rattle.fh_base.specs.Told.{WritesFront}
+use Rattle.fh_base.specs.Told.{WritesPart}
 use Rattle.owed_bytes.specs.Owed.{Carried}
-use Rattle.pcap_lines.proofs.Telling.{carried_pair, front_pair, front_named}
+use Rattle.pcap_lines.proofs.Telling.{carried_pair, part_pair, part_named}
 use Rattle.pcap_export.specs.declared.ways.Ways.{Ways}
 use Rattle.pcap_export.specs.Packets.{packet_bytes, wanted, packets_bytes, wanted_bytes}
 use Rattle.pcap_export.specs.Ways.{is_wanted}
@@ -23,10 +23,10 @@ pub three_carried : (w v u x : Option (List ℕ)) (o p q r a b first second thir
     → Carried w o (first ++ (second ++ third)) x r
 three_carried w v u x o p q r a b first second third e f h k m = carried_pair w v x o p r a first (second ++ third) e h (carried_pair v u x p q r b second third f k m)
 
-pub three_front : (w v u x : Option (List ℕ)) (o p q a b first second third : List ℕ) → a ≡ first → b ≡ second → Carried w o a v p → Carried v p b u q → WritesFront u x (q ++ third)
-    → WritesFront w x (o ++ (first ++ (second ++ third)))
-three_front w v u x o p q a b first second third e f h k front = front_pair w v x o p a first (second ++ third) e h (front_pair v u x p q b second third f k front)
+pub three_part : (w v u x : Option (List ℕ)) (o p q a b first second third : List ℕ) → a ≡ first → b ≡ second → Carried w o a v p → Carried v p b u q → WritesPart u x (q ++ third)
+    → WritesPart w x (o ++ (first ++ (second ++ third)))
+three_part w v u x o p q a b first second third e f h k part = part_pair w v x o p a first (second ++ third) e h (part_pair v u x p q b second third f k part)
 
-pub two_front : (w v u : Option (List ℕ)) (o p a b first second third : List ℕ) → a ≡ first → b ≡ second → Carried w o a v p → WritesFront v u (p ++ b)
-    → WritesFront w u (o ++ (first ++ (second ++ third)))
-two_front w v u o p a b first second third e f h front = front_pair w v u o p a first (second ++ third) e h (front_named v u p b second third f front)
+pub two_part : (w v u : Option (List ℕ)) (o p a b first second third : List ℕ) → a ≡ first → b ≡ second → Carried w o a v p → WritesPart v u (p ++ b)
+    → WritesPart w u (o ++ (first ++ (second ++ third)))
+two_part w v u o p a b first second third e f h part = part_pair w v u o p a first (second ++ third) e h (part_named v u p b second third f part)

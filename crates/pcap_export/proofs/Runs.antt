@@ -1,7 +1,7 @@
 -- A run, from what an export did over a whole capture, or from why it did nothing.
 use Rattle.std.proofs.Common.{◌≡◌, ◌⊎◌, inl, inr, ℕ, ◌≤◌, List, [], length, Option, None, Some, IsNone, is_some, refl, sym, ap, subst, arith, Result, Ok, Err, OnOk}
 use Rattle.std.specs.Io.KnownBytes.{prepend_known, append_known, IsAtEnd}
-use Rattle.fh_base.specs.Causes.{Rose, HasSinkCause}
+use Rattle.fh_base.specs.Causes.{Rose, Counts, HasSinkCause}
 use Rattle.fh_base.specs.Told.{WritesFront}
 use Rattle.fh_base.specs.declared.fault.SinkFault.{SinkFault}
 use Rattle.fh_base.specs.declared.fault.SinkFault.TheVariants as sink
@@ -12,7 +12,7 @@ use Rattle.pcap_export.specs.declared.status.Status.{Status}
 use Rattle.pcap_export.specs.declared.status.Status.TheVariants.{Done, BadWords, BadCapture, ReadFault, WriteFault, NoMemory, TooLong}
 use Rattle.pcap_export.specs.declared.ways.Ways.{Ways}
 use Rattle.pcap_export.specs.Answers.{asked, ending_of, exported, of_capture, refused}
-use Rattle.pcap_export.specs.Run.{AnswersExport, AnswersRun, Exports, Outcome}
+use Rattle.pcap_export.specs.Run.{AnswersExport, AnswersRun, Exports, Outcome, fails_source}
 use Rattle.pcap_export.specs.Ways.{ways_of}
 use Rattle.fh_base.specs.declared.source.TheConstants.{INPUT_LIMIT}
 
@@ -27,9 +27,9 @@ put text checked old new before now refused_before refused_now result status pas
     (subst (Exports (of_capture text (Ok tt)) old new before now) (sym is) (go result ok cause))
   where
     go : (r : Result (Unit {0}) SinkFault) → OnOk r (new ≡ append_known old text) → HasSinkCause before now refused_before refused_now r → Exports (of_capture text (Ok tt)) old new before now (ending_of r)
-    go (Ok u) ok cause = record { front = front; whole = λ _. ok; answers = refl; later = cause.later }
-    go (Err sink.Failed) ok cause = record { front = front; whole = λ decided. absurd decided; answers = (cause.failed refl, refl); later = cause.later }
-    go (Err sink.NoMemory) ok cause = record { front = front; whole = λ decided. absurd decided; answers = tt; later = cause.later }
+    go (Ok u) ok cause = record { front = front; whole = λ _. ok; answers = refl; output = cause.faults }
+    go (Err sink.Failed) ok cause = record { front = front; whole = λ decided. absurd decided; answers = (cause.faults.1, refl); output = cause.faults }
+    go (Err sink.NoMemory) ok cause = record { front = front; whole = λ decided. absurd decided; answers = tt; output = cause.faults }
 
 -- ---- what an export answers, a run answers
 
@@ -41,6 +41,16 @@ answers_run wanted s t before now ReadFault h = absurd h
 answers_run wanted s t before now WriteFault h = h
 answers_run wanted s t before now NoMemory h = tt
 answers_run wanted s t before now TooLong h = absurd h
+
+-- it does not fail in the source
+source_still : (wanted : Status) (before now : ℕ) (status : Status) (s t : ℕ) → t ≡ s → AnswersExport wanted before now status → Counts (fails_source status) s t
+source_still wanted before now Done s t still h = still
+source_still wanted before now BadWords s t still h = absurd h
+source_still wanted before now (BadCapture refusal) s t still h = still
+source_still wanted before now ReadFault s t still h = absurd h
+source_still wanted before now WriteFault s t still h = still
+source_still wanted before now NoMemory s t still h = still
+source_still wanted before now TooLong s t still h = absurd h
 
 -- it answers none of these
 not_outside : (wanted : Status) (before now : ℕ) (status : Status) → AnswersExport wanted before now status → (status ≡ BadWords) ⊎ ((status ≡ ReadFault) ⊎ (status ≡ TooLong)) → ⊥
@@ -61,9 +71,9 @@ completes wanted before now TooLong h p = absurd h
 -- the capture was read to its end
 pub read : (words : List (List ℕ)) (ways : Ways) (bytes came : List ℕ) (left_old left_new : Option (List ℕ)) (s t : ℕ) (old new : Option (List ℕ)) (before now : ℕ) (status : Status)
     → ways_of words ≡ Some ways → bytes ≡ came → Exports (exported ways bytes) old new before now status
-    → left_old ≡ prepend_known came left_new → IsAtEnd left_new → length came ≤ INPUT_LIMIT → s ≤ t
+    → left_old ≡ prepend_known came left_new → IsAtEnd left_new → length came ≤ INPUT_LIMIT → t ≡ s
     → Outcome words left_old left_new s t old new before now status
-read words ways bytes came left_old left_new s t old new before now status is same p taken ended within later =
+read words ways bytes came left_old left_new s t old new before now status is same p taken ended within still =
     let q : Exports (exported ways came) old new before now status = subst (λ (b : List ℕ). Exports (exported ways b) old new before now status) same p in
     let e = sym is in
     record {
@@ -76,8 +86,8 @@ read words ways bytes came left_old left_new s t old new before now status is sa
       bad_words = (λ b. absurd (not_outside _ before now status q.answers (inl b)), λ none. let x : IsNone (Some ways) = subst (λ (o : Option Ways). IsNone o) is none in absurd (cc x));
       unread = λ u. absurd (not_outside _ before now status q.answers (inr u));
       too_long = (λ l. absurd (not_outside _ before now status q.answers (inr (inr l))), λ past. absurd (omega (arith, past, within)));
-      source_later = later;
-      out_later = q.later;
+      source = source_still (exported ways came).status before now status s t still q.answers;
+      output = q.output;
       complete = λ all some calm left short.
           subst (λ (o : Option Ways). ((Rose before now → ⊥) ⊎ ((asked o all).status ≡ Done → ⊥)) → (status ≡ (asked o all).status) ⊎ (status ≡ NoMemory)) e
           (subst (λ (b : List ℕ). ((Rose before now → ⊥) ⊎ ((exported ways b).status ≡ Done → ⊥)) → (status ≡ (exported ways b).status) ⊎ (status ≡ NoMemory))
@@ -100,7 +110,7 @@ no_ways words left s written o none =
       bad_words = (λ _. ap is_some none, λ _. refl);
       unread = λ _. refl;
       too_long = (λ is. absurd (cc is), λ past. absurd (omega (arith, past)));
-      source_later = omega arith;
-      out_later = omega arith;
+      source = refl;
+      output = refl;
       complete = λ bytes some. absurd (cc (ap is_some none, some));
     }

@@ -1,7 +1,7 @@
 -- What a run does.
-use Rattle.std.specs.Prelude.{◌≡◌, ◌<◌, ◌≤◌, ◌⊎◌, ◌↔◌, ℕ, List, length, Option, Some, IsSome, IsNone}
+use Rattle.std.specs.Prelude.{◌≡◌, ◌<◌, ◌≤◌, ◌⊎◌, ◌↔◌, ℕ, Bool, true, false, List, length, Option, Some, IsSome, IsNone}
 use Rattle.std.specs.Io.KnownBytes.{prepend_known, append_known, IsAtEnd}
-use Rattle.fh_base.specs.Causes.{Rose}
+use Rattle.fh_base.specs.Causes.{Rose, Counts}
 use Rattle.fh_base.specs.Told.{WritesFront, WritesWholeOr}
 use Rattle.pcap_export.specs.declared.status.Status.{Status}
 use Rattle.pcap_export.specs.declared.status.Status.TheVariants.{Done, BadWords, BadCapture, ReadFault, WriteFault, NoMemory, TooLong}
@@ -16,6 +16,15 @@ IsDecided BadWords = Unit {0}
 IsDecided (BadCapture refusal) = Unit {0}
 IsDecided status = ⊥
 
+-- a run that failed in its source, and one that failed in its output
+abbrev pub fails_source : Status → Bool
+fails_source ReadFault = true
+fails_source status = false
+
+abbrev pub fails_output : Status → Bool
+fails_output WriteFault = true
+fails_output status = false
+
 -- why an export over a whole capture answers a status, where this one is wanted
 abbrev pub AnswersExport : Status → ℕ → ℕ → Status → Type 0
 AnswersExport wanted before now Done = wanted ≡ Done
@@ -29,7 +38,7 @@ pub record Exports (a : Answer) (written_old written_new : Option (List ℕ)) (b
   pub front : WritesFront written_old written_new a.text
   pub whole : IsDecided status → written_new ≡ append_known written_old a.text
   pub answers : AnswersExport a.status before now status
-  pub later : before ≤ now
+  pub output : Counts (fails_output status) before now
 
 -- why a run answers a status, where this one is wanted by the words over what came
 abbrev pub AnswersRun : Status → ℕ → ℕ → ℕ → ℕ → Status → Type 0
@@ -54,8 +63,9 @@ pub record Outcome (words : List (List ℕ)) (left_old left_new : Option (List �
   pub bad_words : (status ≡ BadWords) ↔ IsNone (ways_of words)
   pub unread : (status ≡ ReadFault) ⊎ (status ≡ TooLong) → written_new ≡ written_old
   pub too_long : (status ≡ TooLong) ↔ INPUT_LIMIT < length came
-  pub source_later : source_before ≤ source_now
-  pub out_later : out_before ≤ out_now
+  -- the source's count of faults rose exactly at a read fault, the output's exactly at a write fault
+  pub source : Counts (fails_source status) source_before source_now
+  pub output : Counts (fails_output status) out_before out_now
   -- a capture that can be read whole is answered as wanted, or for want of memory, where no fault rises; a refusal needs no sink
   pub complete : (bytes : List ℕ) → IsSome (ways_of words) → (Rose source_before source_now → ⊥) → left_old ≡ Some bytes → length bytes ≤ INPUT_LIMIT
       → (Rose out_before out_now → ⊥) ⊎ ((asked (ways_of words) bytes).status ≡ Done → ⊥)

@@ -2,7 +2,7 @@
 ghost use Rattle.std.specs.Prelude.{◌≡◌, ◌≤◌, ◌++◌, Ok, None, length, OnOk, OnErr};
 ghost use Rattle.std.specs.Io.KnownBytes.{append_known};
 ghost use Rattle.fh_base.specs.Causes.{HasSinkCause};
-ghost use Rattle.fh_base.specs.Told.{WritesFront};
+ghost use Rattle.fh_base.specs.Told.{WritesFront, WritesPart};
 ghost use Rattle.owed_bytes.specs.Owed.{Carried};
 ghost use Rattle.capture_records.specs.Reading.{checked as capture_checked, records_of};
 ghost use Rattle.capture_records.specs.Records.{arrived_of};
@@ -24,7 +24,7 @@ fn tell_packet<K: Sink>(
 ) -> Result<(), SinkFault>
     requires { length arrival.now.frame.now ≤ 262130 }
     ensures carried { OnOk result (Carried (K.written out.old) owed.old (packet_bytes (arrived_of arrival.now)) (K.written out.new) owed.new) }
-    ensures front { OnErr result (WritesFront (K.written out.old) (K.written out.new) (owed.old ++ packet_bytes (arrived_of arrival.now))) }
+    ensures part { OnErr result (WritesPart (K.written out.old) (K.written out.new) (owed.old ++ packet_bytes (arrived_of arrival.now))) }
     ensures cause { HasSinkCause (K.faults out.old) (K.faults out.new) (K.refusals out.old) (K.refusals out.new) result }
 {
     let ns = nanoseconds(arrival.at).unwrap_or(0);
@@ -43,7 +43,7 @@ fn tell_wanted<K: Sink>(
 ) -> Result<(), SinkFault>
     requires { fault_of ways (arrived_of arrival.now) ≡ None }
     ensures carried { OnOk result (Carried (K.written out.old) owed.old (wanted_bytes ways (arrived_of arrival.now)) (K.written out.new) owed.new) }
-    ensures front { OnErr result (WritesFront (K.written out.old) (K.written out.new) (owed.old ++ wanted_bytes ways (arrived_of arrival.now))) }
+    ensures part { OnErr result (WritesPart (K.written out.old) (K.written out.new) (owed.old ++ wanted_bytes ways (arrived_of arrival.now))) }
     ensures cause { HasSinkCause (K.faults out.old) (K.faults out.new) (K.refusals out.old) (K.refusals out.new) result }
 {
     if is_wanted(ways, arrival.side) {
@@ -63,7 +63,7 @@ fn tell_packets<K: Sink>(
     requires sound { capture_checked bytes.now ≡ Ok tt }
     requires placed { placed_from ways 8 (records_of bytes.now) ≡ Ok tt }
     ensures carried { OnOk result (Carried (K.written out.old) owed.old (packets_bytes ways (records_of bytes.now)) (K.written out.new) owed.new) }
-    ensures front { OnErr result (WritesFront (K.written out.old) (K.written out.new) (owed.old ++ packets_bytes ways (records_of bytes.now))) }
+    ensures part { OnErr result (WritesPart (K.written out.old) (K.written out.new) (owed.old ++ packets_bytes ways (records_of bytes.now))) }
     ensures cause { HasSinkCause (K.faults out.old) (K.faults out.new) (K.refusals out.old) (K.refusals out.new) result }
 {
     for record in records(bytes) {
@@ -78,12 +78,13 @@ fn tell_packets<K: Sink>(
 ///
 /// # Errors
 ///
-/// `Failed` only where the sink's count of faults rose, and `NoMemory` only where its count of refusals rose. A front part of the
-/// file was written.
+/// `Failed` exactly where the sink's count of faults rose, and `NoMemory` exactly where its count of refusals rose. A front part of the
+/// file was written and not all.
 pub fn put_pcap<K: Sink>(bytes: &[u8], ways: Ways, out: &mut K) -> Result<(), SinkFault>
     requires { checked ways bytes.now ≡ Ok tt }
     ensures ok { OnOk result (K.written out.new ≡ append_known (K.written out.old) (pcap_bytes ways (records_of bytes.now))) }
     ensures front { WritesFront (K.written out.old) (K.written out.new) (pcap_bytes ways (records_of bytes.now)) }
+    ensures part { OnErr result (WritesPart (K.written out.old) (K.written out.new) (pcap_bytes ways (records_of bytes.now))) }
     ensures cause { HasSinkCause (K.faults out.old) (K.faults out.new) (K.refusals out.old) (K.refusals out.new) result }
     // frames whose times lie from 0 to 1,000 s and that have at most 9,216 bytes are read back from the file, each at its nanosecond
     ensures read { AreUsual (wanted ways (records_of bytes.now)) → IsReadBack (pcap_bytes ways (records_of bytes.now)) (wanted ways (records_of bytes.now)) }

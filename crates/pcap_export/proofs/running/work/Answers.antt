@@ -10,4 +10,4 @@ pub returns-in-Ok-clause-outcome : goal.returns-in-Ok-clause-outcome
 returns-in-Ok-clause-outcome g c =
     let w = c.in-Ok.ensures.whole in
     read _ c.in-Some.ways c.as_slice.result.now w.came _ _ _ _ _ _ _ _ _ (sym c.ways_of.ensures ∙ c.in-Some.is) (c.as_slice.ensures ∙ w.ok.0)
-    c.export.ensures w.taken w.ok.1 (not_long _ _ _ _ w.too_long) c.in-Ok.ensures.later
+    c.export.ensures w.taken w.ok.1 (not_long _ _ _ _ w.too_long) c.in-Ok.ensures.cause

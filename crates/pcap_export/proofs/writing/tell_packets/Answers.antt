@@ -1,4 +1,4 @@
-use Rattle.std.proofs.Common.{◌≡◌, ◌++◌, List, ap, sym, subst, ◌∙◌, arith}
+use Rattle.std.proofs.Common.{◌≡◌, ◌++◌, List, ap, sym, subst, ◌∙◌, refl}
 use Rattle.capture_records.specs.Left.{left_of}
 use Rattle.capture_records.specs.Reading.{records_of}
 use Rattle.capture_records.specs.Records.{Arrived, arrived_of}
@@ -15,8 +15,8 @@ loop-record-init g c =
     record {
       so_far = so_far_none _ _ _ _ (ap (packets_bytes c.args.ways) all);
       placed = subst (λ (landed : List Arrived). ArePlaced c.args.ways landed) (sym all) (all_placed c.args.ways 8 (records_of c.args.bytes.now) c.requires.placed);
-      later = omega arith;
-      refused_later = omega arith;
+      still = refl;
+      refused_still = refl;
     }
 
 pub loop-record-preserved : goal.loop-record-preserved
@@ -28,14 +28,14 @@ loop-record-preserved g c =
     record {
       so_far = so_far_more _ _ _ _ _ _ _ _ _ (packets_bytes ways rest) left c.loop-record.invariant.so_far c.in_ok-tell_wanted.ensures.carried;
       placed = (subst (λ (landed : List Arrived). ArePlaced ways landed) c.in-Some.ensures.steps c.loop-record.invariant.placed).1;
-      later = omega (arith, c.loop-record.invariant.later, c.in_ok-tell_wanted.ensures.cause.later);
-      refused_later = omega (arith, c.loop-record.invariant.refused_later, c.in_ok-tell_wanted.ensures.cause.refused_later);
+      still = c.in_ok-tell_wanted.ensures.cause.faults ∙ c.loop-record.invariant.still;
+      refused_still = c.in_ok-tell_wanted.ensures.cause.refusals ∙ c.loop-record.invariant.refused_still;
     }
 
-pub returns-in_err-tell_wanted-clause-front : goal.returns-in_err-tell_wanted-clause-front
-returns-in_err-tell_wanted-clause-front g c =
+pub returns-in_err-tell_wanted-clause-part : goal.returns-in_err-tell_wanted-clause-part
+returns-in_err-tell_wanted-clause-part g c =
     let ways = c.args.ways in
     let a = arrived_of c.in-Some.record in
     let rest = left_of c.next.new.self in
     let left : packets_bytes ways (left_of c.loop-record.record-iterator) ≡ wanted_bytes ways a ++ packets_bytes ways rest = ap (packets_bytes ways) c.in-Some.ensures.steps ∙ packets_more ways a rest in
-    anyhow c.from_residual.result (so_far_stopped _ _ _ _ _ _ _ _ (packets_bytes ways rest) left c.loop-record.invariant.so_far c.in_err-tell_wanted.ensures.front)
+    anyhow c.from_residual.result (so_far_stopped _ _ _ _ _ _ _ _ (packets_bytes ways rest) left c.loop-record.invariant.so_far c.in_err-tell_wanted.ensures.part)
