@@ -1,4 +1,4 @@
-use Rattle.std.proofs.Common.{rules, ◌≡◌, ◌∙◌, [], ◌∷◌, inl, inr, ap, map, sym}
+use Rattle.std.proofs.Common.{rules, ◌≡◌, ◌∙◌, [], ◌∷◌, inl, inr, ap, map, sym, refl}
 use Rattle.std.proofs.lemmas.Result.{IfErr-at_err, on_ok_weaker}
 use Rattle.air_source.specs.declared.airs.AirFault.TheVariants.{Failed, NoMemory}
 use Rattle.air_source.specs.declared.events.Side.TheVariants.{Ru as AtRu}
@@ -8,6 +8,8 @@ use Rattle.measured_moments.specs.replay_events.specs.Events.{arrival_event, res
 use Rattle.radio_moments.specs.Landing.{HasTaken}
 use Rattle.radio_moments.proofs.HearLemmas.{rests_arrived, stops_arriving, stops_telling, taken_frame, taken_none}
 use Rattle.radio_moments.proofs.LandLemmas.{behind_one}
+use Rattle.air_source.proofs.Causes.{air_cause_since}
+use Rattle.measured_moments.proofs.CauseLemmas.{cause_passed, cause_wanted}
 use Rattle.radio_moments.proofs.landing.hear.Goals as goal
 use Rattle.measured_moments.specs.ru_buffers.specs.unit_memory.specs.Memory.{arrival_at}
 
@@ -65,3 +67,14 @@ returns-clause-wants g c d x k h has stands wants =
     rw (← c.as_slice-bytes.ensures, ← c.results.ensures.has (compensation_of d AtRu) _ made.has)
     (inl (stops_telling g.A.Air.grew AtRu (arrival_at c.args.at.0 bytes) c.results.result.now (HasTaken k h c.deliver.new.self) [] (g.A.Air.stopped NoMemory) g.met.A.Air.grew_more c.args.out.now c.arrival.new.self
     c.tell_results.new.out c.in_ok-arrival.ensures.heard (taken_frame k h c.args.at.0 bytes c.deliver.new.self clock (c.deliver.ensures.stands k h stands)) (IfErr-at_err _ wants c.tell_results.ensures.stop)))
+
+pub returns-in_err-arrival-clause-cause : goal.returns-in_err-arrival-clause-cause
+returns-in_err-arrival-clause-cause g c =
+    let same : c.arrival.result ≡ c.from_residual.result = search rules in
+    cause_passed (g.A.Air.faults c.args.out.now) (g.A.Air.faults c.args.out.now) (g.A.Air.faults c.arrival.new.self) c.arrival.result c.from_residual.result same refl c.arrival.ensures.cause
+
+pub returns-in_err-tell-clause-cause : goal.returns-in_err-tell-clause-cause
+returns-in_err-tell-clause-cause g c = cause_wanted (g.A.Air.faults c.args.out.now) (g.A.Air.faults c.arrival.new.self) c.from_residual-in_err-tell.result c.from_residual-in_err-tell.ensures.1 c.in_ok-arrival.ensures.cause
+
+pub returns-clause-cause : goal.returns-clause-cause
+returns-clause-cause g c = air_cause_since (g.A.Air.faults c.args.out.now) (g.A.Air.faults c.arrival.new.self) (g.A.Air.faults c.tell_results.new.out) c.tell_results.result c.in_ok-arrival.ensures.cause c.tell_results.ensures.cause

@@ -8,6 +8,7 @@ use Rattle.fh_time.specs.declared.values.Ticks.{Ticks}
 use Rattle.du_scheduler.specs.unit_model.specs.Standing.{arrived}
 use Rattle.radio_moments.specs.Landing.{ru_landed}
 use Rattle.radio_moments.proofs.LandLemmas.{all_landed, behind, halts_here, landed_none, none_are_told, one_more_landed, one_more_told, some_comes, stops_here}
+use Rattle.measured_moments.proofs.CauseLemmas.{cause_passed}
 use Rattle.radio_moments.proofs.landing.land.Goals as goal
 
 pub loop-frame-init : goal.loop-frame-init
@@ -20,7 +21,7 @@ loop-frame-init g c = record {
   given = c.requires.given;
   clock = refl;
   same = g.met.A.Air.same_none c.args.out.now;
-  later = omega arith;
+  still = refl;
 }
 
 pub hear-requires-clause-short : goal.hear-requires-clause-short
@@ -52,8 +53,6 @@ loop-frame-preserved g c =
     let one = c.loop-frame in
     let old = one.invariant in
     let told = c.in_ok-hear.ensures in
-    let first = old.later in
-    let more = c.hear.ensures.cause.later in
     record {
       lands = λ d n left x may.
           let so_far = old.lands d n left x may in
@@ -73,7 +72,7 @@ loop-frame-preserved g c =
       given = c.hear.ensures.given;
       clock = c.hear.ensures.clock ∙ old.clock;
       same = g.met.A.Air.same_more _ _ _ old.same c.hear.ensures.same;
-      later = omega (arith, first, more);
+      still = told.cause ∙ old.still;
     }
 
 pub returns-in_err-hear-clause-stop : goal.returns-in_err-hear-clause-stop
@@ -104,3 +103,8 @@ returns-clause-landed g c d n left x may =
     let so_far = one.invariant.lands d n left x may in
     all_landed g.A.Air.grew (goal.C-pre g) (goal.C-post g) d c.args.tick.0 n left x c.args.ru.now one.ru one.meter c.args.way.now one.way c.next_at.new.self
     c.args.out.now one.out so_far (c.in_default.ensures.next d AtRu n left so_far.told.waits)
+
+pub returns-in_err-hear-clause-cause : goal.returns-in_err-hear-clause-cause
+returns-in_err-hear-clause-cause g c =
+    let same : c.hear.result ≡ c.from_residual.result = search rules in
+    cause_passed (g.A.Air.faults c.args.out.now) (g.A.Air.faults c.loop-frame.out) (g.A.Air.faults c.hear.new.out) c.hear.result c.from_residual.result same c.loop-frame.invariant.still c.hear.ensures.cause

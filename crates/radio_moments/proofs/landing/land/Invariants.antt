@@ -1,4 +1,4 @@
-use Rattle.std.proofs.Common.{◌≡◌, ◌≤◌, List}
+use Rattle.std.proofs.Common.{◌≡◌, List}
 use Rattle.measured_moments.specs.document_traffic.specs.Sending.{Leaving, SentCounts}
 use Rattle.measured_moments.specs.fh_document.specs.declared.document.Document.{Document}
 use Rattle.measured_moments.specs.frame_ways.specs.Ways.{frames_on_way}
@@ -16,7 +16,7 @@ invariant-loop-frame g l = record {
   given : HasGivenPast l.ru;
   clock : l.ru.clock ≡ l.initial.ru.clock;
   same : g.A.Air.same l.initial.out l.out;
-  later : g.A.Air.faults l.initial.out ≤ g.A.Air.faults l.out;
+  still : g.A.Air.faults l.out ≡ g.A.Air.faults l.initial.out;
 }
 
 abbrev pub decreases-loop-frame : goal.decreases-loop-frame

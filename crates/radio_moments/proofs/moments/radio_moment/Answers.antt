@@ -1,4 +1,4 @@
-use Rattle.std.proofs.Common.{rules, ◌≡◌, List, inl, inr, map, subst, ◌∙◌}
+use Rattle.std.proofs.Common.{rules, ◌≡◌, List, inl, inr, map, subst, ◌∙◌, refl}
 use Rattle.std.proofs.lemmas.Result.{IfErr-at_err, on_ok_weaker}
 use Rattle.air_source.specs.declared.airs.AirFault.TheVariants.{Failed, NoMemory}
 use Rattle.air_source.specs.declared.events.Event.{Event}
@@ -14,6 +14,8 @@ use Rattle.radio_moments.specs.Landing.{told_of_frames}
 use Rattle.radio_moments.proofs.DownLemmas.{landed_down, lands_now, left_then}
 use Rattle.radio_moments.proofs.MomentLemmas.{begun_at, heard_then, is_ready, landed_then, may_land, reported_then, told_then}
 use Rattle.radio_moments.proofs.StopLemmas.{halts_landing, rests_due, stops_due, stops_landing}
+use Rattle.air_source.proofs.Causes.{air_cause_since}
+use Rattle.measured_moments.proofs.CauseLemmas.{cause_passed, cause_wanted}
 use Rattle.radio_moments.proofs.moments.radio_moment.Goals as goal
 
 pub advance-requires-clause-given : goal.advance-requires-clause-given
@@ -139,3 +141,14 @@ returns-clause-wants g c wants =
 
 pub returns-clause-same : goal.returns-clause-same
 returns-clause-same g c = g.met.A.Air.same_more c.args.out.now c.advance.new.air c.land.new.out c.advance.ensures.same c.land.ensures.same
+
+pub returns-in_err-advance-clause-cause : goal.returns-in_err-advance-clause-cause
+returns-in_err-advance-clause-cause g c =
+    let same : c.advance.result ≡ c.from_residual.result = search rules in
+    cause_passed (g.A.Air.faults c.args.out.now) (g.A.Air.faults c.args.out.now) (g.A.Air.faults c.advance.new.air) c.advance.result c.from_residual.result same refl c.advance.ensures.cause
+
+pub returns-in_err-send-clause-cause : goal.returns-in_err-send-clause-cause
+returns-in_err-send-clause-cause g c = cause_wanted (g.A.Air.faults c.args.out.now) (g.A.Air.faults c.advance.new.air) c.from_residual-in_err-send.result c.from_residual-in_err-send.ensures.1 c.in_ok-advance.ensures.cause
+
+pub returns-clause-cause : goal.returns-clause-cause
+returns-clause-cause g c = air_cause_since (g.A.Air.faults c.args.out.now) (g.A.Air.faults c.advance.new.air) (g.A.Air.faults c.land.new.out) c.land.result c.in_ok-advance.ensures.cause c.land.ensures.cause
