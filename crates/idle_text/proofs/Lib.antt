@@ -1,0 +1,4 @@
+pub mod TellLemmas
+pub mod FreeLemmas
+pub mod EndLemmas
+pub mod TableLemmas

@@ -1,0 +1,3 @@
+pub mod Proposed
+pub mod Standing
+pub mod Text
