@@ -4,4 +4,5 @@ mod PlaceLemmas
 mod FewLemmas
 mod FrameLemmas
 mod GivingLemmas
+mod TouchLemmas
 pub mod PlanLemmas

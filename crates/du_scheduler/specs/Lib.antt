@@ -10,3 +10,4 @@ pub mod Written
 pub mod Frames
 pub mod Plans
 pub mod After
+pub mod Touched

@@ -7,6 +7,7 @@
 
 mod keeping;
 mod plans;
+mod touching;
 mod writing;
 
 pub use keeping::planned_lines;

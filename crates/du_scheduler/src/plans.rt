@@ -1,5 +1,5 @@
 //! A plan and the frames that it has still to send.
-ghost use Rattle.std.specs.Prelude.{◌≡◌, ◌≤◌, All, IfOk, IfSome, List as SpecList, length, map, slice_get};
+ghost use Rattle.std.specs.Prelude.{◌≡◌, ◌≤◌, ◌↔◌, All, IfOk, IfSome, IsTrue, List as SpecList, length, map, slice_get};
 ghost use Rattle.plan_tests.specs.air_source.specs.Answers.{AnswersBy};
 ghost use Rattle.plan_tests.specs.air_source.specs.Kept.{IsKept, closure_of};
 ghost use Rattle.plan_tests.specs.air_source.specs.declared.places.RePlace.{RePlace as SpecPlace};
@@ -14,11 +14,12 @@ ghost use Rattle.plan_tests.specs.plan_model.specs.Valid.{IsValid};
 ghost use Rattle.window_config.specs.declared.plan.TheConstants.{PLAN_LINES};
 
 use crate::keeping::planned_lines;
+use crate::touching::are_touching;
 use crate::writing::write_frame;
 use air_source::{RePlace, Samples};
 use bfp_codec::Wide;
 use fh_base::{List, NoMemory};
-use fh_time::Ticks;
+use fh_time::{Slot, Ticks};
 use frame_order::Queue;
 use plan_model::PlannedLine;
 use plan_table::Table;
@@ -75,6 +76,7 @@ impl Plan {
     ghost use Rattle.plan_table.specs.sent_order.specs.Runs.{turn_of};
     ghost use Rattle.du_scheduler.specs.Plans.{Checks, GivesSent, HasToSend, IsLent, IsPlan, LeavesPlan, Writes};
     ghost use Rattle.du_scheduler.specs.After.{LeavesAfter};
+    ghost use Rattle.du_scheduler.specs.Touched.{Touches};
     ghost use Rattle.std.specs.Borrow.{sem};
 
     /// The plan of lines that were tested, with all its frames to send.
@@ -195,5 +197,13 @@ impl Plan {
         } else {
             None
         }
+    }
+
+    /// Whether a `dl` or an `idle` line of an endpoint, by its place in the configuration, names a cell in a slot.
+    pub fn touches(&self, ep: usize, slot: Slot) -> bool
+        requires plan { IsPlan self.now }
+        ensures { (c : SpecConfig) (lines : SpecList SpecLine) (left : SpecList SentFrame) → HasToSend c lines left self.now → IsTrue result ↔ Touches ep slot (planned c.endpoints lines) }
+    {
+        are_touching(&self.lines, ep, slot)
     }
 }
