@@ -1,4 +1,4 @@
-use Rattle.std.proofs.Common.{rules, ◌≡◌, [], ◌∷◌, inl, inr, map, ◌∙◌}
+use Rattle.std.proofs.Common.{rules, ◌≡◌, [], ◌∷◌, inl, inr, map, ◌∙◌, refl}
 use Rattle.std.proofs.lemmas.Result.{IfErr-at_err, on_ok_weaker}
 use Rattle.send_queue.specs.air_source.specs.declared.airs.AirFault.TheVariants.{Failed, NoMemory}
 use Rattle.send_queue.specs.air_source.specs.declared.events.Side.TheVariants.{Du as AtDu}
@@ -8,6 +8,8 @@ use Rattle.radio_moments.proofs.HearLemmas.{rests_arrived, stops_arriving, stops
 use Rattle.radio_moments.proofs.LandLemmas.{behind_one}
 use Rattle.intake_moments.specs.Turns.{IsIntakeInStep, planned_for}
 use Rattle.intake_moments.proofs.StopLemmas.{step_before, step_behind}
+use Rattle.air_source.proofs.Causes.{air_cause_since}
+use Rattle.measured_moments.proofs.CauseLemmas.{cause_passed, cause_wanted}
 use Rattle.intake_moments.proofs.landing.hear.Goals as goal
 use Rattle.du_intake.specs.ru_buffers.specs.unit_memory.specs.Memory.{arrival_at}
 
@@ -70,3 +72,14 @@ returns-clause-wants g c d x told has ready wants =
     rw (← c.as_slice-bytes.ensures, ← c.results.ensures.has (compensation_of d AtDu) _ made.has)
     (inl (stops_telling g.A.Air.grew AtDu (arrival_at at bytes) c.results.result.now (λ all. IsIntakeInStep d all c.deliver.new.self) told (g.A.Air.stopped NoMemory) g.met.A.Air.grew_more c.args.out.now c.arrival.new.self
     c.tell_results.new.out c.in_ok-arrival.ensures.heard (step_behind d told at bytes c.args.intake.now c.deliver.new.self ready taken) (IfErr-at_err _ wants c.tell_results.ensures.stop)))
+
+pub returns-in_err-arrival-clause-cause : goal.returns-in_err-arrival-clause-cause
+returns-in_err-arrival-clause-cause g c =
+    let same : c.arrival.result ≡ c.from_residual.result = search rules in
+    cause_passed (g.A.Air.faults c.args.out.now) (g.A.Air.faults c.args.out.now) (g.A.Air.faults c.arrival.new.self) c.arrival.result c.from_residual.result same refl c.arrival.ensures.cause
+
+pub returns-in_err-tell-clause-cause : goal.returns-in_err-tell-clause-cause
+returns-in_err-tell-clause-cause g c = cause_wanted (g.A.Air.faults c.args.out.now) (g.A.Air.faults c.arrival.new.self) c.from_residual-in_err-tell.result c.from_residual-in_err-tell.ensures.1 c.in_ok-arrival.ensures.cause
+
+pub returns-clause-cause : goal.returns-clause-cause
+returns-clause-cause g c = air_cause_since (g.A.Air.faults c.args.out.now) (g.A.Air.faults c.arrival.new.self) (g.A.Air.faults c.tell_results.new.out) c.tell_results.result c.in_ok-arrival.ensures.cause c.tell_results.ensures.cause

@@ -1,4 +1,4 @@
-use Rattle.std.proofs.Common.{rules, ◌≡◌, ℤ, ◌≤ℤ◌, ◌++◌, sym, ap, ◌∙◌, subst, arith}
+use Rattle.std.proofs.Common.{rules, ◌≡◌, ℤ, ◌≤ℤ◌, ◌++◌, sym, ap, ◌∙◌, subst, arith, refl}
 use Rattle.std.specs.Int.Signed.{≤ℤ_refl}
 use Rattle.send_queue.specs.air_source.specs.declared.airs.AirFault.TheVariants.{Failed, NoMemory}
 use Rattle.send_queue.specs.air_source.specs.declared.events.Side.TheVariants.{Du as AtDu}
@@ -8,6 +8,7 @@ use Rattle.radio_moments.proofs.LandLemmas.{behind, halts_next, none_are_told, o
 use Rattle.intake_moments.specs.Landing.{frames_told}
 use Rattle.intake_moments.specs.Turns.{IsIntakeInStep}
 use Rattle.intake_moments.proofs.LandLemmas.{all_landed, comes_late, hears_on, none_taken, one_more_taken, takes_next}
+use Rattle.measured_moments.proofs.CauseLemmas.{cause_passed}
 use Rattle.intake_moments.proofs.landing.land.Goals as goal
 
 pub loop-frame-init : goal.loop-frame-init
@@ -21,7 +22,7 @@ loop-frame-init g c = record {
   order = c.requires.order;
   kept = c.requires.kept;
   same = g.met.A.Air.same_none c.args.out.now;
-  later = omega arith;
+  still = refl;
 }
 
 pub hear-requires-clause-short : goal.hear-requires-clause-short
@@ -44,8 +45,6 @@ loop-frame-preserved g c =
     let told = c.in_ok-hear.ensures in
     let clock = ap (λ (t : Ticks). t.0) told.clock in
     let next = c.in-Some.ensures.next old.some.document AtDu old.some.counts old.some.left old.some.waits in
-    let first = old.later in
-    let more = c.hear.ensures.cause.later in
     record {
       lands = λ d n left x waits made.
           let so_far = old.lands d n left x waits made in
@@ -66,7 +65,7 @@ loop-frame-preserved g c =
       order = subst (λ (t : ℤ). t ≤ℤ tick) (sym clock) (≤ℤ_refl tick);
       kept = c.hear.ensures.kept;
       same = g.met.A.Air.same_more _ _ _ old.same c.hear.ensures.same;
-      later = omega (arith, first, more);
+      still = told.cause ∙ old.still;
     }
 
 pub returns-in_err-hear-clause-stop : goal.returns-in_err-hear-clause-stop
@@ -99,3 +98,8 @@ returns-clause-landed g c d n left x waits made =
     let so_far = one.invariant.lands d n left x waits made in
     all_landed g.A.Air.grew _ _ d c.args.tick.0 n left x c.args.intake.now one.intake one.meter c.args.way.now one.way c.args.out.now one.out so_far c.next_at.new.self
     (c.in_default.ensures.next d AtDu n left so_far.told.waits)
+
+pub returns-in_err-hear-clause-cause : goal.returns-in_err-hear-clause-cause
+returns-in_err-hear-clause-cause g c =
+    let same : c.hear.result ≡ c.from_residual.result = search rules in
+    cause_passed (g.A.Air.faults c.args.out.now) (g.A.Air.faults c.loop-frame.out) (g.A.Air.faults c.hear.new.out) c.hear.result c.from_residual.result same c.loop-frame.invariant.still c.hear.ensures.cause

@@ -1,4 +1,4 @@
-use Rattle.std.proofs.Common.{◌≤◌, ◌≤ℤ◌, List}
+use Rattle.std.proofs.Common.{◌≤ℤ◌, List, ◌≡◌}
 use Rattle.send_queue.specs.air_source.specs.declared.events.Side.TheVariants.{Du as AtDu}
 use Rattle.radio_moments.specs.delay_exchange.specs.Meters.{HasDoings}
 use Rattle.radio_moments.specs.delay_exchange.specs.Units.{meter_of}
@@ -22,7 +22,7 @@ invariant-loop-frame g l = record {
   order : l.intake.clock.0 ≤ℤ l.tick.0;
   kept : IsKept (goal.C-pre g) (goal.C-post g) (meter_of l.meter);
   same : g.A.Air.same l.initial.out l.out;
-  later : g.A.Air.faults l.initial.out ≤ g.A.Air.faults l.out;
+  still : g.A.Air.faults l.out ≡ g.A.Air.faults l.initial.out;
 }
 
 abbrev pub decreases-loop-frame : goal.decreases-loop-frame

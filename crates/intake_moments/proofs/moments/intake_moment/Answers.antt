@@ -13,6 +13,8 @@ use Rattle.intake_moments.proofs.ReleaseLemmas.{left_at_end}
 use Rattle.intake_moments.proofs.StopLemmas.{halts_landing, hears_first, rests_before, stops_closing, stops_landing}
 use Rattle.intake_moments.proofs.TurnLemmas.{begun_at}
 use Rattle.intake_moments.proofs.moments.intake_moment.Given.{Over}
+use Rattle.air_source.proofs.Causes.{air_cause_since}
+use Rattle.measured_moments.proofs.CauseLemmas.{cause_passed, cause_wanted}
 use Rattle.intake_moments.proofs.moments.intake_moment.Goals as goal
 use Rattle.intake_moments.proofs.moments.intake_moment.Goals.{In_ok-land, In_ok-release}
 
@@ -133,3 +135,17 @@ returns-clause-wants g c wants =
 
 pub returns-clause-same : goal.returns-clause-same
 returns-clause-same g c = g.met.A.Air.same_more c.args.out.now c.land.new.out c.close_until.new.air c.land.ensures.same c.close_until.ensures.same
+
+pub returns-in_err-answer-clause-cause : goal.returns-in_err-answer-clause-cause
+returns-in_err-answer-clause-cause g c = cause_wanted (g.A.Air.faults c.args.out.now) (g.A.Air.faults c.args.out.now) c.from_residual.result c.from_residual.ensures.1 refl
+
+pub returns-in_err-release-clause-cause : goal.returns-in_err-release-clause-cause
+returns-in_err-release-clause-cause g c = cause_wanted (g.A.Air.faults c.args.out.now) (g.A.Air.faults c.args.out.now) c.from_residual-in_err-release.result c.from_residual-in_err-release.ensures.1 refl
+
+pub returns-in_err-land-clause-cause : goal.returns-in_err-land-clause-cause
+returns-in_err-land-clause-cause g c =
+    let same : c.land.result ≡ c.from_residual-in_err-land.result = search rules in
+    cause_passed (g.A.Air.faults c.args.out.now) (g.A.Air.faults c.args.out.now) (g.A.Air.faults c.land.new.out) c.land.result c.from_residual-in_err-land.result same refl c.land.ensures.cause
+
+pub returns-clause-cause : goal.returns-clause-cause
+returns-clause-cause g c = air_cause_since (g.A.Air.faults c.args.out.now) (g.A.Air.faults c.land.new.out) (g.A.Air.faults c.close_until.new.air) c.close_until.result c.in_ok-land.ensures.cause c.close_until.ensures.cause
