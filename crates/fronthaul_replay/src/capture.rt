@@ -1,5 +1,5 @@
 // The capture of a document, written.
-ghost use Rattle.std.specs.Prelude.{◌≡◌, ◌≤◌, OnOk};
+ghost use Rattle.std.specs.Prelude.{◌≡◌, OnOk};
 ghost use Rattle.std.specs.Io.KnownBytes.{append_known};
 ghost use Rattle.fh_base.specs.Told.{WritesFront};
 ghost use Rattle.intake_moments.specs.document_traffic.specs.Sending.{sent_for};
@@ -23,7 +23,7 @@ use std::alloc::Global;
 ///
 /// # Errors
 ///
-/// [`TextFault::WriteFault`] where writing failed, only where the sink's count of faults rose. [`TextFault::NoMemory`] where
+/// [`TextFault::WriteFault`] where writing failed, exactly where the sink's count of faults rose. [`TextFault::NoMemory`] where
 /// memory runs out, in the sink too.
 pub fn capture_document<K: Sink>(
     alloc: Global,
@@ -36,7 +36,6 @@ pub fn capture_document<K: Sink>(
     ensures front { WritesFront (K.written out.old) (K.written out.new) (capture_of document.now) }
     ensures done { OnOk result (K.written out.new ≡ append_known (K.written out.old) (capture_of document.now)) }
     ensures cause { HasWriteCause (K.faults out.old) (K.faults out.new) result }
-    ensures later { K.faults out.old ≤ K.faults out.new }
     ensures sound { OnOk result (IsSound document.now) }
 {
     let mut air = CaptureAir::new(out);

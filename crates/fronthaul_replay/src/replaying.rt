@@ -1,13 +1,12 @@
 // A replay of a document, told to any air.
-ghost use Rattle.std.specs.Prelude.{◌≡◌, ◌<◌, ◌≤◌, OnOk, IfErr, IfOk, IsErrOf};
+ghost use Rattle.std.specs.Prelude.{◌≡◌, ◌<◌, OnOk, IfErr, IfOk};
 ghost use Rattle.capture_air.specs.air_source.specs.Answers.{Fits16};
 ghost use Rattle.intake_moments.specs.document_traffic.specs.Sending.{sent_for};
 ghost use Rattle.intake_moments.specs.du_scheduler.specs.Plans.{HasToSend};
 ghost use Rattle.intake_moments.specs.tone_source.specs.Tones.{tone_of};
-ghost use Rattle.fronthaul_replay.specs.declared.report.TextFault.TheVariants.{WriteFault};
-ghost use Rattle.fh_base.specs.Causes.{Rose};
 ghost use Rattle.intake_moments.specs.fh_document.specs.Proper.{IsDocument};
 ghost use Rattle.fronthaul_replay.specs.Laws.{IsSound};
+ghost use Rattle.fronthaul_replay.specs.Replay.{HasWriteCause};
 ghost use Rattle.fronthaul_replay.specs.Replaying.{events_of};
 ghost use Rattle.fronthaul_replay.specs.Cut.{CutBy};
 ghost use Rattle.fronthaul_replay.specs.Replaying.{IsReplayable};
@@ -39,8 +38,7 @@ pub fn replay_to<A: Air>(
     requires plan { HasToSend document.now.config document.now.plan (sent_for document.now) plan }
     ensures heard { OnOk result (A.grew air.old (events_of document.now) air.new) }
     ensures cut { IfErr result (λ f. CutBy f A.grew A.stopped (events_of document.now) air.old air.new) }
-    ensures cause { IsErrOf result WriteFault → Rose (A.faults air.old) (A.faults air.new) }
-    ensures later { A.faults air.old ≤ A.faults air.new }
+    ensures cause { HasWriteCause (A.faults air.old) (A.faults air.new) result }
     ensures same { A.same air.old air.new }
     ensures sound { OnOk result (IsSound document.now) }
 {

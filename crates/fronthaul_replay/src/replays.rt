@@ -1,5 +1,5 @@
 // The replay.
-ghost use Rattle.std.specs.Prelude.{◌≡◌, ◌≤◌, IsErrOf, OnOk};
+ghost use Rattle.std.specs.Prelude.{◌≡◌, IsErrOf, OnOk};
 ghost use Rattle.capture_air.specs.air_source.specs.Answers.{AnswersBy};
 ghost use Rattle.capture_air.specs.air_source.specs.Causes.{HasAirCause};
 ghost use Rattle.capture_air.specs.air_source.specs.Kept.{IsKept, closure_of};
@@ -10,7 +10,6 @@ ghost use Rattle.sum_air.specs.delay_measure.specs.Kept.{answer_at};
 ghost use Rattle.intake_moments.specs.measured_moments.specs.Begins.{MeasuresWait};
 ghost use Rattle.intake_moments.specs.du_intake.specs.Calls.{IntakeStandsFor};
 ghost use Rattle.intake_moments.specs.du_scheduler.specs.Plans.{HasToSend};
-ghost use Rattle.fh_base.specs.Causes.{Rose};
 ghost use Rattle.intake_moments.specs.fh_document.specs.Proper.{IsDocument};
 ghost use Rattle.intake_moments.specs.Turns.{planned_for};
 ghost use Rattle.intake_moments.specs.ru_buffers.specs.Calls.{StandsFor};
@@ -19,6 +18,7 @@ ghost use Rattle.intake_moments.specs.unit_model.specs.Radiated.{first_clock};
 ghost use Rattle.intake_moments.specs.unit_model.specs.Standing.{nothing_yet};
 ghost use Rattle.fronthaul_replay.specs.Faults.{replay_fault};
 ghost use Rattle.fronthaul_replay.specs.Laws.{IsSound};
+ghost use Rattle.fronthaul_replay.specs.Replay.{HasReplayCause};
 ghost use Rattle.fronthaul_replay.specs.Replaying.{HaltsInStep, IsDone, IsReplayable, StopsInStep, events_of};
 ghost use Rattle.fronthaul_replay.specs.Turns.{WaitsInTurn};
 ghost use Rattle.fronthaul_replay.specs.declared.replays.ReplayFault.TheVariants.{AirFailed, NoMemory as WantsMemory};
@@ -88,7 +88,7 @@ impl From<AirFault> for ReplayFault {
 ///
 /// # Errors
 ///
-/// [`ReplayFault::AirFailed`] where the air stopped as failed, only where its count of faults rose. [`ReplayFault::NoMemory`] where
+/// [`ReplayFault::AirFailed`] where the air stopped as failed, exactly where its count of faults rose. [`ReplayFault::NoMemory`] where
 /// the air stopped for want of memory, or memory runs out for the replay's own work.
 pub fn replay<A: Air, F: Fn(RePlace) -> Wide, G: Fn(RePlace) -> Wide>(
     alloc: Global,
@@ -112,8 +112,7 @@ pub fn replay<A: Air, F: Fn(RePlace) -> Wide, G: Fn(RePlace) -> Wide>(
     ensures done { OnOk result (IsDone doc.now ru.new intake.new) }
     ensures stopped { IsErrOf result AirFailed → StopsInStep A.grew (A.stopped Failed) doc.now ru.new intake.new out.old out.new }
     ensures wants { IsErrOf result WantsMemory → HaltsInStep A.grew (A.stopped AirWantsMemory) doc.now ru.new intake.new out.old out.new }
-    ensures cause { IsErrOf result AirFailed → Rose (A.faults out.old) (A.faults out.new) }
-    ensures later { A.faults out.old ≤ A.faults out.new }
+    ensures cause { HasReplayCause (A.faults out.old) (A.faults out.new) result }
     ensures same { A.same out.old out.new }
     ensures sound { IsSound doc.now }
 {

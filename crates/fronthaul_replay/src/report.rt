@@ -1,7 +1,7 @@
 // The report of a document, written, and its count lines alone.
-ghost use Rattle.std.specs.Prelude.{◌≡◌, ◌≤◌, OnOk};
+ghost use Rattle.std.specs.Prelude.{◌≡◌, OnErr, OnOk};
 ghost use Rattle.std.specs.Io.KnownBytes.{append_known};
-ghost use Rattle.fh_base.specs.Told.{WritesFront};
+ghost use Rattle.fh_base.specs.Told.{WritesFront, WritesPart};
 ghost use Rattle.intake_moments.specs.document_traffic.specs.Sending.{sent_for};
 ghost use Rattle.intake_moments.specs.du_scheduler.specs.Plans.{HasToSend};
 ghost use Rattle.intake_moments.specs.fh_document.specs.Proper.{IsDocument};
@@ -61,11 +61,11 @@ impl From<AirFault> for TextFault {
 
 /// Writes the report of a document: each cell that radiates or is taken in, the counters of both units that are not at 0, and `end`.
 ///
-/// At Ok exactly the report was appended to what `out` holds; whatever the answer, a front part of it was.
+/// At Ok exactly the report was appended to what `out` holds; after an error a front part of it was, and not all.
 ///
 /// # Errors
 ///
-/// [`TextFault::WriteFault`] where writing failed, only where the sink's count of faults rose. [`TextFault::NoMemory`] where
+/// [`TextFault::WriteFault`] where writing failed, exactly where the sink's count of faults rose. [`TextFault::NoMemory`] where
 /// memory runs out, in the sink too.
 pub fn report_document<K: Sink>(
     alloc: Global,
@@ -76,9 +76,9 @@ pub fn report_document<K: Sink>(
     requires document { IsDocument document.now }
     requires plan { HasToSend document.now.config document.now.plan (sent_for document.now) plan }
     ensures front { WritesFront (K.written out.old) (K.written out.new) (document_report document.now) }
+    ensures part { OnErr result (WritesPart (K.written out.old) (K.written out.new) (document_report document.now)) }
     ensures done { OnOk result (K.written out.new ≡ append_known (K.written out.old) (document_report document.now)) }
     ensures cause { HasWriteCause (K.faults out.old) (K.faults out.new) result }
-    ensures later { K.faults out.old ≤ K.faults out.new }
     ensures sound { OnOk result (IsSound document.now) }
 {
     let mut air = TextAir::new(out);
@@ -88,7 +88,7 @@ pub fn report_document<K: Sink>(
 
 /// Writes the count lines of a document's report, the counters of both units that are not at 0, and `end`.
 ///
-/// At Ok exactly these were appended to what `out` holds; whatever the answer, a front part of them was.
+/// At Ok exactly these were appended to what `out` holds; after an error a front part of them was, and not all.
 ///
 /// # Errors
 ///
@@ -102,9 +102,9 @@ pub fn count_document<K: Sink>(
     requires document { IsDocument document.now }
     requires plan { HasToSend document.now.config document.now.plan (sent_for document.now) plan }
     ensures front { WritesFront (K.written out.old) (K.written out.new) (document_counts document.now) }
+    ensures part { OnErr result (WritesPart (K.written out.old) (K.written out.new) (document_counts document.now)) }
     ensures done { OnOk result (K.written out.new ≡ append_known (K.written out.old) (document_counts document.now)) }
     ensures cause { HasWriteCause (K.faults out.old) (K.faults out.new) result }
-    ensures later { K.faults out.old ≤ K.faults out.new }
     ensures sound { OnOk result (IsSound document.now) }
 {
     let mut air = CountAir::new(out);

@@ -1,7 +1,7 @@
 // The summary of a document, written.
-ghost use Rattle.std.specs.Prelude.{◌≡◌, ◌≤◌, [], OnOk};
+ghost use Rattle.std.specs.Prelude.{◌≡◌, [], OnErr, OnOk};
 ghost use Rattle.std.specs.Io.KnownBytes.{append_known};
-ghost use Rattle.fh_base.specs.Told.{WritesFront};
+ghost use Rattle.fh_base.specs.Told.{WritesFront, WritesPart};
 ghost use Rattle.intake_moments.specs.document_traffic.specs.Sending.{sent_for};
 ghost use Rattle.intake_moments.specs.du_scheduler.specs.Plans.{HasToSend};
 ghost use Rattle.intake_moments.specs.fh_document.specs.Proper.{IsDocument};
@@ -22,11 +22,11 @@ use sum_air::{SumAir, Sums};
 /// Writes the summary of a document: a line for each run of cells in place of the cells' lines, then those of the delays and of the
 /// counters that are not at 0, and `end`.
 ///
-/// At Ok exactly the summary was appended to what `out` holds; whatever the answer, a front part of it was.
+/// At Ok exactly the summary was appended to what `out` holds; after an error a front part of it was, and not all.
 ///
 /// # Errors
 ///
-/// [`TextFault::WriteFault`] where writing failed, only where the sink's count of faults rose. [`TextFault::NoMemory`] where
+/// [`TextFault::WriteFault`] where writing failed, exactly where the sink's count of faults rose. [`TextFault::NoMemory`] where
 /// memory runs out, in the sink too.
 pub fn summarize_document<K: Sink>(
     alloc: Global,
@@ -37,9 +37,9 @@ pub fn summarize_document<K: Sink>(
     requires document { IsDocument document.now }
     requires plan { HasToSend document.now.config document.now.plan (sent_for document.now) plan }
     ensures front { WritesFront (K.written out.old) (K.written out.new) (summary_of document.now) }
+    ensures part { OnErr result (WritesPart (K.written out.old) (K.written out.new) (summary_of document.now)) }
     ensures done { OnOk result (K.written out.new ≡ append_known (K.written out.old) (summary_of document.now)) }
     ensures cause { HasWriteCause (K.faults out.old) (K.faults out.new) result }
-    ensures later { K.faults out.old ≤ K.faults out.new }
     ensures sound { OnOk result (IsSound document.now) }
 {
     let mut air = SumAir::over(Sums::make(alloc)?, out);
@@ -61,9 +61,9 @@ fn tell_all<K: Sink>(
     requires start { sums_of air.old ≡ sum_start }
     ensures reference { sink_name air.new ≡ sink_name air.old }
     ensures front { WritesFront (K.written (sink_of air.old)) (K.written (sink_of air.new)) (summary_of document.now) }
+    ensures part { OnErr result (WritesPart (K.written (sink_of air.old)) (K.written (sink_of air.new)) (summary_of document.now)) }
     ensures done { OnOk result (K.written (sink_of air.new) ≡ append_known (K.written (sink_of air.old)) (summary_of document.now)) }
     ensures cause { HasWriteCause (K.faults (sink_of air.old)) (K.faults (sink_of air.new)) result }
-    ensures later { K.faults (sink_of air.old) ≤ K.faults (sink_of air.new) }
     ensures sound { OnOk result (IsSound document.now) }
 {
     replay_to(alloc, document, plan, air)?;

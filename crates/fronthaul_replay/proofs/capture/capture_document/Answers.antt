@@ -1,7 +1,8 @@
-use Rattle.std.proofs.Common.{rules}
+use Rattle.std.proofs.Common.{rules, ◌≡◌}
 use Rattle.std.proofs.lemmas.Result.{on_ok_weaker}
 use Rattle.capture_air.specs.Airs.{sink_of, owed_of}
 use Rattle.fronthaul_replay.proofs.Cuts.{capture_cut, capture_done, capture_front}
+use Rattle.fronthaul_replay.proofs.FaultLemmas.{last_cause, same_cause}
 use Rattle.fronthaul_replay.proofs.capture.capture_document.Goals as goal
 
 pub returns-clause-front : goal.returns-clause-front
@@ -27,3 +28,17 @@ returns-in_err-replay_to-clause-front g c =
     let b = c.replay_to.new.air in
     let front = capture_cut (λ a. w (sink_of a)) (λ a. g.K.Sink.faults (sink_of a)) (λ a. g.K.Sink.refusals (sink_of a)) owed_of c.args.document.now a b c.in_err-replay_to.field-0.0 c.new-air.ensures.owed c.in_err-replay_to.ensures.cut in
     search (rules, front)
+
+pub returns-in_err-replay_to-clause-cause : goal.returns-in_err-replay_to-clause-cause
+returns-in_err-replay_to-clause-cause g c =
+    let f = g.K.Sink.faults in
+    let same : c.replay_to.result ≡ c.from_residual.result = search rules in
+    let cause = same_cause (f (sink_of c.new-air.result)) (f (sink_of c.replay_to.new.air)) c.replay_to.result c.from_residual.result same c.replay_to.ensures.cause in
+    search (rules, cause)
+
+pub returns-clause-cause : goal.returns-clause-cause
+returns-clause-cause g c =
+    let f = g.K.Sink.faults in
+    let cause = last_cause (f (sink_of c.new-air.result)) (f (sink_of c.replay_to.new.air)) (f (sink_of c.finish.new.self)) c.finish.result c.map_err.result (search rules)
+    c.in_ok-replay_to.ensures.cause c.finish.ensures.cause in
+    search (rules, cause)

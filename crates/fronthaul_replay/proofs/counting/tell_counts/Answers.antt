@@ -5,6 +5,7 @@ use Rattle.capture_air.specs.air_source.specs.declared.events.Event.{Event}
 use Rattle.fault_counters.specs.declared.kinds.Counter.TheVariants.{Frames}
 use Rattle.fronthaul_replay.specs.Counting.{told_number}
 use Rattle.fronthaul_replay.proofs.CountLemmas.{counts_to, heard_among, stops_among, told_are, told_to_end}
+use Rattle.intake_moments.specs.measured_moments.proofs.CauseLemmas.{cause_passed}
 use Rattle.fronthaul_replay.proofs.counting.tell_counts.Goals as goal
 
 -- of so many counters
@@ -18,8 +19,6 @@ pub loop-counter-preserved : goal.loop-counter-preserved
 loop-counter-preserved g c =
     let old = c.loop-counter.invariant in
     let told = c.in_ok-tell_count.ensures in
-    let before = old.later in
-    let more = told.cause.later in
     record {
       heard = λ comp x has.
           heard_among g.A.Air.grew g.met.A.Air.grew_more c.args.side (told_number c.args.counters.now x.counted) c.all-counter-items.result c.loop-counter.counter-index Frames
@@ -27,7 +26,7 @@ loop-counter-preserved g c =
           (inside (length c.all-counter-items.result) c.loop-counter.counter-index (ap length c.all-counter-items.ensures.order) c.loop-counter-test.true)
           (c.number_of.ensures comp x has) (old.heard comp x has) told.heard;
       same = g.met.A.Air.same_more _ _ _ old.same told.same;
-      later = omega (arith, before, more);
+      still = told.cause ∙ old.still;
     }
 
 pub returns-clause-heard : goal.returns-clause-heard
@@ -49,3 +48,8 @@ returns-in_err-tell_count-clause-stop g c comp x has =
     c.number_of.result c.args.out.now c.loop-counter.out c.tell_count.new.out
     (inside (length c.all-counter-items.result) c.loop-counter.counter-index (ap length order) c.loop-counter-test.true)
     (c.number_of.ensures comp x has) (c.loop-counter.invariant.heard comp x has) (g.A.Air.stopped f) stop)) c.tell_count.ensures.stop)
+
+pub returns-in_err-tell_count-clause-cause : goal.returns-in_err-tell_count-clause-cause
+returns-in_err-tell_count-clause-cause g c =
+    let same : c.tell_count.result ≡ c.from_residual.result = search rules in
+    cause_passed (g.A.Air.faults c.args.out.now) (g.A.Air.faults c.loop-counter.out) (g.A.Air.faults c.tell_count.new.out) c.tell_count.result c.from_residual.result same c.loop-counter.invariant.still c.tell_count.ensures.cause

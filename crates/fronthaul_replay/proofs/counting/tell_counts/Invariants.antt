@@ -1,4 +1,4 @@
-use Rattle.std.proofs.Common.{take, ◌≤◌}
+use Rattle.std.proofs.Common.{take, ◌≡◌}
 use Rattle.intake_moments.specs.delay_exchange.specs.Units.{Has}
 use Rattle.intake_moments.specs.delay_laws.specs.Nodes.{Compensation}
 use Rattle.intake_moments.specs.measured_traffic.specs.Doings.{Doings}
@@ -10,5 +10,5 @@ invariant-loop-counter g l = record {
   heard : (c : Compensation) (x : Doings) → Has (goal.C-post g) c l.meter x
       → g.A.Air.grew l.initial.out (counts_to l.side l.counters x.counted (take l.counter-index l.counter-items)) l.out;
   same : g.A.Air.same l.initial.out l.out;
-  later : g.A.Air.faults l.initial.out ≤ g.A.Air.faults l.out;
+  still : g.A.Air.faults l.out ≡ g.A.Air.faults l.initial.out;
 }

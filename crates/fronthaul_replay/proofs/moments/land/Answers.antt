@@ -1,7 +1,9 @@
-use Rattle.std.proofs.Common.{rules, ◌≡◌, ◌∙◌}
+use Rattle.std.proofs.Common.{rules, ◌≡◌, ◌∙◌, refl}
 use Rattle.std.proofs.lemmas.Result.{IfErr-at_err, on_ok_weaker}
 use Rattle.capture_air.specs.air_source.specs.declared.airs.AirFault.TheVariants.{Failed, NoMemory}
 use Rattle.fronthaul_replay.proofs.StopLemmas.{halts_intake, halts_radio, heard_both, stops_intake, stops_radio}
+use Rattle.capture_air.specs.air_source.proofs.Causes.{air_cause_since}
+use Rattle.intake_moments.specs.measured_moments.proofs.CauseLemmas.{cause_passed}
 use Rattle.fronthaul_replay.proofs.moments.land.Goals as goal
 
 pub returns-in_err-radio_moment-clause-stop : goal.returns-in_err-radio_moment-clause-stop
@@ -36,3 +38,13 @@ returns-clause-wants g c wants =
 
 pub returns-clause-same : goal.returns-clause-same
 returns-clause-same g c = g.met.A.Air.same_more c.args.out.now c.radio_moment.new.out c.intake_moment.new.out c.radio_moment.ensures.same c.intake_moment.ensures.same
+
+pub returns-in_err-radio_moment-clause-cause : goal.returns-in_err-radio_moment-clause-cause
+returns-in_err-radio_moment-clause-cause g c =
+    let same : c.radio_moment.result ≡ c.from_residual.result = search rules in
+    cause_passed (g.A.Air.faults c.args.out.now) (g.A.Air.faults c.args.out.now) (g.A.Air.faults c.radio_moment.new.out) c.radio_moment.result c.from_residual.result same refl c.radio_moment.ensures.cause
+
+pub returns-clause-cause : goal.returns-clause-cause
+returns-clause-cause g c =
+    air_cause_since (g.A.Air.faults c.args.out.now) (g.A.Air.faults c.radio_moment.new.out) (g.A.Air.faults c.intake_moment.new.out) c.intake_moment.result
+    c.in_ok-radio_moment.ensures.cause c.intake_moment.ensures.cause

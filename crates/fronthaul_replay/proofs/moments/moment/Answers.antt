@@ -1,6 +1,7 @@
-use Rattle.std.proofs.Common.{rules, ◌≡◌, ◌∙◌}
+use Rattle.std.proofs.Common.{rules, ◌≡◌, ◌∙◌, refl}
 use Rattle.capture_air.specs.air_source.specs.declared.airs.AirFault.TheVariants.{NoMemory}
 use Rattle.fronthaul_replay.proofs.StopLemmas.{rests_after, rests_before}
+use Rattle.intake_moments.specs.measured_moments.proofs.CauseLemmas.{cause_passed, cause_wanted}
 use Rattle.fronthaul_replay.proofs.moments.moment.Goals as goal
 
 pub begin-requires : goal.begin-requires
@@ -20,3 +21,14 @@ pub returns-in_err-send_made-clause-wants : goal.returns-in_err-send_made-clause
 returns-in_err-send_made-clause-wants g c wants =
     rests_after g.A.Air.grew (g.A.Air.stopped NoMemory) c.args.doc.now c.args.tick.0 c.land.new.ru c.land.new.intake c.args.out.now c.land.new.out
     c.requires.moment.turn.radio.turn.begun c.in_ok-land.ensures.heard c.in_ok-land.ensures.turn
+
+pub returns-in_err-begin-clause-cause : goal.returns-in_err-begin-clause-cause
+returns-in_err-begin-clause-cause g c = cause_wanted (g.A.Air.faults c.args.out.now) (g.A.Air.faults c.args.out.now) c.from_residual.result c.from_residual.ensures.1 refl
+
+pub returns-in_err-land-clause-cause : goal.returns-in_err-land-clause-cause
+returns-in_err-land-clause-cause g c =
+    let same : c.land.result ≡ c.from_residual-in_err-land.result = search rules in
+    cause_passed (g.A.Air.faults c.args.out.now) (g.A.Air.faults c.args.out.now) (g.A.Air.faults c.land.new.out) c.land.result c.from_residual-in_err-land.result same refl c.land.ensures.cause
+
+pub returns-in_err-send_made-clause-cause : goal.returns-in_err-send_made-clause-cause
+returns-in_err-send_made-clause-cause g c = cause_wanted (g.A.Air.faults c.args.out.now) (g.A.Air.faults c.land.new.out) c.from_residual-in_err-send_made.result c.from_residual-in_err-send_made.ensures.1 c.in_ok-land.ensures.cause

@@ -1,4 +1,4 @@
-use Rattle.std.proofs.Common.{rules, ◌≡◌, ℤ, pos, ◌+ℤ◌, List, sym, subst, ◌∙◌, arith}
+use Rattle.std.proofs.Common.{rules, ◌≡◌, ℤ, pos, ◌+ℤ◌, List, refl, sym, subst, ◌∙◌}
 use Rattle.capture_air.specs.air_source.specs.declared.airs.AirFault.TheVariants.{Failed, NoMemory}
 use Rattle.capture_air.specs.air_source.specs.declared.events.Event.{Event}
 use Rattle.intake_moments.specs.radio_moments.specs.Turns.{events_before}
@@ -9,6 +9,7 @@ use Rattle.fronthaul_replay.specs.Turns.{AtMoment}
 use Rattle.fronthaul_replay.proofs.NextLemmas.{all_measured, end_comes, gap_less, heard_next, heard_there, in_order, moment_comes}
 use Rattle.fronthaul_replay.proofs.StepLemmas.{InStep}
 use Rattle.fronthaul_replay.proofs.StopLemmas.{halts_whole, stops_whole}
+use Rattle.intake_moments.specs.measured_moments.proofs.CauseLemmas.{cause_passed}
 use Rattle.fronthaul_replay.proofs.moments.pass.Goals as goal
 
 pub loop-tick-init : goal.loop-tick-init
@@ -16,7 +17,7 @@ loop-tick-init g c = record {
   at = c.requires.moment;
   heard = subst (λ (es : List Event). g.A.Air.grew c.args.out.now es c.args.out.now) (sym (events_none c.args.doc.now)) (g.met.A.Air.grew_none c.args.out.now);
   same = g.met.A.Air.same_none c.args.out.now;
-  later = omega arith;
+  still = refl;
 }
 
 pub next_moment-requires : goal.next_moment-requires
@@ -74,8 +75,6 @@ loop-tick-preserved g c =
     let n = moment_comes d c.loop-tick.now.0 c.loop-tick.ru c.loop-tick.intake c.loop-tick.coming c.loop-tick.meters c.requires.document old.at tick.0 m in
     let told = c.in_ok-moment.ensures in
     let next = sym c.tick_after-now.ensures in
-    let before = old.later in
-    let more = told.cause.later in
     let there = heard_there g.A.Air.grew d c.loop-tick.now.0 tick.0 c.args.out.now c.loop-tick.out n.next old.heard in
     record {
       at = subst (λ (t : ℤ). AtMoment (goal.G-pre g) (goal.G-post g) (goal.C-pre g) (goal.C-post g) (goal.D-pre g) (goal.D-post g) d t c.moment.new.ru c.moment.new.intake c.moment.new.coming c.moment.new.meters)
@@ -83,7 +82,7 @@ loop-tick-preserved g c =
       heard = subst (λ (t : ℤ). g.A.Air.grew c.args.out.now (events_before d t) c.moment.new.out) next
           (heard_next g.A.Air.grew g.met.A.Air.grew_more d tick.0 c.args.out.now c.loop-tick.out c.moment.new.out n.moment.turn.radio.turn.begun there told.heard);
       same = g.met.A.Air.same_more _ _ _ old.same told.same;
-      later = omega (arith, before, more);
+      still = told.cause ∙ old.still;
     }
 
 pub returns-in_err-moment-clause-stop : goal.returns-in_err-moment-clause-stop
@@ -131,3 +130,8 @@ returns-clause-measured g c =
     let still = c.in_default.ensures d old.at.turn.radio.history old.at.turn.intake.history old.at.turn.radio.stands old.at.turn.intake.stands in
     let n = end_comes d c.loop-tick.now.0 c.loop-tick.ru c.loop-tick.intake c.loop-tick.coming c.loop-tick.meters c.requires.document old.at still in
     all_measured n.moment.measures
+
+pub returns-in_err-moment-clause-cause : goal.returns-in_err-moment-clause-cause
+returns-in_err-moment-clause-cause g c =
+    let same : c.moment.result ≡ c.from_residual.result = search rules in
+    cause_passed (g.A.Air.faults c.args.out.now) (g.A.Air.faults c.loop-tick.out) (g.A.Air.faults c.moment.new.out) c.moment.result c.from_residual.result same c.loop-tick.invariant.still c.moment.ensures.cause

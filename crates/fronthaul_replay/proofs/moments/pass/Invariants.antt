@@ -1,4 +1,4 @@
-use Rattle.std.proofs.Common.{◌≤◌, ◌+ℤ◌, pos}
+use Rattle.std.proofs.Common.{◌≡◌, ◌+ℤ◌, pos}
 use Rattle.std.specs.Int.{int_gap}
 use Rattle.intake_moments.specs.radio_moments.specs.Turns.{events_before}
 use Rattle.intake_moments.specs.replay_events.specs.Moments.{end_of_time}
@@ -10,7 +10,7 @@ invariant-loop-tick g l = record {
   at : AtMoment (goal.G-pre g) (goal.G-post g) (goal.C-pre g) (goal.C-post g) (goal.D-pre g) (goal.D-post g) l.doc l.now.0 l.ru l.intake l.coming l.meters;
   heard : g.A.Air.grew l.initial.out (events_before l.doc l.now.0) l.out;
   same : g.A.Air.same l.initial.out l.out;
-  later : g.A.Air.faults l.initial.out ≤ g.A.Air.faults l.out;
+  still : g.A.Air.faults l.out ≡ g.A.Air.faults l.initial.out;
 }
 
 abbrev pub decreases-loop-tick : goal.decreases-loop-tick

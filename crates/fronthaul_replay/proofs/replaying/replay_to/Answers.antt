@@ -1,7 +1,7 @@
-use Rattle.std.proofs.Common.{Err, ap}
+use Rattle.std.proofs.Common.{Err, ap, refl}
 use Rattle.capture_air.specs.air_source.specs.declared.airs.AirFault.TheVariants.{Failed, NoMemory}
 use Rattle.fronthaul_replay.specs.Replaying.{events_of}
-use Rattle.fronthaul_replay.proofs.FaultLemmas.{cut_from, failed_from}
+use Rattle.fronthaul_replay.proofs.FaultLemmas.{cut_from, write_cause, write_wanted}
 use Rattle.fronthaul_replay.proofs.StopLemmas.{halts_cut, stops_cut}
 use Rattle.fronthaul_replay.proofs.replaying.replay_to.Goals as goal
 
@@ -19,7 +19,13 @@ returns-in_err-replay-clause-cut g c =
     (λ is. stops_cut grew (stopped Failed) d r.ru r.intake c.args.air.now r.out (c.in_err-replay.ensures.stopped (ap Err is)))
     (λ is. halts_cut grew (stopped NoMemory) d r.ru r.intake c.args.air.now r.out (c.in_err-replay.ensures.wants (ap Err is)))
 
+pub returns-in_err-ru-clause-cause : goal.returns-in_err-ru-clause-cause
+returns-in_err-ru-clause-cause g c = write_wanted (g.A.Air.faults c.args.air.now) (g.A.Air.faults c.args.air.now) c.from_residual.result c.from_residual.ensures.1 refl
+
+pub returns-in_err-intake-clause-cause : goal.returns-in_err-intake-clause-cause
+returns-in_err-intake-clause-cause g c = write_wanted (g.A.Air.faults c.args.air.now) (g.A.Air.faults c.args.air.now) c.from_residual-in_err-intake.result c.from_residual-in_err-intake.ensures.1 refl
+
 pub returns-in_err-replay-clause-cause : goal.returns-in_err-replay-clause-cause
-returns-in_err-replay-clause-cause g c failed =
+returns-in_err-replay-clause-cause g c =
     let x = c.from_residual-in_err-replay in
-    c.in_err-replay.ensures.cause (ap Err (failed_from c.in_err-replay.field-0.0 x.result x.ensures.1 failed))
+    write_cause (g.A.Air.faults c.args.air.now) (g.A.Air.faults c.replay.new.out) c.in_err-replay.field-0.0 x.result x.ensures.1 c.in_err-replay.ensures.cause

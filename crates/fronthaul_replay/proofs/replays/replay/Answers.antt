@@ -1,6 +1,7 @@
-use Rattle.std.proofs.Common.{rules, inr}
+use Rattle.std.proofs.Common.{rules, inr, refl}
 use Rattle.fronthaul_replay.proofs.LawLemmas.{is_sound}
 use Rattle.fronthaul_replay.proofs.StopLemmas.{none_heard}
+use Rattle.fronthaul_replay.proofs.FaultLemmas.{replay_cause, replay_wanted}
 use Rattle.fronthaul_replay.proofs.replays.replay.Goals as goal
 
 -- no memory for what is to come
@@ -31,3 +32,12 @@ returns-clause-stopped g c stopped = c.run.ensures.stop (search rules)
 
 pub returns-clause-wants : goal.returns-clause-wants
 returns-clause-wants g c wants = c.run.ensures.wants (search rules)
+
+pub returns-in_err-coming-clause-cause : goal.returns-in_err-coming-clause-cause
+returns-in_err-coming-clause-cause g c = replay_wanted (g.A.Air.faults c.args.out.now) (g.A.Air.faults c.args.out.now) c.from_residual.result c.from_residual.ensures.1 refl
+
+pub returns-in_err-meters-clause-cause : goal.returns-in_err-meters-clause-cause
+returns-in_err-meters-clause-cause g c = replay_wanted (g.A.Air.faults c.args.out.now) (g.A.Air.faults c.args.out.now) c.from_residual-in_err-meters.result c.from_residual-in_err-meters.ensures.1 refl
+
+pub returns-clause-cause : goal.returns-clause-cause
+returns-clause-cause g c = replay_cause (g.A.Air.faults c.args.out.now) (g.A.Air.faults c.run.new.out) c.run.result c.map_err.result (search rules) c.run.ensures.cause

@@ -1,4 +1,4 @@
-use Rattle.std.proofs.Common.{rules, ◌≡◌, inl, ◌∙◌}
+use Rattle.std.proofs.Common.{rules, ◌≡◌, inl, ◌∙◌, refl}
 use Rattle.std.proofs.lemmas.Result.{IfErr-at_err, on_ok_weaker}
 use Rattle.capture_air.specs.air_source.specs.declared.airs.AirFault.TheVariants.{Failed, NoMemory}
 use Rattle.capture_air.specs.air_source.specs.declared.events.Side.TheVariants.{Ru, Du}
@@ -8,6 +8,8 @@ use Rattle.intake_moments.proofs.NextLemmas.{intake_begins}
 use Rattle.intake_moments.specs.radio_moments.proofs.TurnLemmas.{first_turn}
 use Rattle.fronthaul_replay.proofs.CountLemmas.{all_doings, heard_all, intake_counts, over, radio_counts, stops_intake_count, stops_radio_count, told_for}
 use Rattle.fronthaul_replay.proofs.StopLemmas.{halts_passing, stops_passing}
+use Rattle.capture_air.specs.air_source.proofs.Causes.{air_cause_since}
+use Rattle.intake_moments.specs.measured_moments.proofs.CauseLemmas.{cause_passed}
 use Rattle.fronthaul_replay.proofs.replays.run.Goals as goal
 
 pub pass-requires-clause-moment : goal.pass-requires-clause-moment
@@ -123,3 +125,16 @@ pub returns-clause-same : goal.returns-clause-same
 returns-clause-same g c =
     g.met.A.Air.same_more c.args.out.now c.tell_counts.new.out c.tell_counts-2.new.out
     (g.met.A.Air.same_more c.args.out.now c.pass.new.out c.tell_counts.new.out c.pass.ensures.same c.tell_counts.ensures.same) c.tell_counts-2.ensures.same
+
+pub returns-in_err-pass-clause-cause : goal.returns-in_err-pass-clause-cause
+returns-in_err-pass-clause-cause g c =
+    let same : c.pass.result ≡ c.from_residual.result = search rules in
+    cause_passed (g.A.Air.faults c.args.out.now) (g.A.Air.faults c.args.out.now) (g.A.Air.faults c.pass.new.out) c.pass.result c.from_residual.result same refl c.pass.ensures.cause
+
+pub returns-in_err-tell_counts-clause-cause : goal.returns-in_err-tell_counts-clause-cause
+returns-in_err-tell_counts-clause-cause g c =
+    let same : c.tell_counts.result ≡ c.from_residual-in_err-tell_counts.result = search rules in
+    cause_passed (g.A.Air.faults c.args.out.now) (g.A.Air.faults c.pass.new.out) (g.A.Air.faults c.tell_counts.new.out) c.tell_counts.result c.from_residual-in_err-tell_counts.result same c.in_ok-pass.ensures.cause c.tell_counts.ensures.cause
+
+pub returns-clause-cause : goal.returns-clause-cause
+returns-clause-cause g c = air_cause_since (g.A.Air.faults c.args.out.now) (g.A.Air.faults c.tell_counts.new.out) (g.A.Air.faults c.tell_counts-2.new.out) c.tell_counts-2.result (c.in_ok-tell_counts.ensures.cause ∙ c.in_ok-pass.ensures.cause) c.tell_counts-2.ensures.cause

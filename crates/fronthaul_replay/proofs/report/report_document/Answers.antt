@@ -1,9 +1,10 @@
-use Rattle.std.proofs.Common.{rules}
-use Rattle.std.proofs.lemmas.Result.{on_ok_weaker}
+use Rattle.std.proofs.Common.{rules, ◌≡◌}
+use Rattle.std.proofs.lemmas.Result.{on_err_weaker, on_ok_weaker}
 use Rattle.text_air.specs.Airs.{sink_of, owed_of}
 use Rattle.text_air.specs.Text.{event_text}
 use Rattle.fronthaul_replay.specs.Reports.{document_report}
-use Rattle.fronthaul_replay.proofs.Written.{cut_text, heard_front, heard_whole, report_is}
+use Rattle.fronthaul_replay.proofs.Written.{at_error, cut_text, error_passed, heard_front, heard_part, heard_whole, part_text, report_is}
+use Rattle.fronthaul_replay.proofs.FaultLemmas.{last_cause, same_cause}
 use Rattle.fronthaul_replay.proofs.report.report_document.Goals as goal
 
 pub returns-clause-front : goal.returns-clause-front
@@ -29,3 +30,34 @@ returns-in_err-replay_to-clause-front g c =
     let b = c.replay_to.new.air in
     let front = cut_text event_text document_report report_is c.args.document.now (λ a. w (sink_of a)) (λ a. g.K.Sink.faults (sink_of a)) (λ a. g.K.Sink.refusals (sink_of a)) owed_of a b c.in_err-replay_to.field-0.0 c.new-air.ensures.owed c.in_err-replay_to.ensures.cut in
     search (rules, front)
+
+pub returns-in_err-replay_to-clause-cause : goal.returns-in_err-replay_to-clause-cause
+returns-in_err-replay_to-clause-cause g c =
+    let f = g.K.Sink.faults in
+    let same : c.replay_to.result ≡ c.from_residual.result = search rules in
+    let cause = same_cause (f (sink_of c.new-air.result)) (f (sink_of c.replay_to.new.air)) c.replay_to.result c.from_residual.result same c.replay_to.ensures.cause in
+    search (rules, cause)
+
+pub returns-clause-cause : goal.returns-clause-cause
+returns-clause-cause g c =
+    let f = g.K.Sink.faults in
+    let cause = last_cause (f (sink_of c.new-air.result)) (f (sink_of c.replay_to.new.air)) (f (sink_of c.finish.new.self)) c.finish.result c.map_err.result (search rules)
+    c.in_ok-replay_to.ensures.cause c.finish.ensures.cause in
+    search (rules, cause)
+
+pub returns-in_err-replay_to-clause-part : goal.returns-in_err-replay_to-clause-part
+returns-in_err-replay_to-clause-part g c =
+    let w = g.K.Sink.written in
+    let a = c.new-air.result in
+    let b = c.replay_to.new.air in
+    let part = at_error c.from_residual.result _ (part_text event_text document_report report_is c.args.document.now (λ a. w (sink_of a)) (λ a. g.K.Sink.faults (sink_of a)) (λ a. g.K.Sink.refusals (sink_of a)) owed_of a b c.in_err-replay_to.field-0.0 c.new-air.ensures.owed c.in_err-replay_to.ensures.cut) in
+    search (rules, part)
+
+pub returns-clause-part : goal.returns-clause-part
+returns-clause-part g c =
+    let w = g.K.Sink.written in
+    let a = c.new-air.result in
+    let b = c.replay_to.new.air in
+    let part = on_err_weaker c.finish.result (λ some. heard_part event_text document_report report_is c.args.document.now (w (sink_of a)) (owed_of a) (w (sink_of b)) (owed_of b) (w (sink_of c.finish.new.self)) c.new-air.ensures.owed c.in_ok-replay_to.ensures.heard some) c.finish.ensures.part in
+    let passed = error_passed c.finish.result c.map_err.result _ c.map_err.ensures.variant part in
+    search (rules, passed)

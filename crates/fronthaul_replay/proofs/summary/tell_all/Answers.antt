@@ -1,7 +1,9 @@
-use Rattle.std.proofs.Common.{rules}
-use Rattle.std.proofs.lemmas.Result.{on_ok_weaker}
+use Rattle.std.proofs.Common.{rules, ◌≡◌}
+use Rattle.std.proofs.lemmas.Result.{on_err_weaker, on_ok_weaker}
 use Rattle.sum_air.specs.Airs.{sink_of, owed_of, sums_of}
-use Rattle.fronthaul_replay.proofs.Cuts.{summary_cut, summary_done, summary_front}
+use Rattle.fronthaul_replay.proofs.Cuts.{summary_cut, summary_cut_part, summary_done, summary_front, summary_part}
+use Rattle.fronthaul_replay.proofs.FaultLemmas.{last_cause, same_cause}
+use Rattle.fronthaul_replay.proofs.Written.{at_error, error_passed}
 use Rattle.fronthaul_replay.proofs.summary.tell_all.Goals as goal
 
 pub returns-clause-front : goal.returns-clause-front
@@ -26,3 +28,34 @@ returns-in_err-replay_to-clause-front g c =
     let b = c.replay_to.new.air in
     let front = summary_cut (λ a. w (sink_of a)) (λ a. g.K.Sink.faults (sink_of a)) (λ a. g.K.Sink.refusals (sink_of a)) owed_of sums_of c.args.document.now a b c.in_err-replay_to.field-0.0 c.requires.nothing c.requires.start c.in_err-replay_to.ensures.cut in
     search (rules, front)
+
+pub returns-in_err-replay_to-clause-cause : goal.returns-in_err-replay_to-clause-cause
+returns-in_err-replay_to-clause-cause g c =
+    let f = g.K.Sink.faults in
+    let same : c.replay_to.result ≡ c.from_residual.result = search rules in
+    let cause = same_cause (f (sink_of c.args.air.now)) (f (sink_of c.replay_to.new.air)) c.replay_to.result c.from_residual.result same c.replay_to.ensures.cause in
+    search (rules, cause)
+
+pub returns-clause-cause : goal.returns-clause-cause
+returns-clause-cause g c =
+    let f = g.K.Sink.faults in
+    let cause = last_cause (f (sink_of c.args.air.now)) (f (sink_of c.replay_to.new.air)) (f (sink_of c.finish.new.self)) c.finish.result c.map_err.result (search rules)
+    c.in_ok-replay_to.ensures.cause c.finish.ensures.cause in
+    search (rules, cause)
+
+pub returns-in_err-replay_to-clause-part : goal.returns-in_err-replay_to-clause-part
+returns-in_err-replay_to-clause-part g c =
+    let w = g.K.Sink.written in
+    let a = c.args.air.now in
+    let b = c.replay_to.new.air in
+    let part = at_error c.from_residual.result _ (summary_cut_part (λ a. w (sink_of a)) (λ a. g.K.Sink.faults (sink_of a)) (λ a. g.K.Sink.refusals (sink_of a)) owed_of sums_of c.args.document.now a b c.in_err-replay_to.field-0.0 c.requires.nothing c.requires.start c.in_err-replay_to.ensures.cut) in
+    search (rules, part)
+
+pub returns-clause-part : goal.returns-clause-part
+returns-clause-part g c =
+    let w = g.K.Sink.written in
+    let a = c.args.air.now in
+    let b = c.replay_to.new.air in
+    let part = on_err_weaker c.finish.result (λ some. summary_part c.args.document.now (sums_of a) (w (sink_of a)) (owed_of a) (sums_of b) (w (sink_of b)) (owed_of b) (w (sink_of c.finish.new.self)) c.requires.nothing c.requires.start c.in_ok-replay_to.ensures.heard some) c.finish.ensures.part in
+    let passed = error_passed c.finish.result c.map_err.result _ c.map_err.ensures.variant part in
+    search (rules, passed)
