@@ -3,3 +3,4 @@ mod Heard
 mod Mixing
 pub mod Summing
 mod Writing
+pub mod Causes

@@ -1,12 +1,13 @@
 -- What was written of a shared cell's text.
-use Rattle.std.proofs.Common.{◌≡◌, ℕ, zero, suc, ◌+◌, ◌<◌, ◌≤◌, List, [], ◌∷◌, ◌++◌, Option, refl, ap, ap₂, sym, ◌∙◌, subst, arith, append_assoc, append-nil, ◌-◌}
+use Rattle.std.proofs.Common.{◌≡◌, ◌≢◌, length, length-append, ℕ, zero, suc, ◌+◌, ◌<◌, ◌≤◌, List, [], ◌∷◌, ◌++◌, Option, refl, ap, ap₂, sym, ◌∙◌, subst, arith, append_assoc, append-nil, ◌-◌}
+use Rattle.std.specs.List.{flat_map}
 use Rattle.std.specs.Io.KnownBytes.{append_known}
 use Rattle.std.proofs.lemmas.Grind.{flat_map-append}
 use Rattle.air_source.specs.declared.airs.AirFault.{AirFault}
 use Rattle.air_source.specs.declared.airs.AirFault.TheVariants.{Failed, NoMemory as WantsMemory}
 use Rattle.air_source.specs.declared.events.Event.{Event}
 use Rattle.air_sinks.proofs.Fronts.{IsFront, WritesOut, carried_from, cut_front, front_from, stops_front}
-use Rattle.fh_base.specs.Told.{WritesFront}
+use Rattle.fh_base.specs.Told.{WritesFront, WritesPart}
 use Rattle.fh_base.proofs.Known.{append_nothing, append_twice}
 use Rattle.fh_base.proofs.Progress.{front_first, front_second}
 use Rattle.fh_document.specs.declared.document.Document.{Document}
@@ -17,10 +18,11 @@ use Rattle.fronthaul_replay.specs.declared.report.TextFault.TheVariants.{WriteFa
 use Rattle.owed_bytes.specs.Owed.{Carried}
 use Rattle.owed_bytes.specs.CarriedLaws.{carried_more}
 use Rattle.owed_bytes.proofs.Carrying.{front_behind}
+use Rattle.owed_bytes.proofs.Parts.{front_part, part_second}
 use Rattle.owed_bytes.proofs.Telling.{all_written, last_front}
 use Rattle.shared_cell.specs.Combined.{combined}
 use Rattle.shared_cell.specs.declared.values.Mixed.{Mixed}
-use Rattle.shared_lines.specs.Lines.{mixes_text, unit_text}
+use Rattle.shared_lines.specs.Lines.{combined_text, end_text, mixed_text, mixes_text, unit_text}
 use Rattle.shared_text.specs.Shared.{lines_with, shared_text, unit_lines, units_cells, units_text}
 use Rattle.unit_air.specs.Laws.{Heard}
 use Rattle.unit_air.specs.Stopping.{Ceased}
@@ -107,16 +109,36 @@ unfolding units_text
 units_more d step n w v u before now = now ∙ ap (λ (o : Option (List ℕ)). append_known o (unit_lines d step n)) before ∙ append_twice w (units_text d step n) (unit_lines d step n)
 
 -- of one unit more a front was written
-pub units_cut : (d : Document) (count step n : ℕ) (w v u : Option (List ℕ)) → n < count → v ≡ append_known w (units_text d step n) → WritesFront v u (unit_lines d step n) → WritesFront w u (shared_text d count step)
-unfolding units_text shared_text
-units_cut d count step n w v u below before front =
+units_begun : (d : Document) (count step n : ℕ) (w v u : Option (List ℕ)) → n < count → v ≡ append_known w (units_text d step n) → WritesFront v u (unit_lines d step n) → WritesFront w u (units_text d step count)
+unfolding units_text
+units_begun d count step n w v u below before front =
     let more : ℕ = count - suc n in
     let same : more + suc n ≡ count = omega arith in
     let far = units_front d step (suc n) more in
-    front_first w u (units_text d step count) (mixes_text (combined (units_cells d step count)))
-    (subst (λ (k : ℕ). WritesFront w u (units_text d step k)) same
+    subst (λ (k : ℕ). WritesFront w u (units_text d step k)) same
     (subst (λ (t : List ℕ). WritesFront w u t) (sym far.is)
-    (front_first w u (units_text d step (suc n)) far.rest (front_second w v u (units_text d step n) (unit_lines d step n) before front))))
+    (front_first w u (units_text d step (suc n)) far.rest (front_second w v u (units_text d step n) (unit_lines d step n) before front)))
+
+pub units_cut : (d : Document) (count step n : ℕ) (w v u : Option (List ℕ)) → n < count → v ≡ append_known w (units_text d step n) → WritesFront v u (unit_lines d step n) → WritesFront w u (shared_text d count step)
+unfolding shared_text
+units_cut d count step n w v u below before front =
+    front_first w u (units_text d step count) (mixes_text (combined (units_cells d step count))) (units_begun d count step n w v u below before front)
+
+-- the lines of the combined cells are never empty
+some_mixes : (ms : List Mixed) → mixes_text ms ≢ []
+unfolding mixes_text
+some_mixes ms none =
+    let rest = flat_map mixed_text ms ++ end_text in
+    let empty : length (combined_text ++ rest) ≡ 0 = ap length none in
+    let nine : length combined_text ≡ 9 = refl in
+    omega (arith, empty, nine, length-append combined_text rest)
+
+-- and not all, since the combined cells were still to come
+pub units_part : (d : Document) (count step n : ℕ) (w v u : Option (List ℕ)) → n < count → v ≡ append_known w (units_text d step n) → WritesFront v u (unit_lines d step n) → WritesPart w u (shared_text d count step)
+unfolding shared_text
+units_part d count step n w v u below before front =
+    let ms = combined (units_cells d step count) in
+    front_part w u (units_text d step count) (mixes_text ms) (some_mixes ms) (units_begun d count step n w v u below before front)
 
 -- all units, and then the combined cells
 pub all_done : (d : Document) (count step : ℕ) (ms : List Mixed) (w v u : Option (List ℕ)) → ms ≡ combined (units_cells d step count) → v ≡ append_known w (units_text d step count) → u ≡ append_known v (mixes_text ms)
@@ -130,6 +152,12 @@ pub mixes_cut : (d : Document) (count step : ℕ) (ms : List Mixed) (w v u : Opt
 unfolding shared_text
 mixes_cut d count step ms w v u is before front =
     front_second w v u (units_text d step count) (mixes_text (combined (units_cells d step count))) before (subst (λ (ks : List Mixed). WritesFront v u (mixes_text ks)) is front)
+
+pub mixes_part : (d : Document) (count step : ℕ) (ms : List Mixed) (w v u : Option (List ℕ)) → ms ≡ combined (units_cells d step count) → v ≡ append_known w (units_text d step count) → WritesPart v u (mixes_text ms)
+    → WritesPart w u (shared_text d count step)
+unfolding shared_text
+mixes_part d count step ms w v u is before part =
+    part_second w v u (units_text d step count) (mixes_text (combined (units_cells d step count))) before (subst (λ (ks : List Mixed). WritesPart v u (mixes_text ks)) is part)
 
 -- the same, by the number that a loop counts
 pub units_next : (d : Document) (step n : ℕ) (w v u : Option (List ℕ)) → v ≡ append_known w (units_text d step n) → u ≡ append_known v (unit_lines d step n) → u ≡ append_known w (units_text d step (n + 1))

@@ -1,6 +1,6 @@
--- Under which names the faults below are passed on, and when a fault of writing may come (this project's profile).
-use Rattle.std.specs.Prelude.{ℕ, Result, IsErrOf}
-use Rattle.fh_base.specs.Causes.{Rose}
+-- Under which names the faults below are passed on, and when a fault of writing comes (this project's profile).
+use Rattle.std.specs.Prelude.{ℕ, Bool, true, false, Result, Ok, Err}
+use Rattle.fh_base.specs.Causes.{Counts}
 use Rattle.air_source.specs.declared.airs.AirFault.{AirFault}
 use Rattle.air_source.specs.declared.airs.AirFault.TheVariants as air
 use Rattle.fh_base.specs.declared.fault.SinkFault.{SinkFault}
@@ -25,6 +25,12 @@ abbrev pub of_sink : SinkFault → ShareFault
 of_sink sink.Failed = WriteFault
 of_sink sink.NoMemory = NoMemory
 
--- a fault of writing comes only where the sink's count of faults rose; want of memory has no cause
+-- writing failed
+abbrev pub has_share_fault : {T : Type 0} → Result T ShareFault → Bool
+has_share_fault (Ok value) = false
+has_share_fault (Err WriteFault) = true
+has_share_fault (Err NoMemory) = false
+
+-- the sink's count of faults rose exactly at a fault of writing; want of memory has no cause
 abbrev pub HasShareCause : {T : Type 0} → ℕ → ℕ → Result T ShareFault → Type 0
-HasShareCause before now result = IsErrOf result WriteFault → Rose before now
+HasShareCause before now result = Counts (has_share_fault result) before now

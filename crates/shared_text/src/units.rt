@@ -1,5 +1,5 @@
 // What one unit of a shared cell writes, and what it adds.
-ghost use Rattle.std.specs.Prelude.{◌≡◌, ◌≤◌, ◌++◌, OnOk, IfOk};
+ghost use Rattle.std.specs.Prelude.{◌≡◌, ◌++◌, OnOk, IfOk};
 ghost use Rattle.std.specs.Io.KnownBytes.{append_known};
 ghost use Rattle.document_traffic.specs.Sending.{sent_for};
 ghost use Rattle.du_scheduler.specs.Plans.{HasToSend};
@@ -47,7 +47,6 @@ fn write_unit<K: Sink>(
     ensures done { OnOk result (K.written out.new ≡ append_known (K.written out.old) (lines_with unit (events_of document.now))) }
     ensures mixed { OnOk result (mixer.new ≡ all_taken (events_of document.now) mixer.old) }
     ensures cause { HasShareCause (K.faults out.old) (K.faults out.new) result }
-    ensures later { K.faults out.old ≤ K.faults out.new }
 {
     let mut air = UnitAir::new(out, mixer);
     air.begin(unit)?;
@@ -69,7 +68,6 @@ pub(crate) fn share_unit<K: Sink>(
     ensures done { OnOk result (K.written out.new ≡ append_known (K.written out.old) (unit_lines doc.now step unit)) }
     ensures mixed { OnOk result (mixer.new ≡ all_taken (events_of (unit_of doc.now unit step)) mixer.old) }
     ensures cause { HasShareCause (K.faults out.old) (K.faults out.new) result }
-    ensures later { K.faults out.old ≤ K.faults out.new }
 {
     let document = unit_document(alloc, doc, unit, step)?;
     let plan = unit_plan(alloc, &document)?;

@@ -9,5 +9,5 @@ invariant-loop-unit g l = record {
   below : l.unit ≤ l.fn.count;
   written : g.K.Sink.written l.out ≡ append_known (g.K.Sink.written l.initial.out) (units_text l.doc l.fn.step l.unit);
   mixed : l.mixer ≡ units_taken l.doc l.fn.step l.unit;
-  later : g.K.Sink.faults l.initial.out ≤ g.K.Sink.faults l.out;
+  still : g.K.Sink.faults l.out ≡ g.K.Sink.faults l.initial.out;
 }

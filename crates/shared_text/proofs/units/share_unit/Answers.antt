@@ -1,4 +1,4 @@
-use Rattle.std.proofs.Common.{◌≡◌, subst, sym}
+use Rattle.std.proofs.Common.{◌≡◌, refl, subst, sym}
 use Rattle.std.specs.Prelude.{OnOk}
 use Rattle.std.specs.Io.KnownBytes.{append_known}
 use Rattle.fh_base.specs.Told.{WritesFront}
@@ -8,6 +8,7 @@ use Rattle.fronthaul_replay.specs.Replaying.{events_of}
 use Rattle.unit_air.specs.Text.{all_taken}
 use Rattle.unit_documents.proofs.Moved.{are_documents}
 use Rattle.shared_text.specs.Shared.{lines_with, unit_lines}
+use Rattle.shared_text.proofs.Causes.{share_wanted}
 use Rattle.shared_text.proofs.units.share_unit.Goals as goal
 
 pub unit_plan-requires : goal.unit_plan-requires
@@ -30,3 +31,10 @@ returns-clause-done g c =
 pub returns-clause-mixed : goal.returns-clause-mixed
 returns-clause-mixed g c =
     subst (λ (d : Document). OnOk c.write_unit.result (c.write_unit.new.mixer ≡ all_taken (events_of d) c.args.mixer.now)) c.in_ok-document.ensures c.write_unit.ensures.mixed
+
+pub returns-in_err-document-clause-cause : goal.returns-in_err-document-clause-cause
+returns-in_err-document-clause-cause g c = share_wanted (g.K.Sink.faults c.args.out.now) (g.K.Sink.faults c.args.out.now) c.from_residual.result c.from_residual.ensures.1 refl
+
+pub returns-in_err-plan-clause-cause : goal.returns-in_err-plan-clause-cause
+returns-in_err-plan-clause-cause g c =
+    share_wanted (g.K.Sink.faults c.args.out.now) (g.K.Sink.faults c.args.out.now) c.from_residual-in_err-plan.result c.from_residual-in_err-plan.ensures.1 refl

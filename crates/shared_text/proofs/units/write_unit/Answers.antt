@@ -5,6 +5,7 @@ use Rattle.fronthaul_replay.specs.Replaying.{events_of}
 use Rattle.unit_air.specs.Airs.{mixer_of, owed_of, sink_of}
 use Rattle.unit_air.specs.Text.{all_taken}
 use Rattle.shared_text.proofs.Writing.{begin_cut, replay_cut, unit_done, unit_front}
+use Rattle.shared_text.proofs.Causes.{share_air, share_cause_since, share_of_air, share_of_text}
 use Rattle.shared_text.proofs.units.write_unit.Goals as goal
 
 pub returns-clause-front : goal.returns-clause-front
@@ -50,3 +51,28 @@ returns-in_err-replay_to-clause-front g c =
     let front = replay_cut (λ a. w (sink_of a)) (λ a. g.K.Sink.faults (sink_of a)) owed_of mixer_of c.args.unit (events_of c.args.document.now) c.in_err-replay_to.field-0.0 (w (sink_of a)) (owed_of a) b x
     c.new-air.ensures.owed c.in_ok-begin.ensures.carried c.in_err-replay_to.ensures.cut in
     search (rules, front)
+
+pub returns-in_err-begin-clause-cause : goal.returns-in_err-begin-clause-cause
+returns-in_err-begin-clause-cause g c =
+    let f = g.K.Sink.faults in
+    let r = c.from_residual in
+    let cause = share_of_air (f (sink_of c.new-air.result)) (f (sink_of c.begin.new.self)) c.in_err-begin.field-0.0 r.result r.ensures.1 c.in_err-begin.ensures.cause in
+    search (rules, cause)
+
+pub returns-in_err-replay_to-clause-cause : goal.returns-in_err-replay_to-clause-cause
+returns-in_err-replay_to-clause-cause g c =
+    let f = g.K.Sink.faults in
+    let b = c.begin.new.self in
+    let x = c.replay_to.new.air in
+    let r = c.from_residual-in_err-replay_to in
+    let cause = share_cause_since (f (sink_of c.new-air.result)) (f (sink_of b)) (f (sink_of x)) r.result c.in_ok-begin.ensures.cause
+    (share_of_text (f (sink_of b)) (f (sink_of x)) c.in_err-replay_to.field-0.0 r.result r.ensures.1 c.in_err-replay_to.ensures.cause) in
+    search (rules, cause)
+
+pub returns-clause-cause : goal.returns-clause-cause
+returns-clause-cause g c =
+    let f = g.K.Sink.faults in
+    let x = c.replay_to.new.air in
+    let cause = share_cause_since (f (sink_of c.new-air.result)) (f (sink_of x)) (f (sink_of c.finish.new.self)) c.map_err.result (c.in_ok-replay_to.ensures.cause ∙ c.in_ok-begin.ensures.cause)
+    (share_air (f (sink_of x)) (f (sink_of c.finish.new.self)) c.finish.result c.map_err.result (search rules) c.finish.ensures.cause) in
+    search (rules, cause)
