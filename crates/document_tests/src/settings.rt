@@ -64,7 +64,10 @@ fn lines_set_what_they_name(rt: HostRuntime) {
         ru_receiving: 28,
     };
     assert_eq!(rt; d.comps, comps);
-    assert_eq!(rt; (d.transits.dl, d.transits.ul, d.transits.m), (Some(29), Some(30), 31));
+    assert_eq!(rt;
+        (d.transits.dl, d.transits.ul, d.transits.m),
+        (Some(29), Some(30), 31)
+    );
     let endpoint = EndpointConfig {
         id: 0x0a0b,
         numerology: Numerology::offset(12, 7, 3_168).expect(&rt, "1.25 kHz"),

@@ -84,16 +84,7 @@ fn tell_endpoint<K: Sink>(
     ensures cause { Counts (has_failed result) (K.faults out.old) (K.faults out.new) }
 {
     let mut flags = no_flags(alloc, slots(spans, ep, e))?;
-    tell_flagged(
-        spans,
-        ep,
-        e,
-        lines,
-        min,
-        flags.as_mut_slice(),
-        owed,
-        out,
-    )
+    tell_flagged(spans, ep, e, lines, min, flags.as_mut_slice(), owed, out)
 }
 
 /// Tells the lines of all endpoints.
@@ -147,15 +138,7 @@ pub fn idle_text<K: Sink>(
 {
     let mut owed = OwedBytes::new();
     let endpoints = document.config.endpoints.as_slice();
-    tell_endpoints(
-        alloc,
-        endpoints,
-        &document.plan,
-        spans,
-        min,
-        &mut owed,
-        out,
-    )?;
+    tell_endpoints(alloc, endpoints, &document.plan, spans, min, &mut owed, out)?;
     owed.tell(b"end\n", out)?;
     owed.push_out(out)
 }
