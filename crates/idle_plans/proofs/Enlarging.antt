@@ -87,7 +87,7 @@ behind es earlier k (line ∷ lines) idles h =
 
 -- ---- no data message changes
 
-planned_append : (es : List EndpointConfig) (k : ℕ) (lines idles : List PlanLine) → planned_from es k (lines ++ idles) ≡ planned_from es k lines ++ planned_from es (k + length lines) idles
+pub planned_append : (es : List EndpointConfig) (k : ℕ) (lines idles : List PlanLine) → planned_from es k (lines ++ idles) ≡ planned_from es k lines ++ planned_from es (k + length lines) idles
 unfolding planned_from
 planned_append es k [] idles = let e : k ≡ k + 0 = omega arith in ap (λ n. planned_from es n idles) e
 planned_append es k (line ∷ lines) idles =

@@ -1,0 +1,4 @@
+pub mod SpanLemmas
+pub mod ProposedLemmas
+pub mod ValidLemmas
+pub mod ReadLemmas
