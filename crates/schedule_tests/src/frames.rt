@@ -40,6 +40,8 @@ fn one_line_has_two_frames(rt: HostRuntime) -> Result<(), Fail> {
     assert!(rt; is_over(&mut plan));
     assert_eq!(rt; plan.line(0), Some(one));
     assert_eq!(rt; plan.line(1), None);
+    assert!(rt; plan.touches(0, one.slot));
+    assert!(rt; !plan.touches(1, one.slot));
     Ok(())
 }
 
