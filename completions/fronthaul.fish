@@ -10,6 +10,7 @@ complete -c fronthaul -n __fish_use_subcommand -a fit -d 'what breaks the window
 complete -c fronthaul -n __fish_use_subcommand -a generate -d 'a document of its own, of a seed and a number of slots'
 complete -c fronthaul -n __fish_use_subcommand -a trial -d 'the counters of that document when it is replayed'
 complete -c fronthaul -n __fish_use_subcommand -a shared -d 'what the radio units of a shared cell do with a document'
+complete -c fronthaul -n __fish_use_subcommand -a idle -d 'when the transmitter is silent, and plan lines for it'
 complete -c fronthaul -n __fish_use_subcommand -a pcap -d 'the eCPRI frames of a pcap file as lines of a document'
 complete -c fronthaul -n __fish_use_subcommand -a pcap-capture -d 'the eCPRI frames of a pcap file as a capture'
 complete -c fronthaul -n __fish_use_subcommand -a prove -d 'prove and build the program (the launcher)'

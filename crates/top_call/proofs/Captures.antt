@@ -1,12 +1,13 @@
 -- A capture that was shown, or was refused.
-use Rattle.std.proofs.Common.{◌≡◌, ◌∙◌, ℕ, ◌≤◌, List, [], Option, Result, Ok, Err, OnOk, IfErr, refl, sym, ap, subst}
+use Rattle.std.proofs.Common.{◌≡◌, ◌∙◌, ℕ, List, [], Option, Result, Ok, Err, OnOk, OnErr, IfErr, refl, sym, ap, subst}
 use Rattle.std.specs.Io.KnownBytes.{append_known}
 use Rattle.capture_show.specs.capture_records.specs.declared.refusals.CaptureRefusal.{CaptureRefusal}
 use Rattle.capture_show.specs.capture_records.specs.declared.refusals.CaptureWhy.{CaptureWhy}
 use Rattle.capture_show.specs.declared.showing.ShowFault.{ShowFault}
 use Rattle.capture_show.specs.declared.showing.ShowFault.TheVariants as show
-use Rattle.fh_base.specs.Causes.{Rose}
-use Rattle.fh_base.specs.Told.{WritesFront}
+use Rattle.fh_base.specs.Causes.{Counts}
+use Rattle.capture_show.specs.Faults.{has_write_fault as show_failed}
+use Rattle.fh_base.specs.Told.{WritesFront, WritesPart}
 use Rattle.fh_base.proofs.Known.{append_nothing}
 use Rattle.fh_base.proofs.Progress.{front_none}
 use Rattle.top_call.specs.declared.status.Status.{Status}
@@ -16,12 +17,13 @@ use Rattle.top_call.specs.Endings.{shown_status}
 use Rattle.top_call.specs.Run.{Performs}
 
 -- nothing is written of one that is refused
-refuses : (place : ℕ) (why : CaptureWhy) (old new : Option (List ℕ)) (before now : ℕ) → new ≡ old → before ≤ now → Performs (refused (BadCapture place why)) old new before now (BadCapture place why)
-refuses place why old new before now same later = record {
+refuses : (place : ℕ) (why : CaptureWhy) (old new : Option (List ℕ)) (before now : ℕ) → new ≡ old → now ≡ before → Performs (refused (BadCapture place why)) old new before now (BadCapture place why)
+refuses place why old new before now same still = record {
   front = subst (λ (w : Option (List ℕ)). WritesFront old w []) (sym same) (front_none old []);
   whole = λ _. same ∙ sym (append_nothing old);
+  part = λ stopped. absurd stopped;
   answers = refl;
-  later = later;
+  faults = still;
 }
 
 -- a refusal came, and so no other answer
@@ -29,29 +31,31 @@ abbrev Refuses : CaptureRefusal → Result (Unit {0}) ShowFault → Option (List
 Refuses r result old new = (result ≡ Err (show.BadCapture r.place r.why)) × (new ≡ old)
 
 shown : (text : List ℕ) (checked : Result (Unit {0}) CaptureRefusal) (old new : Option (List ℕ)) (before now : ℕ) (result : Result (Unit {0}) ShowFault)
-    → OnOk result (new ≡ append_known old text) → WritesFront old new text → IfErr checked (λ r. Refuses r result old new)
+    → OnOk result (new ≡ append_known old text) → WritesFront old new text → (checked ≡ Ok tt → OnErr result (WritesPart old new text)) → IfErr checked (λ r. Refuses r result old new)
     → ((place : ℕ) (why : CaptureWhy) → result ≡ Err (show.BadCapture place why) → checked ≡ Err (record { place = place; why = why }))
-    → before ≤ now → (result ≡ Err show.WriteFault → Rose before now)
+    → Counts (show_failed result) before now
     → Performs (of_capture text checked) old new before now (shown_status result)
-shown text (Ok u) old new before now (Ok v) ok front malformed refusal later failed = record { front = front; whole = λ _. ok; answers = refl; later = later }
-shown text (Err r) old new before now (Ok v) ok front malformed refusal later failed = let e = malformed.0 in absurd (cc e)
-shown text (Ok u) old new before now (Err (show.BadCapture place why)) ok front malformed refusal later failed = let e = refusal place why refl in absurd (cc e)
-shown text (Err r) old new before now (Err (show.BadCapture place why)) ok front malformed refusal later failed =
-    subst (Performs (refused (BadCapture r.place r.why)) old new before now) (sym (ap shown_status malformed.0)) (refuses r.place r.why old new before now malformed.1 later)
-shown text (Ok u) old new before now (Err show.WriteFault) ok front malformed refusal later failed =
-    record { front = front; whole = λ decided. absurd decided; answers = (failed refl, λ r. r); later = later }
-shown text (Err r) old new before now (Err show.WriteFault) ok front malformed refusal later failed = let e = malformed.0 in absurd (cc e)
-shown text (Ok u) old new before now (Err show.NoMemory) ok front malformed refusal later failed =
-    record { front = front; whole = λ decided. absurd decided; answers = tt; later = later }
-shown text (Err r) old new before now (Err show.NoMemory) ok front malformed refusal later failed = let e = malformed.0 in absurd (cc e)
+shown text (Ok u) old new before now (Ok v) ok front part malformed refusal counts =
+    record { front = front; whole = λ _. ok; part = λ stopped. absurd stopped; answers = refl; faults = counts }
+shown text (Err r) old new before now (Ok v) ok front part malformed refusal counts = let e = malformed.0 in absurd (cc e)
+shown text (Ok u) old new before now (Err (show.BadCapture place why)) ok front part malformed refusal counts = let e = refusal place why refl in absurd (cc e)
+shown text (Err r) old new before now (Err (show.BadCapture place why)) ok front part malformed refusal counts =
+    subst (Performs (refused (BadCapture r.place r.why)) old new before now) (sym (ap shown_status malformed.0)) (refuses r.place r.why old new before now malformed.1 counts)
+shown text (Ok u) old new before now (Err show.WriteFault) ok front part malformed refusal counts =
+    record { front = front; whole = λ decided. absurd decided; part = λ _ _. part refl; answers = λ r. r; faults = counts }
+shown text (Err r) old new before now (Err show.WriteFault) ok front part malformed refusal counts = let e = malformed.0 in absurd (cc e)
+shown text (Ok u) old new before now (Err show.NoMemory) ok front part malformed refusal counts =
+    record { front = front; whole = λ decided. absurd decided; part = λ _ _. part refl; answers = tt; faults = counts }
+shown text (Err r) old new before now (Err show.NoMemory) ok front part malformed refusal counts = let e = malformed.0 in absurd (cc e)
 
 pub shown_as : (text : List ℕ) (checked : Result (Unit {0}) CaptureRefusal) (old new : Option (List ℕ)) (before now : ℕ) (result : Result (Unit {0}) ShowFault) (status : Status)
-    → status ≡ shown_status result → OnOk result (new ≡ append_known old text) → WritesFront old new text → IfErr checked (λ r. Refuses r result old new)
+    → status ≡ shown_status result → OnOk result (new ≡ append_known old text) → WritesFront old new text → (checked ≡ Ok tt → OnErr result (WritesPart old new text))
+    → IfErr checked (λ r. Refuses r result old new)
     → ((place : ℕ) (why : CaptureWhy) → result ≡ Err (show.BadCapture place why) → checked ≡ Err (record { place = place; why = why }))
-    → before ≤ now → (result ≡ Err show.WriteFault → Rose before now)
+    → Counts (show_failed result) before now
     → Performs (of_capture text checked) old new before now status
-shown_as text checked old new before now result status is ok front malformed refusal later failed =
-    subst (Performs (of_capture text checked) old new before now) (sym is) (shown text checked old new before now result ok front malformed refusal later failed)
+shown_as text checked old new before now result status is ok front part malformed refusal counts =
+    subst (Performs (of_capture text checked) old new before now) (sym is) (shown text checked old new before now result ok front part malformed refusal counts)
 
 -- what is refused leaves the sink, and so what it holds
 pub held : {O : Type 0} → (written : O → Option (List ℕ)) (checked : Result (Unit {0}) CaptureRefusal) (result : Result (Unit {0}) ShowFault) (old new : O)

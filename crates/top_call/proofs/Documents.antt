@@ -1,5 +1,5 @@
 -- A command over a document that was read, or was not.
-use Rattle.std.proofs.Common.{◌≡◌, ℕ, List, [], Option, Result, Ok, Err, refl, sym, ap, subst, arith}
+use Rattle.std.proofs.Common.{◌≡◌, ℕ, List, [], Option, Result, Ok, Err, refl, sym, ap, subst}
 use Rattle.fh_base.proofs.Known.{append_nothing}
 use Rattle.fh_base.proofs.Progress.{front_none}
 use Rattle.pcap_lines.specs.fh_document.specs.declared.document.Document.{Document}
@@ -14,6 +14,7 @@ use Rattle.top_call.specs.declared.status.Status.TheVariants.{BadDocument, NoMem
 use Rattle.top_call.specs.Answers.{Answer, of_document, refused}
 use Rattle.top_call.specs.Endings.{unread_status}
 use Rattle.top_call.specs.Run.{Performs}
+use Rattle.top_call.proofs.Parts.{part_none}
 
 pub read_as : (answer : Document → Answer) (bytes : List ℕ) (result : Result Document DocFault) (d : Document) (old new : Option (List ℕ)) (before now : ℕ) (status : Status)
     → result ≡ Ok d → Answers (document_of bytes) result → Performs (answer d) old new before now status
@@ -24,11 +25,11 @@ read_as answer bytes result d old new before now status is answers performs =
 
 -- nothing was done for want of memory
 pub wanting : (a : Answer) (written : Option (List ℕ)) (faults : ℕ) → Performs a written written faults faults NoMemory
-wanting a written faults = record { front = front_none written a.text; whole = λ decided. absurd decided; answers = tt; later = omega arith }
+wanting a written faults = record { front = front_none written a.text; whole = λ decided. absurd decided; part = λ _. part_none written a.text; answers = tt; faults = refl }
 
 -- nothing is written of a document that is refused
 pub refuses : (line : ℕ) (why : LineWhy) (written : Option (List ℕ)) (faults : ℕ) → Performs (refused (BadDocument line why)) written written faults faults (BadDocument line why)
-refuses line why written faults = record { front = front_none written []; whole = λ _. sym (append_nothing written); answers = refl; later = omega arith }
+refuses line why written faults = record { front = front_none written []; whole = λ _. sym (append_nothing written); part = λ stopped. absurd stopped; answers = refl; faults = refl }
 
 unread : (answer : Document → Answer) (bytes : List ℕ) (fault : DocFault) (written : Option (List ℕ)) (faults : ℕ) → Answers (document_of bytes) (Err fault)
     → Performs (of_document answer (document_of bytes)) written written faults faults (unread_status fault)

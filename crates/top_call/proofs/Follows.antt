@@ -8,7 +8,7 @@ use Rattle.capture_show.specs.Messages.{capture_lines}
 use Rattle.capture_show.specs.Texts.{lines_text}
 use Rattle.command_words.specs.Words.{command_of}
 use Rattle.command_words.specs.declared.commands.Command.{Command}
-use Rattle.command_words.specs.declared.commands.Command.TheVariants.{Replay, Summary, Capture, Show, Windows, Fit, Generate, Trial, Shared, Pcap, PcapCapture}
+use Rattle.command_words.specs.declared.commands.Command.TheVariants.{Replay, Summary, Capture, Show, Windows, Fit, Generate, Trial, Shared, Idle, Pcap, PcapCapture}
 use Rattle.fh_base.specs.Causes.{Rose}
 use Rattle.fh_base.proofs.Known.{append_nothing}
 use Rattle.pcap_lines.specs.fh_document.specs.declared.document.Document.{Document}
@@ -29,7 +29,7 @@ use Rattle.window_lines.specs.window_plan.specs.Fitting.{fitted}
 use Rattle.top_call.specs.declared.status.LineWhy.{LineWhy}
 use Rattle.top_call.specs.declared.status.Status.{Status}
 use Rattle.top_call.specs.declared.status.Status.TheVariants.{Done, BadWords, BadDocument, BadCapture, ReadFault, WriteFault, NoMemory, TooLong, CheckFails, BadPcap, NoFit}
-use Rattle.top_call.specs.Answers.{Answer, answer_of, asked, captured, fit_shown, fit_verdict, is_reading, of_capture, of_document, of_pcap, of_plan, of_planned, replayed, shared, summarized, verdict_of, windows_shown}
+use Rattle.top_call.specs.Answers.{Answer, answer_of, asked, captured, fit_shown, fit_verdict, idled, is_reading, of_capture, of_document, of_pcap, of_plan, of_planned, replayed, shared, summarized, verdict_of, windows_shown}
 use Rattle.top_call.specs.Run.{AnswersRun, IsDecided, IsRefusal, Outcome}
 use Rattle.fh_base.specs.declared.source.TheConstants.{INPUT_LIMIT}
 
@@ -76,6 +76,8 @@ refusal_text (Some Fit) bytes refusal = document_text (λ d. fit_shown d.config.
 refusal_text (Some (Generate seed slots)) bytes refusal = absurd refusal
 refusal_text (Some (Trial seed slots)) bytes refusal = absurd refusal
 refusal_text (Some (Shared count step)) bytes refusal = document_text (of_planned (shared count step)) (document_of bytes) (λ d. planned_text (shared count step) d (λ r. r)) refusal
+refusal_text (Some (Idle first last min)) bytes refusal =
+    document_text (of_planned (idled first last min)) (document_of bytes) (λ d. planned_text (idled first last min) d (λ r. r)) refusal
 refusal_text (Some (Pcap side start)) bytes refusal = pcap_text (lines_of side) start bytes (pcap_checked bytes start) refusal
 refusal_text (Some (PcapCapture side start)) bytes refusal = pcap_text (λ ts. capture_bytes (map (arrived_as side) ts)) start bytes (pcap_checked bytes start) refusal
 
@@ -93,25 +95,25 @@ refusal_decided (CheckFails failing) refusal = tt
 refusal_decided (NoFit r) refusal = tt
 
 -- a status that words and input decide is the wanted one
-pub decided_wanted : (wanted : Status) (s t before now : ℕ) (status : Status) → IsDecided status → AnswersRun wanted s t before now status → wanted ≡ status
-decided_wanted wanted s t before now Done decided answers = answers
-decided_wanted wanted s t before now BadWords decided answers = answers
-decided_wanted wanted s t before now (BadDocument line why) decided answers = answers
-decided_wanted wanted s t before now (BadCapture place why) decided answers = answers
-decided_wanted wanted s t before now (BadPcap r) decided answers = answers
-decided_wanted wanted s t before now ReadFault decided answers = absurd decided
-decided_wanted wanted s t before now WriteFault decided answers = absurd decided
-decided_wanted wanted s t before now NoMemory decided answers = absurd decided
-decided_wanted wanted s t before now TooLong decided answers = absurd decided
-decided_wanted wanted s t before now (CheckFails failing) decided answers = answers
-decided_wanted wanted s t before now (NoFit r) decided answers = answers
+pub decided_wanted : (wanted : Status) (status : Status) → IsDecided status → AnswersRun wanted status → wanted ≡ status
+decided_wanted wanted Done decided answers = answers
+decided_wanted wanted BadWords decided answers = answers
+decided_wanted wanted (BadDocument line why) decided answers = answers
+decided_wanted wanted (BadCapture place why) decided answers = answers
+decided_wanted wanted (BadPcap r) decided answers = answers
+decided_wanted wanted ReadFault decided answers = absurd decided
+decided_wanted wanted WriteFault decided answers = absurd decided
+decided_wanted wanted NoMemory decided answers = absurd decided
+decided_wanted wanted TooLong decided answers = absurd decided
+decided_wanted wanted (CheckFails failing) decided answers = answers
+decided_wanted wanted (NoFit r) decided answers = answers
 
 -- nothing is written at a refusal
 pub quiet : (words : List (List ℕ)) (left_old left_new : Option (List ℕ)) (s t : ℕ) (old new : Option (List ℕ)) (before now : ℕ) (status : Status)
     → Outcome words left_old left_new s t old new before now status → IsRefusal status → new ≡ old
 quiet words left_old left_new s t old new before now status o refusal =
     let decided = refusal_decided status refusal in
-    let wanted = decided_wanted (asked (command_of words) o.came).status s t before now status decided o.answers in
+    let wanted = decided_wanted (asked (command_of words) o.came).status status decided o.answers in
     o.whole decided ∙ ap (append_known old) (refusal_text (command_of words) o.came (subst IsRefusal (sym wanted) refusal)) ∙ append_nothing old
 
 -- ---- a document that is refused
@@ -128,6 +130,7 @@ only_readers_refuse (Some Fit) bytes line why e = refl
 only_readers_refuse (Some (Generate seed slots)) bytes line why e = cc
 only_readers_refuse (Some (Trial seed slots)) bytes line why e = cc
 only_readers_refuse (Some (Shared count step)) bytes line why e = refl
+only_readers_refuse (Some (Idle first last min)) bytes line why e = refl
 only_readers_refuse (Some (Pcap side start)) bytes line why e = refl
 only_readers_refuse (Some (PcapCapture side start)) bytes line why e = refl
 

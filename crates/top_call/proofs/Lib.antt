@@ -1,3 +1,4 @@
+mod Parts
 pub mod Written
 pub mod Documents
 pub mod Plans
@@ -6,3 +7,4 @@ pub mod Trials
 pub mod Runs
 pub mod Follows
 mod Sharing
+mod Texts

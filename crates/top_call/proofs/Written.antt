@@ -1,8 +1,8 @@
 -- A whole text that was to be written, and the status behind it.
-use Rattle.std.proofs.Common.{◌≡◌, ◌∙◌, ℕ, List, Option, Result, Ok, Err, OnOk, refl, ap, sym, subst}
+use Rattle.std.proofs.Common.{◌≡◌, ◌∙◌, ℕ, List, Option, Result, Ok, Err, OnOk, OnErr, Bool, true, false, refl, ap, sym, subst}
 use Rattle.std.specs.Io.KnownBytes.{append_known}
-use Rattle.fh_base.specs.Causes.{HasSinkCause}
-use Rattle.fh_base.specs.Told.{WritesFront}
+use Rattle.fh_base.specs.Causes.{Counts, HasSinkCause}
+use Rattle.fh_base.specs.Told.{WritesFront, WritesPart}
 use Rattle.fh_base.specs.declared.fault.SinkFault.{SinkFault}
 use Rattle.fh_base.specs.declared.fault.SinkFault.TheVariants as sink
 use Rattle.top_call.specs.declared.status.Status.{Status}
@@ -12,20 +12,20 @@ use Rattle.window_lines.specs.window_config.specs.declared.relations.Failing.{Fa
 use Rattle.window_lines.specs.window_plan.specs.declared.refusals.NoFit.{NoFit as Refusal}
 use Rattle.top_call.specs.Answers.{Answer, fit_verdict, verdict_of}
 use Rattle.top_call.specs.Endings.{ending_of}
-use Rattle.top_call.specs.Run.{AnswersCommand, IsRefusal, IsVerdict, Performs}
+use Rattle.top_call.specs.Run.{AnswersCommand, IsRefusal, IsStopped, IsVerdict, Performs, has_write_fault}
 
-verdict_answers : (status : Status) (before now : ℕ) → IsVerdict status → AnswersCommand status before now status
-verdict_answers Done before now verdict = refl
-verdict_answers BadWords before now verdict = absurd verdict
-verdict_answers (BadDocument line why) before now verdict = absurd verdict
-verdict_answers (BadCapture place why) before now verdict = absurd verdict
-verdict_answers (BadPcap r) before now verdict = absurd verdict
-verdict_answers ReadFault before now verdict = absurd verdict
-verdict_answers WriteFault before now verdict = absurd verdict
-verdict_answers NoMemory before now verdict = absurd verdict
-verdict_answers TooLong before now verdict = absurd verdict
-verdict_answers (CheckFails failing) before now verdict = refl
-verdict_answers (NoFit refusal) before now verdict = refl
+verdict_answers : (status : Status) → IsVerdict status → AnswersCommand status status
+verdict_answers Done verdict = refl
+verdict_answers BadWords verdict = absurd verdict
+verdict_answers (BadDocument line why) verdict = absurd verdict
+verdict_answers (BadCapture place why) verdict = absurd verdict
+verdict_answers (BadPcap r) verdict = absurd verdict
+verdict_answers ReadFault verdict = absurd verdict
+verdict_answers WriteFault verdict = absurd verdict
+verdict_answers NoMemory verdict = absurd verdict
+verdict_answers TooLong verdict = absurd verdict
+verdict_answers (CheckFails failing) verdict = refl
+verdict_answers (NoFit refusal) verdict = refl
 
 no_refusal : (status : Status) → IsVerdict status → IsRefusal status → ⊥
 no_refusal Done verdict refusal = refusal
@@ -40,22 +40,56 @@ no_refusal TooLong verdict refusal = verdict
 no_refusal (CheckFails failing) verdict refusal = refusal
 no_refusal (NoFit refusal) verdict given = given
 
+no_stop : (closed : Bool) (status : Status) → IsVerdict status → IsStopped closed status → ⊥
+no_stop true Done verdict stopped = stopped
+no_stop false Done verdict stopped = stopped
+no_stop closed BadWords verdict stopped = verdict
+no_stop closed (BadDocument line why) verdict stopped = verdict
+no_stop closed (BadCapture place why) verdict stopped = verdict
+no_stop closed (BadPcap r) verdict stopped = verdict
+no_stop closed ReadFault verdict stopped = verdict
+no_stop closed WriteFault verdict stopped = verdict
+no_stop closed NoMemory verdict stopped = verdict
+no_stop closed TooLong verdict stopped = verdict
+no_stop true (CheckFails failing) verdict stopped = stopped
+no_stop false (CheckFails failing) verdict stopped = stopped
+no_stop true (NoFit refusal) verdict stopped = stopped
+no_stop false (NoFit refusal) verdict stopped = stopped
+
+verdict_faultless : (status : Status) → IsVerdict status → has_write_fault status ≡ false
+verdict_faultless Done verdict = refl
+verdict_faultless BadWords verdict = refl
+verdict_faultless (BadDocument line why) verdict = refl
+verdict_faultless (BadCapture place why) verdict = refl
+verdict_faultless (BadPcap r) verdict = refl
+verdict_faultless ReadFault verdict = refl
+verdict_faultless WriteFault verdict = absurd verdict
+verdict_faultless NoMemory verdict = refl
+verdict_faultless TooLong verdict = refl
+verdict_faultless (CheckFails failing) verdict = refl
+verdict_faultless (NoFit refusal) verdict = refl
+
 pub put : (a : Answer) (old new : Option (List ℕ)) (before now refused_before refused_now : ℕ) (result : Result (Unit {0}) SinkFault) → IsVerdict a.status
-    → OnOk result (new ≡ append_known old a.text) → WritesFront old new a.text → HasSinkCause before now refused_before refused_now result
+    → OnOk result (new ≡ append_known old a.text) → WritesFront old new a.text → OnErr result (WritesPart old new a.text) → HasSinkCause before now refused_before refused_now result
     → Performs a old new before now (ending_of result a.status)
-put a old new before now refused_before refused_now (Ok u) verdict ok front cause =
-    record { front = front; whole = λ _. ok; answers = verdict_answers a.status before now verdict; later = cause.later }
-put a old new before now refused_before refused_now (Err sink.Failed) verdict ok front cause =
-    record { front = front; whole = λ decided. absurd decided; answers = (cause.failed refl, no_refusal a.status verdict); later = cause.later }
-put a old new before now refused_before refused_now (Err sink.NoMemory) verdict ok front cause =
-    record { front = front; whole = λ decided. absurd decided; answers = tt; later = cause.later }
+put a old new before now refused_before refused_now (Ok u) verdict ok front part cause = record {
+  front = front;
+  whole = λ _. ok;
+  part = λ stopped. absurd (no_stop a.closed a.status verdict stopped);
+  answers = verdict_answers a.status verdict;
+  faults = subst (λ f. Counts f before now) (sym (verdict_faultless a.status verdict)) cause.faults;
+}
+put a old new before now refused_before refused_now (Err sink.Failed) verdict ok front part cause =
+    record { front = front; whole = λ decided. absurd decided; part = λ _ _. part; answers = no_refusal a.status verdict; faults = cause.faults }
+put a old new before now refused_before refused_now (Err sink.NoMemory) verdict ok front part cause =
+    record { front = front; whole = λ decided. absurd decided; part = λ _ _. part; answers = tt; faults = cause.faults }
 
 pub put_as : (a : Answer) (old new : Option (List ℕ)) (before now refused_before refused_now : ℕ) (result : Result (Unit {0}) SinkFault) (status ended : Status)
     → ended ≡ ending_of result status → status ≡ a.status → IsVerdict a.status
-    → OnOk result (new ≡ append_known old a.text) → WritesFront old new a.text → HasSinkCause before now refused_before refused_now result
+    → OnOk result (new ≡ append_known old a.text) → WritesFront old new a.text → OnErr result (WritesPart old new a.text) → HasSinkCause before now refused_before refused_now result
     → Performs a old new before now ended
-put_as a old new before now refused_before refused_now result status ended ending is verdict ok front cause =
-    subst (Performs a old new before now) (sym (ending ∙ ap (ending_of result) is)) (put a old new before now refused_before refused_now result verdict ok front cause)
+put_as a old new before now refused_before refused_now result status ended ending is verdict ok front part cause =
+    subst (Performs a old new before now) (sym (ending ∙ ap (ending_of result) is)) (put a old new before now refused_before refused_now result verdict ok front part cause)
 
 pub check_is_verdict : (checked : Result (Unit {0}) Failing) → IsVerdict (verdict_of checked)
 check_is_verdict (Ok u) = tt

@@ -7,7 +7,7 @@ use Rattle.capture_show.specs.capture_records.specs.Records.{capture_bytes}
 use Rattle.capture_show.specs.Messages.{capture_lines}
 use Rattle.capture_show.specs.Texts.{lines_text}
 use Rattle.command_words.specs.declared.commands.Command.{Command}
-use Rattle.command_words.specs.declared.commands.Command.TheVariants.{Replay, Summary, Capture, Show, Windows, Fit, Generate, Trial, Shared, Pcap, PcapCapture}
+use Rattle.command_words.specs.declared.commands.Command.TheVariants.{Replay, Summary, Capture, Show, Windows, Fit, Generate, Trial, Shared, Idle, Pcap, PcapCapture}
 use Rattle.pcap_lines.specs.fh_document.specs.declared.document.Document.{Document}
 use Rattle.pcap_lines.specs.fh_document.specs.declared.refusals.DocWhy.{DocWhy}
 use Rattle.pcap_lines.specs.fh_document.specs.Document.{document_of}
@@ -30,6 +30,7 @@ use Rattle.window_lines.specs.Windows.{windows_text}
 use Rattle.window_lines.specs.window_plan.specs.declared.refusals.NoFit.{NoFit as Refusal}
 use Rattle.window_lines.specs.window_plan.specs.Fitting.{fitted}
 use Rattle.shared_text.specs.Shared.{shared_text}
+use Rattle.idle_replay.specs.Idle.{document_idle}
 use Rattle.top_call.specs.declared.status.LineWhy.TheVariants.{Doc, Plan}
 use Rattle.top_call.specs.declared.status.Status.{Status}
 use Rattle.top_call.specs.declared.status.Status.TheVariants.{Done, BadWords, BadDocument, BadCapture, CheckFails, BadPcap, NoFit}
@@ -38,10 +39,12 @@ use Rattle.top_call.specs.declared.status.Status.TheVariants.{Done, BadWords, Ba
 pub record Answer : Type 0 where
   pub text : List ℕ
   pub status : Status
+  -- the end of its text is written last of all: a capture has no end of its own
+  pub closed : Bool
 
 -- a refusal has no text
 abbrev pub refused : Status → Answer
-refused status = record { text = []; status = status }
+refused status = record { text = []; status = status; closed = true }
 
 -- ---- the commands that read a document
 
@@ -61,19 +64,23 @@ of_planned answer d = of_plan answer d (plan_refusal d.config d.plan)
 
 -- `replay`: the report of the document's events
 abbrev pub replayed : Document → Answer
-replayed d = record { text = document_report d; status = Done }
+replayed d = record { text = document_report d; status = Done; closed = true }
 
 -- `summary`: the summary of the same events
 abbrev pub summarized : Document → Answer
-summarized d = record { text = summary_of d; status = Done }
+summarized d = record { text = summary_of d; status = Done; closed = true }
 
 -- `capture`: the frames among them, as records
 abbrev pub captured : Document → Answer
-captured d = record { text = capture_of d; status = Done }
+captured d = record { text = capture_of d; status = Done; closed = false }
 
 -- `shared`: what the units of a shared cell do with the document
 abbrev pub shared : ℕ → ℕ → Document → Answer
-shared count step d = record { text = shared_text d count step; status = Done }
+shared count step d = record { text = shared_text d count step; status = Done; closed = true }
+
+-- `idle`: when the document's endpoints are idle in some frames, in spans of at least so many symbols
+abbrev pub idled : ℕ → ℕ → ℕ → Document → Answer
+idled first last min d = record { text = document_idle d first last min; status = Done; closed = true }
 
 -- the verdict of the check: the first relation that fails
 abbrev pub verdict_of : Result (Unit {0}) Failing → Status
@@ -85,7 +92,7 @@ checked_status delays = verdict_of (checked delays)
 
 -- `windows`: the windows, the rings and the check
 abbrev pub windows_shown : Config → Answer
-windows_shown config = record { text = windows_text config; status = checked_status config.delays }
+windows_shown config = record { text = windows_text config; status = checked_status config.delays; closed = true }
 
 -- the verdict of a fit: the first window that does not fit
 abbrev pub fit_verdict : Result Delays Refusal → Status
@@ -97,13 +104,13 @@ fitted_status delays = fit_verdict (fitted delays)
 
 -- `fit`: the breaches, and the fitted windows where there are any
 abbrev pub fit_shown : Delays → Answer
-fit_shown delays = record { text = fit_text delays; status = fitted_status delays }
+fit_shown delays = record { text = fit_text delays; status = fitted_status delays; closed = true }
 
 -- ---- the command that reads a capture
 
 -- the text of a capture whose records are sound, or its first that is malformed
 abbrev pub of_capture : List ℕ → Result (Unit {0}) CaptureRefusal → Answer
-of_capture text (Ok _) = record { text = text; status = Done }
+of_capture text (Ok _) = record { text = text; status = Done; closed = true }
 of_capture text (Err r) = refused (BadCapture r.place r.why)
 
 -- `show`: the fields of its frames, as lines or as JSON
@@ -114,7 +121,7 @@ shown json bytes = of_capture (lines_text json (capture_lines bytes)) (capture_c
 
 -- what is written of the frames of a file that passed, or the first fault of the file
 abbrev pub of_pcap : (List Timed → List ℕ) → ℕ → List ℕ → Result PcapHead PcapRefusal → Answer
-of_pcap text start bytes (Ok head) = record { text = text (frames_of bytes head start); status = Done }
+of_pcap text start bytes (Ok head) = record { text = text (frames_of bytes head start); status = Done; closed = true }
 of_pcap text start bytes (Err refusal) = refused (BadPcap refusal)
 
 -- `pcap`: the frames as lines of a document
@@ -129,11 +136,11 @@ frames_captured side start bytes = of_pcap (λ ts. capture_bytes (map (arrived_a
 
 -- `generate`: a document of its own
 abbrev pub generated_document : ℕ → ℕ → Answer
-generated_document seed slots = record { text = generated seed slots; status = Done }
+generated_document seed slots = record { text = generated seed slots; status = Done; closed = true }
 
 -- the count lines of a document's report
 abbrev pub counted : Document → Answer
-counted d = record { text = document_counts d; status = Done }
+counted d = record { text = document_counts d; status = Done; closed = true }
 
 -- `trial`: those of the document that `generate` writes, which is read as this one (`TrialsAreGenerated`)
 abbrev pub tried : ℕ → ℕ → Answer
@@ -152,6 +159,7 @@ reads Fit = true
 reads (Generate seed slots) = false
 reads (Trial seed slots) = false
 reads (Shared count step) = true
+reads (Idle first last min) = true
 reads (Pcap side start) = true
 reads (PcapCapture side start) = true
 
@@ -166,6 +174,7 @@ answer_of Fit bytes = of_document (λ d. fit_shown d.config.delays) (document_of
 answer_of (Generate seed slots) bytes = generated_document seed slots
 answer_of (Trial seed slots) bytes = tried seed slots
 answer_of (Shared count step) bytes = of_document (of_planned (shared count step)) (document_of bytes)
+answer_of (Idle first last min) bytes = of_document (of_planned (idled first last min)) (document_of bytes)
 answer_of (Pcap side start) bytes = frames_injected side start bytes
 answer_of (PcapCapture side start) bytes = frames_captured side start bytes
 

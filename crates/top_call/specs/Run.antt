@@ -1,14 +1,16 @@
 -- What a run does.
-use Rattle.std.specs.Prelude.{◌≡◌, ◌<◌, ◌≤◌, ◌⊎◌, ◌↔◌, ℕ, List, length, true, Option, Some, IfSome, IfOk, IsSome, IsNone}
+use Rattle.std.specs.Prelude.{◌≡◌, ◌<◌, ◌≤◌, ◌⊎◌, ◌↔◌, ℕ, List, [], length, Bool, true, false, Option, Some, IfSome, IfOk, IsSome, IsNone}
 use Rattle.std.specs.Io.KnownBytes.{prepend_known, append_known, IsAtEnd}
 use Rattle.command_words.specs.Words.{command_of}
 use Rattle.command_words.specs.declared.commands.Command.TheVariants.{Trial}
-use Rattle.fh_base.specs.Causes.{Rose}
-use Rattle.fh_base.specs.Told.{WritesFront}
+use Rattle.fh_base.specs.Causes.{Counts, Rose}
+use Rattle.fh_base.specs.Told.{WritesFront, WritesPart}
 use Rattle.pcap_lines.specs.fh_document.specs.Document.{document_of}
 use Rattle.pcap_lines.specs.fh_document.specs.declared.document.Document.{Document}
 use Rattle.fronthaul_replay.specs.Laws.{IsSound}
 use Rattle.fronthaul_replay.specs.plan_model.specs.Valid.{IsValid}
+use Rattle.idle_replay.specs.Idle.{IsIdle}
+use Rattle.idle_spans.specs.Tables.{AreFrames}
 use Rattle.shared_text.specs.Summed.{IsSummed}
 use Rattle.unit_documents.specs.Units.{unit_of}
 use Rattle.top_call.specs.declared.status.Status.{Status}
@@ -40,29 +42,46 @@ IsVerdict (CheckFails failing) = Unit {0}
 IsVerdict (NoFit refusal) = Unit {0}
 IsVerdict status = ⊥
 
--- why a command over a whole input answers a status, where this one is wanted
-abbrev pub AnswersCommand : Status → ℕ → ℕ → Status → Type 0
-AnswersCommand wanted before now WriteFault = Rose before now × (IsRefusal wanted → ⊥)
-AnswersCommand wanted before now NoMemory = Unit {0}
-AnswersCommand wanted before now BadWords = ⊥
-AnswersCommand wanted before now ReadFault = ⊥
-AnswersCommand wanted before now TooLong = ⊥
-AnswersCommand wanted before now status = wanted ≡ status
+-- the statuses of a run that was stopped in its text, or before it, where the text's end is written last of all
+abbrev pub IsStopped : Bool → Status → Type 0
+IsStopped true WriteFault = Unit {0}
+IsStopped true NoMemory = Unit {0}
+IsStopped closed status = ⊥
+
+-- the source failed
+abbrev pub has_read_fault : Status → Bool
+has_read_fault ReadFault = true
+has_read_fault status = false
+
+-- the output failed
+abbrev pub has_write_fault : Status → Bool
+has_write_fault WriteFault = true
+has_write_fault status = false
+
+-- where this status is wanted of a command over a whole input, what it may answer: a sink is needed only by what is not refused
+abbrev pub AnswersCommand : Status → Status → Type 0
+AnswersCommand wanted WriteFault = IsRefusal wanted → ⊥
+AnswersCommand wanted NoMemory = Unit {0}
+AnswersCommand wanted BadWords = ⊥
+AnswersCommand wanted ReadFault = ⊥
+AnswersCommand wanted TooLong = ⊥
+AnswersCommand wanted status = wanted ≡ status
 
 -- what a command does over a whole input
 pub record Performs (a : Answer) (written_old written_new : Option (List ℕ)) (before now : ℕ) (status : Status) : Type 0 where
   pub front : WritesFront written_old written_new a.text
   pub whole : IsDecided status → written_new ≡ append_known written_old a.text
-  pub answers : AnswersCommand a.status before now status
-  pub later : before ≤ now
+  pub part : IsStopped a.closed status → (a.text ≡ [] → ⊥) → WritesPart written_old written_new a.text
+  pub answers : AnswersCommand a.status status
+  pub faults : Counts (has_write_fault status) before now
 
--- why a run answers a status, where this one is wanted by the words over what came
-abbrev pub AnswersRun : Status → ℕ → ℕ → ℕ → ℕ → Status → Type 0
-AnswersRun wanted source_before source_now out_before out_now ReadFault = Rose source_before source_now
-AnswersRun wanted source_before source_now out_before out_now WriteFault = Rose out_before out_now × (IsRefusal wanted → ⊥)
-AnswersRun wanted source_before source_now out_before out_now NoMemory = Unit {0}
-AnswersRun wanted source_before source_now out_before out_now TooLong = Unit {0}
-AnswersRun wanted source_before source_now out_before out_now status = wanted ≡ status
+-- where this status is wanted by the words over what came, what a run may answer
+abbrev pub AnswersRun : Status → Status → Type 0
+AnswersRun wanted ReadFault = Unit {0}
+AnswersRun wanted WriteFault = IsRefusal wanted → ⊥
+AnswersRun wanted NoMemory = Unit {0}
+AnswersRun wanted TooLong = Unit {0}
+AnswersRun wanted status = wanted ≡ status
 
 -- the laws of a document's events hold where its plan is valid and so they are replayed
 abbrev pub IsSoundPlan : Document → Type 0
@@ -73,6 +92,10 @@ IsSoundPlan d = IsValid d.config d.plan → IsSound d
 abbrev pub IsSharedPlan : ℕ → ℕ → Document → Type 0
 IsSharedPlan count step d = IsValid d.config d.plan → ((unit : ℕ) → unit < count → IsSound (unit_of d unit step)) × IsSummed d count step
 
+-- the laws of the spans in which its endpoints are idle, and of the plan lines that are proposed, hold where the plan is valid
+abbrev pub IsIdlePlan : ℕ → ℕ → ℕ → Document → Type 0
+IsIdlePlan first last min d = IsValid d.config d.plan → IsIdle d first last min
+
 -- what a run did, but for its line on standard error
 pub record Outcome (words : List (List ℕ)) (left_old left_new : Option (List ℕ)) (source_before source_now : ℕ) (written_old written_new : Option (List ℕ)) (out_before out_now : ℕ) (status : Status) : Type 0 where
   -- the bytes that came
@@ -82,15 +105,19 @@ pub record Outcome (words : List (List ℕ)) (left_old left_new : Option (List �
   pub front : IfSome left_old (λ bytes. WritesFront written_old written_new (asked (command_of words) bytes).text)
   pub front_came : WritesFront written_old written_new (asked (command_of words) came).text
   -- a status that words and input decide: it is the wanted one, all was read that is read, and the one text stands whole
-  pub answers : AnswersRun (asked (command_of words) came).status source_before source_now out_before out_now status
+  pub answers : AnswersRun (asked (command_of words) came).status status
   pub ended : IsDecided status → is_reading (command_of words) ≡ true → IsAtEnd left_new
   pub whole : IsDecided status → written_new ≡ append_known written_old (asked (command_of words) came).text
-  -- the others, and words that are no command
+  -- the others, and words that are no command: a read fault exactly where the source's count of faults rose, a write fault exactly where the
+  -- output's did, and a stopped run leaves a part of its text and not all, where there is one that is no
+  -- capture
+  pub source : Counts (has_read_fault status) source_before source_now
+  pub out : Counts (has_write_fault status) out_before out_now
+  pub part : IsStopped (asked (command_of words) came).closed status → ((asked (command_of words) came).text ≡ [] → ⊥) → WritesPart written_old written_new (asked (command_of words) came).text
+  pub reading : (status ≡ ReadFault) ⊎ (status ≡ TooLong) → is_reading (command_of words) ≡ true
   pub bad_words : (status ≡ BadWords) ↔ IsNone (command_of words)
   pub unread : (status ≡ ReadFault) ⊎ (status ≡ TooLong) → written_new ≡ written_old
   pub too_long : (status ≡ TooLong) ↔ INPUT_LIMIT < length came
-  pub source_later : source_before ≤ source_now
-  pub out_later : out_before ≤ out_now
   -- an input that can be read whole is answered as wanted, or for want of memory, where no fault rises; a refusal needs no sink, and a
   -- command that reads nothing no source
   pub complete : (bytes : List ℕ) → IsSome (command_of words)
@@ -104,6 +131,16 @@ pub record Outcome (words : List (List ℕ)) (left_old left_new : Option (List �
   pub sound : IfOk (document_of came) IsSoundPlan
   -- and of the units of a cell that such a document's frames are shared by
   pub shared : (count step : ℕ) → 1 ≤ count → IfOk (document_of came) (IsSharedPlan count step)
+  -- and of the spans in which such a document's endpoints are idle: none holds a radiated element, the plan with the proposed lines after it
+  -- is valid, and where nothing disturbs the document with these lines, its cells and blocks are those of the document
+  pub idle : (first last min : ℕ) → AreFrames first last → IfOk (document_of came) (IsIdlePlan first last min)
   -- where the words are `trial`: what is replayed is what `generate` writes of the same words, and of it each planned element radiates once
   -- or is taken in once
   pub trial : (seed slots : ℕ) → command_of words ≡ Some (Trial seed slots) → IsTrial seed slots
+
+-- the line was written and no count rose, or a part of it, and exactly one of the two counts rose
+abbrev pub TellsLine : Option (List ℕ) → Option (List ℕ) → List ℕ → ℕ → ℕ → ℕ → ℕ → Type 0
+TellsLine old new line faults_before faults_now refusals_before refusals_now =
+    ((new ≡ append_known old line) × Counts false faults_before faults_now × Counts false refusals_before refusals_now)
+    ⊎ (WritesPart old new line × ((Counts true faults_before faults_now × Counts false refusals_before refusals_now)
+    ⊎ (Counts false faults_before faults_now × Counts true refusals_before refusals_now)))

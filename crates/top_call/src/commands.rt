@@ -7,6 +7,7 @@ ghost use Rattle.top_call.specs.Run.{Performs};
 mod capture;
 mod fit;
 mod generate;
+mod idle;
 mod pcap;
 mod replay;
 mod shared;
@@ -21,6 +22,7 @@ use command_words::Command;
 use fh_base::Sink;
 use fit::write_fit;
 use generate::write_document;
+use idle::write_idle_spans;
 use pcap::{capture_frames, inject_frames};
 use replay::write_report;
 use shared::write_shared;
@@ -42,6 +44,7 @@ pub(crate) fn reads(command: Command) -> bool
         | Command::Windows
         | Command::Fit
         | Command::Shared { .. }
+        | Command::Idle { .. }
         | Command::Pcap { .. }
         | Command::PcapCapture { .. } => true,
         Command::Generate { .. } | Command::Trial { .. } => false,
@@ -64,6 +67,9 @@ pub(crate) fn perform<K: Sink>(alloc: Global, command: Command, bytes: &[u8], ou
         Command::Generate { seed, slots } => write_document(alloc, seed, slots, out),
         Command::Trial { seed, slots } => write_trial(alloc, seed, slots, out),
         Command::Shared { count, step } => write_shared(alloc, count, step, bytes, out),
+        Command::Idle { first, last, min } => {
+            write_idle_spans(alloc, first, last, min, bytes, out)
+        }
         Command::Pcap { side, start } => inject_frames(side, start, bytes, out),
         Command::PcapCapture { side, start } => capture_frames(side, start, bytes, out),
     }

@@ -1,8 +1,8 @@
 // The line that a run writes where it is not done.
-ghost use Rattle.std.specs.Prelude.{◌≡◌, ◌≤◌, length, OnOk};
+ghost use Rattle.std.specs.Prelude.{◌≡◌, ◌≤◌, length, OnOk, OnErr};
 ghost use Rattle.std.specs.Io.KnownBytes.{append_known};
 ghost use Rattle.fh_base.specs.Causes.{HasSinkCause};
-ghost use Rattle.fh_base.specs.Told.{WritesFront};
+ghost use Rattle.fh_base.specs.Told.{WritesFront, WritesPart};
 ghost use Rattle.top_call.specs.Statuses.{capture_line, failing_line, status_line, no_fit_line, pcap_line, plan_name, refusal_line, why_name};
 
 use crate::status::{LineWhy, Status};
@@ -18,6 +18,7 @@ use window_plan::NoFit;
 pub fn write_message<E: Sink>(status: Status, err: &mut E) -> Result<(), SinkFault>
     ensures ok { OnOk result (E.written err.new ≡ append_known (E.written err.old) (status_line status)) }
     ensures front { WritesFront (E.written err.old) (E.written err.new) (status_line status) }
+    ensures part { OnErr result (WritesPart (E.written err.old) (E.written err.new) (status_line status)) }
     ensures cause { HasSinkCause (E.faults err.old) (E.faults err.new) (E.refusals err.old) (E.refusals err.new) result }
 {
     let line = line_of(status);

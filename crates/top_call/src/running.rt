@@ -1,10 +1,9 @@
 // A run.
-ghost use Rattle.std.specs.Prelude.{◌≡◌, ◌⊎◌, false};
+ghost use Rattle.std.specs.Prelude.{◌≡◌, false};
 ghost use Rattle.command_words.specs.Words.{command_of};
-ghost use Rattle.fh_base.specs.Causes.{Rose};
-ghost use Rattle.fh_base.specs.Told.{WritesFront, WritesWholeOr};
+ghost use Rattle.fh_base.specs.Told.{WritesFront};
 ghost use Rattle.top_call.specs.Answers.{is_reading};
-ghost use Rattle.top_call.specs.Run.{Outcome};
+ghost use Rattle.top_call.specs.Run.{Outcome, TellsLine};
 ghost use Rattle.top_call.specs.Statuses.{status_line};
 
 use crate::commands::{perform, reads};
@@ -28,8 +27,7 @@ pub fn run<S: Source, K: Sink, E: Sink>(
     // Words that are no command, and a command that reads nothing, leave the source as it was.
     ensures still { is_reading (command_of words.now) ≡ false → source.new ≡ source.old }
     ensures err_front { WritesFront (E.written err.old) (E.written err.new) (status_line result) }
-    ensures err_whole { WritesWholeOr (E.written err.old) (E.written err.new) (status_line result)
-        (Rose (E.faults err.old) (E.faults err.new) ⊎ Rose (E.refusals err.old) (E.refusals err.new)) }
+    ensures err_told { TellsLine (E.written err.old) (E.written err.new) (status_line result) (E.faults err.old) (E.faults err.new) (E.refusals err.old) (E.refusals err.new) }
 {
     let status = work(alloc, words, source, out);
     tell(status, err);
@@ -63,8 +61,7 @@ fn work<S: Source, K: Sink>(
 /// Writes the status's line, as far as it goes.
 fn tell<E: Sink>(status: Status, err: &mut E)
     ensures front { WritesFront (E.written err.old) (E.written err.new) (status_line status) }
-    ensures whole { WritesWholeOr (E.written err.old) (E.written err.new) (status_line status)
-        (Rose (E.faults err.old) (E.faults err.new) ⊎ Rose (E.refusals err.old) (E.refusals err.new)) }
+    ensures told { TellsLine (E.written err.old) (E.written err.new) (status_line status) (E.faults err.old) (E.faults err.new) (E.refusals err.old) (E.refusals err.new) }
 {
     let _ = write_message(status, err);
 }
