@@ -3,9 +3,9 @@ ghost use Rattle.std.specs.Prelude.{◌≡◌, Ok, IfOk, IfSome};
 ghost use Rattle.hex.specs.Hex.{decode_of};
 
 use crate::cases::Case;
-use crate::entries::{Entry, Form, Piece, read_entry};
-use crate::running::{Ran, export, run};
-use crate::texts::ran_text;
+use crate::entries::{Call, Entry, Form, Kind, Piece, read_entry};
+use crate::running::{export, run};
+use crate::texts::{digest_text, ran_text};
 use fh_base::{Bytes, List, NoMemory};
 use hex::FromHexError;
 use std::alloc::Global;
@@ -28,29 +28,33 @@ pub fn answer_to(alloc: Global, case: &mut Case, line: &str) -> Result<Answer, N
         Some(Entry::Piece(piece)) => return add_piece(alloc, case, piece),
         Some(Entry::Last) => case.add_last()?,
         Some(Entry::Empty) => case.clear(),
-        Some(Entry::Run(words)) => {
-            let Some(words) = words_of(alloc, words)? else {
-                return Ok(Answer::NoEntry);
-            };
-            let ran = run(alloc, &words, case.use_input(alloc)?);
-            return told(alloc, case, line, &ran);
-        }
-        Some(Entry::Export(words)) => {
-            let Some(words) = words_of(alloc, words)? else {
-                return Ok(Answer::NoEntry);
-            };
-            let ran = export(alloc, &words, case.use_input(alloc)?);
-            return told(alloc, case, line, &ran);
-        }
+        Some(Entry::Call(call)) => return answer_call(alloc, case, line, call),
         None => return Ok(Answer::NoEntry),
     }
     Ok(Answer::Nothing)
 }
 
-/// The text of a run, which is kept in the case.
-fn told(alloc: Global, case: &mut Case, line: &str, ran: &Ran) -> Result<Answer, NoMemory> {
+/// The text of a run over the input, whose output is kept in the case.
+fn answer_call(
+    alloc: Global,
+    case: &mut Case,
+    line: &str,
+    call: Call<'_>,
+) -> Result<Answer, NoMemory> {
+    let Some(words) = words_of(alloc, call.words)? else {
+        return Ok(Answer::NoEntry);
+    };
+    let input = case.use_input(alloc)?;
+    let ran = match call.kind {
+        Kind::Export => export(alloc, &words, input),
+        Kind::Run | Kind::Digest => run(alloc, &words, input),
+    };
     case.keep(ran.out.bytes())?;
-    Ok(Answer::Text(ran_text(alloc, line, ran)?))
+    let text = match call.kind {
+        Kind::Digest => digest_text(alloc, line, &ran)?,
+        Kind::Run | Kind::Export => ran_text(alloc, line, &ran)?,
+    };
+    Ok(Answer::Text(text))
 }
 
 /// The input goes on with a piece.

@@ -11,10 +11,26 @@ pub enum Entry<'a> {
     Last,
     /// `empty`: an input of no bytes.
     Empty,
-    /// `run WORDS`: a run of `fronthaul` over the input.
-    Run(&'a str),
-    /// `export WORDS`: a run of `capture_pcap` over the input.
-    Export(&'a str),
+    /// A run over the input.
+    Call(Call<'a>),
+}
+
+/// A run over the input: of what, and with which words.
+#[derive(Clone, Copy)]
+pub struct Call<'a> {
+    pub kind: Kind,
+    pub words: &'a str,
+}
+
+/// What is run, and how what it wrote is shown.
+#[derive(Clone, Copy)]
+pub enum Kind {
+    /// `run WORDS`: `fronthaul`, shown whole.
+    Run,
+    /// `digest WORDS`: `fronthaul`, shown by sizes and digests.
+    Digest,
+    /// `export WORDS`: `capture_pcap`, shown whole.
+    Export,
 }
 
 /// Bytes of the input, so many times.
@@ -48,8 +64,9 @@ pub fn read_entry(line: &str) -> Option<Entry<'_>> {
     }
     let (keyword, rest) = parted(line);
     match keyword {
-        "run" => Some(Entry::Run(rest)),
-        "export" => Some(Entry::Export(rest)),
+        "run" => Some(call(Kind::Run, rest)),
+        "digest" => Some(call(Kind::Digest, rest)),
+        "export" => Some(call(Kind::Export, rest)),
         "last" => Some(Entry::Last),
         "empty" => Some(Entry::Empty),
         "times" => {
@@ -58,6 +75,10 @@ pub fn read_entry(line: &str) -> Option<Entry<'_>> {
         }
         _ => Some(Entry::Piece(read_piece(1, line)?)),
     }
+}
+
+fn call(kind: Kind, words: &str) -> Entry<'_> {
+    Entry::Call(Call { kind, words })
 }
 
 fn read_piece(times: u32, line: &str) -> Option<Piece<'_>> {

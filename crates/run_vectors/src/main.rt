@@ -1,5 +1,5 @@
 //! Runs of the programs over inputs in memory, whose answers come from outside: reads a table from standard input, and prints
-//! for each run its status and what it wrote.
+//! for each run its status and what it wrote, or how much and its digest.
 //!
 //! Empty lines, and those that begin with `#`, are printed as they are. At a line that is no entry the program ends: it names
 //! the line on standard error, and its status is 2.

@@ -1,5 +1,11 @@
 // Runs as text.
+ghost use Rattle.std.specs.Prelude.{◌≡◌, IfOk};
+ghost use Rattle.std.specs.String.{string_bytes};
+ghost use Rattle.hex.specs.Hex.{encode_lower};
+ghost use Rattle.sha2.specs.Sha256.{sha256};
+
 use crate::running::Ran;
+use sha2::{Digest, Sha256};
 use std::alloc::{AllocError, Global};
 
 /// How many bytes stand in a row of digits.
@@ -11,6 +17,36 @@ pub fn ran_text(alloc: Global, entry: &str, ran: &Ran) -> Result<String, AllocEr
     push_written(alloc, &mut text, "out", ran.out.bytes())?;
     push_written(alloc, &mut text, "err", ran.err.bytes())?;
     Ok(text)
+}
+
+/// A run's entry, its status, and of what it wrote to each end the number of bytes and their digest.
+pub fn digest_text(alloc: Global, entry: &str, ran: &Ran) -> Result<String, AllocError> {
+    let mut text = format!(in alloc; "{entry}\nstatus {}", ran.status)?;
+    push_digest(alloc, &mut text, "out", ran.out.bytes())?;
+    push_digest(alloc, &mut text, "err", ran.err.bytes())?;
+    Ok(text)
+}
+
+/// The number of bytes that were written to an end, and their digest.
+fn push_digest(
+    alloc: Global,
+    text: &mut String,
+    end: &str,
+    written: &[u8],
+) -> Result<(), AllocError> {
+    if written.is_empty() {
+        return Ok(());
+    }
+    let digest = digest_of(alloc, written)?;
+    text.push_str(format!(in alloc; "\n{end}-bytes {}", written.len())?.as_str())?;
+    text.push_str(format!(in alloc; "\n{end}-sha256 {digest}")?.as_str())
+}
+
+/// The SHA-256 of bytes, as hexadecimal digits.
+fn digest_of(alloc: Global, bytes: &[u8]) -> Result<String, AllocError>
+    ensures { IfOk result (λ text. string_bytes text ≡ encode_lower (sha256 bytes.now)) }
+{
+    hex::encode(alloc, Sha256::digest(bytes))
 }
 
 /// What was written to an end: line by line where it is lines of text, and else in rows.
