@@ -12,6 +12,14 @@ const DOCUMENT: &[u8] =
 const REPORT: &[u8] =
     b"dl 15360000000 0000 1 0 0 0 0 1 fff 0,0 1,-1 2,-2 3,-3 4,-4 5,-5 6,-6 7,-7 8,-8 9,-9 10,-10 11,-11\ncount ru frames 2\ncount ru messages 2\ncount ru c_accepted 1\ncount ru f_whole 1\ncount ru u_taken 1\ncount ru cells 1\nend\n";
 
+/// How many bytes a call of the source gives at most.
+const MOST: usize = 64;
+
+/// How many calls read `DOCUMENT`: those that give its bytes, and one that finds its end.
+fn calls_to_read() -> u64 {
+    (DOCUMENT.len().div_ceil(MOST) as u64).saturating_add(1)
+}
+
 pub(crate) fn calls(alloc: Global, number: u64) -> Result<List<u64>, NoMemory> {
     let mut list = List::new(alloc);
     list.push(number)?;
@@ -63,13 +71,13 @@ fn a_verdict_needs_the_whole_text(rt: HostRuntime) -> Result<(), Fail> {
     Ok(())
 }
 
-// 64 bytes a call: the calls that read the document, and the one that finds its end. The line on standard error ends where that fails.
+// Each call that reads the document fails, and the one that finds its end. The line on standard error ends where that fails.
 #[test]
 fn a_source_that_fails_gives_nothing(rt: HostRuntime) -> Result<(), Fail> {
     let alloc = rt.alloc();
     let words = words_of(alloc, &[b"replay"])?;
-    for call in 1..7u64 {
-        let mut source = MemorySource::new(bytes_of(alloc, DOCUMENT)?, 64, calls(alloc, call)?);
+    for call in 1..calls_to_read().saturating_add(1) {
+        let mut source = MemorySource::new(bytes_of(alloc, DOCUMENT)?, MOST, calls(alloc, call)?);
         let mut out = PlainSink::new(alloc);
         let mut err = MemorySink::new(alloc, 7, calls(alloc, 3)?);
         let status = run(alloc, &words, &mut source, &mut out, &mut err);
@@ -82,5 +90,21 @@ fn a_source_that_fails_gives_nothing(rt: HostRuntime) -> Result<(), Fail> {
         assert_eq!(rt; out.bytes(), b"".as_slice());
         assert_eq!(rt; err.bytes(), b"fronthaul: rea".as_slice());
     }
+    Ok(())
+}
+
+// The next call is not made, so those are all.
+#[test]
+fn a_source_that_would_fail_later_is_read_whole(rt: HostRuntime) -> Result<(), Fail> {
+    let alloc = rt.alloc();
+    let words = words_of(alloc, &[b"replay"])?;
+    let next = calls_to_read().saturating_add(1);
+    let mut source = MemorySource::new(bytes_of(alloc, DOCUMENT)?, MOST, calls(alloc, next)?);
+    let mut out = PlainSink::new(alloc);
+    let mut err = PlainSink::new(alloc);
+    let status = run(alloc, &words, &mut source, &mut out, &mut err);
+    assert_eq!(rt; status, Status::Done);
+    assert_eq!(rt; out.bytes(), REPORT);
+    assert_eq!(rt; err.bytes(), b"".as_slice());
     Ok(())
 }
