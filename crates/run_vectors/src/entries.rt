@@ -64,9 +64,9 @@ pub fn read_entry(line: &str) -> Option<Entry<'_>> {
     }
     let (keyword, rest) = parted(line);
     match keyword {
-        "run" => Some(call(Kind::Run, rest)),
-        "digest" => Some(call(Kind::Digest, rest)),
-        "export" => Some(call(Kind::Export, rest)),
+        "run" => Some(call_entry(Kind::Run, rest)),
+        "digest" => Some(call_entry(Kind::Digest, rest)),
+        "export" => Some(call_entry(Kind::Export, rest)),
         "last" => Some(Entry::Last),
         "empty" => Some(Entry::Empty),
         "times" => {
@@ -77,7 +77,7 @@ pub fn read_entry(line: &str) -> Option<Entry<'_>> {
     }
 }
 
-fn call(kind: Kind, words: &str) -> Entry<'_> {
+fn call_entry(kind: Kind, words: &str) -> Entry<'_> {
     Entry::Call(Call { kind, words })
 }
 
