@@ -2,12 +2,10 @@
 use Rattle.std.specs.Prelude.{◌≡◌, All, List}
 use Rattle.window_config.specs.declared.config.Config.{Config}
 use Rattle.window_config.specs.declared.plan.PlanLine.{PlanLine}
-use Rattle.schedule_laws.specs.unit_model.specs.declared.allocations.Allocation.{Allocation}
 use Rattle.schedule_laws.specs.plan_model.specs.Lines.{planned}
 use Rattle.schedule_laws.specs.plan_model.specs.Valid.{IsValid}
 use Rattle.schedule_laws.specs.plan_model.specs.declared.lines.PlannedLine.{PlannedLine}
 use Rattle.window_config.specs.Plans.{IsPlanLine}
-use Rattle.schedule_laws.specs.plan_model.specs.Lines.{uplink_allocations}
 
 -- the lines of a valid plan at their endpoints
 pub record IsPlanOf (c : Config) (lines : List PlannedLine) : Type 0 where
@@ -15,7 +13,3 @@ pub record IsPlanOf (c : Config) (lines : List PlannedLine) : Type 0 where
   pub ranges : All IsPlanLine plan
   pub valid : IsValid c plan
   pub is : lines ≡ planned c.endpoints plan
-
--- what the uplink lines of a plan name: no two of a valid plan name one resource element
-abbrev pub planned_of : Config → List PlanLine → List Allocation
-planned_of c plan = uplink_allocations (planned c.endpoints plan)
