@@ -1,1 +1,2 @@
 pub mod Captured
+mod Recording

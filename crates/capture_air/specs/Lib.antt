@@ -5,3 +5,4 @@ pub use Rattle.owed_bytes
 pub mod Airs
 pub mod Capture
 pub mod Laws
+pub mod Recorded

@@ -1,5 +1,5 @@
 // The air that writes a capture.
-ghost use Rattle.std.specs.Prelude.{◌≡◌, [], ◌++◌, ◌<◌, ◌^◌, refl, length, OnOk, OnErr, IfErr};
+ghost use Rattle.std.specs.Prelude.{◌≡◌, ◌≢◌, [], ◌++◌, ◌<◌, ◌≤◌, ◌^◌, refl, length, OnOk, OnErr, IfErr};
 ghost use Rattle.std.proofs.Common.{◌∙◌};
 ghost use Rattle.std.specs.Io.KnownBytes.{append_known};
 ghost use Rattle.fh_base.specs.Told.{WritesFront, WritesPart};
@@ -10,19 +10,21 @@ ghost use Rattle.air_sinks.specs.Stopping.{Halted};
 ghost use Rattle.capture_records.specs.Records.{head_bytes};
 ghost use Rattle.capture_air.specs.Capture.{event_record, events_records};
 ghost use Rattle.capture_air.specs.Laws.{grew_none, grew_more};
+ghost use Rattle.capture_air.specs.Recorded.{Recorded};
 
-use air_sinks::{push_out, tell};
+use air_sinks::push_out;
 use air_source::{Air, AirCell, AirFault, Side};
 use capture_records::{MAGIC, record_head};
 use fault_counters::Counter;
-use fh_base::Sink;
+use fh_base::{Sink, SinkFault};
 use fh_time::Ticks;
-use owed_bytes::OwedBytes;
+use owed_bytes::{OwedBytes, ROOM};
 
 /// An air that writes a record for each arrival to a sink that it borrows, and nothing for other events.
 ///
-/// It owes up to 8,192 bytes to the sink, at first the magic. [`finish`](CaptureAir::finish) writes them; where the air is
-/// dropped without it, or stopped in an event, what is owed is not written.
+/// It owes up to 8,192 bytes to the sink, at first the magic and then at least the last byte of the last record.
+/// [`finish`](CaptureAir::finish) writes them; where the air is dropped without it, or stopped in an event, what is owed is
+/// not written. So a capture is complete only once `finish` answers Ok.
 #[derive(Drop)]
 pub struct CaptureAir<'a, K> {
     sink: &'a mut K,
@@ -44,27 +46,48 @@ impl<'a, K: Sink> CaptureAir<'a, K> {
         CaptureAir { sink, owed }
     }
 
-    // Owes bytes behind what is owed.
+    // Owes bytes after what is owed. Where they have no more than the room they stay owed, alone or with what was owed.
     fn owe(&mut self, bytes: &[u8]) -> Result<(), AirFault>
         ensures reference { sink_name self.new ≡ sink_name self.old }
         ensures carried { OnOk result (Carried (K.written (sink_of self.old)) (owed_of self.old) bytes.now (K.written (sink_of self.new)) (owed_of self.new)) }
+        ensures owing { OnOk result (0 < length bytes.now → length bytes.now ≤ ROOM → owed_of self.new ≢ []) }
         ensures stop { IfErr result (λ f. Halted f (K.written (sink_of self.old)) (K.faults (sink_of self.old)) (K.refusals (sink_of self.old)) (owed_of self.old) bytes.now (K.written (sink_of self.new)) (K.faults (sink_of self.new)) (K.refusals (sink_of self.new))) }
         ensures cause { HasAirCause (K.faults (sink_of self.old)) (K.faults (sink_of self.new)) result }
         ensures refusal { HasRefusal (K.refusals (sink_of self.old)) (K.refusals (sink_of self.new)) result }
     {
-        tell(&mut self.owed, bytes, self.sink)
+        match self.owed.tell(bytes, self.sink) {
+            Ok(()) => Ok(()),
+            Err(SinkFault::Failed) => Err(AirFault::Failed),
+            Err(SinkFault::NoMemory) => Err(AirFault::NoMemory),
+        }
     }
 
-    // Owes the record of an arrival behind what is owed.
+    // Owes a frame after what is owed. Its last byte is owed by a call of its own, since a frame that is longer than the room is
+    // written whole.
+    fn owe_frame(&mut self, frame: &[u8]) -> Result<(), AirFault>
+        ensures reference { sink_name self.new ≡ sink_name self.old }
+        ensures recorded { OnOk result (Recorded (K.written (sink_of self.old)) (owed_of self.old) frame.now (K.written (sink_of self.new)) (owed_of self.new)) }
+        ensures stop { IfErr result (λ f. Halted f (K.written (sink_of self.old)) (K.faults (sink_of self.old)) (K.refusals (sink_of self.old)) (owed_of self.old) frame.now (K.written (sink_of self.new)) (K.faults (sink_of self.new)) (K.refusals (sink_of self.new))) }
+        ensures cause { HasAirCause (K.faults (sink_of self.old)) (K.faults (sink_of self.new)) result }
+    {
+        if frame.is_empty() {
+            return Ok(());
+        }
+        let (front, last) = frame.split_at(frame.len() - 1);
+        self.owe(front)?;
+        self.owe(last)
+    }
+
+    // Owes the record of an arrival after what is owed.
     fn record(&mut self, side: Side, at: Ticks, frame: &[u8]) -> Result<(), AirFault>
         requires { length frame.now < 2 ^ 32 }
         ensures reference { sink_name self.new ≡ sink_name self.old }
-        ensures carried { OnOk result (Carried (K.written (sink_of self.old)) (owed_of self.old) (head_bytes side at.0 (length frame.now) ++ frame.now) (K.written (sink_of self.new)) (owed_of self.new)) }
+        ensures recorded { OnOk result (Recorded (K.written (sink_of self.old)) (owed_of self.old) (head_bytes side at.0 (length frame.now) ++ frame.now) (K.written (sink_of self.new)) (owed_of self.new)) }
         ensures stop { IfErr result (λ f. Halted f (K.written (sink_of self.old)) (K.faults (sink_of self.old)) (K.refusals (sink_of self.old)) (owed_of self.old) (head_bytes side at.0 (length frame.now) ++ frame.now) (K.written (sink_of self.new)) (K.faults (sink_of self.new)) (K.refusals (sink_of self.new))) }
         ensures cause { HasAirCause (K.faults (sink_of self.old)) (K.faults (sink_of self.new)) result }
     {
         self.owe(&record_head(side, at, frame.len() as u32))?;
-        self.owe(frame)
+        self.owe_frame(frame)
     }
 
     /// Writes what is owed, and then owes nothing. After an error a front part of it was written and not all.
@@ -90,7 +113,7 @@ impl<'a, K: Sink> Air for CaptureAir<'a, K> {
 
     ghost faults = { λ a. K.faults (sink_of a) };
 
-    ghost grew = { λ a events b. Carried (K.written (sink_of a)) (owed_of a) (events_records events) (K.written (sink_of b)) (owed_of b) };
+    ghost grew = { λ a events b. Recorded (K.written (sink_of a)) (owed_of a) (events_records events) (K.written (sink_of b)) (owed_of b) };
 
     ghost stopped = { λ f a event b. Halted f (K.written (sink_of a)) (K.faults (sink_of a)) (K.refusals (sink_of a)) (owed_of a) (event_record event) (K.written (sink_of b)) (K.faults (sink_of b)) (K.refusals (sink_of b)) };
 

@@ -3,18 +3,19 @@ use Rattle.std.proofs.Common.{◌≡◌, ◌≢◌, ℕ, List, [], ◌++◌, Opt
 use Rattle.std.specs.Io.KnownBytes.{append_known}
 use Rattle.fh_base.specs.Told.{WritesFront, WritesPart}
 use Rattle.fh_base.proofs.Progress.{front_none}
-use Rattle.capture_air.specs.air_source.specs.Moves.{state_after, given_by}
-use Rattle.capture_air.specs.air_source.specs.declared.airs.AirFault.{AirFault}
-use Rattle.capture_air.specs.air_source.specs.declared.airs.AirFault.TheVariants.{Failed, NoMemory as WantsMemory}
-use Rattle.capture_air.specs.air_source.specs.declared.events.Event.{Event}
-use Rattle.intake_moments.specs.fh_document.specs.declared.document.Document.{Document}
+use Rattle.air_source.specs.Moves.{state_after, given_by}
+use Rattle.air_source.specs.declared.airs.AirFault.{AirFault}
+use Rattle.air_source.specs.declared.airs.AirFault.TheVariants.{Failed, NoMemory as WantsMemory}
+use Rattle.air_source.specs.declared.events.Event.{Event}
+use Rattle.fh_document.specs.declared.document.Document.{Document}
 use Rattle.fronthaul_replay.specs.Replaying.{events_of}
-use Rattle.capture_air.specs.owed_bytes.specs.Owed.{Carried}
-use Rattle.capture_air.specs.owed_bytes.proofs.Parts.{front_part, part_behind}
-use Rattle.capture_air.specs.air_sinks.specs.Stopping.{Halted}
-use Rattle.capture_air.specs.air_sinks.proofs.Fronts.{front_of, stops_front, cut_front}
-use Rattle.capture_air.specs.capture_records.specs.declared.layout.TheConstants.{MAGIC}
+use Rattle.owed_bytes.specs.Owed.{Carried}
+use Rattle.owed_bytes.proofs.Parts.{front_part, part_behind}
+use Rattle.air_sinks.specs.Stopping.{Halted}
+use Rattle.air_sinks.proofs.Fronts.{front_of, stops_front, cut_front}
+use Rattle.capture_records.specs.declared.layout.TheConstants.{MAGIC}
 use Rattle.capture_air.specs.Capture.{whole_capture, event_record, events_records}
+use Rattle.capture_air.specs.Recorded.{Recorded}
 use Rattle.capture_air.proofs.Captured as captured
 use Rattle.sum_air.specs.SumStates.{SumState}
 use Rattle.sum_air.specs.States.{closing_text, sum_start, sum_next, sum_gives, sum_ends}
@@ -38,7 +39,7 @@ some_behind xs none =
 module _ {A : Type 0} (written : A → Option (List ℕ)) (faults refusals : A → ℕ) (owed : A → List ℕ) (d : Document) (old new : A) where
   -- what a capture air heard, and how it stopped
   abbrev CaptureGrew : A → List Event → A → Type 0
-  CaptureGrew a es b = Carried (written a) (owed a) (events_records es) (written b) (owed b)
+  CaptureGrew a es b = Recorded (written a) (owed a) (events_records es) (written b) (owed b)
 
   abbrev CaptureStopped : AirFault → A → Event → A → Type 0
   CaptureStopped fault a e b = Halted fault (written a) (faults a) (refusals a) (owed a) (event_record e) (written b) (faults b) (refusals b)
@@ -48,6 +49,12 @@ module _ {A : Type 0} (written : A → Option (List ℕ)) (faults refusals : A �
   unfolding capture_of
   capture_cut WriteFault magic cut = stops_front CaptureGrew (CaptureStopped Failed) written whole_capture old new (events_of d) (captured.writes_out Failed written faults refusals owed old magic) cut
   capture_cut NoMemory magic cut = cut_front CaptureGrew (CaptureStopped WantsMemory) written whole_capture old new (events_of d) (captured.writes_out WantsMemory written faults refusals owed old magic) cut
+
+  -- and not all of it, since at least its last byte was still owed
+  pub capture_cut_part : (f : TextFault) → owed old ≡ MAGIC → CutBy f CaptureGrew CaptureStopped (events_of d) old new → WritesPart (written old) (written new) (capture_of d)
+  unfolding capture_of
+  capture_cut_part WriteFault magic cut = captured.stopped_part Failed written faults refusals owed (events_of d) old new magic cut
+  capture_cut_part NoMemory magic cut = captured.cut_part WantsMemory written faults refusals owed (events_of d) old new magic cut
 
 module _ {A : Type 0} (written : A → Option (List ℕ)) (faults refusals : A → ℕ) (owed : A → List ℕ) (sums : A → SumState) (d : Document) (old new : A) where
   -- what a summary air heard, and how it stopped
@@ -84,14 +91,20 @@ module _ {A : Type 0} (written : A → Option (List ℕ)) (faults refusals : A �
 
 -- all of a capture, and a front of it, at the end
 pub capture_done : (d : Document) (written : Option (List ℕ)) (owed : List ℕ) (middle : Option (List ℕ)) (owed_now : List ℕ) (now : Option (List ℕ))
-    → owed ≡ MAGIC → Carried written owed (events_records (events_of d)) middle owed_now → now ≡ append_known middle owed_now → now ≡ append_known written (capture_of d)
+    → owed ≡ MAGIC → Recorded written owed (events_records (events_of d)) middle owed_now → now ≡ append_known middle owed_now → now ≡ append_known written (capture_of d)
 unfolding capture_of
 capture_done d written owed middle owed_now now magic h whole = captured.finished (events_of d) written owed middle owed_now now magic h whole
 
 pub capture_front : (d : Document) (written : Option (List ℕ)) (owed : List ℕ) (middle : Option (List ℕ)) (owed_now : List ℕ) (now : Option (List ℕ))
-    → owed ≡ MAGIC → Carried written owed (events_records (events_of d)) middle owed_now → WritesFront middle now owed_now → WritesFront written now (capture_of d)
+    → owed ≡ MAGIC → Recorded written owed (events_records (events_of d)) middle owed_now → WritesFront middle now owed_now → WritesFront written now (capture_of d)
 unfolding capture_of
 capture_front d written owed middle owed_now now magic h front = captured.finish_front (events_of d) written owed middle owed_now now magic h front
+
+-- and a part of it
+pub capture_part : (d : Document) (written : Option (List ℕ)) (owed : List ℕ) (middle : Option (List ℕ)) (owed_now : List ℕ) (now : Option (List ℕ))
+    → owed ≡ MAGIC → Recorded written owed (events_records (events_of d)) middle owed_now → WritesPart middle now owed_now → WritesPart written now (capture_of d)
+unfolding capture_of
+capture_part d written owed middle owed_now now magic h part = captured.finish_part (events_of d) written owed middle owed_now now magic h part
 
 -- all of a summary, and a front of it, at the end
 pub summary_done : (d : Document) (s : SumState) (written : Option (List ℕ)) (owed : List ℕ) (s_now : SumState) (middle : Option (List ℕ)) (owed_now : List ℕ) (now : Option (List ℕ))

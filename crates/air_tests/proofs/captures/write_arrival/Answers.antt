@@ -1,8 +1,8 @@
 use Rattle.std.proofs.Common.{rules, [], ◌∷◌, refl}
 use Rattle.std.proofs.lemmas.Result.{on_ok_weaker}
-use Rattle.owed_bytes.specs.CarriedLaws.{carried_none}
-use Rattle.report_lines.specs.air_source.specs.declared.events.Event.TheVariants.{Arrival}
+use Rattle.air_source.specs.declared.events.Event.TheVariants.{Arrival}
 use Rattle.capture_air.specs.Airs.{sink_of, owed_of}
+use Rattle.capture_air.specs.Laws.{grew_none}
 use Rattle.capture_air.proofs.Captured.{finished, finish_front, stopped_front}
 use Rattle.air_tests.proofs.captures.write_arrival.Goals as goal
 
@@ -13,7 +13,7 @@ returns-in_err-arrival-clause-front g c =
     let a = c.new-air.result in
     let b = c.arrival.new.self in
     let front = stopped_front _ (λ a. w (sink_of a)) (λ a. g.K.Sink.faults (sink_of a)) (λ a. g.K.Sink.refusals (sink_of a)) owed_of es a b c.new-air.ensures.owed
-    (record { before = []; event = Arrival c.args.side c.args.at c.args.frame.now; after = []; is = refl; middle = a; heard = carried_none _ _; stop = c.in_err-arrival.ensures.stop }) in
+    (record { before = []; event = Arrival c.args.side c.args.at c.args.frame.now; after = []; is = refl; middle = a; heard = grew_none _ _; stop = c.in_err-arrival.ensures.stop }) in
     search (rules, front)
 
 pub returns-clause-all : goal.returns-clause-all

@@ -1,42 +1,36 @@
-use Rattle.std.proofs.Common.{rules, ◌≡◌, ◌++◌, ◌≤◌, List, ℕ, Option, subst, sym, length}
+use Rattle.std.proofs.Common.{rules, ◌≡◌, ◌<◌, ◌≤◌, ◌++◌, List, ℕ, length, sym, ap, arith}
 use Rattle.std.proofs.lemmas.Result.{IfErr-weaker, on_ok_weaker}
 use Rattle.fh_base.proofs.Causes.{counts_later}
-use Rattle.air_source.specs.declared.airs.AirFault.{AirFault}
-use Rattle.owed_bytes.specs.Owed.{Carried}
-use Rattle.owed_bytes.specs.CarriedLaws.{carried_more}
-use Rattle.air_sinks.specs.Stopping.{Halted}
-use Rattle.air_sinks.proofs.Turns.{halted_first, halted_second}
-use Rattle.capture_records.specs.Records.{head_bytes}
+use Rattle.owed_bytes.specs.declared.bytes.TheConstants.{ROOM}
+use Rattle.capture_air.proofs.Recording.{both_recorded, in_first, in_second}
 use Rattle.capture_air.proofs.capture_air.CaptureAir.record.Goals as goal
 
--- the air stopped in the bytes before the frame
-in_head : (head bytes frame : List ℕ) (f : AirFault) (w : Option (List ℕ)) (a b : ℕ) (o : List ℕ) (n : Option (List ℕ)) (c d : ℕ)
-    → head ≡ bytes → Halted f w a b o head n c d → Halted f w a b o (bytes ++ frame) n c d
-in_head head bytes frame f w a b o n c d is h = halted_first f w a b o bytes frame n c d (subst (λ (t : List ℕ). Halted f w a b o t n c d) is h)
+-- the bytes before the frame are as computed
+before_frame : (head bytes frame : List ℕ) → head ≡ bytes → bytes ++ frame ≡ head ++ frame
+before_frame head bytes frame is = ap (λ t. t ++ frame) (sym is)
 
--- it stopped in the frame
-in_frame : (head bytes frame : List ℕ) (f : AirFault) (w : Option (List ℕ)) (a b : ℕ) (o : List ℕ) (m : Option (List ℕ)) (k l : ℕ) (p : List ℕ) (n : Option (List ℕ)) (c d : ℕ)
-    → head ≡ bytes → Carried w o head m p → a ≤ k → b ≤ l → Halted f m k l p frame n c d → Halted f w a b o (bytes ++ frame) n c d
-in_frame head bytes frame f w a b o m k l p n c d is carried h g halted =
-    halted_second f w a b o bytes frame m k l p n c d (subst (λ (t : List ℕ). Carried w o t m p) is carried) h g halted
+-- there are some, and fewer than the room
+some_head : (n : ℕ) → n ≡ 13 → 0 < n
+some_head n is = omega (arith, is)
 
--- both went on
-both : (head bytes frame : List ℕ) (w m n : Option (List ℕ)) (o p q : List ℕ) → head ≡ bytes → Carried w o head m p → Carried m p frame n q → Carried w o (bytes ++ frame) n q
-both head bytes frame w m n o p q is h k = carried_more w m n o p q bytes frame (subst (λ (t : List ℕ). Carried w o t m p) is h) k
+short_head : (n : ℕ) → n ≡ 13 → n ≤ ROOM
+short_head n is = omega (arith, is)
 
 pub returns-in_err-owe-clause-stop : goal.returns-in_err-owe-clause-stop
 returns-in_err-owe-clause-stop g c =
     let same : c.owe.result ≡ c.from_residual.result = search rules in
     rw (sym same) (IfErr-weaker c.owe.result _ _ (λ f stop.
-    in_head c.record_head.result (head_bytes c.args.side c.args.at.0 (length c.args.frame.now)) c.args.frame.now f _ _ _ _ _ _ _ c.record_head.ensures stop) c.owe.ensures.stop)
+    in_first c.record_head.result c.args.frame.now _ f _ _ _ _ _ _ _ (before_frame _ _ c.args.frame.now c.record_head.ensures) stop) c.owe.ensures.stop)
 
-pub returns-clause-carried : goal.returns-clause-carried
-returns-clause-carried g c =
-    on_ok_weaker c.owe-2.result (λ second.
-    both c.record_head.result (head_bytes c.args.side c.args.at.0 (length c.args.frame.now)) c.args.frame.now _ _ _ _ _ _ c.record_head.ensures c.in_ok-owe.ensures.carried second) c.owe-2.ensures.carried
+pub returns-clause-recorded : goal.returns-clause-recorded
+returns-clause-recorded g c =
+    let size = ap length c.record_head.ensures in
+    on_ok_weaker c.owe_frame.result (λ second.
+    both_recorded c.record_head.result c.args.frame.now _ _ _ _ _ _ _ (before_frame _ _ c.args.frame.now c.record_head.ensures) c.in_ok-owe.ensures.carried
+    (c.in_ok-owe.ensures.owing (some_head _ size) (short_head _ size)) second) c.owe_frame.ensures.recorded
 
 pub returns-clause-stop : goal.returns-clause-stop
 returns-clause-stop g c =
-    IfErr-weaker c.owe-2.result _ _ (λ f stop.
-    in_frame c.record_head.result (head_bytes c.args.side c.args.at.0 (length c.args.frame.now)) c.args.frame.now f _ _ _ _ _ _ _ _ _ _ _ c.record_head.ensures c.in_ok-owe.ensures.carried
-    (counts_later _ _ _ c.owe.ensures.cause) (counts_later _ _ _ c.owe.ensures.refusal) stop) c.owe-2.ensures.stop
+    IfErr-weaker c.owe_frame.result _ _ (λ f stop.
+    in_second c.record_head.result c.args.frame.now _ f _ _ _ _ _ _ _ _ _ _ _ (before_frame _ _ c.args.frame.now c.record_head.ensures) c.in_ok-owe.ensures.carried
+    (counts_later _ _ _ c.owe.ensures.cause) (counts_later _ _ _ c.owe.ensures.refusal) stop) c.owe_frame.ensures.stop
