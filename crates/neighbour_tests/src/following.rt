@@ -11,12 +11,12 @@ use std::alloc::Global;
 fn is_at(c: &AirCell, d: &AirCell) -> bool
     ensures { result ≡ is_at (place_of c.now) d.now }
 {
-    c.prb == d.prb
-        && c.symbol == d.symbol
-        && c.slot.slot == d.slot.slot
+    c.slot.frame == d.slot.frame
         && c.slot.subframe == d.slot.subframe
-        && c.slot.frame == d.slot.frame
+        && c.slot.slot == d.slot.slot
+        && c.symbol == d.symbol
         && c.id == d.id
+        && c.prb == d.prb
 }
 
 // The cells have the same time, section and mask, where they have the same place.

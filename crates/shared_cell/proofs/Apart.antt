@@ -6,7 +6,7 @@ use Rattle.std.proofs.lemmas.List.{get_or-set_same, get_or-set_other, length_pus
 use Rattle.shared_cell.specs.declared.places.CellPlace.{CellPlace}
 use Rattle.shared_cell.specs.declared.values.Mixed.{Mixed}
 use Rattle.shared_cell.specs.Places.{is_mixed_at, place_in}
-use Rattle.shared_cell.specs.Held.{AreApart, index_of}
+use Rattle.shared_cell.specs.Finding.{AreApart, index_of}
 use Rattle.shared_cell.proofs.Found.{index_of-push, index_of-set}
 use Rattle.shared_cell.proofs.Same.{same_itself}
 

@@ -1,13 +1,13 @@
 -- The index at which the combined cell of a place stands, through each change of the list.
 use Rattle.std.proofs.Common.{◌≡◌, ℕ, suc, zero, ◌<◌, Bool, true, false, cond, List, [], ◌∷◌, ◌++◌, length, take, get_or, set, Option, Some, None, refl, ap, sym, ◌∙◌, arith, subst}
-use Rattle.std.specs.Option.{option_map, unwrap_or}
+use Rattle.std.specs.Option.{option_map}
 use Rattle.std.specs.Ordering.{is_eq}
 use Rattle.air_source.specs.declared.events.AirCell.{AirCell}
 use Rattle.shared_cell.specs.declared.places.CellPlace.{CellPlace}
 use Rattle.shared_cell.specs.declared.values.Mixed.{Mixed}
 use Rattle.shared_cell.specs.Places.{is_same, is_mixed_at, place_in, place_of, place_cmp}
 use Rattle.shared_cell.specs.Joined.{joined, joined_at, joined_block, joined_or_left, may_join, opened}
-use Rattle.shared_cell.specs.Held.{index_of}
+use Rattle.shared_cell.specs.Finding.{index_of}
 use Rattle.shared_cell.proofs.Same.{is_eq-place_cmp, same_is, same_turned}
 
 -- ---- one more combined cell at the end
@@ -108,34 +108,3 @@ joined_at-first c (x ∷ xs) h = go (is_mixed_at (place_of c) x) (index_of (plac
     go true o h rest = cc
     go false None h rest = ap (λ ys. x ∷ ys) (rest refl)
     go false (Some j) h rest = cc
-
--- ---- what the map's value says
-
--- a value below the length is the place's index
-pub index_of-is : (p : CellPlace) (ms : List Mixed) (o : Option ℕ) (k next : ℕ) → o ≡ index_of p ms → k ≡ unwrap_or o next → next ≡ length ms → k < length ms → index_of p ms ≡ Some k
-index_of-is p ms None k next o is len less = let same : k ≡ length ms = is ∙ len in let bad : ⊥ = omega (arith, same, less) in elim bad as (λ _. index_of p ms ≡ Some k) [ ]
-index_of-is p ms (Some j) k next o is len less = sym o ∙ ap (λ (n : ℕ). Some n) (sym is)
-
--- any other is a new place's
-pub index_of-new : (p : CellPlace) (ms : List Mixed) (o : Option ℕ) (k next : ℕ) → o ≡ index_of p ms → k ≡ unwrap_or o next → next ≡ length ms → (k < length ms → ⊥) → (index_of p ms ≡ None) × (k ≡ length ms)
-index_of-new p ms None k next o is len less = (sym o, is ∙ len)
-index_of-new p ms (Some j) k next o is len less = elim (less (subst (λ (n : ℕ). n < length ms) (sym is) (index_of-within p ms j (sym o)))) as (λ _. (index_of p ms ≡ None) × (k ≡ length ms)) [ ]
-
--- the map whose entry was written with its own value finds each place
-pub found_again : (p q : CellPlace) (ms : List Mixed) (k : ℕ) (was now : Option ℕ) → index_of p ms ≡ Some k → was ≡ index_of q ms → now ≡ cond (is_eq (place_cmp p q)) (Some k) was → now ≡ index_of q ms
-found_again p q ms k was now here before after = after ∙ go (is_same p q) refl
-  where
-    go : (b : Bool) → is_same p q ≡ b → cond (is_eq (place_cmp p q)) (Some k) was ≡ index_of q ms
-    go true e = ap (λ (b : Bool). cond b (Some k) was) (is_eq-place_cmp p q ∙ e) ∙ sym (subst (λ (r : CellPlace). index_of r ms ≡ Some k) (same_is p q e) here)
-    go false e = ap (λ (b : Bool). cond b (Some k) was) (is_eq-place_cmp p q ∙ e) ∙ before
-
--- the map from which a new place was taken again finds each place
-pub found_without : (p q : CellPlace) (ms : List Mixed) (k : ℕ) (was between now : Option ℕ) → index_of p ms ≡ None → was ≡ index_of q ms
-    → between ≡ cond (is_eq (place_cmp p q)) (Some k) was → now ≡ cond (is_eq (place_cmp p q)) None between → now ≡ index_of q ms
-found_without p q ms k was between now gone before written after = after ∙ go (is_same p q) refl
-  where
-    go : (b : Bool) → is_same p q ≡ b → cond (is_eq (place_cmp p q)) None between ≡ index_of q ms
-    go true e = ap (λ (b : Bool). cond b None between) (is_eq-place_cmp p q ∙ e) ∙ sym (subst (λ (r : CellPlace). index_of r ms ≡ None) (same_is p q e) gone)
-    go false e =
-        ap (λ (b : Bool). cond b None between) (is_eq-place_cmp p q ∙ e)
-        ∙ written ∙ ap (λ (b : Bool). cond b (Some k) was) (is_eq-place_cmp p q ∙ e) ∙ before

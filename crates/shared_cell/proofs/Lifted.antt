@@ -17,7 +17,7 @@ use Rattle.shared_cell.specs.declared.values.Mixed.{Mixed}
 use Rattle.shared_cell.specs.Places.{is_same, is_at, is_mixed_at, place_of}
 use Rattle.shared_cell.specs.Joined.{joined, joined_at, may_join, opened, added, MayJoin}
 use Rattle.shared_cell.specs.Combined.{firsts, cells_with, has_samples, mixed_of, combined, AgreeIn, Stands, Follows}
-use Rattle.shared_cell.specs.Held.{index_of}
+use Rattle.shared_cell.specs.Finding.{index_of}
 use Rattle.shared_cell.proofs.Same.{same_is, same_itself, same_turned}
 use Rattle.shared_cell.proofs.Sums.{mixed_of-last, mixed_of-none}
 

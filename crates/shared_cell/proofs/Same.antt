@@ -18,25 +18,25 @@ eq_int x y = grind (arith, ints, nat_tests)
 -- places compare equal exactly where they are the same
 pub is_eq-place_cmp : (p q : CellPlace) → is_eq (place_cmp p q) ≡ is_same p q
 is_eq-place_cmp p q =
-    sym (both_tied _ _ _ _ (sym (eq_nat p.prb q.prb))
-    (both_tied _ _ _ _ (sym (eq_nat p.symbol q.symbol))
+    sym (both_tied _ _ _ _ (sym (eq_int p.frame q.frame))
+    (both_tied _ _ _ _ (sym (eq_nat p.subframe q.subframe))
     (both_tied _ _ _ _ (sym (eq_nat p.slot q.slot))
-    (both_tied _ _ _ _ (sym (eq_nat p.subframe q.subframe)) (both_tied _ _ _ _ (sym (eq_int p.frame q.frame)) (sym (eq_nat p.id q.id)))))))
+    (both_tied _ _ _ _ (sym (eq_nat p.symbol q.symbol)) (both_tied _ _ _ _ (sym (eq_nat p.id q.id)) (sym (eq_nat p.prb q.prb)))))))
 
 -- the same place is one place
 pub same_is : (p q : CellPlace) → is_same p q ≡ true → p ≡ q
 same_is p q h =
-    let prb = eqb-true p.prb q.prb (first_so _ _ h) in
-    let h1 = second_so (p.prb == q.prb) _ h in
-    let symbol = eqb-true p.symbol q.symbol (first_so _ _ h1) in
-    let h2 = second_so (p.symbol == q.symbol) _ h1 in
+    let frame = same_z p.frame q.frame (first_so _ _ h) in
+    let h1 = second_so (int_eq p.frame q.frame) _ h in
+    let subframe = eqb-true p.subframe q.subframe (first_so _ _ h1) in
+    let h2 = second_so (p.subframe == q.subframe) _ h1 in
     let slot = eqb-true p.slot q.slot (first_so _ _ h2) in
     let h3 = second_so (p.slot == q.slot) _ h2 in
-    let subframe = eqb-true p.subframe q.subframe (first_so _ _ h3) in
-    let h4 = second_so (p.subframe == q.subframe) _ h3 in
-    let frame = same_z p.frame q.frame (first_so _ _ h4) in
-    let id = eqb-true p.id q.id (second_so (int_eq p.frame q.frame) _ h4) in
-    λ i. record { prb = prb i; symbol = symbol i; slot = slot i; subframe = subframe i; frame = frame i; id = id i }
+    let symbol = eqb-true p.symbol q.symbol (first_so _ _ h3) in
+    let h4 = second_so (p.symbol == q.symbol) _ h3 in
+    let id = eqb-true p.id q.id (first_so _ _ h4) in
+    let prb = eqb-true p.prb q.prb (second_so (p.id == q.id) _ h4) in
+    λ i. record { frame = frame i; subframe = subframe i; slot = slot i; symbol = symbol i; id = id i; prb = prb i }
 
 pub same_itself : (p : CellPlace) → is_same p p ≡ true
 same_itself p =

@@ -1,4 +1,5 @@
 pub mod Places
 pub mod Joined
 pub mod Combined
+pub mod Finding
 pub mod Held

@@ -8,15 +8,15 @@ use Rattle.shared_cell.specs.declared.values.Mixed.{Mixed}
 
 -- where a cell stands
 abbrev pub place_of : AirCell → CellPlace
-place_of c = record { prb = c.prb; symbol = c.symbol; slot = c.slot.slot; subframe = c.slot.subframe; frame = c.slot.frame; id = c.id }
+place_of c = record { frame = c.slot.frame; subframe = c.slot.subframe; slot = c.slot.slot; symbol = c.symbol; id = c.id; prb = c.prb }
 
 -- where a combined cell stands
 abbrev pub place_in : Mixed → CellPlace
-place_in m = record { prb = m.prb; symbol = m.symbol; slot = m.slot.slot; subframe = m.slot.subframe; frame = m.slot.frame; id = m.id }
+place_in m = record { frame = m.slot.frame; subframe = m.slot.subframe; slot = m.slot.slot; symbol = m.symbol; id = m.id; prb = m.prb }
 
 -- the same endpoint, slot, symbol and PRB
 abbrev pub is_same : CellPlace → CellPlace → Bool
-is_same p q = (p.prb == q.prb) && ((p.symbol == q.symbol) && ((p.slot == q.slot) && ((p.subframe == q.subframe) && (int_eq p.frame q.frame && (p.id == q.id)))))
+is_same p q = int_eq p.frame q.frame && ((p.subframe == q.subframe) && ((p.slot == q.slot) && ((p.symbol == q.symbol) && ((p.id == q.id) && (p.prb == q.prb)))))
 
 -- a cell stands at the place
 abbrev pub is_at : CellPlace → AirCell → Bool
@@ -26,11 +26,11 @@ is_at p c = is_same p (place_of c)
 abbrev pub is_mixed_at : CellPlace → Mixed → Bool
 is_mixed_at p m = is_same p (place_in m)
 
--- the order of places in the map
+-- the order of places: by their slots, symbols, endpoints' ids and PRBs
 abbrev pub place_cmp : CellPlace → CellPlace → Ordering
-place_cmp = then_cmp (on (λ p. p.prb) nat_cmp)
-    (then_cmp (on (λ p. p.symbol) nat_cmp)
-    (then_cmp (on (λ p. p.slot) nat_cmp)
+place_cmp = then_cmp (on (λ p. p.frame) int_cmp)
     (then_cmp (on (λ p. p.subframe) nat_cmp)
-    (then_cmp (on (λ p. p.frame) int_cmp)
-    (on (λ p. p.id) nat_cmp)))))
+    (then_cmp (on (λ p. p.slot) nat_cmp)
+    (then_cmp (on (λ p. p.symbol) nat_cmp)
+    (then_cmp (on (λ p. p.id) nat_cmp)
+    (on (λ p. p.prb) nat_cmp)))))

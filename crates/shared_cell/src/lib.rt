@@ -5,6 +5,7 @@
 //! A [`Mixed`] cell says how many units had samples there, and has the [`Sum`] of each element.
 #![tactic(auto)]
 
+mod finding;
 mod joining;
 mod mixing;
 mod places;

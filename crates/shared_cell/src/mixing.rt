@@ -1,26 +1,26 @@
 // The mixer of cells.
-ghost use Rattle.std.specs.Prelude.{◌≡◌, ◌<◌, ◌↔◌, ◌≤◌, [], ◌∷◌, ◌++◌, length, slice_get, OnOk, OnErr, IsNone, List, None};
+ghost use Rattle.std.specs.Prelude.{◌≡◌, ◌<◌, ◌↔◌, ◌≤◌, [], ◌∷◌, ◌++◌, length, slice_get, OnOk, OnErr, IsNone, List, None, Some};
 ghost use Rattle.air_source.specs.declared.events.AirCell.{AirCell};
 ghost use Rattle.shared_cell.specs.Places.{place_of};
 ghost use Rattle.shared_cell.specs.Joined.{joined_at, taken};
 ghost use Rattle.shared_cell.specs.Combined.{combined, firsts, cells_with, Follows, Stands, MayAdd};
 
 use crate::Mixed;
+use crate::finding::Finder;
 use crate::joining::{join, join_or_leave, opened};
-use crate::places::{CellPlace, find_or_insert, is_at, place_of};
+use crate::places::{CellPlace, is_at, place_of};
 use air_source::{AirCell, Side};
 use fh_base::NoMemory;
 use std::alloc::Global;
-use std::collections::BTreeMap;
 use std::marker::Model;
 
 /// Adds up the cells of units that share a cell. Contracts see the list of its combined cells, and say by `Stands` for which
 /// cells it stands, in the order in which they were added.
 #[derive(Drop)]
 pub struct Mixer {
-    places: BTreeMap<CellPlace, usize>,
     mixed: Vec<Mixed>,
-    // the index after that of the last cell's place: units report their cells in the same order, so it is likely the next cell's
+    finder: Finder,
+    // whose place is likely the next cell's: units report their cells in the same order, so it follows that of the last cell
     turn: usize,
 }
 
@@ -38,15 +38,15 @@ impl Model for Mixer {
 }
 
 impl Mixer {
-    ghost use Rattle.shared_cell.specs.Held.{index_of};
+    ghost use Rattle.shared_cell.specs.Finding.{index_of};
 
     /// A mixer that no cell was added to. This takes no memory; later growth takes it from `alloc`.
     pub fn make(alloc: Global) -> Mixer
         ensures { Stands result [] }
     {
         Mixer {
-            places: BTreeMap::new(alloc),
             mixed: Vec::new(alloc),
+            finder: Finder::make(alloc),
             turn: 0,
         }
     }
@@ -102,35 +102,45 @@ impl Mixer {
         ensures err { OnErr result (self.new ≡ self.old) }
         ensures refused { OnErr result (index_of (place_of c.now) self.old ≡ None) }
     {
-        if self.turn < self.mixed.len() && is_at(&self.mixed[self.turn], c) {
-            join_or_leave(&mut self.mixed[self.turn], c);
-            self.turn += 1;
+        let place = place_of(c);
+        let turn = self.turn;
+        if turn < self.mixed.len() && is_at(&self.mixed[turn], &place) {
+            self.join(turn, c);
             return Ok(());
         }
-        self.put_by_map(c)
+        match self.finder.find(&place, self.mixed.as_slice()) {
+            Some(index) => {
+                self.join(index, c);
+                Ok(())
+            }
+            None => self.open(place, c),
+        }
     }
 
-    // The same, where the map says which combined cell it is.
-    fn put_by_map(&mut self, c: &AirCell) -> Result<(), NoMemory>
+    // Joins the cell to the combined cell of its place, which has this index, where it may be joined.
+    fn join(&mut self, index: usize, c: &AirCell)
+        requires { index_of (place_of c.now) self.old ≡ Some index }
+        ensures { self.new ≡ joined_at c.now self.old }
+    {
+        let count = self.mixed.len();
+        join_or_leave(&mut self.mixed[index], c);
+        self.turn = if index + 1 < count { index + 1 } else { 0 };
+    }
+
+    // Opens a combined cell at the place of the cell, where there is none.
+    fn open(&mut self, place: CellPlace, c: &AirCell) -> Result<(), NoMemory>
+        requires place { place ≡ place_of c.now }
+        requires first { index_of place self.old ≡ None }
         ensures ok { OnOk result (self.new ≡ joined_at c.now self.old) }
         ensures err { OnErr result (self.new ≡ self.old) }
-        ensures refused { OnErr result (index_of (place_of c.now) self.old ≡ None) }
     {
-        let place = place_of(c);
-        let next = self.mixed.len();
-        let index = find_or_insert(&mut self.places, place, next)?;
-        if index < next {
-            join_or_leave(&mut self.mixed[index], c);
-            self.turn = index + 1;
-            return Ok(());
-        }
         let mut mixed = opened(c);
         join(&mut mixed, c);
         if self.mixed.push(mixed).is_err() {
-            self.places.remove(&place);
             return Err(NoMemory);
         }
-        self.turn = self.mixed.len();
+        self.finder.add(place);
+        self.turn = 0;
         Ok(())
     }
 }
