@@ -1,0 +1,5 @@
+pub mod Frames
+pub mod Laws
+pub mod Rows
+pub mod Text
+pub mod Told
