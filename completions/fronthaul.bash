@@ -1,6 +1,6 @@
 # Completion of fronthaul's words for bash: source this file, or put it where bash-completion looks.
 _fronthaul() {
-    local commands='replay summary capture show windows fit generate trial shared idle pcap pcap-capture prove'
+    local commands='replay summary capture show sent windows fit generate trial shared idle pcap pcap-capture prove'
     COMPREPLY=()
     if [ "$COMP_CWORD" -eq 1 ]; then
         COMPREPLY=($(compgen -W "$commands" -- "${COMP_WORDS[1]}"))

@@ -5,6 +5,7 @@ complete -c fronthaul -n __fish_use_subcommand -a summary -d 'the sums of runs o
 complete -c fronthaul -n __fish_use_subcommand -a capture -d 'the frames of a document as they arrive'
 complete -c fronthaul -n __fish_use_subcommand -a show -d 'the fields of the frames of a capture'
 complete -c fronthaul -n '__fish_seen_subcommand_from show' -l json -d 'as JSON'
+complete -c fronthaul -n __fish_use_subcommand -a sent -d 'the frames that a document sends to the radio unit'
 complete -c fronthaul -n __fish_use_subcommand -a windows -d 'the windows, the rings and the check of a document'
 complete -c fronthaul -n __fish_use_subcommand -a fit -d 'what breaks the windows of a document, and the greatest that fit'
 complete -c fronthaul -n __fish_use_subcommand -a generate -d 'a document of its own, of a seed and a number of slots'

@@ -1,5 +1,6 @@
 // What the callers say of a line.
-ghost use Rattle.std.specs.Prelude.{◌≡◌, ◌^◌, ◌≤ℤ◌, IfSome, neg_ℤ, pos};
+ghost use Rattle.std.specs.Prelude.{◌≡◌, ◌^◌, ◌≤ℤ◌, IfOk, IfSome, IsErr, MatchOption, neg_ℤ, pos};
+ghost use Rattle.hex.specs.Hex.{decode_of};
 
 use crate::captures::last_seen;
 use crate::commands::section_count;
@@ -7,13 +8,15 @@ use crate::data::samples_of;
 use crate::delays::delay;
 use crate::fragments::completed;
 use crate::frames::message_count;
-use crate::hexadecimal::bytes_of;
 use crate::samples::received;
 use crate::windows::data_class;
+use air_source::Side;
 use bfp_codec::{Format, Iq, Method, Wide};
 use delay_measure::{Edge, Kind, Meter};
 use ecpri_fragments::{Assembly, SeqField, Taken};
 use fh_time::{Shape, Ticks};
+use hex::FromHexError;
+use pcap_frames::Whose;
 use std::alloc::{AllocError, Global};
 use std::str::SplitWhitespace;
 use window_config::Delays;
@@ -50,6 +53,17 @@ pub fn answer(alloc: Global, line: &str) -> Answer {
         ("delay", _) => delay_text(alloc, bytes),
         ("capture", _) => capture_text(alloc, bytes),
         _ => String::from_str(alloc, line),
+    }
+}
+
+/// The bytes that a word spells, two hexadecimal digits each. None where it is no such word.
+fn bytes_of(alloc: Global, word: &str) -> Result<Option<Vec<u8>>, AllocError>
+    ensures { IfOk result (λ found. MatchOption found (IsErr (decode_of word.now)) (λ bytes. decode_of word.now ≡ Ok bytes.items)) }
+{
+    match hex::decode(alloc, word) {
+        Ok(bytes) => Ok(Some(bytes)),
+        Err(FromHexError::OutOfMemory) => Err(AllocError),
+        Err(_) => Ok(None),
     }
 }
 
@@ -175,8 +189,8 @@ fn delay_text(alloc: Global, payload: &[u8]) -> Answer {
 }
 
 fn capture_text(alloc: Global, file: &[u8]) -> Answer {
-    match last_seen(file, 5_000) {
+    match last_seen(alloc, file, Whose::All(Side::Ru), 5_000) {
         Ok(last) => format!(in alloc; "capture {:?}", last),
-        Err(refusal) => format!(in alloc; "capture {}", refusal),
+        Err(fault) => format!(in alloc; "capture {}", fault),
     }
 }

@@ -1,24 +1,31 @@
 // A caller of pcap_frames.
-ghost use Rattle.std.specs.Prelude.{◌≡◌, IfOk, None, Ok, map};
+ghost use Rattle.std.specs.Prelude.{◌≡◌, IfErr, IfOk, OnOk, None, Ok, map};
 ghost use Rattle.std.specs.List.{last_or};
-ghost use Rattle.std.specs.Result.{result_err};
 ghost use Rattle.pcap_frames.specs.Checked.{checked};
 ghost use Rattle.pcap_frames.specs.Frames.{frames_of};
+ghost use Rattle.pcap_frames.specs.Heads.{IsFault};
 
-use pcap_frames::{PcapRefusal, check, frames};
+use pcap_frames::{PcapFault, Whose, check, frames};
+use std::alloc::Global;
 
-/// When the last eCPRI frame of a capture was seen, in nanoseconds, where its first is put at `start`. None where it
-/// has none, and an error exactly where the file is malformed.
-pub fn last_seen(file: &[u8], start: u64) -> Result<Option<i64>, PcapRefusal>
-    ensures refusal { result_err result ≡ result_err (checked file.now start) }
-    ensures last { IfOk (checked file.now start) (λ head. result ≡ Ok (last_or None (map (λ frame. frame.at) (frames_of file.now head start)))) }
+/// When the last eCPRI frame of a capture that is wanted was seen, in nanoseconds, where its first is put at `start`. None where it
+/// has none, and a refusal exactly where the file is malformed, want of memory aside.
+pub fn last_seen(
+    alloc: Global,
+    file: &[u8],
+    whose: Whose,
+    start: u64,
+) -> Result<Option<i64>, PcapFault>
+    ensures accepted { OnOk result (checked whose file.now start ≡ Ok tt) }
+    ensures fault { IfErr result (IsFault whose file.now start) }
+    ensures last { IfOk result (λ last. last ≡ last_or None (map (λ frame. frame.at) (frames_of whose file.now start))) }
 {
-    let head = match check(file, start) {
+    let head = match check(alloc, file, whose, start) {
         Ok(head) => head,
-        Err(refusal) => return Err(refusal),
+        Err(fault) => return Err(fault),
     };
     let mut last = None;
-    for frame in frames(file, &head, start) {
+    for frame in frames(file, &head, whose, start) {
         last = Some(frame.at);
     }
     Ok(last)

@@ -9,7 +9,6 @@ mod data;
 mod delays;
 mod fragments;
 mod frames;
-mod hexadecimal;
 mod samples;
 mod windows;
 

@@ -5,9 +5,9 @@ use Rattle.std.specs.Str.{bytes_eq}
 use Rattle.std.specs.Str.Parse.{digits_value}
 use Rattle.std.proofs.lemmas.Bool.Decides.{nat_tests}
 use Rattle.text_lines.specs.Numbers.{is_decimal, number_in}
-use Rattle.command_words.specs.Words.{bare_command, command_of, command_with_one, command_with_three, command_with_two, count_in, frame_in, least_in, seed_in, slots_in, start_in, step_in, way_in, with_both, with_frames}
+use Rattle.command_words.specs.Words.{bare_command, command_of, command_with_one, command_with_three, command_with_two, count_in, frame_in, least_in, seed_in, slots_in, start_in, step_in, whose_in, with_both, with_frames}
 use Rattle.command_words.specs.declared.commands.Command.{Command}
-use Rattle.command_words.specs.declared.commands.Command.TheVariants.{Replay, Summary, Capture, Show, Windows, Fit, Generate, Trial, Shared, Idle, Pcap, PcapCapture}
+use Rattle.command_words.specs.declared.commands.Command.TheVariants.{Replay, Summary, Capture, Show, Sent, Windows, Fit, Generate, Trial, Shared, Idle, Pcap, PcapCapture}
 use Rattle.command_words.proofs.Plain.{either}
 
 -- a seed of 32 bits, and from 1 to 400 slots
@@ -56,8 +56,9 @@ bare_limits w c e =
     either (bytes_eq w (codes "summary")) _ _ c e (of_some Summary c tt) (λ e.
     either (bytes_eq w (codes "capture")) _ _ c e (of_some Capture c tt) (λ e.
     either (bytes_eq w (codes "show")) _ _ c e (of_some (Show false) c tt) (λ e.
+    either (bytes_eq w (codes "sent")) _ _ c e (of_some Sent c tt) (λ e.
     either (bytes_eq w (codes "windows")) _ _ c e (of_some Windows c tt) (λ e.
-    either (bytes_eq w (codes "fit")) _ None c e (of_some Fit c tt) (λ e. cc))))))
+    either (bytes_eq w (codes "fit")) _ None c e (of_some Fit c tt) (λ e. cc)))))))
 
 one_limits : (w flag : List ℕ) (c : Command) → command_with_one w flag ≡ Some c → HasLimits c
 one_limits w flag c e = either (bytes_eq w (codes "show") && bytes_eq flag (codes "--json")) _ None c e (of_some (Show true) c tt) (λ e. cc)
@@ -73,8 +74,8 @@ two_limits w first second c e =
     either (bytes_eq w (codes "generate")) _ _ c e (both_limits Generate (seed_in first) (slots_in second) c (numbers_are first second)) (λ e.
     either (bytes_eq w (codes "trial")) _ _ c e (both_limits Trial (seed_in first) (slots_in second) c (numbers_are first second)) (λ e.
     either (bytes_eq w (codes "shared")) _ _ c e (both_limits Shared (count_in first) (step_in second) c (λ count step a b. tt)) (λ e.
-    either (bytes_eq w (codes "pcap")) _ _ c e (both_limits Pcap (way_in first) (start_in second) c (λ side start a b. tt)) (λ e.
-    either (bytes_eq w (codes "pcap-capture")) _ None c e (both_limits PcapCapture (way_in first) (start_in second) c (λ side start a b. tt)) (λ e. cc)))))
+    either (bytes_eq w (codes "pcap")) _ _ c e (both_limits Pcap (whose_in first) (start_in second) c (λ whose start a b. tt)) (λ e.
+    either (bytes_eq w (codes "pcap-capture")) _ None c e (both_limits PcapCapture (whose_in first) (start_in second) c (λ whose start a b. tt)) (λ e. cc)))))
 
 frames_limits : (a b m : Option ℕ) (c : Command) → with_frames a b m ≡ Some c → HasLimits c
 frames_limits None b m c e = cc

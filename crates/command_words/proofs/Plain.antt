@@ -1,6 +1,10 @@
 -- The words of a command are few, of ASCII, and begin with no hyphen.
-use Rattle.std.proofs.Common.{◌≡◌, ℕ, zero, suc, ◌+◌, ◌<◌, List, [], ◌∷◌, codes, refl, false, true, Bool, ◌&&◌, not, sym, subst, length, nat_le, nat_lt, arith}
-use Rattle.std.specs.Prelude.{Some, None, Option, ◌==◌, if◌then◌else◌, slice_index}
+use Rattle.std.proofs.Common.{◌≡◌, ℕ, zero, suc, ◌+◌, ◌-◌, ◌*◌, ◌<◌, List, [], ◌∷◌, codes, refl, false, true, Bool, ◌&&◌, not, sym, subst, length, nat_le, nat_lt, arith}
+use Rattle.std.specs.Prelude.{Some, None, Option, ◌==◌, ◌%◌, ◌/◌, if◌then◌else◌, slice_index, Result, Ok, Err}
+use Rattle.hex.specs.Hex.{◌>>=◌, decode_pairs, digit_or_error, hex_digit_value, value_at}
+use Rattle.hex.specs.declared.error.FromHexError.{FromHexError}
+use Rattle.hex.specs.declared.error.FromHexError.TheVariants.{OddLength, InvalidStringLength}
+use Rattle.pcap_frames.specs.declared.values.Whose.{Whose}
 use Rattle.std.specs.Str.{bytes_eq, IsAscii}
 use Rattle.std.specs.List.{list_all}
 use Rattle.std.specs.Str.Parse.{digits_value}
@@ -10,9 +14,9 @@ use Rattle.std.proofs.lemmas.Bool.Decides.{nat_tests}
 use Rattle.air_source.specs.declared.events.Side.{Side}
 use Rattle.air_source.specs.declared.events.Side.TheVariants.{Ru, Du}
 use Rattle.text_lines.specs.Numbers.{number_in, is_decimal, word_at}
-use Rattle.command_words.specs.Words.{bare_command, command_of, command_with_one, command_with_three, command_with_two, count_in, frame_in, least_in, seed_in, slots_in, start_in, step_in, way_in, with_both, with_frames}
+use Rattle.command_words.specs.Words.{address_in, bare_command, bytes_in, command_of, command_with_one, command_with_three, command_with_two, count_in, frame_in, least_in, seed_in, slots_in, start_in, step_in, way_in, whose_by, whose_in, with_both, with_frames}
 use Rattle.command_words.specs.declared.commands.Command.{Command}
-use Rattle.command_words.specs.declared.commands.Command.TheVariants.{Replay, Summary, Capture, Show, Windows, Fit, Generate, Trial, Shared, Idle, Pcap, PcapCapture}
+use Rattle.command_words.specs.declared.commands.Command.TheVariants.{Replay, Summary, Capture, Show, Sent, Windows, Fit, Generate, Trial, Shared, Pcap, PcapCapture}
 use Rattle.command_words.proofs.Walks.{IsPlainWord, plain_word_is}
 use Rattle.fh_time.specs.declared.nanoseconds.TheConstants.{LAST_TIME}
 use Rattle.fh_time.proofs.Orders.{is_false as not_true, both as both_true}
@@ -82,13 +86,92 @@ bare_plain w c e =
     literal_or (codes "summary") w (Some Summary) _ c refl e (λ e.
     literal_or (codes "capture") w (Some Capture) _ c refl e (λ e.
     literal_or (codes "show") w (Some (Show false)) _ c refl e (λ e.
+    literal_or (codes "sent") w (Some Sent) _ c refl e (λ e.
     literal_or (codes "windows") w (Some Windows) _ c refl e (λ e.
-    literal_or (codes "fit") w (Some Fit) None c refl e (λ e. cc))))))
+    literal_or (codes "fit") w (Some Fit) None c refl e (λ e. cc)))))))
 
 way_plain : (w : List ℕ) (side : Side) → way_in w ≡ Some side → is_plain w ≡ true
 way_plain w side e =
     literal_or (codes "dl") w (Some Ru) _ side refl e (λ e.
     literal_or (codes "ul") w (Some Du) None side refl e (λ e. cc))
+
+-- ---- an address
+
+-- neither a hyphen nor beyond ASCII
+abbrev is_small : ℕ → Bool
+is_small b = not (b == 45) && nat_lt b 128
+
+range_small : (l h b : ℕ) → 45 < l → h < 128 → (nat_le l b && nat_le b h) ≡ true → is_small b ≡ true
+range_small l h b low high e =
+    let range = both_true (nat_le l b) (nat_le b h) e in
+    let at_least : nat_le l b ≡ true = range.0 in
+    let at_most : nat_le b h ≡ true = range.1 in
+    let other : (b == 45) ≡ false = grind (arith, nat_tests) in
+    let small : nat_lt b 128 ≡ true = grind (arith, nat_tests) in
+    rw (other, small) refl
+
+digit_small : (b v : ℕ) → hex_digit_value b ≡ Some v → is_small b ≡ true
+digit_small b v e = go (nat_le 65 b && nat_le b 70) (nat_le 97 b && nat_le b 102) (nat_le 48 b && nat_le b 57) refl refl refl e
+  where
+    go : (x y z : Bool) → (nat_le 65 b && nat_le b 70) ≡ x → (nat_le 97 b && nat_le b 102) ≡ y → (nat_le 48 b && nat_le b 57) ≡ z
+        → (if x then Some (b - 55) else (if y then Some (b - 87) else (if z then Some (b - 48) else None))) ≡ Some v → is_small b ≡ true
+    go true y z upper lower digit e = range_small 65 70 b (omega arith) (omega arith) upper
+    go false true z upper lower digit e = range_small 97 102 b (omega arith) (omega arith) lower
+    go false false true upper lower digit e = range_small 48 57 b (omega arith) (omega arith) digit
+    go false false false upper lower digit e = cc
+
+value_small : (b i v : ℕ) → value_at b i ≡ Ok v → is_small b ≡ true
+value_small b i v e = go (hex_digit_value b) refl e
+  where
+    go : (o : Option ℕ) → hex_digit_value b ≡ o → digit_or_error b i o ≡ Ok v → is_small b ≡ true
+    go (Some d) is e = digit_small b d is
+    go None is e = cc
+
+pairs_small : (i : ℕ) (w bs : List ℕ) → decode_pairs i w ≡ Ok bs → list_all is_small w ≡ true
+unfolding decode_pairs
+pairs_small i [] bs e = refl
+pairs_small i (b ∷ []) bs e = cc
+pairs_small i (b ∷ d ∷ rest) bs e = go (value_at b i) (value_at d (i + 1)) (decode_pairs (i + 2) rest) refl refl refl (λ z. pairs_small (i + 2) rest z) e
+  where
+    go : (x y : Result ℕ FromHexError) (z : Result (List ℕ) FromHexError) → value_at b i ≡ x → value_at d (i + 1) ≡ y → decode_pairs (i + 2) rest ≡ z
+        → ((z : List ℕ) → decode_pairs (i + 2) rest ≡ Ok z → list_all is_small rest ≡ true)
+        → ((x >>= (λ h. y >>= (λ l. Ok (h * 16 + l)))) >>= (λ byte. z >>= (λ bytes. Ok (byte ∷ bytes)))) ≡ Ok bs → list_all is_small (b ∷ d ∷ rest) ≡ true
+    go (Ok x) (Ok y) (Ok z) high low others small e = rw (value_small b i x high, value_small d (i + 1) y low, small z others) refl
+    go (Ok x) (Ok y) (Err z) high low others small e = cc
+    go (Ok x) (Err y) z high low others small e = cc
+    go (Err x) y z high low others small e = cc
+
+small_ascii : (w : List ℕ) → list_all is_small w ≡ true → list_all (λ b. nat_lt b 128) w ≡ true
+small_ascii [] e = refl
+small_ascii (b ∷ bs) e =
+    let both = both_true (is_small b) (list_all is_small bs) e in
+    rw ((both_true (not (b == 45)) (nat_lt b 128) both.0).1, small_ascii bs both.1) refl
+
+small_plain : (w : List ℕ) → list_all is_small w ≡ true → is_plain w ≡ true
+small_plain [] e = refl
+small_plain (b ∷ bs) e =
+    let first = both_true (is_small b) (list_all is_small bs) e in
+    rw ((both_true (not (b == 45)) (nat_lt b 128) first.0).0, small_ascii (b ∷ bs) e) refl
+
+address_plain : (w bs : List ℕ) → address_in w ≡ Some bs → is_plain w ≡ true
+address_plain w bs e = go (length w % 2 == 1) (length w / 2 == 6) (decode_pairs 0 w) refl e
+  where
+    go : (o s : Bool) (r : Result (List ℕ) FromHexError) → decode_pairs 0 w ≡ r
+        → bytes_in (if o then Err OddLength else (if s then r else Err InvalidStringLength)) ≡ Some bs → is_plain w ≡ true
+    go false true (Ok bytes) is e = small_plain w (pairs_small 0 w bytes is)
+    go false true (Err why) is e = cc
+    go false false r is e = cc
+    go true s r is e = cc
+
+wanted_plain : (w : List ℕ) (whose : Whose) → whose_in w ≡ Some whose → is_plain w ≡ true
+wanted_plain w whose e = go (way_in w) (address_in w) refl refl e
+  where
+    go : (way : Option Side) (address : Option (List ℕ)) → way_in w ≡ way → address_in w ≡ address → whose_by way address ≡ Some whose → is_plain w ≡ true
+    go (Some side) address is_way is_address e = way_plain w side is_way
+    go None (Some bytes) is_way is_address e = address_plain w bytes is_address
+    go None None is_way is_address e = cc
+
+-- ---- the commands of several words
 
 -- both are there of which something was made
 both_there : {A B : Type 0} (make : A → B → Command) (a : Option A) (b : Option B) (c : Command) → with_both make a b ≡ Some c → ((x : A) × (a ≡ Some x)) × ((y : B) × (b ≡ Some y))
@@ -109,10 +192,10 @@ units_plain first second c e =
     let both = both_there Shared (count_in first) (step_in second) c e in
     (number_plain (length first) 2 8 both.0.0 first both.0.1, number_plain (length second) 0 1000000 both.1.0 second both.1.1)
 
-frames_plain : (make : Side → ℕ → Command) (first second : List ℕ) (c : Command) → with_both make (way_in first) (start_in second) ≡ Some c → ArePlainTwo first second
+frames_plain : (make : Whose → ℕ → Command) (first second : List ℕ) (c : Command) → with_both make (whose_in first) (start_in second) ≡ Some c → ArePlainTwo first second
 frames_plain make first second c e =
-    let both = both_there make (way_in first) (start_in second) c e in
-    (way_plain first both.0.0 both.0.1, number_plain 13 0 LAST_TIME both.1.0 second both.1.1)
+    let both = both_there make (whose_in first) (start_in second) c e in
+    (wanted_plain first both.0.0 both.0.1, number_plain 13 0 LAST_TIME both.1.0 second both.1.1)
 
 -- where the word is a literal, what that gives is wanted; or else the rest
 pub either : {X P : Type 0} (t : Bool) (o rest : Option X) (x : X) → (if t then o else rest) ≡ Some x → (o ≡ Some x → P) → (rest ≡ Some x → P) → P

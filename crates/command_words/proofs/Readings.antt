@@ -35,6 +35,14 @@ too_many (a ∷ b ∷ c ∷ []) more = absurd (omega arith)
 too_many (a ∷ b ∷ c ∷ d ∷ []) more = absurd (omega arith)
 too_many (a ∷ b ∷ c ∷ d ∷ e ∷ ws) more = refl
 
+pub many_texts : (texts : List (Bor Text)) → 5 ≤ length texts → None ≡ command_of (map (λ w. w.now) texts)
+many_texts [] more = absurd (omega arith)
+many_texts (a ∷ []) more = absurd (omega arith)
+many_texts (a ∷ b ∷ []) more = absurd (omega arith)
+many_texts (a ∷ b ∷ c ∷ []) more = absurd (omega arith)
+many_texts (a ∷ b ∷ c ∷ d ∷ []) more = absurd (omega arith)
+many_texts (a ∷ b ∷ c ∷ d ∷ e ∷ ws) more = refl
+
 -- a word that is no text is no word of a command
 pub no_text : (ws : List Text) (i : ℕ) → i < length ws → (IsUtf8 (word_at ws i) → ⊥) → command_of ws ≡ None
 no_text ws i inside not_utf8 = go (command_of ws) refl

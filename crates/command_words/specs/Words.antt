@@ -1,11 +1,15 @@
 -- The words of the command line (this project's profile).
-use Rattle.std.specs.Prelude.{ℕ, ◌+◌, ◌≤◌, nat_le, List, [], ◌∷◌, length, true, false, ◌&&◌, Option, None, Some, if◌then◌else◌, codes}
+use Rattle.std.specs.Prelude.{ℕ, ◌+◌, ◌≤◌, nat_le, List, [], ◌∷◌, length, true, false, ◌&&◌, Option, None, Some, if◌then◌else◌, codes, option_map, Result, Ok, Err}
 use Rattle.std.specs.Str.{bytes_eq}
+use Rattle.hex.specs.Hex.{decode_sized}
+use Rattle.hex.specs.declared.error.FromHexError.{FromHexError}
+use Rattle.pcap_frames.specs.declared.values.Whose.{Whose}
+use Rattle.pcap_frames.specs.declared.values.Whose.TheVariants.{All, Port}
 use Rattle.air_source.specs.declared.events.Side.{Side}
 use Rattle.air_source.specs.declared.events.Side.TheVariants.{Ru, Du}
 use Rattle.text_lines.specs.Numbers.{number_in}
 use Rattle.command_words.specs.declared.commands.Command.{Command}
-use Rattle.command_words.specs.declared.commands.Command.TheVariants.{Replay, Summary, Capture, Show, Windows, Fit, Generate, Trial, Shared, Idle, Pcap, PcapCapture}
+use Rattle.command_words.specs.declared.commands.Command.TheVariants.{Replay, Summary, Capture, Show, Sent, Windows, Fit, Generate, Trial, Shared, Idle, Pcap, PcapCapture}
 use Rattle.fh_time.specs.declared.nanoseconds.TheConstants.{LAST_TIME}
 
 -- the command that one word is
@@ -15,9 +19,10 @@ bare_command word =
     else (if bytes_eq word (codes "summary") then Some Summary
     else (if bytes_eq word (codes "capture") then Some Capture
     else (if bytes_eq word (codes "show") then Some (Show false)
+    else (if bytes_eq word (codes "sent") then Some Sent
     else (if bytes_eq word (codes "windows") then Some Windows
     else (if bytes_eq word (codes "fit") then Some Fit
-    else None)))))
+    else None))))))
 
 -- the command that two words are
 abbrev pub command_with_one : List ℕ → List ℕ → Option Command
@@ -56,6 +61,22 @@ least_in word = plain_in 1 9999 word
 abbrev pub way_in : List ℕ → Option Side
 way_in word = if bytes_eq word (codes "dl") then Some Ru else (if bytes_eq word (codes "ul") then Some Du else None)
 
+-- a MAC address: exactly twelve hexadecimal digits, of either case
+abbrev pub bytes_in : Result (List ℕ) FromHexError → Option (List ℕ)
+bytes_in (Ok bytes) = Some bytes
+bytes_in (Err why) = None
+
+abbrev pub address_in : List ℕ → Option (List ℕ)
+address_in word = bytes_in (decode_sized word 6)
+
+-- whose frames of a file are wanted: all, with their way, or those to and from an address
+abbrev pub whose_by : Option Side → Option (List ℕ) → Option Whose
+whose_by (Some side) address = Some (All side)
+whose_by None address = option_map Port address
+
+abbrev pub whose_in : List ℕ → Option Whose
+whose_in word = whose_by (way_in word) (address_in word)
+
 -- the time of a file's first frame: 1 to 13 digits, at most 10^12 ns
 abbrev pub start_in : List ℕ → Option ℕ
 start_in word = number_in 13 0 LAST_TIME word
@@ -72,8 +93,8 @@ command_with_two word first second =
     if bytes_eq word (codes "generate") then with_both Generate (seed_in first) (slots_in second)
     else (if bytes_eq word (codes "trial") then with_both Trial (seed_in first) (slots_in second)
     else (if bytes_eq word (codes "shared") then with_both Shared (count_in first) (step_in second)
-    else (if bytes_eq word (codes "pcap") then with_both Pcap (way_in first) (start_in second)
-    else (if bytes_eq word (codes "pcap-capture") then with_both PcapCapture (way_in first) (start_in second)
+    else (if bytes_eq word (codes "pcap") then with_both Pcap (whose_in first) (start_in second)
+    else (if bytes_eq word (codes "pcap-capture") then with_both PcapCapture (whose_in first) (start_in second)
     else None))))
 
 -- what is asked of the frames from one to another, ten at most
@@ -100,6 +121,6 @@ IsProper (Generate seed slots) = (1 ≤ slots) × (slots ≤ 400)
 IsProper (Trial seed slots) = (1 ≤ slots) × (slots ≤ 400)
 IsProper (Shared count step) = (2 ≤ count) × (count ≤ 8) × (step ≤ 1000000)
 IsProper (Idle first last min) = (1 ≤ first) × (first ≤ last) × (last ≤ first + 9) × (last ≤ 99999) × (1 ≤ min) × (min ≤ 9999)
-IsProper (Pcap side start) = start ≤ LAST_TIME
-IsProper (PcapCapture side start) = start ≤ LAST_TIME
+IsProper (Pcap whose start) = start ≤ LAST_TIME
+IsProper (PcapCapture whose start) = start ≤ LAST_TIME
 IsProper command = Unit {0}

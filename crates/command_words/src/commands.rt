@@ -1,5 +1,5 @@
 // What the words of the command line may ask for.
-use air_source::Side;
+use pcap_frames::Whose;
 
 /// What the words ask for.
 #[derive(Clone, Copy, Debug, PartialEq, Eq)]
@@ -14,6 +14,8 @@ pub enum Command {
     Show {
         json: bool,
     },
+    /// `sent`: the frames that a document's plan sends to the radio unit.
+    Sent,
     /// `windows`: the windows, the rings and the check of a document.
     Windows,
     /// `fit`: what breaks a document's windows, and the greatest windows that fit.
@@ -46,17 +48,17 @@ pub enum Command {
         /// How many symbols a span has at least, from 1 to 9,999.
         min: u32,
     },
-    /// `pcap WAY START`: the eCPRI frames of a pcap file as lines of a document.
+    /// `pcap WAY START`, `pcap ADDRESS START`: the eCPRI frames of a pcap file as lines of a document.
     Pcap {
-        /// The unit that the frames go to.
-        side: Side,
+        /// Whose frames, and the units that they go to.
+        whose: Whose,
         /// The time of the first frame, from 0 to 1,000,000,000,000 ns.
         start: u64,
     },
-    /// `pcap-capture WAY START`: the same frames as a capture.
+    /// `pcap-capture WAY START`, `pcap-capture ADDRESS START`: the same frames as a capture.
     PcapCapture {
-        /// The unit that the frames go to.
-        side: Side,
+        /// Whose frames, and the units that they go to.
+        whose: Whose,
         /// The time of the first frame, from 0 to 1,000,000,000,000 ns.
         start: u64,
     },

@@ -1,6 +1,6 @@
 // The commands by their words: of a list of words, and of what a parse found.
 ghost use Rattle.std.specs.Prelude.{◌≡◌, ◌≤◌, IfSome, map, option_map};
-ghost use Rattle.command_words.specs.Words.{IsProper, bare_command, command_of, command_with_one, command_with_three, command_with_two, frame_in, least_in, seed_in, slots_in, start_in, way_in};
+ghost use Rattle.command_words.specs.Words.{IsProper, address_in, bare_command, command_of, command_with_one, command_with_three, command_with_two, frame_in, least_in, seed_in, slots_in, start_in, way_in, whose_in};
 ghost use Rattle.command_words.specs.Parsed.{spelled};
 ghost use Rattle.fh_time.specs.declared.nanoseconds.TheConstants.{LAST_TIME};
 
@@ -8,6 +8,8 @@ use crate::commands::Command;
 use crate::numbers::plain_in;
 use air_source::Side;
 use fh_time::LAST_TIME;
+use hex::decode_to_slice;
+use pcap_frames::Whose;
 use text_lines::number_in;
 
 /// The command that one word is.
@@ -26,6 +28,9 @@ fn bare_command(word: &str) -> Option<Command>
     }
     if word == "show" {
         return Some(Command::Show { json: false });
+    }
+    if word == "sent" {
+        return Some(Command::Sent);
     }
     if word == "windows" {
         return Some(Command::Windows);
@@ -77,6 +82,27 @@ fn way_in(way: &str) -> Option<Side>
     None
 }
 
+/// The MAC address that a word is: twelve hexadecimal digits, of either case.
+fn address_in(word: &str) -> Option<[u8; 6]>
+    ensures { result ≡ address_in word.now }
+{
+    let mut address = [0; 6];
+    match decode_to_slice(word.as_bytes(), &mut address) {
+        Ok(()) => Some(address),
+        Err(_) => None,
+    }
+}
+
+/// Whose frames a word asks for: all, with their way, or those to and from an address.
+fn whose_in(word: &str) -> Option<Whose>
+    ensures { result ≡ whose_in word.now }
+{
+    match way_in(word) {
+        Some(side) => Some(Whose::All(side)),
+        None => address_in(word).map(Whose::Port),
+    }
+}
+
 /// The start that a word is, in nanoseconds.
 fn start_in(word: &str) -> Option<u64>
     ensures start { result ≡ start_in word.now }
@@ -109,14 +135,14 @@ fn command_with_two(word: &str, first: &str, second: &str) -> Option<Command>
         });
     }
     if word == "pcap" {
-        let side = way_in(first)?;
+        let whose = whose_in(first)?;
         let start = start_in(second)?;
-        return Some(Command::Pcap { side, start });
+        return Some(Command::Pcap { whose, start });
     }
     if word == "pcap-capture" {
-        let side = way_in(first)?;
+        let whose = whose_in(first)?;
         let start = start_in(second)?;
-        return Some(Command::PcapCapture { side, start });
+        return Some(Command::PcapCapture { whose, start });
     }
     None
 }

@@ -6,9 +6,10 @@ ghost use Rattle.fh_base.specs.Told.{WritesFront, WritesPart};
 ghost use Rattle.owed_bytes.specs.Owed.{Carried};
 ghost use Rattle.capture_records.specs.Reading.{checked as capture_checked, records_of};
 ghost use Rattle.capture_records.specs.Records.{arrived_of};
+ghost use Rattle.pcap_frames.specs.declared.values.Whose.{Whose};
 ghost use Rattle.pcap_export.specs.Checked.{checked, fault_of, placed_from};
 ghost use Rattle.pcap_export.specs.Packets.{packet_bytes, packets_bytes, pcap_bytes, wanted, wanted_bytes};
-ghost use Rattle.pcap_export.specs.ReadBack.{AreUsual, IsReadBack};
+ghost use Rattle.pcap_export.specs.ReadBack.{AreUsual, IsReading, IsReadBack};
 
 use crate::packets::{ETHERNET, HEAD, ethernet_head, nanoseconds, record_head};
 use crate::ways::{Ways, is_wanted};
@@ -86,8 +87,9 @@ pub fn put_pcap<K: Sink>(bytes: &[u8], ways: Ways, out: &mut K) -> Result<(), Si
     ensures front { WritesFront (K.written out.old) (K.written out.new) (pcap_bytes ways (records_of bytes.now)) }
     ensures part { OnErr result (WritesPart (K.written out.old) (K.written out.new) (pcap_bytes ways (records_of bytes.now))) }
     ensures cause { HasSinkCause (K.faults out.old) (K.faults out.new) (K.refusals out.old) (K.refusals out.new) result }
-    // frames whose times lie from 0 to 1,000 s and that have at most 9,216 bytes are read back from the file, each at its nanosecond
-    ensures read { AreUsual (wanted ways (records_of bytes.now)) → IsReadBack (pcap_bytes ways (records_of bytes.now)) (wanted ways (records_of bytes.now)) }
+    // frames whose times lie from 0 to 1,000 s and that have at most 9,216 bytes are read back from the file, each at its nanosecond: all as
+    // frames to one unit, or by the radio unit's address each as one to its own
+    ensures read { AreUsual (wanted ways (records_of bytes.now)) → (whose : Whose) → IsReading whose → IsReadBack whose (pcap_bytes ways (records_of bytes.now)) (wanted ways (records_of bytes.now)) }
 {
     let mut owed = OwedBytes::new();
     owed.tell(&HEAD, out)?;

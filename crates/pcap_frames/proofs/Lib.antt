@@ -1,4 +1,4 @@
 pub mod Steps
-pub mod Settled
-pub mod Finds
+pub mod Passing
+pub mod Walking
 pub mod Shown

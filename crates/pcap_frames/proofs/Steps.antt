@@ -1,63 +1,56 @@
--- From one record to the next.
-use Rattle.std.proofs.Common.{◌≡◌, ℕ, zero, suc, ◌+◌, ◌-◌, ◌<◌, ◌≤◌, Bool, true, false, cond, ltb, List, [], ◌∷◌, length, take, drop, length-drop, Some, None, refl, sym, ap, ◌∙◌, arith}
-use Rattle.std.proofs.lemmas.Bool.{ltb-false}
-use Rattle.std.proofs.lemmas.List.{drop_all, length-take-le, nil_from_length}
-use Rattle.pcap_frames.specs.Files.{Seen, word_of, kept_of, seen_of, behind_first, records_from}
+-- From one part to the next.
+use Rattle.std.proofs.Common.{◌≡◌, ℕ, zero, suc, ◌-◌, ◌<◌, ◌≤◌, List, [], ◌∷◌, length, take, drop, Result, Ok, Err, refl, sym, ap, ◌∙◌, arith, Bool, true, false, cond, ltb, Some, None}
+use Rattle.std.proofs.lemmas.List.{drop_all, nil_from_length}
+use Rattle.pcap_frames.specs.declared.refusals.PcapWhy.{PcapWhy}
+use Rattle.pcap_frames.specs.Files.{Recorded, word_of, kept_of, record_of}
+use Rattle.pcap_frames.specs.Parts.{Reading, part_of, after, after_part, behind_first, parts_from}
+use Rattle.pcapng_blocks.specs.Blocks.{Block}
+
+-- the first bytes belong to a part that was read
+pub skip : (r : Reading) (n : ℕ) (bytes : List ℕ) → n ≤ length bytes → parts_from r n bytes ≡ parts_from r 0 (drop n bytes)
+unfolding parts_from
+skip r zero [] h = refl
+skip r zero (b ∷ bytes) h = refl
+skip r (suc n) [] h = absurd (omega arith)
+skip r (suc n) (b ∷ bytes) h = skip r n bytes (omega arith)
+
+-- a part, and those behind it
+abbrev joined : Reading → List ℕ → Result Block PcapWhy → List (Result Block PcapWhy)
+joined r bytes part = part ∷ parts_from (after_part r part) (behind_first part (length bytes)) bytes
+
+-- behind a part that is not refused the others stand
+pub next : (r : Reading) (bytes : List ℕ) (part : Block) → part_of r bytes ≡ Ok part → 0 < part.size → part.size ≤ length bytes
+    → parts_from r 0 bytes ≡ Ok part ∷ parts_from (after r part.held) 0 (drop part.size bytes)
+unfolding parts_from
+next r [] part e some within = absurd (omega (arith, some, within))
+next r (b ∷ bytes) part e some within =
+    let more : suc (part.size - 1) ≡ part.size = omega (arith, some) in
+    ap (joined r bytes) e
+    ∙ ap (λ ps. Ok part ∷ ps) (skip (after r part.held) (part.size - 1) bytes (omega (arith, some, within)) ∙ ap (λ n. parts_from (after r part.held) 0 (drop n (b ∷ bytes))) more)
+
+-- one that is refused is the last
+pub last : (r : Reading) (bytes : List ℕ) (why : PcapWhy) → 0 < length bytes → part_of r bytes ≡ Err why → parts_from r 0 bytes ≡ Err why ∷ []
+unfolding parts_from
+last r [] why some e = absurd (omega arith)
+last r (b ∷ bytes) why some e =
+    ap (joined r bytes) e
+    ∙ ap (λ ps. Err why ∷ ps) (skip r (length bytes) bytes (omega arith) ∙ ap (parts_from r 0) (drop_all (length bytes) bytes (omega arith)))
+
+-- where no byte is left, no part is
+pub ended : (r : Reading) (bytes : List ℕ) → length bytes ≡ 0 → parts_from r 0 bytes ≡ []
+unfolding parts_from
+ended r bytes e = ap (parts_from r 0) (nil_from_length bytes e)
 
 -- two tests that passed
-tested_twice : (b c : Bool) (s t : Seen) → cond b None (cond c None (Some s)) ≡ Some t → (b ≡ false) × (c ≡ false) × (s ≡ t)
+tested_twice : (b c : Bool) (s t : Recorded) → cond b None (cond c None (Some s)) ≡ Some t → (b ≡ false) × (c ≡ false) × (s ≡ t)
 tested_twice true c s t e = absurd cc
 tested_twice false true s t e = absurd cc
 tested_twice false false s t e = (refl, refl, cc)
 
--- a record that is read stands in the bytes
-pub within : (little : Bool) (bytes : List ℕ) (seen : Seen) → seen_of little bytes ≡ Some seen → 16 + length seen.packet ≤ length bytes
-within little bytes seen e =
+-- the bytes of a record that were kept, as they stand
+pub kept_is : (little : Bool) (bytes : List ℕ) (r : Recorded) → record_of little bytes ≡ Some r → r.packet ≡ take (kept_of little bytes) (drop 16 bytes)
+kept_is little bytes r e =
     let kept = kept_of little bytes in
-    let whole : Seen = record { seconds = word_of little bytes; fraction = word_of little (drop 4 bytes); packet = take kept (drop 16 bytes) } in
-    let t = tested_twice (ltb (length bytes) 16) (ltb (length bytes - 16) kept) whole seen e in
-    let head : 16 ≤ length bytes = ltb-false _ _ t.0 in
-    let packet : kept ≤ length bytes - 16 = ltb-false _ _ t.1 in
-    let long : length (take kept (drop 16 bytes)) ≡ kept = length-take-le kept (drop 16 bytes) (omega (arith, packet, length-drop 16 bytes)) in
-    let same : length seen.packet ≡ length (take kept (drop 16 bytes)) = ap (λ s. length s.packet) (sym t.2) in
-    omega (arith, head, packet, long, same)
-
--- the first bytes belong to a record that was read
-pub skip : (little : Bool) (n : ℕ) (bytes : List ℕ) → n ≤ length bytes → records_from little n bytes ≡ records_from little 0 (drop n bytes)
-unfolding records_from
-skip little zero [] h = refl
-skip little zero (b ∷ bytes) h = refl
-skip little (suc n) [] h = absurd (omega arith)
-skip little (suc n) (b ∷ bytes) h = skip little n bytes (omega arith)
-
--- behind a record that is whole the others stand
-pub next : (little : Bool) (bytes : List ℕ) (seen : Seen) → seen_of little bytes ≡ Some seen
-    → records_from little 0 bytes ≡ Some seen ∷ records_from little 0 (drop (16 + length seen.packet) bytes)
-unfolding records_from
-next little [] seen e = absurd cc
-next little (b ∷ bytes) seen e =
-    let inside = within little (b ∷ bytes) seen e in
-    let more : 16 + length seen.packet ≡ suc (15 + length seen.packet) = omega arith in
-    ap (λ o. o ∷ records_from little (behind_first o (length bytes)) bytes) e
-    ∙ ap (λ rs. Some seen ∷ rs) (skip little (15 + length seen.packet) bytes (omega (arith, inside)) ∙ ap (λ n. records_from little 0 (drop n (b ∷ bytes))) (sym more))
-
--- one that is not whole is the last
-pub last : (little : Bool) (bytes : List ℕ) → 0 < length bytes → seen_of little bytes ≡ None → records_from little 0 bytes ≡ None ∷ []
-unfolding records_from
-last little [] some e = absurd (omega arith)
-last little (b ∷ bytes) some e =
-    ap (λ o. o ∷ records_from little (behind_first o (length bytes)) bytes) e
-    ∙ ap (λ rs. None ∷ rs) (skip little (length bytes) bytes (omega arith) ∙ ap (records_from little 0) (drop_all (length bytes) bytes (omega arith)))
-
--- where no byte is left, no record is
-pub ended : (little : Bool) (bytes : List ℕ) → length bytes ≡ 0 → records_from little 0 bytes ≡ []
-unfolding records_from
-ended little bytes e = ap (records_from little 0) (nil_from_length bytes e)
-
--- the bytes that were kept, as they stand
-pub kept_is : (little : Bool) (bytes : List ℕ) (seen : Seen) → seen_of little bytes ≡ Some seen → seen.packet ≡ take (kept_of little bytes) (drop 16 bytes)
-kept_is little bytes seen e =
-    let kept = kept_of little bytes in
-    let whole : Seen = record { seconds = word_of little bytes; fraction = word_of little (drop 4 bytes); packet = take kept (drop 16 bytes) } in
-    let t = tested_twice (ltb (length bytes) 16) (ltb (length bytes - 16) kept) whole seen e in
+    let whole : Recorded = record { seconds = word_of little bytes; fraction = word_of little (drop 4 bytes); packet = take kept (drop 16 bytes) } in
+    let t = tested_twice (ltb (length bytes) 16) (ltb (length bytes - 16) kept) whole r e in
     ap (λ s. s.packet) (sym t.2)

@@ -2,9 +2,9 @@
 use Rattle.std.specs.Prelude.{ℕ, ◌+◌, nat_eq, if◌then◌else◌, Bool, ◌||◌, List, [], ◌∷◌, drop, Option, Some, None}
 use Rattle.std.specs.List.{starts_with}
 
--- whether two bytes stand at a place; where fewer are left they do not
+-- whether some bytes stand at a place; where fewer are left they do not
 abbrev pub stands_at : List ℕ → ℕ → List ℕ → Bool
-stands_at packet place pair = starts_with nat_eq (drop place packet) pair
+stands_at packet place some = starts_with nat_eq (drop place packet) some
 
 -- whether a customer tag or a service tag begins at a place
 abbrev pub is_tag : List ℕ → ℕ → Bool

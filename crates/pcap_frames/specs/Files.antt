@@ -1,5 +1,5 @@
--- A classic pcap file, as a head and a list of records (this project's profile).
-use Rattle.std.specs.Prelude.{ℕ, zero, suc, ◌+◌, ◌-◌, ◌*◌, ◌^◌, ◌%◌, nat_lt, nat_eq, if◌then◌else◌, Bool, true, false, List, [], ◌∷◌, length, take, drop, Option, Some, None, Result, Ok, Err}
+-- A classic pcap file: its head, and one record (this project's profile).
+use Rattle.std.specs.Prelude.{ℕ, ◌+◌, ◌-◌, ◌*◌, ◌^◌, ◌%◌, nat_lt, nat_eq, if◌then◌else◌, Bool, true, false, List, [], ◌∷◌, length, take, drop, Option, Some, None, Result, Ok, Err}
 use Rattle.std.specs.List.{starts_with}
 use Rattle.byteorder.specs.Endian.{big_number, little_number}
 use Rattle.pcap_frames.specs.declared.refusals.PcapRefusal.{PcapRefusal}
@@ -31,7 +31,7 @@ abbrev pub head_of : List ℕ → Result Format PcapRefusal
 head_of bytes = head_behind (format_of bytes) bytes
 
 -- a record: when its packet was seen, and the bytes of it that were kept
-pub record Seen : Type 0 where
+pub record Recorded : Type 0 where
   pub seconds : ℕ
   pub fraction : ℕ
   pub packet : List ℕ
@@ -45,27 +45,12 @@ abbrev pub kept_of : Bool → List ℕ → ℕ
 kept_of little bytes = word_of little (drop 8 bytes)
 
 -- the record that the bytes begin with, where they hold it whole
-abbrev pub seen_of : Bool → List ℕ → Option Seen
-seen_of little bytes =
+abbrev pub record_of : Bool → List ℕ → Option Recorded
+record_of little bytes =
     if nat_lt (length bytes) 16 then None
     else (if nat_lt (length bytes - 16) (kept_of little bytes) then None
     else Some (record { seconds = word_of little bytes; fraction = word_of little (drop 4 bytes); packet = take (kept_of little bytes) (drop 16 bytes) }))
 
--- how many bytes behind its first belong to a record; where it is not whole, all that are left
-abbrev pub behind_first : Option Seen → ℕ → ℕ
-behind_first None left = left
-behind_first (Some seen) left = 15 + length seen.packet
-
--- the records, where the first `skip` bytes belong to one that was read; one that is not whole is `None`, and the last
-unfoldable pub records_from : Bool → ℕ → List ℕ → List (Option Seen)
-records_from little skip [] = []
-records_from little (suc skip) (b ∷ bytes) = records_from little skip bytes
-records_from little zero (b ∷ bytes) = seen_of little (b ∷ bytes) ∷ records_from little (behind_first (seen_of little (b ∷ bytes)) (length bytes)) bytes
-
--- the records of a file
-abbrev pub records_of : Bool → List ℕ → List (Option Seen)
-records_of little bytes = records_from little 0 (drop 24 bytes)
-
 -- when a packet was seen, in nanoseconds
-abbrev pub time_of : Bool → Seen → ℕ
-time_of nanos seen = seen.seconds * 10 ^ 9 + (if nanos then seen.fraction else seen.fraction * 1000)
+abbrev pub time_of : Bool → Recorded → ℕ
+time_of nanos r = r.seconds * 10 ^ 9 + (if nanos then r.fraction else r.fraction * 1000)

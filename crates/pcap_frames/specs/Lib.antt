@@ -1,9 +1,13 @@
 pub mod Refusals
 pub mod Ethernet
 pub mod Files
+pub mod Parts
+pub mod Wanted
 pub mod Checked
 pub mod Frames
+pub mod Heads
 pub mod Packets
-pub mod Tallies
+pub mod Passes
+pub mod Walks
 pub mod Finding
 pub mod Left

@@ -1,93 +1,109 @@
-// The tests of a whole file.
-ghost use Rattle.std.specs.Prelude.{◌≡◌, ◌≤◌, ◌<◌, ◌^◌, ◌+◌, length, IfOk};
-ghost use Rattle.pcap_frames.specs.Checked.{frame_fault, records_checked, checked};
-ghost use Rattle.pcap_frames.specs.Files.{records_of};
-ghost use Rattle.pcap_frames.specs.Packets.{seen_as};
-ghost use Rattle.pcap_frames.specs.Tallies.{found_behind};
+// The tests of a file.
+ghost use Rattle.std.specs.Prelude.{◌≡◌, ◌≤◌, length, Ok};
+ghost use Rattle.pcap_frames.specs.Checked.{frame_fault};
+ghost use Rattle.pcap_frames.specs.Heads.{Answers};
+ghost use Rattle.pcap_frames.specs.Packets.{opened_as, wanted_as};
+ghost use Rattle.pcap_frames.specs.Parts.{opened};
+ghost use Rattle.pcap_frames.specs.Passes.{found_by};
+ghost use Rattle.pcap_frames.specs.Wanted.{wanted_of};
+ghost use Rattle.pcapng_blocks.specs.Values.{held_as};
 
-use crate::ethernet::ecpri_in;
-use crate::files::{HEAD, head};
-use crate::packets::{RECORD, is_in_range, packet, time};
-use crate::refusals::{PcapRefusal, PcapWhy};
-use crate::tallies::Tally;
-use crate::values::{Format, Packet, PcapHead};
+use crate::heads::PcapHead;
+use crate::opening::{Opening, opening_of};
+use crate::parts::part;
+use crate::ranges::is_in_range;
+use crate::refusals::{PcapFault, PcapRefusal, PcapWhy};
+use crate::sections::Sections;
+use crate::values::Whose;
+use crate::wanted::Wanted;
+use crate::wanting::wanted;
 use fh_base::FRAME_LIMIT;
+use pcapng_blocks::Content;
+use std::alloc::Global;
 
-// The fault of an eCPRI frame that was seen at a time.
-fn fault(first: u64, start: u64, time: u64, frame: &[u8]) -> Option<PcapWhy>
-    ensures { result ≡ frame_fault first start time frame.now }
+// The fault of a frame that is wanted.
+fn fault(first: u128, start: u64, wanted: Wanted<'_>) -> Option<PcapWhy>
+    ensures { result ≡ frame_fault first start (wanted_as wanted.entry) }
 {
-    if frame.len() > FRAME_LIMIT {
+    if wanted.frame.len() > FRAME_LIMIT {
         Some(PcapWhy::LongFrame)
-    } else if is_in_range(first, start, time) {
+    } else if is_in_range(first, start, wanted.time) {
         None
     } else {
         Some(PcapWhy::TimeRange)
     }
 }
 
-// What is found behind a record, or its fault.
-fn counted(p: Packet<'_>, nanos: bool, start: u64, tally: Tally) -> Result<Tally, PcapWhy>
-    requires { tally.frames < 2 ^ 63 }
-    ensures found { result ≡ found_behind nanos start tally (seen_as p.entry) }
-    ensures few { IfOk result (λ t. t.frames ≤ tally.frames + 1) }
+// The first time behind what a record or a block holds, or its fault.
+fn first_behind(
+    content: Content<'_>,
+    whose: Whose,
+    start: u64,
+    first: Option<u128>,
+) -> Result<Option<u128>, PcapWhy>
+    ensures { result ≡ found_by start first (wanted_of whose (held_as content.entry)) }
 {
-    let Some(frame) = ecpri_in(p.bytes) else {
-        return Ok(tally);
+    let Some(wanted) = wanted(content, whose) else {
+        return Ok(first);
     };
-    let time = time(p, nanos);
-    let first = tally.first.unwrap_or(time);
-    match fault(first, start, time, frame) {
+    let time = first.unwrap_or(wanted.time);
+    match fault(time, start, wanted) {
         Some(why) => Err(why),
-        None => Ok(Tally {
-            first: Some(first),
-            frames: tally.frames + 1,
-        }),
+        None => Ok(Some(time)),
     }
 }
 
-// Tests the records of a file.
-fn check_records(bytes: &[u8], format: Format, start: u64) -> Result<PcapHead, PcapRefusal>
-    requires { 24 ≤ length bytes.now }
-    ensures { result ≡ records_checked format start (records_of format.little bytes.now) }
+// Tests the records or blocks of a file.
+fn check_parts(
+    alloc: Global,
+    bytes: &[u8],
+    opening: Opening,
+    whose: Whose,
+    start: u64,
+) -> Result<PcapHead, PcapFault>
+    requires opened { opened bytes.now ≡ Ok (opened_as opening) }
+    requires within { opening.place ≤ length bytes.now }
+    ensures { Answers whose bytes.now start result }
 {
-    let mut place = HEAD;
-    let mut tally = Tally {
-        first: None,
-        frames: 0,
+    let mut place = opening.place;
+    let mut first = None;
+    let mut sections = Sections {
+        layout: opening.layout,
+        begin: 0,
+        interfaces: Vec::new(alloc),
     };
     while place < bytes.len() {
-        let Some(p) = packet(&bytes[place..], format.little) else {
-            return Err(PcapRefusal {
-                place,
-                why: PcapWhy::Cut,
-            });
+        let part = match part(&bytes[place..], sections.layout, sections.now()) {
+            Ok(part) => part,
+            Err(why) => return Err(PcapFault::Refused(PcapRefusal { place, why })),
         };
-        match counted(p, format.nanos, start, tally) {
-            Ok(found) => tally = found,
-            Err(why) => return Err(PcapRefusal { place, why }),
+        match first_behind(part.content, whose, start, first) {
+            Ok(found) => first = found,
+            Err(why) => return Err(PcapFault::Refused(PcapRefusal { place, why })),
         }
-        place += RECORD + p.bytes.len();
+        sections.take(part.content)?;
+        place += part.size;
     }
     Ok(PcapHead {
-        little: format.little,
-        nanos: format.nanos,
-        first: tally.first.unwrap_or(0),
-        frames: tally.frames,
+        first: first.unwrap_or(0),
+        interfaces: sections.interfaces,
     })
 }
 
-/// Tests a whole file, whose first eCPRI frame is to stand at `start` ns.
+/// Tests a complete file, of which these frames are wanted, and whose first of them is to stand at `start` ns.
 ///
 /// # Errors
 ///
-/// `Magic` at 0 where the first four bytes are none of the four magics, then `Cut` at 0 where there are fewer than 24 bytes, then
-/// `LinkType` at 20 where the link type's low 16 bits are not 1. Else the first record that is malformed, at its place: `Cut` where
-/// it is not whole, then, of an eCPRI frame, `LongFrame` where it has more than 9,216 bytes and `TimeRange` where its time lies
-/// outside 0 to 1,000,000,000,000 ns.
-pub fn check(bytes: &[u8], start: u64) -> Result<PcapHead, PcapRefusal>
-    ensures { result ≡ checked bytes.now start }
+/// `NoMemory` for want of memory for the interfaces of a pcapng file. Else `Refused`. A classic file: `Magic` at 0 where the first
+/// four bytes are none of the four magics, then `Cut` at 0 where there are fewer than 24 bytes, then `LinkType` at 20 where the link
+/// type's low 16 bits are not 1. Else the first record or block that is malformed, at its place: `Cut` where it is not complete, of a
+/// block what `block` of `pcapng_blocks` refuses, then, of a frame that is wanted, `LongFrame` where it has more than 9,216 bytes and
+/// `TimeRange` where its time lies outside 0 to 1,000,000,000,000 ns.
+pub fn check(alloc: Global, bytes: &[u8], whose: Whose, start: u64) -> Result<PcapHead, PcapFault>
+    ensures { Answers whose bytes.now start result }
 {
-    let format = head(bytes)?;
-    check_records(bytes, format, start)
+    match opening_of(bytes) {
+        Ok(opening) => check_parts(alloc, bytes, opening, whose, start),
+        Err(refusal) => Err(PcapFault::Refused(refusal)),
+    }
 }

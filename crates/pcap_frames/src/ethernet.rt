@@ -1,5 +1,5 @@
 // The eCPRI frame in an Ethernet frame.
-ghost use Rattle.std.specs.Prelude.{◌≡◌, List, ℕ, drop, Option, option_copied};
+ghost use Rattle.std.specs.Prelude.{◌≡◌, ◌≤◌, ◌-◌, List, ℕ, drop, length, IsTrue, Option, option_copied};
 ghost use Rattle.std.specs.List.{starts_with};
 ghost use Rattle.std.specs.Prelude.{nat_eq, map};
 ghost use Rattle.pcap_frames.specs.Ethernet.{is_tag, type_place, ecpri_in};
@@ -15,18 +15,20 @@ const CUSTOMER_TAG: [u8; 2] = [0x81, 0x00];
 
 const SERVICE_TAG: [u8; 2] = [0x88, 0xa8];
 
-// Whether two bytes stand at a place.
-fn stands_at(packet: &[u8], place: usize, pair: [u8; 2]) -> bool
-    ensures { result ≡ starts_with nat_eq (drop place packet.now) pair }
+/// Whether some bytes stand at a place.
+pub fn stands_at(packet: &[u8], place: usize, some: &[u8]) -> bool
+    ensures value { result ≡ starts_with nat_eq (drop place packet.now) some.now }
+    ensures bound { IsTrue result → length some.now ≤ length packet.now - place }
 {
-    place <= packet.len() && packet[place..].starts_with(&pair)
+    let place = place.min(packet.len());
+    packet[place..].starts_with(some)
 }
 
 // Whether a tag begins at a place.
 fn is_tag(packet: &[u8], place: usize) -> bool
     ensures { result ≡ is_tag packet.now place }
 {
-    stands_at(packet, place, CUSTOMER_TAG) || stands_at(packet, place, SERVICE_TAG)
+    stands_at(packet, place, &CUSTOMER_TAG) || stands_at(packet, place, &SERVICE_TAG)
 }
 
 // Where the EtherType stands, behind at most two tags.
@@ -47,7 +49,7 @@ pub fn ecpri_in(packet: &[u8]) -> Option<&[u8]>
     ensures { option_copied result ≡ ecpri_in packet.now }
 {
     let place = type_place(packet);
-    if stands_at(packet, place, ECPRI) {
+    if stands_at(packet, place, &ECPRI) {
         Some(&packet[place + 2..])
     } else {
         None

@@ -1,11 +1,10 @@
-// From one eCPRI frame to the next.
-use crate::values::Packet;
+// From one frame that is wanted to the next.
+use crate::walks::Walk;
+use crate::wanted::Wanted;
 
-/// A record with an eCPRI frame.
+/// A frame that is wanted, and what is left behind it.
 #[derive(Clone, Copy)]
 pub struct Found<'a> {
-    pub packet: Packet<'a>,
-    pub frame: &'a [u8],
-    /// What stands behind the record.
-    pub rest: &'a [u8],
+    pub wanted: Wanted<'a>,
+    pub behind: Walk<'a>,
 }

@@ -1,21 +1,23 @@
-// The iterator over the eCPRI frames of a file.
+// The iterator over the frames of a file that are wanted.
 ghost use Rattle.std.specs.Prelude.{IsTrue};
-ghost use Rattle.pcap_frames.specs.Files.{records_from};
 ghost use Rattle.pcap_frames.specs.Frames.{all_fine};
+ghost use Rattle.pcap_frames.specs.Walks.{left_in, IsWalk};
+ghost use Rattle.pcap_frames.specs.Wanted.{wanted_from};
 
-use crate::packets::{time, time_behind};
+use crate::ranges::time_behind;
 use crate::seeking::find;
-use crate::values::PcapFrame;
+use crate::values::{PcapFrame, Whose};
+use crate::walks::Walk;
 
-/// The eCPRI frames of a file that passed [`check`](crate::check), in the file's order.
+/// The eCPRI frames of a file that passed [`check`](crate::check), those that are wanted, in the file's order.
 #[derive(Clone, Copy)]
 pub struct Frames<'a> {
-    pub(crate) rest: &'a [u8],
-    pub(crate) little: bool,
-    pub(crate) nanos: bool,
-    pub(crate) first: u64,
+    pub(crate) walk: Walk<'a>,
+    pub(crate) whose: Whose,
+    pub(crate) first: u128,
     pub(crate) start: u64,
-    ghost fine: { IsTrue (all_fine nanos first start (records_from little 0 rest.now)) },
+    ghost goes_on: { IsWalk walk },
+    ghost fine: { IsTrue (all_fine first start (wanted_from whose (left_in walk))) },
 }
 
 impl<'a> Iterator for Frames<'a> {
@@ -30,12 +32,12 @@ impl<'a> Iterator for Frames<'a> {
     ghost remaining = { item_count left_of };
 
     fn next(&mut self) -> Option<PcapFrame<'a>> {
-        let found = find(self.rest, self.little)?;
-        let time = time(found.packet, self.nanos);
-        self.rest = found.rest;
+        let found = find(self.walk, self.whose)?;
+        self.walk = found.behind;
         Some(PcapFrame {
-            at: time_behind(self.first, self.start, time) as i64,
-            frame: found.frame,
+            side: found.wanted.side,
+            at: time_behind(self.first, self.start, found.wanted.time) as i64,
+            frame: found.wanted.frame,
         })
     }
 }

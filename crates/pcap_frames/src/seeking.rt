@@ -1,22 +1,24 @@
-// The next eCPRI frame.
+// The next frame that is wanted.
 ghost use Rattle.pcap_frames.specs.Finding.{Finds};
+ghost use Rattle.pcap_frames.specs.Walks.{IsWalk};
 
-use crate::ethernet::ecpri_in;
 use crate::finding::Found;
-use crate::packets::{RECORD, packet};
+use crate::values::Whose;
+use crate::walks::Walk;
+use crate::wanting::wanted;
 
-/// The first eCPRI frame in some records, where there is one before any that is not whole.
-pub fn find(bytes: &[u8], little: bool) -> Option<Found<'_>>
-    ensures { Finds little bytes.now result }
+/// The first frame that is wanted, where there is one before what is refused.
+pub fn find(walk: Walk<'_>, whose: Whose) -> Option<Found<'_>>
+    requires { IsWalk walk }
+    ensures { Finds whose walk.entry result }
 {
-    let mut rest = bytes;
-    while let Some(packet) = packet(rest, little) {
-        rest = &rest[RECORD + packet.bytes.len()..];
-        if let Some(frame) = ecpri_in(packet.bytes) {
+    let mut left = walk;
+    while let Some(step) = left.step() {
+        left = step.behind;
+        if let Some(wanted) = wanted(step.content, whose) {
             return Some(Found {
-                packet,
-                frame,
-                rest,
+                wanted,
+                behind: left,
             });
         }
     }

@@ -1,28 +1,28 @@
-// What a pcap file tells.
+// What a capture file tells.
+use air_source::Side;
 
-/// What the tests of a pcap file found.
+/// Whose frames of a file are wanted, and which way each goes.
 #[derive(Clone, Copy, Debug, PartialEq, Eq)]
-pub struct PcapHead {
-    /// Whether the file's numbers stand lowest byte first.
-    pub little: bool,
-    /// Whether fractions are in nanoseconds; else they are in microseconds.
-    pub nanos: bool,
-    /// The time of the first eCPRI frame's record in nanoseconds, 0 where there is none.
-    pub first: u64,
-    /// How many eCPRI frames there are.
-    pub frames: u64,
+pub enum Whose {
+    /// All, and each goes to this unit.
+    All(Side),
+    /// Those of the radio unit whose port has this MAC address: what is sent to it goes to the radio unit, and what else is sent from
+    /// it to the distributed unit.
+    Port([u8; 6]),
 }
 
-/// An eCPRI frame of a pcap file.
+/// An eCPRI frame of a file.
 #[derive(Clone, Copy, Debug, PartialEq, Eq)]
 pub struct PcapFrame<'a> {
-    /// When it was seen, from 0 to 1,000,000,000,000 ns: the start behind by as much as its record is behind the first.
+    /// The unit that it goes to.
+    pub side: Side,
+    /// When it was seen, from 0 to 1,000,000,000,000 ns: the start behind by as much as its packet is behind the first.
     pub at: i64,
-    /// Its bytes, to the end of its record.
+    /// Its bytes, to the end of its packet.
     pub frame: &'a [u8],
 }
 
-/// How a file's numbers are read.
+/// How a classic file's numbers are read.
 #[derive(Clone, Copy, Debug, PartialEq, Eq)]
 pub struct Format {
     /// Whether they stand lowest byte first.
@@ -31,9 +31,18 @@ pub struct Format {
     pub nanos: bool,
 }
 
-/// A record of a pcap file.
+/// How what is left of a file is read.
+#[derive(Clone, Copy, Debug, PartialEq, Eq)]
+pub enum Layout {
+    /// The records of a classic file.
+    Records(Format),
+    /// The blocks of a pcapng file, in a section whose numbers stand lowest byte first or not.
+    Blocks(bool),
+}
+
+/// A record of a classic file.
 #[derive(Clone, Copy)]
-pub struct Packet<'a> {
+pub struct Record<'a> {
     pub seconds: u32,
     /// In the file's unit, without a limit.
     pub fraction: u32,

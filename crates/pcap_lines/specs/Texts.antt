@@ -15,17 +15,17 @@ abbrev pub opening_text : Side → ℤ → List ℕ
 opening_text side at = codes "inject " ++ way_text side ++ codes " " ++ signed_decimal at ++ codes " "
 
 -- the line of a frame
-abbrev pub line_text : Side → Timed → List ℕ
-line_text side t = opening_text side t.at ++ (frame_word t.frame ++ codes "\n")
+abbrev pub line_text : Timed → List ℕ
+line_text t = opening_text t.side t.at ++ (frame_word t.frame ++ codes "\n")
 
 -- the lines of frames, in their order
-abbrev pub lines_of : Side → List Timed → List ℕ
-lines_of side ts = flat_map (line_text side) ts
+abbrev pub lines_of : List Timed → List ℕ
+lines_of ts = flat_map line_text ts
 
 -- the frame as a document says it
-abbrev pub injection_of : Side → Timed → Injection
-injection_of side t = record { side = side; at = t.at; frame = t.frame }
+abbrev pub injection_of : Timed → Injection
+injection_of t = record { side = t.side; at = t.at; frame = t.frame }
 
 -- the frame as an arrival at a unit: 1,536 ticks to the nanosecond
-abbrev pub arrived_as : Side → Timed → Arrived
-arrived_as side t = record { side = side; at = record { 0 = t.at *ℤ pos NANOSECOND }; frame = t.frame }
+abbrev pub arrived_as : Timed → Arrived
+arrived_as t = record { side = t.side; at = record { 0 = t.at *ℤ pos NANOSECOND }; frame = t.frame }

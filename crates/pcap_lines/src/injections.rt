@@ -8,28 +8,23 @@ ghost use Rattle.line_laws.specs.fh_document.specs.Document.{document_of};
 ghost use Rattle.line_laws.specs.Lines.{document_with};
 ghost use Rattle.pcap_frames.specs.Checked.{checked};
 ghost use Rattle.pcap_frames.specs.Frames.{timed_of, frames_of};
+ghost use Rattle.pcap_frames.specs.Heads.{IsHead};
 ghost use Rattle.pcap_lines.specs.Texts.{line_text, injection_of, lines_of};
 
 use crate::words::{opening, tell_frame};
-use air_source::Side;
 use fh_base::{Sink, SinkFault};
 use owed_bytes::OwedBytes;
-use pcap_frames::{PcapFrame, PcapHead, frames};
+use pcap_frames::{PcapFrame, PcapHead, Whose, frames};
 use text_lines::Line;
 
 // Tells the line of a frame.
-fn tell_line<K: Sink>(
-    f: &PcapFrame<'_>,
-    side: Side,
-    owed: &mut OwedBytes,
-    out: &mut K,
-) -> Result<(), SinkFault>
-    ensures carried { OnOk result (Carried (K.written out.old) owed.old (line_text side (timed_of f.now)) (K.written out.new) owed.new) }
-    ensures part { OnErr result (WritesPart (K.written out.old) (K.written out.new) (owed.old ++ line_text side (timed_of f.now))) }
+fn tell_line<K: Sink>(f: &PcapFrame<'_>, owed: &mut OwedBytes, out: &mut K) -> Result<(), SinkFault>
+    ensures carried { OnOk result (Carried (K.written out.old) owed.old (line_text (timed_of f.now)) (K.written out.new) owed.new) }
+    ensures part { OnErr result (WritesPart (K.written out.old) (K.written out.new) (owed.old ++ line_text (timed_of f.now))) }
     ensures cause { HasSinkCause (K.faults out.old) (K.faults out.new) (K.refusals out.old) (K.refusals out.new) result }
 {
     let mut line = Line::new();
-    opening(&mut line, side, f);
+    opening(&mut line, f);
     owed.tell(line.as_slice(), out)?;
     tell_frame(f.frame, owed, out)?;
     owed.tell(b"\n", out)
@@ -39,24 +34,25 @@ fn tell_line<K: Sink>(
 fn tell_lines<K: Sink>(
     bytes: &[u8],
     head: &PcapHead,
+    whose: Whose,
     start: u64,
-    side: Side,
     owed: &mut OwedBytes,
     out: &mut K,
 ) -> Result<(), SinkFault>
-    requires { checked bytes.now start ≡ Ok head.now }
-    ensures carried { OnOk result (Carried (K.written out.old) owed.old (lines_of side (frames_of bytes.now head.now start)) (K.written out.new) owed.new) }
-    ensures part { OnErr result (WritesPart (K.written out.old) (K.written out.new) (owed.old ++ lines_of side (frames_of bytes.now head.now start))) }
+    requires passed { checked whose bytes.now start ≡ Ok tt }
+    requires head { IsHead whose bytes.now head.now }
+    ensures carried { OnOk result (Carried (K.written out.old) owed.old (lines_of (frames_of whose bytes.now start)) (K.written out.new) owed.new) }
+    ensures part { OnErr result (WritesPart (K.written out.old) (K.written out.new) (owed.old ++ lines_of (frames_of whose bytes.now start))) }
     ensures cause { HasSinkCause (K.faults out.old) (K.faults out.new) (K.refusals out.old) (K.refusals out.new) result }
 {
-    for f in frames(bytes, head, start) {
-        tell_line(&f, side, owed, out)?;
+    for f in frames(bytes, head, whose, start) {
+        tell_line(&f, owed, out)?;
     }
     Ok(())
 }
 
-/// Writes a line `inject WAY NS HEX` for each eCPRI frame of a file for which `check` of `pcap_frames` gave this head with this
-/// start, in the file's order. NS is in nanoseconds, and HEX two lower-case digits for each byte, or `-` for none.
+/// Writes a line `inject WAY NS HEX` for each eCPRI frame that is wanted of a file for which `check` of `pcap_frames` gave this head
+/// with this start, in the file's order. WAY is `dl` of a frame to the radio unit, and `ul` of one to the distributed unit. NS is in nanoseconds, and HEX two lower-case digits for each byte, or `-` for none.
 ///
 /// # Errors
 ///
@@ -65,19 +61,20 @@ fn tell_lines<K: Sink>(
 pub fn inject_text<K: Sink>(
     bytes: &[u8],
     head: &PcapHead,
+    whose: Whose,
     start: u64,
-    side: Side,
     out: &mut K,
 ) -> Result<(), SinkFault>
-    requires { checked bytes.now start ≡ Ok head.now }
-    ensures ok { OnOk result (K.written out.new ≡ append_known (K.written out.old) (lines_of side (frames_of bytes.now head.now start))) }
-    ensures front { WritesFront (K.written out.old) (K.written out.new) (lines_of side (frames_of bytes.now head.now start)) }
-    ensures part { OnErr result (WritesPart (K.written out.old) (K.written out.new) (lines_of side (frames_of bytes.now head.now start))) }
+    requires passed { checked whose bytes.now start ≡ Ok tt }
+    requires head { IsHead whose bytes.now head.now }
+    ensures ok { OnOk result (K.written out.new ≡ append_known (K.written out.old) (lines_of (frames_of whose bytes.now start))) }
+    ensures front { WritesFront (K.written out.old) (K.written out.new) (lines_of (frames_of whose bytes.now start)) }
+    ensures part { OnErr result (WritesPart (K.written out.old) (K.written out.new) (lines_of (frames_of whose bytes.now start))) }
     // behind line 1 of a document this text is read as exactly these frames, in their order
-    ensures read { document_of (codes "fronthaul 1\n" ++ lines_of side (frames_of bytes.now head.now start)) ≡ Ok (document_with (map (injection_of side) (frames_of bytes.now head.now start))) }
+    ensures read { document_of (codes "fronthaul 1\n" ++ lines_of (frames_of whose bytes.now start)) ≡ Ok (document_with (map injection_of (frames_of whose bytes.now start))) }
     ensures cause { HasSinkCause (K.faults out.old) (K.faults out.new) (K.refusals out.old) (K.refusals out.new) result }
 {
     let mut owed = OwedBytes::new();
-    tell_lines(bytes, head, start, side, &mut owed, out)?;
+    tell_lines(bytes, head, whose, start, &mut owed, out)?;
     owed.push_out(out)
 }

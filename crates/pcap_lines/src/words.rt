@@ -16,11 +16,11 @@ use text_lines::Line;
 const PIECE: usize = 256;
 
 /// Appends what stands before a frame's word, to an empty line.
-pub fn opening(line: &mut Line, side: Side, f: &PcapFrame<'_>)
+pub fn opening(line: &mut Line, f: &PcapFrame<'_>)
     requires { line.old ≡ [] }
-    ensures { line.new ≡ opening_text side f.now.at }
+    ensures { line.new ≡ opening_text f.now.side f.now.at }
 {
-    line.text(match side {
+    line.text(match f.side {
         Side::Ru => b"inject dl ",
         Side::Du => b"inject ul ",
     });

@@ -1,6 +1,8 @@
-// Starts that no words say.
+// Starts that no words say, and whose frames are wanted.
 use crate::made::LITTLE;
-use pcap_frames::{PcapHead, PcapRefusal, PcapWhy, check};
+use air_source::Side;
+use pcap_frames::{PcapFault, PcapRefusal, PcapWhy, Whose, check, frames};
+use std::alloc::Global;
 
 /// Highest byte first, in nanoseconds, with a link type whose high half is not 0: a record of ARP, two bytes at 1.999999999 s with
 /// an original length of 0, two bytes 70,000 ns later behind a tag, a frame behind three tags, a tag without a type, and an empty
@@ -23,22 +25,82 @@ const BIG: [u8; 235] = [
     0x01, 0x88, 0xa8, 0x00, 0x01, 0x81, 0x00, 0x00, 0x64, 0xae, 0xfe,
 ];
 
-fn refused(place: usize, why: PcapWhy) -> Result<PcapHead, PcapRefusal> {
-    Err(PcapRefusal { place, why })
+/// A pcapng file with a name, an interface of nanoseconds with an offset of 0, and one packet at its time 0.
+const BLOCKS: [u8; 156] = [
+    0x0a, 0x0d, 0x0d, 0x0a, 0x00, 0x00, 0x00, 0x34, 0x1a, 0x2b, 0x3c, 0x4d, 0x00, 0x01, 0x00, 0x00,
+    0xff, 0xff, 0xff, 0xff, 0xff, 0xff, 0xff, 0xff, 0x00, 0x04, 0x00, 0x0f, 0x61, 0x20, 0x74, 0x61,
+    0x70, 0x20, 0x6f, 0x66, 0x20, 0x61, 0x20, 0x6c, 0x69, 0x6e, 0x6b, 0x00, 0x00, 0x00, 0x00, 0x00,
+    0x00, 0x00, 0x00, 0x34, 0x00, 0x00, 0x00, 0x01, 0x00, 0x00, 0x00, 0x2c, 0x00, 0x01, 0x00, 0x00,
+    0x00, 0x00, 0x00, 0x00, 0x00, 0x09, 0x00, 0x01, 0x09, 0x00, 0x00, 0x00, 0x00, 0x0e, 0x00, 0x08,
+    0x00, 0x00, 0x00, 0x00, 0x00, 0x00, 0x00, 0x00, 0x00, 0x00, 0x00, 0x00, 0x00, 0x00, 0x00, 0x2c,
+    0x00, 0x00, 0x00, 0x06, 0x00, 0x00, 0x00, 0x3c, 0x00, 0x00, 0x00, 0x00, 0x00, 0x00, 0x00, 0x00,
+    0x00, 0x00, 0x00, 0x00, 0x00, 0x00, 0x00, 0x1b, 0x00, 0x00, 0x00, 0x1b, 0x27, 0x1d, 0x4c, 0x65,
+    0x62, 0x63, 0x78, 0xe5, 0xe1, 0xc4, 0xd3, 0x56, 0xae, 0xfe, 0xa3, 0x2f, 0x0f, 0xd3, 0xfc, 0xd5,
+    0xa7, 0x44, 0xb8, 0x00, 0x38, 0x42, 0x43, 0x00, 0x00, 0x00, 0x00, 0x3c,
+];
+
+/// The MAC address of the unit that this packet goes to, and of that which sent it.
+const DESTINATION: [u8; 6] = [0x27, 0x1d, 0x4c, 0x65, 0x62, 0x63];
+
+const SOURCE: [u8; 6] = [0x78, 0xe5, 0xe1, 0xc4, 0xd3, 0x56];
+
+const DOWN: Whose = Whose::All(Side::Ru);
+
+fn refused(place: usize, why: PcapWhy) -> Option<PcapFault> {
+    Some(PcapFault::Refused(PcapRefusal { place, why }))
+}
+
+fn fault(alloc: Global, file: &[u8], whose: Whose, start: u64) -> Option<PcapFault> {
+    check(alloc, file, whose, start).err()
 }
 
 #[test]
 fn starts_beyond_the_last_time_are_refused(rt: HostRuntime) {
+    let alloc = rt.alloc();
     assert_eq!(rt;
-        check(&LITTLE, 1_000_000_000_001),
+        fault(alloc, &LITTLE, DOWN, 1_000_000_000_001),
         refused(24, PcapWhy::TimeRange)
     );
-    assert_eq!(rt; check(&BIG, u64::MAX), refused(56, PcapWhy::TimeRange));
-    let wanted = PcapHead {
-        little: true,
-        nanos: false,
-        first: 1_000_500_000,
-        frames: 1,
-    };
-    assert_eq!(rt; check(&LITTLE, 1_000_000_000_000), Ok(wanted));
+    assert_eq!(rt;
+        fault(alloc, &BIG, DOWN, u64::MAX),
+        refused(56, PcapWhy::TimeRange)
+    );
+    assert_eq!(rt; fault(alloc, &LITTLE, DOWN, 1_000_000_000_000), None);
+    assert_eq!(rt;
+        fault(alloc, &BLOCKS, DOWN, 1_000_000_000_001),
+        refused(96, PcapWhy::TimeRange)
+    );
+    assert_eq!(rt; fault(alloc, &BLOCKS, DOWN, 1_000_000_000_000), None);
+}
+
+#[test]
+fn what_is_skipped_is_not_tested(rt: HostRuntime) {
+    let alloc = rt.alloc();
+    assert_eq!(rt; fault(alloc, &BLOCKS, Whose::Port([0; 6]), u64::MAX), None);
+    assert_eq!(rt;
+        fault(alloc, &BLOCKS, Whose::Port(SOURCE), u64::MAX),
+        refused(96, PcapWhy::TimeRange)
+    );
+}
+
+// The unit, the time and the length of the first frame.
+fn first_of(alloc: Global, whose: Whose) -> Option<(Side, i64, usize)> {
+    match check(alloc, &BLOCKS, whose, 9_600_000) {
+        Ok(head) => {
+            let frame = frames(&BLOCKS, &head, whose, 9_600_000).next()?;
+            Some((frame.side, frame.at, frame.frame.len()))
+        },
+        Err(_) => None,
+    }
+}
+
+#[test]
+fn a_frame_goes_by_its_addresses(rt: HostRuntime) {
+    let alloc = rt.alloc();
+    let down = Some((Side::Ru, 9_600_000, 13));
+    let up = Some((Side::Du, 9_600_000, 13));
+    assert_eq!(rt; first_of(alloc, Whose::Port(DESTINATION)), down);
+    assert_eq!(rt; first_of(alloc, Whose::Port(SOURCE)), up);
+    assert_eq!(rt; first_of(alloc, DOWN), down);
+    assert_eq!(rt; first_of(alloc, Whose::Port([0; 6])), None);
 }

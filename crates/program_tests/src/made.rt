@@ -1,9 +1,13 @@
 // What the tests make: words, a file of one command, and the head of a file that is accepted.
 ghost use Rattle.std.specs.Prelude.{◌≡◌, Ok};
+ghost use Rattle.air_source.specs.declared.events.Side.TheVariants.{Ru};
+ghost use Rattle.pcap_frames.specs.declared.values.Whose.TheVariants.{All};
 ghost use Rattle.pcap_frames.specs.Checked.{checked};
+ghost use Rattle.pcap_frames.specs.Heads.{IsHead};
 
+use air_source::Side;
 use fh_base::{Bytes, List, NoMemory};
-use pcap_frames::{PcapHead, check};
+use pcap_frames::{PcapHead, Whose, check};
 use std::alloc::Global;
 use std::process::Abort;
 
@@ -16,13 +20,14 @@ pub(crate) const LITTLE: [u8; 78] = [
     0x00, 0x00, 0x01, 0x01, 0x00, 0x00, 0x00, 0x10, 0x00, 0x01, 0xff, 0xf1, 0x00, 0x00,
 ];
 
-/// The head of a file that is accepted with this start.
-pub(crate) fn head_of(rt: &impl Abort, file: &[u8], start: u64) -> PcapHead
-    ensures { checked file.now start ≡ Ok result }
+/// The head of a file that is accepted with this start, and whose frames all go to the radio unit.
+pub(crate) fn head_of(rt: &impl Abort, alloc: Global, file: &[u8], start: u64) -> PcapHead
+    ensures passed { checked (All Ru) file.now start ≡ Ok tt }
+    ensures head { IsHead (All Ru) file.now result }
 {
-    match check(file, start) {
+    match check(alloc, file, Whose::All(Side::Ru), start) {
         Ok(head) => head,
-        Err(refusal) => panic!(rt; "{refusal:?}"),
+        Err(fault) => panic!(rt; "{fault:?}"),
     }
 }
 

@@ -3,6 +3,7 @@ use crate::made::words_of;
 use air_source::Side;
 use command_words::{Command, WordsFault, read_words};
 use fh_base::NoMemory;
+use pcap_frames::Whose;
 use std::alloc::Global;
 use std::test::Fail;
 
@@ -16,16 +17,19 @@ fn generate(seed: u32, slots: u32) -> Command {
 
 #[test]
 fn words_are_commands(rt: HostRuntime) -> Result<(), Fail> {
-    let (side, start) = (Side::Ru, 9_600_000);
-    let down = Command::Pcap { side, start };
-    let (side, start) = (Side::Du, 1_000_000_000_000);
-    let up = Command::PcapCapture { side, start };
-    let cases: [(&[&[u8]], Command); 14] = [
+    let (whose, start) = (Whose::All(Side::Ru), 9_600_000);
+    let down = Command::Pcap { whose, start };
+    let (whose, start) = (Whose::All(Side::Du), 1_000_000_000_000);
+    let up = Command::PcapCapture { whose, start };
+    let (whose, start) = (Whose::Port([2, 0, 0, 0, 0xab, 0xcd]), 0);
+    let both = Command::Pcap { whose, start };
+    let cases: [(&[&[u8]], Command); 16] = [
         (&[b"replay"], Command::Replay),
         (&[b"summary"], Command::Summary),
         (&[b"capture"], Command::Capture),
         (&[b"show"], Command::Show { json: false }),
         (&[b"show", b"--json"], Command::Show { json: true }),
+        (&[b"sent"], Command::Sent),
         (&[b"windows"], Command::Windows),
         (&[b"fit"], Command::Fit),
         (&[b"generate", b"7", b"20"], generate(7, 20)),
@@ -38,6 +42,7 @@ fn words_are_commands(rt: HostRuntime) -> Result<(), Fail> {
         (&[b"pcap", b"dl", b"9600000"], down),
         (&[b"pcap", b"dl", b"0000009600000"], down),
         (&[b"pcap-capture", b"ul", b"1000000000000"], up),
+        (&[b"pcap", b"02000000abCD", b"0"], both),
     ];
     for (words, command) in cases {
         assert_eq!(rt; read(rt.alloc(), words)?, Ok(command));

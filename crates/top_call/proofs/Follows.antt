@@ -8,16 +8,15 @@ use Rattle.capture_show.specs.Messages.{capture_lines}
 use Rattle.capture_show.specs.Texts.{lines_text}
 use Rattle.command_words.specs.Words.{command_of}
 use Rattle.command_words.specs.declared.commands.Command.{Command}
-use Rattle.command_words.specs.declared.commands.Command.TheVariants.{Replay, Summary, Capture, Show, Windows, Fit, Generate, Trial, Shared, Idle, Pcap, PcapCapture}
+use Rattle.command_words.specs.declared.commands.Command.TheVariants.{Replay, Summary, Capture, Show, Sent, Windows, Fit, Generate, Trial, Shared, Idle, Pcap, PcapCapture}
 use Rattle.fh_base.specs.Causes.{Rose}
 use Rattle.fh_base.proofs.Known.{append_nothing}
 use Rattle.pcap_lines.specs.fh_document.specs.declared.document.Document.{Document}
 use Rattle.pcap_lines.specs.fh_document.specs.declared.refusals.DocWhy.{DocWhy}
 use Rattle.pcap_lines.specs.fh_document.specs.Document.{document_of}
 use Rattle.pcap_frames.specs.declared.refusals.PcapRefusal.{PcapRefusal}
-use Rattle.pcap_frames.specs.declared.values.PcapHead.{PcapHead}
 use Rattle.pcap_frames.specs.Checked.{checked as pcap_checked}
-use Rattle.pcap_frames.specs.Frames.{Timed}
+use Rattle.pcap_frames.specs.Frames.{frames_of}
 use Rattle.pcap_lines.specs.Texts.{arrived_as, lines_of}
 use Rattle.fronthaul_replay.specs.plan_model.specs.Valid.{plan_refusal}
 use Rattle.fronthaul_replay.specs.plan_model.specs.declared.refusals.PlanWhy.{PlanWhy}
@@ -29,7 +28,7 @@ use Rattle.window_lines.specs.window_plan.specs.Fitting.{fitted}
 use Rattle.top_call.specs.declared.status.LineWhy.{LineWhy}
 use Rattle.top_call.specs.declared.status.Status.{Status}
 use Rattle.top_call.specs.declared.status.Status.TheVariants.{Done, BadWords, BadDocument, BadCapture, ReadFault, WriteFault, NoMemory, TooLong, CheckFails, BadPcap, NoFit}
-use Rattle.top_call.specs.Answers.{Answer, answer_of, asked, captured, fit_shown, fit_verdict, idled, is_reading, of_capture, of_document, of_pcap, of_plan, of_planned, replayed, shared, summarized, verdict_of, windows_shown}
+use Rattle.top_call.specs.Answers.{Answer, answer_of, asked, captured, fit_shown, fit_verdict, idled, is_reading, listed, of_capture, of_document, of_pcap, of_plan, of_planned, replayed, shared, summarized, verdict_of, windows_shown}
 use Rattle.top_call.specs.Run.{AnswersRun, IsDecided, IsRefusal, Outcome}
 use Rattle.fh_base.specs.declared.source.TheConstants.{INPUT_LIMIT}
 
@@ -59,9 +58,9 @@ capture_text : (text : List ℕ) (checked : Result (Unit {0}) CaptureRefusal) �
 capture_text text (Ok u) refusal = absurd refusal
 capture_text text (Err r) refusal = refl
 
-pcap_text : (text : List Timed → List ℕ) (start : ℕ) (bytes : List ℕ) (checked : Result PcapHead PcapRefusal) → IsRefusal (of_pcap text start bytes checked).status → (of_pcap text start bytes checked).text ≡ []
-pcap_text text start bytes (Ok head) refusal = absurd refusal
-pcap_text text start bytes (Err r) refusal = refl
+pcap_text : (text : List ℕ) (checked : Result (Unit {0}) PcapRefusal) → IsRefusal (of_pcap text checked).status → (of_pcap text checked).text ≡ []
+pcap_text text (Ok u) refusal = absurd refusal
+pcap_text text (Err r) refusal = refl
 
 -- has no text
 refusal_text : (o : Option Command) (bytes : List ℕ) → IsRefusal (asked o bytes).status → (asked o bytes).text ≡ []
@@ -71,6 +70,7 @@ refusal_text (Some Replay) bytes refusal = document_text (of_planned replayed) (
 refusal_text (Some Summary) bytes refusal = document_text (of_planned summarized) (document_of bytes) (λ d. planned_text summarized d (λ r. r)) refusal
 refusal_text (Some Capture) bytes refusal = document_text (of_planned captured) (document_of bytes) (λ d. planned_text captured d (λ r. r)) refusal
 refusal_text (Some (Show json)) bytes refusal = capture_text (lines_text json (capture_lines bytes)) (capture_checked bytes) refusal
+refusal_text (Some Sent) bytes refusal = document_text (of_planned listed) (document_of bytes) (λ d. planned_text listed d (λ r. r)) refusal
 refusal_text (Some Windows) bytes refusal = document_text (λ d. windows_shown d.config) (document_of bytes) (λ d r. absurd (check_refuses_nothing (checked d.config.delays) r)) refusal
 refusal_text (Some Fit) bytes refusal = document_text (λ d. fit_shown d.config.delays) (document_of bytes) (λ d r. absurd (fit_refuses_nothing (fitted d.config.delays) r)) refusal
 refusal_text (Some (Generate seed slots)) bytes refusal = absurd refusal
@@ -78,8 +78,8 @@ refusal_text (Some (Trial seed slots)) bytes refusal = absurd refusal
 refusal_text (Some (Shared count step)) bytes refusal = document_text (of_planned (shared count step)) (document_of bytes) (λ d. planned_text (shared count step) d (λ r. r)) refusal
 refusal_text (Some (Idle first last min)) bytes refusal =
     document_text (of_planned (idled first last min)) (document_of bytes) (λ d. planned_text (idled first last min) d (λ r. r)) refusal
-refusal_text (Some (Pcap side start)) bytes refusal = pcap_text (lines_of side) start bytes (pcap_checked bytes start) refusal
-refusal_text (Some (PcapCapture side start)) bytes refusal = pcap_text (λ ts. capture_bytes (map (arrived_as side) ts)) start bytes (pcap_checked bytes start) refusal
+refusal_text (Some (Pcap whose start)) bytes refusal = pcap_text (lines_of (frames_of whose bytes start)) (pcap_checked whose bytes start) refusal
+refusal_text (Some (PcapCapture whose start)) bytes refusal = pcap_text (capture_bytes (map arrived_as (frames_of whose bytes start))) (pcap_checked whose bytes start) refusal
 
 refusal_decided : (status : Status) → IsRefusal status → IsDecided status
 refusal_decided Done refusal = tt
@@ -125,6 +125,7 @@ only_readers_refuse (Some Replay) bytes line why e = refl
 only_readers_refuse (Some Summary) bytes line why e = refl
 only_readers_refuse (Some Capture) bytes line why e = refl
 only_readers_refuse (Some (Show json)) bytes line why e = refl
+only_readers_refuse (Some Sent) bytes line why e = refl
 only_readers_refuse (Some Windows) bytes line why e = refl
 only_readers_refuse (Some Fit) bytes line why e = refl
 only_readers_refuse (Some (Generate seed slots)) bytes line why e = cc

@@ -8,3 +8,4 @@ pub mod Runs
 pub mod Follows
 mod Sharing
 mod Texts
+mod Packets

@@ -3,7 +3,7 @@ use Rattle.std.proofs.Common.{◌≡◌, ◌⊎◌, ◌↔◌, inl, inr, ℕ, �
 use Rattle.std.specs.Io.KnownBytes.{prepend_known, append_known, IsAtEnd}
 use Rattle.command_words.specs.Words.{command_of}
 use Rattle.command_words.specs.declared.commands.Command.{Command}
-use Rattle.command_words.specs.declared.commands.Command.TheVariants.{Replay, Summary, Capture, Show, Windows, Fit, Generate, Trial, Shared, Idle, Pcap, PcapCapture}
+use Rattle.command_words.specs.declared.commands.Command.TheVariants.{Replay, Summary, Capture, Show, Sent, Windows, Fit, Generate, Trial, Shared, Idle, Pcap, PcapCapture}
 use Rattle.fh_base.specs.Causes.{Counts, Rose, has_read_fault as read_failed}
 use Rattle.fh_base.specs.Told.{WritesFront, WritesPart}
 use Rattle.fh_base.specs.declared.fault.ReadAllFault.{ReadAllFault}
@@ -17,6 +17,8 @@ use Rattle.pcap_lines.specs.fh_document.proofs.Properness.{document_of_in}
 use Rattle.fronthaul_replay.proofs.LawLemmas.{is_sound}
 use Rattle.idle_replay.proofs.IdleLemmas.{is_idle}
 use Rattle.idle_spans.specs.Tables.{AreFrames}
+use Rattle.sent_text.specs.Laws.{IsListed}
+use Rattle.sent_text.proofs.RowLemmas.{is_listed}
 use Rattle.shared_text.proofs.Summing.{summed, unit_sound}
 use Rattle.top_call.specs.declared.status.Status.{Status}
 use Rattle.top_call.specs.declared.status.Status.TheVariants.{Done, BadWords, BadDocument, BadCapture, ReadFault, WriteFault, NoMemory, TooLong, CheckFails, BadPcap, NoFit}
@@ -25,7 +27,7 @@ use Rattle.top_call.specs.Endings.{source_status}
 use Rattle.top_call.specs.Run.{AnswersCommand, AnswersRun, IsDecided, IsIdlePlan, IsRefusal, IsSharedPlan, IsSoundPlan, IsStopped, Outcome, Performs, has_read_fault, has_write_fault}
 use Rattle.fh_base.specs.declared.source.TheConstants.{INPUT_LIMIT}
 use Rattle.top_call.proofs.Trials.{trial_of}
-use Rattle.top_call.proofs.Parts.{part_none, words_go}
+use Rattle.top_call.proofs.Parts.{part_none}
 
 -- ---- the laws of a document's events
 
@@ -35,6 +37,13 @@ sound_of bytes = each (document_of bytes) (document_of_in bytes)
     each : {E : Type 0} (x : Result Document E) → IfOk x IsDocument → IfOk x IsSoundPlan
     each (Ok d) is = λ valid. is_sound d (record { document = is; valid = valid })
     each (Err why) is = tt
+
+listed_of : (bytes : List ℕ) → IfOk (document_of bytes) IsListed
+listed_of bytes = each (document_of bytes)
+  where
+    each : {E : Type 0} (x : Result Document E) → IfOk x IsListed
+    each (Ok d) = is_listed d
+    each (Err why) = tt
 
 shared_of : (bytes : List ℕ) → (count step : ℕ) → 1 ≤ count → IfOk (document_of bytes) (IsSharedPlan count step)
 shared_of bytes count step some = each (document_of bytes) (document_of_in bytes)
@@ -127,13 +136,14 @@ performed words command came left_old left_new s t old new before now status is 
       too_long = (λ l. absurd (not_outside _ status p.answers (inr (inr l))), λ past. absurd (omega (arith, past, within)));
       source = subst (Counts (has_read_fault status) s) (sym still) (no_read_fault (answer_of command came).status s status p.answers);
       out = p.faults;
-      part = subst (λ (o : Option Command). IsStopped (asked o came).closed status → ((asked o came).text ≡ [] → ⊥) → WritesPart old new (asked o came).text) e p.part;
+      part = subst (λ (o : Option Command). IsStopped status → ((asked o came).text ≡ [] → ⊥) → WritesPart old new (asked o came).text) e p.part;
       reading = λ u. absurd (not_outside _ status p.answers (inr u));
       complete = λ bytes some given.
           subst (λ (o : Option Command). ((Rose before now → ⊥) ⊎ IsRefusal (asked o bytes).status) → (status ≡ (asked o bytes).status) ⊎ (status ≡ NoMemory)) e
           (completes_as (answer_of command bytes) (answer_of command came) before now status (same bytes (λ r. (given (ap is_reading is ∙ r)).1)) p.answers p.faults);
       sound = sound_of came;
       trial = trial_of words;
+      listed = listed_of came;
       shared = shared_of came;
       idle = idle_of came;
     }
@@ -147,14 +157,15 @@ same_answer Replay bytes h = cc
 same_answer Summary bytes h = cc
 same_answer Capture bytes h = cc
 same_answer (Show json) bytes h = cc
+same_answer Sent bytes h = cc
 same_answer Windows bytes h = cc
 same_answer Fit bytes h = cc
 same_answer (Generate seed slots) bytes h = refl
 same_answer (Trial seed slots) bytes h = refl
 same_answer (Shared count step) bytes h = cc
 same_answer (Idle first last min) bytes h = cc
-same_answer (Pcap side start) bytes h = cc
-same_answer (PcapCapture side start) bytes h = cc
+same_answer (Pcap whose start) bytes h = cc
+same_answer (PcapCapture whose start) bytes h = cc
 
 front_any : (left old new : Option (List ℕ)) (command : Command) → reads command ≡ false → WritesFront old new (answer_of command []).text → IfSome left (λ bytes. WritesFront old new (answer_of command bytes).text)
 front_any None old new command h front = tt
@@ -212,11 +223,12 @@ no_command words left s written o none =
       too_long = (λ is. absurd (cc is), λ past. absurd (omega (arith, past)));
       source = refl;
       out = refl;
-      part = λ stopped. absurd (words_go _ stopped);
+      part = λ stopped. absurd stopped;
       reading = λ u. absurd (elim u [ inl is ↦ cc is | inr is ↦ cc is ]);
       complete = λ bytes some. absurd (cc (ap is_some none, some));
       sound = sound_of [];
       trial = trial_of words;
+      listed = listed_of [];
       shared = shared_of [];
       idle = idle_of [];
     }
@@ -319,6 +331,7 @@ stopped words command came left_old left_new s t written o status is does stop c
       complete = λ bytes some given ok. stop_wants (asked (command_of words) bytes).status came bytes left_old left_new s t status stop counts long taken (given (ap is_reading is ∙ does));
       sound = sound_of came;
       trial = trial_of words;
+      listed = listed_of came;
       shared = shared_of came;
       idle = idle_of came;
     }
@@ -376,6 +389,7 @@ wordless words left s written o some =
       complete = λ bytes some given ok. inr refl;
       sound = sound_of [];
       trial = trial_of words;
+      listed = listed_of [];
       shared = shared_of [];
       idle = idle_of [];
     }

@@ -10,11 +10,10 @@ use Rattle.top_call.specs.declared.status.Status.TheVariants.{Done}
 use Rattle.top_call.specs.Answers.{Answer}
 use Rattle.top_call.specs.Endings.{share_status}
 use Rattle.top_call.specs.Run.{IsRefusal, Performs}
-use Rattle.top_call.proofs.Parts.{done_goes}
 
 put : (a : Answer) (old new : Option (List ℕ)) (before now : ℕ) (result : Result (Unit {0}) ShareFault) → a.status ≡ Done
     → OnOk result (new ≡ append_known old a.text) → WritesFront old new a.text → OnErr result (WritesPart old new a.text) → HasShareCause before now result → Performs a old new before now (share_status result)
-put a old new before now (Ok u) done ok front part cause = record { front = front; whole = λ _. ok; part = λ stopped. absurd (done_goes a.closed stopped); answers = done; faults = cause }
+put a old new before now (Ok u) done ok front part cause = record { front = front; whole = λ _. ok; part = λ stopped. absurd stopped; answers = done; faults = cause }
 put a old new before now (Err share.WriteFault) done ok front part cause =
     record { front = front; whole = λ decided. absurd decided; part = λ _ _. part; answers = λ refusal. subst IsRefusal done refusal; faults = cause }
 put a old new before now (Err share.NoMemory) done ok front part cause = record { front = front; whole = λ decided. absurd decided; part = λ _ _. part; answers = tt; faults = cause }

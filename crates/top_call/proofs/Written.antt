@@ -1,7 +1,7 @@
 -- A whole text that was to be written, and the status behind it.
-use Rattle.std.proofs.Common.{◌≡◌, ◌∙◌, ℕ, List, Option, Result, Ok, Err, OnOk, OnErr, Bool, true, false, refl, ap, sym, subst}
+use Rattle.std.proofs.Common.{◌≡◌, ◌∙◌, ℕ, List, Option, Result, Ok, Err, OnOk, OnErr, false, refl, ap, sym, subst}
 use Rattle.std.specs.Io.KnownBytes.{append_known}
-use Rattle.fh_base.specs.Causes.{Counts, HasSinkCause}
+use Rattle.fh_base.specs.Causes.{Counts, HasSinkCause, has_failed}
 use Rattle.fh_base.specs.Told.{WritesFront, WritesPart}
 use Rattle.fh_base.specs.declared.fault.SinkFault.{SinkFault}
 use Rattle.fh_base.specs.declared.fault.SinkFault.TheVariants as sink
@@ -40,21 +40,18 @@ no_refusal TooLong verdict refusal = verdict
 no_refusal (CheckFails failing) verdict refusal = refusal
 no_refusal (NoFit refusal) verdict given = given
 
-no_stop : (closed : Bool) (status : Status) → IsVerdict status → IsStopped closed status → ⊥
-no_stop true Done verdict stopped = stopped
-no_stop false Done verdict stopped = stopped
-no_stop closed BadWords verdict stopped = verdict
-no_stop closed (BadDocument line why) verdict stopped = verdict
-no_stop closed (BadCapture place why) verdict stopped = verdict
-no_stop closed (BadPcap r) verdict stopped = verdict
-no_stop closed ReadFault verdict stopped = verdict
-no_stop closed WriteFault verdict stopped = verdict
-no_stop closed NoMemory verdict stopped = verdict
-no_stop closed TooLong verdict stopped = verdict
-no_stop true (CheckFails failing) verdict stopped = stopped
-no_stop false (CheckFails failing) verdict stopped = stopped
-no_stop true (NoFit refusal) verdict stopped = stopped
-no_stop false (NoFit refusal) verdict stopped = stopped
+no_stop : (status : Status) → IsVerdict status → IsStopped status → ⊥
+no_stop Done verdict stopped = stopped
+no_stop BadWords verdict stopped = verdict
+no_stop (BadDocument line why) verdict stopped = verdict
+no_stop (BadCapture place why) verdict stopped = verdict
+no_stop (BadPcap r) verdict stopped = verdict
+no_stop ReadFault verdict stopped = verdict
+no_stop WriteFault verdict stopped = verdict
+no_stop NoMemory verdict stopped = verdict
+no_stop TooLong verdict stopped = verdict
+no_stop (CheckFails failing) verdict stopped = stopped
+no_stop (NoFit refusal) verdict stopped = stopped
 
 verdict_faultless : (status : Status) → IsVerdict status → has_write_fault status ≡ false
 verdict_faultless Done verdict = refl
@@ -75,7 +72,7 @@ pub put : (a : Answer) (old new : Option (List ℕ)) (before now refused_before 
 put a old new before now refused_before refused_now (Ok u) verdict ok front part cause = record {
   front = front;
   whole = λ _. ok;
-  part = λ stopped. absurd (no_stop a.closed a.status verdict stopped);
+  part = λ stopped. absurd (no_stop a.status verdict stopped);
   answers = verdict_answers a.status verdict;
   faults = subst (λ f. Counts f before now) (sym (verdict_faultless a.status verdict)) cause.faults;
 }
@@ -90,6 +87,23 @@ pub put_as : (a : Answer) (old new : Option (List ℕ)) (before now refused_befo
     → Performs a old new before now ended
 put_as a old new before now refused_before refused_now result status ended ending is verdict ok front part cause =
     subst (Performs a old new before now) (sym (ending ∙ ap (ending_of result) is)) (put a old new before now refused_before refused_now result verdict ok front part cause)
+
+-- a text of whose writing only faults are counted, as memory is wanted besides
+pub counted : (a : Answer) (old new : Option (List ℕ)) (before now : ℕ) (result : Result (Unit {0}) SinkFault) → a.status ≡ Done
+    → OnOk result (new ≡ append_known old a.text) → WritesFront old new a.text → OnErr result (WritesPart old new a.text) → Counts (has_failed result) before now
+    → Performs a old new before now (ending_of result Done)
+counted a old new before now (Ok u) is ok front part counts =
+    record { front = front; whole = λ _. ok; part = λ stopped. absurd (no_stop Done tt stopped); answers = is; faults = counts }
+counted a old new before now (Err sink.Failed) is ok front part counts =
+    record { front = front; whole = λ decided. absurd decided; part = λ _ _. part; answers = subst (λ s. IsRefusal s → ⊥) (sym is) (λ r. r); faults = counts }
+counted a old new before now (Err sink.NoMemory) is ok front part counts =
+    record { front = front; whole = λ decided. absurd decided; part = λ _ _. part; answers = tt; faults = counts }
+
+pub counted_as : (a : Answer) (old new : Option (List ℕ)) (before now : ℕ) (result : Result (Unit {0}) SinkFault) (ended : Status) → ended ≡ ending_of result Done → a.status ≡ Done
+    → OnOk result (new ≡ append_known old a.text) → WritesFront old new a.text → OnErr result (WritesPart old new a.text) → Counts (has_failed result) before now
+    → Performs a old new before now ended
+counted_as a old new before now result ended ending is ok front part counts =
+    subst (Performs a old new before now) (sym ending) (counted a old new before now result is ok front part counts)
 
 pub check_is_verdict : (checked : Result (Unit {0}) Failing) → IsVerdict (verdict_of checked)
 check_is_verdict (Ok u) = tt

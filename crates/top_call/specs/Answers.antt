@@ -1,13 +1,12 @@
 -- What the words and the input name: the one text, and the status of a run that nothing keeps from its end.
 use Rattle.std.specs.Prelude.{ℕ, List, [], map, Bool, true, false, Option, None, Some, Result, Ok, Err, slice_index}
 use Rattle.capture_show.specs.capture_records.specs.declared.refusals.CaptureRefusal.{CaptureRefusal}
-use Rattle.command_words.specs.air_source.specs.declared.events.Side.{Side}
 use Rattle.capture_show.specs.capture_records.specs.Reading.{checked as capture_checked}
 use Rattle.capture_show.specs.capture_records.specs.Records.{capture_bytes}
 use Rattle.capture_show.specs.Messages.{capture_lines}
 use Rattle.capture_show.specs.Texts.{lines_text}
 use Rattle.command_words.specs.declared.commands.Command.{Command}
-use Rattle.command_words.specs.declared.commands.Command.TheVariants.{Replay, Summary, Capture, Show, Windows, Fit, Generate, Trial, Shared, Idle, Pcap, PcapCapture}
+use Rattle.command_words.specs.declared.commands.Command.TheVariants.{Replay, Summary, Capture, Show, Sent, Windows, Fit, Generate, Trial, Shared, Idle, Pcap, PcapCapture}
 use Rattle.pcap_lines.specs.fh_document.specs.declared.document.Document.{Document}
 use Rattle.pcap_lines.specs.fh_document.specs.declared.refusals.DocWhy.{DocWhy}
 use Rattle.pcap_lines.specs.fh_document.specs.Document.{document_of}
@@ -15,9 +14,9 @@ use Rattle.pcap_lines.specs.fh_document.specs.Generated.{generated}
 use Rattle.generated_documents.specs.Documents.{document}
 use Rattle.fronthaul_replay.specs.Reports.{capture_of, document_counts, document_report, summary_of}
 use Rattle.pcap_frames.specs.declared.refusals.PcapRefusal.{PcapRefusal}
-use Rattle.pcap_frames.specs.declared.values.PcapHead.{PcapHead}
+use Rattle.pcap_frames.specs.declared.values.Whose.{Whose}
 use Rattle.pcap_frames.specs.Checked.{checked as pcap_checked}
-use Rattle.pcap_frames.specs.Frames.{Timed, frames_of}
+use Rattle.pcap_frames.specs.Frames.{frames_of}
 use Rattle.pcap_lines.specs.Texts.{arrived_as, lines_of}
 use Rattle.fronthaul_replay.specs.plan_model.specs.Valid.{plan_refusal}
 use Rattle.fronthaul_replay.specs.plan_model.specs.declared.refusals.PlanWhy.{PlanWhy}
@@ -29,22 +28,21 @@ use Rattle.window_lines.specs.Fit.{fit_text}
 use Rattle.window_lines.specs.Windows.{windows_text}
 use Rattle.window_lines.specs.window_plan.specs.declared.refusals.NoFit.{NoFit as Refusal}
 use Rattle.window_lines.specs.window_plan.specs.Fitting.{fitted}
+use Rattle.sent_text.specs.Text.{sent_text}
 use Rattle.shared_text.specs.Shared.{shared_text}
 use Rattle.idle_replay.specs.Idle.{document_idle}
 use Rattle.top_call.specs.declared.status.LineWhy.TheVariants.{Doc, Plan}
 use Rattle.top_call.specs.declared.status.Status.{Status}
 use Rattle.top_call.specs.declared.status.Status.TheVariants.{Done, BadWords, BadDocument, BadCapture, CheckFails, BadPcap, NoFit}
 
--- a whole text, and the status behind it
+-- a complete text, and the status after it
 pub record Answer : Type 0 where
   pub text : List ℕ
   pub status : Status
-  -- the end of its text is written last of all: a capture has no end of its own
-  pub closed : Bool
 
 -- a refusal has no text
 abbrev pub refused : Status → Answer
-refused status = record { text = []; status = status; closed = true }
+refused status = record { text = []; status = status }
 
 -- ---- the commands that read a document
 
@@ -64,23 +62,27 @@ of_planned answer d = of_plan answer d (plan_refusal d.config d.plan)
 
 -- `replay`: the report of the document's events
 abbrev pub replayed : Document → Answer
-replayed d = record { text = document_report d; status = Done; closed = true }
+replayed d = record { text = document_report d; status = Done }
 
 -- `summary`: the summary of the same events
 abbrev pub summarized : Document → Answer
-summarized d = record { text = summary_of d; status = Done; closed = true }
+summarized d = record { text = summary_of d; status = Done }
 
 -- `capture`: the frames among them, as records
 abbrev pub captured : Document → Answer
-captured d = record { text = capture_of d; status = Done; closed = false }
+captured d = record { text = capture_of d; status = Done }
+
+-- `sent`: the frames that its plan sends to the radio unit
+abbrev pub listed : Document → Answer
+listed d = record { text = sent_text d; status = Done }
 
 -- `shared`: what the units of a shared cell do with the document
 abbrev pub shared : ℕ → ℕ → Document → Answer
-shared count step d = record { text = shared_text d count step; status = Done; closed = true }
+shared count step d = record { text = shared_text d count step; status = Done }
 
 -- `idle`: when the document's endpoints are idle in some frames, in spans of at least so many symbols
 abbrev pub idled : ℕ → ℕ → ℕ → Document → Answer
-idled first last min d = record { text = document_idle d first last min; status = Done; closed = true }
+idled first last min d = record { text = document_idle d first last min; status = Done }
 
 -- the verdict of the check: the first relation that fails
 abbrev pub verdict_of : Result (Unit {0}) Failing → Status
@@ -92,7 +94,7 @@ checked_status delays = verdict_of (checked delays)
 
 -- `windows`: the windows, the rings and the check
 abbrev pub windows_shown : Config → Answer
-windows_shown config = record { text = windows_text config; status = checked_status config.delays; closed = true }
+windows_shown config = record { text = windows_text config; status = checked_status config.delays }
 
 -- the verdict of a fit: the first window that does not fit
 abbrev pub fit_verdict : Result Delays Refusal → Status
@@ -104,13 +106,13 @@ fitted_status delays = fit_verdict (fitted delays)
 
 -- `fit`: the breaches, and the fitted windows where there are any
 abbrev pub fit_shown : Delays → Answer
-fit_shown delays = record { text = fit_text delays; status = fitted_status delays; closed = true }
+fit_shown delays = record { text = fit_text delays; status = fitted_status delays }
 
 -- ---- the command that reads a capture
 
 -- the text of a capture whose records are sound, or its first that is malformed
 abbrev pub of_capture : List ℕ → Result (Unit {0}) CaptureRefusal → Answer
-of_capture text (Ok _) = record { text = text; status = Done; closed = true }
+of_capture text (Ok _) = record { text = text; status = Done }
 of_capture text (Err r) = refused (BadCapture r.place r.why)
 
 -- `show`: the fields of its frames, as lines or as JSON
@@ -120,27 +122,27 @@ shown json bytes = of_capture (lines_text json (capture_lines bytes)) (capture_c
 -- ---- the commands that read a pcap file
 
 -- what is written of the frames of a file that passed, or the first fault of the file
-abbrev pub of_pcap : (List Timed → List ℕ) → ℕ → List ℕ → Result PcapHead PcapRefusal → Answer
-of_pcap text start bytes (Ok head) = record { text = text (frames_of bytes head start); status = Done; closed = true }
-of_pcap text start bytes (Err refusal) = refused (BadPcap refusal)
+abbrev pub of_pcap : List ℕ → Result (Unit {0}) PcapRefusal → Answer
+of_pcap text (Ok _) = record { text = text; status = Done }
+of_pcap text (Err refusal) = refused (BadPcap refusal)
 
--- `pcap`: the frames as lines of a document
-abbrev pub frames_injected : Side → ℕ → List ℕ → Answer
-frames_injected side start bytes = of_pcap (lines_of side) start bytes (pcap_checked bytes start)
+-- `pcap`: the frames that are wanted as lines of a document
+abbrev pub frames_injected : Whose → ℕ → List ℕ → Answer
+frames_injected whose start bytes = of_pcap (lines_of (frames_of whose bytes start)) (pcap_checked whose bytes start)
 
--- `pcap-capture`: the frames as a capture
-abbrev pub frames_captured : Side → ℕ → List ℕ → Answer
-frames_captured side start bytes = of_pcap (λ ts. capture_bytes (map (arrived_as side) ts)) start bytes (pcap_checked bytes start)
+-- `pcap-capture`: these frames as a capture
+abbrev pub frames_captured : Whose → ℕ → List ℕ → Answer
+frames_captured whose start bytes = of_pcap (capture_bytes (map arrived_as (frames_of whose bytes start))) (pcap_checked whose bytes start)
 
 -- ---- the commands that read nothing
 
 -- `generate`: a document of its own
 abbrev pub generated_document : ℕ → ℕ → Answer
-generated_document seed slots = record { text = generated seed slots; status = Done; closed = true }
+generated_document seed slots = record { text = generated seed slots; status = Done }
 
 -- the count lines of a document's report
 abbrev pub counted : Document → Answer
-counted d = record { text = document_counts d; status = Done; closed = true }
+counted d = record { text = document_counts d; status = Done }
 
 -- `trial`: those of the document that `generate` writes, which is read as this one (`TrialsAreGenerated`)
 abbrev pub tried : ℕ → ℕ → Answer
@@ -154,14 +156,15 @@ reads Replay = true
 reads Summary = true
 reads Capture = true
 reads (Show json) = true
+reads Sent = true
 reads Windows = true
 reads Fit = true
 reads (Generate seed slots) = false
 reads (Trial seed slots) = false
 reads (Shared count step) = true
 reads (Idle first last min) = true
-reads (Pcap side start) = true
-reads (PcapCapture side start) = true
+reads (Pcap whose start) = true
+reads (PcapCapture whose start) = true
 
 -- what a command answers of a whole input
 unfoldable pub answer_of : Command → List ℕ → Answer
@@ -169,14 +172,15 @@ answer_of Replay bytes = of_document (of_planned replayed) (document_of bytes)
 answer_of Summary bytes = of_document (of_planned summarized) (document_of bytes)
 answer_of Capture bytes = of_document (of_planned captured) (document_of bytes)
 answer_of (Show json) bytes = shown json bytes
+answer_of Sent bytes = of_document (of_planned listed) (document_of bytes)
 answer_of Windows bytes = of_document (λ d. windows_shown d.config) (document_of bytes)
 answer_of Fit bytes = of_document (λ d. fit_shown d.config.delays) (document_of bytes)
 answer_of (Generate seed slots) bytes = generated_document seed slots
 answer_of (Trial seed slots) bytes = tried seed slots
 answer_of (Shared count step) bytes = of_document (of_planned (shared count step)) (document_of bytes)
 answer_of (Idle first last min) bytes = of_document (of_planned (idled first last min)) (document_of bytes)
-answer_of (Pcap side start) bytes = frames_injected side start bytes
-answer_of (PcapCapture side start) bytes = frames_captured side start bytes
+answer_of (Pcap whose start) bytes = frames_injected whose start bytes
+answer_of (PcapCapture whose start) bytes = frames_captured whose start bytes
 
 -- what is answered where the words are this command; words that are none are refused
 abbrev pub asked : Option Command → List ℕ → Answer

@@ -13,11 +13,13 @@ use Rattle.fronthaul_replay.specs.declared.report.TextFault.{TextFault}
 use Rattle.fronthaul_replay.specs.declared.report.TextFault.TheVariants as text
 use Rattle.fronthaul_replay.specs.plan_tests.specs.declared.testing.PlanRefusal.{PlanRefusal}
 use Rattle.fronthaul_replay.specs.plan_tests.specs.declared.testing.PlanRefusal.TheVariants as plan
+use Rattle.pcap_frames.specs.declared.refusals.PcapFault.{PcapFault}
+use Rattle.pcap_frames.specs.declared.refusals.PcapFault.TheVariants as pcap
 use Rattle.shared_text.specs.declared.faults.ShareFault.{ShareFault}
 use Rattle.shared_text.specs.declared.faults.ShareFault.TheVariants as share
 use Rattle.top_call.specs.declared.status.LineWhy.TheVariants.{Doc, Plan}
 use Rattle.top_call.specs.declared.status.Status.{Status}
-use Rattle.top_call.specs.declared.status.Status.TheVariants.{Done, BadDocument, BadCapture, ReadFault, WriteFault, NoMemory, TooLong}
+use Rattle.top_call.specs.declared.status.Status.TheVariants.{Done, BadDocument, BadCapture, ReadFault, WriteFault, NoMemory, TooLong, BadPcap}
 
 -- the whole text was to be written, and then the run to end with a status
 abbrev pub ending_of : Result (Unit {0}) SinkFault → Status → Status
@@ -52,6 +54,11 @@ abbrev pub source_status : ReadAllFault → Status
 source_status source.ReadFault = ReadFault
 source_status source.TooLong = TooLong
 source_status source.NoMemory = NoMemory
+
+-- a pcap file was not accepted
+abbrev pub pcap_status : PcapFault → Status
+pcap_status (pcap.Refused refusal) = BadPcap refusal
+pcap_status pcap.NoMemory = NoMemory
 
 -- a capture was shown, or was not
 abbrev pub shown_status : Result (Unit {0}) ShowFault → Status

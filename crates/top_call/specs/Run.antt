@@ -11,6 +11,7 @@ use Rattle.fronthaul_replay.specs.Laws.{IsSound}
 use Rattle.fronthaul_replay.specs.plan_model.specs.Valid.{IsValid}
 use Rattle.idle_replay.specs.Idle.{IsIdle}
 use Rattle.idle_spans.specs.Tables.{AreFrames}
+use Rattle.sent_text.specs.Laws.{IsListed}
 use Rattle.shared_text.specs.Summed.{IsSummed}
 use Rattle.unit_documents.specs.Units.{unit_of}
 use Rattle.top_call.specs.declared.status.Status.{Status}
@@ -42,11 +43,11 @@ IsVerdict (CheckFails failing) = Unit {0}
 IsVerdict (NoFit refusal) = Unit {0}
 IsVerdict status = ⊥
 
--- the statuses of a run that was stopped in its text, or before it, where the text's end is written last of all
-abbrev pub IsStopped : Bool → Status → Type 0
-IsStopped true WriteFault = Unit {0}
-IsStopped true NoMemory = Unit {0}
-IsStopped closed status = ⊥
+-- the statuses of a run that was stopped in its text, or before it
+abbrev pub IsStopped : Status → Type 0
+IsStopped WriteFault = Unit {0}
+IsStopped NoMemory = Unit {0}
+IsStopped status = ⊥
 
 -- the source failed
 abbrev pub has_read_fault : Status → Bool
@@ -71,7 +72,7 @@ AnswersCommand wanted status = wanted ≡ status
 pub record Performs (a : Answer) (written_old written_new : Option (List ℕ)) (before now : ℕ) (status : Status) : Type 0 where
   pub front : WritesFront written_old written_new a.text
   pub whole : IsDecided status → written_new ≡ append_known written_old a.text
-  pub part : IsStopped a.closed status → (a.text ≡ [] → ⊥) → WritesPart written_old written_new a.text
+  pub part : IsStopped status → (a.text ≡ [] → ⊥) → WritesPart written_old written_new a.text
   pub answers : AnswersCommand a.status status
   pub faults : Counts (has_write_fault status) before now
 
@@ -109,11 +110,10 @@ pub record Outcome (words : List (List ℕ)) (left_old left_new : Option (List �
   pub ended : IsDecided status → is_reading (command_of words) ≡ true → IsAtEnd left_new
   pub whole : IsDecided status → written_new ≡ append_known written_old (asked (command_of words) came).text
   -- the others, and words that are no command: a read fault exactly where the source's count of faults rose, a write fault exactly where the
-  -- output's did, and a stopped run leaves a part of its text and not all, where there is one that is no
-  -- capture
+  -- output's did, and a stopped run leaves a part of its text and not all, where the text is not empty
   pub source : Counts (has_read_fault status) source_before source_now
   pub out : Counts (has_write_fault status) out_before out_now
-  pub part : IsStopped (asked (command_of words) came).closed status → ((asked (command_of words) came).text ≡ [] → ⊥) → WritesPart written_old written_new (asked (command_of words) came).text
+  pub part : IsStopped status → ((asked (command_of words) came).text ≡ [] → ⊥) → WritesPart written_old written_new (asked (command_of words) came).text
   pub reading : (status ≡ ReadFault) ⊎ (status ≡ TooLong) → is_reading (command_of words) ≡ true
   pub bad_words : (status ≡ BadWords) ↔ IsNone (command_of words)
   pub unread : (status ≡ ReadFault) ⊎ (status ≡ TooLong) → written_new ≡ written_old
@@ -129,6 +129,9 @@ pub record Outcome (words : List (List ℕ)) (left_old left_new : Option (List �
   -- counters; each delay stands behind the frame that gave it, and is that of the one request of its id where no injected frame has a
   -- message of delay measurement; and where nothing disturbs its schedule, each scheduled element radiates once
   pub sound : IfOk (document_of came) IsSoundPlan
+  -- and of the frames that such a document's plan sends: each has its line, once and in the sent order, and their copies are, with the injected
+  -- frames and those of delay measurement, what arrives at the radio unit
+  pub listed : IfOk (document_of came) IsListed
   -- and of the units of a cell that such a document's frames are shared by
   pub shared : (count step : ℕ) → 1 ≤ count → IfOk (document_of came) (IsSharedPlan count step)
   -- and of the spans in which such a document's endpoints are idle: none holds a radiated element, the plan with the proposed lines after it

@@ -10,6 +10,7 @@ mod generate;
 mod idle;
 mod pcap;
 mod replay;
+mod sent;
 mod shared;
 mod show;
 mod summary;
@@ -25,6 +26,7 @@ use generate::write_document;
 use idle::write_idle_spans;
 use pcap::{capture_frames, inject_frames};
 use replay::write_report;
+use sent::write_sent;
 use shared::write_shared;
 use show::show_capture;
 use std::alloc::Global;
@@ -41,6 +43,7 @@ pub(crate) fn reads(command: Command) -> bool
         | Command::Summary
         | Command::Capture
         | Command::Show { .. }
+        | Command::Sent
         | Command::Windows
         | Command::Fit
         | Command::Shared { .. }
@@ -62,6 +65,7 @@ pub(crate) fn perform<K: Sink>(alloc: Global, command: Command, bytes: &[u8], ou
         Command::Summary => write_summary(alloc, bytes, out),
         Command::Capture => write_capture(alloc, bytes, out),
         Command::Show { json } => show_capture(alloc, json, bytes, out),
+        Command::Sent => write_sent(alloc, bytes, out),
         Command::Windows => write_windows(alloc, bytes, out),
         Command::Fit => write_fit(alloc, bytes, out),
         Command::Generate { seed, slots } => write_document(alloc, seed, slots, out),
@@ -70,7 +74,7 @@ pub(crate) fn perform<K: Sink>(alloc: Global, command: Command, bytes: &[u8], ou
         Command::Idle { first, last, min } => {
             write_idle_spans(alloc, first, last, min, bytes, out)
         }
-        Command::Pcap { side, start } => inject_frames(side, start, bytes, out),
-        Command::PcapCapture { side, start } => capture_frames(side, start, bytes, out),
+        Command::Pcap { whose, start } => inject_frames(alloc, whose, start, bytes, out),
+        Command::PcapCapture { whose, start } => capture_frames(alloc, whose, start, bytes, out),
     }
 }

@@ -1,12 +1,13 @@
 // How a run ends, by what its last step answered.
 ghost use Rattle.std.specs.Prelude.{◌≡◌, slice_index};
-ghost use Rattle.top_call.specs.Endings.{ending_of, share_status, text_status, source_status, unplanned_status, unread_status};
+ghost use Rattle.top_call.specs.Endings.{ending_of, pcap_status, share_status, text_status, source_status, unplanned_status, unread_status};
 
 use crate::status::{LineWhy, Status};
 use du_scheduler::PlanRefusal;
 use fh_base::{List, ReadAllFault, SinkFault};
 use fh_document::{DocFault, Document};
 use fronthaul_replay::TextFault;
+use pcap_frames::PcapFault;
 use shared_text::ShareFault;
 
 /// How a run ends whose whole text was to be written, and which then ends with `status`.
@@ -75,6 +76,16 @@ pub(crate) fn unplanned_status(document: &Document, refusal: PlanRefusal) -> Sta
             why: LineWhy::Plan(why),
         },
         PlanRefusal::NoMemory => Status::NoMemory,
+    }
+}
+
+/// What a pcap file is answered that was not accepted.
+pub(crate) fn pcap_status(fault: PcapFault) -> Status
+    ensures { result ≡ pcap_status fault }
+{
+    match fault {
+        PcapFault::Refused(refusal) => Status::BadPcap(refusal),
+        PcapFault::NoMemory => Status::NoMemory,
     }
 }
 

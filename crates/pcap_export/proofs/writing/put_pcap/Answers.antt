@@ -9,10 +9,10 @@ use Rattle.owed_bytes.proofs.Parts.{part_front, part_behind, last_part}
 use Rattle.pcap_lines.proofs.Telling.{first_part}
 
 pub returns-in_err-tell_packets-clause-read : goal.returns-in_err-tell_packets-clause-read
-returns-in_err-tell_packets-clause-read g c = λ usual. read_back (wanted c.args.ways (records_of c.args.bytes.now)) usual
+returns-in_err-tell_packets-clause-read g c = λ usual whose reading. read_back whose reading (wanted c.args.ways (records_of c.args.bytes.now)) usual
 
 pub returns-clause-read : goal.returns-clause-read
-returns-clause-read g c = λ usual. read_back (wanted c.args.ways (records_of c.args.bytes.now)) usual
+returns-clause-read g c = λ usual whose reading. read_back whose reading (wanted c.args.ways (records_of c.args.bytes.now)) usual
 
 pub returns-clause-ok : goal.returns-clause-ok
 returns-clause-ok g c =

@@ -12,22 +12,22 @@ use Rattle.std.proofs.lemmas.Result.{on_err_weaker}
 
 pub returns-clause-front : goal.returns-clause-front
 returns-clause-front g c =
-    let rest = records_bytes (map (arrived_as c.args.side) (frames_of c.args.bytes.now c.args.head.now c.args.start)) in
+    let rest = records_bytes (map arrived_as (frames_of c.args.whose c.args.bytes.now c.args.start)) in
     last_front _ _ _ c.new-owed.result _ _ c.new-owed.ensures (carried_more _ _ _ _ _ _ MAGIC rest c.in_ok-tell.ensures.carried c.in_ok-tell_records.ensures.carried) c.push_out.ensures.front
 
 pub returns-clause-part : goal.returns-clause-part
 returns-clause-part g c =
-    let rest = records_bytes (map (arrived_as c.args.side) (frames_of c.args.bytes.now c.args.head.now c.args.start)) in
+    let rest = records_bytes (map arrived_as (frames_of c.args.whose c.args.bytes.now c.args.start)) in
     on_err_weaker c.push_out.result (λ h.
     last_part _ _ _ c.new-owed.result _ _ c.new-owed.ensures (carried_more _ _ _ _ _ _ MAGIC rest c.in_ok-tell.ensures.carried c.in_ok-tell_records.ensures.carried) h) c.push_out.ensures.part
 
 pub returns-in_err-tell_records-clause-front : goal.returns-in_err-tell_records-clause-front
 returns-in_err-tell_records-clause-front g c =
-    let rest = records_bytes (map (arrived_as c.args.side) (frames_of c.args.bytes.now c.args.head.now c.args.start)) in
+    let rest = records_bytes (map arrived_as (frames_of c.args.whose c.args.bytes.now c.args.start)) in
     part_front _ _ _ (first_part _ _ _ _ c.new-owed.ensures (part_behind _ _ MAGIC _ _ rest _ c.in_ok-tell.ensures.carried c.in_err-tell_records.ensures.part))
 
 pub returns-in_err-tell_records-clause-part : goal.returns-in_err-tell_records-clause-part
 returns-in_err-tell_records-clause-part g c =
-    let rest = records_bytes (map (arrived_as c.args.side) (frames_of c.args.bytes.now c.args.head.now c.args.start)) in
+    let rest = records_bytes (map arrived_as (frames_of c.args.whose c.args.bytes.now c.args.start)) in
     anyhow c.from_residual-in_err-tell_records.result
     (first_part _ _ _ _ c.new-owed.ensures (part_behind _ _ MAGIC _ _ rest _ c.in_ok-tell.ensures.carried c.in_err-tell_records.ensures.part))

@@ -1,8 +1,6 @@
-use Rattle.std.proofs.Common.{◌<◌, drop}
 use Rattle.std.proofs.lemmas.Result.{on_ok_weaker, on_err_weaker}
-use Rattle.std.proofs.lemmas.List.Elements.{All-drop}
-use Rattle.pcap_frames.proofs.Settled.{checked_fine}
-use Rattle.pcap_frames.proofs.Shown.{are_shown}
+use Rattle.pcap_frames.specs.Wanted.{wanted_frames, first_time}
+use Rattle.pcap_frames.proofs.Shown.{are_shown, checked_fine}
 use Rattle.pcap_lines.proofs.Read.{are_bytes, read_back}
 use Rattle.pcap_lines.proofs.injections.inject_text.Goals as goal
 use Rattle.owed_bytes.proofs.Telling.{last_front, all_written, anyhow}
@@ -25,16 +23,16 @@ returns-clause-ok g c =
 pub returns-in_err-tell_lines-clause-read : goal.returns-in_err-tell_lines-clause-read
 returns-in_err-tell_lines-clause-read g c =
     let bytes = c.args.bytes.now in
-    let head = c.args.head.now in
-    read_back c.args.side head.little head.nanos head.first c.args.start (drop 24 bytes) (All-drop (λ b. b < 256) 24 bytes (are_bytes bytes (λ k. (c.type_inv.bytes k).fits)))
-    (are_shown head.nanos head.first c.args.start _ (checked_fine bytes c.args.start head c.requires))
+    let ws = wanted_frames c.args.whose bytes in
+    read_back c.args.whose bytes c.args.start (are_bytes bytes (λ k. (c.type_inv.bytes k).fits))
+    (are_shown (first_time ws) c.args.start ws (checked_fine c.args.whose bytes c.args.start c.requires.passed))
 
 pub returns-clause-read : goal.returns-clause-read
 returns-clause-read g c =
     let bytes = c.args.bytes.now in
-    let head = c.args.head.now in
-    read_back c.args.side head.little head.nanos head.first c.args.start (drop 24 bytes) (All-drop (λ b. b < 256) 24 bytes (are_bytes bytes (λ k. (c.type_inv.bytes k).fits)))
-    (are_shown head.nanos head.first c.args.start _ (checked_fine bytes c.args.start head c.requires))
+    let ws = wanted_frames c.args.whose bytes in
+    read_back c.args.whose bytes c.args.start (are_bytes bytes (λ k. (c.type_inv.bytes k).fits))
+    (are_shown (first_time ws) c.args.start ws (checked_fine c.args.whose bytes c.args.start c.requires.passed))
 
 pub returns-in_err-tell_lines-clause-front : goal.returns-in_err-tell_lines-clause-front
 returns-in_err-tell_lines-clause-front g c = part_front _ _ _ (first_part _ _ _ _ c.new-owed.ensures c.in_err-tell_lines.ensures.part)

@@ -5,4 +5,4 @@ use Rattle.top_call.proofs.commands.capture.put_capture.Goals as goal
 
 pub returns : goal.returns
 returns g c =
-    texted_as (captured c.args.document.now) _ _ _ _ c.capture_document.result c.text_status.result c.text_status.ensures refl c.capture_document.ensures.done c.capture_document.ensures.front (λ closed. absurd (cc closed)) c.capture_document.ensures.cause
+    texted_as (captured c.args.document.now) _ _ _ _ c.capture_document.result c.text_status.result c.text_status.ensures refl c.capture_document.ensures.done c.capture_document.ensures.front c.capture_document.ensures.part c.capture_document.ensures.cause
