@@ -1,0 +1,55 @@
+-- A text that is cut at each separator.
+use Rattle.std.proofs.Common.{◌≡◌, ℕ, ◌+◌, ◌<◌, ◌≤◌, List, [], ◌∷◌, ◌++◌, length, take, drop, get_or, Bool, true, false, refl, sym, ap, ◌∙◌, subst, arith, length-take, nat_lt}
+use Rattle.std.specs.Prelude.{All, filter, if◌then◌else◌, Option, Some, None, IfSome}
+use Rattle.std.specs.Borrow.{Bor}
+use Rattle.std.specs.List.{slice_split}
+use Rattle.std.proofs.lemmas.List.{get_or-take, take-append-drop, drop_more}
+use Rattle.std.proofs.lemmas.List.Elements.{All-from_get_or}
+use Rattle.std.proofs.lemmas.List.Splits.{slice_split_none, slice_split_at}
+use Rattle.std.proofs.lemmas.Bool.Decides.{nat_tests}
+use Rattle.memchr.specs.Find.{Nowhere, NoneBefore, Passes}
+use Rattle.line_words.specs.Words.{parts_left, left_length}
+
+not_true : (b : Bool) → (b ≡ true → ⊥) → b ≡ false
+not_true true f = absurd (f refl)
+not_true false f = refl
+
+-- the bytes before the first that passes
+fails_before : (p : ℕ → Bool) (xs : List ℕ) (k : ℕ) → Nowhere (Passes p xs) 0 k → All (λ x. p x ≡ false) (take k xs)
+fails_before p xs k h =
+    All-from_get_or (λ x. p x ≡ false) (take k xs) 0 (λ i lt.
+    let small : i < k = omega (arith, length-take k xs) in
+    subst (λ x. p x ≡ false) (sym (get_or-take k xs i 0 small)) (not_true (p (get_or xs i 0)) (h i (omega arith) small)))
+
+pub cut_nowhere : (p : ℕ → Bool) (xs : List ℕ) → Nowhere (Passes p xs) 0 (length xs) → slice_split p xs ≡ xs ∷ []
+cut_nowhere p xs h = slice_split_none p xs (All-from_get_or (λ x. p x ≡ false) xs 0 (λ i lt. not_true (p (get_or xs i 0)) (h i (omega arith) lt)))
+
+pub cut_first : (p : ℕ → Bool) (xs : List ℕ) (k : ℕ) → NoneBefore (Passes p xs) 0 (length xs) k → Passes p xs k → slice_split p xs ≡ take k xs ∷ slice_split p (drop (k + 1) xs)
+cut_first p xs k h passes =
+    let parts : xs ≡ take k xs ++ get_or xs k 0 ∷ drop (k + 1) xs =
+    sym (take-append-drop k xs) ∙ ap (λ zs. take k xs ++ zs) (drop_more xs k 0 h.high) in
+    ap (slice_split p) parts ∙ slice_split_at p (take k xs) (get_or xs k 0) (drop (k + 1) xs) (fails_before p xs k h.before) passes
+
+-- ---- words
+
+abbrev is_word : List ℕ → Bool
+is_word w = nat_lt 0 (length w)
+
+-- the words of what is left of a line
+abbrev pub words_left : Option (Bor (List ℕ)) → List (List ℕ)
+words_left rest = filter is_word (parts_left 32 rest)
+
+filter_step : (b : Bool) (w : List ℕ) (ws : List (List ℕ)) → is_word w ≡ b → filter is_word (w ∷ ws) ≡ (if b then w ∷ filter is_word ws else filter is_word ws)
+filter_step b w ws e = ap (λ t. if t then w ∷ filter is_word ws else filter is_word ws) e
+
+pub next_word : (parts : List (List ℕ)) (w : List ℕ) (rest : List (List ℕ)) → parts ≡ w ∷ rest → 0 < length w → filter is_word parts ≡ w ∷ filter is_word rest
+next_word parts w rest is e = ap (filter is_word) is ∙ filter_step true w rest (grind (arith, nat_tests))
+
+pub no_word_here : (parts : List (List ℕ)) (w : List ℕ) (rest : List (List ℕ)) → parts ≡ w ∷ rest → is_word w ≡ false → filter is_word parts ≡ filter is_word rest
+no_word_here parts w rest is e = ap (filter is_word) is ∙ filter_step false w rest e
+
+-- ---- how much is left
+
+pub shorter : (text : List ℕ) (rest : Option (Bor (List ℕ))) → IfSome rest (λ behind. length behind.now < length text) → left_length rest + 1 ≤ length text + 1
+shorter text None h = omega arith
+shorter text (Some behind) h = omega (arith, h)

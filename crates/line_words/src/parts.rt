@@ -1,0 +1,39 @@
+// The parts of a text between separators.
+ghost use Rattle.std.specs.Prelude.{◌≡◌, ◌==◌, ◌<◌, ◌∷◌, length, IfSome};
+ghost use Rattle.std.specs.List.{slice_split};
+ghost use Rattle.line_words.specs.Words.{is_text, without_last_feed, parts_left};
+
+use memchr::memchr;
+
+/// Whether each byte is printable ASCII, from 20 to 7e hex. All are looked at, many at once, wherever one is not.
+pub fn is_text(line: &[u8]) -> bool
+    ensures { result ≡ is_text line.now }
+{
+    let mut text = true;
+    for b in line {
+        text &= *b >= 32 && *b <= 126;
+    }
+    text
+}
+
+/// The bytes before the first that is the separator, and those after it, where there is one.
+pub fn cut(separator: u8, bytes: &[u8]) -> (&[u8], Option<&[u8]>)
+    ensures parts { slice_split (λ b. b == separator) bytes.now ≡ result.0.now ∷ parts_left separator result.1 }
+    ensures shorter { IfSome result.1 (λ rest. length rest.now < length bytes.now) }
+{
+    match memchr(separator, bytes) {
+        Some(end) => (&bytes[..end], Some(&bytes[end + 1..])),
+        None => (bytes, None),
+    }
+}
+
+/// The text without a last line feed.
+pub fn without_last_feed(text: &[u8]) -> &[u8]
+    ensures { result.now ≡ without_last_feed text.now }
+{
+    if text.last() == Some(&10) {
+        &text[..text.len() - 1]
+    } else {
+        text
+    }
+}
