@@ -1,0 +1,4 @@
+pub mod Classes
+pub mod Endpoints
+pub mod Cells
+pub mod Text
