@@ -1,0 +1,4 @@
+pub mod Counting
+pub mod Flows
+pub mod OneLine
+pub mod Tallying

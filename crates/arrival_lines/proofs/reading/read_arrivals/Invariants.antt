@@ -1,0 +1,18 @@
+use Rattle.std.proofs.Common.{◌≡◌, ◌+◌, ◌≤◌, List, length}
+use Rattle.line_words.specs.Words.{parts_left, left_length}
+use Rattle.arrival_lines.specs.declared.arrivals.Arrival.{Arrival}
+use Rattle.arrival_lines.specs.Rows.{rows_of}
+use Rattle.arrival_lines.specs.Text.{arrivals_of, read_from}
+use Rattle.arrival_lines.proofs.reading.read_arrivals.Given as goal
+
+abbrev pub invariant-lines : goal.invariant-lines
+invariant-lines l = record {
+  came : List Arrival;
+  counts : l.rows ≡ rows_of came;
+  few : length came + left_length l.rest ≤ length l.text + 1;
+  fits : l.n + left_length l.rest ≤ length l.text + 2;
+  says : arrivals_of l.text ≡ read_from l.n l.reading came (parts_left 10 l.rest);
+}
+
+abbrev pub decreases-lines : goal.decreases-lines
+decreases-lines l = left_length l.rest
