@@ -1,0 +1,4 @@
+pub mod Places
+pub mod Reasons
+pub mod Lines
+pub mod Faults

@@ -1,0 +1,159 @@
+// The words that say where something stands.
+ghost use Rattle.std.specs.Prelude.{◌≡◌, ◌+◌, ◌≤◌, ◌++◌, length, codes};
+ghost use Rattle.air_source.specs.Units.{way_text};
+ghost use Rattle.explain_lines.specs.Places.{named_text, moment_text, symbol_text, prbs_text, mask_text, run_text, bit_text, message_text, timing_text, clash_text};
+ghost use Rattle.report_lines.specs.Units.{side_text};
+ghost use Rattle.text_lines.specs.Words.{hex4_text};
+
+use crate::places::{Clash, MessagePlace, PrbRun, SymbolPlace, Timing};
+use air_source::Side;
+use fh_time::Slot;
+use text_lines::Line;
+
+/// The way of frames to a unit.
+pub fn way(side: Side) -> &'static [u8]
+    ensures text { result.now ≡ way_text side }
+    ensures short { length result.now ≡ 2 }
+{
+    match side {
+        Side::Ru => b"dl",
+        Side::Du => b"ul",
+    }
+}
+
+/// The name of a unit.
+pub fn side_name(side: Side) -> &'static [u8]
+    ensures text { result.now ≡ side_text side }
+    ensures short { length result.now ≡ 2 }
+{
+    match side {
+        Side::Ru => b"ru",
+        Side::Du => b"du",
+    }
+}
+
+/// Appends a space, a name, an equals sign and a number.
+pub fn named(line: &mut Line, name: &[u8], n: u64)
+    requires { length line.old + length name.now + 22 ≤ 512 }
+    ensures text { line.new ≡ line.old ++ named_text name.now n }
+    ensures short { length line.new ≤ length line.old + length name.now + 22 }
+{
+    line.text(b" ");
+    line.text(name);
+    line.text(b"=");
+    line.number(n);
+}
+
+/// Appends frame, subframe, slot and symbol.
+pub fn moment(line: &mut Line, slot: Slot, symbol: u8)
+    requires { length line.old + 84 ≤ 512 }
+    ensures text { line.new ≡ line.old ++ moment_text slot symbol }
+    ensures short { length line.new ≤ length line.old + 84 }
+{
+    line.spaced_signed(slot.frame);
+    line.spaced(u64::from(slot.subframe));
+    line.spaced(u64::from(slot.slot));
+    line.spaced(u64::from(symbol));
+}
+
+/// Appends a space and an eAxC id.
+pub fn id(line: &mut Line, id: u16)
+    requires { length line.old + 5 ≤ 512 }
+    ensures text { line.new ≡ line.old ++ (codes " " ++ hex4_text id) }
+    ensures short { length line.new ≤ length line.old + 5 }
+{
+    line.text(b" ");
+    line.hex4(id);
+}
+
+/// Appends the id of an endpoint, and a symbol of it.
+pub fn symbol(line: &mut Line, place: SymbolPlace)
+    requires { length line.old + 89 ≤ 512 }
+    ensures text { line.new ≡ line.old ++ symbol_text place }
+    ensures short { length line.new ≤ length line.old + 89 }
+{
+    id(line, place.id);
+    moment(line, place.slot, place.symbol);
+}
+
+/// Appends a first PRB and a number of PRBs.
+pub fn prbs(line: &mut Line, prb: u16, num: u32)
+    requires { length line.old + 50 ≤ 512 }
+    ensures text { line.new ≡ line.old ++ prbs_text prb num }
+    ensures short { length line.new ≤ length line.old + 50 }
+{
+    named(line, b"prb", u64::from(prb));
+    named(line, b"num", u64::from(num));
+}
+
+/// Appends a mask.
+pub fn mask_word(line: &mut Line, mask: u16)
+    requires { length line.old + 9 ≤ 512 }
+    ensures text { line.new ≡ line.old ++ mask_text mask }
+    ensures short { length line.new ≤ length line.old + 9 }
+{
+    line.text(b" mask=");
+    line.hex3(mask);
+}
+
+/// Appends PRBs of a symbol.
+#[tactic(auto, unfolding(crate::specs::Places::run_text))]
+pub fn run_words(line: &mut Line, run: &PrbRun)
+    requires { length line.old + 191 ≤ 512 }
+    ensures text { line.new ≡ line.old ++ run_text run.now }
+    ensures short { length line.new ≤ length line.old + 191 }
+{
+    line.text(way(run.side));
+    line.spaced_signed(run.at.0);
+    symbol(line, run.place);
+    prbs(line, run.prb, run.num);
+    named(line, b"section", u64::from(run.section));
+}
+
+fn bit(set: bool) -> &'static [u8]
+    ensures text { result.now ≡ bit_text set }
+    ensures short { length result.now ≡ 1 }
+{
+    if set { b"1" } else { b"0" }
+}
+
+/// Appends where a message stands.
+#[tactic(auto, unfolding(crate::specs::Places::message_text))]
+pub fn message(line: &mut Line, m: &MessagePlace)
+    requires { length line.old + 108 ≤ 512 }
+    ensures text { line.new ≡ line.old ++ message_text m.now }
+    ensures short { length line.new ≤ length line.old + 108 }
+{
+    line.spaced(u64::from(m.number));
+    id(line, m.id);
+    named(line, b"place", m.place as u64);
+    named(line, b"seq", u64::from(m.seq.seq));
+    named(line, b"sub", u64::from(m.seq.sub));
+    line.text(b" e=");
+    line.text(bit(m.seq.last));
+}
+
+/// Appends the distances from the two ends of a window.
+#[tactic(auto, unfolding(crate::specs::Places::timing_text))]
+pub fn timing(line: &mut Line, timing: Timing)
+    requires { length line.old + 54 ≤ 512 }
+    ensures text { line.new ≡ line.old ++ timing_text timing }
+    ensures short { length line.new ≤ length line.old + 54 }
+{
+    line.text(b" since=");
+    line.signed(timing.since);
+    line.text(b" until=");
+    line.signed(timing.until);
+}
+
+/// Appends what a section overlaps.
+#[tactic(auto, unfolding(crate::specs::Places::clash_text))]
+pub fn clash(line: &mut Line, clash: Clash)
+    requires { length line.old + 79 ≤ 512 }
+    ensures text { line.new ≡ line.old ++ clash_text clash }
+    ensures short { length line.new ≤ length line.old + 79 }
+{
+    named(line, b"with", u64::from(clash.section));
+    named(line, b"symbol", u64::from(clash.symbol));
+    named(line, b"prb", u64::from(clash.prb));
+}
