@@ -1,0 +1,4 @@
+pub mod GrowLemmas
+pub mod MarginLemmas
+pub mod PieceLemmas
+pub mod StoryLemmas
