@@ -1,0 +1,6 @@
+pub mod ExampleLemmas
+pub mod RunLemmas
+pub mod SameLemmas
+pub mod ToldLemmas
+pub mod AloneLemmas
+pub mod SeenLemmas

@@ -1,0 +1,15 @@
+pub use Rattle.explain_model
+pub use Rattle.reason_records
+pub mod Records
+pub mod Fragments
+pub mod Commanded
+pub mod Reasons
+pub mod Same
+pub mod Seen
+pub mod Missing
+pub mod Silent
+pub mod Unused
+pub mod Sums
+pub mod Examples
+pub mod Told
+pub mod Alone
