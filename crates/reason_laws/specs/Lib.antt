@@ -1,0 +1,5 @@
+pub use Rattle.explain_reasons
+pub mod Decoded
+pub mod Blocks
+pub mod Giving
+pub mod Grown
