@@ -1,0 +1,3 @@
+pub mod NearestLemmas
+pub mod LineLemmas
+pub mod OrderLemmas

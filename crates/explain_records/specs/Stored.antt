@@ -1,0 +1,11 @@
+-- The records that are kept.
+use Rattle.std.specs.Prelude.{◌≡◌, []}
+use Rattle.explain_reasons.specs.Reasons.{Kept, of_symbol}
+use Rattle.reason_records.specs.declared.keys.SymbolKey.{SymbolKey}
+
+abbrev pub nothing_kept : Kept
+nothing_kept = record { given = []; commanded = []; headers = []; repeated = []; begun = [] }
+
+-- of each symbol these are the same records, in the same order
+abbrev pub SameBySymbol : Kept → Kept → Type 0
+SameBySymbol all ordered = (key : SymbolKey) → of_symbol key ordered ≡ of_symbol key all
