@@ -3,6 +3,7 @@ ghost use Rattle.std.specs.Prelude.{◌≡◌, filter};
 ghost use Rattle.explain_reasons.specs.Reasons.{of_symbol};
 ghost use Rattle.explain_records.specs.Elements.{at_symbol};
 ghost use Rattle.reason_records.specs.Keys.{command_key, data_key, same_slot_key, same_symbol};
+ghost use Rattle.symbol_records.specs.Order.{AreInOrder};
 
 use crate::reasons::AtSymbol;
 use reason_records::{
@@ -32,7 +33,8 @@ impl Model for OrderedKept {
 impl OrderedKept {
     /// All sections of data, in the order of their symbols.
     pub fn given(&self) -> &[DataRecord]
-        ensures { result.now ≡ self.now.given }
+        ensures all { result.now ≡ self.now.given }
+        ensures order { AreInOrder data_key result.now }
     {
         self.given.as_slice()
     }

@@ -6,4 +6,5 @@ mod missing;
 mod same;
 
 pub use laws::missing_are_told;
-pub use missing::tell_missing;
+pub use missing::{is_next, tell_missing};
+pub use same::{same_reason, word_place};

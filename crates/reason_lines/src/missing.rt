@@ -39,7 +39,7 @@ fn alike(a: &CellRun, b: &CellRun) -> bool
 }
 
 /// Whether a PRB is the next one.
-pub(crate) fn is_next(prb: u16, next: u16) -> bool
+pub fn is_next(prb: u16, next: u16) -> bool
     ensures { result ≡ (prb + 1 == next) }
 {
     u32::from(prb) + 1 == u32::from(next)

@@ -6,7 +6,7 @@ ghost use Rattle.explain_reasons.specs.Same.{detail_of, from_of, pieces_of, plac
 use explain_lines::Reason;
 
 /// The place of a reason's first word among all words.
-pub(crate) fn word_place(reason: &Reason) -> u8
+pub fn word_place(reason: &Reason) -> u8
     ensures { result ≡ place_of (word_of reason.now) }
 {
     match reason {
@@ -93,7 +93,7 @@ fn pieces_of(reason: &Reason) -> usize
 }
 
 /// Whether two reasons read the same.
-pub(crate) fn same_reason(a: &Reason, b: &Reason) -> bool
+pub fn same_reason(a: &Reason, b: &Reason) -> bool
     ensures { result ≡ same_reason a.now b.now }
 {
     word_place(a) == word_place(b)

@@ -109,7 +109,8 @@ impl<R: Keyed + Drop> OrderedRecords<R> {
 
     /// All records, in the order of their keys.
     pub fn as_slice(&self) -> &[R]
-        ensures { result.now ≡ self.now }
+        ensures all { result.now ≡ self.now }
+        ensures order { AreInOrder R.key_of result.now }
     {
         self.records.as_slice()
     }
