@@ -1,0 +1,16 @@
+-- How far a sink took some lines, where memory may be wanted between two of them.
+use Rattle.std.specs.Prelude.{◌≡◌, List, ◌++◌}
+use Rattle.explain_lines.specs.declared.values.ExplainLine.{ExplainLine}
+use Rattle.line_runs.specs.Stops.{StopsInLine}
+
+-- the sink took the first of these lines, and then no more
+pub record StopsBetween {A : Type 0} (grew : A → List ExplainLine → A → Type 0) (lines : List ExplainLine) (old new : A) : Type 0 where
+  pub before : List ExplainLine
+  pub after : List ExplainLine
+  pub is : lines ≡ before ++ after
+  pub heard : grew old before new
+
+-- it did so, or it stopped in one of them
+pub data StopsSome {A : Type 0} (grew : A → List ExplainLine → A → Type 0) (stopped : A → ExplainLine → A → Type 0) (lines : List ExplainLine) (old new : A) : Type 0 where
+  Between : StopsBetween grew lines old new → StopsSome grew stopped lines old new
+  Within : StopsInLine grew stopped lines old new → StopsSome grew stopped lines old new
