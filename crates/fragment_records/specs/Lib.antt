@@ -1,0 +1,9 @@
+pub use Rattle.explain_heard
+pub use Rattle.explain_reasons
+pub use Rattle.reason_records
+pub mod Places
+pub mod Beginnings
+pub mod Turns
+pub mod Tables
+pub mod Recorded
+pub mod Units

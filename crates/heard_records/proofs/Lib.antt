@@ -1,0 +1,5 @@
+mod KeptLemmas
+mod WalkLemmas
+mod StoryLemmas
+mod OrderLemmas
+pub mod SoundLemmas
