@@ -1,0 +1,7 @@
+pub mod OrderLemmas
+pub mod StartLemmas
+pub mod ShownLemmas
+pub mod TextLemmas
+pub mod TellLemmas
+pub mod RecordLemmas
+pub mod ProperLemmas

@@ -1,0 +1,7 @@
+pub use Rattle.explain_records
+pub use Rattle.reason_lines
+pub mod Starts
+pub mod Unused
+pub mod UnusedSteps
+pub mod Stops
+pub mod Laws
