@@ -1,0 +1,5 @@
+pub mod ArrivalLemmas
+pub mod ListLemmas
+pub mod AcceptedLemmas
+pub mod HeardLemmas
+pub mod SilentLemmas

@@ -1,0 +1,2 @@
+pub use Rattle.explain_reasons
+pub mod Silent
