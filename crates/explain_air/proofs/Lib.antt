@@ -1,0 +1,15 @@
+pub mod AirLemmas
+pub mod AirSteps
+pub mod ArrivalLemmas
+pub mod BeginLemmas
+pub mod CellLemmas
+pub mod ClosingLemmas
+pub mod EndLemmas
+pub mod FirstLemmas
+pub mod FitLemmas
+pub mod Fronts
+pub mod KeptLemmas
+pub mod NotingLemmas
+pub mod RunLemmas
+pub mod SoundLemmas
+pub mod Stopping

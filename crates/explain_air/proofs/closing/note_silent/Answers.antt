@@ -1,0 +1,9 @@
+use Rattle.std.proofs.Common.{rules, ◌≡◌}
+use Rattle.std.proofs.lemmas.Result.{IfErr-weaker}
+use Rattle.explain_air.proofs.NotingLemmas.{noting_line_stops}
+use Rattle.explain_air.proofs.closing.note_silent.Goals as goal
+
+pub returns-clause-stop : goal.returns-clause-stop
+returns-clause-stop g c =
+    let told = IfErr-weaker c.tell_silent.result _ _ (λ f stop. noting_line_stops g.W.LineSink.grew (g.W.LineSink.stopped f) g.met.W.LineSink.grew_more _ _ _ stop) c.tell_silent.ensures.stop in
+    search (rules, told)

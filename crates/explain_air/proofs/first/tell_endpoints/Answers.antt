@@ -1,0 +1,39 @@
+-- One after the other.
+use Rattle.std.proofs.Common.{List, refl, ap, subst, ◌∙◌}
+use Rattle.std.specs.List.{flat_map}
+use Rattle.explain_air.proofs.FirstLemmas.{one_of, ones_are}
+use Rattle.explain_lines.specs.declared.values.ExplainLine.{ExplainLine}
+use Rattle.explain_lines.specs.declared.values.ExplainLine.TheVariants as line
+use Rattle.explain_records.proofs.NearestLemmas.{take_all}
+use Rattle.line_runs.specs.Stops.{StopsInLine}
+use Rattle.unused_lines.proofs.TellLemmas.{grew_next, stops_next}
+use Rattle.explain_units.proofs.StopLemmas.{in_one}
+use Rattle.explain_air.proofs.first.tell_endpoints.Goals as goal
+
+pub loop-endpoint-init : goal.loop-endpoint-init
+loop-endpoint-init g c = record {
+  heard = g.met.W.LineSink.grew_none c.args.out.now;
+  same = g.met.W.LineSink.same_none c.args.out.now;
+  still = refl;
+}
+
+pub loop-endpoint-preserved : goal.loop-endpoint-preserved
+loop-endpoint-preserved g c = record {
+  heard =
+      grew_next g.W.LineSink.grew g.met.W.LineSink.grew_more (one_of line.Endpoint) c.args.endpoints.now c.loop-endpoint.endpoint-index c.endpoint-item.result
+      c.loop-endpoint-test.true c.endpoint-item.is c.args.out.now c.loop-endpoint.out c.put.new.self c.loop-endpoint.invariant.heard c.in-Ok.ensures.heard;
+  same = g.met.W.LineSink.same_more _ _ _ c.loop-endpoint.invariant.same c.in-Ok.ensures.same;
+  still = c.in-Ok.ensures.cause ∙ c.loop-endpoint.invariant.still;
+}
+
+pub returns-in-Err-clause-stop : goal.returns-in-Err-clause-stop
+returns-in-Err-clause-stop g c =
+    subst (λ (ls : List ExplainLine). StopsInLine g.W.LineSink.grew (g.W.LineSink.stopped c.in-Err.fault) ls c.args.out.now c.put.new.self) (ones_are line.Endpoint c.args.endpoints.now)
+    (stops_next g.W.LineSink.grew g.met.W.LineSink.grew_more (one_of line.Endpoint) (g.W.LineSink.stopped c.in-Err.fault) c.args.endpoints.now
+    c.loop-endpoint.endpoint-index c.endpoint-item.result c.loop-endpoint-test.true c.endpoint-item.is c.args.out.now c.loop-endpoint.out c.put.new.self c.loop-endpoint.invariant.heard
+    (in_one g.W.LineSink.grew (g.W.LineSink.stopped c.in-Err.fault) g.met.W.LineSink.grew_none _ c.loop-endpoint.out c.put.new.self c.in-Err.ensures.stop))
+
+pub returns-clause-heard : goal.returns-clause-heard
+returns-clause-heard g c =
+    subst (λ (ls : List ExplainLine). g.W.LineSink.grew c.args.out.now ls c.loop-endpoint.out)
+    (ap (flat_map (one_of line.Endpoint)) (take_all c.args.endpoints.now c.loop-endpoint.endpoint-index c.loop-endpoint-test.false) ∙ ones_are line.Endpoint c.args.endpoints.now) c.loop-endpoint.invariant.heard

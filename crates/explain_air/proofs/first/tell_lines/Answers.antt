@@ -1,0 +1,38 @@
+-- One after the other.
+use Rattle.std.proofs.Common.{List, refl, ap, subst, ◌∙◌}
+use Rattle.std.specs.List.{flat_map}
+use Rattle.explain_air.proofs.FirstLemmas.{all_itself, itself, one_of}
+use Rattle.explain_lines.specs.declared.values.ExplainLine.{ExplainLine}
+use Rattle.explain_records.proofs.NearestLemmas.{take_all}
+use Rattle.line_runs.specs.Stops.{StopsInLine}
+use Rattle.unused_lines.proofs.TellLemmas.{grew_next, stops_next}
+use Rattle.explain_units.proofs.StopLemmas.{in_one}
+use Rattle.explain_air.proofs.first.tell_lines.Goals as goal
+
+pub loop-line-init : goal.loop-line-init
+loop-line-init g c = record {
+  heard = g.met.W.LineSink.grew_none c.args.out.now;
+  same = g.met.W.LineSink.same_none c.args.out.now;
+  still = refl;
+}
+
+pub loop-line-preserved : goal.loop-line-preserved
+loop-line-preserved g c = record {
+  heard =
+      grew_next g.W.LineSink.grew g.met.W.LineSink.grew_more (one_of itself) c.args.lines.now c.loop-line.line-index c.line-item.result
+      c.loop-line-test.true c.line-item.is c.args.out.now c.loop-line.out c.put.new.self c.loop-line.invariant.heard c.in-Ok.ensures.heard;
+  same = g.met.W.LineSink.same_more _ _ _ c.loop-line.invariant.same c.in-Ok.ensures.same;
+  still = c.in-Ok.ensures.cause ∙ c.loop-line.invariant.still;
+}
+
+pub returns-in-Err-clause-stop : goal.returns-in-Err-clause-stop
+returns-in-Err-clause-stop g c =
+    subst (λ (ls : List ExplainLine). StopsInLine g.W.LineSink.grew (g.W.LineSink.stopped c.in-Err.fault) ls c.args.out.now c.put.new.self) (all_itself c.args.lines.now)
+    (stops_next g.W.LineSink.grew g.met.W.LineSink.grew_more (one_of itself) (g.W.LineSink.stopped c.in-Err.fault) c.args.lines.now
+    c.loop-line.line-index c.line-item.result c.loop-line-test.true c.line-item.is c.args.out.now c.loop-line.out c.put.new.self c.loop-line.invariant.heard
+    (in_one g.W.LineSink.grew (g.W.LineSink.stopped c.in-Err.fault) g.met.W.LineSink.grew_none _ c.loop-line.out c.put.new.self c.in-Err.ensures.stop))
+
+pub returns-clause-heard : goal.returns-clause-heard
+returns-clause-heard g c =
+    subst (λ (ls : List ExplainLine). g.W.LineSink.grew c.args.out.now ls c.loop-line.out)
+    (ap (flat_map (one_of itself)) (take_all c.args.lines.now c.loop-line.line-index c.loop-line-test.false) ∙ all_itself c.args.lines.now) c.loop-line.invariant.heard

@@ -1,0 +1,75 @@
+-- What a contract sees of the air that writes an explanation (this project's profile).
+use Rattle.std.specs.Prelude.{◌≡◌, ℕ, Bool, true, false, List, [], ◌∷◌, ◌++◌, ◌⊎◌, Option, Some, None}
+use Rattle.std.specs.Borrow.{GName}
+use Rattle.air_source.specs.declared.events.Event.{Event}
+use Rattle.explain_air.specs.Heard.{HasHeard}
+use Rattle.explain_air.specs.Outs.{Took, kept_text}
+use Rattle.explain_air.specs.declared.air.ExplainAir.{ExplainAir}
+use Rattle.explain_air.specs.declared.kept.Kept.{Kept}
+use Rattle.explain_growth.specs.Subjects.{Subject, counted_lines, counts_last, ending, has_count, open_lines, reasons_of}
+use Rattle.explain_lines.specs.Lines.{line_text}
+use Rattle.explain_lines.specs.declared.values.ExplainLine.{ExplainLine}
+use Rattle.explain_lines.specs.declared.values.ExplainLine.TheVariants as line
+use Rattle.explain_model.specs.Text.{explain_of}
+use Rattle.fh_base.specs.Told.{WritesFront, WritesPart}
+use Rattle.owed_bytes.specs.Owed.{Carried}
+
+module _ {K : Type 0} where
+  abbrev pub sink_name : ExplainAir K → GName
+  sink_name a = a.sink.ghost_name
+
+  abbrev pub sink_of : ExplainAir K → K
+  sink_of a = a.sink.now
+
+  abbrev pub owed_of : ExplainAir K → List ℕ
+  owed_of a = a.owed
+
+-- ---- the text so far
+
+-- the first line, and of these lines the ones that are kept
+abbrev pub text_of : Bool → List ExplainLine → List ℕ
+text_of faults lines = line_text (line.Head faults) ++ kept_text faults lines
+
+-- ---- how an air is after events, by what it keeps, and what its sink holds and is owed
+
+pub record IsOpen (s : Subject) (faults : Bool) (base : Option (List ℕ)) (events : List Event) (which : Bool) (kept : Option Kept) (written : Option (List ℕ)) (owed : List ℕ) : Type 0 where
+  pub which_is : which ≡ faults
+  pub kept_one : Kept
+  pub kept_is : kept ≡ Some kept_one
+  pub heard : HasHeard s events kept_one
+  pub plain : has_count events ≡ false
+  pub carried : Carried base [] (text_of faults (open_lines s events)) written owed
+
+pub record IsClosed (s : Subject) (faults : Bool) (base : Option (List ℕ)) (events : List Event) (which : Bool) (kept : Option Kept) (written : Option (List ℕ)) (owed : List ℕ) : Type 0 where
+  pub which_is : which ≡ faults
+  pub kept_is : kept ≡ None
+  pub counted : has_count events ≡ true
+  pub carried : Carried base [] (text_of faults (counted_lines s events)) written owed
+
+abbrev pub IsAfter : Subject → Bool → Option (List ℕ) → List Event → Bool → Option Kept → Option (List ℕ) → List ℕ → Type 0
+IsAfter s faults base events which kept written owed = IsOpen s faults base events which kept written owed ⊎ IsClosed s faults base events which kept written owed
+
+-- ---- what an air does
+
+-- whatever it heard before, it heard these events behind that
+pub record Grew (which : Bool) (kept : Option Kept) (written : Option (List ℕ)) (owed : List ℕ) (events : List Event) (which_now : Bool) (kept_now : Option Kept) (now : Option (List ℕ)) (owed_now : List ℕ) : Type 0 where
+  pub after : (s : Subject) (faults : Bool) (base : Option (List ℕ)) (earlier : List Event) → IsAfter s faults base earlier which kept written owed
+      → IsAfter s faults base (earlier ++ events) which_now kept_now now owed_now
+
+-- whatever it heard before and whatever follows, a front of the whole text was written, and not all
+pub record Stopped (which : Bool) (kept : Option Kept) (written : Option (List ℕ)) (owed : List ℕ) (e : Event) (now : Option (List ℕ)) : Type 0 where
+  pub part : (s : Subject) (faults : Bool) (base : Option (List ℕ)) (earlier later : List Event) → IsAfter s faults base earlier which kept written owed
+      → counts_last (earlier ++ e ∷ later) ≡ true
+      → WritesPart base now (explain_of faults s.config (reasons_of s (earlier ++ e ∷ later)) (earlier ++ e ∷ later))
+
+-- ---- the end of what is kept
+
+-- what was kept of some events is told in the lines that stand before the counters; where nothing is kept, nothing is told
+pub record Closes (written : Option (List ℕ)) (owed : List ℕ) (which : Bool) (kept : Option Kept) (now : Option (List ℕ)) (owed_now : List ℕ) (which_now : Bool) : Type 0 where
+  pub some : (k : Kept) (s : Subject) (events : List Event) → kept ≡ Some k → HasHeard s events k → Took which written owed (ending s events) which_now now owed_now
+  pub none : kept ≡ None → Took which written owed [] which_now now owed_now
+
+-- or in part
+pub record ClosesPart (written : Option (List ℕ)) (owed : List ℕ) (which : Bool) (kept : Option Kept) (now : Option (List ℕ)) : Type 0 where
+  pub some : (k : Kept) (s : Subject) (events : List Event) → kept ≡ Some k → HasHeard s events k → WritesFront written now (owed ++ kept_text which (ending s events))
+  pub none : kept ≡ None → WritesFront written now owed

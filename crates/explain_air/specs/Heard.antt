@@ -1,0 +1,41 @@
+-- What is kept of events until the last of them (this project's profile).
+use Rattle.std.specs.Prelude.{◌≡◌, ℕ, suc, List, None}
+use Rattle.air_source.specs.declared.events.Event.{Event}
+use Rattle.air_source.specs.declared.events.Side.TheVariants.{Ru, Du}
+use Rattle.air_source.specs.declared.events.Side.{Side}
+use Rattle.explain_air.specs.Notes.{AreNotes, HasNoted}
+use Rattle.explain_air.specs.Runs.{open_of}
+use Rattle.explain_air.specs.declared.kept.Kept.{Kept}
+use Rattle.explain_air.specs.declared.runs.RunLines.{RunLines}
+use Rattle.explain_growth.specs.Subjects.{Subject}
+use Rattle.explain_lines.specs.declared.values.ExplainLine.{ExplainLine}
+use Rattle.explain_model.specs.Cells.{closed_lines, open_run, run_lines}
+use Rattle.explain_model.specs.Stories.{arrival_count, stories}
+use Rattle.explain_units.specs.Units.{IsUnitAfter, frame_lines}
+use Rattle.fh_time.specs.declared.values.Ticks.{Ticks}
+use Rattle.heard_records.specs.Records.{HaveHeard}
+use Rattle.plan_model.specs.Lines.{planned}
+use Rattle.window_config.specs.Configs.{IsConfig}
+
+-- it is what is kept of these events
+pub record HasHeard (s : Subject) (events : List Event) (k : Kept) : Type 0 where
+  pub config : IsConfig s.config
+  pub number : k.number ≡ arrival_count events
+  pub ru : IsUnitAfter Ru s.config events k.ru
+  pub du : IsUnitAfter Du s.config events k.du
+  pub run : open_of k.runs ≡ open_run s.config events
+  pub notes : AreNotes s.config.endpoints (closed_lines s.config events) k.runs.notes
+  pub records : HaveHeard s.config (stories s.config events) k.records
+  pub planned : k.plan.planned ≡ planned s.config.endpoints s.plan
+  pub numbers : k.plan.numbers ≡ s.numbers
+
+-- the run of the last cells was ended, and its line told
+pub record HasEnded (s : Subject) (events : List Event) (k : Kept) : Type 0 where
+  pub before : RunLines
+  pub heard : HasHeard s events (record k { runs = before })
+  pub none : open_of k.runs ≡ None
+  pub noted : HasNoted before.notes (run_lines (open_of before)) k.runs.notes
+
+-- the lines of a frame that arrives then
+abbrev pub lines_at : Subject → List Event → Side → Ticks → List ℕ → List ExplainLine
+lines_at s events side at frame = frame_lines side s.config events (suc (arrival_count events)) at.0 frame

@@ -1,0 +1,11 @@
+pub mod Plans
+pub mod Outs
+pub mod OutLaws
+pub mod Notes
+pub mod NoteLaws
+pub mod Notings
+pub mod Runs
+pub mod Heard
+pub mod Closing
+pub mod Airs
+pub mod AirLaws

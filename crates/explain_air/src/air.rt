@@ -1,0 +1,261 @@
+// The air that writes an explanation.
+ghost use Rattle.std.specs.Prelude.{◌≡◌, ℕ, Bool, Option, [], ◌∷◌, ◌++◌, Some, None, refl, List, OnErr, OnOk, IfErr};
+ghost use Rattle.std.proofs.Common.{◌∙◌};
+ghost use Rattle.std.specs.Io.KnownBytes.{append_known};
+ghost use Rattle.air_source.specs.Causes.{HasAirCause};
+ghost use Rattle.air_source.specs.declared.events.Event.{Event};
+ghost use Rattle.explain_air.specs.AirLaws.{grew_more, grew_none};
+ghost use Rattle.explain_air.specs.Airs.{Closes, ClosesPart, Grew, IsAfter, Stopped};
+ghost use Rattle.explain_air.specs.Heard.{HasHeard};
+ghost use Rattle.explain_growth.specs.Subjects.{Subject, reasons_of};
+ghost use Rattle.explain_lines.specs.declared.values.ExplainLine.TheVariants as line;
+ghost use Rattle.explain_air.specs.Outs.{Took, kept_text};
+ghost use Rattle.explain_air.specs.declared.kept.Kept.{Kept as SpecKept};
+ghost use Rattle.explain_model.specs.Text.{explain_of, first_lines};
+ghost use Rattle.fh_base.specs.Told.{WritesFront, WritesPart};
+ghost use Rattle.window_config.specs.Configs.{IsConfig};
+
+use crate::first::tell_first;
+use crate::kept::Kept;
+use crate::out::LineOut;
+use air_sinks::push_out;
+use air_source::{Air, AirCell, AirFault, Side};
+use explain_lines::ExplainLine;
+use fault_counters::Counter;
+use fh_base::Sink;
+use fh_time::Ticks;
+use line_runs::LineSink;
+use owed_bytes::OwedBytes;
+use std::alloc::Global;
+use text_lines::Line;
+use window_config::Config;
+
+/// An air that writes an explanation to a sink that it borrows: all lines, or those of the text of the faults alone.
+///
+/// It owes up to 8,192 bytes to the sink. [`begin`](ExplainAir::begin) writes what stands before the events,
+/// [`finish`](ExplainAir::finish) what stands behind them and what is owed.
+#[derive(Drop)]
+pub struct ExplainAir<'a, K> {
+    alloc: Global,
+    sink: &'a mut K,
+    owed: OwedBytes,
+    // the line that is told next, which is written where it stands
+    line: Line,
+    faults: bool,
+    // what is kept of the events, until the first counter
+    kept: Option<Kept>,
+}
+
+impl<'a, K: Sink> ExplainAir<'a, K> {
+    ghost use Rattle.explain_air.specs.Airs.{sink_name, sink_of, owed_of};
+
+    /// An air that heard what is kept, wrote nothing and owes nothing.
+    pub fn over(alloc: Global, kept: Kept, faults: bool, sink: &'a mut K) -> ExplainAir<'a, K>
+        ensures reference { sink_name result ≡ sink.entry.ghost_name }
+        ensures unchanged { sink_of result ≡ sink.old }
+        ensures owed { owed_of result ≡ [] }
+        ensures kept { result.kept ≡ Some kept }
+        ensures faults { result.faults ≡ faults }
+    {
+        ExplainAir {
+            alloc,
+            sink,
+            owed: OwedBytes::new(),
+            line: Line::new(),
+            faults,
+            kept: Some(kept),
+        }
+    }
+
+    // Owes a line, where it stands in the text.
+    fn say(&mut self, line: &ExplainLine) -> Result<(), AirFault>
+        ensures reference { sink_name self.new ≡ sink_name self.old }
+        ensures kept { self.new.kept ≡ self.old.kept }
+        ensures took { OnOk result (Took self.old.faults (K.written (sink_of self.old)) (owed_of self.old) (line.now ∷ []) self.new.faults (K.written (sink_of self.new)) (owed_of self.new)) }
+        ensures stop { OnErr result (WritesPart (K.written (sink_of self.old)) (K.written (sink_of self.new)) (owed_of self.old ++ kept_text self.old.faults (line.now ∷ []))) }
+        ensures cause { HasAirCause (K.faults (sink_of self.old)) (K.faults (sink_of self.new)) result }
+    {
+        let mut out = LineOut {
+            sink: &mut *self.sink,
+            owed: &mut self.owed,
+            line: &mut self.line,
+            faults: self.faults,
+        };
+        out.put(line)
+    }
+
+    // Tells the lines that stand before the counters, where they are not told yet.
+    fn close(&mut self) -> Result<(), AirFault>
+        ensures reference { sink_name self.new ≡ sink_name self.old }
+        ensures kept { OnOk result (self.new.kept ≡ None) }
+        ensures took { OnOk result (Closes (K.written (sink_of self.old)) (owed_of self.old) self.old.faults self.old.kept (K.written (sink_of self.new)) (owed_of self.new) self.new.faults) }
+        ensures stop { IfErr result (λ _. ClosesPart (K.written (sink_of self.old)) (owed_of self.old) self.old.faults self.old.kept (K.written (sink_of self.new))) }
+        ensures cause { HasAirCause (K.faults (sink_of self.old)) (K.faults (sink_of self.new)) result }
+    {
+        match self.kept.take() {
+            None => Ok(()),
+            Some(kept) => {
+                let mut out = LineOut {
+                    sink: &mut *self.sink,
+                    owed: &mut self.owed,
+                    line: &mut self.line,
+                    faults: self.faults,
+                };
+                kept.close(self.alloc, &mut out)
+            }
+        }
+    }
+
+    // Owes the lines of the configuration.
+    fn tell_config(&mut self, config: &Config) -> Result<(), AirFault>
+        requires { IsConfig config.now }
+        ensures reference { sink_name self.new ≡ sink_name self.old }
+        ensures kept { self.new.kept ≡ self.old.kept }
+        ensures took { OnOk result (Took self.old.faults (K.written (sink_of self.old)) (owed_of self.old) (first_lines config.now) self.new.faults (K.written (sink_of self.new)) (owed_of self.new)) }
+        ensures stop { IfErr result (λ _. WritesFront (K.written (sink_of self.old)) (K.written (sink_of self.new)) (owed_of self.old ++ kept_text self.old.faults (first_lines config.now))) }
+        ensures cause { HasAirCause (K.faults (sink_of self.old)) (K.faults (sink_of self.new)) result }
+    {
+        let mut out = LineOut {
+            sink: &mut *self.sink,
+            owed: &mut self.owed,
+            line: &mut self.line,
+            faults: self.faults,
+        };
+        tell_first(config, &mut out)
+    }
+
+    /// Writes or owes what stands before the events: the first line, and the lines of the configuration.
+    ///
+    /// # Errors
+    ///
+    /// `Failed` exactly where the sink's count of faults rose, `NoMemory` where memory runs out. A front part of the text was written.
+    pub fn begin(&mut self, config: &Config) -> Result<(), AirFault>
+        requires config { IsConfig config.now }
+        requires owed { owed_of self.old ≡ [] }
+        ensures reference { sink_name self.new ≡ sink_name self.old }
+        ensures heard { OnOk result ((s : Subject) (k : SpecKept) → s.config ≡ config.now → self.old.kept ≡ Some k → HasHeard s [] k
+            → IsAfter s self.old.faults (K.written (sink_of self.old)) [] self.new.faults self.new.kept (K.written (sink_of self.new)) (owed_of self.new)) }
+        ensures part { OnErr result ((s : Subject) (events : List Event) → s.config ≡ config.now
+            → WritesPart (K.written (sink_of self.old)) (K.written (sink_of self.new)) (explain_of self.old.faults s.config (reasons_of s events) events)) }
+        ensures cause { HasAirCause (K.faults (sink_of self.old)) (K.faults (sink_of self.new)) result }
+    {
+        let faults = self.faults;
+        self.say(&ExplainLine::Head { faults })?;
+        self.tell_config(config)
+    }
+
+    /// Writes what is owed, what stands behind the last event and the line `end`, and then owes nothing.
+    ///
+    /// # Errors
+    ///
+    /// `Failed` exactly where the sink's count of faults rose, `NoMemory` where memory runs out. A front part of the text was written.
+    pub fn finish(&mut self) -> Result<(), AirFault>
+        ensures reference { sink_name self.new ≡ sink_name self.old }
+        ensures all { OnOk result ((s : Subject) (faults : Bool) (base : Option (List ℕ)) (events : List Event) → IsAfter s faults base events self.old.faults self.old.kept (K.written (sink_of self.old)) (owed_of self.old)
+            → K.written (sink_of self.new) ≡ append_known base (explain_of faults s.config (reasons_of s events) events)) }
+        ensures part { OnErr result ((s : Subject) (faults : Bool) (base : Option (List ℕ)) (events : List Event) → IsAfter s faults base events self.old.faults self.old.kept (K.written (sink_of self.old)) (owed_of self.old)
+            → WritesPart base (K.written (sink_of self.new)) (explain_of faults s.config (reasons_of s events) events)) }
+        ensures cause { HasAirCause (K.faults (sink_of self.old)) (K.faults (sink_of self.new)) result }
+    {
+        self.close()?;
+        self.say(&ExplainLine::End)?;
+        push_out(&mut self.owed, self.sink)
+    }
+
+    /// Lets the air go, and gives the reference to the sink back.
+    pub fn into_sink(self) -> &'a mut K
+        ensures reference { result.ghost_name ≡ sink_name self.entry }
+        ensures unchanged { result.now ≡ sink_of self.entry }
+    {
+        let ExplainAir {
+            alloc: _,
+            sink,
+            owed,
+            line,
+            faults: _,
+            kept,
+        } = self;
+        drop(owed);
+        drop(line);
+        drop(kept);
+        sink
+    }
+}
+
+impl<'a, K: Sink> Air for ExplainAir<'a, K> {
+    ghost use Rattle.explain_air.specs.Airs.{sink_name, sink_of, owed_of};
+
+    ghost faults = { λ a. K.faults (sink_of a) };
+
+    ghost grew = { λ a events b. Grew a.faults a.kept (K.written (sink_of a)) (owed_of a) events b.faults b.kept (K.written (sink_of b)) (owed_of b) };
+
+    ghost stopped = { λ _ a event b. Stopped a.faults a.kept (K.written (sink_of a)) (owed_of a) event (K.written (sink_of b)) };
+
+    ghost same = { λ a b. sink_name b ≡ sink_name a };
+
+    ghost grew_none = { λ a. grew_none a.faults a.kept (K.written (sink_of a)) (owed_of a) };
+
+    ghost grew_more = { λ a b c first second. grew_more a.faults b.faults c.faults a.kept b.kept c.kept (K.written (sink_of a)) (K.written (sink_of b)) (K.written (sink_of c)) (owed_of a) (owed_of b) (owed_of c) first second };
+
+    ghost same_none = { λ a. refl };
+
+    ghost same_more = { λ a b c first second. second ∙ first };
+
+    /// Hears a cell: where it ends a run, the line of that is written or owed.
+    fn cell(&mut self, c: &AirCell) -> Result<(), AirFault> {
+        match &mut self.kept {
+            None => Err(AirFault::NoMemory),
+            Some(kept) => {
+                let mut out = LineOut {
+                    sink: &mut *self.sink,
+                    owed: &mut self.owed,
+                    line: &mut self.line,
+                    faults: self.faults,
+                };
+                kept.cell(c, &mut out)
+            }
+        }
+    }
+
+    /// Hears a measured delay: its line is written or owed.
+    fn delay(&mut self, at: Ticks, side: Side, id: u8, value: i128) -> Result<(), AirFault> {
+        match &mut self.kept {
+            None => Err(AirFault::NoMemory),
+            Some(kept) => {
+                let mut out = LineOut {
+                    sink: &mut *self.sink,
+                    owed: &mut self.owed,
+                    line: &mut self.line,
+                    faults: self.faults,
+                };
+                kept.delay(at, side, id, value, &mut out)
+            }
+        }
+    }
+
+    /// Hears a frame: its line and those of what its unit judges of it are written or owed.
+    fn arrival(&mut self, side: Side, at: Ticks, frame: &[u8]) -> Result<(), AirFault> {
+        match &mut self.kept {
+            None => Err(AirFault::NoMemory),
+            Some(kept) => {
+                let mut out = LineOut {
+                    sink: &mut *self.sink,
+                    owed: &mut self.owed,
+                    line: &mut self.line,
+                    faults: self.faults,
+                };
+                kept.arrival(side, at, frame, &mut out)
+            }
+        }
+    }
+
+    /// Hears the value of a counter: what stands before the counters and its line are written or owed.
+    fn count(&mut self, side: Side, counter: Counter, value: u64) -> Result<(), AirFault> {
+        self.close()?;
+        self.say(&ExplainLine::Count {
+            side,
+            counter,
+            value,
+        })
+    }
+}

@@ -1,0 +1,5 @@
+pub mod DocumentLemmas
+pub mod EventLemmas
+pub mod NumberLemmas
+pub mod PlanLemmas
+pub mod TellLemmas
