@@ -5,9 +5,9 @@ use Rattle.std.specs.Str.{bytes_eq}
 use Rattle.std.specs.Str.Parse.{digits_value}
 use Rattle.std.proofs.lemmas.Bool.Decides.{nat_tests}
 use Rattle.text_lines.specs.Numbers.{is_decimal, number_in}
-use Rattle.command_words.specs.Words.{bare_command, command_of, command_with_one, command_with_three, command_with_two, count_in, frame_in, least_in, seed_in, slots_in, start_in, step_in, whose_in, with_both, with_frames}
+use Rattle.command_words.specs.Words.{bare_command, command_of, command_with_four, command_with_one, command_with_three, command_with_two, count_in, frame_in, whose_in, least_in, plain_in, seed_in, slots_in, start_in, step_in, subframe_in, subframes_in, with_both, with_frames, with_grid}
 use Rattle.command_words.specs.declared.commands.Command.{Command}
-use Rattle.command_words.specs.declared.commands.Command.TheVariants.{Replay, Summary, Capture, Show, Sent, Windows, Fit, Generate, Trial, Shared, Idle, Pcap, PcapCapture}
+use Rattle.command_words.specs.declared.commands.Command.TheVariants.{Replay, Summary, Capture, Show, Explain, Sent, Windows, Fit, Generate, Trial, Shared, Idle, DrawGrid, DrawWindows, Pcap, PcapCapture}
 use Rattle.command_words.proofs.Plain.{either}
 
 -- a seed of 32 bits, and from 1 to 400 slots
@@ -56,12 +56,16 @@ bare_limits w c e =
     either (bytes_eq w (codes "summary")) _ _ c e (of_some Summary c tt) (λ e.
     either (bytes_eq w (codes "capture")) _ _ c e (of_some Capture c tt) (λ e.
     either (bytes_eq w (codes "show")) _ _ c e (of_some (Show false) c tt) (λ e.
+    either (bytes_eq w (codes "explain")) _ _ c e (of_some (Explain false) c tt) (λ e.
     either (bytes_eq w (codes "sent")) _ _ c e (of_some Sent c tt) (λ e.
     either (bytes_eq w (codes "windows")) _ _ c e (of_some Windows c tt) (λ e.
-    either (bytes_eq w (codes "fit")) _ None c e (of_some Fit c tt) (λ e. cc)))))))
+    either (bytes_eq w (codes "fit")) _ None c e (of_some Fit c tt) (λ e. cc))))))))
 
 one_limits : (w flag : List ℕ) (c : Command) → command_with_one w flag ≡ Some c → HasLimits c
-one_limits w flag c e = either (bytes_eq w (codes "show") && bytes_eq flag (codes "--json")) _ None c e (of_some (Show true) c tt) (λ e. cc)
+one_limits w flag c e =
+    either (bytes_eq w (codes "show") && bytes_eq flag (codes "--json")) _ _ c e (of_some (Show true) c tt) (λ e.
+    either (bytes_eq w (codes "explain") && bytes_eq flag (codes "--faults")) _ _ c e (of_some (Explain true) c tt) (λ e.
+    either (bytes_eq w (codes "draw") && bytes_eq flag (codes "windows")) _ None c e (of_some DrawWindows c tt) (λ e. cc)))
 
 both_limits : {A B : Type 0} (make : A → B → Command) (a : Option A) (b : Option B) (c : Command) → ((x : A) (y : B) → a ≡ Some x → b ≡ Some y → HasLimits (make x y))
     → with_both make a b ≡ Some c → HasLimits c
@@ -87,10 +91,21 @@ three_limits : (w first second third : List ℕ) (c : Command) → command_with_
 three_limits w first second third c e =
     either (bytes_eq w (codes "idle")) _ None c e (frames_limits (frame_in first) (frame_in second) (least_in third) c) (λ e. cc)
 
+grid_limits : (a b m : Option ℕ) (c : Command) → with_grid a b m ≡ Some c → HasLimits c
+grid_limits None b m c e = cc
+grid_limits (Some x) None m c e = cc
+grid_limits (Some x) (Some y) None c e = cc
+grid_limits (Some x) (Some y) (Some z) c e = of_some (DrawGrid x y z) c tt e
+
+four_limits : (w first second third fourth : List ℕ) (c : Command) → command_with_four w first second third fourth ≡ Some c → HasLimits c
+four_limits w first second third fourth c e =
+    either (bytes_eq w (codes "draw") && bytes_eq first (codes "grid")) _ None c e (grid_limits (plain_in 0 99999 second) (subframe_in third) (subframes_in fourth) c) (λ e. cc)
+
 pub limits_are : (ws : List (List ℕ)) (c : Command) → command_of ws ≡ Some c → HasLimits c
 limits_are [] c e = cc
 limits_are (a ∷ []) c e = bare_limits a c e
 limits_are (a ∷ b ∷ []) c e = one_limits a b c e
 limits_are (a ∷ b ∷ d ∷ []) c e = two_limits a b d c e
 limits_are (a ∷ b ∷ d ∷ f ∷ []) c e = three_limits a b d f c e
-limits_are (a ∷ b ∷ d ∷ f ∷ g ∷ ws) c e = cc
+limits_are (a ∷ b ∷ d ∷ f ∷ g ∷ []) c e = four_limits a b d f g c e
+limits_are (a ∷ b ∷ d ∷ f ∷ g ∷ h ∷ ws) c e = cc

@@ -4,7 +4,6 @@ use Rattle.std.specs.Prelude.{Some, None, Option, ◌==◌, ◌%◌, ◌/◌, if
 use Rattle.hex.specs.Hex.{◌>>=◌, decode_pairs, digit_or_error, hex_digit_value, value_at}
 use Rattle.hex.specs.declared.error.FromHexError.{FromHexError}
 use Rattle.hex.specs.declared.error.FromHexError.TheVariants.{OddLength, InvalidStringLength}
-use Rattle.pcap_frames.specs.declared.values.Whose.{Whose}
 use Rattle.std.specs.Str.{bytes_eq, IsAscii}
 use Rattle.std.specs.List.{list_all}
 use Rattle.std.specs.Str.Parse.{digits_value}
@@ -14,9 +13,10 @@ use Rattle.std.proofs.lemmas.Bool.Decides.{nat_tests}
 use Rattle.air_source.specs.declared.events.Side.{Side}
 use Rattle.air_source.specs.declared.events.Side.TheVariants.{Ru, Du}
 use Rattle.text_lines.specs.Numbers.{number_in, is_decimal, word_at}
-use Rattle.command_words.specs.Words.{address_in, bare_command, bytes_in, command_of, command_with_one, command_with_three, command_with_two, count_in, frame_in, least_in, seed_in, slots_in, start_in, step_in, way_in, whose_by, whose_in, with_both, with_frames}
+use Rattle.command_words.specs.Words.{address_in, bare_command, bytes_in, command_of, command_with_four, command_with_one, command_with_three, command_with_two, count_in, frame_in, whose_by, whose_in, least_in, plain_in, seed_in, slots_in, start_in, step_in, subframe_in, subframes_in, way_in, with_both, with_frames, with_grid}
 use Rattle.command_words.specs.declared.commands.Command.{Command}
-use Rattle.command_words.specs.declared.commands.Command.TheVariants.{Replay, Summary, Capture, Show, Sent, Windows, Fit, Generate, Trial, Shared, Pcap, PcapCapture}
+use Rattle.command_words.specs.declared.commands.Command.TheVariants.{Replay, Summary, Capture, Show, Explain, Sent, Windows, Fit, Generate, Trial, Shared, Pcap, PcapCapture}
+use Rattle.pcap_frames.specs.declared.values.Whose.{Whose}
 use Rattle.command_words.proofs.Walks.{IsPlainWord, plain_word_is}
 use Rattle.fh_time.specs.declared.nanoseconds.TheConstants.{LAST_TIME}
 use Rattle.fh_time.proofs.Orders.{is_false as not_true, both as both_true}
@@ -86,9 +86,10 @@ bare_plain w c e =
     literal_or (codes "summary") w (Some Summary) _ c refl e (λ e.
     literal_or (codes "capture") w (Some Capture) _ c refl e (λ e.
     literal_or (codes "show") w (Some (Show false)) _ c refl e (λ e.
+    literal_or (codes "explain") w (Some (Explain false)) _ c refl e (λ e.
     literal_or (codes "sent") w (Some Sent) _ c refl e (λ e.
     literal_or (codes "windows") w (Some Windows) _ c refl e (λ e.
-    literal_or (codes "fit") w (Some Fit) None c refl e (λ e. cc)))))))
+    literal_or (codes "fit") w (Some Fit) None c refl e (λ e. cc))))))))
 
 way_plain : (w : List ℕ) (side : Side) → way_in w ≡ Some side → is_plain w ≡ true
 way_plain w side e =
@@ -235,14 +236,41 @@ three_plain w first second third c e =
     let word : is_plain w ≡ true = literal_or (codes "idle") w _ _ c refl e (λ e. cc) in
     (word, number_plain (length first) 1 99999 all.0.0 first all.0.1, number_plain (length second) 1 99999 all.1.0 second all.1.1, number_plain (length third) 1 9999 all.2.0 third all.2.1)
 
--- two words are the word and the flag
-pub one_is : (w flag : List ℕ) (c : Command) → command_with_one w flag ≡ Some c → (w ≡ codes "show") × (flag ≡ codes "--json")
-one_is w flag c e = go (bytes_eq w (codes "show")) (bytes_eq flag (codes "--json")) refl refl e
+-- all three are there of which a picture was made
+grid_there : (a b m : Option ℕ) (c : Command) → with_grid a b m ≡ Some c → ((x : ℕ) × (a ≡ Some x)) × ((y : ℕ) × (b ≡ Some y)) × ((z : ℕ) × (m ≡ Some z))
+grid_there None b m c e = cc
+grid_there (Some x) None m c e = cc
+grid_there (Some x) (Some y) None c e = cc
+grid_there (Some x) (Some y) (Some z) c e = ((x, refl), (y, refl), (z, refl))
+
+-- where both words are literals, what that gives is wanted; or else the rest
+pub both_or : {X P : Type 0} (x y w v : List ℕ) (o rest : Option X) (c : X) → (if bytes_eq w x && bytes_eq v y then o else rest) ≡ Some c
+    → (w ≡ x → v ≡ y → o ≡ Some c → P) → (rest ≡ Some c → P) → P
+both_or {P = P} x y w v o rest c e f g = go (bytes_eq w x) (bytes_eq v y) refl refl e
   where
-    go : (s t : Bool) → bytes_eq w (codes "show") ≡ s → bytes_eq flag (codes "--json") ≡ t → (if s && t then Some (Show true) else None) ≡ Some c → (w ≡ codes "show") × (flag ≡ codes "--json")
-    go true true first second e = (same_text w (codes "show") first, same_text flag (codes "--json") second)
-    go true false first second e = cc
-    go false t first second e = cc
+    go : (s t : Bool) → bytes_eq w x ≡ s → bytes_eq v y ≡ t → (if s && t then o else rest) ≡ Some c → P
+    go true true first second e = f (same_text w x first) (same_text v y second) e
+    go true false first second e = g e
+    go false t first second e = g e
+
+pub four_plain : (w first second third fourth : List ℕ) (c : Command) → command_with_four w first second third fourth ≡ Some c
+    → (is_plain w ≡ true) × (is_plain first ≡ true) × (is_plain second ≡ true) × (is_plain third ≡ true) × (is_plain fourth ≡ true)
+four_plain w first second third fourth c e =
+    both_or (codes "draw") (codes "grid") w first (with_grid (plain_in 0 99999 second) (subframe_in third) (subframes_in fourth)) None c e
+    (λ is_draw is_grid e.
+    let all = grid_there (plain_in 0 99999 second) (subframe_in third) (subframes_in fourth) c e in
+    let word : is_plain w ≡ true = subst (λ (v : List ℕ). is_plain v ≡ true) (sym is_draw) refl in
+    let one : is_plain first ≡ true = subst (λ (v : List ℕ). is_plain v ≡ true) (sym is_grid) refl in
+    (word, one, number_plain (length second) 0 99999 all.0.0 second all.0.1, number_plain (length third) 0 9 all.1.0 third all.1.1, number_plain (length fourth) 1 10 all.2.0 fourth all.2.1))
+    (λ e. cc)
+
+-- the two words of a command: one with its flag, or two
+pub two_words : {P : Type 0} (w second : List ℕ) (c : Command) → command_with_one w second ≡ Some c
+    → (w ≡ codes "show" → second ≡ codes "--json" → P) → (w ≡ codes "explain" → second ≡ codes "--faults" → P) → (w ≡ codes "draw" → second ≡ codes "windows" → P) → P
+two_words w second c e json faults windows =
+    both_or (codes "show") (codes "--json") w second _ _ c e (λ a b e. json a b) (λ e.
+    both_or (codes "explain") (codes "--faults") w second _ _ c e (λ a b e. faults a b) (λ e.
+    both_or (codes "draw") (codes "windows") w second _ None c e (λ a b e. windows a b) (λ e. cc)))
 
 abbrev pub is_ascii : List ℕ → Bool
 is_ascii w = list_all (λ b. nat_lt b 128) w
@@ -250,22 +278,25 @@ is_ascii w = list_all (λ b. nat_lt b 128) w
 pub plain_ascii : (w : List ℕ) → is_plain w ≡ true → is_ascii w ≡ true
 plain_ascii w e = (both_true (not (slice_index w 0 == 45)) (is_ascii w) e).1
 
+two_ascii : (a b x y : List ℕ) → a ≡ x → b ≡ y → is_ascii x ≡ true → is_ascii y ≡ true → list_all is_ascii (a ∷ b ∷ []) ≡ true
+two_ascii a b x y first second is_x is_y = rw (first, second, is_x, is_y) refl
+
 -- all words of a command are of ASCII
 pub ascii_of : (ws : List (List ℕ)) (c : Command) → command_of ws ≡ Some c → list_all is_ascii ws ≡ true
 ascii_of [] c e = cc
 ascii_of (a ∷ []) c e = rw (plain_ascii a (bare_plain a c e)) refl
 ascii_of (a ∷ b ∷ []) c e =
-    let is = one_is a b c e in
-    let first : is_ascii a ≡ true = subst (λ (w : List ℕ). is_ascii w ≡ true) (sym is.0) refl in
-    let second : is_ascii b ≡ true = subst (λ (w : List ℕ). is_ascii w ≡ true) (sym is.1) refl in
-    rw (first, second) refl
+    two_words a b c e (λ first second. two_ascii a b _ _ first second refl refl) (λ first second. two_ascii a b _ _ first second refl refl) (λ first second. two_ascii a b _ _ first second refl refl)
 ascii_of (a ∷ b ∷ d ∷ []) c e =
     let p = two_plain a b d c e in
     rw (plain_ascii a p.0, plain_ascii b p.1, plain_ascii d p.2) refl
 ascii_of (a ∷ b ∷ d ∷ f ∷ []) c e =
     let p = three_plain a b d f c e in
     rw (plain_ascii a p.0, plain_ascii b p.1, plain_ascii d p.2, plain_ascii f p.3) refl
-ascii_of (a ∷ b ∷ d ∷ f ∷ g ∷ ws) c e = cc
+ascii_of (a ∷ b ∷ d ∷ f ∷ g ∷ []) c e =
+    let p = four_plain a b d f g c e in
+    rw (plain_ascii a p.0, plain_ascii b p.1, plain_ascii d p.2, plain_ascii f p.3, plain_ascii g p.4) refl
+ascii_of (a ∷ b ∷ d ∷ f ∷ g ∷ h ∷ ws) c e = cc
 
 -- ---- what plain words are
 

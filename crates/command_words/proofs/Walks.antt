@@ -1,4 +1,4 @@
--- What `clap` makes of words that do not begin with a hyphen: up to four go to the positionals, in order.
+-- What `clap` makes of words that do not begin with a hyphen: up to five go to the positionals, in order.
 use Rattle.std.proofs.Common.{◌≡◌, ℕ, ◌≤◌, List, [], ◌∷◌, refl, false, true, Bool, ◌||◌, ◌&&◌, ◌∙◌, ap, ap₂, cond, length, arith}
 use Rattle.std.specs.Prelude.{None, ◌==◌, option_and_then, fold}
 use Rattle.std.specs.Str.{bytes_eq}
@@ -77,7 +77,11 @@ fourth_walked : (a b c d : Text) → IsPlainWord d → walked top.rules [] (step
 unfolding clap_on_literals
 fourth_walked a b c d plain = ap (λ m. after_step top.rules d (step (step (step start a) b) c) m.0 m.1) (word_met-plain top.rules 4 d (step (step (step start a) b) c).held plain)
 
-pub walk_is : (ws : List Text) → ArePlain ws → length ws ≤ 4 → walk top.rules [] nothing_held ws ≡ plainly ws
+fifth_walked : (a b c d e : Text) → IsPlainWord e → walked top.rules [] (step (step (step (step start a) b) c) d) e ≡ step (step (step (step (step start a) b) c) d) e
+unfolding clap_on_literals
+fifth_walked a b c d e plain = ap (λ m. after_step top.rules e (step (step (step (step start a) b) c) d) m.0 m.1) (word_met-plain top.rules 5 e (step (step (step (step start a) b) c) d).held plain)
+
+pub walk_is : (ws : List Text) → ArePlain ws → length ws ≤ 5 → walk top.rules [] nothing_held ws ≡ plainly ws
 walk_is [] p few = refl
 walk_is (a ∷ []) p few = first_walked a p.0
 walk_is (a ∷ b ∷ []) p few = ap (λ w. walked top.rules [] w b) (first_walked a p.0) ∙ second_walked a b p.1.0
@@ -90,12 +94,18 @@ walk_is (a ∷ b ∷ c ∷ d ∷ []) p few =
     ∙ ap (λ w. walked top.rules [] (walked top.rules [] w c) d) (second_walked a b p.1.0)
     ∙ ap (λ w. walked top.rules [] w d) (third_walked a b c p.1.1.0)
     ∙ fourth_walked a b c d p.1.1.1.0
-walk_is (a ∷ b ∷ c ∷ d ∷ e ∷ ws) p few = absurd (omega arith)
+walk_is (a ∷ b ∷ c ∷ d ∷ e ∷ []) p few =
+    ap (λ w. walked top.rules [] (walked top.rules [] (walked top.rules [] (walked top.rules [] w b) c) d) e) (first_walked a p.0)
+    ∙ ap (λ w. walked top.rules [] (walked top.rules [] (walked top.rules [] w c) d) e) (second_walked a b p.1.0)
+    ∙ ap (λ w. walked top.rules [] (walked top.rules [] w d) e) (third_walked a b c p.1.1.0)
+    ∙ ap (λ w. walked top.rules [] w e) (fourth_walked a b c d p.1.1.1.0)
+    ∙ fifth_walked a b c d e p.1.1.1.1.0
+walk_is (a ∷ b ∷ c ∷ d ∷ e ∷ f ∷ ws) p few = absurd (omega arith)
 
 abbrev pub rows_at_end : Walk → List Row
 rows_at_end w = finished top.rules w.held
 
-pub rows_are : (ws : List Text) → ArePlain ws → length ws ≤ 4 → matches_of program ws ≡ rows_at_end (plainly ws)
+pub rows_are : (ws : List Text) → ArePlain ws → length ws ≤ 5 → matches_of program ws ≡ rows_at_end (plainly ws)
 rows_are ws p few = ap rows_at_end (walk_is ws p few)
 
 -- ---- a parse passes
@@ -113,25 +123,34 @@ third_turn a b c p = ap₂ (λ t m. t && step_passes top 3 m.0 m.1) (word_passes
 fourth_turn : (a b c d : Text) → IsPlainWord d → turn_passes top [] (step (step (step start a) b) c) d ≡ true
 fourth_turn a b c d p = ap₂ (λ t m. t && step_passes top 4 m.0 m.1) (word_passes-plain top d (step (step (step start a) b) c).held p) (word_met-plain top.rules 4 d (step (step (step start a) b) c).held p)
 
-from_fourth : (a b c : Text) (ws : List Text) → ArePlain ws → length ws ≤ 1 → walk_passes top [] (step (step (step start a) b) c) ws ≡ true
+fifth_turn : (a b c d e : Text) → IsPlainWord e → turn_passes top [] (step (step (step (step start a) b) c) d) e ≡ true
+fifth_turn a b c d e p = ap₂ (λ t m. t && step_passes top 5 m.0 m.1) (word_passes-plain top e (step (step (step (step start a) b) c) d).held p) (word_met-plain top.rules 5 e (step (step (step (step start a) b) c) d).held p)
+
+from_fifth : (a b c d : Text) (ws : List Text) → ArePlain ws → length ws ≤ 1 → walk_passes top [] (step (step (step (step start a) b) c) d) ws ≡ true
+unfolding clap_on_literals
+from_fifth a b c d [] p few = refl
+from_fifth a b c d (e ∷ []) p few = ap (λ t. t && true) (fifth_turn a b c d e p.0)
+from_fifth a b c d (e ∷ f ∷ ws) p few = absurd (omega arith)
+
+from_fourth : (a b c : Text) (ws : List Text) → ArePlain ws → length ws ≤ 2 → walk_passes top [] (step (step (step start a) b) c) ws ≡ true
 unfolding clap_on_literals
 from_fourth a b c [] p few = refl
-from_fourth a b c (d ∷ []) p few = ap (λ t. t && true) (fourth_turn a b c d p.0)
-from_fourth a b c (d ∷ e ∷ ws) p few = absurd (omega arith)
+from_fourth a b c (d ∷ ws) p few =
+    ap₂ (λ t w. t && walk_passes top [] w ws) (fourth_turn a b c d p.0) (fourth_walked a b c d p.0) ∙ from_fifth a b c d ws p.1 (omega arith)
 
-from_third : (a b : Text) (ws : List Text) → ArePlain ws → length ws ≤ 2 → walk_passes top [] (step (step start a) b) ws ≡ true
+from_third : (a b : Text) (ws : List Text) → ArePlain ws → length ws ≤ 3 → walk_passes top [] (step (step start a) b) ws ≡ true
 unfolding clap_on_literals
 from_third a b [] p few = refl
 from_third a b (c ∷ ws) p few =
     ap₂ (λ t w. t && walk_passes top [] w ws) (third_turn a b c p.0) (third_walked a b c p.0) ∙ from_fourth a b c ws p.1 (omega arith)
 
-from_second : (a : Text) (ws : List Text) → ArePlain ws → length ws ≤ 3 → walk_passes top [] (step start a) ws ≡ true
+from_second : (a : Text) (ws : List Text) → ArePlain ws → length ws ≤ 4 → walk_passes top [] (step start a) ws ≡ true
 unfolding clap_on_literals
 from_second a [] p few = refl
 from_second a (b ∷ ws) p few =
     ap₂ (λ t w. t && walk_passes top [] w ws) (second_turn a b p.0) (second_walked a b p.0) ∙ from_third a b ws p.1 (omega arith)
 
-walk_passes-plain : (ws : List Text) → ArePlain ws → length ws ≤ 4 → walk_passes top [] start ws ≡ true
+walk_passes-plain : (ws : List Text) → ArePlain ws → length ws ≤ 5 → walk_passes top [] start ws ≡ true
 unfolding clap_on_literals
 walk_passes-plain [] p few = refl
 walk_passes-plain (a ∷ ws) p few =
@@ -144,14 +163,15 @@ ends_well w = settle_passes top.rules top.args_override_self w.held && (list_all
 abbrev whole : Bool → Walk → Bool
 whole passed w = entered_passes (built program) w.stopped && (passed && ends_well w)
 
-plainly_whole : (ws : List Text) → length ws ≤ 4 → whole true (plainly ws) ≡ true
+plainly_whole : (ws : List Text) → length ws ≤ 5 → whole true (plainly ws) ≡ true
 plainly_whole [] few = refl
 plainly_whole (a ∷ []) few = refl
 plainly_whole (a ∷ b ∷ []) few = refl
 plainly_whole (a ∷ b ∷ c ∷ []) few = refl
 plainly_whole (a ∷ b ∷ c ∷ d ∷ []) few = refl
-plainly_whole (a ∷ b ∷ c ∷ d ∷ e ∷ ws) few = absurd (omega arith)
+plainly_whole (a ∷ b ∷ c ∷ d ∷ e ∷ []) few = refl
+plainly_whole (a ∷ b ∷ c ∷ d ∷ e ∷ f ∷ ws) few = absurd (omega arith)
 
 -- the parse takes them
-pub taken_plain : (ws : List Text) → ArePlain ws → length ws ≤ 4 → takes program ws ≡ true
+pub taken_plain : (ws : List Text) → ArePlain ws → length ws ≤ 5 → takes program ws ≡ true
 taken_plain ws p few = ap₂ whole (walk_passes-plain ws p few) (walk_is ws p few) ∙ plainly_whole ws few

@@ -3,13 +3,13 @@ use Rattle.std.specs.Prelude.{ℕ, ◌+◌, ◌≤◌, nat_le, List, [], ◌∷�
 use Rattle.std.specs.Str.{bytes_eq}
 use Rattle.hex.specs.Hex.{decode_sized}
 use Rattle.hex.specs.declared.error.FromHexError.{FromHexError}
-use Rattle.pcap_frames.specs.declared.values.Whose.{Whose}
-use Rattle.pcap_frames.specs.declared.values.Whose.TheVariants.{All, Port}
 use Rattle.air_source.specs.declared.events.Side.{Side}
 use Rattle.air_source.specs.declared.events.Side.TheVariants.{Ru, Du}
 use Rattle.text_lines.specs.Numbers.{number_in}
 use Rattle.command_words.specs.declared.commands.Command.{Command}
-use Rattle.command_words.specs.declared.commands.Command.TheVariants.{Replay, Summary, Capture, Show, Sent, Windows, Fit, Generate, Trial, Shared, Idle, Pcap, PcapCapture}
+use Rattle.command_words.specs.declared.commands.Command.TheVariants.{Replay, Summary, Capture, Show, Explain, Sent, Windows, Fit, Generate, Trial, Shared, Idle, DrawGrid, DrawWindows, Pcap, PcapCapture}
+use Rattle.pcap_frames.specs.declared.values.Whose.{Whose}
+use Rattle.pcap_frames.specs.declared.values.Whose.TheVariants.{All, Port}
 use Rattle.fh_time.specs.declared.nanoseconds.TheConstants.{LAST_TIME}
 
 -- the command that one word is
@@ -19,15 +19,19 @@ bare_command word =
     else (if bytes_eq word (codes "summary") then Some Summary
     else (if bytes_eq word (codes "capture") then Some Capture
     else (if bytes_eq word (codes "show") then Some (Show false)
+    else (if bytes_eq word (codes "explain") then Some (Explain false)
     else (if bytes_eq word (codes "sent") then Some Sent
     else (if bytes_eq word (codes "windows") then Some Windows
     else (if bytes_eq word (codes "fit") then Some Fit
-    else None))))))
+    else None)))))))
 
 -- the command that two words are
 abbrev pub command_with_one : List ℕ → List ℕ → Option Command
-command_with_one word flag =
-    if bytes_eq word (codes "show") && bytes_eq flag (codes "--json") then Some (Show true) else None
+command_with_one word second =
+    if bytes_eq word (codes "show") && bytes_eq second (codes "--json") then Some (Show true)
+    else (if bytes_eq word (codes "explain") && bytes_eq second (codes "--faults") then Some (Explain true)
+    else (if bytes_eq word (codes "draw") && bytes_eq second (codes "windows") then Some DrawWindows
+    else None))
 
 -- a seed: 1 to 10 digits, below 2^32
 abbrev pub seed_in : List ℕ → Option ℕ
@@ -107,12 +111,31 @@ abbrev pub command_with_three : List ℕ → List ℕ → List ℕ → List ℕ 
 command_with_three word first second third =
     if bytes_eq word (codes "idle") then with_frames (frame_in first) (frame_in second) (least_in third) else None
 
+-- the first subframe of a grid
+abbrev pub subframe_in : List ℕ → Option ℕ
+subframe_in word = plain_in 0 9 word
+
+-- how many subframes it has
+abbrev pub subframes_in : List ℕ → Option ℕ
+subframes_in word = plain_in 1 10 word
+
+-- a picture of the grid from this subframe on
+abbrev pub with_grid : Option ℕ → Option ℕ → Option ℕ → Option Command
+with_grid (Some frame) (Some subframe) (Some count) = Some (DrawGrid frame subframe count)
+with_grid frame subframe count = None
+
+-- the command that five words are
+abbrev pub command_with_four : List ℕ → List ℕ → List ℕ → List ℕ → List ℕ → Option Command
+command_with_four word first second third fourth =
+    if bytes_eq word (codes "draw") && bytes_eq first (codes "grid") then with_grid (plain_in 0 99999 second) (subframe_in third) (subframes_in fourth) else None
+
 -- the command that the words are
 abbrev pub command_of : List (List ℕ) → Option Command
 command_of (word ∷ []) = bare_command word
-command_of (word ∷ flag ∷ []) = command_with_one word flag
+command_of (word ∷ second ∷ []) = command_with_one word second
 command_of (word ∷ first ∷ second ∷ []) = command_with_two word first second
 command_of (word ∷ first ∷ second ∷ third ∷ []) = command_with_three word first second third
+command_of (word ∷ first ∷ second ∷ third ∷ fourth ∷ []) = command_with_four word first second third fourth
 command_of words = None
 
 -- the numbers of a command are within their limits
@@ -121,6 +144,7 @@ IsProper (Generate seed slots) = (1 ≤ slots) × (slots ≤ 400)
 IsProper (Trial seed slots) = (1 ≤ slots) × (slots ≤ 400)
 IsProper (Shared count step) = (2 ≤ count) × (count ≤ 8) × (step ≤ 1000000)
 IsProper (Idle first last min) = (1 ≤ first) × (first ≤ last) × (last ≤ first + 9) × (last ≤ 99999) × (1 ≤ min) × (min ≤ 9999)
+IsProper (DrawGrid frame subframe count) = (frame ≤ 99999) × (subframe ≤ 9) × (1 ≤ count) × (count ≤ 10)
 IsProper (Pcap whose start) = start ≤ LAST_TIME
 IsProper (PcapCapture whose start) = start ≤ LAST_TIME
 IsProper command = Unit {0}

@@ -14,6 +14,11 @@ pub enum Command {
     Show {
         json: bool,
     },
+    /// `explain`: what became of each frame and section of a document, and why cells are silent.
+    Explain {
+        /// Whether only what went wrong is told: `--faults`.
+        faults: bool,
+    },
     /// `sent`: the frames that a document's plan sends to the radio unit.
     Sent,
     /// `windows`: the windows, the rings and the check of a document.
@@ -48,6 +53,17 @@ pub enum Command {
         /// How many symbols a span has at least, from 1 to 9,999.
         min: u32,
     },
+    /// `draw grid FRAME SUBFRAME COUNT`: the resource grid of an explained document, as a picture.
+    DrawGrid {
+        /// The first frame, at most 99,999.
+        frame: u32,
+        /// The first subframe, at most 9.
+        subframe: u8,
+        /// How many subframes, from 1 to 10.
+        count: u8,
+    },
+    /// `draw windows`: the windows of an explained document and what arrived in them, as a picture.
+    DrawWindows,
     /// `pcap WAY START`, `pcap ADDRESS START`: the eCPRI frames of a pcap file as lines of a document.
     Pcap {
         /// Whose frames, and the units that they go to.

@@ -1,7 +1,7 @@
 // The commands by their words: of a list of words, and of what a parse found.
 ghost use Rattle.std.specs.Prelude.{◌≡◌, ◌≤◌, IfSome, map, option_map};
-ghost use Rattle.command_words.specs.Words.{IsProper, address_in, bare_command, command_of, command_with_one, command_with_three, command_with_two, frame_in, least_in, seed_in, slots_in, start_in, way_in, whose_in};
-ghost use Rattle.command_words.specs.Parsed.{spelled};
+ghost use Rattle.command_words.specs.Words.{IsProper, address_in, bare_command, command_of, command_with_four, command_with_one, command_with_three, command_with_two, frame_in, least_in, seed_in, slots_in, start_in, way_in, whose_in};
+ghost use Rattle.command_words.specs.Parsed.{spelled, spelled_plainly, spelled_with};
 ghost use Rattle.fh_time.specs.declared.nanoseconds.TheConstants.{LAST_TIME};
 
 use crate::commands::Command;
@@ -29,6 +29,9 @@ fn bare_command(word: &str) -> Option<Command>
     if word == "show" {
         return Some(Command::Show { json: false });
     }
+    if word == "explain" {
+        return Some(Command::Explain { faults: false });
+    }
     if word == "sent" {
         return Some(Command::Sent);
     }
@@ -42,12 +45,18 @@ fn bare_command(word: &str) -> Option<Command>
 }
 
 /// The command that two words are.
-fn command_with_one(word: &str, flag: &str) -> Option<Command>
-    ensures command { result ≡ command_with_one word.now flag.now }
+fn command_with_one(word: &str, second: &str) -> Option<Command>
+    ensures command { result ≡ command_with_one word.now second.now }
     ensures proper { IfSome result IsProper }
 {
-    if word == "show" && flag == "--json" {
+    if word == "show" && second == "--json" {
         return Some(Command::Show { json: true });
+    }
+    if word == "explain" && second == "--faults" {
+        return Some(Command::Explain { faults: true });
+    }
+    if word == "draw" && second == "windows" {
+        return Some(Command::DrawWindows);
     }
     None
 }
@@ -181,39 +190,101 @@ fn command_with_three(word: &str, first: &str, second: &str, third: &str) -> Opt
     None
 }
 
+/// The command that five words are.
+fn command_with_four(
+    word: &str,
+    first: &str,
+    second: &str,
+    third: &str,
+    fourth: &str,
+) -> Option<Command>
+    ensures command { result ≡ command_with_four word.now first.now second.now third.now fourth.now }
+    ensures proper { IfSome result IsProper }
+{
+    if word == "draw" && first == "grid" {
+        let frame = plain_in(second.as_bytes(), 0, 99_999)?;
+        let subframe = plain_in(third.as_bytes(), 0, 9)?;
+        let count = plain_in(fourth.as_bytes(), 1, 10)?;
+        return Some(Command::DrawGrid {
+            frame: frame as u32,
+            subframe: subframe as u8,
+            count: count as u8,
+        });
+    }
+    None
+}
+
 /// The command that the words are.
 pub(crate) fn command_in(words: &[&str]) -> Option<Command>
     ensures { result ≡ command_of (map (λ w. w.now) words.now) }
 {
     match words {
         [word] => bare_command(word),
-        [word, flag] => command_with_one(word, flag),
+        [word, second] => command_with_one(word, second),
         [word, first, second] => command_with_two(word, first, second),
         [word, first, second, third] => command_with_three(word, first, second, third),
+        [word, first, second, third, fourth] => {
+            command_with_four(word, first, second, third, fourth)
+        }
         _ => None,
     }
 }
 
-/// The command that a parse spells: whether it found the flag `--json`, and up to four words.
-pub(crate) fn spelled(
-    json: bool,
+/// The command that words without a flag spell.
+fn spelled_plainly(
     word: Option<&str>,
     first: Option<&str>,
     second: Option<&str>,
     third: Option<&str>,
+    fourth: Option<&str>,
 ) -> Option<Command>
-    ensures command { result ≡ spelled json (option_map (λ w. w.now) word.entry) (option_map (λ w. w.now) first.entry) (option_map (λ w. w.now) second.entry) (option_map (λ w. w.now) third.entry) }
+    ensures command { result ≡ spelled_plainly (option_map (λ w. w.now) word.entry) (option_map (λ w. w.now) first.entry) (option_map (λ w. w.now) second.entry) (option_map (λ w. w.now) third.entry) (option_map (λ w. w.now) fourth.entry) }
     ensures proper { IfSome result IsProper }
 {
-    match (json, word, first, second, third) {
-        (false, Some(word), None, None, None) => bare_command(word),
-        (true, Some(word), None, None, None) => command_with_one(word, "--json"),
-        (false, Some(word), Some(first), Some(second), None) => {
-            command_with_two(word, first, second)
-        }
-        (false, Some(word), Some(first), Some(second), Some(third)) => {
+    match (word, first, second, third, fourth) {
+        (Some(word), None, None, None, None) => bare_command(word),
+        (Some(word), Some(first), None, None, None) => command_with_one(word, first),
+        (Some(word), Some(first), Some(second), None, None) => command_with_two(
+            word, first, second,
+        ),
+        (Some(word), Some(first), Some(second), Some(third), None) => {
             command_with_three(word, first, second, third)
         }
+        (Some(word), Some(first), Some(second), Some(third), Some(fourth)) => {
+            command_with_four(word, first, second, third, fourth)
+        }
         _ => None,
+    }
+}
+
+/// The command that one word with a flag spells.
+fn spelled_with(flag: &str, word: Option<&str>, first: Option<&str>) -> Option<Command>
+    ensures command { result ≡ spelled_with flag.now (option_map (λ w. w.now) word.entry) (option_map (λ w. w.now) first.entry) }
+    ensures proper { IfSome result IsProper }
+{
+    match (word, first) {
+        (Some(word), None) => command_with_one(word, flag),
+        _ => None,
+    }
+}
+
+/// The command that a parse spells: the flags that it found, and up to five words.
+pub(crate) fn spelled(
+    json: bool,
+    faults: bool,
+    word: Option<&str>,
+    first: Option<&str>,
+    second: Option<&str>,
+    third: Option<&str>,
+    fourth: Option<&str>,
+) -> Option<Command>
+    ensures command { result ≡ spelled (record { json = json; faults = faults }) (record { word = option_map (λ w. w.now) word.entry; first = option_map (λ w. w.now) first.entry; second = option_map (λ w. w.now) second.entry; third = option_map (λ w. w.now) third.entry; fourth = option_map (λ w. w.now) fourth.entry }) }
+    ensures proper { IfSome result IsProper }
+{
+    match (json, faults) {
+        (false, false) => spelled_plainly(word, first, second, third, fourth),
+        (true, false) => spelled_with("--json", word, first),
+        (false, true) => spelled_with("--faults", word, first),
+        (true, true) => None,
     }
 }

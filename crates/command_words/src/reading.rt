@@ -17,7 +17,7 @@ use std::alloc::Global;
 use std::str;
 
 /// The most words of a command.
-const MOST_WORDS: usize = 4;
+const MOST_WORDS: usize = 5;
 
 /// The command that the words are.
 ///
@@ -69,10 +69,12 @@ fn parsed<'a>(alloc: Global, words: &'a [&'a str]) -> Result<Command, WordsFault
     };
     spelled(
         matches.get_flag("json"),
+        matches.get_flag("faults"),
         matches.get_str("word"),
         matches.get_str("first"),
         matches.get_str("second"),
         matches.get_str("third"),
+        matches.get_str("fourth"),
     )
     .ok_or(WordsFault::BadWords)
 }

@@ -23,13 +23,19 @@ fn words_are_commands(rt: HostRuntime) -> Result<(), Fail> {
     let up = Command::PcapCapture { whose, start };
     let (whose, start) = (Whose::Port([2, 0, 0, 0, 0xab, 0xcd]), 0);
     let both = Command::Pcap { whose, start };
-    let cases: [(&[&[u8]], Command); 16] = [
+    let cases: [(&[&[u8]], Command); 19] = [
         (&[b"replay"], Command::Replay),
         (&[b"summary"], Command::Summary),
         (&[b"capture"], Command::Capture),
         (&[b"show"], Command::Show { json: false }),
         (&[b"show", b"--json"], Command::Show { json: true }),
+        (&[b"explain"], Command::Explain { faults: false }),
+        (
+            &[b"explain", b"--faults"],
+            Command::Explain { faults: true },
+        ),
         (&[b"sent"], Command::Sent),
+        (&[b"draw", b"windows"], Command::DrawWindows),
         (&[b"windows"], Command::Windows),
         (&[b"fit"], Command::Fit),
         (&[b"generate", b"7", b"20"], generate(7, 20)),
@@ -47,5 +53,13 @@ fn words_are_commands(rt: HostRuntime) -> Result<(), Fail> {
     for (words, command) in cases {
         assert_eq!(rt; read(rt.alloc(), words)?, Ok(command));
     }
+    let (frame, subframe, count) = (1, 9, 10);
+    let grid = Command::DrawGrid {
+        frame,
+        subframe,
+        count,
+    };
+    let words: &[&[u8]] = &[b"draw", b"grid", b"0001", b"9", b"10"];
+    assert_eq!(rt; read(rt.alloc(), words)?, Ok(grid));
     Ok(())
 }

@@ -8,7 +8,7 @@ use Rattle.capture_show.specs.Messages.{capture_lines}
 use Rattle.capture_show.specs.Texts.{lines_text}
 use Rattle.command_words.specs.Words.{command_of}
 use Rattle.command_words.specs.declared.commands.Command.{Command}
-use Rattle.command_words.specs.declared.commands.Command.TheVariants.{Replay, Summary, Capture, Show, Sent, Windows, Fit, Generate, Trial, Shared, Idle, Pcap, PcapCapture}
+use Rattle.command_words.specs.declared.commands.Command.TheVariants.{Replay, Summary, Capture, Show, Explain, Sent, Windows, Fit, Generate, Trial, Shared, Idle, DrawGrid, DrawWindows, Pcap, PcapCapture}
 use Rattle.fh_base.specs.Causes.{Rose}
 use Rattle.fh_base.proofs.Known.{append_nothing}
 use Rattle.pcap_lines.specs.fh_document.specs.declared.document.Document.{Document}
@@ -17,6 +17,9 @@ use Rattle.pcap_lines.specs.fh_document.specs.Document.{document_of}
 use Rattle.pcap_frames.specs.declared.refusals.PcapRefusal.{PcapRefusal}
 use Rattle.pcap_frames.specs.Checked.{checked as pcap_checked}
 use Rattle.pcap_frames.specs.Frames.{frames_of}
+use Rattle.grid_picture.specs.Picture.{drawn as grid_of, span_of}
+use Rattle.window_picture.specs.Picture.{drawn as windows_of}
+use Rattle.picture_lines.specs.declared.faults.TextWhy.{TextWhy}
 use Rattle.pcap_lines.specs.Texts.{arrived_as, lines_of}
 use Rattle.fronthaul_replay.specs.plan_model.specs.Valid.{plan_refusal}
 use Rattle.fronthaul_replay.specs.plan_model.specs.declared.refusals.PlanWhy.{PlanWhy}
@@ -27,8 +30,8 @@ use Rattle.window_lines.specs.window_plan.specs.declared.refusals.NoFit.{NoFit a
 use Rattle.window_lines.specs.window_plan.specs.Fitting.{fitted}
 use Rattle.top_call.specs.declared.status.LineWhy.{LineWhy}
 use Rattle.top_call.specs.declared.status.Status.{Status}
-use Rattle.top_call.specs.declared.status.Status.TheVariants.{Done, BadWords, BadDocument, BadCapture, ReadFault, WriteFault, NoMemory, TooLong, CheckFails, BadPcap, NoFit}
-use Rattle.top_call.specs.Answers.{Answer, answer_of, asked, captured, fit_shown, fit_verdict, idled, is_reading, listed, of_capture, of_document, of_pcap, of_plan, of_planned, replayed, shared, summarized, verdict_of, windows_shown}
+use Rattle.top_call.specs.declared.status.Status.TheVariants.{Done, BadWords, BadDocument, BadCapture, ReadFault, WriteFault, NoMemory, TooLong, CheckFails, BadPcap, BadText, NoFit}
+use Rattle.top_call.specs.Answers.{Answer, answer_of, asked, captured, explained, fit_shown, fit_verdict, idled, is_reading, listed, of_capture, of_document, of_pcap, of_picture, of_plan, of_planned, replayed, shared, summarized, verdict_of, windows_shown}
 use Rattle.top_call.specs.Run.{AnswersRun, IsDecided, IsRefusal, Outcome}
 use Rattle.fh_base.specs.declared.source.TheConstants.{INPUT_LIMIT}
 
@@ -62,6 +65,10 @@ pcap_text : (text : List ℕ) (checked : Result (Unit {0}) PcapRefusal) → IsRe
 pcap_text text (Ok u) refusal = absurd refusal
 pcap_text text (Err r) refusal = refl
 
+picture_text : (wanted : Result (List ℕ) (ℕ × TextWhy)) → IsRefusal (of_picture wanted).status → (of_picture wanted).text ≡ []
+picture_text (Ok picture) refusal = absurd refusal
+picture_text (Err (line, why)) refusal = refl
+
 -- has no text
 refusal_text : (o : Option Command) (bytes : List ℕ) → IsRefusal (asked o bytes).status → (asked o bytes).text ≡ []
 unfolding answer_of
@@ -70,6 +77,7 @@ refusal_text (Some Replay) bytes refusal = document_text (of_planned replayed) (
 refusal_text (Some Summary) bytes refusal = document_text (of_planned summarized) (document_of bytes) (λ d. planned_text summarized d (λ r. r)) refusal
 refusal_text (Some Capture) bytes refusal = document_text (of_planned captured) (document_of bytes) (λ d. planned_text captured d (λ r. r)) refusal
 refusal_text (Some (Show json)) bytes refusal = capture_text (lines_text json (capture_lines bytes)) (capture_checked bytes) refusal
+refusal_text (Some (Explain faults)) bytes refusal = document_text (of_planned (explained faults)) (document_of bytes) (λ d. planned_text (explained faults) d (λ r. r)) refusal
 refusal_text (Some Sent) bytes refusal = document_text (of_planned listed) (document_of bytes) (λ d. planned_text listed d (λ r. r)) refusal
 refusal_text (Some Windows) bytes refusal = document_text (λ d. windows_shown d.config) (document_of bytes) (λ d r. absurd (check_refuses_nothing (checked d.config.delays) r)) refusal
 refusal_text (Some Fit) bytes refusal = document_text (λ d. fit_shown d.config.delays) (document_of bytes) (λ d r. absurd (fit_refuses_nothing (fitted d.config.delays) r)) refusal
@@ -78,6 +86,8 @@ refusal_text (Some (Trial seed slots)) bytes refusal = absurd refusal
 refusal_text (Some (Shared count step)) bytes refusal = document_text (of_planned (shared count step)) (document_of bytes) (λ d. planned_text (shared count step) d (λ r. r)) refusal
 refusal_text (Some (Idle first last min)) bytes refusal =
     document_text (of_planned (idled first last min)) (document_of bytes) (λ d. planned_text (idled first last min) d (λ r. r)) refusal
+refusal_text (Some (DrawGrid frame subframe count)) bytes refusal = picture_text (grid_of (span_of frame subframe count) bytes) refusal
+refusal_text (Some DrawWindows) bytes refusal = picture_text (windows_of bytes) refusal
 refusal_text (Some (Pcap whose start)) bytes refusal = pcap_text (lines_of (frames_of whose bytes start)) (pcap_checked whose bytes start) refusal
 refusal_text (Some (PcapCapture whose start)) bytes refusal = pcap_text (capture_bytes (map arrived_as (frames_of whose bytes start))) (pcap_checked whose bytes start) refusal
 
@@ -87,6 +97,7 @@ refusal_decided BadWords refusal = tt
 refusal_decided (BadDocument line why) refusal = tt
 refusal_decided (BadCapture place why) refusal = tt
 refusal_decided (BadPcap r) refusal = tt
+refusal_decided (BadText line why) refusal = tt
 refusal_decided ReadFault refusal = refusal
 refusal_decided WriteFault refusal = refusal
 refusal_decided NoMemory refusal = refusal
@@ -101,6 +112,7 @@ decided_wanted wanted BadWords decided answers = answers
 decided_wanted wanted (BadDocument line why) decided answers = answers
 decided_wanted wanted (BadCapture place why) decided answers = answers
 decided_wanted wanted (BadPcap r) decided answers = answers
+decided_wanted wanted (BadText line why) decided answers = answers
 decided_wanted wanted ReadFault decided answers = absurd decided
 decided_wanted wanted WriteFault decided answers = absurd decided
 decided_wanted wanted NoMemory decided answers = absurd decided
@@ -125,6 +137,7 @@ only_readers_refuse (Some Replay) bytes line why e = refl
 only_readers_refuse (Some Summary) bytes line why e = refl
 only_readers_refuse (Some Capture) bytes line why e = refl
 only_readers_refuse (Some (Show json)) bytes line why e = refl
+only_readers_refuse (Some (Explain faults)) bytes line why e = refl
 only_readers_refuse (Some Sent) bytes line why e = refl
 only_readers_refuse (Some Windows) bytes line why e = refl
 only_readers_refuse (Some Fit) bytes line why e = refl
@@ -132,6 +145,8 @@ only_readers_refuse (Some (Generate seed slots)) bytes line why e = cc
 only_readers_refuse (Some (Trial seed slots)) bytes line why e = cc
 only_readers_refuse (Some (Shared count step)) bytes line why e = refl
 only_readers_refuse (Some (Idle first last min)) bytes line why e = refl
+only_readers_refuse (Some (DrawGrid frame subframe count)) bytes line why e = refl
+only_readers_refuse (Some DrawWindows) bytes line why e = refl
 only_readers_refuse (Some (Pcap side start)) bytes line why e = refl
 only_readers_refuse (Some (PcapCapture side start)) bytes line why e = refl
 

@@ -9,3 +9,4 @@ pub mod Follows
 mod Sharing
 mod Texts
 mod Packets
+mod Drawn

@@ -1,5 +1,5 @@
 -- A pcap file that was not accepted.
-use Rattle.std.proofs.Common.{◌≡◌, ℕ, List, [], Option, Result, Ok, Err, refl, sym, subst}
+use Rattle.std.proofs.Common.{◌≡◌, ℕ, List, [], Option, Result, Err, refl, sym, subst}
 use Rattle.fh_base.proofs.Known.{append_nothing}
 use Rattle.fh_base.proofs.Progress.{front_none}
 use Rattle.pcap_frames.specs.Checked.{checked as pcap_checked}

@@ -3,13 +3,14 @@ use Rattle.std.proofs.Common.{◌≡◌, ◌⊎◌, ◌↔◌, inl, inr, ℕ, �
 use Rattle.std.specs.Io.KnownBytes.{prepend_known, append_known, IsAtEnd}
 use Rattle.command_words.specs.Words.{command_of}
 use Rattle.command_words.specs.declared.commands.Command.{Command}
-use Rattle.command_words.specs.declared.commands.Command.TheVariants.{Replay, Summary, Capture, Show, Sent, Windows, Fit, Generate, Trial, Shared, Idle, Pcap, PcapCapture}
+use Rattle.command_words.specs.declared.commands.Command.TheVariants.{Replay, Summary, Capture, Show, Explain, Sent, Windows, Fit, Generate, Trial, Shared, Idle, DrawGrid, DrawWindows, Pcap, PcapCapture}
 use Rattle.fh_base.specs.Causes.{Counts, Rose, has_read_fault as read_failed}
 use Rattle.fh_base.specs.Told.{WritesFront, WritesPart}
 use Rattle.fh_base.specs.declared.fault.ReadAllFault.{ReadAllFault}
 use Rattle.fh_base.specs.declared.fault.ReadAllFault.TheVariants as source
 use Rattle.fh_base.proofs.Known.{prepend_nothing, append_nothing, came_all}
 use Rattle.fh_base.proofs.Progress.{front_none}
+use Rattle.explain_text.proofs.DocumentLemmas.{explained as is_explained}
 use Rattle.pcap_lines.specs.fh_document.specs.Document.{document_of}
 use Rattle.pcap_lines.specs.fh_document.specs.declared.document.Document.{Document}
 use Rattle.pcap_lines.specs.fh_document.specs.Proper.{IsDocument}
@@ -21,10 +22,10 @@ use Rattle.sent_text.specs.Laws.{IsListed}
 use Rattle.sent_text.proofs.RowLemmas.{is_listed}
 use Rattle.shared_text.proofs.Summing.{summed, unit_sound}
 use Rattle.top_call.specs.declared.status.Status.{Status}
-use Rattle.top_call.specs.declared.status.Status.TheVariants.{Done, BadWords, BadDocument, BadCapture, ReadFault, WriteFault, NoMemory, TooLong, CheckFails, BadPcap, NoFit}
+use Rattle.top_call.specs.declared.status.Status.TheVariants.{Done, BadWords, BadDocument, BadCapture, ReadFault, WriteFault, NoMemory, TooLong, CheckFails, BadPcap, BadText, NoFit}
 use Rattle.top_call.specs.Answers.{Answer, answer_of, asked, is_reading, reads}
 use Rattle.top_call.specs.Endings.{source_status}
-use Rattle.top_call.specs.Run.{AnswersCommand, AnswersRun, IsDecided, IsIdlePlan, IsRefusal, IsSharedPlan, IsSoundPlan, IsStopped, Outcome, Performs, has_read_fault, has_write_fault}
+use Rattle.top_call.specs.Run.{AnswersCommand, AnswersRun, IsDecided, IsExplainedPlan, IsIdlePlan, IsRefusal, IsSharedPlan, IsSoundPlan, IsStopped, Outcome, Performs, has_read_fault, has_write_fault}
 use Rattle.fh_base.specs.declared.source.TheConstants.{INPUT_LIMIT}
 use Rattle.top_call.proofs.Trials.{trial_of}
 use Rattle.top_call.proofs.Parts.{part_none}
@@ -44,6 +45,13 @@ listed_of bytes = each (document_of bytes)
     each : {E : Type 0} (x : Result Document E) → IfOk x IsListed
     each (Ok d) = is_listed d
     each (Err why) = tt
+
+explained_of : (bytes : List ℕ) → IfOk (document_of bytes) IsExplainedPlan
+explained_of bytes = each (document_of bytes) (document_of_in bytes)
+  where
+    each : {E : Type 0} (x : Result Document E) → IfOk x IsDocument → IfOk x IsExplainedPlan
+    each (Ok d) is = λ valid. is_explained d (record { document = is; valid = valid })
+    each (Err why) is = tt
 
 shared_of : (bytes : List ℕ) → (count step : ℕ) → 1 ≤ count → IfOk (document_of bytes) (IsSharedPlan count step)
 shared_of bytes count step some = each (document_of bytes) (document_of_in bytes)
@@ -67,6 +75,7 @@ answers_run wanted BadWords h = absurd h
 answers_run wanted (BadDocument line why) h = h
 answers_run wanted (BadCapture place why) h = h
 answers_run wanted (BadPcap refusal) h = h
+answers_run wanted (BadText line why) h = h
 answers_run wanted ReadFault h = absurd h
 answers_run wanted WriteFault h = h
 answers_run wanted NoMemory h = tt
@@ -87,6 +96,7 @@ completes wanted before now BadWords h counts p = absurd h
 completes wanted before now (BadDocument line why) h counts p = inl (sym h)
 completes wanted before now (BadCapture place why) h counts p = inl (sym h)
 completes wanted before now (BadPcap refusal) h counts p = inl (sym h)
+completes wanted before now (BadText line why) h counts p = inl (sym h)
 completes wanted before now ReadFault h counts p = absurd h
 completes wanted before now WriteFault h counts (inl calm) = absurd (calm counts.1)
 completes wanted before now WriteFault h counts (inr refusal) = absurd (h refusal)
@@ -108,6 +118,7 @@ no_read_fault wanted s BadWords h = refl
 no_read_fault wanted s (BadDocument line why) h = refl
 no_read_fault wanted s (BadCapture place why) h = refl
 no_read_fault wanted s (BadPcap refusal) h = refl
+no_read_fault wanted s (BadText line why) h = refl
 no_read_fault wanted s ReadFault h = absurd h
 no_read_fault wanted s WriteFault h = refl
 no_read_fault wanted s NoMemory h = refl
@@ -144,6 +155,7 @@ performed words command came left_old left_new s t old new before now status is 
       sound = sound_of came;
       trial = trial_of words;
       listed = listed_of came;
+      explained = explained_of came;
       shared = shared_of came;
       idle = idle_of came;
     }
@@ -157,6 +169,7 @@ same_answer Replay bytes h = cc
 same_answer Summary bytes h = cc
 same_answer Capture bytes h = cc
 same_answer (Show json) bytes h = cc
+same_answer (Explain faults) bytes h = cc
 same_answer Sent bytes h = cc
 same_answer Windows bytes h = cc
 same_answer Fit bytes h = cc
@@ -164,6 +177,8 @@ same_answer (Generate seed slots) bytes h = refl
 same_answer (Trial seed slots) bytes h = refl
 same_answer (Shared count step) bytes h = cc
 same_answer (Idle first last min) bytes h = cc
+same_answer (DrawGrid frame subframe count) bytes h = cc
+same_answer DrawWindows bytes h = cc
 same_answer (Pcap whose start) bytes h = cc
 same_answer (PcapCapture whose start) bytes h = cc
 
@@ -229,6 +244,7 @@ no_command words left s written o none =
       sound = sound_of [];
       trial = trial_of words;
       listed = listed_of [];
+      explained = explained_of [];
       shared = shared_of [];
       idle = idle_of [];
     }
@@ -246,6 +262,7 @@ not_decided BadWords stop decided = stop
 not_decided (BadDocument line why) stop decided = stop
 not_decided (BadCapture place why) stop decided = stop
 not_decided (BadPcap refusal) stop decided = stop
+not_decided (BadText line why) stop decided = stop
 not_decided ReadFault stop decided = decided
 not_decided WriteFault stop decided = stop
 not_decided NoMemory stop decided = decided
@@ -259,6 +276,7 @@ stop_answers wanted BadWords stop = absurd stop
 stop_answers wanted (BadDocument line why) stop = absurd stop
 stop_answers wanted (BadCapture place why) stop = absurd stop
 stop_answers wanted (BadPcap refusal) stop = absurd stop
+stop_answers wanted (BadText line why) stop = absurd stop
 stop_answers wanted ReadFault stop = tt
 stop_answers wanted WriteFault stop = absurd stop
 stop_answers wanted NoMemory stop = tt
@@ -272,6 +290,7 @@ stop_counts o BadWords stop = absurd stop
 stop_counts o (BadDocument line why) stop = absurd stop
 stop_counts o (BadCapture place why) stop = absurd stop
 stop_counts o (BadPcap refusal) stop = absurd stop
+stop_counts o (BadText line why) stop = absurd stop
 stop_counts o ReadFault stop = refl
 stop_counts o WriteFault stop = absurd stop
 stop_counts o NoMemory stop = refl
@@ -297,6 +316,7 @@ stop_wants wanted came bytes left_old left_new s t BadWords stop counts long tak
 stop_wants wanted came bytes left_old left_new s t (BadDocument line why) stop counts long taken given = absurd stop
 stop_wants wanted came bytes left_old left_new s t (BadCapture place why) stop counts long taken given = absurd stop
 stop_wants wanted came bytes left_old left_new s t (BadPcap refusal) stop counts long taken given = absurd stop
+stop_wants wanted came bytes left_old left_new s t (BadText line why) stop counts long taken given = absurd stop
 stop_wants wanted came bytes left_old left_new s t ReadFault stop counts long taken given = absurd (given.0 counts.1)
 stop_wants wanted came bytes left_old left_new s t WriteFault stop counts long taken given = absurd stop
 stop_wants wanted came bytes left_old left_new s t NoMemory stop counts long taken given = inr refl
@@ -332,6 +352,7 @@ stopped words command came left_old left_new s t written o status is does stop c
       sound = sound_of came;
       trial = trial_of words;
       listed = listed_of came;
+      explained = explained_of came;
       shared = shared_of came;
       idle = idle_of came;
     }
@@ -390,6 +411,7 @@ wordless words left s written o some =
       sound = sound_of [];
       trial = trial_of words;
       listed = listed_of [];
+      explained = explained_of [];
       shared = shared_of [];
       idle = idle_of [];
     }

@@ -6,7 +6,7 @@ use Rattle.fh_base.specs.Told.{WritesFront, WritesPart}
 use Rattle.fh_base.specs.declared.fault.SinkFault.{SinkFault}
 use Rattle.fh_base.specs.declared.fault.SinkFault.TheVariants as sink
 use Rattle.top_call.specs.declared.status.Status.{Status}
-use Rattle.top_call.specs.declared.status.Status.TheVariants.{Done, BadWords, BadDocument, BadCapture, ReadFault, WriteFault, NoMemory, TooLong, CheckFails, BadPcap, NoFit}
+use Rattle.top_call.specs.declared.status.Status.TheVariants.{Done, BadWords, BadDocument, BadCapture, ReadFault, WriteFault, NoMemory, TooLong, CheckFails, BadPcap, BadText, NoFit}
 use Rattle.window_lines.specs.window_config.specs.declared.delays.Delays.{Delays}
 use Rattle.window_lines.specs.window_config.specs.declared.relations.Failing.{Failing}
 use Rattle.window_lines.specs.window_plan.specs.declared.refusals.NoFit.{NoFit as Refusal}
@@ -20,6 +20,7 @@ verdict_answers BadWords verdict = absurd verdict
 verdict_answers (BadDocument line why) verdict = absurd verdict
 verdict_answers (BadCapture place why) verdict = absurd verdict
 verdict_answers (BadPcap r) verdict = absurd verdict
+verdict_answers (BadText line why) verdict = absurd verdict
 verdict_answers ReadFault verdict = absurd verdict
 verdict_answers WriteFault verdict = absurd verdict
 verdict_answers NoMemory verdict = absurd verdict
@@ -33,6 +34,7 @@ no_refusal BadWords verdict refusal = verdict
 no_refusal (BadDocument line why) verdict refusal = verdict
 no_refusal (BadCapture place why) verdict refusal = verdict
 no_refusal (BadPcap r) verdict refusal = verdict
+no_refusal (BadText line why) verdict refusal = verdict
 no_refusal ReadFault verdict refusal = verdict
 no_refusal WriteFault verdict refusal = verdict
 no_refusal NoMemory verdict refusal = verdict
@@ -46,6 +48,7 @@ no_stop BadWords verdict stopped = verdict
 no_stop (BadDocument line why) verdict stopped = verdict
 no_stop (BadCapture place why) verdict stopped = verdict
 no_stop (BadPcap r) verdict stopped = verdict
+no_stop (BadText line why) verdict stopped = verdict
 no_stop ReadFault verdict stopped = verdict
 no_stop WriteFault verdict stopped = verdict
 no_stop NoMemory verdict stopped = verdict
@@ -59,6 +62,7 @@ verdict_faultless BadWords verdict = refl
 verdict_faultless (BadDocument line why) verdict = refl
 verdict_faultless (BadCapture place why) verdict = refl
 verdict_faultless (BadPcap r) verdict = refl
+verdict_faultless (BadText line why) verdict = refl
 verdict_faultless ReadFault verdict = refl
 verdict_faultless WriteFault verdict = absurd verdict
 verdict_faultless NoMemory verdict = refl

@@ -6,7 +6,7 @@ use Rattle.capture_show.specs.capture_records.specs.Records.{capture_bytes}
 use Rattle.capture_show.specs.Messages.{capture_lines}
 use Rattle.capture_show.specs.Texts.{lines_text}
 use Rattle.command_words.specs.declared.commands.Command.{Command}
-use Rattle.command_words.specs.declared.commands.Command.TheVariants.{Replay, Summary, Capture, Show, Sent, Windows, Fit, Generate, Trial, Shared, Idle, Pcap, PcapCapture}
+use Rattle.command_words.specs.declared.commands.Command.TheVariants.{Replay, Summary, Capture, Show, Explain, Sent, Windows, Fit, Generate, Trial, Shared, Idle, DrawGrid, DrawWindows, Pcap, PcapCapture}
 use Rattle.pcap_lines.specs.fh_document.specs.declared.document.Document.{Document}
 use Rattle.pcap_lines.specs.fh_document.specs.declared.refusals.DocWhy.{DocWhy}
 use Rattle.pcap_lines.specs.fh_document.specs.Document.{document_of}
@@ -17,6 +17,9 @@ use Rattle.pcap_frames.specs.declared.refusals.PcapRefusal.{PcapRefusal}
 use Rattle.pcap_frames.specs.declared.values.Whose.{Whose}
 use Rattle.pcap_frames.specs.Checked.{checked as pcap_checked}
 use Rattle.pcap_frames.specs.Frames.{frames_of}
+use Rattle.grid_picture.specs.Picture.{drawn as grid_of, span_of}
+use Rattle.window_picture.specs.Picture.{drawn as windows_of}
+use Rattle.picture_lines.specs.declared.faults.TextWhy.{TextWhy}
 use Rattle.pcap_lines.specs.Texts.{arrived_as, lines_of}
 use Rattle.fronthaul_replay.specs.plan_model.specs.Valid.{plan_refusal}
 use Rattle.fronthaul_replay.specs.plan_model.specs.declared.refusals.PlanWhy.{PlanWhy}
@@ -29,11 +32,12 @@ use Rattle.window_lines.specs.Windows.{windows_text}
 use Rattle.window_lines.specs.window_plan.specs.declared.refusals.NoFit.{NoFit as Refusal}
 use Rattle.window_lines.specs.window_plan.specs.Fitting.{fitted}
 use Rattle.sent_text.specs.Text.{sent_text}
+use Rattle.explain_text.specs.Text.{explanation}
 use Rattle.shared_text.specs.Shared.{shared_text}
 use Rattle.idle_replay.specs.Idle.{document_idle}
 use Rattle.top_call.specs.declared.status.LineWhy.TheVariants.{Doc, Plan}
 use Rattle.top_call.specs.declared.status.Status.{Status}
-use Rattle.top_call.specs.declared.status.Status.TheVariants.{Done, BadWords, BadDocument, BadCapture, CheckFails, BadPcap, NoFit}
+use Rattle.top_call.specs.declared.status.Status.TheVariants.{Done, BadWords, BadDocument, BadCapture, CheckFails, BadPcap, BadText, NoFit}
 
 -- a complete text, and the status after it
 pub record Answer : Type 0 where
@@ -71,6 +75,10 @@ summarized d = record { text = summary_of d; status = Done }
 -- `capture`: the frames among them, as records
 abbrev pub captured : Document → Answer
 captured d = record { text = capture_of d; status = Done }
+
+-- `explain`: what became of its frames and sections, and why cells are silent; all of it, or its faults alone
+abbrev pub explained : Bool → Document → Answer
+explained faults d = record { text = explanation faults d; status = Done }
 
 -- `sent`: the frames that its plan sends to the radio unit
 abbrev pub listed : Document → Answer
@@ -119,6 +127,21 @@ of_capture text (Err r) = refused (BadCapture r.place r.why)
 abbrev pub shown : Bool → List ℕ → Answer
 shown json bytes = of_capture (lines_text json (capture_lines bytes)) (capture_checked bytes)
 
+-- ---- the commands that read the text of an explanation
+
+-- the picture of a text, or its first line that is refused
+abbrev pub of_picture : Result (List ℕ) (ℕ × TextWhy) → Answer
+of_picture (Ok picture) = record { text = picture; status = Done }
+of_picture (Err (line, why)) = refused (BadText line why)
+
+-- `draw grid`: the grid of some subframes from one on
+abbrev pub grid_drawn : ℕ → ℕ → ℕ → List ℕ → Answer
+grid_drawn frame subframe count bytes = of_picture (grid_of (span_of frame subframe count) bytes)
+
+-- `draw windows`: the windows, and what arrived in them
+abbrev pub windows_drawn : List ℕ → Answer
+windows_drawn bytes = of_picture (windows_of bytes)
+
 -- ---- the commands that read a pcap file
 
 -- what is written of the frames of a file that passed, or the first fault of the file
@@ -156,6 +179,7 @@ reads Replay = true
 reads Summary = true
 reads Capture = true
 reads (Show json) = true
+reads (Explain faults) = true
 reads Sent = true
 reads Windows = true
 reads Fit = true
@@ -163,6 +187,8 @@ reads (Generate seed slots) = false
 reads (Trial seed slots) = false
 reads (Shared count step) = true
 reads (Idle first last min) = true
+reads (DrawGrid frame subframe count) = true
+reads DrawWindows = true
 reads (Pcap whose start) = true
 reads (PcapCapture whose start) = true
 
@@ -172,6 +198,7 @@ answer_of Replay bytes = of_document (of_planned replayed) (document_of bytes)
 answer_of Summary bytes = of_document (of_planned summarized) (document_of bytes)
 answer_of Capture bytes = of_document (of_planned captured) (document_of bytes)
 answer_of (Show json) bytes = shown json bytes
+answer_of (Explain faults) bytes = of_document (of_planned (explained faults)) (document_of bytes)
 answer_of Sent bytes = of_document (of_planned listed) (document_of bytes)
 answer_of Windows bytes = of_document (λ d. windows_shown d.config) (document_of bytes)
 answer_of Fit bytes = of_document (λ d. fit_shown d.config.delays) (document_of bytes)
@@ -179,6 +206,8 @@ answer_of (Generate seed slots) bytes = generated_document seed slots
 answer_of (Trial seed slots) bytes = tried seed slots
 answer_of (Shared count step) bytes = of_document (of_planned (shared count step)) (document_of bytes)
 answer_of (Idle first last min) bytes = of_document (of_planned (idled first last min)) (document_of bytes)
+answer_of (DrawGrid frame subframe count) bytes = grid_drawn frame subframe count bytes
+answer_of DrawWindows bytes = windows_drawn bytes
 answer_of (Pcap whose start) bytes = frames_injected whose start bytes
 answer_of (PcapCapture whose start) bytes = frames_captured whose start bytes
 

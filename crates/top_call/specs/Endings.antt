@@ -15,11 +15,13 @@ use Rattle.fronthaul_replay.specs.plan_tests.specs.declared.testing.PlanRefusal.
 use Rattle.fronthaul_replay.specs.plan_tests.specs.declared.testing.PlanRefusal.TheVariants as plan
 use Rattle.pcap_frames.specs.declared.refusals.PcapFault.{PcapFault}
 use Rattle.pcap_frames.specs.declared.refusals.PcapFault.TheVariants as pcap
+use Rattle.picture_lines.specs.declared.faults.DrawFault.{DrawFault}
+use Rattle.picture_lines.specs.declared.faults.DrawFault.TheVariants as draw
 use Rattle.shared_text.specs.declared.faults.ShareFault.{ShareFault}
 use Rattle.shared_text.specs.declared.faults.ShareFault.TheVariants as share
 use Rattle.top_call.specs.declared.status.LineWhy.TheVariants.{Doc, Plan}
 use Rattle.top_call.specs.declared.status.Status.{Status}
-use Rattle.top_call.specs.declared.status.Status.TheVariants.{Done, BadDocument, BadCapture, ReadFault, WriteFault, NoMemory, TooLong, BadPcap}
+use Rattle.top_call.specs.declared.status.Status.TheVariants.{Done, BadDocument, BadCapture, ReadFault, WriteFault, NoMemory, TooLong, BadPcap, BadText}
 
 -- the whole text was to be written, and then the run to end with a status
 abbrev pub ending_of : Result (Unit {0}) SinkFault → Status → Status
@@ -54,6 +56,13 @@ abbrev pub source_status : ReadAllFault → Status
 source_status source.ReadFault = ReadFault
 source_status source.TooLong = TooLong
 source_status source.NoMemory = NoMemory
+
+-- a picture was drawn, or was not
+abbrev pub drawn_status : Result (Unit {0}) DrawFault → Status
+drawn_status (Ok _) = Done
+drawn_status (Err (draw.Refused line why)) = BadText line why
+drawn_status (Err draw.WriteFault) = WriteFault
+drawn_status (Err draw.NoMemory) = NoMemory
 
 -- a pcap file was not accepted
 abbrev pub pcap_status : PcapFault → Status

@@ -5,6 +5,7 @@ use Rattle.command_words.specs.Words.{command_of}
 use Rattle.command_words.specs.declared.commands.Command.TheVariants.{Trial}
 use Rattle.fh_base.specs.Causes.{Counts, Rose}
 use Rattle.fh_base.specs.Told.{WritesFront, WritesPart}
+use Rattle.explain_text.specs.Explained.{IsExplainedDocument}
 use Rattle.pcap_lines.specs.fh_document.specs.Document.{document_of}
 use Rattle.pcap_lines.specs.fh_document.specs.declared.document.Document.{Document}
 use Rattle.fronthaul_replay.specs.Laws.{IsSound}
@@ -15,7 +16,7 @@ use Rattle.sent_text.specs.Laws.{IsListed}
 use Rattle.shared_text.specs.Summed.{IsSummed}
 use Rattle.unit_documents.specs.Units.{unit_of}
 use Rattle.top_call.specs.declared.status.Status.{Status}
-use Rattle.top_call.specs.declared.status.Status.TheVariants.{Done, BadWords, BadDocument, BadCapture, ReadFault, WriteFault, NoMemory, TooLong, CheckFails, BadPcap, NoFit}
+use Rattle.top_call.specs.declared.status.Status.TheVariants.{Done, BadWords, BadDocument, BadCapture, ReadFault, WriteFault, NoMemory, TooLong, CheckFails, BadPcap, BadText, NoFit}
 use Rattle.top_call.specs.Answers.{Answer, asked, is_reading}
 use Rattle.top_call.specs.Trials.{IsTrial}
 use Rattle.fh_base.specs.declared.source.TheConstants.{INPUT_LIMIT}
@@ -34,6 +35,7 @@ IsRefusal BadWords = Unit {0}
 IsRefusal (BadDocument line why) = Unit {0}
 IsRefusal (BadCapture place why) = Unit {0}
 IsRefusal (BadPcap refusal) = Unit {0}
+IsRefusal (BadText line why) = Unit {0}
 IsRefusal status = ⊥
 
 -- the statuses that stand behind a whole text
@@ -88,6 +90,10 @@ AnswersRun wanted status = wanted ≡ status
 abbrev pub IsSoundPlan : Document → Type 0
 IsSoundPlan d = IsValid d.config d.plan → IsSound d
 
+-- the laws of the lines that explain a document hold where its plan is valid and so it is explained
+abbrev pub IsExplainedPlan : Document → Type 0
+IsExplainedPlan d = IsValid d.config d.plan → IsExplainedDocument d
+
 -- the laws of the units of a shared cell hold where the plan is valid: no element of any unit radiates twice, and the combined cells are
 -- the sums of what the units take in
 abbrev pub IsSharedPlan : ℕ → ℕ → Document → Type 0
@@ -132,6 +138,9 @@ pub record Outcome (words : List (List ℕ)) (left_old left_new : Option (List �
   -- and of the frames that such a document's plan sends: each has its line, once and in the sent order, and their copies are, with the injected
   -- frames and those of delay measurement, what arrives at the radio unit
   pub listed : IfOk (document_of came) IsListed
+  -- and of the lines that explain such a document: each judged thing has one, each counter is the number of lines with its word, runs of cells
+  -- are maximal, and the text of its faults is of the same lines; each missing cell, silent element and unused block has its reason
+  pub explained : IfOk (document_of came) IsExplainedPlan
   -- and of the units of a cell that such a document's frames are shared by
   pub shared : (count step : ℕ) → 1 ≤ count → IfOk (document_of came) (IsSharedPlan count step)
   -- and of the spans in which such a document's endpoints are idle: none holds a radiated element, the plan with the proposed lines after it

@@ -7,6 +7,8 @@ use Rattle.pcap_frames.specs.declared.refusals.PcapRefusal.{PcapRefusal}
 use Rattle.pcap_frames.specs.Refusals.{name_of as pcap_name}
 use Rattle.fronthaul_replay.specs.plan_model.specs.declared.refusals.PlanWhy.{PlanWhy}
 use Rattle.fronthaul_replay.specs.plan_model.specs.declared.refusals.PlanWhy.TheVariants.{UnknownEndpoint, Range, Overlap, TooManySections, SequenceDense}
+use Rattle.picture_lines.specs.Refusals.{why_name as text_name}
+use Rattle.picture_lines.specs.declared.faults.TextWhy.{TextWhy}
 use Rattle.text_lines.specs.Words.{spaced_signed_text}
 use Rattle.window_lines.specs.window_config.specs.declared.relations.Failing.{Failing}
 use Rattle.window_lines.specs.window_config.specs.Relations.{name_of as relation_name}
@@ -15,7 +17,7 @@ use Rattle.window_lines.specs.window_plan.specs.Names.{name_of as window_name}
 use Rattle.top_call.specs.declared.status.LineWhy.{LineWhy}
 use Rattle.top_call.specs.declared.status.LineWhy.TheVariants.{Doc, Plan}
 use Rattle.top_call.specs.declared.status.Status.{Status}
-use Rattle.top_call.specs.declared.status.Status.TheVariants.{Done, BadWords, BadDocument, BadCapture, ReadFault, WriteFault, NoMemory, TooLong, CheckFails, BadPcap, NoFit}
+use Rattle.top_call.specs.declared.status.Status.TheVariants.{Done, BadWords, BadDocument, BadCapture, ReadFault, WriteFault, NoMemory, TooLong, CheckFails, BadPcap, BadText, NoFit}
 
 -- the exit status
 abbrev pub code_of : Status → ℕ
@@ -30,6 +32,7 @@ code_of TooLong = 8
 code_of (CheckFails failing) = 9
 code_of (BadPcap refusal) = 10
 code_of (NoFit refusal) = 11
+code_of (BadText line why) = 12
 
 -- the name of a reason of the plan
 abbrev pub plan_name : PlanWhy → List ℕ
@@ -64,6 +67,10 @@ no_fit_line r = codes "fronthaul: no fit " ++ window_name r.window ++ spaced_sig
 abbrev pub pcap_line : PcapRefusal → List ℕ
 pcap_line r = codes "fronthaul: pcap at " ++ decimal r.place ++ codes ": " ++ pcap_name r.why ++ codes "\n"
 
+-- the line of a text of an explanation that is refused
+abbrev pub text_line : ℕ → TextWhy → List ℕ
+text_line line why = codes "fronthaul: line " ++ decimal line ++ codes ": " ++ text_name why ++ codes "\n"
+
 -- the line on standard error
 abbrev pub status_line : Status → List ℕ
 status_line Done = []
@@ -76,4 +83,5 @@ status_line NoMemory = codes "fronthaul: no memory\n"
 status_line TooLong = codes "fronthaul: input too long\n"
 status_line (CheckFails failing) = failing_line failing
 status_line (BadPcap refusal) = pcap_line refusal
+status_line (BadText line why) = text_line line why
 status_line (NoFit refusal) = no_fit_line refusal

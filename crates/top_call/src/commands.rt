@@ -1,10 +1,13 @@
 // The commands over a whole input, a module each.
-ghost use Rattle.std.specs.Prelude.{◌≡◌};
+ghost use Rattle.std.specs.Prelude.{◌≡◌, ◌≤◌, length};
+ghost use Rattle.fh_base.specs.declared.source.TheConstants.{INPUT_LIMIT};
 ghost use Rattle.command_words.specs.Words.{IsProper};
 ghost use Rattle.top_call.specs.Answers.{answer_of, reads};
 ghost use Rattle.top_call.specs.Run.{Performs};
 
 mod capture;
+mod draw;
+mod explain;
 mod fit;
 mod generate;
 mod idle;
@@ -20,6 +23,8 @@ mod windows;
 use crate::status::Status;
 use capture::write_capture;
 use command_words::Command;
+use draw::{write_arrivals, write_grid};
+use explain::write_explanation;
 use fh_base::Sink;
 use fit::write_fit;
 use generate::write_document;
@@ -43,11 +48,14 @@ pub(crate) fn reads(command: Command) -> bool
         | Command::Summary
         | Command::Capture
         | Command::Show { .. }
+        | Command::Explain { .. }
         | Command::Sent
         | Command::Windows
         | Command::Fit
         | Command::Shared { .. }
         | Command::Idle { .. }
+        | Command::DrawGrid { .. }
+        | Command::DrawWindows
         | Command::Pcap { .. }
         | Command::PcapCapture { .. } => true,
         Command::Generate { .. } | Command::Trial { .. } => false,
@@ -57,7 +65,8 @@ pub(crate) fn reads(command: Command) -> bool
 /// Does what a command asks for over the whole input.
 #[tactic(auto, unfolding(crate::specs::Answers::answer_of))]
 pub(crate) fn perform<K: Sink>(alloc: Global, command: Command, bytes: &[u8], out: &mut K) -> Status
-    requires { IsProper command }
+    requires proper { IsProper command }
+    requires within { length bytes.now ≤ INPUT_LIMIT }
     ensures { Performs (answer_of command bytes.now) (K.written out.old) (K.written out.new) (K.faults out.old) (K.faults out.new) result }
 {
     match command {
@@ -65,6 +74,7 @@ pub(crate) fn perform<K: Sink>(alloc: Global, command: Command, bytes: &[u8], ou
         Command::Summary => write_summary(alloc, bytes, out),
         Command::Capture => write_capture(alloc, bytes, out),
         Command::Show { json } => show_capture(alloc, json, bytes, out),
+        Command::Explain { faults } => write_explanation(alloc, faults, bytes, out),
         Command::Sent => write_sent(alloc, bytes, out),
         Command::Windows => write_windows(alloc, bytes, out),
         Command::Fit => write_fit(alloc, bytes, out),
@@ -74,6 +84,12 @@ pub(crate) fn perform<K: Sink>(alloc: Global, command: Command, bytes: &[u8], ou
         Command::Idle { first, last, min } => {
             write_idle_spans(alloc, first, last, min, bytes, out)
         }
+        Command::DrawGrid {
+            frame,
+            subframe,
+            count,
+        } => write_grid(alloc, frame, subframe, count, bytes, out),
+        Command::DrawWindows => write_arrivals(alloc, bytes, out),
         Command::Pcap { whose, start } => inject_frames(alloc, whose, start, bytes, out),
         Command::PcapCapture { whose, start } => capture_frames(alloc, whose, start, bytes, out),
     }

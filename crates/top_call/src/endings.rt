@@ -1,6 +1,6 @@
 // How a run ends, by what its last step answered.
 ghost use Rattle.std.specs.Prelude.{◌≡◌, slice_index};
-ghost use Rattle.top_call.specs.Endings.{ending_of, pcap_status, share_status, text_status, source_status, unplanned_status, unread_status};
+ghost use Rattle.top_call.specs.Endings.{drawn_status, ending_of, pcap_status, share_status, text_status, source_status, unplanned_status, unread_status};
 
 use crate::status::{LineWhy, Status};
 use du_scheduler::PlanRefusal;
@@ -8,6 +8,7 @@ use fh_base::{List, ReadAllFault, SinkFault};
 use fh_document::{DocFault, Document};
 use fronthaul_replay::TextFault;
 use pcap_frames::PcapFault;
+use picture_lines::DrawFault;
 use shared_text::ShareFault;
 
 /// How a run ends whose whole text was to be written, and which then ends with `status`.
@@ -76,6 +77,18 @@ pub(crate) fn unplanned_status(document: &Document, refusal: PlanRefusal) -> Sta
             why: LineWhy::Plan(why),
         },
         PlanRefusal::NoMemory => Status::NoMemory,
+    }
+}
+
+/// How a run ends that was to draw a picture.
+pub(crate) fn drawn_status(drawn: Result<(), DrawFault>) -> Status
+    ensures { result ≡ drawn_status drawn }
+{
+    match drawn {
+        Ok(()) => Status::Done,
+        Err(DrawFault::Refused { line, why }) => Status::BadText { line, why },
+        Err(DrawFault::WriteFault) => Status::WriteFault,
+        Err(DrawFault::NoMemory) => Status::NoMemory,
     }
 }
 

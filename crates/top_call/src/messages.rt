@@ -3,13 +3,14 @@ ghost use Rattle.std.specs.Prelude.{◌≡◌, ◌≤◌, length, OnOk, OnErr};
 ghost use Rattle.std.specs.Io.KnownBytes.{append_known};
 ghost use Rattle.fh_base.specs.Causes.{HasSinkCause};
 ghost use Rattle.fh_base.specs.Told.{WritesFront, WritesPart};
-ghost use Rattle.top_call.specs.Statuses.{capture_line, failing_line, status_line, no_fit_line, pcap_line, plan_name, refusal_line, why_name};
+ghost use Rattle.top_call.specs.Statuses.{capture_line, failing_line, status_line, no_fit_line, pcap_line, plan_name, refusal_line, text_line, why_name};
 
 use crate::status::{LineWhy, Status};
 use capture_records::CaptureWhy;
 use du_scheduler::PlanWhy;
 use fh_base::{Sink, SinkFault, write_all_to};
 use pcap_frames::PcapRefusal;
+use picture_lines::TextWhy;
 use text_lines::Line;
 use window_config::Failing;
 use window_plan::NoFit;
@@ -40,6 +41,7 @@ fn line_of(status: Status) -> Line
         Status::TooLong => literal(b"fronthaul: input too long\n"),
         Status::CheckFails(failing) => failing_line(failing),
         Status::BadPcap(refusal) => pcap_line(refusal),
+        Status::BadText { line, why } => text_line(line, why),
         Status::NoFit(refusal) => no_fit_line(refusal),
     }
 }
@@ -114,6 +116,19 @@ fn pcap_line(refusal: PcapRefusal) -> Line
     text.number(refusal.place as u64);
     text.text(b": ");
     text.text(refusal.why.name().as_bytes());
+    text.text(b"\n");
+    text
+}
+
+/// Where the text of an explanation is refused, and why.
+fn text_line(line: usize, why: TextWhy) -> Line
+    ensures { result ≡ text_line line why }
+{
+    let mut text = Line::new();
+    text.text(b"fronthaul: line ");
+    text.number(line as u64);
+    text.text(b": ");
+    text.text(why.name().as_bytes());
     text.text(b"\n");
     text
 }

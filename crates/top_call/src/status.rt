@@ -5,6 +5,7 @@ use capture_records::CaptureWhy;
 use du_scheduler::PlanWhy;
 use fh_document::DocWhy;
 use pcap_frames::PcapRefusal;
+use picture_lines::TextWhy;
 use thiserror::Error;
 use window_config::Failing;
 use window_plan::NoFit;
@@ -43,6 +44,8 @@ pub enum Status {
     CheckFails(Failing),
     /// A pcap file is refused. Nothing was written.
     BadPcap(PcapRefusal),
+    /// The text of an explanation is refused at a line, counted from 1. Nothing was written.
+    BadText { line: usize, why: TextWhy },
     /// No windows fit the document's network, the first that do not. The whole text was written.
     NoFit(NoFit),
 }
@@ -66,6 +69,7 @@ impl Status {
             Status::CheckFails(_) => 9,
             Status::BadPcap(_) => 10,
             Status::NoFit(_) => 11,
+            Status::BadText { .. } => 12,
         }
     }
 }

@@ -1,0 +1,10 @@
+mod Scales
+mod Cells
+mod Bands
+mod Areas
+mod Drawn
+mod PlainTexts
+mod PlainWindows
+mod PlainGrids
+mod PlainReadings
+mod Pictures

@@ -1,0 +1,4 @@
+pub mod Inside
+pub mod Drawn
+pub mod Plain
+pub mod Laws

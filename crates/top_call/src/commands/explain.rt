@@ -1,0 +1,58 @@
+// `explain`: what became of a document's frames and sections, and why cells are silent.
+ghost use Rattle.std.specs.Prelude.{◌≡◌};
+ghost use Rattle.document_traffic.specs.Sending.{sent_for};
+ghost use Rattle.du_scheduler.specs.Plans.{HasToSend};
+ghost use Rattle.fh_document.specs.Document.{document_of};
+ghost use Rattle.fh_document.specs.Proper.{IsDocument};
+ghost use Rattle.top_call.specs.Answers.{explained, of_document, of_planned};
+ghost use Rattle.top_call.specs.Run.{Performs};
+
+use crate::endings::{text_status, unplanned_status, unread_status};
+use crate::status::Status;
+use du_scheduler::Plan;
+use explain_text::explain;
+use fh_base::Sink;
+use fh_document::{Document, read};
+use fronthaul_replay::check_plan;
+use std::alloc::Global;
+
+/// Reads a document and explains it: all of it, or its faults alone.
+pub(crate) fn write_explanation<K: Sink>(
+    alloc: Global,
+    faults: bool,
+    bytes: &[u8],
+    out: &mut K,
+) -> Status
+    ensures { Performs (of_document (of_planned (explained faults)) (document_of bytes.now)) (K.written out.old) (K.written out.new) (K.faults out.old) (K.faults out.new) result }
+{
+    match read(alloc, bytes) {
+        Ok(document) => explain_planned(alloc, faults, &document, out),
+        Err(fault) => unread_status(fault),
+    }
+}
+
+/// Tests the plan of a document and explains it.
+fn explain_planned<K: Sink>(alloc: Global, faults: bool, document: &Document, out: &mut K) -> Status
+    requires { IsDocument document.now }
+    ensures { Performs (of_planned (explained faults) document.now) (K.written out.old) (K.written out.new) (K.faults out.old) (K.faults out.new) result }
+{
+    match check_plan(alloc, document) {
+        Ok(plan) => put_explanation(alloc, faults, document, plan, out),
+        Err(refusal) => unplanned_status(document, refusal),
+    }
+}
+
+/// Explains a document with this plan.
+fn put_explanation<K: Sink>(
+    alloc: Global,
+    faults: bool,
+    document: &Document,
+    plan: Plan,
+    out: &mut K,
+) -> Status
+    requires document { IsDocument document.now }
+    requires plan { HasToSend document.now.config document.now.plan (sent_for document.now) plan }
+    ensures { Performs (explained faults document.now) (K.written out.old) (K.written out.new) (K.faults out.old) (K.faults out.new) result }
+{
+    text_status(explain(alloc, document, plan, faults, out))
+}
