@@ -189,6 +189,15 @@ fn pending(ring: &SlotRing, index: usize) -> Option<[bool; 4]> {
     }
 }
 
+/// Whether the slot of a place may have cells to report, and whether it has uplink sections.
+fn held(ring: &SlotRing, index: usize) -> Option<(bool, bool)> {
+    if index < ring.place_count() {
+        Some((ring.has_pending_at(index), ring.has_uplink_at(index)))
+    } else {
+        None
+    }
+}
+
 #[test]
 fn claims_of_a_slot(rt: HostRuntime) -> Result<(), Fail> {
     let n = Numerology::ordinary(1).expect(&rt, "30 kHz");
@@ -289,8 +298,10 @@ fn claims_to_report(rt: HostRuntime) -> Result<(), Fail> {
         assert_eq!(rt; take(&mut ring, a), Some(CommandVerdict::Accepted));
         assert_eq!(rt; pending(&ring, 1), Some(flags));
         assert_eq!(rt; (ring.has_pending(), ring.has_uplink()), (flags[1], uplink));
+        assert_eq!(rt; held(&ring, 1), Some((flags[1], uplink)));
     }
     assert_eq!(rt; pending(&ring, 0), Some([false; 4]));
+    assert_eq!(rt; held(&ring, 0), Some((false, false)));
     // the place of another slot holds no section of this one
     open(&mut ring, SECOND);
     assert!(rt; !ring.has_uplink());

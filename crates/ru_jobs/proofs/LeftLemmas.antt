@@ -13,7 +13,8 @@ use Rattle.symbol_search.specs.unit_model.specs.Uplink.{sends_in, symbol_jobs}
 use Rattle.symbol_search.specs.unit_model.specs.declared.allocations.Allocation.{Allocation}
 use Rattle.symbol_search.specs.unit_model.specs.declared.jobs.UplinkJob.{UplinkJob}
 use Rattle.symbol_search.specs.unit_model.specs.declared.symbol_start.SymbolStart.{SymbolStart}
-use Rattle.symbol_search.specs.unit_cells.specs.Cells.{CellsValue, cells_uplink}
+use Rattle.symbol_search.specs.unit_cells.specs.Cells.{CellsValue, cells_index, cells_uplink}
+use Rattle.symbol_search.specs.Searches.{InPlace}
 use Rattle.symbol_search.specs.Symbols.{HasNone, InSlot, OfEndpoint}
 use Rattle.ru_jobs.specs.Cursors.{is_job_left, jobs_left, left_behind, left_jobs}
 use Rattle.ru_jobs.specs.declared.cursor.JobCursor.{JobCursor}
@@ -65,6 +66,10 @@ nothing_sends v cursor m h =
 
 pub none_of_endpoint : (v : CellsValue) (cursor : JobCursor) (ep : ℕ) → ((slot : Slot) → cells_uplink v ep slot ≡ []) → HasNone v (is_job_left v cursor) (OfEndpoint ep)
 none_of_endpoint v cursor ep none m is of = nothing_sends v cursor m (ap (λ k. cells_uplink v k m.slot) of ∙ none m.slot)
+
+pub none_in_place : (v : CellsValue) (cursor : JobCursor) (ep index : ℕ) → ((slot : Slot) → cells_index v ep slot ≡ index → cells_uplink v ep slot ≡ [])
+    → HasNone v (is_job_left v cursor) (InPlace v ep index)
+none_in_place v cursor ep index none m is of = nothing_sends v cursor m (ap (λ k. cells_uplink v k m.slot) of.0 ∙ none m.slot of.1)
 
 pub none_in_slot : (v : CellsValue) (cursor : JobCursor) (ep : ℕ) (slot : Slot) (xs : List Allocation) → reverse xs ≡ cells_uplink v ep slot → length xs ≡ 0
     → HasNone v (is_job_left v cursor) (InSlot ep slot)

@@ -3,8 +3,9 @@ ghost use Rattle.std.specs.Prelude.{◌≡◌, ◌<◌, false, length, reverse, 
 ghost use Rattle.std.specs.Bool.{then_some};
 ghost use Rattle.fh_time.specs.Numbering.{symbols_of};
 ghost use Rattle.symbol_search.specs.Places.{IsPlace, start_in};
+ghost use Rattle.symbol_search.specs.Searches.{InPlace};
 ghost use Rattle.symbol_search.specs.Symbols.{HasNone, InSlot, OfEndpoint};
-ghost use Rattle.symbol_search.specs.unit_cells.specs.Cells.{cells_uplink, endpoints_of};
+ghost use Rattle.symbol_search.specs.unit_cells.specs.Cells.{cells_places, cells_uplink, endpoints_of};
 ghost use Rattle.ru_jobs.specs.Cursors.{is_job_left};
 
 use crate::cursor::JobCursor;
@@ -28,6 +29,15 @@ impl<'c> SymbolTest<'c> for JobCursor {
         ensures { result ≡ false → HasNone cells.now (is_job_left cells.now self.now) (OfEndpoint ep) }
     {
         cells.has_uplink(ep)
+    }
+
+    /// Looks at one number.
+    fn may_fit_at(&self, cells: &UnitCells, ep: usize, index: usize) -> bool
+        requires ep { ep < length (endpoints_of cells.now) }
+        requires index { index < cells_places cells.now ep }
+        ensures { result ≡ false → HasNone cells.now (is_job_left cells.now self.now) (InPlace cells.now ep index) }
+    {
+        cells.has_uplink_at(ep, index)
     }
 
     fn look_up(&self, cells: &'c UnitCells, place: &SlotPlace<'_>) -> Option<&'c [Allocation]>

@@ -11,7 +11,8 @@ use Rattle.window_config.specs.declared.endpoints.EndpointConfig.{EndpointConfig
 use Rattle.symbol_search.specs.unit_model.specs.Proper.{IsAt}
 use Rattle.symbol_search.specs.unit_model.specs.Starts.{start_at}
 use Rattle.symbol_search.specs.unit_model.specs.declared.symbol_start.SymbolStart.{SymbolStart}
-use Rattle.symbol_search.specs.unit_cells.specs.Cells.{CellsValue, endpoints_of}
+use Rattle.symbol_search.specs.unit_cells.specs.Cells.{CellsValue, cells_index, endpoints_of}
+use Rattle.symbol_search.specs.Searches.{InPlace}
 use Rattle.symbol_search.specs.Symbols.{HasNone, InSlot, OfEndpoint}
 use Rattle.symbol_search.proofs.SymbolLemmas.{endpoint_one, symbol_one}
 use Rattle.ru_reports.specs.Symbols.{is_left, is_left_after}
@@ -33,6 +34,15 @@ none_pending v t ep quiet m is of =
     second_false (int_lt t m.start.0) (is_left v m)
     (subst (λ (k : ℕ). is_left v (start_at k m.endpoint m.slot m.symbol) ≡ false) (sym of)
     (quiet m.endpoint (subst (λ (k : ℕ). IsAt (endpoints_of v) k m.endpoint) of is.at) m.slot m.symbol is.symbol_is))
+
+-- nothing is to be reported of the slot that has a place
+pub none_pending_at : (v : CellsValue) (t : ℤ) (ep index : ℕ)
+    → ((e : EndpointConfig) → IsAt (endpoints_of v) ep e → (slot : Slot) (symbol : ℕ) → cells_index v ep slot ≡ index → symbol < symbols_of e.numerology
+    → is_left v (start_at ep e slot symbol) ≡ false) → HasNone v (is_left_after v t) (InPlace v ep index)
+none_pending_at v t ep index quiet m is of =
+    second_false (int_lt t m.start.0) (is_left v m)
+    (subst (λ (k : ℕ). is_left v (start_at k m.endpoint m.slot m.symbol) ≡ false) (sym of.0)
+    (quiet m.endpoint (subst (λ (k : ℕ). IsAt (endpoints_of v) k m.endpoint) of.0 is.at) m.slot m.symbol of.1 is.symbol_is))
 
 not_after_last : (t s a b : ℤ) → s ≡ a → a ≤ℤ b → int_le b t ≡ true → int_lt t s ≡ false
 not_after_last t s a b p q r = grind (arith, ints)

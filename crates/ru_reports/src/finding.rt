@@ -4,8 +4,9 @@ ghost use Rattle.std.specs.Bool.{then_some};
 ghost use Rattle.fh_time.specs.Air.{air_of};
 ghost use Rattle.fh_time.specs.Numbering.{symbols_of};
 ghost use Rattle.symbol_search.specs.Places.{IsPlace, start_in};
+ghost use Rattle.symbol_search.specs.Searches.{InPlace};
 ghost use Rattle.symbol_search.specs.Symbols.{HasNone, InSlot, IsFirst, OfEndpoint};
-ghost use Rattle.symbol_search.specs.unit_cells.specs.Cells.{endpoints_of};
+ghost use Rattle.symbol_search.specs.unit_cells.specs.Cells.{cells_places, endpoints_of};
 ghost use Rattle.symbol_search.specs.unit_model.specs.Proper.{IsSlot};
 ghost use Rattle.ru_reports.specs.Symbols.{is_left_after};
 
@@ -44,6 +45,15 @@ impl SymbolTest<'_> for LeftAfter {
         ensures { result ≡ false → HasNone cells.now (is_left_after cells.now self.now.after.0) (OfEndpoint ep) }
     {
         cells.has_pending(ep)
+    }
+
+    /// Looks at one number.
+    fn may_fit_at(&self, cells: &UnitCells, ep: usize, index: usize) -> bool
+        requires ep { ep < length (endpoints_of cells.now) }
+        requires index { index < cells_places cells.now ep }
+        ensures { result ≡ false → HasNone cells.now (is_left_after cells.now self.now.after.0) (InPlace cells.now ep index) }
+    {
+        cells.has_pending_at(ep, index)
     }
 
     fn look_up(&self, cells: &UnitCells, place: &SlotPlace<'_>) -> Option<()>

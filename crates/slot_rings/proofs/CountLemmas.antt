@@ -1,13 +1,14 @@
 -- How many flags are set, and how many uplink sections the places hold.
-use Rattle.std.proofs.Common.{◌≡◌, ℕ, ◌+◌, ◌*◌, ◌<◌, ◌≤◌, inl, inr, Bool, true, false, List, [], ◌∷◌, length, get_or, refl, ap, sym, arith}
+use Rattle.std.proofs.Common.{◌≡◌, ℕ, ◌+◌, ◌-◌, ◌*◌, ◌<◌, ◌≤◌, inl, inr, Bool, true, false, List, [], ◌∷◌, length, length-set, map, get_or, set, refl, ap, sym, ◌∙◌, subst, arith}
 use Rattle.std.specs.Prelude.{All}
 use Rattle.std.specs.List.{sum_by}
 use Rattle.std.proofs.lemmas.Bool.{cases_Bool}
+use Rattle.std.proofs.lemmas.List.{get_or-map, get_or_read, map-set}
 use Rattle.std.proofs.lemmas.List.Elements.{All-from_get_or, All-get_or, All-set, All-weaker}
 use Rattle.std.proofs.lemmas.List.Sums.{get_or-le-sum_by, sum_by-cons, sum_by-le, sum_by-set}
 use Rattle.fh_time.specs.declared.values.Slot.{Slot}
 use Rattle.unit_model.specs.declared.allocations.Allocation.{Allocation}
-use Rattle.slot_rings.specs.Counts.{HasSections, as_number, uplink_sections_in, set_in, set_of}
+use Rattle.slot_rings.specs.Counts.{AreCounted, HasSections, as_number, uplink_sections_in, set_in, set_of}
 use Rattle.slot_rings.specs.Places.{PlaceValue, blank, is_place_of}
 use Rattle.slot_rings.specs.Rings.{IsRing, RingValue, place_index, place_of, ring_uplink}
 use Rattle.slot_rings.proofs.RingLemmas.{index_within, put}
@@ -26,6 +27,52 @@ row_most (x ∷ xs) = omega (arith, sum_by-cons as_number x xs, one_most x, row_
 
 pub set_most : (flags : List (List Bool)) → All (λ row. length row ≡ SLOT_SYMBOLS) flags → set_in flags ≤ length flags * SLOT_SYMBOLS
 set_most flags rows = sum_by-le set_of SLOT_SYMBOLS flags (All-weaker (λ row. length row ≡ SLOT_SYMBOLS) (λ row. set_of row ≤ SLOT_SYMBOLS) (λ row is. omega (arith, row_most row, is)) flags rows)
+
+-- the number of a place is how many of its flags are set
+place_is : (flags : List (List Bool)) (places : List ℕ) (count i : ℕ) (row : List Bool) (n : ℕ) → AreCounted flags places count → i < length flags
+    → n ≡ get_or places i n → n ≡ set_of (get_or flags i row)
+place_is flags places count i row n a within place = place ∙ ap (λ (l : List ℕ). get_or l i n) a.each ∙ get_or-map set_of flags i row n within
+
+-- another row of flags in a place
+counted_put : (flags : List (List Bool)) (places : List ℕ) (count c i : ℕ) (row new : List Bool) (n m : ℕ) → AreCounted flags places count → i < length flags
+    → row ≡ get_or flags i row → n ≡ get_or places i n → length new ≡ SLOT_SYMBOLS → m ≡ set_of new → c + n ≡ count + m → AreCounted (set flags i new) (set places i m) c
+counted_put flags places count c i row new n m a within read place len is moved = record {
+  few = omega (arith, length-set flags i new, a.few);
+  rows = All-set (λ row. length row ≡ SLOT_SYMBOLS) flags i new len a.rows;
+  each = ap (λ (l : List ℕ). set l i m) a.each ∙ ap (λ (k : ℕ). set (map set_of flags) i k) is ∙ sym (map-set set_of flags i new);
+  number = omega (arith, sum_by-set set_of flags i new row within, place_is flags places count i row n a within place, moved, a.number, is);
+}
+
+row_of : (flags : List (List Bool)) (places : List ℕ) (count i : ℕ) (row : List Bool) → AreCounted flags places count → i < length flags
+    → row ≡ get_or flags i row → length row ≡ SLOT_SYMBOLS
+row_of flags places count i row a within read = ap length read ∙ All-get_or (λ row. length row ≡ SLOT_SYMBOLS) flags i row within a.rows
+
+pub place_few : (flags : List (List Bool)) (places : List ℕ) (count i : ℕ) (row : List Bool) (n : ℕ) → AreCounted flags places count → i < length flags
+    → row ≡ get_or flags i row → n ≡ get_or places i n → n ≤ SLOT_SYMBOLS
+place_few flags places count i row n a within read place =
+    omega (arith, place_is flags places count i row n a within place, ap set_of read, row_most row, row_of flags places count i row a within read)
+
+-- a flag is set that was not, or cleared that was set
+pub counted_more : (flags : List (List Bool)) (places : List ℕ) (count i : ℕ) (row : List Bool) (s n : ℕ) → AreCounted flags places count → i < length flags
+    → row ≡ get_or flags i row → n ≡ get_or places i n → s < SLOT_SYMBOLS → get_or row s false ≡ false
+    → AreCounted (set flags i (set row s true)) (set places i (n + 1)) (count + 1)
+counted_more flags places count i row s n a within read place below off =
+    let len = row_of flags places count i row a within read in
+    let one : set_of (set row s true) + as_number (get_or row s false) ≡ set_of row + 1 = sum_by-set as_number row s true false (omega (arith, len, below)) in
+    let all : n ≡ set_of row = place_is flags places count i row n a within place ∙ sym (ap set_of read) in
+    counted_put flags places count (count + 1) i row (set row s true) n (n + 1) a within read place (omega (arith, length-set row s true, len))
+    (omega (arith, one, all, ap as_number off)) (omega arith)
+
+pub counted_less : (flags : List (List Bool)) (places : List ℕ) (count i : ℕ) (row : List Bool) (s n : ℕ) → AreCounted flags places count → i < length flags
+    → row ≡ get_or flags i row → n ≡ get_or places i n → s < SLOT_SYMBOLS → get_or row s false ≡ true
+    → AreCounted (set flags i (set row s false)) (set places i (n - 1)) (count - 1)
+counted_less flags places count i row s n a within read place below on =
+    let len = row_of flags places count i row a within read in
+    let one : set_of (set row s false) + as_number (get_or row s false) ≡ set_of row + 0 = sum_by-set as_number row s false false (omega (arith, len, below)) in
+    let all : n ≡ set_of row = place_is flags places count i row n a within place ∙ sym (ap set_of read) in
+    let some = get_or-le-sum_by set_of flags i row within in
+    counted_put flags places count (count - 1) i row (set row s false) n (n - 1) a within read place (omega (arith, length-set row s false, len))
+    (omega (arith, one, all, ap as_number on)) (omega (arith, one, all, ap as_number on, some, ap set_of read, a.number))
 
 -- ---- uplink sections
 
@@ -73,3 +120,19 @@ none_held r slot ring has =
       | inl own ↦ rw own none
       | inr other ↦ rw other refl
     ]
+
+-- none in a place
+pub none_held_at : (r v : RingValue) (slot : Slot) (i : ℕ) (p : PlaceValue) → r ≡ v → i < length r.places → p ≡ get_or r.places i p → place_index v slot ≡ i
+    → length p.uplink ≡ 0 → ring_uplink v slot ≡ []
+none_held_at r v slot i p same within read at none = subst (λ (x : RingValue). ring_uplink x slot ≡ []) same (elim (cases_Bool (is_place_of (place_of r slot).slot slot)) [
+  | inl own ↦ rw own held
+  | inr other ↦ rw other refl
+])
+  where
+    here : place_of r slot ≡ p
+    here =
+        ap (λ (k : ℕ). get_or r.places k blank) (ap (λ (x : RingValue). place_index x slot) same ∙ at)
+        ∙ sym (get_or_read r.places i p within read blank)
+
+    held : (place_of r slot).uplink ≡ []
+    held = ap (λ (x : PlaceValue). x.uplink) here ∙ empty_list p.uplink none

@@ -260,6 +260,23 @@ no_flags r v flags ep slot s same ring flagged none within =
     off : flag_at flags (place_index r slot) s ≡ false
     off = none (place_index r slot) s (omega (arith, index_within r slot ring.some, flagged.size)) (omega (arith, symbols_are r.endpoint.numerology, below))
 
+-- a place without a flag
+pub no_flags_at : (r v : RingValue) (flags : List (List Bool)) (ep : ℕ) (slot : Slot) (s i : ℕ) → r ≡ v → IsRing r → IsFlagged r flags → place_index v slot ≡ i
+    → ((k : ℕ) → k < SLOT_SYMBOLS → flag_at flags i k ≡ false) → s < symbols_of v.endpoint.numerology → ring_due v ep slot s ≡ false
+no_flags_at r v flags ep slot s i same ring flagged at none within =
+    subst (λ (x : RingValue). ring_due x ep slot s ≡ false) same (elim (cases_Bool (has_slot r slot)) [
+      | inr other ↦ due_elsewhere r ep slot s other
+      | inl has ↦ quiet_has r ep slot s has (flagged.quiet (place_index r slot) s off)
+    ])
+  where
+    below : s < symbols_of r.endpoint.numerology
+    below = subst (λ (x : RingValue). s < symbols_of x.endpoint.numerology) (sym same) within
+
+    off : flag_at flags (place_index r slot) s ≡ false
+    off =
+        ap (λ (k : ℕ). flag_at flags k s) (ap (λ (x : RingValue). place_index x slot) same ∙ at)
+        ∙ none s (omega (arith, symbols_are r.endpoint.numerology, below))
+
 -- ---- a ring of places that are no slot's
 
 pub fresh_ring : (r : RingValue) (slots : ℕ) → length r.places ≡ slots → 1 ≤ slots → slots < 1024 → 1 ≤ r.endpoint.prbs → r.endpoint.prbs ≤ CARRIER_PRBS

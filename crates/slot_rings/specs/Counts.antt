@@ -1,5 +1,5 @@
 -- What a ring counts, so that one look says that nothing of it is due: this project's means.
-use Rattle.std.specs.Prelude.{◌≡◌, ℕ, ◌<◌, ◌≤◌, Bool, if◌then◌else◌, List, All, length}
+use Rattle.std.specs.Prelude.{◌≡◌, ℕ, ◌<◌, ◌≤◌, Bool, if◌then◌else◌, List, All, length, map}
 use Rattle.std.specs.List.{sum_by}
 use Rattle.slot_rings.specs.Places.{PlaceValue}
 use Rattle.slot_rings.specs.Rings.{RingValue}
@@ -18,10 +18,11 @@ set_of row = sum_by as_number row
 abbrev pub set_in : List (List Bool) → ℕ
 set_in flags = sum_by set_of flags
 
--- these are the flags of the 14 symbols of less than 1024 places, and so many are set
-pub record AreCounted (flags : List (List Bool)) (count : ℕ) : Type 0 where
+-- these are the flags of the 14 symbols of less than 1024 places, and so many are set of each place and of all
+pub record AreCounted (flags : List (List Bool)) (places : List ℕ) (count : ℕ) : Type 0 where
   pub few : length flags < 1024
   pub rows : All (λ row. length row ≡ SLOT_SYMBOLS) flags
+  pub each : places ≡ map set_of flags
   pub number : count ≡ set_in flags
 
 -- ---- the accepted uplink sections

@@ -10,10 +10,11 @@ use std::alloc::Global;
 use std::marker::Model;
 use unit_model::Allocation;
 
-/// A flag for each symbol of some places, and how many of all of them are set.
+/// A flag for each symbol of some places, and how many are set of each place and of all.
 #[derive(Drop)]
 pub(crate) struct Flags {
     symbols: Vec<[bool; SLOT_SYMBOLS]>,
+    places: Vec<u8>,
     count: usize,
 }
 
@@ -25,7 +26,7 @@ impl Model for Flags {
 
     ghost view = { λ f. f.symbols.items };
 
-    ghost invariant = { λ f. AreCounted f.symbols.items f.count };
+    ghost invariant = { λ f. AreCounted f.symbols.items f.places.items f.count };
 }
 
 impl Flags {
@@ -35,10 +36,16 @@ impl Flags {
         ensures { IfOk result (λ f. length f ≡ places) }
     {
         let mut symbols = Vec::with_capacity(alloc, places)?;
+        let mut counts = Vec::with_capacity(alloc, places)?;
         for _k in 0..places {
             symbols.push([false; SLOT_SYMBOLS])?;
+            counts.push(0)?;
         }
-        Ok(Flags { symbols, count: 0 })
+        Ok(Flags {
+            symbols,
+            places: counts,
+            count: 0,
+        })
     }
 
     /// Whether a flag is set.
@@ -46,6 +53,14 @@ impl Flags {
         ensures { result ≡ false → (i s : ℕ) → i < length self.now → s < SLOT_SYMBOLS → flag_at self.now i s ≡ false }
     {
         self.count != 0
+    }
+
+    /// Whether a flag of a place is set.
+    pub(crate) fn has_any_of(&self, index: usize) -> bool
+        requires { index < length self.now }
+        ensures { result ≡ false → (s : ℕ) → s < SLOT_SYMBOLS → flag_at self.now index s ≡ false }
+    {
+        self.places[index] != 0
     }
 
     /// Whether a symbol of a place is flagged; a symbol that no slot has is as one that is.
@@ -68,6 +83,7 @@ impl Flags {
         let flag = &mut self.symbols[index][symbol];
         if !*flag {
             *flag = true;
+            self.places[index] += 1;
             self.count += 1;
         }
     }
@@ -108,6 +124,7 @@ impl Flags {
         let flag = &mut self.symbols[index][symbol];
         if *flag {
             *flag = false;
+            self.places[index] -= 1;
             self.count -= 1;
         }
     }

@@ -187,6 +187,15 @@ impl SlotRing {
         self.pending.has(index, symbol)
     }
 
+    /// Whether any downlink cell may be in use and not reported, of the slot that has the place with this index. It looks at one number.
+    pub fn has_pending_at(&self, index: usize) -> bool
+        requires { index < length self.now.places }
+        ensures { result ≡ false → (slot : Slot) (symbol : ℕ) → place_index self.now slot ≡ index → symbol < symbols_of self.now.endpoint.numerology → (ep : ℕ) → some 0 self.now.endpoint.prbs (λ prb.
+            is_due (ring_claim self.now (cell_at ep true slot symbol prb)) (ring_reported self.now (cell_at ep true slot symbol prb))) ≡ false }
+    {
+        self.pending.has_any_of(index)
+    }
+
     /// Whether any downlink cell may be in use and not reported, of any slot. It looks at one number.
     pub fn has_pending(&self) -> bool
         ensures { result ≡ false → (slot : Slot) (symbol : ℕ) → symbol < symbols_of self.now.endpoint.numerology → (ep : ℕ) → some 0 self.now.endpoint.prbs (λ prb.
@@ -200,6 +209,14 @@ impl SlotRing {
         ensures { result ≡ false → (slot : Slot) → ring_uplink self.now slot ≡ [] }
     {
         self.sections != 0
+    }
+
+    /// Whether any accepted uplink section is held of the slot that has the place with this index.
+    pub fn has_uplink_at(&self, index: usize) -> bool
+        requires { index < length self.now.places }
+        ensures { result ≡ false → (slot : Slot) → place_index self.now slot ≡ index → ring_uplink self.now slot ≡ [] }
+    {
+        self.places[index].sections() != 0
     }
 
     /// Whether a downlink cell of a symbol is in use and was not reported.

@@ -63,6 +63,9 @@ fn first_in_place<'c, T: SymbolTest<'c>>(
     requires index { index < cells_places cells.now ep }
     ensures { Searched cells.now (T.fits test.now cells.now) (InPlace cells.now ep index) best result }
 {
+    if !test.may_fit_at(cells, ep, index) {
+        return best;
+    }
     match cells.slot_at(ep, index) {
         None => best,
         Some(slot) => {

@@ -2,10 +2,11 @@
 ghost use Rattle.std.specs.Prelude.{◌≡◌, ◌<◌, Bool, false, length, IfNone, IfSome};
 ghost use Rattle.std.specs.Bool.{then_some};
 ghost use Rattle.fh_time.specs.Numbering.{symbols_of};
-ghost use Rattle.unit_cells.specs.Cells.{CellsValue, endpoints_of};
+ghost use Rattle.unit_cells.specs.Cells.{CellsValue, cells_places, endpoints_of};
 ghost use Rattle.unit_cells.specs.unit_model.specs.declared.symbol_start.SymbolStart.{SymbolStart as SpecStart};
 ghost use Rattle.symbol_search.specs.Places.{IsPlace, start_in};
 ghost use Rattle.symbol_search.specs.Symbols.{HasNone, InSlot, OfEndpoint};
+ghost use Rattle.symbol_search.specs.Searches.{InPlace};
 ghost use Rattle.symbol_search.specs.declared.places.SlotPlace.{SlotPlace as SpecPlace};
 
 use crate::SlotPlace;
@@ -14,7 +15,8 @@ use unit_model::SymbolStart;
 
 /// What is looked for among the symbols of cells.
 ///
-/// A test says early where there is none, so that no place of such an endpoint is looked at, and no symbol of such a slot.
+/// A test says early where there is none, so that no place of such an endpoint is looked at, no slot of such a place and no symbol of
+/// such a slot.
 pub trait SymbolTest<'c> {
     /// What is looked up of a slot once for all its symbols.
     type Lookup: Copy;
@@ -29,6 +31,12 @@ pub trait SymbolTest<'c> {
     fn may_fit(&self, cells: &UnitCells, ep: usize) -> bool
         requires { ep < length (endpoints_of cells.now) }
         ensures { result ≡ false → HasNone cells.now (fits self.now cells.now) (OfEndpoint ep) };
+
+    /// Whether a symbol of the slot may fit that has the place with an index in an endpoint's ring.
+    fn may_fit_at(&self, cells: &UnitCells, ep: usize, index: usize) -> bool
+        requires ep { ep < length (endpoints_of cells.now) }
+        requires index { index < cells_places cells.now ep }
+        ensures { result ≡ false → HasNone cells.now (fits self.now cells.now) (InPlace cells.now ep index) };
 
     /// Looks up what its symbols need of a slot. None only where none of them fits.
     fn look_up(&self, cells: &'c UnitCells, place: &SlotPlace<'_>) -> Option<Self::Lookup>

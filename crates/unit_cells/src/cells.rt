@@ -298,6 +298,26 @@ impl UnitCells {
         self.rings[ep].is_pending(index, symbol)
     }
 
+    /// Whether any downlink cell may be in use and not reported, of the slot of an endpoint that has the place with this index. It looks at
+    /// one number.
+    pub fn has_pending_at(&self, ep: usize, index: usize) -> bool
+        requires ep { ep < length (endpoints_of self.now) }
+        requires index { index < cells_places self.now ep }
+        ensures { result ≡ false → (e : EndpointConfig) → IsAt (endpoints_of self.now) ep e → (slot : Slot) (symbol : ℕ) → cells_index self.now ep slot ≡ index → symbol < symbols_of e.numerology
+            → some 0 e.prbs (λ prb. is_due (cells_claim self.now (cell_at ep true slot symbol prb)) (cells_reported self.now (cell_at ep true slot symbol prb))) ≡ false }
+    {
+        self.rings[ep].has_pending_at(index)
+    }
+
+    /// Whether any accepted uplink section is held of the slot of an endpoint that has the place with this index.
+    pub fn has_uplink_at(&self, ep: usize, index: usize) -> bool
+        requires ep { ep < length (endpoints_of self.now) }
+        requires index { index < cells_places self.now ep }
+        ensures { result ≡ false → (slot : Slot) → cells_index self.now ep slot ≡ index → cells_uplink self.now ep slot ≡ [] }
+    {
+        self.rings[ep].has_uplink_at(index)
+    }
+
     /// Whether any downlink cell of an endpoint may be in use and not reported. It looks at one number.
     pub fn has_pending(&self, ep: usize) -> bool
         requires { ep < length (endpoints_of self.now) }
