@@ -8,13 +8,14 @@ use Rattle.serde_json.specs.Written.{compact_text, comma_if}
 use Rattle.capture_show.specs.declared.values.Field.{Field}
 use Rattle.capture_show.specs.declared.values.Field.TheVariants.{Count, Signed, Word}
 use Rattle.capture_show.specs.declared.values.Member.{Member}
+use Rattle.member_lines.specs.Members.{member_text as with_name}
 use Rattle.capture_show.specs.Lines.{ShownLine, kind_text, is_bare, name_text, word_text, field_text}
 
 -- ---- text
 
 -- a member behind a space, with its name but for the line of a record
 abbrev pub member_text : Bool → Member → List ℕ
-member_text bare m = if bare then codes " " ++ field_text m.field else codes " " ++ name_text m.name ++ codes "=" ++ field_text m.field
+member_text bare m = if bare then codes " " ++ field_text m.field else with_name (name_text m.name) (field_text m.field)
 
 unfoldable pub line_text : ShownLine → List ℕ
 line_text l = kind_text l.kind ++ flat_map (member_text (is_bare l.kind)) l.members ++ codes "\n"

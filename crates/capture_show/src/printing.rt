@@ -15,6 +15,7 @@ use crate::opening::{ending, opening};
 use crate::values::Member;
 use crate::words::put_field;
 use fh_base::{Sink, SinkFault};
+use member_lines::lead;
 use owed_bytes::OwedBytes;
 use std::alloc::Global;
 use text_lines::Line;
@@ -34,10 +35,10 @@ fn put_member(line: &mut Line, bare: bool, m: Member)
     requires { line.old ≡ [] }
     ensures { line.new ≡ member_text bare m }
 {
-    line.text(b" ");
-    if !bare {
-        line.text(name_text(m.name).as_bytes());
-        line.text(b"=");
+    if bare {
+        line.text(b" ");
+    } else {
+        lead(line, name_text(m.name).as_bytes());
     }
     put_field(line, m.field);
 }

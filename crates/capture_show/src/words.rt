@@ -1,21 +1,10 @@
 // The texts of words and numbers.
 ghost use Rattle.std.specs.Prelude.{◌≡◌, ◌+◌, ◌≤◌, ◌++◌, length};
 ghost use Rattle.capture_show.specs.Lines.{word_text, field_text};
-ghost use Rattle.capture_records.specs.air_source.specs.Units.{way_text};
 
 use crate::values::{Field, Word};
-use air_source::Side;
+use member_lines::way;
 use text_lines::Line;
-
-fn way_text(side: Side) -> &'static [u8]
-    ensures text { result.now ≡ way_text side }
-    ensures short { length result.now ≤ 2 }
-{
-    match side {
-        Side::Ru => b"dl",
-        Side::Du => b"ul",
-    }
-}
 
 /// Appends a word.
 pub fn put_word(line: &mut Line, word: Word)
@@ -27,7 +16,7 @@ pub fn put_word(line: &mut Line, word: Word)
         Word::Hex2(n) => line.hex2(n),
         Word::Hex3(n) => line.hex3(n),
         Word::Hex4(n) => line.hex4(n),
-        Word::Way(side) => line.text(way_text(side)),
+        Word::Way(side) => line.text(way(side)),
         Word::Command(why) => line.text(why.name().as_bytes()),
         Word::Fragmented => line.text(b"Fragmented"),
         Word::Frame(why) => line.text(why.name().as_bytes()),

@@ -10,7 +10,7 @@ use Rattle.ecpri_fragments.specs.declared.verdict.Verdict.{Verdict}
 use Rattle.ecpri_fragments.specs.declared.verdict.Verdict.TheVariants as fragment
 use Rattle.ecpri_frames.specs.Refusals.{name_of as frame_why}
 use Rattle.ecpri_frames.specs.declared.refusals.PduRefusal.{PduRefusal}
-use Rattle.explain_lines.specs.Places.{named_text, moment_text, symbol_text, prbs_text, mask_text, run_text, message_text, timing_text, clash_text}
+use Rattle.explain_lines.specs.Places.{moment_text, symbol_text, prbs_text, mask_text, run_text, message_text, timing_text, clash_text}
 use Rattle.explain_lines.specs.Reasons.{reason_text, word_text, from_text}
 use Rattle.explain_lines.specs.declared.places.Clash.{Clash}
 use Rattle.explain_lines.specs.declared.values.CellWord.{CellWord}
@@ -32,6 +32,7 @@ use Rattle.explain_lines.specs.declared.values.WindowName.TheVariants as window
 use Rattle.fh_time.specs.Numbering.{code_of, offsets_of, symbols_of}
 use Rattle.fh_time.specs.declared.numerology.Numerology.{Numerology}
 use Rattle.fh_time.specs.declared.values.Slot.{Slot}
+use Rattle.member_lines.specs.Members.{named_text}
 use Rattle.report_lines.specs.Units.{side_text, delay_text, count_text}
 use Rattle.text_lines.specs.Words.{hex4_text, spaced_signed_text, spaced_text}
 use Rattle.unit_model.specs.declared.verdicts.CommandVerdict.{CommandVerdict}
@@ -97,7 +98,7 @@ endpoint_text e = codes "endpoint " ++ hex4_text e.id ++ codes " " ++ kind_text 
 
 -- why, and where
 abbrev pub why_text : List ℕ → ℕ → List ℕ
-why_text name at = codes " " ++ name ++ codes " at=" ++ decimal at
+why_text name at = codes " " ++ name ++ named_text (codes "at") at
 
 abbrev pub frame_answer_text : Option PduRefusal → List ℕ
 frame_answer_text None = codes " ok"

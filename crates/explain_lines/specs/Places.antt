@@ -1,5 +1,5 @@
 -- The words that say where something stands.
-use Rattle.std.specs.Prelude.{ℕ, List, ◌++◌, codes, decimal, Bool, true, false}
+use Rattle.std.specs.Prelude.{ℕ, List, ◌++◌, codes, Bool, true, false}
 use Rattle.air_source.specs.Units.{way_text}
 use Rattle.explain_lines.specs.declared.places.Clash.{Clash}
 use Rattle.explain_lines.specs.declared.places.MessagePlace.{MessagePlace}
@@ -7,12 +7,8 @@ use Rattle.explain_lines.specs.declared.places.PrbRun.{PrbRun}
 use Rattle.explain_lines.specs.declared.places.SymbolPlace.{SymbolPlace}
 use Rattle.explain_lines.specs.declared.places.Timing.{Timing}
 use Rattle.fh_time.specs.declared.values.Slot.{Slot}
-use Rattle.std.specs.Fmt.{signed_decimal}
-use Rattle.text_lines.specs.Words.{hex3_text, hex4_text, spaced_signed_text, spaced_text}
-
--- a space, a name, an equals sign and a number
-abbrev pub named_text : List ℕ → ℕ → List ℕ
-named_text name n = codes " " ++ name ++ codes "=" ++ decimal n
+use Rattle.member_lines.specs.Members.{member_text, named_text, named_signed_text, named_hex3_text}
+use Rattle.text_lines.specs.Words.{hex4_text, spaced_signed_text, spaced_text}
 
 -- frame, subframe, slot and symbol
 abbrev pub moment_text : Slot → ℕ → List ℕ
@@ -27,7 +23,7 @@ abbrev pub prbs_text : ℕ → ℕ → List ℕ
 prbs_text prb num = named_text (codes "prb") prb ++ named_text (codes "num") num
 
 abbrev pub mask_text : ℕ → List ℕ
-mask_text mask = codes " mask=" ++ hex3_text mask
+mask_text mask = named_hex3_text (codes "mask") mask
 
 -- the way, the start of the symbol, the symbol, the PRBs and the section id
 unfoldable pub run_text : PrbRun → List ℕ
@@ -40,11 +36,11 @@ bit_text false = codes "0"
 -- the arrival, the message's id, its place in the frame and its sequence field
 unfoldable pub message_text : MessagePlace → List ℕ
 message_text m = spaced_text m.number ++ codes " " ++ hex4_text m.id ++ named_text (codes "place") m.place
-    ++ named_text (codes "seq") m.seq.seq ++ named_text (codes "sub") m.seq.sub ++ codes " e=" ++ bit_text m.seq.last
+    ++ named_text (codes "seq") m.seq.seq ++ named_text (codes "sub") m.seq.sub ++ member_text (codes "e") (bit_text m.seq.last)
 
 -- the distances from the two ends of a window
 unfoldable pub timing_text : Timing → List ℕ
-timing_text t = codes " since=" ++ signed_decimal t.since ++ codes " until=" ++ signed_decimal t.until
+timing_text t = named_signed_text (codes "since") t.since ++ named_signed_text (codes "until") t.until
 
 -- what a section overlaps
 unfoldable pub clash_text : Clash → List ℕ

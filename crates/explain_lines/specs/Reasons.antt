@@ -1,6 +1,6 @@
 -- The words of a reason.
 use Rattle.std.specs.Prelude.{ℕ, List, [], ◌++◌, codes, Some, None}
-use Rattle.explain_lines.specs.Places.{named_text}
+use Rattle.member_lines.specs.Members.{named_text}
 use Rattle.explain_lines.specs.declared.reasons.Reason.{Reason}
 use Rattle.explain_lines.specs.declared.reasons.Reason.TheVariants as reason
 use Rattle.explain_lines.specs.declared.reasons.ReasonWord.{ReasonWord}

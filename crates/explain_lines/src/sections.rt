@@ -4,10 +4,11 @@ ghost use Rattle.explain_lines.specs.Lines.{why_text, frame_answer_text, command
 
 use crate::places::Clash;
 use crate::values::{CommandAnswer, ControlLine, DataLine, WholeAnswer, WholeLine};
-use crate::words::{clash, id, mask_word, moment, named, prbs, symbol, timing};
+use crate::words::{clash, id, mask_word, moment, prbs, symbol, timing};
 use ecpri_fragments::Verdict;
 use ecpri_frames::PduRefusal;
 use fh_time::Slot;
+use member_lines::named;
 use text_lines::Line;
 use unit_model::{CommandVerdict, DataVerdict};
 
@@ -19,8 +20,7 @@ fn why(line: &mut Line, name: &[u8], at: usize)
 {
     line.text(b" ");
     line.text(name);
-    line.text(b" at=");
-    line.number(at as u64);
+    named(line, b"at", at as u64);
 }
 
 /// Appends what became of a frame.

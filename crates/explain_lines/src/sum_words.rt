@@ -4,8 +4,9 @@ ghost use Rattle.explain_lines.specs.Lines.{class_text, least_text, beyond_text,
 
 use crate::reason_words::from_word;
 use crate::values::{CellWord, Margin, MarginClass};
-use crate::words::{id, named, timing, way};
+use crate::words::{id, timing};
 use air_source::Side;
+use member_lines::{named, way};
 use text_lines::Line;
 
 /// The name of a class.

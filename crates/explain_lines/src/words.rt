@@ -1,25 +1,14 @@
 // The words that say where something stands.
 ghost use Rattle.std.specs.Prelude.{◌≡◌, ◌+◌, ◌≤◌, ◌++◌, length, codes};
-ghost use Rattle.air_source.specs.Units.{way_text};
-ghost use Rattle.explain_lines.specs.Places.{named_text, moment_text, symbol_text, prbs_text, mask_text, run_text, bit_text, message_text, timing_text, clash_text};
+ghost use Rattle.explain_lines.specs.Places.{moment_text, symbol_text, prbs_text, mask_text, run_text, bit_text, message_text, timing_text, clash_text};
 ghost use Rattle.report_lines.specs.Units.{side_text};
 ghost use Rattle.text_lines.specs.Words.{hex4_text};
 
 use crate::places::{Clash, MessagePlace, PrbRun, SymbolPlace, Timing};
 use air_source::Side;
 use fh_time::Slot;
+use member_lines::{named, named_hex3, named_signed, named_word, way};
 use text_lines::Line;
-
-/// The way of frames to a unit.
-pub fn way(side: Side) -> &'static [u8]
-    ensures text { result.now ≡ way_text side }
-    ensures short { length result.now ≡ 2 }
-{
-    match side {
-        Side::Ru => b"dl",
-        Side::Du => b"ul",
-    }
-}
 
 /// The name of a unit.
 pub fn side_name(side: Side) -> &'static [u8]
@@ -30,18 +19,6 @@ pub fn side_name(side: Side) -> &'static [u8]
         Side::Ru => b"ru",
         Side::Du => b"du",
     }
-}
-
-/// Appends a space, a name, an equals sign and a number.
-pub fn named(line: &mut Line, name: &[u8], n: u64)
-    requires { length line.old + length name.now + 22 ≤ 512 }
-    ensures text { line.new ≡ line.old ++ named_text name.now n }
-    ensures short { length line.new ≤ length line.old + length name.now + 22 }
-{
-    line.text(b" ");
-    line.text(name);
-    line.text(b"=");
-    line.number(n);
 }
 
 /// Appends frame, subframe, slot and symbol.
@@ -92,8 +69,7 @@ pub fn mask_word(line: &mut Line, mask: u16)
     ensures text { line.new ≡ line.old ++ mask_text mask }
     ensures short { length line.new ≤ length line.old + 9 }
 {
-    line.text(b" mask=");
-    line.hex3(mask);
+    named_hex3(line, b"mask", mask);
 }
 
 /// Appends PRBs of a symbol.
@@ -129,8 +105,7 @@ pub fn message(line: &mut Line, m: &MessagePlace)
     named(line, b"place", m.place as u64);
     named(line, b"seq", u64::from(m.seq.seq));
     named(line, b"sub", u64::from(m.seq.sub));
-    line.text(b" e=");
-    line.text(bit(m.seq.last));
+    named_word(line, b"e", bit(m.seq.last));
 }
 
 /// Appends the distances from the two ends of a window.
@@ -140,10 +115,8 @@ pub fn timing(line: &mut Line, timing: Timing)
     ensures text { line.new ≡ line.old ++ timing_text timing }
     ensures short { length line.new ≤ length line.old + 54 }
 {
-    line.text(b" since=");
-    line.signed(timing.since);
-    line.text(b" until=");
-    line.signed(timing.until);
+    named_signed(line, b"since", timing.since);
+    named_signed(line, b"until", timing.until);
 }
 
 /// Appends what a section overlaps.
