@@ -12,7 +12,7 @@ use Rattle.explain_lines.specs.Lines.{line_text}
 use Rattle.explain_lines.specs.declared.values.ExplainLine.{ExplainLine}
 use Rattle.explain_lines.specs.declared.values.ExplainLine.TheVariants as line
 use Rattle.explain_model.specs.Text.{Reasoned, explain_of, lines_of}
-use Rattle.explain_units.specs.Stops.{StopsSome, Between, Within}
+use Rattle.line_runs.specs.Stops.{StopsSome, Between, Within}
 use Rattle.fh_base.proofs.Progress.{front_first}
 use Rattle.fh_base.specs.Told.{WritesFront, WritesPart}
 use Rattle.owed_bytes.proofs.Carrying.{carried_front, front_behind}

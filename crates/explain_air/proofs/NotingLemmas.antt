@@ -3,9 +3,7 @@ use Rattle.std.proofs.Common.{◌≡◌, List, [], ◌∷◌, ◌++◌, ◌⊎�
 use Rattle.explain_air.specs.Notes.{HasNoted}
 use Rattle.explain_air.specs.declared.notes.Noting.{Noting}
 use Rattle.explain_lines.specs.declared.values.ExplainLine.{ExplainLine}
-use Rattle.unused_lines.specs.Stops.{StopsSome as AnyStops}
-use Rattle.line_runs.specs.Stops.{StopsInLine}
-use Rattle.explain_units.specs.Stops.{StopsSome, Between, Within}
+use Rattle.line_runs.specs.Stops.{StopsInLine, StopsSome, Between, Within}
 
 module _ {W : Type 0} (grew : W → List ExplainLine → W → Type 0) (stopped : W → ExplainLine → W → Type 0)
     (more : (a b c : W) (first second : List ExplainLine) → grew a first b → grew b second c → grew a (first ++ second) c) where
@@ -32,8 +30,3 @@ module _ {W : Type 0} (grew : W → List ExplainLine → W → Type 0) (stopped 
   -- where it stopped in one of them
   pub noting_line_stops : (lines : List ExplainLine) (a b : Noting W) → StopsInLine noting_grew noting_stopped lines a b → StopsSome grew stopped lines a.out.now b.out.now
   noting_line_stops lines a b s = noting_stops lines a b (Within s)
-
-  -- where memory was wanted before one of them, or it stopped in one
-  pub noting_sum_stops : (lines : List ExplainLine) (a b : Noting W) → AnyStops noting_grew noting_stopped lines a b → StopsSome grew stopped lines a.out.now b.out.now
-  noting_sum_stops lines a b (inl t) = Between (record { before = t.before; after = t.after; is = t.is; heard = t.heard.0 })
-  noting_sum_stops lines a b (inr s) = noting_line_stops lines a b s

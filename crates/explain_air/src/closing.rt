@@ -8,7 +8,7 @@ ghost use Rattle.explain_air.specs.Notes.{HasNoted};
 ghost use Rattle.explain_growth.specs.Subjects.{Subject, reason_lines, reasons_of};
 ghost use Rattle.explain_lines.specs.declared.values.ExplainLine.{ExplainLine as SpecLine};
 ghost use Rattle.explain_model.specs.Margins.{margin_lines};
-ghost use Rattle.explain_units.specs.Stops.{StopsSome};
+ghost use Rattle.line_runs.specs.Stops.{StopsSome};
 ghost use Rattle.explain_units.specs.Units.{IsUnitAfter};
 ghost use Rattle.reason_lines.specs.Missing.{missing_text};
 ghost use Rattle.reason_sums.specs.Sums.{AreSums, sum_text};

@@ -17,7 +17,7 @@ ghost use Rattle.explain_units.specs.Units.{IsUnitAfter, frame_lines, judged_nex
 ghost use Rattle.heard_records.specs.Records.{HaveHeard};
 ghost use Rattle.plan_model.specs.Lines.{planned};
 ghost use Rattle.window_config.specs.declared.config.Config.{Config as SpecConfig};
-ghost use Rattle.explain_units.specs.Stops.{StopsSome};
+ghost use Rattle.line_runs.specs.Stops.{StopsSome};
 ghost use Rattle.window_config.specs.Configs.{IsConfig};
 
 use crate::closing::tell_last;

@@ -6,7 +6,7 @@ ghost use Rattle.explain_air.specs.Runs.{open_of};
 ghost use Rattle.explain_kept.specs.Runs.{cells_of};
 ghost use Rattle.explain_lines.specs.declared.values.ExplainLine.TheVariants as line;
 ghost use Rattle.explain_model.specs.Cells.{closing, longer, run_lines, run_with};
-ghost use Rattle.explain_units.specs.Stops.{StopsSome};
+ghost use Rattle.line_runs.specs.Stops.{StopsSome};
 
 use crate::notes::{Notes, note_and_put};
 use air_source::{AirCell, AirFault};

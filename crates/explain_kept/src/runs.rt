@@ -2,7 +2,7 @@
 ghost use Rattle.std.specs.Prelude.{◌≡◌, ◌+◌, ◌≤◌};
 ghost use Rattle.air_source.specs.Units.{same_side};
 ghost use Rattle.explain_kept.specs.Runs.{cells_of};
-ghost use Rattle.explain_model.specs.Cells.{extends, is_of_run, longer, run_from, same_word};
+ghost use Rattle.explain_model.specs.Cells.{extends, is_of_run, run_from, same_word};
 
 use air_source::{AirCell, Side};
 use explain_lines::{CellWord, PrbRun, SymbolPlace};
@@ -91,15 +91,5 @@ impl OpenRun {
         self.is_of(c)
             && same_word(self.word, word)
             && u64::from(self.run.prb) + u64::from(self.run.num) == u64::from(c.prb)
-    }
-
-    /// The run with one more cell.
-    pub fn longer(&self) -> OpenRun
-        requires { self.now.run.prb + self.now.run.num ≤ 65535 }
-        ensures { cells_of result ≡ longer (cells_of self.now) }
-    {
-        let mut run = *self;
-        run.run.num += 1;
-        run
     }
 }

@@ -114,7 +114,7 @@ heard_in side c t n =
     ap₂ (λ h z. arrivals_heard side h (each_tick z n (events_at c t))) (sym (none_first (landings_at side t))) (from_first n)
     ∙ heard_ticks side c t n 0 n (omega arith)
 
-arrivals_are : (side : Side) (c : Config) (t : Traffic) → arrivals_heard side [] (events c t) ≡ all_arrivals (landings_at side t)
+pub arrivals_are : (side : Side) (c : Config) (t : Traffic) → arrivals_heard side [] (events c t) ≡ all_arrivals (landings_at side t)
 unfolding events
 arrivals_are side c t =
     let n = int_gap first_clock (end_of_time +ℤ pos 1) in

@@ -4,10 +4,9 @@ use Rattle.std.specs.List.{flat_map}
 use Rattle.explain_heard.specs.declared.heard.Heard.{Heard}
 use Rattle.explain_lines.specs.declared.values.ExplainLine.{ExplainLine}
 use Rattle.explain_units.specs.Known.{Known, after_all, all_said, as_lines, said, with_heard}
-use Rattle.explain_units.specs.Stops.{StopsSome}
+use Rattle.line_runs.specs.Stops.{StopsSome, StopsInLine}
 use Rattle.explain_units.proofs.KnownLemmas.{after_next, said_next, said_none, said_split}
 use Rattle.explain_units.proofs.StopLemmas.{each_next, each_split, in_after, in_before, some_after, some_before}
-use Rattle.line_runs.specs.Stops.{StopsInLine}
 
 -- what is known with one more of all that was judged
 pub known_next : (number : ℕ) (xs : List Heard) (i : ℕ) (x : Heard) (first k new : Known) → i < length xs → x ≡ get_or xs i x → k ≡ after_all number (take i xs) first

@@ -17,6 +17,5 @@ pub mod Known
 pub mod Knowing
 pub mod Judging
 pub mod Ears
-pub mod Stops
 pub mod MarginLines
 pub mod Units

@@ -5,8 +5,7 @@ ghost use Rattle.air_source.specs.Causes.{HasAirCause};
 ghost use Rattle.explain_units.specs.Fit.{IsFit};
 ghost use Rattle.explain_units.specs.Known.{after_all, all_said, as_lines, said, with_heard};
 ghost use Rattle.explain_units.specs.Knowing.{known_of};
-ghost use Rattle.explain_units.specs.Stops.{StopsSome};
-ghost use Rattle.line_runs.specs.Stops.{StopsInLine};
+ghost use Rattle.line_runs.specs.Stops.{StopsSome, StopsInLine};
 
 use crate::earlier::Earlier;
 use air_source::AirFault;

@@ -36,7 +36,7 @@ pub struct UnitLines {
 
 impl UnitLines {
     ghost use Rattle.explain_units.specs.Fit.{IsFit};
-    ghost use Rattle.explain_units.specs.Stops.{StopsSome};
+    ghost use Rattle.line_runs.specs.Stops.{StopsSome};
     ghost use Rattle.explain_units.specs.Units.{IsUnitAfter, frame_lines, judged_next};
 
     /// Takes the memory of a unit. Nothing came.

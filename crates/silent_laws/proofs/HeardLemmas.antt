@@ -55,7 +55,7 @@ use Rattle.explain_reasons.specs.Seen.{is_heard, seen}
 use Rattle.reason_documents.proofs.UsedLemmas.{heard}
 use Rattle.silent_laws.specs.Silent.{IsAccepted}
 use Rattle.silent_laws.proofs.AcceptedLemmas.{Stands, accepted_stands, stays_claimed}
-use Rattle.silent_laws.proofs.ArrivalLemmas.{arrivals_are}
+use Rattle.explain_laws.proofs.ReplayLemmas.{arrivals_are}
 use Rattle.silent_laws.proofs.ListLemmas.{holds_in, in_middle}
 
 -- ---- nothing comes before the clock begins

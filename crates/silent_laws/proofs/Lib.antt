@@ -1,4 +1,3 @@
-pub mod ArrivalLemmas
 pub mod ListLemmas
 pub mod AcceptedLemmas
 pub mod HeardLemmas

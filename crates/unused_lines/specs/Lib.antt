@@ -3,5 +3,4 @@ pub use Rattle.reason_lines
 pub mod Starts
 pub mod Unused
 pub mod UnusedSteps
-pub mod Stops
 pub mod Laws

@@ -2,8 +2,7 @@
 ghost use Rattle.std.specs.Prelude.{◌++◌, OnOk, IfErr};
 ghost use Rattle.air_source.specs.declared.events.Side.TheVariants.{Ru, Du};
 ghost use Rattle.air_source.specs.Causes.{HasAirCause};
-ghost use Rattle.line_runs.specs.Stops.{StopsInLine};
-ghost use Rattle.unused_lines.specs.Stops.{StopsSome};
+ghost use Rattle.line_runs.specs.Stops.{StopsInLine, StopsSome};
 ghost use Rattle.unused_lines.specs.Unused.{symbol_text_in, symbols_text, unused_text};
 
 use crate::blocks::{UnitSymbol, key_of, tell_symbol};

@@ -5,7 +5,7 @@ use Rattle.explain_air.proofs.Stopping.{some_first, some_second}
 use Rattle.explain_growth.specs.Subjects.{reasons_of}
 use Rattle.explain_lines.specs.declared.values.ExplainLine.{ExplainLine}
 use Rattle.explain_model.specs.Cells.{event_lines}
-use Rattle.explain_units.specs.Stops.{StopsSome}
+use Rattle.line_runs.specs.Stops.{StopsSome}
 use Rattle.explain_air.proofs.closing.tell_ending.Goals as goal
 
 pub returns-in-Ok-tell_margins-clause-heard : goal.returns-in-Ok-tell_margins-clause-heard

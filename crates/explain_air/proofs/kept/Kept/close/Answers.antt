@@ -6,7 +6,7 @@ use Rattle.explain_air.specs.Runs.{open_of}
 use Rattle.explain_growth.specs.Subjects.{reason_lines}
 use Rattle.explain_lines.specs.declared.values.ExplainLine.{ExplainLine}
 use Rattle.explain_model.specs.Cells.{run_lines}
-use Rattle.explain_units.specs.Stops.{StopsSome}
+use Rattle.line_runs.specs.Stops.{StopsSome}
 use Rattle.explain_air.proofs.kept.Kept.close.Goals as goal
 
 pub returns-in-Err-clause-stop : goal.returns-in-Err-clause-stop
