@@ -8,3 +8,6 @@ mod PlainWindows
 mod PlainGrids
 mod PlainReadings
 mod Pictures
+mod Parts
+mod Bars
+mod WindowParts

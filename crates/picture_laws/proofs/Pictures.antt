@@ -12,11 +12,14 @@ use Rattle.grid_picture.specs.Picture.{grid_picture}
 use Rattle.grid_picture.specs.Picture.{picture_for as grid_for}
 use Rattle.window_picture.specs.Picture.{windows_picture}
 use Rattle.window_picture.specs.Picture.{picture_for as windows_for}
-use Rattle.picture_laws.specs.Laws.{GridsArePlain, WindowsArePlain}
+use Rattle.picture_laws.specs.Laws.{GridsArePlain, WindowsArePlain, WindowsHavePanels}
+use Rattle.picture_laws.specs.Parts.{HasPanels}
 use Rattle.picture_laws.specs.Plain.{IsPlain}
 use Rattle.picture_laws.proofs.PlainGrids.{grid_plain}
 use Rattle.picture_laws.proofs.PlainReadings.{grid_read}
 use Rattle.picture_laws.proofs.PlainWindows.{windows_plain}
+use Rattle.picture_laws.proofs.WindowParts.{windows_made}
+use Rattle.window_picture.proofs.Drawn.{rows_columns}
 
 pub grids_are_plain : GridsArePlain
 grids_are_plain s text picture h = go (grid_of text) refl h
@@ -33,4 +36,13 @@ windows_are_plain text picture h = go (arrivals_of text) h
   where
     go : (x : Result (Windows × List Arrival) (ℕ × TextWhy)) → windows_for x ≡ Ok picture → IsPlain picture
     go (Ok w) h = let same : windows_picture w.0 (rows_of w.1) ≡ picture = cc h in subst IsPlain same (windows_plain w.0 (rows_of w.1))
+    go (Err refusal) h = cc
+
+pub windows_have_panels : WindowsHavePanels
+windows_have_panels text picture h = go (arrivals_of text) h
+  where
+    go : (x : Result (Windows × List Arrival) (ℕ × TextWhy)) → windows_for x ≡ Ok picture → HasPanels picture
+    go (Ok w) h =
+        let same : windows_picture w.0 (rows_of w.1) ≡ picture = cc h in
+        subst HasPanels same (windows_made w.0 (rows_of w.1) (rows_columns w.1 (rows_of w.1) refl))
     go (Err refusal) h = cc

@@ -20,7 +20,7 @@ use Rattle.window_picture.specs.Rows.{awaited_name, first_of, last_of, row_text,
 abbrev fourth_of : {A B C D E F : Type 0} → (A → B → C → D → E → F) → Type 0
 fourth_of {D = D} f = D
 
-abbrev Shown : Type 0
+abbrev pub Shown : Type 0
 Shown = fourth_of row_text
 
 tick_plain : (ws : Windows) (ns : ℤ) → IsPlain (tick_text ws ns)

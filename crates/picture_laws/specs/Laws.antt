@@ -11,6 +11,7 @@ use Rattle.grid_picture.specs.Spans.{IsSpan}
 use Rattle.grid_picture.specs.declared.spans.Span.{Span}
 use Rattle.window_picture.specs.Picture.{drawn as windows_drawn}
 use Rattle.picture_laws.specs.Drawn.{IsDrawn}
+use Rattle.picture_laws.specs.Parts.{HasPanels}
 use Rattle.picture_laws.specs.Plain.{IsPlain}
 
 -- the lines of a text
@@ -32,3 +33,7 @@ GridsArePlain = (s : Span) (text picture : List ℕ) → grid_drawn s text ≡ O
 
 abbrev pub WindowsArePlain : Type 0
 WindowsArePlain = (text picture : List ℕ) → windows_drawn text ≡ Ok picture → IsPlain picture
+
+-- the picture of the windows of a text that is not refused is made of parts, each in its panel
+abbrev pub WindowsHavePanels : Type 0
+WindowsHavePanels = (text picture : List ℕ) → windows_drawn text ≡ Ok picture → HasPanels picture

@@ -1,4 +1,5 @@
 pub mod Inside
 pub mod Drawn
 pub mod Plain
+pub mod Parts
 pub mod Laws

@@ -1,9 +1,9 @@
-//! Laws of pictures: of which bytes they are, and what is drawn of each line of the text of a resource grid, and where.
+//! Laws of pictures: of which bytes they are, what is drawn of each line of the text of a resource grid, and where all of it stands.
 //!
 //! The functions here do nothing: each one's contract is its law, stated in `specs/`.
 #![tactic(auto)]
 
-ghost use Rattle.picture_laws.specs.Laws.{GridsArePlain, LinesAreDrawn, PicturesAreLines, WindowsArePlain};
+ghost use Rattle.picture_laws.specs.Laws.{GridsArePlain, LinesAreDrawn, PicturesAreLines, WindowsArePlain, WindowsHavePanels};
 
 /// A picture is its head, what each line of the text draws, in their order, and its foot.
 pub fn pictures_are_lines()
@@ -24,4 +24,10 @@ pub fn grids_are_plain()
 /// Each byte of the picture of the windows is a line feed or printable ASCII.
 pub fn windows_are_plain()
     ensures { WindowsArePlain }
+{}
+
+/// The picture of the windows is made of windows, bars, lines and texts. Each of them stands in the picture, and each window and each bar
+/// of a row in its panel of this row.
+pub fn windows_have_panels()
+    ensures { WindowsHavePanels }
 {}
