@@ -6,7 +6,7 @@ use std::test::Fail;
 use top_call::{Status, run};
 
 /// A command and its data, and what the radio unit makes of them.
-const DOCUMENT: &[u8] =
+pub(crate) const DOCUMENT: &[u8] =
     b"fronthaul 1\nendpoint 0000 ordinary 30 106 static none\ninject dl 9600000 1002001400000080900100000101000000100001fff10000\ninject dl 9700000 1000003c000000809001000000100001000000000001ffff0002fffe0003fffd0004fffc0005fffb0006fffa0007fff90008fff80009fff7000afff6000bfff5\n";
 
 const REPORT: &[u8] =

@@ -37,7 +37,9 @@ fn what_reads_nothing_does_not_meet_the_fault(rt: HostRuntime) -> Result<(), Fai
 #[test]
 fn a_command_that_reads_meets_the_fault(rt: HostRuntime) -> Result<(), Fail> {
     let alloc = rt.alloc();
-    let words: [&[u8]; 5] = [b"replay", b"summary", b"capture", b"windows", b"fit"];
+    let words: [&[u8]; 6] = [
+        b"replay", b"summary", b"capture", b"explain", b"windows", b"fit",
+    ];
     for word in words {
         assert_eq!(rt; status_unread(alloc, &[word])?, Status::ReadFault);
     }
