@@ -1,0 +1,12 @@
+mod Words
+mod Numbers
+mod Written
+mod Lines
+mod Choices
+mod Endpoints
+mod Cells
+mod Reading
+mod Grids
+mod Sections
+mod Arrivals
+mod Drawn
