@@ -35,22 +35,22 @@ use Rattle.schedule_laws.specs.unit_model.proofs.SweepLaws.{each_more, each_spli
 use Rattle.schedule_laws.specs.unit_laws.specs.Swept.{IsSwept}
 use Rattle.schedule_laws.specs.unit_laws.proofs.DueLemmas.{due_begins, due_in_pieces, due_left, heard_differ, unheard}
 use Rattle.schedule_laws.specs.unit_laws.proofs.FarLemmas.{endpoints_equal}
-use Rattle.ru_buffers.specs.unit_cells.specs.Cells.{cells_block}
-use Rattle.ru_buffers.specs.unit_cells.proofs.TimeLemmas.{live_at}
-use Rattle.ru_buffers.specs.unit_cells.proofs.ToldLemmas.{told_whole}
-use Rattle.ru_buffers.specs.history_laws.specs.First.{IsSweptIn, told_of}
-use Rattle.ru_buffers.specs.history_laws.proofs.FirstLemmas.{first_is_first}
-use Rattle.ru_buffers.specs.history_laws.proofs.TickLemmas.{last_before}
-use Rattle.ru_buffers.specs.history_laws.proofs.UnitLemmas.{same_ids, not_both}
-use Rattle.ru_buffers.specs.history_laws.proofs.ListLemmas.{one_of_two}
+use Rattle.unit_cells.specs.Cells.{cells_block}
+use Rattle.unit_cells.proofs.TimeLemmas.{live_at}
+use Rattle.unit_cells.proofs.ToldLemmas.{told_whole}
+use Rattle.history_laws.specs.First.{IsSweptIn, told_of}
+use Rattle.history_laws.proofs.FirstLemmas.{first_is_first}
+use Rattle.history_laws.proofs.TickLemmas.{last_before}
+use Rattle.history_laws.proofs.UnitLemmas.{same_ids, not_both}
+use Rattle.history_laws.proofs.ListLemmas.{one_of_two}
 use Rattle.schedule_laws.proofs.TimeLemmas.{by_then}
-use Rattle.ru_buffers.specs.unit_memory.specs.Memory.{Holds}
-use Rattle.ru_buffers.specs.unit_memory.specs.declared.memory.UnitMemory.{UnitMemory}
-use Rattle.ru_buffers.specs.unit_memory.proofs.HoldLemmas.{holds_later}
-use Rattle.ru_buffers.specs.ru_reports.specs.Symbols.{CountsTold}
-use Rattle.ru_buffers.specs.symbol_search.proofs.OrderLemmas.{not_before_itself}
-use Rattle.ru_buffers.specs.radio_laws.proofs.ReportedLemmas.{counts_more}
-use Rattle.ru_buffers.specs.radio_laws.proofs.OrderLemmas.{same_place}
+use Rattle.unit_memory.specs.Memory.{Holds}
+use Rattle.unit_memory.specs.declared.memory.UnitMemory.{UnitMemory}
+use Rattle.unit_memory.proofs.HoldLemmas.{holds_later}
+use Rattle.ru_reports.specs.Symbols.{CountsTold}
+use Rattle.symbol_search.proofs.OrderLemmas.{not_before_itself}
+use Rattle.radio_laws.proofs.ReportedLemmas.{counts_more}
+use Rattle.radio_laws.proofs.OrderLemmas.{same_place}
 use Rattle.du_intake.specs.Cursors.{CellCursor, uplink_cell_in, is_behind}
 use Rattle.du_intake.specs.Units.{IntakeKeeps, intake_due_of}
 use Rattle.du_intake.proofs.DueLemmas.{begun_late, by_cells, cells_left, each_nothing, next_swept, nothing_if, one_cell, own_not_behind, quiet, used_cell, wait_bounds}

@@ -15,7 +15,7 @@ use Rattle.std.proofs.lemmas.List.Sorted.{ranks_by}
 use Rattle.fh_time.specs.declared.values.Slot.{Slot}
 use Rattle.schedule_laws.specs.unit_model.specs.Claims.{same_slot}
 use Rattle.schedule_laws.specs.unit_model.specs.Order.{slot_before}
-use Rattle.ru_buffers.specs.history_laws.proofs.BeforeLemmas.{slot_cases}
+use Rattle.history_laws.proofs.BeforeLemmas.{slot_cases}
 use Rattle.schedule_laws.specs.plan_model.proofs.ListLemmas.{filter_same}
 use Rattle.du_intake.specs.Lines.{AreLinesInOrder, home_before, is_home, lines_at, same_home}
 use Rattle.du_intake.specs.declared.lines.UplinkLine.{UplinkLine}

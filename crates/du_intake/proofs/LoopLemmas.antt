@@ -16,13 +16,13 @@ use Rattle.schedule_laws.specs.unit_model.specs.Standing.{History, at_clock, hea
 use Rattle.schedule_laws.specs.unit_model.specs.declared.allocations.Allocation.{Allocation}
 use Rattle.schedule_laws.specs.unit_model.specs.declared.symbol_start.SymbolStart.{SymbolStart}
 use Rattle.schedule_laws.specs.unit_laws.proofs.DueLemmas.{due_begins}
-use Rattle.ru_buffers.specs.unit_memory.specs.declared.memory.UnitMemory.{UnitMemory}
-use Rattle.ru_buffers.specs.unit_memory.proofs.HoldLemmas.{holds_later}
+use Rattle.unit_memory.specs.declared.memory.UnitMemory.{UnitMemory}
+use Rattle.unit_memory.proofs.HoldLemmas.{holds_later}
 use Rattle.fh_time.specs.declared.values.Ticks.{Ticks}
-use Rattle.ru_buffers.specs.history_laws.proofs.TickLemmas.{last_is_earlier}
-use Rattle.ru_buffers.specs.history_laws.proofs.ListLemmas.{front_empty}
-use Rattle.ru_buffers.specs.slot_rings.proofs.SeenLemmas.{if_some}
-use Rattle.ru_buffers.specs.radio_laws.proofs.AdvanceLemmas.{heard_more, heard_none}
+use Rattle.history_laws.proofs.TickLemmas.{last_is_earlier}
+use Rattle.history_laws.proofs.ListLemmas.{front_empty}
+use Rattle.slot_rings.proofs.SeenLemmas.{if_some}
+use Rattle.radio_laws.proofs.AdvanceLemmas.{heard_more, heard_none}
 use Rattle.du_intake.specs.Calls.{IntakeStandsFor, cursor_in, next_in}
 use Rattle.du_intake.specs.Closing.{Closes, ClosesSome, ComesLater, IntakeGoesOn, HasClaimed, IsClaimedFrom, IsNextDue, IntakeStandsForSome, StaysAt, IntakeStopsAtDue, IntakeToldAll, at_prb, symbols_left}
 use Rattle.du_intake.specs.Cursors.{CellCursor, HasStillLeft, IsNamed}

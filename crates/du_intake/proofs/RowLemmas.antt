@@ -10,8 +10,8 @@ use Rattle.std.proofs.lemmas.Option.{slice_get-get_or}
 use Rattle.fh_time.proofs.Orders.{not_none}
 use Rattle.schedule_laws.specs.fragment_laws.specs.Apart.{IsIn}
 use Rattle.schedule_laws.specs.unit_model.specs.Claims.{cell_at, in_mask, is_from}
-use Rattle.ru_buffers.specs.unit_cells.specs.Cells.{CellsValue, block_from, cells_block, ring_of}
-use Rattle.ru_buffers.specs.slot_rings.specs.Rings.{RingValue}
+use Rattle.unit_cells.specs.Cells.{CellsValue, block_from, cells_block, ring_of}
+use Rattle.slot_rings.specs.Rings.{RingValue}
 use Rattle.air_source.specs.declared.events.AirCell.{AirCell}
 use Rattle.air_source.specs.declared.events.Side.TheVariants.{Du}
 use Rattle.window_config.specs.bfp_codec.specs.declared.samples.Wide.{Wide}
@@ -21,9 +21,9 @@ use Rattle.schedule_laws.specs.unit_model.specs.declared.symbol_start.SymbolStar
 use Rattle.du_intake.specs.Cursors.{uplink_cell_in}
 use Rattle.schedule_laws.specs.unit_model.specs.declared.cells.Claim.{Claim}
 use Rattle.schedule_laws.specs.plan_model.proofs.ListLemmas.{get_in}
-use Rattle.ru_buffers.specs.slot_rings.specs.Places.{claim_in}
-use Rattle.ru_buffers.specs.slot_rings.specs.declared.claims.CellClaims.{CellClaims}
-use Rattle.ru_buffers.specs.slot_rings.proofs.MaskLemmas.{in_either, in_none, section_own, used_is}
+use Rattle.slot_rings.specs.Places.{claim_in}
+use Rattle.slot_rings.specs.declared.claims.CellClaims.{CellClaims}
+use Rattle.slot_rings.proofs.MaskLemmas.{in_either, in_none, section_own, used_is}
 use Rattle.du_intake.specs.Lines.{claim_in_slot, has_symbol, names_in}
 use Rattle.du_intake.specs.Rows.{HaveTwelve, IsRowOf, claim_of_planned, no_claim, claim_with_line}
 use Rattle.du_intake.specs.Symbols.{AreOneSection}

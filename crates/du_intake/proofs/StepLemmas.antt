@@ -12,15 +12,15 @@ use Rattle.schedule_laws.specs.unit_model.specs.declared.allocations.Allocation.
 use Rattle.schedule_laws.specs.unit_model.specs.declared.cells.Cell.{Cell}
 use Rattle.schedule_laws.specs.unit_model.specs.declared.symbol_start.SymbolStart.{SymbolStart}
 use Rattle.schedule_laws.specs.unit_laws.proofs.FarLemmas.{endpoints_equal}
-use Rattle.ru_buffers.specs.unit_memory.specs.declared.memory.UnitMemory.{UnitMemory}
-use Rattle.ru_buffers.specs.symbol_search.proofs.OrderLemmas.{comes_trans}
-use Rattle.ru_buffers.specs.radio_laws.proofs.OrderLemmas.{same_place}
+use Rattle.unit_memory.specs.declared.memory.UnitMemory.{UnitMemory}
+use Rattle.symbol_search.proofs.OrderLemmas.{comes_trans}
+use Rattle.radio_laws.proofs.OrderLemmas.{same_place}
 use Rattle.du_intake.specs.Cursors.{CellCursor, IsNextPlannedSymbol, is_behind}
 use Rattle.du_intake.specs.Units.{IntakeKeeps}
 use Rattle.du_intake.proofs.CellLemmas.{cursor_at, own_behind, own_start, swept}
 use Rattle.du_intake.proofs.UnitLemmas.{found_behind}
 use Rattle.du_intake.proofs.UsedLemmas.{used_named}
-use Rattle.ru_buffers.specs.symbol_search.specs.Searches.{IsNotBefore}
+use Rattle.symbol_search.specs.Searches.{IsNotBefore}
 
 other_ahead : (a b x : Bool) → a ≡ false → b ≡ true → (a || (not b && x)) ≡ false
 other_ahead a b x h k = rw (h, k) refl

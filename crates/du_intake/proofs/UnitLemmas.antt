@@ -16,13 +16,13 @@ use Rattle.schedule_laws.specs.unit_model.specs.Standing.{History, IsOwed, arriv
 use Rattle.schedule_laws.specs.unit_model.specs.declared.allocations.Allocation.{Allocation}
 use Rattle.schedule_laws.specs.unit_model.proofs.BlockLemmas.{all_timely}
 use Rattle.schedule_laws.specs.unit_laws.proofs.HistoryLemmas.{data_are_proper}
-use Rattle.ru_buffers.specs.unit_cells.specs.Told.{IsTold}
-use Rattle.ru_buffers.specs.unit_cells.proofs.ToldLemmas.{told_whole}
-use Rattle.ru_buffers.specs.history_laws.specs.Arriving.{IsNextArrival}
-use Rattle.ru_buffers.specs.history_laws.proofs.ArrivingLemmas.{arrival_leaves_due}
-use Rattle.ru_buffers.specs.unit_memory.specs.Memory.{Holds, HoldsSome, arrival_at}
-use Rattle.ru_buffers.specs.unit_memory.specs.declared.memory.UnitMemory.{UnitMemory}
-use Rattle.ru_buffers.specs.unit_memory.proofs.HoldLemmas.{holds_later}
+use Rattle.unit_cells.specs.Told.{IsTold}
+use Rattle.unit_cells.proofs.ToldLemmas.{told_whole}
+use Rattle.history_laws.specs.Arriving.{IsNextArrival}
+use Rattle.history_laws.proofs.ArrivingLemmas.{arrival_leaves_due}
+use Rattle.unit_memory.specs.Memory.{Holds, HoldsSome, arrival_at}
+use Rattle.unit_memory.specs.declared.memory.UnitMemory.{UnitMemory}
+use Rattle.unit_memory.proofs.HoldLemmas.{holds_later}
 use Rattle.schedule_laws.specs.unit_model.specs.Order.{comes_before}
 use Rattle.schedule_laws.specs.unit_model.specs.Starts.{start_at}
 use Rattle.schedule_laws.specs.unit_model.specs.declared.symbol_start.SymbolStart.{SymbolStart}
@@ -35,12 +35,12 @@ use Rattle.du_intake.specs.declared.plan.UplinkPlan.{UplinkPlan}
 use Rattle.du_intake.proofs.DueLemmas.{own_not_behind}
 use Rattle.du_intake.proofs.NextLemmas.{first_symbol}
 use Rattle.du_intake.proofs.UsedLemmas.{named_left, used_named}
-use Rattle.ru_buffers.specs.symbol_search.specs.Searches.{IsNotBefore}
+use Rattle.symbol_search.specs.Searches.{IsNotBefore}
 use Rattle.fh_time.proofs.Orders.{at_most}
 use Rattle.schedule_laws.specs.unit_laws.proofs.BeginLemmas.{nothing_past}
 use Rattle.schedule_laws.specs.unit_model.proofs.SlotLemmas.{first_time}
 use Rattle.fh_time.specs.declared.carrier.TheConstants.{CARRIER_PRBS}
-use Rattle.ru_buffers.specs.radio_laws.proofs.HistoryLemmas.{whole_data}
+use Rattle.radio_laws.proofs.HistoryLemmas.{whole_data}
 
 -- ---- what it answers
 

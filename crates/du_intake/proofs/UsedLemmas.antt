@@ -17,7 +17,7 @@ use Rattle.schedule_laws.specs.unit_model.specs.declared.cells.Cell.{Cell}
 use Rattle.schedule_laws.specs.unit_model.specs.declared.cells.Claim.{Claim}
 use Rattle.schedule_laws.specs.unit_model.specs.declared.symbol_start.SymbolStart.{SymbolStart}
 use Rattle.schedule_laws.specs.unit_laws.proofs.FarLemmas.{endpoints_equal}
-use Rattle.ru_buffers.specs.history_laws.proofs.UnitLemmas.{not_both}
+use Rattle.history_laws.proofs.UnitLemmas.{not_both}
 use Rattle.schedule_laws.proofs.TimeLemmas.{first_less}
 use Rattle.du_intake.specs.Cursors.{ArePlanned, HasStillLeft, IsNamed, uplink_cell_in}
 use Rattle.schedule_laws.specs.unit_model.proofs.ClaimLemmas.{none_used as unused, slot_self as slot_own, covers_is}

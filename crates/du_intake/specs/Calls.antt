@@ -1,7 +1,8 @@
 -- What the calls of the intake say of the histories for which it stands (this project's profile).
-use Rattle.std.specs.Prelude.{◌≡◌, ◌≢◌, ℤ, pos, ◌-ℤ◌, ◌<ℤ◌, List, [], length, Option, Some, None}
+use Rattle.std.specs.Prelude.{◌≡◌, ◌≢◌, ℤ, pos, ◌-ℤ◌, ◌<ℤ◌, ◌≤ℤ◌, List, [], length, Option, Some, None}
 use Rattle.fh_time.specs.declared.values.Ticks.{Ticks}
 use Rattle.window_config.specs.declared.config.Config.{Config}
+use Rattle.schedule_laws.specs.unit_model.specs.Proper.{IsTime}
 use Rattle.schedule_laws.specs.unit_model.specs.Standing.{History}
 use Rattle.schedule_laws.specs.unit_model.specs.declared.allocations.Allocation.{Allocation}
 use Rattle.schedule_laws.specs.unit_model.specs.declared.symbol_start.SymbolStart.{SymbolStart}
@@ -45,3 +46,10 @@ pub record IsLeastIntakeMoment (c : Config) (planned : List Allocation) (h : His
 abbrev pub IsIntakeDue : Config → List Allocation → History → Option Ticks → Type 0
 IsIntakeDue c planned h None = (to : ℤ) → intake_due_of c planned h to ≡ []
 IsIntakeDue c planned h (Some t) = IsLeastIntakeMoment c planned h t.0
+
+-- It may take a frame at a time that is not before its clock, where every cell whose moment comes before that time was reported.
+pub record IntakeMayTake (u : Intake) (c : Config) (planned : List Allocation) (at : ℤ) (h : History) : Type 0 where
+  pub stands : IntakeStandsFor c planned u h
+  pub reported : IsReportedBefore c planned h at
+  pub order : (intake_clock u).0 ≤ℤ at
+  pub time : IsTime at

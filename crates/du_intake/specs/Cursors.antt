@@ -11,7 +11,7 @@ use Rattle.schedule_laws.specs.unit_model.specs.Starts.{start_at}
 use Rattle.schedule_laws.specs.unit_model.specs.declared.allocations.Allocation.{Allocation}
 use Rattle.schedule_laws.specs.unit_model.specs.declared.symbol_start.SymbolStart.{SymbolStart}
 use Rattle.window_config.specs.declared.plan.TheConstants.{LAST_FRAME}
-use Rattle.ru_buffers.specs.symbol_search.specs.Searches.{IsNotBefore}
+use Rattle.symbol_search.specs.Searches.{IsNotBefore}
 use Rattle.fh_time.specs.declared.carrier.TheConstants.{CARRIER_PRBS}
 
 -- the times of an allocation's symbols can be told

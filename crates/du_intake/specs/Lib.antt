@@ -1,7 +1,6 @@
 pub use Rattle.schedule_laws.specs.fragment_laws
-pub use Rattle.ru_buffers.specs.history_laws
+pub use Rattle.radio_laws.specs.history_laws
 pub use Rattle.schedule_laws.specs.plan_model
-pub use Rattle.ru_buffers
 pub use Rattle.schedule_laws
 pub use Rattle.schedule_laws.specs.unit_laws
 pub use Rattle.schedule_laws.specs.unit_model

@@ -16,9 +16,9 @@ use Rattle.schedule_laws.specs.unit_model.specs.Sides.{IsLiveFor}
 use Rattle.schedule_laws.specs.unit_model.specs.Standing.{AreDifferent, History, IsCell, IsOwed, Kept, StandsByPlan, cell_heard, due, past_of}
 use Rattle.schedule_laws.specs.unit_model.specs.declared.allocations.Allocation.{Allocation}
 use Rattle.schedule_laws.specs.unit_model.specs.declared.cells.Cell.{Cell}
-use Rattle.ru_buffers.specs.unit_cells.specs.Cells.{cells_block}
-use Rattle.ru_buffers.specs.unit_memory.specs.Memory.{Holds}
-use Rattle.ru_buffers.specs.unit_memory.specs.declared.memory.UnitMemory.{UnitMemory}
+use Rattle.unit_cells.specs.Cells.{cells_block}
+use Rattle.unit_memory.specs.Memory.{Holds}
+use Rattle.unit_memory.specs.declared.memory.UnitMemory.{UnitMemory}
 use Rattle.schedule_laws.specs.unit_model.specs.Starts.{start_at}
 use Rattle.du_intake.specs.Cursors.{ArePlanned, CellCursor, HasStillLeft, IsNamed, is_behind}
 use Rattle.du_intake.specs.Lines.{claim_by}

@@ -19,12 +19,11 @@ use crate::plan::{Place, UplinkPlan};
 use air_source::Side;
 use fault_counters::Counters;
 use fh_base::NoMemory;
-use fh_time::{CARRIER_PRBS, Ticks, of_ns};
+use fh_time::{CARRIER_PRBS, FIRST_CLOCK, Ticks, of_ns};
 use plan_model::PlannedLine;
-use ru_buffers::FIRST_CLOCK;
 use std::alloc::Global;
 use unit_memory::UnitMemory;
-use unit_model::Delivered;
+use unit_model::{Delivered, TakesFrames};
 use window_config::Config;
 
 /// How long after the start of its symbol a cell is reported.
@@ -135,5 +134,15 @@ impl Intake {
     {
         self.clock = at;
         self.memory.arrive(at, frame).delivered
+    }
+}
+
+impl TakesFrames for Intake {
+    ghost use Rattle.du_intake.specs.Calls.{IntakeMayTake};
+
+    ghost may_take = { λ u c planned at h. IntakeMayTake u c planned at h };
+
+    fn take(&mut self, at: Ticks, frame: &[u8]) {
+        self.deliver(at, frame);
     }
 }

@@ -5,3 +5,4 @@ pub mod Numbering
 pub mod Air
 pub mod Frame
 pub mod Carrier
+pub mod Least

@@ -6,6 +6,9 @@ use crate::values::Ticks;
 /// The ticks of a frame, which is 10 ms.
 pub const FRAME: i64 = 15_360_000_000;
 
+/// A unit's clock begins one frame before 0.
+pub const FIRST_CLOCK: Ticks = Ticks(-FRAME);
+
 /// Half of the time in which each frameId comes once, which is 1.28 s.
 pub const HALF_CYCLE: i64 = 1_966_080_000_000;
 

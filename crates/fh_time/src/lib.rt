@@ -13,7 +13,7 @@ mod symbols;
 mod values;
 
 pub use carrier::{CARRIER_PRBS, prb_span};
-pub use frames::{FRAME, HALF_CYCLE, resolve};
+pub use frames::{FIRST_CLOCK, FRAME, HALF_CYCLE, resolve};
 pub use nanoseconds::{END_OF_TIME, LAST_TIME, NANOSECOND, of_ns};
 pub use numerology::Numerology;
 pub use shapes::{code, offsets, shape};

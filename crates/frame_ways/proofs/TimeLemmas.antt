@@ -10,7 +10,7 @@ use Rattle.frame_network.specs.declared.arrivals.Arrival.{Arrival as Flying}
 use Rattle.frame_network.specs.declared.landings.Landing.{Landing}
 use Rattle.frame_network.specs.Network.{first_time as first_flying}
 use Rattle.frame_network.specs.Queues.{AreRising, first_time}
-use Rattle.ru_buffers.specs.Calls.{IsLeast, IsLeastOf, earlier_time}
+use Rattle.fh_time.specs.Least.{IsLeast, IsLeastOf, earlier_time}
 use Rattle.frame_ways.specs.Flying.{AreFlyingFrom}
 use Rattle.frame_ways.specs.Listed.{AreFrom}
 use Rattle.frame_ways.proofs.LandLemmas.{flying_less, from_less}

@@ -1,6 +1,6 @@
 // Times in their order.
 ghost use Rattle.std.specs.Prelude.{◌≡◌};
-ghost use Rattle.ru_buffers.specs.Calls.{earlier_time};
+ghost use Rattle.fh_time.specs.Least.{earlier_time};
 
 use fh_time::Ticks;
 

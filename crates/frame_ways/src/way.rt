@@ -42,7 +42,7 @@ impl<'a> Way<'a> {
     ghost use Rattle.measured_traffic.specs.fh_document.specs.declared.document.Document.{Document as SpecDocument};
     ghost use Rattle.air_source.specs.declared.events.Side.{Side as SpecSide};
     ghost use Rattle.measured_traffic.specs.replay_events.specs.Moments.{end_of_time};
-    ghost use Rattle.ru_buffers.specs.Calls.{IsLeastOf};
+    ghost use Rattle.fh_time.specs.Least.{IsLeastOf};
     ghost use Rattle.ru_buffers.specs.unit_model.specs.Radiated.{first_clock};
     ghost use Rattle.frame_ways.specs.Ways.{ComesFrom, IsEmptyTo, IsLanded, IsTickOver, Waits, document_of, frames_on_way};
 

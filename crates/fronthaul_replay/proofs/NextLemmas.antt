@@ -33,7 +33,8 @@ use Rattle.intake_moments.specs.replay_events.specs.Events.{events_at}
 use Rattle.intake_moments.specs.replay_events.specs.Moments.{end_of_time}
 use Rattle.intake_moments.specs.replay_events.specs.Passing.{IsNextMoment, IsUnitMoment}
 use Rattle.intake_moments.specs.replay_events.proofs.EventLemmas.{events_go_on, events_wait}
-use Rattle.intake_moments.specs.ru_buffers.specs.Calls.{IsDue, IsLeast, IsLeastOf, IsQuietTo, earlier_time}
+use Rattle.intake_moments.specs.ru_buffers.specs.Calls.{IsDue, IsQuietTo}
+use Rattle.fh_time.specs.Least.{IsLeast, IsLeastOf, earlier_time}
 use Rattle.intake_moments.specs.ru_buffers.specs.declared.unit.Ru.{Ru}
 use Rattle.intake_moments.specs.unit_model.proofs.SweepLaws.{gap_is}
 use Rattle.intake_moments.specs.unit_model.specs.Radiated.{first_clock}

@@ -30,11 +30,11 @@ use delay_measure::Edge;
 use du_intake::Intake;
 use fh_base::NoMemory;
 use fh_document::Document;
-use fh_time::Ticks;
+use fh_time::{FIRST_CLOCK, Ticks};
 use intake_moments::intake_moment;
 use measured_moments::Meters;
 use radio_moments::{earlier_of, radio_moment};
-use ru_buffers::{FIRST_CLOCK, Ru};
+use ru_buffers::Ru;
 
 /// The next time at which a cell or a message is due at a unit, a frame leaves or lands, or a measurement begins. None where there is none
 /// up to the end.

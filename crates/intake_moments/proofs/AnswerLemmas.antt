@@ -24,9 +24,9 @@ use Rattle.radio_moments.proofs.StepLemmas.{arrivals_stay, cells_stay, intake_ow
 use Rattle.radio_moments.specs.Turns.{AtRadioTurn, IsRadioInStep, IsRadioLanded, events_before, intake_events, radio_events}
 use Rattle.radio_moments.specs.replay_events.specs.Heard.{arrivals_heard, cells_heard}
 use Rattle.radio_moments.specs.replay_events.specs.Moments.{arrivals_before, end_of_time}
-use Rattle.du_intake.specs.ru_buffers.specs.Calls.{StandsFor}
-use Rattle.du_intake.specs.ru_buffers.specs.radio_laws.specs.Reporting.{due_of}
-use Rattle.du_intake.specs.ru_buffers.specs.declared.unit.Ru.{Ru}
+use Rattle.ru_buffers.specs.Calls.{StandsFor}
+use Rattle.radio_laws.specs.Reporting.{due_of}
+use Rattle.ru_buffers.specs.declared.unit.Ru.{Ru}
 use Rattle.send_queue.specs.Outboxes.{Handed}
 use Rattle.send_queue.specs.Queues.{LeaveFrom, WaitsFor}
 use Rattle.send_queue.specs.unit_model.proofs.OntoLemmas.{onto-append, onto_none}

@@ -30,7 +30,7 @@ use Rattle.send_queue.specs.unit_model.specs.Standing.{History, arrived, at_cloc
 use Rattle.send_queue.specs.unit_model.specs.declared.allocations.Allocation.{Allocation}
 use Rattle.send_queue.specs.window_config.specs.declared.config.Config.{Config}
 use Rattle.intake_moments.specs.Landing.{IntakeHasTaken, MayHear, frames_told, du_landed}
-use Rattle.du_intake.specs.ru_buffers.specs.unit_memory.specs.Memory.{arrival_at}
+use Rattle.unit_memory.specs.Memory.{arrival_at}
 
 -- ---- a frame of a tick
 

@@ -38,8 +38,8 @@ use Rattle.radio_moments.specs.replay_events.specs.Moments.{all_arrivals, end_of
 use Rattle.radio_moments.specs.replay_events.specs.Passing.{IsCalm, IsNextMoment, IsUnitMoment}
 use Rattle.radio_moments.specs.replay_events.proofs.CameLemmas.{calm_adds_nothing}
 use Rattle.radio_moments.specs.replay_events.proofs.TickLemmas.{between}
-use Rattle.du_intake.specs.ru_buffers.specs.Calls.{IsQuietTo}
-use Rattle.du_intake.specs.ru_buffers.specs.declared.unit.Ru.{Ru}
+use Rattle.ru_buffers.specs.Calls.{IsQuietTo}
+use Rattle.ru_buffers.specs.declared.unit.Ru.{Ru}
 use Rattle.send_queue.specs.Queues.{IsSilentTo, WaitsFor, waiting_at}
 use Rattle.send_queue.proofs.QueueLemmas.{waits_on as queue_waits_on}
 use Rattle.send_queue.specs.unit_model.specs.Lists.{onto}

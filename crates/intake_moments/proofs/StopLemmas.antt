@@ -31,7 +31,7 @@ use Rattle.intake_moments.specs.Landing.{MayHear, frames_told}
 use Rattle.intake_moments.specs.Turns.{AtIntakeTurn, IsIntakeInStep, IsIntakeTurn, planned_for}
 use Rattle.intake_moments.proofs.TurnLemmas.{arrivals_closed, begun_at, cells_closed, due_here}
 use Rattle.du_intake.specs.history_laws.proofs.AddedLemmas.{in_front}
-use Rattle.du_intake.specs.ru_buffers.specs.unit_memory.specs.Memory.{arrival_at}
+use Rattle.unit_memory.specs.Memory.{arrival_at}
 
 -- ---- in step with what was heard
 

@@ -9,7 +9,7 @@ use Rattle.radio_moments.specs.fh_document.specs.declared.document.Document.{Doc
 use Rattle.radio_moments.specs.frame_ways.specs.declared.way.Way.{Way}
 use Rattle.radio_moments.specs.Turns.{AtRadioTurn, HasRadioLanded, events_before, radio_events}
 use Rattle.radio_moments.specs.replay_events.specs.Moments.{end_of_time}
-use Rattle.du_intake.specs.ru_buffers.specs.declared.unit.Ru.{Ru}
+use Rattle.ru_buffers.specs.declared.unit.Ru.{Ru}
 use Rattle.send_queue.specs.unit_model.specs.Radiated.{first_clock}
 use Rattle.intake_moments.specs.Answers.{AwaitsFrames, HasAnswered, WaitsUp}
 use Rattle.intake_moments.specs.declared.answers.Answers.{Answers}

@@ -21,7 +21,7 @@ use Rattle.send_queue.specs.unit_model.specs.Standing.{History}
 use Rattle.send_queue.specs.unit_model.specs.declared.allocations.Allocation.{Allocation}
 use Rattle.send_queue.specs.window_config.specs.declared.config.Config.{Config}
 use Rattle.intake_moments.specs.Turns.{planned_for}
-use Rattle.du_intake.specs.ru_buffers.specs.unit_memory.specs.Memory.{arrival_at}
+use Rattle.unit_memory.specs.Memory.{arrival_at}
 
 -- a way to the distributed unit on which nothing more is sent at a tick
 abbrev pub WaitsToLandUp : Document → ℤ → SentCounts → List Leaving → Way → Type 0

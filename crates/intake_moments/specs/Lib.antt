@@ -14,7 +14,7 @@ pub use Rattle.radio_moments.specs.plan_tests
 pub use Rattle.radio_moments
 pub use Rattle.radio_moments.specs.replay_events
 pub use Rattle.radio_moments.specs.replay_laws
-pub use Rattle.du_intake.specs.ru_buffers
+pub use Rattle.ru_buffers
 pub use Rattle.du_intake.specs.schedule_laws
 pub use Rattle.radio_moments.specs.tone_source
 pub use Rattle.send_queue.specs.unit_model

@@ -4,7 +4,7 @@ ghost use Rattle.send_queue.specs.air_source.specs.Answers.{AnswersBy};
 ghost use Rattle.send_queue.specs.air_source.specs.Kept.{IsKept, closure_of};
 ghost use Rattle.radio_moments.specs.document_traffic.specs.Landing.{antenna_for};
 ghost use Rattle.radio_moments.specs.document_traffic.specs.Laws.{IsReplayable};
-ghost use Rattle.du_intake.specs.ru_buffers.specs.Calls.{IsLeastOf};
+ghost use Rattle.fh_time.specs.Least.{IsLeastOf};
 ghost use Rattle.send_queue.specs.unit_model.specs.Radiated.{first_clock};
 ghost use Rattle.intake_moments.specs.Answers.{AreSilentTo, WaitsUp};
 

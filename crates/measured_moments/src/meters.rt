@@ -54,7 +54,7 @@ impl<'a, C: Fn(Edge) -> i64, D: Fn(Edge) -> i64> Meters<'a, C, D> {
     ghost use Rattle.delay_exchange.specs.fh_document.specs.Proper.{IsDocument};
     ghost use Rattle.delay_exchange.specs.fh_document.specs.declared.document.Document.{Document as SpecDocument};
     ghost use Rattle.delay_exchange.specs.measured_traffic.specs.Doings.{Doings};
-    ghost use Rattle.frame_ways.specs.ru_buffers.specs.Calls.{IsLeastOf};
+    ghost use Rattle.fh_time.specs.Least.{IsLeastOf};
     ghost use Rattle.delay_exchange.specs.unit_model.specs.Radiated.{first_clock};
     ghost use Rattle.measured_moments.specs.Begins.{AnswersAs, BeginNoneTo, HasBegun, HaveBegun, MeasuresWait};
 

@@ -8,7 +8,7 @@ use Rattle.du_scheduler.specs.Plans.{HasToSend, IsPlan}
 use Rattle.du_scheduler.specs.declared.plans.Plan.{Plan}
 use Rattle.du_scheduler.specs.frame_order.specs.Queues.{first_time}
 use Rattle.du_scheduler.specs.plan_model.specs.Sent.{SentFrame}
-use Rattle.measured_moments.specs.ru_buffers.specs.Calls.{IsLeastOf}
+use Rattle.fh_time.specs.Least.{IsLeastOf}
 use Rattle.du_scheduler.specs.sent_order.specs.Runs.{turn_of}
 use Rattle.du_scheduler.specs.window_config.specs.declared.config.Config.{Config}
 use Rattle.du_scheduler.specs.window_config.specs.declared.plan.PlanLine.{PlanLine}

@@ -3,7 +3,7 @@ ghost use Rattle.std.specs.Prelude.{IfOk};
 ghost use Rattle.measured_moments.specs.document_traffic.specs.Laws.{IsReplayable};
 ghost use Rattle.measured_moments.specs.document_traffic.specs.Sending.{sent_for};
 ghost use Rattle.du_scheduler.specs.Plans.{HasToSend};
-ghost use Rattle.measured_moments.specs.ru_buffers.specs.Calls.{IsLeastOf};
+ghost use Rattle.fh_time.specs.Least.{IsLeastOf};
 ghost use Rattle.du_scheduler.specs.unit_model.specs.Radiated.{first_clock};
 ghost use Rattle.radio_moments.specs.Downlink.{HasPlan, IsCalmTo, WaitsDown};
 

@@ -34,7 +34,8 @@ use Rattle.ru_jobs.specs.declared.cursor.JobCursor.{JobCursor}
 use Rattle.unit_memory.specs.Memory.{Holds, HoldsSome, arrival_at}
 use Rattle.unit_memory.specs.declared.memory.UnitMemory.{UnitMemory}
 use Rattle.unit_memory.proofs.HoldLemmas.{holds_later}
-use Rattle.ru_buffers.specs.Calls.{IsCellMoment, IsDue, IsLeast, IsMessageMoment, earlier_time}
+use Rattle.ru_buffers.specs.Calls.{IsCellMoment, IsDue, IsMessageMoment}
+use Rattle.fh_time.specs.Least.{IsLeast, earlier_time}
 use Rattle.radio_laws.specs.JobLaws.{IsSettled, NothingIsLeft}
 use Rattle.radio_laws.specs.Reporting.{IsFirstLeft, due_of}
 use Rattle.radio_laws.specs.Units.{IsReady, RadioStands, left_up_to}

@@ -1,12 +1,9 @@
 -- The loop that reports symbol by symbol, and the calls above it.
 use Rattle.std.proofs.Common.{◌≡◌, ℕ, suc, ℤ, pos, ◌-◌, ◌<◌, ◌≤◌, ◌≤ℤ◌, ◌<ℤ◌, ◌^◌, neg_ℤ, true, List, [], ◌∷◌, ◌++◌, length, map, refl, sym, ap, ◌∙◌, subst, arith, append-nil}
-use Rattle.std.specs.Prelude.{Option, Some, None, Result, Err}
-use Rattle.radio_laws.specs.history_laws.specs.air_source.specs.Causes.{HasAirCause}
-use Rattle.radio_laws.specs.history_laws.specs.air_source.specs.declared.airs.AirFault.{AirFault}
+use Rattle.std.specs.Prelude.{Option, Some, None}
 use Rattle.std.proofs.lemmas.Int.{ints}
 use Rattle.std.proofs.lemmas.List.{map-append}
 use Rattle.std.proofs.lemmas.Option.{slice_get_within}
-use Rattle.radio_laws.specs.history_laws.specs.air_source.proofs.Causes.{air_cause_since}
 use Rattle.fh_time.specs.declared.values.Ticks.{Ticks}
 use Rattle.fh_time.proofs.Order.{slots_few, symbols_few}
 use Rattle.radio_laws.specs.history_laws.specs.air_source.specs.declared.events.AirCell.{AirCell}
@@ -344,10 +341,3 @@ goes_some grew c h to old new before after o m e is = subst (AfterReport grew c 
 pub over_at_none : {A : Type 0} (grew : A → List Event → A → Type 0) (c : Config) (h : History) (to : ℤ) (old new : Ru) (before after : A) (o : Option SymbolStart)
     → o ≡ None → AfterReport grew c h to old new before after o → IsOver c h to old new before after
 over_at_none grew c h to old new before after o e is = subst (AfterReport grew c h to old new before after) e is
-
--- ---- causes
-
--- of an error before which the count stood still
-pub cause_then : (first before now : ℕ) (fault : AirFault) → before ≡ first
-    → (let one : Result (Unit {0}) AirFault = Err fault in HasAirCause before now one) → (let one : Result (Unit {0}) AirFault = Err fault in HasAirCause first now one)
-cause_then first before now fault still cause = air_cause_since {T = Unit {0}} first before now (Err fault) still cause

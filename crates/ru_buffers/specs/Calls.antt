@@ -1,11 +1,13 @@
 -- What the calls of a radio unit say of the histories for which it stands (this project's profile).
-use Rattle.std.specs.Prelude.{◌≡◌, ℤ, ◌<ℤ◌, List, [], ◌∷◌, ◌++◌, map, if◌then◌else◌, int_lt, Option, Some, None}
+use Rattle.std.specs.Prelude.{◌≡◌, ℤ, ◌<ℤ◌, List, [], ◌∷◌, ◌++◌, map, Option, Some, None}
 use Rattle.radio_laws.specs.history_laws.specs.air_source.specs.declared.events.AirCell.{AirCell}
 use Rattle.radio_laws.specs.history_laws.specs.air_source.specs.declared.events.Event.{Event}
 use Rattle.radio_laws.specs.history_laws.specs.air_source.specs.declared.events.Event.TheVariants.{Cell as Reported}
+use Rattle.fh_time.specs.Least.{IsLeastOf}
 use Rattle.fh_time.specs.declared.values.Ticks.{Ticks}
 use Rattle.radio_laws.specs.history_laws.specs.window_config.specs.declared.config.Config.{Config}
 use Rattle.radio_laws.specs.history_laws.specs.unit_model.specs.Standing.{History, IsLiveAt, StandsBy, handed, heard, owed_until}
+use Rattle.radio_laws.specs.history_laws.specs.unit_model.specs.declared.allocations.Allocation.{Allocation}
 use Rattle.radio_laws.specs.history_laws.specs.unit_model.specs.declared.jobs.UplinkJob.{UplinkJob}
 use Rattle.radio_laws.specs.history_laws.specs.unit_model.specs.declared.symbol_start.SymbolStart.{SymbolStart}
 use Rattle.ru_reports.specs.unit_cells.specs.Cells.{CellsValue, cells_uplink}
@@ -80,21 +82,14 @@ IsDue c h None = (to : ℤ) → IsQuietTo c h to
 IsDue c h (Some t) = IsLeastMoment c h t.0
 
 -- the parts of it: the least moment of a cell, and that of a message
-pub record IsLeast (left : ℤ → Type 0) (t : ℤ) : Type 0 where
-  pub before : (to : ℤ) → to <ℤ t → left to
-  pub at : left t → ⊥
-
-abbrev pub IsLeastOf : (ℤ → Type 0) → Option Ticks → Type 0
-IsLeastOf left None = (to : ℤ) → left to
-IsLeastOf left (Some t) = IsLeast left t.0
-
 abbrev pub IsCellMoment : Config → History → Option Ticks → Type 0
 IsCellMoment c h t = IsLeastOf (λ to. due_of c h to ≡ []) t
 
 abbrev pub IsMessageMoment : Config → History → Option Ticks → Type 0
 IsMessageMoment c h t = IsLeastOf (λ to. owed_until c h to ≡ []) t
 
-abbrev pub earlier_time : Option Ticks → Option Ticks → Option Ticks
-earlier_time None b = b
-earlier_time (Some a) None = Some a
-earlier_time (Some a) (Some b) = if int_lt b.0 a.0 then Some b else Some a
+-- It may take a frame at its clock, where no message is left of a symbol that starts before it. What is planned says nothing to it.
+pub record RadioMayTake (u : Ru) (c : Config) (planned : List Allocation) (at : ℤ) (h : History) : Type 0 where
+  pub stands : StandsFor c u h
+  pub given : HasGivenPast u
+  pub clock : (radio_clock u).0 ≡ at

@@ -11,5 +11,5 @@ mod messages;
 mod reporting;
 mod unit;
 
-pub use unit::{FIRST_CLOCK, Ru};
+pub use unit::Ru;
 pub use unit_model::{Delivered, UplinkJob};

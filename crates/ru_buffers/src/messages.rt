@@ -3,7 +3,8 @@ ghost use Rattle.std.specs.Prelude.{◌≡◌, [], IfNone, IfSome};
 ghost use Rattle.radio_laws.specs.history_laws.specs.window_config.specs.declared.config.Config.{Config};
 ghost use Rattle.radio_laws.specs.history_laws.specs.unit_model.specs.ProperJobs.{IsProperJob};
 ghost use Rattle.radio_laws.specs.history_laws.specs.unit_model.specs.Standing.{History};
-ghost use Rattle.ru_buffers.specs.Calls.{earlier_time, radio_clock};
+ghost use Rattle.ru_buffers.specs.Calls.{radio_clock};
+ghost use Rattle.fh_time.specs.Least.{earlier_time};
 
 use crate::finding::find_message;
 use crate::reporting::starts_by;

@@ -10,15 +10,12 @@ use crate::finding::{find_message, find_symbol};
 use air_source::Side;
 use fault_counters::Counters;
 use fh_base::NoMemory;
-use fh_time::{FRAME, Ticks};
+use fh_time::{FIRST_CLOCK, Ticks};
 use ru_jobs::{JobCursor, NextJob};
 use std::alloc::Global;
 use unit_memory::UnitMemory;
-use unit_model::{Delivered, SymbolStart};
+use unit_model::{Delivered, SymbolStart, TakesFrames};
 use window_config::Config;
-
-/// A unit's clock begins one frame before 0.
-pub const FIRST_CLOCK: Ticks = Ticks(-FRAME);
 
 /// The radio unit of an open fronthaul, in memory that is taken when it is made.
 ///
@@ -120,5 +117,15 @@ impl Ru {
         } else {
             self.message
         }
+    }
+}
+
+impl TakesFrames for Ru {
+    ghost use Rattle.ru_buffers.specs.Calls.{RadioMayTake};
+
+    ghost may_take = { λ u c planned at h. RadioMayTake u c planned at h };
+
+    fn take(&mut self, at: Ticks, frame: &[u8]) {
+        self.deliver(frame);
     }
 }

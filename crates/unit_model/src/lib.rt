@@ -16,6 +16,7 @@ mod meeting;
 mod samples;
 mod slots;
 mod symbol_start;
+mod takes_frames;
 mod uplink;
 mod verdicts;
 
@@ -30,5 +31,6 @@ pub use meeting::{Met, meet};
 pub use samples::samples_under;
 pub use slots::{allocation_of, same_slot};
 pub use symbol_start::{SymbolStart, comes_before};
+pub use takes_frames::TakesFrames;
 pub use uplink::{SLOT_SECTIONS, is_from, place_of, sends_in};
 pub use verdicts::{CommandVerdict, DataVerdict};

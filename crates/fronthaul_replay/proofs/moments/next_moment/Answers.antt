@@ -1,6 +1,6 @@
 use Rattle.std.proofs.Common.{sym, ap, ap₂, subst, ◌∙◌}
 use Rattle.intake_moments.specs.Turns.{planned_for}
-use Rattle.intake_moments.specs.ru_buffers.specs.Calls.{earlier_time}
+use Rattle.fh_time.specs.Least.{earlier_time}
 use Rattle.fronthaul_replay.specs.Turns.{IsNextTick, within_end}
 use Rattle.fronthaul_replay.proofs.NextLemmas.{is_next}
 use Rattle.fronthaul_replay.proofs.moments.next_moment.Goals as goal

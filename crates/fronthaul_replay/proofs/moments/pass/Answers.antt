@@ -135,3 +135,6 @@ pub returns-in_err-moment-clause-cause : goal.returns-in_err-moment-clause-cause
 returns-in_err-moment-clause-cause g c =
     let same : c.moment.result ≡ c.from_residual.result = search rules in
     cause_passed (g.A.Air.faults c.args.out.now) (g.A.Air.faults c.loop-tick.out) (g.A.Air.faults c.moment.new.out) c.moment.result c.from_residual.result same c.loop-tick.invariant.still c.moment.ensures.cause
+
+pub returns-in_err-moment-clause-same : goal.returns-in_err-moment-clause-same
+returns-in_err-moment-clause-same g c = g.met.A.Air.same_more c.args.out.now c.loop-tick.out c.moment.new.out c.loop-tick.invariant.same c.moment.ensures.same

@@ -11,7 +11,7 @@ use Rattle.intake_moments.proofs.StopLemmas.{step_before, step_behind}
 use Rattle.air_source.proofs.Causes.{air_cause_since}
 use Rattle.measured_moments.proofs.CauseLemmas.{cause_passed, cause_wanted}
 use Rattle.intake_moments.proofs.landing.hear.Goals as goal
-use Rattle.du_intake.specs.ru_buffers.specs.unit_memory.specs.Memory.{arrival_at}
+use Rattle.unit_memory.specs.Memory.{arrival_at}
 
 pub returns-in_err-arrival-clause-stop : goal.returns-in_err-arrival-clause-stop
 returns-in_err-arrival-clause-stop g c d x told has ready failed =

@@ -1,5 +1,5 @@
 use Rattle.schedule_laws.specs.unit_model.specs.Standing.{heard}
-use Rattle.ru_buffers.proofs.LoopLemmas.{cause_then}
+use Rattle.air_source.proofs.Causes.{cause_then}
 use Rattle.du_intake.proofs.LoopLemmas.{closing_goes, closing_starts, stops_then, symbols_fall, told_over}
 use Rattle.du_intake.proofs.unit.Intake.close_due.Goals as goal
 

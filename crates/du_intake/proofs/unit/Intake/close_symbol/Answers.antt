@@ -3,7 +3,7 @@ use Rattle.schedule_laws.specs.unit_model.specs.Standing.{heard}
 use Rattle.du_intake.specs.Closing.{at_prb}
 use Rattle.du_intake.proofs.CloseLemmas.{closes_claimed}
 use Rattle.du_intake.proofs.NextLemmas.{symbol_below}
-use Rattle.ru_buffers.proofs.LoopLemmas.{cause_then}
+use Rattle.air_source.proofs.Causes.{cause_then}
 use Rattle.du_intake.proofs.LoopLemmas.{claimed_next, claimed_some, claimed_wait, reporting_goes, reporting_starts, same_wait, stops_then, symbol_goes}
 use Rattle.du_intake.proofs.unit.Intake.close_symbol.Goals as goal
 

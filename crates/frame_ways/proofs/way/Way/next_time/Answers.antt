@@ -1,6 +1,6 @@
 use Rattle.std.proofs.Common.{pos, ◌+ℤ◌, ◌∙◌, sym, ap₂, subst}
 use Rattle.std.specs.Prelude.{IfSome}
-use Rattle.ru_buffers.specs.Calls.{IsLeastOf, earlier_time}
+use Rattle.fh_time.specs.Least.{IsLeastOf, earlier_time}
 use Rattle.frame_network.specs.Queues.{first_time}
 use Rattle.frame_network.specs.Network.{first_time as first_flying}
 use Rattle.frame_ways.specs.Flying.{AreFlyingFrom}

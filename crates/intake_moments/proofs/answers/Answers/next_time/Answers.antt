@@ -2,7 +2,7 @@ use Rattle.std.proofs.Common.{List, Option, Some, None, sym, subst}
 use Rattle.fh_time.specs.declared.values.Ticks.{Ticks}
 use Rattle.send_queue.specs.air_source.specs.declared.links.LinkFrame.{LinkFrame}
 use Rattle.radio_moments.specs.frame_ways.specs.Ways.{IsEmptyTo}
-use Rattle.du_intake.specs.ru_buffers.specs.Calls.{IsLeastOf}
+use Rattle.fh_time.specs.Least.{IsLeastOf}
 use Rattle.send_queue.specs.Queues.{IsNextTime, IsSilentTo}
 use Rattle.intake_moments.specs.Answers.{AreSilentTo}
 use Rattle.radio_moments.specs.frame_ways.proofs.TimeLemmas.{earlier_of_both}

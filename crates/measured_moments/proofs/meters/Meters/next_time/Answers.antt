@@ -1,7 +1,7 @@
 use Rattle.std.proofs.Common.{sym, subst}
 use Rattle.frame_ways.proofs.TimeLemmas.{first_waits}
 use Rattle.measured_moments.specs.Begins.{BeginNoneTo}
-use Rattle.frame_ways.specs.ru_buffers.specs.Calls.{IsLeastOf}
+use Rattle.fh_time.specs.Least.{IsLeastOf}
 use Rattle.measured_moments.proofs.meters.Meters.next_time.Goals as goal
 
 pub returns : goal.returns

@@ -1,7 +1,7 @@
 use Rattle.std.proofs.Common.{sym, subst}
 use Rattle.measured_moments.specs.frame_ways.proofs.TimeLemmas.{earlier_of_both}
 use Rattle.measured_moments.specs.frame_ways.specs.Ways.{IsEmptyTo}
-use Rattle.measured_moments.specs.ru_buffers.specs.Calls.{IsLeastOf}
+use Rattle.fh_time.specs.Least.{IsLeastOf}
 use Rattle.radio_moments.specs.Downlink.{IsCalmTo, SendsNoneTo}
 use Rattle.radio_moments.proofs.NextLemmas.{first_sends}
 use Rattle.radio_moments.proofs.downlink.Downlink.next_time.Goals as goal

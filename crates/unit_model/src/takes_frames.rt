@@ -1,0 +1,19 @@
+// The units at which frames land.
+ghost use Rattle.std.specs.Prelude.{ℤ, List};
+ghost use Rattle.window_config.specs.declared.config.Config.{Config};
+ghost use Rattle.unit_model.specs.Standing.{History, arrived, at_clock};
+ghost use Rattle.unit_model.specs.declared.allocations.Allocation.{Allocation};
+
+use fh_time::Ticks;
+
+/// A unit that takes frames, one after the other.
+pub trait TakesFrames {
+    /// The unit stands for a history of a configuration, where these uplink allocations are planned, and may take a frame at a time,
+    /// in ticks.
+    ghost may_take: { Self → Config → List Allocation → ℤ → History → Type 0 };
+
+    /// Takes a frame that arrives at a time, in ticks.
+    fn take(&mut self, at: Ticks, frame: &[u8])
+        requires { (c : Config) × (planned : List Allocation) × (h : History) × may_take self.old c planned at.0 h }
+        ensures { (c : Config) (planned : List Allocation) (h : History) → may_take self.old c planned at.0 h → may_take self.new c planned at.0 (arrived (at_clock h at.0) frame.now) };
+}
