@@ -1,20 +1,25 @@
 -- Digits in pieces.
-use Rattle.std.proofs.Common.{arith, ◌≡◌, ℕ, ◌+◌, ◌-◌, ◌<◌, List, [], ◌∷◌, ◌++◌, length, take, drop, get_or, refl, sym, ap, append_assoc, append-nil, ◌∙◌}
-use Rattle.std.proofs.lemmas.List.{take-append-drop, take_more, drop-drop}
+use Rattle.std.proofs.Common.{arith, ◌≡◌, ℕ, suc, ◌+◌, ◌-◌, ◌*◌, List, [], ◌∷◌, ◌++◌, length, map, take, drop, refl, sym, ap, append_assoc, ◌∙◌}
+use Rattle.std.proofs.lemmas.List.{take-append-drop, drop-drop}
 use Rattle.text_lines.specs.Words.{hex2_text}
 use Rattle.line_laws.specs.Words.{hex_text}
+use Rattle.pcap_lines.specs.Digits.{halves, digit_of}
 
 pub hex_append : (xs ys : List ℕ) → hex_text (xs ++ ys) ≡ hex_text xs ++ hex_text ys
 hex_append [] ys = refl
 hex_append (x ∷ xs) ys = ap (λ t. hex2_text x ++ t) (hex_append xs ys) ∙ sym (append_assoc (hex2_text x) (hex_text xs) (hex_text ys))
 
--- one byte more
-pub hex_more : (xs : List ℕ) (i x d : ℕ) → i < length xs → x ≡ get_or xs i d → hex_text (take i xs) ++ hex2_text x ≡ hex_text (take (i + 1) xs)
-hex_more xs i x d below is =
-    ap (λ t. hex_text (take i xs) ++ t) (sym (append-nil (hex2_text x)))
-    ∙ sym (hex_append (take i xs) (x ∷ []))
-    ∙ ap (λ y. hex_text (take i xs ++ y ∷ [])) is
-    ∙ ap hex_text (sym (take_more xs i d below))
+-- the digits of all halves
+pub hex_halves : (bytes : List ℕ) → map digit_of (halves bytes) ≡ hex_text bytes
+hex_halves [] = refl
+hex_halves (b ∷ bytes) = ap (λ t. hex2_text b ++ t) (hex_halves bytes)
+
+-- the digits of a piece are the front of those of an array that begins with it
+pub hex_front : (piece behind : List ℕ) → take (2 * length piece) (hex_text (piece ++ behind)) ≡ hex_text piece
+hex_front [] behind = refl
+hex_front (x ∷ piece) behind =
+    let twice : 2 * length (x ∷ piece) ≡ suc (suc (2 * length piece)) = omega arith in
+    ap (λ n. take n (hex_text (x ∷ piece ++ behind))) twice ∙ ap (λ t. hex2_text x ++ t) (hex_front piece behind)
 
 -- the digits of what is left, from a piece on
 pub hex_parted : (bytes : List ℕ) (place size : ℕ) → hex_text (drop place bytes) ≡ hex_text (take size (drop place bytes)) ++ hex_text (drop (place + size) bytes)

@@ -5,6 +5,7 @@
 #![tactic(auto)]
 
 mod captures;
+mod digits;
 mod injections;
 mod words;
 

@@ -6,14 +6,12 @@ ghost use Rattle.owed_bytes.specs.Owed.{Carried};
 ghost use Rattle.line_laws.specs.Words.{hex_text, frame_word};
 ghost use Rattle.pcap_lines.specs.Texts.{opening_text};
 
+use crate::digits::{BYTES, spelled};
 use air_source::Side;
 use fh_base::{Sink, SinkFault};
 use owed_bytes::OwedBytes;
 use pcap_frames::PcapFrame;
 use text_lines::Line;
-
-/// How many bytes are written with one line's room.
-const PIECE: usize = 256;
 
 /// Appends what stands before a frame's word, to an empty line.
 pub fn opening(line: &mut Line, f: &PcapFrame<'_>)
@@ -28,27 +26,21 @@ pub fn opening(line: &mut Line, f: &PcapFrame<'_>)
     line.text(b" ");
 }
 
-// Appends two digits for each byte, to an empty line.
-fn digits(line: &mut Line, bytes: &[u8])
-    requires empty { line.old ≡ [] }
-    requires few { length bytes.now ≤ PIECE }
-    ensures { line.new ≡ hex_text bytes.now }
-{
-    for b in bytes {
-        line.hex2(*b);
-    }
-}
-
-// Tells two digits for each byte of a piece.
-fn tell_piece<K: Sink>(bytes: &[u8], owed: &mut OwedBytes, out: &mut K) -> Result<(), SinkFault>
-    requires { length bytes.now ≤ PIECE }
-    ensures carried { OnOk result (Carried (K.written out.old) owed.old (hex_text bytes.now) (K.written out.new) owed.new) }
-    ensures part { OnErr result (WritesPart (K.written out.old) (K.written out.new) (owed.old ++ hex_text bytes.now)) }
+// Tells two digits for each byte of a piece, by an array that the piece is put into.
+fn tell_piece<K: Sink>(
+    piece: &[u8],
+    held: &mut [u8; BYTES],
+    owed: &mut OwedBytes,
+    out: &mut K,
+) -> Result<(), SinkFault>
+    requires { length piece.now ≤ BYTES }
+    ensures carried { OnOk result (Carried (K.written out.old) owed.old (hex_text piece.now) (K.written out.new) owed.new) }
+    ensures part { OnErr result (WritesPart (K.written out.old) (K.written out.new) (owed.old ++ hex_text piece.now)) }
     ensures cause { HasSinkCause (K.faults out.old) (K.faults out.new) (K.refusals out.old) (K.refusals out.new) result }
 {
-    let mut line = Line::new();
-    digits(&mut line, bytes);
-    owed.tell(line.as_slice(), out)
+    held[..piece.len()].copy_from_slice(piece);
+    let digits = spelled(held);
+    owed.tell(&digits[..2 * piece.len()], out)
 }
 
 // Tells two digits for each byte.
@@ -57,10 +49,11 @@ fn tell_digits<K: Sink>(bytes: &[u8], owed: &mut OwedBytes, out: &mut K) -> Resu
     ensures part { OnErr result (WritesPart (K.written out.old) (K.written out.new) (owed.old ++ hex_text bytes.now)) }
     ensures cause { HasSinkCause (K.faults out.old) (K.faults out.new) (K.refusals out.old) (K.refusals out.new) result }
 {
+    let mut held = [0; BYTES];
     let mut place = 0;
     while place < bytes.len() {
-        let size = PIECE.min(bytes.len() - place);
-        tell_piece(&bytes[place..place + size], owed, out)?;
+        let size = BYTES.min(bytes.len() - place);
+        tell_piece(&bytes[place..place + size], &mut held, owed, out)?;
         place += size;
     }
     Ok(())
