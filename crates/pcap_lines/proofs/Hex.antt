@@ -21,6 +21,20 @@ hex_front (x ∷ piece) behind =
     let twice : 2 * length (x ∷ piece) ≡ suc (suc (2 * length piece)) = omega arith in
     ap (λ n. take n (hex_text (x ∷ piece ++ behind))) twice ∙ ap (λ t. hex2_text x ++ t) (hex_front piece behind)
 
+-- two digits for each byte
+pub hex_length : (bytes : List ℕ) → length (hex_text bytes) ≡ 2 * length bytes
+hex_length [] = refl
+hex_length (b ∷ bytes) = omega (arith, hex_length bytes)
+
+-- a block's digits, put behind a text's front
+pub front_more : (text more left all : List ℕ) (size place next : ℕ) → take place text ++ hex_text left ≡ all → take next more ≡ take place text ++ hex_text (take size left)
+    → take next more ++ hex_text (drop size left) ≡ all
+front_more text more left all size place next so_far put =
+    ap (λ t. t ++ hex_text (drop size left)) put
+    ∙ append_assoc (take place text) (hex_text (take size left)) (hex_text (drop size left))
+    ∙ ap (λ t. take place text ++ t) (sym (hex_append (take size left) (drop size left)) ∙ ap hex_text (take-append-drop size left))
+    ∙ so_far
+
 -- the digits of what is left, from a piece on
 pub hex_parted : (bytes : List ℕ) (place size : ℕ) → hex_text (drop place bytes) ≡ hex_text (take size (drop place bytes)) ++ hex_text (drop (place + size) bytes)
 hex_parted bytes place size =

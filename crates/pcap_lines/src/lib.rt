@@ -7,6 +7,7 @@
 mod captures;
 mod digits;
 mod injections;
+mod pieces;
 mod words;
 
 pub use captures::capture_bytes;

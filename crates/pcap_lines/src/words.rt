@@ -6,7 +6,7 @@ ghost use Rattle.owed_bytes.specs.Owed.{Carried};
 ghost use Rattle.line_laws.specs.Words.{hex_text, frame_word};
 ghost use Rattle.pcap_lines.specs.Texts.{opening_text};
 
-use crate::digits::{BYTES, spelled};
+use crate::pieces::{PIECE, TEXT, spell};
 use air_source::Side;
 use fh_base::{Sink, SinkFault};
 use owed_bytes::OwedBytes;
@@ -26,21 +26,20 @@ pub fn opening(line: &mut Line, f: &PcapFrame<'_>)
     line.text(b" ");
 }
 
-// Tells two digits for each byte of a piece, by an array that the piece is put into.
+// Tells two digits for each byte of a piece, by a text that they are put into.
 fn tell_piece<K: Sink>(
     piece: &[u8],
-    held: &mut [u8; BYTES],
+    text: &mut [u8; TEXT],
     owed: &mut OwedBytes,
     out: &mut K,
 ) -> Result<(), SinkFault>
-    requires { length piece.now ≤ BYTES }
+    requires { length piece.now ≤ PIECE }
     ensures carried { OnOk result (Carried (K.written out.old) owed.old (hex_text piece.now) (K.written out.new) owed.new) }
     ensures part { OnErr result (WritesPart (K.written out.old) (K.written out.new) (owed.old ++ hex_text piece.now)) }
     ensures cause { HasSinkCause (K.faults out.old) (K.faults out.new) (K.refusals out.old) (K.refusals out.new) result }
 {
-    held[..piece.len()].copy_from_slice(piece);
-    let digits = spelled(held);
-    owed.tell(&digits[..2 * piece.len()], out)
+    spell(piece, text);
+    owed.tell(&text[..2 * piece.len()], out)
 }
 
 // Tells two digits for each byte.
@@ -49,11 +48,11 @@ fn tell_digits<K: Sink>(bytes: &[u8], owed: &mut OwedBytes, out: &mut K) -> Resu
     ensures part { OnErr result (WritesPart (K.written out.old) (K.written out.new) (owed.old ++ hex_text bytes.now)) }
     ensures cause { HasSinkCause (K.faults out.old) (K.faults out.new) (K.refusals out.old) (K.refusals out.new) result }
 {
-    let mut held = [0; BYTES];
+    let mut text = [0; TEXT];
     let mut place = 0;
     while place < bytes.len() {
-        let size = BYTES.min(bytes.len() - place);
-        tell_piece(&bytes[place..place + size], &mut held, owed, out)?;
+        let size = PIECE.min(bytes.len() - place);
+        tell_piece(&bytes[place..place + size], &mut text, owed, out)?;
         place += size;
     }
     Ok(())
