@@ -1,6 +1,7 @@
 -- Digits in pieces.
-use Rattle.std.proofs.Common.{arith, ◌≡◌, ℕ, suc, ◌+◌, ◌-◌, ◌*◌, List, [], ◌∷◌, ◌++◌, length, map, take, drop, refl, sym, ap, append_assoc, ◌∙◌}
-use Rattle.std.proofs.lemmas.List.{take-append-drop, drop-drop}
+use Rattle.std.proofs.Common.{arith, ◌≡◌, ℕ, suc, ◌+◌, ◌-◌, ◌*◌, ◌≤◌, List, [], ◌∷◌, ◌++◌, length, map, take, drop, refl, sym, ap, append_assoc, append-nil, ◌∙◌}
+use Rattle.std.proofs.lemmas.List.{take-append-drop, take-take, length-take-le, length-append, length-drop, take_all, drop-drop}
+use Rattle.std.proofs.Math.Seq.{take-append-add}
 use Rattle.text_lines.specs.Words.{hex2_text}
 use Rattle.line_laws.specs.Words.{hex_text}
 use Rattle.pcap_lines.specs.Digits.{halves, digit_of}
@@ -35,6 +36,17 @@ front_more text more left all size place next so_far put =
     ∙ ap (λ t. take place text ++ t) (sym (hex_append (take size left) (drop size left)) ∙ ap hex_text (take-append-drop size left))
     ∙ so_far
 
+-- the first of the digits that were put behind a text's front
+pub front_cut : (text more digits : List ℕ) (place size : ℕ) → size ≤ length digits → place + length digits ≤ length more
+    → take (place + length digits) more ≡ take place text ++ digits → take (place + size) more ≡ take place text ++ take size digits
+front_cut text more digits place size few room put =
+    let whole : length (take (place + length digits) more) ≡ place + length digits = length-take-le (place + length digits) more room in
+    let front : length (take place text) ≡ place = omega (arith, whole, ap length put, length-append (take place text) digits) in
+    sym (take-take (place + size) (place + length digits) more (omega (arith, few)))
+    ∙ ap (take (place + size)) put
+    ∙ ap (λ n. take (n + size) (take place text ++ digits)) (sym front)
+    ∙ take-append-add (take place text) digits size
+
 -- the digits of what is left, from a piece on
 pub hex_parted : (bytes : List ℕ) (place size : ℕ) → hex_text (drop place bytes) ≡ hex_text (take size (drop place bytes)) ++ hex_text (drop (place + size) bytes)
 hex_parted bytes place size =
@@ -46,3 +58,16 @@ pub hex_slice : (bytes : List ℕ) (place size : ℕ) → hex_text (drop place b
 hex_slice bytes place size =
     let same : size ≡ place + size - place = omega arith in
     hex_parted bytes place size ∙ ap (λ n. hex_text (take n (drop place bytes)) ++ hex_text (drop (place + size) bytes)) same
+
+-- the same, before another text
+pub hex_slice_before : (bytes end : List ℕ) (place size : ℕ)
+    → hex_text (drop place bytes) ++ end ≡ hex_text (take (place + size - place) (drop place bytes)) ++ (hex_text (drop (place + size) bytes) ++ end)
+hex_slice_before bytes end place size =
+    ap (λ t. t ++ end) (hex_slice bytes place size)
+    ∙ append_assoc (hex_text (take (place + size - place) (drop place bytes))) (hex_text (drop (place + size) bytes)) end
+
+-- of a slice to the end
+pub hex_rest : (bytes end : List ℕ) (place : ℕ) → hex_text (drop place bytes) ++ end ≡ (hex_text (take (length bytes - place) (drop place bytes)) ++ end) ++ []
+hex_rest bytes end place =
+    ap (λ b. hex_text b ++ end) (sym (take_all (length bytes - place) (drop place bytes) (omega (arith, length-drop place bytes))))
+    ∙ sym (append-nil (hex_text (take (length bytes - place) (drop place bytes)) ++ end))

@@ -11,14 +11,20 @@ ghost use Rattle.pcap_frames.specs.Frames.{timed_of, frames_of};
 ghost use Rattle.pcap_frames.specs.Heads.{IsHead};
 ghost use Rattle.pcap_lines.specs.Texts.{line_text, injection_of, lines_of};
 
+use crate::pieces::TEXT;
 use crate::words::{opening, tell_frame};
 use fh_base::{Sink, SinkFault};
 use owed_bytes::OwedBytes;
 use pcap_frames::{PcapFrame, PcapHead, Whose, frames};
 use text_lines::Line;
 
-// Tells the line of a frame.
-fn tell_line<K: Sink>(f: &PcapFrame<'_>, owed: &mut OwedBytes, out: &mut K) -> Result<(), SinkFault>
+// Tells the line of a frame, by a text that its digits are put into.
+fn tell_line<K: Sink>(
+    f: &PcapFrame<'_>,
+    text: &mut [u8; TEXT],
+    owed: &mut OwedBytes,
+    out: &mut K,
+) -> Result<(), SinkFault>
     ensures carried { OnOk result (Carried (K.written out.old) owed.old (line_text (timed_of f.now)) (K.written out.new) owed.new) }
     ensures part { OnErr result (WritesPart (K.written out.old) (K.written out.new) (owed.old ++ line_text (timed_of f.now))) }
     ensures cause { HasSinkCause (K.faults out.old) (K.faults out.new) (K.refusals out.old) (K.refusals out.new) result }
@@ -26,8 +32,7 @@ fn tell_line<K: Sink>(f: &PcapFrame<'_>, owed: &mut OwedBytes, out: &mut K) -> R
     let mut line = Line::new();
     opening(&mut line, f);
     owed.tell(line.as_slice(), out)?;
-    tell_frame(f.frame, owed, out)?;
-    owed.tell(b"\n", out)
+    tell_frame(f.frame, text, owed, out)
 }
 
 // Tells the lines of all frames.
@@ -45,8 +50,9 @@ fn tell_lines<K: Sink>(
     ensures part { OnErr result (WritesPart (K.written out.old) (K.written out.new) (owed.old ++ lines_of (frames_of whose bytes.now start))) }
     ensures cause { HasSinkCause (K.faults out.old) (K.faults out.new) (K.refusals out.old) (K.refusals out.new) result }
 {
+    let mut text = [0; TEXT];
     for f in frames(bytes, head, whose, start) {
-        tell_line(&f, owed, out)?;
+        tell_line(&f, &mut text, owed, out)?;
     }
     Ok(())
 }

@@ -7,8 +7,8 @@ use crate::digits::{BYTES, DIGITS, spelled};
 /// How many bytes a piece has at most.
 pub const PIECE: usize = 512;
 
-/// How many digits they have.
-pub const TEXT: usize = 1024;
+/// How many digits a text has room for: those of a piece, and those of one block more.
+pub const TEXT: usize = 1152;
 
 // Puts digits at a place of a text.
 #[inline(always)]
@@ -22,13 +22,12 @@ fn put(digits: &[u8], place: usize, text: &mut [u8; TEXT])
 // Puts the digits of the last bytes at a place of a text.
 fn spell_last(last: &[u8], place: usize, text: &mut [u8; TEXT])
     requires few { length last.now ≤ BYTES }
-    requires room { place + 2 * length last.now ≤ TEXT }
+    requires room { place + DIGITS ≤ TEXT }
     ensures { take (place + 2 * length last.now) text.new ≡ take place text.old ++ hex_text last.now }
 {
     let mut block = [0; BYTES];
     block[..last.len()].copy_from_slice(last);
-    let digits = spelled(&block);
-    put(&digits[..2 * last.len()], place, text);
+    put(&spelled(&block), place, text);
 }
 
 /// Puts the digits of a piece at the front of a text.

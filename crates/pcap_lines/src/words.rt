@@ -1,5 +1,5 @@
 // The words of a line.
-ghost use Rattle.std.specs.Prelude.{◌≡◌, ◌+◌, ◌≤◌, ◌++◌, [], length, OnOk, OnErr};
+ghost use Rattle.std.specs.Prelude.{◌≡◌, ◌+◌, ◌≤◌, ◌++◌, [], codes, length, OnOk, OnErr};
 ghost use Rattle.fh_base.specs.Causes.{HasSinkCause};
 ghost use Rattle.fh_base.specs.Told.{WritesPart};
 ghost use Rattle.owed_bytes.specs.Owed.{Carried};
@@ -42,31 +42,57 @@ fn tell_piece<K: Sink>(
     owed.tell(&text[..2 * piece.len()], out)
 }
 
-// Tells two digits for each byte.
-fn tell_digits<K: Sink>(bytes: &[u8], owed: &mut OwedBytes, out: &mut K) -> Result<(), SinkFault>
-    ensures carried { OnOk result (Carried (K.written out.old) owed.old (hex_text bytes.now) (K.written out.new) owed.new) }
-    ensures part { OnErr result (WritesPart (K.written out.old) (K.written out.new) (owed.old ++ hex_text bytes.now)) }
+// Tells two digits for each byte of the last piece, and a line feed.
+fn tell_last<K: Sink>(
+    piece: &[u8],
+    text: &mut [u8; TEXT],
+    owed: &mut OwedBytes,
+    out: &mut K,
+) -> Result<(), SinkFault>
+    requires { length piece.now ≤ PIECE }
+    ensures carried { OnOk result (Carried (K.written out.old) owed.old (hex_text piece.now ++ codes "\n") (K.written out.new) owed.new) }
+    ensures part { OnErr result (WritesPart (K.written out.old) (K.written out.new) (owed.old ++ (hex_text piece.now ++ codes "\n"))) }
     ensures cause { HasSinkCause (K.faults out.old) (K.faults out.new) (K.refusals out.old) (K.refusals out.new) result }
 {
-    let mut text = [0; TEXT];
-    let mut place = 0;
-    while place < bytes.len() {
-        let size = PIECE.min(bytes.len() - place);
-        tell_piece(&bytes[place..place + size], &mut text, owed, out)?;
-        place += size;
-    }
-    Ok(())
+    spell(piece, text);
+    let end = 2 * piece.len();
+    text[end] = b'\n';
+    owed.tell(&text[..end + 1], out)
 }
 
-/// Tells a frame's word.
-pub fn tell_frame<K: Sink>(frame: &[u8], owed: &mut OwedBytes, out: &mut K) -> Result<(), SinkFault>
-    ensures carried { OnOk result (Carried (K.written out.old) owed.old (frame_word frame.now) (K.written out.new) owed.new) }
-    ensures part { OnErr result (WritesPart (K.written out.old) (K.written out.new) (owed.old ++ frame_word frame.now)) }
+// Tells two digits for each byte, and a line feed.
+fn tell_digits<K: Sink>(
+    bytes: &[u8],
+    text: &mut [u8; TEXT],
+    owed: &mut OwedBytes,
+    out: &mut K,
+) -> Result<(), SinkFault>
+    ensures carried { OnOk result (Carried (K.written out.old) owed.old (hex_text bytes.now ++ codes "\n") (K.written out.new) owed.new) }
+    ensures part { OnErr result (WritesPart (K.written out.old) (K.written out.new) (owed.old ++ (hex_text bytes.now ++ codes "\n"))) }
+    ensures cause { HasSinkCause (K.faults out.old) (K.faults out.new) (K.refusals out.old) (K.refusals out.new) result }
+{
+    let mut place = 0;
+    while bytes.len() - place > PIECE {
+        tell_piece(&bytes[place..place + PIECE], text, owed, out)?;
+        place += PIECE;
+    }
+    tell_last(&bytes[place..], text, owed, out)
+}
+
+/// Tells a frame's word and a line feed, by a text that its digits are put into.
+pub fn tell_frame<K: Sink>(
+    frame: &[u8],
+    text: &mut [u8; TEXT],
+    owed: &mut OwedBytes,
+    out: &mut K,
+) -> Result<(), SinkFault>
+    ensures carried { OnOk result (Carried (K.written out.old) owed.old (frame_word frame.now ++ codes "\n") (K.written out.new) owed.new) }
+    ensures part { OnErr result (WritesPart (K.written out.old) (K.written out.new) (owed.old ++ (frame_word frame.now ++ codes "\n"))) }
     ensures cause { HasSinkCause (K.faults out.old) (K.faults out.new) (K.refusals out.old) (K.refusals out.new) result }
 {
     if frame.is_empty() {
-        owed.tell(b"-", out)
+        owed.tell(b"-\n", out)
     } else {
-        tell_digits(frame, owed, out)
+        tell_digits(frame, text, owed, out)
     }
 }
