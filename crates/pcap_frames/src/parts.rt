@@ -10,6 +10,7 @@ use crate::values::{Format, Layout};
 use pcapng_blocks::{Block, Content, Interface, Packet, block};
 
 // The record that the bytes begin with.
+#[inline(always)]
 fn record_part(bytes: &[u8], format: Format) -> Result<Block<'_>, PcapWhy>
     ensures value { part_or_refused result ≡ recorded format (record_of format.little bytes.now) }
     ensures some { IfOk result (λ part. 0 < part.size) }
@@ -28,6 +29,7 @@ fn record_part(bytes: &[u8], format: Format) -> Result<Block<'_>, PcapWhy>
 }
 
 /// The record or the block that the bytes begin with, in a section that has these interfaces.
+#[inline(always)]
 pub fn part<'a>(
     bytes: &'a [u8],
     layout: Layout,
