@@ -27,7 +27,7 @@ pub hex_length : (bytes : List ℕ) → length (hex_text bytes) ≡ 2 * length b
 hex_length [] = refl
 hex_length (b ∷ bytes) = omega (arith, hex_length bytes)
 
--- a block's digits, put behind a text's front
+-- a block's digits, put after a text's front
 pub front_more : (text more left all : List ℕ) (size place next : ℕ) → take place text ++ hex_text left ≡ all → take next more ≡ take place text ++ hex_text (take size left)
     → take next more ++ hex_text (drop size left) ≡ all
 front_more text more left all size place next so_far put =
@@ -36,7 +36,7 @@ front_more text more left all size place next so_far put =
     ∙ ap (λ t. take place text ++ t) (sym (hex_append (take size left) (drop size left)) ∙ ap hex_text (take-append-drop size left))
     ∙ so_far
 
--- the first of the digits that were put behind a text's front
+-- the first of the digits that were put after a text's front
 pub front_cut : (text more digits : List ℕ) (place size : ℕ) → size ≤ length digits → place + length digits ≤ length more
     → take (place + length digits) more ≡ take place text ++ digits → take (place + size) more ≡ take place text ++ take size digits
 front_cut text more digits place size few room put =
