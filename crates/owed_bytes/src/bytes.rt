@@ -5,7 +5,6 @@ ghost use Rattle.fh_base.specs.Causes.{HasSinkCause};
 ghost use Rattle.fh_base.specs.Told.{WritesFront, WritesPart};
 ghost use Rattle.owed_bytes.specs.Owed.{Carried};
 
-use arrayvec::ArrayVec;
 use fh_base::{Sink, SinkFault, write_all_to};
 use std::marker::Model;
 
@@ -19,15 +18,18 @@ pub const ROOM: usize = 8192;
 /// of the text after them, and not all: whoever goes on after an error writes that part again.
 #[derive(Drop)]
 pub struct OwedBytes {
-    bytes: ArrayVec<u8, ROOM>,
+    bytes: [u8; ROOM],
+    len: usize,
 }
 
 impl Model for OwedBytes {
-    ghost use Rattle.std.specs.Prelude.{ℕ, List};
+    ghost use Rattle.std.specs.Prelude.{ℕ, List, ◌≤◌, take};
 
     ghost Value = { List ℕ };
 
-    ghost view = { λ b. b.bytes.items };
+    ghost view = { λ b. take b.len b.bytes };
+
+    ghost invariant = { λ b. b.len ≤ 8192 };
 }
 
 impl OwedBytes {
@@ -36,8 +38,35 @@ impl OwedBytes {
         ensures { result ≡ [] }
     {
         OwedBytes {
-            bytes: ArrayVec::new(),
+            bytes: [0; ROOM],
+            len: 0,
         }
+    }
+
+    // What is owed.
+    fn as_slice(&self) -> &[u8]
+        ensures { result.now ≡ self.now }
+    {
+        &self.bytes[..self.len]
+    }
+
+    // Owes nothing more.
+    #[inline]
+    fn clear(&mut self)
+        ensures { self.new ≡ [] }
+    {
+        self.len = 0;
+    }
+
+    // Owes a text that fits behind what is owed.
+    #[inline]
+    fn append(&mut self, text: &[u8])
+        requires { length self.old + length text.now ≤ ROOM }
+        ensures { self.new ≡ self.old ++ text.now }
+    {
+        let at = self.len;
+        self.bytes[at..at + text.len()].copy_from_slice(text);
+        self.len = at + text.len();
     }
 
     // Writes what is owed, which stays owed.
@@ -47,7 +76,7 @@ impl OwedBytes {
         ensures part { OnErr result (WritesPart (K.written sink.old) (K.written sink.new) self.now) }
         ensures cause { HasSinkCause (K.faults sink.old) (K.faults sink.new) (K.refusals sink.old) (K.refusals sink.new) result }
     {
-        write_all_to(sink, self.bytes.as_slice())
+        write_all_to(sink, self.as_slice())
     }
 
     /// Writes what is owed, and then owes nothing.
@@ -66,7 +95,7 @@ impl OwedBytes {
         ensures cause { HasSinkCause (K.faults sink.old) (K.faults sink.new) (K.refusals sink.old) (K.refusals sink.new) result }
     {
         self.write(sink)?;
-        self.bytes.clear();
+        self.clear();
         Ok(())
     }
 
@@ -81,7 +110,7 @@ impl OwedBytes {
         ensures cause { HasSinkCause (K.faults sink.old) (K.faults sink.new) (K.refusals sink.old) (K.refusals sink.new) result }
     {
         self.push_out(sink)?;
-        let _ = self.bytes.try_extend_from_slice(text);
+        self.append(text);
         Ok(())
     }
 
@@ -96,7 +125,7 @@ impl OwedBytes {
     {
         self.write(sink)?;
         write_all_to(sink, text)?;
-        self.bytes.clear();
+        self.clear();
         Ok(())
     }
 
@@ -121,8 +150,8 @@ impl OwedBytes {
         ensures kept { OnErr result (self.new ≡ self.old) }
         ensures cause { HasSinkCause (K.faults sink.old) (K.faults sink.new) (K.refusals sink.old) (K.refusals sink.new) result }
     {
-        if text.len() <= self.bytes.remaining_capacity() {
-            let _ = self.bytes.try_extend_from_slice(text);
+        if text.len() <= ROOM - self.len {
+            self.append(text);
             Ok(())
         } else if text.len() <= ROOM {
             self.owe_alone(text, sink)

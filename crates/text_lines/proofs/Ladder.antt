@@ -1,7 +1,8 @@
--- The text of a number below 100,000, digit by digit, and of a number by its sign and size.
-use Rattle.std.proofs.Common.{◌≡◌, ℕ, ◌+◌, ◌/◌, ◌%◌, ◌<◌, ◌≤◌, [], ◌∷◌, ℤ, pos, negsuc, ◌≤ℤ◌, ◌<ℤ◌, unsigned_abs, refl, arith}
+-- The text of a number below 100,000 by its digits and by pairs of them, and of a number by its sign and size.
+use Rattle.std.proofs.Common.{◌≡◌, ℕ, suc, ◌+◌, ◌/◌, ◌%◌, ◌<◌, ◌≤◌, List, [], ◌∷◌, ◌++◌, Bool, true, false, nat_le, if◌then◌else◌, ℤ, pos, negsuc, unsigned_abs, refl, ap, ◌∙◌, append_assoc, arith}
 use Rattle.std.proofs.lemmas.Fmt.{decimal_digit, decimal_step}
-use Rattle.std.proofs.lemmas.Int.{ints}
+use Rattle.std.proofs.lemmas.Bool.{leb-true, leb-false, lt-leb}
+use Rattle.std.specs.Int.Signed.{lt_z}
 use Rattle.std.specs.Fmt.{decimal, signed_decimal}
 
 pub decimal_one : (n : ℕ) → n < 10 → decimal n ≡ (48 + n % 10) ∷ []
@@ -30,12 +31,60 @@ decimal_five n some most =
     let d : n / 10 / 10 ≡ n / 100 = omega arith in
     rw (decimal_step n (omega arith) (omega arith), decimal_four (n / 10) (omega arith) (omega arith), a, b, d) refl
 
--- a negative number is a minus and its size
-pub minus_text : (z : ℤ) → z <ℤ pos 0 → 45 ∷ decimal (unsigned_abs z) ≡ signed_decimal z
-minus_text (pos n) h = absurd (omega (arith, ints))
-minus_text (negsuc n) h = refl
+-- each digit but the last where the number has it
+pub shown_digits : (n : ℕ) (a b c : Bool) → n < 10000 → nat_le 1000 n ≡ a → nat_le 100 n ≡ b → nat_le 10 n ≡ c
+    → (if a then (48 + n / 100 / 10) ∷ [] else []) ++ ((if b then (48 + n / 100 % 10) ∷ [] else []) ++ ((if c then (48 + n % 100 / 10) ∷ [] else []) ++ (48 + n % 100 % 10) ∷ []))
+    ≡ decimal n
+shown_digits n true true true most x y z =
+    let some = leb-true 1000 n x in
+    let p : n / 100 / 10 ≡ n / 1000 % 10 = omega arith in
+    let q : n % 100 / 10 ≡ n / 10 % 10 = omega arith in
+    let r : n % 100 % 10 ≡ n % 10 = omega arith in
+    rw (decimal_four n some most, p, q, r) refl
+shown_digits n false true true most x y z =
+    let few = leb-false 1000 n x in
+    let some = leb-true 100 n y in
+    let q : n % 100 / 10 ≡ n / 10 % 10 = omega arith in
+    let r : n % 100 % 10 ≡ n % 10 = omega arith in
+    rw (decimal_three n some few, q, r) refl
+shown_digits n false false true most x y z =
+    let few = leb-false 100 n y in
+    let some = leb-true 10 n z in
+    let q : n % 100 / 10 ≡ n / 10 % 10 = omega arith in
+    let r : n % 100 % 10 ≡ n % 10 = omega arith in
+    rw (decimal_two n some few, q, r) refl
+shown_digits n false false false most x y z =
+    let few = leb-false 10 n z in
+    let r : n % 100 % 10 ≡ n % 10 = omega arith in
+    rw (decimal_one n few, r) refl
+shown_digits n true false c most x y z = absurd (omega (arith, leb-true 1000 n x, leb-false 100 n y))
+shown_digits n a true false most x y z = absurd (omega (arith, leb-true 100 n y, leb-false 10 n z))
 
--- and another one is its size
-pub plain_text : (z : ℤ) → pos 0 ≤ℤ z → decimal (unsigned_abs z) ≡ signed_decimal z
-plain_text (pos n) h = refl
-plain_text (negsuc n) h = absurd (omega (arith, ints))
+-- four pieces one after the other
+joined_four : (front a b c d : List ℕ) → (((front ++ a) ++ b) ++ c) ++ d ≡ front ++ (a ++ (b ++ (c ++ d)))
+joined_four front a b c d =
+    append_assoc ((front ++ a) ++ b) c d ∙ append_assoc (front ++ a) b (c ++ d) ∙ append_assoc front a (b ++ (c ++ d))
+
+pub four_digits : (front : List ℕ) (n : ℕ) → n < 10000
+    → (((front ++ (if nat_le 1000 n then (48 + n / 100 / 10) ∷ [] else [])) ++ (if nat_le 100 n then (48 + n / 100 % 10) ∷ [] else [])) ++ (if nat_le 10 n then (48 + n % 100 / 10) ∷ [] else [])) ++ (48 + n % 100 % 10) ∷ []
+    ≡ front ++ decimal n
+four_digits front n most =
+    joined_four front _ _ _ _ ∙ ap (λ t. front ++ t) (shown_digits n (nat_le 1000 n) (nat_le 100 n) (nat_le 10 n) most refl refl refl)
+
+-- the digits of a number of five digits by pairs
+pub five_digits : (n : ℕ) → 10000 ≤ n → n < 100000
+    → (48 + n / 10000 % 10) ∷ (48 + n / 100 % 100 / 10) ∷ (48 + n / 100 % 100 % 10) ∷ (48 + n % 100 / 10) ∷ (48 + n % 100 % 10) ∷ [] ≡ decimal n
+five_digits n some most =
+    let o : n / 100 % 100 / 10 ≡ n / 1000 % 10 = omega arith in
+    let p : n / 100 % 100 % 10 ≡ n / 100 % 10 = omega arith in
+    let q : n % 100 / 10 ≡ n / 10 % 10 = omega arith in
+    let r : n % 100 % 10 ≡ n % 10 = omega arith in
+    rw (decimal_five n some most, o, p, q, r) refl
+
+-- the sign where the number is negative, and its size
+signed_parts : (z : ℤ) → (if lt_z z (pos 0) then 45 ∷ [] else []) ++ decimal (unsigned_abs z) ≡ signed_decimal z
+signed_parts (pos n) = rw (lt-leb (suc n) 0 (omega arith)) refl
+signed_parts (negsuc n) = refl
+
+pub signed_digits : (front : List ℕ) (size : ℕ) (z : ℤ) → size ≡ unsigned_abs z → (front ++ (if lt_z z (pos 0) then 45 ∷ [] else [])) ++ decimal size ≡ front ++ signed_decimal z
+signed_digits front size z is = rw is (append_assoc front _ _ ∙ ap (λ t. front ++ t) (signed_parts z))

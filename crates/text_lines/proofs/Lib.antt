@@ -1,2 +1,3 @@
-pub mod Ladder
 pub mod DigitSteps
+pub mod Ladder
+pub mod Pairs

@@ -11,6 +11,10 @@ spaced_text n = codes " " ++ decimal n
 abbrev pub spaced_signed_text : ℤ → List ℕ
 spaced_signed_text n = codes " " ++ signed_decimal n
 
+-- a space and two signed numbers about a comma
+abbrev pub spaced_pair_text : ℤ → ℤ → List ℕ
+spaced_pair_text i q = codes " " ++ signed_decimal i ++ codes "," ++ signed_decimal q
+
 -- the low 16 bits
 abbrev pub hex4_text : ℕ → List ℕ
 hex4_text n = digit_char (n / 4096 % 16) ∷ digit_char (n / 256 % 16) ∷ digit_char (n / 16 % 16) ∷ digit_char (n % 16) ∷ []

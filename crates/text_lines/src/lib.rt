@@ -8,6 +8,7 @@
 mod digits;
 mod line;
 mod numbers;
+mod places;
 
 pub use line::Line;
 pub use numbers::number_in;

@@ -1,23 +1,28 @@
 // A line of text, which takes no memory.
-ghost use Rattle.std.specs.Prelude.{◌≡◌, ℕ, ◌+◌, ◌<◌, ◌≤◌, List, [], ◌++◌, length, decimal};
+ghost use Rattle.std.specs.Prelude.{◌≡◌, ◌+◌, ◌≤◌, [], ◌++◌, length, decimal};
 ghost use Rattle.std.specs.Fmt.{signed_decimal};
-ghost use Rattle.text_lines.specs.Words.{spaced_text, spaced_signed_text, hex4_text, hex3_text, hex2_text};
+ghost use Rattle.text_lines.specs.Words.{spaced_text, spaced_signed_text, spaced_pair_text, hex4_text, hex3_text, hex2_text};
 
-use crate::digits::{digit, hex_digit};
-use arrayvec::ArrayVec;
+use crate::digits::hex_digit;
+use crate::places::{ROOM, put_number, put_pair, put_signed, put_small, put_spaced, put_text};
 use itoa::Buffer;
 use std::marker::Model;
 
 /// A text of at most 512 bytes, which takes no memory. Contracts see it as the list of its bytes.
 #[derive(Drop)]
 pub struct Line {
-    bytes: ArrayVec<u8, 512>,
+    bytes: [u8; ROOM],
+    len: usize,
 }
 
 impl Model for Line {
+    ghost use Rattle.std.specs.Prelude.{ℕ, List, ◌≤◌, take};
+
     ghost Value = { List ℕ };
 
-    ghost view = { λ l. l.bytes.items };
+    ghost view = { λ l. take l.len l.bytes };
+
+    ghost invariant = { λ l. l.len ≤ 512 };
 }
 
 impl Line {
@@ -26,7 +31,8 @@ impl Line {
         ensures { result ≡ [] }
     {
         Line {
-            bytes: ArrayVec::new(),
+            bytes: [0; ROOM],
+            len: 0,
         }
     }
 
@@ -34,7 +40,7 @@ impl Line {
     pub fn clear(&mut self)
         ensures { self.new ≡ [] }
     {
-        self.bytes.clear();
+        self.len = 0;
     }
 
     /// Its bytes.
@@ -42,7 +48,7 @@ impl Line {
         ensures bytes { result.now ≡ self.now }
         ensures fits { length result.now ≤ 512 }
     {
-        self.bytes.as_slice()
+        &self.bytes[..self.len]
     }
 
     /// Appends a text.
@@ -50,35 +56,7 @@ impl Line {
         requires { length self.old + length more.now ≤ 512 }
         ensures { self.new ≡ self.old ++ more.now }
     {
-        let _ = self.bytes.try_extend_from_slice(more);
-    }
-
-    // Appends a number below 100,000 in decimal, which needs no buffer.
-    #[inline(always)]
-    #[tactic(auto, using(crate::proofs::Ladder::decimal_one, crate::proofs::Ladder::decimal_two, crate::proofs::Ladder::decimal_three, crate::proofs::Ladder::decimal_four, crate::proofs::Ladder::decimal_five))]
-    fn ladder(&mut self, n: u32)
-        requires small { n < 100000 }
-        requires room { length self.old + 5 ≤ 512 }
-        ensures text { self.new ≡ self.old ++ decimal n }
-        ensures short { length self.new ≤ length self.old + 5 }
-    {
-        if n < 10 {
-            self.text(&[digit(n)]);
-        } else if n < 100 {
-            self.text(&[digit(n / 10), digit(n)]);
-        } else if n < 1_000 {
-            self.text(&[digit(n / 100), digit(n / 10), digit(n)]);
-        } else if n < 10_000 {
-            self.text(&[digit(n / 1_000), digit(n / 100), digit(n / 10), digit(n)]);
-        } else {
-            self.text(&[
-                digit(n / 10_000),
-                digit(n / 1_000),
-                digit(n / 100),
-                digit(n / 10),
-                digit(n),
-            ]);
-        }
+        self.len = put_text(&mut self.bytes, self.len, more);
     }
 
     /// Appends a number in decimal.
@@ -88,13 +66,7 @@ impl Line {
         ensures text { self.new ≡ self.old ++ decimal n }
         ensures short { length self.new ≤ length self.old + 20 }
     {
-        if n < 100_000 {
-            self.ladder(n as u32);
-        } else {
-            let mut buffer = Buffer::new();
-            let digits = buffer.format(n);
-            self.text(digits.as_bytes());
-        }
+        self.len = put_number(&mut self.bytes, self.len, n);
     }
 
     /// Appends a signed number of 64 bits in decimal.
@@ -103,39 +75,27 @@ impl Line {
         ensures text { self.new ≡ self.old ++ signed_decimal n }
         ensures short { length self.new ≤ length self.old + 20 }
     {
-        let mut buffer = Buffer::new();
-        let digits = buffer.format(n);
-        self.text(digits.as_bytes());
-    }
-
-    // Appends a signed number of 32 bits in decimal, whatever its size.
-    fn long(&mut self, n: i32)
-        requires { length self.old + 11 ≤ 512 }
-        ensures text { self.new ≡ self.old ++ signed_decimal n }
-        ensures short { length self.new ≤ length self.old + 11 }
-    {
-        let mut buffer = Buffer::new();
-        let digits = buffer.format(n);
-        self.text(digits.as_bytes());
+        self.len = put_signed(&mut self.bytes, self.len, n);
     }
 
     /// Appends a signed number of 32 bits in decimal; one of at most five digits in the fewest steps.
     #[inline]
-    #[tactic(auto, using(crate::proofs::Ladder::minus_text, crate::proofs::Ladder::plain_text))]
     pub fn small(&mut self, n: i32)
         requires { length self.old + 11 ≤ 512 }
         ensures text { self.new ≡ self.old ++ signed_decimal n }
         ensures short { length self.new ≤ length self.old + 11 }
     {
-        let size = n.unsigned_abs();
-        if size >= 100_000 {
-            self.long(n);
-        } else if n < 0 {
-            self.text(b"-");
-            self.ladder(size);
-        } else {
-            self.ladder(size);
-        }
+        self.len = put_small(&mut self.bytes, self.len, n);
+    }
+
+    /// Appends a space and two signed numbers of 32 bits in decimal, parted by a comma.
+    #[inline(always)]
+    pub fn spaced_pair(&mut self, first: i32, second: i32)
+        requires { length self.old + 24 ≤ 512 }
+        ensures text { self.new ≡ self.old ++ spaced_pair_text first second }
+        ensures short { length self.new ≤ length self.old + 24 }
+    {
+        self.len = put_pair(&mut self.bytes, self.len, first, second);
     }
 
     /// Appends a signed number of 128 bits in decimal.
@@ -192,8 +152,7 @@ impl Line {
         ensures text { self.new ≡ self.old ++ spaced_text n }
         ensures short { length self.new ≤ length self.old + 21 }
     {
-        self.text(b" ");
-        self.number(n);
+        self.len = put_spaced(&mut self.bytes, self.len, n);
     }
 
     /// Appends a space and a signed number of 64 bits in decimal.

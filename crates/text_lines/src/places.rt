@@ -1,0 +1,170 @@
+// Numbers that are written at a place among bytes. Each call answers where its text ends; what stands after that may be anything.
+ghost use Rattle.std.specs.Prelude.{◌≡◌, ◌+◌, ◌<◌, ◌≤◌, take, length, [], ◌∷◌, ◌++◌, decimal, if◌then◌else◌};
+ghost use Rattle.std.specs.Fmt.{signed_decimal};
+ghost use Rattle.text_lines.specs.Words.{spaced_text, spaced_pair_text};
+
+use crate::digits::pair;
+use itoa::Buffer;
+
+/// How many bytes a line has room for.
+pub(crate) const ROOM: usize = 512;
+
+/// Writes a byte, which counts or is written over by what comes next.
+#[inline(always)]
+fn put_if(into: &mut [u8; ROOM], at: usize, byte: u8, counts: bool) -> usize
+    requires { at < 512 }
+    ensures text { take result into.new ≡ take at into.old ++ (if counts then byte ∷ [] else []) }
+    ensures end { result ≤ at + 1 }
+{
+    into[at] = byte;
+    at + usize::from(counts)
+}
+
+/// Writes a byte.
+#[inline(always)]
+fn put_byte(into: &mut [u8; ROOM], at: usize, byte: u8) -> usize
+    requires { at < 512 }
+    ensures text { take result into.new ≡ take at into.old ++ byte ∷ [] }
+    ensures end { result ≡ at + 1 }
+{
+    into[at] = byte;
+    at + 1
+}
+
+/// Writes a text.
+#[inline(always)]
+pub(crate) fn put_text(into: &mut [u8; ROOM], at: usize, text: &[u8]) -> usize
+    requires { at + length text.now ≤ 512 }
+    ensures text { take result into.new ≡ take at into.old ++ text.now }
+    ensures end { result ≡ at + length text.now }
+{
+    into[at..at + text.len()].copy_from_slice(text);
+    at + text.len()
+}
+
+/// Writes a number below 10,000 in decimal, without a branch: a leading zero is written over by the digit after it.
+#[inline(always)]
+fn put_four(into: &mut [u8; ROOM], at: usize, n: u32) -> usize
+    requires small { n < 10000 }
+    requires room { at + 4 ≤ 512 }
+    ensures text { take result into.new ≡ take at into.old ++ decimal n }
+    ensures end { result ≤ at + 4 }
+{
+    let (thousands, hundreds) = pair(n / 100);
+    let (tens, ones) = pair(n % 100);
+    let at = put_if(into, at, thousands, n >= 1_000);
+    let at = put_if(into, at, hundreds, n >= 100);
+    let at = put_if(into, at, tens, n >= 10);
+    put_byte(into, at, ones)
+}
+
+/// Writes a number of five digits in decimal.
+fn put_five(into: &mut [u8; ROOM], at: usize, n: u32) -> usize
+    requires five { (10000 ≤ n) × (n < 100000) }
+    requires room { at + 5 ≤ 512 }
+    ensures text { take result into.new ≡ take at into.old ++ decimal n }
+    ensures end { result ≤ at + 5 }
+{
+    let (_, first) = pair(n / 10_000);
+    let (thousands, hundreds) = pair(n / 100 % 100);
+    let (tens, ones) = pair(n % 100);
+    put_text(into, at, &[first, thousands, hundreds, tens, ones])
+}
+
+/// Writes a number below 100,000 in decimal.
+#[inline(always)]
+fn put_short(into: &mut [u8; ROOM], at: usize, n: u32) -> usize
+    requires small { n < 100000 }
+    requires room { at + 5 ≤ 512 }
+    ensures text { take result into.new ≡ take at into.old ++ decimal n }
+    ensures end { result ≤ at + 5 }
+{
+    if n < 10_000 {
+        put_four(into, at, n)
+    } else {
+        put_five(into, at, n)
+    }
+}
+
+// Writes a number of 64 bits in decimal, whatever its size.
+fn put_long(into: &mut [u8; ROOM], at: usize, n: u64) -> usize
+    requires { at + 20 ≤ 512 }
+    ensures text { take result into.new ≡ take at into.old ++ decimal n }
+    ensures end { result ≤ at + 20 }
+{
+    let mut buffer = Buffer::new();
+    put_text(into, at, buffer.format(n).as_bytes())
+}
+
+/// Writes a number of 64 bits in decimal.
+#[inline(always)]
+pub(crate) fn put_number(into: &mut [u8; ROOM], at: usize, n: u64) -> usize
+    requires { at + 20 ≤ 512 }
+    ensures text { take result into.new ≡ take at into.old ++ decimal n }
+    ensures end { result ≤ at + 20 }
+{
+    if n < 100_000 {
+        put_short(into, at, n as u32)
+    } else {
+        put_long(into, at, n)
+    }
+}
+
+/// Writes a signed number of 64 bits in decimal.
+pub(crate) fn put_signed(into: &mut [u8; ROOM], at: usize, n: i64) -> usize
+    requires { at + 20 ≤ 512 }
+    ensures text { take result into.new ≡ take at into.old ++ signed_decimal n }
+    ensures end { result ≤ at + 20 }
+{
+    let mut buffer = Buffer::new();
+    put_text(into, at, buffer.format(n).as_bytes())
+}
+
+// Writes a signed number of 32 bits in decimal, whatever its size.
+fn put_long_signed(into: &mut [u8; ROOM], at: usize, n: i32) -> usize
+    requires { at + 11 ≤ 512 }
+    ensures text { take result into.new ≡ take at into.old ++ signed_decimal n }
+    ensures end { result ≤ at + 11 }
+{
+    let mut buffer = Buffer::new();
+    put_text(into, at, buffer.format(n).as_bytes())
+}
+
+/// Writes a signed number of 32 bits in decimal; one of at most five digits in the fewest steps.
+#[inline(always)]
+pub(crate) fn put_small(into: &mut [u8; ROOM], at: usize, n: i32) -> usize
+    requires { at + 11 ≤ 512 }
+    ensures text { take result into.new ≡ take at into.old ++ signed_decimal n }
+    ensures end { result ≤ at + 11 }
+{
+    let size = n.unsigned_abs();
+    if size >= 100_000 {
+        return put_long_signed(into, at, n);
+    }
+    let at = put_if(into, at, b'-', n < 0);
+    put_short(into, at, size)
+}
+
+/// Writes a space, a number, a comma and a number.
+#[inline(always)]
+pub(crate) fn put_pair(into: &mut [u8; ROOM], at: usize, first: i32, second: i32) -> usize
+    requires { at + 24 ≤ 512 }
+    ensures text { take result into.new ≡ take at into.old ++ spaced_pair_text first second }
+    ensures end { result ≤ at + 24 }
+{
+    let at = put_byte(into, at, b' ');
+    let at = put_small(into, at, first);
+    let at = put_byte(into, at, b',');
+    put_small(into, at, second)
+}
+
+/// Writes a space and a number in decimal.
+#[inline(always)]
+pub(crate) fn put_spaced(into: &mut [u8; ROOM], at: usize, n: u64) -> usize
+    requires { at + 21 ≤ 512 }
+    ensures text { take result into.new ≡ take at into.old ++ spaced_text n }
+    ensures end { result ≤ at + 21 }
+{
+    let at = put_byte(into, at, b' ');
+    put_number(into, at, n)
+}
