@@ -1,5 +1,5 @@
 // The line of a cell.
-ghost use Rattle.std.specs.Prelude.{◌≡◌, ◌+◌, ◌<◌, ◌≤◌, ◌++◌, length, []};
+ghost use Rattle.std.specs.Prelude.{◌≡◌, ◌+◌, ◌%◌, ◌<◌, ◌≤◌, ◌++◌, codes, length, []};
 ghost use Rattle.report_lines.specs.Cells.{slot_text, head_text, sample_text, items_text, item_text, cell_text};
 ghost use Rattle.air_source.specs.Units.{way_text};
 
@@ -46,15 +46,14 @@ fn head(c: &AirCell, line: &mut Line)
     line.hex3(c.mask);
 }
 
-// Appends I and Q of a sample.
+// Appends the word of an element that is in the mask.
+#[inline(always)]
 fn sample(line: &mut Line, wide: Wide)
-    requires { length line.old + 23 ≤ 512 }
-    ensures text { line.new ≡ line.old ++ sample_text wide }
-    ensures short { length line.new ≤ length line.old + 23 }
+    requires { length line.old + 24 ≤ 512 }
+    ensures text { line.new ≡ line.old ++ codes " " ++ sample_text wide }
+    ensures short { length line.new ≤ length line.old + 24 }
 {
-    line.small(wide.i);
-    line.text(b",");
-    line.small(wide.q);
+    line.spaced_pair(wide.i, wide.q);
 }
 
 // Appends the word of one element.
@@ -65,10 +64,32 @@ fn item(line: &mut Line, mask: u16, block: &[Wide; 12], k: usize)
     ensures short { length line.new ≤ length line.old + 24 }
 {
     if (mask >> (11 - k)) & 1 == 1 {
-        line.text(b" ");
         sample(line, block[k]);
     } else {
         line.text(b" .");
+    }
+}
+
+// Appends the words of the samples of a mask that has all elements.
+fn all_items(line: &mut Line, mask: u16, block: &[Wide; 12])
+    requires full { mask % 4096 ≡ 4095 }
+    requires room { length line.old ≤ 180 }
+    ensures text { line.new ≡ line.old ++ items_text mask block.now 12 }
+    ensures short { length line.new ≤ 468 }
+{
+    for k in 0..12 {
+        sample(line, block[k]);
+    }
+}
+
+// Appends the words of the samples of any mask.
+fn some_items(line: &mut Line, mask: u16, block: &[Wide; 12])
+    requires { length line.old ≤ 180 }
+    ensures text { line.new ≡ line.old ++ items_text mask block.now 12 }
+    ensures short { length line.new ≤ 468 }
+{
+    for k in 0..12 {
+        item(line, mask, block, k);
     }
 }
 
@@ -78,8 +99,10 @@ fn items(line: &mut Line, mask: u16, block: &[Wide; 12])
     ensures text { line.new ≡ line.old ++ items_text mask block.now 12 }
     ensures short { length line.new ≤ 468 }
 {
-    for k in 0..12 {
-        item(line, mask, block, k);
+    if mask % 0x1000 == 0xfff {
+        all_items(line, mask, block)
+    } else {
+        some_items(line, mask, block)
     }
 }
 

@@ -1,6 +1,6 @@
 use Rattle.std.proofs.Common.{sym, append_assoc, append-nil, add-one, arith}
 use Rattle.report_lines.specs.Cells.{items_text}
-use Rattle.report_lines.proofs.cell_lines.items.Goals as goal
+use Rattle.report_lines.proofs.cell_lines.some_items.Goals as goal
 
 pub loop-k-init : goal.loop-k-init
 unfolding items_text

@@ -1,6 +1,6 @@
 use Rattle.std.proofs.Common.{◌≡◌, ◌+◌, ◌*◌, ◌≤◌, ◌++◌, length}
 use Rattle.report_lines.specs.Cells.{items_text}
-use Rattle.report_lines.proofs.cell_lines.items.Given as goal
+use Rattle.report_lines.proofs.cell_lines.all_items.Given as goal
 
 abbrev pub invariant-loop-k : goal.invariant-loop-k
 invariant-loop-k l =
