@@ -1,9 +1,10 @@
 // Numbers that are written at a place among bytes. Each call answers where its text ends; what stands after that may be anything.
-ghost use Rattle.std.specs.Prelude.{◌≡◌, ◌+◌, ◌<◌, ◌≤◌, take, length, [], ◌∷◌, ◌++◌, decimal, if◌then◌else◌};
+ghost use Rattle.std.specs.Prelude.{◌≡◌, ◌+◌, ◌<◌, ◌≤◌, take, length, [], ◌∷◌, ◌++◌, decimal, unsigned_abs, if◌then◌else◌};
 ghost use Rattle.std.specs.Fmt.{signed_decimal};
+ghost use Rattle.text_lines.specs.Digits.{hundreds_text};
 ghost use Rattle.text_lines.specs.Words.{spaced_text, spaced_pair_text};
 
-use crate::digits::pair;
+use crate::digits::{leading, pair, parted};
 use itoa::Buffer;
 
 /// How many bytes a line has room for.
@@ -42,7 +43,22 @@ pub(crate) fn put_text(into: &mut [u8; ROOM], at: usize, text: &[u8]) -> usize
     at + text.len()
 }
 
-/// Writes a number below 10,000 in decimal, without a branch: a leading zero is written over by the digit after it.
+/// Writes the hundreds of a number, which are below 100, and nothing where there are none.
+#[inline(always)]
+fn put_hundreds(into: &mut [u8; ROOM], at: usize, hundreds: u32) -> usize
+    requires small { hundreds < 100 }
+    requires room { at + 2 ≤ 512 }
+    ensures text { take result into.new ≡ take at into.old ++ hundreds_text hundreds }
+    ensures end { result ≤ at + 2 }
+{
+    let (first, last) = leading(hundreds);
+    let behind = put_byte(into, at, first);
+    put_byte(into, behind, last);
+    at + usize::from(hundreds >= 1) + usize::from(hundreds >= 10)
+}
+
+/// Writes a number below 10,000 in decimal, without a branch: what stands after the last digit is written over by what comes
+/// next.
 #[inline(always)]
 fn put_four(into: &mut [u8; ROOM], at: usize, n: u32) -> usize
     requires small { n < 10000 }
@@ -50,10 +66,9 @@ fn put_four(into: &mut [u8; ROOM], at: usize, n: u32) -> usize
     ensures text { take result into.new ≡ take at into.old ++ decimal n }
     ensures end { result ≤ at + 4 }
 {
-    let (thousands, hundreds) = pair(n / 100);
-    let (tens, ones) = pair(n % 100);
-    let at = put_if(into, at, thousands, n >= 1_000);
-    let at = put_if(into, at, hundreds, n >= 100);
+    let (hundreds, rest) = parted(n);
+    let (tens, ones) = pair(rest);
+    let at = put_hundreds(into, at, hundreds);
     let at = put_if(into, at, tens, n >= 10);
     put_byte(into, at, ones)
 }
@@ -71,27 +86,17 @@ fn put_five(into: &mut [u8; ROOM], at: usize, n: u32) -> usize
     put_text(into, at, &[first, thousands, hundreds, tens, ones])
 }
 
-/// Writes a number below 100,000 in decimal.
-#[inline(always)]
-fn put_short(into: &mut [u8; ROOM], at: usize, n: u32) -> usize
-    requires small { n < 100000 }
-    requires room { at + 5 ≤ 512 }
-    ensures text { take result into.new ≡ take at into.old ++ decimal n }
-    ensures end { result ≤ at + 5 }
-{
-    if n < 10_000 {
-        put_four(into, at, n)
-    } else {
-        put_five(into, at, n)
-    }
-}
-
-// Writes a number of 64 bits in decimal, whatever its size.
-fn put_long(into: &mut [u8; ROOM], at: usize, n: u64) -> usize
-    requires { at + 20 ≤ 512 }
+// Writes a number of at least 10,000 in decimal.
+#[inline(never)]
+fn put_large(into: &mut [u8; ROOM], at: usize, n: u64) -> usize
+    requires large { 10000 ≤ n }
+    requires room { at + 20 ≤ 512 }
     ensures text { take result into.new ≡ take at into.old ++ decimal n }
     ensures end { result ≤ at + 20 }
 {
+    if n < 100_000 {
+        return put_five(into, at, n as u32);
+    }
     let mut buffer = Buffer::new();
     put_text(into, at, buffer.format(n).as_bytes())
 }
@@ -103,10 +108,10 @@ pub(crate) fn put_number(into: &mut [u8; ROOM], at: usize, n: u64) -> usize
     ensures text { take result into.new ≡ take at into.old ++ decimal n }
     ensures end { result ≤ at + 20 }
 {
-    if n < 100_000 {
-        put_short(into, at, n as u32)
+    if n < 10_000 {
+        put_four(into, at, n as u32)
     } else {
-        put_long(into, at, n)
+        put_large(into, at, n)
     }
 }
 
@@ -120,17 +125,24 @@ pub(crate) fn put_signed(into: &mut [u8; ROOM], at: usize, n: i64) -> usize
     put_text(into, at, buffer.format(n).as_bytes())
 }
 
-// Writes a signed number of 32 bits in decimal, whatever its size.
-fn put_long_signed(into: &mut [u8; ROOM], at: usize, n: i32) -> usize
-    requires { at + 11 ≤ 512 }
+// Writes a signed number of 32 bits and of at least five digits in decimal.
+#[inline(never)]
+fn put_large_signed(into: &mut [u8; ROOM], at: usize, n: i32) -> usize
+    requires large { 10000 ≤ unsigned_abs n }
+    requires room { at + 11 ≤ 512 }
     ensures text { take result into.new ≡ take at into.old ++ signed_decimal n }
     ensures end { result ≤ at + 11 }
 {
+    let size = n.unsigned_abs();
+    if size < 100_000 {
+        let at = put_if(into, at, b'-', n < 0);
+        return put_five(into, at, size);
+    }
     let mut buffer = Buffer::new();
     put_text(into, at, buffer.format(n).as_bytes())
 }
 
-/// Writes a signed number of 32 bits in decimal; one of at most five digits in the fewest steps.
+/// Writes a signed number of 32 bits in decimal; one of at most four digits in the fewest steps.
 #[inline(always)]
 pub(crate) fn put_small(into: &mut [u8; ROOM], at: usize, n: i32) -> usize
     requires { at + 11 ≤ 512 }
@@ -138,11 +150,12 @@ pub(crate) fn put_small(into: &mut [u8; ROOM], at: usize, n: i32) -> usize
     ensures end { result ≤ at + 11 }
 {
     let size = n.unsigned_abs();
-    if size >= 100_000 {
-        return put_long_signed(into, at, n);
+    if size < 10_000 {
+        let at = put_if(into, at, b'-', n < 0);
+        put_four(into, at, size)
+    } else {
+        put_large_signed(into, at, n)
     }
-    let at = put_if(into, at, b'-', n < 0);
-    put_short(into, at, size)
 }
 
 /// Writes a space, a number, a comma and a number.
