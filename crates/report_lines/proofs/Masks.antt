@@ -1,6 +1,6 @@
 -- A mask that has all elements.
-use Rattle.std.proofs.Common.{◌≡◌, ℕ, zero, suc, ◌-◌, ◌/◌, ◌%◌, ◌^◌, ◌<◌, ◌++◌, List, refl, arith}
-use Rattle.std.specs.Prelude.{codes, ◌==◌, true}
+use Rattle.std.proofs.Common.{◌≡◌, ℕ, zero, suc, ◌%◌, ◌<◌, ◌++◌, List, refl, arith}
+use Rattle.std.specs.Prelude.{codes}
 use Rattle.std.specs.List.{slice_index_or}
 use Rattle.bfp_codec.specs.Samples.{no_wide}
 use Rattle.bfp_codec.specs.declared.samples.Wide.{Wide}

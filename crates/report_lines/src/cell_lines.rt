@@ -1,9 +1,11 @@
 // The line of a cell.
 ghost use Rattle.std.specs.Prelude.{◌≡◌, ◌+◌, ◌%◌, ◌<◌, ◌≤◌, ◌++◌, codes, length, []};
-ghost use Rattle.report_lines.specs.Cells.{slot_text, head_text, sample_text, items_text, item_text, cell_text};
+ghost use Rattle.report_lines.specs.Cells.{slot_text, sample_text, items_text, item_text, cell_text};
+ghost use Rattle.report_lines.specs.Symbols.{symbol_of, symbol_text, rest_text};
 ghost use Rattle.air_source.specs.Units.{way_text};
 
 use crate::Line;
+use crate::symbols::{CellSymbol, symbol_of};
 use air_source::{AirCell, Side};
 use bfp_codec::Wide;
 use fh_time::Slot;
@@ -28,22 +30,19 @@ fn slot_words(line: &mut Line, slot: Slot)
     line.spaced(u64::from(slot.slot));
 }
 
-// Appends the words of a cell's line before its samples to an empty line.
-fn head(c: &AirCell, line: &mut Line)
-    requires { line.old ≡ [] }
-    ensures text { line.new ≡ head_text c.now }
-    ensures short { length line.new ≤ 180 }
+/// Writes what the lines of a symbol begin with in place of what stood in the line.
+#[tactic(auto, unfolding(crate::specs::Symbols::symbol_text))]
+pub(crate) fn put_symbol(s: &CellSymbol, line: &mut Line)
+    ensures text { line.new ≡ symbol_text s.now }
+    ensures short { length line.new ≤ 112 }
 {
-    line.text(way(c.side));
-    line.spaced_signed(c.at.0);
+    line.clear();
+    line.text(way(s.side));
+    line.spaced_signed(s.at.0);
     line.text(b" ");
-    line.hex4(c.id);
-    slot_words(line, c.slot);
-    line.spaced(u64::from(c.symbol));
-    line.spaced(u64::from(c.prb));
-    line.spaced(u64::from(c.section));
-    line.text(b" ");
-    line.hex3(c.mask);
+    line.hex4(s.id);
+    slot_words(line, s.slot);
+    line.spaced(u64::from(s.symbol));
 }
 
 // Appends the word of an element that is in the mask.
@@ -106,23 +105,34 @@ fn items(line: &mut Line, mask: u16, block: &[Wide; 12])
     }
 }
 
+/// Appends what stands in the line of a cell after its symbol.
+pub(crate) fn put_rest(c: &AirCell, line: &mut Line)
+    requires { length line.old ≤ 112 }
+    ensures { line.new ≡ line.old ++ rest_text c.now }
+{
+    line.spaced(u64::from(c.prb));
+    line.spaced(u64::from(c.section));
+    line.text(b" ");
+    line.hex3(c.mask);
+    match &c.block {
+        None => line.text(b" missing"),
+        Some(block) => items(line, c.mask, block),
+    }
+    line.text(b"\n");
+}
+
 /// Writes the line of a cell in place of what stood in the line: `dl T ID F S L Y PRB SECTION MASK
 /// ITEMS` for a cell of the radio unit, and `ul` with the same words for one of the distributed unit.
 ///
 /// T is the start of the symbol in ticks, F the frame (both signed), S the subframe, L the slot, Y the
 /// symbol. ITEMS are twelve words, `I,Q` for an element of the mask and `.` for another; or the one word
 /// `missing` where the block is None. MASK and ITEMS go by the low 12 bits of the mask.
-#[tactic(auto, unfolding(crate::specs::Cells::cell_text))]
+#[tactic(auto, using(crate::proofs::CellParts::cell_split))]
 pub fn put_cell(c: &AirCell, line: &mut Line)
     ensures { line.new ≡ cell_text c.now }
 {
-    line.clear();
-    head(c, line);
-    match &c.block {
-        None => line.text(b" missing"),
-        Some(block) => items(line, c.mask, block),
-    }
-    line.text(b"\n");
+    put_symbol(&symbol_of(c), line);
+    put_rest(c, line);
 }
 
 /// The line of a cell, as [`put_cell`] writes it.

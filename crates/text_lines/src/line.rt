@@ -1,5 +1,5 @@
 // A line of text, which takes no memory.
-ghost use Rattle.std.specs.Prelude.{◌≡◌, ◌+◌, ◌≤◌, [], ◌++◌, length, decimal};
+ghost use Rattle.std.specs.Prelude.{◌≡◌, ◌+◌, ◌≤◌, [], ◌++◌, length, take, decimal};
 ghost use Rattle.std.specs.Fmt.{signed_decimal};
 ghost use Rattle.text_lines.specs.Words.{spaced_text, spaced_signed_text, spaced_pair_text, hex4_text, hex3_text, hex2_text};
 
@@ -41,6 +41,22 @@ impl Line {
         ensures { self.new ≡ [] }
     {
         self.len = 0;
+    }
+
+    /// How many bytes it has.
+    pub fn len(&self) -> usize
+        ensures { result ≡ length self.now }
+    {
+        self.len
+    }
+
+    /// Leaves at most the first n bytes.
+    pub fn truncate(&mut self, n: usize)
+        ensures { self.new ≡ take n self.old }
+    {
+        if n < self.len {
+            self.len = n;
+        }
     }
 
     /// Its bytes.

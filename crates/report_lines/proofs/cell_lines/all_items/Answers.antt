@@ -12,7 +12,7 @@ pub loop-k-preserved : goal.loop-k-preserved
 unfolding items_text
 loop-k-preserved c = (
   rw (add-one, c.sample.ensures.text, c.loop-k.invariant.0)
-  (append_assoc (c.args.line.now ++ items_text c.args.mask c.args.block.now c.loop-k.k) (codes " ") _
+      (append_assoc (c.args.line.now ++ items_text c.args.mask c.args.block.now c.loop-k.k) (codes " ") _
       ∙ append_assoc c.args.line.now _ _
       ∙ ap (λ t. c.args.line.now ++ (items_text c.args.mask c.args.block.now c.loop-k.k ++ t)) (item_in c.args.mask c.args.block.now c.loop-k.k c.requires.full c.loop-k-test.true)),
   omega arith,
