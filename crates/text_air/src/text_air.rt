@@ -16,8 +16,7 @@ use fault_counters::Counter;
 use fh_base::Sink;
 use fh_time::Ticks;
 use owed_bytes::OwedBytes;
-use report_lines::{put_cell, put_count, put_delay};
-use text_lines::Line;
+use report_lines::ReportLine;
 
 /// An air that writes a line for each event to a sink that it borrows, none for an arrival.
 ///
@@ -28,7 +27,7 @@ pub struct TextAir<'a, K> {
     sink: &'a mut K,
     owed: OwedBytes,
     // the line of the last event, which is written where it stands
-    line: Line,
+    line: ReportLine,
 }
 
 impl<'a, K: Sink> TextAir<'a, K> {
@@ -43,7 +42,7 @@ impl<'a, K: Sink> TextAir<'a, K> {
         TextAir {
             sink,
             owed: OwedBytes::new(),
-            line: Line::new(),
+            line: ReportLine::new(),
         }
     }
 
@@ -87,8 +86,7 @@ impl<'a, K: Sink> TextAir<'a, K> {
         ensures refusal { HasRefusal (K.refusals (sink_of self.old)) (K.refusals (sink_of self.new)) result }
         ensures owed { OnOk result (owed_of self.new ≡ []) }
     {
-        self.line.clear();
-        self.line.text(b"end\n");
+        self.line.put_text(b"end\n");
         self.tell()?;
         self.push_out()
     }
@@ -115,13 +113,13 @@ impl<'a, K: Sink> Air for TextAir<'a, K> {
 
     /// Hears a cell: its line is written or owed.
     fn cell(&mut self, c: &AirCell) -> Result<(), AirFault> {
-        put_cell(c, &mut self.line);
+        self.line.put_cell(c);
         self.tell()
     }
 
     /// Hears a measured delay: its line is written or owed.
     fn delay(&mut self, at: Ticks, side: Side, id: u8, value: i128) -> Result<(), AirFault> {
-        put_delay(at, side, id, value, &mut self.line);
+        self.line.put_delay(at, side, id, value);
         self.tell()
     }
 
@@ -132,7 +130,7 @@ impl<'a, K: Sink> Air for TextAir<'a, K> {
 
     /// Hears the value of a counter: its line is written or owed, at 0 too.
     fn count(&mut self, side: Side, counter: Counter, value: u64) -> Result<(), AirFault> {
-        put_count(side, counter, value, &mut self.line);
+        self.line.put_count(side, counter, value);
         self.tell()
     }
 }
