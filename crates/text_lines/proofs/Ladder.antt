@@ -53,14 +53,21 @@ hundreds_taken h true false most x y =
 hundreds_taken h false false most x y = rw x refl
 hundreds_taken h false true most x y = absurd (omega (arith, leb-false 1 h x, leb-true 10 h y))
 
+-- what stands before a place, and so many of the bytes written from there
+pub taken_part : (front bytes new : List ℕ) (at size count : ℕ) → length front ≡ at → count ≤ size → take (at + size) new ≡ front ++ bytes → take (at + count) new ≡ front ++ take count bytes
+taken_part front bytes new at size count long most is =
+    sym (take-take (at + count) (at + size) new (omega arith))
+    ∙ ap (take (at + count)) is
+    ∙ ap (λ n. take (n + count) (front ++ bytes)) (sym long)
+    ∙ take-append-add front bytes count
+
 pub hundreds_shown : (front new : List ℕ) (at h : ℕ) → length front ≡ at → h < 100
     → take (at + 1 + 1) new ≡ (front ++ (if nat_lt h 10 then 48 + h else 48 + h / 10) ∷ []) ++ (48 + h % 10) ∷ []
     → take (at + hundreds_count h) new ≡ front ++ hundreds_text h
 hundreds_shown front new at h size most is =
-    sym (take-take (at + hundreds_count h) (at + 1 + 1) new (omega (arith, count_most (nat_le 1 h) (nat_le 10 h))))
-    ∙ ap (take (at + hundreds_count h)) (is ∙ append_assoc front _ _)
-    ∙ ap (λ n. take (n + hundreds_count h) (front ++ ((if nat_lt h 10 then 48 + h else 48 + h / 10) ∷ (48 + h % 10) ∷ []))) (sym size)
-    ∙ take-append-add front _ (hundreds_count h)
+    let two : at + 2 ≡ at + 1 + 1 = omega arith in
+    taken_part front ((if nat_lt h 10 then 48 + h else 48 + h / 10) ∷ (48 + h % 10) ∷ []) new at 2 (hundreds_count h) size (count_most (nat_le 1 h) (nat_le 10 h))
+    (ap (λ n. take n new) two ∙ is ∙ append_assoc front _ _)
     ∙ ap (λ t. front ++ t) (hundreds_taken h (nat_le 1 h) (nat_le 10 h) most refl refl)
   where
     count_most : (a b : Bool) → bool_byte a + bool_byte b ≤ 2

@@ -1,3 +1,4 @@
 pub mod DigitSteps
 pub mod Ladder
 pub mod Pairs
+pub mod Rows

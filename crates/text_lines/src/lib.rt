@@ -9,6 +9,7 @@ mod digits;
 mod line;
 mod numbers;
 mod places;
+mod small_numbers;
 
 pub use line::Line;
 pub use numbers::number_in;

@@ -94,7 +94,7 @@ impl Line {
         self.len = put_signed(&mut self.bytes, self.len, n);
     }
 
-    /// Appends a signed number of 32 bits in decimal; one of at most five digits in the fewest steps.
+    /// Appends a signed number of 32 bits in decimal; one of at most three digits in the fewest steps.
     #[inline]
     pub fn small(&mut self, n: i32)
         requires { length self.old + 11 ≤ 512 }

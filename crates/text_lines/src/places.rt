@@ -1,10 +1,11 @@
 // Numbers that are written at a place among bytes. Each call answers where its text ends; what stands after that may be anything.
-ghost use Rattle.std.specs.Prelude.{◌≡◌, ◌+◌, ◌<◌, ◌≤◌, take, length, [], ◌∷◌, ◌++◌, decimal, unsigned_abs, if◌then◌else◌};
+ghost use Rattle.std.specs.Prelude.{◌≡◌, ◌+◌, ◌<◌, ◌≤◌, take, length, [], ◌∷◌, ◌++◌, decimal, if◌then◌else◌};
 ghost use Rattle.std.specs.Fmt.{signed_decimal};
 ghost use Rattle.text_lines.specs.Digits.{hundreds_text};
 ghost use Rattle.text_lines.specs.Words.{spaced_text, spaced_pair_text};
 
 use crate::digits::{leading, pair, parted};
+use crate::small_numbers::row;
 use itoa::Buffer;
 
 /// How many bytes a line has room for.
@@ -43,6 +44,19 @@ pub(crate) fn put_text(into: &mut [u8; ROOM], at: usize, text: &[u8]) -> usize
     at + text.len()
 }
 
+/// Writes a number below 1,000 in decimal. What stands after its last digit is written over by what comes next.
+#[inline(always)]
+fn put_three(into: &mut [u8; ROOM], at: usize, n: u32) -> usize
+    requires small { n < 1000 }
+    requires room { at + 4 ≤ 512 }
+    ensures text { take result into.new ≡ take at into.old ++ decimal n }
+    ensures end { result ≤ at + 4 }
+{
+    let (bytes, count) = row(n);
+    put_text(into, at, &bytes);
+    at + count
+}
+
 /// Writes the hundreds of a number, which are below 100, and nothing where there are none.
 #[inline(always)]
 fn put_hundreds(into: &mut [u8; ROOM], at: usize, hundreds: u32) -> usize
@@ -57,8 +71,7 @@ fn put_hundreds(into: &mut [u8; ROOM], at: usize, hundreds: u32) -> usize
     at + usize::from(hundreds >= 1) + usize::from(hundreds >= 10)
 }
 
-/// Writes a number below 10,000 in decimal, without a branch: what stands after the last digit is written over by what comes
-/// next.
+/// Writes a number below 10,000 in decimal, without a branch.
 #[inline(always)]
 fn put_four(into: &mut [u8; ROOM], at: usize, n: u32) -> usize
     requires small { n < 10000 }
@@ -86,14 +99,16 @@ fn put_five(into: &mut [u8; ROOM], at: usize, n: u32) -> usize
     put_text(into, at, &[first, thousands, hundreds, tens, ones])
 }
 
-// Writes a number of at least 10,000 in decimal.
+// Writes a number of any size in decimal.
 #[inline(never)]
 fn put_large(into: &mut [u8; ROOM], at: usize, n: u64) -> usize
-    requires large { 10000 ≤ n }
-    requires room { at + 20 ≤ 512 }
+    requires { at + 20 ≤ 512 }
     ensures text { take result into.new ≡ take at into.old ++ decimal n }
     ensures end { result ≤ at + 20 }
 {
+    if n < 10_000 {
+        return put_four(into, at, n as u32);
+    }
     if n < 100_000 {
         return put_five(into, at, n as u32);
     }
@@ -108,8 +123,8 @@ pub(crate) fn put_number(into: &mut [u8; ROOM], at: usize, n: u64) -> usize
     ensures text { take result into.new ≡ take at into.old ++ decimal n }
     ensures end { result ≤ at + 20 }
 {
-    if n < 10_000 {
-        put_four(into, at, n as u32)
+    if n < 1_000 {
+        put_three(into, at, n as u32)
     } else {
         put_large(into, at, n)
     }
@@ -125,24 +140,38 @@ pub(crate) fn put_signed(into: &mut [u8; ROOM], at: usize, n: i64) -> usize
     put_text(into, at, buffer.format(n).as_bytes())
 }
 
-// Writes a signed number of 32 bits and of at least five digits in decimal.
+// Writes a size below 100,000 in decimal.
+#[inline(always)]
+fn put_size(into: &mut [u8; ROOM], at: usize, size: u32) -> usize
+    requires small { size < 100000 }
+    requires room { at + 5 ≤ 512 }
+    ensures text { take result into.new ≡ take at into.old ++ decimal size }
+    ensures end { result ≤ at + 5 }
+{
+    if size < 10_000 {
+        put_four(into, at, size)
+    } else {
+        put_five(into, at, size)
+    }
+}
+
+// Writes a signed number of 32 bits and of any size in decimal.
 #[inline(never)]
 fn put_large_signed(into: &mut [u8; ROOM], at: usize, n: i32) -> usize
-    requires large { 10000 ≤ unsigned_abs n }
-    requires room { at + 11 ≤ 512 }
+    requires { at + 11 ≤ 512 }
     ensures text { take result into.new ≡ take at into.old ++ signed_decimal n }
     ensures end { result ≤ at + 11 }
 {
     let size = n.unsigned_abs();
     if size < 100_000 {
         let at = put_if(into, at, b'-', n < 0);
-        return put_five(into, at, size);
+        return put_size(into, at, size);
     }
     let mut buffer = Buffer::new();
     put_text(into, at, buffer.format(n).as_bytes())
 }
 
-/// Writes a signed number of 32 bits in decimal; one of at most four digits in the fewest steps.
+/// Writes a signed number of 32 bits in decimal; one of at most three digits in the fewest steps.
 #[inline(always)]
 pub(crate) fn put_small(into: &mut [u8; ROOM], at: usize, n: i32) -> usize
     requires { at + 11 ≤ 512 }
@@ -150,9 +179,9 @@ pub(crate) fn put_small(into: &mut [u8; ROOM], at: usize, n: i32) -> usize
     ensures end { result ≤ at + 11 }
 {
     let size = n.unsigned_abs();
-    if size < 10_000 {
+    if size < 1_000 {
         let at = put_if(into, at, b'-', n < 0);
-        put_four(into, at, size)
+        put_three(into, at, size)
     } else {
         put_large_signed(into, at, n)
     }
