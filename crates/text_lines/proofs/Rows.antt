@@ -1,5 +1,5 @@
 -- The table of the texts of the numbers below 1,000.
-use Rattle.std.proofs.Common.{◌≡◌, ℕ, zero, suc, ◌+◌, ◌-◌, ◌*◌, ◌/◌, ◌%◌, ◌<◌, ◌≤◌, nat_lt, Bool, true, false, ◌&&◌, T, eqb, List, [], ◌∷◌, length, take, drop, get_or, refl, arith, eqb→eq}
+use Rattle.std.proofs.Common.{◌≡◌, ℕ, zero, suc, ◌+◌, ◌-◌, ◌*◌, ◌/◌, ◌%◌, ◌<◌, ◌≤◌, nat_lt, Bool, true, false, ◌&&◌, T, eqb, List, [], ◌∷◌, length, take, get_or, refl, arith, eqb→eq}
 use Rattle.std.specs.Fmt.{decimal}
 use Rattle.std.proofs.lemmas.Bool.{leb-true, leb-false}
 use lib.Ieee.Fits.{and_l, and_r}

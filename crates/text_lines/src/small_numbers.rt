@@ -55,5 +55,5 @@ pub(crate) fn row(n: u32) -> ([u8; 4], usize)
     let rows = rows();
     let at = n as usize * 4;
     let bytes = [rows[at], rows[at + 1], rows[at + 2], rows[at + 3]];
-    (bytes, usize::from(rows[at + 3] - b'0'))
+    (bytes, usize::from(rows[at + 3]) - 48)
 }

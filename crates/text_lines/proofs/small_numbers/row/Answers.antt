@@ -1,9 +1,9 @@
-use Rattle.std.proofs.Common.{◌≡◌, ◌+◌, ◌-◌, ◌*◌, arith}
+use Rattle.std.proofs.Common.{arith}
 use Rattle.text_lines.proofs.Rows.{row_in}
 use Rattle.text_lines.proofs.small_numbers.row.Goals as goal
 
-pub overflow_sub-rows : goal.overflow_sub-rows
-overflow_sub-rows c = let r = row_in c.args.n c.rows-rows.result.now c.rows-rows.ensures c.requires in omega (arith, r.low)
+pub overflow_sub-result : goal.overflow_sub-result
+overflow_sub-result c = let r = row_in c.args.n c.rows-rows.result.now c.rows-rows.ensures c.requires in omega (arith, r.low, c.from.ensures)
 
 pub returns-clause-text : goal.returns-clause-text
 returns-clause-text c =
