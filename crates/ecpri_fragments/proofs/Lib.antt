@@ -1,5 +1,6 @@
 pub mod Tables
 pub mod Pieces
+pub mod Numbers
 pub mod Steps
 pub mod Cuts
 pub mod Ends

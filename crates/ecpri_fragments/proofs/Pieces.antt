@@ -1,5 +1,5 @@
 -- The pieces that a lease shows.
-use Rattle.std.proofs.Common.{◌≡◌, ℕ, zero, suc, ◌<◌, inl, inr, Bool, true, false, ◌&&◌, List, [], ◌∷◌, ◌++◌, length, get_or, Option, Some, None, is_some, refl, sym, ap, ◌∙◌, arith, length-append}
+use Rattle.std.proofs.Common.{◌≡◌, ℕ, zero, suc, ◌<◌, inl, inr, Bool, true, false, ◌&&◌, List, [], ◌∷◌, ◌++◌, length, get_or, replicate, Option, Some, None, is_some, refl, sym, ap, ◌∙◌, arith, length-append}
 use Rattle.std.proofs.Math.ListN.{get_or-append}
 use Rattle.std.proofs.Math.Seq.{get_or-append_seam}
 use Rattle.std.specs.Option.{unwrap_or}
@@ -37,6 +37,12 @@ pub pieces_same : (spans : List (Option Span)) (bytes : List ℕ) (s : List Frag
 pieces_same spans bytes s zero h = refl
 pieces_same spans bytes s (suc n) h =
     rw (pieces_same spans bytes s n (λ k l. h k (omega arith)), shown_bytes (span_of spans n) bytes (piece_at s n) (h n (omega arith))) refl
+
+-- a table with no span
+pub none_there : (n k : ℕ) → span_of (replicate n None) k ≡ None
+none_there zero k = refl
+none_there (suc n) zero = refl
+none_there (suc n) (suc k) = none_there n k
 
 -- a missing span
 pub lacks : (spans : List (Option Span)) (k n : ℕ) → k < n → is_some (span_of spans k) ≡ false → all_in spans n ≡ false

@@ -1,8 +1,7 @@
 -- One fragment more, place by place.
-use Rattle.std.proofs.Common.{◌≡◌, ◌≢◌, ℕ, ◌+◌, ◌*◌, ◌<◌, inl, inr, Bool, true, false, cond, ◌&&◌, List, [], ◌∷◌, length, set, Option, Some, None, refl, sym, ap, ◌∙◌, subst, arith, ℤ}
+use Rattle.std.proofs.Common.{◌≡◌, ◌≢◌, ℕ, ◌+◌, ◌*◌, ◌<◌, inl, inr, Bool, true, false, cond, ◌&&◌, List, [], ◌∷◌, ◌++◌, length, replicate, set, Option, Some, None, refl, sym, ap, ◌∙◌, subst, arith, ℤ}
 use Rattle.std.specs.List.{slice_get}
-use Rattle.std.proofs.lemmas.Option.{slice_get-get_or, slice_get_within, get_or_from_slice_get}
-use Rattle.std.proofs.lemmas.List.{get_or-set_same, get_or-set_other, length-set}
+use Rattle.std.proofs.lemmas.Option.{same_Some, slice_get_within}
 use Rattle.std.proofs.lemmas.Bool.{eq-eqb}
 use Rattle.std.proofs.lemmas.Bool.Decides.{eqb_tells}
 use Rattle.ecpri_fragments.specs.declared.place.Place.{Place}
@@ -13,7 +12,9 @@ use Rattle.ecpri_fragments.specs.Verdicts.{Message, message, whole_to, end_of, p
 use Rattle.ecpri_fragments.specs.Spans.{pieces_in}
 use Rattle.ecpri_fragments.specs.Places.{Table, Holds, IsBelow, Stands, StandsIn}
 use Rattle.ecpri_fragments.proofs.Pieces.{pieces_same}
-use Rattle.ecpri_fragments.specs.Assemblies.{StandIn}
+use Rattle.ecpri_fragments.proofs.Numbers.{all_none, get_before, get_last, get_other, get_own, put_other, put_own}
+use Rattle.ecpri_fragments.specs.Numbers.{AreApart, AreBelow}
+use Rattle.ecpri_fragments.specs.Assemblies.{StandIn, StandsAt, place_at}
 
 -- the generation that a fragment falls in, with it
 pub moved : (hold : ℤ) (gs : List Generation) (a : Fragment) (p : Place) → Stands p (start_in hold a.at gs) (placed (standing (held_in hold a.at gs)) a) → StandsIn p (with_fragment hold a gs)
@@ -61,46 +62,84 @@ own hold (g ∷ gs) a p h = go (is_within hold g.start a.at) h
     go true h = h
     go false h = h
 
--- places by endpoint and sequence id
-set_same : (places : List Place) (i : ℕ) (new p : Place) → i < length places → slice_get (set places i new) i ≡ Some p → new ≡ p
-set_same places i new p h e = sym (get_or-set_same places i new new h) ∙ get_or_from_slice_get (set places i new) i p new e
+-- where no id has a place
+pub none_stand : (ids : ℕ) (places : List Place) (hold : ℤ) → StandIn (replicate ids None) places hold []
+none_stand ids places hold ep seq n b e = rw (all_none ids (ep * 256 + seq) n e) refl
 
-set_other : (places : List Place) (i k : ℕ) (new p : Place) → k ≢ i → slice_get (set places i new) k ≡ Some p → slice_get places k ≡ Some p
-set_other places i k new p h e =
-    let l : k < length places = subst (λ (n : ℕ). k < n) (length-set places i new) (slice_get_within (set places i new) k p e) in
-    slice_get-get_or places k p l ∙ ap (λ (q : Place). Some q) (sym (get_or-set_other places i k new p h) ∙ get_or_from_slice_get (set places i new) k p p e)
+-- the place of an id that has another number
+place_other : (places : List Place) (k : ℕ) (new : Place) (n : Option ℕ) → n ≢ Some k → place_at (set places k new) n ≡ place_at places n
+place_other places k new None h = refl
+place_other places k new (Some j) h = put_other places k j new (λ e. h (ap (λ (x : ℕ). Some x) e))
+
+-- the next place, which an id that had none is handed
+place_before : (places : List Place) (new : Place) (n : Option ℕ) → ((k : ℕ) → n ≡ Some k → k < length places) → place_at (places ++ new ∷ []) n ≡ place_at places n
+place_before places new None h = refl
+place_before places new (Some k) h = get_before places new k (h k refl)
+
+pub handed : (numbers : List (Option ℕ)) (places : List Place) (hold : ℤ) (arrivals : List Fragment) (i : ℕ) (new : Place) →
+    slice_get numbers i ≡ Some None → AreBelow numbers (length places) → StandsIn new [] → StandIn numbers places hold arrivals → StandIn (set numbers i (Some (length places))) (places ++ new ∷ []) hold arrivals
+handed numbers places hold arrivals i new free below empty s ep seq n b e =
+    elim (eqb_tells (ep * 256 + seq) i) [
+      | inl q ↦
+          let had : slice_get numbers (ep * 256 + seq) ≡ Some None = rw q.1 free in
+          let at : Some (length places) ≡ n = get_own numbers i (Some (length places)) n (slice_get_within numbers i None free) (subst (λ (x : ℕ). slice_get (set numbers i (Some (length places))) x ≡ Some n) q.1 e) in
+          subst (λ (m : Option ℕ). StandsAt (place_at (places ++ new ∷ []) m) (generations_of hold ep seq arrivals)) at
+          (subst (λ (p : Option Place). StandsAt p (generations_of hold ep seq arrivals)) (sym (get_last places new))
+          (subst (StandsIn new) (sym (s ep seq None b had)) empty))
+      | inr q ↦
+          let had = get_other numbers i (ep * 256 + seq) (Some (length places)) n q.1 e in
+          subst (λ (p : Option Place). StandsAt p (generations_of hold ep seq arrivals))
+          (sym (place_before places new n (λ k f. below (ep * 256 + seq) k (rw (← f) had)))) (s ep seq n b had)
+    ]
 
 of_own : (a : Fragment) (arrivals : List Fragment) → of_id a.ep a.seq (a ∷ arrivals) ≡ a ∷ of_id a.ep a.seq arrivals
 of_own a arrivals = rw (eq-eqb a.ep a.ep refl, eq-eqb a.seq a.seq refl) refl
 
-pub own_place : (places : List Place) (hold : ℤ) (arrivals : List Fragment) (a : Fragment) (p : Place) → a.seq < 256 → StandIn places hold (a ∷ arrivals) → slice_get places (a.ep * 256 + a.seq) ≡ Some p →
-    Stands p (start_in hold a.at (generations_of hold a.ep a.seq arrivals)) (placed (standing_before hold a arrivals) a)
-own_place places hold arrivals a p b s e =
-    own hold (generations_of hold a.ep a.seq arrivals) a p (subst (λ (l : List Fragment). StandsIn p (generations hold l)) (of_own a arrivals) (s a.ep a.seq p b e))
+pub its_place : (numbers : List (Option ℕ)) (places : List Place) (hold : ℤ) (arrivals : List Fragment) (a : Fragment) (k : ℕ) (p : Place) → a.seq < 256 → StandIn numbers places hold arrivals →
+    slice_get numbers (a.ep * 256 + a.seq) ≡ Some (Some k) → slice_get places k ≡ Some p → StandsIn p (generations_of hold a.ep a.seq arrivals)
+its_place numbers places hold arrivals a k p b s e f = subst (λ (q : Option Place). StandsAt q (generations_of hold a.ep a.seq arrivals)) f (s a.ep a.seq (Some k) b e)
 
-module _ (places : List Place) (hold : ℤ) (arrivals : List Fragment) (a : Fragment) (new : Place) (low : a.seq < 256) (room : a.ep * 256 + a.seq < length places) (s : StandIn places hold arrivals) where
-  pub stand_more : StandsIn new (with_fragment hold a (generations_of hold a.ep a.seq arrivals)) → StandIn (set places (a.ep * 256 + a.seq) new) hold (a ∷ arrivals)
-  stand_more n ep seq p b e =
+pub own_place : (numbers : List (Option ℕ)) (places : List Place) (hold : ℤ) (arrivals : List Fragment) (a : Fragment) (k : ℕ) (p : Place) → a.seq < 256 → StandIn numbers places hold (a ∷ arrivals) →
+    slice_get numbers (a.ep * 256 + a.seq) ≡ Some (Some k) → slice_get places k ≡ Some p →
+    Stands p (start_in hold a.at (generations_of hold a.ep a.seq arrivals)) (placed (standing_before hold a arrivals) a)
+own_place numbers places hold arrivals a k p b s e f =
+    own hold (generations_of hold a.ep a.seq arrivals) a p (subst (λ (l : List Fragment). StandsIn p (generations hold l)) (of_own a arrivals) (its_place numbers places hold (a ∷ arrivals) a k p b s e f))
+
+-- A fragment in the place of its id, whose number is k.
+module _ (numbers : List (Option ℕ)) (places : List Place) (hold : ℤ) (arrivals : List Fragment) (a : Fragment) (k : ℕ) (new : Place) (low : a.seq < 256) (room : k < length places)
+    (its : slice_get numbers (a.ep * 256 + a.seq) ≡ Some (Some k)) (apart : AreApart numbers) (s : StandIn numbers places hold arrivals) where
+  its_own : (gs : List Generation) (n : Option ℕ) → slice_get numbers (a.ep * 256 + a.seq) ≡ Some n → StandsIn new gs → StandsAt (place_at (set places k new) n) gs
+  its_own gs n e h =
+      let q : Some k ≡ n = same_Some (Some k) n (sym its ∙ e) in
+      subst (λ (m : Option ℕ). StandsAt (place_at (set places k new) m) gs) q (subst (λ (p : Option Place). StandsAt p gs) (sym (put_own places k new room)) h)
+
+  of_other : (ep seq : ℕ) (n : Option ℕ) → seq < 256 → slice_get numbers (ep * 256 + seq) ≡ Some n → ep * 256 + seq ≢ a.ep * 256 + a.seq → StandsAt (place_at (set places k new) n) (generations_of hold ep seq arrivals)
+  of_other ep seq n b e h =
+      subst (λ (p : Option Place). StandsAt p (generations_of hold ep seq arrivals))
+      (sym (place_other places k new n (λ q. h (apart (ep * 256 + seq) (a.ep * 256 + a.seq) k (rw (← q) e) its)))) (s ep seq n b e)
+
+  pub stand_more : StandsIn new (with_fragment hold a (generations_of hold a.ep a.seq arrivals)) → StandIn numbers (set places k new) hold (a ∷ arrivals)
+  stand_more h ep seq n b e =
       elim (eqb_tells a.ep ep) [
         | inl q ↦ elim (eqb_tells a.seq seq) [
           | inl r ↦
-              let i = subst (λ (x : ℕ). StandsIn new (with_fragment hold a (generations_of hold ep x arrivals))) r.1 (subst (λ (x : ℕ). StandsIn new (with_fragment hold a (generations_of hold x a.seq arrivals))) q.1 n) in
-              rw (q.0, r.0) (subst (λ (x : Place). StandsIn x (with_fragment hold a (generations_of hold ep seq arrivals))) (set_same places (a.ep * 256 + a.seq) new p room (rw (← q.1, ← r.1) at e)) i)
-          | inr r ↦ rw (q.0, r.0) (s ep seq p b (set_other places (a.ep * 256 + a.seq) (ep * 256 + seq) new p (λ z. r.1 (omega (arith, z, q.1))) e))
+              let i = subst (λ (x : ℕ). StandsIn new (with_fragment hold a (generations_of hold ep x arrivals))) r.1 (subst (λ (x : ℕ). StandsIn new (with_fragment hold a (generations_of hold x a.seq arrivals))) q.1 h) in
+              rw (q.0, r.0) (its_own (with_fragment hold a (generations_of hold ep seq arrivals)) n (rw (← q.1, ← r.1) at e) i)
+          | inr r ↦ rw (q.0, r.0) (of_other ep seq n b e (λ z. r.1 (omega (arith, z, q.1))))
         ]
-        | inr q ↦ rw q.0 (s ep seq p b (set_other places (a.ep * 256 + a.seq) (ep * 256 + seq) new p (λ z. q.1 (omega (arith, z, b, low))) e))
+        | inr q ↦ rw q.0 (of_other ep seq n b e (λ z. q.1 (omega (arith, z, b, low))))
       ]
 
-  pub stand_still : StandsIn new (generations_of hold a.ep a.seq arrivals) → StandIn (set places (a.ep * 256 + a.seq) new) hold arrivals
-  stand_still n ep seq p b e =
+  pub stand_still : StandsIn new (generations_of hold a.ep a.seq arrivals) → StandIn numbers (set places k new) hold arrivals
+  stand_still h ep seq n b e =
       elim (eqb_tells a.ep ep) [
         | inl q ↦ elim (eqb_tells a.seq seq) [
           | inl r ↦
-              let i = subst (λ (x : ℕ). StandsIn new (generations_of hold ep x arrivals)) r.1 (subst (λ (x : ℕ). StandsIn new (generations_of hold x a.seq arrivals)) q.1 n) in
-              subst (λ (x : Place). StandsIn x (generations_of hold ep seq arrivals)) (set_same places (a.ep * 256 + a.seq) new p room (rw (← q.1, ← r.1) at e)) i
-          | inr r ↦ s ep seq p b (set_other places (a.ep * 256 + a.seq) (ep * 256 + seq) new p (λ z. r.1 (omega (arith, z, q.1))) e)
+              let i = subst (λ (x : ℕ). StandsIn new (generations_of hold ep x arrivals)) r.1 (subst (λ (x : ℕ). StandsIn new (generations_of hold x a.seq arrivals)) q.1 h) in
+              its_own (generations_of hold ep seq arrivals) n (rw (← q.1, ← r.1) at e) i
+          | inr r ↦ of_other ep seq n b e (λ z. r.1 (omega (arith, z, q.1)))
         ]
-        | inr q ↦ s ep seq p b (set_other places (a.ep * 256 + a.seq) (ep * 256 + seq) new p (λ z. q.1 (omega (arith, z, b, low))) e)
+        | inr q ↦ of_other ep seq n b e (λ z. q.1 (omega (arith, z, b, low)))
       ]
 
 -- a fragment that makes its message whole

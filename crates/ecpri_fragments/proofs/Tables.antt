@@ -1,6 +1,7 @@
 -- What a table holds once a fragment stands in it, and why one does not.
 use Rattle.std.proofs.Common.{◌≡◌, ℕ, zero, suc, ◌+◌, ◌<◌, ◌≤◌, inl, inr, Bool, true, false, cond, ◌&&◌, ◌||◌, eqb, ltb, List, [], ◌∷◌, ◌++◌, length, take, drop, max, set, Option, Some, None, is_some, refl, sym, ap, ◌∙◌, subst, arith, ℤ}
-use Rattle.std.proofs.lemmas.List.{get_or-set_same, get_or-set_other, take-append-le, drop-take, drop_at, take_all}
+use Rattle.std.proofs.lemmas.List.{get_or-set_same, get_or-set_other, length-take-le, take-append-drop, take-append-le, drop-take, drop_at, append_assoc}
+use Rattle.std.proofs.Math.Seq.{take-append_seam}
 use Rattle.std.proofs.lemmas.Bool.{ltb-false, le-ltb, or_parts}
 use Rattle.std.proofs.lemmas.Bool.Decides.{nat_tests, eqb_tells}
 use Rattle.ecpri_fragments.specs.declared.place.Span.{Span}
@@ -15,13 +16,19 @@ kept : (bytes xs : List ℕ) (from len : ℕ) → from + len ≤ length bytes �
 kept bytes xs from len h =
     sym (drop-take from len (bytes ++ xs)) ∙ ap (λ (ys : List ℕ). drop from ys) (take-append-le (from + len) bytes xs h) ∙ drop-take from len bytes
 
--- what is written is read
-fresh : (bytes xs : List ℕ) → take (length xs) (drop (length bytes) (bytes ++ xs)) ≡ xs
-fresh bytes xs = rw (drop_at bytes xs (length bytes) refl) (take_all (length xs) xs (omega arith))
+-- and where more is written over what stands behind it
+kept_before : (bytes ys : List ℕ) (used from len : ℕ) → from + len ≤ used → used ≤ length bytes → take len (drop from (take used bytes ++ ys)) ≡ take len (drop from bytes)
+kept_before bytes ys used from len h r =
+    let l : from + len ≤ length (take used bytes) = rw (length-take-le used bytes r) h in
+    kept (take used bytes) ys from len l ∙ sym (kept (take used bytes) (drop used bytes) from len l) ∙ ap (λ (bs : List ℕ). take len (drop from bs)) (take-append-drop used bytes)
 
-shown_kept : (p : Option Span) (bytes xs : List ℕ) → end_of_span p ≤ length bytes → shown p (bytes ++ xs) ≡ shown p bytes
-shown_kept None bytes xs h = refl
-shown_kept (Some p) bytes xs h = ap (λ (ys : List ℕ). Some ys) (kept bytes xs p.from p.len h)
+-- what is written is read
+fresh : (bytes xs rest : List ℕ) (used : ℕ) → used ≤ length bytes → take (length xs) (drop used (take used bytes ++ (xs ++ rest))) ≡ xs
+fresh bytes xs rest used r = rw (drop_at (take used bytes) (xs ++ rest) used (length-take-le used bytes r)) (take-append_seam xs rest)
+
+shown_kept : (p : Option Span) (bytes ys : List ℕ) (used : ℕ) → end_of_span p ≤ used → used ≤ length bytes → shown p (take used bytes ++ ys) ≡ shown p bytes
+shown_kept None bytes ys used h r = refl
+shown_kept (Some p) bytes ys used h r = ap (λ (zs : List ℕ). Some zs) (kept_before bytes ys used p.from p.len h r)
 
 there : (p : Option Span) (bytes : List ℕ) → is_some p ≡ is_some (shown p bytes)
 there None bytes = refl
@@ -110,24 +117,24 @@ ends_same t s a h e =
     go true g p = (λ l. refl, ends_both s a.sub p g)
     go false g p = (λ l. absurd (cc), h)
 
-own : (spans : List (Option Span)) (bytes xs : List ℕ) (sub : ℕ) → sub < length spans →
-    shown (span_of (set spans sub (Some (record { from = length bytes; len = length xs }))) sub) (bytes ++ xs) ≡ Some xs
-own spans bytes xs sub h =
-    rw (get_or-set_same spans sub (Some (record { from = length bytes; len = length xs })) None h) (ap (λ (ys : List ℕ). Some ys) (fresh bytes xs))
+own : (spans : List (Option Span)) (bytes xs rest : List ℕ) (used sub : ℕ) → used ≤ length bytes → sub < length spans →
+    shown (span_of (set spans sub (Some (record { from = used; len = length xs }))) sub) (take used bytes ++ (xs ++ rest)) ≡ Some xs
+own spans bytes xs rest used sub r h =
+    rw (get_or-set_same spans sub (Some (record { from = used; len = length xs })) None h) (ap (λ (ys : List ℕ). Some ys) (fresh bytes xs rest used r))
 
 -- A fragment that stands now, in memory behind all others.
-pub stored : (t u : Table) (s : List Fragment) (a : Fragment) → Holds t s → Inside t.spans (length t.bytes) → refused s a ≡ None → a.sub < 128 → length t.spans ≡ 128 →
-    u.spans ≡ set t.spans a.sub (Some (record { from = length t.bytes; len = length a.bytes })) →
-    u.bytes ≡ t.bytes ++ a.bytes → length u.bytes ≡ length t.bytes + length a.bytes →
+pub stored : (t u : Table) (s : List Fragment) (a : Fragment) (rest : List ℕ) → Holds t s → Inside t.spans t.used → refused s a ≡ None → a.sub < 128 → length t.spans ≡ 128 → t.used ≤ length t.bytes →
+    u.spans ≡ set t.spans a.sub (Some (record { from = t.used; len = length a.bytes })) →
+    u.bytes ≡ take t.used t.bytes ++ a.bytes ++ rest → u.used ≡ t.used + length a.bytes →
     u.ending ≡ cond a.last (Some a.sub) t.ending → u.top ≡ max t.top (a.sub + 1) → u.first ≡ cond (eqb t.top 0) a.at t.first → u.last ≡ a.at →
     (IsBelow 128 u.ending → u.whole ≡ whole_in u.spans u.ending) → Holds u (a ∷ s)
-stored t u s a h inside passes low sizes ps bs us es tops fs ls ws =
-    let p : Option Span = Some (record { from = length t.bytes; len = length a.bytes }) in
+stored t u s a rest h inside passes low sizes room ps bs us es tops fs ls ws =
+    let p : Option Span = Some (record { from = t.used; len = length a.bytes }) in
     let pieces : (k : ℕ) → k < 128 → shown (span_of u.spans k) u.bytes ≡ piece_at (a ∷ s) k = λ k l.
-    rw (ps, bs) (elim (eqb_tells a.sub k) [
-      | inl e ↦ rw (e.0, ← e.1) (own t.spans t.bytes a.bytes a.sub (omega arith))
+    rw (ps, bs ∙ append_assoc (take t.used t.bytes) a.bytes rest) (elim (eqb_tells a.sub k) [
+      | inl e ↦ rw (e.0, ← e.1) (own t.spans t.bytes a.bytes rest t.used a.sub room (omega arith))
       | inr e ↦ rw (e.0, get_or-set_other t.spans a.sub k p None (λ q. e.1 (sym q)))
-          (shown_kept (span_of t.spans k) t.bytes a.bytes (inside k l) ∙ h.pieces k l)
+          (shown_kept (span_of t.spans k) t.bytes (a.bytes ++ rest) t.used (inside k l) room ∙ h.pieces k l)
     ]) in
     let below : IsBelow 128 u.ending = subst (IsBelow 128) (sym es) (below_same a.last a.sub t.ending low h.below) in
     let ending : u.ending ≡ end_of (a ∷ s) = es ∙ ap (λ (e : Option ℕ). cond a.last (Some a.sub) e) h.ending in

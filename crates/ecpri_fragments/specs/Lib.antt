@@ -4,6 +4,7 @@ pub mod Generations
 pub mod Verdicts
 pub mod Spans
 pub mod Places
+pub mod Numbers
 pub mod Assemblies
 pub mod After
 pub mod Cut

@@ -1,5 +1,5 @@
 -- A place for one endpoint and one sequence id, and what it holds.
-use Rattle.std.specs.Prelude.{◌≡◌, ⊤, ℕ, ◌+◌, ◌<◌, ◌&&◌, ◌||◌, if◌then◌else◌, is_some, Bool, true, false, List, [], ◌∷◌, length, max, nat_lt, Option, Some, None, ℤ}
+use Rattle.std.specs.Prelude.{◌≡◌, ⊤, ℕ, ◌+◌, ◌<◌, ◌&&◌, ◌||◌, if◌then◌else◌, is_some, Bool, true, false, List, [], ◌∷◌, max, nat_lt, Option, Some, None, ℤ}
 use Rattle.fh_time.specs.declared.values.Ticks.{Ticks}
 use Rattle.ecpri_fragments.specs.declared.place.Place.{Place}
 use Rattle.ecpri_fragments.specs.declared.place.Span.{Span}
@@ -19,6 +19,7 @@ top_of (a ∷ s) = max (top_of s) (a.sub + 1)
 pub record Table : Type 0 where
   pub spans : List (Option Span)
   pub bytes : List ℕ
+  pub used : ℕ
   pub ending : Option ℕ
   pub top : ℕ
   pub first : ℤ
@@ -26,7 +27,7 @@ pub record Table : Type 0 where
   pub whole : Bool
 
 abbrev pub table_of : Place → Table
-table_of p = record { spans = p.spans.items; bytes = p.bytes.items; ending = p.end; top = p.top; first = p.first.0; last = p.last.0; whole = p.whole }
+table_of p = record { spans = p.spans; bytes = p.bytes; used = p.used; ending = p.end; top = p.top; first = p.first.0; last = p.last.0; whole = p.whole }
 
 abbrev pub IsBelow : ℕ → Option ℕ → Type 0
 IsBelow n None = ⊤
@@ -46,13 +47,13 @@ abbrev pub refused_in : Table → ℕ → Bool → ℕ → Option Verdict
 refused_in t sub last len =
     if t.whole || is_some (span_of t.spans sub) then Some Repeat
     else if is_past t.ending sub || (last && nat_lt (sub + 1) t.top) then Some Stray
-    else if nat_lt MESSAGE_BYTES (length t.bytes + len) then Some TooLong
+    else if nat_lt MESSAGE_BYTES (t.used + len) then Some TooLong
     else None
 
 -- The table holds these fragments.
 pub record Holds (t : Table) (s : List Fragment) : Type 0 where
   pub pieces : (k : ℕ) → k < 128 → shown (span_of t.spans k) t.bytes ≡ piece_at s k
-  pub used : length t.bytes ≡ size s
+  pub used : t.used ≡ size s
   pub ending : t.ending ≡ end_of s
   pub ends : EndsAt t.ending s
   pub below : IsBelow 128 t.ending

@@ -1,5 +1,6 @@
 // The memory of all endpoints, and leases on it.
-ghost use Rattle.std.specs.Prelude.{◌≡◌, ℕ, ◌+◌, ◌*◌, ◌<◌, ◌≤◌, vec_len, pos, ◌≤ℤ◌, neg_ℤ, ◌^◌};
+ghost use Rattle.std.specs.Prelude.{◌≡◌, ℕ, ◌+◌, ◌*◌, ◌<◌, ◌≤◌, vec_len, vec_capacity, pos, ◌≤ℤ◌, neg_ℤ, ◌^◌};
+ghost use Rattle.ecpri_fragments.specs.Numbers.{AreApart, AreBelow, how_many};
 
 use crate::place::Place;
 use crate::{SeqField, Verdict};
@@ -11,15 +12,23 @@ use std::alloc::Global;
 const IDS: usize = 256;
 
 /// The fragments of all endpoints, in memory that is taken once: for each endpoint and each of its 256 sequence ids
-/// a place of 16,384 bytes, which holds the fragments of the last generation.
+/// a place of 16,384 bytes, which holds the fragments of the last generation. The places are handed out in the order
+/// of the first fragments, so memory that no id needed yet is never touched.
 #[derive(Drop)]
 pub struct Assembly {
     hold: Ticks,
     endpoints: usize,
+    // of each endpoint and sequence id, once it has a place
+    numbers: Vec<Option<u16>>,
     places: Vec<Place>,
+    ghost few: { endpoints ≤ 16 },
     ghost hold_low: { pos 0 ≤ℤ hold.0 },
     ghost hold_high: { hold.0 ≤ℤ pos (2 ^ 56) },
-    ghost per_endpoint: { vec_len places ≡ endpoints * 256 },
+    ghost per_endpoint: { vec_len numbers ≡ endpoints * 256 },
+    ghost room: { vec_len numbers ≤ vec_capacity places },
+    ghost handed_out: { vec_len places ≡ how_many numbers.items },
+    ghost below: { AreBelow numbers.items (vec_len places) },
+    ghost apart: { AreApart numbers.items },
 }
 
 /// A whole message, lent from the memory in which its pieces stand.
@@ -46,7 +55,7 @@ pub enum Taken<'a> {
 }
 
 impl Assembly {
-    ghost use Rattle.std.specs.Prelude.{Some, List, [], ◌∷◌, IfOk};
+    ghost use Rattle.std.specs.Prelude.{Some, None, List, [], ◌∷◌, IfOk, slice_get};
     ghost use Rattle.std.specs.Borrow.{sem};
     ghost use Rattle.ecpri_fragments.specs.Generations.{Fragment, fragment};
     ghost use Rattle.ecpri_fragments.specs.Verdicts.{verdict_on, standing_before};
@@ -64,41 +73,70 @@ impl Assembly {
         ensures hold { IfOk result (λ a. hold_of a ≡ hold.0) }
         ensures stands { IfOk result (λ a. StandsFor a []) }
     {
-        let mut places = Vec::with_capacity(alloc, endpoints * IDS)?;
-        for _k in 0..endpoints * IDS {
-            let place = Place::make(alloc)?;
-            places.push(place)?;
-        }
+        let ids = endpoints * IDS;
+        let numbers = vec![in alloc; None; ids]?;
+        let places = Vec::with_capacity(alloc, ids)?;
         Ok(Assembly {
             hold,
             endpoints,
+            numbers,
             places,
         })
     }
 
-    /// Lets the fragment into its place.
-    fn put(&mut self, ep: usize, at: Ticks, seq: SeqField, bytes: &[u8]) -> Verdict
+    /// Hands out the next place, to an id that has none.
+    #[inline(never)]
+    fn hand_out(&mut self, id: usize) -> usize
+        requires { slice_get self.old.numbers.items id ≡ Some None }
+        ensures same { (self.new.hold ≡ self.old.hold) × (self.new.endpoints ≡ self.old.endpoints) }
+        ensures has { slice_get self.new.numbers.items id ≡ Some (Some result) }
+        ensures stands { (arrivals : List Fragment) → StandsFor self.old arrivals → StandsFor self.new arrivals }
+    {
+        let number = self.places.len();
+        let pushed = self.places.push(Place::new()).is_ok();
+        prove!(pushed);
+        self.numbers[id] = Some(number as u16);
+        number
+    }
+
+    /// The number of the place of an id, which it has from now on.
+    fn place_of(&mut self, id: usize) -> usize
+        requires { id < vec_len self.old.numbers }
+        ensures same { (self.new.hold ≡ self.old.hold) × (self.new.endpoints ≡ self.old.endpoints) }
+        ensures has { slice_get self.new.numbers.items id ≡ Some (Some result) }
+        ensures stands { (arrivals : List Fragment) → StandsFor self.old arrivals → StandsFor self.new arrivals }
+    {
+        match self.numbers[id] {
+            Some(number) => number as usize,
+            None => self.hand_out(id),
+        }
+    }
+
+    /// Lets the fragment into the place of its id, and says which one that is.
+    fn put(&mut self, ep: usize, at: Ticks, seq: SeqField, bytes: &[u8]) -> (usize, Verdict)
         requires endpoint { ep < endpoints_of self.old }
         requires sub { seq.sub < 128 }
         requires low { neg_ℤ (pos (2 ^ 56)) ≤ℤ at.0 }
         requires high { at.0 ≤ℤ pos (2 ^ 56) }
         ensures took { Took self.old self.new (fragment ep at seq bytes.now) }
-        ensures verdict { (arrivals : List Fragment) → StandsFor self.old arrivals → result ≡ verdict_on (hold_of self.old) (fragment ep at seq bytes.now) arrivals }
+        ensures has { slice_get self.new.numbers.items (ep * 256 + seq.seq) ≡ Some (Some result.0) }
+        ensures verdict { (arrivals : List Fragment) → StandsFor self.old arrivals → result.1 ≡ verdict_on (hold_of self.old) (fragment ep at seq bytes.now) arrivals }
     {
-        let hold = self.hold;
-        self.places[ep * IDS + seq.seq as usize].put(hold, at, seq, bytes)
+        let number = self.place_of(ep * IDS + seq.seq as usize);
+        let verdict = self.places[number].put(self.hold, at, seq, bytes);
+        (number, verdict)
     }
 
-    /// The answer to a fragment that had this verdict.
-    fn taken(&self, ep: usize, seq: SeqField, verdict: Verdict) -> Taken<'_>
-        requires endpoint { ep < endpoints_of self.now }
-        ensures { (arrivals : List Fragment) (a : Fragment) → a.ep ≡ ep → a.seq ≡ seq.seq → StandsFor self.now (a ∷ arrivals) → verdict ≡ verdict_on (hold_of self.now) a arrivals
-            → Answers (standing_before (hold_of self.now) a arrivals) a result }
+    /// The answer to a fragment that had this verdict in the place of this number.
+    fn taken(&self, number: usize, verdict: Verdict) -> Taken<'_>
+        requires { number < vec_len self.now.places }
+        ensures { (arrivals : List Fragment) (a : Fragment) → a.seq < 256 → slice_get self.now.numbers.items (a.ep * 256 + a.seq) ≡ Some (Some number)
+            → StandsFor self.now (a ∷ arrivals) → verdict ≡ verdict_on (hold_of self.now) a arrivals → Answers (standing_before (hold_of self.now) a arrivals) a result }
     {
         match verdict {
             Verdict::Stored => Taken::Stored,
             Verdict::Whole => {
-                let place = &self.places[ep * IDS + seq.seq as usize];
+                let place = &self.places[number];
                 let count = place.count();
                 Taken::Whole(Lease { place, count })
             }
@@ -119,8 +157,8 @@ impl Assembly {
         ensures answers { AnswersAfter self.old (fragment ep at seq bytes.now) result }
         ensures* after { sem 𝓛 (EndsWith self.entry (fragment ep at seq bytes.now)) }
     {
-        let verdict = self.put(ep, at, seq, bytes);
-        self.taken(ep, seq, verdict)
+        let (number, verdict) = self.put(ep, at, seq, bytes);
+        self.taken(number, verdict)
     }
 }
 

@@ -1,13 +1,11 @@
 // Parts of a place's work, over plain values.
-ghost use Rattle.std.specs.Prelude.{◌≡◌, ℕ, ◌+◌, ◌<◌, ◌≤◌, ◌++◌, length, Some, None, if◌then◌else◌, vec_len, vec_capacity, IfOk, ◌==◌, ◌^◌, pos, neg_ℤ, ◌≤ℤ◌, ◌+ℤ◌, int_le};
-ghost use Rattle.ecpri_fragments.specs.Spans.{span_of, all_in, whole_in, EmptyFrom};
+ghost use Rattle.std.specs.Prelude.{◌≡◌, ℕ, ◌+◌, ◌<◌, ◌≤◌, ◌++◌, length, take, drop, Some, None, if◌then◌else◌, ◌==◌, ◌^◌, pos, neg_ℤ, ◌≤ℤ◌, ◌+ℤ◌, int_le};
+ghost use Rattle.ecpri_fragments.specs.Spans.{span_of, all_in, whole_in};
 ghost use Rattle.ecpri_fragments.specs.Places.{IsBelow};
 
 use crate::SeqField;
-use crate::place::{SUBSEQUENCES, Span};
-use fh_base::NoMemory;
+use crate::place::Span;
 use fh_time::Ticks;
-use std::alloc::Global;
 
 /// Whether a time falls in the generation that began then.
 pub(crate) fn is_within(begun: Ticks, hold: Ticks, at: Ticks) -> bool
@@ -20,15 +18,12 @@ pub(crate) fn is_within(begun: Ticks, hold: Ticks, at: Ticks) -> bool
     at.0 <= begun.0 + hold.0
 }
 
-/// Appends bytes for which there is room.
-pub(crate) fn append(into: &mut Vec<u8>, bytes: &[u8])
-    requires { vec_len into.old + length bytes.now ≤ vec_capacity into.old }
-    ensures items { into.new.items ≡ into.old.items ++ bytes.now }
-    ensures len { vec_len into.new ≡ vec_len into.old + length bytes.now }
-    ensures capacity { vec_capacity into.old ≤ vec_capacity into.new }
+/// Writes the bytes over those from a place on.
+pub(crate) fn write_at(into: &mut [u8], at: usize, bytes: &[u8])
+    requires { at + length bytes.now ≤ length into.old }
+    ensures { into.new ≡ take at into.old ++ bytes.now ++ drop (at + length bytes.now) into.old }
 {
-    let stored = into.extend_from_slice(bytes).is_ok();
-    prove!(stored);
+    into[at..at + bytes.len()].copy_from_slice(bytes);
 }
 
 /// Whether the first n pieces are there.
@@ -78,16 +73,4 @@ pub(crate) fn end_after(seq: SeqField, end: Option<u8>) -> Option<u8>
     ensures { result ≡ (if seq.last then Some seq.sub else end) }
 {
     if seq.last { Some(seq.sub) } else { end }
-}
-
-/// A table with no piece.
-pub(crate) fn no_spans(alloc: Global) -> Result<Vec<Option<Span>>, NoMemory>
-    ensures len { IfOk result (λ v. vec_len v ≡ 128) }
-    ensures empty { IfOk result (λ v. EmptyFrom v.items 0) }
-{
-    let mut spans = Vec::with_capacity(alloc, SUBSEQUENCES)?;
-    for _k in 0..SUBSEQUENCES {
-        spans.push(None)?;
-    }
-    Ok(spans)
 }

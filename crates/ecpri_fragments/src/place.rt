@@ -1,14 +1,12 @@
 // The memory for one endpoint and one sequence id.
-ghost use Rattle.std.specs.Prelude.{◌≡◌, ℕ, ◌+◌, ◌<◌, ◌≤◌, vec_len, vec_capacity, pos, ◌≤ℤ◌, neg_ℤ, ◌^◌};
+ghost use Rattle.std.specs.Prelude.{◌≡◌, ℕ, ◌+◌, ◌<◌, ◌≤◌, pos, ◌≤ℤ◌, neg_ℤ, ◌^◌};
 ghost use Rattle.std.specs.Option.{ForSome};
 ghost use Rattle.ecpri_fragments.specs.Spans.{Inside, EmptyFrom};
 ghost use Rattle.ecpri_fragments.specs.declared.place.TheConstants.{MESSAGE_BYTES};
 
-use crate::parts::{append, clear, end_after, first_after, is_whole, is_within, no_spans};
+use crate::parts::{clear, end_after, first_after, is_whole, is_within, write_at};
 use crate::{SeqField, Verdict};
-use fh_base::NoMemory;
 use fh_time::Ticks;
-use std::alloc::Global;
 
 /// The most application bytes of a message.
 pub const MESSAGE_BYTES: usize = 16_384;
@@ -31,41 +29,40 @@ pub(crate) struct Place {
     end: Option<u8>,
     top: u8,
     whole: bool,
-    spans: Vec<Option<Span>>,
-    bytes: Vec<u8>,
-    ghost table: { vec_len spans ≡ 128 },
-    ghost room: { MESSAGE_BYTES ≤ vec_capacity bytes },
-    ghost filled: { vec_len bytes ≤ MESSAGE_BYTES },
-    ghost inside: { Inside spans.items (vec_len bytes) },
-    ghost beyond: { EmptyFrom spans.items top },
+    // how many bytes stand
+    used: u16,
+    spans: [Option<Span>; SUBSEQUENCES],
+    bytes: [u8; MESSAGE_BYTES],
+    ghost filled: { used ≤ MESSAGE_BYTES },
+    ghost inside: { Inside spans used },
+    ghost beyond: { EmptyFrom spans top },
     ghost tops: { top ≤ 128 },
     ghost begun_low: { ForSome begun (λ t. neg_ℤ (pos (2 ^ 56)) ≤ℤ t.0) },
     ghost begun_high: { ForSome begun (λ t. t.0 ≤ℤ pos (2 ^ 56)) },
 }
 
 impl Place {
-    ghost use Rattle.std.specs.Prelude.{IfOk, Some, None, [], ◌∷◌, length, List, Option, ℤ, slice_index_or};
+    ghost use Rattle.std.specs.Prelude.{Some, None, [], ◌∷◌, length, List, Option, ℤ, slice_index_or};
     ghost use Rattle.ecpri_fragments.specs.Generations.{Fragment, Generation, fragment, begins, start_in, held_in};
     ghost use Rattle.ecpri_fragments.specs.Verdicts.{refused, standing};
     ghost use Rattle.ecpri_fragments.specs.Spans.{span_of, bytes_of};
     ghost use Rattle.ecpri_fragments.specs.Places.{Holds, Stands, StandsIn, Joins, Puts, table_of, refused_in};
 
-    /// Takes all memory: 16,384 bytes of room, which are not written yet.
-    pub(crate) fn make(alloc: Global) -> Result<Place, NoMemory>
-        ensures { IfOk result (λ p. StandsIn p []) }
+    /// A place in which nothing stands.
+    pub(crate) fn new() -> Place
+        ensures { StandsIn result [] }
     {
-        let spans = no_spans(alloc)?;
-        let bytes = Vec::with_capacity(alloc, MESSAGE_BYTES)?;
-        Ok(Place {
+        Place {
             begun: None,
             first: Ticks(0),
             last: Ticks(0),
             end: None,
             top: 0,
             whole: false,
-            spans,
-            bytes,
-        })
+            used: 0,
+            spans: [None; SUBSEQUENCES],
+            bytes: [0; MESSAGE_BYTES],
+        }
     }
 
     /// Forgets what stands.
@@ -74,8 +71,8 @@ impl Place {
         requires high { at.0 ≤ℤ pos (2 ^ 56) }
         ensures { Stands self.new at.0 [] }
     {
-        clear(self.spans.as_mut_slice(), self.top as usize);
-        self.bytes.clear();
+        clear(&mut self.spans, self.top as usize);
+        self.used = 0;
         self.begun = Some(at);
         self.first = Ticks(0);
         self.last = Ticks(0);
@@ -99,7 +96,7 @@ impl Place {
     /// Why a fragment of this length does not join those that stand.
     fn refusal(&self, seq: SeqField, len: usize) -> Option<Verdict>
         requires sub { seq.sub < 128 }
-        ensures room { result ≡ None → vec_len self.now.bytes + len ≤ MESSAGE_BYTES }
+        ensures room { result ≡ None → self.now.used + len ≤ MESSAGE_BYTES }
         ensures refused { result ≡ refused_in (table_of self.now) seq.sub seq.last len }
     {
         if self.whole || self.spans[seq.sub as usize].is_some() {
@@ -113,7 +110,7 @@ impl Place {
         if seq.last && seq.sub + 1 < self.top {
             return Some(Verdict::Stray);
         }
-        if len > MESSAGE_BYTES - self.bytes.len() {
+        if len > MESSAGE_BYTES - self.used as usize {
             return Some(Verdict::TooLong);
         }
         None
@@ -122,21 +119,22 @@ impl Place {
     /// Lets a fragment stand.
     fn store(&mut self, at: Ticks, seq: SeqField, bytes: &[u8])
         requires sub { seq.sub < 128 }
-        requires fits { vec_len self.old.bytes + length bytes.now ≤ MESSAGE_BYTES }
+        requires fits { self.old.used + length bytes.now ≤ MESSAGE_BYTES }
         ensures holds { (ep : ℕ) (s : List Fragment) → Holds (table_of self.old) s → refused s (fragment ep at seq bytes.now) ≡ None → Holds (table_of self.new) (fragment ep at seq bytes.now ∷ s) }
         ensures same_begun { self.new.begun ≡ self.old.begun }
     {
         let span = Span {
-            from: self.bytes.len() as u16,
+            from: self.used,
             len: bytes.len() as u16,
         };
-        append(&mut self.bytes, bytes);
+        write_at(&mut self.bytes, span.from as usize, bytes);
+        self.used += span.len;
         self.spans[seq.sub as usize] = Some(span);
         self.first = first_after(self.top, self.first, at);
         self.last = at;
         self.top = self.top.max(seq.sub + 1);
         self.end = end_after(seq, self.end);
-        self.whole = is_whole(self.spans.as_slice(), self.end);
+        self.whole = is_whole(&self.spans, self.end);
     }
 
     /// Begins a generation where none is there or the last one is over.
@@ -194,7 +192,7 @@ impl Place {
 
     pub(crate) fn piece(&self, k: usize) -> &[u8]
         requires { k < 128 }
-        ensures { result.now ≡ bytes_of (span_of self.now.spans.items k) self.now.bytes.items }
+        ensures { result.now ≡ bytes_of (span_of self.now.spans k) self.now.bytes }
     {
         match self.spans[k] {
             Some(span) => {

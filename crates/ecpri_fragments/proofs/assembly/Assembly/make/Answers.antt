@@ -1,19 +1,26 @@
-use Rattle.std.proofs.Common.{◌≡◌, ℕ, zero, suc, List, [], ◌∷◌, ◌++◌, Some, subst, arith}
-use Rattle.std.specs.List.{slice_get}
-use Rattle.std.proofs.lemmas.Option.{same_Some}
-use Rattle.ecpri_fragments.specs.declared.place.Place.{Place}
-use Rattle.ecpri_fragments.specs.Places.{StandsIn}
+use Rattle.std.proofs.Common.{◌≡◌, ◌*◌, Some, None, replicate, ◌∙◌, sym, rules}
+use Rattle.ecpri_fragments.specs.Assemblies.{StandsFor}
+use Rattle.ecpri_fragments.proofs.Numbers.{all_none, none_given}
+use Rattle.ecpri_fragments.proofs.Steps.{none_stand}
 use Rattle.ecpri_fragments.proofs.assembly.Assembly.make.Goals as goal
 
-pushed : (xs : List Place) (y : Place) (P : Place → Type 0) → ((k : ℕ) (p : Place) → slice_get xs k ≡ Some p → P p) → P y → (k : ℕ) (p : Place) → slice_get (xs ++ y ∷ []) k ≡ Some p → P p
-pushed [] y P h q zero p e = subst P (same_Some y p e) q
-pushed [] y P h q (suc k) p e = absurd (cc)
-pushed (x ∷ xs) y P h q zero p e = h zero p e
-pushed (x ∷ xs) y P h q (suc k) p e = pushed xs y P (λ i r f. h (suc i) r f) q k p e
+pub invariant_of-result-clause-handed_out : goal.invariant_of-result-clause-handed_out
+invariant_of-result-clause-handed_out c =
+    let e : c.in_ok-numbers.numbers.items ≡ replicate (c.args.endpoints * 256) None = c.in_ok-numbers.ensures.items_if_clones_equal (λ y h. search rules) in
+    rw e (c.in_ok-places.ensures.len ∙ sym (none_given (c.args.endpoints * 256)))
 
-pub loop-k-preserved : goal.loop-k-preserved
-loop-k-preserved c =
-    record {
-      len = omega (arith, c.in_ok-push.ensures.len, c.loop-k.invariant.len);
-      empty = λ k p. rw c.in_ok-push.ensures.items (pushed c.loop-k.places.items c.in_ok-place.place (λ q. StandsIn q []) c.loop-k.invariant.empty c.in_ok-place.ensures k p);
-    }
+pub invariant_of-result-clause-below : goal.invariant_of-result-clause-below
+invariant_of-result-clause-below c i k f =
+    let e : c.in_ok-numbers.numbers.items ≡ replicate (c.args.endpoints * 256) None = c.in_ok-numbers.ensures.items_if_clones_equal (λ y h. search rules) in
+    let h = all_none (c.args.endpoints * 256) i (Some k) (rw (← e) f) in absurd (cc)
+
+pub invariant_of-result-clause-apart : goal.invariant_of-result-clause-apart
+invariant_of-result-clause-apart c i j k f g =
+    let e : c.in_ok-numbers.numbers.items ≡ replicate (c.args.endpoints * 256) None = c.in_ok-numbers.ensures.items_if_clones_equal (λ y h. search rules) in
+    let h = all_none (c.args.endpoints * 256) i (Some k) (rw (← e) f) in absurd (cc)
+
+pub returns-clause-stands : goal.returns-clause-stands
+unfolding StandsFor
+returns-clause-stands c =
+    let e : c.in_ok-numbers.numbers.items ≡ replicate (c.args.endpoints * 256) None = c.in_ok-numbers.ensures.items_if_clones_equal (λ y h. search rules) in
+    rw e (none_stand (c.args.endpoints * 256) c.in_ok-places.places.items c.args.hold.0)

@@ -1,8 +1,5 @@
-use Rattle.std.proofs.Common.{◌≡◌, ◌+◌, ◌*◌, length, ◌∷◌, Some, refl, sym, ◌∙◌, arith, rules, subst}
-use Rattle.std.specs.List.{slice_get}
+use Rattle.std.proofs.Common.{◌≡◌, length, ◌∷◌, refl, sym, ◌∙◌, arith, subst}
 use Rattle.std.proofs.lemmas.Option.{slice_get_read}
-use mir.Syntax.{w8}
-use mir.Val.{Fits}
 use Rattle.ecpri_fragments.specs.declared.verdict.Verdict.TheVariants.{Whole}
 use Rattle.ecpri_fragments.specs.Verdicts.{verdict, standing_before}
 use Rattle.ecpri_fragments.specs.Places.{Holds, table_of}
@@ -12,14 +9,12 @@ use Rattle.ecpri_fragments.proofs.assembly.Assembly.taken.Goals as goal
 
 pub returns-in-Whole : goal.returns-in-Whole
 unfolding StandsFor
-returns-in-Whole c arrivals a q r st v =
+returns-in-Whole c arrivals a low has st v =
     let self = c.args.self.now in
     let place = c.index-place.result.now in
     let s = standing_before self.hold.0 a arrivals in
-    let b : Fits w8 c.args.seq.seq = search rules in
-    let g = slice_get_read self.places.items (length self.places.items) (c.args.ep * 256 + c.args.seq.seq) place refl (omega (arith, b, c.requires.endpoint, self.per_endpoint, self.places.ok.0)) c.index-place.ensures in
-    let g' : slice_get self.places.items (a.ep * 256 + a.seq) ≡ Some place = rw (q, r) g in
-    let o = own_place self.places.items self.hold.0 arrivals a place (omega (arith, b, r)) st g' in
+    let g = slice_get_read self.places.items (length self.places.items) c.args.number place refl (omega (arith, c.requires, self.places.ok.0)) c.index-place.ensures in
+    let o = own_place self.numbers.items self.places.items self.hold.0 arrivals a c.args.number place low st has g in
     let e : verdict s a ≡ Whole = sym v ∙ c.in-Whole.is in
     let w = whole_placed s a e in
     let h : Holds (table_of place) (a ∷ s) = subst (Holds (table_of place)) w.0 o.3 in
