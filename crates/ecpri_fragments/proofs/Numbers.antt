@@ -1,10 +1,11 @@
 -- Which place each id has, and one that is handed out.
-use Rattle.std.proofs.Common.{◌≡◌, ◌≢◌, ℕ, zero, suc, ◌+◌, ◌<◌, ◌≤◌, ◌⊎◌, inl, inr, List, [], ◌∷◌, ◌++◌, length, set, replicate, Option, Some, None, refl, sym, ap, ◌∙◌, subst, arith}
+use Rattle.std.proofs.Common.{◌≡◌, ◌≢◌, ℕ, zero, suc, ◌+◌, ◌<◌, ◌≤◌, inl, inr, Bool, true, false, cond, eqb, ltb, List, [], ◌∷◌, ◌++◌, length, set, replicate, Option, Some, None, refl, sym, ap, ◌∙◌, subst, arith}
 use Rattle.std.specs.List.{slice_get}
-use Rattle.std.proofs.lemmas.Bool.Decides.{eqb_tells}
+use Rattle.std.proofs.lemmas.Bool.{cases_lt, eq-eqb, le-ltb}
+use Rattle.std.proofs.lemmas.Bool.Decides.{eqb_tells, nat_tests}
 use Rattle.std.proofs.lemmas.Option.{same_Some, slice_get-get_or, slice_get_within, get_or_from_slice_get}
 use Rattle.std.proofs.lemmas.List.{get_or-set_same, get_or-set_other, length-append, length-set}
-use Rattle.ecpri_fragments.specs.Numbers.{how_many, AreBelow, AreApart}
+use Rattle.ecpri_fragments.specs.Numbers.{AreOnce, how_many, is_number, times, times_free}
 
 -- what is read of a list of which one element was written over
 pub get_own : {X : Type 0} (xs : List X) (i : ℕ) (y x : X) → i < length xs → slice_get (set xs i y) i ≡ Some x → y ≡ x
@@ -40,11 +41,16 @@ get_last (x ∷ xs) y = get_last xs y
 pub one_longer : {X : Type 0} (xs ys : List X) (y : X) → ys ≡ xs ++ y ∷ [] → length ys ≡ length xs + 1
 one_longer xs ys y e = ap length e ∙ length-append xs (y ∷ [])
 
+pub slice_get_old : {X : Type 0} (xs : List X) (i : ℕ) → i < length xs → (x : X) × (slice_get xs i ≡ Some x)
+slice_get_old [] i h = absurd (omega arith)
+slice_get_old (x ∷ xs) zero h = (x, refl)
+slice_get_old (x ∷ xs) (suc i) h = slice_get_old xs i (omega arith)
+
 -- where no id has a place
-pub all_none : (n i : ℕ) (o : Option ℕ) → slice_get (replicate n None) i ≡ Some o → o ≡ None
-all_none zero i o e = absurd (cc)
-all_none (suc n) zero o e = sym (same_Some None o e)
-all_none (suc n) (suc i) o e = all_none n i o e
+pub none_at : {X : Type 0} (n i : ℕ) (o : Option X) → slice_get (replicate n None) i ≡ Some o → o ≡ None
+none_at zero i o e = absurd (cc)
+none_at (suc n) zero o e = sym (same_Some None o e)
+none_at (suc n) (suc i) o e = none_at n i o e
 
 pub none_given : (n : ℕ) → how_many (replicate n None) ≡ 0
 none_given zero = refl
@@ -70,28 +76,103 @@ one_more (Some j ∷ numbers) zero k e = absurd (cc)
 one_more (None ∷ numbers) (suc i) k e = let h = one_more numbers i k e in omega (arith, h)
 one_more (Some j ∷ numbers) (suc i) k e = let h = one_more numbers i k e in omega (arith, h)
 
-module _ (numbers : List (Option ℕ)) (i count : ℕ) (free : slice_get numbers i ≡ Some None) (below : AreBelow numbers count) where
-  -- the place of an id, after the next one was handed out
-  own_or_old : (j k : ℕ) → slice_get (set numbers i (Some count)) j ≡ Some (Some k) → ((j ≡ i) × (k ≡ count)) ⊎ (slice_get numbers j ≡ Some (Some k))
-  own_or_old j k e = elim (eqb_tells j i) [
-    | inl q ↦ inl (q.1, sym (same_Some count k (get_own numbers i (Some count) (Some k) (slice_get_within numbers i None free) (subst (λ (x : ℕ). slice_get (set numbers i (Some count)) x ≡ Some (Some k)) q.1 e))))
-    | inr q ↦ inr (get_other numbers i j (Some count) (Some k) q.1 e)
+pub one_less : (numbers : List (Option ℕ)) (i k : ℕ) → slice_get numbers i ≡ Some (Some k) → how_many (set numbers i None) + 1 ≡ how_many numbers
+one_less [] i k e = absurd (cc)
+one_less (None ∷ numbers) zero k e = absurd (cc)
+one_less (Some j ∷ numbers) zero k e = omega arith
+one_less (None ∷ numbers) (suc i) k e = let h = one_less numbers i k e in omega (arith, h)
+one_less (Some j ∷ numbers) (suc i) k e = let h = one_less numbers i k e in omega (arith, h)
+
+-- how often a place is among those of the ids, after one was written over
+pub times_set : (numbers : List (Option ℕ)) (i k : ℕ) (old new : Option ℕ) → slice_get numbers i ≡ Some old → times k (set numbers i new) + is_number k old ≡ times k numbers + is_number k new
+times_set [] i k old new e = absurd (cc)
+times_set (n ∷ numbers) zero k old new e = let q : n ≡ old = same_Some n old e in rw q (omega arith)
+times_set (n ∷ numbers) (suc i) k old new e = let h = times_set numbers i k old new e in omega (arith, h)
+
+pub times_more : (free : List ℕ) (n k : ℕ) → times_free k (free ++ n ∷ []) ≡ times_free k free + is_number k (Some n)
+times_more [] n k = omega arith
+times_more (m ∷ free) n k = let h = times_more free n k in omega (arith, h)
+
+own_number : (k : ℕ) → is_number k (Some k) ≡ 1
+own_number k = rw (eq-eqb k k refl) refl
+
+pub times_own : (numbers : List (Option ℕ)) (i k : ℕ) → slice_get numbers i ≡ Some (Some k) → 1 ≤ times k numbers
+times_own numbers i k e = let h = times_set numbers i k (Some k) None e in omega (arith, h, own_number k)
+
+-- each place is free, or one id has it
+longer : (k count : ℕ) → cond (ltb k count) 1 0 + cond (eqb count k) 1 0 ≡ cond (ltb k (count + 1)) 1 0
+longer k count = grind (arith, nat_tests)
+
+times_none : (n k : ℕ) → times k (replicate n None) + 0 ≡ 0
+times_none zero k = refl
+times_none (suc n) k = let h = times_none n k in omega (arith, h)
+
+module _ (numbers : List (Option ℕ)) (free : List ℕ) (count : ℕ) (once : AreOnce numbers free count) where
+  pub below : (i k : ℕ) → slice_get numbers i ≡ Some (Some k) → k < count
+  below i k e = elim (cases_lt k count) [
+    | inl l ↦ l
+    | inr l ↦
+        let h = times_own numbers i k e in
+        let o = once k in
+        let z : ltb k count ≡ false = le-ltb k count l in
+        let o' : times k numbers + times_free k free ≡ 0 = rw z at o in
+        absurd (omega (arith, h, o'))
   ]
 
-  pub still_below : AreBelow (set numbers i (Some count)) (count + 1)
-  still_below j k e = elim (own_or_old j k e) [
-    | inl q ↦ omega (arith, q.1)
-    | inr q ↦ let h = below j k q in omega (arith, h)
+  at_most_once : (k : ℕ) → times k numbers + times_free k free ≤ 1
+  at_most_once k = go (ltb k count) (once k)
+    where
+      go : (b : Bool) → times k numbers + times_free k free ≡ cond b 1 0 → times k numbers + times_free k free ≤ 1
+      go true e = omega (arith, e)
+      go false e = omega (arith, e)
+
+  pub apart : (i j k : ℕ) → slice_get numbers i ≡ Some (Some k) → slice_get numbers j ≡ Some (Some k) → i ≡ j
+  apart i j k e f = elim (eqb_tells j i) [
+    | inl q ↦ sym q.1
+    | inr q ↦
+        let s = times_set numbers i k (Some k) None e in
+        let l = times_own (set numbers i None) j k (put_other numbers i j None q.1 ∙ f) in
+        let m = at_most_once k in
+        absurd (omega (arith, s, l, m, own_number k))
   ]
 
-  pub still_apart : AreApart numbers → AreApart (set numbers i (Some count))
-  still_apart apart j l k e f = elim (own_or_old j k e) [
-    | inl q ↦ elim (own_or_old l k f) [
-      | inl r ↦ q.0 ∙ sym r.0
-      | inr r ↦ let h = below l k r in absurd (omega (arith, h, q.1))
-    ]
-    | inr q ↦ elim (own_or_old l k f) [
-      | inl r ↦ let h = below j k q in absurd (omega (arith, h, r.1))
-      | inr r ↦ apart j l k q r
-    ]
+  -- a free one
+  pub not_free : (rest : List ℕ) (n i : ℕ) → free ≡ rest ++ n ∷ [] → slice_get numbers i ≡ Some (Some n) → ⊥
+  not_free rest n i e f =
+      let l = times_own numbers i n f in
+      let m = at_most_once n in
+      let o : times_free n free ≡ times_free n rest + is_number n (Some n) = rw e (times_more rest n n) in
+      omega (arith, l, m, o, own_number n)
+
+  pub free_below : (rest : List ℕ) (n : ℕ) → free ≡ rest ++ n ∷ [] → n < count
+  free_below rest n e = elim (cases_lt n count) [
+    | inl l ↦ l
+    | inr l ↦
+        let z : ltb n count ≡ false = le-ltb n count l in
+        let o' : times n numbers + times_free n free ≡ 0 = rw z at (once n) in
+        let o : times_free n free ≡ times_free n rest + is_number n (Some n) = rw e (times_more rest n n) in
+        absurd (omega (arith, o', o, own_number n))
   ]
+
+  pub once_handed : (rest : List ℕ) (n i : ℕ) → free ≡ rest ++ n ∷ [] → slice_get numbers i ≡ Some None → AreOnce (set numbers i (Some n)) rest count
+  once_handed rest n i e f k =
+      let s = times_set numbers i k None (Some n) f in
+      let o : times_free k free ≡ times_free k rest + is_number k (Some n) = rw e (times_more rest n k) in
+      let q : times k (set numbers i (Some n)) + times_free k rest ≡ times k numbers + times_free k free = omega (arith, s, o) in
+      q ∙ once k
+
+  pub once_given : (n i : ℕ) → slice_get numbers i ≡ Some (Some n) → AreOnce (set numbers i None) (free ++ n ∷ []) count
+  once_given n i f k =
+      let s = times_set numbers i k (Some n) None f in
+      let o = times_more free n k in
+      let q : times k (set numbers i None) + times_free k (free ++ n ∷ []) ≡ times k numbers + times_free k free = omega (arith, s, o) in
+      q ∙ once k
+
+  pub once_more : (i : ℕ) → slice_get numbers i ≡ Some None → AreOnce (set numbers i (Some count)) free (count + 1)
+  once_more i f k =
+      let s = times_set numbers i k None (Some count) f in
+      let q : times k (set numbers i (Some count)) + times_free k free ≡ times k numbers + times_free k free + is_number k (Some count) = omega (arith, s) in
+      q ∙ ap (λ (x : ℕ). x + is_number k (Some count)) (once k) ∙ longer k count
+
+pub once_none : (n : ℕ) → AreOnce (replicate n None) [] 0
+once_none n k = rw (le-ltb k 0 (omega arith)) (times_none n k)

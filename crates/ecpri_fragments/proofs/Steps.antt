@@ -1,5 +1,5 @@
 -- One fragment more, place by place.
-use Rattle.std.proofs.Common.{◌≡◌, ◌≢◌, ℕ, ◌+◌, ◌*◌, ◌<◌, inl, inr, Bool, true, false, cond, ◌&&◌, List, [], ◌∷◌, ◌++◌, length, replicate, set, Option, Some, None, refl, sym, ap, ◌∙◌, subst, arith, ℤ}
+use Rattle.std.proofs.Common.{◌≡◌, ◌≢◌, ℕ, ◌+◌, ◌*◌, ◌<◌, inl, inr, Bool, true, false, cond, ◌&&◌, List, [], ◌∷◌, length, replicate, set, Option, Some, None, refl, sym, ap, ◌∙◌, subst, arith, ℤ}
 use Rattle.std.specs.List.{slice_get}
 use Rattle.std.proofs.lemmas.Option.{same_Some, slice_get_within}
 use Rattle.std.proofs.lemmas.Bool.{eq-eqb}
@@ -7,14 +7,16 @@ use Rattle.std.proofs.lemmas.Bool.Decides.{eqb_tells}
 use Rattle.ecpri_fragments.specs.declared.place.Place.{Place}
 use Rattle.ecpri_fragments.specs.declared.verdict.Verdict.{Verdict}
 use Rattle.ecpri_fragments.specs.declared.verdict.Verdict.TheVariants.{Whole, Repeat, Stray, TooLong}
-use Rattle.ecpri_fragments.specs.Generations.{Fragment, Generation, of_id, is_within, with_fragment, generations, generations_of, begins, start_in, held_in, begun, joined}
+use Rattle.ecpri_fragments.specs.Generations.{Fragment, Generation, of_id, is_within, with_fragment, generations, generations_of, begins, is_first, start_in, held_in, begun, joined}
 use Rattle.ecpri_fragments.specs.Verdicts.{Message, message, whole_to, end_of, pieces_to, Rests, refused, answer, verdict, placed, with_one, standing, is_whole, verdict_on, standing_before}
 use Rattle.ecpri_fragments.specs.Spans.{pieces_in}
-use Rattle.ecpri_fragments.specs.Places.{Table, Holds, IsBelow, Stands, StandsIn}
+use Rattle.ecpri_fragments.specs.Places.{Table, Holds, IsBelow, IsDone, Puts, Stands, StandsIn}
 use Rattle.ecpri_fragments.proofs.Pieces.{pieces_same}
-use Rattle.ecpri_fragments.proofs.Numbers.{all_none, get_before, get_last, get_other, get_own, put_other, put_own}
-use Rattle.ecpri_fragments.specs.Numbers.{AreApart, AreBelow}
-use Rattle.ecpri_fragments.specs.Assemblies.{StandIn, StandsAt, place_at}
+use Rattle.ecpri_fragments.proofs.Numbers.{apart, get_other, get_own, none_at, put_other, put_own, slice_get_old}
+use Rattle.ecpri_fragments.specs.declared.place.Begun.{Begun}
+use Rattle.ecpri_fragments.specs.declared.pool.Pool.{Pool}
+use Rattle.ecpri_fragments.specs.Pools.{Opens, place_at}
+use Rattle.ecpri_fragments.specs.Assemblies.{StandIn, StandsAt, repeats}
 
 -- the generation that a fragment falls in, with it
 pub moved : (hold : ℤ) (gs : List Generation) (a : Fragment) (p : Place) → Stands p (start_in hold a.at gs) (placed (standing (held_in hold a.at gs)) a) → StandsIn p (with_fragment hold a gs)
@@ -63,83 +65,144 @@ own hold (g ∷ gs) a p h = go (is_within hold g.start a.at) h
     go false h = h
 
 -- where no id has a place
-pub none_stand : (ids : ℕ) (places : List Place) (hold : ℤ) → StandIn (replicate ids None) places hold []
-none_stand ids places hold ep seq n b e = rw (all_none ids (ep * 256 + seq) n e) refl
+pub none_stand : (numbers : List (Option ℕ)) (ids : ℕ) (places : List Place) (hold : ℤ) → ((i : ℕ) (n : Option ℕ) → slice_get numbers i ≡ Some n → n ≡ None) → StandIn numbers (replicate ids None) places hold []
+none_stand numbers ids places hold h ep seq n d b e f =
+    rw (h (ep * 256 + seq) n e, none_at ids (ep * 256 + seq) d f) refl
 
 -- the place of an id that has another number
 place_other : (places : List Place) (k : ℕ) (new : Place) (n : Option ℕ) → n ≢ Some k → place_at (set places k new) n ≡ place_at places n
 place_other places k new None h = refl
 place_other places k new (Some j) h = put_other places k j new (λ e. h (ap (λ (x : ℕ). Some x) e))
 
--- the next place, which an id that had none is handed
-place_before : (places : List Place) (new : Place) (n : Option ℕ) → ((k : ℕ) → n ≡ Some k → k < length places) → place_at (places ++ new ∷ []) n ≡ place_at places n
-place_before places new None h = refl
-place_before places new (Some k) h = get_before places new k (h k refl)
-
-pub handed : (numbers : List (Option ℕ)) (places : List Place) (hold : ℤ) (arrivals : List Fragment) (i : ℕ) (new : Place) →
-    slice_get numbers i ≡ Some None → AreBelow numbers (length places) → StandsIn new [] → StandIn numbers places hold arrivals → StandIn (set numbers i (Some (length places))) (places ++ new ∷ []) hold arrivals
-handed numbers places hold arrivals i new free below empty s ep seq n b e =
+-- a place that is given back, whose message is whole
+pub finished : (numbers : List (Option ℕ)) (done : List (Option Begun)) (places : List Place) (hold : ℤ) (arrivals : List Fragment) (i k : ℕ) (p : Place) (b : Begun) →
+    slice_get numbers i ≡ Some (Some k) → slice_get places k ≡ Some p → i < length done → ((gs : List Generation) → StandsIn p gs → IsDone b.at.0 gs) →
+    StandIn numbers done places hold arrivals → StandIn (set numbers i None) (set done i (Some b)) places hold arrivals
+finished numbers done places hold arrivals i k p b had its room h s ep seq n d low e f =
     elim (eqb_tells (ep * 256 + seq) i) [
       | inl q ↦
-          let had : slice_get numbers (ep * 256 + seq) ≡ Some None = rw q.1 free in
-          let at : Some (length places) ≡ n = get_own numbers i (Some (length places)) n (slice_get_within numbers i None free) (subst (λ (x : ℕ). slice_get (set numbers i (Some (length places))) x ≡ Some n) q.1 e) in
-          subst (λ (m : Option ℕ). StandsAt (place_at (places ++ new ∷ []) m) (generations_of hold ep seq arrivals)) at
-          (subst (λ (p : Option Place). StandsAt p (generations_of hold ep seq arrivals)) (sym (get_last places new))
-          (subst (StandsIn new) (sym (s ep seq None b had)) empty))
-      | inr q ↦
-          let had = get_other numbers i (ep * 256 + seq) (Some (length places)) n q.1 e in
-          subst (λ (p : Option Place). StandsAt p (generations_of hold ep seq arrivals))
-          (sym (place_before places new n (λ k f. below (ep * 256 + seq) k (rw (← f) had)))) (s ep seq n b had)
+          let gs = generations_of hold ep seq arrivals in
+          let n' : None ≡ n = get_own numbers i None n (slice_get_within numbers i (Some k) had) (rw q.1 at e) in
+          let d' : Some b ≡ d = get_own done i (Some b) d room (rw q.1 at f) in
+          let old = slice_get_old done i room in
+          let st : StandsIn p gs = subst (λ (r : Option Place). StandsAt r old.0 gs) its (s ep seq (Some k) old.0 low (rw q.1 had) (rw q.1 old.1)) in
+          rw (← n', ← d') (h gs st)
+      | inr q ↦ s ep seq n d low (get_other numbers i (ep * 256 + seq) None n q.1 e) (get_other done i (ep * 256 + seq) (Some b) d q.1 f)
     ]
 
 of_own : (a : Fragment) (arrivals : List Fragment) → of_id a.ep a.seq (a ∷ arrivals) ≡ a ∷ of_id a.ep a.seq arrivals
 of_own a arrivals = rw (eq-eqb a.ep a.ep refl, eq-eqb a.seq a.seq refl) refl
 
-pub its_place : (numbers : List (Option ℕ)) (places : List Place) (hold : ℤ) (arrivals : List Fragment) (a : Fragment) (k : ℕ) (p : Place) → a.seq < 256 → StandIn numbers places hold arrivals →
-    slice_get numbers (a.ep * 256 + a.seq) ≡ Some (Some k) → slice_get places k ≡ Some p → StandsIn p (generations_of hold a.ep a.seq arrivals)
-its_place numbers places hold arrivals a k p b s e f = subst (λ (q : Option Place). StandsAt q (generations_of hold a.ep a.seq arrivals)) f (s a.ep a.seq (Some k) b e)
-
-pub own_place : (numbers : List (Option ℕ)) (places : List Place) (hold : ℤ) (arrivals : List Fragment) (a : Fragment) (k : ℕ) (p : Place) → a.seq < 256 → StandIn numbers places hold (a ∷ arrivals) →
-    slice_get numbers (a.ep * 256 + a.seq) ≡ Some (Some k) → slice_get places k ≡ Some p →
+pub own_place : (numbers : List (Option ℕ)) (done : List (Option Begun)) (places : List Place) (hold : ℤ) (arrivals : List Fragment) (a : Fragment) (k : ℕ) (p : Place) → a.seq < 256 → a.ep * 256 + a.seq < length done →
+    StandIn numbers done places hold (a ∷ arrivals) → slice_get numbers (a.ep * 256 + a.seq) ≡ Some (Some k) → slice_get places k ≡ Some p →
     Stands p (start_in hold a.at (generations_of hold a.ep a.seq arrivals)) (placed (standing_before hold a arrivals) a)
-own_place numbers places hold arrivals a k p b s e f =
-    own hold (generations_of hold a.ep a.seq arrivals) a p (subst (λ (l : List Fragment). StandsIn p (generations hold l)) (of_own a arrivals) (its_place numbers places hold (a ∷ arrivals) a k p b s e f))
+own_place numbers done places hold arrivals a k p b room s e f =
+    let old = slice_get_old done (a.ep * 256 + a.seq) room in
+    let st : StandsIn p (generations_of hold a.ep a.seq (a ∷ arrivals)) = subst (λ (q : Option Place). StandsAt q old.0 (generations_of hold a.ep a.seq (a ∷ arrivals))) f (s a.ep a.seq (Some k) old.0 b e old.1) in
+    own hold (generations_of hold a.ep a.seq arrivals) a p (subst (λ (l : List Fragment). StandsIn p (generations hold l)) (of_own a arrivals) st)
 
--- A fragment in the place of its id, whose number is k.
-module _ (numbers : List (Option ℕ)) (places : List Place) (hold : ℤ) (arrivals : List Fragment) (a : Fragment) (k : ℕ) (new : Place) (low : a.seq < 256) (room : k < length places)
-    (its : slice_get numbers (a.ep * 256 + a.seq) ≡ Some (Some k)) (apart : AreApart numbers) (s : StandIn numbers places hold arrivals) where
-  its_own : (gs : List Generation) (n : Option ℕ) → slice_get numbers (a.ep * 256 + a.seq) ≡ Some n → StandsIn new gs → StandsAt (place_at (set places k new) n) gs
-  its_own gs n e h =
-      let q : Some k ≡ n = same_Some (Some k) n (sym its ∙ e) in
-      subst (λ (m : Option ℕ). StandsAt (place_at (set places k new) m) gs) q (subst (λ (p : Option Place). StandsAt p gs) (sym (put_own places k new room)) h)
+-- A fragment that begins a generation does so as if there were none.
+begins_anew : (hold : ℤ) (g : Generation) (gs : List Generation) (a : Fragment) (v : Verdict) (new : Place) → is_within hold g.start a.at ≡ false → Puts hold [] a v new → Puts hold (g ∷ gs) a v new
+begins_anew hold g gs a v new e h = rw e h
 
-  of_other : (ep seq : ℕ) (n : Option ℕ) → seq < 256 → slice_get numbers (ep * 256 + seq) ≡ Some n → ep * 256 + seq ≢ a.ep * 256 + a.seq → StandsAt (place_at (set places k new) n) (generations_of hold ep seq arrivals)
-  of_other ep seq n b e h =
-      subst (λ (p : Option Place). StandsAt p (generations_of hold ep seq arrivals))
-      (sym (place_other places k new n (λ q. h (apart (ep * 256 + seq) (a.ep * 256 + a.seq) k (rw (← q) e) its)))) (s ep seq n b e)
+-- A fragment in the place that its id has now: its number is k.
+module _ (old : Pool) (done : List (Option Begun)) (new : Pool) (hold : ℤ) (arrivals : List Fragment) (a : Fragment) (k : ℕ) (p next : Place) (v : Verdict) (low : a.seq < 256) (within : a.ep * 256 + a.seq < length done)
+    (opens : Opens old (a.ep * 256 + a.seq) k new) (its : slice_get new.places.items k ≡ Some p) (s : StandIn old.numbers.items done old.places.items hold arrivals)
+    (making : (n : Option ℕ) (d : Option Begun) → slice_get old.numbers.items (a.ep * 256 + a.seq) ≡ Some n → slice_get done (a.ep * 256 + a.seq) ≡ Some d → repeats n d hold a.at ≡ false)
+    (puts : (gs : List Generation) → StandsIn p gs → Puts hold gs a v next) where
+  anew : (gs : List Generation) (d : Option Begun) → StandsAt None d gs → repeats None d hold a.at ≡ false → Puts hold [] a v next → Puts hold gs a v next
+  anew gs None st r h = rw st h
+  anew [] (Some b) st r h = h
+  anew (g ∷ gs) (Some b) st r h = begins_anew hold g gs a v next (rw st.0 at r) h
 
-  pub stand_more : StandsIn new (with_fragment hold a (generations_of hold a.ep a.seq arrivals)) → StandIn numbers (set places k new) hold (a ∷ arrivals)
-  stand_more h ep seq n b e =
-      elim (eqb_tells a.ep ep) [
-        | inl q ↦ elim (eqb_tells a.seq seq) [
-          | inl r ↦
-              let i = subst (λ (x : ℕ). StandsIn new (with_fragment hold a (generations_of hold ep x arrivals))) r.1 (subst (λ (x : ℕ). StandsIn new (with_fragment hold a (generations_of hold x a.seq arrivals))) q.1 h) in
-              rw (q.0, r.0) (its_own (with_fragment hold a (generations_of hold ep seq arrivals)) n (rw (← q.1, ← r.1) at e) i)
-          | inr r ↦ rw (q.0, r.0) (of_other ep seq n b e (λ z. r.1 (omega (arith, z, q.1))))
-        ]
-        | inr q ↦ rw q.0 (of_other ep seq n b e (λ z. q.1 (omega (arith, z, b, low))))
+  pub puts_in : Puts hold (generations_of hold a.ep a.seq arrivals) a v next
+  puts_in =
+      let gs = generations_of hold a.ep a.seq arrivals in
+      let was = slice_get_old done (a.ep * 256 + a.seq) within in
+      elim (opens.own p its) [
+        | inl q ↦ puts gs (subst (λ (r : Option Place). StandsAt r was.0 gs) q.1 (s a.ep a.seq (Some k) was.0 low q.0 was.1))
+        | inr q ↦ anew gs was.0 (s a.ep a.seq None was.0 low q.0 was.1) (making None was.0 q.0 was.1) (puts [] q.1)
       ]
 
-  pub stand_still : StandsIn new (generations_of hold a.ep a.seq arrivals) → StandIn numbers (set places k new) hold arrivals
-  stand_still h ep seq n b e =
+  its_own : (gs : List Generation) (n : Option ℕ) (d : Option Begun) → slice_get new.numbers.items (a.ep * 256 + a.seq) ≡ Some n → StandsIn next gs → StandsAt (place_at (set new.places.items k next) n) d gs
+  its_own gs n d e h =
+      let q : Some k ≡ n = same_Some (Some k) n (sym opens.has ∙ e) in
+      subst (λ (m : Option ℕ). StandsAt (place_at (set new.places.items k next) m) d gs) q
+      (subst (λ (r : Option Place). StandsAt r d gs) (sym (put_own new.places.items k next (slice_get_within new.places.items k p its))) h)
+
+  of_other : (ep seq : ℕ) (n : Option ℕ) (d : Option Begun) → seq < 256 → slice_get new.numbers.items (ep * 256 + seq) ≡ Some n → slice_get done (ep * 256 + seq) ≡ Some d →
+      ep * 256 + seq ≢ a.ep * 256 + a.seq → StandsAt (place_at (set new.places.items k next) n) d (generations_of hold ep seq arrivals)
+  of_other ep seq n d b e f h =
+      let o = opens.others (ep * 256 + seq) n h e in
+      let away : n ≢ Some k = λ q. h (apart new.numbers.items new.free.items _ new.once (ep * 256 + seq) (a.ep * 256 + a.seq) k (rw q at e) opens.has) in
+      subst (λ (r : Option Place). StandsAt r d (generations_of hold ep seq arrivals)) (sym (place_other new.places.items k next n away ∙ o.1)) (s ep seq n d b o.0 f)
+
+  pub stand_more : StandIn new.numbers.items done (set new.places.items k next) hold (a ∷ arrivals)
+  stand_more ep seq n d b e f =
       elim (eqb_tells a.ep ep) [
         | inl q ↦ elim (eqb_tells a.seq seq) [
           | inl r ↦
-              let i = subst (λ (x : ℕ). StandsIn new (generations_of hold ep x arrivals)) r.1 (subst (λ (x : ℕ). StandsIn new (generations_of hold x a.seq arrivals)) q.1 h) in
-              its_own (generations_of hold ep seq arrivals) n (rw (← q.1, ← r.1) at e) i
-          | inr r ↦ of_other ep seq n b e (λ z. r.1 (omega (arith, z, q.1)))
+              let h = puts_in.1 in
+              let i = subst (λ (x : ℕ). StandsIn next (with_fragment hold a (generations_of hold ep x arrivals))) r.1 (subst (λ (x : ℕ). StandsIn next (with_fragment hold a (generations_of hold x a.seq arrivals))) q.1 h) in
+              rw (q.0, r.0) (its_own (with_fragment hold a (generations_of hold ep seq arrivals)) n d (rw (← q.1, ← r.1) at e) i)
+          | inr r ↦ rw (q.0, r.0) (of_other ep seq n d b e f (λ z. r.1 (omega (arith, z, q.1))))
         ]
-        | inr q ↦ of_other ep seq n b e (λ z. q.1 (omega (arith, z, b, low)))
+        | inr q ↦ rw q.0 (of_other ep seq n d b e f (λ z. q.1 (omega (arith, z, b, low))))
+      ]
+
+  pub stand_still : Rests (verdict_on hold a arrivals) (is_first hold a arrivals) → StandIn new.numbers.items done (set new.places.items k next) hold arrivals
+  stand_still t ep seq n d b e f =
+      elim (eqb_tells a.ep ep) [
+        | inl q ↦ elim (eqb_tells a.seq seq) [
+          | inl r ↦
+              let h = rested hold (generations_of hold a.ep a.seq arrivals) a next t puts_in.1 in
+              let i = subst (λ (x : ℕ). StandsIn next (generations_of hold ep x arrivals)) r.1 (subst (λ (x : ℕ). StandsIn next (generations_of hold x a.seq arrivals)) q.1 h) in
+              its_own (generations_of hold ep seq arrivals) n d (rw (← q.1, ← r.1) at e) i
+          | inr r ↦ of_other ep seq n d b e f (λ z. r.1 (omega (arith, z, q.1)))
+        ]
+        | inr q ↦ of_other ep seq n d b e f (λ z. q.1 (omega (arith, z, b, low)))
+      ]
+
+-- A fragment of a message that is whole, of an id without a place.
+whole_still : (s : List Fragment) (a : Fragment) → is_whole s ≡ true → refused s a ≡ Some Repeat
+whole_still s a e = rw e refl
+
+done_more : (hold : ℤ) (gs : List Generation) (a : Fragment) (b : Begun) → IsDone b.at.0 gs → is_within hold b.at.0 a.at ≡ true →
+    IsDone b.at.0 (with_fragment hold a gs) × (verdict (standing (held_in hold a.at gs)) a ≡ Repeat)
+done_more hold [] a b h w = absurd h
+done_more hold (g ∷ gs) a b h w =
+    let e : is_within hold g.start a.at ≡ true = rw h.0 at w in
+    let r = whole_still (standing g.held) a h.1 in
+    rw (e, r) ((h.0, h.1), refl)
+
+module _ (numbers : List (Option ℕ)) (done : List (Option Begun)) (places : List Place) (hold : ℤ) (arrivals : List Fragment) (a : Fragment) (low : a.seq < 256) (room : a.ep * 256 + a.seq < length numbers) (within : a.ep * 256 + a.seq < length done)
+    (its : (n : Option ℕ) (d : Option Begun) → slice_get numbers (a.ep * 256 + a.seq) ≡ Some n → slice_get done (a.ep * 256 + a.seq) ≡ Some d → repeats n d hold a.at ≡ true) (s : StandIn numbers done places hold arrivals) where
+  of_whole : (n : Option ℕ) (d : Option Begun) → repeats n d hold a.at ≡ true → StandsAt (place_at places n) d (generations_of hold a.ep a.seq arrivals) →
+      StandsAt (place_at places n) d (with_fragment hold a (generations_of hold a.ep a.seq arrivals)) × (verdict_on hold a arrivals ≡ Repeat)
+  of_whole None None r st = absurd (cc)
+  of_whole (Some k) d r st = absurd (cc)
+  of_whole None (Some b) r st = done_more hold (generations_of hold a.ep a.seq arrivals) a b st r
+
+  pub repeat_is : verdict_on hold a arrivals ≡ Repeat
+  repeat_is =
+      let n = slice_get_old numbers (a.ep * 256 + a.seq) room in
+      let d = slice_get_old done (a.ep * 256 + a.seq) within in
+      let o = of_whole n.0 d.0 (its n.0 d.0 n.1 d.1) (s a.ep a.seq n.0 d.0 low n.1 d.1) in
+      o.1
+
+  pub repeat_stands : StandIn numbers done places hold (a ∷ arrivals)
+  repeat_stands ep seq n d b e f =
+      elim (eqb_tells a.ep ep) [
+        | inl q ↦ elim (eqb_tells a.seq seq) [
+          | inl r ↦
+              let e' = rw (← q.1, ← r.1) at e in
+              let f' = rw (← q.1, ← r.1) at f in
+              let o = of_whole n d (its n d e' f') (s a.ep a.seq n d low e' f') in
+              let i = subst (λ (x : ℕ). StandsAt (place_at places n) d (with_fragment hold a (generations_of hold ep x arrivals))) r.1 (subst (λ (x : ℕ). StandsAt (place_at places n) d (with_fragment hold a (generations_of hold x a.seq arrivals))) q.1 o.0) in
+              rw (q.0, r.0) i
+          | inr r ↦ rw (q.0, r.0) (s ep seq n d b e f)
+        ]
+        | inr q ↦ rw q.0 (s ep seq n d b e f)
       ]
 
 -- a fragment that makes its message whole

@@ -1,15 +1,17 @@
 -- An assembly, and all the fragments that it has taken, the newest first.
-use Rattle.std.specs.Prelude.{◌≡◌, ℕ, ◌+◌, ◌*◌, ◌<◌, List, [], ◌∷◌, Option, Some, None, ℤ, slice_get}
+use Rattle.std.specs.Prelude.{◌≡◌, ℕ, ◌+◌, ◌*◌, ◌<◌, Bool, false, List, [], ◌∷◌, Option, Some, None, ℤ, slice_get}
 use Rattle.ecpri_fragments.specs.declared.verdict.Verdict.TheVariants as verdicts
 use Rattle.ecpri_fragments.specs.declared.place.Place.{Place}
+use Rattle.ecpri_fragments.specs.declared.place.Begun.{Begun}
 use Rattle.ecpri_fragments.specs.declared.assembly.Assembly.{Assembly}
 use Rattle.ecpri_fragments.specs.declared.assembly.Lease.{Lease}
 use Rattle.ecpri_fragments.specs.declared.assembly.Taken.{Taken}
 use Rattle.ecpri_fragments.specs.declared.assembly.Taken.TheVariants.{Stored, Whole, Repeat, Stray, TooLong}
-use Rattle.ecpri_fragments.specs.Generations.{Fragment, Generation, generations_of, is_first}
+use Rattle.ecpri_fragments.specs.Generations.{Fragment, Generation, generations_of, is_first, is_within}
 use Rattle.ecpri_fragments.specs.Verdicts.{Message, Rests, message, standing_before, verdict, verdict_on}
 use Rattle.ecpri_fragments.specs.Spans.{pieces_in}
-use Rattle.ecpri_fragments.specs.Places.{StandsIn}
+use Rattle.ecpri_fragments.specs.Places.{IsDone, StandsIn}
+use Rattle.ecpri_fragments.specs.Pools.{place_at}
 
 -- how many endpoints it serves, and how long a generation holds, in ticks
 abbrev pub endpoints_of : Assembly → ℕ
@@ -18,23 +20,26 @@ endpoints_of a = a.endpoints
 abbrev pub hold_of : Assembly → ℤ
 hold_of a = a.hold.0
 
--- the place of an id, if it has one
-abbrev pub place_at : List Place → Option ℕ → Option Place
-place_at places None = None
-place_at places (Some k) = slice_get places k
+-- A place is that of the last of these generations. An id without one had no fragment, or a message that is whole.
+abbrev pub StandsAt : Option Place → Option Begun → List Generation → Type 0
+StandsAt (Some p) d gs = StandsIn p gs
+StandsAt None (Some b) gs = IsDone b.at.0 gs
+StandsAt None None gs = gs ≡ []
 
--- a place is that of the last of these generations; an id without one had no fragment
-abbrev pub StandsAt : Option Place → List Generation → Type 0
-StandsAt None gs = gs ≡ []
-StandsAt (Some p) gs = StandsIn p gs
-
--- The place of each endpoint and sequence id is that of the last generation of these.
-abbrev pub StandIn : List (Option ℕ) → List Place → ℤ → List Fragment → Type 0
-StandIn numbers places hold arrivals = (ep seq : ℕ) (n : Option ℕ) → seq < 256 → slice_get numbers (ep * 256 + seq) ≡ Some n → StandsAt (place_at places n) (generations_of hold ep seq arrivals)
+-- Each endpoint and sequence id is in the last of its generations.
+abbrev pub StandIn : List (Option ℕ) → List (Option Begun) → List Place → ℤ → List Fragment → Type 0
+StandIn numbers done places hold arrivals = (ep seq : ℕ) (n : Option ℕ) (d : Option Begun) → seq < 256 → slice_get numbers (ep * 256 + seq) ≡ Some n → slice_get done (ep * 256 + seq) ≡ Some d →
+    StandsAt (place_at places n) d (generations_of hold ep seq arrivals)
 
 -- The assembly stands for these arrivals: what it answers from now on is what the definitions say after them.
 unfoldable pub StandsFor : Assembly → List Fragment → Type 0
-StandsFor a arrivals = StandIn a.numbers.items a.places.items a.hold.0 arrivals
+StandsFor a arrivals = StandIn a.pool.numbers.items a.done.items a.pool.places.items a.hold.0 arrivals
+
+-- whether a fragment that arrives now comes to a message that is whole, of an id without a place
+abbrev pub repeats : Option ℕ → Option Begun → ℤ → ℤ → Bool
+repeats None (Some b) hold at = is_within hold b.at.0 at
+repeats None None hold at = false
+repeats (Some k) d hold at = false
 
 -- the message that a lease shows
 abbrev pub message_of : Lease → Message

@@ -5,6 +5,7 @@ pub mod Verdicts
 pub mod Spans
 pub mod Places
 pub mod Numbers
+pub mod Pools
 pub mod Assemblies
 pub mod After
 pub mod Cut

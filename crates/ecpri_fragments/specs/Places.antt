@@ -71,6 +71,11 @@ abbrev pub StandsIn : Place → List Generation → Type 0
 StandsIn p [] = p.begun ≡ None
 StandsIn p (g ∷ gs) = Stands p g.start (standing g.held)
 
+-- The last of these generations began then, and its message is whole.
+abbrev pub IsDone : ℤ → List Generation → Type 0
+IsDone start [] = ⊥
+IsDone start (g ∷ gs) = (start ≡ g.start) × (is_whole (standing g.held) ≡ true)
+
 -- A fragment that comes where these stand has the verdict, and new is the place after it.
 abbrev pub Joins : ℤ → List Fragment → Fragment → Verdict → Place → Type 0
 Joins start s a v new = (v ≡ verdict s a) × Stands new start (placed s a)

@@ -1,8 +1,10 @@
 // The memory of all endpoints, and leases on it.
-ghost use Rattle.std.specs.Prelude.{◌≡◌, ℕ, ◌+◌, ◌*◌, ◌<◌, ◌≤◌, vec_len, vec_capacity, pos, ◌≤ℤ◌, neg_ℤ, ◌^◌};
-ghost use Rattle.ecpri_fragments.specs.Numbers.{AreApart, AreBelow, how_many};
+ghost use Rattle.std.specs.Prelude.{◌≡◌, ℕ, ◌+◌, ◌*◌, ◌<◌, ◌≤◌, vec_len, pos, ◌≤ℤ◌, neg_ℤ, ◌^◌};
+ghost use Rattle.std.specs.Option.{ForSome};
 
-use crate::place::Place;
+use crate::parts::is_within;
+use crate::place::{Begun, Place};
+use crate::pool::Pool;
 use crate::{SeqField, Verdict};
 use fh_base::NoMemory;
 use fh_time::Ticks;
@@ -12,23 +14,22 @@ use std::alloc::Global;
 const IDS: usize = 256;
 
 /// The fragments of all endpoints, in memory that is taken once: for each endpoint and each of its 256 sequence ids
-/// a place of 16,384 bytes, which holds the fragments of the last generation. The places are handed out in the order
-/// of the first fragments, so memory that no id needed yet is never touched.
+/// a place of 16,384 bytes. An id has a place from the first fragment of a message until the next call after its last,
+/// and is handed one that was given back where there is one: so memory that is never needed is never touched.
 #[derive(Drop)]
 pub struct Assembly {
     hold: Ticks,
     endpoints: usize,
-    // of each endpoint and sequence id, once it has a place
-    numbers: Vec<Option<u16>>,
-    places: Vec<Place>,
-    ghost few: { endpoints ≤ 16 },
+    pool: Pool,
+    // when the last generation of an id without a place began, whose message is whole
+    done: Vec<Option<Begun>>,
+    // whose fragment arrived last
+    last: Option<usize>,
     ghost hold_low: { pos 0 ≤ℤ hold.0 },
     ghost hold_high: { hold.0 ≤ℤ pos (2 ^ 56) },
-    ghost per_endpoint: { vec_len numbers ≡ endpoints * 256 },
-    ghost room: { vec_len numbers ≤ vec_capacity places },
-    ghost handed_out: { vec_len places ≡ how_many numbers.items },
-    ghost below: { AreBelow numbers.items (vec_len places) },
-    ghost apart: { AreApart numbers.items },
+    ghost per_endpoint: { vec_len pool.numbers ≡ endpoints * 256 },
+    ghost done_per_endpoint: { vec_len done ≡ endpoints * 256 },
+    ghost last_below: { ForSome last (λ id. id < endpoints * 256) },
 }
 
 /// A whole message, lent from the memory in which its pieces stand.
@@ -55,11 +56,13 @@ pub enum Taken<'a> {
 }
 
 impl Assembly {
-    ghost use Rattle.std.specs.Prelude.{Some, None, List, [], ◌∷◌, IfOk, slice_get};
+    ghost use Rattle.std.specs.Prelude.{Some, None, Option, false, List, [], ◌∷◌, IfOk, slice_get};
     ghost use Rattle.std.specs.Borrow.{sem};
     ghost use Rattle.ecpri_fragments.specs.Generations.{Fragment, fragment};
     ghost use Rattle.ecpri_fragments.specs.Verdicts.{verdict_on, standing_before};
-    ghost use Rattle.ecpri_fragments.specs.Assemblies.{StandsFor, AnswersAfter, Answers, Took, endpoints_of, hold_of};
+    ghost use Rattle.ecpri_fragments.specs.Assemblies.{StandsFor, AnswersAfter, Answers, Took, endpoints_of, hold_of, repeats};
+    ghost use Rattle.ecpri_fragments.specs.declared.place.Begun.{Begun};
+    ghost use Rattle.ecpri_fragments.specs.declared.verdict.Verdict.TheVariants.{Whole};
     ghost use Rattle.ecpri_fragments.specs.After.{EndsWith};
 
     /// Takes all memory, for at most 16 endpoints: 256 places of 16,384 bytes each. A generation holds what arrives
@@ -74,69 +77,103 @@ impl Assembly {
         ensures stands { IfOk result (λ a. StandsFor a []) }
     {
         let ids = endpoints * IDS;
-        let numbers = vec![in alloc; None; ids]?;
-        let places = Vec::with_capacity(alloc, ids)?;
+        let pool = Pool::make(alloc, ids)?;
+        let done = vec![in alloc; None; ids]?;
         Ok(Assembly {
             hold,
             endpoints,
-            numbers,
-            places,
+            pool,
+            done,
+            last: None,
         })
     }
 
-    /// Hands out the next place, to an id that has none.
-    #[inline(never)]
-    fn hand_out(&mut self, id: usize) -> usize
-        requires { slice_get self.old.numbers.items id ≡ Some None }
+    /// Gives back the place of an id, where its message is whole.
+    fn finish(&mut self, id: usize)
+        requires { id < vec_len self.old.pool.numbers }
         ensures same { (self.new.hold ≡ self.old.hold) × (self.new.endpoints ≡ self.old.endpoints) }
-        ensures has { slice_get self.new.numbers.items id ≡ Some (Some result) }
         ensures stands { (arrivals : List Fragment) → StandsFor self.old arrivals → StandsFor self.new arrivals }
     {
-        let number = self.places.len();
-        let pushed = self.places.push(Place::new()).is_ok();
-        prove!(pushed);
-        self.numbers[id] = Some(number as u16);
-        number
+        let Some(number) = self.pool.numbers[id] else {
+            return;
+        };
+        let Some(begun) = self.pool.places[number as usize].done() else {
+            return;
+        };
+        self.pool.give_back(id, number);
+        self.done[id] = Some(begun);
     }
 
-    /// The number of the place of an id, which it has from now on.
-    fn place_of(&mut self, id: usize) -> usize
-        requires { id < vec_len self.old.numbers }
+    /// Gives back the place of the last fragment's id, where its message is whole: its lease is over.
+    fn finish_last(&mut self)
         ensures same { (self.new.hold ≡ self.old.hold) × (self.new.endpoints ≡ self.old.endpoints) }
-        ensures has { slice_get self.new.numbers.items id ≡ Some (Some result) }
         ensures stands { (arrivals : List Fragment) → StandsFor self.old arrivals → StandsFor self.new arrivals }
     {
-        match self.numbers[id] {
-            Some(number) => number as usize,
-            None => self.hand_out(id),
+        if let Some(id) = self.last {
+            self.finish(id);
         }
     }
 
-    /// Lets the fragment into the place of its id, and says which one that is.
+    /// Whether what arrives now comes to a message that is whole, of an id without a place.
+    fn repeats(&self, id: usize, at: Ticks) -> bool
+        requires { id < vec_len self.now.pool.numbers }
+        ensures { (n : Option ℕ) (d : Option Begun) → slice_get self.now.pool.numbers.items id ≡ Some n → slice_get self.now.done.items id ≡ Some d → result ≡ repeats n d self.now.hold.0 at.0 }
+    {
+        if self.pool.numbers[id].is_some() {
+            return false;
+        }
+        match self.done[id] {
+            Some(begun) => is_within(begun.at, self.hold, at),
+            None => false,
+        }
+    }
+
+    /// Lets the fragment into a place of its id, and says which one that is.
+    fn place(&mut self, ep: usize, at: Ticks, seq: SeqField, bytes: &[u8]) -> (usize, Verdict)
+        requires endpoint { ep < endpoints_of self.old }
+        requires sub { seq.sub < 128 }
+        requires low { neg_ℤ (pos (2 ^ 56)) ≤ℤ at.0 }
+        requires high { at.0 ≤ℤ pos (2 ^ 56) }
+        requires making { (n : Option ℕ) (d : Option Begun) → slice_get self.old.pool.numbers.items (ep * 256 + seq.seq) ≡ Some n → slice_get self.old.done.items (ep * 256 + seq.seq) ≡ Some d → repeats n d self.old.hold.0 at.0 ≡ false }
+        ensures took { Took self.old self.new (fragment ep at seq bytes.now) }
+        ensures has { slice_get self.new.pool.numbers.items (ep * 256 + seq.seq) ≡ Some (Some result.0) }
+        ensures verdict { (arrivals : List Fragment) → StandsFor self.old arrivals → result.1 ≡ verdict_on (hold_of self.old) (fragment ep at seq bytes.now) arrivals }
+    {
+        let id = ep * IDS + seq.seq as usize;
+        let number = self.pool.place_of(id);
+        let verdict = self.pool.places[number].put(self.hold, at, seq, bytes);
+        self.last = Some(id);
+        (number, verdict)
+    }
+
+    /// Lets the fragment into its generation. The place of its id, where its message is whole now.
     fn put(&mut self, ep: usize, at: Ticks, seq: SeqField, bytes: &[u8]) -> (usize, Verdict)
         requires endpoint { ep < endpoints_of self.old }
         requires sub { seq.sub < 128 }
         requires low { neg_ℤ (pos (2 ^ 56)) ≤ℤ at.0 }
         requires high { at.0 ≤ℤ pos (2 ^ 56) }
         ensures took { Took self.old self.new (fragment ep at seq bytes.now) }
-        ensures has { slice_get self.new.numbers.items (ep * 256 + seq.seq) ≡ Some (Some result.0) }
+        ensures has { result.1 ≡ Whole → slice_get self.new.pool.numbers.items (ep * 256 + seq.seq) ≡ Some (Some result.0) }
         ensures verdict { (arrivals : List Fragment) → StandsFor self.old arrivals → result.1 ≡ verdict_on (hold_of self.old) (fragment ep at seq bytes.now) arrivals }
     {
-        let number = self.place_of(ep * IDS + seq.seq as usize);
-        let verdict = self.places[number].put(self.hold, at, seq, bytes);
-        (number, verdict)
+        self.finish_last();
+        if self.repeats(ep * IDS + seq.seq as usize, at) {
+            (0, Verdict::Repeat)
+        } else {
+            self.place(ep, at, seq, bytes)
+        }
     }
 
-    /// The answer to a fragment that had this verdict in the place of this number.
+    /// The answer to a fragment that had this verdict, in the place of this number where its message is whole now.
     fn taken(&self, number: usize, verdict: Verdict) -> Taken<'_>
-        requires { number < vec_len self.now.places }
-        ensures { (arrivals : List Fragment) (a : Fragment) → a.seq < 256 → slice_get self.now.numbers.items (a.ep * 256 + a.seq) ≡ Some (Some number)
+        requires { verdict ≡ Whole → number < vec_len self.now.pool.places }
+        ensures { (arrivals : List Fragment) (a : Fragment) → a.seq < 256 → a.ep < endpoints_of self.now → (verdict ≡ Whole → slice_get self.now.pool.numbers.items (a.ep * 256 + a.seq) ≡ Some (Some number))
             → StandsFor self.now (a ∷ arrivals) → verdict ≡ verdict_on (hold_of self.now) a arrivals → Answers (standing_before (hold_of self.now) a arrivals) a result }
     {
         match verdict {
             Verdict::Stored => Taken::Stored,
             Verdict::Whole => {
-                let place = &self.places[number];
+                let place = &self.pool.places[number];
                 let count = place.count();
                 Taken::Whole(Lease { place, count })
             }

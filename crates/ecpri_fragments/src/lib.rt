@@ -8,6 +8,7 @@ mod assembly;
 pub mod laws;
 mod parts;
 mod place;
+mod pool;
 mod sequence;
 mod verdict;
 

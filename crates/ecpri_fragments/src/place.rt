@@ -1,4 +1,4 @@
-// The memory for one endpoint and one sequence id.
+// The memory for the message of an id that is in the making.
 ghost use Rattle.std.specs.Prelude.{◌≡◌, ℕ, ◌+◌, ◌<◌, ◌≤◌, pos, ◌≤ℤ◌, neg_ℤ, ◌^◌};
 ghost use Rattle.std.specs.Option.{ForSome};
 ghost use Rattle.ecpri_fragments.specs.Spans.{Inside, EmptyFrom};
@@ -13,6 +13,14 @@ pub const MESSAGE_BYTES: usize = 16_384;
 
 /// How many subsequence ids there are.
 pub(crate) const SUBSEQUENCES: usize = 128;
+
+/// When a generation began.
+#[derive(Clone, Copy)]
+pub(crate) struct Begun {
+    pub(crate) at: Ticks,
+    ghost low: { neg_ℤ (pos (2 ^ 56)) ≤ℤ at.0 },
+    ghost high: { at.0 ≤ℤ pos (2 ^ 56) },
+}
 
 /// Where a piece lies in the memory of its place.
 #[derive(Clone, Copy)]
@@ -46,7 +54,7 @@ impl Place {
     ghost use Rattle.ecpri_fragments.specs.Generations.{Fragment, Generation, fragment, begins, start_in, held_in};
     ghost use Rattle.ecpri_fragments.specs.Verdicts.{refused, standing};
     ghost use Rattle.ecpri_fragments.specs.Spans.{span_of, bytes_of};
-    ghost use Rattle.ecpri_fragments.specs.Places.{Holds, Stands, StandsIn, Joins, Puts, table_of, refused_in};
+    ghost use Rattle.ecpri_fragments.specs.Places.{Holds, IsDone, Stands, StandsIn, Joins, Puts, table_of, refused_in};
 
     /// A place in which nothing stands.
     pub(crate) fn new() -> Place
@@ -62,6 +70,26 @@ impl Place {
             used: 0,
             spans: [None; SUBSEQUENCES],
             bytes: [0; MESSAGE_BYTES],
+        }
+    }
+
+    /// Forgets its generation, so that the next fragment begins one.
+    pub(crate) fn leave(&mut self)
+        ensures { StandsIn self.new [] }
+    {
+        self.begun = None;
+    }
+
+    /// When its generation began, where the message of that is whole.
+    pub(crate) fn done(&self) -> Option<Begun>
+        ensures { (gs : List Generation) → StandsIn self.now gs → ForSome result (λ b. IsDone b.at.0 gs) }
+    {
+        if !self.whole {
+            return None;
+        }
+        match self.begun {
+            Some(at) => Some(Begun { at }),
+            None => None,
         }
     }
 
