@@ -9,3 +9,4 @@ pub mod LineBounds
 pub mod Anyone
 pub mod Properness
 pub mod Texts
+pub mod Marks

@@ -2,11 +2,11 @@
 ghost use Rattle.std.specs.Prelude.{◌≡◌, ◌<◌};
 ghost use Rattle.fh_document.specs.Delivered.{way_number, class_number, number_of};
 
+use crate::frame_numbers::{is_marked, mark, reach};
 use air_source::Side;
 use arrayvec::ArrayVec;
 use fh_base::{List, NoMemory};
 use std::alloc::Global;
-use std::collections::BTreeSet;
 use std::marker::Model;
 use thiserror::Error;
 
@@ -113,12 +113,12 @@ pub fn frame_number(side: Side, class: Class3, k: u32) -> u64
     6 * u64::from(k) + (3 * way_number(side) + class_number(class))
 }
 
-/// Deliveries in the order of their lines, and the numbers of their frames in order, so that a frame is found at once. Contracts see
+/// Deliveries in the order of their lines, and the set of the numbers of their frames, so that a twin is found at once. Contracts see
 /// the deliveries as a list.
 #[derive(Drop)]
 pub(crate) struct Deliveries {
     items: List<Delivery>,
-    numbers: BTreeSet<u64, Global>,
+    numbers: Vec<u64>,
 }
 
 impl Model for Deliveries {
@@ -130,7 +130,7 @@ impl Model for Deliveries {
 
     ghost view = { λ d. d.items };
 
-    ghost invariant = { λ d. AreNumbers d.numbers d.items };
+    ghost invariant = { λ d. AreNumbers d.numbers.items d.items };
 }
 
 impl Deliveries {
@@ -143,7 +143,7 @@ impl Deliveries {
     {
         Deliveries {
             items: List::new(alloc),
-            numbers: BTreeSet::new(alloc),
+            numbers: Vec::new(alloc),
         }
     }
 
@@ -160,18 +160,13 @@ impl Deliveries {
         ensures items { IfOk result (λ new. self.new ≡ (if new then self.old ++ delivery ∷ [] else self.old)) }
     {
         let number = frame_number(delivery.side, delivery.class, delivery.k);
-        match self.numbers.insert(number) {
-            Ok(true) => {}
-            Ok(false) => return Ok(false),
-            Err(_) => return Err(NoMemory),
+        if is_marked(&self.numbers, number) {
+            return Ok(false);
         }
-        match self.items.push(delivery) {
-            Ok(()) => Ok(true),
-            Err(fault) => {
-                let _ = self.numbers.remove(&number);
-                Err(fault)
-            }
-        }
+        reach(&mut self.numbers, number)?;
+        self.items.push(delivery)?;
+        mark(&mut self.numbers, number);
+        Ok(true)
     }
 
     /// The deliveries, in the order of their lines.

@@ -13,6 +13,7 @@ mod deliver_lines;
 mod delivered;
 mod document;
 mod endpoint_lines;
+mod frame_numbers;
 mod generating;
 mod hex;
 mod inject_lines;
