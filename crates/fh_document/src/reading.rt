@@ -209,13 +209,20 @@ fn words_line(
 }
 
 #[tactic(auto, unfolding(crate::specs::Lines::line_of))]
-fn read_line(alloc: Global, reading: &mut Reading, n: usize, line: &[u8]) -> Result<(), LineFault>
+fn read_line<'a>(
+    alloc: Global,
+    reading: &mut Reading,
+    n: usize,
+    line: &'a [u8],
+    words: &mut Words<'a>,
+) -> Result<(), LineFault>
     ensures { Reads (line_of reading.old n line.now) result reading.new }
 {
     if !is_text(line) {
         return Err(LineFault::Why(DocWhy::NotText));
     }
-    words_line(alloc, reading, n, &Words::of(line))
+    words.read(line);
+    words_line(alloc, reading, n, words)
 }
 
 fn finished(reading: Reading) -> Document
@@ -259,10 +266,11 @@ pub fn read(alloc: Global, bytes: &[u8]) -> Result<Document, DocFault>
         });
     }
     let mut n: usize = 1;
+    let mut words = Words::new();
     let mut rest = Some(without_last_feed(bytes));
     'lines: while let Some(text) = rest {
         let (line, behind) = cut(b'\n', text);
-        match read_line(alloc, &mut reading, n, line) {
+        match read_line(alloc, &mut reading, n, line, &mut words) {
             Ok(()) => {}
             Err(LineFault::Why(why)) => return Err(DocFault::At { line: n, why }),
             Err(LineFault::NoMemory) => return Err(DocFault::NoMemory),

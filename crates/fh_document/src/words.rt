@@ -1,5 +1,5 @@
 // The words of a line, and the numbers that they spell.
-ghost use Rattle.std.specs.Prelude.{◌≡◌, ◌==◌, ℕ, ◌^◌, ◌<◌, ◌≤◌, ◌∷◌, length, IfSome, List};
+ghost use Rattle.std.specs.Prelude.{◌≡◌, ◌==◌, ℕ, ◌^◌, ◌<◌, ◌≤◌, ◌∷◌, length, map, take, IfSome, List};
 ghost use Rattle.std.specs.List.{slice_split};
 ghost use Rattle.fh_document.specs.Words.{words_of, number_in, is_text, without_last_feed, parts_left};
 ghost use Rattle.text_lines.specs.Numbers.{word_at};
@@ -26,6 +26,7 @@ pub(crate) fn is_text(line: &[u8]) -> bool
 }
 
 /// The bytes before the first that is the separator, and those behind it, where there is one.
+#[inline(always)]
 pub(crate) fn cut(separator: u8, bytes: &[u8]) -> (&[u8], Option<&[u8]>)
     ensures parts { slice_split (λ b. b == separator) bytes.now ≡ result.0.now ∷ parts_left separator result.1 }
     ensures shorter { IfSome result.1 (λ behind. length behind.now < length bytes.now) }
@@ -71,7 +72,27 @@ pub(crate) fn short_in(word: &[u8], low: u16, high: u16) -> Option<u16>
     Some(n as u16)
 }
 
-/// The words of a line: what stands between spaces. Contracts see them as a list of texts.
+/// Keeps the first words of a line, in place of those that were kept, and answers how many words the line has.
+fn keep<'a>(line: &'a [u8], kept: &mut ArrayVec<&'a [u8], KEPT>) -> usize
+    ensures count { result ≡ length (words_of line.entry.now) }
+    ensures first { map (λ x. x.now) kept.new.items ≡ take KEPT (words_of line.entry.now) }
+{
+    kept.clear();
+    let mut count: usize = 0;
+    let mut rest = Some(line);
+    'words: while let Some(text) = rest {
+        let (word, behind) = cut(b' ', text);
+        if !word.is_empty() {
+            let _ = kept.try_push(word);
+            count += 1;
+        }
+        rest = behind;
+    }
+    count
+}
+
+/// The words of a line: what stands between spaces. One value serves for all lines of a text, since to make and to move the kept words
+/// takes longer than to find them. Contracts see them as a list of texts.
 #[derive(Drop)]
 pub(crate) struct Words<'a> {
     line: &'a [u8],
@@ -95,22 +116,25 @@ impl<'a> Model for Words<'a> {
 }
 
 impl<'a> Words<'a> {
-    /// The words of a line.
-    pub(crate) fn of(line: &'a [u8]) -> Words<'a>
-        ensures { result ≡ words_of line.entry.now }
+    ghost use Rattle.std.specs.Prelude.{[]};
+
+    /// No words.
+    pub(crate) fn new() -> Words<'a>
+        ensures { result ≡ [] }
     {
-        let mut kept = ArrayVec::new();
-        let mut count: usize = 0;
-        let mut rest = Some(line);
-        'words: while let Some(text) = rest {
-            let (word, behind) = cut(b' ', text);
-            if !word.is_empty() {
-                let _ = kept.try_push(word);
-                count += 1;
-            }
-            rest = behind;
+        Words {
+            line: &[],
+            kept: ArrayVec::new(),
+            count: 0,
         }
-        Words { line, kept, count }
+    }
+
+    /// Reads the words of a line, in place of those that were there.
+    pub(crate) fn read(&mut self, line: &'a [u8])
+        ensures { self.new ≡ words_of line.entry.now }
+    {
+        self.line = line;
+        self.count = keep(line, &mut self.kept);
     }
 
     /// How many words there are.

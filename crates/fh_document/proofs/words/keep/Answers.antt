@@ -5,7 +5,7 @@ use Rattle.fh_document.specs.declared.words.TheConstants.{KEPT}
 use Rattle.fh_document.specs.Words.{parts_left, left_length}
 use Rattle.fh_document.proofs.Cuts.{words_left, next_word, shorter}
 use Rattle.fh_document.proofs.WordSteps.{push_more, push_few}
-use Rattle.fh_document.proofs.words.Words.of.Goals as goal
+use Rattle.fh_document.proofs.words.keep.Goals as goal
 
 pub words-preserved-then-not-is_empty : goal.words-preserved-then-not-is_empty
 words-preserved-then-not-is_empty c =

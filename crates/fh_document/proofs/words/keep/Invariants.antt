@@ -2,7 +2,7 @@ use Rattle.std.proofs.Common.{◌≡◌, ◌+◌, ◌≤◌, ◌++◌, length, m
 use Rattle.fh_document.specs.declared.words.TheConstants.{KEPT}
 use Rattle.fh_document.specs.Words.{words_of, left_length}
 use Rattle.fh_document.proofs.Cuts.{words_left}
-use Rattle.fh_document.proofs.words.Words.of.Given as goal
+use Rattle.fh_document.proofs.words.keep.Given as goal
 
 abbrev pub invariant-words : goal.invariant-words
 invariant-words l = record {
