@@ -1,4 +1,4 @@
-use Rattle.std.proofs.Common.{◌/◌, arith}
+use Rattle.std.proofs.Common.{arith}
 use Rattle.fh_document.specs.FrameNumbers.{is_marked}
 use Rattle.fh_document.proofs.Marks.{marks_past}
 use Rattle.fh_document.proofs.frame_numbers.is_marked.Goals as goal

@@ -1,4 +1,4 @@
-use Rattle.std.proofs.Common.{◌∙◌, ◌+◌, ◌/◌, arith, rules}
+use Rattle.std.proofs.Common.{◌+◌, ◌/◌, arith, rules}
 use Rattle.fh_document.proofs.Marks.{marks_grown}
 use Rattle.fh_document.proofs.frame_numbers.reach.Goals as goal
 
