@@ -2,10 +2,11 @@
 use Rattle.std.proofs.Common.{◌≡◌, ℕ, ◌+◌, ◌<◌, ◌≤◌, List, [], ◌∷◌, ◌++◌, length, take, drop, get_or, Bool, true, false, refl, sym, ap, ◌∙◌, subst, arith, length-take, nat_lt}
 use Rattle.std.specs.Prelude.{All, filter, if◌then◌else◌, Option, Some, None, IfSome}
 use Rattle.std.specs.Borrow.{Bor}
-use Rattle.std.specs.List.{slice_split}
+use Rattle.std.specs.List.{position_or_len, slice_split}
 use Rattle.std.proofs.lemmas.List.{get_or-take, take-append-drop, drop_more}
 use Rattle.std.proofs.lemmas.List.Elements.{All-from_get_or}
-use Rattle.std.proofs.lemmas.List.Splits.{slice_split_none, slice_split_at}
+use Rattle.std.proofs.lemmas.List.Splits.{slice_split_none, slice_split_at, slice_split_first}
+use Rattle.std.proofs.lemmas.List.Sums.{fails_before_first, position_or_len_is}
 use Rattle.std.proofs.lemmas.Bool.Decides.{nat_tests}
 use Rattle.memchr.specs.Find.{Nowhere, NoneBefore, Passes}
 use Rattle.line_words.specs.Words.{parts_left, left_length}
@@ -29,6 +30,19 @@ cut_first p xs k h passes =
     let parts : xs ≡ take k xs ++ get_or xs k 0 ∷ drop (k + 1) xs =
     sym (take-append-drop k xs) ∙ ap (λ zs. take k xs ++ zs) (drop_more xs k 0 h.high) in
     ap (slice_split p) parts ∙ slice_split_at p (take k xs) (get_or xs k 0) (drop (k + 1) xs) (fails_before p xs k h.before) passes
+
+-- the first place that passes, where none before it does
+pub position_at : (p : ℕ → Bool) (xs : List ℕ) (i : ℕ) → i < length xs → position_or_len p (take i xs) ≡ i → p (get_or xs i 0) ≡ true → position_or_len p xs ≡ i
+position_at p xs i lt none passes =
+    position_or_len_is p xs i 0 (omega arith)
+    (λ k low. subst (λ x. p x ≡ false) (get_or-take i xs k 0 low) (fails_before_first p (take i xs) k 0 (omega (arith, none)))) (λ within. passes)
+
+-- cut at the first place that passes
+pub cut_at : (p : ℕ → Bool) (xs : List ℕ) (k : ℕ) → k ≡ position_or_len p xs → k < length xs → slice_split p xs ≡ take k xs ∷ slice_split p (drop (k + 1) xs)
+cut_at p xs k is lt = subst (λ n. slice_split p xs ≡ take n xs ∷ slice_split p (drop (n + 1) xs)) (sym is) (slice_split_first p xs 0 (omega (arith, is)))
+
+pub not_cut : (p : ℕ → Bool) (xs : List ℕ) (k : ℕ) → k ≡ position_or_len p xs → length xs ≤ k → slice_split p xs ≡ xs ∷ []
+not_cut p xs k is past = slice_split_none p xs (All-from_get_or (λ x. p x ≡ false) xs 0 (λ i lt. fails_before_first p xs i 0 (omega (arith, is))))
 
 -- ---- words
 

@@ -1,11 +1,11 @@
 //! The lines of a text, and the words of a line.
 //!
 //! Lines are cut at line feeds, words at spaces; an empty word is none. [`Words`] takes no memory and looks at each byte of a
-//! line once.
+//! line once; [`first_word`] looks at the first word alone.
 #![tactic(auto)]
 
 mod parts;
 mod words;
 
 pub use parts::{cut, is_text, without_last_feed};
-pub use words::{KEPT, Words};
+pub use words::{KEPT, Words, first_word};

@@ -3,7 +3,7 @@ ghost use Rattle.std.specs.Prelude.{◌≡◌, ℕ, ◌<◌, length, List};
 ghost use Rattle.line_words.specs.Words.{words_of};
 ghost use Rattle.text_lines.specs.Numbers.{word_at};
 
-use crate::parts::cut;
+use crate::parts::cut_near;
 use arrayvec::ArrayVec;
 use std::marker::Model;
 
@@ -42,7 +42,7 @@ impl<'a> Words<'a> {
         let mut count: usize = 0;
         let mut rest = Some(line);
         'words: while let Some(text) = rest {
-            let (word, behind) = cut(b' ', text);
+            let (word, behind) = cut_near(b' ', text);
             if !word.is_empty() {
                 let _ = kept.try_push(word);
                 count += 1;
@@ -67,4 +67,20 @@ impl<'a> Words<'a> {
         let kept = self.kept.as_slice();
         if i < kept.len() { kept[i] } else { b"" }
     }
+}
+
+/// The first word of a line, or the empty one where it has none.
+#[inline]
+pub fn first_word(line: &[u8]) -> &[u8]
+    ensures { result.now ≡ word_at (words_of line.now) 0 }
+{
+    let mut rest = Some(line);
+    'words: while let Some(text) = rest {
+        let (word, behind) = cut_near(b' ', text);
+        if !word.is_empty() {
+            return word;
+        }
+        rest = behind;
+    }
+    b""
 }
