@@ -89,6 +89,10 @@ is_cell_word ws = bytes_eq (word_at ws 0) (codes "dl") || bytes_eq (word_at ws 0
 abbrev pub is_why_word : List (List ℕ) → Bool
 is_why_word ws = bytes_eq (word_at ws 0) (codes "why")
 
+-- the words that a line about cells begins with
+abbrev pub names_cells : List ℕ → Bool
+names_cells w = bytes_eq w (codes "dl") || bytes_eq w (codes "ul") || bytes_eq w (codes "why")
+
 -- the cells that a line is about, and how they look
 unfoldable pub cell_of : List Endpoint → List (List ℕ) → Option Cell
 cell_of es ws =

@@ -12,7 +12,7 @@ use Rattle.grid_lines.specs.declared.endpoints.Endpoint.{Endpoint}
 use Rattle.grid_lines.specs.declared.list.TheConstants.{MOST_ENDPOINTS}
 use Rattle.grid_lines.specs.declared.reading.Reading.{Reading}
 use Rattle.picture_lines.specs.declared.faults.TextRefusal.{TextRefusal}
-use Rattle.grid_lines.specs.Cells.{is_cell_word, is_why_word, cell_of}
+use Rattle.grid_lines.specs.Cells.{is_cell_word, is_why_word, names_cells, cell_of}
 use Rattle.grid_lines.specs.Endpoints.{endpoint_in, with_id}
 
 -- before the first line
@@ -52,6 +52,10 @@ same_after r (Err w) = Err w
 
 abbrev pub words_line : Reading → ℕ → List (List ℕ) → Result Reading TextWhy
 words_line r n ws = if n == 1 then same_after r (head_line ws) else later_line r ws
+
+-- the words that a line begins with which is not passed over
+abbrev pub is_used : List ℕ → Bool
+is_used w = names_cells w || bytes_eq w (codes "endpoint") || bytes_eq w (codes "end")
 
 -- the line with the number n, where the lines before it say r
 unfoldable pub line_of : Reading → ℕ → List ℕ → Result Reading TextWhy

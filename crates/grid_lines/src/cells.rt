@@ -1,7 +1,7 @@
 // Cells, and why a cell is missing or silent.
 ghost use Rattle.std.specs.Prelude.{◌≡◌, ◌+◌, ◌≤◌, ◌<◌, Some, IfSome, OnSome, length, slice_get};
 ghost use Rattle.fh_time.specs.Numbering.{slots_of, symbols_of};
-ghost use Rattle.grid_lines.specs.Cells.{is_up_in, symbol_in, prbs_in, has_names, why_missing, why_silent, look_of_why, look_of_cell, endpoint_at, start_at, cell_in, cell_at, is_cell_word, is_why_word, cell_of, IsWithin};
+ghost use Rattle.grid_lines.specs.Cells.{is_up_in, symbol_in, prbs_in, has_names, why_missing, why_silent, look_of_why, look_of_cell, endpoint_at, start_at, cell_in, cell_at, is_cell_word, is_why_word, names_cells, cell_of, IsWithin};
 
 use crate::classes::{Class, missing_class, silent_class};
 use crate::endpoints::Endpoint;
@@ -237,6 +237,14 @@ pub(crate) fn is_why_word(words: &Words<'_>) -> bool
     ensures { result ≡ is_why_word words.now }
 {
     words.word(0) == b"why".as_slice()
+}
+
+/// Whether a line that begins with a word is about cells: `dl`, `ul` or `why`. [`cell_of`] answers none for any other line.
+#[inline]
+pub fn names_cells(word: &[u8]) -> bool
+    ensures { result ≡ names_cells word.now }
+{
+    word == b"dl".as_slice() || word == b"ul".as_slice() || word == b"why".as_slice()
 }
 
 /// The cells that the words of a line are about, with one of the endpoints. None where it is no such line, or has not its form or its

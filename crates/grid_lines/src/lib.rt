@@ -11,7 +11,7 @@ mod endpoints;
 mod list;
 mod reading;
 
-pub use cells::{Cell, Look, cell_of};
+pub use cells::{Cell, Look, cell_of, names_cells};
 pub use classes::Class;
 pub use endpoints::Endpoint;
 pub use list::Endpoints;

@@ -1,11 +1,11 @@
 // A text, line by line.
 ghost use Rattle.std.specs.Prelude.{◌≡◌, ◌==◌, ◌||◌};
-ghost use Rattle.grid_lines.specs.Text.{start, has_id, endpoint_line, cell_line, used_line, later_line, words_line, line_of, grid_of, Refuses, Answers};
+ghost use Rattle.grid_lines.specs.Text.{start, has_id, endpoint_line, cell_line, used_line, later_line, words_line, is_used, line_of, grid_of, Refuses, Answers};
 
-use crate::cells::{cell_of, is_cell_word, is_why_word};
+use crate::cells::{cell_of, is_cell_word, is_why_word, names_cells};
 use crate::endpoints::endpoint_in;
 use crate::list::{Endpoints, MOST_ENDPOINTS, with_id};
-use line_words::{Words, cut, is_text, without_last_feed};
+use line_words::{Words, cut, first_word, is_text, without_last_feed};
 use picture_lines::{TextRefusal, TextWhy, head_line, is_end};
 
 /// What the lines so far say.
@@ -98,12 +98,23 @@ fn words_line(reading: &mut Reading, n: usize, words: &Words<'_>) -> Result<(), 
     later_line(reading, words)
 }
 
+/// Whether a line that begins with a word is used, or may be the end. All others are passed over by their first word.
+#[inline]
+fn is_used(word: &[u8]) -> bool
+    ensures { result ≡ is_used word.now }
+{
+    names_cells(word) || word == b"endpoint".as_slice() || word == b"end".as_slice()
+}
+
 #[tactic(auto, unfolding(crate::specs::Text::line_of))]
 fn read_line(reading: &mut Reading, n: usize, line: &[u8]) -> Result<(), TextWhy>
     ensures { Refuses (line_of reading.old n line.now) result reading.new }
 {
     if !is_text(line) {
         return Err(TextWhy::NotText);
+    }
+    if n > 1 && !reading.ended && !is_used(first_word(line)) {
+        return Ok(());
     }
     words_line(reading, n, &Words::of(line))
 }
