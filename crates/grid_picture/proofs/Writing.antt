@@ -1,15 +1,24 @@
 -- What was written of a picture: a text of three parts, of which the last is not empty.
-use Rattle.std.proofs.Common.{◌≡◌, ◌≢◌, ℕ, List, [], ◌∷◌, ◌++◌, Option, sym, ap, ◌∙◌, subst, append_assoc}
+use Rattle.std.proofs.Common.{◌≡◌, ◌≢◌, ℕ, List, [], ◌∷◌, ◌++◌, Option, None, Bool, true, false, refl, sym, ap, ◌∙◌, subst, append_assoc}
+use Rattle.std.specs.Prelude.{◌||◌, if◌then◌else◌, codes}
 use Rattle.std.specs.List.{flat_map}
+use Rattle.std.specs.Str.{bytes_eq}
 use Rattle.fh_base.specs.Told.{WritesFront, WritesPart}
 use Rattle.fh_base.proofs.Progress.{front_first, front_none}
 use Rattle.owed_bytes.specs.Owed.{Carried}
-use Rattle.owed_bytes.specs.CarriedLaws.{carried_more}
+use Rattle.owed_bytes.specs.CarriedLaws.{carried_more, carried_none}
 use Rattle.owed_bytes.proofs.Parts.{front_part, part_behind, part_first}
 use Rattle.owed_bytes.proofs.Carrying.{front_behind}
+use Rattle.text_lines.specs.Numbers.{word_at}
+use Rattle.line_words.specs.Words.{words_of}
+use Rattle.picture_lines.specs.Numbers.{taking}
+use Rattle.grid_lines.specs.Cells.{cell_at, cell_of, look_of_cell, look_of_why, names_cells}
+use Rattle.grid_lines.specs.declared.cells.Cell.{Cell}
 use Rattle.grid_lines.specs.declared.endpoints.Endpoint.{Endpoint}
 use Rattle.svg_elements.specs.Opening.{closing_text}
 use Rattle.grid_picture.specs.Bands.{foot_text, head_text}
+use Rattle.grid_picture.specs.Looks.{line_text}
+use Rattle.grid_picture.specs.Looks as looks
 use Rattle.grid_picture.specs.Picture.{cells_text, grid_picture}
 use Rattle.grid_picture.specs.declared.spans.Span.{Span}
 
@@ -24,6 +33,24 @@ closing_some h = absurd (cc h)
 foot_some : (es : List Endpoint) → foot_text es ≢ []
 unfolding foot_text
 foot_some es = append_some _ closing_text closing_some
+
+no_cells : (a b c : Bool) (x y : Option Cell) → (a || b || c) ≡ false → (if a || b then x else (if c then y else None)) ≡ None
+no_cells true b c x y h = absurd (cc h)
+no_cells false true c x y h = absurd (cc h)
+no_cells false false true x y h = absurd (cc h)
+no_cells false false false x y h = refl
+
+-- a line that is not about cells draws nothing
+draws_nothing : (s : Span) (es : List Endpoint) (line : List ℕ) → names_cells (word_at (words_of line) 0) ≡ false → line_text s es line ≡ []
+unfolding line_text cell_of
+draws_nothing s es line h =
+    let ws = words_of line in
+    let w = word_at ws 0 in
+    ap (λ c. looks.cells_text s es c ws)
+    (no_cells (bytes_eq w (codes "dl")) (bytes_eq w (codes "ul")) (bytes_eq w (codes "why")) (taking (look_of_cell ws) (cell_at es ws 0)) (taking (look_of_why ws) (cell_at es ws 1)) h)
+
+pub carries_nothing : (s : Span) (es : List Endpoint) (line : List ℕ) (w : Option (List ℕ)) (o : List ℕ) → names_cells (word_at (words_of line) 0) ≡ false → Carried w o (line_text s es line) w o
+carries_nothing s es line w o h = subst (λ (t : List ℕ). Carried w o t w o) (sym (draws_nothing s es line h)) (carried_none w o)
 
 -- one line more of what lines draw
 pub line_said : (f : List ℕ → List ℕ) (parts rest : List (List ℕ)) (line told whole : List ℕ) → parts ≡ line ∷ rest → told ++ flat_map f parts ≡ whole → (told ++ f line) ++ flat_map f rest ≡ whole

@@ -16,13 +16,13 @@ use crate::bands::{foot_of, head_of};
 use crate::looks::put_line;
 use crate::spans::Span;
 use fh_base::{Bytes, Sink, SinkFault};
-use grid_lines::{Endpoint, read_grid};
-use line_words::{cut, without_last_feed};
+use grid_lines::{Endpoint, names_cells, read_grid};
+use line_words::{cut, first_word, without_last_feed};
 use owed_bytes::OwedBytes;
 use picture_lines::DrawFault;
 use std::alloc::Global;
 
-/// Tells what a line draws, by a buffer that is emptied first.
+/// Tells what a line draws, by a buffer that is emptied first. A line that is not about cells is passed over by its first word.
 fn tell_line<K: Sink>(
     alloc: Global,
     buffer: &mut Bytes,
@@ -38,6 +38,9 @@ fn tell_line<K: Sink>(
     ensures front { OnErr result (WritesFront (K.written out.old) (K.written out.new) (owed.old ++ line_text span endpoints.now line.now)) }
     ensures cause { Counts (has_failed result) (K.faults out.old) (K.faults out.new) }
 {
+    if !names_cells(first_word(line)) {
+        return Ok(());
+    }
     buffer.clear();
     put_line(alloc, buffer, span, endpoints, line)?;
     owed.tell(buffer.as_slice(), out)
