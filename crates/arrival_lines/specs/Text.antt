@@ -1,5 +1,5 @@
 -- The windows and the arrivals of a text that `explain` wrote, or its first line that fails.
-use Rattle.std.specs.Prelude.{◌≡◌, ℕ, ◌+◌, ◌≤◌, List, [], ◌∷◌, ◌++◌, length, Bool, true, false, ◌==◌, nat_le, if◌then◌else◌, Option, Some, None, IfSome, Result, Ok, Err, codes}
+use Rattle.std.specs.Prelude.{◌≡◌, ℕ, ◌+◌, ◌≤◌, List, [], ◌∷◌, ◌++◌, length, Bool, true, false, ◌||◌, ◌==◌, nat_le, if◌then◌else◌, Option, Some, None, IfSome, Result, Ok, Err, codes}
 use Rattle.std.specs.List.{slice_split}
 use Rattle.std.specs.Option.{option_to_list}
 use Rattle.std.specs.Str.{bytes_eq}
@@ -92,6 +92,10 @@ abbrev pub words_line : Reading → ℕ → List (List ℕ) → Result (Reading 
 words_line r n ws =
     if n == 1 then heard r (silent (head_line ws))
     else (if nat_le n 9 then unheard (window_line r n ws) else later_line r ws)
+
+-- the words that a line after the windows begins with which is not passed over
+abbrev pub is_used : List ℕ → Bool
+is_used w = bytes_eq w (codes "frame") || bytes_eq w (codes "c") || bytes_eq w (codes "u") || bytes_eq w (codes "window") || bytes_eq w (codes "end")
 
 -- the line with the number n, where the lines before it say r
 unfoldable pub line_of : Reading → ℕ → List ℕ → Result (Reading × Option Arrival) TextWhy

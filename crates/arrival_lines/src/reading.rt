@@ -5,14 +5,14 @@ ghost use Rattle.fh_base.specs.declared.source.TheConstants.{INPUT_LIMIT};
 ghost use Rattle.arrival_lines.specs.Arrivals.{IsMargin};
 ghost use Rattle.arrival_lines.specs.Rows.{rows_of};
 ghost use Rattle.arrival_lines.specs.declared.arrivals.Arrival.{Arrival};
-ghost use Rattle.arrival_lines.specs.Text.{start, silent, frame_line, command_flow, is_down, command_arrival, command_line, data_flow, data_line, used_line, later_line, window_line, words_line, line_of, arrivals_of, Hears, Refuses, Gathers, HasPlace};
+ghost use Rattle.arrival_lines.specs.Text.{start, silent, frame_line, command_flow, is_down, command_arrival, command_line, data_flow, data_line, used_line, later_line, window_line, words_line, is_used, line_of, arrivals_of, Hears, Refuses, Gathers, HasPlace};
 
 use crate::arrivals::{Arrival, Flow, arrival_of};
 use crate::forms::{Command, Way, command_in, data_in, way_in};
 use crate::rows::Rows;
 use crate::windows::{Windows, window_in};
 use fh_base::INPUT_LIMIT;
-use line_words::{Words, cut, is_text, without_last_feed};
+use line_words::{Words, cut, first_word, is_text, without_last_feed};
 use picture_lines::{DrawFault, TextWhy, head_line, is_end};
 use std::alloc::Global;
 
@@ -201,6 +201,18 @@ fn words_line(
     later_line(reading, words)
 }
 
+/// Whether a line after the windows that begins with a word is used, or may be the end. All others are passed over by their first word.
+#[inline]
+fn is_used(word: &[u8]) -> bool
+    ensures { result ≡ is_used word.now }
+{
+    word == b"frame".as_slice()
+        || word == b"c".as_slice()
+        || word == b"u".as_slice()
+        || word == b"window".as_slice()
+        || word == b"end".as_slice()
+}
+
 #[tactic(auto, unfolding(crate::specs::Text::line_of))]
 fn read_line(reading: &mut Reading, n: usize, line: &[u8]) -> Result<Option<Arrival>, TextWhy>
     ensures value { Hears (line_of reading.old n line.now) result reading.new }
@@ -208,6 +220,9 @@ fn read_line(reading: &mut Reading, n: usize, line: &[u8]) -> Result<Option<Arri
 {
     if !is_text(line) {
         return Err(TextWhy::NotText);
+    }
+    if n > 9 && !reading.ended && !is_used(first_word(line)) {
+        return Ok(None);
     }
     words_line(reading, n, &Words::of(line))
 }
