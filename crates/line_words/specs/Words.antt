@@ -1,5 +1,5 @@
 -- The lines of a text and the words of a line (this project's profile: ASCII, line feeds, spaces).
-use Rattle.std.specs.Prelude.{ℕ, ◌+◌, ◌-◌, List, [], length, take, Bool, ◌&&◌, nat_lt, nat_le, ◌==◌, Option, if◌then◌else◌, filter, slice_index}
+use Rattle.std.specs.Prelude.{ℕ, ◌+◌, ◌-◌, List, [], length, take, Bool, ◌&&◌, ◌||◌, nat_lt, nat_le, ◌==◌, Option, if◌then◌else◌, filter, slice_index}
 use Rattle.std.specs.Borrow.{Bor}
 use Rattle.std.specs.Option.{option_map_or}
 use Rattle.std.specs.List.{slice_split, list_all}
@@ -19,6 +19,10 @@ words_of line = filter (λ w. nat_lt 0 (length w)) (slice_split (λ b. b == 32) 
 -- printable ASCII
 abbrev pub is_text : List ℕ → Bool
 is_text = list_all (λ b. nat_le 32 b && nat_le b 126)
+
+-- printable ASCII and line feeds
+abbrev pub are_texts : List ℕ → Bool
+are_texts = list_all (λ b. b == 10 || (nat_le 32 b && nat_le b 126))
 
 -- what is left of a text, cut at a separator; nothing where nothing is left
 abbrev pub parts_left : ℕ → Option (Bor (List ℕ)) → List (List ℕ)

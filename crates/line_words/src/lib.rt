@@ -7,5 +7,5 @@
 mod parts;
 mod words;
 
-pub use parts::{cut, is_text, without_last_feed};
+pub use parts::{are_texts, cut, is_text, is_text_in, without_last_feed};
 pub use words::{KEPT, Words, first_word};

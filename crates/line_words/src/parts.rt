@@ -1,9 +1,11 @@
 // The parts of a text between separators.
-ghost use Rattle.std.specs.Prelude.{◌≡◌, ◌==◌, ◌<◌, ◌≤◌, ◌∷◌, length, IfSome};
+ghost use Rattle.std.specs.Prelude.{◌≡◌, true, ◌==◌, ◌<◌, ◌≤◌, ◌∷◌, length, map, take, IfSome};
 ghost use Rattle.std.specs.List.{position_or_len, slice_split};
-ghost use Rattle.line_words.specs.Words.{is_text, without_last_feed, parts_left};
+ghost use Rattle.std.specs.Simd.Lanes.{mask_l};
+ghost use Rattle.line_words.specs.Words.{is_text, are_texts, without_last_feed, parts_left};
 
 use memchr::memchr;
+use std::simd::prelude::*;
 
 /// Whether each byte is printable ASCII, from 20 to 7e hex. All are looked at, many at once, wherever one is not.
 pub fn is_text(line: &[u8]) -> bool
@@ -14,6 +16,29 @@ pub fn is_text(line: &[u8]) -> bool
         text &= *b >= 32 && *b <= 126;
     }
     text
+}
+
+/// Whether each byte of a text is printable ASCII or a line feed, so that [`is_text`] holds of each of its lines.
+pub fn are_texts(text: &[u8]) -> bool
+    ensures { result ≡ are_texts text.now }
+{
+    let mut all = true;
+    for b in text {
+        all &= *b == 10 || (*b >= 32 && *b <= 126);
+    }
+    all
+}
+
+/// Whether a line is printable, of a text of which it may be known that all its lines are.
+#[inline(always)]
+pub fn is_text_in(all: bool, line: &[u8]) -> bool
+    requires { all ≡ true → is_text line.now ≡ true }
+    ensures { result ≡ is_text line.now }
+{
+    if all {
+        return true;
+    }
+    is_text(line)
 }
 
 /// The bytes before the first that is the separator, and those after it, where there is one.
@@ -27,10 +52,33 @@ pub fn cut(separator: u8, bytes: &[u8]) -> (&[u8], Option<&[u8]>)
     }
 }
 
-/// How many bytes stand before the first that is the separator, or all of them. They are looked at one by one, which is the
-/// shortest way where they are few.
+/// A bit for each of the first sixteen bytes: whether it is the separator.
 #[inline(always)]
-fn end_of(separator: u8, bytes: &[u8]) -> usize
+fn marks_of_16(separator: u8, bytes: &[u8]) -> u64
+    requires { 16 ≤ length bytes.now }
+    ensures { result ≡ mask_l (map (λ b. b == separator) (take 16 bytes.now)) }
+{
+    u8x16::from_slice(bytes)
+        .simd_eq(u8x16::splat(separator))
+        .to_bitmask()
+}
+
+/// How many of the first sixteen bytes stand before the first that is the separator, or all sixteen.
+#[inline(always)]
+fn end_in_16(separator: u8, bytes: &[u8]) -> usize
+    requires { 16 ≤ length bytes.now }
+    ensures { result < 16 → result ≡ position_or_len (λ b. b == separator) bytes.now }
+{
+    let marks = marks_of_16(separator, bytes);
+    if marks == 0 {
+        return 16;
+    }
+    marks.trailing_zeros() as usize
+}
+
+/// How many bytes stand before the first that is the separator, or all of them, looked at one by one.
+#[inline(always)]
+fn end_by_one(separator: u8, bytes: &[u8]) -> usize
     ensures value { result ≡ position_or_len (λ b. b == separator) bytes.now }
     ensures within { result ≤ length bytes.now }
 {
@@ -40,6 +88,21 @@ fn end_of(separator: u8, bytes: &[u8]) -> usize
         }
     }
     bytes.len()
+}
+
+/// How many bytes stand before the first that is the separator, or all of them.
+#[inline(always)]
+fn end_of(separator: u8, bytes: &[u8]) -> usize
+    ensures value { result ≡ position_or_len (λ b. b == separator) bytes.now }
+    ensures within { result ≤ length bytes.now }
+{
+    if bytes.len() >= 16 {
+        let end = end_in_16(separator, bytes);
+        if end < 16 {
+            return end;
+        }
+    }
+    end_by_one(separator, bytes)
 }
 
 /// What [`cut`] gives, for parts of a few bytes.

@@ -35,6 +35,7 @@ impl<'a> Model for Words<'a> {
 
 impl<'a> Words<'a> {
     /// The words of a line.
+    #[inline(always)]
     pub fn of(line: &'a [u8]) -> Words<'a>
         ensures { result ≡ words_of line.entry.now }
     {
