@@ -1,11 +1,12 @@
 // A text, line by line.
-ghost use Rattle.std.specs.Prelude.{◌≡◌, ◌==◌, ◌||◌};
+ghost use Rattle.std.specs.Prelude.{◌≡◌, ◌==◌, ◌||◌, true};
+ghost use Rattle.line_words.specs.Words.{is_text, words_of};
 ghost use Rattle.grid_lines.specs.Text.{start, has_id, endpoint_line, cell_line, used_line, later_line, words_line, is_used, line_of, grid_of, Refuses, Answers};
 
 use crate::cells::{cell_of, is_cell_word, is_why_word, names_cells};
 use crate::endpoints::endpoint_in;
 use crate::list::{Endpoints, MOST_ENDPOINTS, with_id};
-use line_words::{Words, cut, first_word, is_text, without_last_feed};
+use line_words::{Words, are_texts, cut, first_word, is_text_in, without_last_feed};
 use picture_lines::{TextRefusal, TextWhy, head_line, is_end};
 
 /// What the lines so far say.
@@ -106,17 +107,26 @@ fn is_used(word: &[u8]) -> bool
     names_cells(word) || word == b"endpoint".as_slice() || word == b"end".as_slice()
 }
 
+/// A printable line, with its words.
+fn split_line(reading: &mut Reading, n: usize, line: &[u8]) -> Result<(), TextWhy>
+    ensures { Refuses (words_line reading.old n (words_of line.now)) result reading.new }
+{
+    words_line(reading, n, &Words::of(line))
+}
+
+/// A line of a text of which it may be known that all lines are printable.
 #[tactic(auto, unfolding(crate::specs::Text::line_of))]
-fn read_line(reading: &mut Reading, n: usize, line: &[u8]) -> Result<(), TextWhy>
+fn read_line(reading: &mut Reading, n: usize, line: &[u8], plain: bool) -> Result<(), TextWhy>
+    requires { plain ≡ true → is_text line.now ≡ true }
     ensures { Refuses (line_of reading.old n line.now) result reading.new }
 {
-    if !is_text(line) {
+    if !is_text_in(plain, line) {
         return Err(TextWhy::NotText);
     }
     if n > 1 && !reading.ended && !is_used(first_word(line)) {
         return Ok(());
     }
-    words_line(reading, n, &Words::of(line))
+    split_line(reading, n, line)
 }
 
 /// Tests the lines of a text that `explain` wrote, and answers its endpoints.
@@ -135,10 +145,12 @@ pub fn read_grid(text: &[u8]) -> Result<Endpoints, TextRefusal>
         });
     }
     let mut n: usize = 1;
-    let mut rest = Some(without_last_feed(text));
+    let lines = without_last_feed(text);
+    let plain = are_texts(lines);
+    let mut rest = Some(lines);
     'lines: while let Some(piece) = rest {
         let (line, behind) = cut(b'\n', piece);
-        match read_line(&mut reading, n, line) {
+        match read_line(&mut reading, n, line, plain) {
             Ok(()) => {}
             Err(why) => return Err(TextRefusal { line: n, why }),
         }
