@@ -1,7 +1,8 @@
 // A text, line by line, with its arrivals counted.
-ghost use Rattle.std.specs.Prelude.{◌≡◌, ◌<◌, ◌≤◌, ◌++◌, List, length, IfSome, MatchResult};
+ghost use Rattle.std.specs.Prelude.{◌≡◌, ◌<◌, ◌≤◌, ◌++◌, List, length, true, IfSome, MatchResult};
 ghost use Rattle.std.specs.Option.{option_to_list};
 ghost use Rattle.fh_base.specs.declared.source.TheConstants.{INPUT_LIMIT};
+ghost use Rattle.line_words.specs.Words.{is_text, words_of};
 ghost use Rattle.arrival_lines.specs.Arrivals.{IsMargin};
 ghost use Rattle.arrival_lines.specs.Rows.{rows_of};
 ghost use Rattle.arrival_lines.specs.declared.arrivals.Arrival.{Arrival};
@@ -12,7 +13,7 @@ use crate::forms::{Command, Way, command_in, data_in, way_in};
 use crate::rows::Rows;
 use crate::windows::{Windows, window_in};
 use fh_base::INPUT_LIMIT;
-use line_words::{Words, cut, first_word, is_text, without_last_feed};
+use line_words::{Words, are_texts, cut, first_word, is_text_in, without_last_feed};
 use picture_lines::{DrawFault, TextWhy, head_line, is_end};
 use std::alloc::Global;
 
@@ -213,18 +214,33 @@ fn is_used(word: &[u8]) -> bool
         || word == b"end".as_slice()
 }
 
+/// A printable line, with its words.
+fn split_line(reading: &mut Reading, n: usize, line: &[u8]) -> Result<Option<Arrival>, TextWhy>
+    ensures value { Hears (words_line reading.old n (words_of line.now)) result reading.new }
+    ensures place { MatchResult result (λ a. IfSome a (λ arrival. HasPlace arrival)) (λ _. Unit {0}) }
+{
+    words_line(reading, n, &Words::of(line))
+}
+
+/// A line of a text of which it may be known that all lines are printable.
 #[tactic(auto, unfolding(crate::specs::Text::line_of))]
-fn read_line(reading: &mut Reading, n: usize, line: &[u8]) -> Result<Option<Arrival>, TextWhy>
+fn read_line(
+    reading: &mut Reading,
+    n: usize,
+    line: &[u8],
+    plain: bool,
+) -> Result<Option<Arrival>, TextWhy>
+    requires { plain ≡ true → is_text line.now ≡ true }
     ensures value { Hears (line_of reading.old n line.now) result reading.new }
     ensures place { MatchResult result (λ a. IfSome a (λ arrival. HasPlace arrival)) (λ _. Unit {0}) }
 {
-    if !is_text(line) {
+    if !is_text_in(plain, line) {
         return Err(TextWhy::NotText);
     }
     if n > 9 && !reading.ended && !is_used(first_word(line)) {
         return Ok(None);
     }
-    words_line(reading, n, &Words::of(line))
+    split_line(reading, n, line)
 }
 
 /// Counts an arrival, where there is one.
@@ -260,10 +276,12 @@ pub fn read_arrivals(alloc: Global, text: &[u8]) -> Result<Gathered, DrawFault>
         });
     }
     let mut n: usize = 1;
-    let mut rest = Some(without_last_feed(text));
+    let lines = without_last_feed(text);
+    let plain = are_texts(lines);
+    let mut rest = Some(lines);
     'lines: while let Some(piece) = rest {
         let (line, behind) = cut(b'\n', piece);
-        let arrival = match read_line(&mut reading, n, line) {
+        let arrival = match read_line(&mut reading, n, line, plain) {
             Ok(arrival) => arrival,
             Err(why) => return Err(DrawFault::Refused { line: n, why }),
         };

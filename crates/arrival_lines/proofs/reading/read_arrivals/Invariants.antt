@@ -1,5 +1,6 @@
-use Rattle.std.proofs.Common.{◌≡◌, ◌+◌, ◌≤◌, List, length}
+use Rattle.std.proofs.Common.{◌≡◌, ◌+◌, ◌≤◌, List, length, true}
 use Rattle.line_words.specs.Words.{parts_left, left_length}
+use Rattle.line_words.proofs.Texts.{AreTexts}
 use Rattle.arrival_lines.specs.declared.arrivals.Arrival.{Arrival}
 use Rattle.arrival_lines.specs.Rows.{rows_of}
 use Rattle.arrival_lines.specs.Text.{arrivals_of, read_from}
@@ -12,6 +13,7 @@ invariant-lines l = record {
   few : length came + left_length l.rest ≤ length l.text + 1;
   fits : l.n + left_length l.rest ≤ length l.text + 2;
   says : arrivals_of l.text ≡ read_from l.n l.reading came (parts_left 10 l.rest);
+  plain : l.plain ≡ true → AreTexts (parts_left 10 l.rest);
 }
 
 abbrev pub decreases-lines : goal.decreases-lines
