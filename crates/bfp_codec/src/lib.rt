@@ -14,4 +14,4 @@ pub use methods::{Format, Method, block_len};
 pub use packed_bytes::Packed;
 pub use packing::pack;
 pub use samples::{Iq, Wide};
-pub use unpacking::unpack;
+pub use unpacking::{unpack, unpack_into};

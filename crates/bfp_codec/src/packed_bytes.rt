@@ -3,7 +3,7 @@ ghost use Rattle.std.specs.Prelude.{◌≡◌, ◌≤◌, take};
 /// The bytes of a packed block, at most 49.
 #[derive(Clone, Copy, Debug)]
 pub struct Packed {
-    bytes: [u8; 49],
+    pub(crate) bytes: [u8; 49],
     len: usize,
     ghost in_range: { len ≤ 49 },
 }
@@ -12,13 +12,25 @@ impl Packed {
     ghost use Rattle.bfp_codec.specs.Bytes.{bytes_of};
     ghost use Rattle.bfp_codec.specs.Layout.{AreBytes};
 
+    /// So many zeros, over which a block is packed.
     #[inline(always)]
-    pub(crate) fn new(bytes: [u8; 49], len: usize) -> Packed
+    pub(crate) fn zeros(len: usize) -> Packed
         requires { len ≤ 49 }
-        ensures held { bytes_of result ≡ take len bytes }
-        ensures are_bytes { AreBytes bytes }
+        ensures { result.len ≡ len }
     {
-        Packed { bytes, len }
+        Packed {
+            bytes: [0; 49],
+            len,
+        }
+    }
+
+    /// The bytes that were packed.
+    #[inline(always)]
+    pub(crate) fn packed(self) -> Packed
+        ensures held { bytes_of result ≡ take self.len self.bytes }
+        ensures are_bytes { AreBytes self.bytes }
+    {
+        self
     }
 
     /// The bytes, as many as `block_len` says for the method.

@@ -206,7 +206,7 @@ pub fn pack(method: Method, block: &[Iq; 12]) -> Packed
     ensures again { unpacked_of method (packed_of method (samples_of (shrunk method block.now))) ≡ shrunk method block.now }
     ensures kept { KeepsBytes method → packed_of method (samples_of (shrunk method block.now)) ≡ bytes_of result }
 {
-    let mut bytes = [0; 49];
-    put_block(method, block, &mut bytes);
-    Packed::new(bytes, block_len(method))
+    let mut room = Packed::zeros(block_len(method));
+    put_block(method, block, &mut room.bytes);
+    room.packed()
 }

@@ -150,58 +150,56 @@ fn put_group(into: &mut [Wide; 12], part: usize, bytes: &[u8], at: usize, width:
     put_two(into, 4 * part + 2, last, width, e);
 }
 
-/// The samples of a block's bytes at a width: best where the compiler knows the width.
+/// Writes the samples of a block's bytes at a width: best where the compiler knows the width.
 #[inline(always)]
-fn unpack_at(width: u8, bytes: &[u8]) -> [Wide; 12]
+fn unpack_at(width: u8, bytes: &[u8], into: &mut [Wide; 12])
     requires low { 1 ≤ width }
     requires high { width ≤ 16 }
     requires len { length bytes.now ≡ 1 + 3 * width }
-    ensures { result ≡ unpacked_of (Bfp width) bytes.now }
+    ensures { into.new ≡ unpacked_of (Bfp width) bytes.now }
 {
     let e = exponent_at(bytes);
     let w = width as usize;
-    let mut values = [Wide { i: 0, q: 0 }; 12];
-    put_four(&mut values, 0, number_at(bytes, 1, w), width, e);
-    put_four(&mut values, 1, number_at(bytes, 1 + w, w), width, e);
-    put_four(&mut values, 2, number_at(bytes, 1 + 2 * w, w), width, e);
-    values
+    put_four(into, 0, number_at(bytes, 1, w), width, e);
+    put_four(into, 1, number_at(bytes, 1 + w, w), width, e);
+    put_four(into, 2, number_at(bytes, 1 + 2 * w, w), width, e);
 }
 
 /// The same at a width of 9 bits and more, by two words for each group of eight numbers.
 #[inline(always)]
-fn unpack_words(width: u8, bytes: &[u8]) -> [Wide; 12]
+fn unpack_words(width: u8, bytes: &[u8], into: &mut [Wide; 12])
     requires low { 9 ≤ width }
     requires high { width ≤ 16 }
     requires len { length bytes.now ≡ 1 + 3 * width }
-    ensures { result ≡ unpacked_of (Bfp width) bytes.now }
+    ensures { into.new ≡ unpacked_of (Bfp width) bytes.now }
 {
     let e = exponent_at(bytes);
     let w = width as usize;
-    let mut values = [Wide { i: 0, q: 0 }; 12];
-    put_group(&mut values, 0, bytes, 1, width, e);
-    put_group(&mut values, 1, bytes, 1 + w, width, e);
-    put_group(&mut values, 2, bytes, 1 + 2 * w, width, e);
-    values
+    put_group(into, 0, bytes, 1, width, e);
+    put_group(into, 1, bytes, 1 + w, width, e);
+    put_group(into, 2, bytes, 1 + 2 * w, width, e);
 }
 
-/// The samples of a block's bytes at a width, with a kernel of its own for each from 8 on.
-fn unpack_bfp(width: u8, bytes: &[u8]) -> [Wide; 12]
+/// Writes the samples of a block's bytes at a width, with a kernel of its own for each from 8 on. A call of its own, so that four
+/// numbers are stored at once wherever it is called.
+#[inline(never)]
+fn unpack_bfp(width: u8, bytes: &[u8], into: &mut [Wide; 12])
     requires low { 1 ≤ width }
     requires high { width ≤ 16 }
     requires len { length bytes.now ≡ 1 + 3 * width }
-    ensures { result ≡ unpacked_of (Bfp width) bytes.now }
+    ensures { into.new ≡ unpacked_of (Bfp width) bytes.now }
 {
     match width {
-        9 => unpack_words(9, bytes),
-        14 => unpack_words(14, bytes),
-        8 => unpack_at(8, bytes),
-        12 => unpack_words(12, bytes),
-        16 => unpack_words(16, bytes),
-        10 => unpack_words(10, bytes),
-        11 => unpack_words(11, bytes),
-        13 => unpack_words(13, bytes),
-        15 => unpack_words(15, bytes),
-        _ => unpack_at(width, bytes),
+        9 => unpack_words(9, bytes, into),
+        14 => unpack_words(14, bytes, into),
+        8 => unpack_at(8, bytes, into),
+        12 => unpack_words(12, bytes, into),
+        16 => unpack_words(16, bytes, into),
+        10 => unpack_words(10, bytes, into),
+        11 => unpack_words(11, bytes, into),
+        13 => unpack_words(13, bytes, into),
+        15 => unpack_words(15, bytes, into),
+        _ => unpack_at(width, bytes, into),
     }
 }
 
@@ -224,19 +222,30 @@ fn plain_at(bytes: &[u8], at: usize) -> i32
     signed_bits(pair_at(bytes, at) as u128, 16)
 }
 
-/// The samples of the bytes of a block that is not compressed.
-fn unpack_plain(bytes: &[u8]) -> [Wide; 12]
+/// Writes the samples of the bytes of a block that is not compressed.
+fn unpack_plain(bytes: &[u8], into: &mut [Wide; 12])
     requires { length bytes.now ≡ 48 }
-    ensures { result ≡ unpacked_of Plain bytes.now }
+    ensures { into.new ≡ unpacked_of Plain bytes.now }
 {
-    let mut values = [Wide { i: 0, q: 0 }; 12];
     for k in 0..12 {
-        values[k] = Wide {
+        into[k] = Wide {
             i: plain_at(bytes, 4 * k),
             q: plain_at(bytes, 4 * k + 2),
         };
     }
-    values
+}
+
+/// Writes the samples of a block's bytes where they are kept, over all that was there: those that `unpack` answers.
+/// It takes no memory.
+pub fn unpack_into(method: Method, bytes: &[u8], into: &mut [Wide; 12])
+    requires width { HasWidth method }
+    requires len { length bytes.now ≡ length_of method }
+    ensures { into.new ≡ unpacked_of method bytes.now }
+{
+    match method {
+        Method::Plain => unpack_plain(bytes, into),
+        Method::Bfp(width) => unpack_bfp(width, bytes, into),
+    }
 }
 
 /// The samples of a block's bytes: for block floating point each mantissa times 2 to the exponent.
@@ -246,8 +255,7 @@ pub fn unpack(method: Method, bytes: &[u8]) -> [Wide; 12]
     requires len { length bytes.now ≡ length_of method }
     ensures { result ≡ unpacked_of method bytes.now }
 {
-    match method {
-        Method::Plain => unpack_plain(bytes),
-        Method::Bfp(width) => unpack_bfp(width, bytes),
-    }
+    let mut samples = [Wide { i: 0, q: 0 }; 12];
+    unpack_into(method, bytes, &mut samples);
+    samples
 }

@@ -4,7 +4,7 @@ use Rattle.bfp_codec.proofs.Laws.{length_packed, laid_out, unpacked_packed, shru
 use Rattle.bfp_codec.proofs.packing.pack.Goals as goal
 
 pub returns-clause-bytes : goal.returns-clause-bytes
-returns-clause-bytes c = c.new.ensures.held ∙ ap (λ n. take n c.put_block.new.into) c.block_len.ensures.value ∙ c.put_block.ensures.bytes c.new.ensures.are_bytes
+returns-clause-bytes c = c.packed.ensures.held ∙ ap (λ n. take n c.put_block.new.into) (c.zeros-room.ensures ∙ c.block_len.ensures.value) ∙ c.put_block.ensures.bytes c.packed.ensures.are_bytes
 
 pub returns-clause-length : goal.returns-clause-length
 returns-clause-length c = ap length (returns-clause-bytes c) ∙ length_packed c.args.method c.args.block.now

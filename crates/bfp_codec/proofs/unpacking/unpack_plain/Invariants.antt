@@ -5,6 +5,6 @@ use Rattle.bfp_codec.proofs.unpacking.unpack_plain.Given as goal
 
 abbrev pub invariant-loop-k : goal.invariant-loop-k
 invariant-loop-k l = record {
-  len : length l.values ≡ 12;
-  done : (j : ℕ) → j < l.k → get_or l.values (0 + j) no_wide ≡ pair_of (plain_in l.fn.bytes) j;
+  len : length l.into ≡ 12;
+  done : (j : ℕ) → j < l.k → get_or l.into (0 + j) no_wide ≡ pair_of (plain_in l.fn.bytes) j;
 }
