@@ -1,5 +1,5 @@
 // Allocations against the claims of their slot.
-ghost use Rattle.std.specs.Prelude.{◌≡◌, ℕ, ◌+◌, ◌*◌, ◌^◌, ◌<◌, ◌≤◌, ◌&&◌, false, get_or, vec_capacity, if◌then◌else◌, Some};
+ghost use Rattle.std.specs.Prelude.{◌≡◌, ℕ, ◌+◌, ◌*◌, ◌^◌, ◌<◌, ◌≤◌, ◌&&◌, false, get_or, vec_capacity, vec_len, if◌then◌else◌, Some};
 ghost use Rattle.fh_time.specs.Carrier.{is_outside};
 ghost use Rattle.unit_model.specs.Claims.{first_prb, prb_count, cell_of, in_mask, is_from, is_claimed, is_overlapped, claim_of};
 ghost use Rattle.unit_model.specs.Commands.{is_uplink};
@@ -10,7 +10,7 @@ ghost use Rattle.slot_rings.specs.Verdicts.{repeats_by, overlaps_by, verdict_by}
 ghost use Rattle.fh_time.specs.declared.symbols.TheConstants.{SLOT_SYMBOLS};
 
 use crate::claims::{CellClaims, NONE};
-use crate::lists::reach;
+use crate::lists::{extend_from, reach};
 use crate::rows::{Row, note, row_at};
 use fh_time::SLOT_SYMBOLS;
 use unit_model::{Allocation, CommandVerdict, SLOT_SECTIONS};
@@ -173,8 +173,21 @@ pub(crate) fn verdict(
     }
 }
 
-/// Claims the cells from number `from` on.
-fn claim_row(claims: &mut Vec<CellClaims>, from: usize, count: usize, a: &Allocation)
+/// Claims the cells from number `from` on, of which nothing was written yet: all are the same.
+fn claim_fresh(claims: &mut Vec<CellClaims>, from: usize, count: usize, a: &Allocation)
+    requires fresh { vec_len claims.old ≤ from }
+    requires room { from + count ≤ vec_capacity claims.old }
+    requires small { from + count < 2 ^ 32 }
+    ensures each { (k re : ℕ) → re < 12 → claim_in (get_or claims.new.items k no_claims) re
+        ≡ (if is_from from count k && in_mask a.now.mask re then Some (claim_of a.now) else claim_in (get_or claims.old.items k no_claims) re) }
+    ensures capacity { vec_capacity claims.old ≤ vec_capacity claims.new }
+{
+    let one = NONE.with(a.section, a.mask, a.idle);
+    extend_from(claims, from, count, NONE, one);
+}
+
+/// Claims the cells from number `from` on, whatever was claimed of them.
+fn claim_more(claims: &mut Vec<CellClaims>, from: usize, count: usize, a: &Allocation)
     requires room { from + count ≤ vec_capacity claims.old }
     requires small { from + count < 2 ^ 32 }
     requires free { (k : ℕ) → from ≤ k → k < from + count
@@ -186,6 +199,23 @@ fn claim_row(claims: &mut Vec<CellClaims>, from: usize, count: usize, a: &Alloca
     reach(claims, from + count, NONE);
     for k in from..from + count {
         claims[k] = claims[k].with(a.section, a.mask, a.idle);
+    }
+}
+
+/// Claims the cells from number `from` on.
+fn claim_row(claims: &mut Vec<CellClaims>, from: usize, count: usize, a: &Allocation)
+    requires room { from + count ≤ vec_capacity claims.old }
+    requires small { from + count < 2 ^ 32 }
+    requires free { (k : ℕ) → from ≤ k → k < from + count
+        → is_overlapped a.now.section a.now.mask (claim_in (get_or claims.old.items k no_claims)) ≡ false }
+    ensures each { (k re : ℕ) → re < 12 → claim_in (get_or claims.new.items k no_claims) re
+        ≡ (if is_from from count k && in_mask a.now.mask re then Some (claim_of a.now) else claim_in (get_or claims.old.items k no_claims) re) }
+    ensures capacity { vec_capacity claims.old ≤ vec_capacity claims.new }
+{
+    if claims.len() <= from {
+        claim_fresh(claims, from, count, a);
+    } else {
+        claim_more(claims, from, count, a);
     }
 }
 

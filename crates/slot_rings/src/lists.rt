@@ -1,5 +1,6 @@
 // Lists that end where nothing was written yet.
-ghost use Rattle.std.specs.Prelude.{◌≡◌, ℕ, ◌+◌, ◌≤◌, get_or, vec_len, vec_capacity};
+ghost use Rattle.std.specs.Prelude.{◌≡◌, ℕ, ◌+◌, ◌<◌, ◌≤◌, ◌^◌, get_or, vec_len, vec_capacity, if◌then◌else◌};
+ghost use Rattle.unit_model.specs.Claims.{is_from};
 
 /// Fills a list up with blanks to a length for which it has room.
 pub(crate) fn reach<T: Copy + Drop>(list: &mut Vec<T>, len: usize, blank: T)
@@ -13,6 +14,25 @@ pub(crate) fn reach<T: Copy + Drop>(list: &mut Vec<T>, len: usize, blank: T)
         let filled = list.resize(len, blank).is_ok();
         prove!(filled);
     }
+}
+
+/// Fills a list that ends at a place or before it up with blanks to that place, and then with so many of one item.
+pub(crate) fn extend_from<T: Copy + Drop>(
+    list: &mut Vec<T>,
+    from: usize,
+    count: usize,
+    blank: T,
+    item: T,
+)
+    requires ends { vec_len list.old ≤ from }
+    requires room { from + count ≤ vec_capacity list.old }
+    requires small { from + count < 2 ^ 32 }
+    ensures each { (k : ℕ) → get_or list.new.items k blank ≡ (if is_from from count k then item else get_or list.old.items k blank) }
+    ensures capacity { vec_capacity list.old ≤ vec_capacity list.new }
+{
+    reach(list, from, blank);
+    let filled = list.resize(from + count, item).is_ok();
+    prove!(filled);
 }
 
 /// What a list has from one number on.

@@ -18,7 +18,7 @@ use crate::judging::{claim, claims_at, is_uplink, verdict};
 use crate::lists::reach;
 use crate::packed::PackedRun;
 use crate::rows::{EMPTY, Row};
-use bfp_codec::{Method, unpack};
+use bfp_codec::{Method, Wide, unpack_into};
 use fh_base::NoMemory;
 use fh_time::{SLOT_SYMBOLS, Slot};
 use std::alloc::Global;
@@ -110,6 +110,31 @@ fn fill(blocks: &mut Vec<Option<Block>>, k: usize, block: &Block)
     prove!(pushed);
 }
 
+/// Fills a list of blocks up to the one with number `k`: most often one more.
+fn reach_next(blocks: &mut Vec<Option<Block>>, k: usize)
+    requires { k < vec_capacity blocks.old }
+    ensures same { (i : ℕ) → get_or blocks.new.items i None ≡ get_or blocks.old.items i None }
+    ensures len { k < vec_len blocks.new }
+    ensures capacity { vec_capacity blocks.old ≤ vec_capacity blocks.new }
+{
+    if blocks.len() <= k {
+        reach(blocks, k, None);
+        let pushed = blocks.push(None).is_ok();
+        prove!(pushed);
+    }
+}
+
+/// Makes a place that of a block with the samples of a packed PRB, which is unpacked there.
+fn unpack_block(block: &mut Option<Block>, id: u16, method: Method, packed: &[u8])
+    requires width { HasWidth method }
+    requires len { length packed.now ≡ length_of method }
+    ensures { block.new ≡ Some (record { id = id; samples = unpacked_of method packed.now }) }
+{
+    let samples = [Wide { i: 0, q: 0 }; 12];
+    let kept = block.insert(Block { id, samples });
+    unpack_into(method, packed, &mut kept.samples);
+}
+
 /// Writes the samples of a packed PRB where no block is yet.
 fn fill_packed(blocks: &mut Vec<Option<Block>>, k: usize, id: u16, method: Method, packed: &[u8])
     requires room { k < vec_capacity blocks.old }
@@ -119,12 +144,11 @@ fn fill_packed(blocks: &mut Vec<Option<Block>>, k: usize, id: u16, method: Metho
     ensures others { (i : ℕ) → i ≢ k → get_or blocks.new.items i None ≡ get_or blocks.old.items i None }
     ensures capacity { vec_capacity blocks.old ≤ vec_capacity blocks.new }
 {
-    if k < blocks.len() && blocks[k].is_some() {
-        return;
+    reach_next(blocks, k);
+    let block = &mut blocks[k];
+    if block.is_none() {
+        unpack_block(block, id, method, packed);
     }
-    let samples = unpack(method, packed);
-    reach(blocks, k + 1, None);
-    blocks[k] = Some(Block { id, samples });
 }
 
 /// Writes the samples of packed PRBs from number `from` on, each where no block is yet.

@@ -1,7 +1,7 @@
 use Rattle.std.proofs.Common.{◌≡◌, ℕ, ◌+◌, ◌-◌, ◌<◌, ◌≤◌, get_or, vec_len, vec_capacity, if◌then◌else◌, ◌&&◌, Some}
 use Rattle.unit_model.specs.Claims.{in_mask, is_from, claim_of}
 use Rattle.slot_rings.specs.Places.{claim_in, no_claims}
-use Rattle.slot_rings.proofs.judging.claim_row.Given as goal
+use Rattle.slot_rings.proofs.judging.claim_more.Given as goal
 
 abbrev pub invariant-loop-k : goal.invariant-loop-k
 invariant-loop-k l = record {
