@@ -3,6 +3,7 @@ pub mod MaskLemmas
 pub mod JudgeLemmas
 pub mod PlaceLemmas
 pub mod SeenLemmas
+pub mod StartLemmas
 pub mod RingLemmas
 pub mod RowLemmas
 pub mod PendingLemmas

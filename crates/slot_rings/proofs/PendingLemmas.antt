@@ -6,7 +6,6 @@ use Rattle.std.proofs.lemmas.List.{get_or_read}
 use Rattle.fh_time.specs.declared.values.Slot.{Slot}
 use Rattle.fh_time.specs.Numbering.{symbols_of}
 use Rattle.unit_model.specs.Claims.{cell_at, is_from, names, same_way}
-use Rattle.unit_model.specs.Lists.{some}
 use Rattle.unit_model.specs.Radiated.{is_used, used_below, used_mask}
 use Rattle.unit_model.specs.declared.allocations.Allocation.{Allocation}
 use Rattle.unit_model.specs.declared.cells.Cell.{Cell}
@@ -14,7 +13,8 @@ use Rattle.unit_model.specs.declared.cells.Claim.{Claim}
 use Rattle.unit_model.specs.declared.verdicts.CommandVerdict.TheVariants.{Accepted}
 use Rattle.slot_rings.specs.Pending.{IsFlagged, due_in, flag_at}
 use Rattle.slot_rings.specs.Places.{PlaceValue, blank, cell_number, claim_in, empty_place, is_due, is_in_use, is_place_of, reported_seen, claims_seen, no_claims, opened, place_claim}
-use Rattle.slot_rings.specs.Rings.{IsRing, RingValue, has_slot, place_index, place_of, ring_claim, ring_reported}
+use Rattle.slot_rings.specs.Rings.{IsRing, RingValue, has_slot, place_index, place_of}
+use Rattle.slot_rings.specs.Starts.{ring_due}
 use Rattle.slot_rings.specs.Verdicts.{claim_after}
 use Rattle.slot_rings.specs.declared.claims.CellClaims.{CellClaims}
 use Rattle.slot_rings.proofs.PlaceLemmas.{no_claim}
@@ -58,7 +58,7 @@ no_due g d none = due_less (λ re. None) g d (λ re below off. ap is_used (none 
 
 -- ---- the cells of a symbol, as a place changes
 
-due_empty : (prbs s : ℕ) (p : PlaceValue) → p.down ≡ [] → due_in prbs p s ≡ false
+pub due_empty : (prbs s : ℕ) (p : PlaceValue) → p.down ≡ [] → due_in prbs p s ≡ false
 due_empty prbs s p e = some_from 0 prbs _ (λ n low high.
     no_due _ _ (λ re. ap (λ (l : List CellClaims). claim_in (get_or l (cell_number prbs s 0 + n) no_claims) re) e ∙ no_claim re))
 
@@ -226,10 +226,7 @@ downs_pushed (x ∷ xs) p all is (suc i) = downs_pushed xs p (λ j. all (suc j))
 
 -- ---- a symbol of a slot
 
-abbrev ring_due : RingValue → ℕ → Slot → ℕ → Bool
-ring_due r ep slot s = some 0 r.endpoint.prbs (λ prb. is_due (ring_claim r (cell_at ep true slot s prb)) (ring_reported r (cell_at ep true slot s prb)))
-
-due_elsewhere : (r : RingValue) (ep : ℕ) (slot : Slot) (s : ℕ) → has_slot r slot ≡ false → ring_due r ep slot s ≡ false
+pub due_elsewhere : (r : RingValue) (ep : ℕ) (slot : Slot) (s : ℕ) → has_slot r slot ≡ false → ring_due r ep slot s ≡ false
 due_elsewhere r ep slot s none = some_from 0 r.endpoint.prbs _ (λ n low high. no_due _ _ (λ re. rw none refl))
 
 -- a symbol that is not flagged
@@ -240,10 +237,13 @@ unflagged r ep slot s quiet = sym (elim (cases_Bool (has_slot r slot)) [
 ])
 
 -- a symbol of a slot that has its place
-quiet_has : (r : RingValue) (ep : ℕ) (slot : Slot) (s : ℕ) → has_slot r slot ≡ true → due_in r.endpoint.prbs (place_of r slot) s ≡ false → ring_due r ep slot s ≡ false
-quiet_has r ep slot s has off =
+pub due_has : (r : RingValue) (ep : ℕ) (slot : Slot) (s : ℕ) → has_slot r slot ≡ true → ring_due r ep slot s ≡ due_in r.endpoint.prbs (place_of r slot) s
+due_has r ep slot s has =
     sym (due_seen r slot s (cell_number r.endpoint.prbs s 0) ep (claims_seen (place_of r slot) slot true) (reported_seen (place_of r slot) slot) refl refl refl)
-    ∙ rw has off
+    ∙ rw has refl
+
+quiet_has : (r : RingValue) (ep : ℕ) (slot : Slot) (s : ℕ) → has_slot r slot ≡ true → due_in r.endpoint.prbs (place_of r slot) s ≡ false → ring_due r ep slot s ≡ false
+quiet_has r ep slot s has off = due_has r ep slot s has ∙ off
 
 -- a ring without a flag
 pub no_flags : (r v : RingValue) (flags : List (List Bool)) (ep : ℕ) (slot : Slot) (s : ℕ) → r ≡ v → IsRing r → IsFlagged r flags

@@ -3,6 +3,7 @@ pub use Rattle.unit_model
 pub mod Places
 pub mod Rings
 pub mod Pending
+pub mod Starts
 pub mod Counts
 pub mod Verdicts
 pub mod Rows

@@ -20,6 +20,7 @@ mod place;
 mod ring;
 mod rows;
 mod scans;
+mod starts;
 mod symbol_cells;
 
 pub use claims::CellClaims;

@@ -72,6 +72,20 @@ impl Flags {
         symbol >= SLOT_SYMBOLS || self.symbols[index][symbol]
     }
 
+    /// The first symbol of a place that is flagged, or 14.
+    pub(crate) fn first_of(&self, index: usize) -> u8
+        requires { index < length self.now }
+        ensures { (s : ℕ) → s < result → s < SLOT_SYMBOLS → flag_at self.now index s ≡ false }
+    {
+        let symbols = SLOT_SYMBOLS as u8;
+        for symbol in 0..symbols {
+            if self.has(index, symbol) {
+                return symbol;
+            }
+        }
+        symbols
+    }
+
     /// Sets the flag of a symbol of a place.
     fn set(&mut self, index: usize, symbol: usize)
         requires index { index < length self.old }

@@ -21,9 +21,10 @@ use crate::packed::PackedRun;
 use crate::pending::Flags;
 use crate::place::Place;
 use crate::scans::{all_there, any_due, block_at};
+use crate::starts::{Starts, start_from};
 use crate::symbol_cells::SymbolCells;
 use fh_base::NoMemory;
-use fh_time::Slot;
+use fh_time::{Slot, Ticks};
 use std::alloc::Global;
 use std::marker::Model;
 use unit_model::{Allocation, Block, CommandVerdict};
@@ -38,6 +39,8 @@ pub struct SlotRing {
     places: Vec<Place>,
     // of each place, the symbols that may have downlink cells to report
     pending: Flags,
+    // of each place, a tick before which none of these starts
+    starts: Starts,
     // how many uplink sections all places hold
     sections: usize,
 }
@@ -46,6 +49,7 @@ impl Model for SlotRing {
     ghost use Rattle.slot_rings.specs.Rings.{RingValue, IsRing};
     ghost use Rattle.slot_rings.specs.Counts.{HasSections};
     ghost use Rattle.slot_rings.specs.Pending.{IsFlagged};
+    ghost use Rattle.slot_rings.specs.Starts.{HaveStarts};
 
     ghost Value = { RingValue };
 
@@ -53,10 +57,12 @@ impl Model for SlotRing {
 
     ghost invariant = { λ r. IsRing (record { endpoint = r.endpoint; places = r.places.items })
         × IsFlagged (record { endpoint = r.endpoint; places = r.places.items }) r.pending
-        × HasSections (record { endpoint = r.endpoint; places = r.places.items }) r.sections };
+        × HasSections (record { endpoint = r.endpoint; places = r.places.items }) r.sections
+        × HaveStarts (record { endpoint = r.endpoint; places = r.places.items }) r.starts };
 }
 
 impl SlotRing {
+    ghost use Rattle.slot_rings.specs.Starts.{IsDueFrom, StartsFrom};
     ghost use Rattle.slot_rings.specs.Symbols.{AreCellsOf};
     ghost use Rattle.slot_rings.specs.Rings.{IsRing, place_index, place_of, ring_claim, ring_block, ring_reported, ring_uplink, has_slot, SharePlace, IsRingCell, TouchesOnly, with_place, IsEmpty, SameClaims, SameBlocks, SameSlotReported, SameUplink};
 
@@ -76,10 +82,12 @@ impl SlotRing {
             places.push(place)?;
         }
         let pending = Flags::make(alloc, slots)?;
+        let starts = Starts::make(alloc, slots)?;
         Ok(SlotRing {
             endpoint,
             places,
             pending,
+            starts,
             sections: 0,
         })
     }
@@ -187,21 +195,29 @@ impl SlotRing {
         self.pending.has(index, symbol)
     }
 
-    /// Whether any downlink cell may be in use and not reported, of the slot that has the place with this index. It looks at one number.
-    pub fn has_pending_at(&self, index: usize) -> bool
+    /// A tick before which no symbol starts of which a downlink cell is in use and was not reported, of the slot that has the place with
+    /// this index. None only where there is no such cell. It looks at two numbers.
+    pub fn earliest_at(&self, index: usize) -> Option<Ticks>
         requires { index < length self.now.places }
-        ensures { result ≡ false → (slot : Slot) (symbol : ℕ) → place_index self.now slot ≡ index → symbol < symbols_of self.now.endpoint.numerology → (ep : ℕ) → some 0 self.now.endpoint.prbs (λ prb.
-            is_due (ring_claim self.now (cell_at ep true slot symbol prb)) (ring_reported self.now (cell_at ep true slot symbol prb))) ≡ false }
+        ensures { IsDueFrom self.now (λ slot. place_index self.now slot ≡ index) result }
     {
-        self.pending.has_any_of(index)
+        if self.pending.has_any_of(index) {
+            Some(self.starts.at(index))
+        } else {
+            None
+        }
     }
 
-    /// Whether any downlink cell may be in use and not reported, of any slot. It looks at one number.
-    pub fn has_pending(&self) -> bool
-        ensures { result ≡ false → (slot : Slot) (symbol : ℕ) → symbol < symbols_of self.now.endpoint.numerology → (ep : ℕ) → some 0 self.now.endpoint.prbs (λ prb.
-            is_due (ring_claim self.now (cell_at ep true slot symbol prb)) (ring_reported self.now (cell_at ep true slot symbol prb))) ≡ false }
+    /// A tick before which no symbol starts of which a downlink cell is in use and was not reported, of any slot. None only where there is
+    /// no such cell. It looks at two numbers.
+    pub fn earliest(&self) -> Option<Ticks>
+        ensures { IsDueFrom self.now (λ slot. Unit {0}) result }
     {
-        self.pending.has_any()
+        if self.pending.has_any() {
+            Some(self.starts.earliest())
+        } else {
+            None
+        }
     }
 
     /// Whether any accepted uplink section is held, of any slot. It looks at one number.
@@ -304,6 +320,7 @@ impl SlotRing {
         let after = place.sections();
         self.sections = self.sections - before + after;
         self.pending.flag(index, a);
+        self.starts.claim(index, &self.endpoint.numerology, a);
     }
 
     /// Gives a cell its block in a slot's place.
@@ -336,7 +353,7 @@ impl SlotRing {
 
     /// Sets as reported those of the first so many cells of a symbol that are in use, in a slot's place. Where these are all of
     /// the symbol's, its flag goes.
-    fn report_place(&mut self, slot: Slot, symbol: u8, count: u16)
+    fn set_place_reported(&mut self, slot: Slot, symbol: u8, count: u16)
         requires slot { IsSlot self.old.endpoint.numerology slot }
         requires symbol { symbol < SLOT_SYMBOLS }
         requires count { count ≤ self.old.endpoint.prbs }
@@ -353,6 +370,44 @@ impl SlotRing {
         let all = count == self.endpoint.prbs;
         self.places[index].set_used_reported(number, count as usize);
         self.pending.clear_reported(index, symbol, all);
+    }
+
+    /// A tick before which no symbol starts that may have a downlink cell to report, of the slot that has the place with this index: the
+    /// first one that is flagged starts then.
+    fn first_start(&self, index: usize) -> Ticks
+        requires { index < length self.now.places }
+        ensures { StartsFrom self.now (get_or self.now.places index blank) result.0 }
+    {
+        let symbol = self.pending.first_of(index);
+        start_from(&self.endpoint.numerology, self.places[index].slot(), symbol)
+    }
+
+    /// Finds anew from which tick on symbols of a slot's place may have downlink cells to report.
+    fn renew_start(&mut self, slot: Slot)
+        requires { IsSlot self.old.endpoint.numerology slot }
+        ensures { self.new ≡ self.old }
+    {
+        let index = self.index(slot);
+        let start = self.first_start(index);
+        self.starts.put(index, start);
+    }
+
+    /// Sets as reported those of the first so many cells of a symbol that are in use, in a slot's place, and finds anew from which tick on
+    /// its symbols may have cells to report.
+    fn report_place(&mut self, slot: Slot, symbol: u8, count: u16)
+        requires slot { IsSlot self.old.endpoint.numerology slot }
+        requires symbol { symbol < SLOT_SYMBOLS }
+        requires count { count ≤ self.old.endpoint.prbs }
+        ensures only { self.new ≡ with_place self.old slot (place_of self.new slot) }
+        ensures here { (k : ℕ) → k < count → get_or (place_of self.new slot).reported (cell_number self.old.endpoint.prbs symbol 0 + k) false
+            ≡ (get_or (place_of self.old slot).reported (cell_number self.old.endpoint.prbs symbol 0 + k) false
+            || is_in_use (claim_in (get_or (place_of self.old slot).down (cell_number self.old.endpoint.prbs symbol 0 + k) no_claims))) }
+        ensures others { (i : ℕ) → is_from (cell_number self.old.endpoint.prbs symbol 0) count i ≡ false
+            → get_or (place_of self.new slot).reported i false ≡ get_or (place_of self.old slot).reported i false }
+        ensures kept { place_of self.new slot ≡ record (place_of self.old slot) { reported = (place_of self.new slot).reported } }
+    {
+        self.set_place_reported(slot, symbol, count);
+        self.renew_start(slot);
     }
 
     /// Lets a slot have its place. What was kept of another slot in that place is forgotten; what was kept of this one stays.

@@ -4,6 +4,7 @@ use Rattle.slot_rings.specs.Rings.{RingValue}
 use Rattle.slot_rings.proofs.RingLemmas.{put_kept}
 use Rattle.slot_rings.proofs.PendingLemmas.{flagged_put, filled_quiet}
 use Rattle.slot_rings.proofs.CountLemmas.{sections_kept}
+use Rattle.slot_rings.proofs.StartLemmas.{starts_kept}
 use Rattle.slot_rings.proofs.ring.SlotRing.fill_place.Goals as goal
 
 pub invariant_of-self : goal.invariant_of-self
@@ -17,4 +18,7 @@ invariant_of-self c =
           refl (λ j s off. off)
           (λ s off. filled_quiet r.endpoint.prbs s c.index_mut.result.now c.fill.new.self (ap (λ (p : PlaceValue). p.down) c.fill.ensures.kept) (ap (λ (p : PlaceValue). p.reported) c.fill.ensures.kept)),
       sections_kept r c.self.inside.sections c.index-index.result c.index_mut.result.now c.fill.new.self c.self.invariant.2 within c.index_mut.ensures.value (ap (λ (p : PlaceValue). p.uplink) c.fill.ensures.kept),
+      starts_kept r c.self.inside.starts c.index-index.result c.index_mut.result.now c.fill.new.self c.self.invariant.3 within c.index_mut.ensures.value
+          (ap (λ (p : PlaceValue). p.slot) c.fill.ensures.kept)
+          (λ s. filled_quiet r.endpoint.prbs s c.index_mut.result.now c.fill.new.self (ap (λ (p : PlaceValue). p.down) c.fill.ensures.kept) (ap (λ (p : PlaceValue). p.reported) c.fill.ensures.kept)),
     )

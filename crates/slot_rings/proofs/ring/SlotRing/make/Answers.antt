@@ -7,6 +7,7 @@ use Rattle.slot_rings.specs.Rings.{RingValue}
 use Rattle.slot_rings.proofs.RingLemmas.{slots_pushed, prbs_pushed}
 use Rattle.slot_rings.proofs.CountLemmas.{no_sections}
 use Rattle.slot_rings.proofs.PendingLemmas.{downs_pushed, flagged_empty, fresh_ring}
+use Rattle.slot_rings.proofs.StartLemmas.{starts_fresh}
 use Rattle.slot_rings.proofs.ring.SlotRing.make.Goals as goal
 
 pub loop-k-preserved : goal.loop-k-preserved
@@ -36,4 +37,5 @@ invariant_of-result c =
           (λ i below. c.loop-k.invariant.prbs i (omega (arith, below, c.loop-k.places.ok.0))),
       flagged_empty r c.in_ok-pending.pending (c.in_ok-pending.ensures ∙ sym len) c.loop-k.invariant.downs,
       no_sections r c.loop-k.invariant.uplinks,
+      starts_fresh r c.in_ok-starts.starts (c.in_ok-starts.ensures ∙ sym len) c.loop-k.invariant.slots,
     )

@@ -4,6 +4,7 @@ use Rattle.slot_rings.specs.Rings.{RingValue, place_index}
 use Rattle.slot_rings.proofs.RingLemmas.{put_opened}
 use Rattle.slot_rings.proofs.PendingLemmas.{flagged_put, opened_quiet}
 use Rattle.slot_rings.proofs.CountLemmas.{sections_put, sections_most, place_most}
+use Rattle.slot_rings.proofs.StartLemmas.{starts_opened}
 use Rattle.slot_rings.proofs.ring.SlotRing.open_place.Goals as goal
 
 pub overflow_sub-self : goal.overflow_sub-self
@@ -41,4 +42,6 @@ invariant_of-self c =
             c.sections-after.ensures.value,
             place_most r c.self.inside.sections c.index-index.result c.index_mut-place.result.now c.self.invariant.2 within c.index_mut-place.ensures.value,
           )),
+      starts_opened r c.self.inside.starts c.index-index.result c.index_mut-place.result.now c.open.new.self c.args.slot c.self.invariant.3 within
+          c.index_mut-place.ensures.value c.open.ensures,
     )

@@ -4,11 +4,12 @@ use Rattle.std.proofs.lemmas.Bool.{eqb-true}
 use Rattle.slot_rings.specs.Places.{PlaceValue, cell_number, claim_in, is_in_use, no_claims}
 use Rattle.slot_rings.specs.Rings.{RingValue}
 use Rattle.slot_rings.proofs.ReportedLemmas.{still_reported}
-use Rattle.slot_rings.proofs.PendingLemmas.{all_quiet, flagged_told}
+use Rattle.slot_rings.proofs.PendingLemmas.{all_quiet, flagged_told, reported_quiet}
 use Rattle.slot_rings.proofs.CountLemmas.{sections_kept}
 use Rattle.slot_rings.proofs.RingLemmas.{put_kept, read_prbs}
 use Rattle.slot_rings.proofs.RunLemmas.{cells_fit}
-use Rattle.slot_rings.proofs.ring.SlotRing.report_place.Goals as goal
+use Rattle.slot_rings.proofs.StartLemmas.{starts_kept}
+use Rattle.slot_rings.proofs.ring.SlotRing.set_place_reported.Goals as goal
 
 pub set_used_reported-requires : goal.set_used_reported-requires
 set_used_reported-requires c =
@@ -39,4 +40,8 @@ invariant_of-self c =
           subst (λ (n : ℕ). get_or q.reported (n + k) false ≡ (get_or p.reported (n + k) false || uses (n + k))) number
           (c.set_used_reported.ensures.here k (omega (arith, all, below))))),
       sections_kept r c.self.inside.sections c.index-index.result p q c.self.invariant.2 within c.index_mut.ensures.value (ap (λ (x : PlaceValue). x.uplink) c.set_used_reported.ensures.kept),
+      starts_kept r c.self.inside.starts c.index-index.result p q c.self.invariant.3 within c.index_mut.ensures.value
+          (ap (λ (x : PlaceValue). x.slot) c.set_used_reported.ensures.kept)
+          (λ s. reported_quiet r.endpoint.prbs s p q down
+          (still_reported p.reported q.reported uses c.number-number.result c.args.count c.set_used_reported.ensures.here c.set_used_reported.ensures.others)),
     )

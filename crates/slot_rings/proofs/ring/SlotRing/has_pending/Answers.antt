@@ -1,8 +1,0 @@
-use Rattle.slot_rings.specs.Rings.{RingValue}
-use Rattle.slot_rings.proofs.PendingLemmas.{no_flags}
-use Rattle.slot_rings.proofs.ring.SlotRing.has_pending.Goals as goal
-
-pub returns : goal.returns
-returns c off slot symbol within ep =
-    let r : RingValue = record { endpoint = c.self.inside.endpoint; places = c.self.inside.places.items } in
-    no_flags r c.args.self.now c.self.inside.pending ep slot symbol c.self.view_is c.self.invariant.0 c.self.invariant.1 (c.has_any.ensures off) within
