@@ -1,6 +1,8 @@
 -- The rings of all endpoints of a unit, and what they answer of a cell.
-use Rattle.std.specs.Prelude.{◌≡◌, ℕ, ℤ, pos, ◌+◌, ◌<◌, ◌≤◌, ◌+ℤ◌, ◌<ℤ◌, Bool, true, false, List, [], length, map, slice_get, Option, Some, None}
+use Rattle.std.specs.Prelude.{◌≡◌, ℕ, ℤ, pos, ◌+◌, ◌<◌, ◌≤◌, ◌+ℤ◌, ◌<ℤ◌, ◌≤ℤ◌, Bool, true, false, List, [], length, map, slice_get, Option, Some, None}
 use Rattle.fh_time.specs.declared.values.Slot.{Slot}
+use Rattle.fh_time.specs.Air.{air_of}
+use Rattle.fh_time.specs.declared.values.Ticks.{Ticks}
 use Rattle.fh_time.specs.Numbering.{IsSlotOf, slot_number, symbols_of}
 use Rattle.unit_model.specs.Terms.{Side}
 use Rattle.window_config.specs.Limits.{IsWithinLimits}
@@ -13,7 +15,9 @@ use Rattle.unit_model.specs.declared.allocations.Allocation.{Allocation}
 use Rattle.unit_model.specs.declared.cells.Block.{Block}
 use Rattle.unit_model.specs.declared.cells.Cell.{Cell}
 use Rattle.unit_model.specs.declared.cells.Claim.{Claim}
+use Rattle.unit_model.specs.Lists.{some}
 use Rattle.unit_model.specs.Sides.{IsLiveOn}
+use Rattle.slot_rings.specs.Places.{is_due}
 use Rattle.slot_rings.specs.Rings.{RingValue, has_slot, place_index, ring_block, ring_claim, ring_reported, ring_uplink}
 use Rattle.slot_rings.specs.Symbols.{lent_block, lent_claim, lent_reported}
 use Rattle.slot_rings.specs.declared.symbol_cells.SymbolCells.{SymbolCells}
@@ -138,3 +142,16 @@ pub record AreUnitCellsOf (v : CellsValue) (ep : ℕ) (slot : Slot) (symbol : �
   pub claims : (prb re : ℕ) → lent_claim cells prb re ≡ cells_claim v (cell_at ep true slot symbol prb) re
   pub blocks : (prb : ℕ) → lent_block cells prb ≡ cells_block v (cell_at ep true slot symbol prb)
   pub reported : (prb : ℕ) → lent_reported cells prb ≡ cells_reported v (cell_at ep true slot symbol prb)
+
+-- ---- what is due
+
+-- a downlink cell of a symbol is in use, and was not reported
+abbrev pub cells_due : CellsValue → ℕ → ℕ → Slot → ℕ → Bool
+cells_due v prbs ep slot symbol = some 0 prbs (λ prb. is_due (cells_claim v (cell_at ep true slot symbol prb)) (cells_reported v (cell_at ep true slot symbol prb)))
+
+-- of these slots of an endpoint, each symbol with such a cell starts at a tick or later: without a tick there is no such symbol
+abbrev pub AreDueFrom : CellsValue → ℕ → (Slot → Type 0) → Option Ticks → Type 0
+AreDueFrom v ep P None = (e : EndpointConfig) → IsAt (endpoints_of v) ep e → (slot : Slot) (symbol : ℕ) → P slot → symbol < symbols_of e.numerology
+    → cells_due v e.prbs ep slot symbol ≡ false
+AreDueFrom v ep P (Some t) = (e : EndpointConfig) → IsAt (endpoints_of v) ep e → (slot : Slot) (symbol : ℕ) → P slot → symbol < symbols_of e.numerology
+    → cells_due v e.prbs ep slot symbol ≡ true → t.0 ≤ℤ air_of e.numerology slot symbol

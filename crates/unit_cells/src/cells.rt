@@ -29,7 +29,7 @@ use crate::sections::{data_class, data_slot, first_prb, prb_at, prb_count};
 use air_source::Side;
 use bfp_codec::{Method, Wide};
 use fh_base::NoMemory;
-use fh_time::Slot;
+use fh_time::{Slot, Ticks};
 use slot_rings::{PackedRun, SlotRing, SymbolCells};
 use std::alloc::Global;
 use std::marker::Model;
@@ -61,7 +61,7 @@ impl Model for UnitCells {
 }
 
 impl UnitCells {
-    ghost use Rattle.unit_cells.specs.Cells.{AreCellsIn, AreUnitCellsOf, AreRings, CellsValue, IsOf, IsSlotIn, IsCellIn, cells_block, cells_claim, cells_reported, cells_has, cells_index, cells_places, cells_uplink, endpoints_of, ring_of};
+    ghost use Rattle.unit_cells.specs.Cells.{AreCellsIn, AreDueFrom, AreUnitCellsOf, AreRings, CellsValue, IsOf, IsSlotIn, IsCellIn, cells_block, cells_claim, cells_reported, cells_has, cells_index, cells_places, cells_uplink, endpoints_of, ring_of};
     ghost use Rattle.unit_cells.specs.Keeping.{Keeps, LiveAreApart, SameKnown, SameReported};
     ghost use Rattle.unit_cells.specs.Steps.{Fills, InRing, SetsReported, Takes};
 
@@ -298,15 +298,14 @@ impl UnitCells {
         self.rings[ep].is_pending(index, symbol)
     }
 
-    /// Whether any downlink cell may be in use and not reported, of the slot of an endpoint that has the place with this index. It looks at
-    /// one number.
-    pub fn has_pending_at(&self, ep: usize, index: usize) -> bool
+    /// A tick before which no symbol starts of which a downlink cell is in use and was not reported, of the slot of an endpoint that has the
+    /// place with this index. None only where there is no such cell. It looks at two numbers.
+    pub fn earliest_at(&self, ep: usize, index: usize) -> Option<Ticks>
         requires ep { ep < length (endpoints_of self.now) }
         requires index { index < cells_places self.now ep }
-        ensures { result ≡ false → (e : EndpointConfig) → IsAt (endpoints_of self.now) ep e → (slot : Slot) (symbol : ℕ) → cells_index self.now ep slot ≡ index → symbol < symbols_of e.numerology
-            → some 0 e.prbs (λ prb. is_due (cells_claim self.now (cell_at ep true slot symbol prb)) (cells_reported self.now (cell_at ep true slot symbol prb))) ≡ false }
+        ensures { AreDueFrom self.now ep (λ slot. cells_index self.now ep slot ≡ index) result }
     {
-        self.rings[ep].has_pending_at(index)
+        self.rings[ep].earliest_at(index)
     }
 
     /// Whether any accepted uplink section is held of the slot of an endpoint that has the place with this index.
@@ -318,13 +317,13 @@ impl UnitCells {
         self.rings[ep].has_uplink_at(index)
     }
 
-    /// Whether any downlink cell of an endpoint may be in use and not reported. It looks at one number.
-    pub fn has_pending(&self, ep: usize) -> bool
+    /// A tick before which no symbol of an endpoint starts of which a downlink cell is in use and was not reported. None only where there is
+    /// no such cell. It looks at two numbers.
+    pub fn earliest(&self, ep: usize) -> Option<Ticks>
         requires { ep < length (endpoints_of self.now) }
-        ensures { result ≡ false → (e : EndpointConfig) → IsAt (endpoints_of self.now) ep e → (slot : Slot) (symbol : ℕ) → symbol < symbols_of e.numerology → some 0 e.prbs (λ prb.
-            is_due (cells_claim self.now (cell_at ep true slot symbol prb)) (cells_reported self.now (cell_at ep true slot symbol prb))) ≡ false }
+        ensures { AreDueFrom self.now ep (λ slot. Unit {0}) result }
     {
-        self.rings[ep].has_pending()
+        self.rings[ep].earliest()
     }
 
     /// Whether any accepted uplink section of an endpoint is held. It looks at one number.
