@@ -1,8 +1,9 @@
 -- A symbol of a unit's rings, and the first of those that are looked for, by look-up (this project's profile).
-use Rattle.std.specs.Prelude.{◌≡◌, ℕ, ◌<◌, Bool, true, false, Option, Some, None}
+use Rattle.std.specs.Prelude.{◌≡◌, ℕ, ◌<◌, ◌≤ℤ◌, Bool, true, false, Option, Some, None}
 use Rattle.fh_time.specs.Air.{air_of}
 use Rattle.fh_time.specs.Numbering.{symbols_of}
 use Rattle.fh_time.specs.declared.values.Slot.{Slot}
+use Rattle.fh_time.specs.declared.values.Ticks.{Ticks}
 use Rattle.unit_cells.specs.unit_model.specs.Order.{comes_before}
 use Rattle.unit_cells.specs.unit_model.specs.Proper.{IsAt, IsSlot}
 use Rattle.unit_cells.specs.unit_model.specs.declared.symbol_start.SymbolStart.{SymbolStart}
@@ -46,3 +47,8 @@ InSlot ep slot m = (m.ep ≡ ep) × (m.slot ≡ slot)
 abbrev pub IsFound : (SymbolStart → Type 0) → Option SymbolStart → Type 0
 IsFound P None = ⊥
 IsFound P (Some m) = P m
+
+-- each of these symbols that is one of them starts at a tick or later: without a tick none of them is one
+abbrev pub FitsFrom : CellsValue → (SymbolStart → Bool) → (SymbolStart → Type 0) → Option Ticks → Type 0
+FitsFrom v fits Over None = HasNone v fits Over
+FitsFrom v fits Over (Some t) = (m : SymbolStart) → IsFitting v fits m → Over m → t.0 ≤ℤ m.start.0

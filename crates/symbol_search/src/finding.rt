@@ -1,35 +1,39 @@
 // The first symbol that fits.
-ghost use Rattle.std.specs.Prelude.{◌≡◌, ◌<◌, length};
+ghost use Rattle.std.specs.Prelude.{◌≡◌, ℕ, ◌<◌, None, IfSome, length};
 ghost use Rattle.unit_cells.specs.Cells.{cells_places, endpoints_of};
 ghost use Rattle.unit_cells.specs.unit_model.specs.Proper.{IsAt};
 ghost use Rattle.symbol_search.specs.Places.{IsPlace};
-ghost use Rattle.symbol_search.specs.Searches.{InPlace, Searched, earlier_of};
-ghost use Rattle.symbol_search.specs.Symbols.{InSlot, IsFirst, OfEndpoint};
+ghost use Rattle.symbol_search.specs.Searches.{HasLead, InPlace, Searched, is_earlier, is_passed};
+ghost use Rattle.symbol_search.specs.Symbols.{InSlot, IsFirst, IsFitting, OfEndpoint};
 
 use crate::{SlotPlace, SymbolTest};
-use fh_time::shape;
+use fh_time::{Ticks, shape};
 use unit_cells::UnitCells;
 use unit_model::{SymbolStart, comes_before};
 use window_config::EndpointConfig;
 
-/// The one that comes first of what was found and one more symbol.
-fn earlier_of(found: Option<SymbolStart>, m: SymbolStart) -> Option<SymbolStart>
-    ensures { result ≡ earlier_of found m }
+/// Whether a symbol comes before what was found, or nothing was.
+fn is_earlier(m: &SymbolStart, found: &Option<SymbolStart>) -> bool
+    ensures { result ≡ is_earlier m.now found.now }
 {
     match found {
-        None => Some(m),
-        Some(first) => {
-            if comes_before(&m, &first) {
-                Some(m)
-            } else {
-                Some(first)
-            }
-        }
+        None => true,
+        Some(first) => comes_before(m, first),
     }
 }
 
-/// The first of the best symbol so far and those of a slot that fit. Behind the first one of the slot none is looked at, since
-/// symbols start one after the other.
+/// Whether no symbol of an endpoint that starts at this tick or later comes before what was found.
+fn is_passed(found: &Option<SymbolStart>, ep: usize, start: Ticks) -> bool
+    ensures { result ≡ is_passed found.now ep start.0 }
+{
+    match found {
+        None => false,
+        Some(first) => first.start.0 < start.0 || first.start.0 == start.0 && first.ep < ep,
+    }
+}
+
+/// The first of the best symbol so far and those of a slot that fit. After the first one of the slot, or one that comes after the
+/// best, none is looked at, since symbols start one after the other.
 fn first_in_slot<'c, T: SymbolTest<'c>>(
     cells: &'c UnitCells,
     test: &T,
@@ -43,8 +47,14 @@ fn first_in_slot<'c, T: SymbolTest<'c>>(
         return best;
     };
     for symbol in 0..shape(&place.endpoint.numerology).symbols {
-        if let Some(m) = test.fitting(cells, place, lookup, symbol) {
-            return earlier_of(best, m);
+        if test.may_fit(cells, place, symbol) {
+            let m = place.start(symbol);
+            if !is_earlier(&m, &best) {
+                return best;
+            }
+            if test.does_fit(cells, place, lookup, &m) {
+                return Some(m);
+            }
         }
     }
     best
@@ -63,7 +73,10 @@ fn first_in_place<'c, T: SymbolTest<'c>>(
     requires index { index < cells_places cells.now ep }
     ensures { Searched cells.now (T.fits test.now cells.now) (InPlace cells.now ep index) best result }
 {
-    if !test.may_fit_at(cells, ep, index) {
+    let Some(start) = test.earliest_at(cells, ep, index) else {
+        return best;
+    };
+    if is_passed(&best, ep, start) {
         return best;
     }
     match cells.slot_at(ep, index) {
@@ -90,7 +103,10 @@ fn first_in_ring<'c, T: SymbolTest<'c>>(
     requires { ep < length (endpoints_of cells.now) }
     ensures { Searched cells.now (T.fits test.now cells.now) (OfEndpoint ep) best result }
 {
-    if !test.may_fit(cells, ep) {
+    let Some(start) = test.earliest(cells, ep) else {
+        return best;
+    };
+    if is_passed(&best, ep, start) {
         return best;
     }
     let endpoint = cells.endpoint(ep);
@@ -101,13 +117,68 @@ fn first_in_ring<'c, T: SymbolTest<'c>>(
     first
 }
 
+/// The endpoint with which a search begins: the one whose symbols may fit first. So most others are passed over.
+fn lead<'c, T: SymbolTest<'c>>(cells: &'c UnitCells, test: &T) -> Option<usize>
+    ensures { IfSome result (λ ep. ep < length (endpoints_of cells.now)) }
+{
+    let mut lead = None;
+    let mut least = Ticks(i64::MAX);
+    for ep in 0..cells.endpoints() {
+        if let Some(start) = test.earliest(cells, ep) {
+            if start.0 < least.0 {
+                lead = Some(ep);
+                least = start;
+            }
+        }
+    }
+    lead
+}
+
+/// The first symbol that fits of the endpoint with which a search begins.
+fn first_in_lead<'c, T: SymbolTest<'c>>(
+    cells: &'c UnitCells,
+    test: &T,
+    lead: Option<usize>,
+) -> Option<SymbolStart>
+    requires { IfSome lead (λ ep. ep < length (endpoints_of cells.now)) }
+    ensures fitting { IfSome result (IsFitting cells.now (T.fits test.now cells.now)) }
+    ensures lead { HasLead cells.now (T.fits test.now cells.now) lead result }
+{
+    match lead {
+        None => None,
+        Some(ep) => first_in_ring(cells, test, ep, None),
+    }
+}
+
+/// The first of the best symbol so far and those of an endpoint that fit, where those of the endpoint with which the search began
+/// were looked at.
+fn first_in_turn<'c, T: SymbolTest<'c>>(
+    cells: &'c UnitCells,
+    test: &T,
+    lead: Option<usize>,
+    ep: usize,
+    best: Option<SymbolStart>,
+) -> Option<SymbolStart>
+    requires within { ep < length (endpoints_of cells.now) }
+    requires lead { HasLead cells.now (T.fits test.now cells.now) lead best }
+    ensures { Searched cells.now (T.fits test.now cells.now) (OfEndpoint ep) best result }
+{
+    if let Some(first) = lead {
+        if first == ep {
+            return best;
+        }
+    }
+    first_in_ring(cells, test, ep, best)
+}
+
 /// The first symbol that fits: by its start, and at one tick by endpoint, slot and symbol.
 pub fn first_symbol<'c, T: SymbolTest<'c>>(cells: &'c UnitCells, test: &T) -> Option<SymbolStart>
     ensures first { IsFirst cells.now (T.fits test.now cells.now) result }
 {
-    let mut first = None;
+    let lead = lead(cells, test);
+    let mut first = first_in_lead(cells, test, lead);
     for ep in 0..cells.endpoints() {
-        first = first_in_ring(cells, test, ep, first);
+        first = first_in_turn(cells, test, lead, ep, first);
     }
     first
 }
