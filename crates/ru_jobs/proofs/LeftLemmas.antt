@@ -1,7 +1,9 @@
 -- What is left of a symbol's messages.
-use Rattle.std.proofs.Common.{◌≡◌, ℕ, ◌-◌, Bool, true, false, List, [], length, drop, refl, sym, ap, ◌∙◌, arith, Option, Some, None}
+use Rattle.std.proofs.Common.{◌≡◌, ℕ, ℤ, ◌-◌, ◌≤ℤ◌, inl, inr, subst, Bool, true, false, List, [], length, drop, refl, sym, ap, ◌∙◌, arith, Option, Some, None}
 use Rattle.std.specs.Prelude.{nat_lt, int_lt, if◌then◌else◌, filter, reverse}
-use Rattle.std.specs.Bool.{then_some}
+use Rattle.std.proofs.lemmas.Int.{ints}
+use Rattle.std.proofs.lemmas.Bool.{cases_Bool}
+use Rattle.fh_time.proofs.Orders.{both_ways}
 use Rattle.std.proofs.lemmas.List.{length-drop, drop_all, nil_from_length}
 use Rattle.std.proofs.lemmas.Bool.Decides.{nat_tests}
 use Rattle.fh_time.specs.declared.values.Slot.{Slot}
@@ -15,7 +17,7 @@ use Rattle.symbol_search.specs.unit_model.specs.declared.jobs.UplinkJob.{UplinkJ
 use Rattle.symbol_search.specs.unit_model.specs.declared.symbol_start.SymbolStart.{SymbolStart}
 use Rattle.symbol_search.specs.unit_cells.specs.Cells.{CellsValue, cells_index, cells_uplink}
 use Rattle.symbol_search.specs.Searches.{InPlace}
-use Rattle.symbol_search.specs.Symbols.{HasNone, InSlot, OfEndpoint}
+use Rattle.symbol_search.specs.Symbols.{FitsFrom, HasNone, InSlot, IsSymbol, OfEndpoint}
 use Rattle.ru_jobs.specs.Cursors.{is_job_left, jobs_left, left_behind, left_jobs}
 use Rattle.ru_jobs.specs.declared.cursor.JobCursor.{JobCursor}
 use Rattle.ru_jobs.proofs.SortLemmas.{length_jobs}
@@ -29,16 +31,35 @@ some_left xs m given count left is counted =
 
 -- ---- of a symbol whose slot's sections these are
 
-pub left_told : (v : CellsValue) (cursor : JobCursor) (ep : ℕ) (e : EndpointConfig) (slot : Slot) (symbol : ℕ) (xs : List Allocation) (m : SymbolStart) (left : Bool)
-    (told : Option SymbolStart) → reverse xs ≡ cells_uplink v ep slot → m ≡ start_at ep e slot symbol
-    → left ≡ nat_lt 0 (length (left_jobs cursor m (jobs_at (reverse xs) m))) → told ≡ then_some left m
-    → told ≡ then_some (is_job_left v cursor (start_at ep e slot symbol)) (start_at ep e slot symbol)
+pub left_at_start : (v : CellsValue) (cursor : JobCursor) (ep : ℕ) (e : EndpointConfig) (slot : Slot) (symbol : ℕ) (xs : List Allocation) (m : SymbolStart) (left : Bool)
+    → reverse xs ≡ cells_uplink v ep slot → m ≡ start_at ep e slot symbol
+    → left ≡ nat_lt 0 (length (left_jobs cursor m (jobs_at (reverse xs) m))) → left ≡ is_job_left v cursor m
 unfolding jobs_left symbol_jobs
-left_told v cursor ep e slot symbol xs m left told uplink is left_is told_is =
-    told_is
-    ∙ ap (λ (b : Bool). then_some b m) left_is
-    ∙ ap (λ (x : SymbolStart). then_some (nat_lt 0 (length (left_jobs cursor x (jobs_at (reverse xs) x)))) x) is
-    ∙ ap (λ ys. then_some (nat_lt 0 (length (left_jobs cursor (start_at ep e slot symbol) (jobs_at ys (start_at ep e slot symbol))))) (start_at ep e slot symbol)) uplink
+left_at_start v cursor ep e slot symbol xs m left uplink is left_is =
+    left_is
+    ∙ ap (λ (x : SymbolStart). nat_lt 0 (length (left_jobs cursor x (jobs_at (reverse xs) x)))) is
+    ∙ ap (λ ys. nat_lt 0 (length (left_jobs cursor (start_at ep e slot symbol) (jobs_at ys (start_at ep e slot symbol))))) uplink
+    ∙ ap (is_job_left v cursor) (sym is)
+
+not_before : (a b : ℤ) → int_lt a b ≡ false → b ≤ℤ a
+not_before a b e = grind (arith, ints)
+
+-- something is left only of symbols that start at the cursor's time or later
+pub left_since : (v : CellsValue) (cursor : JobCursor) (m : SymbolStart) → IsSymbol v m → is_job_left v cursor m ≡ true → cursor.since.0 ≤ℤ m.start.0
+unfolding jobs_left
+left_since v cursor m is left =
+    let s = start_at m.ep m.endpoint m.slot m.symbol in
+    let starts : s.start.0 ≡ m.start.0 = sym is.starts in
+    elim (cases_Bool (int_lt s.start.0 cursor.since.0)) [
+      | inl before ↦
+          let none : is_job_left v cursor m ≡ false =
+          ap (λ (b : Bool). nat_lt 0 (length (if b then [] else left_behind cursor.given cursor.last s (symbol_jobs (cells_uplink v m.ep m.slot) m.ep m.endpoint m.slot m.symbol)))) before in
+          absurd (both_ways (is_job_left v cursor m) left none)
+      | inr not ↦ subst (λ (x : ℤ). cursor.since.0 ≤ℤ x) starts (not_before s.start.0 cursor.since.0 not)
+    ]
+
+pub fits_since : (v : CellsValue) (cursor : JobCursor) (Over : SymbolStart → Type 0) → FitsFrom v (is_job_left v cursor) Over (Some cursor.since)
+fits_since v cursor Over m w o = left_since v cursor m w.is w.fit
 
 -- ---- where no section is held
 

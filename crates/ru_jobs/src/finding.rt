@@ -1,15 +1,15 @@
 // The symbols of which a message is left.
 ghost use Rattle.std.specs.Prelude.{◌≡◌, ◌<◌, false, length, reverse, IfNone, IfSome};
-ghost use Rattle.std.specs.Bool.{then_some};
 ghost use Rattle.fh_time.specs.Numbering.{symbols_of};
 ghost use Rattle.symbol_search.specs.Places.{IsPlace, start_in};
 ghost use Rattle.symbol_search.specs.Searches.{InPlace};
-ghost use Rattle.symbol_search.specs.Symbols.{HasNone, InSlot, OfEndpoint};
+ghost use Rattle.symbol_search.specs.Symbols.{FitsFrom, HasNone, InSlot, OfEndpoint};
 ghost use Rattle.symbol_search.specs.unit_cells.specs.Cells.{cells_places, cells_uplink, endpoints_of};
 ghost use Rattle.ru_jobs.specs.Cursors.{is_job_left};
 
 use crate::cursor::JobCursor;
 use crate::left::has_left;
+use fh_time::Ticks;
 use symbol_search::{SlotPlace, SymbolTest};
 use unit_cells::UnitCells;
 use unit_model::{Allocation, SymbolStart};
@@ -23,21 +23,28 @@ impl<'c> SymbolTest<'c> for JobCursor {
 
     ghost is_looked_up = { λ _ v p xs. reverse xs.now ≡ cells_uplink v p.ep p.slot };
 
-    /// Looks at one number.
-    fn may_fit(&self, cells: &UnitCells, ep: usize) -> bool
+    /// Nothing is left of symbols that start before `since`.
+    fn earliest(&self, cells: &UnitCells, ep: usize) -> Option<Ticks>
         requires { ep < length (endpoints_of cells.now) }
-        ensures { result ≡ false → HasNone cells.now (is_job_left cells.now self.now) (OfEndpoint ep) }
+        ensures { FitsFrom cells.now (is_job_left cells.now self.now) (OfEndpoint ep) result }
     {
-        cells.has_uplink(ep)
+        if cells.has_uplink(ep) {
+            Some(self.since)
+        } else {
+            None
+        }
     }
 
-    /// Looks at one number.
-    fn may_fit_at(&self, cells: &UnitCells, ep: usize, index: usize) -> bool
+    fn earliest_at(&self, cells: &UnitCells, ep: usize, index: usize) -> Option<Ticks>
         requires ep { ep < length (endpoints_of cells.now) }
         requires index { index < cells_places cells.now ep }
-        ensures { result ≡ false → HasNone cells.now (is_job_left cells.now self.now) (InPlace cells.now ep index) }
+        ensures { FitsFrom cells.now (is_job_left cells.now self.now) (InPlace cells.now ep index) result }
     {
-        cells.has_uplink_at(ep, index)
+        if cells.has_uplink_at(ep, index) {
+            Some(self.since)
+        } else {
+            None
+        }
     }
 
     fn look_up(&self, cells: &'c UnitCells, place: &SlotPlace<'_>) -> Option<&'c [Allocation]>
@@ -53,19 +60,28 @@ impl<'c> SymbolTest<'c> for JobCursor {
         }
     }
 
-    fn fitting(
+    /// Any symbol of a slot that has uplink sections may.
+    fn may_fit(&self, _cells: &UnitCells, place: &SlotPlace<'_>, symbol: u8) -> bool
+        requires place { IsPlace _cells.now place.now }
+        requires symbol { symbol < symbols_of place.now.endpoint.now.numerology }
+        ensures { result ≡ false → is_job_left _cells.now self.now (start_in place.now symbol) ≡ false }
+    {
+        true
+    }
+
+    fn does_fit(
         &self,
         cells: &'c UnitCells,
         place: &SlotPlace<'_>,
         uplink: &'c [Allocation],
-        symbol: u8,
-    ) -> Option<SymbolStart>
+        m: &SymbolStart,
+    ) -> bool
         requires place { IsPlace cells.now place.now }
         requires lookup { reverse uplink.now ≡ cells_uplink cells.now place.now.ep place.now.slot }
-        requires symbol { symbol < symbols_of place.now.endpoint.now.numerology }
-        ensures { result ≡ then_some (is_job_left cells.now self.now (start_in place.now symbol)) (start_in place.now symbol) }
+        requires symbol { m.now.symbol < symbols_of place.now.endpoint.now.numerology }
+        requires is { m.now ≡ start_in place.now m.now.symbol }
+        ensures { result ≡ is_job_left cells.now self.now m.now }
     {
-        let m = place.start(symbol);
-        has_left(self, &m, uplink).then_some(m)
+        has_left(self, m, uplink)
     }
 }

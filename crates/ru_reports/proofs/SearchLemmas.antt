@@ -1,7 +1,7 @@
 -- Symbols of which nothing is to be reported after a time.
-use Rattle.std.proofs.Common.{◌≡◌, ℕ, ℤ, ◌-◌, ◌<◌, ◌≤ℤ◌, true, false, int_le, refl, sym, ap, subst, arith, None}
+use Rattle.std.proofs.Common.{◌≡◌, ℕ, ℤ, ◌-◌, ◌<◌, ◌≤ℤ◌, true, false, int_le, refl, sym, ap, subst, arith, Option, Some, None}
+use Rattle.fh_time.specs.declared.values.Ticks.{Ticks}
 use Rattle.std.specs.Prelude.{int_lt}
-use Rattle.std.specs.Bool.{then_some}
 use Rattle.std.proofs.lemmas.Int.{ints}
 use Rattle.fh_time.specs.declared.values.Slot.{Slot}
 use Rattle.fh_time.specs.Air.{air_of}
@@ -11,38 +11,30 @@ use Rattle.window_config.specs.declared.endpoints.EndpointConfig.{EndpointConfig
 use Rattle.symbol_search.specs.unit_model.specs.Proper.{IsAt}
 use Rattle.symbol_search.specs.unit_model.specs.Starts.{start_at}
 use Rattle.symbol_search.specs.unit_model.specs.declared.symbol_start.SymbolStart.{SymbolStart}
-use Rattle.symbol_search.specs.unit_cells.specs.Cells.{CellsValue, cells_index, endpoints_of}
-use Rattle.symbol_search.specs.Searches.{InPlace}
-use Rattle.symbol_search.specs.Symbols.{HasNone, InSlot, OfEndpoint}
+use Rattle.symbol_search.specs.unit_cells.specs.Cells.{AreDueFrom, CellsValue, endpoints_of}
+use Rattle.symbol_search.specs.Symbols.{FitsFrom, HasNone, InSlot}
 use Rattle.symbol_search.proofs.SymbolLemmas.{endpoint_one, symbol_one}
 use Rattle.ru_reports.specs.Symbols.{is_left, is_left_after}
 use Rattle.fh_time.proofs.Orders.{and_false_2 as second_false}
-use Rattle.std.proofs.lemmas.Bool.{and_left}
+use Rattle.std.proofs.lemmas.Bool.{and_left, and_parts}
 
--- ---- one symbol
-
-pub told_not_left : (v : CellsValue) (t : ℤ) (s : SymbolStart) → is_left v s ≡ false → None ≡ then_some (is_left_after v t s) s
-told_not_left v t s none = let e : is_left_after v t s ≡ false = second_false (int_lt t s.start.0) (is_left v s) none in rw e refl
-
--- ---- many
-
--- nothing is to be reported of an endpoint
-pub none_pending : (v : CellsValue) (t : ℤ) (ep : ℕ)
-    → ((e : EndpointConfig) → IsAt (endpoints_of v) ep e → (slot : Slot) (symbol : ℕ) → symbol < symbols_of e.numerology → is_left v (start_at ep e slot symbol) ≡ false)
-    → HasNone v (is_left_after v t) (OfEndpoint ep)
-none_pending v t ep quiet m is of =
+-- of these slots of an endpoint, what is due starts at a tick or later, or nothing is due
+pub due_fits : (v : CellsValue) (t : ℤ) (ep : ℕ) (P : Slot → Type 0) (Over : SymbolStart → Type 0) (o : Option Ticks)
+    → ((m : SymbolStart) → Over m → (m.ep ≡ ep) × P m.slot) → AreDueFrom v ep P o → FitsFrom v (is_left_after v t) Over o
+due_fits v t ep P Over None of none = λ m is over.
+    let here = of m over in
     second_false (int_lt t m.start.0) (is_left v m)
-    (subst (λ (k : ℕ). is_left v (start_at k m.endpoint m.slot m.symbol) ≡ false) (sym of)
-    (quiet m.endpoint (subst (λ (k : ℕ). IsAt (endpoints_of v) k m.endpoint) of is.at) m.slot m.symbol is.symbol_is))
+    (subst (λ (k : ℕ). is_left v (start_at k m.endpoint m.slot m.symbol) ≡ false) (sym here.0)
+    (none m.endpoint (subst (λ (k : ℕ). IsAt (endpoints_of v) k m.endpoint) here.0 is.at) m.slot m.symbol here.1 is.symbol_is))
+due_fits v t ep P Over (Some first) of from = λ m w over.
+    let here = of m over in
+    let due = (and_parts (int_lt t m.start.0) (is_left v m) w.fit).1 in
+    subst (λ (x : ℤ). first.0 ≤ℤ x) (sym w.is.starts)
+    (from m.endpoint (subst (λ (k : ℕ). IsAt (endpoints_of v) k m.endpoint) here.0 w.is.at) m.slot m.symbol here.1 w.is.symbol_is
+    (subst (λ (k : ℕ). is_left v (start_at k m.endpoint m.slot m.symbol) ≡ true) here.0 due))
 
--- nothing is to be reported of the slot that has a place
-pub none_pending_at : (v : CellsValue) (t : ℤ) (ep index : ℕ)
-    → ((e : EndpointConfig) → IsAt (endpoints_of v) ep e → (slot : Slot) (symbol : ℕ) → cells_index v ep slot ≡ index → symbol < symbols_of e.numerology
-    → is_left v (start_at ep e slot symbol) ≡ false) → HasNone v (is_left_after v t) (InPlace v ep index)
-none_pending_at v t ep index quiet m is of =
-    second_false (int_lt t m.start.0) (is_left v m)
-    (subst (λ (k : ℕ). is_left v (start_at k m.endpoint m.slot m.symbol) ≡ false) (sym of.0)
-    (quiet m.endpoint (subst (λ (k : ℕ). IsAt (endpoints_of v) k m.endpoint) of.0 is.at) m.slot m.symbol of.1 is.symbol_is))
+pub not_used : (v : CellsValue) (t : ℤ) (m : SymbolStart) → is_left v m ≡ false → is_left_after v t m ≡ false
+not_used v t m none = second_false (int_lt t m.start.0) (is_left v m) none
 
 not_after_last : (t s a b : ℤ) → s ≡ a → a ≤ℤ b → int_le b t ≡ true → int_lt t s ≡ false
 not_after_last t s a b p q r = grind (arith, ints)

@@ -1,11 +1,10 @@
 // The next symbol of which something is to be reported.
 ghost use Rattle.std.specs.Prelude.{◌≡◌, ◌-◌, ◌<◌, int_le, false, length, IfNone, IfSome};
-ghost use Rattle.std.specs.Bool.{then_some};
 ghost use Rattle.fh_time.specs.Air.{air_of};
 ghost use Rattle.fh_time.specs.Numbering.{symbols_of};
 ghost use Rattle.symbol_search.specs.Places.{IsPlace, start_in};
 ghost use Rattle.symbol_search.specs.Searches.{InPlace};
-ghost use Rattle.symbol_search.specs.Symbols.{HasNone, InSlot, IsFirst, OfEndpoint};
+ghost use Rattle.symbol_search.specs.Symbols.{FitsFrom, HasNone, InSlot, IsFirst, OfEndpoint};
 ghost use Rattle.symbol_search.specs.unit_cells.specs.Cells.{cells_places, endpoints_of};
 ghost use Rattle.symbol_search.specs.unit_model.specs.Proper.{IsSlot};
 ghost use Rattle.ru_reports.specs.Symbols.{is_left_after};
@@ -39,21 +38,21 @@ impl SymbolTest<'_> for LeftAfter {
 
     ghost is_looked_up = { λ _ _ _ _. Unit {0} };
 
-    /// Looks at one number.
-    fn may_fit(&self, cells: &UnitCells, ep: usize) -> bool
+    /// Looks at two numbers.
+    fn earliest(&self, cells: &UnitCells, ep: usize) -> Option<Ticks>
         requires { ep < length (endpoints_of cells.now) }
-        ensures { result ≡ false → HasNone cells.now (is_left_after cells.now self.now.after.0) (OfEndpoint ep) }
+        ensures { FitsFrom cells.now (is_left_after cells.now self.now.after.0) (OfEndpoint ep) result }
     {
-        cells.has_pending(ep)
+        cells.earliest(ep)
     }
 
-    /// Looks at one number.
-    fn may_fit_at(&self, cells: &UnitCells, ep: usize, index: usize) -> bool
+    /// Looks at two numbers.
+    fn earliest_at(&self, cells: &UnitCells, ep: usize, index: usize) -> Option<Ticks>
         requires ep { ep < length (endpoints_of cells.now) }
         requires index { index < cells_places cells.now ep }
-        ensures { result ≡ false → HasNone cells.now (is_left_after cells.now self.now.after.0) (InPlace cells.now ep index) }
+        ensures { FitsFrom cells.now (is_left_after cells.now self.now.after.0) (InPlace cells.now ep index) result }
     {
-        cells.has_pending_at(ep, index)
+        cells.earliest_at(ep, index)
     }
 
     fn look_up(&self, cells: &UnitCells, place: &SlotPlace<'_>) -> Option<()>
@@ -68,29 +67,28 @@ impl SymbolTest<'_> for LeftAfter {
         }
     }
 
-    /// Where the symbol has nothing to be reported, no cell is looked at.
-    fn fitting(
+    /// Looks at one flag.
+    fn may_fit(&self, cells: &UnitCells, place: &SlotPlace<'_>, symbol: u8) -> bool
+        requires place { IsPlace cells.now place.now }
+        requires symbol { symbol < symbols_of place.now.endpoint.now.numerology }
+        ensures { result ≡ false → is_left_after cells.now self.now.after.0 (start_in place.now symbol) ≡ false }
+    {
+        cells.is_pending(place.ep, place.index, symbol)
+    }
+
+    fn does_fit(
         &self,
         cells: &UnitCells,
         place: &SlotPlace<'_>,
         _lookup: (),
-        symbol: u8,
-    ) -> Option<SymbolStart>
+        m: &SymbolStart,
+    ) -> bool
         requires place { IsPlace cells.now place.now }
-        requires symbol { symbol < symbols_of place.now.endpoint.now.numerology }
-        ensures { result ≡ then_some (is_left_after cells.now self.now.after.0 (start_in place.now symbol)) (start_in place.now symbol) }
+        requires symbol { m.now.symbol < symbols_of place.now.endpoint.now.numerology }
+        requires is { m.now ≡ start_in place.now m.now.symbol }
+        ensures { result ≡ is_left_after cells.now self.now.after.0 m.now }
     {
-        if !cells.is_pending(place.ep, place.index, symbol) {
-            return None;
-        }
-        let m = place.start(symbol);
-        if m.start.0 <= self.after.0 {
-            return None;
-        }
-        if !cells.is_used(m.ep, m.slot, m.symbol) {
-            return None;
-        }
-        Some(m)
+        m.start.0 > self.after.0 && cells.is_used(place.ep, place.slot, m.symbol)
     }
 }
 

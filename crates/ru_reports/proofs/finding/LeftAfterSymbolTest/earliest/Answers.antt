@@ -1,5 +1,6 @@
-use Rattle.ru_reports.proofs.SearchLemmas.{none_pending}
-use Rattle.ru_reports.proofs.finding.LeftAfterSymbolTest.may_fit.Goals as goal
+use Rattle.symbol_search.specs.Symbols.{OfEndpoint}
+use Rattle.ru_reports.proofs.SearchLemmas.{due_fits}
+use Rattle.ru_reports.proofs.finding.LeftAfterSymbolTest.earliest.Goals as goal
 
 pub returns : goal.returns
-returns c none = none_pending c.args.cells.now c.args.self.now.after.0 c.args.ep (c.has_pending.ensures none)
+returns c = due_fits c.args.cells.now c.args.self.now.after.0 c.args.ep (λ slot. Unit {0}) (OfEndpoint c.args.ep) c.earliest.result (λ m of. (of, tt)) c.earliest.ensures

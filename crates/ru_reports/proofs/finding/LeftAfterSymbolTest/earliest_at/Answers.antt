@@ -1,5 +1,10 @@
-use Rattle.ru_reports.proofs.SearchLemmas.{none_pending_at}
-use Rattle.ru_reports.proofs.finding.LeftAfterSymbolTest.may_fit_at.Goals as goal
+use Rattle.std.proofs.Common.{◌≡◌}
+use Rattle.symbol_search.specs.Searches.{InPlace}
+use Rattle.symbol_search.specs.unit_cells.specs.Cells.{cells_index}
+use Rattle.ru_reports.proofs.SearchLemmas.{due_fits}
+use Rattle.ru_reports.proofs.finding.LeftAfterSymbolTest.earliest_at.Goals as goal
 
 pub returns : goal.returns
-returns c none = none_pending_at c.args.cells.now c.args.self.now.after.0 c.args.ep c.args.index (c.has_pending_at.ensures none)
+returns c =
+    due_fits c.args.cells.now c.args.self.now.after.0 c.args.ep (λ slot. cells_index c.args.cells.now c.args.ep slot ≡ c.args.index)
+    (InPlace c.args.cells.now c.args.ep c.args.index) c.earliest_at.result (λ m of. of) c.earliest_at.ensures
