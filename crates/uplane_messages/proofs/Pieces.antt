@@ -13,7 +13,7 @@ use Rattle.uplane_sections.specs.States.{tells, Tells, Answers}
 use Rattle.uplane_sections.proofs.Histories.{silent_walker as nothing_more}
 use Rattle.ecpri_fragments.specs.declared.place.Span.{Span}
 use Rattle.ecpri_fragments.specs.declared.assembly.Lease.{Lease}
-use Rattle.ecpri_fragments.specs.Spans.{pieces_in, bytes_of, span_of}
+use Rattle.ecpri_fragments.specs.Spans.{Inside, bytes_of, end_of_span, pieces_in, span_of}
 use Rattle.uplane_messages.specs.Joined.{piece_of, message_bytes, bytes_from}
 use Rattle.uplane_messages.specs.Left.{NothingLeft, first_of_pieces}
 use Rattle.std.specs.Prelude.{Option, Some, None}
@@ -157,21 +157,21 @@ one_told (feed.Refused x) m r = absurd (r x refl)
 
 -- ---- a lease shows no more than 128 pieces of 16,384 bytes
 
-bytes_short : (span : Option Span) (bytes : List ℕ) → length (bytes_of span bytes) ≤ length bytes
+bytes_short : (span : Option Span) (bytes : List ℕ) → length (bytes_of span bytes) ≤ end_of_span span
 bytes_short None bytes = omega arith
-bytes_short (Some s) bytes = omega (arith, length-take s.len (drop s.from bytes), length-drop s.from bytes)
+bytes_short (Some s) bytes = omega (arith, length-take s.len (drop s.from bytes))
 
-pieces_short : (spans : List (Option Span)) (bytes : List ℕ) (n : ℕ) → length (joined (pieces_in spans bytes n)) ≤ n * length bytes
-pieces_short spans bytes zero = omega arith
-pieces_short spans bytes (suc n) =
+pieces_short : (spans : List (Option Span)) (bytes : List ℕ) (used n : ℕ) → Inside spans used → n ≤ 128 → length (joined (pieces_in spans bytes n)) ≤ n * used
+pieces_short spans bytes used zero inside few = omega arith
+pieces_short spans bytes used (suc n) inside few =
     let p = bytes_of (span_of spans n) bytes in
     let e = ap length (joined_one (pieces_in spans bytes n) p) in
-    let here = pieces_short spans bytes n in
-    omega (arith, e, here, length-append (joined (pieces_in spans bytes n)) p, bytes_short (span_of spans n) bytes)
+    let here = pieces_short spans bytes used n inside (omega arith) in
+    omega (arith, e, here, length-append (joined (pieces_in spans bytes n)) p, bytes_short (span_of spans n) bytes, inside n (omega arith))
 
 pub message_short : (l : Lease) → length (message_bytes l) ≤ 128 * MESSAGE_BYTES
 message_short l =
-    let short = pieces_short l.place.now.spans.items l.place.now.bytes.items l.count in
-    let used : length l.place.now.bytes.items ≤ MESSAGE_BYTES = omega (arith, l.place.now.filled, l.place.now.bytes.ok.0) in
-    let few : l.count * length l.place.now.bytes.items ≤ 128 * length l.place.now.bytes.items = mul-le-mul_right (length l.place.now.bytes.items) l.within in
-    omega (arith, short, used, few)
+    let place = l.place.now in
+    let short = pieces_short place.spans place.bytes place.used l.count place.inside l.within in
+    let few : l.count * place.used ≤ 128 * place.used = mul-le-mul_right place.used l.within in
+    omega (arith, short, place.filled, few)
