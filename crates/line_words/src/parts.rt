@@ -42,6 +42,7 @@ pub fn is_text_in(all: bool, line: &[u8]) -> bool
 }
 
 /// The bytes before the first that is the separator, and those after it, where there is one.
+#[inline(always)]
 pub fn cut(separator: u8, bytes: &[u8]) -> (&[u8], Option<&[u8]>)
     ensures parts { slice_split (λ b. b == separator) bytes.now ≡ result.0.now ∷ parts_left separator result.1 }
     ensures shorter { IfSome result.1 (λ rest. length rest.now < length bytes.now) }
