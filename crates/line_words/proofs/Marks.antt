@@ -1,9 +1,8 @@
 -- The first place that passes among sixteen bytes, by a mask with a bit for each.
-use Rattle.std.proofs.Common.{◌≡◌, ℕ, ◌+◌, ◌<◌, ◌≤◌, Bool, true, false, not, cond, eqb, List, map, length, take, get_or, refl, sym, ap, ◌∙◌, subst, arith, w8}
-use Rattle.std.specs.Prelude.{◌==◌}
+use Rattle.std.proofs.Common.{◌≡◌, ℕ, ◌+◌, ◌<◌, ◌≤◌, Bool, true, not, cond, eqb, List, map, length, get_or, sym, ap, ◌∙◌, subst, arith}
 use Rattle.std.specs.List.{position_or_len, prefix_len}
 use Rattle.std.proofs.lemmas.List.Sums.{position_or_len_is}
-use Rattle.std.proofs.lemmas.Simd.{bitmask_splat, first_set_mask_l, length-chunk, run_in_chunk_fails, run_in_chunk_stops}
+use Rattle.std.proofs.lemmas.Simd.{first_set_mask_l, length-chunk, run_in_chunk_fails, run_in_chunk_stops}
 use lib.Count.{count_trailing_zeros}
 use lib.Lanes.{chunk, mask_l}
 

@@ -1,11 +1,10 @@
 -- A text whose bytes are printable or line feeds has printable lines.
-use Rattle.std.proofs.Common.{◌≡◌, ℕ, List, [], ◌∷◌, Bool, true, false, refl, sym, ap, ◌∙◌, subst, arith}
-use Rattle.std.specs.Prelude.{All, ◌&&◌, ◌||◌, ◌==◌, nat_le, Option, Some, None}
-use Rattle.std.specs.Borrow.{Bor}
+use Rattle.std.proofs.Common.{◌≡◌, ℕ, List, [], ◌∷◌, Bool, true, false, refl, sym, subst, arith}
+use Rattle.std.specs.Prelude.{All, ◌&&◌, ◌||◌, ◌==◌, nat_le}
 use Rattle.std.specs.List.{onto_first, slice_split}
 use Rattle.std.proofs.lemmas.List.Elements.{All-cons, All-head, All-tail}
 use Rattle.std.proofs.lemmas.List.Splits.{slice_split-cons_no, slice_split-cons_yes}
-use Rattle.line_words.specs.Words.{are_texts, is_text, parts_left}
+use Rattle.line_words.specs.Words.{are_texts, is_text}
 
 -- each of these lines is printable
 abbrev pub AreTexts : List (List ℕ) → Type 0

@@ -1,7 +1,7 @@
 //! The lines of a text, and the words of a line.
 //!
-//! Lines are cut at line feeds, words at spaces; an empty word is none. [`Words`] takes no memory and looks at each byte of a
-//! line once; [`first_word`] looks at the first word alone.
+//! Lines are cut at line feeds, words at spaces; an empty word is none. [`Words`] takes no memory; [`first_word`] cuts off the
+//! first word alone.
 #![tactic(auto)]
 
 mod parts;
