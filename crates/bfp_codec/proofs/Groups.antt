@@ -1,11 +1,10 @@
 -- Groups of eight numbers of w bits: w bytes.
-use Rattle.std.proofs.Common.{◌≡◌, ℕ, ℤ, pos, ◌+◌, ◌-◌, ◌*◌, ◌/◌, ◌%◌, ◌^◌, ◌<◌, ◌≤◌, ◌*ℤ◌, List, length, get_or, bit_and, bit_or, add-one, inl, inr, refl, sym, ap, ◌∙◌, arith}
+use Rattle.std.proofs.Common.{◌≡◌, ℕ, ℤ, pos, ◌+◌, ◌-◌, ◌*◌, ◌/◌, ◌%◌, ◌^◌, ◌<◌, ◌≤◌, ◌*ℤ◌, List, length, get_or, bit_and, bit_or, inl, inr, refl, sym, ap, ◌∙◌, arith}
 use Rattle.std.proofs.lemmas.Bool.{cases_lt}
 use Rattle.std.proofs.lemmas.List.{ext_get_or}
-use Rattle.std.proofs.lemmas.Nat.{shl_whole, shl-shr, shr-shr, and_mask, shr_split, or_shifted}
+use Rattle.std.proofs.lemmas.Nat.{mul-le, pow-add, shl_whole, shl-shr, shr-shr, and_mask, shr_split, or_shifted}
 use Rattle.std.proofs.Math.Nat.{mod-eq_of_lt}
 use Rattle.bit_fields.specs.Field.{field, signed, digits}
-use Rattle.bit_fields.proofs.Digits.{digits_fit}
 use Rattle.bit_fields.proofs.Same.{digits_same}
 use Rattle.bfp_codec.proofs.Spelled.{digits_split}
 use Rattle.bit_fields.proofs.Field.{field_of_field, field_split, field_fits}
@@ -25,14 +24,40 @@ group_written bytes at w n high fits e =
     ap (λ i. field bytes i (8 * w)) start ∙ cut ∙ ap (λ k. field bytes (8 * at) 128 / 2 ^ k % 2 ^ (8 * w)) rest
     ∙ ap (λ x. x / 2 ^ s % 2 ^ (8 * w)) whole ∙ ap (λ x. x % 2 ^ (8 * w)) (shl-shr n s) ∙ mod-eq_of_lt fits
 
--- one more digit, by a shift and an `|` at 64 bits
-pub digits_push_64 : (w : ℕ) (f : ℕ → ℕ) (k n m : ℕ) → n ≡ digits w f k → w * k + w ≤ 64 → ((j : ℕ) → j < k → f j < 2 ^ w) → m ≡ f k → m < 2 ^ w
-    → bit_or (n * 2 ^ w % 2 ^ 64) m ≡ digits w f (k + 1)
+-- two digits, by a shift and an `|` at 32 bits
+pub two_ones : (w : ℕ) (f : ℕ → ℕ) (n m : ℕ) → w ≤ 16 → n ≡ f 0 → m ≡ f 1 → n < 2 ^ w → m < 2 ^ w → bit_or (n * 2 ^ w % 2 ^ 32) m ≡ digits w f 2
 unfolding digits
-digits_push_64 w f k n m n_is room fits m_is small =
-    let below : n < 2 ^ (w * k) = rw n_is (digits_fit w f k fits) in
-    let whole : n * 2 ^ w % 2 ^ 64 ≡ n * 2 ^ w = shl_whole n (w * k) w 64 below room in
-    rw (add-one k, whole) (or_shifted n w m small ∙ cc)
+two_ones w f n m high n_is m_is n_small m_small =
+    let first : n ≡ 0 * 2 ^ w + f 0 = omega (arith, n_is) in
+    ap (λ x. bit_or x m) (shl_whole n w w 32 n_small (omega arith)) ∙ or_shifted n w m m_small
+    ∙ ap (λ x. x * 2 ^ w + m) first ∙ ap (λ y. (0 * 2 ^ w + f 0) * 2 ^ w + y) m_is
+
+-- four digits from two and two
+pub two_pairs : (w first n m : ℕ) (f : ℕ → ℕ) → w ≤ 16 → n < 2 ^ (2 * w) → m < 2 ^ (2 * w) → (a b : ℕ) → a ≡ first → b ≡ first + 2
+    → n ≡ digits w (λ k. f (a + k)) 2 → m ≡ digits w (λ k. f (b + k)) 2 → bit_or (n * 2 ^ (2 * w) % 2 ^ 64) m ≡ digits w (λ k. f (first + k)) 4
+two_pairs w first n m f high n_small m_small a b a_is b_is n_is m_is =
+    let g : ℕ → ℕ = λ k. f (first + k) in
+    let whole : n * 2 ^ (2 * w) % 2 ^ 64 ≡ n * 2 ^ (2 * w) = shl_whole n (2 * w) (2 * w) 64 n_small (omega arith) in
+    let turned : w * 2 ≡ 2 * w = omega arith in
+    let front : n ≡ digits w g 2 = n_is ∙ digits_same w (λ k. f (a + k)) g 2 (λ k h. let at : a + k ≡ first + k = omega arith in ap f at) in
+    let back : m ≡ digits w (λ k. g (2 + k)) 2 = m_is ∙ digits_same w (λ k. f (b + k)) (λ k. g (2 + k)) 2 (λ k h. let at : b + k ≡ first + (2 + k) = omega arith in ap f at) in
+    ap (λ x. bit_or x m) whole ∙ or_shifted n (2 * w) m m_small ∙ ap (λ x. x * 2 ^ (2 * w) + m) front ∙ ap (λ x. digits w g 2 * 2 ^ (2 * w) + x) back
+    ∙ sym (digits_split w g 2 2 ∙ ap (λ j. digits w g 2 * 2 ^ j + digits w (λ k. g (2 + k)) 2) turned)
+
+-- two numbers side by side
+module _ (size k n m : ℕ) (room : k + k ≤ size) (n_small : n < 2 ^ k) (m_small : m < 2 ^ k) where
+  beside_fits : bit_or (n * 2 ^ k % 2 ^ size) m < 2 ^ (k + k)
+  beside_fits =
+      let whole : bit_or (n * 2 ^ k % 2 ^ size) m ≡ n * 2 ^ k + m = ap (λ x. bit_or x m) (shl_whole n k k size n_small room) ∙ or_shifted n k m m_small in
+      let rows : (n + 1) * 2 ^ k ≤ 2 ^ k * 2 ^ k = mul-le (n + 1) (2 ^ k) (2 ^ k) (2 ^ k) (omega arith) (omega arith) in
+      let square : 2 ^ (k + k) ≡ 2 ^ k * 2 ^ k = pow-add 2 k k in
+      omega (arith, whole, rows, square, m_small)
+
+pub or_fits : (k n m : ℕ) → k + k ≤ 64 → n < 2 ^ k → m < 2 ^ k → bit_or (n * 2 ^ k % 2 ^ 64) m < 2 ^ (k + k)
+or_fits k n m = beside_fits 64 k n m
+
+pub wide_fits : (k n m : ℕ) → k + k ≤ 128 → n < 2 ^ k → m < 2 ^ k → bit_or (n * 2 ^ k % 2 ^ 128) m < 2 ^ (k + k)
+wide_fits k n m = beside_fits 128 k n m
 
 -- eight digits from four and four
 pub two_fours : (w first n m : ℕ) (f : ℕ → ℕ) → w ≤ 16 → n < 2 ^ (4 * w) → m < 2 ^ (4 * w) → (a b : ℕ) → a ≡ first → b ≡ first + 4

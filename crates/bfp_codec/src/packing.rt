@@ -46,39 +46,50 @@ fn mantissa_bits(x: i16, width: u8, e: u8) -> u16
     floor_at(x, e).cast_unsigned() & ones(width)
 }
 
-/// The mantissas of two samples as one number.
-#[inline(always)]
-fn two_samples(block: &[Iq; 12], width: u8, e: u8, part: usize) -> u64
+/// The mantissas of each sample as one number. A call of its own, so that the samples are shifted side by side.
+#[inline(never)]
+fn pairs(block: &[Iq; 12], width: u8, e: u8) -> [u32; 12]
     requires low { 1 ≤ width }
     requires high { width ≤ 16 }
     requires small { e ≤ 15 }
-    requires part { part ≤ 5 }
     requires fits { BlockFits width e block.now }
-    ensures below { result < 2 ^ (4 * width) }
-    ensures value { result ≡ digits width (λ k. twos width (floor_of (component block.now (4 * part + k)) e)) 4 }
+    ensures value { (k : ℕ) → k < 12 → slice_index result k ≡ digits width (λ j. twos width (floor_of (component block.now (2 * k + j)) e)) 2 }
+    ensures below { (k : ℕ) → k < 12 → slice_index result k < 2 ^ (2 * width) }
 {
-    let mut number: u64 = 0;
-    for k in 0..2 {
-        let at = 2 * part + k;
-        number = (number << width) | mantissa_bits(block[at].i, width, e) as u64;
-        number = (number << width) | mantissa_bits(block[at].q, width, e) as u64;
+    let mut pairs = [0; 12];
+    for k in 0..12 {
+        let i = mantissa_bits(block[k].i, width, e) as u32;
+        let q = mantissa_bits(block[k].q, width, e) as u32;
+        pairs[k] = (i << width) | q;
     }
-    number
+    pairs
+}
+
+/// The mantissas of two samples as one number.
+#[inline(always)]
+fn two_samples(pairs: &[u32; 12], width: u8, part: usize) -> u64
+    requires high { width ≤ 16 }
+    requires part { part ≤ 5 }
+    requires small { (k : ℕ) → k < 12 → slice_index pairs.now k < 2 ^ (2 * width) }
+    ensures below { result < 2 ^ (4 * width) }
+    ensures value { (f : ℕ → ℕ) → ((k : ℕ) → k < 12 → slice_index pairs.now k ≡ digits width (λ j. f (2 * k + j)) 2)
+        → result ≡ digits width (λ k. f (4 * part + k)) 4 }
+{
+    ((pairs[2 * part] as u64) << (2 * width)) | pairs[2 * part + 1] as u64
 }
 
 /// The mantissas of four samples as one number, which fills `width` bytes.
 #[inline(always)]
-fn four_samples(block: &[Iq; 12], width: u8, e: u8, part: usize) -> u128
-    requires low { 1 ≤ width }
+fn four_samples(pairs: &[u32; 12], width: u8, part: usize) -> u128
     requires high { width ≤ 16 }
-    requires small { e ≤ 15 }
     requires part { part ≤ 2 }
-    requires fits { BlockFits width e block.now }
+    requires small { (k : ℕ) → k < 12 → slice_index pairs.now k < 2 ^ (2 * width) }
     ensures below { result < 2 ^ (8 * width) }
-    ensures value { result ≡ digits width (λ k. twos width (floor_of (component block.now (8 * part + k)) e)) 8 }
+    ensures value { (f : ℕ → ℕ) → ((k : ℕ) → k < 12 → slice_index pairs.now k ≡ digits width (λ j. f (2 * k + j)) 2)
+        → result ≡ digits width (λ k. f (8 * part + k)) 8 }
 {
-    let first = two_samples(block, width, e, 2 * part);
-    let second = two_samples(block, width, e, 2 * part + 1);
+    let first = two_samples(pairs, width, 2 * part);
+    let second = two_samples(pairs, width, 2 * part + 1);
     ((first as u128) << (4 * width)) | second as u128
 }
 
@@ -120,9 +131,10 @@ fn pack_at(width: u8, block: &[Iq; 12], into: &mut [u8; 49])
     let e = exponent(block, width);
     let w = width as usize;
     into[0] = e;
-    put_samples(into, 1, width, four_samples(block, width, e, 0));
-    put_samples(into, 1 + w, width, four_samples(block, width, e, 1));
-    put_samples(into, 1 + 2 * w, width, four_samples(block, width, e, 2));
+    let pairs = pairs(block, width, e);
+    put_samples(into, 1, width, four_samples(&pairs, width, 0));
+    put_samples(into, 1 + w, width, four_samples(&pairs, width, 1));
+    put_samples(into, 1 + 2 * w, width, four_samples(&pairs, width, 2));
 }
 
 /// Writes the bytes of a block at a width, with a kernel of its own for each of the usual ones.
