@@ -110,17 +110,22 @@ fn fill(blocks: &mut Vec<Option<Block>>, k: usize, block: &Block)
     prove!(pushed);
 }
 
-/// Fills a list of blocks up to the one with number `k`: most often one more.
-fn reach_next(blocks: &mut Vec<Option<Block>>, k: usize)
-    requires { k < vec_capacity blocks.old }
-    ensures same { (i : ℕ) → get_or blocks.new.items i None ≡ get_or blocks.old.items i None }
-    ensures len { k < vec_len blocks.new }
+/// Appends the block with number `k` and the samples of a packed PRB, which is unpacked there.
+fn push_packed(blocks: &mut Vec<Option<Block>>, k: usize, id: u16, method: Method, packed: &[u8])
+    requires ends { vec_len blocks.old ≤ k }
+    requires room { k < vec_capacity blocks.old }
+    requires width { HasWidth method }
+    requires len { length packed.now ≡ length_of method }
+    ensures here { get_or blocks.new.items k None ≡ Some (record { id = id; samples = unpacked_of method packed.now }) }
+    ensures others { (i : ℕ) → i ≢ k → get_or blocks.new.items i None ≡ get_or blocks.old.items i None }
     ensures capacity { vec_capacity blocks.old ≤ vec_capacity blocks.new }
 {
-    if blocks.len() <= k {
-        reach(blocks, k, None);
-        let pushed = blocks.push(None).is_ok();
-        prove!(pushed);
+    reach(blocks, k, None);
+    let samples = [Wide { i: 0, q: 0 }; 12];
+    let pushed = blocks.push(Some(Block { id, samples })).is_ok();
+    prove!(pushed);
+    if let Some(block) = &mut blocks[k] {
+        unpack_into(method, packed, &mut block.samples);
     }
 }
 
@@ -144,7 +149,10 @@ fn fill_packed(blocks: &mut Vec<Option<Block>>, k: usize, id: u16, method: Metho
     ensures others { (i : ℕ) → i ≢ k → get_or blocks.new.items i None ≡ get_or blocks.old.items i None }
     ensures capacity { vec_capacity blocks.old ≤ vec_capacity blocks.new }
 {
-    reach_next(blocks, k);
+    if blocks.len() <= k {
+        push_packed(blocks, k, id, method, packed);
+        return;
+    }
     let block = &mut blocks[k];
     if block.is_none() {
         unpack_block(block, id, method, packed);
