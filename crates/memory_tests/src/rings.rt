@@ -6,7 +6,7 @@ ghost use Rattle.unit_memory.specs.unit_cells.specs.slot_rings.specs.Rings.{has_
 
 use crate::samples::endpoint;
 use bfp_codec::{Method, Wide};
-use fh_time::{Numerology, Slot, shape};
+use fh_time::{Numerology, Slot, Ticks, shape};
 use slot_rings::{SlotRing, Use};
 use std::test::Fail;
 use unit_model::{Allocation, Block, CommandVerdict};
@@ -30,6 +30,11 @@ const SECOND: Slot = Slot {
     subframe: 0,
     slot: 1,
 };
+
+// the starts of its symbols 2 and 3: it begins half a millisecond before frame 0, and its symbols last 1,096 Ts, the first of them 16 more
+const SYMBOL_2: Ticks = Ticks(-657_600_000);
+
+const SYMBOL_3: Ticks = Ticks(-602_800_000);
 
 /// An endpoint of 4 PRBs.
 fn narrow(numerology: Numerology) -> EndpointConfig
@@ -189,10 +194,10 @@ fn pending(ring: &SlotRing, index: usize) -> Option<[bool; 4]> {
     }
 }
 
-/// Whether the slot of a place may have cells to report, and whether it has uplink sections.
-fn held(ring: &SlotRing, index: usize) -> Option<(bool, bool)> {
+/// When the first symbol of a place starts that may have cells to report, and whether the place has uplink sections.
+fn held(ring: &SlotRing, index: usize) -> Option<(Option<Ticks>, bool)> {
     if index < ring.place_count() {
-        Some((ring.has_pending_at(index), ring.has_uplink_at(index)))
+        Some((ring.earliest_at(index), ring.has_uplink_at(index)))
     } else {
         None
     }
@@ -290,18 +295,18 @@ fn claims_to_report(rt: HostRuntime) -> Result<(), Fail> {
     };
     let up = Allocation { down: false, ..a };
     // idle and uplink sections have no downlink cell to report
-    for (a, flags, uplink) in [
-        (idle, [false; 4], false),
-        (up, [false; 4], true),
-        (a, [false, true, true, false], true),
+    for (a, flags, start, uplink) in [
+        (idle, [false; 4], None, false),
+        (up, [false; 4], None, true),
+        (a, [false, true, true, false], Some(SYMBOL_2), true),
     ] {
         assert_eq!(rt; take(&mut ring, a), Some(CommandVerdict::Accepted));
         assert_eq!(rt; pending(&ring, 1), Some(flags));
-        assert_eq!(rt; (ring.has_pending(), ring.has_uplink()), (flags[1], uplink));
-        assert_eq!(rt; held(&ring, 1), Some((flags[1], uplink)));
+        assert_eq!(rt; (ring.earliest(), ring.has_uplink()), (start, uplink));
+        assert_eq!(rt; held(&ring, 1), Some((start, uplink)));
     }
     assert_eq!(rt; pending(&ring, 0), Some([false; 4]));
-    assert_eq!(rt; held(&ring, 0), Some((false, false)));
+    assert_eq!(rt; held(&ring, 0), Some((None, false)));
     // the place of another slot holds no section of this one
     open(&mut ring, SECOND);
     assert!(rt; !ring.has_uplink());
@@ -312,21 +317,39 @@ fn claims_to_report(rt: HostRuntime) -> Result<(), Fail> {
 fn symbols_are_settled(rt: HostRuntime) -> Result<(), Fail> {
     let n = Numerology::ordinary(1).expect(&rt, "30 kHz");
     let mut ring = SlotRing::make(rt.alloc(), narrow(n), 2)?;
-    assert!(rt; !ring.has_pending() && !ring.has_uplink());
+    assert!(rt; ring.earliest().is_none() && !ring.has_uplink());
     open(&mut ring, LAST);
     let a = allocation(&ring);
     assert_eq!(rt; take(&mut ring, a), Some(CommandVerdict::Accepted));
     // only the report of all PRBs says that no cell is left
-    for (symbol, count, flags, cells) in [
-        (2, 2, [false, true, true, false], [false, true, true]),
-        (2, 3, [false, true, true, false], [false, false, true]),
-        (2, 4, [false, false, true, false], [false, false, true]),
-        (3, 4, [false; 4], [false; 3]),
+    for (symbol, count, flags, cells, start) in [
+        (
+            2,
+            2,
+            [false, true, true, false],
+            [false, true, true],
+            Some(SYMBOL_2),
+        ),
+        (
+            2,
+            3,
+            [false, true, true, false],
+            [false, false, true],
+            Some(SYMBOL_2),
+        ),
+        (
+            2,
+            4,
+            [false, false, true, false],
+            [false, false, true],
+            Some(SYMBOL_3),
+        ),
+        (3, 4, [false; 4], [false; 3], None),
     ] {
         report(&mut ring, symbol, count);
         assert_eq!(rt; pending(&ring, 1), Some(flags));
         assert_eq!(rt; used(&ring, LAST), Some(cells));
-        assert_eq!(rt; ring.has_pending(), flags[2]);
+        assert_eq!(rt; ring.earliest(), start);
     }
     let later = Allocation {
         start_prb: 3,
@@ -336,6 +359,6 @@ fn symbols_are_settled(rt: HostRuntime) -> Result<(), Fail> {
     open(&mut ring, LAST);
     assert_eq!(rt; take(&mut ring, later), Some(CommandVerdict::Accepted));
     assert_eq!(rt; pending(&ring, 1), Some([false, true, true, false]));
-    assert!(rt; ring.has_pending());
+    assert_eq!(rt; ring.earliest(), Some(SYMBOL_2));
     Ok(())
 }
