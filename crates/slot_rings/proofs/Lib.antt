@@ -8,5 +8,6 @@ pub mod RingLemmas
 pub mod RowLemmas
 pub mod PendingLemmas
 pub mod CountLemmas
+pub mod SpanLemmas
 pub mod RunLemmas
 pub mod ReportedLemmas

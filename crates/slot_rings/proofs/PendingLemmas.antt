@@ -52,15 +52,15 @@ due_less : (f g : ℕ → Option Claim) (d : Bool) → ((re : ℕ) → re < 12 �
 due_less f g d less is = due_parts (used_mask f == 0) (used_mask g == 0) d
     (λ e. eq-eqb (used_mask g) 0 (used_less f g 12 less (eqb-true (used_mask f) 0 e))) is
 
-no_due : (g : ℕ → Option Claim) (d : Bool) → ((re : ℕ) → g re ≡ None) → is_due g d ≡ false
+pub no_due : (g : ℕ → Option Claim) (d : Bool) → ((re : ℕ) → re < 12 → g re ≡ None) → is_due g d ≡ false
 unfolding used_below
-no_due g d none = due_less (λ re. None) g d (λ re below off. ap is_used (none re)) refl
+no_due g d none = due_less (λ re. None) g d (λ re below off. ap is_used (none re below)) refl
 
 -- ---- the cells of a symbol, as a place changes
 
 pub due_empty : (prbs s : ℕ) (p : PlaceValue) → p.down ≡ [] → due_in prbs p s ≡ false
 due_empty prbs s p e = some_from 0 prbs _ (λ n low high.
-    no_due _ _ (λ re. ap (λ (l : List CellClaims). claim_in (get_or l (cell_number prbs s 0 + n) no_claims) re) e ∙ no_claim re))
+    no_due _ _ (λ re below. ap (λ (l : List CellClaims). claim_in (get_or l (cell_number prbs s 0 + n) no_claims) re) e ∙ no_claim re))
 
 pub filled_quiet : (prbs s : ℕ) (p q : PlaceValue) → q.down ≡ p.down → q.reported ≡ p.reported → due_in prbs p s ≡ false → due_in prbs q s ≡ false
 filled_quiet prbs s p q down reported off = some_same 0 prbs _ _ (λ n low high.
@@ -227,7 +227,7 @@ downs_pushed (x ∷ xs) p all is (suc i) = downs_pushed xs p (λ j. all (suc j))
 -- ---- a symbol of a slot
 
 pub due_elsewhere : (r : RingValue) (ep : ℕ) (slot : Slot) (s : ℕ) → has_slot r slot ≡ false → ring_due r ep slot s ≡ false
-due_elsewhere r ep slot s none = some_from 0 r.endpoint.prbs _ (λ n low high. no_due _ _ (λ re. rw none refl))
+due_elsewhere r ep slot s none = some_from 0 r.endpoint.prbs _ (λ n low high. no_due _ _ (λ re below. rw none refl))
 
 -- a symbol that is not flagged
 pub unflagged : (r : RingValue) (ep : ℕ) (slot : Slot) (s : ℕ) → (has_slot r slot ≡ true → ring_due r ep slot s ≡ false) → false ≡ ring_due r ep slot s

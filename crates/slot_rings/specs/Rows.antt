@@ -1,5 +1,5 @@
 -- What is known of the claims of a symbol, so that an allocation is judged by one test for each symbol: this project's means.
-use Rattle.std.specs.Prelude.{◌≡◌, ℕ, ◌<◌, ◌&&◌, nat_lt, if◌then◌else◌, List, get_or, Option, Some, None}
+use Rattle.std.specs.Prelude.{◌≡◌, ℕ, ◌<◌, ◌≤◌, ◌&&◌, nat_lt, if◌then◌else◌, List, get_or, Option, Some, None}
 use Rattle.unit_model.specs.Claims.{first_prb, in_mask, is_from, prb_count}
 use Rattle.unit_model.specs.declared.allocations.Allocation.{Allocation}
 use Rattle.unit_model.specs.declared.cells.Claim.{Claim}
@@ -33,6 +33,11 @@ pub record IsRun (prbs : ℕ) (claims : List CellClaims) (symbol : ℕ) (r : Run
 abbrev pub IsRow : ℕ → List CellClaims → ℕ → Row → Type 0
 IsRow prbs claims symbol (Known r) = IsRun prbs claims symbol r
 IsRow prbs claims symbol Mixed = Unit {0}
+
+-- no cell of a symbol outside of these PRBs has a claim
+abbrev pub HasNoneOutside : ℕ → Row → ℕ → ℕ → Type 0
+HasNoneOutside prbs row first end = (claims : List CellClaims) (symbol n re : ℕ) → IsRow prbs claims symbol row → n < prbs → (first ≤ n → end ≤ n) → re < 12
+    → claim_in (get_or claims (cell_number prbs symbol n) no_claims) re ≡ None
 
 abbrev pub empty_row : Row
 empty_row = Known (record { first = 0; count = 0; id = 0; claimed = 0 })

@@ -17,7 +17,7 @@ use crate::claims::CellClaims;
 use crate::judging::{claim, claims_at, is_uplink, verdict};
 use crate::lists::reach;
 use crate::packed::PackedRun;
-use crate::rows::{EMPTY, Row};
+use crate::rows::{EMPTY, Row, Span, row_at, span_of};
 use bfp_codec::{Method, Wide, unpack_into};
 use fh_base::NoMemory;
 use fh_time::{SLOT_SYMBOLS, Slot};
@@ -202,7 +202,7 @@ fn set_used_reported(reported: &mut Vec<bool>, claims: &[CellClaims], from: usiz
 }
 
 impl Place {
-    ghost use Rattle.slot_rings.specs.Places.{empty_place, opened, claims_seen, blocks_seen, reported_seen, place_claim, place_uplink};
+    ghost use Rattle.slot_rings.specs.Places.{cell_number, claim_in, no_claims, empty_place, opened, claims_seen, blocks_seen, reported_seen, place_claim, place_uplink};
     ghost use Rattle.slot_rings.specs.Rows.{AreRows};
     ghost use Rattle.slot_rings.specs.Verdicts.{overlaps_by, verdict_by, claim_after};
 
@@ -290,6 +290,15 @@ impl Place {
         } else {
             &[]
         }
+    }
+
+    /// The PRBs of a symbol of a slot that may have downlink claims.
+    pub(crate) fn span(&self, slot: Slot, symbol: u8) -> Span
+        ensures within { result.end ≤ self.now.prbs }
+        ensures none { (n re : ℕ) → n < self.now.prbs → (result.first ≤ n → result.end ≤ n) → re < 12
+            → claim_in (get_or (claims_seen self.now slot true) (cell_number self.now.prbs symbol n) no_claims) re ≡ None }
+    {
+        span_of(row_at(self.rows(slot, true), symbol as usize), self.prbs)
     }
 
     /// The accepted uplink sections of a slot, the newest last.

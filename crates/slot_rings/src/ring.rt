@@ -261,6 +261,7 @@ impl SlotRing {
             place.reported(slot),
             base,
             self.endpoint.prbs,
+            place.span(slot, symbol),
         )
     }
 

@@ -3,7 +3,7 @@ ghost use Rattle.std.specs.Prelude.{◌≡◌, ℕ, ◌+◌, ◌^◌, ◌<◌, �
 ghost use Rattle.unit_model.specs.Claims.{is_from, is_claimed, is_overlapped};
 ghost use Rattle.unit_model.specs.Lists.{every, some};
 ghost use Rattle.slot_rings.specs.Places.{claim_in};
-ghost use Rattle.slot_rings.specs.Rows.{row_at, run_claims, row_claims, claimed_run, Grows};
+ghost use Rattle.slot_rings.specs.Rows.{row_at, run_claims, row_claims, claimed_run, Grows, HasNoneOutside};
 ghost use Rattle.slot_rings.specs.declared.rows.Row.TheVariants.{Known};
 ghost use Rattle.fh_time.specs.declared.symbols.TheConstants.{SLOT_SYMBOLS};
 
@@ -36,6 +36,30 @@ pub(crate) const EMPTY: Row = Row::Known(Run {
     id: 0,
     claimed: 0,
 });
+
+/// PRBs of a symbol from `first` to before `end`: no other cell of the symbol has a claim.
+#[derive(Clone, Copy)]
+pub(crate) struct Span {
+    pub first: u16,
+    pub end: u16,
+}
+
+/// The PRBs that may have claims, of a symbol on a carrier of so many.
+pub(crate) fn span_of(row: Row, prbs: u16) -> Span
+    ensures within { result.end ≤ prbs }
+    ensures none { HasNoneOutside prbs row result.first result.end }
+{
+    match row {
+        Row::Known(run) => Span {
+            first: run.first,
+            end: run.first.saturating_add(run.count).min(prbs),
+        },
+        Row::Mixed => Span {
+            first: 0,
+            end: prbs,
+        },
+    }
+}
 
 impl Run {
     /// The claims of its cells, idle or not.

@@ -1,10 +1,11 @@
 // Tests over the cells of one symbol.
-ghost use Rattle.std.specs.Prelude.{◌≡◌, ◌+◌, ◌^◌, ◌<◌, ◌&&◌, false, get_or, is_some, None, option_copied};
+ghost use Rattle.std.specs.Prelude.{◌≡◌, ℕ, ◌+◌, ◌^◌, ◌<◌, ◌≤◌, ◌&&◌, false, get_or, is_some, None, option_copied};
 ghost use Rattle.unit_model.specs.Lists.{every, some};
 ghost use Rattle.slot_rings.specs.Places.{claim_in, no_claims, is_due};
 
 use crate::claims::CellClaims;
 use crate::judging::claims_at;
+use crate::rows::Span;
 use unit_model::Block;
 
 /// The block of one cell.
@@ -38,12 +39,21 @@ pub(crate) fn all_there(blocks: &[Option<Block>], base: usize, first: u16, count
     true
 }
 
-/// Whether one of these cells is in use and was not reported.
-pub(crate) fn any_due(claims: &[CellClaims], reported: &[bool], base: usize, count: u16) -> bool
-    requires { base < 2 ^ 32 }
+/// Whether one of these cells is in use and was not reported, where none outside of a span is.
+pub(crate) fn any_due(
+    claims: &[CellClaims],
+    reported: &[bool],
+    base: usize,
+    count: u16,
+    span: Span,
+) -> bool
+    requires base { base < 2 ^ 32 }
+    requires within { span.end ≤ count }
+    requires outside { (n : ℕ) → n < count → (span.first ≤ n → span.end ≤ n)
+        → is_due (claim_in (get_or claims.now (base + n) no_claims)) (get_or reported.now (base + n) false) ≡ false }
     ensures { result ≡ some 0 count (λ n. is_due (claim_in (get_or claims.now (base + n) no_claims)) (get_or reported.now (base + n) false)) }
 {
-    for n in 0..count as usize {
+    for n in span.first as usize..span.end as usize {
         if claims_at(claims, base + n).used() != 0 && !reported_here(reported, base + n) {
             return true;
         }

@@ -1,0 +1,13 @@
+-- The PRBs of a symbol that may have claims.
+use Rattle.std.proofs.Common.{◌≡◌, ℕ, ◌+◌, ◌<◌, false, List, get_or, ap₂, ◌∙◌, arith, Bool, None}
+use Rattle.slot_rings.specs.Places.{cell_number, claim_in, is_due, no_claims}
+use Rattle.slot_rings.specs.declared.claims.CellClaims.{CellClaims}
+use Rattle.slot_rings.proofs.PendingLemmas.{no_due}
+
+-- none is due of cells without claims
+pub none_due : (prbs symbol base n : ℕ) (claims seen : List CellClaims) (d : Bool) → base ≡ cell_number prbs symbol 0 → claims ≡ seen
+    → ((re : ℕ) → re < 12 → claim_in (get_or seen (cell_number prbs symbol n) no_claims) re ≡ None)
+    → is_due (claim_in (get_or claims (base + n) no_claims)) d ≡ false
+none_due prbs symbol base n claims seen d at same none = no_due _ d (λ re below.
+    let here : base + n ≡ cell_number prbs symbol n = omega (arith, at) in
+    ap₂ (λ (l : List CellClaims) (k : ℕ). claim_in (get_or l k no_claims) re) same here ∙ none re below)
