@@ -5,8 +5,10 @@ use Rattle.std.proofs.lemmas.Bool.{cases_Bool, cases_eq, cases_lt}
 use Rattle.std.proofs.lemmas.Bool.Decides.{nat_tests}
 use Rattle.std.proofs.lemmas.List.{get_or-drop, get_or_past, take_rest}
 use Rattle.unit_model.specs.Claims.{is_from}
+use Rattle.fh_time.proofs.Orders.{both_ways}
+use Rattle.slot_rings.proofs.JudgeLemmas.{from_above, from_below}
 use Rattle.slot_rings.proofs.RunLemmas.{behind_all, not_before, not_last}
-use Rattle.unit_model.proofs.ClaimLemmas.{starts_before as from_low, from_within as from_high}
+use Rattle.unit_model.proofs.ClaimLemmas.{is_in as from_in, starts_before as from_low, from_within as from_high}
 
 -- what a list has from one number on
 pub items_behind : {A : Type 0} (xs : List A) (from start k : ℕ) (blank : A) → start ≡ min from (length xs)
@@ -56,3 +58,37 @@ still_reported old new uses from count here others i was = elim (cases_Bool (is_
 -- a PRB behind the first so many is none of them
 pub prb_behind : (count n : ℕ) → count ≤ n → is_from 0 count n ≡ false
 prb_behind count n h = grind (arith, nat_tests)
+
+-- ---- of a symbol whose claims are within a span
+
+or_none : (b u : Bool) → u ≡ false → b ≡ (b || u)
+or_none true u e = refl
+or_none false u e = sym e
+
+module _ (old new : List Bool) (uses : ℕ → Bool) (from first end count : ℕ) (order : first ≤ end) (within : end ≤ count)
+    (here : (k : ℕ) → k < end - first → get_or new (from + first + k) false ≡ (get_or old (from + first + k) false || uses (from + first + k)))
+    (others : (i : ℕ) → is_from (from + first) (end - first) i ≡ false → get_or new i false ≡ get_or old i false) where
+  pub span_here : ((k : ℕ) → k < count → (first ≤ k → end ≤ k) → uses (from + k) ≡ false)
+      → (k : ℕ) → k < count → get_or new (from + k) false ≡ (get_or old (from + k) false || uses (from + k))
+  span_here none k below = elim (cases_lt k first) [
+    | inl before ↦
+        others (from + k) (from_below (from + first) (end - first) (from + k) (omega (arith, before)))
+        ∙ or_none (get_or old (from + k) false) (uses (from + k)) (none k below (λ after. absurd (omega (arith, before, after))))
+    | inr after ↦ elim (cases_lt k end) [
+      | inl inside ↦
+          let at : from + first + (k - first) ≡ from + k = omega (arith, after) in
+          subst (λ (j : ℕ). get_or new j false ≡ (get_or old j false || uses j)) at (here (k - first) (omega (arith, after, inside)))
+      | inr past ↦
+          others (from + k) (from_above (from + first) (end - first) (from + k) (omega (arith, order, past)))
+          ∙ or_none (get_or old (from + k) false) (uses (from + k)) (none k below (λ low. omega (arith, past)))
+    ]
+  ]
+
+  pub span_others : (i : ℕ) → is_from from count i ≡ false → get_or new i false ≡ get_or old i false
+  span_others i out = others i (elim (cases_lt i from) [
+    | inl before ↦ from_below (from + first) (end - first) i (omega (arith, before))
+    | inr low ↦ elim (cases_lt i (from + count)) [
+      | inl high ↦ absurd (both_ways (is_from from count i) (from_in from count i (omega (arith, low)) high) out)
+      | inr past ↦ from_above (from + first) (end - first) i (omega (arith, past, order, within))
+    ]
+  ])

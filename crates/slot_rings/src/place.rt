@@ -421,8 +421,25 @@ impl Place {
         fill_run(&mut self.blocks, from, run);
     }
 
+    /// Sets as reported those of the first so many downlink cells of a symbol that are in use, where it begins at number `from`.
+    pub(crate) fn set_used_reported(&mut self, symbol: u8, from: usize, count: u16)
+        requires symbol { symbol < SLOT_SYMBOLS }
+        requires from { from ≡ cell_number self.old.prbs symbol 0 }
+        requires count { count ≤ self.old.prbs }
+        ensures here { (k : ℕ) → k < count → get_or self.new.reported (from + k) false
+            ≡ (get_or self.old.reported (from + k) false || is_in_use (claim_in (get_or self.old.down (from + k) no_claims))) }
+        ensures others { (i : ℕ) → is_from from count i ≡ false → get_or self.new.reported i false ≡ get_or self.old.reported i false }
+        ensures kept { self.new ≡ record self.old { reported = self.new.reported } }
+    {
+        let row = row_at(&self.down_rows, symbol as usize);
+        let span = span_of(row, self.prbs);
+        let end = span.end.min(count);
+        let first = span.first.min(end);
+        self.set_cells_reported(from + first as usize, (end - first) as usize);
+    }
+
     /// Sets as reported those of so many downlink cells, from number `from` on, that are in use.
-    pub(crate) fn set_used_reported(&mut self, from: usize, count: usize)
+    fn set_cells_reported(&mut self, from: usize, count: usize)
         requires { from + count ≤ SLOT_SYMBOLS * self.old.prbs }
         ensures here { (k : ℕ) → k < count → get_or self.new.reported (from + k) false
             ≡ (get_or self.old.reported (from + k) false || is_in_use (claim_in (get_or self.old.down (from + k) no_claims))) }

@@ -369,7 +369,7 @@ impl SlotRing {
         let number = self.number(symbol, 0);
         let index = self.index(slot);
         let all = count == self.endpoint.prbs;
-        self.places[index].set_used_reported(number, count as usize);
+        self.places[index].set_used_reported(symbol, number, count);
         self.pending.clear_reported(index, symbol, all);
     }
 

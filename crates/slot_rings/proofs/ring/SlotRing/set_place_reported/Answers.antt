@@ -7,18 +7,20 @@ use Rattle.slot_rings.proofs.ReportedLemmas.{still_reported}
 use Rattle.slot_rings.proofs.PendingLemmas.{all_quiet, flagged_told, reported_quiet}
 use Rattle.slot_rings.proofs.CountLemmas.{sections_kept}
 use Rattle.slot_rings.proofs.RingLemmas.{put_kept, read_prbs}
-use Rattle.slot_rings.proofs.RunLemmas.{cells_fit}
 use Rattle.slot_rings.proofs.StartLemmas.{starts_kept}
 use Rattle.slot_rings.proofs.ring.SlotRing.set_place_reported.Goals as goal
 
-pub set_used_reported-requires : goal.set_used_reported-requires
-set_used_reported-requires c =
+width : (c : goal.After-index_mut) → c.index_mut.result.now.prbs ≡ c.args.self.now.endpoint.prbs
+width c =
     let r : RingValue = record { endpoint = c.self.inside.endpoint; places = c.self.inside.places.items } in
     let within : c.index-index.result < length r.places = subst (λ (x : RingValue). c.index-index.result < length x.places) (sym c.self.view_is) c.index-index.ensures.within in
-    let width : c.index_mut.result.now.prbs ≡ c.args.self.now.endpoint.prbs =
-    read_prbs r c.index-index.result c.index_mut.result.now c.self.invariant.0 within c.index_mut.ensures.value ∙ ap (λ (x : RingValue). x.endpoint.prbs) c.self.view_is in
-    let fits = cells_fit c.args.symbol c.args.self.now.endpoint.prbs 0 c.args.count c.requires.symbol (omega (arith, c.requires.count)) in
-    omega (arith, width, fits, c.number-number.ensures.value)
+    read_prbs r c.index-index.result c.index_mut.result.now c.self.invariant.0 within c.index_mut.ensures.value ∙ ap (λ (x : RingValue). x.endpoint.prbs) c.self.view_is
+
+pub set_used_reported-requires-clause-from : goal.set_used_reported-requires-clause-from
+set_used_reported-requires-clause-from c = c.number-number.ensures.value ∙ ap (λ (n : ℕ). cell_number n c.args.symbol 0) (sym (width c))
+
+pub set_used_reported-requires-clause-count : goal.set_used_reported-requires-clause-count
+set_used_reported-requires-clause-count c = let w = width c in omega (arith, w, c.requires.count)
 
 pub invariant_of-self : goal.invariant_of-self
 invariant_of-self c =
