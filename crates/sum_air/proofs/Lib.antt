@@ -1,5 +1,6 @@
 pub mod Bounds
 pub mod Cut
+pub mod Elements
 pub mod Kept
 pub mod Ranges
 pub mod Same

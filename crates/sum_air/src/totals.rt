@@ -1,5 +1,5 @@
 // What is added up of the cells of a line.
-ghost use Rattle.std.specs.Prelude.{◌≡◌, ℕ, ◌+◌, ◌*◌, ◌<◌, ◌≤◌, ◌^◌};
+ghost use Rattle.std.specs.Prelude.{◌≡◌, ℕ, ◌+◌, ◌*◌, ◌%◌, ◌<◌};
 ghost use Rattle.sum_air.specs.Totals.{no_totals, with_sample, with_element, samples_totals, cell_totals, plus, IsWithin};
 
 use air_source::AirCell;
@@ -46,21 +46,53 @@ fn with_element(totals: Totals, mask: u16, sample: Wide, k: usize) -> Totals
     }
 }
 
+/// No element.
+fn no_totals() -> Totals
+    ensures { result ≡ no_totals }
+{
+    Totals {
+        elements: 0,
+        i: 0,
+        q: 0,
+        missing: 0,
+    }
+}
+
+/// The sums of all elements of a block, which the mask has.
+fn all_totals(mask: u16, block: &[Wide; 12]) -> Totals
+    requires full { mask % 4096 ≡ 4095 }
+    ensures value { result ≡ samples_totals mask block.now 12 }
+    ensures within { IsWithin 12 result }
+{
+    let mut totals = no_totals();
+    for k in 0..12 {
+        totals = with_sample(totals, block[k]);
+    }
+    totals
+}
+
+/// The sums of the elements that any mask has of a block.
+fn some_totals(mask: u16, block: &[Wide; 12]) -> Totals
+    ensures value { result ≡ samples_totals mask block.now 12 }
+    ensures within { IsWithin 12 result }
+{
+    let mut totals = no_totals();
+    for k in 0..12 {
+        totals = with_element(totals, mask, block[k], k);
+    }
+    totals
+}
+
 /// The sums of the elements that the mask has of a block.
 fn samples_totals(mask: u16, block: &[Wide; 12]) -> Totals
     ensures value { result ≡ samples_totals mask block.now 12 }
     ensures within { IsWithin 12 result }
 {
-    let mut totals = Totals {
-        elements: 0,
-        i: 0,
-        q: 0,
-        missing: 0,
-    };
-    for k in 0..12 {
-        totals = with_element(totals, mask, block[k], k);
+    if mask % 0x1000 == 0xfff {
+        all_totals(mask, block)
+    } else {
+        some_totals(mask, block)
     }
-    totals
 }
 
 /// What a cell adds to a line.

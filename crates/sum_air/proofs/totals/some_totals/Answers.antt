@@ -1,14 +1,14 @@
-use Rattle.std.proofs.Common.{◌∙◌, ap, add-one, arith, refl, rules, get_or}
-use Rattle.std.proofs.lemmas.Int.{ints}
+use Rattle.std.proofs.Common.{◌∙◌, ap, add-one, rules, get_or}
 use Rattle.report_lines.specs.bfp_codec.specs.Samples.{no_wide}
 use Rattle.sum_air.specs.Totals.{samples_totals, with_element}
-use Rattle.sum_air.proofs.totals.samples_totals.Goals as goal
+use Rattle.sum_air.proofs.Elements.{none_within}
+use Rattle.sum_air.proofs.totals.some_totals.Goals as goal
 
 pub loop-k-init : goal.loop-k-init
 unfolding samples_totals
 loop-k-init c = record {
-  value = refl;
-  within = record { elements = omega arith; missing = omega arith; i_low = omega (arith, ints); i_high = omega (arith, ints); q_low = omega (arith, ints); q_high = omega (arith, ints) };
+  value = c.no_totals-totals.ensures;
+  within = rw c.no_totals-totals.ensures none_within;
   size = search rules;
 }
 
