@@ -1,7 +1,7 @@
--- The tables of the digits of each number below 100.
-use Rattle.std.proofs.Common.{◌≡◌, ℕ, zero, suc, ◌+◌, ◌-◌, ◌*◌, ◌/◌, ◌%◌, ◌<◌, nat_lt, if◌then◌else◌, Bool, true, ◌&&◌, T, eqb, get_or, inl, inr, arith, eq-zero-or-pos, eqb→eq}
+-- The table of the digits of each number below 100.
+use Rattle.std.proofs.Common.{◌≡◌, ℕ, zero, suc, ◌+◌, ◌-◌, ◌*◌, ◌/◌, ◌%◌, ◌<◌, Bool, true, ◌&&◌, T, eqb, get_or, inl, inr, arith, eq-zero-or-pos, eqb→eq}
 use lib.Ieee.Fits.{and_l, and_r}
-use Rattle.text_lines.specs.declared.digits.TheConstants.{PAIRS, LEADING}
+use Rattle.text_lines.specs.declared.digits.TheConstants.{PAIRS}
 
 abbrev are_pairs : ℕ → Bool
 are_pairs zero = true
@@ -17,25 +17,3 @@ below (suc n) p t h =
 
 pub pair_at : (p : ℕ) → p < 100 → (get_or PAIRS (p * 2) 0 ≡ 48 + p / 10) × (get_or PAIRS (p * 2 + 1) 0 ≡ 48 + p % 10)
 pair_at p h = below 100 p tt h
-
-abbrev first_digit : ℕ → ℕ
-first_digit p = if nat_lt p 10 then 48 + p else 48 + p / 10
-
-abbrev are_leading : ℕ → Bool
-are_leading zero = true
-are_leading (suc p) = (eqb (get_or LEADING (p * 2) 0) (first_digit p) && eqb (get_or LEADING (p * 2 + 1) 0) (48 + p % 10)) && are_leading p
-
-leading_below : (n p : ℕ) → T (are_leading n) → p < n → (get_or LEADING (p * 2) 0 ≡ first_digit p) × (get_or LEADING (p * 2 + 1) 0 ≡ 48 + p % 10)
-leading_below zero p t h = absurd (omega arith)
-leading_below (suc n) p t h =
-    elim (eq-zero-or-pos (n - p)) [
-      | inl z ↦ let e : p ≡ n = omega arith in let a = and_l _ (are_leading n) t in rw e (eqb→eq _ _ (and_l _ _ a), eqb→eq _ _ (and_r _ _ a))
-      | inr g ↦ leading_below n p (and_r _ (are_leading n) t) (omega arith)
-    ]
-
-pub leading_at : (p : ℕ) → p < 100 → (get_or LEADING (p * 2) 0 ≡ first_digit p) × (get_or LEADING (p * 2 + 1) 0 ≡ 48 + p % 10)
-leading_at p h = leading_below 100 p tt h
-
--- the hundreds by a product and a shift
-pub hundreds_are : (n : ℕ) → n < 10000 → n * 5243 / 524288 ≡ n / 100
-hundreds_are n most = omega arith

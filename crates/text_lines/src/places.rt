@@ -1,10 +1,9 @@
 // Numbers that are written at a place among bytes. Each call answers where its text ends; what stands after that may be anything.
-ghost use Rattle.std.specs.Prelude.{◌≡◌, ◌+◌, ◌<◌, ◌≤◌, take, length, [], ◌∷◌, ◌++◌, decimal, if◌then◌else◌};
+ghost use Rattle.std.specs.Prelude.{◌≡◌, ◌+◌, ◌<◌, ◌≤◌, take, length, [], ◌∷◌, ◌++◌, decimal, unsigned_abs, if◌then◌else◌};
 ghost use Rattle.std.specs.Fmt.{signed_decimal};
-ghost use Rattle.text_lines.specs.Digits.{hundreds_text};
 ghost use Rattle.text_lines.specs.Words.{spaced_text, spaced_pair_text};
 
-use crate::digits::{leading, pair, parted};
+use crate::digits::pair;
 use crate::small_numbers::row;
 use itoa::Buffer;
 
@@ -57,33 +56,17 @@ fn put_three(into: &mut [u8; ROOM], at: usize, n: u32) -> usize
     at + count
 }
 
-/// Writes the hundreds of a number, which are below 100, and nothing where there are none.
-#[inline(always)]
-fn put_hundreds(into: &mut [u8; ROOM], at: usize, hundreds: u32) -> usize
-    requires small { hundreds < 100 }
-    requires room { at + 2 ≤ 512 }
-    ensures text { take result into.new ≡ take at into.old ++ hundreds_text hundreds }
-    ensures end { result ≤ at + 2 }
-{
-    let (first, last) = leading(hundreds);
-    let behind = put_byte(into, at, first);
-    put_byte(into, behind, last);
-    at + usize::from(hundreds >= 1) + usize::from(hundreds >= 10)
-}
-
-/// Writes a number below 10,000 in decimal, without a branch.
+/// Writes a number of four digits in decimal.
 #[inline(always)]
 fn put_four(into: &mut [u8; ROOM], at: usize, n: u32) -> usize
-    requires small { n < 10000 }
+    requires four { (1000 ≤ n) × (n < 10000) }
     requires room { at + 4 ≤ 512 }
     ensures text { take result into.new ≡ take at into.old ++ decimal n }
     ensures end { result ≤ at + 4 }
 {
-    let (hundreds, rest) = parted(n);
-    let (tens, ones) = pair(rest);
-    let at = put_hundreds(into, at, hundreds);
-    let at = put_if(into, at, tens, n >= 10);
-    put_byte(into, at, ones)
+    let (thousands, hundreds) = pair(n / 100);
+    let (tens, ones) = pair(n % 100);
+    put_text(into, at, &[thousands, hundreds, tens, ones])
 }
 
 /// Writes a number of five digits in decimal.
@@ -99,18 +82,31 @@ fn put_five(into: &mut [u8; ROOM], at: usize, n: u32) -> usize
     put_text(into, at, &[first, thousands, hundreds, tens, ones])
 }
 
-// Writes a number of any size in decimal.
+// Writes a number of four or five digits in decimal.
+#[inline(always)]
+fn put_size(into: &mut [u8; ROOM], at: usize, size: u32) -> usize
+    requires small { (1000 ≤ size) × (size < 100000) }
+    requires room { at + 5 ≤ 512 }
+    ensures text { take result into.new ≡ take at into.old ++ decimal size }
+    ensures end { result ≤ at + 5 }
+{
+    if size < 10_000 {
+        put_four(into, at, size)
+    } else {
+        put_five(into, at, size)
+    }
+}
+
+// Writes a number of at least four digits in decimal.
 #[inline(never)]
 fn put_large(into: &mut [u8; ROOM], at: usize, n: u64) -> usize
-    requires { at + 20 ≤ 512 }
+    requires large { 1000 ≤ n }
+    requires room { at + 20 ≤ 512 }
     ensures text { take result into.new ≡ take at into.old ++ decimal n }
     ensures end { result ≤ at + 20 }
 {
-    if n < 10_000 {
-        return put_four(into, at, n as u32);
-    }
     if n < 100_000 {
-        return put_five(into, at, n as u32);
+        return put_size(into, at, n as u32);
     }
     let mut buffer = Buffer::new();
     put_text(into, at, buffer.format(n).as_bytes())
@@ -140,25 +136,11 @@ pub(crate) fn put_signed(into: &mut [u8; ROOM], at: usize, n: i64) -> usize
     put_text(into, at, buffer.format(n).as_bytes())
 }
 
-// Writes a size below 100,000 in decimal.
-#[inline(always)]
-fn put_size(into: &mut [u8; ROOM], at: usize, size: u32) -> usize
-    requires small { size < 100000 }
-    requires room { at + 5 ≤ 512 }
-    ensures text { take result into.new ≡ take at into.old ++ decimal size }
-    ensures end { result ≤ at + 5 }
-{
-    if size < 10_000 {
-        put_four(into, at, size)
-    } else {
-        put_five(into, at, size)
-    }
-}
-
-// Writes a signed number of 32 bits and of any size in decimal.
+// Writes a signed number of 32 bits and of at least four digits in decimal.
 #[inline(never)]
 fn put_large_signed(into: &mut [u8; ROOM], at: usize, n: i32) -> usize
-    requires { at + 11 ≤ 512 }
+    requires large { 1000 ≤ unsigned_abs n }
+    requires room { at + 11 ≤ 512 }
     ensures text { take result into.new ≡ take at into.old ++ signed_decimal n }
     ensures end { result ≤ at + 11 }
 {
