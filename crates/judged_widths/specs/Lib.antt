@@ -1,0 +1,2 @@
+pub use Rattle.unit_memory
+pub mod Widths

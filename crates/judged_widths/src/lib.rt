@@ -1,0 +1,6 @@
+//! What a unit judges has numbers of the widths of their fields.
+#![tactic(auto)]
+
+mod laws;
+
+pub use laws::{commands_have_widths, judgements_have_widths};
