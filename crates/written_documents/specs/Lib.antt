@@ -1,0 +1,2 @@
+pub use Rattle.fh_document
+pub mod Written
