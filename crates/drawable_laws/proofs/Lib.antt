@@ -12,4 +12,4 @@ mod Reasons
 mod Missing
 mod Silent
 mod Ends
-mod Drawable
+pub mod Drawable

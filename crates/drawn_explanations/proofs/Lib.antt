@@ -9,4 +9,4 @@ mod Reading
 mod Grids
 mod Sections
 mod Arrivals
-mod Drawn
+pub mod Drawn

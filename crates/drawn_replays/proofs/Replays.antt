@@ -1,0 +1,34 @@
+-- The events of a replay.
+use Rattle.std.proofs.Common.{ℤ, pos, ◌+ℤ◌, ◌-ℤ◌, List, sym, subst}
+use Rattle.std.specs.Prelude.{All}
+use Rattle.air_source.specs.declared.events.Side.{Side}
+use Rattle.air_source.specs.declared.events.Side.TheVariants.{Du, Ru}
+use Rattle.unit_model.specs.Meetings.{Arrival}
+use Rattle.unit_model.specs.Proper.{IsTime}
+use Rattle.unit_model.specs.Standing.{AreInTime}
+use Rattle.replay_events.specs.Moments.{all_arrivals, end_of_time}
+use Rattle.replay_events.specs.Passing.{AreLandings}
+use Rattle.replay_events.specs.Traffic.{Traffic, landings_at}
+use Rattle.replay_events.proofs.CameLemmas.{arrivals_in_time}
+use Rattle.explain_laws.proofs.ReplayLemmas.{arrivals_are}
+use Rattle.drawn_replays.specs.Replays.{ReplaysAreDrawn}
+use Rattle.drawn_replays.proofs.Cells.{events_placed}
+
+abbrev last_clock : ℤ
+last_clock = (end_of_time +ℤ pos 1) -ℤ pos 1
+
+landings_are : (side : Side) (t : Traffic) → AreLandings t.at_ru → AreLandings t.at_du → AreLandings (landings_at side t)
+landings_are Ru t ru du = ru
+landings_are Du t ru du = du
+
+pub replays_are_drawn : ReplaysAreDrawn
+replays_are_drawn c t config ru du short few =
+    let proper : (side : Side) → AreInTime last_clock (all_arrivals (landings_at side t)) × All (λ (a : Arrival). IsTime a.at) (all_arrivals (landings_at side t)) =
+    λ side. arrivals_in_time (landings_at side t) (end_of_time +ℤ pos 1) (landings_are side t ru du) in
+    record {
+      clock = last_clock;
+      order = λ side. subst (λ (xs : List Arrival). AreInTime last_clock xs) (sym (arrivals_are side c t)) (proper side).0;
+      times = λ side. subst (λ (xs : List Arrival). All (λ (a : Arrival). IsTime a.at) xs) (sym (arrivals_are side c t)) (proper side).1;
+      few = few;
+      cells = events_placed c t config short;
+    }
