@@ -1,5 +1,5 @@
 -- The lines of events: arrivals, delays and runs of cells.
-use Rattle.std.proofs.Common.{◌≡◌, ℕ, ◌+◌, ◌^◌, ◌<◌, ◌==◌, Bool, true, false, ◌&&◌, List, [], ◌∷◌, ◌++◌, length, Option, Some, None, refl, sym, ap, arith}
+use Rattle.std.proofs.Common.{◌≡◌, ℕ, ◌+◌, ◌<◌, ◌==◌, Bool, true, false, ◌&&◌, List, [], ◌∷◌, ◌++◌, length, Option, Some, None, refl, sym, ap, arith}
 use Rattle.std.specs.Prelude.{if◌then◌else◌}
 use Rattle.std.specs.List.{AllByRecursion}
 use Rattle.std.specs.Ordering.{int_eq}
@@ -10,7 +10,7 @@ use Rattle.air_source.specs.declared.events.AirCell.{AirCell}
 use Rattle.air_source.specs.declared.events.Event.{Event}
 use Rattle.window_config.specs.declared.config.Config.{Config}
 use Rattle.window_config.specs.declared.endpoints.EndpointConfig.{EndpointConfig}
-use Rattle.drawn_explanations.specs.Drawable.{IsDrawnWord}
+use Rattle.drawn_explanations.specs.Drawable.{IsDrawnWord, IsShort}
 use Rattle.explain_lines.specs.declared.values.ExplainLine.TheVariants as line
 use Rattle.explain_model.specs.Cells.{Entry, Lines, Of, entries, entries_after, entry_of, event_lines, giver_in, lines_in, piece_lines, run_from, runs_on, same_symbol, same_word, some_gives, word_by}
 use Rattle.explain_model.specs.Judged.{judged_before}
@@ -79,11 +79,11 @@ module _ (es : List EndpointConfig) where
 
   -- ---- the word of a cell
 
-  number_by : (b : Bool) (m n : ℕ) → m < 2 ^ 32 → n < 2 ^ 32 → (if b then m else n) < 2 ^ 32
+  number_by : (b : Bool) (m n : ℕ) → IsShort m → IsShort n → IsShort (if b then m else n)
   number_by true m n h k = h
   number_by false m n h k = k
 
-  giver_short : (ss : List Story) (a : AirCell) → AllByRecursion (IsFineStory es) ss → giver_in ss a < 2 ^ 32
+  giver_short : (ss : List Story) (a : AirCell) → AllByRecursion (IsFineStory es) ss → IsShort (giver_in ss a)
   unfolding giver_in
   giver_short [] a h = omega arith
   giver_short (s ∷ later) a h = number_by (same_side s.side a.side && some_gives s.judged a) s.number (giver_in later a) h.0.number (giver_short later a h.1)

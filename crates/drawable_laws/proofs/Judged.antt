@@ -22,7 +22,7 @@ use Rattle.unit_cells.specs.declared.heading.DataHeading.{DataHeading}
 use Rattle.unit_memory.specs.Judgements.{Commanded, Fragmented, Given, Judgement, Met, Turned, Unread}
 use Rattle.sound_judgements.specs.Sound.{IsSoundJudgement}
 use Rattle.judged_widths.specs.Widths.{HasControlWidths, HasWidths}
-use Rattle.drawn_explanations.specs.Drawable.{IsDrawnControl, IsDrawnData, IsDrawnLine, is_to_radio}
+use Rattle.drawn_explanations.specs.Drawable.{IsDrawnControl, IsDrawnData, IsDrawnLine, IsShort, is_to_radio}
 use Rattle.explain_lines.specs.declared.values.ExplainLine.{ExplainLine}
 use Rattle.explain_model.specs.Messages.{line_to, message_lines}
 use Rattle.explain_model.specs.Sections.{control_line, data_line, judged_lines, judgement_lines, story_lines}
@@ -41,7 +41,7 @@ pub record IsKnown (c : Config) : Type 0 where
 
 -- an arrival with a number that fits, all of whose judgements are sound
 pub record IsFineStory (es : List EndpointConfig) (s : Story) : Type 0 where
-  pub number : s.number < 2 ^ 32
+  pub number : IsShort s.number
   pub sound : AllByRecursion (IsSoundJudgement es) s.judged
   pub widths : AllByRecursion (HasWidths s.side) s.judged
 
@@ -69,7 +69,7 @@ module _ (es : List EndpointConfig) (side : Side) (number : ℕ) where
 
 -- ---- sections
 
-control_drawn : (es : List EndpointConfig) (d : Delays) (number : ℕ) (before : List Judgement) (s : ControlSection) (v : CommandVerdict) → IsWithinLimits d → number < 2 ^ 32
+control_drawn : (es : List EndpointConfig) (d : Delays) (number : ℕ) (before : List Judgement) (s : ControlSection) (v : CommandVerdict) → IsWithinLimits d → IsShort number
     → IsProperCommand es s → HasControlWidths s.section → IsDrawnControl (control_line d number before s v)
 unfolding control_line
 control_drawn es d number before s v limits small is widths =
@@ -99,7 +99,7 @@ control_drawn es d number before s v limits small is widths =
     }
 
 data_drawn : (es : List EndpointConfig) (side : Side) (d : Delays) (number : ℕ) (before : List Judgement) (h : DataHeading) (v : DataVerdict) → IsWithinLimits d
-    → AllByRecursion IsEndpoint es → number < 2 ^ 32 → IsAt es h.ep h.endpoint → IsSoundHeading h → h.section.id < 2 ^ 12 → IsDrawnData (data_line side d number before h v)
+    → AllByRecursion IsEndpoint es → IsShort number → IsAt es h.ep h.endpoint → IsSoundHeading h → h.section.id < 2 ^ 12 → IsDrawnData (data_line side d number before h v)
 unfolding data_line
 data_drawn es side d number before h v limits endpoints small at is id =
     let slot = heading_slot_in h is in
@@ -127,7 +127,7 @@ data_drawn es side d number before h v limits endpoints small at is id =
 -- ---- all of an arrival
 
 module _ (c : Config) (known : IsKnown c) where
-  judgement_drawn : (side : Side) (number : ℕ) (before : List Judgement) (j : Judgement) → number < 2 ^ 32 → IsSoundJudgement c.endpoints j → HasWidths side j
+  judgement_drawn : (side : Side) (number : ℕ) (before : List Judgement) (j : Judgement) → IsShort number → IsSoundJudgement c.endpoints j → HasWidths side j
       → AllByRecursion (IsJudgedLine c.endpoints side) (judgement_lines c side number before j)
   judgement_drawn side number before (Met m) small h w = message_judged c.endpoints side number m
   judgement_drawn side number before (Commanded s v) small h w =
@@ -139,7 +139,7 @@ module _ (c : Config) (known : IsKnown c) where
   judgement_drawn side number before (Given heading v) small h w =
       plain c.endpoints side _ (data_drawn c.endpoints side c.delays number before heading v known.limits known.endpoints small h.0 h.1 w) (record { frame = refl; way = refl })
 
-  judged_drawn : (side : Side) (number : ℕ) (before js : List Judgement) → number < 2 ^ 32 → AllByRecursion (IsSoundJudgement c.endpoints) js → AllByRecursion (HasWidths side) js
+  judged_drawn : (side : Side) (number : ℕ) (before js : List Judgement) → IsShort number → AllByRecursion (IsSoundJudgement c.endpoints) js → AllByRecursion (HasWidths side) js
       → AllByRecursion (IsJudgedLine c.endpoints side) (judged_lines c side number before js)
   unfolding judged_lines
   judged_drawn side number before [] small h w = tt

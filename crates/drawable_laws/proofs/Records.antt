@@ -79,7 +79,7 @@ IsFineJudgement es side j = IsSoundJudgement es j × HasWidths side j
 fine_judgements : (es : List EndpointConfig) (s : Story) → IsFineStory es s → AllByRecursion (IsFineJudgement es s.side) s.judged
 fine_judgements es s fine = both_hold (IsSoundJudgement es) (HasWidths s.side) s.judged fine.sound fine.widths
 
-section_short : (side : Side) (d : Delays) (number : ℕ) (h : DataHeading) (v : DataVerdict) → IsWithinLimits d → number < 2 ^ 32 → IsSoundHeading h → h.section.id < 2 ^ 12
+section_short : (side : Side) (d : Delays) (number : ℕ) (h : DataHeading) (v : DataVerdict) → IsWithinLimits d → IsShort number → IsSoundHeading h → h.section.id < 2 ^ 12
     → IsShortData (data_record side d number h v)
 unfolding data_record
 section_short side d number h v limits small is id = record {
@@ -88,7 +88,7 @@ section_short side d number h v limits small is id = record {
   distance = distance_short (data_class_of v) (data_timing side d h) (data_near side d h limits is);
 }
 
-command_short : (es : List EndpointConfig) (d : Delays) (number : ℕ) (s : ControlSection) (v : CommandVerdict) → IsWithinLimits d → number < 2 ^ 32 → IsProperCommand es s
+command_short : (es : List EndpointConfig) (d : Delays) (number : ℕ) (s : ControlSection) (v : CommandVerdict) → IsWithinLimits d → IsShort number → IsProperCommand es s
     → IsShortCommand (command_record d number s v)
 unfolding command_record
 command_short es d number s v limits small is = record {
@@ -96,11 +96,11 @@ command_short es d number s v limits small is = record {
   distance = command_distance (control_class v) (control_timing d s) (control_near es d s limits is);
 }
 
-named_short : (side : Side) (number ep : ℕ) (why : HeaderWhy) (o : Option (Slot × ℕ)) → number < 2 ^ 32 → AllByRecursion IsShortHeader (header_with side number ep why o)
+named_short : (side : Side) (number ep : ℕ) (why : HeaderWhy) (o : Option (Slot × ℕ)) → IsShort number → AllByRecursion IsShortHeader (header_with side number ep why o)
 named_short side number ep why None small = tt
 named_short side number ep why (Some (slot, symbol)) small = (omega (arith, small), tt)
 
-module _ (es : List EndpointConfig) (d : Delays) (limits : IsWithinLimits d) (side : Side) (number : ℕ) (small : number < 2 ^ 32) where
+module _ (es : List EndpointConfig) (d : Delays) (limits : IsWithinLimits d) (side : Side) (number : ℕ) (small : IsShort number) where
   data_of : (j : Judgement) → IsFineJudgement es side j → AllByRecursion IsShortData (data_in side d number j)
   data_of (Met m) h = tt
   data_of (Commanded s v) h = tt
@@ -158,10 +158,10 @@ module _ (c : Config) (known : IsKnown c) where
 -- ---- fragments
 
 pub record IsFineFragment (x : NumberedFragment) : Type 0 where
-  pub number : x.number < 2 ^ 32
+  pub number : IsShort x.number
   pub widths : HasFragmentWidths x.fragment
 
-fragment_fine : (es : List EndpointConfig) (side : Side) (number : ℕ) → number < 2 ^ 32 → (j : Judgement) → IsFineJudgement es side j → AllByRecursion IsFineFragment (fragment_in number j)
+fragment_fine : (es : List EndpointConfig) (side : Side) (number : ℕ) → IsShort number → (j : Judgement) → IsFineJudgement es side j → AllByRecursion IsFineFragment (fragment_in number j)
 fragment_fine es side number small (Met m) h = tt
 fragment_fine es side number small (Commanded s v) h = tt
 fragment_fine es side number small (Fragmented e f v) h = (record { number = small; widths = h.1 }, tt)

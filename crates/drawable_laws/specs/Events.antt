@@ -63,12 +63,12 @@ IsPlacedEvent es (event.Arrival side at frame) = Unit {0}
 IsPlacedEvent es (event.Delay at side id value) = Unit {0}
 IsPlacedEvent es (event.Count side counter value) = Unit {0}
 
--- the arrivals at each unit are in the order of their times, and are as many as can be numbered
+-- the arrivals at each unit are in the order of their times, and the number of all has at most 16 digits
 pub record AreDrawnEvents (c : Config) (events : List Event) : Type 0 where
   pub clock : ℤ
   pub order : (side : Side) → AreInTime clock (arrivals_heard side [] events)
   pub times : (side : Side) → All (λ a. IsTime a.at) (arrivals_heard side [] events)
-  pub few : arrival_count events < 2 ^ 32
+  pub few : IsShort (arrival_count events)
   pub cells : AllByRecursion (IsPlacedEvent c.endpoints) events
 
 -- ---- their explanation

@@ -2,6 +2,7 @@
 use Rattle.std.specs.Prelude.{◌<◌, ◌^◌}
 use Rattle.std.specs.List.{AllByRecursion}
 use Rattle.drawable_laws.specs.Events.{AreDrawnEvents}
+use Rattle.drawn_explanations.specs.Drawable.{IsShort}
 use Rattle.explain_model.specs.Stories.{arrival_count}
 use Rattle.replay_events.specs.Events.{events}
 use Rattle.replay_events.specs.Passing.{AreLandings}
@@ -10,8 +11,8 @@ use Rattle.unit_model.specs.declared.allocations.Allocation.{Allocation}
 use Rattle.window_config.specs.Configs.{IsConfig}
 use Rattle.window_config.specs.declared.config.Config.{Config}
 
--- Of frames that may be replayed, and of a plan whose section ids have 12 bits; the arrivals of both units are as many as can be numbered.
+-- Of frames that may be replayed, and of a plan whose section ids have 12 bits; the number of all arrivals has at most 16 digits.
 abbrev pub ReplaysAreDrawn : Type 0
 ReplaysAreDrawn =
     (c : Config) (t : Traffic) → IsConfig c → AreLandings t.at_ru → AreLandings t.at_du → AllByRecursion (λ (a : Allocation). a.section < 2 ^ 12) t.planned
-    → arrival_count (events c t) < 2 ^ 32 → AreDrawnEvents c (events c t)
+    → IsShort (arrival_count (events c t)) → AreDrawnEvents c (events c t)
