@@ -1,0 +1,2 @@
+pub use Rattle.explain_text
+pub mod Documents

@@ -1,0 +1,21 @@
+//! No picture refuses the explanation of a document.
+//!
+//! The functions here do nothing: each one's contract is its law, stated in `specs/`.
+#![tactic(auto)]
+
+ghost use Rattle.drawn_documents.specs.Documents.{DocumentsAreDrawn, EventsAreDrawn, ReadAreDrawn};
+
+/// The events of a document are such that their explanation is drawable.
+pub fn events_are_drawn()
+    ensures { EventsAreDrawn }
+{}
+
+/// The text that `explain` writes of a document has the picture of any subframes and that of the windows.
+pub fn documents_are_drawn()
+    ensures { DocumentsAreDrawn }
+{}
+
+/// So it is with each document that was read.
+pub fn read_are_drawn()
+    ensures { ReadAreDrawn }
+{}
